@@ -9,9 +9,9 @@ use Rattle.sock_io.specs.Link.{OutState}
 use Rattle.sock_words.specs.declared.plain.Plan.{Plan}
 use Rattle.sock_words.specs.declared.socket_id.SocketId.{SocketId}
 use Rattle.sock_words.specs.declared.outcome.Outcome.{Outcome}
-use Rattle.call_whys.specs.call_told.specs.Below.call_run.specs.sock_rule.specs.declared.homes.Letter.{Letter}
-use Rattle.call_whys.specs.call_told.specs.Below.call_run.specs.rpc_reader.specs.call_table.specs.Errors.{is_final}
-use Rattle.call_whys.specs.call_told.specs.Below.call_run.specs.rpc_reader.specs.call_table.specs.declared.errors.Decision.TheVariants as decisions
+use Rattle.call_whys.specs.Below.SockRule.Letter.{Letter}
+use Rattle.call_whys.specs.Below.CallTable.Errors.{is_final}
+use Rattle.call_whys.specs.Below.CallTable.Decision.TheVariants as decisions
 use Rattle.seat_programs.specs.declared.task.Op.{Op}
 use Rattle.seat_programs.specs.declared.task.Task.{Task}
 use Rattle.corr_core.specs.Word.{Parts, parts}
@@ -33,24 +33,24 @@ use Rattle.corr_id.specs.declared.unlocks.Unlocked.TheVariants.{Open, Next}
 use Rattle.corr_id.specs.Calls.{Did, Quiet, GotLock, Became, Found, one, is_saw, advance_note, slot_of, version_of, error_in}
 use Rattle.corr_id.specs.Posts.{PostOk}
 use Rattle.corr_id.specs.Unlocks.{UnlockOk}
-use Rattle.call_whys.specs.call_told.specs.Below.call_run.specs.call_client.specs.call_errors.specs.declared.retries.Retry.{Retry}
-use Rattle.call_whys.specs.call_told.specs.Below.call_run.specs.call_client.specs.call_errors.specs.Books.{CallStand, stand_of}
-use Rattle.call_whys.specs.call_told.specs.Below.call_run.specs.call_client.specs.call_errors.specs.Locking.{GotBy}
-use Rattle.call_whys.specs.call_told.specs.Below.call_run.specs.call_client.specs.call_errors.specs.Handling.{is_whole, decision, Advanced, Decided}
-use Rattle.call_whys.specs.call_told.specs.Below.call_run.specs.call_client.specs.call_errors.specs.Handling as handling
-use Rattle.call_whys.specs.call_told.specs.Below.call_run.specs.call_client.specs.call_errors.specs.Posting.{Handled, PostedBy}
-use Rattle.call_whys.specs.call_told.specs.Below.call_run.specs.call_client.specs.call_attempts.specs.Both.{Both}
-use Rattle.call_whys.specs.call_told.specs.Below.call_run.specs.call_client.specs.call_attempts.specs.Attempting.{AttemptedBy}
-use Rattle.call_whys.specs.call_told.specs.Below.call_run.specs.call_client.specs.call_attempts.specs.Calling.{MadeFor}
-use Rattle.call_whys.specs.call_told.specs.Below.call_run.specs.call_client.specs.call_attempts.specs.Retrying.{without_oldest, RetriedBy, had_ended, overtaken, went_again}
-use Rattle.call_whys.specs.call_told.specs.Below.call_run.specs.call_client.specs.Acting.{Stand, Acted}
-use Rattle.call_whys.specs.call_told.specs.Below.call_run.specs.call_client.proofs.Telling.{quiet_total, did_total, none_of_one}
-use Rattle.call_whys.specs.call_told.specs.Below.call_run.specs.Threads.{Thread, IsThread}
+use Rattle.call_whys.specs.Below.CallErrors.Retry.{Retry}
+use Rattle.call_whys.specs.Below.CallErrors.Books.{CallStand, stand_of}
+use Rattle.call_whys.specs.Below.CallErrors.Locking.{GotBy}
+use Rattle.call_whys.specs.Below.CallErrors.Handling.{is_whole, decision, Advanced, Decided}
+use Rattle.call_whys.specs.Below.CallErrors.Handling as handling
+use Rattle.call_whys.specs.Below.CallErrors.Posting.{Handled, PostedBy}
+use Rattle.call_whys.specs.Below.CallAttempts.Both.{Both}
+use Rattle.call_whys.specs.Below.CallAttempts.Attempting.{AttemptedBy}
+use Rattle.call_whys.specs.Below.CallAttempts.Calling.{MadeFor}
+use Rattle.call_whys.specs.Below.CallAttempts.Retrying.{without_oldest, RetriedBy, had_ended, overtaken, went_again}
+use Rattle.call_whys.specs.Below.CallClient.Acting.{Stand, Acted}
+use Rattle.call_whys.specs.Below.CallClient.Telling.{quiet_total, did_total, none_of_one}
+use Rattle.call_whys.specs.Below.CallRun.Threads.{Thread, IsThread}
 use Rattle.call_whys.specs.call_told.proofs.Noting.{became_did}
-use Rattle.call_whys.specs.call_told.specs.call_places.proofs.Follows.{Follows, attempted_by, went_to, acted}
-use Rattle.call_whys.specs.call_told.specs.call_places.proofs.Walks.{Walks, run_walk}
-use Rattle.call_whys.specs.call_told.specs.call_places.proofs.Still.{advances, attempt_silent, advance_there}
-use Rattle.call_whys.specs.call_told.specs.call_places.proofs.Own.{end_is}
+use Rattle.call_whys.specs.call_places.proofs.Follows.{Follows, attempted_by, went_to, acted}
+use Rattle.call_whys.specs.call_places.proofs.Walks.{Walks, run_walk}
+use Rattle.call_whys.specs.call_places.proofs.Still.{advances, attempt_silent, advance_there}
+use Rattle.call_whys.specs.call_places.proofs.Own.{end_is}
 
 -- ## Words of locks
 

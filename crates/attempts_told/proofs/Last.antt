@@ -11,7 +11,7 @@ use Rattle.corr_core.proofs.Notes.{only_le, only-else, pair-same, pair-at, pair-
 use Rattle.id_rule.specs.Lawful.{notes_of}
 use Rattle.sock_message.specs.Asked.{Asked}
 use Rattle.call_whys.specs.call_told.specs.Least.{is_made_for}
-use Rattle.call_whys.specs.call_told.specs.call_places.proofs.Weights.{term, each_less, all_zero, total_sum}
+use Rattle.call_whys.specs.call_places.proofs.Weights.{term, each_less, all_zero, total_sum}
 use Rattle.attempts_told.specs.Attempts.{advanced_to, last_among}
 
 attempt_is : (f n : ℕ) (y : Note Asked) → 0 < is_attempt f n y → y ≡ Attempt f n

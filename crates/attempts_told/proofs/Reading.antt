@@ -9,12 +9,12 @@ use Rattle.sock_io.specs.Link.{InState}
 use Rattle.corr_core.specs.Law.{total}
 use Rattle.corr_core.specs.declared.marks.Plan.{Plan}
 use Rattle.corr_core.specs.declared.marks.View.{View}
-use Rattle.call_whys.specs.call_told.specs.Below.call_run.specs.rpc_reader.specs.Books.{Books}
-use Rattle.call_whys.specs.call_told.specs.Below.call_run.specs.rpc_reader.specs.Resting.{RestEnded}
-use Rattle.call_whys.specs.call_told.specs.Below.call_run.specs.rpc_reader.specs.Running.{ReadIf}
-use Rattle.call_whys.specs.call_told.specs.Below.call_run.specs.Readers.{LinkReader, nothing_read, IsReader}
-use Rattle.call_whys.specs.call_told.specs.call_places.proofs.Spans.{Spans, rest_reads, link_reads}
-use Rattle.call_whys.specs.call_told.specs.call_places.proofs.Still.{advances}
+use Rattle.call_whys.specs.Below.RpcReader.Books.{Books}
+use Rattle.call_whys.specs.Below.RpcReader.Resting.{RestEnded}
+use Rattle.call_whys.specs.Below.RpcReader.Running.{ReadIf}
+use Rattle.call_whys.specs.Below.CallRun.Readers.{LinkReader, nothing_read, IsReader}
+use Rattle.call_whys.specs.call_places.proofs.Spans.{Spans, rest_reads, link_reads}
+use Rattle.call_whys.specs.call_places.proofs.Still.{advances}
 use Rattle.call_whys.specs.call_told.proofs.Readers.{AllRead, link_read}
 use Rattle.attempts_told.proofs.Bounds.{Unmoved, unmoved_then, unmoved_noted, unmoved_quiet, unmoved_got, unmoved_ended, unmoved_post}
 

@@ -32,26 +32,26 @@ use Rattle.corr_id.specs.declared.unlocks.Unlocked.TheVariants.{Open, Next}
 use Rattle.corr_id.specs.Calls.{Did, one, advance_note, slot_of, version_of}
 use Rattle.corr_id.specs.Unlocks.{UnlockOk}
 use Rattle.corr_id.proofs.Seats.{total_append}
-use Rattle.call_whys.specs.call_told.specs.Below.call_run.specs.call_client.specs.call_errors.specs.declared.retries.Retry.{Retry}
-use Rattle.call_whys.specs.call_told.specs.Below.call_run.specs.call_client.specs.call_errors.specs.Books.{Books, CallStand, stand_of, starving, keeping}
-use Rattle.call_whys.specs.call_told.specs.Below.call_run.specs.call_client.specs.call_errors.specs.Ending.{EndedWith, failed}
-use Rattle.call_whys.specs.call_told.specs.Below.call_run.specs.call_client.specs.call_errors.specs.Handling.{Advanced, IsNext, Decided}
-use Rattle.call_whys.specs.call_told.specs.Below.call_run.specs.call_client.specs.call_errors.specs.Handling as handling
-use Rattle.call_whys.specs.call_told.specs.Below.call_run.specs.call_client.specs.call_errors.specs.Posting.{Handled, PostedBy}
-use Rattle.call_whys.specs.call_told.specs.Below.call_run.specs.call_client.specs.call_attempts.specs.Both.{Both}
-use Rattle.call_whys.specs.call_told.specs.Below.call_run.specs.call_client.specs.call_attempts.specs.Calling.{MadeFor}
-use Rattle.call_whys.specs.call_told.specs.Below.call_run.specs.call_client.specs.call_attempts.specs.Retrying.{without_oldest, RetriedBy, had_ended, overtaken, went_again}
-use Rattle.call_whys.specs.call_told.specs.Below.call_run.specs.call_client.specs.Acting.{Stand, Acted}
-use Rattle.call_whys.specs.call_told.specs.Below.call_run.specs.call_client.proofs.Telling.{did_total, none_of_one}
-use Rattle.call_whys.specs.call_told.specs.Below.call_run.specs.Threads.{Thread, IsThread}
+use Rattle.call_whys.specs.Below.CallErrors.Retry.{Retry}
+use Rattle.call_whys.specs.Below.CallErrors.Books.{Books, CallStand, stand_of, starving, keeping}
+use Rattle.call_whys.specs.Below.CallErrors.Ending.{EndedWith, failed}
+use Rattle.call_whys.specs.Below.CallErrors.Handling.{Advanced, IsNext, Decided}
+use Rattle.call_whys.specs.Below.CallErrors.Handling as handling
+use Rattle.call_whys.specs.Below.CallErrors.Posting.{Handled, PostedBy}
+use Rattle.call_whys.specs.Below.CallAttempts.Both.{Both}
+use Rattle.call_whys.specs.Below.CallAttempts.Calling.{MadeFor}
+use Rattle.call_whys.specs.Below.CallAttempts.Retrying.{without_oldest, RetriedBy, had_ended, overtaken, went_again}
+use Rattle.call_whys.specs.Below.CallClient.Acting.{Stand, Acted}
+use Rattle.call_whys.specs.Below.CallClient.Telling.{did_total, none_of_one}
+use Rattle.call_whys.specs.Below.CallRun.Threads.{Thread, IsThread}
 use Rattle.call_whys.specs.call_told.proofs.Lists.{all_both, all_then}
-use Rattle.call_whys.specs.call_told.specs.call_places.specs.Deeds.{Deed, operates, retries, deeds}
-use Rattle.call_whys.specs.call_told.specs.call_places.proofs.Follows.{Follows, went_to, acted}
-use Rattle.call_whys.specs.call_told.specs.call_places.proofs.Walks.{Walks, run_walk}
-use Rattle.call_whys.specs.call_told.specs.call_places.proofs.Still.{is_retry, waiting, advances, attempt_silent, decided_still, retried_still, more_waits, more_noted, tells_retries}
-use Rattle.call_whys.specs.call_told.specs.call_places.proofs.Counts.{by_retry, Grows, acted_might}
-use Rattle.call_whys.specs.call_told.specs.call_places.proofs.Ids.{version_low}
-use Rattle.call_whys.specs.call_told.specs.call_places.proofs.Own.{end_is}
+use Rattle.call_whys.specs.call_places.specs.Deeds.{Deed, operates, retries, deeds}
+use Rattle.call_whys.specs.call_places.proofs.Follows.{Follows, went_to, acted}
+use Rattle.call_whys.specs.call_places.proofs.Walks.{Walks, run_walk}
+use Rattle.call_whys.specs.call_places.proofs.Still.{is_retry, waiting, advances, attempt_silent, decided_still, retried_still, more_waits, more_noted, tells_retries}
+use Rattle.call_whys.specs.call_places.proofs.Counts.{by_retry, Grows, acted_might}
+use Rattle.call_whys.specs.call_places.proofs.Ids.{version_low}
+use Rattle.call_whys.specs.call_places.proofs.Own.{end_is}
 use Rattle.attempts_told.proofs.Bounds.{Unmoved, unmoved_then, unmoved_noted, unmoved_quiet, unmoved_got, unmoved_ended, unmoved_post, advance_none}
 
 -- ## Counts

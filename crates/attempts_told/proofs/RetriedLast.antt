@@ -22,22 +22,22 @@ use Rattle.id_rule.specs.Lawful.{notes_of}
 use Rattle.sock_message.specs.Asked.{Asked}
 use Rattle.corr_id.specs.declared.calls.IdLock.{IdLock}
 use Rattle.corr_id.specs.Calls.{Found, FoundUpTo, OutOf, is_saw, slot_of, version_of}
-use Rattle.call_whys.specs.call_told.specs.Below.call_run.specs.rpc_reader.specs.rpc_client.specs.declared.acting.Told.{Told}
-use Rattle.call_whys.specs.call_told.specs.Below.call_run.specs.call_client.specs.call_errors.specs.declared.retries.Retry.{Retry}
-use Rattle.call_whys.specs.call_told.specs.Below.call_run.specs.call_client.specs.call_attempts.specs.Both.{Both}
-use Rattle.call_whys.specs.call_told.specs.Below.call_run.specs.call_client.specs.call_attempts.specs.Retrying.{Locked, Overtaken, WentAgain, had_ended, overtaken, went_again}
-use Rattle.call_whys.specs.call_told.specs.Below.call_run.specs.Readers.{LinkReader}
-use Rattle.call_whys.specs.call_told.specs.Below.call_run.specs.Threads.{RanWith, ids_of}
+use Rattle.call_whys.specs.Below.RpcClient.Told.{Told}
+use Rattle.call_whys.specs.Below.CallErrors.Retry.{Retry}
+use Rattle.call_whys.specs.Below.CallAttempts.Both.{Both}
+use Rattle.call_whys.specs.Below.CallAttempts.Retrying.{Locked, Overtaken, WentAgain, had_ended, overtaken, went_again}
+use Rattle.call_whys.specs.Below.CallRun.Readers.{LinkReader}
+use Rattle.call_whys.specs.Below.CallRun.Threads.{RanWith, ids_of}
 use Rattle.call_whys.specs.call_told.proofs.Lists.{all_at}
-use Rattle.call_whys.specs.call_told.specs.call_places.specs.Counted.{HaveNotesOf}
-use Rattle.call_whys.specs.call_told.specs.call_places.specs.Deeds.{Deed, operates, retries}
-use Rattle.call_whys.specs.call_told.specs.call_places.proofs.Weights.{each_less}
-use Rattle.call_whys.specs.call_told.specs.call_places.proofs.Still.{is_retry, advances, decided_still}
-use Rattle.call_whys.specs.call_told.specs.call_places.proofs.Counts.{by_retry, Grows}
-use Rattle.call_whys.specs.call_told.specs.call_places.proofs.Ids.{IdLaws, id_parts}
-use Rattle.call_whys.specs.call_told.specs.call_places.proofs.Clients.{Client, view_of, deeds_of}
-use Rattle.call_whys.specs.call_told.specs.call_places.proofs.Places.{all, noted_among, views_are}
-use Rattle.call_whys.specs.call_told.specs.Below.sock_deeds.proofs.Places.{map_back}
+use Rattle.call_whys.specs.call_places.specs.Counted.{HaveNotesOf}
+use Rattle.call_whys.specs.call_places.specs.Deeds.{Deed, operates, retries}
+use Rattle.call_whys.specs.call_places.proofs.Weights.{each_less}
+use Rattle.call_whys.specs.call_places.proofs.Still.{is_retry, advances, decided_still}
+use Rattle.call_whys.specs.call_places.proofs.Counts.{by_retry, Grows}
+use Rattle.call_whys.specs.call_places.proofs.Ids.{IdLaws, id_parts}
+use Rattle.call_whys.specs.call_places.proofs.Clients.{Client, view_of, deeds_of}
+use Rattle.call_whys.specs.call_places.proofs.Places.{all, noted_among, views_are}
+use Rattle.call_whys.specs.call_places.specs.sock_deeds.proofs.Places.{map_back}
 use Rattle.attempts_told.proofs.Retried.{Moves, decided_moves, Founded, taken_out, all_founded}
 
 -- a retry that counts as one of this attempt of the call with this id

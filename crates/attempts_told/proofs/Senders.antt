@@ -30,37 +30,37 @@ use Rattle.corr_core.proofs.Notes.{pair-same, pair-else, pair-else_first, total_
 use Rattle.id_rule.specs.Lawful.{notes_of}
 use Rattle.sock_message.specs.Asked.{Asked, frame_of}
 use Rattle.corr_id.specs.Calls.{one, slot_of, version_of}
-use Rattle.call_whys.specs.call_told.specs.Below.call_run.specs.call_client.specs.call_errors.specs.Books.{CallStand}
-use Rattle.call_whys.specs.call_told.specs.Below.call_run.specs.call_client.specs.call_attempts.specs.Both.{Both}
-use Rattle.call_whys.specs.call_told.specs.Below.call_run.specs.call_client.specs.call_attempts.specs.Letters.{letter_for}
-use Rattle.call_whys.specs.call_told.specs.Below.call_run.specs.call_client.specs.call_attempts.specs.Attempting.{AttemptedBy, went_out, came_back, nowhere, over_link}
-use Rattle.call_whys.specs.call_told.specs.Below.call_run.specs.call_client.specs.call_attempts.specs.Retrying.{without_oldest, WentTo, stray, unopened, to_socket, had_ended, overtaken, went_again, Retried, none_yet, one_more}
-use Rattle.call_whys.specs.call_told.specs.Below.call_run.specs.call_client.specs.Acting.{Stand, stand, both_of, Acted}
-use Rattle.call_whys.specs.call_told.specs.Below.call_run.specs.call_client.specs.Running.{Course, Ran, begins}
-use Rattle.call_whys.specs.call_told.specs.Below.call_run.specs.call_client.proofs.Telling.{did_total}
-use Rattle.call_whys.specs.call_told.specs.Below.call_run.specs.rpc_reader.specs.rpc_client.specs.declared.acting.Told.{Told}
-use Rattle.call_whys.specs.call_told.specs.Below.call_run.specs.Readers.{LinkReader}
-use Rattle.call_whys.specs.call_told.specs.Below.call_run.specs.Threads.{Thread, IsThread, RanWith, MayRunAll, ids_of}
+use Rattle.call_whys.specs.Below.CallErrors.Books.{CallStand}
+use Rattle.call_whys.specs.Below.CallAttempts.Both.{Both}
+use Rattle.call_whys.specs.Below.CallAttempts.Letters.{letter_for}
+use Rattle.call_whys.specs.Below.CallAttempts.Attempting.{AttemptedBy, went_out, came_back, nowhere, over_link}
+use Rattle.call_whys.specs.Below.CallAttempts.Retrying.{without_oldest, WentTo, stray, unopened, to_socket, had_ended, overtaken, went_again, Retried, none_yet, one_more}
+use Rattle.call_whys.specs.Below.CallClient.Acting.{Stand, stand, both_of, Acted}
+use Rattle.call_whys.specs.Below.CallClient.Running.{Course, Ran, begins}
+use Rattle.call_whys.specs.Below.CallClient.Telling.{did_total}
+use Rattle.call_whys.specs.Below.RpcClient.Told.{Told}
+use Rattle.call_whys.specs.Below.CallRun.Readers.{LinkReader}
+use Rattle.call_whys.specs.Below.CallRun.Threads.{Thread, IsThread, RanWith, MayRunAll, ids_of}
 use Rattle.call_whys.specs.call_told.specs.Least.{is_made_for}
 use Rattle.call_whys.specs.call_told.proofs.Ends.{made_silent, counted_here}
 use Rattle.call_whys.specs.call_told.proofs.Lists.{all_both, all_then, all_at}
-use Rattle.call_whys.specs.call_told.specs.call_places.specs.Counted.{HaveNotesOf}
-use Rattle.call_whys.specs.call_told.specs.call_places.specs.Deeds.{Deed, operates, retries, retries_of, ran_deeds, deeds, attempt_entries, went_entries, acted_entries, entries_of}
-use Rattle.call_whys.specs.call_told.specs.call_places.proofs.Still.{retried_still}
-use Rattle.call_whys.specs.call_told.specs.call_places.proofs.Walks.{Walks, run_walk}
-use Rattle.call_whys.specs.call_told.specs.call_places.proofs.Own.{came, end_is}
-use Rattle.call_whys.specs.call_told.specs.call_places.proofs.Ids.{IdLaws, IsIdOf, version_low}
-use Rattle.call_whys.specs.call_told.specs.call_places.proofs.Clients.{Client, view_of, tasks_of, deeds_of, own_of, retry_noted, retry_id}
-use Rattle.call_whys.specs.call_told.specs.call_places.proofs.Places.{own_behind, all, noted_among, may_make, tasks_are, lists_are}
-use Rattle.call_whys.specs.call_told.specs.call_places.proofs.Log.{authored}
-use Rattle.call_whys.specs.call_told.specs.call_deeds.specs.Retried.{Again, asked_by, asked_in, asked_before, all_asked}
-use Rattle.call_whys.specs.call_told.specs.call_deeds.proofs.Links.{IsOwnCall, call_at}
-use Rattle.call_whys.specs.call_told.specs.call_deeds.proofs.Ran.{AreLater}
-use Rattle.call_whys.specs.call_told.specs.Below.sock_deeds.specs.Left.{accepted_of}
-use Rattle.call_whys.specs.call_told.specs.Below.sock_deeds.specs.Runs.{IsOperation}
-use Rattle.call_whys.specs.call_told.specs.Below.sock_deeds.proofs.Flats.{flat_from, flat_there, flat-append}
-use Rattle.call_whys.specs.call_told.specs.Below.sock_deeds.proofs.Places.{to_slice, map_back, map_there}
-use Rattle.call_whys.specs.Below.script_facts.proofs.Lists.{contains_from}
+use Rattle.call_whys.specs.call_places.specs.Counted.{HaveNotesOf}
+use Rattle.call_whys.specs.call_places.specs.Deeds.{Deed, operates, retries, retries_of, ran_deeds, deeds, attempt_entries, went_entries, acted_entries, entries_of}
+use Rattle.call_whys.specs.call_places.proofs.Still.{retried_still}
+use Rattle.call_whys.specs.call_places.proofs.Walks.{Walks, run_walk}
+use Rattle.call_whys.specs.call_places.proofs.Own.{came, end_is}
+use Rattle.call_whys.specs.call_places.proofs.Ids.{IdLaws, IsIdOf, version_low}
+use Rattle.call_whys.specs.call_places.proofs.Clients.{Client, view_of, tasks_of, deeds_of, own_of, retry_noted, retry_id}
+use Rattle.call_whys.specs.call_places.proofs.Places.{own_behind, all, noted_among, may_make, tasks_are, lists_are}
+use Rattle.call_whys.specs.call_places.proofs.Log.{authored}
+use Rattle.call_whys.specs.call_deeds.specs.Retried.{Again, asked_by, asked_in, asked_before, all_asked}
+use Rattle.call_whys.specs.call_deeds.proofs.Links.{IsOwnCall, call_at}
+use Rattle.call_whys.specs.call_deeds.proofs.Ran.{AreLater}
+use Rattle.call_whys.specs.call_places.specs.sock_deeds.specs.Left.{accepted_of}
+use Rattle.call_whys.specs.call_places.specs.sock_deeds.specs.Runs.{IsOperation}
+use Rattle.call_whys.specs.call_places.specs.sock_deeds.proofs.Flats.{flat_from, flat_there, flat-append}
+use Rattle.call_whys.specs.call_places.specs.sock_deeds.proofs.Places.{to_slice, map_back, map_there}
+use Rattle.call_whys.specs.call_places.specs.script_facts.proofs.Lists.{contains_from}
 use Rattle.attempts_told.proofs.Bounds.{attempted_grows, acted_grows}
 
 -- ## Frames

@@ -33,21 +33,21 @@ use Rattle.id_rule.specs.Lawful.{notes_of}
 use Rattle.sock_message.specs.Asked.{Asked, frame_of}
 use Rattle.corr_id.specs.Calls.{is_saw, slot_of, version_of}
 use Rattle.corr_id.specs.Closing.{Closing}
-use Rattle.call_whys.specs.call_told.specs.Below.call_run.specs.rpc_reader.specs.rpc_client.specs.declared.acting.Told.{Told}
-use Rattle.call_whys.specs.call_told.specs.Below.call_run.specs.Readers.{LinkReader}
-use Rattle.call_whys.specs.call_told.specs.Below.call_run.specs.Threads.{RanWith, MayRunAll, ids_of}
+use Rattle.call_whys.specs.Below.RpcClient.Told.{Told}
+use Rattle.call_whys.specs.Below.CallRun.Readers.{LinkReader}
+use Rattle.call_whys.specs.Below.CallRun.Threads.{RanWith, MayRunAll, ids_of}
 use Rattle.call_whys.specs.call_told.specs.Least.{is_made_for}
-use Rattle.call_whys.specs.call_told.specs.call_places.specs.Counted.{HaveNotesOf}
-use Rattle.call_whys.specs.call_told.specs.call_places.proofs.Weights.{term, two_terms}
-use Rattle.call_whys.specs.call_told.specs.call_places.proofs.Still.{advances}
-use Rattle.call_whys.specs.call_told.specs.call_places.proofs.Ids.{IdLaws, IsIdOf, laws_of, id_parts}
-use Rattle.call_whys.specs.call_told.specs.call_places.proofs.Clients.{Client, view_of}
-use Rattle.call_whys.specs.call_told.specs.call_places.proofs.Places.{all, noted_among, views_are}
-use Rattle.call_whys.specs.call_told.specs.call_deeds.specs.Retried.{all_asked}
-use Rattle.call_whys.specs.call_told.specs.call_deeds.proofs.Ran.{AreLater}
-use Rattle.call_whys.specs.call_told.specs.Below.sock_deeds.specs.Left.{accepted_of}
-use Rattle.call_whys.specs.call_told.specs.Below.sock_deeds.specs.Told.{IsAttempt, ToldSockets}
-use Rattle.call_whys.specs.call_told.specs.Below.sock_deeds.proofs.Places.{map_back}
+use Rattle.call_whys.specs.call_places.specs.Counted.{HaveNotesOf}
+use Rattle.call_whys.specs.call_places.proofs.Weights.{term, two_terms}
+use Rattle.call_whys.specs.call_places.proofs.Still.{advances}
+use Rattle.call_whys.specs.call_places.proofs.Ids.{IdLaws, IsIdOf, laws_of, id_parts}
+use Rattle.call_whys.specs.call_places.proofs.Clients.{Client, view_of}
+use Rattle.call_whys.specs.call_places.proofs.Places.{all, noted_among, views_are}
+use Rattle.call_whys.specs.call_deeds.specs.Retried.{all_asked}
+use Rattle.call_whys.specs.call_deeds.proofs.Ran.{AreLater}
+use Rattle.call_whys.specs.call_places.specs.sock_deeds.specs.Left.{accepted_of}
+use Rattle.call_whys.specs.call_places.specs.sock_deeds.specs.Told.{IsAttempt, ToldSockets}
+use Rattle.call_whys.specs.call_places.specs.sock_deeds.proofs.Places.{map_back}
 use Rattle.attempts_told.specs.Attempts.{last_attempt, AreAttemptsTold}
 use Rattle.attempts_told.proofs.Bounds.{IsBounded, all_bounded}
 use Rattle.attempts_told.proofs.Last.{none_further, one_reached, few_advances}

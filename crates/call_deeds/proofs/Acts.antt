@@ -8,25 +8,25 @@ use Rattle.sock_words.specs.declared.outcome.Outcome.{Outcome}
 use Rattle.sock_words.specs.declared.outcome.Outcome.TheVariants as outcome
 use Rattle.sock_words.specs.declared.plain.Plan.{Plan}
 use Rattle.sock_model.specs.declared.view.View.{View}
-use Rattle.call_places.specs.Below.sock_rule.specs.declared.homes.Letter.{Letter}
-use Rattle.call_places.specs.Below.sock_table.specs.declared.passes.LinkPass.{LinkPass}
+use Rattle.call_places.specs.Below.SockRule.Letter.{Letter}
+use Rattle.call_places.specs.Below.SockTable.LinkPass.{LinkPass}
 use Rattle.sock_message.specs.Asked.{Asked, name_of}
 use Rattle.seat_programs.specs.declared.task.Op.{Op}
 use Rattle.seat_programs.specs.declared.task.Op.TheVariants as ops
 use Rattle.seat_programs.specs.declared.task.Task.{Task}
 use Rattle.seat_programs.specs.Told.{Became}
 use Rattle.corr_core.specs.declared.marks.Plan as id_plan
-use Rattle.call_places.specs.Below.rpc_client.specs.declared.holding.Held.{Held}
-use Rattle.call_places.specs.Below.rpc_client.specs.Opening.{OpenedBy}
-use Rattle.call_places.specs.Below.call_errors.specs.declared.retries.Retry.{Retry}
-use Rattle.call_places.specs.Below.call_attempts.specs.Both.{Both}
-use Rattle.call_places.specs.Below.call_attempts.specs.Letters.{letter_for}
-use Rattle.call_places.specs.Below.call_attempts.specs.Calling.{BegunAs}
-use Rattle.call_places.specs.Below.call_attempts.specs.Retrying.{WentTo, stray, unopened, to_socket, RetriedBy, had_ended, overtaken, went_again}
-use Rattle.call_places.specs.Below.call_client.specs.Acting.{Stand, both_of, letter_of, Acted}
-use Rattle.call_places.specs.Below.sock_deeds.specs.Deeds.{Hand, MessageBy, Did, opens, sends, holds, drops, fails, own_number, DoneBy}
-use Rattle.call_places.specs.Below.sock_deeds.specs.Runs.{IsOperation, of_send, of_call, IsFor, number_at, listed}
-use Rattle.call_places.specs.Below.sock_deeds.proofs.Steps.{Steps, no_step, one_step, steps_as}
+use Rattle.call_places.specs.Below.RpcClient.Held.{Held}
+use Rattle.call_places.specs.Below.RpcClient.Opening.{OpenedBy}
+use Rattle.call_places.specs.Below.CallErrors.Retry.{Retry}
+use Rattle.call_places.specs.Below.CallAttempts.Both.{Both}
+use Rattle.call_places.specs.Below.CallAttempts.Letters.{letter_for}
+use Rattle.call_places.specs.Below.CallAttempts.Calling.{BegunAs}
+use Rattle.call_places.specs.Below.CallAttempts.Retrying.{WentTo, stray, unopened, to_socket, RetriedBy, had_ended, overtaken, went_again}
+use Rattle.call_places.specs.Below.CallClient.Acting.{Stand, both_of, letter_of, Acted}
+use Rattle.call_places.specs.sock_deeds.specs.Deeds.{Hand, MessageBy, Did, opens, sends, holds, drops, fails, own_number, DoneBy}
+use Rattle.call_places.specs.sock_deeds.specs.Runs.{IsOperation, of_send, of_call, IsFor, number_at, listed}
+use Rattle.call_places.specs.sock_deeds.proofs.Steps.{Steps, no_step, one_step, steps_as}
 use Rattle.call_deeds.specs.Retried.{Again, asked_by}
 use Rattle.call_deeds.specs.Scripts.{IsLater}
 use Rattle.call_deeds.proofs.Messages.{send_message, attempt_message}

@@ -10,8 +10,8 @@ use Rattle.sock_model.specs.Seats.{newcomer}
 use Rattle.corr_core.specs.declared.marks.Plan as id_plan
 use Rattle.seat_programs.specs.declared.task.Op.TheVariants as ops
 use Rattle.seat_programs.specs.declared.task.Task.{Task}
-use Rattle.call_places.specs.Below.call_run.specs.Readers.{LinkReader, nothing_read, IsReader, AreReaders}
-use Rattle.call_places.specs.Below.sock_deeds.specs.Runs.{IsOperation, seat_of, ReaderSeat, sits_of, early_of}
+use Rattle.call_places.specs.Below.CallRun.Readers.{LinkReader, nothing_read, IsReader, AreReaders}
+use Rattle.call_places.specs.sock_deeds.specs.Runs.{IsOperation, seat_of, ReaderSeat, sits_of, early_of}
 use Rattle.call_deeds.proofs.Readers.{ended_early, reader_seated}
 
 -- one of the clients opens a socket with this link by this operation

@@ -10,14 +10,14 @@ use Rattle.sock_words.specs.declared.plain.Plan.{Plan}
 use Rattle.sock_model.specs.Seats.{newcomer}
 use Rattle.seat_programs.specs.declared.task.Task.{Task}
 use Rattle.corr_core.specs.declared.marks.Plan as id_plan
-use Rattle.call_places.specs.Below.rpc_client.specs.declared.holding.Held.{Held}
-use Rattle.call_places.specs.Below.call_client.specs.Acting.{Stand, stand, both_of}
-use Rattle.call_places.specs.Below.call_client.specs.Running.{begins, LeftAll}
-use Rattle.call_places.specs.Below.call_run.specs.Threads.{Thread, IsThread}
-use Rattle.call_places.specs.Below.sock_deeds.specs.Deeds.{Hand}
-use Rattle.call_places.specs.Below.sock_deeds.specs.Runs.{IsOperation, IsFor, numbers_at, Seated}
-use Rattle.call_places.specs.Below.sock_deeds.proofs.Steps.{then_steps, steps_as}
-use Rattle.call_places.specs.Below.sock_deeds.proofs.Waiting.{Waited, seated}
+use Rattle.call_places.specs.Below.RpcClient.Held.{Held}
+use Rattle.call_places.specs.Below.CallClient.Acting.{Stand, stand, both_of}
+use Rattle.call_places.specs.Below.CallClient.Running.{begins, LeftAll}
+use Rattle.call_places.specs.Below.CallRun.Threads.{Thread, IsThread}
+use Rattle.call_places.specs.sock_deeds.specs.Deeds.{Hand}
+use Rattle.call_places.specs.sock_deeds.specs.Runs.{IsOperation, IsFor, numbers_at, Seated}
+use Rattle.call_places.specs.sock_deeds.proofs.Steps.{then_steps, steps_as}
+use Rattle.call_places.specs.sock_deeds.proofs.Waiting.{Waited, seated}
 use Rattle.call_deeds.specs.Retried.{asked_before, asked_in, all_asked}
 use Rattle.call_deeds.specs.Scripts.{HaveLinks}
 use Rattle.call_deeds.proofs.Acts.{hand_of, IsSaid, StepsFor}

@@ -8,19 +8,19 @@ use Rattle.sock_words.specs.declared.outcome.Outcome.{Outcome}
 use Rattle.sock_words.specs.declared.plain.Plan.{Plan}
 use Rattle.sock_words.specs.declared.socket_id.SocketId.{SocketId}
 use Rattle.sock_model.specs.declared.view.View.{View}
-use Rattle.call_places.specs.Below.sock_rule.specs.declared.homes.SockHome.{SockHome}
-use Rattle.call_places.specs.Below.sock_table.specs.declared.finding.Noted.TheVariants as noted
+use Rattle.call_places.specs.Below.SockRule.SockHome.{SockHome}
+use Rattle.call_places.specs.Below.SockTable.Noted.TheVariants as noted
 use Rattle.seat_programs.specs.declared.task.Task.{Task}
-use Rattle.call_places.specs.Below.rpc_client.specs.declared.holding.Held.{Held}
-use Rattle.call_places.specs.Below.rpc_client.specs.Running.{GaveFirst}
-use Rattle.call_places.specs.Below.rpc_reader.specs.Failing as reader
-use Rattle.call_places.specs.Below.call_run.specs.Ending.{FailedIf, EndedEach, EndedBehind}
-use Rattle.call_places.specs.Below.call_run.specs.Threads.{FoundEach}
-use Rattle.call_places.specs.Below.sock_deeds.specs.Deeds.{Hand, Did, looks, takes, misses, sets, returns, own_number, DoneBy}
-use Rattle.call_places.specs.Below.sock_deeds.specs.Runs.{IsFor, listed, IsById, Ended}
-use Rattle.call_places.specs.Below.sock_deeds.proofs.Ending.{still_none_later}
-use Rattle.call_places.specs.Below.sock_deeds.proofs.Steps.{Steps, no_step, one_step, then_steps, steps_as}
-use Rattle.call_places.specs.Below.sock_deeds.proofs.Waiting.{Waiting, no_wait, one_wait}
+use Rattle.call_places.specs.Below.RpcClient.Held.{Held}
+use Rattle.call_places.specs.Below.RpcClient.Running.{GaveFirst}
+use Rattle.call_places.specs.Below.RpcReader.Failing as reader
+use Rattle.call_places.specs.Below.CallRun.Ending.{FailedIf, EndedEach, EndedBehind}
+use Rattle.call_places.specs.Below.CallRun.Threads.{FoundEach}
+use Rattle.call_places.specs.sock_deeds.specs.Deeds.{Hand, Did, looks, takes, misses, sets, returns, own_number, DoneBy}
+use Rattle.call_places.specs.sock_deeds.specs.Runs.{IsFor, listed, IsById, Ended}
+use Rattle.call_places.specs.sock_deeds.proofs.Ending.{still_none_later}
+use Rattle.call_places.specs.sock_deeds.proofs.Steps.{Steps, no_step, one_step, then_steps, steps_as}
+use Rattle.call_places.specs.sock_deeds.proofs.Waiting.{Waiting, no_wait, one_wait}
 
 module _ {O : Type 0} (g : Ghosts O) (state : O → OutState) (p : Plan) where
   -- ## Waiting

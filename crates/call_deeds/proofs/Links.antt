@@ -7,14 +7,14 @@ use Rattle.sock_io.specs.Link.{OutState}
 use Rattle.sock_words.specs.declared.outcome.Outcome.{Outcome}
 use Rattle.sock_words.specs.declared.outcome.Outcome.TheVariants as outcome
 use Rattle.sock_words.specs.declared.plain.Plan.{Plan}
-use Rattle.call_places.specs.Below.sock_table.specs.declared.passes.LinkPass.{LinkPass}
+use Rattle.call_places.specs.Below.SockTable.LinkPass.{LinkPass}
 use Rattle.seat_programs.specs.declared.task.Op.{Op}
 use Rattle.seat_programs.specs.declared.task.Op.TheVariants as ops
 use Rattle.seat_programs.specs.declared.task.Task.{Task}
 use Rattle.corr_core.specs.declared.marks.Plan as id_plan
-use Rattle.call_places.specs.Below.call_client.specs.Acting.{Stand, Needs, Acted}
-use Rattle.call_places.specs.Below.call_client.specs.Running.{Course, Ran, MayMakeAll, left_by}
-use Rattle.call_places.specs.Below.call_run.specs.Threads.{opens_in, opens_of, LinksDown}
+use Rattle.call_places.specs.Below.CallClient.Acting.{Stand, Needs, Acted}
+use Rattle.call_places.specs.Below.CallClient.Running.{Course, Ran, MayMakeAll, left_by}
+use Rattle.call_places.specs.Below.CallRun.Threads.{opens_in, opens_of, LinksDown}
 use Rattle.call_deeds.specs.Scripts.{IsNextLink, HaveLinks}
 use Rattle.call_deeds.proofs.Acts.{IsRight}
 

@@ -9,22 +9,22 @@ use Rattle.sock_words.specs.declared.plain.Plan.{Plan}
 use Rattle.sock_words.specs.declared.socket_id.SocketId.{SocketId}
 use Rattle.sock_words.specs.declared.vref.Vref.{Vref}
 use Rattle.sock_model.specs.declared.view.View.{View}
-use Rattle.call_places.specs.Below.sock_rule.specs.OnTable.{put_in}
-use Rattle.call_places.specs.Below.sock_rule.specs.declared.homes.Letter.{Letter}
-use Rattle.call_places.specs.Below.sock_table.specs.Named.{Found}
-use Rattle.call_places.specs.Below.sock_table.specs.declared.refs.SockRef.{SockRef}
-use Rattle.call_places.specs.Below.write_chain.specs.declared.entry.Refused.{Refused}
-use Rattle.call_places.specs.Below.write_chain.specs.declared.entry.Refused.TheVariants as refused
+use Rattle.call_places.specs.Below.SockRule.OnTable.{put_in}
+use Rattle.call_places.specs.Below.SockRule.Letter.{Letter}
+use Rattle.call_places.specs.Below.SockTable.Named.{Found}
+use Rattle.call_places.specs.Below.SockTable.SockRef.{SockRef}
+use Rattle.call_places.specs.Below.WriteChain.Refused.{Refused}
+use Rattle.call_places.specs.Below.WriteChain.Refused.TheVariants as refused
 use Rattle.corr_core.specs.declared.marks.Plan as id_plan
-use Rattle.call_places.specs.Below.rpc_client.specs.Sending.{SeenThrough, DeliveredBy as Delivered}
-use Rattle.call_places.specs.Below.call_errors.specs.Books.{CallStand}
-use Rattle.call_places.specs.Below.call_writes.specs.Draining.{DroppedAll, none, one_more, Drained}
-use Rattle.call_places.specs.Below.call_writes.specs.Sending.{SeenCalling, DeliveredCalling, SentWithCalling, SentCalling}
-use Rattle.call_places.specs.Below.call_writes.proofs.Drains.{drained_all}
-use Rattle.call_places.specs.Below.call_attempts.specs.Both.{Both}
-use Rattle.call_places.specs.Below.call_attempts.specs.Attempting.{CameBack, DeliveredBy, went_out, came_back, AttemptedBy, nowhere, over_link}
-use Rattle.call_places.specs.Below.sock_deeds.specs.Deeds.{IsDropWord, StoresDrops, DropsBy, SentOver, MessageBy}
-use Rattle.call_places.specs.Below.sock_deeds.proofs.Words.{no_word, word_stays, word_kept, word_dropped}
+use Rattle.call_places.specs.Below.RpcClient.Sending.{SeenThrough, DeliveredBy as Delivered}
+use Rattle.call_places.specs.Below.CallErrors.Books.{CallStand}
+use Rattle.call_places.specs.Below.CallWrites.Draining.{DroppedAll, none, one_more, Drained}
+use Rattle.call_places.specs.Below.CallWrites.Sending.{SeenCalling, DeliveredCalling, SentWithCalling, SentCalling}
+use Rattle.call_places.specs.Below.CallWrites.Drains.{drained_all}
+use Rattle.call_places.specs.Below.CallAttempts.Both.{Both}
+use Rattle.call_places.specs.Below.CallAttempts.Attempting.{CameBack, DeliveredBy, went_out, came_back, AttemptedBy, nowhere, over_link}
+use Rattle.call_places.specs.sock_deeds.specs.Deeds.{IsDropWord, StoresDrops, DropsBy, SentOver, MessageBy}
+use Rattle.call_places.specs.sock_deeds.proofs.Words.{no_word, word_stays, word_kept, word_dropped}
 
 module _ {O : Type 0} (state : O → OutState) (p : Plan) where
   -- ## What a seat stores while it writes a link

@@ -9,18 +9,18 @@ use Rattle.sock_words.specs.declared.plain.Plan.{Plan}
 use Rattle.chain_steps.proofs.Lists.{old, new, at_snoc}
 use Rattle.seat_programs.specs.declared.task.Task.{Task}
 use Rattle.corr_core.specs.declared.marks.Plan as id_plan
-use Rattle.call_places.specs.Below.rpc_client.specs.declared.acting.Told.{Told}
-use Rattle.call_places.specs.Below.rpc_client.specs.declared.holding.Held.{Held}
-use Rattle.call_places.specs.Below.rpc_client.specs.Running.{telling}
-use Rattle.call_places.specs.Below.call_attempts.specs.Both.{Both}
-use Rattle.call_places.specs.Below.call_attempts.specs.Retrying.{without_oldest, Retried, none_yet, one_more}
-use Rattle.call_places.specs.Below.call_client.specs.Acting.{Stand, both_of}
-use Rattle.call_places.specs.Below.call_client.specs.Running.{Course, Ran, RetriedHere}
-use Rattle.call_places.specs.Below.call_run.specs.Threads.{opens_of, LinksDown}
-use Rattle.call_places.specs.Below.sock_deeds.specs.Deeds.{Hand}
-use Rattle.call_places.specs.Below.sock_deeds.specs.Runs.{IsOperation, numbers_at}
-use Rattle.call_places.specs.Below.sock_deeds.proofs.Flats.{append_first, append_later, flat-append}
-use Rattle.call_places.specs.Below.sock_deeds.proofs.Steps.{no_step, then_steps, steps_as}
+use Rattle.call_places.specs.Below.RpcClient.Told.{Told}
+use Rattle.call_places.specs.Below.RpcClient.Held.{Held}
+use Rattle.call_places.specs.Below.RpcClient.Running.{telling}
+use Rattle.call_places.specs.Below.CallAttempts.Both.{Both}
+use Rattle.call_places.specs.Below.CallAttempts.Retrying.{without_oldest, Retried, none_yet, one_more}
+use Rattle.call_places.specs.Below.CallClient.Acting.{Stand, both_of}
+use Rattle.call_places.specs.Below.CallClient.Running.{Course, Ran, RetriedHere}
+use Rattle.call_places.specs.Below.CallRun.Threads.{opens_of, LinksDown}
+use Rattle.call_places.specs.sock_deeds.specs.Deeds.{Hand}
+use Rattle.call_places.specs.sock_deeds.specs.Runs.{IsOperation, numbers_at}
+use Rattle.call_places.specs.sock_deeds.proofs.Flats.{append_first, append_later, flat-append}
+use Rattle.call_places.specs.sock_deeds.proofs.Steps.{no_step, then_steps, steps_as}
 use Rattle.call_deeds.specs.Retried.{Again, asked_by, asked_in, asked_before}
 use Rattle.call_deeds.specs.Scripts.{IsLater, HaveLinks}
 use Rattle.call_deeds.proofs.Acts.{hand_of, socks_in, IsSaid, StepsFor, retry_steps, acted_steps}

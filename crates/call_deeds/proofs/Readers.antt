@@ -11,18 +11,18 @@ use Rattle.sock_model.specs.Seats.{newcomer}
 use Rattle.corr_core.specs.declared.marks.Plan as id_plan
 use Rattle.seat_programs.specs.declared.task.Op.TheVariants as ops
 use Rattle.seat_programs.specs.declared.task.Task.{Task}
-use Rattle.call_places.specs.Below.sock_rule.specs.declared.homes.SockHome.{SockHome}
-use Rattle.call_places.specs.Below.sock_table.specs.declared.finding.Noted.TheVariants as noted
-use Rattle.call_places.specs.Below.sock_table.specs.Named.{NotedAs}
-use Rattle.call_places.specs.Below.rpc_reader.specs.Books.{Books}
-use Rattle.call_places.specs.Below.rpc_reader.specs.Failing.{OpenedBy, SetOnce}
-use Rattle.call_places.specs.Below.rpc_reader.specs.Reading.{code_of}
-use Rattle.call_places.specs.Below.rpc_reader.specs.Running.{fails, is_starved, FailedIf, ReadIf, RanBy}
-use Rattle.call_places.specs.Below.rpc_reader.specs.declared.reading.How.{How}
-use Rattle.call_places.specs.Below.rpc_reader.specs.declared.reading.How.TheVariants as how
-use Rattle.call_places.specs.Below.sock_deeds.specs.Deeds.{Did, looks, takes, misses, sets, returns, DoneBy, Deed, Chain}
-use Rattle.call_places.specs.Below.sock_deeds.specs.Runs.{IsOperation, IsReaderCode, DidRead, had_none, left_it, missed_it, set_it, did_in, ReaderSeat}
-use Rattle.call_places.specs.Below.sock_deeds.proofs.Ending.{still_none_later}
+use Rattle.call_places.specs.Below.SockRule.SockHome.{SockHome}
+use Rattle.call_places.specs.Below.SockTable.Noted.TheVariants as noted
+use Rattle.call_places.specs.Below.SockTable.Named.{NotedAs}
+use Rattle.call_places.specs.Below.RpcReader.Books.{Books}
+use Rattle.call_places.specs.Below.RpcReader.Failing.{OpenedBy, SetOnce}
+use Rattle.call_places.specs.Below.RpcReader.Reading.{code_of}
+use Rattle.call_places.specs.Below.RpcReader.Running.{fails, is_starved, FailedIf, ReadIf, RanBy}
+use Rattle.call_places.specs.Below.RpcReader.How.{How}
+use Rattle.call_places.specs.Below.RpcReader.How.TheVariants as how
+use Rattle.call_places.specs.sock_deeds.specs.Deeds.{Did, looks, takes, misses, sets, returns, DoneBy, Deed, Chain}
+use Rattle.call_places.specs.sock_deeds.specs.Runs.{IsOperation, IsReaderCode, DidRead, had_none, left_it, missed_it, set_it, did_in, ReaderSeat}
+use Rattle.call_places.specs.sock_deeds.proofs.Ending.{still_none_later}
 use Rattle.call_deeds.proofs.Ends.{bare}
 
 -- where memory was wanting nowhere, its code is that of an end, or of bytes that are no response

@@ -16,33 +16,33 @@ use Rattle.sock_words.specs.declared.plain.Plan.{Plan}
 use Rattle.sock_words.specs.declared.place_word.PlaceWord.{PlaceWord}
 use Rattle.sock_words.specs.declared.vref.Vref.{Vref}
 use Rattle.sock_model.specs.declared.view.View.{View}
-use Rattle.call_places.specs.Below.sock_rule.specs.declared.homes.SockHome.{SockHome}
+use Rattle.call_places.specs.Below.SockRule.SockHome.{SockHome}
 use Rattle.seat_programs.specs.declared.task.Op.{Op}
 use Rattle.seat_programs.specs.declared.task.Op.TheVariants as ops
 use Rattle.seat_programs.specs.declared.task.Task.{Task}
 use Rattle.seat_programs.specs.Told.{AreTasks, IsTask, Became}
-use Rattle.call_places.specs.Below.outcome_stories.specs.Stories.{In}
-use Rattle.call_places.specs.Below.outcome_ticks.proofs.Seats.{Less}
-use Rattle.call_places.specs.Below.outcome_ticks.proofs.Tasks.{one_task, sorted_of}
-use Rattle.call_places.specs.Below.script_facts.proofs.Lists.{has_from, contains_from}
+use Rattle.call_places.specs.outcome_stories.specs.Stories.{In}
+use Rattle.call_places.specs.outcome_ticks.proofs.Seats.{Less}
+use Rattle.call_places.specs.outcome_ticks.proofs.Tasks.{one_task, sorted_of}
+use Rattle.call_places.specs.script_facts.proofs.Lists.{has_from, contains_from}
 use Rattle.corr_core.specs.declared.marks.Plan as id_plan
 use Rattle.corr_core.specs.declared.marks.View as id_view
 use Rattle.sock_message.specs.Asked.{Asked}
-use Rattle.call_places.specs.Below.rpc_client.specs.declared.acting.Told.{Told}
-use Rattle.call_places.specs.Below.call_client.specs.Running.{MayMakeAll}
-use Rattle.call_places.specs.Below.call_run.specs.declared.opened.Opening.{Opening}
-use Rattle.call_places.specs.Below.call_run.specs.Ending.{EndedBehind}
-use Rattle.call_places.specs.Below.call_run.specs.Threads.{ids_of, opens_of, is_opened, opened_in, opening_in, openings, name_if, opened_names, Thread, IsThread, AreThreads, MayRun, AllMayRun, MayRunAll, RanWith}
-use Rattle.call_places.specs.Below.call_run.specs.Readers.{LinkReader, AreReaders}
-use Rattle.call_places.specs.Below.sock_deeds.specs.Deeds.{waits, own_number, Deed}
-use Rattle.call_places.specs.Below.sock_deeds.specs.Runs.{IsOperation, IsFor, numbers_at, Seated, Ended, seat_of, ReaderSeat, sits_of, DeedRun}
-use Rattle.call_places.specs.Below.sock_deeds.proofs.Failing.{early}
-use Rattle.call_places.specs.Below.sock_deeds.proofs.Flats.{append_later}
-use Rattle.call_places.specs.Below.sock_deeds.proofs.Places.{to_slice, to_elem, map_there, map_back}
+use Rattle.call_places.specs.Below.RpcClient.Told.{Told}
+use Rattle.call_places.specs.Below.CallClient.Running.{MayMakeAll}
+use Rattle.call_places.specs.Below.CallRun.Opening.{Opening}
+use Rattle.call_places.specs.Below.CallRun.Ending.{EndedBehind}
+use Rattle.call_places.specs.Below.CallRun.Threads.{ids_of, opens_of, is_opened, opened_in, opening_in, openings, name_if, opened_names, Thread, IsThread, AreThreads, MayRun, AllMayRun, MayRunAll, RanWith}
+use Rattle.call_places.specs.Below.CallRun.Readers.{LinkReader, AreReaders}
+use Rattle.call_places.specs.sock_deeds.specs.Deeds.{waits, own_number, Deed}
+use Rattle.call_places.specs.sock_deeds.specs.Runs.{IsOperation, IsFor, numbers_at, Seated, Ended, seat_of, ReaderSeat, sits_of, DeedRun}
+use Rattle.call_places.specs.sock_deeds.proofs.Failing.{early}
+use Rattle.call_places.specs.sock_deeds.proofs.Flats.{append_later}
+use Rattle.call_places.specs.sock_deeds.proofs.Places.{to_slice, to_elem, map_there, map_back}
 use Rattle.call_deeds.specs.Scripts.{HaveLinks, AllHaveLinks, Reports, AllLater}
 use Rattle.call_deeds.specs.Retried.{all_asked}
 use Rattle.call_deeds.proofs.Acts.{IsSaid}
-use Rattle.call_places.specs.Below.sock_deeds.proofs.Waiting.{Waited}
+use Rattle.call_places.specs.sock_deeds.proofs.Waiting.{Waited}
 use Rattle.call_deeds.proofs.Beside.{early_links, OpensLink, ReadersSeated, readers_seated}
 use Rattle.call_deeds.proofs.Clients.{FitsTasks, SaysAll, client_seated}
 use Rattle.call_deeds.proofs.Ends.{ended_behind}

@@ -14,16 +14,16 @@ use Rattle.chain_steps.proofs.Lists.{old, new, at_snoc}
 use Rattle.seat_programs.specs.declared.task.Op.{Op}
 use Rattle.seat_programs.specs.declared.task.Op.TheVariants as ops
 use Rattle.seat_programs.specs.declared.task.Task.{Task}
-use Rattle.call_places.specs.Below.outcome_ticks.proofs.Seats.{Less}
-use Rattle.call_places.specs.Below.script_facts.proofs.Lists.{before_at}
+use Rattle.call_places.specs.outcome_ticks.proofs.Seats.{Less}
+use Rattle.call_places.specs.script_facts.proofs.Lists.{before_at}
 use Rattle.corr_core.specs.declared.marks.Plan as id_plan
-use Rattle.call_places.specs.Below.rpc_client.specs.declared.acting.Told.{Told}
-use Rattle.call_places.specs.Below.rpc_client.specs.Running.{telling}
-use Rattle.call_places.specs.Below.call_client.specs.Acting.{Stand, stand, Acted}
-use Rattle.call_places.specs.Below.call_client.specs.Running.{Course, Ran, begins}
-use Rattle.call_places.specs.Below.call_run.specs.Threads.{Thread, IsThread}
-use Rattle.call_places.specs.Below.sock_deeds.proofs.Flats.{flat_from, flat_there}
-use Rattle.call_places.specs.Below.sock_deeds.proofs.Places.{to_slice, place_low, place_there}
+use Rattle.call_places.specs.Below.RpcClient.Told.{Told}
+use Rattle.call_places.specs.Below.RpcClient.Running.{telling}
+use Rattle.call_places.specs.Below.CallClient.Acting.{Stand, stand, Acted}
+use Rattle.call_places.specs.Below.CallClient.Running.{Course, Ran, begins}
+use Rattle.call_places.specs.Below.CallRun.Threads.{Thread, IsThread}
+use Rattle.call_places.specs.sock_deeds.proofs.Flats.{flat_from, flat_there}
+use Rattle.call_places.specs.sock_deeds.proofs.Places.{to_slice, place_low, place_there}
 use Rattle.call_deeds.proofs.Ran.{Result, telling_of, results, results_long, result_at, told_is}
 
 telling_one : (number : ℕ) (by : Option Outcome) (o : Outcome) → by ≡ Some o → get_elem? (telling number by) 0 ≡ some record { number = number; outcome = o }

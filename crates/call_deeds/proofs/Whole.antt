@@ -8,19 +8,19 @@ use Rattle.sock_words.specs.declared.outcome.Outcome.{Outcome}
 use Rattle.sock_words.specs.declared.plain.Plan.{Plan}
 use Rattle.sock_words.specs.declared.place_word.PlaceWord.{PlaceWord}
 use Rattle.sock_words.specs.declared.vref.Vref.{Vref}
-use Rattle.call_places.specs.Below.sock_rule.specs.Closing.{PlacesDiffer}
+use Rattle.call_places.specs.Below.SockRule.Closing.{PlacesDiffer}
 use Rattle.seat_programs.specs.declared.task.Task.{Task}
 use Rattle.seat_programs.specs.Cores.{Core}
 use Rattle.seat_programs.specs.Told.{AreTasks}
 use Rattle.corr_core.specs.declared.marks.View as id_view
 use Rattle.sock_message.specs.Asked.{Asked}
-use Rattle.call_places.specs.Below.rpc_client.specs.declared.acting.Told.{Told}
-use Rattle.call_places.specs.Below.call_run.specs.Threads.{ids_of, opens_of, openings, opened_names, MayRunAll, RanWith}
-use Rattle.call_places.specs.Below.call_run.specs.Readers.{LinkReader, AreReaders}
-use Rattle.call_places.specs.Below.sock_deeds.specs.Told.{ToldSockets}
-use Rattle.call_places.specs.Below.sock_deeds.specs.Runs.{DeedRun}
-use Rattle.call_places.specs.Below.sock_deeds.proofs.Orders.{orders, IsLeft}
-use Rattle.call_places.specs.Below.sock_deeds.proofs.Whole.{fixed, told_of_deeds}
+use Rattle.call_places.specs.Below.RpcClient.Told.{Told}
+use Rattle.call_places.specs.Below.CallRun.Threads.{ids_of, opens_of, openings, opened_names, MayRunAll, RanWith}
+use Rattle.call_places.specs.Below.CallRun.Readers.{LinkReader, AreReaders}
+use Rattle.call_places.specs.sock_deeds.specs.Told.{ToldSockets}
+use Rattle.call_places.specs.sock_deeds.specs.Runs.{DeedRun}
+use Rattle.call_places.specs.sock_deeds.proofs.Orders.{orders, IsLeft}
+use Rattle.call_places.specs.sock_deeds.proofs.Whole.{fixed, told_of_deeds}
 use Rattle.call_deeds.specs.Retried.{all_asked}
 use Rattle.call_deeds.specs.Scripts.{AllHaveLinks, Reports, AllLater}
 use Rattle.call_deeds.proofs.Beside.{OpensLink}

@@ -6,12 +6,12 @@ use Rattle.sock_words.specs.declared.plain.Plan.{Plan}
 use Rattle.corr_core.specs.declared.marks.Plan as id_plan
 use Rattle.sock_message.specs.Asked.{Asked}
 use Rattle.seat_programs.specs.declared.task.Task.{Task}
-use Rattle.call_places.specs.Below.call_errors.specs.declared.retries.Retry.{Retry}
-use Rattle.call_places.specs.Below.call_attempts.specs.Both.{Both}
-use Rattle.call_places.specs.Below.call_attempts.specs.Retrying.{without_oldest, RetriedBy, had_ended, overtaken, went_again, Retried, none_yet, one_more}
-use Rattle.call_places.specs.Below.call_client.specs.Acting.{stand, both_of}
-use Rattle.call_places.specs.Below.call_client.specs.Running.{Course, Ran, begins}
-use Rattle.call_places.specs.Below.call_run.specs.Threads.{Thread, IsThread}
+use Rattle.call_places.specs.Below.CallErrors.Retry.{Retry}
+use Rattle.call_places.specs.Below.CallAttempts.Both.{Both}
+use Rattle.call_places.specs.Below.CallAttempts.Retrying.{without_oldest, RetriedBy, had_ended, overtaken, went_again, Retried, none_yet, one_more}
+use Rattle.call_places.specs.Below.CallClient.Acting.{stand, both_of}
+use Rattle.call_places.specs.Below.CallClient.Running.{Course, Ran, begins}
+use Rattle.call_places.specs.Below.CallRun.Threads.{Thread, IsThread}
 
 -- what was asked, and the attempt
 pub record Again : Type 0 where

@@ -12,10 +12,10 @@ use Rattle.seat_programs.specs.declared.task.Op.{Op}
 use Rattle.seat_programs.specs.declared.task.Op.TheVariants as ops
 use Rattle.seat_programs.specs.declared.task.Task.{Task}
 use Rattle.seat_programs.specs.Told.{IsTask, Became}
-use Rattle.call_places.specs.Below.rpc_client.specs.declared.acting.Told.{Told}
-use Rattle.call_places.specs.Below.call_run.specs.Threads.{opens_in, opens_of, Thread, AreThreads}
+use Rattle.call_places.specs.Below.RpcClient.Told.{Told}
+use Rattle.call_places.specs.Below.CallRun.Threads.{opens_in, opens_of, Thread, AreThreads}
 use Rattle.call_deeds.specs.Retried.{Again, all_asked}
-use Rattle.call_places.specs.Below.sock_deeds.specs.Runs.{IsOperation}
+use Rattle.call_places.specs.sock_deeds.specs.Runs.{IsOperation}
 
 -- ## Links
 

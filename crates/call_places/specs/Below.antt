@@ -1,17 +1,13 @@
--- The crates below whose definitions the crates above name.
-pub use Rattle.call_run.specs.call_client.specs.call_attempts
-pub use Rattle.call_run.specs.call_client
-pub use Rattle.call_run.specs.call_client.specs.call_errors
-pub use Rattle.call_run
-pub use Rattle.call_run.specs.rpc_reader.specs.call_table
-pub use Rattle.call_run.specs.call_client.specs.call_writes
-pub use Rattle.sock_deeds.specs.script_facts
-pub use Rattle.sock_deeds.specs.report_fits
-pub use Rattle.call_run.specs.call_client.specs.rpc_client
-pub use Rattle.call_run.specs.rpc_reader
-pub use Rattle.sock_deeds.specs.outcome_stories
-pub use Rattle.sock_deeds.specs.outcome_ticks
-pub use Rattle.sock_deeds
-pub use Rattle.call_run.specs.sock_rule
-pub use Rattle.call_run.specs.sock_table
-pub use Rattle.call_run.specs.call_client.specs.write_chain
+-- What the crates above name of the crates below that have code: module by module, since whoever passes on such a crate loads all of it.
+pub use Rattle.call_places.specs.CallAttempts
+pub use Rattle.call_places.specs.CallClient
+pub use Rattle.call_places.specs.CallErrors
+pub use Rattle.call_places.specs.CallRun
+pub use Rattle.call_places.specs.CallTable
+pub use Rattle.call_places.specs.CallWrites
+pub use Rattle.call_places.specs.PrpcFrame
+pub use Rattle.call_places.specs.RpcClient
+pub use Rattle.call_places.specs.RpcReader
+pub use Rattle.call_places.specs.SockRule
+pub use Rattle.call_places.specs.SockTable
+pub use Rattle.call_places.specs.WriteChain

@@ -22,9 +22,9 @@ use Rattle.corr_id.specs.Calls.{is_event, events}
 use Rattle.corr_id.specs.Closing.{Closing}
 use Rattle.corr_id.proofs.Ranges.{lock_range}
 use Rattle.sock_message.specs.Asked.{Asked}
-use Rattle.call_deeds.specs.Below.call_table.specs.Responses.{by_code, outcome_by}
-use Rattle.call_deeds.specs.Below.rpc_client.specs.declared.acting.Told.{Told}
-use Rattle.call_deeds.specs.Below.rpc_reader.specs.Books.{Books, id_of}
+use Rattle.call_deeds.specs.Below.CallTable.Responses.{by_code, outcome_by}
+use Rattle.call_deeds.specs.Below.RpcClient.Told.{Told}
+use Rattle.call_deeds.specs.Below.RpcReader.Books.{Books, id_of}
 use Rattle.call_told.specs.Answers.{IsGivenResponse, EndedBy, by_code as with_code, by_response, HasEnded, ToldFrom, TellsFrom, IsFailure, ends_call, IsOwn, TellsOnly, IsAnswer, HasAnswer}
 use Rattle.call_told.proofs.Lists.{some_same, all_then}
 use Rattle.call_told.proofs.Making.{AllMade, made_fits}

@@ -9,8 +9,8 @@ use Rattle.id_rule.specs.Lawful.{notes_of}
 use Rattle.sock_message.specs.Asked.{Asked}
 use Rattle.corr_id.specs.Calls.{one}
 use Rattle.corr_id.proofs.Seats.{total_append, notes_append}
-use Rattle.call_deeds.specs.Below.rpc_client.specs.declared.acting.Told.{Told}
-use Rattle.call_deeds.specs.Below.call_errors.proofs.Accounts.{same_id}
+use Rattle.call_deeds.specs.Below.RpcClient.Told.{Told}
+use Rattle.call_deeds.specs.Below.CallErrors.Accounts.{same_id}
 use Rattle.call_told.specs.Once.{ends_of, told_ends}
 
 -- how often it was noted that the range of this slot with this first version ended

@@ -25,16 +25,16 @@ use Rattle.id_rule.specs.Lawful.{call_index, notes_of}
 use Rattle.corr_id.specs.Closing.{Closing}
 use Rattle.corr_id.proofs.Seats.{notes_append, total_append}
 use Rattle.sock_message.specs.Asked.{Asked}
-use Rattle.call_deeds.specs.Below.rpc_client.specs.declared.acting.Told.{Told}
-use Rattle.call_deeds.specs.Below.rpc_reader.specs.Books.{Books}
-use Rattle.call_deeds.specs.Below.rpc_reader.specs.Resting.{RestEnded}
-use Rattle.call_deeds.specs.Below.call_run.specs.Readers.{LinkReader, nothing_read, IsReader, AreReaders}
+use Rattle.call_deeds.specs.Below.RpcClient.Told.{Told}
+use Rattle.call_deeds.specs.Below.RpcReader.Books.{Books}
+use Rattle.call_deeds.specs.Below.RpcReader.Resting.{RestEnded}
+use Rattle.call_deeds.specs.Below.CallRun.Readers.{LinkReader, nothing_read, IsReader, AreReaders}
 use Rattle.call_deeds.specs.call_places.specs.Counted.{makes, HaveNotesOf}
 use Rattle.call_deeds.specs.call_places.proofs.Clients.{total_map}
 use Rattle.call_deeds.specs.call_places.proofs.Reader.{MadeNone, none_reads}
 use Rattle.call_deeds.specs.call_places.proofs.Spans.{rest_reads}
 use Rattle.call_deeds.specs.call_places.proofs.Weights.{flat_total}
-use Rattle.call_deeds.specs.Below.sock_deeds.proofs.Flats.{append_first}
+use Rattle.call_deeds.specs.call_places.specs.sock_deeds.proofs.Flats.{append_first}
 use Rattle.call_told.specs.Answers.{AreGiven, at_end, ToldFrom, TellsFrom, HaveAnswers, IsGiver, AreAnsweredBy}
 use Rattle.call_told.specs.Once.{ToldOnce}
 use Rattle.call_told.specs.Least.{HasBegun, IsEndTold}

@@ -9,7 +9,7 @@ use Rattle.sock_words.specs.declared.plain.Plan.{Plan}
 use Rattle.sock_words.specs.declared.outcome.Outcome.{Outcome}
 use Rattle.sock_words.specs.declared.outcome.Outcome.TheVariants as outcome
 use Rattle.sock_model.specs.declared.view.View.{View}
-use Rattle.call_deeds.specs.Below.sock_rule.specs.declared.homes.Letter.{Letter}
+use Rattle.call_deeds.specs.Below.SockRule.Letter.{Letter}
 use Rattle.seat_programs.specs.declared.task.Op.{Op}
 use Rattle.seat_programs.specs.declared.task.Op.TheVariants as ops
 use Rattle.seat_programs.specs.declared.task.Task.{Task}
@@ -18,24 +18,24 @@ use Rattle.sock_message.specs.Asked.{Asked}
 use Rattle.corr_id.specs.declared.calls.IdLock.{IdLock}
 use Rattle.corr_id.specs.declared.posts.Posted.{Posted}
 use Rattle.corr_id.specs.declared.posts.Posted.TheVariants.{Locked as HasLock, Gone, Crowded}
-use Rattle.call_deeds.specs.Below.rpc_client.specs.declared.acting.Told.{Told}
-use Rattle.call_deeds.specs.Below.rpc_client.specs.declared.holding.Held.{Held}
-use Rattle.call_deeds.specs.Below.rpc_client.specs.Opening.{OpenedBy}
-use Rattle.call_deeds.specs.Below.rpc_client.specs.Holding.{HeldBy, DroppedBy}
-use Rattle.call_deeds.specs.Below.rpc_client.specs.Failing.{FailedBy}
-use Rattle.call_deeds.specs.Below.rpc_client.specs.Running.{telling}
-use Rattle.call_deeds.specs.Below.call_errors.specs.Books.{Books, CallStand, starving, Tells, told, lost}
-use Rattle.call_deeds.specs.Below.call_errors.specs.Locking.{id_in}
-use Rattle.call_deeds.specs.Below.call_errors.specs.Ending.{EndedWith, failed}
-use Rattle.call_deeds.specs.Below.call_errors.specs.Handling.{Decided}
-use Rattle.call_deeds.specs.Below.call_errors.specs.Handling as handling
-use Rattle.call_deeds.specs.Below.call_errors.specs.Posting.{Handled}
-use Rattle.call_deeds.specs.Below.call_errors.specs.Asking.{ExpiredBy, JoinedBy}
-use Rattle.call_deeds.specs.Below.call_writes.specs.Sending.{SentCalling}
-use Rattle.call_deeds.specs.Below.call_client.specs.declared.caller.Caller.{Caller}
-use Rattle.call_deeds.specs.Below.call_client.specs.Acting.{Stand, stand, letter_of, Acted}
-use Rattle.call_deeds.specs.Below.call_client.specs.Running.{Course, Ran, begins, RunBy}
-use Rattle.call_deeds.specs.Below.call_client.proofs.Changes.{Changes, same, in_turn, sees, ends, decides, posts, wants, shelves, run_changes}
+use Rattle.call_deeds.specs.Below.RpcClient.Told.{Told}
+use Rattle.call_deeds.specs.Below.RpcClient.Held.{Held}
+use Rattle.call_deeds.specs.Below.RpcClient.Opening.{OpenedBy}
+use Rattle.call_deeds.specs.Below.RpcClient.Holding.{HeldBy, DroppedBy}
+use Rattle.call_deeds.specs.Below.RpcClient.Failing.{FailedBy}
+use Rattle.call_deeds.specs.Below.RpcClient.Running.{telling}
+use Rattle.call_deeds.specs.Below.CallErrors.Books.{Books, CallStand, starving, Tells, told, lost}
+use Rattle.call_deeds.specs.Below.CallErrors.Locking.{id_in}
+use Rattle.call_deeds.specs.Below.CallErrors.Ending.{EndedWith, failed}
+use Rattle.call_deeds.specs.Below.CallErrors.Handling.{Decided}
+use Rattle.call_deeds.specs.Below.CallErrors.Handling as handling
+use Rattle.call_deeds.specs.Below.CallErrors.Posting.{Handled}
+use Rattle.call_deeds.specs.Below.CallErrors.Asking.{ExpiredBy, JoinedBy}
+use Rattle.call_deeds.specs.Below.CallWrites.Sending.{SentCalling}
+use Rattle.call_deeds.specs.Below.CallClient.Caller.{Caller}
+use Rattle.call_deeds.specs.Below.CallClient.Acting.{Stand, stand, letter_of, Acted}
+use Rattle.call_deeds.specs.Below.CallClient.Running.{Course, Ran, begins, RunBy}
+use Rattle.call_deeds.specs.Below.CallClient.Changes.{Changes, same, in_turn, sees, ends, decides, posts, wants, shelves, run_changes}
 use Rattle.call_told.specs.Answers.{IsFailure, ends_call, IsOwn, TellsOnly, ClientTells}
 use Rattle.call_told.proofs.Lists.{all_both}
 

@@ -21,16 +21,16 @@ use Rattle.corr_core.proofs.Notes.{pair-same, at_length}
 use Rattle.id_rule.specs.Lawful.{call_index, notes_of, is_stored}
 use Rattle.sock_message.specs.Asked.{Asked}
 use Rattle.corr_id.specs.Calls.{slot_of, version_of, one}
-use Rattle.call_deeds.specs.Below.rpc_client.specs.declared.acting.Told.{Told}
-use Rattle.call_deeds.specs.Below.rpc_client.specs.Running.{telling}
-use Rattle.call_deeds.specs.Below.call_attempts.specs.Both.{Both}
-use Rattle.call_deeds.specs.Below.call_attempts.specs.declared.calling.Called.TheVariants as called
-use Rattle.call_deeds.specs.Below.call_attempts.specs.Calling.{CalledBy}
-use Rattle.call_deeds.specs.Below.call_client.specs.declared.caller.Caller.{Caller}
-use Rattle.call_deeds.specs.Below.call_client.specs.Acting.{Stand, stand, both_of, Acted}
-use Rattle.call_deeds.specs.Below.call_client.specs.Running.{Course, Made, Ran, begins, RunBy}
-use Rattle.call_deeds.specs.Below.call_client.proofs.Telling.{did_total}
-use Rattle.call_deeds.specs.Below.sock_deeds.proofs.Flats.{append_first}
+use Rattle.call_deeds.specs.Below.RpcClient.Told.{Told}
+use Rattle.call_deeds.specs.Below.RpcClient.Running.{telling}
+use Rattle.call_deeds.specs.Below.CallAttempts.Both.{Both}
+use Rattle.call_deeds.specs.Below.CallAttempts.Called.TheVariants as called
+use Rattle.call_deeds.specs.Below.CallAttempts.Calling.{CalledBy}
+use Rattle.call_deeds.specs.Below.CallClient.Caller.{Caller}
+use Rattle.call_deeds.specs.Below.CallClient.Acting.{Stand, stand, both_of, Acted}
+use Rattle.call_deeds.specs.Below.CallClient.Running.{Course, Made, Ran, begins, RunBy}
+use Rattle.call_deeds.specs.Below.CallClient.Telling.{did_total}
+use Rattle.call_deeds.specs.call_places.specs.sock_deeds.proofs.Flats.{append_first}
 use Rattle.call_told.specs.Least.{is_made_for, HasBegun}
 use Rattle.call_told.proofs.Ends.{made_silent, counted_here}
 use Rattle.call_told.proofs.Growing.{Grows}

@@ -5,10 +5,10 @@ use Rattle.corr_core.specs.Word.{Parts}
 use Rattle.corr_core.specs.declared.marks.Plan.{Plan}
 use Rattle.corr_core.specs.declared.marks.View.{View}
 use Rattle.sock_message.specs.Asked.{Asked}
-use Rattle.call_deeds.specs.Below.rpc_client.specs.declared.acting.Told.{Told}
-use Rattle.call_deeds.specs.Below.rpc_reader.specs.Books.{Books}
-use Rattle.call_deeds.specs.Below.rpc_reader.specs.Posting.{PostedAll, call_at, attempt_at}
-use Rattle.call_deeds.specs.Below.rpc_reader.specs.Resting.{RestEnded}
+use Rattle.call_deeds.specs.Below.RpcClient.Told.{Told}
+use Rattle.call_deeds.specs.Below.RpcReader.Books.{Books}
+use Rattle.call_deeds.specs.Below.RpcReader.Posting.{PostedAll, call_at, attempt_at}
+use Rattle.call_deeds.specs.Below.RpcReader.Resting.{RestEnded}
 use Rattle.call_told.specs.Answers.{IsLossCode, EndedBy, by_code, by_response, ToldFrom}
 use Rattle.call_told.proofs.Noting.{Later, later_same, later_then, quiet_later, got_later, end_later, post_later, later_in, told_in, has_ended}
 use Rattle.call_told.proofs.Steps as steps

@@ -10,8 +10,8 @@ use Rattle.corr_core.proofs.Notes.{pair-same}
 use Rattle.id_rule.specs.Lawful.{notes_of}
 use Rattle.sock_message.specs.Asked.{Asked}
 use Rattle.corr_id.specs.Calls.{is_event, one, GotLock}
-use Rattle.call_deeds.specs.Below.rpc_client.specs.declared.acting.Told.{Told}
-use Rattle.call_deeds.specs.Below.call_client.proofs.Telling.{did_total}
+use Rattle.call_deeds.specs.Below.RpcClient.Told.{Told}
+use Rattle.call_deeds.specs.Below.CallClient.Telling.{did_total}
 use Rattle.call_told.specs.Once.{ends_of}
 use Rattle.call_told.specs.Least.{is_made_for, is_locked_for}
 use Rattle.call_told.proofs.Lists.{all_then}

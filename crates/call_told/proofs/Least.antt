@@ -21,9 +21,9 @@ use Rattle.corr_id.specs.Calls.{slot_of, version_of}
 use Rattle.corr_id.specs.Closing.{Closing}
 use Rattle.corr_id.specs.Ruled.{is_place}
 use Rattle.corr_id.proofs.Seats.{notes_append, total_append}
-use Rattle.call_deeds.specs.Below.rpc_client.specs.declared.acting.Told.{Told}
-use Rattle.call_deeds.specs.Below.rpc_reader.specs.Books.{Books}
-use Rattle.call_deeds.specs.Below.rpc_reader.specs.Resting.{RestEnded}
+use Rattle.call_deeds.specs.Below.RpcClient.Told.{Told}
+use Rattle.call_deeds.specs.Below.RpcReader.Books.{Books}
+use Rattle.call_deeds.specs.Below.RpcReader.Resting.{RestEnded}
 use Rattle.call_deeds.specs.call_places.proofs.Weights.{term}
 use Rattle.call_told.specs.Once.{ends_of, told_ends}
 use Rattle.call_told.specs.Least.{is_made_for, is_locked_for, HasBegun, IsEndTold, ToldLeast}

@@ -3,12 +3,12 @@ use Rattle.std.proofs.Common.{ℕ, Bool, List, [], ◌++◌, refl, arith}
 use Rattle.brpc_model.specs.Frame as model
 use Rattle.corr_core.specs.declared.marks.Plan as ids
 use Rattle.sock_io.specs.Link.{InState}
-use Rattle.call_deeds.specs.Below.rpc_reader.specs.declared.reading.How.{How}
-use Rattle.call_deeds.specs.Below.rpc_reader.specs.declared.reading.How.TheVariants as how
-use Rattle.call_deeds.specs.Below.rpc_reader.specs.Books.{Books}
-use Rattle.call_deeds.specs.Below.rpc_reader.specs.Reading.{code_of}
-use Rattle.call_deeds.specs.Below.rpc_reader.specs.Running.{ReadLink}
-use Rattle.call_deeds.specs.Below.rpc_reader.specs.Resting.{RestEnded}
+use Rattle.call_deeds.specs.Below.RpcReader.How.{How}
+use Rattle.call_deeds.specs.Below.RpcReader.How.TheVariants as how
+use Rattle.call_deeds.specs.Below.RpcReader.Books.{Books}
+use Rattle.call_deeds.specs.Below.RpcReader.Reading.{code_of}
+use Rattle.call_deeds.specs.Below.RpcReader.Running.{ReadLink}
+use Rattle.call_deeds.specs.Below.RpcReader.Resting.{RestEnded}
 use Rattle.call_told.specs.Answers.{IsGiven, AreGiven, IsLossCode, at_end, at_fault, at_want, ToldFrom, TellsFrom}
 use Rattle.call_told.proofs.Noting.{Later}
 use Rattle.call_told.proofs.Given.{given_by}

@@ -24,12 +24,12 @@ use Rattle.corr_id.specs.declared.unlocks.Unlocked.{Unlocked}
 use Rattle.corr_id.specs.declared.unlocks.Unlocked.TheVariants.{Open, Next}
 use Rattle.corr_id.specs.Calls.{is_event, events, one, advance_note}
 use Rattle.corr_id.specs.Unlocks.{UnlockOk}
-use Rattle.call_deeds.specs.Below.call_errors.specs.Books.{CallStand}
-use Rattle.call_deeds.specs.Below.call_errors.specs.Handling.{Decided, ends as ends_by, starves, waits, goes_on}
-use Rattle.call_deeds.specs.Below.call_errors.specs.Posting.{Handled}
-use Rattle.call_deeds.specs.Below.call_client.specs.declared.caller.Caller.{Caller}
-use Rattle.call_deeds.specs.Below.call_client.specs.Running.{RunBy}
-use Rattle.call_deeds.specs.Below.call_client.proofs.Changes.{AsksFor, Sees, keeps, finds, makes, locks, unlocks, Changes, same, in_turn, sees, ends, decides, posts, wants, shelves, run_changes}
+use Rattle.call_deeds.specs.Below.CallErrors.Books.{CallStand}
+use Rattle.call_deeds.specs.Below.CallErrors.Handling.{Decided, ends as ends_by, starves, waits, goes_on}
+use Rattle.call_deeds.specs.Below.CallErrors.Posting.{Handled}
+use Rattle.call_deeds.specs.Below.CallClient.Caller.{Caller}
+use Rattle.call_deeds.specs.Below.CallClient.Running.{RunBy}
+use Rattle.call_deeds.specs.Below.CallClient.Changes.{AsksFor, Sees, keeps, finds, makes, locks, unlocks, Changes, same, in_turn, sees, ends, decides, posts, wants, shelves, run_changes}
 use Rattle.call_told.proofs.Lists.{all_both}
 use Rattle.call_told.proofs.Noting.{NoneMade, Later, later_same, later_then, quiet_later, did_later, got_later, end_later, post_later}
 

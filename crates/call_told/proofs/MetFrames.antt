@@ -17,13 +17,13 @@ use Rattle.prpc_frame.specs.declared.frame.Frame.{Frame}
 use Rattle.rpc_meta.specs.Meaning.{response_of}
 use Rattle.rpc_meta.specs.declared.meta.ResponseMeta.{ResponseMeta}
 use Rattle.prpc_frame.proofs.Cuts.{stream_rest}
-use Rattle.call_deeds.specs.Below.rpc_reader.specs.Books.{Books}
-use Rattle.call_deeds.specs.Below.rpc_reader.specs.Met.{has_response, slot_in, version_in, is_asked, is_for}
-use Rattle.call_deeds.specs.Below.rpc_reader.specs.Reading.{code_of, EndsBy}
-use Rattle.call_deeds.specs.Below.rpc_reader.specs.Taking.{bytes_of}
-use Rattle.call_deeds.specs.Below.rpc_reader.specs.Running.{throws, ReadLink}
-use Rattle.call_deeds.specs.Below.rpc_reader.specs.declared.reading.How.{How}
-use Rattle.call_deeds.specs.Below.rpc_reader.specs.declared.reading.How.TheVariants as how
+use Rattle.call_deeds.specs.Below.RpcReader.Books.{Books}
+use Rattle.call_deeds.specs.Below.RpcReader.Met.{has_response, slot_in, version_in, is_asked, is_for}
+use Rattle.call_deeds.specs.Below.RpcReader.Reading.{code_of, EndsBy}
+use Rattle.call_deeds.specs.Below.RpcReader.Taking.{bytes_of}
+use Rattle.call_deeds.specs.Below.RpcReader.Running.{throws, ReadLink}
+use Rattle.call_deeds.specs.Below.RpcReader.How.{How}
+use Rattle.call_deeds.specs.Below.RpcReader.How.TheVariants as how
 use Rattle.corr_core.specs.Word.{parts}
 use Rattle.corr_core.specs.Law.{total, is_ended}
 use Rattle.corr_core.specs.declared.marks.Note.{Note}

@@ -15,12 +15,12 @@ use Rattle.sock_words.specs.declared.socket_id.SocketId.{SocketId}
 use Rattle.sock_words.specs.declared.outcome.Outcome.{Outcome}
 use Rattle.sock_words.specs.declared.outcome.Outcome.TheVariants as outcome
 use Rattle.sock_model.specs.declared.view.View as sock_view
-use Rattle.call_deeds.specs.Below.sock_rule.specs.declared.homes.Letter.{Letter}
-use Rattle.call_deeds.specs.Below.sock_table.specs.declared.refs.SockRef.{SockRef}
+use Rattle.call_deeds.specs.Below.SockRule.Letter.{Letter}
+use Rattle.call_deeds.specs.Below.SockTable.SockRef.{SockRef}
 use Rattle.seat_programs.specs.declared.task.Op.{Op}
 use Rattle.seat_programs.specs.declared.task.Op.TheVariants as ops
 use Rattle.seat_programs.specs.declared.task.Task.{Task}
-use Rattle.call_deeds.specs.Below.write_chain.specs.declared.right.Undelivered.{Undelivered}
+use Rattle.call_deeds.specs.Below.WriteChain.Undelivered.{Undelivered}
 use Rattle.corr_core.specs.Word.{Parts, parts}
 use Rattle.corr_core.specs.Law.{total, only}
 use Rattle.corr_core.specs.declared.marks.Note.{Note}
@@ -35,24 +35,24 @@ use Rattle.corr_id.specs.declared.posts.Posted.{Posted}
 use Rattle.corr_id.specs.declared.posts.Posted.TheVariants.{Locked as HasLock, Gone, Crowded}
 use Rattle.corr_id.specs.Calls.{slot_of, one}
 use Rattle.corr_id.specs.Posts.{PostOk}
-use Rattle.call_deeds.specs.Below.call_errors.specs.declared.retries.Retry.{Retry}
-use Rattle.call_deeds.specs.Below.call_errors.specs.Books.{Books, CallStand, stand_of, starving, Tells, told, lost}
-use Rattle.call_deeds.specs.Below.call_errors.specs.Ending.{EndedWith, failed}
-use Rattle.call_deeds.specs.Below.call_errors.specs.Handling.{Decided}
-use Rattle.call_deeds.specs.Below.call_errors.specs.Handling as handling
-use Rattle.call_deeds.specs.Below.call_errors.specs.Posting.{Handled, PostedBy}
-use Rattle.call_deeds.specs.Below.call_errors.specs.Asking.{found_id, TimedOut, ExpiredBy, JoinedBy}
-use Rattle.call_deeds.specs.Below.call_writes.specs.Draining.{ToldDrop, of_send, of_call, DroppedAll, Drained}
-use Rattle.call_deeds.specs.Below.call_writes.specs.Draining as draining
-use Rattle.call_deeds.specs.Below.call_writes.specs.Sending.{DeliveredCalling, SentCalling}
-use Rattle.call_deeds.specs.Below.call_attempts.specs.declared.calling.Called.TheVariants as called
-use Rattle.call_deeds.specs.Below.call_attempts.specs.Both.{Both}
-use Rattle.call_deeds.specs.Below.call_attempts.specs.Attempting.{code_for, DeliveredBy, went_out, came_back, AttemptedBy, nowhere, over_link}
-use Rattle.call_deeds.specs.Below.call_attempts.specs.Calling.{MadeFor, CalledBy}
-use Rattle.call_deeds.specs.Below.call_attempts.specs.Retrying.{without_oldest, WentTo, stray, unopened, to_socket, Locked, RetriedBy, had_ended, overtaken, went_again, Retried, none_yet, one_more}
-use Rattle.call_deeds.specs.Below.call_client.specs.declared.caller.Caller.{Caller}
-use Rattle.call_deeds.specs.Below.call_client.specs.Acting.{Stand, stand, both_of, letter_of, Acted}
-use Rattle.call_deeds.specs.Below.call_client.specs.Running.{Course, RetriedHere, Made, Ran, begins, RunBy}
+use Rattle.call_deeds.specs.Below.CallErrors.Retry.{Retry}
+use Rattle.call_deeds.specs.Below.CallErrors.Books.{Books, CallStand, stand_of, starving, Tells, told, lost}
+use Rattle.call_deeds.specs.Below.CallErrors.Ending.{EndedWith, failed}
+use Rattle.call_deeds.specs.Below.CallErrors.Handling.{Decided}
+use Rattle.call_deeds.specs.Below.CallErrors.Handling as handling
+use Rattle.call_deeds.specs.Below.CallErrors.Posting.{Handled, PostedBy}
+use Rattle.call_deeds.specs.Below.CallErrors.Asking.{found_id, TimedOut, ExpiredBy, JoinedBy}
+use Rattle.call_deeds.specs.Below.CallWrites.Draining.{ToldDrop, of_send, of_call, DroppedAll, Drained}
+use Rattle.call_deeds.specs.Below.CallWrites.Draining as draining
+use Rattle.call_deeds.specs.Below.CallWrites.Sending.{DeliveredCalling, SentCalling}
+use Rattle.call_deeds.specs.Below.CallAttempts.Called.TheVariants as called
+use Rattle.call_deeds.specs.Below.CallAttempts.Both.{Both}
+use Rattle.call_deeds.specs.Below.CallAttempts.Attempting.{code_for, DeliveredBy, went_out, came_back, AttemptedBy, nowhere, over_link}
+use Rattle.call_deeds.specs.Below.CallAttempts.Calling.{MadeFor, CalledBy}
+use Rattle.call_deeds.specs.Below.CallAttempts.Retrying.{without_oldest, WentTo, stray, unopened, to_socket, Locked, RetriedBy, had_ended, overtaken, went_again, Retried, none_yet, one_more}
+use Rattle.call_deeds.specs.Below.CallClient.Caller.{Caller}
+use Rattle.call_deeds.specs.Below.CallClient.Acting.{Stand, stand, both_of, letter_of, Acted}
+use Rattle.call_deeds.specs.Below.CallClient.Running.{Course, RetriedHere, Made, Ran, begins, RunBy}
 use Rattle.call_told.specs.Least.{is_locked_for}
 use Rattle.call_told.proofs.Ends.{HasLocked, got_locked, IsEndIn, AreEndsIn, ends_in_later}
 use Rattle.call_told.proofs.Growing.{Grows, grows_same, grows_then, quiet_grows, did_grows, ended_grows, post_grows, kept_grows}

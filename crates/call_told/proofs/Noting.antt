@@ -17,7 +17,7 @@ use Rattle.corr_id.specs.Calls.{Became, Did, Quiet, GotLock, one, is_event, even
 use Rattle.corr_id.specs.Posts.{PostOk}
 use Rattle.corr_id.proofs.Doing.{quiet_none, did_none, did_more}
 use Rattle.corr_id.proofs.Seats.{notes_append, total_append}
-use Rattle.call_deeds.specs.Below.rpc_client.specs.declared.acting.Told.{Told}
+use Rattle.call_deeds.specs.Below.RpcClient.Told.{Told}
 use Rattle.call_told.specs.Answers.{HasNoted, HasEnded, ToldFrom}
 use Rattle.call_told.proofs.Lists.{at_front, at_back, all_both, all_then}
 

@@ -11,9 +11,9 @@ use Rattle.corr_id.specs.Calls.{slot_of, version_of}
 use Rattle.corr_id.specs.Closing.{Closing}
 use Rattle.corr_id.proofs.Seats.{total_append}
 use Rattle.sock_message.specs.Asked.{Asked}
-use Rattle.call_deeds.specs.Below.rpc_client.specs.declared.acting.Told.{Told}
-use Rattle.call_deeds.specs.Below.rpc_reader.specs.Books.{Books}
-use Rattle.call_deeds.specs.Below.rpc_reader.specs.Resting.{RestEnded}
+use Rattle.call_deeds.specs.Below.RpcClient.Told.{Told}
+use Rattle.call_deeds.specs.Below.RpcReader.Books.{Books}
+use Rattle.call_deeds.specs.Below.RpcReader.Resting.{RestEnded}
 use Rattle.call_told.specs.Once.{told_ends, ToldOnce}
 use Rattle.call_told.proofs.Balance.{noted_ends, Accounted, AreBalanced, balanced_all}
 use Rattle.call_told.proofs.Tallies.{Accounts, rest_accounts, version_low}

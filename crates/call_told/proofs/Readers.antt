@@ -12,9 +12,9 @@ use Rattle.corr_core.specs.Law.{total}
 use Rattle.corr_core.specs.declared.marks.Plan as ids
 use Rattle.corr_core.specs.declared.marks.View.{View}
 use Rattle.sock_message.specs.Asked.{Asked}
-use Rattle.call_deeds.specs.Below.rpc_reader.specs.Books.{Books}
-use Rattle.call_deeds.specs.Below.rpc_reader.specs.Running.{ReadToEnd, ReadLink, ReadIf}
-use Rattle.call_deeds.specs.Below.call_run.specs.Readers.{LinkReader, nothing_read, IsReader, AreReaders}
+use Rattle.call_deeds.specs.Below.RpcReader.Books.{Books}
+use Rattle.call_deeds.specs.Below.RpcReader.Running.{ReadToEnd, ReadLink, ReadIf}
+use Rattle.call_deeds.specs.Below.CallRun.Readers.{LinkReader, nothing_read, IsReader, AreReaders}
 use Rattle.call_deeds.specs.call_places.proofs.Reader.{MadeNone, none_noted, none_reads}
 use Rattle.call_deeds.specs.call_places.proofs.Spans.{link_reads}
 use Rattle.call_told.specs.Answers.{IsGiven, ToldFrom, TellsFrom}

@@ -14,10 +14,10 @@ use Rattle.corr_id.specs.Calls.{Found, OutOf, slot_of, version_of, one, is_saw}
 use Rattle.corr_id.specs.Closing.{Closing}
 use Rattle.corr_id.specs.Ruled.{is_place}
 use Rattle.sock_words.specs.declared.outcome.Outcome.{Outcome}
-use Rattle.call_deeds.specs.Below.rpc_reader.specs.Books.{Books, EndedAs}
-use Rattle.call_deeds.specs.Below.rpc_reader.specs.Met.{is_for}
-use Rattle.call_deeds.specs.Below.rpc_reader.specs.Posting.{LostBy, LockLost}
-use Rattle.call_deeds.specs.Below.rpc_reader.specs.Resting.{HadEnded, EndedLast, OneEnded, RestEnded}
+use Rattle.call_deeds.specs.Below.RpcReader.Books.{Books, EndedAs}
+use Rattle.call_deeds.specs.Below.RpcReader.Met.{is_for}
+use Rattle.call_deeds.specs.Below.RpcReader.Posting.{LostBy, LockLost}
+use Rattle.call_deeds.specs.Below.RpcReader.Resting.{HadEnded, EndedLast, OneEnded, RestEnded}
 use Rattle.call_told.proofs.Balance.{noted_ends, noted_more, noted_one}
 use Rattle.call_told.proofs.Growing.{Grows}
 use Rattle.call_told.proofs.Lists.{some_same}

@@ -14,13 +14,13 @@ use Rattle.corr_core.specs.declared.marks.View.{View}
 use Rattle.id_rule.specs.Lawful.{newcomer}
 use Rattle.sock_message.specs.Asked.{Asked}
 use Rattle.corr_id.proofs.Seats.{total_append}
-use Rattle.call_deeds.specs.Below.rpc_client.specs.declared.acting.Told.{Told}
-use Rattle.call_deeds.specs.Below.call_errors.specs.Books.{Books, CallStand, stand_of, books_of}
-use Rattle.call_deeds.specs.Below.call_errors.proofs.Accounts as errors
-use Rattle.call_deeds.specs.Below.call_client.specs.declared.caller.Caller.{Caller}
-use Rattle.call_deeds.specs.Below.call_client.specs.Acting.{Stand}
-use Rattle.call_deeds.specs.Below.call_client.specs.Running.{LeftAll, RunBy}
-use Rattle.call_deeds.specs.Below.call_client.proofs.Telling.{run_tells}
+use Rattle.call_deeds.specs.Below.RpcClient.Told.{Told}
+use Rattle.call_deeds.specs.Below.CallErrors.Books.{Books, CallStand, stand_of, books_of}
+use Rattle.call_deeds.specs.Below.CallErrors.Accounts as errors
+use Rattle.call_deeds.specs.Below.CallClient.Caller.{Caller}
+use Rattle.call_deeds.specs.Below.CallClient.Acting.{Stand}
+use Rattle.call_deeds.specs.Below.CallClient.Running.{LeftAll, RunBy}
+use Rattle.call_deeds.specs.Below.CallClient.Telling.{run_tells}
 use Rattle.call_told.specs.Answers.{IsFailure, TellsOnly}
 use Rattle.call_told.specs.Once.{ends_of, told_ends}
 use Rattle.call_told.proofs.Balance.{noted_ends, Accounted, Balanced, told_more, balanced_more}

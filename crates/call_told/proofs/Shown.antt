@@ -6,7 +6,7 @@ use Rattle.sock_words.specs.declared.outcome.Outcome.{Outcome}
 use Rattle.sock_words.specs.declared.outcome.Outcome.TheVariants as outcomes
 use Rattle.corr_core.specs.Law.{total}
 use Rattle.corr_id.proofs.Seats.{total_append}
-use Rattle.call_deeds.specs.Below.rpc_client.specs.declared.acting.Told.{Told}
+use Rattle.call_deeds.specs.Below.RpcClient.Told.{Told}
 use Rattle.call_told.specs.Answers.{ends_call, IsOwn}
 use Rattle.call_told.specs.Once.{ends_of, told_ends, ToldOnce, shows, ShownOnce}
 

@@ -21,13 +21,13 @@ use Rattle.sock_message.specs.Asked.{Asked}
 use Rattle.brpc_model.specs.Frame as model
 use Rattle.prpc_frame.specs.Meaning.{frame_of}
 use Rattle.prpc_frame.specs.declared.frame.Frame.{Frame}
-use Rattle.call_deeds.specs.Below.call_table.specs.Responses.{ending_of, is_early}
-use Rattle.call_deeds.specs.Below.rpc_client.specs.declared.acting.Told.{Told}
-use Rattle.call_deeds.specs.Below.rpc_reader.specs.Books.{Books, EndedAs, ToldBy, id_of}
-use Rattle.call_deeds.specs.Below.rpc_reader.specs.Met.{has_response, slot_in, version_in, is_asked, is_for, AnsweredBy, LackedBy, KeptIf, MetIf, FrameMet, FramesMet}
-use Rattle.call_deeds.specs.Below.rpc_reader.specs.Posting.{LostBy, LockLost, PostedTo, MetKept, PostedIf, PostedAt, PostedAll, call_at, attempt_at}
-use Rattle.call_deeds.specs.Below.rpc_reader.specs.Resting.{HadEnded, EndedLast, OneEnded, RestEnded}
-use Rattle.call_deeds.specs.Below.rpc_reader.proofs.Frames.{asked_responds}
+use Rattle.call_deeds.specs.Below.CallTable.Responses.{ending_of, is_early}
+use Rattle.call_deeds.specs.Below.RpcClient.Told.{Told}
+use Rattle.call_deeds.specs.Below.RpcReader.Books.{Books, EndedAs, ToldBy, id_of}
+use Rattle.call_deeds.specs.Below.RpcReader.Met.{has_response, slot_in, version_in, is_asked, is_for, AnsweredBy, LackedBy, KeptIf, MetIf, FrameMet, FramesMet}
+use Rattle.call_deeds.specs.Below.RpcReader.Posting.{LostBy, LockLost, PostedTo, MetKept, PostedIf, PostedAt, PostedAll, call_at, attempt_at}
+use Rattle.call_deeds.specs.Below.RpcReader.Resting.{HadEnded, EndedLast, OneEnded, RestEnded}
+use Rattle.call_deeds.specs.Below.RpcReader.Frames.{asked_responds}
 use Rattle.call_told.specs.Answers.{IsGiven, AreGiven, IsGivenResponse, TellsEach}
 use Rattle.call_told.proofs.Lists.{all_both, all_but, all_at, all_then, elem_or}
 use Rattle.call_told.proofs.Given.{given_response, for_is}

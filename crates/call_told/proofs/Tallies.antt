@@ -26,15 +26,15 @@ use Rattle.corr_id.specs.Posts.{PostOk}
 use Rattle.sock_message.specs.Asked.{Asked}
 use Rattle.prpc_frame.specs.Meaning.{frame_of}
 use Rattle.prpc_frame.specs.declared.frame.Frame.{Frame}
-use Rattle.call_deeds.specs.Below.call_table.specs.Responses.{by_code, outcome_by, ending_of, is_early}
-use Rattle.call_deeds.specs.Below.rpc_client.specs.declared.acting.Told.{Told}
-use Rattle.call_deeds.specs.Below.rpc_reader.specs.Books.{Books, EndedAs, ToldBy, id_of}
-use Rattle.call_deeds.specs.Below.rpc_reader.specs.Met.{slot_in, version_in, is_asked, is_for, AnsweredBy, LackedBy, KeptIf, MetIf, FramesMet}
-use Rattle.call_deeds.specs.Below.rpc_reader.specs.Posting.{LostBy, LockLost, PostedTo, PostedIf, PostedAt, PostedAll, call_at, attempt_at}
-use Rattle.call_deeds.specs.Below.rpc_reader.specs.Reading.{code_of}
-use Rattle.call_deeds.specs.Below.rpc_reader.specs.Running.{ReadLink}
-use Rattle.call_deeds.specs.Below.rpc_reader.specs.Resting.{HadEnded, EndedLast, OneEnded, RestEnded}
-use Rattle.call_deeds.specs.Below.call_client.proofs.Telling.{quiet_total, did_total, none_of_one}
+use Rattle.call_deeds.specs.Below.CallTable.Responses.{by_code, outcome_by, ending_of, is_early}
+use Rattle.call_deeds.specs.Below.RpcClient.Told.{Told}
+use Rattle.call_deeds.specs.Below.RpcReader.Books.{Books, EndedAs, ToldBy, id_of}
+use Rattle.call_deeds.specs.Below.RpcReader.Met.{slot_in, version_in, is_asked, is_for, AnsweredBy, LackedBy, KeptIf, MetIf, FramesMet}
+use Rattle.call_deeds.specs.Below.RpcReader.Posting.{LostBy, LockLost, PostedTo, PostedIf, PostedAt, PostedAll, call_at, attempt_at}
+use Rattle.call_deeds.specs.Below.RpcReader.Reading.{code_of}
+use Rattle.call_deeds.specs.Below.RpcReader.Running.{ReadLink}
+use Rattle.call_deeds.specs.Below.RpcReader.Resting.{HadEnded, EndedLast, OneEnded, RestEnded}
+use Rattle.call_deeds.specs.Below.CallClient.Telling.{quiet_total, did_total, none_of_one}
 use Rattle.call_told.specs.Once.{ends_of, told_ends}
 use Rattle.call_told.proofs.Balance.{noted_ends, Accounted, told_more, noted_more, one_end}
 use Rattle.call_told.specs.Least.{is_locked_for}

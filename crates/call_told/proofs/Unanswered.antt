@@ -34,14 +34,14 @@ use Rattle.sock_message.specs.brpc_model.specs.Frame as model
 use Rattle.sock_message.specs.brpc_model.specs.Meta.{ResponseMeta}
 use Rattle.prpc_frame.specs.Meaning.{frame_of}
 use Rattle.prpc_frame.specs.declared.frame.Frame.{Frame}
-use Rattle.call_deeds.specs.Below.call_table.specs.Responses.{by_code, outcome_by, ending_of}
-use Rattle.call_deeds.specs.Below.rpc_client.specs.declared.acting.Told.{Told}
-use Rattle.call_deeds.specs.Below.rpc_reader.specs.Books.{Books, ToldBy, id_of}
-use Rattle.call_deeds.specs.Below.rpc_reader.specs.Met.{slot_in, version_in, is_asked, is_for, MetIf, FramesMet}
-use Rattle.call_deeds.specs.Below.rpc_reader.specs.Posting.{LostBy, LockLost, PostedTo, PostedIf, PostedAt, PostedAll, call_at, attempt_at}
-use Rattle.call_deeds.specs.Below.rpc_reader.specs.Running.{ReadLink}
-use Rattle.call_deeds.specs.Below.rpc_reader.specs.Reading.{code_of}
-use Rattle.call_deeds.specs.Below.rpc_reader.specs.Resting.{HadEnded, EndedLast, OneEnded, RestEnded}
+use Rattle.call_deeds.specs.Below.CallTable.Responses.{by_code, outcome_by, ending_of}
+use Rattle.call_deeds.specs.Below.RpcClient.Told.{Told}
+use Rattle.call_deeds.specs.Below.RpcReader.Books.{Books, ToldBy, id_of}
+use Rattle.call_deeds.specs.Below.RpcReader.Met.{slot_in, version_in, is_asked, is_for, MetIf, FramesMet}
+use Rattle.call_deeds.specs.Below.RpcReader.Posting.{LostBy, LockLost, PostedTo, PostedIf, PostedAt, PostedAll, call_at, attempt_at}
+use Rattle.call_deeds.specs.Below.RpcReader.Running.{ReadLink}
+use Rattle.call_deeds.specs.Below.RpcReader.Reading.{code_of}
+use Rattle.call_deeds.specs.Below.RpcReader.Resting.{HadEnded, EndedLast, OneEnded, RestEnded}
 use Rattle.call_told.proofs.Given.{for_is}
 use Rattle.call_told.proofs.Lists.{all_both, all_then}
 use Rattle.call_told.proofs.Responses.{NotesGrow, HasEnded, IsMet, Goes, met_still, goes_view, same_notes, post_grows, posted_goes, all_goes, one_goes, rest_goes, lost_met, frames_goes, frames_met}

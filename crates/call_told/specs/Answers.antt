@@ -19,10 +19,10 @@ use Rattle.corr_id.specs.Calls.{Found, events}
 use Rattle.sock_message.specs.Asked.{Asked}
 use Rattle.prpc_frame.specs.Meaning.{frame_of}
 use Rattle.prpc_frame.specs.declared.frame.Frame as frames
-use Rattle.call_deeds.specs.Below.call_table.specs.Responses.{ending_of}
-use Rattle.call_deeds.specs.Below.rpc_client.specs.declared.acting.Told.{Told}
-use Rattle.call_deeds.specs.Below.rpc_reader.specs.Books.{Books, id_of}
-use Rattle.call_deeds.specs.Below.call_client.specs.declared.caller.Caller.{Caller}
+use Rattle.call_deeds.specs.Below.CallTable.Responses.{ending_of}
+use Rattle.call_deeds.specs.Below.RpcClient.Told.{Told}
+use Rattle.call_deeds.specs.Below.RpcReader.Books.{Books, id_of}
+use Rattle.call_deeds.specs.Below.CallClient.Caller.{Caller}
 
 -- ## Responses that links gave
 

@@ -10,7 +10,7 @@ use Rattle.corr_core.specs.declared.marks.View.{View}
 use Rattle.id_rule.specs.Lawful.{call_index, notes_of, is_stored}
 use Rattle.sock_message.specs.Asked.{Asked}
 use Rattle.corr_id.specs.Calls.{slot_of, version_of}
-use Rattle.call_deeds.specs.Below.rpc_client.specs.declared.acting.Told.{Told}
+use Rattle.call_deeds.specs.Below.RpcClient.Told.{Told}
 use Rattle.call_told.specs.Once.{ends_of, told_ends}
 
 -- 1 where the range with this first version was made for the call that is this operation

@@ -4,7 +4,7 @@ use Rattle.sock_words.specs.declared.outcome.Outcome.{Outcome}
 use Rattle.sock_words.specs.declared.outcome.Outcome.TheVariants.{Answered, Peer, CallFailed}
 use Rattle.corr_core.specs.Law.{total, only}
 use Rattle.corr_id.specs.Calls.{slot_of}
-use Rattle.call_deeds.specs.Below.rpc_client.specs.declared.acting.Told.{Told}
+use Rattle.call_deeds.specs.Below.RpcClient.Told.{Told}
 
 -- 1 where the outcome is the end of the call with this id, else 0
 abbrev pub ends_of : ℕ → Outcome → ℕ

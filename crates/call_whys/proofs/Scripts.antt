@@ -15,7 +15,7 @@ use Rattle.seat_programs.specs.Scripts.{all_tasks}
 use Rattle.seat_programs.specs.Tasks.{Numbered, numbered, op_of}
 use Rattle.seat_programs.specs.Told.{IsTask, Became}
 use Rattle.seat_programs.specs.ToldCalls.{Fixed, Order, WhyCall}
-use Rattle.expire_told.specs.Below.script_facts.proofs.TaskLemmas.{numbers_at, IsTaskOf, task_is}
+use Rattle.expire_told.specs.call_places.specs.script_facts.proofs.TaskLemmas.{numbers_at, IsTaskOf, task_is}
 use Rattle.expire_told.specs.call_told.specs.Answers.{HasAnswer, AreAnsweredBy}
 use Rattle.call_whys.proofs.Answers.{why_answered, why_peer}
 

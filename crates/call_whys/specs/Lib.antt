@@ -1,5 +1,5 @@
-pub use Rattle.expire_told.specs.Below
 pub use Rattle.expire_told.specs.call_deeds
 pub use Rattle.expire_told.specs.call_places
 pub use Rattle.expire_told.specs.call_told
 pub use Rattle.expire_told
+pub use Rattle.expire_told.specs.Below

@@ -12,15 +12,15 @@ use Rattle.brpc_model.specs.PlaceWords.{IsLineOf, took_at}
 use Rattle.brpc_model.specs.Reply.{Answer, Gives as Answers, Refuses, served, answered_by, reply}
 use Rattle.brpc_model.specs.Report.{LinkLine}
 use Rattle.brpc_model.specs.Run.{IsOperation, HasOutcome, GaveFrame, StandsIn}
-use Rattle.served_told.specs.Below.script_facts.proofs.Flat.{map_at}
-use Rattle.served_told.specs.Below.script_facts.proofs.Known.{first_number}
-use Rattle.served_told.specs.Below.script_facts.proofs.Lists.{Has, within, some_is}
-use Rattle.served_told.specs.Below.script_facts.proofs.Names.{mentioned_has, same_name}
-use Rattle.served_told.specs.Below.script_facts.proofs.Numbering.{are_from}
-use Rattle.served_told.specs.Below.report_fits.proofs.Orders.{label_of}
-use Rattle.served_told.specs.Below.report_fits.proofs.Orders as orders
-use Rattle.served_told.specs.Below.script_facts.proofs.Sizes.{keeps_limits}
-use Rattle.served_told.specs.Below.script_facts.proofs.TaskLemmas.{numbers_at, asks_at, task_is, open_asks, named_at, mentions_open}
+use Rattle.callless_fits.specs.sock_deeds.specs.script_facts.proofs.Flat.{map_at}
+use Rattle.callless_fits.specs.sock_deeds.specs.script_facts.proofs.Known.{first_number}
+use Rattle.callless_fits.specs.sock_deeds.specs.script_facts.proofs.Lists.{Has, within, some_is}
+use Rattle.callless_fits.specs.sock_deeds.specs.script_facts.proofs.Names.{mentioned_has, same_name}
+use Rattle.callless_fits.specs.sock_deeds.specs.script_facts.proofs.Numbering.{are_from}
+use Rattle.callless_fits.specs.sock_deeds.specs.report_fits.proofs.Orders.{label_of}
+use Rattle.callless_fits.specs.sock_deeds.specs.report_fits.proofs.Orders as orders
+use Rattle.callless_fits.specs.sock_deeds.specs.script_facts.proofs.Sizes.{keeps_limits}
+use Rattle.callless_fits.specs.sock_deeds.specs.script_facts.proofs.TaskLemmas.{numbers_at, asks_at, task_is, open_asks, named_at, mentions_open}
 use Rattle.sock_message.specs.Asked.{name_of}
 use Rattle.seat_programs.specs.declared.task.Op.TheVariants as ops
 use Rattle.seat_programs.specs.declared.task.Task.{Task}

@@ -13,8 +13,8 @@ use Rattle.seat_programs.specs.declared.task.Op.TheVariants as ops
 use Rattle.seat_programs.specs.declared.task.Task.{Task}
 use Rattle.seat_programs.specs.Told.{Became}
 use Rattle.seat_programs.specs.ToldCalls.{IsFailing}
-use Rattle.failed_told.specs.call_whys.specs.Below.sock_rule.specs.Closing.{PlacesDiffer}
-use Rattle.failed_told.specs.call_whys.specs.Below.sock_rule.specs.declared.homes.Letter.{Letter}
+use Rattle.failed_told.specs.Below.SockRule.Closing.{PlacesDiffer}
+use Rattle.failed_told.specs.Below.SockRule.Letter.{Letter}
 use Rattle.callless_fits.specs.sock_deeds.specs.Deeds.{MessageBy, Did, sends, fails, DoneBy}
 use Rattle.callless_fits.specs.sock_deeds.specs.Runs.{IsOperation, DeedRun}
 use Rattle.callless_fits.specs.sock_deeds.proofs.Accepting.{log}

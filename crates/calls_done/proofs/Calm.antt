@@ -6,9 +6,9 @@ use Rattle.brpc_model.specs.Complete.{IsUntroubled}
 use Rattle.brpc_model.specs.Items.{Call, CallLine, Fail, attempts_of}
 use Rattle.brpc_model.specs.Operations.{Operation}
 use Rattle.brpc_model.specs.Run.{IsOperation}
-use Rattle.served_told.specs.Below.script_facts.proofs.Lists.{Has, all_at, has_from, has_none, contains_from}
-use Rattle.served_told.specs.Below.script_facts.proofs.Numbering.{are_from}
-use Rattle.served_told.specs.Below.script_facts.proofs.TaskLemmas.{numbers_at, task_is, fail_asks}
+use Rattle.callless_fits.specs.sock_deeds.specs.script_facts.proofs.Lists.{Has, all_at, has_from, has_none, contains_from}
+use Rattle.callless_fits.specs.sock_deeds.specs.script_facts.proofs.Numbering.{are_from}
+use Rattle.callless_fits.specs.sock_deeds.specs.script_facts.proofs.TaskLemmas.{numbers_at, task_is, fail_asks}
 use Rattle.sock_message.specs.Asked.{Asked, name_of}
 use Rattle.seat_programs.specs.declared.task.Op.TheVariants as ops
 use Rattle.seat_programs.specs.declared.task.Task.{Task}

@@ -12,13 +12,13 @@ use Rattle.brpc_model.specs.Operations.{Operation, operations}
 use Rattle.brpc_model.specs.Reply.{Answer, Gives as Answers, Refuses, served, answered_by, reply}
 use Rattle.brpc_model.specs.Run.{IsOperation, HasOutcome, GaveFrame}
 use Rattle.brpc_model.specs.Stream.{stream}
-use Rattle.served_told.specs.Below.script_facts.proofs.Known.{first_number}
-use Rattle.served_told.specs.Below.script_facts.proofs.Lists.{Has, has_from, has_none, contains_from, some_is}
-use Rattle.served_told.specs.Below.script_facts.proofs.Numbering.{are_from}
-use Rattle.served_told.specs.Below.report_fits.proofs.Reported.{SaidOrPlaced}
-use Rattle.served_told.specs.Below.script_facts.proofs.Targets.{are_there}
-use Rattle.served_told.specs.Below.script_facts.proofs.Targets as targets
-use Rattle.served_told.specs.Below.script_facts.proofs.TaskLemmas.{numbers_at, asks_at, task_is, expire_asks}
+use Rattle.callless_fits.specs.sock_deeds.specs.script_facts.proofs.Known.{first_number}
+use Rattle.callless_fits.specs.sock_deeds.specs.script_facts.proofs.Lists.{Has, has_from, has_none, contains_from, some_is}
+use Rattle.callless_fits.specs.sock_deeds.specs.script_facts.proofs.Numbering.{are_from}
+use Rattle.callless_fits.specs.sock_deeds.specs.report_fits.proofs.Reported.{SaidOrPlaced}
+use Rattle.callless_fits.specs.sock_deeds.specs.script_facts.proofs.Targets.{are_there}
+use Rattle.callless_fits.specs.sock_deeds.specs.script_facts.proofs.Targets as targets
+use Rattle.callless_fits.specs.sock_deeds.specs.script_facts.proofs.TaskLemmas.{numbers_at, asks_at, task_is, expire_asks}
 use Rattle.sock_message.specs.Asked.{Asked, name_of}
 use Rattle.seat_programs.specs.declared.task.Op.TheVariants as ops
 use Rattle.seat_programs.specs.declared.task.Task.{Task}

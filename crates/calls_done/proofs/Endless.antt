@@ -10,8 +10,8 @@ use Rattle.brpc_model.specs.Reply.{reply, reply_frames}
 use Rattle.brpc_model.specs.Script.{script_of}
 use Rattle.brpc_model.specs.Served.{first_of, given_for}
 use Rattle.brpc_model.specs.Stream.{stream}
-use Rattle.served_told.specs.Below.script_facts.proofs.Lists.{Has}
-use Rattle.served_told.specs.Below.script_facts.proofs.Tasks.{tasks_of_script}
+use Rattle.callless_fits.specs.sock_deeds.specs.script_facts.proofs.Lists.{Has}
+use Rattle.callless_fits.specs.sock_deeds.specs.script_facts.proofs.Tasks.{tasks_of_script}
 use Rattle.sock_message.specs.Asked.{Asked, request_of, frame_of}
 use Rattle.seat_programs.specs.declared.task.Op.TheVariants as ops
 use Rattle.seat_programs.specs.declared.task.Task.{Task}

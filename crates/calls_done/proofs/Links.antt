@@ -7,8 +7,8 @@ use Rattle.brpc_model.specs.Complete.{IsSilentUnserved, IsUntroubled}
 use Rattle.brpc_model.specs.Items.{Item, Shape, Open}
 use Rattle.brpc_model.specs.Link.{LinkEnd}
 use Rattle.brpc_model.specs.Operations.{link_names, link_shapes}
-use Rattle.served_told.specs.Below.report_fits.specs.Ends.{IsEndOf, EndsEarly}
-use Rattle.served_told.specs.Below.script_facts.proofs.Lists.{Has, all_at, has_later, contains_from, some_is, within}
+use Rattle.callless_fits.specs.sock_deeds.specs.report_fits.specs.Ends.{IsEndOf, EndsEarly}
+use Rattle.callless_fits.specs.sock_deeds.specs.script_facts.proofs.Lists.{Has, all_at, has_later, contains_from, some_is, within}
 use Rattle.seat_programs.specs.Tasks.{plan_of}
 use Rattle.callless_fits.specs.sock_deeds.specs.Told.{fixed_by}
 use Rattle.calls_done.proofs.Known.{Known}

@@ -16,8 +16,8 @@ use Rattle.corr_core.specs.declared.marks.View.{View}
 use Rattle.corr_core.proofs.Notes.{only-else}
 use Rattle.id_rule.specs.Lawful.{call_index}
 use Rattle.sock_message.specs.Asked.{Asked}
-use Rattle.call_told.specs.Below.call_client.specs.Acting.{both_of}
-use Rattle.call_told.specs.Below.call_client.specs.Running.{Course, Made, Ran}
+use Rattle.call_told.specs.Below.CallClient.Acting.{both_of}
+use Rattle.call_told.specs.Below.CallClient.Running.{Course, Made, Ran}
 use Rattle.call_told.specs.Least.{HasBegun}
 use Rattle.call_told.proofs.Growing.{Grows, own_at}
 use Rattle.call_told.proofs.Lists.{all_at}

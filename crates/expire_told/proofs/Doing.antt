@@ -12,12 +12,12 @@ use Rattle.sock_words.specs.declared.plain.Plan.{Plan}
 use Rattle.seat_programs.specs.declared.task.Task.{Task}
 use Rattle.corr_core.specs.declared.marks.Plan as id_plan
 use Rattle.corr_core.proofs.Notes.{at_length}
-use Rattle.call_told.specs.Below.rpc_client.specs.declared.acting.Told.{Told}
-use Rattle.call_told.specs.Below.rpc_client.specs.Running.{telling}
-use Rattle.call_told.specs.Below.call_errors.specs.Books.{CallStand, stand_of}
-use Rattle.call_told.specs.Below.call_client.specs.declared.caller.Caller.{Caller}
-use Rattle.call_told.specs.Below.call_client.specs.Acting.{Stand, stand}
-use Rattle.call_told.specs.Below.call_client.specs.Running.{Course, Made, Ran, begins, RunBy}
+use Rattle.call_told.specs.Below.RpcClient.Told.{Told}
+use Rattle.call_told.specs.Below.RpcClient.Running.{telling}
+use Rattle.call_told.specs.Below.CallErrors.Books.{CallStand, stand_of}
+use Rattle.call_told.specs.Below.CallClient.Caller.{Caller}
+use Rattle.call_told.specs.Below.CallClient.Acting.{Stand, stand}
+use Rattle.call_told.specs.Below.CallClient.Running.{Course, Made, Ran, begins, RunBy}
 use Rattle.call_told.proofs.Lists.{all_at}
 use Rattle.call_told.proofs.Moves.{Fits, Moves, moves_then, moves_same, made_moves, end_moves}
 use Rattle.call_told.proofs.Runs.{none_left}

@@ -9,7 +9,7 @@ use native.Mathlib.Decide.{ℕ_discrete, dec_lt}
 use lib.ListN.{get_elem?}
 use Rattle.atomic_table.specs.Table.{Me}
 use Rattle.brpc_model.specs.Order.{EachBefore}
-use Rattle.call_told.specs.Below.script_facts.proofs.Lists.{has_from, some_is}
+use Rattle.call_told.specs.call_places.specs.script_facts.proofs.Lists.{has_from, some_is}
 use Rattle.sock_io.specs.declared.link.Out.{Ghosts}
 use Rattle.sock_io.specs.Link.{OutState}
 use Rattle.sock_words.specs.Codes.{ERPCTIMEDOUT}
@@ -35,17 +35,17 @@ use Rattle.sock_message.specs.Asked.{Asked}
 use Rattle.corr_id.specs.Calls.{slot_of, version_of}
 use Rattle.corr_id.specs.Closing.{Closing}
 use Rattle.corr_id.specs.Ruled.{is_place}
-use Rattle.call_told.specs.Below.rpc_client.specs.declared.acting.Told.{Told}
-use Rattle.call_told.specs.Below.rpc_client.specs.Running.{telling}
-use Rattle.call_told.specs.Below.sock_deeds.proofs.Flats.{append_first, append_later}
-use Rattle.call_told.specs.Below.call_errors.specs.Books.{CallStand, stand_of}
-use Rattle.call_told.specs.Below.call_errors.specs.Ending.{failed}
-use Rattle.call_told.specs.Below.call_errors.specs.Locking.{id_in}
-use Rattle.call_told.specs.Below.call_errors.specs.Asking.{ExpiredBy, TimedOut}
-use Rattle.call_told.specs.Below.call_client.specs.Acting.{Stand, stand, both_of, Acted}
-use Rattle.call_told.specs.Below.call_client.specs.Running.{begins, MayMakeAll}
-use Rattle.call_told.specs.Below.call_run.specs.Readers.{LinkReader}
-use Rattle.call_told.specs.Below.call_run.specs.Threads.{Thread, RanWith, AllMayRun, MayRunAll, ids_of}
+use Rattle.call_told.specs.Below.RpcClient.Told.{Told}
+use Rattle.call_told.specs.Below.RpcClient.Running.{telling}
+use Rattle.call_told.specs.call_places.specs.sock_deeds.proofs.Flats.{append_first, append_later}
+use Rattle.call_told.specs.Below.CallErrors.Books.{CallStand, stand_of}
+use Rattle.call_told.specs.Below.CallErrors.Ending.{failed}
+use Rattle.call_told.specs.Below.CallErrors.Locking.{id_in}
+use Rattle.call_told.specs.Below.CallErrors.Asking.{ExpiredBy, TimedOut}
+use Rattle.call_told.specs.Below.CallClient.Acting.{Stand, stand, both_of, Acted}
+use Rattle.call_told.specs.Below.CallClient.Running.{begins, MayMakeAll}
+use Rattle.call_told.specs.Below.CallRun.Readers.{LinkReader}
+use Rattle.call_told.specs.Below.CallRun.Threads.{Thread, RanWith, AllMayRun, MayRunAll, ids_of}
 use Rattle.call_told.specs.call_places.specs.Counted.{HaveNotesOf}
 use Rattle.call_told.specs.call_places.proofs.Weights.{term, two_terms}
 use Rattle.call_told.specs.call_places.proofs.Numbers.{numbered_once}
@@ -64,7 +64,7 @@ use Rattle.expire_told.proofs.Doing.{GoesOn, on_then, Split, ran_split, Done, do
 use Rattle.expire_told.proofs.Begun.{BegunIn, ran_stored}
 use Rattle.expire_told.proofs.Making.{before_in, owned, placed, same_stored}
 use Rattle.expire_told.proofs.Expiring.{EndsAs, timed_out_word, timed_out_ends}
-use Rattle.call_told.specs.Below.sock_deeds.proofs.Places.{map_back, to_elem, map_there}
+use Rattle.call_told.specs.call_places.specs.sock_deeds.proofs.Places.{map_back, to_elem, map_there}
 
 -- ## Calls have their own numbers
 
@@ -72,8 +72,8 @@ all_fits : (p : Plan) (q : id_plan.Plan) (ts : List Task) (n : ℕ) → MayMakeA
 all_fits p q [] n m = tt
 all_fits p q (t ∷ ts) n m = (λ asked is. one t.op is m.0.needs, all_fits p q ts _ m.1)
   where
-    one : (op : Op) {asked : Asked} → op ≡ ops.Call asked → Rattle.call_told.specs.Below.call_client.specs.Acting.Needs p q t.number op n → asked.operation ≡ t.number
-    one op {asked} is needs = let h : Rattle.call_told.specs.Below.call_client.specs.Acting.Needs p q t.number (ops.Call asked) n = subst (λ (x : Op). Rattle.call_told.specs.Below.call_client.specs.Acting.Needs p q t.number x n) is needs in h.1
+    one : (op : Op) {asked : Asked} → op ≡ ops.Call asked → Rattle.call_told.specs.Below.CallClient.Acting.Needs p q t.number op n → asked.operation ≡ t.number
+    one op {asked} is needs = let h : Rattle.call_told.specs.Below.CallClient.Acting.Needs p q t.number (ops.Call asked) n = subst (λ (x : Op). Rattle.call_told.specs.Below.CallClient.Acting.Needs p q t.number x n) is needs in h.1
 
 each_fits : (p : Plan) (q : id_plan.Plan) (tss : List (List Task)) → AllMayRun p q tss → AllByRecursion (AllByRecursion Fits) tss
 each_fits p q [] m = tt

@@ -17,13 +17,13 @@ use Rattle.corr_id.specs.declared.calls.IdLock.{IdLock}
 use Rattle.corr_id.specs.declared.posts.Posted.{Posted}
 use Rattle.corr_id.specs.declared.posts.Posted.TheVariants.{Locked as HasLock}
 use Rattle.corr_id.specs.Calls.{slot_of, version_of, one}
-use Rattle.call_told.specs.Below.call_table.specs.declared.errors.Decision.TheVariants as decisions
-use Rattle.call_told.specs.Below.call_errors.specs.Books.{Books, CallStand, starving, Tells, told, lost}
-use Rattle.call_told.specs.Below.call_errors.specs.Ending.{EndedWith, failed}
-use Rattle.call_told.specs.Below.call_errors.specs.Handling.{Decided, decision}
-use Rattle.call_told.specs.Below.call_errors.specs.Handling as handling
-use Rattle.call_told.specs.Below.call_errors.specs.Posting.{PostedAs}
-use Rattle.call_told.specs.Below.call_errors.specs.Asking.{found_id, outcome_by, TimedOut}
+use Rattle.call_told.specs.Below.CallTable.Decision.TheVariants as decisions
+use Rattle.call_told.specs.Below.CallErrors.Books.{Books, CallStand, starving, Tells, told, lost}
+use Rattle.call_told.specs.Below.CallErrors.Ending.{EndedWith, failed}
+use Rattle.call_told.specs.Below.CallErrors.Handling.{Decided, decision}
+use Rattle.call_told.specs.Below.CallErrors.Handling as handling
+use Rattle.call_told.specs.Below.CallErrors.Posting.{PostedAs}
+use Rattle.call_told.specs.Below.CallErrors.Asking.{found_id, outcome_by, TimedOut}
 use Rattle.call_told.specs.Least.{is_locked_for}
 use Rattle.call_told.proofs.Balance.{noted_ends, noted_more}
 use Rattle.call_told.proofs.Ends.{HasLocked, got_locked, counted_here}

@@ -6,7 +6,7 @@ use mathlib.Core.Option.{some, some-injective}
 use native.Mathlib.Decide.{ℕ_discrete, dec_lt}
 use lib.ListN.{get_elem?}
 use Rattle.brpc_model.specs.Order.{EachBefore}
-use Rattle.call_told.specs.Below.script_facts.proofs.Lists.{some_is}
+use Rattle.call_told.specs.call_places.specs.script_facts.proofs.Lists.{some_is}
 use Rattle.sock_io.specs.declared.link.Out.{Ghosts}
 use Rattle.sock_io.specs.Link.{OutState}
 use Rattle.sock_words.specs.declared.outcome.Outcome.{Outcome}
@@ -32,13 +32,13 @@ use Rattle.sock_message.specs.Asked.{Asked}
 use Rattle.corr_id.specs.Calls.{slot_of, version_of, Found, LacksId}
 use Rattle.corr_id.specs.Closing.{Closing}
 use Rattle.corr_id.specs.Ruled.{is_place}
-use Rattle.call_told.specs.Below.rpc_client.specs.declared.acting.Told.{Told}
-use Rattle.call_told.specs.Below.call_errors.specs.Books.{CallStand}
-use Rattle.call_told.specs.Below.call_errors.specs.Asking.{found_id, SawEnd, JoinedBy}
-use Rattle.call_told.specs.Below.call_client.specs.Acting.{Stand, Acted}
-use Rattle.call_told.specs.Below.call_client.specs.Running.{Course, Made, begins}
-use Rattle.call_told.specs.Below.call_run.specs.Readers.{LinkReader}
-use Rattle.call_told.specs.Below.call_run.specs.Threads.{RanWith, MayRunAll, ids_of}
+use Rattle.call_told.specs.Below.RpcClient.Told.{Told}
+use Rattle.call_told.specs.Below.CallErrors.Books.{CallStand}
+use Rattle.call_told.specs.Below.CallErrors.Asking.{found_id, SawEnd, JoinedBy}
+use Rattle.call_told.specs.Below.CallClient.Acting.{Stand, Acted}
+use Rattle.call_told.specs.Below.CallClient.Running.{Course, Made, begins}
+use Rattle.call_told.specs.Below.CallRun.Readers.{LinkReader}
+use Rattle.call_told.specs.Below.CallRun.Threads.{RanWith, MayRunAll, ids_of}
 use Rattle.call_told.specs.call_places.specs.Counted.{HaveNotesOf}
 use Rattle.call_told.specs.call_places.proofs.Places.{crew_of}
 use Rattle.call_told.specs.call_places.proofs.Clients.{Client, view_of, tasks_of}

@@ -3,7 +3,7 @@ use Rattle.std.proofs.Common.{◌≡◌, ℕ, List, ◌∷◌, sym, ap, ◌∙�
 use Rattle.std.specs.Prelude.{Option}
 use mathlib.Core.Option.{some}
 use lib.ListN.{get_elem?}
-use Rattle.call_told.specs.Below.script_facts.proofs.Lists.{contains_from}
+use Rattle.call_told.specs.call_places.specs.script_facts.proofs.Lists.{contains_from}
 use Rattle.sock_io.specs.declared.link.Out.{Ghosts}
 use Rattle.sock_io.specs.Link.{OutState}
 use Rattle.sock_words.specs.declared.outcome.Outcome.{Outcome}
@@ -22,11 +22,11 @@ use Rattle.corr_core.specs.declared.marks.View.{View}
 use Rattle.id_rule.specs.Lawful.{call_index}
 use Rattle.sock_message.specs.Asked.{Asked}
 use Rattle.corr_id.specs.Closing.{Closing}
-use Rattle.call_told.specs.Below.rpc_client.specs.declared.acting.Told.{Told}
-use Rattle.call_told.specs.Below.call_errors.specs.Books.{CallStand}
-use Rattle.call_told.specs.Below.call_errors.specs.Asking.{ExpiredBy, TimedOut}
-use Rattle.call_told.specs.Below.call_run.specs.Readers.{LinkReader}
-use Rattle.call_told.specs.Below.call_run.specs.Threads.{RanWith, MayRunAll, ids_of}
+use Rattle.call_told.specs.Below.RpcClient.Told.{Told}
+use Rattle.call_told.specs.Below.CallErrors.Books.{CallStand}
+use Rattle.call_told.specs.Below.CallErrors.Asking.{ExpiredBy, TimedOut}
+use Rattle.call_told.specs.Below.CallRun.Readers.{LinkReader}
+use Rattle.call_told.specs.Below.CallRun.Threads.{RanWith, MayRunAll, ids_of}
 use Rattle.call_told.specs.call_places.specs.Counted.{HaveNotesOf}
 use Rattle.call_told.specs.call_places.proofs.Clients.{tasks_of, view_of}
 use Rattle.call_told.specs.call_places.proofs.Places.{all as all_clients, views_are}
@@ -37,7 +37,7 @@ use Rattle.call_told.proofs.Resting.{is_word}
 use Rattle.expire_told.specs.Said.{AreSaid, AreOfCalls, HaveKeptOf, WhyExpired}
 use Rattle.expire_told.proofs.Expiring.{timed_out_word}
 use Rattle.expire_told.proofs.Expires.{fits, tasks_at, IsMade, made_of, expire_made, IsMaker, found_maker, expired_why, not_begun_why, begun_before, expired_once}
-use Rattle.call_told.specs.Below.sock_deeds.proofs.Places.{to_slice, map_there}
+use Rattle.call_told.specs.call_places.specs.sock_deeds.proofs.Places.{to_slice, map_there}
 
 module _ {O : Type 0} {g : Ghosts O} {state : O → OutState} {readers : List (LinkReader g)} {p : Plan} {slots : ℕ} {setup : List Task} {clients : List (List Task)} {opens : List ℕ} {told ended : List (List Told)} {places : List PlaceWord} {vrefs : List Vref} {outs : List O} {ids : List (View Asked)}
     (run : RanWith g state readers p slots setup clients opens told ended places vrefs outs ids) (tasks : AreTasks p (setup ∷ clients)) (may : MayRunAll p (ids_of p slots) setup clients)

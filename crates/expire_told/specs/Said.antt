@@ -15,7 +15,7 @@ use Rattle.corr_core.specs.declared.marks.Kept.{Kept}
 use Rattle.corr_core.specs.declared.marks.View.{View}
 use Rattle.id_rule.specs.Lawful.{is_stored}
 use Rattle.sock_message.specs.Asked.{Asked}
-use Rattle.call_told.specs.Below.rpc_client.specs.declared.acting.Told.{Told}
+use Rattle.call_told.specs.Below.RpcClient.Told.{Told}
 
 -- whatever one of these told is what became of that operation
 abbrev pub AreSaid : List (Option Outcome) → List (List Told) → Type 0

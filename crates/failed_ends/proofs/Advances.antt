@@ -21,11 +21,11 @@ use Rattle.corr_id.specs.Posts.{IsTimely}
 use Rattle.corr_id.specs.declared.calls.IdLock.{IdLock}
 use Rattle.call_table.specs.Errors.{is_final}
 use Rattle.call_table.specs.declared.errors.Decision.TheVariants as decisions
-use Rattle.failed_reasons.specs.call_whys.specs.Below.rpc_client.specs.declared.acting.Told.{Told}
-use Rattle.failed_reasons.specs.call_whys.specs.Below.call_errors.specs.Locking.{id_in}
-use Rattle.failed_reasons.specs.call_whys.specs.Below.call_errors.specs.Handling.{is_whole, decision}
-use Rattle.failed_reasons.specs.call_whys.specs.Below.call_run.specs.Readers.{LinkReader}
-use Rattle.failed_reasons.specs.call_whys.specs.Below.call_run.specs.Threads.{RanWith, ids_of}
+use Rattle.failed_reasons.specs.Below.RpcClient.Told.{Told}
+use Rattle.failed_reasons.specs.Below.CallErrors.Locking.{id_in}
+use Rattle.failed_reasons.specs.Below.CallErrors.Handling.{is_whole, decision}
+use Rattle.failed_reasons.specs.Below.CallRun.Readers.{LinkReader}
+use Rattle.failed_reasons.specs.Below.CallRun.Threads.{RanWith, ids_of}
 use Rattle.failed_reasons.specs.call_whys.specs.call_places.specs.Counted.{HaveNotesOf}
 use Rattle.failed_reasons.specs.call_whys.specs.call_places.proofs.Clients.{Client, view_of, tasks_of, deeds_of}
 use Rattle.failed_reasons.specs.call_whys.specs.call_places.proofs.Places.{crew_of}

@@ -19,9 +19,9 @@ use Rattle.corr_id.specs.id_rule.specs.Lawful.{notes_of}
 use Rattle.corr_id.specs.Calls.{is_saw}
 use Rattle.corr_id.specs.Closing.{Closing}
 use Rattle.sock_message.specs.Asked.{Asked}
-use Rattle.failed_reasons.specs.call_whys.specs.Below.rpc_reader.specs.prpc_frame.specs.declared.frame.Frame.{Frame}
-use Rattle.failed_reasons.specs.call_whys.specs.Below.rpc_reader.specs.Met.{is_asked}
-use Rattle.failed_reasons.specs.call_whys.specs.Below.call_run.specs.Readers.{LinkReader, IsReader}
+use Rattle.failed_reasons.specs.Below.PrpcFrame.Frame.{Frame}
+use Rattle.failed_reasons.specs.Below.RpcReader.Met.{is_asked}
+use Rattle.failed_reasons.specs.Below.CallRun.Readers.{LinkReader, IsReader}
 use Rattle.failed_reasons.specs.call_whys.specs.call_told.proofs.MetFrames.{Responds}
 use Rattle.failed_reasons.specs.call_whys.specs.call_told.proofs.Readers.{reader_gave}
 use Rattle.failed_reasons.specs.call_whys.specs.call_told.proofs.Unanswered.{EndOf}

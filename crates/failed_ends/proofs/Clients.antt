@@ -15,10 +15,10 @@ use Rattle.seat_programs.specs.declared.task.Task.{Task}
 use Rattle.seat_programs.specs.Told.{Became}
 use Rattle.corr_core.specs.declared.marks.View.{View}
 use Rattle.sock_message.specs.Asked.{Asked}
-use Rattle.failed_reasons.specs.call_whys.specs.Below.rpc_client.specs.declared.acting.Told.{Told}
-use Rattle.failed_reasons.specs.call_whys.specs.Below.call_errors.specs.Books.{Books}
-use Rattle.failed_reasons.specs.call_whys.specs.Below.call_run.specs.Readers.{LinkReader}
-use Rattle.failed_reasons.specs.call_whys.specs.Below.call_run.specs.Threads.{Thread, RanWith, ids_of}
+use Rattle.failed_reasons.specs.Below.RpcClient.Told.{Told}
+use Rattle.failed_reasons.specs.Below.CallErrors.Books.{Books}
+use Rattle.failed_reasons.specs.Below.CallRun.Readers.{LinkReader}
+use Rattle.failed_reasons.specs.Below.CallRun.Threads.{Thread, RanWith, ids_of}
 use Rattle.failed_reasons.specs.call_whys.specs.call_places.proofs.Clients.{Client, view_of, tasks_of, deeds_of}
 use Rattle.failed_reasons.specs.call_whys.specs.call_places.proofs.Places.{all as all_clients, all_are}
 use Rattle.failed_reasons.specs.call_whys.specs.expire_told.specs.Said.{AreSaid}
@@ -26,7 +26,7 @@ use Rattle.failed_reasons.specs.call_whys.specs.expire_told.proofs.Doing.{run_fe
 use Rattle.failed_reasons.specs.Reasons.{IsCaused, QueuedFor, AdvancedFor}
 use Rattle.failed_reasons.proofs.Views.{queued_in, advanced_in}
 use Rattle.failed_ends.proofs.Origins.{AreDeeds, run_caused, run_queued, run_advanced}
-use Rattle.failed_reasons.specs.call_whys.specs.Below.sock_deeds.proofs.Places.{map_there}
+use Rattle.failed_reasons.specs.call_whys.specs.call_places.specs.sock_deeds.proofs.Places.{map_there}
 
 module _ {O : Type 0} {g : Ghosts O} {state : O → OutState} {readers : List (LinkReader g)} {p : Plan} {slots : ℕ} {setup : List Task} {clients : List (List Task)} {opens : List ℕ} {told ended : List (List Told)} {places : List PlaceWord} {vrefs : List Vref} {outs : List O} {ids : List (View Asked)}
     (run : RanWith g state readers p slots setup clients opens told ended places vrefs outs ids) (outcomes : List (Option Outcome)) (said : AreSaid outcomes told) where

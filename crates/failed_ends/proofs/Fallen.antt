@@ -17,9 +17,9 @@ use Rattle.sock_words.specs.declared.vref.Vref.{Vref}
 use Rattle.sock_model.specs.declared.view.View as sock_view
 use Rattle.sock_model.specs.Layout.{request_index}
 use Rattle.sock_model.specs.Weights.{is_known, is_saw}
-use Rattle.failed_reasons.specs.call_whys.specs.Below.sock_rule.specs.Closing.{PlacesDiffer}
-use Rattle.failed_reasons.specs.call_whys.specs.Below.sock_rule.specs.declared.homes.SockHome.{SockHome}
-use Rattle.failed_reasons.specs.call_whys.specs.Below.sock_table.specs.Named.{HasSeen, Found}
+use Rattle.failed_reasons.specs.Below.SockRule.Closing.{PlacesDiffer}
+use Rattle.failed_reasons.specs.Below.SockRule.SockHome.{SockHome}
+use Rattle.failed_reasons.specs.Below.SockTable.Named.{HasSeen, Found}
 use Rattle.seat_programs.specs.declared.task.Op.{Op}
 use Rattle.seat_programs.specs.declared.task.Op.TheVariants as ops
 use Rattle.seat_programs.specs.declared.task.Task.{Task}
@@ -36,10 +36,10 @@ use Rattle.corr_id.specs.id_rule.specs.Lawful.{notes_of}
 use Rattle.sock_message.specs.Asked.{Asked, name_of}
 use Rattle.corr_id.specs.Calls.{slot_of}
 use Rattle.corr_id.specs.Closing.{Closing}
-use Rattle.failed_reasons.specs.call_whys.specs.Below.rpc_client.specs.declared.acting.Told.{Told}
-use Rattle.failed_reasons.specs.call_whys.specs.Below.call_attempts.specs.Retrying.{IsStray}
-use Rattle.failed_reasons.specs.call_whys.specs.Below.call_run.specs.Readers.{LinkReader}
-use Rattle.failed_reasons.specs.call_whys.specs.Below.call_run.specs.Threads.{Thread, RanWith, MayRunAll, ids_of}
+use Rattle.failed_reasons.specs.Below.RpcClient.Told.{Told}
+use Rattle.failed_reasons.specs.Below.CallAttempts.Retrying.{IsStray}
+use Rattle.failed_reasons.specs.Below.CallRun.Readers.{LinkReader}
+use Rattle.failed_reasons.specs.Below.CallRun.Threads.{Thread, RanWith, MayRunAll, ids_of}
 use Rattle.failed_reasons.specs.call_whys.specs.call_places.specs.Counted.{HaveNotesOf}
 use Rattle.failed_reasons.specs.call_whys.specs.call_places.specs.Deeds.{Deed}
 use Rattle.failed_reasons.specs.call_whys.specs.call_places.proofs.Weights.{two_terms}
@@ -47,20 +47,20 @@ use Rattle.failed_reasons.specs.call_whys.specs.call_places.proofs.Ids.{IsIdOf}
 use Rattle.failed_reasons.specs.call_whys.specs.call_places.proofs.Clients.{Client, view_of, deeds_of}
 use Rattle.failed_reasons.specs.call_whys.specs.call_places.proofs.Places.{all_are, crew_of}
 use Rattle.failed_reasons.specs.call_whys.specs.call_told.proofs.Lists.{all_at}
-use Rattle.failed_reasons.specs.call_whys.specs.Below.sock_deeds.specs.Deeds as socks
-use Rattle.failed_reasons.specs.call_whys.specs.Below.sock_deeds.specs.Runs.{IsOperation, Seated, seat_of, DeedRun}
-use Rattle.failed_reasons.specs.call_whys.specs.Below.sock_deeds.proofs.Accepting.{log}
-use Rattle.failed_reasons.specs.call_whys.specs.Below.sock_deeds.proofs.Acts.{Act, after, has_marks, has_seen}
-use Rattle.failed_reasons.specs.call_whys.specs.Below.sock_deeds.proofs.Failing.{WhyFailed, by_name, by_link, by_reader, life_failed}
-use Rattle.failed_reasons.specs.call_whys.specs.Below.sock_deeds.proofs.Lives.{MadeHere, found_made}
-use Rattle.failed_reasons.specs.call_whys.specs.Below.sock_deeds.proofs.Orders.{orders, entry_on}
-use Rattle.failed_reasons.specs.call_whys.specs.Below.sock_deeds.proofs.Tasks.{fits}
-use Rattle.failed_reasons.specs.call_whys.specs.Below.sock_deeds.proofs.Whole.{laws_of}
+use Rattle.failed_reasons.specs.call_whys.specs.call_places.specs.sock_deeds.specs.Deeds as socks
+use Rattle.failed_reasons.specs.call_whys.specs.call_places.specs.sock_deeds.specs.Runs.{IsOperation, Seated, seat_of, DeedRun}
+use Rattle.failed_reasons.specs.call_whys.specs.call_places.specs.sock_deeds.proofs.Accepting.{log}
+use Rattle.failed_reasons.specs.call_whys.specs.call_places.specs.sock_deeds.proofs.Acts.{Act, after, has_marks, has_seen}
+use Rattle.failed_reasons.specs.call_whys.specs.call_places.specs.sock_deeds.proofs.Failing.{WhyFailed, by_name, by_link, by_reader, life_failed}
+use Rattle.failed_reasons.specs.call_whys.specs.call_places.specs.sock_deeds.proofs.Lives.{MadeHere, found_made}
+use Rattle.failed_reasons.specs.call_whys.specs.call_places.specs.sock_deeds.proofs.Orders.{orders, entry_on}
+use Rattle.failed_reasons.specs.call_whys.specs.call_places.specs.sock_deeds.proofs.Tasks.{fits}
+use Rattle.failed_reasons.specs.call_whys.specs.call_places.specs.sock_deeds.proofs.Whole.{laws_of}
 use Rattle.failed_reasons.specs.Missed.{missed_in, id_of, IsBacked, attempt_of, socks_behind}
 use Rattle.failed_reasons.proofs.Losses.{SawDead, SawFull, dead_later, full_later, WhyMissed, was_dead, was_full, was_unopened, was_stray}
 use Rattle.failed_reasons.proofs.Reaching.{Reaches, deeds_reach}
 use Rattle.failed_ends.proofs.Single.{IsNothing, not_accepted}
-use Rattle.failed_reasons.specs.call_whys.specs.Below.sock_deeds.proofs.Places.{map_back, map_there}
+use Rattle.failed_reasons.specs.call_whys.specs.call_places.specs.sock_deeds.proofs.Places.{map_back, map_there}
 
 -- ## Of notes and operations
 

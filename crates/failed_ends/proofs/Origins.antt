@@ -17,8 +17,8 @@ use Rattle.sock_words.specs.declared.socket_id.SocketId.{SocketId}
 use Rattle.sock_words.specs.declared.outcome.Outcome.{Outcome}
 use Rattle.sock_words.specs.declared.outcome.Outcome.TheVariants as outcome
 use Rattle.sock_model.specs.declared.view.View as sock_view
-use Rattle.failed_reasons.specs.call_whys.specs.Below.sock_rule.specs.declared.homes.Letter.{Letter}
-use Rattle.failed_reasons.specs.call_whys.specs.Below.sock_table.specs.declared.refs.SockRef.{SockRef}
+use Rattle.failed_reasons.specs.Below.SockRule.Letter.{Letter}
+use Rattle.failed_reasons.specs.Below.SockTable.SockRef.{SockRef}
 use Rattle.seat_programs.specs.declared.task.Op.{Op}
 use Rattle.seat_programs.specs.declared.task.Op.TheVariants as ops
 use Rattle.seat_programs.specs.declared.task.Task.{Task}
@@ -40,38 +40,38 @@ use Rattle.corr_id.specs.Calls.{is_saw, slot_of, version_of, error_in, one, Did,
 use Rattle.corr_id.specs.Posts.{PostOk}
 use Rattle.corr_id.specs.Unlocks.{UnlockOk}
 use Rattle.corr_id.specs.declared.unlocks.Unlocked.TheVariants as unlocked
-use Rattle.failed_reasons.specs.call_whys.specs.Below.call_errors.specs.declared.retries.Retry.{Retry}
-use Rattle.failed_reasons.specs.call_whys.specs.Below.call_errors.specs.Books.{Books, CallStand, stand_of, starving, keeping, Tells, told, lost}
-use Rattle.failed_reasons.specs.call_whys.specs.Below.call_errors.specs.Ending.{EndedWith, failed}
-use Rattle.failed_reasons.specs.call_whys.specs.Below.call_errors.specs.Handling.{Decided, decision}
-use Rattle.failed_reasons.specs.call_whys.specs.Below.call_errors.specs.Handling as handling
-use Rattle.failed_reasons.specs.call_whys.specs.Below.call_errors.specs.Posting.{Handled, PostedBy}
-use Rattle.failed_reasons.specs.call_whys.specs.Below.call_errors.specs.Asking.{found_id, outcome_by, TimedOut, ExpiredBy, JoinedBy}
-use Rattle.failed_reasons.specs.call_whys.specs.Below.call_writes.specs.Draining.{ToldDrop, of_send, of_call, DroppedOne, DroppedAll, Drained}
-use Rattle.failed_reasons.specs.call_whys.specs.Below.call_writes.specs.Draining as draining
-use Rattle.failed_reasons.specs.call_whys.specs.Below.call_writes.specs.Sending.{DeliveredCalling, SentCalling}
-use Rattle.failed_reasons.specs.call_whys.specs.Below.call_attempts.specs.declared.calling.Called.TheVariants as called
-use Rattle.failed_reasons.specs.call_whys.specs.Below.call_attempts.specs.Both.{Both}
-use Rattle.failed_reasons.specs.call_whys.specs.Below.call_attempts.specs.Attempting.{code_for, DeliveredBy, went_out, came_back, AttemptedBy, nowhere, over_link}
-use Rattle.failed_reasons.specs.call_whys.specs.Below.call_attempts.specs.Calling.{CalledBy}
-use Rattle.failed_reasons.specs.call_whys.specs.Below.call_attempts.specs.Retrying.{without_oldest, WentTo, stray, unopened, to_socket, Locked, RetriedBy, had_ended, overtaken, went_again, Retried, none_yet, one_more}
-use Rattle.failed_reasons.specs.call_whys.specs.Below.call_client.specs.declared.caller.Caller.{Caller}
-use Rattle.failed_reasons.specs.call_whys.specs.Below.call_client.specs.Acting.{Stand, stand, both_of, letter_of, Acted}
-use Rattle.failed_reasons.specs.call_whys.specs.Below.call_client.specs.Running.{Course, Ran, begins, RunBy}
-use Rattle.failed_reasons.specs.call_whys.specs.Below.rpc_client.specs.declared.acting.Told.{Told}
+use Rattle.failed_reasons.specs.Below.CallErrors.Retry.{Retry}
+use Rattle.failed_reasons.specs.Below.CallErrors.Books.{Books, CallStand, stand_of, starving, keeping, Tells, told, lost}
+use Rattle.failed_reasons.specs.Below.CallErrors.Ending.{EndedWith, failed}
+use Rattle.failed_reasons.specs.Below.CallErrors.Handling.{Decided, decision}
+use Rattle.failed_reasons.specs.Below.CallErrors.Handling as handling
+use Rattle.failed_reasons.specs.Below.CallErrors.Posting.{Handled, PostedBy}
+use Rattle.failed_reasons.specs.Below.CallErrors.Asking.{found_id, outcome_by, TimedOut, ExpiredBy, JoinedBy}
+use Rattle.failed_reasons.specs.Below.CallWrites.Draining.{ToldDrop, of_send, of_call, DroppedOne, DroppedAll, Drained}
+use Rattle.failed_reasons.specs.Below.CallWrites.Draining as draining
+use Rattle.failed_reasons.specs.Below.CallWrites.Sending.{DeliveredCalling, SentCalling}
+use Rattle.failed_reasons.specs.Below.CallAttempts.Called.TheVariants as called
+use Rattle.failed_reasons.specs.Below.CallAttempts.Both.{Both}
+use Rattle.failed_reasons.specs.Below.CallAttempts.Attempting.{code_for, DeliveredBy, went_out, came_back, AttemptedBy, nowhere, over_link}
+use Rattle.failed_reasons.specs.Below.CallAttempts.Calling.{CalledBy}
+use Rattle.failed_reasons.specs.Below.CallAttempts.Retrying.{without_oldest, WentTo, stray, unopened, to_socket, Locked, RetriedBy, had_ended, overtaken, went_again, Retried, none_yet, one_more}
+use Rattle.failed_reasons.specs.Below.CallClient.Caller.{Caller}
+use Rattle.failed_reasons.specs.Below.CallClient.Acting.{Stand, stand, both_of, letter_of, Acted}
+use Rattle.failed_reasons.specs.Below.CallClient.Running.{Course, Ran, begins, RunBy}
+use Rattle.failed_reasons.specs.Below.RpcClient.Told.{Told}
 use Rattle.failed_reasons.specs.call_whys.specs.call_places.specs.Deeds.{Deed, operates, retries, retries_of, ran_deeds}
 use Rattle.failed_reasons.specs.call_whys.specs.call_places.proofs.Still.{attempt_silent}
-use Rattle.failed_reasons.specs.call_whys.specs.Below.call_client.proofs.Telling.{did_total, none_of_one}
+use Rattle.failed_reasons.specs.Below.CallClient.Telling.{did_total, none_of_one}
 use Rattle.failed_reasons.specs.call_whys.specs.call_told.specs.Least.{is_made_for, is_locked_for}
 use Rattle.failed_reasons.specs.call_whys.specs.call_told.proofs.Ends.{made_silent, counted_here, HasLocked, got_locked}
 use Rattle.failed_reasons.specs.call_whys.specs.call_told.proofs.Lists.{all_both, all_then}
 use Rattle.failed_reasons.specs.call_whys.specs.call_told.proofs.Resting.{is_word}
 use Rattle.failed_reasons.specs.call_whys.specs.call_told.proofs.Runs.{none_left}
-use Rattle.failed_reasons.specs.call_whys.specs.Below.sock_deeds.proofs.Flats.{append_first, append_later}
-use Rattle.failed_reasons.specs.call_whys.specs.Below.sock_deeds.proofs.Growing.{stays, returned_grew}
-use Rattle.failed_reasons.specs.call_whys.specs.Below.rpc_client.specs.Running.{telling}
+use Rattle.failed_reasons.specs.call_whys.specs.call_places.specs.sock_deeds.proofs.Flats.{append_first, append_later}
+use Rattle.failed_reasons.specs.call_whys.specs.call_places.specs.sock_deeds.proofs.Growing.{stays, returned_grew}
+use Rattle.failed_reasons.specs.Below.RpcClient.Running.{telling}
 use Rattle.call_table.specs.declared.errors.Decision.TheVariants as decisions
-use Rattle.failed_reasons.specs.call_whys.specs.Below.call_errors.specs.Locking.{id_in}
+use Rattle.failed_reasons.specs.Below.CallErrors.Locking.{id_in}
 use Rattle.failed_reasons.specs.Reasons.{Counts, StillHas, IsBehind, WasDropped, Reason, timed_out, missed, dropped, QueuedFor, AdvancedFor, Origin, posted_so, handed_out, IsSeen, Cause, IsCaused}
 use Rattle.failed_reasons.specs.Missed.{delivery_missed, attempt_missed, went_missed, retry_missed, acted_missed, acted_id, IsMadeBy, IsBacked, socks_behind}
 use Rattle.failed_reasons.proofs.Keeping.{still_as, still_then, wrote_still, drop_still}

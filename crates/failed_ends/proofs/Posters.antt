@@ -23,10 +23,10 @@ use Rattle.corr_id.specs.Calls.{is_saw, slot_of, version_of, error_in}
 use Rattle.corr_id.specs.Closing.{Closing}
 use Rattle.corr_id.specs.Posts.{IsTimely}
 use Rattle.corr_id.specs.declared.calls.IdLock.{IdLock}
-use Rattle.failed_reasons.specs.call_whys.specs.Below.rpc_client.specs.declared.acting.Told.{Told}
-use Rattle.failed_reasons.specs.call_whys.specs.Below.call_errors.specs.Locking.{id_in}
-use Rattle.failed_reasons.specs.call_whys.specs.Below.call_run.specs.Readers.{LinkReader}
-use Rattle.failed_reasons.specs.call_whys.specs.Below.call_run.specs.Threads.{RanWith, ids_of}
+use Rattle.failed_reasons.specs.Below.RpcClient.Told.{Told}
+use Rattle.failed_reasons.specs.Below.CallErrors.Locking.{id_in}
+use Rattle.failed_reasons.specs.Below.CallRun.Readers.{LinkReader}
+use Rattle.failed_reasons.specs.Below.CallRun.Threads.{RanWith, ids_of}
 use Rattle.failed_reasons.specs.call_whys.specs.call_places.specs.Counted.{HaveNotesOf}
 use Rattle.failed_reasons.specs.call_whys.specs.call_places.specs.Deeds.{Deed, operates, retries}
 use Rattle.failed_reasons.specs.call_whys.specs.call_places.proofs.Clients.{Client, total_map, view_of, tasks_of, deeds_of}

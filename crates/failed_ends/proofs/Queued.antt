@@ -3,7 +3,7 @@ use Rattle.std.proofs.Common.{◌≡◌, ℕ, ◌<◌, ◌⊎◌, inl, inr, List
 use Rattle.std.specs.Prelude.{Option, Contains, slice_get}
 use mathlib.Core.Option.{some}
 use lib.ListN.{get_elem?}
-use Rattle.failed_reasons.specs.call_whys.specs.Below.script_facts.proofs.Lists.{contains_from}
+use Rattle.failed_reasons.specs.call_whys.specs.call_places.specs.script_facts.proofs.Lists.{contains_from}
 use Rattle.sock_io.specs.declared.link.Out.{Ghosts}
 use Rattle.sock_io.specs.Link.{OutState}
 use Rattle.sock_words.specs.Codes.{EEOF, EFAILEDSOCKET, EREQUESTS, ERESPONSE, ERPCTIMEDOUT}
@@ -20,9 +20,9 @@ use Rattle.corr_core.specs.declared.marks.Plan as id_plan
 use Rattle.corr_core.specs.declared.marks.View.{View}
 use Rattle.corr_core.proofs.Notes.{total_some}
 use Rattle.sock_message.specs.Asked.{Asked}
-use Rattle.failed_reasons.specs.call_whys.specs.Below.rpc_client.specs.declared.acting.Told.{Told}
-use Rattle.failed_reasons.specs.call_whys.specs.Below.call_run.specs.Readers.{LinkReader}
-use Rattle.failed_reasons.specs.call_whys.specs.Below.call_run.specs.Threads.{RanWith, ids_of}
+use Rattle.failed_reasons.specs.Below.RpcClient.Told.{Told}
+use Rattle.failed_reasons.specs.Below.CallRun.Readers.{LinkReader}
+use Rattle.failed_reasons.specs.Below.CallRun.Threads.{RanWith, ids_of}
 use Rattle.failed_reasons.specs.call_whys.specs.call_places.specs.Deeds.{Deed}
 use Rattle.failed_reasons.specs.call_whys.specs.call_places.proofs.Clients.{Client, total_map, view_of, deeds_of}
 use Rattle.failed_reasons.specs.call_whys.specs.call_places.proofs.Places.{all as all_clients, views_are}

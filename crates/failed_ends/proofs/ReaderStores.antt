@@ -25,28 +25,28 @@ use Rattle.sock_model.specs.Marks.{about, at}
 use Rattle.sock_model.specs.Seats.{newcomer}
 use Rattle.sock_model.specs.SlotRows.{marks_of}
 use Rattle.sock_model.specs.Weights.{is_stored, pair, total}
-use Rattle.failed_reasons.specs.call_whys.specs.Below.sock_rule.specs.slot_steps.proofs.Numbers.{pair_is}
-use Rattle.failed_reasons.specs.call_whys.specs.Below.sock_rule.specs.slot_steps.proofs.Sums.{about-here, about-other}
-use Rattle.failed_reasons.specs.call_whys.specs.Below.sock_rule.specs.Becoming.{Became}
-use Rattle.failed_reasons.specs.call_whys.specs.Below.sock_rule.specs.declared.homes.SockHome.{SockHome}
+use Rattle.failed_reasons.specs.call_whys.specs.call_places.specs.outcome_stories.specs.program_walks.specs.slot_steps.proofs.Numbers.{pair_is}
+use Rattle.failed_reasons.specs.call_whys.specs.call_places.specs.outcome_stories.specs.program_walks.specs.slot_steps.proofs.Sums.{about-here, about-other}
+use Rattle.failed_reasons.specs.Below.SockRule.Becoming.{Became}
+use Rattle.failed_reasons.specs.Below.SockRule.SockHome.{SockHome}
 use Rattle.seat_programs.specs.declared.task.Op.TheVariants as ops
 use Rattle.seat_programs.specs.declared.task.Task.{Task}
-use Rattle.failed_reasons.specs.call_whys.specs.Below.sock_table.specs.Answers.{Held, GoneFrom}
-use Rattle.failed_reasons.specs.call_whys.specs.Below.sock_table.specs.Refs.{EndedBy, retired}
+use Rattle.failed_reasons.specs.Below.SockTable.Answers.{Held, GoneFrom}
+use Rattle.failed_reasons.specs.Below.SockTable.Refs.{EndedBy, retired}
 use Rattle.corr_core.specs.declared.marks.Plan.{Plan}
-use Rattle.failed_reasons.specs.call_whys.specs.Below.rpc_client.specs.Failing.{SetBy}
-use Rattle.failed_reasons.specs.call_whys.specs.Below.rpc_client.specs.Sending.{Returned}
-use Rattle.failed_reasons.specs.call_whys.specs.Below.rpc_reader.specs.Books.{Books}
-use Rattle.failed_reasons.specs.call_whys.specs.Below.rpc_reader.specs.Failing.{OpenedBy, SetOnce}
-use Rattle.failed_reasons.specs.call_whys.specs.Below.rpc_reader.specs.Reading as reading
-use Rattle.failed_reasons.specs.call_whys.specs.Below.rpc_reader.specs.Running.{fails, FailedIf, ReadIf}
-use Rattle.failed_reasons.specs.call_whys.specs.Below.call_run.specs.Readers.{LinkReader, nothing_read, IsReader}
-use Rattle.failed_reasons.specs.call_whys.specs.Below.sock_deeds.specs.Runs.{IsOperation, seat_of, sits_of, DeedRun}
-use Rattle.failed_reasons.specs.call_whys.specs.Below.sock_deeds.proofs.Growing.{HasFound}
-use Rattle.failed_reasons.specs.call_whys.specs.Below.sock_deeds.proofs.Tasks.{same_task}
-use Rattle.failed_reasons.specs.call_whys.specs.Below.sock_deeds.proofs.DropCodes.{StoredByReader, first_found}
+use Rattle.failed_reasons.specs.Below.RpcClient.Failing.{SetBy}
+use Rattle.failed_reasons.specs.Below.RpcClient.Sending.{Returned}
+use Rattle.failed_reasons.specs.Below.RpcReader.Books.{Books}
+use Rattle.failed_reasons.specs.Below.RpcReader.Failing.{OpenedBy, SetOnce}
+use Rattle.failed_reasons.specs.Below.RpcReader.Reading as reading
+use Rattle.failed_reasons.specs.Below.RpcReader.Running.{fails, FailedIf, ReadIf}
+use Rattle.failed_reasons.specs.Below.CallRun.Readers.{LinkReader, nothing_read, IsReader}
+use Rattle.failed_reasons.specs.call_whys.specs.call_places.specs.sock_deeds.specs.Runs.{IsOperation, seat_of, sits_of, DeedRun}
+use Rattle.failed_reasons.specs.call_whys.specs.call_places.specs.sock_deeds.proofs.Growing.{HasFound}
+use Rattle.failed_reasons.specs.call_whys.specs.call_places.specs.sock_deeds.proofs.Tasks.{same_task}
+use Rattle.failed_reasons.specs.call_whys.specs.call_places.specs.sock_deeds.proofs.DropCodes.{StoredByReader, first_found}
 use Rattle.failed_reasons.proofs.Ends.{EndedIf, ReadEnded}
-use Rattle.failed_reasons.specs.call_whys.specs.Below.sock_deeds.proofs.Places.{map_back, map_there}
+use Rattle.failed_reasons.specs.call_whys.specs.call_places.specs.sock_deeds.proofs.Places.{map_back, map_there}
 
 -- ## Notes that are no codes
 

@@ -16,7 +16,7 @@ use Rattle.sock_words.specs.declared.socket_id.SocketId.{SocketId}
 use Rattle.sock_words.specs.declared.vref.Vref.{Vref}
 use Rattle.sock_model.specs.declared.chain.Entry.{Entry}
 use Rattle.sock_model.specs.declared.chain.Heading.{Heading}
-use Rattle.failed_reasons.specs.call_whys.specs.Below.sock_rule.specs.declared.homes.Letter.{Letter}
+use Rattle.failed_reasons.specs.Below.SockRule.Letter.{Letter}
 use Rattle.seat_programs.specs.declared.task.Op.{Op}
 use Rattle.seat_programs.specs.declared.task.Op.TheVariants as ops
 use Rattle.seat_programs.specs.declared.task.Task.{Task}
@@ -34,14 +34,14 @@ use Rattle.sock_message.specs.Asked.{Asked}
 use Rattle.corr_id.specs.declared.calls.IdLock.{IdLock}
 use Rattle.corr_id.specs.Calls.{slot_of, version_of}
 use Rattle.corr_id.specs.Closing.{Closing}
-use Rattle.failed_reasons.specs.call_whys.specs.Below.rpc_client.specs.declared.acting.Told.{Told}
-use Rattle.failed_reasons.specs.call_whys.specs.Below.call_errors.specs.declared.retries.Retry.{Retry}
-use Rattle.failed_reasons.specs.call_whys.specs.Below.call_attempts.specs.Both.{Both}
-use Rattle.failed_reasons.specs.call_whys.specs.Below.call_attempts.specs.Attempting.{DeliveredBy, went_out, came_back, AttemptedBy, nowhere, over_link}
-use Rattle.failed_reasons.specs.call_whys.specs.Below.call_attempts.specs.Retrying.{Locked, WentAgain, WentTo, stray, unopened, to_socket, had_ended, overtaken, went_again}
-use Rattle.failed_reasons.specs.call_whys.specs.Below.call_client.specs.Acting.{Stand, both_of, Acted}
-use Rattle.failed_reasons.specs.call_whys.specs.Below.call_run.specs.Readers.{LinkReader}
-use Rattle.failed_reasons.specs.call_whys.specs.Below.call_run.specs.Threads.{RanWith, MayRunAll, ids_of}
+use Rattle.failed_reasons.specs.Below.RpcClient.Told.{Told}
+use Rattle.failed_reasons.specs.Below.CallErrors.Retry.{Retry}
+use Rattle.failed_reasons.specs.Below.CallAttempts.Both.{Both}
+use Rattle.failed_reasons.specs.Below.CallAttempts.Attempting.{DeliveredBy, went_out, came_back, AttemptedBy, nowhere, over_link}
+use Rattle.failed_reasons.specs.Below.CallAttempts.Retrying.{Locked, WentAgain, WentTo, stray, unopened, to_socket, had_ended, overtaken, went_again}
+use Rattle.failed_reasons.specs.Below.CallClient.Acting.{Stand, both_of, Acted}
+use Rattle.failed_reasons.specs.Below.CallRun.Readers.{LinkReader}
+use Rattle.failed_reasons.specs.Below.CallRun.Threads.{RanWith, MayRunAll, ids_of}
 use Rattle.failed_reasons.specs.call_whys.specs.call_places.specs.Counted.{HaveNotesOf}
 use Rattle.failed_reasons.specs.call_whys.specs.call_places.specs.Deeds.{Deed, operates, retries, delivered_entries, attempt_entries, went_entries, acted_entries, entries_of}
 use Rattle.failed_reasons.specs.call_whys.specs.call_places.proofs.Weights.{term, two_terms, each_less}
@@ -56,12 +56,12 @@ use Rattle.failed_reasons.specs.call_whys.specs.call_places.proofs.Log as log
 use Rattle.failed_reasons.specs.call_whys.specs.call_told.specs.Least.{is_made_for}
 use Rattle.failed_reasons.specs.attempts_told.specs.Attempts.{last_attempt}
 use Rattle.failed_reasons.specs.attempts_told.proofs.Last.{none_further}
-use Rattle.failed_reasons.specs.call_whys.specs.Below.sock_deeds.proofs.Entries.{before}
-use Rattle.failed_reasons.specs.call_whys.specs.Below.sock_deeds.proofs.Flats.{flat_from}
+use Rattle.failed_reasons.specs.call_whys.specs.call_places.specs.sock_deeds.proofs.Entries.{before}
+use Rattle.failed_reasons.specs.call_whys.specs.call_places.specs.sock_deeds.proofs.Flats.{flat_from}
 use Rattle.failed_reasons.specs.Missed.{delivery_missed, attempt_missed, went_missed, acted_missed, acted_id, IsMadeBy, missed_in, id_of, IsBacked, attempt_of}
 use Rattle.failed_reasons.proofs.Losses.{IsAskedIn}
 use Rattle.failed_ends.proofs.Posters.{attempt_low}
-use Rattle.failed_reasons.specs.call_whys.specs.Below.sock_deeds.proofs.Places.{map_back}
+use Rattle.failed_reasons.specs.call_whys.specs.call_places.specs.sock_deeds.proofs.Places.{map_back}
 use Rattle.failed_reasons.proofs.Taken.{OneDeed}
 
 -- ## Frames of a deed

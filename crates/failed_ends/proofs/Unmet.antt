@@ -20,14 +20,14 @@ use Rattle.corr_core.specs.declared.marks.View.{View}
 use Rattle.corr_id.specs.id_rule.specs.Lawful.{notes_of}
 use Rattle.corr_id.specs.Closing.{Closing}
 use Rattle.sock_message.specs.Asked.{Asked}
-use Rattle.failed_reasons.specs.call_whys.specs.Below.rpc_reader.specs.prpc_frame.specs.declared.frame.Frame.{Frame}
-use Rattle.failed_reasons.specs.call_whys.specs.Below.rpc_client.specs.declared.acting.Told.{Told}
-use Rattle.failed_reasons.specs.call_whys.specs.Below.rpc_reader.specs.Books.{Books}
-use Rattle.failed_reasons.specs.call_whys.specs.Below.rpc_reader.specs.Met.{is_asked}
-use Rattle.failed_reasons.specs.call_whys.specs.Below.rpc_reader.specs.Reading as reading
-use Rattle.failed_reasons.specs.call_whys.specs.Below.rpc_reader.specs.Running.{ReadLink, ReadIf}
-use Rattle.failed_reasons.specs.call_whys.specs.Below.call_run.specs.Readers.{LinkReader, nothing_read, IsReader}
-use Rattle.failed_reasons.specs.call_whys.specs.Below.rpc_reader.specs.Resting.{RestEnded}
+use Rattle.failed_reasons.specs.Below.PrpcFrame.Frame.{Frame}
+use Rattle.failed_reasons.specs.Below.RpcClient.Told.{Told}
+use Rattle.failed_reasons.specs.Below.RpcReader.Books.{Books}
+use Rattle.failed_reasons.specs.Below.RpcReader.Met.{is_asked}
+use Rattle.failed_reasons.specs.Below.RpcReader.Reading as reading
+use Rattle.failed_reasons.specs.Below.RpcReader.Running.{ReadLink, ReadIf}
+use Rattle.failed_reasons.specs.Below.CallRun.Readers.{LinkReader, nothing_read, IsReader}
+use Rattle.failed_reasons.specs.Below.RpcReader.Resting.{RestEnded}
 use Rattle.failed_reasons.specs.call_whys.specs.call_told.proofs.MetFrames.{Responds, end_unanswered, wait_unanswered}
 use Rattle.failed_reasons.specs.call_whys.specs.call_told.proofs.Readers.{AllRead, link_read, if_bytes, reader_gave, readers_gave}
 use Rattle.failed_reasons.specs.call_whys.specs.call_told.proofs.Responses.{NotesGrow, met_in}

@@ -4,7 +4,7 @@ use Rattle.std.specs.Prelude.{Option, ◌==◌, ◌||◌, if◌then◌else◌}
 use Rattle.std.proofs.lemmas.Bool.{eqb-true}
 use mathlib.Core.Option.{some}
 use lib.ListN.{get_elem?}
-use Rattle.failed_reasons.specs.call_whys.specs.Below.script_facts.proofs.Lists.{contains_from}
+use Rattle.failed_reasons.specs.call_whys.specs.call_places.specs.script_facts.proofs.Lists.{contains_from}
 use Rattle.sock_io.specs.declared.link.Out.{Ghosts}
 use Rattle.sock_io.specs.Link.{OutState}
 use Rattle.sock_words.specs.Codes.{ERPCTIMEDOUT}
@@ -32,14 +32,14 @@ use Rattle.corr_id.specs.Closing.{Closing}
 use Rattle.corr_id.specs.Posts.{IsTimely}
 use Rattle.corr_id.specs.declared.calls.IdLock.{IdLock}
 use Rattle.corr_id.proofs.Ranges.{lock_range}
-use Rattle.failed_reasons.specs.call_whys.specs.Below.rpc_client.specs.declared.acting.Told.{Told}
+use Rattle.failed_reasons.specs.Below.RpcClient.Told.{Told}
 use Rattle.call_table.specs.Errors.{is_final}
 use Rattle.call_table.specs.declared.errors.Decision.TheVariants as decisions
-use Rattle.failed_reasons.specs.call_whys.specs.Below.call_errors.specs.Locking.{id_in}
-use Rattle.failed_reasons.specs.call_whys.specs.Below.call_errors.specs.Ending.{failed}
-use Rattle.failed_reasons.specs.call_whys.specs.Below.call_errors.specs.Handling.{decision}
-use Rattle.failed_reasons.specs.call_whys.specs.Below.call_run.specs.Readers.{LinkReader}
-use Rattle.failed_reasons.specs.call_whys.specs.Below.call_run.specs.Threads.{RanWith, MayRunAll, ids_of}
+use Rattle.failed_reasons.specs.Below.CallErrors.Locking.{id_in}
+use Rattle.failed_reasons.specs.Below.CallErrors.Ending.{failed}
+use Rattle.failed_reasons.specs.Below.CallErrors.Handling.{decision}
+use Rattle.failed_reasons.specs.Below.CallRun.Readers.{LinkReader}
+use Rattle.failed_reasons.specs.Below.CallRun.Threads.{RanWith, MayRunAll, ids_of}
 use Rattle.failed_reasons.specs.call_whys.specs.call_places.specs.Counted.{HaveNotesOf}
 use Rattle.failed_reasons.specs.call_whys.specs.call_places.proofs.Clients.{Client, view_of, tasks_of, deeds_of}
 use Rattle.failed_reasons.specs.call_whys.specs.call_places.proofs.Places.{tasks_are, noted_among, crew_of}
@@ -53,7 +53,7 @@ use Rattle.failed_reasons.specs.Reasons.{KeepsWord, Reason, timed_out, missed, d
 use Rattle.failed_ends.proofs.Clients.{Says}
 use Rattle.failed_reasons.proofs.Codes.{IsMissCode, IsReadCode, deed_code}
 use Rattle.failed_ends.proofs.Posters.{Poster, posted_by}
-use Rattle.failed_reasons.specs.call_whys.specs.Below.sock_deeds.proofs.Places.{to_slice, map_there}
+use Rattle.failed_reasons.specs.call_whys.specs.call_places.specs.sock_deeds.proofs.Places.{to_slice, map_there}
 use Rattle.failed_reasons.proofs.Taken.{OthersRead, MissedBy, DroppedBy}
 
 -- ## The last attempt

@@ -12,16 +12,16 @@ use Rattle.seat_programs.specs.declared.task.Task.{Task}
 use Rattle.seat_programs.specs.Told.{IsTask}
 use Rattle.corr_core.specs.declared.marks.Plan as id_plan
 use Rattle.sock_message.specs.Asked.{Asked}
-use Rattle.attempts_told.specs.call_whys.specs.Below.call_attempts.specs.Both.{Both}
-use Rattle.attempts_told.specs.call_whys.specs.Below.call_attempts.specs.Retrying.{without_oldest, had_ended, overtaken, went_again, Retried, none_yet, one_more}
-use Rattle.attempts_told.specs.call_whys.specs.Below.call_client.specs.Acting.{stand, both_of}
-use Rattle.attempts_told.specs.call_whys.specs.Below.call_client.specs.Running.{Course, Ran, begins}
-use Rattle.attempts_told.specs.call_whys.specs.Below.call_run.specs.Threads.{Thread, IsThread}
+use Rattle.attempts_told.specs.Below.CallAttempts.Both.{Both}
+use Rattle.attempts_told.specs.Below.CallAttempts.Retrying.{without_oldest, had_ended, overtaken, went_again, Retried, none_yet, one_more}
+use Rattle.attempts_told.specs.Below.CallClient.Acting.{stand, both_of}
+use Rattle.attempts_told.specs.Below.CallClient.Running.{Course, Ran, begins}
+use Rattle.attempts_told.specs.Below.CallRun.Threads.{Thread, IsThread}
 use Rattle.attempts_told.specs.call_whys.specs.call_places.specs.Deeds.{Deed, operates, retries, retries_of, ran_deeds, deeds}
 use Rattle.attempts_told.specs.call_whys.specs.call_deeds.specs.Retried.{Again, asked_by, asked_in, asked_before, all_asked}
 use Rattle.attempts_told.specs.call_whys.specs.call_deeds.specs.Scripts.{IsLater}
-use Rattle.attempts_told.specs.call_whys.specs.Below.sock_deeds.specs.Runs.{IsOperation}
-use Rattle.attempts_told.specs.call_whys.specs.Below.sock_deeds.proofs.Flats.{append_cases, append_first, append_later}
+use Rattle.attempts_told.specs.call_whys.specs.call_places.specs.sock_deeds.specs.Runs.{IsOperation}
+use Rattle.attempts_told.specs.call_whys.specs.call_places.specs.sock_deeds.proofs.Flats.{append_cases, append_first, append_later}
 use Rattle.failed_reasons.proofs.Losses.{IsAskedIn}
 
 one_there : {A : Type 0} (x y : A) (j : ℕ) → get_elem? (x ∷ []) j ≡ some y → x ≡ y

@@ -14,7 +14,7 @@ use Rattle.sock_words.specs.declared.outcome.Outcome.{Outcome}
 use Rattle.sock_words.specs.declared.outcome.Outcome.TheVariants as outcome
 use Rattle.sock_words.specs.declared.plain.Plan.{Plan}
 use Rattle.sock_words.specs.declared.socket_id.SocketId.{SocketId}
-use Rattle.attempts_told.specs.call_whys.specs.Below.sock_rule.specs.declared.homes.Letter.{Letter}
+use Rattle.attempts_told.specs.Below.SockRule.Letter.{Letter}
 use Rattle.seat_programs.specs.declared.task.Op.{Op}
 use Rattle.seat_programs.specs.declared.task.Op.TheVariants as ops
 use Rattle.seat_programs.specs.declared.task.Task.{Task}
@@ -31,28 +31,28 @@ use Rattle.corr_id.specs.declared.posts.Posted.{Posted}
 use Rattle.corr_id.specs.declared.posts.Posted.TheVariants.{Locked as HasLock}
 use Rattle.corr_id.specs.Calls.{slot_of, version_of, one}
 use Rattle.corr_id.specs.Posts.{PostOk}
-use Rattle.attempts_told.specs.call_whys.specs.Below.call_errors.specs.declared.retries.Retry.{Retry}
-use Rattle.attempts_told.specs.call_whys.specs.Below.call_errors.specs.Books.{CallStand, stand_of}
-use Rattle.attempts_told.specs.call_whys.specs.Below.call_errors.specs.Handling.{Decided}
-use Rattle.attempts_told.specs.call_whys.specs.Below.call_errors.specs.Handling as handling
-use Rattle.attempts_told.specs.call_whys.specs.Below.call_errors.specs.Posting.{Handled, PostedBy}
-use Rattle.attempts_told.specs.call_whys.specs.Below.call_attempts.specs.Both.{Both}
-use Rattle.attempts_told.specs.call_whys.specs.Below.call_attempts.specs.Attempting.{AttemptedBy, nowhere, over_link}
-use Rattle.attempts_told.specs.call_whys.specs.Below.call_attempts.specs.Letters.{letter_for}
-use Rattle.attempts_told.specs.call_whys.specs.Below.call_attempts.specs.Retrying.{without_oldest, WentTo, stray, unopened, to_socket, RetriedBy, had_ended, overtaken, went_again}
-use Rattle.attempts_told.specs.call_whys.specs.Below.call_client.specs.Acting.{Stand, both_of, letter_of, Acted}
-use Rattle.attempts_told.specs.call_whys.specs.Below.call_run.specs.Threads.{Thread, IsThread}
+use Rattle.attempts_told.specs.Below.CallErrors.Retry.{Retry}
+use Rattle.attempts_told.specs.Below.CallErrors.Books.{CallStand, stand_of}
+use Rattle.attempts_told.specs.Below.CallErrors.Handling.{Decided}
+use Rattle.attempts_told.specs.Below.CallErrors.Handling as handling
+use Rattle.attempts_told.specs.Below.CallErrors.Posting.{Handled, PostedBy}
+use Rattle.attempts_told.specs.Below.CallAttempts.Both.{Both}
+use Rattle.attempts_told.specs.Below.CallAttempts.Attempting.{AttemptedBy, nowhere, over_link}
+use Rattle.attempts_told.specs.Below.CallAttempts.Letters.{letter_for}
+use Rattle.attempts_told.specs.Below.CallAttempts.Retrying.{without_oldest, WentTo, stray, unopened, to_socket, RetriedBy, had_ended, overtaken, went_again}
+use Rattle.attempts_told.specs.Below.CallClient.Acting.{Stand, both_of, letter_of, Acted}
+use Rattle.attempts_told.specs.Below.CallRun.Threads.{Thread, IsThread}
 use Rattle.attempts_told.specs.call_whys.specs.call_places.specs.Deeds.{Deed, operates, retries, deeds}
 use Rattle.attempts_told.specs.call_whys.specs.call_places.proofs.Follows.{Follows, expired_by, joined_by, sent_calling, delivered_by}
 use Rattle.attempts_told.specs.call_whys.specs.call_places.proofs.Walks.{Walks, run_walk}
 use Rattle.attempts_told.specs.call_whys.specs.call_places.proofs.Own.{end_is}
 use Rattle.attempts_told.specs.call_whys.specs.call_places.proofs.Still.{attempted_still, retried_still}
 use Rattle.attempts_told.specs.call_whys.specs.call_places.proofs.Counts.{Grows, acted_might}
-use Rattle.attempts_told.specs.call_whys.specs.Below.call_client.proofs.Telling.{did_total}
+use Rattle.attempts_told.specs.Below.CallClient.Telling.{did_total}
 use Rattle.attempts_told.specs.call_whys.specs.call_told.specs.Least.{is_made_for}
 use Rattle.attempts_told.specs.call_whys.specs.call_told.proofs.Ends.{made_silent, counted_here}
 use Rattle.attempts_told.specs.call_whys.specs.call_told.proofs.Least.{word_is as kept_word}
-use Rattle.attempts_told.specs.call_whys.specs.Below.sock_deeds.proofs.Flats.{append_first, append_later}
+use Rattle.attempts_told.specs.call_whys.specs.call_places.specs.sock_deeds.proofs.Flats.{append_first, append_later}
 use Rattle.failed_reasons.specs.Missed.{acted_id, id_of, attempt_of}
 use Rattle.failed_reasons.proofs.Losses.{IsAskedIn}
 

@@ -15,13 +15,13 @@ use Rattle.seat_programs.specs.declared.task.Task.{Task}
 use Rattle.corr_core.specs.Law.{total}
 use Rattle.corr_core.specs.declared.marks.Plan as id_plan
 use Rattle.corr_id.specs.id_rule.specs.Lawful.{notes_of}
-use Rattle.attempts_told.specs.call_whys.specs.Below.call_errors.specs.declared.retries.Retry.{Retry}
-use Rattle.attempts_told.specs.call_whys.specs.Below.call_errors.specs.Books.{CallStand}
-use Rattle.attempts_told.specs.call_whys.specs.Below.call_attempts.specs.Both.{Both}
-use Rattle.attempts_told.specs.call_whys.specs.Below.call_attempts.specs.Retrying.{without_oldest, RetriedBy, Retried, none_yet, one_more}
-use Rattle.attempts_told.specs.call_whys.specs.Below.call_client.specs.Acting.{Stand, stand, both_of, Acted}
-use Rattle.attempts_told.specs.call_whys.specs.Below.call_client.specs.Running.{Course, Ran, begins}
-use Rattle.attempts_told.specs.call_whys.specs.Below.call_run.specs.Threads.{Thread, IsThread}
+use Rattle.attempts_told.specs.Below.CallErrors.Retry.{Retry}
+use Rattle.attempts_told.specs.Below.CallErrors.Books.{CallStand}
+use Rattle.attempts_told.specs.Below.CallAttempts.Both.{Both}
+use Rattle.attempts_told.specs.Below.CallAttempts.Retrying.{without_oldest, RetriedBy, Retried, none_yet, one_more}
+use Rattle.attempts_told.specs.Below.CallClient.Acting.{Stand, stand, both_of, Acted}
+use Rattle.attempts_told.specs.Below.CallClient.Running.{Course, Ran, begins}
+use Rattle.attempts_told.specs.Below.CallRun.Threads.{Thread, IsThread}
 use Rattle.attempts_told.specs.call_whys.specs.call_places.specs.Deeds.{Deed, operates, retries, retries_of, ran_deeds, deeds}
 use Rattle.attempts_told.specs.call_whys.specs.call_places.proofs.Counts.{Grows, acted_might}
 use Rattle.attempts_told.specs.call_whys.specs.call_places.proofs.Own.{end_is}
@@ -29,9 +29,9 @@ use Rattle.attempts_told.specs.call_whys.specs.call_places.proofs.Still.{retried
 use Rattle.attempts_told.specs.call_whys.specs.call_told.proofs.Lists.{all_both, all_then}
 use Rattle.attempts_told.specs.call_whys.specs.call_deeds.proofs.Ran.{Result, results, results_long}
 use Rattle.attempts_told.specs.call_whys.specs.call_deeds.proofs.Told.{came, made, all_results}
-use Rattle.attempts_told.specs.call_whys.specs.Below.sock_deeds.proofs.Flats.{append_first, append_later}
-use Rattle.attempts_told.specs.call_whys.specs.Below.sock_deeds.proofs.Growing.{Grew, stays_as, grew_then}
-use Rattle.attempts_told.specs.call_whys.specs.Below.sock_deeds.proofs.Places.{place_low}
+use Rattle.attempts_told.specs.call_whys.specs.call_places.specs.sock_deeds.proofs.Flats.{append_first, append_later}
+use Rattle.attempts_told.specs.call_whys.specs.call_places.specs.sock_deeds.proofs.Growing.{Grew, stays_as, grew_then}
+use Rattle.attempts_told.specs.call_whys.specs.call_places.specs.sock_deeds.proofs.Places.{place_low}
 use Rattle.failed_reasons.proofs.Reaching.{retry_grew, acted_grew}
 
 -- ## From one stand to a later one

@@ -23,8 +23,8 @@ use Rattle.corr_id.specs.Closing.{Closing}
 use Rattle.corr_id.proofs.Ranges.{lock_range}
 use Rattle.sock_message.specs.Asked.{Asked}
 use Rattle.call_table.specs.Responses.{by_code as outcome_of_code, outcome_by, ending_of}
-use Rattle.attempts_told.specs.call_whys.specs.Below.rpc_client.specs.declared.acting.Told.{Told}
-use Rattle.attempts_told.specs.call_whys.specs.Below.rpc_reader.specs.Books.{id_of}
+use Rattle.attempts_told.specs.Below.RpcClient.Told.{Told}
+use Rattle.attempts_told.specs.Below.RpcReader.Books.{id_of}
 use Rattle.attempts_told.specs.call_whys.specs.call_told.specs.Answers.{IsGivenResponse, IsLossCode, EndedBy, by_code, by_response, ToldFrom}
 use Rattle.attempts_told.specs.call_whys.specs.call_told.proofs.Answering.{noted_place}
 

@@ -8,17 +8,17 @@ use Rattle.sock_words.specs.Codes.{EEOF, EFAILEDSOCKET, ERESPONSE, EREQUESTS}
 use Rattle.sock_words.specs.declared.outcome.Outcome.{Outcome}
 use Rattle.sock_words.specs.declared.plain.Plan.{Plan}
 use Rattle.sock_words.specs.declared.socket_id.SocketId.{SocketId}
-use Rattle.attempts_told.specs.call_whys.specs.Below.sock_rule.specs.declared.homes.Letter.{Letter}
+use Rattle.attempts_told.specs.Below.SockRule.Letter.{Letter}
 use Rattle.seat_programs.specs.declared.task.Op.{Op}
 use Rattle.seat_programs.specs.declared.task.Op.TheVariants as ops
 use Rattle.corr_core.specs.declared.marks.Plan as id_plan
-use Rattle.attempts_told.specs.call_whys.specs.Below.write_chain.specs.declared.entry.Refused.{Refused}
-use Rattle.attempts_told.specs.call_whys.specs.Below.write_chain.specs.declared.entry.Refused.TheVariants as refusal
-use Rattle.attempts_told.specs.call_whys.specs.Below.call_errors.specs.declared.retries.Retry.{Retry}
-use Rattle.attempts_told.specs.call_whys.specs.Below.call_attempts.specs.Both.{Both}
-use Rattle.attempts_told.specs.call_whys.specs.Below.call_attempts.specs.Attempting.{code_for, DeliveredBy, went_out, came_back, AttemptedBy, nowhere, over_link}
-use Rattle.attempts_told.specs.call_whys.specs.Below.call_attempts.specs.Retrying.{WentTo, stray, unopened, to_socket, RetriedBy, had_ended, overtaken, went_again}
-use Rattle.attempts_told.specs.call_whys.specs.Below.call_client.specs.Acting.{Stand, both_of, Acted}
+use Rattle.attempts_told.specs.Below.WriteChain.Refused.{Refused}
+use Rattle.attempts_told.specs.Below.WriteChain.Refused.TheVariants as refusal
+use Rattle.attempts_told.specs.Below.CallErrors.Retry.{Retry}
+use Rattle.attempts_told.specs.Below.CallAttempts.Both.{Both}
+use Rattle.attempts_told.specs.Below.CallAttempts.Attempting.{code_for, DeliveredBy, went_out, came_back, AttemptedBy, nowhere, over_link}
+use Rattle.attempts_told.specs.Below.CallAttempts.Retrying.{WentTo, stray, unopened, to_socket, RetriedBy, had_ended, overtaken, went_again}
+use Rattle.attempts_told.specs.Below.CallClient.Acting.{Stand, both_of, Acted}
 use Rattle.attempts_told.specs.call_whys.specs.call_places.specs.Deeds.{Deed, operates, retries}
 use Rattle.failed_reasons.specs.Missed.{delivery_missed, attempt_missed, went_missed, retry_missed, acted_missed, missed_in}
 

@@ -17,15 +17,15 @@ use Rattle.seat_programs.specs.Told.{IsTask}
 use Rattle.corr_core.specs.declared.marks.Plan as id_plan
 use Rattle.corr_core.specs.declared.marks.View.{View}
 use Rattle.sock_message.specs.Asked.{Asked}
-use Rattle.attempts_told.specs.call_whys.specs.Below.rpc_client.specs.declared.acting.Told.{Told}
-use Rattle.attempts_told.specs.call_whys.specs.Below.call_client.specs.Running.{MayMakeAll}
-use Rattle.attempts_told.specs.call_whys.specs.Below.call_run.specs.Readers.{LinkReader}
-use Rattle.attempts_told.specs.call_whys.specs.Below.call_run.specs.Threads.{RanWith}
+use Rattle.attempts_told.specs.Below.RpcClient.Told.{Told}
+use Rattle.attempts_told.specs.Below.CallClient.Running.{MayMakeAll}
+use Rattle.attempts_told.specs.Below.CallRun.Readers.{LinkReader}
+use Rattle.attempts_told.specs.Below.CallRun.Threads.{RanWith}
 use Rattle.attempts_told.specs.call_whys.specs.call_places.proofs.Clients.{Client, tasks_of}
 use Rattle.attempts_told.specs.call_whys.specs.call_places.proofs.Places.{tasks_are, crew_of}
 use Rattle.attempts_told.specs.call_whys.specs.call_deeds.proofs.Links.{IsOwnCall, call_at}
-use Rattle.attempts_told.specs.call_whys.specs.Below.script_facts.proofs.Lists.{has_from, contains_from}
-use Rattle.attempts_told.specs.call_whys.specs.Below.sock_deeds.proofs.Places.{to_slice, to_elem, map_there}
+use Rattle.attempts_told.specs.call_whys.specs.call_places.specs.script_facts.proofs.Lists.{has_from, contains_from}
+use Rattle.attempts_told.specs.call_whys.specs.call_places.specs.sock_deeds.proofs.Places.{to_slice, to_elem, map_there}
 
 module _ {O : Type 0} {g : Ghosts O} {state : O → OutState} {readers : List (LinkReader g)} {p : Plan} {slots : ℕ} {setup : List Task} {clients : List (List Task)} {opens : List ℕ} {told ended : List (List Told)} {places : List PlaceWord} {vrefs : List Vref} {outs : List O} {ids : List (View Asked)}
     (run : RanWith g state readers p slots setup clients opens told ended places vrefs outs ids) (outcomes : List (Option Outcome)) where

@@ -11,11 +11,11 @@ use Rattle.sock_io.specs.Link.{InState}
 use Rattle.corr_core.specs.declared.marks.Plan.{Plan}
 use Rattle.corr_core.specs.declared.marks.View.{View}
 use Rattle.sock_message.specs.Asked.{Asked}
-use Rattle.attempts_told.specs.call_whys.specs.Below.rpc_client.specs.declared.acting.Told.{Told}
-use Rattle.attempts_told.specs.call_whys.specs.Below.rpc_reader.specs.Books.{Books}
-use Rattle.attempts_told.specs.call_whys.specs.Below.rpc_reader.specs.Reading as reading
-use Rattle.attempts_told.specs.call_whys.specs.Below.rpc_reader.specs.Running.{ReadLink, ReadIf}
-use Rattle.attempts_told.specs.call_whys.specs.Below.call_run.specs.Readers.{LinkReader, nothing_read, IsReader}
+use Rattle.attempts_told.specs.Below.RpcClient.Told.{Told}
+use Rattle.attempts_told.specs.Below.RpcReader.Books.{Books}
+use Rattle.attempts_told.specs.Below.RpcReader.Reading as reading
+use Rattle.attempts_told.specs.Below.RpcReader.Running.{ReadLink, ReadIf}
+use Rattle.attempts_told.specs.Below.CallRun.Readers.{LinkReader, nothing_read, IsReader}
 use Rattle.attempts_told.specs.call_whys.specs.call_told.specs.Answers.{IsGiven}
 use Rattle.attempts_told.specs.call_whys.specs.call_told.proofs.Gains.{met_bytes, rest_bytes}
 use Rattle.attempts_told.specs.call_whys.specs.call_told.proofs.Given.{given_by}

@@ -10,11 +10,11 @@ use Rattle.sock_model.specs.Deliveries.{place_value}
 use Rattle.sock_model.specs.Layout.{place_index}
 use Rattle.sock_model.specs.Weights.{total}
 use Rattle.std.specs.Prelude.{true}
-use Rattle.attempts_told.specs.call_whys.specs.Below.sock_rule.specs.OnTable.{is_put}
-use Rattle.attempts_told.specs.call_whys.specs.Below.sock_deeds.proofs.Growing.{Grew, added_grew}
-use Rattle.attempts_told.specs.call_whys.specs.Below.sock_deeds.proofs.Stores.{note_is}
-use Rattle.attempts_told.specs.call_whys.specs.Below.write_chain.specs.declared.right.Undelivered.{Undelivered}
-use Rattle.attempts_told.specs.call_whys.specs.Below.write_chain.specs.Noting.{Wrote, WroteDrop}
+use Rattle.attempts_told.specs.Below.SockRule.OnTable.{is_put}
+use Rattle.attempts_told.specs.call_whys.specs.call_places.specs.sock_deeds.proofs.Growing.{Grew, added_grew}
+use Rattle.attempts_told.specs.call_whys.specs.call_places.specs.sock_deeds.proofs.Stores.{note_is}
+use Rattle.attempts_told.specs.Below.WriteChain.Undelivered.{Undelivered}
+use Rattle.attempts_told.specs.Below.WriteChain.Noting.{Wrote, WroteDrop}
 use Rattle.failed_reasons.specs.Reasons.{StillHas}
 
 pub still_as : (v w : View) → Grew v w → StillHas v w

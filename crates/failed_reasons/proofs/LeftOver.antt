@@ -28,15 +28,15 @@ use Rattle.corr_id.specs.id_rule.specs.Lawful.{notes_of}
 use Rattle.sock_message.specs.Asked.{Asked}
 use Rattle.corr_id.specs.Calls.{FoundUpTo, is_saw, slot_of}
 use Rattle.corr_id.specs.Closing.{Closing}
-use Rattle.attempts_told.specs.call_whys.specs.Below.rpc_reader.specs.prpc_frame.specs.Meaning.{frame_of}
+use Rattle.attempts_told.specs.Below.PrpcFrame.Meaning.{frame_of}
 use Rattle.call_table.specs.Responses.{ending_of}
-use Rattle.attempts_told.specs.call_whys.specs.Below.rpc_client.specs.declared.acting.Told.{Told}
-use Rattle.attempts_told.specs.call_whys.specs.Below.rpc_reader.specs.Books.{Books, EndedAs, ToldBy, id_of}
-use Rattle.attempts_told.specs.call_whys.specs.Below.rpc_reader.specs.Met.{is_for}
-use Rattle.attempts_told.specs.call_whys.specs.Below.rpc_reader.specs.Posting.{LostBy}
-use Rattle.attempts_told.specs.call_whys.specs.Below.rpc_reader.specs.Resting.{HadEnded, EndedLast, OneEnded, RestEnded}
-use Rattle.attempts_told.specs.call_whys.specs.Below.call_run.specs.Readers.{LinkReader}
-use Rattle.attempts_told.specs.call_whys.specs.Below.call_run.specs.Threads.{RanWith, MayRunAll, ids_of}
+use Rattle.attempts_told.specs.Below.RpcClient.Told.{Told}
+use Rattle.attempts_told.specs.Below.RpcReader.Books.{Books, EndedAs, ToldBy, id_of}
+use Rattle.attempts_told.specs.Below.RpcReader.Met.{is_for}
+use Rattle.attempts_told.specs.Below.RpcReader.Posting.{LostBy}
+use Rattle.attempts_told.specs.Below.RpcReader.Resting.{HadEnded, EndedLast, OneEnded, RestEnded}
+use Rattle.attempts_told.specs.Below.CallRun.Readers.{LinkReader}
+use Rattle.attempts_told.specs.Below.CallRun.Threads.{RanWith, MayRunAll, ids_of}
 use Rattle.attempts_told.specs.call_whys.specs.call_places.specs.Counted.{HaveNotesOf}
 use Rattle.attempts_told.specs.call_whys.specs.call_places.proofs.Ids.{IsIdOf, one_id}
 use Rattle.attempts_told.specs.call_whys.specs.call_places.proofs.Clients.{Client, view_of}

@@ -16,23 +16,23 @@ use Rattle.sock_model.specs.declared.view.View.{View}
 use Rattle.sock_model.specs.Layout.{name_index, request_index}
 use Rattle.sock_model.specs.SlotRows.{marks_of}
 use Rattle.sock_model.specs.Weights.{is_known, is_saw, only, total}
-use Rattle.attempts_told.specs.call_whys.specs.Below.sock_rule.specs.slot_steps.proofs.Numbers.{only-same}
-use Rattle.attempts_told.specs.call_whys.specs.Below.sock_rule.specs.Becoming.{Became}
-use Rattle.attempts_told.specs.call_whys.specs.Below.sock_rule.specs.declared.homes.Letter.{Letter}
-use Rattle.attempts_told.specs.call_whys.specs.Below.sock_table.specs.Named.{HasSeen, Found}
+use Rattle.attempts_told.specs.call_whys.specs.call_places.specs.outcome_stories.specs.program_walks.specs.slot_steps.proofs.Numbers.{only-same}
+use Rattle.attempts_told.specs.Below.SockRule.Becoming.{Became}
+use Rattle.attempts_told.specs.Below.SockRule.Letter.{Letter}
+use Rattle.attempts_told.specs.Below.SockTable.Named.{HasSeen, Found}
 use Rattle.seat_programs.specs.declared.task.Op.{Op}
 use Rattle.seat_programs.specs.declared.task.Op.TheVariants as ops
 use Rattle.corr_core.specs.declared.marks.Plan as id_plan
 use Rattle.sock_message.specs.Asked.{Asked, name_of}
-use Rattle.attempts_told.specs.call_whys.specs.Below.write_chain.specs.declared.entry.Refused.{Refused}
-use Rattle.attempts_told.specs.call_whys.specs.Below.write_chain.specs.declared.entry.Refused.TheVariants as refusal
-use Rattle.attempts_told.specs.call_whys.specs.Below.call_attempts.specs.Both.{Both}
-use Rattle.attempts_told.specs.call_whys.specs.Below.call_attempts.specs.Attempting.{code_for, CameBack, DeliveredBy, went_out, came_back, AttemptedBy, nowhere, over_link}
-use Rattle.attempts_told.specs.call_whys.specs.Below.call_attempts.specs.Letters.{letter_for}
-use Rattle.attempts_told.specs.call_whys.specs.Below.call_attempts.specs.Retrying.{IsStray, WentTo, stray, unopened, to_socket, had_ended, overtaken, went_again}
-use Rattle.attempts_told.specs.call_whys.specs.Below.call_client.specs.Acting.{Stand, both_of, Acted}
+use Rattle.attempts_told.specs.Below.WriteChain.Refused.{Refused}
+use Rattle.attempts_told.specs.Below.WriteChain.Refused.TheVariants as refusal
+use Rattle.attempts_told.specs.Below.CallAttempts.Both.{Both}
+use Rattle.attempts_told.specs.Below.CallAttempts.Attempting.{code_for, CameBack, DeliveredBy, went_out, came_back, AttemptedBy, nowhere, over_link}
+use Rattle.attempts_told.specs.Below.CallAttempts.Letters.{letter_for}
+use Rattle.attempts_told.specs.Below.CallAttempts.Retrying.{IsStray, WentTo, stray, unopened, to_socket, had_ended, overtaken, went_again}
+use Rattle.attempts_told.specs.Below.CallClient.Acting.{Stand, both_of, Acted}
 use Rattle.attempts_told.specs.call_whys.specs.call_places.specs.Deeds.{Deed, operates, retries}
-use Rattle.attempts_told.specs.call_whys.specs.Below.sock_deeds.proofs.Growing.{Grew, HasFound, grew_then, added_grew, returned_grew}
+use Rattle.attempts_told.specs.call_whys.specs.call_places.specs.sock_deeds.proofs.Growing.{Grew, HasFound, grew_then, added_grew, returned_grew}
 use Rattle.failed_reasons.specs.Missed.{delivery_missed, attempt_missed, went_missed, acted_missed, missed_in, attempt_of, socks_behind}
 
 -- ## What was seen

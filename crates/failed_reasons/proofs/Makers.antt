@@ -19,12 +19,12 @@ use Rattle.corr_core.specs.declared.marks.View.{View}
 use Rattle.corr_core.proofs.Notes.{only-else, total_some}
 use Rattle.corr_id.proofs.Seats.{total_append}
 use Rattle.sock_message.specs.Asked.{Asked}
-use Rattle.attempts_told.specs.call_whys.specs.Below.call_errors.specs.Books.{CallStand, stand_of}
-use Rattle.attempts_told.specs.call_whys.specs.Below.call_attempts.specs.Both.{Both}
-use Rattle.attempts_told.specs.call_whys.specs.Below.call_attempts.specs.Retrying.{without_oldest, Retried, none_yet, one_more}
-use Rattle.attempts_told.specs.call_whys.specs.Below.call_client.specs.Acting.{Stand, stand, both_of, Acted}
-use Rattle.attempts_told.specs.call_whys.specs.Below.call_client.specs.Running.{Course, Ran, begins}
-use Rattle.attempts_told.specs.call_whys.specs.Below.call_run.specs.Threads.{Thread, IsThread}
+use Rattle.attempts_told.specs.Below.CallErrors.Books.{CallStand, stand_of}
+use Rattle.attempts_told.specs.Below.CallAttempts.Both.{Both}
+use Rattle.attempts_told.specs.Below.CallAttempts.Retrying.{without_oldest, Retried, none_yet, one_more}
+use Rattle.attempts_told.specs.Below.CallClient.Acting.{Stand, stand, both_of, Acted}
+use Rattle.attempts_told.specs.Below.CallClient.Running.{Course, Ran, begins}
+use Rattle.attempts_told.specs.Below.CallRun.Threads.{Thread, IsThread}
 use Rattle.attempts_told.specs.call_whys.specs.call_places.specs.Counted.{makes}
 use Rattle.attempts_told.specs.call_whys.specs.call_places.proofs.Still.{still_same, retried_still}
 use Rattle.attempts_told.specs.call_whys.specs.call_places.proofs.Counts.{call_in, acted_might}

@@ -20,13 +20,13 @@ use Rattle.corr_id.specs.declared.posts.Posted.{Posted}
 use Rattle.corr_id.specs.declared.posts.Posted.TheVariants.{Locked as HasLock, Queued as IsQueued}
 use Rattle.corr_id.specs.Calls.{slot_of, version_of, error_in, one, Did}
 use Rattle.corr_id.specs.Posts.{PostOk}
-use Rattle.attempts_told.specs.call_whys.specs.Below.rpc_reader.specs.prpc_frame.specs.declared.frame.Frame.{Frame}
-use Rattle.attempts_told.specs.call_whys.specs.Below.call_client.proofs.Telling.{did_total}
+use Rattle.attempts_told.specs.Below.PrpcFrame.Frame.{Frame}
+use Rattle.attempts_told.specs.Below.CallClient.Telling.{did_total}
 use Rattle.attempts_told.specs.call_whys.specs.call_told.proofs.Resting.{is_word}
-use Rattle.attempts_told.specs.call_whys.specs.Below.rpc_reader.specs.Books.{Books}
-use Rattle.attempts_told.specs.call_whys.specs.Below.rpc_reader.specs.Met.{slot_in, is_asked, is_for, AnsweredBy, MetIf, FramesMet}
-use Rattle.attempts_told.specs.call_whys.specs.Below.rpc_reader.specs.Posting.{LostBy, LockLost, PostedTo, MetKept, PostedIf, PostedAt, PostedAll, call_at, attempt_at}
-use Rattle.attempts_told.specs.call_whys.specs.Below.rpc_reader.specs.Resting.{HadEnded, EndedLast, OneEnded, RestEnded}
+use Rattle.attempts_told.specs.Below.RpcReader.Books.{Books}
+use Rattle.attempts_told.specs.Below.RpcReader.Met.{slot_in, is_asked, is_for, AnsweredBy, MetIf, FramesMet}
+use Rattle.attempts_told.specs.Below.RpcReader.Posting.{LostBy, LockLost, PostedTo, MetKept, PostedIf, PostedAt, PostedAll, call_at, attempt_at}
+use Rattle.attempts_told.specs.Below.RpcReader.Resting.{HadEnded, EndedLast, OneEnded, RestEnded}
 use Rattle.failed_reasons.proofs.Views.{queued_silent, queued_in, Later, later_then, Stays, queued_one, same_stays, then_stays, did_later, quiet_stays, kept_stays, ended_stays, got_stays}
 
 -- ## What queues nothing

@@ -21,9 +21,9 @@ use Rattle.corr_core.specs.declared.marks.View.{View}
 use Rattle.corr_id.specs.id_rule.specs.Lawful.{notes_of}
 use Rattle.sock_message.specs.Asked.{Asked}
 use Rattle.corr_id.specs.Closing.{Closing}
-use Rattle.attempts_told.specs.call_whys.specs.Below.rpc_client.specs.declared.acting.Told.{Told}
-use Rattle.attempts_told.specs.call_whys.specs.Below.call_run.specs.Readers.{LinkReader}
-use Rattle.attempts_told.specs.call_whys.specs.Below.call_run.specs.Threads.{RanWith, MayRunAll, ids_of}
+use Rattle.attempts_told.specs.Below.RpcClient.Told.{Told}
+use Rattle.attempts_told.specs.Below.CallRun.Readers.{LinkReader}
+use Rattle.attempts_told.specs.Below.CallRun.Threads.{RanWith, MayRunAll, ids_of}
 use Rattle.attempts_told.specs.call_whys.specs.call_places.specs.Counted.{HaveNotesOf}
 use Rattle.attempts_told.specs.call_whys.specs.call_places.specs.Deeds.{Deed}
 use Rattle.attempts_told.specs.call_whys.specs.call_places.proofs.Still.{advances}
@@ -32,8 +32,8 @@ use Rattle.attempts_told.specs.call_whys.specs.call_places.proofs.Places.{all as
 use Rattle.attempts_told.specs.call_whys.specs.call_deeds.specs.Retried.{all_asked}
 use Rattle.attempts_told.specs.call_whys.specs.call_deeds.proofs.Ran.{AreLater}
 use Rattle.attempts_told.specs.call_whys.specs.call_deeds.proofs.Runs.{same_task}
-use Rattle.attempts_told.specs.call_whys.specs.Below.script_facts.proofs.Lists.{has_from, all_at as all_there_in}
-use Rattle.attempts_told.specs.call_whys.specs.Below.sock_deeds.specs.Runs.{IsOperation}
+use Rattle.attempts_told.specs.call_whys.specs.call_places.specs.script_facts.proofs.Lists.{has_from, all_at as all_there_in}
+use Rattle.attempts_told.specs.call_whys.specs.call_places.specs.sock_deeds.specs.Runs.{IsOperation}
 use Rattle.attempts_told.specs.Attempts.{last_attempt}
 use Rattle.attempts_told.proofs.Told.{few as few_attempts}
 use Rattle.failed_reasons.proofs.Asked.{own_task, asked_task}

@@ -9,26 +9,26 @@ use Rattle.sock_words.specs.declared.outcome.Outcome.{Outcome}
 use Rattle.sock_words.specs.declared.outcome.Outcome.TheVariants as outcome
 use Rattle.sock_words.specs.declared.plain.Plan.{Plan}
 use Rattle.sock_model.specs.declared.view.View.{View}
-use Rattle.attempts_told.specs.call_whys.specs.Below.sock_rule.specs.declared.homes.Letter.{Letter}
+use Rattle.attempts_told.specs.Below.SockRule.Letter.{Letter}
 use Rattle.seat_programs.specs.declared.task.Op.{Op}
 use Rattle.seat_programs.specs.declared.task.Op.TheVariants as ops
 use Rattle.seat_programs.specs.declared.task.Task.{Task}
 use Rattle.corr_core.specs.declared.marks.Plan as id_plan
 use Rattle.sock_message.specs.Asked.{name_of}
-use Rattle.attempts_told.specs.call_whys.specs.Below.rpc_client.specs.declared.holding.Held.{Held}
-use Rattle.attempts_told.specs.call_whys.specs.Below.rpc_client.specs.Running.{GaveFirst}
-use Rattle.attempts_told.specs.call_whys.specs.Below.call_errors.specs.declared.retries.Retry.{Retry}
-use Rattle.attempts_told.specs.call_whys.specs.Below.call_attempts.specs.Both.{Both}
-use Rattle.attempts_told.specs.call_whys.specs.Below.call_attempts.specs.Letters.{letter_for}
-use Rattle.attempts_told.specs.call_whys.specs.Below.call_attempts.specs.Retrying.{without_oldest, WentTo, stray, unopened, to_socket, RetriedBy, had_ended, overtaken, went_again, Retried, none_yet, one_more}
-use Rattle.attempts_told.specs.call_whys.specs.Below.call_client.specs.Acting.{Stand, stand, both_of, letter_of, Acted}
-use Rattle.attempts_told.specs.call_whys.specs.Below.call_client.specs.Running.{Course, Ran, begins}
-use Rattle.attempts_told.specs.call_whys.specs.Below.call_run.specs.Threads.{Thread, IsThread}
+use Rattle.attempts_told.specs.Below.RpcClient.Held.{Held}
+use Rattle.attempts_told.specs.Below.RpcClient.Running.{GaveFirst}
+use Rattle.attempts_told.specs.Below.CallErrors.Retry.{Retry}
+use Rattle.attempts_told.specs.Below.CallAttempts.Both.{Both}
+use Rattle.attempts_told.specs.Below.CallAttempts.Letters.{letter_for}
+use Rattle.attempts_told.specs.Below.CallAttempts.Retrying.{without_oldest, WentTo, stray, unopened, to_socket, RetriedBy, had_ended, overtaken, went_again, Retried, none_yet, one_more}
+use Rattle.attempts_told.specs.Below.CallClient.Acting.{Stand, stand, both_of, letter_of, Acted}
+use Rattle.attempts_told.specs.Below.CallClient.Running.{Course, Ran, begins}
+use Rattle.attempts_told.specs.Below.CallRun.Threads.{Thread, IsThread}
 use Rattle.attempts_told.specs.call_whys.specs.call_places.specs.Deeds.{Deed, operates, retries, retries_of, ran_deeds, deeds}
 use Rattle.attempts_told.specs.call_whys.specs.call_told.proofs.Lists.{all_both, all_then}
 use Rattle.attempts_told.specs.call_whys.specs.call_told.proofs.Runs.{none_left}
 use Rattle.attempts_told.specs.call_whys.specs.call_deeds.proofs.Messages.{send_message, attempt_message}
-use Rattle.attempts_told.specs.call_whys.specs.Below.sock_deeds.proofs.Growing.{Grew, stays_as, grew_then, sent_grew, returned_grew, opened_grew, held_grew, dropped_grew, failed_grew}
+use Rattle.attempts_told.specs.call_whys.specs.call_places.specs.sock_deeds.proofs.Growing.{Grew, stays_as, grew_then, sent_grew, returned_grew, opened_grew, held_grew, dropped_grew, failed_grew}
 use Rattle.failed_reasons.specs.Missed.{socks_behind}
 
 module _ {O : Type 0} (state : O → OutState) (p : Plan) (q : id_plan.Plan) where

@@ -21,18 +21,18 @@ use Rattle.sock_message.specs.brpc_model.specs.Meta.{ResponseMeta}
 use Rattle.corr_id.specs.declared.posts.Posted.{Posted}
 use Rattle.corr_id.specs.declared.posts.Posted.TheVariants.{Locked as HasLock}
 use Rattle.corr_id.specs.Calls.{slot_of}
-use Rattle.attempts_told.specs.call_whys.specs.Below.rpc_reader.specs.prpc_frame.specs.Meaning.{frame_of}
-use Rattle.attempts_told.specs.call_whys.specs.Below.rpc_reader.specs.prpc_frame.specs.declared.frame.Frame.{Frame}
+use Rattle.attempts_told.specs.Below.PrpcFrame.Meaning.{frame_of}
+use Rattle.attempts_told.specs.Below.PrpcFrame.Frame.{Frame}
 use Rattle.call_table.specs.Responses.{outcome_by, ending_of}
-use Rattle.attempts_told.specs.call_whys.specs.Below.rpc_client.specs.declared.acting.Told.{Told}
+use Rattle.attempts_told.specs.Below.RpcClient.Told.{Told}
 use Rattle.attempts_told.specs.call_whys.specs.call_told.proofs.Lists.{all_both}
-use Rattle.attempts_told.specs.call_whys.specs.Below.rpc_reader.specs.Books.{Books, EndedAs, id_of}
-use Rattle.attempts_told.specs.call_whys.specs.Below.rpc_reader.specs.Met.{slot_in, is_asked, is_for, MetIf, FramesMet}
-use Rattle.attempts_told.specs.call_whys.specs.Below.rpc_reader.specs.Posting.{LostBy, LockLost, PostedTo, PostedIf, PostedAt, PostedAll}
-use Rattle.attempts_told.specs.call_whys.specs.Below.rpc_reader.specs.Reading as reading
-use Rattle.attempts_told.specs.call_whys.specs.Below.rpc_reader.specs.Running.{ReadLink, ReadIf}
-use Rattle.attempts_told.specs.call_whys.specs.Below.rpc_reader.specs.Resting.{HadEnded, EndedLast, OneEnded, RestEnded}
-use Rattle.attempts_told.specs.call_whys.specs.Below.call_run.specs.Readers.{LinkReader, nothing_read, IsReader}
+use Rattle.attempts_told.specs.Below.RpcReader.Books.{Books, EndedAs, id_of}
+use Rattle.attempts_told.specs.Below.RpcReader.Met.{slot_in, is_asked, is_for, MetIf, FramesMet}
+use Rattle.attempts_told.specs.Below.RpcReader.Posting.{LostBy, LockLost, PostedTo, PostedIf, PostedAt, PostedAll}
+use Rattle.attempts_told.specs.Below.RpcReader.Reading as reading
+use Rattle.attempts_told.specs.Below.RpcReader.Running.{ReadLink, ReadIf}
+use Rattle.attempts_told.specs.Below.RpcReader.Resting.{HadEnded, EndedLast, OneEnded, RestEnded}
+use Rattle.attempts_told.specs.Below.CallRun.Readers.{LinkReader, nothing_read, IsReader}
 use Rattle.attempts_told.specs.call_whys.specs.call_told.proofs.Readers.{AllRead, link_read}
 use Rattle.failed_reasons.proofs.Behind.{is_no_answer}
 use Rattle.failed_reasons.proofs.Codes.{IsReadCode}

@@ -23,14 +23,14 @@ use Rattle.corr_id.specs.id_rule.specs.Lawful.{notes_of}
 use Rattle.sock_message.specs.Asked.{Asked}
 use Rattle.corr_id.specs.Calls.{error_in}
 use Rattle.corr_id.proofs.Seats.{notes_append, total_append}
-use Rattle.attempts_told.specs.call_whys.specs.Below.rpc_reader.specs.Books.{Books}
-use Rattle.attempts_told.specs.call_whys.specs.Below.rpc_reader.specs.Posting.{attempt_at}
-use Rattle.attempts_told.specs.call_whys.specs.Below.rpc_reader.specs.declared.reading.How.{How}
-use Rattle.attempts_told.specs.call_whys.specs.Below.rpc_reader.specs.declared.reading.How.TheVariants as how
-use Rattle.attempts_told.specs.call_whys.specs.Below.rpc_reader.specs.Reading as reading
-use Rattle.attempts_told.specs.call_whys.specs.Below.rpc_reader.specs.Running.{is_starved, ReadLink, ReadIf}
-use Rattle.attempts_told.specs.call_whys.specs.Below.rpc_reader.specs.Resting.{RestEnded}
-use Rattle.attempts_told.specs.call_whys.specs.Below.call_run.specs.Readers.{LinkReader, nothing_read, IsReader}
+use Rattle.attempts_told.specs.Below.RpcReader.Books.{Books}
+use Rattle.attempts_told.specs.Below.RpcReader.Posting.{attempt_at}
+use Rattle.attempts_told.specs.Below.RpcReader.How.{How}
+use Rattle.attempts_told.specs.Below.RpcReader.How.TheVariants as how
+use Rattle.attempts_told.specs.Below.RpcReader.Reading as reading
+use Rattle.attempts_told.specs.Below.RpcReader.Running.{is_starved, ReadLink, ReadIf}
+use Rattle.attempts_told.specs.Below.RpcReader.Resting.{RestEnded}
+use Rattle.attempts_told.specs.Below.CallRun.Readers.{LinkReader, nothing_read, IsReader}
 use Rattle.attempts_told.specs.call_whys.specs.call_told.proofs.Lists.{all_at}
 use Rattle.attempts_told.specs.call_whys.specs.call_told.proofs.Readers.{AllRead, link_read}
 use Rattle.failed_reasons.proofs.Codes.{IsReadCode}

@@ -15,13 +15,13 @@ use Rattle.corr_core.specs.declared.marks.View.{View}
 use Rattle.sock_message.specs.Asked.{Asked}
 use Rattle.seat_programs.specs.declared.task.Op.TheVariants as ops
 use Rattle.seat_programs.specs.declared.task.Task.{Task}
-use Rattle.attempts_told.specs.call_whys.specs.Below.rpc_client.specs.declared.acting.Told.{Told}
-use Rattle.attempts_told.specs.call_whys.specs.Below.call_run.specs.Readers.{LinkReader}
-use Rattle.attempts_told.specs.call_whys.specs.Below.call_run.specs.Threads.{RanWith}
+use Rattle.attempts_told.specs.Below.RpcClient.Told.{Told}
+use Rattle.attempts_told.specs.Below.CallRun.Readers.{LinkReader}
+use Rattle.attempts_told.specs.Below.CallRun.Threads.{RanWith}
 use Rattle.attempts_told.specs.call_whys.specs.call_places.specs.Deeds.{Deed}
 use Rattle.attempts_told.specs.call_whys.specs.call_places.proofs.Clients.{Client, view_of, deeds_of}
 use Rattle.attempts_told.specs.call_whys.specs.call_places.proofs.Places.{crew_of}
-use Rattle.attempts_told.specs.call_whys.specs.Below.sock_deeds.specs.Runs.{IsOperation}
+use Rattle.attempts_told.specs.call_whys.specs.call_places.specs.sock_deeds.specs.Runs.{IsOperation}
 use Rattle.failed_reasons.specs.Missed.{missed_in, id_of, IsBacked, attempt_of}
 use Rattle.failed_reasons.specs.Reasons.{WasDropped}
 use Rattle.failed_reasons.proofs.Codes.{IsReadCode}

@@ -15,12 +15,12 @@ use Rattle.corr_id.specs.declared.posts.Posted.{Posted}
 use Rattle.corr_id.specs.declared.posts.Posted.TheVariants.{Locked as HasLock, Queued as IsQueued}
 use Rattle.corr_id.specs.Calls.{is_saw, slot_of, Found, GotLock}
 use Rattle.corr_id.specs.Posts.{IsTimely, PostOk}
-use Rattle.attempts_told.specs.call_whys.specs.Below.rpc_reader.specs.prpc_frame.specs.declared.frame.Frame.{Frame}
+use Rattle.attempts_told.specs.Below.PrpcFrame.Frame.{Frame}
 use Rattle.call_table.specs.Responses.{ending_of}
-use Rattle.attempts_told.specs.call_whys.specs.Below.rpc_client.specs.declared.acting.Told.{Told}
-use Rattle.attempts_told.specs.call_whys.specs.Below.rpc_reader.specs.Books.{Books, id_of}
-use Rattle.attempts_told.specs.call_whys.specs.Below.rpc_reader.specs.Posting.{PostedAll, call_at, attempt_at}
-use Rattle.attempts_told.specs.call_whys.specs.Below.rpc_reader.specs.Resting.{RestEnded}
+use Rattle.attempts_told.specs.Below.RpcClient.Told.{Told}
+use Rattle.attempts_told.specs.Below.RpcReader.Books.{Books, id_of}
+use Rattle.attempts_told.specs.Below.RpcReader.Posting.{PostedAll, call_at, attempt_at}
+use Rattle.attempts_told.specs.Below.RpcReader.Resting.{RestEnded}
 use Rattle.attempts_told.specs.call_whys.specs.call_told.specs.Answers.{IsGivenResponse}
 use Rattle.attempts_told.specs.call_whys.specs.call_told.specs.Least.{is_locked_for}
 use Rattle.attempts_told.specs.call_whys.specs.call_told.proofs.Ends.{HasLocked, got_locked}

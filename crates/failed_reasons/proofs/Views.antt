@@ -19,7 +19,7 @@ use Rattle.corr_id.specs.declared.unlocks.Unlocked.TheVariants.{Open, Next}
 use Rattle.corr_id.specs.Calls.{is_event, one, advance_note, Became, Did, Quiet, GotLock}
 use Rattle.corr_id.specs.Unlocks.{UnlockOk}
 use Rattle.corr_id.proofs.Seats.{notes_append, total_append}
-use Rattle.attempts_told.specs.call_whys.specs.Below.call_client.proofs.Telling.{quiet_total, did_total, none_of_one}
+use Rattle.attempts_told.specs.Below.CallClient.Telling.{quiet_total, did_total, none_of_one}
 use Rattle.attempts_told.specs.call_whys.specs.call_places.proofs.Still.{attempt_silent}
 use Rattle.attempts_told.specs.call_whys.specs.call_told.proofs.Ends.{counted_here}
 use Rattle.attempts_told.specs.call_whys.specs.call_told.proofs.Growing.{Grows, grows_same, did_grows, quiet_grows, ended_grows}

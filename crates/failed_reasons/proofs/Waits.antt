@@ -12,10 +12,10 @@ use Rattle.corr_id.specs.declared.posts.Posted.{Posted}
 use Rattle.corr_id.specs.declared.posts.Posted.TheVariants.{Locked as HasLock, Queued as IsQueued}
 use Rattle.corr_id.specs.Calls.{is_saw, slot_of, version_of, error_in, Found, HasId}
 use Rattle.corr_id.specs.Posts.{PostOk}
-use Rattle.attempts_told.specs.call_whys.specs.Below.rpc_reader.specs.prpc_frame.specs.declared.frame.Frame.{Frame}
-use Rattle.attempts_told.specs.call_whys.specs.Below.rpc_reader.specs.Books.{Books}
-use Rattle.attempts_told.specs.call_whys.specs.Below.rpc_reader.specs.Met.{is_asked, is_for}
-use Rattle.attempts_told.specs.call_whys.specs.Below.rpc_reader.specs.Posting.{KeptNone, PostedIf, PostedAt, PostedAll, call_at, attempt_at}
+use Rattle.attempts_told.specs.Below.PrpcFrame.Frame.{Frame}
+use Rattle.attempts_told.specs.Below.RpcReader.Books.{Books}
+use Rattle.attempts_told.specs.Below.RpcReader.Met.{is_asked, is_for}
+use Rattle.attempts_told.specs.Below.RpcReader.Posting.{KeptNone, PostedIf, PostedAt, PostedAll, call_at, attempt_at}
 use Rattle.attempts_told.specs.call_whys.specs.call_told.proofs.Responses.{HasEnded, ended_still, goes_view, same_notes, posted_goes, all_goes, queued_met}
 use Rattle.attempts_told.specs.call_whys.specs.call_told.proofs.Unanswered.{AllMet, all_met}
 use Rattle.failed_reasons.proofs.Posts.{Queues, queues_none, queues_then, queues_one, books_stay, again_stays, posted_stays}

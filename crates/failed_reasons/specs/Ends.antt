@@ -5,7 +5,7 @@ use Rattle.sock_words.specs.declared.outcome.Outcome.{Outcome}
 use Rattle.sock_words.specs.declared.plain.Plan.{Plan}
 use Rattle.sock_message.specs.Asked.{Asked, name_of}
 use Rattle.sock_message.specs.brpc_model.specs.Link.{LinkEnd}
-use Rattle.attempts_told.specs.call_whys.specs.Below.report_fits.specs.Ends.{EndsEarly}
+use Rattle.attempts_told.specs.call_whys.specs.call_places.specs.report_fits.specs.Ends.{EndsEarly}
 use Rattle.seat_programs.specs.declared.task.Task.{Task}
 use Rattle.sock_message.specs.brpc_model.specs.Frame.{Frame}
 use Rattle.seat_programs.specs.ToldCalls.{Fixed, Order, FoundNone, Gave, GaveFault, IsResponse, StandsOn, IsDropped, IsUnordered, IsFailing, WasFull, MayBeOn}

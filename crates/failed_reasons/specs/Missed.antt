@@ -7,7 +7,7 @@ use Rattle.sock_words.specs.declared.outcome.Outcome.{Outcome}
 use Rattle.sock_words.specs.declared.plain.Plan.{Plan}
 use Rattle.sock_words.specs.declared.socket_id.SocketId.{SocketId}
 use Rattle.sock_model.specs.declared.view.View as sock_view
-use Rattle.attempts_told.specs.call_whys.specs.Below.sock_rule.specs.declared.homes.Letter.{Letter}
+use Rattle.attempts_told.specs.Below.SockRule.Letter.{Letter}
 use Rattle.seat_programs.specs.declared.task.Op.{Op}
 use Rattle.seat_programs.specs.declared.task.Op.TheVariants as ops
 use Rattle.corr_core.specs.Law.{total}
@@ -16,11 +16,11 @@ use Rattle.corr_core.specs.declared.marks.View.{View}
 use Rattle.corr_id.specs.id_rule.specs.Lawful.{notes_of}
 use Rattle.sock_message.specs.Asked.{Asked}
 use Rattle.corr_id.specs.Calls.{slot_of, version_of}
-use Rattle.attempts_told.specs.call_whys.specs.Below.call_errors.specs.declared.retries.Retry.{Retry}
-use Rattle.attempts_told.specs.call_whys.specs.Below.call_attempts.specs.Both.{Both}
-use Rattle.attempts_told.specs.call_whys.specs.Below.call_attempts.specs.Attempting.{code_for, DeliveredBy, went_out, came_back, AttemptedBy, nowhere, over_link}
-use Rattle.attempts_told.specs.call_whys.specs.Below.call_attempts.specs.Retrying.{WentTo, stray, unopened, to_socket, RetriedBy, had_ended, overtaken, went_again}
-use Rattle.attempts_told.specs.call_whys.specs.Below.call_client.specs.Acting.{Stand, both_of, Acted}
+use Rattle.attempts_told.specs.Below.CallErrors.Retry.{Retry}
+use Rattle.attempts_told.specs.Below.CallAttempts.Both.{Both}
+use Rattle.attempts_told.specs.Below.CallAttempts.Attempting.{code_for, DeliveredBy, went_out, came_back, AttemptedBy, nowhere, over_link}
+use Rattle.attempts_told.specs.Below.CallAttempts.Retrying.{WentTo, stray, unopened, to_socket, RetriedBy, had_ended, overtaken, went_again}
+use Rattle.attempts_told.specs.Below.CallClient.Acting.{Stand, both_of, Acted}
 use Rattle.attempts_told.specs.call_whys.specs.call_told.specs.Least.{is_made_for}
 use Rattle.attempts_told.specs.call_whys.specs.call_places.specs.Deeds.{Deed, operates, retries}
 

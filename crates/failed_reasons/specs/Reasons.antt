@@ -15,7 +15,7 @@ use Rattle.sock_model.specs.declared.marks.Mark.{Mark}
 use Rattle.sock_model.specs.declared.marks.Mark.TheVariants.{Hold}
 use Rattle.sock_model.specs.declared.view.View as sock_view
 use Rattle.sock_model.specs.SlotRows.{marks_of}
-use Rattle.attempts_told.specs.call_whys.specs.Below.sock_rule.specs.OnTable.{put_in}
+use Rattle.attempts_told.specs.Below.SockRule.OnTable.{put_in}
 use Rattle.seat_programs.specs.declared.task.Op.TheVariants as ops
 use Rattle.seat_programs.specs.declared.task.Task.{Task}
 use Rattle.corr_core.specs.Word.{parts}
@@ -31,13 +31,13 @@ use Rattle.corr_id.specs.declared.posts.Posted.TheVariants.{Locked as HasLock, Q
 use Rattle.corr_id.specs.Calls.{Found, slot_of, version_of, error_in}
 use Rattle.corr_id.specs.Posts.{IsTimely}
 use Rattle.call_table.specs.declared.errors.Decision.TheVariants as decisions
-use Rattle.attempts_told.specs.call_whys.specs.Below.rpc_client.specs.declared.acting.Told.{Told}
-use Rattle.attempts_told.specs.call_whys.specs.Below.call_errors.specs.Books.{CallStand}
-use Rattle.attempts_told.specs.call_whys.specs.Below.call_errors.specs.Locking.{id_in}
-use Rattle.attempts_told.specs.call_whys.specs.Below.call_errors.specs.Ending.{failed}
-use Rattle.attempts_told.specs.call_whys.specs.Below.call_errors.specs.Handling.{decision}
-use Rattle.attempts_told.specs.call_whys.specs.Below.call_errors.specs.Asking.{TimedOut}
-use Rattle.attempts_told.specs.call_whys.specs.Below.call_writes.specs.Draining.{DroppedOne}
+use Rattle.attempts_told.specs.Below.RpcClient.Told.{Told}
+use Rattle.attempts_told.specs.Below.CallErrors.Books.{CallStand}
+use Rattle.attempts_told.specs.Below.CallErrors.Locking.{id_in}
+use Rattle.attempts_told.specs.Below.CallErrors.Ending.{failed}
+use Rattle.attempts_told.specs.Below.CallErrors.Handling.{decision}
+use Rattle.attempts_told.specs.Below.CallErrors.Asking.{TimedOut}
+use Rattle.attempts_told.specs.Below.CallWrites.Draining.{DroppedOne}
 use Rattle.attempts_told.specs.call_whys.specs.call_told.specs.Least.{is_locked_for}
 use Rattle.attempts_told.specs.call_whys.specs.call_places.specs.Deeds.{Deed}
 use Rattle.failed_reasons.specs.Missed.{missed_in, id_of, IsBacked, attempt_of, socks_behind}

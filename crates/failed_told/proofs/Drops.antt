@@ -22,10 +22,10 @@ use Rattle.sock_model.specs.Entries.{on}
 use Rattle.sock_model.specs.Layout.{place_index}
 use Rattle.sock_model.specs.SlotRows.{marks_of}
 use Rattle.sock_model.specs.Weights.{is_met, is_saw, is_told, total}
-use Rattle.failed_ends.specs.call_whys.specs.Below.sock_rule.specs.slot_steps.proofs.Numbers.{pair-same}
-use Rattle.failed_ends.specs.call_whys.specs.Below.sock_rule.specs.Closing.{PlacesDiffer, IsLogged}
-use Rattle.failed_ends.specs.call_whys.specs.Below.sock_rule.specs.OnTable.{is_put, put_in}
-use Rattle.failed_ends.specs.call_whys.specs.Below.sock_rule.specs.declared.homes.Letter.{Letter}
+use Rattle.failed_ends.specs.call_whys.specs.call_places.specs.outcome_stories.specs.program_walks.specs.slot_steps.proofs.Numbers.{pair-same}
+use Rattle.failed_ends.specs.Below.SockRule.Closing.{PlacesDiffer, IsLogged}
+use Rattle.failed_ends.specs.Below.SockRule.OnTable.{is_put, put_in}
+use Rattle.failed_ends.specs.Below.SockRule.Letter.{Letter}
 use Rattle.seat_programs.specs.declared.task.Op.{Op}
 use Rattle.seat_programs.specs.declared.task.Op.TheVariants as ops
 use Rattle.seat_programs.specs.declared.task.Task.{Task}
@@ -38,32 +38,32 @@ use Rattle.corr_core.specs.declared.marks.View.{View}
 use Rattle.corr_id.specs.id_rule.specs.Lawful.{notes_of}
 use Rattle.sock_message.specs.Asked.{Asked, name_of}
 use Rattle.corr_id.specs.Closing.{Closing}
-use Rattle.failed_ends.specs.call_whys.specs.Below.rpc_client.specs.declared.acting.Told.{Told}
-use Rattle.failed_ends.specs.call_whys.specs.Below.call_run.specs.Readers.{LinkReader}
-use Rattle.failed_ends.specs.call_whys.specs.Below.call_run.specs.Threads.{Thread, RanWith, MayRunAll, ids_of}
+use Rattle.failed_ends.specs.Below.RpcClient.Told.{Told}
+use Rattle.failed_ends.specs.Below.CallRun.Readers.{LinkReader}
+use Rattle.failed_ends.specs.Below.CallRun.Threads.{Thread, RanWith, MayRunAll, ids_of}
 use Rattle.failed_ends.specs.call_whys.specs.call_places.specs.Counted.{HaveNotesOf}
 use Rattle.failed_ends.specs.call_whys.specs.call_places.proofs.Clients.{Client, deeds_of}
 use Rattle.failed_ends.specs.call_whys.specs.call_places.proofs.Ids.{IsIdOf}
 use Rattle.failed_ends.specs.call_whys.specs.call_places.proofs.Places.{crew_of}
-use Rattle.failed_ends.specs.call_whys.specs.Below.sock_deeds.specs.Left.{accepted_of}
-use Rattle.failed_ends.specs.call_whys.specs.Below.sock_deeds.specs.Deeds as socks
-use Rattle.failed_ends.specs.call_whys.specs.Below.sock_deeds.specs.Runs.{IsOperation, IsMessage, of_send, of_call, Seated, seat_of, early_of, DeedRun}
-use Rattle.failed_ends.specs.call_whys.specs.Below.sock_deeds.proofs.Accepting.{log, act_of_entry, sent_for, sent_place}
-use Rattle.failed_ends.specs.call_whys.specs.Below.sock_deeds.proofs.Acts.{Act, after, has_marks, has_drops}
-use Rattle.failed_ends.specs.call_whys.specs.Below.sock_deeds.proofs.DropCodes.{FailsWith, StoredByReader, stored_code, IsBehindPlaced, dropped_stands}
-use Rattle.failed_ends.specs.call_whys.specs.Below.sock_deeds.proofs.Failing.{early}
-use Rattle.failed_ends.specs.call_whys.specs.Below.sock_deeds.proofs.Fails.{link_is}
-use Rattle.failed_ends.specs.call_whys.specs.Below.sock_deeds.proofs.Lives.{MadeHere, linked_made}
-use Rattle.failed_ends.specs.call_whys.specs.Below.sock_deeds.proofs.Losses.{lost_by}
-use Rattle.failed_ends.specs.call_whys.specs.Below.script_facts.proofs.Lists.{contains_from}
-use Rattle.failed_ends.specs.call_whys.specs.Below.sock_deeds.proofs.Flats.{flat_there}
-use Rattle.failed_ends.specs.call_whys.specs.Below.sock_deeds.proofs.Orders.{orders, accepted_there, entry_on}
-use Rattle.failed_ends.specs.call_whys.specs.Below.sock_deeds.proofs.Places.{to_slice}
-use Rattle.failed_ends.specs.call_whys.specs.Below.sock_deeds.proofs.Readers.{early_there}
-use Rattle.failed_ends.specs.call_whys.specs.Below.sock_deeds.proofs.Sent.{sent_life}
-use Rattle.failed_ends.specs.call_whys.specs.Below.sock_deeds.proofs.Stores.{note_is}
-use Rattle.failed_ends.specs.call_whys.specs.Below.sock_deeds.proofs.Tasks.{same_task}
-use Rattle.failed_ends.specs.call_whys.specs.Below.sock_deeds.proofs.Whole.{laws_of}
+use Rattle.failed_ends.specs.call_whys.specs.call_places.specs.sock_deeds.specs.Left.{accepted_of}
+use Rattle.failed_ends.specs.call_whys.specs.call_places.specs.sock_deeds.specs.Deeds as socks
+use Rattle.failed_ends.specs.call_whys.specs.call_places.specs.sock_deeds.specs.Runs.{IsOperation, IsMessage, of_send, of_call, Seated, seat_of, early_of, DeedRun}
+use Rattle.failed_ends.specs.call_whys.specs.call_places.specs.sock_deeds.proofs.Accepting.{log, act_of_entry, sent_for, sent_place}
+use Rattle.failed_ends.specs.call_whys.specs.call_places.specs.sock_deeds.proofs.Acts.{Act, after, has_marks, has_drops}
+use Rattle.failed_ends.specs.call_whys.specs.call_places.specs.sock_deeds.proofs.DropCodes.{FailsWith, StoredByReader, stored_code, IsBehindPlaced, dropped_stands}
+use Rattle.failed_ends.specs.call_whys.specs.call_places.specs.sock_deeds.proofs.Failing.{early}
+use Rattle.failed_ends.specs.call_whys.specs.call_places.specs.sock_deeds.proofs.Fails.{link_is}
+use Rattle.failed_ends.specs.call_whys.specs.call_places.specs.sock_deeds.proofs.Lives.{MadeHere, linked_made}
+use Rattle.failed_ends.specs.call_whys.specs.call_places.specs.sock_deeds.proofs.Losses.{lost_by}
+use Rattle.failed_ends.specs.call_whys.specs.call_places.specs.script_facts.proofs.Lists.{contains_from}
+use Rattle.failed_ends.specs.call_whys.specs.call_places.specs.sock_deeds.proofs.Flats.{flat_there}
+use Rattle.failed_ends.specs.call_whys.specs.call_places.specs.sock_deeds.proofs.Orders.{orders, accepted_there, entry_on}
+use Rattle.failed_ends.specs.call_whys.specs.call_places.specs.sock_deeds.proofs.Places.{to_slice}
+use Rattle.failed_ends.specs.call_whys.specs.call_places.specs.sock_deeds.proofs.Readers.{early_there}
+use Rattle.failed_ends.specs.call_whys.specs.call_places.specs.sock_deeds.proofs.Sent.{sent_life}
+use Rattle.failed_ends.specs.call_whys.specs.call_places.specs.sock_deeds.proofs.Stores.{note_is}
+use Rattle.failed_ends.specs.call_whys.specs.call_places.specs.sock_deeds.proofs.Tasks.{same_task}
+use Rattle.failed_ends.specs.call_whys.specs.call_places.specs.sock_deeds.proofs.Whole.{laws_of}
 use Rattle.failed_ends.specs.attempts_told.specs.Attempts.{last_attempt}
 use Rattle.failed_ends.specs.failed_reasons.specs.Missed.{socks_behind}
 use Rattle.failed_ends.specs.failed_reasons.specs.Reasons.{StillHas, WasDropped}

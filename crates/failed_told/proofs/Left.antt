@@ -13,8 +13,8 @@ use Rattle.sock_words.specs.declared.plain.Plan.{Plan}
 use Rattle.sock_words.specs.declared.place_word.PlaceWord.{PlaceWord}
 use Rattle.sock_words.specs.declared.socket_id.SocketId.{SocketId}
 use Rattle.sock_words.specs.declared.vref.Vref.{Vref}
-use Rattle.failed_ends.specs.call_whys.specs.Below.sock_rule.specs.Closing.{PlacesDiffer}
-use Rattle.failed_ends.specs.call_whys.specs.Below.sock_rule.specs.declared.homes.Letter.{Letter}
+use Rattle.failed_ends.specs.Below.SockRule.Closing.{PlacesDiffer}
+use Rattle.failed_ends.specs.Below.SockRule.Letter.{Letter}
 use Rattle.seat_programs.specs.declared.task.Op.{Op}
 use Rattle.seat_programs.specs.declared.task.Op.TheVariants as ops
 use Rattle.seat_programs.specs.declared.task.Task.{Task}
@@ -31,13 +31,13 @@ use Rattle.corr_id.specs.id_rule.specs.Lawful.{notes_of}
 use Rattle.sock_message.specs.Asked.{Asked, name_of}
 use Rattle.corr_id.specs.Calls.{FoundUpTo, slot_of, version_of}
 use Rattle.corr_id.specs.Closing.{Closing}
-use Rattle.failed_ends.specs.call_whys.specs.Below.rpc_client.specs.declared.acting.Told.{Told}
-use Rattle.failed_ends.specs.call_whys.specs.Below.call_attempts.specs.Both.{Both}
-use Rattle.failed_ends.specs.call_whys.specs.Below.call_attempts.specs.Attempting.{AttemptedBy, nowhere, over_link}
-use Rattle.failed_ends.specs.call_whys.specs.Below.call_attempts.specs.Retrying.{WentTo, stray, unopened, to_socket, had_ended, overtaken, went_again}
-use Rattle.failed_ends.specs.call_whys.specs.Below.call_client.specs.Acting.{Stand, both_of, Acted}
-use Rattle.failed_ends.specs.call_whys.specs.Below.call_run.specs.Readers.{LinkReader}
-use Rattle.failed_ends.specs.call_whys.specs.Below.call_run.specs.Threads.{Thread, RanWith, MayRunAll, ids_of}
+use Rattle.failed_ends.specs.Below.RpcClient.Told.{Told}
+use Rattle.failed_ends.specs.Below.CallAttempts.Both.{Both}
+use Rattle.failed_ends.specs.Below.CallAttempts.Attempting.{AttemptedBy, nowhere, over_link}
+use Rattle.failed_ends.specs.Below.CallAttempts.Retrying.{WentTo, stray, unopened, to_socket, had_ended, overtaken, went_again}
+use Rattle.failed_ends.specs.Below.CallClient.Acting.{Stand, both_of, Acted}
+use Rattle.failed_ends.specs.Below.CallRun.Readers.{LinkReader}
+use Rattle.failed_ends.specs.Below.CallRun.Threads.{Thread, RanWith, MayRunAll, ids_of}
 use Rattle.failed_ends.specs.call_whys.specs.call_places.specs.Counted.{makes, HaveNotesOf}
 use Rattle.failed_ends.specs.call_whys.specs.call_places.specs.Deeds.{Deed, operates, retries}
 use Rattle.failed_ends.specs.call_whys.specs.call_places.proofs.Still.{advances}
@@ -50,12 +50,12 @@ use Rattle.failed_ends.specs.call_whys.specs.call_told.proofs.Lists.{all_at}
 use Rattle.failed_ends.specs.call_whys.specs.call_deeds.specs.Retried.{all_asked}
 use Rattle.failed_ends.specs.call_whys.specs.call_deeds.proofs.Ran.{AreLater}
 use Rattle.failed_ends.specs.call_whys.specs.call_deeds.proofs.Told.{task_at}
-use Rattle.failed_ends.specs.call_whys.specs.Below.script_facts.proofs.Lists.{has_from, has_none}
+use Rattle.failed_ends.specs.call_whys.specs.call_places.specs.script_facts.proofs.Lists.{has_from, has_none}
 use Rattle.failed_ends.specs.call_whys.specs.expire_told.specs.Said.{AreSaid}
-use Rattle.failed_ends.specs.call_whys.specs.Below.sock_deeds.specs.Runs.{IsOperation, seat_of, DeedRun}
-use Rattle.failed_ends.specs.call_whys.specs.Below.sock_deeds.proofs.Accepting.{log}
-use Rattle.failed_ends.specs.call_whys.specs.Below.sock_deeds.proofs.Tasks.{same_task}
-use Rattle.failed_ends.specs.call_whys.specs.Below.sock_deeds.proofs.Whole.{log_accepted, laws_of}
+use Rattle.failed_ends.specs.call_whys.specs.call_places.specs.sock_deeds.specs.Runs.{IsOperation, seat_of, DeedRun}
+use Rattle.failed_ends.specs.call_whys.specs.call_places.specs.sock_deeds.proofs.Accepting.{log}
+use Rattle.failed_ends.specs.call_whys.specs.call_places.specs.sock_deeds.proofs.Tasks.{same_task}
+use Rattle.failed_ends.specs.call_whys.specs.call_places.specs.sock_deeds.proofs.Whole.{log_accepted, laws_of}
 use Rattle.failed_ends.specs.attempts_told.specs.Attempts.{last_attempt}
 use Rattle.failed_ends.specs.attempts_told.proofs.Last.{IsReached, one_reached, none_further}
 use Rattle.failed_ends.specs.attempts_told.proofs.RetriedLast.{WentFor, last_went}
@@ -74,7 +74,7 @@ use Rattle.failed_ends.specs.failed_reasons.proofs.Premises.{asked_so as asked_h
 use Rattle.failed_ends.proofs.Single.{laws, IsAttemptOf, at_first, again_id, again_attempt, first_id}
 use Rattle.failed_told.proofs.Standing.{may_be_on, lost_on}
 use Rattle.failed_told.proofs.Unopened.{unopened_why}
-use Rattle.failed_ends.specs.call_whys.specs.Below.sock_deeds.proofs.Places.{map_back}
+use Rattle.failed_ends.specs.call_whys.specs.call_places.specs.sock_deeds.proofs.Places.{map_back}
 
 -- ## Of deeds
 

@@ -10,7 +10,7 @@ use Rattle.sock_words.specs.declared.outcome.Outcome.TheVariants.{CallFailed}
 use Rattle.sock_words.specs.declared.plain.Plan.{Plan}
 use Rattle.sock_words.specs.declared.place_word.PlaceWord.{PlaceWord}
 use Rattle.sock_words.specs.declared.vref.Vref.{Vref}
-use Rattle.failed_ends.specs.call_whys.specs.Below.sock_rule.specs.Closing.{PlacesDiffer}
+use Rattle.failed_ends.specs.Below.SockRule.Closing.{PlacesDiffer}
 use Rattle.seat_programs.specs.declared.task.Op.TheVariants as ops
 use Rattle.seat_programs.specs.declared.task.Task.{Task}
 use Rattle.seat_programs.specs.Told.{AreTasks, IsTask}
@@ -24,10 +24,10 @@ use Rattle.corr_id.specs.id_rule.specs.Lawful.{notes_of}
 use Rattle.sock_message.specs.Asked.{Asked}
 use Rattle.corr_id.specs.Closing.{Closing}
 use Rattle.corr_id.specs.Posts.{IsTimely}
-use Rattle.failed_ends.specs.call_whys.specs.Below.rpc_client.specs.declared.acting.Told.{Told}
-use Rattle.failed_ends.specs.call_whys.specs.Below.call_errors.specs.Locking.{id_in}
-use Rattle.failed_ends.specs.call_whys.specs.Below.call_run.specs.Readers.{LinkReader}
-use Rattle.failed_ends.specs.call_whys.specs.Below.call_run.specs.Threads.{Thread, RanWith, MayRunAll, ids_of}
+use Rattle.failed_ends.specs.Below.RpcClient.Told.{Told}
+use Rattle.failed_ends.specs.Below.CallErrors.Locking.{id_in}
+use Rattle.failed_ends.specs.Below.CallRun.Readers.{LinkReader}
+use Rattle.failed_ends.specs.Below.CallRun.Threads.{Thread, RanWith, MayRunAll, ids_of}
 use Rattle.failed_ends.specs.call_whys.specs.call_places.specs.Counted.{HaveNotesOf}
 use Rattle.failed_ends.specs.call_whys.specs.call_places.proofs.Clients.{Client, view_of, tasks_of, deeds_of}
 use Rattle.failed_ends.specs.call_whys.specs.call_places.proofs.Ids.{IsIdOf}
@@ -36,10 +36,10 @@ use Rattle.failed_ends.specs.call_whys.specs.call_told.proofs.Lists.{all_at}
 use Rattle.failed_ends.specs.call_whys.specs.call_deeds.specs.Retried.{all_asked}
 use Rattle.failed_ends.specs.call_whys.specs.call_deeds.proofs.Ran.{AreLater}
 use Rattle.failed_ends.specs.call_whys.specs.expire_told.specs.Said.{AreSaid, HaveKeptOf}
-use Rattle.failed_ends.specs.call_whys.specs.Below.sock_deeds.specs.Runs.{IsOperation, seat_of, DeedRun}
-use Rattle.failed_ends.specs.call_whys.specs.Below.sock_deeds.proofs.Accepting.{log}
-use Rattle.failed_ends.specs.call_whys.specs.Below.sock_deeds.proofs.Tasks.{same_task}
-use Rattle.failed_ends.specs.call_whys.specs.Below.sock_deeds.proofs.Whole.{log_accepted}
+use Rattle.failed_ends.specs.call_whys.specs.call_places.specs.sock_deeds.specs.Runs.{IsOperation, seat_of, DeedRun}
+use Rattle.failed_ends.specs.call_whys.specs.call_places.specs.sock_deeds.proofs.Accepting.{log}
+use Rattle.failed_ends.specs.call_whys.specs.call_places.specs.sock_deeds.proofs.Tasks.{same_task}
+use Rattle.failed_ends.specs.call_whys.specs.call_places.specs.sock_deeds.proofs.Whole.{log_accepted}
 use Rattle.failed_ends.specs.attempts_told.specs.Attempts.{last_attempt}
 use Rattle.failed_ends.specs.attempts_told.proofs.Told.{same_asked}
 use Rattle.failed_ends.specs.failed_reasons.specs.Reasons.{IsCaused}
@@ -51,7 +51,7 @@ use Rattle.failed_ends.proofs.Lasts.{ended_last}
 use Rattle.failed_ends.specs.failed_reasons.proofs.Premises.{asked_so as asked_here}
 use Rattle.failed_ends.proofs.Verdicts.{made_so}
 use Rattle.failed_ends.specs.failed_reasons.proofs.Views.{queued_in}
-use Rattle.failed_ends.specs.call_whys.specs.Below.sock_deeds.proofs.Places.{map_back}
+use Rattle.failed_ends.specs.call_whys.specs.call_places.specs.sock_deeds.proofs.Places.{map_back}
 
 module _ {O : Type 0} {g : Ghosts O} {state : O → OutState} {readers : List (LinkReader g)} {p : Plan} {slots : ℕ} {setup : List Task} {clients : List (List Task)} {opens : List ℕ} {told ended : List (List Told)} {places : List PlaceWord} {vrefs : List Vref} {outs : List O} {ids : List (View Asked)}
     (run : RanWith g state readers p slots setup clients opens told ended places vrefs outs ids) (tasks : AreTasks p (setup ∷ clients)) (may : MayRunAll p (ids_of p slots) setup clients)

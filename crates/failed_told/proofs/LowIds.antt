@@ -24,10 +24,10 @@ use Rattle.corr_id.specs.id_rule.specs.Lawful.{notes_of}
 use Rattle.sock_message.specs.Asked.{Asked}
 use Rattle.corr_id.specs.Calls.{slot_of, version_of}
 use Rattle.corr_id.specs.Closing.{Closing}
-use Rattle.failed_ends.specs.call_whys.specs.Below.rpc_client.specs.declared.acting.Told.{Told}
-use Rattle.failed_ends.specs.call_whys.specs.Below.call_client.specs.Acting.{Stand, both_of, Acted}
-use Rattle.failed_ends.specs.call_whys.specs.Below.call_run.specs.Readers.{LinkReader}
-use Rattle.failed_ends.specs.call_whys.specs.Below.call_run.specs.Threads.{Thread, IsThread, RanWith, MayRunAll, ids_of}
+use Rattle.failed_ends.specs.Below.RpcClient.Told.{Told}
+use Rattle.failed_ends.specs.Below.CallClient.Acting.{Stand, both_of, Acted}
+use Rattle.failed_ends.specs.Below.CallRun.Readers.{LinkReader}
+use Rattle.failed_ends.specs.Below.CallRun.Threads.{Thread, IsThread, RanWith, MayRunAll, ids_of}
 use Rattle.failed_ends.specs.call_whys.specs.call_places.specs.Counted.{makes, HaveNotesOf}
 use Rattle.failed_ends.specs.call_whys.specs.call_places.proofs.Clients.{Client, total_map, view_of}
 use Rattle.failed_ends.specs.call_whys.specs.call_places.proofs.Ids.{IsIdOf}

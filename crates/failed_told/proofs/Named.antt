@@ -13,7 +13,7 @@ use Rattle.sock_words.specs.declared.outcome.Outcome.{Outcome}
 use Rattle.sock_words.specs.declared.plain.Plan.{Plan}
 use Rattle.sock_words.specs.declared.place_word.PlaceWord.{PlaceWord}
 use Rattle.sock_words.specs.declared.vref.Vref.{Vref}
-use Rattle.failed_ends.specs.call_whys.specs.Below.sock_rule.specs.Closing.{PlacesDiffer}
+use Rattle.failed_ends.specs.Below.SockRule.Closing.{PlacesDiffer}
 use Rattle.seat_programs.specs.declared.task.Op.{Op}
 use Rattle.seat_programs.specs.declared.task.Op.TheVariants as ops
 use Rattle.seat_programs.specs.declared.task.Task.{Task}
@@ -28,11 +28,11 @@ use Rattle.corr_id.specs.id_rule.specs.Lawful.{at_index, is_stored}
 use Rattle.sock_message.specs.Asked.{Asked, name_of}
 use Rattle.corr_id.specs.Calls.{slot_of, version_of}
 use Rattle.corr_id.specs.Closing.{Closing}
-use Rattle.failed_ends.specs.call_whys.specs.Below.rpc_client.specs.declared.acting.Told.{Told}
-use Rattle.failed_ends.specs.call_whys.specs.Below.rpc_reader.specs.Posting.{call_at, attempt_at}
-use Rattle.failed_ends.specs.call_whys.specs.Below.call_attempts.specs.Retrying.{had_ended, overtaken, went_again}
-use Rattle.failed_ends.specs.call_whys.specs.Below.call_run.specs.Readers.{LinkReader}
-use Rattle.failed_ends.specs.call_whys.specs.Below.call_run.specs.Threads.{Thread, RanWith, MayRunAll, ids_of}
+use Rattle.failed_ends.specs.Below.RpcClient.Told.{Told}
+use Rattle.failed_ends.specs.Below.RpcReader.Posting.{call_at, attempt_at}
+use Rattle.failed_ends.specs.Below.CallAttempts.Retrying.{had_ended, overtaken, went_again}
+use Rattle.failed_ends.specs.Below.CallRun.Readers.{LinkReader}
+use Rattle.failed_ends.specs.Below.CallRun.Threads.{Thread, RanWith, MayRunAll, ids_of}
 use Rattle.failed_ends.specs.call_whys.specs.call_places.specs.Counted.{HaveNotesOf}
 use Rattle.failed_ends.specs.call_whys.specs.call_places.specs.Deeds.{Deed, operates, retries}
 use Rattle.failed_ends.specs.call_whys.specs.call_places.proofs.Ids.{IsIdOf}
@@ -43,10 +43,10 @@ use Rattle.failed_ends.specs.call_whys.specs.call_told.specs.Least.{is_made_for}
 use Rattle.failed_ends.specs.call_whys.specs.call_told.proofs.Resting.{is_word}
 use Rattle.failed_ends.specs.call_whys.specs.expire_told.specs.Said.{HaveKeptOf}
 use Rattle.failed_ends.specs.call_whys.specs.call_told.proofs.Least.{word_is as kept_word}
-use Rattle.failed_ends.specs.call_whys.specs.Below.sock_deeds.specs.Runs.{IsOperation, seat_of, DeedRun}
-use Rattle.failed_ends.specs.call_whys.specs.Below.sock_deeds.proofs.Accepting.{log}
-use Rattle.failed_ends.specs.call_whys.specs.Below.sock_deeds.proofs.Orders.{orders}
-use Rattle.failed_ends.specs.call_whys.specs.Below.sock_deeds.proofs.Whole.{laws_of}
+use Rattle.failed_ends.specs.call_whys.specs.call_places.specs.sock_deeds.specs.Runs.{IsOperation, seat_of, DeedRun}
+use Rattle.failed_ends.specs.call_whys.specs.call_places.specs.sock_deeds.proofs.Accepting.{log}
+use Rattle.failed_ends.specs.call_whys.specs.call_places.specs.sock_deeds.proofs.Orders.{orders}
+use Rattle.failed_ends.specs.call_whys.specs.call_places.specs.sock_deeds.proofs.Whole.{laws_of}
 use Rattle.failed_ends.specs.attempts_told.specs.Attempts.{last_attempt}
 use Rattle.failed_ends.specs.failed_reasons.specs.Ends.{LostOn}
 use Rattle.failed_ends.specs.failed_reasons.specs.Missed.{acted_id, id_of, attempt_of}

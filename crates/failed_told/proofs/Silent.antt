@@ -17,12 +17,12 @@ use Rattle.corr_core.specs.declared.marks.Kept.{Kept}
 use Rattle.corr_core.specs.declared.marks.Noted.{Noted}
 use Rattle.corr_core.specs.declared.marks.View.{View}
 use Rattle.corr_id.specs.Closing.{Closing}
-use Rattle.failed_ends.specs.call_whys.specs.Below.rpc_client.specs.declared.acting.Told.{Told}
-use Rattle.failed_ends.specs.call_whys.specs.Below.call_run.specs.Readers.{LinkReader}
-use Rattle.failed_ends.specs.call_whys.specs.Below.call_run.specs.Threads.{RanWith, MayRunAll, ids_of}
+use Rattle.failed_ends.specs.Below.RpcClient.Told.{Told}
+use Rattle.failed_ends.specs.Below.CallRun.Readers.{LinkReader}
+use Rattle.failed_ends.specs.Below.CallRun.Threads.{RanWith, MayRunAll, ids_of}
 use Rattle.failed_ends.specs.call_whys.specs.call_places.specs.Counted.{HaveNotesOf}
 use Rattle.failed_ends.specs.call_whys.specs.call_places.proofs.Ids.{IsIdOf}
-use Rattle.failed_ends.specs.call_whys.specs.Below.sock_deeds.specs.Runs.{IsOperation}
+use Rattle.failed_ends.specs.call_whys.specs.call_places.specs.sock_deeds.specs.Runs.{IsOperation}
 use Rattle.failed_ends.specs.call_whys.proofs.Versions.{AreIds}
 use Rattle.failed_ends.specs.attempts_told.proofs.Told.{same_asked}
 use Rattle.failed_ends.proofs.Alone.{NoResponse}

@@ -21,10 +21,10 @@ use Rattle.sock_model.specs.Entries.{on}
 use Rattle.sock_model.specs.Layout.{name_index, request_index}
 use Rattle.sock_model.specs.SlotRows.{marks_of}
 use Rattle.sock_model.specs.Weights.{is_known, is_met, is_saw, pair}
-use Rattle.failed_ends.specs.call_whys.specs.Below.sock_rule.specs.slot_steps.proofs.Numbers.{pair-same}
-use Rattle.failed_ends.specs.call_whys.specs.Below.sock_rule.specs.Closing.{PlacesDiffer}
-use Rattle.failed_ends.specs.call_whys.specs.Below.sock_rule.specs.declared.homes.Letter.{Letter}
-use Rattle.failed_ends.specs.call_whys.specs.Below.sock_table.specs.Named.{Found}
+use Rattle.failed_ends.specs.call_whys.specs.call_places.specs.outcome_stories.specs.program_walks.specs.slot_steps.proofs.Numbers.{pair-same}
+use Rattle.failed_ends.specs.Below.SockRule.Closing.{PlacesDiffer}
+use Rattle.failed_ends.specs.Below.SockRule.Letter.{Letter}
+use Rattle.failed_ends.specs.Below.SockTable.Named.{Found}
 use Rattle.seat_programs.specs.declared.task.Op.{Op}
 use Rattle.seat_programs.specs.declared.task.Op.TheVariants as ops
 use Rattle.seat_programs.specs.declared.task.Task.{Task}
@@ -36,34 +36,34 @@ use Rattle.corr_core.specs.declared.marks.Plan as id_plan
 use Rattle.corr_core.specs.declared.marks.View.{View}
 use Rattle.sock_message.specs.Asked.{Asked, name_of}
 use Rattle.corr_id.specs.Closing.{Closing}
-use Rattle.failed_ends.specs.call_whys.specs.Below.rpc_client.specs.declared.acting.Told.{Told}
-use Rattle.failed_ends.specs.call_whys.specs.Below.write_chain.specs.declared.entry.Refused.TheVariants as refused
-use Rattle.failed_ends.specs.call_whys.specs.Below.call_attempts.specs.Both.{Both}
-use Rattle.failed_ends.specs.call_whys.specs.Below.call_attempts.specs.Attempting.{DeliveredBy, went_out, came_back, AttemptedBy, nowhere, over_link}
-use Rattle.failed_ends.specs.call_whys.specs.Below.call_attempts.specs.Letters.{letter_for}
-use Rattle.failed_ends.specs.call_whys.specs.Below.call_attempts.specs.Retrying.{WentTo, stray, unopened, to_socket, had_ended, overtaken, went_again}
-use Rattle.failed_ends.specs.call_whys.specs.Below.call_client.specs.Acting.{Stand, both_of, Acted}
-use Rattle.failed_ends.specs.call_whys.specs.Below.call_run.specs.Readers.{LinkReader}
-use Rattle.failed_ends.specs.call_whys.specs.Below.call_run.specs.Threads.{Thread, RanWith, MayRunAll, ids_of}
+use Rattle.failed_ends.specs.Below.RpcClient.Told.{Told}
+use Rattle.failed_ends.specs.Below.WriteChain.Refused.TheVariants as refused
+use Rattle.failed_ends.specs.Below.CallAttempts.Both.{Both}
+use Rattle.failed_ends.specs.Below.CallAttempts.Attempting.{DeliveredBy, went_out, came_back, AttemptedBy, nowhere, over_link}
+use Rattle.failed_ends.specs.Below.CallAttempts.Letters.{letter_for}
+use Rattle.failed_ends.specs.Below.CallAttempts.Retrying.{WentTo, stray, unopened, to_socket, had_ended, overtaken, went_again}
+use Rattle.failed_ends.specs.Below.CallClient.Acting.{Stand, both_of, Acted}
+use Rattle.failed_ends.specs.Below.CallRun.Readers.{LinkReader}
+use Rattle.failed_ends.specs.Below.CallRun.Threads.{Thread, RanWith, MayRunAll, ids_of}
 use Rattle.failed_ends.specs.call_whys.specs.call_places.specs.Counted.{HaveNotesOf}
 use Rattle.failed_ends.specs.call_whys.specs.call_places.specs.Deeds.{Deed, operates, retries, delivered_entries, attempt_entries, went_entries, acted_entries, entries_of}
 use Rattle.failed_ends.specs.call_whys.specs.call_places.proofs.Ids.{IsIdOf}
 use Rattle.failed_ends.specs.call_whys.specs.call_places.proofs.Clients.{Client, deeds_of, own_of}
 use Rattle.failed_ends.specs.call_whys.specs.call_places.proofs.Places.{lists_are, crew_of}
 use Rattle.failed_ends.specs.call_whys.specs.call_deeds.proofs.Messages.{seen_through}
-use Rattle.failed_ends.specs.call_whys.specs.Below.sock_deeds.specs.Left.{accepted_of}
-use Rattle.failed_ends.specs.call_whys.specs.Below.sock_deeds.specs.Runs.{IsOperation, Seated, seat_of, DeedRun}
-use Rattle.failed_ends.specs.call_whys.specs.Below.sock_deeds.proofs.Accepting.{log}
-use Rattle.failed_ends.specs.call_whys.specs.Below.sock_deeds.proofs.Acts.{after, has_marks}
-use Rattle.failed_ends.specs.call_whys.specs.Below.sock_deeds.proofs.Entries.{on_there, from_pick}
-use Rattle.failed_ends.specs.call_whys.specs.Below.sock_deeds.proofs.Failing.{WhyFailed, life_failed}
-use Rattle.failed_ends.specs.call_whys.specs.Below.sock_deeds.proofs.Fails.{life_is}
-use Rattle.failed_ends.specs.call_whys.specs.Below.sock_deeds.proofs.Flats.{append_later, flat_there}
-use Rattle.failed_ends.specs.call_whys.specs.Below.sock_deeds.proofs.Growing.{Grew, HasFound, grew_then, added_grew, delivered_grew, wrote_grew, returned_grew}
-use Rattle.failed_ends.specs.call_whys.specs.Below.sock_deeds.proofs.Lives.{MadeHere, found_made, linked_made}
-use Rattle.failed_ends.specs.call_whys.specs.Below.sock_deeds.proofs.Orders.{orders, accepted_there, entry_on}
-use Rattle.failed_ends.specs.call_whys.specs.Below.sock_deeds.proofs.Tasks.{fits}
-use Rattle.failed_ends.specs.call_whys.specs.Below.sock_deeds.proofs.Whole.{laws_of}
+use Rattle.failed_ends.specs.call_whys.specs.call_places.specs.sock_deeds.specs.Left.{accepted_of}
+use Rattle.failed_ends.specs.call_whys.specs.call_places.specs.sock_deeds.specs.Runs.{IsOperation, Seated, seat_of, DeedRun}
+use Rattle.failed_ends.specs.call_whys.specs.call_places.specs.sock_deeds.proofs.Accepting.{log}
+use Rattle.failed_ends.specs.call_whys.specs.call_places.specs.sock_deeds.proofs.Acts.{after, has_marks}
+use Rattle.failed_ends.specs.call_whys.specs.call_places.specs.sock_deeds.proofs.Entries.{on_there, from_pick}
+use Rattle.failed_ends.specs.call_whys.specs.call_places.specs.sock_deeds.proofs.Failing.{WhyFailed, life_failed}
+use Rattle.failed_ends.specs.call_whys.specs.call_places.specs.sock_deeds.proofs.Fails.{life_is}
+use Rattle.failed_ends.specs.call_whys.specs.call_places.specs.sock_deeds.proofs.Flats.{append_later, flat_there}
+use Rattle.failed_ends.specs.call_whys.specs.call_places.specs.sock_deeds.proofs.Growing.{Grew, HasFound, grew_then, added_grew, delivered_grew, wrote_grew, returned_grew}
+use Rattle.failed_ends.specs.call_whys.specs.call_places.specs.sock_deeds.proofs.Lives.{MadeHere, found_made, linked_made}
+use Rattle.failed_ends.specs.call_whys.specs.call_places.specs.sock_deeds.proofs.Orders.{orders, accepted_there, entry_on}
+use Rattle.failed_ends.specs.call_whys.specs.call_places.specs.sock_deeds.proofs.Tasks.{fits}
+use Rattle.failed_ends.specs.call_whys.specs.call_places.specs.sock_deeds.proofs.Whole.{laws_of}
 use Rattle.failed_ends.specs.failed_reasons.specs.Ends.{LostOn}
 use Rattle.failed_ends.specs.failed_reasons.specs.Missed.{attempt_of, socks_behind}
 use Rattle.failed_ends.specs.failed_reasons.proofs.AtWords.{attempt_link, went_link, acted_link, link_in}
@@ -71,7 +71,7 @@ use Rattle.failed_told.proofs.Drops.{same_name, marked_act}
 use Rattle.failed_ends.proofs.Fallen.{its_seat, reached, full_by, failing_by}
 use Rattle.failed_ends.specs.failed_reasons.proofs.Losses.{SawFull, full_later, saw_there, IsAskedIn}
 use Rattle.failed_ends.proofs.Single.{IsAttemptOf, sender, alone, none_there, one_there, deed_place}
-use Rattle.failed_ends.specs.call_whys.specs.Below.sock_deeds.proofs.Places.{map_back, map_there}
+use Rattle.failed_ends.specs.call_whys.specs.call_places.specs.sock_deeds.proofs.Places.{map_back, map_there}
 
 -- ## What a seat noted of an attempt with a link
 

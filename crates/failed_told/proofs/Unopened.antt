@@ -16,7 +16,7 @@ use Rattle.sock_words.specs.declared.place_word.PlaceWord.{PlaceWord}
 use Rattle.sock_words.specs.declared.vref.Vref.{Vref}
 use Rattle.sock_model.specs.declared.view.View as sock_view
 use Rattle.sock_model.specs.Layout.{name_index}
-use Rattle.failed_ends.specs.call_whys.specs.Below.sock_table.specs.Named.{Found}
+use Rattle.failed_ends.specs.Below.SockTable.Named.{Found}
 use Rattle.seat_programs.specs.declared.task.Op.{Op}
 use Rattle.seat_programs.specs.declared.task.Op.TheVariants as ops
 use Rattle.seat_programs.specs.declared.task.Task.{Task}
@@ -34,14 +34,14 @@ use Rattle.sock_message.specs.Asked.{Asked, name_of}
 use Rattle.corr_id.specs.declared.calls.IdLock.{IdLock}
 use Rattle.corr_id.specs.Calls.{is_saw, slot_of, version_of}
 use Rattle.corr_id.specs.Closing.{Closing}
-use Rattle.failed_ends.specs.call_whys.specs.Below.rpc_client.specs.declared.acting.Told.{Told}
-use Rattle.failed_ends.specs.call_whys.specs.Below.call_errors.specs.declared.retries.Retry.{Retry}
-use Rattle.failed_ends.specs.call_whys.specs.Below.call_attempts.specs.Both.{Both}
-use Rattle.failed_ends.specs.call_whys.specs.Below.call_attempts.specs.Calling.{BegunAs}
-use Rattle.failed_ends.specs.call_whys.specs.Below.call_attempts.specs.Retrying.{Locked, WentAgain, had_ended, overtaken, went_again}
-use Rattle.failed_ends.specs.call_whys.specs.Below.call_client.specs.Acting.{Stand, both_of, Acted}
-use Rattle.failed_ends.specs.call_whys.specs.Below.call_run.specs.Readers.{LinkReader}
-use Rattle.failed_ends.specs.call_whys.specs.Below.call_run.specs.Threads.{Thread, RanWith, MayRunAll, ids_of, opens_of, opened_names, openings}
+use Rattle.failed_ends.specs.Below.RpcClient.Told.{Told}
+use Rattle.failed_ends.specs.Below.CallErrors.Retry.{Retry}
+use Rattle.failed_ends.specs.Below.CallAttempts.Both.{Both}
+use Rattle.failed_ends.specs.Below.CallAttempts.Calling.{BegunAs}
+use Rattle.failed_ends.specs.Below.CallAttempts.Retrying.{Locked, WentAgain, had_ended, overtaken, went_again}
+use Rattle.failed_ends.specs.Below.CallClient.Acting.{Stand, both_of, Acted}
+use Rattle.failed_ends.specs.Below.CallRun.Readers.{LinkReader}
+use Rattle.failed_ends.specs.Below.CallRun.Threads.{Thread, RanWith, MayRunAll, ids_of, opens_of, opened_names, openings}
 use Rattle.failed_ends.specs.call_whys.specs.call_places.specs.Counted.{makes, HaveNotesOf}
 use Rattle.failed_ends.specs.call_whys.specs.call_places.specs.Deeds.{Deed, operates, retries}
 use Rattle.failed_ends.specs.call_whys.specs.call_places.proofs.Still.{again_still}
@@ -54,11 +54,11 @@ use Rattle.failed_ends.specs.call_whys.specs.call_told.proofs.Lists.{all_at}
 use Rattle.failed_ends.specs.call_whys.specs.call_deeds.proofs.Ran.{Result}
 use Rattle.failed_ends.specs.call_whys.specs.call_deeds.proofs.Runs.{opened_there, names_there, same_task}
 use Rattle.failed_ends.specs.call_whys.specs.call_deeds.proofs.Told.{all_results, told_by, task_at, result_of, said_at, open_said}
-use Rattle.failed_ends.specs.call_whys.specs.Below.outcome_ticks.proofs.Seats.{Less}
-use Rattle.failed_ends.specs.call_whys.specs.Below.outcome_ticks.proofs.Tasks.{sorted_of}
-use Rattle.failed_ends.specs.call_whys.specs.Below.sock_deeds.specs.Runs.{IsOperation}
-use Rattle.failed_ends.specs.call_whys.specs.Below.sock_deeds.proofs.Names.{SeenBy}
-use Rattle.failed_ends.specs.call_whys.specs.Below.sock_deeds.proofs.Places.{place_low, map_back, map_there}
+use Rattle.failed_ends.specs.call_whys.specs.call_places.specs.outcome_ticks.proofs.Seats.{Less}
+use Rattle.failed_ends.specs.call_whys.specs.call_places.specs.outcome_ticks.proofs.Tasks.{sorted_of}
+use Rattle.failed_ends.specs.call_whys.specs.call_places.specs.sock_deeds.specs.Runs.{IsOperation}
+use Rattle.failed_ends.specs.call_whys.specs.call_places.specs.sock_deeds.proofs.Names.{SeenBy}
+use Rattle.failed_ends.specs.call_whys.specs.call_places.specs.sock_deeds.proofs.Places.{place_low, map_back, map_there}
 use Rattle.failed_ends.specs.call_whys.specs.expire_told.specs.Said.{AreSaid}
 use Rattle.failed_ends.specs.call_whys.specs.call_told.proofs.Coming.{made_begun as begun_made}
 use Rattle.failed_ends.specs.failed_reasons.specs.Missed.{missed_in, attempt_of, socks_behind}

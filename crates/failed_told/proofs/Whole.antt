@@ -9,7 +9,7 @@ use Rattle.sock_words.specs.declared.outcome.Outcome.{Outcome}
 use Rattle.sock_words.specs.declared.plain.Plan.{Plan}
 use Rattle.sock_words.specs.declared.place_word.PlaceWord.{PlaceWord}
 use Rattle.sock_words.specs.declared.vref.Vref.{Vref}
-use Rattle.failed_ends.specs.call_whys.specs.Below.sock_rule.specs.Closing.{PlacesDiffer}
+use Rattle.failed_ends.specs.Below.SockRule.Closing.{PlacesDiffer}
 use Rattle.seat_programs.specs.declared.task.Op.TheVariants as ops
 use Rattle.seat_programs.specs.declared.task.Task.{Task}
 use Rattle.seat_programs.specs.Told.{AreTasks}
@@ -21,18 +21,18 @@ use Rattle.corr_core.specs.declared.marks.View.{View}
 use Rattle.sock_message.specs.Asked.{Asked}
 use Rattle.corr_id.specs.Calls.{slot_of}
 use Rattle.corr_id.specs.Closing.{Closing}
-use Rattle.failed_ends.specs.call_whys.specs.Below.rpc_client.specs.declared.acting.Told.{Told}
-use Rattle.failed_ends.specs.call_whys.specs.Below.call_run.specs.Readers.{LinkReader}
-use Rattle.failed_ends.specs.call_whys.specs.Below.call_run.specs.Threads.{Thread, RanWith, MayRunAll, ids_of}
+use Rattle.failed_ends.specs.Below.RpcClient.Told.{Told}
+use Rattle.failed_ends.specs.Below.CallRun.Readers.{LinkReader}
+use Rattle.failed_ends.specs.Below.CallRun.Threads.{Thread, RanWith, MayRunAll, ids_of}
 use Rattle.failed_ends.specs.call_whys.specs.call_places.specs.Counted.{HaveNotesOf}
 use Rattle.failed_ends.specs.call_whys.specs.call_places.proofs.Clients.{Client, view_of, tasks_of, deeds_of}
 use Rattle.failed_ends.specs.call_whys.specs.call_places.proofs.Places.{all as all_clients, crew_of}
 use Rattle.failed_ends.specs.call_whys.specs.expire_told.specs.Said.{AreSaid, HaveKeptOf}
-use Rattle.failed_ends.specs.call_whys.specs.Below.sock_deeds.specs.Runs.{IsOperation, seat_of, DeedRun}
-use Rattle.failed_ends.specs.call_whys.specs.Below.sock_deeds.proofs.Accepting.{log}
-use Rattle.failed_ends.specs.call_whys.specs.Below.sock_deeds.proofs.Orders.{orders}
-use Rattle.failed_ends.specs.call_whys.specs.Below.sock_deeds.proofs.Tasks.{same_task}
-use Rattle.failed_ends.specs.call_whys.specs.Below.sock_deeds.proofs.Whole.{fixed}
+use Rattle.failed_ends.specs.call_whys.specs.call_places.specs.sock_deeds.specs.Runs.{IsOperation, seat_of, DeedRun}
+use Rattle.failed_ends.specs.call_whys.specs.call_places.specs.sock_deeds.proofs.Accepting.{log}
+use Rattle.failed_ends.specs.call_whys.specs.call_places.specs.sock_deeds.proofs.Orders.{orders}
+use Rattle.failed_ends.specs.call_whys.specs.call_places.specs.sock_deeds.proofs.Tasks.{same_task}
+use Rattle.failed_ends.specs.call_whys.specs.call_places.specs.sock_deeds.proofs.Whole.{fixed}
 use Rattle.failed_ends.specs.attempts_told.specs.Attempts.{last_attempt}
 use Rattle.failed_ends.specs.failed_reasons.specs.Missed.{id_of, attempt_of}
 use Rattle.failed_ends.specs.failed_reasons.specs.Reasons.{IsCaused}

@@ -21,8 +21,8 @@ use Rattle.corr_core.specs.declared.marks.Plan as id_plan
 use Rattle.corr_core.specs.declared.marks.View as id_view
 use Rattle.sock_message.specs.Asked.{Asked}
 use Rattle.rpc_client.specs.declared.acting.Told.{Told}
-use Rattle.calls_done.specs.call_whys.specs.Below.script_facts.proofs.Lists.{some_is}
-use Rattle.calls_done.specs.call_whys.specs.Below.script_facts.proofs.TaskLemmas.{of_tasks, numbers_at, has_task, call_asks}
+use Rattle.callless_fits.specs.sock_deeds.specs.script_facts.proofs.Lists.{some_is}
+use Rattle.callless_fits.specs.sock_deeds.specs.script_facts.proofs.TaskLemmas.{of_tasks, numbers_at, has_task, call_asks}
 use Rattle.call_run.specs.call_client.proofs.Changes.{AsksFor}
 use Rattle.call_run.specs.Threads.{opens_of, openings, opened_names, Thread, IsThread, AreThreads, AllRan}
 use Rattle.calls_done.specs.call_whys.specs.call_told.proofs.Lists.{all_both}

@@ -22,9 +22,9 @@ use Rattle.corr_core.specs.declared.marks.View as id_view
 use Rattle.corr_core.proofs.Notes.{only-else, only_le, total_some}
 use Rattle.id_rule.specs.Lawful.{call_index}
 use Rattle.sock_message.specs.Asked.{Asked}
-use Rattle.calls_done.specs.call_whys.specs.Below.script_facts.proofs.Lists.{all_map, all_at as all_there}
+use Rattle.callless_fits.specs.sock_deeds.specs.script_facts.proofs.Lists.{all_map, all_at as all_there}
 use Rattle.rpc_client.specs.declared.acting.Told.{Told}
-use Rattle.calls_done.specs.call_whys.specs.Below.call_errors.specs.Books.{Books}
+use Rattle.calls_done.specs.Below.CallErrors.Books.{Books}
 use Rattle.call_run.specs.Threads.{opens_of, openings, opened_names, Thread, IsThread, AreThreads, AllRan}
 use Rattle.calls_done.specs.call_whys.specs.call_told.proofs.Coming.{HasCome, run_come}
 use Rattle.calls_done.specs.call_whys.specs.call_told.proofs.Ends.{IsEndOf, AreEnds, IsEndIn, AreEndsIn}

@@ -12,7 +12,7 @@ use Rattle.corr_core.specs.declared.marks.Plan as id_plan
 use Rattle.corr_core.specs.declared.marks.View as id_view
 use Rattle.sock_message.specs.Asked.{Asked}
 use Rattle.rpc_client.specs.declared.acting.Told.{Told}
-use Rattle.calls_done.specs.call_whys.specs.Below.call_errors.specs.Books.{Books}
+use Rattle.calls_done.specs.Below.CallErrors.Books.{Books}
 use Rattle.call_run.specs.Threads.{opens_of, openings, opened_names, Thread, IsThread, AreThreads, AllRan}
 use Rattle.calls_done.specs.call_whys.specs.call_told.specs.Answers.{IsFailure, IsOwn, TellsOnly}
 use Rattle.calls_done.specs.call_whys.specs.call_told.proofs.Balance.{Balanced, AreBalanced, balanced_each}

@@ -29,9 +29,9 @@ use Rattle.seat_programs.specs.declared.task.Task.{Task}
 use Rattle.seat_programs.specs.Scripts.{all_tasks}
 use Rattle.seat_programs.specs.Tasks.{Numbered, numbered, plan_of, calls}
 use Rattle.seat_programs.specs.Told.{AreTasks}
-use Rattle.calls_done.specs.call_whys.specs.Below.script_facts.proofs.Lists.{has_from, contains_from, has_filter_map, within, all_map, all_at as all_there}
-use Rattle.calls_done.specs.call_whys.specs.Below.script_facts.proofs.Numbering.{link_at, numbered_at}
-use Rattle.calls_done.specs.call_whys.specs.Below.script_facts.proofs.TaskLemmas.{asks_at, numbers_at, task_is, asked_at, operation_task, call_asks}
+use Rattle.callless_fits.specs.sock_deeds.specs.script_facts.proofs.Lists.{has_from, contains_from, has_filter_map, within, all_map, all_at as all_there}
+use Rattle.callless_fits.specs.sock_deeds.specs.script_facts.proofs.Numbering.{link_at, numbered_at}
+use Rattle.callless_fits.specs.sock_deeds.specs.script_facts.proofs.TaskLemmas.{asks_at, numbers_at, task_is, asked_at, operation_task, call_asks}
 use Rattle.rpc_client.specs.declared.acting.Told.{Told}
 use Rattle.script_parts.proofs.Sayings.{long_each, none_long}
 use Rattle.call_run.specs.Threads.{AllRan}

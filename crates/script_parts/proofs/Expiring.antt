@@ -13,10 +13,10 @@ use Rattle.seat_programs.specs.declared.task.Task.{Task}
 use Rattle.seat_programs.specs.Scripts.{all_tasks}
 use Rattle.seat_programs.specs.Tasks.{Numbered, numbered, number_of, op_of, asked_of}
 use Rattle.seat_programs.specs.Told.{IsTask}
-use Rattle.calls_done.specs.call_whys.specs.Below.script_facts.proofs.Lists.{Has, some_is}
-use Rattle.calls_done.specs.call_whys.specs.Below.script_facts.proofs.Numbering.{are_from}
-use Rattle.calls_done.specs.call_whys.specs.Below.script_facts.proofs.Targets.{IsTarget, expired, are_there}
-use Rattle.calls_done.specs.call_whys.specs.Below.script_facts.proofs.TaskLemmas.{numbers_at, task_is, expire_asks}
+use Rattle.callless_fits.specs.sock_deeds.specs.script_facts.proofs.Lists.{Has, some_is}
+use Rattle.callless_fits.specs.sock_deeds.specs.script_facts.proofs.Numbering.{are_from}
+use Rattle.callless_fits.specs.sock_deeds.specs.script_facts.proofs.Targets.{IsTarget, expired, are_there}
+use Rattle.callless_fits.specs.sock_deeds.specs.script_facts.proofs.TaskLemmas.{numbers_at, task_is, expire_asks}
 use Rattle.calls_done.specs.call_whys.specs.expire_told.specs.Said.{AreOfCalls}
 
 -- ## Which operations are calls

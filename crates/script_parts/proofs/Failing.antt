@@ -10,11 +10,11 @@ use Rattle.seat_programs.specs.declared.task.Task.{Task}
 use Rattle.seat_programs.specs.Scripts.{all_tasks}
 use Rattle.seat_programs.specs.Tasks.{numbered}
 use Rattle.seat_programs.specs.Told.{IsTask}
-use Rattle.calls_done.specs.call_whys.specs.Below.script_facts.proofs.Lists.{all_at}
-use Rattle.calls_done.specs.call_whys.specs.Below.script_facts.proofs.Numbering.{are_from}
-use Rattle.calls_done.specs.call_whys.specs.Below.script_facts.proofs.Sizes.{is_counted}
-use Rattle.calls_done.specs.call_whys.specs.Below.script_facts.proofs.TaskLemmas.{numbers_at, task_is, fail_asks}
-use Rattle.calls_done.specs.call_whys.specs.Below.script_facts.proofs.Reading.{InRange}
+use Rattle.callless_fits.specs.sock_deeds.specs.script_facts.proofs.Lists.{all_at}
+use Rattle.callless_fits.specs.sock_deeds.specs.script_facts.proofs.Numbering.{are_from}
+use Rattle.callless_fits.specs.sock_deeds.specs.script_facts.proofs.Sizes.{is_counted}
+use Rattle.callless_fits.specs.sock_deeds.specs.script_facts.proofs.TaskLemmas.{numbers_at, task_is, fail_asks}
+use Rattle.callless_fits.specs.sock_deeds.specs.script_facts.proofs.Reading.{InRange}
 use Rattle.rpc_client.specs.declared.acting.Told.{Told}
 use Rattle.calls_done.specs.call_whys.specs.call_told.specs.Answers.{ends_call, IsOwn}
 

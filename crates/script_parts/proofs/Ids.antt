@@ -33,7 +33,7 @@ use Rattle.seat_programs.specs.declared.task.Task.{Task}
 use Rattle.seat_programs.specs.Scripts.{all_tasks}
 use Rattle.seat_programs.specs.Tasks.{plan_of}
 use Rattle.seat_programs.specs.Told.{AreTasks, TaskFits, OpFits, IsTask, Became}
-use Rattle.calls_done.specs.call_whys.specs.Below.script_facts.proofs.Lists.{has_from, contains_from, all_at as all_there}
+use Rattle.callless_fits.specs.sock_deeds.specs.script_facts.proofs.Lists.{has_from, contains_from, all_at as all_there}
 use Rattle.rpc_client.specs.declared.acting.Told.{Told}
 use Rattle.call_run.specs.Readers.{LinkReader}
 use Rattle.call_run.specs.Threads.{ids_of, MayRunAll, RanWith}

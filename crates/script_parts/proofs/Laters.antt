@@ -19,7 +19,7 @@ use Rattle.id_rule.specs.Lawful.{notes_of}
 use Rattle.sock_message.specs.Asked.{Asked}
 use Rattle.seat_programs.specs.declared.task.Op.TheVariants as ops
 use Rattle.seat_programs.specs.declared.task.Task.{Task}
-use Rattle.calls_done.specs.call_whys.specs.Below.script_facts.proofs.Lists.{contains_from, all_at as all_there}
+use Rattle.callless_fits.specs.sock_deeds.specs.script_facts.proofs.Lists.{contains_from, all_at as all_there}
 use Rattle.rpc_client.specs.declared.acting.Told.{Told}
 use Rattle.call_run.specs.Readers.{LinkReader}
 use Rattle.call_run.specs.Threads.{opens_of, opened_names, openings, ids_of, Thread, IsThread, AreThreads, RanWith}

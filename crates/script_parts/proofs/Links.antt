@@ -10,7 +10,7 @@ use Rattle.seat_programs.specs.declared.task.Task.{Task}
 use Rattle.seat_programs.specs.Runs.{from_to}
 use Rattle.seat_programs.specs.Scripts.{all_tasks}
 use Rattle.seat_programs.specs.Tasks.{Numbered, numbered, name_number}
-use Rattle.calls_done.specs.call_whys.specs.Below.script_facts.proofs.Sizes.{link_count}
+use Rattle.callless_fits.specs.sock_deeds.specs.script_facts.proofs.Sizes.{link_count}
 use Rattle.script_lang.specs.TasksByLine.{tasks_along, task_at}
 use Rattle.script_lang.proofs.ByLine.{tasks_are}
 use Rattle.callless_fits.specs.sock_deeds.proofs.Flats.{flat-append}

@@ -13,10 +13,10 @@ use Rattle.seat_programs.specs.declared.task.Task.{Task}
 use Rattle.seat_programs.specs.Scripts.{all_tasks}
 use Rattle.seat_programs.specs.Tasks.{numbered, plan_of}
 use Rattle.seat_programs.specs.Told.{AreTasks, OpFits, TaskFits}
-use Rattle.calls_done.specs.call_whys.specs.Below.script_facts.proofs.Lists.{all_from, all_map}
-use Rattle.calls_done.specs.call_whys.specs.Below.script_facts.proofs.Sizes.{keeps_limits}
-use Rattle.calls_done.specs.call_whys.specs.Below.script_facts.proofs.TaskLemmas.{IsTaskOf, numbers_at, of_tasks, has_task, call_asks, tasks_length}
-use Rattle.calls_done.specs.call_whys.specs.Below.script_facts.proofs.Tasks.{tasks_of_script}
+use Rattle.callless_fits.specs.sock_deeds.specs.script_facts.proofs.Lists.{all_from, all_map}
+use Rattle.callless_fits.specs.sock_deeds.specs.script_facts.proofs.Sizes.{keeps_limits}
+use Rattle.callless_fits.specs.sock_deeds.specs.script_facts.proofs.TaskLemmas.{IsTaskOf, numbers_at, of_tasks, has_task, call_asks, tasks_length}
+use Rattle.callless_fits.specs.sock_deeds.specs.script_facts.proofs.Tasks.{tasks_of_script}
 use Rattle.call_run.specs.sock_open.specs.Opening.{MayBegin}
 use Rattle.call_run.specs.call_client.specs.Acting.{Needs}
 use Rattle.call_run.specs.call_client.specs.Running.{left_by, MayMakeAll}

@@ -7,9 +7,9 @@ use Rattle.brpc_model.specs.Operations.{Operation, operations}
 use Rattle.brpc_model.specs.Script.{script_of}
 use Rattle.sock_words.specs.declared.plain.Plan.{Plan}
 use Rattle.corr_core.specs.declared.marks.Plan.{Plan as IdPlan}
-use Rattle.calls_done.specs.call_whys.specs.Below.script_facts.proofs.Lists.{filter_map_short}
-use Rattle.calls_done.specs.call_whys.specs.Below.script_facts.proofs.Numbering.{numbered_length}
-use Rattle.calls_done.specs.call_whys.specs.Below.script_facts.proofs.Sizes.{keeps_limits}
+use Rattle.callless_fits.specs.sock_deeds.specs.script_facts.proofs.Lists.{filter_map_short}
+use Rattle.callless_fits.specs.sock_deeds.specs.script_facts.proofs.Numbering.{numbered_length}
+use Rattle.callless_fits.specs.sock_deeds.specs.script_facts.proofs.Sizes.{keeps_limits}
 use Rattle.seat_programs.specs.Tasks.{Numbered, numbered_from, opens, calls, plan_of}
 use Rattle.call_run.specs.Threads.{ids_of}
 

@@ -4,7 +4,7 @@ use Rattle.sock_io.specs.declared.link.Ends.{Ends}
 use Rattle.sock_io.specs.Link.{OutState, InState}
 use Rattle.brpc_model.specs.Link.{LinkEnd}
 use Rattle.brpc_model.specs.PlaceWords.{took_at, AreTold}
-use Rattle.calls_done.specs.call_whys.specs.Below.script_facts.proofs.Flat.{at_map}
+use Rattle.callless_fits.specs.sock_deeds.specs.script_facts.proofs.Flat.{at_map}
 use Rattle.call_run.specs.link_crew.specs.declared.beside.Rest.{Rest}
 use Rattle.script_parts.specs.Halves.{AreTaken, joined}
 use Rattle.script_parts.proofs.Parting.{end_at}

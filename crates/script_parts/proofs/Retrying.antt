@@ -20,11 +20,11 @@ use Rattle.corr_id.specs.declared.calls.IdLock.{IdLock}
 use Rattle.corr_id.specs.Calls.{is_event, one}
 use Rattle.corr_id.proofs.Seats.{total_append}
 use Rattle.sock_message.specs.Asked.{Asked}
-use Rattle.calls_done.specs.call_whys.specs.Below.call_errors.specs.declared.retries.Retry.{Retry}
-use Rattle.calls_done.specs.call_whys.specs.Below.call_errors.specs.Books.{CallStand, stand_of}
-use Rattle.calls_done.specs.call_whys.specs.Below.call_errors.specs.Locking.{GotBy}
-use Rattle.calls_done.specs.call_whys.specs.Below.call_attempts.specs.Both.{Both}
-use Rattle.calls_done.specs.call_whys.specs.Below.call_attempts.specs.Retrying.{without_oldest, RetriedBy, had_ended, overtaken, went_again, Retried, none_yet, one_more}
+use Rattle.calls_done.specs.Below.CallErrors.Retry.{Retry}
+use Rattle.calls_done.specs.Below.CallErrors.Books.{CallStand, stand_of}
+use Rattle.calls_done.specs.Below.CallErrors.Locking.{GotBy}
+use Rattle.calls_done.specs.Below.CallAttempts.Both.{Both}
+use Rattle.calls_done.specs.Below.CallAttempts.Retrying.{without_oldest, RetriedBy, had_ended, overtaken, went_again, Retried, none_yet, one_more}
 use Rattle.call_run.specs.call_client.specs.Acting.{Stand, stand, both_of}
 use Rattle.call_run.specs.call_client.specs.Running.{Course, Ran, begins}
 use Rattle.call_run.specs.call_client.proofs.Telling.{did_total}

@@ -11,7 +11,7 @@ use Rattle.corr_core.specs.declared.marks.Plan.{Plan as IdPlan}
 use Rattle.seat_programs.specs.Cores.{Core}
 use Rattle.seat_programs.specs.Runs.{from_to}
 use Rattle.seat_programs.specs.Scripts.{opening_calls}
-use Rattle.calls_done.specs.call_whys.specs.Below.script_facts.proofs.Lists.{has_from, has_none}
+use Rattle.callless_fits.specs.sock_deeds.specs.script_facts.proofs.Lists.{has_from, has_none}
 use Rattle.callless_fits.specs.sock_deeds.specs.Left.{homes_of}
 use Rattle.callless_fits.specs.sock_deeds.proofs.Orders.{took}
 

@@ -28,9 +28,9 @@ use Rattle.seat_programs.specs.declared.task.Task.{Task}
 use Rattle.seat_programs.specs.Scripts.{all_tasks}
 use Rattle.seat_programs.specs.Tasks.{plan_of}
 use Rattle.seat_programs.specs.Told.{AreTasks, IsTask, Became}
-use Rattle.calls_done.specs.call_whys.specs.Below.outcome_ticks.proofs.Tasks.{sorted_of}
-use Rattle.calls_done.specs.call_whys.specs.Below.script_facts.proofs.Lists.{some_is, contains_from, within, all_map, all_at as all_there}
-use Rattle.calls_done.specs.call_whys.specs.Below.script_facts.proofs.TaskLemmas.{IsTaskOf, task_is, asks_at, asked_at, operation_task}
+use Rattle.callless_fits.specs.sock_deeds.specs.outcome_ticks.proofs.Tasks.{sorted_of}
+use Rattle.callless_fits.specs.sock_deeds.specs.script_facts.proofs.Lists.{some_is, contains_from, within, all_map, all_at as all_there}
+use Rattle.callless_fits.specs.sock_deeds.specs.script_facts.proofs.TaskLemmas.{IsTaskOf, task_is, asks_at, asked_at, operation_task}
 use Rattle.rpc_client.specs.declared.acting.Told.{Told}
 use Rattle.rpc_reader.specs.Books.{id_of}
 use Rattle.call_run.specs.Readers.{LinkReader}

@@ -6,11 +6,11 @@ pub mod Told
 pub use Rattle.calls_done.specs.attempts_told
 pub use Rattle.calls_done.specs.call_whys
 pub use Rattle.callless_fits
-pub use Rattle.calls_done.specs.failed_reasons
+pub use Rattle.calls_done
 pub use Rattle.calls_done.specs.failed_ends
+pub use Rattle.calls_done.specs.failed_reasons
 pub use Rattle.calls_done.specs.failed_told
 pub use Rattle.id_rule
-pub use Rattle.calls_done.specs.Below.script_facts
-pub use Rattle.calls_done.specs.Below.report_fits
-pub use Rattle.calls_done
+pub use Rattle.callless_fits.specs.sock_deeds.specs.report_fits
+pub use Rattle.callless_fits.specs.sock_deeds.specs.script_facts
 pub use Rattle.calls_done.specs.served_told

@@ -37,8 +37,8 @@ use Rattle.script_parts.specs.call_whys.specs.call_places.proofs.Still.{advances
 use Rattle.script_parts.specs.call_whys.specs.call_told.proofs.Beside.{made_beside}
 use Rattle.script_parts.specs.call_whys.specs.call_told.proofs.Making.{AllMade}
 use Rattle.script_parts.specs.call_whys.specs.call_told.proofs.Readers.{each_read}
-use Rattle.script_parts.specs.call_whys.specs.Below.sock_deeds.specs.Left.{accepted_of}
-use Rattle.script_parts.specs.call_whys.specs.Below.sock_deeds.proofs.Orders.{orders, entry_on}
+use Rattle.script_parts.specs.callless_fits.specs.sock_deeds.specs.Left.{accepted_of}
+use Rattle.script_parts.specs.callless_fits.specs.sock_deeds.proofs.Orders.{orders, entry_on}
 use Rattle.corr_id.proofs.Seats.{total_append}
 use Rattle.script_parts.specs.Seats.{IdSeat}
 use Rattle.script_parts.proofs.Asked.{ids_made, notes_of_seats}

@@ -13,8 +13,8 @@ use Rattle.seat_programs.specs.declared.task.Task.{Task}
 use Rattle.seat_programs.specs.Scripts.{all_tasks}
 use Rattle.seat_programs.specs.Tasks.{plan_of}
 use Rattle.seat_programs.specs.ToldCalls.{Order, Fixed}
-use Rattle.script_parts.specs.call_whys.specs.Below.sock_deeds.specs.Runs.{IsOperation}
-use Rattle.script_parts.specs.call_whys.specs.Below.sock_deeds.proofs.Orders.{orders}
+use Rattle.script_parts.specs.callless_fits.specs.sock_deeds.specs.Runs.{IsOperation}
+use Rattle.script_parts.specs.callless_fits.specs.sock_deeds.proofs.Orders.{orders}
 use Rattle.script_parts.specs.calls_done.specs.Begun.{FirstAttempt, Stands, BecameUnopened, FoundFailing, FoundFull}
 use Rattle.script_parts.specs.calls_done.proofs.Begun.{first_attempt}
 use Rattle.script_threads.specs.Told.{seated_plan, IsThreadsRun}

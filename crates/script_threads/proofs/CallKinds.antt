@@ -2,7 +2,7 @@
 use Rattle.std.proofs.Common.{◌≡◌, ℕ, zero, suc, ◌+◌, ◌*◌, ◌<◌, ◌⊎◌, inl, inr, true, List, [], ◌∷◌, ◌++◌, replicate, Option, Some, None, Ok, refl, sym, ap, ◌∙◌, subst, arith}
 use mathlib.Core.Option.{some, some-ne-none}
 use lib.ListN.{get_elem?}
-use Rattle.script_parts.specs.call_whys.specs.Below.outcome_stories.specs.program_steps.specs.chain_steps.proofs.Lists.{old, new, at_snoc}
+use Rattle.script_parts.specs.callless_fits.specs.sock_deeds.specs.outcome_stories.specs.program_walks.specs.chain_steps.proofs.Lists.{old, new, at_snoc}
 use Rattle.sock_io.specs.declared.link.Out.{Ghosts}
 use Rattle.sock_io.specs.Link.{OutState, InState}
 use Rattle.sock_words.specs.declared.outcome.Outcome.{Outcome}
@@ -37,7 +37,7 @@ use Rattle.script_threads.specs.Told.{IsThreadsRun}
 use Rattle.script_threads.proofs.Speaking.{parts_of}
 use Rattle.script_threads.proofs.Reports.{text_of, text_outcomes}
 use Rattle.script_threads.proofs.Sockets as sockets
-use Rattle.script_parts.specs.call_whys.specs.Below.sock_deeds.proofs.Places.{map_back}
+use Rattle.script_parts.specs.callless_fits.specs.sock_deeds.proofs.Places.{map_back}
 
 ends_some : (by : Outcome) (id : ℕ) → 0 < ends_of id by → ends_call by ≡ true
 ends_some (Answered i payload attachment) id h = refl

@@ -32,7 +32,7 @@ use Rattle.script_parts.specs.served_told.specs.Telling.{TellBytes, ShowSmallIds
 use Rattle.script_parts.specs.served_told.proofs.Own.{no_fault, own_request, made_for, reply_there}
 use Rattle.script_parts.specs.callless_fits.proofs.Each.{told_each}
 use Rattle.script_parts.specs.callless_fits.proofs.Sends.{ToldRun}
-use Rattle.script_parts.specs.call_whys.specs.Below.sock_deeds.specs.Told.{fixed_by, IsOfSockets}
+use Rattle.script_parts.specs.callless_fits.specs.sock_deeds.specs.Told.{fixed_by, IsOfSockets}
 use Rattle.script_parts.specs.script_facts.proofs.Lists.{within}
 use Rattle.script_threads.specs.Served.{run_of}
 use Rattle.script_threads.specs.Told.{IsThreadsRun, IsThreadsText}

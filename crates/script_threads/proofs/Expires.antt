@@ -15,7 +15,7 @@ use Rattle.seat_programs.specs.ToldCalls.{Order, Fixed}
 use Rattle.script_parts.specs.attempts_told.specs.Attempts.{last_attempt}
 use Rattle.script_parts.specs.call_whys.specs.expire_told.specs.Said.{WhyExpired}
 use Rattle.script_parts.specs.call_whys.specs.expire_told.proofs.Whole.{expire_why, once}
-use Rattle.script_parts.specs.call_whys.specs.Below.sock_deeds.proofs.Orders.{orders}
+use Rattle.script_parts.specs.callless_fits.specs.sock_deeds.proofs.Orders.{orders}
 use Rattle.script_parts.specs.Told.{AreCallsTold}
 use Rattle.script_threads.specs.Told.{IsThreadsRun}
 use Rattle.script_threads.proofs.Speaking.{parts_of}

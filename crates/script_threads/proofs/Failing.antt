@@ -52,12 +52,12 @@ use Rattle.script_parts.specs.call_whys.specs.call_told.proofs.Lists.{all_at}
 use Rattle.script_parts.specs.call_whys.specs.call_told.proofs.Readers.{AllRead, each_read, reader_gave}
 use Rattle.script_parts.specs.call_whys.specs.call_told.proofs.Resting.{is_word}
 use Rattle.script_parts.specs.call_whys.specs.expire_told.specs.Said.{WhyExpired}
-use Rattle.script_parts.specs.call_whys.specs.Below.sock_deeds.specs.Runs.{IsOperation, seat_of, sits_of, DeedRun}
-use Rattle.script_parts.specs.call_whys.specs.Below.sock_deeds.proofs.Orders.{orders}
-use Rattle.script_parts.specs.call_whys.specs.Below.sock_deeds.proofs.Places.{place_there, map_there, map_back, to_slice, to_elem}
-use Rattle.script_parts.specs.call_whys.specs.Below.sock_deeds.proofs.Whole.{log_accepted}
-use Rattle.script_parts.specs.call_whys.specs.Below.sock_deeds.proofs.Flats.{flat_there}
-use Rattle.script_parts.specs.call_whys.specs.Below.sock_deeds.proofs.DropCodes.{StoredByReader}
+use Rattle.script_parts.specs.callless_fits.specs.sock_deeds.specs.Runs.{IsOperation, seat_of, sits_of, DeedRun}
+use Rattle.script_parts.specs.callless_fits.specs.sock_deeds.proofs.Orders.{orders}
+use Rattle.script_parts.specs.callless_fits.specs.sock_deeds.proofs.Places.{place_there, map_there, map_back, to_slice, to_elem}
+use Rattle.script_parts.specs.callless_fits.specs.sock_deeds.proofs.Whole.{log_accepted}
+use Rattle.script_parts.specs.callless_fits.specs.sock_deeds.proofs.Flats.{flat_there}
+use Rattle.script_parts.specs.callless_fits.specs.sock_deeds.proofs.DropCodes.{StoredByReader}
 use Rattle.script_parts.specs.attempts_told.specs.Attempts.{last_attempt}
 use Rattle.script_parts.specs.failed_reasons.specs.Ends.{ReadingEnded, GaveNoResponse, EndedByReading, AtFault, AtEnd, AtFaultDrop, AtEndDrop, LeftOver, LeftAt}
 use Rattle.script_parts.specs.failed_told.proofs.Again.{again_with}

@@ -41,13 +41,13 @@ use Rattle.script_links.proofs.Offers.{asked_at}
 use Rattle.script_parts.specs.script_facts.proofs.Flat.{at_map}
 use Rattle.script_parts.specs.script_facts.proofs.Lists.{all_at, has_from, within}
 use Rattle.script_parts.specs.call_whys.specs.call_told.proofs.Gains.{Gains, gains_none, gains_tell}
-use Rattle.script_parts.specs.call_whys.specs.Below.sock_deeds.specs.Told.{fixed_by, IsAttempt}
-use Rattle.script_parts.specs.call_whys.specs.Below.sock_deeds.specs.Runs.{DeedRun}
-use Rattle.script_parts.specs.call_whys.specs.Below.sock_deeds.proofs.Acts.{All}
-use Rattle.script_parts.specs.call_whys.specs.Below.sock_deeds.proofs.Flats.{append_first, flat_there}
-use Rattle.script_parts.specs.call_whys.specs.Below.sock_deeds.proofs.Growing.{HasFound}
-use Rattle.script_parts.specs.call_whys.specs.Below.sock_deeds.proofs.Places.{map_there, to_elem}
-use Rattle.script_parts.specs.call_whys.specs.Below.sock_deeds.proofs.Tasks.{fits}
+use Rattle.script_parts.specs.callless_fits.specs.sock_deeds.specs.Told.{fixed_by, IsAttempt}
+use Rattle.script_parts.specs.callless_fits.specs.sock_deeds.specs.Runs.{DeedRun}
+use Rattle.script_parts.specs.callless_fits.specs.sock_deeds.proofs.Acts.{All}
+use Rattle.script_parts.specs.callless_fits.specs.sock_deeds.proofs.Flats.{append_first, flat_there}
+use Rattle.script_parts.specs.callless_fits.specs.sock_deeds.proofs.Growing.{HasFound}
+use Rattle.script_parts.specs.callless_fits.specs.sock_deeds.proofs.Places.{map_there, to_elem}
+use Rattle.script_parts.specs.callless_fits.specs.sock_deeds.proofs.Tasks.{fits}
 use Rattle.script_parts.specs.calls_done.specs.Owed.{GaveFew}
 use Rattle.served_sizes.proofs.Few.{front_few}
 use Rattle.script_parts.specs.served_told.specs.Telling.{TellBytes}

@@ -15,7 +15,7 @@ use Rattle.script_parts.specs.call_whys.specs.call_told.specs.Answers.{IsFailure
 use Rattle.script_parts.specs.attempts_told.specs.Attempts.{AreAttemptsTold}
 use Rattle.script_parts.specs.callless_fits.proofs.Fits.{text_is_whole}
 use Rattle.script_parts.specs.callless_fits.proofs.Sends.{SocketRun}
-use Rattle.script_parts.specs.call_whys.specs.Below.sock_deeds.specs.Told.{fixed_by}
+use Rattle.script_parts.specs.callless_fits.specs.sock_deeds.specs.Told.{fixed_by}
 use Rattle.seat_programs.specs.Scripts.{all_tasks}
 use Rattle.seat_programs.specs.ToldCalls.{Fixed, Order}
 use Rattle.script_parts.specs.call_whys.specs.call_told.proofs.Answering.{IsAskedIn, AllHave}
@@ -23,7 +23,7 @@ use Rattle.script_parts.specs.call_whys.specs.call_told.proofs.Beside.{gave_besi
 use Rattle.script_parts.specs.call_whys.specs.call_told.proofs.Lists.{all_both}
 use Rattle.script_parts.specs.call_whys.specs.call_told.proofs.Making.{AllMade}
 use Rattle.script_parts.specs.call_whys.specs.call_told.proofs.Shown.{shown_once}
-use Rattle.script_parts.specs.call_whys.specs.Below.sock_deeds.proofs.Orders.{orders}
+use Rattle.script_parts.specs.callless_fits.specs.sock_deeds.proofs.Orders.{orders}
 use Rattle.script_parts.specs.Seats.{IdSeat}
 use Rattle.script_parts.specs.Told.{outcomes_of, AreCallsTold}
 use Rattle.script_parts.proofs.Answered.{failures_have, outcomes_have}

@@ -41,11 +41,11 @@ use Rattle.script_parts.specs.call_whys.specs.call_told.proofs.Beside.{gave_besi
 use Rattle.script_parts.specs.call_whys.specs.call_told.proofs.Lists.{all_at}
 use Rattle.script_parts.specs.call_whys.specs.call_told.proofs.Making.{AllMade}
 use Rattle.script_parts.specs.call_whys.specs.call_told.proofs.Readers.{each_read, readers_gave}
-use Rattle.script_parts.specs.call_whys.specs.Below.sock_deeds.specs.Runs.{DeedRun}
-use Rattle.script_parts.specs.call_whys.specs.Below.sock_deeds.specs.Told.{fixed_by, ToldSockets}
-use Rattle.script_parts.specs.call_whys.specs.Below.sock_deeds.proofs.Breaking.{broken_noted}
-use Rattle.script_parts.specs.call_whys.specs.Below.sock_deeds.proofs.Failing.{broken, early, all_fails}
-use Rattle.script_parts.specs.call_whys.specs.Below.sock_deeds.proofs.Orders.{took, ends as link_ends, took_home, orders}
+use Rattle.script_parts.specs.callless_fits.specs.sock_deeds.specs.Runs.{DeedRun}
+use Rattle.script_parts.specs.callless_fits.specs.sock_deeds.specs.Told.{fixed_by, ToldSockets}
+use Rattle.script_parts.specs.callless_fits.specs.sock_deeds.proofs.Breaking.{broken_noted}
+use Rattle.script_parts.specs.callless_fits.specs.sock_deeds.proofs.Failing.{broken, early, all_fails}
+use Rattle.script_parts.specs.callless_fits.specs.sock_deeds.proofs.Orders.{took, ends as link_ends, took_home, orders}
 use Rattle.script_parts.proofs.Asked.{ids_made, notes_of_seats}
 use Rattle.script_parts.proofs.Laters.{IsCallOf, all_ask_for}
 use Rattle.script_parts.proofs.Laters as laters
@@ -63,7 +63,7 @@ use Rattle.script_threads.proofs.Early.{ShowsEarly, early_shown}
 use Rattle.script_threads.proofs.Left.{early_of, notes_of}
 use Rattle.script_threads.proofs.Linked.{opens_link}
 use Rattle.script_threads.proofs.Widened.{still_told}
-use Rattle.script_parts.specs.call_whys.specs.Below.sock_deeds.proofs.Places.{map_there, to_elem}
+use Rattle.script_parts.specs.callless_fits.specs.sock_deeds.proofs.Places.{map_there, to_elem}
 
 module _ (P : Type 0) {O I : Type 0} (g : Ghosts O) (out : O → OutState) (inn : I → InState) (bytes : List ℕ) (script : List Item) (reads : script_of bytes ≡ Ok script) (text : List ℕ) (links : List LinkEnd) (r : IsThreadsRun P g out inn script text links) where
   open parts_of r use {p, q, all, readers, main, last, outcomes}

@@ -25,8 +25,8 @@ use Rattle.script_parts.specs.call_whys.specs.call_told.proofs.Readers.{each_rea
 use Rattle.script_parts.specs.call_whys.specs.call_told.proofs.Tallies.{rest_accounts}
 use Rattle.script_parts.specs.call_whys.specs.expire_told.specs.Said.{AreSaid, AreOfCalls, HaveKeptOf}
 use Rattle.script_parts.specs.call_whys.specs.expire_told.proofs.Making.{have_kept, have_without}
-use Rattle.script_parts.specs.call_whys.specs.Below.sock_deeds.proofs.Places.{map_append}
-use Rattle.script_parts.specs.call_whys.specs.Below.sock_deeds.proofs.Flats.{append_first}
+use Rattle.script_parts.specs.callless_fits.specs.sock_deeds.proofs.Places.{map_append}
+use Rattle.script_parts.specs.callless_fits.specs.sock_deeds.proofs.Flats.{append_first}
 use Rattle.script_parts.specs.Seats.{IdSeat}
 use Rattle.script_parts.proofs.Clients.{balanced}
 use Rattle.script_parts.proofs.Expiring.{expire_calls}

@@ -28,15 +28,15 @@ use Rattle.call_run.specs.sock_rule.specs.Rows.{NOTHING, PutAt}
 use Rattle.rpc_client.specs.Opening.{OpenedBy}
 use Rattle.script_parts.specs.script_facts.proofs.Numbering.{link_at, link_later}
 use Rattle.script_parts.specs.script_facts.proofs.TaskLemmas.{numbers_at, open_asks, task_is}
-use Rattle.script_parts.specs.call_whys.specs.Below.sock_deeds.specs.Deeds.{Did, opens, DoneBy, Deed, own_number, own_name}
-use Rattle.script_parts.specs.call_whys.specs.Below.sock_deeds.specs.Runs.{DeedRun}
+use Rattle.script_parts.specs.callless_fits.specs.sock_deeds.specs.Deeds.{Did, opens, DoneBy, Deed, own_number, own_name}
+use Rattle.script_parts.specs.callless_fits.specs.sock_deeds.specs.Runs.{DeedRun}
 use Rattle.call_run.specs.sock_open.specs.slot_steps.proofs.Numbers.{pair_is}
-use Rattle.script_parts.specs.call_whys.specs.Below.sock_deeds.proofs.Acts.{Act, All, did_of, done_of, puts_from, same_deed}
-use Rattle.script_parts.specs.call_whys.specs.Below.sock_deeds.proofs.Fails.{made_born}
-use Rattle.script_parts.specs.call_whys.specs.Below.sock_deeds.proofs.Growing.{HasFound}
-use Rattle.script_parts.specs.call_whys.specs.Below.sock_deeds.proofs.Lives.{MadeHere, maker, made_inside}
-use Rattle.script_parts.specs.call_whys.specs.Below.sock_deeds.proofs.Stores.{Storing, Publishes, by_open, by_drop, for_number, under_name, done_stores, note_is}
-use Rattle.script_parts.specs.call_whys.specs.Below.sock_deeds.proofs.Tasks.{act_name, one_place}
+use Rattle.script_parts.specs.callless_fits.specs.sock_deeds.proofs.Acts.{Act, All, did_of, done_of, puts_from, same_deed}
+use Rattle.script_parts.specs.callless_fits.specs.sock_deeds.proofs.Fails.{made_born}
+use Rattle.script_parts.specs.callless_fits.specs.sock_deeds.proofs.Growing.{HasFound}
+use Rattle.script_parts.specs.callless_fits.specs.sock_deeds.proofs.Lives.{MadeHere, maker, made_inside}
+use Rattle.script_parts.specs.callless_fits.specs.sock_deeds.proofs.Stores.{Storing, Publishes, by_open, by_drop, for_number, under_name, done_stores, note_is}
+use Rattle.script_parts.specs.callless_fits.specs.sock_deeds.proofs.Tasks.{act_name, one_place}
 
 -- ## What an `open` that made a socket stores
 

@@ -10,7 +10,7 @@ use Rattle.seat_programs.specs.Cores.{Core}
 use Rattle.seat_programs.specs.ToldCalls.{Accepted, Order, Fixed, AreOrders, FoundNone, FoundFailed, IsSent, OfSend, OfCall, Why}
 use Rattle.script_parts.specs.script_facts.proofs.Lists.{all_map}
 use Rattle.script_parts.specs.attempts_told.specs.Attempts.{AreAttemptsTold}
-use Rattle.script_parts.specs.call_whys.specs.Below.sock_deeds.specs.Told.{IsOfSockets, IsAttempt, ToldSockets}
+use Rattle.script_parts.specs.callless_fits.specs.sock_deeds.specs.Told.{IsOfSockets, IsAttempt, ToldSockets}
 
 module _ (p : Plan) (n : ℕ) (clients : List (List Task)) (outcomes : List (Option Outcome)) (fixed : Fixed) (gave : ℕ → List ℕ) (orders : ℕ → Order) where
   -- with so many seats

@@ -9,7 +9,7 @@ use Rattle.seat_programs.specs.Scripts.{all_tasks, place_words}
 use Rattle.seat_programs.specs.Tasks.{plan_of}
 use Rattle.seat_programs.specs.ToldCalls.{Order}
 use Rattle.script_parts.specs.report_fits.specs.Ends.{AreEndsOf}
-use Rattle.script_parts.specs.call_whys.specs.Below.sock_deeds.specs.Told.{fixed_by, ToldSockets}
+use Rattle.script_parts.specs.callless_fits.specs.sock_deeds.specs.Told.{fixed_by, ToldSockets}
 
 -- Why each operation on sockets has its outcome, by what became of all others; and each link took the messages that it accepted in one order, whole and once,
 -- those of each client in its own order. Each life that failed was failed by a `fail`, by its own link, or by the reader of its link, whose reading ended early

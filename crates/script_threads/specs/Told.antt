@@ -28,8 +28,8 @@ use Rattle.call_run.specs.Threads.{ids_of, RanWith}
 use Rattle.script_parts.specs.attempts_told.specs.Attempts.{AreAttemptsTold}
 use Rattle.script_parts.specs.call_whys.specs.call_told.specs.Answers.{AreAnsweredBy}
 use Rattle.script_parts.specs.call_whys.specs.call_told.specs.Once.{ShownOnce}
-use Rattle.script_parts.specs.call_whys.specs.Below.sock_deeds.specs.Runs.{IsOperation}
-use Rattle.script_parts.specs.call_whys.specs.Below.sock_deeds.specs.Told.{fixed_by}
+use Rattle.script_parts.specs.callless_fits.specs.sock_deeds.specs.Runs.{IsOperation}
+use Rattle.script_parts.specs.callless_fits.specs.sock_deeds.specs.Told.{fixed_by}
 use Rattle.script_parts.specs.calls_done.specs.Begun.{FirstAttempt}
 use Rattle.script_parts.specs.callless_fits.specs.Whole.{IsWholeText}
 use Rattle.script_parts.specs.Seats.{IdSeat, TookAll}

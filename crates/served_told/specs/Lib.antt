@@ -1,3 +1,2 @@
 pub mod Telling
 pub use Rattle.served_calls
-pub use Rattle.served_calls.specs.Below

@@ -2,8 +2,8 @@ use Rattle.std.proofs.Common.{ap, sym, ◌∙◌, ◌+◌, length, map, arith}
 use Rattle.std.proofs.lemmas.List.{length-map}
 use Rattle.brpc_model.specs.Operations.{clients}
 use Rattle.corr_core.specs.declared.marks.Plan.{Plan}
-use Rattle.calls_done.specs.call_whys.specs.Below.script_facts.proofs.Sizes.{keeps_limits}
-use Rattle.calls_done.specs.call_whys.specs.Below.script_facts.proofs.TaskLemmas.{tasks_length}
+use Rattle.callless_fits.specs.sock_deeds.specs.script_facts.proofs.Sizes.{keeps_limits}
+use Rattle.callless_fits.specs.sock_deeds.specs.script_facts.proofs.TaskLemmas.{tasks_length}
 use Rattle.script_parts.proofs.Numbers.{front_of}
 use Rattle.script_parts.proofs.asking.prepare.Goals as goal
 
