@@ -1,4 +1,2 @@
 //! That what the code makes of its tables is a step of the definitions: proofs alone.
 #![tactic(auto)]
-
-pub use machine_model::{Letter, On, Tick};

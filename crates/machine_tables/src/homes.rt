@@ -7,7 +7,7 @@ ghost use Rattle.client_seats.specs.Seats.{bytes_of, message_in, call_in};
 ghost use Rattle.machine_model.specs.Letters.{letters_in};
 
 use client_seats::InHand;
-use machine_steps::Letter;
+use machine_model::Letter;
 use message_parts::OutgoingParcel;
 use seat_states::Author;
 use sock_io::NoMemory;

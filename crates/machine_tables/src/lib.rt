@@ -10,7 +10,6 @@ mod tables;
 mod waiting;
 mod words;
 
-pub use machine_steps::{On, Tick};
 pub use setup::{Parts, parts_of};
 pub use table::Table;
 pub use tables::{READERS, Tables};

@@ -11,7 +11,7 @@ use crate::table::Table;
 use crate::waiting::awaited_by_reader;
 use crate::words::{end_link, pass_link, step_word};
 use call_points::Aside;
-use machine_steps::{On, Tick};
+use machine_model::{On, Tick};
 use reader_points::ReadStep;
 use reader_seats::ReaderSeat;
 use seat_states::Call;

@@ -7,7 +7,7 @@ ghost use Rattle.machine_model.specs.Parts.{AreBegun, AreReading, AreParts, said
 use call_slots::{CallSlots, push_zeros};
 use client_seats::Seat;
 use corr_core::Plan as IdPlan;
-use machine_steps::Letter;
+use machine_model::Letter;
 use reader_seats::ReaderSeat;
 use seat_programs::{Sizes, Task};
 use sock_message::NoMemory;

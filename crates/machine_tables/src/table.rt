@@ -19,7 +19,7 @@ use crate::words::{end_link, is_taken, pass_link, step_word};
 use call_points::Aside;
 use call_slots::CallSlots;
 use client_seats::Seat;
-use machine_steps::{Letter, On, Tick};
+use machine_model::{Letter, On, Tick};
 use seat_programs::Sizes;
 use seat_states::{Author, Call, Step};
 use sock_io::{Ends, In, NoMemory, Out, Peer, Put, Ready};

@@ -12,7 +12,7 @@ ghost use Rattle.machine_model.specs.Driving.{BeganEnding, IsPlain, told_ending}
 use crate::table::{Table, has_room};
 use crate::waiting::{is_rest, stands};
 use client_seats::Seat;
-use machine_steps::Tick;
+use machine_model::Tick;
 use reader_points::ReadStep;
 use reader_seats::ReaderSeat;
 use seat_programs::Sizes;

@@ -10,7 +10,7 @@ ghost use Rattle.machine_model.specs.Telling.{waits_by};
 use call_points::WordStep;
 use call_table::has_version;
 use id_points::{Sought, is_awaited};
-use machine_steps::On;
+use machine_model::On;
 use reader_points::ReadPoint;
 use seat_states::{AttemptStep, JoinStep, Point, RetryStep, WriteStep};
 use sock_words::IdWord;

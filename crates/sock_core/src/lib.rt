@@ -9,5 +9,5 @@ mod prepared;
 
 pub use finished::Finished;
 pub use machine::{Machine, NotMade};
-pub use machine_tables::{On, Tick};
+pub use machine_model::{On, Tick};
 pub use prepared::Prepared;

@@ -15,7 +15,8 @@ ghost use Rattle.machine_model.specs.Driving.{LastsAtMost, LeavesFewer, Leaves, 
 use crate::finished::{Finished, gather_places};
 use crate::inputs::Wanted;
 use crate::prepared::Prepared;
-use machine_tables::{READERS, Table, Tables, Tick, parts_of};
+use machine_model::Tick;
+use machine_tables::{READERS, Table, Tables, parts_of};
 use script_lang::Script;
 use sock_io::{Ends, In, Linker, NoMemory, Out, Peer};
 use sock_message::BlockPool;
