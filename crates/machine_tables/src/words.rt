@@ -7,8 +7,9 @@ ghost use Rattle.seat_states.specs.program_steps.specs.Sound.{AllowsWord};
 ghost use Rattle.seat_states.specs.Steps.{step_of};
 ghost use Rattle.machine_model.specs.Steps.{IsOfLinks, OutsAfter, holders_after};
 
-use seat_states::{Call, request_place};
+use seat_states::Call;
 use sock_io::{Ends, In, Out, Peer};
+use sock_model::request_index;
 use sock_words::Plan;
 
 /// Makes a step on its word, and answers the word found; 0 where the step is none on a word.
@@ -18,10 +19,10 @@ pub fn step_word(plan: &Plan, words: &mut [u64], call: Call) -> u64
     ensures found { result ≡ found_at words.old (word_of plan.now (step_of call)) }
     ensures words { words.new ≡ words_after words.old (word_of plan.now (step_of call)) (word_after (step_of call) (found_at words.old (word_of plan.now (step_of call)))) }
 {
-    match call.place(plan) {
-        Some(place) => {
-            let found = words[place];
-            words[place] = call.word_after(found);
+    match call.index(plan) {
+        Some(index) => {
+            let found = words[index];
+            words[index] = call.word_after(found);
             found
         }
         None => 0,
@@ -32,8 +33,8 @@ pub fn step_word(plan: &Plan, words: &mut [u64], call: Call) -> u64
 pub fn is_taken(plan: &Plan, words: &[u64], request: u16) -> bool
     ensures { result ≡ true → slice_index words.now (request_index plan.now request) % 2 ≡ 1 }
 {
-    let place = request_place(plan, request);
-    place < words.len() && words[place] % 2 == 1
+    let index = request_index(plan, request);
+    index < words.len() && words[index] % 2 == 1
 }
 
 /// A seat takes a link or puts it back: who has each link in hand.

@@ -1,7 +1,6 @@
 ghost use Rattle.std.specs.Prelude.{◌≡◌, IfSome, IfNone};
 ghost use mathlib.Core.Option.{some, none};
 ghost use Rattle.std.specs.Prelude.{◌*◌};
-ghost use Rattle.sock_model.specs.Layout.{request_index, next_index, place_index};
 ghost use Rattle.seat_programs.specs.Calls.{kind_of};
 ghost use Rattle.seat_programs.specs.Cores.{word_of, word_after};
 ghost use Rattle.program_steps.specs.Sound.{AllowsWord};
@@ -11,6 +10,10 @@ use chain_core::{
     claim_request, connect, empty_head, free_request, swap_head, turn_next, unconnect,
 };
 use ref_core::{add_ref, birth, claim_slot, free_slot, recycle, set_odd, sub_ref};
+use sock_model::{
+    code_index, head_index, link_index, name_index, next_index, open_index, place_index, ref_index,
+    request_index, tag_index,
+};
 use sock_words::{Kind, PlaceWord, Plan, SocketId, Ticket, Vref};
 
 /// A step of a seat: of which slot, name, operation or link it is, and what it is to store.
@@ -77,29 +80,6 @@ pub enum Call {
     DropPlace(u32, u16, u32),
 }
 
-/// Where the word of a request stands among the words of the table.
-pub fn request_place(plan: &Plan, request: u16) -> usize
-    ensures { result ≡ request_index plan.now request }
-{
-    6 * plan.slots as usize + plan.names as usize + plan.operations as usize + request as usize
-}
-
-/// Where the next word of a request stands.
-fn next_place(plan: &Plan, request: u16) -> usize
-    ensures { result ≡ next_index plan.now request }
-{
-    let open = 6 * plan.slots as usize + plan.names as usize;
-    open + plan.operations as usize + plan.requests as usize + request as usize
-}
-
-fn message_place(plan: &Plan, place: u32) -> usize
-    ensures { result ≡ place_index plan.now place }
-{
-    let open = 6 * plan.slots as usize + plan.names as usize;
-    let next = open + plan.operations as usize + plan.requests as usize;
-    next + plan.requests as usize + place as usize
-}
-
 impl Call {
     /// Its kind, as a schedule names it.
     pub fn kind(self) -> Kind
@@ -137,41 +117,39 @@ impl Call {
         }
     }
 
-    /// Where the word that it reads or changes stands; a move of a link has none.
-    pub fn place(self, plan: &Plan) -> Option<usize>
+    /// The index of the word that it reads or changes; a move of a link has none.
+    pub fn index(self, plan: &Plan) -> Option<usize>
         ensures word { IfSome result (λ x. word_of plan.now (step_of self) ≡ some x) }
         ensures none { IfNone result (word_of plan.now (step_of self) ≡ none) }
     {
         match self {
-            Call::ClaimSlot(slot) | Call::FreeSlot(slot) => Some(6 * slot as usize),
+            Call::ClaimSlot(slot) | Call::FreeSlot(slot) => Some(tag_index(slot)),
             Call::CreateLife(slot, _)
             | Call::SubRef(slot)
             | Call::SetOdd(slot)
-            | Call::Recycle(slot, _) => Some(6 * slot as usize + 1),
-            Call::AddRef(id) => Some(6 * id.slot() as usize + 1),
-            Call::StoreLink(slot, _) | Call::LoadLink(slot, _) => Some(6 * slot as usize + 2),
-            Call::ResetHead(slot, _) => Some(6 * slot as usize + 3),
-            Call::ClearCode(slot, _) | Call::StoreCode(slot, _, _) => Some(6 * slot as usize + 4),
-            Call::StoreName(name, _) | Call::LoadName(name) => {
-                Some(6 * plan.slots as usize + name as usize)
-            }
+            | Call::Recycle(slot, _) => Some(ref_index(slot)),
+            Call::AddRef(id) => Some(ref_index(id.slot())),
+            Call::StoreLink(slot, _) | Call::LoadLink(slot, _) => Some(link_index(slot)),
+            Call::ResetHead(slot, _) => Some(head_index(slot)),
+            Call::ClearCode(slot, _) | Call::StoreCode(slot, _, _) => Some(code_index(slot)),
+            Call::StoreName(name, _) | Call::LoadName(name) => Some(name_index(plan, name)),
             Call::StoreOpen(operation, _) | Call::LoadOpen(operation) => {
-                Some(6 * plan.slots as usize + plan.names as usize + operation as usize)
+                Some(open_index(plan, operation))
             }
             Call::TakeLink(_) | Call::FinishLink(_) | Call::PutLink(_) => None,
-            Call::LookWord(id) => Some(6 * id.slot() as usize + 1),
-            Call::FindLink(id) => Some(6 * id.slot() as usize + 2),
-            Call::LoadCode(id) => Some(6 * id.slot() as usize + 4),
-            Call::SwapHead(slot, _) | Call::EmptyHead(slot, _) => Some(6 * slot as usize + 3),
+            Call::LookWord(id) => Some(ref_index(id.slot())),
+            Call::FindLink(id) => Some(link_index(id.slot())),
+            Call::LoadCode(id) => Some(code_index(id.slot())),
+            Call::SwapHead(slot, _) | Call::EmptyHead(slot, _) => Some(head_index(slot)),
             Call::ClaimRequest(_, request) | Call::FreeRequest(request, _) => {
-                Some(request_place(plan, request))
+                Some(request_index(plan, request))
             }
             Call::Unconnect(request)
             | Call::Connect(request, _)
             | Call::ReadNext(request)
-            | Call::ReverseNext(request, _) => Some(next_place(plan, request)),
+            | Call::ReverseNext(request, _) => Some(next_index(plan, request)),
             Call::StorePlace(place, _, _) | Call::DropPlace(place, _, _) => {
-                Some(message_place(plan, place))
+                Some(place_index(plan, place))
             }
         }
     }

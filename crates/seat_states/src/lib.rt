@@ -14,7 +14,7 @@ pub mod sending;
 pub mod steps;
 pub mod writing;
 
-pub use call::{Call, request_place};
+pub use call::Call;
 pub use calling::Calling;
 pub use point::{
     AfterStep, Aim, Attempt, AttemptStep, Author, CallStep, Continuation, Current, FailStep,

@@ -3,6 +3,7 @@ ghost use Rattle.sock_model.specs.Layout.{place_index};
 ghost use Rattle.seat_programs.specs.Scripts.{place_words};
 
 use sock_io::{Ends, In, Out, Peer};
+use sock_model::place_index;
 use sock_words::{Outcome, PlaceWord, Plan};
 
 /// What is left of a machine.
@@ -21,10 +22,8 @@ fn word_at(plan: &Plan, words: &[u64], number: usize) -> u64
     requires { number < 8 * plan.now.operations }
     ensures { result ≡ slice_index words.now (place_index plan.now number) }
 {
-    let open = 6 * plan.slots as usize + plan.names as usize;
-    let next = open + plan.operations as usize + plan.requests as usize;
-    let place = next + plan.requests as usize + number;
-    if place < words.len() { words[place] } else { 0 }
+    let index = place_index(plan, number as u32);
+    if index < words.len() { words[index] } else { 0 }
 }
 
 /// The place words, into the room that was kept for them.

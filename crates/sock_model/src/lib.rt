@@ -3,11 +3,16 @@
 
 mod chain;
 mod home;
+mod layout;
 mod marks;
 mod view;
 
 pub use chain::{Claim, Entry, Heading, Loose, Right, Stage};
 pub use home::Home;
+pub use layout::{
+    code_index, head_index, link_index, name_index, next_index, open_index, place_index, ref_index,
+    request_index, tag_index,
+};
 pub use marks::{Mark, SlotMark};
 pub use sock_words::Plan;
 pub use view::{Hand, StoredWord, View};

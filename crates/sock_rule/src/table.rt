@@ -98,11 +98,7 @@ impl<O: Out> RuleTable<O> {
         requires request { request < self.now.plan.requests }
         ensures { result ≡ next_index self.now.plan request }
     {
-        6 * self.plan.slots as usize
-            + self.plan.names as usize
-            + self.plan.operations as usize
-            + self.plan.requests as usize
-            + request
+        sock_model::next_index(&self.plan, request as u16)
     }
 
     // That of a label's place word.
@@ -110,10 +106,6 @@ impl<O: Out> RuleTable<O> {
         requires place { place < 8 * self.now.plan.operations }
         ensures { result ≡ place_index self.now.plan place }
     {
-        6 * self.plan.slots as usize
-            + self.plan.names as usize
-            + self.plan.operations as usize
-            + 2 * self.plan.requests as usize
-            + place
+        sock_model::place_index(&self.plan, place as u32)
     }
 }
