@@ -5,7 +5,7 @@ use sock_words::Plan;
 
 /// The index of a slot's tag among the words of a table.
 #[inline(always)]
-pub fn tag_index(slot: u16) -> usize
+pub fn tag_index(slot: u32) -> usize
     ensures { result ≡ tag_index slot }
 {
     6 * slot as usize
@@ -13,7 +13,7 @@ pub fn tag_index(slot: u16) -> usize
 
 /// The index of a slot's version and references.
 #[inline(always)]
-pub fn ref_index(slot: u16) -> usize
+pub fn ref_index(slot: u32) -> usize
     ensures { result ≡ ref_index slot }
 {
     6 * slot as usize + 1
@@ -21,7 +21,7 @@ pub fn ref_index(slot: u16) -> usize
 
 /// The index of the link of a slot's life.
 #[inline(always)]
-pub fn link_index(slot: u16) -> usize
+pub fn link_index(slot: u32) -> usize
     ensures { result ≡ link_index slot }
 {
     6 * slot as usize + 2
@@ -29,7 +29,7 @@ pub fn link_index(slot: u16) -> usize
 
 /// The index of a slot's head.
 #[inline(always)]
-pub fn head_index(slot: u16) -> usize
+pub fn head_index(slot: u32) -> usize
     ensures { result ≡ head_index slot }
 {
     6 * slot as usize + 3
@@ -37,7 +37,7 @@ pub fn head_index(slot: u16) -> usize
 
 /// The index of the code with which a slot's life failed.
 #[inline(always)]
-pub fn code_index(slot: u16) -> usize
+pub fn code_index(slot: u32) -> usize
     ensures { result ≡ code_index slot }
 {
     6 * slot as usize + 4

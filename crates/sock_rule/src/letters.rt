@@ -70,7 +70,7 @@ impl<O: Out> RuleTable<O> {
         ensures seat { IsSeat self.now.table.shared.table_id self.now.plan seat.new }
         ensures view { (c : Claim) → Claims c seat.old.me.0 → seat.new.me ≡ (with_claim seat.old.me.0 (ready_claim c), seat.old.me.1) }
     {
-        let index = self.next_index(at as usize);
+        let index = self.next_index(at);
         self.table.shared.store::<Unconnect>(seat, index, u64::MAX);
     }
 
@@ -95,7 +95,7 @@ impl<O: Out> RuleTable<O> {
         ensures seat { IsSeat self.now.table.shared.table_id self.now.plan seat.new }
         ensures view { seat.new.me ≡ (without_loose seat.old.me.0 at, seat.old.me.1) }
     {
-        let index = self.next_index(at as usize);
+        let index = self.next_index(at);
         self.table.shared.store::<Connect>(seat, index, before.0);
     }
 }

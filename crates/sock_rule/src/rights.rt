@@ -95,7 +95,7 @@ impl<O: Out> RuleTable<O> {
         ensures seat { IsSeat self.now.table.shared.table_id self.now.plan seat.new }
         ensures view { (r : Right) (now : ℕ) → Rights r seat.old.me.0 → r.stage ≡ Writes now → seat.new.me ≡ (with_right seat.old.me.0 (placed_right r now), seat.old.me.1) }
     {
-        let index = self.place_index(at as usize);
+        let index = self.place_index(at);
         self.table.shared.store::<StorePlace>(seat, index, value.0);
     }
 
@@ -118,7 +118,7 @@ impl<O: Out> RuleTable<O> {
     {
         let home_index = now.request() as usize;
         self.lay_home(seat, home_index, home);
-        let index = self.place_index(at as usize);
+        let index = self.place_index(at);
         self.table.shared.store::<DropPlace>(seat, index, value.0);
         self.take_home(seat, home_index)
     }
@@ -195,7 +195,7 @@ impl<O: Out> RuleTable<O> {
         ensures seat { IsSeat self.now.table.shared.table_id self.now.plan seat.new }
         ensures view { (r : Right) → Rights r seat.old.me.0 → ReadOn r now.0 result seat.old.me seat.new.me }
     {
-        let index = self.next_index(now.request() as usize);
+        let index = self.next_index(now.request());
         self.table.shared.load::<ReadNext>(seat, index)
     }
 
@@ -207,7 +207,7 @@ impl<O: Out> RuleTable<O> {
         ensures seat { IsSeat self.now.table.shared.table_id self.now.plan seat.new }
         ensures view { (r : Right) (top after : ℕ) → Rights r seat.old.me.0 → r.stage ≡ Walks top at.0 after → ReadBack r top at.0 after result seat.old.me seat.new.me }
     {
-        let index = self.next_index(at.request() as usize);
+        let index = self.next_index(at.request());
         self.table.shared.load::<ReadNext>(seat, index)
     }
 
@@ -219,7 +219,7 @@ impl<O: Out> RuleTable<O> {
         ensures seat { IsSeat self.now.table.shared.table_id self.now.plan seat.new }
         ensures view { (r : Right) (top after before : ℕ) → Rights r seat.old.me.0 → r.stage ≡ Turns top at.0 after before → seat.new.me ≡ (with_right seat.old.me.0 (turned_right r top at.0 before), seat.old.me.1) }
     {
-        let index = self.next_index(at.request() as usize);
+        let index = self.next_index(at.request());
         self.table.shared.store::<ReverseNext>(seat, index, value);
     }
 }

@@ -94,18 +94,18 @@ impl<O: Out> RuleTable<O> {
     }
 
     // The index of a request's next word.
-    pub(crate) fn next_index(&self, request: usize) -> usize
+    pub(crate) fn next_index(&self, request: u16) -> usize
         requires request { request < self.now.plan.requests }
         ensures { result ≡ next_index self.now.plan request }
     {
-        sock_model::next_index(&self.plan, request as u16)
+        sock_model::next_index(&self.plan, request)
     }
 
     // That of a label's place word.
-    pub(crate) fn place_index(&self, place: usize) -> usize
+    pub(crate) fn place_index(&self, place: u32) -> usize
         requires place { place < 8 * self.now.plan.operations }
         ensures { result ≡ place_index self.now.plan place }
     {
-        sock_model::place_index(&self.plan, place as u32)
+        sock_model::place_index(&self.plan, place)
     }
 }
