@@ -10,7 +10,7 @@ use Rattle.brpc_model.specs.Drawn.{draws, state_behind, shaped, setup, call_of, 
 use Rattle.brpc_model.specs.Items.{Item, Open, Client, Send}
 use Rattle.brpc_model.specs.ScriptText.{option_text, item_text, printed_items, script_text}
 use Rattle.script_print.proofs.Again.{read_back}
-use Rattle.script_print.proofs.Generated.{generated_back}
+use Rattle.script_draw.proofs.Generated.{generated_back}
 use Rattle.brpc_eng.specs.Streams.{script_limit}
 
 -- ## Parts of a line

@@ -4,7 +4,8 @@ ghost use Rattle.brpc_eng.specs.Answers.{Generated, sink_over};
 
 use crate::draw::Draw;
 use crate::status::Status;
-use script_print::{PrintFault, generate, print_script};
+use script_draw::generate;
+use script_print::{PrintFault, print_script};
 use sock_io::Sink;
 use std::alloc::Global;
 

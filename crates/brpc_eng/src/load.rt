@@ -11,7 +11,7 @@ use crate::draw::Draw;
 use crate::run::write_report;
 use crate::status::Status;
 use script_lang::Script;
-use script_print::generate;
+use script_draw::generate;
 use script_run::{Load, Print, Schedule, run_script};
 use sock_io::{Linker, NoMemory, OpenFault, Sink};
 use std::alloc::Global;

@@ -1,7 +1,8 @@
 //! What is said of whole scripts.
+use script_draw::{DrawnSeats, generate};
 use script_items::{Line, first_version, is_client, request_count, slot_count};
 use script_lang::{Script, ScriptError, read_script};
-use script_print::{DrawnSeats, generate, print_script};
+use script_print::print_script;
 use sock_io::MemSink;
 use std::alloc::{AllocError, Global};
 use std::str;

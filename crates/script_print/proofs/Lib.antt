@@ -10,6 +10,3 @@ pub mod Placed
 pub mod PrintedLines
 pub mod Again
 pub mod Written
-pub mod DrawLemmas
-pub mod SeatLemmas
-pub mod Generated

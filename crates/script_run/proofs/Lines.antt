@@ -12,8 +12,8 @@ use Rattle.brpc_model.specs.Drawn.{drawn, drawn_state, state_behind, seat_of, si
 use Rattle.brpc_model.specs.Operations.{Turn, Ticks, turn_of, schedule, seat_number, clients, link_names, operations}
 use Rattle.script_items.specs.Meaning as meaning
 use Rattle.script_items.specs.declared.line.Seat.{Seat}
-use Rattle.script_print.proofs.SeatLemmas.{seats_more, count_some}
-use Rattle.script_print.specs.Seats.{SeatDraws, seat_count}
+use Rattle.script_draw.proofs.SeatLemmas.{seats_more, count_some}
+use Rattle.script_draw.specs.Seats.{SeatDraws, seat_count}
 use Rattle.seat_programs.specs.Cores.{Core}
 use Rattle.seat_programs.specs.Ticks.{Moment, seats_of, run}
 use Rattle.seat_programs.specs.Runs.{IsAtRest, LeadsUpTo, Turns, Scheduled}

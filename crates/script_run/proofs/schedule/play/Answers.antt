@@ -1,7 +1,7 @@
 use Rattle.std.proofs.Common.{◌<◌, ◌+◌, ap, sym, subst, arith}
 use Rattle.brpc_model.specs.Operations.{clients}
 use Rattle.calm_runs.specs.Below.script_facts.proofs.Sizes.{keeps_limits}
-use Rattle.script_print.specs.Seats.{SeatDraws}
+use Rattle.script_draw.specs.Seats.{SeatDraws}
 use Rattle.seat_programs.specs.Scripts.{drawn_turns}
 use Rattle.sock_words.specs.declared.plain.Plan.{Plan}
 use Rattle.machine_model.specs.Driving.{FirstRests}

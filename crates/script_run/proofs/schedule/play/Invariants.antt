@@ -1,6 +1,6 @@
 use Rattle.std.proofs.Common.{◌≡◌, length}
 use Rattle.brpc_model.specs.Operations.{clients, operations}
-use Rattle.script_print.specs.Seats.{seat_count}
+use Rattle.script_draw.specs.Seats.{seat_count}
 use Rattle.seat_programs.specs.Runs.{Scheduled}
 use Rattle.machine_model.specs.Runs.{SameLinks}
 use Rattle.machine_model.specs.Linkers.{SaysAsBefore}

@@ -1,6 +1,6 @@
 use Rattle.std.proofs.Common.{◌≡◌, ◌%◌, map}
 use Rattle.brpc_model.specs.Drawn.{draws, state_behind}
-use Rattle.script_print.proofs.draws.Draws.bytes.Given as goal
+use Rattle.script_draw.proofs.draws.Draws.bytes.Given as goal
 
 abbrev pub invariant-loop : goal.invariant-loop
 invariant-loop l = record {

@@ -1,7 +1,7 @@
 use Rattle.std.proofs.Common.{◌≡◌, ◌++◌, ◌+◌, ◌-◌, map}
 use Rattle.brpc_model.specs.Drawn.{gen_operations, gen_draws, state_behind}
 use Rattle.script_items.specs.Meaning.{item}
-use Rattle.script_print.proofs.generator.push_operations.Given as goal
+use Rattle.script_draw.proofs.generator.push_operations.Given as goal
 
 abbrev pub invariant-loop-before : goal.invariant-loop-before
 invariant-loop-before l = record {

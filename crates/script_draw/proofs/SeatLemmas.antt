@@ -3,8 +3,8 @@ use Rattle.std.proofs.Common.{◌≡◌, ℕ, zero, suc, ◌+◌, ◌*◌, ◌%�
 use Rattle.std.proofs.lemmas.Bool.Decides.{nat_tests}
 use Rattle.std.proofs.lemmas.List.{length-map, map-append}
 use Rattle.brpc_model.specs.Drawn.{drawn, drawn_state, draws, state_behind, seat_of, sim_seats_of}
-use Rattle.script_print.specs.Seats.{seat_count}
-use Rattle.script_print.proofs.DrawLemmas.{draws_one}
+use Rattle.script_draw.specs.Seats.{seat_count}
+use Rattle.script_draw.proofs.DrawLemmas.{draws_one}
 
 -- where there are none, none is drawn
 pub seats_none : (cs n x : ℕ) → sim_seats_of 0 cs n x ≡ []

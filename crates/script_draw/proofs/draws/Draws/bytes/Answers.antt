@@ -1,7 +1,7 @@
 use Rattle.std.proofs.Common.{◌%◌, ◌++◌, ◌∷◌, [], map, ap, sym, ◌∙◌}
 use Rattle.brpc_model.specs.Drawn.{drawn, drawn_state, draws}
-use Rattle.script_print.proofs.DrawLemmas.{behind_more, bytes_more}
-use Rattle.script_print.proofs.draws.Draws.bytes.Goals as goal
+use Rattle.script_draw.proofs.DrawLemmas.{behind_more, bytes_more}
+use Rattle.script_draw.proofs.draws.Draws.bytes.Goals as goal
 
 pub loop-preserved : goal.loop-preserved
 loop-preserved c =

@@ -3,8 +3,8 @@ use Rattle.brpc_model.specs.Drawn.{gen_operations}
 use Rattle.std.proofs.lemmas.List.{map-append}
 use Rattle.script_items.specs.Meaning.{item}
 use Rattle.script_items.specs.declared.line.Line.TheVariants as lines
-use Rattle.script_print.proofs.DrawLemmas.{client_placed}
-use Rattle.script_print.proofs.generator.generated_lines.Goals as goal
+use Rattle.script_draw.proofs.DrawLemmas.{client_placed}
+use Rattle.script_draw.proofs.generator.generated_lines.Goals as goal
 
 pub loop-before-preserved : goal.loop-before-preserved
 loop-before-preserved c =

@@ -4,8 +4,8 @@ use Rattle.brpc_model.specs.Items.{Item}
 use Rattle.brpc_model.specs.Script.{script_of}
 use Rattle.brpc_model.specs.ScriptText.{script_text}
 use Rattle.script_items.specs.Meaning.{item}
-use Rattle.script_print.proofs.Generated.{generated_back}
-use Rattle.script_print.proofs.generator.generate.Goals as goal
+use Rattle.script_draw.proofs.Generated.{generated_back}
+use Rattle.script_draw.proofs.generator.generate.Goals as goal
 
 pub returns-in-Ok-clause-again : goal.returns-in-Ok-clause-again
 returns-in-Ok-clause-again c =
