@@ -10,8 +10,8 @@ ghost use Rattle.brpc_eng.specs.Answers.{OpenedNothing, Loaded, linker_over, sin
 use crate::draw::Draw;
 use crate::run::write_report;
 use crate::status::Status;
-use script_lang::Script;
 use script_draw::generate;
+use script_lang::Script;
 use script_run::{Load, Print, Schedule, run_script};
 use sock_io::{Linker, NoMemory, OpenFault, Sink};
 use std::alloc::Global;

@@ -14,8 +14,8 @@ ghost use Rattle.script_run.specs.Played.{IsPlayable, HasPlayed, HasRun, HasTurn
 
 use crate::mark::Mark;
 use crate::outline::Outline;
-use script_items::Seat;
 use script_draw::DrawnSeats;
+use script_items::Seat;
 use sock_core::{Machine, Tick};
 use sock_io::{Linker, NoMemory};
 
