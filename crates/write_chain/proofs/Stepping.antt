@@ -1,5 +1,5 @@
 -- What a writer has stays through the steps that it makes.
-use Rattle.std.proofs.Common.{◌≡◌, ◌≢◌, ℕ, suc, ◌+◌, ◌*◌, ◌<◌, inl, inr, Bool, true, false, cond, eqb, eq-eqb, ne_eqb, not, List, [], ◌∷◌, ◌++◌, append-nil, append_assoc, refl, sym, ap, ◌∙◌, subst, arith}
+use Rattle.std.proofs.Common.{◌≡◌, ◌≢◌, ℕ, zero, suc, ◌+◌, ◌*◌, ◌<◌, inl, inr, Bool, true, false, cond, eqb, eq-eqb, ne_eqb, not, List, [], ◌∷◌, ◌++◌, append-nil, append_assoc, refl, sym, ap, ◌∙◌, subst, arith}
 use Rattle.std.specs.List.{filter}
 use Rattle.atomic_table.specs.Table.{Me, rest}
 use Rattle.sock_io.specs.declared.link.Out.{Ghosts}
@@ -33,7 +33,6 @@ use Rattle.sock_rule.specs.declared.homes.SockHome.TheVariants.{Empty}
 use Rattle.sock_rule.specs.Shows.{heading_of, way_at}
 use Rattle.sock_rule.proofs.Holding.{one_right}
 use Rattle.sock_rule.proofs.Becoming.{met_marks}
-use Rattle.sock_table.proofs.Ending.{noted_taken}
 use Rattle.sock_table.proofs.Quiet.{rests_on, rests_between}
 use Rattle.write_chain.specs.declared.right.InHand.{InHand}
 use Rattle.write_chain.specs.declared.right.LinkInHand.{LinkInHand}
@@ -89,6 +88,11 @@ writer_noted {p = p} {id = id} {last = last} {link = link} {x = x} {v = v} {w = 
 
 took_all : (sent begun bytes left took : List ℕ) → took ≡ sent ++ begun → bytes ≡ begun ++ left → left ≡ [] → took ≡ sent ++ bytes
 took_all sent begun bytes left took t b none_ = t ∙ ap (λ l. sent ++ l) (sym (b ∙ (ap (λ l. begun ++ l) none_ ∙ append-nil begun)))
+
+-- a half has faults where its seat noted one, once it is in hand
+noted_in_hand : (n i k : ℕ) (v : View) → (0 < faults_of k v → 0 < n) → 0 < faults_of k (fault_found n i k v) → 0 < n
+noted_in_hand zero i k v known some_ = known some_
+noted_in_hand (suc n) i k v known some_ = omega arith
 
 module _ {O : Type 0} {g : Ghosts O} {p : Plan} {ways : List (List ℕ)} {id last : ℕ} where
   -- the right's sign that a look found the life live is this one now, and the rest of what is in hand stays
@@ -163,7 +167,7 @@ module _ {O : Type 0} {g : Ghosts O} {p : Plan} {ways : List (List ℕ)} {id las
         stage_is = s.stage_is;
         idle = s.idle;
         took = took.0;
-        noted = λ t. noted_taken faults slot link m.0 u refl known (subst (λ (k : ℕ). 0 < faults_of k (fault_found faults slot link u)) same (subst (λ (y : View). 0 < faults_of hand.link y) (ap (λ (q : Me (SockHome O g) View). q.0) e) t));
+        noted = λ t. noted_in_hand faults slot link u known (subst (λ (k : ℕ). 0 < faults_of k (fault_found faults slot link u)) same (subst (λ (y : View). 0 < faults_of hand.link y) (ap (λ (q : Me (SockHome O g) View). q.0) e) t));
         slots = ap (λ (q : Me (SockHome O g) View). q.1) e ∙ (λ i. (p.requests + sym same i, Empty) ∷ s.slots i);
       }
 
