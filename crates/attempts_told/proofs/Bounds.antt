@@ -11,7 +11,7 @@ use Rattle.sock_words.specs.declared.socket_id.SocketId.{SocketId}
 use Rattle.sock_words.specs.declared.outcome.Outcome.{Outcome}
 use Rattle.call_whys.specs.Below.SockRule.Letter.{Letter}
 use Rattle.call_whys.specs.Below.CallTable.Errors.{is_final}
-use Rattle.call_whys.specs.Below.CallTable.Decision.TheVariants as decisions
+use Rattle.call_whys.specs.Below.CallTable.DecisionVariants as decisions
 use Rattle.seat_programs.specs.declared.task.Op.{Op}
 use Rattle.seat_programs.specs.declared.task.Task.{Task}
 use Rattle.corr_core.specs.Word.{Parts, parts}

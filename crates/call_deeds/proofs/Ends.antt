@@ -9,7 +9,7 @@ use Rattle.sock_words.specs.declared.plain.Plan.{Plan}
 use Rattle.sock_words.specs.declared.socket_id.SocketId.{SocketId}
 use Rattle.sock_model.specs.declared.view.View.{View}
 use Rattle.call_places.specs.Below.SockRule.SockHome.{SockHome}
-use Rattle.call_places.specs.Below.SockTable.Noted.TheVariants as noted
+use Rattle.call_places.specs.Below.SockTable.NotedVariants as noted
 use Rattle.seat_programs.specs.declared.task.Task.{Task}
 use Rattle.call_places.specs.Below.RpcClient.Held.{Held}
 use Rattle.call_places.specs.Below.RpcClient.Running.{GaveFirst}

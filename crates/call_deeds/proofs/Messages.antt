@@ -14,7 +14,7 @@ use Rattle.call_places.specs.Below.SockRule.Letter.{Letter}
 use Rattle.call_places.specs.Below.SockTable.Named.{Found}
 use Rattle.call_places.specs.Below.SockTable.SockRef.{SockRef}
 use Rattle.call_places.specs.Below.WriteChain.Refused.{Refused}
-use Rattle.call_places.specs.Below.WriteChain.Refused.TheVariants as refused
+use Rattle.call_places.specs.Below.WriteChain.RefusedVariants as refused
 use Rattle.corr_core.specs.declared.marks.Plan as id_plan
 use Rattle.call_places.specs.Below.RpcClient.Sending.{SeenThrough, DeliveredBy as Delivered}
 use Rattle.call_places.specs.Below.CallErrors.Books.{CallStand}

@@ -12,14 +12,14 @@ use Rattle.corr_core.specs.declared.marks.Plan as id_plan
 use Rattle.seat_programs.specs.declared.task.Op.TheVariants as ops
 use Rattle.seat_programs.specs.declared.task.Task.{Task}
 use Rattle.call_places.specs.Below.SockRule.SockHome.{SockHome}
-use Rattle.call_places.specs.Below.SockTable.Noted.TheVariants as noted
+use Rattle.call_places.specs.Below.SockTable.NotedVariants as noted
 use Rattle.call_places.specs.Below.SockTable.Named.{NotedAs}
 use Rattle.call_places.specs.Below.RpcReader.Books.{Books}
 use Rattle.call_places.specs.Below.RpcReader.Failing.{OpenedBy, SetOnce}
 use Rattle.call_places.specs.Below.RpcReader.Reading.{code_of}
 use Rattle.call_places.specs.Below.RpcReader.Running.{fails, is_starved, FailedIf, ReadIf, RanBy}
 use Rattle.call_places.specs.Below.RpcReader.How.{How}
-use Rattle.call_places.specs.Below.RpcReader.How.TheVariants as how
+use Rattle.call_places.specs.Below.RpcReader.HowVariants as how
 use Rattle.call_places.specs.sock_deeds.specs.Deeds.{Did, looks, takes, misses, sets, returns, DoneBy, Deed, Chain}
 use Rattle.call_places.specs.sock_deeds.specs.Runs.{IsOperation, IsReaderCode, DidRead, had_none, left_it, missed_it, set_it, did_in, ReaderSeat}
 use Rattle.call_places.specs.sock_deeds.proofs.Ending.{still_none_later}

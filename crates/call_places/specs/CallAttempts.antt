@@ -2,6 +2,7 @@
 pub use Rattle.call_run.specs.call_client.specs.call_attempts.specs.Attempting
 pub use Rattle.call_run.specs.call_client.specs.call_attempts.specs.Both
 pub use Rattle.call_run.specs.call_client.specs.call_attempts.specs.declared.calling.Called
+pub use Rattle.call_run.specs.call_client.specs.call_attempts.specs.declared.calling.Called.TheVariants as CalledVariants
 pub use Rattle.call_run.specs.call_client.specs.call_attempts.specs.Calling
 pub use Rattle.call_run.specs.call_client.specs.call_attempts.specs.Letters
 pub use Rattle.call_run.specs.call_client.specs.call_attempts.specs.Retrying

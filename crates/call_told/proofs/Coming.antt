@@ -24,7 +24,7 @@ use Rattle.corr_id.specs.Calls.{slot_of, version_of, one}
 use Rattle.call_deeds.specs.Below.RpcClient.Told.{Told}
 use Rattle.call_deeds.specs.Below.RpcClient.Running.{telling}
 use Rattle.call_deeds.specs.Below.CallAttempts.Both.{Both}
-use Rattle.call_deeds.specs.Below.CallAttempts.Called.TheVariants as called
+use Rattle.call_deeds.specs.Below.CallAttempts.CalledVariants as called
 use Rattle.call_deeds.specs.Below.CallAttempts.Calling.{CalledBy}
 use Rattle.call_deeds.specs.Below.CallClient.Caller.{Caller}
 use Rattle.call_deeds.specs.Below.CallClient.Acting.{Stand, stand, both_of, Acted}

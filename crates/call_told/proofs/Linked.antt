@@ -4,7 +4,7 @@ use Rattle.brpc_model.specs.Frame as model
 use Rattle.corr_core.specs.declared.marks.Plan as ids
 use Rattle.sock_io.specs.Link.{InState}
 use Rattle.call_deeds.specs.Below.RpcReader.How.{How}
-use Rattle.call_deeds.specs.Below.RpcReader.How.TheVariants as how
+use Rattle.call_deeds.specs.Below.RpcReader.HowVariants as how
 use Rattle.call_deeds.specs.Below.RpcReader.Books.{Books}
 use Rattle.call_deeds.specs.Below.RpcReader.Reading.{code_of}
 use Rattle.call_deeds.specs.Below.RpcReader.Running.{ReadLink}

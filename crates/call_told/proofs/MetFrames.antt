@@ -23,7 +23,7 @@ use Rattle.call_deeds.specs.Below.RpcReader.Reading.{code_of, EndsBy}
 use Rattle.call_deeds.specs.Below.RpcReader.Taking.{bytes_of}
 use Rattle.call_deeds.specs.Below.RpcReader.Running.{throws, ReadLink}
 use Rattle.call_deeds.specs.Below.RpcReader.How.{How}
-use Rattle.call_deeds.specs.Below.RpcReader.How.TheVariants as how
+use Rattle.call_deeds.specs.Below.RpcReader.HowVariants as how
 use Rattle.corr_core.specs.Word.{parts}
 use Rattle.corr_core.specs.Law.{total, is_ended}
 use Rattle.corr_core.specs.declared.marks.Note.{Note}

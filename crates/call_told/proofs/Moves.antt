@@ -45,7 +45,7 @@ use Rattle.call_deeds.specs.Below.CallErrors.Asking.{found_id, TimedOut, Expired
 use Rattle.call_deeds.specs.Below.CallWrites.Draining.{ToldDrop, of_send, of_call, DroppedAll, Drained}
 use Rattle.call_deeds.specs.Below.CallWrites.Draining as draining
 use Rattle.call_deeds.specs.Below.CallWrites.Sending.{DeliveredCalling, SentCalling}
-use Rattle.call_deeds.specs.Below.CallAttempts.Called.TheVariants as called
+use Rattle.call_deeds.specs.Below.CallAttempts.CalledVariants as called
 use Rattle.call_deeds.specs.Below.CallAttempts.Both.{Both}
 use Rattle.call_deeds.specs.Below.CallAttempts.Attempting.{code_for, DeliveredBy, went_out, came_back, AttemptedBy, nowhere, over_link}
 use Rattle.call_deeds.specs.Below.CallAttempts.Calling.{MadeFor, CalledBy}

@@ -17,7 +17,7 @@ use Rattle.corr_id.specs.declared.calls.IdLock.{IdLock}
 use Rattle.corr_id.specs.declared.posts.Posted.{Posted}
 use Rattle.corr_id.specs.declared.posts.Posted.TheVariants.{Locked as HasLock}
 use Rattle.corr_id.specs.Calls.{slot_of, version_of, one}
-use Rattle.call_told.specs.Below.CallTable.Decision.TheVariants as decisions
+use Rattle.call_told.specs.Below.CallTable.DecisionVariants as decisions
 use Rattle.call_told.specs.Below.CallErrors.Books.{Books, CallStand, starving, Tells, told, lost}
 use Rattle.call_told.specs.Below.CallErrors.Ending.{EndedWith, failed}
 use Rattle.call_told.specs.Below.CallErrors.Handling.{Decided, decision}

@@ -50,7 +50,7 @@ use Rattle.failed_reasons.specs.Below.CallErrors.Asking.{found_id, outcome_by, T
 use Rattle.failed_reasons.specs.Below.CallWrites.Draining.{ToldDrop, of_send, of_call, DroppedOne, DroppedAll, Drained}
 use Rattle.failed_reasons.specs.Below.CallWrites.Draining as draining
 use Rattle.failed_reasons.specs.Below.CallWrites.Sending.{DeliveredCalling, SentCalling}
-use Rattle.failed_reasons.specs.Below.CallAttempts.Called.TheVariants as called
+use Rattle.failed_reasons.specs.Below.CallAttempts.CalledVariants as called
 use Rattle.failed_reasons.specs.Below.CallAttempts.Both.{Both}
 use Rattle.failed_reasons.specs.Below.CallAttempts.Attempting.{code_for, DeliveredBy, went_out, came_back, AttemptedBy, nowhere, over_link}
 use Rattle.failed_reasons.specs.Below.CallAttempts.Calling.{CalledBy}

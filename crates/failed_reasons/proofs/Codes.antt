@@ -13,7 +13,7 @@ use Rattle.seat_programs.specs.declared.task.Op.{Op}
 use Rattle.seat_programs.specs.declared.task.Op.TheVariants as ops
 use Rattle.corr_core.specs.declared.marks.Plan as id_plan
 use Rattle.attempts_told.specs.Below.WriteChain.Refused.{Refused}
-use Rattle.attempts_told.specs.Below.WriteChain.Refused.TheVariants as refusal
+use Rattle.attempts_told.specs.Below.WriteChain.RefusedVariants as refusal
 use Rattle.attempts_told.specs.Below.CallErrors.Retry.{Retry}
 use Rattle.attempts_told.specs.Below.CallAttempts.Both.{Both}
 use Rattle.attempts_told.specs.Below.CallAttempts.Attempting.{code_for, DeliveredBy, went_out, came_back, AttemptedBy, nowhere, over_link}

@@ -25,7 +25,7 @@ use Rattle.seat_programs.specs.declared.task.Op.TheVariants as ops
 use Rattle.corr_core.specs.declared.marks.Plan as id_plan
 use Rattle.sock_message.specs.Asked.{Asked, name_of}
 use Rattle.attempts_told.specs.Below.WriteChain.Refused.{Refused}
-use Rattle.attempts_told.specs.Below.WriteChain.Refused.TheVariants as refusal
+use Rattle.attempts_told.specs.Below.WriteChain.RefusedVariants as refusal
 use Rattle.attempts_told.specs.Below.CallAttempts.Both.{Both}
 use Rattle.attempts_told.specs.Below.CallAttempts.Attempting.{code_for, CameBack, DeliveredBy, went_out, came_back, AttemptedBy, nowhere, over_link}
 use Rattle.attempts_told.specs.Below.CallAttempts.Letters.{letter_for}

@@ -26,7 +26,7 @@ use Rattle.corr_id.proofs.Seats.{notes_append, total_append}
 use Rattle.attempts_told.specs.Below.RpcReader.Books.{Books}
 use Rattle.attempts_told.specs.Below.RpcReader.Posting.{attempt_at}
 use Rattle.attempts_told.specs.Below.RpcReader.How.{How}
-use Rattle.attempts_told.specs.Below.RpcReader.How.TheVariants as how
+use Rattle.attempts_told.specs.Below.RpcReader.HowVariants as how
 use Rattle.attempts_told.specs.Below.RpcReader.Reading as reading
 use Rattle.attempts_told.specs.Below.RpcReader.Running.{is_starved, ReadLink, ReadIf}
 use Rattle.attempts_told.specs.Below.RpcReader.Resting.{RestEnded}

@@ -37,7 +37,7 @@ use Rattle.corr_core.specs.declared.marks.View.{View}
 use Rattle.sock_message.specs.Asked.{Asked, name_of}
 use Rattle.corr_id.specs.Closing.{Closing}
 use Rattle.failed_ends.specs.Below.RpcClient.Told.{Told}
-use Rattle.failed_ends.specs.Below.WriteChain.Refused.TheVariants as refused
+use Rattle.failed_ends.specs.Below.WriteChain.RefusedVariants as refused
 use Rattle.failed_ends.specs.Below.CallAttempts.Both.{Both}
 use Rattle.failed_ends.specs.Below.CallAttempts.Attempting.{DeliveredBy, went_out, came_back, AttemptedBy, nowhere, over_link}
 use Rattle.failed_ends.specs.Below.CallAttempts.Letters.{letter_for}
