@@ -18,11 +18,11 @@ pub struct Finished<O: Out, I: In, P: Peer> {
 }
 
 /// The word of this number among the place words; 0 where the words end before it.
-fn word_at(plan: &Plan, words: &[u64], number: usize) -> u64
+fn word_at(plan: &Plan, words: &[u64], number: u32) -> u64
     requires { number < 8 * plan.now.operations }
     ensures { result ≡ slice_index words.now (place_index plan.now number) }
 {
-    let index = place_index(plan, number as u32);
+    let index = place_index(plan, number);
     if index < words.len() { words[index] } else { 0 }
 }
 
@@ -32,7 +32,7 @@ pub fn gather_places(places: &mut Vec<PlaceWord>, plan: &Plan, words: &[u64])
     requires room { 8 * plan.now.operations ≤ vec_capacity places.old }
     ensures { places.new.items ≡ place_words plan.now words.now }
 {
-    let count = 8 * plan.operations as usize;
+    let count = 8 * u32::from(plan.operations);
     for number in 0..count {
         places.push_reserved(PlaceWord(word_at(plan, words, number)));
     }
