@@ -15,10 +15,10 @@ compare_exchange-found-requires g c = let a = c.requires.seat in (
 )
 
 pub returns-clause-view : goal.returns-clause-view
-returns-clause-view g c = rw c.recycle.ensures.found (c.compare_exchange-found.ensures.2 c.args.at refl).0
+returns-clause-view g c = rw c.recycle.ensures.found (c.compare_exchange-found.ensures.2 c.args.at c.ref_index-index.ensures).0
 
 pub returns-clause-seat : goal.returns-clause-seat
-returns-clause-seat g c = still_seat _ _ c.args.seat.now c.compare_exchange-found.new.seat _ c.requires.seat c.compare_exchange-found.ensures.0 ((c.compare_exchange-found.ensures.2 c.args.at refl).0) refl refl
+returns-clause-seat g c = still_seat _ _ c.args.seat.now c.compare_exchange-found.new.seat _ c.requires.seat c.compare_exchange-found.ensures.0 ((c.compare_exchange-found.ensures.2 c.args.at c.ref_index-index.ensures).0) refl refl
 
 pub returns-clause-alone : goal.returns-clause-alone
-returns-clause-alone g c = λ hit. (c.compare_exchange-found.ensures.2 c.args.at refl).1 (sym c.recycle.ensures.found ∙ hit)
+returns-clause-alone g c = λ hit. (c.compare_exchange-found.ensures.2 c.args.at c.ref_index-index.ensures).1 (sym c.recycle.ensures.found ∙ hit)
