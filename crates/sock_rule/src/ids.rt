@@ -21,6 +21,8 @@ impl<O: Out> RuleTable<O> {
         ensures seat { IsSeat self.now.table.shared.table_id self.now.plan seat.new }
         ensures view { PutAt (name_index self.now.plan name) (id.0 + 1) seat.old.me seat.new.me }
     {
+        // So an id of one of its slots is below 2^48.
+        prove!(self.plan.slots <= u16::MAX);
         let index = name_index(&self.plan, name);
         self.table.shared.store::<StoreId>(seat, index, id.0 + 1);
     }
@@ -46,6 +48,7 @@ impl<O: Out> RuleTable<O> {
         ensures seat { IsSeat self.now.table.shared.table_id self.now.plan seat.new }
         ensures noted { NotedBy self.now.plan operation (Some id) seat.old.me seat.new.me }
     {
+        prove!(self.plan.slots <= u16::MAX);
         let index = open_index(&self.plan, operation);
         self.table.shared.store::<StoreId>(seat, index, id.0 + 1);
     }

@@ -15,8 +15,8 @@ use Rattle.sock_rule.proofs.table.RuleTable.take_last_link.Goals as goal
 pub compare_exchange_with-requires : goal.compare_exchange_with-requires
 compare_exchange_with-requires g c = let a = c.requires.seat in let r = c.requires.recycled in (
   a.0,
-  omega (arith, c.args.self.now.sized, c.requires.slot),
-  lasts_said c.args.self.now.table.shared.key.plan c.args.self.now.table.shared.key.ways.list _ _ _ _ _ (a.1 ∙ sym c.args.self.now.planned) _ (subst (λ w. SaysWays w c.said-said.result) (sym c.args.self.now.keyed) c.said-said.ensures) (takes_last (shows_by c.args.self.now.table.shared.key) rose c.args.self.now.table.shared.key.plan _ _ _ (a.1 ∙ sym c.args.self.now.planned) a.2 c.args.at r.version c.args.link (subst (λ q. c.args.at < q.slots) (sym c.args.self.now.planned) c.requires.slot) r.recycled r.met (ap (total (carries c.args.link)) c.requires.empty)),
+  omega (arith, c.link_index.ensures, c.args.self.now.sized, c.requires.slot),
+  rw c.link_index.ensures (lasts_said c.args.self.now.table.shared.key.plan c.args.self.now.table.shared.key.ways.list _ _ _ _ _ (a.1 ∙ sym c.args.self.now.planned) _ (subst (λ w. SaysWays w c.said-said.result) (sym c.args.self.now.keyed) c.said-said.ensures) (takes_last (shows_by c.args.self.now.table.shared.key) rose c.args.self.now.table.shared.key.plan _ _ _ (a.1 ∙ sym c.args.self.now.planned) a.2 c.args.at r.version c.args.link (subst (λ q. c.args.at < q.slots) (sym c.args.self.now.planned) c.requires.slot) r.recycled r.met (ap (total (carries c.args.link)) c.requires.empty))),
 )
 
 pub take_link_home-requires-clause-seat : goal.take_link_home-requires-clause-seat
