@@ -9,6 +9,7 @@ ghost use Rattle.sock_rule.specs.Seated.{IsSeat};
 use crate::plays::{FindId, FindName, StoreId};
 use crate::table::{RuleTable, SockSeat};
 use sock_io::Out;
+use sock_model::{name_index, open_index};
 use sock_words::SocketId;
 
 impl<O: Out> RuleTable<O> {
@@ -20,7 +21,9 @@ impl<O: Out> RuleTable<O> {
         ensures seat { IsSeat self.now.table.shared.table_id self.now.plan seat.new }
         ensures view { PutAt (name_index self.now.plan name) (id.0 + 1) seat.old.me seat.new.me }
     {
-        let index = 6 * self.plan.slots as usize + name as usize;
+        // So an id of one of its slots is below 2^48.
+        prove!(self.plan.slots <= u16::MAX);
+        let index = name_index(&self.plan, name);
         self.table.shared.store::<StoreId>(seat, index, id.0 + 1);
     }
 
@@ -33,7 +36,7 @@ impl<O: Out> RuleTable<O> {
         ensures inside { result ≢ 0 → (result - 1) % 4294967296 < self.now.plan.slots }
         ensures stays { (k : ℕ) → get_elem? seat.old.me.0.found k ≡ some (name_index self.now.plan name) → result ≢ 0 }
     {
-        let index = 6 * self.plan.slots as usize + name as usize;
+        let index = name_index(&self.plan, name);
         self.table.shared.load::<FindName>(seat, index)
     }
 
@@ -45,7 +48,8 @@ impl<O: Out> RuleTable<O> {
         ensures seat { IsSeat self.now.table.shared.table_id self.now.plan seat.new }
         ensures noted { NotedBy self.now.plan operation (Some id) seat.old.me seat.new.me }
     {
-        let index = 6 * self.plan.slots as usize + self.plan.names as usize + operation as usize;
+        prove!(self.plan.slots <= u16::MAX);
+        let index = open_index(&self.plan, operation);
         self.table.shared.store::<StoreId>(seat, index, id.0 + 1);
     }
 
@@ -56,7 +60,7 @@ impl<O: Out> RuleTable<O> {
         ensures seat { IsSeat self.now.table.shared.table_id self.now.plan seat.new }
         ensures noted { NotedBy self.now.plan operation None seat.old.me seat.new.me }
     {
-        let index = 6 * self.plan.slots as usize + self.plan.names as usize + operation as usize;
+        let index = open_index(&self.plan, operation);
         self.table.shared.store::<StoreId>(seat, index, u64::MAX);
     }
 
@@ -69,7 +73,7 @@ impl<O: Out> RuleTable<O> {
         ensures inside { result ≢ 0 → result ≢ NOTHING → (result - 1) % 4294967296 < self.now.plan.slots }
         ensures stays { (k : ℕ) → get_elem? seat.old.me.0.found k ≡ some (open_index self.now.plan operation) → result ≢ 0 }
     {
-        let index = 6 * self.plan.slots as usize + self.plan.names as usize + operation as usize;
+        let index = open_index(&self.plan, operation);
         self.table.shared.load::<FindId>(seat, index)
     }
 }

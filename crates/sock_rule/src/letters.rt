@@ -17,6 +17,7 @@ use crate::homes::{Letter, SockHome};
 use crate::plays::{ClaimRequest, Connect, FillHome, SwapHead, Unconnect};
 use crate::table::{RuleTable, SockSeat};
 use sock_io::Out;
+use sock_model::{head_index, link_index, request_index};
 use sock_words::{Step, Ticket};
 
 impl<O: Out> RuleTable<O> {
@@ -29,10 +30,7 @@ impl<O: Out> RuleTable<O> {
         ensures asked { Asked self.now.plan at result.found seat.old.me seat.new.me }
         ensures won { IsTrue result.won ↔ (result.found % 2 ≡ 0) }
     {
-        let index = 6 * self.plan.slots as usize
-            + self.plan.names as usize
-            + self.plan.operations as usize
-            + at as usize;
+        let index = request_index(&self.plan, at);
         let found = self.table.shared.fetch_or::<ClaimRequest>(seat, index, 1);
         chain_core::claim_request(found)
     }
@@ -58,7 +56,7 @@ impl<O: Out> RuleTable<O> {
             .shared
             .exchange(seat, home_index, SockHome::Message(msg));
         drop(old);
-        let index = 6 * slot as usize + 2;
+        let index = link_index(slot as u32);
         self.table.shared.load::<FillHome>(seat, index)
     }
 
@@ -82,7 +80,7 @@ impl<O: Out> RuleTable<O> {
         ensures seat { IsSeat self.now.table.shared.table_id self.now.plan seat.new }
         ensures view { (c : Claim) → Claims c seat.old.me.0 → Swapped c result.found seat.old.me seat.new.me }
     {
-        let index = 6 * at as usize + 3;
+        let index = head_index(at as u32);
         let found = self.table.shared.swap::<SwapHead>(seat, index, own.0);
         chain_core::swap_head(found, own)
     }

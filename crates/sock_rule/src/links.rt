@@ -15,6 +15,7 @@ use crate::homes::{LinkHome, SockHome};
 use crate::plays::{PutLink, SpendPass, TakeLast};
 use crate::table::{RuleTable, SockSeat};
 use sock_io::Out;
+use sock_model::link_index;
 
 impl<O: Out> RuleTable<O> {
     /// L1 of whoever recycled slot `at`, of the link of the life that ended.
@@ -29,7 +30,7 @@ impl<O: Out> RuleTable<O> {
     {
         let said = self.said();
         let shared = &self.table.shared;
-        shared.compare_exchange_with::<TakeLast>(seat, 6 * at as usize + 2, 0, 0, &said);
+        shared.compare_exchange_with::<TakeLast>(seat, link_index(at as u32), 0, 0, &said);
         drop(said);
         self.take_link_home(seat, link)
     }

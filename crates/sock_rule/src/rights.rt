@@ -21,6 +21,7 @@ use crate::plays::{
 };
 use crate::table::{RuleTable, SockSeat};
 use sock_io::Out;
+use sock_model::{head_index, link_index, ref_index, request_index};
 use sock_words::{PlaceWord, Step, Ticket};
 
 impl<O: Out> RuleTable<O> {
@@ -37,7 +38,7 @@ impl<O: Out> RuleTable<O> {
     {
         let said = self.said();
         let shared = &self.table.shared;
-        shared.compare_exchange_with::<TakeOwn>(seat, 6 * at as usize + 2, 0, 0, &said);
+        shared.compare_exchange_with::<TakeOwn>(seat, link_index(at as u32), 0, 0, &said);
         drop(said);
         self.take_link_home(seat, link)
     }
@@ -50,7 +51,7 @@ impl<O: Out> RuleTable<O> {
         ensures seat { IsSeat self.now.table.shared.table_id self.now.plan seat.new }
         ensures view { (r : Right) → Rights r seat.old.me.0 → seat.new.me ≡ (noting_fault at r.link seat.old.me.0, seat.old.me.1) }
     {
-        let index = 6 * at as usize + 2;
+        let index = link_index(at as u32);
         self.table.shared.load::<NoteFault>(seat, index);
     }
 
@@ -83,7 +84,7 @@ impl<O: Out> RuleTable<O> {
         ensures seat { IsSeat self.now.table.shared.table_id self.now.plan seat.new }
         ensures view { (r : Right) → Rights r seat.old.me.0 → LookedToWrite r at result.found seat.old.me seat.new.me }
     {
-        let index = 6 * at as usize + 1;
+        let index = ref_index(at as u32);
         let found = self.table.shared.load::<LookToWrite>(seat, index);
         ref_core::look_word(found)
     }
@@ -132,10 +133,7 @@ impl<O: Out> RuleTable<O> {
         ensures seat { IsSeat self.now.table.shared.table_id self.now.plan seat.new }
         ensures view { (r : Right) → Rights r seat.old.me.0 → seat.new.me ≡ (with_right seat.old.me.0 (freed_right r), rest seat.old.me.1) }
     {
-        let index = 6 * self.plan.slots as usize
-            + self.plan.names as usize
-            + self.plan.operations as usize
-            + now.request() as usize;
+        let index = request_index(&self.plan, now.request());
         let next = 2 * (now.generation() + 1);
         self.table.shared.store::<FreeRequest>(seat, index, next);
     }
@@ -177,7 +175,7 @@ impl<O: Out> RuleTable<O> {
         ensures seat { IsSeat self.now.table.shared.table_id self.now.plan seat.new }
         ensures view { (r : Right) → Rights r seat.old.me.0 → Emptied r last.0 result.found seat.old.me seat.new.me }
     {
-        let index = 6 * at as usize + 3;
+        let index = head_index(at as u32);
         let old = last.0;
         let new = old + 9_223_372_036_854_775_808;
         let found = self

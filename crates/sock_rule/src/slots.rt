@@ -11,6 +11,7 @@ ghost use Rattle.sock_rule.specs.Plays.{WordFits};
 use crate::plays::{AddRef, ClaimSlot, CreateLife, FreeSlot, LookWord, Recycle, SetOdd, SubRef};
 use crate::table::{RuleTable, SockSeat};
 use sock_io::Out;
+use sock_model::{ref_index, tag_index};
 use sock_words::{Step, Vref};
 
 impl<O: Out> RuleTable<O> {
@@ -22,7 +23,7 @@ impl<O: Out> RuleTable<O> {
         ensures view { seat.new.me ≡ (claimed at result.found seat.old.me.0, seat.old.me.1) }
         ensures won { IsTrue result.won ↔ (result.found ≡ 0) }
     {
-        let index = 6 * at as usize;
+        let index = tag_index(at as u32);
         let found = self.table.shared.swap::<ClaimSlot>(seat, index, 1);
         ref_core::claim_slot(found)
     }
@@ -37,7 +38,7 @@ impl<O: Out> RuleTable<O> {
         ensures step { result.next ≡ result.found + 1 }
         ensures fits { WordFits at result.found seat.old.me.0 }
     {
-        let index = 6 * at as usize + 1;
+        let index = ref_index(at as u32);
         let found = self.table.shared.fetch_add::<AddRef>(seat, index, 1);
         ref_core::add_ref(found)
     }
@@ -52,7 +53,7 @@ impl<O: Out> RuleTable<O> {
         ensures step { result.next ≡ result.found + 1 }
         ensures version { (version_of result.found ≤ 4294967292) × (version_of result.found % 2 ≡ 0) }
     {
-        let index = 6 * at as usize + 1;
+        let index = ref_index(at as u32);
         let found = self.table.shared.fetch_add::<CreateLife>(seat, index, 1);
         ref_core::birth(found)
     }
@@ -71,7 +72,7 @@ impl<O: Out> RuleTable<O> {
         ensures top { (0 < nref_of result.found) × (version_of result.found ≤ 4294967294) }
         ensures fits { WordFits at result.found seat.old.me.0 }
     {
-        let index = 6 * at as usize + 1;
+        let index = ref_index(at as u32);
         let found = self.table.shared.fetch_sub::<SubRef>(seat, index, 1);
         ref_core::sub_ref(found)
     }
@@ -86,7 +87,7 @@ impl<O: Out> RuleTable<O> {
         ensures view { seat.new.me ≡ (failed at result.found seat.old.me.0, seat.old.me.1) }
         ensures fits { WordFits at result.found seat.old.me.0 }
     {
-        let index = 6 * at as usize + 1;
+        let index = ref_index(at as u32);
         let found = self
             .table
             .shared
@@ -105,7 +106,7 @@ impl<O: Out> RuleTable<O> {
         ensures alone { result.found ≡ from.0 → marks_of is_busy at seat.old.me.0 ≡ 0 }
         ensures won { (result.found ≡ from.0 → result.won ≡ true) × (result.found ≢ from.0 → result.won ≡ false) }
     {
-        let index = 6 * at as usize + 1;
+        let index = ref_index(at as u32);
         let old = from.0;
         let shared = &self.table.shared;
         let found = shared.compare_exchange::<Recycle>(seat, index, old, old + 4_294_967_296);
@@ -121,7 +122,7 @@ impl<O: Out> RuleTable<O> {
         ensures seat { IsSeat self.now.table.shared.table_id self.now.plan seat.new }
         ensures view { seat.new.me ≡ (freed at seat.old.me.0, seat.old.me.1) }
     {
-        let index = 6 * at as usize;
+        let index = tag_index(at as u32);
         self.table.shared.store::<FreeSlot>(seat, index, 0);
     }
 
@@ -133,7 +134,7 @@ impl<O: Out> RuleTable<O> {
         ensures view { seat.new.me ≡ (looked at result.found seat.old.me.0, seat.old.me.1) }
         ensures fits { WordFits at result.found seat.old.me.0 }
     {
-        let index = 6 * at as usize + 1;
+        let index = ref_index(at as u32);
         let found = self.table.shared.load::<LookWord>(seat, index);
         ref_core::look_word(found)
     }

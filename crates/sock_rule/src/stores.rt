@@ -7,6 +7,7 @@ ghost use Rattle.sock_rule.specs.Seated.{IsSeat};
 use crate::plays::{ClearCode, MeetLast, MeetLink, ReadCode, ResetHead, StoreCode, StoreLink};
 use crate::table::{RuleTable, SockSeat};
 use sock_io::Out;
+use sock_model::{code_index, head_index, link_index};
 
 impl<O: Out> RuleTable<O> {
     /// S1: the claimed slot gets the link of a pass, which is spent.
@@ -18,7 +19,7 @@ impl<O: Out> RuleTable<O> {
         ensures seat { IsSeat self.now.table.shared.table_id self.now.plan seat.new }
         ensures view { seat.new.me ≡ (linked at link seat.old.me.0, seat.old.me.1) }
     {
-        let index = 6 * at as usize + 2;
+        let index = link_index(at as u32);
         self.table
             .shared
             .store::<StoreLink>(seat, index, link as u64);
@@ -34,7 +35,7 @@ impl<O: Out> RuleTable<O> {
         ensures same { (h k : ℕ) → 0 < marks_of (is_hold h) at seat.old.me.0 → 0 < marks_of (is_met h k) at seat.old.me.0 → result ≡ k }
         ensures inside { result < self.now.plan.links }
     {
-        let index = 6 * at as usize + 2;
+        let index = link_index(at as u32);
         self.table.shared.load::<MeetLink>(seat, index)
     }
 
@@ -47,7 +48,7 @@ impl<O: Out> RuleTable<O> {
         ensures view { (w : ℕ) → 0 < marks_of (is_recycled w) at seat.old.me.0 → seat.new.me ≡ (met_link at (w - 2) result seat.old.me.0, seat.old.me.1) }
         ensures inside { result < self.now.plan.links }
     {
-        let index = 6 * at as usize + 2;
+        let index = link_index(at as u32);
         self.table.shared.load::<MeetLast>(seat, index)
     }
 
@@ -59,7 +60,7 @@ impl<O: Out> RuleTable<O> {
         ensures seat { IsSeat self.now.table.shared.table_id self.now.plan seat.new }
         ensures view { (k : ℕ) → 0 < marks_of (is_stage 1 k) at seat.old.me.0 → seat.new.me ≡ (staged at 1 k 2 seat.old.me.0, seat.old.me.1) }
     {
-        let index = 6 * at as usize + 3;
+        let index = head_index(at as u32);
         self.table
             .shared
             .store::<ResetHead>(seat, index, 9_223_372_036_854_775_808);
@@ -73,7 +74,7 @@ impl<O: Out> RuleTable<O> {
         ensures seat { IsSeat self.now.table.shared.table_id self.now.plan seat.new }
         ensures view { (k : ℕ) → 0 < marks_of (is_stage 2 k) at seat.old.me.0 → seat.new.me ≡ (staged at 2 k 3 seat.old.me.0, seat.old.me.1) }
     {
-        let index = 6 * at as usize + 4;
+        let index = code_index(at as u32);
         self.table.shared.store::<ClearCode>(seat, index, 0);
     }
 
@@ -87,7 +88,7 @@ impl<O: Out> RuleTable<O> {
         ensures seat { IsSeat self.now.table.shared.table_id self.now.plan seat.new }
         ensures view { (h : ℕ) → 0 < marks_of (is_coding h) at seat.old.me.0 → seat.new.me ≡ (coded at h code seat.old.me.0, seat.old.me.1) }
     {
-        let index = 6 * at as usize + 4;
+        let index = code_index(at as u32);
         self.table
             .shared
             .store::<StoreCode>(seat, index, code as u64);
@@ -103,7 +104,7 @@ impl<O: Out> RuleTable<O> {
         ensures same { (h d : ℕ) → 0 < marks_of (is_hold h) at seat.old.me.0 → 0 < marks_of (is_told h d) at seat.old.me.0 → result ≡ d }
         ensures small { result < 4096 }
     {
-        let index = 6 * at as usize + 4;
+        let index = code_index(at as u32);
         self.table.shared.load::<ReadCode>(seat, index)
     }
 }

@@ -6,10 +6,10 @@ use Rattle.sock_rule.proofs.Seating.{still_seat}
 use Rattle.sock_rule.proofs.table.RuleTable.free_slot.Goals as goal
 
 pub store-requires : goal.store-requires
-store-requires g c = let a = c.requires.seat in (a.0, omega (arith, c.args.self.now.sized, c.requires.slot), frees (shows_by c.args.self.now.table.shared.key) rose c.args.self.now.table.shared.key.plan _ _ _ (a.1 ∙ sym c.args.self.now.planned) a.2 c.args.at (subst (λ q. c.args.at < q.slots) (sym c.args.self.now.planned) c.requires.slot) c.requires.recycled.0 c.requires.recycled.1 c.requires.recycled.2 c.requires.empty)
+store-requires g c = let a = c.requires.seat in (a.0, omega (arith, c.tag_index-index.ensures, c.args.self.now.sized, c.requires.slot), rw c.tag_index-index.ensures (frees (shows_by c.args.self.now.table.shared.key) rose c.args.self.now.table.shared.key.plan _ _ _ (a.1 ∙ sym c.args.self.now.planned) a.2 c.args.at (subst (λ q. c.args.at < q.slots) (sym c.args.self.now.planned) c.requires.slot) c.requires.recycled.0 c.requires.recycled.1 c.requires.recycled.2 c.requires.empty))
 
 pub returns-clause-view : goal.returns-clause-view
-returns-clause-view g c = c.store.ensures.2 c.args.at refl
+returns-clause-view g c = c.store.ensures.2 c.args.at c.tag_index-index.ensures
 
 pub returns-clause-seat : goal.returns-clause-seat
-returns-clause-seat g c = still_seat _ _ c.args.seat.now c.store.new.seat _ c.requires.seat c.store.ensures.0 (c.store.ensures.2 c.args.at refl) refl refl
+returns-clause-seat g c = still_seat _ _ c.args.seat.now c.store.new.seat _ c.requires.seat c.store.ensures.0 (c.store.ensures.2 c.args.at c.tag_index-index.ensures) refl refl

@@ -6,7 +6,7 @@ use Rattle.sock_rule.proofs.Seating.{still_seat}
 use Rattle.sock_rule.proofs.table.RuleTable.look_word.Goals as goal
 
 pub load-found-requires : goal.load-found-requires
-load-found-requires g c = let a = c.requires.seat in (a.0, omega (arith, c.args.self.now.sized, c.requires.slot), looks (shows_by c.args.self.now.table.shared.key) rose c.args.self.now.table.shared.key.plan _ _ _ (a.1 ∙ sym c.args.self.now.planned) a.2 c.args.at (subst (λ q. c.args.at < q.slots) (sym c.args.self.now.planned) c.requires.slot))
+load-found-requires g c = let a = c.requires.seat in (a.0, omega (arith, c.ref_index-index.ensures, c.args.self.now.sized, c.requires.slot), rw c.ref_index-index.ensures (looks (shows_by c.args.self.now.table.shared.key) rose c.args.self.now.table.shared.key.plan _ _ _ (a.1 ∙ sym c.args.self.now.planned) a.2 c.args.at (subst (λ q. c.args.at < q.slots) (sym c.args.self.now.planned) c.requires.slot)))
 
 pub returns : goal.returns
-returns g c = let t = c.load-found.ensures.2 c.args.at refl in let s = c.look_word.ensures.step in record { seat = still_seat _ _ c.args.seat.now c.load-found.new.seat _ c.requires.seat c.load-found.ensures.0 t.0 refl refl; view = rw s.0 t.0; fits = rw s.0 t.1 }
+returns g c = let t = c.load-found.ensures.2 c.args.at c.ref_index-index.ensures in let s = c.look_word.ensures.step in record { seat = still_seat _ _ c.args.seat.now c.load-found.new.seat _ c.requires.seat c.load-found.ensures.0 t.0 refl refl; view = rw s.0 t.0; fits = rw s.0 t.1 }

@@ -6,7 +6,7 @@ use Rattle.sock_rule.proofs.Seating.{still_seat}
 use Rattle.sock_rule.proofs.table.RuleTable.sub_ref.Goals as goal
 
 pub fetch_sub-found-requires : goal.fetch_sub-found-requires
-fetch_sub-found-requires g c = let a = c.requires.seat in (a.0, omega (arith, c.args.self.now.sized, c.requires.slot), subs (shows_by c.args.self.now.table.shared.key) rose c.args.self.now.table.shared.key.plan _ _ _ (a.1 ∙ sym c.args.self.now.planned) a.2 c.args.at (subst (λ q. c.args.at < q.slots) (sym c.args.self.now.planned) c.requires.slot) c.requires.held c.requires.coded c.requires.rights)
+fetch_sub-found-requires g c = let a = c.requires.seat in (a.0, omega (arith, c.ref_index-index.ensures, c.args.self.now.sized, c.requires.slot), rw c.ref_index-index.ensures (subs (shows_by c.args.self.now.table.shared.key) rose c.args.self.now.table.shared.key.plan _ _ _ (a.1 ∙ sym c.args.self.now.planned) a.2 c.args.at (subst (λ q. c.args.at < q.slots) (sym c.args.self.now.planned) c.requires.slot) c.requires.held c.requires.coded c.requires.rights))
 
 pub returns : goal.returns
-returns g c = let t = c.fetch_sub-found.ensures.2.2 c.args.at refl in let s = c.sub_ref.ensures.step in record { seat = still_seat _ _ c.args.seat.now c.fetch_sub-found.new.seat _ c.requires.seat c.fetch_sub-found.ensures.0 t.0 refl refl; view = rw s.0 t.0; step = rw s.0 s.1; more = rw s.0 t.2; top = rw s.0 (c.fetch_sub-found.ensures.2.0, c.fetch_sub-found.ensures.2.1); fits = rw s.0 t.1 }
+returns g c = let t = c.fetch_sub-found.ensures.2.2 c.args.at c.ref_index-index.ensures in let s = c.sub_ref.ensures.step in record { seat = still_seat _ _ c.args.seat.now c.fetch_sub-found.new.seat _ c.requires.seat c.fetch_sub-found.ensures.0 t.0 refl refl; view = rw s.0 t.0; step = rw s.0 s.1; more = rw s.0 t.2; top = rw s.0 (c.fetch_sub-found.ensures.2.0, c.fetch_sub-found.ensures.2.1); fits = rw s.0 t.1 }
