@@ -11,6 +11,7 @@ pub mod Meta
 pub mod Spelling
 pub mod Frame
 pub mod Stream
+pub mod ResponseOutcome
 pub mod FramesText
 pub mod Reply
 pub mod Link

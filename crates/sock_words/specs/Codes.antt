@@ -1,5 +1,5 @@
 -- The codes of errors, by bRPC's names.
-use Rattle.std.specs.Prelude.{ℕ}
+use Rattle.std.specs.Prelude.{ℕ, ◌==◌, Bool, ◌||◌}
 
 -- the time of the call is over
 abbrev pub ERPCTIMEDOUT : ℕ
@@ -24,3 +24,7 @@ ERESPONSE = 2002
 -- each request was found taken; this project's own
 abbrev pub EREQUESTS : ℕ
 EREQUESTS = 3001
+
+-- a code that ends a call whatever retries are left
+abbrev pub is_final : ℕ → Bool
+is_final code = (code == ERPCTIMEDOUT) || ((code == EEOF) || ((code == EINTERNAL) || (code == ERESPONSE)))
