@@ -25,9 +25,15 @@ use Rattle.seat_programs.specs.Calls.{Call, AddRef, LoadName, LoadOpen, TakeLink
 use Rattle.seat_programs.specs.Heads.{Retry, Decides, Locks, Reads, Discards}
 use Rattle.seat_programs.specs.Programs.{Program, Do, Say, Sent, Rest, TakeMessage, TakeHome, PutHome, PutBytes, AskReady, Write, Aside, Round, Keep, Retries, NO_SOCKET}
 use Rattle.seat_programs.specs.Readers.{room_of, took, discarded, read, reader}
-use Rattle.seat_programs.specs.Cores.{Core, SeatState, word_of, found_at, resolved, next_step, waiting_at, with_seat}
+use Rattle.seat_programs.specs.Cores.{Core, SeatState, found_at, resolved, next_step, waiting_at, with_seat}
+use Rattle.seat_programs.specs.StepTables.{word_of}
 use Rattle.seat_programs.specs.Ticks.{Answer, Moment, IsAnswer, IsAnswered, IsTaken, FitsTake, taken, with_found, step_with, tick_with, ticked}
-use Rattle.outcome_causes.specs.program_steps.specs.Rows.{row, is_id, found_id, by_right, new_claim, filled_claim, ready_claim, looked_clean}
+use Rattle.seat_programs.specs.StepTables.{row}
+use Rattle.seat_programs.specs.StepsOfNames.{is_id, found_id}
+use Rattle.seat_programs.specs.StepViews.{by_right}
+use Rattle.seat_programs.specs.StepsOfChain.{new_claim, ready_claim}
+use Rattle.seat_programs.specs.StepsOfMessages.{filled_claim}
+use Rattle.seat_programs.specs.StepsOfSlots.{looked_clean}
 use Rattle.outcome_causes.specs.program_steps.specs.Sound.{Sound, first_step, IsFitting, views_with, views_of, views_after}
 use Rattle.outcome_causes.specs.program_steps.proofs.Leaves.{claim_way}
 use Rattle.outcome_causes.specs.sock_runs.proofs.LinkTicks.{RetriesGo}
@@ -53,12 +59,12 @@ rights_none p v found hand (ClaimRequest id q) no_ e = either_way (found % 2 == 
 rights_none p v found hand (PutMessage q heading bytes) no_ e = claim_way (λ (u : View). u.rights ≡ []) v.claims (λ c. with_claim v (filled_claim c heading bytes)) v e (λ c. e)
 rights_none p v found hand (Unconnect q) no_ e = claim_way (λ (u : View). u.rights ≡ []) v.claims (λ c. with_claim v (ready_claim c)) v e (λ c. e)
 rights_none p v found hand (SwapHead i own) no_ e = absurd (no_ i own refl)
-rights_none p v found hand (EmptyHead i last) no_ e = subst (λ l. (by_right l (Rattle.outcome_causes.specs.program_steps.specs.Rows.emptied last found v) v).rights ≡ []) (sym e) e
-rights_none p v found hand (ReadNext q) no_ e = subst (λ l. (by_right l (λ r. Rattle.outcome_causes.specs.program_steps.specs.Rows.read_next found v r r.stage) v).rights ≡ []) (sym e) e
-rights_none p v found hand (ReverseNext q value) no_ e = subst (λ l. (by_right l (λ r. Rattle.outcome_causes.specs.program_steps.specs.Rows.turned_next v r r.stage) v).rights ≡ []) (sym e) e
-rights_none p v found hand (FreeRequest q g) no_ e = subst (λ l. (by_right l (Rattle.outcome_causes.specs.program_steps.specs.Rows.freed_next v) v).rights ≡ []) (sym e) e
-rights_none p v found hand (StorePlace l k n) no_ e = subst (λ xs. (by_right xs (λ r. Rattle.outcome_causes.specs.program_steps.specs.Rows.placed_next v r r.stage) v).rights ≡ []) (sym e) e
-rights_none p v found hand (DropPlace l k n) no_ e = subst (λ xs. (by_right xs (λ r. Rattle.outcome_causes.specs.program_steps.specs.Rows.dropped_next v r r.stage) v).rights ≡ []) (sym e) e
+rights_none p v found hand (EmptyHead i last) no_ e = subst (λ l. (by_right l (Rattle.seat_programs.specs.StepsOfChain.emptied last found v) v).rights ≡ []) (sym e) e
+rights_none p v found hand (ReadNext q) no_ e = subst (λ l. (by_right l (λ r. Rattle.seat_programs.specs.StepsOfChain.read_next found v r r.stage) v).rights ≡ []) (sym e) e
+rights_none p v found hand (ReverseNext q value) no_ e = subst (λ l. (by_right l (λ r. Rattle.seat_programs.specs.StepsOfChain.turned_next v r r.stage) v).rights ≡ []) (sym e) e
+rights_none p v found hand (FreeRequest q g) no_ e = subst (λ l. (by_right l (Rattle.seat_programs.specs.StepsOfChain.freed_next v) v).rights ≡ []) (sym e) e
+rights_none p v found hand (StorePlace l k n) no_ e = subst (λ xs. (by_right xs (λ r. Rattle.seat_programs.specs.StepsOfPlaces.placed_next v r r.stage) v).rights ≡ []) (sym e) e
+rights_none p v found hand (DropPlace l k n) no_ e = subst (λ xs. (by_right xs (λ r. Rattle.seat_programs.specs.StepsOfPlaces.dropped_next v r r.stage) v).rights ≡ []) (sym e) e
 rights_none p v found hand _ no_ e = e
 
 -- who gets a reference to a life holds it

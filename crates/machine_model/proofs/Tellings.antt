@@ -17,7 +17,8 @@ use Rattle.seat_programs.specs.Posts.{ends_call, end_id, unlocked, is_first, is_
 use Rattle.seat_programs.specs.Calls as calls
 use Rattle.seat_programs.specs.Writings as heads
 use Rattle.seat_programs.specs.Programs.{Program, Do, TakeMessage, TakeHome, PutHome, PutBytes, Write, Aside, Round}
-use Rattle.seat_programs.specs.Cores.{Core, word_of, found_at}
+use Rattle.seat_programs.specs.Cores.{Core, found_at}
+use Rattle.seat_programs.specs.StepTables.{word_of}
 use Rattle.seat_programs.specs.Ticks.{Answer, Unasked, OfPut, OfReady, waits_at}
 use Rattle.seat_programs.specs.Runs.{kind_in}
 use Rattle.call_slots.specs.Steps.{word_found}

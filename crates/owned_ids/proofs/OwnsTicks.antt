@@ -30,7 +30,8 @@ use Rattle.seat_programs.specs.Posts.{packed, advance_of, ends_call}
 use Rattle.seat_programs.specs.Sends.{block}
 use Rattle.seat_programs.specs.Rounds.{round}
 use Rattle.seat_programs.specs.Beside.{found_in, calls_after, call_at, more_given}
-use Rattle.seat_programs.specs.Cores.{Calls, Core, SeatState, word_of, found_at, resolved, next_step, waiting_at, with_seat}
+use Rattle.seat_programs.specs.Cores.{Calls, Core, SeatState, found_at, resolved, next_step, waiting_at, with_seat}
+use Rattle.seat_programs.specs.StepTables.{word_of}
 use Rattle.seat_programs.specs.Ticks.{Answer, OfPut, OfReady, Moment, taken, with_message, with_link, with_put, with_ready, with_found, step_with, tick_with, ticked}
 use Rattle.call_owing.specs.Below.id_runs.specs.Held.{IdView, one, HasOne, MayId}
 use Rattle.call_owing.specs.Below.id_runs.specs.Goes.{FitsRetryId, FindsId, IdGoesOn, SoundIds, FitsFirst, IsFittingIds}

@@ -14,8 +14,8 @@ use Rattle.seat_programs.specs.Posts.{packed, advance_of, is_first, is_sought, i
 use Rattle.seat_programs.specs.Readers.{answer, answered, responses, read_on, took, last_of, slot_in, version_in, has_response, ending_of, LIMIT}
 use Rattle.seat_programs.specs.Rounds.{round}
 use Rattle.seat_programs.specs.Sends.{tell_drop}
-use Rattle.program_steps.specs.Rows.{found_id}
-use Rattle.program_steps.specs.May.{FindsId}
+use Rattle.seat_programs.specs.StepsOfNames.{found_id}
+use Rattle.seat_programs.specs.StepsOfNames.{FindsId}
 use Rattle.program_steps.specs.Fits.{FitsMore, FitsWord, FitsTaken, FitsPosting, FitsUnlocking, FitsLocking, FitsEnded, FitsRetry}
 use Rattle.program_steps.specs.GoesOn.{GoesOn}
 

@@ -10,8 +10,9 @@ use Rattle.sock_model.specs.Deliveries.{place_value}
 use Rattle.seat_programs.specs.Calls.{Call, ClaimSlot, CreateLife, AddRef, SubRef, SetOdd, Recycle, FreeSlot, StoreLink, LoadLink, ResetHead, ClearCode, StoreCode, StoreName, LoadName, StoreOpen, LoadOpen, LookWord, FindLink, LoadCode, ClaimRequest, Unconnect, SwapHead, Connect, EmptyHead, ReadNext, ReverseNext, FreeRequest, StorePlace, DropPlace}
 use Rattle.seat_programs.specs.Heads.{Head, Retry, Opens}
 use Rattle.seat_programs.specs.Programs.{Program, Do, Say, Sent, Write, Round, Keep, Retries}
-use Rattle.seat_programs.specs.Cores.{word_of, word_after, found_at, words_after, next_step, resolved}
-use Rattle.sock_runs.specs.program_steps.specs.May.{May}
+use Rattle.seat_programs.specs.StepTables.{word_of, word_after}
+use Rattle.seat_programs.specs.Cores.{found_at, words_after, next_step, resolved}
+use Rattle.seat_programs.specs.StepTables.{May}
 use Rattle.sock_runs.specs.program_steps.specs.Sound.{first_step}
 use Rattle.sock_runs.specs.program_steps.proofs.AtCalls.{AtCalls, every_exit}
 

@@ -22,7 +22,7 @@ use Rattle.seat_programs.specs.Attempts.{begin_call, claim_id, call, expire_outc
 use Rattle.seat_programs.specs.Clients.{HeldLife, held_under, without_name, give_back, drop_of, operation, client_from, ending_of}
 use Rattle.seat_programs.specs.Scripts.{sizes_of}
 use Rattle.seat_programs.specs.Told.{AskedFits, OpFits, TaskFits}
-use Rattle.program_walks.specs.program_steps.specs.Rows.{row}
+use Rattle.seat_programs.specs.StepTables.{row}
 use Rattle.program_walks.specs.program_steps.specs.Lasts.{CHANGE, ERROR, POST, ACCEPT, weight, attempt_cost}
 use Rattle.runs_end.proofs.IdCosts.{lasts_more, judged_lasts, posted_lasts}
 use Rattle.runs_end.proofs.Costs.{Lasting, lasting_more, either_lasts, does, set_failed_lasts}

@@ -26,7 +26,7 @@ use Rattle.seat_programs.specs.Programs.{Program, Do, TakeMessage, TakeHome, Put
 use Rattle.seat_programs.specs.Cores.{Core, SeatState}
 use Rattle.seat_programs.specs.Ticks.{Answer, OfReady, OfTake, Moment, FitsTake, IsTaken, IsAnswer, IsAnswered, IsAlwaysReady, taken, with_found, step_with, tick_with, ticked, is_nothing, waits_at, waits}
 use Rattle.seat_programs.specs.Runs.{kind_in, IsAtRest}
-use Rattle.sock_runs.specs.program_steps.specs.Rows.{row, hand_at}
+use Rattle.seat_programs.specs.StepTables.{row, hand_at}
 use Rattle.sock_runs.specs.program_steps.specs.GoesOn.{GoesOn}
 use Rattle.sock_runs.specs.program_steps.specs.Sound.{Sound, FitsBeside, IsFitting, first_step, views_with, views_of, views_after}
 use Rattle.sock_runs.specs.program_steps.specs.Lasts.{STALE, accepted, expects, arriving, stale_cost, LastsFor, Lasts, IsCountedStep, IsCountedAt, IsCounted}

@@ -10,9 +10,10 @@ use Rattle.sock_model.specs.Memory.{IDLE}
 use Rattle.seat_programs.specs.Calls.{Call, ClaimSlot, CreateLife, AddRef, SubRef, SetOdd, Recycle, FreeSlot, StoreLink, LoadLink, ResetHead, ClearCode, StoreCode, StoreName, LoadName, StoreOpen, LoadOpen, TakeLink, FinishLink, PutLink, LookWord, FindLink, LoadCode, ClaimRequest, PutMessage, Unconnect, SwapHead, Connect, EmptyHead, ReadNext, ReverseNext, FreeRequest, StorePlace, DropPlace}
 use Rattle.seat_programs.specs.Programs.{Program, Do, TakeMessage, TakeHome, PutHome, PutBytes, AskReady}
 use Rattle.program_steps.proofs.Passes.{goes_round}
-use Rattle.seat_programs.specs.Cores.{Core, SeatState, word_of, found_at}
-use Rattle.program_steps.specs.Rows.{hand_at}
-use Rattle.program_steps.specs.May.{May, Finds}
+use Rattle.seat_programs.specs.Cores.{Core, SeatState, found_at}
+use Rattle.seat_programs.specs.StepTables.{word_of}
+use Rattle.seat_programs.specs.StepTables.{hand_at}
+use Rattle.seat_programs.specs.StepTables.{May, Finds}
 use Rattle.program_steps.specs.GoesOn.{GoesOn}
 use Rattle.program_steps.specs.Sound.{state, Sound, AllowsWord, AllowsMove, Allows, AllowsStep, AreFew, MOST_PLACES, first_step}
 use Rattle.sock_runs.proofs.HandTicks.{taking}

@@ -48,10 +48,19 @@ use Rattle.sock_steps.proofs.WalkSteps.{passing_law, reading_law, emptied_law, w
 use Rattle.sock_steps.proofs.WriteSteps.{freeing_law, retiring_law, placing_law, dropping_law}
 use Rattle.sock_steps.proofs.RightSteps.{right_in, right_alone}
 use Rattle.seat_programs.specs.Calls.{LookWord, FindLink, LoadCode, ClaimRequest, PutMessage, Unconnect, SwapHead, Connect, EmptyHead, ReadNext, ReverseNext, FreeRequest, StorePlace, DropPlace}
-use Rattle.seat_programs.specs.Cores.{word_after, homes_after}
+use Rattle.seat_programs.specs.StepTables.{word_after}
+use Rattle.seat_programs.specs.Cores.{homes_after}
 use Rattle.seat_programs.specs.Programs.{LAST_GENERATION}
-use Rattle.program_steps.specs.Rows.{row, hand_at, as_hand, by_claim, by_right, new_claim, filled_claim, ready_claim, exchanged, looked_clean, emptied, settled_stage, settled, read_next, turned_next, freed_stage, freed_next, placed_next, dropped_next}
-use Rattle.program_steps.specs.May.{May, HoldsLife, FoundFailed}
+use Rattle.seat_programs.specs.StepTables.{row, hand_at}
+use Rattle.seat_programs.specs.StepsOfLinks.{as_hand}
+use Rattle.seat_programs.specs.StepViews.{by_claim, by_right, settled_stage, settled}
+use Rattle.seat_programs.specs.StepsOfChain.{new_claim, ready_claim, exchanged, emptied, read_next, turned_next, freed_stage, freed_next}
+use Rattle.seat_programs.specs.StepsOfMessages.{filled_claim}
+use Rattle.seat_programs.specs.StepsOfSlots.{looked_clean}
+use Rattle.seat_programs.specs.StepsOfPlaces.{placed_next, dropped_next}
+use Rattle.seat_programs.specs.StepTables.{May}
+use Rattle.seat_programs.specs.StepViews.{HoldsLife}
+use Rattle.seat_programs.specs.StepsOfPlaces.{FoundFailed}
 use Rattle.program_steps.proofs.Bounds.{law, lives_le, fits}
 use Rattle.sock_runs.proofs.SlotTicks.{KeepsWord}
 

@@ -16,9 +16,10 @@ use Rattle.sock_model.specs.References.{slot_facts}
 use Rattle.sock_steps.specs.slot_steps.proofs.Numbers.{life_is, or-even, or-odd}
 use Rattle.sock_steps.proofs.Places.{own_count}
 use Rattle.seat_programs.specs.Calls.{Call, ClaimSlot, CreateLife, AddRef, SubRef, SetOdd, Recycle, FreeSlot, StoreLink, LoadLink, ResetHead, ClearCode, StoreCode, StoreName, LoadName, StoreOpen, LoadOpen, LookWord, FindLink, LoadCode, ClaimRequest, Unconnect, SwapHead, Connect, EmptyHead, ReadNext, ReverseNext, FreeRequest, StorePlace, DropPlace}
-use Rattle.seat_programs.specs.Cores.{Core, word_of, word_after, found_at, words_after}
-use Rattle.program_steps.specs.Rows.{hand_at}
-use Rattle.program_steps.specs.May.{May, Finds}
+use Rattle.seat_programs.specs.Cores.{Core, found_at, words_after}
+use Rattle.seat_programs.specs.StepTables.{word_of, word_after}
+use Rattle.seat_programs.specs.StepTables.{hand_at}
+use Rattle.seat_programs.specs.StepTables.{May, Finds}
 use Rattle.program_steps.specs.Sound.{state, Sound}
 use Rattle.program_steps.proofs.Bounds.{law, lives_le}
 use Rattle.sock_runs.proofs.Founds.{finds}
