@@ -16,6 +16,8 @@ use Rattle.sock_model.specs.Marks.{about, at}
 use Rattle.sock_model.specs.SlotRows.{marks_of, added, met, looked, told_code, met_link}
 use Rattle.sock_model.specs.Weights.{total, only, is_hold}
 use Rattle.sock_model.specs.ChainRows.{spent_hand, with_hand, with_claim}
+use Rattle.corr_core.specs.Word.{parts}
+use Rattle.corr_core.specs.Decisions.{ends_call}
 use Rattle.call_causes.specs.Below.programs_allowed.specs.slot_steps.proofs.Numbers.{only-same}
 use Rattle.call_causes.specs.Below.programs_allowed.specs.slot_steps.proofs.Sums.{about-here}
 use Rattle.run_theorems.specs.Below.sock_steps.proofs.Quiet.{either_way}
@@ -103,7 +105,7 @@ other_first : (program : Program) → taken_link program ≡ [] → IsOther (fir
 other_first (Aside (TakeBytes k room) next) none_ = absurd (no_link k none_)
 other_first (Round (Reads r) next) none_ = absurd (no_link r.link none_)
 other_first (Round (Discards k total) next) none_ = absurd (no_link k none_)
-other_first (Round (Decides id asked w e) next) none_ = either_way (Rattle.seat_programs.specs.Posts.ends_call (Rattle.corr_core.specs.Word.parts w) e) _ _ IsOther tt tt
+other_first (Round (Decides id asked w e) next) none_ = either_way (ends_call (parts w) e) _ _ IsOther tt tt
 other_first (Round (Locks i sought (Rattle.std.specs.Prelude.Some w)) next) none_ = tt
 other_first (Round (Locks i sought Rattle.std.specs.Prelude.None) next) none_ = tt
 other_first (Write (Rattle.seat_programs.specs.Writings.Puts h now heading left took put) after) none_ = tt

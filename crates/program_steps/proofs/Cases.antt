@@ -25,9 +25,10 @@ use Rattle.seat_programs.specs.Beside.{found_in, calls_after}
 use Rattle.program_steps.specs.Fits.{FitsFound}
 use Rattle.seat_programs.specs.Sends.{block}
 use Rattle.seat_programs.specs.corr_core.specs.Word.{parts, code_of}
+use Rattle.seat_programs.specs.corr_core.specs.Decisions.{ends_call}
 use Rattle.seat_programs.specs.Asides.{PutCall, id_slot}
 use Rattle.seat_programs.specs.Heads.{HasEnded}
-use Rattle.seat_programs.specs.Posts.{ends_call, end_id, unlocked}
+use Rattle.seat_programs.specs.Posts.{end_id, unlocked}
 use Rattle.std.specs.Prelude.{if◌then◌else◌, ◌+◌, Some, None}
 use Rattle.seat_programs.specs.Cores.{Calls, Core, SeatState, found_at, lies_at, first_of, others_of, link_place, with_seat, stepped}
 use Rattle.seat_programs.specs.StepTables.{word_of}

@@ -15,9 +15,10 @@ use Rattle.seat_programs.specs.Writings.{Puts, Waits, Empties, Walks}
 use Rattle.std.specs.Prelude.{true, false, if◌then◌else◌, ◌+◌, None, Some}
 use Rattle.seat_programs.specs.Programs.{Program, Do, Say, Sent, Rest, TakeMessage, TakeHome, PutHome, PutBytes, AskReady, Write, Aside, Round, Keep, Retries}
 use Rattle.corr_core.specs.Word.{parts, code_of}
+use Rattle.corr_core.specs.Decisions.{ends_call}
 use Rattle.seat_programs.specs.Asides.{Step, Found, PutCall, id_slot}
 use Rattle.seat_programs.specs.Heads.{HasEnded, Posts, Unlocks, Decides, Locks, Joins, Opens, Reads, Discards}
-use Rattle.seat_programs.specs.Posts.{ends_call, end_id, unlocked}
+use Rattle.seat_programs.specs.Posts.{end_id, unlocked}
 use Rattle.seat_programs.specs.Beside.{found_in, calls_after}
 use Rattle.seat_programs.specs.Cores.{Core, SeatState, found_at, lies_at, first_of, others_of, link_place, with_seat, stepped}
 use Rattle.seat_programs.specs.StepTables.{word_of}
