@@ -2,7 +2,6 @@
 use Rattle.std.specs.Prelude.{ℕ, ◌≡◌, ◌<◌, Bool, true, false, not, IsTrue, nat_le, if◌then◌else◌, Option, Some, None}
 use Rattle.corr_core.specs.Word.{parts, code_of}
 use Rattle.corr_core.specs.Law.{LAST}
-use Rattle.corr_core.specs.Decisions.{ends_call}
 use Rattle.seat_programs.specs.Asides.{Step, FreeId, EndId, id_slot}
 use Rattle.seat_programs.specs.Heads.{Retry, Sought, Posts, Unlocks, Decides, Locks, Posting, Unlocking, Deciding, HasEnded, GoesOn, Locking}
 use Rattle.seat_programs.specs.Posts.{decide, end_id, post_with, unlocked}
