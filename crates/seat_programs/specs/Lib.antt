@@ -11,6 +11,7 @@ pub mod Attempts
 pub mod Readers
 pub mod Rounds
 pub mod Clients
+pub mod TableWords
 pub mod StepViews
 pub mod StepsOfSlots
 pub mod StepsOfNames

@@ -6,6 +6,7 @@ use Rattle.sock_model.specs.sock_words.specs.declared.plain.Plan.{Plan}
 use Rattle.sock_model.specs.declared.home.Home.{Home}
 use Rattle.sock_model.specs.declared.view.View.{View}
 use Rattle.sock_model.specs.declared.view.Hand.{Hand}
+use Rattle.seat_programs.specs.TableWords.{TableWord, index_of}
 use Rattle.seat_programs.specs.Calls.{Call, Family, Slots, Names, Chain, Places, Links, Messages, family_of}
 use Rattle.seat_programs.specs.StepsOfSlots.{slot_word, slot_after, SlotMay, SlotFinds, slot_row}
 use Rattle.seat_programs.specs.StepsOfNames.{name_word, name_after, NameMay, NameFinds, name_row}
@@ -14,16 +15,20 @@ use Rattle.seat_programs.specs.StepsOfPlaces.{place_word, place_after, PlaceMay,
 use Rattle.seat_programs.specs.StepsOfLinks.{as_hand, LinkMay, link_hand, LinkFinds, link_row}
 use Rattle.seat_programs.specs.StepsOfMessages.{MessageMay, message_row}
 
--- the index of the word that a step reads or changes; a move has none
-abbrev pub word_by : Family → Plan → Call → Option ℕ
+-- the word that a step reads or changes; a move has none
+abbrev pub word_by : Family → Call → Option TableWord
 word_by Slots = slot_word
 word_by Names = name_word
 word_by Chain = chain_word
 word_by Places = place_word
-word_by other = λ p call. none
+word_by other = λ call. none
 
+abbrev pub table_word : Call → Option TableWord
+table_word call = word_by (family_of call) call
+
+-- its index in the list of words
 abbrev pub word_of : Plan → Call → Option ℕ
-word_of p call = word_by (family_of call) p call
+word_of p call = index_of p (table_word call)
 
 -- the word after a step that found this word
 abbrev pub after_by : Family → Call → ℕ → ℕ

@@ -12,7 +12,7 @@ use Rattle.sock_model.specs.declared.chain.Stage.TheVariants.{Writes, Placed, Pa
 use Rattle.sock_model.specs.declared.home.Home.{Home}
 use Rattle.sock_model.specs.declared.view.View.{View}
 use Rattle.sock_model.specs.declared.view.Hand.{Hand}
-use Rattle.sock_model.specs.Layout.{link_index, head_index, request_index, next_index}
+use Rattle.sock_model.specs.Layout.{link_index}
 use Rattle.sock_model.specs.Entries.{slot_of, generation_of}
 use Rattle.sock_model.specs.Memory.{IDLE, UNCONNECTED}
 use Rattle.sock_model.specs.SlotRows.{met_link}
@@ -20,23 +20,24 @@ use Rattle.sock_model.specs.ChainRows.{with_claim, queued, righted, without_loos
 use Rattle.sock_model.specs.Reads.{link_home}
 use Rattle.sock_model.specs.Conditions.{MayExchange, MayEmpty, MayTurn}
 use Rattle.seat_programs.specs.Programs.{LAST_GENERATION}
+use Rattle.seat_programs.specs.TableWords.{TableWord, HeadOf, RequestOf, NextOf}
 use Rattle.seat_programs.specs.Calls.{Call, ClaimRequest, SwapHead, Connect, EmptyHead, ReadNext, ReverseNext, Unconnect, FreeRequest}
 use Rattle.seat_programs.specs.StepViews.{HoldsLife, Claims, FindsLink, by_claim, by_right, settled}
 use Rattle.seat_programs.specs.StepsOfLinks.{as_hand}
 
 -- ## The word
 
--- the index of the word that a step reads or changes
-abbrev pub chain_word : Plan → Call → Option ℕ
-chain_word p (ClaimRequest id q) = some (request_index p q)
-chain_word p (SwapHead i own) = some (head_index i)
-chain_word p (Connect q before) = some (next_index p q)
-chain_word p (EmptyHead i last) = some (head_index i)
-chain_word p (ReadNext q) = some (next_index p q)
-chain_word p (ReverseNext q value) = some (next_index p q)
-chain_word p (Unconnect q) = some (next_index p q)
-chain_word p (FreeRequest q g) = some (request_index p q)
-chain_word p other = none
+-- the word that a step reads or changes
+abbrev pub chain_word : Call → Option TableWord
+chain_word (ClaimRequest id q) = some (RequestOf q)
+chain_word (SwapHead i own) = some (HeadOf i)
+chain_word (Connect q before) = some (NextOf q)
+chain_word (EmptyHead i last) = some (HeadOf i)
+chain_word (ReadNext q) = some (NextOf q)
+chain_word (ReverseNext q value) = some (NextOf q)
+chain_word (Unconnect q) = some (NextOf q)
+chain_word (FreeRequest q g) = some (RequestOf q)
+chain_word other = none
 
 -- the word behind a step that found this one
 abbrev pub chain_after : Call → ℕ → ℕ

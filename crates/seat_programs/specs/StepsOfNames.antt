@@ -9,18 +9,19 @@ use Rattle.sock_model.specs.declared.view.Hand.{Hand}
 use Rattle.sock_model.specs.Layout.{name_index, open_index}
 use Rattle.sock_model.specs.SlotRows.{met, wrote}
 use Rattle.seat_programs.specs.Programs.{NO_SOCKET}
+use Rattle.seat_programs.specs.TableWords.{TableWord, NameOf, OpenOf}
 use Rattle.seat_programs.specs.Calls.{Call, StoreName, LoadName, StoreOpen, LoadOpen}
 use Rattle.seat_programs.specs.StepViews.{Knows}
 
 -- ## The word
 
--- the index of the word that a step reads or changes
-abbrev pub name_word : Plan → Call → Option ℕ
-name_word p (StoreName n w) = some (name_index p n)
-name_word p (LoadName n) = some (name_index p n)
-name_word p (StoreOpen o w) = some (open_index p o)
-name_word p (LoadOpen o) = some (open_index p o)
-name_word p other = none
+-- the word that a step reads or changes
+abbrev pub name_word : Call → Option TableWord
+name_word (StoreName n w) = some (NameOf n)
+name_word (LoadName n) = some (NameOf n)
+name_word (StoreOpen o w) = some (OpenOf o)
+name_word (LoadOpen o) = some (OpenOf o)
+name_word other = none
 
 -- the word behind a step that found this one
 abbrev pub name_after : Call → ℕ → ℕ

@@ -8,23 +8,23 @@ use Rattle.sock_model.specs.declared.chain.Stage.{Stage}
 use Rattle.sock_model.specs.declared.chain.Stage.TheVariants.{Writes}
 use Rattle.sock_model.specs.declared.view.View.{View}
 use Rattle.sock_model.specs.declared.view.Hand.{Hand}
-use Rattle.sock_model.specs.Layout.{place_index}
 use Rattle.sock_model.specs.Deliveries.{place_value}
 use Rattle.sock_model.specs.Weights.{is_saw}
 use Rattle.sock_model.specs.SlotRows.{marks_of}
 use Rattle.sock_model.specs.ChainRows.{with_right, placed_right, dropped_right}
 use Rattle.sock_model.specs.Links.{HoldsLink}
 use Rattle.sock_model.specs.Conditions.{MayPlace, MayDrop}
+use Rattle.seat_programs.specs.TableWords.{TableWord, PlaceOf}
 use Rattle.seat_programs.specs.Calls.{Call, StorePlace, DropPlace}
 use Rattle.seat_programs.specs.StepViews.{by_right, settled}
 
 -- ## The word
 
--- the index of the word that a step reads or changes
-abbrev pub place_word : Plan → Call → Option ℕ
-place_word p (StorePlace l k n) = some (place_index p l)
-place_word p (DropPlace l k n) = some (place_index p l)
-place_word p other = none
+-- the word that a step reads or changes
+abbrev pub place_word : Call → Option TableWord
+place_word (StorePlace l k n) = some (PlaceOf l)
+place_word (DropPlace l k n) = some (PlaceOf l)
+place_word other = none
 
 -- the word behind a step that found this one
 abbrev pub place_after : Call → ℕ → ℕ

@@ -8,36 +8,36 @@ use Rattle.sock_model.specs.sock_words.specs.Words.{socket_id_version, socket_id
 use Rattle.sock_model.specs.declared.chain.Right.{Right}
 use Rattle.sock_model.specs.declared.view.View.{View}
 use Rattle.sock_model.specs.declared.view.Hand.{Hand}
-use Rattle.sock_model.specs.Layout.{tag_index, ref_index, link_index, head_index, code_index}
 use Rattle.sock_model.specs.Memory.{IDLE}
 use Rattle.sock_model.specs.Weights.{total, only, is_ref, is_hold, is_zero, is_recycled, is_stage, is_coding, is_any_coding, is_busy, is_met, is_probe, is_saw}
 use Rattle.sock_model.specs.SlotRows.{marks_of, claimed, gave_birth, added, back, subbed, failed, recycled, freed, linked, staged, coded, met_link, looked, told_code}
 use Rattle.sock_model.specs.ChainRows.{with_right}
 use Rattle.sock_model.specs.Links.{HoldsLink}
 use Rattle.seat_programs.specs.Programs.{LAST_VERSION}
+use Rattle.seat_programs.specs.TableWords.{TableWord, TagOf, RefOf, LinkOf, HeadOf, CodeOf}
 use Rattle.seat_programs.specs.Calls.{Call, ClaimSlot, CreateLife, AddRef, SubRef, SetOdd, Recycle, FreeSlot, LookWord, StoreLink, LoadLink, FindLink, ResetHead, ClearCode, StoreCode, LoadCode}
 use Rattle.seat_programs.specs.StepViews.{Knows, HasRoom, HoldsLife, FindsLink, by_right}
 
 -- ## The word
 
--- the index of the word that a step reads or changes
-abbrev pub slot_word : Plan → Call → Option ℕ
-slot_word p (ClaimSlot i) = some (tag_index i)
-slot_word p (CreateLife i k) = some (ref_index i)
-slot_word p (AddRef id) = some (ref_index (socket_id_slot id))
-slot_word p (SubRef i) = some (ref_index i)
-slot_word p (SetOdd i) = some (ref_index i)
-slot_word p (Recycle i from) = some (ref_index i)
-slot_word p (FreeSlot i) = some (tag_index i)
-slot_word p (LookWord id) = some (ref_index (socket_id_slot id))
-slot_word p (StoreLink i k) = some (link_index i)
-slot_word p (LoadLink i w) = some (link_index i)
-slot_word p (FindLink i h) = some (link_index i)
-slot_word p (ResetHead i k) = some (head_index i)
-slot_word p (ClearCode i k) = some (code_index i)
-slot_word p (StoreCode i h c) = some (code_index i)
-slot_word p (LoadCode i h) = some (code_index i)
-slot_word p other = none
+-- the word that a step reads or changes
+abbrev pub slot_word : Call → Option TableWord
+slot_word (ClaimSlot i) = some (TagOf i)
+slot_word (CreateLife i k) = some (RefOf i)
+slot_word (AddRef id) = some (RefOf (socket_id_slot id))
+slot_word (SubRef i) = some (RefOf i)
+slot_word (SetOdd i) = some (RefOf i)
+slot_word (Recycle i from) = some (RefOf i)
+slot_word (FreeSlot i) = some (TagOf i)
+slot_word (LookWord id) = some (RefOf (socket_id_slot id))
+slot_word (StoreLink i k) = some (LinkOf i)
+slot_word (LoadLink i w) = some (LinkOf i)
+slot_word (FindLink i h) = some (LinkOf i)
+slot_word (ResetHead i k) = some (HeadOf i)
+slot_word (ClearCode i k) = some (CodeOf i)
+slot_word (StoreCode i h c) = some (CodeOf i)
+slot_word (LoadCode i h) = some (CodeOf i)
+slot_word other = none
 
 -- the word behind a step that found this one
 abbrev pub slot_after : Call → ℕ → ℕ
