@@ -24,8 +24,6 @@ use Rattle.refused_attempts.specs.Below.programs_allowed.specs.sock_runs.proofs.
 use Rattle.refused_attempts.specs.Below.programs_allowed.specs.program_steps.proofs.Cases.{goes_first}
 use Rattle.refused_attempts.specs.Below.programs_allowed.specs.sock_runs.proofs.LinksStay.{IsGiven, run_given}
 use Rattle.refused_attempts.specs.Below.programs_allowed.specs.sock_runs.proofs.LinkTicks.{RetriesGo}
-use Rattle.refused_attempts.specs.Below.programs_allowed.specs.program_steps.proofs.Passes.{goes_round}
-use Rattle.refused_attempts.specs.Below.programs_allowed.specs.program_steps.proofs.Rounds.{begins_round}
 use Rattle.refused_attempts.specs.Below.programs_allowed.specs.sock_runs.proofs.Ticks.{sound_ticks}
 use Rattle.refused_attempts.specs.Below.programs_allowed.specs.program_walks.proofs.Whole.{views_closed, views_ended, closed_sound}
 use Rattle.refused_attempts.specs.Below.joint_runs.proofs.Runs.{AreMade, first_views}
@@ -54,7 +52,7 @@ module _ (p : Plan) (base : Core) (L : ℕ → Type 0) where
     where
       by : (s : SeatState) (next : ℕ → Program) → get_elem? c.seats j ≡ some s → first_step s.program ≡ Do (DropPlace l k n) next → L k
       by s next at is = let v = at_some vs j (let i = place_inside c.seats j s at in let e = sound.each in omega (arith, i, e)) in let x = stands j s v.0 at v.1 in
-          drop_right x.0 v.0 x.2 l k n (subst (GoesOn p v.0) is (goes_first p v.0 (begins_round p v.0) (goes_round p v.0) s.program (sound.seats j s v.0 at v.1).goes_on)).0
+          drop_right x.0 v.0 x.2 l k n (subst (GoesOn p v.0) is (goes_first p v.0 s.program (sound.seats j s v.0 at v.1).goes_on)).0
 
   pub drops_late : RetriesGo p → (ms : List Moment) (c : Core) (vs : List View) → Sound p c vs → AreAnswered p c ms → AreFitting p c ms → ((i h k : ℕ) → i < p.slots → IsGiven (run p c ms) (views_along p c vs ms) i h k → Old i h ⊎ L k)
       → Lives p base Any c vs → AllStand p L Old c vs → (j l k n found : ℕ) → DidIn p c ms j (DidStep (DropPlace l k n) found) → L k

@@ -36,11 +36,9 @@ use Rattle.refused_attempts.specs.Below.programs_allowed.specs.sock_runs.proofs.
 use Rattle.refused_attempts.specs.Below.programs_allowed.specs.sock_runs.proofs.LinksStay.{IsGiven, run_given}
 use Rattle.refused_attempts.specs.Below.programs_allowed.specs.sock_runs.proofs.LinkTicks.{RetriesGo}
 use Rattle.refused_attempts.specs.Below.programs_allowed.specs.sock_runs.proofs.Notes.{bears}
-use Rattle.refused_attempts.specs.Below.programs_allowed.specs.program_steps.proofs.Passes.{goes_round}
 use Rattle.refused_attempts.specs.Below.programs_allowed.specs.sock_runs.proofs.Quiets.{run_seats}
 use Rattle.refused_attempts.specs.Below.programs_allowed.specs.program_walks.proofs.Records.{stores, next_stores, opens_same}
 use Rattle.refused_attempts.specs.Below.programs_allowed.specs.program_walks.proofs.Recorded.{Recorded, IsPending}
-use Rattle.refused_attempts.specs.Below.programs_allowed.specs.program_steps.proofs.Rounds.{begins_round}
 use Rattle.refused_attempts.specs.Below.programs_allowed.specs.sock_runs.proofs.Ticks.{sound_ticks}
 use Rattle.refused_attempts.specs.Below.programs_allowed.specs.sock_runs.proofs.Versions.{versions_on, odd_past}
 use Rattle.refused_attempts.specs.Below.programs_allowed.specs.program_walks.proofs.Whole.{closing_of, views_played, views_closed, end_answered, closing_sound, rested_ahead, recorded_closing, closed_ahead}
@@ -121,7 +119,7 @@ module _ (p : Plan) (retries : RetriesGo p) where
   MakesEnding c = (seat : SeatState) → get_elem? c.seats 0 ≡ some seat → Still seat.program
 
   makes_ticks : (c : Core) (vs : List View) (m : Moment) → m.seat ≡ 0 → Sound p c vs → IsAnswered c m → IsFitting p c m → MakesEnding c → MakesEnding (ticked p c m)
-  makes_ticks c vs m own sound answered fits e = tick_keeps_marks p c vs m sound answered fits (begins_round p) (goes_round p) (λ d ws. MakesEnding d) e
+  makes_ticks c vs m own sound answered fits e = tick_keeps_marks p c vs m sound answered fits (λ d ws. MakesEnding d) e
       (λ seat v call next at_seat at_view is goes s at. let x = e seat (sym (ap (get_elem? c.seats) own) ∙ at_seat) in let y = subst Still (sym (first_is seat.program x) ∙ is) x in
       ⊎_elim (λ a. subst (λ (z : SeatState). Still z.program) a.1 (subst Still (sym (next_is (waiting_at c.calls.waiting m.seat) (next (found_at c.words (word_of p call))) (y.2 (found_at c.words (word_of p call))))) (y.2 (found_at c.words (word_of p call)))))
       (λ a. absurd (a.0 (sym own))) (at_set c.seats m.seat 0 _ s at))
@@ -129,7 +127,7 @@ module _ (p : Plan) (retries : RetriesGo p) where
 
   -- no life is made
   back_ticks : (i h k : ℕ) (c : Core) (vs : List View) (m : Moment) → m.seat ≡ 0 → Sound p c vs → IsAnswered c m → IsFitting p c m → MakesEnding c → IsGiven (ticked p c m) (views_after p c vs m) i h k → IsGiven c vs i h k
-  back_ticks i h k c vs m own sound answered fits e = tick_keeps_marks p c vs m sound answered fits (begins_round p) (goes_round p) (λ d ws. IsGiven d ws i h k → IsGiven c vs i h k) (λ g. g)
+  back_ticks i h k c vs m own sound answered fits e = tick_keeps_marks p c vs m sound answered fits (λ d ws. IsGiven d ws i h k → IsGiven c vs i h k) (λ g. g)
       (λ seat v call next at_seat at_view is goes given. let x = e seat (sym (ap (get_elem? c.seats) own) ∙ at_seat) in let y = subst Still (sym (first_is seat.program x) ∙ is) x in
       let w : View = row p call (found_at c.words (word_of p call)) (hand_at p c.words c.homes call) v in
       let moved = counts (state c vs) m.seat v w at_view (words_after c.words (word_of p call) (word_after call (found_at c.words (word_of p call)))) (homes_after p call seat.hand c.homes) (is_linked h k) i in
@@ -173,7 +171,7 @@ module _ (p : Plan) (retries : RetriesGo p) where
     }
       where
         both : (get_or (ticked p c m).words (open_index p o) 0 ≡ socket_id h i + 1) × ((seat : SeatState) → get_elem? (ticked p c m).seats 0 ≡ some seat → IsPast (ticked p c m) i h ⊎ Fails o (socket_id h i + 1) seat.program)
-        both = tick_keeps_marks p c vs m sound answered fits (begins_round p) (goes_round p)
+        both = tick_keeps_marks p c vs m sound answered fits
             (λ d ws. (get_or d.words (open_index p o) 0 ≡ socket_id h i + 1) × ((seat : SeatState) → get_elem? d.seats 0 ≡ some seat → IsPast d i h ⊎ Fails o (socket_id h i + 1) seat.program)) (r.word, r.fails)
             (λ seat v call next at_seat at_view is goes. let at_zero = sym (ap (get_elem? c.seats) own) ∙ at_seat in let x = r.makes seat at_zero in let program_is = sym (first_is seat.program x) ∙ is in let y = subst Still program_is x in (
               opens_same p c.words v o within call goes.0 y.0 ∙ r.word,

@@ -20,8 +20,6 @@ use Rattle.programs_allowed.specs.program_steps.specs.Sound.{state, Sound, FitsB
 use Rattle.programs_allowed.specs.program_steps.specs.Lasts.{IsSlot, IsCountedStep, IsCountedAt, IsCounted}
 use Rattle.programs_allowed.specs.program_steps.proofs.Cases as cases
 use Rattle.programs_allowed.specs.sock_runs.proofs.Founds.{finds}
-use Rattle.programs_allowed.specs.program_steps.proofs.Rounds.{begins_round}
-use Rattle.programs_allowed.specs.program_steps.proofs.Passes.{goes_round}
 use Rattle.programs_allowed.specs.id_runs.specs.Held.{IdView, MayId}
 use Rattle.programs_allowed.specs.id_runs.specs.Goes.{FindsId, IdGoesOn, SoundIds, FitsSock, FitsFirst, IsFittingIds}
 use Rattle.programs_allowed.specs.id_runs.specs.Goes as goes
@@ -110,4 +108,4 @@ module _ (p : Plan) (q : IdPlan) (c : Core) (vs : List View) (us : List IdView) 
   -- the numbers of links and the codes that steps on the sockets find are as the ids rely on
   pub is_fitting_ids : IsFittingIds p c m
   is_fitting_ids seat at = let v = view_at c.seats vs m.seat seat sound.each at in
-      fits_first v.0 v.1 seat.program (cases.goes_first p v.0 (begins_round p v.0) (goes_round p v.0) seat.program (sound.seats m.seat seat v.0 at v.1).goes_on)
+      fits_first v.0 v.1 seat.program (cases.goes_first p v.0 seat.program (sound.seats m.seat seat v.0 at v.1).goes_on)

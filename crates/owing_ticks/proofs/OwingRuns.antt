@@ -21,8 +21,6 @@ use Rattle.call_owing.specs.Below.programs_allowed.specs.program_steps.specs.Goe
 use Rattle.call_owing.specs.Below.programs_allowed.specs.program_steps.specs.Sound.{state, Sound, AreFitting, first_step, views_after, views_along}
 use Rattle.call_owing.specs.Below.programs_allowed.specs.sock_runs.proofs.Along.{place_inside}
 use Rattle.call_owing.specs.Below.programs_allowed.specs.program_steps.proofs.Cases.{goes_first}
-use Rattle.call_owing.specs.Below.programs_allowed.specs.program_steps.proofs.Rounds.{begins_round}
-use Rattle.call_owing.specs.Below.programs_allowed.specs.program_steps.proofs.Passes.{goes_round}
 use Rattle.call_owing.specs.Below.programs_allowed.specs.sock_runs.proofs.LinkTicks.{RetriesGo}
 use Rattle.call_owing.specs.Below.programs_allowed.specs.sock_runs.proofs.Ticks.{sound_ticks}
 use Rattle.call_owing.specs.Below.programs_allowed.specs.sock_runs.proofs.Founds.{finds}
@@ -125,7 +123,7 @@ module _ (p : Plan) (q : IdPlan) (narrow : q.slots ≤ 65536) (same : q.operatio
 
     fits_step : (answer : Answer) → OthersFit q life calls c u answer (goes.first_of seat.program) → StepFits p q life calls c seat u answer (goes.first_of seat.program)
     fits_step answer f = subst (StepFits p q life calls c seat u answer) (sym (same_first seat.program)) (by_program answer (first_step seat.program) refl
-        (goes_first p v (begins_round p v) (goes_round p v) seat.program (sound.seats i seat v at_seat at_view).goes_on) (subst (OthersFit q life calls c u answer) (same_first seat.program) f))
+        (goes_first p v seat.program (sound.seats i seat v at_seat at_view).goes_on) (subst (OthersFit q life calls c u answer) (same_first seat.program) f))
 
   -- ## Over a run
 

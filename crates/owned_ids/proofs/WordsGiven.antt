@@ -48,8 +48,6 @@ use Rattle.call_owing.specs.Below.programs_allowed.specs.program_walks.proofs.Th
 use Rattle.call_owing.specs.Below.programs_allowed.specs.program_walks.proofs.ThroughCalls.{through_reader, through_first, through_next}
 use Rattle.call_owing.specs.Below.programs_allowed.specs.program_walks.proofs.ThroughClients.{through_back, through_any}
 use Rattle.call_owing.specs.Below.programs_allowed.specs.program_steps.proofs.Cases.{ComesNext, with_rights, tick_keeps_marks}
-use Rattle.call_owing.specs.Below.programs_allowed.specs.program_steps.proofs.Rounds.{begins_round}
-use Rattle.call_owing.specs.Below.programs_allowed.specs.program_steps.proofs.Passes.{goes_round}
 use Rattle.call_owing.specs.Below.programs_allowed.specs.sock_runs.proofs.LinkTicks.{RetriesGo}
 use Rattle.call_owing.specs.Below.programs_allowed.specs.sock_runs.proofs.Ticks.{sound_ticks}
 
@@ -303,7 +301,7 @@ module _ (p : Plan) (own : ℕ → ℕ → Type 0) (c : Core) (vs : List View) (
     }
 
 named_ticks : (p : Plan) (own : ℕ → ℕ → Type 0) (c : Core) (vs : List View) (m : Moment) → Sound p c vs → IsAnswered c m → IsFitting p c m → Named p own c vs → Named p own (ticked p c m) (views_after p c vs m)
-named_ticks p own c vs m sound answered fitting n = tick_keeps_marks p c vs m sound answered fitting (begins_round p) (goes_round p) (Named p own) n
+named_ticks p own c vs m sound answered fitting n = tick_keeps_marks p c vs m sound answered fitting (Named p own) n
     (λ seat v call next at_seat at_view is goes. by_call seat v call next at_seat at_view is goes.0)
     (λ seat v program rights hand hs a at_seat at_view comes. named_still p own c vs m.seat sound.lawful.references.sized n seat v at_seat at_view program rights hand hs a comes)
   where

@@ -33,8 +33,6 @@ use Rattle.program_walks.proofs.Recorded.{Recorded, recorded_ticks, stores_none}
 use Rattle.program_walks.proofs.Through.{Passes, PassesOpens, Follows, at_calls_passes, at_calls_follow, records_passes, records_opens, records_follow, comes_follows}
 use Rattle.program_walks.proofs.ThroughCalls.{through_first, through_next}
 use Rattle.sock_runs.specs.program_steps.proofs.Cases.{ComesNext, with_rights, tick_keeps_marks}
-use Rattle.sock_runs.specs.program_steps.proofs.Rounds.{begins_round}
-use Rattle.sock_runs.specs.program_steps.proofs.Passes.{goes_round}
 use Rattle.sock_runs.proofs.LinkTicks.{RetriesGo}
 use Rattle.sock_runs.proofs.Ticks.{sound_ticks}
 
@@ -201,7 +199,7 @@ module _ (p : Plan) (own : ℕ → ℕ → Type 0) (Q : ℕ → ℕ → Type 0) 
     }
 
 linked_ticks : (p : Plan) (own : ℕ → ℕ → Type 0) (Q : ℕ → ℕ → Type 0) (c : Core) (vs : List View) (m : Moment) → Sound p c vs → IsAnswered c m → IsFitting p c m → Recorded p Q c vs → Linked p own c vs → Linked p own (ticked p c m) (views_after p c vs m)
-linked_ticks p own Q c vs m sound answered fitting r l = tick_keeps_marks p c vs m sound answered fitting (begins_round p) (goes_round p) (Linked p own) l
+linked_ticks p own Q c vs m sound answered fitting r l = tick_keeps_marks p c vs m sound answered fitting (Linked p own) l
     (λ seat v call next at_seat at_view is goes. by_call seat v call next at_seat at_view is goes.0)
     (λ seat v program rights hand hs a at_seat at_view comes. linked_still p own Q c vs m.seat sound.lawful.references.sized r l seat v at_seat at_view program rights hand hs a comes)
   where

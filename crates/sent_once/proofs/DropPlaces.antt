@@ -31,8 +31,6 @@ use Rattle.accept_counts.specs.Below.programs_allowed.specs.program_steps.specs.
 use Rattle.accept_counts.specs.Below.programs_allowed.specs.program_steps.specs.Sound.{state, Sound, IsFitting}
 use Rattle.accept_counts.specs.Below.programs_allowed.specs.program_steps.proofs.Cases.{tick_keeps_marks}
 use Rattle.accept_counts.specs.Below.programs_allowed.specs.sock_runs.proofs.ChainTicks.{turn_inside, free_inside}
-use Rattle.accept_counts.specs.Below.programs_allowed.specs.program_steps.proofs.Passes.{goes_round}
-use Rattle.accept_counts.specs.Below.programs_allowed.specs.program_steps.proofs.Rounds.{begins_round}
 use Rattle.accept_counts.specs.Below.outcome_stories.specs.Causes.{Asks}
 use Rattle.accept_counts.specs.Below.outcome_stories.specs.Explains.{Done, swapped}
 use Rattle.accept_counts.specs.Below.outcome_stories.specs.Kept.{is_of_send, of_sends, undo, IsOfCall as IsOfSpoken, IsOfTask, EndsIn, AreMade, AreMadeNow, IsSpoken, SeatStory, Story}
@@ -211,6 +209,6 @@ module _ (p : Plan) (q : IdPlan) (is_call : Asked → Type 0) (ids : ℕ → ℕ
 
     -- so does a tick
     pub place_stays : l < 8 * p.operations → get_or c.words (place_index p l) 0 ≢ 0 → (m : Moment) → IsAnswered c m → IsFitting p c m → get_or (ticked p c m).words (place_index p l) 0 ≡ get_or c.words (place_index p l) 0
-    place_stays low written m answered fitting = tick_keeps_marks p c vs m sound answered fitting (begins_round p) (goes_round p) (λ d ws. get_or d.words (place_index p l) 0 ≡ get_or c.words (place_index p l) 0) refl
+    place_stays low written m answered fitting = tick_keeps_marks p c vs m sound answered fitting (λ d ws. get_or d.words (place_index p l) 0 ≡ get_or c.words (place_index p l) 0) refl
         (λ seat v call next at_seat at_view is goes. step_keeps m.seat v at_view low written call goes.0)
         (λ seat v program rights hand hs a at_seat at_view comes. refl)

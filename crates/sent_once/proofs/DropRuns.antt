@@ -29,8 +29,6 @@ use Rattle.accept_counts.specs.Below.programs_allowed.specs.program_steps.specs.
 use Rattle.accept_counts.specs.Below.programs_allowed.specs.program_steps.proofs.Cases.{goes_first}
 use Rattle.accept_counts.specs.Below.programs_allowed.specs.sock_runs.proofs.Few.{places_small}
 use Rattle.accept_counts.specs.Below.programs_allowed.specs.sock_runs.proofs.LinkTicks.{RetriesGo}
-use Rattle.accept_counts.specs.Below.programs_allowed.specs.program_steps.proofs.Passes.{goes_round}
-use Rattle.accept_counts.specs.Below.programs_allowed.specs.program_steps.proofs.Rounds.{begins_round}
 use Rattle.accept_counts.specs.Below.programs_allowed.specs.sock_runs.proofs.Ticks.{sound_ticks}
 use Rattle.accept_counts.specs.Below.outcome_stories.specs.Causes.{WasGiven}
 use Rattle.accept_counts.specs.Below.outcome_stories.specs.Kept.{IsSpoken, Story}
@@ -125,7 +123,7 @@ module _ (p : Plan) (q : IdPlan) (is_call : Asked → Type 0) (ids : ℕ → ℕ
       viewed seat at = let v = at_there vs m.seat (let i = at_within c.seats m.seat seat at in let e = s.sound.each in omega (arith, i, e)) in (v.0, v.1, (s.sound.seats m.seat seat v.0 at v.1).goes_on)
 
       first_viewed : (seat : SeatState) → get_elem? c.seats m.seat ≡ some seat → (x : Program) → first_step seat.program ≡ x → Viewed x
-      first_viewed seat at x is = let v = viewed seat at in (v.0, v.1, subst (GoesOn p v.0) is (goes_first p v.0 (begins_round p v.0) (goes_round p v.0) seat.program v.2))
+      first_viewed seat at x is = let v = viewed seat at in (v.0, v.1, subst (GoesOn p v.0) is (goes_first p v.0 seat.program v.2))
 
       -- a code of a socket that was loaded
       load_tells : (seat : SeatState) → get_elem? c.seats m.seat ≡ some seat → (i h : ℕ) (next : ℕ → Program) → first_step seat.program ≡ Do (LoadCode i h) next → (code : ℕ) → code ≡ code_in c.words i → code ≢ 0 → IsKnown clients s.events i h code

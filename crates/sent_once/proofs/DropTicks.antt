@@ -30,12 +30,12 @@ use Rattle.seat_programs.specs.Told.{AreTasks}
 use Rattle.accept_counts.specs.Below.programs_allowed.specs.program_steps.specs.May.{May}
 use Rattle.accept_counts.specs.Below.programs_allowed.specs.program_steps.specs.Rows.{row, hand_at, took_message, link_away, link_home_again, took_bytes}
 use Rattle.accept_counts.specs.Below.programs_allowed.specs.program_steps.specs.Sound.{Sound, first_step, views_after}
+use Rattle.accept_counts.specs.Below.programs_allowed.specs.program_steps.proofs.Cases.{tick_cases}
 use Rattle.accept_counts.specs.Below.sock_steps.proofs.Maps.{set_at}
 use Rattle.accept_counts.specs.Below.outcome_stories.specs.Causes.{Asks}
 use Rattle.accept_counts.specs.Below.outcome_stories.specs.Explains.{Way, Own, Beside, Closing, Done, ExplainsBy, step}
 use Rattle.accept_counts.specs.Below.outcome_stories.specs.Kept.{IsSpoken, IsTraced, SeatStory, Story}
 use Rattle.accept_counts.specs.Below.outcome_stories.specs.Stories.{Entry, Event, In, trace_of, trace_now}
-use Rattle.accept_counts.specs.Below.outcome_stories.proofs.Cases.{tick_cases}
 use Rattle.accept_counts.specs.Below.outcome_ticks.proofs.Events.{event}
 use Rattle.accept_counts.specs.Below.outcome_causes.proofs.Final.{at_within}
 use Rattle.accept_counts.specs.Below.outcome_stories.proofs.Members.{from_trace, to_trace}
@@ -281,8 +281,8 @@ module _ (p : Plan) (clients : List (List Task)) (are : AreTasks p clients) (ove
   codes_ticks = tick_cases p c vs m sound answered After
       (λ fresh more told kept new. record { known = λ j h inside even version some_. known_later clients es fresh kept j h (code_in c.words j) (law.known j h inside even version some_); seats = λ j. record { failing = (law.seats j).failing; program = (law.seats j).program; has = others fresh kept c.calls Rest [] [] [] vs NoFail j (λ v at. at) (law.seats j).failing (law.seats j).has } })
       (λ seat v call next at here is goes. step_keeps seat v at here call next is goes.0)
-      (λ seat v r next heading bytes at here is goes. moved c.calls (next heading bytes) seat.hand (set c.homes r none) (set vs m.seat (took_message heading bytes v)) (same_else (took_message heading bytes v)) ((program_of seat at (TakeMessage r next) is).2 heading bytes))
-      (λ seat v k next n at here is goes. moved c.calls (next n) (lies_at c.homes (link_place p k) ++ seat.hand) (set c.homes (link_place p k) none) (set vs m.seat (link_away v)) (same_else (link_away v)) ((program_of seat at (TakeHome k next) is).2 n))
+      (λ seat v r next heading bytes at here is goes lies. moved c.calls (next heading bytes) seat.hand (set c.homes r none) (set vs m.seat (took_message heading bytes v)) (same_else (took_message heading bytes v)) ((program_of seat at (TakeMessage r next) is).2 heading bytes))
+      (λ seat v k next took n at here is goes lies. moved c.calls (next n) (lies_at c.homes (link_place p k) ++ seat.hand) (set c.homes (link_place p k) none) (set vs m.seat (link_away v)) (same_else (link_away v)) ((program_of seat at (TakeHome k next) is).2 n))
       (λ seat v k n after at here is goes. moved c.calls after (others_of seat.hand) (set c.homes (link_place p k) (first_of (onto_first (with_places n) seat.hand))) (set vs m.seat (link_home_again v)) (same_else (link_home_again v)) (program_of seat at (PutHome k n after) is).2)
       (λ seat v k asked bytes next answer at here is goes answer_is fits. moved c.calls (next answer) (onto_first (fed bytes answer) seat.hand) c.homes (set vs m.seat (took_bytes answer v)) (same_else (took_bytes answer v)) ((program_of seat at (PutBytes k asked bytes next) is).2 answer))
       (λ seat v k next answer at here is goes answer_is. moved c.calls (next answer) seat.hand c.homes vs (λ j ne v at. at) ((program_of seat at (AskReady k next) is).2 answer))

@@ -37,10 +37,8 @@ use Rattle.accept_counts.specs.Below.programs_allowed.specs.program_steps.specs.
 use Rattle.accept_counts.specs.Below.programs_allowed.specs.sock_runs.proofs.Along.{seat_rests, place_inside, ticked_ahead}
 use Rattle.accept_counts.specs.Below.programs_allowed.specs.program_steps.proofs.Cases.{ComesNext, tick_keeps_marks}
 use Rattle.accept_counts.specs.Below.programs_allowed.specs.sock_runs.proofs.LinkTicks.{RetriesGo}
-use Rattle.accept_counts.specs.Below.programs_allowed.specs.program_steps.proofs.Passes.{goes_round}
 use Rattle.accept_counts.specs.Below.programs_allowed.specs.sock_runs.proofs.Quiets.{ticked_seats, ticked_rests}
 use Rattle.accept_counts.specs.Below.programs_allowed.specs.program_walks.proofs.Recorded.{Recorded, recorded_ticks}
-use Rattle.accept_counts.specs.Below.programs_allowed.specs.program_steps.proofs.Rounds.{begins_round}
 use Rattle.accept_counts.specs.Below.programs_allowed.specs.sock_runs.proofs.Ticks.{sound_ticks}
 use Rattle.accept_counts.specs.Below.outcome_stories.proofs.Delivered.{accepted_of, orders_of}
 use Rattle.accept_counts.proofs.Places.{places_ticks}
@@ -99,7 +97,7 @@ Ends c vs = (seat : SeatState) (v : View) → get_elem? c.seats 0 ≡ some seat 
 
 module _ (p : Plan) where
   ends_ticks : (c : Core) (vs : List View) (m : Moment) → m.seat ≡ 0 → Sound p c vs → IsAnswered c m → IsFitting p c m → Ends c vs → Ends (ticked p c m) (views_after p c vs m)
-  ends_ticks c vs m own sound answered fitting e = tick_keeps_marks p c vs m sound answered fitting (begins_round p) (goes_round p) Ends e
+  ends_ticks c vs m own sound answered fitting e = tick_keeps_marks p c vs m sound answered fitting Ends e
       (λ seat v call next at_seat at_view is goes s u at at_u. let x = e seat v (sym (ap (get_elem? c.seats) own) ∙ at_seat) (sym (ap (get_elem? vs) own) ∙ at_view) in
       let y = swap_call call next (subst NoSwap is (swap_first seat.program x.0)) in (
         ⊎_elim (λ a. subst (λ (z : SeatState). NoSwap z.program) a.1 (swap_next _ (next _) (y.1 _))) (λ a. absurd (a.0 (sym own))) (at_set c.seats m.seat 0 _ s at),

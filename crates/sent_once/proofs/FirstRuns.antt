@@ -36,7 +36,7 @@ use Rattle.seat_programs.specs.ToldCalls.{Accepted, Order, Fixed, InOwnOrder}
 use Rattle.accept_counts.specs.Below.programs_allowed.specs.program_steps.specs.May.{May}
 use Rattle.accept_counts.specs.Below.programs_allowed.specs.program_steps.specs.Rows.{row, hand_at, by_claim, exchanged, filled_claim, ready_claim, took_message, link_away, link_home_again, took_bytes}
 use Rattle.accept_counts.specs.Below.programs_allowed.specs.program_steps.specs.Sound.{Sound, first_step, AreFitting, views_after, views_along}
-use Rattle.accept_counts.specs.Below.programs_allowed.specs.program_steps.proofs.Cases.{with_rights, right_rights, put_rights}
+use Rattle.accept_counts.specs.Below.programs_allowed.specs.program_steps.proofs.Cases.{with_rights, right_rights, put_rights, tick_cases}
 use Rattle.accept_counts.specs.Below.programs_allowed.specs.program_steps.proofs.Leaves.{claim_way}
 use Rattle.accept_counts.specs.Below.programs_allowed.specs.sock_runs.proofs.LinkTicks.{RetriesGo}
 use Rattle.accept_counts.specs.Below.programs_allowed.specs.program_walks.proofs.Opening.{mapped}
@@ -44,7 +44,6 @@ use Rattle.accept_counts.specs.Below.programs_allowed.specs.sock_runs.proofs.Tic
 use Rattle.accept_counts.specs.Below.programs_allowed.specs.program_walks.proofs.Whole.{Begins, AreFittingIn, closing_of, rested_of, views_played, views_closed, views_ended, set_up_answered, end_answered, set_up_sound, closing_sound, closed_sound, ended_sound}
 use Rattle.accept_counts.specs.Below.outcome_stories.specs.Causes.{Asks}
 use Rattle.accept_counts.specs.Below.outcome_stories.specs.PlainTasks.{OwnsCall}
-use Rattle.accept_counts.specs.Below.outcome_stories.proofs.Cases.{tick_cases}
 use Rattle.accept_counts.specs.Below.outcome_stories.proofs.Delivered.{accepted_of, orders_of}
 use Rattle.accept_counts.specs.Below.outcome_stories.proofs.Members.{all_in, all_of, contains_in}
 use Rattle.accept_counts.specs.Below.outcome_causes.proofs.Messages.{in_of_at}
@@ -249,10 +248,10 @@ module _ (mine : ℕ → Type 0) where
           moves c vs before m.seat c.calls refl (next found) (hand_after p call c.homes seat.hand) (words_after c.words (word_of p call) (word_after call found)) (homes_after p call seat.hand c.homes)
           (row p call found (hand_at p c.words c.homes call) v)
           (λ e. let f = goes_do before.low call next (program_here seat at e (Do call next) is) in (low_behind call before.low, f.1 found, row_goes p before.low found (hand_at p c.words c.homes call) v (view_here v here e) call goes.0 f.0)))
-          (λ seat v r next heading bytes at here is goes. let w = right_rights v v.rights (λ x. taken_right x heading bytes) in
+          (λ seat v r next heading bytes at here is goes lies. let w = right_rights v v.rights (λ x. taken_right x heading bytes) in
           moves c vs before m.seat c.calls refl (next heading bytes) seat.hand c.words (set c.homes r none) (took_message heading bytes v)
           (λ e. (before.low, program_here seat at e (TakeMessage r next) is heading bytes, rights_goes before.low v _ w.0 w.1 (view_here v here e))))
-          (λ seat v k next n at here is goes. let w = right_rights v v.rights (λ x. record x { at_home = false }) in
+          (λ seat v k next took n at here is goes lies. let w = right_rights v v.rights (λ x. record x { at_home = false }) in
           moves c vs before m.seat c.calls refl (next n) (lies_at c.homes (link_place p k) ++ seat.hand) c.words (set c.homes (link_place p k) none) (link_away v)
           (λ e. (before.low, program_here seat at e (TakeHome k next) is n, rights_goes before.low v _ w.0 w.1 (view_here v here e))))
           (λ seat v k n after at here is goes. let w = right_rights v v.rights (λ x. record x { at_home = true }) in

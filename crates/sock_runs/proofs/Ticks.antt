@@ -18,7 +18,6 @@ use Rattle.program_steps.specs.Rows.{row, hand_at}
 use Rattle.program_steps.specs.May.{May}
 use Rattle.program_steps.specs.GoesOn.{GoesOn}
 use Rattle.program_steps.specs.Sound.{state, AreInHand, AreHeld, AreLabelled, Sound, views_after, IsFitting}
-use Rattle.program_steps.proofs.Passes.{goes_round}
 use Rattle.sock_runs.proofs.SlotTicks as slots
 use Rattle.sock_runs.proofs.NameTicks as names
 use Rattle.sock_runs.proofs.ChainTicks as chains
@@ -26,8 +25,7 @@ use Rattle.sock_runs.proofs.LinkTicks.{RetriesGo, reseats, steps_aside, takes_me
 use Rattle.sock_runs.proofs.HandTicks.{takes, finishes, puts}
 use Rattle.sock_runs.proofs.Held.{held_in_hand, keeps_held}
 use Rattle.sock_runs.proofs.Founds.{finds}
-use Rattle.program_steps.proofs.Rounds.{begins_round}
-use Rattle.program_steps.proofs.Cases.{tick_keeps}
+use Rattle.program_steps.proofs.Cases.{found_fits, tick_cases}
 
 -- ## The view after a step
 
@@ -113,11 +111,11 @@ module _ (p : Plan) (retries_go : RetriesGo p) (c : Core) (vs : List View) (i : 
 
 -- a tick of any seat keeps all seats sound, where each retry may be tried, and what steps aside of the sockets find is as it should be
 pub sound_ticks : (p : Plan) → RetriesGo p → (c : Core) (vs : List View) (m : Moment) → Sound p c vs → IsAnswered c m → IsFitting p c m → Sound p (ticked p c m) (views_after p c vs m)
-sound_ticks p retries_go c vs m sound answered fitting = tick_keeps p c vs m sound answered fitting (begins_round p) (goes_round p) (Sound p) sound
+sound_ticks p retries_go c vs m sound answered fitting = tick_cases p c vs m sound answered (Sound p) sound
     (λ seat v call next at_seat at_view is goes. step_sound p retries_go c vs m.seat sound seat v call next at_seat at_view goes)
     (λ seat v q next heading bytes at_seat at_view is goes here. takes_message p retries_go c vs sound m.seat seat v at_seat at_view q next heading bytes goes here)
     (λ seat v k next took n at_seat at_view is goes here. takes_home_shown p retries_go c vs sound m.seat seat v at_seat at_view k next took n goes here)
     (λ seat v k n after at_seat at_view is goes. puts_home p retries_go c vs sound m.seat seat v at_seat at_view k n after goes)
     (λ seat v k asked bytes next answer at_seat at_view is goes answer_is fits. puts_bytes p retries_go c vs sound m.seat seat v at_seat at_view k asked bytes next answer goes fits)
     (λ seat v k next answer at_seat at_view is goes answer_is. asks_ready p retries_go c vs sound m.seat seat v at_seat at_view k next answer goes)
-    (λ seat v step next found at_seat at_view is goes fits. steps_aside p retries_go c vs sound m.seat seat v at_seat at_view step next found goes fits)
+    (λ seat v step next found at_seat at_view is goes found_is. steps_aside p retries_go c vs sound m.seat seat v at_seat at_view step next found goes (found_fits p c m fitting seat at_seat step next found is found_is))
