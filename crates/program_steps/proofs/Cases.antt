@@ -15,7 +15,7 @@ use Rattle.sock_model.specs.declared.view.View.{View}
 use Rattle.sock_model.specs.ChainRows.{with_right, taken_right, put_right}
 use Rattle.sock_model.specs.Messages.{Letter}
 use Rattle.sock_model.specs.Reads.{letter_of, shown, message, link_home}
-use Rattle.seat_programs.specs.Writings.{Writing, Puts, Waits, Empties, Walks}
+use Rattle.seat_programs.specs.Writings.{Puts, Waits, Empties, Walks}
 use Rattle.seat_programs.specs.Calls.{Call, LoadOpen}
 use Rattle.seat_programs.specs.Programs.{Program, Do, Say, Sent, Rest, TakeMessage, TakeHome, PutHome, PutBytes, AskReady, Write, Aside, Round, Keep, Retries}
 use Rattle.seat_programs.specs.Asides.{Step, Found}
@@ -23,7 +23,6 @@ use Rattle.seat_programs.specs.Heads.{Head, Exit, Posts, Unlocks, Decides, Locks
 use Rattle.seat_programs.specs.Rounds.{round}
 use Rattle.seat_programs.specs.Beside.{found_in, calls_after}
 use Rattle.program_steps.specs.Fits.{FitsFound}
-use Rattle.seat_programs.specs.Sends.{block}
 use Rattle.seat_programs.specs.corr_core.specs.Word.{parts, code_of}
 use Rattle.seat_programs.specs.Asides.{PutCall, id_slot}
 use Rattle.seat_programs.specs.Heads.{HasEnded}
@@ -132,11 +131,12 @@ IsStill (Retries requests after) = Unit {0}
 IsStill other = ⊥
 
 -- what is told of the tick: of the seat's first step, or that nothing happened
-abbrev pub told_of : {E : Type 0} → (View → Answer → Program → E) → E → Core → List View → Moment → E
-told_of {E} event nothing c vs m = elim (get_elem? c.seats m.seat) as (λ o. E) [
-  | none ↦ nothing
-  | some seat ↦ elim (get_elem? vs m.seat) as (λ o. E) [ none ↦ nothing | some v ↦ event v m.answer (first_step seat.program) ]
-]
+module _ {E : Type 0} (event : View → Answer → Program → E) (nothing : E) where
+  abbrev pub told_of : Core → List View → Moment → E
+  told_of c vs m = elim (get_elem? c.seats m.seat) as (λ o. E) [
+    | none ↦ nothing
+    | some seat ↦ elim (get_elem? vs m.seat) as (λ o. E) [ none ↦ nothing | some v ↦ event v m.answer (first_step seat.program) ]
+  ]
 
 -- that P holds behind each kind of step. Of a message and of a link it is known that they lay at home, and of a step aside of the sockets what it found.
 module _ (p : Plan) (c : Core) (vs : List View) (m : Moment) {E : Type 0} (event : View → Answer → Program → E) (P : E → Core → List View → Type 0) where
@@ -191,16 +191,16 @@ module _ (p : Plan) (c : Core) (vs : List View) (m : Moment) (sound : Sound p c 
   from_first seat v (Write w after) x = x
   from_first seat v _ x = x
 
-  abbrev Ticks : SeatState → View → Type 0
-  Ticks seat v = P (event v m.answer (first_step seat.program)) (tick_with p m.seat seat c m.answer seat.program) (views_of p m.seat c vs v m.answer seat.program)
+  abbrev Behind : SeatState → View → Type 0
+  Behind seat v = P (event v m.answer (first_step seat.program)) (tick_with p m.seat seat c m.answer seat.program) (views_of p m.seat c vs v m.answer seat.program)
 
-  by_view : (seat : SeatState) → get_elem? c.seats m.seat ≡ some seat → ((v : View) → get_elem? vs m.seat ≡ some v → Ticks seat v) → (q : Option View) → get_elem? vs m.seat ≡ q
+  by_view : (seat : SeatState) → get_elem? c.seats m.seat ≡ some seat → ((v : View) → get_elem? vs m.seat ≡ some v → Behind seat v) → (q : Option View) → get_elem? vs m.seat ≡ q
       → P (elim q as (λ o. E) [ none ↦ nothing | some v ↦ event v m.answer (first_step seat.program) ]) (tick_with p m.seat seat c m.answer seat.program)
       (elim q as (λ o. List View) [ none ↦ vs | some v ↦ views_of p m.seat c vs v m.answer seat.program ])
   by_view seat at_seat all none e = absurd (beside c.seats vs m.seat seat sound.each at_seat e)
   by_view seat at_seat all (some v) e = all v e
 
-  by_seat : ((seat : SeatState) (v : View) → get_elem? c.seats m.seat ≡ some seat → get_elem? vs m.seat ≡ some v → Ticks seat v) → (q : Option SeatState) → get_elem? c.seats m.seat ≡ q
+  by_seat : ((seat : SeatState) (v : View) → get_elem? c.seats m.seat ≡ some seat → get_elem? vs m.seat ≡ some v → Behind seat v) → (q : Option SeatState) → get_elem? c.seats m.seat ≡ q
       → P (elim q as (λ o. E) [ none ↦ nothing | some seat ↦ elim (get_elem? vs m.seat) as (λ o. E) [ none ↦ nothing | some v ↦ event v m.answer (first_step seat.program) ] ])
       (elim q as (λ o. Core) [ none ↦ c | some seat ↦ tick_with p m.seat seat c m.answer seat.program ])
       (elim q as (λ o. List View) [ none ↦ vs | some seat ↦ elim (get_elem? vs m.seat) as (λ o. List View) [ none ↦ vs | some v ↦ views_of p m.seat c vs v m.answer seat.program ] ])
