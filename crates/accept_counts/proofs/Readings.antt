@@ -33,7 +33,7 @@ use Rattle.outcome_causes.specs.program_steps.proofs.Leaves.{claim_way}
 use Rattle.outcome_causes.specs.sock_runs.proofs.LinkTicks.{RetriesGo}
 use Rattle.outcome_causes.specs.program_walks.proofs.Recorded.{Recorded}
 use Rattle.outcome_causes.specs.program_walks.proofs.OpensStay.{run_word}
-use Rattle.outcome_causes.specs.program_steps.proofs.Cases.{beside, tick_keeps_marks, tick_cases}
+use Rattle.outcome_causes.specs.program_steps.proofs.Cases.{beside, tick_keeps_marks, tick_cases, ticks_first, views_first}
 use Rattle.run_theorems.specs.Heard.{taken_link, taken_at, as_taken}
 use Rattle.accept_counts.proofs.Closers.{Ends, Calm, IsCalmCall, IsNoTake, calm_first, calm_next, begins_calm, calm_step, calm_aside}
 
@@ -106,17 +106,6 @@ other_first _ none_ = tt
 other_step : (s : Step) (next : Found s → Program) → IsOther (Aside s next) → (k id : ℕ) (Odd : List Taking → Type 0) (Lasts : Type 0) → IsNoTake k id Odd Lasts s
 other_step (TakeBytes k room) next x l id Odd Lasts = absurd x
 other_step s next x l id Odd Lasts = tt
-
--- a tick is the first step of what its seat is at
-pub ticks_first : (p : Plan) (i : ℕ) (seat : SeatState) (c : Core) (answer : Answer) (program : Program) → tick_with p i seat c answer program ≡ step_with p i seat c answer (first_step program)
-ticks_first p i seat c answer (Write w after) = refl
-ticks_first p i seat c answer (Round head next) = refl
-ticks_first p i seat c answer program = refl
-
-pub views_first : (p : Plan) (i : ℕ) (c : Core) (vs : List View) (v : View) (answer : Answer) (program : Program) → views_of p i c vs v answer program ≡ views_with p i c vs v answer (first_step program)
-views_first p i c vs v answer (Write w after) = refl
-views_first p i c vs v answer (Round head next) = refl
-views_first p i c vs v answer program = refl
 
 -- ## Readers
 

@@ -25,8 +25,7 @@ use Rattle.call_causes.specs.Below.id_runs.proofs.Programs as id_programs
 use Rattle.outcome_causes.specs.program_steps.specs.Rows.{row, hand_at, took_message, link_away, link_home_again, took_bytes}
 use Rattle.outcome_causes.specs.program_steps.specs.GoesOn.{GoesOn}
 use Rattle.outcome_causes.specs.program_steps.specs.Sound.{Sound, first_step, views_after}
-use Rattle.outcome_causes.specs.program_steps.proofs.Cases.{with_rights, right_rights, put_rights, tick_cases}
-use Rattle.outcome_causes.specs.outcome_ticks.proofs.Ticks.{elem_there}
+use Rattle.outcome_causes.specs.program_steps.proofs.Cases.{with_rights, right_rights, put_rights, tick_cases, elem_there}
 
 pub ids_first : (p : Plan) (q : IdPlan) → q.slots ≤ 65536 → (u : IdView) (program : Program) → IdGoesOn p q u program → IdGoesOn p q u (first_step program)
 ids_first p q narrow u (Write w after) g = id_programs.block_goes p q narrow u w after g

@@ -35,12 +35,12 @@ use Rattle.seat_programs.specs.Programs.{Program, Do, TakeMessage, TakeHome, Put
 use Rattle.seat_programs.specs.Cores.{Calls, Core, SeatState, word_of, found_at, words_after, word_after, homes_after, hand_after, lies_at, first_of, others_of, link_place, resolved, waiting_at, next_step, with_seat}
 use Rattle.seat_programs.specs.Ticks.{Moment, IsAnswered, fed, with_places, onto_first, taken, ticked}
 use Rattle.own_decisions.specs.Below.programs_allowed.specs.program_steps.specs.Sound.{Sound, first_step}
-use Rattle.own_decisions.specs.Below.programs_allowed.specs.program_steps.proofs.Cases.{tick_cases}
+use Rattle.own_decisions.specs.Below.programs_allowed.specs.program_steps.proofs.Cases.{tick_cases, calls_waiting}
 use Rattle.own_decisions.specs.Below.label_runs.specs.Labels.{FindsLabel}
 use Rattle.own_decisions.specs.accept_counts.specs.Counts.{word_of_id}
 use Rattle.own_decisions.specs.accept_counts.proofs.Words.{finds_label}
 use Rattle.own_decisions.specs.Below.outcome_stories.proofs.HomeCalls.{AreCalls, PutsAsked, calls_behind}
-use Rattle.own_decisions.specs.accept_counts.proofs.Ticks.{calls_waiting, few_of, fits_as, pairs_set}
+use Rattle.own_decisions.specs.accept_counts.proofs.Ticks.{few_of, fits_as, pairs_set}
 use Rattle.attempted_calls.proofs.AttemptedWords.{Rise, is_new, is_same, is_more, IsMakeAt, risen, Advances}
 use Rattle.attempted_calls.proofs.EndedTrails.{StoresNext, Of, NoCall, Makes, Knows, Trail, lost, Stays, GoesDo, GoesAside, Follows}
 use Rattle.attempted_calls.proofs.EndedNames.{follows_first, resolves}

@@ -14,7 +14,7 @@ use Rattle.seat_programs.specs.Ticks.{Moment, AreAnswered, quiet, ticked, run}
 use Rattle.seat_programs.specs.Told.{AreTasks, Made}
 use Rattle.own_decisions.specs.Below.programs_allowed.specs.program_steps.specs.GoesOn.{GoesOn}
 use Rattle.own_decisions.specs.Below.programs_allowed.specs.program_steps.specs.Sound.{Sound, AllRest, AreFitting, state, views_after, views_along}
-use Rattle.own_decisions.specs.Below.programs_allowed.specs.program_steps.proofs.Cases.{goes_first}
+use Rattle.own_decisions.specs.Below.programs_allowed.specs.program_steps.proofs.Cases.{goes_first, elem_there}
 use Rattle.own_decisions.specs.Below.programs_allowed.specs.sock_runs.proofs.LinkTicks.{RetriesGo}
 use Rattle.own_decisions.specs.Below.programs_allowed.specs.sock_runs.proofs.Ticks.{sound_ticks}
 use Rattle.own_decisions.specs.Below.outcome_stories.specs.Causes.{Asks}
@@ -26,7 +26,7 @@ use Rattle.own_decisions.specs.Below.outcome_ticks.proofs.Events.{event, cause_o
 use Rattle.own_decisions.specs.Below.outcome_causes.proofs.Final.{final}
 use Rattle.own_decisions.specs.Below.outcome_causes.proofs.Lives.{World, task_of, tells_of}
 use Rattle.own_decisions.specs.Below.outcome_stories.proofs.Members.{from_trace, to_trace}
-use Rattle.own_decisions.specs.Below.outcome_ticks.proofs.Ticks.{elem_there, tick_story}
+use Rattle.own_decisions.specs.Below.outcome_ticks.proofs.Ticks.{tick_story}
 use Rattle.own_decisions.specs.Below.outcome_causes.proofs.Worlds.{world_of}
 use Rattle.own_decisions.specs.accept_counts.specs.Refused.{Deed, DidStep, DidAt, DidIn}
 

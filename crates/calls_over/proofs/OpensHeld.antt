@@ -23,9 +23,9 @@ use Rattle.served_fits.specs.Below.programs_allowed.specs.program_steps.proofs.L
 use Rattle.served_fits.specs.Below.programs_allowed.specs.sock_runs.proofs.LinkTicks.{RetriesGo}
 use Rattle.served_fits.specs.Below.programs_allowed.specs.sock_runs.proofs.Ticks.{sound_ticks}
 use Rattle.served_fits.specs.Below.outcome_stories.specs.Stories.{In}
-use Rattle.served_fits.specs.Below.outcome_causes.proofs.Final.{at_within}
 use Rattle.served_fits.specs.Below.outcome_causes.proofs.Plain.{in_left}
 use Rattle.served_fits.specs.Below.accept_counts.proofs.Views.{row_same}
+use Rattle.corr_core.proofs.Notes.{at_length}
 
 module _ (e : Entry) where
   abbrev pub IsThere : List (List Entry) → Type 0
@@ -51,7 +51,7 @@ module _ (e : Entry) where
 
   held_set : (vs : List View) (i : ℕ) (v w : View) → get_elem? vs i ≡ some v → (IsThere v.lists → IsThere w.lists) → IsHeld vs → IsHeld (set vs i w)
   held_set vs i v w here f (j, u, at, h) = dite (ℕ_discrete j i)
-      (λ same. let one : u ≡ v = some-injective u v (sym at ∙ (ap (get_elem? vs) same ∙ here)) in (i, w, set_here vs i w (at_within vs i v here), f (subst (λ (x : View). IsThere x.lists) one h)))
+      (λ same. let one : u ≡ v = some-injective u v (sym at ∙ (ap (get_elem? vs) same ∙ here)) in (i, w, set_here vs i w (at_length vs i v here), f (subst (λ (x : View). IsThere x.lists) one h)))
       (λ far. (j, u, set_else vs i j w far ∙ at, h))
 
   module _ (p : Plan) where

@@ -28,7 +28,7 @@ use Rattle.seat_programs.specs.Ticks.{Moment, IsAnswered, AreAnswered, quiet, ti
 use Rattle.seat_programs.specs.Scripts.{played, IsRunWithCalls}
 use Rattle.refused_attempts.specs.Below.programs_allowed.specs.program_steps.specs.Rows.{row, hand_at}
 use Rattle.refused_attempts.specs.Below.programs_allowed.specs.program_steps.specs.Sound.{state, Sound, first_step, IsFitting, AreFitting, views_after, views_along}
-use Rattle.refused_attempts.specs.Below.programs_allowed.specs.sock_runs.proofs.Along.{place_inside, seat_rests}
+use Rattle.refused_attempts.specs.Below.programs_allowed.specs.sock_runs.proofs.Along.{seat_rests}
 use Rattle.refused_attempts.specs.Below.programs_allowed.specs.program_steps.proofs.Bounds.{law, lives_le}
 use Rattle.refused_attempts.specs.Below.programs_allowed.specs.program_steps.proofs.Cases.{ComesNext, with_rights, tick_keeps_marks}
 use Rattle.refused_attempts.specs.Below.programs_allowed.specs.program_walks.proofs.Closing.{Fails, fails_ending, what_fails}
@@ -45,6 +45,7 @@ use Rattle.refused_attempts.specs.Below.programs_allowed.specs.program_walks.pro
 use Rattle.refused_attempts.specs.Below.joint_runs.proofs.Runs.{AreMade, first_views}
 use Rattle.refused_attempts.specs.accept_counts.proofs.Early.{start, go, fitting}
 use Rattle.refused_attempts.specs.accept_counts.proofs.Rests.{many, aside}
+use Rattle.corr_core.proofs.Notes.{at_length}
 
 -- a life that was given a link was born
 pub given_born : (p : Plan) (c : Core) (vs : List View) → Sound p c vs → (i h k : ℕ) → i < p.slots → IsGiven c vs i h k → 0 < count (is_born h) (slot_facts (state c vs) i)
@@ -222,7 +223,7 @@ module _ (script : List Item) (made : AreMade script) (turns : List Turn) (core 
       (λ far. let at = sym (set_else (played script is.setup (is.scheduled ++ is.later)).seats 0 x.place first_of_ending far) ∙ x.there in
       ⊎_elim (λ rest. ap next_stores (seat_rests (played script is.setup (is.scheduled ++ is.later)) (rested_ahead script made.are (first_views script) (start script made turns core is) (go script made turns core is) turns core is (fitting script made turns core is)) x.place rest x.seat at))
       (λ a. ap next_stores (ap (λ (s : SeatState). s.program) (some-injective x.seat a.0 (sym at ∙ a.1)) ∙ a.2.2))
-      (aside script made turns core is x.place (place_inside (played script is.setup (is.scheduled ++ is.later)).seats x.place x.seat at))))
+      (aside script made turns core is x.place (at_length (played script is.setup (is.scheduled ++ is.later)).seats x.place x.seat at))))
 
   low : (i h : ℕ) → i < (plan_of script).slots → 0 < count (is_born h) (slot_facts (state (closing_of script turns core is) (views_played script turns core is (first_views script))) i) → socket_id h i + 1 ≢ NO_SOCKET
   low i h inside born e = let sound = closing_is_sound in let s : Rattle.atomic_table.specs.Table.State Rattle.sock_model.specs.declared.home.Home.Home View = state closing views in

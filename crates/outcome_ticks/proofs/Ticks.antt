@@ -133,12 +133,6 @@ module _ (slots requests : ℕ) (calls : ℕ → Type 0) (broken : List ℕ) (i 
   last_told n [] x = sym (plain_stores n call (last_name n es) x.0)
   last_told n (t ∷ ts) x = refl
 
-pub elem_there : {A B : Type 0} (xs : List A) (ys : List B) (i : ℕ) (x : A) → length ys ≡ length xs → get_elem? xs i ≡ some x → (y : B) × (get_elem? ys i ≡ some y)
-elem_there [] ys i x l e = absurd (some-ne-none x (sym e))
-elem_there (z ∷ zs) [] i x l e = absurd (omega arith)
-elem_there (z ∷ zs) (y ∷ ys) zero x l e = (y, refl)
-elem_there (z ∷ zs) (y ∷ ys) (suc i) x l e = elem_there zs ys i x (omega arith) e
-
 pub get_of : {A B : Type 0} (xs : List A) (ys : List B) (i : ℕ) (x : A) → length xs ≡ length ys → get_elem? xs i ≡ some x → (y : B) × (slice_get ys i ≡ Some y)
 get_of [] ys i x l e = absurd (some-ne-none x (sym e))
 get_of (z ∷ zs) [] i x l e = absurd (omega arith)

@@ -26,15 +26,14 @@ use Rattle.seat_programs.specs.Programs.{Program, Do, Say, Sent, Rest, TakeMessa
 use Rattle.seat_programs.specs.Cores.{Calls, Core, SeatState, word_of, found_at, words_after, word_after, homes_after, hand_after, lies_at, first_of, others_of, link_place, resolved, still_waiting, waiting_at, next_step, with_seat}
 use Rattle.seat_programs.specs.Ticks.{Moment, IsAnswered, fed, with_places, onto_first, taken, step_with, tick_with, ticked}
 use Rattle.sent_once.specs.Below.programs_allowed.specs.program_steps.specs.Sound.{Sound, first_step}
-use Rattle.sent_once.specs.Below.programs_allowed.specs.program_steps.proofs.Cases.{tick_cases}
+use Rattle.sent_once.specs.Below.programs_allowed.specs.program_steps.proofs.Cases.{tick_cases, ticks_first, calls_waiting}
 use Rattle.sent_once.specs.Below.outcome_stories.specs.Stories.{In}
 use Rattle.sent_once.specs.Below.label_runs.specs.Labels.{Trial, Idle, Tries, put_behind, Kept, Storing, unlocked_trial, Labels}
 use Rattle.sent_once.specs.accept_counts.specs.Counts.{pair_of, of_retry, with_waiting, WasMade, WasNow, StoresOwn}
 use Rattle.sent_once.specs.accept_counts.specs.EndedCalls.{Store, stores_by, stored_at}
 use Rattle.sent_once.specs.accept_counts.proofs.Words.{made_on, finds_label, words_forward, makes_new, advances_new}
-use Rattle.sent_once.specs.accept_counts.proofs.Readings.{ticks_first}
 use Rattle.sent_once.specs.Below.outcome_stories.proofs.HomeCalls.{AreCalls, PutsAsked, calls_behind}
-use Rattle.sent_once.specs.accept_counts.proofs.Ticks.{few_more, few_of, calls_waiting, fits_as, pair_now, untried, waiting_set, once_more, old_or_new, pairs_set, labels_first}
+use Rattle.sent_once.specs.accept_counts.proofs.Ticks.{few_more, few_of, fits_as, pair_now, untried, waiting_set, once_more, old_or_new, pairs_set, labels_first}
 use Rattle.sent_once.specs.Below.story_ticks.proofs.Chains.{AreFewTries as AreTries}
 use Rattle.sent_once.specs.Below.label_runs.proofs.Programs.{retry_goes}
 use Rattle.sent_once.specs.accept_counts.proofs.SeatFacts.{seat_facts}

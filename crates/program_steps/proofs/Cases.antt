@@ -1,5 +1,5 @@
 -- What holds of each kind of step of a seat holds of its tick.
-use Rattle.std.proofs.Common.{◌≡◌, ◌≢◌, ℕ, zero, suc, ◌*◌, ◌<◌, Bool, true, false, List, [], ◌∷◌, ◌++◌, length, set, refl, sym, ap, subst, arith}
+use Rattle.std.proofs.Common.{◌≡◌, ◌≢◌, ℕ, zero, suc, ◌*◌, ◌<◌, Bool, true, false, List, [], ◌∷◌, ◌++◌, length, set, refl, sym, ap, ◌∙◌, subst, arith}
 use mathlib.Core.Option.{Option, some, none, some-injective, some-ne-none}
 use lib.ListN.{get_elem?}
 use Rattle.atomic_table.proofs.Lists.{set_again}
@@ -21,10 +21,10 @@ use Rattle.seat_programs.specs.Programs.{Program, Do, Say, Sent, Rest, TakeMessa
 use Rattle.seat_programs.specs.Asides.{Step, Found}
 use Rattle.seat_programs.specs.Heads.{Head, Exit, Posts, Unlocks, Decides, Locks, Joins, Opens, Reads, Discards}
 use Rattle.seat_programs.specs.Rounds.{round}
-use Rattle.seat_programs.specs.Beside.{found_in, calls_after}
+use Rattle.seat_programs.specs.Beside.{found_in, more_given, calls_after}
 use Rattle.program_steps.specs.Fits.{FitsFound}
 use Rattle.seat_programs.specs.corr_core.specs.Word.{parts, code_of}
-use Rattle.seat_programs.specs.Asides.{PutCall, id_slot}
+use Rattle.seat_programs.specs.Asides.{PutCall, TakeBytes, Taking, Bytes, id_slot}
 use Rattle.seat_programs.specs.Heads.{HasEnded}
 use Rattle.seat_programs.specs.Posts.{ends_call, end_id, unlocked}
 use Rattle.std.specs.Prelude.{if◌then◌else◌, ◌+◌, Some, None}
@@ -37,11 +37,34 @@ use Rattle.program_steps.proofs.Passes.{goes_round}
 use Rattle.program_steps.proofs.Rounds.{begins_round}
 
 -- of two lists of one length each place of one is a place of the other
+pub elem_there : {A B : Type 0} (xs : List A) (ys : List B) (i : ℕ) (x : A) → length ys ≡ length xs → get_elem? xs i ≡ some x → (y : B) × (get_elem? ys i ≡ some y)
+elem_there [] ys i x l e = absurd (some-ne-none x (sym e))
+elem_there (z ∷ zs) [] i x l e = absurd (omega arith)
+elem_there (z ∷ zs) (y ∷ ys) zero x l e = (y, refl)
+elem_there (z ∷ zs) (y ∷ ys) (suc i) x l e = elem_there zs ys i x (omega arith) e
+
 pub beside : {A B : Type 0} (l : List A) (m : List B) (i : ℕ) (a : A) → length m ≡ length l → get_elem? l i ≡ some a → get_elem? m i ≡ none → ⊥
-beside [] m i a e at none_ = some-ne-none a (sym at)
-beside (x ∷ xs) [] i a e at none_ = omega (arith, e)
-beside (x ∷ xs) (y ∷ ys) zero a e at none_ = some-ne-none y none_
-beside (x ∷ xs) (y ∷ ys) (suc i) a e at none_ = beside xs ys i a (omega (arith, e)) at none_
+beside l m i a e at none_ = let y = elem_there l m i a e at in some-ne-none y.0 (sym y.1 ∙ none_)
+
+-- a tick is the first step of what its seat is at
+pub ticks_first : (p : Plan) (i : ℕ) (seat : SeatState) (c : Core) (answer : Answer) (program : Program) → tick_with p i seat c answer program ≡ step_with p i seat c answer (first_step program)
+ticks_first p i seat c answer (Write w after) = refl
+ticks_first p i seat c answer (Round head next) = refl
+ticks_first p i seat c answer _ = refl
+
+pub views_first : (p : Plan) (i : ℕ) (c : Core) (vs : List View) (v : View) (answer : Answer) (program : Program) → views_of p i c vs v answer program ≡ views_with p i c vs v answer (first_step program)
+views_first p i c vs v answer (Write w after) = refl
+views_first p i c vs v answer (Round head next) = refl
+views_first p i c vs v answer _ = refl
+
+-- no step aside touches the retries that wait
+pub given_waiting : (k : ℕ) (t : Taking) (a : Calls) → (more_given k t a).waiting ≡ a.waiting
+given_waiting k (Bytes bytes) a = refl
+given_waiting k _ a = refl
+
+pub calls_waiting : (step : Step) (found : Found step) (a : Calls) → (calls_after step found a).waiting ≡ a.waiting
+calls_waiting (TakeBytes k room) found a = given_waiting k found a
+calls_waiting _ found a = refl
 
 -- a home that shows a message has it
 lies_there : (x : Option (Option Home)) (heading : Heading) (bytes : List ℕ) → letter_of (shown (λ (home : Home). home) x) ≡ some (heading, bytes) → x ≡ some (some (Message heading bytes))

@@ -28,7 +28,7 @@ use Rattle.sock_runs.proofs.Ends.{none_has}
 use Rattle.program_walks.proofs.Through.{any_end, through_any_failed}
 use Rattle.program_walks.proofs.ThroughCalls.{through_reader, through_next}
 use Rattle.program_walks.proofs.ThroughClients.{through_back, through_any}
-use Rattle.program_walks.proofs.Opening.{mapped, appended}
+use Rattle.program_walks.proofs.Opening.{mapped, appended, all_at}
 use Rattle.program_walks.proofs.LinksRecorded.{Gives, gives_passes, gives_opens, gives_follow, Linked}
 
 -- ## Programs
@@ -61,11 +61,6 @@ module _ (own : ℕ → ℕ → Type 0) where
   others_give zero calls os k i x at = readers_give calls os k i x at
   others_give (suc n) calls os k zero x at = subst G (some-injective Rest x at) tt
   others_give (suc n) calls os k (suc i) x at = others_give n calls os k i x at
-
-  all_at : {A : Type 0} (P : A → Type 0) (l : List A) (i : ℕ) (a : A) → AllByRecursion P l → get_elem? l i ≡ some a → P a
-  all_at P [] i a all at = absurd (some-ne-none a (sym at))
-  all_at P (x ∷ xs) zero a all at = subst P (some-injective x a at) all.0
-  all_at P (x ∷ xs) (suc i) a all at = all_at P xs i a all.1 at
 
   -- no life is made before the first step
   pub beginning_linked : (p : Plan) (q : IdPlan) (clients : List (List Task)) (others : List Program) → AllByRecursion (AllByRecursion (λ (t : Task). OwnsLink t.number t.op)) clients → ((k : ℕ) (x : Program) → get_elem? others k ≡ some x → G x)

@@ -24,7 +24,6 @@ use Rattle.seat_programs.specs.Ticks.{Moment, ticked, run, IsAnswered, AreAnswer
 use Rattle.sock_runs.specs.program_steps.specs.Rows.{row, hand_at}
 use Rattle.sock_runs.specs.program_steps.specs.May.{May}
 use Rattle.sock_runs.specs.program_steps.specs.Sound.{state, Sound, first_step, IsFitting, AreFitting, views_after, views_along}
-use Rattle.sock_runs.proofs.Along.{place_inside}
 use Rattle.sock_runs.proofs.Notes.{bears}
 use Rattle.sock_runs.proofs.LinkNotes.{links_only, birth_links}
 use Rattle.sock_runs.specs.program_steps.proofs.AtCalls.{AtCalls, every_exit}
@@ -35,6 +34,7 @@ use Rattle.program_walks.proofs.ThroughCalls.{through_first, through_next}
 use Rattle.sock_runs.specs.program_steps.proofs.Cases.{ComesNext, with_rights, tick_keeps_marks}
 use Rattle.sock_runs.proofs.LinkTicks.{RetriesGo}
 use Rattle.sock_runs.proofs.Ticks.{sound_ticks}
+use Rattle.seat_programs.specs.corr_core.proofs.Notes.{at_length}
 
 -- each life that the program makes it stores next, at an operation that is its link's own
 abbrev pub GivesAt : (ℕ → ℕ → Type 0) → Unit {0} → Call → (ℕ → Program) → (Unit {0} → ℕ → Type 0) → Type 0
@@ -99,7 +99,7 @@ module _ (p : Plan) (own : ℕ → ℕ → Type 0) (Q : ℕ → ℕ → Type 0) 
     mine = subst (Gives own) is (through_first (Gives own) (gives_passes own) (gives_opens own) (gives_follow own) seat.program (l.programs i seat at_seat))
 
     here : get_elem? after.seats i ≡ some seat'
-    here = set_here c.seats i seat' (place_inside c.seats i seat at_seat)
+    here = set_here c.seats i seat' (at_length c.seats i seat at_seat)
 
     its_next : (s : SeatState) (x : ℕ × ℕ) → get_elem? c.seats i ≡ some s → next_stores s.program ≡ some x → stores call ≡ some x
     its_next s x at e = let same : seat ≡ s = some-injective seat s (sym at_seat ∙ at) in ap next_stores (sym is) ∙ (ap (λ (y : SeatState). next_stores (first_step y.program)) same ∙ first_stored s.program x e)

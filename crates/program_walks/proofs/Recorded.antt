@@ -24,7 +24,6 @@ use Rattle.seat_programs.specs.Ticks.{Moment, ticked, run, IsAnswered, AreAnswer
 use Rattle.sock_runs.specs.program_steps.specs.Rows.{row, hand_at}
 use Rattle.sock_runs.specs.program_steps.specs.May.{May}
 use Rattle.sock_runs.specs.program_steps.specs.Sound.{state, Sound, first_step, IsFitting, AreFitting, views_after, views_along}
-use Rattle.sock_runs.proofs.Along.{place_inside}
 use Rattle.sock_runs.proofs.Notes.{bears, births_only, birth_notes}
 use Rattle.program_walks.proofs.Records.{stores, next_stores, but, Records, next_stored, first_stored, opens_same}
 use Rattle.program_walks.proofs.Through.{records_passes, records_opens, records_follow, comes_follows}
@@ -32,6 +31,7 @@ use Rattle.program_walks.proofs.ThroughCalls.{through_first, through_next}
 use Rattle.sock_runs.specs.program_steps.proofs.Cases.{ComesNext, with_rights, tick_keeps_marks}
 use Rattle.sock_runs.proofs.LinkTicks.{RetriesGo}
 use Rattle.sock_runs.proofs.Ticks.{sound_ticks}
+use Rattle.seat_programs.specs.corr_core.proofs.Notes.{at_length}
 
 -- the id stands in the word of operation o, in which no seat stores any more
 pub record IsRecorded (p : Plan) (c : Core) (left : ℕ → ℕ → Bool) (o id : ℕ) : Type 0 where
@@ -133,7 +133,7 @@ module _ (p : Plan) (Q : ℕ → ℕ → Type 0) (c : Core) (vs : List View) (i 
   stays j s far at = set_else c.seats i j seat' far ∙ at
 
   here : get_elem? after.seats i ≡ some seat'
-  here = set_here c.seats i seat' (place_inside c.seats i seat at_seat)
+  here = set_here c.seats i seat' (at_length c.seats i seat at_seat)
 
   its_next : (s : SeatState) (x : ℕ × ℕ) → get_elem? c.seats i ≡ some s → next_stores s.program ≡ some x → stores call ≡ some x
   its_next s x at e = let same : seat ≡ s = some-injective seat s (sym at_seat ∙ at) in ap next_stores (sym is) ∙ (ap (λ (y : SeatState). next_stores (first_step y.program)) same ∙ first_stored s.program x e)

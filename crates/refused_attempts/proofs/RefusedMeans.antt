@@ -26,11 +26,10 @@ use Rattle.attempted_calls.specs.Below.programs_allowed.specs.program_steps.spec
 use Rattle.attempted_calls.specs.Below.programs_allowed.specs.program_steps.specs.May.{May}
 use Rattle.attempted_calls.specs.Below.programs_allowed.specs.program_steps.specs.Rows.{row, hand_at, took_message, link_away, link_home_again, took_bytes}
 use Rattle.attempted_calls.specs.Below.programs_allowed.specs.program_steps.specs.Sound.{Sound, AreFitting, state, views_after, views_along}
-use Rattle.attempted_calls.specs.Below.programs_allowed.specs.program_steps.proofs.Cases.{goes_first, with_rights, right_rights, put_rights, tick_cases}
+use Rattle.attempted_calls.specs.Below.programs_allowed.specs.program_steps.proofs.Cases.{goes_first, with_rights, right_rights, put_rights, tick_cases, elem_there}
 use Rattle.attempted_calls.specs.Below.programs_allowed.specs.sock_runs.proofs.LinkTicks.{RetriesGo}
 use Rattle.attempted_calls.specs.Below.programs_allowed.specs.sock_runs.proofs.Ticks.{sound_ticks}
 use Rattle.attempted_calls.specs.Below.outcome_stories.proofs.Added.{failer_note, row_adds}
-use Rattle.attempted_calls.specs.Below.outcome_ticks.proofs.Ticks.{elem_there}
 use Rattle.attempted_calls.specs.Below.outcome_stories.proofs.Used.{word_stays}
 use Rattle.attempted_calls.specs.accept_counts.specs.Refused.{Deed, DidStep, DidAt, DidIn}
 

@@ -21,6 +21,7 @@ use Rattle.accept_counts.specs.Below.chain_steps.proofs.Frames.{in_log}
 use Rattle.accept_counts.specs.Below.chain_steps.proofs.Letters.{writes_room}
 use Rattle.accept_counts.specs.Below.chain_steps.proofs.Lists.{at_some, distinct_filter}
 use Rattle.corr_core.specs.declared.marks.Plan.{Plan as IdPlan}
+use Rattle.corr_core.proofs.Notes.{at_length}
 use Rattle.sock_message.specs.Asked.{Asked}
 use Rattle.seat_programs.specs.declared.task.Task.{Task}
 use Rattle.seat_programs.specs.Calls.{Call, ClaimSlot, CreateLife, AddRef, SubRef, SetOdd, Recycle, FreeSlot, StoreLink, LoadLink, ResetHead, ClearCode, StoreCode, StoreName, LoadName, StoreOpen, LoadOpen, LookWord, FindLink, LoadCode, ClaimRequest, Unconnect, SwapHead, Connect, EmptyHead, ReadNext, ReverseNext, FreeRequest, StorePlace, DropPlace}
@@ -35,7 +36,7 @@ use Rattle.accept_counts.specs.Below.outcome_stories.specs.Causes.{Asks}
 use Rattle.accept_counts.specs.Below.outcome_stories.specs.Explains.{Done, swapped}
 use Rattle.accept_counts.specs.Below.outcome_stories.specs.Kept.{is_of_send, of_sends, undo, IsOfCall as IsOfSpoken, IsOfTask, EndsIn, AreMade, AreMadeNow, IsSpoken, SeatStory, Story}
 use Rattle.accept_counts.specs.Below.outcome_stories.specs.Stories.{Event, In, trace_of}
-use Rattle.accept_counts.specs.Below.outcome_causes.proofs.Final.{at_there, at_within}
+use Rattle.accept_counts.specs.Below.outcome_causes.proofs.Final.{at_there}
 use Rattle.accept_counts.specs.Below.outcome_stories.proofs.Members.{all_in}
 use Rattle.accept_counts.specs.Below.outcome_causes.proofs.Messages.{in_of_at, filter_has}
 use Rattle.accept_counts.specs.Below.outcome_ticks.proofs.Seats.{undo_done, undo_in}
@@ -78,7 +79,7 @@ module _ (p : Plan) (q : IdPlan) (is_call : Asked → Type 0) (ids : ℕ → ℕ
     (ts : List Trial) (law : LabelLaw is_call ids p q c vs ts) where
   -- what the story has of a seat with this view
   seat_of : (i : ℕ) (v : View) → get_elem? vs i ≡ some v → (tasks : List Task) × (slice_get clients i ≡ Some tasks) × (seat : SeatState) × SeatStory p (IsSpoken clients) over es lost c.outcomes i tasks seat.program v
-  seat_of i v at = let seat = at_there c.seats i (omega (arith, at_within vs i v at, sound.each)) in let a = get_of c.seats clients i seat.0 story.each seat.1 in (a.0, a.1, seat.0, story.seats i a.0 seat.0 v a.1 seat.1 at)
+  seat_of i v at = let seat = at_there c.seats i (omega (arith, at_length vs i v at, sound.each)) in let a = get_of c.seats clients i seat.0 story.each seat.1 in (a.0, a.1, seat.0, story.seats i a.0 seat.0 v a.1 seat.1 at)
 
   pub each_made : (i : ℕ) (v : View) → get_elem? vs i ≡ some v → (made : List Entry) × (v.lists ≡ made ∷ [])
   each_made i v at = let s = (seat_of i v at).3.at in (s.made, s.lists)

@@ -37,7 +37,6 @@ use Rattle.accept_counts.specs.Below.outcome_stories.specs.Explains.{Way, Own, B
 use Rattle.accept_counts.specs.Below.outcome_stories.specs.Kept.{IsSpoken, IsTraced, SeatStory, Story}
 use Rattle.accept_counts.specs.Below.outcome_stories.specs.Stories.{Entry, Event, In, trace_of, trace_now}
 use Rattle.accept_counts.specs.Below.outcome_ticks.proofs.Events.{event}
-use Rattle.accept_counts.specs.Below.outcome_causes.proofs.Final.{at_within}
 use Rattle.accept_counts.specs.Below.outcome_stories.proofs.Members.{from_trace, to_trace}
 use Rattle.accept_counts.specs.Below.outcome_ticks.proofs.Seats.{undo_in}
 use Rattle.accept_counts.specs.Below.outcome_ticks.proofs.Tasks.{one_task}
@@ -45,6 +44,7 @@ use Rattle.accept_counts.specs.Below.outcome_ticks.proofs.Ticks.{MayMove, IsNew,
 use Rattle.sent_once.proofs.DropCodes.{Failing, NoFail, Fails, IsOtherCode, SaysFailed, Stores, codes_first, codes_next}
 use Rattle.sent_once.proofs.DropSays.{IsInHand, first_numbered, says, sets_here}
 use Rattle.sent_once.proofs.DropWords.{version_in, code_in, coding_version, code_stays}
+use Rattle.corr_core.proofs.Notes.{at_length}
 
 -- ## What is known of codes
 
@@ -259,10 +259,10 @@ module _ (p : Plan) (clients : List (List Task)) (are : AreTasks p clients) (ove
         known j h inside even version some_ = known_later clients es fresh kept j h (code_in words j) (known_behind j h inside even version some_)
 
         seat_there : m.seat < length c.seats
-        seat_there = at_within c.seats m.seat seat at
+        seat_there = at_length c.seats m.seat seat at
 
         view_there : m.seat < length vs
-        view_there = at_within vs m.seat v here
+        view_there = at_length vs m.seat v here
 
         by : Behind mine.0 (IsFailOf clients m.seat) IsOtherCode call next found → CodesLaw clients p stepped_ (set vs m.seat w) fresh
         by (stores_none stores) = reseated fresh kept c.calls (next found) (hand_after p call c.homes seat.hand) words (homes_after p call seat.hand c.homes) (set vs m.seat w) NoFail stores (same_else w) (λ _. tt) known

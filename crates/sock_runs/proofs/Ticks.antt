@@ -21,7 +21,7 @@ use Rattle.program_steps.specs.Sound.{state, AreInHand, AreHeld, AreLabelled, So
 use Rattle.sock_runs.proofs.SlotTicks as slots
 use Rattle.sock_runs.proofs.NameTicks as names
 use Rattle.sock_runs.proofs.ChainTicks as chains
-use Rattle.sock_runs.proofs.LinkTicks.{RetriesGo, reseats, steps_aside, takes_message, takes_home_shown, puts_home, puts_bytes, asks_ready}
+use Rattle.sock_runs.proofs.LinkTicks.{RetriesGo, reseats, steps_aside, takes_message, takes_home_shown, puts_home, puts_bytes, asks_ready, same_message}
 use Rattle.sock_runs.proofs.HandTicks.{takes, finishes, puts}
 use Rattle.sock_runs.proofs.Held.{held_in_hand, keeps_held}
 use Rattle.sock_runs.proofs.Founds.{finds}
@@ -74,7 +74,7 @@ module _ (p : Plan) (c : Core) (vs : List View) (o : Lawful (λ home. home) p (s
 
 -- ## All seats
 
-homes_sized : (p : Plan) (call : Call) (hand : List Home) (hs : List (Option Home)) → length (homes_after p call hand hs) ≡ length hs
+pub homes_sized : (p : Plan) (call : Call) (hand : List Home) (hs : List (Option Home)) → length (homes_after p call hand hs) ≡ length hs
 homes_sized p (TakeLink k) hand hs = length-set hs (p.requests + k) none
 homes_sized p (PutLink k) hand hs = length-set hs (p.requests + k) (first_of hand)
 homes_sized p (PutMessage q heading bytes) hand hs = length-set hs q (some (Message heading bytes))
@@ -90,11 +90,9 @@ labels_stay : (p : Plan) (v : View) (call : Call) → May p v call → (hand : L
 labels_stay p v (TakeLink k) may hand held hs labels i heading bytes at = ⊎_elim (λ a. absurd (some-ne-none (Message heading bytes) (sym a.1))) (λ a. labels i heading bytes a.1) (at_set hs (p.requests + k) i none (some (Message heading bytes)) at)
 labels_stay p v (PutLink k) may hand held hs labels i heading bytes at = ⊎_elim (λ a. absurd (first_link hand v.hands (held_in_hand hand v.rights v.hands may.2 held) heading bytes a.1)) (λ a. labels i heading bytes a.1) (at_set hs (p.requests + k) i (first_of hand) (some (Message heading bytes)) at)
 labels_stay p v (PutMessage q l cs) may hand held hs labels i heading bytes at = ⊎_elim
-    (λ a. let e : Message l cs ≡ Message heading bytes = some-injective (Message l cs) (Message heading bytes) a.1 in let q = parts l cs heading bytes e in (subst (λ (z : Heading). z.place < 8 * p.operations) q.0 may.2, subst (λ (z : List ℕ). z ≢ []) q.1 may.3))
+    (λ a. let e : Message l cs ≡ Message heading bytes = some-injective (Message l cs) (Message heading bytes) a.1 in let q = same_message l cs heading bytes e in (subst (λ (z : Heading). z.place < 8 * p.operations) q.0 may.2, subst (λ (z : List ℕ). z ≢ []) q.1 may.3))
     (λ a. labels i heading bytes a.1) (at_set hs q i (some (Message l cs)) (some (Message heading bytes)) at)
   where
-    parts : (a : Heading) (b : List ℕ) (c : Heading) (d : List ℕ) → Message a b ≡ Message c d → (a ≡ c) × (b ≡ d)
-    parts a b c d e = (cc, cc)
 labels_stay p v _ may hand held hs labels i heading bytes at = labels i heading bytes at
 
 module _ (p : Plan) (retries_go : RetriesGo p) (c : Core) (vs : List View) (i : ℕ) (sound : Sound p c vs) where
