@@ -23,6 +23,7 @@ use Rattle.seat_programs.specs.Ticks.{Moment, IsAnswered, AreAnswered, ticked, r
 use Rattle.outcome_causes.specs.program_steps.specs.Sound.{state, Sound, IsAhead, IsFitting, AreFitting, views_after, views_along}
 use Rattle.outcome_causes.specs.sock_runs.proofs.Along.{seat_rests, ticked_ahead}
 use Rattle.outcome_causes.specs.program_steps.proofs.Bounds.{law, lives_le}
+use Rattle.outcome_causes.specs.program_steps.proofs.Cases.{elem_there}
 use Rattle.outcome_causes.specs.program_walks.proofs.LinksOpening.{OpensLink}
 use Rattle.outcome_causes.specs.sock_runs.proofs.LinkTicks.{RetriesGo}
 use Rattle.outcome_causes.specs.sock_runs.proofs.Quiets.{ticked_seats, ticked_rests}
@@ -77,7 +78,7 @@ module _ (p : Plan) (calls os : List ℕ) (in_os : (k o : ℕ) → get_elem? os 
   reader_of c vs taken k j seat at high = let many = k.many in let x = at_some os (j - 32) (let l = at_length c.seats j seat at in omega (arith, l, many, high)) in (j - 32, x.0, omega (arith, high), x.1)
 
   pub view_at : (c : Core) (vs : List View) → Sound p c vs → (j : ℕ) (seat : SeatState) → get_elem? c.seats j ≡ some seat → (v : View) × (get_elem? vs j ≡ some v)
-  view_at c vs sound j seat at = at_some vs j (let l = at_length c.seats j seat at in let e = sound.each in omega (arith, l, e))
+  view_at c vs sound j seat at = elem_there c.seats vs j seat sound.each at
 
   pub state_at : (c : Core) (vs : List View) (taken : ℕ → List Taking) → Keeps c vs taken → (j : ℕ) (seat : SeatState) (v : View) → get_elem? c.seats j ≡ some seat → get_elem? vs j ≡ some v → (r : ReaderOf j)
       → State p calls r.0 r.1 (in_os r.0 r.1 r.3) Odd Lasts (ends r.0) (get_or c.words (open_index p r.1) 0) (taken r.0) seat.program v

@@ -260,4 +260,3 @@ module _ (p : Plan) (clients : List (List Task)) (are : AreTasks p clients) (rea
         (explained_on (0 + length (map plain_tasks clients)) (replicate n no_tasks) (replicate n Rest) (replicate readers no_tasks) (readers_from calls 0 os) (rests_explained (0 + length (map plain_tasks clients)) n)
         (subst (λ z. AreExplained p (IsSpoken (seats_tasks clients readers)) (0 + length (map plain_tasks clients) + length (replicate n no_tasks)) (replicate z no_tasks) (readers_from calls 0 os)) (sym many)
         (readers_explained (0 + length (map plain_tasks clients) + length (replicate n no_tasks)) (let m = length_same n no_tasks in omega (arith, plain, m)) calls 0 os))))
-      where

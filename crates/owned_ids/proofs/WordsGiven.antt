@@ -3,7 +3,7 @@ use Rattle.std.proofs.Common.{◌≡◌, ◌≢◌, ℕ, zero, suc, ◌+◌, ◌
 use Rattle.std.specs.Prelude as std
 use Rattle.std.specs.List.{AllByRecursion}
 use mathlib.Core.Logic.{dite}
-use mathlib.Core.Option.{Option, some, none, some-injective, some-ne-none}
+use mathlib.Core.Option.{Option, some, none, some-ne-none}
 use native.Mathlib.Decide.{ℕ_discrete}
 use lib.ListN.{get_elem?}
 use Rattle.atomic_table.proofs.Lists.{at_set}
@@ -28,7 +28,6 @@ use Rattle.seat_programs.specs.declared.task.Sizes.{Sizes}
 use Rattle.seat_programs.specs.Calls.{Call, CreateLife, StoreOpen}
 use Rattle.seat_programs.specs.Programs.{Program, Do, Rest, NO_SOCKET, open_from, make_socket}
 use Rattle.seat_programs.specs.Clients.{HeldLife, operation, client_from, ending_of}
-use Rattle.seat_programs.specs.Readers.{reader}
 use Rattle.seat_programs.specs.Cores.{Calls, Core, SeatState, word_of, word_after, found_at, words_after, homes_after, hand_after, resolved, next_step, waiting_at, with_seat, stepped}
 use Rattle.seat_programs.specs.Ticks.{Moment, ticked, run, IsAnswered, AreAnswered}
 use Rattle.seat_programs.specs.Scripts.{sizes_of, beginning, programs, readers_from, is_ending}
@@ -42,10 +41,10 @@ use Rattle.call_owing.specs.Below.programs_allowed.specs.sock_runs.proofs.LinksS
 use Rattle.call_owing.specs.Below.programs_allowed.specs.program_walks.proofs.Records.{stores, opens_same}
 use Rattle.call_owing.specs.Below.programs_allowed.specs.program_walks.proofs.Opening.{mapped, appended}
 use Rattle.call_owing.specs.Below.programs_allowed.specs.program_walks.proofs.LinksOpening.{OwnsLink}
-use Rattle.call_owing.specs.Below.programs_allowed.specs.program_walks.proofs.Through.{Passes, PassesOpens, Follows, any_end, comes_follows, through_any_failed, at_calls_passes, at_calls_follow}
+use Rattle.call_owing.specs.Below.programs_allowed.specs.program_walks.proofs.Through.{Passes, PassesOpens, Follows, comes_follows, through_any_failed, at_calls_passes, at_calls_follow}
 use Rattle.call_owing.specs.Below.programs_allowed.specs.program_steps.proofs.AtCalls.{AtCalls, every_exit}
 use Rattle.call_owing.specs.Below.programs_allowed.specs.program_walks.proofs.ThroughSends.{through_ending}
-use Rattle.call_owing.specs.Below.programs_allowed.specs.program_walks.proofs.ThroughCalls.{through_reader, through_first, through_next}
+use Rattle.call_owing.specs.Below.programs_allowed.specs.program_walks.proofs.ThroughCalls.{through_others, through_first, through_next}
 use Rattle.call_owing.specs.Below.programs_allowed.specs.program_walks.proofs.ThroughClients.{through_back, through_any}
 use Rattle.call_owing.specs.Below.programs_allowed.specs.program_steps.proofs.Cases.{ComesNext, with_rights, tick_keeps_marks}
 use Rattle.call_owing.specs.Below.programs_allowed.specs.sock_runs.proofs.LinkTicks.{RetriesGo}
@@ -113,15 +112,8 @@ module _ (own : ℕ → ℕ → Type 0) where
       through_any G names_passes sizes held t.number (λ h. client_from sizes h ts) t.op after
       (λ name k e. names_open sizes.slots 0 t.number name k (client_from sizes held ts) (subst (OwnsLink own t.number) e mine.0) (after held))
 
-  names_readers : (calls os : List ℕ) (k i : ℕ) (x : Program) → get_elem? (readers_from calls k os) i ≡ some x → G x
-  names_readers calls [] k i x e = absurd (some-ne-none x (sym e))
-  names_readers calls (o ∷ os) k zero x e = subst G (some-injective (reader calls k o) x e) (through_reader any_end G names_passes.reads (λ how e. through_any_failed G names_passes how.code) tt names_opens calls k o)
-  names_readers calls (o ∷ os) k (suc i) x e = names_readers calls os (k + 1) i x e
-
   pub names_others : (n : ℕ) (calls os : List ℕ) (k i : ℕ) (x : Program) → get_elem? (std.replicate n Rest ++ readers_from calls k os) i ≡ some x → G x
-  names_others zero calls os k i x e = names_readers calls os k i x e
-  names_others (suc n) calls os k zero x e = subst G (some-injective Rest x e) tt
-  names_others (suc n) calls os k (suc i) x e = names_others n calls os k i x e
+  names_others = through_others G names_passes names_opens tt
 
   names_ending : (os : List ℕ) → G (ending_of os)
   names_ending os = through_ending G names_passes.sends.plain.words (through_any_failed G names_passes 1014) names_opens tt os

@@ -14,14 +14,13 @@ use Rattle.sock_io.specs.declared.link.Ready.{Ready}
 use Rattle.sock_io.specs.declared.link.Ready.TheVariants as asks
 use Rattle.sock_model.specs.declared.chain.Right.{Right}
 use Rattle.sock_model.specs.declared.view.View.{View}
-use Rattle.chain_steps.proofs.Lists.{at_length, at_some}
 use Rattle.seat_programs.specs.Calls.{Call, SetOdd}
 use Rattle.seat_programs.specs.Writings.{Puts, Waits, Empties, Walks}
 use Rattle.seat_programs.specs.Programs.{Program, Do, Say, Sent, Rest, TakeMessage, TakeHome, PutHome, PutBytes, AskReady, Write, Aside, Round, Keep, Retries}
 use Rattle.seat_programs.specs.Cores.{Core, SeatState}
 use Rattle.seat_programs.specs.Ticks.{OfPut, OfReady, Moment, ticked, asked_link, is_refusal, broken_at}
 use Rattle.programs_allowed.specs.program_steps.specs.Sound.{first_step, state, views_after}
-use Rattle.programs_allowed.specs.program_steps.proofs.Cases.{IsStill, tick_does}
+use Rattle.programs_allowed.specs.program_steps.proofs.Cases.{IsStill, tick_does, elem_there}
 use Rattle.programs_allowed.specs.program_steps.specs.GoesOn.{GoesOn}
 use Rattle.run_laws.specs.World.{Nothing, Stop, stopped_after}
 use Rattle.run_laws.specs.Seen.{put_event, ready_event, next_event, event_at}
@@ -152,7 +151,7 @@ module _ (p : Plan) (c : Core) (views : List View) (stopped : ℕ → Bool) (m :
           first_still _ still = refl
 
       view_at : (i : ℕ) (x : SeatState) → get_elem? c.seats i ≡ some x → (v : View) × (get_elem? views i ≡ some v)
-      view_at i x at = at_some views i (let low = at_length c.seats i x at in omega (arith, kept.sound.each))
+      view_at i x at = elem_there c.seats views i x kept.sound.each at
 
       by_seat : (o : Option SeatState) → get_elem? c.seats m.seat ≡ o → m.seat ≡ s
       by_seat none none_ = absurd (contains_none (is_refusal m.answer) k (subst (λ o. Contains (broken_by o) k) none_ there))

@@ -1,19 +1,13 @@
 -- Two runs of a script with calls by the same lines of a schedule end in one core, where its links answered the same, one answer after another, before the ending and behind it.
 use Rattle.std.proofs.Common.{◌≡◌, ℕ, zero, suc, ◌⊎◌, inl, inr, List, [], ◌∷◌, ◌++◌, replicate, ap, sym, subst, refl, ◌∙◌, append-nil}
-use Rattle.std.proofs.lemmas.Option.{none-some}
-use Rattle.std.specs.Prelude as std
-use Rattle.std.specs.Prelude.{None}
-use mathlib.Core.Option.{Option, some, none}
-use Rattle.sock_words.specs.declared.kind.Kind.{Kind}
 use Rattle.sock_words.specs.declared.plain.Plan.{Plan}
 use Rattle.brpc_model.specs.Items.{Item}
 use Rattle.brpc_model.specs.Operations.{Turn}
 use Rattle.brpc_model.specs.Report.{Report, report_text}
 use Rattle.brpc_model.proofs.Unique.{only_report}
-use Rattle.seat_programs.specs.Programs.{Program, Say, Sent, Rest, Keep, Retries}
-use Rattle.seat_programs.specs.Cores.{Core, SeatState}
-use Rattle.seat_programs.specs.Ticks.{Answer, Moment, quiet, tick_with, ticked, run}
-use Rattle.seat_programs.specs.Runs.{kind_in, IsAtRest, Scheduled}
+use Rattle.seat_programs.specs.Cores.{Core}
+use Rattle.seat_programs.specs.Ticks.{Moment, quiet, ticked, run}
+use Rattle.seat_programs.specs.Runs.{IsAtRest, Scheduled}
 use Rattle.seat_programs.specs.Tasks.{plan_of}
 use Rattle.seat_programs.specs.Scripts.{IsRunWithCalls, Settles, set_up, opened, played, ending, is_ending, place_words, Reports}
 use Rattle.run_theorems.specs.Answers.{asked, told_in, before_ending, behind_ending}
@@ -31,19 +25,6 @@ all_heard program = by_asked (asked program) refl
     by_asked (k ∷ ks) e = inr (tt, k, ks, e)
 
 -- ## Who is at rest stays so
-
-rests_at : (p : Plan) (i : ℕ) (seat : SeatState) (c : Core) (a : Answer) (program : Program) → kind_in program ≡ None → tick_with p i seat c a program ≡ c
-rests_at p i seat c a (Say o outcome next) h = refl
-rests_at p i seat c a (Sent o next) h = refl
-rests_at p i seat c a Rest h = refl
-rests_at p i seat c a (Keep r next) h = refl
-rests_at p i seat c a (Retries requests after) h = refl
-rests_at p i seat c a _ h = absurd (none-some _ (sym h))
-
-rests_by : (p : Plan) (i : ℕ) (c : Core) (a : Answer) (o : Option SeatState) → elim o as (λ o. std.Option Kind) [ none ↦ None | some seat ↦ kind_in seat.program ] ≡ None →
-    elim o as (λ o. Core) [ none ↦ c | some seat ↦ tick_with p i seat c a seat.program ] ≡ c
-rests_by p i c a none h = refl
-rests_by p i c a (some seat) h = rests_at p i seat c a seat.program h
 
 stays : (p : Plan) (i n : ℕ) (c : Core) → IsAtRest c i → run p c (replicate n (quiet i)) ≡ c
 stays p i zero c h = refl

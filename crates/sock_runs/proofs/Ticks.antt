@@ -92,7 +92,6 @@ labels_stay p v (PutLink k) may hand held hs labels i heading bytes at = ⊎_eli
 labels_stay p v (PutMessage q l cs) may hand held hs labels i heading bytes at = ⊎_elim
     (λ a. let e : Message l cs ≡ Message heading bytes = some-injective (Message l cs) (Message heading bytes) a.1 in let q = same_message l cs heading bytes e in (subst (λ (z : Heading). z.place < 8 * p.operations) q.0 may.2, subst (λ (z : List ℕ). z ≢ []) q.1 may.3))
     (λ a. labels i heading bytes a.1) (at_set hs q i (some (Message l cs)) (some (Message heading bytes)) at)
-  where
 labels_stay p v _ may hand held hs labels i heading bytes at = labels i heading bytes at
 
 module _ (p : Plan) (retries_go : RetriesGo p) (c : Core) (vs : List View) (i : ℕ) (sound : Sound p c vs) where
