@@ -27,7 +27,8 @@ use Rattle.seat_programs.specs.Programs.{Program, Do, Say, Sent, Rest, Write, Re
 use Rattle.seat_programs.specs.Readers.{LIMIT, reader}
 use Rattle.seat_programs.specs.Heads.{Retry}
 use Rattle.seat_programs.specs.Clients.{operation, client_from, ending_of}
-use Rattle.seat_programs.specs.Cores.{Core, SeatState, word_of, found_at, resolved, next_step, still_waiting, waiting_at}
+use Rattle.seat_programs.specs.Cores.{Core, SeatState, found_at, resolved, next_step, still_waiting, waiting_at}
+use Rattle.seat_programs.specs.StepTables.{word_of}
 use Rattle.seat_programs.specs.Tasks.{opens, calls, plan_of, id_plan_of}
 use Rattle.seat_programs.specs.Ticks.{Answer, Unasked, Moment, quiet, tick_with, ticked}
 use Rattle.seat_programs.specs.Scripts.{sizes_of, programs, readers_from, all_programs, all_tasks, opened, set_up, played, IsRunWithCalls}

@@ -16,6 +16,8 @@ use Rattle.sock_model.specs.Marks.{about, at}
 use Rattle.sock_model.specs.SlotRows.{marks_of, added, met, looked, told_code, met_link}
 use Rattle.sock_model.specs.Weights.{total, only, is_hold}
 use Rattle.sock_model.specs.ChainRows.{spent_hand, with_hand, with_claim}
+use Rattle.corr_core.specs.Word.{parts}
+use Rattle.corr_core.specs.Decisions.{ends_call}
 use Rattle.call_causes.specs.Below.programs_allowed.specs.slot_steps.proofs.Numbers.{only-same}
 use Rattle.call_causes.specs.Below.programs_allowed.specs.slot_steps.proofs.Sums.{about-here}
 use Rattle.run_theorems.specs.Below.sock_steps.proofs.Quiet.{either_way}
@@ -25,9 +27,15 @@ use Rattle.seat_programs.specs.Calls.{Call, AddRef, LoadName, LoadOpen, TakeLink
 use Rattle.seat_programs.specs.Heads.{Retry, Decides, Locks, Reads, Discards}
 use Rattle.seat_programs.specs.Programs.{Program, Do, Say, Sent, Rest, TakeMessage, TakeHome, PutHome, PutBytes, AskReady, Write, Aside, Round, Keep, Retries, NO_SOCKET}
 use Rattle.seat_programs.specs.Readers.{room_of, took, discarded, read, reader}
-use Rattle.seat_programs.specs.Cores.{Core, SeatState, word_of, found_at, resolved, next_step, waiting_at, with_seat}
+use Rattle.seat_programs.specs.Cores.{Core, SeatState, found_at, resolved, next_step, waiting_at, with_seat}
+use Rattle.seat_programs.specs.StepTables.{word_of}
 use Rattle.seat_programs.specs.Ticks.{Answer, Moment, IsAnswer, IsAnswered, IsTaken, FitsTake, taken, with_found, step_with, tick_with, ticked}
-use Rattle.outcome_causes.specs.program_steps.specs.Rows.{row, is_id, found_id, by_right, new_claim, filled_claim, ready_claim, looked_clean}
+use Rattle.seat_programs.specs.StepTables.{row}
+use Rattle.seat_programs.specs.StepsOfNames.{is_id, found_id}
+use Rattle.seat_programs.specs.StepViews.{by_right}
+use Rattle.seat_programs.specs.StepsOfChain.{new_claim, ready_claim}
+use Rattle.seat_programs.specs.StepsOfMessages.{filled_claim}
+use Rattle.seat_programs.specs.StepsOfSlots.{looked_clean}
 use Rattle.outcome_causes.specs.program_steps.specs.Sound.{Sound, first_step, IsFitting, views_with, views_of, views_after}
 use Rattle.outcome_causes.specs.program_steps.proofs.Leaves.{claim_way}
 use Rattle.outcome_causes.specs.sock_runs.proofs.LinkTicks.{RetriesGo}
@@ -50,12 +58,12 @@ rights_none p v found hand (ClaimRequest id q) no_ e = either_way (found % 2 == 
 rights_none p v found hand (PutMessage q heading bytes) no_ e = claim_way (λ (u : View). u.rights ≡ []) v.claims (λ c. with_claim v (filled_claim c heading bytes)) v e (λ c. e)
 rights_none p v found hand (Unconnect q) no_ e = claim_way (λ (u : View). u.rights ≡ []) v.claims (λ c. with_claim v (ready_claim c)) v e (λ c. e)
 rights_none p v found hand (SwapHead i own) no_ e = absurd (no_ i own refl)
-rights_none p v found hand (EmptyHead i last) no_ e = subst (λ l. (by_right l (Rattle.outcome_causes.specs.program_steps.specs.Rows.emptied last found v) v).rights ≡ []) (sym e) e
-rights_none p v found hand (ReadNext q) no_ e = subst (λ l. (by_right l (λ r. Rattle.outcome_causes.specs.program_steps.specs.Rows.read_next found v r r.stage) v).rights ≡ []) (sym e) e
-rights_none p v found hand (ReverseNext q value) no_ e = subst (λ l. (by_right l (λ r. Rattle.outcome_causes.specs.program_steps.specs.Rows.turned_next v r r.stage) v).rights ≡ []) (sym e) e
-rights_none p v found hand (FreeRequest q g) no_ e = subst (λ l. (by_right l (Rattle.outcome_causes.specs.program_steps.specs.Rows.freed_next v) v).rights ≡ []) (sym e) e
-rights_none p v found hand (StorePlace l k n) no_ e = subst (λ xs. (by_right xs (λ r. Rattle.outcome_causes.specs.program_steps.specs.Rows.placed_next v r r.stage) v).rights ≡ []) (sym e) e
-rights_none p v found hand (DropPlace l k n) no_ e = subst (λ xs. (by_right xs (λ r. Rattle.outcome_causes.specs.program_steps.specs.Rows.dropped_next v r r.stage) v).rights ≡ []) (sym e) e
+rights_none p v found hand (EmptyHead i last) no_ e = subst (λ l. (by_right l (Rattle.seat_programs.specs.StepsOfChain.emptied last found v) v).rights ≡ []) (sym e) e
+rights_none p v found hand (ReadNext q) no_ e = subst (λ l. (by_right l (λ r. Rattle.seat_programs.specs.StepsOfChain.read_next found v r r.stage) v).rights ≡ []) (sym e) e
+rights_none p v found hand (ReverseNext q value) no_ e = subst (λ l. (by_right l (λ r. Rattle.seat_programs.specs.StepsOfChain.turned_next v r r.stage) v).rights ≡ []) (sym e) e
+rights_none p v found hand (FreeRequest q g) no_ e = subst (λ l. (by_right l (Rattle.seat_programs.specs.StepsOfChain.freed_next v) v).rights ≡ []) (sym e) e
+rights_none p v found hand (StorePlace l k n) no_ e = subst (λ xs. (by_right xs (λ r. Rattle.seat_programs.specs.StepsOfPlaces.placed_next v r r.stage) v).rights ≡ []) (sym e) e
+rights_none p v found hand (DropPlace l k n) no_ e = subst (λ xs. (by_right xs (λ r. Rattle.seat_programs.specs.StepsOfPlaces.dropped_next v r r.stage) v).rights ≡ []) (sym e) e
 rights_none p v found hand _ no_ e = e
 
 -- who gets a reference to a life holds it
@@ -94,7 +102,7 @@ other_first : (program : Program) → taken_link program ≡ [] → IsOther (fir
 other_first (Aside (TakeBytes k room) next) none_ = absurd (no_link k none_)
 other_first (Round (Reads r) next) none_ = absurd (no_link r.link none_)
 other_first (Round (Discards k total) next) none_ = absurd (no_link k none_)
-other_first (Round (Decides id asked w e) next) none_ = either_way (Rattle.seat_programs.specs.Posts.ends_call (Rattle.corr_core.specs.Word.parts w) e) _ _ IsOther tt tt
+other_first (Round (Decides id asked w e) next) none_ = either_way (ends_call (parts w) e) _ _ IsOther tt tt
 other_first (Round (Locks i sought (Rattle.std.specs.Prelude.Some w)) next) none_ = tt
 other_first (Round (Locks i sought Rattle.std.specs.Prelude.None) next) none_ = tt
 other_first (Write (Rattle.seat_programs.specs.Writings.Puts h now heading left took put) after) none_ = tt

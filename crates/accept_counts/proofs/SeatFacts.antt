@@ -16,13 +16,16 @@ use Rattle.seat_programs.specs.Asides.{Step, Found}
 use Rattle.seat_programs.specs.Beside.{found_in, calls_after}
 use Rattle.seat_programs.specs.Calls.{Call}
 use Rattle.seat_programs.specs.Programs.{Program, Do, TakeMessage, TakeHome, PutHome, PutBytes, AskReady, Write, Aside, Round}
-use Rattle.seat_programs.specs.Cores.{Core, SeatState, word_of, found_at, lies_at, first_of, others_of, link_place, with_seat, stepped}
+use Rattle.seat_programs.specs.Cores.{Core, SeatState, found_at, lies_at, first_of, others_of, link_place, with_seat, stepped}
+use Rattle.seat_programs.specs.StepTables.{word_of}
 use Rattle.seat_programs.specs.Ticks.{Moment, IsAnswered, fed, with_places, onto_first, taken, ticked}
 use Rattle.call_causes.specs.Below.id_runs.specs.Held.{IdView}
 use Rattle.call_causes.specs.Below.id_runs.specs.Goes.{IdGoesOn, SoundIds}
 use Rattle.call_causes.specs.Below.id_runs.proofs.Loops.{ids_round}
 use Rattle.call_causes.specs.Below.id_runs.proofs.Programs as id_programs
-use Rattle.outcome_causes.specs.program_steps.specs.Rows.{row, hand_at, took_message, link_away, link_home_again, took_bytes}
+use Rattle.seat_programs.specs.StepTables.{row, hand_at}
+use Rattle.seat_programs.specs.StepsOfMessages.{took_message}
+use Rattle.seat_programs.specs.StepsOfLinks.{link_away, link_home_again, took_bytes}
 use Rattle.outcome_causes.specs.program_steps.specs.GoesOn.{GoesOn}
 use Rattle.outcome_causes.specs.program_steps.specs.Sound.{Sound, first_step, views_after}
 use Rattle.outcome_causes.specs.program_steps.proofs.Cases.{with_rights, right_rights, put_rights, tick_cases, elem_there}

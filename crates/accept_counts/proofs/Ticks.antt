@@ -26,10 +26,11 @@ use Rattle.seat_programs.specs.Beside.{found_in, calls_after}
 use Rattle.seat_programs.specs.Calls.{Call, PutMessage}
 use Rattle.seat_programs.specs.Heads.{Retry}
 use Rattle.seat_programs.specs.Programs.{Program, Do, Say, Sent, Rest, TakeMessage, TakeHome, PutHome, PutBytes, AskReady, Write, Aside, Round, Keep, Retries}
-use Rattle.seat_programs.specs.Cores.{Calls, Core, SeatState, word_of, found_at, words_after, word_after, homes_after, hand_after, resolved, still_waiting, waiting_at, next_step, with_seat, stepped}
+use Rattle.seat_programs.specs.Cores.{Calls, Core, SeatState, found_at, words_after, homes_after, hand_after, resolved, still_waiting, waiting_at, next_step, with_seat, stepped}
+use Rattle.seat_programs.specs.StepTables.{word_of, word_after}
 use Rattle.seat_programs.specs.Ticks.{Moment, IsAnswered, taken, ticked}
-use Rattle.outcome_causes.specs.program_steps.specs.May.{May}
-use Rattle.outcome_causes.specs.program_steps.specs.Rows.{row, hand_at}
+use Rattle.seat_programs.specs.StepTables.{May}
+use Rattle.seat_programs.specs.StepTables.{row, hand_at}
 use Rattle.outcome_causes.specs.program_steps.specs.Sound.{Sound, first_step, views_after}
 use Rattle.outcome_causes.specs.program_steps.proofs.Cases.{with_rights, calls_waiting}
 use Rattle.label_runs.specs.Labels.{Trial, Idle, Tries, Sends, IsOfTrial, MayPut, put_behind, Kept, Storing, unlocked_trial, Labels}

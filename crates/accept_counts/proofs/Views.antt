@@ -17,8 +17,14 @@ use Rattle.sock_model.specs.Weights.{total, only}
 use Rattle.call_causes.specs.Below.programs_allowed.specs.slot_steps.proofs.Sums.{total-append}
 use Rattle.sock_message.specs.Asked.{Asked}
 use Rattle.seat_programs.specs.Calls.{Call, LoadName, LoadOpen, TakeLink, LookWord, LoadCode, ClaimRequest, PutMessage, Unconnect, SwapHead, EmptyHead, ReadNext, ReverseNext, FreeRequest, StorePlace, DropPlace}
-use Rattle.outcome_causes.specs.program_steps.specs.Rows.{row, is_id, by_claim, exchanged, filled_claim, ready_claim, looked_clean, emptied, read_next, turned_next, freed_next, placed_next, dropped_next}
-use Rattle.outcome_causes.specs.program_steps.specs.May.{May}
+use Rattle.seat_programs.specs.StepTables.{row}
+use Rattle.seat_programs.specs.StepsOfNames.{is_id}
+use Rattle.seat_programs.specs.StepViews.{by_claim}
+use Rattle.seat_programs.specs.StepsOfChain.{exchanged, ready_claim, emptied, read_next, turned_next, freed_next}
+use Rattle.seat_programs.specs.StepsOfMessages.{filled_claim}
+use Rattle.seat_programs.specs.StepsOfSlots.{looked_clean}
+use Rattle.seat_programs.specs.StepsOfPlaces.{placed_next, dropped_next}
+use Rattle.seat_programs.specs.StepTables.{May}
 use Rattle.outcome_causes.specs.program_steps.proofs.Cases.{with_rights}
 use Rattle.outcome_causes.specs.program_steps.proofs.Leaves.{claim_way, right_way}
 use Rattle.call_causes.specs.Below.outcome_stories.proofs.Tests.{split}

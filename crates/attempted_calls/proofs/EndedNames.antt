@@ -31,11 +31,15 @@ use Rattle.seat_programs.specs.Beside.{found_in, calls_after, more_given}
 use Rattle.seat_programs.specs.Calls.{Call, StoreName, LoadName, FindLink, ClaimRequest, PutMessage, Unconnect, SwapHead}
 use Rattle.seat_programs.specs.Heads.{Retry}
 use Rattle.seat_programs.specs.Programs.{Program, Do, Say, Sent, Write, Aside, Round, Keep, Retries}
-use Rattle.seat_programs.specs.Cores.{Calls, Core, SeatState, word_of, found_at, words_after, word_after, homes_after, hand_after, resolved, waiting_at, next_step, with_seat, stepped}
+use Rattle.seat_programs.specs.Cores.{Calls, Core, SeatState, found_at, words_after, homes_after, hand_after, resolved, waiting_at, next_step, with_seat, stepped}
+use Rattle.seat_programs.specs.StepTables.{word_of, word_after}
 use Rattle.seat_programs.specs.declared.task.Task.{Task}
 use Rattle.seat_programs.specs.Ticks.{Moment, IsAnswered, taken, ticked}
-use Rattle.own_decisions.specs.Below.programs_allowed.specs.program_steps.specs.May.{May}
-use Rattle.own_decisions.specs.Below.programs_allowed.specs.program_steps.specs.Rows.{row, hand_at, new_claim, filled_claim, ready_claim, by_claim, exchanged}
+use Rattle.seat_programs.specs.StepTables.{May}
+use Rattle.seat_programs.specs.StepTables.{row, hand_at}
+use Rattle.seat_programs.specs.StepsOfChain.{new_claim, ready_claim, exchanged}
+use Rattle.seat_programs.specs.StepsOfMessages.{filled_claim}
+use Rattle.seat_programs.specs.StepViews.{by_claim}
 use Rattle.own_decisions.specs.Below.programs_allowed.specs.program_steps.specs.Sound.{Sound, first_step, views_after}
 use Rattle.own_decisions.specs.Below.programs_allowed.specs.program_steps.proofs.Cases.{with_rights, calls_waiting}
 use Rattle.own_decisions.specs.Below.outcome_stories.specs.Causes.{WasGiven}

@@ -9,8 +9,8 @@ use Rattle.sock_io.specs.Link.{OutState}
 use Rattle.sock_words.specs.declared.plain.Plan.{Plan}
 use Rattle.sock_words.specs.declared.socket_id.SocketId.{SocketId}
 use Rattle.sock_words.specs.declared.outcome.Outcome.{Outcome}
+use Rattle.sock_words.specs.Codes.{is_final}
 use Rattle.call_whys.specs.Below.SockRule.Letter.{Letter}
-use Rattle.call_whys.specs.Below.CallTable.Errors.{is_final}
 use Rattle.call_whys.specs.Below.CallTable.DecisionVariants as decisions
 use Rattle.seat_programs.specs.declared.task.Op.{Op}
 use Rattle.seat_programs.specs.declared.task.Task.{Task}

@@ -4,6 +4,7 @@ use Rattle.std.specs.Prelude.{pos}
 use Rattle.sock_words.specs.declared.plain.Plan.{Plan}
 use Rattle.sock_words.specs.declared.outcome.Outcome.{Outcome}
 use Rattle.sock_words.specs.declared.outcome.Outcome.TheVariants as outcomes
+use Rattle.sock_words.specs.Codes.{is_final}
 use Rattle.seat_programs.specs.brpc_model.specs.Frame.{Frame}
 use Rattle.seat_programs.specs.brpc_model.specs.Causes.{HasFault}
 use Rattle.corr_core.specs.declared.marks.Plan.{Plan as IdPlan}
@@ -11,7 +12,6 @@ use Rattle.sock_message.specs.Asked.{Asked, name_of}
 use Rattle.seat_programs.specs.declared.task.Op.{Op}
 use Rattle.seat_programs.specs.declared.task.Op.TheVariants as ops
 use Rattle.seat_programs.specs.declared.task.Task.{Task}
-use Rattle.seat_programs.specs.Posts.{is_final}
 use Rattle.seat_programs.specs.Told.{IsTask, Became, OpensNone}
 use Rattle.seat_programs.specs.ToldCalls.{Fixed, Order, FoundNone, Seeks, HasCode, IsExpiredWith}
 use Rattle.story_ticks.specs.call_stories.specs.Lists.{given, times}

@@ -5,10 +5,10 @@ use Rattle.seat_programs.specs.brpc_model.specs.Frame.{Frame}
 use Rattle.seat_programs.specs.brpc_model.specs.Stream as streams
 use Rattle.seat_programs.specs.brpc_model.specs.Causes.{HasFault}
 use Rattle.corr_core.specs.Word.{Parts, parts}
+use Rattle.corr_core.specs.Versions.{has_version, is_early}
 use Rattle.seat_programs.specs.id_rule.specs.Lawful.{id_index}
 use Rattle.seat_programs.specs.Heads.{Reading}
-use Rattle.seat_programs.specs.Posts.{has_version}
-use Rattle.seat_programs.specs.Readers.{has_response, slot_in, version_in, is_early}
+use Rattle.seat_programs.specs.Readers.{has_response, slot_in, version_in}
 use Rattle.story_ticks.specs.call_stories.specs.Scenes.{In}
 
 -- ## Words of id slots
@@ -28,7 +28,7 @@ goes_same w = record { first = omega arith; bound_is = omega arith }
 pub goes_on : (u v w : Parts) → Goes u v → Goes v w → Goes u w
 goes_on u v w a b = record { first = (let x = a.first in let y = b.first in omega (arith, x, y)); bound_is = (let x = a.bound_is in let y = b.bound_is in omega (arith, x, y)) }
 
-pub early_is : (v found : ℕ) → is_early v found ≡ nat_le (bound (parts found)) v
+pub early_is : (v found : ℕ) → is_early v (parts found) ≡ nat_le (bound (parts found)) v
 early_is v found = by_state (eqb (parts found).state 0)
   where
     by_state : (b : Bool) → cond b (nat_le (parts found).first v) (nat_le ((parts found).first + (parts found).range) v) ≡ nat_le (cond b (parts found).first ((parts found).first + (parts found).range)) v
@@ -200,12 +200,12 @@ module _ (k ids : ℕ) where
   -- ## By the word found
 
   -- by this word no range that was made has a higher version, and the reader keeps the frame
-  pub early_done : (s : Sit) (f : Frame) (found n : ℕ) (kept : List Frame) → parts found ≡ word_of s (slot_in f) → is_early (version_in f) found ≡ true → Waits s n f → Done s (kept ++ f ∷ []) n f
+  pub early_done : (s : Sit) (f : Frame) (found n : ℕ) (kept : List Frame) → parts found ≡ word_of s (slot_in f) → is_early (version_in f) (parts found) ≡ true → Waits s n f → Done s (kept ++ f ∷ []) n f
   early_done s f found n kept same early w = λ is. ⊎_elim (λ x. inr (x, in_last f kept))
       (λ b. absurd (let z = leb-true (bound (parts found)) (version_in f) (sym (early_is (version_in f) found) ∙ early) in let y : bound (parts found) ≡ bound (word_of s (slot_in f)) = ap bound same in omega (arith, z, y, b))) (w is)
 
   -- no range of this word has the version, and none that is made later
-  pub gone_by : (s : Sit) (f : Frame) (found : ℕ) → parts found ≡ word_of s (slot_in f) → has_version (version_in f) (parts found) ≡ false → is_early (version_in f) found ≡ false → Gone s f
+  pub gone_by : (s : Sit) (f : Frame) (found : ℕ) → parts found ≡ word_of s (slot_in f) → has_version (version_in f) (parts found) ≡ false → is_early (version_in f) (parts found) ≡ false → Gone s f
   gone_by s f found same none_ late = subst (λ (w : Parts). version_in f ≤ w.first) same (by_state (eqb (parts found).state 0) none_ (sym (early_is (version_in f) found) ∙ late))
     where
       by_state : (b : Bool) → (not b && (nat_lt (parts found).first (version_in f) && nat_lt (version_in f) ((parts found).first + (parts found).range))) ≡ false → nat_le (cond b (parts found).first ((parts found).first + (parts found).range)) (version_in f) ≡ false → version_in f ≤ (parts found).first

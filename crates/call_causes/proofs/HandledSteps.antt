@@ -2,16 +2,19 @@
 use Rattle.std.proofs.Common.{◌≡◌, ℕ, ◌+◌, ◌-◌, ◌<◌, ◌≤◌, ◌==◌, inl, ◌&&◌, not, Bool, true, false, cond, eqb-true, nat_le, nat_lt, List, [], ◌∷◌, ◌++◌, length, append_assoc, append-nil, Option, None, Some, refl, sym, ap, ◌∙◌, subst}
 use Rattle.std.proofs.lemmas.Bool.{true≢false}
 use Rattle.sock_words.specs.declared.outcome.Outcome.{Outcome}
+use Rattle.sock_words.specs.Codes.{is_final}
 use Rattle.corr_core.specs.Word.{parts, posted_word}
 use Rattle.corr_core.specs.Law.{LAST}
+use Rattle.corr_core.specs.Versions.{has_version, is_early}
 use Rattle.seat_programs.specs.brpc_model.specs.Frame.{Frame}
 use Rattle.seat_programs.specs.brpc_model.specs.Stream as streams
 use Rattle.seat_programs.specs.brpc_model.specs.Causes.{HasFault}
+use Rattle.seat_programs.specs.brpc_model.specs.ResponseOutcome.{ending_of}
 use Rattle.seat_programs.specs.Asides.{Step, Found, LoadIdWord, LockId, PostId, EndId, FreeId, TakeBytes, Taking, Bytes, Nothing, NoMore, AtEnd, Closed, Broken, call_id}
 use Rattle.seat_programs.specs.Heads.{Retry, Version, Reading, Locks, Reads, Locking, NotThere, Has, Ended}
 use Rattle.seat_programs.specs.Programs.{Program, Do, Say, Rest, TakeMessage, TakeHome, PutHome, PutBytes, AskReady, Aside, Round, NO_SOCKET}
-use Rattle.seat_programs.specs.Posts.{packed, is_final, end_id, locking, has_version}
-use Rattle.seat_programs.specs.Readers.{LIMIT, ending_of, slot_in, version_in, has_response, is_early, answer, answered, responses, last_of, ended_by, read_on, took, read, reader}
+use Rattle.seat_programs.specs.Posts.{packed, end_id, locking}
+use Rattle.seat_programs.specs.Readers.{LIMIT, slot_in, version_in, has_response, answer, answered, responses, last_of, ended_by, read_on, took, read, reader}
 use Rattle.seat_programs.specs.Cores.{resolved, next_step}
 use Rattle.story_ticks.specs.Below.programs_allowed.specs.program_steps.specs.Sound.{first_step}
 use Rattle.story_ticks.specs.call_stories.specs.Scenes.{In}
@@ -230,7 +233,7 @@ module _ (k ids : ℕ) (calls : List ℕ) (o : ℕ) (many : length calls ≡ ids
     abbrev next_frame : Locking → Program
     next_frame = answered f kept (λ kept'. responses r.ids fs kept' (behind r bytes))
 
-    not_there : (found : ℕ) → parts found ≡ word_of s (slot_in f) → has_version (version_in f) (parts found) ≡ false → (b : Bool) → is_early (version_in f) found ≡ b → State s (next_step (resolved ws (go r bytes fs (cond b (kept ++ f ∷ []) kept))))
+    not_there : (found : ℕ) → parts found ≡ word_of s (slot_in f) → has_version (version_in f) (parts found) ≡ false → (b : Bool) → is_early (version_in f) (parts found) ≡ b → State s (next_step (resolved ws (go r bytes fs (cond b (kept ++ f ∷ []) kept))))
     not_there found same none_ true early = enter s r bytes fs (before ++ f ∷ []) (kept ++ f ∷ []) (mid_next k ids s r bytes before f fs kept (f ∷ []) m (early_done k ids s f found (length before) kept same early m.waits.0)) ws
     not_there found same none_ false early = enter s r bytes fs (before ++ f ∷ []) kept (mid_same k ids s r bytes before f fs kept m (λ _. inl (gone_by k ids s f found same none_ early))) ws
 
@@ -240,7 +243,7 @@ module _ (k ids : ℕ) (calls : List ℕ) (o : ℕ) (many : length calls ≡ ids
       where
         by_sought : (b : Bool) → has_version (version_in f) (parts found) ≡ b
             → State s (next_step (resolved ws (cond (not b) (next_frame (NotThere found)) (cond ((parts found).state == 1) (Round (Locks (slot_in f) (Version (version_in f)) (Some found)) next_frame) (Round (Locks (slot_in f) (Version (version_in f)) None) next_frame)))))
-        by_sought false none_ = not_there found same none_ (is_early (version_in f) found) refl
+        by_sought false none_ = not_there found same none_ (is_early (version_in f) (parts found)) refl
         by_sought true has = by_test (λ x. State s (next_step (resolved ws x))) ((parts found).state == 1) (Round (Locks (slot_in f) (Version (version_in f)) (Some found)) next_frame) (Round (Locks (slot_in f) (Version (version_in f)) None) next_frame)
             (λ _. seeking r bytes before f fs kept (Some found) refl resp has m) (λ _. seeking r bytes before f fs kept None refl resp tt m)
 

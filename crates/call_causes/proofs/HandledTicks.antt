@@ -15,6 +15,8 @@ use Rattle.sock_model.specs.Reads.{message, link_home}
 use Rattle.seat_programs.specs.brpc_model.specs.Frame.{Frame}
 use Rattle.corr_core.specs.Word.{parts}
 use Rattle.corr_core.specs.declared.marks.Plan.{Plan as IdPlan}
+use Rattle.corr_core.specs.Versions.{is_early}
+use Rattle.corr_core.specs.Decisions.{ends_call}
 use Rattle.seat_programs.specs.id_rule.specs.Lawful.{id_index}
 use Rattle.story_ticks.specs.Below.joint_runs.specs.Below.sock_steps.proofs.Quiet.{either_way}
 use Rattle.seat_programs.specs.Asides.{Step, TakeBytes, Taking, Bytes, Nothing, NoMore, AtEnd, Closed, Broken, Found, id_slot, id_first}
@@ -25,8 +27,9 @@ use Rattle.seat_programs.specs.Writings.{Puts, Waits, Empties, Walks}
 use Rattle.seat_programs.specs.Sends.{block}
 use Rattle.seat_programs.specs.Rounds.{round}
 use Rattle.seat_programs.specs.Beside.{found_in, calls_after}
-use Rattle.seat_programs.specs.Readers.{has_response, slot_in, version_in, is_early}
-use Rattle.seat_programs.specs.Cores.{Core, SeatState, word_of, found_at, words_after, word_after, homes_after, hand_after, lies_at, first_of, others_of, link_place, resolved, waiting_at, next_step, with_seat}
+use Rattle.seat_programs.specs.Readers.{has_response, slot_in, version_in}
+use Rattle.seat_programs.specs.Cores.{Core, SeatState, found_at, words_after, homes_after, hand_after, lies_at, first_of, others_of, link_place, resolved, waiting_at, next_step, with_seat}
+use Rattle.seat_programs.specs.StepTables.{word_of, word_after}
 use Rattle.seat_programs.specs.Ticks.{Answer, OfPut, OfReady, Moment, fed, with_places, onto_first, taken, with_message, with_link, with_put, with_ready, with_found, step_with, tick_with, ticked}
 use Rattle.story_ticks.specs.Below.programs_allowed.specs.program_steps.specs.Sound.{first_step}
 use Rattle.story_ticks.specs.call_stories.specs.Lists.{Take, taken_link, takes_by, takes_at, given, is_soon, soon_from, soon_by, soon_at}
@@ -44,7 +47,7 @@ take_of (Aside (TakeBytes l room) next) = l ∷ []
 take_of other = []
 
 pub taken_first : (program : Program) → taken_link program ≡ take_of (first_step program)
-taken_first (Round (Decides id asked w e) next) = either_way (Rattle.seat_programs.specs.Posts.ends_call (parts w) e) _ _ (λ x. [] ≡ take_of x) refl refl
+taken_first (Round (Decides id asked w e) next) = either_way (ends_call (parts w) e) _ _ (λ x. [] ≡ take_of x) refl refl
 taken_first (Round (Locks i sought (Rattle.std.specs.Prelude.Some w)) next) = refl
 taken_first (Round (Locks i sought Rattle.std.specs.Prelude.None) next) = refl
 taken_first (Write (Puts h now heading left took put) after) = refl
@@ -71,8 +74,8 @@ soon_by_test false b e x y = absurd (true≢false (sym x))
 
 late_here : (k ids : ℕ) (d : Core) → d.calls.plan.slots ≡ ids → (f : Frame) → is_soon d f ≡ false → IsResp k ids f → version_in f < bound (parts (slice_index d.calls.words (id_index (slot_in f))))
 late_here k ids d slots f is resp =
-    let early = soon_by_test (has_response f.meta.response) (nat_lt (slot_in f) ids) (is_early (version_in f) (slice_index d.calls.words (id_index (slot_in f)))) resp
-    (ap (λ s. has_response f.meta.response && (nat_lt (slot_in f) s && is_early (version_in f) (slice_index d.calls.words (id_index (slot_in f))))) (sym slots) ∙ is) in
+    let early = soon_by_test (has_response f.meta.response) (nat_lt (slot_in f) ids) (is_early (version_in f) (parts (slice_index d.calls.words (id_index (slot_in f))))) resp
+    (ap (λ s. has_response f.meta.response && (nat_lt (slot_in f) s && is_early (version_in f) (parts (slice_index d.calls.words (id_index (slot_in f)))))) (sym slots) ∙ is) in
     leb-false (bound (parts (slice_index d.calls.words (id_index (slot_in f))))) (version_in f) (sym (early_is (version_in f) (slice_index d.calls.words (id_index (slot_in f)))) ∙ early)
 
 soon_waits : (k ids : ℕ) (d : Core) → d.calls.plan.slots ≡ ids → (soon : List (ℕ × ℕ)) (fs : List Frame) (n : ℕ) → ((x : ℕ × ℕ) → In x (soon_from d k n fs) → In x soon) → AllFrom (handled.Waits k ids (sit k d soon)) n fs

@@ -2,11 +2,13 @@
 use Rattle.std.proofs.Common.{◌≡◌, ◌≢◌, ℕ, ◌+◌, ◌<◌, ◌≤◌, inl, inr, ◌&&◌, ◌||◌, not, Bool, true, false, cond, eqb, eqb-true, eq-eqb, ne_eqb, leb, Option, refl, sym, ap, ◌∙◌, subst, arith}
 use Rattle.corr_core.specs.Word.{Parts, parts, locked_word, posted_word, unlocked_word, code_of, attempt_of, error_of}
 use Rattle.corr_core.specs.Law.{LAST}
+use Rattle.corr_core.specs.Decisions.{ends_call}
 use Rattle.seat_programs.specs.sock_message.specs.Asked.{Asked}
 use Rattle.seat_programs.specs.Asides.{PutCall, FreeId, id_slot, id_first, call_id}
 use Rattle.seat_programs.specs.Heads.{Retry, Posts, Unlocks, Decides, Posting, WasGone, WasStale, WasCrowded, WasQueued, HasLocked, Unlocking, IsOpen, HasNext, Deciding, HasEnded, GoesOn}
 use Rattle.seat_programs.specs.Programs.{Program, Aside, Round}
-use Rattle.seat_programs.specs.Posts.{packed, advance_of, is_first, is_stale, is_full, judged, posted, post_with, post, popped, end_id, ends_call, is_final, decide, decided, unlocked}
+use Rattle.sock_words.specs.Codes.{is_final}
+use Rattle.seat_programs.specs.Posts.{packed, advance_of, is_first, is_stale, is_full, judged, posted, post_with, post, popped, end_id, decide, decided, unlocked}
 use Rattle.seat_programs.specs.Rounds.{round}
 use Rattle.joint_runs.specs.Below.id_runs.proofs.Keeps.{parts_packed}
 use Rattle.call_owing.specs.Owing.{Duty, Free, Trying, Linked, Looking, Telling, Owing, Among, IsOpenAt, with_duty, freed, with_known, with_error, unlocked_by, KnowsError, FindsUnlock}

@@ -1,14 +1,16 @@
 -- From the head of each loop one round goes on with what is owed.
 use Rattle.std.proofs.Common.{◌≡◌, ℕ, ◌+◌, ◌-◌, ◌&&◌, not, Bool, true, false, cond, eqb, eqb-true, nat_lt, List, [], ◌∷◌, ◌++◌, Option, Some, None, length, refl, sym, ap, ◌∙◌, subst}
 use Rattle.corr_core.specs.Word.{Parts, parts, locked_word, posted_word}
+use Rattle.corr_core.specs.Versions.{is_early}
 use Rattle.seat_programs.specs.brpc_model.specs.Frame.{Frame}
 use Rattle.seat_programs.specs.brpc_model.specs.Stream as streams
+use Rattle.seat_programs.specs.brpc_model.specs.ResponseOutcome.{ending_of}
 use Rattle.seat_programs.specs.Calls.{LoadOpen}
 use Rattle.seat_programs.specs.Asides.{LockId, Taking, Bytes, Nothing, Closed, id_first, call_id}
 use Rattle.seat_programs.specs.Heads.{Head, Exit, Sought, Version, Reading, Posts, Unlocks, Decides, Locks, Joins, Opens, Reads, Discards, Locking, NotThere, Has, Ended}
 use Rattle.seat_programs.specs.Programs.{Program, Say, Round, NO_SOCKET}
 use Rattle.seat_programs.specs.Posts.{packed, is_first, is_sought, locking}
-use Rattle.seat_programs.specs.Readers.{answer, answered, responses, read_on, took, discarded, last_of, slot_in, version_in, has_response, ending_of, is_early, ended_by as how_ended, LIMIT}
+use Rattle.seat_programs.specs.Readers.{answer, answered, responses, read_on, took, discarded, last_of, slot_in, version_in, has_response, ended_by as how_ended, LIMIT}
 use Rattle.seat_programs.specs.Rounds.{round}
 use Rattle.call_owing.specs.Owing.{Duty, Free, Trying, Linked, Looking, Telling, Owing, freed, with_left, with_dead, FindsOwe, IsLifeOf}
 use Rattle.call_owing.specs.Owing as owing
@@ -105,7 +107,7 @@ module _ (life : ℕ → Option ℕ) where
       (λ _. responses_goes ids u fs kept k free goes)
     where
       exits : ((kept' : List Frame) → OwesOn life u (responses ids fs kept' k)) → (exit : Locking) (v : Owing) → LeavesLocks life (slot_in f) exit u v → OwesOn life v (answered f kept (λ kept'. responses ids fs kept' k) exit)
-      exits later (NotThere w) v l = subst (λ x. OwesOn life x (responses ids fs (cond (is_early (version_in f) w) (kept ++ f ∷ []) kept) k)) (sym (l ∙ was_free u free)) (later (cond (is_early (version_in f) w) (kept ++ f ∷ []) kept))
+      exits later (NotThere w) v l = subst (λ x. OwesOn life x (responses ids fs (cond (is_early (version_in f) (parts w)) (kept ++ f ∷ []) kept) k)) (sym (l ∙ was_free u free)) (later (cond (is_early (version_in f) (parts w)) (kept ++ f ∷ []) kept))
       exits later (Has w) v l = subst (λ x. OwesOn life x (answer f (parts w).first (responses ids fs kept k))) (sym l.0) (answer_goes u f (parts w).first (responses ids fs kept k) free (later kept))
 
   -- how a reading ends

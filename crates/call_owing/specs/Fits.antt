@@ -11,7 +11,8 @@ use Rattle.corr_core.specs.declared.marks.Plan.{Plan as IdPlan}
 use Rattle.seat_programs.specs.Calls.{Call, AddRef, SetOdd, LookWord}
 use Rattle.seat_programs.specs.Asides.{StoreAt, TakeBytes, Closed, call_id}
 use Rattle.seat_programs.specs.Programs.{Program, Do, PutHome, Aside}
-use Rattle.seat_programs.specs.Cores.{Core, SeatState, word_of, word_after, found_at, words_after, first_of}
+use Rattle.seat_programs.specs.Cores.{Core, SeatState, found_at, words_after, first_of}
+use Rattle.seat_programs.specs.StepTables.{word_of, word_after}
 use Rattle.seat_programs.specs.Ticks.{Answer, Moment, taken}
 use Rattle.joint_runs.specs.Below.id_runs.specs.Goes as goes
 use Rattle.call_owing.specs.Owing.{Linked, Owing, InList, FindsCall}

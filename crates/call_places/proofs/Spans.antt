@@ -19,7 +19,7 @@ use Rattle.corr_id.specs.Calls.{slot_of, one, Quiet, GotLock, Became}
 use Rattle.corr_id.specs.Posts.{PostOk}
 use Rattle.call_run.specs.rpc_reader.specs.prpc_frame.specs.Meaning.{frame_of}
 use Rattle.call_run.specs.rpc_reader.specs.prpc_frame.specs.declared.frame.Frame.{Frame}
-use Rattle.call_run.specs.rpc_reader.specs.call_table.specs.Responses.{ending_of}
+use Rattle.brpc_model.specs.ResponseOutcome.{ending_of}
 use Rattle.call_run.specs.rpc_reader.specs.Books.{Books, EndedAs, id_of}
 use Rattle.call_run.specs.rpc_reader.specs.Met.{slot_in, is_asked, is_for, MetIf, FramesMet}
 use Rattle.call_run.specs.rpc_reader.specs.Posting.{LostBy, LockLost, PostedTo, PostedIf, PostedAt, PostedAll, call_at, attempt_at}

@@ -1,7 +1,6 @@
 -- What the crates above name of `call_attempts`.
 pub use Rattle.call_run.specs.call_client.specs.call_attempts.specs.Attempting
 pub use Rattle.call_run.specs.call_client.specs.call_attempts.specs.Both
-pub use Rattle.call_run.specs.call_client.specs.call_attempts.specs.declared.calling.Called
 pub use Rattle.call_run.specs.call_client.specs.call_attempts.specs.declared.calling.Called.TheVariants as CalledVariants
 pub use Rattle.call_run.specs.call_client.specs.call_attempts.specs.Calling
 pub use Rattle.call_run.specs.call_client.specs.call_attempts.specs.Letters

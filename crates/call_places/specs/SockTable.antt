@@ -2,7 +2,6 @@
 pub use Rattle.call_run.specs.sock_table.specs.Answers
 pub use Rattle.call_run.specs.sock_table.specs.declared.passes.LinkPass
 pub use Rattle.call_run.specs.sock_table.specs.Named
-pub use Rattle.call_run.specs.sock_table.specs.declared.finding.Noted
 pub use Rattle.call_run.specs.sock_table.specs.declared.finding.Noted.TheVariants as NotedVariants
 pub use Rattle.call_run.specs.sock_table.specs.Refs
 pub use Rattle.call_run.specs.sock_table.specs.declared.refs.SockRef

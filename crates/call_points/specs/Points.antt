@@ -4,7 +4,7 @@ use Rattle.corr_core.specs.Word.{parts, code_of}
 use Rattle.corr_core.specs.Law.{LAST}
 use Rattle.seat_programs.specs.Asides.{Step, FreeId, EndId, id_slot}
 use Rattle.seat_programs.specs.Heads.{Retry, Sought, Posts, Unlocks, Decides, Locks, Posting, Unlocking, Deciding, HasEnded, GoesOn, Locking}
-use Rattle.seat_programs.specs.Posts.{decide, end_id, ends_call, post_with, unlocked}
+use Rattle.seat_programs.specs.Posts.{decide, end_id, post_with, unlocked}
 use Rattle.seat_programs.specs.Programs.{Program, Aside, Round, Keep}
 use Rattle.seat_programs.specs.sock_message.specs.Asked.{Asked}
 use Rattle.id_points.specs.Ids.{id_of, number_of}

@@ -1,16 +1,18 @@
 -- The loops on ids say of calls only what has its cause.
 use Rattle.std.proofs.Common.{◌≡◌, ◌≢◌, ℕ, ◌+◌, ◌*◌, ◌≤◌, ◌⊎◌, inl, inr, ⊎_elim, ◌&&◌, ◌||◌, not, Bool, true, false, cond, eqb, eqb-true, nat_lt, ltb-true, List, [], ◌∷◌, Option, Some, None, refl, sym, ap, ◌∙◌, subst, arith}
 use Rattle.sock_words.specs.declared.plain.Plan.{Plan}
+use Rattle.sock_words.specs.Codes.{is_final}
 use Rattle.corr_core.specs.Word.{Parts, parts, locked_word, posted_word, unlocked_word, error_of, code_of, attempt_of}
 use Rattle.corr_core.specs.Law.{LAST}
 use Rattle.corr_core.specs.declared.marks.Plan.{Plan as IdPlan}
+use Rattle.corr_core.specs.Decisions.{ends_call}
 use Rattle.sock_message.specs.Asked.{Asked}
 use Rattle.seat_programs.specs.declared.task.Task.{Task}
 use Rattle.seat_programs.specs.Asides.{PutCall, LockId, PostId, UnlockId, FreeId, call_id, id_slot, id_first}
 use Rattle.seat_programs.specs.Calls.{Call}
 use Rattle.seat_programs.specs.Heads.{Retry, Sought, First, Version, Posts, Unlocks, Decides, Locks, Joins, Posting, WasGone, WasStale, WasCrowded, WasQueued, HasLocked, Unlocking, IsOpen, HasNext, Deciding, HasEnded, GoesOn, Locking, NotThere, Has}
 use Rattle.seat_programs.specs.Programs.{Program, Do, Aside, Round}
-use Rattle.seat_programs.specs.Posts.{packed, advance_of, is_first, is_sought, is_stale, is_full, judged, posts_round, post_with, posted, post, popped, unlocks_round, end_id, is_final, ends_call, decide, unlocked, decides_round, decided, locking, locks_round, joins_round}
+use Rattle.seat_programs.specs.Posts.{packed, advance_of, is_first, is_sought, is_stale, is_full, judged, posts_round, post_with, posted, post, popped, unlocks_round, end_id, decide, unlocked, decides_round, decided, locking, locks_round, joins_round}
 use Rattle.owed_calls.specs.Below.id_runs.proofs.Keeps.{parts_packed}
 use Rattle.owed_calls.specs.Below.id_runs.proofs.Loops.{not_equal}
 use Rattle.call_stories.specs.Scenes.{Birth, Scene, IsBorn, WasPosted, WasDecided, IsOther, EndedAt, MayAdvance, CauseOf, of_expiry, of_other, FailedIn, by_expiry, by_other, Later}

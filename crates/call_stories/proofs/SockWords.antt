@@ -9,7 +9,8 @@ use Rattle.sock_model.specs.Layout.{tag_index, code_index, name_index, open_inde
 use Rattle.corr_core.specs.declared.marks.Plan.{Plan as IdPlan}
 use Rattle.seat_programs.specs.declared.task.Task.{Task}
 use Rattle.seat_programs.specs.Calls.{Call, ClaimSlot, CreateLife, AddRef, SubRef, SetOdd, Recycle, FreeSlot, StoreLink, LoadLink, ResetHead, ClearCode, StoreCode, StoreName, LoadName, StoreOpen, LoadOpen, LookWord, FindLink, LoadCode, ClaimRequest, Unconnect, SwapHead, Connect, EmptyHead, ReadNext, ReverseNext, FreeRequest, StorePlace, DropPlace}
-use Rattle.seat_programs.specs.Cores.{word_of, found_at, words_after, word_after}
+use Rattle.seat_programs.specs.StepTables.{word_of, word_after}
+use Rattle.seat_programs.specs.Cores.{found_at, words_after}
 use Rattle.call_stories.specs.Scenes.{IsOther}
 use Rattle.call_stories.specs.Says.{MayDo}
 

@@ -11,7 +11,9 @@ use Rattle.seat_programs.specs.brpc_model.specs.Stream.{Ending, Rest, Fault, str
 use Rattle.seat_programs.specs.id_rule.specs.Lawful.{id_index}
 use Rattle.seat_programs.specs.Asides.{Step, Found, UnlockId, Taking, NoMore, AtEnd, Closed, Broken}
 use Rattle.seat_programs.specs.Programs.{Program, Aside}
-use Rattle.seat_programs.specs.Readers.{LIMIT, has_response, slot_in, version_in, is_early}
+use Rattle.corr_core.specs.Word.{parts}
+use Rattle.corr_core.specs.Versions.{is_early}
+use Rattle.seat_programs.specs.Readers.{LIMIT, has_response, slot_in, version_in}
 use Rattle.seat_programs.specs.Beside.{call_at, found_in, taking_in}
 use Rattle.owed_calls.specs.Below.id_runs.specs.Goes.{first_of}
 use Rattle.seat_programs.specs.Cores.{Calls, Core}
@@ -66,7 +68,7 @@ given c k = slice_index_or c.calls.gave k []
 
 -- by the id words a response is of no range that was made so far
 abbrev pub is_soon : Core → Frame → Bool
-is_soon c f = has_response f.meta.response && (nat_lt (slot_in f) c.calls.plan.slots && is_early (version_in f) (slice_index c.calls.words (id_index (slot_in f))))
+is_soon c f = has_response f.meta.response && (nat_lt (slot_in f) c.calls.plan.slots && is_early (version_in f) (parts (slice_index c.calls.words (id_index (slot_in f)))))
 
 -- those among these frames of link k, of which the first has this place
 abbrev pub soon_from : Core → ℕ → ℕ → List Frame → List (ℕ × ℕ)

@@ -1,6 +1,6 @@
 -- What has happened so far that lasts, and what it tells of calls.
 use Rattle.std.specs.Prelude.{ℕ, ◌≡◌, ◌≢◌, ◌+◌, ◌<◌, ◌≤◌, ◌⊎◌, true, false, ◌∷◌, ◌++◌, List, [], slice_get, slice_index, Some, IsSome, ℤ, pos}
-use Rattle.sock_words.specs.Codes.{EEOF, EFAILEDSOCKET, EREQUESTS, ERESPONSE, ERPCTIMEDOUT}
+use Rattle.sock_words.specs.Codes.{EEOF, EFAILEDSOCKET, EREQUESTS, ERESPONSE, ERPCTIMEDOUT, is_final}
 use Rattle.sock_words.specs.declared.plain.Plan.{Plan}
 use Rattle.sock_words.specs.declared.outcome.Outcome.{Outcome}
 use Rattle.sock_words.specs.declared.outcome.Outcome.TheVariants.{Opened, SlotsFull, Unopened, Answered, Peer, CallFailed, Expired, Queued, Late, Crowded, Joined, NotBegun}
@@ -10,6 +10,7 @@ use Rattle.seat_programs.specs.brpc_model.specs.Stream.{stream}
 use Rattle.seat_programs.specs.brpc_model.specs.Causes.{HasFault}
 use Rattle.corr_core.specs.Word.{parts, error_of, code_of, attempt_of}
 use Rattle.corr_core.specs.declared.marks.Plan.{Plan as IdPlan}
+use Rattle.corr_core.specs.Decisions.{WHOLE}
 use Rattle.seat_programs.specs.id_rule.specs.Lawful.{id_index, call_index}
 use Rattle.seat_programs.specs.Asides.{id_slot, id_first}
 use Rattle.sock_model.specs.Layout.{name_index}
@@ -18,7 +19,6 @@ use Rattle.seat_programs.specs.declared.task.Op.{Op}
 use Rattle.seat_programs.specs.declared.task.Op.TheVariants as ops
 use Rattle.seat_programs.specs.declared.task.Task.{Task}
 pub use Rattle.seat_programs.specs.ToldCalls.{SeeksName}
-use Rattle.seat_programs.specs.Posts.{WHOLE, is_final}
 use Rattle.seat_programs.specs.Cores.{Core}
 use Rattle.call_stories.specs.Lists.{given, times}
 use Rattle.call_stories.specs.Posts.{Post}

@@ -4,12 +4,13 @@ use Rattle.std.specs.Prelude.{ℤ, Option, option_map, IsSome, IfSome}
 use Rattle.sock_words.specs.declared.outcome.Outcome.TheVariants as outcomes
 use Rattle.sock_message.specs.brpc_model.specs.Meta as model
 use Rattle.sock_message.specs.brpc_model.specs.Frame as model_frame
+use Rattle.sock_message.specs.brpc_model.specs.ResponseOutcome.{by_code, outcome_by, ending_of}
 use Rattle.rpc_meta.specs.Meaning.{response_of}
 use Rattle.rpc_meta.specs.declared.meta.ResponseMeta.{ResponseMeta}
 use Rattle.prpc_frame.specs.Meaning.{frame_of}
 use Rattle.prpc_frame.specs.declared.frame.Frame.{Frame}
 use Rattle.call_table.specs.declared.responses.Ending.TheVariants.{Unread, Peer}
-use Rattle.call_table.specs.Responses.{by_code, outcome_by, ending_of, told_by_code, told_by, response_ending}
+use Rattle.call_table.specs.Responses.{told_by_code, told_by, response_ending}
 
 told_z : (f : Frame) (z : ℤ) (r : Option ResponseMeta) → z ≢ pos 0 → Unread ≡ told_by f z r
 told_z f (pos zero) r n = absurd (n refl)

@@ -1,7 +1,7 @@
 ghost use Rattle.std.specs.Prelude.{◌≡◌};
-ghost use Rattle.call_table.specs.Errors.{is_final, decision_of};
+ghost use Rattle.call_table.specs.Errors.{decision_of};
 
-use sock_words::{EEOF, EINTERNAL, ERESPONSE, ERPCTIMEDOUT};
+use corr_core::ends_call;
 
 /// What is done about an error of a call.
 #[derive(Clone, Copy, Debug, PartialEq, Eq)]
@@ -13,22 +13,13 @@ pub enum Decision {
 }
 
 /// What is done about an error of a call whose id has this range and this current attempt. The call ends where the error
-/// concerns the whole of it, where its code isn't retried, and where no attempt is left. Which codes are retried is this
-/// project's own; in bRPC it is the channel's `RetryPolicy`.
+/// concerns the whole of it, where its code isn't retried, and where no attempt is left.
 pub fn on_error(range: u8, current: u8, code: u16, whole: bool) -> Decision
     ensures { result ≡ decision_of range current code whole }
 {
-    let last = u16::from(current) + 2 == u16::from(range);
-    if whole || ends_always(code) || last {
+    if ends_call(range, current, code, whole) {
         Decision::End
     } else {
         Decision::Retry
     }
-}
-
-// Whether the code ends a call whatever attempts are left.
-fn ends_always(code: u16) -> bool
-    ensures { result ≡ is_final code }
-{
-    code == ERPCTIMEDOUT || code == EEOF || code == EINTERNAL || code == ERESPONSE
 }

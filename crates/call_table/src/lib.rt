@@ -5,10 +5,8 @@
 mod errors;
 mod issuing;
 mod responses;
-mod versions;
 
 pub use errors::{Decision, on_error};
 pub use issuing::issue;
 pub use responses::{Ending, on_response};
 pub use sock_message::Call;
-pub use versions::{has_version, is_early};

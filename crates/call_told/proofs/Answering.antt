@@ -10,6 +10,7 @@ use Rattle.brpc_model.specs.Frame.{Frame}
 use Rattle.brpc_model.specs.Meta.{ResponseMeta}
 use Rattle.brpc_model.specs.Items.{Item, Call, CallLine}
 use Rattle.brpc_model.specs.Operations.{Operation}
+use Rattle.brpc_model.specs.ResponseOutcome.{by_code, outcome_by}
 use Rattle.corr_core.specs.Word.{Parts, parts}
 use Rattle.corr_core.specs.declared.marks.Kept.{Kept}
 use Rattle.corr_core.specs.declared.marks.Note.{Note}
@@ -22,10 +23,9 @@ use Rattle.corr_id.specs.Calls.{is_event, events}
 use Rattle.corr_id.specs.Closing.{Closing}
 use Rattle.corr_id.proofs.Ranges.{lock_range}
 use Rattle.sock_message.specs.Asked.{Asked}
-use Rattle.call_deeds.specs.Below.CallTable.Responses.{by_code, outcome_by}
 use Rattle.call_deeds.specs.Below.RpcClient.Told.{Told}
 use Rattle.call_deeds.specs.Below.RpcReader.Books.{Books, id_of}
-use Rattle.call_told.specs.Answers.{IsGivenResponse, EndedBy, by_code as with_code, by_response, HasEnded, ToldFrom, TellsFrom, IsFailure, ends_call, IsOwn, TellsOnly, IsAnswer, HasAnswer}
+use Rattle.call_told.specs.Answers.{IsGivenResponse, EndedBy, by_code as with_code, by_response, HasEnded, ToldFrom, TellsFrom, IsFailure, is_end_of_call, IsOwn, TellsOnly, IsAnswer, HasAnswer}
 use Rattle.call_told.proofs.Lists.{some_same, all_then}
 use Rattle.call_told.proofs.Making.{AllMade, made_fits}
 
@@ -84,7 +84,7 @@ module _ (links : ℕ) (gave : ℕ → List ℕ) where
   ended_answer slot w by item call is range (with_code code loss e) = subst (HasAnswer links gave item) (sym e) tt
   ended_answer slot w by item call is range (by_response f given e) = subst (HasAnswer links gave item) (sym e) (response_answer slot w f given item call is range f.meta.compress_type f.meta.response refl refl)
 
-  own_by : (item : Item) (o : Outcome) → ends_call o ≡ false → HasAnswer links gave item o
+  own_by : (item : Item) (o : Outcome) → is_end_of_call o ≡ false → HasAnswer links gave item o
   own_by item (outcomes.Answered id payload attachment) e = let k : true ≡ false = e in absurd (cc)
   own_by item (outcomes.Peer id code) e = let k : true ≡ false = e in absurd (cc)
   own_by item _ e = tt

@@ -36,7 +36,7 @@ use Rattle.call_deeds.specs.Below.CallClient.Caller.{Caller}
 use Rattle.call_deeds.specs.Below.CallClient.Acting.{Stand, stand, letter_of, Acted}
 use Rattle.call_deeds.specs.Below.CallClient.Running.{Course, Ran, begins, RunBy}
 use Rattle.call_deeds.specs.Below.CallClient.Changes.{Changes, same, in_turn, sees, ends, decides, posts, wants, shelves, run_changes}
-use Rattle.call_told.specs.Answers.{IsFailure, ends_call, IsOwn, TellsOnly, ClientTells}
+use Rattle.call_told.specs.Answers.{IsFailure, is_end_of_call, IsOwn, TellsOnly, ClientTells}
 use Rattle.call_told.proofs.Lists.{all_both}
 
 module _ (P : Told → Type 0) where
@@ -89,37 +89,37 @@ changes_fail (shelves s t waiting e) = fails_same s t (ap (λ (y : CallStand). y
 -- none, or one that is no end of a call
 abbrev IsOwnBy : Maybe Outcome → Type 0
 IsOwnBy None = Unit {0}
-IsOwnBy (Some o) = ends_call o ≡ false
+IsOwnBy (Some o) = is_end_of_call o ≡ false
 
 own_one : (number : ℕ) (by : Maybe Outcome) → IsOwnBy by → (old new : List Told) → new ≡ old ++ telling number by → TellsOnly IsOwn old new
 own_one number None h old new e = ([], e, tt)
 own_one number (Some o) h old new e = (record { number = number; outcome = o } ∷ [], e, (h, tt))
 
-opened_own : {S : Type 0} (p : Plan) (name operation link : ℕ) (by : Outcome) (m n : Me S View) → OpenedBy p name operation link by m n → ends_call by ≡ false
+opened_own : {S : Type 0} (p : Plan) (name operation link : ℕ) (by : Outcome) (m n : Me S View) → OpenedBy p name operation link by m n → is_end_of_call by ≡ false
 opened_own p name operation link (outcome.Opened slot version k) m n h = refl
 opened_own p name operation link outcome.SlotsFull m n h = refl
 opened_own p name operation link _ m n h = elim h [ ]
 
-held_own : (p : Plan) (name : ℕ) (by : Outcome) (h : List Held) (v : View) (k : List Held) (w : View) → HeldBy p name by h v k w → ends_call by ≡ false
+held_own : (p : Plan) (name : ℕ) (by : Outcome) (h : List Held) (v : View) (k : List Held) (w : View) → HeldBy p name by h v k w → is_end_of_call by ≡ false
 held_own p name outcome.Unopened h v k w x = refl
 held_own p name (outcome.Gone found) h v k w x = refl
 held_own p name outcome.Held h v k w x = refl
 held_own p name _ h v k w x = elim x [ ]
 
-dropped_own : (name : ℕ) (by : Outcome) (h : List Held) (v : View) (k : List Held) (w : View) → DroppedBy name by h v k w → ends_call by ≡ false
+dropped_own : (name : ℕ) (by : Outcome) (h : List Held) (v : View) (k : List Held) (w : View) → DroppedBy name by h v k w → is_end_of_call by ≡ false
 dropped_own name outcome.NotHeld h v k w x = refl
 dropped_own name outcome.Freed h v k w x = refl
 dropped_own name outcome.Kept h v k w x = refl
 dropped_own name _ h v k w x = elim x [ ]
 
-failed_own : (p : Plan) (name code : ℕ) (by : Outcome) (v w : View) → FailedBy p name code by v w → ends_call by ≡ false
+failed_own : (p : Plan) (name code : ℕ) (by : Outcome) (v w : View) → FailedBy p name code by v w → is_end_of_call by ≡ false
 failed_own p name code outcome.Unopened v w x = refl
 failed_own p name code (outcome.Gone found) v w x = refl
 failed_own p name code outcome.Failed v w x = refl
 failed_own p name code (outcome.Already found) v w x = refl
 failed_own p name code _ v w x = elim x [ ]
 
-expired_own : (q : id_plan.Plan) (operation : ℕ) (by : Outcome) (s t : CallStand) → ExpiredBy q operation by s t → ends_call by ≡ false
+expired_own : (q : id_plan.Plan) (operation : ℕ) (by : Outcome) (s t : CallStand) → ExpiredBy q operation by s t → is_end_of_call by ≡ false
 expired_own q operation outcome.NotBegun s t h = refl
 expired_own q operation outcome.Expired s t h = refl
 expired_own q operation outcome.Queued s t h = refl
@@ -127,7 +127,7 @@ expired_own q operation outcome.Late s t h = refl
 expired_own q operation (outcome.Crowded first second) s t h = refl
 expired_own q operation _ s t h = elim h [ ]
 
-joined_own : (q : id_plan.Plan) (operation : ℕ) (by : Outcome) (s t : CallStand) → JoinedBy q operation by s t → ends_call by ≡ false
+joined_own : (q : id_plan.Plan) (operation : ℕ) (by : Outcome) (s t : CallStand) → JoinedBy q operation by s t → is_end_of_call by ≡ false
 joined_own q operation outcome.NotBegun s t h = refl
 joined_own q operation outcome.Joined s t h = refl
 joined_own q operation _ s t h = elim h [ ]

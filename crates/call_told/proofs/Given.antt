@@ -12,7 +12,7 @@ use Rattle.prpc_frame.specs.Meaning.{frame_of}
 use Rattle.prpc_frame.specs.declared.frame.Frame.{Frame}
 use Rattle.prpc_frame.proofs.Cuts.{stream_begins}
 use Rattle.corr_core.specs.Word.{Parts}
-use Rattle.call_deeds.specs.Below.CallTable.Responses.{has_version}
+use Rattle.corr_core.specs.Versions.{has_version}
 use Rattle.call_deeds.specs.Below.RpcReader.Met.{has_response, slot_in, version_in, is_for}
 use Rattle.call_told.specs.Answers.{IsGiven, IsGivenResponse}
 use Rattle.call_told.proofs.Lists.{at_front}

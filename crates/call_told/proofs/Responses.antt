@@ -17,6 +17,7 @@ use Rattle.corr_core.specs.declared.marks.Note.{Note}
 use Rattle.corr_core.specs.declared.marks.Note.TheVariants.{Ended}
 use Rattle.corr_core.specs.declared.marks.Plan.{Plan}
 use Rattle.corr_core.specs.declared.marks.View.{View}
+use Rattle.corr_core.specs.Versions.{is_early}
 use Rattle.corr_core.proofs.Notes.{only-same}
 use Rattle.id_rule.specs.Lawful.{at_index, notes_of, with_kept}
 use Rattle.corr_id.specs.declared.posts.Posted.{Posted}
@@ -28,7 +29,7 @@ use Rattle.corr_id.proofs.Doing.{became_grows}
 use Rattle.sock_message.specs.Asked.{Asked}
 use Rattle.prpc_frame.specs.Meaning.{frame_of}
 use Rattle.prpc_frame.specs.declared.frame.Frame.{Frame}
-use Rattle.call_deeds.specs.Below.CallTable.Responses.{ending_of, is_early}
+use Rattle.brpc_model.specs.ResponseOutcome.{ending_of}
 use Rattle.call_deeds.specs.Below.RpcClient.Told.{Told}
 use Rattle.call_deeds.specs.Below.RpcReader.Books.{Books, EndedAs, ToldBy, id_of}
 use Rattle.call_deeds.specs.Below.RpcReader.Met.{slot_in, version_in, is_asked, is_for, AnsweredBy, LackedBy, KeptIf, MetIf, FrameMet, FramesMet}

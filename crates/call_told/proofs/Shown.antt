@@ -7,7 +7,7 @@ use Rattle.sock_words.specs.declared.outcome.Outcome.TheVariants as outcomes
 use Rattle.corr_core.specs.Law.{total}
 use Rattle.corr_id.proofs.Seats.{total_append}
 use Rattle.call_deeds.specs.Below.RpcClient.Told.{Told}
-use Rattle.call_told.specs.Answers.{ends_call, IsOwn}
+use Rattle.call_told.specs.Answers.{is_end_of_call, IsOwn}
 use Rattle.call_told.specs.Once.{ends_of, told_ends, ToldOnce, shows, ShownOnce}
 
 -- ## Put together by their numbers
@@ -24,7 +24,7 @@ shown_set id (o ∷ os) (suc i) by = let a = shown_set id os i by in omega arith
 
 -- ## What clients tell of their own operations
 
-own_by : (id : ℕ) (o : Outcome) → ends_call o ≡ false → ends_of id o ≡ 0
+own_by : (id : ℕ) (o : Outcome) → is_end_of_call o ≡ false → ends_of id o ≡ 0
 own_by id (outcomes.Answered ended payload attachment) e = let k : true ≡ false = e in absurd (cc)
 own_by id (outcomes.Peer ended code) e = let k : true ≡ false = e in absurd (cc)
 own_by id (outcomes.CallFailed ended code) e = let k : true ≡ false = e in absurd (cc)

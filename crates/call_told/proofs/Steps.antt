@@ -11,6 +11,7 @@ use Rattle.corr_core.specs.Word.{Parts, parts}
 use Rattle.corr_core.specs.declared.marks.Note.TheVariants.{Ended}
 use Rattle.corr_core.specs.declared.marks.Plan.{Plan}
 use Rattle.corr_core.specs.declared.marks.View.{View}
+use Rattle.corr_core.specs.Versions.{is_early}
 use Rattle.id_rule.specs.Lawful.{at_index, call_index, with_kept}
 use Rattle.corr_id.specs.declared.calls.IdLock.{IdLock}
 use Rattle.corr_id.specs.declared.posts.Posted.{Posted}
@@ -19,9 +20,9 @@ use Rattle.corr_id.specs.Calls.{Became, Quiet, GotLock, one, slot_of}
 use Rattle.corr_id.specs.Posts.{PostOk}
 use Rattle.sock_message.specs.Asked.{Asked}
 use Rattle.brpc_model.specs.Frame as model
+use Rattle.brpc_model.specs.ResponseOutcome.{ending_of}
 use Rattle.prpc_frame.specs.Meaning.{frame_of}
 use Rattle.prpc_frame.specs.declared.frame.Frame.{Frame}
-use Rattle.call_deeds.specs.Below.CallTable.Responses.{ending_of, is_early}
 use Rattle.call_deeds.specs.Below.RpcClient.Told.{Told}
 use Rattle.call_deeds.specs.Below.RpcReader.Books.{Books, EndedAs, ToldBy, id_of}
 use Rattle.call_deeds.specs.Below.RpcReader.Met.{has_response, slot_in, version_in, is_asked, is_for, AnsweredBy, LackedBy, KeptIf, MetIf, FrameMet, FramesMet}

@@ -9,6 +9,7 @@ use Rattle.sock_words.specs.declared.outcome.Outcome.{Outcome}
 use Rattle.sock_words.specs.declared.outcome.Outcome.TheVariants.{CallFailed}
 use Rattle.brpc_model.specs.Frame as model
 use Rattle.brpc_model.specs.Meta.{ResponseMeta}
+use Rattle.brpc_model.specs.ResponseOutcome.{by_code, outcome_by, ending_of}
 use Rattle.sock_io.specs.Link.{InState}
 use Rattle.corr_core.specs.Word.{Parts, parts}
 use Rattle.corr_core.specs.Law.{only, is_ended}
@@ -18,6 +19,7 @@ use Rattle.corr_core.specs.declared.marks.Noted.{Noted}
 use Rattle.corr_core.specs.declared.marks.Plan.{Plan}
 use Rattle.corr_core.specs.declared.marks.Token.{Token}
 use Rattle.corr_core.specs.declared.marks.View.{View}
+use Rattle.corr_core.specs.Versions.{is_early}
 use Rattle.id_rule.specs.Lawful.{at_index, call_index, with_kept}
 use Rattle.corr_id.specs.declared.posts.Posted.{Posted}
 use Rattle.corr_id.specs.declared.posts.Posted.TheVariants.{Locked as HasLock, Queued as IsQueued}
@@ -26,7 +28,6 @@ use Rattle.corr_id.specs.Posts.{PostOk}
 use Rattle.sock_message.specs.Asked.{Asked}
 use Rattle.prpc_frame.specs.Meaning.{frame_of}
 use Rattle.prpc_frame.specs.declared.frame.Frame.{Frame}
-use Rattle.call_deeds.specs.Below.CallTable.Responses.{by_code, outcome_by, ending_of, is_early}
 use Rattle.call_deeds.specs.Below.RpcClient.Told.{Told}
 use Rattle.call_deeds.specs.Below.RpcReader.Books.{Books, EndedAs, ToldBy, id_of}
 use Rattle.call_deeds.specs.Below.RpcReader.Met.{slot_in, version_in, is_asked, is_for, AnsweredBy, LackedBy, KeptIf, MetIf, FramesMet}

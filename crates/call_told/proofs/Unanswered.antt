@@ -32,9 +32,9 @@ use Rattle.corr_id.proofs.Doing.{became_grows}
 use Rattle.sock_message.specs.Asked.{Asked}
 use Rattle.sock_message.specs.brpc_model.specs.Frame as model
 use Rattle.sock_message.specs.brpc_model.specs.Meta.{ResponseMeta}
+use Rattle.sock_message.specs.brpc_model.specs.ResponseOutcome.{by_code, outcome_by, ending_of}
 use Rattle.prpc_frame.specs.Meaning.{frame_of}
 use Rattle.prpc_frame.specs.declared.frame.Frame.{Frame}
-use Rattle.call_deeds.specs.Below.CallTable.Responses.{by_code, outcome_by, ending_of}
 use Rattle.call_deeds.specs.Below.RpcClient.Told.{Told}
 use Rattle.call_deeds.specs.Below.RpcReader.Books.{Books, ToldBy, id_of}
 use Rattle.call_deeds.specs.Below.RpcReader.Met.{slot_in, version_in, is_asked, is_for, MetIf, FramesMet}

@@ -10,6 +10,7 @@ use Rattle.brpc_model.specs.Operations.{Operation}
 use Rattle.brpc_model.specs.Attempts.{IsResponse, HasCode}
 use Rattle.brpc_model.specs.Link.{LinkEnd}
 use Rattle.brpc_model.specs.Stream.{stream}
+use Rattle.brpc_model.specs.ResponseOutcome.{ending_of}
 use Rattle.sock_io.specs.declared.link.Out.{Ghosts}
 use Rattle.corr_core.specs.Word.{Parts, parts, locked_word}
 use Rattle.corr_core.specs.declared.marks.Note.{Note}
@@ -19,7 +20,6 @@ use Rattle.corr_id.specs.Calls.{Found, events}
 use Rattle.sock_message.specs.Asked.{Asked}
 use Rattle.prpc_frame.specs.Meaning.{frame_of}
 use Rattle.prpc_frame.specs.declared.frame.Frame as frames
-use Rattle.call_deeds.specs.Below.CallTable.Responses.{ending_of}
 use Rattle.call_deeds.specs.Below.RpcClient.Told.{Told}
 use Rattle.call_deeds.specs.Below.RpcReader.Books.{Books, id_of}
 use Rattle.call_deeds.specs.Below.CallClient.Caller.{Caller}
@@ -106,14 +106,14 @@ pub record IsFailure (x : Told) : Type 0 where
   pub is : x.outcome ≡ CallFailed id code
 
 -- whether it is the outcome of a call that ended
-abbrev pub ends_call : Outcome → Bool
-ends_call (Answered id payload attachment) = true
-ends_call (Peer id code) = true
-ends_call (CallFailed id code) = true
-ends_call _ = false
+abbrev pub is_end_of_call : Outcome → Bool
+is_end_of_call (Answered id payload attachment) = true
+is_end_of_call (Peer id code) = true
+is_end_of_call (CallFailed id code) = true
+is_end_of_call _ = false
 
 abbrev pub IsOwn : Told → Type 0
-IsOwn x = ends_call x.outcome ≡ false
+IsOwn x = is_end_of_call x.outcome ≡ false
 
 -- behind what was told before
 abbrev pub TellsOnly : (Told → Type 0) → List Told → List Told → Type 0

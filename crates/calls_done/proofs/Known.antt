@@ -14,11 +14,11 @@ use Rattle.failed_told.specs.failed_reasons.specs.Ends.{EndedByReading}
 use Rattle.calls_done.specs.Begun.{FirstAttempt}
 use Rattle.callless_fits.proofs.Sends.{ToldRun}
 use Rattle.callless_fits.specs.sock_deeds.specs.Told.{fixed_by}
-use Rattle.failed_told.specs.call_whys.specs.call_told.specs.Answers.{HaveAnswers, ends_call}
+use Rattle.failed_told.specs.call_whys.specs.call_told.specs.Answers.{HaveAnswers, is_end_of_call}
 
 -- a call found no socket under its first name, or it ended
 abbrev pub IsOfCall : Outcome → Type 0
-IsOfCall outcome = (outcome ≡ Unopened) ⊎ (ends_call outcome ≡ true)
+IsOfCall outcome = (outcome ≡ Unopened) ⊎ (is_end_of_call outcome ≡ true)
 
 pub record Known : Type 0 where
   -- what is told of its sockets, of the attempts of its calls, and by its report

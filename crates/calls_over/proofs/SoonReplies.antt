@@ -9,10 +9,11 @@ use Rattle.brpc_model.specs.Stream.{stream, stream_from}
 use Rattle.served_fits.specs.Below.script_facts.proofs.Lists.{Has, has_later, all_at, all_from, filter_map_has}
 use Rattle.corr_core.specs.Word.{parts}
 use Rattle.corr_core.specs.declared.marks.Plan.{Plan as IdPlan}
+use Rattle.corr_core.specs.Versions.{is_early}
 use Rattle.id_rule.specs.Lawful.{id_index}
 use Rattle.seat_programs.specs.Asides.{id_slot, id_first}
 use Rattle.seat_programs.specs.Cores.{Core}
-use Rattle.seat_programs.specs.Readers.{has_response, slot_in, version_in, is_early}
+use Rattle.seat_programs.specs.Readers.{has_response, slot_in, version_in}
 use Rattle.served_fits.specs.Below.call_owing.specs.Sound.{id_word_of}
 use Rattle.served_fits.specs.Below.call_stories.specs.Lists.{Take, given, is_soon, soon_from, soon_by}
 use Rattle.served_fits.specs.Below.call_stories.specs.Scenes.{In}
@@ -39,9 +40,9 @@ module _ (q : IdPlan) (c : Core) where
       first_is : version_in g ≡ id_first l.id + l.attempt + 1
       first_is = ap id_first same ∙ (let fits = l.fits in let z : id_first (l.id + l.attempt + 1) ≡ id_first l.id + l.attempt + 1 = omega (arith, fits) in z)
 
-      early : is_early (version_in g) (slice_index c.calls.words (id_index (slot_in g))) ≡ true
-      early = and_right (nat_lt (slot_in g) c.calls.plan.slots) (is_early (version_in g) (slice_index c.calls.words (id_index (slot_in g))))
-          (and_right (has_response g.meta.response) (nat_lt (slot_in g) c.calls.plan.slots && is_early (version_in g) (slice_index c.calls.words (id_index (slot_in g)))) soon)
+      early : is_early (version_in g) (parts (slice_index c.calls.words (id_index (slot_in g)))) ≡ true
+      early = and_right (nat_lt (slot_in g) c.calls.plan.slots) (is_early (version_in g) (parts (slice_index c.calls.words (id_index (slot_in g)))))
+          (and_right (has_response g.meta.response) (nat_lt (slot_in g) c.calls.plan.slots && is_early (version_in g) (parts (slice_index c.calls.words (id_index (slot_in g))))) soon)
 
       ends : slot_in g ≡ id_slot l.id → bound (id_word_of c (id_slot l.id)) ≤ version_in g
       ends slot = subst (λ j. bound (id_word_of c j) ≤ version_in g) slot (leb-true (bound (parts (slice_index c.calls.words (id_index (slot_in g))))) (version_in g) (sym (early_is (version_in g) (slice_index c.calls.words (id_index (slot_in g)))) ∙ early))

@@ -1,17 +1,20 @@
 -- The ending and the readers are calm: a reader posts only errors that end their calls.
 use Rattle.std.proofs.Common.{◌≡◌, ℕ, ◌+◌, ◌-◌, ◌%◌, ◌<◌, ◌==◌, ◌&&◌, not, nat_lt, nat_le, Bool, true, false, cond, List, [], ◌∷◌, ◌++◌, length, refl, ap, ◌∙◌, arith}
 use Rattle.sock_words.specs.Words.{socket_id_version, socket_id_slot, vref_version, vref_nref, at_word_first, at_word_slot, at_word_link, at_word_attempt}
+use Rattle.sock_words.specs.Codes.{is_final}
 use Rattle.brpc_model.specs.Frame.{Frame}
 use Rattle.brpc_model.specs.Stream as streams
+use Rattle.brpc_model.specs.ResponseOutcome.{ending_of as outcome_of}
 use Rattle.sock_steps.proofs.Quiet.{either_way}
 use Rattle.corr_core.specs.Word.{parts, posted_word, code_of, error_of}
 use Rattle.corr_core.specs.Law.{LAST}
+use Rattle.corr_core.specs.Versions.{is_early}
 use Rattle.seat_programs.specs.Asides.{Taking, Bytes, Nothing, Closed, call_id, id_first}
 use Rattle.seat_programs.specs.Clients.{ending_of}
 use Rattle.seat_programs.specs.Heads.{Reading, Sought, Posting, WasGone, WasStale, WasCrowded, WasQueued, HasLocked, Locking, NotThere, Has, Ended}
-use Rattle.seat_programs.specs.Posts.{packed, is_final, is_first, is_stale, is_full, is_sought, judged, posts_round, post_with, end_id, locking}
+use Rattle.seat_programs.specs.Posts.{packed, is_first, is_stale, is_full, is_sought, judged, posts_round, post_with, end_id, locking}
 use Rattle.seat_programs.specs.Programs.{Program, Say, LAST_VERSION, NO_SOCKET, recycle, release, address, set_failed}
-use Rattle.seat_programs.specs.Readers.{LIMIT, has_response, slot_in, version_in, is_early, ending_of as outcome_of, answer, answered, responses, read_on, took, discarded, kept_for, ends_with, posted_last, post_each, thrown_away, read, reader}
+use Rattle.seat_programs.specs.Readers.{LIMIT, has_response, slot_in, version_in, answer, answered, responses, read_on, took, discarded, kept_for, ends_with, posted_last, post_each, thrown_away, read, reader}
 use Rattle.send_causes.specs.Below.call_causes.proofs.HandledStates.{ends_final}
 use Rattle.calm_runs.specs.Calm.{IsCalm}
 
@@ -51,7 +54,7 @@ module _ (S : ℕ → Type 0) where
   calm_answer frame first next after = λ asked spoken. calm_end_id (slot_in frame) (Say asked.operation (outcome_of (call_id (slot_in frame) first) frame) next) (spoken, after)
 
   calm_answered : (frame : Frame) (kept : List Frame) (k : List Frame → Program) → ((kept : List Frame) → C (k kept)) → (exit : Locking) → C (answered frame kept k exit)
-  calm_answered frame kept k after (NotThere found) = after (cond (is_early (version_in frame) found) (kept ++ frame ∷ []) kept)
+  calm_answered frame kept k after (NotThere found) = after (cond (is_early (version_in frame) (parts found)) (kept ++ frame ∷ []) kept)
   calm_answered frame kept k after (Has word) = calm_answer frame (parts word).first (k kept) (after kept)
 
   pub calm_judged : (id e found : ℕ) (k : Posting → Program) → ((x : Posting) → C (k x)) → C (judged id e found k)

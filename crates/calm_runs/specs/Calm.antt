@@ -1,11 +1,12 @@
 -- Programs that begin nothing.
 use Rattle.std.specs.Prelude.{ℕ, ◌≡◌, true}
 use Rattle.corr_core.specs.Word.{parts}
+use Rattle.corr_core.specs.Decisions.{ends_call}
 use Rattle.sock_message.specs.Asked.{Asked}
 use Rattle.seat_programs.specs.Asides.{Found, PutCall, TakeCall}
 use Rattle.seat_programs.specs.Calls.{CreateLife}
 use Rattle.seat_programs.specs.Heads.{Posts, Decides, Locks, Opens, Reads, Discards, Posting, HasEnded, Locking, Ended}
-use Rattle.seat_programs.specs.Posts.{ends_call, is_final}
+use Rattle.sock_words.specs.Codes.{is_final}
 use Rattle.seat_programs.specs.Programs.{Program, Do, Say, Rest, Aside, Round}
 
 -- where the calls at home are of these operations: the program makes no life, puts no call home, ends each call on which it decides, and says outcomes of these operations alone

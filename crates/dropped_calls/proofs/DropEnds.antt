@@ -15,12 +15,13 @@ use Rattle.sock_model.specs.Slots.{live}
 use Rattle.seat_programs.specs.Asides.{Taking}
 use Rattle.seat_programs.specs.Beside.{calls_after}
 use Rattle.seat_programs.specs.Calls.{Call, StoreCode, LoadCode}
-use Rattle.seat_programs.specs.Cores.{Calls, Core, SeatState, word_of, word_after, found_at, words_after, homes_after, hand_after, lies_at, first_of, others_of, link_place, resolved, waiting_at, next_step, with_seat}
+use Rattle.seat_programs.specs.Cores.{Calls, Core, SeatState, found_at, words_after, homes_after, hand_after, lies_at, first_of, others_of, link_place, resolved, waiting_at, next_step, with_seat}
+use Rattle.seat_programs.specs.StepTables.{word_of, word_after}
 use Rattle.seat_programs.specs.Programs.{Program, Do, Rest, TakeMessage, TakeHome, PutHome, PutBytes, AskReady, Aside, NO_SOCKET}
 use Rattle.seat_programs.specs.Readers.{reader}
 use Rattle.seat_programs.specs.Ticks.{Moment, IsAnswered, AreAnswered, fed, with_places, onto_first, ticked, run}
 use Rattle.refused_attempts.specs.Below.programs_allowed.specs.program_steps.specs.GoesOn.{GoesOn}
-use Rattle.refused_attempts.specs.Below.programs_allowed.specs.program_steps.specs.May.{May}
+use Rattle.seat_programs.specs.StepTables.{May}
 use Rattle.refused_attempts.specs.Below.programs_allowed.specs.program_steps.specs.Sound.{state, Sound, IsFitting, AreFitting, first_step, views_after, views_along}
 use Rattle.refused_attempts.specs.Below.programs_allowed.specs.program_steps.proofs.Cases.{goes_first, tick_cases}
 use Rattle.refused_attempts.specs.Below.programs_allowed.specs.sock_runs.proofs.LinkTicks.{RetriesGo}

@@ -13,12 +13,13 @@ use Rattle.sock_model.specs.References.{slot_facts}
 use Rattle.sock_model.specs.Slots.{live}
 use Rattle.seat_programs.specs.Asides.{Taking}
 use Rattle.seat_programs.specs.Calls.{StoreCode, LoadCode}
-use Rattle.seat_programs.specs.Cores.{Core, SeatState, word_of, found_at}
+use Rattle.seat_programs.specs.Cores.{Core, SeatState, found_at}
+use Rattle.seat_programs.specs.StepTables.{word_of}
 use Rattle.seat_programs.specs.Programs.{Program, Do, Rest, NO_SOCKET}
 use Rattle.seat_programs.specs.Readers.{reader}
 use Rattle.seat_programs.specs.Ticks.{Moment, IsAnswered, ticked}
 use Rattle.refused_attempts.specs.Below.programs_allowed.specs.program_steps.specs.GoesOn.{GoesOn}
-use Rattle.refused_attempts.specs.Below.programs_allowed.specs.program_steps.specs.May.{May}
+use Rattle.seat_programs.specs.StepTables.{May}
 use Rattle.refused_attempts.specs.Below.programs_allowed.specs.program_steps.specs.Sound.{state, Sound, IsFitting, first_step, views_after}
 use Rattle.refused_attempts.specs.Below.programs_allowed.specs.program_steps.proofs.Cases.{goes_first, tick_cases}
 use Rattle.refused_attempts.specs.Below.programs_allowed.specs.sock_runs.proofs.LinkTicks.{RetriesGo}

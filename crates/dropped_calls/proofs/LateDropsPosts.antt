@@ -6,10 +6,10 @@ use Rattle.sock_model.specs.declared.chain.Heading.{Heading}
 use Rattle.sock_model.specs.declared.view.View.{View}
 use Rattle.corr_core.specs.Word.{error_of, code_of}
 use Rattle.corr_core.specs.declared.marks.Plan.{Plan as IdPlan}
+use Rattle.corr_core.specs.Decisions.{WHOLE}
 use Rattle.refused_attempts.specs.Below.id_runs.specs.Held.{IdView}
 use Rattle.refused_attempts.specs.Below.id_runs.specs.Goes.{SoundIds}
 use Rattle.sock_message.specs.Asked.{Asked}
-use Rattle.seat_programs.specs.Posts.{WHOLE}
 use Rattle.seat_programs.specs.Cores.{Core}
 use Rattle.seat_programs.specs.Ticks.{Moment}
 use Rattle.refused_attempts.specs.Below.programs_allowed.specs.program_steps.specs.Sound.{Sound}

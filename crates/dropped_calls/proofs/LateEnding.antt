@@ -22,11 +22,12 @@ use Rattle.seat_programs.specs.Calls.{Call, SetOdd}
 use Rattle.seat_programs.specs.Heads.{Retry}
 use Rattle.seat_programs.specs.Programs.{Program, Do, Rest, LAST_VERSION, NO_SOCKET, recycle, release}
 use Rattle.seat_programs.specs.Clients.{ending_of}
-use Rattle.seat_programs.specs.Cores.{Core, SeatState, word_of, word_after, found_at, words_after, homes_after, resolved, next_step, waiting_at}
+use Rattle.seat_programs.specs.Cores.{Core, SeatState, found_at, words_after, homes_after, resolved, next_step, waiting_at}
+use Rattle.seat_programs.specs.StepTables.{word_of, word_after}
 use Rattle.seat_programs.specs.Tasks.{opens, plan_of}
 use Rattle.seat_programs.specs.Ticks.{Moment, IsAnswered, AreAnswered, quiet, ticked, run}
 use Rattle.seat_programs.specs.Scripts.{played, IsRunWithCalls}
-use Rattle.refused_attempts.specs.Below.programs_allowed.specs.program_steps.specs.Rows.{row, hand_at}
+use Rattle.seat_programs.specs.StepTables.{row, hand_at}
 use Rattle.refused_attempts.specs.Below.programs_allowed.specs.program_steps.specs.Sound.{state, Sound, first_step, IsFitting, AreFitting, views_after, views_along}
 use Rattle.refused_attempts.specs.Below.programs_allowed.specs.sock_runs.proofs.Along.{seat_rests}
 use Rattle.refused_attempts.specs.Below.programs_allowed.specs.program_steps.proofs.Bounds.{law, lives_le}
@@ -149,7 +150,7 @@ module _ (p : Plan) (retries : RetriesGo p) where
       makes : MakesEnding c
       fails : (seat : SeatState) → get_elem? c.seats 0 ≡ some seat → IsPast c i h ⊎ Fails o (socket_id h i + 1) seat.program
 
-    passing_step : (c : Core) (vs : List View) (j : ℕ) (v : View) (call : Call) (next : ℕ → Program) → Sound p c vs → get_elem? vs j ≡ some v → Rattle.refused_attempts.specs.Below.programs_allowed.specs.program_steps.specs.May.May p v call → IsGiven c vs i h k → get_or c.words (open_index p o) 0 ≡ socket_id h i + 1
+    passing_step : (c : Core) (vs : List View) (j : ℕ) (v : View) (call : Call) (next : ℕ → Program) → Sound p c vs → get_elem? vs j ≡ some v → Rattle.seat_programs.specs.StepTables.May p v call → IsGiven c vs i h k → get_or c.words (open_index p o) 0 ≡ socket_id h i + 1
         → IsPast c i h ⊎ Fails o (socket_id h i + 1) (Do call next)
         → (h < vref_version (get_or (words_after c.words (word_of p call) (word_after call (found_at c.words (word_of p call)))) (ref_index i) 0)) ⊎ Fails o (socket_id h i + 1) (next (found_at c.words (word_of p call)))
     passing_step c vs j v call next sound at may given word x = ⊎_elim (λ past. gone past)

@@ -13,17 +13,18 @@ use Rattle.sock_model.specs.SlotRows.{marks_of}
 use Rattle.refused_attempts.specs.Below.sock_steps.proofs.Places.{counts}
 use Rattle.refused_attempts.specs.Below.sock_steps.proofs.Quiet.{either_way}
 use Rattle.corr_core.specs.Word.{parts}
+use Rattle.corr_core.specs.Decisions.{ends_call}
 use Rattle.seat_programs.specs.Calls.{Call, CreateLife}
 use Rattle.seat_programs.specs.Drops.{call_in}
 use Rattle.seat_programs.specs.Heads.{Head, Exit, Decides, Locks}
-use Rattle.seat_programs.specs.Posts.{ends_call}
 use Rattle.seat_programs.specs.Programs.{Program, Do, Write, Round}
 use Rattle.seat_programs.specs.Rounds.{round}
 use Rattle.seat_programs.specs.Sends.{block}
 use Rattle.seat_programs.specs.Writings.{Writing, Puts}
-use Rattle.seat_programs.specs.Cores.{Core, SeatState, word_of, word_after, found_at, words_after, homes_after}
+use Rattle.seat_programs.specs.Cores.{Core, SeatState, found_at, words_after, homes_after}
+use Rattle.seat_programs.specs.StepTables.{word_of, word_after}
 use Rattle.seat_programs.specs.Ticks.{Moment, IsAnswered, ticked}
-use Rattle.refused_attempts.specs.Below.programs_allowed.specs.program_steps.specs.Rows.{row, hand_at}
+use Rattle.seat_programs.specs.StepTables.{row, hand_at}
 use Rattle.refused_attempts.specs.Below.programs_allowed.specs.program_steps.specs.Sound.{state, Sound, first_step, IsFitting, views_after}
 use Rattle.refused_attempts.specs.Below.programs_allowed.specs.program_steps.proofs.Cases.{with_rights, tick_keeps_marks}
 use Rattle.refused_attempts.specs.Below.programs_allowed.specs.sock_runs.proofs.LinkNotes.{links_only, birth_links}

@@ -24,10 +24,18 @@ use Rattle.refused_attempts.specs.Below.sock_steps.proofs.Quiet.{either_way}
 use Rattle.seat_programs.specs.Calls.{Call, LookWord, ClaimRequest, PutMessage, Unconnect, SwapHead, EmptyHead, ReadNext, ReverseNext, FreeRequest, StorePlace, DropPlace, LoadName, LoadOpen, TakeLink, LoadCode}
 use Rattle.seat_programs.specs.Heads.{Retry}
 use Rattle.seat_programs.specs.Programs.{Program, Do}
-use Rattle.seat_programs.specs.Cores.{Core, SeatState, resolved, next_step, word_of, found_at, waiting_at, hand_after, lies_at, others_of, link_place}
+use Rattle.seat_programs.specs.Cores.{Core, SeatState, resolved, next_step, found_at, waiting_at, hand_after, lies_at, others_of, link_place}
+use Rattle.seat_programs.specs.StepTables.{word_of}
 use Rattle.seat_programs.specs.Ticks.{Moment, IsAnswered, fed, onto_first, ticked}
-use Rattle.refused_attempts.specs.Below.programs_allowed.specs.program_steps.specs.Rows.{row, hand_at, link_in, is_id, by_claim, by_right, new_claim, filled_claim, ready_claim, exchanged, looked_clean, emptied, settled, read_next, turned_next, freed_next, freed_stage, placed_next, dropped_next, took_message, link_away, link_home_again, took_bytes}
-use Rattle.refused_attempts.specs.Below.programs_allowed.specs.program_steps.specs.May.{May}
+use Rattle.seat_programs.specs.StepTables.{row, hand_at}
+use Rattle.seat_programs.specs.StepsOfChain.{link_in, new_claim, ready_claim, exchanged, emptied, read_next, turned_next, freed_next, freed_stage}
+use Rattle.seat_programs.specs.StepsOfNames.{is_id}
+use Rattle.seat_programs.specs.StepViews.{by_claim, by_right, settled}
+use Rattle.seat_programs.specs.StepsOfMessages.{filled_claim, took_message}
+use Rattle.seat_programs.specs.StepsOfSlots.{looked_clean}
+use Rattle.seat_programs.specs.StepsOfPlaces.{placed_next, dropped_next}
+use Rattle.seat_programs.specs.StepsOfLinks.{link_away, link_home_again, took_bytes}
+use Rattle.seat_programs.specs.StepTables.{May}
 use Rattle.refused_attempts.specs.Below.programs_allowed.specs.program_steps.specs.Sound.{Sound, IsFitting, views_after}
 use Rattle.refused_attempts.specs.Below.programs_allowed.specs.program_steps.proofs.Leaves.{claim_way, right_way}
 use Rattle.refused_attempts.specs.Below.programs_allowed.specs.program_steps.proofs.Cases.{tick_cases}

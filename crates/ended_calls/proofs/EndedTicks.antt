@@ -17,7 +17,8 @@ use Rattle.attempted_calls.specs.Below.id_runs.specs.Goes as goes
 use Rattle.seat_programs.specs.Asides.{Step, Found, LoadAt, PostId, TakeBytes, Taking, call_id}
 use Rattle.seat_programs.specs.Beside.{at_last, taking_in, found_in}
 use Rattle.seat_programs.specs.Programs.{Program, Do, TakeMessage, TakeHome, PutHome, PutBytes, AskReady, Aside, Round, Say, Sent, Rest, Keep}
-use Rattle.seat_programs.specs.Cores.{Core, SeatState, word_of, found_at, waiting_at}
+use Rattle.seat_programs.specs.Cores.{Core, SeatState, found_at, waiting_at}
+use Rattle.seat_programs.specs.StepTables.{word_of}
 use Rattle.seat_programs.specs.Ticks.{Answer, OfPut, OfReady, OfTake, Moment, taken, with_message, with_link, with_put, with_ready, with_found, step_with, tick_with, ticked}
 use Rattle.attempted_calls.specs.Below.programs_allowed.specs.program_steps.specs.Sound.{first_step}
 use Rattle.attempted_calls.specs.Below.programs_allowed.specs.program_steps.proofs.Cases.{ticks_first}

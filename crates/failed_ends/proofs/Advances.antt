@@ -10,6 +10,7 @@ use Rattle.sock_words.specs.declared.outcome.Outcome.{Outcome}
 use Rattle.sock_words.specs.declared.plain.Plan.{Plan}
 use Rattle.sock_words.specs.declared.place_word.PlaceWord.{PlaceWord}
 use Rattle.sock_words.specs.declared.vref.Vref.{Vref}
+use Rattle.sock_words.specs.Codes.{is_final}
 use Rattle.seat_programs.specs.declared.task.Task.{Task}
 use Rattle.corr_core.specs.Word.{Parts, parts}
 use Rattle.corr_core.specs.declared.marks.Kept.{Kept}
@@ -19,7 +20,6 @@ use Rattle.sock_message.specs.Asked.{Asked}
 use Rattle.corr_id.specs.Closing.{Closing}
 use Rattle.corr_id.specs.Posts.{IsTimely}
 use Rattle.corr_id.specs.declared.calls.IdLock.{IdLock}
-use Rattle.call_table.specs.Errors.{is_final}
 use Rattle.call_table.specs.declared.errors.Decision.TheVariants as decisions
 use Rattle.failed_reasons.specs.Below.RpcClient.Told.{Told}
 use Rattle.failed_reasons.specs.Below.CallErrors.Locking.{id_in}

@@ -7,7 +7,7 @@ use lib.ListN.{get_elem?}
 use Rattle.failed_reasons.specs.call_whys.specs.call_places.specs.script_facts.proofs.Lists.{contains_from}
 use Rattle.sock_io.specs.declared.link.Out.{Ghosts}
 use Rattle.sock_io.specs.Link.{OutState}
-use Rattle.sock_words.specs.Codes.{ERPCTIMEDOUT}
+use Rattle.sock_words.specs.Codes.{ERPCTIMEDOUT, is_final}
 use Rattle.sock_words.specs.declared.outcome.Outcome.{Outcome}
 use Rattle.sock_words.specs.declared.outcome.Outcome.TheVariants as outcome
 use Rattle.sock_words.specs.declared.plain.Plan.{Plan}
@@ -33,7 +33,6 @@ use Rattle.corr_id.specs.Posts.{IsTimely}
 use Rattle.corr_id.specs.declared.calls.IdLock.{IdLock}
 use Rattle.corr_id.proofs.Ranges.{lock_range}
 use Rattle.failed_reasons.specs.Below.RpcClient.Told.{Told}
-use Rattle.call_table.specs.Errors.{is_final}
 use Rattle.call_table.specs.declared.errors.Decision.TheVariants as decisions
 use Rattle.failed_reasons.specs.Below.CallErrors.Locking.{id_in}
 use Rattle.failed_reasons.specs.Below.CallErrors.Ending.{failed}

@@ -9,6 +9,7 @@ use Rattle.sock_words.specs.declared.outcome.Outcome.TheVariants.{CallFailed}
 use Rattle.sock_words.specs.declared.plain.Plan.{Plan}
 use Rattle.sock_message.specs.brpc_model.specs.Frame.{Frame}
 use Rattle.sock_message.specs.brpc_model.specs.Meta.{ResponseMeta}
+use Rattle.sock_message.specs.brpc_model.specs.ResponseOutcome.{by_code as outcome_of_code, outcome_by, ending_of}
 use Rattle.seat_programs.specs.declared.task.Op.TheVariants as ops
 use Rattle.seat_programs.specs.declared.task.Task.{Task}
 use Rattle.seat_programs.specs.Told.{IsTask}
@@ -22,7 +23,6 @@ use Rattle.corr_id.specs.id_rule.specs.Lawful.{notes_of}
 use Rattle.corr_id.specs.Closing.{Closing}
 use Rattle.corr_id.proofs.Ranges.{lock_range}
 use Rattle.sock_message.specs.Asked.{Asked}
-use Rattle.call_table.specs.Responses.{by_code as outcome_of_code, outcome_by, ending_of}
 use Rattle.attempts_told.specs.Below.RpcClient.Told.{Told}
 use Rattle.attempts_told.specs.Below.RpcReader.Books.{id_of}
 use Rattle.attempts_told.specs.call_whys.specs.call_told.specs.Answers.{IsGivenResponse, IsLossCode, EndedBy, by_code, by_response, ToldFrom}

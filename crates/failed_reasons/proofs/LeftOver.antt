@@ -29,7 +29,7 @@ use Rattle.sock_message.specs.Asked.{Asked}
 use Rattle.corr_id.specs.Calls.{FoundUpTo, is_saw, slot_of}
 use Rattle.corr_id.specs.Closing.{Closing}
 use Rattle.attempts_told.specs.Below.PrpcFrame.Meaning.{frame_of}
-use Rattle.call_table.specs.Responses.{ending_of}
+use Rattle.sock_message.specs.brpc_model.specs.ResponseOutcome.{ending_of}
 use Rattle.attempts_told.specs.Below.RpcClient.Told.{Told}
 use Rattle.attempts_told.specs.Below.RpcReader.Books.{Books, EndedAs, ToldBy, id_of}
 use Rattle.attempts_told.specs.Below.RpcReader.Met.{is_for}

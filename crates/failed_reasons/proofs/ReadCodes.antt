@@ -18,12 +18,12 @@ use Rattle.corr_id.specs.id_rule.specs.Lawful.{at_index, with_kept}
 use Rattle.sock_message.specs.Asked.{Asked}
 use Rattle.sock_message.specs.brpc_model.specs.Frame as model
 use Rattle.sock_message.specs.brpc_model.specs.Meta.{ResponseMeta}
+use Rattle.sock_message.specs.brpc_model.specs.ResponseOutcome.{outcome_by, ending_of}
 use Rattle.corr_id.specs.declared.posts.Posted.{Posted}
 use Rattle.corr_id.specs.declared.posts.Posted.TheVariants.{Locked as HasLock}
 use Rattle.corr_id.specs.Calls.{slot_of}
 use Rattle.attempts_told.specs.Below.PrpcFrame.Meaning.{frame_of}
 use Rattle.attempts_told.specs.Below.PrpcFrame.Frame.{Frame}
-use Rattle.call_table.specs.Responses.{outcome_by, ending_of}
 use Rattle.attempts_told.specs.Below.RpcClient.Told.{Told}
 use Rattle.attempts_told.specs.call_whys.specs.call_told.proofs.Lists.{all_both}
 use Rattle.attempts_told.specs.Below.RpcReader.Books.{Books, EndedAs, id_of}

@@ -10,13 +10,13 @@ use Rattle.corr_core.specs.declared.marks.View.{View}
 use Rattle.corr_id.specs.id_rule.specs.Lawful.{notes_of}
 use Rattle.sock_message.specs.Asked.{Asked}
 use Rattle.sock_message.specs.brpc_model.specs.Frame as model
+use Rattle.sock_message.specs.brpc_model.specs.ResponseOutcome.{ending_of}
 use Rattle.corr_id.specs.declared.calls.IdLock.{IdLock}
 use Rattle.corr_id.specs.declared.posts.Posted.{Posted}
 use Rattle.corr_id.specs.declared.posts.Posted.TheVariants.{Locked as HasLock, Queued as IsQueued}
 use Rattle.corr_id.specs.Calls.{is_saw, slot_of, Found, GotLock}
 use Rattle.corr_id.specs.Posts.{IsTimely, PostOk}
 use Rattle.attempts_told.specs.Below.PrpcFrame.Frame.{Frame}
-use Rattle.call_table.specs.Responses.{ending_of}
 use Rattle.attempts_told.specs.Below.RpcClient.Told.{Told}
 use Rattle.attempts_told.specs.Below.RpcReader.Books.{Books, id_of}
 use Rattle.attempts_told.specs.Below.RpcReader.Posting.{PostedAll, call_at, attempt_at}

@@ -5,7 +5,7 @@ use mathlib.Core.Option.{some}
 use lib.ListN.{get_elem?}
 use Rattle.sock_io.specs.declared.link.Out.{Ghosts}
 use Rattle.sock_io.specs.Link.{OutState}
-use Rattle.sock_words.specs.Codes.{EEOF, EFAILEDSOCKET, EINTERNAL, ERESPONSE, ERPCTIMEDOUT}
+use Rattle.sock_words.specs.Codes.{EEOF, EFAILEDSOCKET, EINTERNAL, ERESPONSE, ERPCTIMEDOUT, is_final}
 use Rattle.sock_words.specs.declared.outcome.Outcome.{Outcome}
 use Rattle.sock_words.specs.declared.outcome.Outcome.TheVariants.{CallFailed}
 use Rattle.sock_words.specs.declared.plain.Plan.{Plan}
@@ -26,7 +26,6 @@ use Rattle.corr_core.specs.declared.marks.View.{View}
 use Rattle.corr_id.specs.id_rule.specs.Lawful.{notes_of}
 use Rattle.sock_message.specs.Asked.{Asked, name_of}
 use Rattle.corr_id.specs.Closing.{Closing}
-use Rattle.call_table.specs.Errors.{is_final}
 use Rattle.call_table.specs.declared.errors.Decision.TheVariants as decisions
 use Rattle.failed_ends.specs.Below.RpcClient.Told.{Told}
 use Rattle.failed_ends.specs.Below.CallErrors.Locking.{id_in}

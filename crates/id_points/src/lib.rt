@@ -10,7 +10,7 @@ pub mod posting;
 pub mod unlocking;
 
 pub use call_id::{AttemptNumber, CallId};
-pub use deciding::{ends_call, is_early, is_reused};
+pub use deciding::{ends_call, is_reused};
 pub use error::IdError;
 pub use locking::{LockTurn, Sought, is_awaited, lock_behind, lock_by};
 pub use posting::{PostTurn, judge, post_behind};

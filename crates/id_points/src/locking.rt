@@ -1,11 +1,12 @@
 ghost use Rattle.std.specs.Prelude.{◌≡◌, ◌==◌, ◌+◌, ℕ, None, Some, MatchOption, if◌then◌else◌, not, ◌&&◌};
-ghost use Rattle.seat_programs.specs.corr_core.specs.Word.{parts, posted_word};
+ghost use Rattle.corr_core.specs.Word.{parts, posted_word};
 ghost use Rattle.seat_programs.specs.Heads.{Locking, Has};
 ghost use Rattle.seat_programs.specs.Programs.{Program};
-ghost use Rattle.seat_programs.specs.Posts.{packed, locking, is_sought, is_first, has_version};
+ghost use Rattle.seat_programs.specs.Posts.{packed, locking, is_sought, is_first};
 ghost use Rattle.id_points.specs.Turns.{lock_on, sought_as};
 
 use crate::posting::{is_there, locked};
+use corr_core::has_version;
 use sock_words::IdWord;
 
 /// What is sought in an id slot.
@@ -28,14 +29,6 @@ pub enum LockTurn {
     Again(Option<IdWord>),
 }
 
-/// Whether the range in a slot has this version behind its first.
-fn has_version(version: u32, word: IdWord) -> bool
-    ensures { result ≡ has_version version (parts word.0) }
-{
-    let first = word.first();
-    word.state() != IdWord::FREE && first < version && version < first + u32::from(word.range())
-}
-
 impl Sought {
     /// Whether it is there by this word.
     fn is_in(self, word: IdWord) -> bool
@@ -43,7 +36,7 @@ impl Sought {
     {
         match self {
             Sought::First(first) => is_there(first, word),
-            Sought::Version(version) => has_version(version, word),
+            Sought::Version(version) => has_version(word, version),
         }
     }
 }

@@ -1,5 +1,5 @@
 ghost use Rattle.std.specs.Prelude.{◌≡◌, ◌≤◌, ◌==◌, ℕ, if◌then◌else◌};
-ghost use Rattle.seat_programs.specs.corr_core.specs.Word.{parts, posted_word};
+ghost use Rattle.corr_core.specs.Word.{parts, posted_word};
 ghost use Rattle.seat_programs.specs.Heads.{Posting, HasLocked, WasQueued};
 ghost use Rattle.seat_programs.specs.Programs.{Program};
 ghost use Rattle.seat_programs.specs.Posts.{judged, packed, is_first, is_stale};

@@ -2,6 +2,7 @@
 use Rattle.std.proofs.Common.{◌≡◌, ◌≢◌, ℕ, zero, suc, ◌+◌, ◌-◌, ◌*◌, ◌<◌, inl, inr, ◌==◌, ◌&&◌, ◌||◌, not, Bool, true, false, cond, eqb, eqb-true, eq-eqb, ne_eqb, leb, nat_lt, List, [], ◌∷◌, ◌++◌, Some, None, length, refl, sym, ap, ◌∙◌, subst, arith}
 use Rattle.std.specs.Prelude.{Option}
 use Rattle.sock_words.specs.declared.plain.Plan.{Plan}
+use Rattle.sock_words.specs.Codes.{is_final}
 use Rattle.corr_core.specs.Word.{Parts, parts, locked_word, posted_word, unlocked_word, code_of, attempt_of}
 use Rattle.corr_core.specs.Law.{LAST}
 use Rattle.corr_core.specs.declared.marks.Plan.{Plan as IdPlan}
@@ -9,16 +10,19 @@ use Rattle.corr_core.specs.declared.marks.Hand.TheVariants.{Empty, Full}
 use Rattle.corr_core.specs.declared.marks.Token.{Token}
 use Rattle.corr_core.specs.declared.marks.Token.TheVariants.{Locked, Leaving}
 use Rattle.corr_core.specs.declared.marks.Note.TheVariants.{Queued, Saw, Attempt, Ended}
+use Rattle.corr_core.specs.Decisions.{ends_call}
+use Rattle.corr_core.specs.Versions.{is_early}
 use Rattle.id_rule.specs.Lawful.{tokens_of, without, with_token, no_token, with_note}
 use Rattle.id_rule.specs.Plays.{with_hand, Longer, popped_view, advanced_view}
 use Rattle.seat_programs.specs.brpc_model.specs.Frame.{Frame}
 use Rattle.seat_programs.specs.brpc_model.specs.Stream as streams
+use Rattle.seat_programs.specs.brpc_model.specs.ResponseOutcome.{ending_of}
 use Rattle.seat_programs.specs.sock_message.specs.Asked.{Asked}
 use Rattle.seat_programs.specs.Asides.{PutCall, FreeId, Taking, Bytes, Nothing, Closed, id_slot, id_first, call_id}
 use Rattle.seat_programs.specs.Heads.{Head, Exit, Retry, Sought, First, Version, Reading, Posts, Unlocks, Decides, Locks, Joins, Opens, Reads, Discards, Posting, WasGone, WasStale, WasCrowded, WasQueued, HasLocked, Unlocking, IsOpen, HasNext, Deciding, HasEnded, GoesOn, Locking, NotThere, Has, Ended as Over}
 use Rattle.seat_programs.specs.Programs.{Program, Say, Aside, Round}
-use Rattle.seat_programs.specs.Posts.{packed, advance_of, is_first, is_sought, is_stale, is_full, judged, posted, post_with, post, popped, end_id, ends_call, decide, decided, unlocked, locking}
-use Rattle.seat_programs.specs.Readers.{answer, answered, responses, read_on, took, discarded, last_of, slot_in, version_in, has_response, ending_of, is_early, ended_by as how_ended, LIMIT}
+use Rattle.seat_programs.specs.Posts.{packed, advance_of, is_first, is_sought, is_stale, is_full, judged, posted, post_with, post, popped, end_id, decide, decided, unlocked, locking}
+use Rattle.seat_programs.specs.Readers.{answer, answered, responses, read_on, took, discarded, last_of, slot_in, version_in, has_response, ended_by as how_ended, LIMIT}
 use Rattle.seat_programs.specs.Rounds.{round}
 use Rattle.id_runs.specs.Held.{IdView, one, by_token, unlocked_by, ended_by, locked_by, HasOne}
 use Rattle.id_runs.specs.Goes.{EndsReading, HasRoom, IsIdWord, IsError, IsPostable, IsLocked, IsFree, AtHead, LeavesPost, LeavesUnlock, LeavesLock, FitsRetryId, IdGoesOn}
@@ -214,7 +218,7 @@ module _ (p : Plan) (q : IdPlan) where
       way p q u (ends_call (parts word) e) (end_id (id_slot id) (k (HasEnded asked.operation (code_of e))))
       (Aside (PutCall (id_slot id) asked) (λ _. Round (Unlocks (id_slot id) word true) (unlocked (record { id = id; attempt = (parts word).attempt + 1 }) k)))
       (λ _. end_goes u (id_slot id) l.f l.rg l.att l.o l.s asked (k (HasEnded asked.operation (code_of e))) at.0 l.tokens (λ v free. goes (HasEnded asked.operation (code_of e)) v free))
-      (λ no. let left = not_equal ((parts word).attempt + 2) (parts word).range (or_right (Rattle.seat_programs.specs.Posts.is_final (code_of e)) ((parts word).attempt + 2 == (parts word).range) (or_right (attempt_of e == 7) (Rattle.seat_programs.specs.Posts.is_final (code_of e) || ((parts word).attempt + 2 == (parts word).range)) no)) in (
+      (λ no. let left = not_equal ((parts word).attempt + 2) (parts word).range (or_right (is_final (code_of e)) ((parts word).attempt + 2 == (parts word).range) (or_right (attempt_of e == 7) (is_final (code_of e) || ((parts word).attempt + 2 == (parts word).range)) no)) in (
         (at.0, inr (l.f, l.rg, l.att, l.o, l.s, has), at.2),
         λ found c _. subst (λ ts. Goes (by_token ts (λ t. with_token (id_slot id) (with_hand t (Full asked)) u) u) (Round (Unlocks (id_slot id) word true) (unlocked (record { id = id; attempt = (parts word).attempt + 1 }) k))) (sym has)
             ((at.0, record { f = l.f; rg = l.rg; att = l.att; o = l.o; s = l.s; c = asked; tokens = other_one (id_slot id) t u l.tokens (Locked l.f l.rg l.att asked l.o l.s (Full asked)); word_is = l.word_is; room = (let r = l.room in let g = l.word_is.range_is in let h = l.word_is.attempt_is in omega (arith, r, g, h, left)) }), unlocked_goes (record { id = id; attempt = (parts word).attempt + 1 }) k (at.0, (let r = l.room in let g = l.word_is.range_is in let h = l.word_is.attempt_is in omega (arith, r, g, h, left))) goes),
@@ -316,7 +320,7 @@ module _ (p : Plan) (q : IdPlan) where
   )
 
   answered_goes : (frame : Frame) (kept : List Frame) (k : List Frame → Program) → slot_in frame < q.slots → ((kept' : List Frame) (v : IdView) → IsFree v → Goes v (k kept')) → (exit : Locking) (v : IdView) → LeavesLock (slot_in frame) exit v → Goes v (answered frame kept k exit)
-  answered_goes frame kept k inside goes (NotThere found) v free = goes (cond (is_early (version_in frame) found) (kept ++ frame ∷ []) kept) v free
+  answered_goes frame kept k inside goes (NotThere found) v free = goes (cond (is_early (version_in frame) (parts found)) (kept ++ frame ∷ []) kept) v free
   answered_goes frame kept k inside goes (Has word) v l = answer_goes v frame (parts word).first word (k kept) inside l (goes kept)
 
   responses_goes : (ids : ℕ) → ids ≡ q.slots → (u : IdView) (fs kept : List Frame) (k : List Frame → Program) → IsFree u → ((kept' : List Frame) (v : IdView) → IsFree v → Goes v (k kept')) → Goes u (responses ids fs kept k)

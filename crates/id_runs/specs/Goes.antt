@@ -20,7 +20,8 @@ use Rattle.seat_programs.specs.Heads.{Head, Exit, Retry, Posts, Unlocks, Decides
 use Rattle.seat_programs.specs.Programs.{Program, Do, Say, Sent, Rest, TakeMessage, TakeHome, PutHome, PutBytes, AskReady, Write, Aside, Round, Keep, Retries}
 use Rattle.seat_programs.specs.Posts.{advance_of}
 use Rattle.std.specs.List.{AllByRecursion}
-use Rattle.seat_programs.specs.Cores.{Core, SeatState, word_of, found_at, waiting_at}
+use Rattle.seat_programs.specs.Cores.{Core, SeatState, found_at, waiting_at}
+use Rattle.seat_programs.specs.StepTables.{word_of}
 use Rattle.seat_programs.specs.Sends.{block}
 use Rattle.seat_programs.specs.Rounds.{round}
 use Rattle.seat_programs.specs.Ticks.{Moment}

@@ -8,13 +8,14 @@ use Rattle.seat_programs.specs.corr_core.specs.declared.marks.Plan.{Plan as IdPl
 use Rattle.seat_programs.specs.Asides.{Step, Found, MakeId, LoadIdWord, LockId, PostId, UnlockId, EndId, TakeCall, TakeBytes}
 use Rattle.seat_programs.specs.Calls.{Call, FindLink, LoadCode}
 use Rattle.seat_programs.specs.Programs.{Program, Do, Write, Aside, Round}
-use Rattle.seat_programs.specs.Cores.{Core, word_of, found_at}
+use Rattle.seat_programs.specs.Cores.{Core, found_at}
+use Rattle.seat_programs.specs.StepTables.{word_of}
 use Rattle.seat_programs.specs.Beside.{found_in, call_at, at_last}
 use Rattle.seat_programs.specs.Sends.{block}
 use Rattle.seat_programs.specs.Rounds.{round}
 use Rattle.seat_programs.specs.Ticks.{Answer, Moment, IsAnswer, IsAnswered, taken}
 use Rattle.programs_allowed.specs.program_steps.specs.Fits.{FitsFound}
-use Rattle.programs_allowed.specs.program_steps.specs.May.{May}
+use Rattle.seat_programs.specs.StepTables.{May}
 use Rattle.programs_allowed.specs.program_steps.specs.GoesOn.{GoesOn}
 use Rattle.programs_allowed.specs.program_steps.specs.Sound.{state, Sound, FitsBeside, IsFitting, first_step}
 use Rattle.programs_allowed.specs.program_steps.specs.Lasts.{IsSlot, IsCountedStep, IsCountedAt, IsCounted}

@@ -2,20 +2,23 @@
 use Rattle.std.proofs.Common.{◌≡◌, ℕ, ◌+◌, ◌<◌, ◌≤◌, ◌⊎◌, inl, inr, ◌&&◌, not, Bool, true, false, cond, eqb, eqb-true, eq-eqb, leb, nat_lt, List, [], ◌∷◌, ◌++◌, Option, Some, None, length, refl, sym, ap, ◌∙◌, subst, ⊎_elim, arith}
 use Rattle.brpc_model.specs.Frame.{Frame}
 use Rattle.brpc_model.specs.Stream as streams
+use Rattle.brpc_model.specs.ResponseOutcome.{ending_of}
 use Rattle.sock_words.specs.declared.outcome.Outcome.TheVariants.{CallFailed}
 use Rattle.sock_io.specs.declared.link.Put.{Put}
 use Rattle.sock_io.specs.declared.link.Ready.{Ready}
 use Rattle.sock_model.specs.declared.chain.Heading.{Heading}
 use Rattle.corr_core.specs.Word.{Parts, parts, locked_word, posted_word, unlocked_word, code_of}
 use Rattle.corr_core.specs.Law.{LAST}
+use Rattle.corr_core.specs.Decisions.{ends_call}
+use Rattle.corr_core.specs.Versions.{is_early}
 use Rattle.id_runs.proofs.Keeps.{parts_packed}
 use Rattle.seat_programs.specs.sock_message.specs.Asked.{Asked}
 use Rattle.seat_programs.specs.Asides.{Step, Found, MakeId, StoreCall, StoreAt, UnlockId, PutCall, LoadIdWord, PostId, LockId, EndId, FreeId, TakeCall, TakeBytes, Taking, Bytes, Nothing, Closed, call_id, id_slot, id_first}
 use Rattle.seat_programs.specs.Calls.{Call, ClaimRequest, PutMessage, LoadOpen}
 use Rattle.seat_programs.specs.Heads.{Head, Exit, Sought, First, Version, Reading, Posts, Unlocks, Decides, Locks, Joins, Opens, Reads, Discards, Posting, WasGone, WasStale, WasCrowded, WasQueued, HasLocked, Unlocking, IsOpen, HasNext, Deciding, HasEnded, GoesOn, Locking, NotThere, Has, Ended}
-use Rattle.seat_programs.specs.Posts.{packed, advance_of, is_first, is_sought, is_stale, is_full, judged, posted, post_with, post, popped, end_id, ends_call, decide, decided, unlocked, locking}
+use Rattle.seat_programs.specs.Posts.{packed, advance_of, is_first, is_sought, is_stale, is_full, judged, posted, post_with, post, popped, end_id, decide, decided, unlocked, locking}
 use Rattle.seat_programs.specs.Programs.{Program, Do, Say, Sent, Rest, TakeMessage, TakeHome, PutHome, PutBytes, AskReady, Write, Aside, Round, Keep, Retries}
-use Rattle.seat_programs.specs.Readers.{answer, answered, responses, read_on, took, discarded, last_of, room_of, slot_in, version_in, has_response, ending_of, is_early, ended_by as how_ended, LIMIT}
+use Rattle.seat_programs.specs.Readers.{answer, answered, responses, read_on, took, discarded, last_of, room_of, slot_in, version_in, has_response, ended_by as how_ended, LIMIT}
 use Rattle.seat_programs.specs.Rounds.{round}
 use Rattle.seat_programs.specs.Sends.{heading_of}
 use Rattle.label_runs.specs.Labels.{FindsLabel, AtLabel, LeavesLabel, LeavesUnlock, LeavesLock, IsSoughtWord}
@@ -234,7 +237,7 @@ module _ {K : Type 0} {lost : K} {unlocked_behind : ℕ → ℕ → Bool → K �
       (λ _. responses_goes ids fs kept k goes)
     where
       exits : ((kept' : List Frame) → G lost (responses ids fs kept' k)) → (exit : Locking) → G lost (answered f kept (λ kept'. responses ids fs kept' k) exit)
-      exits later (NotThere w) = later (cond (is_early (version_in f) w) (kept ++ f ∷ []) kept)
+      exits later (NotThere w) = later (cond (is_early (version_in f) (parts w)) (kept ++ f ∷ []) kept)
       exits later (Has w) = answer_goes lost f (parts w).first (responses ids fs kept k) (later kept)
 
   took_goes : (r : Reading) (k : Ended → Program) → ((exit : Ended) → G lost (k exit)) → (t : Taking) → G lost (took r k t)

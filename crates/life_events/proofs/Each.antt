@@ -20,11 +20,15 @@ use Rattle.sock_model.specs.Plain.{Event, Nothing, Becomes, Leads, plain}
 use Rattle.seat_programs.specs.Calls.{Call, ClaimSlot, CreateLife, AddRef, SubRef, SetOdd, Recycle, FreeSlot, StoreLink, LoadLink, ResetHead, ClearCode, StoreCode, StoreName, LoadName, StoreOpen, LoadOpen, TakeLink, FinishLink, PutLink}
 use Rattle.seat_programs.specs.Programs.{Program, Do, TakeMessage, TakeHome, PutHome, PutBytes, Write, Round}
 use Rattle.seat_programs.specs.Rounds.{round}
-use Rattle.seat_programs.specs.Cores.{Core, SeatState, word_of, found_at}
+use Rattle.seat_programs.specs.Cores.{Core, SeatState, found_at}
+use Rattle.seat_programs.specs.StepTables.{word_of}
 use Rattle.seat_programs.specs.Sends.{block}
 use Rattle.seat_programs.specs.Ticks.{Answer, OfPut, Moment, AreAnswered, ticked}
-use Rattle.sock_runs.specs.program_steps.specs.Rows.{row, hand_at, is_id, found_id, took_message, link_away, link_home_again, took_bytes}
-use Rattle.sock_runs.specs.program_steps.specs.May.{May}
+use Rattle.seat_programs.specs.StepTables.{row, hand_at}
+use Rattle.seat_programs.specs.StepsOfNames.{is_id, found_id}
+use Rattle.seat_programs.specs.StepsOfMessages.{took_message}
+use Rattle.seat_programs.specs.StepsOfLinks.{link_away, link_home_again, took_bytes}
+use Rattle.seat_programs.specs.StepTables.{May}
 use Rattle.sock_runs.specs.program_steps.specs.GoesOn.{GoesOn}
 use Rattle.sock_runs.specs.program_steps.specs.Sound.{Sound, state, first_step, views_with_message, views_with_link, views_with_put, views_with, views_of, views_after, views_along, AreFitting}
 use Rattle.sock_steps.proofs.Quiet.{either_way}

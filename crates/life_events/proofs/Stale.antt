@@ -16,8 +16,9 @@ use Rattle.sock_model.specs.Plain.{no_lives, Nothing, Hold, plain}
 use Rattle.slot_steps.proofs.After.{marks-added}
 use Rattle.slot_steps.proofs.Numbers.{life_is}
 use Rattle.seat_programs.specs.Calls.{AddRef}
-use Rattle.seat_programs.specs.Cores.{word_of, found_at}
-use Rattle.sock_runs.specs.program_steps.specs.Rows.{row}
+use Rattle.seat_programs.specs.StepTables.{word_of}
+use Rattle.seat_programs.specs.Cores.{found_at}
+use Rattle.seat_programs.specs.StepTables.{row}
 use Rattle.life_events.specs.Events.{life_of, event_of}
 use Rattle.life_events.proofs.Laws.{ends_are}
 

@@ -28,10 +28,15 @@ use Rattle.seat_programs.specs.Asides.{Step, Found}
 use Rattle.seat_programs.specs.Beside.{found_in}
 use Rattle.seat_programs.specs.Rounds.{round}
 use Rattle.seat_programs.specs.Sends.{block}
-use Rattle.seat_programs.specs.Cores.{Core, SeatState, word_of, word_after, words_after, homes_after, found_at, lies_at, first_of, others_of, link_place, with_seat}
+use Rattle.seat_programs.specs.Cores.{Core, SeatState, words_after, homes_after, found_at, lies_at, first_of, others_of, link_place, with_seat}
+use Rattle.seat_programs.specs.StepTables.{word_of, word_after}
 use Rattle.seat_programs.specs.Ticks.{Answer, OfPut, OfReady, Moment, fed, with_places, onto_first, taken, with_message, with_link, with_put, with_ready, with_found, step_with, tick_with, ticked}
-use Rattle.sock_runs.specs.program_steps.specs.Rows.{row, hand_at, by_claim, exchanged, took_message, link_away, link_home_again, took_bytes}
-use Rattle.sock_runs.specs.program_steps.specs.May.{May}
+use Rattle.seat_programs.specs.StepTables.{row, hand_at}
+use Rattle.seat_programs.specs.StepViews.{by_claim}
+use Rattle.seat_programs.specs.StepsOfChain.{exchanged}
+use Rattle.seat_programs.specs.StepsOfMessages.{took_message}
+use Rattle.seat_programs.specs.StepsOfLinks.{link_away, link_home_again, took_bytes}
+use Rattle.seat_programs.specs.StepTables.{May}
 use Rattle.sock_runs.specs.program_steps.specs.GoesOn.{GoesOn}
 use Rattle.sock_runs.specs.program_steps.specs.Sound.{Sound, state, views_with_message, views_with_link, views_with_put, views_with, views_of, views_after}
 use Rattle.sock_steps.proofs.Quiet.{either_way}

@@ -10,9 +10,10 @@ use Rattle.sock_model.specs.SlotRows.{marks_of}
 use Rattle.sock_model.specs.Plain.{Life, life_at, Event, Nothing, Birth, Hold, Drop, Fail, End}
 use Rattle.seat_programs.specs.Calls.{Call, CreateLife, AddRef, SubRef, SetOdd, Recycle}
 use Rattle.seat_programs.specs.Programs.{Program, Do}
-use Rattle.seat_programs.specs.Cores.{Core, word_of, found_at}
+use Rattle.seat_programs.specs.Cores.{Core, found_at}
+use Rattle.seat_programs.specs.StepTables.{word_of}
 use Rattle.seat_programs.specs.Ticks.{Moment, ticked}
-use Rattle.sock_runs.specs.program_steps.specs.May.{even_version}
+use Rattle.seat_programs.specs.StepsOfSlots.{even_version}
 use Rattle.sock_runs.specs.program_steps.specs.Sound.{first_step, views_after}
 
 -- the life that an id names

@@ -15,7 +15,8 @@ use Rattle.seat_programs.specs.Beside.{found_in, calls_after}
 use Rattle.seat_programs.specs.Heads.{Posts, Unlocks, Decides, Locks, Joins, Opens, Reads, Discards}
 use Rattle.seat_programs.specs.Writings.{Puts, Waits, Empties, Walks}
 use Rattle.seat_programs.specs.Programs.{Program, Do, TakeMessage, TakeHome, PutHome, PutBytes, AskReady, Write, Aside, Round}
-use Rattle.seat_programs.specs.Cores.{Core, SeatState, word_of, found_at, words_after, word_after, homes_after, hand_after, lies_at, first_of, others_of, link_place, with_seat}
+use Rattle.seat_programs.specs.Cores.{Core, SeatState, found_at, words_after, homes_after, hand_after, lies_at, first_of, others_of, link_place, with_seat}
+use Rattle.seat_programs.specs.StepTables.{word_of, word_after}
 use Rattle.seat_programs.specs.Ticks.{Answer, OfPut, OfReady, FitsPut, IsAnswer, IsTaken, taken, fed, with_places, onto_first, with_message, with_link, with_found, step_with, tick_with}
 use Rattle.seat_states.specs.program_steps.specs.Sound.{first_step}
 use Rattle.seat_states.specs.program_steps.proofs.Cases.{ticks_first}

@@ -2,6 +2,7 @@
 use Rattle.std.proofs.Common.{◌≡◌, ◌≢◌, refl, ℕ, ◌+◌, ◌==◌, ◌&&◌, Bool, true, false, not, is_some, if◌then◌else◌, List, [], Option, Some, None, IfSome, option_map, ap, sym, ◌∙◌, subst}
 use mathlib.Core.Option as core
 use Rattle.corr_core.specs.Word.{parts, code_of}
+use Rattle.corr_core.specs.Decisions.{ends_call}
 use Rattle.sock_words.specs.declared.kind.Kind.{Kind}
 use Rattle.sock_words.specs.declared.kind.Kind.TheVariants.{I6, K1}
 use Rattle.sock_io.specs.declared.link.Put.{Put}
@@ -13,11 +14,12 @@ use Rattle.seat_programs.specs.Asides.{id_first, id_slot, PutCall}
 use Rattle.seat_programs.specs.Asides as asides
 use Rattle.seat_programs.specs.Beside.{found_in}
 use Rattle.seat_programs.specs.Heads.{Posts, Unlocks, Decides, Locks, Joins, Opens, Reads, Discards, HasEnded}
-use Rattle.seat_programs.specs.Posts.{ends_call, end_id, unlocked, is_first, is_sought}
+use Rattle.seat_programs.specs.Posts.{end_id, unlocked, is_first, is_sought}
 use Rattle.seat_programs.specs.Calls as calls
 use Rattle.seat_programs.specs.Writings as heads
 use Rattle.seat_programs.specs.Programs.{Program, Do, TakeMessage, TakeHome, PutHome, PutBytes, Write, Aside, Round}
-use Rattle.seat_programs.specs.Cores.{Core, word_of, found_at}
+use Rattle.seat_programs.specs.Cores.{Core, found_at}
+use Rattle.seat_programs.specs.StepTables.{word_of}
 use Rattle.seat_programs.specs.Ticks.{Answer, Unasked, OfPut, OfReady, waits_at}
 use Rattle.seat_programs.specs.Runs.{kind_in}
 use Rattle.call_slots.specs.Steps.{word_found}

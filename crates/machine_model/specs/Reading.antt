@@ -13,7 +13,8 @@ use Rattle.seat_programs.specs.Beside.{found_in, at_last}
 use Rattle.seat_programs.specs.Calls as calls
 use Rattle.seat_programs.specs.Programs.{Program}
 use Rattle.seat_programs.specs.Programs as programs
-use Rattle.seat_programs.specs.Cores.{word_of, found_at, words_after, word_after}
+use Rattle.seat_programs.specs.StepTables.{word_of, word_after}
+use Rattle.seat_programs.specs.Cores.{found_at, words_after}
 use Rattle.seat_programs.specs.Ticks.{Answer, Unasked, OfTake, FitsTake}
 use Rattle.seat_states.specs.program_steps.specs.Sound.{AllowsWord, first_step}
 use Rattle.call_points.specs.Steps.{after_word}

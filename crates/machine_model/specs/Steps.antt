@@ -15,7 +15,8 @@ use Rattle.seat_programs.specs.Beside.{found_in, call_at}
 use Rattle.seat_programs.specs.Calls as calls
 use Rattle.seat_programs.specs.Programs.{Program}
 use Rattle.seat_programs.specs.Programs as programs
-use Rattle.seat_programs.specs.Cores.{Calls, word_of, found_at, words_after, word_after, resolved, still_waiting, next_step, said}
+use Rattle.seat_programs.specs.Cores.{Calls, found_at, words_after, resolved, still_waiting, next_step, said}
+use Rattle.seat_programs.specs.StepTables.{word_of, word_after}
 use Rattle.seat_programs.specs.Ticks.{Answer, Unasked, OfPut, OfReady}
 use Rattle.seat_states.specs.program_steps.specs.Sound.{AllowsWord, first_step}
 use Rattle.call_slots.specs.Slots.{calls_with}

@@ -20,7 +20,8 @@ use Rattle.seat_programs.specs.Heads.{Retry}
 use Rattle.seat_programs.specs.Calls as calls
 use Rattle.seat_programs.specs.Writings as heads
 use Rattle.seat_programs.specs.Programs.{Program, PutBytes, AskReady, Write}
-use Rattle.seat_programs.specs.Cores.{Core, SeatState, word_of, found_at, next_step, resolved}
+use Rattle.seat_programs.specs.Cores.{Core, SeatState, found_at, next_step, resolved}
+use Rattle.seat_programs.specs.StepTables.{word_of}
 use Rattle.seat_programs.specs.Ticks.{Answer, Unasked, OfPut, OfReady, OfTake, Moment, ticked, waits}
 use Rattle.seat_programs.specs.Runs.{IsAtRest}
 use Rattle.machine_model.specs.program_steps.specs.GoesOn.{GoesOn}

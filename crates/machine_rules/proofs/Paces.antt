@@ -16,6 +16,7 @@ use Rattle.sock_model.specs.Entries.{slot_of, generation_of}
 use Rattle.sock_model.specs.Memory.{IDLE, UNCONNECTED}
 use Rattle.corr_core.specs.Word.{parts, code_of, posted_word, unlocked_word}
 use Rattle.corr_core.specs.Law.{LAST}
+use Rattle.corr_core.specs.Decisions.{ends_call}
 use Rattle.seat_programs.specs.Asides as asides
 use Rattle.seat_programs.specs.Asides.{Step, Found, id_slot, id_first}
 use Rattle.seat_programs.specs.Calls as calls
@@ -23,7 +24,7 @@ use Rattle.seat_programs.specs.Writings as heads
 use Rattle.seat_programs.specs.Programs.{Program, Do, PutBytes, Write, Aside, Round, Keep, NO_SOCKET, LAST_VERSION, LAST_GENERATION, open_from}
 use Rattle.seat_programs.specs.Sends.{block, freed, passed_telling, tell_drop, claim_from}
 use Rattle.seat_programs.specs.Attempts.{claims_from, claim_id, tried_again, retry_locked}
-use Rattle.seat_programs.specs.Posts.{packed, is_first, is_stale, is_full, is_sought, judged, posted, decided, popped, unlocked, decide, locking, ends_call, advance_of}
+use Rattle.seat_programs.specs.Posts.{packed, is_first, is_stale, is_full, is_sought, judged, posted, decided, popped, unlocked, decide, locking, advance_of}
 use Rattle.seat_programs.specs.Rounds.{round}
 use Rattle.seat_programs.specs.Clients.{HeldLife, operation, give_back, client_from, ending_of, drop_of, held_under, without_name}
 use Rattle.seat_programs.specs.Cores.{resolved, next_step}

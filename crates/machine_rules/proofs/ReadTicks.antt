@@ -12,7 +12,8 @@ use Rattle.seat_programs.specs.Beside.{at_last, more_given}
 use Rattle.seat_programs.specs.Calls as calls
 use Rattle.seat_programs.specs.Programs.{Program}
 use Rattle.seat_programs.specs.Runs.{from_to}
-use Rattle.seat_programs.specs.Cores.{Calls, Core, SeatState, word_of, found_at, with_seat, hand_after, words_after, word_after, homes_after}
+use Rattle.seat_programs.specs.Cores.{Calls, Core, SeatState, found_at, with_seat, hand_after, words_after, homes_after}
+use Rattle.seat_programs.specs.StepTables.{word_of, word_after}
 use Rattle.seat_programs.specs.Ticks.{Answer, Unasked, OfTake, IsAnswer, IsAnswered, tick_with, ticked}
 use Rattle.call_points.specs.Steps as aside_steps
 use Rattle.call_slots.specs.Slots.{calls_with}

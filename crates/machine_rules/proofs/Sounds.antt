@@ -18,9 +18,10 @@ use Rattle.seat_programs.specs.Programs.{Program, Do, TakeMessage, TakeHome, Put
 use Rattle.seat_programs.specs.Writings as heads
 use Rattle.seat_programs.specs.Rounds.{round}
 use Rattle.seat_programs.specs.Ticks.{quiet}
-use Rattle.seat_programs.specs.Cores.{Core, SeatState, link_place, word_of, found_at}
+use Rattle.seat_programs.specs.Cores.{Core, SeatState, link_place, found_at}
+use Rattle.seat_programs.specs.StepTables.{word_of}
 use Rattle.seat_programs.specs.Scripts.{sizes_of}
-use Rattle.machine_model.specs.program_steps.specs.May.{May}
+use Rattle.seat_programs.specs.StepTables.{May}
 use Rattle.machine_model.specs.program_steps.specs.GoesOn.{GoesOn}
 use Rattle.machine_model.specs.program_steps.specs.Sound.{IsOfRight, AreInHand, AreHeld, Allows, AllowsStep, first_step}
 use Rattle.machine_model.specs.sock_runs.proofs.Held.{held_in_hand}

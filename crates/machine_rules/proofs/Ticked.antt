@@ -17,7 +17,8 @@ use Rattle.sock_model.specs.Reads.{letter_of, took_of, as_link, shown, message, 
 use Rattle.seat_programs.specs.Asides as asides
 use Rattle.seat_programs.specs.Calls as calls
 use Rattle.seat_programs.specs.Programs.{Program}
-use Rattle.seat_programs.specs.Cores.{Calls, Core, SeatState, word_of, found_at, homes_after, hand_after, first_of, others_of, link_place, with_seat}
+use Rattle.seat_programs.specs.Cores.{Calls, Core, SeatState, found_at, homes_after, hand_after, first_of, others_of, link_place, with_seat}
+use Rattle.seat_programs.specs.StepTables.{word_of}
 use Rattle.seat_programs.specs.Ticks.{Answer, Unasked, OfPut, OfReady, FitsPut, IsAnswer, IsAnswered, fed, with_places, onto_first, tick_with, ticked}
 use Rattle.call_points.specs.Steps.{after_word}
 use Rattle.call_points.specs.Steps as aside_steps

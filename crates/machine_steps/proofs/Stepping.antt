@@ -7,10 +7,11 @@ use Rattle.message_parts.specs.Frames.{OutgoingData, ParcelData}
 use Rattle.seat_programs.specs.declared.task.Sizes.{Sizes}
 use Rattle.seat_programs.specs.Programs.{Program, Aside, Round}
 use Rattle.corr_core.specs.Word.{parts, code_of}
+use Rattle.corr_core.specs.Decisions.{ends_call}
 use Rattle.id_points.specs.Ids.{id_of}
 use Rattle.seat_programs.specs.Asides.{PutCall, id_slot}
 use Rattle.seat_programs.specs.Heads.{Retry, HasEnded, Unlocks}
-use Rattle.seat_programs.specs.Posts.{ends_call, end_id, unlocked, decided}
+use Rattle.seat_programs.specs.Posts.{end_id, unlocked, decided}
 use Rattle.seat_programs.specs.Cores.{resolved, still_waiting, next_step, said}
 use Rattle.seat_programs.specs.Calls as calls
 use Rattle.sock_model.specs.declared.chain.Heading.{Heading}

@@ -1,6 +1,7 @@
 -- Behind a step on a word no call has ended, and no retry is kept.
 use Rattle.std.proofs.Common.{◌≡◌, refl, ℕ, zero, suc, ◌+◌, ◌-◌, ◌/◌, ◌%◌, ◌==◌, ◌&&◌, Bool, true, false, nat_lt, nat_le, if◌then◌else◌, List, Option, Some, None, sym, subst}
 use Rattle.corr_core.specs.Word.{parts, code_of}
+use Rattle.corr_core.specs.Decisions.{ends_call}
 use Rattle.sock_words.specs.Words.{socket_id_version, socket_id_slot, vref_version, vref_nref}
 use Rattle.sock_words.specs.declared.socket_id.SocketId.{SocketId}
 use Rattle.sock_words.specs.declared.outcome.Outcome.{Outcome}
@@ -12,7 +13,7 @@ use Rattle.sock_model.specs.declared.chain.Heading.{Heading}
 use Rattle.id_points.specs.Ids.{id_of, number_of}
 use Rattle.seat_programs.specs.Asides.{PutCall, id_slot}
 use Rattle.seat_programs.specs.Heads.{HasEnded, Unlocks}
-use Rattle.seat_programs.specs.Posts.{post, ends_call, end_id, unlocked, decided}
+use Rattle.seat_programs.specs.Posts.{post, end_id, unlocked, decided}
 use Rattle.seat_programs.specs.Attempts.{claims_from, attempt, claim_id}
 use Rattle.seat_programs.specs.Calls as calls
 use Rattle.seat_programs.specs.Clients.{HeldLife}

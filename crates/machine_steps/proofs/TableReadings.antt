@@ -8,7 +8,8 @@ use Rattle.sock_message.specs.Asked.{Asked}
 use Rattle.seat_programs.specs.Asides as asides
 use Rattle.seat_programs.specs.Asides.{Found, Taking}
 use Rattle.seat_programs.specs.Beside.{found_in, at_last}
-use Rattle.seat_programs.specs.Cores.{word_of, found_at, words_after, word_after}
+use Rattle.seat_programs.specs.StepTables.{word_of, word_after}
+use Rattle.seat_programs.specs.Cores.{found_at, words_after}
 use Rattle.seat_programs.specs.Programs.{Program}
 use Rattle.seat_programs.specs.Ticks.{Unasked, OfTake, is_nothing}
 use Rattle.call_points.specs.declared.aside.Aside as code

@@ -7,7 +7,8 @@ use Rattle.seat_programs.specs.Asides as asides
 use Rattle.seat_programs.specs.Asides.{Taking}
 use Rattle.seat_programs.specs.Beside.{found_in}
 use Rattle.seat_programs.specs.Calls as calls
-use Rattle.seat_programs.specs.Cores.{word_of, found_at}
+use Rattle.seat_programs.specs.StepTables.{word_of}
+use Rattle.seat_programs.specs.Cores.{found_at}
 use Rattle.seat_programs.specs.Heads.{Locks, Joins, Opens}
 use Rattle.seat_programs.specs.Writings as heads
 use Rattle.seat_programs.specs.Programs.{Program, Write, Round}

@@ -1,5 +1,6 @@
 ghost use Rattle.std.specs.Prelude.{◌≡◌, ◌<◌, ◌⊎◌, ℕ, Bool, true, false, IfOk, IfSome, OnOk, OnErr, IsOk, is_some};
-ghost use Rattle.seat_programs.specs.Cores.{word_of, found_at};
+ghost use Rattle.seat_programs.specs.StepTables.{word_of};
+ghost use Rattle.seat_programs.specs.Cores.{found_at};
 ghost use Rattle.seat_programs.specs.Ticks.{Unasked, OfPut, OfReady};
 ghost use Rattle.seat_states.specs.Steps.{step_of};
 ghost use Rattle.client_seats.specs.Seats.{seat_data, seat_program};

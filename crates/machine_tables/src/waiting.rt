@@ -8,7 +8,7 @@ ghost use Rattle.machine_model.specs.Runs.{IsWaitingFor, sought_id};
 ghost use Rattle.machine_model.specs.Telling.{waits_by};
 
 use call_points::WordStep;
-use call_table::has_version;
+use corr_core::has_version;
 use id_points::{Sought, is_awaited};
 use machine_model::On;
 use reader_points::ReadPoint;

@@ -2,7 +2,8 @@ ghost use Rattle.std.specs.Prelude.{◌≡◌, ◌%◌, ◌<◌, ℕ, true, leng
 ghost use mathlib.Core.Option.{some};
 ghost use Rattle.sock_io.specs.Link.{end_of};
 ghost use Rattle.sock_model.specs.Layout.{request_index};
-ghost use Rattle.seat_programs.specs.Cores.{word_of, found_at, words_after, word_after};
+ghost use Rattle.seat_programs.specs.StepTables.{word_of, word_after};
+ghost use Rattle.seat_programs.specs.Cores.{found_at, words_after};
 ghost use Rattle.seat_states.specs.program_steps.specs.Sound.{AllowsWord};
 ghost use Rattle.seat_states.specs.Steps.{step_of};
 ghost use Rattle.machine_model.specs.Steps.{IsOfLinks, OutsAfter, holders_after};

@@ -23,9 +23,10 @@ use Rattle.seat_programs.specs.Writings.{Waits}
 use Rattle.seat_programs.specs.Programs.{Program, PutBytes, AskReady, Write, Aside, Round}
 use Rattle.corr_core.specs.Word.{parts, code_of}
 use Rattle.corr_core.proofs.Notes.{at_length}
+use Rattle.corr_core.specs.Decisions.{ends_call}
 use Rattle.seat_programs.specs.Asides.{id_slot, PutCall}
 use Rattle.seat_programs.specs.Heads.{Unlocks, Decides, Locks, HasEnded}
-use Rattle.seat_programs.specs.Posts.{ends_call, end_id, unlocked}
+use Rattle.seat_programs.specs.Posts.{end_id, unlocked}
 use Rattle.seat_states.specs.declared.point.Step.{Step}
 use Rattle.seat_programs.specs.Cores.{Core, SeatState}
 use Rattle.seat_programs.specs.Ticks.{Answer, Unasked, OfPut, OfReady, asked_link, broken_at}

@@ -17,7 +17,8 @@ use Rattle.seat_programs.specs.Asides.{id_slot, id_first}
 use Rattle.seat_programs.specs.Beside.{found_in, call_at}
 use Rattle.seat_programs.specs.Writings as heads
 use Rattle.seat_programs.specs.Programs.{Program, PutBytes, Write}
-use Rattle.seat_programs.specs.Cores.{word_of, found_at}
+use Rattle.seat_programs.specs.StepTables.{word_of}
+use Rattle.seat_programs.specs.Cores.{found_at}
 use Rattle.seat_programs.specs.declared.task.Sizes.{Sizes}
 use Rattle.machine_model.specs.program_steps.specs.Sound.{AllowsWord}
 use Rattle.id_rule.specs.Lawful.{call_index}

@@ -11,7 +11,8 @@ use Rattle.seat_programs.specs.Calls as calls
 use Rattle.seat_programs.specs.Heads.{Retry}
 use Rattle.seat_programs.specs.Programs.{Program, Do, Say, Sent, Rest, Retries, LAST_GENERATION}
 use Rattle.seat_programs.specs.Sends.{freed, tell_drop, one_more, passed_telling}
-use Rattle.seat_programs.specs.Cores.{Core, SeatState, word_of, found_at, next_step, resolved, still_waiting}
+use Rattle.seat_programs.specs.Cores.{Core, SeatState, found_at, next_step, resolved, still_waiting}
+use Rattle.seat_programs.specs.StepTables.{word_of}
 use Rattle.seat_programs.specs.Ticks.{quiet}
 use Rattle.seat_programs.specs.Runs.{kind_in, IsAtRest}
 use Rattle.call_points.specs.Steps.{after_word}

@@ -9,6 +9,7 @@ use mathlib.Core.Option as core
 use lib.ListN.{get_elem?}
 use Rattle.corr_core.specs.Word.{parts, code_of}
 use Rattle.corr_core.proofs.Notes.{at_length}
+use Rattle.corr_core.specs.Decisions.{ends_call}
 use Rattle.brpc_model.specs.Link.{LinkEnd, TakeAnswer}
 use Rattle.sock_io.specs.Link.{more_told}
 use Rattle.sock_words.specs.declared.plain.Plan.{Plan}
@@ -16,7 +17,7 @@ use Rattle.machine_model.specs.run_theorems.specs.Heard.{as_told, as_taken, answ
 use Rattle.seat_programs.specs.Asides as asides
 use Rattle.seat_programs.specs.Asides.{Taking, TakeBytes, PutCall, id_slot}
 use Rattle.seat_programs.specs.Heads.{Unlocks, Decides, Locks, Reads, Discards, HasEnded}
-use Rattle.seat_programs.specs.Posts.{ends_call, end_id, unlocked}
+use Rattle.seat_programs.specs.Posts.{end_id, unlocked}
 use Rattle.seat_programs.specs.Writings as heads
 use Rattle.seat_programs.specs.Programs.{Program, Write, Aside, Round}
 use Rattle.seat_programs.specs.Cores.{Core, SeatState}

@@ -33,8 +33,9 @@ use Rattle.sock_steps.proofs.Quiet.{either_way}
 use Rattle.sock_steps.proofs.Places.{own_count, given_once, two_seats}
 use Rattle.seat_programs.specs.Calls.{TakeLink}
 use Rattle.seat_programs.specs.Cores.{Core}
-use Rattle.sock_runs.specs.program_steps.specs.Rows.{hand_at, taken}
-use Rattle.sock_runs.specs.program_steps.specs.May.{May}
+use Rattle.seat_programs.specs.StepTables.{hand_at}
+use Rattle.seat_programs.specs.StepsOfLinks.{taken}
+use Rattle.seat_programs.specs.StepTables.{May}
 use Rattle.sock_runs.specs.program_steps.specs.Sound.{state}
 use Rattle.sock_runs.proofs.HandTicks.{AtHome, taking, found_hand}
 use Rattle.message_events.specs.Standing.{hands_on, by_home, stand}

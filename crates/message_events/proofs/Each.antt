@@ -22,11 +22,17 @@ use Rattle.sock_model.specs.Layout.{head_index, request_index}
 use Rattle.sock_model.specs.Memory.{IDLE}
 use Rattle.sock_steps.proofs.WriteSteps.{writes_in}
 use Rattle.seat_programs.specs.Calls.{Call, ClaimSlot, CreateLife, AddRef, SubRef, SetOdd, Recycle, FreeSlot, StoreLink, LoadLink, ResetHead, ClearCode, StoreCode, StoreName, LoadName, StoreOpen, LoadOpen, TakeLink, FinishLink, PutLink, LookWord, FindLink, LoadCode, ClaimRequest, PutMessage, Unconnect, SwapHead, Connect, EmptyHead, ReadNext, ReverseNext, FreeRequest, StorePlace, DropPlace}
-use Rattle.seat_programs.specs.Cores.{Core, word_of, word_after, found_at, words_after, homes_after, link_place}
+use Rattle.seat_programs.specs.Cores.{Core, found_at, words_after, homes_after, link_place}
+use Rattle.seat_programs.specs.StepTables.{word_of, word_after}
 use Rattle.seat_programs.specs.Ticks.{FitsPut}
-use Rattle.sock_runs.specs.program_steps.specs.Rows.{row, hand_at, by_right, looked_clean, emptied, took_message, link_away, link_home_again, took_bytes}
+use Rattle.seat_programs.specs.StepTables.{row, hand_at}
+use Rattle.seat_programs.specs.StepViews.{by_right}
+use Rattle.seat_programs.specs.StepsOfSlots.{looked_clean}
+use Rattle.seat_programs.specs.StepsOfChain.{emptied}
+use Rattle.seat_programs.specs.StepsOfMessages.{took_message}
+use Rattle.seat_programs.specs.StepsOfLinks.{link_away, link_home_again, took_bytes}
 use Rattle.sock_model.specs.SlotRows.{looked}
-use Rattle.sock_runs.specs.program_steps.specs.May.{May}
+use Rattle.seat_programs.specs.StepTables.{May}
 use Rattle.sock_runs.specs.program_steps.specs.Sound.{AreInHand, AreHeld, state}
 use Rattle.sock_runs.specs.program_steps.specs.Writes.{MayTakeMessage, Writes, MayPut}
 use Rattle.sock_runs.proofs.ChainTicks.{free_inside}

@@ -25,7 +25,7 @@ use Rattle.chain_steps.proofs.Lists.{filter_at, filter_in}
 use Rattle.atomic_table.proofs.Lists.{at_set}
 use Rattle.sock_steps.proofs.Maps.{set_at, no_members}
 use Rattle.seat_programs.specs.Cores.{Core, first_of}
-use Rattle.sock_runs.specs.program_steps.specs.May.{HasInHand}
+use Rattle.seat_programs.specs.StepsOfLinks.{HasInHand}
 use Rattle.sock_runs.specs.program_steps.specs.Sound.{state, AreInHand}
 use Rattle.sock_runs.proofs.HandTicks.{TheOne, the_one}
 use Rattle.message_events.specs.Standing.{Stand, hands_on, of_hand, by_home, stand}

@@ -32,7 +32,14 @@ use Rattle.sock_model.specs.Links.{Lives}
 use Rattle.sock_model.specs.Lawful.{Lawful}
 use Rattle.seat_programs.specs.Cores.{Core}
 use Rattle.seat_programs.specs.Calls.{Call, ClaimSlot, CreateLife, AddRef, SubRef, SetOdd, Recycle, FreeSlot, StoreLink, LoadLink, ResetHead, ClearCode, StoreCode, StoreName, LoadName, StoreOpen, LoadOpen, TakeLink, FinishLink, PutLink, LookWord, FindLink, LoadCode, ClaimRequest, PutMessage, Unconnect, SwapHead, Connect, EmptyHead, ReadNext, ReverseNext, FreeRequest, StorePlace, DropPlace}
-use Rattle.sock_runs.specs.program_steps.specs.Rows.{row, is_id, new_claim, filled_claim, ready_claim, by_claim, by_right, read_next, turned_next, freed_next, placed_next, dropped_next, looked_clean, emptied, took_message, link_away, link_home_again, took_bytes}
+use Rattle.seat_programs.specs.StepTables.{row}
+use Rattle.seat_programs.specs.StepsOfNames.{is_id}
+use Rattle.seat_programs.specs.StepsOfChain.{new_claim, ready_claim, read_next, turned_next, freed_next, emptied}
+use Rattle.seat_programs.specs.StepsOfMessages.{filled_claim, took_message}
+use Rattle.seat_programs.specs.StepViews.{by_claim, by_right}
+use Rattle.seat_programs.specs.StepsOfPlaces.{placed_next, dropped_next}
+use Rattle.seat_programs.specs.StepsOfSlots.{looked_clean}
+use Rattle.seat_programs.specs.StepsOfLinks.{link_away, link_home_again, took_bytes}
 use Rattle.sock_runs.specs.program_steps.specs.Sound.{state}
 use Rattle.sock_runs.specs.program_steps.proofs.Leaves.{reads_way, turns_way, places_way, drops_way}
 use Rattle.chain_steps.proofs.Lists.{at_longer, at_length, at_some, filter_at, filter_in}

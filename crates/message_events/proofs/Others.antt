@@ -31,8 +31,11 @@ use Rattle.sock_steps.proofs.Quiet.{either_way}
 use Rattle.sock_steps.proofs.RightSteps.{right_in, right_alone}
 use Rattle.seat_programs.specs.Calls.{Call, ClaimSlot, CreateLife, AddRef, SubRef, SetOdd, Recycle, FreeSlot, StoreLink, LoadLink, ResetHead, ClearCode, StoreCode, StoreName, LoadName, StoreOpen, LoadOpen, TakeLink, FinishLink, PutLink, LookWord, FindLink, LoadCode, ClaimRequest, PutMessage, Unconnect, SwapHead, Connect, EmptyHead, ReadNext, ReverseNext, FreeRequest, StorePlace, DropPlace}
 use Rattle.seat_programs.specs.Cores.{Core, homes_after}
-use Rattle.sock_runs.specs.program_steps.specs.Rows.{row, is_id, found_id, new_claim, filled_claim, ready_claim}
-use Rattle.sock_runs.specs.program_steps.specs.May.{May}
+use Rattle.seat_programs.specs.StepTables.{row}
+use Rattle.seat_programs.specs.StepsOfNames.{is_id, found_id}
+use Rattle.seat_programs.specs.StepsOfChain.{new_claim, ready_claim}
+use Rattle.seat_programs.specs.StepsOfMessages.{filled_claim}
+use Rattle.seat_programs.specs.StepTables.{May}
 use Rattle.sock_runs.specs.program_steps.specs.Sound.{state}
 use Rattle.sock_runs.specs.program_steps.proofs.Leaves.{moves_right, claim_way}
 use Rattle.message_events.specs.Messages.{IsOrder, MayCome, Claim, Free}

@@ -31,7 +31,13 @@ use Rattle.chain_steps.proofs.Lists.{at_some}
 use Rattle.sock_steps.proofs.RightSteps.{right_in, right_slot, right_alone}
 use Rattle.seat_programs.specs.Calls.{LookWord, ReadNext, ReverseNext, FreeRequest, StorePlace, DropPlace}
 use Rattle.seat_programs.specs.Cores.{Core, link_place}
-use Rattle.sock_runs.specs.program_steps.specs.Rows.{row, by_right, looked_clean, settled, read_next, turned_next, freed_next, freed_stage, placed_next, dropped_next, took_message, link_away, link_home_again, took_bytes}
+use Rattle.seat_programs.specs.StepTables.{row}
+use Rattle.seat_programs.specs.StepViews.{by_right, settled}
+use Rattle.seat_programs.specs.StepsOfSlots.{looked_clean}
+use Rattle.seat_programs.specs.StepsOfChain.{read_next, turned_next, freed_next, freed_stage}
+use Rattle.seat_programs.specs.StepsOfPlaces.{placed_next, dropped_next}
+use Rattle.seat_programs.specs.StepsOfMessages.{took_message}
+use Rattle.seat_programs.specs.StepsOfLinks.{link_away, link_home_again, took_bytes}
 use Rattle.sock_runs.specs.program_steps.specs.Sound.{state}
 use Rattle.sock_runs.proofs.ChainTicks.{stays_one}
 use Rattle.message_events.specs.Messages.{IsOrder, MayCome, Take, Place, Dropped}

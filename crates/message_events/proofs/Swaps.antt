@@ -23,7 +23,10 @@ use Rattle.chain_steps.proofs.Grow.{idle_found}
 use Rattle.sock_steps.proofs.Places.{holder_lives}
 use Rattle.seat_programs.specs.Calls.{SwapHead}
 use Rattle.seat_programs.specs.Cores.{Core}
-use Rattle.sock_runs.specs.program_steps.specs.Rows.{row, hand_at, as_hand, by_claim, exchanged}
+use Rattle.seat_programs.specs.StepTables.{row, hand_at}
+use Rattle.seat_programs.specs.StepsOfLinks.{as_hand}
+use Rattle.seat_programs.specs.StepViews.{by_claim}
+use Rattle.seat_programs.specs.StepsOfChain.{exchanged}
 use Rattle.sock_runs.specs.program_steps.specs.Sound.{state}
 use Rattle.sock_runs.proofs.ChainTicks.{held_link_is}
 use Rattle.message_events.specs.Standing.{hands_on, by_rights, by_home, stand}

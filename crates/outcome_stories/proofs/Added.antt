@@ -14,7 +14,9 @@ use Rattle.sock_model.specs.SlotRows.{marks_of, back, subbed, recycled}
 use Rattle.program_walks.specs.slot_steps.proofs.Slots.{zero_is, hold_is, probe_is, stage_is}
 use Rattle.program_walks.specs.sock_steps.proofs.Quiet.{less_without, more_without}
 use Rattle.seat_programs.specs.Calls.{Call, ClaimSlot, CreateLife, AddRef, SubRef, SetOdd, Recycle, FreeSlot, StoreLink, LoadLink, ResetHead, ClearCode, StoreCode, StoreName, LoadName, StoreOpen, LoadOpen, TakeLink, FinishLink, PutLink}
-use Rattle.program_walks.specs.program_steps.specs.Rows.{row, is_id, found_id, taken}
+use Rattle.seat_programs.specs.StepTables.{row}
+use Rattle.seat_programs.specs.StepsOfNames.{is_id, found_id}
+use Rattle.seat_programs.specs.StepsOfLinks.{taken}
 use Rattle.program_walks.specs.program_steps.proofs.Leaves.{sending_marks}
 use Rattle.outcome_stories.specs.Stories.{adds}
 use Rattle.outcome_stories.proofs.Tests.{split}

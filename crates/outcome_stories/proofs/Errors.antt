@@ -3,8 +3,11 @@ use Rattle.std.proofs.Common.{ℕ, ◌+◌, ◌&&◌, true, false, not, eqb, Lis
 use Rattle.std.specs.Prelude.{nat_le, if◌then◌else◌, Some, None}
 use Rattle.seat_programs.specs.corr_core.specs.Word.{parts, error_of, code_of, posted_word, unlocked_word}
 use Rattle.seat_programs.specs.corr_core.specs.Law.{LAST}
+use Rattle.seat_programs.specs.corr_core.specs.Decisions.{ends_call}
+use Rattle.seat_programs.specs.corr_core.specs.Versions.{is_early}
 use Rattle.brpc_model.specs.Frame.{Frame}
 use Rattle.brpc_model.specs.Stream as streams
+use Rattle.brpc_model.specs.ResponseOutcome.{ending_of}
 use Rattle.sock_words.specs.declared.outcome.Outcome.{Outcome}
 use Rattle.sock_model.specs.declared.chain.Heading.{Heading}
 use Rattle.seat_programs.specs.declared.task.Task.{Task}
@@ -12,8 +15,8 @@ use Rattle.seat_programs.specs.Asides.{FreeId, PutCall, Taking, Bytes, Nothing, 
 use Rattle.seat_programs.specs.Heads.{Head, Exit, Retry, Sought, Version, Reading, Ended, Posts, Unlocks, Decides, Locks, Joins, Opens, Reads, Discards, Posting, WasGone, WasStale, WasCrowded, WasQueued, HasLocked, Unlocking, IsOpen, HasNext, Deciding, HasEnded, Locking, NotThere}
 use Rattle.seat_programs.specs.Heads.{GoesOn as OpenAgain, Has as HasLock}
 use Rattle.seat_programs.specs.Programs.{Program, Say, Aside, Round}
-use Rattle.seat_programs.specs.Posts.{packed, advance_of, is_first, is_stale, is_full, is_sought, judged, post, post_with, posted, popped, ends_call, end_id, decide, decided, unlocked, locking}
-use Rattle.seat_programs.specs.Readers.{LIMIT, slot_in, version_in, is_early, answer, answered, has_response, responses, last_of, ended_by, read_on, took, discarded, ending_of}
+use Rattle.seat_programs.specs.Posts.{packed, advance_of, is_first, is_stale, is_full, is_sought, judged, post, post_with, posted, popped, end_id, decide, decided, unlocked, locking}
+use Rattle.seat_programs.specs.Readers.{LIMIT, slot_in, version_in, answer, answered, has_response, responses, last_of, ended_by, read_on, took, discarded}
 use Rattle.seat_programs.specs.Rounds.{round}
 use Rattle.seat_programs.specs.Sends.{tell_drop}
 use Rattle.outcome_stories.specs.Stories.{Entry}
@@ -94,7 +97,7 @@ module _ (slots requests : ℕ) (calls : ℕ → Type 0) (w : Way) (broken : Lis
   )
 
   answered_goes : (frame : Frame) (kept : List Frame) (k : List Frame → Program) → Exits k → Exits (answered frame kept k)
-  answered_goes frame kept k goes (NotThere found) = goes (if is_early (version_in frame) found then kept ++ frame ∷ [] else kept)
+  answered_goes frame kept k goes (NotThere found) = goes (if is_early (version_in frame) (parts found) then kept ++ frame ∷ [] else kept)
   answered_goes frame kept k goes (HasLock word) = answer_goes frame (parts word).first (k kept) (goes kept)
 
   responses_goes : (ids : ℕ) (fs kept : List Frame) (k : List Frame → Program) → Exits k → Goes (responses ids fs kept k)

@@ -18,7 +18,8 @@ use Rattle.program_walks.specs.slot_steps.proofs.Frame.{about-without, about-wit
 use Rattle.program_walks.specs.slot_steps.proofs.Slots.{zero_is, stage_is}
 use Rattle.program_walks.specs.sock_steps.proofs.Quiet.{More, more_all, more_add, more_without}
 use Rattle.seat_programs.specs.Calls.{Call, ClaimSlot, CreateLife, AddRef, SubRef, SetOdd, Recycle, FreeSlot, StoreLink, LoadLink, ResetHead, ClearCode, StoreCode, StoreName, LoadName, StoreOpen, LoadOpen, TakeLink, FinishLink, PutLink}
-use Rattle.program_walks.specs.program_steps.specs.Rows.{row, is_id, found_id}
+use Rattle.seat_programs.specs.StepTables.{row}
+use Rattle.seat_programs.specs.StepsOfNames.{is_id, found_id}
 use Rattle.program_walks.specs.program_steps.proofs.Leaves.{sending_marks}
 use Rattle.outcome_stories.specs.Explains.{holds_behind}
 use Rattle.outcome_stories.proofs.Tests.{split}

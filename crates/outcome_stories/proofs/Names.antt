@@ -7,8 +7,9 @@ use Rattle.sock_words.specs.declared.plain.Plan.{Plan}
 use Rattle.sock_model.specs.declared.view.View.{View}
 use Rattle.sock_model.specs.Layout.{name_index, all_words}
 use Rattle.seat_programs.specs.Calls.{Call, StoreName, LoadName}
-use Rattle.seat_programs.specs.Cores.{word_of, word_after, found_at, words_after}
-use Rattle.program_walks.specs.program_steps.specs.May.{May}
+use Rattle.seat_programs.specs.StepTables.{word_of, word_after}
+use Rattle.seat_programs.specs.Cores.{found_at, words_after}
+use Rattle.seat_programs.specs.StepTables.{May}
 use Rattle.outcome_stories.specs.Stories.{stored_by}
 
 -- which word is written, of so many: where none is, the one behind them

@@ -17,8 +17,12 @@ use Rattle.seat_programs.specs.declared.task.Op.TheVariants as ops
 use Rattle.seat_programs.specs.declared.task.Task.{Task}
 use Rattle.seat_programs.specs.Calls.{Call, ClaimSlot, CreateLife, AddRef, SubRef, SetOdd, Recycle, FreeSlot, StoreLink, LoadLink, ResetHead, ClearCode, StoreCode, StoreName, LoadName, StoreOpen, LoadOpen, TakeLink, FinishLink, PutLink, ClaimRequest, PutMessage, Unconnect, SwapHead}
 use Rattle.seat_programs.specs.Sends.{heading_of}
-use Rattle.outcome_stories.specs.program_steps.specs.Rows.{row, is_id, by_claim, exchanged, new_claim, filled_claim, ready_claim}
-use Rattle.outcome_stories.specs.program_steps.specs.May.{May}
+use Rattle.seat_programs.specs.StepTables.{row}
+use Rattle.seat_programs.specs.StepsOfNames.{is_id}
+use Rattle.seat_programs.specs.StepViews.{by_claim}
+use Rattle.seat_programs.specs.StepsOfChain.{exchanged, new_claim, ready_claim}
+use Rattle.seat_programs.specs.StepsOfMessages.{filled_claim}
+use Rattle.seat_programs.specs.StepTables.{May}
 use Rattle.outcome_stories.specs.program_steps.proofs.Leaves.{own_lists}
 use Rattle.outcome_stories.specs.Stories.{Entry, Event, In, trace_of}
 use Rattle.outcome_stories.specs.Explains.{IsCallReadied, IsReadied, swaps, swapped, step}

@@ -14,9 +14,10 @@ use Rattle.seat_programs.specs.Calls.{Call, LookWord, ReadNext}
 use Rattle.seat_programs.specs.Writings.{Puts, Waits, Empties, Walks}
 use Rattle.seat_programs.specs.Programs.{Program, Do, Write, Aside, Round}
 use Rattle.seat_programs.specs.corr_core.specs.Word.{parts, code_of}
+use Rattle.seat_programs.specs.corr_core.specs.Decisions.{ends_call}
 use Rattle.seat_programs.specs.Asides.{PutCall, id_slot}
 use Rattle.seat_programs.specs.Heads.{Head, Exit, HasEnded, Unlocks, Decides, Locks, Opens}
-use Rattle.seat_programs.specs.Posts.{ends_call, end_id, unlocked}
+use Rattle.seat_programs.specs.Posts.{end_id, unlocked}
 use Rattle.seat_programs.specs.Rounds.{round}
 use Rattle.std.specs.Prelude.{Bool, true, false, if◌then◌else◌, ◌+◌}
 use Rattle.seat_programs.specs.Cores.{Core, SeatState}

@@ -3,6 +3,7 @@ use Rattle.std.proofs.Common.{◌≡◌, ◌≢◌, ℕ, zero, suc, ◌+◌, ◌
 use Rattle.std.specs.Prelude.{nat_le, if◌then◌else◌}
 use mathlib.Core.List.{cons-ne-nil}
 use Rattle.seat_programs.specs.corr_core.specs.Word.{parts, error_of}
+use Rattle.seat_programs.specs.corr_core.specs.Decisions.{WHOLE}
 use Rattle.sock_words.specs.Words.{socket_id_version, socket_id_slot, vref_version, vref_nref, at_word}
 use Rattle.sock_words.specs.declared.outcome.Outcome.TheVariants.{Unopened, NotBegun, Joined}
 use Rattle.sock_model.specs.declared.chain.Heading.{Heading}
@@ -16,7 +17,7 @@ use Rattle.seat_programs.specs.Heads.{Joins, Posting, Unlocking, IsOpen, HasNext
 use Rattle.seat_programs.specs.Heads.{Has as HasLock}
 use Rattle.seat_programs.specs.Writings.{Writing}
 use Rattle.seat_programs.specs.Programs.{Program, Do, Say, Write, Aside, Round, LAST_VERSION, recycle, release}
-use Rattle.seat_programs.specs.Posts.{WHOLE, post, post_with, posted, decided}
+use Rattle.seat_programs.specs.Posts.{post, post_with, posted, decided}
 use Rattle.seat_programs.specs.Sends.{block, write_link, accept}
 use Rattle.seat_programs.specs.Attempts.{claims_from, heading_for, attempt, begin_call, claim_id, call, tried_again, retry_locked, retry, expire_outcome, expire, join}
 use Rattle.outcome_stories.specs.Stories.{Entry}

@@ -21,9 +21,10 @@ use Rattle.outcome_stories.specs.program_steps.specs.slot_steps.proofs.Sums.{tot
 use Rattle.outcome_stories.specs.program_steps.specs.slot_steps.proofs.Numbers.{live_le, life_is, life-in, pair_le}
 use Rattle.outcome_stories.specs.program_steps.specs.sock_steps.proofs.Places.{own_count}
 use Rattle.seat_programs.specs.Calls.{Call, ClaimSlot, CreateLife, AddRef, SetOdd, LoadName, LookWord, FindLink}
-use Rattle.seat_programs.specs.Cores.{Core, word_of, found_at}
+use Rattle.seat_programs.specs.Cores.{Core, found_at}
+use Rattle.seat_programs.specs.StepTables.{word_of}
 use Rattle.seat_programs.specs.declared.task.Task.{Task}
-use Rattle.outcome_stories.specs.program_steps.specs.May.{May}
+use Rattle.seat_programs.specs.StepTables.{May}
 use Rattle.outcome_stories.specs.program_steps.specs.Sound.{state}
 use Rattle.outcome_stories.specs.Stories.{Entry, Event}
 use Rattle.outcome_stories.specs.Explains.{holds}

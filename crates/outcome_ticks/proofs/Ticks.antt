@@ -41,12 +41,15 @@ use native.Mathlib.Decide.{ℕ_discrete}
 use Rattle.std.specs.Prelude.{nat_le, ◌||◌}
 use Rattle.std.proofs.Common.{◌≤◌, eqb, eq-eqb}
 use Rattle.std.proofs.lemmas.Bool.{le-leb, true≢false}
-use Rattle.seat_programs.specs.Cores.{Calls, resolved, waiting_at, Core, SeatState, word_of, word_after, words_after, hand_after, homes_after, found_at, lies_at, link_place, others_of, first_of, next_step, with_seat, stepped}
+use Rattle.seat_programs.specs.Cores.{Calls, resolved, waiting_at, Core, SeatState, words_after, hand_after, homes_after, found_at, lies_at, link_place, others_of, first_of, next_step, with_seat, stepped}
+use Rattle.seat_programs.specs.StepTables.{word_of, word_after}
 use Rattle.seat_programs.specs.Ticks.{OfPut, OfReady, Moment, IsAnswered, fed, with_places, onto_first, taken, asked_link, is_refusal, broken_at, ticked}
 use Rattle.seat_programs.specs.Drops.{call_in, Makes}
 use Rattle.seat_programs.specs.Told.{AreTasks, TaskFits}
-use Rattle.outcome_stories.specs.program_steps.specs.Rows.{row, hand_at, took_message, link_away, link_home_again, took_bytes}
-use Rattle.outcome_stories.specs.program_steps.specs.May.{May}
+use Rattle.seat_programs.specs.StepTables.{row, hand_at}
+use Rattle.seat_programs.specs.StepsOfMessages.{took_message}
+use Rattle.seat_programs.specs.StepsOfLinks.{link_away, link_home_again, took_bytes}
+use Rattle.seat_programs.specs.StepTables.{May}
 use Rattle.outcome_stories.specs.program_steps.specs.Sound.{state, Sound, first_step, views_after, is_begun}
 use Rattle.outcome_stories.specs.sock_runs.proofs.Along.{begins}
 use Rattle.outcome_stories.specs.program_steps.proofs.Cases.{with_rights, right_rights, put_rights, IsOfLoop, loop_begins, tick_cases}

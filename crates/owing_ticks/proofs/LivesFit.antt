@@ -14,8 +14,9 @@ use Rattle.sock_model.specs.Weights.{is_born}
 use Rattle.sock_model.specs.Slots.{count}
 use Rattle.sock_model.specs.References.{slot_facts}
 use Rattle.seat_programs.specs.Calls.{Call, SetOdd}
-use Rattle.seat_programs.specs.Cores.{Core, word_of, word_after, found_at, words_after, first_of}
-use Rattle.call_owing.specs.Below.programs_allowed.specs.program_steps.specs.May.{May}
+use Rattle.seat_programs.specs.Cores.{Core, found_at, words_after, first_of}
+use Rattle.seat_programs.specs.StepTables.{word_of, word_after}
+use Rattle.seat_programs.specs.StepTables.{May}
 use Rattle.call_owing.specs.Below.programs_allowed.specs.program_steps.specs.Sound.{state, Sound, AreInHand, AreHeld, IsOfRight}
 use Rattle.call_owing.specs.Below.programs_allowed.specs.sock_runs.proofs.Versions.{versions_on, odd_past, other_past, look_holds}
 use Rattle.call_owing.specs.Owing.{Owing, FindsCall}

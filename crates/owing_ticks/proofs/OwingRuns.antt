@@ -15,9 +15,10 @@ use Rattle.corr_core.proofs.Notes.{at_length}
 use Rattle.seat_programs.specs.Calls.{Call, SetOdd, FindLink, LoadOpen}
 use Rattle.seat_programs.specs.Asides.{Step, Found, StoreAt, TakeBytes}
 use Rattle.seat_programs.specs.Programs.{Program, Do, PutHome, Write, Aside, NO_SOCKET}
-use Rattle.seat_programs.specs.Cores.{Core, SeatState, word_of, found_at}
+use Rattle.seat_programs.specs.Cores.{Core, SeatState, found_at}
+use Rattle.seat_programs.specs.StepTables.{word_of}
 use Rattle.seat_programs.specs.Ticks.{Answer, Moment, ticked, run, AreAnswered}
-use Rattle.call_owing.specs.Below.programs_allowed.specs.program_steps.specs.May.{May}
+use Rattle.seat_programs.specs.StepTables.{May}
 use Rattle.call_owing.specs.Below.programs_allowed.specs.program_steps.specs.GoesOn.{GoesOn}
 use Rattle.call_owing.specs.Below.programs_allowed.specs.program_steps.specs.Sound.{state, Sound, AreFitting, first_step, views_after, views_along}
 use Rattle.call_owing.specs.Below.programs_allowed.specs.program_steps.proofs.Cases.{goes_first, elem_there}

@@ -13,7 +13,8 @@ use Rattle.sock_model.specs.declared.home.Home.{Home}
 use Rattle.corr_core.specs.declared.marks.Plan.{Plan as IdPlan}
 use Rattle.seat_programs.specs.Calls.{Call}
 use Rattle.seat_programs.specs.Programs.{Program, Do}
-use Rattle.seat_programs.specs.Cores.{Core, SeatState, Calls, waiting_at, resolved, next_step, said, with_seat, stepped, word_of, word_after, found_at, words_after, homes_after, hand_after}
+use Rattle.seat_programs.specs.Cores.{Core, SeatState, Calls, waiting_at, resolved, next_step, said, with_seat, stepped, found_at, words_after, homes_after, hand_after}
+use Rattle.seat_programs.specs.StepTables.{word_of, word_after}
 use Rattle.call_owing.specs.Owing.{Owing, FindsCall}
 use Rattle.call_owing.specs.Owes.{OwesOn}
 use Rattle.call_owing.specs.Sound.{OwingLaw, SoundOwing}

@@ -5,9 +5,9 @@ use Rattle.std.specs.List.{AllByRecursion}
 use Rattle.seat_programs.specs.brpc_model.specs.Items.{Item}
 use Rattle.seat_programs.specs.brpc_model.specs.Operations.{Turn}
 use Rattle.corr_core.specs.Word.{attempt_of}
+use Rattle.corr_core.specs.Decisions.{WHOLE}
 use Rattle.seat_programs.specs.Clients.{ending_of}
 use Rattle.seat_programs.specs.Cores.{Core}
-use Rattle.seat_programs.specs.Posts.{WHOLE}
 use Rattle.seat_programs.specs.Programs.{Program}
 use Rattle.seat_programs.specs.Ticks.{Moment}
 use Rattle.seat_programs.specs.Tasks.{opens, calls, plan_of, id_plan_of}

@@ -13,6 +13,7 @@ use Rattle.sock_model.specs.declared.chain.Heading.{Heading}
 use Rattle.sock_model.specs.Entries.{generation_of, slot_of, ticket_of}
 use Rattle.sock_model.specs.Memory.{IDLE, UNCONNECTED}
 use Rattle.corr_core.specs.Word.{parts, error_of, attempt_of}
+use Rattle.corr_core.specs.Decisions.{WHOLE}
 use Rattle.seat_programs.specs.declared.task.Op.{Op}
 use Rattle.seat_programs.specs.declared.task.Op.TheVariants as ops
 use Rattle.seat_programs.specs.declared.task.Sizes.{Sizes}
@@ -23,7 +24,7 @@ use Rattle.seat_programs.specs.Calls.{Call, PutMessage, FreeRequest, ReadNext, F
 use Rattle.seat_programs.specs.Clients.{HeldLife, held_under, without_name, operation, client_from, ending_of}
 use Rattle.seat_programs.specs.Heads.{First, Posts, Joins, Reads, Discards, Posting, HasLocked, Unlocking, IsOpen, HasNext, Locking, NotThere, Has, Ended}
 use Rattle.seat_programs.specs.Parts.{part}
-use Rattle.seat_programs.specs.Posts.{WHOLE, post_with, posted, post, decided}
+use Rattle.seat_programs.specs.Posts.{post_with, posted, post, decided}
 use Rattle.seat_programs.specs.Programs.{Program, Do, Say, Sent, Rest, TakeMessage, TakeHome, PutBytes, Write, Aside, Round, NO_SOCKET, LAST_GENERATION, release}
 use Rattle.seat_programs.specs.Readers.{kept_for, ends_with, posted_last, post_each, thrown_away, read, reader, LIMIT}
 use Rattle.seat_programs.specs.Sends.{freed as given_back, one_more, passed_telling, tell_drop, placed, dropped, put_answered, ready_answered, block, first_put, accept, write_link, heading_of, claim_from, start, send}

@@ -9,6 +9,7 @@ use Rattle.sock_words.specs.declared.outcome.Outcome.TheVariants.{Unopened, Join
 use Rattle.sock_model.specs.declared.chain.Heading.{Heading}
 use Rattle.call_owing.specs.Below.sock_steps.proofs.Quiet.{either_way}
 use Rattle.corr_core.specs.Word.{parts, error_of}
+use Rattle.corr_core.specs.Decisions.{WHOLE}
 use Rattle.seat_programs.specs.brpc_model.specs.Frame.{Frame}
 use Rattle.seat_programs.specs.brpc_model.specs.Order.{EachBefore}
 use Rattle.seat_programs.specs.sock_message.specs.Asked.{Asked, name_of, frame_of}
@@ -20,7 +21,7 @@ use Rattle.seat_programs.specs.Calls.{Call, ClaimSlot, CreateLife, StoreLink, Re
 use Rattle.seat_programs.specs.Asides.{PutCall, LoadCall, StoreAt, LoadAt, call_id, id_slot, id_first}
 use Rattle.seat_programs.specs.Heads.{First, Unlocks, Posting, WasGone, WasStale, WasCrowded, WasQueued, HasLocked, Unlocking, IsOpen, HasNext, Locking, NotThere, Has, Ended}
 use Rattle.seat_programs.specs.Programs.{Program, Do, Say, Rest, Aside, Round, NO_SOCKET, release, address, open_from, make_socket}
-use Rattle.seat_programs.specs.Posts.{WHOLE, post, posted, decided}
+use Rattle.seat_programs.specs.Posts.{post, posted, decided}
 use Rattle.seat_programs.specs.Attempts.{claims_from, heading_for, attempt, begin_call, claim_id, call, tried_again, retry_locked, retry, expire_outcome, expire, join}
 use Rattle.seat_programs.specs.Readers.{LIMIT, kept_for, ends_with, posted_last, post_each, thrown_away, read, reader}
 use Rattle.seat_programs.specs.Clients.{HeldLife, held_under, without_name, give_back, drop_of, operation, client_from, ending_of}

@@ -9,16 +9,19 @@ use Rattle.sock_model.specs.declared.chain.Heading.{Heading}
 use Rattle.call_owing.specs.Below.sock_steps.proofs.Quiet.{either_way}
 use Rattle.corr_core.specs.Word.{parts, posted_word, unlocked_word, code_of, error_of}
 use Rattle.corr_core.specs.Law.{LAST}
+use Rattle.corr_core.specs.Decisions.{ends_call}
+use Rattle.corr_core.specs.Versions.{is_early}
 use Rattle.seat_programs.specs.brpc_model.specs.Frame.{Frame}
 use Rattle.seat_programs.specs.brpc_model.specs.Stream as streams
+use Rattle.seat_programs.specs.brpc_model.specs.ResponseOutcome.{ending_of}
 use Rattle.seat_programs.specs.sock_message.specs.Asked.{Asked}
 use Rattle.seat_programs.specs.Calls.{Call, LoadOpen}
 use Rattle.seat_programs.specs.Asides.{Step, Found, ClaimId, PutCall, MakeId, StoreCall, LoadCall, StoreAt, LoadAt, LoadIdWord, LockId, PostId, UnlockId, EndId, FreeId, TakeCall, TakeBytes, Taking, Bytes, Nothing, Closed, call_id, id_slot, id_first}
 use Rattle.seat_programs.specs.Heads.{Head, Exit, Retry, Sought, First, Version, Reading, Posts, Unlocks, Decides, Locks, Joins, Opens, Reads, Discards, Posting, WasGone, WasStale, WasCrowded, WasQueued, HasLocked, Unlocking, IsOpen, HasNext, Deciding, HasEnded, GoesOn, Locking, NotThere, Has, Ended}
 use Rattle.seat_programs.specs.Programs.{Program, Do, Say, Sent, Rest, TakeMessage, TakeHome, PutHome, PutBytes, AskReady, Write, Aside, Round, Keep, Retries}
 use Rattle.seat_programs.specs.Writings.{Writing}
-use Rattle.seat_programs.specs.Posts.{packed, advance_of, is_first, is_sought, is_stale, is_full, judged, posts_round, post_with, posted, post, popped, unlocks_round, ends_call, end_id, decide, decided, unlocked, decides_round, locking, locks_round, joins_round}
-use Rattle.seat_programs.specs.Readers.{LIMIT, ending_of, slot_in, version_in, has_response, is_early, answer, answered, responses, last_of, ended_by, read_on, took, room_of, discarded, opens_round}
+use Rattle.seat_programs.specs.Posts.{packed, advance_of, is_first, is_sought, is_stale, is_full, judged, posts_round, post_with, posted, post, popped, unlocks_round, end_id, decide, decided, unlocked, decides_round, locking, locks_round, joins_round}
+use Rattle.seat_programs.specs.Readers.{LIMIT, slot_in, version_in, has_response, answer, answered, responses, last_of, ended_by, read_on, took, room_of, discarded, opens_round}
 use Rattle.seat_programs.specs.Rounds.{round}
 use Rattle.call_owing.specs.Owns.{Behind, Other, HasClaimed, HasPut, HasLock, HasTaken, Grows, IsIdOf, MayOwn, taken_behind, behind, IsOfSought, AtOwn, LeavesLock, behind_head, Owns}
 use Rattle.call_owing.specs.Below.id_runs.proofs.Loops.{and_left}
@@ -318,7 +321,7 @@ module _ (has : ℕ → ℕ) (left : ℕ → Bool) where
   answer_goes frame first next after = aside (TakeCall (slot_in frame)) tt _ (λ asked. end_id_goes (slot_in frame) (Say asked.operation (ending_of (call_id (slot_in frame) first) frame) next) (say asked.operation (ending_of (call_id (slot_in frame) first) frame) next after))
 
   answered_goes : (frame : Frame) (kept : List Frame) (k : List Frame → Program) → ((x : List Frame) → Later (k x)) → (exit : Locking) → AfterLock (slot_in frame) (Version (version_in frame)) (answered frame kept k) exit
-  answered_goes frame kept k after (NotThere found) = after (cond (is_early (version_in frame) found) (kept ++ frame ∷ []) kept)
+  answered_goes frame kept k after (NotThere found) = after (cond (is_early (version_in frame) (parts found)) (kept ++ frame ∷ []) kept)
   answered_goes frame kept k after (Has word) = λ more g f _. (answer_goes frame (parts word).first (k kept) (after kept)).goes more g (HasLock (slot_in frame) f)
 
   responses_goes : (ids : ℕ) (frames kept : List Frame) (k : List Frame → Program) → ((x : List Frame) → Later (k x)) → Later (responses ids frames kept k)

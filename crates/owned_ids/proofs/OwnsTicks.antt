@@ -20,17 +20,19 @@ use Rattle.corr_core.specs.declared.marks.Plan.{Plan as IdPlan}
 use Rattle.corr_core.specs.declared.marks.Token.{Token}
 use Rattle.corr_core.specs.declared.marks.Token.TheVariants.{Locked}
 use Rattle.corr_core.specs.declared.marks.Hand.TheVariants.{Empty}
+use Rattle.corr_core.specs.Decisions.{ends_call}
 use Rattle.seat_programs.specs.id_rule.specs.Lawful.{tag_index, id_index, call_index, at_index, tokens_of}
 use Rattle.seat_programs.specs.sock_message.specs.Asked.{Asked}
 use Rattle.seat_programs.specs.Asides.{Step, Found, ClaimId, PutCall, MakeId, StoreCall, LoadCall, StoreAt, LoadAt, LoadIdWord, LockId, PostId, UnlockId, EndId, FreeId, TakeCall, TakeBytes, Taking, Bytes, Nothing, NoMore, AtEnd, Closed, Broken, call_id, id_slot, id_first}
 use Rattle.call_owing.specs.Below.sock_steps.proofs.Quiet.{either_way}
 use Rattle.seat_programs.specs.Heads.{Head, Exit, Retry, Posts, Unlocks, Decides, Locks, Joins, Opens, Reads, Discards}
 use Rattle.seat_programs.specs.Programs.{Program, Do, Say, Sent, TakeMessage, TakeHome, PutHome, PutBytes, AskReady, Write, Aside, Round, Keep, Retries}
-use Rattle.seat_programs.specs.Posts.{packed, advance_of, ends_call}
+use Rattle.seat_programs.specs.Posts.{packed, advance_of}
 use Rattle.seat_programs.specs.Sends.{block}
 use Rattle.seat_programs.specs.Rounds.{round}
 use Rattle.seat_programs.specs.Beside.{found_in, calls_after, call_at, more_given}
-use Rattle.seat_programs.specs.Cores.{Calls, Core, SeatState, word_of, found_at, resolved, next_step, waiting_at, with_seat}
+use Rattle.seat_programs.specs.Cores.{Calls, Core, SeatState, found_at, resolved, next_step, waiting_at, with_seat}
+use Rattle.seat_programs.specs.StepTables.{word_of}
 use Rattle.seat_programs.specs.Ticks.{Answer, OfPut, OfReady, Moment, taken, with_message, with_link, with_put, with_ready, with_found, step_with, tick_with, ticked}
 use Rattle.call_owing.specs.Below.id_runs.specs.Held.{IdView, one, HasOne, MayId}
 use Rattle.call_owing.specs.Below.id_runs.specs.Goes.{FitsRetryId, FindsId, IdGoesOn, SoundIds, FitsFirst, IsFittingIds}

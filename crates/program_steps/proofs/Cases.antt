@@ -25,12 +25,17 @@ use Rattle.seat_programs.specs.Beside.{found_in, more_given, calls_after}
 use Rattle.program_steps.specs.Fits.{FitsFound}
 use Rattle.seat_programs.specs.corr_core.specs.Word.{parts, code_of}
 use Rattle.seat_programs.specs.Asides.{PutCall, TakeBytes, Taking, Bytes, id_slot}
+use Rattle.seat_programs.specs.corr_core.specs.Decisions.{ends_call}
 use Rattle.seat_programs.specs.Heads.{HasEnded}
-use Rattle.seat_programs.specs.Posts.{ends_call, end_id, unlocked}
+use Rattle.seat_programs.specs.Posts.{end_id, unlocked}
 use Rattle.std.specs.Prelude.{if◌then◌else◌, ◌+◌, Some, None}
-use Rattle.seat_programs.specs.Cores.{Calls, Core, SeatState, word_of, found_at, lies_at, first_of, others_of, link_place, with_seat, stepped}
+use Rattle.seat_programs.specs.Cores.{Calls, Core, SeatState, found_at, lies_at, first_of, others_of, link_place, with_seat, stepped}
+use Rattle.seat_programs.specs.StepTables.{word_of}
 use Rattle.seat_programs.specs.Ticks.{Answer, OfPut, OfReady, Moment, FitsPut, IsAnswer, IsAnswered, fed, with_places, onto_first, with_message, with_link, taken, with_found, step_with, tick_with, ticked}
-use Rattle.program_steps.specs.Rows.{row, hand_at, by_right, took_message, link_away, link_home_again, took_bytes}
+use Rattle.seat_programs.specs.StepTables.{row, hand_at}
+use Rattle.seat_programs.specs.StepViews.{by_right}
+use Rattle.seat_programs.specs.StepsOfMessages.{took_message}
+use Rattle.seat_programs.specs.StepsOfLinks.{link_away, link_home_again, took_bytes}
 use Rattle.program_steps.specs.GoesOn.{GoesOn}
 use Rattle.program_steps.specs.Sound.{Sound, first_step, views_with_message, views_with_link, views_with, views_of, views_after, FitsBeside, IsFitting}
 use Rattle.program_steps.proofs.Passes.{goes_round}

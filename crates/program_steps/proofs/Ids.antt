@@ -2,7 +2,7 @@
 use Rattle.std.proofs.Common.{◌≡◌, ◌≢◌, ℕ, true, arith}
 use Rattle.std.proofs.lemmas.Bool.Decides.{nat_tests}
 use Rattle.seat_programs.specs.Programs.{NO_SOCKET}
-use Rattle.program_steps.specs.Rows.{is_id}
+use Rattle.seat_programs.specs.StepsOfNames.{is_id}
 
 pub id_some : (w : ℕ) → is_id w ≡ true → w ≢ 0
 id_some w h = grind (arith, nat_tests)

@@ -5,3 +5,4 @@ pub mod Leaves
 pub mod Rounds
 pub mod Passes
 pub mod AtCalls
+pub mod WordFrame

@@ -2,20 +2,24 @@
 use Rattle.std.proofs.Common.{◌≡◌, ◌≢◌, ℕ, zero, suc, ◌+◌, ◌-◌, ◌<◌, ◌≤◌, ◌==◌, ◌&&◌, ◌||◌, not, Bool, true, false, List, [], ◌∷◌, ◌++◌, length, refl, sym, subst, arith, cond, eqb, eqb-true, eq-eqb, nat_lt, Some, None}
 use Rattle.std.proofs.lemmas.Bool.{not-false, eqb-false, and_parts, or_parts}
 use Rattle.sock_words.specs.declared.plain.Plan.{Plan}
+use Rattle.sock_words.specs.Codes.{is_final}
 use Rattle.sock_model.specs.declared.chain.Heading.{Heading}
 use Rattle.sock_model.specs.declared.view.View.{View}
 use Rattle.seat_programs.specs.corr_core.specs.Word.{Parts, parts, posted_word, locked_word, unlocked_word, code_of, error_of}
+use Rattle.seat_programs.specs.corr_core.specs.Versions.{is_early}
+use Rattle.seat_programs.specs.corr_core.specs.Decisions.{ends_call}
 use Rattle.seat_programs.specs.brpc_model.specs.Frame.{Frame}
 use Rattle.seat_programs.specs.brpc_model.specs.Stream as streams
+use Rattle.seat_programs.specs.brpc_model.specs.ResponseOutcome.{ending_of}
 use Rattle.seat_programs.specs.Asides.{Taking, Bytes, Nothing, Closed, FreeId, id_slot, id_first}
 use Rattle.seat_programs.specs.Heads.{Head, Exit, Retry, Sought, Version, Reading, Posts, Unlocks, Decides, Locks, Joins, Opens, Reads, Discards, Posting, WasGone, WasStale, WasCrowded, WasQueued, HasLocked, Unlocking, IsOpen, HasNext, Deciding, HasEnded, GoesOn as OpenAgain, Locking, NotThere, Has, Ended}
 use Rattle.seat_programs.specs.Programs.{Program, Say, Aside, Round}
-use Rattle.seat_programs.specs.Posts.{packed, advance_of, is_first, is_sought, is_stale, is_full, judged, post_with, post, posted, popped, end_id, ends_call, is_final, decide, decided, unlocked, locking}
-use Rattle.seat_programs.specs.Readers.{answer, answered, responses, read_on, took, last_of, slot_in, version_in, has_response, ending_of, LIMIT}
+use Rattle.seat_programs.specs.Posts.{packed, advance_of, is_first, is_sought, is_stale, is_full, judged, post_with, post, posted, popped, end_id, decide, decided, unlocked, locking}
+use Rattle.seat_programs.specs.Readers.{answer, answered, responses, read_on, took, last_of, slot_in, version_in, has_response, LIMIT}
 use Rattle.seat_programs.specs.Rounds.{round}
 use Rattle.seat_programs.specs.Sends.{tell_drop}
-use Rattle.program_steps.specs.Rows.{found_id}
-use Rattle.program_steps.specs.May.{FindsId}
+use Rattle.seat_programs.specs.StepsOfNames.{found_id}
+use Rattle.seat_programs.specs.StepsOfNames.{FindsId}
 use Rattle.program_steps.specs.Fits.{FitsMore, FitsWord, FitsTaken, FitsPosting, FitsUnlocking, FitsLocking, FitsEnded, FitsRetry}
 use Rattle.program_steps.specs.GoesOn.{GoesOn}
 
@@ -128,7 +132,7 @@ module _ (p : Plan) (v : View) where
   answer_goes frame first next goes = λ asked _. end_goes (slot_in frame) (Say asked.operation (ending_of (Rattle.seat_programs.specs.Asides.call_id (slot_in frame) first) frame) next) goes
 
   answered_goes : (frame : Frame) (kept : List Frame) (k : List Frame → Program) → ((kept' : List Frame) → GoesOn p v (k kept')) → Goes FitsLocking (answered frame kept k)
-  answered_goes frame kept k goes (NotThere found) f = goes (cond (Rattle.seat_programs.specs.Readers.is_early (version_in frame) found) (kept ++ frame ∷ []) kept)
+  answered_goes frame kept k goes (NotThere found) f = goes (cond (is_early (version_in frame) (parts found)) (kept ++ frame ∷ []) kept)
   answered_goes frame kept k goes (Has word) f = answer_goes frame (parts word).first (k kept) (goes kept)
 
   responses_goes : v.loose ≡ [] → (ids : ℕ) (fs kept : List Frame) (k : List Frame → Program) → ((kept' : List Frame) → GoesOn p v (k kept')) → GoesOn p v (responses ids fs kept k)

@@ -39,9 +39,12 @@ use Rattle.seat_programs.specs.Writings.{Holder, Writing, Puts, Waits, Empties, 
 use Rattle.seat_programs.specs.Programs.{Program, Do, TakeMessage, TakeHome, PutBytes, Write, LAST_GENERATION, set_failed}
 use Rattle.program_steps.proofs.Passes.{tell_goes}
 use Rattle.seat_programs.specs.Sends.{freed, one_more, passed, passed_telling, tell_drop, placed, dropped, put_answered, ready_answered, block, first_put}
-use Rattle.program_steps.specs.May.{even_version}
-use Rattle.program_steps.specs.Rows as Rows
-use Rattle.program_steps.specs.Rows.{by_right, settled, settled_stage, read_next, turned_next, placed_next, dropped_next, emptied, looked_clean, took_bytes}
+use Rattle.seat_programs.specs.StepsOfSlots.{even_version}
+use Rattle.seat_programs.specs.StepViews.{by_right, settled, settled_stage}
+use Rattle.seat_programs.specs.StepsOfChain.{read_next, turned_next, emptied, freed_stage}
+use Rattle.seat_programs.specs.StepsOfPlaces.{placed_next, dropped_next}
+use Rattle.seat_programs.specs.StepsOfSlots.{looked_clean}
+use Rattle.seat_programs.specs.StepsOfLinks.{took_bytes}
 use Rattle.program_steps.specs.Writes.{IsHolder, HasMessage, IsBetween, IsNote, AreNotes, behind}
 use Rattle.program_steps.specs.GoesOn.{GoesOn}
 
@@ -291,7 +294,7 @@ module _ (p : Plan) (after : Program) where
         let d : IsHolder p u h x = holder h (changed x (keeps c) c.link) c.last c.places c.away in let y : Right = record x { stage = stages.Writes next } in (
           (now, refl, refl, not_equal _ _ is, (x, d.one, inr (next, refl))),
           λ found hand f.
-              by_one p u x (λ r. with_right u (record r { stage = Rows.freed_stage r.stage })) u (tells (TakeMessage (slot_of next) (λ heading bytes. Write (Puts h next heading bytes 0 false) after))) d.one
+              by_one p u x (λ r. with_right u (record r { stage = freed_stage r.stage })) u (tells (TakeMessage (slot_of next) (λ heading bytes. Write (Puts h next heading bytes 0 false) after))) d.one
               (tells_go (with_right u y) (TakeMessage (slot_of next) (λ heading bytes. Write (Puts h next heading bytes 0 false) after)) (takes_next (with_right u y) h y next (holder h (changed y (keeps d) d.link) d.last d.places d.away) refl none_ unput follows)),
         )
 
@@ -301,7 +304,7 @@ module _ (p : Plan) (after : Program) where
     passed_branch true true is is₁ = tells_go (with_right v (record s { stage = stages.Empties })) (Write (Empties h) after) ((record s { stage = stages.Empties }, staged stages.Empties, record { stage_is = refl; none_ = none_; put = put }), follows)
     passed_branch true false is is₁ = let x : Right = record s { stage = stages.Placed now } in let u : View = with_right v x in (
       (now, refl, refl, not_equal _ _ is₁, (x, (staged (stages.Placed now)).one, inl (refl, eqb-true now h.last (sym is) ∙ sym last))),
-      λ found hand f. by_one p u x (λ r. with_right u (record r { stage = Rows.freed_stage r.stage })) u (tells (Write (Empties h) after)) (staged (stages.Placed now)).one
+      λ found hand f. by_one p u x (λ r. with_right u (record r { stage = freed_stage r.stage })) u (tells (Write (Empties h) after)) (staged (stages.Placed now)).one
           (tells_go (with_right u (record x { stage = stages.Empties })) (Write (Empties h) after) ((record s { stage = stages.Empties }, restaged (stages.Placed now) stages.Empties, record { stage_is = refl; none_ = none_; put = put }), follows)),
     )
     passed_branch false d is is₁ = let x : Right = record s { stage = stages.Placed now } in let u : View = with_right v x in (

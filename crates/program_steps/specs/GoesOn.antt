@@ -12,9 +12,13 @@ use Rattle.sock_model.specs.Weights.{is_ref, is_zero, is_any_coding, is_claimed,
 use Rattle.sock_model.specs.SlotRows.{marks_of}
 use Rattle.seat_programs.specs.Programs.{Program, Do, Say, Sent, Rest, TakeMessage, TakeHome, PutHome, PutBytes, AskReady, Write, Aside, Round, Keep, Retries, LAST_VERSION}
 use Rattle.seat_programs.specs.Ticks.{FitsPut}
-use Rattle.program_steps.specs.Rows.{row, found_id, took_message, link_away, link_home_again, took_bytes}
+use Rattle.seat_programs.specs.StepTables.{row}
+use Rattle.seat_programs.specs.StepsOfNames.{found_id}
+use Rattle.seat_programs.specs.StepsOfMessages.{took_message}
+use Rattle.seat_programs.specs.StepsOfLinks.{link_away, link_home_again, took_bytes}
 use Rattle.program_steps.specs.Writes.{MayTakeMessage, Writes, MayPut, At, AreNotes, behind}
-use Rattle.program_steps.specs.May.{May, Finds, FindsId}
+use Rattle.seat_programs.specs.StepTables.{May, Finds}
+use Rattle.seat_programs.specs.StepsOfNames.{FindsId}
 use Rattle.sock_model.specs.declared.chain.Entry.{Entry}
 use Rattle.seat_programs.specs.Clients.{HeldLife}
 use Rattle.program_steps.specs.Has.{IsQuiet, Has}

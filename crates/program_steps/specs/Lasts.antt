@@ -33,8 +33,10 @@ use Rattle.seat_programs.specs.Heads.{Head, Exit, Retry, Posts, Unlocks, Decides
 use Rattle.seat_programs.specs.Readers.{LIMIT}
 use Rattle.program_steps.specs.Fits.{FitsFound, FitsExit}
 use Rattle.seat_programs.specs.Ticks.{Answer, Moment, FitsPut, taken, ticked}
-use Rattle.program_steps.specs.Rows.{row, took_message, link_away, link_home_again, took_bytes}
-use Rattle.program_steps.specs.May.{Finds}
+use Rattle.seat_programs.specs.StepTables.{row}
+use Rattle.seat_programs.specs.StepsOfMessages.{took_message}
+use Rattle.seat_programs.specs.StepsOfLinks.{link_away, link_home_again, took_bytes}
+use Rattle.seat_programs.specs.StepTables.{Finds}
 use Rattle.program_steps.specs.Sound.{first_step}
 
 -- ## Errors of calls

@@ -1,6 +1,4 @@
 pub mod AtSteps
-pub mod Rows
-pub mod May
 pub mod Writes
 pub mod Has
 pub mod Fits

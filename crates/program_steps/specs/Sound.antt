@@ -28,9 +28,12 @@ use Rattle.seat_programs.specs.Rounds.{round}
 use Rattle.seat_programs.specs.Asides.{Found}
 use Rattle.seat_programs.specs.Beside.{found_in}
 use Rattle.program_steps.specs.Fits.{FitsFound, FitsRetry}
-use Rattle.seat_programs.specs.Cores.{Core, SeatState, word_of, found_at, link_place, waiting_at}
+use Rattle.seat_programs.specs.Cores.{Core, SeatState, found_at, link_place, waiting_at}
+use Rattle.seat_programs.specs.StepTables.{word_of}
 use Rattle.seat_programs.specs.Ticks.{Answer, OfPut, Moment, ticked, taken}
-use Rattle.program_steps.specs.Rows.{row, hand_at, took_message, link_away, link_home_again, took_bytes}
+use Rattle.seat_programs.specs.StepTables.{row, hand_at}
+use Rattle.seat_programs.specs.StepsOfMessages.{took_message}
+use Rattle.seat_programs.specs.StepsOfLinks.{link_away, link_home_again, took_bytes}
 use Rattle.program_steps.specs.GoesOn.{GoesOn}
 
 -- the core as the rule sees it

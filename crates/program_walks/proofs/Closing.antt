@@ -10,7 +10,8 @@ use Rattle.sock_model.specs.Layout.{ref_index, open_index}
 use Rattle.seat_programs.specs.Calls.{Call, AddRef, SetOdd, LoadOpen}
 use Rattle.seat_programs.specs.Programs.{Program, Do, NO_SOCKET, address, set_failed, release}
 use Rattle.seat_programs.specs.Clients.{ending_of}
-use Rattle.seat_programs.specs.Cores.{word_of, found_at}
+use Rattle.seat_programs.specs.StepTables.{word_of}
+use Rattle.seat_programs.specs.Cores.{found_at}
 use Rattle.sock_runs.specs.program_steps.proofs.AtCalls.{AtCalls, every_exit}
 use Rattle.program_walks.proofs.Records.{Records}
 use Rattle.program_walks.proofs.Recorded.{nothing}

@@ -16,7 +16,7 @@ use Rattle.seat_programs.specs.Readers.{reader}
 use Rattle.seat_programs.specs.Cores.{Core, SeatState, resolved, next_step, stepped}
 use Rattle.seat_programs.specs.Ticks.{Moment, ticked, run, IsAnswered, AreAnswered}
 use Rattle.seat_programs.specs.Scripts.{beginning, readers_from, all_programs}
-use Rattle.sock_runs.specs.program_steps.specs.May.{May}
+use Rattle.seat_programs.specs.StepTables.{May}
 use Rattle.sock_runs.specs.program_steps.specs.Sound.{Sound, first_step, IsFitting, AreFitting, views_after}
 use Rattle.program_walks.proofs.Records.{Records, opens_same}
 use Rattle.program_walks.proofs.Recorded.{Recorded, recorded_ticks}

@@ -15,9 +15,11 @@ use Rattle.seat_programs.specs.Calls.{Call, LoadOpen, StoreOpen}
 use Rattle.seat_programs.specs.Heads.{Head, Exit, Opens, Reads}
 use Rattle.seat_programs.specs.Programs.{Program, Do, Rest, Round, NO_SOCKET}
 use Rattle.seat_programs.specs.Readers.{read, reader}
-use Rattle.seat_programs.specs.Cores.{Calls, Core, SeatState, word_of, word_after, found_at, words_after, hand_after, resolved, next_step, waiting_at, with_seat, stepped}
+use Rattle.seat_programs.specs.Cores.{Calls, Core, SeatState, found_at, words_after, hand_after, resolved, next_step, waiting_at, with_seat, stepped}
+use Rattle.seat_programs.specs.StepTables.{word_of, word_after}
 use Rattle.seat_programs.specs.Ticks.{Moment, ticked, run, IsAnswered, AreAnswered}
-use Rattle.sock_runs.specs.program_steps.specs.May.{May, Knows}
+use Rattle.seat_programs.specs.StepTables.{May}
+use Rattle.seat_programs.specs.StepViews.{Knows}
 use Rattle.sock_runs.specs.program_steps.specs.Sound.{Sound, first_step, IsFitting, AreFitting, views_after}
 use Rattle.sock_runs.specs.program_steps.proofs.AtCalls.{AtCalls, every_exit}
 use Rattle.program_walks.proofs.Records.{stores, loads, awaits, opens_same}

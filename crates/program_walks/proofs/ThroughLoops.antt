@@ -7,14 +7,17 @@ use mathlib.Core.Option.{none, some-ne-none}
 use Rattle.sock_steps.proofs.Quiet.{either_way}
 use Rattle.seat_programs.specs.corr_core.specs.Word.{parts, posted_word, unlocked_word, code_of, error_of}
 use Rattle.seat_programs.specs.corr_core.specs.Law.{LAST}
+use Rattle.seat_programs.specs.corr_core.specs.Decisions.{ends_call}
+use Rattle.seat_programs.specs.corr_core.specs.Versions.{is_early}
 use Rattle.seat_programs.specs.brpc_model.specs.Frame.{Frame}
 use Rattle.seat_programs.specs.brpc_model.specs.Stream as streams
+use Rattle.seat_programs.specs.brpc_model.specs.ResponseOutcome.{ending_of}
 use Rattle.seat_programs.specs.sock_message.specs.Asked.{Asked}
 use Rattle.seat_programs.specs.Asides.{PutCall, LoadIdWord, LockId, PostId, UnlockId, EndId, FreeId, TakeCall, Taking, Bytes, Nothing, Closed, call_id, id_slot, id_first}
 use Rattle.seat_programs.specs.Heads.{Head, Exit, Sought, Version, Reading, Posts, Unlocks, Decides, Locks, Joins, Opens, Reads, Discards, Posting, WasGone, WasStale, WasCrowded, WasQueued, HasLocked, Unlocking, IsOpen, HasNext, Deciding, HasEnded, GoesOn, Locking, NotThere, Has, Ended}
 use Rattle.seat_programs.specs.Programs.{Program, Say, Round, Keep}
-use Rattle.seat_programs.specs.Posts.{packed, advance_of, is_first, is_sought, is_stale, is_full, judged, posts_round, post_with, posted, post, popped, unlocks_round, ends_call, end_id, decide, decided, unlocked, decides_round, locking, locks_round, joins_round}
-use Rattle.seat_programs.specs.Readers.{LIMIT, ending_of, slot_in, version_in, has_response, is_early, answer, answered, responses, last_of, ended_by, read_on, took, room_of, discarded, opens_round}
+use Rattle.seat_programs.specs.Posts.{packed, advance_of, is_first, is_sought, is_stale, is_full, judged, posts_round, post_with, posted, post, popped, unlocks_round, end_id, decide, decided, unlocked, decides_round, locking, locks_round, joins_round}
+use Rattle.seat_programs.specs.Readers.{LIMIT, slot_in, version_in, has_response, answer, answered, responses, last_of, ended_by, read_on, took, room_of, discarded, opens_round}
 use Rattle.seat_programs.specs.Rounds.{round}
 use Rattle.program_walks.proofs.Records.{awaits}
 use Rattle.program_walks.proofs.Through.{PassesErrors, PassesLocked, PassesLocks, PassesJoins, PassesReads, PassesOpens, is_of_errors, locked}
@@ -85,7 +88,7 @@ module _ (G : Program → Type 0) (g : PassesLocked G) where
 module _ (G : Program → Type 0) (seeks : (i v : ℕ) (next : Locking → Program) → ((exit : Locking) → G (next exit)) → G (Round (Locks i (Version v) None) next))
     (answers : (frame : Frame) (first : ℕ) (next : Program) → G next → G (answer frame first next)) where
   through_answered : (frame : Frame) (kept : List Frame) (k : List Frame → Program) → ((x : List Frame) → G (k x)) → (exit : Locking) → G (answered frame kept k exit)
-  through_answered frame kept k after (NotThere found) = after (cond (is_early (version_in frame) found) (kept ++ frame ∷ []) kept)
+  through_answered frame kept k after (NotThere found) = after (cond (is_early (version_in frame) (parts found)) (kept ++ frame ∷ []) kept)
   through_answered frame kept k after (Has word) = answers frame (parts word).first (k kept) (after kept)
 
   pub through_responses : (ids : ℕ) (frames kept : List Frame) (k : List Frame → Program) → ((x : List Frame) → G (k x)) → G (responses ids frames kept k)

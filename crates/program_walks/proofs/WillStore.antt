@@ -16,9 +16,10 @@ use Rattle.seat_programs.specs.declared.task.Sizes.{Sizes}
 use Rattle.seat_programs.specs.Calls.{Call, StoreOpen}
 use Rattle.seat_programs.specs.Programs.{Program, Do, Rest, open_from, make_socket}
 use Rattle.seat_programs.specs.Clients.{HeldLife, operation, client_from}
-use Rattle.seat_programs.specs.Cores.{Calls, Core, SeatState, word_of, found_at, hand_after, resolved, next_step, waiting_at, with_seat, stepped}
+use Rattle.seat_programs.specs.Cores.{Calls, Core, SeatState, found_at, hand_after, resolved, next_step, waiting_at, with_seat, stepped}
+use Rattle.seat_programs.specs.StepTables.{word_of}
 use Rattle.seat_programs.specs.Ticks.{Moment, ticked, run, IsAnswered, AreAnswered}
-use Rattle.sock_runs.specs.program_steps.specs.May.{May}
+use Rattle.seat_programs.specs.StepTables.{May}
 use Rattle.sock_runs.specs.program_steps.specs.Sound.{Sound, first_step, IsFitting, AreFitting, views_after}
 use Rattle.sock_runs.specs.program_steps.proofs.AtCalls.{AtCalls, every_exit}
 use Rattle.program_walks.proofs.Through.{Passes, PassesOpens, Follows, at_calls_passes, at_calls_follow, comes_follows}

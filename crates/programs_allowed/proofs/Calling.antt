@@ -25,8 +25,10 @@ use Rattle.program_walks.specs.brpc_model.specs.Spelling.{meta_bytes}
 use Rattle.std.specs.Int.{w32, to_be_bytes}
 use Rattle.seat_programs.specs.Attempts.{claims_from, heading_for, attempt, begin_call, claim_id, call}
 use Rattle.seat_programs.specs.Told.{AskedFits}
-use Rattle.program_walks.specs.program_steps.specs.Rows.{by_right, looked_clean, new_claim}
-use Rattle.program_walks.specs.program_steps.specs.May.{Knows}
+use Rattle.seat_programs.specs.StepViews.{by_right}
+use Rattle.seat_programs.specs.StepsOfSlots.{looked_clean}
+use Rattle.seat_programs.specs.StepsOfChain.{new_claim}
+use Rattle.seat_programs.specs.StepViews.{Knows}
 use Rattle.program_walks.specs.program_steps.specs.GoesOn.{GoesOn}
 use Rattle.program_walks.specs.program_steps.proofs.Passes.{post_goes, way}
 use Rattle.program_walks.specs.program_steps.specs.Has.{Has}

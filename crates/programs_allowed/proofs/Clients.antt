@@ -22,9 +22,10 @@ use Rattle.program_walks.specs.program_steps.specs.GoesOn.{HasNothing, GoesOn}
 use Rattle.slot_steps.proofs.Numbers.{only-at, only-else}
 use Rattle.corr_core.specs.Word.{error_of}
 use Rattle.corr_core.specs.declared.marks.Plan.{Plan as IdPlan}
+use Rattle.corr_core.specs.Decisions.{WHOLE}
 use Rattle.sock_words.specs.declared.outcome.Outcome.TheVariants.{NotBegun, Joined}
 use Rattle.seat_programs.specs.Heads.{Joins}
-use Rattle.seat_programs.specs.Posts.{WHOLE, post_with, posted}
+use Rattle.seat_programs.specs.Posts.{post_with, posted}
 use Rattle.seat_programs.specs.Attempts.{expire, expire_outcome, join}
 use Rattle.program_walks.specs.program_steps.proofs.Passes.{way, post_with_goes, posted_goes}
 use Rattle.programs_allowed.proofs.Calling.{call_goes}

@@ -8,6 +8,7 @@ use Rattle.sock_words.specs.Words.{socket_id, socket_id_slot, vref_version}
 use Rattle.sock_model.specs.Weights.{total}
 use Rattle.corr_core.specs.Word.{parts, error_of}
 use Rattle.corr_core.specs.declared.marks.Plan.{Plan as IdPlan}
+use Rattle.corr_core.specs.Decisions.{WHOLE}
 use Rattle.seat_programs.specs.declared.task.Op.{Op}
 use Rattle.seat_programs.specs.declared.task.Op.TheVariants as ops
 use Rattle.seat_programs.specs.declared.task.Task.{Task}
@@ -16,13 +17,13 @@ use Rattle.seat_programs.specs.Calls.{ClaimSlot, CreateLife, StoreLink, ResetHea
 use Rattle.seat_programs.specs.Asides.{call_id}
 use Rattle.seat_programs.specs.Heads.{Joins}
 use Rattle.seat_programs.specs.Programs.{Program, Do, Say, Sent, Round, NO_SOCKET, release, address, reach, set_failed, no_socket, make_socket, open_from, fail_outcome, fail, hold, end_open}
-use Rattle.seat_programs.specs.Posts.{WHOLE, post_with, posted}
+use Rattle.seat_programs.specs.Posts.{post_with, posted}
 use Rattle.seat_programs.specs.Sends.{heading_of, accept, claim_from, start, send}
 use Rattle.seat_programs.specs.Attempts.{begin_call, claim_id, call, expire_outcome, expire, join}
 use Rattle.seat_programs.specs.Clients.{HeldLife, held_under, without_name, give_back, drop_of, operation, client_from, ending_of}
 use Rattle.seat_programs.specs.Scripts.{sizes_of}
 use Rattle.seat_programs.specs.Told.{AskedFits, OpFits, TaskFits}
-use Rattle.program_walks.specs.program_steps.specs.Rows.{row}
+use Rattle.seat_programs.specs.StepTables.{row}
 use Rattle.program_walks.specs.program_steps.specs.Lasts.{CHANGE, ERROR, POST, ACCEPT, weight, attempt_cost}
 use Rattle.runs_end.proofs.IdCosts.{lasts_more, judged_lasts, posted_lasts}
 use Rattle.runs_end.proofs.Costs.{Lasting, lasting_more, either_lasts, does, set_failed_lasts}

@@ -13,7 +13,7 @@ use Rattle.sock_model.specs.SlotRows.{marks_of}
 use Rattle.seat_programs.specs.Calls.{CreateLife, SubRef, FreeSlot, LoadLink, ResetHead, ClearCode, StoreCode, StoreName, StoreOpen, TakeLink, FinishLink, PutLink}
 use Rattle.seat_programs.specs.Programs.{Program, Do, Say, NO_SOCKET, LAST_VERSION, recycle, release, address, reach, set_failed, no_socket, make_socket, open_from}
 use Rattle.seat_programs.specs.Clients.{HeldLife}
-use Rattle.program_walks.specs.program_steps.specs.May.{Knows}
+use Rattle.seat_programs.specs.StepViews.{Knows}
 use Rattle.program_walks.specs.program_steps.specs.GoesOn.{GoesOn}
 use Rattle.program_walks.specs.program_steps.specs.Has.{Has}
 use Rattle.programs_allowed.proofs.Has.{at_slot, retiring}

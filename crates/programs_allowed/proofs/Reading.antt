@@ -11,7 +11,7 @@ use Rattle.seat_programs.specs.Heads.{Reads, Discards, Posting, HasLocked, Ended
 use Rattle.seat_programs.specs.Programs.{Program, Rest, Round, NO_SOCKET, address, release, set_failed}
 use Rattle.seat_programs.specs.Posts.{post_with, decided}
 use Rattle.seat_programs.specs.Readers.{LIMIT, kept_for, ends_with, posted_last, post_each, thrown_away, read, reader}
-use Rattle.program_walks.specs.program_steps.specs.May.{Knows}
+use Rattle.seat_programs.specs.StepViews.{Knows}
 use Rattle.program_walks.specs.program_steps.specs.Fits.{FitsPosting, FitsEnded}
 use Rattle.program_walks.specs.program_steps.specs.GoesOn.{GoesOn}
 use Rattle.program_walks.specs.program_steps.specs.Has.{Has}

@@ -25,7 +25,10 @@ use Rattle.seat_programs.specs.Programs.{Program, Do, Say, Sent, TakeMessage, Ta
 use Rattle.seat_programs.specs.Sends.{write_link, first_put, heading_of, accept, claim_from, start, send}
 use Rattle.seat_programs.specs.Clients.{HeldLife}
 use Rattle.program_walks.specs.program_steps.proofs.Rounds.{first_goes, about_top}
-use Rattle.program_walks.specs.program_steps.specs.Rows.{by_right, looked_clean, new_claim, filled_claim, ready_claim}
+use Rattle.seat_programs.specs.StepViews.{by_right}
+use Rattle.seat_programs.specs.StepsOfSlots.{looked_clean}
+use Rattle.seat_programs.specs.StepsOfChain.{new_claim, ready_claim}
+use Rattle.seat_programs.specs.StepsOfMessages.{filled_claim}
 use Rattle.program_walks.specs.program_steps.specs.Writes.{IsNote, AreNotes, behind}
 use Rattle.program_walks.specs.program_steps.specs.GoesOn.{GoesOn}
 use Rattle.slot_steps.proofs.Numbers.{only-same, pair-same}

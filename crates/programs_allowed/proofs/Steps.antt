@@ -21,8 +21,9 @@ use Rattle.sock_model.specs.ChainRows.{with_hand, without_hand, spent_hand}
 use Rattle.seat_programs.specs.Calls.{ClaimSlot, CreateLife, AddRef, SubRef, SetOdd, Recycle, FreeSlot, StoreLink, LoadLink, ResetHead, ClearCode, StoreCode, StoreName, LoadName, StoreOpen, LoadOpen, TakeLink, FinishLink, PutLink}
 use Rattle.seat_programs.specs.Programs.{Program, Do, NO_SOCKET, LAST_VERSION}
 use Rattle.seat_programs.specs.Clients.{HeldLife}
-use Rattle.program_walks.specs.program_steps.specs.Rows.{is_id, found_id}
-use Rattle.program_walks.specs.program_steps.specs.May.{Knows, even_version}
+use Rattle.seat_programs.specs.StepsOfNames.{is_id, found_id}
+use Rattle.seat_programs.specs.StepViews.{Knows}
+use Rattle.seat_programs.specs.StepsOfSlots.{even_version}
 use Rattle.program_walks.specs.program_steps.specs.GoesOn.{GoesOn}
 use Rattle.slot_steps.proofs.Sums.{total_mono, taken_as, about-other}
 use Rattle.slot_steps.proofs.Sums as sums

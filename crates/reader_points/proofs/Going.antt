@@ -6,8 +6,9 @@ use Rattle.corr_core.specs.Word.{error_of}
 use Rattle.sock_message.specs.Asked.{Asked}
 use Rattle.seat_programs.specs.Asides.{TakeCall, call_id, id_slot}
 use Rattle.seat_programs.specs.Programs.{Program, Aside, Say}
+use Rattle.brpc_model.specs.ResponseOutcome.{ending_of}
 use Rattle.seat_programs.specs.Posts.{end_id, post_with}
-use Rattle.seat_programs.specs.Readers.{answer, ending_of, slot_in, posted_last}
+use Rattle.seat_programs.specs.Readers.{answer, slot_in, posted_last}
 use Rattle.call_points.specs.Steps.{after_word, after_call}
 use Rattle.call_points.specs.declared.ending.EndStep.TheVariants as ends
 use Rattle.call_points.specs.declared.word_step.WordStep.TheVariants as id_steps

@@ -4,9 +4,10 @@ use Rattle.sock_message.specs.Asked.{Asked}
 use Rattle.seat_programs.specs.Asides as steps_aside
 use Rattle.sock_words.specs.declared.id_word.IdWord.{IdWord}
 use Rattle.corr_core.specs.Word.{parts, code_of}
+use Rattle.corr_core.specs.Decisions.{ends_call}
 use Rattle.seat_programs.specs.Asides.{id_slot}
 use Rattle.seat_programs.specs.Heads.{Locking, Posting, HasEnded, Unlocks}
-use Rattle.seat_programs.specs.Posts.{end_id, ends_call, unlocked}
+use Rattle.seat_programs.specs.Posts.{end_id, unlocked}
 use Rattle.seat_programs.specs.Programs.{Program, Round}
 use Rattle.seat_programs.specs.Programs as programs
 use Rattle.seat_states.specs.declared.point.ReleaseStep.TheVariants as releases

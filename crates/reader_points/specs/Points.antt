@@ -6,13 +6,14 @@ use Rattle.sock_words.specs.declared.outcome.Outcome.TheVariants.{CallFailed}
 use Rattle.corr_core.specs.Word.{parts, error_of}
 use Rattle.brpc_model.specs.Frame.{Frame, NoneYet, judged}
 use Rattle.brpc_model.specs.Stream.{stream}
+use Rattle.brpc_model.specs.ResponseOutcome.{ending_of}
 use Rattle.sock_message.specs.Asked.{Asked}
 use Rattle.seat_programs.specs.Asides.{Taking, Bytes, Nothing, NoMore, AtEnd, Closed, Broken, LoadAt, TakeCall, FreeId, call_id, id_slot}
 use Rattle.seat_programs.specs.Calls as calls
 use Rattle.seat_programs.specs.Heads.{Reading, Ended, Opens, Reads, Discards, Deciding, Decides}
 use Rattle.seat_programs.specs.Programs.{Program, Do, Say, Rest, Aside, Round, NO_SOCKET, address, release, set_failed}
 use Rattle.seat_programs.specs.Posts.{post_with, decide, decided, end_id}
-use Rattle.seat_programs.specs.Readers.{LIMIT, ending_of, slot_in, version_in, answered, responses, ended_by, read_on, read, kept_for, ends_with, posted_last, post_each, thrown_away, room_of}
+use Rattle.seat_programs.specs.Readers.{LIMIT, slot_in, version_in, answered, responses, ended_by, read_on, read, kept_for, ends_with, posted_last, post_each, thrown_away, room_of}
 use Rattle.call_points.specs.Points.{end_program, post_program, lock_program, IsOpen}
 use Rattle.call_points.specs.declared.deciding.OnCall.{OnCall}
 use Rattle.call_points.specs.declared.locking.Locker.{Locker}

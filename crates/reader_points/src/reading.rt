@@ -1,8 +1,9 @@
 ghost use Rattle.std.specs.Prelude.{◌≡◌, true};
 ghost use Rattle.seat_programs.specs.Asides.{Taking};
 ghost use Rattle.brpc_model.specs.Frame.{Frame};
-ghost use Rattle.seat_programs.specs.Readers.{answered, is_early, version_in};
+ghost use Rattle.seat_programs.specs.Readers.{answered, version_in};
 ghost use Rattle.corr_core.specs.Word.{parts};
+ghost use Rattle.corr_core.specs.Versions.{is_early};
 ghost use Rattle.seat_programs.specs.Asides.{call_id, id_slot};
 ghost use Rattle.id_points.specs.Ids.{id_of};
 ghost use Rattle.id_points.specs.Turns.{lock_on, sought_as};
@@ -13,7 +14,8 @@ use crate::point::{
     AnswerStep, Behind, ByteCount, CloseStep, Closing, ReadNext, ReadPoint, Reader, Taken,
 };
 use call_points::{Locker, WordStep};
-use id_points::{CallId, LockTurn, Sought, is_early};
+use corr_core::is_early;
+use id_points::{CallId, LockTurn, Sought};
 use sock_words::IdWord;
 
 impl Reader {
@@ -92,10 +94,10 @@ fn id_at(slot: u16, word: IdWord) -> CallId
 
 /// Whether the response that this locker is for came before its range was made, by the word of its slot.
 fn comes_early(locker: Locker, found: IdWord) -> bool
-    ensures { (frame : Frame) → IsLocker frame locker → result ≡ is_early (version_in frame) found.0 }
+    ensures { (frame : Frame) → IsLocker frame locker → result ≡ is_early (version_in frame) (parts found.0) }
 {
     match locker.sought {
-        Sought::Version(version) => is_early(version, found),
+        Sought::Version(version) => is_early(found, version),
         Sought::First(_) => false,
     }
 }

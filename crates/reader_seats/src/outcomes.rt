@@ -1,7 +1,7 @@
 ghost use Rattle.std.specs.Prelude.{◌≡◌, ◌↔◌, pos, IsTrue, IfOk, Some, slice_set};
 ghost use Rattle.prpc_frame.specs.Meaning.{frame_of};
 ghost use Rattle.sock_words.specs.Codes.{ERESPONSE};
-ghost use Rattle.seat_programs.specs.Readers.{by_code, ending_of};
+ghost use Rattle.brpc_model.specs.ResponseOutcome.{by_code, ending_of};
 ghost use Rattle.id_points.specs.Ids.{id_of};
 ghost use Rattle.reader_points.specs.Points.{code_by};
 

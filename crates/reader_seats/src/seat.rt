@@ -1,8 +1,9 @@
 ghost use Rattle.std.specs.Prelude.{◌≡◌, ◌<◌, ◌≤◌, ◌∷◌, ◌++◌, [], ℕ, true, List, Option, Some, IfOk, OnOk, length, option_map};
 ghost use Rattle.brpc_model.specs.Frame.{NoneYet, judged};
+ghost use Rattle.brpc_model.specs.ResponseOutcome.{ending_of};
 ghost use Rattle.sock_io.specs.Link.{IsTakeCount};
 ghost use Rattle.seat_programs.specs.Beside.{at_last};
-ghost use Rattle.seat_programs.specs.Readers.{reader, ending_of};
+ghost use Rattle.seat_programs.specs.Readers.{reader};
 ghost use Rattle.call_points.specs.Steps.{after_word, after_call};
 ghost use Rattle.seat_states.specs.Steps.{first_in};
 ghost use Rattle.reader_points.specs.Points.{room_at, next_program, behind_program, frames_behind, posts_program, with_taking, HasNext, GoesBy, GoesByWord, TakesBytes, TakesCall, MayFind, IsWithin};

@@ -8,7 +8,8 @@ use Rattle.seat_programs.specs.Calls.{SubRef, StoreCode, LoadLink, TakeLink, Fin
 use Rattle.seat_programs.specs.Clients.{ending_of}
 use Rattle.seat_programs.specs.Heads.{Retry}
 use Rattle.seat_programs.specs.Programs.{Program, Do, Rest, NO_SOCKET, LAST_VERSION, recycle, release, address, set_failed}
-use Rattle.seat_programs.specs.Cores.{Core, SeatState, resolved, next_step, waiting_at, word_of, found_at}
+use Rattle.seat_programs.specs.Cores.{Core, SeatState, resolved, next_step, waiting_at, found_at}
+use Rattle.seat_programs.specs.StepTables.{word_of}
 use Rattle.seat_programs.specs.Ticks.{quiet, ticked, tick_with}
 use Rattle.attempted_calls.specs.Below.outcome_stories.specs.Stories.{In}
 use Rattle.attempted_calls.specs.Below.outcome_causes.proofs.Plain.{in_both}

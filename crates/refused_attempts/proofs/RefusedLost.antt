@@ -10,11 +10,11 @@ use Rattle.seat_programs.specs.brpc_model.specs.Items.{Item}
 use Rattle.seat_programs.specs.brpc_model.specs.Operations.{Turn}
 use Rattle.seat_programs.specs.brpc_model.specs.Script.{script_of}
 use Rattle.corr_core.specs.Word.{parts}
+use Rattle.corr_core.specs.Decisions.{ends_call}
 use Rattle.sock_message.specs.Asked.{Asked}
 use Rattle.seat_programs.specs.Asides.{PutCall}
 use Rattle.seat_programs.specs.Calls.{AddRef, LookWord, LoadName}
 use Rattle.seat_programs.specs.Heads.{Posts, Unlocks, Decides, Locks}
-use Rattle.seat_programs.specs.Posts.{ends_call}
 use Rattle.seat_programs.specs.Programs.{Program, Write, Aside, Round}
 use Rattle.seat_programs.specs.Writings.{Empties}
 use Rattle.seat_programs.specs.Cores.{Core}

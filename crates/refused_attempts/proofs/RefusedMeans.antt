@@ -20,11 +20,14 @@ use Rattle.attempted_calls.specs.Below.sock_steps.proofs.Places.{own_count, coun
 use Rattle.seat_programs.specs.Beside.{calls_after}
 use Rattle.seat_programs.specs.Calls.{Call, AddRef, LookWord, ClaimRequest}
 use Rattle.seat_programs.specs.Programs.{Program, Do}
-use Rattle.seat_programs.specs.Cores.{Calls, Core, SeatState, word_of, word_after, words_after, found_at, homes_after, with_seat, stepped, link_place, first_of, others_of, lies_at}
+use Rattle.seat_programs.specs.Cores.{Calls, Core, SeatState, words_after, found_at, homes_after, with_seat, stepped, link_place, first_of, others_of, lies_at}
+use Rattle.seat_programs.specs.StepTables.{word_of, word_after}
 use Rattle.seat_programs.specs.Ticks.{Moment, AreAnswered, IsAnswered, ticked, run, onto_first, with_places, fed}
 use Rattle.attempted_calls.specs.Below.programs_allowed.specs.program_steps.specs.GoesOn.{GoesOn}
-use Rattle.attempted_calls.specs.Below.programs_allowed.specs.program_steps.specs.May.{May}
-use Rattle.attempted_calls.specs.Below.programs_allowed.specs.program_steps.specs.Rows.{row, hand_at, took_message, link_away, link_home_again, took_bytes}
+use Rattle.seat_programs.specs.StepTables.{May}
+use Rattle.seat_programs.specs.StepTables.{row, hand_at}
+use Rattle.seat_programs.specs.StepsOfMessages.{took_message}
+use Rattle.seat_programs.specs.StepsOfLinks.{link_away, link_home_again, took_bytes}
 use Rattle.attempted_calls.specs.Below.programs_allowed.specs.program_steps.specs.Sound.{Sound, AreFitting, state, views_after, views_along}
 use Rattle.attempted_calls.specs.Below.programs_allowed.specs.program_steps.proofs.Cases.{goes_first, with_rights, right_rights, put_rights, tick_cases, elem_there}
 use Rattle.attempted_calls.specs.Below.programs_allowed.specs.sock_runs.proofs.LinkTicks.{RetriesGo}

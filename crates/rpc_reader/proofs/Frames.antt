@@ -2,9 +2,9 @@
 use Rattle.std.proofs.Common.{◌≡◌, ℕ, ◌+◌, List, [], ◌∷◌, ◌++◌, map, Some, Ok, refl, sym, ap, ◌∙◌, subst, arith, append_assoc, append-nil, length-append, Bool, true, false, ◌<◌, ◌≤◌, ◌⊎◌, inr, ⊎_elim, None, nat_lt, ltb-true}
 use Rattle.std.specs.Prelude.{Option, option_map, ◌&&◌}
 use Rattle.corr_core.specs.Word.{Parts, parts}
+use Rattle.corr_core.specs.Versions.{is_early}
 use Rattle.corr_id.specs.Calls.{Quiet, Found}
 use Rattle.corr_id.specs.Attempts.{LacksAttempt}
-use Rattle.call_table.specs.Responses.{is_early}
 use Rattle.brpc_model.specs.Frame.{Judged, NoneYet, Faulty, judged}
 use Rattle.prpc_frame.specs.Answers.{Fed, IsFaulty}
 use Rattle.std.proofs.lemmas.List.{map-append}

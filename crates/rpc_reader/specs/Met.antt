@@ -2,6 +2,7 @@
 use Rattle.std.specs.Prelude.{◌≡◌, ◌+◌, ◌<◌, ◌==◌, ◌&&◌, ◌⊎◌, ℕ, nat_lt, Bool, true, false, List, [], ◌∷◌, Option, Some, None, map}
 use Rattle.corr_core.specs.Word.{Parts, parts}
 use Rattle.corr_core.specs.declared.marks.View.{View}
+use Rattle.corr_core.specs.Versions.{has_version, is_early}
 use Rattle.corr_id.specs.Calls.{slot_of, version_of, GotLock, Quiet, Found}
 use Rattle.corr_id.specs.Attempts.{LacksAttempt}
 use Rattle.sock_message.specs.Asked.{Asked}
@@ -9,7 +10,7 @@ use Rattle.prpc_frame.specs.rpc_meta.specs.declared.meta.ResponseMeta.{ResponseM
 use Rattle.prpc_frame.specs.Cuts.{Cut}
 use Rattle.prpc_frame.specs.Meaning.{frame_of}
 use Rattle.prpc_frame.specs.declared.frame.Frame.{Frame}
-use Rattle.call_table.specs.Responses.{ending_of, has_version, is_early}
+use Rattle.brpc_model.specs.ResponseOutcome.{ending_of}
 use Rattle.rpc_reader.specs.Books.{Books, EndedAs, KeptBy, id_of}
 
 abbrev pub has_response : Option ResponseMeta → Bool

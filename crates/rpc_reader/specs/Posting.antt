@@ -17,7 +17,7 @@ use Rattle.corr_id.specs.Posts.{PostOk}
 use Rattle.sock_message.specs.Asked.{Asked}
 use Rattle.prpc_frame.specs.Meaning.{frame_of}
 use Rattle.prpc_frame.specs.declared.frame.Frame.{Frame}
-use Rattle.call_table.specs.Responses.{ending_of}
+use Rattle.brpc_model.specs.ResponseOutcome.{ending_of}
 use Rattle.rpc_reader.specs.Books.{Books, EndedAs, id_of}
 use Rattle.rpc_reader.specs.Met.{is_for, FrameMet}
 

@@ -2,7 +2,7 @@
 ghost use Rattle.std.specs.Prelude.{◌≡◌, ◌≢◌, ◌<◌, ℕ, [], true};
 ghost use Rattle.sock_words.specs.declared.outcome.Outcome.TheVariants.{CallFailed};
 ghost use Rattle.prpc_frame.specs.Meaning.{frame_of};
-ghost use Rattle.call_table.specs.Responses.{ending_of};
+ghost use Rattle.brpc_model.specs.ResponseOutcome.{ending_of};
 ghost use Rattle.corr_core.specs.Word.{parts};
 ghost use Rattle.corr_core.specs.declared.marks.Hand.TheVariants.{Empty};
 ghost use Rattle.id_rule.specs.Lawful.{tokens_in};

@@ -6,7 +6,8 @@ ghost use Rattle.rpc_reader.specs.Met.{is_asked as asks, FrameMet};
 
 use crate::books::{AnswerSeat, has_response};
 use crate::ending::end_answered;
-use call_table::{Call, is_early};
+use call_table::Call;
+use corr_core::is_early;
 use corr_id::IdTable;
 use prpc_frame::Frame;
 use sock_words::IdWord;

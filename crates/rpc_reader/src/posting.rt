@@ -14,7 +14,8 @@ ghost use Rattle.rpc_reader.specs.Posting.{LockLost, attempt_at, call_at, FoundO
 use crate::books::{AnswerSeat, has_response};
 use crate::ending::{end_answered, end_failed};
 use crate::meeting::meet;
-use call_table::{Call, has_version};
+use call_table::Call;
+use corr_core::has_version;
 use corr_id::{IdLock, IdTable, Posted};
 use prpc_frame::Frame;
 use sock_words::{AtWord, IdWord};

@@ -29,10 +29,14 @@ use Rattle.slot_steps.proofs.Sums.{total-set}
 use Rattle.sock_steps.proofs.Places.{holder_lives, claimed_unborn, own_count}
 use Rattle.seat_programs.specs.Calls.{Call, CreateLife, ClaimSlot, AddRef, SubRef, SetOdd, Recycle, LookWord, ClaimRequest, SwapHead, StorePlace, DropPlace}
 use Rattle.seat_programs.specs.Programs.{Program, Do, PutBytes, AskReady}
-use Rattle.seat_programs.specs.Cores.{Core, SeatState, word_of, found_at, with_seat, stepped, lies_at, first_of, others_of, link_place}
+use Rattle.seat_programs.specs.Cores.{Core, SeatState, found_at, with_seat, stepped, lies_at, first_of, others_of, link_place}
+use Rattle.seat_programs.specs.StepTables.{word_of}
 use Rattle.seat_programs.specs.Ticks.{OfPut, OfReady, Moment, FitsPut, fed, with_places, onto_first, ticked, asked_link, is_refusal, broken_at}
-use Rattle.programs_allowed.specs.program_steps.specs.Rows.{row, hand_at, took_message, link_away, link_home_again, took_bytes}
-use Rattle.programs_allowed.specs.program_steps.specs.May.{May, even_version}
+use Rattle.seat_programs.specs.StepTables.{row, hand_at}
+use Rattle.seat_programs.specs.StepsOfMessages.{took_message}
+use Rattle.seat_programs.specs.StepsOfLinks.{link_away, link_home_again, took_bytes}
+use Rattle.seat_programs.specs.StepTables.{May}
+use Rattle.seat_programs.specs.StepsOfSlots.{even_version}
 use Rattle.programs_allowed.specs.program_steps.specs.Writes.{MayPut}
 use Rattle.programs_allowed.specs.program_steps.specs.Sound.{first_step, state, views_after}
 use Rattle.programs_allowed.specs.program_steps.proofs.Cases.{with_rights, right_rights, put_rights, tick_does}

@@ -15,9 +15,11 @@ use Rattle.sock_model.specs.SlotRows.{marks_of}
 use Rattle.sock_model.specs.Plain.{life_at, PlainLaw, plain}
 use Rattle.sock_model.specs.Weights.{is_probe}
 use Rattle.seat_programs.specs.Calls.{Call, AddRef, SubRef, SetOdd, Recycle, LookWord, ClaimRequest, SwapHead}
-use Rattle.seat_programs.specs.Cores.{Core, word_of, found_at}
+use Rattle.seat_programs.specs.Cores.{Core, found_at}
+use Rattle.seat_programs.specs.StepTables.{word_of}
 use Rattle.seat_programs.specs.Ticks.{Moment, ticked, run}
-use Rattle.programs_allowed.specs.program_steps.specs.May.{May, even_version}
+use Rattle.seat_programs.specs.StepTables.{May}
+use Rattle.seat_programs.specs.StepsOfSlots.{even_version}
 use Rattle.programs_allowed.specs.program_steps.specs.Sound.{state, views_after, views_along}
 use Rattle.programs_allowed.specs.program_steps.proofs.Cases.{tick_does}
 use Rattle.life_events.specs.Events.{life_of}

@@ -26,18 +26,20 @@ use Rattle.programs_allowed.specs.program_steps.specs.Sound.{first_step}
 use Rattle.seat_programs.specs.Parts.{part}
 use Rattle.corr_core.specs.Word.{parts, error_of, code_of, posted_word, unlocked_word}
 use Rattle.corr_core.specs.Law.{LAST}
+use Rattle.corr_core.specs.Decisions.{WHOLE, ends_call}
+use Rattle.corr_core.specs.Versions.{is_early}
 use Rattle.brpc_model.specs.Frame.{Frame}
 use Rattle.brpc_model.specs.Stream as streams
+use Rattle.brpc_model.specs.ResponseOutcome.{ending_of as ending_by}
 use Rattle.sock_words.specs.Words.{at_word, at_word_slot, at_word_first, at_word_link, at_word_attempt}
 use Rattle.sock_words.specs.declared.outcome.Outcome.TheVariants.{NotBegun, Joined}
 use Rattle.sock_message.specs.Asked.{Asked, frame_of}
 use Rattle.seat_programs.specs.Asides.{Found, FreeId, PutCall, StoreAt, Taking, Bytes, Nothing, Closed, id_slot, id_first, call_id}
 use Rattle.seat_programs.specs.Heads.{Head, Exit, Retry, Sought, Version, Reading, Ended, Posts, Unlocks, Decides, Locks, Joins, Opens, Reads, Discards, Posting, WasGone, WasStale, WasCrowded, WasQueued, HasLocked, Unlocking, IsOpen, HasNext, Deciding, HasEnded, Locking, NotThere}
 use Rattle.seat_programs.specs.Heads.{GoesOn as OpenAgain, Has as HasLock}
-use Rattle.seat_programs.specs.Posts.{WHOLE, packed, advance_of, is_first, is_stale, is_full, is_sought, judged, post, post_with, posted, popped, ends_call, end_id, decide, decided, unlocked, locking}
+use Rattle.seat_programs.specs.Posts.{packed, advance_of, is_first, is_stale, is_full, is_sought, judged, post, post_with, posted, popped, end_id, decide, decided, unlocked, locking}
 use Rattle.seat_programs.specs.Attempts.{claims_from, heading_for, attempt, begin_call, claim_id, call, tried_again, retry_locked, retry, expire_outcome, expire, join}
-use Rattle.seat_programs.specs.Readers.{LIMIT, slot_in, version_in, is_early, answer, answered, has_response, responses, last_of, ended_by, read_on, took, discarded, kept_for, ends_with, posted_last, post_each, thrown_away, read, reader}
-use Rattle.seat_programs.specs.Readers.{ending_of as ending_by}
+use Rattle.seat_programs.specs.Readers.{LIMIT, slot_in, version_in, answer, answered, has_response, responses, last_of, ended_by, read_on, took, discarded, kept_for, ends_with, posted_last, post_each, thrown_away, read, reader}
 use Rattle.seat_programs.specs.Rounds.{round}
 
 -- ## What a seat found last
@@ -226,7 +228,7 @@ answer_guarded : (frame : Frame) (first : ℕ) (next : Program) → Guarded Unkn
 answer_guarded frame first next g = (tt, λ asked. end_guarded (slot_in frame) (Say asked.operation (ending_by (call_id (slot_in frame) first) frame) next) g)
 
 answered_guarded : (frame : Frame) (kept : List Frame) (k : List Frame → Program) → Goes k → Goes (answered frame kept k)
-answered_guarded frame kept k goes (NotThere found) = goes (if is_early (version_in frame) found then kept ++ frame ∷ [] else kept)
+answered_guarded frame kept k goes (NotThere found) = goes (if is_early (version_in frame) (parts found) then kept ++ frame ∷ [] else kept)
 answered_guarded frame kept k goes (HasLock word) = answer_guarded frame (parts word).first (k kept) (goes kept)
 
 responses_guarded : (ids : ℕ) (fs kept : List Frame) (k : List Frame → Program) → Goes k → Guarded Unknown (responses ids fs kept k)

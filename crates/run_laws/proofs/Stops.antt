@@ -25,7 +25,7 @@ use Rattle.sock_model.specs.ChainRows.{with_right, taken_right}
 use Rattle.sock_model.specs.Marks.{about, at}
 use Rattle.sock_model.specs.Plain.{life_at}
 use Rattle.life_events.specs.Events.{life_of}
-use Rattle.programs_allowed.specs.program_steps.specs.May.{even_version}
+use Rattle.seat_programs.specs.StepsOfSlots.{even_version}
 use Rattle.sock_model.specs.Links.{HoldsLink, Given, Failed}
 use Rattle.sock_model.specs.Slots.{version_of}
 use Rattle.sock_model.specs.SlotRows.{marks_of, looked, told_code}
@@ -35,10 +35,15 @@ use Rattle.sock_steps.proofs.Places.{own_count, holder_lives}
 use Rattle.seat_programs.specs.Calls.{Call, AddRef, SubRef, SetOdd, Recycle, LookWord, LoadCode, ClaimRequest, SwapHead, StorePlace, DropPlace}
 use Rattle.seat_programs.specs.Programs.{Program, Do, TakeMessage, TakeHome, PutHome, PutBytes, AskReady, Aside}
 use Rattle.seat_programs.specs.Beside.{calls_after}
-use Rattle.seat_programs.specs.Cores.{Calls, Core, SeatState, word_of, word_after, words_after, homes_after, hand_after, found_at, lies_at, first_of, others_of, link_place, with_seat, stepped}
+use Rattle.seat_programs.specs.Cores.{Calls, Core, SeatState, words_after, homes_after, hand_after, found_at, lies_at, first_of, others_of, link_place, with_seat, stepped}
+use Rattle.seat_programs.specs.StepTables.{word_of, word_after}
 use Rattle.seat_programs.specs.Ticks.{Moment, fed, with_places, onto_first, ticked}
-use Rattle.programs_allowed.specs.program_steps.specs.Rows.{row, hand_at, by_right, looked_clean, took_message, link_away, link_home_again, took_bytes}
-use Rattle.programs_allowed.specs.program_steps.specs.May.{May}
+use Rattle.seat_programs.specs.StepTables.{row, hand_at}
+use Rattle.seat_programs.specs.StepViews.{by_right}
+use Rattle.seat_programs.specs.StepsOfSlots.{looked_clean}
+use Rattle.seat_programs.specs.StepsOfMessages.{took_message}
+use Rattle.seat_programs.specs.StepsOfLinks.{link_away, link_home_again, took_bytes}
+use Rattle.seat_programs.specs.StepTables.{May}
 use Rattle.programs_allowed.specs.program_steps.specs.Writes.{Writes, MayPut}
 use Rattle.programs_allowed.specs.program_steps.specs.Sound.{Sound, first_step, state, views_after}
 use Rattle.programs_allowed.specs.program_steps.proofs.Cases.{with_rights, right_rights, put_rights, tick_does}

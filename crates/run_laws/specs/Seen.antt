@@ -18,9 +18,10 @@ use Rattle.sock_model.specs.SlotRows.{marks_of}
 use Rattle.sock_model.specs.Weights.{total, is_probe, is_linked}
 use Rattle.seat_programs.specs.Calls.{Call, CreateLife, AddRef, SubRef, SetOdd, Recycle, LookWord, ClaimRequest, SwapHead, FreeRequest, StorePlace, DropPlace}
 use Rattle.seat_programs.specs.Programs.{Program, Do, PutBytes, AskReady}
-use Rattle.seat_programs.specs.Cores.{Core, word_of, found_at}
+use Rattle.seat_programs.specs.Cores.{Core, found_at}
+use Rattle.seat_programs.specs.StepTables.{word_of}
 use Rattle.seat_programs.specs.Ticks.{Answer, OfPut, OfReady, Moment, broken_at, ticked}
-use Rattle.programs_allowed.specs.program_steps.specs.May.{even_version}
+use Rattle.seat_programs.specs.StepsOfSlots.{even_version}
 use Rattle.programs_allowed.specs.program_steps.specs.Sound.{first_step, views_after}
 use Rattle.message_events.specs.Standing as standing
 use Rattle.life_events.specs.Events.{life_of}

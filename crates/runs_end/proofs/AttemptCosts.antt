@@ -16,7 +16,8 @@ use Rattle.seat_programs.specs.Posts.{post, decided}
 use Rattle.seat_programs.specs.Sends.{write_link, accept}
 use Rattle.seat_programs.specs.Attempts.{claims_from, heading_for, attempt, tried_again, retry_locked, retry}
 use Rattle.seat_programs.specs.Told.{AskedFits}
-use Rattle.sock_runs.specs.program_steps.specs.Rows.{row, link_away}
+use Rattle.seat_programs.specs.StepTables.{row}
+use Rattle.seat_programs.specs.StepsOfLinks.{link_away}
 use Rattle.sock_runs.specs.program_steps.specs.Lasts.{LastsFor, STALE, CHANGE, ERROR, POST, ACCEPT, weight, attempt_cost, unlocking_gain}
 use Rattle.runs_end.proofs.IdCosts.{lasts_more, post_lasts, decide_lasts}
 use Rattle.runs_end.proofs.Costs.{Lasting, lasting_more, either_lasts, does, takes_first}

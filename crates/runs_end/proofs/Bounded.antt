@@ -25,7 +25,10 @@ use Rattle.seat_programs.specs.Programs.{Program, Rest, Write, Round, NO_SOCKET}
 use Rattle.seat_programs.specs.Cores.{Core, SeatState}
 use Rattle.seat_programs.specs.Ticks.{Answer, OfReady, Moment, IsAnswered, IsAlwaysReady, ticked, tick_with, waits_at, waits_in, waits}
 use Rattle.seat_programs.specs.Runs.{IsAtRest}
-use Rattle.sock_runs.specs.program_steps.specs.Rows.{row, hand_at, by_right, read_next, found_id}
+use Rattle.seat_programs.specs.StepTables.{row, hand_at}
+use Rattle.seat_programs.specs.StepViews.{by_right}
+use Rattle.seat_programs.specs.StepsOfChain.{read_next}
+use Rattle.seat_programs.specs.StepsOfNames.{found_id}
 use Rattle.sock_runs.specs.program_steps.specs.GoesOn.{GoesOn}
 use Rattle.sock_runs.specs.program_steps.specs.Sound.{Sound, IsAhead, AreFew, IsFitting, views_of, views_after}
 use Rattle.sock_runs.specs.program_steps.specs.Lasts.{Lasts, IsCounted, MOST_PAID}

@@ -27,8 +27,12 @@ use Rattle.seat_programs.specs.Ticks.{FitsPut}
 use Rattle.sock_steps.proofs.Quiet.{either_way}
 use Rattle.sock_steps.specs.slot_steps.proofs.Sums.{about-here}
 use Rattle.sock_steps.specs.slot_steps.proofs.Numbers.{only-same}
-use Rattle.sock_runs.specs.program_steps.specs.Rows.{row, by_right, looked_clean, took_message, link_home_again, link_away, took_bytes}
-use Rattle.sock_runs.specs.program_steps.specs.May.{IsOfHeld, FindsFailed}
+use Rattle.seat_programs.specs.StepTables.{row}
+use Rattle.seat_programs.specs.StepViews.{by_right}
+use Rattle.seat_programs.specs.StepsOfSlots.{looked_clean}
+use Rattle.seat_programs.specs.StepsOfMessages.{took_message}
+use Rattle.seat_programs.specs.StepsOfLinks.{link_home_again, link_away, took_bytes}
+use Rattle.seat_programs.specs.StepsOfSlots.{IsOfHeld, FindsFailed}
 use Rattle.sock_runs.specs.program_steps.specs.Writes.{At}
 use Rattle.sock_runs.specs.program_steps.specs.Lasts.{POST, weight, cost, saw_failed, asking_cost, failing_cost, waiting_cost, loop_cost, LastsFor}
 use Rattle.sock_runs.specs.program_steps.proofs.Leaves.{right_way}

@@ -14,19 +14,20 @@ use Rattle.sock_model.specs.Layout.{open_index}
 use Rattle.sock_model.specs.Weights.{total}
 use Rattle.seat_programs.specs.corr_core.specs.Word.{parts, posted_word, unlocked_word, code_of}
 use Rattle.seat_programs.specs.corr_core.specs.Law.{LAST}
+use Rattle.seat_programs.specs.corr_core.specs.Decisions.{ends_call}
 use Rattle.seat_programs.specs.id_rule.specs.Lawful.{id_index}
 use Rattle.seat_programs.specs.sock_message.specs.Asked.{Asked}
 use Rattle.seat_programs.specs.Calls.{LoadOpen}
 use Rattle.seat_programs.specs.Asides.{Step, Found, PutCall, LoadIdWord, LockId, PostId, UnlockId, EndId, FreeId, TakeBytes, Taking, Bytes, Nothing, NoMore, id_slot, id_first}
 use Rattle.seat_programs.specs.Heads.{Head, Exit, Sought, Reading, Posts, Unlocks, Decides, Locks, Joins, Opens, Reads, Discards, Posting, WasQueued, HasLocked, Unlocking, Deciding, HasEnded, Locking, Has, Ended}
 use Rattle.seat_programs.specs.Beside.{found_in, at_last, taking_in}
-use Rattle.seat_programs.specs.Posts.{packed, judged, popped, locking, advance_of, ends_call, end_id, unlocked, is_sought, is_first}
+use Rattle.seat_programs.specs.Posts.{packed, judged, popped, locking, advance_of, end_id, unlocked, is_sought, is_first}
 use Rattle.seat_programs.specs.Readers.{took, discarded, room_of}
 use Rattle.seat_programs.specs.Programs.{Program, Do, TakeMessage, TakeHome, PutHome, PutBytes, AskReady, Write, Aside, Round}
 use Rattle.seat_programs.specs.Cores.{Core, SeatState}
 use Rattle.seat_programs.specs.Ticks.{Answer, OfReady, OfTake, Moment, FitsTake, IsTaken, IsAnswer, IsAnswered, IsAlwaysReady, taken, with_found, step_with, tick_with, ticked, is_nothing, waits_at, waits}
 use Rattle.seat_programs.specs.Runs.{kind_in, IsAtRest}
-use Rattle.sock_runs.specs.program_steps.specs.Rows.{row, hand_at}
+use Rattle.seat_programs.specs.StepTables.{row, hand_at}
 use Rattle.sock_runs.specs.program_steps.specs.GoesOn.{GoesOn}
 use Rattle.sock_runs.specs.program_steps.specs.Sound.{Sound, FitsBeside, IsFitting, first_step, views_with, views_of, views_after}
 use Rattle.sock_runs.specs.program_steps.specs.Lasts.{STALE, accepted, expects, arriving, stale_cost, LastsFor, Lasts, IsCountedStep, IsCountedAt, IsCounted}

@@ -6,12 +6,13 @@ use Rattle.sock_words.specs.declared.plain.Plan.{Plan}
 use Rattle.sock_model.specs.declared.view.View.{View}
 use Rattle.seat_programs.specs.corr_core.specs.Word.{parts, code_of, error_of, posted_word, unlocked_word}
 use Rattle.seat_programs.specs.corr_core.specs.Law.{LAST}
+use Rattle.seat_programs.specs.corr_core.specs.Decisions.{ends_call}
 use Rattle.seat_programs.specs.sock_message.specs.Asked.{Asked}
 use Rattle.seat_programs.specs.Asides.{Step, Found, LoadIdWord, LockId, PostId, UnlockId, FreeId, PutCall, id_slot, id_first}
 use Rattle.seat_programs.specs.Heads.{Retry, Sought, Posts, Unlocks, Decides, Locks, Joins, Opens, Posting, WasGone, WasStale, WasCrowded, WasQueued, HasLocked, Unlocking, IsOpen, HasNext, Deciding, HasEnded, Locking, NotThere, Has}
 use Rattle.seat_programs.specs.Heads as heads
 use Rattle.seat_programs.specs.Programs.{Program, Say, Sent, Rest, TakeMessage, PutBytes, AskReady, Aside, Round, Retries}
-use Rattle.seat_programs.specs.Posts.{packed, advance_of, is_first, is_sought, is_stale, is_full, judged, posted, post, popped, ends_call, end_id, decide, unlocked, decides_round, decided, locking}
+use Rattle.seat_programs.specs.Posts.{packed, advance_of, is_first, is_sought, is_stale, is_full, judged, posted, post, popped, end_id, decide, unlocked, decides_round, decided, locking}
 use Rattle.sock_runs.specs.program_steps.specs.Fits.{FitsWord, FitsPosting, FitsUnlocking, FitsLocking}
 use Rattle.sock_runs.specs.program_steps.specs.Lasts.{LastsFor, fresh, fresh_at, left_word, STALE, CHANGE, DECISION, ERROR, POST, attempt_cost, advance_gain, aside_cost, aside_gain, unlocking_gain}
 

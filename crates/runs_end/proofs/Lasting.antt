@@ -42,11 +42,16 @@ use Rattle.seat_programs.specs.corr_core.specs.Word.{parts}
 use Rattle.seat_programs.specs.corr_core.specs.declared.marks.Plan.{Plan as IdPlan}
 use Rattle.seat_programs.specs.corr_core.proofs.Notes.{at_length}
 use Rattle.seat_programs.specs.id_rule.specs.Lawful.{id_index}
-use Rattle.seat_programs.specs.Cores.{Calls, Core, SeatState, resolved, still_waiting, waiting_at, word_of, word_after, found_at, words_after, homes_after, hand_after, lies_at, first_of, others_of, link_place, with_seat, next_step, stepped}
+use Rattle.seat_programs.specs.Cores.{Calls, Core, SeatState, resolved, still_waiting, waiting_at, found_at, words_after, homes_after, hand_after, lies_at, first_of, others_of, link_place, with_seat, next_step, stepped}
+use Rattle.seat_programs.specs.StepTables.{word_of, word_after}
 use Rattle.seat_programs.specs.Ticks.{Answer, OfReady, FitsPut, IsAnswer, fed, with_places, onto_first, with_message, with_link, step_with, tick_with, waits_at, waits}
 use Rattle.seat_programs.specs.Runs.{kind_in}
-use Rattle.sock_runs.specs.program_steps.specs.Rows.{row, hand_at, as_hand, by_claim, exchanged, took_message, link_away, link_home_again, took_bytes}
-use Rattle.sock_runs.specs.program_steps.specs.May.{May, Finds}
+use Rattle.seat_programs.specs.StepTables.{row, hand_at}
+use Rattle.seat_programs.specs.StepsOfLinks.{as_hand, link_away, link_home_again, took_bytes}
+use Rattle.seat_programs.specs.StepViews.{by_claim}
+use Rattle.seat_programs.specs.StepsOfChain.{exchanged}
+use Rattle.seat_programs.specs.StepsOfMessages.{took_message}
+use Rattle.seat_programs.specs.StepTables.{May, Finds}
 use Rattle.sock_runs.specs.program_steps.specs.GoesOn.{GoesOn}
 use Rattle.sock_runs.specs.program_steps.specs.Sound.{state, Sound, views_with_message, views_with_link, views_with, views_of}
 use Rattle.sock_runs.specs.program_steps.specs.Lasts.{STALE, CHANGE, home_weight, accepted, walk_left, ACCEPT, entries, walks_left, expects, arriving, stale_cost, fresh, id_left, ids_left, LastsFor, Lasts}

@@ -4,11 +4,13 @@ use Rattle.sock_words.specs.declared.plain.Plan.{Plan}
 use Rattle.sock_model.specs.declared.view.View.{View}
 use Rattle.seat_programs.specs.brpc_model.specs.Frame.{Frame, Judged, NoneYet, Faulty, Begins, judged}
 use Rattle.seat_programs.specs.brpc_model.specs.Stream as streams
+use Rattle.seat_programs.specs.brpc_model.specs.ResponseOutcome.{ending_of}
 use Rattle.seat_programs.specs.corr_core.specs.Word.{parts}
+use Rattle.seat_programs.specs.corr_core.specs.Versions.{is_early}
 use Rattle.seat_programs.specs.Asides.{TakeBytes, Taking, Bytes, Nothing, Closed, call_id}
 use Rattle.seat_programs.specs.Heads.{Version, Reading, Locks, Reads, Discards, Locking, NotThere, Has, Ended}
 use Rattle.seat_programs.specs.Programs.{Program, Say, Round}
-use Rattle.seat_programs.specs.Readers.{LIMIT, answer, answered, responses, read_on, took, took_bytes, last_of, ended_by, room_of, discarded, slot_in, version_in, has_response, ending_of, is_early}
+use Rattle.seat_programs.specs.Readers.{LIMIT, answer, answered, responses, read_on, took, took_bytes, last_of, ended_by, room_of, discarded, slot_in, version_in, has_response}
 use Rattle.sock_runs.specs.program_steps.specs.Fits.{FitsEnded}
 use Rattle.sock_runs.specs.program_steps.specs.Lasts.{LastsFor, CHANGE, FRAME}
 use Rattle.runs_end.proofs.IdCosts.{lasts_more, end_lasts, Falls}
@@ -58,7 +60,7 @@ module _ (p : Plan) (v : View) where
   response_lasts ids f kept later m l = by_response (has_response f.meta.response && nat_lt (slot_in f) ids)
     where
       answered_last : (exit : Locking) → LastsFor p v (answered f kept later exit) (CHANGE + 2 + m + 0)
-      answered_last (NotThere found) = let kept' : List Frame = cond (is_early (version_in f) found) (kept ++ f ∷ []) kept in lasts_more p v (later kept') m (CHANGE + 2 + m + 0) (omega arith) (l kept')
+      answered_last (NotThere found) = let kept' : List Frame = cond (is_early (version_in f) (parts found)) (kept ++ f ∷ []) kept in lasts_more p v (later kept') m (CHANGE + 2 + m + 0) (omega arith) (l kept')
       answered_last (Has word) = lasts_more p v (answer f (parts word).first (later kept)) (CHANGE + 2 + m) (CHANGE + 2 + m + 0) (omega arith) (answer_lasts f (parts word).first (later kept) m (l kept))
 
       by_response : (b : Bool) → LastsFor p v (cond b (Round (Locks (slot_in f) (Version (version_in f)) None) (answered f kept later)) (later kept)) (FRAME + m)

@@ -30,8 +30,15 @@ use Rattle.sock_steps.proofs.Quiet.{either_way}
 use Rattle.seat_programs.specs.Calls.{Call, ClaimSlot, CreateLife, AddRef, SubRef, SetOdd, Recycle, FreeSlot, StoreLink, LoadLink, ResetHead, ClearCode, StoreCode, StoreName, LoadName, StoreOpen, LoadOpen, TakeLink, FinishLink, PutLink, LookWord, LoadCode, ClaimRequest, PutMessage, Unconnect, SwapHead, EmptyHead, ReadNext, ReverseNext, FreeRequest, StorePlace, DropPlace}
 use Rattle.seat_programs.specs.Programs.{LAST_GENERATION}
 use Rattle.seat_programs.specs.Cores.{first_of, link_place, homes_after}
-use Rattle.sock_runs.specs.program_steps.specs.Rows.{row, is_id, found_id, by_right, new_claim, filled_claim, ready_claim, looked_clean, emptied, settled_stage, settled, freed_stage, read_next, turned_next, freed_next, placed_next, dropped_next, took_message, link_away, link_home_again, took_bytes}
-use Rattle.sock_runs.specs.program_steps.specs.May.{May}
+use Rattle.seat_programs.specs.StepTables.{row}
+use Rattle.seat_programs.specs.StepsOfNames.{is_id, found_id}
+use Rattle.seat_programs.specs.StepViews.{by_right, settled_stage, settled}
+use Rattle.seat_programs.specs.StepsOfChain.{new_claim, ready_claim, emptied, freed_stage, read_next, turned_next, freed_next}
+use Rattle.seat_programs.specs.StepsOfMessages.{filled_claim, took_message}
+use Rattle.seat_programs.specs.StepsOfSlots.{looked_clean}
+use Rattle.seat_programs.specs.StepsOfPlaces.{placed_next, dropped_next}
+use Rattle.seat_programs.specs.StepsOfLinks.{link_away, link_home_again, took_bytes}
+use Rattle.seat_programs.specs.StepTables.{May}
 use Rattle.sock_runs.specs.program_steps.specs.Sound.{AreInHand, IsOfRight, AreHeld}
 use Rattle.sock_runs.specs.program_steps.specs.Lasts.{weight, home_weight, is_turning, walk_left}
 use Rattle.sock_runs.specs.program_steps.proofs.Leaves.{is_exchange, claim_way, right_way, own_lists}

@@ -16,7 +16,7 @@ use Rattle.callless_fits.specs.sock_deeds.specs.script_facts.proofs.Sizes.{is_co
 use Rattle.callless_fits.specs.sock_deeds.specs.script_facts.proofs.TaskLemmas.{numbers_at, task_is, fail_asks}
 use Rattle.callless_fits.specs.sock_deeds.specs.script_facts.proofs.Reading.{InRange}
 use Rattle.rpc_client.specs.declared.acting.Told.{Told}
-use Rattle.calls_done.specs.call_whys.specs.call_told.specs.Answers.{ends_call, IsOwn}
+use Rattle.calls_done.specs.call_whys.specs.call_told.specs.Answers.{is_end_of_call, IsOwn}
 
 -- ## Codes of a script
 
@@ -44,4 +44,4 @@ same_failure i c id code e = (ap first_of e, ap code_in e)
 
 -- a client tells no call of its own to have failed
 pub not_own : (id code : ℕ) (x : Told) → x.outcome ≡ CallFailed id code → IsOwn x → ⊥
-not_own id code x outcome told_of = let k : true ≡ false = sym (ap ends_call outcome) ∙ told_of in absurd (cc)
+not_own id code x outcome told_of = let k : true ≡ false = sym (ap is_end_of_call outcome) ∙ told_of in absurd (cc)

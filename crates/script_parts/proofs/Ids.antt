@@ -37,7 +37,7 @@ use Rattle.callless_fits.specs.sock_deeds.specs.script_facts.proofs.Lists.{has_f
 use Rattle.rpc_client.specs.declared.acting.Told.{Told}
 use Rattle.call_run.specs.Readers.{LinkReader}
 use Rattle.call_run.specs.Threads.{ids_of, MayRunAll, RanWith}
-use Rattle.calls_done.specs.call_whys.specs.call_told.specs.Answers.{ends_call, IsOwn}
+use Rattle.calls_done.specs.call_whys.specs.call_told.specs.Answers.{is_end_of_call, IsOwn}
 use Rattle.calls_done.specs.call_whys.specs.call_told.specs.Least.{is_made_for, HasBegun as HasBegunHere}
 use Rattle.calls_done.specs.call_whys.specs.call_told.specs.Once.{ends_of, told_ends, ToldOnce}
 use Rattle.calls_done.specs.call_whys.specs.call_told.proofs.Lists.{all_at}
@@ -162,7 +162,7 @@ one_shown a b (Peer i code) h k = sym (only_is a i h) ∙ only_is b i k
 one_shown a b (CallFailed i code) h k = sym (only_is a i h) ∙ only_is b i k
 one_shown a b other h k = absurd (omega arith)
 
-own_none : (id : ℕ) (by : Outcome) → ends_call by ≡ false → ends_of id by ≡ 0
+own_none : (id : ℕ) (by : Outcome) → is_end_of_call by ≡ false → ends_of id by ≡ 0
 own_none id (Answered i payload attachment) e = let k : true ≡ false = e in absurd (cc)
 own_none id (Peer i code) e = let k : true ≡ false = e in absurd (cc)
 own_none id (CallFailed i code) e = let k : true ≡ false = e in absurd (cc)

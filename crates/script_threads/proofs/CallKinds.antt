@@ -27,7 +27,7 @@ use Rattle.script_parts.specs.call_whys.specs.call_deeds.proofs.Ran.{Result, res
 use Rattle.script_parts.specs.call_whys.specs.call_deeds.proofs.Told.{all_results, came, made, said_of}
 use Rattle.script_parts.specs.call_whys.specs.call_places.proofs.Clients.{Client}
 use Rattle.script_parts.specs.call_whys.specs.call_places.proofs.Places.{all as all_clients, all_are}
-use Rattle.script_parts.specs.call_whys.specs.call_told.specs.Answers.{ends_call}
+use Rattle.script_parts.specs.call_whys.specs.call_told.specs.Answers.{is_end_of_call}
 use Rattle.script_parts.specs.call_whys.specs.call_told.specs.Once.{ends_of}
 use Rattle.script_parts.proofs.Sayings.{told_each, none_told}
 use Rattle.script_parts.proofs.Tellers.{HasResult, IsEndTold}
@@ -39,7 +39,7 @@ use Rattle.script_threads.proofs.Reports.{text_of, text_outcomes}
 use Rattle.script_threads.proofs.Sockets as sockets
 use Rattle.script_parts.specs.callless_fits.specs.sock_deeds.proofs.Places.{map_back}
 
-ends_some : (by : Outcome) (id : ℕ) → 0 < ends_of id by → ends_call by ≡ true
+ends_some : (by : Outcome) (id : ℕ) → 0 < ends_of id by → is_end_of_call by ≡ true
 ends_some (Answered i payload attachment) id h = refl
 ends_some (Peer i code) id h = refl
 ends_some (CallFailed i code) id h = refl
@@ -89,7 +89,7 @@ module _ (P : Type 0) {O I : Type 0} (g : Ghosts O) (out : O → OutState) (inn 
     by_teller : (x : Outcome) (d j : ℕ) (ts : List Told) (u : Told) → get_elem? ts j ≡ some u → u.number ≡ t.number → u.outcome ≡ x
         → (get_elem? r.told d ≡ some ts) ⊎ ((e : ℕ) × (get_elem? ((r.ended ++ r.read) ++ r.last ∷ []) e ≡ some ts) × IsEndTold q.slots r.rest.last.view.notes u) → IsOfCall x
     by_teller x d j ts u there number outcome (inl own) = inl (sym outcome ∙ own_told d j ts u own there number)
-    by_teller x d j ts u there number outcome (inr over) = inr (ap ends_call (sym outcome) ∙ ends_some u.outcome (over.2.slot * 4294967296 + over.2.first) (let e = over.2.is_end in omega (arith, e)))
+    by_teller x d j ts u there number outcome (inr over) = inr (ap is_end_of_call (sym outcome) ∙ ends_some u.outcome (over.2.slot * 4294967296 + over.2.first) (let e = over.2.is_end in omega (arith, e)))
 
     -- what became of the call
     kind : (x : Outcome) → Became all outcomes t.number x → IsOfCall x

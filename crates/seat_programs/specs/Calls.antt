@@ -77,29 +77,61 @@ kind_of (SubRef i) = A4
 kind_of (SetOdd i) = A5
 kind_of (Recycle i from) = A6
 kind_of (FreeSlot i) = A7
+kind_of (LookWord id) = A8
 kind_of (StoreLink i k) = S1
 kind_of (LoadLink i w) = S2
+kind_of (FindLink i h) = S2
 kind_of (ResetHead i k) = S3
 kind_of (ClearCode i k) = S4
 kind_of (StoreCode i h c) = S4
+kind_of (LoadCode i h) = S5
 kind_of (StoreName n w) = S6
 kind_of (LoadName n) = S7
 kind_of (StoreOpen o w) = S6
 kind_of (LoadOpen o) = S7
-kind_of (TakeLink k) = L1
-kind_of (FinishLink k) = W3
-kind_of (PutLink k) = L2
-kind_of (LookWord id) = A8
-kind_of (FindLink i h) = S2
-kind_of (LoadCode i h) = S5
 kind_of (ClaimRequest id q) = C1
-kind_of (PutMessage q heading bytes) = M1
-kind_of (Unconnect q) = C7
 kind_of (SwapHead i own) = C2
 kind_of (Connect q before) = C3
 kind_of (EmptyHead i last) = C4
 kind_of (ReadNext q) = C5
 kind_of (ReverseNext q value) = C6
+kind_of (Unconnect q) = C7
 kind_of (FreeRequest q g) = C8
 kind_of (StorePlace l k n) = P1
 kind_of (DropPlace l k n) = P1
+kind_of (TakeLink k) = L1
+kind_of (PutLink k) = L2
+kind_of (FinishLink k) = W3
+kind_of (PutMessage q heading bytes) = M1
+
+-- ## Families
+
+-- what a step is about: a slot, a name or an operation, the chain of messages, the place of a message, a link, or a message
+pub data Family : Type 0 where
+  Slots : Family
+  Names : Family
+  Chain : Family
+  Places : Family
+  Links : Family
+  Messages : Family
+
+abbrev pub family_of : Call → Family
+family_of (StoreName n w) = Names
+family_of (LoadName n) = Names
+family_of (StoreOpen o w) = Names
+family_of (LoadOpen o) = Names
+family_of (ClaimRequest id q) = Chain
+family_of (SwapHead i own) = Chain
+family_of (Connect q before) = Chain
+family_of (EmptyHead i last) = Chain
+family_of (ReadNext q) = Chain
+family_of (ReverseNext q value) = Chain
+family_of (Unconnect q) = Chain
+family_of (FreeRequest q g) = Chain
+family_of (StorePlace l k n) = Places
+family_of (DropPlace l k n) = Places
+family_of (TakeLink k) = Links
+family_of (PutLink k) = Links
+family_of (FinishLink k) = Links
+family_of (PutMessage q heading bytes) = Messages
+family_of other = Slots

@@ -1,5 +1,5 @@
 -- All seats on one thread as plain data, and what one tick of one seat makes of it.
-use Rattle.std.specs.Prelude.{ℕ, ◌+◌, ◌-◌, ◌*◌, ◌%◌, ◌==◌, true, false, if◌then◌else◌, bit_or, List, [], ◌∷◌, ◌++◌, slice_index, slice_index_or, slice_set, Bool}
+use Rattle.std.specs.Prelude.{ℕ, ◌+◌, true, List, [], ◌∷◌, ◌++◌, slice_index, slice_index_or, slice_set, Bool}
 use Rattle.std.specs.Prelude as std
 use mathlib.Core.Option.{Option, some, none}
 use lib.ListN.{get_elem?}
@@ -7,11 +7,8 @@ use Rattle.sock_model.specs.sock_words.specs.declared.outcome.Outcome.{Outcome}
 use Rattle.sock_model.specs.sock_words.specs.declared.plain.Plan.{Plan}
 use Rattle.sock_model.specs.declared.home.Home.{Home}
 use Rattle.sock_model.specs.declared.home.Home.TheVariants.{Link, Message}
-use Rattle.sock_model.specs.Memory.{IDLE, UNCONNECTED}
-use Rattle.sock_model.specs.Deliveries.{place_value}
-use Rattle.sock_model.specs.Layout.{tag_index, ref_index, link_index, head_index, code_index, name_index, open_index, request_index, next_index, place_index}
-use Rattle.seat_programs.specs.Calls.{Call, ClaimSlot, CreateLife, AddRef, SubRef, SetOdd, Recycle, FreeSlot, StoreLink, LoadLink, ResetHead, ClearCode, StoreCode, StoreName, LoadName, StoreOpen, LoadOpen, TakeLink, FinishLink, PutLink, LookWord, FindLink, LoadCode, ClaimRequest, PutMessage, Unconnect, SwapHead, Connect, EmptyHead, ReadNext, ReverseNext, FreeRequest, StorePlace, DropPlace}
-use Rattle.sock_model.specs.sock_words.specs.Words.{socket_id_slot, vref_version}
+use Rattle.seat_programs.specs.Calls.{Call, TakeLink, FinishLink, PutLink, PutMessage}
+use Rattle.seat_programs.specs.StepTables.{word_of, word_after}
 use Rattle.seat_programs.specs.Programs.{Program, Say, Sent, Keep, Retries}
 use Rattle.seat_programs.specs.Heads.{Retry}
 use Rattle.seat_programs.specs.Attempts.{retry}
@@ -41,71 +38,6 @@ pub record Core : Type 0 where
   pub seats : List SeatState
   pub outcomes : List (std.Option Outcome)
   pub calls : Calls
-
--- ## The words
-
-module _ (p : Plan) where
-  -- the place of the word that a step reads or changes; a move has none
-  abbrev pub word_of : Call → Option ℕ
-  word_of (ClaimSlot i) = some (tag_index i)
-  word_of (CreateLife i k) = some (ref_index i)
-  word_of (AddRef id) = some (ref_index (socket_id_slot id))
-  word_of (SubRef i) = some (ref_index i)
-  word_of (SetOdd i) = some (ref_index i)
-  word_of (Recycle i from) = some (ref_index i)
-  word_of (FreeSlot i) = some (tag_index i)
-  word_of (StoreLink i k) = some (link_index i)
-  word_of (LoadLink i w) = some (link_index i)
-  word_of (ResetHead i k) = some (head_index i)
-  word_of (ClearCode i k) = some (code_index i)
-  word_of (StoreCode i h c) = some (code_index i)
-  word_of (StoreName n w) = some (name_index p n)
-  word_of (LoadName n) = some (name_index p n)
-  word_of (StoreOpen o w) = some (open_index p o)
-  word_of (LoadOpen o) = some (open_index p o)
-  word_of (TakeLink k) = none
-  word_of (FinishLink k) = none
-  word_of (PutLink k) = none
-  word_of (LookWord id) = some (ref_index (socket_id_slot id))
-  word_of (FindLink i h) = some (link_index i)
-  word_of (LoadCode i h) = some (code_index i)
-  word_of (ClaimRequest id q) = some (request_index p q)
-  word_of (PutMessage q heading bytes) = none
-  word_of (Unconnect q) = some (next_index p q)
-  word_of (SwapHead i own) = some (head_index i)
-  word_of (Connect q before) = some (next_index p q)
-  word_of (EmptyHead i last) = some (head_index i)
-  word_of (ReadNext q) = some (next_index p q)
-  word_of (ReverseNext q value) = some (next_index p q)
-  word_of (FreeRequest q g) = some (request_index p q)
-  word_of (StorePlace l k n) = some (place_index p l)
-  word_of (DropPlace l k n) = some (place_index p l)
-
--- the word after a step that found this word
-abbrev pub word_after : Call → ℕ → ℕ
-word_after (ClaimSlot i) found = 1
-word_after (CreateLife i k) found = found + 1
-word_after (AddRef id) found = found + 1
-word_after (SubRef i) found = found - 1
-word_after (SetOdd i) found = bit_or found 4294967296
-word_after (Recycle i from) found = if found == from then (vref_version from + 1) * 4294967296 else found
-word_after (FreeSlot i) found = 0
-word_after (StoreLink i k) found = k
-word_after (ResetHead i k) found = IDLE
-word_after (ClearCode i k) found = 0
-word_after (StoreCode i h c) found = c
-word_after (StoreName n w) found = w
-word_after (StoreOpen o w) found = w
-word_after (ClaimRequest id q) found = if found % 2 == 0 then found + 1 else found
-word_after (Unconnect q) found = UNCONNECTED
-word_after (SwapHead i own) found = own
-word_after (Connect q before) found = before
-word_after (EmptyHead i last) found = if found == last then IDLE + last else found
-word_after (ReverseNext q value) found = value
-word_after (FreeRequest q g) found = 2 * (g + 1)
-word_after (StorePlace l k n) found = place_value false k n
-word_after (DropPlace l k n) found = place_value true k n
-word_after other found = found
 
 -- ## A step of seat i
 

@@ -14,7 +14,8 @@ use Rattle.seat_programs.specs.declared.task.Task.{Task}
 use Rattle.seat_programs.specs.Calls.{Call, SubRef, Recycle, LookWord, ReadNext}
 use Rattle.seat_programs.specs.Writings.{Writing, Puts, Walks}
 use Rattle.seat_programs.specs.Programs.{Program, Do, Write}
-use Rattle.seat_programs.specs.Cores.{Core, word_of, found_at}
+use Rattle.seat_programs.specs.Cores.{Core, found_at}
+use Rattle.seat_programs.specs.StepTables.{word_of}
 use Rattle.seat_programs.specs.Ticks.{Moment, ticked}
 use Rattle.seat_programs.specs.Tasks.{plan_of}
 use Rattle.seat_programs.specs.Scripts.{IsRunOf, all_tasks, set_up}

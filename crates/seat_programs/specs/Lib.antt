@@ -11,6 +11,15 @@ pub mod Attempts
 pub mod Readers
 pub mod Rounds
 pub mod Clients
+pub mod TableWords
+pub mod StepViews
+pub mod StepsOfSlots
+pub mod StepsOfNames
+pub mod StepsOfLinks
+pub mod StepsOfChain
+pub mod StepsOfPlaces
+pub mod StepsOfMessages
+pub mod StepTables
 pub mod Cores
 pub mod Beside
 pub mod Ticks

@@ -1,20 +1,17 @@
 -- Errors of calls: posted to an id, decided on, and the loops that give a lock back or get one (bRPC's bthread_id.md: `bthread_id_error`,
 -- `bthread_id_lock`, `bthread_id_unlock`, `bthread_id_unlock_and_destroy`).
-use Rattle.std.specs.Prelude.{ℕ, ◌+◌, ◌-◌, ◌*◌, ◌==◌, ◌&&◌, ◌||◌, not, Bool, true, false, nat_lt, nat_le, if◌then◌else◌, Option, Some, None}
-use Rattle.sock_model.specs.sock_words.specs.Codes.{EEOF, EINTERNAL, ERESPONSE, ERPCTIMEDOUT}
+use Rattle.std.specs.Prelude.{ℕ, ◌+◌, ◌-◌, ◌*◌, ◌==◌, ◌&&◌, not, Bool, true, false, nat_le, if◌then◌else◌, Option, Some, None}
 use Rattle.sock_model.specs.sock_words.specs.declared.outcome.Outcome.TheVariants.{CallFailed}
 use Rattle.corr_core.specs.Word.{Parts, parts, error_of, code_of, attempt_of, posted_word, unlocked_word}
 use Rattle.corr_core.specs.Law.{LAST}
+use Rattle.corr_core.specs.Versions.{has_version}
+use Rattle.corr_core.specs.Decisions.{WHOLE, ends_call}
 use Rattle.sock_message.specs.Asked.{Asked}
 use Rattle.seat_programs.specs.Asides.{PutCall, LoadIdWord, LockId, PostId, UnlockId, EndId, FreeId, TakeCall, id_slot, id_first}
 use Rattle.seat_programs.specs.Heads.{Retry, Sought, First, Version, Posts, Unlocks, Decides, Locks, Joins, Posting, WasGone, WasStale, WasCrowded, WasQueued, HasLocked, Unlocking, IsOpen, HasNext, Deciding, HasEnded, GoesOn, Locking, NotThere, Has}
 use Rattle.seat_programs.specs.Programs.{Program, Say, Aside, Round, Keep}
 
 -- ## Words
-
--- the attempt that stands for the whole call
-abbrev pub WHOLE : ℕ
-WHOLE = 7
 
 -- the word after a lock, a post, and an unlocking, by the word before
 abbrev pub packed : Parts → ℕ
@@ -26,10 +23,6 @@ advance_of advance = if advance then 1 else 0
 -- the id's range is there
 abbrev pub is_first : ℕ → Parts → Bool
 is_first first w = (w.first == first) && not (w.state == 0)
-
--- the range in the slot has this version behind its first
-abbrev pub has_version : ℕ → Parts → Bool
-has_version v w = not (w.state == 0) && (nat_lt w.first v && nat_lt v (w.first + w.range))
 
 abbrev pub is_sought : Sought → Parts → Bool
 is_sought (First first) w = is_first first w
@@ -72,13 +65,6 @@ unlocks_round i from advance k = Aside (UnlockId i from advance) (λ found.
     else Round (Unlocks i found advance) k)
 
 -- ## Deciding
-
--- a code that ends a call whatever retries are left
-abbrev pub is_final : ℕ → Bool
-is_final code = (code == ERPCTIMEDOUT) || ((code == EEOF) || ((code == EINTERNAL) || (code == ERESPONSE)))
-
-abbrev pub ends_call : Parts → ℕ → Bool
-ends_call w e = (attempt_of e == WHOLE) || (is_final (code_of e) || (w.attempt + 2 == w.range))
 
 -- the range in hand ends; the slot is given up unless its versions are used up
 abbrev pub end_id : ℕ → Program → Program

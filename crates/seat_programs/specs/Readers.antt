@@ -1,12 +1,12 @@
 -- The program of the reader of a link (bRPC's baidu_std.md for frames and correlation ids, bthread_id.md for who ends a call).
-use Rattle.std.specs.Prelude.{ℕ, ◌+◌, ◌-◌, ◌==◌, ◌&&◌, Bool, true, false, List, [], ◌∷◌, ◌++◌, length, drop, filter, nat_lt, nat_le, min, if◌then◌else◌, ℤ, pos, zero, Option, Some, None}
+use Rattle.std.specs.Prelude.{ℕ, ◌+◌, ◌-◌, ◌==◌, ◌&&◌, Bool, true, false, List, [], ◌∷◌, ◌++◌, length, drop, filter, nat_lt, min, if◌then◌else◌, Option, Some, None}
 use Rattle.sock_model.specs.sock_words.specs.Codes.{EEOF, ERESPONSE}
 use Rattle.sock_model.specs.sock_words.specs.Words.{socket_id_slot, at_word_first, at_word_slot, at_word_link, at_word_attempt}
-use Rattle.sock_model.specs.sock_words.specs.declared.outcome.Outcome.{Outcome}
-use Rattle.sock_model.specs.sock_words.specs.declared.outcome.Outcome.TheVariants.{Answered, Peer, CallFailed}
 use Rattle.corr_core.specs.Word.{parts, error_of}
+use Rattle.corr_core.specs.Versions.{is_early}
 use Rattle.sock_message.specs.brpc_model.specs.Meta.{ResponseMeta}
 use Rattle.sock_message.specs.brpc_model.specs.Frame.{Frame}
+use Rattle.sock_message.specs.brpc_model.specs.ResponseOutcome.{ending_of}
 use Rattle.sock_message.specs.brpc_model.specs.Stream as streams
 use Rattle.seat_programs.specs.Calls.{LoadOpen}
 use Rattle.seat_programs.specs.Asides.{LoadAt, TakeCall, TakeBytes, Taking, Bytes, Nothing, Closed, call_id, id_slot, id_first}
@@ -19,19 +19,6 @@ use Rattle.seat_programs.specs.Posts.{post_with, decided, decide, end_id}
 abbrev pub LIMIT : ℕ
 LIMIT = 16777216
 
-abbrev pub by_code : ℕ → Frame → ℤ → Outcome
-by_code id frame (pos zero) = Answered id frame.payload frame.attachment
-by_code id frame code = Peer id code
-
--- the outcome that a response gives the call with this id
-abbrev pub outcome_by : ℕ → Frame → ℤ → Option ResponseMeta → Outcome
-outcome_by id frame (pos zero) (Some r) = by_code id frame r.code
-outcome_by id frame (pos zero) None = CallFailed id ERESPONSE
-outcome_by id frame compressed r = CallFailed id ERESPONSE
-
-abbrev pub ending_of : ℕ → Frame → Outcome
-ending_of id frame = outcome_by id frame frame.meta.compress_type frame.meta.response
-
 -- the frame has a response
 abbrev pub has_response : Option ResponseMeta → Bool
 has_response (Some r) = true
@@ -43,17 +30,13 @@ slot_in frame = id_slot frame.meta.correlation_id
 abbrev pub version_in : Frame → ℕ
 version_in frame = id_first frame.meta.correlation_id
 
--- by this word a response of a version past all ranges made so far is kept
-abbrev pub is_early : ℕ → ℕ → Bool
-is_early v found = let w = parts found in if w.state == 0 then nat_le w.first v else nat_le (w.first + w.range) v
-
 -- the call in hand ends with a response
 abbrev pub answer : Frame → ℕ → Program → Program
 answer frame first next = let i = slot_in frame in let id = call_id i first in
     Aside (TakeCall i) (λ asked. end_id i (Say asked.operation (ending_of id frame) next))
 
 abbrev pub answered : Frame → List Frame → (List Frame → Program) → Locking → Program
-answered frame kept k (NotThere found) = k (if is_early (version_in frame) found then kept ++ frame ∷ [] else kept)
+answered frame kept k (NotThere found) = k (if is_early (version_in frame) (parts found) then kept ++ frame ∷ [] else kept)
 answered frame kept k (Has word) = answer frame (parts word).first (k kept)
 
 -- whole frames, one after another, over so many id slots

@@ -4,9 +4,10 @@ use Rattle.sock_model.specs.sock_words.specs.declared.kind.Kind.{Kind}
 use Rattle.sock_model.specs.sock_words.specs.declared.kind.Kind.TheVariants.{I3, I4, I5, I6, I7, K1, S7, R1}
 use Rattle.std.specs.Prelude.{Option, Some, None, if◌then◌else◌}
 use Rattle.corr_core.specs.Word.{parts}
+use Rattle.corr_core.specs.Decisions.{ends_call}
 use Rattle.seat_programs.specs.Heads.{Head, Exit, Posts, Unlocks, Decides, Locks, Joins, Opens, Reads, Discards}
 use Rattle.seat_programs.specs.Programs.{Program}
-use Rattle.seat_programs.specs.Posts.{posts_round, unlocks_round, decides_round, locks_round, joins_round, ends_call}
+use Rattle.seat_programs.specs.Posts.{posts_round, unlocks_round, decides_round, locks_round, joins_round}
 use Rattle.seat_programs.specs.Readers.{opens_round, reads_round, discards_round}
 
 abbrev pub round : (head : Head) → (Exit head → Program) → Program

@@ -16,6 +16,7 @@ use Rattle.seat_states.specs.declared.point.Step.{Step}
 use Rattle.seat_states.specs.declared.point.Step.TheVariants as firsts
 use Rattle.seat_states.specs.Points.{Context, heading_by, parts_by}
 
+-- the step that this step of the machine is, by families
 abbrev pub step_of : Call → calls.Call
 step_of (steps.ClaimSlot i) = calls.ClaimSlot i
 step_of (steps.CreateLife i k) = calls.CreateLife i k
@@ -24,31 +25,31 @@ step_of (steps.SubRef i) = calls.SubRef i
 step_of (steps.SetOdd i) = calls.SetOdd i
 step_of (steps.Recycle i from) = calls.Recycle i from.0
 step_of (steps.FreeSlot i) = calls.FreeSlot i
+step_of (steps.LookWord id) = calls.LookWord id.0
 step_of (steps.StoreLink i k) = calls.StoreLink i k
 step_of (steps.LoadLink i w) = calls.LoadLink i w
+step_of (steps.FindLink id) = calls.FindLink (socket_id_slot id.0) (socket_id_version id.0)
 step_of (steps.ResetHead i k) = calls.ResetHead i k
 step_of (steps.ClearCode i k) = calls.ClearCode i k
 step_of (steps.StoreCode i h c) = calls.StoreCode i h c
+step_of (steps.LoadCode id) = calls.LoadCode (socket_id_slot id.0) (socket_id_version id.0)
 step_of (steps.StoreName n w) = calls.StoreName n w
 step_of (steps.LoadName n) = calls.LoadName n
 step_of (steps.StoreOpen o w) = calls.StoreOpen o w
 step_of (steps.LoadOpen o) = calls.LoadOpen o
-step_of (steps.TakeLink k) = calls.TakeLink k
-step_of (steps.FinishLink k) = calls.FinishLink k
-step_of (steps.PutLink k) = calls.PutLink k
-step_of (steps.LookWord id) = calls.LookWord id.0
-step_of (steps.FindLink id) = calls.FindLink (socket_id_slot id.0) (socket_id_version id.0)
-step_of (steps.LoadCode id) = calls.LoadCode (socket_id_slot id.0) (socket_id_version id.0)
 step_of (steps.ClaimRequest id q) = calls.ClaimRequest id.0 q
-step_of (steps.Unconnect q) = calls.Unconnect q
 step_of (steps.SwapHead i own) = calls.SwapHead i own.0
 step_of (steps.Connect q before) = calls.Connect q before.0
 step_of (steps.EmptyHead i last) = calls.EmptyHead i last.0
 step_of (steps.ReadNext q) = calls.ReadNext q
 step_of (steps.ReverseNext q value) = calls.ReverseNext q value.0
+step_of (steps.Unconnect q) = calls.Unconnect q
 step_of (steps.FreeRequest q g) = calls.FreeRequest q g
 step_of (steps.StorePlace l k n) = calls.StorePlace l k n
 step_of (steps.DropPlace l k n) = calls.DropPlace l k n
+step_of (steps.TakeLink k) = calls.TakeLink k
+step_of (steps.PutLink k) = calls.PutLink k
+step_of (steps.FinishLink k) = calls.FinishLink k
 
 -- the first step of a program: one on a word, one aside of the sockets, or one of whoever writes a link
 pub data First : Type 0 where

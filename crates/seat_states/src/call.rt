@@ -2,7 +2,7 @@ ghost use Rattle.std.specs.Prelude.{◌≡◌, IfSome, IfNone};
 ghost use mathlib.Core.Option.{some, none};
 ghost use Rattle.std.specs.Prelude.{◌*◌};
 ghost use Rattle.seat_programs.specs.Calls.{kind_of};
-ghost use Rattle.seat_programs.specs.Cores.{word_of, word_after};
+ghost use Rattle.seat_programs.specs.StepTables.{word_of, word_after};
 ghost use Rattle.program_steps.specs.Sound.{AllowsWord};
 ghost use Rattle.seat_states.specs.Steps.{step_of};
 

@@ -25,11 +25,16 @@ use Rattle.seat_programs.specs.Beside.{calls_after}
 use Rattle.seat_programs.specs.Calls.{Call, AddRef, LookWord, FindLink, ClaimRequest, PutMessage, Unconnect, SwapHead}
 use Rattle.seat_programs.specs.Heads.{Retry}
 use Rattle.seat_programs.specs.Programs.{Program, Do, TakeMessage, TakeHome, PutHome, PutBytes, AskReady, Aside}
-use Rattle.seat_programs.specs.Cores.{Core, SeatState, word_of, found_at, resolved, next_step, waiting_at, hand_after, link_place, lies_at, others_of}
+use Rattle.seat_programs.specs.Cores.{Core, SeatState, found_at, resolved, next_step, waiting_at, hand_after, link_place, lies_at, others_of}
+use Rattle.seat_programs.specs.StepTables.{word_of}
 use Rattle.seat_programs.specs.Ticks.{Moment, IsAnswered, fed, onto_first, step_with, tick_with, ticked}
 use Rattle.dropped_calls.specs.Below.programs_allowed.specs.program_steps.specs.Fits.{FitsRetry}
-use Rattle.dropped_calls.specs.Below.programs_allowed.specs.program_steps.specs.May.{May}
-use Rattle.dropped_calls.specs.Below.programs_allowed.specs.program_steps.specs.Rows.{row, hand_at, by_claim, exchanged, filled_claim, ready_claim, took_message, link_away, link_home_again, took_bytes}
+use Rattle.seat_programs.specs.StepTables.{May}
+use Rattle.seat_programs.specs.StepTables.{row, hand_at}
+use Rattle.seat_programs.specs.StepViews.{by_claim}
+use Rattle.seat_programs.specs.StepsOfChain.{exchanged, ready_claim}
+use Rattle.seat_programs.specs.StepsOfMessages.{filled_claim, took_message}
+use Rattle.seat_programs.specs.StepsOfLinks.{link_away, link_home_again, took_bytes}
 use Rattle.dropped_calls.specs.Below.programs_allowed.specs.program_steps.specs.Sound.{Sound, IsFitting, first_step, views_with, views_of, views_after}
 use Rattle.dropped_calls.specs.Below.programs_allowed.specs.program_steps.proofs.Cases.{with_rights, right_rights, put_rights, tick_cases, elem_there, ticks_first, views_first, calls_waiting}
 use Rattle.dropped_calls.specs.Below.programs_allowed.specs.program_steps.proofs.Leaves.{claim_way}

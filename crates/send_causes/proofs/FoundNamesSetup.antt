@@ -15,7 +15,8 @@ use Rattle.seat_programs.specs.declared.task.Op.TheVariants as ops
 use Rattle.seat_programs.specs.declared.task.Sizes.{Sizes}
 use Rattle.seat_programs.specs.declared.task.Task.{Task}
 use Rattle.seat_programs.specs.Programs.{Program, Do, Say, Rest, Retries, make_socket, open_from}
-use Rattle.seat_programs.specs.Cores.{Core, SeatState, resolved, still_waiting, next_step, waiting_at, word_of, found_at}
+use Rattle.seat_programs.specs.Cores.{Core, SeatState, resolved, still_waiting, next_step, waiting_at, found_at}
+use Rattle.seat_programs.specs.StepTables.{word_of}
 use Rattle.seat_programs.specs.Runs.{kind_in, next_kind, IsAtRest}
 use Rattle.seat_programs.specs.Scripts.{programs, all_programs, beginning}
 use Rattle.seat_programs.specs.Ticks.{Moment, quiet, ticked, tick_with}

@@ -22,13 +22,16 @@ use Rattle.seat_programs.specs.declared.task.Op.TheVariants as ops
 use Rattle.seat_programs.specs.declared.task.Task.{Task}
 use Rattle.seat_programs.specs.Beside.{calls_after}
 use Rattle.seat_programs.specs.Calls.{Call, AddRef, LoadName, SetOdd, StoreCode}
-use Rattle.seat_programs.specs.Cores.{Calls, Core, SeatState, word_of, word_after, found_at, words_after, homes_after, hand_after, lies_at, first_of, others_of, link_place, resolved, waiting_at, next_step, with_seat}
+use Rattle.seat_programs.specs.Cores.{Calls, Core, SeatState, found_at, words_after, homes_after, hand_after, lies_at, first_of, others_of, link_place, resolved, waiting_at, next_step, with_seat}
+use Rattle.seat_programs.specs.StepTables.{word_of, word_after}
 use Rattle.seat_programs.specs.Drops.{call_in}
 use Rattle.seat_programs.specs.Programs.{Program, Do, Rest, TakeMessage, TakeHome, PutHome, PutBytes, AskReady, Aside}
 use Rattle.seat_programs.specs.Ticks.{Moment, IsAnswered, fed, with_places, onto_first, ticked}
 use Rattle.seat_programs.specs.Told.{AreTasks}
-use Rattle.accept_counts.specs.Below.programs_allowed.specs.program_steps.specs.May.{May}
-use Rattle.accept_counts.specs.Below.programs_allowed.specs.program_steps.specs.Rows.{row, hand_at, took_message, link_away, link_home_again, took_bytes}
+use Rattle.seat_programs.specs.StepTables.{May}
+use Rattle.seat_programs.specs.StepTables.{row, hand_at}
+use Rattle.seat_programs.specs.StepsOfMessages.{took_message}
+use Rattle.seat_programs.specs.StepsOfLinks.{link_away, link_home_again, took_bytes}
 use Rattle.accept_counts.specs.Below.programs_allowed.specs.program_steps.specs.Sound.{Sound, first_step, views_after}
 use Rattle.accept_counts.specs.Below.programs_allowed.specs.program_steps.proofs.Cases.{tick_cases}
 use Rattle.accept_counts.specs.Below.sock_steps.proofs.Maps.{set_at}

@@ -21,9 +21,10 @@ use Rattle.accept_counts.specs.Below.slot_steps.proofs.Numbers.{or-odd, only_le}
 use Rattle.accept_counts.specs.Below.slot_steps.proofs.Sums.{total_mono}
 use Rattle.accept_counts.specs.Below.sock_steps.proofs.Places.{own_count}
 use Rattle.seat_programs.specs.Calls.{Call, ClaimSlot, CreateLife, AddRef, SubRef, SetOdd, Recycle, FreeSlot, StoreLink, LoadLink, ResetHead, ClearCode, StoreCode, StoreName, LoadName, StoreOpen, LoadOpen, LookWord, FindLink, LoadCode, ClaimRequest, Unconnect, SwapHead, Connect, EmptyHead, ReadNext, ReverseNext, FreeRequest, StorePlace, DropPlace}
-use Rattle.seat_programs.specs.Cores.{Core, word_of, word_after, found_at, words_after}
-use Rattle.accept_counts.specs.Below.programs_allowed.specs.program_steps.specs.Rows.{hand_at}
-use Rattle.accept_counts.specs.Below.programs_allowed.specs.program_steps.specs.May.{May, Finds}
+use Rattle.seat_programs.specs.Cores.{Core, found_at, words_after}
+use Rattle.seat_programs.specs.StepTables.{word_of, word_after}
+use Rattle.seat_programs.specs.StepTables.{hand_at}
+use Rattle.seat_programs.specs.StepTables.{May, Finds}
 use Rattle.accept_counts.specs.Below.programs_allowed.specs.program_steps.specs.Sound.{state, Sound}
 use Rattle.accept_counts.specs.Below.programs_allowed.specs.program_steps.proofs.Bounds.{law, lives_le}
 use Rattle.accept_counts.specs.Below.programs_allowed.specs.sock_runs.proofs.Founds.{finds}

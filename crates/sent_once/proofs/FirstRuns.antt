@@ -25,7 +25,8 @@ use Rattle.seat_programs.specs.declared.task.Task.{Task}
 use Rattle.seat_programs.specs.Beside.{calls_after}
 use Rattle.seat_programs.specs.Calls.{Call, ClaimRequest, PutMessage, Unconnect, SwapHead}
 use Rattle.seat_programs.specs.Clients.{client_from, ending_of}
-use Rattle.seat_programs.specs.Cores.{Calls, Core, SeatState, word_of, found_at, words_after, word_after, homes_after, hand_after, lies_at, first_of, others_of, link_place, resolved, still_waiting, waiting_at, next_step, with_seat}
+use Rattle.seat_programs.specs.Cores.{Calls, Core, SeatState, found_at, words_after, homes_after, hand_after, lies_at, first_of, others_of, link_place, resolved, still_waiting, waiting_at, next_step, with_seat}
+use Rattle.seat_programs.specs.StepTables.{word_of, word_after}
 use Rattle.seat_programs.specs.Heads.{Retry}
 use Rattle.seat_programs.specs.Programs.{Program, Do, TakeMessage, TakeHome, PutHome, PutBytes, AskReady, Aside}
 use Rattle.seat_programs.specs.Scripts.{sizes_of, programs, readers_from, all_programs, all_tasks, opened, set_up, is_ending, IsRunWithCalls}
@@ -33,8 +34,12 @@ use Rattle.seat_programs.specs.Tasks.{opens, calls, plan_of, id_plan_of}
 use Rattle.seat_programs.specs.Ticks.{Moment, IsAnswered, AreAnswered, fed, with_places, onto_first, quiet, ticked, run}
 use Rattle.seat_programs.specs.Told.{AreTasks, IsTask}
 use Rattle.seat_programs.specs.ToldCalls.{Accepted, Order, Fixed, InOwnOrder}
-use Rattle.accept_counts.specs.Below.programs_allowed.specs.program_steps.specs.May.{May}
-use Rattle.accept_counts.specs.Below.programs_allowed.specs.program_steps.specs.Rows.{row, hand_at, by_claim, exchanged, filled_claim, ready_claim, took_message, link_away, link_home_again, took_bytes}
+use Rattle.seat_programs.specs.StepTables.{May}
+use Rattle.seat_programs.specs.StepTables.{row, hand_at}
+use Rattle.seat_programs.specs.StepViews.{by_claim}
+use Rattle.seat_programs.specs.StepsOfChain.{exchanged, ready_claim}
+use Rattle.seat_programs.specs.StepsOfMessages.{filled_claim, took_message}
+use Rattle.seat_programs.specs.StepsOfLinks.{link_away, link_home_again, took_bytes}
 use Rattle.accept_counts.specs.Below.programs_allowed.specs.program_steps.specs.Sound.{Sound, first_step, AreFitting, views_after, views_along}
 use Rattle.accept_counts.specs.Below.programs_allowed.specs.program_steps.proofs.Cases.{with_rights, right_rights, put_rights, tick_cases, calls_waiting}
 use Rattle.accept_counts.specs.Below.programs_allowed.specs.program_steps.proofs.Leaves.{claim_way}

@@ -17,9 +17,10 @@ use Rattle.seat_programs.specs.Tasks.{opens, plan_of}
 use Rattle.seat_programs.specs.Calls.{Call, TakeLink, FinishLink, PutLink, PutMessage}
 use Rattle.seat_programs.specs.Programs.{Program, PutBytes}
 use Rattle.seat_programs.specs.Beside.{calls_after}
-use Rattle.seat_programs.specs.Cores.{Calls, Core, SeatState, word_of, word_after, found_at, words_after, with_seat, homes_after, hand_after, lies_at, first_of, others_of, finished, link_place, resolved, next_step, waiting_at}
+use Rattle.seat_programs.specs.Cores.{Calls, Core, SeatState, found_at, words_after, with_seat, homes_after, hand_after, lies_at, first_of, others_of, finished, link_place, resolved, next_step, waiting_at}
+use Rattle.seat_programs.specs.StepTables.{word_of, word_after}
 use Rattle.seat_programs.specs.Ticks.{Moment, IsAnswered, fed, with_places, onto_first, ticked}
-use Rattle.send_causes.specs.Below.programs_allowed.specs.program_steps.specs.May.{May}
+use Rattle.seat_programs.specs.StepTables.{May}
 use Rattle.send_causes.specs.Below.programs_allowed.specs.program_steps.specs.GoesOn.{GoesOn}
 use Rattle.send_causes.specs.Below.programs_allowed.specs.program_steps.specs.Sound.{state, Sound, IsFitting, HasLink, first_step}
 use Rattle.send_causes.specs.Below.programs_allowed.specs.program_steps.proofs.Cases.{tick_cases, goes_first}

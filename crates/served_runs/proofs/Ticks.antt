@@ -15,7 +15,8 @@ use Rattle.seat_programs.specs.Calls.{LoadOpen}
 use Rattle.seat_programs.specs.Heads.{Retry, Reads}
 use Rattle.seat_programs.specs.Programs.{Program, Do, Rest, TakeMessage, TakeHome, PutHome, PutBytes, AskReady, Write, Aside, Round, Retries, NO_SOCKET}
 use Rattle.seat_programs.specs.Readers.{read, reader}
-use Rattle.seat_programs.specs.Cores.{Core, SeatState, word_of, found_at, waiting_at, with_seat, resolved, next_step}
+use Rattle.seat_programs.specs.Cores.{Core, SeatState, found_at, waiting_at, with_seat, resolved, next_step}
+use Rattle.seat_programs.specs.StepTables.{word_of}
 use Rattle.seat_programs.specs.Ticks.{Answer, OfPut, OfReady, OfTake, Moment, taken, with_message, with_link, with_put, with_ready, with_found, step_with, tick_with, ticked}
 use Rattle.send_causes.specs.Below.programs_allowed.specs.program_steps.specs.Sound.{first_step}
 use Rattle.send_causes.specs.Below.programs_allowed.specs.program_steps.proofs.Cases.{ticks_first}

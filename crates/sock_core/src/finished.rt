@@ -1,4 +1,4 @@
-ghost use Rattle.std.specs.Prelude.{◌≡◌, ◌≤◌, ◌<◌, ◌*◌, [], vec_capacity, slice_index};
+ghost use Rattle.std.specs.Prelude.{◌≡◌, ◌≤◌, ◌*◌, [], vec_capacity, slice_index};
 ghost use Rattle.sock_model.specs.Layout.{place_index};
 ghost use Rattle.seat_programs.specs.Scripts.{place_words};
 
@@ -19,7 +19,6 @@ pub struct Finished<O: Out, I: In, P: Peer> {
 
 /// The word of this number among the place words; 0 where the words end before it.
 fn word_at(plan: &Plan, words: &[u64], number: u32) -> u64
-    requires { number < 8 * plan.now.operations }
     ensures { result ≡ slice_index words.now (place_index plan.now number) }
 {
     let index = place_index(plan, number);

@@ -1,92 +1,38 @@
 -- The next step of each seat is one that a machine may make: its word is there, no number leaves its range, and a link that it takes is at home.
-use Rattle.std.proofs.Common.{◌≡◌, ℕ, ◌+◌, ◌*◌, ◌<◌, List, length, sym, subst, arith}
-use mathlib.Core.Option.{Option, some, none, some-injective, some-ne-none}
+use Rattle.std.proofs.Common.{◌≡◌, ℕ, ◌<◌, List, length, sym, subst, arith}
+use mathlib.Core.Option.{Option, some, none}
 use lib.ListN.{get_elem?}
 use Rattle.sock_words.specs.declared.plain.Plan.{Plan}
-use Rattle.sock_words.specs.Words.{socket_id_slot}
 use Rattle.sock_model.specs.declared.view.View.{View}
-use Rattle.sock_model.specs.Layout.{tag_index, ref_index, link_index, head_index, code_index, all_words, name_index, open_index, request_index, next_index, place_index}
 use Rattle.sock_model.specs.Memory.{IDLE}
-use Rattle.seat_programs.specs.Calls.{Call, ClaimSlot, CreateLife, AddRef, SubRef, SetOdd, Recycle, FreeSlot, StoreLink, LoadLink, ResetHead, ClearCode, StoreCode, StoreName, LoadName, StoreOpen, LoadOpen, TakeLink, FinishLink, PutLink, LookWord, FindLink, LoadCode, ClaimRequest, PutMessage, Unconnect, SwapHead, Connect, EmptyHead, ReadNext, ReverseNext, FreeRequest, StorePlace, DropPlace}
+use Rattle.seat_programs.specs.Calls.{Call, CreateLife, AddRef, SubRef, Recycle, LoadLink, LoadName, TakeLink, FinishLink, PutLink, FindLink, ClaimRequest, PutMessage, EmptyHead, FreeRequest, StorePlace, DropPlace}
 use Rattle.seat_programs.specs.Programs.{Program, Do, TakeMessage, TakeHome, PutHome, PutBytes, AskReady}
-use Rattle.seat_programs.specs.Cores.{Core, SeatState, word_of, found_at}
-use Rattle.program_steps.specs.Rows.{hand_at}
-use Rattle.program_steps.specs.May.{May, Finds}
+use Rattle.seat_programs.specs.Cores.{Core, SeatState, found_at}
+use Rattle.seat_programs.specs.StepTables.{table_word, word_of, hand_at, May, Finds}
+use Rattle.program_steps.proofs.WordFrame.{in_table}
 use Rattle.program_steps.specs.GoesOn.{GoesOn}
 use Rattle.program_steps.specs.Sound.{state, Sound, AllowsWord, AllowsMove, Allows, AllowsStep, AreFew, MOST_PLACES, first_step}
 use Rattle.sock_runs.proofs.HandTicks.{taking}
 use Rattle.sock_runs.proofs.Founds.{finds}
-use Rattle.sock_runs.proofs.ChainTicks.{read_inside, turn_inside, free_inside, free_small}
+use Rattle.sock_runs.proofs.ChainTicks.{word_inside, free_small}
 use Rattle.sock_runs.proofs.LinkTicks.{RetriesGo, message_there, link_there, has_link, link_put_there, link_asked_there}
 use Rattle.program_steps.proofs.Cases.{beside, goes_first}
 use Rattle.sock_runs.proofs.Few.{last_small, places_small}
-
--- a word of a slot is there
-slot_word : (p : Plan) (ws : List ℕ) → length ws ≡ all_words p → (j n : ℕ) → j < p.slots → n < 6 * j + 6 → (x : ℕ) → some n ≡ some x → x < length ws
-slot_word p ws sized j n inside near x e = omega (arith, sized, some-injective n x e)
 
 module _ (p : Plan) (c : Core) (vs : List View) (sound : Sound p c vs) (few : AreFew vs) (i : ℕ) (v : View) (at : get_elem? vs i ≡ some v) where
   abbrev found : Call → ℕ
   found call = found_at c.words (word_of p call)
 
-  next_there : (q : ℕ) → q < p.requests → (x : ℕ) → some (next_index p q) ≡ some x → x < length c.words
-  next_there q inside x e = omega (arith, inside, sound.lawful.references.sized, some-injective (next_index p q) x e)
-
-  place_there : (l : ℕ) → l < 8 * p.operations → (x : ℕ) → some (place_index p l) ≡ some x → x < length c.words
-  place_there l inside x e = omega (arith, inside, sound.lawful.references.sized, some-injective (place_index p l) x e)
-
   word_there : (call : Call) → May p v call → (x : ℕ) → word_of p call ≡ some x → x < length c.words
-  word_there (ClaimSlot j) may x e = slot_word p c.words sound.lawful.references.sized j (tag_index j) may (omega arith) x e
-  word_there (CreateLife j k) may x e = slot_word p c.words sound.lawful.references.sized j (ref_index j) may.0 (omega arith) x e
-  word_there (AddRef id) may x e = slot_word p c.words sound.lawful.references.sized (socket_id_slot id) (ref_index (socket_id_slot id)) may.0.0 (omega arith) x e
-  word_there (SubRef j) may x e = slot_word p c.words sound.lawful.references.sized j (ref_index j) may.0 (omega arith) x e
-  word_there (SetOdd j) may x e = slot_word p c.words sound.lawful.references.sized j (ref_index j) may.0 (omega arith) x e
-  word_there (Recycle j from) may x e = slot_word p c.words sound.lawful.references.sized j (ref_index j) may.0 (omega arith) x e
-  word_there (FreeSlot j) may x e = slot_word p c.words sound.lawful.references.sized j (tag_index j) may.0 (omega arith) x e
-  word_there (StoreLink j k) may x e = slot_word p c.words sound.lawful.references.sized j (link_index j) may.0 (omega arith) x e
-  word_there (LoadLink j w) may x e = slot_word p c.words sound.lawful.references.sized j (link_index j) may.0 (omega arith) x e
-  word_there (ResetHead j k) may x e = slot_word p c.words sound.lawful.references.sized j (head_index j) may.0 (omega arith) x e
-  word_there (ClearCode j k) may x e = slot_word p c.words sound.lawful.references.sized j (code_index j) may.0 (omega arith) x e
-  word_there (StoreCode j h d) may x e = slot_word p c.words sound.lawful.references.sized j (code_index j) may.0 (omega arith) x e
-  word_there (StoreName n w) may x e = let inside = may.0 in omega (arith, inside, sound.lawful.references.sized, some-injective (name_index p n) x e)
-  word_there (LoadName n) may x e = let inside = may in omega (arith, inside, sound.lawful.references.sized, some-injective (name_index p n) x e)
-  word_there (StoreOpen n w) may x e = let inside = may.0 in omega (arith, inside, sound.lawful.references.sized, some-injective (open_index p n) x e)
-  word_there (LoadOpen n) may x e = let inside = may in omega (arith, inside, sound.lawful.references.sized, some-injective (open_index p n) x e)
-  word_there (LookWord id) may x e = slot_word p c.words sound.lawful.references.sized (socket_id_slot id) (ref_index (socket_id_slot id)) may.0 (omega arith) x e
-  word_there (FindLink j h) may x e = slot_word p c.words sound.lawful.references.sized j (link_index j) may.0 (omega arith) x e
-  word_there (LoadCode j h) may x e = slot_word p c.words sound.lawful.references.sized j (code_index j) may.0 (omega arith) x e
-  word_there (ClaimRequest id q) may x e = let inside = may.0 in omega (arith, inside, sound.lawful.references.sized, some-injective (request_index p q) x e)
-  word_there (Unconnect q) may x e = next_there q may.0 x e
-  word_there (SwapHead j own) may x e = slot_word p c.words sound.lawful.references.sized j (head_index j) may.0 (omega arith) x e
-  word_there (Connect q before) may x e = next_there q may.0 x e
-  word_there (EmptyHead j last) may x e = slot_word p c.words sound.lawful.references.sized j (head_index j) may.0 (omega arith) x e
-  word_there (ReadNext q) may x e = next_there q (read_inside p (state c vs) sound.lawful i v at q may) x e
-  word_there (ReverseNext q value) may x e = next_there q (turn_inside p (state c vs) sound.lawful i v at q value may) x e
-  word_there (FreeRequest q g) may x e = let inside = free_inside p (state c vs) sound.lawful i v at q g may in omega (arith, inside, sound.lawful.references.sized, some-injective (request_index p q) x e)
-  word_there (StorePlace l k n) may x e = place_there l (let inside = may.0.label_in in omega (arith, inside, may.2)) x e
-  word_there (DropPlace l k n) may x e = place_there l (let inside = may.0.label_in in omega (arith, inside, may.2)) x e
-  word_there _ may x e = absurd (some-ne-none x (sym e))
+  word_there call may x e = subst (λ n. x < n) (sym sound.lawful.references.sized) (in_table p (table_word call) (word_inside p (state c vs) sound.lawful i v at call may) x e)
 
   allows_word : (call : Call) → May p v call → Finds p v call (found call) (hand_at p c.words c.homes call) → AllowsWord call (found call)
-  allows_word (ClaimSlot j) may f = tt
   allows_word (CreateLife j k) may f = f.0
   allows_word (AddRef id) may f = f
   allows_word (SubRef j) may f = omega (arith, f.0, may.1)
-  allows_word (SetOdd j) may f = tt
   allows_word (Recycle j from) may f = (may.3, may.2, may.4)
-  allows_word (FreeSlot j) may f = tt
-  allows_word (StoreLink j k) may f = tt
   allows_word (LoadLink j w) may f = omega (arith, f.0, sound.limits.links)
-  allows_word (ResetHead j k) may f = tt
-  allows_word (ClearCode j k) may f = tt
-  allows_word (StoreCode j h d) may f = tt
-  allows_word (StoreName n w) may f = tt
   allows_word (LoadName n) may f = f.1
-  allows_word (StoreOpen n w) may f = tt
-  allows_word (LoadOpen n) may f = tt
-  allows_word (TakeLink k) may f = tt
-  allows_word (FinishLink k) may f = tt
-  allows_word (PutLink k) may f = tt
   allows_word (FindLink j h) may f = omega (arith, f.0, sound.limits.links)
   allows_word (ClaimRequest id q) may f = f.1
   allows_word (EmptyHead j last) may f = let x = may.1.0 in

@@ -23,7 +23,8 @@ use Rattle.seat_programs.specs.Beside.{found_in, calls_after}
 use Rattle.seat_programs.specs.Rounds.{round, kind_of_round}
 use Rattle.seat_programs.specs.corr_core.specs.declared.marks.Plan.{Plan as IdPlan}
 use Rattle.seat_programs.specs.corr_core.proofs.Notes.{at_length}
-use Rattle.seat_programs.specs.Cores.{Core, SeatState, word_of, word_after, found_at, words_after, homes_after, hand_after, lies_at, first_of, others_of, link_place, with_seat, next_step, resolved, waiting_at}
+use Rattle.seat_programs.specs.Cores.{Core, SeatState, found_at, words_after, homes_after, hand_after, lies_at, first_of, others_of, link_place, with_seat, next_step, resolved, waiting_at}
+use Rattle.seat_programs.specs.StepTables.{word_of, word_after}
 use Rattle.seat_programs.specs.Sends.{block}
 use Rattle.seat_programs.specs.Ticks.{Answer, OfPut, OfReady, Moment, AreAnswered, fed, with_places, onto_first, with_message, with_link, with_put, with_ready, with_found, taken, step_with, tick_with, ticked, run}
 use Rattle.seat_programs.specs.Runs.{kind_in, IsAtRest, IsSettled}

@@ -47,11 +47,21 @@ use Rattle.sock_steps.proofs.AcceptSteps.{queued_law, righted_law}
 use Rattle.sock_steps.proofs.WalkSteps.{passing_law, reading_law, emptied_law, walking_law, turning_law}
 use Rattle.sock_steps.proofs.WriteSteps.{freeing_law, retiring_law, placing_law, dropping_law}
 use Rattle.sock_steps.proofs.RightSteps.{right_in, right_alone}
-use Rattle.seat_programs.specs.Calls.{LookWord, FindLink, LoadCode, ClaimRequest, PutMessage, Unconnect, SwapHead, Connect, EmptyHead, ReadNext, ReverseNext, FreeRequest, StorePlace, DropPlace}
-use Rattle.seat_programs.specs.Cores.{word_after, homes_after}
+use Rattle.seat_programs.specs.Calls.{Call, LookWord, FindLink, LoadCode, ClaimRequest, PutMessage, Unconnect, SwapHead, Connect, EmptyHead, ReadNext, ReverseNext, FreeRequest, StorePlace, DropPlace}
+use Rattle.seat_programs.specs.StepTables.{table_word, word_after}
+use Rattle.program_steps.proofs.WordFrame.{AreIn, low_word}
+use Rattle.seat_programs.specs.Cores.{homes_after}
 use Rattle.seat_programs.specs.Programs.{LAST_GENERATION}
-use Rattle.program_steps.specs.Rows.{row, hand_at, as_hand, by_claim, by_right, new_claim, filled_claim, ready_claim, exchanged, looked_clean, emptied, settled_stage, settled, read_next, turned_next, freed_stage, freed_next, placed_next, dropped_next}
-use Rattle.program_steps.specs.May.{May, HoldsLife, FoundFailed}
+use Rattle.seat_programs.specs.StepTables.{row, hand_at}
+use Rattle.seat_programs.specs.StepsOfLinks.{as_hand}
+use Rattle.seat_programs.specs.StepViews.{by_claim, by_right, settled_stage, settled}
+use Rattle.seat_programs.specs.StepsOfChain.{new_claim, ready_claim, exchanged, emptied, read_next, turned_next, freed_stage, freed_next}
+use Rattle.seat_programs.specs.StepsOfMessages.{filled_claim}
+use Rattle.seat_programs.specs.StepsOfSlots.{looked_clean}
+use Rattle.seat_programs.specs.StepsOfPlaces.{placed_next, dropped_next}
+use Rattle.seat_programs.specs.StepTables.{May}
+use Rattle.seat_programs.specs.StepViews.{HoldsLife}
+use Rattle.seat_programs.specs.StepsOfPlaces.{FoundFailed}
 use Rattle.program_steps.proofs.Bounds.{law, lives_le, fits}
 use Rattle.sock_runs.proofs.SlotTicks.{KeepsWord}
 
@@ -330,3 +340,15 @@ module _ (p : Plan) (s : State Home View) (o : Lawful (λ home. home) p s) (i : 
 
   pub free_inside : (q g : ℕ) → May p v (FreeRequest q g) → q < p.requests
   free_inside q g may = subst (λ z. z < p.requests) may.1 (⊎_elim (λ x. placed_inside may.4.0 may.4.1 may.0 x.0) (λ x. passed_inside may.4.0 may.4.1 may.0 x.0 x.1) may.4.2)
+
+  -- the word of a step is one of the table
+  pub word_inside : (call : Call) → May p v call → AreIn p (table_word call)
+  word_inside (ReadNext q) may = read_inside q may
+  word_inside (ReverseNext q value) may = turn_inside q value may
+  word_inside (FreeRequest q g) may = free_inside q g may
+  word_inside (ClaimRequest id q) may = may.0
+  word_inside (Unconnect q) may = may.0
+  word_inside (Connect q before) may = may.0
+  word_inside (StorePlace l k n) may = let inside = may.0.label_in in omega (arith, inside, may.2)
+  word_inside (DropPlace l k n) may = let inside = may.0.label_in in omega (arith, inside, may.2)
+  word_inside call may = low_word p v call may

@@ -32,10 +32,14 @@ use Rattle.sock_steps.proofs.RuleFrame.{SameNotes, accept_short}
 use Rattle.sock_steps.proofs.Positions.{few_log, on_shorter}
 use Rattle.sock_steps.proofs.Walked.{writes_left}
 use Rattle.seat_programs.specs.Calls.{Call, ClaimSlot, CreateLife, AddRef, SubRef, SetOdd, Recycle, FreeSlot, StoreLink, LoadLink, ResetHead, ClearCode, StoreCode, StoreName, LoadName, StoreOpen, LoadOpen, TakeLink, FinishLink, PutLink, SwapHead}
-use Rattle.seat_programs.specs.Cores.{Core, word_of, found_at}
+use Rattle.seat_programs.specs.Cores.{Core, found_at}
+use Rattle.seat_programs.specs.StepTables.{word_of}
 use Rattle.seat_programs.specs.Ticks.{Moment, IsAnswered}
-use Rattle.program_steps.specs.Rows.{row, hand_at, is_id, by_claim, exchanged}
-use Rattle.program_steps.specs.May.{May}
+use Rattle.seat_programs.specs.StepTables.{row, hand_at}
+use Rattle.seat_programs.specs.StepsOfNames.{is_id}
+use Rattle.seat_programs.specs.StepViews.{by_claim}
+use Rattle.seat_programs.specs.StepsOfChain.{exchanged}
+use Rattle.seat_programs.specs.StepTables.{May}
 use Rattle.program_steps.specs.Sound.{Sound, AreFew, MOST_PLACES, views_after, IsFitting}
 use Rattle.program_steps.specs.Lasts.{Lasts, MOST_PAID}
 use Rattle.program_steps.proofs.Leaves.{sending_same, is_exchange, own_lists}

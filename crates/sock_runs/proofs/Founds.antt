@@ -26,9 +26,12 @@ use Rattle.sock_steps.specs.slot_steps.proofs.Kept.{life_found}
 use Rattle.sock_steps.proofs.Places.{own_count, given_unwaited}
 use Rattle.seat_programs.specs.Calls.{Call, CreateLife, AddRef, SubRef, SetOdd, FreeSlot, LoadLink, LoadName, LoadOpen, TakeLink, LookWord, FindLink, ClaimRequest}
 use Rattle.seat_programs.specs.Programs.{NO_SOCKET}
-use Rattle.seat_programs.specs.Cores.{word_of, found_at}
-use Rattle.program_steps.specs.Rows.{hand_at}
-use Rattle.program_steps.specs.May.{May, Finds, FindsId, IsOfHeld, FindsFailed}
+use Rattle.seat_programs.specs.StepTables.{word_of}
+use Rattle.seat_programs.specs.Cores.{found_at}
+use Rattle.seat_programs.specs.StepTables.{hand_at}
+use Rattle.seat_programs.specs.StepTables.{May, Finds}
+use Rattle.seat_programs.specs.StepsOfNames.{FindsId}
+use Rattle.seat_programs.specs.StepsOfSlots.{IsOfHeld, FindsFailed}
 use Rattle.program_steps.proofs.Bounds.{law, fits, has_room, next_version}
 use Rattle.program_steps.proofs.Ids.{id_some, id_socket}
 use Rattle.sock_runs.proofs.HandTicks.{found_hand}

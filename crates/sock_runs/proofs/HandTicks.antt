@@ -19,8 +19,10 @@ use Rattle.sock_model.specs.Lawful.{Lawful}
 use Rattle.sock_steps.proofs.HandSteps.{take_last_law, spend_law, put_hand_law}
 use Rattle.seat_programs.specs.Calls.{Call, TakeLink, FinishLink, PutLink}
 use Rattle.seat_programs.specs.Cores.{homes_after, hand_after, lies_at, first_of, others_of, finished}
-use Rattle.program_steps.specs.Rows.{row, hand_at, as_hand, taken}
-use Rattle.program_steps.specs.May.{May, HasInHand}
+use Rattle.seat_programs.specs.StepTables.{row, hand_at}
+use Rattle.seat_programs.specs.StepsOfLinks.{as_hand, taken}
+use Rattle.seat_programs.specs.StepTables.{May}
+use Rattle.seat_programs.specs.StepsOfLinks.{HasInHand}
 use Rattle.program_steps.specs.Sound.{AreInHand}
 
 -- the rule holds behind a move of seat i, which has this view and these links in hand

@@ -19,9 +19,17 @@ use Rattle.sock_model.specs.ChainRows.{with_claim, with_hand, spent_hand, withou
 use Rattle.sock_model.specs.Lawful.{Lawful}
 use Rattle.sock_steps.proofs.Quiet.{either_way}
 use Rattle.seat_programs.specs.Calls.{Call, LoadName, LoadOpen, TakeLink, FinishLink, PutLink, LookWord, LoadCode, ClaimRequest, PutMessage, Unconnect, SwapHead, EmptyHead, ReadNext, ReverseNext, FreeRequest, StorePlace, DropPlace}
-use Rattle.seat_programs.specs.Cores.{Core, word_of, found_at, hand_after}
-use Rattle.program_steps.specs.Rows.{row, hand_at, is_id, found_id, taken, by_right, new_claim, filled_claim, ready_claim, exchanged, looked_clean, emptied, settled, read_next, turned_next, freed_stage, freed_next, placed_next, dropped_next}
-use Rattle.program_steps.specs.May.{May}
+use Rattle.seat_programs.specs.Cores.{Core, found_at, hand_after}
+use Rattle.seat_programs.specs.StepTables.{word_of}
+use Rattle.seat_programs.specs.StepTables.{row, hand_at}
+use Rattle.seat_programs.specs.StepsOfNames.{is_id, found_id}
+use Rattle.seat_programs.specs.StepsOfLinks.{taken}
+use Rattle.seat_programs.specs.StepViews.{by_right, settled}
+use Rattle.seat_programs.specs.StepsOfChain.{new_claim, ready_claim, exchanged, emptied, read_next, turned_next, freed_stage, freed_next}
+use Rattle.seat_programs.specs.StepsOfMessages.{filled_claim}
+use Rattle.seat_programs.specs.StepsOfSlots.{looked_clean}
+use Rattle.seat_programs.specs.StepsOfPlaces.{placed_next, dropped_next}
+use Rattle.seat_programs.specs.StepTables.{May}
 use Rattle.program_steps.specs.Sound.{state, IsOfRight, AreInHand, AreHeld}
 use Rattle.sock_runs.proofs.HandTicks.{taking, found_hand, take_in_hand, finish_in_hand, put_in_hand}
 use Rattle.sock_runs.proofs.ChainTicks.{stays_one}

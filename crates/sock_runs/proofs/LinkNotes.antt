@@ -16,7 +16,7 @@ use Rattle.sock_steps.specs.slot_steps.proofs.Sums.{about-other}
 use Rattle.sock_steps.specs.slot_steps.proofs.Numbers.{pair_is}
 use Rattle.sock_steps.proofs.Quiet.{Less, More, less_add, less_without}
 use Rattle.seat_programs.specs.Calls.{Call, CreateLife}
-use Rattle.program_steps.specs.Rows.{row}
+use Rattle.seat_programs.specs.StepTables.{row}
 use Rattle.sock_runs.proofs.Notes.{bears, IsOfBirth, notes_stay, births_note}
 
 -- of two other numbers

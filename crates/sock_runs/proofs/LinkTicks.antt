@@ -33,7 +33,9 @@ use Rattle.seat_programs.specs.Beside.{calls_after}
 use Rattle.program_steps.specs.Fits.{FitsFound, FitsRetry}
 use Rattle.seat_programs.specs.Cores.{Calls, Core, SeatState, lies_at, first_of, others_of, link_place, resolved, still_waiting, waiting_at, next_step, with_seat}
 use Rattle.seat_programs.specs.Ticks.{fed, with_places, onto_first, FitsPut}
-use Rattle.program_steps.specs.Rows.{by_right, took_message, link_away, link_home_again, took_bytes}
+use Rattle.seat_programs.specs.StepViews.{by_right}
+use Rattle.seat_programs.specs.StepsOfMessages.{took_message}
+use Rattle.seat_programs.specs.StepsOfLinks.{link_away, link_home_again, took_bytes}
 use Rattle.program_steps.specs.Writes.{MayTakeMessage, Writes}
 use Rattle.program_steps.specs.GoesOn.{GoesOn}
 use Rattle.program_steps.specs.Sound.{state, AreInHand, IsOfRight, AreHeld, AreLabelled, SoundSeat, Sound, HasLink, HasMessageAt, HasLinkAt}

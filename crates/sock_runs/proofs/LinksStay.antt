@@ -12,10 +12,11 @@ use Rattle.sock_model.specs.Slots.{count, live}
 use Rattle.sock_model.specs.References.{slot_facts}
 use Rattle.sock_steps.proofs.Places.{counts, own_count}
 use Rattle.seat_programs.specs.Calls.{FindLink}
-use Rattle.seat_programs.specs.Cores.{Core, word_of, word_after, found_at, words_after, homes_after}
+use Rattle.seat_programs.specs.Cores.{Core, found_at, words_after, homes_after}
+use Rattle.seat_programs.specs.StepTables.{word_of, word_after}
 use Rattle.seat_programs.specs.Ticks.{Moment, ticked, run, IsAnswered, AreAnswered}
-use Rattle.program_steps.specs.Rows.{row, hand_at}
-use Rattle.program_steps.specs.May.{May}
+use Rattle.seat_programs.specs.StepTables.{row, hand_at}
+use Rattle.seat_programs.specs.StepTables.{May}
 use Rattle.program_steps.specs.Sound.{state, Sound, IsFitting, AreFitting, views_after, views_along}
 use Rattle.program_steps.proofs.Bounds.{law, lives_le}
 use Rattle.sock_runs.proofs.LinkNotes.{links_stay}

@@ -23,8 +23,8 @@ use Rattle.sock_steps.proofs.Steady.{wrote_steady}
 use Rattle.sock_steps.proofs.SlotSteps.{slot_law, idle_law, find_law, store_name_law, store_open_law}
 use Rattle.seat_programs.specs.Calls.{StoreName, LoadName, StoreOpen, LoadOpen}
 use Rattle.seat_programs.specs.Programs.{NO_SOCKET}
-use Rattle.program_steps.specs.Rows.{is_id, found_id}
-use Rattle.program_steps.specs.May.{May}
+use Rattle.seat_programs.specs.StepsOfNames.{is_id, found_id}
+use Rattle.seat_programs.specs.StepTables.{May}
 use Rattle.program_steps.proofs.Ids.{id_some, id_socket}
 use Rattle.sock_runs.proofs.SlotTicks.{KeepsWord}
 

@@ -20,7 +20,8 @@ use Rattle.sock_steps.specs.slot_steps.proofs.Numbers.{only-else}
 use Rattle.sock_steps.specs.slot_steps.proofs.Slots.{stage_is, any_recycled, hold_is, probe_is, zero_is}
 use Rattle.sock_steps.proofs.Quiet.{either_way, Less, More, less_add, less_all, less_without, more_add, more_all, more_without}
 use Rattle.seat_programs.specs.Calls.{Call, ClaimSlot, CreateLife, AddRef, SubRef, SetOdd, Recycle, FreeSlot, StoreLink, LoadLink, ResetHead, ClearCode, StoreCode, StoreName, LoadName, StoreOpen, LoadOpen, TakeLink, FinishLink, PutLink}
-use Rattle.program_steps.specs.Rows.{row, is_id, found_id}
+use Rattle.seat_programs.specs.StepTables.{row}
+use Rattle.seat_programs.specs.StepsOfNames.{is_id, found_id}
 use Rattle.program_steps.proofs.Leaves.{sending_marks}
 
 -- the slot in which a step makes a life

@@ -18,9 +18,10 @@ use Rattle.sock_steps.proofs.Places.{own_count}
 use Rattle.sock_steps.proofs.Birth.{birth_law, reset_law}
 use Rattle.sock_steps.proofs.End.{recycle_law}
 use Rattle.seat_programs.specs.Calls.{Call, ClaimSlot, CreateLife, AddRef, SubRef, SetOdd, Recycle, FreeSlot, StoreLink, LoadLink, ResetHead, ClearCode, StoreCode}
-use Rattle.seat_programs.specs.Cores.{word_of, word_after, found_at, words_after}
-use Rattle.program_steps.specs.Rows.{row, hand_at}
-use Rattle.program_steps.specs.May.{May}
+use Rattle.seat_programs.specs.StepTables.{word_of, word_after}
+use Rattle.seat_programs.specs.Cores.{found_at, words_after}
+use Rattle.seat_programs.specs.StepTables.{row, hand_at}
+use Rattle.seat_programs.specs.StepTables.{May}
 use Rattle.program_steps.proofs.Bounds.{fits, has_room, law}
 
 -- the rule holds behind a step of seat i, which has this view, on one word

@@ -4,21 +4,20 @@ use mathlib.Core.Logic.{dite}
 use mathlib.Core.Option.{some}
 use native.Mathlib.Decide.{ℕ_discrete}
 use lib.ListN.{get_elem?}
-use lib.Seq.{set-get_or}
 use Rattle.sock_words.specs.Words.{socket_id_version, socket_id_slot, vref_version}
 use Rattle.sock_words.specs.declared.plain.Plan.{Plan}
 use Rattle.sock_model.specs.declared.view.View.{View}
-use Rattle.sock_model.specs.Layout.{tag_index, ref_index, link_index, head_index, code_index, name_index, open_index, request_index, next_index, place_index}
-use Rattle.sock_model.specs.Deliveries.{place_value}
+use Rattle.sock_model.specs.Layout.{ref_index}
 use Rattle.sock_model.specs.Weights.{is_born, is_known}
 use Rattle.sock_model.specs.Slots.{count, live}
 use Rattle.sock_model.specs.References.{slot_facts}
 use Rattle.sock_steps.specs.slot_steps.proofs.Numbers.{life_is, or-even, or-odd}
 use Rattle.sock_steps.proofs.Places.{own_count}
-use Rattle.seat_programs.specs.Calls.{Call, ClaimSlot, CreateLife, AddRef, SubRef, SetOdd, Recycle, FreeSlot, StoreLink, LoadLink, ResetHead, ClearCode, StoreCode, StoreName, LoadName, StoreOpen, LoadOpen, LookWord, FindLink, LoadCode, ClaimRequest, Unconnect, SwapHead, Connect, EmptyHead, ReadNext, ReverseNext, FreeRequest, StorePlace, DropPlace}
-use Rattle.seat_programs.specs.Cores.{Core, word_of, word_after, found_at, words_after}
-use Rattle.program_steps.specs.Rows.{hand_at}
-use Rattle.program_steps.specs.May.{May, Finds}
+use Rattle.seat_programs.specs.Calls.{Call, CreateLife, AddRef, SubRef, SetOdd, Recycle, LookWord}
+use Rattle.seat_programs.specs.Cores.{Core, found_at, words_after}
+use Rattle.seat_programs.specs.TableWords.{RefOf}
+use Rattle.seat_programs.specs.StepTables.{word_of, word_after, hand_at, May, Finds}
+use Rattle.program_steps.proofs.WordFrame.{load_leaves, word_stays}
 use Rattle.program_steps.specs.Sound.{state, Sound}
 use Rattle.program_steps.proofs.Bounds.{law, lives_le}
 use Rattle.sock_runs.proofs.Founds.{finds}
@@ -50,10 +49,6 @@ module _ (p : Plan) (c : Core) (vs : List View) (sound : Sound p c vs) (i : ℕ)
       let a = ap vref_version same in let b = ap (λ k. vref_version (get_or c.words (ref_index k) 0)) e in omega (arith, le, a, b))
       (λ far. other j (ref_index n) w (λ e. far (omega (arith, e))))
 
-  -- a word that is loaded
-  loaded : (j x : ℕ) → vref_version (get_or c.words (ref_index j) 0) ≤ vref_version (get_or (set c.words x (get_or c.words x 0)) (ref_index j) 0)
-  loaded j x = let e = ap (λ l. vref_version (get_or l (ref_index j) 0)) (set-get_or c.words x 0) in omega (arith, e)
-
   set_version : (w : ℕ) → vref_version w ≤ vref_version (bit_or w 4294967296)
   set_version w = dite (ℕ_discrete (w / 4294967296 % 2) 0) (λ even. let e = ap vref_version (or-even w even) in omega (arith, e)) (λ no_. let e = ap vref_version (or-odd w (omega (arith, no_))) in omega (arith, e))
 
@@ -66,36 +61,13 @@ module _ (p : Plan) (c : Core) (vs : List View) (sound : Sound p c vs) (i : ℕ)
 
   -- a version never goes back
   pub versions_on : (call : Call) → May p v call → (j : ℕ) → j < p.slots → GoesOn call j
-  versions_on (ClaimSlot n) may j inside = other j (tag_index n) 1 (λ e. omega (arith, e))
   versions_on (CreateLife n k) may j inside = let f = (found (CreateLife n k) may).0 in own j n (get_or c.words (ref_index n) 0 + 1) inside (omega (arith, f))
   versions_on (AddRef id) may j inside = let f = found (AddRef id) may in own j (socket_id_slot id) (get_or c.words (ref_index (socket_id_slot id)) 0 + 1) inside (omega (arith, f))
   versions_on (SubRef n) may j inside = let f = (found (SubRef n) may).0 in let m = may.1 in own j n (get_or c.words (ref_index n) 0 - 1) inside (omega (arith, f, m))
   versions_on (SetOdd n) may j inside = own j n (bit_or (get_or c.words (ref_index n) 0) 4294967296) inside (set_version (get_or c.words (ref_index n) 0))
   versions_on (Recycle n from) may j inside = own j n (word_after (Recycle n from) (get_or c.words (ref_index n) 0)) inside (recycled_version (get_or c.words (ref_index n) 0) from)
-  versions_on (FreeSlot n) may j inside = other j (tag_index n) 0 (λ e. omega (arith, e))
-  versions_on (StoreLink n k) may j inside = other j (link_index n) k (λ e. omega (arith, e))
-  versions_on (LoadLink n w) may j inside = loaded j (link_index n)
-  versions_on (ResetHead n k) may j inside = other j (head_index n) (word_after (ResetHead n k) (get_or c.words (head_index n) 0)) (λ e. omega (arith, e))
-  versions_on (ClearCode n k) may j inside = other j (code_index n) 0 (λ e. omega (arith, e))
-  versions_on (StoreCode n h d) may j inside = other j (code_index n) d (λ e. omega (arith, e))
-  versions_on (StoreName n w) may j inside = other j (name_index p n) w (λ e. omega (arith, e, inside))
-  versions_on (LoadName n) may j inside = loaded j (name_index p n)
-  versions_on (StoreOpen n w) may j inside = other j (open_index p n) w (λ e. omega (arith, e, inside))
-  versions_on (LoadOpen n) may j inside = loaded j (open_index p n)
-  versions_on (LookWord id) may j inside = loaded j (ref_index (socket_id_slot id))
-  versions_on (FindLink n h) may j inside = loaded j (link_index n)
-  versions_on (LoadCode n h) may j inside = loaded j (code_index n)
-  versions_on (ClaimRequest id q) may j inside = other j (request_index p q) (word_after (ClaimRequest id q) (get_or c.words (request_index p q) 0)) (λ e. omega (arith, e, inside))
-  versions_on (Unconnect q) may j inside = other j (next_index p q) (word_after (Unconnect q) 0) (λ e. omega (arith, e, inside))
-  versions_on (SwapHead n mine) may j inside = other j (head_index n) mine (λ e. omega (arith, e))
-  versions_on (Connect q before) may j inside = other j (next_index p q) before (λ e. omega (arith, e, inside))
-  versions_on (EmptyHead n last) may j inside = other j (head_index n) (word_after (EmptyHead n last) (get_or c.words (head_index n) 0)) (λ e. omega (arith, e))
-  versions_on (ReadNext q) may j inside = loaded j (next_index p q)
-  versions_on (ReverseNext q value) may j inside = other j (next_index p q) value (λ e. omega (arith, e, inside))
-  versions_on (FreeRequest q g) may j inside = other j (request_index p q) (2 * (g + 1)) (λ e. omega (arith, e, inside))
-  versions_on (StorePlace l k n) may j inside = other j (place_index p l) (place_value false k n) (λ e. omega (arith, e, inside))
-  versions_on (DropPlace l k n) may j inside = other j (place_index p l) (place_value true k n) (λ e. omega (arith, e, inside))
-  versions_on _ may j inside = omega arith
+  versions_on (LookWord id) may j inside = let e = ap (λ l. vref_version (get_or l (ref_index j) 0)) (load_leaves p c.words (some (RefOf (socket_id_slot id)))) in omega (arith, e)
+  versions_on call may j inside = let e = ap vref_version (word_stays p c.words v call may (word_after call (found_at c.words (word_of p call))) (RefOf j) inside (omega arith) refl) in omega (arith, e)
 
   -- a life that was made is no later one than the slot's
   pub born_low : (j h : ℕ) → j < p.slots → 0 < count (is_born h) (slot_facts (state c vs) j) → (h ≤ version j) × (h % 2 ≡ 0)

@@ -12,6 +12,7 @@ ghost use Rattle.sock_table.specs.Closed.{AllDone, IsDoneSeat, WordsAre, AreLink
 use crate::table::SockTable;
 use atomic_table::Closed as ClosedTable;
 use sock_io::Out;
+use sock_model::{place_index, ref_index};
 use sock_rule::{LinkHome, RuleTable, SockHome, SockSeat};
 use sock_words::{PlaceWord, Plan, Vref};
 use std::alloc::{AllocError, Global};
@@ -77,11 +78,8 @@ fn read_vrefs<S>(table: &ClosedTable<S, Global>, plan: &Plan, vrefs: &mut Vec<Vr
     ensures words { WordsAre (λ (x : Vref). x.0) ref_index plan.now.slots vrefs.new.items (slots_items table.now.words) }
     ensures sized { length vrefs.new.items ≡ plan.now.slots }
 {
-    let slots = plan.slots as usize;
-    let mut i = 0;
-    while i < slots {
-        vrefs[i] = Vref(table.word(6 * i + 1));
-        i += 1;
+    for slot in 0..plan.slots {
+        vrefs[slot as usize] = Vref(table.word(ref_index(u32::from(slot))));
     }
 }
 
@@ -92,16 +90,9 @@ fn read_places<S>(table: &ClosedTable<S, Global>, plan: &Plan, places: &mut Vec<
     ensures words { WordsAre (λ (x : PlaceWord). x.0) (place_index plan.now) (8 * plan.now.operations) places.new.items (slots_items table.now.words) }
     ensures sized { length places.new.items ≡ 8 * plan.now.operations }
 {
-    let first = 6 * plan.slots as usize
-        + plan.names as usize
-        + plan.operations as usize
-        + plan.requests as usize
-        + plan.requests as usize;
-    let count = 8 * plan.operations as usize;
-    let mut i = 0;
-    while i < count {
-        places[i] = PlaceWord(table.word(first + i));
-        i += 1;
+    let count = 8 * u32::from(plan.operations);
+    for place in 0..count {
+        places[place as usize] = PlaceWord(table.word(place_index(plan, place)));
     }
 }
 

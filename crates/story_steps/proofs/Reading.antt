@@ -7,15 +7,17 @@ use Rattle.seat_programs.specs.brpc_model.specs.Meta.{ResponseMeta}
 use Rattle.seat_programs.specs.brpc_model.specs.Frame.{Frame}
 use Rattle.seat_programs.specs.brpc_model.specs.Stream as streams
 use Rattle.seat_programs.specs.brpc_model.specs.Causes.{HasFault}
+use Rattle.seat_programs.specs.brpc_model.specs.ResponseOutcome.{by_code, outcome_by, ending_of}
 use Rattle.corr_core.specs.Word.{parts, error_of, code_of, attempt_of}
 use Rattle.corr_core.specs.declared.marks.Plan.{Plan as IdPlan}
+use Rattle.corr_core.specs.Versions.{is_early}
 use Rattle.sock_message.specs.Asked.{Asked}
 use Rattle.seat_programs.specs.declared.task.Task.{Task}
 use Rattle.seat_programs.specs.Asides.{Taking, Bytes, Nothing, Closed, call_id, id_slot, id_first}
 use Rattle.seat_programs.specs.Heads.{Version, Reading, Locks, Opens, Reads, Discards, WasGone, WasStale, WasCrowded, WasQueued, HasLocked, Locking, NotThere, Has, Ended}
 use Rattle.seat_programs.specs.Programs.{Program, Rest, Say, Round, NO_SOCKET, address, release, set_failed}
 use Rattle.seat_programs.specs.Posts.{is_stale, post_with, decided}
-use Rattle.seat_programs.specs.Readers.{LIMIT, by_code, outcome_by, ending_of, has_response, slot_in, version_in, is_early, answer, answered, responses, last_of, ended_by, read_on, took_bytes, took, reads_round, discarded, discards_round, opens_round, kept_for, ends_with, posted_last, post_each, thrown_away, read, reader}
+use Rattle.seat_programs.specs.Readers.{LIMIT, has_response, slot_in, version_in, answer, answered, responses, last_of, ended_by, read_on, took_bytes, took, reads_round, discarded, discards_round, opens_round, kept_for, ends_with, posted_last, post_each, thrown_away, read, reader}
 use Rattle.call_stories.specs.Lists.{given}
 use Rattle.call_stories.specs.Scenes.{Birth, Scene, Came, IsResponseTo, WasPosted, HasFaulted, IsOther, of_other, by_compression, WhyEnded}
 use Rattle.call_stories.specs.Says.{Shape, HasShape, Locked, Mark, with_slot, with_owed, with_bytes, IsFree, taken_out, SaidBy, GoesFrom, CameFrom, IsReading, Again, LeavesLock, Leaves'}
@@ -108,9 +110,9 @@ module _ (p : Plan) (q : IdPlan) (clients : List (List Task)) (gives : ℕ → L
 
   answered_says : (w : Scene) (m : Mark) (ids link : ℕ) (f : Frame) (fs kept : List Frame) (k : List Frame → Program) → IsFree m → link < p.links → More w m ids link fs k → (v : Scene) → Later' w v → CameFrom p q clients gives v link f → AllCame v link fs → AreKept v link kept
       → (exit : Locking) (v2 : Scene) (m2 : Mark) → Later' v v2 → SaidBy v2 (answered f kept (λ kept'. responses ids fs kept' k) exit) → LeavesLock p q clients gives m (slot_in f) (Version (version_in f)) exit m2 → Tells v2 m2 (answered f kept (λ kept'. responses ids fs kept' k) exit)
-  answered_says w m ids link f fs kept k free inside more v l one came all (NotThere found) v2 m2 l2 s lv = subst (λ x. Tells v2 x (responses ids fs (cond (is_early (version_in f) found) (kept ++ f ∷ []) kept) k)) (sym lv)
-      (more (cond (is_early (version_in f) found) (kept ++ f ∷ []) kept) m free (again_same p q clients gives m m free refl) v2 (far p q clients gives w v v2 l l2) (came_on v v2 link fs l2 came)
-      (kept_by v2 link kept f (is_early (version_in f) found) (kept_on p q clients gives v v2 l2 link kept all) (one_on v v2 link f l2 one)) s)
+  answered_says w m ids link f fs kept k free inside more v l one came all (NotThere found) v2 m2 l2 s lv = subst (λ x. Tells v2 x (responses ids fs (cond (is_early (version_in f) (parts found)) (kept ++ f ∷ []) kept) k)) (sym lv)
+      (more (cond (is_early (version_in f) (parts found)) (kept ++ f ∷ []) kept) m free (again_same p q clients gives m m free refl) v2 (far p q clients gives w v v2 l l2) (came_on v v2 link fs l2 came)
+      (kept_by v2 link kept f (is_early (version_in f) (parts found)) (kept_on p q clients gives v v2 l2 link kept all) (one_on v v2 link f l2 one)) s)
   answered_says w m ids link f fs kept k free inside more v l one came all (Has word) v2 m2 l2 s lv = subst (λ x. Tells v2 x (answer f (parts word).first (responses ids fs kept k))) (sym lv.2)
       (answer_says v2 (with_slot (Locked (slot_in f) lv.0 lv.1) m) f (parts word).first lv.1 link (responses ids fs kept k) (ap (λ n. Locked (slot_in f) n lv.1) (sym lv.3)) free.1 free.2
       (subst (λ n. n < version_in f) (sym lv.3) lv.4.0) (subst (λ n. version_in f < n + lv.1.range) (sym lv.3) lv.4.1) (one_on v v2 link f l2 one) inside

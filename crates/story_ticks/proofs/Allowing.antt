@@ -10,7 +10,7 @@ use Rattle.seat_programs.specs.Sends.{block}
 use Rattle.seat_programs.specs.Rounds.{round}
 use Rattle.seat_programs.specs.Cores.{Core}
 use Rattle.seat_programs.specs.Ticks.{Moment}
-use Rattle.story_steps.specs.Below.programs_allowed.specs.program_steps.specs.May.{May}
+use Rattle.seat_programs.specs.StepTables.{May}
 use Rattle.story_steps.specs.Below.programs_allowed.specs.program_steps.specs.GoesOn.{GoesOn}
 use Rattle.story_steps.specs.Below.programs_allowed.specs.program_steps.specs.Sound.{Sound, first_step}
 use Rattle.story_steps.specs.Below.programs_allowed.specs.program_steps.proofs.Cases as cases

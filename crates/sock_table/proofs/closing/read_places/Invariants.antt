@@ -1,12 +1,9 @@
-use Rattle.std.proofs.Common.{◌≡◌, ◌-◌, length}
+use Rattle.std.proofs.Common.{◌≡◌, length}
 use Rattle.std.specs.Mem.Slots.{slots_items}
 use Rattle.sock_words.specs.declared.place_word.PlaceWord.{PlaceWord}
 use Rattle.sock_model.specs.Layout.{place_index}
 use Rattle.sock_table.specs.Closed.{WordsAre}
 use Rattle.sock_table.proofs.closing.read_places.Given as goal
 
-abbrev pub invariant-loop-i : goal.invariant-loop-i
-invariant-loop-i g l = (length l.places.items ≡ l.count) × WordsAre (λ (x : PlaceWord). x.0) (place_index l.plan) l.i l.places.items (slots_items l.table.words)
-
-abbrev pub decreases-loop-i : goal.decreases-loop-i
-decreases-loop-i g l = l.count - l.i
+abbrev pub invariant-loop-place : goal.invariant-loop-place
+invariant-loop-place g l = (length l.places.items ≡ l.count) × WordsAre (λ (x : PlaceWord). x.0) (place_index l.plan) l.place l.places.items (slots_items l.table.words)

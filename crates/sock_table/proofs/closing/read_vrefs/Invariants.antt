@@ -1,12 +1,9 @@
-use Rattle.std.proofs.Common.{◌≡◌, ◌-◌, length}
+use Rattle.std.proofs.Common.{◌≡◌, length}
 use Rattle.std.specs.Mem.Slots.{slots_items}
 use Rattle.sock_words.specs.declared.vref.Vref.{Vref}
 use Rattle.sock_model.specs.Layout.{ref_index}
 use Rattle.sock_table.specs.Closed.{WordsAre}
 use Rattle.sock_table.proofs.closing.read_vrefs.Given as goal
 
-abbrev pub invariant-loop-i : goal.invariant-loop-i
-invariant-loop-i g l = (length l.vrefs.items ≡ l.slots) × WordsAre (λ (x : Vref). x.0) ref_index l.i l.vrefs.items (slots_items l.table.words)
-
-abbrev pub decreases-loop-i : goal.decreases-loop-i
-decreases-loop-i g l = l.slots - l.i
+abbrev pub invariant-loop-slot : goal.invariant-loop-slot
+invariant-loop-slot g l = (length l.vrefs.items ≡ l.plan.slots) × WordsAre (λ (x : Vref). x.0) ref_index l.slot l.vrefs.items (slots_items l.table.words)

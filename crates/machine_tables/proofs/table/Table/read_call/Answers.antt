@@ -1,6 +1,7 @@
 use Rattle.std.proofs.Common.{refl, arith, ap, ◌∙◌, length, ℕ, List}
 use Rattle.sock_io.specs.Link.{end_of}
-use Rattle.seat_programs.specs.Cores.{word_of, found_at}
+use Rattle.seat_programs.specs.StepTables.{word_of}
+use Rattle.seat_programs.specs.Cores.{found_at}
 use Rattle.call_points.specs.Steps.{after_word}
 use Rattle.seat_states.specs.Steps.{step_of}
 use Rattle.reader_points.specs.declared.point.ReadStep.TheVariants as steps

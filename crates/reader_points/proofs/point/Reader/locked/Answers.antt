@@ -1,7 +1,8 @@
 use Rattle.std.proofs.Common.{◌≡◌, ◌∙◌, true, false, sym, refl, ap}
 use Rattle.seat_programs.specs.Asides.{call_id}
-use Rattle.seat_programs.specs.Readers.{is_early, version_in}
+use Rattle.seat_programs.specs.Readers.{version_in}
 use Rattle.corr_core.specs.Word.{parts}
+use Rattle.corr_core.specs.Versions.{is_early}
 use Rattle.id_points.specs.Ids.{id_of}
 use Rattle.reader_points.specs.declared.point.Behind.TheVariants as behinds
 use Rattle.reader_points.proofs.Going.{answers_as}
@@ -9,12 +10,12 @@ use Rattle.reader_points.proofs.point.Reader.locked.Goals as goal
 
 pub returns-then-comes_early-clause-program : goal.returns-then-comes_early-clause-program
 returns-then-comes_early-clause-program c a is =
-    let e : is_early (version_in a.frame) c.in-NotThere.found.0 ≡ true = sym (c.comes_early.ensures a.frame is) ∙ c.if-comes_early.true in
+    let e : is_early (version_in a.frame) (parts c.in-NotThere.found.0) ≡ true = sym (c.comes_early.ensures a.frame is) ∙ c.if-comes_early.true in
     rw (c.in-NotThere.is, e) refl
 
 pub returns-else-comes_early-clause-program : goal.returns-else-comes_early-clause-program
 returns-else-comes_early-clause-program c a is =
-    let e : is_early (version_in a.frame) c.in-NotThere.found.0 ≡ false = sym (c.comes_early.ensures a.frame is) ∙ c.if-comes_early.false in
+    let e : is_early (version_in a.frame) (parts c.in-NotThere.found.0) ≡ false = sym (c.comes_early.ensures a.frame is) ∙ c.if-comes_early.false in
     rw (c.in-NotThere.is, e) refl
 
 pub returns-in-Has-clause-program : goal.returns-in-Has-clause-program

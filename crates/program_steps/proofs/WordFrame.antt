@@ -1,0 +1,162 @@
+-- A step leaves each word of the table but its own, and a load leaves its own too.
+use Rattle.std.proofs.Common.{◌≡◌, ◌≢◌, ℕ, ◌*◌, ◌<◌, ◌≤◌, Bool, true, false, List, refl, sym, ap, subst, arith, eqb, eq-eqb, true≢false, le-ltb, ◌∙◌, get_or, get_or-set_other}
+use Rattle.std.specs.Prelude.{nat_lt}
+use mathlib.Core.Option.{Option, some, none, some-injective, some-ne-none}
+use lib.Seq.{set-get_or}
+use Rattle.sock_words.specs.declared.plain.Plan.{Plan}
+use Rattle.sock_words.specs.Words.{socket_id_slot}
+use Rattle.sock_model.specs.declared.view.View.{View}
+use Rattle.sock_model.specs.Layout.{all_words}
+use Rattle.seat_programs.specs.Calls.{Call, ClaimSlot, CreateLife, AddRef, SubRef, SetOdd, Recycle, FreeSlot, LookWord, StoreLink, LoadLink, FindLink, ResetHead, ClearCode, StoreCode, LoadCode, StoreName, LoadName, StoreOpen, LoadOpen, SwapHead, EmptyHead}
+use Rattle.seat_programs.specs.TableWords.{TableWord, TagOf, RefOf, LinkOf, HeadOf, CodeOf, NameOf, OpenOf, RequestOf, NextOf, PlaceOf, index_in, index_of, IsIn}
+use Rattle.seat_programs.specs.StepTables.{May, table_word, word_of}
+use Rattle.seat_programs.specs.Cores.{found_at, words_after}
+
+-- ## Two words
+
+-- the sorts of words, 10 of none
+abbrev pub sort_of : TableWord → ℕ
+sort_of (TagOf i) = 0
+sort_of (RefOf i) = 1
+sort_of (LinkOf i) = 2
+sort_of (HeadOf i) = 3
+sort_of (CodeOf i) = 4
+sort_of (NameOf n) = 5
+sort_of (OpenOf o) = 6
+sort_of (RequestOf q) = 7
+sort_of (NextOf q) = 8
+sort_of (PlaceOf l) = 9
+
+abbrev pub sort_in : Option TableWord → ℕ
+sort_in none = 10
+sort_in (some w) = sort_of w
+
+-- those of slots stand first, then those of names and so on
+abbrev pub level_of : TableWord → ℕ
+level_of (NameOf n) = 1
+level_of (OpenOf o) = 2
+level_of (RequestOf q) = 3
+level_of (NextOf q) = 4
+level_of (PlaceOf l) = 5
+level_of other = 0
+
+-- where it stands before those of this level, it is one of the table
+abbrev pub When : Bool → Type 0 → Type 0
+When true says = says
+When false says = Unit {0}
+
+abbrev pub IsBelow : Plan → ℕ → TableWord → Type 0
+IsBelow p n w = When (nat_lt (level_of w) n) (IsIn p w)
+
+-- words at one index are one
+pub same_word : (p : Plan) (w x : TableWord) → IsIn p w → IsBelow p (level_of w) x → index_in p w ≡ index_in p x → w ≡ x
+same_word p (TagOf i) (TagOf j) inside below e = ap TagOf (omega (arith, e))
+same_word p (RefOf i) (RefOf j) inside below e = ap RefOf (omega (arith, e))
+same_word p (LinkOf i) (LinkOf j) inside below e = ap LinkOf (omega (arith, e))
+same_word p (HeadOf i) (HeadOf j) inside below e = ap HeadOf (omega (arith, e))
+same_word p (CodeOf i) (CodeOf j) inside below e = ap CodeOf (omega (arith, e))
+same_word p (NameOf i) (NameOf j) inside below e = ap NameOf (omega (arith, e))
+same_word p (OpenOf i) (OpenOf j) inside below e = ap OpenOf (omega (arith, e))
+same_word p (RequestOf i) (RequestOf j) inside below e = ap RequestOf (omega (arith, e))
+same_word p (NextOf i) (NextOf j) inside below e = ap NextOf (omega (arith, e))
+same_word p (PlaceOf i) (PlaceOf j) inside below e = ap PlaceOf (omega (arith, e))
+same_word p w x inside below e = absurd (omega (arith, e, inside, below))
+
+-- words of other sorts are others
+apart : (w x : TableWord) → eqb (sort_of x) (sort_of w) ≡ false → w ≢ x
+apart w x other e = true≢false (sym (eq-eqb (sort_of x) (sort_of w) (ap sort_of (sym e))) ∙ other)
+
+-- ## A step
+
+module _ (p : Plan) (ws : List ℕ) where
+  -- where it is on another word
+  pub leaves_other : (o : Option TableWord) (v : ℕ) (w : TableWord) → IsIn p w → ((x : TableWord) → o ≡ some x → IsBelow p (level_of w) x × (w ≢ x)) → get_or (words_after ws (index_of p o) v) (index_in p w) 0 ≡ get_or ws (index_in p w) 0
+  leaves_other none v w inside other = refl
+  leaves_other (some x) v w inside other = get_or-set_other ws (index_in p x) (index_in p w) v 0 (λ e. let o = other x refl in o.1 (same_word p w x inside o.0 e))
+
+  -- where its word is of another sort
+  pub leaves : (o : Option TableWord) (v : ℕ) (w : TableWord) → IsIn p w → ((x : TableWord) → o ≡ some x → IsBelow p (level_of w) x) → eqb (sort_in o) (sort_of w) ≡ false → get_or (words_after ws (index_of p o) v) (index_in p w) 0 ≡ get_or ws (index_in p w) 0
+  leaves o v w inside below other = leaves_other o v w inside (λ x e. (below x e, apart w x (subst (λ z. eqb (sort_in z) (sort_of w) ≡ false) e other)))
+
+  -- where it stores what it found
+  pub load_leaves : (o : Option TableWord) → words_after ws (index_of p o) (found_at ws (index_of p o)) ≡ ws
+  load_leaves none = refl
+  load_leaves (some x) = set-get_or ws (index_in p x) 0
+
+-- ## What the view of a seat says of the word
+
+-- a word of a slot, name or operation is one of the table
+abbrev pub AreLow : Plan → Option TableWord → Type 0
+AreLow p none = Unit {0}
+AreLow p (some w) = IsBelow p 3 w
+
+pub low_word : (p : Plan) (v : View) (call : Call) → May p v call → AreLow p (table_word call)
+low_word p v (ClaimSlot i) may = may
+low_word p v (AddRef id) may = may.0.0
+low_word p v (LoadName n) may = may
+low_word p v (LoadOpen o) may = may
+low_word p v (CreateLife i k) may = may.0
+low_word p v (SubRef i) may = may.0
+low_word p v (SetOdd i) may = may.0
+low_word p v (Recycle i from) may = may.0
+low_word p v (FreeSlot i) may = may.0
+low_word p v (LookWord id) may = may.0
+low_word p v (StoreLink i k) may = may.0
+low_word p v (LoadLink i w) may = may.0
+low_word p v (FindLink i h) may = may.0
+low_word p v (ResetHead i k) may = may.0
+low_word p v (ClearCode i k) may = may.0
+low_word p v (StoreCode i h c) may = may.0
+low_word p v (LoadCode i h) may = may.0
+low_word p v (StoreName n w) may = may.0
+low_word p v (StoreOpen o w) may = may.0
+low_word p v (SwapHead i own) may = may.0
+low_word p v (EmptyHead i last) may = may.0
+low_word p v call may = tt
+
+-- ## A word of a slot, a name, an operation or a request
+
+weaken : (b : Bool) (says : Type 0) → says → When b says
+weaken true says is = is
+weaken false says is = tt
+
+-- what is at none of these levels needn't be known
+above : (n k : ℕ) (says : Type 0) → n ≤ k → When (nat_lt k n) says
+above n k says high = subst (λ b. When b says) (sym (le-ltb k n high)) tt
+
+lower : (p : Plan) (n : ℕ) → n ≤ 3 → (w : TableWord) → IsBelow p 3 w → IsBelow p n w
+lower p n few (RequestOf q) low = above n 3 (q < p.requests) few
+lower p n few (NextOf q) low = above n 4 (q < p.requests) (omega (arith, few))
+lower p n few (PlaceOf l) low = above n 5 (l < 8 * p.operations) (omega (arith, few))
+lower p n few w low = weaken (nat_lt (level_of w) n) (IsIn p w) low
+
+low_in : (p : Plan) (n : ℕ) → n ≤ 3 → (o : Option TableWord) → AreLow p o → (x : TableWord) → o ≡ some x → IsBelow p n x
+low_in p n few none low x e = absurd (some-ne-none x (sym e))
+low_in p n few (some w) low x e = subst (λ y. IsBelow p n y) (some-injective w x e) (lower p n few w low)
+
+-- a step that the view allows leaves it, where its own word is of another sort
+pub word_stays : (p : Plan) (ws : List ℕ) (v : View) (call : Call) → May p v call → (stored : ℕ) (w : TableWord) → IsIn p w → level_of w ≤ 3 → eqb (sort_in (table_word call)) (sort_of w) ≡ false
+    → get_or (words_after ws (word_of p call) stored) (index_in p w) 0 ≡ get_or ws (index_in p w) 0
+word_stays p ws v call may stored w inside few other = leaves p ws (table_word call) stored w inside (low_in p (level_of w) few (table_word call) (low_word p v call may)) other
+
+-- ## A word that is one of the table
+
+abbrev pub AreIn : Plan → Option TableWord → Type 0
+AreIn p none = Unit {0}
+AreIn p (some w) = IsIn p w
+
+pub in_table : (p : Plan) (o : Option TableWord) → AreIn p o → (x : ℕ) → index_of p o ≡ some x → x < all_words p
+in_table p none in_ x e = absurd (some-ne-none x (sym e))
+in_table p (some w) in_ x e = subst (λ y. y < all_words p) (some-injective (index_in p w) x e) (index_inside w in_)
+  where
+    index_inside : (w : TableWord) → IsIn p w → index_in p w < all_words p
+    index_inside (TagOf i) inside = omega (arith, inside)
+    index_inside w inside = omega (arith, inside)
+
+-- each other word is left
+pub word_left : (p : Plan) (ws : List ℕ) (o : Option TableWord) → AreIn p o → (stored : ℕ) (w : TableWord) → IsIn p w → eqb (sort_in o) (sort_of w) ≡ false → get_or (words_after ws (index_of p o) stored) (index_in p w) 0 ≡ get_or ws (index_in p w) 0
+word_left p ws o in_ stored w inside other = leaves p ws o stored w inside (below o in_) other
+  where
+    below : (o : Option TableWord) → AreIn p o → (x : TableWord) → o ≡ some x → IsBelow p (level_of w) x
+    below none in_ x e = absurd (some-ne-none x (sym e))
+    below (some y) in_ x e = subst (IsBelow p (level_of w)) (some-injective y x e) (weaken (nat_lt (level_of y) (level_of w)) (IsIn p y) in_)

@@ -1,0 +1,31 @@
+-- The moves of messages into their homes and out of them, M1 and M2: what the view of the seat says before each, and the view behind it.
+use Rattle.std.specs.Prelude.{ℕ, ◌≢◌, ◌*◌, ◌<◌, true, List, []}
+use Rattle.sock_model.specs.sock_words.specs.declared.plain.Plan.{Plan}
+use Rattle.sock_model.specs.declared.chain.Claim.{Claim}
+use Rattle.sock_model.specs.declared.chain.Heading.{Heading}
+use Rattle.sock_model.specs.declared.view.View.{View}
+use Rattle.sock_model.specs.declared.view.Hand.{Hand}
+use Rattle.sock_model.specs.ChainRows.{with_claim, with_right, taken_right}
+use Rattle.seat_programs.specs.Calls.{Call, PutMessage}
+use Rattle.seat_programs.specs.StepViews.{Claims, by_claim, by_right}
+
+-- ## Before a step
+
+-- what the view of the seat says before a step, so that the rule allows it
+abbrev pub MessageMay : Plan → View → Call → Type 0
+MessageMay p v (PutMessage q heading bytes) = (q < p.requests) × Claims v q × (heading.place < 8 * p.operations) × (bytes ≢ [])
+MessageMay p v other = Unit {0}
+
+-- ## Behind a step
+
+abbrev pub filled_claim : Claim → Heading → List ℕ → Claim
+filled_claim c heading bytes = record c { filled = true; heading = heading; bytes = bytes }
+
+-- the message is in hand, the link is in hand or home again, and the link took so many bytes more
+abbrev pub took_message : Heading → List ℕ → View → View
+took_message heading bytes v = by_right v.rights (λ r. with_right v (taken_right r heading bytes)) v
+
+-- the view behind a step that found this word, and this link at home
+abbrev pub message_row : Plan → Call → ℕ → Hand → View → View
+message_row p (PutMessage q heading bytes) found hand v = by_claim v.claims (λ c. with_claim v (filled_claim c heading bytes)) v
+message_row p other found hand v = v

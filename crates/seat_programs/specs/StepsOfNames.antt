@@ -1,0 +1,69 @@
+-- The steps on the words of names and of operations, S6 and S7: the word of each, what it stores, what the view of the seat says before it, what
+-- it may find, and the view behind it.
+use Rattle.std.specs.Prelude.{ℕ, ◌≡◌, ◌≢◌, ◌-◌, ◌<◌, ◌⊎◌, ◌==◌, ◌||◌, Bool, not, nat_lt, IsTrue, if◌then◌else◌}
+use mathlib.Core.Option.{Option, none, some}
+use Rattle.sock_model.specs.sock_words.specs.declared.plain.Plan.{Plan}
+use Rattle.sock_model.specs.sock_words.specs.Words.{socket_id_version, socket_id_slot}
+use Rattle.sock_model.specs.declared.view.View.{View}
+use Rattle.sock_model.specs.declared.view.Hand.{Hand}
+use Rattle.sock_model.specs.Layout.{name_index, open_index}
+use Rattle.sock_model.specs.SlotRows.{met, wrote}
+use Rattle.seat_programs.specs.Programs.{NO_SOCKET}
+use Rattle.seat_programs.specs.TableWords.{TableWord, NameOf, OpenOf}
+use Rattle.seat_programs.specs.Calls.{Call, StoreName, LoadName, StoreOpen, LoadOpen}
+use Rattle.seat_programs.specs.StepViews.{Knows}
+
+-- ## The word
+
+-- the word that a step reads or changes
+abbrev pub name_word : Call → Option TableWord
+name_word (StoreName n w) = some (NameOf n)
+name_word (LoadName n) = some (NameOf n)
+name_word (StoreOpen o w) = some (OpenOf o)
+name_word (LoadOpen o) = some (OpenOf o)
+name_word other = none
+
+-- the word behind a step that found this one
+abbrev pub name_after : Call → ℕ → ℕ
+name_after (StoreName n w) found = w
+name_after (StoreOpen o w) found = w
+name_after other found = found
+
+-- ## Before a step
+
+-- what the view of the seat says before a step, so that the rule allows it
+abbrev pub NameMay : Plan → View → Call → Type 0
+NameMay p v (StoreName n w) = (n < p.names) × IsTrue (nat_lt 0 w) × Knows p v (w - 1)
+NameMay p v (LoadName n) = n < p.names
+NameMay p v (StoreOpen o w) = (o < p.operations) × ((w ≡ NO_SOCKET) ⊎ (IsTrue (nat_lt 0 w) × Knows p v (w - 1)))
+NameMay p v (LoadOpen o) = o < p.operations
+NameMay p v other = Unit {0}
+
+-- ## What is found
+
+-- the word of a name, or of an `open`, is the id of a life
+abbrev pub is_id : ℕ → Bool
+is_id word = not ((word == 0) || (word == NO_SOCKET))
+
+abbrev pub FindsId : Plan → ℕ → Type 0
+FindsId p found = IsTrue (is_id found) → socket_id_slot (found - 1) < p.slots
+
+-- what a step may find
+abbrev pub NameFinds : Plan → View → Call → ℕ → Hand → Type 0
+NameFinds p v (LoadName n) found hand = FindsId p found × (found ≢ NO_SOCKET)
+NameFinds p v (LoadOpen o) found hand = FindsId p found
+NameFinds p v other found hand = Unit {0}
+
+-- ## Behind a step
+
+-- a life whose id was found may be addressed
+abbrev pub found_id : ℕ → View → View
+found_id word v = if is_id word then met (socket_id_slot (word - 1)) (socket_id_version (word - 1)) v else v
+
+-- the view behind a step that found this word, and this link at home
+abbrev pub name_row : Plan → Call → ℕ → Hand → View → View
+name_row p (StoreName n w) found hand v = wrote (name_index p n) w v
+name_row p (LoadName n) found hand v = found_id found v
+name_row p (StoreOpen o w) found hand v = wrote (open_index p o) w v
+name_row p (LoadOpen o) found hand v = found_id found v
+name_row p other found hand v = v

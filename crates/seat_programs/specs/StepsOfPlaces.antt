@@ -1,0 +1,62 @@
+-- The steps that note where a message has its place, P1: the word of each, what it stores, what the view of the seat says before it, and the view
+-- behind it.
+use Rattle.std.specs.Prelude.{ℕ, ◌≡◌, ◌+◌, ◌<◌, true, false, [], ◌∷◌, ◌++◌, length, take}
+use mathlib.Core.Option.{Option, none, some}
+use Rattle.sock_model.specs.sock_words.specs.declared.plain.Plan.{Plan}
+use Rattle.sock_model.specs.declared.chain.Right.{Right}
+use Rattle.sock_model.specs.declared.chain.Stage.{Stage}
+use Rattle.sock_model.specs.declared.chain.Stage.TheVariants.{Writes}
+use Rattle.sock_model.specs.declared.view.View.{View}
+use Rattle.sock_model.specs.declared.view.Hand.{Hand}
+use Rattle.sock_model.specs.Deliveries.{place_value}
+use Rattle.sock_model.specs.Weights.{is_saw}
+use Rattle.sock_model.specs.SlotRows.{marks_of}
+use Rattle.sock_model.specs.ChainRows.{with_right, placed_right, dropped_right}
+use Rattle.sock_model.specs.Links.{HoldsLink}
+use Rattle.sock_model.specs.Conditions.{MayPlace, MayDrop}
+use Rattle.seat_programs.specs.TableWords.{TableWord, PlaceOf}
+use Rattle.seat_programs.specs.Calls.{Call, StorePlace, DropPlace}
+use Rattle.seat_programs.specs.StepViews.{by_right, settled}
+
+-- ## The word
+
+-- the word that a step reads or changes
+abbrev pub place_word : Call → Option TableWord
+place_word (StorePlace l k n) = some (PlaceOf l)
+place_word (DropPlace l k n) = some (PlaceOf l)
+place_word other = none
+
+-- the word behind a step that found this one
+abbrev pub place_after : Call → ℕ → ℕ
+place_after (StorePlace l k n) found = place_value false k n
+place_after (DropPlace l k n) found = place_value true k n
+place_after other found = found
+
+-- ## Before a step
+
+-- it found the life of the link failed
+abbrev pub FoundFailed : Plan → View → ℕ → Type 0
+FoundFailed p v k = (i h : ℕ) × HoldsLink p v i h k × (0 < marks_of (is_saw (h + 1)) i v)
+
+-- what the view of the seat says before a step, so that the rule allows it
+abbrev pub PlaceMay : Plan → View → Call → Type 0
+PlaceMay p v (StorePlace l k n) = (x : MayPlace p v) × (v.rights ≡ x.mine.right ∷ []) × (l ≡ x.mine.right.heading.place) × (k ≡ x.mine.right.link) × (n ≡ x.mine.right.places) × (x.mine.right.put ≡ length x.mine.right.bytes)
+PlaceMay p v (DropPlace l k n) = (x : MayDrop p v) × (v.rights ≡ x.mine.right ∷ []) × (l ≡ x.mine.right.heading.place) × (k ≡ x.mine.right.link) × (n ≡ x.mine.right.places)
+    × (x.sent ≡ x.mine.right.sent ++ take x.mine.right.put x.mine.right.bytes) × FoundFailed p v x.mine.right.link
+PlaceMay p v other = Unit {0}
+
+-- ## Behind a step
+
+abbrev pub placed_next : View → Right → Stage → View
+placed_next v r (Writes now) = with_right v (settled (placed_right r now))
+placed_next v r other = v
+
+abbrev pub dropped_next : View → Right → Stage → View
+dropped_next v r (Writes now) = with_right v (settled (dropped_right r now (r.sent ++ take r.put r.bytes)))
+dropped_next v r other = v
+
+-- the view behind a step that found this word, and this link at home
+abbrev pub place_row : Plan → Call → ℕ → Hand → View → View
+place_row p (StorePlace l k n) found hand v = by_right v.rights (λ r. placed_next v r r.stage) v
+place_row p (DropPlace l k n) found hand v = by_right v.rights (λ r. dropped_next v r r.stage) v
+place_row p other found hand v = v
