@@ -93,7 +93,6 @@ module _ (script : List Item) (made : AreMade script) (turns : List Turn) (core 
     pub refused_of_seat : (j : ℕ) (x : Post) → In x (shows_in_run script turns core is (posted_by j)) → WhyPosted j x
     refused_of_seat j x at = ⊎_elim early late (kinds_of_seat script made turns core is closes ids labelled would j x at)
       where
-
         early : KindOfPost script made turns core is closes ids labelled would (DidEarly script turns core is) j x → WhyPosted j x
         early (ByReader n high e) = PostedByReader n high e
         early (ByExpiry low e) = PostedByExpiry low e
