@@ -15,8 +15,6 @@ use Rattle.seat_programs.specs.Ticks.{Moment, IsAnswered, ticked}
 use Rattle.seat_programs.specs.StepTables.{May}
 use Rattle.outcome_causes.specs.program_steps.specs.Sound.{Sound, IsFitting}
 use Rattle.outcome_causes.specs.program_steps.proofs.Cases.{tick_keeps_marks}
-use Rattle.outcome_causes.specs.program_steps.proofs.Rounds.{begins_round}
-use Rattle.outcome_causes.specs.program_steps.proofs.Passes.{goes_round}
 
 no_right : (rs : List Right) (r : Right) → rs ≡ [] → rs ≡ r ∷ [] → ⊥
 no_right rs r a b = let z : [] ≡ r ∷ [] = sym a ∙ b in cc
@@ -58,6 +56,6 @@ places_same p ws v l low none_ _ may = refl
 -- its tick
 pub places_ticks : (p : Plan) (l : ℕ) → l < 8 * p.operations → (c : Core) (vs : List View) (m : Moment) → Sound p c vs → IsAnswered c m → IsFitting p c m → ((v : View) → get_elem? vs m.seat ≡ some v → v.rights ≡ [])
     → get_or (ticked p c m).words (place_index p l) 0 ≡ get_or c.words (place_index p l) 0
-places_ticks p l low c vs m sound answered fitting none_ = tick_keeps_marks p c vs m sound answered fitting (begins_round p) (goes_round p) (λ d ws. get_or d.words (place_index p l) 0 ≡ get_or c.words (place_index p l) 0) refl
+places_ticks p l low c vs m sound answered fitting none_ = tick_keeps_marks p c vs m sound answered fitting (λ d ws. get_or d.words (place_index p l) 0 ≡ get_or c.words (place_index p l) 0) refl
     (λ seat v call next at_seat at_view is goes. places_same p c.words v l low (none_ v at_view) call goes.0)
     (λ seat v program rights hand hs a at_seat at_view comes. refl)

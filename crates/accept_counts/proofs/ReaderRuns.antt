@@ -21,8 +21,9 @@ use Rattle.seat_programs.specs.Cores.{Core, SeatState}
 use Rattle.seat_programs.specs.Runs.{IsAtRest}
 use Rattle.seat_programs.specs.Ticks.{Moment, IsAnswered, AreAnswered, ticked, run}
 use Rattle.outcome_causes.specs.program_steps.specs.Sound.{state, Sound, IsAhead, IsFitting, AreFitting, views_after, views_along}
-use Rattle.outcome_causes.specs.sock_runs.proofs.Along.{seat_rests, place_inside, ticked_ahead}
+use Rattle.outcome_causes.specs.sock_runs.proofs.Along.{seat_rests, ticked_ahead}
 use Rattle.outcome_causes.specs.program_steps.proofs.Bounds.{law, lives_le}
+use Rattle.outcome_causes.specs.program_steps.proofs.Cases.{elem_there}
 use Rattle.outcome_causes.specs.program_walks.proofs.LinksOpening.{OpensLink}
 use Rattle.outcome_causes.specs.sock_runs.proofs.LinkTicks.{RetriesGo}
 use Rattle.outcome_causes.specs.sock_runs.proofs.Quiets.{ticked_seats, ticked_rests}
@@ -37,6 +38,7 @@ use Rattle.run_theorems.specs.Heard.{taken_link}
 use Rattle.accept_counts.proofs.Closers.{Ends, Calm, sets_odd}
 use Rattle.accept_counts.proofs.Readings.{found_by, State, HasReader, takes_own, reader_ticks}
 use Rattle.accept_counts.proofs.Takeless.{TakesNone, none_taken, run_takes}
+use Rattle.corr_core.proofs.Notes.{at_length}
 
 -- the link of the life that a seat holds is the one to which the word of its `open` belongs
 pub link_of : (p : Plan) (os : List ℕ) (c : Core) (vs : List View) → Sound p c vs → Named p (OpensLink os) c vs → (o id : ℕ) → o < p.operations → get_or c.words (open_index p o) 0 ≡ id + 1 → get_or c.words (open_index p o) 0 ≢ NO_SOCKET
@@ -73,10 +75,10 @@ module _ (p : Plan) (calls os : List ℕ) (in_os : (k o : ℕ) → get_elem? os 
   ReaderOf j = (n : ℕ) × (o : ℕ) × (j ≡ 32 + n) × (get_elem? os n ≡ some o)
 
   pub reader_of : (c : Core) (vs : List View) (taken : ℕ → List Taking) → Keeps c vs taken → (j : ℕ) (seat : SeatState) → get_elem? c.seats j ≡ some seat → 32 ≤ j → ReaderOf j
-  reader_of c vs taken k j seat at high = let many = k.many in let x = at_some os (j - 32) (let l = place_inside c.seats j seat at in omega (arith, l, many, high)) in (j - 32, x.0, omega (arith, high), x.1)
+  reader_of c vs taken k j seat at high = let many = k.many in let x = at_some os (j - 32) (let l = at_length c.seats j seat at in omega (arith, l, many, high)) in (j - 32, x.0, omega (arith, high), x.1)
 
   pub view_at : (c : Core) (vs : List View) → Sound p c vs → (j : ℕ) (seat : SeatState) → get_elem? c.seats j ≡ some seat → (v : View) × (get_elem? vs j ≡ some v)
-  view_at c vs sound j seat at = at_some vs j (let l = place_inside c.seats j seat at in let e = sound.each in omega (arith, l, e))
+  view_at c vs sound j seat at = elem_there c.seats vs j seat sound.each at
 
   pub state_at : (c : Core) (vs : List View) (taken : ℕ → List Taking) → Keeps c vs taken → (j : ℕ) (seat : SeatState) (v : View) → get_elem? c.seats j ≡ some seat → get_elem? vs j ≡ some v → (r : ReaderOf j)
       → State p calls r.0 r.1 (in_os r.0 r.1 r.3) Odd Lasts (ends r.0) (get_or c.words (open_index p r.1) 0) (taken r.0) seat.program v

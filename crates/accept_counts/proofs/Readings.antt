@@ -41,10 +41,7 @@ use Rattle.outcome_causes.specs.program_steps.proofs.Leaves.{claim_way}
 use Rattle.outcome_causes.specs.sock_runs.proofs.LinkTicks.{RetriesGo}
 use Rattle.outcome_causes.specs.program_walks.proofs.Recorded.{Recorded}
 use Rattle.outcome_causes.specs.program_walks.proofs.OpensStay.{run_word}
-use Rattle.outcome_causes.specs.program_steps.proofs.Cases.{beside, tick_keeps_marks}
-use Rattle.outcome_causes.specs.program_steps.proofs.Rounds.{begins_round}
-use Rattle.outcome_causes.specs.program_steps.proofs.Passes.{goes_round}
-use Rattle.call_causes.specs.Below.outcome_stories.proofs.Cases.{tick_cases}
+use Rattle.outcome_causes.specs.program_steps.proofs.Cases.{beside, tick_keeps_marks, tick_cases, ticks_first, views_first}
 use Rattle.run_theorems.specs.Heard.{taken_link, taken_at, as_taken}
 use Rattle.accept_counts.proofs.Closers.{Ends, Calm, IsCalmCall, IsNoTake, calm_first, calm_next, begins_calm, calm_step, calm_aside}
 
@@ -117,17 +114,6 @@ other_first _ none_ = tt
 other_step : (s : Step) (next : Found s → Program) → IsOther (Aside s next) → (k id : ℕ) (Odd : List Taking → Type 0) (Lasts : Type 0) → IsNoTake k id Odd Lasts s
 other_step (TakeBytes k room) next x l id Odd Lasts = absurd x
 other_step s next x l id Odd Lasts = tt
-
--- a tick is the first step of what its seat is at
-pub ticks_first : (p : Plan) (i : ℕ) (seat : SeatState) (c : Core) (answer : Answer) (program : Program) → tick_with p i seat c answer program ≡ step_with p i seat c answer (first_step program)
-ticks_first p i seat c answer (Write w after) = refl
-ticks_first p i seat c answer (Round head next) = refl
-ticks_first p i seat c answer program = refl
-
-pub views_first : (p : Plan) (i : ℕ) (c : Core) (vs : List View) (v : View) (answer : Answer) (program : Program) → views_of p i c vs v answer program ≡ views_with p i c vs v answer (first_step program)
-views_first p i c vs v answer (Write w after) = refl
-views_first p i c vs v answer (Round head next) = refl
-views_first p i c vs v answer program = refl
 
 -- ## Readers
 
@@ -295,7 +281,7 @@ module _ (p : Plan) (calls : List ℕ) (n o : ℕ) (inside : o < p.operations) (
 
     -- of another seat
     other_tick : (m.seat ≡ 32 + n → ⊥) → Old h (ticked p c m) (views_after p c vs m)
-    other_tick far = tick_keeps_marks p c vs m sound answered fitting (begins_round p) (goes_round p) (Old h) before
+    other_tick far = tick_keeps_marks p c vs m sound answered fitting (Old h) before
         (λ seat v call next at_seat at_view is goes s u at at_u. ⊎_elim (λ a. absurd (far (sym a.0))) (λ a. ⊎_elim (λ b. absurd (far (sym b.0))) (λ b. before s u a.1 b.1) (at_set vs m.seat (32 + n) _ u at_u)) (at_set c.seats m.seat (32 + n) _ s at))
         (λ seat v program rights hand hs a at_seat at_view comes s u at at_u. ⊎_elim (λ a. absurd (far (sym a.0))) (λ a. ⊎_elim (λ b. absurd (far (sym b.0))) (λ b. before s u a.1 b.1) (at_set vs m.seat (32 + n) _ u at_u)) (at_set c.seats m.seat (32 + n) _ s at))
 
@@ -321,8 +307,8 @@ module _ (p : Plan) (calls : List ℕ) (n o : ℕ) (inside : o < p.operations) (
       quiet_tick : Old h (ticked p c m) (views_after p c vs m)
       quiet_tick = tick_cases p c vs m sound answered (Old h) before
           (λ seat v call next at here is goes. set_both _ _ (own_call h c seat.program v (waiting_at c.calls.waiting m.seat) _ (state_of seat v at here) call next is))
-          (λ seat v q next heading bytes at here is goes. absurd (never seat v (TakeMessage q next) at here is))
-          (λ seat v k next x at here is goes. absurd (never seat v (TakeHome k next) at here is))
+          (λ seat v q next heading bytes at here is goes lies. absurd (never seat v (TakeMessage q next) at here is))
+          (λ seat v k next took x at here is goes lies. absurd (never seat v (TakeHome k next) at here is))
           (λ seat v k x after at here is goes. absurd (never seat v (PutHome k x after) at here is))
           (λ seat v k asked bytes next answer at here is goes a f. absurd (never seat v (PutBytes k asked bytes next) at here is))
           (λ seat v k next answer at here is goes a. absurd (never seat v (AskReady k next) at here is))

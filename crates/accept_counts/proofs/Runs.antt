@@ -3,7 +3,7 @@ use Rattle.std.proofs.Common.{◌≡◌, ℕ, zero, suc, ◌+◌, ◌≤◌, Lis
 use Rattle.std.specs.List.{AllByRecursion}
 use Rattle.std.proofs.lemmas.List.{length-map}
 use Rattle.std.proofs.Common.{length-set}
-use mathlib.Core.Option.{some, some-ne-none}
+use mathlib.Core.Option.{some}
 use lib.ListN.{get_elem?}
 use Rattle.atomic_table.proofs.Lists.{set_again}
 use Rattle.sock_words.specs.declared.plain.Plan.{Plan}
@@ -15,14 +15,12 @@ use Rattle.corr_core.specs.declared.marks.Plan.{Plan as IdPlan}
 use Rattle.call_causes.specs.Below.id_runs.specs.Held.{IdView}
 use Rattle.call_causes.specs.Below.id_runs.specs.Goes.{SoundIds}
 use Rattle.sock_message.specs.Asked.{Asked}
-use Rattle.seat_programs.specs.Beside.{call_at}
 use Rattle.seat_programs.specs.declared.task.Op.{Op}
 use Rattle.seat_programs.specs.declared.task.Op.TheVariants as ops
 use Rattle.call_causes.specs.Below.outcome_stories.specs.Stories.{In}
 use Rattle.call_causes.specs.Below.outcome_stories.proofs.Members.{all_in, all_of}
 use Rattle.outcome_causes.proofs.Messages.{in_of_at}
 use Rattle.accept_counts.proofs.Beginnings.{all_begin}
-use Rattle.call_causes.specs.Below.outcome_stories.proofs.HomeCalls.{none_asked}
 use Rattle.seat_programs.specs.declared.task.Sizes.{Sizes}
 use Rattle.seat_programs.specs.declared.task.Task.{Task}
 use Rattle.seat_programs.specs.Programs.{Program, Say, Sent, Keep, Retries}
@@ -33,6 +31,7 @@ use Rattle.seat_programs.specs.Tasks.{opens, calls, plan_of, id_plan_of}
 use Rattle.seat_programs.specs.Scripts.{sizes_of, programs, readers_from, all_programs, all_tasks, beginning, opened, set_up, is_ending, IsRunWithCalls}
 use Rattle.seat_programs.specs.Told.{AreTasks}
 use Rattle.outcome_causes.specs.program_steps.specs.Sound.{Sound, AreFitting, views_after, views_along}
+use Rattle.outcome_causes.specs.program_steps.proofs.Cases.{elem_there}
 use Rattle.outcome_causes.specs.sock_runs.proofs.LinkTicks.{RetriesGo}
 use Rattle.outcome_causes.specs.sock_runs.proofs.Ticks.{sound_ticks}
 use Rattle.outcome_causes.specs.program_walks.proofs.Opening.{mapped}
@@ -43,7 +42,7 @@ use Rattle.label_runs.proofs.Programs.{client_goes, ending_goes, reader_goes}
 use Rattle.call_causes.specs.Below.outcome_stories.specs.PlainTasks.{told_tasks_of, OwnsCall}
 use Rattle.outcome_causes.proofs.Final.{at_there}
 use Rattle.outcome_causes.proofs.Scripts.{own_from, seats, closing_told}
-use Rattle.outcome_causes.specs.outcome_ticks.proofs.Ticks.{elem_there}
+use Rattle.outcome_causes.proofs.Begin.{no_call}
 use Rattle.accept_counts.specs.Counts.{of_trial, of_retry, of_claim, of_entry, of_view, times_of, ClaimFits, EntryFits, TrialFits, LabelLaw, AreLabelled}
 use Rattle.accept_counts.proofs.Ticks.{moves, label_ticks}
 
@@ -51,11 +50,6 @@ use Rattle.accept_counts.proofs.Ticks.{moves, label_ticks}
 pub none_waits : (id n m : ℕ) → total (total (of_retry id n)) (replicate m []) ≡ 0
 none_waits id n zero = refl
 none_waits id n (suc m) = let r = none_waits id n m in omega (arith, r)
-
-pub none_home : (n k : ℕ) (asked : Asked) → call_at (get_elem? (replicate n (some none_asked)) k) ≡ some asked → ⊥
-none_home zero k asked e = some-ne-none asked (sym e)
-none_home (suc n) zero asked e = some-ne-none asked (sym e)
-none_home (suc n) (suc k) asked e = none_home n k asked e
 
 module _ (p : Plan) (q : IdPlan) (narrow : q.slots ≤ 65536) (is_call : Asked → Type 0) (ids : ℕ → ℕ) where
   abbrev pub Lawful_ : Core → List View → Type 0
@@ -108,7 +102,7 @@ module _ (p : Plan) (q : IdPlan) (narrow : q.slots ≤ 65536) (is_call : Asked �
       made = λ id n some_. absurd (let z = none_at xs vs bare id n in omega (arith, z, some_));
       views = λ j v e. let b = bare j v e in (subst (AllByRecursion (ClaimFits is_call ids p)) (sym b.0) tt, subst (AllByRecursion (AllByRecursion (EntryFits is_call ids p))) (sym b.1) (tt, tt));
       trials = λ j t e. subst (TrialFits ids) (sym (all_idle xs j t e)) tt;
-      calls = λ k asked e. absurd (none_home q.slots k asked e);
+      calls = λ k asked e. absurd (no_call q.slots k asked e);
       each = length-map xs (λ (x : Program). Idle) ∙ sym (length-map xs (λ (x : Program). record { program = next_step (resolved [] x); hand = [] }));
       programs = λ j seat t es et. let x = mapped (λ (x : Program). record { program = next_step (resolved [] x); hand = [] }) xs j seat es in
           subst (λ (s : SeatState). Labels is_call t s.program) x.2 (subst (λ y. Labels is_call y (next_step (resolved [] x.0))) (sym (all_idle xs j t et)) (idle_stays x.0 (goes j x.0 x.1)));

@@ -28,9 +28,7 @@ use Rattle.seat_programs.specs.StepsOfMessages.{took_message}
 use Rattle.seat_programs.specs.StepsOfLinks.{link_away, link_home_again, took_bytes}
 use Rattle.outcome_causes.specs.program_steps.specs.GoesOn.{GoesOn}
 use Rattle.outcome_causes.specs.program_steps.specs.Sound.{Sound, first_step, views_after}
-use Rattle.outcome_causes.specs.program_steps.proofs.Cases.{with_rights, right_rights, put_rights}
-use Rattle.call_causes.specs.Below.outcome_stories.proofs.Cases.{tick_cases}
-use Rattle.outcome_causes.specs.outcome_ticks.proofs.Ticks.{elem_there}
+use Rattle.outcome_causes.specs.program_steps.proofs.Cases.{with_rights, right_rights, put_rights, tick_cases, elem_there}
 
 pub ids_first : (p : Plan) (q : IdPlan) → q.slots ≤ 65536 → (u : IdView) (program : Program) → IdGoesOn p q u program → IdGoesOn p q u (first_step program)
 ids_first p q narrow u (Write w after) g = id_programs.block_goes p q narrow u w after g
@@ -80,9 +78,9 @@ module _ {T : Type 0} (L : T → Program → Type 0) (rest : T) (rests : ComesTo
     → found_in s c.calls (taken m.answer) ≡ some found → P (with_seat m.seat (next found) seat.hand c.words c.homes (record c { calls = calls_after s found c.calls })) vs) where
   pub tick_moves : P (ticked p c m) (views_after p c vs m)
   tick_moves = tick_cases p c vs m sound answered P before step
-      (λ seat v q next heading bytes at here is goes. let w = right_rights v v.rights (λ x. taken_right x heading bytes) in
+      (λ seat v q next heading bytes at here is goes lies. let w = right_rights v v.rights (λ x. taken_right x heading bytes) in
       moves seat v at here (next heading bytes) seat.hand (set c.homes q none) (took_message heading bytes v) w.0 w.1 (rests.message (state seat v at here (TakeMessage q next) is) q next (first seat v at here (TakeMessage q next) is) heading bytes))
-      (λ seat v k next n at here is goes. let w = right_rights v v.rights (λ x. record x { at_home = false }) in
+      (λ seat v k next took n at here is goes lies. let w = right_rights v v.rights (λ x. record x { at_home = false }) in
       moves seat v at here (next n) (lies_at c.homes (link_place p k) ++ seat.hand) (set c.homes (link_place p k) none) (link_away v) w.0 w.1 (rests.home (state seat v at here (TakeHome k next) is) k next (first seat v at here (TakeHome k next) is) n))
       (λ seat v k n after at here is goes. let w = right_rights v v.rights (λ x. record x { at_home = true }) in
       moves seat v at here after (others_of seat.hand) (set c.homes (link_place p k) (first_of (onto_first (with_places n) seat.hand))) (link_home_again v) w.0 w.1 (rests.puts_home (state seat v at here (PutHome k n after) is) k n after (first seat v at here (PutHome k n after) is)))

@@ -8,6 +8,7 @@ use Rattle.seat_programs.specs.brpc_model.specs.Items.{Item}
 use Rattle.seat_programs.specs.brpc_model.specs.Operations.{Turn}
 use Rattle.sock_model.specs.Layout.{open_index}
 use Rattle.corr_core.specs.Word.{Parts}
+use Rattle.corr_core.proofs.Notes.{at_length}
 use Rattle.seat_programs.specs.Asides.{id_first, id_slot}
 use Rattle.seat_programs.specs.Cores.{Core, SeatState}
 use Rattle.seat_programs.specs.Heads.{Head, Exit, Reading, Sought, First, Version, Locks, Joins, Opens, Reads, Discards}
@@ -18,7 +19,7 @@ use Rattle.seat_programs.specs.Scripts.{opened, set_up, played, IsRunWithCalls}
 use Rattle.seat_programs.specs.Tasks.{plan_of, id_plan_of}
 use Rattle.seat_programs.specs.Ticks.{Answer, Moment, IsAlwaysReady, quiet, waits, waits_at, waits_in}
 use Rattle.outcome_causes.specs.program_steps.specs.Sound.{views_along}
-use Rattle.outcome_causes.specs.sock_runs.proofs.Along.{seat_rests, place_inside}
+use Rattle.outcome_causes.specs.sock_runs.proofs.Along.{seat_rests}
 use Rattle.outcome_causes.specs.sock_runs.proofs.Waiting.{StandsAside}
 use Rattle.outcome_causes.specs.program_walks.proofs.Whole.{views_played, rested_ahead}
 use Rattle.call_causes.specs.Below.id_runs.specs.Held.{IdView}
@@ -86,7 +87,7 @@ module _ (script : List Item) (made : AreMade script) (turns : List Turn) (core 
   by_head u seat _ next answer e g waits_ = absurd (true≢false (sym waits_))
 
   pub stands : (j : ℕ) (seat : SeatState) → get_elem? (played script is.setup (is.scheduled ++ is.later)).seats j ≡ some seat → Stands script (played script is.setup (is.scheduled ++ is.later)) seat.program
-  stands j seat at = ⊎_elim (λ rest. resting (rest seat at)) by_wait (waits_aside j (place_inside rested.seats j seat at))
+  stands j seat at = ⊎_elim (λ rest. resting (rest seat at)) by_wait (waits_aside j (at_length rested.seats j seat at))
     where
       by_wait : settled.WaitsAside (plan_of script) rested j → Stands script rested seat.program
       by_wait w = let same : w.0 ≡ seat = some-injective w.0 seat (sym w.1 ∙ at) in let e = ap (λ (s : SeatState). s.program) (sym same) ∙ w.5 in

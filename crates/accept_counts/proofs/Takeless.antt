@@ -25,8 +25,6 @@ use Rattle.outcome_causes.specs.program_steps.specs.AtSteps.{Asks, AtSteps, asks
 use Rattle.outcome_causes.specs.program_steps.specs.Sound.{Sound, first_step, IsFitting, AreFitting, views_after}
 use Rattle.outcome_causes.specs.sock_runs.proofs.LinkTicks.{RetriesGo}
 use Rattle.outcome_causes.specs.program_steps.proofs.Cases.{ComesNext, tick_keeps_marks}
-use Rattle.outcome_causes.specs.program_steps.proofs.Rounds.{begins_round}
-use Rattle.outcome_causes.specs.program_steps.proofs.Passes.{goes_round}
 use Rattle.outcome_causes.specs.sock_runs.proofs.Ticks.{sound_ticks}
 use Rattle.outcome_causes.specs.program_walks.proofs.Through.{PassesPlain, PassesFails, PassesSends, is_plain_aside, by_errors, locked, at_steps_plain, at_steps_sends, through_set_failed, through_fail}
 use Rattle.outcome_causes.specs.program_walks.proofs.ThroughLoops.{through_errors, through_locks, through_joins}
@@ -143,7 +141,7 @@ module _ (J : Type 0) where
 
   module _ (p : Plan) (j : ℕ) where
     takes_ticks : (c : Core) (vs : List View) (m : Moment) → Sound p c vs → IsAnswered c m → IsFitting p c m → TakesNone j c → TakesNone j (ticked p c m)
-    takes_ticks c vs m sound answered fitting before = tick_keeps_marks p c vs m sound answered fitting (begins_round p) (goes_round p) (λ d ws. TakesNone j d) before
+    takes_ticks c vs m sound answered fitting before = tick_keeps_marks p c vs m sound answered fitting (λ d ws. TakesNone j d) before
         (λ seat v call next at_seat at_view is goes s at. ⊎_elim
         (λ a. subst (λ (x : SeatState). NoTakes x.program) a.1 (takes_next _ (next _) (subst NoTakes is (takes_first seat.program (before seat (ap (get_elem? c.seats) a.0 ∙ at_seat))) _)))
         (λ a. before s a.1) (at_set c.seats m.seat j _ s at))

@@ -20,7 +20,7 @@ use Rattle.call_causes.specs.Below.id_runs.specs.Held.{IdView, MayId}
 use Rattle.call_causes.specs.Below.id_runs.specs.Goes.{FitsRetryId, FitsSock, FindsId, SoundIds, FitsFirst, IsFittingIds}
 use Rattle.call_causes.specs.Below.id_runs.specs.Goes as goes
 use Rattle.call_causes.specs.Below.id_runs.proofs.Steps.{finds_ids}
-use Rattle.seat_programs.specs.Asides.{Step, Found, PutCall, MakeId, StoreAt, UnlockId, TakeCall, TakeBytes, Taking, Bytes, call_id, id_slot, id_first}
+use Rattle.seat_programs.specs.Asides.{Step, Found, PutCall, MakeId, StoreAt, UnlockId, TakeCall, Taking, call_id, id_slot, id_first}
 use Rattle.sock_message.specs.Asked.{Asked, frame_of}
 use Rattle.seat_programs.specs.Beside.{found_in, calls_after}
 use Rattle.seat_programs.specs.Calls.{Call, PutMessage}
@@ -32,7 +32,7 @@ use Rattle.seat_programs.specs.Ticks.{Moment, IsAnswered, taken, ticked}
 use Rattle.seat_programs.specs.StepTables.{May}
 use Rattle.seat_programs.specs.StepTables.{row, hand_at}
 use Rattle.outcome_causes.specs.program_steps.specs.Sound.{Sound, first_step, views_after}
-use Rattle.outcome_causes.specs.program_steps.proofs.Cases.{with_rights}
+use Rattle.outcome_causes.specs.program_steps.proofs.Cases.{with_rights, calls_waiting}
 use Rattle.label_runs.specs.Labels.{Trial, Idle, Tries, Sends, IsOfTrial, MayPut, put_behind, Kept, Storing, unlocked_trial, Labels}
 use Rattle.label_runs.proofs.Programs.{labels_round, block_goes, retry_goes}
 use Rattle.accept_counts.specs.Counts.{pair_of, of_trial, of_retry, of_view, times_of, WasMade, WasNow, ViewFits, TrialFits, IsOfCall, LabelLaw, StoresOwn}
@@ -161,11 +161,6 @@ fits_as p c program call next e f = by program e f
     by _ e f = subst (FitsFirst p c) e f
 
 -- ## Retries that wait
-
-pub calls_waiting : (step : Step) (found : Found step) (a : Calls) → (calls_after step found a).waiting ≡ a.waiting
-calls_waiting (TakeBytes k room) (Bytes bytes) a = refl
-calls_waiting (TakeBytes k room) _ a = refl
-calls_waiting _ found a = refl
 
 pub kept_count : (id n : ℕ) (t u : Trial) → Kept t u → of_trial id n u ≤ of_trial id n t
 kept_count id n t u (inl e) = let z : of_trial id n u ≡ of_trial id n t = ap (of_trial id n) e in omega (arith, z)

@@ -11,6 +11,7 @@ use Rattle.seat_programs.specs.Asides.{PutCall, StoreCall, Found, call_id, id_sl
 use Rattle.seat_programs.specs.Cores.{Core, SeatState}
 use Rattle.seat_programs.specs.Programs.{Program, Aside}
 use Rattle.own_decisions.specs.Below.programs_allowed.specs.program_steps.specs.Sound.{first_step}
+use Rattle.own_decisions.specs.Below.programs_allowed.specs.program_steps.proofs.Cases.{elem_there}
 use Rattle.seat_programs.specs.declared.task.Task.{Task}
 use Rattle.own_decisions.specs.Below.call_stories.specs.Posts.{Post}
 use Rattle.own_decisions.specs.Below.call_stories.specs.Scenes.{Birth, Scene, In, IsBorn}
@@ -18,7 +19,6 @@ use Rattle.own_decisions.specs.Below.call_stories.specs.Says.{Mark, Claims, Hold
 use Rattle.own_decisions.specs.Below.call_stories.specs.Stories.{SlotFits, CallStory, HasStory}
 use Rattle.own_decisions.specs.Below.story_steps.proofs.BirthTicks.{two_of, one_call}
 use Rattle.own_decisions.specs.Below.story_steps.proofs.Firsts.{MayFirst, may_first}
-use Rattle.own_decisions.specs.Below.story_ticks.proofs.Ticks.{other_there}
 use Rattle.own_decisions.specs.accept_counts.specs.Counts.{word_of_id}
 
 module _ (q : IdPlan) where
@@ -53,7 +53,7 @@ pub record Facts (q : IdPlan) (c : Core) : Type 0 where
 module _ (p : Plan) (q : IdPlan) (clients : List (List Task)) (gives : ℕ → List ℕ) where
   module _ (w : Scene) (ms : List Mark) (story : CallStory p q clients gives w ms) where
     may_at : (j : ℕ) (seat : SeatState) (program : Program) → get_elem? w.core.seats j ≡ some seat → first_step seat.program ≡ program → (m : Mark) × (get_elem? ms j ≡ some m) × MayFirst p q clients gives w m program
-    may_at j seat program at is = let m = other_there w.core.seats ms j seat story.each at in (m.0, m.1, subst (MayFirst p q clients gives w m.0) is (may_first p q clients gives w m.0 seat.program (story.seats j seat m.0 at m.1)))
+    may_at j seat program at is = let m = elem_there w.core.seats ms j seat story.each at in (m.0, m.1, subst (MayFirst p q clients gives w m.0) is (may_first p q clients gives w m.0 seat.program (story.seats j seat m.0 at m.1)))
 
     storing_birth : (o x j : ℕ) (seat : SeatState) (next : Found (StoreCall o x) → Program) → get_elem? w.core.seats j ≡ some seat → first_step seat.program ≡ Aside (StoreCall o x) next → (b : Birth) × In b w.births × (b.id ≡ x) × (b.asked.operation ≡ o)
     storing_birth o x j seat next at is = let s = may_at j seat (Aside (StoreCall o x) next) at is in let may = s.2 in (may.0, may.9, sym may.8, sym may.7)

@@ -36,12 +36,12 @@ use Rattle.seat_programs.specs.Cores.{Calls, Core, SeatState, found_at, words_af
 use Rattle.seat_programs.specs.StepTables.{word_of, word_after}
 use Rattle.seat_programs.specs.Ticks.{Moment, IsAnswered, fed, with_places, onto_first, taken, ticked}
 use Rattle.own_decisions.specs.Below.programs_allowed.specs.program_steps.specs.Sound.{Sound, first_step}
-use Rattle.own_decisions.specs.Below.outcome_stories.proofs.Cases.{tick_cases}
+use Rattle.own_decisions.specs.Below.programs_allowed.specs.program_steps.proofs.Cases.{tick_cases, calls_waiting}
 use Rattle.own_decisions.specs.Below.label_runs.specs.Labels.{FindsLabel}
 use Rattle.own_decisions.specs.accept_counts.specs.Counts.{word_of_id}
 use Rattle.own_decisions.specs.accept_counts.proofs.Words.{finds_label}
 use Rattle.own_decisions.specs.Below.outcome_stories.proofs.HomeCalls.{AreCalls, PutsAsked, calls_behind}
-use Rattle.own_decisions.specs.accept_counts.proofs.Ticks.{calls_waiting, few_of, fits_as, pairs_set}
+use Rattle.own_decisions.specs.accept_counts.proofs.Ticks.{few_of, fits_as, pairs_set}
 use Rattle.attempted_calls.proofs.AttemptedWords.{Rise, is_new, is_same, is_more, IsMakeAt, risen, Advances}
 use Rattle.attempted_calls.proofs.EndedTrails.{StoresNext, Of, NoCall, Makes, Knows, Trail, lost, Stays, GoesDo, GoesAside, Follows}
 use Rattle.attempted_calls.proofs.EndedNames.{follows_first, resolves}
@@ -297,9 +297,9 @@ module _ (p : Plan) (q : IdPlan) (narrow : q.slots ≤ 65536) (is_call : Asked �
         (λ seat v call next at here is goes. let t = trail_of seat at in let g = first_as seat at (Do call next) is in let found : ℕ = found_at c.words (word_of p call) in let u = g.1 (found_at c.words (word_of p call)) (fits_as p c seat.program call next is (fitting seat at)) in
         beside m.seat seat t.0 at t.1 (next (found_at c.words (word_of p call))) (hand_after p call c.homes seat.hand) (words_after c.words (word_of p call) (word_after call (found_at c.words (word_of p call)))) (homes_after p call seat.hand c.homes) u.0
         (λ o id after e. (let z : Do call next ≡ Aside (StoreCall o id) after = sym is ∙ ap first_step e in cc)) u.2 (of_do m.seat seat t.0 at t.1 call (found_at c.words (word_of p call)) u.0 u.1))
-        (λ seat v r next heading bytes at here is goes. let t = trail_of seat at in
+        (λ seat v r next heading bytes at here is goes lies. let t = trail_of seat at in
         beside m.seat seat t.0 at t.1 (next heading bytes) seat.hand c.words (set c.homes r none) lost (λ o id after e. (let z : TakeMessage r next ≡ Aside (StoreCall o id) after = sym is ∙ ap first_step e in cc)) (first_as seat at (TakeMessage r next) is heading bytes) (λ h. tt))
-        (λ seat v k next n at here is goes. let t = trail_of seat at in
+        (λ seat v k next took n at here is goes lies. let t = trail_of seat at in
         beside m.seat seat t.0 at t.1 (next n) (lies_at c.homes (link_place p k) ++ seat.hand) c.words (set c.homes (link_place p k) none) lost (λ o id after e. (let z : TakeHome k next ≡ Aside (StoreCall o id) after = sym is ∙ ap first_step e in cc)) (first_as seat at (TakeHome k next) is n) (λ h. tt))
         (λ seat v k n after' at here is goes. let t = trail_of seat at in
         beside m.seat seat t.0 at t.1 after' (others_of seat.hand) c.words (set c.homes (link_place p k) (first_of (onto_first (with_places n) seat.hand))) lost (λ o id after e. (let z : PutHome k n after' ≡ Aside (StoreCall o id) after = sym is ∙ ap first_step e in cc)) (first_as seat at (PutHome k n after') is) (λ h. tt))

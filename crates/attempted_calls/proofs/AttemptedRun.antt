@@ -31,12 +31,12 @@ use Rattle.own_decisions.specs.sent_once.proofs.Sends.{owed, orders_of_run, narr
 use Rattle.attempted_calls.proofs.AttemptedIds.{AreRisingIn}
 use Rattle.attempted_calls.proofs.AttemptedCalls.{AreStored}
 use Rattle.attempted_calls.proofs.AttemptedSent.{IsNamedOn, run_attempted}
-use Rattle.own_decisions.specs.sent_once.proofs.DropWhole.{get_same}
 use Rattle.attempted_calls.proofs.EndedNamed.{tasks_are, end_named}
 use Rattle.attempted_calls.proofs.EndedLives.{all_named}
 use Rattle.attempted_calls.proofs.AttemptedStored.{ids_at, stored_run, words_stored}
 use Rattle.own_decisions.specs.accept_counts.proofs.Grounds.{setting, grounds}
 use Rattle.own_decisions.specs.Below.script_facts.proofs.Lists.{all_map}
+use Rattle.own_decisions.specs.Below.owned_ids.proofs.OpensStored.{place_at}
 
 module _ (script : List Item) (made : AreMade script) (there : AreThere script) (range : AllByRecursion InRange script) (turns : List Turn) (core : Core) (is : IsRunWithCalls script turns core) (closes : ClosesInRun script turns core is)
     (ids : ℕ → ℕ) (labelled : AreLabelledIn ids script turns core is) where
@@ -46,7 +46,7 @@ module _ (script : List Item) (made : AreMade script) (there : AreThere script) 
   -- the call of an operation is its task's
   pub one_asked : (a b : Asked) → IsCallOf script a → (c : ℕ) (t : Task) → IsTask (all_tasks script) core.outcomes c t → t.op ≡ ops.Call b → a.operation ≡ t.number → a ≡ b
   one_asked a b of c t it op number = let asks : Asks (all_tasks script) c t = (it.0, it.1, contains_in it.0 t it.2) in
-      let same = (one_task (plan_of script) (all_tasks script) made.are of.0 c of.2 t (of.1, get_same (all_tasks script) of.0 of.1 of.3, of.4) asks (sym of.6 ∙ number)).1 in
+      let same = (one_task (plan_of script) (all_tasks script) made.are of.0 c of.2 t (of.1, place_at (all_tasks script) of.0 of.1 of.3, of.4) asks (sym of.6 ∙ number)).1 in
       let two : ops.Call a ≡ ops.Call b = sym of.5 ∙ (ap (λ (x : Task). x.op) same ∙ op) in cc
 
   -- the link of each attempt is that of a life of its name

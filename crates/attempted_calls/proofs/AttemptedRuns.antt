@@ -21,13 +21,13 @@ use Rattle.seat_programs.specs.Tasks.{opens, calls, plan_of, id_plan_of}
 use Rattle.seat_programs.specs.Scripts.{sizes_of, programs, readers_from, all_programs, all_tasks, opened, set_up, is_ending, IsRunWithCalls}
 use Rattle.seat_programs.specs.Told.{AreTasks}
 use Rattle.own_decisions.specs.Below.programs_allowed.specs.program_steps.specs.Sound.{Sound, AreFitting, views_after, views_along}
+use Rattle.own_decisions.specs.Below.programs_allowed.specs.program_steps.proofs.Cases.{elem_there}
 use Rattle.own_decisions.specs.Below.programs_allowed.specs.sock_runs.proofs.LinkTicks.{RetriesGo}
 use Rattle.own_decisions.specs.Below.programs_allowed.specs.sock_runs.proofs.Ticks.{sound_ticks}
 use Rattle.own_decisions.specs.Below.programs_allowed.specs.program_walks.proofs.Whole.{Begins, AreFittingIn, closing_of, rested_of, views_played, views_closed, views_ended, set_up_answered, end_answered, set_up_sound, closing_sound, closed_sound}
 use Rattle.own_decisions.specs.Below.outcome_stories.specs.PlainTasks.{told_tasks_of}
 use Rattle.own_decisions.specs.Below.outcome_causes.proofs.Final.{at_there}
 use Rattle.own_decisions.specs.Below.outcome_causes.proofs.Scripts.{seats, closing_told}
-use Rattle.own_decisions.specs.Below.outcome_ticks.proofs.Ticks.{elem_there}
 use Rattle.own_decisions.specs.Below.call_stories.specs.Lists.{times, advanced_at, shows_in, attempts_of_run}
 use Rattle.own_decisions.specs.Below.label_runs.specs.Labels.{Trial}
 use Rattle.own_decisions.specs.Below.label_runs.proofs.Programs.{ending_goes}
@@ -36,10 +36,7 @@ use Rattle.own_decisions.specs.accept_counts.proofs.Ticks.{moves, label_ticks}
 use Rattle.own_decisions.specs.accept_counts.proofs.Runs.{AreLabelledIn, IsCallOf, behind_ids, programs_go, begins_labels, asked_by}
 use Rattle.attempted_calls.proofs.AttemptedWords.{Rise, is_new, is_same, is_more}
 use Rattle.attempted_calls.proofs.AttemptedIds.{AdvancesId, AreRising, AreRisingIn}
-
-pub times_append : (o : ℕ) (xs ys : List ℕ) → times o (xs ++ ys) ≡ times o xs + times o ys
-times_append o [] ys = omega arith
-times_append o (x ∷ xs) ys = let z = times_append o xs ys in ap (λ n. cond (eqb x o) 1 0 + n) z ∙ omega arith
+use Rattle.own_decisions.specs.Below.call_causes.proofs.Run.{times_append}
 
 times_one : (o : ℕ) (ns : List ℕ) → ns ≡ o ∷ [] → times o ns ≡ 1
 times_one o ns e = ap (times o) e ∙ ap (λ b. cond b 1 0 + 0) (eq-eqb o o refl)

@@ -45,10 +45,10 @@ use Rattle.own_decisions.specs.sent_once.proofs.Sends.{owed, orders_of_run, narr
 use Rattle.attempted_calls.proofs.AttemptedIds.{AreRisingIn}
 use Rattle.attempted_calls.proofs.AttemptedRuns.{IsWithin, end_counted}
 use Rattle.attempted_calls.proofs.AttemptedCalls.{AreStored, single, shows}
-use Rattle.own_decisions.specs.sent_once.proofs.DropWhole.{get_same}
 use Rattle.own_decisions.proofs.OwnDecisionsTicks.{pair_self}
 use Rattle.own_decisions.specs.accept_counts.proofs.Grounds.{setting, grounds}
 use Rattle.own_decisions.specs.Below.programs_allowed.specs.program_walks.proofs.Recorded.{either_bool}
+use Rattle.own_decisions.specs.Below.owned_ids.proofs.OpensStored.{place_at}
 
 -- ## Accepted messages
 
@@ -117,7 +117,7 @@ module _ (script : List Item) (made : AreMade script) (there : AreThere script) 
         (made_up (all_tasks script) (length (opens script)) core.outcomes s.name k s.slot s.version s.life) s.untold
     lift k a (inr spoken) (inr t) made_ name = absurd (spoken t.0 t.1 t.2 t.3)
     lift k a (inr spoken) (inl x) made_ name = let w = x.1 in let m = made_ spoken in let o = shows script made there range turns core is ids stored closes a.operation m.0 in
-        let task : IsTask (all_tasks script) core.outcomes w.0 w.2 = (w.1, get_same (all_tasks script) w.0 w.1 w.3, in_contains w.1 w.2 w.4) in let number : w.2.number ≡ a.operation = sym w.6 ∙ x.2 in
+        let task : IsTask (all_tasks script) core.outcomes w.0 w.2 = (w.1, place_at (all_tasks script) w.0 w.1 w.3, in_contains w.1 w.2 w.4) in let number : w.2.number ≡ a.operation = sym w.6 ∙ x.2 in
         let life = name spoken w.0 w.2 x.0 task number w.5 in
         OfCall w.0 w.2 x.0 o.0 (ids a.operation) life.0 life.1 task number w.5 o.1 o.2 (few_attempts a.operation a.attempt m.0 m.1) x.4 life.2
 

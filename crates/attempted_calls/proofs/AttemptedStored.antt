@@ -5,7 +5,7 @@ use Rattle.std.proofs.lemmas.List.{get_or_past}
 use mathlib.Core.Logic.{dite}
 use native.Mathlib.Decide.{dec_le}
 use Rattle.sock_words.specs.declared.plain.Plan.{Plan}
-use Rattle.sock_words.specs.Words.{at_word, at_word_first, at_word_slot}
+use Rattle.sock_words.specs.Words.{at_word}
 use Rattle.sock_model.specs.declared.view.View.{View}
 use Rattle.seat_programs.specs.brpc_model.specs.Items.{Item}
 use Rattle.seat_programs.specs.brpc_model.specs.Operations.{Turn}
@@ -25,11 +25,11 @@ use Rattle.seat_programs.specs.Ticks.{Moment, AreAnswered, quiet, ticked, run}
 use Rattle.seat_programs.specs.Tasks.{opens, calls, plan_of, id_plan_of}
 use Rattle.seat_programs.specs.Scripts.{sizes_of, programs, readers_from, all_programs, all_tasks, opened, ending, set_up, played, is_ending, IsRunWithCalls}
 use Rattle.own_decisions.specs.Below.programs_allowed.specs.program_steps.specs.Sound.{IsAhead, AllRest, first_step, views_after, views_along}
+use Rattle.own_decisions.specs.Below.programs_allowed.specs.program_steps.proofs.Cases.{elem_there}
 use Rattle.own_decisions.specs.Below.programs_allowed.specs.sock_runs.proofs.Along.{seat_rests, ticked_ahead}
 use Rattle.own_decisions.specs.Below.programs_allowed.specs.sock_runs.proofs.Quiets.{ticked_rests, run_rests}
 use Rattle.own_decisions.specs.Below.programs_allowed.specs.program_walks.proofs.Whole.{views_played, views_closed, set_up_answered, end_answered}
 use Rattle.own_decisions.specs.Below.outcome_causes.proofs.Final.{at_there}
-use Rattle.own_decisions.specs.Below.outcome_ticks.proofs.Ticks.{elem_there}
 use Rattle.own_decisions.specs.Below.joint_runs.proofs.Both.{BothSound, AreBoth, behind_both}
 use Rattle.own_decisions.specs.Below.joint_runs.proofs.Runs.{AreMade, first_views, joint_runs}
 use Rattle.own_decisions.specs.Below.script_facts.proofs.Reading.{InRange}
@@ -47,11 +47,11 @@ use Rattle.own_decisions.specs.Below.call_causes.proofs.Run.{ending_story, told_
 use Rattle.own_decisions.specs.Below.story_ticks.proofs.RunFacts.{own_leads, run_facts, leadings}
 use Rattle.own_decisions.specs.Below.story_ticks.proofs.Scripts as scripts
 use Rattle.own_decisions.specs.Below.story_ticks.proofs.Ticks.{IsSetUp, story_ticks}
-use Rattle.own_decisions.specs.Below.label_runs.proofs.Loops.{id_back}
 use Rattle.own_decisions.specs.accept_counts.specs.Counts.{word_of_id, StoresOwn, AreLabelled}
 use Rattle.own_decisions.specs.accept_counts.proofs.Early.{start, go, fitting}
 use Rattle.own_decisions.specs.accept_counts.proofs.Runs.{AreLabelledIn, IsCallOf, asked_by}
 use Rattle.own_decisions.specs.sent_once.proofs.Sends.{opening_bare}
+use Rattle.own_decisions.specs.sent_once.proofs.Labelled.{named_id}
 use Rattle.attempted_calls.proofs.AttemptedWords.{Rise, AdvancesAt, is_new, is_same, is_more, tick_rises}
 use Rattle.attempted_calls.proofs.AttemptedIds.{AdvancesId, AreRising, AreRisingIn}
 use Rattle.own_decisions.specs.accept_counts.specs.Refused.{WouldStore, WouldOwn, AllWouldOwn, RunWouldOwn}
@@ -64,13 +64,6 @@ use Rattle.attempted_calls.proofs.AttemptedFacts.{IsStoring, IsOwn, facts}
 use Rattle.attempted_calls.proofs.AttemptedOwn.{IsTrueOf, CallLaw, beside, own_ticks}
 use Rattle.own_decisions.specs.Below.programs_allowed.specs.program_walks.proofs.Opening.{mapped}
 use Rattle.own_decisions.specs.Below.joint_runs.proofs.Starts.{narrow}
-
--- the id that an at word names
-named_id : (id k n w : ℕ) → w ≡ at_word (id_first id) (id_slot id) k n → k < 65535 → n ≤ 6 → id_slot id < 65536 → call_id (at_word_slot w) (at_word_first w) ≡ id
-named_id id k n w is low few small =
-    let s : at_word_slot w ≡ id_slot id = ap at_word_slot is ∙ (let z : at_word_slot (at_word (id_first id) (id_slot id) k n) ≡ id_slot id = omega (arith, small, low, few) in z) in
-    let f : at_word_first w ≡ id_first id = ap at_word_first is ∙ (let z : at_word_first (at_word (id_first id) (id_slot id) k n) ≡ id_first id = omega (arith, small, low, few) in z) in
-    ap (λ x. call_id x (at_word_first w)) s ∙ ap (call_id (id_slot id)) f ∙ id_back id
 
 -- a step on the sockets leaves which call is known, or forgets it
 stays_of : (t u : Trail) → Stays t u → (u.of ≡ t.of) ⊎ (u.of ≡ NoCall)

@@ -22,6 +22,7 @@ use Rattle.seat_programs.specs.Tasks.{opens, calls, plan_of, id_plan_of}
 use Rattle.seat_programs.specs.Scripts.{sizes_of, programs, readers_from, all_programs, all_tasks, beginning, opened, set_up, IsRunWithCalls}
 use Rattle.seat_programs.specs.Told.{AreTasks}
 use Rattle.own_decisions.specs.Below.programs_allowed.specs.program_steps.specs.Sound.{Sound, AreFitting, views_after, views_along}
+use Rattle.own_decisions.specs.Below.programs_allowed.specs.program_steps.proofs.Cases.{elem_there}
 use Rattle.own_decisions.specs.Below.programs_allowed.specs.sock_runs.proofs.LinkTicks.{RetriesGo}
 use Rattle.own_decisions.specs.Below.programs_allowed.specs.program_walks.proofs.Opening.{mapped}
 use Rattle.own_decisions.specs.Below.programs_allowed.specs.sock_runs.proofs.Ticks.{sound_ticks}
@@ -34,7 +35,8 @@ use Rattle.own_decisions.specs.Below.outcome_causes.proofs.Plain.{in_left, in_ri
 use Rattle.own_decisions.specs.Below.outcome_causes.proofs.Openings.{are_seats}
 use Rattle.own_decisions.specs.Below.outcome_causes.proofs.Runs.{IsStoried, set_up_over, is_ending_story}
 use Rattle.own_decisions.specs.Below.outcome_causes.proofs.Scripts.{story_opened, story_closing}
-use Rattle.own_decisions.specs.Below.outcome_ticks.proofs.Ticks.{elem_there, tick_story}
+use Rattle.own_decisions.specs.Below.outcome_causes.proofs.Begin.{no_call}
+use Rattle.own_decisions.specs.Below.outcome_ticks.proofs.Ticks.{tick_story}
 use Rattle.own_decisions.specs.Below.label_runs.proofs.Operations.{OpCalls}
 use Rattle.seat_programs.specs.id_rule.specs.Lawful.{at_index}
 use Rattle.own_decisions.specs.Below.call_stories.specs.Lists.{shows_in}
@@ -43,7 +45,7 @@ use Rattle.own_decisions.specs.accept_counts.proofs.Beginnings.{all_begin}
 use Rattle.own_decisions.specs.accept_counts.specs.Counts.{AreLabelled}
 use Rattle.own_decisions.specs.accept_counts.specs.EndedCalls.{Load, loaded_at, loads_of_run, Store, stored_at, stores_of_run}
 use Rattle.own_decisions.specs.Below.call_stories.proofs.RunTicks.{in_setup, in_clients, in_closing, parts}
-use Rattle.own_decisions.specs.accept_counts.proofs.Runs.{AreLabelledIn, IsCallOf, behind_ids, asked_by, none_home}
+use Rattle.own_decisions.specs.accept_counts.proofs.Runs.{AreLabelledIn, IsCallOf, behind_ids, asked_by}
 use Rattle.attempted_calls.proofs.EndedTrails.{Trail, lost, Follows}
 use Rattle.attempted_calls.proofs.EndedPrograms.{client_goes, ending_goes, reader_goes}
 use Rattle.attempted_calls.proofs.EndedNames.{NameLaw, StoredFor, for_up, lost_true, resolves, moves, name_ticks, tick_loads}
@@ -60,7 +62,7 @@ module _ (p : Plan) (q : IdPlan) (is_call : Asked → Type 0) (seen : List Store
   begins_named xs goes vs bare = record {
     views = λ j v e. let b = bare j v e in (subst (AllByRecursion (Rattle.attempted_calls.proofs.EndedNames.ClaimOver is_call seen es)) (sym b.0) tt, subst (AllByRecursion (AllByRecursion (Rattle.attempted_calls.proofs.EndedNames.EntryOver is_call seen es))) (sym b.1) (tt, tt));
     trails = λ j v t ev et. subst (Rattle.attempted_calls.proofs.EndedNames.IsTrue is_call seen es v) (mapped (λ (x : Program). lost) xs j t et).2 (lost_true is_call seen es v);
-    calls = λ k asked e. absurd (none_home q.slots k asked e);
+    calls = λ k asked e. absurd (no_call q.slots k asked e);
     ats = λ o low some_. absurd (some_ ((let u = unused q in u.rest) (at_index q o) (omega arith)));
     each = length-map xs (λ (x : Program). lost) ∙ sym (length-map xs (λ (x : Program). record { program = next_step (resolved [] x); hand = [] }));
     programs = λ j seat t e et. let x = mapped (λ (x : Program). record { program = next_step (resolved [] x); hand = [] }) xs j seat e in let r = resolves is_call lost [] x.0 tt (goes j x.0 x.1) in

@@ -41,7 +41,7 @@ use Rattle.seat_programs.specs.StepsOfChain.{new_claim, ready_claim, exchanged}
 use Rattle.seat_programs.specs.StepsOfMessages.{filled_claim}
 use Rattle.seat_programs.specs.StepViews.{by_claim}
 use Rattle.own_decisions.specs.Below.programs_allowed.specs.program_steps.specs.Sound.{Sound, first_step, views_after}
-use Rattle.own_decisions.specs.Below.programs_allowed.specs.program_steps.proofs.Cases.{with_rights}
+use Rattle.own_decisions.specs.Below.programs_allowed.specs.program_steps.proofs.Cases.{with_rights, calls_waiting}
 use Rattle.own_decisions.specs.Below.outcome_stories.specs.Causes.{WasGiven}
 use Rattle.own_decisions.specs.Below.outcome_stories.specs.Kept.{Story}
 use Rattle.own_decisions.specs.Below.outcome_stories.specs.Stories.{Event, In, last_name}
@@ -52,7 +52,7 @@ use Rattle.own_decisions.specs.Below.label_runs.specs.Labels.{FindsLabel}
 use Rattle.own_decisions.specs.accept_counts.specs.EndedCalls.{Load, loads_by, loaded_with, loaded_at, Store, stores_by, stored_at}
 use Rattle.own_decisions.specs.accept_counts.proofs.Words.{finds_label, makes_new}
 use Rattle.own_decisions.specs.Below.outcome_stories.proofs.HomeCalls.{AreCalls, PutsAsked, calls_behind}
-use Rattle.own_decisions.specs.accept_counts.proofs.Ticks.{few_more, few_of, calls_waiting, fits_as, pairs_set}
+use Rattle.own_decisions.specs.accept_counts.proofs.Ticks.{few_more, few_of, fits_as, pairs_set}
 use Rattle.own_decisions.specs.Below.story_ticks.proofs.Chains.{AreFewTries as AreTries}
 use Rattle.own_decisions.specs.accept_counts.proofs.Views.{row_same}
 use Rattle.attempted_calls.proofs.EndedTrails.{Of, NoCall, Makes, Knows, Trail, lost, Stays, IsAtOf, IsOwnStore, MayAttempt, GoesDo, GoesAside, Follows}

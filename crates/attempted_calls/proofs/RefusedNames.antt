@@ -14,10 +14,8 @@ use Rattle.seat_programs.specs.Ticks.{Moment, AreAnswered, quiet, ticked, run}
 use Rattle.seat_programs.specs.Told.{AreTasks, Made}
 use Rattle.own_decisions.specs.Below.programs_allowed.specs.program_steps.specs.GoesOn.{GoesOn}
 use Rattle.own_decisions.specs.Below.programs_allowed.specs.program_steps.specs.Sound.{Sound, AllRest, AreFitting, state, views_after, views_along}
-use Rattle.own_decisions.specs.Below.programs_allowed.specs.program_steps.proofs.Cases.{goes_first}
+use Rattle.own_decisions.specs.Below.programs_allowed.specs.program_steps.proofs.Cases.{goes_first, elem_there}
 use Rattle.own_decisions.specs.Below.programs_allowed.specs.sock_runs.proofs.LinkTicks.{RetriesGo}
-use Rattle.own_decisions.specs.Below.programs_allowed.specs.program_steps.proofs.Passes.{goes_round}
-use Rattle.own_decisions.specs.Below.programs_allowed.specs.program_steps.proofs.Rounds.{begins_round}
 use Rattle.own_decisions.specs.Below.programs_allowed.specs.sock_runs.proofs.Ticks.{sound_ticks}
 use Rattle.own_decisions.specs.Below.outcome_stories.specs.Causes.{Asks}
 use Rattle.own_decisions.specs.Below.outcome_stories.specs.Explains.{step}
@@ -28,7 +26,7 @@ use Rattle.own_decisions.specs.Below.outcome_ticks.proofs.Events.{event, cause_o
 use Rattle.own_decisions.specs.Below.outcome_causes.proofs.Final.{final}
 use Rattle.own_decisions.specs.Below.outcome_causes.proofs.Lives.{World, task_of, tells_of}
 use Rattle.own_decisions.specs.Below.outcome_stories.proofs.Members.{from_trace, to_trace}
-use Rattle.own_decisions.specs.Below.outcome_ticks.proofs.Ticks.{elem_there, tick_story}
+use Rattle.own_decisions.specs.Below.outcome_ticks.proofs.Ticks.{tick_story}
 use Rattle.own_decisions.specs.Below.outcome_causes.proofs.Worlds.{world_of}
 use Rattle.own_decisions.specs.accept_counts.specs.Refused.{Deed, DidStep, DidAt, DidIn}
 
@@ -47,7 +45,7 @@ module _ (p : Plan) (cs : List (List Task)) (are : AreTasks p cs) where
   -- what is found in a tick was stored before it
   named_now : (over : Bool) (c : Core) (vs : List View) (es : List Event) (lost : List ℕ) → Sound p c vs → Story p cs over c vs es lost → (m : Moment) (j : ℕ) (d : Deed) → DidAt p c m j d → IsNamed es d
   named_now over c vs es lost sound story m j (DidStep (LoadName n) found) x = λ some_. let v = elem_there c.seats vs j x.1 sound.each x.3 in
-      let g : GoesOn p v.0 (Do (LoadName n) x.2) = subst (GoesOn p v.0) x.4 (goes_first p v.0 (begins_round p v.0) (goes_round p v.0) x.1.program (sound.seats j x.1 v.0 x.3 v.1).goes_on) in
+      let g : GoesOn p v.0 (Do (LoadName n) x.2) = subst (GoesOn p v.0) x.4 (goes_first p v.0 x.1.program (sound.seats j x.1 v.0 x.3 v.1).goes_on) in
       let same = x.5 ∙ story.named n g.0 in let s = last_some es n (λ z. some_ (same ∙ z)) in (s.0, s.1, s.2, subst (λ w. In (event s.0 s.1 (StoreName n w) s.2) es) (sym same) s.3)
   named_now over c vs es lost sound story m j _ x = tt
 

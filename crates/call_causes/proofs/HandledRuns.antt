@@ -14,6 +14,7 @@ use Rattle.seat_programs.specs.Cores.{Core, SeatState}
 use Rattle.seat_programs.specs.Ticks.{Moment, quiet, ticked, run}
 use Rattle.seat_programs.specs.Runs.{IsAtRest}
 use Rattle.story_ticks.specs.Below.programs_allowed.specs.program_steps.specs.Sound.{IsAhead, first_step, views_after}
+use Rattle.story_ticks.specs.Below.programs_allowed.specs.program_steps.proofs.Cases.{elem_there}
 use Rattle.story_ticks.specs.Below.programs_allowed.specs.sock_runs.proofs.Along.{seat_rests, ticked_ahead}
 use Rattle.story_ticks.specs.Below.programs_allowed.specs.sock_runs.proofs.Quiets.{ticked_rests}
 use Rattle.story_ticks.specs.Below.joint_runs.proofs.Both.{BothSound, AreBoth}
@@ -31,7 +32,6 @@ use Rattle.story_ticks.specs.call_stories.proofs.Leading.{run_leads}
 use Rattle.story_ticks.specs.story_steps.proofs.Numbered.{AreNumbered}
 use Rattle.story_ticks.proofs.Claiming.{HaveSlots}
 use Rattle.story_ticks.specs.story_steps.proofs.Firsts.{MayFirst, may_first}
-use Rattle.story_ticks.proofs.Ticks.{other_there}
 use Rattle.call_causes.proofs.Run.{Story, one_tick, in_either}
 use Rattle.call_causes.proofs.Handled.{Sit, Later}
 use Rattle.call_causes.proofs.HandledFacts.{facts}
@@ -56,11 +56,11 @@ module _ (p : Plan) (q : IdPlan) (clients : List (List Task)) (gives : ℕ → L
   of_scene w ms story us ids m = record {
     plan = ids.plan;
     facts = λ seat at step next t found first is.
-        let u = other_there w.core.seats us m.seat seat ids.each at in let mark = other_there w.core.seats ms m.seat seat story.each at in
+        let u = elem_there w.core.seats us m.seat seat ids.each at in let mark = elem_there w.core.seats ms m.seat seat story.each at in
         facts p q clients gives w ms story us ids m.seat u.0 u.1 mark.0 mark.1 step next t (subst (MayFirst p q clients gives w mark.0) first (may_first p q clients gives w mark.0 seat.program (story.seats m.seat seat mark.0 at mark.1)))
         (subst (IdGoesOn p q u.0) first (goes_first u.0 seat.program (ids.seats m.seat seat u.0 at u.1))) found is;
     decides = λ seat at id asked word e next is.
-        let mark = other_there w.core.seats ms m.seat seat story.each at in let says = subst (SaysOn p q clients gives w mark.0) is (story.seats m.seat seat mark.0 at mark.1) in
+        let mark = elem_there w.core.seats ms m.seat seat story.each at in let says = subst (SaysOn p q clients gives w mark.0) is (story.seats m.seat seat mark.0 at mark.1) in
         let held = says.0.0 in let fits = subst (SlotFits q w) held.1 (story.slots.fits m.seat mark.0 mark.1) in
         (fits.3, held.2.0 ∙ sym held.3);
   }

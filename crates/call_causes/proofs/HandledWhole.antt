@@ -58,7 +58,7 @@ each_at P [] all i x at = absurd (some-ne-none x (sym at))
 each_at P (y ∷ ys) all zero x at = subst P (some-injective y x at) all.0
 each_at P (y ∷ ys) all (suc i) x at = each_at P ys all.1 i x at
 
-empty_at : (n k : ℕ) → get_or (replicate n []) k [] ≡ (let e : List ℕ = [] in e)
+pub empty_at : (n k : ℕ) → get_or (replicate n []) k [] ≡ (let e : List ℕ = [] in e)
 empty_at zero k = refl
 empty_at (suc n) zero = refl
 empty_at (suc n) (suc k) = empty_at n k

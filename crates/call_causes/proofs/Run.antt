@@ -17,6 +17,7 @@ use Rattle.seat_programs.specs.Runs.{IsAtRest}
 use Rattle.seat_programs.specs.Tasks.{opens, calls, plan_of, id_plan_of}
 use Rattle.seat_programs.specs.Scripts.{sizes_of, programs, readers_from, all_programs, all_tasks, opened, ending, set_up, played, is_ending, IsRunWithCalls}
 use Rattle.story_ticks.specs.Below.programs_allowed.specs.program_steps.specs.Sound.{IsAhead, views_after, views_along}
+use Rattle.story_ticks.specs.Below.programs_allowed.specs.program_steps.proofs.Cases.{elem_there}
 use Rattle.story_ticks.specs.Below.programs_allowed.specs.sock_runs.proofs.Along.{seat_rests, ticked_ahead}
 use Rattle.story_ticks.specs.Below.programs_allowed.specs.sock_runs.proofs.Quiets.{ticked_rests, run_rests}
 use Rattle.story_ticks.specs.Below.programs_allowed.specs.program_walks.proofs.Whole.{views_played, views_closed}
@@ -35,13 +36,13 @@ use Rattle.story_ticks.specs.story_steps.proofs.Numbered.{AreNumbered}
 use Rattle.story_ticks.proofs.Claiming.{HaveSlots}
 use Rattle.story_ticks.specs.story_steps.proofs.Attempts.{in_behind, in_front}
 use Rattle.story_ticks.proofs.Chains.{KeepsFew}
-use Rattle.story_ticks.proofs.Ticks.{other_there, on_homes, told_story, story_lasts}
+use Rattle.story_ticks.proofs.Ticks.{on_homes, told_story, story_lasts}
 use Rattle.story_ticks.proofs.Allowing.{allows}
 use Rattle.story_ticks.specs.call_stories.proofs.RunTicks.{parts}
 use Rattle.story_ticks.proofs.RunFacts.{run_facts, leadings}
 use Rattle.story_ticks.proofs.Opening.{Begins, first_decided}
 
-times_append : (o : ℕ) (xs ys : List ℕ) → times o (xs ++ ys) ≡ times o xs + times o ys
+pub times_append : (o : ℕ) (xs ys : List ℕ) → times o (xs ++ ys) ≡ times o xs + times o ys
 times_append o [] ys = omega arith
 times_append o (x ∷ xs) ys = let z = times_append o xs ys in let b : ℕ = cond (eqb x o) 1 0 in ap (λ n. cond (eqb x o) 1 0 + n) z ∙ omega arith
 
@@ -121,7 +122,7 @@ module _ (p : Plan) (q : IdPlan) (clients : List (List Task)) (gives : ℕ → L
       of_scene : (w : Scene) (ms : List Mark) → CallStory p q clients gives w ms → BothSound p q w.core vs → 0 < length w.core.seats → IsAhead w.core → IsAtRest w.core 0 → LeadsTo p q clients gives (with_seat 0 (ending_of os) [] w.core.words w.core.homes w.core) → GoesOn p q clients gives w w.decisions w.posts w.advances (with_seat 0 (ending_of os) [] w.core.words w.core.homes w.core)
       of_scene w ms story both some_ ahead rests lead =
           let s = first_there w.core.seats some_ in let ids = both.ids in let sockets = both.sockets in
-          let u = other_there w.core.seats both.id_views 0 s.0 ids.each s.1 in let m = other_there w.core.seats ms 0 s.0 story.each s.1 in
+          let u = elem_there w.core.seats both.id_views 0 s.0 ids.each s.1 in let m = elem_there w.core.seats ms 0 s.0 story.each s.1 in
           let idle = subst (SaysOn p q clients gives w m.0) (seat_rests w.core ahead 0 rests s.0 s.1) (story.seats 0 s.0 m.0 s.1 m.1) in
           on_homes p q clients gives numbered slots small w ms story both.id_views both.ids (sockets.lawful.references.sized) 0 s.0 s.1 u.0 u.1 m.0 m.1 (λ other. absurd (other refl)) (ending_of os) [] w.core.homes (ending_few os) lead
           (λ v l _. ending_says p q clients gives os v m.0 idle.0 idle.1)
@@ -145,7 +146,7 @@ module _ (p : Plan) (q : IdPlan) (clients : List (List Task)) (gives : ℕ → L
       of_scene : (w : Scene) (ms : List Mark) → CallStory p q clients gives w ms → BothSound p q w.core vs → 0 < length w.core.seats → LeadsTo p q clients gives (is_ending w.core) → GoesOn p q clients gives w w.decisions w.posts w.advances (is_ending w.core)
       of_scene w ms story both some_ lead =
           let s = first_there w.core.seats some_ in let ids = both.ids in let sockets = both.sockets in
-          let u = other_there w.core.seats both.id_views 0 s.0 ids.each s.1 in let m = other_there w.core.seats ms 0 s.0 story.each s.1 in
+          let u = elem_there w.core.seats both.id_views 0 s.0 ids.each s.1 in let m = elem_there w.core.seats ms 0 s.0 story.each s.1 in
           told_story p q clients gives numbered slots small w ms story both.id_views both.ids (sockets.lawful.references.sized) 0 s.0 s.1 u.0 u.1 m.0 m.1 (λ other. absurd (other refl)) lead
         where
           first_there : (l : List SeatState) → 0 < length l → (x : SeatState) × (get_elem? l 0 ≡ some x)

@@ -1,7 +1,7 @@
 -- Where no seat has anything left to do each range has ended.
-use Rattle.std.proofs.Common.{◌≡◌, ℕ, zero, suc, ◌<◌, ◌≤◌, List, [], ◌∷◌, ◌++◌, Option, length, refl, sym, ap, ap₂, ◌∙◌, subst, arith}
+use Rattle.std.proofs.Common.{◌≡◌, ℕ, zero, suc, ◌<◌, ◌≤◌, List, [], ◌∷◌, ◌++◌, Option, refl, sym, ap, ap₂, ◌∙◌, subst, arith}
 use Rattle.std.specs.List.{flat_map}
-use mathlib.Core.Option.{some, some-ne-none}
+use mathlib.Core.Option.{some}
 use lib.ListN.{get_elem?}
 use Rattle.sock_words.specs.declared.plain.Plan.{Plan}
 use Rattle.corr_core.specs.Law.{Stands, vacant, retired, claimed, opened, locked, leaving}
@@ -15,13 +15,7 @@ use Rattle.joint_runs.specs.Below.id_runs.specs.Goes.{IdGoesOn, SoundIds}
 use Rattle.call_owing.specs.Owing.{Duty, Owing, InList, DutyTo, Among}
 use Rattle.call_owing.specs.Owes.{OwesOn}
 use Rattle.call_owing.specs.Sound.{id_word_of, Owed, by_seat, by_retry, by_reader, SoundOwing, AllRest, retry_tokens}
-
--- of two lists of one length each place of one is a place of the other
-pub beside : {A B : Type 0} (l : List A) (m : List B) (j : ℕ) (a : A) → length m ≡ length l → get_elem? l j ≡ some a → (b : B) × (get_elem? m j ≡ some b)
-beside [] m j a e at = absurd (some-ne-none a (sym at))
-beside (x ∷ xs) [] j a e at = absurd (let z : ⊥ = omega (arith, e) in z)
-beside (x ∷ xs) (y ∷ ys) zero a e at = (y, refl)
-beside (x ∷ xs) (y ∷ ys) (suc j) a e at = beside xs ys j a (omega (arith, e)) at
+use Rattle.joint_runs.specs.Below.program_steps.proofs.Cases.{elem_there}
 
 pub none_held : (i : ℕ) (us : List IdView) → ((j : ℕ) (u : IdView) → get_elem? us j ≡ some u → u.tokens ≡ []) → flat_map (tokens_in i) us ≡ []
 none_held i [] all = refl
@@ -30,10 +24,10 @@ none_held i (u ∷ us) all = ap₂ (λ x y. x ++ y) (ap (tokens_of i) (all zero 
 module _ (p : Plan) (q : IdPlan) (life : ℕ → Option ℕ) (calls : List ℕ) (c : Core) (us : List Owing) (vs : List IdView) (sound : SoundOwing q life calls c us) (ids : SoundIds p q c vs) (rest : AllRest c) where
   -- each seat's program is Rest, by the marks and by the ids
   owing_rests : (j : ℕ) (u : Owing) → get_elem? us j ≡ some u → OwesOn life u Rest
-  owing_rests j u at = let b = beside us c.seats j u (sym sound.each) at in subst (OwesOn life u) (rest j b.0 b.1) (sound.seats j b.0 u b.1 at)
+  owing_rests j u at = let b = elem_there us c.seats j u (sym sound.each) at in subst (OwesOn life u) (rest j b.0 b.1) (sound.seats j b.0 u b.1 at)
 
   tokens_rest : (j : ℕ) (u : IdView) → get_elem? vs j ≡ some u → u.tokens ≡ []
-  tokens_rest j u at = let b = beside vs c.seats j u (sym ids.each) at in subst (IdGoesOn p q u) (rest j b.0 b.1) (ids.seats j b.0 u b.1 at)
+  tokens_rest j u at = let b = elem_there vs c.seats j u (sym ids.each) at in subst (IdGoesOn p q u) (rest j b.0 b.1) (ids.seats j b.0 u b.1 at)
 
   no_duty : (id n : ℕ) (d : Duty) → d ≡ Rattle.call_owing.specs.Owing.Free → DutyTo id n d → ⊥
   no_duty id n d e o = subst (DutyTo id n) e o

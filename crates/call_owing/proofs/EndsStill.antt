@@ -14,13 +14,14 @@ use Rattle.seat_programs.specs.Asides.{Step, Found, TakeBytes, Bytes}
 use Rattle.seat_programs.specs.Beside.{found_in, calls_after}
 use Rattle.seat_programs.specs.Calls.{kind_of}
 use Rattle.seat_programs.specs.Asides.{kind_aside}
-use Rattle.seat_programs.specs.Programs.{Program, Do, Say, Sent, Rest, TakeMessage, TakeHome, PutBytes, AskReady, Write, Aside, Round, Keep, Retries}
+use Rattle.seat_programs.specs.Programs.{Program, Do, Say, Sent, Rest, TakeMessage, TakeHome, PutBytes, AskReady, Aside, Round, Keep, Retries}
 use Rattle.seat_programs.specs.Rounds.{kind_of_round}
 use Rattle.seat_programs.specs.Cores.{Calls, Core, SeatState}
 use Rattle.seat_programs.specs.Ticks.{Answer, Unasked, Moment, seats_of, taken, with_message, with_link, with_found, step_with, tick_with, ticked, run, waits, IsAlwaysReady}
 use Rattle.seat_programs.specs.Runs.{kind_in, IsAtRest, from_to}
 use Rattle.seat_programs.specs.Scripts.{AreStill}
 use Rattle.joint_runs.specs.Below.program_steps.specs.Sound.{first_step}
+use Rattle.joint_runs.specs.Below.program_steps.proofs.Cases.{ticks_first}
 use Rattle.joint_runs.specs.Below.sock_runs.proofs.Waiting.{still}
 
 -- ## The run stays one that is ending
@@ -28,12 +29,6 @@ use Rattle.joint_runs.specs.Below.sock_runs.proofs.Waiting.{still}
 after_keeps : (step : Step) (found : Found step) (a : Calls) → (calls_after step found a).ending ≡ a.ending
 after_keeps (TakeBytes k room) (Bytes bytes) a = refl
 after_keeps _ found a = refl
-
--- a tick is the first step of what its seat is at
-pub ticks_first : (p : Plan) (i : ℕ) (seat : SeatState) (c : Core) (answer : Answer) (program : Program) → tick_with p i seat c answer program ≡ step_with p i seat c answer (first_step program)
-ticks_first p i seat c answer (Write w after) = refl
-ticks_first p i seat c answer (Round head next) = refl
-ticks_first p i seat c answer program = refl
 
 module _ (p : Plan) (c : Core) (i : ℕ) (seat : SeatState) where
   abbrev Same : Core → Type 0
@@ -87,7 +82,7 @@ module _ (p : Plan) (i : ℕ) (seat : SeatState) (c : Core) (answer : Answer) wh
   rest_tick _ e = absurd (none-some _ (sym e))
 
 -- a tick of a seat that has no step left
-rest_still : (p : Plan) (c : Core) (m : Moment) → IsAtRest c m.seat → ticked p c m ≡ c
+pub rest_still : (p : Plan) (c : Core) (m : Moment) → IsAtRest c m.seat → ticked p c m ≡ c
 rest_still p c m rest = by_seat (get_elem? c.seats m.seat) rest
   where
     by_seat : (q : Option SeatState) → elim q as (λ o. std.Option Kind) [ none ↦ std.None | some s ↦ kind_in s.program ] ≡ std.None → elim q as (λ o. Core) [ none ↦ c | some s ↦ tick_with p m.seat s c m.answer s.program ] ≡ c

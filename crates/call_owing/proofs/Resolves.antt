@@ -1,23 +1,19 @@
 -- Retries that are kept and taken up, and the seat that follows a step.
-use Rattle.std.proofs.Common.{◌≡◌, ◌≢◌, ℕ, zero, suc, ◌<◌, ◌⊎◌, inl, inr, ⊎_elim, Bool, true, false, List, [], ◌∷◌, ◌++◌, Option, length, length-set, set, get_or-set_same, get_or-set_other, refl, sym, ap, ◌∙◌, subst, arith}
+use Rattle.std.proofs.Common.{◌≡◌, ◌≢◌, ℕ, ◌⊎◌, inl, inr, ⊎_elim, Bool, true, false, List, [], ◌∷◌, ◌++◌, Option, length, length-set, set, get_or-set_same, get_or-set_other, refl, sym, ap, ◌∙◌, subst, arith}
 use Rattle.std.specs.Prelude as std
 use mathlib.Core.Logic.{dite}
 use native.Mathlib.Decide.{ℕ_discrete}
-use mathlib.Core.Option.{some, some-ne-none, some-injective}
+use mathlib.Core.Option.{some, some-injective}
 use lib.ListN.{get_elem?}
 use Rattle.atomic_table.proofs.Lists.{at_set}
 use Rattle.sock_words.specs.declared.outcome.Outcome.{Outcome}
 use Rattle.corr_core.specs.declared.marks.Plan.{Plan as IdPlan}
+use Rattle.corr_core.proofs.Notes.{at_length}
 use Rattle.seat_programs.specs.Heads.{Retry}
 use Rattle.seat_programs.specs.Cores.{Core, SeatState, waiting_at}
 use Rattle.call_owing.specs.Owing.{Duty, Looking, Owing, Among, InList, DutyTo, duty_tokens}
 use Rattle.call_owing.specs.Sound.{id_word_of, at_of, retry_tokens, Owed, by_seat, by_retry, by_reader, Past, tokens_at, Token, Distinct, ErrorPast, Stored, OwingLaw}
 use Rattle.call_owing.proofs.Changes.{set_at, set_beside}
-
-pub inside_of : {A : Type 0} (l : List A) (i : ℕ) (a : A) → get_elem? l i ≡ some a → i < length l
-inside_of [] i a at = absurd (some-ne-none a (sym at))
-inside_of (x ∷ xs) zero a at = omega arith
-inside_of (x ∷ xs) (suc i) a at = let z = inside_of xs i a at in omega (arith, z)
 
 -- a seat knows what it knew, and reads on as it did
 pub record SameBut (u v : Owing) : Type 0 where
@@ -44,7 +40,7 @@ module _ (q : IdPlan) (life : ℕ → Option ℕ) (calls : List ℕ) (c : Core) 
 
   module _ (m : Rewait) where
     here : waiting_at (set c.calls.waiting i ws) i ≡ ws
-    here = get_or-set_same c.calls.waiting i ws [] (let r = law.room in let z = inside_of us i u at in omega (arith, r, z))
+    here = get_or-set_same c.calls.waiting i ws [] (let r = law.room in let z = at_length us i u at in omega (arith, r, z))
 
     else_ : (j : ℕ) → j ≢ i → waiting_at (set c.calls.waiting i ws) j ≡ waiting_at c.calls.waiting j
     else_ j ne = get_or-set_other c.calls.waiting i j ws [] ne

@@ -8,6 +8,7 @@ use Rattle.brpc_model.specs.Places.{names}
 use Rattle.brpc_model.specs.Stream.{stream}
 use Rattle.corr_core.specs.Word.{Parts}
 use Rattle.corr_core.specs.declared.marks.Plan.{Plan as IdPlan}
+use Rattle.corr_core.proofs.Notes.{at_length}
 use Rattle.id_rule.specs.Lawful.{local}
 use Rattle.id_runs.specs.Held.{id_state}
 use Rattle.served_fits.specs.Below.script_facts.proofs.Lists.{Has}
@@ -22,7 +23,6 @@ use Rattle.seat_programs.specs.Tasks.{opens, numbered, plan_of, id_plan_of}
 use Rattle.seat_programs.specs.Ticks.{quiet}
 use Rattle.seat_programs.specs.Told.{IsTask}
 use Rattle.seat_programs.specs.ToldCalls.{Fixed}
-use Rattle.served_fits.specs.Below.programs_allowed.specs.sock_runs.proofs.Along.{place_inside}
 use Rattle.served_fits.specs.Below.programs_allowed.specs.program_walks.proofs.Whole.{closing_of, views_played}
 use Rattle.served_fits.specs.Below.outcome_stories.proofs.Members.{in_contains}
 use Rattle.served_fits.specs.Below.joint_runs.proofs.Runs.{first_views}
@@ -32,9 +32,9 @@ use Rattle.served_fits.specs.Below.run_theorems.proofs.Lengths.{ended_length}
 use Rattle.served_fits.specs.Below.run_theorems.proofs.Starts.{made}
 use Rattle.served_fits.specs.Below.call_stories.specs.Lists.{given, shows_in, times, advanced_at, attempts_of_run}
 use Rattle.served_fits.specs.Below.call_causes.proofs.Posted.{run_few_attempts}
+use Rattle.served_fits.specs.Below.call_causes.proofs.Run.{times_append}
 use Rattle.served_fits.specs.send_causes.proofs.Assembled.{fixed_in_run}
-use Rattle.served_fits.specs.Below.attempted_calls.proofs.AttemptedRuns.{Counted, played_counted, times_append}
-use Rattle.served_fits.specs.Below.sent_once.proofs.DropWhole.{get_same}
+use Rattle.served_fits.specs.Below.attempted_calls.proofs.AttemptedRuns.{Counted, played_counted}
 use Rattle.served_fits.specs.Below.attempted_calls.proofs.AttemptedStored.{ids_at, stored_run}
 use Rattle.served_fits.specs.send_causes.proofs.ClosedLostTicks.{word_link, word_attempt}
 use Rattle.served_fits.specs.Below.accept_counts.proofs.Early.{start, go, fitting, known}
@@ -52,6 +52,7 @@ use Rattle.calls_over.proofs.OpensQuiet.{has_server, unfailed, none_thrown}
 use Rattle.calls_over.proofs.OpensRequest.{own_told, IsAttempt, attempt_of, taken, taken_so, request_there}
 use Rattle.served_fits.specs.Below.accept_counts.proofs.Standing.{both, unlocked}
 use Rattle.id_runs.proofs.Steps.{live_room}
+use Rattle.served_fits.specs.Below.owned_ids.proofs.OpensStored.{place_at}
 
 -- ## At words
 
@@ -157,7 +158,7 @@ module _ (calm : CalmRun) where
     w = at_of (id_plan_of script) rested is_read.operation
 
     link_low : is_read.link < (plan_of script).links
-    link_low = let l = place_inside (opens script) is_read.link is_read.opening_ is_read.opens_it in let many = (let x = known script (are_made calm) turns core is in x.as_many) in omega (arith, l, many)
+    link_low = let l = at_length (opens script) is_read.link is_read.opening_ is_read.opens_it in let many = (let x = known script (are_made calm) turns core is in x.as_many) in omega (arith, l, many)
 
     link_small : is_read.link < 65535
     link_small = let l = link_low in let b = both script (are_made calm) turns core is in let lim = b.sockets.limits in let few_links = lim.links in omega (arith, l, few_links)
@@ -191,7 +192,7 @@ module _ (calm : CalmRun) where
     call_of = early.called
 
     its_task : IsTask (all_tasks script) core.outcomes early.called.0 early.called.2
-    its_task = (early.called.1, get_same (all_tasks script) early.called.0 early.called.1 early.called.3, in_contains early.called.1 early.called.2 early.called.4)
+    its_task = (early.called.1, place_at (all_tasks script) early.called.0 early.called.1 early.called.3, in_contains early.called.1 early.called.2 early.called.4)
 
     number : early.called.2.number ≡ o
     number = sym early.called.6 ∙ early.operation

@@ -21,7 +21,7 @@ use Rattle.served_fits.specs.Below.outcome_stories.specs.Kept.{IsSpoken}
 use Rattle.served_fits.specs.Below.outcome_stories.specs.PlainTasks.{told_tasks_of}
 use Rattle.served_fits.specs.Below.outcome_stories.specs.Stories.{In}
 use Rattle.served_fits.specs.Below.outcome_stories.proofs.Delivered.{accepted_of, accepted_there}
-use Rattle.served_fits.specs.Below.outcome_causes.proofs.Final.{at_there, at_within}
+use Rattle.served_fits.specs.Below.outcome_causes.proofs.Final.{at_there}
 use Rattle.served_fits.specs.Below.outcome_stories.proofs.Members.{in_contains}
 use Rattle.served_fits.specs.Below.outcome_causes.proofs.Plain.{in_both, in_left, in_right}
 use Rattle.served_fits.specs.Below.joint_runs.proofs.Runs.{AreMade, first_views}
@@ -39,6 +39,7 @@ use Rattle.served_fits.specs.Below.sent_once.proofs.Sends.{orders_of_run}
 use Rattle.calls_over.proofs.OpensHeld.{IsHeld, run_held}
 use Rattle.calls_over.proofs.OpensLog.{log, held_logged, logged_held, logged_on}
 use Rattle.calls_over.proofs.OpensNamed.{IsEarly}
+use Rattle.corr_core.proofs.Notes.{at_length}
 
 module _ (script : List Item) (made : AreMade script) (turns : List Turn) (core : Core) (is : IsRunWithCalls script turns core) where
   abbrev rested : Core
@@ -58,7 +59,7 @@ module _ (script : List Item) (made : AreMade script) (turns : List Turn) (core 
 
   -- no seat has a claim or a right there
   pub idle_there : (i : ℕ) (v : View) → get_elem? (views_played script turns core is (first_views script)) i ≡ some v → HasNone v
-  idle_there i v at = let seat = at_there rested.seats i (let each = rested_sound.each in let low = at_within rested_views i v at in omega (arith, each, low)) in (played_idle script made turns core is i seat.0 v seat.1 at).1
+  idle_there i v at = let seat = at_there rested.seats i (let each = rested_sound.each in let low = at_length rested_views i v at in omega (arith, each, low)) in (played_idle script made turns core is i seat.0 v seat.1 at).1
 
   -- the log where the ending begins
   abbrev pub early_log : List Entry

@@ -22,15 +22,14 @@ use Rattle.seat_programs.specs.StepsOfChain.{exchanged, ready_claim}
 use Rattle.seat_programs.specs.StepsOfMessages.{filled_claim, took_message}
 use Rattle.seat_programs.specs.StepsOfLinks.{link_away, link_home_again, took_bytes}
 use Rattle.served_fits.specs.Below.programs_allowed.specs.program_steps.specs.Sound.{Sound, AreFitting, views_after, views_along}
-use Rattle.served_fits.specs.Below.programs_allowed.specs.program_steps.proofs.Cases.{with_rights, right_rights, put_rights}
+use Rattle.served_fits.specs.Below.programs_allowed.specs.program_steps.proofs.Cases.{with_rights, right_rights, put_rights, tick_cases}
 use Rattle.served_fits.specs.Below.programs_allowed.specs.program_steps.proofs.Leaves.{claim_way}
 use Rattle.served_fits.specs.Below.programs_allowed.specs.sock_runs.proofs.LinkTicks.{RetriesGo}
 use Rattle.served_fits.specs.Below.programs_allowed.specs.sock_runs.proofs.Ticks.{sound_ticks}
 use Rattle.served_fits.specs.Below.outcome_stories.specs.Stories.{In}
-use Rattle.served_fits.specs.Below.outcome_stories.proofs.Cases.{tick_cases}
-use Rattle.served_fits.specs.Below.outcome_causes.proofs.Final.{at_within}
 use Rattle.served_fits.specs.Below.outcome_causes.proofs.Plain.{in_left}
 use Rattle.served_fits.specs.Below.accept_counts.proofs.Views.{row_same}
+use Rattle.corr_core.proofs.Notes.{at_length}
 
 module _ (e : Entry) where
   abbrev pub IsThere : List (List Entry) → Type 0
@@ -56,7 +55,7 @@ module _ (e : Entry) where
 
   held_set : (vs : List View) (i : ℕ) (v w : View) → get_elem? vs i ≡ some v → (IsThere v.lists → IsThere w.lists) → IsHeld vs → IsHeld (set vs i w)
   held_set vs i v w here f (j, u, at, h) = dite (ℕ_discrete j i)
-      (λ same. let one : u ≡ v = some-injective u v (sym at ∙ (ap (get_elem? vs) same ∙ here)) in (i, w, set_here vs i w (at_within vs i v here), f (subst (λ (x : View). IsThere x.lists) one h)))
+      (λ same. let one : u ≡ v = some-injective u v (sym at ∙ (ap (get_elem? vs) same ∙ here)) in (i, w, set_here vs i w (at_length vs i v here), f (subst (λ (x : View). IsThere x.lists) one h)))
       (λ far. (j, u, set_else vs i j w far ∙ at, h))
 
   module _ (p : Plan) where
@@ -66,8 +65,8 @@ module _ (e : Entry) where
     tick_held : (c : Core) (vs : List View) (m : Moment) → Sound p c vs → IsAnswered c m → IsHeld vs → IsHeld (views_after p c vs m)
     tick_held c vs m sound answered = tick_cases p c vs m sound answered (λ d ws. IsHeld vs → IsHeld ws) (λ h. h)
         (λ seat v call next at here is goes. held_set vs m.seat v (row p call (found_at c.words (word_of p call)) (hand_at p c.words c.homes call) v) here (row_there p v (found_at c.words (word_of p call)) (hand_at p c.words c.homes call) call))
-        (λ seat v r next heading bytes at here is goes. rights_held vs m.seat v (took_message heading bytes v) here (right_rights v v.rights (λ x. taken_right x heading bytes)))
-        (λ seat v k next n at here is goes. rights_held vs m.seat v (link_away v) here (right_rights v v.rights (λ x. record x { at_home = false })))
+        (λ seat v r next heading bytes at here is goes lies. rights_held vs m.seat v (took_message heading bytes v) here (right_rights v v.rights (λ x. taken_right x heading bytes)))
+        (λ seat v k next took n at here is goes lies. rights_held vs m.seat v (link_away v) here (right_rights v v.rights (λ x. record x { at_home = false })))
         (λ seat v k n after at here is goes. rights_held vs m.seat v (link_home_again v) here (right_rights v v.rights (λ x. record x { at_home = true })))
         (λ seat v k asked bytes next answer at here is goes answer_is fits. rights_held vs m.seat v (took_bytes answer v) here (put_rights v answer))
         (λ seat v k next answer at here is goes answer_is h. h)

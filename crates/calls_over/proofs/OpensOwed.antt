@@ -27,7 +27,6 @@ use Rattle.seat_programs.specs.Ticks.{Moment, quiet}
 use Rattle.seat_programs.specs.Tasks.{opens, calls, plan_of, id_plan_of}
 use Rattle.seat_programs.specs.Scripts.{sizes_of, programs, readers_from, all_tasks, opened, set_up, played, IsRunWithCalls}
 use Rattle.served_fits.specs.Below.programs_allowed.specs.program_steps.specs.Sound.{Sound, views_along}
-use Rattle.served_fits.specs.Below.programs_allowed.specs.sock_runs.proofs.Along.{place_inside}
 use Rattle.served_fits.specs.Below.programs_allowed.specs.program_walks.proofs.LinksRecorded.{Linked, run_linked}
 use Rattle.served_fits.specs.Below.programs_allowed.specs.sock_runs.proofs.LinksStay.{IsGiven}
 use Rattle.served_fits.specs.Below.programs_allowed.specs.program_walks.proofs.LinksOpening.{OpensLink, others_give, beginning_linked}
@@ -59,6 +58,7 @@ use Rattle.calls_over.proofs.Handled.{reads_before}
 use Rattle.served_fits.specs.Below.accept_counts.proofs.Standing.{Stands, resting, joining, opening, discarding, stands}
 use Rattle.served_fits.specs.Below.accept_counts.proofs.Standing as still
 use Rattle.served_fits.specs.Below.accept_counts.proofs.Grounds.{setting, stages}
+use Rattle.corr_core.proofs.Notes.{at_length}
 
 -- ## A reader keeps no retry
 
@@ -160,7 +160,7 @@ module _ (script : List Item) (made : AreMade script) (turns : List Turn) (core 
       subst (λ y. socket_id_slot y < (plan_of script).slots) (let z : s + 1 - 1 ≡ s = omega arith in z) (subst (λ y. socket_id_slot (y - 1) < (plan_of script).slots) is_word n)
 
   alive : (k s : ℕ) → life_of p os rested.words k ≡ Some s → k < length os
-  alive k s lives = let x = opened_at k s lives in place_inside os k x.0 x.1
+  alive k s lives = let x = opened_at k s lives in at_length os k x.0 x.1
 
   as_many : length os ≡ p.links
   as_many = let k = known script made turns core is in k.as_many
@@ -235,7 +235,7 @@ module _ (script : List Item) (made : AreMade script) (turns : List Turn) (core 
 
     -- a seat that isn't a client's is that of the reader of a link
     reader_of : (j : ℕ) (seat : SeatState) → get_elem? rested.seats j ≡ some seat → (NoTakes (Unit {0}) seat.program → ⊥) → (k o : ℕ) × (get_elem? os k ≡ some o) × (get_elem? rested.seats (32 + k) ≡ some seat)
-    reader_of j seat at takes = dite (dec_le 32 j) (λ high. let o = at_some os (j - 32) (let m = many in let low = place_inside rested.seats j seat at in omega (arith, m, low, high)) in
+    reader_of j seat at takes = dite (dec_le 32 j) (λ high. let o = at_some os (j - 32) (let m = many in let low = at_length rested.seats j seat at in omega (arith, m, low, high)) in
         (j - 32, o.0, o.1, ap (get_elem? rested.seats) (let z : 32 + (j - 32) ≡ j = omega (arith, high) in z) ∙ at))
         (λ low. absurd (takes (clients_take_none script made turns core is j (omega (arith, low)) seat at)))
 

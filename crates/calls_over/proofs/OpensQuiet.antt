@@ -25,7 +25,6 @@ use Rattle.seat_programs.specs.Tasks.{opens, calls, numbered, plan_of, id_plan_o
 use Rattle.seat_programs.specs.Ticks.{Moment, quiet, broken_in}
 use Rattle.seat_programs.specs.Told.{IsTask, IsFail, Made}
 use Rattle.served_fits.specs.Below.programs_allowed.specs.program_steps.specs.Sound.{state}
-use Rattle.served_fits.specs.Below.programs_allowed.specs.sock_runs.proofs.Along.{place_inside}
 use Rattle.served_fits.specs.Below.programs_allowed.specs.program_walks.proofs.Whole.{views_played}
 use Rattle.served_fits.specs.Below.outcome_stories.specs.Facts.{shown_in, broken_of_run, closed_before_ending}
 use Rattle.served_fits.specs.Below.outcome_stories.specs.Losses.{closed_at, lost_in}
@@ -53,11 +52,13 @@ use Rattle.served_fits.specs.served_runs.proofs.Replies.{played_holds}
 use Rattle.served_fits.specs.served_runs.proofs.Served.{shapes_many, gives_last, gives_no_fault}
 use Rattle.served_fits.specs.served_calls.specs.Quiet.{HasServer}
 use Rattle.served_fits.specs.served_calls.proofs.Requests.{never_last}
+use Rattle.served_fits.specs.served_calls.proofs.Calm.{named_shape}
 use Rattle.served_fits.specs.served_sizes.proofs.Few as sizes
 use Rattle.calls_over.proofs.OpensEntered.{rested_sound}
 use Rattle.calls_over.proofs.OpensOwed.{NoneThrown}
-use Rattle.calls_over.proofs.Soon.{named_shape, no_end, no_stray}
+use Rattle.calls_over.proofs.Soon.{no_end, no_stray}
 use Rattle.calls_over.proofs.OpensGiven.{CalmRun, are_made, targets, range}
+use Rattle.corr_core.proofs.Notes.{at_length}
 
 module _ (calm : CalmRun) where
   open calm use {bytes, script, reads, short, turns, core, is, closes, offers, fixed, orders, tells, report, took, ends, reports, told, given_back, shown, breaks, served, untroubled}
@@ -159,7 +160,7 @@ module _ (calm : CalmRun) where
       (held.reader seat there)
     where
       low : k < length (link_names script)
-      low = let i = place_inside (opens script) k o at in let many = (let x = Rattle.served_fits.specs.Below.accept_counts.proofs.Early.known script (are_made calm) turns core is in x.as_many) in omega (arith, i, many)
+      low = let i = at_length (opens script) k o at in let many = (let x = Rattle.served_fits.specs.Below.accept_counts.proofs.Early.known script (are_made calm) turns core is in x.as_many) in omega (arith, i, many)
 
       server : HasServer script turns core is k
       server = has_server k low

@@ -22,12 +22,11 @@ use Rattle.served_fits.specs.Below.programs_allowed.specs.program_steps.specs.So
 use Rattle.served_fits.specs.Below.programs_allowed.specs.program_walks.proofs.Whole.{views_played}
 use Rattle.served_fits.specs.Below.outcome_stories.proofs.Delivered.{accepted_of}
 use Rattle.served_fits.specs.Below.joint_runs.proofs.Runs.{first_views}
-use Rattle.served_fits.specs.Below.owned_ids.proofs.OpensStored.{at_place}
+use Rattle.served_fits.specs.Below.owned_ids.proofs.OpensStored.{at_place, place_at}
 use Rattle.served_fits.specs.Below.run_theorems.proofs.Starts.{made}
 use Rattle.served_fits.specs.Below.call_stories.specs.Lists.{given}
 use Rattle.served_fits.specs.send_causes.proofs.AllTold.{told_of_run}
 use Rattle.served_fits.specs.send_causes.proofs.Assembled.{fixed_in_run}
-use Rattle.served_fits.specs.Below.sent_once.proofs.DropWhole.{get_same}
 use Rattle.served_fits.specs.Below.attempted_calls.proofs.AttemptedStored.{ids_at}
 use Rattle.served_fits.specs.send_causes.proofs.OwnIds.{own_id}
 use Rattle.served_fits.specs.Below.sent_once.proofs.Sends.{orders_of_run}
@@ -127,4 +126,4 @@ module _ (calm : CalmRun) where
         (subst (λ b. IsFrame b (request_of a.asked a.id e.heading.attempt)) (sym a.bytes_are) (request_is a.asked a.id e.heading.attempt a.small)) [])
       where
         there : Has log_on e
-        there = let i = filter_in (λ (y : Entry). eqb y.link k) (early_log script (are_made calm) turns core is) q e at (eq-eqb e.link k over) in (i.0, get_same log_on i.0 e i.1)
+        there = let i = filter_in (λ (y : Entry). eqb y.link k) (early_log script (are_made calm) turns core is) q e at (eq-eqb e.link k over) in (i.0, place_at log_on i.0 e i.1)

@@ -1,13 +1,12 @@
 -- Where nothing went wrong, no call is open as the ending begins: the link of its attempt gave the reply, and the link's reader handled it.
-use Rattle.std.proofs.Common.{◌≡◌, ℕ, zero, suc, ◌+◌, ◌<◌, ◌≤◌, ◌&&◌, nat_lt, lt-ltb, Bool, true, cond, List, [], ◌∷◌, flat_map, slice_get, Option, Some, None, Ok, append-nil, refl, sym, ap, ◌∙◌, subst, arith}
+use Rattle.std.proofs.Common.{◌≡◌, ℕ, ◌+◌, ◌<◌, ◌≤◌, ◌&&◌, nat_lt, lt-ltb, Bool, true, cond, List, [], flat_map, slice_get, Some, None, Ok, append-nil, refl, sym, ap, ◌∙◌, subst, arith}
 use Rattle.std.specs.List.{AllByRecursion}
-use Rattle.std.specs.Prelude.{IsSome, IsTrue}
+use Rattle.std.specs.Prelude.{IsTrue}
 use Rattle.brpc_model.specs.Complete.{IsUntroubled}
 use Rattle.brpc_model.specs.Frame.{Frame, frame_bytes}
 use Rattle.brpc_model.specs.Items.{Item, Shape, Open, Send}
 use Rattle.brpc_model.specs.Link.{LinkEnd}
-use Rattle.brpc_model.specs.Meta.{ResponseMeta}
-use Rattle.brpc_model.specs.Operations.{Turn, link_names, link_shapes}
+use Rattle.brpc_model.specs.Operations.{Turn, link_shapes}
 use Rattle.brpc_model.specs.Places.{names}
 use Rattle.brpc_model.specs.Reply.{reply, reply_frames}
 use Rattle.brpc_model.specs.Report.{Report}
@@ -18,7 +17,7 @@ use Rattle.brpc_model.specs.PlaceWords.{AreTold}
 use Rattle.served_fits.specs.Below.report_fits.specs.Ends.{AreEndsOf}
 use Rattle.served_fits.specs.Below.script_facts.proofs.Known as known
 use Rattle.served_fits.specs.Below.report_fits.proofs.Lines.{Given}
-use Rattle.served_fits.specs.Below.script_facts.proofs.Lists.{Has, has_later, has_filter_map, contains_from, some_is, all_at, all_from, filter_map_has}
+use Rattle.served_fits.specs.Below.script_facts.proofs.Lists.{Has, has_filter_map, contains_from, some_is, all_at, all_from, filter_map_has}
 use Rattle.served_fits.specs.Below.report_fits.proofs.Lives as lives
 use Rattle.served_fits.specs.Below.report_fits.proofs.Places.{known_of}
 use Rattle.served_fits.specs.Below.script_facts.proofs.Reading.{InRange}
@@ -46,11 +45,13 @@ use Rattle.served_fits.specs.Below.call_causes.proofs.Handled.{IsResp}
 use Rattle.served_fits.specs.served_runs.specs.Offered.{OffersInRun}
 use Rattle.served_fits.specs.served_runs.proofs.Frames.{IsPiece, reply_is}
 use Rattle.served_fits.specs.served_calls.proofs.Frames.{SaysReply, piece_has, reply_to, reply_says}
+use Rattle.served_fits.specs.served_calls.proofs.Calm.{named_shape}
 use Rattle.calls_over.specs.Open.{before, slot_word, slot_id, OpenCall}
 use Rattle.calls_over.proofs.Given.{gave_before}
 use Rattle.calls_over.proofs.Handled.{in_soon}
 use Rattle.calls_over.proofs.SoonPieces.{IsLow}
 use Rattle.calls_over.proofs.SoonRuns.{stands_before, never_soon}
+use Rattle.served_fits.specs.Below.ended_calls.proofs.Unanswered.{some_response}
 
 -- ## Replies
 
@@ -66,21 +67,10 @@ reply_given q c took f g low there is = subst (λ l. Has (stream l).frames g) (a
     whole = all_from (λ g. IsPiece Any (frame_bytes g)) (reply_frames took) (λ g h. let w = filter_map_has reply (stream took).frames g h in let l = all_at (IsLow q c) (stream took).frames w.0 low w.1 in
         record { frame = g; is = (reply_is l.asked l.id l.attempt g l.small (sym (ap reply l.frame) ∙ w.2)).0; holds = tt })
 
-responds : (x : Option ResponseMeta) → IsSome x → has_response x ≡ true
-responds (Some r) some_ = refl
-responds None some_ = absurd (cc)
-
 both_true : (x y : Bool) → x ≡ true → y ≡ true → (x && y) ≡ true
 both_true x y a b = ap (λ z. z && y) a ∙ b
 
 -- ## Links
-
--- each link was opened under its name, with its shape
-pub named_shape : (items : List Item) (k : ℕ) (shape : Shape) → slice_get (link_shapes items) k ≡ Some shape → (name : List ℕ) × (slice_get (link_names items) k ≡ Some name) × Has items (Open name shape)
-named_shape [] k shape e = absurd (cc)
-named_shape (Open n s ∷ items) zero shape e = (n, refl, (zero, ap (λ (x : Shape). Some (Open n x)) (some_is s shape e)))
-named_shape (Open n s ∷ items) (suc k) shape e = let x = named_shape items k shape e in (x.0, x.1, has_later (Open n s) items (Open x.0 shape) x.2)
-named_shape (item ∷ items) k shape e = let x = named_shape items k shape e in (x.0, x.1, has_later item items (Open x.0 shape) x.2)
 
 module _ (bytes : List ℕ) (script : List Item) (reads : script_of bytes ≡ Ok script) (turns : List Turn) (core : Core) (is : IsRunWithCalls script turns core) (closes : ClosesInRun script turns core is) (offers : OffersInRun script turns core is) (fixed : Fixed)
     (orders : ℕ → Order) (tells : ToldCalls (plan_of script) (all_tasks script) core.outcomes fixed (given core) orders core) (report : Report) (took : List (List ℕ)) (ends : List LinkEnd)
@@ -138,7 +128,7 @@ module _ (bytes : List ℕ) (script : List Item) (reads : script_of bytes ≡ Ok
     version_is = ap id_first says.same_id ∙ (let s = o.small in let f = few in let z : id_first (id + word.attempt + 1) ≡ word.first + word.attempt + 1 = omega (arith, s, f) in z)
 
     response : IsResp o.link (id_plan_of script).slots g
-    response = both_true (has_response g.meta.response) (nat_lt (slot_in g) (id_plan_of script).slots) (responds g.meta.response says.response) (lt-ltb (slot_in g) (id_plan_of script).slots (let s = slot_is in let l = o.inside in omega (arith, s, l)))
+    response = both_true (has_response g.meta.response) (nat_lt (slot_in g) (id_plan_of script).slots) (some_response g.meta.response says.response) (lt-ltb (slot_in g) (id_plan_of script).slots (let s = slot_is in let l = o.inside in omega (arith, s, l)))
 
     behind : (id_word_of (before script turns core is) (slot_in g)).first < version_in g
     behind = subst (λ j. (id_word_of (before script turns core is) j).first < version_in g) (sym slot_is) (let v = version_is in omega (arith, v))

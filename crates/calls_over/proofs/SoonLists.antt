@@ -25,11 +25,11 @@ use Rattle.seat_programs.specs.StepsOfChain.{exchanged}
 use Rattle.seat_programs.specs.StepsOfMessages.{took_message}
 use Rattle.seat_programs.specs.StepsOfLinks.{link_away, link_home_again, took_bytes}
 use Rattle.served_fits.specs.Below.programs_allowed.specs.program_steps.specs.Sound.{state, Sound, AreFitting, views_after, views_along}
+use Rattle.served_fits.specs.Below.programs_allowed.specs.program_steps.proofs.Cases.{tick_cases}
 use Rattle.served_fits.specs.Below.programs_allowed.specs.sock_runs.proofs.LinkTicks.{RetriesGo}
 use Rattle.served_fits.specs.Below.programs_allowed.specs.sock_runs.proofs.Ticks.{sound_ticks}
 use Rattle.served_fits.specs.Below.programs_allowed.specs.runs_end.proofs.WalksLeft.{message_lists, away_lists, home_lists, put_lists}
 use Rattle.served_fits.specs.Below.outcome_ticks.proofs.Accepting.{row_lists}
-use Rattle.served_fits.specs.Below.outcome_stories.proofs.Cases.{tick_cases}
 
 -- ## Lists of one seat
 
@@ -97,8 +97,8 @@ set_stay vs i v w at grows e s = dite (ℕ_discrete s.seat i) own other
 tick_stay : (p : Plan) (c : Core) (vs : List View) (m : Moment) → Sound p c vs → IsAnswered c m → Stay vs (views_after p c vs m)
 tick_stay p c vs m sound answered = tick_cases p c vs m sound answered (λ d ws. Stay vs ws) (λ e s. s)
     (λ seat v call next at_seat at_view is goes. set_stay vs m.seat v (row p call (found_at c.words (word_of p call)) (hand_at p c.words c.homes call) v) at_view (row_grows p v (found_at c.words (word_of p call)) (hand_at p c.words c.homes call) call))
-    (λ seat v q next heading bytes at_seat at_view is goes. set_stay vs m.seat v (took_message heading bytes v) at_view (same_lists v.lists (took_message heading bytes v).lists (message_lists v heading bytes)))
-    (λ seat v k next n at_seat at_view is goes. set_stay vs m.seat v (link_away v) at_view (same_lists v.lists (link_away v).lists (away_lists v)))
+    (λ seat v q next heading bytes at_seat at_view is goes lies. set_stay vs m.seat v (took_message heading bytes v) at_view (same_lists v.lists (took_message heading bytes v).lists (message_lists v heading bytes)))
+    (λ seat v k next took n at_seat at_view is goes lies. set_stay vs m.seat v (link_away v) at_view (same_lists v.lists (link_away v).lists (away_lists v)))
     (λ seat v k n after at_seat at_view is goes. set_stay vs m.seat v (link_home_again v) at_view (same_lists v.lists (link_home_again v).lists (home_lists v)))
     (λ seat v k asked bytes next answer at_seat at_view is goes answer_is fits. set_stay vs m.seat v (took_bytes answer v) at_view (same_lists v.lists (took_bytes answer v).lists (put_lists v answer)))
     (λ seat v k next answer at_seat at_view is goes answer_is. λ e s. s)

@@ -24,8 +24,8 @@ use Rattle.seat_programs.specs.Cores.{Core, SeatState, with_seat}
 use Rattle.seat_programs.specs.Ticks.{Moment, IsAnswered, fed, onto_first, ticked}
 use Rattle.served_fits.specs.Below.programs_allowed.specs.program_steps.specs.Writes.{MayPut}
 use Rattle.served_fits.specs.Below.programs_allowed.specs.program_steps.specs.Sound.{Sound, IsFitting, IsOfRight, AreHeld, first_step}
+use Rattle.served_fits.specs.Below.programs_allowed.specs.program_steps.proofs.Cases.{tick_cases}
 use Rattle.served_fits.specs.Below.programs_allowed.specs.sock_runs.proofs.LinkTicks.{RetriesGo}
-use Rattle.served_fits.specs.Below.outcome_stories.proofs.Cases.{tick_cases}
 use Rattle.served_fits.specs.Below.call_owing.specs.Lives.{InHand}
 use Rattle.served_fits.specs.served_runs.specs.Offered.{Lies, TookSoFar}
 use Rattle.served_fits.specs.served_runs.proofs.Places.{IsPut, all_lay}
@@ -117,8 +117,8 @@ module _ (p : Plan) (k : ℕ) (retries : RetriesGo p) (c : Core) (vs : List View
   by_put : IsAnswered c m → IsPut p k c m → (took : List ℕ) (next : ℕ) (done : Bool) → Lies p (ticked p c m) k (Link k took next done) → Either took
   by_put answered = tick_cases p c vs m sound answered Behind (λ put took next done lies. inl (next, done, lies))
       (λ seat v call next at_seat at_view is goes. λ put. absurd (let z : Do call next ≡ PutBytes k put.asked put.bytes put.next = same_first put seat (Do call next) at_seat is in cc))
-      (λ seat v q next heading bytes at_seat at_view is goes. λ put. absurd (let z : TakeMessage q next ≡ PutBytes k put.asked put.bytes put.next = same_first put seat (TakeMessage q next) at_seat is in cc))
-      (λ seat v l next n at_seat at_view is goes. λ put. absurd (let z : TakeHome l next ≡ PutBytes k put.asked put.bytes put.next = same_first put seat (TakeHome l next) at_seat is in cc))
+      (λ seat v q next heading bytes at_seat at_view is goes lies. λ put. absurd (let z : TakeMessage q next ≡ PutBytes k put.asked put.bytes put.next = same_first put seat (TakeMessage q next) at_seat is in cc))
+      (λ seat v l next took n at_seat at_view is goes lies. λ put. absurd (let z : TakeHome l next ≡ PutBytes k put.asked put.bytes put.next = same_first put seat (TakeHome l next) at_seat is in cc))
       (λ seat v l n after at_seat at_view is goes. λ put. absurd (let z : PutHome l n after ≡ PutBytes k put.asked put.bytes put.next = same_first put seat (PutHome l n after) at_seat is in cc))
       (λ seat v l asked bytes next answer at_seat at_view is goes answer_is fits. λ put took next' done lies. put_behind seat v at_seat at_view bytes l goes.0 answer next took next' done lies)
       (λ seat v l next answer at_seat at_view is goes answer_is. λ put. absurd (let z : AskReady l next ≡ PutBytes k put.asked put.bytes put.next = same_first put seat (AskReady l next) at_seat is in cc))

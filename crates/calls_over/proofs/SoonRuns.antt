@@ -34,18 +34,18 @@ use Rattle.served_fits.specs.Below.accept_counts.proofs.Early.{start, go, fittin
 use Rattle.served_fits.specs.Below.sent_once.proofs.Labelled.{ids_of_run}
 use Rattle.served_fits.specs.Below.accept_counts.proofs.Runs.{IsCallOf, programs_go, begins_labels, asked_by}
 use Rattle.served_fits.specs.Below.sent_once.proofs.Sends.{narrow, few_clients, labelled, opening_bare}
-use Rattle.served_fits.specs.Below.sent_once.proofs.DropWhole.{get_same}
 use Rattle.served_fits.specs.served_runs.specs.Offered.{TookSoFar, offered_by, OffersInRun}
 use Rattle.served_fits.specs.served_runs.proofs.Parts.{IsPart, part_along}
 use Rattle.served_fits.specs.served_runs.proofs.Runs.{quiet_offered}
 use Rattle.served_fits.specs.served_runs.proofs.Served.{shapes_many}
-use Rattle.served_fits.specs.Below.call_causes.proofs.HandledWhole.{known_setup, known_clients}
+use Rattle.served_fits.specs.Below.call_causes.proofs.HandledWhole.{known_setup, known_clients, empty_at}
 use Rattle.calls_over.proofs.Handled.{soon_setup, soon_clients}
 use Rattle.calls_over.proofs.SoonPieces.{IsLow, NonePlain}
 use Rattle.served_fits.specs.Below.call_causes.proofs.Run.{in_either as in_two}
 use Rattle.calls_over.proofs.SoonTicks.{Stands', plain_before, run_stands, quiet_soon, none_soon}
 use Rattle.calls_over.proofs.SoonUnsent.{plain_played}
-use Rattle.served_fits.specs.served_runs.proofs.Replies.{empty_at, gave_long, empty_long}
+use Rattle.served_fits.specs.served_runs.proofs.Replies.{gave_long, empty_long}
+use Rattle.served_fits.specs.Below.owned_ids.proofs.OpensStored.{place_at}
 
 -- ## How a run begins
 
@@ -90,7 +90,7 @@ module _ (script : List Item) (made : AreMade script) (there : AreThere script) 
 
   -- a call's frames are short
   pub short : (asked : Asked) → IsCallOf script asked → (id n : ℕ) → length (frame_of asked id n) ≤ 131072
-  short asked (i, ts, t, at, m, op, number) id n = let fits = (all_in (TaskFits (plan_of script)) ts t (fits_of (plan_of script) (all_tasks script) made.are i ts (get_same (all_tasks script) i ts at)) m).1 in
+  short asked (i, ts, t, at, m, op, number) id n = let fits = (all_in (TaskFits (plan_of script)) ts t (fits_of (plan_of script) (all_tasks script) made.are i ts (place_at (all_tasks script) i ts at)) m).1 in
       (subst (OpFits (plan_of script)) op fits).short id n
 
   abbrev S : Core → List View → Type 0

@@ -20,14 +20,14 @@ use Rattle.send_causes.specs.Below.programs_allowed.specs.program_steps.specs.So
 use Rattle.send_causes.specs.Below.programs_allowed.specs.program_walks.proofs.Whole.{set_up_answered, set_up_sound}
 use Rattle.send_causes.specs.Below.joint_runs.proofs.Runs.{AreMade, first_views}
 use Rattle.send_causes.specs.Below.call_owing.specs.Settled as settled
-use Rattle.send_causes.specs.Below.sent_once.proofs.DropWhole.{get_same}
 use Rattle.send_causes.specs.Below.accept_counts.proofs.Early.{start, go, fitting, opened_takes}
 use Rattle.send_causes.specs.Below.accept_counts.proofs.Standing.{takeless_rests}
 use Rattle.send_causes.specs.Below.accept_counts.proofs.Takeless.{TakesNone, run_takes}
+use Rattle.send_causes.specs.Below.owned_ids.proofs.OpensStored.{place_at}
 
 module _ (script : List Item) (made : AreMade script) (turns : List Turn) (core : Core) (is : IsRunWithCalls script turns core) (no_join : (client number : ℕ) → Contains script (Join client number) → ⊥) where
   joinless : (c : ℕ) (ts : List Task) → get_elem? (all_tasks script) c ≡ some ts → (t : Task) → Has ts t → (o : ℕ) → t.op ≡ ops.Join o → ⊥
-  joinless c ts at t has o e = let w = task_is script core.outcomes c t (ts, get_same (all_tasks script) c ts at, contains_from ts t has) in
+  joinless c ts at t has o e = let w = task_is script core.outcomes c t (ts, place_at (all_tasks script) c ts at, contains_from ts t has) in
       let m = join_asks (numbered script) (names script) (numbers_at script t.number w.operation) w.operation.item o (w.asks ∙ ap (λ (x : Op). Some x) e) in
       no_join m.0 m.1 (contains_from script (Join m.0 m.1) (subst (Has script) m.2 (are_from 0 1 script t.number w.operation w.there).there))
 

@@ -23,14 +23,11 @@ use Rattle.seat_programs.specs.Ticks.{Moment, IsAnswered, AreAnswered, fed, with
 use Rattle.refused_attempts.specs.Below.programs_allowed.specs.program_steps.specs.GoesOn.{GoesOn}
 use Rattle.seat_programs.specs.StepTables.{May}
 use Rattle.refused_attempts.specs.Below.programs_allowed.specs.program_steps.specs.Sound.{state, Sound, IsFitting, AreFitting, first_step, views_after, views_along}
-use Rattle.refused_attempts.specs.Below.programs_allowed.specs.program_steps.proofs.Cases.{goes_first}
+use Rattle.refused_attempts.specs.Below.programs_allowed.specs.program_steps.proofs.Cases.{goes_first, tick_cases}
 use Rattle.refused_attempts.specs.Below.programs_allowed.specs.sock_runs.proofs.LinkTicks.{RetriesGo}
 use Rattle.refused_attempts.specs.Below.programs_allowed.specs.program_walks.proofs.OpensStay.{run_word}
-use Rattle.refused_attempts.specs.Below.programs_allowed.specs.program_steps.proofs.Passes.{goes_round}
 use Rattle.refused_attempts.specs.Below.programs_allowed.specs.program_walks.proofs.Recorded.{Recorded, recorded_ticks}
-use Rattle.refused_attempts.specs.Below.programs_allowed.specs.program_steps.proofs.Rounds.{begins_round}
 use Rattle.refused_attempts.specs.Below.programs_allowed.specs.sock_runs.proofs.Ticks.{sound_ticks}
-use Rattle.refused_attempts.specs.Below.outcome_stories.proofs.Cases.{tick_cases}
 use Rattle.refused_attempts.specs.accept_counts.specs.Refused.{DidStep, DidAt, DidIn}
 use Rattle.refused_attempts.specs.accept_counts.proofs.Closers.{Ends, Calm, Codes, codes_more, calm_first, stores_code}
 use Rattle.refused_attempts.specs.sent_once.proofs.DropCodes.{Failing, NoFail, Fails, Stores, codes_first, codes_next}
@@ -101,8 +98,8 @@ module _ (P : ℕ → Type 0) (gone : P 1009) where
     those_ticks = tick_cases p c vs m sound answered (λ d us. StoresThose j d) law
         (λ seat v call next at here is goes. reseated c.calls (next (found_at c.words (word_of p call))) (hand_after p call c.homes seat.hand) (words_after c.words (word_of p call) (word_after call (found_at c.words (word_of p call)))) (homes_after p call seat.hand c.homes)
         (λ own. behind_step call next (found_at c.words (word_of p call)) (program_of seat at (Do call next) is own)))
-        (λ seat v r next heading bytes at here is goes. reseated c.calls (next heading bytes) seat.hand c.words (set c.homes r none) (λ own. plain (next heading bytes) ((program_of seat at (TakeMessage r next) is own).2 heading bytes)))
-        (λ seat v k next n at here is goes. reseated c.calls (next n) (lies_at c.homes (link_place p k) ++ seat.hand) c.words (set c.homes (link_place p k) none) (λ own. plain (next n) ((program_of seat at (TakeHome k next) is own).2 n)))
+        (λ seat v r next heading bytes at here is goes lies. reseated c.calls (next heading bytes) seat.hand c.words (set c.homes r none) (λ own. plain (next heading bytes) ((program_of seat at (TakeMessage r next) is own).2 heading bytes)))
+        (λ seat v k next took n at here is goes lies. reseated c.calls (next n) (lies_at c.homes (link_place p k) ++ seat.hand) c.words (set c.homes (link_place p k) none) (λ own. plain (next n) ((program_of seat at (TakeHome k next) is own).2 n)))
         (λ seat v k n after at here is goes. reseated c.calls after (others_of seat.hand) c.words (set c.homes (link_place p k) (first_of (onto_first (with_places n) seat.hand))) (λ own. plain after (program_of seat at (PutHome k n after) is own).2))
         (λ seat v k asked bytes next answer at here is goes answer_is fits. reseated c.calls (next answer) (onto_first (fed bytes answer) seat.hand) c.words c.homes (λ own. plain (next answer) ((program_of seat at (PutBytes k asked bytes next) is own).2 answer)))
         (λ seat v k next answer at here is goes answer_is. reseated c.calls (next answer) seat.hand c.words c.homes (λ own. plain (next answer) ((program_of seat at (AskReady k next) is own).2 answer)))
@@ -180,8 +177,8 @@ module _ (p : Plan) (calls os : List ℕ) (in_os : (k o : ℕ) → get_elem? os 
             (λ x. subst (Whose c taken j h) (sym x.1) (law.known j h inside even x.0 (λ z. some_ (x.1 ∙ z))))
             (λ x. subst (Whose c taken j h) (sym x.4) (stored seat v at here j x.0 x.1 next (is ∙ ap (λ y. Do y next) x.2) (subst (May p v) x.2 goes.0) h x.3))
             (code_stays p c vs sound m.seat v here j h inside even call goes.0 version some_))
-            (λ seat v r next heading bytes at here is goes. law.known)
-            (λ seat v k next n at here is goes. law.known)
+            (λ seat v r next heading bytes at here is goes lies. law.known)
+            (λ seat v k next took n at here is goes lies. law.known)
             (λ seat v k n after at here is goes. law.known)
             (λ seat v k asked bytes next answer at here is goes answer_is fits. law.known)
             (λ seat v k next answer at here is goes answer_is. law.known)
@@ -200,7 +197,7 @@ module _ (p : Plan) (calls os : List ℕ) (in_os : (k o : ℕ) → get_elem? os 
           where
             by : (s : SeatState) → get_elem? c.seats m.seat ≡ some s → (next : ℕ → Program) → first_step s.program ≡ Do (LoadCode i h) next → code ≡ found_at c.words (word_of p (LoadCode i h)) → Whose c taken i h code
             by s at next is found = let v = view_at p calls os in_os Odd Lasts ends c vs sound m.seat s at in
-                let may = (subst (GoesOn p v.0) is (goes_first p v.0 (begins_round p v.0) (goes_round p v.0) s.program (sound.seats m.seat s v.0 at v.1).goes_on)).0 in
+                let may = (subst (GoesOn p v.0) is (goes_first p v.0 s.program (sound.seats m.seat s v.0 at v.1).goes_on)).0 in
                 let held = held_version p c vs sound m.seat v.0 v.1 i h may.0 may.1 in
                 let code_is : code ≡ code_in c.words i = found in
                 subst (Whose c taken i h) (sym code_is) (law.known i h may.0 held.1

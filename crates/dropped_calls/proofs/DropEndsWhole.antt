@@ -33,10 +33,10 @@ use Rattle.refused_attempts.specs.Below.joint_runs.proofs.Runs.{AreMade, first_v
 use Rattle.refused_attempts.specs.accept_counts.specs.Refused.{DidStep, DidEarly, DidInRun}
 use Rattle.refused_attempts.specs.sent_once.proofs.DropCodes.{NoFail, Stores, OwnsFail, client_codes, ending_codes, codes_next}
 use Rattle.dropped_calls.proofs.DropEnds.{StoresThose, EndsLaw, EndsAlong, Whose, ends_along}
-use Rattle.refused_attempts.specs.sent_once.proofs.DropWhole.{get_same}
 use Rattle.refused_attempts.specs.accept_counts.proofs.Early.{Any, ends_anyhow, start, go, fitting, known, before_readers}
 use Rattle.refused_attempts.specs.Below.call_stories.proofs.RunTicks.{in_setup, in_clients, in_closing}
 use Rattle.ended_calls.proofs.EndedWhole.{opened_keeps, closing_keeps, h₁, h₂, h₃, h₄}
+use Rattle.refused_attempts.specs.Below.owned_ids.proofs.OpensStored.{place_at}
 
 module _ (script : List Item) (made : AreMade script) (turns : List Turn) (core : Core) (is : IsRunWithCalls script turns core) (P : ℕ → Type 0) (gone : P 1009)
     (fits : (j : ℕ) (ts : List Task) → slice_get (all_tasks script) j ≡ Some ts → (t : Task) → In t ts → (name code : ℕ) → t.op ≡ ops.Fail name code → P code) where
@@ -65,7 +65,7 @@ module _ (script : List Item) (made : AreMade script) (turns : List Turn) (core 
   program_codes : (j : ℕ) (x : Program) → j < 32 → get_elem? (all_programs first (readers_from (calls script) 0 (opens script))) j ≡ some x → Stores (λ o code. P code) P NoFail x
   program_codes j x low at = ⊎_elim
       (λ a. let sizes : Sizes = sizes_of (plan_of script) (id_plan_of script) in let t = mapped (client_from sizes []) (all_tasks script) j x a in
-      subst (Stores (λ o code. P code) P NoFail) t.2 (client_codes (λ o code. P code) P gone sizes t.0 [] (all_of (λ (u : Task). OwnsFail (λ o code. P code) P gone u.number u.op) t.0 (owns_fail j t.0 (get_same (all_tasks script) j t.0 t.1)))))
+      subst (Stores (λ o code. P code) P NoFail) t.2 (client_codes (λ o code. P code) P gone sizes t.0 [] (all_of (λ (u : Task). OwnsFail (λ o code. P code) P gone u.number u.op) t.0 (owns_fail j t.0 (place_at (all_tasks script) j t.0 t.1)))))
       (λ e. subst (Stores (λ o code. P code) P NoFail) (sym e) tt)
       (before_readers first (32 - length first) (readers_from (calls script) 0 (opens script)) j x (omega (arith, low)) at)
 

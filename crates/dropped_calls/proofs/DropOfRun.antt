@@ -25,6 +25,7 @@ use Rattle.refused_attempts.specs.Below.slot_steps.proofs.Numbers.{life_le, life
 use Rattle.refused_attempts.specs.Below.slot_steps.proofs.Sums.{total_bound}
 use Rattle.refused_attempts.specs.Below.chain_steps.proofs.Frames.{in_log}
 use Rattle.corr_core.specs.Word.{error_of, code_of, attempt_of}
+use Rattle.corr_core.proofs.Notes.{at_length}
 use Rattle.sock_message.specs.Asked.{Asked}
 use Rattle.seat_programs.specs.declared.task.Op.TheVariants as ops
 use Rattle.seat_programs.specs.declared.task.Task.{Task}
@@ -54,7 +55,7 @@ use Rattle.refused_attempts.specs.Below.outcome_stories.specs.Stories.{Event, In
 use Rattle.refused_attempts.specs.Below.outcome_stories.proofs.Delivered.{accepted_at, AreQuiet, requests_used}
 use Rattle.refused_attempts.specs.Below.outcome_causes.proofs.Openings.{are_seats}
 use Rattle.refused_attempts.specs.Below.outcome_ticks.proofs.Events.{event, BeforeIn, cause_of, in_marked, birth_adds, marked_given}
-use Rattle.refused_attempts.specs.Below.outcome_causes.proofs.Final.{at_within, at_there, idle, final}
+use Rattle.refused_attempts.specs.Below.outcome_causes.proofs.Final.{at_there, idle, final}
 use Rattle.refused_attempts.specs.Below.outcome_ticks.proofs.Lifted.{up, task_up, made_up, made_down}
 use Rattle.refused_attempts.specs.Below.outcome_causes.proofs.Lives.{World, birth_means, task_of, given_made, one_life, odd_means, odd_life, fail_says}
 use Rattle.refused_attempts.specs.Below.outcome_stories.proofs.Members.{all_in, contains_in, in_contains}
@@ -73,8 +74,8 @@ use Rattle.refused_attempts.specs.sent_once.proofs.DropCodes.{IsOtherCode}
 use Rattle.refused_attempts.specs.sent_once.proofs.DropPlaces.{log_few}
 use Rattle.refused_attempts.specs.sent_once.proofs.DropRuns.{IsCalls, IsDropAt, Tells}
 use Rattle.refused_attempts.specs.sent_once.proofs.DropTicks.{FailedWith}
-use Rattle.refused_attempts.specs.sent_once.proofs.DropWhole.{get_same}
 use Rattle.refused_attempts.specs.sent_once.proofs.DropWhole as whole
+use Rattle.refused_attempts.specs.Below.owned_ids.proofs.OpensStored.{place_at}
 
 -- the parts of an error
 decodes : (code n : ℕ) → n ≤ 6 → (attempt_of (error_of code n) ≡ n) × (code_of (error_of code n) ≡ code)
@@ -137,7 +138,7 @@ module _ (script : List Item) (made : AreMade script) (turns : List Turn) (core 
   few_accepted k i e at = let runs = joint_runs script turns core is made in let b = joint_bounded script turns core is made runs in let f = b.over in let few = f.few in
       let all = few_log views end_sound.lawful.log end_sound.lawful.authors
       (let n = few.few_seats in let t = total_bound lists_of 1 views (λ j v there. (few.short j v there).0) in omega (arith, n, t)) (λ j v there. (few.short j v there).1) in
-      let less = at_within (on k end_sound.lawful.log) i e at in let shorter = on_shorter k end_sound.lawful.log in omega (arith, all, less, shorter)
+      let less = at_length (on k end_sound.lawful.log) i e at in let shorter = on_shorter k end_sound.lawful.log in omega (arith, all, less, shorter)
 
   few_attempts : (k i : ℕ) (e : Entry) → get_elem? (on k end_sound.lawful.log) i ≡ some e → e.heading.attempt ≤ 6
   few_attempts k i e at = let l = in_log end_sound.lawful.chains k i e at in let s = ends in
@@ -175,7 +176,7 @@ module _ (script : List Item) (made : AreMade script) (turns : List Turn) (core 
   settled = end_rests script made.are (first_views script) (start script made turns core is) (go script made turns core is) turns core is (fitting script made turns core is) (owed script made turns core is closes)
 
   quiet : AreQuiet views
-  quiet i v at = let seat = at_there core.seats i (let l = at_within views i v at in let e = end_sound.each in omega (arith, l, e)) in
+  quiet i v at = let seat = at_there core.seats i (let l = at_length views i v at in let e = end_sound.each in omega (arith, l, e)) in
       let n : HasNothing v = subst (GoesOn p v) (settled i seat.0 seat.1) (end_sound.seats i seat.0 v seat.1 at).goes_on in n.quiet
 
   slot_law : (j : ℕ) → j < p.slots → SlotLaw p.first (live (slot_facts (state core views) j)) (slot_facts (state core views) j)
@@ -333,7 +334,7 @@ module _ (script : List Item) (made : AreMade script) (turns : List Turn) (core 
     client = call.0;
     task = call.2;
     asked = calls.asked;
-    is_task = (call.1, get_same (all_tasks script) call.0 call.1 call.3, in_contains call.1 call.2 call.4);
+    is_task = (call.1, place_at (all_tasks script) call.0 call.1 call.3, in_contains call.1 call.2 call.4);
     op = call.5;
     own = ap ids number ∙ (calls.owner ∙ id);
     few = (let f = calls.few in omega (arith, attempt, f));

@@ -20,7 +20,7 @@ use Rattle.seat_programs.specs.Ticks.{Moment, quiet}
 use Rattle.seat_programs.specs.Scripts.{all_tasks, played, IsRunWithCalls}
 use Rattle.seat_programs.specs.ToldCalls.{Accepted, label, IsFailing}
 use Rattle.refused_attempts.specs.Below.programs_allowed.specs.program_steps.specs.Sound.{state, Sound, AreFew}
-use Rattle.refused_attempts.specs.Below.programs_allowed.specs.sock_runs.proofs.Along.{seat_rests, place_inside}
+use Rattle.refused_attempts.specs.Below.programs_allowed.specs.sock_runs.proofs.Along.{seat_rests}
 use Rattle.refused_attempts.specs.Below.programs_allowed.specs.program_walks.proofs.Whole.{closing_of, views_played, views_closed, views_ended, end_answered, played_sound, closing_sound, closed_sound, ended_sound, rested_ahead, rested_idle}
 use Rattle.refused_attempts.specs.Below.outcome_stories.specs.Facts.{late_links_of_run}
 use Rattle.refused_attempts.specs.Below.outcome_stories.specs.Stories.{In}
@@ -39,6 +39,7 @@ use Rattle.dropped_calls.proofs.LateLives.{WasPast}
 use Rattle.refused_attempts.specs.sent_once.proofs.Sends.{orders_are}
 use Rattle.refused_attempts.specs.Below.sock_steps.proofs.Positions.{on_shorter}
 use Rattle.refused_attempts.specs.Below.programs_allowed.specs.program_steps.specs.Lasts.{MOST_TICKS}
+use Rattle.corr_core.proofs.Notes.{at_length}
 
 -- a place word tells that the message at this position of the link was dropped: then the link had failed
 failed_here : (p : Plan) (c : Core) (vs : List View) (sound : Sound p c vs) → AreFew vs → (l k position : ℕ) → l < 8 * p.operations → k < p.links → position < 2147483648 → get_or c.words (place_index p l) 0 ≡ place_value true k position → Failed p (state c vs) k
@@ -49,7 +50,7 @@ failed_here p c vs sound few l k position low kl small word = by_shown (sound.la
     by_shown (one_place j i e jl il at is w) = by (nat_le (sound.lawful.kept j) i) refl w
       where
         others : i < 2147483648
-        others = let s = log_small p c vs sound few in let o = on_shorter j sound.lawful.log in let n = place_inside (on j sound.lawful.log) i e at in omega (arith, s, o, n)
+        others = let s = log_small p c vs sound few in let o = on_shorter j sound.lawful.log in let n = at_length (on j sound.lawful.log) i e at in omega (arith, s, o, n)
 
         by : (b : Bool) → nat_le (sound.lawful.kept j) i ≡ b → get_or c.words (place_index p l) 0 ≡ place_value b j i → Failed p (state c vs) k
         by true le w = let one : j ≡ k = (let y = others in omega (arith, word, w, small, y)) in subst (Failed p (state c vs)) one (sound.lawful.delivered.failed j jl (let less = leb-true (sound.lawful.kept j) i le in omega (arith, less, il)))

@@ -21,12 +21,9 @@ use Rattle.seat_programs.specs.Ticks.{Moment, IsAnswered, ticked}
 use Rattle.refused_attempts.specs.Below.programs_allowed.specs.program_steps.specs.GoesOn.{GoesOn}
 use Rattle.seat_programs.specs.StepTables.{May}
 use Rattle.refused_attempts.specs.Below.programs_allowed.specs.program_steps.specs.Sound.{state, Sound, IsFitting, first_step, views_after}
-use Rattle.refused_attempts.specs.Below.programs_allowed.specs.program_steps.proofs.Cases.{goes_first}
+use Rattle.refused_attempts.specs.Below.programs_allowed.specs.program_steps.proofs.Cases.{goes_first, tick_cases}
 use Rattle.refused_attempts.specs.Below.programs_allowed.specs.sock_runs.proofs.LinkTicks.{RetriesGo}
-use Rattle.refused_attempts.specs.Below.programs_allowed.specs.program_steps.proofs.Passes.{goes_round}
 use Rattle.refused_attempts.specs.Below.programs_allowed.specs.program_walks.proofs.Recorded.{Recorded}
-use Rattle.refused_attempts.specs.Below.programs_allowed.specs.program_steps.proofs.Rounds.{begins_round}
-use Rattle.refused_attempts.specs.Below.outcome_stories.proofs.Cases.{tick_cases}
 use Rattle.refused_attempts.specs.Below.call_stories.specs.Decided.{is_late_step, late_at}
 use Rattle.refused_attempts.specs.accept_counts.specs.Refused.{DidStep, DidAt}
 use Rattle.refused_attempts.specs.accept_counts.proofs.Closers.{Ends, Calm, calm_first, stores_code}
@@ -106,8 +103,8 @@ module _ (p : Plan) (calls os : List ℕ) (in_os : (k o : ℕ) → get_elem? os 
         (λ x. subst (Stored Later j h) (sym x.1) (known_here j h new inside even x.0 (λ z. some_ (x.1 ∙ z))))
         (λ x. subst (Stored Later j h) (sym x.4) (stored seat v at here j x.0 x.1 next (is ∙ ap (λ y. Do y next) x.2) (subst (May p v) x.2 goes.0) h x.3))
         (code_stays p c vs sound m.seat v here j h inside even call goes.0 version some_))
-        (λ seat v r next heading bytes at here is goes. known_here)
-        (λ seat v k next n at here is goes. known_here)
+        (λ seat v r next heading bytes at here is goes lies. known_here)
+        (λ seat v k next took n at here is goes lies. known_here)
         (λ seat v k n after at here is goes. known_here)
         (λ seat v k asked bytes next answer at here is goes answer_is fits. known_here)
         (λ seat v k next answer at here is goes answer_is. known_here)
@@ -126,7 +123,7 @@ module _ (p : Plan) (calls os : List ℕ) (in_os : (k o : ℕ) → get_elem? os 
       where
         by : (s : SeatState) → get_elem? c.seats m.seat ≡ some s → (next : ℕ → Program) → first_step s.program ≡ Do (LoadCode i h) next → code ≡ found_at c.words (word_of p (LoadCode i h)) → Stored Late i h code
         by s at next is found = let v = view_at p calls os in_os Odd Lasts ends c vs sound m.seat s at in
-            let may = (subst (GoesOn p v.0) is (goes_first p v.0 (begins_round p v.0) (goes_round p v.0) s.program (sound.seats m.seat s v.0 at v.1).goes_on)).0 in
+            let may = (subst (GoesOn p v.0) is (goes_first p v.0 s.program (sound.seats m.seat s v.0 at v.1).goes_on)).0 in
             let held = held_version p c vs sound m.seat v.0 v.1 i h may.0 may.1 in
             let code_is : code ≡ code_in c.words i = found in
             subst (Stored Late i h) (sym code_is) (law.known i h new may.0 held.1

@@ -20,12 +20,9 @@ use Rattle.seat_programs.specs.Scripts.{IsRunWithCalls}
 use Rattle.refused_attempts.specs.Below.programs_allowed.specs.program_steps.specs.GoesOn.{GoesOn}
 use Rattle.seat_programs.specs.StepTables.{May}
 use Rattle.refused_attempts.specs.Below.programs_allowed.specs.program_steps.specs.Sound.{Sound, AreFitting, first_step, views_after, views_along}
-use Rattle.refused_attempts.specs.Below.programs_allowed.specs.sock_runs.proofs.Along.{place_inside}
 use Rattle.refused_attempts.specs.Below.programs_allowed.specs.program_steps.proofs.Cases.{goes_first}
 use Rattle.refused_attempts.specs.Below.programs_allowed.specs.sock_runs.proofs.LinksStay.{IsGiven, run_given}
 use Rattle.refused_attempts.specs.Below.programs_allowed.specs.sock_runs.proofs.LinkTicks.{RetriesGo}
-use Rattle.refused_attempts.specs.Below.programs_allowed.specs.program_steps.proofs.Passes.{goes_round}
-use Rattle.refused_attempts.specs.Below.programs_allowed.specs.program_steps.proofs.Rounds.{begins_round}
 use Rattle.refused_attempts.specs.Below.programs_allowed.specs.sock_runs.proofs.Ticks.{sound_ticks}
 use Rattle.refused_attempts.specs.Below.programs_allowed.specs.program_walks.proofs.Whole.{views_closed, views_ended, closed_sound}
 use Rattle.refused_attempts.specs.Below.joint_runs.proofs.Runs.{AreMade, first_views}
@@ -35,6 +32,7 @@ use Rattle.dropped_calls.proofs.LateLives.{WasPast, Lives, lives_tell, lives_tic
 use Rattle.dropped_calls.proofs.LateLooks.{Mode, Idle, Writes}
 use Rattle.dropped_calls.proofs.LateRests.{none_stands, ended_idle, Any}
 use Rattle.dropped_calls.proofs.LateSeats.{Righted, rights_of, Stands, AllStand, Tells, stand_ticks}
+use Rattle.corr_core.proofs.Notes.{at_length}
 
 module _ (p : Plan) (base : Core) (L : ℕ → Type 0) where
   -- a life of before
@@ -53,8 +51,8 @@ module _ (p : Plan) (base : Core) (L : ℕ → Type 0) where
   drop_now c vs m sound stands j l k n found d = by d.1 d.2 d.3 d.4
     where
       by : (s : SeatState) (next : ℕ → Program) → get_elem? c.seats j ≡ some s → first_step s.program ≡ Do (DropPlace l k n) next → L k
-      by s next at is = let v = at_some vs j (let i = place_inside c.seats j s at in let e = sound.each in omega (arith, i, e)) in let x = stands j s v.0 at v.1 in
-          drop_right x.0 v.0 x.2 l k n (subst (GoesOn p v.0) is (goes_first p v.0 (begins_round p v.0) (goes_round p v.0) s.program (sound.seats j s v.0 at v.1).goes_on)).0
+      by s next at is = let v = at_some vs j (let i = at_length c.seats j s at in let e = sound.each in omega (arith, i, e)) in let x = stands j s v.0 at v.1 in
+          drop_right x.0 v.0 x.2 l k n (subst (GoesOn p v.0) is (goes_first p v.0 s.program (sound.seats j s v.0 at v.1).goes_on)).0
 
   pub drops_late : RetriesGo p → (ms : List Moment) (c : Core) (vs : List View) → Sound p c vs → AreAnswered p c ms → AreFitting p c ms → ((i h k : ℕ) → i < p.slots → IsGiven (run p c ms) (views_along p c vs ms) i h k → Old i h ⊎ L k)
       → Lives p base Any c vs → AllStand p L Old c vs → (j l k n found : ℕ) → DidIn p c ms j (DidStep (DropPlace l k n) found) → L k

@@ -1,5 +1,5 @@
 -- Over the ticks of a run: where a client posts an error with the code of the end of a reading, it dropped a message, and the reader of the socket whose code it found was behind the end of its reading before.
-use Rattle.std.proofs.Common.{◌≡◌, ◌≢◌, ℕ, zero, suc, ◌+◌, ◌<◌, ◌≤◌, ◌==◌, ◌⊎◌, inl, inr, ⊎_elim, Bool, true, false, cond, eqb-true, ne_eqb, List, [], ◌∷◌, ◌++◌, replicate, get_or, refl, sym, ap, ◌∙◌, subst, arith}
+use Rattle.std.proofs.Common.{◌≡◌, ◌≢◌, ℕ, zero, suc, ◌+◌, ◌<◌, ◌≤◌, ◌==◌, ◌⊎◌, inl, inr, ⊎_elim, Bool, true, false, cond, ne_eqb, List, [], ◌∷◌, ◌++◌, replicate, get_or, refl, sym, ap, ◌∙◌, subst, arith}
 use Rattle.std.specs.Prelude.{◌||◌, ◌&&◌}
 use Rattle.std.proofs.lemmas.Bool.{true≢false}
 use mathlib.Core.Option.{Option, none, some}
@@ -37,16 +37,9 @@ use Rattle.refused_attempts.proofs.RefusedRuns.{law_more}
 use Rattle.refused_attempts.proofs.RefusedTicks.{charge_ticks}
 use Rattle.refused_attempts.specs.accept_counts.proofs.Runs.{Lawful_}
 use Rattle.refused_attempts.specs.accept_counts.proofs.Ticks.{label_ticks}
+use Rattle.refused_attempts.specs.accept_counts.proofs.PostSeats.{of_tick}
 
 -- ## Lists of posts
-
--- what a seat posts in a tick is what the tick posts, where it is the seat's
-pub of_seat : (j : ℕ) (c : Core) (m : Moment) (x : Post) → In x (posted_by j c m) → (m.seat ≡ j) × In x (posted_at c m)
-of_seat j c m x at = by (m.seat == j) refl at
-  where
-    by : (b : Bool) → (m.seat == j) ≡ b → In x (cond b (posted_at c m) []) → (m.seat ≡ j) × In x (posted_at c m)
-    by true e z = (eqb-true m.seat j e, z)
-    by false e z = absurd z
 
 -- what is posted behind a late step is posted
 behind_shown : (j : ℕ) (p : Plan) (ms : List Moment) (c : Core) (x : Post) → In x (posted_behind j p c ms) → In x (shows_in posted_at p c ms)
@@ -206,7 +199,7 @@ module _ (p : Plan) (q : IdPlan) (narrow : q.slots ≤ 65536) (is_call : Asked �
           charges = law_more p q narrow is_call ids (Told (Done_ (λ j d. Done j d ⊎ DidAt p c m j d) (ticked p c m) ms) (With (Next Late c m) (ticked p c m) ms)) (Told (Done_ Done c (m ∷ ms)) (With Late c (m ∷ ms)))
               (λ j d t. (grouped Done c m ms j d t.0, says_more (With (Next Late c m) (ticked p c m) ms) (With Late c (m ∷ ms)) (with_next Late c m ms) d t.1)) (run p (ticked p c m) ms) (views_along p (ticked p c m) (views_after p c vs m) ms) r.doings r.charges;
           posts = λ j low x at code. ⊎_elim
-              (λ now. let o = of_seat j c m x now in late_post_more (λ d. Done j d ⊎ DidAt p c m j d) (Done_ Done c (m ∷ ms) j) (λ n. Late n × In x (shows_in posted_at p c (m ∷ ms))) (InTime Late c (m ∷ ms) x) (λ d y. grouped Done c m ms j d (inl y)) (λ n y. inl y) x
+              (λ now. let o = of_tick j c m x now in late_post_more (λ d. Done j d ⊎ DidAt p c m j d) (Done_ Done c (m ∷ ms) j) (λ n. Late n × In x (shows_in posted_at p c (m ∷ ms))) (InTime Late c (m ∷ ms) x) (λ d y. grouped Done c m ms j d (inl y)) (λ n y. inl y) x
               (as_late Done Late c vs m taken ss sound answered.0 fitting.0 recorded open_ahead law j (λ n. Late n × In x (shows_in posted_at p c (m ∷ ms))) (λ n l. (l, in_left (posted_at c m) (shows_in posted_at p (ticked p c m) ms) x o.1)) x
               (subst (λ i. DropPost (λ d. Told Done Late i d ⊎ DidAt p c m i d) x) o.0 (tick_drop p q narrow is_call ids (Told Done Late) c vs ss charges labels.1.calls are.0.0 are.0.1 m sound (let e = o.0 in omega (arith, e, low)) x o.1 code))))
               (λ later. late_post_more (Done_ (λ j d. Done j d ⊎ DidAt p c m j d) (ticked p c m) ms j) (Done_ Done c (m ∷ ms) j) (InTime (Next Late c m) (ticked p c m) ms x) (InTime Late c (m ∷ ms) x) (λ d y. grouped Done c m ms j d y) (time_next Late c m ms x) x

@@ -1,5 +1,5 @@
 -- In a whole run an error with the code of the end of a reading that a client posts is that of a message that it dropped; and the reader of the socket whose code it found was behind the end of its reading before.
-use Rattle.std.proofs.Common.{◌≡◌, ◌≢◌, ℕ, ◌+◌, ◌<◌, ◌≤◌, ◌⊎◌, inl, inr, ⊎_elim, List, [], ◌∷◌, ◌++◌, replicate, get_or, sym, ap, ◌∙◌, subst, arith}
+use Rattle.std.proofs.Common.{◌≡◌, ◌≢◌, ℕ, ◌+◌, ◌<◌, ◌≤◌, ◌⊎◌, inl, inr, ⊎_elim, List, [], ◌++◌, replicate, get_or, sym, ap, ◌∙◌, subst, arith}
 use Rattle.std.specs.Prelude.{Some, slice_get}
 use mathlib.Core.Logic.{dite}
 use mathlib.Core.Option.{some}
@@ -8,7 +8,6 @@ use lib.ListN.{get_elem?}
 use Rattle.atomic_table.proofs.Lists.{set_else}
 use Rattle.seat_programs.specs.brpc_model.specs.Items.{Item}
 use Rattle.seat_programs.specs.brpc_model.specs.Operations.{Turn}
-use Rattle.sock_words.specs.declared.plain.Plan.{Plan}
 use Rattle.sock_model.specs.declared.view.View.{View}
 use Rattle.sock_model.specs.Layout.{open_index}
 use Rattle.corr_core.specs.Word.{code_of}
@@ -17,7 +16,7 @@ use Rattle.seat_programs.specs.declared.task.Task.{Task}
 use Rattle.seat_programs.specs.Asides.{Taking}
 use Rattle.seat_programs.specs.Cores.{Core}
 use Rattle.seat_programs.specs.Tasks.{opens, calls, plan_of, id_plan_of}
-use Rattle.seat_programs.specs.Ticks.{Moment, AreAnswered, quiet, ticked, run}
+use Rattle.seat_programs.specs.Ticks.{Moment, AreAnswered, quiet, run}
 use Rattle.seat_programs.specs.Scripts.{all_tasks, opened, set_up, played, IsRunWithCalls}
 use Rattle.refused_attempts.specs.Below.programs_allowed.specs.program_steps.specs.Sound.{Sound, AreFitting, views_along}
 use Rattle.refused_attempts.specs.Below.programs_allowed.specs.sock_runs.proofs.Along.{seat_rests}
@@ -25,13 +24,13 @@ use Rattle.refused_attempts.specs.Below.programs_allowed.specs.program_walks.pro
 use Rattle.refused_attempts.specs.Below.programs_allowed.specs.program_walks.proofs.Recorded.{Recorded}
 use Rattle.refused_attempts.specs.Below.programs_allowed.specs.program_walks.proofs.Whole.{IsListed, closing_of, views_played, views_closed, set_up_answered, end_answered, set_up_sound, closing_sound, closed_sound, closed_ahead, recorded_opened, recorded_set_up, recorded_closing, recorded_closed}
 use Rattle.refused_attempts.specs.Below.outcome_stories.specs.Stories.{In}
-use Rattle.refused_attempts.specs.Below.outcome_causes.proofs.Plain.{in_left, in_right, in_both}
+use Rattle.refused_attempts.specs.Below.outcome_causes.proofs.Plain.{in_both}
 use Rattle.refused_attempts.specs.Below.programs_allowed.proofs.Beginning as clients_begin
 use Rattle.refused_attempts.specs.Below.joint_runs.proofs.Runs.{AreMade, first_views}
 use Rattle.refused_attempts.specs.Below.call_owing.specs.Lives.{ClosesInRun}
 use Rattle.refused_attempts.specs.Below.call_stories.specs.Decided.{posted_by, posted_behind}
 use Rattle.refused_attempts.specs.Below.call_stories.specs.Lists.{shows_in, shows_in_run}
-use Rattle.refused_attempts.specs.Below.call_stories.specs.Posts.{Post, posted_at}
+use Rattle.refused_attempts.specs.Below.call_stories.specs.Posts.{Post}
 use Rattle.refused_attempts.specs.accept_counts.specs.Counts.{AreLabelled}
 use Rattle.refused_attempts.specs.accept_counts.specs.Refused.{Deed, Doing, DidIn, DidEarly, DidLate, AllWouldOwn, RunWouldOwn}
 use Rattle.refused_attempts.specs.sent_once.proofs.DropCodes.{Stores}
@@ -41,13 +40,14 @@ use Rattle.refused_attempts.specs.accept_counts.proofs.Early.{Any, ends_anyhow, 
 use Rattle.ended_calls.proofs.EndedWhole.{h₃, closed_keeps}
 use Rattle.dropped_calls.proofs.LateDropsCodes.{IsLife, LateLaw, late_more}
 use Rattle.dropped_calls.proofs.LateDropsEnding.{IsNew}
-use Rattle.dropped_calls.proofs.LateDropsRuns.{of_seat, none_late, none_behind, Told, Charged, says_more, LatePost, late_post_more, InTime, With, Behind, posts_along}
+use Rattle.dropped_calls.proofs.LateDropsRuns.{none_late, none_behind, Told, Charged, says_more, LatePost, late_post_more, InTime, With, Behind, posts_along}
 use Rattle.dropped_calls.proofs.LateRests.{others_along}
 use Rattle.refused_attempts.proofs.RefusedRuns.{law_more}
 use Rattle.refused_attempts.specs.sent_once.proofs.Sends.{opening_bare}
 use Rattle.refused_attempts.proofs.RefusedWhole.{few_slots, Law, first_doings, Nothing, first_charges, final_doings, final_charges, closing_none}
 use Rattle.refused_attempts.specs.accept_counts.proofs.Runs.{AreLabelledIn, IsCallOf, Lawful_}
 use Rattle.refused_attempts.specs.accept_counts.proofs.Runs as labels
+use Rattle.refused_attempts.specs.accept_counts.proofs.PostSeats.{of_all}
 
 -- the codes that clients store
 abbrev pub IsNoEnd : ℕ → Type 0
@@ -63,13 +63,6 @@ AnyLife j h = Unit {0}
 -- no link
 abbrev Never : ℕ → Type 0
 Never n = ⊥
-
-seat_shown : (j : ℕ) (p : Plan) (ms : List Moment) (c : Core) (x : Post) → In x (shows_in (posted_by j) p c ms) → In x (shows_in posted_at p c ms)
-seat_shown j p [] c x at = absurd at
-seat_shown j p (m ∷ ms) c x at = ⊎_elim
-    (λ now. in_left (posted_at c m) (shows_in posted_at p (ticked p c m) ms) x (of_seat j c m x now).1)
-    (λ later. in_right (posted_at c m) (shows_in posted_at p (ticked p c m) ms) x (seat_shown j p ms (ticked p c m) x later))
-    (in_both (posted_by j c m) (shows_in (posted_by j) p (ticked p c m) ms) x at)
 
 module _ (script : List Item) (made : AreMade script) (turns : List Turn) (core : Core) (is : IsRunWithCalls script turns core) (closes : ClosesInRun script turns core is) (ids : ℕ → ℕ) (labelled : AreLabelledIn ids script turns core is) (would : RunWouldOwn ids script turns core is)
     (fits : (j : ℕ) (ts : List Task) → slice_get (all_tasks script) j ≡ Some ts → (t : Task) → In t ts → (name code : ℕ) → t.op ≡ ops.Fail name code → IsNoEnd code) where
@@ -232,7 +225,7 @@ module _ (script : List Item) (made : AreMade script) (turns : List Turn) (core 
       (λ a. inl (more AnyLife (λ d. DidSetup j d ⊎ DidIn (plan_of script) (set_up script is.setup) (is.scheduled ++ is.later) j d) (DidEarly script turns core is j) (Time AnyLife (set_up script is.setup) (is.scheduled ++ is.later) x) (BehindClients x)
       (λ d. ⊎_elim (λ z. ⊎_elim (λ w. absurd w) (λ y. inl y) z) (λ y. inr y)) (λ n. ⊎_elim (λ z. absurd z.0) (λ z. z)) x ((let s = clients_part in s.posts) j low x a code)))
       (λ rest. ⊎_elim
-      (λ a. absurd (closing_none script made turns core is closes ids labelled would x (seat_shown j (plan_of script) (replicate is.last (quiet 0)) (closing_of script turns core is) x a)))
+      (λ a. absurd (closing_none script made turns core is closes ids labelled would x (of_all j (plan_of script) (replicate is.last (quiet 0)) (closing_of script turns core is) x a)))
       (λ a. inr (more (IsNew script made turns core is) (λ d. None j d ⊎ DidIn (plan_of script) is.ended is.final j d) (DidLate script turns core is j) (Time (IsNew script made turns core is) is.ended is.final x) (BehindEnding x) (λ d. ⊎_elim (λ z. absurd z) (λ y. y))
       (λ n. ⊎_elim (λ z. absurd z.0) (λ z. z)) x ((let s = final_part in s.posts) j low x a code)))
       (in_both (shows_in (posted_by j) (plan_of script) (closing_of script turns core is) (replicate is.last (quiet 0))) (shows_in (posted_by j) (plan_of script) is.ended is.final) x rest))

@@ -29,7 +29,7 @@ use Rattle.seat_programs.specs.Ticks.{Moment, IsAnswered, AreAnswered, quiet, ti
 use Rattle.seat_programs.specs.Scripts.{played, IsRunWithCalls}
 use Rattle.seat_programs.specs.StepTables.{row, hand_at}
 use Rattle.refused_attempts.specs.Below.programs_allowed.specs.program_steps.specs.Sound.{state, Sound, first_step, IsFitting, AreFitting, views_after, views_along}
-use Rattle.refused_attempts.specs.Below.programs_allowed.specs.sock_runs.proofs.Along.{place_inside, seat_rests}
+use Rattle.refused_attempts.specs.Below.programs_allowed.specs.sock_runs.proofs.Along.{seat_rests}
 use Rattle.refused_attempts.specs.Below.programs_allowed.specs.program_steps.proofs.Bounds.{law, lives_le}
 use Rattle.refused_attempts.specs.Below.programs_allowed.specs.program_steps.proofs.Cases.{ComesNext, with_rights, tick_keeps_marks}
 use Rattle.refused_attempts.specs.Below.programs_allowed.specs.program_walks.proofs.Closing.{Fails, fails_ending, what_fails}
@@ -37,17 +37,16 @@ use Rattle.refused_attempts.specs.Below.programs_allowed.specs.sock_runs.proofs.
 use Rattle.refused_attempts.specs.Below.programs_allowed.specs.sock_runs.proofs.LinksStay.{IsGiven, run_given}
 use Rattle.refused_attempts.specs.Below.programs_allowed.specs.sock_runs.proofs.LinkTicks.{RetriesGo}
 use Rattle.refused_attempts.specs.Below.programs_allowed.specs.sock_runs.proofs.Notes.{bears}
-use Rattle.refused_attempts.specs.Below.programs_allowed.specs.program_steps.proofs.Passes.{goes_round}
 use Rattle.refused_attempts.specs.Below.programs_allowed.specs.sock_runs.proofs.Quiets.{run_seats}
 use Rattle.refused_attempts.specs.Below.programs_allowed.specs.program_walks.proofs.Records.{stores, next_stores, opens_same}
 use Rattle.refused_attempts.specs.Below.programs_allowed.specs.program_walks.proofs.Recorded.{Recorded, IsPending}
-use Rattle.refused_attempts.specs.Below.programs_allowed.specs.program_steps.proofs.Rounds.{begins_round}
 use Rattle.refused_attempts.specs.Below.programs_allowed.specs.sock_runs.proofs.Ticks.{sound_ticks}
 use Rattle.refused_attempts.specs.Below.programs_allowed.specs.sock_runs.proofs.Versions.{versions_on, odd_past}
 use Rattle.refused_attempts.specs.Below.programs_allowed.specs.program_walks.proofs.Whole.{closing_of, views_played, views_closed, end_answered, closing_sound, rested_ahead, recorded_closing, closed_ahead}
 use Rattle.refused_attempts.specs.Below.joint_runs.proofs.Runs.{AreMade, first_views}
 use Rattle.refused_attempts.specs.accept_counts.proofs.Early.{start, go, fitting}
 use Rattle.refused_attempts.specs.accept_counts.proofs.Rests.{many, aside}
+use Rattle.corr_core.proofs.Notes.{at_length}
 
 -- a life that was given a link was born
 pub given_born : (p : Plan) (c : Core) (vs : List View) → Sound p c vs → (i h k : ℕ) → i < p.slots → IsGiven c vs i h k → 0 < count (is_born h) (slot_facts (state c vs) i)
@@ -122,7 +121,7 @@ module _ (p : Plan) (retries : RetriesGo p) where
   MakesEnding c = (seat : SeatState) → get_elem? c.seats 0 ≡ some seat → Still seat.program
 
   makes_ticks : (c : Core) (vs : List View) (m : Moment) → m.seat ≡ 0 → Sound p c vs → IsAnswered c m → IsFitting p c m → MakesEnding c → MakesEnding (ticked p c m)
-  makes_ticks c vs m own sound answered fits e = tick_keeps_marks p c vs m sound answered fits (begins_round p) (goes_round p) (λ d ws. MakesEnding d) e
+  makes_ticks c vs m own sound answered fits e = tick_keeps_marks p c vs m sound answered fits (λ d ws. MakesEnding d) e
       (λ seat v call next at_seat at_view is goes s at. let x = e seat (sym (ap (get_elem? c.seats) own) ∙ at_seat) in let y = subst Still (sym (first_is seat.program x) ∙ is) x in
       ⊎_elim (λ a. subst (λ (z : SeatState). Still z.program) a.1 (subst Still (sym (next_is (waiting_at c.calls.waiting m.seat) (next (found_at c.words (word_of p call))) (y.2 (found_at c.words (word_of p call))))) (y.2 (found_at c.words (word_of p call)))))
       (λ a. absurd (a.0 (sym own))) (at_set c.seats m.seat 0 _ s at))
@@ -130,7 +129,7 @@ module _ (p : Plan) (retries : RetriesGo p) where
 
   -- no life is made
   back_ticks : (i h k : ℕ) (c : Core) (vs : List View) (m : Moment) → m.seat ≡ 0 → Sound p c vs → IsAnswered c m → IsFitting p c m → MakesEnding c → IsGiven (ticked p c m) (views_after p c vs m) i h k → IsGiven c vs i h k
-  back_ticks i h k c vs m own sound answered fits e = tick_keeps_marks p c vs m sound answered fits (begins_round p) (goes_round p) (λ d ws. IsGiven d ws i h k → IsGiven c vs i h k) (λ g. g)
+  back_ticks i h k c vs m own sound answered fits e = tick_keeps_marks p c vs m sound answered fits (λ d ws. IsGiven d ws i h k → IsGiven c vs i h k) (λ g. g)
       (λ seat v call next at_seat at_view is goes given. let x = e seat (sym (ap (get_elem? c.seats) own) ∙ at_seat) in let y = subst Still (sym (first_is seat.program x) ∙ is) x in
       let w : View = row p call (found_at c.words (word_of p call)) (hand_at p c.words c.homes call) v in
       let moved = counts (state c vs) m.seat v w at_view (words_after c.words (word_of p call) (word_after call (found_at c.words (word_of p call)))) (homes_after p call seat.hand c.homes) (is_linked h k) i in
@@ -174,7 +173,7 @@ module _ (p : Plan) (retries : RetriesGo p) where
     }
       where
         both : (get_or (ticked p c m).words (open_index p o) 0 ≡ socket_id h i + 1) × ((seat : SeatState) → get_elem? (ticked p c m).seats 0 ≡ some seat → IsPast (ticked p c m) i h ⊎ Fails o (socket_id h i + 1) seat.program)
-        both = tick_keeps_marks p c vs m sound answered fits (begins_round p) (goes_round p)
+        both = tick_keeps_marks p c vs m sound answered fits
             (λ d ws. (get_or d.words (open_index p o) 0 ≡ socket_id h i + 1) × ((seat : SeatState) → get_elem? d.seats 0 ≡ some seat → IsPast d i h ⊎ Fails o (socket_id h i + 1) seat.program)) (r.word, r.fails)
             (λ seat v call next at_seat at_view is goes. let at_zero = sym (ap (get_elem? c.seats) own) ∙ at_seat in let x = r.makes seat at_zero in let program_is = sym (first_is seat.program x) ∙ is in let y = subst Still program_is x in (
               opens_same p c.words v o within call goes.0 y.0 ∙ r.word,
@@ -225,7 +224,7 @@ module _ (script : List Item) (made : AreMade script) (turns : List Turn) (core 
       (λ far. let at = sym (set_else (played script is.setup (is.scheduled ++ is.later)).seats 0 x.place first_of_ending far) ∙ x.there in
       ⊎_elim (λ rest. ap next_stores (seat_rests (played script is.setup (is.scheduled ++ is.later)) (rested_ahead script made.are (first_views script) (start script made turns core is) (go script made turns core is) turns core is (fitting script made turns core is)) x.place rest x.seat at))
       (λ a. ap next_stores (ap (λ (s : SeatState). s.program) (some-injective x.seat a.0 (sym at ∙ a.1)) ∙ a.2.2))
-      (aside script made turns core is x.place (place_inside (played script is.setup (is.scheduled ++ is.later)).seats x.place x.seat at))))
+      (aside script made turns core is x.place (at_length (played script is.setup (is.scheduled ++ is.later)).seats x.place x.seat at))))
 
   low : (i h : ℕ) → i < (plan_of script).slots → 0 < count (is_born h) (slot_facts (state (closing_of script turns core is) (views_played script turns core is (first_views script))) i) → socket_id h i + 1 ≢ NO_SOCKET
   low i h inside born e = let sound = closing_is_sound in let s : Rattle.atomic_table.specs.Table.State Rattle.sock_model.specs.declared.home.Home.Home View = state closing views in

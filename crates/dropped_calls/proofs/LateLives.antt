@@ -29,8 +29,6 @@ use Rattle.refused_attempts.specs.Below.programs_allowed.specs.program_steps.spe
 use Rattle.refused_attempts.specs.Below.programs_allowed.specs.program_steps.proofs.Cases.{with_rights, tick_keeps_marks}
 use Rattle.refused_attempts.specs.Below.programs_allowed.specs.sock_runs.proofs.LinkNotes.{links_only, birth_links}
 use Rattle.refused_attempts.specs.Below.programs_allowed.specs.sock_runs.proofs.LinksStay.{IsGiven, finds_given}
-use Rattle.refused_attempts.specs.Below.programs_allowed.specs.program_steps.proofs.Passes.{goes_round}
-use Rattle.refused_attempts.specs.Below.programs_allowed.specs.program_steps.proofs.Rounds.{begins_round}
 use Rattle.refused_attempts.specs.Below.programs_allowed.specs.sock_runs.proofs.Versions.{versions_on, look_holds}
 use Rattle.refused_attempts.specs.Below.outcome_stories.specs.Facts.{born_of, born_at}
 use Rattle.refused_attempts.specs.Below.outcome_stories.specs.Stories.{In}
@@ -85,7 +83,7 @@ module _ (p : Plan) (base : Core) (L : ℕ → Type 0) where
   links_after v found hand h k j call born = inr (links_only p v found hand h k call refl j)
 
   pub lives_ticks : (c : Core) (vs : List View) (m : Moment) → Sound p c vs → IsAnswered c m → IsFitting p c m → ((k : ℕ) → In k (born_at c m) → L k) → Lives c vs → Lives (ticked p c m) (views_after p c vs m)
-  lives_ticks c vs m sound answered fits born lives = tick_keeps_marks p c vs m sound answered fits (begins_round p) (goes_round p) Lives lives
+  lives_ticks c vs m sound answered fits born lives = tick_keeps_marks p c vs m sound answered fits Lives lives
       (λ seat v call next at_seat at_view is goes. record {
         later = λ i inside. let before = lives.later i inside in let on = versions_on p c vs sound m.seat v at_view call goes.0 i inside in omega (arith, before, on);
         links = λ i h k inside given. ⊎_elim (λ l. inr l)

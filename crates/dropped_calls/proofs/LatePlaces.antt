@@ -21,8 +21,6 @@ use Rattle.refused_attempts.specs.Below.programs_allowed.specs.program_steps.pro
 use Rattle.refused_attempts.specs.Below.programs_allowed.specs.sock_runs.proofs.ChainTicks.{turn_inside, free_inside}
 use Rattle.refused_attempts.specs.Below.programs_allowed.specs.sock_runs.proofs.Few.{places_small}
 use Rattle.refused_attempts.specs.Below.programs_allowed.specs.sock_runs.proofs.LinkTicks.{RetriesGo}
-use Rattle.refused_attempts.specs.Below.programs_allowed.specs.program_steps.proofs.Passes.{goes_round}
-use Rattle.refused_attempts.specs.Below.programs_allowed.specs.program_steps.proofs.Rounds.{begins_round}
 use Rattle.refused_attempts.specs.Below.programs_allowed.specs.sock_runs.proofs.Ticks.{sound_ticks}
 use Rattle.refused_attempts.specs.Below.joint_runs.proofs.Both.{AreBounded}
 use Rattle.refused_attempts.specs.Below.outcome_stories.specs.Facts.{born_at, shown_in}
@@ -106,7 +104,7 @@ module _ (p : Plan) (base : Core) (L : ℕ → Type 0) where
   ArePlaces c = (l : ℕ) → l < 8 * p.operations → (get_or c.words (place_index p l) 0 ≡ get_or base.words (place_index p l) 0) ⊎ IsOfLate (get_or c.words (place_index p l) 0)
 
   places_late : (c : Core) (vs : List View) (m : Moment) → Sound p c vs → IsAnswered c m → IsFitting p c m → AreFew vs → AllStand p L (WasPast p base L) c vs → ArePlaces c → ArePlaces (ticked p c m)
-  places_late c vs m sound answered fits few stands places = tick_keeps_marks p c vs m sound answered fits (begins_round p) (goes_round p) (λ d ws. ArePlaces d) places
+  places_late c vs m sound answered fits few stands places = tick_keeps_marks p c vs m sound answered fits (λ d ws. ArePlaces d) places
       (λ seat v call next at_seat at_view is goes l low. let x = stands m.seat seat v at_seat at_view in
       ⊎_elim (λ same. ⊎_elim (λ before. inl (same ∙ before)) (λ late. inr (subst IsOfLate (sym same) late)) (places l low)) (λ late. inr late) (place_after c vs sound few m.seat v at_view x.0 x.2 l low call goes.0))
       (λ seat v program rights hand hs a at_seat at_view comes. places)

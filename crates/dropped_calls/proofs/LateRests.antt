@@ -26,8 +26,6 @@ use Rattle.refused_attempts.specs.Below.programs_allowed.specs.sock_runs.proofs.
 use Rattle.refused_attempts.specs.Below.programs_allowed.specs.program_steps.proofs.Cases.{tick_keeps_marks}
 use Rattle.refused_attempts.specs.Below.programs_allowed.specs.sock_runs.proofs.LinkTicks.{RetriesGo}
 use Rattle.refused_attempts.specs.Below.programs_allowed.specs.program_walks.proofs.Opening.{mapped}
-use Rattle.refused_attempts.specs.Below.programs_allowed.specs.program_steps.proofs.Passes.{goes_round}
-use Rattle.refused_attempts.specs.Below.programs_allowed.specs.program_steps.proofs.Rounds.{begins_round}
 use Rattle.refused_attempts.specs.Below.programs_allowed.specs.sock_runs.proofs.Ticks.{sound_ticks}
 use Rattle.refused_attempts.specs.Below.programs_allowed.specs.sock_runs.proofs.Waiting.{StandsAside}
 use Rattle.refused_attempts.specs.Below.programs_allowed.specs.program_walks.proofs.Whole.{closing_of, views_played, views_closed, set_up_answered, end_answered, set_up_sound, played_sound, closing_sound, closed_sound, rested_ahead, closed_ahead}
@@ -77,7 +75,7 @@ module _ (p : Plan) where
   -- ## Ticks of another seat
 
   others_tick : (j : ℕ) (c : Core) (vs : List View) (m : Moment) → j ≢ m.seat → Sound p c vs → IsAnswered c m → IsFitting p c m → (get_elem? (ticked p c m).seats j ≡ get_elem? c.seats j) × (get_elem? (views_after p c vs m) j ≡ get_elem? vs j)
-  others_tick j c vs m far sound answered fitting = tick_keeps_marks p c vs m sound answered fitting (begins_round p) (goes_round p) (λ d ws. (get_elem? d.seats j ≡ get_elem? c.seats j) × (get_elem? ws j ≡ get_elem? vs j)) (refl, refl)
+  others_tick j c vs m far sound answered fitting = tick_keeps_marks p c vs m sound answered fitting (λ d ws. (get_elem? d.seats j ≡ get_elem? c.seats j) × (get_elem? ws j ≡ get_elem? vs j)) (refl, refl)
       (λ seat v call next at_seat at_view is goes. (set_else c.seats m.seat j _ far, set_else vs m.seat j _ far))
       (λ seat v program rights hand hs a at_seat at_view comes. (set_else c.seats m.seat j _ far, set_else vs m.seat j _ far))
 

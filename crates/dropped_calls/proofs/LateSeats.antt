@@ -38,9 +38,7 @@ use Rattle.seat_programs.specs.StepsOfLinks.{link_away, link_home_again, took_by
 use Rattle.seat_programs.specs.StepTables.{May}
 use Rattle.refused_attempts.specs.Below.programs_allowed.specs.program_steps.specs.Sound.{Sound, IsFitting, views_after}
 use Rattle.refused_attempts.specs.Below.programs_allowed.specs.program_steps.proofs.Leaves.{claim_way, right_way}
-use Rattle.refused_attempts.specs.Below.programs_allowed.specs.program_steps.proofs.Cases.{tick_keeps}
-use Rattle.refused_attempts.specs.Below.programs_allowed.specs.program_steps.proofs.Rounds.{begins_round}
-use Rattle.refused_attempts.specs.Below.programs_allowed.specs.program_steps.proofs.Passes.{goes_round}
+use Rattle.refused_attempts.specs.Below.programs_allowed.specs.program_steps.proofs.Cases.{tick_cases}
 use Rattle.dropped_calls.proofs.LateLooks.{Mode, Idle, Saw, Claims, Writes, IsCalm, seen, Looks, looks_first, looks_next}
 use Rattle.refused_attempts.specs.Below.outcome_ticks.proofs.Accepting.{IsNoSwap}
 
@@ -275,7 +273,7 @@ module _ (p : Plan) (L : ℕ → Type 0) (Old : ℕ → ℕ → Type 0) where
     pub given : (j : ℕ) (v : View) (id q : ℕ) → get_elem? vs j ≡ some v → May p v (ClaimRequest id q) → (Old (socket_id_slot id) (socket_id_version id) → ⊥) → L (link_in c.words (socket_id_slot id))
 
   pub stand_ticks : (c : Core) (vs : List View) (m : Moment) → Sound p c vs → IsAnswered c m → IsFitting p c m → Tells c vs → AllStand c vs → AllStand (ticked p c m) (views_after p c vs m)
-  stand_ticks c vs m sound answered fitting tells all = tick_keeps p c vs m sound answered fitting (begins_round p) (goes_round p) AllStand all
+  stand_ticks c vs m sound answered fitting tells all = tick_cases p c vs m sound answered AllStand all
       (λ seat v call next at_seat at_view is goes. let x = all m.seat seat v at_seat at_view in
       let y = step_stands v (found_at c.words (word_of p call)) (hand_at p c.words c.homes call) call next x.0 (subst (Looks x.0) is (looks_first x.0 seat.program x.1)) goes.0
       (λ id e even. tells.live m.seat v id at_view (subst (May p v) e goes.0) (subst (λ k. vref_version (found_at c.words (word_of p k)) % 2 ≡ 0) e even))
@@ -291,5 +289,5 @@ module _ (p : Plan) (L : ℕ → Type 0) (Old : ℕ → ℕ → Type 0) where
       goes_on c vs m.seat all x.0 (next answer) (took_bytes answer v) (subst (Looks x.0) is (looks_first x.0 seat.program x.1) answer) (put_stands v x.0 answer x.2) (waiting_at c.calls.waiting m.seat) (onto_first (fed bytes answer) seat.hand))
       (λ seat v k next answer at_seat at_view is goes answer_is j s u at at_u. let x = all m.seat seat v at_seat at_view in
       goes_on c vs m.seat all x.0 (next answer) v (subst (Looks x.0) is (looks_first x.0 seat.program x.1) answer) x.2 (waiting_at c.calls.waiting m.seat) seat.hand j s u at (ap (λ us. get_elem? us j) (set_again vs m.seat v at_view) ∙ at_u))
-      (λ seat v step next found at_seat at_view is goes fits j s u at at_u. let x = all m.seat seat v at_seat at_view in
+      (λ seat v step next found at_seat at_view is goes found_is j s u at at_u. let x = all m.seat seat v at_seat at_view in
       goes_on c vs m.seat all x.0 (next found) v (subst (Looks x.0) is (looks_first x.0 seat.program x.1) found) x.2 _ seat.hand j s u at (ap (λ us. get_elem? us j) (set_again vs m.seat v at_view) ∙ at_u))

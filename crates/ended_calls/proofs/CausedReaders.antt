@@ -13,7 +13,6 @@ use Rattle.seat_programs.specs.Tasks.{opens, calls, plan_of}
 use Rattle.seat_programs.specs.Ticks.{Moment, AreAnswered, taken, ticked}
 use Rattle.seat_programs.specs.Scripts.{opened, set_up, IsRunWithCalls}
 use Rattle.attempted_calls.specs.Below.programs_allowed.specs.program_steps.specs.Sound.{Sound, AreFitting, views_after, views_along}
-use Rattle.attempted_calls.specs.Below.programs_allowed.specs.sock_runs.proofs.Along.{place_inside}
 use Rattle.attempted_calls.specs.Below.programs_allowed.specs.sock_runs.proofs.LinkTicks.{RetriesGo}
 use Rattle.attempted_calls.specs.Below.programs_allowed.specs.program_walks.proofs.Recorded.{Recorded, recorded_ticks}
 use Rattle.attempted_calls.specs.Below.programs_allowed.specs.sock_runs.proofs.Ticks.{sound_ticks}
@@ -35,6 +34,7 @@ use Rattle.attempted_calls.specs.Below.call_stories.proofs.RunTicks.{in_setup, i
 use Rattle.ended_calls.proofs.EndedWhole.{opened_keeps, opened_told, h₁, h₂, h₃, h₄, setup_part, set_up_keeps, closing_keeps, closing_told, closed_keeps, closed_told, ended_so}
 use Rattle.attempted_calls.specs.accept_counts.proofs.ReaderRuns.{keeps_along}
 use Rattle.attempted_calls.specs.accept_counts.proofs.Readings.{found_by}
+use Rattle.corr_core.proofs.Notes.{at_length}
 
 -- ## Ticks one after another
 
@@ -51,7 +51,7 @@ module _ (p : Plan) (calls os : List ℕ) (in_os : (k o : ℕ) → get_elem? os 
     where
       inside : m.seat ≡ 32 + k → In x (posted_at c m) → (o : Option SeatState) → get_elem? c.seats m.seat ≡ o → k < length os
       inside own z none e = absurd (subst (λ o. In x (elim o as (λ o. List Post) [ none ↦ [] | some seat ↦ posted_with c.calls (taken m.answer) (first_of seat.program) ])) e z)
-      inside own z (some seat) e = let l = place_inside c.seats m.seat seat e in let many = keeps.many in omega (arith, l, many, own)
+      inside own z (some seat) e = let l = at_length c.seats m.seat seat e in let many = keeps.many in omega (arith, l, many, own)
 
       by : (b : Bool) → (m.seat == 32 + k) ≡ b → In x (cond b (posted_at c m) []) → May (h k) x
       by true own z = let mine = eqb-true m.seat (32 + k) own in (inside mine z (get_elem? c.seats m.seat) refl, told_posts p k (Seen p calls os in_os seen k) (h k) c m (told k) mine x z)

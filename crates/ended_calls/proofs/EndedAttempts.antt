@@ -3,7 +3,7 @@ use Rattle.std.proofs.Common.{◌≡◌, ◌≢◌, ℕ, ◌+◌, ◌-◌, ◌<�
 use Rattle.std.proofs.lemmas.Bool.{true≢false}
 use Rattle.std.specs.Prelude.{Contains, Some, slice_get}
 use Rattle.std.specs.List.{AllByRecursion}
-use mathlib.Core.Option.{Option, none, some, some-injective, some-ne-none}
+use mathlib.Core.Option.{Option, none, some}
 use lib.ListN.{get_elem?}
 use Rattle.sock_words.specs.declared.plain.Plan.{Plan}
 use Rattle.sock_words.specs.Words.{at_word, at_word_first, at_word_slot, at_word_link, at_word_attempt}
@@ -50,6 +50,7 @@ use Rattle.attempted_calls.proofs.EndedNames.{StoredFor}
 use Rattle.ended_calls.proofs.EndedWhole.{run_end_posts}
 use Rattle.attempted_calls.specs.Below.call_stories.proofs.Posts.{id_back}
 use Rattle.attempted_calls.specs.accept_counts.proofs.Grounds.{setting, grounds}
+use Rattle.attempted_calls.specs.Below.owned_ids.proofs.OpensStored.{place_at}
 
 -- ## Numbers
 
@@ -160,15 +161,10 @@ module _ (script : List Item) (made : AreMade script) (turns : List Turn) (core 
   at_place P (x ∷ xs) all Rattle.std.proofs.Common.zero a e = let same : x ≡ a = cc in subst P same all.0
   at_place P (x ∷ xs) all (Rattle.std.proofs.Common.suc i) a e = at_place P xs all.1 i a e
 
-  pub get_there : {A : Type 0} (xs : List A) (i : ℕ) (x : A) → get_elem? xs i ≡ some x → slice_get xs i ≡ Some x
-  get_there [] i x e = absurd (some-ne-none x (sym e))
-  get_there (y ∷ xs) Rattle.std.proofs.Common.zero x e = ap (λ z. Some z) (some-injective y x e)
-  get_there (y ∷ xs) (Rattle.std.proofs.Common.suc i) x e = get_there xs i x e
-
   -- the operation of a call is no other task's
   pub spoken_call : (asked : Asked) → IsCallOf script asked → IsSpoken (told_tasks_of script) asked.operation
   spoken_call asked of d t asks e = let u = up (all_tasks script) (length (opens script)) d t asks in
-      let same = (one_task (plan_of script) (all_tasks script) made.are of.0 d of.2 t (of.1, get_there (all_tasks script) of.0 of.1 of.3, of.4) u.0 (sym of.6 ∙ sym e)).1 in
+      let same = (one_task (plan_of script) (all_tasks script) made.are of.0 d of.2 t (of.1, place_at (all_tasks script) of.0 of.1 of.3, of.4) u.0 (sym of.6 ∙ sym e)).1 in
       true≢false (sym u.1 ∙ (ap (λ (x : Task). is_plain x.op) (sym same) ∙ ap is_plain of.5))
 
   module _ (once : AreStoredOnce script turns core is) (fixed : Fixed) (gave : ℕ → List ℕ) where

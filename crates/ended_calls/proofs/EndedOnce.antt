@@ -17,6 +17,7 @@ use Rattle.seat_programs.specs.Ticks.{Moment, AreAnswered, ticked, run}
 use Rattle.seat_programs.specs.Tasks.{opens, calls, plan_of, id_plan_of}
 use Rattle.seat_programs.specs.Scripts.{sizes_of, programs, readers_from, all_programs, all_tasks, beginning, opened, set_up, played, IsRunWithCalls}
 use Rattle.attempted_calls.specs.Below.programs_allowed.specs.program_steps.specs.Sound.{Sound, AreFitting, views_after, views_along}
+use Rattle.attempted_calls.specs.Below.programs_allowed.specs.program_steps.proofs.Cases.{elem_there}
 use Rattle.attempted_calls.specs.Below.programs_allowed.specs.sock_runs.proofs.LinkTicks.{RetriesGo}
 use Rattle.attempted_calls.specs.Below.programs_allowed.specs.program_walks.proofs.Opening.{mapped}
 use Rattle.attempted_calls.specs.Below.programs_allowed.specs.sock_runs.proofs.Ticks.{sound_ticks}
@@ -25,7 +26,7 @@ use Rattle.attempted_calls.specs.Below.outcome_stories.specs.Stories.{In}
 use Rattle.attempted_calls.specs.Below.outcome_causes.proofs.Final.{at_there}
 use Rattle.attempted_calls.specs.Below.outcome_stories.proofs.Members.{contains_in}
 use Rattle.attempted_calls.specs.Below.outcome_causes.proofs.Plain.{in_left, in_right, in_both}
-use Rattle.attempted_calls.specs.Below.outcome_ticks.proofs.Ticks.{elem_there}
+use Rattle.attempted_calls.specs.Below.outcome_causes.proofs.Begin.{no_call}
 use Rattle.attempted_calls.specs.Below.joint_runs.proofs.Runs.{AreMade, first_views}
 use Rattle.attempted_calls.specs.Below.label_runs.specs.Labels.{Trial, Idle, Labels}
 use Rattle.attempted_calls.specs.Below.label_runs.proofs.Programs.{ending_goes}
@@ -35,7 +36,7 @@ use Rattle.attempted_calls.specs.accept_counts.specs.Counts.{AreLabelled}
 use Rattle.attempted_calls.specs.accept_counts.specs.EndedCalls.{Store, stored_at, stores_of_run, AreStoredOnce}
 use Rattle.attempted_calls.specs.Below.call_stories.proofs.RunTicks.{in_setup, in_clients, in_closing}
 use Rattle.attempted_calls.specs.accept_counts.proofs.Early.{start, go, fitting}
-use Rattle.attempted_calls.specs.accept_counts.proofs.Runs.{AreLabelledIn, IsCallOf, behind_ids, asked_by, programs_go, none_waits, none_home}
+use Rattle.attempted_calls.specs.accept_counts.proofs.Runs.{AreLabelledIn, IsCallOf, behind_ids, asked_by, programs_go, none_waits}
 use Rattle.attempted_calls.specs.sent_once.proofs.Sends.{narrow}
 use Rattle.attempted_calls.specs.own_decisions.proofs.EndedTryTicks.{of_try, OnceLaw, moves, once_ticks}
 use Rattle.ended_calls.proofs.EndedWhole.{seats_played}
@@ -58,7 +59,7 @@ module _ (p : Plan) (q : IdPlan) (narrow : q.slots ≤ 65536) (is_call : Asked �
   begins_once xs goes = record {
     once = λ id n. (let a = none_try id n xs in let b = none_waits id n q.seats in omega (arith, a, b));
     made = λ id n some_. absurd (let a = none_try id n xs in let b = none_waits id n q.seats in omega (arith, a, b, some_));
-    calls = λ k asked e. absurd (none_home q.slots k asked e);
+    calls = λ k asked e. absurd (no_call q.slots k asked e);
     each = length-map xs (λ (x : Program). Idle) ∙ sym (length-map xs (λ (x : Program). record { program = next_step (resolved [] x); hand = [] }));
     programs = λ j seat t es et. let x = mapped (λ (x : Program). record { program = next_step (resolved [] x); hand = [] }) xs j seat es in
         subst (λ (s : SeatState). Labels is_call t s.program) x.2 (subst (λ y. Labels is_call y (next_step (resolved [] x.0))) (mapped (λ (x : Program). Idle) xs j t et).2 (idle_stays is_call x.0 (goes j x.0 x.1)));

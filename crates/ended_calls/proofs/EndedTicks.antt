@@ -21,6 +21,7 @@ use Rattle.seat_programs.specs.Cores.{Core, SeatState, found_at, waiting_at}
 use Rattle.seat_programs.specs.StepTables.{word_of}
 use Rattle.seat_programs.specs.Ticks.{Answer, OfPut, OfReady, OfTake, Moment, taken, with_message, with_link, with_put, with_ready, with_found, step_with, tick_with, ticked}
 use Rattle.attempted_calls.specs.Below.programs_allowed.specs.program_steps.specs.Sound.{first_step}
+use Rattle.attempted_calls.specs.Below.programs_allowed.specs.program_steps.proofs.Cases.{ticks_first}
 use Rattle.attempted_calls.specs.Below.outcome_stories.specs.Stories.{In}
 use Rattle.attempted_calls.specs.Below.owing_ticks.proofs.OwingRuns.{same_first}
 use Rattle.attempted_calls.specs.Below.run_theorems.specs.Heard.{as_taken, taken_link}
@@ -28,7 +29,7 @@ use Rattle.attempted_calls.specs.Below.call_stories.specs.Posts.{Post, posts_by,
 use Rattle.attempted_calls.specs.Below.call_causes.proofs.HandledTicks.{take_of, taken_first}
 use Rattle.attempted_calls.specs.accept_counts.specs.EndedCalls.{Load, loaded_with, loaded_at}
 use Rattle.ended_calls.proofs.EndedReads.{Tells, MayPost, tell_first, tell_next}
-use Rattle.attempted_calls.specs.accept_counts.proofs.Readings.{ticks_first, found_by}
+use Rattle.attempted_calls.specs.accept_counts.proofs.Readings.{found_by}
 
 -- a tick leaves the other seats as they are
 module _ (p : Plan) (c : Core) (m : Moment) (j : ℕ) (far : j ≢ m.seat) where

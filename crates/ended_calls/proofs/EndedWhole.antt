@@ -19,7 +19,6 @@ use Rattle.seat_programs.specs.Tasks.{opens, calls, plan_of}
 use Rattle.seat_programs.specs.Ticks.{Moment, ticked, run}
 use Rattle.seat_programs.specs.Scripts.{all_tasks, opened, set_up, played, IsRunWithCalls}
 use Rattle.attempted_calls.specs.Below.programs_allowed.specs.program_steps.specs.Sound.{views_along}
-use Rattle.attempted_calls.specs.Below.programs_allowed.specs.sock_runs.proofs.Along.{place_inside}
 use Rattle.attempted_calls.specs.Below.programs_allowed.specs.program_walks.proofs.Whole.{IsListed, closing_of, views_played, views_closed, set_up_answered, end_answered, set_up_sound, closing_sound, closed_sound, recorded_opened, recorded_set_up, recorded_closing, recorded_closed}
 use Rattle.attempted_calls.specs.Below.outcome_stories.specs.Stories.{In}
 use Rattle.attempted_calls.specs.Below.outcome_ticks.proofs.Lifted.{filtered_in}
@@ -42,6 +41,7 @@ use Rattle.ended_calls.proofs.EndedRuns.{Keeping, finds, Seen, AllTold, IsPostOf
 use Rattle.attempted_calls.specs.accept_counts.proofs.ReaderRuns.{keeps_along}
 use Rattle.attempted_calls.specs.accept_counts.proofs.Lists.{any_in, in_range}
 use Rattle.attempted_calls.specs.accept_counts.proofs.Takeless.{NoTakes, ending_takes, takes_next}
+use Rattle.corr_core.proofs.Notes.{at_length}
 
 module _ (script : List Item) (made : AreMade script) (turns : List Turn) (core : Core) (is : IsRunWithCalls script turns core) where
   abbrev K : Core → List View → (ℕ → List Taking) → Type 0
@@ -66,7 +66,7 @@ module _ (script : List Item) (made : AreMade script) (turns : List Turn) (core 
   }
 
   pub opened_told : T (λ n. []) (opened script)
-  opened_told n seat at = let o = at_some (opens script) n (let l = place_inside (opened script).seats (32 + n) seat at in let m = opened_seats script (let k = known script made turns core is in k.few) in omega (arith, l, m)) in
+  opened_told n seat at = let o = at_some (opens script) n (let l = at_length (opened script).seats (32 + n) seat at in let m = opened_seats script (let k = known script made turns core is in k.few) in omega (arith, l, m)) in
       subst (Tells n (Seen (plan_of script) (calls script) (opens script) (let k = known script made turns core is in k.in_script) (loads_of_run script turns core is) n) []) (sym (begins_at script made turns core is n o.0 o.1 seat at)) (reader_tells n (Seen (plan_of script) (calls script) (opens script) (let k = known script made turns core is in k.in_script) (loads_of_run script turns core is) n) (calls script) o.0)
 
   abbrev pub h₁ : ℕ → List Taking

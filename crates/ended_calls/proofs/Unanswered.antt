@@ -34,7 +34,7 @@ use Rattle.attempted_calls.specs.Below.story_steps.proofs.Whys.{in_contains}
 use Rattle.attempted_calls.specs.Below.call_causes.proofs.HandledWhole.{PostedLate, soon_behind, silent_of_readers, failed_inside}
 use Rattle.attempted_calls.specs.sent_once.proofs.Beside.{gave_of_run, fixed_of_run, orders_here}
 
-some_response : (r : Option ResponseMeta) → IsSome r → has_response r ≡ true
+pub some_response : (r : Option ResponseMeta) → IsSome r → has_response r ≡ true
 some_response (Some r) e = refl
 some_response None e = absurd (cc)
 

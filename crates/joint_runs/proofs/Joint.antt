@@ -1,6 +1,6 @@
 -- What each of the two tables relies on of the other, the other's rule gives.
-use Rattle.std.proofs.Common.{◌≡◌, ℕ, ◌<◌, ◌≤◌, List, length, refl, sym, ap, subst, arith}
-use mathlib.Core.Option.{Option, none, some}
+use Rattle.std.proofs.Common.{◌≡◌, ℕ, ◌<◌, ◌≤◌, List, refl, sym, ap, subst, arith}
+use mathlib.Core.Option.{some}
 use lib.ListN.{get_elem?}
 use Rattle.sock_words.specs.declared.plain.Plan.{Plan}
 use Rattle.sock_model.specs.declared.view.View.{View}
@@ -20,9 +20,8 @@ use Rattle.programs_allowed.specs.program_steps.specs.GoesOn.{GoesOn}
 use Rattle.programs_allowed.specs.program_steps.specs.Sound.{state, Sound, FitsBeside, IsFitting, first_step}
 use Rattle.programs_allowed.specs.program_steps.specs.Lasts.{IsSlot, IsCountedStep, IsCountedAt, IsCounted}
 use Rattle.programs_allowed.specs.program_steps.proofs.Cases as cases
+use Rattle.programs_allowed.specs.program_steps.proofs.Cases.{elem_there}
 use Rattle.programs_allowed.specs.sock_runs.proofs.Founds.{finds}
-use Rattle.programs_allowed.specs.program_steps.proofs.Rounds.{begins_round}
-use Rattle.programs_allowed.specs.program_steps.proofs.Passes.{goes_round}
 use Rattle.programs_allowed.specs.id_runs.specs.Held.{IdView, MayId}
 use Rattle.programs_allowed.specs.id_runs.specs.Goes.{FindsId, IdGoesOn, SoundIds, FitsSock, FitsFirst, IsFittingIds}
 use Rattle.programs_allowed.specs.id_runs.specs.Goes as goes
@@ -39,14 +38,6 @@ fits_found p q u (PostId i from e) found may f = λ some_. let r = f.0 some_ in 
 fits_found p q u (UnlockId i from advance) found may f = let m = may.1 in let longer = f m.0 m.1 m.2 m.3 m.4 m.5 m.6 in let a = longer.range_is in let b = longer.attempt_is in let room = m.8 in omega (arith, a, b, room)
 fits_found p q u _ found may f = tt
 
--- each seat has its view
-view_at : {A B : Type 0} (l : List A) (n : List B) (i : ℕ) (a : A) → length n ≡ length l → get_elem? l i ≡ some a → (b : B) × (get_elem? n i ≡ some b)
-view_at {A} {B} l n i a e at = by_view (get_elem? n i) refl
-  where
-    by_view : (x : Option B) → get_elem? n i ≡ x → (b : B) × (get_elem? n i ≡ some b)
-    by_view none is = absurd (cases.beside l n i a e at is)
-    by_view (some b) is = (b, is)
-
 module _ (p : Plan) (q : IdPlan) (narrow : q.slots ≤ 65536) (c : Core) (us : List IdView) (ids : SoundIds p q c us) (m : Moment) where
   -- the first step of a round is one that the view allows
   goes_first : (u : IdView) (program : Program) → IdGoesOn p q u program → IdGoesOn p q u (first_step program)
@@ -60,7 +51,7 @@ module _ (p : Plan) (q : IdPlan) (narrow : q.slots ≤ 65536) (c : Core) (us : L
 
   -- what steps aside find is as the table of the sockets relies on
   pub is_fitting : IsFitting p c m
-  is_fitting seat at = let v = view_at c.seats us m.seat seat ids.each at in beside v.0 v.1 (first_step seat.program) (goes_first v.0 seat.program (ids.seats m.seat seat v.0 at v.1))
+  is_fitting seat at = let v = elem_there c.seats us m.seat seat ids.each at in beside v.0 v.1 (first_step seat.program) (goes_first v.0 seat.program (ids.seats m.seat seat v.0 at v.1))
 
   -- ## What is counted
 
@@ -87,7 +78,7 @@ module _ (p : Plan) (q : IdPlan) (narrow : q.slots ≤ 65536) (c : Core) (us : L
 
   -- each step aside finds something, and what it is to change it may change
   pub is_counted : IsAnswered c m → IsCounted c m
-  is_counted answered seat at = let v = view_at c.seats us m.seat seat ids.each at in
+  is_counted answered seat at = let v = elem_there c.seats us m.seat seat ids.each at in
       counted v.0 v.1 (first_step seat.program) (goes_first v.0 seat.program (ids.seats m.seat seat v.0 at v.1)) (cases.answer_begins seat.program m.answer (answered seat at))
 
 -- ## What the ids rely on
@@ -110,5 +101,5 @@ module _ (p : Plan) (q : IdPlan) (c : Core) (vs : List View) (us : List IdView) 
 
   -- the numbers of links and the codes that steps on the sockets find are as the ids rely on
   pub is_fitting_ids : IsFittingIds p c m
-  is_fitting_ids seat at = let v = view_at c.seats vs m.seat seat sound.each at in
-      fits_first v.0 v.1 seat.program (cases.goes_first p v.0 (begins_round p v.0) (goes_round p v.0) seat.program (sound.seats m.seat seat v.0 at v.1).goes_on)
+  is_fitting_ids seat at = let v = elem_there c.seats vs m.seat seat sound.each at in
+      fits_first v.0 v.1 seat.program (cases.goes_first p v.0 seat.program (sound.seats m.seat seat v.0 at v.1).goes_on)

@@ -19,6 +19,7 @@ use Rattle.seat_programs.specs.Cores.{Core, SeatState, found_at, words_after, ho
 use Rattle.seat_programs.specs.StepTables.{word_of, word_after}
 use Rattle.seat_programs.specs.Ticks.{Answer, OfPut, OfReady, FitsPut, IsAnswer, IsTaken, taken, fed, with_places, onto_first, with_message, with_link, with_found, step_with, tick_with}
 use Rattle.seat_states.specs.program_steps.specs.Sound.{first_step}
+use Rattle.seat_states.specs.program_steps.proofs.Cases.{ticks_first}
 use Rattle.sock_io.specs.Link.{OutState}
 use Rattle.call_points.specs.Steps.{after_word, word_behind}
 use Rattle.seat_states.specs.declared.point.Point.{Point}
@@ -41,12 +42,6 @@ pub first_is : (program : Program) → first_in program ≡ kinds.first_of (firs
 first_is (Write w after) = refl
 first_is (Round head next) = refl
 first_is _ = refl
-
--- and the tick makes it
-pub tick_first : (p : Plan) (i : ℕ) (s : SeatState) (c : Core) (answer : Answer) (program : Program) → tick_with p i s c answer program ≡ step_with p i s c answer (first_step program)
-tick_first p i s c answer (Write w after) = refl
-tick_first p i s c answer (Round head next) = refl
-tick_first p i s c answer _ = refl
 
 pub after_first : (program : Program) (found : ℕ) → after_word program found ≡ word_behind (first_step program) found
 after_first (Write w after) found = refl
@@ -138,7 +133,7 @@ module _ (p : Plan) (i : ℕ) (s : SeatState) (c : Core) (program : Program) whe
   Ticks answer d = tick_with p i s c answer program ≡ d
 
   by_step : (answer : Answer) (x : Program) (d : Core) → first_step program ≡ x → step_with p i s c answer x ≡ d → Ticks answer d
-  by_step answer x d e f = tick_first p i s c answer program ∙ ap (step_with p i s c answer) e ∙ f
+  by_step answer x d e f = ticks_first p i s c answer program ∙ ap (step_with p i s c answer) e ∙ f
 
   pub word_tick : (answer : Answer) (call : Call) → first_in program ≡ Some (OfCall call) → let found = found_at c.words (word_of p call) in
       Ticks answer (with_seat i (after_word program found) (hand_after p call c.homes s.hand) (words_after c.words (word_of p call) (word_after call found)) (homes_after p call s.hand c.homes) c)

@@ -3,7 +3,6 @@ use Rattle.std.proofs.Common.{◌≡◌, ◌≢◌, refl, ℕ, ◌<◌, Bool, fa
 use Rattle.std.proofs.lemmas.List.{get_or-set_same, get_or-set_other}
 use Rattle.std.proofs.lemmas.Option.{none-some}
 use Rattle.atomic_table.proofs.Lists.{set_here, set_else}
-use Rattle.machine_model.specs.sock_runs.proofs.Along.{place_inside}
 use mathlib.Core.Option as core
 use lib.ListN.{get_elem?}
 use Rattle.sock_words.specs.declared.plain.Plan.{Plan}
@@ -14,6 +13,7 @@ use Rattle.seat_programs.specs.Cores.{lies_at, link_place}
 use Rattle.machine_model.specs.declared.letter.Letter.{Letter}
 use Rattle.machine_model.specs.Links.{LinksData, Taken, holder_of, is_done, link_with, homes_of, hand_of}
 use Rattle.machine_rules.proofs.Hands.{HasNone, HasOnly, IsKept, lies_home, is_away, hand_none, hand_only, home_at, homes_set, kept_home, others_hand, has_only, has_none, homes_kept}
+use Rattle.corr_core.proofs.Notes.{at_length}
 
 -- ## The homes and the hands
 
@@ -98,7 +98,7 @@ module _ (p : Plan) (i k : ℕ) (letters : List (Option Letter)) (sized : length
       mine = held k ∙ only.0
 
       done : is_done l' k ≡ out'.finished
-      done = ap (λ (os : List OutState). done_by (get_elem? os k)) outs ∙ ap done_by (set_here l.outs k out' (place_inside l.outs k out at))
+      done = ap (λ (os : List OutState). done_by (get_elem? os k)) outs ∙ ap done_by (set_here l.outs k out' (at_length l.outs k out at))
 
       kept : (j : ℕ) → j ≢ k → IsKept l l' took later j
       kept j differ = record { holder = held j; with_ = link_is j _ _ _ _ _ _ (fed j differ) (same_next l l' j nexts) (ap (λ (os : List OutState). done_by (get_elem? os j)) outs ∙ ap done_by (set_else l.outs k j out' differ)) }

@@ -8,6 +8,7 @@ use mathlib.Core.Option as core
 use lib.ListN.{get_elem?}
 use Rattle.sock_words.specs.declared.plain.Plan.{Plan}
 use Rattle.corr_core.specs.declared.marks.Plan.{Plan as IdPlan}
+use Rattle.corr_core.proofs.Notes.{at_length}
 use Rattle.sock_io.specs.declared.link.Put.{Put}
 use Rattle.sock_io.specs.declared.link.Ready.{Ready}
 use Rattle.sock_io.specs.declared.link.Ready.TheVariants as asks
@@ -27,7 +28,7 @@ use Rattle.machine_model.specs.program_steps.specs.GoesOn.{GoesOn}
 use Rattle.machine_model.specs.program_steps.specs.Lasts.{Lasts}
 use Rattle.machine_model.specs.program_steps.specs.Sound.{Sound, AreFew, HasLink, IsAhead, views_after}
 use Rattle.machine_model.specs.sock_runs.proofs.Allowed.{view_there}
-use Rattle.machine_model.specs.sock_runs.proofs.Along.{place_inside, ticked_ahead}
+use Rattle.machine_model.specs.sock_runs.proofs.Along.{ticked_ahead}
 use Rattle.machine_model.specs.sock_runs.proofs.LinkTicks.{link_asked_there}
 use Rattle.machine_model.specs.sock_runs.proofs.Few.{few_lasts}
 use Rattle.machine_model.specs.sock_runs.proofs.Waiting.{waits_still}
@@ -133,7 +134,7 @@ module _ (old : MachineState) (sized : IsSized (table_of old)) (paced : ArePaced
 
   -- behind a step of a reader all clients do
   pub readers_paced : (fresh : MachineState) (i : ℕ) → length old.seats ≤ i → machine_sizes fresh ≡ machine_sizes old → fresh.seats ≡ old.seats → OutsKept old.links i fresh.links.outs → ArePaced (machine_sizes fresh) fresh.links fresh.seats
-  readers_paced fresh i past sizes seats kept j s there = let here : get_elem? old.seats j ≡ core.some s = sym (ap (λ (ss : List SeatData). get_elem? ss j) seats) ∙ there in let low = place_inside old.seats j s here in
+  readers_paced fresh i past sizes seats kept j s there = let here : get_elem? old.seats j ≡ core.some s = sym (ap (λ (ss : List SeatData). get_elem? ss j) seats) ∙ there in let low = at_length old.seats j s here in
       subst (λ (z : Sizes). IsPaced fresh.links.outs (seat_program z s)) (sym sizes) (other_paced i fresh.links.outs kept j (λ e. omega (arith, e, low, past)) s here)
 
   module _ (fresh : MachineState) (i : ℕ) (seat seat' : SeatData) (at : get_elem? old.seats i ≡ core.some seat) (seats : fresh.seats ≡ slice_set old.seats i seat') where
@@ -167,7 +168,7 @@ module _ (old : MachineState) (sized : IsSized (table_of old)) (paced : ArePaced
 
     -- what lies where it was written
     out_is : (k : ℕ) (o o' : OutState) → get_elem? old.links.outs k ≡ core.some o → fresh.links.outs ≡ slice_set old.links.outs k o' → (out : OutState) → get_elem? fresh.links.outs k ≡ core.some out → o' ≡ out
-    out_is k o o' before are out there = core.some-injective o' out (sym (set_here old.links.outs k o' (place_inside old.links.outs k o before)) ∙ sym (ap (λ (os : List OutState). get_elem? os k) are) ∙ there)
+    out_is k o o' before are out there = core.some-injective o' out (sym (set_here old.links.outs k o' (at_length old.links.outs k o before)) ∙ sym (ap (λ (os : List OutState). get_elem? os k) are) ∙ there)
 
     pub made_paced : (step : Step) (first : First) (answer : Answer) → first_in program ≡ Some first → MayMake old.plan old.links i first → MadeFirst (table_of old) (table_of fresh) i seat seat' step first answer → ArePaced (machine_sizes fresh) fresh.links fresh.seats
     made_paced step (OfCall call) answer next may made = let w = made.1 in let found : ℕ = found_at old.words (word_of old.plan call) in

@@ -2,7 +2,6 @@
 use Rattle.std.proofs.Common.{◌≡◌, ◌≢◌, refl, ℕ, zero, suc, ◌+◌, ◌-◌, ◌<◌, ◌≤◌, List, [], ◌∷◌, ◌++◌, map, length, replicate, slice_set, slice_index_or, Option, ap, ap₂, sym, ◌∙◌, arith}
 use Rattle.std.proofs.lemmas.List.{map-set, set-append_left}
 use Rattle.std.proofs.Math.ListN.{length-map}
-use Rattle.machine_model.specs.sock_runs.proofs.Along.{place_inside}
 use mathlib.Core.Option as core
 use lib.ListN.{get_elem?}
 use Rattle.sock_words.specs.declared.plain.Plan.{Plan}
@@ -21,6 +20,7 @@ use Rattle.machine_model.specs.Machines.{MachineState, SameGivens, READERS, betw
 use Rattle.machine_model.specs.Steps.{Goes}
 use Rattle.machine_rules.proofs.Changes.{Changed}
 use Rattle.machine_rules.proofs.Ranges.{get-behind, set-behind}
+use Rattle.corr_core.proofs.Notes.{at_length}
 
 -- ## Records by their fields
 
@@ -142,7 +142,7 @@ module _ (old fresh : MachineState) (i : ℕ) (seat seat' : SeatData) (next : Pr
     set_here = slice_set old.seats i seat'
 
     inside : i < length old.seats
-    inside = place_inside old.seats i seat at
+    inside = at_length old.seats i seat at
 
     same_gap : between set_here ≡ between old.seats
     same_gap = ap (λ (n : ℕ). READERS - n) (length-set' old.seats i seat')

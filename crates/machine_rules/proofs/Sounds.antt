@@ -26,8 +26,6 @@ use Rattle.machine_model.specs.program_steps.specs.GoesOn.{GoesOn}
 use Rattle.machine_model.specs.program_steps.specs.Sound.{IsOfRight, AreInHand, AreHeld, Allows, AllowsStep, first_step}
 use Rattle.machine_model.specs.sock_runs.proofs.Held.{held_in_hand}
 use Rattle.machine_model.specs.program_steps.proofs.Cases.{goes_first}
-use Rattle.machine_model.specs.program_steps.proofs.Rounds.{begins_round}
-use Rattle.machine_model.specs.program_steps.proofs.Passes.{goes_round}
 use Rattle.machine_model.specs.sock_runs.proofs.Allowed.{sound_allows, view_there}
 use Rattle.machine_model.specs.run_theorems.specs.Below.programs_allowed.proofs.Retrying.{retries_go}
 use Rattle.machine_model.specs.id_runs.specs.Held.{IdView, MayId}
@@ -188,7 +186,7 @@ module _ (m : MachineState) (sized : IsSized (table_of m)) (s : IsSoundMachine m
   pub known_first : (first : First) → first_in program ≡ Some first → MayMake m.plan m.links i first × Known m.plan (machine_sizes m) m.links c first
   known_first first next = let v = view in let old = s.sound.seats i own v.0 own_at v.1 in
       by_program m.plan m.ids.plan m.letters sized.letters_are m.links s.took sized.holders_are i c refl own refl v.0 old.hand (first_step program) first
-      (sym (first_is program) ∙ next) (goes_first m.plan v.0 (begins_round m.plan v.0) (goes_round m.plan v.0) program old.goes_on) (sound_allows m.plan (retries_go m.plan s.sound.limits.requests) c s.views i own v.0 s.sound s.few own_at v.1)
+      (sym (first_is program) ∙ next) (goes_first m.plan v.0 program old.goes_on) (sound_allows m.plan (retries_go m.plan s.sound.limits.requests) c s.views i own v.0 s.sound s.few own_at v.1)
 
   pub finds_word : (call : calls.Call) → first_in program ≡ Some (OfCall call) → FitsSock call (found_at m.words (word_of m.plan call))
   finds_word call next = fits_word m.plan c (first_step program) call (sym (first_is program) ∙ next)

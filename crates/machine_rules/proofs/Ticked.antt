@@ -20,7 +20,6 @@ use Rattle.seat_programs.specs.Programs.{Program}
 use Rattle.seat_programs.specs.Cores.{Calls, Core, SeatState, found_at, homes_after, hand_after, first_of, others_of, link_place, with_seat}
 use Rattle.seat_programs.specs.StepTables.{word_of}
 use Rattle.seat_programs.specs.Ticks.{Answer, Unasked, OfPut, OfReady, FitsPut, IsAnswer, IsAnswered, fed, with_places, onto_first, tick_with, ticked}
-use Rattle.machine_model.specs.sock_runs.proofs.Along.{place_inside}
 use Rattle.call_points.specs.Steps.{after_word}
 use Rattle.call_points.specs.Steps as aside_steps
 use Rattle.call_slots.specs.Slots.{SlotState, calls_with}
@@ -44,6 +43,7 @@ use Rattle.machine_rules.proofs.Hands.{HasNone, HasOnly, lies_home, hand_only, h
 use Rattle.machine_rules.proofs.Changes.{Changed, take_changes, give_changes, out_changes, none_changes}
 use Rattle.machine_rules.proofs.Seatings.{client_set, calls_by, seat_at}
 use Rattle.machine_model.proofs.FirstSteps.{word_tick, aside_tick, message_tick, link_tick, home_tick, put_tick, ready_tick, bare_message, bare_link, bare_put, head_home, head_asks, AnswersFirst, answers_first, paced_first}
+use Rattle.corr_core.proofs.Notes.{at_length}
 
 -- ## What is asked of a step, and what it makes
 
@@ -284,7 +284,7 @@ module _ (old fresh : MachineState) (i : ℕ) (seat seat' : SeatData) (at : get_
   }
     where
       inside : q < old.plan.requests
-      inside = let a = place_inside old.letters q (Some w.letter) w.at in let b = sized.letters_are in omega (arith, a, b)
+      inside = let a = at_length old.letters q (Some w.letter) w.at in let b = sized.letters_are in omega (arith, a, b)
 
       found : message (λ (home : Home). home) before.homes q ≡ core.some (heading_by w.letter.author (parcel_of w.letter.message).parts, (parcel_of w.letter.message).bytes)
       found = ap (λ x. letter_of (shown (λ (home : Home). home) x)) (at_longer (map letter_home old.letters) _ q (letter_home (Some w.letter)) (at_map letter_home old.letters q (Some w.letter) w.at))

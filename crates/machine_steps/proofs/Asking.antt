@@ -7,9 +7,9 @@ use lib.ListN.{get_elem?}
 use Rattle.brpc_model.specs.Link.{LinkEnd}
 use Rattle.sock_io.specs.Link.{OutState, InState, SameOut, PutStep, FinishStep, end_of}
 use Rattle.sock_io.specs.declared.link.Put.{Put}
-use Rattle.machine_model.specs.sock_runs.proofs.Along.{place_inside}
 use Rattle.machine_model.specs.Runs.{SameLink}
 use Rattle.machine_model.specs.Steps.{AskedAt}
+use Rattle.corr_core.proofs.Notes.{at_length}
 
 -- the reading half stays
 pub same_link : (out out' : OutState) (inn : InState) → SameOut out out' → SameLink (end_of out inn) (end_of out' inn)
@@ -68,7 +68,7 @@ there_in f items j k x y there at = ap (λ i. f (slice_index_or items i x)) ther
     found (z ∷ l) (suc i) e = found l i e
 
 pub inside_list : {A : Type 0} (l : List A) (i : ℕ) (a : A) → get_elem? l i ≡ some a → i < length l
-inside_list l i a e = place_inside l i a e
+inside_list l i a e = at_length l i a e
 
 -- a put of what is next of the message
 pub put_of : {out out' : OutState} {bytes piece : List ℕ} {answer put : Put} → bytes ≡ piece → answer ≡ put → PutStep out out' bytes answer → PutStep out out' piece put

@@ -5,7 +5,6 @@ use Rattle.std.proofs.Math.Seq.{map-set_same}
 use Rattle.atomic_table.proofs.Lists.{at_map, at_index}
 use mathlib.Core.Option as core
 use lib.ListN.{get_elem?}
-use Rattle.machine_model.specs.sock_runs.proofs.Along.{place_inside}
 use Rattle.seat_states.specs.declared.point.Step.{Step}
 use Rattle.seat_states.specs.Points.{point_program}
 use Rattle.seat_states.specs.Steps.{step_as, first_in}
@@ -17,6 +16,7 @@ use Rattle.machine_model.specs.Machines.{MachineState, TableState, table_sizes}
 use Rattle.machine_model.specs.Steps.{NextIs, HasNoStep, IsFitStep, ReadyAt, StepFits}
 use Rattle.machine_model.specs.Telling.{StepTold, TickTold}
 use Rattle.machine_model.specs.Driving.{AsksNone, IsPlain, BeganEnding}
+use Rattle.corr_core.proofs.Notes.{at_length}
 
 length_map : {A B : Type 0} (f : A → B) (xs : List A) → length (map f xs) ≡ length xs
 length_map f [] = refl
@@ -34,7 +34,7 @@ module _ (t : TableState) (items : List Seat) (readers : List ReaderData) (opens
   seat_there x h e = subst (λ (k : ℕ). get_elem? (map seat_data items) k ≡ core.some (seat_data x)) there (at_map seat_data items j x (at_index items j x h e))
 
   pub seat_within : (s : SeatData) → get_elem? (map seat_data items) i ≡ core.some s → j < length items
-  seat_within s e = let h = place_inside (map seat_data items) i s e in omega (arith, length_map seat_data items)
+  seat_within s e = let h = at_length (map seat_data items) i s e in omega (arith, length_map seat_data items)
 
   -- the next step of the seat that lies there
   pub named : (x : Seat) (o : Option Step) → j < length items → x ≡ slice_index_or items j x → (option_map (step_as (around (table_sizes t) (seat_data x))) o ≡ first_in (point_program (around (table_sizes t) (seat_data x)) x.point)) → IfSome o (λ step. NextIs (view_of t items readers opens short) i step)

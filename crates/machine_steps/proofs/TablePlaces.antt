@@ -4,7 +4,6 @@ use Rattle.std.proofs.Math.ListN.{length-set, length-map}
 use Rattle.atomic_table.proofs.Lists.{at_index}
 use mathlib.Core.Option as core
 use lib.ListN.{get_elem?}
-use Rattle.machine_model.specs.sock_runs.proofs.Along.{place_inside}
 use Rattle.seat_states.specs.Steps.{first_in}
 use Rattle.reader_points.specs.declared.point.ReadStep.{ReadStep}
 use Rattle.reader_points.specs.Steps.{step_as}
@@ -17,13 +16,14 @@ use Rattle.machine_model.specs.Machines.{MachineState, TableState, machine_sizes
 use Rattle.machine_model.specs.Steps.{MayStand, PreparedAt}
 use Rattle.machine_model.specs.Telling.{TickTold}
 use Rattle.machine_model.specs.Reading.{NextReadIs, HasNoRead, IsFitRead, ReadFits, ReadTold, TickRead}
+use Rattle.corr_core.proofs.Notes.{at_length}
 
 module _ (m : MachineState) (k j : ℕ) (there : j ≡ k) where
   pub reader_there : (x : ReaderData) → j < length m.readers → x ≡ slice_index_or m.readers j x → get_elem? m.readers k ≡ core.some x
   reader_there x h e = subst (λ (i : ℕ). get_elem? m.readers i ≡ core.some x) there (at_index m.readers j x h e)
 
   pub reader_within : (x : ReaderData) → get_elem? m.readers k ≡ core.some x → j < length m.readers
-  reader_within x e = let h = place_inside m.readers k x e in omega (arith, h, there)
+  reader_within x e = let h = at_length m.readers k x e in omega (arith, h, there)
 
   -- the next step of the reader that lies there
   pub read_named : (x : ReaderData) (o : Option ReadStep) → j < length m.readers → x ≡ slice_index_or m.readers j x → option_map (step_as x.asked) o ≡ first_in (reader_program m.calls x) → IfSome o (λ step. NextReadIs m k step)

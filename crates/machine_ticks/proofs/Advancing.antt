@@ -16,7 +16,7 @@ use Rattle.seat_programs.specs.Cores.{Core, SeatState}
 use Rattle.seat_programs.specs.Ticks.{Answer, Unasked, OfPut, OfReady, OfTake, Moment, waits_at, waits, broken_at}
 use Rattle.seat_programs.specs.Runs.{kind_in, next_kind, IsAtRest}
 use Rattle.machine_model.specs.program_steps.specs.Sound.{IsAhead}
-use Rattle.machine_model.specs.sock_runs.proofs.Along.{place_inside, seat_rests}
+use Rattle.machine_model.specs.sock_runs.proofs.Along.{seat_rests}
 use Rattle.machine_model.specs.run_theorems.specs.Heard.{heard_at}
 use Rattle.call_points.specs.declared.aside.Aside.{Aside as AsideStep}
 use Rattle.call_points.specs.declared.aside.Aside.TheVariants as code
@@ -54,6 +54,7 @@ use Rattle.machine_rules.proofs.Seatings.{seat_at, read_at}
 use Rattle.machine_ticks.proofs.Takings.{made_taken, made_takes, read_broken, read_told, read_taken, read_takes}
 use Rattle.machine_model.proofs.Tellings.{ready_waits}
 use Rattle.machine_rules.proofs.Ticked.{MayMake, SteppedWith, steps_by}
+use Rattle.corr_core.proofs.Notes.{at_length}
 
 pub is_paced : (m : MachineState) (room : ℕ) → IsMachine m room → m.short ≡ false → ArePaced (machine_sizes m) m.links m.seats
 is_paced m room is enough = ∥∥₁_elim (is.paced enough) (paced_prop (machine_sizes m) m.links m.seats) (λ p. p)
@@ -234,7 +235,7 @@ module _ (m fresh : MachineState) (room i : ℕ) (step : Step) (tick : Tick) (is
   pub told_keeps : IsMachine fresh room
   told_keeps = keeps_by m fresh room i program answer is enough own_at keeps told_sizes base.plan
       (made_paced m (is_sized m is.sizes) paced (is.sound enough) fresh i w.one w.one' w.at w.all step first answer next may made)
-      (made_closed m fresh i w.one w.one' step (is.closed enough) (place_inside m.seats i w.one w.at) w.all w.readers first answer made) (called_by step next made)
+      (made_closed m fresh i w.one w.one' step (is.closed enough) (at_length m.seats i w.one w.at) w.all w.readers first answer made) (called_by step next made)
 
   pub told_leaves : Leaves tick m fresh
   told_leaves = leaves_by m fresh room i program answer is enough own_at keeps w.short tick w.told.tells
@@ -286,7 +287,7 @@ module _ (m fresh : MachineState) (room k : ℕ) (step : ReadStep) (tick : Tick)
     where
       by_first : (f : First) → first_in reading ≡ Some f → MadeRead (table_of m) (table_of fresh) i w.one w.one' f given_answer → MayRead m fresh k w.one w.one' w.at w.seats w.all read_few read_sized took agrees gave agrees_gave f
       by_first (OfCall call) at x = read_may (OfCall call) at
-      by_first (OfAside (asides.TakeBytes j count)) at x = let f = x.2.from in let low = place_inside m.links.inns j f.inn f.at in let many = read_sized.inns_are in omega (arith, low, many)
+      by_first (OfAside (asides.TakeBytes j count)) at x = let f = x.2.from in let low = at_length m.links.inns j f.inn f.at in let many = read_sized.inns_are in omega (arith, low, many)
       by_first _ at x = tt
 
   read_own : (took : Taken) (gave : Given) → get_elem? (core_with m took gave).seats i ≡ core.some (state_of m.plan m.links took reading i)

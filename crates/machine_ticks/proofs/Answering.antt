@@ -8,7 +8,6 @@ use native.Mathlib.Decide.{ℕ_discrete}
 use mathlib.Core.Logic.{dite}
 use Rattle.std.specs.Prelude.{slice_get}
 use Rattle.atomic_table.proofs.Lists.{at_set}
-use Rattle.machine_model.specs.sock_runs.proofs.Along.{place_inside}
 use mathlib.Core.Option as core
 use lib.ListN.{get_elem?}
 use Rattle.brpc_model.specs.Link.{LinkEnd, HalfAnswer}
@@ -23,6 +22,7 @@ use Rattle.seat_programs.specs.Calls as calls
 use Rattle.seat_programs.specs.Writings.{Waits}
 use Rattle.seat_programs.specs.Programs.{Program, PutBytes, AskReady, Write, Aside, Round}
 use Rattle.corr_core.specs.Word.{parts, code_of}
+use Rattle.corr_core.proofs.Notes.{at_length}
 use Rattle.corr_core.specs.Decisions.{ends_call}
 use Rattle.seat_programs.specs.Asides.{id_slot, PutCall}
 use Rattle.seat_programs.specs.Heads.{Unlocks, Decides, Locks, HasEnded}
@@ -100,7 +100,7 @@ pub links_set : (old fresh : MachineState) (k : ℕ) (before behind : LinkEnd) �
 links_set old fresh k before behind at ends same always_ready tell = record {
   as_many = ap length ends ∙ length-set old.ends k behind;
   each = λ j x y there also. let also' : slice_get (slice_set old.ends k behind) j ≡ Some y = ap (λ (es : List LinkEnd). slice_get es j) (sym ends) ∙ also in dite (ℕ_discrete j k)
-      (λ e. let inside = place_inside old.ends k before at in
+      (λ e. let inside = at_length old.ends k before at in
       let y_is : behind ≡ y = behind_is old.ends k behind y inside (subst (λ n. slice_get (slice_set old.ends k behind) n ≡ Some y) e also') in
       let x_is : before ≡ x = first_is old.ends k before x at (subst (λ n. slice_get old.ends n ≡ Some x) e there) in
       subst (λ (z : LinkEnd). SameLink z y) x_is (subst (SameLink before) y_is same))
@@ -139,7 +139,7 @@ module _ (old fresh : MachineState) (i : ℕ) (place seat' : SeatData) (step : S
       (λ e. subst (ShowFaults fresh) (sym e) (λ j x has at. ⊎_elim
       (λ h. let inside = h.1 in absurd (omega (arith, inside)))
       (λ same. let a = w.asked in
-      let x_is : a.behind ≡ x = behind_is old.ends k a.behind x (place_inside old.ends k a.before a.end_at) (ap (λ (es : List LinkEnd). slice_get es k) (sym a.ends_are) ∙ subst (λ n. slice_get fresh.ends n ≡ Some x) (sym same) at) in
+      let x_is : a.behind ≡ x = behind_is old.ends k a.behind x (at_length old.ends k a.before a.end_at) (ap (λ (es : List LinkEnd). slice_get es k) (sym a.ends_are) ∙ subst (λ n. slice_get fresh.ends n ≡ Some x) (sym same) at) in
       subst (λ (z : LinkEnd). 0 < z.put_faults) x_is (subst (λ n. 0 < n) (sym a.faults) (some_fault a.out.faults a.out'.faults rose)))
       (Contains-push_cases [] k j has)))
       is
@@ -218,14 +218,14 @@ module _ (old fresh : MachineState) (i : ℕ) (c : Core) (seat : SeatState) (the
       ((out out' : OutState) → HasAnswered out out' → out'.answers ≡ more_told out.answers (half ∷ [])) → half_of answer ≡ half ∷ [] → asked_link seat.program ≡ k ∷ [] → LinksTell old fresh (heard_at c (record { seat = i; answer = answer }))
   told_asked k answer half next HasAnswered w tells half_is asks = let a = w.asked in record {
     each = λ j x y at also. let also' : slice_get (slice_set old.ends k a.behind) j ≡ Some y = ap (λ (es : List LinkEnd). slice_get es j) (sym a.ends_are) ∙ also in dite (ℕ_discrete j k)
-        (λ e. let inside = place_inside old.ends k a.before a.end_at in
+        (λ e. let inside = at_length old.ends k a.before a.end_at in
         let y_is : a.behind ≡ y = behind_is old.ends k a.behind y inside (subst (λ n. slice_get (slice_set old.ends k a.behind) n ≡ Some y) e also') in
         let x_is : a.before ≡ x = first_is old.ends k a.before x a.end_at (subst (λ n. slice_get old.ends n ≡ Some x) e at) in
         ap (λ (z : LinkEnd). z.answers) (sym y_is) ∙ a.told ∙ tells a.out a.out' a.answered
         ∙ ap (λ (o : Option (List HalfAnswer)). more_told o (half ∷ [])) (sym a.told_before ∙ ap (λ (z : LinkEnd). z.answers) x_is)
         ∙ ap (more_told x.answers) (sym (heard_one j e)))
         (λ differ. ap (λ (z : LinkEnd). z.answers) (same_Some y x (sym also' ∙ other_there j differ ∙ at)) ∙ sym (more_none x.answers) ∙ ap (λ (l : List Answer). more_told x.answers (as_told l)) (sym (heard_other j differ)));
-    none_beyond = λ j past. heard_other j (λ e. let inside = place_inside old.ends k a.before a.end_at in omega (arith, inside, past, e));
+    none_beyond = λ j past. heard_other j (λ e. let inside = at_length old.ends k a.before a.end_at in omega (arith, inside, past, e));
   }
     where
       other_there : (j : ℕ) → (j ≡ k → ⊥) → slice_get (slice_set old.ends k w.asked.behind) j ≡ slice_get old.ends j

@@ -13,7 +13,6 @@ use Rattle.sock_words.specs.declared.plain.Plan.{Plan}
 use Rattle.sock_io.specs.Link.{OutState, InState}
 use Rattle.sock_model.specs.declared.home.Home.{Home}
 use Rattle.sock_model.specs.declared.home.Home.TheVariants.{Link}
-use Rattle.machine_model.specs.sock_runs.proofs.Along.{place_inside}
 use Rattle.seat_programs.specs.Asides as asides
 use Rattle.seat_programs.specs.Asides.{Taking, Closed}
 use Rattle.seat_programs.specs.Calls as calls
@@ -38,6 +37,7 @@ use Rattle.machine_ticks.proofs.Answering.{links_kept, links_set, prompt_same, p
 use Rattle.machine_rules.proofs.Hands.{lies_home, own_link, home_at}
 use Rattle.machine_ticks.proofs.Joining.{not_closed}
 use Rattle.machine_rules.proofs.Seatings.{seat_at, read_at}
+use Rattle.corr_core.proofs.Notes.{at_length}
 
 -- ## Where a link lies that is finished
 
@@ -167,7 +167,7 @@ done_same l l' j same done = ap (λ (os : List OutState). done_in (get_elem? os 
 
 done_set : (l l' : LinksData) (k j : ℕ) (out out' : OutState) → get_elem? l.outs k ≡ core.some out → l'.outs ≡ slice_set l.outs k out' → (out.finished ≡ true → out'.finished ≡ true) → is_done l j ≡ true → is_done l' j ≡ true
 done_set l l' k j out out' at outs stays done = ap (λ (os : List OutState). done_in (get_elem? os j)) outs ∙ dite (ℕ_discrete j k)
-    (λ e. ap (λ n. done_in (get_elem? (slice_set l.outs k out') n)) e ∙ ap done_in (set_here l.outs k out' (place_inside l.outs k out at))
+    (λ e. ap (λ n. done_in (get_elem? (slice_set l.outs k out') n)) e ∙ ap done_in (set_here l.outs k out' (at_length l.outs k out at))
     ∙ stays (sym (ap done_in at) ∙ ap (λ n. done_in (get_elem? l.outs n)) (sym e) ∙ done))
     (λ differ. ap done_in (set_else l.outs k j out' differ) ∙ done)
 
@@ -263,7 +263,7 @@ module _ (old fresh : MachineState) (n : ℕ) (reader reader' : ReaderData) wher
 
       closes_asides : (step : asides.Step) (answer : Answer) → MadeRead (table_of old) (table_of fresh) i reader reader' (OfAside step) answer → ClosesInTime old.plan before (record { seat = i; answer = answer } ∷ [])
       closes_asides (asides.TakeBytes k room) answer w = let t = w.2 in let f = t.from in at_own answer (subst (ClosesAt old.plan before answer) (sym t.is)
-          (λ e. finished_there old letters few kept took gave k (let low = place_inside old.links.inns k f.inn f.at in omega (arith, low, inns_are))
+          (λ e. finished_there old letters few kept took gave k (let low = at_length old.links.inns k f.inn f.at in omega (arith, low, inns_are))
           (closed_done old fresh k room w.0 f kept.done tell (core.some-injective w.0 Closed (sym (ap taken w.1) ∙ e)))))
       closes_asides _ answer w = one_closes old.plan before (record { seat = i; answer = answer }) (asks_none answer Unasked w.0 refl)
 
@@ -276,7 +276,7 @@ module _ (old fresh : MachineState) (n : ℕ) (reader reader' : ReaderData) wher
       reader_closed : ClosedAreDone fresh.links → ((k j : ℕ) → holder_of fresh.links k ≡ Some j → HeldBefore old.links i k j) → KeepsClosed fresh
       reader_closed done held = record {
         done = done;
-        held = λ k j own past. let many = ap length readers ∙ length-set old.readers n reader' in let as_many = ap length seats in let low = place_inside old.readers n reader at in ⊎_elim
+        held = λ k j own past. let many = ap length readers ∙ length-set old.readers n reader' in let as_many = ap length seats in let low = at_length old.readers n reader at in ⊎_elim
             (λ before. let r = kept.held k j before (omega (arith, as_many, past)) in (r.0, (let less = r.1 in omega (arith, less, many))))
             (λ e. (omega (arith, e), omega (arith, e, low, many)))
             (held k j own);

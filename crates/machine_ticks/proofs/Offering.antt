@@ -11,7 +11,6 @@ use Rattle.sock_io.specs.declared.link.Put.{Put}
 use Rattle.sock_io.specs.declared.link.Ready.{Ready}
 use Rattle.sock_io.specs.Link.{OutState, InState, Offer, IsServed, PutStep, ReadyStep, FinishStep, taken_of}
 use Rattle.sock_io.proofs.Offers.{served_put, served_ready, served_finish}
-use Rattle.machine_model.specs.sock_runs.proofs.Along.{place_inside}
 use Rattle.seat_programs.specs.Asides as asides
 use Rattle.seat_programs.specs.Asides.{Taking}
 use Rattle.seat_programs.specs.Calls as calls
@@ -33,6 +32,7 @@ use Rattle.machine_ticks.proofs.Closings.{taken_there}
 use Rattle.machine_ticks.proofs.Joining.{not_offered}
 use Rattle.machine_rules.proofs.ReadTicks.{given_at}
 use Rattle.machine_rules.proofs.Seatings.{read_at}
+use Rattle.corr_core.proofs.Notes.{at_length}
 
 -- ## A call of a writing half
 
@@ -75,7 +75,7 @@ module _ (l l' : LinksData) (k : ℕ) (serve : Bool) (end : Option ℕ) (h : IsO
     offering_here e =
         let same : h.out ≡ out = core.some-injective h.out out (sym h.out_at ∙ ap (get_elem? l.outs) e ∙ at) in
         let later = serves h.took h.gave h.offer (ap (λ (o : OutState). o.took) (sym same) ∙ h.took_is) (subst (λ (o : OutState). IsServed h.took o.finished h.gave h.offer) same h.served) in
-        offers_still out' (ap (λ (os : List OutState). get_elem? os k) outs ∙ ap (get_elem? (slice_set l.outs x out')) e ∙ set_here l.outs x out' (place_inside l.outs x out at)) (inn_here inns) later.0 later.1 later.2
+        offers_still out' (ap (λ (os : List OutState). get_elem? os k) outs ∙ ap (get_elem? (slice_set l.outs x out')) e ∙ set_here l.outs x out' (at_length l.outs x out at)) (inn_here inns) later.0 later.1 later.2
 
     offering_else : k ≢ x → IsOffering l' k serve end
     offering_else differ = offers_still h.out (ap (λ (os : List OutState). get_elem? os k) outs ∙ set_else l.outs x k out' differ ∙ h.out_at) (inn_here inns) h.took h.took_is h.served
@@ -128,7 +128,7 @@ module _ (old fresh : MachineState) (x room : ℕ) (taking : Taking) (f : TakenF
         out = h.out;
         out_at = ap (λ (os : List OutState). get_elem? os k) outs ∙ h.out_at;
         inn = f.inn';
-        inn_at = ap (λ (is : List InState). get_elem? is k) f.inns_are ∙ ap (get_elem? (slice_set old.links.inns x f.inn')) e ∙ set_here old.links.inns x f.inn' (place_inside old.links.inns x f.inn f.at);
+        inn_at = ap (λ (is : List InState). get_elem? is k) f.inns_are ∙ ap (get_elem? (slice_set old.links.inns x f.inn')) e ∙ set_here old.links.inns x f.inn' (at_length old.links.inns x f.inn f.at);
         took = h.took;
         took_is = h.took_is;
         tells = record {
@@ -165,7 +165,7 @@ module _ (old fresh : MachineState) (n : ℕ) (reader reader' : ReaderData) (k :
     program = reader_program old.calls reader
 
     inside : k < old.plan.links
-    inside = let low = place_inside old.links.inns k h.inn h.inn_at in omega (arith, low, inns_are)
+    inside = let low = at_length old.links.inns k h.inn h.inn_at in omega (arith, low, inns_are)
 
     took_is : h.took ≡ took k
     took_is = subst (λ (o : Option (List ℕ)). IfSome o (λ bytes. bytes ≡ took k)) h.took_is (agrees k h.out h.out_at)

@@ -15,7 +15,6 @@ use Rattle.seat_programs.specs.Cores.{Core, SeatState, found_at, next_step, reso
 use Rattle.seat_programs.specs.StepTables.{word_of}
 use Rattle.seat_programs.specs.Ticks.{quiet}
 use Rattle.seat_programs.specs.Runs.{kind_in, IsAtRest}
-use Rattle.machine_model.specs.sock_runs.proofs.Along.{place_inside}
 use Rattle.call_points.specs.Steps.{after_word}
 use Rattle.seat_states.specs.declared.point.WriteStep.TheVariants as writes
 use Rattle.seat_states.specs.declared.point.CallStep.TheVariants as begins
@@ -46,6 +45,7 @@ use Rattle.machine_rules.proofs.Seatings.{seat_at, read_at}
 use Rattle.machine_model.proofs.TableRoom.{IsCall, after_none, only_calls}
 use Rattle.machine_model.proofs.Tellings.{kind_is}
 use Rattle.machine_rules.proofs.Ticked.{gives_same, quiet_by}
+use Rattle.corr_core.proofs.Notes.{at_length}
 
 -- ## Without a step left
 
@@ -156,7 +156,7 @@ module _ (m fresh : MachineState) (room : ℕ) (step : Step) (tick : Tick) (is :
 
   stays_plain : IsPlain fresh
   stays_plain seat at =
-      let same : w.one' ≡ seat = core.some-injective w.one' seat (sym (set_here m.seats 0 w.one' (place_inside m.seats 0 w.one w.at)) ∙ sym (ap (λ (ss : List SeatData). get_elem? ss 0) w.all) ∙ at) in
+      let same : w.one' ≡ seat = core.some-injective w.one' seat (sym (set_here m.seats 0 w.one' (at_length m.seats 0 w.one w.at)) ∙ sym (ap (λ (ss : List SeatData). get_elem? ss 0) w.all) ∙ at) in
       let b : SameBase (table_of m) (table_of fresh) = base m fresh room 0 step tick is enough n w in
       let stays = (by_first first is_call w.told.makes.is).0 in (
         subst (λ (z : Sizes). AsksNone (seat_program z seat)) (sym (ap₂ (λ p q. (record { slots = p.slots; requests = p.requests; ids = q.slots })) b.plan b.id_plan)) (subst (λ (s : SeatData). AsksNone (seat_program (machine_sizes m) s)) same stays.0),

@@ -13,7 +13,6 @@ use Rattle.seat_programs.specs.Heads.{Retry}
 use Rattle.seat_programs.specs.Programs.{Program}
 use Rattle.seat_programs.specs.Cores.{Core, SeatState}
 use Rattle.seat_programs.specs.Ticks.{Answer, Moment, AreAnswered, run, broken_in}
-use Rattle.machine_model.specs.sock_runs.proofs.Along.{place_inside}
 use Rattle.machine_model.specs.run_theorems.specs.call_owing.specs.Lives.{ClosesInTime}
 use Rattle.machine_model.specs.run_theorems.specs.Offered.{AreOffered}
 use Rattle.machine_model.specs.run_theorems.specs.Heard.{heard_in, taken_in}
@@ -33,6 +32,7 @@ use Rattle.machine_rules.proofs.Keeping.{remade}
 use Rattle.machine_model.proofs.Lengths.{sizes_kept, sizes_stay}
 use Rattle.machine_ticks.proofs.Resting.{first_rests}
 use Rattle.machine_rules.proofs.Seatings.{core_is}
+use Rattle.corr_core.proofs.Notes.{at_length}
 
 -- ## One core, by two machines
 
@@ -168,7 +168,7 @@ module _ (old fresh : MachineState) (i : ℕ) (w : PreparedAt old fresh i) where
       same = set_else old.seats i 0 w.seat' (λ e. differ (sym e))
 
   own_seat : (seat : SeatData) → get_elem? fresh.seats i ≡ core.some seat → w.seat' ≡ seat
-  own_seat seat at = core.some-injective w.seat' seat (sym (set_here old.seats i w.seat' (place_inside old.seats i w.seat w.at)) ∙ sym (ap (λ (m : MachineState). get_elem? m.seats i) w.is) ∙ at)
+  own_seat seat at = core.some-injective w.seat' seat (sym (set_here old.seats i w.seat' (at_length old.seats i w.seat w.at)) ∙ sym (ap (λ (m : MachineState). get_elem? m.seats i) w.is) ∙ at)
 
   -- what its next step needs is in hand, and its point stands
   pub prepared_ready : ReadyAt fresh i

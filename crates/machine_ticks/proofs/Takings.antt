@@ -8,11 +8,11 @@ use mathlib.Core.Logic.{dite}
 use mathlib.Core.Option as core
 use lib.ListN.{get_elem?}
 use Rattle.corr_core.specs.Word.{parts, code_of}
+use Rattle.corr_core.proofs.Notes.{at_length}
 use Rattle.corr_core.specs.Decisions.{ends_call}
 use Rattle.brpc_model.specs.Link.{LinkEnd, TakeAnswer}
 use Rattle.sock_io.specs.Link.{more_told}
 use Rattle.sock_words.specs.declared.plain.Plan.{Plan}
-use Rattle.machine_model.specs.sock_runs.proofs.Along.{place_inside}
 use Rattle.machine_model.specs.run_theorems.specs.Heard.{as_told, as_taken, answer_of, take_answers, taken_link, heard_at, heard_in, taken_at, taken_in}
 use Rattle.seat_programs.specs.Asides as asides
 use Rattle.seat_programs.specs.Asides.{Taking, TakeBytes, PutCall, id_slot}
@@ -41,7 +41,7 @@ module _ (old fresh : MachineState) (k : ℕ) (before behind : LinkEnd) (at : ge
   -- which links stood at number j before and behind
   stood : (P : LinkEnd → LinkEnd → Type 0) → (j : ℕ) (x y : LinkEnd) → slice_get old.ends j ≡ Some x → slice_get fresh.ends j ≡ Some y → (j ≡ k → P before behind) → ((j ≡ k → ⊥) → P x x) → P x y
   stood P j x y there also here other = let also' : slice_get (slice_set old.ends k behind) j ≡ Some y = ap (λ (es : List LinkEnd). slice_get es j) (sym ends) ∙ also in dite (ℕ_discrete j k)
-      (λ e. let inside = place_inside old.ends k before at in
+      (λ e. let inside = at_length old.ends k before at in
       let y_is : behind ≡ y = behind_is old.ends k behind y inside (subst (λ n. slice_get (slice_set old.ends k behind) n ≡ Some y) e also') in
       let x_is : before ≡ x = first_is old.ends k before x at (subst (λ n. slice_get old.ends n ≡ Some x) e there) in
       subst (λ (z : LinkEnd). P z y) x_is (subst (P before) y_is (here e)))
@@ -52,7 +52,7 @@ module _ (old fresh : MachineState) (k : ℕ) (before behind : LinkEnd) (at : ge
     each = λ j x y there also. stood (λ a b. b.takes ≡ more_told a.takes (take_answers (as_taken (said j)))) j x y there also
         (λ e. told ∙ ap (more_told before.takes) (sym here ∙ ap (λ n. take_answers (as_taken (said n))) (sym e)))
         (λ differ. sym (more_none x.takes) ∙ ap (λ (l : List Answer). more_told x.takes (take_answers (as_taken l))) (sym (other j differ)));
-    none_beyond = λ j past. other j (λ e. let inside = place_inside old.ends k before at in omega (arith, inside, past, e));
+    none_beyond = λ j past. other j (λ e. let inside = at_length old.ends k before at in omega (arith, inside, past, e));
   }
 
   tells_set : (said : ℕ → List Answer) → behind.answers ≡ before.answers → ((j : ℕ) → said j ≡ []) → LinksTell old fresh said
@@ -191,7 +191,7 @@ module _ (old fresh : MachineState) (i : ℕ) (reader reader' : ReaderData) (p :
 
   taken_asides : (step : asides.Step) (answer : Answer) → first_in seat.program ≡ Some (OfAside step) → MadeRead (table_of old) (table_of fresh) i reader reader' (OfAside step) answer → ShowTakings fresh (taken_in p c (record { seat = i; answer = answer } ∷ []))
   taken_asides (TakeBytes k room) answer next w j e at = let f = w.2.from in let is = takes_first seat.program (OfAside (TakeBytes k room)) next in dite (ℕ_discrete j k)
-      (λ same. let inside = place_inside old.ends k f.before f.end_at in
+      (λ same. let inside = at_length old.ends k f.before f.end_at in
       let e_is : f.behind ≡ e = behind_is old.ends k f.behind e inside (ap (λ (es : List LinkEnd). slice_get es k) (sym f.ends_are) ∙ subst (λ n. slice_get fresh.ends n ≡ Some e) same at) in
       subst (λ (ts : List Taking). AllByRecursion (λ t. ShowsTaking t e) ts) (sym (ap as_taken (ap (λ n. taken_in p c (record { seat = i; answer = answer } ∷ []) n) same ∙ taken_here answer k is) ∙ taken_as answer w.0 w.1))
       (subst (ShowsTaking w.0) e_is f.shows, tt))

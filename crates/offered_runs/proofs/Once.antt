@@ -26,11 +26,9 @@ use Rattle.seat_programs.specs.Tasks.{opens, calls, plan_of, id_plan_of}
 use Rattle.seat_programs.specs.Ticks.{Moment, IsAnswered, AreAnswered, fed, with_places, onto_first, ticked, run}
 use Rattle.seat_programs.specs.StepTables.{May}
 use Rattle.served_runs.specs.Below.programs_allowed.specs.program_steps.specs.Sound.{state, Sound, IsFitting, AreFitting, views_after}
-use Rattle.served_runs.specs.Below.programs_allowed.specs.program_steps.proofs.Cases.{tick_keeps}
+use Rattle.served_runs.specs.Below.programs_allowed.specs.program_steps.proofs.Cases.{tick_cases}
 use Rattle.served_runs.specs.Below.programs_allowed.specs.sock_runs.proofs.HandTicks.{taking}
 use Rattle.served_runs.specs.Below.programs_allowed.specs.sock_runs.proofs.LinkTicks.{RetriesGo, link_there}
-use Rattle.served_runs.specs.Below.programs_allowed.specs.program_steps.proofs.Passes.{goes_round}
-use Rattle.served_runs.specs.Below.programs_allowed.specs.program_steps.proofs.Rounds.{begins_round}
 use Rattle.served_runs.specs.Below.programs_allowed.specs.sock_runs.proofs.Ticks.{sound_ticks}
 use Rattle.served_runs.specs.Below.call_owing.specs.Lives.{InHand}
 use Rattle.served_runs.specs.Offered.{Lies}
@@ -188,7 +186,7 @@ module _ (p : Plan) (k : ℕ) where
           ∙ (split_same k (onto_first (with_places x) seat.hand) ∙ onto_same k (with_places x) (placed_same k x) seat.hand))
 
     no_more : IsAnswered c m → IsFitting p c m → links_of (ticked p c m) ≤ links_of c
-    no_more answered fitting = tick_keeps p c vs m sound answered fitting (begins_round p) (goes_round p) (λ d ws. links_of d ≤ links_of c) (omega arith)
+    no_more answered fitting = tick_cases p c vs m sound answered (λ d ws. links_of d ≤ links_of c) (omega arith)
         (λ seat v call next at_seat at_view is goes. by_parts seat at_seat (next (found_at c.words (word_of p call))) (hand_after p call c.homes seat.hand) (words_after c.words (word_of p call) (word_after call (found_at c.words (word_of p call)))) (homes_after p call seat.hand c.homes) c.calls
         (by_call seat at_seat v at_view call goes.0))
         (λ seat v q next heading bytes at_seat at_view is goes there. by_parts seat at_seat (next heading bytes) seat.hand c.words (set c.homes q none) c.calls (let s = set_other q c.homes none refl in omega (arith, s)))
@@ -197,7 +195,7 @@ module _ (p : Plan) (k : ℕ) where
         (λ seat v n x after at_seat at_view is goes. by_parts seat at_seat after (others_of seat.hand) c.words (set c.homes (link_place p n) (first_of (onto_first (with_places x) seat.hand))) c.calls (puts_back seat at_seat n x))
         (λ seat v n asked bytes next answer at_seat at_view is goes answer_is fits. by_parts seat at_seat (next answer) (onto_first (fed bytes answer) seat.hand) c.words c.homes c.calls (let s = onto_same k (fed bytes answer) (fed_same k bytes answer) seat.hand in omega (arith, s)))
         (λ seat v n next answer at_seat at_view is goes answer_is. by_parts seat at_seat (next answer) seat.hand c.words c.homes c.calls (omega arith))
-        (λ seat v step next found at_seat at_view is goes fits. by_parts seat at_seat (next found) seat.hand c.words c.homes (calls_after step found c.calls) (omega arith))
+        (λ seat v step next found at_seat at_view is goes found_is. by_parts seat at_seat (next found) seat.hand c.words c.homes (calls_after step found c.calls) (omega arith))
 
   pub once_tick : RetriesGo p → (c : Core) (vs : List View) (m : Moment) → Sound p c vs → IsAnswered c m → IsFitting p c m → IsOnce c → IsOnce (ticked p c m)
   once_tick retries c vs m sound answered fitting once = let few = no_more retries c vs m sound answered fitting in omega (arith, few, once)

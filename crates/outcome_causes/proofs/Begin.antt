@@ -94,7 +94,7 @@ length_all (q ∷ qs) os = length_all qs (said (resolved [] q) os) ∙ length_sa
 abbrev no_outcome : Option Outcome
 no_outcome = None
 
-length_same : {A : Type 0} (n : ℕ) (x : A) → length (replicate n x) ≡ n
+pub length_same : {A : Type 0} (n : ℕ) (x : A) → length (replicate n x) ≡ n
 length_same zero x = refl
 length_same (suc n) x = ap suc (length_same n x)
 
@@ -204,7 +204,7 @@ abbrev none_asked : Option Asked
 none_asked = None
 
 -- no call is at home
-no_call : (n i : ℕ) (asked : Asked) → call_at (get_elem? (replicate n (some none_asked)) i) ≡ some asked → ⊥
+pub no_call : (n i : ℕ) (asked : Asked) → call_at (get_elem? (replicate n (some none_asked)) i) ≡ some asked → ⊥
 no_call zero i asked e = some-ne-none asked (sym e)
 no_call (suc n) zero asked e = some-ne-none asked (sym e)
 no_call (suc n) (suc i) asked e = no_call n i asked e

@@ -3,7 +3,7 @@ use Rattle.std.proofs.Common.{◌≡◌, ℕ, zero, suc, ◌<◌, ◌⊎◌, Boo
 use Rattle.std.proofs.lemmas.Bool.{true≢false}
 use Rattle.std.specs.Prelude.{Option, Some, None, slice_get}
 use Rattle.std.specs.List.{AllByRecursion}
-use mathlib.Core.Option.{some, some-ne-none}
+use mathlib.Core.Option.{some}
 use lib.ListN.{get_elem?}
 use Rattle.brpc_model.specs.Order.{EachBefore}
 use Rattle.sock_words.specs.declared.plain.Plan.{Plan}
@@ -30,6 +30,8 @@ use Rattle.outcome_ticks.specs.outcome_stories.proofs.Members.{all_in, all_of, g
 use Rattle.outcome_ticks.proofs.Seats.{Less, undo_before, undo_done, from_undo}
 use Rattle.outcome_ticks.proofs.Tasks.{sorted_of, same_some}
 use Rattle.outcome_ticks.proofs.Ticks.{get_of}
+use Rattle.outcome_ticks.proofs.Accepting.{all_append}
+use Rattle.seat_programs.specs.corr_core.proofs.Notes.{at_length}
 
 -- of tasks done, the latest first, each has a higher number than those behind it
 abbrev pub Falls : List Done → Type 0
@@ -80,11 +82,6 @@ at_there [] i l = absurd (omega arith)
 at_there (x ∷ xs) zero l = (x, refl)
 at_there (x ∷ xs) (suc i) l = at_there xs i (omega arith)
 
-pub at_within : {A : Type 0} (xs : List A) (i : ℕ) (x : A) → get_elem? xs i ≡ some x → i < length xs
-at_within [] i x e = absurd (some-ne-none x (sym e))
-at_within (y ∷ ys) zero x e = omega arith
-at_within (y ∷ ys) (suc i) x e = omega (arith, at_within ys i x e)
-
 nothing_claimed : (j : ℕ) (vs : List View) → ((k : ℕ) (v : View) → get_elem? vs k ≡ some v → marks_of is_claimed j v ≡ 0) → tally is_claimed (map (λ (v : View). about j v.marks) vs) ≡ 0
 nothing_claimed j [] h = refl
 nothing_claimed j (v ∷ vs) h = omega (arith, h 0 v refl, nothing_claimed j vs (λ k u e. h (suc k) u e))
@@ -110,10 +107,6 @@ module _ (slots requests : ℕ) (es : List Event) (outcomes : List (Option Outco
   none_of : (ds : List Done) (d : Done) (outcome : Option Outcome) → d.outcome ≡ outcome → Explained slots requests ds (trace_of c d.task.number es) d.task.op outcome → swapped (trace_of c d.task.number es) ≡ true → outcome ≡ None
   none_of ds d None is x e = refl
   none_of ds d (Some o) is x e = absurd (true≢false (sym e ∙ x.1))
-
-  all_append : (P : chain.Entry → Type 0) (xs : List chain.Entry) (y : chain.Entry) → AllByRecursion P xs → P y → AllByRecursion P (xs ++ y ∷ [])
-  all_append P [] y a b = (b, tt)
-  all_append P (x ∷ xs) y a b = (a.0, all_append P xs y a.1 b)
 
   later_done : (d : Done) (ds : List Done) (made : List chain.Entry) → AllByRecursion (IsOfDone ds) made → AllByRecursion (IsOfDone (d ∷ ds)) made
   later_done d ds made h = all_of (IsOfDone (d ∷ ds)) made (λ e n. let y = all_in (IsOfDone ds) made e h n in record { member = y.member; is = inr y.is; untold = y.untold; of_task = y.of_task })
@@ -166,7 +159,7 @@ module _ (p : Plan) (clients : List (List Task)) (are : AreTasks p clients) (ove
 
   -- nobody claims a slot
   pub idle : (j : ℕ) → count is_claimed (slot_facts (state c vs) j) ≡ 0
-  idle j = nothing_claimed j vs (λ k v e. let seat = at_there c.seats k (omega (arith, at_within vs k v e, sound.each)) in
+  idle j = nothing_claimed j vs (λ k v e. let seat = at_there c.seats k (omega (arith, at_length vs k v e, sound.each)) in
       let n : HasNothing v = subst (GoesOn p v) (rests k seat.0 seat.1) (sound.seats k seat.0 v seat.1 e).goes_on in n.claims j)
 
   -- each task has its outcome
@@ -201,7 +194,7 @@ module _ (p : Plan) (clients : List (List Task)) (are : AreTasks p clients) (ove
     pub each_sent : (t : Task) → Asks clients i t → slice_get c.outcomes t.number ≡ Some None → (e : chain.Entry) × In e (of_sends made) × IsOfTask es i t e
 
   pub sends : (i : ℕ) (v : View) → get_elem? vs i ≡ some v → Sends i v
-  sends i v here = let seat = at_there c.seats i (omega (arith, at_within vs i v here, sound.each)) in let a = get_of c.seats clients i seat.0 story.each seat.1 in
+  sends i v here = let seat = at_there c.seats i (omega (arith, at_length vs i v here, sound.each)) in let a = get_of c.seats clients i seat.0 story.each seat.1 in
       let s = story.seats i a.0 seat.0 v a.1 seat.1 here in of_seat a.0 a.1 s.way s.trace s.done s.todo (subst (λ q. SeatAt p (IsSpoken clients) over es broken c.outcomes i a.0 s.way s.trace s.done s.todo q v) (rests i seat.0 seat.1) s.at)
     where
       of_seat : (tasks : List Task) → slice_get clients i ≡ Some tasks → (way : Way) (trace : List Entry) (done : List Done) (todo : List Task) → SeatAt p (IsSpoken clients) over es broken c.outcomes i tasks way trace done todo Rest v → Sends i v

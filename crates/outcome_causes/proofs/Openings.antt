@@ -22,7 +22,7 @@ use Rattle.outcome_ticks.specs.outcome_stories.proofs.Members.{all_in, all_of}
 use Rattle.outcome_ticks.proofs.Tasks.{Apart, InOrder, one_task}
 use Rattle.outcome_ticks.proofs.Clients.{SaysOf, client_explains}
 use Rattle.outcome_ticks.proofs.Closings.{reader_explains}
-use Rattle.outcome_causes.proofs.Begin.{IsExplained, AreExplained}
+use Rattle.outcome_causes.proofs.Begin.{IsExplained, AreExplained, length_same}
 
 -- ## Parts of lists
 
@@ -260,7 +260,3 @@ module _ (p : Plan) (clients : List (List Task)) (are : AreTasks p clients) (rea
         (explained_on (0 + length (map plain_tasks clients)) (replicate n no_tasks) (replicate n Rest) (replicate readers no_tasks) (readers_from calls 0 os) (rests_explained (0 + length (map plain_tasks clients)) n)
         (subst (λ z. AreExplained p (IsSpoken (seats_tasks clients readers)) (0 + length (map plain_tasks clients) + length (replicate n no_tasks)) (replicate z no_tasks) (readers_from calls 0 os)) (sym many)
         (readers_explained (0 + length (map plain_tasks clients) + length (replicate n no_tasks)) (let m = length_same n no_tasks in omega (arith, plain, m)) calls 0 os))))
-      where
-        length_same : {A : Type 0} (n : ℕ) (x : A) → length (replicate n x) ≡ n
-        length_same zero x = refl
-        length_same (suc n) x = ap suc (length_same n x)

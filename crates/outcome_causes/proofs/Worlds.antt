@@ -20,13 +20,14 @@ use Rattle.outcome_ticks.specs.outcome_stories.specs.Kept.{StaysUsed, Story}
 use Rattle.outcome_ticks.proofs.Sending.{Within}
 use Rattle.outcome_ticks.proofs.Broken.{good_more}
 use Rattle.outcome_ticks.proofs.Events.{event}
-use Rattle.outcome_causes.proofs.Final.{at_there, at_within, idle, final}
+use Rattle.outcome_causes.proofs.Final.{at_there, idle, final}
 use Rattle.outcome_causes.proofs.Lives.{World}
 use Rattle.outcome_ticks.specs.outcome_stories.proofs.Delivered.{orders_of, AreQuiet, requests_used}
+use Rattle.seat_programs.specs.corr_core.proofs.Notes.{at_length}
 
 -- no view has anything to do
 pub quiet : (p : Plan) (c : Core) (vs : List View) → Sound p c vs → AllRest c → AreQuiet vs
-quiet p c vs sound settled i v at = let seat = at_there c.seats i (omega (arith, at_within vs i v at, sound.each)) in
+quiet p c vs sound settled i v at = let seat = at_there c.seats i (omega (arith, at_length vs i v at, sound.each)) in
     let n : HasNothing v = subst (GoesOn p v) (settled i seat.0 seat.1) (sound.seats i seat.0 v seat.1 at).goes_on in n.quiet
 
 -- links that were lost are among these

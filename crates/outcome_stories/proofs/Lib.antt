@@ -6,7 +6,6 @@ pub mod Used
 pub mod Errors
 pub mod Pieces
 pub mod Holding
-pub mod Cases
 pub mod HomeCalls
 pub mod Outcomes
 pub mod Accepted

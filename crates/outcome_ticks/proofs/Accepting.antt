@@ -173,7 +173,7 @@ call_append (x ∷ xs) e is = by_first (is_of_send x) (call_append xs e is)
     by_first true h = ap (λ l. x ∷ l) h
     by_first false h = h
 
-all_append : (P : chain.Entry → Type 0) (xs : List chain.Entry) (y : chain.Entry) → AllByRecursion P xs → P y → AllByRecursion P (xs ++ y ∷ [])
+pub all_append : (P : chain.Entry → Type 0) (xs : List chain.Entry) (y : chain.Entry) → AllByRecursion P xs → P y → AllByRecursion P (xs ++ y ∷ [])
 all_append P [] y a b = (b, tt)
 all_append P (x ∷ xs) y a b = (a.0, all_append P xs y a.1 b)
 

@@ -52,7 +52,7 @@ use Rattle.seat_programs.specs.StepsOfLinks.{link_away, link_home_again, took_by
 use Rattle.seat_programs.specs.StepTables.{May}
 use Rattle.outcome_stories.specs.program_steps.specs.Sound.{state, Sound, first_step, views_after, is_begun}
 use Rattle.outcome_stories.specs.sock_runs.proofs.Along.{begins}
-use Rattle.outcome_stories.specs.program_steps.proofs.Cases.{with_rights, right_rights, put_rights}
+use Rattle.outcome_stories.specs.program_steps.proofs.Cases.{with_rights, right_rights, put_rights, IsOfLoop, loop_begins, tick_cases}
 use Rattle.outcome_stories.specs.Stories.{Entry, Event, In, trace_of, told_of, stored_by, last_name, adds, marked}
 use Rattle.outcome_stories.proofs.HomeCalls.{AreCalls, PutsAsked, calls_behind}
 use Rattle.outcome_stories.specs.Explains.{Way, Own, Beside, Closing, FitsBeside, FitsClosing, FailsAttempt, PutsCall, TakesCall, ExplainsBy, Fits, Done, IsPlain, Explains, swapped, holds, step, broken_put, broken_ready}
@@ -70,7 +70,6 @@ use Rattle.outcome_ticks.proofs.Sending.{Within, round_goes}
 use Rattle.outcome_ticks.proofs.Calling.{round_beside}
 use Rattle.outcome_stories.proofs.Errors.{loop_goes}
 use Rattle.outcome_ticks.proofs.Events.{fail_added}
-use Rattle.outcome_stories.proofs.Cases.{IsOfLoop, loop_begins, tick_cases}
 use Rattle.outcome_stories.proofs.Tests.{split}
 use Rattle.outcome_ticks.proofs.Broken.{failed_more, good_more}
 use Rattle.outcome_ticks.proofs.Seats.{undo_in, length_said, said_else, after_say, given_more, seat_else, seat_moves, seat_ends, seat_closes, seat_beside, seat_step}
@@ -136,12 +135,6 @@ module _ (slots requests : ℕ) (calls : ℕ → Type 0) (broken : List ℕ) (i 
   last_told : (n : ℕ) (todo : List Task) → Explains slots requests calls broken done trace todo (Do call next) → last_name n (told_of i todo (step call found) es) ≡ stored_by n call (last_name n es)
   last_told n [] x = sym (plain_stores n call (last_name n es) x.0)
   last_told n (t ∷ ts) x = refl
-
-pub elem_there : {A B : Type 0} (xs : List A) (ys : List B) (i : ℕ) (x : A) → length ys ≡ length xs → get_elem? xs i ≡ some x → (y : B) × (get_elem? ys i ≡ some y)
-elem_there [] ys i x l e = absurd (some-ne-none x (sym e))
-elem_there (z ∷ zs) [] i x l e = absurd (omega arith)
-elem_there (z ∷ zs) (y ∷ ys) zero x l e = (y, refl)
-elem_there (z ∷ zs) (y ∷ ys) (suc i) x l e = elem_there zs ys i x (omega arith) e
 
 pub get_of : {A B : Type 0} (xs : List A) (ys : List B) (i : ℕ) (x : A) → length xs ≡ length ys → get_elem? xs i ≡ some x → (y : B) × (slice_get ys i ≡ Some y)
 get_of [] ys i x l e = absurd (some-ne-none x (sym e))
@@ -643,9 +636,9 @@ module _ (p : Plan) (clients : List (List Task)) (are : AreTasks p clients) (ove
   pub tick_story : Goes (ticked p c m) (views_after p c vs m)
   tick_story = tick_cases p c vs m sound answered Goes same_story
       (λ seat v call next at here is goes. let t = teller seat v at here in goes_step seat v call next at here is goes.0 t.tasks t.asks_ t.way t.trace t.done t.todo t.told (first_as seat v t (Do call next) is))
-      (λ seat v q next heading bytes at here is goes. let t = teller seat v at here in
+      (λ seat v q next heading bytes at here is goes lies. let t = teller seat v at here in
       goes_moved c.calls story.spoken seat v (next heading bytes) seat.hand (set c.homes q none) at here (took_message heading bytes v) (right_rights v v.rights (λ r. taken_right r heading bytes)) broken (λ k n. n) (λ k n. inl n) t (first_as seat v t (TakeMessage q next) is heading bytes))
-      (λ seat v k next n at here is goes. let t = teller seat v at here in
+      (λ seat v k next took n at here is goes lies. let t = teller seat v at here in
       goes_moved c.calls story.spoken seat v (next n) (lies_at c.homes (link_place p k) ++ seat.hand) (set c.homes (link_place p k) none) at here (link_away v) (right_rights v v.rights (λ r. record r { at_home = false })) broken (λ k n. n) (λ k n. inl n) t (first_as seat v t (TakeHome k next) is n))
       (λ seat v k n after at here is goes. let t = teller seat v at here in
       goes_moved c.calls story.spoken seat v after (others_of seat.hand) (set c.homes (link_place p k) (first_of (onto_first (with_places n) seat.hand))) at here (link_home_again v) (right_rights v v.rights (λ r. record r { at_home = true })) broken (λ k n. n) (λ k n. inl n) t (first_as seat v t (PutHome k n after) is))

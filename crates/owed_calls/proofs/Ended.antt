@@ -1,13 +1,14 @@
 -- Where a run with calls has ended no seat has a step left, and the life of each link is past.
 use Rattle.std.proofs.Common.{◌≡◌, ◌≢◌, ℕ, zero, suc, ◌+◌, ◌-◌, ◌<◌, ◌⊎◌, inl, inr, ⊎_elim, Bool, true, false, cond, ne_eqb, List, [], ◌∷◌, length, get_or, Option, Some, None, refl, sym, ap, ◌∙◌, subst, arith}
 use Rattle.std.specs.Prelude.{Option as Maybe}
-use mathlib.Core.Option.{none, some, some-ne-none}
+use mathlib.Core.Option.{none, some}
 use lib.ListN.{get_elem?}
 use Rattle.sock_words.specs.declared.kind.Kind.{Kind}
 use Rattle.sock_words.specs.declared.plain.Plan.{Plan}
 use Rattle.sock_model.specs.declared.view.View.{View}
 use Rattle.sock_model.specs.Layout.{open_index}
 use Rattle.corr_core.specs.declared.marks.Plan.{Plan as IdPlan}
+use Rattle.corr_core.proofs.Notes.{at_length}
 use Rattle.seat_programs.specs.Heads.{Opens}
 use Rattle.seat_programs.specs.Programs.{Round, NO_SOCKET}
 use Rattle.seat_programs.specs.Cores.{Core}
@@ -15,7 +16,8 @@ use Rattle.seat_programs.specs.Ticks.{Moment, IsAlwaysReady, waits, waits_at}
 use Rattle.seat_programs.specs.Runs.{kind_in, IsSettled}
 use Rattle.seat_programs.specs.Runs as runs
 use Rattle.owned_ids.specs.Below.programs_allowed.specs.program_steps.specs.Sound.{Sound, IsAhead}
-use Rattle.owned_ids.specs.Below.programs_allowed.specs.sock_runs.proofs.Along.{seat_rests, place_inside}
+use Rattle.owned_ids.specs.Below.programs_allowed.specs.program_steps.proofs.Cases.{elem_there}
+use Rattle.owned_ids.specs.Below.programs_allowed.specs.sock_runs.proofs.Along.{seat_rests}
 use Rattle.owned_ids.specs.Below.programs_allowed.specs.sock_runs.proofs.Waiting.{StandsAside, still_settles}
 use Rattle.owned_ids.specs.Below.programs_allowed.specs.program_walks.proofs.Rested.{IsPast}
 use Rattle.owned_ids.specs.Below.programs_allowed.specs.program_walks.proofs.ReaderSeats.{AtReader, waits_own}
@@ -29,13 +31,7 @@ use Rattle.owned_ids.specs.call_owing.specs.Lives.{id_of, life_of}
 use Rattle.owing_ticks.proofs.AllSettled.{ranges_ended, waits_for_opens, lives_failed}
 use Rattle.owing_ticks.proofs.OwingRuns.{id_is, id_by}
 
-beside : {A B : Type 0} (l : List A) (m : List B) (j : ℕ) (a : A) → length m ≡ length l → get_elem? l j ≡ some a → (b : B) × (get_elem? m j ≡ some b)
-beside [] m j a e at = absurd (some-ne-none a (sym at))
-beside (x ∷ xs) [] j a e at = absurd (let z : ⊥ = omega (arith, e) in z)
-beside (x ∷ xs) (y ∷ ys) zero a e at = (y, refl)
-beside (x ∷ xs) (y ∷ ys) (suc j) a e at = beside xs ys j a (omega (arith, e)) at
-
-at_some : {A : Type 0} (l : List A) (k : ℕ) → k < length l → (a : A) × (get_elem? l k ≡ some a)
+pub at_some : {A : Type 0} (l : List A) (k : ℕ) → k < length l → (a : A) × (get_elem? l k ≡ some a)
 at_some [] k low = absurd (let z : ⊥ = omega (arith, low) in z)
 at_some (x ∷ xs) zero low = (x, refl)
 at_some (x ∷ xs) (suc k) low = at_some xs k (omega (arith, low))
@@ -60,15 +56,15 @@ module _ (p : Plan) (q : IdPlan) (calls os : List ℕ) (in_os : (k o : ℕ) → 
           inr (s.0, s.1, s.2.0, s.2.1, w.0.answer, s.2.2, sym (ap (waits_at p c w.0.answer) s.2.2) ∙ is)
 
   opens_known : OpensKnown p life c us
-  opens_known j u k s seat o next at at_seat linked lives is = let place = owing.law.tied j k [] u at linked in let x = at_some os k (omega (arith, place, many, place_inside c.seats j seat at_seat)) in
+  opens_known j u k s seat o next at at_seat linked lives is = let place = owing.law.tied j k [] u at linked in let x = at_some os k (omega (arith, place, many, at_length c.seats j seat at_seat)) in
       let own : o ≡ x.0 = waits_own p calls j k x.0 (in_os k x.0 x.1) c seat at_seat (subst (λ y. AtReader p calls y k x.0 c) (sym place) (readers k x.0 x.1)) o next is in
       let named = id_is (get_or c.words (open_index p x.0) 0) s (sym (life_is k x.0 x.1) ∙ lives) in
       λ z. let y : get_or c.words (open_index p x.0) 0 ≡ 0 = ap (λ n. get_or c.words (open_index p n) 0) (sym own) ∙ z in let w = named.0 in omega (arith, y, w)
 
   -- who waits for an `open` is the reader of its link
   pub reader_waits : (i : ℕ) → WaitsForOpen p c i → (n : ℕ) × (o : ℕ) × (i ≡ 32 + n) × (get_elem? os n ≡ some o) × (get_or c.words (open_index p o) 0 ≡ 0)
-  reader_waits i w = let u = beside c.seats us i w.0 owing.each w.3 in let g : OwesOn life u.0 (Round (Opens w.1) w.2) = subst (OwesOn life u.0) w.4 (owing.seats i w.0 u.0 w.3 u.1) in
-      let k : ℕ = g.0.0.0 in let place = owing.law.tied i g.0.0.0 [] u.0 u.1 g.0.0.1 in let x = at_some os g.0.0.0 (omega (arith, place, many, place_inside c.seats i w.0 w.3)) in
+  reader_waits i w = let u = elem_there c.seats us i w.0 owing.each w.3 in let g : OwesOn life u.0 (Round (Opens w.1) w.2) = subst (OwesOn life u.0) w.4 (owing.seats i w.0 u.0 w.3 u.1) in
+      let k : ℕ = g.0.0.0 in let place = owing.law.tied i g.0.0.0 [] u.0 u.1 g.0.0.1 in let x = at_some os g.0.0.0 (omega (arith, place, many, at_length c.seats i w.0 w.3)) in
       let own : w.1 ≡ x.0 = waits_own p calls i g.0.0.0 x.0 (in_os g.0.0.0 x.0 x.1) c w.0 w.3 (subst (λ y. AtReader p calls y g.0.0.0 x.0 c) (sym place) (readers g.0.0.0 x.0 x.1)) w.1 w.2 w.4 in
       (g.0.0.0, x.0, place, x.1, ap (λ n. get_or c.words (open_index p n) 0) (sym own) ∙ w.5)
 
@@ -83,7 +79,7 @@ module _ (p : Plan) (q : IdPlan) (calls os : List ℕ) (in_os : (k o : ℕ) → 
   -- where each client at rest has stored the words of its `open`s, all is at rest
   module _ (stored : (n o : ℕ) → get_elem? os n ≡ some o → ((i : ℕ) → i < 32 → i < length c.seats → IsAtRest c i) → get_or c.words (open_index p o) 0 ≢ 0) where
     pub all_rest : AllRest c
-    all_rest j seat at = ⊎_elim (λ rest. rest seat at) (λ w. absurd (let r = reader_waits j w in stored r.0 r.1 r.3 clients_rest r.4)) (waits_for_opens p q life calls c us ws owing known ending still opens_known j (place_inside c.seats j seat at))
+    all_rest j seat at = ⊎_elim (λ rest. rest seat at) (λ w. absurd (let r = reader_waits j w in stored r.0 r.1 r.3 clients_rest r.4)) (waits_for_opens p q life calls c us ws owing known ending still opens_known j (at_length c.seats j seat at))
 
     -- no seat has a step left
     pub is_settled : IsSettled c

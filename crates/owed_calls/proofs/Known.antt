@@ -15,6 +15,7 @@ use Rattle.seat_programs.specs.brpc_model.specs.Items.{Item, is_open}
 use Rattle.seat_programs.specs.brpc_model.specs.Operations.{Turn, operations, clients, link_names}
 use Rattle.sock_model.specs.declared.view.View.{View}
 use Rattle.corr_core.specs.declared.marks.Plan.{Plan as IdPlan}
+use Rattle.corr_core.proofs.Notes.{at_length}
 use Rattle.seat_programs.specs.Asides.{TakeBytes, Closed}
 use Rattle.seat_programs.specs.Programs.{Program, Rest, Aside}
 use Rattle.seat_programs.specs.Tasks.{Numbered, numbered, opens, calls, plan_of, id_plan_of}
@@ -26,7 +27,7 @@ use Rattle.seat_programs.specs.Runs.{kind_in}
 use Rattle.seat_programs.specs.Scripts.{ticks_of, sizes_of, programs, readers_from, all_programs, all_tasks, opened, ending, is_ending, set_up, played, IsRunWithCalls}
 use Rattle.owned_ids.specs.Below.programs_allowed.specs.program_steps.specs.Sound.{AllRest, views_along}
 use Rattle.owned_ids.specs.Below.programs_allowed.specs.sock_runs.proofs.LinkTicks.{RetriesGo}
-use Rattle.owned_ids.specs.Below.programs_allowed.specs.sock_runs.proofs.Along.{seat_rests, place_inside}
+use Rattle.owned_ids.specs.Below.programs_allowed.specs.sock_runs.proofs.Along.{seat_rests}
 use Rattle.owned_ids.specs.Below.programs_allowed.specs.sock_runs.proofs.Quiets.{run_seats, run_rests}
 use Rattle.owned_ids.specs.Below.programs_allowed.specs.program_walks.proofs.ThroughCalls.{through_next}
 use Rattle.owned_ids.specs.Below.id_runs.specs.Goes as goes
@@ -207,7 +208,7 @@ module _ (script : List Item) (made : AreMade script) (turns : List Turn) (core 
       (end_answered script made.are vs start go turns core is fitting) fitting.of_closing at_begun in
       let at_end = run_stores (plan_of script) x.place o inside go is.ended (views_closed script turns core is vs) is.final (closed_sound script made.are vs start go turns core is fitting) is.answered_again fitting.of_final
       (subst (IsToStore (plan_of script) x.place o) (sym is.is_ended) (on x.place o (run (plan_of script) (ending script (played script is.setup (is.scheduled ++ is.later))) (replicate is.last (quiet 0))) at_told)) in
-      (x.place, (let low = place_inside (all_tasks script) x.place x.tasks x.there in let few = made.few_clients in omega (arith, low, few)), subst (IsToStore (plan_of script) x.place o) (sym is.is_end) at_end)
+      (x.place, (let low = at_length (all_tasks script) x.place x.tasks x.there in let few = made.few_clients in omega (arith, low, few)), subst (IsToStore (plan_of script) x.place o) (sym is.is_end) at_end)
     where
       start : Begins script vs
       start = begins script made

@@ -12,6 +12,7 @@ use Rattle.seat_programs.specs.brpc_model.specs.Operations.{Turn, clients, link_
 use Rattle.sock_model.specs.declared.view.View.{View}
 use Rattle.sock_model.specs.Layout.{open_index}
 use Rattle.corr_core.specs.declared.marks.Plan.{Plan as IdPlan}
+use Rattle.corr_core.proofs.Notes.{at_length}
 use Rattle.seat_programs.specs.id_rule.specs.Lawful as ids
 use Rattle.seat_programs.specs.declared.task.Task.{Task}
 use Rattle.seat_programs.specs.Programs.{Program, Rest}
@@ -24,7 +25,7 @@ use Rattle.seat_programs.specs.Scripts.{sizes_of, programs, readers_from, all_pr
 use Rattle.seat_programs.specs.Told.{AreTasks}
 use Rattle.owned_ids.specs.Below.programs_allowed.specs.program_steps.specs.Sound.{Sound, IsAhead, AreFitting, views_along}
 use Rattle.owned_ids.specs.Below.programs_allowed.specs.sock_runs.proofs.LinkTicks.{RetriesGo}
-use Rattle.owned_ids.specs.Below.programs_allowed.specs.sock_runs.proofs.Along.{run_sound, seat_rests, place_inside}
+use Rattle.owned_ids.specs.Below.programs_allowed.specs.sock_runs.proofs.Along.{run_sound, seat_rests}
 use Rattle.owned_ids.specs.Below.programs_allowed.specs.program_walks.proofs.Records.{next_stores}
 use Rattle.owned_ids.specs.Below.programs_allowed.specs.program_walks.proofs.Recorded.{Recorded}
 use Rattle.owned_ids.specs.Below.programs_allowed.specs.program_walks.proofs.Rested.{IsPast}
@@ -65,7 +66,7 @@ tasks_own script client zero = tt
 tasks_own script client (suc n) = (script_owns script client, tasks_own script (client + 1) n)
 
 some_place : (l : List ℕ) (k : ℕ) (o : ℕ) → get_elem? l k ≡ some o → k < length l
-some_place l k o at = place_inside l k o at
+some_place l k o at = at_length l k o at
 
 -- how many seats there are
 pub opened_seats : (script : List Item) → length (all_tasks script) ≤ 32 → length (opened script).seats ≡ 32 + length (opens script)
@@ -162,7 +163,7 @@ module _ (script : List Item) (are : AreTasks (plan_of script) (all_tasks script
   none_stores : (j : ℕ) (seat : SeatState) → get_elem? c₆.seats j ≡ some seat → next_stores seat.program ≡ none
   none_stores j seat at = ⊎_elim (λ rest. ap next_stores (seat_rests c₆ ahead₆ j rest seat at))
       (λ s. ap (λ (x : SeatState). next_stores x.program) (some-injective seat s.0 (sym at ∙ s.1)) ∙ ap next_stores s.2.2)
-      (still_settles p c₆ v₆ sound₆ ahead₆ still₆ j (place_inside c₆.seats j seat at))
+      (still_settles p c₆ v₆ sound₆ ahead₆ still₆ j (at_length c₆.seats j seat at))
 
   -- the life of a link stands in the word of its `open`
   opened_at : (k s : ℕ) → life_of p os c₆.words k ≡ Some s → (o : ℕ) × (get_elem? os k ≡ some o) × (id_of (get_or c₆.words (open_index p o) 0) ≡ Some s)

@@ -7,6 +7,7 @@ use Rattle.sock_words.specs.declared.plain.Plan.{Plan}
 use Rattle.sock_model.specs.declared.view.View.{View}
 use Rattle.sock_model.specs.Layout.{open_index}
 use Rattle.corr_core.specs.declared.marks.Plan.{Plan as IdPlan}
+use Rattle.corr_core.proofs.Notes.{at_length}
 use Rattle.seat_programs.specs.Asides.{Step, Found, StoreAt, TakeBytes, call_id, id_slot}
 use Rattle.seat_programs.specs.Programs.{Program, Do, Write, Aside, Round}
 use Rattle.seat_programs.specs.Readers.{reader}
@@ -14,7 +15,6 @@ use Rattle.seat_programs.specs.Cores.{Core, SeatState, waiting_at}
 use Rattle.seat_programs.specs.Ticks.{Answer, Moment, ticked, run, AreAnswered}
 use Rattle.owned_ids.specs.Below.programs_allowed.specs.program_steps.specs.Sound.{Sound, AreFitting, first_step, views_after, views_along}
 use Rattle.owned_ids.specs.Below.programs_allowed.specs.sock_runs.proofs.LinkTicks.{RetriesGo}
-use Rattle.owned_ids.specs.Below.programs_allowed.specs.sock_runs.proofs.Along.{place_inside}
 use Rattle.owned_ids.specs.Below.programs_allowed.specs.sock_runs.proofs.Ticks.{sound_ticks}
 use Rattle.owned_ids.specs.Below.programs_allowed.specs.sock_runs.proofs.Quiets.{run_seats}
 use Rattle.owned_ids.specs.Below.programs_allowed.specs.program_walks.proofs.Recorded.{Recorded, recorded_ticks}
@@ -78,7 +78,7 @@ module _ (p : Plan) (q : IdPlan) (narrow : q.slots ≤ 65536) (same : q.operatio
         let some_ = reads_behind p calls i k own.0 c seat at_seat own.2 (TakeBytes k room) next is in
         let named_by = id_is (get_or final (open_index p own.0) 0) s (sym (life_is p q narrow same calls os final in_os slots links k own.0 own.1) ∙ lives) in
         let stays = reach.stays own.0 (in_os k own.0 own.1) some_ in
-        closed_past p os apart c vs sound named k own.0 s own.1 (in_os k own.0 own.1) (let low = place_inside os k own.0 own.1 in omega (arith, low, many_links)) (sym stays ∙ named_by.0) (λ z. named_by.1 (named_by.0 ∙ z)) finished
+        closed_past p os apart c vs sound named k own.0 s own.1 (in_os k own.0 own.1) (let low = at_length os k own.0 own.1 in omega (arith, low, many_links)) (sym stays ∙ named_by.0) (λ z. named_by.1 (named_by.0 ∙ z)) finished
 
     by_program : (program : Program) → goes.first_of seat.program ≡ program → ClosesAt p c answer program → KeepsAt q calls c program → OthersFit q life calls c u answer program
     by_program (Aside (StoreAt o w) next) is closes keeps = (keeps.0, λ id n k duty some_. keeps.1 some_ ∙ stored_id o w next is id n k duty)

@@ -1,14 +1,15 @@
 -- Where each seat is at rest or waits and the run is ending, each range has ended, and nobody waits but for the word of an `open`.
-use Rattle.std.proofs.Common.{◌≡◌, ◌≢◌, ℕ, zero, suc, ◌<◌, ◌≤◌, ◌⊎◌, inl, inr, ⊎_elim, ◌==◌, not, true, false, eqb-true, eq-eqb, List, [], ◌∷◌, Option, Some, length, get_or, sym, ap, ◌∙◌, subst, arith}
+use Rattle.std.proofs.Common.{◌≡◌, ◌≢◌, ℕ, ◌<◌, ◌≤◌, ◌⊎◌, inl, inr, ⊎_elim, ◌==◌, not, true, false, eqb-true, eq-eqb, List, [], Option, Some, length, get_or, sym, ap, ◌∙◌, subst, arith}
 use Rattle.std.proofs.lemmas.Bool.{true≢false}
 use Rattle.std.specs.Prelude.{None}
-use mathlib.Core.Option.{some, some-ne-none, some-injective}
+use mathlib.Core.Option.{some, some-injective}
 use lib.ListN.{get_elem?}
 use Rattle.sock_words.specs.declared.plain.Plan.{Plan}
 use Rattle.sock_model.specs.Layout.{open_index}
 use Rattle.corr_core.specs.Word.{Parts}
 use Rattle.corr_core.specs.Law.{Stands, vacant, retired, claimed, opened, locked, leaving}
 use Rattle.corr_core.specs.declared.marks.Plan.{Plan as IdPlan}
+use Rattle.corr_core.proofs.Notes.{at_length}
 use Rattle.seat_programs.specs.id_rule.specs.Lawful.{local}
 use Rattle.seat_programs.specs.Asides.{Nothing, Bytes, NoMore, AtEnd, Closed, Broken, call_id, id_slot, id_first}
 use Rattle.seat_programs.specs.Heads.{Head, Exit, Sought, First, Version, Locks, Joins, Opens, Reads, Discards}
@@ -22,9 +23,9 @@ use Rattle.call_owing.specs.Owing.{Free, Owing, InList, DutyTo, Among}
 use Rattle.call_owing.specs.Owes.{OwesOn}
 use Rattle.call_owing.specs.Sound.{id_word_of, Owed, by_seat, by_retry, by_reader, Failed, SoundOwing, AllRest, retry_tokens}
 use Rattle.call_owing.specs.Settled.{IsAtRest, WaitsAside, WaitsForOpen, OpensKnown}
-use Rattle.call_owing.proofs.Resolves.{inside_of}
-use Rattle.call_owing.proofs.End.{beside, none_held}
+use Rattle.call_owing.proofs.End.{none_held}
 use Rattle.call_owing.specs.Below.id_runs.proofs.Loops.{and_left, and_right}
+use Rattle.call_owing.specs.Below.programs_allowed.specs.program_steps.proofs.Cases.{elem_there}
 
 not_zero : (n : ℕ) → not (n == 0) ≡ true → n ≢ 0
 not_zero n e z = true≢false (sym e ∙ ap not (eq-eqb n 0 z))
@@ -62,10 +63,10 @@ module _ (p : Plan) (q : IdPlan) (c : Core) (vs : List IdView) (known : SoundIds
   waits_free v _ next answer g is = absurd (true≢false (sym is))
 
   pub all_free : (j : ℕ) (v : IdView) → get_elem? vs j ≡ some v → v.tokens ≡ []
-  all_free j v at = let s = beside vs c.seats j v (sym known.each) at in let g = known.seats j s.0 v s.1 at in ⊎_elim
+  all_free j v at = let s = elem_there vs c.seats j v (sym known.each) at in let g = known.seats j s.0 v s.1 at in ⊎_elim
       (λ rest. subst (IdGoesOn p q v) (rest s.0 s.1) g)
       (λ w. waits_free v w.2 w.3 w.4 (subst (IdGoesOn p q v) (ap (λ (x : SeatState). x.program) (some-injective s.0 w.0 (sym s.1 ∙ w.1)) ∙ w.5) g) w.6)
-      (still j (inside_of c.seats j s.0 s.1))
+      (still j (at_length c.seats j s.0 s.1))
 
   -- so no id is locked
   pub not_locked : (i : ℕ) → i < q.slots → ((id_word_of c i).state ≡ 0) ⊎ ((id_word_of c i).state ≡ 1)
@@ -97,13 +98,13 @@ module _ (p : Plan) (q : IdPlan) (life : ℕ → Option ℕ) (calls : List ℕ) 
 
   who_waits : (i : ℕ) → i < length c.seats → IsAtRest c i ⊎ Waits i
   who_waits i inside = ⊎_elim (λ rest. inl rest)
-      (λ w. let v = beside c.seats vs i w.0 known.each w.1 in inr (by_head i w.0 w.2 w.3 w.4 v.0 w.1 w.5 (subst (IdGoesOn p q v.0) w.5 (known.seats i w.0 v.0 w.1 v.1)) w.6)) (still i inside)
+      (λ w. let v = elem_there c.seats vs i w.0 known.each w.1 in inr (by_head i w.0 w.2 w.3 w.4 v.0 w.1 w.5 (subst (IdGoesOn p q v.0) w.5 (known.seats i w.0 v.0 w.1 v.1)) w.6)) (still i inside)
 
   module _ (opens_known : OpensKnown p life c us) where
     -- nobody owes anything
     idle : (j : ℕ) (u : Owing) → get_elem? us j ≡ some u → (u.duty ≡ Free) × (u.keeps ≡ false)
-    idle j u at = let s = beside us c.seats j u (sym sound.each) at in let g = sound.seats j s.0 u s.1 at in ⊎_elim
-        (λ rest. let r = subst (OwesOn life u) (rest s.0 s.1) g in (r.0, r.2)) (λ w. by_wait s.0 s.1 g w) (who_waits j (inside_of c.seats j s.0 s.1))
+    idle j u at = let s = elem_there us c.seats j u (sym sound.each) at in let g = sound.seats j s.0 u s.1 at in ⊎_elim
+        (λ rest. let r = subst (OwesOn life u) (rest s.0 s.1) g in (r.0, r.2)) (λ w. by_wait s.0 s.1 g w) (who_waits j (at_length c.seats j s.0 s.1))
       where
         by_wait : (seat : SeatState) → get_elem? c.seats j ≡ some seat → OwesOn life u seat.program → Waits j → (u.duty ≡ Free) × (u.keeps ≡ false)
         by_wait seat here g (joins s id next there e is) = (subst (OwesOn life u) (ap (λ (x : SeatState). x.program) (some-injective seat s (sym here ∙ there)) ∙ e) g).0.0
@@ -112,8 +113,8 @@ module _ (p : Plan) (q : IdPlan) (life : ℕ → Option ℕ) (calls : List ℕ) 
     nobody : (id n : ℕ) → Owed q life c us id n → ⊥
     nobody id n (by_seat j u at o) = subst (DutyTo id n) (idle j u at).0 o
     nobody id n (by_retry j u at w) = subst (λ x. Among id n (retry_tokens x)) (sound.law.kept j u at (idle j u at).1) w
-    nobody id n (by_reader o k s j u inside lives is at link left) = let s' = beside us c.seats j u (sym sound.each) at in let g = sound.seats j s'.0 u s'.1 at in ⊎_elim
-        (λ rest. let r : OwesOn life u Rest = subst (OwesOn life u) (rest s'.0 s'.1) g in subst (InList o) r.1 left) (λ w. by_wait s'.0 s'.1 g w) (who_waits j (inside_of c.seats j s'.0 s'.1))
+    nobody id n (by_reader o k s j u inside lives is at link left) = let s' = elem_there us c.seats j u (sym sound.each) at in let g = sound.seats j s'.0 u s'.1 at in ⊎_elim
+        (λ rest. let r : OwesOn life u Rest = subst (OwesOn life u) (rest s'.0 s'.1) g in subst (InList o) r.1 left) (λ w. by_wait s'.0 s'.1 g w) (who_waits j (at_length c.seats j s'.0 s'.1))
       where
         by_wait : (seat : SeatState) → get_elem? c.seats j ≡ some seat → OwesOn life u seat.program → Waits j → ⊥
         by_wait seat here g (joins t id' next there e is) = let r : OwesOn life u (Round (Joins id') next) = subst (OwesOn life u) (ap (λ (x : SeatState). x.program) (some-injective seat t (sym here ∙ there)) ∙ e) g in subst (InList o) r.0.1 left
@@ -139,14 +140,14 @@ module _ (p : Plan) (q : IdPlan) (life : ℕ → Option ℕ) (calls : List ℕ) 
       where
         by_wait : Waits i → IsAtRest c i ⊎ WaitsForOpen p c i
         by_wait (opens seat o next at e is) = inr (seat, o, next, at, e, is)
-        by_wait (joins seat id next at e is) = let v = beside c.seats vs i seat known.each at in let g = subst (IdGoesOn p q v.0) e (known.seats i seat v.0 at v.1) in
+        by_wait (joins seat id next at e is) = let v = elem_there c.seats vs i seat known.each at in let g = subst (IdGoesOn p q v.0) e (known.seats i seat v.0 at v.1) in
             absurd (first_there (id_first id) (id_word_of c (id_slot id)) is (ranges_ended (id_slot id) g.0.1))
 
     -- where each `open` was made, all is at rest
     pub all_rest : ((i : ℕ) → WaitsForOpen p c i → ⊥) → AllRest c
-    all_rest opened_ j seat at = ⊎_elim (λ rest. rest seat at) (λ w. absurd (opened_ j w)) (waits_for_opens j (inside_of c.seats j seat at))
+    all_rest opened_ j seat at = ⊎_elim (λ rest. rest seat at) (λ w. absurd (opened_ j w)) (waits_for_opens j (at_length c.seats j seat at))
 
 -- where all is at rest, each link's life was failed
 pub lives_failed : (q : IdPlan) (life : ℕ → Option ℕ) (calls : List ℕ) (c : Core) (us : List Owing) → SoundOwing q life calls c us → AllRest c → (k s : ℕ) → life k ≡ Some s → Failed life c k
-lives_failed q life calls c us sound rest k s lives = let r = sound.law.readers k s lives in let at = beside us c.seats r.0 r.1 (sym sound.each) r.2 in
+lives_failed q life calls c us sound rest k s lives = let r = sound.law.readers k s lives in let at = elem_there us c.seats r.0 r.1 (sym sound.each) r.2 in
     let g : OwesOn life r.1 Rest = subst (OwesOn life r.1) (rest r.0 at.0 at.1) (sound.seats r.0 at.0 r.1 at.1 r.2) in sound.law.dead r.0 k r.1 r.2 r.3 (g.3 k s r.3 lives)

@@ -4,8 +4,6 @@ use Rattle.std.proofs.lemmas.List.{length-map, length-replicate}
 use mathlib.Core.Option.{none, some, some-ne-none, some-injective}
 use lib.ListN.{get_elem?}
 use Rattle.sock_words.specs.declared.plain.Plan.{Plan}
-use Rattle.sock_model.specs.declared.chain.Heading.{Heading}
-use Rattle.sock_model.specs.declared.home.Home.TheVariants.{Link, Message}
 use Rattle.corr_core.specs.declared.marks.Plan.{Plan as IdPlan}
 use Rattle.seat_programs.specs.id_rule.specs.Lawful as ids
 use Rattle.seat_programs.specs.declared.task.Task.{Task}
@@ -14,7 +12,7 @@ use Rattle.seat_programs.specs.Programs.{Program, Say, Sent, Rest, Keep, Retries
 use Rattle.seat_programs.specs.Clients.{client_from}
 use Rattle.seat_programs.specs.Readers.{reader}
 use Rattle.seat_programs.specs.Cores.{Core, SeatState, waiting_at, resolved, next_step}
-use Rattle.seat_programs.specs.Scripts.{sizes_of, programs, new_links, opening_homes, opening_calls, beginning, readers_from, all_programs}
+use Rattle.seat_programs.specs.Scripts.{sizes_of, programs, opening_calls, beginning, readers_from, all_programs}
 use Rattle.call_owing.specs.Below.programs_allowed.specs.program_walks.proofs.Opening.{mapped}
 use Rattle.call_owing.specs.Owing.{Free, Trying, Owing, with_keeps}
 use Rattle.call_owing.specs.Owes.{OwesOn}
@@ -23,6 +21,7 @@ use Rattle.call_owing.proofs.Posts.{same_further}
 use Rattle.call_owing.proofs.Opening.{begins_law}
 use Rattle.call_owing.proofs.Clients.{client_goes, no_link}
 use Rattle.call_owing.proofs.Reading.{reader_goes}
+use Rattle.call_owing.specs.Below.programs_allowed.proofs.Beginning.{no_message}
 
 -- ## Lists
 
@@ -55,19 +54,6 @@ none_waits : (n j : ℕ) → waiting_at (replicate n []) j ≡ []
 none_waits zero j = refl
 none_waits (suc n) zero = refl
 none_waits (suc n) (suc j) = none_waits n j
-
-only_links : (k n i : ℕ) (heading : Heading) (bytes : List ℕ) → get_elem? (new_links k n) i ≡ some (some (Message heading bytes)) → ⊥
-only_links k zero i heading bytes at = some-ne-none (some (Message heading bytes)) (sym at)
-only_links k (suc n) zero heading bytes at = let e : some (Link k [] 0 false) ≡ some (Message heading bytes) = some-injective (some (Link k [] 0 false)) (some (Message heading bytes)) at in let z : Link k [] 0 false ≡ Message heading bytes = some-injective (Link k [] 0 false) (Message heading bytes) e in cc
-only_links k (suc n) (suc i) heading bytes at = only_links (k + 1) n i heading bytes at
-
-no_letters : (p : Plan) (r : ℕ) (heading : Heading) (bytes : List ℕ) → get_elem? (opening_homes p) r ≡ some (some (Message heading bytes)) → ⊥
-no_letters p r heading bytes at = behind p.requests r at
-  where
-    behind : (n r : ℕ) → get_elem? (replicate n none ++ new_links 0 p.links) r ≡ some (some (Message heading bytes)) → ⊥
-    behind zero r at = only_links 0 p.links r heading bytes at
-    behind (suc n) zero at = let e : none ≡ some (Message heading bytes) = some-injective none (some (Message heading bytes)) at in some-ne-none (Message heading bytes) (sym e)
-    behind (suc n) (suc r) at = behind n r at
 
 -- ## Seats
 
@@ -123,7 +109,7 @@ module _ (life : ℕ → Option ℕ) where
           room = (let e = made.1 in let l = length-replicate q.seats none_kept in omega (arith, e, l, many_programs, room));
           bare = λ j u at. let b = back made.0 made.1 made.2 j u at in (b.1.duty, b.1.knows, b.1.dead);
           waits = none_waits q.seats;
-          letters = no_letters p;
+          letters = no_message p;
           tied = λ j k ks u at e. (back made.0 made.1 made.2 j u at).1.tied k ks e;
           readers = λ k s lives. let low = alive k s lives in let x = at_place xs (32 + k) (omega (arith, low, many_programs)) in let u = made.2 (32 + k) x.0 x.1 in let r = u.2.reads k refl in (32 + k, u.0, u.1, r.0, r.1);
         };

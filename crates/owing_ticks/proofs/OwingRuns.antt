@@ -1,7 +1,7 @@
 -- Over a run what is owed is kept, where the lives of links are those that the words of their `open`s name at its end.
 use Rattle.std.proofs.Common.{◌≡◌, ◌≢◌, ℕ, zero, suc, ◌+◌, ◌-◌, ◌<◌, ◌≤◌, ◌==◌, Bool, true, false, cond, eqb, eq-eqb, ne_eqb, List, [], ◌∷◌, length, get_or, Option, Some, None, refl, sym, ap, ◌∙◌, subst, arith}
 use Rattle.std.proofs.lemmas.Bool.{true≢false}
-use mathlib.Core.Option.{none, some, some-ne-none}
+use mathlib.Core.Option.{none, some}
 use lib.ListN.{get_elem?}
 use Rattle.sock_words.specs.Words.{socket_id, socket_id_version, socket_id_slot}
 use Rattle.sock_words.specs.declared.plain.Plan.{Plan}
@@ -11,6 +11,7 @@ use Rattle.sock_model.specs.Weights.{is_born}
 use Rattle.sock_model.specs.Slots.{count}
 use Rattle.sock_model.specs.References.{slot_facts}
 use Rattle.corr_core.specs.declared.marks.Plan.{Plan as IdPlan}
+use Rattle.corr_core.proofs.Notes.{at_length}
 use Rattle.seat_programs.specs.Calls.{Call, SetOdd, FindLink, LoadOpen}
 use Rattle.seat_programs.specs.Asides.{Step, Found, StoreAt, TakeBytes}
 use Rattle.seat_programs.specs.Programs.{Program, Do, PutHome, Write, Aside, NO_SOCKET}
@@ -20,10 +21,7 @@ use Rattle.seat_programs.specs.Ticks.{Answer, Moment, ticked, run, AreAnswered}
 use Rattle.seat_programs.specs.StepTables.{May}
 use Rattle.call_owing.specs.Below.programs_allowed.specs.program_steps.specs.GoesOn.{GoesOn}
 use Rattle.call_owing.specs.Below.programs_allowed.specs.program_steps.specs.Sound.{state, Sound, AreFitting, first_step, views_after, views_along}
-use Rattle.call_owing.specs.Below.programs_allowed.specs.sock_runs.proofs.Along.{place_inside}
-use Rattle.call_owing.specs.Below.programs_allowed.specs.program_steps.proofs.Cases.{goes_first}
-use Rattle.call_owing.specs.Below.programs_allowed.specs.program_steps.proofs.Rounds.{begins_round}
-use Rattle.call_owing.specs.Below.programs_allowed.specs.program_steps.proofs.Passes.{goes_round}
+use Rattle.call_owing.specs.Below.programs_allowed.specs.program_steps.proofs.Cases.{goes_first, elem_there}
 use Rattle.call_owing.specs.Below.programs_allowed.specs.sock_runs.proofs.LinkTicks.{RetriesGo}
 use Rattle.call_owing.specs.Below.programs_allowed.specs.sock_runs.proofs.Ticks.{sound_ticks}
 use Rattle.call_owing.specs.Below.programs_allowed.specs.sock_runs.proofs.Founds.{finds}
@@ -87,7 +85,7 @@ module _ (p : Plan) (q : IdPlan) (narrow : q.slots ≤ 65536) (same : q.operatio
       (i : ℕ) (seat : SeatState) (u : Owing) (v : View) (at_seat : get_elem? c.seats i ≡ some seat) (at : get_elem? us i ≡ some u) (at_view : get_elem? vs i ≡ some v) where
     -- the `open` of the link of a reader, which is at this seat
     pub own_open : (k : ℕ) (ks : List ℕ) → u.link ≡ k ∷ ks → (o : ℕ) × (get_elem? os k ≡ some o) × AtReader p calls i k o c
-    own_open k ks linked = let j = owing.law.tied i k ks u at linked in let o = at_some os k (omega (arith, many, j, place_inside c.seats i seat at_seat)) in
+    own_open k ks linked = let j = owing.law.tied i k ks u at linked in let o = at_some os k (omega (arith, many, j, at_length c.seats i seat at_seat)) in
         (o.0, o.1, subst (λ x. AtReader p calls x k o.0 c) (sym j) (readers k o.0 o.1))
 
     loads_life : (o : ℕ) (next : ℕ → Program) → first_step seat.program ≡ Do (LoadOpen o) next → get_or c.words (open_index p o) 0 ≢ 0 → (l : List ℕ) → u.link ≡ l → IsLifeOf life l (get_or c.words (open_index p o) 0)
@@ -126,15 +124,9 @@ module _ (p : Plan) (q : IdPlan) (narrow : q.slots ≤ 65536) (same : q.operatio
 
     fits_step : (answer : Answer) → OthersFit q life calls c u answer (goes.first_of seat.program) → StepFits p q life calls c seat u answer (goes.first_of seat.program)
     fits_step answer f = subst (StepFits p q life calls c seat u answer) (sym (same_first seat.program)) (by_program answer (first_step seat.program) refl
-        (goes_first p v (begins_round p v) (goes_round p v) seat.program (sound.seats i seat v at_seat at_view).goes_on) (subst (OthersFit q life calls c u answer) (same_first seat.program) f))
+        (goes_first p v seat.program (sound.seats i seat v at_seat at_view).goes_on) (subst (OthersFit q life calls c u answer) (same_first seat.program) f))
 
   -- ## Over a run
-
-  beside : {A B : Type 0} (l : List A) (m : List B) (j : ℕ) (a : A) → length m ≡ length l → get_elem? l j ≡ some a → (b : B) × (get_elem? m j ≡ some b)
-  beside [] m j a e at = absurd (some-ne-none a (sym at))
-  beside (x ∷ xs) [] j a e at = absurd (let z : ⊥ = omega (arith, e) in z)
-  beside (x ∷ xs) (y ∷ ys) zero a e at = (y, refl)
-  beside (x ∷ xs) (y ∷ ys) (suc j) a e at = beside xs ys j a (omega (arith, e)) at
 
   module _ (go : RetriesGo p) (Q : ℕ → ℕ → Type 0) where
     -- what stands at the end of some ticks says the same before them
@@ -147,7 +139,7 @@ module _ (p : Plan) (q : IdPlan) (narrow : q.slots ≤ 65536) (same : q.operatio
     one_tick : (c : Core) (vs : List View) (m : Moment) → Sound p c vs → Reaches c vs → AllReaders c → length c.seats ≡ 32 + length os → ((ws : List IdView) × SoundIds p q c ws) → IsSaying q life calls c m → (us : List Owing) → SoundOwing q life calls c us
         → (us' : List Owing) × SoundOwing q life calls (ticked p c m) us'
     one_tick c vs m sound reach readers many known says us owing = owing_ticks p q narrow same life links calls c us known.0 m owing known.1
-        (λ seat u at_seat at. let v = beside c.seats vs m.seat seat sound.each at_seat in fits_step c vs sound reach readers many us owing m.seat seat u v.0 at_seat at v.1 m.answer (says us owing seat u at_seat at))
+        (λ seat u at_seat at. let v = elem_there c.seats vs m.seat seat sound.each at_seat in fits_step c vs sound reach readers many us owing m.seat seat u v.0 at_seat at v.1 m.answer (says us owing seat u at_seat at))
 
     pub run_owing : (c : Core) (vs : List View) (ms : List Moment) → Sound p c vs → AreAnswered p c ms → AreFitting p c ms → Recorded p Q c vs → AllReaders c → length c.seats ≡ 32 + length os → AreSaying p q life calls c ms
         → Reaches (run p c ms) (views_along p c vs ms) → (us : List Owing) → SoundOwing q life calls c us → (us' : List Owing) × SoundOwing q life calls (run p c ms) us'

@@ -47,7 +47,7 @@ use Rattle.call_owing.proofs.Finds.{lock_finds, unlock_finds}
 use Rattle.owing_ticks.proofs.IdFacts.{few_of, free_there, lock_low, lock_few, lock_two, lock_longer}
 use Rattle.call_owing.proofs.Rounds.{owes_round}
 use Rattle.call_owing.proofs.Programs.{block_goes}
-use Rattle.call_owing.proofs.End.{beside}
+use Rattle.call_owing.specs.Below.programs_allowed.specs.program_steps.proofs.Cases.{elem_there}
 pub use Rattle.call_owing.specs.Below.id_runs.proofs.Ticks.{message_there}
 
 module _ (p : Plan) (q : IdPlan) (narrow : q.slots ≤ 65536) (same : q.operations ≡ p.operations) (life : ℕ → Maybe ℕ) (low_links : (k s : ℕ) → life k ≡ Some s → k < 65535) (calls : List ℕ) where
@@ -259,5 +259,5 @@ module _ (p : Plan) (q : IdPlan) (narrow : q.slots ≤ 65536) (same : q.operatio
     where
       by_seat : (x : Option SeatState) → get_elem? c.seats m.seat ≡ x → (us' : List Owing) × SoundOwing q life calls (elim x as (λ o. Core) [ none ↦ c | some seat ↦ tick_with p m.seat seat c m.answer seat.program ]) us'
       by_seat none e = (us, sound)
-      by_seat (some seat) e = let u = beside c.seats us m.seat seat sound.each e in let w = beside c.seats vs m.seat seat known.each e in
+      by_seat (some seat) e = let u = elem_there c.seats us m.seat seat sound.each e in let w = elem_there c.seats vs m.seat seat known.each e in
           any_step c us sound vs known m.seat seat u.0 e u.1 w.0 w.1 m.answer seat.program (sound.seats m.seat seat u.0 e u.1) (known.seats m.seat seat w.0 e w.1) (fitting seat u.0 e u.1)

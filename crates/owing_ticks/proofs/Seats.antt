@@ -7,6 +7,7 @@ use lib.ListN.{get_elem?}
 use Rattle.atomic_table.proofs.Lists.{set_again}
 use Rattle.sock_words.specs.declared.outcome.Outcome.{Outcome}
 use Rattle.corr_core.specs.declared.marks.Plan.{Plan as IdPlan}
+use Rattle.corr_core.proofs.Notes.{at_length}
 use Rattle.seat_programs.specs.Heads.{Retry}
 use Rattle.seat_programs.specs.Programs.{Program, Do, Say, Sent, Rest, TakeMessage, TakeHome, PutHome, PutBytes, AskReady, Write, Aside, Round, Keep, Retries}
 use Rattle.seat_programs.specs.Cores.{Core, SeatState, waiting_at, resolved, still_waiting, next_step}
@@ -17,7 +18,7 @@ use Rattle.call_owing.specs.Sound.{retry_tokens, Distinct, Stored, OwingLaw}
 use Rattle.call_owing.proofs.Posts.{same_further, then_further}
 use Rattle.call_owing.proofs.Changes.{set_at}
 use Rattle.call_owing.proofs.Programs.{retry_goes, from_freed}
-use Rattle.call_owing.proofs.Resolves.{inside_of, same_but, Rewait, rewaits}
+use Rattle.call_owing.proofs.Resolves.{same_but, Rewait, rewaits}
 
 abbrev pub Few : Retry → Type 0
 Few r = r.attempt ≤ 6
@@ -54,7 +55,7 @@ module _ (q : IdPlan) (life : ℕ → Option ℕ) (calls : List ℕ) (c : Core) 
   chain ws ws' us u v law at m = subst (λ (x : List (List Retry)). OwingLaw q life calls (record { words = c.words; homes = c.homes; seats = ss; outcomes = os; calls = record c.calls { waiting = x } }) (set us i v)) (set_twice c.calls.waiting i ws ws') (rewaits q life calls (W ws) us i u law at ss os ws' v m)
 
   waits_here : (ws : List Retry) (us : List Owing) (u : Owing) → OwingLaw q life calls (W ws) us → get_elem? us i ≡ some u → waiting_at (set c.calls.waiting i ws) i ≡ ws
-  waits_here ws us u law at = get_or-set_same c.calls.waiting i ws [] (let r = law.room in let z = inside_of us i u at in let l = length-set c.calls.waiting i ws in omega (arith, r, z, l))
+  waits_here ws us u law at = get_or-set_same c.calls.waiting i ws [] (let r = law.room in let z = at_length us i u at in let l = length-set c.calls.waiting i ws in omega (arith, r, z, l))
 
   own_there : (ws : List Retry) (us : List Owing) (u : Owing) → OwingLaw q life calls (W ws) us → get_elem? us i ≡ some u → Stored q calls (W ws) us u.duty
   own_there ws us u law at = law.stored i u at

@@ -27,15 +27,14 @@ use Rattle.seat_programs.specs.Cores.{Calls, Core, SeatState, found_at, words_af
 use Rattle.seat_programs.specs.StepTables.{word_of, word_after}
 use Rattle.seat_programs.specs.Ticks.{Moment, IsAnswered, fed, with_places, onto_first, taken, step_with, tick_with, ticked}
 use Rattle.sent_once.specs.Below.programs_allowed.specs.program_steps.specs.Sound.{Sound, first_step}
+use Rattle.sent_once.specs.Below.programs_allowed.specs.program_steps.proofs.Cases.{tick_cases, ticks_first, calls_waiting}
 use Rattle.sent_once.specs.Below.outcome_stories.specs.Stories.{In}
-use Rattle.sent_once.specs.Below.outcome_stories.proofs.Cases.{tick_cases}
 use Rattle.sent_once.specs.Below.label_runs.specs.Labels.{Trial, Idle, Tries, put_behind, Kept, Storing, unlocked_trial, Labels}
 use Rattle.sent_once.specs.accept_counts.specs.Counts.{pair_of, of_retry, with_waiting, WasMade, WasNow, StoresOwn}
 use Rattle.sent_once.specs.accept_counts.specs.EndedCalls.{Store, stores_by, stored_at}
 use Rattle.sent_once.specs.accept_counts.proofs.Words.{made_on, finds_label, words_forward, makes_new, advances_new}
-use Rattle.sent_once.specs.accept_counts.proofs.Readings.{ticks_first}
 use Rattle.sent_once.specs.Below.outcome_stories.proofs.HomeCalls.{AreCalls, PutsAsked, calls_behind}
-use Rattle.sent_once.specs.accept_counts.proofs.Ticks.{few_more, few_of, calls_waiting, fits_as, pair_now, untried, waiting_set, once_more, old_or_new, pairs_set, labels_first}
+use Rattle.sent_once.specs.accept_counts.proofs.Ticks.{few_more, few_of, fits_as, pair_now, untried, waiting_set, once_more, old_or_new, pairs_set, labels_first}
 use Rattle.sent_once.specs.Below.story_ticks.proofs.Chains.{AreFewTries as AreTries}
 use Rattle.sent_once.specs.Below.label_runs.proofs.Programs.{retry_goes}
 use Rattle.sent_once.specs.accept_counts.proofs.SeatFacts.{seat_facts}
@@ -316,8 +315,8 @@ module _ (p : Plan) (q : IdPlan) (narrow : q.slots ≤ 65536) (is_call : Asked �
         (λ seat v call next at here is goes. let t = trial_of seat at in let g = first_as seat at (Do call next) is in let u = g.1 (found_at c.words (word_of p call)) (fits_as p c seat.program call next is (fitting seat at)) in
         let b = leaves m.seat seat t.0 at t.1 (next (found_at c.words (word_of p call))) (hand_after p call c.homes seat.hand) (words_after c.words (word_of p call) (word_after call (found_at c.words (word_of p call)))) (Rattle.seat_programs.specs.Cores.homes_after p call seat.hand c.homes) u.0
         (λ id n. (let x = kept_count id n (put_behind t.0 call) u.0 u.1 in let y = put_count id n t.0 call in omega (arith, x, y))) u.2 in as_stored seat at (Do call next) is _ (b.trials, b.behind))
-        (λ seat v r next heading bytes at here is goes. let t = trial_of seat at in let b = moves m.seat seat t.0 at t.1 (next heading bytes) seat.hand (set c.homes r none) (first_as seat at (TakeMessage r next) is heading bytes) in as_stored seat at (TakeMessage r next) is _ (b.trials, b.behind))
-        (λ seat v k next n at here is goes. let t = trial_of seat at in let b = moves m.seat seat t.0 at t.1 (next n) (lies_at c.homes (link_place p k) ++ seat.hand) (set c.homes (link_place p k) none) (first_as seat at (TakeHome k next) is n) in as_stored seat at (TakeHome k next) is _ (b.trials, b.behind))
+        (λ seat v r next heading bytes at here is goes lies. let t = trial_of seat at in let b = moves m.seat seat t.0 at t.1 (next heading bytes) seat.hand (set c.homes r none) (first_as seat at (TakeMessage r next) is heading bytes) in as_stored seat at (TakeMessage r next) is _ (b.trials, b.behind))
+        (λ seat v k next took n at here is goes lies. let t = trial_of seat at in let b = moves m.seat seat t.0 at t.1 (next n) (lies_at c.homes (link_place p k) ++ seat.hand) (set c.homes (link_place p k) none) (first_as seat at (TakeHome k next) is n) in as_stored seat at (TakeHome k next) is _ (b.trials, b.behind))
         (λ seat v k n after at here is goes. let t = trial_of seat at in let b = moves m.seat seat t.0 at t.1 after (others_of seat.hand) (set c.homes (link_place p k) (first_of (onto_first (with_places n) seat.hand))) (first_as seat at (PutHome k n after) is) in as_stored seat at (PutHome k n after) is _ (b.trials, b.behind))
         (λ seat v k asked bytes next answer at here is goes answer_is fits. let t = trial_of seat at in let b = moves m.seat seat t.0 at t.1 (next answer) (onto_first (fed bytes answer) seat.hand) c.homes (first_as seat at (PutBytes k asked bytes next) is answer) in as_stored seat at (PutBytes k asked bytes next) is _ (b.trials, b.behind))
         (λ seat v k next answer at here is goes answer_is. let t = trial_of seat at in let b = moves m.seat seat t.0 at t.1 (next answer) seat.hand c.homes (first_as seat at (AskReady k next) is answer) in as_stored seat at (AskReady k next) is _ (b.trials, b.behind))

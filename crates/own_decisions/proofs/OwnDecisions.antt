@@ -13,9 +13,9 @@ use Rattle.seat_programs.specs.Ticks.{Moment}
 use Rattle.seat_programs.specs.Tasks.{opens, calls, plan_of, id_plan_of}
 use Rattle.seat_programs.specs.Scripts.{sizes_of, programs, readers_from, all_programs, all_tasks, opened, set_up, played, IsRunWithCalls}
 use Rattle.sent_once.specs.Below.programs_allowed.specs.program_steps.specs.Sound.{views_along}
+use Rattle.sent_once.specs.Below.programs_allowed.specs.program_steps.proofs.Cases.{elem_there}
 use Rattle.sent_once.specs.Below.programs_allowed.specs.program_walks.proofs.Whole.{closing_of, views_played, views_closed}
 use Rattle.sent_once.specs.Below.outcome_causes.proofs.Final.{at_there}
-use Rattle.sent_once.specs.Below.outcome_ticks.proofs.Ticks.{elem_there}
 use Rattle.sent_once.specs.Below.joint_runs.proofs.Both.{behind_both}
 use Rattle.sent_once.specs.Below.joint_runs.proofs.Runs.{AreMade, first_views, IsSoundRun, joint_runs}
 use Rattle.sent_once.specs.Below.script_facts.proofs.Reading.{InRange}

@@ -37,16 +37,15 @@ use Rattle.seat_programs.specs.Cores.{Calls, Core, SeatState, found_at, words_af
 use Rattle.seat_programs.specs.StepTables.{word_of, word_after}
 use Rattle.seat_programs.specs.Ticks.{Answer, OfPut, OfReady, Moment, fed, with_places, onto_first, taken, with_message, with_link, with_put, with_ready, with_found, step_with, tick_with, ticked}
 use Rattle.sent_once.specs.Below.programs_allowed.specs.program_steps.specs.Sound.{first_step}
+use Rattle.sent_once.specs.Below.programs_allowed.specs.program_steps.proofs.Cases.{elem_there, ticks_first, calls_waiting}
 use Rattle.sent_once.specs.Below.call_stories.specs.Decided.{posted_by, Decision, decision_in, decided_at}
 use Rattle.sent_once.specs.Below.call_stories.specs.Posts.{Post, posts_by, posted_with, posted_at}
 use Rattle.sent_once.specs.Below.call_stories.specs.Scenes.{In}
-use Rattle.sent_once.specs.Below.outcome_ticks.proofs.Ticks.{elem_there}
 use Rattle.sent_once.specs.Below.owing_ticks.proofs.OwingTicks.{message_there}
 use Rattle.sent_once.specs.accept_counts.specs.Counts.{pair_of, of_retry, with_waiting, word_of_id, WasMade, WasNow}
 use Rattle.sent_once.specs.accept_counts.proofs.Words.{made_on, finds_label, words_forward, makes_new, advances_new}
-use Rattle.sent_once.specs.accept_counts.proofs.Readings.{ticks_first}
 use Rattle.sent_once.specs.accept_counts.proofs.SeatFacts.{ids_first}
-use Rattle.sent_once.specs.accept_counts.proofs.Ticks.{few_more, few_of, calls_waiting, pair_now, untried, waiting_set, once_more, old_or_new, pairs_set}
+use Rattle.sent_once.specs.accept_counts.proofs.Ticks.{few_more, few_of, pair_now, untried, waiting_set, once_more, old_or_new, pairs_set}
 use Rattle.sent_once.specs.Below.story_ticks.proofs.Chains.{AreFewTries as AreTries}
 use Rattle.sent_once.specs.Below.label_runs.proofs.Loops.{id_back}
 use Rattle.sent_once.specs.Below.id_runs.specs.Goes.{HandFits, HomesFit}

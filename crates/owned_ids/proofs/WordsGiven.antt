@@ -3,7 +3,7 @@ use Rattle.std.proofs.Common.{◌≡◌, ◌≢◌, ℕ, zero, suc, ◌+◌, ◌
 use Rattle.std.specs.Prelude as std
 use Rattle.std.specs.List.{AllByRecursion}
 use mathlib.Core.Logic.{dite}
-use mathlib.Core.Option.{Option, some, none, some-injective, some-ne-none}
+use mathlib.Core.Option.{Option, some, none, some-ne-none}
 use native.Mathlib.Decide.{ℕ_discrete}
 use lib.ListN.{get_elem?}
 use Rattle.atomic_table.proofs.Lists.{at_set}
@@ -28,7 +28,6 @@ use Rattle.seat_programs.specs.declared.task.Sizes.{Sizes}
 use Rattle.seat_programs.specs.Calls.{Call, CreateLife, StoreOpen}
 use Rattle.seat_programs.specs.Programs.{Program, Do, Rest, NO_SOCKET, open_from, make_socket}
 use Rattle.seat_programs.specs.Clients.{HeldLife, operation, client_from, ending_of}
-use Rattle.seat_programs.specs.Readers.{reader}
 use Rattle.seat_programs.specs.Cores.{Calls, Core, SeatState, found_at, words_after, homes_after, hand_after, resolved, next_step, waiting_at, with_seat, stepped}
 use Rattle.seat_programs.specs.StepTables.{word_of, word_after}
 use Rattle.seat_programs.specs.Ticks.{Moment, ticked, run, IsAnswered, AreAnswered}
@@ -43,14 +42,12 @@ use Rattle.call_owing.specs.Below.programs_allowed.specs.sock_runs.proofs.LinksS
 use Rattle.call_owing.specs.Below.programs_allowed.specs.program_walks.proofs.Records.{stores, opens_same}
 use Rattle.call_owing.specs.Below.programs_allowed.specs.program_walks.proofs.Opening.{mapped, appended}
 use Rattle.call_owing.specs.Below.programs_allowed.specs.program_walks.proofs.LinksOpening.{OwnsLink}
-use Rattle.call_owing.specs.Below.programs_allowed.specs.program_walks.proofs.Through.{Passes, PassesOpens, Follows, any_end, comes_follows, through_any_failed, at_calls_passes, at_calls_follow}
+use Rattle.call_owing.specs.Below.programs_allowed.specs.program_walks.proofs.Through.{Passes, PassesOpens, Follows, comes_follows, through_any_failed, at_calls_passes, at_calls_follow}
 use Rattle.call_owing.specs.Below.programs_allowed.specs.program_steps.proofs.AtCalls.{AtCalls, every_exit}
 use Rattle.call_owing.specs.Below.programs_allowed.specs.program_walks.proofs.ThroughSends.{through_ending}
-use Rattle.call_owing.specs.Below.programs_allowed.specs.program_walks.proofs.ThroughCalls.{through_reader, through_first, through_next}
+use Rattle.call_owing.specs.Below.programs_allowed.specs.program_walks.proofs.ThroughCalls.{through_others, through_first, through_next}
 use Rattle.call_owing.specs.Below.programs_allowed.specs.program_walks.proofs.ThroughClients.{through_back, through_any}
 use Rattle.call_owing.specs.Below.programs_allowed.specs.program_steps.proofs.Cases.{ComesNext, with_rights, tick_keeps_marks}
-use Rattle.call_owing.specs.Below.programs_allowed.specs.program_steps.proofs.Rounds.{begins_round}
-use Rattle.call_owing.specs.Below.programs_allowed.specs.program_steps.proofs.Passes.{goes_round}
 use Rattle.call_owing.specs.Below.programs_allowed.specs.sock_runs.proofs.LinkTicks.{RetriesGo}
 use Rattle.call_owing.specs.Below.programs_allowed.specs.sock_runs.proofs.Ticks.{sound_ticks}
 
@@ -116,15 +113,8 @@ module _ (own : ℕ → ℕ → Type 0) where
       through_any G names_passes sizes held t.number (λ h. client_from sizes h ts) t.op after
       (λ name k e. names_open sizes.slots 0 t.number name k (client_from sizes held ts) (subst (OwnsLink own t.number) e mine.0) (after held))
 
-  names_readers : (calls os : List ℕ) (k i : ℕ) (x : Program) → get_elem? (readers_from calls k os) i ≡ some x → G x
-  names_readers calls [] k i x e = absurd (some-ne-none x (sym e))
-  names_readers calls (o ∷ os) k zero x e = subst G (some-injective (reader calls k o) x e) (through_reader any_end G names_passes.reads (λ how e. through_any_failed G names_passes how.code) tt names_opens calls k o)
-  names_readers calls (o ∷ os) k (suc i) x e = names_readers calls os (k + 1) i x e
-
   pub names_others : (n : ℕ) (calls os : List ℕ) (k i : ℕ) (x : Program) → get_elem? (std.replicate n Rest ++ readers_from calls k os) i ≡ some x → G x
-  names_others zero calls os k i x e = names_readers calls os k i x e
-  names_others (suc n) calls os k zero x e = subst G (some-injective Rest x e) tt
-  names_others (suc n) calls os k (suc i) x e = names_others n calls os k i x e
+  names_others = through_others G names_passes names_opens tt
 
   names_ending : (os : List ℕ) → G (ending_of os)
   names_ending os = through_ending G names_passes.sends.plain.words (through_any_failed G names_passes 1014) names_opens tt os
@@ -304,7 +294,7 @@ module _ (p : Plan) (own : ℕ → ℕ → Type 0) (c : Core) (vs : List View) (
     }
 
 named_ticks : (p : Plan) (own : ℕ → ℕ → Type 0) (c : Core) (vs : List View) (m : Moment) → Sound p c vs → IsAnswered c m → IsFitting p c m → Named p own c vs → Named p own (ticked p c m) (views_after p c vs m)
-named_ticks p own c vs m sound answered fitting n = tick_keeps_marks p c vs m sound answered fitting (begins_round p) (goes_round p) (Named p own) n
+named_ticks p own c vs m sound answered fitting n = tick_keeps_marks p c vs m sound answered fitting (Named p own) n
     (λ seat v call next at_seat at_view is goes. by_call seat v call next at_seat at_view is goes.0)
     (λ seat v program rights hand hs a at_seat at_view comes. named_still p own c vs m.seat sound.lawful.references.sized n seat v at_seat at_view program rights hand hs a comes)
   where

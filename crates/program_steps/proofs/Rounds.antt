@@ -50,7 +50,7 @@ use Rattle.program_steps.specs.GoesOn.{GoesOn}
 
 -- ## Marks of one slot
 
-about_top : (f : Mark → ℕ) (i : ℕ) (m : Mark) (es : List SlotMark) → total f (about i (at i m ∷ es)) ≡ f m + total f (about i es)
+pub about_top : (f : Mark → ℕ) (i : ℕ) (m : Mark) (es : List SlotMark) → total f (about i (at i m ∷ es)) ≡ f m + total f (about i es)
 about_top f i m es = ap (total f) (about-here i m es)
 
 -- a mark without the weight stays, and the first with it goes

@@ -3,7 +3,7 @@ use Rattle.std.proofs.Common.{◌≡◌, ℕ, zero, suc, ◌+◌, ◌==◌, Bool
 use Rattle.std.specs.Prelude as std
 use Rattle.std.specs.Prelude.{None, Some, option_map}
 use Rattle.std.specs.List.{AllByRecursion, filter_map, cons_option}
-use mathlib.Core.Option.{some, some-injective, some-ne-none}
+use mathlib.Core.Option.{some}
 use lib.ListN.{get_elem?}
 use Rattle.sock_words.specs.declared.plain.Plan.{Plan}
 use Rattle.seat_programs.specs.brpc_model.specs.Items.{Item, Open, Send, Call, Expire, Join, Hold, Drop, Fail, is_open}
@@ -21,14 +21,12 @@ use Rattle.seat_programs.specs.declared.task.Sizes.{Sizes}
 use Rattle.seat_programs.specs.Programs.{Program, Rest, open_from, make_socket}
 use Rattle.seat_programs.specs.Tasks.{Numbered, numbered_from, numbered, of_client, op_of, task_of, tasks, opens}
 use Rattle.seat_programs.specs.Clients.{HeldLife, client_from}
-use Rattle.seat_programs.specs.Readers.{reader}
 use Rattle.seat_programs.specs.Cores.{SeatState, resolved, next_step}
 use Rattle.seat_programs.specs.Scripts.{sizes_of, beginning, programs, readers_from}
 use Rattle.sock_runs.proofs.Ends.{none_has}
-use Rattle.program_walks.proofs.Through.{any_end, through_any_failed}
-use Rattle.program_walks.proofs.ThroughCalls.{through_reader, through_next}
+use Rattle.program_walks.proofs.ThroughCalls.{through_others, through_next}
 use Rattle.program_walks.proofs.ThroughClients.{through_back, through_any}
-use Rattle.program_walks.proofs.Opening.{mapped, appended}
+use Rattle.program_walks.proofs.Opening.{mapped, appended, all_at}
 use Rattle.program_walks.proofs.LinksRecorded.{Gives, gives_passes, gives_opens, gives_follow, Linked}
 
 -- ## Programs
@@ -52,20 +50,8 @@ module _ (own : ℕ → ℕ → Type 0) where
       through_any G (gives_passes own) sizes held t.number (λ h. client_from sizes h ts) t.op after
       (λ name k e. gives_open sizes.slots 0 t.number name k (client_from sizes held ts) (subst (OwnsLink t.number) e mine.0) (after held))
 
-  readers_give : (calls os : List ℕ) (k i : ℕ) (x : Program) → get_elem? (readers_from calls k os) i ≡ some x → G x
-  readers_give calls [] k i x at = absurd (some-ne-none x (sym at))
-  readers_give calls (o ∷ os) k zero x at = subst G (some-injective (reader calls k o) x at) (through_reader any_end G (gives_passes own).reads (λ how e. through_any_failed G (gives_passes own) how.code) tt (gives_opens own) calls k o)
-  readers_give calls (o ∷ os) k (suc i) x at = readers_give calls os (k + 1) i x at
-
   pub others_give : (n : ℕ) (calls os : List ℕ) (k i : ℕ) (x : Program) → get_elem? (std.replicate n Rest ++ readers_from calls k os) i ≡ some x → G x
-  others_give zero calls os k i x at = readers_give calls os k i x at
-  others_give (suc n) calls os k zero x at = subst G (some-injective Rest x at) tt
-  others_give (suc n) calls os k (suc i) x at = others_give n calls os k i x at
-
-  all_at : {A : Type 0} (P : A → Type 0) (l : List A) (i : ℕ) (a : A) → AllByRecursion P l → get_elem? l i ≡ some a → P a
-  all_at P [] i a all at = absurd (some-ne-none a (sym at))
-  all_at P (x ∷ xs) zero a all at = subst P (some-injective x a at) all.0
-  all_at P (x ∷ xs) (suc i) a all at = all_at P xs i a all.1 at
+  others_give = through_others G (gives_passes own) (gives_opens own) tt
 
   -- no life is made before the first step
   pub beginning_linked : (p : Plan) (q : IdPlan) (clients : List (List Task)) (others : List Program) → AllByRecursion (AllByRecursion (λ (t : Task). OwnsLink t.number t.op)) clients → ((k : ℕ) (x : Program) → get_elem? others k ≡ some x → G x)

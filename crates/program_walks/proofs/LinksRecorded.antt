@@ -25,7 +25,6 @@ use Rattle.seat_programs.specs.Ticks.{Moment, ticked, run, IsAnswered, AreAnswer
 use Rattle.seat_programs.specs.StepTables.{row, hand_at}
 use Rattle.seat_programs.specs.StepTables.{May}
 use Rattle.sock_runs.specs.program_steps.specs.Sound.{state, Sound, first_step, IsFitting, AreFitting, views_after, views_along}
-use Rattle.sock_runs.proofs.Along.{place_inside}
 use Rattle.sock_runs.proofs.Notes.{bears}
 use Rattle.sock_runs.proofs.LinkNotes.{links_only, birth_links}
 use Rattle.sock_runs.specs.program_steps.proofs.AtCalls.{AtCalls, every_exit}
@@ -34,10 +33,9 @@ use Rattle.program_walks.proofs.Recorded.{Recorded, recorded_ticks, stores_none}
 use Rattle.program_walks.proofs.Through.{Passes, PassesOpens, Follows, at_calls_passes, at_calls_follow, records_passes, records_opens, records_follow, comes_follows}
 use Rattle.program_walks.proofs.ThroughCalls.{through_first, through_next}
 use Rattle.sock_runs.specs.program_steps.proofs.Cases.{ComesNext, with_rights, tick_keeps_marks}
-use Rattle.sock_runs.specs.program_steps.proofs.Rounds.{begins_round}
-use Rattle.sock_runs.specs.program_steps.proofs.Passes.{goes_round}
 use Rattle.sock_runs.proofs.LinkTicks.{RetriesGo}
 use Rattle.sock_runs.proofs.Ticks.{sound_ticks}
+use Rattle.seat_programs.specs.corr_core.proofs.Notes.{at_length}
 
 -- each life that the program makes it stores next, at an operation that is its link's own
 abbrev pub GivesAt : (ℕ → ℕ → Type 0) → Unit {0} → Call → (ℕ → Program) → (Unit {0} → ℕ → Type 0) → Type 0
@@ -102,7 +100,7 @@ module _ (p : Plan) (own : ℕ → ℕ → Type 0) (Q : ℕ → ℕ → Type 0) 
     mine = subst (Gives own) is (through_first (Gives own) (gives_passes own) (gives_opens own) (gives_follow own) seat.program (l.programs i seat at_seat))
 
     here : get_elem? after.seats i ≡ some seat'
-    here = set_here c.seats i seat' (place_inside c.seats i seat at_seat)
+    here = set_here c.seats i seat' (at_length c.seats i seat at_seat)
 
     its_next : (s : SeatState) (x : ℕ × ℕ) → get_elem? c.seats i ≡ some s → next_stores s.program ≡ some x → stores call ≡ some x
     its_next s x at e = let same : seat ≡ s = some-injective seat s (sym at_seat ∙ at) in ap next_stores (sym is) ∙ (ap (λ (y : SeatState). next_stores (first_step y.program)) same ∙ first_stored s.program x e)
@@ -202,7 +200,7 @@ module _ (p : Plan) (own : ℕ → ℕ → Type 0) (Q : ℕ → ℕ → Type 0) 
     }
 
 linked_ticks : (p : Plan) (own : ℕ → ℕ → Type 0) (Q : ℕ → ℕ → Type 0) (c : Core) (vs : List View) (m : Moment) → Sound p c vs → IsAnswered c m → IsFitting p c m → Recorded p Q c vs → Linked p own c vs → Linked p own (ticked p c m) (views_after p c vs m)
-linked_ticks p own Q c vs m sound answered fitting r l = tick_keeps_marks p c vs m sound answered fitting (begins_round p) (goes_round p) (Linked p own) l
+linked_ticks p own Q c vs m sound answered fitting r l = tick_keeps_marks p c vs m sound answered fitting (Linked p own) l
     (λ seat v call next at_seat at_view is goes. by_call seat v call next at_seat at_view is goes.0)
     (λ seat v program rights hand hs a at_seat at_view comes. linked_still p own Q c vs m.seat sound.lawful.references.sized r l seat v at_seat at_view program rights hand hs a comes)
   where

@@ -95,7 +95,7 @@ records_client sizes (t ∷ ts) held left mine order = records_operation left si
 -- ## All clients
 
 -- what holds of each and of each before another, by places
-all_at : {A : Type 0} (P : A → Type 0) (l : List A) (i : ℕ) (a : A) → AllByRecursion P l → get_elem? l i ≡ some a → P a
+pub all_at : {A : Type 0} (P : A → Type 0) (l : List A) (i : ℕ) (a : A) → AllByRecursion P l → get_elem? l i ≡ some a → P a
 all_at P [] i a all at = absurd (some-ne-none a (sym at))
 all_at P (x ∷ xs) zero a all at = subst P (some-injective x a at) all.0
 all_at P (x ∷ xs) (suc i) a all at = all_at P xs i a all.1 at

@@ -23,8 +23,6 @@ use Rattle.program_walks.proofs.Recorded.{Recorded, recorded_ticks}
 use Rattle.program_walks.proofs.Through.{records_passes, records_opens, records_follow}
 use Rattle.program_walks.proofs.ThroughCalls.{through_first}
 use Rattle.sock_runs.specs.program_steps.proofs.Cases.{tick_keeps_marks}
-use Rattle.sock_runs.specs.program_steps.proofs.Rounds.{begins_round}
-use Rattle.sock_runs.specs.program_steps.proofs.Passes.{goes_round}
 use Rattle.sock_runs.proofs.LinkTicks.{RetriesGo}
 use Rattle.sock_runs.proofs.Ticks.{sound_ticks}
 use Rattle.program_walks.proofs.Opening.{mapped}
@@ -35,7 +33,7 @@ module _ (p : Plan) (Q : ℕ → ℕ → Type 0) (o : ℕ) (inside : o < p.opera
   Word c = get_or c.words (open_index p o) 0
 
   word_ticks : (c : Core) (vs : List View) (m : Moment) → Sound p c vs → IsAnswered c m → IsFitting p c m → Recorded p Q c vs → Word c ≢ 0 → Word (ticked p c m) ≡ Word c
-  word_ticks c vs m sound answered fitting r some_ = tick_keeps_marks p c vs m sound answered fitting (begins_round p) (goes_round p) (λ d ws. Word d ≡ Word c) refl
+  word_ticks c vs m sound answered fitting r some_ = tick_keeps_marks p c vs m sound answered fitting (λ d ws. Word d ≡ Word c) refl
       (λ seat v call next at_seat at_view is goes. by_call seat v call next at_seat is goes.0) (λ seat v program rights hand hs a at_seat at_view comes. refl)
     where
       by_call : (seat : SeatState) (v : View) (call : Call) (next : ℕ → Program) → get_elem? c.seats m.seat ≡ some seat → first_step seat.program ≡ Do call next → May p v call → Word (stepped p m.seat seat call next c) ≡ Word c

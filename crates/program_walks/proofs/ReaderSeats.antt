@@ -27,8 +27,6 @@ use Rattle.sock_runs.proofs.Notes.{bears}
 use Rattle.program_walks.proofs.Through.{Passes, Follows, any_end, through_any_failed, at_calls_passes, at_calls_follow, comes_follows}
 use Rattle.program_walks.proofs.ThroughCalls.{through_reading, through_head, through_next}
 use Rattle.sock_runs.specs.program_steps.proofs.Cases.{ComesNext, tick_keeps_marks}
-use Rattle.sock_runs.specs.program_steps.proofs.Rounds.{begins_round}
-use Rattle.sock_runs.specs.program_steps.proofs.Passes.{goes_round}
 use Rattle.sock_runs.proofs.LinkTicks.{RetriesGo}
 use Rattle.sock_runs.proofs.Ticks.{sound_ticks}
 
@@ -155,7 +153,7 @@ module _ (p : Plan) (calls : List ℕ) (j n o : ℕ) (inside : o < p.operations)
         own (inr x) = inr (x.0, next_none (waiting_at a.waiting m.seat) program (comes_follows NoOpens no_opens_follow p (first_step seat.program) program comes (first_none seat.program x.1)))
 
     reader_ticks : AtReader p calls j n o (ticked p c m)
-    reader_ticks = tick_keeps_marks p c vs m sound answered fitting (begins_round p) (goes_round p) (λ d ws. AtReader p calls j n o d) before
+    reader_ticks = tick_keeps_marks p c vs m sound answered fitting (λ d ws. AtReader p calls j n o d) before
         (λ seat v call next at_seat at_view is goes. on_call seat v call next at_seat is goes.0)
         (λ seat v program rights hand hs a at_seat at_view comes. on_other seat program hand hs a at_seat comes)
 

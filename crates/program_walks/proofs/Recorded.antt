@@ -25,16 +25,14 @@ use Rattle.seat_programs.specs.Ticks.{Moment, ticked, run, IsAnswered, AreAnswer
 use Rattle.seat_programs.specs.StepTables.{row, hand_at}
 use Rattle.seat_programs.specs.StepTables.{May}
 use Rattle.sock_runs.specs.program_steps.specs.Sound.{state, Sound, first_step, IsFitting, AreFitting, views_after, views_along}
-use Rattle.sock_runs.proofs.Along.{place_inside}
 use Rattle.sock_runs.proofs.Notes.{bears, births_only, birth_notes}
 use Rattle.program_walks.proofs.Records.{stores, next_stores, but, Records, next_stored, first_stored, opens_same}
 use Rattle.program_walks.proofs.Through.{records_passes, records_opens, records_follow, comes_follows}
 use Rattle.program_walks.proofs.ThroughCalls.{through_first, through_next}
 use Rattle.sock_runs.specs.program_steps.proofs.Cases.{ComesNext, with_rights, tick_keeps_marks}
-use Rattle.sock_runs.specs.program_steps.proofs.Rounds.{begins_round}
-use Rattle.sock_runs.specs.program_steps.proofs.Passes.{goes_round}
 use Rattle.sock_runs.proofs.LinkTicks.{RetriesGo}
 use Rattle.sock_runs.proofs.Ticks.{sound_ticks}
+use Rattle.seat_programs.specs.corr_core.proofs.Notes.{at_length}
 
 -- the id stands in the word of operation o, in which no seat stores any more
 pub record IsRecorded (p : Plan) (c : Core) (left : ℕ → ℕ → Bool) (o id : ℕ) : Type 0 where
@@ -136,7 +134,7 @@ module _ (p : Plan) (Q : ℕ → ℕ → Type 0) (c : Core) (vs : List View) (i 
   stays j s far at = set_else c.seats i j seat' far ∙ at
 
   here : get_elem? after.seats i ≡ some seat'
-  here = set_here c.seats i seat' (place_inside c.seats i seat at_seat)
+  here = set_here c.seats i seat' (at_length c.seats i seat at_seat)
 
   its_next : (s : SeatState) (x : ℕ × ℕ) → get_elem? c.seats i ≡ some s → next_stores s.program ≡ some x → stores call ≡ some x
   its_next s x at e = let same : seat ≡ s = some-injective seat s (sym at_seat ∙ at) in ap next_stores (sym is) ∙ (ap (λ (y : SeatState). next_stores (first_step y.program)) same ∙ first_stored s.program x e)
@@ -275,7 +273,7 @@ module _ (p : Plan) (Q : ℕ → ℕ → Type 0) (c : Core) (vs : List View) (i 
   }
 
 pub recorded_ticks : (p : Plan) (Q : ℕ → ℕ → Type 0) (c : Core) (vs : List View) (m : Moment) → Sound p c vs → IsAnswered c m → IsFitting p c m → Recorded p Q c vs → Recorded p Q (ticked p c m) (views_after p c vs m)
-recorded_ticks p Q c vs m sound answered fitting r = tick_keeps_marks p c vs m sound answered fitting (begins_round p) (goes_round p) (Recorded p Q) r
+recorded_ticks p Q c vs m sound answered fitting r = tick_keeps_marks p c vs m sound answered fitting (Recorded p Q) r
     (λ seat v call next at_seat at_view is goes. by_call seat v call next at_seat at_view is goes.0)
     (λ seat v program rights hand hs a at_seat at_view comes. still_recorded p Q c vs m.seat r seat v program rights hand hs a at_seat at_view comes)
   where

@@ -1,6 +1,9 @@
 -- What holds behind a call, a retry, an `expire`, a `join` or a reading holds before it, and what a seat's program meets it meets with the retries that wait.
-use Rattle.std.proofs.Common.{ℕ, zero, suc, ◌+◌, ◌-◌, ◌/◌, ◌%◌, ◌==◌, ◌&&◌, nat_lt, false, cond, List, [], ◌∷◌, ◌++◌, length, refl}
+use Rattle.std.proofs.Common.{◌≡◌, ℕ, zero, suc, ◌+◌, ◌-◌, ◌/◌, ◌%◌, ◌==◌, ◌&&◌, nat_lt, false, cond, List, [], ◌∷◌, ◌++◌, length, refl, sym, subst}
+use Rattle.std.specs.Prelude as std
 use Rattle.std.specs.Prelude.{None}
+use mathlib.Core.Option.{some, some-injective, some-ne-none}
+use lib.ListN.{get_elem?}
 use Rattle.sock_words.specs.Words.{socket_id_version, socket_id_slot, vref_version, at_word, at_word_first, at_word_slot, at_word_link, at_word_attempt}
 use Rattle.sock_words.specs.declared.outcome.Outcome.TheVariants.{Unopened, Joined, NotBegun}
 use Rattle.sock_steps.proofs.Quiet.{either_way}
@@ -16,10 +19,11 @@ use Rattle.seat_programs.specs.Programs.{Program, Do, Say, Sent, Rest, Write, As
 use Rattle.seat_programs.specs.Posts.{post, posted, decided}
 use Rattle.seat_programs.specs.Attempts.{claims_from, heading_for, attempt, begin_call, claim_id, call, tried_again, retry_locked, retry, expire_outcome, expire, join}
 use Rattle.seat_programs.specs.Readers.{LIMIT, kept_for, ends_with, posted_last, post_each, thrown_away, read, reader}
+use Rattle.seat_programs.specs.Scripts.{readers_from}
 use Rattle.seat_programs.specs.Rounds.{round}
 use Rattle.seat_programs.specs.Cores.{resolved, next_step}
 use Rattle.sock_runs.specs.program_steps.specs.Sound.{first_step}
-use Rattle.program_walks.proofs.Through.{PassesErrors, PassesLocked, PassesWords, PassesPlain, PassesFails, PassesSends, PassesStores, PassesLocks, PassesJoins, PassesReads, PassesOpens, Passes, any_end, Follows, next_follows, locked, through_release, through_address}
+use Rattle.program_walks.proofs.Through.{PassesErrors, PassesLocked, PassesWords, PassesPlain, PassesFails, PassesSends, PassesStores, PassesLocks, PassesJoins, PassesReads, PassesOpens, Passes, any_end, Follows, next_follows, locked, through_release, through_address, through_any_failed}
 use Rattle.program_walks.proofs.ThroughLoops.{through_post, through_post_with, through_posted, through_decide, through_decided, through_answer, through_opens, through_round}
 use Rattle.program_walks.proofs.ThroughSends.{through_accept, through_block}
 
@@ -121,6 +125,18 @@ module _ (Ends : Ended → Type 0) (G : Program → Type 0) (g : PassesReads End
 
   pub through_reader : PassesOpens G → (calls : List ℕ) (k o : ℕ) → G (reader calls k o)
   through_reader w calls k o = w.wait o _ (λ word. through_reading calls k word)
+
+-- the programs of all readers, and with them those of seats that rest
+module _ (G : Program → Type 0) (g : Passes G) (w : PassesOpens G) (rests : G Rest) where
+  through_readers : (calls os : List ℕ) (k i : ℕ) (x : Program) → get_elem? (readers_from calls k os) i ≡ some x → G x
+  through_readers calls [] k i x at = absurd (some-ne-none x (sym at))
+  through_readers calls (o ∷ os) k zero x at = subst G (some-injective (reader calls k o) x at) (through_reader any_end G g.reads (λ how e. through_any_failed G g how.code) rests w calls k o)
+  through_readers calls (o ∷ os) k (suc i) x at = through_readers calls os (k + 1) i x at
+
+  pub through_others : (n : ℕ) (calls os : List ℕ) (k i : ℕ) (x : Program) → get_elem? (std.replicate n Rest ++ readers_from calls k os) i ≡ some x → G x
+  through_others zero calls os k i x at = through_readers calls os k i x at
+  through_others (suc n) calls os k zero x at = subst G (some-injective Rest x at) rests
+  through_others (suc n) calls os k (suc i) x at = through_others n calls os k i x at
 
 -- ## Seats
 

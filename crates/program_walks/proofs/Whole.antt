@@ -24,13 +24,14 @@ use Rattle.seat_programs.specs.Told.{AreTasks}
 use Rattle.sock_runs.specs.program_steps.specs.Sound.{Sound, IsAhead, AllRest, AreFitting, AllFailed, IsOver, views_along}
 use Rattle.sock_runs.proofs.HandTicks.{AtHome}
 use Rattle.sock_runs.proofs.LinkTicks.{RetriesGo}
-use Rattle.sock_runs.proofs.Along.{run_sound, seat_ahead, seat_rests, place_inside, run_ahead, beginning_ahead, settled_rests}
+use Rattle.sock_runs.proofs.Along.{run_sound, seat_ahead, seat_rests, run_ahead, beginning_ahead, settled_rests}
 use Rattle.sock_runs.proofs.Unasked.{quiet_answered}
 use Rattle.sock_runs.proofs.Quiets.{run_rests}
 use Rattle.sock_runs.proofs.Ends.{is_over, links_home}
 use Rattle.program_walks.proofs.Recorded.{Recorded, run_recorded}
 use Rattle.program_walks.proofs.Rested.{IsPast, recorded_ending, recorded_on, rested_failed}
 use Rattle.program_walks.proofs.Opening.{opens_in, or_cases, own_opens, own_is, beginning_recorded, others_still}
+use Rattle.seat_programs.specs.corr_core.proofs.Notes.{at_length}
 
 -- ## The operations of an ending
 
@@ -71,7 +72,7 @@ IsListed script j o = (j ≤ clients script) × ((n : ℕ) × (get_elem? (opens 
 -- what a client opens is among the operations of the ending
 own_listed : (script : List Item) (are : AreTasks (plan_of script) (all_tasks script)) (j o : ℕ) → own_opens (plan_of script) (all_tasks script) are j o ≡ true → IsListed script j o
 own_listed script are j o there = let x = own_is (plan_of script) (all_tasks script) are j o there in let t = tasks_at script 0 (clients script + 1) j x.0 x.1 in
-    (omega (arith, place_inside (all_tasks script) j x.0 x.1, tasks_many script 0 (clients script + 1)), listed (numbered script) (names script) t.0 o (numbered script) (ap (λ l. opens_in l o) t.1 ∙ x.2))
+    (omega (arith, at_length (all_tasks script) j x.0 x.1, tasks_many script 0 (clients script + 1)), listed (numbered script) (names script) t.0 o (numbered script) (ap (λ l. opens_in l o) t.1 ∙ x.2))
 
 -- ## The run
 

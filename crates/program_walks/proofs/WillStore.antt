@@ -26,8 +26,6 @@ use Rattle.program_walks.proofs.Through.{Passes, PassesOpens, Follows, at_calls_
 use Rattle.program_walks.proofs.ThroughCalls.{through_first, through_next}
 use Rattle.program_walks.proofs.ThroughClients.{through_any}
 use Rattle.sock_runs.specs.program_steps.proofs.Cases.{ComesNext, tick_keeps_marks}
-use Rattle.sock_runs.specs.program_steps.proofs.Rounds.{begins_round}
-use Rattle.sock_runs.specs.program_steps.proofs.Passes.{goes_round}
 use Rattle.sock_runs.proofs.LinkTicks.{RetriesGo}
 use Rattle.sock_runs.proofs.Ticks.{sound_ticks}
 use Rattle.program_walks.proofs.Opening.{is_opening, opens_in, or_cases, second_true}
@@ -121,7 +119,7 @@ module _ (p : Plan) (j o : ℕ) (inside : o < p.operations) where
         (λ y. will s y.1) (at_set c.seats m.seat j (record { program = next_step (resolved (waiting_at a.waiting m.seat) program); hand = hand }) s at))
 
     store_ticks : IsToStore p j o c → IsToStore p j o (ticked p c m)
-    store_ticks before = tick_keeps_marks p c vs m sound answered fitting (begins_round p) (goes_round p) (λ d ws. IsToStore p j o d) before
+    store_ticks before = tick_keeps_marks p c vs m sound answered fitting (λ d ws. IsToStore p j o d) before
         (λ seat v call next at_seat at_view is goes. on_call seat v call next at_seat is goes.0 before)
         (λ seat v program rights hand hs a at_seat at_view comes. on_other seat program hand hs a at_seat comes before)
 

@@ -72,7 +72,7 @@ module _ (p : Plan) where
   length_homes = length-append (replicate p.requests none) (new_links 0 p.links) ∙ omega (arith, length_links 0 p.links, length-replicate {A = Option Home} p.requests none)
 
 -- no home has a message
-links_only : (j n i : ℕ) (heading : Heading) (bytes : List ℕ) → get_elem? (new_links j n) i ≡ some (some (Message heading bytes)) → ⊥
+pub links_only : (j n i : ℕ) (heading : Heading) (bytes : List ℕ) → get_elem? (new_links j n) i ≡ some (some (Message heading bytes)) → ⊥
 links_only j zero i heading bytes e = some-ne-none (some (Message heading bytes)) (sym e)
 links_only j (suc n) zero heading bytes e = let q : Link j [] 0 false ≡ Message heading bytes = some-injective (Link j [] 0 false) (Message heading bytes) (some-injective (some (Link j [] 0 false)) (some (Message heading bytes)) e) in cc
 links_only j (suc n) (suc i) heading bytes e = links_only (j + 1) n i heading bytes e

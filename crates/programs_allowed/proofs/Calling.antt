@@ -32,7 +32,8 @@ use Rattle.seat_programs.specs.StepViews.{Knows}
 use Rattle.program_walks.specs.program_steps.specs.GoesOn.{GoesOn}
 use Rattle.program_walks.specs.program_steps.proofs.Passes.{post_goes, way}
 use Rattle.program_walks.specs.program_steps.specs.Has.{Has}
-use Rattle.programs_allowed.proofs.Has.{about_top, at_slot, tokens}
+use Rattle.program_walks.specs.program_steps.proofs.Rounds.{about_top}
+use Rattle.programs_allowed.proofs.Has.{at_slot, tokens}
 use Rattle.programs_allowed.proofs.Steps.{noted, first, loads_name}
 use Rattle.programs_allowed.proofs.Sending.{accept_goes}
 use Rattle.programs_allowed.proofs.Parts.{Ready, release_goes, address_goes}

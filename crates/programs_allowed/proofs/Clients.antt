@@ -31,7 +31,8 @@ use Rattle.program_walks.specs.program_steps.proofs.Passes.{way, post_with_goes,
 use Rattle.programs_allowed.proofs.Calling.{call_goes}
 use Rattle.programs_allowed.specs.Openings.{link_of, links_of}
 use Rattle.program_walks.specs.program_steps.specs.Has.{Has, holds}
-use Rattle.programs_allowed.proofs.Has.{about_top, about_cons, at_slot, holding, letting, has_nothing, from_nothing}
+use Rattle.program_walks.specs.program_steps.proofs.Rounds.{about_top}
+use Rattle.programs_allowed.proofs.Has.{about_cons, at_slot, holding, letting, has_nothing, from_nothing}
 use Rattle.programs_allowed.proofs.Held.{IsInTable, under, more_here, more_else, all_more, length_more, under_more, all_without, length_without, under_without, none_under, without_unheld, held_in_table, fewer_here, fewer_else}
 use Rattle.programs_allowed.proofs.Steps.{loads_open}
 use Rattle.programs_allowed.proofs.Sending.{send_goes}

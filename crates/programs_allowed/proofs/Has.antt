@@ -12,15 +12,16 @@ use Rattle.sock_model.specs.declared.marks.Mark.TheVariants.{Recycling, Hold, Tr
 use Rattle.sock_model.specs.declared.marks.SlotMark.{SlotMark}
 use Rattle.sock_model.specs.declared.view.View.{View}
 use Rattle.sock_model.specs.declared.view.Hand.{Hand}
-use Rattle.sock_model.specs.Weights.{total, only, is_ref, is_probe, is_hold, is_zero, is_any_coding, is_coding, is_claimed, is_stage, is_recycled, is_recycling, is_busy}
+use Rattle.sock_model.specs.Weights.{total, only, is_ref, is_probe, is_zero, is_any_coding, is_claimed, is_recycled}
 use Rattle.sock_model.specs.Marks.{about, at}
 use Rattle.sock_model.specs.SlotRows.{marks_of}
 use Rattle.seat_programs.specs.Programs.{LAST_VERSION}
 use Rattle.seat_programs.specs.Clients.{HeldLife}
 use Rattle.program_walks.specs.program_steps.specs.GoesOn.{HasNothing}
 use Rattle.program_walks.specs.program_steps.specs.Has.{IsQuiet, OfTokens, holds, Has}
+use Rattle.program_walks.specs.program_steps.proofs.Rounds.{about_top}
 use Rattle.seat_programs.specs.StepsOfSlots.{KeepsRights}
-use Rattle.slot_steps.proofs.Sums.{total_mono, about-here, about-other}
+use Rattle.slot_steps.proofs.Sums.{total_mono, about-other}
 use Rattle.slot_steps.proofs.Numbers.{only-else}
 use Rattle.slot_steps.proofs.Slots.{probe_ref}
 
@@ -53,9 +54,6 @@ tokens f e = record {
 -- a mark more of slot i, as slot j sees it
 pub about_cons : (f : Mark → ℕ) (i j : ℕ) (m : Mark) (es : List SlotMark) → ((j ≡ i) → ⊥) → total f (about j (at i m ∷ es)) ≡ total f (about j es)
 about_cons f i j m es n = ap (total f) (about-other j i m es n)
-
-pub about_top : (f : Mark → ℕ) (i : ℕ) (m : Mark) (es : List SlotMark) → total f (about i (at i m ∷ es)) ≡ f m + total f (about i es)
-about_top f i m es = ap (total f) (about-here i m es)
 
 pub about_le : (f : Mark → ℕ) (i j : ℕ) (m : Mark) (es : List SlotMark) → total f (about j (at i m ∷ es)) ≤ f m + total f (about j es)
 about_le f i j m es = dite (ℕ_discrete j i) (λ e. subst (λ x. total f (about x (at i m ∷ es)) ≤ f m + total f (about x es)) (sym e) (omega (arith, about_top f i m es)))

@@ -24,7 +24,7 @@ use Rattle.seat_programs.specs.Calls.{Connect}
 use Rattle.seat_programs.specs.Programs.{Program, Do, Say, Sent, TakeMessage, TakeHome, release}
 use Rattle.seat_programs.specs.Sends.{write_link, first_put, heading_of, accept, claim_from, start, send}
 use Rattle.seat_programs.specs.Clients.{HeldLife}
-use Rattle.program_walks.specs.program_steps.proofs.Rounds.{first_goes}
+use Rattle.program_walks.specs.program_steps.proofs.Rounds.{first_goes, about_top}
 use Rattle.seat_programs.specs.StepViews.{by_right}
 use Rattle.seat_programs.specs.StepsOfSlots.{looked_clean}
 use Rattle.seat_programs.specs.StepsOfChain.{new_claim, ready_claim}
@@ -33,7 +33,7 @@ use Rattle.program_walks.specs.program_steps.specs.Writes.{IsNote, AreNotes, beh
 use Rattle.program_walks.specs.program_steps.specs.GoesOn.{GoesOn}
 use Rattle.slot_steps.proofs.Numbers.{only-same, pair-same}
 use Rattle.program_walks.specs.program_steps.specs.Has.{Has, OfTokens}
-use Rattle.programs_allowed.proofs.Has.{probes, codings, refs_few, about_top, no_links, tokens}
+use Rattle.programs_allowed.proofs.Has.{probes, codings, refs_few, no_links, tokens}
 use Rattle.programs_allowed.proofs.Held.{about_share}
 use Rattle.programs_allowed.proofs.Steps.{noted, first}
 use Rattle.programs_allowed.proofs.Parts.{Ready, release_goes, reach_goes}

@@ -25,14 +25,15 @@ use Rattle.seat_programs.specs.StepsOfNames.{is_id, found_id}
 use Rattle.seat_programs.specs.StepViews.{Knows}
 use Rattle.seat_programs.specs.StepsOfSlots.{even_version}
 use Rattle.program_walks.specs.program_steps.specs.GoesOn.{GoesOn}
-use Rattle.slot_steps.proofs.Sums.{total-append, total_mono, taken_as, about-here, about-other}
+use Rattle.slot_steps.proofs.Sums.{total_mono, taken_as, about-other}
 use Rattle.slot_steps.proofs.Sums as sums
 use Rattle.slot_steps.proofs.Numbers.{only-same, only-else, pair-same}
 use Rattle.slot_steps.proofs.Frame.{about-without, about-without_else, passes-without}
 use Rattle.slot_steps.proofs.Slots.{probe_is, hold_is, zero_is, stage_is, any_recycled, recycled_le, busy-parts}
 use Rattle.slot_steps.proofs.Codes.{coding_as}
 use Rattle.program_walks.specs.program_steps.specs.Has.{Has, OfTokens}
-use Rattle.programs_allowed.proofs.Has.{becomes, marked, kept, probes, codings, refs_few, keeps_rights, still, about_top, at_slot, no_links, tokens}
+use Rattle.program_walks.specs.program_steps.proofs.Rounds.{about_top}
+use Rattle.programs_allowed.proofs.Has.{becomes, marked, kept, probes, codings, refs_few, keeps_rights, still, at_slot, no_links, tokens}
 
 -- ## Marks that come and go
 

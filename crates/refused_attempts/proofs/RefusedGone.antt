@@ -34,8 +34,8 @@ use Rattle.attempted_calls.specs.accept_counts.proofs.Early.{start, go, fitting}
 use Rattle.attempted_calls.specs.accept_counts.proofs.Runs.{AreLabelledIn, IsCallOf, Lawful_, end_law}
 use Rattle.attempted_calls.specs.sent_once.proofs.ToldEnd.{told_end}
 use Rattle.attempted_calls.specs.sent_once.proofs.Sends.{narrow, opening_bare}
-use Rattle.attempted_calls.specs.sent_once.proofs.DropWhole.{get_same}
 use Rattle.refused_attempts.proofs.RefusedWhole.{IsGone}
+use Rattle.attempted_calls.specs.Below.owned_ids.proofs.OpensStored.{place_at}
 
 module _ (script : List Item) (made : AreMade script) (turns : List Turn) (core : Core) (is : IsRunWithCalls script turns core) (closes : ClosesInRun script turns core is) (ids : ℕ → ℕ) (labelled : AreLabelledIn ids script turns core is) (would : RunWouldOwn ids script turns core is) where
   abbrev vs : List View
@@ -59,7 +59,7 @@ module _ (script : List Item) (made : AreMade script) (turns : List Turn) (core 
     -- the call's task is no `send`
     no_task : (i : ℕ) (t : Task) → Asks (told_tasks_of script) i t → t.number ≡ asked.operation → ⊥
     no_task i t asks e = let x = up (all_tasks script) (length (opens script)) i t asks in let u = called.2 in
-        let one = (one_task (plan_of script) (all_tasks script) made.are i called.0 t u x.0 (called.1, get_same (all_tasks script) called.0 called.1 called.3, called.4) (e ∙ called.6)).1 in
+        let one = (one_task (plan_of script) (all_tasks script) made.are i called.0 t u x.0 (called.1, place_at (all_tasks script) called.0 called.1 called.3, called.4) (e ∙ called.6)).1 in
         true≢false (sym x.1 ∙ (ap (λ (z : Task). is_plain z.op) one ∙ ap is_plain called.5))
 
     none_sent : (i m : ℕ) (e : Entry) → HasSent vs i m e → e.heading.operation ≡ asked.operation → e.heading.attempt ≡ n → ⊥

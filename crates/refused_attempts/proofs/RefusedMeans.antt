@@ -29,14 +29,10 @@ use Rattle.seat_programs.specs.StepTables.{row, hand_at}
 use Rattle.seat_programs.specs.StepsOfMessages.{took_message}
 use Rattle.seat_programs.specs.StepsOfLinks.{link_away, link_home_again, took_bytes}
 use Rattle.attempted_calls.specs.Below.programs_allowed.specs.program_steps.specs.Sound.{Sound, AreFitting, state, views_after, views_along}
-use Rattle.attempted_calls.specs.Below.programs_allowed.specs.program_steps.proofs.Cases.{goes_first, with_rights, right_rights, put_rights}
+use Rattle.attempted_calls.specs.Below.programs_allowed.specs.program_steps.proofs.Cases.{goes_first, with_rights, right_rights, put_rights, tick_cases, elem_there}
 use Rattle.attempted_calls.specs.Below.programs_allowed.specs.sock_runs.proofs.LinkTicks.{RetriesGo}
-use Rattle.attempted_calls.specs.Below.programs_allowed.specs.program_steps.proofs.Passes.{goes_round}
-use Rattle.attempted_calls.specs.Below.programs_allowed.specs.program_steps.proofs.Rounds.{begins_round}
 use Rattle.attempted_calls.specs.Below.programs_allowed.specs.sock_runs.proofs.Ticks.{sound_ticks}
 use Rattle.attempted_calls.specs.Below.outcome_stories.proofs.Added.{failer_note, row_adds}
-use Rattle.attempted_calls.specs.Below.outcome_stories.proofs.Cases.{tick_cases}
-use Rattle.attempted_calls.specs.Below.outcome_ticks.proofs.Ticks.{elem_there}
 use Rattle.attempted_calls.specs.Below.outcome_stories.proofs.Used.{word_stays}
 use Rattle.attempted_calls.specs.accept_counts.specs.Refused.{Deed, DidStep, DidAt, DidIn}
 
@@ -85,7 +81,7 @@ module _ (p : Plan) where
     -- what a seat does in a tick is so as the tick begins
     pub did_so : (m : Moment) (j : ℕ) (d : Deed) → DidAt p c m j d → IsSo c vs d
     did_so m j (DidStep call found) x = let v = elem_there c.seats vs j x.1 sound.each x.3 in
-        let g : GoesOn p v.0 (Do call x.2) = subst (GoesOn p v.0) x.4 (goes_first p v.0 (begins_round p v.0) (goes_round p v.0) x.1.program (sound.seats j x.1 v.0 x.3 v.1).goes_on) in
+        let g : GoesOn p v.0 (Do call x.2) = subst (GoesOn p v.0) x.4 (goes_first p v.0 x.1.program (sound.seats j x.1 v.0 x.3 v.1).goes_on) in
         subst (Says c vs call) (sym x.5) (says_of j v.0 v.1 call g.0)
     did_so m j _ x = tt
 
@@ -123,8 +119,8 @@ module _ (p : Plan) where
     pub tick_keeps : Keeps (ticked p c m) (views_after p c vs m)
     tick_keeps = tick_cases p c vs m sound answered Keeps (λ d so. so)
         (λ seat v call next at here is goes. stepped_so v here seat call next goes.0)
-        (λ seat v r next heading bytes at here is goes. let w = right_rights v v.rights (λ x. taken_right x heading bytes) in moved v here (next heading bytes) seat.hand (set c.homes r none) c.calls (took_message heading bytes v) w.0 w.1)
-        (λ seat v k next n at here is goes. let w = right_rights v v.rights (λ x. record x { at_home = false }) in moved v here (next n) (lies_at c.homes (link_place p k) ++ seat.hand) (set c.homes (link_place p k) none) c.calls (link_away v) w.0 w.1)
+        (λ seat v r next heading bytes at here is goes lies. let w = right_rights v v.rights (λ x. taken_right x heading bytes) in moved v here (next heading bytes) seat.hand (set c.homes r none) c.calls (took_message heading bytes v) w.0 w.1)
+        (λ seat v k next took n at here is goes lies. let w = right_rights v v.rights (λ x. record x { at_home = false }) in moved v here (next n) (lies_at c.homes (link_place p k) ++ seat.hand) (set c.homes (link_place p k) none) c.calls (link_away v) w.0 w.1)
         (λ seat v k n after at here is goes. let w = right_rights v v.rights (λ x. record x { at_home = true }) in
         moved v here after (others_of seat.hand) (set c.homes (link_place p k) (first_of (onto_first (with_places n) seat.hand))) c.calls (link_home_again v) w.0 w.1)
         (λ seat v k asked bytes next answer at here is goes answer_is fits. let w = put_rights v answer in moved v here (next answer) (onto_first (fed bytes answer) seat.hand) c.homes c.calls (took_bytes answer v) w.0 w.1)

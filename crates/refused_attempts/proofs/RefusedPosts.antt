@@ -17,8 +17,8 @@ use Rattle.seat_programs.specs.Programs.{Program, Aside}
 use Rattle.seat_programs.specs.Cores.{Core, SeatState}
 use Rattle.seat_programs.specs.Ticks.{Moment, taken}
 use Rattle.attempted_calls.specs.Below.programs_allowed.specs.program_steps.specs.Sound.{Sound, first_step}
+use Rattle.attempted_calls.specs.Below.programs_allowed.specs.program_steps.proofs.Cases.{elem_there}
 use Rattle.attempted_calls.specs.Below.outcome_stories.specs.Stories.{In}
-use Rattle.attempted_calls.specs.Below.outcome_ticks.proofs.Ticks.{elem_there}
 use Rattle.attempted_calls.specs.Below.call_stories.specs.Posts.{Post, posts_by, posted_with, posted_at}
 use Rattle.attempted_calls.specs.accept_counts.specs.Refused.{Deed, Charge, NoCharge, IsRefused, HasDropped, Doing, IsChargeOf, IsPostOf, ChargeFits, ChargeLaw, IsSpent, PostKind, ByReader, ByExpiry, ByRefusal, ByDrop}
 use Rattle.attempted_calls.specs.Below.outcome_stories.proofs.HomeCalls.{AreCalls}

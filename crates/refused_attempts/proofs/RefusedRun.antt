@@ -26,6 +26,7 @@ use Rattle.refused_attempts.proofs.RefusedLost.{early_lost, late_lost}
 use Rattle.refused_attempts.proofs.RefusedMeans.{IsSo}
 use Rattle.refused_attempts.proofs.RefusedWhole.{end_views, IsGone, KindOfPost, kinds_of_seat}
 use Rattle.refused_attempts.proofs.RefusedWhys.{full, before_so, late_so}
+use Rattle.refused_attempts.proofs.RefusedPosts.{all_done}
 
 code_is : (e code n : ℕ) → n ≤ 6 → e ≡ error_of code n → (code_of e ≡ code) × (attempt_of e ≡ n)
 code_is e code n few is = (ap code_of is ∙ (let z : code_of (error_of code n) ≡ code = omega (arith, few) in z), ap attempt_of is ∙ (let z : attempt_of (error_of code n) ≡ n = omega (arith, few) in z))
@@ -92,18 +93,14 @@ module _ (script : List Item) (made : AreMade script) (turns : List Turn) (core 
     pub refused_of_seat : (j : ℕ) (x : Post) → In x (shows_in_run script turns core is (posted_by j)) → WhyPosted j x
     refused_of_seat j x at = ⊎_elim early late (kinds_of_seat script made turns core is closes ids labelled would j x at)
       where
-        all_of : (Did Done : Deed → Type 0) → ((d : Deed) → Did d → Done d) → (ds : List Deed) → AllByRecursion Did ds → AllByRecursion Done ds
-        all_of Did Done f [] a = tt
-        all_of Did Done f (d ∷ ds) a = (f d a.0, all_of Did Done f ds a.1)
-
         early : KindOfPost script made turns core is closes ids labelled would (DidEarly script turns core is) j x → WhyPosted j x
         early (ByReader n high e) = PostedByReader n high e
         early (ByExpiry low e) = PostedByExpiry low e
         early (ByRefusal n code ds low did r gone e) = PostedByRefusal low (early_refusal x j n code ds low did r gone e)
-        early (ByDrop heading code ds low did drop owner same e) = PostedByDrop heading code ds low (all_of (DidEarly script turns core is j) (DidInRun script turns core is j) (λ d y. inl y) ds did) drop owner same e
+        early (ByDrop heading code ds low did drop owner same e) = PostedByDrop heading code ds low (all_done (DidEarly script turns core is j) (DidInRun script turns core is j) (λ d y. inl y) ds did) drop owner same e
 
         late : KindOfPost script made turns core is closes ids labelled would (DidLate script turns core is) j x → WhyPosted j x
         late (ByReader n high e) = PostedByReader n high e
         late (ByExpiry low e) = PostedByExpiry low e
         late (ByRefusal n code ds low did r gone e) = PostedByRefusal low (late_refusal x j n code ds did r gone e)
-        late (ByDrop heading code ds low did drop owner same e) = PostedByDrop heading code ds low (all_of (DidLate script turns core is j) (DidInRun script turns core is j) (λ d y. inr (inr y)) ds did) drop owner same e
+        late (ByDrop heading code ds low did drop owner same e) = PostedByDrop heading code ds low (all_done (DidLate script turns core is j) (DidInRun script turns core is j) (λ d y. inr (inr y)) ds did) drop owner same e

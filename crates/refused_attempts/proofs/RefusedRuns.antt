@@ -7,6 +7,7 @@ use lib.ListN.{get_elem?}
 use Rattle.sock_words.specs.declared.plain.Plan.{Plan}
 use Rattle.sock_model.specs.declared.view.View.{View}
 use Rattle.corr_core.specs.declared.marks.Plan.{Plan as IdPlan}
+use Rattle.corr_core.proofs.Notes.{at_length}
 use Rattle.sock_message.specs.Asked.{Asked}
 use Rattle.seat_programs.specs.Heads.{Retry}
 use Rattle.seat_programs.specs.declared.task.Sizes.{Sizes}
@@ -44,11 +45,6 @@ at_append : {A : Type 0} (xs ys : List A) (i : ℕ) (a : A) → get_elem? (xs ++
 at_append [] ys i a e = inr (i, omega arith, e)
 at_append (x ∷ xs) ys zero a e = inl e
 at_append (x ∷ xs) ys (suc i) a e = ⊎_elim (λ t. inl t) (λ t. let n = t.1 in inr (t.0, omega (arith, n), t.2)) (at_append xs ys i a e)
-
-pub inside : {A : Type 0} (xs : List A) (i : ℕ) (a : A) → get_elem? xs i ≡ some a → i < length xs
-inside [] i a e = absurd (some-ne-none a (sym e))
-inside (x ∷ xs) zero a e = omega arith
-inside (x ∷ xs) (suc i) a e = let r = inside xs i a e in omega (arith, r)
 
 in_replicate : {A : Type 0} (n : ℕ) (x : A) (i : ℕ) (a : A) → get_elem? (replicate n x) i ≡ some a → x ≡ a
 in_replicate zero x i a e = absurd (some-ne-none a (sym e))
@@ -167,7 +163,7 @@ reader_at calls (o ∷ os) k (suc i) x at = reader_at calls os (k + 1) i x at
 pub seats_charge : (requests : ℕ) (is_call : Asked → Type 0) (sizes : Sizes) → sizes.requests ≡ requests → (cs : List (List Task)) → length cs ≤ 32 → ((i : ℕ) (ts : List Task) → get_elem? cs i ≡ some ts → AllByRecursion (λ (t : Task). OpCalls is_call t.op) ts) → (calls os : List ℕ) (i : ℕ) (x : Program)
     → get_elem? (all_programs (programs sizes cs) (readers_from calls 0 os)) i ≡ some x → Charges requests is_call (nat_le 32 i) idle x
 seats_charge requests is_call sizes size cs few asks calls os i x at = ⊎_elim
-    (λ a. let t = mapped (client_from sizes []) cs i x a in let low = inside (programs sizes cs) i x a in let e = low_false i (omega (arith, low, long, few)) in
+    (λ a. let t = mapped (client_from sizes []) cs i x a in let low = at_length (programs sizes cs) i x a in let e = low_false i (omega (arith, low, long, few)) in
     subst (λ b. Charges requests is_call b idle x) (sym e) (subst (Charges requests is_call false idle) t.2 (client_goes requests is_call false refl sizes size [] t.0 (asks i t.0 t.1))))
     (λ a. ⊎_elim (λ b. subst (Charges requests is_call (nat_le 32 i) idle) (in_replicate (32 - length (programs sizes cs)) Rest a.0 x b) tt)
     (λ b. let r = reader_at calls os 0 b.0 x b.2 in let n = a.1 in let m = b.1 in let e = high_true i (omega (arith, n, m, long, few, length-replicate (32 - length (programs sizes cs)) Rest)) in

@@ -32,8 +32,7 @@ use Rattle.seat_programs.specs.StepTables.{word_of, word_after}
 use Rattle.seat_programs.specs.Ticks.{Moment, IsAnswered, taken, ticked}
 use Rattle.seat_programs.specs.StepTables.{row, hand_at}
 use Rattle.attempted_calls.specs.Below.programs_allowed.specs.program_steps.specs.Sound.{Sound, first_step, views_after}
-use Rattle.attempted_calls.specs.Below.programs_allowed.specs.program_steps.proofs.Cases.{with_rights}
-use Rattle.attempted_calls.specs.Below.outcome_ticks.proofs.Ticks.{elem_there}
+use Rattle.attempted_calls.specs.Below.programs_allowed.specs.program_steps.proofs.Cases.{with_rights, elem_there, calls_waiting}
 use Rattle.attempted_calls.specs.Below.call_owing.proofs.EndsStill.{mapped_at}
 use Rattle.attempted_calls.specs.Below.label_runs.specs.Labels.{Trial, Idle, Tries, Sends, put_behind, Kept, Storing, unlocked_trial}
 use Rattle.attempted_calls.specs.accept_counts.specs.Counts.{pair_of, of_trial, of_retry, of_view, times_of, WasMade, WasNow, TrialFits, StoresOwn}
@@ -41,7 +40,7 @@ use Rattle.attempted_calls.specs.accept_counts.specs.Refused.{Deed, DidStep, Did
 use Rattle.attempted_calls.specs.accept_counts.proofs.SeatFacts.{ids_first}
 use Rattle.attempted_calls.specs.Below.outcome_stories.proofs.HomeCalls.{AreCalls}
 use Rattle.attempted_calls.specs.accept_counts.proofs.SeatFacts.{tick_moves}
-use Rattle.attempted_calls.specs.accept_counts.proofs.Ticks.{put_count, few_more, few_of, calls_waiting, fits_as, kept_count, kept_fits, pair_now, waits_set}
+use Rattle.attempted_calls.specs.accept_counts.proofs.Ticks.{put_count, few_more, few_of, fits_as, kept_count, kept_fits, pair_now, waits_set}
 use Rattle.attempted_calls.specs.accept_counts.proofs.Views.{row_count, rights_count}
 use Rattle.attempted_calls.specs.accept_counts.proofs.Words.{made_on, finds_label, words_forward, makes_new, advances_new}
 use Rattle.refused_attempts.proofs.RefusedLoops.{bare, charges_round}

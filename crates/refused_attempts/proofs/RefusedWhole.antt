@@ -18,6 +18,7 @@ use Rattle.sock_model.specs.Weights.{total}
 use Rattle.seat_programs.specs.brpc_model.specs.Items.{Item}
 use Rattle.seat_programs.specs.brpc_model.specs.Operations.{Turn}
 use Rattle.corr_core.specs.declared.marks.Plan.{Plan as IdPlan}
+use Rattle.corr_core.proofs.Notes.{at_length}
 use Rattle.sock_message.specs.Asked.{Asked}
 use Rattle.seat_programs.specs.Asides.{Step, Found}
 use Rattle.seat_programs.specs.Beside.{found_in}
@@ -32,12 +33,12 @@ use Rattle.seat_programs.specs.Ticks.{Answer, OfPut, OfReady, Moment, IsAlwaysRe
 use Rattle.seat_programs.specs.Tasks.{opens, calls, plan_of, id_plan_of}
 use Rattle.seat_programs.specs.Scripts.{sizes_of, programs, readers_from, all_programs, all_tasks, opened, set_up, played, is_ending, IsRunWithCalls}
 use Rattle.attempted_calls.specs.Below.programs_allowed.specs.program_steps.specs.Sound.{views_along}
+use Rattle.attempted_calls.specs.Below.programs_allowed.specs.program_steps.proofs.Cases.{elem_there}
 use Rattle.attempted_calls.specs.Below.programs_allowed.specs.sock_runs.proofs.Along.{seat_rests}
 use Rattle.attempted_calls.specs.Below.programs_allowed.specs.program_walks.proofs.Whole.{closing_of, views_played, views_closed, views_ended, set_up_answered, end_answered, rested_ahead, rested_idle, set_up_sound, played_sound, closing_sound, closed_sound, closed_ahead}
 use Rattle.attempted_calls.specs.Below.outcome_stories.specs.Stories.{In}
 use Rattle.attempted_calls.specs.Below.outcome_causes.proofs.Final.{at_there}
 use Rattle.attempted_calls.specs.Below.outcome_causes.proofs.Plain.{in_both}
-use Rattle.attempted_calls.specs.Below.outcome_ticks.proofs.Ticks.{elem_there}
 use Rattle.attempted_calls.specs.Below.joint_runs.proofs.Runs.{AreMade, first_views}
 use Rattle.attempted_calls.specs.Below.call_owing.specs.Lives.{ClosesInRun}
 use Rattle.attempted_calls.specs.Below.call_stories.specs.Decided.{posted_by}
@@ -55,7 +56,7 @@ use Rattle.refused_attempts.proofs.RefusedLoops.{bare}
 use Rattle.attempted_calls.specs.accept_counts.proofs.PostSeats.{of_all}
 use Rattle.refused_attempts.proofs.RefusedPosts.{kind_more}
 use Rattle.refused_attempts.proofs.RefusedPrograms.{ending_goes}
-use Rattle.refused_attempts.proofs.RefusedRuns.{law_more, Behind, run_charges, none_did, begins_charges, seats_charge, none_done, inside}
+use Rattle.refused_attempts.proofs.RefusedRuns.{law_more, Behind, run_charges, none_did, begins_charges, seats_charge, none_done}
 use Rattle.refused_attempts.proofs.RefusedTicks.{moves}
 use Rattle.attempted_calls.specs.accept_counts.proofs.Grounds.{setting}
 
@@ -310,7 +311,7 @@ module _ (script : List Item) (made : AreMade script) (turns : List Turn) (core 
   at_ease : (j : ℕ) (seat : SeatState) → get_elem? is.ended.seats j ≡ some seat → IsAtEase seat.program
   at_ease j seat at = dite (ℕ_discrete j 0)
       (λ first. subst IsAtEase (sym (seat_rests is.ended (closed_ahead script made.are (first_views script) (start script made turns core is) (go script made turns core is) turns core is (fitting script made turns core is)) 0 is.is_over seat (subst (λ i. get_elem? is.ended.seats i ≡ some seat) first at))) tt)
-      (λ other. by (still script made turns core is j (inside (played script is.setup (is.scheduled ++ is.later)).seats j seat (rested_at other))) (rested_at other))
+      (λ other. by (still script made turns core is j (at_length (played script is.setup (is.scheduled ++ is.later)).seats j seat (rested_at other))) (rested_at other))
     where
       rested_at : j ≢ 0 → get_elem? (played script is.setup (is.scheduled ++ is.later)).seats j ≡ some seat
       rested_at other = sym (set_else (played script is.setup (is.scheduled ++ is.later)).seats 0 j _ other) ∙ (sym (run_other (plan_of script) is.last (closing_of script turns core is) j other) ∙ (sym (ap (λ (c : Core). get_elem? c.seats j) is.is_ended) ∙ at))

@@ -92,7 +92,7 @@ pairs_once fails once x y k a b =
 -- ## Outcomes that show an id
 
 -- an outcome that shows an id was said
-id_said : (o : Outcome) (id : ℕ) → shown_id o ≡ Some id → is_said o ≡ true
+pub id_said : (o : Outcome) (id : ℕ) → shown_id o ≡ Some id → is_said o ≡ true
 id_said (Placed k i) id e = absurd (cc)
 id_said (Dropped k i) id e = absurd (cc)
 id_said other id e = refl

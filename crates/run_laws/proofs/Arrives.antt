@@ -44,7 +44,7 @@ use Rattle.seat_programs.specs.StepsOfLinks.{link_away, link_home_again, took_by
 use Rattle.seat_programs.specs.StepTables.{May}
 use Rattle.programs_allowed.specs.program_steps.specs.GoesOn.{GoesOn}
 use Rattle.programs_allowed.specs.program_steps.specs.Sound.{Sound, first_step, state, views_after}
-use Rattle.programs_allowed.specs.program_steps.proofs.Cases.{with_rights, right_rights, put_rights}
+use Rattle.programs_allowed.specs.program_steps.proofs.Cases.{with_rights, right_rights, put_rights, IsStill, untold, tick_does, tick_cases}
 use Rattle.programs_allowed.specs.sock_runs.proofs.Ticks.{sound_ticks}
 use Rattle.sock_model.specs.ChainRows.{taken_right}
 use Rattle.outcome_stories.proofs.Added.{failer_note, linked_note, row_adds}
@@ -53,7 +53,6 @@ use Rattle.run_laws.specs.Seen.{event_at}
 use Rattle.run_laws.specs.Late.{next_at, PutsInto, LooksLive, Looks, FailsSocket}
 use Rattle.run_laws.proofs.Modes.{Mode, Unknown, Live, Dead, mode_behind, put_mode, ready_mode, Guarded, come_guarded}
 use Rattle.run_laws.proofs.Lives.{live_unfailed, even_is, link_is, failed_stays}
-use Rattle.run_laws.proofs.Cases.{IsStill, tick_does}
 use Rattle.run_laws.proofs.Kept.{IsGiven, Kept, mode, mode_guarded}
 use Rattle.run_laws.proofs.Stops.{link_of, no_right, not_stopped, same_more, fails_even}
 
@@ -210,7 +209,7 @@ module _ (p : Plan) (c : Core) (views : List View) (stopped : ℕ → Bool) (m :
 
   -- whoever is at a put behind a tick was there before, or came to it by this tick
   pub comes_tick : Comes (ticked p c m)
-  comes_tick = tick_does p c views m kept.sound answered.0 (λ e d us. Sound p d us → Comes d)
+  comes_tick = tick_does p c views m kept.sound answered.0 untold tt (λ v answer first still. refl) (λ e d us. Sound p d us → Comes d)
       (λ none_ sound k s put. comes_same k s put (λ e. some-ne-none put.0 (sym put.1 ∙ (ap (get_elem? c.seats) (sym e) ∙ none_))))
       (λ seat at_seat still sound k s put. comes_same k s put (λ e. let same : seat ≡ put.0 = some-injective seat put.0 (sym at_seat ∙ (ap (get_elem? c.seats) e ∙ put.1)) in
       let puts : PutsInto k seat.program = subst (λ (y : SeatState). PutsInto k y.program) (sym same) put.2 in still_none k seat.program (subst IsStill (first_put k seat.program puts) still) puts))
@@ -220,9 +219,9 @@ module _ (p : Plan) (c : Core) (views : List View) (stopped : ℕ → Bool) (m :
       put_right_of p w l (come c.calls (next found)) puts'
       (sound.seats m.seat (record { program = come c.calls (next found); hand = hand_after p call c.homes seat.hand }) w (set_here c.seats m.seat (record { program = come c.calls (next found); hand = hand_after p call c.homes seat.hand }) (at_length c.seats m.seat seat at_seat))
       (set_here views m.seat w (at_length views m.seat v here))).goes_on) k puts))
-      (λ seat v q next heading bytes at_seat here is goes sound. let g = mode_guarded p c views stopped kept m.seat seat v at_seat here (TakeMessage q next) is in
+      (λ seat v q next heading bytes at_seat here is goes lies sound. let g = mode_guarded p c views stopped kept m.seat seat v at_seat here (TakeMessage q next) is in
       comes_never (next heading bytes) seat.hand c.words (set c.homes q none) Unknown (g.1 heading bytes) unknown_live)
-      (λ seat v k next n at_seat here is goes sound. let g = mode_guarded p c views stopped kept m.seat seat v at_seat here (TakeHome k next) is in
+      (λ seat v k next took n at_seat here is goes lies sound. let g = mode_guarded p c views stopped kept m.seat seat v at_seat here (TakeHome k next) is in
       comes_never (next n) (lies_at c.homes (link_place p k) ++ seat.hand) c.words (set c.homes (link_place p k) none) Unknown (g.1 n) unknown_live)
       (λ seat v k n after at_seat here is goes sound. let g = mode_guarded p c views stopped kept m.seat seat v at_seat here (PutHome k n after) is in
       comes_never after (others_of seat.hand) c.words (set c.homes (link_place p k) (first_of (onto_first (with_places n) seat.hand))) Unknown g.1 unknown_live)
@@ -230,23 +229,23 @@ module _ (p : Plan) (c : Core) (views : List View) (stopped : ℕ → Bool) (m :
       comes_never (next answer) (onto_first (fed bytes answer) seat.hand) c.words c.homes (put_mode g.0 answer) (g.2 answer) (put_live g.0 answer))
       (λ seat v k next answer at_seat here is goes answer_is sound. let g = mode_guarded p c views stopped kept m.seat seat v at_seat here (AskReady k next) is in
       comes_never (next answer) seat.hand c.words c.homes (ready_mode g.0 answer) (g.2 answer) (ready_live g.0 answer))
-      (λ seat v s next found at_seat here is goes sound. let g = mode_guarded p c views stopped kept m.seat seat v at_seat here (Aside s next) is in
+      (λ seat v s next found at_seat here is goes found_is sound. let g = mode_guarded p c views stopped kept m.seat seat v at_seat here (Aside s next) is in
       comes_with (calls_after s found c.calls) (next found) seat.hand c.words c.homes Unknown (g.1 found) unknown_live)
       (sound_ticks p kept.retries_go c views m kept.sound answered.0 answered.1)
 
   -- ## Links that are gone
 
   failed_tick : (k : ℕ) → Failed p (state c views) k → Failed p (state (ticked p c m) (views_after p c views m)) k
-  failed_tick k f = tick_does p c views m kept.sound answered.0 (λ e d us. Failed p (state d us) k) (λ none_. f) (λ seat at_seat still. f)
+  failed_tick k f = tick_cases p c views m kept.sound answered.0 (λ d us. Failed p (state d us) k) f
       (λ seat v call next at_seat here is goes. let found : ℕ = found_at c.words (word_of p call) in let hand : Hand = hand_at p c.words c.homes call in
       failed_stays (state c views) (words_after c.words (word_of p call) (word_after call found)) (homes_after p call seat.hand c.homes) m.seat v (row p call found hand v) here p k
       (λ j h. omega (arith, row_adds (is_failer h) (failer_note h) j p call found hand v)) (λ j h. omega (arith, row_adds (is_linked h k) (linked_note h k) j p call found hand v)) f)
-      (λ seat v q next heading bytes at_seat here is goes. stays_with v (took_message heading bytes v) here c.words (set c.homes q none) (right_rights v v.rights (λ r. taken_right r heading bytes)))
-      (λ seat v l next n at_seat here is goes. stays_with v (link_away v) here c.words (set c.homes (link_place p l) none) (right_rights v v.rights (λ r. record r { at_home = false })))
+      (λ seat v q next heading bytes at_seat here is goes lies. stays_with v (took_message heading bytes v) here c.words (set c.homes q none) (right_rights v v.rights (λ r. taken_right r heading bytes)))
+      (λ seat v l next took n at_seat here is goes lies. stays_with v (link_away v) here c.words (set c.homes (link_place p l) none) (right_rights v v.rights (λ r. record r { at_home = false })))
       (λ seat v l n after at_seat here is goes. stays_with v (link_home_again v) here c.words (set c.homes (link_place p l) (first_of (onto_first (with_places n) seat.hand))) (right_rights v v.rights (λ r. record r { at_home = true })))
       (λ seat v l asked bytes next answer at_seat here is goes answer_is fits. stays_with v (took_bytes answer v) here c.words c.homes (put_rights v answer))
       (λ seat v l next answer at_seat here is goes answer_is. f)
-      (λ seat v s next found at_seat here is goes. f)
+      (λ seat v s next found at_seat here is goes found_is. f)
     where
       stays_with : (v w : View) → get_elem? views m.seat ≡ some v → (ws : List ℕ) (hs : List (Option Home)) → (rights : List Right) × (w ≡ with_rights v rights) → Failed p (record { words = ws; homes = hs; views = set views m.seat w }) k
       stays_with v w here ws hs x = let e : w.marks ≡ v.marks = ap (λ (u : View). u.marks) x.1 in
@@ -287,14 +286,14 @@ module _ (p : Plan) (c : Core) (views : List View) (stopped : ℕ → Bool) (m :
     odd_step seat v call next at_seat here is may sound fails = absurd fails
 
     pub odd_tick : FailsSocket c.words k (next_at c m) → Failed p (state (ticked p c m) (views_after p c views m)) k
-    odd_tick fails = tick_does p c views m kept.sound answered.0 (λ e d us. Sound p d us → Failed p (state d us) k)
+    odd_tick fails = tick_does p c views m kept.sound answered.0 untold tt (λ v answer first still. refl) (λ e d us. Sound p d us → Failed p (state d us) k)
         (λ none_ sound. absurd (nothing_fails Rest (ap (λ (o : Option SeatState). elim o as (λ o. Program) [ none ↦ Rest | some seat ↦ first_step seat.program ]) none_) (λ x. x) fails))
         (λ seat at_seat still sound. absurd (still_fails (first_step seat.program) still (subst (FailsSocket c.words k) (next_is seat at_seat) fails)))
         (λ seat v call next at_seat here is goes sound. odd_step seat v call next at_seat here is goes.0 sound (subst (FailsSocket c.words k) (next_is seat at_seat ∙ is) fails))
-        (λ seat v q next heading bytes at_seat here is goes sound. absurd (nothing_fails (TakeMessage q next) (next_is seat at_seat ∙ is) (λ x. x) fails))
-        (λ seat v l next n at_seat here is goes sound. absurd (nothing_fails (TakeHome l next) (next_is seat at_seat ∙ is) (λ x. x) fails))
+        (λ seat v q next heading bytes at_seat here is goes lies sound. absurd (nothing_fails (TakeMessage q next) (next_is seat at_seat ∙ is) (λ x. x) fails))
+        (λ seat v l next took n at_seat here is goes lies sound. absurd (nothing_fails (TakeHome l next) (next_is seat at_seat ∙ is) (λ x. x) fails))
         (λ seat v l n after at_seat here is goes sound. absurd (nothing_fails (PutHome l n after) (next_is seat at_seat ∙ is) (λ x. x) fails))
         (λ seat v l asked bytes next answer at_seat here is goes answer_is fits sound. absurd (nothing_fails (PutBytes l asked bytes next) (next_is seat at_seat ∙ is) (λ x. x) fails))
         (λ seat v l next answer at_seat here is goes answer_is sound. absurd (nothing_fails (AskReady l next) (next_is seat at_seat ∙ is) (λ x. x) fails))
-        (λ seat v s next found at_seat here is goes sound. absurd (nothing_fails (Aside s next) (next_is seat at_seat ∙ is) (λ x. x) fails))
+        (λ seat v s next found at_seat here is goes found_is sound. absurd (nothing_fails (Aside s next) (next_is seat at_seat ∙ is) (λ x. x) fails))
         (sound_ticks p kept.retries_go c views m kept.sound answered.0 answered.1)

@@ -24,7 +24,7 @@ use Rattle.seat_programs.specs.Programs.{Program, Rest}
 use Rattle.seat_programs.specs.Cores.{Core, SeatState, resolved, next_step}
 use Rattle.seat_programs.specs.Scripts.{beginning, programs, readers_from, all_programs, opening_homes}
 use Rattle.programs_allowed.specs.program_steps.specs.Sound.{Sound}
-use Rattle.programs_allowed.specs.program_walks.proofs.Opening.{mapped}
+use Rattle.programs_allowed.specs.program_walks.proofs.Opening.{mapped, all_at}
 use Rattle.programs_allowed.specs.Openings.{client_view, opening_views}
 use Rattle.programs_allowed.proofs.Beginning.{beyond, at_home}
 use Rattle.message_events.specs.Standing.{Stand, accepted_by, hands_on, by_rights, by_home, stand}
@@ -76,11 +76,6 @@ accepts_none : (v : View) → IsBare v → accepted_by v ≡ []
 accepts_none v bare = ap (λ ls. flat_map (λ (es : List Entry). es) ls) bare.lists
 
 -- ## The programs
-
-all_at : {A : Type 0} (P : A → Type 0) (xs : List A) (i : ℕ) (x : A) → AllByRecursion P xs → get_elem? xs i ≡ some x → P x
-all_at P [] i x h e = absurd (some-ne-none x (sym e))
-all_at P (y ∷ ys) zero x h e = subst P (some-injective y x e) h.0
-all_at P (y ∷ ys) (suc i) x h e = all_at P ys i x h.1 e
 
 all_append : {A : Type 0} (P : A → Type 0) (xs ys : List A) → AllByRecursion P xs → AllByRecursion P ys → AllByRecursion P (xs ++ ys)
 all_append P [] ys a b = b

@@ -15,19 +15,19 @@ use Rattle.sock_io.specs.declared.link.Ready.{Ready}
 use Rattle.sock_io.specs.declared.link.Ready.TheVariants as asks
 use Rattle.sock_model.specs.declared.chain.Right.{Right}
 use Rattle.sock_model.specs.declared.view.View.{View}
-use Rattle.chain_steps.proofs.Lists.{at_length, at_some}
 use Rattle.seat_programs.specs.Calls.{Call, SetOdd}
 use Rattle.seat_programs.specs.Writings.{Puts, Waits, Empties, Walks}
 use Rattle.seat_programs.specs.Programs.{Program, Do, Say, Sent, Rest, TakeMessage, TakeHome, PutHome, PutBytes, AskReady, Write, Aside, Round, Keep, Retries}
 use Rattle.seat_programs.specs.Cores.{Core, SeatState}
 use Rattle.seat_programs.specs.Ticks.{OfPut, OfReady, Moment, ticked, asked_link, is_refusal, broken_at}
 use Rattle.programs_allowed.specs.program_steps.specs.Sound.{first_step, state, views_after}
+use Rattle.programs_allowed.specs.program_steps.proofs.Cases.{IsStill, tick_does, elem_there}
 use Rattle.programs_allowed.specs.program_steps.specs.GoesOn.{GoesOn}
-use Rattle.run_laws.specs.World.{Stop, stopped_after}
-use Rattle.run_laws.specs.Seen.{put_event, ready_event, event_at}
+use Rattle.run_laws.specs.World.{Nothing, Stop, stopped_after}
+use Rattle.run_laws.specs.Seen.{put_event, ready_event, next_event, event_at}
 use Rattle.run_laws.specs.Late.{Looks, LooksLive, Fails, FailsSocket, next_at}
 use Rattle.run_laws.proofs.Lives.{one_writer}
-use Rattle.run_laws.proofs.Cases.{IsStill, tick_does}
+use Rattle.run_laws.proofs.Cases.{still_nothing}
 use Rattle.run_laws.proofs.Kept.{IsGiven, Kept}
 use Rattle.run_laws.proofs.Arrives.{AtPut, IsGone, put_right_of, next_is, odd_tick}
 
@@ -101,16 +101,16 @@ module _ (p : Plan) (c : Core) (views : List View) (stopped : ℕ → Bool) (m :
   ready_stops l asks.Failed there = stops_here l (contains_one l k there)
 
   pub break_stops : Contains (broken_at c m) k → stopped_after (event_at p c views m) stopped k ≡ true
-  break_stops there = tick_does p c views m kept.sound answered.0 (λ e d us. stopped_after e stopped k ≡ true)
+  break_stops there = tick_does p c views m kept.sound answered.0 (next_event p m.seat c.words) Nothing (still_nothing p m.seat c.words) (λ e d us. stopped_after e stopped k ≡ true)
       (λ none_. absurd (contains_none (is_refusal m.answer) k (subst (λ o. Contains (broken_by o) k) none_ there)))
       (λ seat at_seat still. absurd (silent seat (first_step seat.program) at_seat refl (still_asks (first_step seat.program) still) there))
       (λ seat v call next at_seat here is goes. absurd (silent seat (Do call next) at_seat is refl there))
-      (λ seat v q next heading bytes at_seat here is goes. absurd (silent seat (TakeMessage q next) at_seat is refl there))
-      (λ seat v l next n at_seat here is goes. absurd (silent seat (TakeHome l next) at_seat is refl there))
+      (λ seat v q next heading bytes at_seat here is goes lies. absurd (silent seat (TakeMessage q next) at_seat is refl there))
+      (λ seat v l next took n at_seat here is goes lies. absurd (silent seat (TakeHome l next) at_seat is refl there))
       (λ seat v l n after at_seat here is goes. absurd (silent seat (PutHome l n after) at_seat is refl there))
       (λ seat v l asked bytes next answer at_seat here is goes answer_is fits. put_stops l bytes answer (subst (λ a. Contains (cond (is_refusal a) (l ∷ []) []) k) answer_is (broken_is seat (PutBytes l asked bytes next) at_seat is there)))
       (λ seat v l next answer at_seat here is goes answer_is. ready_stops l answer (subst (λ a. Contains (cond (is_refusal a) (l ∷ []) []) k) answer_is (broken_is seat (AskReady l next) at_seat is there)))
-      (λ seat v s next found at_seat here is goes. absurd (silent seat (Aside s next) at_seat is refl there))
+      (λ seat v s next found at_seat here is goes found_is. absurd (silent seat (Aside s next) at_seat is refl there))
 
   -- behind a tick that fails the link or its socket it is gone
   pub fails_gone : Fails c m k → IsGone p (ticked p c m) (views_after p c views m) (stopped_after (event_at p c views m) stopped) k
@@ -152,7 +152,7 @@ module _ (p : Plan) (c : Core) (views : List View) (stopped : ℕ → Bool) (m :
           first_still _ still = refl
 
       view_at : (i : ℕ) (x : SeatState) → get_elem? c.seats i ≡ some x → (v : View) × (get_elem? views i ≡ some v)
-      view_at i x at = at_some views i (let low = at_length c.seats i x at in omega (arith, kept.sound.each))
+      view_at i x at = elem_there c.seats views i x kept.sound.each at
 
       by_seat : (o : Option SeatState) → get_elem? c.seats m.seat ≡ o → m.seat ≡ s
       by_seat none none_ = absurd (contains_none (is_refusal m.answer) k (subst (λ o. Contains (broken_by o) k) none_ there))

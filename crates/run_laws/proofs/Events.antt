@@ -39,7 +39,7 @@ use Rattle.seat_programs.specs.StepTables.{May}
 use Rattle.seat_programs.specs.StepsOfSlots.{even_version}
 use Rattle.programs_allowed.specs.program_steps.specs.Writes.{MayPut}
 use Rattle.programs_allowed.specs.program_steps.specs.Sound.{first_step, state, views_after}
-use Rattle.programs_allowed.specs.program_steps.proofs.Cases.{with_rights, right_rights, put_rights}
+use Rattle.programs_allowed.specs.program_steps.proofs.Cases.{with_rights, right_rights, put_rights, tick_does}
 use Rattle.outcome_stories.specs.Stories.{adds}
 use Rattle.outcome_stories.proofs.Added.{linked_note, row_adds}
 use Rattle.life_events.specs.Events.{life_of}
@@ -55,10 +55,10 @@ use Rattle.message_events.specs.Standing as standing
 use Rattle.message_events.proofs.Each.{no_event, each_call, takes_letter, goes_away, comes_home, takes_bytes}
 use Rattle.run_laws.specs.World.{World, Event, Nothing, Hold, Drop, Fail, End, Dropped, of_lives, of_messages, IsCutOff, NeedsBoth, links_after, stopped_after, Becomes}
 use Rattle.run_laws.specs.World as world
-use Rattle.run_laws.specs.Seen.{accept_event, stop_event, step_event, put_event, ready_event, event_at, links_of, world_of}
+use Rattle.run_laws.specs.Seen.{accept_event, stop_event, step_event, put_event, ready_event, next_event, event_at, links_of, world_of}
 use Rattle.run_laws.proofs.Modes.{Mode, Comes}
 use Rattle.run_laws.proofs.Lives.{odd_failed}
-use Rattle.run_laws.proofs.Cases.{tick_does}
+use Rattle.run_laws.proofs.Cases.{still_nothing}
 use Rattle.run_laws.proofs.Kept.{FitsRight, IsGiven, Kept, mode, mode_guarded, mode_fits}
 use Rattle.run_laws.proofs.Stops.{live}
 use Rattle.run_laws.proofs.Breaks.{asked_first}
@@ -327,14 +327,14 @@ module _ (p : Plan) (c : Core) (views : List View) (stopped : ℕ → Bool) (m :
 
   -- each tick is its event
   pub each_tick : IsTick (event_at p c views m) (ticked p c m) (views_after p c views m)
-  each_tick = tick_does p c views m kept.sound answered.0 IsTick (λ none_. nothing) (λ seat at_seat still. nothing)
+  each_tick = tick_does p c views m kept.sound answered.0 (next_event p m.seat c.words) Nothing (still_nothing p m.seat c.words) IsTick (λ none_. nothing) (λ seat at_seat still. nothing)
       (λ seat v call next at_seat here is goes. step_tick seat v at_seat here call next is goes.0)
-      (λ seat v q next heading bytes at_seat here is goes. let d : Core = with_seat m.seat (next heading bytes) seat.hand c.words (set c.homes q none) c in
+      (λ seat v q next heading bytes at_seat here is goes lies. let d : Core = with_seat m.seat (next heading bytes) seat.hand c.words (set c.homes q none) c in
       move_tick seat v at_seat here d (took_message heading bytes v) (right_rights v v.rights (λ r. taken_right r heading bytes)) (takes_letter p c views kept.sound.lawful m.seat v here d refl q heading bytes refl goes.0))
-      (λ seat v k next n at_seat here is goes. let d : Core = with_seat m.seat (next n) (lies_at c.homes (link_place p k) ++ seat.hand) c.words (set c.homes (link_place p k) none) c in
+      (λ seat v k next took n at_seat here is goes lies. let d : Core = with_seat m.seat (next n) (lies_at c.homes (link_place p k) ++ seat.hand) c.words (set c.homes (link_place p k) none) c in
       move_tick seat v at_seat here d (link_away v) (right_rights v v.rights (λ r. record r { at_home = false })) (goes_away p c views kept.sound.lawful m.seat v here d refl k goes.0 refl goes.1))
       (λ seat v k n after at_seat here is goes. let d : Core = with_seat m.seat after (others_of seat.hand) c.words (set c.homes (link_place p k) (first_of (onto_first (with_places n) seat.hand))) c in
       move_tick seat v at_seat here d (link_home_again v) (right_rights v v.rights (λ r. record r { at_home = true })) (comes_home p c views kept.sound.lawful m.seat v here d refl k goes.0 (first_of (onto_first (with_places n) seat.hand)) refl goes.1))
       (λ seat v k asked bytes next answer at_seat here is goes answer_is fits. put_tick seat v at_seat here k asked bytes next is goes.0 answer answer_is fits)
       (λ seat v k next answer at_seat here is goes answer_is. ready_tick seat v at_seat here k next is answer answer_is)
-      (λ seat v s next found at_seat here is goes. nothing)
+      (λ seat v s next found at_seat here is goes found_is. nothing)

@@ -31,8 +31,7 @@ use Rattle.seat_programs.specs.StepsOfChain.{new_claim, exchanged, emptied, read
 use Rattle.seat_programs.specs.StepsOfPlaces.{placed_next, dropped_next}
 use Rattle.seat_programs.specs.StepTables.{May}
 use Rattle.programs_allowed.specs.program_steps.specs.Sound.{Sound, views_after}
-use Rattle.programs_allowed.specs.program_steps.proofs.Cases.{with_rights, right_rights, put_rights}
-use Rattle.run_laws.proofs.Cases.{tick_does}
+use Rattle.programs_allowed.specs.program_steps.proofs.Cases.{with_rights, right_rights, put_rights, tick_cases}
 
 -- ## Claims
 
@@ -113,15 +112,15 @@ module _ (p : Plan) (c : Core) (views : List View) (m : Moment) (sound : Sound p
   moved v w here x = set_full v w (subst IsFull (sym x.1) (full m.seat v here))
 
   pub full_tick : AreFull (views_after p c views m)
-  full_tick = tick_does p c views m sound answered (λ e d us. AreFull us) (λ none_. full) (λ seat at_seat still. full)
+  full_tick = tick_cases p c views m sound answered (λ d us. AreFull us) full
       (λ seat v call next at_seat here is goes. let w : View = row p call (found_at c.words (word_of p call)) (hand_at p c.words c.homes call) v in
       set_full v w (row_full p call (found_at c.words (word_of p call)) (hand_at p c.words c.homes call) v goes.0 (full m.seat v here)))
-      (λ seat v q next heading bytes at_seat here is goes. moved v _ here (right_rights v v.rights (λ r. taken_right r heading bytes)))
-      (λ seat v k next n at_seat here is goes. moved v _ here (right_rights v v.rights (λ r. record r { at_home = false })))
+      (λ seat v q next heading bytes at_seat here is goes lies. moved v _ here (right_rights v v.rights (λ r. taken_right r heading bytes)))
+      (λ seat v k next took n at_seat here is goes lies. moved v _ here (right_rights v v.rights (λ r. record r { at_home = false })))
       (λ seat v k n after at_seat here is goes. moved v _ here (right_rights v v.rights (λ r. record r { at_home = true })))
       (λ seat v k asked bytes next answer at_seat here is goes answer_is fits. moved v _ here (put_rights v answer))
       (λ seat v k next answer at_seat here is goes answer_is. full)
-      (λ seat v s next found at_seat here is goes. full)
+      (λ seat v s next found at_seat here is goes found_is. full)
 
 -- ## Orders
 

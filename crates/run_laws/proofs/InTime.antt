@@ -7,11 +7,11 @@ use native.Mathlib.Decide.{ℕ_discrete, dec_le}
 use lib.ListN.{get_elem?}
 use Rattle.sock_words.specs.declared.plain.Plan.{Plan}
 use Rattle.sock_model.specs.declared.view.View.{View}
-use Rattle.chain_steps.proofs.Lists.{at_length, at_some}
 use Rattle.seat_programs.specs.Programs.{Program, Rest}
 use Rattle.seat_programs.specs.Cores.{Core, SeatState}
 use Rattle.seat_programs.specs.Ticks.{Moment, ticked, broken_at}
 use Rattle.programs_allowed.specs.program_steps.specs.Sound.{first_step, state, views_after}
+use Rattle.programs_allowed.specs.program_steps.proofs.Cases.{elem_there}
 use Rattle.run_laws.specs.World.{stopped_after}
 use Rattle.run_laws.specs.Seen.{event_at}
 use Rattle.run_laws.specs.Late.{PutsInto, LooksLive, Puts, Looks, Fails, before, PutAt, FailAt, LookBefore, PutsInTime}
@@ -37,7 +37,7 @@ module _ (p : Plan) (k : ℕ) where
       one_writer p (state c views) kept.sound.lawful s t v.0 u.0 x.0 y.0 v.1 u.1 x.1 y.1 (x.2 ∙ sym y.2)
     where
       view_at : (i : ℕ) (x : SeatState) → get_elem? c.seats i ≡ some x → (v : View) × (get_elem? views i ≡ some v)
-      view_at i x at = at_some views i (let low = at_length c.seats i x at in omega (arith, kept.sound.each))
+      view_at i x at = elem_there c.seats views i x kept.sound.each at
 
   look_fails : (c : Core) (views : List View) (stopped : ℕ → Bool) (m : Moment) → Kept p c views stopped → AreGiven p c (m ∷ []) → Looks c m k → Fails c m k → ⊥
   look_fails c views stopped m kept answered looks fails = by_seat (get_elem? c.seats m.seat) refl

@@ -21,15 +21,16 @@ use Rattle.seat_programs.specs.Ticks.{Moment, ticked, run}
 use Rattle.seat_programs.specs.StepTables.{May}
 use Rattle.seat_programs.specs.StepsOfSlots.{even_version}
 use Rattle.programs_allowed.specs.program_steps.specs.Sound.{state, views_after, views_along}
+use Rattle.programs_allowed.specs.program_steps.proofs.Cases.{tick_does}
 use Rattle.life_events.specs.Events.{life_of}
 use Rattle.life_events.proofs.Laws.{plain_law}
 use Rattle.message_events.specs.Messages.{Has, IsIn}
 use Rattle.message_events.specs.Standing.{messages}
 use Rattle.run_laws.specs.World.{Event, Nothing, Hold, Drop, Fail, End, Accept, of_messages, stopped_after}
 use Rattle.run_laws.specs.World as world
-use Rattle.run_laws.specs.Seen.{accept_event, stop_event, step_event, put_event, ready_event, event_at, AreEvents, stopped_along}
+use Rattle.run_laws.specs.Seen.{accept_event, stop_event, step_event, put_event, ready_event, next_event, event_at, AreEvents, stopped_along}
 use Rattle.run_laws.specs.Happening.{Happen}
-use Rattle.run_laws.proofs.Cases.{tick_does}
+use Rattle.run_laws.proofs.Cases.{still_nothing}
 use Rattle.run_laws.proofs.Kept.{IsGiven, AreGiven, Kept}
 use Rattle.run_laws.proofs.Stops.{kept_tick}
 use Rattle.run_laws.proofs.Full.{AreFull, full_tick}
@@ -75,10 +76,10 @@ some_ready k _ = tt
 
 module _ (p : Plan) (c : Core) (views : List View) (stopped : ℕ → Bool) (m : Moment) (runs : Runs p c views stopped) (answered : IsGiven p c m) where
   some_event : IsSome (event_at p c views m)
-  some_event = tick_does p c views m runs.kept.sound answered.0 (λ e d us. IsSome e) (λ none_. tt) (λ seat at_seat still. tt)
+  some_event = tick_does p c views m runs.kept.sound answered.0 (next_event p m.seat c.words) Nothing (still_nothing p m.seat c.words) (λ e d us. IsSome e) (λ none_. tt) (λ seat at_seat still. tt)
       (λ seat v call next at_seat here is goes. some_step p v (runs.full m.seat v here) m.seat call (found_at c.words (word_of p call)) goes.0)
-      (λ seat v q next heading bytes at_seat here is goes. tt) (λ seat v k next n at_seat here is goes. tt) (λ seat v k n after at_seat here is goes. tt)
-      (λ seat v k asked bytes next answer at_seat here is goes answer_is fits. some_put k bytes answer) (λ seat v k next answer at_seat here is goes answer_is. some_ready k answer) (λ seat v s next found at_seat here is goes. tt)
+      (λ seat v q next heading bytes at_seat here is goes lies. tt) (λ seat v k next took n at_seat here is goes lies. tt) (λ seat v k n after at_seat here is goes. tt)
+      (λ seat v k asked bytes next answer at_seat here is goes answer_is fits. some_put k bytes answer) (λ seat v k next answer at_seat here is goes answer_is. some_ready k answer) (λ seat v s next found at_seat here is goes found_is. tt)
 
   is_some : (e : Event) → IsSome e → (d : Entry) → IsIn (messages p c views) (of_messages e) d → d.bytes ≢ []
   is_some (Accept e seat) some_ d is = ⊎_elim (λ has. runs.some_bytes d has) (λ same. subst (λ (x : Entry). x.bytes ≢ []) (sym same) some_) is

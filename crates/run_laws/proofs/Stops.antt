@@ -46,7 +46,7 @@ use Rattle.seat_programs.specs.StepsOfLinks.{link_away, link_home_again, took_by
 use Rattle.seat_programs.specs.StepTables.{May}
 use Rattle.programs_allowed.specs.program_steps.specs.Writes.{Writes, MayPut}
 use Rattle.programs_allowed.specs.program_steps.specs.Sound.{Sound, first_step, state, views_after}
-use Rattle.programs_allowed.specs.program_steps.proofs.Cases.{with_rights, right_rights, put_rights}
+use Rattle.programs_allowed.specs.program_steps.proofs.Cases.{with_rights, right_rights, put_rights, tick_does}
 use Rattle.programs_allowed.specs.sock_runs.proofs.Ticks.{sound_ticks}
 use Rattle.outcome_stories.specs.Stories.{adds}
 use Rattle.outcome_stories.proofs.Added.{failer_note, linked_note, row_adds}
@@ -54,10 +54,10 @@ use Rattle.message_events.proofs.Rights.{Keeps, looks_keeps, puts_makes}
 use Rattle.message_events.specs.Standing.{of_right}
 use Rattle.run_laws.specs.World.{Event, Nothing, Hold, Drop, Fail, End, Stop, stopped_after}
 use Rattle.run_laws.specs.World as world
-use Rattle.run_laws.specs.Seen.{accept_event, stop_event, step_event, put_event, ready_event, event_at}
+use Rattle.run_laws.specs.Seen.{accept_event, stop_event, step_event, put_event, ready_event, next_event, event_at}
 use Rattle.run_laws.proofs.Modes.{Mode, Unknown, Live, Fed, Dead, Asks, Broken, IsWhole, IsOfSlot, Comes, looked_mode, mode_behind, put_mode, ready_mode, Guarded}
 use Rattle.run_laws.proofs.Lives.{one_writer, live_unfailed, odd_failed, even_is, more_count, failed_stays}
-use Rattle.run_laws.proofs.Cases.{tick_does}
+use Rattle.run_laws.proofs.Cases.{still_nothing}
 use Rattle.run_laws.proofs.Kept.{HoldsAt, FitsRight, Fits, IsBroken, IsGiven, Kept, first_broken, mode_at, mode_here, mode, mode_guarded, mode_fits, not_broken, broken_else, steps}
 
 -- ## Small facts
@@ -428,11 +428,11 @@ module _ (p : Plan) (c : Core) (views : List View) (stopped : ℕ → Bool) (kep
 -- ## Ticks
 
 pub kept_tick : (p : Plan) (c : Core) (views : List View) (stopped : ℕ → Bool) (m : Moment) → Kept p c views stopped → IsGiven p c m → Kept p (ticked p c m) (views_after p c views m) (stopped_after (event_at p c views m) stopped)
-kept_tick p c views stopped m kept answered = tick_does p c views m kept.sound answered.0 (λ e d us. Sound p d us → Kept p d us (stopped_after e stopped)) (λ none_ sound. kept) (λ seat at_seat still sound. kept)
+kept_tick p c views stopped m kept answered = tick_does p c views m kept.sound answered.0 (next_event p m.seat c.words) Nothing (still_nothing p m.seat c.words) (λ e d us. Sound p d us → Kept p d us (stopped_after e stopped)) (λ none_ sound. kept) (λ seat at_seat still sound. kept)
     (λ seat v call next at_seat at_view is goes sound. step_kept p c views stopped kept m.seat seat v at_seat at_view call next is goes.0 sound)
-    (λ seat v q next heading bytes at_seat at_view is goes. let g = mode_guarded p c views stopped kept m.seat seat v at_seat at_view (TakeMessage q next) is in
+    (λ seat v q next heading bytes at_seat at_view is goes lies. let g = mode_guarded p c views stopped kept m.seat seat v at_seat at_view (TakeMessage q next) is in
     moves p c views stopped kept m.seat seat v at_seat at_view (next heading bytes) seat.hand (set c.homes q none) (took_message heading bytes v) (right_rights v v.rights (λ r. taken_right r heading bytes)) (g.1 heading bytes) g.0)
-    (λ seat v k next n at_seat at_view is goes. let g = mode_guarded p c views stopped kept m.seat seat v at_seat at_view (TakeHome k next) is in
+    (λ seat v k next took n at_seat at_view is goes lies. let g = mode_guarded p c views stopped kept m.seat seat v at_seat at_view (TakeHome k next) is in
     moves p c views stopped kept m.seat seat v at_seat at_view (next n) (lies_at c.homes (link_place p k) ++ seat.hand) (set c.homes (link_place p k) none) (link_away v) (right_rights v v.rights (λ r. record r { at_home = false })) (g.1 n) g.0)
     (λ seat v k n after at_seat at_view is goes. let g = mode_guarded p c views stopped kept m.seat seat v at_seat at_view (PutHome k n after) is in
     moves p c views stopped kept m.seat seat v at_seat at_view after (others_of seat.hand) (set c.homes (link_place p k) (first_of (onto_first (with_places n) seat.hand))) (link_home_again v) (right_rights v v.rights (λ r. record r { at_home = true })) g.1 g.0)

@@ -1,7 +1,6 @@
 -- A tick depends on what was answered only where a half of a link was asked. So ticks of the same seats in which each asked half answered the same do the same: by the lines of a schedule, and in
 -- rounds up to the first one that moved nothing.
 use Rattle.std.proofs.Common.{◌≡◌, ◌≢◌, ℕ, ◌+◌, ◌⊎◌, inl, inr, Bool, true, false, List, [], ◌∷◌, ◌++◌, map, ap, sym, subst, refl, ◌∙◌, append_assoc, if◌then◌else◌}
-use Rattle.std.proofs.lemmas.List.Sums.{fold-append}
 use Rattle.std.proofs.lemmas.Option.{none-some, same_Some}
 use Rattle.std.proofs.lemmas.Bool.{true≢false}
 use Rattle.std.specs.Prelude as std
@@ -26,6 +25,7 @@ use Rattle.seat_programs.specs.Runs.{IsAtRest, LeadsUpTo, Turns, Scheduled}
 use Rattle.seat_programs.specs.Tasks.{plan_of}
 use Rattle.seat_programs.specs.Scripts.{AreStill, EachMoves, Settles, ticks_of, round_of}
 use Rattle.run_theorems.specs.Answers.{asked, said_at, said_in}
+use Rattle.owed_calls.specs.call_owing.proofs.EndsStill.{run_parts}
 
 -- ## Lists
 
@@ -96,9 +96,6 @@ module _ (p : Plan) (i : ℕ) (seat : SeatState) (c : Core) (a b : Answer) where
   same_waits other e = refl
 
 -- ## Ticks one after another
-
-pub ran_on : (p : Plan) (c : Core) (xs ys : List Moment) → run p c (xs ++ ys) ≡ run p (run p c xs) ys
-ran_on p c xs ys = fold-append (ticked p) c xs ys
 
 pub said_on : (asks : Program → List ℕ) (p : Plan) (c : Core) (xs ys : List Moment) → said_in asks p c (xs ++ ys) ≡ said_in asks p c xs ++ said_in asks p (run p c xs) ys
 said_on asks p c [] ys = refl
@@ -212,7 +209,7 @@ module _ (X : Type 0) (f : X → Program → List ℕ) (hears : Hears X f) where
       → (SaidSame p (run p c now') later later' s t → EndAlike p (run p c now') later later' s t) → EndAlike p c xs ys s t
   then_alike p c xs now later ys now' later' s t is is' first rest =
       let y = rest (λ x. subst (λ (d : Core). said_in (f x) p d later ++ s x ≡ said_in (f x) p (run p c now') later' ++ t x) first.0 (first.1 x)) in
-      (ap (run p c) is ∙ ran_on p c now later ∙ ap (λ (d : Core). run p d later) first.0 ∙ y.0 ∙ sym (ran_on p c now' later') ∙ sym (ap (run p c) is'), y.1)
+      (ap (run p c) is ∙ run_parts p c now later ∙ ap (λ (d : Core). run p d later) first.0 ∙ y.0 ∙ sym (run_parts p c now' later') ∙ sym (ap (run p c) is'), y.1)
 
   pub in_parts : (p : Plan) (c : Core) (xs now later ys now' later' : List Moment) (s t : X → List Answer) → xs ≡ now ++ later → ys ≡ now' ++ later' → SaidSame p c xs ys s t
       → SaidSame p c now now' (λ x. said_in (f x) p (run p c now) later ++ s x) (λ x. said_in (f x) p (run p c now') later' ++ t x)
@@ -245,7 +242,7 @@ module _ (X : Type 0) (f : X → Program → List ℕ) (hears : Hears X f) where
   behind_round now later last = append_assoc now (ticks_of later) last
 
   still_behind : (p : Plan) (c : Core) (now : List Moment) (later : List (List Moment)) (last : List Moment) → AreStill p (run p c (ticks_of (now ∷ later))) last → AreStill p (run p (run p c now) (ticks_of later)) last
-  still_behind p c now later last = subst (λ (d : Core). AreStill p d last) (ran_on p c now (ticks_of later))
+  still_behind p c now later last = subst (λ (d : Core). AreStill p d last) (run_parts p c now (ticks_of later))
 
   module _ (script : List Item) where
     abbrev p : Plan

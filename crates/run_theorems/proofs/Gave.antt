@@ -28,7 +28,7 @@ use Rattle.seat_programs.specs.Ticks.{Answer, Unasked, OfPut, OfReady, OfTake, M
 use Rattle.seat_programs.specs.Tasks.{plan_of}
 use Rattle.seat_programs.specs.Scripts.{opened, ending, set_up, played, IsRunWithCalls}
 use Rattle.outcome_causes.specs.program_steps.specs.Sound.{first_step}
-use Rattle.owed_calls.specs.call_owing.proofs.EndsStill.{ticks_first}
+use Rattle.outcome_causes.specs.program_steps.proofs.Cases.{ticks_first}
 use Rattle.run_theorems.specs.Heard.{take_of, as_taken, taken_link, taken_at, taken_in, heard_takes, take_answers, bytes_found, given_by}
 use Rattle.run_theorems.proofs.HeardRuns.{same_heard_takes}
 use Rattle.run_theorems.proofs.Lengths.{tick_long, run_sizes}

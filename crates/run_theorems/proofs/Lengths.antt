@@ -1,7 +1,7 @@
 -- A run keeps its tables as long as they are, and as many places for outcomes as there are operations.
 use Rattle.std.proofs.Common.{◌≡◌, ℕ, ◌+◌, List, [], ◌∷◌, ◌++◌, length, length-set, replicate, refl, sym, ap, ◌∙◌, subst, arith}
 use Rattle.std.specs.Prelude as std
-use Rattle.std.specs.Prelude.{None, Some, Ok}
+use Rattle.std.specs.Prelude.{None, Ok}
 use Rattle.std.specs.List.{fold}
 use Rattle.std.proofs.lemmas.List.{length-map, length-replicate}
 use mathlib.Core.Option.{Option, none, some}
@@ -16,10 +16,8 @@ use Rattle.brpc_model.specs.Script.{script_of}
 use Rattle.corr_core.specs.declared.marks.Plan.{Plan as IdPlan}
 use Rattle.seat_programs.specs.sock_message.specs.Asked.{Asked}
 use Rattle.sock_model.specs.declared.home.Home.{Home}
-use Rattle.sock_model.specs.declared.home.Home.TheVariants.{Message}
 use Rattle.sock_model.specs.Messages.{Letter}
 use Rattle.sock_model.specs.Reads.{message, link_home}
-use Rattle.seat_programs.specs.Calls.{Call, TakeLink, PutLink, PutMessage}
 use Rattle.seat_programs.specs.Asides.{Step, ClaimId, PutCall, MakeId, StoreCall, LoadCall, StoreAt, LoadAt, LoadIdWord, LockId, PostId, UnlockId, EndId, FreeId, TakeCall, TakeBytes, Found, Taking, Bytes}
 use Rattle.seat_programs.specs.Beside.{found_in, calls_after, with_word, more_given}
 use Rattle.seat_programs.specs.Rounds.{round}
@@ -37,6 +35,7 @@ use Rattle.owed_calls.specs.Below.programs_allowed.proofs.Lasting.{length_all}
 use Rattle.owed_calls.specs.Below.id_runs.proofs.Opening as ids
 use Rattle.run_theorems.specs.Sizes.{IsSized}
 use Rattle.run_theorems.proofs.Starts.{made}
+use Rattle.outcome_causes.specs.sock_runs.proofs.Ticks.{homes_sized}
 
 -- the lists of d are as long as those of c
 pub record AsLong (c d : Core) : Type 0 where
@@ -84,12 +83,6 @@ seat_long i program hand ws hs c words homes = record {
 words_long : (ws : List ℕ) (o : Option ℕ) (w : ℕ) → length (words_after ws o w) ≡ length ws
 words_long ws none w = refl
 words_long ws (some x) w = length-set ws x w
-
-homes_long : (p : Plan) (call : Call) (hand : List Home) (hs : List (Option Home)) → length (homes_after p call hand hs) ≡ length hs
-homes_long p (TakeLink k) hand hs = length-set hs (p.requests + k) none
-homes_long p (PutLink k) hand hs = length-set hs (p.requests + k) (first_of hand)
-homes_long p (PutMessage q heading bytes) hand hs = length-set hs q (some (Message heading bytes))
-homes_long p other hand hs = refl
 
 -- what a step aside changes
 record AsideLong (a b : Calls) : Type 0 where
@@ -156,7 +149,7 @@ module _ (p : Plan) (i : ℕ) (seat : SeatState) (c : Core) where
 
   step_long : (answer : Answer) (program : Program) → AsLong c (step_with p i seat c answer program)
   step_long answer (Do call next) = let found : ℕ = found_at c.words (word_of p call) in
-      seat_long i (next found) (hand_after p call c.homes seat.hand) (words_after c.words (word_of p call) (word_after call found)) (homes_after p call seat.hand c.homes) c (words_long c.words (word_of p call) (word_after call found)) (homes_long p call seat.hand c.homes)
+      seat_long i (next found) (hand_after p call c.homes seat.hand) (words_after c.words (word_of p call) (word_after call found)) (homes_after p call seat.hand c.homes) c (words_long c.words (word_of p call) (word_after call found)) (homes_sized p call seat.hand c.homes)
   step_long answer (TakeMessage q next) = message_long q (message (λ home. home) c.homes q) (λ letter. next letter.0 letter.1)
   step_long answer (TakeHome k next) = link_long k (link_home (λ home. home) p c.homes k) next
   step_long answer (PutHome k n after) = let home : Option Home = first_of (onto_first (with_places n) seat.hand) in seat_long i after (others_of seat.hand) c.words (std.slice_set c.homes (link_place p k) home) c refl (length-set c.homes (link_place p k) home)

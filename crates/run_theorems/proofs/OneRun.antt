@@ -1,24 +1,18 @@
 -- Two runs of a script with calls by the same lines of a schedule end in one core, where its links answered the same, one answer after another, before the ending and behind it.
 use Rattle.std.proofs.Common.{◌≡◌, ℕ, zero, suc, ◌⊎◌, inl, inr, List, [], ◌∷◌, ◌++◌, replicate, ap, sym, subst, refl, ◌∙◌, append-nil}
-use Rattle.std.proofs.lemmas.Option.{none-some}
-use Rattle.std.specs.Prelude as std
-use Rattle.std.specs.Prelude.{None}
-use mathlib.Core.Option.{Option, some, none}
-use lib.ListN.{get_elem?}
-use Rattle.sock_words.specs.declared.kind.Kind.{Kind}
 use Rattle.sock_words.specs.declared.plain.Plan.{Plan}
 use Rattle.brpc_model.specs.Items.{Item}
 use Rattle.brpc_model.specs.Operations.{Turn}
 use Rattle.brpc_model.specs.Report.{Report, report_text}
 use Rattle.brpc_model.proofs.Unique.{only_report}
-use Rattle.seat_programs.specs.Programs.{Program, Say, Sent, Rest, Keep, Retries}
-use Rattle.seat_programs.specs.Cores.{Core, SeatState}
-use Rattle.seat_programs.specs.Ticks.{Answer, Moment, quiet, tick_with, ticked, run}
-use Rattle.seat_programs.specs.Runs.{kind_in, IsAtRest, Scheduled}
+use Rattle.seat_programs.specs.Cores.{Core}
+use Rattle.seat_programs.specs.Ticks.{Moment, quiet, ticked, run}
+use Rattle.seat_programs.specs.Runs.{IsAtRest, Scheduled}
 use Rattle.seat_programs.specs.Tasks.{plan_of}
 use Rattle.seat_programs.specs.Scripts.{IsRunWithCalls, Settles, set_up, opened, played, ending, is_ending, place_words, Reports}
 use Rattle.run_theorems.specs.Answers.{asked, told_in, before_ending, behind_ending}
-use Rattle.run_theorems.proofs.Alike.{Hears, ran_on, said_on, EndAlike, one_schedule, one_settling}
+use Rattle.run_theorems.proofs.Alike.{Hears, said_on, EndAlike, one_schedule, one_settling}
+use Rattle.owed_calls.specs.call_owing.proofs.EndsStill.{rest_still, run_parts}
 
 -- ## All links as one
 
@@ -32,26 +26,9 @@ all_heard program = by_asked (asked program) refl
 
 -- ## Who is at rest stays so
 
-rests_at : (p : Plan) (i : ℕ) (seat : SeatState) (c : Core) (a : Answer) (program : Program) → kind_in program ≡ None → tick_with p i seat c a program ≡ c
-rests_at p i seat c a (Say o outcome next) h = refl
-rests_at p i seat c a (Sent o next) h = refl
-rests_at p i seat c a Rest h = refl
-rests_at p i seat c a (Keep r next) h = refl
-rests_at p i seat c a (Retries requests after) h = refl
-rests_at p i seat c a _ h = absurd (none-some _ (sym h))
-
-rests_by : (p : Plan) (i : ℕ) (c : Core) (a : Answer) (o : Option SeatState) → elim o as (λ o. std.Option Kind) [ none ↦ None | some seat ↦ kind_in seat.program ] ≡ None →
-    elim o as (λ o. Core) [ none ↦ c | some seat ↦ tick_with p i seat c a seat.program ] ≡ c
-rests_by p i c a none h = refl
-rests_by p i c a (some seat) h = rests_at p i seat c a seat.program h
-
--- a tick of a seat that has no step left changes nothing
-pub rests : (p : Plan) (c : Core) (m : Moment) → IsAtRest c m.seat → ticked p c m ≡ c
-rests p c m h = rests_by p m.seat c m.answer (get_elem? c.seats m.seat) h
-
 stays : (p : Plan) (i n : ℕ) (c : Core) → IsAtRest c i → run p c (replicate n (quiet i)) ≡ c
 stays p i zero c h = refl
-stays p i (suc n) c h = ap (λ (d : Core). run p d (replicate n (quiet i))) (rests p c (quiet i) h) ∙ stays p i n c h
+stays p i (suc n) c h = ap (λ (d : Core). run p d (replicate n (quiet i))) (rest_still p c (quiet i) h) ∙ stays p i n c h
 
 -- ticks of one seat, until it has no step left
 pub one_rest : (p : Plan) (i n m : ℕ) (c : Core) → IsAtRest (run p c (replicate n (quiet i))) i → IsAtRest (run p c (replicate m (quiet i))) i → run p c (replicate n (quiet i)) ≡ run p c (replicate m (quiet i))
@@ -96,10 +73,10 @@ module _ (script : List Item) (turns : List Turn) (a b : Core) (h : IsRunWithCal
   to_behind = ap (λ (c : Core). run q c h.scheduled) same_setup ∙ by_schedule.0
 
   first_way : played script h.setup (h.scheduled ++ h.later) ≡ run q behind h.later
-  first_way = ran_on q (set_up script h.setup) h.scheduled h.later ∙ ap (λ (c : Core). run q c h.later) to_behind
+  first_way = run_parts q (set_up script h.setup) h.scheduled h.later ∙ ap (λ (c : Core). run q c h.later) to_behind
 
   other_way : played script k.setup (k.scheduled ++ k.later) ≡ run q behind k.later
-  other_way = ran_on q begun k.scheduled k.later
+  other_way = run_parts q begun k.scheduled k.later
 
   settles : (c : Core) (xs ys : List Moment) → Settles script c xs → Settles script c ys → told_in q c xs ≡ told_in q c ys → run q c xs ≡ run q c ys
   settles c xs ys s t e = (one_settling (Unit {0}) (λ u. asked) all_heard script c xs ys (λ u. []) (λ u. []) s t (λ u. append-nil (told_in q c xs) ∙ e ∙ sym (append-nil (told_in q c ys)))).0

@@ -19,6 +19,7 @@ use Rattle.seat_programs.specs.Cores.{Calls, Core, SeatState, with_seat}
 use Rattle.sock_runs.specs.program_steps.specs.Fits.{FitsFound}
 use Rattle.sock_runs.specs.program_steps.specs.GoesOn.{GoesOn}
 use Rattle.sock_runs.specs.program_steps.specs.Lasts.{STALE, CHANGE, ERROR, attempt_cost, advance_gain, popped_gain, fresh, expects, stale_cost, ids_left, IsCountedStep, LastsFor, Lasts}
+use Rattle.sock_runs.specs.program_steps.proofs.Cases.{given_waiting}
 use Rattle.runs_end.proofs.IdCosts.{Falls}
 use Rattle.runs_end.proofs.SeatCosts.{IsThere}
 use Rattle.runs_end.proofs.AsideTicks.{made_counts, ended_counts, locked_counts, queued_counts, unlocked_counts, tag_same, call_same, at_counts}
@@ -35,10 +36,6 @@ IsLate other found paid old = paid ≡ 0
 given_plan : (k : ℕ) (t : Taking) (a : Calls) → (more_given k t a).plan ≡ a.plan
 given_plan k (Bytes bytes) a = refl
 given_plan k _ a = refl
-
-given_waiting : (k : ℕ) (t : Taking) (a : Calls) → (more_given k t a).waiting ≡ a.waiting
-given_waiting k (Bytes bytes) a = refl
-given_waiting k _ a = refl
 
 given_words : (k : ℕ) (t : Taking) (a : Calls) (j : ℕ) → slice_index (more_given k t a).words (id_index j) ≡ slice_index a.words (id_index j)
 given_words k (Bytes bytes) a j = refl

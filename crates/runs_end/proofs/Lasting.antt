@@ -31,7 +31,6 @@ use Rattle.sock_steps.specs.slot_steps.proofs.Sums.{total-set}
 use Rattle.sock_steps.specs.slot_steps.proofs.Numbers.{only-same}
 use Rattle.sock_steps.specs.chain_steps.proofs.Few.{few_rights}
 use Rattle.sock_steps.proofs.Maps.{set_at}
-use Rattle.sock_runs.proofs.Along.{place_inside}
 use Rattle.sock_steps.proofs.AcceptSteps.{link_in, idle_home}
 use Rattle.sock_steps.proofs.Walked.{walk_less, turn_less, accepted_count}
 use Rattle.seat_programs.specs.Writings.{Holder, Writing, Puts, Waits, Empties, Walks}
@@ -41,6 +40,7 @@ use Rattle.seat_programs.specs.Heads.{Retry}
 use Rattle.seat_programs.specs.Sends.{block}
 use Rattle.seat_programs.specs.corr_core.specs.Word.{parts}
 use Rattle.seat_programs.specs.corr_core.specs.declared.marks.Plan.{Plan as IdPlan}
+use Rattle.seat_programs.specs.corr_core.proofs.Notes.{at_length}
 use Rattle.seat_programs.specs.id_rule.specs.Lawful.{id_index}
 use Rattle.seat_programs.specs.Cores.{Calls, Core, SeatState, resolved, still_waiting, waiting_at, found_at, words_after, homes_after, hand_after, lies_at, first_of, others_of, link_place, with_seat, next_step, stepped}
 use Rattle.seat_programs.specs.StepTables.{word_of, word_after}
@@ -191,7 +191,7 @@ module _ (p : Plan) (c : Core) (vs : List View) (n : ℕ) (lasts : Lasts p c vs 
   )
     where
       here : {A : Type 0} (l : List A) (a b : A) → get_elem? l i ≡ some b → get_elem? (set l i a) i ≡ some a
-      here l a b e = set_at l i a (place_inside l i b e)
+      here l a b e = set_at l i a (at_length l i b e)
 
       other : {A : Type 0} (l : List A) (j : ℕ) (a b : A) → j ≢ i → get_elem? (set l i a) j ≡ some b → get_elem? l j ≡ some b
       other l j a b ne e = ⊎_elim (λ x. absurd (ne x.0)) (λ x. x.1) (at_set l i j a b e)

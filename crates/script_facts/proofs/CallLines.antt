@@ -68,7 +68,7 @@ abbrev make_call : List (List ℕ) → List ℕ → List ℕ → List ℕ × Lis
 make_call ns s m bytes retry = record { names = ns; service = s; method = m; payload = bytes.0; attachment = bytes.1; retry = retry }
 
 -- one part more, each of which is in its range
-part_with : {A B : Type 0} (f : Reads (A → B)) (r : Reads A) (P : A → Type 0) (Q : B → Type 0) → IfOk f (λ g. (a : A) → P a → Q (g a)) → IfOk r P → IfOk (f <*> r) Q
+pub part_with : {A B : Type 0} (f : Reads (A → B)) (r : Reads A) (P : A → Type 0) (Q : B → Type 0) → IfOk f (λ g. (a : A) → P a → Q (g a)) → IfOk r P → IfOk (f <*> r) Q
 part_with (Ok g) (Ok a) P Q h l = h a l
 part_with (Ok g) (Err k) P Q h l = tt
 part_with (Err j) (Ok a) P Q h l = tt

@@ -33,11 +33,11 @@ parts_short a b c x y z p q r = omega (arith, length-append (a ++ b) c, length-a
 nothing_short : (a b : List ℕ) (x : ℕ) → length a ≤ x → b ≡ [] → length (a ++ b) ≤ x
 nothing_short a b x p none_ = omega (arith, length-append a b, p, ap length none_)
 
-request_short : (service method : List ℕ) → length service ≤ 64 → length method ≤ 64 → length (request_bytes (record { service = service; method = method; log_id = None })) ≤ 168
+pub request_short : (service method : List ℕ) → length service ≤ 64 → length method ≤ 64 → length (request_bytes (record { service = service; method = method; log_id = None })) ≤ 168
 request_short service method s m = let a = bytes_short 1 service in let b = bytes_short 2 method in
     omega (arith, s, m, parts_short (bytes_field 1 service) (bytes_field 2 method) [] (20 + length service) (20 + length method) 0 a b (omega arith))
 
-meta_short : (service method : List ℕ) (id size : ℕ) → length service ≤ 64 → length method ≤ 64
+pub meta_short : (service method : List ℕ) (id size : ℕ) → length service ≤ 64 → length method ≤ 64
     → length (meta_bytes (record { request = Some (record { service = service; method = method; log_id = None }); response = None; compress_type = pos 0; correlation_id = id; attachment_size = pos size })) ≤ 228
 meta_short service method id size s m = let r : List ℕ = request_bytes (record { service = service; method = method; log_id = None }) in
     let a = bytes_short 1 (request_bytes (record { service = service; method = method; log_id = None })) in

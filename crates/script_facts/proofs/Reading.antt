@@ -42,7 +42,7 @@ of_two make (Ok a) (Err k) P g h = tt
 of_two make (Err j) (Ok b) P g h = tt
 of_two make (Err j) (Err k) P g h = tt
 
-of_then : {A B : Type 0} (r : Reads A) (f : A → Reads B) (P : A → Type 0) (Q : B → Type 0) → IfOk r P → ((a : A) → P a → IfOk (f a) Q) → IfOk (r >>= f) Q
+pub of_then : {A B : Type 0} (r : Reads A) (f : A → Reads B) (P : A → Type 0) (Q : B → Type 0) → IfOk r P → ((a : A) → P a → IfOk (f a) Q) → IfOk (r >>= f) Q
 of_then (Ok a) f P Q h g = g a h
 of_then (Err k) f P Q h g = tt
 
@@ -69,12 +69,12 @@ first_reads (n ∷ []) = of_then (number_in 0 4294967292 n) _ (λ v. (0 ≤ v) �
     (λ v h. by_test (v % 2 == 0) (Ok (First v)) (Err 4) InRange (λ e. (h.1, grind (arith, common_steps, e))) (λ e. tt))
 first_reads (n ∷ m ∷ more) = tt
 
-either_way : {A : Type 0} (b : Bool) (x y : Reads A) (P : A → Type 0) → IfOk x P → IfOk y P → IfOk (if b then x else y) P
+pub either_way : {A : Type 0} (b : Bool) (x y : Reads A) (P : A → Type 0) → IfOk x P → IfOk y P → IfOk (if b then x else y) P
 either_way true x y P g h = g
 either_way false x y P g h = h
 
 -- one part more, of which what is read doesn't depend
-one_part : {A B : Type 0} (f : Reads (A → B)) (r : Reads A) (Q : B → Type 0) → IfOk f (λ g. (a : A) → Q (g a)) → IfOk (f <*> r) Q
+pub one_part : {A B : Type 0} (f : Reads (A → B)) (r : Reads A) (Q : B → Type 0) → IfOk f (λ g. (a : A) → Q (g a)) → IfOk (f <*> r) Q
 one_part (Ok g) (Ok a) Q h = h a
 one_part (Ok g) (Err k) Q h = tt
 one_part (Err j) (Ok a) Q h = tt

@@ -29,7 +29,7 @@ one_few : (b : Bool) (m n : ℕ) → (b && nat_le m n) ≡ false → n ≤ m →
 one_few true m n e h = grind (arith, nat_tests, e)
 one_few false m n e h = omega (arith, h)
 
-all_more : {A : Type 0} (P : A → Type 0) (xs : List A) (x : A) → AllByRecursion P xs → P x → AllByRecursion P (xs ++ x ∷ [])
+pub all_more : {A : Type 0} (P : A → Type 0) (xs : List A) (x : A) → AllByRecursion P xs → P x → AllByRecursion P (xs ++ x ∷ [])
 all_more P [] x h g = (g, tt)
 all_more P (y ∷ ys) x h g = (h.0, all_more P ys x h.1 g)
 

@@ -11,7 +11,7 @@ use Rattle.seat_programs.specs.Runs.{IsAtRest}
 use Rattle.seat_programs.specs.Scripts.{IsRunWithCalls, all_tasks, is_callless, is_later, played}
 use Rattle.seat_programs.specs.Tasks.{Numbered, calls, id_plan_of, numbered}
 use Rattle.calm_runs.specs.Below.outcome_stories.specs.Facts.{late_of_run, late_links_of_run}
-use Rattle.calm_runs.specs.sock_runs.proofs.Along.{place_inside, seat_rests}
+use Rattle.calm_runs.specs.sock_runs.proofs.Along.{seat_rests}
 use Rattle.calm_runs.specs.program_walks.proofs.Whole.{rested_ahead}
 use Rattle.calm_runs.specs.Below.joint_runs.proofs.Runs.{first_views}
 use Rattle.calm_runs.specs.Below.report_fits.proofs.Callless.{not_later}
@@ -22,6 +22,7 @@ use Rattle.calm_runs.specs.Below.accept_counts.proofs.Early.{start, go, fitting}
 use Rattle.calm_runs.specs.Below.accept_counts.proofs.Rests as rests
 use Rattle.calm_runs.specs.Below.run_theorems.proofs.Starts.{made}
 use Rattle.calm_runs.proofs.Nothing.{nothing_behind}
+use Rattle.seat_programs.specs.corr_core.proofs.Notes.{at_length}
 
 -- ## No calls, and no id slot
 
@@ -53,4 +54,4 @@ module _ (bytes : List ℕ) (script : List Item) (reads : script_of bytes ≡ Ok
   pub nothing_late : (late_links_of_run script turns core is ≡ []) × (late_of_run script turns core is ≡ [])
   nothing_late = let m = made bytes script reads in nothing_behind script m turns core is (λ i low seat at.
       seat_rests (played script is.setup (is.scheduled ++ is.later)) (rested_ahead script m.are (first_views script) (start script m turns core is) (go script m turns core is) turns core is (fitting script m turns core is))
-      i (rests.clients_rest script m turns core is (no_slot script callless) i low (place_inside (played script is.setup (is.scheduled ++ is.later)).seats i seat at)) seat at)
+      i (rests.clients_rest script m turns core is (no_slot script callless) i low (at_length (played script is.setup (is.scheduled ++ is.later)).seats i seat at)) seat at)

@@ -24,7 +24,8 @@ use Rattle.seat_programs.specs.Ticks.{Moment, AreAnswered, IsAlwaysReady, quiet,
 use Rattle.seat_programs.specs.Scripts.{sizes_of, all_tasks, opened, set_up, played, IsRunWithCalls}
 use Rattle.seat_programs.specs.ToldCalls.{Accepted, StandsOn, IsUnordered, IsFailing, WasFull}
 use Rattle.dropped_calls.specs.Below.programs_allowed.specs.program_steps.specs.Sound.{Sound, AreFitting, views_after, views_along}
-use Rattle.dropped_calls.specs.Below.programs_allowed.specs.sock_runs.proofs.Along.{seat_rests, place_inside}
+use Rattle.dropped_calls.specs.Below.programs_allowed.specs.program_steps.proofs.Cases.{elem_there}
+use Rattle.dropped_calls.specs.Below.programs_allowed.specs.sock_runs.proofs.Along.{seat_rests}
 use Rattle.dropped_calls.specs.Below.programs_allowed.specs.sock_runs.proofs.LinkTicks.{RetriesGo}
 use Rattle.dropped_calls.specs.Below.programs_allowed.specs.sock_runs.proofs.Ticks.{sound_ticks}
 use Rattle.dropped_calls.specs.Below.programs_allowed.specs.program_walks.proofs.Whole.{closing_of, views_played, views_closed, set_up_answered, end_answered, rested_ahead, set_up_sound, played_sound, closing_sound, closed_sound, closed_ahead}
@@ -37,7 +38,6 @@ use Rattle.dropped_calls.specs.Below.outcome_stories.proofs.Members.{in_contains
 use Rattle.dropped_calls.specs.Below.outcome_causes.proofs.Messages.{each_made}
 use Rattle.dropped_calls.specs.Below.outcome_causes.proofs.Plain.{in_both, in_left, in_right}
 use Rattle.dropped_calls.specs.Below.outcome_stories.proofs.Senders.{sent_stands}
-use Rattle.dropped_calls.specs.Below.outcome_ticks.proofs.Ticks.{elem_there}
 use Rattle.dropped_calls.specs.Below.joint_runs.proofs.Runs.{AreMade, first_views}
 use Rattle.dropped_calls.specs.Below.call_owing.specs.Lives.{ClosesInRun}
 use Rattle.dropped_calls.specs.Below.call_stories.specs.Lists.{shows_in}
@@ -62,6 +62,7 @@ use Rattle.send_causes.proofs.ClosedLostPrograms.{Mode, Free, Goes}
 use Rattle.send_causes.proofs.ClosedLostTicks.{Entered, Works, AreTaken, Ended, Fate, word_link, word_attempt}
 use Rattle.send_causes.proofs.ClosedLostRuns.{Behind, run_fates, run_entered, none_closing, AllFree, begins_free, rests_free, waits_free}
 use Rattle.dropped_calls.specs.accept_counts.proofs.Grounds.{setting, stages}
+use Rattle.corr_core.proofs.Notes.{at_length}
 
 -- ## Lists
 
@@ -134,7 +135,7 @@ module _ (script : List Item) (made : AreMade script) (turns : List Turn) (core 
 
   -- then no seat is at an attempt
   rested_mode : (j : ℕ) (seat : SeatState) → get_elem? rested.seats j ≡ some seat → (m : Mode) → Goes (plan_of script).requests m seat.program → m ≡ Free
-  rested_mode j seat at m g = by (still script made turns core is j (place_inside rested.seats j seat at))
+  rested_mode j seat at m g = by (still script made turns core is j (at_length rested.seats j seat at))
     where
       by : IsAtRest (played script is.setup (is.scheduled ++ is.later)) j ⊎ ((w : Moment) × (w.seat ≡ j) × IsAlwaysReady w × (waits (plan_of script) (played script is.setup (is.scheduled ++ is.later)) w ≡ true)) → m ≡ Free
       by (inl rest) = rests_free (plan_of script).requests m (subst (Goes (plan_of script).requests m)

@@ -36,22 +36,18 @@ use Rattle.seat_programs.specs.StepsOfChain.{exchanged, ready_claim}
 use Rattle.seat_programs.specs.StepsOfMessages.{filled_claim, took_message}
 use Rattle.seat_programs.specs.StepsOfLinks.{link_away, link_home_again, took_bytes}
 use Rattle.dropped_calls.specs.Below.programs_allowed.specs.program_steps.specs.Sound.{Sound, IsFitting, first_step, views_with, views_of, views_after}
-use Rattle.dropped_calls.specs.Below.programs_allowed.specs.program_steps.proofs.Cases.{with_rights, right_rights, put_rights}
+use Rattle.dropped_calls.specs.Below.programs_allowed.specs.program_steps.proofs.Cases.{with_rights, right_rights, put_rights, tick_cases, elem_there, ticks_first, views_first, calls_waiting}
 use Rattle.dropped_calls.specs.Below.programs_allowed.specs.program_steps.proofs.Leaves.{claim_way}
 use Rattle.dropped_calls.specs.Below.programs_allowed.specs.sock_runs.proofs.LinksStay.{IsGiven, run_given, finds_given}
 use Rattle.dropped_calls.specs.Below.programs_allowed.specs.sock_runs.proofs.LinkTicks.{RetriesGo}
 use Rattle.dropped_calls.specs.Below.outcome_stories.specs.Stories.{In}
-use Rattle.dropped_calls.specs.Below.outcome_stories.proofs.Cases.{tick_cases}
-use Rattle.dropped_calls.specs.Below.outcome_causes.proofs.Final.{at_within}
 use Rattle.dropped_calls.specs.Below.outcome_causes.proofs.Plain.{in_left, in_right}
-use Rattle.dropped_calls.specs.Below.outcome_ticks.proofs.Ticks.{elem_there}
 use Rattle.dropped_calls.specs.accept_counts.specs.EndedCalls.{Store, stores_by, stored_at}
 use Rattle.dropped_calls.specs.accept_counts.specs.Refused.{Deed, DidStep, DidAt}
-use Rattle.dropped_calls.specs.accept_counts.proofs.Readings.{ticks_first, views_first}
 use Rattle.dropped_calls.specs.refused_attempts.proofs.RefusedMeans.{IsSo, did_so, tick_keeps}
-use Rattle.dropped_calls.specs.accept_counts.proofs.Ticks.{calls_waiting}
 use Rattle.dropped_calls.specs.accept_counts.proofs.Views.{row_same}
 use Rattle.send_causes.proofs.ClosedLostPrograms.{Try, Mode, Free, Held, Linked, Stored, Claims, Claimed, Filled, Marked, Goes, goes_first, goes_next}
+use Rattle.corr_core.proofs.Notes.{at_length}
 
 -- ## Accepted messages
 
@@ -301,7 +297,7 @@ module _ (f s k n : ℕ) (link : k < 65535) (few : n ≤ 6) where
 -- a seat has another view, or none other
 entered_set : (o n : ℕ) (vs : List View) (i : ℕ) (v w : View) → get_elem? vs i ≡ some v → (HasEntry o n v → HasEntry o n w) → Entered o n vs → Entered o n (set vs i w)
 entered_set o n vs i v w here f (j, u, at, h) = dite (ℕ_discrete j i)
-    (λ e. let same : u ≡ v = some-injective u v (sym at ∙ (ap (get_elem? vs) e ∙ here)) in (i, w, set_here vs i w (at_within vs i v here), f (subst (HasEntry o n) same h)))
+    (λ e. let same : u ≡ v = some-injective u v (sym at ∙ (ap (get_elem? vs) e ∙ here)) in (i, w, set_here vs i w (at_length vs i v here), f (subst (HasEntry o n) same h)))
     (λ ne. (j, u, set_else vs i j w ne ∙ at, h))
 
 -- ## Ticks
@@ -314,8 +310,8 @@ module _ (p : Plan) (Old : ℕ → ℕ → Type 0) (retries : RetriesGo p) (c : 
   entered_tick : (o n : ℕ) → Entered o n vs → Entered o n (views_after p c vs mo)
   entered_tick o n = tick_cases p c vs mo sound answered (λ d ws. Entered o n vs → Entered o n ws) (λ e. e)
       (λ seat v call next at here is goes. entered_set o n vs mo.seat v (row p call (found_at c.words (word_of p call)) (hand_at p c.words c.homes call) v) here (row_entry o n p v (found_at c.words (word_of p call)) (hand_at p c.words c.homes call) call))
-      (λ seat v r next heading bytes at here is goes. rights_entered o n v (took_message heading bytes v) here (right_rights v v.rights (λ x. taken_right x heading bytes)))
-      (λ seat v k next m at here is goes. rights_entered o n v (link_away v) here (right_rights v v.rights (λ x. record x { at_home = false })))
+      (λ seat v r next heading bytes at here is goes lies. rights_entered o n v (took_message heading bytes v) here (right_rights v v.rights (λ x. taken_right x heading bytes)))
+      (λ seat v k next took m at here is goes lies. rights_entered o n v (link_away v) here (right_rights v v.rights (λ x. record x { at_home = false })))
       (λ seat v k m after at here is goes. rights_entered o n v (link_home_again v) here (right_rights v v.rights (λ x. record x { at_home = true })))
       (λ seat v k asked bytes next answer at here is goes answer_is fits. rights_entered o n v (took_bytes answer v) here (put_rights v answer))
       (λ seat v k next answer at here is goes answer_is e. e)
@@ -342,10 +338,10 @@ module _ (p : Plan) (Old : ℕ → ℕ → Type 0) (retries : RetriesGo p) (c : 
       first_goes m g = goes_first p.requests p v m seat.program (sound.seats mo.seat seat v at here).goes_on g
 
       new_seat : get_elem? d.seats mo.seat ≡ some new
-      new_seat = ap (λ l. get_elem? l mo.seat) seats_are ∙ set_here c.seats mo.seat new (at_within c.seats mo.seat seat at)
+      new_seat = ap (λ l. get_elem? l mo.seat) seats_are ∙ set_here c.seats mo.seat new (at_length c.seats mo.seat seat at)
 
       new_view : get_elem? ws mo.seat ≡ some w
-      new_view = ap (λ l. get_elem? l mo.seat) views_are ∙ set_here vs mo.seat w (at_within vs mo.seat v here)
+      new_view = ap (λ l. get_elem? l mo.seat) views_are ∙ set_here vs mo.seat w (at_length vs mo.seat v here)
 
       stands : AllStand p Old d ws
       stands j s u at_j at_u = ⊎_elim
@@ -375,9 +371,9 @@ module _ (p : Plan) (Old : ℕ → ℕ → Type 0) (retries : RetriesGo p) (c : 
     pub tick_stands : Behind (ticked p c mo) (views_after p c vs mo)
     tick_stands = tick_cases p c vs mo sound answered (λ d ws. Keeps p Old c vs d ws → Behind d ws) (λ keeps. (all, λ o n k f. f))
         (λ seat v call next at here is goes keeps. behind seat v at here _ _ keeps (next (found_at c.words (word_of p call))) (hand_after p call c.homes seat.hand) (row p call (found_at c.words (word_of p call)) (hand_at p c.words c.homes call) v) (waiting_at c.calls.waiting mo.seat) (sound.waiting mo.seat) refl refl
-        (λ m g knows. step_next p Old c vs _ _ keeps sound mo v here fresh call next m (subst (Goes p.requests m) is g) knows goes.0 (refl, seat, next, at, is, refl) (set_here vs mo.seat (row p call (found_at c.words (word_of p call)) (hand_at p c.words c.homes call) v) (at_within vs mo.seat v here))))
-        (λ seat v r next heading bytes at here is goes keeps. plain seat v (TakeMessage r next) at here is _ _ keeps (next heading bytes) seat.hand (took_message heading bytes v) refl refl (λ g. g heading bytes) tt)
-        (λ seat v k next n at here is goes keeps. plain seat v (TakeHome k next) at here is _ _ keeps (next n) (lies_at c.homes (link_place p k) ++ seat.hand) (link_away v) refl refl (λ g. g n) tt)
+        (λ m g knows. step_next p Old c vs _ _ keeps sound mo v here fresh call next m (subst (Goes p.requests m) is g) knows goes.0 (refl, seat, next, at, is, refl) (set_here vs mo.seat (row p call (found_at c.words (word_of p call)) (hand_at p c.words c.homes call) v) (at_length vs mo.seat v here))))
+        (λ seat v r next heading bytes at here is goes lies keeps. plain seat v (TakeMessage r next) at here is _ _ keeps (next heading bytes) seat.hand (took_message heading bytes v) refl refl (λ g. g heading bytes) tt)
+        (λ seat v k next took n at here is goes lies keeps. plain seat v (TakeHome k next) at here is _ _ keeps (next n) (lies_at c.homes (link_place p k) ++ seat.hand) (link_away v) refl refl (λ g. g n) tt)
         (λ seat v k n after at here is goes keeps. plain seat v (PutHome k n after) at here is _ _ keeps after (others_of seat.hand) (link_home_again v) refl refl (λ g. g) tt)
         (λ seat v k asked bytes next answer at here is goes answer_is fits keeps. plain seat v (PutBytes k asked bytes next) at here is _ _ keeps (next answer) (onto_first (fed bytes answer) seat.hand) (took_bytes answer v) refl refl (λ g. g answer) tt)
         (λ seat v k next answer at here is goes answer_is keeps. plain seat v (AskReady k next) at here is _ _ keeps (next answer) seat.hand v refl (sym (set_again vs mo.seat v here)) (λ g. g answer) tt)
@@ -409,7 +405,7 @@ module _ (p : Plan) (Old : ℕ → ℕ → Type 0) (retries : RetriesGo p) (c : 
         mo.seat,
         stored,
         v,
-        ap (λ (d : Core). get_elem? d.seats mo.seat) ticked_is ∙ set_here c.seats mo.seat stored (at_within c.seats mo.seat seat at),
+        ap (λ (d : Core). get_elem? d.seats mo.seat) ticked_is ∙ set_here c.seats mo.seat stored (at_length c.seats mo.seat seat at),
         ap (λ l. get_elem? l mo.seat) (views_stay v at_view) ∙ at_view,
         Stored t k,
         goes_next p.requests (Stored t k) (waiting_at c.calls.waiting mo.seat) (next at_slot) (sound.waiting mo.seat) (g.2 at_slot),

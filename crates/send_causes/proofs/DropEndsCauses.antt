@@ -13,6 +13,7 @@ use Rattle.sock_words.specs.Words.{socket_id_slot, socket_id_version}
 use Rattle.sock_words.specs.declared.plain.Plan.{Plan}
 use Rattle.sock_model.specs.Layout.{open_index}
 use Rattle.corr_core.specs.Word.{code_of, attempt_of}
+use Rattle.corr_core.proofs.Notes.{at_length}
 use Rattle.seat_programs.specs.declared.task.Op.TheVariants as ops
 use Rattle.seat_programs.specs.declared.task.Task.{Task}
 use Rattle.seat_programs.specs.Cores.{Core}
@@ -22,7 +23,6 @@ use Rattle.seat_programs.specs.Ticks.{run, quiet}
 use Rattle.seat_programs.specs.Scripts.{all_tasks, opened, set_up, played, IsRunWithCalls}
 use Rattle.seat_programs.specs.ToldCalls.{Order, Fixed, IsSent, GaveFault}
 use Rattle.dropped_calls.specs.Below.programs_allowed.specs.program_steps.specs.Sound.{views_along}
-use Rattle.dropped_calls.specs.Below.programs_allowed.specs.sock_runs.proofs.Along.{place_inside}
 use Rattle.dropped_calls.specs.Below.programs_allowed.specs.program_walks.proofs.LinksOpening.{OpensLink}
 use Rattle.dropped_calls.specs.Below.programs_allowed.specs.program_walks.proofs.Whole.{closing_of, views_played, views_closed, views_ended, set_up_sound, closing_sound, closed_sound, end_answered}
 use Rattle.dropped_calls.specs.Below.outcome_stories.specs.Causes.{WasGiven}
@@ -111,7 +111,7 @@ module _ (script : List Item) (made : AreMade script) (turns : List Turn) (core 
           by j h given_ (inl other) = absurd (other code)
           by j h given_ (inr r) = subst (GaveFault p clients core.outcomes fixed (given core) orders) (own_link r.link r.operation r.id j h d.link r.at r.word r.socket r.slot r.version given_)
               (⊎_elim (λ a. absurd (let e = a.0 in omega (arith, e, code))) (λ b. ⊎_elim (λ a. absurd (let e = a.0 in omega (arith, e))) (λ f. f.1)
-              (ended_so script made turns core is bytes reads r.link (let low = place_inside (opens script) r.link r.operation r.at in let many = (let k = known script made turns core is in k.as_many) in omega (arith, low, many)) 2002 (inr (refl, b.1)))) r.codes)
+              (ended_so script made turns core is bytes reads r.link (let low = at_length (opens script) r.link r.operation r.at in let many = (let k = known script made turns core is in k.as_many) in omega (arith, low, many)) 2002 (inr (refl, b.1)))) r.codes)
 
       module _ (last : ℕ → ℕ) (sent : (k : ℕ) → k < p.links → AllByRecursion (IsSent p clients core.outcomes fixed (given core) orders last k) (orders k).accepted) where
         -- why an error was posted for a dropped message, where its code isn't that of the end of a reading

@@ -14,6 +14,7 @@ use Rattle.sock_words.specs.Words.{socket_id, socket_id_slot, socket_id_version}
 use Rattle.sock_model.specs.declared.view.View.{View}
 use Rattle.sock_model.specs.Layout.{open_index}
 use Rattle.corr_core.specs.Word.{error_of, code_of, attempt_of}
+use Rattle.corr_core.proofs.Notes.{at_length}
 use Rattle.sock_message.specs.Asked.{Asked}
 use Rattle.seat_programs.specs.declared.task.Op.TheVariants as ops
 use Rattle.seat_programs.specs.Told.{IsTask}
@@ -25,7 +26,6 @@ use Rattle.seat_programs.specs.Tasks.{opens, calls, plan_of}
 use Rattle.seat_programs.specs.Scripts.{IsRunWithCalls}
 use Rattle.seat_programs.specs.ToldCalls.{IsSent, Gave, IsResponse, IsPlaced, StandsOn}
 use Rattle.dropped_calls.specs.Below.programs_allowed.specs.program_steps.specs.Sound.{first_step}
-use Rattle.dropped_calls.specs.Below.programs_allowed.specs.sock_runs.proofs.Along.{place_inside}
 use Rattle.dropped_calls.specs.Below.programs_allowed.specs.program_walks.proofs.Whole.{IsListed, views_closed, views_ended, closed_sound, recorded_closed}
 use Rattle.dropped_calls.specs.Below.outcome_stories.specs.Causes.{WasGiven}
 use Rattle.dropped_calls.specs.Below.outcome_causes.proofs.Final.{at_there}
@@ -87,7 +87,7 @@ module _ (script : List Item) (made : AreMade script) (turns : List Turn) (core 
       )
         where
           place : o.link < length (opens script)
-          place = place_inside (opens script) o.link o.operation o.at
+          place = at_length (opens script) o.link o.operation o.at
 
           of_seat : (seat : SeatState) × (get_elem? core.seats (32 + o.link) ≡ some seat) → IsOver (h₄ script made turns core is o.link)
           of_seat (seat, at) = let v = at_there views (32 + o.link) (let k = end_keeps in let many = k.many in let e = (end_sound script made turns core is closes ids labelled).each in omega (arith, place, many, e)) in

@@ -14,6 +14,7 @@ use Rattle.seat_programs.specs.Calls.{Call}
 use Rattle.seat_programs.specs.Cores.{SeatState}
 use Rattle.seat_programs.specs.Programs.{Program, Do, Aside}
 use Rattle.dropped_calls.specs.Below.programs_allowed.specs.program_steps.specs.Sound.{first_step}
+use Rattle.dropped_calls.specs.Below.programs_allowed.specs.program_steps.proofs.Cases.{elem_there}
 use Rattle.dropped_calls.specs.Below.call_stories.specs.Scenes.{Scene, In, Named, IsTaskOf, HasNoneOf, NoneFound, ToldOf, was_said, was_sent, was_begun, AreTold, Later}
 use Rattle.dropped_calls.specs.Below.call_stories.specs.Says.{Mark, NoneOfSetup, SaysOn}
 use Rattle.dropped_calls.specs.Below.call_stories.specs.Stories.{At, undo, CallStory}
@@ -21,7 +22,7 @@ use Rattle.dropped_calls.specs.Below.story_steps.proofs.Calls.{told_at, open_nam
 use Rattle.dropped_calls.specs.Below.story_steps.proofs.End.{undo_done}
 use Rattle.dropped_calls.specs.Below.call_stories.proofs.Lasting.{own_on}
 use Rattle.dropped_calls.specs.Below.story_steps.proofs.Numbered.{AreNumbered, one_task, listed_or}
-use Rattle.dropped_calls.specs.Below.story_ticks.proofs.Ticks.{IsSetUp, other_there}
+use Rattle.dropped_calls.specs.Below.story_ticks.proofs.Ticks.{IsSetUp}
 use Rattle.dropped_calls.specs.attempted_calls.proofs.AttemptedFacts.{IsOwn, IsStoring}
 
 -- a place of a list of clients that has a task is one of the list
@@ -72,7 +73,7 @@ module _ (p : Plan) (q : IdPlan) (clients : List (List Task)) (gives : ℕ → L
     -- none of the setup's tasks gave the name a socket
     none_of_setup : IsSetUp w.core → (m : Mark) → At ms 0 m → (n : ℕ) → (Named p q clients gives w n → ⊥) → NoneOfSetup p q clients gives w n
     none_of_setup over m at n unnamed t is =
-        let s = other_there ms w.core.seats 0 m (sym story.each) at in
+        let s = elem_there ms w.core.seats 0 m (sym story.each) at in
         let idle = subst (SaysOn p q clients gives w m) (over s.0 s.1) (story.seats 0 s.0 m s.1 at) in
         let placed = story.tasks.placed 0 m at ∙ listed_or clients 0 is.0 is.1 in
         let there : In t m.done = ⊎_elim (λ x. x) (λ x. absurd (subst (In t) idle.1 x)) (undo_done p q clients gives m.done m.todo t (subst (In t) (sym placed) is.2)) in
@@ -98,7 +99,7 @@ module _ (p : Plan) (q : IdPlan) (clients : List (List Task)) (gives : ℕ → L
               let one = same_mark c.4 j c.5 m c.7 at (sym both.0) in subst (λ (x : Mark). In t x.done) one (subst (λ x. In x c.5.done) (sym both.1) c.8)
 
           storing : IsStoring q w.core o id → In t m.done
-          storing s = let n = other_there w.core.seats ms s.seat s.state story.each s.at in
+          storing s = let n = elem_there w.core.seats ms s.seat s.state story.each s.at in
               let may = (subst (SaysOn p q clients gives w n.0) s.is (story.seats s.seat s.state n.0 s.at n.1)).0 in
               -- the call's task is the first that this seat has to do
               let theirs = own_task s.seat n.0 n.1 may.1 (inr (subst (In may.1) (sym may.4) (inl refl))) in

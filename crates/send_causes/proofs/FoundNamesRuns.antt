@@ -12,7 +12,7 @@ use Rattle.seat_programs.specs.Calls.{LoadName}
 use Rattle.seat_programs.specs.Cores.{Core, SeatState}
 use Rattle.seat_programs.specs.Ticks.{Moment, AreAnswered, ticked, run}
 use Rattle.dropped_calls.specs.Below.programs_allowed.specs.program_steps.specs.Sound.{first_step, views_after}
-use Rattle.dropped_calls.specs.Below.outcome_ticks.proofs.Ticks.{elem_there}
+use Rattle.dropped_calls.specs.Below.programs_allowed.specs.program_steps.proofs.Cases.{elem_there}
 use Rattle.dropped_calls.specs.Below.joint_runs.proofs.Both.{AreBoth}
 use Rattle.dropped_calls.specs.Below.call_stories.specs.Lists.{advanced_at}
 use Rattle.dropped_calls.specs.Below.call_stories.specs.Posts.{Post, posted_at}
@@ -23,7 +23,7 @@ use Rattle.dropped_calls.specs.Below.story_ticks.proofs.Allowing.{allows}
 use Rattle.dropped_calls.specs.Below.story_ticks.proofs.Claiming.{HaveSlots}
 use Rattle.dropped_calls.specs.Below.call_stories.proofs.Leading.{run_leads}
 use Rattle.dropped_calls.specs.Below.story_steps.proofs.Numbered.{AreNumbered}
-use Rattle.dropped_calls.specs.Below.story_ticks.proofs.Ticks.{IsSetUp, other_there, story_lasts}
+use Rattle.dropped_calls.specs.Below.story_ticks.proofs.Ticks.{IsSetUp, story_lasts}
 use Rattle.dropped_calls.specs.accept_counts.specs.Refused.{DidMiss, WouldStore, DidAt, DidIn}
 use Rattle.dropped_calls.specs.attempted_calls.proofs.AttemptedFacts.{IsOwn, facts}
 use Rattle.dropped_calls.specs.attempted_calls.proofs.EndedNames.{follows_first}
@@ -77,7 +77,7 @@ module _ (p : Plan) (q : IdPlan) (clients : List (List Task)) (gives : ℕ → L
     missed_now : (c : Core) (k : Owns_ c) (m : Moment) → (m.seat ≢ 0 → IsSetUp c) → (j name o id n : ℕ) → j ≢ 0 → DidAt p c m j (DidMiss name o id n) → Missed_ k.story.scene j name o
     missed_now c k m over j name o id n other x =
         let h = k.story in let seat : SeatState = x.1 in let at : get_elem? h.scene.core.seats j ≡ some x.1 = ap (λ (d : Core). get_elem? d.seats j) h.is ∙ x.3 in
-        let mark = other_there h.scene.core.seats h.marks j x.1 h.story.each at in let first = first_there h.marks j mark.0 mark.1 in let own = own_of c k j x.1 x.3 o id n x.6 in
+        let mark = elem_there h.scene.core.seats h.marks j x.1 h.story.each at in let first = first_there h.marks j mark.0 mark.1 in let own = own_of c k j x.1 x.3 o id n x.6 in
         missed_here p q clients gives numbered h.scene h.marks h.story (subst IsSetUp (sym h.is) (over (λ z. other (sym x.0 ∙ z)))) first.0 first.1 j mark.0 mark.1 x.1 at (LoadName name) x.2 x.4 name o own.0
         (λ named. named.1 (ap (λ (d : Core). get_or d.words (name_index p name) 0) h.is ∙ x.5)) (subst (λ d. IsOwn q d o own.0) (sym h.is) own.1)
 

@@ -39,13 +39,13 @@ use Rattle.send_causes.proofs.DropEndsCauses.{own_link}
 use Rattle.send_causes.proofs.DropEndsOver.{opened_link}
 use Rattle.dropped_calls.proofs.DropOfRun.{ends, DropOf, IsDroppedOn, story_given, dropped_of_run}
 use Rattle.dropped_calls.specs.sent_once.proofs.DropRuns.{IsCalls}
-use Rattle.dropped_calls.specs.sent_once.proofs.DropWhole.{get_same}
 use Rattle.dropped_calls.proofs.LateDropsEnding.{IsNew, IsOfNew, drops_of_new}
 use Rattle.dropped_calls.proofs.LateDropsPosts.{DropPost}
 use Rattle.dropped_calls.proofs.LateDropsWhole.{IsNoEnd, AnyLife, LifeOf, PostOf, BehindClients, BehindEnding, posts_late}
 use Rattle.send_causes.proofs.OwnIds.{labelled_at, would_at, single_at}
 use Rattle.dropped_calls.specs.accept_counts.proofs.Runs.{AreLabelledIn, IsCallOf}
 use Rattle.dropped_calls.specs.sent_once.proofs.Sends.{orders_are}
+use Rattle.dropped_calls.specs.Below.owned_ids.proofs.OpensStored.{place_at}
 
 module _ (script : List Item) (made : AreMade script) (there : AreThere script) (range : AllByRecursion InRange script) (turns : List Turn) (core : Core) (is : IsRunWithCalls script turns core) (closes : ClosesInRun script turns core is)
     (ids : ℕ → ℕ) (labelled : AreLabelledIn ids script turns core is) (would : RunWouldOwn ids script turns core is) where
@@ -120,7 +120,7 @@ module _ (script : List Item) (made : AreMade script) (there : AreThere script) 
 
       -- the message stands dropped on the holder's link
       dropped : IsDroppedOn script made turns core is closes ids labelled call.2.number heading.attempt holder.link
-      dropped = let y = post.drop in dropped_of_run script made turns core is closes ids labelled j call.0 call.2 calls.asked heading.attempt holder.link holder.places y.found (call.1, get_same (all_tasks script) call.0 call.1 call.3, in_contains call.1 call.2 call.4) call.5 calls.few
+      dropped = let y = post.drop in dropped_of_run script made turns core is closes ids labelled j call.0 call.2 calls.asked heading.attempt holder.link holder.places y.found (call.1, place_at (all_tasks script) call.0 call.1 call.3, in_contains call.1 call.2 call.4) call.5 calls.few
           (subst (λ l. DidInRun script turns core is j (DidStep (DropPlace l holder.link holder.places) y.found)) (calls.place ∙ ap (λ o. 8 * o + heading.attempt) (sym number))
           (in_run (DidStep (DropPlace heading.place holder.link holder.places) y.found) (did (DidStep (DropPlace heading.place holder.link holder.places) y.found) y.drop)))
 

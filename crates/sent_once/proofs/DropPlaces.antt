@@ -21,6 +21,7 @@ use Rattle.accept_counts.specs.Below.chain_steps.proofs.Frames.{in_log}
 use Rattle.accept_counts.specs.Below.chain_steps.proofs.Letters.{writes_room}
 use Rattle.accept_counts.specs.Below.chain_steps.proofs.Lists.{at_some, distinct_filter}
 use Rattle.corr_core.specs.declared.marks.Plan.{Plan as IdPlan}
+use Rattle.corr_core.proofs.Notes.{at_length}
 use Rattle.sock_message.specs.Asked.{Asked}
 use Rattle.seat_programs.specs.declared.task.Task.{Task}
 use Rattle.seat_programs.specs.Calls.{Call, ClaimSlot, CreateLife, AddRef, SubRef, SetOdd, Recycle, FreeSlot, StoreLink, LoadLink, ResetHead, ClearCode, StoreCode, StoreName, LoadName, StoreOpen, LoadOpen, LookWord, FindLink, LoadCode, ClaimRequest, Unconnect, SwapHead, Connect, EmptyHead, ReadNext, ReverseNext, FreeRequest, StorePlace, DropPlace}
@@ -32,13 +33,11 @@ use Rattle.seat_programs.specs.StepTables.{May}
 use Rattle.accept_counts.specs.Below.programs_allowed.specs.program_steps.specs.Sound.{state, Sound, IsFitting}
 use Rattle.accept_counts.specs.Below.programs_allowed.specs.program_steps.proofs.Cases.{tick_keeps_marks}
 use Rattle.accept_counts.specs.Below.programs_allowed.specs.sock_runs.proofs.ChainTicks.{turn_inside, free_inside}
-use Rattle.accept_counts.specs.Below.programs_allowed.specs.program_steps.proofs.Passes.{goes_round}
-use Rattle.accept_counts.specs.Below.programs_allowed.specs.program_steps.proofs.Rounds.{begins_round}
 use Rattle.accept_counts.specs.Below.outcome_stories.specs.Causes.{Asks}
 use Rattle.accept_counts.specs.Below.outcome_stories.specs.Explains.{Done, swapped}
 use Rattle.accept_counts.specs.Below.outcome_stories.specs.Kept.{is_of_send, of_sends, undo, IsOfCall as IsOfSpoken, IsOfTask, EndsIn, AreMade, AreMadeNow, IsSpoken, SeatStory, Story}
 use Rattle.accept_counts.specs.Below.outcome_stories.specs.Stories.{Event, In, trace_of}
-use Rattle.accept_counts.specs.Below.outcome_causes.proofs.Final.{at_there, at_within}
+use Rattle.accept_counts.specs.Below.outcome_causes.proofs.Final.{at_there}
 use Rattle.accept_counts.specs.Below.outcome_stories.proofs.Members.{all_in}
 use Rattle.accept_counts.specs.Below.outcome_causes.proofs.Messages.{in_of_at, filter_has}
 use Rattle.accept_counts.specs.Below.outcome_ticks.proofs.Seats.{undo_done, undo_in}
@@ -81,7 +80,7 @@ module _ (p : Plan) (q : IdPlan) (is_call : Asked → Type 0) (ids : ℕ → ℕ
     (ts : List Trial) (law : LabelLaw is_call ids p q c vs ts) where
   -- what the story has of a seat with this view
   seat_of : (i : ℕ) (v : View) → get_elem? vs i ≡ some v → (tasks : List Task) × (slice_get clients i ≡ Some tasks) × (seat : SeatState) × SeatStory p (IsSpoken clients) over es lost c.outcomes i tasks seat.program v
-  seat_of i v at = let seat = at_there c.seats i (omega (arith, at_within vs i v at, sound.each)) in let a = get_of c.seats clients i seat.0 story.each seat.1 in (a.0, a.1, seat.0, story.seats i a.0 seat.0 v a.1 seat.1 at)
+  seat_of i v at = let seat = at_there c.seats i (omega (arith, at_length vs i v at, sound.each)) in let a = get_of c.seats clients i seat.0 story.each seat.1 in (a.0, a.1, seat.0, story.seats i a.0 seat.0 v a.1 seat.1 at)
 
   pub each_made : (i : ℕ) (v : View) → get_elem? vs i ≡ some v → (made : List Entry) × (v.lists ≡ made ∷ [])
   each_made i v at = let s = (seat_of i v at).3.at in (s.made, s.lists)
@@ -212,6 +211,6 @@ module _ (p : Plan) (q : IdPlan) (is_call : Asked → Type 0) (ids : ℕ → ℕ
 
     -- so does a tick
     pub place_stays : l < 8 * p.operations → get_or c.words (place_index p l) 0 ≢ 0 → (m : Moment) → IsAnswered c m → IsFitting p c m → get_or (ticked p c m).words (place_index p l) 0 ≡ get_or c.words (place_index p l) 0
-    place_stays low written m answered fitting = tick_keeps_marks p c vs m sound answered fitting (begins_round p) (goes_round p) (λ d ws. get_or d.words (place_index p l) 0 ≡ get_or c.words (place_index p l) 0) refl
+    place_stays low written m answered fitting = tick_keeps_marks p c vs m sound answered fitting (λ d ws. get_or d.words (place_index p l) 0 ≡ get_or c.words (place_index p l) 0) refl
         (λ seat v call next at_seat at_view is goes. step_keeps m.seat v at_view low written call goes.0)
         (λ seat v program rights hand hs a at_seat at_view comes. refl)

@@ -16,6 +16,7 @@ use Rattle.sock_model.specs.Weights.{is_met}
 use Rattle.accept_counts.specs.Below.sock_steps.proofs.Places.{own_count}
 use Rattle.accept_counts.specs.Below.sock_steps.proofs.RightSteps.{right_in}
 use Rattle.corr_core.specs.declared.marks.Plan.{Plan as IdPlan}
+use Rattle.corr_core.proofs.Notes.{at_length}
 use Rattle.sock_message.specs.Asked.{Asked}
 use Rattle.seat_programs.specs.declared.task.Task.{Task}
 use Rattle.seat_programs.specs.Calls.{Call, CreateLife, LoadCode, DropPlace}
@@ -26,16 +27,14 @@ use Rattle.seat_programs.specs.Told.{AreTasks}
 use Rattle.seat_programs.specs.Writings.{Holder, Puts}
 use Rattle.accept_counts.specs.Below.programs_allowed.specs.program_steps.specs.GoesOn.{GoesOn}
 use Rattle.accept_counts.specs.Below.programs_allowed.specs.program_steps.specs.Sound.{state, Sound, AreFew, IsFitting, AreFitting, first_step, views_after, views_along, MOST_PLACES}
-use Rattle.accept_counts.specs.Below.programs_allowed.specs.program_steps.proofs.Cases.{goes_first}
+use Rattle.accept_counts.specs.Below.programs_allowed.specs.program_steps.proofs.Cases.{goes_first, ticks_first}
 use Rattle.accept_counts.specs.Below.programs_allowed.specs.sock_runs.proofs.Few.{places_small}
 use Rattle.accept_counts.specs.Below.programs_allowed.specs.sock_runs.proofs.LinkTicks.{RetriesGo}
-use Rattle.accept_counts.specs.Below.programs_allowed.specs.program_steps.proofs.Passes.{goes_round}
-use Rattle.accept_counts.specs.Below.programs_allowed.specs.program_steps.proofs.Rounds.{begins_round}
 use Rattle.accept_counts.specs.Below.programs_allowed.specs.sock_runs.proofs.Ticks.{sound_ticks}
 use Rattle.accept_counts.specs.Below.outcome_stories.specs.Causes.{WasGiven}
 use Rattle.accept_counts.specs.Below.outcome_stories.specs.Kept.{IsSpoken, Story}
 use Rattle.accept_counts.specs.Below.outcome_stories.specs.Stories.{Event, In}
-use Rattle.accept_counts.specs.Below.outcome_causes.proofs.Final.{at_there, at_within}
+use Rattle.accept_counts.specs.Below.outcome_causes.proofs.Final.{at_there}
 use Rattle.accept_counts.specs.Below.outcome_ticks.proofs.Events.{event, marked_given, given_by}
 use Rattle.accept_counts.specs.Below.outcome_ticks.proofs.Ticks.{MayMove, IsNew, tick_story}
 use Rattle.accept_counts.specs.Below.label_runs.specs.Labels.{Trial}
@@ -47,7 +46,6 @@ use Rattle.accept_counts.specs.Refused.{Deed, DidStep, DidRound, DidAt, DidIn}
 use Rattle.sent_once.proofs.DropPlaces.{log_calls, in_hand, place_stays}
 use Rattle.sent_once.proofs.DropTicks.{IsKnown, CodesLaw, known_later, codes_ticks}
 use Rattle.sent_once.proofs.DropWords.{held_version, live_none, code_in}
-use Rattle.accept_counts.proofs.Readings.{ticks_first}
 use Rattle.accept_counts.proofs.Ticks.{label_ticks}
 
 -- a tick of a seat is its first step
@@ -122,10 +120,10 @@ module _ (p : Plan) (q : IdPlan) (is_call : Asked → Type 0) (ids : ℕ → ℕ
       Viewed x = (v : View) × (get_elem? vs m.seat ≡ some v) × GoesOn p v x
 
       viewed : (seat : SeatState) → get_elem? c.seats m.seat ≡ some seat → Viewed seat.program
-      viewed seat at = let v = at_there vs m.seat (let i = at_within c.seats m.seat seat at in let e = s.sound.each in omega (arith, i, e)) in (v.0, v.1, (s.sound.seats m.seat seat v.0 at v.1).goes_on)
+      viewed seat at = let v = at_there vs m.seat (let i = at_length c.seats m.seat seat at in let e = s.sound.each in omega (arith, i, e)) in (v.0, v.1, (s.sound.seats m.seat seat v.0 at v.1).goes_on)
 
       first_viewed : (seat : SeatState) → get_elem? c.seats m.seat ≡ some seat → (x : Program) → first_step seat.program ≡ x → Viewed x
-      first_viewed seat at x is = let v = viewed seat at in (v.0, v.1, subst (GoesOn p v.0) is (goes_first p v.0 (begins_round p v.0) (goes_round p v.0) seat.program v.2))
+      first_viewed seat at x is = let v = viewed seat at in (v.0, v.1, subst (GoesOn p v.0) is (goes_first p v.0 seat.program v.2))
 
       -- a code of a socket that was loaded
       load_tells : (seat : SeatState) → get_elem? c.seats m.seat ≡ some seat → (i h : ℕ) (next : ℕ → Program) → first_step seat.program ≡ Do (LoadCode i h) next → (code : ℕ) → code ≡ code_in c.words i → code ≢ 0 → IsKnown clients s.events i h code

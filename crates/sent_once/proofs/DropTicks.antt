@@ -33,14 +33,13 @@ use Rattle.seat_programs.specs.StepTables.{row, hand_at}
 use Rattle.seat_programs.specs.StepsOfMessages.{took_message}
 use Rattle.seat_programs.specs.StepsOfLinks.{link_away, link_home_again, took_bytes}
 use Rattle.accept_counts.specs.Below.programs_allowed.specs.program_steps.specs.Sound.{Sound, first_step, views_after}
+use Rattle.accept_counts.specs.Below.programs_allowed.specs.program_steps.proofs.Cases.{tick_cases}
 use Rattle.accept_counts.specs.Below.sock_steps.proofs.Maps.{set_at}
 use Rattle.accept_counts.specs.Below.outcome_stories.specs.Causes.{Asks}
 use Rattle.accept_counts.specs.Below.outcome_stories.specs.Explains.{Way, Own, Beside, Closing, Done, ExplainsBy, step}
 use Rattle.accept_counts.specs.Below.outcome_stories.specs.Kept.{IsSpoken, IsTraced, SeatStory, Story}
 use Rattle.accept_counts.specs.Below.outcome_stories.specs.Stories.{Entry, Event, In, trace_of, trace_now}
-use Rattle.accept_counts.specs.Below.outcome_stories.proofs.Cases.{tick_cases}
 use Rattle.accept_counts.specs.Below.outcome_ticks.proofs.Events.{event}
-use Rattle.accept_counts.specs.Below.outcome_causes.proofs.Final.{at_within}
 use Rattle.accept_counts.specs.Below.outcome_stories.proofs.Members.{from_trace, to_trace}
 use Rattle.accept_counts.specs.Below.outcome_ticks.proofs.Seats.{undo_in}
 use Rattle.accept_counts.specs.Below.outcome_ticks.proofs.Tasks.{one_task}
@@ -48,6 +47,7 @@ use Rattle.accept_counts.specs.Below.outcome_ticks.proofs.Ticks.{MayMove, IsNew,
 use Rattle.sent_once.proofs.DropCodes.{Failing, NoFail, Fails, IsOtherCode, SaysFailed, Stores, codes_first, codes_next}
 use Rattle.sent_once.proofs.DropSays.{IsInHand, first_numbered, says, sets_here}
 use Rattle.sent_once.proofs.DropWords.{version_in, code_in, coding_version, code_stays}
+use Rattle.corr_core.proofs.Notes.{at_length}
 
 -- ## What is known of codes
 
@@ -262,10 +262,10 @@ module _ (p : Plan) (clients : List (List Task)) (are : AreTasks p clients) (ove
         known j h inside even version some_ = known_later clients es fresh kept j h (code_in words j) (known_behind j h inside even version some_)
 
         seat_there : m.seat < length c.seats
-        seat_there = at_within c.seats m.seat seat at
+        seat_there = at_length c.seats m.seat seat at
 
         view_there : m.seat < length vs
-        view_there = at_within vs m.seat v here
+        view_there = at_length vs m.seat v here
 
         by : Behind mine.0 (IsFailOf clients m.seat) IsOtherCode call next found → CodesLaw clients p stepped_ (set vs m.seat w) fresh
         by (stores_none stores) = reseated fresh kept c.calls (next found) (hand_after p call c.homes seat.hand) words (homes_after p call seat.hand c.homes) (set vs m.seat w) NoFail stores (same_else w) (λ _. tt) known
@@ -284,8 +284,8 @@ module _ (p : Plan) (clients : List (List Task)) (are : AreTasks p clients) (ove
   codes_ticks = tick_cases p c vs m sound answered After
       (λ fresh more told kept new. record { known = λ j h inside even version some_. known_later clients es fresh kept j h (code_in c.words j) (law.known j h inside even version some_); seats = λ j. record { failing = (law.seats j).failing; program = (law.seats j).program; has = others fresh kept c.calls Rest [] [] [] vs NoFail j (λ v at. at) (law.seats j).failing (law.seats j).has } })
       (λ seat v call next at here is goes. step_keeps seat v at here call next is goes.0)
-      (λ seat v r next heading bytes at here is goes. moved c.calls (next heading bytes) seat.hand (set c.homes r none) (set vs m.seat (took_message heading bytes v)) (same_else (took_message heading bytes v)) ((program_of seat at (TakeMessage r next) is).2 heading bytes))
-      (λ seat v k next n at here is goes. moved c.calls (next n) (lies_at c.homes (link_place p k) ++ seat.hand) (set c.homes (link_place p k) none) (set vs m.seat (link_away v)) (same_else (link_away v)) ((program_of seat at (TakeHome k next) is).2 n))
+      (λ seat v r next heading bytes at here is goes lies. moved c.calls (next heading bytes) seat.hand (set c.homes r none) (set vs m.seat (took_message heading bytes v)) (same_else (took_message heading bytes v)) ((program_of seat at (TakeMessage r next) is).2 heading bytes))
+      (λ seat v k next took n at here is goes lies. moved c.calls (next n) (lies_at c.homes (link_place p k) ++ seat.hand) (set c.homes (link_place p k) none) (set vs m.seat (link_away v)) (same_else (link_away v)) ((program_of seat at (TakeHome k next) is).2 n))
       (λ seat v k n after at here is goes. moved c.calls after (others_of seat.hand) (set c.homes (link_place p k) (first_of (onto_first (with_places n) seat.hand))) (set vs m.seat (link_home_again v)) (same_else (link_home_again v)) (program_of seat at (PutHome k n after) is).2)
       (λ seat v k asked bytes next answer at here is goes answer_is fits. moved c.calls (next answer) (onto_first (fed bytes answer) seat.hand) c.homes (set vs m.seat (took_bytes answer v)) (same_else (took_bytes answer v)) ((program_of seat at (PutBytes k asked bytes next) is).2 answer))
       (λ seat v k next answer at here is goes answer_is. moved c.calls (next answer) seat.hand c.homes vs (λ j ne v at. at) ((program_of seat at (AskReady k next) is).2 answer))

@@ -1,8 +1,8 @@
 -- What the steps by which messages were dropped tell at the end of a whole run.
-use Rattle.std.proofs.Common.{true, false, ◌≡◌, ℕ, zero, suc, ◌+◌, ◌≤◌, ◌⊎◌, inl, inr, ⊎_elim, ◌++◌, List, [], ◌∷◌, length, replicate, refl, sym, ap, subst, arith}
+use Rattle.std.proofs.Common.{true, false, ◌≡◌, ℕ, ◌+◌, ◌≤◌, ◌⊎◌, inl, inr, ⊎_elim, ◌++◌, List, [], ◌∷◌, length, replicate, refl, sym, ap, subst, arith}
 use Rattle.std.specs.Prelude.{slice_get, Some}
 use mathlib.Core.Logic.{dite}
-use mathlib.Core.Option.{some, some-injective, some-ne-none}
+use mathlib.Core.Option.{some}
 use native.Mathlib.Decide.{ℕ_discrete}
 use lib.ListN.{get_elem?}
 use Rattle.atomic_table.proofs.Lists.{at_set}
@@ -45,13 +45,9 @@ use Rattle.sent_once.proofs.DropRuns.{Tells, tells_on, Scene, Along, seats_along
 use Rattle.sent_once.proofs.DropTicks.{IsFailOf, SeatCodes, CodesLaw}
 use Rattle.sent_once.proofs.DropWords.{version_in}
 use Rattle.accept_counts.proofs.Runs.{AreLabelledIn, IsCallOf, first, closing_law, closed_law}
+use Rattle.accept_counts.specs.Below.owned_ids.proofs.OpensStored.{place_at}
 
 -- ## How a run begins
-
-pub get_same : {A : Type 0} (xs : List A) (i : ℕ) (x : A) → get_elem? xs i ≡ some x → slice_get xs i ≡ Some x
-get_same [] i x e = absurd (some-ne-none x (sym e))
-get_same (y ∷ xs) zero x e = ap (λ z. Some z) (some-injective y x e)
-get_same (y ∷ xs) (suc i) x e = get_same xs i x e
 
 module _ (script : List Item) (are : AreTasks (plan_of script) (all_tasks script)) where
   -- each `fail` of a client is one that is told
@@ -64,7 +60,7 @@ module _ (script : List Item) (are : AreTasks (plan_of script) (all_tasks script
 
   clients_codes : (j : ℕ) (x : Program) → get_elem? (programs (sizes_of (plan_of script) (id_plan_of script)) (all_tasks script)) j ≡ some x → Stores (IsFailOf (told_tasks_of script) j) IsOtherCode NoFail x
   clients_codes j x at = let sizes : Sizes = sizes_of (plan_of script) (id_plan_of script) in let t = mapped (client_from sizes []) (all_tasks script) j x at in
-      subst (Stores (IsFailOf (told_tasks_of script) j) IsOtherCode NoFail) t.2 (client_codes (IsFailOf (told_tasks_of script) j) IsOtherCode (inl refl) sizes t.0 [] (all_of (λ (u : Task). OwnsFail (IsFailOf (told_tasks_of script) j) IsOtherCode (inl refl) u.number u.op) t.0 (owns_fail j t.0 (get_same (all_tasks script) j t.0 t.1))))
+      subst (Stores (IsFailOf (told_tasks_of script) j) IsOtherCode NoFail) t.2 (client_codes (IsFailOf (told_tasks_of script) j) IsOtherCode (inl refl) sizes t.0 [] (all_of (λ (u : Task). OwnsFail (IsFailOf (told_tasks_of script) j) IsOtherCode (inl refl) u.number u.op) t.0 (owns_fail j t.0 (place_at (all_tasks script) j t.0 t.1))))
 
   all_codes : (j : ℕ) (x : Program) → get_elem? (all_programs (programs (sizes_of (plan_of script) (id_plan_of script)) (all_tasks script)) (readers_from (calls script) 0 (opens script))) j ≡ some x → Stores (IsFailOf (told_tasks_of script) j) IsOtherCode NoFail x
   all_codes j x at = all_begin (Stores (IsFailOf (told_tasks_of script) j) IsOtherCode NoFail) tt (calls script) (λ k o. reader_codes (IsFailOf (told_tasks_of script) j) IsOtherCode (inl refl) (λ code other. other) (calls script) k o)

@@ -34,18 +34,17 @@ use Rattle.seat_programs.specs.Ticks.{Moment, AreAnswered, IsAnswered, quiet, ti
 use Rattle.seat_programs.specs.ToldCalls.{Accepted, label, AreOrders}
 use Rattle.accept_counts.specs.Below.programs_allowed.specs.program_steps.specs.Sound.{state, Sound, IsAhead, IsFitting, AreFitting, AreFew, views_after, first_step}
 use Rattle.accept_counts.specs.Below.programs_allowed.specs.program_steps.specs.GoesOn.{GoesOn, HasNothing}
-use Rattle.accept_counts.specs.Below.programs_allowed.specs.sock_runs.proofs.Along.{seat_rests, place_inside, ticked_ahead}
+use Rattle.accept_counts.specs.Below.programs_allowed.specs.sock_runs.proofs.Along.{seat_rests, ticked_ahead}
 use Rattle.accept_counts.specs.Below.programs_allowed.specs.program_steps.proofs.Cases.{ComesNext, tick_keeps_marks}
 use Rattle.accept_counts.specs.Below.programs_allowed.specs.sock_runs.proofs.LinkTicks.{RetriesGo}
-use Rattle.accept_counts.specs.Below.programs_allowed.specs.program_steps.proofs.Passes.{goes_round}
 use Rattle.accept_counts.specs.Below.programs_allowed.specs.sock_runs.proofs.Quiets.{ticked_seats, ticked_rests}
 use Rattle.accept_counts.specs.Below.programs_allowed.specs.program_walks.proofs.Recorded.{Recorded, recorded_ticks}
-use Rattle.accept_counts.specs.Below.programs_allowed.specs.program_steps.proofs.Rounds.{begins_round}
 use Rattle.accept_counts.specs.Below.programs_allowed.specs.sock_runs.proofs.Ticks.{sound_ticks}
 use Rattle.accept_counts.specs.Below.outcome_stories.proofs.Delivered.{accepted_of, orders_of}
 use Rattle.accept_counts.proofs.Places.{places_ticks}
 use Rattle.accept_counts.proofs.Readings.{rights_none}
 use Rattle.accept_counts.specs.Below.outcome_ticks.proofs.Accepting.{IsNoSwap}
+use Rattle.corr_core.proofs.Notes.{at_length}
 
 -- ## The ending exchanges no head
 
@@ -99,7 +98,7 @@ Ends c vs = (seat : SeatState) (v : View) → get_elem? c.seats 0 ≡ some seat 
 
 module _ (p : Plan) where
   ends_ticks : (c : Core) (vs : List View) (m : Moment) → m.seat ≡ 0 → Sound p c vs → IsAnswered c m → IsFitting p c m → Ends c vs → Ends (ticked p c m) (views_after p c vs m)
-  ends_ticks c vs m own sound answered fitting e = tick_keeps_marks p c vs m sound answered fitting (begins_round p) (goes_round p) Ends e
+  ends_ticks c vs m own sound answered fitting e = tick_keeps_marks p c vs m sound answered fitting Ends e
       (λ seat v call next at_seat at_view is goes s u at at_u. let x = e seat v (sym (ap (get_elem? c.seats) own) ∙ at_seat) (sym (ap (get_elem? vs) own) ∙ at_view) in
       let y = swap_call call next (subst NoSwap is (swap_first seat.program x.0)) in (
         ⊎_elim (λ a. subst (λ (z : SeatState). NoSwap z.program) a.1 (swap_next _ (next _) (y.1 _))) (λ a. absurd (a.0 (sym own))) (at_set c.seats m.seat 0 _ s at),
@@ -113,12 +112,12 @@ module _ (p : Plan) where
   ending_places go l low zero c vs sound answered fitting e = refl
   ending_places go l low (suc n) c vs sound answered fitting e =
       ending_places go l low n (ticked p c (quiet 0)) (views_after p c vs (quiet 0)) (sound_ticks p go c vs (quiet 0) sound answered.0 fitting.0) answered.1 fitting.1 (ends_ticks c vs (quiet 0) refl sound answered.0 fitting.0 e)
-      ∙ places_ticks p l low c vs (quiet 0) sound answered.0 fitting.0 (λ v at. let seat = at_some c.seats 0 (let i = place_inside vs 0 v at in let m = sound.each in omega (arith, i, m)) in (e seat.0 v seat.1 at).1)
+      ∙ places_ticks p l low c vs (quiet 0) sound answered.0 fitting.0 (λ v at. let seat = at_some c.seats 0 (let i = at_length vs 0 v at in let m = sound.each in omega (arith, i, m)) in (e seat.0 v seat.1 at).1)
 
   pub ending_begins : (c : Core) (vs : List View) (os : List ℕ) → Sound p c vs → ((seat : SeatState) → get_elem? c.seats 0 ≡ some seat → seat.program ≡ Rest) → Ends (Rattle.seat_programs.specs.Cores.with_seat 0 (ending_of os) [] c.words c.homes c) vs
   ending_begins c vs os sound rests seat v at at_view = (
     ⊎_elim (λ a. subst (λ (z : SeatState). NoSwap z.program) a.1 (swap_next _ (ending_of os) (swap_ending os))) (λ a. absurd (a.0 refl)) (at_set c.seats 0 0 _ seat at),
-    (let old = at_some c.seats 0 (let i = place_inside vs 0 v at_view in let m = sound.each in omega (arith, i, m)) in
+    (let old = at_some c.seats 0 (let i = at_length vs 0 v at_view in let m = sound.each in omega (arith, i, m)) in
         let n : HasNothing v = subst (GoesOn p v) (rests old.0 old.1) (sound.seats 0 old.0 v old.1 at_view).goes_on in let q = n.quiet in q.rights),
   )
 
@@ -134,7 +133,7 @@ module _ (p : Plan) (calls os : List ℕ) (in_os : (k o : ℕ) → get_elem? os 
       ∙ places_ticks p l low c vs m sound answered.0 fitting.0 none_
     where
       none_ : (v : View) → get_elem? vs m.seat ≡ some v → v.rights ≡ []
-      none_ v at = let inside : m.seat < length c.seats = (let i = place_inside vs m.seat v at in let e = sound.each in omega (arith, i, e)) in let seat = at_some c.seats m.seat inside in
+      none_ v at = let inside : m.seat < length c.seats = (let i = at_length vs m.seat v at in let e = sound.each in omega (arith, i, e)) in let seat = at_some c.seats m.seat inside in
           dite (dec_le 32 m.seat) (λ high. reader_rights p calls os in_os Odd Lasts ends c vs taken k m.seat seat.0 v seat.1 at high)
           (λ lower. let n : HasNothing v = subst (GoesOn p v) (seat_rests c ahead m.seat (rests m.seat (omega (arith, lower)) inside) seat.0 seat.1) (sound.seats m.seat seat.0 v seat.1 at).goes_on in let q = n.quiet in q.rights)
 
@@ -174,7 +173,7 @@ failed_before p c c' vs vs' sound sound' few few' same are k kl less = dite (dec
     by_shown low (one_place k' i' e' kl' il' at' is' w) = by (nat_le (sound.lawful.kept k') i') refl w
       where
         others : i' < 2147483648
-        others = let s = log_small p c vs sound few in let o = on_shorter k' sound.lawful.log in let in' = place_inside (on k' sound.lawful.log) i' e' at' in omega (arith, s, o, in')
+        others = let s = log_small p c vs sound few in let o = on_shorter k' sound.lawful.log in let in' = at_length (on k' sound.lawful.log) i' e' at' in omega (arith, s, o, in')
 
         by : (b : Bool) → nat_le (sound.lawful.kept k') i' ≡ b → get_or c.words (place_index p (label a.0)) 0 ≡ place_value b k' i' → Failed p (state c vs) k
         by true le w = let one : k' ≡ k = (let s = same (label a.0) low in let x = place_low in let y = others in omega (arith, s, word, w, x, y)) in

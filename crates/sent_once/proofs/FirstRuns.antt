@@ -41,15 +41,14 @@ use Rattle.seat_programs.specs.StepsOfChain.{exchanged, ready_claim}
 use Rattle.seat_programs.specs.StepsOfMessages.{filled_claim, took_message}
 use Rattle.seat_programs.specs.StepsOfLinks.{link_away, link_home_again, took_bytes}
 use Rattle.accept_counts.specs.Below.programs_allowed.specs.program_steps.specs.Sound.{Sound, first_step, AreFitting, views_after, views_along}
-use Rattle.accept_counts.specs.Below.programs_allowed.specs.program_steps.proofs.Cases.{with_rights, right_rights, put_rights}
+use Rattle.accept_counts.specs.Below.programs_allowed.specs.program_steps.proofs.Cases.{with_rights, right_rights, put_rights, tick_cases, calls_waiting}
 use Rattle.accept_counts.specs.Below.programs_allowed.specs.program_steps.proofs.Leaves.{claim_way}
 use Rattle.accept_counts.specs.Below.programs_allowed.specs.sock_runs.proofs.LinkTicks.{RetriesGo}
-use Rattle.accept_counts.specs.Below.programs_allowed.specs.program_walks.proofs.Opening.{mapped}
+use Rattle.accept_counts.specs.Below.programs_allowed.specs.program_walks.proofs.Opening.{mapped, all_at}
 use Rattle.accept_counts.specs.Below.programs_allowed.specs.sock_runs.proofs.Ticks.{sound_ticks}
 use Rattle.accept_counts.specs.Below.programs_allowed.specs.program_walks.proofs.Whole.{Begins, AreFittingIn, closing_of, rested_of, views_played, views_closed, views_ended, set_up_answered, end_answered, set_up_sound, closing_sound, closed_sound, ended_sound}
 use Rattle.accept_counts.specs.Below.outcome_stories.specs.Causes.{Asks}
 use Rattle.accept_counts.specs.Below.outcome_stories.specs.PlainTasks.{OwnsCall}
-use Rattle.accept_counts.specs.Below.outcome_stories.proofs.Cases.{tick_cases}
 use Rattle.accept_counts.specs.Below.outcome_stories.proofs.Delivered.{accepted_of, orders_of}
 use Rattle.accept_counts.specs.Below.outcome_stories.proofs.Members.{all_in, all_of, contains_in}
 use Rattle.accept_counts.specs.Below.outcome_causes.proofs.Messages.{in_of_at}
@@ -59,10 +58,10 @@ use Rattle.accept_counts.specs.Below.outcome_ticks.proofs.Tasks.{one_task, sorte
 use Rattle.accept_counts.specs.Below.outcome_stories.proofs.Tests.{split}
 use Rattle.accept_counts.proofs.Beginnings.{all_begin}
 use Rattle.accept_counts.proofs.Firsts.{behind, Firsts, AreLater, client_firsts, ending_firsts, reader_firsts, firsts_first, firsts_next}
-use Rattle.accept_counts.proofs.Ticks.{calls_waiting}
 use Rattle.accept_counts.proofs.Views.{Same, row_same}
 use Rattle.accept_counts.specs.Below.script_facts.proofs.Lists.{all_map}
-use Rattle.sent_once.proofs.DropWhole.{get_same}
+use Rattle.accept_counts.specs.Below.script_facts.proofs.Sizes.{all_more}
+use Rattle.accept_counts.specs.Below.owned_ids.proofs.OpensStored.{place_at}
 
 -- ## Messages of one seat
 
@@ -81,19 +80,10 @@ before_more (x ∷ l) e sorted all = (one_more l sorted.0, before_more l e sorte
     one_more [] a = (all.0, tt)
     one_more (y ∷ l) a = (a.0, one_more l a.1)
 
-all_more : {A : Type 0} (P : A → Type 0) (l : List A) (e : A) → AllByRecursion P l → P e → AllByRecursion P (l ++ e ∷ [])
-all_more P [] e all one = (one, tt)
-all_more P (x ∷ l) e all one = (all.0, all_more P l e all.1 one)
-
-all_get : {A : Type 0} (P : A → Type 0) (xs : List A) (n : ℕ) (x : A) → AllByRecursion P xs → get_elem? xs n ≡ some x → P x
-all_get P [] n x a e = absurd (some-ne-none x (sym e))
-all_get P (y ∷ xs) zero x a e = subst P (some-injective y x e) a.0
-all_get P (y ∷ xs) (suc n) x a e = all_get P xs n x a.1 e
-
 before_get : {A : Type 0} (R : A → A → Type 0) (xs : List A) (m n : ℕ) (x y : A) → EachBefore R xs → get_elem? xs m ≡ some x → get_elem? xs n ≡ some y → m < n → R x y
 before_get R [] m n x y a e f l = absurd (some-ne-none x (sym e))
 before_get R (z ∷ xs) m zero x y a e f l = absurd (omega arith)
-before_get R (z ∷ xs) zero (suc n) x y a e f l = subst (λ w. R w y) (some-injective z x e) (all_get (R z) xs n y a.0 f)
+before_get R (z ∷ xs) zero (suc n) x y a e f l = subst (λ w. R w y) (some-injective z x e) (all_at (R z) xs n y a.0 f)
 before_get R (z ∷ xs) (suc m) (suc n) x y a e f l = before_get R xs m n x y a.1 e f (omega arith)
 
 module _ (mine : ℕ → Type 0) where
@@ -254,10 +244,10 @@ module _ (mine : ℕ → Type 0) where
           moves c vs before m.seat c.calls refl (next found) (hand_after p call c.homes seat.hand) (words_after c.words (word_of p call) (word_after call found)) (homes_after p call seat.hand c.homes)
           (row p call found (hand_at p c.words c.homes call) v)
           (λ e. let f = goes_do before.low call next (program_here seat at e (Do call next) is) in (low_behind call before.low, f.1 found, row_goes p before.low found (hand_at p c.words c.homes call) v (view_here v here e) call goes.0 f.0)))
-          (λ seat v r next heading bytes at here is goes. let w = right_rights v v.rights (λ x. taken_right x heading bytes) in
+          (λ seat v r next heading bytes at here is goes lies. let w = right_rights v v.rights (λ x. taken_right x heading bytes) in
           moves c vs before m.seat c.calls refl (next heading bytes) seat.hand c.words (set c.homes r none) (took_message heading bytes v)
           (λ e. (before.low, program_here seat at e (TakeMessage r next) is heading bytes, rights_goes before.low v _ w.0 w.1 (view_here v here e))))
-          (λ seat v k next n at here is goes. let w = right_rights v v.rights (λ x. record x { at_home = false }) in
+          (λ seat v k next took n at here is goes lies. let w = right_rights v v.rights (λ x. record x { at_home = false }) in
           moves c vs before m.seat c.calls refl (next n) (lies_at c.homes (link_place p k) ++ seat.hand) c.words (set c.homes (link_place p k) none) (link_away v)
           (λ e. (before.low, program_here seat at e (TakeHome k next) is n, rights_goes before.low v _ w.0 w.1 (view_here v here e))))
           (λ seat v k n after at here is goes. let w = right_rights v v.rights (λ x. record x { at_home = true }) in
@@ -287,7 +277,7 @@ IsOwnOperation clients j o = (t : Task) × Asks clients j t × (t.number ≡ o)
 module _ (script : List Item) (are : AreTasks (plan_of script) (all_tasks script)) where
   clients_firsts : (j : ℕ) (x : Program) → get_elem? (programs (sizes_of (plan_of script) (id_plan_of script)) (all_tasks script)) j ≡ some x → Firsts (IsOwnOperation (all_tasks script) j) 0 x
   clients_firsts j x at = let sizes : Sizes = sizes_of (plan_of script) (id_plan_of script) in let t = mapped (client_from sizes []) (all_tasks script) j x at in
-      let here = get_same (all_tasks script) j t.0 t.1 in
+      let here = place_at (all_tasks script) j t.0 t.1 in
       subst (Firsts (IsOwnOperation (all_tasks script) j) 0) t.2 (client_firsts (IsOwnOperation (all_tasks script) j) sizes t.0 [] 0 (sorted_of (plan_of script) (all_tasks script) are j t.0 here)
       (all_in (AllByRecursion (λ (u : Task). OwnsCall u.number u.op)) (all_tasks script) t.0 (own_from script 0 (clients script + 1)) (in_of_at (all_tasks script) j t.0 t.1))
       (all_of (λ (u : Task). (0 ≤ u.number) × IsOwnOperation (all_tasks script) j u.number) t.0 (λ u m. (omega arith, (u, (t.0, here, m), refl)))))
@@ -345,7 +335,7 @@ module _ (script : List Item) (are : AreTasks (plan_of script) (all_tasks script
     -- a first message that a seat sent is of its own operation
     own_of : (i n : ℕ) (e : Entry) → HasSent (views_ended script turns core is vs) i n e → e.heading.attempt ≡ 0 → IsOwnOperation (all_tasks script) i e.heading.operation
     own_of i n e h z = let g = view_ended i h.view h.here in
-        (all_get (λ (x : Entry). Old (IsOwnOperation (all_tasks script) i) (ended_goes vs begins go turns core is fitting bare i).low x.heading) g.made n e g.old
+        (all_at (λ (x : Entry). Old (IsOwnOperation (all_tasks script) i) (ended_goes vs begins go turns core is fitting bare i).low x.heading) g.made n e g.old
         (sent_in (views_ended script turns core is vs) i n e h.view g.made h h.here g.lists) z).1
 
     -- whatever the schedule, each client has its sends and first attempts accepted in the order of its operations

@@ -39,7 +39,7 @@ owns_first has mine b (Round head next) g = (b, owns_round has mine b head next 
 owns_first has mine b _ g = (b, g)
 
 -- the id that an at word names
-named_id : (id k n w : ℕ) → w ≡ at_word (id_first id) (id_slot id) k n → k < 65535 → n ≤ 6 → id_slot id < 65536 → call_id (at_word_slot w) (at_word_first w) ≡ id
+pub named_id : (id k n w : ℕ) → w ≡ at_word (id_first id) (id_slot id) k n → k < 65535 → n ≤ 6 → id_slot id < 65536 → call_id (at_word_slot w) (at_word_first w) ≡ id
 named_id id k n w is low few small =
     let s : at_word_slot w ≡ id_slot id = ap at_word_slot is ∙ (let z : at_word_slot (at_word (id_first id) (id_slot id) k n) ≡ id_slot id = omega (arith, small, low, few) in z) in
     let f : at_word_first w ≡ id_first id = ap at_word_first is ∙ (let z : at_word_first (at_word (id_first id) (id_slot id) k n) ≡ id_first id = omega (arith, small, low, few) in z) in

@@ -57,11 +57,7 @@ use Rattle.accept_counts.proofs.Rests.{clients_rest}
 use Rattle.accept_counts.proofs.Runs.{AreLabelledIn}
 use Rattle.sent_once.proofs.Whole.{run_orders, run_sent}
 use Rattle.accept_counts.proofs.Grounds.{setting, grounds}
-use Rattle.accept_counts.specs.Below.script_facts.proofs.Lists.{all_map}
-
-before_map : {A : Type 0} (P Q : A → A → Type 0) → ((x y : A) → P x y → Q x y) → (xs : List A) → EachBefore P xs → EachBefore Q xs
-before_map P Q f [] a = tt
-before_map P Q f (x ∷ xs) a = (all_map (P x) (Q x) (f x) xs a.0, before_map P Q f xs a.1)
+use Rattle.accept_counts.specs.Below.script_facts.proofs.Lists.{all_map, before_map}
 
 first_bounded : (p : Plan) (most : ℕ) (ms : List Moment) (c : Core) (vs : List View) → AreBounded p most c vs ms → IsBounded p most c vs
 first_bounded p most [] c vs b = b

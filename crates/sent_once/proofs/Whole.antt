@@ -18,7 +18,7 @@ use Rattle.accept_counts.specs.Below.programs_allowed.specs.sock_runs.proofs.Lin
 use Rattle.accept_counts.specs.Below.programs_allowed.specs.program_walks.proofs.Whole.{Begins, AreFittingIn, IsOwed, views_ended, ended_sound, end_rests, all_homes}
 use Rattle.accept_counts.specs.Below.outcome_stories.specs.PlainTasks.{told_tasks_of}
 use Rattle.accept_counts.specs.Below.outcome_stories.proofs.Delivered.{AreQuiet}
-use Rattle.accept_counts.specs.Below.outcome_causes.proofs.Final.{at_there, at_within}
+use Rattle.accept_counts.specs.Below.outcome_causes.proofs.Final.{at_there}
 use Rattle.accept_counts.specs.Below.outcome_causes.proofs.Scripts.{seats, final_told, story_end, orders, run_told}
 use Rattle.accept_counts.specs.Below.outcome_stories.specs.Causes.{Asks}
 use Rattle.accept_counts.specs.Below.outcome_stories.specs.Kept.{IsSpoken}
@@ -30,11 +30,12 @@ use Rattle.seat_programs.specs.declared.task.Task.{Task}
 use Rattle.accept_counts.specs.Sent.{IsAttempt}
 use Rattle.accept_counts.proofs.Runs.{AreLabelledIn, IsCallOf, end_law}
 use Rattle.accept_counts.proofs.Apart as apart
-use Rattle.sent_once.proofs.DropWhole.{get_same}
+use Rattle.corr_core.proofs.Notes.{at_length}
+use Rattle.accept_counts.specs.Below.owned_ids.proofs.OpensStored.{place_at}
 
 -- no seat writes a link where none has anything left to do
 pub quiet_there : (p : Plan) (c : Core) (vs : List View) → Sound p c vs → AllRest c → AreQuiet vs
-quiet_there p c vs sound settled i v at = let seat = at_there c.seats i (omega (arith, at_within vs i v at, sound.each)) in
+quiet_there p c vs sound settled i v at = let seat = at_there c.seats i (omega (arith, at_length vs i v at, sound.each)) in
     let n : HasNothing v = subst (GoesOn p v) (settled i seat.0 seat.1) (sound.seats i seat.0 v seat.1 at).goes_on in n.quiet
 
 both : {A : Type 0} (P Q R : A → Type 0) → ((x : A) → P x → Q x → R x) → (xs : List A) → AllByRecursion P xs → AllByRecursion Q xs → AllByRecursion R xs
@@ -75,7 +76,7 @@ module _ (script : List Item) (are : AreTasks (plan_of script) (all_tasks script
         lift a (inr spoken) (inl x) = let w = x.1 in inr (record {
           client = w.0;
           task = w.2;
-          is = (w.1, get_same (all_tasks script) w.0 w.1 w.3, in_contains w.1 w.2 w.4);
+          is = (w.1, place_at (all_tasks script) w.0 w.1 w.3, in_contains w.1 w.2 w.4);
           numbered = sym w.6 ∙ x.2;
           asked = x.0;
           op = w.5;

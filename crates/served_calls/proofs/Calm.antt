@@ -49,7 +49,7 @@ use Rattle.served_calls.proofs.Requests.{AreIdsSmall}
 -- ## Links
 
 -- each link was opened under its name, with its shape
-named_shape : (items : List Item) (k : ℕ) (shape : Shape) → slice_get (link_shapes items) k ≡ Some shape → (name : List ℕ) × (slice_get (link_names items) k ≡ Some name) × Has items (Open name shape)
+pub named_shape : (items : List Item) (k : ℕ) (shape : Shape) → slice_get (link_shapes items) k ≡ Some shape → (name : List ℕ) × (slice_get (link_names items) k ≡ Some name) × Has items (Open name shape)
 named_shape [] k shape e = absurd (cc)
 named_shape (Open n s ∷ items) zero shape e = (n, refl, (zero, ap (λ (x : Shape). Some (Open n x)) (some_is s shape e)))
 named_shape (Open n s ∷ items) (suc k) shape e = let x = named_shape items k shape e in (x.0, x.1, has_later (Open n s) items (Open x.0 shape) x.2)

@@ -2,16 +2,7 @@
 use Rattle.std.proofs.Common.{◌≡◌, ℕ, true, false, List, slice_get, option_and_then, Option, Some, None, IfSome, refl, ◌∙◌}
 use Rattle.std.specs.Prelude.{IsSome}
 use Rattle.sock_words.specs.declared.outcome.Outcome.{Outcome}
-use Rattle.sock_words.specs.declared.outcome.Outcome.TheVariants.{Answered, Peer, CallFailed}
 use Rattle.brpc_model.specs.Messages.{id_at, shown_id}
-use Rattle.served_runs.specs.Below.report_fits.proofs.Reported.{is_said}
-
--- the outcome that shows an id was said of its operation
-pub shown_said : (x : Outcome) (id : ℕ) → shown_id x ≡ Some id → is_said x ≡ true
-shown_said (Answered i payload attachment) id shows = refl
-shown_said (Peer i code) id shows = refl
-shown_said (CallFailed i code) id shows = refl
-shown_said other id shows = absurd (cc)
 
 pub outcome_there : (os : List Outcome) (i id : ℕ) → id_at os i ≡ Some id → (x : Outcome) × (slice_get os i ≡ Some x) × (shown_id x ≡ Some id)
 outcome_there os i id shows = by (slice_get os i) refl shows

@@ -18,6 +18,7 @@ use Rattle.served_calls.specs.Below.report_fits.proofs.Lines as lines
 use Rattle.served_calls.specs.Below.script_facts.proofs.Lists.{within, has_from}
 use Rattle.served_calls.specs.Below.report_fits.proofs.Lives as lives
 use Rattle.served_calls.specs.Below.report_fits.proofs.Places.{known_of}
+use Rattle.served_calls.specs.Below.report_fits.proofs.Fitting.{id_said}
 use Rattle.served_calls.specs.Below.script_facts.proofs.Reading.{InRange}
 use Rattle.served_calls.specs.Below.script_facts.proofs.Sizes.{is_counted}
 use Rattle.served_calls.specs.Below.script_facts.proofs.Targets.{AreThere, are_there}
@@ -37,7 +38,7 @@ use Rattle.served_calls.specs.served_runs.specs.Served.{IsServed, took_in_all}
 use Rattle.served_calls.specs.served_runs.proofs.Model.{link_own_replies}
 use Rattle.served_calls.specs.served_runs.proofs.Served.{gives_replies}
 use Rattle.served_calls.specs.Quiet.{AreShown}
-use Rattle.served_calls.proofs.Shown.{shown_said, outcome_there, both_told}
+use Rattle.served_calls.proofs.Shown.{outcome_there, both_told}
 use Rattle.served_fits.specs.Shown.{TellTook}
 
 module _ (bytes : List ℕ) (script : List Item) (reads : script_of bytes ≡ Ok script) (turns : List Turn) (core : Core) (is : IsRunWithCalls script turns core) (closes : ClosesInRun script turns core is) (offers : OffersInRun script turns core is) (fixed : Fixed)
@@ -89,4 +90,4 @@ module _ (bytes : List ℕ) (script : List Item) (reads : script_of bytes ≡ Ok
   pub run_gives_own_replies : model.GivesOwnReplies reported
   run_gives_own_replies k n i id shape frame op call s unnamed gave at item shows response =
       let x = outcome_there report.outcomes i id shows in
-      link_own_replies script (made bytes script reads) there range turns core is closes offers k shape s.opened s.serves unnamed n i id frame op call x.0 gave.1 at item (lives.became all_given i x.0 (shown_said x.0 id x.2) x.1) x.2 response
+      link_own_replies script (made bytes script reads) there range turns core is closes offers k shape s.opened s.serves unnamed n i id frame op call x.0 gave.1 at item (lives.became all_given i x.0 (id_said x.0 id x.2) x.1) x.2 response

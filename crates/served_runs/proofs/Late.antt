@@ -10,8 +10,6 @@ use Rattle.seat_programs.specs.Scripts.{IsRunWithCalls}
 use Rattle.send_causes.specs.Below.programs_allowed.specs.program_steps.specs.GoesOn.{GoesOn}
 use Rattle.send_causes.specs.Below.programs_allowed.specs.program_steps.specs.Sound.{Sound, IsFitting, views_after}
 use Rattle.send_causes.specs.Below.programs_allowed.specs.program_steps.proofs.Cases.{goes_first}
-use Rattle.send_causes.specs.Below.programs_allowed.specs.program_steps.proofs.Passes.{goes_round}
-use Rattle.send_causes.specs.Below.programs_allowed.specs.program_steps.proofs.Rounds.{begins_round}
 use Rattle.send_causes.specs.Below.programs_allowed.specs.program_walks.proofs.Whole.{views_closed}
 use Rattle.send_causes.specs.Below.outcome_stories.specs.Facts.{born_at, shown_in, late_links_of_run}
 use Rattle.send_causes.specs.Below.outcome_stories.specs.Stories.{In}
@@ -54,7 +52,7 @@ module _ (script : List Item) (made : AreMade script) (turns : List Turn) (core 
   -- so whoever puts bytes into a link has such a one
   pub late_put : (k : ℕ) (c : Core) (vs : List View) (m : Moment) (ms : List Moment) → Sound (plan_of script) c vs → AreLate c vs (m ∷ ms) → IsPut (plan_of script) k c m → IsLate k
   late_put k c vs m ms sound late put = let v = view_of c.seats vs m.seat put.seat put.at sound.each in
-      let goes = subst (GoesOn (plan_of script) v.0) put.is (goes_first (plan_of script) v.0 (begins_round (plan_of script) v.0) (goes_round (plan_of script) v.0) put.seat.program (sound.seats m.seat put.seat v.0 put.at v.1).goes_on) in
+      let goes = subst (GoesOn (plan_of script) v.0) put.is (goes_first (plan_of script) v.0 put.seat.program (sound.seats m.seat put.seat v.0 put.at v.1).goes_on) in
       let may = goes.0 in let x = late.1 m.seat put.seat v.0 put.at v.1 in
       let mine : Righted (rights_of (plan_of script) IsLate (WasPast (plan_of script) is.ended IsLate) x.0) (may.0 ∷ []) = subst (Righted (rights_of (plan_of script) IsLate (WasPast (plan_of script) is.ended IsLate) x.0)) may.1.0 x.2.rights in
       subst IsLate may.1.1 (late_right x.0 may.0.link mine.0)

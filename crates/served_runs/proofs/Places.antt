@@ -23,11 +23,9 @@ use Rattle.seat_programs.specs.Ticks.{Moment, IsAnswered, fed, with_places, onto
 use Rattle.seat_programs.specs.StepTables.{May}
 use Rattle.send_causes.specs.Below.programs_allowed.specs.program_steps.specs.GoesOn.{GoesOn}
 use Rattle.send_causes.specs.Below.programs_allowed.specs.program_steps.specs.Sound.{state, Sound, IsFitting, HasLink, first_step}
-use Rattle.send_causes.specs.Below.programs_allowed.specs.program_steps.proofs.Cases.{tick_keeps, goes_first}
+use Rattle.send_causes.specs.Below.programs_allowed.specs.program_steps.proofs.Cases.{tick_cases, goes_first}
 use Rattle.send_causes.specs.Below.programs_allowed.specs.sock_runs.proofs.HandTicks.{taking}
 use Rattle.send_causes.specs.Below.programs_allowed.specs.sock_runs.proofs.LinkTicks.{RetriesGo, link_there, has_link, link_put_there}
-use Rattle.send_causes.specs.Below.programs_allowed.specs.program_steps.proofs.Passes.{goes_round}
-use Rattle.send_causes.specs.Below.programs_allowed.specs.program_steps.proofs.Rounds.{begins_round}
 use Rattle.send_causes.specs.Below.call_owing.specs.Lives.{InHand}
 use Rattle.send_causes.specs.Below.call_owing.proofs.EndsStill.{view_of}
 use Rattle.served_runs.specs.Offered.{Lies, IsDone}
@@ -144,7 +142,7 @@ module _ (p : Plan) (k : ℕ) where
 
     -- behind each step
     pub all_lay : IsAnswered c m → IsFitting p c m → AllLay c m (ticked p c m)
-    all_lay answered fitting = tick_keeps p c vs m sound answered fitting (begins_round p) (goes_round p) (λ d ws. AllLay c m d) (λ took next done lies. still c m took next done lies)
+    all_lay answered fitting = tick_cases p c vs m sound answered (λ d ws. AllLay c m d) (λ took next done lies. still c m took next done lies)
         (λ seat v call next at_seat at_view is goes. by_parts seat at_seat (next (found_at c.words (word_of p call))) (hand_after p call c.homes seat.hand) (words_after c.words (word_of p call) (word_after call (found_at c.words (word_of p call)))) (homes_after p call seat.hand c.homes) c.calls (home_after seat at_seat call) (held_after seat at_seat v at_view call goes.0))
         (λ seat v q next heading bytes at_seat at_view is goes there. by_parts seat at_seat (next heading bytes) seat.hand c.words (set c.homes q none) c.calls
         (λ took next done e. home_set seat at_seat q none took next done (λ i x. absurd (some-ne-none (Link k took next done) (sym x))) e) (in_hand seat at_seat))
@@ -162,7 +160,7 @@ module _ (p : Plan) (k : ℕ) where
         (λ seat v n asked bytes next answer at_seat at_view is goes answer_is fits. by_parts seat at_seat (next answer) (onto_first (fed bytes answer) seat.hand) c.words c.homes c.calls (at_home seat at_seat)
         (λ took next' done has. puts seat at_seat n asked bytes next is answer (link_put_there p retries c vs sound m.seat seat v at_seat at_view n asked bytes next goes).0 took next' done has))
         (λ seat v n next answer at_seat at_view is goes answer_is. by_parts seat at_seat (next answer) seat.hand c.words c.homes c.calls (at_home seat at_seat) (in_hand seat at_seat))
-        (λ seat v step next found at_seat at_view is goes fits. by_parts seat at_seat (next found) seat.hand c.words c.homes (calls_after step found c.calls) (at_home seat at_seat) (in_hand seat at_seat))
+        (λ seat v step next found at_seat at_view is goes found_is. by_parts seat at_seat (next found) seat.hand c.words c.homes (calls_after step found c.calls) (at_home seat at_seat) (in_hand seat at_seat))
       where
         puts_back : (seat : SeatState) → get_elem? c.seats m.seat ≡ some seat → (n x : ℕ) → HasLink p seat n → (took : List ℕ) (next : ℕ) (done : Bool) → first_of (onto_first (with_places x) seat.hand) ≡ some (Link k took next done) → Lay c m took done
         puts_back seat at_seat n x has took next done e = let old : seat.hand ≡ Link n has.1.0 has.1.1 false ∷ [] = has.1.2 in
@@ -199,7 +197,7 @@ module _ (p : Plan) (k : ℕ) where
     -- whoever puts bytes into a link has it in hand unfinished
     pub done_quiet : IsDone p c k → IsPut c m → ⊥
     done_quiet done put = let v = view_of c.seats vs m.seat put.seat put.at sound.each in
-        let goes = subst (GoesOn p v.0) put.is (goes_first p v.0 (begins_round p v.0) (goes_round p v.0) put.seat.program (sound.seats m.seat put.seat v.0 put.at v.1).goes_on) in
+        let goes = subst (GoesOn p v.0) put.is (goes_first p v.0 put.seat.program (sound.seats m.seat put.seat v.0 put.at v.1).goes_on) in
         let has = (link_put_there p retries c vs sound m.seat put.seat v.0 put.at v.1 k put.asked put.bytes put.next goes).0 in
         true≢false (sym (done has.1.0 has.1.1 false (inr (m.seat, put.seat, put.at, subst (InHand (Link k has.1.0 has.1.1 false)) (sym has.1.2) (inl refl)))))
 

@@ -1,5 +1,5 @@
 -- In a whole run a link with the server gave the replies to all that it took, where it became a socket's before the run was ending, and its reading ended neither by a frame fault, nor by a failure, nor by its limit.
-use Rattle.std.proofs.Common.{◌≡◌, ◌⊎◌, ◌≢◌, ℕ, zero, suc, ◌+◌, ◌<◌, Bool, false, List, [], ◌∷◌, ◌++◌, length, map, flat_map, replicate, get_or, append-nil, inl, inr, ⊎_elim, refl, sym, ap, ◌∙◌, subst, arith}
+use Rattle.std.proofs.Common.{◌≡◌, ◌⊎◌, ◌≢◌, ℕ, zero, suc, ◌+◌, ◌<◌, Bool, false, List, [], ◌∷◌, ◌++◌, length, flat_map, replicate, get_or, append-nil, inl, inr, ⊎_elim, refl, sym, ap, ◌∙◌, subst, arith}
 use Rattle.std.proofs.lemmas.Bool.{true≢false}
 use Rattle.std.specs.Prelude.{slice_get, slice_index_or, Some}
 use mathlib.Core.Option.{Option, none, some}
@@ -18,18 +18,17 @@ use Rattle.seat_programs.specs.Asides.{AtEnd, Broken}
 use Rattle.seat_programs.specs.Programs.{Rest, NO_SOCKET}
 use Rattle.seat_programs.specs.Readers.{LIMIT, reader}
 use Rattle.seat_programs.specs.Cores.{Core, SeatState, lies_at, link_place}
-use Rattle.seat_programs.specs.Runs.{from_to}
 use Rattle.seat_programs.specs.Tasks.{opens, calls, plan_of}
 use Rattle.seat_programs.specs.Ticks.{Moment, ticked, run}
 use Rattle.seat_programs.specs.Scripts.{opened, ending, is_ending, set_up, played, taken_by, took_at_home, IsRunWithCalls}
 use Rattle.send_causes.specs.Below.programs_allowed.specs.program_steps.specs.Sound.{AllRest, views_along}
-use Rattle.send_causes.specs.Below.programs_allowed.specs.sock_runs.proofs.Along.{place_inside}
 use Rattle.send_causes.specs.Below.programs_allowed.specs.sock_runs.proofs.Ends.{links_home}
 use Rattle.send_causes.specs.Below.programs_allowed.specs.sock_runs.proofs.Quiets.{run_seats}
 use Rattle.send_causes.specs.Below.programs_allowed.specs.program_walks.proofs.Whole.{IsListed, closing_of, views_played, views_closed, views_ended, set_up_answered, end_answered, set_up_sound, closing_sound, closed_sound, ended_sound, recorded_opened, recorded_set_up, recorded_closing, recorded_closed}
 use Rattle.send_causes.specs.Below.programs_allowed.specs.sock_runs.proofs.HandTicks.{AtHome}
 use Rattle.send_causes.specs.Below.outcome_stories.specs.Facts.{late_links_of_run}
 use Rattle.send_causes.specs.Below.outcome_stories.specs.Stories.{In}
+use Rattle.send_causes.specs.Below.outcome_stories.proofs.Ordered.{get_range}
 use Rattle.send_causes.specs.Below.outcome_causes.proofs.Plain.{in_left, in_right, in_both}
 use Rattle.send_causes.specs.Below.joint_runs.proofs.Runs.{AreMade, first_views}
 use Rattle.send_causes.specs.Below.call_owing.specs.Lives.{ClosesInRun}
@@ -52,24 +51,16 @@ use Rattle.served_runs.proofs.Places.{lies_before}
 use Rattle.served_runs.proofs.Readings.{Goes, IsOver}
 use Rattle.served_runs.proofs.Runs.{Kept, quiet_offered, quiet_takes, holds_along}
 use Rattle.served_runs.proofs.Ticks.{Stands}
+use Rattle.corr_core.proofs.Notes.{at_length}
+use Rattle.send_causes.specs.Below.call_causes.proofs.HandledWhole.{empty_at}
 
 pub gave_long : (p : Plan) (ms : List Moment) (c : Core) → length (run p c ms).calls.gave ≡ length c.calls.gave
 gave_long p [] c = refl
 gave_long p (m ∷ ms) c = gave_long p ms (ticked p c m) ∙ (tick_long p m c).gave
 
-pub empty_at : (n k : ℕ) → get_or (replicate n []) k [] ≡ (let e : List ℕ = [] in e)
-empty_at zero k = refl
-empty_at (suc n) zero = refl
-empty_at (suc n) (suc k) = empty_at n k
-
 pub empty_long : (n : ℕ) → length (replicate n (let e : List ℕ = [] in e)) ≡ n
 empty_long zero = refl
 empty_long (suc n) = ap suc (empty_long n)
-
-get_range : {A : Type 0} (f : ℕ → A) (d : A) (a n k : ℕ) → k < n → get_or (map f (from_to a n)) k d ≡ f (a + k)
-get_range f d a zero k l = absurd (omega arith)
-get_range f d a (suc n) zero l = ap f (omega arith)
-get_range f d a (suc n) (suc k) l = get_range f d (a + 1) n k (omega arith) ∙ ap f (omega arith)
 
 -- what a link at home took
 took_there : (p : Plan) (homes : List (Option Home)) (k : ℕ) (took : List ℕ) (next : ℕ) (done : Bool) → get_elem? homes (link_place p k) ≡ some (some (Link k took next done)) → k < p.links → get_or (took_at_home p homes) k [] ≡ took
@@ -88,7 +79,7 @@ module _ (script : List Item) (made : AreMade script) (turns : List Turn) (core 
   in_os = (let x = known script made turns core is in x.in_script)
 
   pub link_inside : k < (plan_of script).links
-  link_inside = let i = place_inside (opens script) k o at in let many = (let x = known script made turns core is in x.as_many) in omega (arith, i, many)
+  link_inside = let i = at_length (opens script) k o at in let many = (let x = known script made turns core is in x.as_many) in omega (arith, i, many)
 
   -- ## How it begins
 
@@ -286,7 +277,7 @@ module _ (script : List Item) (made : AreMade script) (turns : List Turn) (core 
       where
         seat_low : 32 + k < length core.seats
         seat_low = let m = (let x = closed_keeps script made turns core is in x.many) in let r = run_seats (plan_of script) is.ended is.final in let e = ap (λ (d : Core). length d.seats) is.is_end in
-            let i = place_inside (opens script) k o at in omega (arith, m, r, e, i)
+            let i = at_length (opens script) k o at in omega (arith, m, r, e, i)
 
     module _ (in_time : In k (late_links_of_run script turns core is) → ⊥) (socket : get_or core.words (open_index (plan_of script) o) 0 ≢ NO_SOCKET) (none_broken : In Broken (heard_takes is k) → ⊥) (faultless : HasFault (given core k) → ⊥) (few : length (given core k) < LIMIT) where
       gave_all : given core k ≡ offered_by shape home.took

@@ -1,9 +1,9 @@
 -- A link with the built-in server gives less than the most that is read: what it took is no more than the script's calls and sends, and the replies are little longer.
-use Rattle.std.proofs.Common.{◌≡◌, ℕ, suc, ◌+◌, ◌*◌, ◌<◌, ◌≤◌, List, [], ◌∷◌, ◌++◌, length, take, drop, flat_map, filter_map, slice_get, slice_index_or, Option, Some, None, Ok, length-append, append-nil, append_assoc, refl, sym, ap, ◌∙◌, subst, arith}
+use Rattle.std.proofs.Common.{◌≡◌, ℕ, suc, ◌+◌, ◌*◌, ◌<◌, ◌≤◌, List, [], ◌∷◌, ◌++◌, length, take, drop, flat_map, filter_map, slice_get, slice_index_or, Option, Some, Ok, length-append, append-nil, append_assoc, refl, sym, ap, ◌∙◌, subst, arith}
 use Rattle.std.proofs.lemmas.Grind.{flat_map-append}
 use Rattle.std.proofs.lemmas.List.{take-append-drop}
 use Rattle.std.proofs.lemmas.Option.{slice_get_within}
-use Rattle.std.specs.Prelude.{pos, IsTrue}
+use Rattle.std.specs.Prelude.{IsTrue}
 use Rattle.std.specs.List.{AllByRecursion}
 use Rattle.seat_programs.specs.sock_model.specs.sock_words.specs.declared.outcome.Outcome.{Outcome}
 use Rattle.brpc_model.specs.Items.{Item, Shape, Open, Send, Call, attempts_of, opened_name, opened_shape}
@@ -12,7 +12,7 @@ use Rattle.brpc_model.specs.Order.{EachBefore}
 use Rattle.brpc_model.specs.Places.{names}
 use Rattle.brpc_model.specs.Script.{script_of}
 use Rattle.brpc_model.specs.Served.{given_for}
-use Rattle.brpc_model.specs.Spelling.{number_field, bytes_field, request_bytes, where_not_0, meta_bytes}
+use Rattle.brpc_model.specs.Spelling.{meta_bytes}
 use Rattle.served_runs.specs.Below.script_facts.proofs.CallLines.{CallInRange}
 use Rattle.served_runs.specs.Below.script_facts.proofs.LabelCounts.{Differ}
 use Rattle.served_runs.specs.Below.script_facts.proofs.Lists.{all_at, all_from, before_from}
@@ -36,7 +36,7 @@ use Rattle.served_runs.specs.Below.call_stories.specs.Lists.{given}
 use Rattle.served_runs.specs.Offered.{OffersInRun}
 use Rattle.served_runs.specs.Served.{took_in_all}
 use Rattle.served_runs.proofs.Served.{gives_front}
-use Rattle.served_runs.specs.Below.script_facts.proofs.Frames.{number_short, bytes_short, size_short}
+use Rattle.served_runs.specs.Below.script_facts.proofs.Frames.{meta_short}
 use Rattle.served_runs.proofs.Frames.{framed_length}
 use Rattle.served_runs.proofs.Own.{cut_more}
 use Rattle.served_sizes.specs.Bodies.{carried, all_carried}
@@ -45,20 +45,6 @@ use Rattle.served_sizes.proofs.Replies.{replies_short}
 use Rattle.served_sizes.proofs.Weights.{weight_of, weight_at, all_few}
 
 -- ## Requests
-
-request_short : (service method : List ℕ) → length service ≤ 64 → length method ≤ 64 → length (request_bytes (record { service = service; method = method; log_id = None })) ≤ 168
-request_short service method s m = sums (bytes_field 1 service) (bytes_field 2 method) (bytes_short 1 service) (bytes_short 2 method)
-  where
-    sums : (x y : List ℕ) → length x ≤ 20 + length service → length y ≤ 20 + length method → length (x ++ y ++ []) ≤ 168
-    sums x y p q = omega (arith, s, m, p, q, length-append (x ++ y) [], length-append x y)
-
-meta_short : (service method : List ℕ) (id size : ℕ) → length service ≤ 64 → length method ≤ 64
-    → length (meta_bytes (record { request = Some (record { service = service; method = method; log_id = None }); response = None; compress_type = pos 0; correlation_id = id; attachment_size = pos size })) ≤ 228
-meta_short service method id size s m = let r = request_short service method s m in let b = bytes_short 1 (request_bytes (record { service = service; method = method; log_id = None })) in
-    sums (bytes_field 1 (request_bytes (record { service = service; method = method; log_id = None }))) (number_field 4 id) (where_not_0 5 (pos size)) (omega (arith, r, b)) (number_short 4 id) (size_short size)
-  where
-    sums : (x y z : List ℕ) → length x ≤ 188 → length y ≤ 20 → length z ≤ 20 → length (x ++ [] ++ [] ++ y ++ z) ≤ 228
-    sums x y z p q r = omega (arith, p, q, r, length-append (((x ++ []) ++ []) ++ y) z, length-append ((x ++ []) ++ []) y, length-append (x ++ []) [], length-append x [])
 
 -- a request has so many bytes besides what it carries
 frame_few : (asked : Asked) (id n : ℕ) → length asked.service ≤ 64 → length asked.method ≤ 64 → length (frame_of asked id n) ≤ 240 + (length asked.payload + length asked.attachment)

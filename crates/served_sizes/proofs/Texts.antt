@@ -1,5 +1,5 @@
 -- A script carries half as many bytes as its text has, at most: each of them stands there as two digits.
-use Rattle.std.proofs.Common.{◌≡◌, ℕ, zero, suc, ◌+◌, ◌-◌, ◌*◌, ◌%◌, ◌≤◌, ◌==◌, not, Bool, true, false, cond, List, [], ◌∷◌, ◌++◌, length, take, drop, map, filter, fold, position, Option, Some, None, Ok, Err, IfOk, IfSome, if◌then◌else◌, refl, sym, subst, arith, codes, bytes_eq}
+use Rattle.std.proofs.Common.{◌≡◌, ℕ, zero, suc, ◌+◌, ◌-◌, ◌*◌, ◌%◌, ◌≤◌, ◌==◌, not, Bool, true, false, cond, List, [], ◌∷◌, ◌++◌, length, take, drop, map, filter, fold, position, Option, Some, None, Ok, Err, IfOk, IfSome, refl, sym, subst, arith, codes, bytes_eq}
 use Rattle.std.specs.Prelude.{Result, nat_eq, slice_index}
 use Rattle.std.specs.List.{list_all, slice_split, onto_first, starts_with, before_last, after_last}
 use Rattle.std.specs.Str.Lines.{lines, lines_of_parts, strip_carriage_return}
@@ -14,7 +14,8 @@ use Rattle.brpc_model.specs.Lines.{line_item, item_of, is_text_byte, shape_in, a
 use Rattle.brpc_model.specs.Places.{at_its_place, is_misplaced, is_too_many, is_unpaired}
 use Rattle.brpc_model.specs.Script.{Faulty, script_of, with_line, one_more, said_behind, items, whole, says, is_lost, may_hang}
 use Rattle.brpc_model.proofs.Growing.{items_some, items_none}
-use Rattle.served_runs.specs.Below.script_facts.proofs.Reading.{two_faults}
+use Rattle.served_runs.specs.Below.script_facts.proofs.Reading.{two_faults, either_way, of_then, one_part}
+use Rattle.served_runs.specs.Below.script_facts.proofs.CallLines.{part_with}
 use Rattle.served_sizes.specs.Bodies.{carried, all_carried}
 
 -- ## Words
@@ -87,10 +88,6 @@ lines_total bytes = let a = parts_total (slice_split (λ b. b == 10) bytes) in l
 abbrev Halves : ℕ → List ℕ → Type 0
 Halves n bytes = 2 * length bytes ≤ n
 
-either_way : {A : Type 0} (b : Bool) (x y : Reads A) (P : A → Type 0) → IfOk x P → IfOk y P → IfOk (if b then x else y) P
-either_way true x y P g h = g
-either_way false x y P g h = h
-
 pairs_halve : (w : List ℕ) (r : Result (List ℕ) FromHexError) → ((bytes : List ℕ) → r ≡ Ok bytes → Halves (length w) bytes) → IfOk (pairs_in r) (Halves (length w))
 pairs_halve w (Ok bytes) h = h bytes refl
 pairs_halve w (Err e) h = tt
@@ -126,25 +123,9 @@ any_two make (Ok a) (Err k) n h = tt
 any_two make (Err j) (Ok b) n h = tt
 any_two make (Err j) (Err k) n h = tt
 
-of_then : {A B : Type 0} (r : Reads A) (f : A → Reads B) (P : A → Type 0) (Q : B → Type 0) → IfOk r P → ((a : A) → P a → IfOk (f a) Q) → IfOk (r >>= f) Q
-of_then (Ok a) f P Q h g = g a h
-of_then (Err k) f P Q h g = tt
-
 then_any : {A B : Type 0} (r : Reads A) (f : A → Reads B) (Q : B → Type 0) → ((a : A) → IfOk (f a) Q) → IfOk (r >>= f) Q
 then_any (Ok a) f Q g = g a
 then_any (Err k) f Q g = tt
-
-one_part : {A B : Type 0} (f : Reads (A → B)) (r : Reads A) (Q : B → Type 0) → IfOk f (λ g. (a : A) → Q (g a)) → IfOk (f <*> r) Q
-one_part (Ok g) (Ok a) Q h = h a
-one_part (Ok g) (Err k) Q h = tt
-one_part (Err j) (Ok a) Q h = tt
-one_part (Err j) (Err k) Q h = tt
-
-part_with : {A B : Type 0} (f : Reads (A → B)) (r : Reads A) (P : A → Type 0) (Q : B → Type 0) → IfOk f (λ g. (a : A) → P a → Q (g a)) → IfOk r P → IfOk (f <*> r) Q
-part_with (Ok g) (Ok a) P Q h l = h a l
-part_with (Ok g) (Err k) P Q h l = tt
-part_with (Err j) (Ok a) P Q h l = tt
-part_with (Err j) (Err k) P Q h l = tt
 
 numbers_carry : (make : ℕ → Item) (low high : ℕ) (args : List (List ℕ)) (n : ℕ) → ((a : ℕ) → Fits n (make a)) → IfOk (of_number make low high args) (Fits n)
 numbers_carry make low high [] n h = tt

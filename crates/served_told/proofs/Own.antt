@@ -22,6 +22,7 @@ use Rattle.brpc_model.specs.Stream.{stream}
 use Rattle.served_calls.specs.Below.report_fits.specs.Ends.{AreEndsOf}
 use Rattle.served_calls.specs.Below.script_facts.proofs.Lists.{contains_from, has_from, within}
 use Rattle.served_calls.specs.Below.report_fits.proofs.Reported.{outcome_told}
+use Rattle.served_calls.specs.Below.report_fits.proofs.Fitting.{id_said}
 use Rattle.served_calls.specs.Below.script_facts.proofs.TaskLemmas.{numbers_at, operation_task}
 use Rattle.served_calls.specs.Below.script_facts.proofs.Tasks.{tasks_of_script}
 use Rattle.sock_message.specs.Asked.{Asked}
@@ -34,7 +35,7 @@ use Rattle.seat_programs.specs.Told.{AreTasks, IsTask, Made}
 use Rattle.seat_programs.specs.ToldCalls.{Order, Fixed, AreOrders}
 use Rattle.attempts_told.specs.Attempts.{AreAttemptsTold}
 use Rattle.served_calls.specs.served_runs.proofs.Model.{unsent_of}
-use Rattle.served_calls.proofs.Shown.{shown_said, outcome_there, both_told}
+use Rattle.served_calls.proofs.Shown.{outcome_there, both_told}
 use Rattle.served_told.specs.Telling.{TellBytes, ShowSmallIds, HaveOwnVersions}
 use Rattle.served_told.proofs.Places.{placed_at}
 use Rattle.served_told.proofs.Requests.{faultless, replied_at, IsOwnReply, own_reply, placed_reply}
@@ -84,7 +85,7 @@ module _ (bytes : List ℕ) (script : List Item) (reads : script_of bytes ≡ Ok
       shown = outcome_there reported.report.outcomes i id shows
 
       became : slice_get outcomes i ≡ Some (Some shown.0)
-      became = outcome_told places outcomes i shown.0 (shown_said shown.0 id shown.2) (ap (λ os. slice_get os i) (sym reported.told.outcomes) ∙ shown.1)
+      became = outcome_told places outcomes i shown.0 (id_said shown.0 id shown.2) (ap (λ os. slice_get os i) (sym reported.told.outcomes) ∙ shown.1)
 
       abbrev asked : Asked
       asked = asked_of (names script) i call

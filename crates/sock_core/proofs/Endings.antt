@@ -13,6 +13,7 @@ use Rattle.sock_words.specs.declared.kind.Kind.{Kind}
 use Rattle.sock_words.specs.declared.outcome.Outcome.{Outcome}
 use Rattle.sock_words.specs.declared.plain.Plan.{Plan}
 use Rattle.corr_core.specs.declared.marks.Plan.{Plan as IdPlan}
+use Rattle.corr_core.proofs.Notes.{at_length}
 use Rattle.sock_model.specs.declared.home.Home.{Home}
 use Rattle.seat_programs.specs.Heads.{Retry}
 use Rattle.seat_programs.specs.Programs.{Program, Do, Say, Sent, Rest, Retries, LAST_VERSION, NO_SOCKET, recycle, release, address, set_failed, end_open}
@@ -25,7 +26,7 @@ use Rattle.machine_model.specs.program_steps.specs.GoesOn.{GoesOn}
 use Rattle.machine_model.specs.program_steps.specs.Lasts.{Lasts}
 use Rattle.machine_model.specs.program_steps.specs.Sound.{Sound, IsAhead}
 use Rattle.machine_model.specs.sock_runs.proofs.Allowed.{view_there}
-use Rattle.machine_model.specs.sock_runs.proofs.Along.{place_inside, seat_ahead, seat_rests}
+use Rattle.machine_model.specs.sock_runs.proofs.Along.{seat_ahead, seat_rests}
 use Rattle.machine_model.specs.sock_runs.proofs.Held.{held_in_hand}
 use Rattle.machine_model.specs.id_runs.specs.Goes.{SoundIds}
 use Rattle.machine_model.specs.id_runs.proofs.Opening.{ending_ids, told_ids}
@@ -195,7 +196,7 @@ module _ (old fresh : MachineState) (room : ℕ) (is : IsMachine old room) (enou
 
   pub began_plain : IsPlain fresh
   began_plain = subst IsPlain (sym w.is) (λ seat at.
-      let same : w.seat' ≡ seat = core.some-injective w.seat' seat (sym (set_here old.seats 0 w.seat' (place_inside old.seats 0 w.seat w.at)) ∙ at) in (
+      let same : w.seat' ≡ seat = core.some-injective w.seat' seat (sym (set_here old.seats 0 w.seat' (at_length old.seats 0 w.seat w.at)) ∙ at) in (
         subst (λ (s : SeatData). AsksNone (seat_program (machine_sizes old) s)) same (subst AsksNone (sym (w.program ∙ next_ending old.opens)) (ending_none old.opens)),
         ap (λ (s : SeatData). s.waiting) (sym same) ∙ w.waiting ∙ own_waiting,
       ))

@@ -7,7 +7,6 @@ use Rattle.sock_model.specs.declared.view.View.{View}
 use Rattle.sock_model.specs.Memory.{IDLE}
 use Rattle.seat_programs.specs.Calls.{Call, CreateLife, AddRef, SubRef, Recycle, LoadLink, LoadName, TakeLink, FinishLink, PutLink, FindLink, ClaimRequest, PutMessage, EmptyHead, FreeRequest, StorePlace, DropPlace}
 use Rattle.seat_programs.specs.Programs.{Program, Do, TakeMessage, TakeHome, PutHome, PutBytes, AskReady}
-use Rattle.program_steps.proofs.Passes.{goes_round}
 use Rattle.seat_programs.specs.Cores.{Core, SeatState, found_at}
 use Rattle.seat_programs.specs.StepTables.{table_word, word_of, hand_at, May, Finds}
 use Rattle.program_steps.proofs.WordFrame.{in_table}
@@ -17,7 +16,6 @@ use Rattle.sock_runs.proofs.HandTicks.{taking}
 use Rattle.sock_runs.proofs.Founds.{finds}
 use Rattle.sock_runs.proofs.ChainTicks.{word_inside, free_small}
 use Rattle.sock_runs.proofs.LinkTicks.{RetriesGo, message_there, link_there, has_link, link_put_there, link_asked_there}
-use Rattle.program_steps.proofs.Rounds.{begins_round}
 use Rattle.program_steps.proofs.Cases.{beside, goes_first}
 use Rattle.sock_runs.proofs.Few.{last_small, places_small}
 
@@ -73,4 +71,4 @@ step_allowed p retries_go c vs i seat v sound few at at_view _ goes = tt
 
 -- each seat's next step is allowed, also where it is the first of a round
 pub sound_allows : (p : Plan) → RetriesGo p → (c : Core) (vs : List View) (i : ℕ) (seat : SeatState) (v : View) → Sound p c vs → AreFew vs → get_elem? c.seats i ≡ some seat → get_elem? vs i ≡ some v → AllowsStep p c seat (first_step seat.program)
-sound_allows p retries_go c vs i seat v sound few at at_view = step_allowed p retries_go c vs i seat v sound few at at_view (first_step seat.program) (goes_first p v (begins_round p v) (goes_round p v) seat.program (sound.seats i seat v at at_view).goes_on)
+sound_allows p retries_go c vs i seat v sound few at at_view = step_allowed p retries_go c vs i seat v sound few at at_view (first_step seat.program) (goes_first p v seat.program (sound.seats i seat v at at_view).goes_on)

@@ -1,5 +1,5 @@
 -- Runs of any length keep all seats sound, and a seat of a run never has an outcome to say before its next step.
-use Rattle.std.proofs.Common.{◌≡◌, ℕ, zero, suc, ◌<◌, true, List, [], ◌∷◌, ◌++◌, length, map, set, refl, sym, ap, ◌∙◌, subst, ⊎_elim, arith}
+use Rattle.std.proofs.Common.{◌≡◌, ℕ, zero, suc, true, List, [], ◌∷◌, ◌++◌, length, map, set, refl, sym, ap, ◌∙◌, subst, ⊎_elim}
 use Rattle.std.proofs.lemmas.Bool.{true≢false}
 use Rattle.std.proofs.lemmas.Option.{none-some}
 use Rattle.std.specs.Prelude as std
@@ -22,6 +22,7 @@ use Rattle.seat_programs.specs.Asides.{Step, Found, kind_aside}
 use Rattle.seat_programs.specs.Beside.{found_in, calls_after}
 use Rattle.seat_programs.specs.Rounds.{round, kind_of_round}
 use Rattle.seat_programs.specs.corr_core.specs.declared.marks.Plan.{Plan as IdPlan}
+use Rattle.seat_programs.specs.corr_core.proofs.Notes.{at_length}
 use Rattle.seat_programs.specs.Cores.{Core, SeatState, found_at, words_after, homes_after, hand_after, lies_at, first_of, others_of, link_place, with_seat, next_step, resolved, waiting_at}
 use Rattle.seat_programs.specs.StepTables.{word_of, word_after}
 use Rattle.seat_programs.specs.Sends.{block}
@@ -123,11 +124,6 @@ rests (Aside step next) begun idle = absurd (none-some (kind_aside step) (sym id
 rests (Round head next) begun idle = absurd (none-some (kind_of_round head) (sym idle))
 rests _ begun idle = absurd (none-some _ (sym idle))
 
-pub place_inside : {A : Type 0} (l : List A) (i : ℕ) (a : A) → get_elem? l i ≡ some a → i < length l
-place_inside [] i a e = absurd (some-ne-none a (sym e))
-place_inside (x ∷ xs) zero a e = omega arith
-place_inside (x ∷ xs) (suc i) a e = omega (arith, place_inside xs i a e)
-
 -- a seat that has no step left has nothing left to do
 pub seat_rests : (c : Core) → IsAhead c → (i : ℕ) → IsAtRest c i → (seat : SeatState) → get_elem? c.seats i ≡ some seat → seat.program ≡ Rest
 seat_rests c ahead i idle seat at = rests seat.program (ahead i seat at)
@@ -135,4 +131,4 @@ seat_rests c ahead i idle seat at = rests seat.program (ahead i seat at)
 
 -- where no seat has a step left, none has anything left to do
 pub settled_rests : (c : Core) → IsAhead c → IsSettled c → AllRest c
-settled_rests c ahead settled i seat at = seat_rests c ahead i (settled i (place_inside c.seats i seat at)) seat at
+settled_rests c ahead settled i seat at = seat_rests c ahead i (settled i (at_length c.seats i seat at)) seat at

@@ -43,8 +43,6 @@ use Rattle.seat_programs.specs.StepTables.{May}
 use Rattle.program_steps.specs.Sound.{Sound, AreFew, MOST_PLACES, views_after, IsFitting}
 use Rattle.program_steps.specs.Lasts.{Lasts, MOST_PAID}
 use Rattle.program_steps.proofs.Leaves.{sending_same, is_exchange, own_lists}
-use Rattle.program_steps.proofs.Rounds.{begins_round}
-use Rattle.program_steps.proofs.Passes.{goes_round}
 use Rattle.program_steps.proofs.Cases.{tick_keeps_marks}
 
 -- ## What each step leaves
@@ -104,7 +102,7 @@ few_row p v call found hand may short is = few_lists v (row p call found hand v)
 
 -- a tick of any seat keeps it so
 pub few_ticks : (p : Plan) (c : Core) (vs : List View) (m : Moment) → Sound p c vs → IsAnswered c m → IsFitting p c m → ((i : ℕ) (v : View) → get_elem? vs i ≡ some v → IsShorter v) → AreFew vs → AreFew (views_after p c vs m)
-few_ticks p c vs m sound answered fitting shorter few = tick_keeps_marks p c vs m sound answered fitting (begins_round p) (goes_round p) (λ c' vs'. AreFew vs') few
+few_ticks p c vs m sound answered fitting shorter few = tick_keeps_marks p c vs m sound answered fitting (λ c' vs'. AreFew vs') few
     (λ seat v call next at_seat at_view is goes. few_set vs m.seat (row p call (found_at c.words (word_of p call)) (hand_at p c.words c.homes call) v) few
     (few_row p v call (found_at c.words (word_of p call)) (hand_at p c.words c.homes call) goes.0 (shorter m.seat v at_view) (few.short m.seat v at_view)))
     (λ seat v program rights hand hs a at_seat at_view comes. few_set vs m.seat (record v { rights = rights }) few (few.short m.seat v at_view))

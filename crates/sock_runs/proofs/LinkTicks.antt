@@ -27,9 +27,9 @@ use Rattle.seat_programs.specs.Programs.{Program, Say, Sent, TakeMessage, TakeHo
 use Rattle.std.specs.List.{AllByRecursion}
 use Rattle.seat_programs.specs.Heads.{Retry}
 use Rattle.seat_programs.specs.Attempts.{retry}
-use Rattle.seat_programs.specs.Asides.{Step, Found, TakeBytes, Taking, Bytes}
+use Rattle.seat_programs.specs.Asides.{Step, Found}
 use Rattle.seat_programs.specs.Programs.{Aside}
-use Rattle.seat_programs.specs.Beside.{calls_after, more_given}
+use Rattle.seat_programs.specs.Beside.{calls_after}
 use Rattle.program_steps.specs.Fits.{FitsFound, FitsRetry}
 use Rattle.seat_programs.specs.Cores.{Calls, Core, SeatState, lies_at, first_of, others_of, link_place, resolved, still_waiting, waiting_at, next_step, with_seat}
 use Rattle.seat_programs.specs.Ticks.{fed, with_places, onto_first, FitsPut}
@@ -39,6 +39,7 @@ use Rattle.seat_programs.specs.StepsOfLinks.{link_away, link_home_again, took_by
 use Rattle.program_steps.specs.Writes.{MayTakeMessage, Writes}
 use Rattle.program_steps.specs.GoesOn.{GoesOn}
 use Rattle.program_steps.specs.Sound.{state, AreInHand, IsOfRight, AreHeld, AreLabelled, SoundSeat, Sound, HasLink, HasMessageAt, HasLinkAt}
+use Rattle.program_steps.proofs.Cases.{calls_waiting}
 use Rattle.sock_runs.proofs.HandTicks.{in_hand_nil}
 use Rattle.sock_runs.proofs.ChainTicks.{has_one, stays_one}
 
@@ -60,15 +61,6 @@ fits_set P (w ∷ ws) (suc i) x px all (suc j) = fits_set P ws i x px (λ k. all
 all_more : (ws : List Retry) (r : Retry) → AllByRecursion FitsRetry ws → FitsRetry r → AllByRecursion FitsRetry (ws ++ r ∷ [])
 all_more [] r all one = (one, tt)
 all_more (w ∷ ws) r all one = (all.0, all_more ws r all.1 one)
-
--- no step aside touches the retries that wait
-waiting_given : (k : ℕ) (t : Taking) (a : Calls) → (more_given k t a).waiting ≡ a.waiting
-waiting_given k (Bytes bytes) a = refl
-waiting_given k _ a = refl
-
-waiting_stays : (step : Step) (found : Found step) (a : Calls) → (calls_after step found a).waiting ≡ a.waiting
-waiting_stays (TakeBytes k room) found a = waiting_given k found a
-waiting_stays _ found a = refl
 
 -- each retry may be tried where the seat is at ease
 abbrev pub RetriesGo : Plan → Type 0
@@ -98,7 +90,7 @@ module _ (p : Plan) (retries_go : RetriesGo p) where
 labels_set : (p : Plan) (hs : List (Option Home)) (q : ℕ) (x : Option Home) → ((heading : Heading) (bytes : List ℕ) → x ≡ some (Message heading bytes) → ⊥) → AreLabelled p hs → AreLabelled p (set hs q x)
 labels_set p hs q x other labels i heading bytes at = ⊎_elim (λ a. absurd (other heading bytes a.1)) (λ a. labels i heading bytes a.1) (at_set hs q i x (some (Message heading bytes)) at)
 
-same_message : (a : Heading) (b : List ℕ) (c : Heading) (d : List ℕ) → Message a b ≡ Message c d → (a ≡ c) × (b ≡ d)
+pub same_message : (a : Heading) (b : List ℕ) (c : Heading) (d : List ℕ) → Message a b ≡ Message c d → (a ≡ c) × (b ≡ d)
 same_message a b c d e = (cc, cc)
 
 same_link : (k : ℕ) (a : List ℕ) (m : ℕ) (l : ℕ) (b : List ℕ) (n : ℕ) → Link k a m false ≡ Link l b n false → (a ≡ b) × (m ≡ n)
@@ -326,6 +318,6 @@ module _ (p : Plan) (retries_go : RetriesGo p) (c : Core) (vs : List View) (soun
 
   pub steps_aside : (step : Step) (next : Found step → Program) (found : Found step) → GoesOn p v (Aside step next) → FitsFound p step found
       → Sound p (with_seat i (next found) seat.hand c.words c.homes (record c { calls = calls_after step found c.calls })) vs
-  steps_aside step next found goes fits = let same : set vs i v ≡ vs = set_again vs i v at_view in let kept : (calls_after step found c.calls).waiting ≡ c.calls.waiting = waiting_stays step found c.calls in
+  steps_aside step next found goes fits = let same : set vs i v ≡ vs = set_again vs i v at_view in let kept : (calls_after step found c.calls).waiting ≡ c.calls.waiting = calls_waiting step found c.calls in
       subst (Sound p (with_seat i (next found) seat.hand c.words c.homes (record c { calls = calls_after step found c.calls }))) same
       (reseats_beside (calls_after step found c.calls) kept (next found) (goes found fits))

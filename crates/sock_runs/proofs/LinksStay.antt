@@ -21,8 +21,6 @@ use Rattle.program_steps.specs.Sound.{state, Sound, IsFitting, AreFitting, views
 use Rattle.program_steps.proofs.Bounds.{law, lives_le}
 use Rattle.sock_runs.proofs.LinkNotes.{links_stay}
 use Rattle.program_steps.proofs.Cases.{with_rights, tick_keeps_marks}
-use Rattle.program_steps.proofs.Rounds.{begins_round}
-use Rattle.program_steps.proofs.Passes.{goes_round}
 use Rattle.sock_runs.proofs.LinkTicks.{RetriesGo}
 use Rattle.sock_runs.proofs.Ticks.{sound_ticks}
 
@@ -32,7 +30,7 @@ IsGiven c vs i h k = 0 < count (is_linked h k) (slot_facts (state c vs) i)
 
 module _ (p : Plan) (i h k : ℕ) where
   given_ticks : (c : Core) (vs : List View) (m : Moment) → Sound p c vs → IsAnswered c m → IsFitting p c m → IsGiven c vs i h k → IsGiven (ticked p c m) (views_after p c vs m) i h k
-  given_ticks c vs m sound answered fitting given = tick_keeps_marks p c vs m sound answered fitting (begins_round p) (goes_round p) (λ d ws. IsGiven d ws i h k) given
+  given_ticks c vs m sound answered fitting given = tick_keeps_marks p c vs m sound answered fitting (λ d ws. IsGiven d ws i h k) given
       (λ seat v call next at_seat at_view is goes. let found : ℕ = found_at c.words (word_of p call) in let w : View = row p call (found_at c.words (word_of p call)) (hand_at p c.words c.homes call) v in
       let moved = counts (state c vs) m.seat v w at_view (words_after c.words (word_of p call) (word_after call (found_at c.words (word_of p call)))) (homes_after p call seat.hand c.homes) (is_linked h k) i in
       omega (arith, given, moved, links_stay p v (found_at c.words (word_of p call)) (hand_at p c.words c.homes call) h k call i))

@@ -19,16 +19,14 @@ use Rattle.seat_programs.specs.StepTables.{row, hand_at}
 use Rattle.seat_programs.specs.StepTables.{May}
 use Rattle.program_steps.specs.GoesOn.{GoesOn}
 use Rattle.program_steps.specs.Sound.{state, AreInHand, AreHeld, AreLabelled, Sound, views_after, IsFitting}
-use Rattle.program_steps.proofs.Passes.{goes_round}
 use Rattle.sock_runs.proofs.SlotTicks as slots
 use Rattle.sock_runs.proofs.NameTicks as names
 use Rattle.sock_runs.proofs.ChainTicks as chains
-use Rattle.sock_runs.proofs.LinkTicks.{RetriesGo, reseats, steps_aside, takes_message, takes_home_shown, puts_home, puts_bytes, asks_ready}
+use Rattle.sock_runs.proofs.LinkTicks.{RetriesGo, reseats, steps_aside, takes_message, takes_home_shown, puts_home, puts_bytes, asks_ready, same_message}
 use Rattle.sock_runs.proofs.HandTicks.{takes, finishes, puts}
 use Rattle.sock_runs.proofs.Held.{held_in_hand, keeps_held}
 use Rattle.sock_runs.proofs.Founds.{finds}
-use Rattle.program_steps.proofs.Rounds.{begins_round}
-use Rattle.program_steps.proofs.Cases.{tick_keeps}
+use Rattle.program_steps.proofs.Cases.{found_fits, tick_cases}
 
 -- ## The view after a step
 
@@ -77,7 +75,7 @@ module _ (p : Plan) (c : Core) (vs : List View) (o : Lawful (λ home. home) p (s
 
 -- ## All seats
 
-homes_sized : (p : Plan) (call : Call) (hand : List Home) (hs : List (Option Home)) → length (homes_after p call hand hs) ≡ length hs
+pub homes_sized : (p : Plan) (call : Call) (hand : List Home) (hs : List (Option Home)) → length (homes_after p call hand hs) ≡ length hs
 homes_sized p (TakeLink k) hand hs = length-set hs (p.requests + k) none
 homes_sized p (PutLink k) hand hs = length-set hs (p.requests + k) (first_of hand)
 homes_sized p (PutMessage q heading bytes) hand hs = length-set hs q (some (Message heading bytes))
@@ -93,11 +91,8 @@ labels_stay : (p : Plan) (v : View) (call : Call) → May p v call → (hand : L
 labels_stay p v (TakeLink k) may hand held hs labels i heading bytes at = ⊎_elim (λ a. absurd (some-ne-none (Message heading bytes) (sym a.1))) (λ a. labels i heading bytes a.1) (at_set hs (p.requests + k) i none (some (Message heading bytes)) at)
 labels_stay p v (PutLink k) may hand held hs labels i heading bytes at = ⊎_elim (λ a. absurd (first_link hand v.hands (held_in_hand hand v.rights v.hands may.2 held) heading bytes a.1)) (λ a. labels i heading bytes a.1) (at_set hs (p.requests + k) i (first_of hand) (some (Message heading bytes)) at)
 labels_stay p v (PutMessage q l cs) may hand held hs labels i heading bytes at = ⊎_elim
-    (λ a. let e : Message l cs ≡ Message heading bytes = some-injective (Message l cs) (Message heading bytes) a.1 in let q = parts l cs heading bytes e in (subst (λ (z : Heading). z.place < 8 * p.operations) q.0 may.2, subst (λ (z : List ℕ). z ≢ []) q.1 may.3))
+    (λ a. let e : Message l cs ≡ Message heading bytes = some-injective (Message l cs) (Message heading bytes) a.1 in let q = same_message l cs heading bytes e in (subst (λ (z : Heading). z.place < 8 * p.operations) q.0 may.2, subst (λ (z : List ℕ). z ≢ []) q.1 may.3))
     (λ a. labels i heading bytes a.1) (at_set hs q i (some (Message l cs)) (some (Message heading bytes)) at)
-  where
-    parts : (a : Heading) (b : List ℕ) (c : Heading) (d : List ℕ) → Message a b ≡ Message c d → (a ≡ c) × (b ≡ d)
-    parts a b c d e = (cc, cc)
 labels_stay p v _ may hand held hs labels i heading bytes at = labels i heading bytes at
 
 module _ (p : Plan) (retries_go : RetriesGo p) (c : Core) (vs : List View) (i : ℕ) (sound : Sound p c vs) where
@@ -114,11 +109,11 @@ module _ (p : Plan) (retries_go : RetriesGo p) (c : Core) (vs : List View) (i : 
 
 -- a tick of any seat keeps all seats sound, where each retry may be tried, and what steps aside of the sockets find is as it should be
 pub sound_ticks : (p : Plan) → RetriesGo p → (c : Core) (vs : List View) (m : Moment) → Sound p c vs → IsAnswered c m → IsFitting p c m → Sound p (ticked p c m) (views_after p c vs m)
-sound_ticks p retries_go c vs m sound answered fitting = tick_keeps p c vs m sound answered fitting (begins_round p) (goes_round p) (Sound p) sound
+sound_ticks p retries_go c vs m sound answered fitting = tick_cases p c vs m sound answered (Sound p) sound
     (λ seat v call next at_seat at_view is goes. step_sound p retries_go c vs m.seat sound seat v call next at_seat at_view goes)
     (λ seat v q next heading bytes at_seat at_view is goes here. takes_message p retries_go c vs sound m.seat seat v at_seat at_view q next heading bytes goes here)
     (λ seat v k next took n at_seat at_view is goes here. takes_home_shown p retries_go c vs sound m.seat seat v at_seat at_view k next took n goes here)
     (λ seat v k n after at_seat at_view is goes. puts_home p retries_go c vs sound m.seat seat v at_seat at_view k n after goes)
     (λ seat v k asked bytes next answer at_seat at_view is goes answer_is fits. puts_bytes p retries_go c vs sound m.seat seat v at_seat at_view k asked bytes next answer goes fits)
     (λ seat v k next answer at_seat at_view is goes answer_is. asks_ready p retries_go c vs sound m.seat seat v at_seat at_view k next answer goes)
-    (λ seat v step next found at_seat at_view is goes fits. steps_aside p retries_go c vs sound m.seat seat v at_seat at_view step next found goes fits)
+    (λ seat v step next found at_seat at_view is goes found_is. steps_aside p retries_go c vs sound m.seat seat v at_seat at_view step next found goes (found_fits p c m fitting seat at_seat step next found is found_is))

@@ -30,6 +30,7 @@ use Rattle.sock_steps.proofs.RightSteps.{right_in, right_alone}
 use Rattle.seat_programs.specs.Writings as heads
 use Rattle.std.specs.Prelude as std
 use Rattle.seat_programs.specs.corr_core.specs.Word.{parts}
+use Rattle.seat_programs.specs.corr_core.proofs.Notes.{at_length}
 use Rattle.seat_programs.specs.id_rule.specs.Lawful.{id_index}
 use Rattle.sock_model.specs.Layout.{open_index}
 use Rattle.seat_programs.specs.Asides.{Taking, Nothing, id_slot}
@@ -45,7 +46,7 @@ use Rattle.seat_programs.specs.Runs.{IsAtRest}
 use Rattle.program_steps.specs.GoesOn.{GoesOn}
 use Rattle.program_steps.specs.Sound.{Sound, IsAhead, is_begun}
 use Rattle.sock_runs.proofs.Allowed.{view_there}
-use Rattle.sock_runs.proofs.Along.{seat_rests, place_inside}
+use Rattle.sock_runs.proofs.Along.{seat_rests}
 
 -- ## Its tick changes nothing
 
@@ -168,7 +169,7 @@ module _ (p : Plan) (c : Core) (vs : List View) (sound : Sound p c vs) (ahead : 
   no_loose j v at = let seat = view_there vs c.seats j v (sym sound.each) at (get_elem? c.seats j) refl in let goes = (sound.seats j seat.0 v seat.1 at).goes_on in
       ⊎_elim (λ rest. (subst (GoesOn p v) (seat_rests c ahead j rest seat.0 seat.1) goes).quiet.loose)
       (λ w. held_loose v seat.0.program w.0.answer goes (of_seat w.0 j seat.0 w.1 seat.1 w.3))
-      (each j (place_inside c.seats j seat.0 seat.1))
+      (each j (at_length c.seats j seat.0 seat.1))
 
   all_connected : (q : ℕ) → (tokens vs).loose q ≡ []
   all_connected q = gather_nil (loose_at q) vs (λ j v at. ap (filter (λ (x : Loose). eqb x.request q)) (no_loose j v at))

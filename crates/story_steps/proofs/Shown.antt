@@ -14,7 +14,7 @@ use Rattle.seat_programs.specs.Tasks.{plan_of}
 use Rattle.seat_programs.specs.Scripts.{IsRunWithCalls}
 use Rattle.call_stories.specs.Lists.{Take, given, takes_of_run, is_last, is_closed, found_so, is_fault, early_of_run, closed_of_run}
 use Rattle.call_stories.specs.Scenes.{In}
-use Rattle.call_stories.proofs.Posts.{and_left, and_right}
+use Rattle.call_stories.proofs.Posts.{and_left, and_right, or_cases}
 use Rattle.story_steps.proofs.End.{contains_in}
 
 kept_passes : (f : ℕ → Bool) (xs : List ℕ) (k : ℕ) → In k (filter f xs) → f k ≡ true
@@ -25,10 +25,6 @@ kept_passes f (x ∷ xs) k there = by_test (f x) refl there (kept_passes f xs k)
     by_test true is (inl same) rest = subst (λ n. f n ≡ true) (sym same) is
     by_test true is (inr later) rest = rest later
     by_test false is later rest = rest later
-
-or_cases : (a b : Bool) → (a || b) ≡ true → (a ≡ true) ⊎ (b ≡ true)
-or_cases true b is = inl refl
-or_cases false b is = inr is
 
 module _ (script : List Item) (turns : List Turn) (end_ : Core) (r : IsRunWithCalls script turns end_) where
   -- a take of link k found this

@@ -14,11 +14,10 @@ use Rattle.seat_programs.specs.StepTables.{May}
 use Rattle.story_steps.specs.Below.programs_allowed.specs.program_steps.specs.GoesOn.{GoesOn}
 use Rattle.story_steps.specs.Below.programs_allowed.specs.program_steps.specs.Sound.{Sound, first_step}
 use Rattle.story_steps.specs.Below.programs_allowed.specs.program_steps.proofs.Cases as cases
-use Rattle.story_steps.specs.Below.programs_allowed.specs.program_steps.proofs.Rounds.{begins_round}
-use Rattle.story_steps.specs.Below.programs_allowed.specs.program_steps.proofs.Passes.{goes_round}
+use Rattle.story_steps.specs.Below.programs_allowed.specs.program_steps.proofs.Cases.{elem_there}
 use Rattle.story_steps.specs.Below.id_runs.specs.Goes as goes
 use Rattle.story_steps.specs.call_stories.proofs.SockWords.{IsInside}
-use Rattle.story_ticks.proofs.Ticks.{other_there, AllowsDo}
+use Rattle.story_ticks.proofs.Ticks.{AllowsDo}
 
 module _ (p : Plan) where
   inside_call : (v : View) (call : Call) → May p v call → IsInside p call
@@ -54,5 +53,5 @@ module _ (p : Plan) where
   first_inside v _ g = tt
 
   pub allows : (c : Core) (vs : List View) (m : Moment) → Sound p c vs → (seat : Rattle.seat_programs.specs.Cores.SeatState) → get_elem? c.seats m.seat ≡ some seat → AllowsDo p (goes.first_of seat.program)
-  allows c vs m sound seat at = let v = other_there c.seats vs m.seat seat sound.each at in
-      first_inside v.0 seat.program (cases.goes_first p v.0 (begins_round p v.0) (goes_round p v.0) seat.program (sound.seats m.seat seat v.0 at v.1).goes_on)
+  allows c vs m sound seat at = let v = elem_there c.seats vs m.seat seat sound.each at in
+      first_inside v.0 seat.program (cases.goes_first p v.0 seat.program (sound.seats m.seat seat v.0 at v.1).goes_on)

@@ -12,6 +12,7 @@ use Rattle.sock_words.specs.declared.plain.Plan.{Plan}
 use Rattle.sock_words.specs.declared.outcome.Outcome.{Outcome}
 use Rattle.corr_core.specs.Word.{Parts}
 use Rattle.corr_core.specs.declared.marks.Plan.{Plan as IdPlan}
+use Rattle.corr_core.proofs.Notes.{at_length}
 use Rattle.seat_programs.specs.id_rule.specs.Lawful.{Unused, call_index, at_index}
 use Rattle.seat_programs.specs.declared.task.Task.{Task}
 use Rattle.seat_programs.specs.Programs.{Program, Rest}
@@ -20,7 +21,6 @@ use Rattle.seat_programs.specs.Readers.{reader}
 use Rattle.seat_programs.specs.Cores.{Core, SeatState, resolved, said, next_step}
 use Rattle.seat_programs.specs.Scripts.{opening_words, sizes_of, programs, readers_from, all_programs, beginning}
 use Rattle.story_steps.specs.Below.id_runs.proofs.Opening.{unused}
-use Rattle.story_steps.specs.Below.call_owing.proofs.Resolves.{inside_of}
 use Rattle.story_steps.specs.call_stories.specs.Scenes.{Saying, Scene, In, IsOver, IsTaskOf, LeadsTo, Later}
 use Rattle.story_steps.specs.call_stories.specs.Says.{NoSlot, Mark, SaysOn}
 use Rattle.story_steps.specs.call_stories.specs.Stories.{At, word_at, SlotsLaw, BirthsLaw, TasksLaw, ClaimsLaw, ReadsLaw, HasStory}
@@ -290,7 +290,7 @@ module _ (p : Plan) (q : IdPlan) (clients : List (List Task)) (gives : ℕ → L
       first_decided =
           let xs : List Program = all_programs (programs (sizes_of p q) clients) (readers_from calls 0 opens) in
           let r = begin_all (all_programs (programs (sizes_of p q) clients) (readers_from calls 0 opens)) 0 (replicate p.operations None) [] (first_marks 0 q.seats) (λ i x e. subst (λ n. get_elem? xs n ≡ core.some x) (let z : i ≡ 0 + i = omega arith in z) e) first_tasks
-          (λ i x e. ((λ low. absurd (omega (arith, low))), (λ _. there_first q.seats i (let z = inside_of xs i x e in omega (arith, z, long))))) (λ s there. there) (λ a b there. there) first_slots first_claims first_reads in (
+          (λ i x e. ((λ low. absurd (omega (arith, low))), (λ _. there_first q.seats i (let z = at_length xs i x e in omega (arith, z, long))))) (λ s there. there) (λ a b there. there) first_slots first_claims first_reads in (
             record {
               scene = first_scene;
               marks = r.0;
@@ -306,7 +306,7 @@ module _ (p : Plan) (q : IdPlan) (clients : List (List Task)) (gives : ℕ → L
                 reads = r.6;
                 seats = λ j seat m at_seat at_m.
                     let s = mapped_at (λ (x : Program). record { program = next_step (resolved [] x); hand = [] }) xs j seat at_seat in
-                    let d = (r.3 j s.0 s.1).0 (let z = inside_of xs j s.0 s.1 in omega (arith, z)) in
+                    let d = (r.3 j s.0 s.1).0 (let z = at_length xs j s.0 s.1 in omega (arith, z)) in
                     let same : d.0 ≡ m = some-injective d.0 m (sym d.1 ∙ at_m) in
                     subst (λ (y : SeatState). SaysOn p q clients gives first_scene m y.program) s.2 (subst (λ (n : Mark). SaysOn p q clients gives first_scene n (next_step (resolved [] s.0))) same d.3);
               };

@@ -1,21 +1,15 @@
 -- At the end of a run its story has ended.
 use Rattle.std.proofs.Common.{◌≡◌, ℕ, ◌<◌, ◌≤◌, List, [], ◌∷◌, length, slice_get, Some, None, zero, suc, sym, subst, arith}
-use mathlib.Core.Option.{some}
-use lib.ListN.{get_elem?}
 use Rattle.sock_words.specs.declared.plain.Plan.{Plan}
 use Rattle.corr_core.specs.declared.marks.Plan.{Plan as IdPlan}
 use Rattle.seat_programs.specs.declared.task.Task.{Task}
 use Rattle.story_steps.specs.Below.programs_allowed.specs.program_steps.specs.Sound.{AllRest}
+use Rattle.story_steps.specs.Below.programs_allowed.specs.program_steps.proofs.Cases.{elem_there}
 use Rattle.story_steps.specs.call_stories.specs.Scenes.{Scene}
 use Rattle.story_steps.specs.call_stories.specs.Says.{Mark, SaysOn}
 use Rattle.story_steps.specs.call_stories.specs.Stories.{word_at, CallStory}
 use Rattle.story_steps.proofs.End.{HasEnded}
-use Rattle.story_ticks.proofs.Ticks.{other_there}
-
-there_below : {A : Type 0} (l : List A) (i : ℕ) → i < length l → (a : A) × (get_elem? l i ≡ some a)
-there_below [] i low = absurd (omega (arith, low))
-there_below (x ∷ xs) zero low = (x, Rattle.std.proofs.Common.refl)
-there_below (x ∷ xs) (suc i) low = there_below xs i (omega (arith, low))
+use Rattle.story_steps.specs.Below.owed_calls.proofs.Ended.{at_some}
 
 got_below : {A : Type 0} (l : List A) (i : ℕ) (a : A) → slice_get l i ≡ Some a → i < length l
 got_below [] i a e = absurd (let z : None ≡ Some a = e in cc)
@@ -28,7 +22,7 @@ module _ (p : Plan) (q : IdPlan) (clients : List (List Task)) (gives : ℕ → L
   has_ended w ms story rest free many = record {
     births = story.births;
     tasks = story.tasks;
-    idle = λ j m at. let s = other_there ms w.core.seats j m (sym story.each) at in let g = subst (SaysOn p q clients gives w m) (rest j s.0 s.1) (story.seats j s.0 m s.1 at) in (g.1, g.0.1);
+    idle = λ j m at. let s = elem_there ms w.core.seats j m (sym story.each) at in let g = subst (SaysOn p q clients gives w m) (rest j s.0 s.1) (story.seats j s.0 m s.1 at) in (g.1, g.0.1);
     free = free;
-    seated = λ c ts there. there_below ms c (let low = got_below clients c ts there in let each = story.each in omega (arith, low, each, many));
+    seated = λ c ts there. at_some ms c (let low = got_below clients c ts there in let each = story.each in omega (arith, low, each, many));
   }

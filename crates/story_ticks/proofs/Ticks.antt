@@ -1,5 +1,5 @@
 -- A tick of any seat goes on with the story of the calls.
-use Rattle.std.proofs.Common.{◌≡◌, ◌≢◌, ℕ, zero, suc, ◌<◌, ◌≤◌, ◌⊎◌, inl, inr, ⊎_elim, List, [], ◌∷◌, ◌++◌, length, length-set, get_or, get_or-set_same, set, slice_get, None, Some, refl, sym, ap, ◌∙◌, subst, arith}
+use Rattle.std.proofs.Common.{◌≡◌, ◌≢◌, ℕ, ◌<◌, ◌≤◌, ◌⊎◌, inl, inr, ⊎_elim, List, [], ◌∷◌, ◌++◌, length, length-set, get_or, get_or-set_same, set, refl, sym, ap, ◌∙◌, subst, arith}
 use Rattle.std.specs.List.{AllByRecursion}
 use mathlib.Core.Option.{Option, none, some, some-ne-none}
 use lib.ListN.{get_elem?}
@@ -17,13 +17,12 @@ use Rattle.corr_core.specs.declared.marks.Plan.{Plan as IdPlan}
 use Rattle.seat_programs.specs.declared.task.Op.TheVariants as ops
 use Rattle.seat_programs.specs.declared.task.Task.{Task}
 use Rattle.seat_programs.specs.Calls.{Call, StoreName, LoadName, LoadCode}
-use Rattle.seat_programs.specs.Asides.{Step, TakeBytes, Taking, Bytes, Found}
-use Rattle.seat_programs.specs.Asides as asides
+use Rattle.seat_programs.specs.Asides.{Step, Taking, Found}
 use Rattle.seat_programs.specs.Heads.{Retry}
 use Rattle.seat_programs.specs.Programs.{Program, Do, Say, Sent, Rest, TakeMessage, TakeHome, PutHome, PutBytes, AskReady, Write, Aside, Round, Keep, Retries}
 use Rattle.seat_programs.specs.Sends.{block}
 use Rattle.seat_programs.specs.Rounds.{round}
-use Rattle.seat_programs.specs.Cores.{Calls, Core, SeatState, found_at, words_after, homes_after, hand_after, lies_at, first_of, others_of, link_place, resolved, waiting_at, next_step, with_seat}
+use Rattle.seat_programs.specs.Cores.{Core, SeatState, found_at, words_after, homes_after, hand_after, lies_at, first_of, others_of, link_place, resolved, waiting_at, next_step, with_seat}
 use Rattle.seat_programs.specs.StepTables.{word_of, word_after}
 use Rattle.seat_programs.specs.Beside.{found_in, calls_after}
 use Rattle.seat_programs.specs.Scripts.{is_ending}
@@ -46,7 +45,7 @@ use Rattle.story_steps.specs.call_stories.proofs.Lasting.{far, here_later, are_t
 use Rattle.story_steps.specs.call_stories.proofs.Programs.{block_says}
 use Rattle.story_steps.proofs.Rounds.{round_says}
 use Rattle.story_steps.proofs.Calls.{told_at, open_named}
-use Rattle.story_steps.proofs.Numbered.{AreNumbered}
+use Rattle.story_steps.proofs.Numbered.{AreNumbered, listed_or}
 use Rattle.story_steps.proofs.BirthTicks.{one_call}
 use Rattle.story_steps.proofs.Attempts.{in_behind, in_front}
 use Rattle.story_steps.specs.call_stories.proofs.Leading.{run_leads}
@@ -59,23 +58,7 @@ use Rattle.story_ticks.proofs.Chains.{sayings_of, AreFewTries, KeepsFew}
 use Rattle.story_ticks.proofs.Kept.{kept_slots, kept_claims, kept_reads}
 use Rattle.story_ticks.proofs.AsideTicks.{sayings_keep, overs_keep, is_later, aside_ticks}
 use Rattle.story_ticks.proofs.SockTicks.{IsBeside, beside_later, beside_slots, beside_births, beside_tasks, beside_said, beside_ticks}
-
--- of two lists of one length each place of one is a place of the other
-pub other_there : {A B : Type 0} (l : List A) (m : List B) (i : ℕ) (a : A) → length m ≡ length l → get_elem? l i ≡ some a → (b : B) × (get_elem? m i ≡ some b)
-other_there [] m i a e at = absurd (some-ne-none a (sym at))
-other_there (x ∷ xs) [] i a e at = absurd (omega (arith, e))
-other_there (x ∷ xs) (y ∷ ys) zero a e at = (y, refl)
-other_there (x ∷ xs) (y ∷ ys) (suc i) a e at = other_there xs ys i a (omega (arith, e)) at
-
--- the retries that wait stay behind a step aside
-waiting_same : (step : Step) (found : Found step) (a : Calls) → (calls_after step found a).waiting ≡ a.waiting
-waiting_same (TakeBytes l room) (Bytes bytes) a = refl
-waiting_same (TakeBytes l room) asides.Nothing a = refl
-waiting_same (TakeBytes l room) asides.NoMore a = refl
-waiting_same (TakeBytes l room) asides.AtEnd a = refl
-waiting_same (TakeBytes l room) asides.Closed a = refl
-waiting_same (TakeBytes l room) asides.Broken a = refl
-waiting_same _ found a = refl
+use Rattle.story_steps.specs.Below.programs_allowed.specs.program_steps.proofs.Cases.{elem_there, calls_waiting}
 
 module _ (p : Plan) (q : IdPlan) where
   few_of : (ws : List Retry) → AllByRecursion (FitsRetryId q) ws → AreFewTries ws
@@ -210,18 +193,13 @@ module _ (p : Plan) (q : IdPlan) (clients : List (List Task)) (gives : ℕ → L
     setup_done other t is =
         let first = first_mark ms i m at in
         let none_ = over other first.0 first.1 in
-        let there : In t first.0.done = in_undo first.0.done first.0.todo none_ (subst (In t) (sym (story.tasks.placed 0 first.0 first.1 ∙ listed_here clients 0 is.0 is.1)) is.2) in
+        let there : In t first.0.done = in_undo first.0.done first.0.todo none_ (subst (In t) (sym (story.tasks.placed 0 first.0 first.1 ∙ listed_or clients 0 is.0 is.1)) is.2) in
         let told = subst (λ c. AreTold p q clients gives w c first.0.done) (story.tasks.client 0 first.0 first.1) (story.tasks.told 0 first.0 first.1) in
         let x = told_at p q clients gives w 0 first.0.done t told there in (first.0, x.0, x.1)
       where
         first_mark : (l : List Mark) (k : ℕ) (n : Mark) → get_elem? l k ≡ some n → (o : Mark) × (get_elem? l 0 ≡ some o)
         first_mark [] k n e = absurd (some-ne-none n (sym e))
         first_mark (x ∷ xs) k n e = (x, refl)
-
-        listed_here : (cs : List (List Task)) (c : ℕ) (ts : List Task) → slice_get cs c ≡ Some ts → get_or cs c [] ≡ ts
-        listed_here [] c ts e = absurd (let z : None ≡ Some ts = e in cc)
-        listed_here (y ∷ cs) zero ts e = let z : y ≡ ts = cc in z
-        listed_here (y ∷ cs) (suc c) ts e = listed_here cs c ts e
 
         undone : (done todo : List Task) → In t (undo p q clients gives done todo) → In t done ⊎ In t todo
         undone [] todo there = inr there
@@ -284,7 +262,7 @@ module _ (p : Plan) (q : IdPlan) (clients : List (List Task)) (gives : ℕ → L
           let kn = knows p q clients gives w us ids ms i m at story.reads u at_view step t found is go.0 says.0 in
           let law = claims_after_step p q clients gives numbered w aside_scene ms i m at ids.plan (is_sized p q clients gives w us ids) (story.slots.fits i m at) story.births w.core.outcomes w.sayings story.tasks story.claims step found b kn says.0 in
           let room' : StaysWithin p q clients gives aside_scene = (has_room p q clients gives slots aside_scene (set ms i (mark_after p q clients gives step found m)) law, lead) in
-          let few = few_of p q (waiting_at (calls_after step found w.core.calls).waiting i) (subst (λ (x : List (List Retry)). AllByRecursion (FitsRetryId q) (waiting_at x i)) (sym (waiting_same step found w.core.calls)) (ids.waiting i)) in
+          let few = few_of p q (waiting_at (calls_after step found w.core.calls).waiting i) (subst (λ (x : List (List Retry)). AllByRecursion (FitsRetryId q) (waiting_at x i)) (sym (calls_waiting step found w.core.calls)) (ids.waiting i)) in
           let keeps = keeps_few p q (id_row q step found Rattle.story_steps.specs.Below.id_runs.proofs.Steps.no_call u) (next found) (go.1 found Rattle.story_steps.specs.Below.id_runs.proofs.Steps.no_call (finds p q clients gives w us ids ms i m at story.reads u at_view step t found is go.0)) in
           let l = is_later p q clients gives numbered w aside_scene ms i m at ids.plan (is_sized p q clients gives w us ids) (are_low p q clients gives w us ids) story.slots story.births story.tasks story.claims story.reads step found b kn refl room' says.0 in
           let r = aside_ticks p q clients gives numbered w aside_scene ms i m at ids.plan (is_sized p q clients gives w us ids) (are_low p q clients gives w us ids) story.slots story.births story.tasks story.claims story.reads step found b kn refl room' next says (waiting_at (calls_after step found w.core.calls).waiting i) few keeps refl refl in
@@ -366,14 +344,14 @@ module _ (p : Plan) (q : IdPlan) (clients : List (List Task)) (gives : ℕ → L
       of_scene w ms story ids fitting sized allows set_up lead = by_seat (get_elem? w.core.seats mm.seat) refl lead
         where
           over : mm.seat ≢ 0 → (n : Mark) → At ms 0 n → n.todo ≡ []
-          over other n there = let s = other_there ms w.core.seats 0 n (sym story.each) there in let g = subst (SaysOn p q clients gives w n) (set_up other s.0 s.1) (story.seats 0 s.0 n s.1 there) in g.1
+          over other n there = let s = elem_there ms w.core.seats 0 n (sym story.each) there in let g = subst (SaysOn p q clients gives w n) (set_up other s.0 s.1) (story.seats 0 s.0 n s.1 there) in g.1
 
           here : LeadsTo p q clients gives w.core
           here = run_leads p q clients gives (mm ∷ []) w.core lead
 
           by_seat : (x : Option SeatState) → get_elem? w.core.seats mm.seat ≡ x → LeadsTo p q clients gives (elim x as (λ o. Core) [ none ↦ w.core | some seat ↦ tick_with p mm.seat seat w.core mm.answer seat.program ]) → GoesOn p q clients gives w (elim x as (λ o. List Decision) [ none ↦ [] | some seat ↦ decision_in seat.program ] ++ w.decisions) (elim x as (λ o. List Post) [ none ↦ [] | some seat ↦ posted_with w.core.calls (taken mm.answer) (goes.first_of seat.program) ] ++ w.posts) (elim x as (λ o. List ℕ) [ none ↦ [] | some seat ↦ advanced_with w.core.calls (taken mm.answer) (goes.first_of seat.program) ] ++ w.advances) (elim x as (λ o. Core) [ none ↦ w.core | some seat ↦ tick_with p mm.seat seat w.core mm.answer seat.program ])
           by_seat none e lead = stays w ms story here
-          by_seat (some seat) e lead = let u = other_there w.core.seats us mm.seat seat ids.each e in let m = other_there w.core.seats ms mm.seat seat story.each e in
+          by_seat (some seat) e lead = let u = elem_there w.core.seats us mm.seat seat ids.each e in let m = elem_there w.core.seats ms mm.seat seat story.each e in
               let told = noted_story w ms story us ids sized mm.seat seat e u.0 u.1 m.0 m.1 over (decision_in seat.program) here in
               let k = any_step (noted (decision_in seat.program) w) ms told us ids sized mm.seat seat e u.0 u.1 m.0 m.1 over mm.answer seat.program (λ d there. in_front d (decision_in seat.program) w.decisions there) (told.seats mm.seat seat m.0 e m.1) (ids.seats mm.seat seat u.0 e u.1) (fitting seat e) (allows seat e) lead in record {
                 has = k.has;
