@@ -9,7 +9,7 @@ use Rattle.brpc_model.specs.Operations.{Operation, operations_from, operations}
 use Rattle.brpc_model.specs.Script.{is_the_call}
 use Rattle.seat_programs.specs.Tasks.{Numbered, numbered_from, numbered, number_of}
 use Rattle.script_lang.specs.Numbers.{Numbers, begins_along, numbers_of, is_within, within, operation_in, is_call_at, has_call}
-use Rattle.script_lang.specs.TasksByLine.{Finds}
+use Rattle.script_lang.specs.TasksByLine.{AreNumbersOf}
 
 -- how many operations there are with those of these items, before which so many came
 abbrev pub total_along : ℕ → List Item → ℕ
@@ -172,13 +172,13 @@ found_in script client i =
     let all : total_along 0 script ≡ count_by is_operation script = (let t = total_is 0 script in omega (arith, t)) in
     ap (λ t. found_from 0 1 (begins_along 0 script) t client i) all ∙ sym (in_table (numbers_of script) client i)
 
-knows_all : (script : List Item) → Finds (numbers_of script) (numbered script)
+knows_all : (script : List Item) → AreNumbersOf (numbers_of script) (numbered script)
 knows_all script client i =
     let same : client ≡ 0 + client = omega arith in
     ap (λ n. number_of (numbered script) n i) same ∙ found_is 0 1 0 0 script client i ∙ ap (λ o. unwrap_or o 0) (found_in script client i)
 
-pub known_by : {numbers : Numbers} (script : List Item) → numbers ≡ numbers_of script → Finds numbers (numbered script)
-known_by script e = subst (λ ns. Finds ns (numbered script)) (sym e) (knows_all script)
+pub known_by : {numbers : Numbers} (script : List Item) → numbers ≡ numbers_of script → AreNumbersOf numbers (numbered script)
+known_by script e = subst (λ ns. AreNumbersOf ns (numbered script)) (sym e) (knows_all script)
 
 -- ## Whether it is a call
 

@@ -31,8 +31,8 @@ numbers_along sort number (item ∷ items) =
     else numbers_along sort number items
 
 -- by these numbers each `C.I` is found among all operations
-abbrev pub Finds : Numbers → List Numbered → Type 0
-Finds numbers all = (client i : ℕ) → number_of all client i ≡ unwrap_or (operation_in numbers client i) 0
+abbrev pub AreNumbersOf : Numbers → List Numbered → Type 0
+AreNumbersOf numbers all = (client i : ℕ) → number_of all client i ≡ unwrap_or (operation_in numbers client i) 0
 
 -- a call keeps the limits of calls
 abbrev pub IsShort : Item → Type 0

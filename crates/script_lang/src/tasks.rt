@@ -7,7 +7,7 @@ ghost use Rattle.seat_programs.specs.Scripts.{all_tasks};
 ghost use Rattle.sock_message.specs.Inside.{KeepsLimits as IsWithinLimits};
 ghost use Rattle.brpc_model.specs.Limits.{KeepsLimits};
 ghost use Rattle.script_lang.specs.Numbers.{numbers_of};
-ghost use Rattle.script_lang.specs.TasksByLine.{Finds, IsShort, numbered_as, task_at};
+ghost use Rattle.script_lang.specs.TasksByLine.{AreNumbersOf, IsShort, numbered_as, task_at};
 
 use crate::names::NameList;
 use crate::numbering::Numbering;
@@ -56,7 +56,7 @@ fn op_of(
 ) -> Result<Option<Op>, NoMemory>
     requires names { length names.now ≤ 64 }
     requires short { IsShort (item line.now) }
-    ensures { IfOk result (λ op. (all : List Numbered) → Finds numbering.now all → op ≡ op_of all names.now (numbered_as number link (item line.now)) (item line.now)) }
+    ensures { IfOk result (λ op. (all : List Numbered) → AreNumbersOf numbering.now all → op ≡ op_of all names.now (numbered_as number link (item line.now)) (item line.now)) }
 {
     match line {
         Line::Open(open) => Ok(Some(Op::Open(names.number_of(&open.name), link))),
@@ -87,7 +87,7 @@ fn push_task(
 ) -> Result<(), NoMemory>
     requires names { length names.now ≤ 64 }
     requires short { IsShort (item line.now) }
-    ensures { OnOk result ((all : List Numbered) → Finds numbering.now all → tasks.new.items ≡ tasks.old.items ++ task_at all names.now number link (item line.now)) }
+    ensures { OnOk result ((all : List Numbered) → AreNumbersOf numbering.now all → tasks.new.items ≡ tasks.old.items ++ task_at all names.now number link (item line.now)) }
 {
     if let Some(op) = op_of(alloc, pool, names, numbering, number, link, line)? {
         tasks.push_back(Task { number, op })?;
@@ -155,12 +155,6 @@ impl Script {
         requires calls { AllByRecursion IsShort self.now }
         ensures { IfOk result (λ clients. map (λ q. q.items) clients.items ≡ all_tasks self.now) }
     {
-        tasks_of(
-            alloc,
-            pool,
-            self.names(),
-            self.numbering(),
-            self.lines(),
-        )
+        tasks_of(alloc, pool, self.names(), self.numbering(), self.lines())
     }
 }
