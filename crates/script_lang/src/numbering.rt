@@ -152,10 +152,12 @@ impl Numbering {
         ensures { result ≡ operation_in self.now target.now.client target.now.number }
     {
         let client = target.client as usize;
-        if target.number == 0 || target.number > u64::from(self.count_of(client)) {
+        let start = self.start_of(client);
+        let count = self.end_of(client).saturating_sub(start);
+        if target.number == 0 || target.number > u64::from(count) {
             return None;
         }
-        Some(self.start_of(client) + (target.number - 1) as u16)
+        Some(start + (target.number - 1) as u16)
     }
 
     /// The number of the operation `C.I`; 0 where there is none.

@@ -9,6 +9,16 @@ use Rattle.script_lang.proofs.LineSteps.{line_more}
 use Rattle.script_lang.proofs.Noted.{numbers_more}
 use Rattle.script_lang.proofs.numbering.Numbering.of.Goals as goal
 
+pub overflow_cast-counts : goal.overflow_cast-counts
+overflow_cast-counts c =
+    let within = front_counted c.args.lines.now c.loop-line.line-index c.loop-line.counts c.requires c.loop-line.invariant.counts in
+    omega (arith, within.operations)
+
+pub add-requires : goal.add-requires
+add-requires c =
+    let within = front_counted c.args.lines.now c.loop-line.line-index c.loop-line.counts c.requires c.loop-line.invariant.counts in
+    omega (arith, within.operations)
+
 pub with-counts-requires : goal.with-counts-requires
 with-counts-requires c = front_counted c.args.lines.now c.loop-line.line-index c.loop-line.counts c.requires c.loop-line.invariant.counts
 
