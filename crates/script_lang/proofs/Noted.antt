@@ -4,7 +4,7 @@ use Rattle.brpc_model.specs.Items.{Item, Client, Open, Call, is_client, is_size,
 use Rattle.seat_programs.specs.Tasks.{opens, calls}
 use Rattle.script_lang.specs.declared.counts.Counts.{Counts}
 use Rattle.script_lang.specs.Counting.{and_one}
-use Rattle.script_lang.specs.Numbers.{Numbers, begins_along, and_number, numbers_of, numbers_behind}
+use Rattle.script_lang.specs.Numbers.{begins_along, and_number, numbers_of, numbers_behind}
 use Rattle.script_lang.specs.TasksByLine.{numbers_along}
 use Rattle.script_lang.proofs.ByLine.{opens_are, calls_are}
 use Rattle.script_lang.proofs.Judged.{counts_more}
