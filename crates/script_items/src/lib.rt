@@ -22,7 +22,8 @@ pub use names::Names;
 pub use numbers::number;
 pub use read::read_line;
 pub use sizes::{
-    first_version, is_call, is_client, is_open, is_operation, request_count, slot_count,
+    DEFAULT_FIRST, DEFAULT_REQUESTS, DEFAULT_SLOTS, first_version, is_call, is_client, is_open,
+    is_operation, request_count, slot_count,
 };
 pub use sock_words::Shape;
 pub use writing::{push_hex, push_hex_word, push_number, push_number_word, push_word};

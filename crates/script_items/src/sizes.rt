@@ -5,7 +5,14 @@ ghost use Rattle.script_items.specs.Meaning.{item};
 
 use crate::line::Line;
 
-/// How many slots the sockets have: 31 where none is given.
+/// The slots of the sockets where a script gives none.
+pub const DEFAULT_SLOTS: u32 = 31;
+/// The room for requests where a script gives none.
+pub const DEFAULT_REQUESTS: u32 = 4096;
+/// The first version of each slot where a script gives none.
+pub const DEFAULT_FIRST: u32 = 0;
+
+/// How many slots the sockets have.
 pub fn slot_count(lines: &[Line]) -> u32
     ensures { result ≡ slots (map item lines.now) }
 {
@@ -14,10 +21,10 @@ pub fn slot_count(lines: &[Line]) -> u32
             return *count;
         }
     }
-    31
+    DEFAULT_SLOTS
 }
 
-/// How many requests the table has room for: 4,096 where none is given.
+/// How many requests the table has room for.
 pub fn request_count(lines: &[Line]) -> u32
     ensures { result ≡ requests (map item lines.now) }
 {
@@ -26,10 +33,10 @@ pub fn request_count(lines: &[Line]) -> u32
             return *count;
         }
     }
-    4096
+    DEFAULT_REQUESTS
 }
 
-/// The first version of each slot: 0 where none is given.
+/// The first version of each slot.
 pub fn first_version(lines: &[Line]) -> u32
     ensures { result ≡ first_version (map item lines.now) }
 {
@@ -38,7 +45,7 @@ pub fn first_version(lines: &[Line]) -> u32
             return *version;
         }
     }
-    0
+    DEFAULT_FIRST
 }
 
 /// Whether the line begins the next client.

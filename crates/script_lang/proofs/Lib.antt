@@ -2,7 +2,7 @@ pub mod LinesCut
 pub mod LineSteps
 pub mod Holding
 pub mod Judged
-pub mod CallRows
+pub mod Noted
 pub mod LineOf
 pub mod Placed
 pub mod Whole

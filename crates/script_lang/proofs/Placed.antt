@@ -12,11 +12,11 @@ use Rattle.script_items.specs.Meaning.{item}
 use Rattle.script_lang.specs.declared.counts.Counts.{Counts}
 use Rattle.script_lang.specs.declared.reader.Reader.{Reader}
 use Rattle.script_lang.specs.Counting.{counts_of, counted, is_one_too_many, stands_wrong, IsWithinLimits}
-use Rattle.script_lang.specs.Called.{rows_of, rows_behind}
+use Rattle.script_lang.specs.Numbers.{numbers_of, numbers_behind}
 use Rattle.script_lang.specs.Used.{uses_from, use_of}
 use Rattle.script_lang.specs.Known.{Knows, Keeps, HasNames}
 use Rattle.script_lang.proofs.Judged.{counts_more, wrong_place, too_many, still_within}
-use Rattle.script_lang.proofs.CallRows.{rows_more}
+use Rattle.script_lang.proofs.Noted.{numbers_more}
 use Rattle.script_lang.proofs.LineOf.{uses_more}
 
 -- ## The judgement
@@ -50,7 +50,7 @@ skipped old said knows =
       limits = knows.limits;
       names = knows.names ∙ ap names (sym same);
       held = λ name. ap (λ is. is_held is name) same ∙ knows.held name;
-      calls = knows.calls ∙ ap rows_of (sym same);
+      numbering = knows.numbering ∙ ap numbers_of (sym same);
       uses = knows.uses ∙ sym (uses_more 1 said None ∙ append-nil (uses_from 1 said));
     }
 
@@ -69,7 +69,9 @@ grown old new said line ns knows named room keeps =
       limits = subst P (sym keeps.counts) (still_within old.counts i knows.limits room);
       names = keeps.names ∙ named ∙ ap (λ ms. with_names ms (mentioned i)) knows.names ∙ sym (names_more (items said) i) ∙ ap names (sym same);
       held = λ name. ap (λ is. is_held is name) same ∙ is_held_more (items said) i name ∙ ap (λ b. held_behind name b i) (knows.held name) ∙ sym (keeps.held name);
-      calls = keeps.calls ∙ ap (λ rows. rows_behind rows i) knows.calls ∙ sym (rows_more (items said) i) ∙ ap rows_of (sym same);
+      numbering = keeps.numbering ∙ ap (λ ns. numbers_behind ns old.counts.operations i) knows.numbering
+          ∙ ap (λ (c : Counts). numbers_behind (numbers_of (items said)) c.operations i) knows.counts
+          ∙ sym (numbers_more (items said) i) ∙ ap numbers_of (sym same);
       uses = keeps.uses ∙ ap (λ us. us ++ option_to_list (use_of (old.count + 1) i)) knows.uses
           ∙ ap (λ k. uses_from 1 said ++ option_to_list (use_of k i)) number ∙ sym (uses_more 1 said (Some i));
     }

@@ -2,7 +2,7 @@
 use Rattle.std.proofs.Common.{◌≡◌, ℕ, List, [], ◌∷◌, length, map, arith}
 use Rattle.std.proofs.lemmas.List.{length-map}
 use Rattle.std.specs.List.{AllByRecursion}
-use Rattle.brpc_model.specs.Items.{Item, Slots, Requests, First, Client, Open, Send, Call, Expire, Join, Fail, Hold, Drop, Sched, Tick, To, CallLine}
+use Rattle.brpc_model.specs.Items.{Item, Call, CallLine}
 use Rattle.script_facts.proofs.CallLines.{CallInRange}
 use Rattle.script_facts.proofs.Reading.{InRange}
 use Rattle.sock_message.specs.Inside.{KeepsLimits}

@@ -6,10 +6,10 @@ use Rattle.brpc_model.specs.Script.{Faulty, items, is_lost, is_unserved, may_han
 use Rattle.script_items.specs.Meaning.{item}
 use Rattle.script_lang.specs.declared.reader.Reader.{Reader}
 use Rattle.script_lang.specs.declared.uses.CallUse.{CallUse}
-use Rattle.script_lang.specs.Called.{Rows, rows_of, has_call}
+use Rattle.script_lang.specs.Numbers.{Numbers, numbers_of, has_call}
 use Rattle.script_lang.specs.Used.{uses_from, use_of}
 use Rattle.script_lang.specs.Known.{Knows}
-use Rattle.script_lang.proofs.CallRows.{calls_are}
+use Rattle.script_lang.proofs.Starts.{called_are}
 use Rattle.script_lang.proofs.LineOf.{passes, position_is}
 
 -- the fault in this line, or what comes else
@@ -22,12 +22,12 @@ fault_at_place None kind other = refl
 fault_at_place (Some place) kind other = refl
 
 -- a call that isn't there
-abbrev pub is_absent : Rows → CallUse → Bool
-is_absent rows used = not (has_call rows used.target.client used.target.number)
+abbrev pub is_absent : Numbers → CallUse → Bool
+is_absent numbers used = not (has_call numbers used.target.client used.target.number)
 
-lost_by_use : (script : List Item) (line : ℕ) (item : Item) → is_lost script item ≡ passes (is_absent (rows_of script)) (use_of line item)
-lost_by_use script line (Expire client number) = ap not (sym (calls_are script client number))
-lost_by_use script line (Join client number) = ap not (sym (calls_are script client number))
+lost_by_use : (script : List Item) (line : ℕ) (item : Item) → is_lost script item ≡ passes (is_absent (numbers_of script)) (use_of line item)
+lost_by_use script line (Expire client number) = ap not (sym (called_are script client number))
+lost_by_use script line (Join client number) = ap not (sym (called_are script client number))
 lost_by_use script line _ = refl
 
 -- a call that is waited for where a link has no server
@@ -40,15 +40,15 @@ hanging_by_use script line _ = refl
 
 -- the script, or its first fault
 pub whole_is : (reader : Reader) (said : List (Option Item)) → Knows reader said → (lost hanging : Option ℕ) →
-    lost ≡ option_map (λ u. u.line) (find (is_absent reader.calls) reader.uses.items) →
+    lost ≡ option_map (λ u. u.line) (find (is_absent reader.numbering) reader.uses.items) →
     hanging ≡ option_map (λ u. u.line) (find (is_hanging reader.counts.unserved) reader.uses.items) →
     whole (Ok said) ≡ fault_in lost 10 (fault_in hanging 11 (Ok (map item reader.lines.items)))
 whole_is reader said knows lost hanging lost_is hanging_is =
     let script = items said in
     let first : option_map (λ p. p + 1) (position (says (is_lost script)) said) ≡ lost =
-    position_is (is_lost script) (is_absent (rows_of script)) (lost_by_use script) said
-    ∙ ap (λ rows. option_map (λ u. u.line) (find (is_absent rows) (uses_from 1 said))) (sym knows.calls)
-    ∙ ap (λ us. option_map (λ u. u.line) (find (is_absent reader.calls) us)) (sym knows.uses) ∙ sym lost_is in
+    position_is (is_lost script) (is_absent (numbers_of script)) (lost_by_use script) said
+    ∙ ap (λ numbers. option_map (λ u. u.line) (find (is_absent numbers) (uses_from 1 said))) (sym knows.numbering)
+    ∙ ap (λ us. option_map (λ u. u.line) (find (is_absent reader.numbering) us)) (sym knows.uses) ∙ sym lost_is in
     let second : option_map (λ p. p + 1) (position (says (may_hang script)) said) ≡ hanging =
     position_is (may_hang script) (is_hanging (list_any is_unserved script)) (hanging_by_use script) said
     ∙ ap (λ c. option_map (λ u. u.line) (find (is_hanging c.unserved) (uses_from 1 said))) (sym knows.counts)

@@ -10,7 +10,7 @@ use Rattle.script_lang.specs.declared.error.ScriptError.{ScriptError}
 use Rattle.script_lang.specs.declared.error.ScriptError.TheVariants.{Fault, NoMemory}
 use Rattle.script_lang.specs.declared.reader.Reader.{Reader}
 use Rattle.script_lang.specs.Counting.{counts_of, counted, IsWithinLimits}
-use Rattle.script_lang.specs.Called.{rows_of, rows_behind}
+use Rattle.script_lang.specs.Numbers.{numbers_of, numbers_behind}
 use Rattle.script_lang.specs.Used.{uses_from, use_of}
 
 -- the lines so far said this, or nothing where they were comments or empty
@@ -21,7 +21,7 @@ pub record Knows (reader : Reader) (said : List (Option Item)) : Type 0 where
   pub limits : IsWithinLimits reader.counts
   pub names : reader.names ≡ names (items said)
   pub held : (name : List ℕ) → is_held (items said) name ≡ list_any (bytes_eq name) reader.held
-  pub calls : reader.calls ≡ rows_of (items said)
+  pub numbering : reader.numbering ≡ numbers_of (items said)
   pub uses : reader.uses.items ≡ uses_from 1 said
 
 -- before the next line is judged its names are added
@@ -42,7 +42,7 @@ pub record Notes (old new : Reader) (item : Item) : Type 0 where
   pub counts : new.counts ≡ counted old.counts item
   pub names : new.names ≡ old.names
   pub held : (name : List ℕ) → list_any (bytes_eq name) new.held ≡ held_behind name (list_any (bytes_eq name) old.held) item
-  pub calls : new.calls ≡ rows_behind old.calls item
+  pub numbering : new.numbering ≡ numbers_behind old.numbering old.counts.operations item
   pub uses : new.uses.items ≡ old.uses.items ++ option_to_list (use_of (old.count + 1) item)
 
 -- one more line was kept; its names were there before
@@ -52,7 +52,7 @@ pub record Keeps (old new : Reader) (line : Line) : Type 0 where
   pub counts : new.counts ≡ counted old.counts (item line)
   pub names : new.names ≡ old.names
   pub held : (name : List ℕ) → list_any (bytes_eq name) new.held ≡ held_behind name (list_any (bytes_eq name) old.held) (item line)
-  pub calls : new.calls ≡ rows_behind old.calls (item line)
+  pub numbering : new.numbering ≡ numbers_behind old.numbering old.counts.operations (item line)
   pub uses : new.uses.items ≡ old.uses.items ++ option_to_list (use_of (old.count + 1) (item line))
 
 -- the answer to one more line, where these are all lines with it, or the fault

@@ -1,5 +1,5 @@
 pub mod Counting
-pub mod Called
+pub mod Numbers
 pub mod Used
 pub mod Known
 pub mod TasksByLine

@@ -2,12 +2,11 @@
 //! is asked to do by it: its sizes, the tasks of each client, the `open`s and the calls.
 #![tactic(auto)]
 
-mod calls;
 mod counts;
 mod error;
 mod held;
 mod names;
-mod places;
+mod numbering;
 mod read;
 mod reader;
 mod script;

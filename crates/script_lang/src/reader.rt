@@ -6,11 +6,11 @@ ghost use Rattle.script_items.specs.Meaning.{item};
 ghost use Rattle.script_lang.specs.Counting.{IsWithinLimits, is_one_too_many};
 ghost use Rattle.script_lang.specs.Known.{Knows, Keeps, Notes, HasNames, FaultIs, JudgedIs, PlaceIs, LineIs, WholeIs};
 
-use crate::calls::CallTable;
 use crate::counts::Counts;
 use crate::error::ScriptError;
 use crate::held;
 use crate::names::NameList;
+use crate::numbering::Numbering;
 use crate::script::Script;
 use crate::uses::{CallUse, first_hanging, first_lost, note_use};
 use script_items::{Line, LineFault, read_line};
@@ -43,7 +43,8 @@ pub struct Reader {
     names: NameList,
     /// The names that the client in hand holds.
     held: NameList,
-    calls: CallTable,
+    /// Which number each operation has.
+    numbering: Numbering,
     uses: Vec<CallUse>,
 }
 
@@ -59,7 +60,7 @@ impl Reader {
             counts: Counts::new(),
             names: NameList::new(alloc),
             held: NameList::new(alloc),
-            calls: CallTable::new(alloc),
+            numbering: Numbering::new(alloc),
             uses: Vec::new(alloc),
         }
     }
@@ -169,9 +170,9 @@ impl Reader {
         requires limits { IsWithinLimits self.old.counts }
         ensures { OnOk result (Notes self.old self.new (item line.now)) }
     {
+        self.numbering.add(line, self.counts.operations as u16)?;
         self.counts = self.counts.with(line);
         held::add(&mut self.held, line)?;
-        self.calls.add(line)?;
         self.count += 1;
         note_use(&mut self.uses, line, self.count)?;
         Ok(())
@@ -182,7 +183,7 @@ impl Reader {
         requires { (said : List (Option Item)) × Knows self said }
         ensures { (said : List (Option Item)) → Knows self said → WholeIs (whole (Ok said)) result }
     {
-        if let Some(line) = first_lost(&self.uses, &self.calls) {
+        if let Some(line) = first_lost(&self.uses, &self.numbering) {
             drop(self);
             return Err(ScriptError::Fault {
                 line,
@@ -199,6 +200,6 @@ impl Reader {
         let mut lines = self.lines;
         // They are kept for a whole run.
         lines.shrink_to_fit();
-        Ok(Script::new(lines, self.names, self.counts))
+        Ok(Script::new(lines, self.names, self.counts, self.numbering))
     }
 }

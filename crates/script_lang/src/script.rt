@@ -4,34 +4,31 @@ ghost use Rattle.brpc_model.specs.Script.{script_of};
 ghost use Rattle.brpc_model.specs.Limits.{KeepsLimits};
 ghost use Rattle.script_items.specs.Meaning.{item};
 ghost use Rattle.script_lang.specs.Counting.{counts_of};
-ghost use Rattle.seat_programs.specs.Tasks.{id_plan_of, plan_of};
+ghost use Rattle.script_lang.specs.Numbers.{numbers_of};
+ghost use Rattle.seat_programs.specs.Tasks.{calls, id_plan_of, opens, plan_of};
 
 use crate::counts::Counts;
 use crate::names::NameList;
+use crate::numbering::Numbering;
 use corr_core::Plan as IdPlan;
-use script_items::Line;
+use script_items::{DEFAULT_FIRST, DEFAULT_REQUESTS, DEFAULT_SLOTS, Line};
 use sock_words::Plan;
 use std::alloc::{AllocError, Global};
 use std::marker::Model;
 
-/// The slots of the sockets where none are given.
-const SLOTS: u32 = 31;
-/// The room for requests where none is given.
-const REQUESTS: u32 = 4096;
-/// The first version of each slot where none is given.
-const FIRST: u32 = 0;
 /// The seat of the reader of the first link: those before it are the clients'.
 const READERS: u16 = 32;
 
 /// The lines of a script that say something, in their order, with what was found of them as they
-/// were read: their names, and how many there are of each sort. Contracts see the list of what the
-/// lines say.
+/// were read: their names, how many there are of each sort, and which number each operation has.
+/// Contracts see the list of what the lines say.
 #[derive(Drop)]
 pub struct Script {
     lines: Vec<Line>,
     /// In the order of first mention.
     names: NameList,
     counts: Counts,
+    numbering: Numbering,
 }
 
 impl Model for Script {
@@ -40,37 +37,60 @@ impl Model for Script {
     ghost use Rattle.brpc_model.specs.Places as model;
     ghost use Rattle.script_items.specs.Meaning.{item};
     ghost use Rattle.script_lang.specs.Counting.{counts_of};
+    ghost use Rattle.script_lang.specs.Numbers.{numbers_of};
 
     ghost Value = { List Item };
 
     ghost view = { λ s. map item s.lines.items };
 
-    ghost invariant = { λ s. (s.names ≡ model.names (map item s.lines.items)) × (s.counts ≡ counts_of (map item s.lines.items)) };
+    ghost invariant = { λ s. (s.names ≡ model.names (map item s.lines.items)) × (s.counts ≡ counts_of (map item s.lines.items)) × (s.numbering ≡ numbers_of (map item s.lines.items)) };
+}
+
+/// The names of lines that were made otherwise, and which number each of their operations has.
+fn found_of(alloc: Global, lines: &[Line]) -> Result<(NameList, Numbering), AllocError>
+    requires { (bytes : List ℕ) × (script_of bytes ≡ Ok (map item lines.now)) }
+    ensures { IfOk result (λ found. (found.0 ≡ model.names (map item lines.now)) × (found.1 ≡ numbers_of (map item lines.now))) }
+{
+    let numbering = Numbering::of(alloc, lines)?;
+    match NameList::of(alloc, lines) {
+        Ok(names) => Ok((names, numbering)),
+        Err(fault) => {
+            drop(numbering);
+            Err(fault)
+        }
+    }
 }
 
 impl Script {
-    /// The script of these lines, which have these names and counts.
-    pub(crate) fn new(lines: Vec<Line>, names: NameList, counts: Counts) -> Self
+    /// The script of these lines, of which this was found.
+    pub(crate) fn new(
+        lines: Vec<Line>,
+        names: NameList,
+        counts: Counts,
+        numbering: Numbering,
+    ) -> Self
         requires names { names ≡ model.names (map item lines.items) }
         requires counts { counts ≡ counts_of (map item lines.items) }
+        requires numbering { numbering ≡ numbers_of (map item lines.items) }
         ensures { result ≡ map item lines.items }
     {
         Script {
             lines,
             names,
             counts,
+            numbering,
         }
     }
 
     /// The script of lines that were made otherwise, and are what is read of some bytes. The
-    /// memory is for their names.
+    /// memory is for their names and numbers.
     pub fn of(alloc: Global, lines: Vec<Line>) -> Result<Self, AllocError>
         requires { (bytes : List ℕ) × (script_of bytes ≡ Ok (map item lines.items)) }
         ensures { IfOk result (λ script. script ≡ map item lines.items) }
     {
         let counts = Counts::of(&lines);
-        match NameList::of(alloc, &lines) {
-            Ok(names) => Ok(Script::new(lines, names, counts)),
+        match found_of(alloc, &lines) {
+            Ok((names, numbering)) => Ok(Script::new(lines, names, counts, numbering)),
             Err(fault) => {
                 drop(lines);
                 Err(fault)
@@ -99,6 +119,27 @@ impl Script {
         &self.names
     }
 
+    /// Which number each of its operations has.
+    pub(crate) fn numbering(&self) -> &Numbering
+        ensures { result.now ≡ numbers_of self.now }
+    {
+        &self.numbering
+    }
+
+    /// The numbers of the `open` operations, in the order of their links.
+    pub fn opens(&self) -> &[u16]
+        ensures { result.now ≡ opens self.now }
+    {
+        self.numbering.opens()
+    }
+
+    /// The numbers of the `call` operations, in their order.
+    pub fn calls(&self) -> &[u16]
+        ensures { result.now ≡ calls self.now }
+    {
+        self.numbering.calls()
+    }
+
     /// The sizes of its table: what its lines give or count, and a seat for each client and one
     /// for the setup.
     pub fn plan(&self) -> Plan
@@ -106,13 +147,13 @@ impl Script {
         ensures { result ≡ plan_of self.now }
     {
         Plan {
-            slots: self.counts.slots.unwrap_or(SLOTS) as u16,
+            slots: self.counts.slots.unwrap_or(DEFAULT_SLOTS) as u16,
             links: self.counts.links as u16,
-            requests: self.counts.requests.unwrap_or(REQUESTS) as u16,
+            requests: self.counts.requests.unwrap_or(DEFAULT_REQUESTS) as u16,
             names: self.names.len() as u16,
             operations: self.counts.operations as u16,
             seats: self.counts.clients as u16 + 1,
-            first: self.counts.first.unwrap_or(FIRST),
+            first: self.counts.first.unwrap_or(DEFAULT_FIRST),
         }
     }
 

@@ -6,10 +6,11 @@ ghost use Rattle.seat_programs.specs.Tasks.{Numbered, asked_of, op_of};
 ghost use Rattle.seat_programs.specs.Scripts.{all_tasks};
 ghost use Rattle.sock_message.specs.Inside.{KeepsLimits as IsWithinLimits};
 ghost use Rattle.brpc_model.specs.Limits.{KeepsLimits};
-ghost use Rattle.script_lang.specs.TasksByLine.{AreStarts, IsShort, numbered_as, task_at};
+ghost use Rattle.script_lang.specs.Numbers.{numbers_of};
+ghost use Rattle.script_lang.specs.TasksByLine.{AreNumbersOf, IsShort, numbered_as, task_at};
 
 use crate::names::NameList;
-use crate::places::{operation_at, starts_of};
+use crate::numbering::Numbering;
 use crate::script::Script;
 use script_items::{CallLine, Line, is_client, is_open, is_operation};
 use seat_programs::{Op, Task};
@@ -43,19 +44,19 @@ fn call_in(
     )
 }
 
-/// What a line asks for, by numbers; the starts are those of all operations. The memory is for a message or a call.
+/// What a line asks for, by numbers; the numbering is that of all operations. The memory is for a message or a call.
 fn op_of(
     alloc: Global,
     pool: &mut BlockPool,
     names: &NameList,
-    starts: &[u16],
+    numbering: &Numbering,
     number: u16,
     link: u16,
     line: &Line,
 ) -> Result<Option<Op>, NoMemory>
     requires names { length names.now ≤ 64 }
     requires short { IsShort (item line.now) }
-    ensures { IfOk result (λ op. (all : List Numbered) → AreStarts starts.now all → op ≡ op_of all names.now (numbered_as number link (item line.now)) (item line.now)) }
+    ensures { IfOk result (λ op. (all : List Numbered) → AreNumbersOf numbering.now all → op ≡ op_of all names.now (numbered_as number link (item line.now)) (item line.now)) }
 {
     match line {
         Line::Open(open) => Ok(Some(Op::Open(names.number_of(&open.name), link))),
@@ -64,8 +65,8 @@ fn op_of(
             Ok(Some(Op::Send(names.number_of(&send.name), message)))
         }
         Line::Call(call) => Ok(Some(Op::Call(call_in(alloc, pool, names, number, call)?))),
-        Line::Expire(target) => Ok(Some(Op::Expire(operation_at(starts, target)))),
-        Line::Join(target) => Ok(Some(Op::Join(operation_at(starts, target)))),
+        Line::Expire(target) => Ok(Some(Op::Expire(numbering.number_of(target)))),
+        Line::Join(target) => Ok(Some(Op::Join(numbering.number_of(target)))),
         Line::Hold(name) => Ok(Some(Op::Hold(names.number_of(name)))),
         Line::Drop(name) => Ok(Some(Op::Drop(names.number_of(name)))),
         Line::Fail { name, code } => Ok(Some(Op::Fail(names.number_of(name), *code))),
@@ -79,57 +80,59 @@ fn push_task(
     pool: &mut BlockPool,
     tasks: &mut VecDeque<Task>,
     names: &NameList,
-    starts: &[u16],
+    numbering: &Numbering,
     number: u16,
     link: u16,
     line: &Line,
 ) -> Result<(), NoMemory>
     requires names { length names.now ≤ 64 }
     requires short { IsShort (item line.now) }
-    ensures { OnOk result ((all : List Numbered) → AreStarts starts.now all → tasks.new.items ≡ tasks.old.items ++ task_at all names.now number link (item line.now)) }
+    ensures { OnOk result ((all : List Numbered) → AreNumbersOf numbering.now all → tasks.new.items ≡ tasks.old.items ++ task_at all names.now number link (item line.now)) }
 {
-    if let Some(op) = op_of(alloc, pool, names, starts, number, link, line)? {
+    if let Some(op) = op_of(alloc, pool, names, numbering, number, link, line)? {
         tasks.push_back(Task { number, op })?;
     }
     Ok(())
 }
 
-/// An empty queue with room for the tasks of this client, the setup's first: one for each of its operations, by these starts.
-fn queue_of(alloc: Global, starts: &[u16], client: usize) -> Result<VecDeque<Task>, AllocError>
+/// An empty queue with room for the tasks of this client, the setup's first: one for each of its operations.
+fn queue_of(
+    alloc: Global,
+    numbering: &Numbering,
+    client: usize,
+) -> Result<VecDeque<Task>, AllocError>
     ensures { IfOk result (λ q. q.items ≡ []) }
 {
-    let count = starts.len();
-    let operations = if count > 1 && client < count - 1 {
-        starts[client + 1].saturating_sub(starts[client])
-    } else {
-        0
-    };
-    VecDeque::with_capacity(alloc, usize::from(operations))
+    VecDeque::with_capacity(alloc, usize::from(numbering.count_of(client)))
 }
 
-/// The tasks of the setup and of each client of these lines, which have these names.
+/// The tasks of the setup and of each client of these lines, which have these names and this
+/// numbering.
 fn tasks_of(
     alloc: Global,
     pool: &mut BlockPool,
     names: &NameList,
+    numbering: &Numbering,
     lines: &[Line],
 ) -> Result<Vec<VecDeque<Task>>, NoMemory>
     requires names { names.now ≡ model.names (map item lines.now) }
+    requires numbering { numbering.now ≡ numbers_of (map item lines.now) }
     requires limits { KeepsLimits (map item lines.now) }
     requires calls { AllByRecursion IsShort (map item lines.now) }
     ensures { IfOk result (λ clients. map (λ q. q.items) clients.items ≡ all_tasks (map item lines.now)) }
 {
-    let starts = starts_of(alloc, lines)?;
     let mut clients = Vec::new(alloc);
-    let mut tasks = queue_of(alloc, &starts, 0)?;
+    let mut tasks = queue_of(alloc, numbering, 0)?;
     let mut number = 0u16;
     let mut link = 0u16;
     for line in lines {
         if is_client(line) {
             clients.push(tasks)?;
-            tasks = queue_of(alloc, &starts, clients.len())?;
+            tasks = queue_of(alloc, numbering, clients.len())?;
         } else if is_operation(line) {
-            push_task(alloc, pool, &mut tasks, names, &starts, number, link, line)?;
+            push_task(
+                alloc, pool, &mut tasks, names, numbering, number, link, line,
+            )?;
             number += 1;
             if is_open(line) {
                 link += 1;
@@ -152,6 +155,6 @@ impl Script {
         requires calls { AllByRecursion IsShort self.now }
         ensures { IfOk result (λ clients. map (λ q. q.items) clients.items ≡ all_tasks self.now) }
     {
-        tasks_of(alloc, pool, self.names(), self.lines())
+        tasks_of(alloc, pool, self.names(), self.numbering(), self.lines())
     }
 }

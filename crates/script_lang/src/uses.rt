@@ -1,10 +1,10 @@
 ghost use Rattle.std.specs.Prelude.{◌≡◌, ◌&&◌, ◌∷◌, ◌++◌, [], not, option_map, option_to_list, OnOk};
 ghost use Rattle.std.specs.List.{find};
 ghost use Rattle.script_items.specs.Meaning.{item};
-ghost use Rattle.script_lang.specs.Called.{has_call};
+ghost use Rattle.script_lang.specs.Numbers.{has_call};
 ghost use Rattle.script_lang.specs.Used.{use_of};
 
-use crate::calls::CallTable;
+use crate::numbering::Numbering;
 use script_items::{Line, Target};
 use std::alloc::AllocError;
 
@@ -46,11 +46,11 @@ fn push_use(
 }
 
 /// The first line that names a call which isn't there.
-pub fn first_lost(uses: &[CallUse], calls: &CallTable) -> Option<u32>
-    ensures { result ≡ option_map (λ u. u.line) (find (λ u. not (has_call calls.now u.target.client u.target.number)) uses.now) }
+pub fn first_lost(uses: &[CallUse], numbering: &Numbering) -> Option<u32>
+    ensures { result ≡ option_map (λ u. u.line) (find (λ u. not (has_call numbering.now u.target.client u.target.number)) uses.now) }
 {
     uses.iter()
-        .find(|used| !calls.is_call(used.target))
+        .find(|used| !numbering.is_call(used.target))
         .map(|used| used.line)
 }
 

@@ -43,8 +43,8 @@ pub fn prepare<O: Out, I: In, P: Peer>(
     requires script { (bytes : List ℕ) × (script_of bytes ≡ Ok script.now) }
     ensures { IfOk result (IsReady script.now count) }
 {
-    let opens = script.opens(alloc)?;
-    let calls = script.calls(alloc)?;
+    let opens = Vec::from_slice(alloc, script.opens())?;
+    let calls = Vec::from_slice(alloc, script.calls())?;
     let halves = room_for(alloc, count)?;
     let mut clients = all_tasks(alloc, script)?;
     let setup = clients.remove(0);

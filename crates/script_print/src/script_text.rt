@@ -7,17 +7,10 @@ ghost use Rattle.script_items.specs.Meaning.{item};
 ghost use Rattle.script_print.specs.PrintedParts.{is_body, line, line_where, size_line, lines_text, size_items, body_items, schedule_items};
 
 use crate::lines::{push_line, push_size};
-use script_items::{Line, first_version, request_count, slot_count};
+use script_items::{
+    DEFAULT_FIRST, DEFAULT_REQUESTS, DEFAULT_SLOTS, Line, first_version, request_count, slot_count,
+};
 use std::alloc::{AllocError, Global};
-
-/// The number of socket slots where a script gives none.
-const SLOTS: u32 = 31;
-
-/// The number of requests where a script gives none.
-const REQUESTS: u32 = 4_096;
-
-/// The first version of each slot where a script gives none.
-const FIRST: u32 = 0;
 
 /// Whether the line is an operation or begins a client.
 fn is_body(line: &Line) -> bool
@@ -80,9 +73,9 @@ fn push_sizes(text: &mut Vec<u8>, lines: &[Line]) -> Result<(), AllocError>
     ensures { OnOk result (
         text.new.items ≡ text.old.items ++ lines_text (size_items (map item lines.now))) }
 {
-    push_size_line(text, b"slots", SLOTS, slot_count(lines))?;
-    push_size_line(text, b"requests", REQUESTS, request_count(lines))?;
-    push_size_line(text, b"first", FIRST, first_version(lines))
+    push_size_line(text, b"slots", DEFAULT_SLOTS, slot_count(lines))?;
+    push_size_line(text, b"requests", DEFAULT_REQUESTS, request_count(lines))?;
+    push_size_line(text, b"first", DEFAULT_FIRST, first_version(lines))
 }
 
 /// Appends the setup and the clients.

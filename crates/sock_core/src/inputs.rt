@@ -37,8 +37,8 @@ pub fn wanted_of(alloc: Global, script: &Script) -> Result<Wanted, NoMemory>
     Ok(Wanted {
         plan: script.plan(),
         id_plan: script.id_plan(),
-        calls: script.calls(alloc)?,
+        calls: Vec::from_slice(alloc, script.calls())?,
         clients: script.tasks(alloc, &mut pool)?,
-        opens: VecDeque::from_vec(script.opens(alloc)?),
+        opens: VecDeque::from_vec(Vec::from_slice(alloc, script.opens())?),
     })
 }

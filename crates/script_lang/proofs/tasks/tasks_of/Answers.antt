@@ -41,12 +41,12 @@ loop-line-preserved c =
       | else-is_client+then-is_operation+in_ok-push_task+then-is_open w ↦
           let open_ = sym w.is_open.ensures ∙ w.if-is_open.true in
           sofar_same (ap (λ v. map (λ q. q.items) v.items) w.clients-is) w.number-is (w.link-is ∙ sym (ap (λ b. if b then l.link + 1 else l.link) open_))
-          (ap (λ q. q.items) w.tasks-is ∙ w.in_ok-push_task.ensures all (known_by (map item lines) (w.deref-then-is_operation.ensures.value ∙ c.in_ok-starts.ensures)))
+          (ap (λ q. q.items) w.tasks-is ∙ w.in_ok-push_task.ensures all (known_by (map item lines) c.requires.numbering))
           (sofar_operation whole done all ns l.number l.link own here rest old (sym c.is_client.ensures ∙ w.if-is_client.false) (sym w.is_operation.ensures ∙ w.if-is_operation.true))
       | else-is_client+then-is_operation+in_ok-push_task+else-is_open w ↦
           let open_ = sym w.is_open.ensures ∙ w.if-is_open.false in
           sofar_same (ap (λ v. map (λ q. q.items) v.items) w.clients-is) w.number-is (w.link-is ∙ sym (ap (λ b. if b then l.link + 1 else l.link) open_))
-          (ap (λ q. q.items) w.tasks-is ∙ w.in_ok-push_task.ensures all (known_by (map item lines) (w.deref-then-is_operation.ensures.value ∙ c.in_ok-starts.ensures)))
+          (ap (λ q. q.items) w.tasks-is ∙ w.in_ok-push_task.ensures all (known_by (map item lines) c.requires.numbering))
           (sofar_operation whole done all ns l.number l.link own here rest old (sym c.is_client.ensures ∙ w.if-is_client.false) (sym w.is_operation.ensures ∙ w.if-is_operation.true))
       | else-is_client+else-is_operation w ↦
           sofar_same (ap (λ v. map (λ q. q.items) v.items) w.clients-is) w.number-is w.link-is (ap (λ q. q.items) w.tasks-is)

@@ -7,12 +7,6 @@ use Rattle.callless_fits.specs.sock_deeds.specs.script_facts.proofs.TaskLemmas.{
 use Rattle.script_parts.proofs.Numbers.{front_of}
 use Rattle.script_parts.proofs.asking.prepare.Goals as goal
 
-pub opens-requires : goal.opens-requires
-opens-requires g c = keeps_limits c.requires.script.0 c.args.script.now c.requires.script.1
-
-pub calls-requires : goal.calls-requires
-calls-requires g c = keeps_limits c.requires.script.0 c.args.script.now c.requires.script.1
-
 pub plan-requires : goal.plan-requires
 plan-requires g c = keeps_limits c.requires.script.0 c.args.script.now c.requires.script.1
 
@@ -31,7 +25,7 @@ returns g c =
       plan = c.plan.ensures;
       slots = ap (λ (p : Plan). p.slots) c.id_plan.ensures;
       tasks = sym (ap (map (λ v. v.items)) (front_of c.in_ok-clients.clients.items c.remove-setup.new.self.items c.remove-setup.result (omega (arith, n, k)) c.remove-setup.ensures.value c.remove-setup.ensures.by_index.2)) ∙ c.in_ok-clients.ensures;
-      opens_are = c.in_ok-opens.ensures;
-      calls_are = c.in_ok-calls.ensures;
+      opens_are = c.in_ok-opens.ensures.items ∙ c.opens.ensures;
+      calls_are = c.in_ok-calls.ensures.items ∙ c.calls.ensures;
       halves = c.in_ok-halves.ensures;
     }

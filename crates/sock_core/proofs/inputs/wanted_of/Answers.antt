@@ -8,14 +8,8 @@ plan-requires c = keeps_limits c.requires.0 c.args.script.now c.requires.1
 pub id_plan-requires : goal.id_plan-requires
 id_plan-requires c = keeps_limits c.requires.0 c.args.script.now c.requires.1
 
-pub calls-requires : goal.calls-requires
-calls-requires c = keeps_limits c.requires.0 c.args.script.now c.requires.1
-
 pub tasks-requires-clause-limits : goal.tasks-requires-clause-limits
 tasks-requires-clause-limits c = keeps_limits c.requires.0 c.args.script.now c.requires.1
 
 pub tasks-requires-clause-calls : goal.tasks-requires-clause-calls
 tasks-requires-clause-calls c = are_short c.args.script.now (is_counted c.requires.0 c.args.script.now c.requires.1).in_range
-
-pub opens-requires : goal.opens-requires
-opens-requires c = keeps_limits c.requires.0 c.args.script.now c.requires.1

@@ -1,4 +1,4 @@
-use Rattle.std.proofs.Common.{◌≡◌, ◌+◌, arith, length, map, unwrap_or, ap, sym, subst, ◌∙◌}
+use Rattle.std.proofs.Common.{◌+◌, arith, length, map, unwrap_or, ap, sym, subst, ◌∙◌}
 use Rattle.brpc_model.specs.Limits.{KeepsLimits}
 use Rattle.script_facts.proofs.Sizes.{link_count, operation_count}
 use Rattle.script_items.specs.Meaning.{item}
