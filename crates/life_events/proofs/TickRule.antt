@@ -1,42 +1,39 @@
 -- Each tick keeps the whole rule, where it keeps what is lawful and each seat's view is of this table.
-use Rattle.std.proofs.Common.{◌≡◌, ◌≢◌, ℕ, ◌+◌, ◌-◌, ◌*◌, ◌%◌, ◌<◌, ◌≤◌, ◌==◌, cond, eq-eqb, ne_eqb, List, ◌++◌, get_or, set, refl, sym, ap, ◌∙◌, subst, ⊎_elim, arith, nat_lt, IsTrue, true, false, length}
+use Rattle.std.proofs.Common.{◌≡◌, ◌≢◌, ℕ, ◌+◌, ◌-◌, ◌*◌, ◌%◌, ◌==◌, cond, eqb, eq-eqb, ne_eqb, List, ◌++◌, get_or, set, refl, sym, ap, ◌∙◌, subst, ⊎_elim, arith, nat_lt, IsTrue, true, false, length}
 use mathlib.Core.Logic.{dite}
 use native.Mathlib.Decide.{ℕ_discrete}
 use mathlib.Core.Option.{Option, some, none}
 use lib.ListN.{get_elem?}
-use lib.Seq.{set-get_or}
 use Rattle.atomic_table.proofs.Lists.{at_set}
 use Rattle.sock_words.specs.declared.plain.Plan.{Plan}
-use Rattle.sock_words.specs.Words.{socket_id_slot}
 use Rattle.sock_io.specs.declared.link.Put.{Put}
 use Rattle.sock_io.specs.declared.link.Ready.{Ready}
 use Rattle.sock_model.specs.declared.chain.Right.{Right}
 use Rattle.sock_model.specs.declared.home.Home.{Home}
 use Rattle.sock_model.specs.declared.view.View.{View}
 use Rattle.sock_model.specs.declared.view.Hand.{Hand}
-use Rattle.sock_model.specs.Layout.{tag_index, ref_index, link_index, head_index, code_index, name_index, open_index, request_index, next_index, place_index, all_words}
+use Rattle.sock_model.specs.Layout.{head_index, name_index, open_index, request_index, all_words}
 use Rattle.sock_model.specs.Memory.{IDLE}
-use Rattle.sock_model.specs.Deliveries.{place_value}
 use Rattle.sock_model.specs.ChainRows.{entry_of, queued, righted, taken_right}
 use Rattle.sock_model.specs.Messages.{Letter}
 use Rattle.sock_model.specs.Reads.{message, link_home}
 use Rattle.sock_model.specs.Lawful.{Lawful}
-use Rattle.sock_model.specs.Rule.{Lasting, Rule}
-use Rattle.seat_programs.specs.Calls.{Call, ClaimSlot, CreateLife, AddRef, SubRef, SetOdd, Recycle, FreeSlot, StoreLink, LoadLink, ResetHead, ClearCode, StoreCode, StoreName, LoadName, StoreOpen, LoadOpen, LookWord, FindLink, LoadCode, ClaimRequest, Unconnect, SwapHead, Connect, EmptyHead, ReadNext, ReverseNext, FreeRequest, StorePlace, DropPlace}
+use Rattle.sock_model.specs.Rule.{Lasting, of_name, of_open, of_request, Rule}
+use Rattle.seat_programs.specs.Calls.{Call, StoreName, LoadName, StoreOpen, LoadOpen, ClaimRequest, SwapHead, FreeRequest}
 use Rattle.seat_programs.specs.Programs.{Program, Do, TakeMessage, TakeHome, PutHome, PutBytes, AskReady, Write, Aside, Round}
 use Rattle.seat_programs.specs.Asides.{Step, Found}
 use Rattle.seat_programs.specs.Beside.{found_in}
 use Rattle.seat_programs.specs.Rounds.{round}
 use Rattle.seat_programs.specs.Sends.{block}
 use Rattle.seat_programs.specs.Cores.{Core, SeatState, words_after, homes_after, found_at, lies_at, first_of, others_of, link_place, with_seat}
-use Rattle.seat_programs.specs.StepTables.{word_of, word_after}
+use Rattle.seat_programs.specs.TableWords.{TableWord, NameOf, OpenOf, RequestOf, index_of}
+use Rattle.seat_programs.specs.StepTables.{May, table_word, word_of, word_after, row, hand_at}
 use Rattle.seat_programs.specs.Ticks.{Answer, OfPut, OfReady, Moment, fed, with_places, onto_first, taken, with_message, with_link, with_put, with_ready, with_found, step_with, tick_with, ticked}
-use Rattle.seat_programs.specs.StepTables.{row, hand_at}
 use Rattle.seat_programs.specs.StepViews.{by_claim}
 use Rattle.seat_programs.specs.StepsOfChain.{exchanged}
 use Rattle.seat_programs.specs.StepsOfMessages.{took_message}
 use Rattle.seat_programs.specs.StepsOfLinks.{link_away, link_home_again, took_bytes}
-use Rattle.seat_programs.specs.StepTables.{May}
+use Rattle.sock_runs.specs.program_steps.proofs.WordFrame.{sort_in, load_leaves, word_stays}
 use Rattle.sock_runs.specs.program_steps.specs.GoesOn.{GoesOn}
 use Rattle.sock_runs.specs.program_steps.specs.Sound.{Sound, state, views_with_message, views_with_link, views_with_put, views_with, views_of, views_after}
 use Rattle.sock_steps.proofs.Quiet.{either_way}
@@ -56,49 +53,29 @@ positive w some_ e = let z : false ≡ true = subst (λ (n : ℕ). IsTrue (nat_l
 
 -- no step makes a lasting word 0
 module _ (p : Plan) (ws : List ℕ) (sized : length ws ≡ all_words p) where
-  slot_lasts : (x n : ℕ) → x < 6 * p.slots → Lasts p ws (set ws x n)
-  slot_lasts x n low = lasts_set p ws sized x n (λ l. let a = (lasting_in p x l).0 in absurd (omega arith))
+  load_lasts : (o : Option TableWord) → Lasts p ws (words_after ws (index_of p o) (found_at ws (index_of p o)))
+  load_lasts o = subst (λ vs. Lasts p ws vs) (sym (load_leaves p ws o)) (lasts_all p ws)
 
-  load_lasts : (x : ℕ) → Lasts p ws (set ws x (get_or ws x 0))
-  load_lasts x = subst (λ vs. Lasts p ws vs) (sym (set-get_or ws x 0)) (lasts_all p ws)
+  same_lasts : (vs : List ℕ) (x y : ℕ) → x ≡ y → get_or vs y 0 ≡ get_or ws y 0 → get_or ws x 0 ≢ 0 → get_or vs x 0 ≢ 0
+  same_lasts vs x y e same some_ z = some_ (sym (subst (λ n. get_or vs n 0 ≡ get_or ws n 0) (sym e) same) ∙ z)
 
-  high_lasts : (x n : ℕ) → 6 * p.slots + p.names + p.operations + p.requests ≤ x → Lasts p ws (set ws x n)
-  high_lasts x n high = lasts_set p ws sized x n (λ l. let a = (lasting_in p x l).1 in absurd (omega arith))
+  -- a step on no word of a name, an operation or a request
+  lasts_left : (v : View) (call : Call) → May p v call → (stored : ℕ) → eqb (sort_in (table_word call)) 5 ≡ false → eqb (sort_in (table_word call)) 6 ≡ false → eqb (sort_in (table_word call)) 7 ≡ false → Lasts p ws (words_after ws (word_of p call) stored)
+  lasts_left v call may stored name open_ request x (of_name n l e) = same_lasts (words_after ws (word_of p call) stored) x (name_index p n) e (word_stays p ws v call may stored (NameOf n) l (omega arith) name)
+  lasts_left v call may stored name open_ request x (of_open o l e) = same_lasts (words_after ws (word_of p call) stored) x (open_index p o) e (word_stays p ws v call may stored (OpenOf o) l (omega arith) open_)
+  lasts_left v call may stored name open_ request x (of_request q l e) = same_lasts (words_after ws (word_of p call) stored) x (request_index p q) e (word_stays p ws v call may stored (RequestOf q) l (omega arith) request)
 
   pub call_lasts : (v : View) (call : Call) → May p v call → Lasts p ws (words_after ws (word_of p call) (word_after call (found_at ws (word_of p call))))
-  call_lasts v (ClaimSlot i) may = slot_lasts (tag_index i) 1 (omega arith)
-  call_lasts v (CreateLife i k) may = let a = may.0 in slot_lasts (ref_index i) (get_or ws (ref_index i) 0 + 1) (omega arith)
-  call_lasts v (AddRef id) may = let a = may.0.0 in slot_lasts (ref_index (socket_id_slot id)) (get_or ws (ref_index (socket_id_slot id)) 0 + 1) (omega arith)
-  call_lasts v (SubRef i) may = let a = may.0 in slot_lasts (ref_index i) (get_or ws (ref_index i) 0 - 1) (omega arith)
-  call_lasts v (SetOdd i) may = let a = may.0 in slot_lasts (ref_index i) (word_after (SetOdd i) (get_or ws (ref_index i) 0)) (omega arith)
-  call_lasts v (Recycle i from) may = let a = may.0 in slot_lasts (ref_index i) (word_after (Recycle i from) (get_or ws (ref_index i) 0)) (omega arith)
-  call_lasts v (FreeSlot i) may = let a = may.0 in slot_lasts (tag_index i) 0 (omega arith)
-  call_lasts v (StoreLink i k) may = let a = may.0 in slot_lasts (link_index i) k (omega arith)
-  call_lasts v (LoadLink i w) may = load_lasts (link_index i)
-  call_lasts v (ResetHead i k) may = let a = may.0 in slot_lasts (head_index i) (word_after (ResetHead i k) (get_or ws (head_index i) 0)) (omega arith)
-  call_lasts v (ClearCode i k) may = let a = may.0 in slot_lasts (code_index i) 0 (omega arith)
-  call_lasts v (StoreCode i h c) may = let a = may.0 in slot_lasts (code_index i) c (omega arith)
   call_lasts v (StoreName n w) may = lasts_set p ws sized (name_index p n) w (λ l. positive w may.1)
-  call_lasts v (LoadName n) may = load_lasts (name_index p n)
+  call_lasts v (LoadName n) may = load_lasts (some (NameOf n))
   call_lasts v (StoreOpen o w) may = lasts_set p ws sized (open_index p o) w (λ l. ⊎_elim (λ e z. absurd (omega arith)) (λ a. positive w a.0) may.1)
-  call_lasts v (LoadOpen o) may = load_lasts (open_index p o)
-  call_lasts v (LookWord id) may = load_lasts (ref_index (socket_id_slot id))
-  call_lasts v (FindLink i h) may = load_lasts (link_index i)
-  call_lasts v (LoadCode i h) may = load_lasts (code_index i)
+  call_lasts v (LoadOpen o) may = load_lasts (some (OpenOf o))
   call_lasts v (ClaimRequest id q) may = let found : ℕ = get_or ws (request_index p q) 0 in
       lasts_set p ws sized (request_index p q) (word_after (ClaimRequest id q) found) (λ l. dite (ℕ_discrete (found % 2) 0)
       (λ even z. let is : cond (found % 2 == 0) (found + 1) found ≡ found + 1 = ap (λ b. cond b (found + 1) found) (eq-eqb (found % 2) 0 even) in absurd (omega (arith, z, is)))
       (λ odd z. let is : cond (found % 2 == 0) (found + 1) found ≡ found = ap (λ b. cond b (found + 1) found) (ne_eqb (found % 2) 0 odd) in odd (omega (arith, z, is))))
-  call_lasts v (Unconnect q) may = high_lasts (next_index p q) (word_after (Unconnect q) 0) (omega arith)
-  call_lasts v (SwapHead i own) may = let a = may.0 in slot_lasts (head_index i) own (omega arith)
-  call_lasts v (Connect q before) may = high_lasts (next_index p q) before (omega arith)
-  call_lasts v (EmptyHead i last) may = let a = may.0 in slot_lasts (head_index i) (word_after (EmptyHead i last) (get_or ws (head_index i) 0)) (omega arith)
-  call_lasts v (ReadNext q) may = load_lasts (next_index p q)
-  call_lasts v (ReverseNext q value) may = high_lasts (next_index p q) value (omega arith)
   call_lasts v (FreeRequest q g) may = lasts_set p ws sized (request_index p q) (2 * (g + 1)) (λ l z. absurd (omega arith))
-  call_lasts v (StorePlace l k n) may = high_lasts (place_index p l) (place_value false k n) (omega arith)
-  call_lasts v (DropPlace l k n) may = high_lasts (place_index p l) (place_value true k n) (omega arith)
-  call_lasts v _ may = lasts_all p ws
+  call_lasts v call may = lasts_left v call may (word_after call (found_at ws (word_of p call))) refl refl refl
 
 -- so no tick does: a name and an `open` keep having an id, and a request that was claimed once is never as new again
 module _ (p : Plan) (c : Core) (views : List View) (sound : Sound p c views) (m : Moment) where
