@@ -1,15 +1,18 @@
 -- Whatever a seat does on the sockets, messages stay those of ids of the table, and codes below 4,096.
-use Rattle.std.proofs.Common.{◌≡◌, ◌≢◌, ℕ, ◌+◌, ◌*◌, ◌<◌, ◌≤◌, List, length, length-set, get_or, get_or-set_same, get_or-set_other, set, sym, subst, arith}
+use Rattle.std.proofs.Common.{ℕ, ◌<◌, List, length, length-set, get_or, get_or-set_same, get_or-set_other, set, refl, sym, subst, arith}
 use Rattle.std.proofs.lemmas.List.{get_or_past}
 use mathlib.Core.Logic.{dite}
+use mathlib.Core.Option.{some}
 use native.Mathlib.Decide.{ℕ_discrete, dec_le}
 use Rattle.sock_words.specs.declared.plain.Plan.{Plan}
-use Rattle.seat_programs.specs.sock_model.specs.Layout.{tag_index, code_index, name_index, open_index, request_index, next_index, place_index}
+use Rattle.seat_programs.specs.sock_model.specs.Layout.{code_index}
 use Rattle.corr_core.specs.declared.marks.Plan.{Plan as IdPlan}
-use Rattle.seat_programs.specs.Calls.{Call, ClaimSlot, CreateLife, AddRef, SubRef, SetOdd, Recycle, FreeSlot, StoreLink, LoadLink, ResetHead, ClearCode, StoreCode, StoreName, LoadName, StoreOpen, LoadOpen, LookWord, FindLink, LoadCode, ClaimRequest, PutMessage, Unconnect, SwapHead, Connect, EmptyHead, ReadNext, ReverseNext, FreeRequest, StorePlace, DropPlace}
+use Rattle.seat_programs.specs.Calls.{Call, ClearCode, StoreCode, LoadCode, PutMessage}
 use Rattle.seat_programs.specs.Programs.{Program, Do}
-use Rattle.seat_programs.specs.StepTables.{word_of, word_after}
+use Rattle.seat_programs.specs.TableWords.{TableWord, TagOf, CodeOf}
+use Rattle.seat_programs.specs.StepTables.{table_word, word_of, word_after}
 use Rattle.seat_programs.specs.Cores.{found_at, words_after}
+use Rattle.program_steps.proofs.WordFrame.{IsBelow, leaves, load_leaves}
 use Rattle.id_runs.specs.Held.{IdView}
 use Rattle.id_runs.specs.Goes.{FitsSock, FitsOwner, CodesFit, IdGoesOn}
 use Rattle.id_runs.proofs.Homes.{PutFits}
@@ -34,52 +37,37 @@ puts_fit q _ may = tt
 
 -- ## Codes
 
-module _ (p : Plan) where
-  code_set : (ws : List ℕ) (x w : ℕ) → CodesFit p ws → ((i : ℕ) → i < p.slots → x ≡ code_index i → w < 4096) → CodesFit p (set ws x w)
-  code_set ws x w fit new i inside = dite (ℕ_discrete x (code_index i))
-      (λ e. dite (dec_le (length ws) x) (λ past. let none_ : get_or (set ws x w) (code_index i) 0 ≡ 0 = get_or_past (set ws x w) (code_index i) 0 (omega (arith, past, e, length-set ws x w)) in omega (arith, none_))
-      (λ n. let here : get_or (set ws x w) x 0 ≡ w = get_or-set_same ws x w 0 (omega arith) in subst (λ y. get_or (set ws x w) y 0 < 4096) e (subst (λ y. y < 4096) (sym here) (new i inside e))))
-      (λ n. subst (λ y. y < 4096) (sym (get_or-set_other ws x (code_index i) w 0 (λ e. n (sym e)))) (fit i inside))
+-- where it stores a code, this holds of it
+abbrev pub FitsStore : (ℕ → Type 0) → Call → Type 0
+FitsStore F (StoreCode i h c) = F c
+FitsStore F other = Unit {0}
 
-  -- a word of a slot that is no code
-  of_slot : (ws : List ℕ) (j c w : ℕ) → c < 6 → c ≢ 4 → CodesFit p ws → CodesFit p (set ws (6 * j + c) w)
-  of_slot ws j c w low other fit = code_set ws (6 * j + c) w fit (λ i inside e. absurd (other (omega (arith, low, e))))
+-- no word stands before those of slots
+none_below : (p : Plan) (x : TableWord) → IsBelow p 0 x
+none_below p (TagOf i) = tt
+none_below p x = tt
 
-  -- and a word behind those of the slots
-  behind : (ws : List ℕ) (x w : ℕ) → 6 * p.slots ≤ x → CodesFit p ws → CodesFit p (set ws x w)
-  behind ws x w past fit = code_set ws x w fit (λ i inside e. absurd (omega (arith, inside, e, past)))
+module _ (p : Plan) (F : ℕ → Type 0) (none_ : F 0) where
+  abbrev pub AllCodes : List ℕ → Type 0
+  AllCodes ws = (i : ℕ) → i < p.slots → F (get_or ws (code_index i) 0)
 
-  tagged : (ws : List ℕ) (j w : ℕ) → CodesFit p ws → CodesFit p (set ws (tag_index j) w)
-  tagged ws j w fit = subst (λ x. CodesFit p (set ws x w)) (omega arith) (of_slot ws j 0 w (omega arith) (λ e. omega (arith, e)) fit)
+  code_set : (ws : List ℕ) (j w : ℕ) → F w → AllCodes ws → AllCodes (set ws (code_index j) w)
+  code_set ws j w new all i inside = dite (ℕ_discrete j i)
+      (λ here. subst (λ k. F (get_or (set ws (code_index j) w) (code_index k) 0)) here (dite (dec_le (length ws) (code_index j))
+      (λ past. subst F (sym (get_or_past (set ws (code_index j) w) (code_index j) 0 (omega (arith, past, length-set ws (code_index j) w)))) none_)
+      (λ n. subst F (sym (get_or-set_same ws (code_index j) w 0 (omega arith))) new)))
+      (λ other. subst F (sym (get_or-set_other ws (code_index j) (code_index i) w 0 (λ e. other (omega (arith, e))))) (all i inside))
 
-  pub codes_fit : (q : IdPlan) (call : Call) → MaySock q call → (ws : List ℕ) → CodesFit p ws → CodesFit p (words_after ws (word_of p call) (word_after call (found_at ws (word_of p call))))
-  codes_fit q (ClaimSlot i) may ws fit = tagged ws i (word_after (ClaimSlot i) (found_at ws (word_of p (ClaimSlot i)))) fit
-  codes_fit q (FreeSlot i) may ws fit = tagged ws i (word_after (FreeSlot i) (found_at ws (word_of p (FreeSlot i)))) fit
-  codes_fit q (CreateLife i k) may ws fit = of_slot ws i 1 (word_after (CreateLife i k) (found_at ws (word_of p (CreateLife i k)))) (omega arith) (λ e. omega (arith, e)) fit
-  codes_fit q (AddRef id) may ws fit = of_slot ws _ 1 (word_after (AddRef id) (found_at ws (word_of p (AddRef id)))) (omega arith) (λ e. omega (arith, e)) fit
-  codes_fit q (SubRef i) may ws fit = of_slot ws i 1 (word_after (SubRef i) (found_at ws (word_of p (SubRef i)))) (omega arith) (λ e. omega (arith, e)) fit
-  codes_fit q (SetOdd i) may ws fit = of_slot ws i 1 (word_after (SetOdd i) (found_at ws (word_of p (SetOdd i)))) (omega arith) (λ e. omega (arith, e)) fit
-  codes_fit q (Recycle i from) may ws fit = of_slot ws i 1 (word_after (Recycle i from) (found_at ws (word_of p (Recycle i from)))) (omega arith) (λ e. omega (arith, e)) fit
-  codes_fit q (LookWord id) may ws fit = of_slot ws _ 1 (word_after (LookWord id) (found_at ws (word_of p (LookWord id)))) (omega arith) (λ e. omega (arith, e)) fit
-  codes_fit q (StoreLink i k) may ws fit = of_slot ws i 2 k (omega arith) (λ e. omega (arith, e)) fit
-  codes_fit q (LoadLink i w) may ws fit = of_slot ws i 2 (word_after (LoadLink i w) (found_at ws (word_of p (LoadLink i w)))) (omega arith) (λ e. omega (arith, e)) fit
-  codes_fit q (FindLink i h) may ws fit = of_slot ws i 2 (word_after (FindLink i h) (found_at ws (word_of p (FindLink i h)))) (omega arith) (λ e. omega (arith, e)) fit
-  codes_fit q (ResetHead i k) may ws fit = of_slot ws i 3 (word_after (ResetHead i k) (found_at ws (word_of p (ResetHead i k)))) (omega arith) (λ e. omega (arith, e)) fit
-  codes_fit q (SwapHead i own) may ws fit = of_slot ws i 3 own (omega arith) (λ e. omega (arith, e)) fit
-  codes_fit q (EmptyHead i last) may ws fit = of_slot ws i 3 (word_after (EmptyHead i last) (found_at ws (word_of p (EmptyHead i last)))) (omega arith) (λ e. omega (arith, e)) fit
-  codes_fit q (ClearCode i k) may ws fit = code_set ws (code_index i) 0 fit (λ j inside e. omega arith)
-  codes_fit q (StoreCode i h c) may ws fit = code_set ws (code_index i) c fit (λ j inside e. may)
-  codes_fit q (LoadCode i h) may ws fit = code_set ws (code_index i) (get_or ws (code_index i) 0) fit (λ j inside e. subst (λ x. get_or ws x 0 < 4096) (sym e) (fit j inside))
-  codes_fit q (StoreName n w) may ws fit = behind ws (name_index p n) w (omega arith) fit
-  codes_fit q (LoadName n) may ws fit = behind ws (name_index p n) (get_or ws (name_index p n) 0) (omega arith) fit
-  codes_fit q (StoreOpen o w) may ws fit = behind ws (open_index p o) w (omega arith) fit
-  codes_fit q (LoadOpen o) may ws fit = behind ws (open_index p o) (get_or ws (open_index p o) 0) (omega arith) fit
-  codes_fit q (ClaimRequest id r) may ws fit = behind ws (request_index p r) (word_after (ClaimRequest id r) (found_at ws (word_of p (ClaimRequest id r)))) (omega arith) fit
-  codes_fit q (FreeRequest r g) may ws fit = behind ws (request_index p r) (word_after (FreeRequest r g) (found_at ws (word_of p (FreeRequest r g)))) (omega arith) fit
-  codes_fit q (Unconnect r) may ws fit = behind ws (next_index p r) (word_after (Unconnect r) (found_at ws (word_of p (Unconnect r)))) (omega arith) fit
-  codes_fit q (Connect r before) may ws fit = behind ws (next_index p r) before (omega arith) fit
-  codes_fit q (ReadNext r) may ws fit = behind ws (next_index p r) (get_or ws (next_index p r) 0) (omega arith) fit
-  codes_fit q (ReverseNext r value) may ws fit = behind ws (next_index p r) value (omega arith) fit
-  codes_fit q (StorePlace l k n) may ws fit = behind ws (place_index p l) (word_after (StorePlace l k n) (found_at ws (word_of p (StorePlace l k n)))) (omega arith) fit
-  codes_fit q (DropPlace l k n) may ws fit = behind ws (place_index p l) (word_after (DropPlace l k n) (found_at ws (word_of p (DropPlace l k n)))) (omega arith) fit
-  codes_fit q _ may ws fit = fit
+  -- what holds of each code holds of each behind a step, where it holds of the code that the step stores
+  pub each_code : (call : Call) → FitsStore F call → (ws : List ℕ) → AllCodes ws → AllCodes (words_after ws (word_of p call) (word_after call (found_at ws (word_of p call))))
+  each_code (ClearCode i k) new ws all = code_set ws i 0 none_ all
+  each_code (StoreCode i h c) new ws all = code_set ws i c new all
+  each_code (LoadCode i h) new ws all = subst AllCodes (sym (load_leaves p ws (some (CodeOf i)))) all
+  each_code call new ws all = λ i inside. subst F (sym (leaves p ws (table_word call) (word_after call (found_at ws (word_of p call))) (CodeOf i) inside (λ x e. none_below p x) refl)) (all i inside)
+
+small_code : (q : IdPlan) (call : Call) → MaySock q call → FitsStore (λ x. x < 4096) call
+small_code q (StoreCode i h c) may = may
+small_code q _ may = tt
+
+pub codes_fit : (p : Plan) (q : IdPlan) (call : Call) → MaySock q call → (ws : List ℕ) → CodesFit p ws → CodesFit p (words_after ws (word_of p call) (word_after call (found_at ws (word_of p call))))
+codes_fit p q call may ws fit = each_code p (λ x. x < 4096) (omega arith) call (small_code q call may) ws fit

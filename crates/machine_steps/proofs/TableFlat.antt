@@ -184,85 +184,38 @@ judge_ends : (a : Context) (p : Point) (found : ℕ) (ends : Bool) (x y : Progra
 judge_ends a p found true x y f g = f
 judge_ends a p found false x y f g = g
 
+-- the last clause is of all points behind which nothing can be told
 ends_none : (a : Context) (p : Point) (found : ℕ) → EndsNone (first_in (point_program a p)) a p found
-ends_none a points.Rest found = tt
 ends_none a (points.Open g (opens.Claim i)) found = either_none (found == 0) (make_socket g.operation g.name g.link i Rest) (open_from (a.sizes.slots - (i + 1)) (i + 1) g.operation g.name g.link Rest) tt (opens_none (a.sizes.slots - (i + 1)) (i + 1) g.operation g.name g.link)
-ends_none a (points.Open g (opens.StoreLink i)) found = tt
-ends_none a (points.Open g (opens.ResetHead i)) found = tt
-ends_none a (points.Open g (opens.ClearCode i)) found = tt
-ends_none a (points.Open g (opens.CreateLife i)) found = tt
-ends_none a (points.Open g (opens.StoreOpen i v)) found = tt
-ends_none a (points.Open g (opens.StoreName i v)) found = tt
-ends_none a (points.Open g opens.TakeLink) found = tt
-ends_none a (points.Open g opens.FinishLink) found = tt
-ends_none a (points.Open g opens.PutLink) found = tt
-ends_none a (points.Open g opens.StoreNone) found = tt
 ends_none a (points.Seek (aims.Hold o n) seeks.Load) found = seek_none a (aims.Hold o n) found
-ends_none a (points.Seek (aims.Send o n) seeks.Load) found = seek_none a (aims.Send o n) found
-ends_none a (points.Seek (aims.Fail o n code) seeks.Load) found = seek_none a (aims.Fail o n code) found
-ends_none a (points.Seek (aims.End o) seeks.Load) found = seek_none a (aims.End o) found
+ends_none a (points.Seek aim seeks.Load) found = seek_none a aim found
 ends_none a (points.Seek aim (seeks.AddRef id)) found = either_none (vref_version found == socket_id_version id.0) (reached_program (bare a) aim id) (release (socket_id_slot id.0) (λ _. then_program (bare a) (gone_then aim found) false)) (reached_none a aim id) tt
 ends_none a (points.Fail f fails.SetOdd) found = either_none (vref_version found % 2 == 0) (fail_program (bare a) f (fails.StoreCode (record { 0 = found }))) (failed_program (bare a) f found) tt tt
-ends_none a (points.Fail f (fails.StoreCode w)) found = tt
-ends_none a (points.Fail f (fails.ReleaseFirst w)) found = tt
 ends_none a (points.Release i t releases.SubRef) found = release_none i (then_program (bare a) t) (then_none a t) releases.SubRef found
 ends_none a (points.Release i t (releases.Recycle w)) found = release_none i (then_program (bare a) t) (then_none a t) (releases.Recycle w) found
-ends_none a (points.Release i t (releases.LoadLink w)) found = tt
-ends_none a (points.Release i t (releases.TakeLink w k)) found = tt
-ends_none a (points.Release i t (releases.FinishLink w k)) found = tt
 ends_none a (points.Release i t (releases.PutLink w k)) found = release_none i (then_program (bare a) t) (then_none a t) (releases.PutLink w k) found
 ends_none a (points.Release i t releases.FreeSlot) found = release_none i (then_program (bare a) t) (then_none a t) releases.FreeSlot found
 ends_none a (points.Send s sends.Look) found = look_ends a (points.Send s sends.Look) s.author s.id.0 found (look_none a s.author s.id.0 found)
 ends_none a (points.Send s (sends.Claim q)) found = either_none (found % 2 == 0) (accept s.id.0 q (found / 2) (heading_by s.author a.parts) a.message (sent_program (bare a) s.author s.id.0)) (claims_program (bare a) s (a.sizes.requests - (q + 1)) (q + 1)) tt (claims_none (a.sizes.requests - (q + 1)) (q + 1) s.id.0 (heading_by s.author a.parts) a.message (full_program (bare a) s.author s.id.0) (sent_program (bare a) s.author s.id.0) (full_none a s.author s.id.0))
-ends_none a (points.Send s (sends.PutMessage q own)) found = tt
-ends_none a (points.Send s (sends.Unconnect q own)) found = tt
 ends_none a (points.Send s (sends.SwapHead q own)) found = either_none (nat_lt found IDLE) (connect_program (bare a) s q found) (write_link s.id.0 q own.0 (sent_program (bare a) s.author s.id.0)) tt tt
-ends_none a (points.Send s (sends.Connect q before)) found = tt
-ends_none a (points.Send s (sends.FindLink q own)) found = tt
-ends_none a (points.Send s (sends.TakeHome q own k)) found = tt
-ends_none a (points.Send s (sends.TakeMessage q own k n)) found = tt
 ends_none a (points.Write w (writes.FirstLook m)) found = either_none (vref_version found % 2 == 0) (put_piece (bare a) w m false) (puts_program (bare a) w m false) tt tt
 ends_none a (points.Write w (writes.Look m asked)) found = either_none (vref_version found % 2 == 0) (put_piece (bare a) w m asked) (dropped (holder_of w.holder) m.ticket.0 (heading_by m.author a.left_parts) (written_program (bare a) w)) tt tt
-ends_none a (points.Write w (writes.Put m asked)) found = tt
-ends_none a (points.Write w (writes.Ask m)) found = tt
 ends_none a (points.Write w (writes.SetOdd m)) found = either_none (vref_version found % 2 == 0) (write_program (bare a) w (writes.StoreCode m)) (puts_program (bare a) w m false) tt tt
-ends_none a (points.Write w (writes.StoreCode m)) found = tt
-ends_none a (points.Write w (writes.ReleaseFirst m)) found = tt
 ends_none a (points.Write w (writes.StorePlace m)) found = passed_none (one_more (holder_of w.holder)) m.ticket.0 (λ next. next) (written_program (bare a) w) (λ next h. h)
-ends_none a (points.Write w (writes.LoadCode m)) found = tt
 ends_none a (points.Write w (writes.DropPlace m n)) found = passed_none (one_more (holder_of w.holder)) m.ticket.0 (tell m.author a.left_parts n) (written_program (bare a) w) (λ next h. tell_none (heading_by m.author a.left_parts) n next h)
 ends_none a (points.Write w (writes.ReadNext now c)) found = freed_none now.0 (told c (next_message (bare a) w (holder_of w.holder) found)) (told_none c (next_message (bare a) w (holder_of w.holder) found) tt)
 ends_none a (points.Write w (writes.Free now next c)) found = told_none c (freed_program (bare a) w next) (free_none a w next)
-ends_none a (points.Write w (writes.TakeMessage next)) found = tt
-ends_none a (points.Write w writes.PutHome) found = tt
 ends_none a (points.Write w writes.EmptyHead) found = either_none (found == w.holder.last.0) (written_program (bare a) w) (taken_again (bare a) w found) tt tt
-ends_none a (points.Write w (writes.TakeHome word)) found = tt
 ends_none a (points.Write w (writes.Walk top at after)) found = either_none (found == UNCONNECTED) (walk_program (bare a) w top.0 at.0 after.0) (Do (calls.ReverseNext (slot_of at.0) after.0) (λ _. if found == w.holder.last.0 then first_of_walk (bare a) w top.0 at.0 else walk_program (bare a) w top.0 found at.0)) tt tt
 ends_none a (points.Write w (writes.Turn top at after before)) found = either_none (before.0 == w.holder.last.0) (first_of_walk (bare a) w top.0 at.0) (walk_program (bare a) w top.0 before.0 at.0) tt tt
-ends_none a (points.Write w (writes.TakeFirst top at)) found = tt
 ends_none a (points.Call begins.LoadName) found = either_none (found == 0) (Say a.asked.operation Unopened Rest) (claim_id a.sizes.ids 0 a.sizes.requests (found - 1) a.asked Rest) tt (ids_none a.sizes.ids 0 a.sizes.requests (found - 1) a.asked)
-ends_none a (points.Call (begins.ClaimId i socket)) found = tt
-ends_none a (points.Call (begins.PutCall i socket)) found = tt
-ends_none a (points.Call (begins.MakeId i socket)) found = tt
-ends_none a (points.Call (begins.StoreCall id socket)) found = tt
 ends_none a (points.Attempt t socket attempts.AddRef) found = either_none (vref_version found == socket_id_version socket.0) (find_program (bare a) t socket) (release (socket_id_slot socket.0) (λ _. then_program (bare a) (thens.Unreached t) false)) tt tt
-ends_none a (points.Attempt t socket attempts.FindLink) found = tt
-ends_none a (points.Attempt t socket (attempts.StoreAt k)) found = tt
 ends_none a (points.Post c after id_steps.Read) found = tt
-ends_none a (points.Post c after (id_steps.Exchange from)) found = tt
-ends_none a (points.Decide c after (decides.Take w)) found = tt
 ends_none a (points.Decide c after (decides.Judge w)) found = judge_ends a (points.Decide c after (decides.Judge w)) found (ends_call (parts w.0) c.error.0) (end_id (id_slot (id_of c.id)) (decided (id_of c.id) (after_program a after) (HasEnded a.asked.operation (code_of c.error.0)))) (Aside (PutCall (id_slot (id_of c.id)) a.asked) (λ _. Round (Unlocks (id_slot (id_of c.id)) w.0 true) (unlocked (record { id = id_of c.id; attempt = (parts w.0).attempt + 1 }) (decided (id_of c.id) (after_program a after))))) tt tt
-ends_none a (points.Decide c after (decides.Free o)) found = tt
-ends_none a (points.Decide c after (decides.Unlock from advance n)) found = tt
 ends_none a (points.Retry r (retries.Lock id_steps.Read)) found = tt
-ends_none a (points.Retry r (retries.Lock (id_steps.Exchange from))) found = tt
-ends_none a (points.Retry r (retries.TakeCall w)) found = tt
-ends_none a (points.Retry r (retries.PutCall w)) found = tt
-ends_none a (points.Retry r (retries.Unlock w advance)) found = tt
 ends_none a (points.Retry r retries.LoadName) found = either_none (found == 0) (post (id_of r.attempt.id) 1009 (number_of r.attempt.number) Rest) (attempt a.sizes.requests a.asked (id_of r.attempt.id) (number_of r.attempt.number) (found - 1) Rest) tt tt
-ends_none a (points.Expire o t) found = tt
 ends_none a (points.Join o (joins.LoadCall t)) found = tt
-ends_none a (points.Join o (joins.Wait id)) found = tt
+ends_none a p found = tt
 
 -- ## What follows
 

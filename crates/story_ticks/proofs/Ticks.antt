@@ -10,6 +10,7 @@ use Rattle.sock_io.specs.declared.link.Ready.{Ready}
 use Rattle.sock_model.specs.declared.chain.Heading.{Heading}
 use Rattle.sock_model.specs.declared.home.Home.{Home}
 use Rattle.sock_model.specs.declared.home.Home.TheVariants.{Message}
+use Rattle.sock_model.specs.declared.view.View.{View}
 use Rattle.sock_model.specs.Layout.{name_index, all_words}
 use Rattle.sock_model.specs.Messages.{Letter}
 use Rattle.sock_model.specs.Reads.{shown, message, link_home}
@@ -23,7 +24,7 @@ use Rattle.seat_programs.specs.Programs.{Program, Do, Say, Sent, Rest, TakeMessa
 use Rattle.seat_programs.specs.Sends.{block}
 use Rattle.seat_programs.specs.Rounds.{round}
 use Rattle.seat_programs.specs.Cores.{Core, SeatState, found_at, words_after, homes_after, hand_after, lies_at, first_of, others_of, link_place, resolved, waiting_at, next_step, with_seat}
-use Rattle.seat_programs.specs.StepTables.{word_of, word_after}
+use Rattle.seat_programs.specs.StepTables.{May, word_of, word_after}
 use Rattle.seat_programs.specs.Beside.{found_in, calls_after}
 use Rattle.seat_programs.specs.Scripts.{is_ending}
 use Rattle.seat_programs.specs.Ticks.{Answer, OfPut, OfReady, Moment, fed, with_places, onto_first, taken, with_message, with_link, with_put, with_ready, with_found, step_with, tick_with, ticked}
@@ -53,7 +54,7 @@ use Rattle.story_ticks.proofs.Sayings.{put_at}
 use Rattle.story_ticks.proofs.Claiming.{HaveSlots, has_room, claims_after_step}
 use Rattle.story_steps.specs.call_stories.proofs.Links.{reads_after_step}
 use Rattle.story_steps.specs.call_stories.proofs.Knowing.{is_sized, are_low, finds, knows}
-use Rattle.story_steps.specs.call_stories.proofs.SockWords.{IsInside, names_after, AreOther, codes_after}
+use Rattle.story_steps.specs.call_stories.proofs.SockWords.{names_after, AreOther, codes_after}
 use Rattle.story_ticks.proofs.Chains.{sayings_of, AreFewTries, KeepsFew}
 use Rattle.story_ticks.proofs.Kept.{kept_slots, kept_claims, kept_reads}
 use Rattle.story_ticks.proofs.AsideTicks.{sayings_keep, overs_keep, is_later, aside_ticks}
@@ -77,9 +78,9 @@ module _ (p : Plan) (q : IdPlan) where
 abbrev pub noted : List Decision → Scene → Scene
 noted ds w = record { core = w.core; claims = w.claims; births = w.births; advances = w.advances; posts = w.posts; decisions = ds ++ w.decisions; sayings = w.sayings }
 
--- the step of the program is one of the table
+-- the view of the seat allows the step of the program
 abbrev pub AllowsDo : Plan → Program → Type 0
-AllowsDo p (Do call next) = IsInside p call
+AllowsDo p (Do call next) = (v : View) × May p v call
 AllowsDo p other = Unit {0}
 
 -- seat 0 has nothing left to do
@@ -220,9 +221,9 @@ module _ (p : Plan) (q : IdPlan) (clients : List (List Task)) (gives : ℕ → L
     client_is : m.client ≡ i
     client_is = story.tasks.client i m at
 
-    finds_do : (call : Call) → IsInside p call → MayDo p q clients gives call → (v : Scene) → v.core.words ≡ words_after w.core.words (word_of p call) (word_after call (found_at w.core.words (word_of p call))) → Later p q clients gives w v → FindsDo p q clients gives v m call (found_at w.core.words (word_of p call))
-    finds_do (StoreName n word) in_ may v words l = (in_, (λ e. may (sym (ap (λ ws. get_or ws (name_index p n) 0) words ∙ get_or-set_same w.core.words (name_index p n) word 0 (omega (arith, sized, in_))) ∙ e)))
-    finds_do (LoadName n) in_ may v words l = (
+    finds_do : (x : View) (call : Call) → May p x call → MayDo p q clients gives call → (v : Scene) → v.core.words ≡ words_after w.core.words (word_of p call) (word_after call (found_at w.core.words (word_of p call))) → Later p q clients gives w v → FindsDo p q clients gives v m call (found_at w.core.words (word_of p call))
+    finds_do x (StoreName n word) in_ may v words l = (in_.0, (λ e. may (sym (ap (λ ws. get_or ws (name_index p n) 0) words ∙ get_or-set_same w.core.words (name_index p n) word 0 (omega (arith, sized, in_.0))) ∙ e)))
+    finds_do x (LoadName n) in_ may v words l = (
       (λ none_. (
         (λ named. named.1 (here ∙ none_)),
         (λ other. none_of_setup (λ e. other (client_is ∙ e)) n (λ named. named.1 none_) v l),
@@ -233,8 +234,8 @@ module _ (p : Plan) (q : IdPlan) (clients : List (List Task)) (gives : ℕ → L
       where
         here : get_or v.core.words (name_index p n) 0 ≡ get_or w.core.words (name_index p n) 0
         here = ap (λ ws. get_or ws (name_index p n) 0) words ∙ get_or-set_same w.core.words (name_index p n) (get_or w.core.words (name_index p n) 0) 0 (omega (arith, sized, in_))
-    finds_do (LoadCode k h) in_ may v words l = λ some_. story.births.codes k in_ some_
-    finds_do _ in_ may v words l = tt
+    finds_do x (LoadCode k h) in_ may v words l = λ some_. story.births.codes k in_.0 some_
+    finds_do x _ in_ may v words l = tt
 
     -- ## Steps aside
 
@@ -304,8 +305,8 @@ module _ (p : Plan) (q : IdPlan) (clients : List (List Task)) (gives : ℕ → L
     first_step : (answer : Answer) (program : Program) → SaysOn p q clients gives w m program → IdGoesOn p q u program → FitsFirst p w.core program → AllowsDo p program → Leads (step_with p i seat w.core answer program) → Goes (posted_with w.core.calls (taken answer) program ++ w.posts) (advanced_with w.core.calls (taken answer) program ++ w.advances) (step_with p i seat w.core answer program)
     first_step answer (Do call next) says go fits in_ lead = let found : ℕ = found_at w.core.words (word_of p call) in
         on_sockets (next found) (hand_after p call w.core.homes seat.hand) (words_after w.core.words (word_of p call) (word_after call (found_at w.core.words (word_of p call)))) (homes_after p call seat.hand w.core.homes)
-        (λ n low some_. names_after p q clients gives call in_ says.0 w.core.words sized n low some_) (codes_after p q clients gives call says.0 w.core.words story.births.codes)
-        (keeps_few p q u (next found) ((steps_on p q u call next go).1 found fits)) lead (λ v words l s. says.1 found v l s (finds_do call in_ says.0 v words l))
+        (λ n low some_. names_after p q clients gives in_.0 call in_.1 says.0 w.core.words sized n low some_) (codes_after p q clients gives call says.0 w.core.words story.births.codes)
+        (keeps_few p q u (next found) ((steps_on p q u call next go).1 found fits)) lead (λ v words l s. says.1 found v l s (finds_do in_.0 call in_.1 says.0 v words l))
     first_step answer (TakeMessage r next) says go fits in_ lead = by_letter r next says go (message (λ (h : Home). h) w.core.homes r) refl lead
     first_step answer (TakeHome k next) says go fits in_ lead = by_link k next says go (link_home (λ (h : Home). h) p w.core.homes k) lead
     first_step answer (PutHome k n after) says go fits in_ lead = on_homes after (others_of seat.hand) (set w.core.homes (link_place p k) (first_of (onto_first (with_places n) seat.hand))) (keeps_few p q u after go) lead (λ v l s. says v l s)
@@ -327,7 +328,7 @@ module _ (p : Plan) (q : IdPlan) (clients : List (List Task)) (gives : ℕ → L
     any_step answer (Aside step next) on says go fits in_ lead = first_step answer (Aside step next) says go fits in_ lead
     any_step answer _ on says go fits in_ lead = before lead
 
-  -- the step of each seat is one of the table
+  -- the view of each seat allows its step
   abbrev pub Allows : Core → Moment → Type 0
   Allows c mm = (seat : SeatState) → get_elem? c.seats mm.seat ≡ some seat → AllowsDo p (goes.first_of seat.program)
 
