@@ -2,7 +2,7 @@
 use Rattle.std.proofs.Common.{◌≡◌, ◌≢◌, ℕ, suc, ◌+◌, ◌-◌, ◌*◌, ◌%◌, ◌<◌, ◌==◌, ◌⊎◌, ⊎_elim, eqb, eqb-true, Bool, true, false, List, [], ◌∷◌, set, refl, sym, ap, ◌∙◌, subst, arith}
 use Rattle.std.proofs.lemmas.Bool.{true≢false}
 use Rattle.std.specs.List.{filter, flat_map}
-use Rattle.std.specs.Prelude.{slice_index, not}
+use Rattle.std.specs.Prelude.{slice_index, not, ◌||◌}
 use mathlib.Core.Option.{Option, some}
 use lib.ListN.{get_elem?}
 use Rattle.sock_words.specs.Words.{socket_id_version, socket_id_slot}
@@ -37,7 +37,7 @@ use Rattle.seat_programs.specs.StepsOfChain.{new_claim, ready_claim}
 use Rattle.seat_programs.specs.StepsOfMessages.{filled_claim}
 use Rattle.seat_programs.specs.StepTables.{May}
 use Rattle.sock_runs.specs.program_steps.specs.Sound.{state}
-use Rattle.sock_runs.specs.program_steps.proofs.Leaves.{moves_right, claim_way}
+use Rattle.sock_runs.specs.program_steps.proofs.Leaves.{moves_right, moves_hand, rights_stay, hands_stay}
 use Rattle.message_events.specs.Messages.{IsOrder, MayCome, Claim, Free}
 use Rattle.message_events.specs.Standing.{hands_on, by_home, by_rights, stand, messages}
 
@@ -70,42 +70,15 @@ module _ (p : Plan) (c c' : Core) (views : List View) (i : ℕ) (v : View) (at :
 
 -- whether a step leaves rights, hands and links
 abbrev pub leaves_links : Call → Bool
-leaves_links (TakeLink k) = false
-leaves_links (PutLink k) = false
-leaves_links other = not (moves_right other)
+leaves_links call = not (moves_hand call || moves_right call)
 
-module _ (p : Plan) (v : View) (found : ℕ) (hand : Hand) where
-  abbrev Same : View → Type 0
-  Same w = SameStand v w
+neither : (a b : Bool) → not (a || b) ≡ true → (a ≡ false) × (b ≡ false)
+neither false false is = (refl, refl)
+neither false true is = absurd (true≢false (sym is))
+neither true b is = absurd (true≢false (sym is))
 
-  same_id : Same (found_id found v)
-  same_id = either_way (is_id found) (met (socket_id_slot (found - 1)) (socket_id_version (found - 1)) v) v Same (refl, refl) (refl, refl)
-
-  pub row_same : (call : Call) → leaves_links call ≡ true → SameStand v (row p call found hand v)
-  row_same (ClaimSlot i) is = (refl, refl)
-  row_same (CreateLife i k) is = (refl, refl)
-  row_same (AddRef id) is = (refl, refl)
-  row_same (SubRef i) is = (refl, refl)
-  row_same (SetOdd i) is = (refl, refl)
-  row_same (Recycle i from) is = (refl, refl)
-  row_same (FreeSlot i) is = (refl, refl)
-  row_same (StoreLink i k) is = (refl, refl)
-  row_same (LoadLink i w) is = (refl, refl)
-  row_same (ResetHead i k) is = (refl, refl)
-  row_same (ClearCode i k) is = (refl, refl)
-  row_same (StoreCode i h c) is = (refl, refl)
-  row_same (StoreName n w) is = (refl, refl)
-  row_same (LoadName n) is = same_id
-  row_same (StoreOpen n w) is = (refl, refl)
-  row_same (LoadOpen n) is = same_id
-  row_same (FinishLink k) is = (refl, refl)
-  row_same (FindLink i h) is = (refl, refl)
-  row_same (LoadCode i h) is = either_way (found == 0) v (told_code i h found v) Same (refl, refl) (refl, refl)
-  row_same (ClaimRequest id q) is = either_way (found % 2 == 0) (with_claim (met_link (socket_id_slot id) (socket_id_version id) hand.link v) (new_claim hand.link q found)) v Same (refl, refl) (refl, refl)
-  row_same (PutMessage q heading bytes) is = claim_way Same v.claims (λ c. with_claim v (filled_claim c heading bytes)) v (refl, refl) (λ c. (refl, refl))
-  row_same (Unconnect q) is = claim_way Same v.claims (λ c. with_claim v (ready_claim c)) v (refl, refl) (λ c. (refl, refl))
-  row_same (Connect q before) is = (refl, refl)
-  row_same _ is = absurd (true≢false (sym is))
+pub row_same : (p : Plan) (v : View) (found : ℕ) (hand : Hand) (call : Call) → leaves_links call ≡ true → SameStand v (row p call found hand v)
+row_same p v found hand call is = let still = neither (moves_hand call) (moves_right call) is in (rights_stay p v found hand call still.1, hands_stay p v found hand call still.0)
 
 -- the home of a request is none of a link
 pub home_else : (p : Plan) (homes : List (Option Home)) (q k : ℕ) (x : Option Home) → q ≢ p.requests + k → link_home (λ home. home) p (set homes q x) k ≡ link_home (λ home. home) p homes k

@@ -23,7 +23,7 @@ use Rattle.seat_programs.specs.StepViews.{by_claim}
 use Rattle.seat_programs.specs.StepsOfChain.{exchanged, new_claim, ready_claim}
 use Rattle.seat_programs.specs.StepsOfMessages.{filled_claim}
 use Rattle.seat_programs.specs.StepTables.{May}
-use Rattle.outcome_stories.specs.program_steps.proofs.Leaves.{own_lists}
+use Rattle.outcome_stories.specs.program_steps.proofs.Leaves.{lists_stay}
 use Rattle.outcome_stories.specs.Stories.{Entry, Event, In, trace_of}
 use Rattle.outcome_stories.specs.Explains.{IsCallReadied, IsReadied, swaps, swapped, step}
 use Rattle.outcome_stories.specs.Causes.{WasGiven}
@@ -42,26 +42,7 @@ no_swap _ b n = refl
 
 pub row_lists : (p : Plan) (v : View) (found : ℕ) (hand : Hand) (call : Call) → IsNoSwap call → (row p call found hand v).lists ≡ v.lists
 row_lists p v found hand (SwapHead i own) n = absurd n
-row_lists p v found hand (ClaimSlot i) n = refl
-row_lists p v found hand (CreateLife i k) n = refl
-row_lists p v found hand (AddRef id) n = refl
-row_lists p v found hand (SubRef i) n = refl
-row_lists p v found hand (SetOdd i) n = refl
-row_lists p v found hand (Recycle i from) n = refl
-row_lists p v found hand (FreeSlot i) n = refl
-row_lists p v found hand (StoreLink i k) n = refl
-row_lists p v found hand (LoadLink i w) n = refl
-row_lists p v found hand (ResetHead i k) n = refl
-row_lists p v found hand (ClearCode i k) n = refl
-row_lists p v found hand (StoreCode i h c) n = refl
-row_lists p v found hand (StoreName m w) n = refl
-row_lists p v found hand (LoadName m) n = split (is_id found) _ _ (λ (u : View). u.lists ≡ v.lists) refl refl
-row_lists p v found hand (StoreOpen o w) n = refl
-row_lists p v found hand (LoadOpen o) n = split (is_id found) _ _ (λ (u : View). u.lists ≡ v.lists) refl refl
-row_lists p v found hand (TakeLink k) n = split (nat_lt 0 (total (only hand.link) v.passes)) _ _ (λ (u : View). u.lists ≡ v.lists) refl refl
-row_lists p v found hand (FinishLink k) n = refl
-row_lists p v found hand (PutLink k) n = refl
-row_lists p v found hand call n = own_lists p v found hand call refl refl
+row_lists p v found hand call n = lists_stay p v found hand call refl
 
 -- ## The claim
 

@@ -1,5 +1,5 @@
--- What the steps of whoever sends or writes leave as it is: all that a view has beside the chains, but for notes.
-use Rattle.std.proofs.Common.{◌≡◌, ℕ, ◌+◌, ◌%◌, ◌==◌, Bool, true, false, cond, nat_lt, List, [], ◌∷◌, refl, sym, ap, ◌∙◌, take, ◌++◌}
+-- What each step leaves of the view of its seat, and what the steps of whoever sends or writes add to its marks.
+use Rattle.std.proofs.Common.{◌≡◌, ℕ, ◌+◌, ◌-◌, ◌%◌, ◌==◌, Bool, true, false, cond, nat_lt, List, [], ◌∷◌, refl, sym, ap, ◌∙◌, take, ◌++◌}
 use Rattle.std.proofs.lemmas.Bool.{true≢false}
 use Rattle.sock_words.specs.Words.{socket_id_version, socket_id_slot, vref_version}
 use Rattle.sock_words.specs.declared.plain.Plan.{Plan}
@@ -14,12 +14,14 @@ use Rattle.sock_model.specs.declared.view.Hand.{Hand}
 use Rattle.sock_model.specs.Marks.{at}
 use Rattle.sock_model.specs.Memory.{IDLE, UNCONNECTED}
 use Rattle.sock_model.specs.Slots.{version_of}
-use Rattle.sock_model.specs.SlotRows.{looked, told_code, met_link}
-use Rattle.sock_model.specs.ChainRows.{with_claim, queued, righted, with_right, without_right, turned_right, placed_right, dropped_right}
+use Rattle.sock_model.specs.Weights.{total, only}
+use Rattle.sock_model.specs.SlotRows.{met, looked, told_code, met_link}
+use Rattle.sock_model.specs.ChainRows.{with_hand, spent_hand, with_claim, queued, righted, with_right, without_right, turned_right, placed_right, dropped_right}
 use Rattle.sock_steps.proofs.Quiet.{either_way}
-use Rattle.seat_programs.specs.Calls.{Call, LookWord, FindLink, LoadCode, ClaimRequest, PutMessage, Unconnect, SwapHead, Connect, EmptyHead, ReadNext, ReverseNext, FreeRequest, StorePlace, DropPlace}
+use Rattle.seat_programs.specs.Calls.{Call, LoadName, LoadOpen, TakeLink, PutLink, LookWord, FindLink, LoadCode, ClaimRequest, PutMessage, Unconnect, SwapHead, Connect, EmptyHead, ReadNext, ReverseNext, FreeRequest, StorePlace, DropPlace}
 use Rattle.seat_programs.specs.StepTables.{row}
 use Rattle.seat_programs.specs.StepViews.{by_claim, by_right, settled}
+use Rattle.seat_programs.specs.StepsOfNames.{is_id}
 use Rattle.seat_programs.specs.StepsOfChain.{new_claim, ready_claim, exchanged, emptied, read_next, turned_next, freed_next}
 use Rattle.seat_programs.specs.StepsOfMessages.{filled_claim}
 use Rattle.seat_programs.specs.StepsOfSlots.{looked_clean}
@@ -57,7 +59,7 @@ right_way P (r ∷ rs) then_ v a b = b r
 
 -- what holds of all views that differ from this one on the chains alone holds behind a step of the chains
 module _ (P : View → Type 0) (v : View) (same : P v) where
-  module _ (claims : (c : Claim) → P (with_claim v c)) (rights : (r : Right) → P (with_right v r)) (gone : (k : ℕ) → P (without_right v k)) where
+  module _ (rights : (r : Right) → P (with_right v r)) (gone : (k : ℕ) → P (without_right v k)) where
     pub reads_way : (found : ℕ) (r : Right) (stage : Stage) → P (read_next found v r stage)
     reads_way found r (Placed now) = rights (settled (record r { stage = Passes now found }))
     reads_way found r (Walks top at_ after) = either_way (found == UNCONNECTED) v (with_right v (record r { stage = Turns top at_ after found })) P same (rights (record r { stage = Turns top at_ after found }))
@@ -98,12 +100,12 @@ module _ (p : Plan) (v : View) (found : ℕ) (hand : Hand) (Q : List SlotMark �
   sending_marks (Unconnect q) is = claim_way P v.claims (λ c. with_claim v (ready_claim c)) v same (λ c. same)
   sending_marks (SwapHead i own) is = claim_way P v.claims (exchanged found hand v) v same (exchanges_way P v same (λ c n. same) (λ c n sent m. same) found hand)
   sending_marks (Connect q before) is = same
-  sending_marks (EmptyHead i last) is = right_way P v.rights (emptied last found v) v same (emptied_way P v same (λ c. same) (λ r. same) (λ k. same) last found)
-  sending_marks (ReadNext q) is = right_way P v.rights (λ r. read_next found v r r.stage) v same (λ r. reads_way P v same (λ c. same) (λ r. same) (λ k. same) found r r.stage)
-  sending_marks (ReverseNext q value) is = right_way P v.rights (λ r. turned_next v r r.stage) v same (λ r. turns_way P v same (λ c. same) (λ r. same) (λ k. same) r r.stage)
+  sending_marks (EmptyHead i last) is = right_way P v.rights (emptied last found v) v same (emptied_way P v same (λ r. same) (λ k. same) last found)
+  sending_marks (ReadNext q) is = right_way P v.rights (λ r. read_next found v r r.stage) v same (λ r. reads_way P v same (λ r. same) (λ k. same) found r r.stage)
+  sending_marks (ReverseNext q value) is = right_way P v.rights (λ r. turned_next v r r.stage) v same (λ r. turns_way P v same (λ r. same) (λ k. same) r r.stage)
   sending_marks (FreeRequest q g) is = right_way P v.rights (freed_next v) v same (λ r. same)
-  sending_marks (StorePlace l k n) is = right_way P v.rights (λ r. placed_next v r r.stage) v same (λ r. places_way P v same (λ c. same) (λ r. same) (λ k. same) r r.stage)
-  sending_marks (DropPlace l k n) is = right_way P v.rights (λ r. dropped_next v r r.stage) v same (λ r. drops_way P v same (λ c. same) (λ r. same) (λ k. same) r r.stage)
+  sending_marks (StorePlace l k n) is = right_way P v.rights (λ r. placed_next v r r.stage) v same (λ r. places_way P v same (λ r. same) (λ k. same) r r.stage)
+  sending_marks (DropPlace l k n) is = right_way P v.rights (λ r. dropped_next v r r.stage) v same (λ r. drops_way P v same (λ r. same) (λ k. same) r r.stage)
   sending_marks _ is = absurd (true≢false (sym is))
 
 -- whether it is the exchange of a head
@@ -111,31 +113,58 @@ abbrev pub is_exchange : Call → Bool
 is_exchange (SwapHead i own) = true
 is_exchange other = false
 
--- all of a view but its marks and what is on the chains is as it was, and so are the lists of accepted messages where no head was exchanged
-abbrev pub SameSeat : Call → View → View → Type 0
-SameSeat call v w = let u : View = record v { marks = w.marks; claims = w.claims; loose = w.loose; rights = w.rights; drops = w.drops; lists = cond (is_exchange call) w.lists v.lists } in w ≡ u
+-- whether it is one on the claims, and whether it moves a link into or out of a hand
+abbrev pub is_claiming : Call → Bool
+is_claiming (ClaimRequest id q) = true
+is_claiming (PutMessage q heading bytes) = true
+is_claiming (Unconnect q) = true
+is_claiming (SwapHead i own) = true
+is_claiming other = false
 
--- such steps leave it
+abbrev pub moves_hand : Call → Bool
+moves_hand (TakeLink k) = true
+moves_hand (PutLink k) = true
+moves_hand other = false
+
+-- all of a view but its marks, passes, stores, drops and entries not connected is as it was, but for the claims, rights, hands and lists of accepted
+-- messages where the step is on these
+abbrev pub SameSeat : Call → View → View → Type 0
+SameSeat call v w = let u : View = record v { marks = w.marks; passes = w.passes; stores = w.stores; drops = w.drops; loose = w.loose; claims = cond (is_claiming call) w.claims v.claims; rights = cond (moves_right call) w.rights v.rights; hands = cond (moves_hand call) w.hands v.hands; lists = cond (is_exchange call) w.lists v.lists } in w ≡ u
+
+-- each step leaves it
 module _ (p : Plan) (v : View) (found : ℕ) (hand : Hand) where
-  pub sending_same : (call : Call) → is_sending call ≡ true → SameSeat call v (row p call found hand v)
-  sending_same (LookWord id) is = right_way (SameSeat (LookWord id) v) v.rights (looked_clean (socket_id_slot id) found v) (looked (socket_id_slot id) found v) refl
+  pub row_leaves : (call : Call) → SameSeat call v (row p call found hand v)
+  row_leaves (LoadName n) = either_way (is_id found) (met (socket_id_slot (found - 1)) (socket_id_version (found - 1)) v) v (SameSeat (LoadName n) v) refl refl
+  row_leaves (LoadOpen o) = either_way (is_id found) (met (socket_id_slot (found - 1)) (socket_id_version (found - 1)) v) v (SameSeat (LoadOpen o) v) refl refl
+  row_leaves (TakeLink k) = either_way (nat_lt 0 (total (only hand.link) v.passes)) (spent_hand v hand) (with_hand v hand) (SameSeat (TakeLink k) v) refl refl
+  row_leaves (LookWord id) = right_way (SameSeat (LookWord id) v) v.rights (looked_clean (socket_id_slot id) found v) (looked (socket_id_slot id) found v) refl
       (λ r. either_way (vref_version found % 2 == 0) (with_right (looked (socket_id_slot id) found v) (record r { clean = true })) (looked (socket_id_slot id) found v) (SameSeat (LookWord id) v) refl refl)
-  sending_same (FindLink i h) is = refl
-  sending_same (LoadCode i h) is = either_way (found == 0) v (told_code i h found v) (SameSeat (LoadCode i h) v) refl refl
-  sending_same (ClaimRequest id q) is = let i : ℕ = socket_id_slot id in let h : ℕ = socket_id_version id in
+  row_leaves (LoadCode i h) = either_way (found == 0) v (told_code i h found v) (SameSeat (LoadCode i h) v) refl refl
+  row_leaves (ClaimRequest id q) = let i : ℕ = socket_id_slot id in let h : ℕ = socket_id_version id in
       either_way (found % 2 == 0) (with_claim (met_link i h hand.link v) (new_claim hand.link q found)) v (SameSeat (ClaimRequest id q) v) refl refl
-  sending_same (PutMessage q heading bytes) is = claim_way (SameSeat (PutMessage q heading bytes) v) v.claims (λ c. with_claim v (filled_claim c heading bytes)) v refl (λ c. refl)
-  sending_same (Unconnect q) is = claim_way (SameSeat (Unconnect q) v) v.claims (λ c. with_claim v (ready_claim c)) v refl (λ c. refl)
-  sending_same (SwapHead i own) is = claim_way (SameSeat (SwapHead i own) v) v.claims (exchanged found hand v) v refl (exchanges_way (SameSeat (SwapHead i own) v) v refl (λ c n. refl) (λ c n sent m. refl) found hand)
-  sending_same (Connect q before) is = refl
-  sending_same (EmptyHead i last) is = right_way (SameSeat (EmptyHead i last) v) v.rights (emptied last found v) v refl (emptied_way (SameSeat (EmptyHead i last) v) v refl (λ c. refl) (λ r. refl) (λ k. refl) last found)
-  sending_same (ReadNext q) is = right_way (SameSeat (ReadNext q) v) v.rights (λ r. read_next found v r r.stage) v refl (λ r. reads_way (SameSeat (ReadNext q) v) v refl (λ c. refl) (λ r. refl) (λ k. refl) found r r.stage)
-  sending_same (ReverseNext q value) is = right_way (SameSeat (ReverseNext q value) v) v.rights (λ r. turned_next v r r.stage) v refl (λ r. turns_way (SameSeat (ReverseNext q value) v) v refl (λ c. refl) (λ r. refl) (λ k. refl) r r.stage)
-  sending_same (FreeRequest q g) is = right_way (SameSeat (FreeRequest q g) v) v.rights (freed_next v) v refl (λ r. refl)
-  sending_same (StorePlace l k n) is = right_way (SameSeat (StorePlace l k n) v) v.rights (λ r. placed_next v r r.stage) v refl (λ r. places_way (SameSeat (StorePlace l k n) v) v refl (λ c. refl) (λ r. refl) (λ k. refl) r r.stage)
-  sending_same (DropPlace l k n) is = right_way (SameSeat (DropPlace l k n) v) v.rights (λ r. dropped_next v r r.stage) v refl (λ r. drops_way (SameSeat (DropPlace l k n) v) v refl (λ c. refl) (λ r. refl) (λ k. refl) r r.stage)
-  sending_same _ is = absurd (true≢false (sym is))
+  row_leaves (PutMessage q heading bytes) = claim_way (SameSeat (PutMessage q heading bytes) v) v.claims (λ c. with_claim v (filled_claim c heading bytes)) v refl (λ c. refl)
+  row_leaves (Unconnect q) = claim_way (SameSeat (Unconnect q) v) v.claims (λ c. with_claim v (ready_claim c)) v refl (λ c. refl)
+  row_leaves (SwapHead i own) = claim_way (SameSeat (SwapHead i own) v) v.claims (exchanged found hand v) v refl (exchanges_way (SameSeat (SwapHead i own) v) v refl (λ c n. refl) (λ c n sent m. refl) found hand)
+  row_leaves (EmptyHead i last) = right_way (SameSeat (EmptyHead i last) v) v.rights (emptied last found v) v refl (emptied_way (SameSeat (EmptyHead i last) v) v refl (λ r. refl) (λ k. refl) last found)
+  row_leaves (ReadNext q) = right_way (SameSeat (ReadNext q) v) v.rights (λ r. read_next found v r r.stage) v refl (λ r. reads_way (SameSeat (ReadNext q) v) v refl (λ r. refl) (λ k. refl) found r r.stage)
+  row_leaves (ReverseNext q value) = right_way (SameSeat (ReverseNext q value) v) v.rights (λ r. turned_next v r r.stage) v refl (λ r. turns_way (SameSeat (ReverseNext q value) v) v refl (λ r. refl) (λ k. refl) r r.stage)
+  row_leaves (FreeRequest q g) = right_way (SameSeat (FreeRequest q g) v) v.rights (freed_next v) v refl (λ r. refl)
+  row_leaves (StorePlace l k n) = right_way (SameSeat (StorePlace l k n) v) v.rights (λ r. placed_next v r r.stage) v refl (λ r. places_way (SameSeat (StorePlace l k n) v) v refl (λ r. refl) (λ k. refl) r r.stage)
+  row_leaves (DropPlace l k n) = right_way (SameSeat (DropPlace l k n) v) v.rights (λ r. dropped_next v r r.stage) v refl (λ r. drops_way (SameSeat (DropPlace l k n) v) v refl (λ r. refl) (λ k. refl) r r.stage)
+  row_leaves _ = refl
+
+  pub plan_stays : (call : Call) → (row p call found hand v).plan ≡ v.plan
+  plan_stays call = ap (λ (w : View). w.plan) (row_leaves call)
+
+  pub claims_stay : (call : Call) → is_claiming call ≡ false → (row p call found hand v).claims ≡ v.claims
+  claims_stay call other_ = ap (λ (w : View). w.claims) (row_leaves call) ∙ ap (λ b. cond b (row p call found hand v).claims v.claims) other_
+
+  pub rights_stay : (call : Call) → moves_right call ≡ false → (row p call found hand v).rights ≡ v.rights
+  rights_stay call other_ = ap (λ (w : View). w.rights) (row_leaves call) ∙ ap (λ b. cond b (row p call found hand v).rights v.rights) other_
+
+  pub hands_stay : (call : Call) → moves_hand call ≡ false → (row p call found hand v).hands ≡ v.hands
+  hands_stay call other_ = ap (λ (w : View). w.hands) (row_leaves call) ∙ ap (λ b. cond b (row p call found hand v).hands v.hands) other_
 
   -- all but the exchange leave the lists of accepted messages
-  pub own_lists : (call : Call) → is_sending call ≡ true → is_exchange call ≡ false → (row p call found hand v).lists ≡ v.lists
-  own_lists call is other_ = ap (λ (w : View). w.lists) (sending_same call is) ∙ ap (λ b. cond b (row p call found hand v).lists v.lists) other_
+  pub lists_stay : (call : Call) → is_exchange call ≡ false → (row p call found hand v).lists ≡ v.lists
+  lists_stay call other_ = ap (λ (w : View). w.lists) (row_leaves call) ∙ ap (λ b. cond b (row p call found hand v).lists v.lists) other_

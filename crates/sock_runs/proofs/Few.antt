@@ -42,7 +42,7 @@ use Rattle.seat_programs.specs.StepsOfChain.{exchanged}
 use Rattle.seat_programs.specs.StepTables.{May}
 use Rattle.program_steps.specs.Sound.{Sound, AreFew, MOST_PLACES, views_after, IsFitting}
 use Rattle.program_steps.specs.Lasts.{Lasts, MOST_PAID}
-use Rattle.program_steps.proofs.Leaves.{sending_same, is_exchange, own_lists}
+use Rattle.program_steps.proofs.Leaves.{is_exchange, row_leaves, plan_stays, lists_stay}
 use Rattle.program_steps.proofs.Rounds.{begins_round}
 use Rattle.program_steps.proofs.Passes.{goes_round}
 use Rattle.program_steps.proofs.Cases.{tick_keeps_marks}
@@ -51,27 +51,7 @@ use Rattle.program_steps.proofs.Cases.{tick_keeps_marks}
 
 -- each step but the exchange leaves the plan, the words that were found, and the accepted messages
 pub row_same : (p : Plan) (call : Call) (found : ℕ) (hand : Hand) (v : View) → is_exchange call ≡ false → SameNotes v (row p call found hand v)
-row_same p (LoadName n) found hand v other_ = either_way (is_id found) (met (socket_id_slot (found - 1)) (socket_id_version (found - 1)) v) v (λ w. SameNotes v w) record { plan = refl; found = refl; lists = refl } record { plan = refl; found = refl; lists = refl }
-row_same p (LoadOpen n) found hand v other_ = either_way (is_id found) (met (socket_id_slot (found - 1)) (socket_id_version (found - 1)) v) v (λ w. SameNotes v w) record { plan = refl; found = refl; lists = refl } record { plan = refl; found = refl; lists = refl }
-row_same p (TakeLink k) found hand v other_ = either_way (nat_lt 0 (total (only hand.link) v.passes)) (spent_hand v hand) (with_hand v hand) (λ w. SameNotes v w) record { plan = refl; found = refl; lists = refl } record { plan = refl; found = refl; lists = refl }
-row_same p (ClaimSlot i) found hand v other_ = record { plan = refl; found = refl; lists = refl }
-row_same p (CreateLife i k) found hand v other_ = record { plan = refl; found = refl; lists = refl }
-row_same p (AddRef id) found hand v other_ = record { plan = refl; found = refl; lists = refl }
-row_same p (SubRef i) found hand v other_ = record { plan = refl; found = refl; lists = refl }
-row_same p (SetOdd i) found hand v other_ = record { plan = refl; found = refl; lists = refl }
-row_same p (Recycle i from) found hand v other_ = record { plan = refl; found = refl; lists = refl }
-row_same p (FreeSlot i) found hand v other_ = record { plan = refl; found = refl; lists = refl }
-row_same p (StoreLink i k) found hand v other_ = record { plan = refl; found = refl; lists = refl }
-row_same p (LoadLink i w) found hand v other_ = record { plan = refl; found = refl; lists = refl }
-row_same p (ResetHead i k) found hand v other_ = record { plan = refl; found = refl; lists = refl }
-row_same p (ClearCode i k) found hand v other_ = record { plan = refl; found = refl; lists = refl }
-row_same p (StoreCode i h c) found hand v other_ = record { plan = refl; found = refl; lists = refl }
-row_same p (StoreName n w) found hand v other_ = record { plan = refl; found = refl; lists = refl }
-row_same p (StoreOpen n w) found hand v other_ = record { plan = refl; found = refl; lists = refl }
-row_same p (FinishLink k) found hand v other_ = record { plan = refl; found = refl; lists = refl }
-row_same p (PutLink k) found hand v other_ = record { plan = refl; found = refl; lists = refl }
-row_same p (SwapHead i own) found hand v other_ = absurd (true≢false other_)
-row_same p call found hand v other_ = let same = sending_same p v found hand call refl in record { plan = ap (λ (w : View). w.plan) same; found = ap (λ (w : View). w.found) same; lists = own_lists p v found hand call refl other_ }
+row_same p call found hand v other_ = record { plan = plan_stays p v found hand call; found = ap (λ (w : View). w.found) (row_leaves p v found hand call); lists = lists_stay p v found hand call other_ }
 
 -- ## A tick
 
