@@ -1,5 +1,5 @@
 -- The messages that links accepted, and their order: what each step adds to them, and that it finds the last one in the head.
-use Rattle.std.proofs.Common.{◌≡◌, ◌≢◌, ℕ, zero, suc, ◌+◌, ◌-◌, ◌*◌, ◌%◌, ◌<◌, ◌⊎◌, nat_lt, eqb, eqb-true, eq-eqb, Bool, true, false, cond, List, [], ◌∷◌, ◌++◌, length, map, set, slice_index, sym, refl, ap, ◌∙◌, subst, inl, inr, ⊎_elim, arith}
+use Rattle.std.proofs.Common.{◌≡◌, ◌≢◌, ℕ, zero, suc, ◌+◌, ◌-◌, ◌*◌, ◌<◌, ◌⊎◌, nat_lt, eqb, eqb-true, eq-eqb, Bool, true, false, cond, List, [], ◌∷◌, ◌++◌, length, map, set, slice_index, sym, refl, ap, ◌∙◌, subst, inl, inr, ⊎_elim, arith}
 use Rattle.std.proofs.lemmas.Bool.{ltb-true, ltb-false}
 use Rattle.std.specs.List.{filter, flat_map}
 use mathlib.Core.Logic.{dite}
@@ -8,37 +8,25 @@ use native.Mathlib.Decide.{ℕ_discrete}
 use lib.ListN.{get_elem?}
 use Rattle.atomic_table.proofs.Lists.{at_map}
 use Rattle.sock_words.specs.declared.plain.Plan.{Plan}
-use Rattle.sock_words.specs.Words.{socket_id_version, socket_id_slot, vref_version}
 use Rattle.sock_io.specs.declared.link.Put.{Put}
 use Rattle.sock_io.specs.declared.link.Put.TheVariants.{Took, Again, Failed}
 use Rattle.sock_model.specs.declared.chain.Entry.{Entry}
 use Rattle.sock_model.specs.declared.chain.Claim.{Claim}
 use Rattle.sock_model.specs.declared.chain.Heading.{Heading}
 use Rattle.sock_model.specs.declared.chain.Right.{Right}
-use Rattle.sock_model.specs.declared.chain.Stage.{Stage}
-use Rattle.sock_model.specs.declared.chain.Stage.TheVariants.{Walks}
 use Rattle.sock_model.specs.declared.view.View.{View}
-use Rattle.sock_model.specs.declared.view.Hand.{Hand}
 use Rattle.sock_model.specs.Layout.{head_index}
 use Rattle.sock_model.specs.Entries.{on, nth}
 use Rattle.sock_model.specs.Authors.{pick}
 use Rattle.sock_model.specs.Memory.{IDLE}
 use Rattle.sock_model.specs.Reads.{head_at, memory, claims_of, tokens}
-use Rattle.sock_model.specs.Weights.{total, only}
-use Rattle.sock_model.specs.SlotRows.{met, met_link, looked, told_code}
-use Rattle.sock_model.specs.ChainRows.{entry_of, more, with_hand, spent_hand, with_claim, with_right, without_right, taken_right, put_right}
+use Rattle.sock_model.specs.ChainRows.{entry_of, more, with_right, taken_right, put_right}
 use Rattle.sock_model.specs.Conditions.{MayExchange}
 use Rattle.sock_model.specs.Links.{Lives}
 use Rattle.sock_model.specs.Lawful.{Lawful}
 use Rattle.seat_programs.specs.Cores.{Core}
-use Rattle.seat_programs.specs.Calls.{Call, ClaimSlot, CreateLife, AddRef, SubRef, SetOdd, Recycle, FreeSlot, StoreLink, LoadLink, ResetHead, ClearCode, StoreCode, StoreName, LoadName, StoreOpen, LoadOpen, TakeLink, FinishLink, PutLink, LookWord, FindLink, LoadCode, ClaimRequest, PutMessage, Unconnect, SwapHead, Connect, EmptyHead, ReadNext, ReverseNext, FreeRequest, StorePlace, DropPlace}
-use Rattle.seat_programs.specs.StepTables.{row}
-use Rattle.seat_programs.specs.StepsOfNames.{is_id}
-use Rattle.seat_programs.specs.StepsOfChain.{new_claim, ready_claim, read_next, turned_next, freed_next, emptied}
-use Rattle.seat_programs.specs.StepsOfMessages.{filled_claim, took_message}
-use Rattle.seat_programs.specs.StepViews.{by_claim, by_right}
-use Rattle.seat_programs.specs.StepsOfPlaces.{placed_next, dropped_next}
-use Rattle.seat_programs.specs.StepsOfSlots.{looked_clean}
+use Rattle.seat_programs.specs.StepsOfMessages.{took_message}
+use Rattle.seat_programs.specs.StepViews.{by_right}
 use Rattle.seat_programs.specs.StepsOfLinks.{link_away, link_home_again, took_bytes}
 use Rattle.sock_runs.specs.program_steps.specs.Sound.{state}
 use Rattle.sock_runs.specs.program_steps.proofs.Leaves.{right_way}
@@ -48,7 +36,6 @@ use Rattle.chain_steps.proofs.Claims.{claim_of}
 use Rattle.chain_steps.proofs.Gather.{gather_all, gather_same}
 use Rattle.chain_steps.proofs.Few.{few_claims}
 use Rattle.chain_steps.proofs.Grow.{busy_found, idle_found}
-use Rattle.sock_steps.proofs.Quiet.{either_way}
 use Rattle.sock_steps.proofs.Places.{holder_lives}
 use Rattle.message_events.specs.Messages.{Has, IsOrder, MayCome, Accept}
 use Rattle.message_events.specs.Standing.{accepted_by, messages}

@@ -1,11 +1,10 @@
 -- Steps that leave what each link took and how many of its messages have places; and when a request is taken, or given back.
-use Rattle.std.proofs.Common.{◌≡◌, ◌≢◌, ℕ, suc, ◌+◌, ◌-◌, ◌*◌, ◌%◌, ◌<◌, ◌==◌, ◌⊎◌, ⊎_elim, eqb, eqb-true, Bool, true, false, List, [], ◌∷◌, set, refl, sym, ap, ◌∙◌, subst, arith}
+use Rattle.std.proofs.Common.{◌≡◌, ◌≢◌, ℕ, suc, ◌+◌, ◌-◌, ◌*◌, ◌%◌, ◌<◌, ◌⊎◌, ⊎_elim, eqb, eqb-true, Bool, true, false, List, [], ◌∷◌, set, refl, sym, ap, ◌∙◌, subst, arith}
 use Rattle.std.proofs.lemmas.Bool.{true≢false}
 use Rattle.std.specs.List.{filter, flat_map}
 use Rattle.std.specs.Prelude.{slice_index, not, ◌||◌}
 use mathlib.Core.Option.{Option, some}
 use lib.ListN.{get_elem?}
-use Rattle.sock_words.specs.Words.{socket_id_version, socket_id_slot}
 use Rattle.sock_words.specs.declared.plain.Plan.{Plan}
 use Rattle.sock_model.specs.declared.chain.Entry.{Entry}
 use Rattle.sock_model.specs.declared.chain.Right.{Right}
@@ -17,8 +16,6 @@ use Rattle.sock_model.specs.declared.view.Hand.{Hand}
 use Rattle.sock_model.specs.Entries.{slot_of, generation_of, on, nth, ticket}
 use Rattle.sock_model.specs.Writing.{Held, InStage}
 use Rattle.sock_model.specs.Layout.{request_index}
-use Rattle.sock_model.specs.SlotRows.{met, told_code, met_link}
-use Rattle.sock_model.specs.ChainRows.{with_claim}
 use Rattle.sock_model.specs.Reads.{memory, tokens, rights_on, link_home, took_of, as_link, shown}
 use Rattle.sock_model.specs.Lawful.{Lawful}
 use Rattle.chain_steps.proofs.Gather.{gather_same}
@@ -27,14 +24,10 @@ use Rattle.chain_steps.proofs.Frames.{in_size}
 use Rattle.chain_steps.proofs.Heads.{held_of, slot_is}
 use Rattle.chain_steps.proofs.Frees.{generation_is}
 use Rattle.atomic_table.proofs.Lists.{set_else}
-use Rattle.sock_steps.proofs.Quiet.{either_way}
 use Rattle.sock_steps.proofs.RightSteps.{right_in, right_alone}
-use Rattle.seat_programs.specs.Calls.{Call, ClaimSlot, CreateLife, AddRef, SubRef, SetOdd, Recycle, FreeSlot, StoreLink, LoadLink, ResetHead, ClearCode, StoreCode, StoreName, LoadName, StoreOpen, LoadOpen, TakeLink, FinishLink, PutLink, LookWord, FindLink, LoadCode, ClaimRequest, PutMessage, Unconnect, SwapHead, Connect, EmptyHead, ReadNext, ReverseNext, FreeRequest, StorePlace, DropPlace}
+use Rattle.seat_programs.specs.Calls.{Call, TakeLink, PutLink, PutMessage, FreeRequest}
 use Rattle.seat_programs.specs.Cores.{Core, homes_after}
 use Rattle.seat_programs.specs.StepTables.{row}
-use Rattle.seat_programs.specs.StepsOfNames.{is_id, found_id}
-use Rattle.seat_programs.specs.StepsOfChain.{new_claim, ready_claim}
-use Rattle.seat_programs.specs.StepsOfMessages.{filled_claim}
 use Rattle.seat_programs.specs.StepTables.{May}
 use Rattle.sock_runs.specs.program_steps.specs.Sound.{state}
 use Rattle.sock_runs.specs.program_steps.proofs.Leaves.{moves_right, moves_hand, rights_stay, hands_stay}

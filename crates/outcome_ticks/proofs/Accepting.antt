@@ -12,13 +12,11 @@ use Rattle.sock_model.specs.declared.view.Hand.{Hand}
 use Rattle.sock_model.specs.ChainRows.{with_claim, entry_of, more, queued, righted}
 use Rattle.sock_model.specs.SlotRows.{met_link}
 use Rattle.sock_model.specs.Memory.{IDLE}
-use Rattle.sock_model.specs.Weights.{total, only}
 use Rattle.seat_programs.specs.declared.task.Op.TheVariants as ops
 use Rattle.seat_programs.specs.declared.task.Task.{Task}
-use Rattle.seat_programs.specs.Calls.{Call, ClaimSlot, CreateLife, AddRef, SubRef, SetOdd, Recycle, FreeSlot, StoreLink, LoadLink, ResetHead, ClearCode, StoreCode, StoreName, LoadName, StoreOpen, LoadOpen, TakeLink, FinishLink, PutLink, ClaimRequest, PutMessage, Unconnect, SwapHead}
+use Rattle.seat_programs.specs.Calls.{Call, LoadName, ClaimRequest, PutMessage, Unconnect, SwapHead}
 use Rattle.seat_programs.specs.Sends.{heading_of}
 use Rattle.seat_programs.specs.StepTables.{row}
-use Rattle.seat_programs.specs.StepsOfNames.{is_id}
 use Rattle.seat_programs.specs.StepViews.{by_claim}
 use Rattle.seat_programs.specs.StepsOfChain.{exchanged, new_claim, ready_claim}
 use Rattle.seat_programs.specs.StepsOfMessages.{filled_claim}
@@ -28,7 +26,6 @@ use Rattle.outcome_stories.specs.Stories.{Entry, Event, In, trace_of}
 use Rattle.outcome_stories.specs.Explains.{IsCallReadied, IsReadied, swaps, swapped, step}
 use Rattle.outcome_stories.specs.Causes.{WasGiven}
 use Rattle.outcome_stories.specs.Kept.{is_of_send, of_sends, EndsIn, IsFor, AreClaims}
-use Rattle.outcome_stories.proofs.Tests.{split}
 
 -- ## Steps but the exchange of a head
 

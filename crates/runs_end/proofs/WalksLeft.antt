@@ -1,12 +1,12 @@
 -- What a step leaves of walks, of lists of accepted messages, and of messages at home.
-use Rattle.std.proofs.Common.{◌≡◌, ◌≢◌, ℕ, zero, suc, ◌+◌, ◌-◌, ◌*◌, ◌%◌, ◌<◌, ◌≤◌, ◌==◌, ◌&&◌, Bool, true, false, not, List, [], ◌∷◌, ◌++◌, length, take, length-append, nat_lt, set, refl, sym, ap, ◌∙◌, subst, arith, cond, eqb, eq-eqb, ne_eqb}
+use Rattle.std.proofs.Common.{◌≡◌, ◌≢◌, ℕ, zero, suc, ◌+◌, ◌-◌, ◌*◌, ◌%◌, ◌<◌, ◌≤◌, ◌==◌, ◌&&◌, Bool, true, false, not, List, [], ◌∷◌, ◌++◌, length, take, length-append, set, refl, sym, ap, ◌∙◌, subst, arith, cond, eqb, eq-eqb, ne_eqb}
 use Rattle.std.proofs.lemmas.Bool.{true≢false}
 use Rattle.std.specs.List.{filter, flat_map}
 use mathlib.Core.Logic.{dite}
 use mathlib.Core.Option.{Option, some, none}
 use native.Mathlib.Decide.{ℕ_discrete}
 use Rattle.sock_words.specs.declared.plain.Plan.{Plan}
-use Rattle.sock_words.specs.Words.{socket_id_version, socket_id_slot, vref_version}
+use Rattle.sock_words.specs.Words.{socket_id_slot, vref_version}
 use Rattle.seat_programs.specs.sock_io.specs.declared.link.Put.{Put}
 use Rattle.seat_programs.specs.sock_io.specs.declared.link.Put.TheVariants.{Took, Again, Failed}
 use Rattle.sock_model.specs.declared.chain.Entry.{Entry}
@@ -21,20 +21,19 @@ use Rattle.sock_model.specs.declared.view.Hand.{Hand}
 use Rattle.sock_model.specs.Entries.{on, generation_of}
 use Rattle.sock_model.specs.Memory.{UNCONNECTED}
 use Rattle.sock_model.specs.Weights.{total, only}
-use Rattle.sock_model.specs.SlotRows.{met, looked, told_code, met_link}
-use Rattle.sock_model.specs.ChainRows.{with_hand, spent_hand, with_claim, with_right, without_right, more, turned_right, placed_right, dropped_right, taken_right, put_right}
+use Rattle.sock_model.specs.SlotRows.{looked}
+use Rattle.sock_model.specs.ChainRows.{with_right, without_right, more, turned_right, placed_right, dropped_right, taken_right, put_right}
 use Rattle.sock_model.specs.Reads.{rights_on}
 use Rattle.sock_steps.specs.slot_steps.proofs.Numbers.{only-at, only-else}
 use Rattle.sock_steps.specs.chain_steps.proofs.Lists.{on_hit, on_miss}
 use Rattle.sock_steps.proofs.Quiet.{either_way}
-use Rattle.seat_programs.specs.Calls.{Call, ClaimSlot, CreateLife, AddRef, SubRef, SetOdd, Recycle, FreeSlot, StoreLink, LoadLink, ResetHead, ClearCode, StoreCode, StoreName, LoadName, StoreOpen, LoadOpen, TakeLink, FinishLink, PutLink, LookWord, LoadCode, ClaimRequest, PutMessage, Unconnect, SwapHead, EmptyHead, ReadNext, ReverseNext, FreeRequest, StorePlace, DropPlace}
+use Rattle.seat_programs.specs.Calls.{Call, TakeLink, PutLink, LookWord, PutMessage, SwapHead, EmptyHead, ReadNext, ReverseNext, FreeRequest, StorePlace, DropPlace}
 use Rattle.seat_programs.specs.Programs.{LAST_GENERATION}
 use Rattle.seat_programs.specs.Cores.{first_of, link_place, homes_after}
 use Rattle.seat_programs.specs.StepTables.{row}
-use Rattle.seat_programs.specs.StepsOfNames.{is_id, found_id}
 use Rattle.seat_programs.specs.StepViews.{by_right, settled_stage, settled}
-use Rattle.seat_programs.specs.StepsOfChain.{new_claim, ready_claim, emptied, freed_stage, read_next, turned_next, freed_next}
-use Rattle.seat_programs.specs.StepsOfMessages.{filled_claim, took_message}
+use Rattle.seat_programs.specs.StepsOfChain.{emptied, freed_stage, read_next, turned_next, freed_next}
+use Rattle.seat_programs.specs.StepsOfMessages.{took_message}
 use Rattle.seat_programs.specs.StepsOfSlots.{looked_clean}
 use Rattle.seat_programs.specs.StepsOfPlaces.{placed_next, dropped_next}
 use Rattle.seat_programs.specs.StepsOfLinks.{link_away, link_home_again, took_bytes}

@@ -1,6 +1,5 @@
 -- Each client accepts few messages, whatever the order of ticks, so that the place of each fits its word; and the ticket of a message is below that of an idle head.
 use Rattle.std.proofs.Common.{◌≡◌, ℕ, suc, ◌-◌, ◌<◌, ◌≤◌, false, nat_lt, List, ◌∷◌, length, length-set, set, refl, sym, ap, subst, ⊎_elim, arith}
-use Rattle.std.proofs.lemmas.Bool.{true≢false}
 use mathlib.Core.Option.{some}
 use lib.ListN.{get_elem?}
 use Rattle.atomic_table.specs.Table.{State}
@@ -12,16 +11,14 @@ use Rattle.sock_model.specs.declared.chain.Stage.TheVariants.{Writes}
 use Rattle.sock_model.specs.declared.home.Home.{Home}
 use Rattle.sock_model.specs.declared.view.View.{View}
 use Rattle.sock_model.specs.declared.view.Hand.{Hand}
-use Rattle.sock_model.specs.Weights.{total, only}
+use Rattle.sock_model.specs.Weights.{total}
 use Rattle.sock_model.specs.Entries.{on, nth}
 use Rattle.sock_model.specs.Memory.{IDLE}
 use Rattle.sock_model.specs.Writing.{Held}
 use Rattle.sock_model.specs.Reads.{memory, tokens}
-use Rattle.sock_model.specs.SlotRows.{met}
-use Rattle.sock_model.specs.ChainRows.{with_hand, spent_hand, entry_of, more, queued, righted}
+use Rattle.sock_model.specs.ChainRows.{entry_of, more, queued, righted}
 use Rattle.sock_model.specs.Lawful.{Lawful}
 use Rattle.sock_model.specs.Rule.{MOST_ACCEPTED, AreShort, lists_of}
-use Rattle.sock_words.specs.Words.{socket_id_version, socket_id_slot}
 use Rattle.sock_steps.specs.slot_steps.proofs.Sums.{term_le, total_bound}
 use Rattle.sock_steps.specs.chain_steps.proofs.Frames.{in_size}
 use Rattle.sock_steps.specs.chain_steps.proofs.Heads.{held_of}
@@ -31,12 +28,11 @@ use Rattle.sock_steps.proofs.RightSteps.{right_in, right_alone}
 use Rattle.sock_steps.proofs.RuleFrame.{SameNotes, accept_short}
 use Rattle.sock_steps.proofs.Positions.{few_log, on_shorter}
 use Rattle.sock_steps.proofs.Walked.{writes_left}
-use Rattle.seat_programs.specs.Calls.{Call, ClaimSlot, CreateLife, AddRef, SubRef, SetOdd, Recycle, FreeSlot, StoreLink, LoadLink, ResetHead, ClearCode, StoreCode, StoreName, LoadName, StoreOpen, LoadOpen, TakeLink, FinishLink, PutLink, SwapHead}
+use Rattle.seat_programs.specs.Calls.{Call, SwapHead}
 use Rattle.seat_programs.specs.Cores.{Core, found_at}
 use Rattle.seat_programs.specs.StepTables.{word_of}
 use Rattle.seat_programs.specs.Ticks.{Moment, IsAnswered}
 use Rattle.seat_programs.specs.StepTables.{row, hand_at}
-use Rattle.seat_programs.specs.StepsOfNames.{is_id}
 use Rattle.seat_programs.specs.StepViews.{by_claim}
 use Rattle.seat_programs.specs.StepsOfChain.{exchanged}
 use Rattle.seat_programs.specs.StepTables.{May}
