@@ -1,5 +1,5 @@
 -- A seat holds the references that its operation took.
-use Rattle.std.proofs.Common.{◌≡◌, ℕ, ◌+◌, ◌-◌, ◌%◌, ◌<◌, ◌≤◌, Bool, true, false, cond, eqb, eq-eqb, ne_eqb, List, [], ◌∷◌, sym, refl, ap, arith, nat_lt}
+use Rattle.std.proofs.Common.{◌≡◌, ℕ, ◌+◌, ◌-◌, ◌%◌, ◌<◌, ◌≤◌, Bool, true, false, cond, eqb, eq-eqb, ne_eqb, List, [], ◌∷◌, sym, refl, ap, arith}
 use mathlib.Core.Logic.{dite}
 use native.Mathlib.Decide.{ℕ_discrete}
 use Rattle.sock_words.specs.declared.plain.Plan.{Plan}
@@ -17,10 +17,9 @@ use Rattle.program_walks.specs.slot_steps.proofs.Numbers.{only-at, only-else}
 use Rattle.program_walks.specs.slot_steps.proofs.Frame.{about-without, about-without_else}
 use Rattle.program_walks.specs.slot_steps.proofs.Slots.{zero_is, stage_is}
 use Rattle.program_walks.specs.sock_steps.proofs.Quiet.{More, more_all, more_add, more_without}
-use Rattle.seat_programs.specs.Calls.{Call, ClaimSlot, CreateLife, AddRef, SubRef, SetOdd, Recycle, FreeSlot, StoreLink, LoadLink, ResetHead, ClearCode, StoreCode, StoreName, LoadName, StoreOpen, LoadOpen, TakeLink, FinishLink, PutLink}
+use Rattle.seat_programs.specs.Calls.{Call, ClaimSlot, CreateLife, AddRef, SubRef, SetOdd, Recycle, FreeSlot, StoreLink, LoadLink, ResetHead, ClearCode, StoreCode}
 use Rattle.seat_programs.specs.StepTables.{row}
-use Rattle.seat_programs.specs.StepsOfNames.{is_id, found_id}
-use Rattle.program_walks.specs.program_steps.proofs.Leaves.{sending_marks}
+use Rattle.program_walks.specs.program_steps.proofs.Leaves.{noting_marks}
 use Rattle.outcome_stories.specs.Explains.{holds_behind}
 use Rattle.outcome_stories.proofs.Tests.{split}
 use Rattle.outcome_stories.proofs.Added.{coding_is, recycling_is}
@@ -58,10 +57,6 @@ module _ (h : ℕ) where
     kept_stage : (i a k : ℕ) → Kept (without_at i (is_stage a k) v.marks)
     kept_stage i a k = kept_without i (is_stage a k) (λ x q. ap f (stage_is a k x q))
 
-    kept_found : (word : ℕ) → Kept (found_id word v).marks
-    kept_found word = split (is_id word) (record v { marks = at (socket_id_slot (word - 1)) (Known (socket_id_version (word - 1))) ∷ v.marks }) v (λ (u : View). Kept u.marks)
-        (kept_add (socket_id_slot (word - 1)) (Known (socket_id_version (word - 1))) v.marks kept_all) kept_all
-
     -- steps that take no reference and give none back
     abbrev IsStill : Call → Type 0
     IsStill (AddRef id) = ⊥
@@ -81,20 +76,12 @@ module _ (h : ℕ) where
         split (eqb found from) (at i (Recycling (w + 1)) ∷ at i (Freer (w - 1)) ∷ less) less Kept (kept_add i (Recycling (w + 1)) (at i (Freer (w - 1)) ∷ less) (kept_add i (Freer (w - 1)) less k)) k
     row_keeps p (FreeSlot i) found hand still = kept_without i is_recycling (λ x q. ap f (recycling_is x q).1)
     row_keeps p (StoreLink i k) found hand still = kept_add i (Claimed 1 k) (without_at i (is_stage 0 0) v.marks) (kept_stage i 0 0)
-    row_keeps p (LoadLink i w) found hand still = kept_add i (Met (w - 2) found) v.marks kept_all
     row_keeps p (ResetHead i k) found hand still = kept_add i (Claimed 2 k) (without_at i (is_stage 1 k) v.marks) (kept_stage i 1 k)
     row_keeps p (ClearCode i k) found hand still = kept_add i (Claimed 3 k) (without_at i (is_stage 2 k) v.marks) (kept_stage i 2 k)
     row_keeps p (StoreCode i g c) found hand still = let less : List SlotMark = without_at i (is_coding g) v.marks in
         kept_add i (Stored g c) (at i (Told g c) ∷ less) (kept_add i (Told g c) less (kept_without i (is_coding g) (λ x q. ap f (coding_is g x q).1)))
-    row_keeps p (StoreName n w) found hand still = kept_all
-    row_keeps p (LoadName n) found hand still = kept_found found
-    row_keeps p (StoreOpen o w) found hand still = kept_all
-    row_keeps p (LoadOpen o) found hand still = kept_found found
-    row_keeps p (TakeLink k) found hand still = split (nat_lt 0 (total (only hand.link) v.passes)) _ _ (λ (u : View). Kept u.marks) kept_all kept_all
-    row_keeps p (FinishLink k) found hand still = kept_all
-    row_keeps p (PutLink k) found hand still = kept_all
-    row_keeps p call found hand still = sending_marks p v found hand Kept kept_all (λ i w. kept_add i (Saw w) v.marks kept_all) (λ i g k. kept_add i (Met g k) v.marks kept_all)
-        (λ i g c w. kept_add i (Told g c) (at i (Saw w) ∷ v.marks) (kept_add i (Saw w) v.marks kept_all)) call refl
+    row_keeps p call found hand still = noting_marks p v found hand Kept kept_all (λ i w. kept_add i (Saw w) v.marks kept_all) (λ i g k. kept_add i (Met g k) v.marks kept_all)
+        (λ i g c w. kept_add i (Told g c) (at i (Saw w) ∷ v.marks) (kept_add i (Saw w) v.marks kept_all)) (λ i g. kept_add i (Known g) v.marks kept_all) call refl
 
   module _ (i : ℕ) (v : View) where
     abbrev sum : List SlotMark → ℕ

@@ -10,19 +10,17 @@ use Rattle.sock_model.specs.declared.marks.Mark.TheVariants.{Claimed, Recycling,
 use Rattle.sock_model.specs.declared.marks.SlotMark.{SlotMark}
 use Rattle.sock_model.specs.declared.view.View.{View}
 use Rattle.sock_model.specs.declared.view.Hand.{Hand}
-use Rattle.sock_model.specs.Weights.{total, only, is_born, is_failer, is_stage, is_recycling, is_hold, is_probe, is_zero, is_coding}
+use Rattle.sock_model.specs.Weights.{total, is_born, is_failer, is_stage, is_recycling, is_hold, is_probe, is_zero, is_coding}
 use Rattle.sock_model.specs.Marks.{at, without_at}
 use Rattle.sock_model.specs.Slots.{version_of, nref_of}
 use Rattle.sock_model.specs.SlotRows.{marks_of, back, met}
-use Rattle.sock_model.specs.ChainRows.{with_hand, spent_hand}
 use Rattle.sock_steps.specs.slot_steps.proofs.Sums.{about-other}
 use Rattle.sock_steps.specs.slot_steps.proofs.Numbers.{only-else}
 use Rattle.sock_steps.specs.slot_steps.proofs.Slots.{stage_is, any_recycled, hold_is, probe_is, zero_is}
 use Rattle.sock_steps.proofs.Quiet.{either_way, Less, More, less_add, less_all, less_without, more_add, more_all, more_without}
-use Rattle.seat_programs.specs.Calls.{Call, ClaimSlot, CreateLife, AddRef, SubRef, SetOdd, Recycle, FreeSlot, StoreLink, LoadLink, ResetHead, ClearCode, StoreCode, StoreName, LoadName, StoreOpen, LoadOpen, TakeLink, FinishLink, PutLink}
+use Rattle.seat_programs.specs.Calls.{Call, ClaimSlot, CreateLife, AddRef, SubRef, SetOdd, Recycle, FreeSlot, StoreLink, ResetHead, ClearCode, StoreCode}
 use Rattle.seat_programs.specs.StepTables.{row}
-use Rattle.seat_programs.specs.StepsOfNames.{is_id, found_id}
-use Rattle.program_steps.proofs.Leaves.{sending_marks}
+use Rattle.program_steps.proofs.Leaves.{noting_marks}
 
 -- the slot in which a step makes a life
 abbrev pub bears : Call → Option ℕ
@@ -83,10 +81,6 @@ module _ (p : Plan) (v : View) (found : ℕ) (hand : Hand) where
     zero_out : (i w : ℕ) → More f v.marks (without_at i (is_zero w) v.marks)
     zero_out i w = drop i (is_zero w) (λ x q. ap f (zero_is w x q) ∙ none_.zero w)
 
-    stay_found : (w : ℕ) → More f v.marks (found_id w v).marks
-    stay_found w = let i : ℕ = socket_id_slot (w - 1) in let g : ℕ = socket_id_version (w - 1) in
-        either_way (is_id w) (met i g v) v (λ (u : View). More f v.marks u.marks) (add i (Known g) v.marks same) same
-
     -- what was noted stays
     pub notes_stay : (call : Call) → More f v.marks (row p call found hand v).marks
     notes_stay (ClaimSlot i) = add i (cond (found == 0) (Claimed 0 0) Tried) v.marks same
@@ -104,18 +98,10 @@ module _ (p : Plan) (v : View) (found : ℕ) (hand : Hand) where
         either_way (found == from) (at i (Recycling (w + 1)) ∷ at i (Freer (w - 1)) ∷ left) left Stay (add i (Recycling (w + 1)) (at i (Freer (w - 1)) ∷ left) (add i (Freer (w - 1)) left (zero_out i w))) (zero_out i w)
     notes_stay (FreeSlot i) = drop i is_recycling (λ x q. let r = any_recycled x q in ap f r.1 ∙ none_.recycling r.0)
     notes_stay (StoreLink i k) = add i (Claimed 1 k) (without_at i (is_stage 0 0) v.marks) (stage_out i 0 0)
-    notes_stay (LoadLink i w) = add i (Met (w - 2) found) v.marks same
     notes_stay (ResetHead i k) = add i (Claimed 2 k) (without_at i (is_stage 1 k) v.marks) (stage_out i 1 k)
     notes_stay (ClearCode i k) = add i (Claimed 3 k) (without_at i (is_stage 2 k) v.marks) (stage_out i 2 k)
     notes_stay (StoreCode i g d) = let left : List SlotMark = without_at i (is_coding g) v.marks in add i (Stored g d) (at i (Told g d) ∷ left) (add i (Told g d) left (drop i (is_coding g) (coding_none g)))
-    notes_stay (StoreName n w) = same
-    notes_stay (LoadName n) = stay_found found
-    notes_stay (StoreOpen n w) = same
-    notes_stay (LoadOpen n) = stay_found found
-    notes_stay (TakeLink k) = either_way (nat_lt 0 (total (only hand.link) v.passes)) (spent_hand v hand) (with_hand v hand) (λ (u : View). More f v.marks u.marks) same same
-    notes_stay (FinishLink k) = same
-    notes_stay (PutLink k) = same
-    notes_stay call = sending_marks p v found hand Stay same (λ i w. add i (Saw w) v.marks same) (λ i g k. add i (Met g k) v.marks same) (λ i g d w. add i (Told g d) (at i (Saw w) ∷ v.marks) (add i (Saw w) v.marks same)) call refl
+    notes_stay call = noting_marks p v found hand Stay same (λ i w. add i (Saw w) v.marks same) (λ i g k. add i (Met g k) v.marks same) (λ i g d w. add i (Told g d) (at i (Saw w) ∷ v.marks) (add i (Saw w) v.marks same)) (λ i g. add i (Known g) v.marks same) call refl
 
   module _ (f : Mark → ℕ) (none_ : IsOfBirth f) where
     abbrev Fewer : List SlotMark → Type 0
@@ -129,10 +115,6 @@ module _ (p : Plan) (v : View) (found : ℕ) (hand : Hand) where
 
     minus : (i : ℕ) (g : Mark → ℕ) → Less f v.marks (without_at i g v.marks)
     minus i g = less_without f v.marks i g
-
-    fewer_found : (w : ℕ) → Less f v.marks (found_id w v).marks
-    fewer_found w = let i : ℕ = socket_id_slot (w - 1) in let g : ℕ = socket_id_version (w - 1) in
-        either_way (is_id w) (met i g v) v (λ (u : View). Less f v.marks u.marks) (plus i (Known g) v.marks (none_.known g) as_many) as_many
 
     -- a step that makes no life notes none
     pub births_note : (call : Call) → bears call ≡ none → Less f v.marks (row p call found hand v).marks
@@ -150,18 +132,10 @@ module _ (p : Plan) (v : View) (found : ℕ) (hand : Hand) where
         either_way (found == from) (at i (Recycling (w + 1)) ∷ at i (Freer (w - 1)) ∷ left) left Fewer (plus i (Recycling (w + 1)) (at i (Freer (w - 1)) ∷ left) (none_.recycling (w + 1)) (plus i (Freer (w - 1)) left (none_.freer (w - 1)) (minus i (is_zero w)))) (minus i (is_zero w))
     births_note (FreeSlot i) no_birth = minus i is_recycling
     births_note (StoreLink i k) no_birth = plus i (Claimed 1 k) (without_at i (is_stage 0 0) v.marks) (none_.claimed 1 k) (minus i (is_stage 0 0))
-    births_note (LoadLink i w) no_birth = plus i (Met (w - 2) found) v.marks (none_.met (w - 2) found) as_many
     births_note (ResetHead i k) no_birth = plus i (Claimed 2 k) (without_at i (is_stage 1 k) v.marks) (none_.claimed 2 k) (minus i (is_stage 1 k))
     births_note (ClearCode i k) no_birth = plus i (Claimed 3 k) (without_at i (is_stage 2 k) v.marks) (none_.claimed 3 k) (minus i (is_stage 2 k))
     births_note (StoreCode i g d) no_birth = let left : List SlotMark = without_at i (is_coding g) v.marks in plus i (Stored g d) (at i (Told g d) ∷ left) (none_.stored g d) (plus i (Told g d) left (none_.told g d) (minus i (is_coding g)))
-    births_note (StoreName n w) no_birth = as_many
-    births_note (LoadName n) no_birth = fewer_found found
-    births_note (StoreOpen n w) no_birth = as_many
-    births_note (LoadOpen n) no_birth = fewer_found found
-    births_note (TakeLink k) no_birth = either_way (nat_lt 0 (total (only hand.link) v.passes)) (spent_hand v hand) (with_hand v hand) (λ (u : View). Less f v.marks u.marks) as_many as_many
-    births_note (FinishLink k) no_birth = as_many
-    births_note (PutLink k) no_birth = as_many
-    births_note call no_birth = sending_marks p v found hand Fewer as_many (λ i w. plus i (Saw w) v.marks (none_.saw w) as_many) (λ i g k. plus i (Met g k) v.marks (none_.met g k) as_many) (λ i g d w. plus i (Told g d) (at i (Saw w) ∷ v.marks) (none_.told g d) (plus i (Saw w) v.marks (none_.saw w) as_many)) call refl
+    births_note call no_birth = noting_marks p v found hand Fewer as_many (λ i w. plus i (Saw w) v.marks (none_.saw w) as_many) (λ i g k. plus i (Met g k) v.marks (none_.met g k) as_many) (λ i g d w. plus i (Told g d) (at i (Saw w) ∷ v.marks) (none_.told g d) (plus i (Saw w) v.marks (none_.saw w) as_many)) (λ i g. plus i (Known g) v.marks (none_.known g) as_many) call refl
 
   module _ (h : ℕ) where
     -- who failed a life stays noted
