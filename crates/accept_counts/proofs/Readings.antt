@@ -1,5 +1,5 @@
 -- A tick of a run keeps what is said of the reader of a link: it writes none, takes bytes of its own link alone, and sets its socket failed only where its reading ended.
-use Rattle.std.proofs.Common.{◌≡◌, ◌≢◌, ℕ, ◌+◌, ◌-◌, ◌%◌, ◌<◌, ◌==◌, Bool, true, false, cond, eqb-true, eq-eqb, List, [], ◌∷◌, ◌++◌, length, map, filter, get_or, set, append-nil, inl, inr, ⊎_elim, ◌⊎◌, refl, sym, ap, ◌∙◌, subst, arith}
+use Rattle.std.proofs.Common.{◌≡◌, ◌≢◌, ℕ, ◌+◌, ◌-◌, ◌<◌, ◌==◌, Bool, true, false, cond, eqb-true, eq-eqb, List, [], ◌∷◌, ◌++◌, length, map, filter, get_or, set, append-nil, inl, inr, ⊎_elim, ◌⊎◌, refl, sym, ap, ◌∙◌, subst, arith}
 use Rattle.std.proofs.lemmas.Bool.{true≢false}
 use mathlib.Core.Logic.{dite}
 use mathlib.Core.Option.{Option, none, some, some-injective, some-ne-none}
@@ -13,9 +13,8 @@ use Rattle.sock_model.specs.declared.view.View.{View}
 use Rattle.sock_model.specs.declared.view.Hand.{Hand}
 use Rattle.sock_model.specs.Layout.{open_index}
 use Rattle.sock_model.specs.Marks.{about, at}
-use Rattle.sock_model.specs.SlotRows.{marks_of, added, met, looked, told_code, met_link}
+use Rattle.sock_model.specs.SlotRows.{marks_of, added, looked}
 use Rattle.sock_model.specs.Weights.{total, only, is_hold}
-use Rattle.sock_model.specs.ChainRows.{spent_hand, with_hand, with_claim}
 use Rattle.corr_core.specs.Word.{parts}
 use Rattle.corr_core.specs.Decisions.{ends_call}
 use Rattle.call_causes.specs.Below.programs_allowed.specs.slot_steps.proofs.Numbers.{only-same}
@@ -23,7 +22,7 @@ use Rattle.call_causes.specs.Below.programs_allowed.specs.slot_steps.proofs.Sums
 use Rattle.run_theorems.specs.Below.sock_steps.proofs.Quiet.{either_way}
 use Rattle.seat_programs.specs.Asides.{Step, Found, TakeBytes, Taking, Bytes, Nothing, NoMore, AtEnd, Closed, Broken}
 use Rattle.seat_programs.specs.Beside.{at_last, found_in, calls_after}
-use Rattle.seat_programs.specs.Calls.{Call, AddRef, LoadName, LoadOpen, TakeLink, LookWord, LoadCode, ClaimRequest, PutMessage, Unconnect, SwapHead, EmptyHead, ReadNext, ReverseNext, FreeRequest, StorePlace, DropPlace}
+use Rattle.seat_programs.specs.Calls.{Call, AddRef, LoadOpen, LookWord, SwapHead, EmptyHead, ReadNext, ReverseNext, FreeRequest, StorePlace, DropPlace}
 use Rattle.seat_programs.specs.Heads.{Retry, Decides, Locks, Reads, Discards}
 use Rattle.seat_programs.specs.Programs.{Program, Do, Say, Sent, Rest, TakeMessage, TakeHome, PutHome, PutBytes, AskReady, Write, Aside, Round, Keep, Retries, NO_SOCKET}
 use Rattle.seat_programs.specs.Readers.{room_of, took, discarded, read, reader}
@@ -31,13 +30,11 @@ use Rattle.seat_programs.specs.Cores.{Core, SeatState, found_at, resolved, next_
 use Rattle.seat_programs.specs.StepTables.{word_of}
 use Rattle.seat_programs.specs.Ticks.{Answer, Moment, IsAnswer, IsAnswered, IsTaken, FitsTake, taken, with_found, step_with, tick_with, ticked}
 use Rattle.seat_programs.specs.StepTables.{row}
-use Rattle.seat_programs.specs.StepsOfNames.{is_id, found_id}
+use Rattle.seat_programs.specs.StepsOfNames.{found_id}
 use Rattle.seat_programs.specs.StepViews.{by_right}
-use Rattle.seat_programs.specs.StepsOfChain.{new_claim, ready_claim}
-use Rattle.seat_programs.specs.StepsOfMessages.{filled_claim}
 use Rattle.seat_programs.specs.StepsOfSlots.{looked_clean}
 use Rattle.outcome_causes.specs.program_steps.specs.Sound.{Sound, first_step, IsFitting, views_with, views_of, views_after}
-use Rattle.outcome_causes.specs.program_steps.proofs.Leaves.{claim_way}
+use Rattle.outcome_causes.specs.program_steps.proofs.Leaves.{rights_stay}
 use Rattle.outcome_causes.specs.sock_runs.proofs.LinkTicks.{RetriesGo}
 use Rattle.outcome_causes.specs.program_walks.proofs.Recorded.{Recorded}
 use Rattle.outcome_causes.specs.program_walks.proofs.OpensStay.{run_word}
@@ -49,14 +46,7 @@ use Rattle.accept_counts.proofs.Closers.{Ends, Calm, IsCalmCall, IsNoTake, calm_
 
 -- no step but an exchange gives a seat without a right one
 pub rights_none : (p : Plan) (v : View) (found : ℕ) (hand : Hand) (call : Call) → ((i own : ℕ) → call ≡ SwapHead i own → ⊥) → v.rights ≡ [] → (row p call found hand v).rights ≡ []
-rights_none p v found hand (LoadName n) no_ e = either_way (is_id found) (met (socket_id_slot (found - 1)) (socket_id_version (found - 1)) v) v (λ (u : View). u.rights ≡ []) e e
-rights_none p v found hand (LoadOpen o) no_ e = either_way (is_id found) (met (socket_id_slot (found - 1)) (socket_id_version (found - 1)) v) v (λ (u : View). u.rights ≡ []) e e
-rights_none p v found hand (TakeLink k) no_ e = either_way (Rattle.std.specs.Prelude.nat_lt 0 (total (only hand.link) v.passes)) (spent_hand v hand) (with_hand v hand) (λ (u : View). u.rights ≡ []) e e
 rights_none p v found hand (LookWord id) no_ e = subst (λ l. (by_right l (looked_clean (socket_id_slot id) found v) (looked (socket_id_slot id) found v)).rights ≡ []) (sym e) e
-rights_none p v found hand (LoadCode i h) no_ e = either_way (found == 0) v (told_code i h found v) (λ (u : View). u.rights ≡ []) e e
-rights_none p v found hand (ClaimRequest id q) no_ e = either_way (found % 2 == 0) (with_claim (met_link (socket_id_slot id) (socket_id_version id) hand.link v) (new_claim hand.link q found)) v (λ (u : View). u.rights ≡ []) e e
-rights_none p v found hand (PutMessage q heading bytes) no_ e = claim_way (λ (u : View). u.rights ≡ []) v.claims (λ c. with_claim v (filled_claim c heading bytes)) v e (λ c. e)
-rights_none p v found hand (Unconnect q) no_ e = claim_way (λ (u : View). u.rights ≡ []) v.claims (λ c. with_claim v (ready_claim c)) v e (λ c. e)
 rights_none p v found hand (SwapHead i own) no_ e = absurd (no_ i own refl)
 rights_none p v found hand (EmptyHead i last) no_ e = subst (λ l. (by_right l (Rattle.seat_programs.specs.StepsOfChain.emptied last found v) v).rights ≡ []) (sym e) e
 rights_none p v found hand (ReadNext q) no_ e = subst (λ l. (by_right l (λ r. Rattle.seat_programs.specs.StepsOfChain.read_next found v r r.stage) v).rights ≡ []) (sym e) e
@@ -64,7 +54,7 @@ rights_none p v found hand (ReverseNext q value) no_ e = subst (λ l. (by_right 
 rights_none p v found hand (FreeRequest q g) no_ e = subst (λ l. (by_right l (Rattle.seat_programs.specs.StepsOfChain.freed_next v) v).rights ≡ []) (sym e) e
 rights_none p v found hand (StorePlace l k n) no_ e = subst (λ xs. (by_right xs (λ r. Rattle.seat_programs.specs.StepsOfPlaces.placed_next v r r.stage) v).rights ≡ []) (sym e) e
 rights_none p v found hand (DropPlace l k n) no_ e = subst (λ xs. (by_right xs (λ r. Rattle.seat_programs.specs.StepsOfPlaces.dropped_next v r r.stage) v).rights ≡ []) (sym e) e
-rights_none p v found hand _ no_ e = e
+rights_none p v found hand call no_ e = rights_stay p v found hand call refl ∙ e
 
 -- who gets a reference to a life holds it
 holds_added : (i h found : ℕ) (v : View) → vref_version found ≡ h → (b : Bool) → b ≡ true → 0 < marks_of (is_hold h) i (added i found b v)

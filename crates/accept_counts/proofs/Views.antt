@@ -1,82 +1,36 @@
 -- What each step on the sockets does to the claims and accepted messages of its seat.
-use Rattle.std.proofs.Common.{◌≡◌, ℕ, ◌+◌, ◌-◌, ◌%◌, ◌≤◌, ◌==◌, Bool, true, false, nat_lt, inl, List, [], ◌∷◌, ◌++◌, refl, sym, ap, ◌∙◌, subst, arith}
+use Rattle.std.proofs.Common.{◌≡◌, ℕ, ◌+◌, ◌-◌, ◌%◌, ◌≤◌, ◌==◌, true, false, nat_lt, inl, List, [], ◌∷◌, ◌++◌, refl, sym, ap, ◌∙◌, subst, arith}
 use Rattle.std.specs.List.{AllByRecursion}
 use Rattle.std.proofs.lemmas.Bool.{true≢false}
 use Rattle.sock_words.specs.declared.plain.Plan.{Plan}
-use Rattle.sock_words.specs.Words.{socket_id_slot, vref_version}
 use Rattle.sock_model.specs.declared.chain.Claim.{Claim}
 use Rattle.sock_model.specs.declared.chain.Entry.{Entry}
 use Rattle.sock_model.specs.declared.chain.Right.{Right}
-use Rattle.sock_model.specs.declared.chain.Stage.{Stage}
-use Rattle.sock_model.specs.declared.chain.Stage.TheVariants.{Writes, Placed, Walks, Turns}
 use Rattle.sock_model.specs.declared.view.View.{View}
 use Rattle.sock_model.specs.declared.view.Hand.{Hand}
 use Rattle.sock_model.specs.ChainRows.{with_claim, entry_of, more, queued, righted}
-use Rattle.sock_model.specs.Memory.{IDLE, UNCONNECTED}
-use Rattle.sock_model.specs.Weights.{total, only}
+use Rattle.sock_model.specs.Memory.{IDLE}
+use Rattle.sock_model.specs.Weights.{total}
 use Rattle.call_causes.specs.Below.programs_allowed.specs.slot_steps.proofs.Sums.{total-append}
 use Rattle.sock_message.specs.Asked.{Asked}
-use Rattle.seat_programs.specs.Calls.{Call, LoadName, LoadOpen, TakeLink, LookWord, LoadCode, ClaimRequest, PutMessage, Unconnect, SwapHead, EmptyHead, ReadNext, ReverseNext, FreeRequest, StorePlace, DropPlace}
+use Rattle.seat_programs.specs.Calls.{Call, ClaimRequest, PutMessage, Unconnect, SwapHead}
 use Rattle.seat_programs.specs.StepTables.{row}
-use Rattle.seat_programs.specs.StepsOfNames.{is_id}
 use Rattle.seat_programs.specs.StepViews.{by_claim}
-use Rattle.seat_programs.specs.StepsOfChain.{exchanged, ready_claim, emptied, read_next, turned_next, freed_next}
+use Rattle.seat_programs.specs.StepsOfChain.{exchanged, ready_claim}
 use Rattle.seat_programs.specs.StepsOfMessages.{filled_claim}
-use Rattle.seat_programs.specs.StepsOfSlots.{looked_clean}
-use Rattle.seat_programs.specs.StepsOfPlaces.{placed_next, dropped_next}
 use Rattle.seat_programs.specs.StepTables.{May}
 use Rattle.outcome_causes.specs.program_steps.proofs.Cases.{with_rights}
-use Rattle.outcome_causes.specs.program_steps.proofs.Leaves.{claim_way, right_way}
+use Rattle.outcome_causes.specs.program_steps.proofs.Leaves.{is_claiming, claim_way, claims_stay, lists_stay}
 use Rattle.call_causes.specs.Below.outcome_stories.proofs.Tests.{split}
 use Rattle.accept_counts.specs.Counts.{of_heading, of_claim, of_entry, of_view, HeadFits, ClaimFits, EntryFits, ViewFits}
-
--- a step on claims or accepted messages
-abbrev pub is_claiming : Call → Bool
-is_claiming (ClaimRequest id q) = true
-is_claiming (PutMessage q heading bytes) = true
-is_claiming (Unconnect q) = true
-is_claiming (SwapHead i own) = true
-is_claiming other = false
 
 module _ (v : View) where
   abbrev pub Same : View → Type 0
   Same u = (u.claims ≡ v.claims) × (u.lists ≡ v.lists)
 
-  reads : (found : ℕ) (r : Right) (stage : Stage) → Same (read_next found v r stage)
-  reads found r (Placed now) = (refl, refl)
-  reads found r (Walks top at after) = split (found == UNCONNECTED) _ _ Same (refl, refl) (refl, refl)
-  reads found r _ = (refl, refl)
-
-  turns : (r : Right) (stage : Stage) → Same (turned_next v r stage)
-  turns r (Turns top at after before) = (refl, refl)
-  turns r _ = (refl, refl)
-
-  places : (r : Right) (stage : Stage) → Same (placed_next v r stage)
-  places r (Writes now) = (refl, refl)
-  places r _ = (refl, refl)
-
-  drops : (r : Right) (stage : Stage) → Same (dropped_next v r stage)
-  drops r (Writes now) = (refl, refl)
-  drops r _ = (refl, refl)
-
-  module _ (p : Plan) (found : ℕ) (hand : Hand) where
-    pub row_same : (call : Call) → is_claiming call ≡ false → Same (row p call found hand v)
-    row_same (LoadName m) n = split (is_id found) _ _ Same (refl, refl) (refl, refl)
-    row_same (LoadOpen o) n = split (is_id found) _ _ Same (refl, refl) (refl, refl)
-    row_same (TakeLink k) n = split (nat_lt 0 (total (only hand.link) v.passes)) _ _ Same (refl, refl) (refl, refl)
-    row_same (LookWord id) n = right_way Same v.rights (looked_clean (socket_id_slot id) found v) _ (refl, refl) (λ r. split (vref_version found % 2 == 0) _ _ Same (refl, refl) (refl, refl))
-    row_same (LoadCode i h) n = split (found == 0) _ _ Same (refl, refl) (refl, refl)
-    row_same (EmptyHead i last) n = right_way Same v.rights (emptied last found v) v (refl, refl) (λ r. split (found == last) _ _ Same (refl, refl) (refl, refl))
-    row_same (ReadNext q) n = right_way Same v.rights (λ r. read_next found v r r.stage) v (refl, refl) (λ r. reads found r r.stage)
-    row_same (ReverseNext q value) n = right_way Same v.rights (λ r. turned_next v r r.stage) v (refl, refl) (λ r. turns r r.stage)
-    row_same (FreeRequest q g) n = right_way Same v.rights (freed_next v) v (refl, refl) (λ r. (refl, refl))
-    row_same (StorePlace l k m) n = right_way Same v.rights (λ r. placed_next v r r.stage) v (refl, refl) (λ r. places r r.stage)
-    row_same (DropPlace l k m) n = right_way Same v.rights (λ r. dropped_next v r r.stage) v (refl, refl) (λ r. drops r r.stage)
-    row_same (ClaimRequest id q) n = absurd (true≢false n)
-    row_same (PutMessage q heading bytes) n = absurd (true≢false n)
-    row_same (Unconnect q) n = absurd (true≢false n)
-    row_same (SwapHead i own) n = absurd (true≢false n)
-    row_same _ n = (refl, refl)
+  pub row_same : (p : Plan) (found : ℕ) (hand : Hand) (call : Call) → is_claiming call ≡ false → Same (row p call found hand v)
+  row_same p found hand (SwapHead i own) n = absurd (true≢false n)
+  row_same p found hand call n = (claims_stay p v found hand call n, lists_stay p v found hand call refl)
 
   -- ## How often an attempt stands there
 

@@ -15,13 +15,12 @@ use Rattle.sock_model.specs.declared.chain.Stage.TheVariants as stages
 use Rattle.sock_model.specs.declared.home.Home.{Home}
 use Rattle.sock_model.specs.declared.view.Hand.{Hand}
 use Rattle.sock_model.specs.declared.view.View.{View}
-use Rattle.sock_model.specs.ChainRows.{spent_hand, with_hand, with_claim, with_right, without_right, queued, righted, turned_right, placed_right, dropped_right, taken_right, put_right}
+use Rattle.sock_model.specs.ChainRows.{with_claim, with_right, without_right, queued, righted, turned_right, placed_right, dropped_right, taken_right, put_right}
 use Rattle.sock_model.specs.Layout.{ref_index}
 use Rattle.sock_model.specs.Memory.{IDLE, UNCONNECTED}
-use Rattle.sock_model.specs.SlotRows.{met, looked, told_code, met_link}
-use Rattle.sock_model.specs.Weights.{total, only}
+use Rattle.sock_model.specs.SlotRows.{looked, met_link}
 use Rattle.refused_attempts.specs.Below.sock_steps.proofs.Quiet.{either_way}
-use Rattle.seat_programs.specs.Calls.{Call, LookWord, ClaimRequest, PutMessage, Unconnect, SwapHead, EmptyHead, ReadNext, ReverseNext, FreeRequest, StorePlace, DropPlace, LoadName, LoadOpen, TakeLink, LoadCode}
+use Rattle.seat_programs.specs.Calls.{Call, LookWord, ClaimRequest, PutMessage, Unconnect, SwapHead, EmptyHead, ReadNext, ReverseNext, FreeRequest, StorePlace, DropPlace}
 use Rattle.seat_programs.specs.Heads.{Retry}
 use Rattle.seat_programs.specs.Programs.{Program, Do}
 use Rattle.seat_programs.specs.Cores.{Core, SeatState, resolved, next_step, found_at, waiting_at, hand_after, lies_at, others_of, link_place}
@@ -29,7 +28,6 @@ use Rattle.seat_programs.specs.StepTables.{word_of}
 use Rattle.seat_programs.specs.Ticks.{Moment, IsAnswered, fed, onto_first, ticked}
 use Rattle.seat_programs.specs.StepTables.{row, hand_at}
 use Rattle.seat_programs.specs.StepsOfChain.{link_in, new_claim, ready_claim, exchanged, emptied, read_next, turned_next, freed_next, freed_stage}
-use Rattle.seat_programs.specs.StepsOfNames.{is_id}
 use Rattle.seat_programs.specs.StepViews.{by_claim, by_right, settled}
 use Rattle.seat_programs.specs.StepsOfMessages.{filled_claim, took_message}
 use Rattle.seat_programs.specs.StepsOfSlots.{looked_clean}
@@ -37,7 +35,7 @@ use Rattle.seat_programs.specs.StepsOfPlaces.{placed_next, dropped_next}
 use Rattle.seat_programs.specs.StepsOfLinks.{link_away, link_home_again, took_bytes}
 use Rattle.seat_programs.specs.StepTables.{May}
 use Rattle.refused_attempts.specs.Below.programs_allowed.specs.program_steps.specs.Sound.{Sound, IsFitting, views_after}
-use Rattle.refused_attempts.specs.Below.programs_allowed.specs.program_steps.proofs.Leaves.{claim_way, right_way}
+use Rattle.refused_attempts.specs.Below.programs_allowed.specs.program_steps.proofs.Leaves.{claim_way, right_way, claims_stay, rights_stay}
 use Rattle.refused_attempts.specs.Below.programs_allowed.specs.program_steps.proofs.Cases.{tick_cases}
 use Rattle.dropped_calls.proofs.LateLooks.{Mode, Idle, Saw, Claims, Writes, IsCalm, seen, Looks, looks_first, looks_next}
 use Rattle.refused_attempts.specs.Below.outcome_ticks.proofs.Accepting.{IsNoSwap}
@@ -100,23 +98,11 @@ module _ (p : Plan) (v : View) (found : ℕ) (hand : Hand) where
     P u = Claiming C u.claims
 
     claims_keep : (call : Call) → IsNoClaim call → Claiming C (row p call found hand v).claims
-    claims_keep (LoadName n) no_ = either_way (is_id found) (met (socket_id_slot (found - 1)) (socket_id_version (found - 1)) v) v P e e
-    claims_keep (LoadOpen o) no_ = either_way (is_id found) (met (socket_id_slot (found - 1)) (socket_id_version (found - 1)) v) v P e e
-    claims_keep (TakeLink k) no_ = either_way (nat_lt 0 (total (only hand.link) v.passes)) (spent_hand v hand) (with_hand v hand) P e e
-    claims_keep (LookWord id) no_ = right_way P v.rights (looked_clean (socket_id_slot id) found v) (looked (socket_id_slot id) found v) e
-        (λ r. either_way (vref_version found % 2 == 0) (with_right (looked (socket_id_slot id) found v) (record r { clean = true })) (looked (socket_id_slot id) found v) P e e)
-    claims_keep (LoadCode i h) no_ = either_way (found == 0) v (told_code i h found v) P e e
     claims_keep (ClaimRequest id q) no_ = absurd no_
     claims_keep (PutMessage q heading bytes) no_ = claimed C v (λ c. filled_claim c heading bytes) (λ c. refl) v.claims e e
     claims_keep (Unconnect q) no_ = claimed C v ready_claim (λ c. refl) v.claims e e
     claims_keep (SwapHead i own) no_ = claim_way P v.claims (exchanged found hand v) v e (λ c. either_way (nat_lt found IDLE) (queued v c found) (righted v c found hand.took hand.next) P tt tt)
-    claims_keep (EmptyHead i last) no_ = right_way P v.rights (emptied last found v) v e (λ r. either_way (found == last) (without_right v r.link) (with_right v (record r { stage = stages.Walks found found 0 })) P e e)
-    claims_keep (ReadNext q) no_ = right_way P v.rights (λ r. read_next found v r r.stage) v e (λ r. reads P v e r (λ s _. e) found r.stage)
-    claims_keep (ReverseNext q value) no_ = right_way P v.rights (λ r. turned_next v r r.stage) v e (λ r. turns P v e r (λ s _. e) r.stage)
-    claims_keep (FreeRequest q g) no_ = right_way P v.rights (freed_next v) v e (λ r. e)
-    claims_keep (StorePlace l k n) no_ = right_way P v.rights (λ r. placed_next v r r.stage) v e (λ r. places P v e r (λ s _. e) r.stage)
-    claims_keep (DropPlace l k n) no_ = right_way P v.rights (λ r. dropped_next v r r.stage) v e (λ r. drops P v e r (λ s _. e) r.stage)
-    claims_keep _ no_ = e
+    claims_keep call no_ = subst (Claiming C) (sym (claims_stay p v found hand call refl)) e
 
   -- no other step gives a right to write another link
   module _ (R : ℕ → Type 0) (e : Righted R v.rights) where
@@ -128,15 +114,8 @@ module _ (p : Plan) (v : View) (found : ℕ) (hand : Hand) where
     kept r own s same = (subst R (sym same) own, filtered R (λ (x : Right). not (x.link == s.link)) v.rights e)
 
     rights_keep : (call : Call) → IsNoSwap call → Righted R (row p call found hand v).rights
-    rights_keep (LoadName n) no_ = either_way (is_id found) (met (socket_id_slot (found - 1)) (socket_id_version (found - 1)) v) v Q e e
-    rights_keep (LoadOpen o) no_ = either_way (is_id found) (met (socket_id_slot (found - 1)) (socket_id_version (found - 1)) v) v Q e e
-    rights_keep (TakeLink k) no_ = either_way (nat_lt 0 (total (only hand.link) v.passes)) (spent_hand v hand) (with_hand v hand) Q e e
     rights_keep (LookWord id) no_ = by_rights Q R (looked (socket_id_slot id) found v) v.rights (looked_clean (socket_id_slot id) found v) e e
         (λ r own. either_way (vref_version found % 2 == 0) (with_right (looked (socket_id_slot id) found v) (record r { clean = true })) (looked (socket_id_slot id) found v) Q (kept r own (record r { clean = true }) refl) e)
-    rights_keep (LoadCode i h) no_ = either_way (found == 0) v (told_code i h found v) Q e e
-    rights_keep (ClaimRequest id q) no_ = either_way (found % 2 == 0) (with_claim (met_link (socket_id_slot id) (socket_id_version id) hand.link v) (new_claim hand.link q found)) v Q e e
-    rights_keep (PutMessage q heading bytes) no_ = claim_way Q v.claims (λ c. with_claim v (filled_claim c heading bytes)) v e (λ c. e)
-    rights_keep (Unconnect q) no_ = claim_way Q v.claims (λ c. with_claim v (ready_claim c)) v e (λ c. e)
     rights_keep (SwapHead i own) no_ = absurd no_
     rights_keep (EmptyHead i last) no_ = by_rights Q R v v.rights (emptied last found v) e e (λ r own. either_way (found == last) (without_right v r.link) (with_right v (record r { stage = stages.Walks found found 0 })) Q
         (filtered R (λ (x : Right). not (x.link == r.link)) v.rights e) (kept r own (record r { stage = stages.Walks found found 0 }) refl))
@@ -145,7 +124,7 @@ module _ (p : Plan) (v : View) (found : ℕ) (hand : Hand) where
     rights_keep (FreeRequest q g) no_ = by_rights Q R v v.rights (freed_next v) e e (λ r own. kept r own (record r { stage = freed_stage r.stage }) refl)
     rights_keep (StorePlace l k n) no_ = by_rights Q R v v.rights (λ r. placed_next v r r.stage) e e (λ r own. places Q v e r (kept r own) r.stage)
     rights_keep (DropPlace l k n) no_ = by_rights Q R v v.rights (λ r. dropped_next v r r.stage) e e (λ r own. drops Q v e r (kept r own) r.stage)
-    rights_keep _ no_ = e
+    rights_keep call no_ = subst (Righted R) (sym (rights_stay p v found hand call refl)) e
 
     -- nor do moves and puts
     own_keep : (then_ : Right → Right) → ((r : Right) → (then_ r).link ≡ r.link) → Righted R (by_right v.rights (λ r. with_right v (then_ r)) v).rights

@@ -1,5 +1,5 @@
 -- Each step of a seat, and so each tick of a machine, is one event of the plain model, or none.
-use Rattle.std.proofs.Common.{◌≡◌, ℕ, ◌-◌, List, [], ◌∷◌, set, refl, ap, true, false, eqb, eqb-true, nat_lt}
+use Rattle.std.proofs.Common.{◌≡◌, ℕ, ◌-◌, List, [], ◌∷◌, set, refl, ap, true, false, eqb, eqb-true}
 use mathlib.Core.Option.{Option, some, none}
 use lib.ListN.{get_elem?}
 use Rattle.atomic_table.specs.Table.{State}
@@ -9,15 +9,12 @@ use Rattle.sock_model.specs.declared.chain.Right.{Right}
 use Rattle.sock_model.specs.declared.home.Home.{Home}
 use Rattle.sock_model.specs.declared.view.View.{View}
 use Rattle.sock_model.specs.declared.view.Hand.{Hand}
-use Rattle.sock_model.specs.Weights.{total, only}
-use Rattle.sock_model.specs.Layout.{name_index, open_index}
-use Rattle.sock_model.specs.SlotRows.{met, wrote}
-use Rattle.sock_model.specs.ChainRows.{with_hand, without_hand, spent_hand, taken_right}
+use Rattle.sock_model.specs.ChainRows.{taken_right}
 use Rattle.sock_model.specs.Messages.{Letter}
 use Rattle.sock_model.specs.Reads.{message, link_home}
 use Rattle.sock_model.specs.Lawful.{Lawful}
 use Rattle.sock_model.specs.Plain.{Event, Nothing, Becomes, Leads, plain}
-use Rattle.seat_programs.specs.Calls.{Call, ClaimSlot, CreateLife, AddRef, SubRef, SetOdd, Recycle, FreeSlot, StoreLink, LoadLink, ResetHead, ClearCode, StoreCode, StoreName, LoadName, StoreOpen, LoadOpen, TakeLink, FinishLink, PutLink}
+use Rattle.seat_programs.specs.Calls.{Call, ClaimSlot, CreateLife, AddRef, SubRef, SetOdd, Recycle, FreeSlot, StoreLink, ResetHead, ClearCode, StoreCode}
 use Rattle.seat_programs.specs.Programs.{Program, Do, TakeMessage, TakeHome, PutHome, PutBytes, Write, Round}
 use Rattle.seat_programs.specs.Rounds.{round}
 use Rattle.seat_programs.specs.Cores.{Core, SeatState, found_at}
@@ -25,30 +22,22 @@ use Rattle.seat_programs.specs.StepTables.{word_of}
 use Rattle.seat_programs.specs.Sends.{block}
 use Rattle.seat_programs.specs.Ticks.{Answer, OfPut, Moment, AreAnswered, ticked}
 use Rattle.seat_programs.specs.StepTables.{row, hand_at}
-use Rattle.seat_programs.specs.StepsOfNames.{is_id, found_id}
 use Rattle.seat_programs.specs.StepsOfMessages.{took_message}
 use Rattle.seat_programs.specs.StepsOfLinks.{link_away, link_home_again, took_bytes}
 use Rattle.seat_programs.specs.StepTables.{May}
 use Rattle.sock_runs.specs.program_steps.specs.GoesOn.{GoesOn}
 use Rattle.sock_runs.specs.program_steps.specs.Sound.{Sound, state, first_step, views_with_message, views_with_link, views_with_put, views_with, views_of, views_after, views_along, AreFitting}
-use Rattle.sock_steps.proofs.Quiet.{either_way}
 use Rattle.life_events.specs.Events.{event_of, next_event, event_at, events_of}
 use Rattle.sock_model.specs.declared.marks.Mark.TheVariants as mark
 use Rattle.sock_model.specs.Marks.{at}
-use Rattle.sock_runs.specs.program_steps.proofs.Leaves.{sending_marks}
+use Rattle.sock_runs.specs.program_steps.proofs.Leaves.{noting_marks}
 use Rattle.sock_runs.specs.program_steps.proofs.Rounds.{begins_round}
 use Rattle.sock_runs.specs.program_steps.proofs.Passes.{goes_round}
 use Rattle.sock_runs.proofs.LinkTicks.{RetriesGo}
 use Rattle.sock_runs.proofs.Ticks.{sound_ticks}
 use Rattle.sock_runs.specs.program_steps.proofs.Cases.{with_rights, right_rights, put_rights}
 use Rattle.life_events.proofs.Grown.{Same, same_marks, silent_more}
-use Rattle.life_events.proofs.Steps.{nothing, marks_event, claim_event, birth_event, add_event, sub_event, fail_event, recycle_event, free_event, stage_event, code_event, met_event, met_link_event}
-
--- an id that was found, or none
-id_found : {S : Type 0} (shows : S → Home) (p : Plan) (s : State S View) → Lawful shows p s → (id : ℕ) (v : View) → get_elem? s.views id ≡ some v → (word : ℕ)
-    → Becomes (plain s.views) Nothing (plain (set s.views id (found_id word v)))
-id_found shows p s o id v here word = let slot : ℕ = socket_id_slot (word - 1) in let version : ℕ = socket_id_version (word - 1) in
-    either_way (is_id word) (met slot version v) v (λ w. Becomes (plain s.views) Nothing (plain (set s.views id w))) (met_event shows p s o id v here slot version) (marks_event shows p s o id v here v refl)
+use Rattle.life_events.proofs.Steps.{nothing, marks_event, claim_event, birth_event, add_event, sub_event, fail_event, recycle_event, free_event, stage_event, code_event}
 
 -- each step is its event
 pub each_step : {S : Type 0} (shows : S → Home) (p : Plan) (s : State S View) → Lawful shows p s → (id : ℕ) (v : View) → get_elem? s.views id ≡ some v → (call : Call) (hand : Hand) → May p v call
@@ -62,21 +51,12 @@ each_step shows p s o id v here (SetOdd i) hand may = let held = may.1 in fail_e
 each_step shows p s o id v here (Recycle i from) hand may = recycle_event shows p s o id v here i may.0 from may.1 may.2 may.3
 each_step shows p s o id v here (FreeSlot i) hand may = free_event shows p s o id v here i
 each_step shows p s o id v here (StoreLink i k) hand may = let w : View = row p (StoreLink i k) (found_at s.words (word_of p (StoreLink i k))) hand v in stage_event shows p s o id v here i 0 0 1 k w.passes
-each_step shows p s o id v here (LoadLink i w) hand may = met_link_event shows p s o id v here i (w - 2) (found_at s.words (word_of p (LoadLink i w)))
 each_step shows p s o id v here (ResetHead i k) hand may = stage_event shows p s o id v here i 1 k 2 k v.passes
 each_step shows p s o id v here (ClearCode i k) hand may = stage_event shows p s o id v here i 2 k 3 k v.passes
 each_step shows p s o id v here (StoreCode i h c) hand may = code_event shows p s o id v here i h c
-each_step shows p s o id v here (StoreName n w) hand may = marks_event shows p s o id v here (wrote (name_index p n) w v) refl
-each_step shows p s o id v here (LoadName n) hand may = id_found shows p s o id v here (found_at s.words (word_of p (LoadName n)))
-each_step shows p s o id v here (StoreOpen n w) hand may = marks_event shows p s o id v here (wrote (open_index p n) w v) refl
-each_step shows p s o id v here (LoadOpen n) hand may = id_found shows p s o id v here (found_at s.words (word_of p (LoadOpen n)))
-each_step shows p s o id v here (TakeLink k) hand may = either_way (nat_lt 0 (total (only hand.link) v.passes)) (spent_hand v hand) (with_hand v hand) (λ w. Becomes (plain s.views) Nothing (plain (set s.views id w)))
-    (marks_event shows p s o id v here (spent_hand v hand) refl) (marks_event shows p s o id v here (with_hand v hand) refl)
-each_step shows p s o id v here (FinishLink k) hand may = marks_event shows p s o id v here v refl
-each_step shows p s o id v here (PutLink k) hand may = marks_event shows p s o id v here (without_hand v k) refl
 each_step shows p s o id v here call hand may = let found : ℕ = found_at s.words (word_of p call) in nothing shows p s o id v here (row p call found hand v)
-    (sending_marks p v found hand (Same v.marks) (same_marks v.marks) (λ i w. silent_more v.marks v.marks (same_marks v.marks) i (mark.Saw w) refl) (λ i h k. silent_more v.marks v.marks (same_marks v.marks) i (mark.Met h k) refl)
-    (λ i h c w. silent_more v.marks (at i (mark.Saw w) ∷ v.marks) (silent_more v.marks v.marks (same_marks v.marks) i (mark.Saw w) refl) i (mark.Told h c) refl) call refl)
+    (noting_marks p v found hand (Same v.marks) (same_marks v.marks) (λ i w. silent_more v.marks v.marks (same_marks v.marks) i (mark.Saw w) refl) (λ i h k. silent_more v.marks v.marks (same_marks v.marks) i (mark.Met h k) refl)
+    (λ i h c w. silent_more v.marks (at i (mark.Saw w) ∷ v.marks) (silent_more v.marks v.marks (same_marks v.marks) i (mark.Saw w) refl) i (mark.Told h c) refl) (λ i h. silent_more v.marks v.marks (same_marks v.marks) i (mark.Known h) refl) call refl)
 
 module _ (p : Plan) (c : Core) (views : List View) (sound : Sound p c views) (m : Moment) where
   -- a move or a put of whoever writes a link leaves all but its right

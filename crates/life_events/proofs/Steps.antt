@@ -16,7 +16,7 @@ use Rattle.sock_model.specs.Marks.{about, at, without_at}
 use Rattle.sock_model.specs.Layout.{ref_index}
 use Rattle.sock_model.specs.Slots.{SlotFacts, version_of, nref_of, live, count}
 use Rattle.sock_model.specs.References.{slot_facts}
-use Rattle.sock_model.specs.SlotRows.{marks_of, claimed, gave_birth, added, back, subbed, failed, recycled, freed, looked, coded, told_code, met, met_link}
+use Rattle.sock_model.specs.SlotRows.{marks_of, claimed, gave_birth, added, back, subbed, failed, recycled, freed, coded}
 use Rattle.sock_model.specs.Lawful.{Lawful}
 use Rattle.sock_model.specs.Plain.{life_at, Plain, Event, Nothing, Birth, Hold, Drop, Fail, End, Becomes, once_more, plain}
 use Rattle.slot_steps.proofs.Sums.{taken, total_mono}
@@ -57,9 +57,6 @@ module _ {S : Type 0} (shows : S → Home) (p : Plan) (s : State S View) (o : La
   pub free_event : (i : ℕ) → To Nothing (freed i v)
   free_event i = nothing (freed i v) (silent_less v.marks v.marks (same_marks v.marks) i is_recycling (λ x y. let r = any_recycled x y in ap is_read r.1))
 
-  pub look_event : (i found : ℕ) → To Nothing (looked i found v)
-  look_event i found = nothing (looked i found v) (silent_more v.marks v.marks (same_marks v.marks) i (mark.Saw (version_of found)) refl)
-
   -- a claim that goes on, whatever becomes of the passes
   pub stage_event : (i a k b l : ℕ) (passes : List ℕ) → To Nothing (record v { marks = at i (mark.Claimed b l) ∷ without_at i (is_stage a k) v.marks; passes = passes })
   stage_event i a k b l passes = let rest : List SlotMark = without_at i (is_stage a k) v.marks in nothing (record v { marks = at i (mark.Claimed b l) ∷ without_at i (is_stage a k) v.marks; passes = passes })
@@ -68,15 +65,6 @@ module _ {S : Type 0} (shows : S → Home) (p : Plan) (s : State S View) (o : La
   pub code_event : (i h c : ℕ) → To Nothing (coded i h c v)
   code_event i h c = let rest : List SlotMark = without_at i (is_coding h) v.marks in nothing (coded i h c v)
       (silent_more v.marks (at i (mark.Told h c) ∷ rest) (silent_more v.marks rest (silent_less v.marks v.marks (same_marks v.marks) i (is_coding h) (λ x y. ap is_read (coding_as h x y))) i (mark.Told h c) refl) i (mark.Stored h c) refl)
-
-  pub told_event : (i h c : ℕ) → To Nothing (told_code i h c v)
-  told_event i h c = nothing (told_code i h c v) (silent_more v.marks (at i (mark.Saw (h + 1)) ∷ v.marks) (silent_more v.marks v.marks (same_marks v.marks) i (mark.Saw (h + 1)) refl) i (mark.Told h c) refl)
-
-  pub met_event : (i h : ℕ) → To Nothing (met i h v)
-  met_event i h = nothing (met i h v) (silent_more v.marks v.marks (same_marks v.marks) i (mark.Known h) refl)
-
-  pub met_link_event : (i h k : ℕ) → To Nothing (met_link i h k v)
-  met_link_event i h k = nothing (met_link i h k v) (silent_more v.marks v.marks (same_marks v.marks) i (mark.Met h k) refl)
 
   -- ## Steps on the word of slot i
 

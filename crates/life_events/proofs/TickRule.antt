@@ -37,16 +37,12 @@ use Rattle.sock_runs.specs.program_steps.proofs.WordFrame.{sort_in, load_leaves,
 use Rattle.sock_runs.specs.program_steps.specs.GoesOn.{GoesOn}
 use Rattle.sock_runs.specs.program_steps.specs.Sound.{Sound, state, views_with_message, views_with_link, views_with_put, views_with, views_of, views_after}
 use Rattle.sock_steps.proofs.Quiet.{either_way}
-use Rattle.sock_runs.specs.program_steps.proofs.Leaves.{sending_same}
+use Rattle.sock_runs.specs.program_steps.proofs.Leaves.{plan_stays}
 use Rattle.sock_runs.specs.program_steps.proofs.Rounds.{begins_round}
 use Rattle.sock_runs.specs.program_steps.proofs.Passes.{goes_round}
 use Rattle.sock_runs.specs.program_steps.proofs.Cases.{beside, with_rights, right_rights, put_rights}
 use Rattle.sock_runs.proofs.Few.{row_same, IsShorter}
 use Rattle.sock_steps.proofs.RuleFrame.{accept_rule, Lasts, lasts_all, lasts_set, lasting_in, still_rule, same_rule}
-
-row_plan : (p : Plan) (call : Call) (found : ℕ) (hand : Hand) (v : View) → (row p call found hand v).plan ≡ v.plan
-row_plan p (SwapHead i own) found hand v = ap (λ (w : View). w.plan) (sending_same p v found hand (SwapHead i own) refl)
-row_plan p call found hand v = (row_same p call found hand v refl).plan
 
 positive : (w : ℕ) → IsTrue (nat_lt 0 w) → w ≢ 0
 positive w some_ e = let z : false ≡ true = subst (λ (n : ℕ). IsTrue (nat_lt 0 n)) e some_ in cc
@@ -187,7 +183,7 @@ module _ (p : Plan) (c : Core) (views : List View) (sound : Sound p c views) (al
 
   of_first : (seat : SeatState) (program : Program) (v : View) → get_elem? views i ≡ some v → GoesOn p v program → Kept (step_with p i seat c m.answer program) (views_with p i c views v m.answer program)
   of_first seat (Do call next) v here goes law = let found : ℕ = found_at c.words (word_of p call) in let w : View = row p call (found_at c.words (word_of p call)) (hand_at p c.words c.homes call) v in
-      (row_rule v here seat.hand call goes.0 law, table_set v w here (row_plan p call found (hand_at p c.words c.homes call) v))
+      (row_rule v here seat.hand call goes.0 law, table_set v w here (plan_stays p v found (hand_at p c.words c.homes call) call))
   of_first seat (TakeMessage q next) v here goes law = of_letter seat v here q (message (λ (home : Home). home) c.homes q) (λ letter. next letter.0 letter.1) law
   of_first seat (TakeHome k next) v here goes law = of_home seat v here k (link_home (λ (home : Home). home) p c.homes k) next law
   of_first seat (PutHome k n after) v here goes law =

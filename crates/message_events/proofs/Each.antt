@@ -21,7 +21,7 @@ use Rattle.sock_model.specs.Lawful.{Lawful}
 use Rattle.sock_model.specs.Layout.{head_index, request_index}
 use Rattle.sock_model.specs.Memory.{IDLE}
 use Rattle.sock_steps.proofs.WriteSteps.{writes_in}
-use Rattle.seat_programs.specs.Calls.{Call, ClaimSlot, CreateLife, AddRef, SubRef, SetOdd, Recycle, FreeSlot, StoreLink, LoadLink, ResetHead, ClearCode, StoreCode, StoreName, LoadName, StoreOpen, LoadOpen, TakeLink, FinishLink, PutLink, LookWord, FindLink, LoadCode, ClaimRequest, PutMessage, Unconnect, SwapHead, Connect, EmptyHead, ReadNext, ReverseNext, FreeRequest, StorePlace, DropPlace}
+use Rattle.seat_programs.specs.Calls.{Call, TakeLink, PutLink, LookWord, ClaimRequest, SwapHead, EmptyHead, ReadNext, ReverseNext, FreeRequest, StorePlace, DropPlace}
 use Rattle.seat_programs.specs.Cores.{Core, found_at, words_after, homes_after, link_place}
 use Rattle.seat_programs.specs.StepTables.{word_of, word_after}
 use Rattle.seat_programs.specs.Ticks.{FitsPut}
@@ -35,12 +35,13 @@ use Rattle.sock_model.specs.SlotRows.{looked}
 use Rattle.seat_programs.specs.StepTables.{May}
 use Rattle.sock_runs.specs.program_steps.specs.Sound.{AreInHand, AreHeld, state}
 use Rattle.sock_runs.specs.program_steps.specs.Writes.{MayTakeMessage, Writes, MayPut}
+use Rattle.sock_runs.specs.program_steps.proofs.Leaves.{is_exchange, lists_stay}
 use Rattle.sock_runs.proofs.ChainTicks.{free_inside}
 use Rattle.sock_runs.proofs.Held.{held_in_hand}
 use Rattle.message_events.specs.Messages.{Event, Nothing, Claim, Take, Place, Dropped, Becomes}
 use Rattle.message_events.specs.Events.{accept_event, event_of, put_event}
 use Rattle.message_events.specs.Standing.{Stand, taken_of, of_right, stand, messages}
-use Rattle.message_events.proofs.Orders.{order_is, accepted_same, accepted_more, accept_may, lists_stay, message_lists, away_lists, home_lists, bytes_lists}
+use Rattle.message_events.proofs.Orders.{order_is, accepted_same, accepted_more, accept_may, message_lists, away_lists, home_lists, bytes_lists}
 use Rattle.message_events.proofs.Words.{on_request, requests_after, claims_even, claims_odd, frees_at}
 use Rattle.message_events.proofs.Others.{leaves_links, stand_stays, home_else, claim_may, free_word, free_may}
 use Rattle.message_events.proofs.Rights.{home_of, SameHomes, same_homes, homes_set, same_stand, inside, alone, stands_by, Keeps, keeps_with, kept, became, looks_keeps, reads_keeps, turns_keeps, frees_keeps, places_makes, drops_makes, takes_keeps, away_keeps, home_keeps, puts_makes, goes_home, place_may, drop_may, dropped_part, take_may, took_more}
@@ -86,12 +87,12 @@ module _ (p : Plan) (c : Core) (views : List View) (o : Lawful (λ (home : Home)
     requests_of call b may is r rl = ap (λ l. slice_index l (request_index p r)) b.0 ∙ requests_after p c.words r rl v call (found call) may is
 
     -- a step that leaves each link
-    leaves : (call : Call) → event_of call (found call) v ≡ Nothing → Behind call → May p v call → leaves_links call ≡ true → on_request call ≡ false → ((j own : ℕ) → call ≡ SwapHead j own → ⊥) → IsStep call
-    leaves call none_ b may links word other = subst (λ e. IsEvent p c views e c' (set views i (row p call (found call) (hand call) v))) (sym none_) (nothing c' (row p call (found call) (hand call) v) (lists_stay p call (found call) (hand call) v other)
+    leaves : (call : Call) → event_of call (found call) v ≡ Nothing → Behind call → May p v call → leaves_links call ≡ true → on_request call ≡ false → is_exchange call ≡ false → IsStep call
+    leaves call none_ b may links word other = subst (λ e. IsEvent p c views e c' (set views i (row p call (found call) (hand call) v))) (sym none_) (nothing c' (row p call (found call) (hand call) v) (lists_stay p v (found call) (hand call) call other)
         (stand_stays p c c' views i v at call (found call) (hand call) in_hand may links b.1) (requests_of call b may word))
 
     claims : (id q : ℕ) → Behind (ClaimRequest id q) → May p v (ClaimRequest id q) → IsStep (ClaimRequest id q)
-    claims id q b may = let call : Call = ClaimRequest id q in let lists = lists_stay p (ClaimRequest id q) (found (ClaimRequest id q)) (hand (ClaimRequest id q)) v (λ j own e. let f : ClaimRequest id q ≡ SwapHead j own = e in cc) in
+    claims id q b may = let call : Call = ClaimRequest id q in let lists = lists_stay p v (found (ClaimRequest id q)) (hand (ClaimRequest id q)) (ClaimRequest id q) refl in
         let stands = stand_stays p c c' views i v at (ClaimRequest id q) (found (ClaimRequest id q)) (hand (ClaimRequest id q)) in_hand may refl b.1 in dite (ℕ_discrete (slice_index c.words (request_index p q) % 2) 0)
         (λ even. subst (λ (e : Event). IsEvent p c views e c' (set views i (row p (ClaimRequest id q) (found (ClaimRequest id q)) (hand (ClaimRequest id q)) v))) (sym (ap (λ b. cond b (Claim q) Nothing) (eq-eqb (slice_index c.words (request_index p q) % 2) 0 even))) record {
           may = claim_may p c views q even;
@@ -115,7 +116,7 @@ module _ (p : Plan) (c : Core) (views : List View) (o : Lawful (λ (home : Home)
         })
 
     looks : (id : ℕ) → Behind (LookWord id) → May p v (LookWord id) → IsStep (LookWord id)
-    looks id b may = let call : Call = LookWord id in let lists = lists_stay p (LookWord id) (found (LookWord id)) (hand (LookWord id)) v (λ j own e. let f : LookWord id ≡ SwapHead j own = e in cc) in
+    looks id b may = let call : Call = LookWord id in let lists = lists_stay p v (found (LookWord id)) (hand (LookWord id)) (LookWord id) refl in
         let requests = requests_of (LookWord id) b may refl in let w : View = row p (LookWord id) (found (LookWord id)) (hand (LookWord id)) v in ⊎_elim
         (λ idle. nothing c' w lists (λ k. same_stand p c views o i v at c' w
         (ap (λ rs. (by_right rs (looked_clean (socket_id_slot id) (found (LookWord id)) v) (looked (socket_id_slot id) (found (LookWord id)) v)).rights) idle)
@@ -124,18 +125,18 @@ module _ (p : Plan) (c : Core) (views : List View) (o : Lawful (λ (home : Home)
         (λ mine. nothing c' w lists (kept p c views o i v at mine.0 mine.1 c' w (looks_keeps p c views o i v at mine.0 mine.1 id (found (LookWord id)) (hand (LookWord id))) (same_homes p c c' mine.0.link b.1)) requests)
         may.1
 
-    other_step : (call : Call) → ((j own : ℕ) → call ≡ SwapHead j own → ⊥) → (row p call (found call) (hand call) v).lists ≡ v.lists
-    other_step call other = lists_stay p call (found call) (hand call) v other
+    other_step : (call : Call) → is_exchange call ≡ false → (row p call (found call) (hand call) v).lists ≡ v.lists
+    other_step call other = lists_stay p v (found call) (hand call) call other
 
     -- a step that leaves what the right tells
-    keeps_right : (call : Call) → event_of call (found call) v ≡ Nothing → Behind call → May p v call → on_request call ≡ false → homes_after p call in_hand c.homes ≡ c.homes → ((j own : ℕ) → call ≡ SwapHead j own → ⊥) → (r : Right) (one : v.rights ≡ r ∷ [])
+    keeps_right : (call : Call) → event_of call (found call) v ≡ Nothing → Behind call → May p v call → on_request call ≡ false → homes_after p call in_hand c.homes ≡ c.homes → is_exchange call ≡ false → (r : Right) (one : v.rights ≡ r ∷ [])
         → Keeps p c views o i v at r one (row p call (found call) (hand call) v) (of_right r) → IsStep call
     keeps_right call none_ b may word homes other r one k = subst (λ e. IsEvent p c views e c' (set views i (row p call (found call) (hand call) v))) (sym none_) (nothing c' (row p call (found call) (hand call) v) (other_step call other)
         (kept p c views o i v at r one c' (row p call (found call) (hand call) v) k (same_homes p c c' r.link (b.1 ∙ homes))) (requests_of call b may word))
 
     empties : (j last : ℕ) → Behind (EmptyHead j last) → May p v (EmptyHead j last) → IsStep (EmptyHead j last)
     empties j last b may = let x = may.1.0 in let r : Right = x.mine.right in let one = may.1.1 in let requests = requests_of (EmptyHead j last) b may refl in
-        let lists = other_step (EmptyHead j last) (λ j' own e. let f : EmptyHead j last ≡ SwapHead j' own = e in cc) in let w : View = row p (EmptyHead j last) (found (EmptyHead j last)) (hand (EmptyHead j last)) v in
+        let lists = other_step (EmptyHead j last) refl in let w : View = row p (EmptyHead j last) (found (EmptyHead j last)) (hand (EmptyHead j last)) v in
         let is : row p (EmptyHead j last) (found (EmptyHead j last)) (hand (EmptyHead j last)) v ≡ emptied last (found (EmptyHead j last)) v x.mine.right = ap (λ rs. by_right rs (emptied last (found (EmptyHead j last)) v) v) one in
         let stands : (b : Bool) → eqb (found (EmptyHead j last)) last ≡ b → (k : ℕ) → stand p c' (set views i (row p (EmptyHead j last) (found (EmptyHead j last)) (hand (EmptyHead j last)) v)) k ≡ stand p c views k = λ b' e k.
         subst (λ (u : View). stand p c' (set views i u) k ≡ stand p c views k) (sym (is ∙ ap (λ q. cond q (without_right v x.mine.right.link) (with_right v (walking_right x.mine.right (found (EmptyHead j last))))) e)) (ends b' x.mine.right one x.stage x.link_home b.1 k) in
@@ -149,18 +150,18 @@ module _ (p : Plan) (c : Core) (views : List View) (o : Lawful (λ (home : Home)
             (keeps_with p c views o i v at r one v (walking_right r (found (EmptyHead j last))) (of_right r) one refl refl refl) (same_homes p c c' r.link homes) k
 
     reads : (q : ℕ) → Behind (ReadNext q) → May p v (ReadNext q) → IsStep (ReadNext q)
-    reads q b may = keeps_right (ReadNext q) refl b may refl refl (λ j own e. let f : ReadNext q ≡ SwapHead j own = e in cc) may.0 may.1
+    reads q b may = keeps_right (ReadNext q) refl b may refl refl refl may.0 may.1
         (reads_keeps p c views o i v at may.0 may.1 q (found (ReadNext q)) (hand (ReadNext q)) (⊎_elim (λ a. inl (a.0, a.1)) (λ a. inr (a.0, a.1, a.2, a.3)) may.2))
 
     turns : (q value : ℕ) → Behind (ReverseNext q value) → May p v (ReverseNext q value) → IsStep (ReverseNext q value)
-    turns q value b may = let x = may.0 in keeps_right (ReverseNext q value) refl b may refl refl (λ j own e. let f : ReverseNext q value ≡ SwapHead j own = e in cc) x.mine.right may.1
+    turns q value b may = let x = may.0 in keeps_right (ReverseNext q value) refl b may refl refl refl x.mine.right may.1
         (turns_keeps p c views o i v at x.mine.right may.1 q value (found (ReverseNext q value)) x.top x.at x.before (hand (ReverseNext q value)) x.stage)
 
     frees : (q g : ℕ) → q < p.requests → Behind (FreeRequest q g) → May p v (FreeRequest q g) → IsStep (FreeRequest q g)
     frees q g inside b may = let r : Right = may.4.0 in let one = may.4.1 in
         let stands = kept p c views o i v at may.4.0 one c' (row p (FreeRequest q g) (found (FreeRequest q g)) (hand (FreeRequest q g)) v) (frees_keeps p c views o i v at may.4.0 one q g (found (FreeRequest q g)) (hand (FreeRequest q g))) (same_homes p c c' may.4.0.link b.1) in record {
           may = free_may p c views o i v at (λ k. order_is p c views o i v at k) q g may;
-          accepted = accepted_same p c views o i v at (row p (FreeRequest q g) (found (FreeRequest q g)) (hand (FreeRequest q g)) v) (other_step (FreeRequest q g) (λ j own e. let f : FreeRequest q g ≡ SwapHead j own = e in cc));
+          accepted = accepted_same p c views o i v at (row p (FreeRequest q g) (found (FreeRequest q g)) (hand (FreeRequest q g)) v) (other_step (FreeRequest q g) refl);
           placed = λ k kl. ap (λ (s : Stand). s.placed) (stands k);
           took = λ k kl. ap (λ (s : Stand). s.took) (stands k);
           request = λ r rl. subst (λ l. ((r ≡ q) × (slice_index l (request_index p r) ≡ suc (slice_index c.words (request_index p q)))) ⊎ ((r ≢ q) × (slice_index l (request_index p r) ≡ slice_index c.words (request_index p r)))) (sym b.0)
@@ -196,7 +197,7 @@ module _ (p : Plan) (c : Core) (views : List View) (o : Lawful (λ (home : Home)
         let same = whole_taken x.mine.right x.taken may.5 in let homes = same_homes p c c' x.mine.right.link b.1 in
         subst (λ (z : ℕ). IsEvent p c views (Place z) c' (set views i (row p (StorePlace l k n) (found (StorePlace l k n)) (hand (StorePlace l k n)) v))) (sym may.3) record {
           may = place_may p c views o i v at x.mine.right one (λ k. order_is p c views o i v at k) x.now x.stage x.taken x.is_clean may.5;
-          accepted = accepted_same p c views o i v at (row p (StorePlace l k n) (found (StorePlace l k n)) (hand (StorePlace l k n)) v) (other_step (StorePlace l k n) (λ j own e. let f : StorePlace l k n ≡ SwapHead j own = e in cc));
+          accepted = accepted_same p c views o i v at (row p (StorePlace l k n) (found (StorePlace l k n)) (hand (StorePlace l k n)) v) (other_step (StorePlace l k n) refl);
           placed = λ j jl. more_placed x.mine.right one (row p (StorePlace l k n) (found (StorePlace l k n)) (hand (StorePlace l k n)) v) (x.mine.right.sent ++ x.mine.right.bytes) makes same homes j;
           took = λ j jl. as_taken x.mine.right one (row p (StorePlace l k n) (found (StorePlace l k n)) (hand (StorePlace l k n)) v) (x.mine.right.sent ++ x.mine.right.bytes) makes same homes j;
           request = requests_of (StorePlace l k n) b may refl;
@@ -208,55 +209,34 @@ module _ (p : Plan) (c : Core) (views : List View) (o : Lawful (λ (home : Home)
         let homes = same_homes p c c' x.mine.right.link b.1 in let orders = λ (k : ℕ). order_is p c views o i v at k in
         subst (λ (z : ℕ). IsEvent p c views (Dropped z) c' (set views i (row p (DropPlace l k n) (found (DropPlace l k n)) (hand (DropPlace l k n)) v))) (sym may.3) record {
           may = drop_may p c views o i v at x.mine.right one orders x.now x.stage x.taken (dropped_part p c views o i v at x.mine.right one orders x.now x.stage x.sent x.taken may.5 x.part);
-          accepted = accepted_same p c views o i v at (row p (DropPlace l k n) (found (DropPlace l k n)) (hand (DropPlace l k n)) v) (other_step (DropPlace l k n) (λ j own e. let f : DropPlace l k n ≡ SwapHead j own = e in cc));
+          accepted = accepted_same p c views o i v at (row p (DropPlace l k n) (found (DropPlace l k n)) (hand (DropPlace l k n)) v) (other_step (DropPlace l k n) refl);
           placed = λ j jl. more_placed x.mine.right one (row p (DropPlace l k n) (found (DropPlace l k n)) (hand (DropPlace l k n)) v) (x.mine.right.sent ++ take x.mine.right.put x.mine.right.bytes) makes same homes j;
           took = λ j jl. as_taken x.mine.right one (row p (DropPlace l k n) (found (DropPlace l k n)) (hand (DropPlace l k n)) v) (x.mine.right.sent ++ take x.mine.right.put x.mine.right.bytes) makes same homes j;
           request = requests_of (DropPlace l k n) b may refl;
         }
 
     takes_link : (k : ℕ) → Behind (TakeLink k) → May p v (TakeLink k) → IsStep (TakeLink k)
-    takes_link k b may = nothing c' (row p (TakeLink k) (found (TakeLink k)) (hand (TakeLink k)) v) (other_step (TakeLink k) (λ j own e. let f : TakeLink k ≡ SwapHead j own = e in cc))
+    takes_link k b may = nothing c' (row p (TakeLink k) (found (TakeLink k)) (hand (TakeLink k)) v) (other_step (TakeLink k) refl)
         (stand_takes p c views o i v at k may c' b.1) (requests_of (TakeLink k) b may refl)
 
     puts_link : (k : ℕ) → AreInHand in_hand v.hands → length c.homes ≡ p.requests + p.links → Behind (PutLink k) → May p v (PutLink k) → IsStep (PutLink k)
-    puts_link k are sized b may = let k_in = may.0 in nothing c' (row p (PutLink k) (found (PutLink k)) (hand (PutLink k)) v) (other_step (PutLink k) (λ j own e. let f : PutLink k ≡ SwapHead j own = e in cc))
+    puts_link k are sized b may = let k_in = may.0 in nothing c' (row p (PutLink k) (found (PutLink k)) (hand (PutLink k)) v) (other_step (PutLink k) refl)
         (stand_puts p c views o i v at k in_hand are may.1 c' b.1 (omega (arith, sized, k_in))) (requests_of (PutLink k) b may refl)
 
     -- each step is one event or none
     pub each_call : (call : Call) → AreHeld in_hand v.rights v.hands → length c.homes ≡ p.requests + p.links → Behind call → May p v call → IsStep call
-    each_call (ClaimSlot j) held sized b may = leaves (ClaimSlot j) refl b may refl refl (λ j' own e. let f : ClaimSlot j ≡ SwapHead j' own = e in cc)
-    each_call (CreateLife j k) held sized b may = leaves (CreateLife j k) refl b may refl refl (λ j' own e. let f : CreateLife j k ≡ SwapHead j' own = e in cc)
-    each_call (AddRef id) held sized b may = leaves (AddRef id) refl b may refl refl (λ j' own e. let f : AddRef id ≡ SwapHead j' own = e in cc)
-    each_call (SubRef j) held sized b may = leaves (SubRef j) refl b may refl refl (λ j' own e. let f : SubRef j ≡ SwapHead j' own = e in cc)
-    each_call (SetOdd j) held sized b may = leaves (SetOdd j) refl b may refl refl (λ j' own e. let f : SetOdd j ≡ SwapHead j' own = e in cc)
-    each_call (Recycle j from) held sized b may = leaves (Recycle j from) refl b may refl refl (λ j' own e. let f : Recycle j from ≡ SwapHead j' own = e in cc)
-    each_call (FreeSlot j) held sized b may = leaves (FreeSlot j) refl b may refl refl (λ j' own e. let f : FreeSlot j ≡ SwapHead j' own = e in cc)
-    each_call (StoreLink j k) held sized b may = leaves (StoreLink j k) refl b may refl refl (λ j' own e. let f : StoreLink j k ≡ SwapHead j' own = e in cc)
-    each_call (LoadLink j x) held sized b may = leaves (LoadLink j x) refl b may refl refl (λ j' own e. let f : LoadLink j x ≡ SwapHead j' own = e in cc)
-    each_call (ResetHead j k) held sized b may = leaves (ResetHead j k) refl b may refl refl (λ j' own e. let f : ResetHead j k ≡ SwapHead j' own = e in cc)
-    each_call (ClearCode j k) held sized b may = leaves (ClearCode j k) refl b may refl refl (λ j' own e. let f : ClearCode j k ≡ SwapHead j' own = e in cc)
-    each_call (StoreCode j h d) held sized b may = leaves (StoreCode j h d) refl b may refl refl (λ j' own e. let f : StoreCode j h d ≡ SwapHead j' own = e in cc)
-    each_call (StoreName n x) held sized b may = leaves (StoreName n x) refl b may refl refl (λ j' own e. let f : StoreName n x ≡ SwapHead j' own = e in cc)
-    each_call (LoadName n) held sized b may = leaves (LoadName n) refl b may refl refl (λ j' own e. let f : LoadName n ≡ SwapHead j' own = e in cc)
-    each_call (StoreOpen n x) held sized b may = leaves (StoreOpen n x) refl b may refl refl (λ j' own e. let f : StoreOpen n x ≡ SwapHead j' own = e in cc)
-    each_call (LoadOpen n) held sized b may = leaves (LoadOpen n) refl b may refl refl (λ j' own e. let f : LoadOpen n ≡ SwapHead j' own = e in cc)
     each_call (TakeLink k) held sized b may = takes_link k b may
-    each_call (FinishLink k) held sized b may = leaves (FinishLink k) refl b may refl refl (λ j' own e. let f : FinishLink k ≡ SwapHead j' own = e in cc)
     each_call (PutLink k) held sized b may = puts_link k (held_in_hand in_hand v.rights v.hands may.2 held) sized b may
     each_call (LookWord id) held sized b may = looks id b may
-    each_call (FindLink j h) held sized b may = leaves (FindLink j h) refl b may refl refl (λ j' own e. let f : FindLink j h ≡ SwapHead j' own = e in cc)
-    each_call (LoadCode j h) held sized b may = leaves (LoadCode j h) refl b may refl refl (λ j' own e. let f : LoadCode j h ≡ SwapHead j' own = e in cc)
     each_call (ClaimRequest id q) held sized b may = claims id q b may
-    each_call (PutMessage q heading bytes) held sized b may = leaves (PutMessage q heading bytes) refl b may refl refl (λ j' own e. let f : PutMessage q heading bytes ≡ SwapHead j' own = e in cc)
-    each_call (Unconnect q) held sized b may = leaves (Unconnect q) refl b may refl refl (λ j' own e. let f : Unconnect q ≡ SwapHead j' own = e in cc)
     each_call (SwapHead j own) held sized b may = swaps j own b may
-    each_call (Connect q before) held sized b may = leaves (Connect q before) refl b may refl refl (λ j' own e. let f : Connect q before ≡ SwapHead j' own = e in cc)
     each_call (EmptyHead j last) held sized b may = empties j last b may
     each_call (ReadNext q) held sized b may = reads q b may
     each_call (ReverseNext q value) held sized b may = turns q value b may
     each_call (FreeRequest q g) held sized b may = frees q g (free_inside p (state c views) o i v at q g may) b may
     each_call (StorePlace l k n) held sized b may = places l k n b may
     each_call (DropPlace l k n) held sized b may = drops l k n b may
+    each_call call held sized b may = leaves call refl b may refl refl refl
 
   -- ## Moves and puts
 

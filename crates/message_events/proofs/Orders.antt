@@ -1,5 +1,5 @@
 -- The messages that links accepted, and their order: what each step adds to them, and that it finds the last one in the head.
-use Rattle.std.proofs.Common.{◌≡◌, ◌≢◌, ℕ, zero, suc, ◌+◌, ◌-◌, ◌*◌, ◌%◌, ◌<◌, ◌⊎◌, nat_lt, eqb, eqb-true, eq-eqb, Bool, true, false, cond, List, [], ◌∷◌, ◌++◌, length, map, set, slice_index, sym, refl, ap, ◌∙◌, subst, inl, inr, ⊎_elim, arith}
+use Rattle.std.proofs.Common.{◌≡◌, ◌≢◌, ℕ, zero, suc, ◌+◌, ◌-◌, ◌*◌, ◌<◌, ◌⊎◌, nat_lt, eqb, eqb-true, eq-eqb, Bool, true, false, cond, List, [], ◌∷◌, ◌++◌, length, map, set, slice_index, sym, refl, ap, ◌∙◌, subst, inl, inr, ⊎_elim, arith}
 use Rattle.std.proofs.lemmas.Bool.{ltb-true, ltb-false}
 use Rattle.std.specs.List.{filter, flat_map}
 use mathlib.Core.Logic.{dite}
@@ -8,47 +8,34 @@ use native.Mathlib.Decide.{ℕ_discrete}
 use lib.ListN.{get_elem?}
 use Rattle.atomic_table.proofs.Lists.{at_map}
 use Rattle.sock_words.specs.declared.plain.Plan.{Plan}
-use Rattle.sock_words.specs.Words.{socket_id_version, socket_id_slot, vref_version}
 use Rattle.sock_io.specs.declared.link.Put.{Put}
 use Rattle.sock_io.specs.declared.link.Put.TheVariants.{Took, Again, Failed}
 use Rattle.sock_model.specs.declared.chain.Entry.{Entry}
 use Rattle.sock_model.specs.declared.chain.Claim.{Claim}
 use Rattle.sock_model.specs.declared.chain.Heading.{Heading}
 use Rattle.sock_model.specs.declared.chain.Right.{Right}
-use Rattle.sock_model.specs.declared.chain.Stage.{Stage}
-use Rattle.sock_model.specs.declared.chain.Stage.TheVariants.{Walks}
 use Rattle.sock_model.specs.declared.view.View.{View}
-use Rattle.sock_model.specs.declared.view.Hand.{Hand}
 use Rattle.sock_model.specs.Layout.{head_index}
 use Rattle.sock_model.specs.Entries.{on, nth}
 use Rattle.sock_model.specs.Authors.{pick}
 use Rattle.sock_model.specs.Memory.{IDLE}
 use Rattle.sock_model.specs.Reads.{head_at, memory, claims_of, tokens}
-use Rattle.sock_model.specs.Weights.{total, only}
-use Rattle.sock_model.specs.SlotRows.{met, met_link, looked, told_code}
-use Rattle.sock_model.specs.ChainRows.{entry_of, more, with_hand, spent_hand, with_claim, with_right, without_right, taken_right, put_right}
+use Rattle.sock_model.specs.ChainRows.{entry_of, more, with_right, taken_right, put_right}
 use Rattle.sock_model.specs.Conditions.{MayExchange}
 use Rattle.sock_model.specs.Links.{Lives}
 use Rattle.sock_model.specs.Lawful.{Lawful}
 use Rattle.seat_programs.specs.Cores.{Core}
-use Rattle.seat_programs.specs.Calls.{Call, ClaimSlot, CreateLife, AddRef, SubRef, SetOdd, Recycle, FreeSlot, StoreLink, LoadLink, ResetHead, ClearCode, StoreCode, StoreName, LoadName, StoreOpen, LoadOpen, TakeLink, FinishLink, PutLink, LookWord, FindLink, LoadCode, ClaimRequest, PutMessage, Unconnect, SwapHead, Connect, EmptyHead, ReadNext, ReverseNext, FreeRequest, StorePlace, DropPlace}
-use Rattle.seat_programs.specs.StepTables.{row}
-use Rattle.seat_programs.specs.StepsOfNames.{is_id}
-use Rattle.seat_programs.specs.StepsOfChain.{new_claim, ready_claim, read_next, turned_next, freed_next, emptied}
-use Rattle.seat_programs.specs.StepsOfMessages.{filled_claim, took_message}
-use Rattle.seat_programs.specs.StepViews.{by_claim, by_right}
-use Rattle.seat_programs.specs.StepsOfPlaces.{placed_next, dropped_next}
-use Rattle.seat_programs.specs.StepsOfSlots.{looked_clean}
+use Rattle.seat_programs.specs.StepsOfMessages.{took_message}
+use Rattle.seat_programs.specs.StepViews.{by_right}
 use Rattle.seat_programs.specs.StepsOfLinks.{link_away, link_home_again, took_bytes}
 use Rattle.sock_runs.specs.program_steps.specs.Sound.{state}
-use Rattle.sock_runs.specs.program_steps.proofs.Leaves.{reads_way, turns_way, places_way, drops_way}
+use Rattle.sock_runs.specs.program_steps.proofs.Leaves.{right_way}
 use Rattle.chain_steps.proofs.Lists.{at_longer, at_length, at_some, filter_at, filter_in}
 use Rattle.chain_steps.proofs.Frames.{one_token}
 use Rattle.chain_steps.proofs.Claims.{claim_of}
 use Rattle.chain_steps.proofs.Gather.{gather_all, gather_same}
 use Rattle.chain_steps.proofs.Few.{few_claims}
 use Rattle.chain_steps.proofs.Grow.{busy_found, idle_found}
-use Rattle.sock_steps.proofs.Quiet.{either_way}
 use Rattle.sock_steps.proofs.Places.{holder_lives}
 use Rattle.message_events.specs.Messages.{Has, IsOrder, MayCome, Accept}
 use Rattle.message_events.specs.Standing.{accepted_by, messages}
@@ -244,88 +231,21 @@ module _ (p : Plan) (c : Core) (views : List View) (o : Lawful (λ home. home) p
       → MayCome (messages p c views) (Accept (entry_of x.claim (cond (nat_lt (slice_index c.words (head_index j)) IDLE) (slice_index c.words (head_index j)) (slice_index c.words (head_index j) - IDLE))))
   accept_may j own inside x = (on x.claim.link o.log, order_is x.claim.link, before_is j own x (nat_lt (slice_index c.words (head_index j)) IDLE) refl, word_is j own x)
 
--- ## Steps that add nothing
+-- ## Moves and puts that add nothing
 
-module _ (v : View) where
-  abbrev Stays : View → Type 0
-  Stays w = w.lists ≡ v.lists
-
-  id_lists : (word : ℕ) → Stays (cond (is_id word) (met (socket_id_slot (word - 1)) (socket_id_version (word - 1)) v) v)
-  id_lists word = either_way (is_id word) (met (socket_id_slot (word - 1)) (socket_id_version (word - 1)) v) v Stays refl refl
-
-  by_right_lists : (rs : List Right) (then_ : Right → View) → ((r : Right) → Stays (then_ r)) → Stays (by_right rs then_ v)
-  by_right_lists [] then_ h = refl
-  by_right_lists (r ∷ rs) then_ h = h r
-
-  by_claim_lists : (cs : List Claim) (then_ : Claim → View) → ((d : Claim) → Stays (then_ d)) → Stays (by_claim cs then_ v)
-  by_claim_lists [] then_ h = refl
-  by_claim_lists (d ∷ ds) then_ h = h d
-
-  look_lists : (rs : List Right) (then_ : Right → View) (w : View) → Stays w → ((r : Right) → Stays (then_ r)) → Stays (by_right rs then_ w)
-  look_lists [] then_ w own h = own
-  look_lists (r ∷ rs) then_ w own h = h r
-
-  read_lists : (found : ℕ) (r : Right) (stage : Stage) → Stays (read_next found v r stage)
-  read_lists = reads_way Stays v refl (λ c. refl) (λ r. refl) (λ k. refl)
-
-  turned_lists : (r : Right) (stage : Stage) → Stays (turned_next v r stage)
-  turned_lists = turns_way Stays v refl (λ c. refl) (λ r. refl) (λ k. refl)
-
-  placed_lists : (r : Right) (stage : Stage) → Stays (placed_next v r stage)
-  placed_lists = places_way Stays v refl (λ c. refl) (λ r. refl) (λ k. refl)
-
-  dropped_lists : (r : Right) (stage : Stage) → Stays (dropped_next v r stage)
-  dropped_lists = drops_way Stays v refl (λ c. refl) (λ r. refl) (λ k. refl)
-
--- only an exchange of the head changes the lists of accepted messages
-pub lists_stay : (p : Plan) (call : Call) (found : ℕ) (hand : Hand) (v : View) → ((j own : ℕ) → call ≡ SwapHead j own → ⊥) → (row p call found hand v).lists ≡ v.lists
-lists_stay p (ClaimSlot i) found hand v other = refl
-lists_stay p (CreateLife i k) found hand v other = refl
-lists_stay p (AddRef id) found hand v other = refl
-lists_stay p (SubRef i) found hand v other = refl
-lists_stay p (SetOdd i) found hand v other = refl
-lists_stay p (Recycle i from) found hand v other = refl
-lists_stay p (FreeSlot i) found hand v other = refl
-lists_stay p (StoreLink i k) found hand v other = refl
-lists_stay p (LoadLink i w) found hand v other = refl
-lists_stay p (ResetHead i k) found hand v other = refl
-lists_stay p (ClearCode i k) found hand v other = refl
-lists_stay p (StoreCode i h c) found hand v other = refl
-lists_stay p (StoreName n w) found hand v other = refl
-lists_stay p (LoadName n) found hand v other = id_lists v found
-lists_stay p (StoreOpen n w) found hand v other = refl
-lists_stay p (LoadOpen n) found hand v other = id_lists v found
-lists_stay p (TakeLink k) found hand v other = either_way (nat_lt 0 (total (only hand.link) v.passes)) (spent_hand v hand) (with_hand v hand) (Stays v) refl refl
-lists_stay p (FinishLink k) found hand v other = refl
-lists_stay p (PutLink k) found hand v other = refl
-lists_stay p (LookWord id) found hand v other = look_lists v v.rights (looked_clean (socket_id_slot id) found v) (looked (socket_id_slot id) found v) refl
-    (λ r. either_way (eqb (vref_version found % 2) 0) (with_right (looked (socket_id_slot id) found v) (record r { clean = true })) (looked (socket_id_slot id) found v) (Stays v) refl refl)
-lists_stay p (FindLink i h) found hand v other = refl
-lists_stay p (LoadCode i h) found hand v other = either_way (eqb found 0) v (told_code i h found v) (Stays v) refl refl
-lists_stay p (ClaimRequest id q) found hand v other =
-    either_way (eqb (found % 2) 0) (with_claim (met_link (socket_id_slot id) (socket_id_version id) hand.link v) (new_claim hand.link q found)) v (Stays v) refl refl
-lists_stay p (PutMessage q heading bytes) found hand v other = by_claim_lists v v.claims (λ c. with_claim v (filled_claim c heading bytes)) (λ c. refl)
-lists_stay p (Unconnect q) found hand v other = by_claim_lists v v.claims (λ c. with_claim v (ready_claim c)) (λ c. refl)
-lists_stay p (SwapHead i own) found hand v other = absurd (other i own refl)
-lists_stay p (Connect q before) found hand v other = refl
-lists_stay p (EmptyHead i last) found hand v other = by_right_lists v v.rights (emptied last found v)
-    (λ r. either_way (eqb found last) (without_right v r.link) (with_right v (record r { stage = Walks found found 0 })) (Stays v) refl refl)
-lists_stay p (ReadNext q) found hand v other = by_right_lists v v.rights (λ r. read_next found v r r.stage) (λ r. read_lists v found r r.stage)
-lists_stay p (ReverseNext q value) found hand v other = by_right_lists v v.rights (λ r. turned_next v r r.stage) (λ r. turned_lists v r r.stage)
-lists_stay p (FreeRequest q g) found hand v other = by_right_lists v v.rights (freed_next v) (λ r. refl)
-lists_stay p (StorePlace l k n) found hand v other = by_right_lists v v.rights (λ r. placed_next v r r.stage) (λ r. placed_lists v r r.stage)
-lists_stay p (DropPlace l k n) found hand v other = by_right_lists v v.rights (λ r. dropped_next v r r.stage) (λ r. dropped_lists v r r.stage)
+by_right_lists : (v : View) (then_ : Right → View) → ((r : Right) → (then_ r).lists ≡ v.lists) → (by_right v.rights then_ v).lists ≡ v.lists
+by_right_lists v then_ = right_way (λ (w : View). w.lists ≡ v.lists) v.rights then_ v refl
 
 pub message_lists : (heading : Heading) (bytes : List ℕ) (v : View) → (took_message heading bytes v).lists ≡ v.lists
-message_lists heading bytes v = by_right_lists v v.rights (λ r. with_right v (taken_right r heading bytes)) (λ r. refl)
+message_lists heading bytes v = by_right_lists v (λ r. with_right v (taken_right r heading bytes)) (λ r. refl)
 
 pub away_lists : (v : View) → (link_away v).lists ≡ v.lists
-away_lists v = by_right_lists v v.rights (λ r. with_right v (record r { at_home = false })) (λ r. refl)
+away_lists v = by_right_lists v (λ r. with_right v (record r { at_home = false })) (λ r. refl)
 
 pub home_lists : (v : View) → (link_home_again v).lists ≡ v.lists
-home_lists v = by_right_lists v v.rights (λ r. with_right v (record r { at_home = true })) (λ r. refl)
+home_lists v = by_right_lists v (λ r. with_right v (record r { at_home = true })) (λ r. refl)
 
 pub bytes_lists : (answer : Put) (v : View) → (took_bytes answer v).lists ≡ v.lists
-bytes_lists (Took n) v = by_right_lists v v.rights (λ r. with_right v (put_right r n)) (λ r. refl)
+bytes_lists (Took n) v = by_right_lists v (λ r. with_right v (put_right r n)) (λ r. refl)
 bytes_lists Again v = refl
 bytes_lists Failed v = refl

@@ -1,11 +1,10 @@
 -- Steps that leave what each link took and how many of its messages have places; and when a request is taken, or given back.
-use Rattle.std.proofs.Common.{◌≡◌, ◌≢◌, ℕ, suc, ◌+◌, ◌-◌, ◌*◌, ◌%◌, ◌<◌, ◌==◌, ◌⊎◌, ⊎_elim, eqb, eqb-true, Bool, true, false, List, [], ◌∷◌, set, refl, sym, ap, ◌∙◌, subst, arith}
+use Rattle.std.proofs.Common.{◌≡◌, ◌≢◌, ℕ, suc, ◌+◌, ◌-◌, ◌*◌, ◌%◌, ◌<◌, ◌⊎◌, ⊎_elim, eqb, eqb-true, Bool, true, false, List, [], ◌∷◌, set, refl, sym, ap, ◌∙◌, subst, arith}
 use Rattle.std.proofs.lemmas.Bool.{true≢false}
 use Rattle.std.specs.List.{filter, flat_map}
-use Rattle.std.specs.Prelude.{slice_index, not}
+use Rattle.std.specs.Prelude.{slice_index, not, ◌||◌}
 use mathlib.Core.Option.{Option, some}
 use lib.ListN.{get_elem?}
-use Rattle.sock_words.specs.Words.{socket_id_version, socket_id_slot}
 use Rattle.sock_words.specs.declared.plain.Plan.{Plan}
 use Rattle.sock_model.specs.declared.chain.Entry.{Entry}
 use Rattle.sock_model.specs.declared.chain.Right.{Right}
@@ -17,8 +16,6 @@ use Rattle.sock_model.specs.declared.view.Hand.{Hand}
 use Rattle.sock_model.specs.Entries.{slot_of, generation_of, on, nth, ticket}
 use Rattle.sock_model.specs.Writing.{Held, InStage}
 use Rattle.sock_model.specs.Layout.{request_index}
-use Rattle.sock_model.specs.SlotRows.{met, told_code, met_link}
-use Rattle.sock_model.specs.ChainRows.{with_claim}
 use Rattle.sock_model.specs.Reads.{memory, tokens, rights_on, link_home, took_of, as_link, shown}
 use Rattle.sock_model.specs.Lawful.{Lawful}
 use Rattle.chain_steps.proofs.Gather.{gather_same}
@@ -27,17 +24,13 @@ use Rattle.chain_steps.proofs.Frames.{in_size}
 use Rattle.chain_steps.proofs.Heads.{held_of, slot_is}
 use Rattle.chain_steps.proofs.Frees.{generation_is}
 use Rattle.atomic_table.proofs.Lists.{set_else}
-use Rattle.sock_steps.proofs.Quiet.{either_way}
 use Rattle.sock_steps.proofs.RightSteps.{right_in, right_alone}
-use Rattle.seat_programs.specs.Calls.{Call, ClaimSlot, CreateLife, AddRef, SubRef, SetOdd, Recycle, FreeSlot, StoreLink, LoadLink, ResetHead, ClearCode, StoreCode, StoreName, LoadName, StoreOpen, LoadOpen, TakeLink, FinishLink, PutLink, LookWord, FindLink, LoadCode, ClaimRequest, PutMessage, Unconnect, SwapHead, Connect, EmptyHead, ReadNext, ReverseNext, FreeRequest, StorePlace, DropPlace}
+use Rattle.seat_programs.specs.Calls.{Call, TakeLink, PutLink, PutMessage, FreeRequest}
 use Rattle.seat_programs.specs.Cores.{Core, homes_after}
 use Rattle.seat_programs.specs.StepTables.{row}
-use Rattle.seat_programs.specs.StepsOfNames.{is_id, found_id}
-use Rattle.seat_programs.specs.StepsOfChain.{new_claim, ready_claim}
-use Rattle.seat_programs.specs.StepsOfMessages.{filled_claim}
 use Rattle.seat_programs.specs.StepTables.{May}
 use Rattle.sock_runs.specs.program_steps.specs.Sound.{state}
-use Rattle.sock_runs.specs.program_steps.proofs.Leaves.{moves_right, claim_way}
+use Rattle.sock_runs.specs.program_steps.proofs.Leaves.{moves_right, moves_hand, rights_stay, hands_stay}
 use Rattle.message_events.specs.Messages.{IsOrder, MayCome, Claim, Free}
 use Rattle.message_events.specs.Standing.{hands_on, by_home, by_rights, stand, messages}
 
@@ -70,42 +63,15 @@ module _ (p : Plan) (c c' : Core) (views : List View) (i : ℕ) (v : View) (at :
 
 -- whether a step leaves rights, hands and links
 abbrev pub leaves_links : Call → Bool
-leaves_links (TakeLink k) = false
-leaves_links (PutLink k) = false
-leaves_links other = not (moves_right other)
+leaves_links call = not (moves_hand call || moves_right call)
 
-module _ (p : Plan) (v : View) (found : ℕ) (hand : Hand) where
-  abbrev Same : View → Type 0
-  Same w = SameStand v w
+neither : (a b : Bool) → not (a || b) ≡ true → (a ≡ false) × (b ≡ false)
+neither false false is = (refl, refl)
+neither false true is = absurd (true≢false (sym is))
+neither true b is = absurd (true≢false (sym is))
 
-  same_id : Same (found_id found v)
-  same_id = either_way (is_id found) (met (socket_id_slot (found - 1)) (socket_id_version (found - 1)) v) v Same (refl, refl) (refl, refl)
-
-  pub row_same : (call : Call) → leaves_links call ≡ true → SameStand v (row p call found hand v)
-  row_same (ClaimSlot i) is = (refl, refl)
-  row_same (CreateLife i k) is = (refl, refl)
-  row_same (AddRef id) is = (refl, refl)
-  row_same (SubRef i) is = (refl, refl)
-  row_same (SetOdd i) is = (refl, refl)
-  row_same (Recycle i from) is = (refl, refl)
-  row_same (FreeSlot i) is = (refl, refl)
-  row_same (StoreLink i k) is = (refl, refl)
-  row_same (LoadLink i w) is = (refl, refl)
-  row_same (ResetHead i k) is = (refl, refl)
-  row_same (ClearCode i k) is = (refl, refl)
-  row_same (StoreCode i h c) is = (refl, refl)
-  row_same (StoreName n w) is = (refl, refl)
-  row_same (LoadName n) is = same_id
-  row_same (StoreOpen n w) is = (refl, refl)
-  row_same (LoadOpen n) is = same_id
-  row_same (FinishLink k) is = (refl, refl)
-  row_same (FindLink i h) is = (refl, refl)
-  row_same (LoadCode i h) is = either_way (found == 0) v (told_code i h found v) Same (refl, refl) (refl, refl)
-  row_same (ClaimRequest id q) is = either_way (found % 2 == 0) (with_claim (met_link (socket_id_slot id) (socket_id_version id) hand.link v) (new_claim hand.link q found)) v Same (refl, refl) (refl, refl)
-  row_same (PutMessage q heading bytes) is = claim_way Same v.claims (λ c. with_claim v (filled_claim c heading bytes)) v (refl, refl) (λ c. (refl, refl))
-  row_same (Unconnect q) is = claim_way Same v.claims (λ c. with_claim v (ready_claim c)) v (refl, refl) (λ c. (refl, refl))
-  row_same (Connect q before) is = (refl, refl)
-  row_same _ is = absurd (true≢false (sym is))
+pub row_same : (p : Plan) (v : View) (found : ℕ) (hand : Hand) (call : Call) → leaves_links call ≡ true → SameStand v (row p call found hand v)
+row_same p v found hand call is = let still = neither (moves_hand call) (moves_right call) is in (rights_stay p v found hand call still.1, hands_stay p v found hand call still.0)
 
 -- the home of a request is none of a link
 pub home_else : (p : Plan) (homes : List (Option Home)) (q k : ℕ) (x : Option Home) → q ≢ p.requests + k → link_home (λ home. home) p (set homes q x) k ≡ link_home (λ home. home) p homes k

@@ -7,17 +7,15 @@ use Rattle.sock_model.specs.declared.marks.Mark.TheVariants.{Claimed, Recycling,
 use Rattle.sock_model.specs.declared.marks.SlotMark.{SlotMark}
 use Rattle.sock_model.specs.declared.view.View.{View}
 use Rattle.sock_model.specs.declared.view.Hand.{Hand}
-use Rattle.sock_model.specs.Weights.{total, is_probe, is_hold, is_stage, is_recycling, is_zero, is_coding, is_born, is_failer, is_linked, is_tried, only}
+use Rattle.sock_model.specs.Weights.{total, is_probe, is_hold, is_stage, is_recycling, is_zero, is_coding, is_born, is_failer, is_linked, is_tried}
 use Rattle.sock_model.specs.Marks.{about, at, without_at}
 use Rattle.sock_model.specs.Slots.{version_of, nref_of}
 use Rattle.sock_model.specs.SlotRows.{marks_of, back, subbed, recycled}
 use Rattle.program_walks.specs.slot_steps.proofs.Slots.{zero_is, hold_is, probe_is, stage_is}
 use Rattle.program_walks.specs.sock_steps.proofs.Quiet.{less_without, more_without}
-use Rattle.seat_programs.specs.Calls.{Call, ClaimSlot, CreateLife, AddRef, SubRef, SetOdd, Recycle, FreeSlot, StoreLink, LoadLink, ResetHead, ClearCode, StoreCode, StoreName, LoadName, StoreOpen, LoadOpen, TakeLink, FinishLink, PutLink}
+use Rattle.seat_programs.specs.Calls.{Call, ClaimSlot, CreateLife, AddRef, SubRef, SetOdd, Recycle, FreeSlot, StoreLink, ResetHead, ClearCode, StoreCode}
 use Rattle.seat_programs.specs.StepTables.{row}
-use Rattle.seat_programs.specs.StepsOfNames.{is_id, found_id}
-use Rattle.seat_programs.specs.StepsOfLinks.{taken}
-use Rattle.program_walks.specs.program_steps.proofs.Leaves.{sending_marks}
+use Rattle.program_walks.specs.program_steps.proofs.Leaves.{is_noting, noting_marks}
 use Rattle.outcome_stories.specs.Stories.{adds}
 use Rattle.outcome_stories.proofs.Tests.{split}
 
@@ -94,9 +92,9 @@ module _ (f : Mark → ℕ) (note : IsNote f) (j : ℕ) where
       split (eqb found from) (at i (Recycling (w + 1)) ∷ at i (Freer (w - 1)) ∷ less) less (λ es. sum es ≡ sum v.marks)
       (quiet i (Recycling (w + 1)) (at i (Freer (w - 1)) ∷ less) (note.recycling (w + 1)) ∙ (quiet i (Freer (w - 1)) less (note.freer (w - 1)) ∙ same)) same
 
-  found_same : (word : ℕ) (v : View) → marks_of f j (found_id word v) ≡ marks_of f j v
-  found_same word v = split (is_id word) (record v { marks = at (socket_id_slot (word - 1)) (Known (socket_id_version (word - 1))) ∷ v.marks }) v (λ (u : View). marks_of f j u ≡ marks_of f j v)
-      (quiet (socket_id_slot (word - 1)) (Known (socket_id_version (word - 1))) v.marks (note.known (socket_id_version (word - 1)))) refl
+  noting_same : (p : Plan) (call : Call) (found : ℕ) (hand : Hand) (v : View) → is_noting call ≡ true → marks_of f j (row p call found hand v) ≡ marks_of f j v
+  noting_same p call found hand v = noting_marks p v found hand (λ es. sum es ≡ sum v.marks) refl (λ i w. quiet i (Saw w) v.marks (note.saw w)) (λ i h k. quiet i (Met h k) v.marks (note.met h k))
+      (λ i h c w. quiet i (Told h c) (at i (Saw w) ∷ v.marks) (note.told h c) ∙ quiet i (Saw w) v.marks (note.saw w)) (λ i h. quiet i (Known h) v.marks (note.known h)) call
 
   pub row_adds : (p : Plan) (call : Call) (found : ℕ) (hand : Hand) (v : View) → marks_of f j (row p call found hand v) ≡ marks_of f j v + adds f j call found
   row_adds p (ClaimSlot i) found hand v = let a = put i (cond (eqb found 0) (Claimed 0 0) Tried) v.marks in
@@ -130,20 +128,8 @@ module _ (f : Mark → ℕ) (note : IsNote f) (j : ℕ) where
   row_adds p (Recycle i from) found hand v = let a = recycled_same i from found v in omega arith
   row_adds p (FreeSlot i) found hand v = let a = gone i is_recycling v.marks (λ x q. let r = recycling_is x q in ap f r.1 ∙ note.recycling r.0) in omega arith
   row_adds p (StoreLink i k) found hand v = let a = quiet i (Claimed 1 k) (without_at i (is_stage 0 0) v.marks) (note.claimed 1 k) in let b = gone i (is_stage 0 0) v.marks (stage_none 0 0) in omega arith
-  row_adds p (LoadLink i w) found hand v = let a = quiet i (Met (w - 2) found) v.marks (note.met (w - 2) found) in omega arith
   row_adds p (ResetHead i k) found hand v = let a = quiet i (Claimed 2 k) (without_at i (is_stage 1 k) v.marks) (note.claimed 2 k) in let b = gone i (is_stage 1 k) v.marks (stage_none 1 k) in omega arith
   row_adds p (ClearCode i k) found hand v = let a = quiet i (Claimed 3 k) (without_at i (is_stage 2 k) v.marks) (note.claimed 3 k) in let b = gone i (is_stage 2 k) v.marks (stage_none 2 k) in omega arith
   row_adds p (StoreCode i h c) found hand v = let a = quiet i (Stored h c) (at i (Told h c) ∷ without_at i (is_coding h) v.marks) (note.stored h c) in let b = quiet i (Told h c) (without_at i (is_coding h) v.marks) (note.told h c) in
       let d = gone i (is_coding h) v.marks (λ x q. let r = coding_is h x q in ap f r.1 ∙ note.coding r.0) in omega arith
-  row_adds p (StoreName n w) found hand v = omega arith
-  row_adds p (LoadName n) found hand v = let a = found_same found v in omega arith
-  row_adds p (StoreOpen o w) found hand v = omega arith
-  row_adds p (LoadOpen o) found hand v = let a = found_same found v in omega arith
-  row_adds p (TakeLink k) found hand v = let a = taken_same in omega arith
-    where
-      taken_same : marks_of f j (taken hand v) ≡ marks_of f j v
-      taken_same = split (nat_lt 0 (total (only hand.link) v.passes)) _ _ (λ (u : View). marks_of f j u ≡ marks_of f j v) refl refl
-  row_adds p (FinishLink k) found hand v = omega arith
-  row_adds p (PutLink k) found hand v = omega arith
-  row_adds p call found hand v = let a = sending_marks p v found hand (λ es. sum es ≡ sum v.marks) refl (λ i w. quiet i (Saw w) v.marks (note.saw w)) (λ i h k. quiet i (Met h k) v.marks (note.met h k))
-      (λ i h c w. quiet i (Told h c) (at i (Saw w) ∷ v.marks) (note.told h c) ∙ quiet i (Saw w) v.marks (note.saw w)) call refl in omega arith
+  row_adds p call found hand v = let a = noting_same p call found hand v refl in omega arith

@@ -1,29 +1,28 @@
 -- A seat holds the references that its operation took.
-use Rattle.std.proofs.Common.{◌≡◌, ℕ, ◌+◌, ◌-◌, ◌%◌, ◌<◌, ◌≤◌, Bool, true, false, cond, eqb, eq-eqb, ne_eqb, List, [], ◌∷◌, sym, refl, ap, arith, nat_lt}
+use Rattle.std.proofs.Common.{◌≡◌, ℕ, ◌+◌, ◌-◌, ◌%◌, ◌<◌, ◌≤◌, Bool, true, false, cond, eqb, eq-eqb, ne_eqb, List, [], ◌∷◌, sym, refl, ap, arith}
+use Rattle.std.proofs.lemmas.Bool.{true≢false}
 use mathlib.Core.Logic.{dite}
 use native.Mathlib.Decide.{ℕ_discrete}
 use Rattle.sock_words.specs.declared.plain.Plan.{Plan}
 use Rattle.sock_words.specs.Words.{socket_id_version, socket_id_slot, vref_version}
 use Rattle.sock_model.specs.declared.marks.Mark.{Mark}
-use Rattle.sock_model.specs.declared.marks.Mark.TheVariants.{Claimed, Recycling, Hold, Probe, Zero, Coding, Tried, Known, Born, Saw, Failer, Stored, Told, Freer, Linked, Met}
+use Rattle.sock_model.specs.declared.marks.Mark.TheVariants.{Hold, Probe, Zero, Coding, Known, Born, Saw, Failer, Linked}
 use Rattle.sock_model.specs.declared.marks.SlotMark.{SlotMark}
 use Rattle.sock_model.specs.declared.view.View.{View}
 use Rattle.sock_model.specs.declared.view.Hand.{Hand}
-use Rattle.sock_model.specs.Weights.{total, is_hold, is_stage, is_recycling, is_zero, is_coding, only}
+use Rattle.sock_model.specs.Weights.{total, is_hold, is_stage, only}
 use Rattle.sock_model.specs.Marks.{about, at, without, without_at}
 use Rattle.sock_model.specs.Slots.{version_of, nref_of}
 use Rattle.sock_model.specs.SlotRows.{marks_of, back, subbed}
 use Rattle.program_walks.specs.slot_steps.proofs.Numbers.{only-at, only-else}
 use Rattle.program_walks.specs.slot_steps.proofs.Frame.{about-without, about-without_else}
-use Rattle.program_walks.specs.slot_steps.proofs.Slots.{zero_is, stage_is}
+use Rattle.program_walks.specs.slot_steps.proofs.Slots.{stage_is}
 use Rattle.program_walks.specs.sock_steps.proofs.Quiet.{More, more_all, more_add, more_without}
-use Rattle.seat_programs.specs.Calls.{Call, ClaimSlot, CreateLife, AddRef, SubRef, SetOdd, Recycle, FreeSlot, StoreLink, LoadLink, ResetHead, ClearCode, StoreCode, StoreName, LoadName, StoreOpen, LoadOpen, TakeLink, FinishLink, PutLink}
+use Rattle.seat_programs.specs.Calls.{Call, ClaimSlot, CreateLife, AddRef, SubRef, SetOdd, Recycle, FreeSlot, StoreLink, LoadLink}
 use Rattle.seat_programs.specs.StepTables.{row}
-use Rattle.seat_programs.specs.StepsOfNames.{is_id, found_id}
-use Rattle.program_walks.specs.program_steps.proofs.Leaves.{sending_marks}
+use Rattle.program_walks.specs.program_steps.proofs.Marking.{is_taken, marks_way}
 use Rattle.outcome_stories.specs.Explains.{holds_behind}
 use Rattle.outcome_stories.proofs.Tests.{split}
-use Rattle.outcome_stories.proofs.Added.{coding_is, recycling_is}
 
 only_one : (h k : ℕ) → only h k ≤ 1
 only_one h k = dite (ℕ_discrete k h) (λ e. let a = only-at h k e in omega arith) (λ n. let a = only-else h k n in omega arith)
@@ -31,6 +30,10 @@ only_one h k = dite (ℕ_discrete k h) (λ e. let a = only-at h k e in omega ari
 module _ (h : ℕ) where
   abbrev f : Mark → ℕ
   f = is_hold h
+
+  none_taken : (x : Mark) → is_taken x ≡ true → f x ≡ 0
+  none_taken (Hold k) is = absurd (true≢false (sym is))
+  none_taken _ is = refl
 
   hold_one : (x : Mark) → f x ≤ 1
   hold_one (Hold k) = only_one h k
@@ -55,13 +58,6 @@ module _ (h : ℕ) where
     kept_without : (i : ℕ) (g : Mark → ℕ) → ((x : Mark) → 0 < g x → f x ≡ 0) → Kept (without_at i g v.marks)
     kept_without i g z = more_without f v.marks i g z
 
-    kept_stage : (i a k : ℕ) → Kept (without_at i (is_stage a k) v.marks)
-    kept_stage i a k = kept_without i (is_stage a k) (λ x q. ap f (stage_is a k x q))
-
-    kept_found : (word : ℕ) → Kept (found_id word v).marks
-    kept_found word = split (is_id word) (record v { marks = at (socket_id_slot (word - 1)) (Known (socket_id_version (word - 1))) ∷ v.marks }) v (λ (u : View). Kept u.marks)
-        (kept_add (socket_id_slot (word - 1)) (Known (socket_id_version (word - 1))) v.marks kept_all) kept_all
-
     -- steps that take no reference and give none back
     abbrev IsStill : Call → Type 0
     IsStill (AddRef id) = ⊥
@@ -73,28 +69,9 @@ module _ (h : ℕ) where
     row_keeps p (AddRef id) found hand still = absurd still
     row_keeps p (SubRef i) found hand still = absurd still
     row_keeps p (SetOdd i) found hand still = absurd still
-    row_keeps p (ClaimSlot i) found hand still = kept_add i (cond (eqb found 0) (Claimed 0 0) Tried) v.marks kept_all
     row_keeps p (CreateLife i k) found hand still = let w : ℕ = version_of found in let less : List SlotMark = without_at i (is_stage 3 k) v.marks in
-        kept_add i (Known w) (at i (Born w) ∷ at i (Linked w k) ∷ less) (kept_add i (Born w) (at i (Linked w k) ∷ less) (kept_add i (Linked w k) less (kept_stage i 3 k)))
-    row_keeps p (Recycle i from) found hand still = let w : ℕ = version_of from in let less : List SlotMark = without_at i (is_zero w) v.marks in
-        let k : Kept less = kept_without i (is_zero w) (λ x q. ap f (zero_is w x q)) in
-        split (eqb found from) (at i (Recycling (w + 1)) ∷ at i (Freer (w - 1)) ∷ less) less Kept (kept_add i (Recycling (w + 1)) (at i (Freer (w - 1)) ∷ less) (kept_add i (Freer (w - 1)) less k)) k
-    row_keeps p (FreeSlot i) found hand still = kept_without i is_recycling (λ x q. ap f (recycling_is x q).1)
-    row_keeps p (StoreLink i k) found hand still = kept_add i (Claimed 1 k) (without_at i (is_stage 0 0) v.marks) (kept_stage i 0 0)
-    row_keeps p (LoadLink i w) found hand still = kept_add i (Met (w - 2) found) v.marks kept_all
-    row_keeps p (ResetHead i k) found hand still = kept_add i (Claimed 2 k) (without_at i (is_stage 1 k) v.marks) (kept_stage i 1 k)
-    row_keeps p (ClearCode i k) found hand still = kept_add i (Claimed 3 k) (without_at i (is_stage 2 k) v.marks) (kept_stage i 2 k)
-    row_keeps p (StoreCode i g c) found hand still = let less : List SlotMark = without_at i (is_coding g) v.marks in
-        kept_add i (Stored g c) (at i (Told g c) ∷ less) (kept_add i (Told g c) less (kept_without i (is_coding g) (λ x q. ap f (coding_is g x q).1)))
-    row_keeps p (StoreName n w) found hand still = kept_all
-    row_keeps p (LoadName n) found hand still = kept_found found
-    row_keeps p (StoreOpen o w) found hand still = kept_all
-    row_keeps p (LoadOpen o) found hand still = kept_found found
-    row_keeps p (TakeLink k) found hand still = split (nat_lt 0 (total (only hand.link) v.passes)) _ _ (λ (u : View). Kept u.marks) kept_all kept_all
-    row_keeps p (FinishLink k) found hand still = kept_all
-    row_keeps p (PutLink k) found hand still = kept_all
-    row_keeps p call found hand still = sending_marks p v found hand Kept kept_all (λ i w. kept_add i (Saw w) v.marks kept_all) (λ i g k. kept_add i (Met g k) v.marks kept_all)
-        (λ i g c w. kept_add i (Told g c) (at i (Saw w) ∷ v.marks) (kept_add i (Saw w) v.marks kept_all)) call refl
+        kept_add i (Known w) (at i (Born w) ∷ at i (Linked w k) ∷ less) (kept_add i (Born w) (at i (Linked w k) ∷ less) (kept_add i (Linked w k) less (kept_without i (is_stage 3 k) (λ x q. ap f (stage_is 3 k x q)))))
+    row_keeps p call found hand still = marks_way p v found hand Kept kept_all (λ i m es other k. kept_add i m es k) (λ i g taken. kept_without i g (λ x q. none_taken x (taken x q))) call refl
 
   module _ (i : ℕ) (v : View) where
     abbrev sum : List SlotMark → ℕ

@@ -12,23 +12,20 @@ use Rattle.sock_model.specs.declared.view.Hand.{Hand}
 use Rattle.sock_model.specs.ChainRows.{with_claim, entry_of, more, queued, righted}
 use Rattle.sock_model.specs.SlotRows.{met_link}
 use Rattle.sock_model.specs.Memory.{IDLE}
-use Rattle.sock_model.specs.Weights.{total, only}
 use Rattle.seat_programs.specs.declared.task.Op.TheVariants as ops
 use Rattle.seat_programs.specs.declared.task.Task.{Task}
-use Rattle.seat_programs.specs.Calls.{Call, ClaimSlot, CreateLife, AddRef, SubRef, SetOdd, Recycle, FreeSlot, StoreLink, LoadLink, ResetHead, ClearCode, StoreCode, StoreName, LoadName, StoreOpen, LoadOpen, TakeLink, FinishLink, PutLink, ClaimRequest, PutMessage, Unconnect, SwapHead}
+use Rattle.seat_programs.specs.Calls.{Call, LoadName, ClaimRequest, PutMessage, Unconnect, SwapHead}
 use Rattle.seat_programs.specs.Sends.{heading_of}
 use Rattle.seat_programs.specs.StepTables.{row}
-use Rattle.seat_programs.specs.StepsOfNames.{is_id}
 use Rattle.seat_programs.specs.StepViews.{by_claim}
 use Rattle.seat_programs.specs.StepsOfChain.{exchanged, new_claim, ready_claim}
 use Rattle.seat_programs.specs.StepsOfMessages.{filled_claim}
 use Rattle.seat_programs.specs.StepTables.{May}
-use Rattle.outcome_stories.specs.program_steps.proofs.Leaves.{own_lists}
+use Rattle.outcome_stories.specs.program_steps.proofs.Leaves.{lists_stay}
 use Rattle.outcome_stories.specs.Stories.{Entry, Event, In, trace_of}
 use Rattle.outcome_stories.specs.Explains.{IsCallReadied, IsReadied, swaps, swapped, step}
 use Rattle.outcome_stories.specs.Causes.{WasGiven}
 use Rattle.outcome_stories.specs.Kept.{is_of_send, of_sends, EndsIn, IsFor, AreClaims}
-use Rattle.outcome_stories.proofs.Tests.{split}
 
 -- ## Steps but the exchange of a head
 
@@ -42,26 +39,7 @@ no_swap _ b n = refl
 
 pub row_lists : (p : Plan) (v : View) (found : ℕ) (hand : Hand) (call : Call) → IsNoSwap call → (row p call found hand v).lists ≡ v.lists
 row_lists p v found hand (SwapHead i own) n = absurd n
-row_lists p v found hand (ClaimSlot i) n = refl
-row_lists p v found hand (CreateLife i k) n = refl
-row_lists p v found hand (AddRef id) n = refl
-row_lists p v found hand (SubRef i) n = refl
-row_lists p v found hand (SetOdd i) n = refl
-row_lists p v found hand (Recycle i from) n = refl
-row_lists p v found hand (FreeSlot i) n = refl
-row_lists p v found hand (StoreLink i k) n = refl
-row_lists p v found hand (LoadLink i w) n = refl
-row_lists p v found hand (ResetHead i k) n = refl
-row_lists p v found hand (ClearCode i k) n = refl
-row_lists p v found hand (StoreCode i h c) n = refl
-row_lists p v found hand (StoreName m w) n = refl
-row_lists p v found hand (LoadName m) n = split (is_id found) _ _ (λ (u : View). u.lists ≡ v.lists) refl refl
-row_lists p v found hand (StoreOpen o w) n = refl
-row_lists p v found hand (LoadOpen o) n = split (is_id found) _ _ (λ (u : View). u.lists ≡ v.lists) refl refl
-row_lists p v found hand (TakeLink k) n = split (nat_lt 0 (total (only hand.link) v.passes)) _ _ (λ (u : View). u.lists ≡ v.lists) refl refl
-row_lists p v found hand (FinishLink k) n = refl
-row_lists p v found hand (PutLink k) n = refl
-row_lists p v found hand call n = own_lists p v found hand call refl refl
+row_lists p v found hand call n = lists_stay p v found hand call refl
 
 -- ## The claim
 

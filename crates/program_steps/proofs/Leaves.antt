@@ -1,25 +1,26 @@
--- What the steps of whoever sends or writes leave as it is: all that a view has beside the chains, but for notes.
-use Rattle.std.proofs.Common.{◌≡◌, ℕ, ◌+◌, ◌%◌, ◌==◌, Bool, true, false, cond, nat_lt, List, [], ◌∷◌, refl, sym, ap, ◌∙◌, take, ◌++◌}
-use Rattle.std.proofs.lemmas.Bool.{true≢false}
+-- What each step leaves of the view of its seat, and what notes most steps add to its marks.
+use Rattle.std.proofs.Common.{◌≡◌, ℕ, ◌+◌, ◌-◌, ◌%◌, ◌==◌, Bool, true, false, not, cond, nat_lt, List, [], ◌∷◌, refl, sym, ap, ◌∙◌, subst, take, ◌++◌}
 use Rattle.sock_words.specs.Words.{socket_id_version, socket_id_slot, vref_version}
 use Rattle.sock_words.specs.declared.plain.Plan.{Plan}
 use Rattle.sock_model.specs.declared.chain.Claim.{Claim}
 use Rattle.sock_model.specs.declared.chain.Right.{Right}
 use Rattle.sock_model.specs.declared.chain.Stage.{Stage}
 use Rattle.sock_model.specs.declared.chain.Stage.TheVariants.{Writes, Placed, Passes, Walks, Turns}
-use Rattle.sock_model.specs.declared.marks.Mark.TheVariants.{Saw, Told, Met}
+use Rattle.sock_model.specs.declared.marks.Mark.TheVariants.{Saw, Told, Met, Known}
 use Rattle.sock_model.specs.declared.marks.SlotMark.{SlotMark}
 use Rattle.sock_model.specs.declared.view.View.{View}
 use Rattle.sock_model.specs.declared.view.Hand.{Hand}
 use Rattle.sock_model.specs.Marks.{at}
 use Rattle.sock_model.specs.Memory.{IDLE, UNCONNECTED}
 use Rattle.sock_model.specs.Slots.{version_of}
-use Rattle.sock_model.specs.SlotRows.{looked, told_code, met_link}
-use Rattle.sock_model.specs.ChainRows.{with_claim, queued, righted, with_right, without_right, turned_right, placed_right, dropped_right}
+use Rattle.sock_model.specs.Weights.{total, only}
+use Rattle.sock_model.specs.SlotRows.{met, looked, told_code, met_link}
+use Rattle.sock_model.specs.ChainRows.{with_hand, spent_hand, with_claim, queued, righted, with_right, without_right, turned_right, placed_right, dropped_right}
 use Rattle.sock_steps.proofs.Quiet.{either_way}
-use Rattle.seat_programs.specs.Calls.{Call, LookWord, FindLink, LoadCode, ClaimRequest, PutMessage, Unconnect, SwapHead, Connect, EmptyHead, ReadNext, ReverseNext, FreeRequest, StorePlace, DropPlace}
+use Rattle.seat_programs.specs.Calls.{Call, Family, Slots, family_of, LoadName, LoadOpen, TakeLink, PutLink, LookWord, LoadLink, FindLink, LoadCode, ClaimRequest, PutMessage, Unconnect, SwapHead, EmptyHead, ReadNext, ReverseNext, FreeRequest, StorePlace, DropPlace}
 use Rattle.seat_programs.specs.StepTables.{row}
 use Rattle.seat_programs.specs.StepViews.{by_claim, by_right, settled}
+use Rattle.seat_programs.specs.StepsOfNames.{is_id, found_id}
 use Rattle.seat_programs.specs.StepsOfChain.{new_claim, ready_claim, exchanged, emptied, read_next, turned_next, freed_next}
 use Rattle.seat_programs.specs.StepsOfMessages.{filled_claim}
 use Rattle.seat_programs.specs.StepsOfSlots.{looked_clean}
@@ -37,16 +38,6 @@ moves_right (ReverseNext q value) = true
 moves_right (FreeRequest q g) = true
 moves_right other = false
 
--- whether a step is one of whoever sends or writes
-abbrev pub is_sending : Call → Bool
-is_sending (Unconnect q) = true
-is_sending (PutMessage q heading bytes) = true
-is_sending (ClaimRequest id q) = true
-is_sending (Connect q before) = true
-is_sending (FindLink i h) = true
-is_sending (LoadCode i h) = true
-is_sending other = moves_right other
-
 pub claim_way : (P : View → Type 0) (cs : List Claim) (then_ : Claim → View) (v : View) → P v → ((c : Claim) → P (then_ c)) → P (by_claim cs then_ v)
 claim_way P [] then_ v a b = a
 claim_way P (c ∷ cs) then_ v a b = b c
@@ -57,7 +48,7 @@ right_way P (r ∷ rs) then_ v a b = b r
 
 -- what holds of all views that differ from this one on the chains alone holds behind a step of the chains
 module _ (P : View → Type 0) (v : View) (same : P v) where
-  module _ (claims : (c : Claim) → P (with_claim v c)) (rights : (r : Right) → P (with_right v r)) (gone : (k : ℕ) → P (without_right v k)) where
+  module _ (rights : (r : Right) → P (with_right v r)) (gone : (k : ℕ) → P (without_right v k)) where
     pub reads_way : (found : ℕ) (r : Right) (stage : Stage) → P (read_next found v r stage)
     reads_way found r (Placed now) = rights (settled (record r { stage = Passes now found }))
     reads_way found r (Walks top at_ after) = either_way (found == UNCONNECTED) v (with_right v (record r { stage = Turns top at_ after found })) P same (rights (record r { stage = Turns top at_ after found }))
@@ -81,61 +72,110 @@ module _ (P : View → Type 0) (v : View) (same : P v) where
   pub exchanges_way : ((c : Claim) (n : ℕ) → P (queued v c n)) → ((c : Claim) (n : ℕ) (sent : List ℕ) (m : ℕ) → P (righted v c n sent m)) → (found : ℕ) (hand : Hand) (c : Claim) → P (exchanged found hand v c)
   exchanges_way busy idle found hand c = either_way (nat_lt found IDLE) (queued v c found) (righted v c found hand.took hand.next) P (busy c found) (idle c found hand.took hand.next)
 
--- what holds of the marks, and with these notes more, holds of the marks behind each such step
-module _ (p : Plan) (v : View) (found : ℕ) (hand : Hand) (Q : List SlotMark → Type 0) (same : Q v.marks) (saw : (i w : ℕ) → Q (at i (Saw w) ∷ v.marks)) (met : (i h k : ℕ) → Q (at i (Met h k) ∷ v.marks))
-    (told : (i h c w : ℕ) → Q (at i (Told h c) ∷ at i (Saw w) ∷ v.marks)) where
-  abbrev P : View → Type 0
-  P w = Q w.marks
-
-  pub sending_marks : (call : Call) → is_sending call ≡ true → Q (row p call found hand v).marks
-  sending_marks (LookWord id) is = right_way P v.rights (looked_clean (socket_id_slot id) found v) (looked (socket_id_slot id) found v) (saw (socket_id_slot id) (version_of found))
-      (λ r. either_way (vref_version found % 2 == 0) (with_right (looked (socket_id_slot id) found v) (record r { clean = true })) (looked (socket_id_slot id) found v) P (saw (socket_id_slot id) (version_of found)) (saw (socket_id_slot id) (version_of found)))
-  sending_marks (FindLink i h) is = met i h found
-  sending_marks (LoadCode i h) is = either_way (found == 0) v (told_code i h found v) P same (told i h found (h + 1))
-  sending_marks (ClaimRequest id q) is = let i : ℕ = socket_id_slot id in let h : ℕ = socket_id_version id in
-      either_way (found % 2 == 0) (with_claim (met_link i h hand.link v) (new_claim hand.link q found)) v P (met i h hand.link) same
-  sending_marks (PutMessage q heading bytes) is = claim_way P v.claims (λ c. with_claim v (filled_claim c heading bytes)) v same (λ c. same)
-  sending_marks (Unconnect q) is = claim_way P v.claims (λ c. with_claim v (ready_claim c)) v same (λ c. same)
-  sending_marks (SwapHead i own) is = claim_way P v.claims (exchanged found hand v) v same (exchanges_way P v same (λ c n. same) (λ c n sent m. same) found hand)
-  sending_marks (Connect q before) is = same
-  sending_marks (EmptyHead i last) is = right_way P v.rights (emptied last found v) v same (emptied_way P v same (λ c. same) (λ r. same) (λ k. same) last found)
-  sending_marks (ReadNext q) is = right_way P v.rights (λ r. read_next found v r r.stage) v same (λ r. reads_way P v same (λ c. same) (λ r. same) (λ k. same) found r r.stage)
-  sending_marks (ReverseNext q value) is = right_way P v.rights (λ r. turned_next v r r.stage) v same (λ r. turns_way P v same (λ c. same) (λ r. same) (λ k. same) r r.stage)
-  sending_marks (FreeRequest q g) is = right_way P v.rights (freed_next v) v same (λ r. same)
-  sending_marks (StorePlace l k n) is = right_way P v.rights (λ r. placed_next v r r.stage) v same (λ r. places_way P v same (λ c. same) (λ r. same) (λ k. same) r r.stage)
-  sending_marks (DropPlace l k n) is = right_way P v.rights (λ r. dropped_next v r r.stage) v same (λ r. drops_way P v same (λ c. same) (λ r. same) (λ k. same) r r.stage)
-  sending_marks _ is = absurd (true≢false (sym is))
-
 -- whether it is the exchange of a head
 abbrev pub is_exchange : Call → Bool
 is_exchange (SwapHead i own) = true
 is_exchange other = false
 
--- all of a view but its marks and what is on the chains is as it was, and so are the lists of accepted messages where no head was exchanged
-abbrev pub SameSeat : Call → View → View → Type 0
-SameSeat call v w = let u : View = record v { marks = w.marks; claims = w.claims; loose = w.loose; rights = w.rights; drops = w.drops; lists = cond (is_exchange call) w.lists v.lists } in w ≡ u
+-- whether it is one on the claims, and whether it moves a link into or out of a hand
+abbrev pub is_claiming : Call → Bool
+is_claiming (ClaimRequest id q) = true
+is_claiming (PutMessage q heading bytes) = true
+is_claiming (Unconnect q) = true
+is_claiming (SwapHead i own) = true
+is_claiming other = false
 
--- such steps leave it
+abbrev pub moves_hand : Call → Bool
+moves_hand (TakeLink k) = true
+moves_hand (PutLink k) = true
+moves_hand other = false
+
+abbrev pub is_of_slots : Family → Bool
+is_of_slots Slots = true
+is_of_slots other = false
+
+-- whether it changes what the seat has and noted of slots: beside the steps on slots only those do that find an id or a link
+abbrev pub moves_marks : Call → Bool
+moves_marks (LoadName n) = true
+moves_marks (LoadOpen o) = true
+moves_marks (ClaimRequest id q) = true
+moves_marks other = is_of_slots (family_of other)
+
+-- all of a view but its passes, stores, drops and entries not connected is as it was, but for the marks, claims, rights, hands and lists of accepted
+-- messages where the step is on these
+abbrev pub SameSeat : Call → View → View → Type 0
+SameSeat call v w = let u : View = record v { marks = cond (moves_marks call) w.marks v.marks; passes = w.passes; stores = w.stores; drops = w.drops; loose = w.loose; claims = cond (is_claiming call) w.claims v.claims; rights = cond (moves_right call) w.rights v.rights; hands = cond (moves_hand call) w.hands v.hands; lists = cond (is_exchange call) w.lists v.lists } in w ≡ u
+
+-- each step leaves it
 module _ (p : Plan) (v : View) (found : ℕ) (hand : Hand) where
-  pub sending_same : (call : Call) → is_sending call ≡ true → SameSeat call v (row p call found hand v)
-  sending_same (LookWord id) is = right_way (SameSeat (LookWord id) v) v.rights (looked_clean (socket_id_slot id) found v) (looked (socket_id_slot id) found v) refl
+  pub row_leaves : (call : Call) → SameSeat call v (row p call found hand v)
+  row_leaves (LoadName n) = either_way (is_id found) (met (socket_id_slot (found - 1)) (socket_id_version (found - 1)) v) v (SameSeat (LoadName n) v) refl refl
+  row_leaves (LoadOpen o) = either_way (is_id found) (met (socket_id_slot (found - 1)) (socket_id_version (found - 1)) v) v (SameSeat (LoadOpen o) v) refl refl
+  row_leaves (TakeLink k) = either_way (nat_lt 0 (total (only hand.link) v.passes)) (spent_hand v hand) (with_hand v hand) (SameSeat (TakeLink k) v) refl refl
+  row_leaves (LookWord id) = right_way (SameSeat (LookWord id) v) v.rights (looked_clean (socket_id_slot id) found v) (looked (socket_id_slot id) found v) refl
       (λ r. either_way (vref_version found % 2 == 0) (with_right (looked (socket_id_slot id) found v) (record r { clean = true })) (looked (socket_id_slot id) found v) (SameSeat (LookWord id) v) refl refl)
-  sending_same (FindLink i h) is = refl
-  sending_same (LoadCode i h) is = either_way (found == 0) v (told_code i h found v) (SameSeat (LoadCode i h) v) refl refl
-  sending_same (ClaimRequest id q) is = let i : ℕ = socket_id_slot id in let h : ℕ = socket_id_version id in
+  row_leaves (LoadCode i h) = either_way (found == 0) v (told_code i h found v) (SameSeat (LoadCode i h) v) refl refl
+  row_leaves (ClaimRequest id q) = let i : ℕ = socket_id_slot id in let h : ℕ = socket_id_version id in
       either_way (found % 2 == 0) (with_claim (met_link i h hand.link v) (new_claim hand.link q found)) v (SameSeat (ClaimRequest id q) v) refl refl
-  sending_same (PutMessage q heading bytes) is = claim_way (SameSeat (PutMessage q heading bytes) v) v.claims (λ c. with_claim v (filled_claim c heading bytes)) v refl (λ c. refl)
-  sending_same (Unconnect q) is = claim_way (SameSeat (Unconnect q) v) v.claims (λ c. with_claim v (ready_claim c)) v refl (λ c. refl)
-  sending_same (SwapHead i own) is = claim_way (SameSeat (SwapHead i own) v) v.claims (exchanged found hand v) v refl (exchanges_way (SameSeat (SwapHead i own) v) v refl (λ c n. refl) (λ c n sent m. refl) found hand)
-  sending_same (Connect q before) is = refl
-  sending_same (EmptyHead i last) is = right_way (SameSeat (EmptyHead i last) v) v.rights (emptied last found v) v refl (emptied_way (SameSeat (EmptyHead i last) v) v refl (λ c. refl) (λ r. refl) (λ k. refl) last found)
-  sending_same (ReadNext q) is = right_way (SameSeat (ReadNext q) v) v.rights (λ r. read_next found v r r.stage) v refl (λ r. reads_way (SameSeat (ReadNext q) v) v refl (λ c. refl) (λ r. refl) (λ k. refl) found r r.stage)
-  sending_same (ReverseNext q value) is = right_way (SameSeat (ReverseNext q value) v) v.rights (λ r. turned_next v r r.stage) v refl (λ r. turns_way (SameSeat (ReverseNext q value) v) v refl (λ c. refl) (λ r. refl) (λ k. refl) r r.stage)
-  sending_same (FreeRequest q g) is = right_way (SameSeat (FreeRequest q g) v) v.rights (freed_next v) v refl (λ r. refl)
-  sending_same (StorePlace l k n) is = right_way (SameSeat (StorePlace l k n) v) v.rights (λ r. placed_next v r r.stage) v refl (λ r. places_way (SameSeat (StorePlace l k n) v) v refl (λ c. refl) (λ r. refl) (λ k. refl) r r.stage)
-  sending_same (DropPlace l k n) is = right_way (SameSeat (DropPlace l k n) v) v.rights (λ r. dropped_next v r r.stage) v refl (λ r. drops_way (SameSeat (DropPlace l k n) v) v refl (λ c. refl) (λ r. refl) (λ k. refl) r r.stage)
-  sending_same _ is = absurd (true≢false (sym is))
+  row_leaves (PutMessage q heading bytes) = claim_way (SameSeat (PutMessage q heading bytes) v) v.claims (λ c. with_claim v (filled_claim c heading bytes)) v refl (λ c. refl)
+  row_leaves (Unconnect q) = claim_way (SameSeat (Unconnect q) v) v.claims (λ c. with_claim v (ready_claim c)) v refl (λ c. refl)
+  row_leaves (SwapHead i own) = claim_way (SameSeat (SwapHead i own) v) v.claims (exchanged found hand v) v refl (exchanges_way (SameSeat (SwapHead i own) v) v refl (λ c n. refl) (λ c n sent m. refl) found hand)
+  row_leaves (EmptyHead i last) = right_way (SameSeat (EmptyHead i last) v) v.rights (emptied last found v) v refl (emptied_way (SameSeat (EmptyHead i last) v) v refl (λ r. refl) (λ k. refl) last found)
+  row_leaves (ReadNext q) = right_way (SameSeat (ReadNext q) v) v.rights (λ r. read_next found v r r.stage) v refl (λ r. reads_way (SameSeat (ReadNext q) v) v refl (λ r. refl) (λ k. refl) found r r.stage)
+  row_leaves (ReverseNext q value) = right_way (SameSeat (ReverseNext q value) v) v.rights (λ r. turned_next v r r.stage) v refl (λ r. turns_way (SameSeat (ReverseNext q value) v) v refl (λ r. refl) (λ k. refl) r r.stage)
+  row_leaves (FreeRequest q g) = right_way (SameSeat (FreeRequest q g) v) v.rights (freed_next v) v refl (λ r. refl)
+  row_leaves (StorePlace l k n) = right_way (SameSeat (StorePlace l k n) v) v.rights (λ r. placed_next v r r.stage) v refl (λ r. places_way (SameSeat (StorePlace l k n) v) v refl (λ r. refl) (λ k. refl) r r.stage)
+  row_leaves (DropPlace l k n) = right_way (SameSeat (DropPlace l k n) v) v.rights (λ r. dropped_next v r r.stage) v refl (λ r. drops_way (SameSeat (DropPlace l k n) v) v refl (λ r. refl) (λ k. refl) r r.stage)
+  row_leaves _ = refl
+
+  pub plan_stays : (call : Call) → (row p call found hand v).plan ≡ v.plan
+  plan_stays call = ap (λ (w : View). w.plan) (row_leaves call)
+
+  pub marks_stay : (call : Call) → moves_marks call ≡ false → (row p call found hand v).marks ≡ v.marks
+  marks_stay call other_ = ap (λ (w : View). w.marks) (row_leaves call) ∙ ap (λ b. cond b (row p call found hand v).marks v.marks) other_
+
+  pub claims_stay : (call : Call) → is_claiming call ≡ false → (row p call found hand v).claims ≡ v.claims
+  claims_stay call other_ = ap (λ (w : View). w.claims) (row_leaves call) ∙ ap (λ b. cond b (row p call found hand v).claims v.claims) other_
+
+  pub rights_stay : (call : Call) → moves_right call ≡ false → (row p call found hand v).rights ≡ v.rights
+  rights_stay call other_ = ap (λ (w : View). w.rights) (row_leaves call) ∙ ap (λ b. cond b (row p call found hand v).rights v.rights) other_
+
+  pub hands_stay : (call : Call) → moves_hand call ≡ false → (row p call found hand v).hands ≡ v.hands
+  hands_stay call other_ = ap (λ (w : View). w.hands) (row_leaves call) ∙ ap (λ b. cond b (row p call found hand v).hands v.hands) other_
 
   -- all but the exchange leave the lists of accepted messages
-  pub own_lists : (call : Call) → is_sending call ≡ true → is_exchange call ≡ false → (row p call found hand v).lists ≡ v.lists
-  own_lists call is other_ = ap (λ (w : View). w.lists) (sending_same call is) ∙ ap (λ b. cond b (row p call found hand v).lists v.lists) other_
+  pub lists_stay : (call : Call) → is_exchange call ≡ false → (row p call found hand v).lists ≡ v.lists
+  lists_stay call other_ = ap (λ (w : View). w.lists) (row_leaves call) ∙ ap (λ b. cond b (row p call found hand v).lists v.lists) other_
+
+-- whether a step leaves the marks, and adds notes at most
+abbrev pub is_noting : Call → Bool
+is_noting (LookWord id) = true
+is_noting (LoadLink i w) = true
+is_noting (FindLink i h) = true
+is_noting (LoadCode i h) = true
+is_noting other = not (is_of_slots (family_of other))
+
+no_slots : (b : Bool) → not b ≡ true → b ≡ false
+no_slots false is = refl
+no_slots true is = sym is
+
+-- what holds of the marks, and with these notes more, holds of the marks behind each such step
+module _ (p : Plan) (v : View) (found : ℕ) (hand : Hand) (Q : List SlotMark → Type 0) (same : Q v.marks) (saw : (i w : ℕ) → Q (at i (Saw w) ∷ v.marks)) (met_ : (i h k : ℕ) → Q (at i (Met h k) ∷ v.marks))
+    (told : (i h c w : ℕ) → Q (at i (Told h c) ∷ at i (Saw w) ∷ v.marks)) (known : (i h : ℕ) → Q (at i (Known h) ∷ v.marks)) where
+  abbrev P : View → Type 0
+  P w = Q w.marks
+
+  found_marks : P (found_id found v)
+  found_marks = let i : ℕ = socket_id_slot (found - 1) in let h : ℕ = socket_id_version (found - 1) in either_way (is_id found) (met i h v) v P (known i h) same
+
+  pub noting_marks : (call : Call) → is_noting call ≡ true → Q (row p call found hand v).marks
+  noting_marks (LookWord id) is = right_way P v.rights (looked_clean (socket_id_slot id) found v) (looked (socket_id_slot id) found v) (saw (socket_id_slot id) (version_of found))
+      (λ r. either_way (vref_version found % 2 == 0) (with_right (looked (socket_id_slot id) found v) (record r { clean = true })) (looked (socket_id_slot id) found v) P (saw (socket_id_slot id) (version_of found)) (saw (socket_id_slot id) (version_of found)))
+  noting_marks (LoadLink i w) is = met_ i (w - 2) found
+  noting_marks (FindLink i h) is = met_ i h found
+  noting_marks (LoadCode i h) is = either_way (found == 0) v (told_code i h found v) P same (told i h found (h + 1))
+  noting_marks (LoadName n) is = found_marks
+  noting_marks (LoadOpen o) is = found_marks
+  noting_marks (ClaimRequest id q) is = let i : ℕ = socket_id_slot id in let h : ℕ = socket_id_version id in
+      either_way (found % 2 == 0) (with_claim (met_link i h hand.link v) (new_claim hand.link q found)) v P (met_ i h hand.link) same
+  noting_marks call is = subst Q (sym (marks_stay p v found hand call (no_slots (is_of_slots (family_of call)) is))) same

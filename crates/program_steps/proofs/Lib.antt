@@ -6,3 +6,4 @@ pub mod Rounds
 pub mod Passes
 pub mod AtCalls
 pub mod WordFrame
+pub mod Marking

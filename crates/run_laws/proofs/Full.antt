@@ -7,30 +7,26 @@ use mathlib.Core.Option.{some, some-injective}
 use lib.ListN.{get_elem?}
 use Rattle.atomic_table.proofs.Lists.{at_set}
 use Rattle.sock_words.specs.declared.plain.Plan.{Plan}
-use Rattle.sock_words.specs.Words.{socket_id_slot, socket_id_version, vref_version}
+use Rattle.sock_words.specs.Words.{socket_id_slot, socket_id_version}
 use Rattle.sock_model.specs.declared.chain.Claim.{Claim}
 use Rattle.sock_model.specs.declared.chain.Entry.{Entry}
 use Rattle.sock_model.specs.declared.chain.Right.{Right}
-use Rattle.sock_model.specs.declared.chain.Stage.{Stage}
-use Rattle.sock_model.specs.declared.chain.Stage.TheVariants.{Writes, Walks, Turns}
 use Rattle.sock_model.specs.declared.view.View.{View}
 use Rattle.sock_model.specs.declared.view.Hand.{Hand}
-use Rattle.sock_model.specs.ChainRows.{with_claim, with_right, without_right, queued, righted, with_hand, spent_hand, taken_right}
+use Rattle.sock_model.specs.ChainRows.{with_claim, queued, righted, taken_right}
 use Rattle.sock_model.specs.Deliveries.{whole}
-use Rattle.sock_model.specs.Memory.{IDLE, UNCONNECTED}
-use Rattle.sock_model.specs.SlotRows.{looked, told_code, met, met_link}
-use Rattle.sock_model.specs.Weights.{total, only}
-use Rattle.seat_programs.specs.Calls.{Call, LoadName, LoadOpen, TakeLink, LookWord, LoadCode, ClaimRequest, PutMessage, Unconnect, SwapHead, EmptyHead, ReadNext, ReverseNext, FreeRequest, StorePlace, DropPlace}
+use Rattle.sock_model.specs.Memory.{IDLE}
+use Rattle.sock_model.specs.SlotRows.{met_link}
+use Rattle.seat_programs.specs.Calls.{Call, ClaimRequest, PutMessage, Unconnect, SwapHead}
 use Rattle.seat_programs.specs.Cores.{Core, found_at}
 use Rattle.seat_programs.specs.StepTables.{word_of}
 use Rattle.seat_programs.specs.Ticks.{Moment, IsAnswered}
 use Rattle.seat_programs.specs.StepTables.{row, hand_at}
-use Rattle.seat_programs.specs.StepsOfNames.{is_id}
-use Rattle.seat_programs.specs.StepViews.{by_right, by_claim}
-use Rattle.seat_programs.specs.StepsOfChain.{new_claim, exchanged, emptied, read_next, turned_next, freed_next}
-use Rattle.seat_programs.specs.StepsOfPlaces.{placed_next, dropped_next}
+use Rattle.seat_programs.specs.StepViews.{by_claim}
+use Rattle.seat_programs.specs.StepsOfChain.{new_claim, exchanged}
 use Rattle.seat_programs.specs.StepTables.{May}
 use Rattle.programs_allowed.specs.program_steps.specs.Sound.{Sound, views_after}
+use Rattle.programs_allowed.specs.program_steps.proofs.Leaves.{claims_stay}
 use Rattle.programs_allowed.specs.program_steps.proofs.Cases.{with_rights, right_rights, put_rights, tick_cases}
 
 -- ## Claims
@@ -46,10 +42,6 @@ either : (b : Bool) (x y : View) → IsFull x → IsFull y → IsFull (cond b x 
 either true x y p q = p
 either false x y p q = q
 
-by_right_full : (v : View) → IsFull v → (rs : List Right) (then_ : Right → View) → ((r : Right) → IsFull (then_ r)) → IsFull (by_right rs then_ v)
-by_right_full v f [] then_ each = f
-by_right_full v f (r ∷ rs) then_ each = each r
-
 first_is : (c d : Claim) (cs ds : List Claim) → c ∷ cs ≡ d ∷ ds → c ≡ d
 first_is c d cs ds e = cc
 
@@ -64,15 +56,6 @@ pub none_full : (v : View) → v.claims ≡ [] → IsFull v
 none_full v none_ c cs e = absurd (cons-ne-nil c cs (sym e ∙ none_))
 
 row_full : (p : Plan) (call : Call) (found : ℕ) (hand : Hand) (v : View) → May p v call → IsFull v → IsFull (row p call found hand v)
-row_full p (LoadName n) found hand v may f = either (is_id found) (met (socket_id_slot (found - 1)) (socket_id_version (found - 1)) v) v f f
-row_full p (LoadOpen n) found hand v may f = either (is_id found) (met (socket_id_slot (found - 1)) (socket_id_version (found - 1)) v) v f f
-row_full p (TakeLink k) found hand v may f = either (nat_lt 0 (total (only hand.link) v.passes)) (spent_hand v hand) (with_hand v hand) f f
-row_full p (LookWord id) found hand v may f = let u : View = looked (socket_id_slot id) found v in look_full u f v.rights
-  where
-    look_full : (u : View) → IsFull u → (rs : List Right) → IsFull (by_right rs (λ r. cond (eqb (vref_version found % 2) 0) (with_right u (record r { clean = true })) u) u)
-    look_full u g [] = g
-    look_full u g (r ∷ rs) = either (eqb (vref_version found % 2) 0) (with_right u (record r { clean = true })) u g g
-row_full p (LoadCode i h) found hand v may f = either (eqb found 0) v (told_code i h found v) f f
 row_full p (ClaimRequest id q) found hand v may f = either (eqb (found % 2) 0) (with_claim (met_link (socket_id_slot id) (socket_id_version id) hand.link v) (new_claim hand.link q found)) v
     (full_with (met_link (socket_id_slot id) (socket_id_version id) hand.link v) (new_claim hand.link q found) (λ e. absurd (true≢false (sym e)))) f
 row_full p (PutMessage q heading bytes) found hand v may f = by_claim_full v f v.claims refl (λ c. with_claim v (record c { filled = true; heading = heading; bytes = bytes }))
@@ -80,29 +63,7 @@ row_full p (PutMessage q heading bytes) found hand v may f = by_claim_full v f v
 row_full p (Unconnect q) found hand v may f = by_claim_full v f v.claims refl (λ c. with_claim v (record c { ready = true })) (λ c ds e. full_with v (record c { ready = true }) (f c ds e))
 row_full p (SwapHead i own) found hand v may f = by_claim_full v f v.claims refl (exchanged found hand v)
     (λ c ds e. either (nat_lt found IDLE) (queued v c found) (righted v c found hand.took hand.next) (none_full (queued v c found) refl) (none_full (righted v c found hand.took hand.next) refl))
-row_full p (EmptyHead i last) found hand v may f = by_right_full v f v.rights (emptied last found v) (λ r. either (eqb found last) (without_right v r.link) (with_right v (record r { stage = Walks found found 0 })) f f)
-row_full p (ReadNext q) found hand v may f = by_right_full v f v.rights (λ r. read_next found v r r.stage) (λ r. by_stage r r.stage)
-  where
-    by_stage : (r : Right) (stage : Stage) → IsFull (read_next found v r stage)
-    by_stage r (Walks top at after) = either (eqb found UNCONNECTED) v (with_right v (record r { stage = Turns top at after found })) f f
-    by_stage r _ = f
-row_full p (ReverseNext q value) found hand v may f = by_right_full v f v.rights (λ r. turned_next v r r.stage) (λ r. by_stage r r.stage)
-  where
-    by_stage : (r : Right) (stage : Stage) → IsFull (turned_next v r stage)
-    by_stage r (Turns top at after before) = f
-    by_stage r _ = f
-row_full p (FreeRequest q g) found hand v may f = by_right_full v f v.rights (freed_next v) (λ r. f)
-row_full p (StorePlace l k n) found hand v may f = by_right_full v f v.rights (λ r. placed_next v r r.stage) (λ r. by_stage r r.stage)
-  where
-    by_stage : (r : Right) (stage : Stage) → IsFull (placed_next v r stage)
-    by_stage r (Writes now) = f
-    by_stage r _ = f
-row_full p (DropPlace l k n) found hand v may f = by_right_full v f v.rights (λ r. dropped_next v r r.stage) (λ r. by_stage r r.stage)
-  where
-    by_stage : (r : Right) (stage : Stage) → IsFull (dropped_next v r stage)
-    by_stage r (Writes now) = f
-    by_stage r _ = f
-row_full p call found hand v may f = f
+row_full p call found hand v may f = λ c cs e. f c cs (sym (claims_stay p v found hand call refl) ∙ e)
 
 module _ (p : Plan) (c : Core) (views : List View) (m : Moment) (sound : Sound p c views) (answered : IsAnswered c m) (full : AreFull views) where
   set_full : (v w : View) → IsFull w → AreFull (set views m.seat w)

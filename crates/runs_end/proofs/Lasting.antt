@@ -57,7 +57,7 @@ use Rattle.sock_runs.specs.program_steps.specs.Sound.{state, Sound, views_with_m
 use Rattle.sock_runs.specs.program_steps.specs.Lasts.{STALE, CHANGE, home_weight, accepted, walk_left, ACCEPT, entries, walks_left, expects, arriving, stale_cost, fresh, id_left, ids_left, LastsFor, Lasts}
 use Rattle.sock_runs.proofs.Founds.{finds}
 use Rattle.sock_runs.proofs.ChainTicks.{held_link_is, has_one}
-use Rattle.sock_runs.specs.program_steps.proofs.Leaves.{is_exchange}
+use Rattle.sock_runs.specs.program_steps.proofs.Leaves.{is_exchange, lists_stay}
 use Rattle.sock_runs.proofs.LinkTicks.{RetriesGo, message_there}
 use Rattle.sock_steps.proofs.LinkSteps.{link_home_law}
 use Rattle.sock_runs.specs.program_steps.proofs.Rounds.{begins_round}
@@ -65,7 +65,7 @@ use Rattle.sock_runs.specs.program_steps.proofs.Cases.{answer_begins}
 use Rattle.runs_end.proofs.Costs.{lasts_round, lasts_walk}
 use Rattle.runs_end.proofs.SeatCosts.{IsThere, waiting_left, waiting_set, settled}
 use Rattle.runs_end.proofs.IdsLeft.{all_stale}
-use Rattle.runs_end.proofs.WalksLeft.{lists_stay, rights_few, read_less, message_few, away_few, home_few, put_few, message_lists, away_lists, home_lists, put_lists, lists_more, all_more, all_rights, set_few, held_light, home_cost, homes_few}
+use Rattle.runs_end.proofs.WalksLeft.{rights_few, read_less, message_few, away_few, home_few, put_few, message_lists, away_lists, home_lists, put_lists, lists_more, all_more, all_rights, set_few, held_light, home_cost, homes_few}
 use Rattle.runs_end.proofs.WalksLeft as WalksLeft
 
 -- ## Steps

@@ -1,12 +1,12 @@
 -- What a step leaves of walks, of lists of accepted messages, and of messages at home.
-use Rattle.std.proofs.Common.{◌≡◌, ◌≢◌, ℕ, zero, suc, ◌+◌, ◌-◌, ◌*◌, ◌%◌, ◌<◌, ◌≤◌, ◌==◌, ◌&&◌, Bool, true, false, not, List, [], ◌∷◌, ◌++◌, length, take, length-append, nat_lt, set, refl, sym, ap, ◌∙◌, subst, arith, cond, eqb, eq-eqb, ne_eqb}
+use Rattle.std.proofs.Common.{◌≡◌, ◌≢◌, ℕ, zero, suc, ◌+◌, ◌-◌, ◌*◌, ◌%◌, ◌<◌, ◌≤◌, ◌==◌, ◌&&◌, Bool, true, false, not, List, [], ◌∷◌, ◌++◌, length, take, length-append, set, refl, sym, ap, ◌∙◌, subst, arith, cond, eqb, eq-eqb, ne_eqb}
 use Rattle.std.proofs.lemmas.Bool.{true≢false}
 use Rattle.std.specs.List.{filter, flat_map}
 use mathlib.Core.Logic.{dite}
 use mathlib.Core.Option.{Option, some, none}
 use native.Mathlib.Decide.{ℕ_discrete}
 use Rattle.sock_words.specs.declared.plain.Plan.{Plan}
-use Rattle.sock_words.specs.Words.{socket_id_version, socket_id_slot, vref_version}
+use Rattle.sock_words.specs.Words.{socket_id_slot, vref_version}
 use Rattle.seat_programs.specs.sock_io.specs.declared.link.Put.{Put}
 use Rattle.seat_programs.specs.sock_io.specs.declared.link.Put.TheVariants.{Took, Again, Failed}
 use Rattle.sock_model.specs.declared.chain.Entry.{Entry}
@@ -21,56 +21,26 @@ use Rattle.sock_model.specs.declared.view.Hand.{Hand}
 use Rattle.sock_model.specs.Entries.{on, generation_of}
 use Rattle.sock_model.specs.Memory.{UNCONNECTED}
 use Rattle.sock_model.specs.Weights.{total, only}
-use Rattle.sock_model.specs.SlotRows.{met, looked, told_code, met_link}
-use Rattle.sock_model.specs.ChainRows.{with_hand, spent_hand, with_claim, with_right, without_right, more, turned_right, placed_right, dropped_right, taken_right, put_right}
+use Rattle.sock_model.specs.SlotRows.{looked}
+use Rattle.sock_model.specs.ChainRows.{with_right, without_right, more, turned_right, placed_right, dropped_right, taken_right, put_right}
 use Rattle.sock_model.specs.Reads.{rights_on}
 use Rattle.sock_steps.specs.slot_steps.proofs.Numbers.{only-at, only-else}
 use Rattle.sock_steps.specs.chain_steps.proofs.Lists.{on_hit, on_miss}
 use Rattle.sock_steps.proofs.Quiet.{either_way}
-use Rattle.seat_programs.specs.Calls.{Call, ClaimSlot, CreateLife, AddRef, SubRef, SetOdd, Recycle, FreeSlot, StoreLink, LoadLink, ResetHead, ClearCode, StoreCode, StoreName, LoadName, StoreOpen, LoadOpen, TakeLink, FinishLink, PutLink, LookWord, LoadCode, ClaimRequest, PutMessage, Unconnect, SwapHead, EmptyHead, ReadNext, ReverseNext, FreeRequest, StorePlace, DropPlace}
+use Rattle.seat_programs.specs.Calls.{Call, TakeLink, PutLink, LookWord, PutMessage, SwapHead, EmptyHead, ReadNext, ReverseNext, FreeRequest, StorePlace, DropPlace}
 use Rattle.seat_programs.specs.Programs.{LAST_GENERATION}
 use Rattle.seat_programs.specs.Cores.{first_of, link_place, homes_after}
 use Rattle.seat_programs.specs.StepTables.{row}
-use Rattle.seat_programs.specs.StepsOfNames.{is_id, found_id}
 use Rattle.seat_programs.specs.StepViews.{by_right, settled_stage, settled}
-use Rattle.seat_programs.specs.StepsOfChain.{new_claim, ready_claim, emptied, freed_stage, read_next, turned_next, freed_next}
-use Rattle.seat_programs.specs.StepsOfMessages.{filled_claim, took_message}
+use Rattle.seat_programs.specs.StepsOfChain.{emptied, freed_stage, read_next, turned_next, freed_next}
+use Rattle.seat_programs.specs.StepsOfMessages.{took_message}
 use Rattle.seat_programs.specs.StepsOfSlots.{looked_clean}
 use Rattle.seat_programs.specs.StepsOfPlaces.{placed_next, dropped_next}
 use Rattle.seat_programs.specs.StepsOfLinks.{link_away, link_home_again, took_bytes}
 use Rattle.seat_programs.specs.StepTables.{May}
 use Rattle.sock_runs.specs.program_steps.specs.Sound.{AreInHand, IsOfRight, AreHeld}
 use Rattle.sock_runs.specs.program_steps.specs.Lasts.{weight, home_weight, is_turning, walk_left}
-use Rattle.sock_runs.specs.program_steps.proofs.Leaves.{is_exchange, claim_way, right_way, own_lists}
-
--- ## The lists of accepted messages
-
--- all steps but the exchange leave them
-module _ (p : Plan) (v : View) (found : ℕ) (hand : Hand) where
-  abbrev SameLists : View → Type 0
-  SameLists w = w.lists ≡ v.lists
-
-  pub lists_stay : (call : Call) → is_exchange call ≡ false → (row p call found hand v).lists ≡ v.lists
-  lists_stay (ClaimSlot i) other = refl
-  lists_stay (CreateLife i k) other = refl
-  lists_stay (AddRef id) other = refl
-  lists_stay (SubRef i) other = refl
-  lists_stay (SetOdd i) other = refl
-  lists_stay (Recycle i from) other = refl
-  lists_stay (FreeSlot i) other = refl
-  lists_stay (StoreLink i k) other = refl
-  lists_stay (LoadLink i w) other = refl
-  lists_stay (ResetHead i k) other = refl
-  lists_stay (ClearCode i k) other = refl
-  lists_stay (StoreCode i h c) other = refl
-  lists_stay (StoreName n w) other = refl
-  lists_stay (LoadName n) other = either_way (is_id found) (met (socket_id_slot (found - 1)) (socket_id_version (found - 1)) v) v SameLists refl refl
-  lists_stay (StoreOpen o w) other = refl
-  lists_stay (LoadOpen o) other = either_way (is_id found) (met (socket_id_slot (found - 1)) (socket_id_version (found - 1)) v) v SameLists refl refl
-  lists_stay (TakeLink k) other = either_way (nat_lt 0 (total (only hand.link) v.passes)) (spent_hand v hand) (with_hand v hand) SameLists refl refl
-  lists_stay (FinishLink k) other = refl
-  lists_stay (PutLink k) other = refl
-  lists_stay call other = own_lists p v found hand call refl other
+use Rattle.sock_runs.specs.program_steps.proofs.Leaves.{is_exchange, moves_right, right_way, rights_stay}
 
 -- ## Rights that change
 
@@ -158,11 +128,8 @@ module _ (counts : ℕ → ℕ) where
     abbrev Few_left : View → Type 0
     Few_left w = total left w.rights ≤ total left v.rights
 
-    stays_few : Few_left v
-    stays_few = omega arith
-
-    met_few : Few_left (found_id found v)
-    met_few = either_way (is_id found) (met (socket_id_slot (found - 1)) (socket_id_version (found - 1)) v) v Few_left stays_few stays_few
+    stays_few : (call : Call) → moves_right call ≡ false → Few_left (row p call found hand v)
+    stays_few call other = omega (arith, ap (total left) (rights_stay p v found hand call other))
 
     looks_few : (i : ℕ) → Few_left (by_right v.rights (looked_clean i found v) (looked i found v))
     looks_few i = by_right_few left v.rights (looked_clean i found v) (looked i found v) refl
@@ -171,14 +138,7 @@ module _ (counts : ℕ → ℕ) where
 
     -- no step but the exchange leaves more of the seat's walks
     pub rights_few : (call : Call) → May p v call → is_exchange call ≡ false → Few_left (row p call found hand v)
-    rights_few (LoadName n) may other = met_few
-    rights_few (LoadOpen o) may other = met_few
-    rights_few (TakeLink k) may other = either_way (nat_lt 0 (total (only hand.link) v.passes)) (spent_hand v hand) (with_hand v hand) Few_left stays_few stays_few
     rights_few (LookWord id) may other = looks_few (socket_id_slot id)
-    rights_few (LoadCode i h) may other = either_way (eqb found 0) v (told_code i h found v) Few_left stays_few stays_few
-    rights_few (ClaimRequest id q) may other = either_way (eqb (found % 2) 0) (with_claim (met_link (socket_id_slot id) (socket_id_version id) hand.link v) (new_claim hand.link q found)) v Few_left stays_few stays_few
-    rights_few (PutMessage q heading bytes) may other = claim_way Few_left v.claims (λ c. with_claim v (filled_claim c heading bytes)) v stays_few (λ c. stays_few)
-    rights_few (Unconnect q) may other = claim_way Few_left v.claims (λ c. with_claim v (ready_claim c)) v stays_few (λ c. stays_few)
     rights_few (SwapHead i own) may other = absurd (true≢false other)
     rights_few (EmptyHead i last) may other = let x = may.1.0 in let r : Right = x.mine.right in
         subst (λ (l : List Right). total left (by_right l (emptied last found v) v).rights ≤ total left l) (sym may.1.1) (empties_few v r [] may.1.1 last found (ap is_turning x.stage))
@@ -187,7 +147,7 @@ module _ (counts : ℕ → ℕ) where
     rights_few (FreeRequest q g) may other = by_right_few left v.rights (freed_next v) v refl (λ r others is. frees_few v r others is r.stage refl)
     rights_few (StorePlace l k n) may other = by_right_few left v.rights (λ r. placed_next v r r.stage) v refl (λ r others is. places_few v r others is r.stage refl)
     rights_few (DropPlace l k n) may other = by_right_few left v.rights (λ r. dropped_next v r r.stage) v refl (λ r others is. drops_next_few v r others is r.stage refl)
-    rights_few _ may other = stays_few
+    rights_few call may other = stays_few call refl
 
     -- a walk that found the next word of its entry has a step less left, and one that turned it too
     pub read_less : (q : ℕ) (r : Right) (top at after : ℕ) → v.rights ≡ r ∷ [] → r.stage ≡ Walks top at after → found ≢ UNCONNECTED → r.noted + r.turned < counts r.link → total left (row p (ReadNext q) found hand v).rights < total left v.rights

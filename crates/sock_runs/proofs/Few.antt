@@ -1,6 +1,5 @@
 -- Each client accepts few messages, whatever the order of ticks, so that the place of each fits its word; and the ticket of a message is below that of an idle head.
 use Rattle.std.proofs.Common.{◌≡◌, ℕ, suc, ◌-◌, ◌<◌, ◌≤◌, false, nat_lt, List, ◌∷◌, length, length-set, set, refl, sym, ap, subst, ⊎_elim, arith}
-use Rattle.std.proofs.lemmas.Bool.{true≢false}
 use mathlib.Core.Option.{some}
 use lib.ListN.{get_elem?}
 use Rattle.atomic_table.specs.Table.{State}
@@ -12,16 +11,14 @@ use Rattle.sock_model.specs.declared.chain.Stage.TheVariants.{Writes}
 use Rattle.sock_model.specs.declared.home.Home.{Home}
 use Rattle.sock_model.specs.declared.view.View.{View}
 use Rattle.sock_model.specs.declared.view.Hand.{Hand}
-use Rattle.sock_model.specs.Weights.{total, only}
+use Rattle.sock_model.specs.Weights.{total}
 use Rattle.sock_model.specs.Entries.{on, nth}
 use Rattle.sock_model.specs.Memory.{IDLE}
 use Rattle.sock_model.specs.Writing.{Held}
 use Rattle.sock_model.specs.Reads.{memory, tokens}
-use Rattle.sock_model.specs.SlotRows.{met}
-use Rattle.sock_model.specs.ChainRows.{with_hand, spent_hand, entry_of, more, queued, righted}
+use Rattle.sock_model.specs.ChainRows.{entry_of, more, queued, righted}
 use Rattle.sock_model.specs.Lawful.{Lawful}
 use Rattle.sock_model.specs.Rule.{MOST_ACCEPTED, AreShort, lists_of}
-use Rattle.sock_words.specs.Words.{socket_id_version, socket_id_slot}
 use Rattle.sock_steps.specs.slot_steps.proofs.Sums.{term_le, total_bound}
 use Rattle.sock_steps.specs.chain_steps.proofs.Frames.{in_size}
 use Rattle.sock_steps.specs.chain_steps.proofs.Heads.{held_of}
@@ -31,45 +28,24 @@ use Rattle.sock_steps.proofs.RightSteps.{right_in, right_alone}
 use Rattle.sock_steps.proofs.RuleFrame.{SameNotes, accept_short}
 use Rattle.sock_steps.proofs.Positions.{few_log, on_shorter}
 use Rattle.sock_steps.proofs.Walked.{writes_left}
-use Rattle.seat_programs.specs.Calls.{Call, ClaimSlot, CreateLife, AddRef, SubRef, SetOdd, Recycle, FreeSlot, StoreLink, LoadLink, ResetHead, ClearCode, StoreCode, StoreName, LoadName, StoreOpen, LoadOpen, TakeLink, FinishLink, PutLink, SwapHead}
+use Rattle.seat_programs.specs.Calls.{Call, SwapHead}
 use Rattle.seat_programs.specs.Cores.{Core, found_at}
 use Rattle.seat_programs.specs.StepTables.{word_of}
 use Rattle.seat_programs.specs.Ticks.{Moment, IsAnswered}
 use Rattle.seat_programs.specs.StepTables.{row, hand_at}
-use Rattle.seat_programs.specs.StepsOfNames.{is_id}
 use Rattle.seat_programs.specs.StepViews.{by_claim}
 use Rattle.seat_programs.specs.StepsOfChain.{exchanged}
 use Rattle.seat_programs.specs.StepTables.{May}
 use Rattle.program_steps.specs.Sound.{Sound, AreFew, MOST_PLACES, views_after, IsFitting}
 use Rattle.program_steps.specs.Lasts.{Lasts, MOST_PAID}
-use Rattle.program_steps.proofs.Leaves.{sending_same, is_exchange, own_lists}
+use Rattle.program_steps.proofs.Leaves.{is_exchange, row_leaves, plan_stays, lists_stay}
 use Rattle.program_steps.proofs.Cases.{tick_keeps_marks}
 
 -- ## What each step leaves
 
 -- each step but the exchange leaves the plan, the words that were found, and the accepted messages
 pub row_same : (p : Plan) (call : Call) (found : ℕ) (hand : Hand) (v : View) → is_exchange call ≡ false → SameNotes v (row p call found hand v)
-row_same p (LoadName n) found hand v other_ = either_way (is_id found) (met (socket_id_slot (found - 1)) (socket_id_version (found - 1)) v) v (λ w. SameNotes v w) record { plan = refl; found = refl; lists = refl } record { plan = refl; found = refl; lists = refl }
-row_same p (LoadOpen n) found hand v other_ = either_way (is_id found) (met (socket_id_slot (found - 1)) (socket_id_version (found - 1)) v) v (λ w. SameNotes v w) record { plan = refl; found = refl; lists = refl } record { plan = refl; found = refl; lists = refl }
-row_same p (TakeLink k) found hand v other_ = either_way (nat_lt 0 (total (only hand.link) v.passes)) (spent_hand v hand) (with_hand v hand) (λ w. SameNotes v w) record { plan = refl; found = refl; lists = refl } record { plan = refl; found = refl; lists = refl }
-row_same p (ClaimSlot i) found hand v other_ = record { plan = refl; found = refl; lists = refl }
-row_same p (CreateLife i k) found hand v other_ = record { plan = refl; found = refl; lists = refl }
-row_same p (AddRef id) found hand v other_ = record { plan = refl; found = refl; lists = refl }
-row_same p (SubRef i) found hand v other_ = record { plan = refl; found = refl; lists = refl }
-row_same p (SetOdd i) found hand v other_ = record { plan = refl; found = refl; lists = refl }
-row_same p (Recycle i from) found hand v other_ = record { plan = refl; found = refl; lists = refl }
-row_same p (FreeSlot i) found hand v other_ = record { plan = refl; found = refl; lists = refl }
-row_same p (StoreLink i k) found hand v other_ = record { plan = refl; found = refl; lists = refl }
-row_same p (LoadLink i w) found hand v other_ = record { plan = refl; found = refl; lists = refl }
-row_same p (ResetHead i k) found hand v other_ = record { plan = refl; found = refl; lists = refl }
-row_same p (ClearCode i k) found hand v other_ = record { plan = refl; found = refl; lists = refl }
-row_same p (StoreCode i h c) found hand v other_ = record { plan = refl; found = refl; lists = refl }
-row_same p (StoreName n w) found hand v other_ = record { plan = refl; found = refl; lists = refl }
-row_same p (StoreOpen n w) found hand v other_ = record { plan = refl; found = refl; lists = refl }
-row_same p (FinishLink k) found hand v other_ = record { plan = refl; found = refl; lists = refl }
-row_same p (PutLink k) found hand v other_ = record { plan = refl; found = refl; lists = refl }
-row_same p (SwapHead i own) found hand v other_ = absurd (true≢false other_)
-row_same p call found hand v other_ = let same = sending_same p v found hand call refl in record { plan = ap (λ (w : View). w.plan) same; found = ap (λ (w : View). w.found) same; lists = own_lists p v found hand call refl other_ }
+row_same p call found hand v other_ = record { plan = plan_stays p v found hand call; found = ap (λ (w : View). w.found) (row_leaves p v found hand call); lists = lists_stay p v found hand call other_ }
 
 -- ## A tick
 

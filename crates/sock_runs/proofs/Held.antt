@@ -3,7 +3,7 @@ use Rattle.std.proofs.Common.{◌≡◌, ℕ, suc, ◌+◌, ◌-◌, ◌%◌, �
 use Rattle.std.specs.List.{filter}
 use mathlib.Core.Option.{some}
 use lib.ListN.{get_elem?}
-use Rattle.sock_words.specs.Words.{socket_id_version, socket_id_slot, vref_version}
+use Rattle.sock_words.specs.Words.{socket_id_slot, vref_version}
 use Rattle.sock_words.specs.declared.plain.Plan.{Plan}
 use Rattle.sock_model.specs.declared.chain.Right.{Right}
 use Rattle.sock_model.specs.declared.chain.Stage.{Stage}
@@ -14,26 +14,24 @@ use Rattle.sock_model.specs.declared.view.View.{View}
 use Rattle.sock_model.specs.declared.view.Hand.{Hand}
 use Rattle.sock_model.specs.Memory.{UNCONNECTED}
 use Rattle.sock_model.specs.Weights.{total, only}
-use Rattle.sock_model.specs.SlotRows.{met, looked, told_code, met_link}
-use Rattle.sock_model.specs.ChainRows.{with_claim, with_hand, spent_hand, without_hand, with_right, without_right, turned_right, placed_right, dropped_right}
+use Rattle.sock_model.specs.SlotRows.{looked}
+use Rattle.sock_model.specs.ChainRows.{with_hand, spent_hand, without_hand, with_right, without_right, turned_right, placed_right, dropped_right}
 use Rattle.sock_model.specs.Lawful.{Lawful}
 use Rattle.sock_steps.proofs.Quiet.{either_way}
-use Rattle.seat_programs.specs.Calls.{Call, LoadName, LoadOpen, TakeLink, FinishLink, PutLink, LookWord, LoadCode, ClaimRequest, PutMessage, Unconnect, SwapHead, EmptyHead, ReadNext, ReverseNext, FreeRequest, StorePlace, DropPlace}
+use Rattle.seat_programs.specs.Calls.{Call, TakeLink, FinishLink, PutLink, LookWord, SwapHead, EmptyHead, ReadNext, ReverseNext, FreeRequest, StorePlace, DropPlace}
 use Rattle.seat_programs.specs.Cores.{Core, found_at, hand_after}
 use Rattle.seat_programs.specs.StepTables.{word_of}
 use Rattle.seat_programs.specs.StepTables.{row, hand_at}
-use Rattle.seat_programs.specs.StepsOfNames.{is_id, found_id}
 use Rattle.seat_programs.specs.StepsOfLinks.{taken}
 use Rattle.seat_programs.specs.StepViews.{by_right, settled}
-use Rattle.seat_programs.specs.StepsOfChain.{new_claim, ready_claim, exchanged, emptied, read_next, turned_next, freed_stage, freed_next}
-use Rattle.seat_programs.specs.StepsOfMessages.{filled_claim}
+use Rattle.seat_programs.specs.StepsOfChain.{exchanged, emptied, read_next, turned_next, freed_stage, freed_next}
 use Rattle.seat_programs.specs.StepsOfSlots.{looked_clean}
 use Rattle.seat_programs.specs.StepsOfPlaces.{placed_next, dropped_next}
 use Rattle.seat_programs.specs.StepTables.{May}
 use Rattle.program_steps.specs.Sound.{state, IsOfRight, AreInHand, AreHeld}
 use Rattle.sock_runs.proofs.HandTicks.{taking, found_hand, take_in_hand, finish_in_hand, put_in_hand}
 use Rattle.sock_runs.proofs.ChainTicks.{stays_one}
-use Rattle.program_steps.proofs.Leaves.{claim_way, exchanges_way}
+use Rattle.program_steps.proofs.Leaves.{claim_way, exchanges_way, moves_right, moves_hand, rights_stay, hands_stay}
 
 -- ## Without a right, and with one
 
@@ -113,9 +111,6 @@ module _ (p : Plan) (v : View) (hand : List Home) (held : AreHeld hand v.rights 
   of_right : (r : Right) → v.rights ≡ r ∷ [] → (then_ : Right → View) (other : View) → Holds (then_ r) → Holds (by_right v.rights then_ other)
   of_right r one then_ other is = subst (λ rs. Holds (by_right rs then_ other)) (sym one) is
 
-  held_id : (w : ℕ) → Holds (found_id w v)
-  held_id w = either_way (is_id w) (met (socket_id_slot (w - 1)) (socket_id_version (w - 1)) v) v Holds held held
-
 -- ## All steps
 
 module _ (p : Plan) (c : Core) (vs : List View) (o : Lawful (λ home. home) p (state c vs)) (i : ℕ) (v : View) (at : get_elem? vs i ≡ some v) (hand : List Home) (held : AreHeld hand v.rights v.hands) where
@@ -129,9 +124,12 @@ module _ (p : Plan) (c : Core) (vs : List View) (o : Lawful (λ home. home) p (s
   pub in_hand : v.rights ≡ [] → AreInHand hand v.hands
   in_hand none_ = held_in_hand hand v.rights v.hands none_ held
 
+  -- behind a step that leaves rights and hands
+  still : (call : Call) → moves_right call ≡ false → moves_hand call ≡ false → AreHeld hand (after call).rights (after call).hands
+  still call rights hands = let n : ℕ = found call in let g : Hand = hand_at p c.words c.homes call in
+      subst (λ rs. AreHeld hand rs (after call).hands) (sym (rights_stay p v n g call rights)) (subst (λ hs. AreHeld hand v.rights hs) (sym (hands_stay p v n g call hands)) held)
+
   pub keeps_held : (call : Call) → May p v call → AreHeld (hand_after p call c.homes hand) (after call).rights (after call).hands
-  keeps_held (LoadName n) may = held_id p v hand held (found (LoadName n))
-  keeps_held (LoadOpen n) may = held_id p v hand held (found (LoadOpen n))
   keeps_held (TakeLink k) may = let home = (taking p (state c vs) o i v at k may).0 in let h : Hand = record { link = k; took = home.took; next = home.next } in
       let now = in_hand_held (hand_after p (TakeLink k) c.homes hand) v.rights (h ∷ v.hands) may.3 (take_in_hand p c.homes k home hand v.hands (in_hand may.3)) in
       subst (λ g. AreHeld (hand_after p (TakeLink k) c.homes hand) (taken g v).rights (taken g v).hands) (sym (found_hand p (state c vs) o i v at k may))
@@ -143,11 +141,6 @@ module _ (p : Plan) (c : Core) (vs : List View) (o : Lawful (λ home. home) p (s
       (λ none_. subst (λ rs. Holds p v hand held (by_right rs (looked_clean j w v) (looked j w v))) (sym none_) held)
       (λ mine. of_right p v hand held mine.0 mine.1 (looked_clean j w v) (looked j w v) (looks_held p v hand held j w mine.0 mine.1))
       may.1
-  keeps_held (LoadCode j h) may = either_way (found (LoadCode j h) == 0) v (told_code j h (found (LoadCode j h)) v) (Holds p v hand held) held held
-  keeps_held (ClaimRequest id q) may = let n : ℕ = found (ClaimRequest id q) in let k : ℕ = (hand_at p c.words c.homes (ClaimRequest id q)).link in
-      either_way (n % 2 == 0) (with_claim (met_link (socket_id_slot id) (socket_id_version id) k v) (new_claim k q n)) v (Holds p v hand held) held held
-  keeps_held (PutMessage q heading bytes) may = claim_way (Holds p v hand held) v.claims (λ d. with_claim v (filled_claim d heading bytes)) v held (λ d. held)
-  keeps_held (Unconnect q) may = claim_way (Holds p v hand held) v.claims (λ d. with_claim v (ready_claim d)) v held (λ d. held)
   keeps_held (SwapHead j own) may = let n : ℕ = found (SwapHead j own) in let g : Hand = hand_at p c.words c.homes (SwapHead j own) in
       claim_way (Holds p v hand held) v.claims (exchanged n g v) v held (exchanges_way (Holds p v hand held) v held (λ d m. held) (λ d m sent l. held) n g)
   keeps_held (EmptyHead j last) may = let r : Right = may.1.0.mine.right in let w : ℕ = found (EmptyHead j last) in
@@ -158,4 +151,4 @@ module _ (p : Plan) (c : Core) (vs : List View) (o : Lawful (λ home. home) p (s
   keeps_held (FreeRequest q g) may = let r : Right = may.4.0 in of_right p v hand held r may.4.1 (freed_next v) v (stage_held p v hand held r may.4.1 (freed_stage r.stage))
   keeps_held (StorePlace l k n) may = let r : Right = may.0.mine.right in of_right p v hand held r may.1 (λ r. placed_next v r r.stage) v (places_held p v hand held r may.1 may.5 r.stage)
   keeps_held (DropPlace l k n) may = let r : Right = may.0.mine.right in of_right p v hand held r may.1 (λ r. dropped_next v r r.stage) v (drops_held p v hand held r may.1 r.stage)
-  keeps_held _ may = held
+  keeps_held call may = still call refl refl

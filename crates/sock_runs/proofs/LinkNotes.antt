@@ -1,5 +1,6 @@
 -- Which notes of links a step makes: each stays, and a life's link is noted by its birth alone.
 use Rattle.std.proofs.Common.{◌≡◌, ℕ, ◌≤◌, ◌⊎◌, inl, inr, List, ◌∷◌, refl, sym, ap, arith}
+use Rattle.std.proofs.lemmas.Bool.{true≢false}
 use mathlib.Core.Logic.{dite}
 use mathlib.Core.Option.{none}
 use native.Mathlib.Decide.{ℕ_discrete}
@@ -17,7 +18,7 @@ use Rattle.sock_steps.specs.slot_steps.proofs.Numbers.{pair_is}
 use Rattle.sock_steps.proofs.Quiet.{Less, More, less_add, less_without}
 use Rattle.seat_programs.specs.Calls.{Call, CreateLife}
 use Rattle.seat_programs.specs.StepTables.{row}
-use Rattle.sock_runs.proofs.Notes.{bears, IsOfBirth, notes_stay, births_note}
+use Rattle.sock_runs.proofs.Notes.{bears, IsKept, IsOfBirth, notes_stay, births_note}
 
 -- of two other numbers
 no_pair : (a b x y : ℕ) → ((x ≡ a) × (y ≡ b) → ⊥) → pair a b x y ≡ 0
@@ -25,12 +26,17 @@ no_pair a b x y other = dite (ℕ_discrete (pair a b x y) 0) (λ z. z) (λ some_
 
 module _ (p : Plan) (v : View) (found : ℕ) (hand : Hand) where
   module _ (h l : ℕ) where
+    link_kept : IsKept (is_linked h l)
+    link_kept (Linked g k) goes = absurd (true≢false (sym goes))
+    link_kept _ goes = refl
+
     -- which link a life was given stays noted
     pub links_stay : (call : Call) → More (is_linked h l) v.marks (row p call found hand v).marks
-    links_stay call = notes_stay p v found hand (is_linked h l) (record { claimed = λ n k. refl; hold = λ k. refl; probe = refl; zero = λ w. refl; coding = λ k. refl; recycling = λ w. refl }) call
+    links_stay call = notes_stay p v found hand (is_linked h l) link_kept call
 
     of_birth : IsOfBirth (is_linked h l)
-    of_birth = record { claimed = λ n k. refl; tried = refl; hold = λ k. refl; probe = refl; saw = λ w. refl; zero = λ w. refl; coding = λ k. refl; failer = λ k. refl; recycling = λ w. refl; freer = λ w. refl; known = λ k. refl; met = λ h k. refl; stored = λ h c. refl; told = λ h c. refl }
+    of_birth (Linked g k) other = absurd (true≢false other)
+    of_birth _ other = refl
 
     -- a step that makes no life notes none
     pub links_only : (call : Call) → bears call ≡ none → Less (is_linked h l) v.marks (row p call found hand v).marks
