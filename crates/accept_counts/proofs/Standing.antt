@@ -7,9 +7,8 @@ use lib.ListN.{get_elem?}
 use Rattle.seat_programs.specs.brpc_model.specs.Items.{Item}
 use Rattle.seat_programs.specs.brpc_model.specs.Operations.{Turn}
 use Rattle.sock_model.specs.Layout.{open_index}
-use Rattle.corr_core.specs.Word.{Parts}
+use Rattle.corr_core.specs.Word.{Parts, id_first, id_slot}
 use Rattle.corr_core.proofs.Notes.{at_length}
-use Rattle.seat_programs.specs.Asides.{id_first, id_slot}
 use Rattle.seat_programs.specs.Cores.{Core, SeatState}
 use Rattle.seat_programs.specs.Heads.{Head, Exit, Reading, Sought, First, Version, Locks, Joins, Opens, Reads, Discards}
 use Rattle.seat_programs.specs.Posts.{is_sought}

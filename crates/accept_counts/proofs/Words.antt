@@ -5,7 +5,7 @@ use native.Mathlib.Decide.{ℕ_discrete}
 use mathlib.Core.Option.{Option, some, some-injective}
 use lib.ListN.{get_elem?}
 use Rattle.sock_words.specs.declared.plain.Plan.{Plan}
-use Rattle.corr_core.specs.Word.{Parts, parts, made_word, locked_word, posted_word, unlocked_word, free_word}
+use Rattle.corr_core.specs.Word.{Parts, parts, made_word, locked_word, posted_word, unlocked_word, free_word, call_id, id_slot, id_first}
 use Rattle.corr_core.specs.declared.marks.Plan.{Plan as IdPlan}
 use Rattle.corr_core.specs.declared.marks.Hand.TheVariants.{Full}
 use Rattle.corr_core.specs.declared.marks.Token.TheVariants.{Claimed}
@@ -16,7 +16,7 @@ use Rattle.call_causes.specs.Below.id_runs.specs.Held.{IdView, id_state, HasOne,
 use Rattle.call_causes.specs.Below.id_runs.specs.Goes.{SoundIds, FindsId}
 use Rattle.call_causes.specs.Below.id_runs.proofs.Keeps.{parts_packed}
 use Rattle.sock_message.specs.Asked.{Asked}
-use Rattle.seat_programs.specs.Asides.{Step, Found, ClaimId, MakeId, StoreCall, StoreAt, LockId, PostId, UnlockId, EndId, FreeId, TakeBytes, Taking, Bytes, call_id, id_slot, id_first}
+use Rattle.seat_programs.specs.Asides.{Step, Found, ClaimId, MakeId, StoreCall, StoreAt, LockId, PostId, UnlockId, EndId, FreeId, TakeBytes, Taking, Bytes}
 use Rattle.seat_programs.specs.Beside.{found_in, calls_after}
 use Rattle.seat_programs.specs.Cores.{Core}
 use Rattle.seat_programs.specs.Posts.{packed, advance_of}

@@ -7,8 +7,8 @@ use Rattle.sock_words.specs.Words.{at_word_first, at_word_slot, at_word_link, at
 use Rattle.seat_programs.specs.brpc_model.specs.Causes.{HasFault}
 use Rattle.seat_programs.specs.brpc_model.specs.Items.{Item}
 use Rattle.seat_programs.specs.brpc_model.specs.Operations.{Turn}
-use Rattle.corr_core.specs.Word.{error_of}
-use Rattle.seat_programs.specs.Asides.{Step, Found, StoreAt, LoadAt, Taking, call_id}
+use Rattle.corr_core.specs.Word.{error_of, call_id}
+use Rattle.seat_programs.specs.Asides.{Step, Found, StoreAt, LoadAt, Taking}
 use Rattle.seat_programs.specs.Beside.{found_in}
 use Rattle.seat_programs.specs.Programs.{Program, Aside}
 use Rattle.seat_programs.specs.Cores.{Calls, Core}

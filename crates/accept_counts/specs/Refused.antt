@@ -9,9 +9,9 @@ use Rattle.sock_words.specs.Words.{at_word, socket_id_slot, socket_id_version, v
 use Rattle.sock_model.specs.declared.chain.Heading.{Heading}
 use Rattle.seat_programs.specs.brpc_model.specs.Items.{Item}
 use Rattle.seat_programs.specs.brpc_model.specs.Operations.{Turn}
-use Rattle.corr_core.specs.Word.{parts, error_of}
+use Rattle.corr_core.specs.Word.{parts, error_of, call_id, id_slot, id_first}
 use Rattle.sock_message.specs.Asked.{Asked, name_of}
-use Rattle.seat_programs.specs.Asides.{Step, Found, PutCall, StoreAt, PostId, call_id, id_slot, id_first}
+use Rattle.seat_programs.specs.Asides.{Step, Found, PutCall, StoreAt, PostId}
 use Rattle.seat_programs.specs.Calls.{Call, AddRef, LoadName, LookWord, LoadCode, ClaimRequest, DropPlace}
 use Rattle.seat_programs.specs.Heads.{Head, Exit, Retry, Posts, Unlocks, Locks, Reads}
 use Rattle.seat_programs.specs.Writings.{Holder, Writing, Puts}

@@ -7,7 +7,7 @@ use Rattle.sock_words.specs.declared.plain.Plan.{Plan}
 use Rattle.corr_core.specs.declared.marks.Plan.{Plan as IdPlan}
 use Rattle.seat_programs.specs.id_rule.specs.Lawful.{call_index}
 use Rattle.sock_message.specs.Asked.{Asked}
-use Rattle.seat_programs.specs.Asides.{PutCall, StoreCall, Found, call_id, id_slot}
+use Rattle.seat_programs.specs.Asides.{PutCall, StoreCall, Found}
 use Rattle.seat_programs.specs.Cores.{Core, SeatState}
 use Rattle.seat_programs.specs.Programs.{Program, Aside}
 use Rattle.own_decisions.specs.Below.programs_allowed.specs.program_steps.specs.Sound.{first_step}
@@ -20,6 +20,7 @@ use Rattle.own_decisions.specs.Below.call_stories.specs.Stories.{SlotFits, CallS
 use Rattle.own_decisions.specs.Below.story_steps.proofs.BirthTicks.{two_of, one_call}
 use Rattle.own_decisions.specs.Below.story_steps.proofs.Firsts.{MayFirst, may_first}
 use Rattle.own_decisions.specs.accept_counts.specs.Counts.{word_of_id}
+use Rattle.corr_core.specs.Word.{call_id, id_slot}
 
 module _ (q : IdPlan) where
   -- the word of the call has the id

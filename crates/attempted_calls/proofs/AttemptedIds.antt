@@ -4,7 +4,6 @@ use Rattle.sock_words.specs.declared.plain.Plan.{Plan}
 use Rattle.corr_core.specs.declared.marks.Plan.{Plan as IdPlan}
 use Rattle.seat_programs.specs.brpc_model.specs.Items.{Item}
 use Rattle.seat_programs.specs.brpc_model.specs.Operations.{Turn}
-use Rattle.seat_programs.specs.Asides.{call_id}
 use Rattle.seat_programs.specs.Cores.{Core}
 use Rattle.seat_programs.specs.Ticks.{Moment, quiet, ticked}
 use Rattle.seat_programs.specs.Tasks.{plan_of, id_plan_of}
@@ -13,6 +12,7 @@ use Rattle.own_decisions.specs.Below.programs_allowed.specs.program_walks.proofs
 use Rattle.own_decisions.specs.Below.call_stories.specs.Lists.{advanced_at}
 use Rattle.own_decisions.specs.accept_counts.specs.Counts.{word_of_id}
 use Rattle.attempted_calls.proofs.AttemptedWords.{Rise}
+use Rattle.corr_core.specs.Word.{call_id}
 
 -- the tick advances the call of this id alone
 abbrev pub AdvancesId : (ℕ → ℕ) → Core → Moment → ℕ → Type 0

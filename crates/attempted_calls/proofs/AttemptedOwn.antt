@@ -11,7 +11,7 @@ use Rattle.own_decisions.specs.Below.chain_steps.proofs.Lists.{at_length}
 use Rattle.sock_words.specs.declared.plain.Plan.{Plan}
 use Rattle.sock_model.specs.declared.home.Home.{Home}
 use Rattle.sock_model.specs.declared.view.View.{View}
-use Rattle.corr_core.specs.Word.{parts}
+use Rattle.corr_core.specs.Word.{parts, call_id}
 use Rattle.corr_core.specs.Law.{Births, Local, Stands, vacant, retired, claimed, opened, locked, leaving}
 use Rattle.corr_core.specs.declared.marks.Plan.{Plan as IdPlan}
 use Rattle.corr_core.specs.declared.marks.Hand.{Hand}
@@ -25,7 +25,7 @@ use Rattle.seat_programs.specs.id_rule.proofs.Frames.{token_here}
 use Rattle.own_decisions.specs.Below.id_runs.specs.Held.{IdView, MayId, HasOne, id_state, id_row, one, by_token}
 use Rattle.own_decisions.specs.Below.id_runs.specs.Goes.{FitsRetryId, IdGoesOn, SoundIds, IsFittingIds}
 use Rattle.own_decisions.specs.Below.id_runs.proofs.Steps.{finds_ids, no_call}
-use Rattle.seat_programs.specs.Asides.{Step, Found, ClaimId, PutCall, MakeId, StoreCall, StoreAt, LockId, PostId, UnlockId, EndId, FreeId, TakeCall, TakeBytes, Taking, Bytes, call_id}
+use Rattle.seat_programs.specs.Asides.{Step, Found, ClaimId, PutCall, MakeId, StoreCall, StoreAt, LockId, PostId, UnlockId, EndId, FreeId, TakeCall, TakeBytes, Taking, Bytes}
 use Rattle.seat_programs.specs.Heads.{Exit, Unlocks}
 use Rattle.sock_message.specs.Asked.{Asked}
 use Rattle.seat_programs.specs.Beside.{found_in, calls_after}

@@ -9,12 +9,12 @@ use Rattle.sock_words.specs.Words.{at_word}
 use Rattle.sock_model.specs.declared.view.View.{View}
 use Rattle.seat_programs.specs.brpc_model.specs.Items.{Item}
 use Rattle.seat_programs.specs.brpc_model.specs.Operations.{Turn}
-use Rattle.corr_core.specs.Word.{Parts}
+use Rattle.corr_core.specs.Word.{Parts, call_id, id_slot, id_first}
 use Rattle.corr_core.specs.declared.marks.Plan.{Plan as IdPlan}
 use Rattle.seat_programs.specs.id_rule.specs.Lawful.{call_index}
 use Rattle.own_decisions.specs.Below.id_runs.proofs.Opening.{unused}
 use Rattle.sock_message.specs.Asked.{Asked}
-use Rattle.seat_programs.specs.Asides.{StoreCall, StoreAt, call_id, id_slot, id_first}
+use Rattle.seat_programs.specs.Asides.{StoreCall, StoreAt}
 use Rattle.seat_programs.specs.Calls.{Call, LoadName, FindLink, ClaimRequest}
 use Rattle.seat_programs.specs.Clients.{ending_of}
 use Rattle.seat_programs.specs.Cores.{Core, with_seat}

@@ -25,7 +25,7 @@ use Rattle.seat_programs.specs.id_rule.specs.Lawful as ids
 use Rattle.own_decisions.specs.Below.id_runs.specs.Held.{IdView, MayId}
 use Rattle.own_decisions.specs.Below.id_runs.specs.Goes.{FitsRetryId, FitsSock, SoundIds, IsFittingIds}
 use Rattle.own_decisions.specs.Below.id_runs.proofs.Steps.{finds_ids}
-use Rattle.seat_programs.specs.Asides.{Step, Found, ClaimId, PutCall, MakeId, StoreCall, StoreAt, LoadAt, LockId, PostId, UnlockId, EndId, FreeId, TakeCall, TakeBytes, Taking, Bytes, id_slot, id_first}
+use Rattle.seat_programs.specs.Asides.{Step, Found, ClaimId, PutCall, MakeId, StoreCall, StoreAt, LoadAt, LockId, PostId, UnlockId, EndId, FreeId, TakeCall, TakeBytes, Taking, Bytes}
 use Rattle.sock_message.specs.Asked.{Asked, name_of}
 use Rattle.seat_programs.specs.Beside.{found_in, calls_after, more_given}
 use Rattle.seat_programs.specs.Calls.{Call, StoreName, LoadName, FindLink, ClaimRequest, PutMessage, Unconnect, SwapHead}
@@ -59,6 +59,7 @@ use Rattle.attempted_calls.proofs.EndedTrails.{Of, NoCall, Makes, Knows, Trail, 
 use Rattle.own_decisions.specs.accept_counts.proofs.SeatFacts.{seat_facts, tick_moves}
 use Rattle.attempted_calls.proofs.EndedPrograms.{follows_round, block_goes, retry_goes}
 use Rattle.own_decisions.specs.Below.script_facts.proofs.Lists.{all_map}
+use Rattle.corr_core.specs.Word.{id_slot, id_first}
 
 -- ## First steps
 

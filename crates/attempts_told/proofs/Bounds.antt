@@ -14,7 +14,7 @@ use Rattle.call_whys.specs.Below.SockRule.Letter.{Letter}
 use Rattle.call_whys.specs.Below.CallTable.DecisionVariants as decisions
 use Rattle.seat_programs.specs.declared.task.Op.{Op}
 use Rattle.seat_programs.specs.declared.task.Task.{Task}
-use Rattle.corr_core.specs.Word.{Parts, parts}
+use Rattle.corr_core.specs.Word.{Parts, parts, id_slot, id_first}
 use Rattle.corr_core.specs.Law.{total, pair, is_attempt}
 use Rattle.corr_core.specs.declared.marks.Note.{Note}
 use Rattle.corr_core.specs.declared.marks.Note.TheVariants.{Made, Ended, Locker, Queued, Attempt}
@@ -30,7 +30,7 @@ use Rattle.corr_id.specs.declared.posts.Posted.{Posted}
 use Rattle.corr_id.specs.declared.posts.Posted.TheVariants.{Locked as HasLock, Queued as IsQueued}
 use Rattle.corr_id.specs.declared.unlocks.Unlocked.{Unlocked}
 use Rattle.corr_id.specs.declared.unlocks.Unlocked.TheVariants.{Open, Next}
-use Rattle.corr_id.specs.Calls.{Did, Quiet, GotLock, Became, Found, one, is_saw, advance_note, slot_of, version_of, error_in}
+use Rattle.corr_id.specs.Calls.{Did, Quiet, GotLock, Became, Found, one, is_saw, advance_note, error_in}
 use Rattle.corr_id.specs.Posts.{PostOk}
 use Rattle.corr_id.specs.Unlocks.{UnlockOk}
 use Rattle.call_whys.specs.Below.CallErrors.Retry.{Retry}
@@ -124,7 +124,7 @@ unmoved_ended {n} at f v w b = unmoved_one at v w [] (Ended f n) (λ g m. refl) 
 
 pub unmoved_post : (slots : ℕ) (v w : View Asked) (id code : ℕ) (attempt : Maybe ℕ) (answer : Posted Asked) → PostOk slots v w id code attempt answer → Unmoved v w
 unmoved_post slots v w id code attempt (HasLock k) p = unmoved_got k.slot p.4.0 v w (parts k.word.0) k.content p.4.1
-unmoved_post slots v w id code attempt IsQueued p = unmoved_one (slot_of id) v w _ (Queued (version_of id) (error_in code attempt)) (λ f n. refl) p.0
+unmoved_post slots v w id code attempt IsQueued p = unmoved_one (id_slot id) v w _ (Queued (id_first id) (error_in code attempt)) (λ f n. refl) p.0
 unmoved_post slots v w id code attempt _ p = unmoved_quiet v w p.0
 
 -- ## Advances
@@ -241,7 +241,7 @@ module _ (slots : ℕ) where
 
   post : (v w : View Asked) (id code : ℕ) (attempt : Maybe ℕ) (answer : Posted Asked) → PostOk slots v w id code attempt answer → Bounds v w
   post v w id code attempt (HasLock k) p = bounds_got k.slot p.4.0 v w (parts k.word.0) k.content p.4.1
-  post v w id code attempt IsQueued p = bounds_one (slot_of id) v w _ (Queued (version_of id) (error_in code attempt)) (λ f n. refl) p.0
+  post v w id code attempt IsQueued p = bounds_one (id_slot id) v w _ (Queued (id_first id) (error_in code attempt)) (λ f n. refl) p.0
   post v w id code attempt _ p = bounds_quiet v w p.0
 
   handled : (id code : ℕ) (attempt : Maybe ℕ) (answer : Posted Asked) (u : View Asked) (s t : CallStand) → PostOk slots u s.view id code attempt answer → Handled code attempt answer s t → Here s t
@@ -278,7 +278,7 @@ module _ (q : id_plan.Plan) where
     attempted_grows = attempted_by q all_grow state p (kept q.slots true)
 
     pub made_for : (asked : Asked) (id : ℕ) (socket : SocketId) (s t : Both) → MadeFor state p q asked id socket s t → Grown s.calls t.calls
-    made_for asked id socket s t m = bounds_then q.slots s.calls.view m.view t.calls.view (bounds_one q.slots (slot_of id) s.calls.view m.view [] (Made (version_of id) asked.range asked) (λ f n. refl) m.made.did)
+    made_for asked id socket s t m = bounds_then q.slots s.calls.view m.view t.calls.view (bounds_one q.slots (id_slot id) s.calls.view m.view [] (Made (id_first id) asked.range asked) (λ f n. refl) m.made.did)
         (bounds_noted q.slots m.view t.calls.view (ap (λ (y : View Asked). y.notes) m.noted))
 
     locked : (r : Retry) (k : IdLock Asked) (v w : View Asked) → GotBy q.slots r.id k v w → Bounds q.slots v w

@@ -13,7 +13,7 @@ use Rattle.sock_words.specs.declared.socket_id.SocketId.{SocketId}
 use Rattle.sock_words.specs.declared.outcome.Outcome.{Outcome}
 use Rattle.seat_programs.specs.declared.task.Op.{Op}
 use Rattle.seat_programs.specs.declared.task.Task.{Task}
-use Rattle.corr_core.specs.Word.{Parts, parts}
+use Rattle.corr_core.specs.Word.{Parts, parts, id_slot, id_first}
 use Rattle.corr_core.specs.Law.{total, is_attempt, is_ended}
 use Rattle.corr_core.specs.declared.marks.Note.{Note}
 use Rattle.corr_core.specs.declared.marks.Note.TheVariants.{Made, Ended, Attempt}
@@ -29,7 +29,7 @@ use Rattle.corr_id.specs.declared.posts.Posted.{Posted}
 use Rattle.corr_id.specs.declared.posts.Posted.TheVariants.{Locked as HasLock}
 use Rattle.corr_id.specs.declared.unlocks.Unlocked.{Unlocked}
 use Rattle.corr_id.specs.declared.unlocks.Unlocked.TheVariants.{Open, Next}
-use Rattle.corr_id.specs.Calls.{Did, one, advance_note, slot_of, version_of}
+use Rattle.corr_id.specs.Calls.{Did, one, advance_note}
 use Rattle.corr_id.specs.Unlocks.{UnlockOk}
 use Rattle.corr_id.proofs.Seats.{total_append}
 use Rattle.call_whys.specs.Below.CallErrors.Retry.{Retry}
@@ -190,8 +190,8 @@ module _ {O : Type 0} (state : O → OutState) (p : Plan) (q : id_plan.Plan) whe
 
   made_awaited : (asked : Asked) (id : ℕ) (socket : SocketId) (s t : Both) → MadeFor state p q asked id socket s t → Awaited s.calls t.calls
   made_awaited asked id socket s t m = by_view s.calls t.calls (ap (λ (b : Books). b.retries) m.books) (λ i f n. (
-      let a = did_total (is_attempt f n) (attempt_silent f n) (slot_of id) s.calls.view m.view [] (one (slot_of id) (Made (version_of id) asked.range asked)) m.made.did i in
-      let b = none_of_one (is_attempt f n) (attempt_silent f n) (slot_of id) (Made (version_of id) asked.range asked) refl i in
+      let a = did_total (is_attempt f n) (attempt_silent f n) (id_slot id) s.calls.view m.view [] (one (id_slot id) (Made (id_first id) asked.range asked)) m.made.did i in
+      let b = none_of_one (is_attempt f n) (attempt_silent f n) (id_slot id) (Made (id_first id) asked.range asked) refl i in
       let c = ap (λ (v : View Asked). advances i f n v) m.noted in omega arith))
 
   acted_awaited : {g : Ghosts O} (number : ℕ) (op : Op) (by : Maybe Outcome) (s t : Stand g) → Acted state p q number op by s t → Awaited s.calls t.calls
@@ -207,7 +207,7 @@ module _ {O : Type 0} {g : Ghosts O} {state : O → OutState} {p : Plan} {q : id
   -- a retry that was taken out was one of an attempt to which the id had advanced; and what the seat noted by it, it has still
   abbrev pub Founded : View Asked → Deed g state p q → Type 0
   Founded v (operates x by s t a) = Unit {0}
-  Founded v (retries r s t by) = (0 < advances (slot_of r.id) (version_of r.id) r.attempt s.calls.view) × Grows s.calls.view t.calls.view × Grows t.calls.view v
+  Founded v (retries r s t by) = (0 < advances (id_slot r.id) (id_first r.id) r.attempt s.calls.view) × Grows s.calls.view t.calls.view × Grows t.calls.view v
 
   founded_stays : (v w : View Asked) → Grows v w → (d : Deed g state p q) → Founded v d → Founded w d
   founded_stays v w grows (operates x by s t a) h = tt
@@ -245,9 +245,9 @@ module _ {O : Type 0} {g : Ghosts O} {state : O → OutState} {p : Plan} {q : id
         each = λ h. ((noted h, a.grows, (λ i f. omega arith)), tt);
       }
     where
-      noted : Backed u.calls → 0 < advances (slot_of r.id) (version_of r.id) r.attempt u.calls.view
+      noted : Backed u.calls → 0 < advances (id_slot r.id) (id_first r.id) r.attempt u.calls.view
       noted h =
-          let slot : ℕ = slot_of r.id in let version : ℕ = version_of r.id in
+          let slot : ℕ = id_slot r.id in let version : ℕ = id_first r.id in
           let whole : slot * 4294967296 + version ≡ r.id = div-add-mod' r.id 4294967296 in
           let y = ap (total (is_retry (slot * 4294967296 + version) r.attempt)) waits in
           let one_ = pair-at (slot * 4294967296 + version) r.attempt r.id r.attempt (sym whole) refl in

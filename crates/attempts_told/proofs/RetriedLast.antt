@@ -10,7 +10,7 @@ use Rattle.sock_words.specs.declared.plain.Plan.{Plan}
 use Rattle.sock_words.specs.declared.place_word.PlaceWord.{PlaceWord}
 use Rattle.sock_words.specs.declared.vref.Vref.{Vref}
 use Rattle.seat_programs.specs.declared.task.Task.{Task}
-use Rattle.corr_core.specs.Word.{Parts, parts}
+use Rattle.corr_core.specs.Word.{Parts, parts, id_slot, id_first}
 use Rattle.corr_core.specs.Law.{total, is_attempt, is_advance, is_ended}
 use Rattle.corr_core.specs.declared.marks.Note.{Note}
 use Rattle.corr_core.specs.declared.marks.Note.TheVariants.{Made, Attempt}
@@ -21,7 +21,7 @@ use Rattle.corr_core.proofs.Notes.{only-at, pair-at, pair-else, pair-else_first,
 use Rattle.id_rule.specs.Lawful.{notes_of}
 use Rattle.sock_message.specs.Asked.{Asked}
 use Rattle.corr_id.specs.declared.calls.IdLock.{IdLock}
-use Rattle.corr_id.specs.Calls.{Found, FoundUpTo, OutOf, is_saw, slot_of, version_of}
+use Rattle.corr_id.specs.Calls.{Found, FoundUpTo, OutOf, is_saw}
 use Rattle.call_whys.specs.Below.RpcClient.Told.{Told}
 use Rattle.call_whys.specs.Below.CallErrors.Retry.{Retry}
 use Rattle.call_whys.specs.Below.CallAttempts.Both.{Both}
@@ -94,7 +94,7 @@ module _ {O : Type 0} {g : Ghosts O} {state : O → OutState} {readers : List (L
 
     module _ (j : ℕ) (c : Client g state p q) (at : get_elem? (all run) j ≡ some c) where
       -- a lock by a version of the range is one of the range
-      same_first : (word : Retry) (l : IdLock Asked) (s u : Both) → Locked state p q word l s u → Grows u.calls.view (view_of c) → l.slot ≡ i → version_of word.id ≡ f → (parts l.word.0).first ≡ f
+      same_first : (word : Retry) (l : IdLock Asked) (s u : Both) → Locked state p q word l s u → Grows u.calls.view (view_of c) → l.slot ≡ i → id_first word.id ≡ f → (parts l.word.0).first ≡ f
       same_first word l s u locked grows slot version =
           let got = locked.got in
           let h : ℕ = (parts got.word).first in let w : ℕ = (parts got.word).range in
@@ -109,15 +109,15 @@ module _ {O : Type 0} {g : Ghosts O} {state : O → OutState} {readers : List (L
           (λ ge. omega (arith, ge, from, first_is, version))
 
       -- the word that was found without the id is a later one
-      not_gone : (x : Retry) (s t : Both) (found : ℕ) → slot_of x.id ≡ i → version_of x.id ≡ f → ((slots ≤ slot_of x.id) × (found ≡ 0)) ⊎ (Found (slot_of x.id) found t.calls.view × OutOf (parts found) (version_of x.id)) → Grows t.calls.view (view_of c) → version_of x.id < (parts found).first → ⊥
+      not_gone : (x : Retry) (s t : Both) (found : ℕ) → id_slot x.id ≡ i → id_first x.id ≡ f → ((slots ≤ id_slot x.id) × (found ≡ 0)) ⊎ (Found (id_slot x.id) found t.calls.view × OutOf (parts found) (id_first x.id)) → Grows t.calls.view (view_of c) → id_first x.id < (parts found).first → ⊥
       not_gone x s t found slot version (inl none_) grows later = let a = none_.0 in omega (arith, a, slot, inside)
       not_gone x s t found slot version (inr seen) grows later =
           let here : 0 < total (is_saw found) (notes_of i (view_of c).notes) = subst (λ (y : ℕ). 0 < total (is_saw found) (notes_of y (view_of c).notes)) slot
-          (let a = seen.0 in let b = grows (slot_of x.id) (is_saw found) in omega (arith, a, b)) in
+          (let a = seen.0 in let b = grows (id_slot x.id) (is_saw found) in omega (arith, a, b)) in
           let a = latest j c at found here in omega (arith, a, later, version)
 
       -- another error that was handled would have ended the call, or advanced it further
-      not_overtaken : (x : Retry) (l : IdLock Asked) (s u t : Both) → Locked state p q x l s u → Overtaken state p q x l u t → x.attempt ≡ n → slot_of x.id ≡ i → version_of x.id ≡ f → Grows t.calls.view (view_of c) → 0 < advances (slot_of x.id) (version_of x.id) x.attempt s.calls.view → ⊥
+      not_overtaken : (x : Retry) (l : IdLock Asked) (s u t : Both) → Locked state p q x l s u → Overtaken state p q x l u t → x.attempt ≡ n → id_slot x.id ≡ i → id_first x.id ≡ f → Grows t.calls.view (view_of c) → 0 < advances (id_slot x.id) (id_first x.id) x.attempt s.calls.view → ⊥
       not_overtaken x l s u t locked o attempt slot version grows noted = by (decided_moves o.decided)
         where
           through : Grows u.calls.view t.calls.view
@@ -136,7 +136,7 @@ module _ {O : Type 0} {g : Ghosts O} {state : O → OutState} {readers : List (L
           reached : x.attempt ≤ (parts l.word.0).attempt
           reached = locked.got.got.reached x.attempt (
               let here : 0 < total (is_attempt (parts l.word.0).first x.attempt) (notes_of l.slot s.calls.view.notes) =
-              subst (λ (y : ℕ). 0 < total (is_attempt y x.attempt) (notes_of l.slot s.calls.view.notes)) (sym (first_is ∙ sym version)) (subst (λ (y : ℕ). 0 < total (is_attempt (version_of x.id) x.attempt) (notes_of y s.calls.view.notes)) (sym locked.got.slot_is) noted) in
+              subst (λ (y : ℕ). 0 < total (is_attempt y x.attempt) (notes_of l.slot s.calls.view.notes)) (sym (first_is ∙ sym version)) (subst (λ (y : ℕ). 0 < total (is_attempt (id_first x.id) x.attempt) (notes_of y s.calls.view.notes)) (sym locked.got.slot_is) noted) in
               let a = locked.got.got.did.grows l.slot (is_attempt (parts l.word.0).first x.attempt) in omega (arith, here, a))
 
           next_attempt : n ≤ (parts o.next.word.0).attempt
@@ -156,7 +156,7 @@ module _ {O : Type 0} {g : Ghosts O} {state : O → OutState} {readers : List (L
       by_deed h (operates x by s t a) there some_ founded = absurd (omega (arith, some_))
       by_deed h (retries x s t (had_ended e)) there some_ founded =
           let is = retry_is id n x some_ in let at_ = id_parts x.id i f is.0 low in
-          let advanced = attempts_few (version_of x.id) x.attempt (notes_of (slot_of x.id) s.calls.view.notes) in let noted = founded.0 in
+          let advanced = attempts_few (id_first x.id) x.attempt (notes_of (id_slot x.id) s.calls.view.notes) in let noted = founded.0 in
           absurd (not_gone x s t e.gone.found at_.0 at_.1 e.gone.cause founded.2 (e.gone.later (let z = at_.0 in omega (arith, z, inside)) (omega (arith, advanced, noted))))
       by_deed h (retries x s t (overtaken l u locked o)) there some_ founded =
           let is = retry_is id n x some_ in let at_ = id_parts x.id i f is.0 low in

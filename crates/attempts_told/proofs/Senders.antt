@@ -29,7 +29,7 @@ use Rattle.corr_core.specs.declared.marks.View.{View}
 use Rattle.corr_core.proofs.Notes.{pair-same, pair-else, pair-else_first, total_some}
 use Rattle.id_rule.specs.Lawful.{notes_of}
 use Rattle.sock_message.specs.Asked.{Asked, frame_of}
-use Rattle.corr_id.specs.Calls.{one, slot_of, version_of}
+use Rattle.corr_id.specs.Calls.{one}
 use Rattle.call_whys.specs.Below.CallErrors.Books.{CallStand}
 use Rattle.call_whys.specs.Below.CallAttempts.Both.{Both}
 use Rattle.call_whys.specs.Below.CallAttempts.Letters.{letter_for}
@@ -62,6 +62,7 @@ use Rattle.call_whys.specs.call_places.specs.sock_deeds.proofs.Flats.{flat_from,
 use Rattle.call_whys.specs.call_places.specs.sock_deeds.proofs.Places.{to_slice, map_back, map_there}
 use Rattle.call_whys.specs.call_places.specs.script_facts.proofs.Lists.{contains_from}
 use Rattle.attempts_told.proofs.Bounds.{attempted_grows, acted_grows}
+use Rattle.corr_core.specs.Word.{id_slot, id_first}
 
 -- ## Frames
 
@@ -99,7 +100,7 @@ Grows v w = (i : ℕ) (f : Note Asked → ℕ) → total f (notes_of i v.notes) 
 module _ {O : Type 0} (g : Ghosts O) (state : O → OutState) (p : Plan) (q : id_plan.Plan) where
   -- the id of a call that has begun was made for its operation
   abbrev pub HasMade : View Asked → (number : ℕ) (op : Op) (by : Option Outcome) (s t : Stand g) → Acted state p q number op by s t → Type 0
-  HasMade v number (ops.Call asked) None s t a = (slot_of a.0 < q.slots) × (0 < total (is_made_for (version_of a.0) asked.operation) (notes_of (slot_of a.0) v.notes))
+  HasMade v number (ops.Call asked) None s t a = (id_slot a.0 < q.slots) × (0 < total (is_made_for (id_first a.0) asked.operation) (notes_of (id_slot a.0) v.notes))
   HasMade v number _ _ s t a = Unit {0}
 
   -- each deed of an operation is one of these tasks
@@ -108,7 +109,7 @@ module _ {O : Type 0} (g : Ghosts O) (state : O → OutState) (p : Plan) (q : id
   IsNoted xs v (retries r s t by) = Unit {0}
 
   made_stays : (v w : View Asked) → Grows v w → (number : ℕ) (op : Op) (by : Option Outcome) (s t : Stand g) (a : Acted state p q number op by s t) → HasMade v number op by s t a → HasMade w number op by s t a
-  made_stays v w grows number (ops.Call asked) None s t a h = (h.0, (let x = grows (slot_of a.0) (is_made_for (version_of a.0) asked.operation) in let y = h.1 in omega arith))
+  made_stays v w grows number (ops.Call asked) None s t a h = (h.0, (let x = grows (id_slot a.0) (is_made_for (id_first a.0) asked.operation) in let y = h.1 in omega arith))
   made_stays v w grows number _ _ s t a h = tt
 
   noted_stays : (xs : List Task) (v w : View Asked) → Grows v w → (d : Deed g state p q) → IsNoted xs v d → IsNoted xs w d
@@ -118,10 +119,10 @@ module _ {O : Type 0} (g : Ghosts O) (state : O → OutState) (p : Plan) (q : id
   made_now : (number : ℕ) (op : Op) (by : Option Outcome) (s t : Stand g) (a : Acted state p q number op by s t) → HasMade t.calls.view number op by s t a
   made_now number (ops.Call asked) None s t a =
       let b = a.1 in let m = b.made_for in
-      let i = slot_of a.0 in let f : Note Asked → ℕ = is_made_for (version_of a.0) asked.operation in
-      let x = did_total f (made_silent (version_of a.0) asked.operation) i s.calls.view m.view [] (one i (Made (version_of a.0) asked.range asked)) m.made.did i in
-      let y = counted_here f i (Made (version_of a.0) asked.range asked) in
-      let z = pair-same (version_of a.0) asked.operation in
+      let i = id_slot a.0 in let f : Note Asked → ℕ = is_made_for (id_first a.0) asked.operation in
+      let x = did_total f (made_silent (id_first a.0) asked.operation) i s.calls.view m.view [] (one i (Made (id_first a.0) asked.range asked)) m.made.did i in
+      let y = counted_here f i (Made (id_first a.0) asked.range asked) in
+      let z = pair-same (id_first a.0) asked.operation in
       let e = ap (λ (v : View Asked). total f (notes_of i v.notes)) m.noted in
       let w = (attempted_grows q state p b.socket _ b.at (both_of t) b.attempted).grows i f in
       (m.made.inside, omega arith)
@@ -197,10 +198,10 @@ made_for f o _ h = absurd (omega arith)
 pub made_for_there : (f o : ℕ) (ns : List (Note Asked)) → 0 < total (is_made_for f o) ns → (r : ℕ) × (c : Asked) × (k : ℕ) × (get_elem? ns k ≡ some (Made f r c)) × (c.operation ≡ o)
 made_for_there f o ns some_ = let l = total_some (is_made_for f o) ns some_ in let n = made_for f o l.1 l.3 in (n.0, n.1, l.0, l.2 ∙ ap some n.2, n.3)
 
-id_made : (slots : ℕ) (notes : List (Noted Asked)) (o id : ℕ) → slot_of id < slots → 0 < total (is_made_for (version_of id) o) (notes_of (slot_of id) notes) → IsIdOf slots notes o id
-id_made slots notes o id inside some_ = let m = made_for_there (version_of id) o (notes_of (slot_of id) notes) some_ in record {
-  slot = slot_of id;
-  first = version_of id;
+id_made : (slots : ℕ) (notes : List (Noted Asked)) (o id : ℕ) → id_slot id < slots → 0 < total (is_made_for (id_first id) o) (notes_of (id_slot id) notes) → IsIdOf slots notes o id
+id_made slots notes o id inside some_ = let m = made_for_there (id_first id) o (notes_of (id_slot id) notes) some_ in record {
+  slot = id_slot id;
+  first = id_first id;
   inside = inside;
   low = version_low id;
   id_is = sym (div-add-mod' id 4294967296);
@@ -247,7 +248,7 @@ module _ {O : Type 0} {g : Ghosts O} {state : O → OutState} {readers : List (L
     pub id : ℕ
     pub its : IsIdOf slots notes a.operation id
     pub bytes : a.bytes ≡ frame_of asked id a.attempt
-    pub advanced : (a.attempt ≡ 0) ⊎ (0 < total (is_attempt (version_of id) a.attempt) (notes_of (slot_of id) notes))
+    pub advanced : (a.attempt ≡ 0) ⊎ (0 < total (is_attempt (id_first id) a.attempt) (notes_of (id_slot id) notes))
 
   -- or it is that of a send
   pub data SentBy (a : Accepted) : Type 0 where
@@ -255,7 +256,7 @@ module _ {O : Type 0} {g : Ghosts O} {state : O → OutState} {readers : List (L
     of_call : IsOwnAttempt a → SentBy a
 
   own_attempt : (client : ℕ) (asked : Asked) (id n : ℕ) (e : Entry) → n ≤ 6 → IsOperation tasks_all outcomes client asked.operation (ops.Call asked) → IsIdOf slots notes asked.operation id → IsFrame asked id n e
-      → (n ≡ 0) ⊎ (0 < total (is_attempt (version_of id) n) (notes_of (slot_of id) notes)) → IsOwnAttempt (accepted_of e)
+      → (n ≡ 0) ⊎ (0 < total (is_attempt (id_first id) n) (notes_of (id_slot id) notes)) → IsOwnAttempt (accepted_of e)
   own_attempt client asked id n e low is its f advanced =
       let place = f.place in
       let op_ : asked.operation ≡ (accepted_of e).operation = omega (arith, place, low) in
@@ -267,7 +268,7 @@ module _ {O : Type 0} {g : Ghosts O} {state : O → OutState} {readers : List (L
         id = id;
         its = subst (λ (o : ℕ). IsIdOf slots notes o id) op_ its;
         bytes = f.bytes ∙ ap (frame_of asked id) at;
-        advanced = subst (λ (m : ℕ). (m ≡ 0) ⊎ (0 < total (is_attempt (version_of id) m) (notes_of (slot_of id) notes))) at advanced;
+        advanced = subst (λ (m : ℕ). (m ≡ 0) ⊎ (0 < total (is_attempt (id_first id) m) (notes_of (id_slot id) notes))) at advanced;
       }
 
   -- by an operation of client j
@@ -282,7 +283,7 @@ module _ {O : Type 0} {g : Ghosts O} {state : O → OutState} {readers : List (L
   acted_sent j number (ops.Call asked) None s t a is own v made within i e at =
       let b = a.1 in
       let f = attempt_frame state p q asked a.0 0 zero-le b.socket b.at (both_of t) b.attempted i e at in
-      let id = id_made slots notes asked.operation a.0 made.0 (let x = within (slot_of a.0) (is_made_for (version_of a.0) asked.operation) in let y = made.1 in omega arith) in
+      let id = id_made slots notes asked.operation a.0 made.0 (let x = within (id_slot a.0) (is_made_for (id_first a.0) asked.operation) in let y = made.1 in omega arith) in
       let is_ = subst (λ (o : ℕ). IsOperation tasks_all outcomes j o (ops.Call asked)) (sym own) is in
       of_call (own_attempt j asked a.0 0 e (omega arith) is_ id f (inl refl))
   acted_sent j number (ops.Call asked) (Some by) s t a is own v made within i e at = none_there i e at
@@ -302,7 +303,7 @@ module _ {O : Type 0} {g : Ghosts O} {state : O → OutState} {readers : List (L
       let f = went_frame state p q l.content r.id r.attempt r.low _ _ t w.went i e in_it in
       let again = asked_there c.thread c.is k d 0 record { asked = l.content; attempt = r.attempt } there refl in
       let x = later j c at again.0 record { asked = l.content; attempt = r.attempt } again.1 in
-      of_call (own_attempt x.client l.content r.id r.attempt e r.low x.is its f (inr (let y = noted_among run notes have j c at (slot_of r.id) (is_attempt (version_of r.id) r.attempt) in omega arith)))
+      of_call (own_attempt x.client l.content r.id r.attempt e r.low x.is its f (inr (let y = noted_among run notes have j c at (id_slot r.id) (is_attempt (id_first r.id) r.attempt) in omega arith)))
 
   -- each message that a link accepted
   pub sent_by : (k : ℕ) (e : Entry) → get_elem? run.closed.ordered.log k ≡ some e → SentBy (accepted_of e)

@@ -20,7 +20,7 @@ use Rattle.seat_programs.specs.declared.task.Task.{Task}
 use Rattle.seat_programs.specs.Cores.{Core}
 use Rattle.seat_programs.specs.Told.{IsTask, Became}
 use Rattle.seat_programs.specs.ToldCalls.{Accepted, Order, Fixed, StandsAt, IsSent, OfCall}
-use Rattle.corr_core.specs.Word.{parts}
+use Rattle.corr_core.specs.Word.{parts, id_slot, id_first}
 use Rattle.corr_core.specs.Law.{total, is_made, is_attempt}
 use Rattle.corr_core.specs.declared.marks.Kept.{Kept}
 use Rattle.corr_core.specs.declared.marks.Note.{Note}
@@ -31,7 +31,7 @@ use Rattle.corr_core.specs.declared.marks.View.{View}
 use Rattle.corr_core.proofs.Notes.{only-at, pair-at, total_some}
 use Rattle.id_rule.specs.Lawful.{notes_of}
 use Rattle.sock_message.specs.Asked.{Asked, frame_of}
-use Rattle.corr_id.specs.Calls.{is_saw, slot_of, version_of}
+use Rattle.corr_id.specs.Calls.{is_saw}
 use Rattle.corr_id.specs.Closing.{Closing}
 use Rattle.call_whys.specs.Below.RpcClient.Told.{Told}
 use Rattle.call_whys.specs.Below.CallRun.Readers.{LinkReader}
@@ -170,14 +170,14 @@ module _ {O : Type 0} {g : Ghosts O} {state : O → OutState} {readers : List (L
   low_attempt : (a : Accepted) → (m : IsOwnAttempt run outcomes may notes laws have later a) → a.attempt ≤ last a.operation
   low_attempt a m = elim m.advanced [ inl first ↦ omega (arith, first) | inr noted ↦ by noted ]
     where
-      by : 0 < total (is_attempt (version_of m.id) a.attempt) (notes_of (slot_of m.id) notes) → a.attempt ≤ last a.operation
+      by : 0 < total (is_attempt (id_first m.id) a.attempt) (notes_of (id_slot m.id) notes) → a.attempt ≤ last a.operation
       by noted =
           let at = id_parts m.id m.its.slot m.its.first m.its.id_is m.its.low in
           let o : ℕ = a.operation in
           let here = term (is_made_for m.its.first o) (notes_of m.its.slot notes) m.its.place (Made m.its.first m.its.range m.its.asked) m.its.made in
           let pair_ = pair-at m.its.first o m.its.first m.its.asked.operation refl m.its.operation in
-          let same : total (is_made_for (version_of m.id) o) (notes_of (slot_of m.id) notes) ≡ total (is_made_for m.its.first o) (notes_of m.its.slot notes) = (λ i. total (is_made_for (at.1 i) o) (notes_of (at.0 i) notes)) in
-          none_further o notes (slot_of m.id) (version_of m.id) a.attempt notes (omega arith) noted
+          let same : total (is_made_for (id_first m.id) o) (notes_of (id_slot m.id) notes) ≡ total (is_made_for m.its.first o) (notes_of m.its.slot notes) = (λ i. total (is_made_for (at.1 i) o) (notes_of (at.0 i) notes)) in
+          none_further o notes (id_slot m.id) (id_first m.id) a.attempt notes (omega arith) noted
 
   module _ (fixed : Fixed) (gave : ℕ → List ℕ) (orders : ℕ → Order) (core : Core) (tells : ToldSockets p tasks_all outcomes fixed gave orders core)
       -- what the links accepted is in the log

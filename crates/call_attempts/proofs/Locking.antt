@@ -5,14 +5,14 @@ use mathlib.Core.Logic.{dite}
 use native.Mathlib.Decide.{ℕ_discrete}
 use Rattle.atomic_table.specs.Seated.{TableId}
 use Rattle.atomic_table.specs.declared.shared.Seat.{Seat}
-use Rattle.corr_core.specs.Word.{Parts, parts}
+use Rattle.corr_core.specs.Word.{Parts, parts, id_slot, id_first}
 use Rattle.corr_core.specs.declared.marks.Hand.TheVariants.{Empty}
 use Rattle.corr_core.specs.Law.{LAST}
 use Rattle.corr_core.specs.declared.marks.View.{View}
 use Rattle.id_rule.specs.Lawful.{tokens_in, with_kept}
 use Rattle.id_rule.specs.Plays.{LockFits}
 use Rattle.corr_id.specs.Seats.{Sits, Stays, IsFree}
-use Rattle.corr_id.specs.Calls.{slot_of, version_of, GotLock, MadeAs, Locks, Did, advance_note}
+use Rattle.corr_id.specs.Calls.{GotLock, MadeAs, Locks, Did, advance_note}
 use Rattle.corr_id.proofs.Testing.{FreeBut, did_free, did_but, sits_on}
 use Rattle.corr_id.specs.declared.calls.IdLock.{IdLock}
 use Rattle.sock_message.specs.Asked.{Asked}
@@ -20,14 +20,14 @@ use Rattle.call_errors.specs.Books.{LetGo}
 use Rattle.call_attempts.proofs.Leaving.{kept_free}
 
 -- no id is 0, and there is room for the versions of its attempts
-pub id_some : (id : ℕ) → 1 ≤ version_of id → id ≢ 0
+pub id_some : (id : ℕ) → 1 ≤ id_first id → id ≢ 0
 id_some id le e = omega arith
 
-pub id_short : (id n : ℕ) → slot_of id < 65536 → n ≤ 6 → id + n + 1 < 2 ^ 64
+pub id_short : (id n : ℕ) → id_slot id < 65536 → n ≤ 6 → id + n + 1 < 2 ^ 64
 id_short id n s l = omega arith
 
 pub made_free : (slots id r : ℕ) (c : Asked) (v w : View Asked) → MadeAs v w slots id r c → IsFree v → IsFree w
-made_free slots id r c v w m free = did_free (slot_of id) v w _ m.did (λ j n. free j)
+made_free slots id r c v w m free = did_free (id_slot id) v w _ m.did (λ j n. free j)
 
 -- its number was noted then
 pub noted_free : (z : TableId) (s t u : Seat (Maybe Asked) (View Asked)) (slots id r x word : ℕ) (c : Asked) → Sits z s → IsFree s.me.0 → Stays s t → MadeAs s.me.0 t.me.0 slots id r c → Stays t u → u.me.0 ≡ with_kept x true word t.me.0 → Sits z u × IsFree u.me.0

@@ -17,11 +17,11 @@ use Rattle.write_chain.specs.declared.entry.Refused.TheVariants as refused
 use Rattle.write_chain.specs.Sending.{Accepted, RefusedBy}
 use Rattle.corr_core.specs.declared.marks.Plan as id_plan
 use Rattle.id_rule.specs.Lawful.{at_index, with_kept}
-use Rattle.corr_id.specs.Calls.{slot_of, version_of}
 use Rattle.message_parts.specs.Parcels.{parcel_of}
 use Rattle.call_errors.specs.rpc_client.specs.Sending.{Returned}
 use Rattle.call_writes.specs.Sending.{SeenCalling}
 use Rattle.call_attempts.specs.Both.{Both, PostedFor}
+use Rattle.corr_core.specs.Word.{id_slot, id_first}
 
 -- the message of a refusal
 abbrev pub message_of : Refused → Letter
@@ -78,7 +78,7 @@ module _ {O : Type 0} (state : O → OutState) (p : Plan) (q : id_plan.Plan) (so
     pub none_later : NoneLater socket.0 s.socks
     pub link : ℕ
     pub link_of : LinkOf p link socket.0 has t.socks
-    pub stored : t.calls.view ≡ with_kept (at_index q msg.label.operation) true (packed_at (version_of msg.owner) (slot_of msg.owner) link msg.label.attempt) s.calls.view
+    pub stored : t.calls.view ≡ with_kept (at_index q msg.label.operation) true (packed_at (id_first msg.owner) (id_slot msg.owner) link msg.label.attempt) s.calls.view
     pub books : t.calls.books ≡ s.calls.books
 
   -- an attempt over the socket with this id

@@ -2,11 +2,11 @@
 use Rattle.std.specs.Prelude.{◌≡◌, ℕ, ◌<◌, ◌≤◌, Some}
 use Rattle.corr_core.specs.Law.{LAST}
 use Rattle.corr_core.specs.declared.marks.Plan.{Plan}
-use Rattle.corr_id.specs.Calls.{slot_of, version_of}
 use Rattle.sock_model.specs.declared.view.View.{View}
 use Rattle.call_errors.specs.declared.seats.CallSeat.{CallSeat}
 use Rattle.call_errors.specs.Books.{CallStand, stand_of, starving}
 use Rattle.call_errors.specs.Posting.{PostedBy}
+use Rattle.corr_core.specs.Word.{id_slot, id_first}
 
 -- what its seat of the sockets knows, and what it knows of calls
 pub record Both : Type 0 where
@@ -18,8 +18,8 @@ both v c = record { socks = v; calls = stand_of c }
 
 -- the id of a call in a slot of this table
 pub record IsCallId (q : Plan) (id : ℕ) : Type 0 where
-  pub inside : slot_of id < q.slots
-  pub low : version_of id < 67108864
+  pub inside : id_slot id < q.slots
+  pub low : id_first id < 67108864
 
 -- an error was posted to a call for one of its attempts
 abbrev pub PostedFor : Plan → ℕ → ℕ → ℕ → Both → Both → Type 0

@@ -6,11 +6,11 @@ use mathlib.Core.Option.{Option, none, some, some-injective}
 use lib.ListN.{get_elem?}
 use Rattle.sock_words.specs.declared.plain.Plan.{Plan}
 use Rattle.seat_programs.specs.brpc_model.specs.Frame.{Frame}
-use Rattle.corr_core.specs.Word.{Parts, parts}
+use Rattle.corr_core.specs.Word.{Parts, parts, call_id, id_slot, id_first}
 use Rattle.seat_programs.specs.id_rule.specs.Lawful.{id_index}
 use Rattle.corr_core.specs.declared.marks.Plan.{Plan as IdPlan}
 use Rattle.seat_programs.specs.Calls.{LoadOpen}
-use Rattle.seat_programs.specs.Asides.{Step, Found, PostId, Taking, call_id, id_slot, id_first}
+use Rattle.seat_programs.specs.Asides.{Step, Found, PostId, Taking}
 use Rattle.seat_programs.specs.Heads.{Retry, Decides, Locks}
 use Rattle.seat_programs.specs.Programs.{Program, Do, Aside, Round}
 use Rattle.seat_programs.specs.Beside.{found_in}

@@ -3,14 +3,14 @@ use Rattle.std.proofs.Common.{◌≡◌, ℕ, ◌+◌, ◌-◌, ◌<◌, ◌≤�
 use Rattle.std.proofs.lemmas.Bool.{true≢false}
 use Rattle.sock_words.specs.declared.outcome.Outcome.{Outcome}
 use Rattle.sock_words.specs.Codes.{is_final}
-use Rattle.corr_core.specs.Word.{parts, posted_word}
+use Rattle.corr_core.specs.Word.{parts, posted_word, call_id}
 use Rattle.corr_core.specs.Law.{LAST}
 use Rattle.corr_core.specs.Versions.{has_version, is_early}
 use Rattle.seat_programs.specs.brpc_model.specs.Frame.{Frame}
 use Rattle.seat_programs.specs.brpc_model.specs.Stream as streams
 use Rattle.seat_programs.specs.brpc_model.specs.Causes.{HasFault}
 use Rattle.seat_programs.specs.brpc_model.specs.ResponseOutcome.{ending_of}
-use Rattle.seat_programs.specs.Asides.{Step, Found, LoadIdWord, LockId, PostId, EndId, FreeId, TakeBytes, Taking, Bytes, Nothing, NoMore, AtEnd, Closed, Broken, call_id}
+use Rattle.seat_programs.specs.Asides.{Step, Found, LoadIdWord, LockId, PostId, EndId, FreeId, TakeBytes, Taking, Bytes, Nothing, NoMore, AtEnd, Closed, Broken}
 use Rattle.seat_programs.specs.Heads.{Retry, Version, Reading, Locks, Reads, Locking, NotThere, Has, Ended}
 use Rattle.seat_programs.specs.Programs.{Program, Do, Say, Rest, TakeMessage, TakeHome, PutHome, PutBytes, AskReady, Aside, Round, NO_SOCKET}
 use Rattle.seat_programs.specs.Posts.{packed, end_id, locking}

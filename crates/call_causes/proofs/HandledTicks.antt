@@ -13,13 +13,13 @@ use Rattle.sock_model.specs.declared.home.Home.{Home}
 use Rattle.sock_model.specs.Messages.{Letter}
 use Rattle.sock_model.specs.Reads.{message, link_home}
 use Rattle.seat_programs.specs.brpc_model.specs.Frame.{Frame}
-use Rattle.corr_core.specs.Word.{parts}
+use Rattle.corr_core.specs.Word.{parts, id_slot, id_first}
 use Rattle.corr_core.specs.declared.marks.Plan.{Plan as IdPlan}
 use Rattle.corr_core.specs.Versions.{is_early}
 use Rattle.corr_core.specs.Decisions.{ends_call}
 use Rattle.seat_programs.specs.id_rule.specs.Lawful.{id_index}
 use Rattle.story_ticks.specs.Below.joint_runs.specs.Below.sock_steps.proofs.Quiet.{either_way}
-use Rattle.seat_programs.specs.Asides.{Step, TakeBytes, Taking, Bytes, Nothing, NoMore, AtEnd, Closed, Broken, Found, id_slot, id_first}
+use Rattle.seat_programs.specs.Asides.{Step, TakeBytes, Taking, Bytes, Nothing, NoMore, AtEnd, Closed, Broken, Found}
 use Rattle.seat_programs.specs.Heads.{Exit, Retry, Decides, Locks}
 use Rattle.seat_programs.specs.Programs.{Program, Do, TakeMessage, TakeHome, PutHome, PutBytes, AskReady, Write, Aside, Round}
 use Rattle.sock_message.specs.Asked.{Asked}

@@ -6,7 +6,7 @@ use Rattle.sock_io.specs.Link.{OutState}
 use Rattle.sock_words.specs.Codes.{EINTERNAL}
 use Rattle.sock_words.specs.declared.plain.Plan.{Plan}
 use Rattle.seat_programs.specs.declared.task.Task.{Task}
-use Rattle.corr_core.specs.Word.{Parts, parts}
+use Rattle.corr_core.specs.Word.{Parts, parts, id_slot, id_first}
 use Rattle.corr_core.specs.Law.{total, is_ended}
 use Rattle.corr_core.specs.declared.marks.Note.{Note}
 use Rattle.corr_core.specs.declared.marks.Note.TheVariants.{Made, Locker, Attempt}
@@ -20,7 +20,7 @@ use Rattle.corr_id.specs.declared.calls.IdLock.{IdLock}
 use Rattle.corr_id.specs.declared.posts.Posted.{Posted}
 use Rattle.corr_id.specs.declared.posts.Posted.TheVariants.{Locked as HasLock, Queued as IsQueued, Gone, Stale, Crowded}
 use Rattle.corr_id.specs.declared.unlocks.Unlocked.TheVariants.{Open, Next}
-use Rattle.corr_id.specs.Calls.{slot_of, version_of, Did, Quiet, is_event, events, one, advance_note}
+use Rattle.corr_id.specs.Calls.{Did, Quiet, is_event, events, one, advance_note}
 use Rattle.corr_id.proofs.Seats.{total_append, notes_append}
 use Rattle.call_errors.specs.Books.{Books, CallStand, stand_of, starving, Tells, told, lost}
 use Rattle.call_errors.specs.Ending.{EndedWith, failed}
@@ -77,7 +77,7 @@ advance_ends at p q i f = elim (eqb p.attempt q.attempt) as (λ b. total (is_end
 sees_ends : {xs : List Task} {v w : View Asked} → Sees xs v w → (i f : ℕ) → noted_ends i f w ≡ noted_ends i f v
 sees_ends (keeps v w place own word e) i f = ap (λ (y : View Asked). noted_ends i f y) e
 sees_ends (finds v w q) i f = quiet_total (is_ended f) (quiet_note f) v w q i
-sees_ends (makes v w slots id asked own m) i f = did_ends (slot_of id) v w _ _ m.did (λ j h. none_of_one (is_ended h) (quiet_note h) (slot_of id) (Made (version_of id) asked.range asked) refl j) i f
+sees_ends (makes v w slots id asked own m) i f = did_ends (id_slot id) v w _ _ m.did (λ j h. none_of_one (is_ended h) (quiet_note h) (id_slot id) (Made (id_first id) asked.range asked) refl j) i f
 sees_ends (locks v w slots version k g) i f = did_ends k.slot v w _ _ g.got.did (λ j h. none_of_one (is_ended h) (quiet_note h) k.slot (Locker (parts k.word.0).first k.content) refl j) i f
 sees_ends (unlocks v w k advance Open u) i f = did_ends k.slot v w _ _ u.4 (advance_ends k.slot (parts k.word.0) u.1) i f
 sees_ends (unlocks v w k advance (Next l code attempt) u) i f = did_ends k.slot v w _ _ u.3 (advance_ends k.slot (parts k.word.0) (parts l.word.0)) i f

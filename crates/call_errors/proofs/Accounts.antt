@@ -4,7 +4,7 @@ use Rattle.std.specs.Prelude.{None}
 use Rattle.std.specs.Prelude.{Option as Maybe}
 use mathlib.Core.Logic.{dite}
 use native.Mathlib.Decide.{ℕ_discrete}
-use Rattle.corr_core.specs.Word.{Parts, parts}
+use Rattle.corr_core.specs.Word.{Parts, parts, id_slot, id_first}
 use Rattle.corr_core.specs.Law.{total, only, is_ended}
 use Rattle.corr_core.specs.declared.marks.Note.{Note}
 use Rattle.corr_core.specs.declared.marks.Note.TheVariants.{Tried, Made, Ended, Locker, Queued, Attempt, Saw}
@@ -23,7 +23,7 @@ use Rattle.corr_id.specs.declared.posts.Posted.{Posted}
 use Rattle.corr_id.specs.declared.posts.Posted.TheVariants.{Locked as HasLock, Queued as IsQueued, Gone, Stale, Crowded}
 use Rattle.corr_id.specs.declared.unlocks.Unlocked.{Unlocked}
 use Rattle.corr_id.specs.declared.unlocks.Unlocked.TheVariants.{Open, Next}
-use Rattle.corr_id.specs.Calls.{Did, Quiet, is_event, events, one, advance_note, slot_of, version_of, error_in}
+use Rattle.corr_id.specs.Calls.{Did, Quiet, is_event, events, one, advance_note, error_in}
 use Rattle.corr_id.specs.Posts.{PostOk}
 use Rattle.corr_id.proofs.Seats.{total_append, notes_append}
 use Rattle.rpc_client.specs.declared.acting.Told.{Told}
@@ -162,7 +162,7 @@ decided_accounts (goes_on s k code attempt t u l next of a b e rest) = accounts_
 
 post_ends : (slots : ℕ) (v w : View Asked) (id code : ℕ) (attempt : Maybe ℕ) (answer : Posted Asked) → PostOk slots v w id code attempt answer → (i f : ℕ) → noted_ends i f w ≡ noted_ends i f v
 post_ends slots v w id code attempt (HasLock k) p = did_ends k.slot v w _ _ p.4.1.did (no_end_one k.slot (Locker (parts k.word.0).first k.content) (λ f. refl))
-post_ends slots v w id code attempt IsQueued p = did_ends (slot_of id) v w _ _ p.0 (no_end_one (slot_of id) (Queued (version_of id) (error_in code attempt)) (λ f. refl))
+post_ends slots v w id code attempt IsQueued p = did_ends (id_slot id) v w _ _ p.0 (no_end_one (id_slot id) (Queued (id_first id) (error_in code attempt)) (λ f. refl))
 post_ends slots v w id code attempt (Gone found) p = quiet_ends v w p.0
 post_ends slots v w id code attempt (Stale current) p = quiet_ends v w p.0
 post_ends slots v w id code attempt (Crowded first second) p = quiet_ends v w p.0

@@ -3,7 +3,7 @@ use Rattle.std.specs.Prelude.{◌≡◌, ◌≢◌, ℕ, ◌≤◌, ◌⊎◌, f
 use Rattle.sock_words.specs.Codes.{ERPCTIMEDOUT}
 use Rattle.sock_words.specs.declared.outcome.Outcome.{Outcome}
 use Rattle.sock_words.specs.declared.outcome.Outcome.TheVariants as outcome
-use Rattle.corr_core.specs.Word.{parts}
+use Rattle.corr_core.specs.Word.{parts, id_slot, id_first}
 use Rattle.corr_core.specs.Law.{total}
 use Rattle.corr_core.specs.declared.marks.Plan.{Plan}
 use Rattle.corr_core.specs.declared.marks.View.{View}
@@ -11,7 +11,7 @@ use Rattle.corr_id.specs.id_rule.specs.Lawful.{call_index, with_kept}
 use Rattle.sock_message.specs.Asked.{Asked}
 use Rattle.corr_id.specs.declared.posts.Posted.{Posted}
 use Rattle.corr_id.specs.declared.posts.Posted.TheVariants.{Locked as HasLock, Queued as IsQueued, Gone, Stale, Crowded}
-use Rattle.corr_id.specs.Calls.{slot_of, version_of, Quiet, Found, LacksId}
+use Rattle.corr_id.specs.Calls.{Quiet, Found, LacksId}
 use Rattle.corr_id.specs.Ruled.{is_place}
 use Rattle.call_errors.specs.declared.asking.Ask.{Ask}
 use Rattle.call_errors.specs.declared.asking.Ask.TheVariants.{Expire, Join}
@@ -57,7 +57,7 @@ pub record SawEnd (p : Plan) (operation : ℕ) (s t : CallStand) : Type 0 where
   pub some : id ≢ 0
   pub view : View Asked
   pub quiet : Quiet (found_id p operation id s).view view
-  pub gone : (p.slots ≤ slot_of id) ⊎ ((word : ℕ) × Found (slot_of id) word view × LacksId (parts word) (version_of id))
+  pub gone : (p.slots ≤ id_slot id) ⊎ ((word : ℕ) × Found (id_slot id) word view × LacksId (parts word) (id_first id))
   pub after : t ≡ record { view = view; books = s.books }
 
 abbrev pub JoinedBy : Plan → ℕ → Outcome → CallStand → CallStand → Type 0

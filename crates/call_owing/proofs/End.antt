@@ -7,7 +7,6 @@ use Rattle.sock_words.specs.declared.plain.Plan.{Plan}
 use Rattle.corr_core.specs.Law.{Stands, vacant, retired, claimed, opened, locked, leaving}
 use Rattle.corr_core.specs.declared.marks.Plan.{Plan as IdPlan}
 use Rattle.seat_programs.specs.id_rule.specs.Lawful.{local, tokens_in, tokens_of}
-use Rattle.seat_programs.specs.Asides.{call_id, id_slot, id_first}
 use Rattle.seat_programs.specs.Programs.{Rest}
 use Rattle.seat_programs.specs.Cores.{Core}
 use Rattle.joint_runs.specs.Below.id_runs.specs.Held.{IdView, id_state}
@@ -16,6 +15,7 @@ use Rattle.call_owing.specs.Owing.{Duty, Owing, InList, DutyTo, Among}
 use Rattle.call_owing.specs.Owes.{OwesOn}
 use Rattle.call_owing.specs.Sound.{id_word_of, Owed, by_seat, by_retry, by_reader, SoundOwing, AllRest, retry_tokens}
 use Rattle.joint_runs.specs.Below.program_steps.proofs.Cases.{elem_there}
+use Rattle.corr_core.specs.Word.{call_id, id_slot, id_first}
 
 pub none_held : (i : ℕ) (us : List IdView) → ((j : ℕ) (u : IdView) → get_elem? us j ≡ some u → u.tokens ≡ []) → flat_map (tokens_in i) us ≡ []
 none_held i [] all = refl

@@ -4,10 +4,9 @@ use mathlib.Core.Option.{some}
 use lib.ListN.{get_elem?}
 use Rattle.sock_model.specs.declared.chain.Heading.{Heading}
 use Rattle.sock_model.specs.declared.home.Home.TheVariants.{Message}
-use Rattle.corr_core.specs.Word.{Parts}
+use Rattle.corr_core.specs.Word.{Parts, id_slot}
 use Rattle.corr_core.specs.declared.marks.Plan.{Plan as IdPlan}
 use Rattle.seat_programs.specs.id_rule.specs.Lawful as ids
-use Rattle.seat_programs.specs.Asides.{id_slot}
 use Rattle.seat_programs.specs.Cores.{Core, waiting_at}
 use Rattle.call_owing.specs.Owing.{Duty, Free, Owing, Among, duty_tokens}
 use Rattle.call_owing.specs.Sound.{id_word_of, retry_tokens, Past, Token, Distinct, Stored, OwingLaw}

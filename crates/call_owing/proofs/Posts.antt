@@ -1,10 +1,10 @@
 -- Posts, decisions and the loops that give a lock back: who makes them does what it owes.
 use Rattle.std.proofs.Common.{◌≡◌, ◌≢◌, ℕ, ◌+◌, ◌<◌, ◌≤◌, inl, inr, ◌&&◌, ◌||◌, not, Bool, true, false, cond, eqb, eqb-true, eq-eqb, ne_eqb, leb, Option, refl, sym, ap, ◌∙◌, subst, arith}
-use Rattle.corr_core.specs.Word.{Parts, parts, locked_word, posted_word, unlocked_word, code_of, attempt_of, error_of}
+use Rattle.corr_core.specs.Word.{Parts, parts, locked_word, posted_word, unlocked_word, code_of, attempt_of, error_of, id_slot, id_first, call_id}
 use Rattle.corr_core.specs.Law.{LAST}
 use Rattle.corr_core.specs.Decisions.{ends_call}
 use Rattle.seat_programs.specs.sock_message.specs.Asked.{Asked}
-use Rattle.seat_programs.specs.Asides.{PutCall, FreeId, id_slot, id_first, call_id}
+use Rattle.seat_programs.specs.Asides.{PutCall, FreeId}
 use Rattle.seat_programs.specs.Heads.{Retry, Posts, Unlocks, Decides, Posting, WasGone, WasStale, WasCrowded, WasQueued, HasLocked, Unlocking, IsOpen, HasNext, Deciding, HasEnded, GoesOn}
 use Rattle.seat_programs.specs.Programs.{Program, Aside, Round}
 use Rattle.sock_words.specs.Codes.{is_final}

@@ -1,19 +1,19 @@
 -- The programs of operations: whoever runs them does what it owes.
 use Rattle.std.proofs.Common.{◌≡◌, ℕ, zero, suc, ◌+◌, ◌-◌, ◌/◌, ◌%◌, ◌≤◌, inl, inr, ◌==◌, ◌&&◌, Bool, true, false, cond, eqb, eqb-true, leb, nat_lt, nat_le, List, [], Option, Some, length, drop, refl, sym, ap, ◌∙◌, subst, arith}
-use Rattle.sock_words.specs.Words.{socket_id_version, socket_id_slot, vref_version, vref_nref, at_word}
+use Rattle.sock_words.specs.Words.{socket_id_version, socket_id_slot, vref_version, vref_nref, at_word, ticket_generation, ticket_request}
 use Rattle.sock_words.specs.declared.outcome.Outcome.TheVariants as outcomes
 use Rattle.sock_io.specs.declared.link.Put.{Put}
 use Rattle.sock_io.specs.declared.link.Put.TheVariants as puts
 use Rattle.sock_io.specs.declared.link.Ready.{Ready}
 use Rattle.sock_io.specs.declared.link.Ready.TheVariants as asks
 use Rattle.sock_model.specs.declared.chain.Heading.{Heading}
-use Rattle.sock_model.specs.Entries.{generation_of, slot_of, ticket_of}
+use Rattle.sock_model.specs.Entries.{ticket_of}
 use Rattle.sock_model.specs.Memory.{IDLE, UNCONNECTED}
-use Rattle.corr_core.specs.Word.{parts, attempt_of, error_of}
+use Rattle.corr_core.specs.Word.{parts, attempt_of, error_of, call_id, id_slot, id_first}
 use Rattle.seat_programs.specs.Parts.{part}
 use Rattle.seat_programs.specs.sock_message.specs.Asked.{Asked, name_of, frame_of}
 use Rattle.seat_programs.specs.Calls.{SubRef, AddRef, StoreCode, LoadLink, TakeLink, FinishLink, PutLink, FreeSlot, LoadName, FreeRequest, ReadNext, FindLink, LookWord, ReverseNext, Connect}
-use Rattle.seat_programs.specs.Asides.{PutCall, StoreAt, TakeCall, call_id, id_slot, id_first}
+use Rattle.seat_programs.specs.Asides.{PutCall, StoreAt, TakeCall}
 use Rattle.seat_programs.specs.Heads.{First, Unlocks, Joins, Unlocking, IsOpen, HasNext, Locking, NotThere, Has}
 use Rattle.seat_programs.specs.Programs.{Program, Do, Say, TakeMessage, TakeHome, PutBytes, Write, Aside, Round, LAST_VERSION, LAST_GENERATION, recycle, release, address, set_failed}
 use Rattle.seat_programs.specs.Posts.{post, post_with, posted}
@@ -83,19 +83,19 @@ module _ (life : ℕ → Option ℕ) where
   -- ## Writing
 
   freed_goes : (u : Owing) (now : ℕ) (next : Program) → Goes u next → Goes u (given_back now next)
-  freed_goes u now next goes = way life u (generation_of now == LAST_GENERATION) next (Do (FreeRequest (slot_of now) (generation_of now)) (λ _. next)) (λ _. goes) (λ _. (tt, λ _ _. (u, stays refl, goes)))
+  freed_goes u now next goes = way life u (ticket_generation now == LAST_GENERATION) next (Do (FreeRequest (ticket_request now) (ticket_generation now)) (λ _. next)) (λ _. goes) (λ _. (tt, λ _ _. (u, stays refl, goes)))
 
   passed_goes : (u : Owing) (h : Holder) (now : ℕ) (told_ : Program → Program) (after : Program) → IsClear u → ((x : Program) → Follows u x → Goes u (told_ x)) → Follows u after → Goes u (passed_telling h now told_ after)
   passed_goes u h now told_ after c told goes = way life u (now == h.last) (given_back now (told_ (Write (Empties h) after)))
-      (Do (ReadNext (slot_of now)) (λ next. given_back now (told_ (TakeMessage (slot_of next) (λ heading bytes. Write (Puts h next heading bytes 0 false) after)))))
+      (Do (ReadNext (ticket_request now)) (λ next. given_back now (told_ (TakeMessage (ticket_request next) (λ heading bytes. Write (Puts h next heading bytes 0 false) after)))))
       (λ _. freed_goes u now (told_ (Write (Empties h) after)) (told (Write (Empties h) after) (λ v f. let d = clear_on u v c f in (d.0, d.1, tt, later u v after f goes))))
       (λ _. (
         tt,
         λ next _. (
           u,
           stays refl,
-          freed_goes u now (told_ (TakeMessage (slot_of next) (λ heading bytes. Write (Puts h next heading bytes 0 false) after)))
-              (told (TakeMessage (slot_of next) (λ heading bytes. Write (Puts h next heading bytes 0 false) after)) (λ v f. λ heading bytes w g owner. let fg = then_further u v w f g in let d = clear_on u w c fg in (d.0, d.1, owner, later u w after fg goes))),
+          freed_goes u now (told_ (TakeMessage (ticket_request next) (λ heading bytes. Write (Puts h next heading bytes 0 false) after)))
+              (told (TakeMessage (ticket_request next) (λ heading bytes. Write (Puts h next heading bytes 0 false) after)) (λ v f. λ heading bytes w g owner. let fg = then_further u v w f g in let d = clear_on u w c fg in (d.0, d.1, owner, later u w after fg goes))),
         ),
       ))
 
@@ -137,14 +137,14 @@ module _ (life : ℕ → Option ℕ) where
       u,
       stays refl,
       way life u (found == UNCONNECTED) (Write (Walks h top at after) then_)
-          (Do (ReverseNext (slot_of at) after) (λ _. cond (found == h.last) (TakeMessage (slot_of at) (λ heading bytes. Write (Puts (record h { last = top }) at heading bytes 0 false) then_)) (Write (Walks h top found at) then_)))
+          (Do (ReverseNext (ticket_request at) after) (λ _. cond (found == h.last) (TakeMessage (ticket_request at) (λ heading bytes. Write (Puts (record h { last = top }) at heading bytes 0 false) then_)) (Write (Walks h top found at) then_)))
           (λ _. g)
           (λ _. (
             tt,
             λ _ _. (
               u,
               stays refl,
-              way life u (found == h.last) (TakeMessage (slot_of at) (λ heading bytes. Write (Puts (record h { last = top }) at heading bytes 0 false) then_)) (Write (Walks h top found at) then_)
+              way life u (found == h.last) (TakeMessage (ticket_request at) (λ heading bytes. Write (Puts (record h { last = top }) at heading bytes 0 false) then_)) (Write (Walks h top found at) then_)
                   (λ _. λ heading bytes v f owner. let d = clear_on u v (g.0, g.1) f in (d.0, d.1, owner, later u v then_ f g.3)) (λ _. g),
             ),
           )),

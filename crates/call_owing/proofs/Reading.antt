@@ -2,10 +2,9 @@
 use Rattle.std.proofs.Common.{◌≡◌, ℕ, ◌+◌, ◌-◌, ◌%◌, ◌<◌, ◌&&◌, ◌||◌, inl, inr, Bool, true, false, cond, eqb, nat_lt, List, [], ◌∷◌, Option, Some, None, length, refl, sym, ap, ◌∙◌, subst, arith}
 use Rattle.sock_words.specs.Words.{socket_id_slot, socket_id_version, vref_version, at_word_first, at_word_slot, at_word_link, at_word_attempt}
 use Rattle.sock_words.specs.Codes.{is_final}
-use Rattle.corr_core.specs.Word.{parts, error_of, code_of, attempt_of}
+use Rattle.corr_core.specs.Word.{parts, error_of, code_of, attempt_of, call_id, id_slot, id_first}
 use Rattle.seat_programs.specs.brpc_model.specs.Frame.{Frame}
 use Rattle.seat_programs.specs.Calls.{AddRef, StoreCode, SubRef}
-use Rattle.seat_programs.specs.Asides.{call_id, id_slot, id_first}
 use Rattle.seat_programs.specs.Heads.{Reads, Discards, Posting, HasLocked, Ended}
 use Rattle.seat_programs.specs.Programs.{Program, Do, Rest, Round, NO_SOCKET, address, release, set_failed}
 use Rattle.seat_programs.specs.Posts.{post_with, decide, decided, is_stale}

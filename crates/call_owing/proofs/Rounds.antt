@@ -1,12 +1,12 @@
 -- From the head of each loop one round goes on with what is owed.
 use Rattle.std.proofs.Common.{◌≡◌, ℕ, ◌+◌, ◌-◌, ◌&&◌, not, Bool, true, false, cond, eqb, eqb-true, nat_lt, List, [], ◌∷◌, ◌++◌, Option, Some, None, length, refl, sym, ap, ◌∙◌, subst}
-use Rattle.corr_core.specs.Word.{Parts, parts, locked_word, posted_word}
+use Rattle.corr_core.specs.Word.{Parts, parts, locked_word, posted_word, id_first, call_id}
 use Rattle.corr_core.specs.Versions.{is_early}
 use Rattle.seat_programs.specs.brpc_model.specs.Frame.{Frame}
 use Rattle.seat_programs.specs.brpc_model.specs.Stream as streams
 use Rattle.seat_programs.specs.brpc_model.specs.ResponseOutcome.{ending_of}
 use Rattle.seat_programs.specs.Calls.{LoadOpen}
-use Rattle.seat_programs.specs.Asides.{LockId, Taking, Bytes, Nothing, Closed, id_first, call_id}
+use Rattle.seat_programs.specs.Asides.{LockId, Taking, Bytes, Nothing, Closed}
 use Rattle.seat_programs.specs.Heads.{Head, Exit, Sought, Version, Reading, Posts, Unlocks, Decides, Locks, Joins, Opens, Reads, Discards, Locking, NotThere, Has, Ended}
 use Rattle.seat_programs.specs.Programs.{Program, Say, Round, NO_SOCKET}
 use Rattle.seat_programs.specs.Posts.{packed, is_first, is_sought, locking}

@@ -9,7 +9,7 @@ use Rattle.sock_model.specs.declared.home.Home.{Home}
 use Rattle.sock_model.specs.declared.home.Home.TheVariants.{Message}
 use Rattle.corr_core.specs.declared.marks.Plan.{Plan as IdPlan}
 use Rattle.seat_programs.specs.Calls.{Call, AddRef, SetOdd, LookWord}
-use Rattle.seat_programs.specs.Asides.{StoreAt, TakeBytes, Closed, call_id}
+use Rattle.seat_programs.specs.Asides.{StoreAt, TakeBytes, Closed}
 use Rattle.seat_programs.specs.Programs.{Program, Do, PutHome, Aside}
 use Rattle.seat_programs.specs.Cores.{Core, SeatState, found_at, words_after, first_of}
 use Rattle.seat_programs.specs.StepTables.{word_of, word_after}
@@ -17,6 +17,7 @@ use Rattle.seat_programs.specs.Ticks.{Answer, Moment, taken}
 use Rattle.joint_runs.specs.Below.id_runs.specs.Goes as goes
 use Rattle.call_owing.specs.Owing.{Linked, Owing, InList, FindsCall}
 use Rattle.call_owing.specs.Sound.{at_of, FailedIn}
+use Rattle.corr_core.specs.Word.{call_id}
 
 module _ (p : Plan) (life : ℕ → Option ℕ) (c : Core) (u : Owing) (call : Call) where
   abbrev pub found : ℕ

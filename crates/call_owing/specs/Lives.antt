@@ -12,7 +12,7 @@ use Rattle.seat_programs.specs.brpc_model.specs.Items.{Item}
 use Rattle.seat_programs.specs.brpc_model.specs.Operations.{Turn}
 use Rattle.seat_programs.specs.Tasks.{plan_of}
 use Rattle.seat_programs.specs.Scripts.{set_up, IsRunWithCalls}
-use Rattle.seat_programs.specs.Asides.{StoreAt, TakeBytes, Closed, call_id}
+use Rattle.seat_programs.specs.Asides.{StoreAt, TakeBytes, Closed}
 use Rattle.seat_programs.specs.Programs.{Program, Aside, NO_SOCKET}
 use Rattle.seat_programs.specs.Cores.{Core, SeatState, link_place}
 use Rattle.seat_programs.specs.Ticks.{Answer, Moment, taken, ticked}
@@ -21,6 +21,7 @@ use Rattle.joint_runs.specs.Below.id_runs.specs.Goes.{SoundIds}
 use Rattle.joint_runs.specs.Below.id_runs.specs.Goes as goes
 use Rattle.call_owing.specs.Owing.{Linked, Owing, InList}
 use Rattle.call_owing.specs.Sound.{at_of, FailedIn, SoundOwing}
+use Rattle.corr_core.specs.Word.{call_id}
 
 -- the socket that a word of an `open` names
 abbrev pub id_of : ℕ → Option ℕ

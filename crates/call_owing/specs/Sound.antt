@@ -6,10 +6,9 @@ use Rattle.sock_words.specs.Words.{socket_id_version, socket_id_slot, vref_versi
 use Rattle.sock_model.specs.declared.chain.Heading.{Heading}
 use Rattle.sock_model.specs.declared.home.Home.TheVariants.{Message}
 use Rattle.sock_model.specs.Layout.{ref_index}
-use Rattle.corr_core.specs.Word.{Parts, parts, attempt_of}
+use Rattle.corr_core.specs.Word.{Parts, parts, attempt_of, call_id, id_slot, id_first}
 use Rattle.corr_core.specs.declared.marks.Plan.{Plan as IdPlan}
 use Rattle.seat_programs.specs.id_rule.specs.Lawful as ids
-use Rattle.seat_programs.specs.Asides.{call_id, id_slot, id_first}
 use Rattle.seat_programs.specs.Heads.{Retry}
 use Rattle.seat_programs.specs.Programs.{Rest}
 use Rattle.seat_programs.specs.Cores.{Core, SeatState, waiting_at}

@@ -20,7 +20,6 @@ use Rattle.corr_core.proofs.Notes.{only-else, only_le, pair-at, total_some}
 use Rattle.id_rule.specs.Lawful.{notes_of}
 use Rattle.sock_message.specs.Asked.{Asked}
 use Rattle.corr_id.specs.declared.calls.IdLock.{IdLock}
-use Rattle.corr_id.specs.Calls.{slot_of, version_of}
 use Rattle.call_run.specs.call_client.specs.call_errors.specs.declared.retries.Retry.{Retry}
 use Rattle.call_run.specs.call_client.specs.call_attempts.specs.Both.{Both}
 use Rattle.call_run.specs.call_client.specs.call_attempts.specs.Retrying.{Locked, WentAgain, had_ended, overtaken, went_again}
@@ -34,6 +33,7 @@ use Rattle.call_places.proofs.Counts.{call_in, by_retry, Knows, tried_few, made_
 use Rattle.call_places.proofs.Labels.{at_place, again_at, own_place, none_again}
 use Rattle.call_places.proofs.Numbers.{numbered, own_calls, own_labels, low_number, no_labels}
 use Rattle.call_places.proofs.Ids.{IdLaws, IsIdOf, version_low, lock_id, one_id, some_made}
+use Rattle.corr_core.specs.Word.{id_slot, id_first}
 
 -- a client's whole run
 pub record Client {O : Type 0} (g : Ghosts O) (state : O → OutState) (p : Plan) (q : id_plan.Plan) : Type 0 where
@@ -69,9 +69,9 @@ module _ {O : Type 0} {g : Ghosts O} {state : O → OutState} {p : Plan} {q : id
     went = retries r s t (went_again k u l w)
 
     -- the client noted that the id advanced to its attempt
-    pub retry_noted : 0 < advances (slot_of r.id) (version_of r.id) r.attempt (view_of c)
+    pub retry_noted : 0 < advances (id_slot r.id) (id_first r.id) r.attempt (view_of c)
     retry_noted =
-        let slot : ℕ = slot_of r.id in let version : ℕ = version_of r.id in
+        let slot : ℕ = id_slot r.id in let version : ℕ = id_first r.id in
         let whole : slot * 4294967296 + version ≡ r.id = div-add-mod' r.id 4294967296 in
         let counted = term (by_retry (is_retry (slot * 4294967296 + version) r.attempt)) (deeds_of c) i went there in
         let one = pair-at (slot * 4294967296 + version) r.attempt r.id r.attempt (sym whole) refl in

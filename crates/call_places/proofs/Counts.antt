@@ -13,7 +13,7 @@ use Rattle.sock_words.specs.declared.socket_id.SocketId.{SocketId}
 use Rattle.seat_programs.specs.declared.task.Op.{Op}
 use Rattle.seat_programs.specs.declared.task.Op.TheVariants as ops
 use Rattle.seat_programs.specs.declared.task.Task.{Task}
-use Rattle.corr_core.specs.Word.{Parts, parts}
+use Rattle.corr_core.specs.Word.{Parts, parts, id_slot, id_first}
 use Rattle.corr_core.specs.Law.{total, only, pair}
 use Rattle.corr_core.specs.declared.marks.Note.{Note}
 use Rattle.corr_core.specs.declared.marks.Note.TheVariants.{Made, Locker}
@@ -24,7 +24,7 @@ use Rattle.corr_core.proofs.Notes.{pair-same}
 use Rattle.id_rule.specs.Lawful.{notes_of}
 use Rattle.sock_message.specs.Asked.{Asked}
 use Rattle.corr_id.specs.declared.calls.IdLock.{IdLock}
-use Rattle.corr_id.specs.Calls.{Found, one, is_event, is_saw, slot_of, version_of}
+use Rattle.corr_id.specs.Calls.{Found, one, is_event, is_saw}
 use Rattle.corr_id.proofs.Seats.{total_append}
 use Rattle.call_run.specs.call_client.specs.call_errors.specs.declared.retries.Retry.{Retry}
 use Rattle.call_run.specs.call_client.specs.call_errors.specs.Books.{Books, CallStand, stand_of}
@@ -207,7 +207,7 @@ module _ {O : Type 0} (state : O → OutState) (p : Plan) (q : id_plan.Plan) whe
       let noted = ap (λ (v : View Asked). v.notes) m.noted in let rs = ap (λ (b : Books). b.retries) m.books in
       let d = m.made.did in record {
         grows = λ i f. (let x = d.grows i f in let y = ap (λ (l : List (Noted Asked)). total f (notes_of i l)) noted in omega arith);
-        made = λ o. (let x = did_all (makes o) (makes_silent o) (slot_of id) s.calls.view m.view [] (one (slot_of id) (Made (version_of id) asked.range asked)) d in let y = ap (total (makes o)) noted in omega arith);
+        made = λ o. (let x = did_all (makes o) (makes_silent o) (id_slot id) s.calls.view m.view [] (one (id_slot id) (Made (id_first id) asked.range asked)) d in let y = ap (total (makes o)) noted in omega arith);
         backed = λ i f n low. (let x = d.grows i (Rattle.corr_core.specs.Law.is_attempt f n) in let y = ap (λ (l : List (Noted Asked)). total (Rattle.corr_core.specs.Law.is_attempt f n) (notes_of i l)) noted in
             let z = ap (total (is_retry (i * 4294967296 + f) n)) rs in omega arith);
         first = (let z = ap (total is_first) rs in omega arith);

@@ -6,7 +6,7 @@ use mathlib.Core.Logic.{dite}
 use mathlib.Core.Option.{some, some-injective}
 use native.Mathlib.Decide.{ℕ_discrete, dec_lt}
 use lib.ListN.{get_elem?}
-use Rattle.corr_core.specs.Word.{parts}
+use Rattle.corr_core.specs.Word.{parts, id_slot, id_first}
 use Rattle.corr_core.specs.Law.{total, is_made, is_attempt}
 use Rattle.corr_core.specs.declared.marks.Kept.{Kept}
 use Rattle.corr_core.specs.declared.marks.Note.{Note}
@@ -18,7 +18,7 @@ use Rattle.corr_core.proofs.Notes.{only-at, only-else, pair-else, pair-else_firs
 use Rattle.id_rule.specs.Lawful.{notes_of}
 use Rattle.sock_message.specs.Asked.{Asked}
 use Rattle.corr_id.specs.declared.calls.IdLock.{IdLock}
-use Rattle.corr_id.specs.Calls.{is_saw, slot_of, version_of}
+use Rattle.corr_id.specs.Calls.{is_saw}
 use Rattle.corr_id.specs.Closing.{Closing}
 use Rattle.call_run.specs.call_client.specs.call_errors.specs.Locking.{GotBy}
 use Rattle.call_places.specs.Counted.{makes}
@@ -84,19 +84,19 @@ some_made {slots} {notes} o id h =
     let n = noted_at h.slot notes h.place (Made h.first h.range h.asked) h.made in
     let a = term (makes o) notes n.0 _ n.1 in let b = only-at o h.asked.operation h.operation in omega (arith, a, b)
 
-pub version_low : (id : ℕ) → version_of id < 4294967296
+pub version_low : (id : ℕ) → id_first id < 4294967296
 version_low id = let some_ : 0 < 4294967296 = omega arith in mod-lt id some_
 
 -- an id by its slot and its first version
-pub id_parts : (id slot first : ℕ) → id ≡ slot * 4294967296 + first → first < 4294967296 → (slot_of id ≡ slot) × (version_of id ≡ first)
+pub id_parts : (id slot first : ℕ) → id ≡ slot * 4294967296 + first → first < 4294967296 → (id_slot id ≡ slot) × (id_first id ≡ first)
 id_parts id slot first e low = (omega (arith, e, low), omega (arith, e, low))
 
 module _ {slots : ℕ} {notes : List (Noted Asked)} (laws : IdLaws slots notes) where
   -- of the range with which it was locked by this id, which was advanced
-  pub lock_id : (id n : ℕ) (k : IdLock Asked) (u v w : View Asked) → GotBy slots id k u w → KnowsLock k v → ((i : ℕ) (f : Note Asked → ℕ) → total f (notes_of i v.notes) ≤ total f (notes_of i notes)) → 0 < advances (slot_of id) (version_of id) n v
+  pub lock_id : (id n : ℕ) (k : IdLock Asked) (u v w : View Asked) → GotBy slots id k u w → KnowsLock k v → ((i : ℕ) (f : Note Asked → ℕ) → total f (notes_of i v.notes) ≤ total f (notes_of i notes)) → 0 < advances (id_slot id) (id_first id) n v
       → IsIdOf slots notes k.content.operation id
   lock_id id n k u v w got knows among advanced =
-      let i : ℕ = k.slot in let f : ℕ = (parts k.word.0).first in let f0 : ℕ = version_of id in let o : ℕ = k.content.operation in
+      let i : ℕ = k.slot in let f : ℕ = (parts k.word.0).first in let f0 : ℕ = id_first id in let o : ℕ = k.content.operation in
       let seen : 0 < total (is_saw knows.word) (notes_of i notes) = (let a = knows.found in let b = among i (is_saw knows.word) in omega arith) in
       let one = laws.range_is i knows.word got.inside seen (let a = knows.was_open in omega arith) in
       let locked : 0 < total (locks_for f o) (notes_of i notes) = (let a = knows.locked in let b = among i (locks_for f o) in omega arith) in

@@ -14,14 +14,13 @@ use Rattle.sock_words.specs.declared.outcome.Outcome.{Outcome}
 use Rattle.sock_words.specs.declared.plain.Plan.{Plan}
 use Rattle.sock_words.specs.declared.place_word.PlaceWord.{PlaceWord}
 use Rattle.sock_words.specs.declared.vref.Vref.{Vref}
-use Rattle.sock_words.specs.Words.{no_place, HasPosition, IsPlaceWord}
+use Rattle.sock_words.specs.Words.{no_place, HasPosition, IsPlaceWord, place_word}
 use Rattle.brpc_model.specs.Operations.{Label}
 use Rattle.brpc_model.specs.PlaceWords.{word_at, StandsAt, ArePlaces}
 use Rattle.sock_model.specs.Authors.{pick}
 use Rattle.sock_model.specs.declared.chain.Entry.{Entry}
 use Rattle.sock_model.specs.declared.chain.Heading.{Heading}
 use Rattle.sock_model.specs.declared.view.View as sock_view
-use Rattle.sock_model.specs.Deliveries.{place_value}
 use Rattle.sock_model.specs.Entries.{on}
 use Rattle.sock_model.specs.Layout.{place_index}
 use Rattle.chain_steps.proofs.Lists.{distinct_filter}
@@ -242,7 +241,7 @@ module _ {O : Type 0} {g : Ghosts O} {state : O → OutState} {readers : List (L
           (λ lt. by false (omega (arith, m.inside, few)) (omega (arith, position, most, low)) (word ∙ fifo.placed i m.entry m.at lt))
           (λ ge. by true (omega (arith, m.inside, few)) (omega (arith, position, most, low)) (word ∙ fifo.dropped i m.entry m.at (omega arith))))
         where
-          by : (b : Bool) → k < 65536 → i < 4294967295 → word_at places m.entry.heading.place ≡ place_value b k i → (b : Bool) × IsPlaceWord (word_at places m.entry.heading.place) b k i
+          by : (b : Bool) → k < 65536 → i < 4294967295 → word_at places m.entry.heading.place ≡ place_word b k i → (b : Bool) × IsPlaceWord (word_at places m.entry.heading.place) b k i
           by b small short e = (b, subst (λ (w : ℕ). IsPlaceWord w b k i) (sym e) (is_place b k i small short))
 
       -- a word that tells a position is that of a message there

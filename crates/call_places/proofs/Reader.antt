@@ -1,7 +1,7 @@
 -- Whoever reads a link, and ends the calls that are left, makes no id, and what its seat noted stays noted.
 use Rattle.std.proofs.Common.{◌≡◌, ℕ, ◌+◌, ◌≤◌, List, [], refl, ap, ◌∙◌, arith}
 use Rattle.std.specs.Prelude.{Option}
-use Rattle.corr_core.specs.Word.{Parts, parts}
+use Rattle.corr_core.specs.Word.{Parts, parts, id_slot, id_first}
 use Rattle.corr_core.specs.Law.{total}
 use Rattle.corr_core.specs.declared.marks.Note.{Note}
 use Rattle.corr_core.specs.declared.marks.Note.TheVariants.{Ended, Locker, Queued}
@@ -12,7 +12,7 @@ use Rattle.id_rule.specs.Lawful.{notes_of}
 use Rattle.sock_message.specs.Asked.{Asked}
 use Rattle.corr_id.specs.declared.posts.Posted.{Posted}
 use Rattle.corr_id.specs.declared.posts.Posted.TheVariants.{Locked as HasLock, Queued as IsQueued}
-use Rattle.corr_id.specs.Calls.{slot_of, version_of, error_in, one, Quiet, Did, GotLock, Became}
+use Rattle.corr_id.specs.Calls.{error_in, one, Quiet, Did, GotLock, Became}
 use Rattle.corr_id.specs.Posts.{PostOk}
 use Rattle.corr_id.proofs.Doing.{became_grows}
 use Rattle.call_places.specs.Counted.{makes}
@@ -42,7 +42,7 @@ none_got i v w word k c g = none_did i v w _ (one i (Locker k.first c)) g.did (�
 
 none_post : (slots : ℕ) (v w : View Asked) (id code : ℕ) (attempt : Option ℕ) (answer : Posted Asked) → PostOk slots v w id code attempt answer → MadeNone v w
 none_post slots v w id code attempt (HasLock k) p = none_got k.slot v w p.4.0 (parts k.word.0) k.content p.4.1
-none_post slots v w id code attempt IsQueued p = none_did (slot_of id) v w _ (one (slot_of id) (Queued (version_of id) (error_in code attempt))) p.0 (λ o. refl)
+none_post slots v w id code attempt IsQueued p = none_did (id_slot id) v w _ (one (id_slot id) (Queued (id_first id) (error_in code attempt))) p.0 (λ o. refl)
 none_post slots v w id code attempt _ p = none_quiet v w p.0
 
 none_ended : (i f n : ℕ) (v w : View Asked) → Became i v w [] (one i (Ended f n)) → MadeNone v w

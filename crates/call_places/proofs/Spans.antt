@@ -7,7 +7,7 @@ use Rattle.sock_words.specs.declared.at_word.AtWord.{AtWord}
 use Rattle.sock_words.specs.declared.outcome.Outcome.{Outcome}
 use Rattle.sock_words.specs.declared.outcome.Outcome.TheVariants.{CallFailed}
 use Rattle.sock_io.specs.Link.{InState}
-use Rattle.corr_core.specs.Word.{Parts, parts}
+use Rattle.corr_core.specs.Word.{Parts, parts, id_slot}
 use Rattle.corr_core.specs.declared.marks.Note.TheVariants.{Ended}
 use Rattle.corr_core.specs.declared.marks.Plan.{Plan}
 use Rattle.corr_core.specs.declared.marks.View.{View}
@@ -15,7 +15,7 @@ use Rattle.id_rule.specs.Lawful.{at_index, with_kept}
 use Rattle.sock_message.specs.Asked.{Asked}
 use Rattle.corr_id.specs.declared.posts.Posted.{Posted}
 use Rattle.corr_id.specs.declared.posts.Posted.TheVariants.{Locked as HasLock}
-use Rattle.corr_id.specs.Calls.{slot_of, one, Quiet, GotLock, Became}
+use Rattle.corr_id.specs.Calls.{one, Quiet, GotLock, Became}
 use Rattle.corr_id.specs.Posts.{PostOk}
 use Rattle.call_run.specs.rpc_reader.specs.prpc_frame.specs.Meaning.{frame_of}
 use Rattle.call_run.specs.rpc_reader.specs.prpc_frame.specs.declared.frame.Frame.{Frame}
@@ -92,7 +92,7 @@ module _ {R : View Asked → View Asked → Type 0} (x : Spans R) where
     -- a call that had ended, or is ended now
     pub rested : (slots id : ℕ) (b b' : Books) → HadEnded slots id b b' ⊎ EndedLast slots code id b b' → Along b b'
     rested slots id b b' (inl h) = x.looks b.view b'.view h.quiet
-    rested slots id b b' (inr l) = x.in_turn b.view l.locked b'.view (x.locks (slot_of id) b.view l.locked l.found l.word l.call l.got) (lost (slot_of id) l.word l.call (record b { view = l.locked }) b' l.lost)
+    rested slots id b b' (inr l) = x.in_turn b.view l.locked b'.view (x.locks (id_slot id) b.view l.locked l.found l.word l.call l.got) (lost (id_slot id) l.word l.call (record b { view = l.locked }) b' l.lost)
 
     one_rested : (p : Plan) (operation : ℕ) (b b' : Books) → OneEnded p code operation b b' → Along b b'
     one_rested p operation b b' (inl n) = x.noted b.view b'.view (ap (λ (v : View Asked). v.notes) n.view)

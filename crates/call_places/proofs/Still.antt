@@ -8,7 +8,7 @@ use Rattle.sock_words.specs.Codes.{EINTERNAL}
 use Rattle.sock_words.specs.declared.plain.Plan.{Plan}
 use Rattle.sock_words.specs.declared.socket_id.SocketId.{SocketId}
 use Rattle.call_run.specs.sock_rule.specs.declared.homes.Letter.{Letter}
-use Rattle.corr_core.specs.Word.{Parts, parts}
+use Rattle.corr_core.specs.Word.{Parts, parts, id_slot, id_first}
 use Rattle.corr_core.specs.Law.{total, only, pair, is_attempt}
 use Rattle.corr_core.specs.declared.marks.Note.{Note}
 use Rattle.corr_core.specs.declared.marks.Note.TheVariants.{Made, Ended, Locker, Queued, Attempt}
@@ -24,7 +24,7 @@ use Rattle.corr_id.specs.declared.posts.Posted.{Posted}
 use Rattle.corr_id.specs.declared.posts.Posted.TheVariants.{Locked as HasLock, Queued as IsQueued}
 use Rattle.corr_id.specs.declared.unlocks.Unlocked.{Unlocked}
 use Rattle.corr_id.specs.declared.unlocks.Unlocked.TheVariants.{Open, Next}
-use Rattle.corr_id.specs.Calls.{Did, Quiet, GotLock, one, is_event, advance_note, slot_of, version_of, error_in}
+use Rattle.corr_id.specs.Calls.{Did, Quiet, GotLock, one, is_event, advance_note, error_in}
 use Rattle.corr_id.specs.Posts.{PostOk}
 use Rattle.corr_id.specs.Unlocks.{UnlockOk}
 use Rattle.corr_id.proofs.Seats.{total_append}
@@ -202,7 +202,7 @@ decided_still (goes_on s k code attempt t u l next of a b e rest) = still_then s
 
 post_still : (slots : ℕ) (s t : CallStand) → t.books ≡ s.books → (id code : ℕ) (attempt : Maybe ℕ) (answer : Posted Asked) → PostOk slots s.view t.view id code attempt answer → Still s t
 post_still slots s t e id code attempt (HasLock k) p = got_still s t (ap (λ (b : Books). b.retries) e) k.slot p.4.0 (parts k.word.0) k.content p.4.1
-post_still slots s t e id code attempt IsQueued p = did_still s t (ap (λ (b : Books). b.retries) e) (slot_of id) _ (one (slot_of id) (Queued (version_of id) (error_in code attempt))) p.0 (λ o. refl)
+post_still slots s t e id code attempt IsQueued p = did_still s t (ap (λ (b : Books). b.retries) e) (id_slot id) _ (one (id_slot id) (Queued (id_first id) (error_in code attempt))) p.0 (λ o. refl)
 post_still slots s t e id code attempt _ p = quiet_still s t (ap (λ (b : Books). b.retries) e) p.0
 
 handled_still : (code : ℕ) (attempt : Maybe ℕ) (answer : Posted Asked) (s t : CallStand) → Handled code attempt answer s t → Still s t

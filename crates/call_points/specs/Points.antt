@@ -1,8 +1,8 @@
 -- What a seat has still to do with a call id, by where it stands; k is what follows.
 use Rattle.std.specs.Prelude.{ℕ, ◌≡◌, ◌<◌, Bool, true, false, not, IsTrue, nat_le, if◌then◌else◌, Option, Some, None}
-use Rattle.corr_core.specs.Word.{parts, code_of}
+use Rattle.corr_core.specs.Word.{parts, code_of, id_slot}
 use Rattle.corr_core.specs.Law.{LAST}
-use Rattle.seat_programs.specs.Asides.{Step, FreeId, EndId, id_slot}
+use Rattle.seat_programs.specs.Asides.{Step, FreeId, EndId}
 use Rattle.seat_programs.specs.Heads.{Retry, Sought, Posts, Unlocks, Decides, Locks, Posting, Unlocking, Deciding, HasEnded, GoesOn, Locking}
 use Rattle.seat_programs.specs.Posts.{decide, end_id, post_with, unlocked}
 use Rattle.seat_programs.specs.Programs.{Program, Aside, Round, Keep}

@@ -2,13 +2,13 @@
 use Rattle.std.proofs.Common.{◌≡◌, ◌≢◌, ℕ, ◌+◌, ◌*◌, ◌≤◌, ◌⊎◌, inl, inr, ⊎_elim, ◌&&◌, ◌||◌, not, Bool, true, false, cond, eqb, eqb-true, nat_lt, ltb-true, List, [], ◌∷◌, Option, Some, None, refl, sym, ap, ◌∙◌, subst, arith}
 use Rattle.sock_words.specs.declared.plain.Plan.{Plan}
 use Rattle.sock_words.specs.Codes.{is_final}
-use Rattle.corr_core.specs.Word.{Parts, parts, locked_word, posted_word, unlocked_word, error_of, code_of, attempt_of}
+use Rattle.corr_core.specs.Word.{Parts, parts, locked_word, posted_word, unlocked_word, error_of, code_of, attempt_of, call_id, id_slot, id_first}
 use Rattle.corr_core.specs.Law.{LAST}
 use Rattle.corr_core.specs.declared.marks.Plan.{Plan as IdPlan}
 use Rattle.corr_core.specs.Decisions.{ends_call}
 use Rattle.sock_message.specs.Asked.{Asked}
 use Rattle.seat_programs.specs.declared.task.Task.{Task}
-use Rattle.seat_programs.specs.Asides.{PutCall, LockId, PostId, UnlockId, FreeId, call_id, id_slot, id_first}
+use Rattle.seat_programs.specs.Asides.{PutCall, LockId, PostId, UnlockId, FreeId}
 use Rattle.seat_programs.specs.Calls.{Call}
 use Rattle.seat_programs.specs.Heads.{Retry, Sought, First, Version, Posts, Unlocks, Decides, Locks, Joins, Posting, WasGone, WasStale, WasCrowded, WasQueued, HasLocked, Unlocking, IsOpen, HasNext, Deciding, HasEnded, GoesOn, Locking, NotThere, Has}
 use Rattle.seat_programs.specs.Programs.{Program, Do, Aside, Round}

@@ -1,20 +1,20 @@
 -- What writers, attempts and calls say has its cause.
 use Rattle.std.proofs.Common.{◌≡◌, ◌≢◌, ℕ, zero, suc, ◌+◌, ◌-◌, ◌/◌, ◌%◌, ◌≤◌, inl, inr, ◌==◌, ◌&&◌, Bool, true, false, cond, eqb, leb, nat_lt, nat_le, List, length, refl, sym, ap, ◌∙◌, subst, arith}
-use Rattle.sock_words.specs.Words.{socket_id_version, socket_id_slot, vref_version, vref_nref, at_word, at_word_attempt}
+use Rattle.sock_words.specs.Words.{socket_id_version, socket_id_slot, vref_version, vref_nref, at_word, at_word_attempt, ticket_generation, ticket_request}
 use Rattle.sock_words.specs.declared.plain.Plan.{Plan}
 use Rattle.sock_io.specs.declared.link.Put.{Put}
 use Rattle.sock_io.specs.declared.link.Put.TheVariants as puts
 use Rattle.sock_io.specs.declared.link.Ready.{Ready}
 use Rattle.sock_io.specs.declared.link.Ready.TheVariants as asks
 use Rattle.sock_model.specs.declared.chain.Heading.{Heading}
-use Rattle.sock_model.specs.Entries.{generation_of, slot_of, ticket_of}
+use Rattle.sock_model.specs.Entries.{ticket_of}
 use Rattle.sock_model.specs.Memory.{IDLE, UNCONNECTED}
 use Rattle.corr_core.specs.declared.marks.Plan.{Plan as IdPlan}
 use Rattle.sock_message.specs.Asked.{Asked, frame_of}
 use Rattle.seat_programs.specs.declared.task.Task.{Task}
 use Rattle.seat_programs.specs.Parts.{part}
 use Rattle.seat_programs.specs.Calls.{SubRef, Recycle, StoreCode, LoadLink, TakeLink, FinishLink, PutLink, FreeSlot, FreeRequest, ReadNext, ReverseNext, Connect, FindLink, LookWord}
-use Rattle.seat_programs.specs.Asides.{StoreAt, id_slot, id_first}
+use Rattle.seat_programs.specs.Asides.{StoreAt}
 use Rattle.seat_programs.specs.Programs.{Program, Do, TakeMessage, TakeHome, PutBytes, Write, Aside, LAST_VERSION, LAST_GENERATION, recycle, release, address, set_failed}
 use Rattle.seat_programs.specs.Posts.{post}
 use Rattle.seat_programs.specs.Writings.{Holder, Writing, Puts, Waits, Empties, Walks}
@@ -26,6 +26,7 @@ use Rattle.call_stories.specs.Scenes.{Scene, IsOther}
 use Rattle.call_stories.specs.Says.{Mark, with_slot, IsFree, Again}
 use Rattle.call_stories.proofs.Lasting.{far}
 use Rattle.call_stories.proofs.Posts.{speech, way, again_same, then_on, then_does, then_way, follows_later, then_follows, post_says}
+use Rattle.corr_core.specs.Word.{id_slot, id_first}
 
 module _ (p : Plan) (q : IdPlan) (clients : List (List Task)) (gives : ℕ → List ℕ) where
   open speech p q clients gives use {Tells, Later', Next, Ends}
@@ -85,16 +86,16 @@ module _ (p : Plan) (q : IdPlan) (clients : List (List Task)) (gives : ℕ → L
   writes_on w m after free goes x fits = then_follows p q clients gives w m (Write x after) free (writes w m after free goes x fits)
 
   freed_then : (w : Scene) (m : Mark) (now : ℕ) (next : Program) → Next w m next → Next w m (freed now next)
-  freed_then w m now next goes = λ v l s. way p q clients gives v m (generation_of now == LAST_GENERATION) next (Do (FreeRequest (slot_of now) (generation_of now)) (λ _. next)) s (λ _ s'. goes v l s') (λ _ _. (tt, λ _ v2 l2 s2 _. goes v2 (far p q clients gives w v v2 l l2) s2))
+  freed_then w m now next goes = λ v l s. way p q clients gives v m (ticket_generation now == LAST_GENERATION) next (Do (FreeRequest (ticket_request now) (ticket_generation now)) (λ _. next)) s (λ _ s'. goes v l s') (λ _ _. (tt, λ _ v2 l2 s2 _. goes v2 (far p q clients gives w v v2 l l2) s2))
 
   passed_then : (w : Scene) (m : Mark) (h : Holder) (now : ℕ) (tells : Program → Program) (after : Program) → IsFree m → ((x : Program) → Ends w m x → Next w m (tells x)) → Ends w m after → Next w m (passed_telling h now tells after)
   passed_then w m h now tells after free told goes = λ v l s. way p q clients gives v m (now == h.last) (freed now (tells (Write (Empties h) after)))
-      (Do (ReadNext (slot_of now)) (λ next. freed now (tells (TakeMessage (slot_of next) (λ heading bytes. Write (Puts h next heading bytes 0 false) after))))) s
+      (Do (ReadNext (ticket_request now)) (λ next. freed now (tells (TakeMessage (ticket_request next) (λ heading bytes. Write (Puts h next heading bytes 0 false) after))))) s
       (λ _ s'. freed_then w m now (tells (Write (Empties h) after)) (told (Write (Empties h) after) (writes w m after free goes (Empties h) tt)) v l s')
       (λ _ _. (
         tt,
-        λ next v2 l2 s2 _. freed_then w m now (tells (TakeMessage (slot_of next) (λ heading bytes. Write (Puts h next heading bytes 0 false) after)))
-            (told (TakeMessage (slot_of next) (λ heading bytes. Write (Puts h next heading bytes 0 false) after))
+        λ next v2 l2 s2 _. freed_then w m now (tells (TakeMessage (ticket_request next) (λ heading bytes. Write (Puts h next heading bytes 0 false) after)))
+            (told (TakeMessage (ticket_request next) (λ heading bytes. Write (Puts h next heading bytes 0 false) after))
             (λ u m' l' _ a. λ heading bytes u2 fits l3 _. writes w m after free goes (Puts h next heading bytes 0 false) fits u2 m' (far p q clients gives w u u2 l' l3) tt a)) v2 (far p q clients gives w v v2 l l2) s2,
       ))
 
@@ -140,12 +141,12 @@ module _ (p : Plan) (q : IdPlan) (clients : List (List Task)) (gives : ℕ → L
   block_says w m (Walks h top at after) then_ g = (
     tt,
     λ found v l s _. way p q clients gives v m (found == UNCONNECTED) (Write (Walks h top at after) then_)
-        (Do (ReverseNext (slot_of at) after) (λ _. cond (found == h.last) (TakeMessage (slot_of at) (λ heading bytes. Write (Puts (record h { last = top }) at heading bytes 0 false) then_)) (Write (Walks h top found at) then_))) s
+        (Do (ReverseNext (ticket_request at) after) (λ _. cond (found == h.last) (TakeMessage (ticket_request at) (λ heading bytes. Write (Puts (record h { last = top }) at heading bytes 0 false) then_)) (Write (Walks h top found at) then_))) s
         (λ _ s'. writes_on w m then_ g.0 g.2 (Walks h top at after) tt v l s')
         (λ _ _. (
           tt,
           λ _ v2 l2 s2 _. let f2 = far p q clients gives w v v2 l l2 in
-              way p q clients gives v2 m (found == h.last) (TakeMessage (slot_of at) (λ heading bytes. Write (Puts (record h { last = top }) at heading bytes 0 false) then_)) (Write (Walks h top found at) then_) s2
+              way p q clients gives v2 m (found == h.last) (TakeMessage (ticket_request at) (λ heading bytes. Write (Puts (record h { last = top }) at heading bytes 0 false) then_)) (Write (Walks h top found at) then_) s2
               (λ _ _. λ heading bytes v3 fits l3 s3. writes_on w m then_ g.0 g.2 (Puts (record h { last = top }) at heading bytes 0 false) fits v3 (far p q clients gives w v2 v3 f2 l3) s3)
               (λ _ s'. writes_on w m then_ g.0 g.2 (Walks h top found at) tt v2 f2 s'),
         )),

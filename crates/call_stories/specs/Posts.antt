@@ -4,8 +4,8 @@ use mathlib.Core.Option.{Option, none, some}
 use lib.ListN.{get_elem?}
 use Rattle.seat_programs.specs.brpc_model.specs.Items.{Item}
 use Rattle.seat_programs.specs.brpc_model.specs.Operations.{Turn}
-use Rattle.corr_core.specs.Word.{parts}
-use Rattle.seat_programs.specs.Asides.{Step, Found, PostId, Taking, call_id}
+use Rattle.corr_core.specs.Word.{parts, call_id}
+use Rattle.seat_programs.specs.Asides.{Step, Found, PostId, Taking}
 use Rattle.seat_programs.specs.Programs.{Program, Aside}
 use Rattle.seat_programs.specs.Beside.{found_in}
 use Rattle.owed_calls.specs.Below.id_runs.specs.Goes.{first_of}

@@ -10,14 +10,14 @@ use Rattle.sock_model.specs.declared.chain.Heading.{Heading}
 use Rattle.seat_programs.specs.brpc_model.specs.Frame.{Frame}
 use Rattle.seat_programs.specs.brpc_model.specs.Stream.{stream}
 use Rattle.seat_programs.specs.brpc_model.specs.Causes.{HasFault}
-use Rattle.corr_core.specs.Word.{Parts, parts, code_of, attempt_of, unlocked_word}
+use Rattle.corr_core.specs.Word.{Parts, parts, code_of, attempt_of, unlocked_word, call_id, id_slot, id_first}
 use Rattle.corr_core.specs.declared.marks.Plan.{Plan as IdPlan}
 use Rattle.corr_core.specs.Decisions.{WHOLE}
 use Rattle.sock_message.specs.Asked.{Asked, name_of}
 use Rattle.seat_programs.specs.declared.task.Op.TheVariants as ops
 use Rattle.seat_programs.specs.declared.task.Task.{Task}
 use Rattle.seat_programs.specs.Calls.{Call, StoreName, LoadName, StoreCode, LoadCode}
-use Rattle.seat_programs.specs.Asides.{Step, ClaimId, PutCall, MakeId, StoreCall, LoadCall, StoreAt, LoadAt, LoadIdWord, LockId, PostId, UnlockId, EndId, FreeId, TakeCall, TakeBytes, Taking, Bytes, Found, call_id, id_slot, id_first}
+use Rattle.seat_programs.specs.Asides.{Step, ClaimId, PutCall, MakeId, StoreCall, LoadCall, StoreAt, LoadAt, LoadIdWord, LockId, PostId, UnlockId, EndId, FreeId, TakeCall, TakeBytes, Taking, Bytes, Found}
 use Rattle.seat_programs.specs.Heads.{Head, Exit, Sought, First, Version, Posts, Unlocks, Decides, Locks, Joins, Opens, Reads, Discards, Posting, WasCrowded, WasQueued, HasLocked, Unlocking, IsOpen, HasNext, Deciding, HasEnded, GoesOn, Locking, NotThere, Has, Reading}
 use Rattle.seat_programs.specs.Posts.{is_first, is_stale, is_sought, packed, advance_of}
 use Rattle.seat_programs.specs.Programs.{Program, Do, Say, Sent, Rest, TakeMessage, TakeHome, PutHome, PutBytes, AskReady, Write, Aside, Round, Keep, Retries}

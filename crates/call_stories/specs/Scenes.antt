@@ -8,11 +8,10 @@ use Rattle.seat_programs.specs.brpc_model.specs.Meta.{ResponseMeta}
 use Rattle.seat_programs.specs.brpc_model.specs.Frame.{Frame}
 use Rattle.seat_programs.specs.brpc_model.specs.Stream.{stream}
 use Rattle.seat_programs.specs.brpc_model.specs.Causes.{HasFault}
-use Rattle.corr_core.specs.Word.{parts, error_of, code_of, attempt_of}
+use Rattle.corr_core.specs.Word.{parts, error_of, code_of, attempt_of, id_slot, id_first}
 use Rattle.corr_core.specs.declared.marks.Plan.{Plan as IdPlan}
 use Rattle.corr_core.specs.Decisions.{WHOLE}
 use Rattle.seat_programs.specs.id_rule.specs.Lawful.{id_index, call_index}
-use Rattle.seat_programs.specs.Asides.{id_slot, id_first}
 use Rattle.sock_model.specs.Layout.{name_index}
 use Rattle.sock_message.specs.Asked.{Asked, name_of}
 use Rattle.seat_programs.specs.declared.task.Op.{Op}

@@ -20,7 +20,7 @@ use Rattle.corr_core.specs.declared.marks.View.{View}
 use Rattle.corr_core.proofs.Notes.{pair-same, at_length}
 use Rattle.id_rule.specs.Lawful.{call_index, notes_of, is_stored}
 use Rattle.sock_message.specs.Asked.{Asked}
-use Rattle.corr_id.specs.Calls.{slot_of, version_of, one}
+use Rattle.corr_id.specs.Calls.{one}
 use Rattle.call_deeds.specs.Below.RpcClient.Told.{Told}
 use Rattle.call_deeds.specs.Below.RpcClient.Running.{telling}
 use Rattle.call_deeds.specs.Below.CallAttempts.Both.{Both}
@@ -36,6 +36,7 @@ use Rattle.call_told.proofs.Ends.{made_silent, counted_here}
 use Rattle.call_told.proofs.Growing.{Grows}
 use Rattle.call_told.proofs.Lists.{all_at, last_there}
 use Rattle.call_told.proofs.Moves.{attempted_by, Fits, made_moves, end_moves}
+use Rattle.corr_core.specs.Word.{id_slot, id_first}
 
 -- of an operation, by what the client told of its own and what its seat of the ids knows
 pub data HasCome (q : id_plan.Plan) (x : Task) (told : List Told) (v : View Asked) : Type 0 where
@@ -48,7 +49,7 @@ module _ (q : id_plan.Plan) where
   pub begun_later : (x n operation id : ℕ) (v w : View Asked) → Grows x n v w → HasBegun q operation id v → HasBegun q operation id w
   begun_later x n operation id v w g h = record {
     inside = h.inside;
-    made = (let a = g.notes (slot_of id) (is_made_for (version_of id) operation) in let b = h.made in omega arith);
+    made = (let a = g.notes (id_slot id) (is_made_for (id_first id) operation) in let b = h.made in omega arith);
     stored = (let a = g.kept (is_stored (call_index q operation) id) in let b = h.stored in omega arith);
   }
 
@@ -66,7 +67,7 @@ module _ (q : id_plan.Plan) where
     -- the id of a call is made and noted
     pub made_begun : (asked : Asked) (id : ℕ) (s t : Both) → CalledBy state p q asked (called.Begun id) s t → HasBegun q asked.operation id t.calls.view
     made_begun asked id s t h =
-        let m = h.made_for in let u = h.at.calls.view in let o = asked.operation in let slot = slot_of id in let f = version_of id in
+        let m = h.made_for in let u = h.at.calls.view in let o = asked.operation in let slot = id_slot id in let f = id_first id in
         let notes = did_total (is_made_for f o) (made_silent f o) slot s.calls.view m.view _ (one slot (made_note f asked.range asked)) m.made.did slot in
         let here = counted_here (is_made_for f o) slot (made_note f asked.range asked) in let one_ = pair-same f o in
         let noted = ap (λ (y : View Asked). total (is_made_for f o) (notes_of slot y.notes)) m.noted in

@@ -17,7 +17,6 @@ use Rattle.corr_core.specs.declared.marks.View.{View}
 use Rattle.corr_core.proofs.Notes.{only-else, only_le, pair-at, pair-else, pair-else_first, pair_le, total_some, total_mono}
 use Rattle.id_rule.specs.Lawful.{call_index, notes_of, is_stored}
 use Rattle.sock_message.specs.Asked.{Asked}
-use Rattle.corr_id.specs.Calls.{slot_of, version_of}
 use Rattle.corr_id.specs.Closing.{Closing}
 use Rattle.corr_id.specs.Ruled.{is_place}
 use Rattle.corr_id.proofs.Seats.{notes_append, total_append}
@@ -34,6 +33,7 @@ use Rattle.call_told.proofs.Lists.{all_at}
 use Rattle.call_told.proofs.Once.{told_noted}
 use Rattle.call_told.proofs.Resting.{is_word, IsSeen, rest_seen, seen_ended}
 use Rattle.call_told.proofs.Tallies.{Tally, rest_accounts, version_low}
+use Rattle.corr_core.specs.Word.{id_slot, id_first}
 
 -- ## One of a list
 
@@ -119,14 +119,14 @@ module _ (q : Plan) (notes : List (Noted Asked)) (kept : List Kept) (words : Lis
           let h = closing.found_stored at.1 at.0 at.2 in subst (λ (y : ℕ). 0 < total (is_stored x y) kept) is.1 (subst (λ (y : ℕ). 0 < total (is_stored y at.1.word) kept) is.0 h)
 
   -- an end that is told of the call is told with its operation's number
-  pub end_number : (operation id : ℕ) (v : View Asked) (x : Told) → ((slot : ℕ) (g : Note Asked → ℕ) → total g (notes_of slot v.notes) ≤ total g (notes_of slot notes)) → slot_of id < q.slots → 0 < total (is_made_for (version_of id) operation) (notes_of (slot_of id) notes)
+  pub end_number : (operation id : ℕ) (v : View Asked) (x : Told) → ((slot : ℕ) (g : Note Asked → ℕ) → total g (notes_of slot v.notes) ≤ total g (notes_of slot notes)) → id_slot id < q.slots → 0 < total (is_made_for (id_first id) operation) (notes_of (id_slot id) notes)
       → IsEndOf v x → 0 < ends_of id x.outcome → x.number ≡ operation
   end_number operation id v x within inside made e ends =
       let same : e.slot * 4294967296 + e.first ≡ id = only_is id (e.slot * 4294967296 + e.first) (let a = e.is_end id in omega arith) in
-      let parts' : slot_of id * 4294967296 + version_of id ≡ id = div-add-mod' id 4294967296 in let low = version_low id in let low' = e.low in
-      let slot : e.slot ≡ slot_of id = omega arith in let first : e.first ≡ version_of id = omega arith in
-      let locked : 0 < total (is_locked_for (version_of id) x.number) (notes_of (slot_of id) notes) = (let a = within e.slot (is_locked_for e.first x.number) in let b = e.locked in let c : total (is_locked_for e.first x.number) (notes_of e.slot notes) ≡ total (is_locked_for (version_of id) x.number) (notes_of (slot_of id) notes) = λ i. total (is_locked_for (first i) x.number) (notes_of (slot i) notes) in omega arith) in
-      locks_its (slot_of id) (version_of id) operation x.number inside made locked
+      let parts' : id_slot id * 4294967296 + id_first id ≡ id = div-add-mod' id 4294967296 in let low = version_low id in let low' = e.low in
+      let slot : e.slot ≡ id_slot id = omega arith in let first : e.first ≡ id_first id = omega arith in
+      let locked : 0 < total (is_locked_for (id_first id) x.number) (notes_of (id_slot id) notes) = (let a = within e.slot (is_locked_for e.first x.number) in let b = e.locked in let c : total (is_locked_for e.first x.number) (notes_of e.slot notes) ≡ total (is_locked_for (id_first id) x.number) (notes_of (id_slot id) notes) = λ i. total (is_locked_for (first i) x.number) (notes_of (slot i) notes) in omega arith) in
+      locks_its (id_slot id) (id_first id) operation x.number inside made locked
 
 -- ## All that tell
 
@@ -202,12 +202,12 @@ module _ (q : Plan) (calls : List ℕ) (code : ℕ) where
       abbrev place : ℕ
       place = call_index q operation
 
-      made : 0 < total (is_made_for (version_of id) operation) (notes_of (slot_of id) b.view.notes)
-      made = let a = all_notes (slot_of id) (is_made_for (version_of id) operation) seats k v at in let c = begun.made in
-          let e = ap (λ (l : List (Noted Asked)). total (is_made_for (version_of id) operation) (notes_of (slot_of id) l)) all.notes in omega arith
+      made : 0 < total (is_made_for (id_first id) operation) (notes_of (id_slot id) b.view.notes)
+      made = let a = all_notes (id_slot id) (is_made_for (id_first id) operation) seats k v at in let c = begun.made in
+          let e = ap (λ (l : List (Noted Asked)). total (is_made_for (id_first id) operation) (notes_of (id_slot id) l)) all.notes in omega arith
 
-      known : 0 < total (is_made (version_of id)) (notes_of (slot_of id) b.view.notes)
-      known = let a = total_mono (is_made_for (version_of id) operation) (is_made (version_of id)) (made_is (version_of id) operation) (notes_of (slot_of id) b.view.notes) in let c = made in omega arith
+      known : 0 < total (is_made (id_first id)) (notes_of (id_slot id) b.view.notes)
+      known = let a = total_mono (is_made_for (id_first id) operation) (is_made (id_first id)) (made_is (id_first id) operation) (notes_of (id_slot id) b.view.notes) in let c = made in omega arith
 
       stored : 0 < total (is_stored place id) b.view.kept
       stored = let a = term (λ (w : View Asked). total (is_stored place id) w.kept) seats k v at in let c = begun.stored in
@@ -224,14 +224,14 @@ module _ (q : Plan) (calls : List ℕ) (code : ℕ) where
         only_one : total (own_at place) b'.view.kept ≤ 1
         only_one = let a = (whole.grows place).own in let c = ap (total (own_at place)) all.kept in let d = all_kept (own_at place) seats in omega arith
 
-        over : 0 < noted_ends (slot_of id) (version_of id) b'.view.notes
-        over = seen_ended q code operation id begun.inside b' words (let a = (whole.grows place).notes (slot_of id) (is_made (version_of id)) in let c = known in omega arith) seen
+        over : 0 < noted_ends (id_slot id) (id_first id) b'.view.notes
+        over = seen_ended q code operation id begun.inside b' words (let a = (whole.grows place).notes (id_slot id) (is_made (id_first id)) in let c = known in omega arith) seen
             (λ found word. alone q b'.view.notes b'.view.kept words all.closing place id found only_one (let a = (whole.grows place).kept (is_stored place id) in let c = stored in omega arith) word) all.closing
 
         told_of_it : 0 < total (told_ends id) tellers
         told_of_it =
-            let is : slot_of id * 4294967296 + version_of id ≡ id = div-add-mod' id 4294967296 in
-            let a = told_noted q calls code ended seats b b' all.balanced all.notes all.none_told all.rest all.calm (slot_of id) (version_of id) (version_low id) in let c = over in
+            let is : id_slot id * 4294967296 + id_first id ≡ id = div-add-mod' id 4294967296 in
+            let a = told_noted q calls code ended seats b b' all.balanced all.notes all.none_told all.rest all.calm (id_slot id) (id_first id) (version_low id) in let c = over in
             subst (λ (x : ℕ). 0 < total (told_ends x) tellers) is (omega arith)
 
         -- its end is told, once at least, with its operation's number
@@ -248,7 +248,7 @@ module _ (q : Plan) (calls : List ℕ) (code : ℕ) where
                   one = x.1;
                   by = t.2;
                   at = x.2;
-                  number = end_number q b'.view.notes b'.view.kept words all.closing operation id w.0 x.1 w.2 begun.inside (let a = (whole.grows place).notes (slot_of id) (is_made_for (version_of id) operation) in let c = made in omega arith) e x.3;
+                  number = end_number q b'.view.notes b'.view.kept words all.closing operation id w.0 x.1 w.2 begun.inside (let a = (whole.grows place).notes (id_slot id) (is_made_for (id_first id) operation) in let c = made in omega arith) e x.3;
                 };
                 is_end = (let a = e.is_end id in let c = only_le id (e.slot * 4294967296 + e.first) in let d = x.3 in omega arith);
               },

@@ -21,7 +21,7 @@ use Rattle.seat_programs.specs.declared.task.Op.{Op}
 use Rattle.seat_programs.specs.declared.task.Op.TheVariants as ops
 use Rattle.seat_programs.specs.declared.task.Task.{Task}
 use Rattle.call_deeds.specs.Below.WriteChain.Undelivered.{Undelivered}
-use Rattle.corr_core.specs.Word.{Parts, parts}
+use Rattle.corr_core.specs.Word.{Parts, parts, id_slot}
 use Rattle.corr_core.specs.Law.{total, only}
 use Rattle.corr_core.specs.declared.marks.Note.{Note}
 use Rattle.corr_core.specs.declared.marks.Note.TheVariants.{Ended}
@@ -33,7 +33,7 @@ use Rattle.sock_message.specs.Asked.{Asked}
 use Rattle.corr_id.specs.declared.calls.IdLock.{IdLock}
 use Rattle.corr_id.specs.declared.posts.Posted.{Posted}
 use Rattle.corr_id.specs.declared.posts.Posted.TheVariants.{Locked as HasLock, Gone, Crowded}
-use Rattle.corr_id.specs.Calls.{slot_of, one}
+use Rattle.corr_id.specs.Calls.{one}
 use Rattle.corr_id.specs.Posts.{PostOk}
 use Rattle.call_deeds.specs.Below.CallErrors.Retry.{Retry}
 use Rattle.call_deeds.specs.Below.CallErrors.Books.{Books, CallStand, stand_of, starving, Tells, told, lost}
@@ -229,7 +229,7 @@ module _ (q : id_plan.Plan) (operation : ℕ) where
     made_for : (asked : Asked) (id : ℕ) (socket : SocketId) (s t : Both) → MadeFor state p q asked id socket s t → Moves (only operation asked.operation) s.calls t.calls
     made_for asked id socket s t m =
         let n = only operation asked.operation in let u : CallStand = record { view = m.view; books = s.calls.books } in
-        moves_then 0 n n s.calls u t.calls (omega arith) (moves_seen 0 s.calls u (did_grows place (slot_of id) s.calls.view m.view _ _ m.made.did) refl)
+        moves_then 0 n n s.calls u t.calls (omega arith) (moves_seen 0 s.calls u (did_grows place (id_slot id) s.calls.view m.view _ _ m.made.did) refl)
         (moves_seen n u t.calls (kept_grows place n m.view t.calls.view (call_index q asked.operation) true id m.noted (call_of_one q operation asked.operation)) m.books)
 
     pub begun_by : (asked : Asked) (id : ℕ) (s t : Both) → CalledBy state p q asked (called.Begun id) s t → Moves (only operation asked.operation) s.calls t.calls

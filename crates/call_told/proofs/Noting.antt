@@ -2,7 +2,7 @@
 use Rattle.std.proofs.Common.{◌≡◌, ℕ, ◌≤◌, true, false, cond, List, [], ◌∷◌, ◌++◌, append_assoc, Some, refl, sym, ap, ◌∙◌, arith}
 use Rattle.std.specs.List.{AllByRecursion, flat_map}
 use Rattle.std.specs.Prelude.{Option as Maybe, slice_get}
-use Rattle.corr_core.specs.Word.{Parts, parts}
+use Rattle.corr_core.specs.Word.{Parts, parts, id_slot, id_first}
 use Rattle.corr_core.specs.Law.{total, is_any_made}
 use Rattle.corr_core.specs.declared.marks.Note.{Note}
 use Rattle.corr_core.specs.declared.marks.Note.TheVariants.{Ended, Locker, Queued}
@@ -13,7 +13,7 @@ use Rattle.id_rule.specs.Lawful.{notes_of}
 use Rattle.sock_message.specs.Asked.{Asked}
 use Rattle.corr_id.specs.declared.posts.Posted.{Posted}
 use Rattle.corr_id.specs.declared.posts.Posted.TheVariants.{Locked as HasLock, Queued as IsQueued}
-use Rattle.corr_id.specs.Calls.{Became, Did, Quiet, GotLock, one, is_event, events, is_saw, slot_of, version_of, error_in}
+use Rattle.corr_id.specs.Calls.{Became, Did, Quiet, GotLock, one, is_event, events, is_saw, error_in}
 use Rattle.corr_id.specs.Posts.{PostOk}
 use Rattle.corr_id.proofs.Doing.{quiet_none, did_none, did_more}
 use Rattle.corr_id.proofs.Seats.{notes_append, total_append}
@@ -61,7 +61,7 @@ end_later {attempt} slot first v w b = did_later slot v w [] _ (became_did slot 
 
 pub post_later : (slots : ℕ) (v w : View Asked) (id code : ℕ) (attempt : Maybe ℕ) (answer : Posted Asked) → PostOk slots v w id code attempt answer → Later v w
 post_later slots v w id code attempt (HasLock k) p = got_later k.slot p.4.0 (parts k.word.0) k.content v w p.4.1
-post_later slots v w id code attempt IsQueued p = did_later (slot_of id) v w _ (one (slot_of id) (Queued (version_of id) (error_in code attempt))) p.0 (refl, tt)
+post_later slots v w id code attempt IsQueued p = did_later (id_slot id) v w _ (one (id_slot id) (Queued (id_first id) (error_in code attempt))) p.0 (refl, tt)
 post_later slots v w id code attempt _ p = quiet_later v w p.0
 
 -- ## Events

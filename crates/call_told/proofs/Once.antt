@@ -7,7 +7,6 @@ use Rattle.corr_core.specs.declared.marks.Kept.{Kept}
 use Rattle.corr_core.specs.declared.marks.Noted.{Noted}
 use Rattle.corr_core.specs.declared.marks.Plan.{Plan}
 use Rattle.corr_core.specs.declared.marks.View.{View}
-use Rattle.corr_id.specs.Calls.{slot_of, version_of}
 use Rattle.corr_id.specs.Closing.{Closing}
 use Rattle.corr_id.proofs.Seats.{total_append}
 use Rattle.sock_message.specs.Asked.{Asked}
@@ -17,6 +16,7 @@ use Rattle.call_deeds.specs.Below.RpcReader.Resting.{RestEnded}
 use Rattle.call_told.specs.Once.{told_ends, ToldOnce}
 use Rattle.call_told.proofs.Balance.{noted_ends, Accounted, AreBalanced, balanced_all}
 use Rattle.call_told.proofs.Tallies.{Accounts, rest_accounts, version_low}
+use Rattle.corr_core.specs.Word.{id_slot, id_first}
 
 -- memory was not wanting
 pub calm_accounts : (b b' : Books) → Accounts b b' → b'.starved ≡ false → Accounted b.told b.view.notes b'.told b'.view.notes
@@ -31,7 +31,7 @@ once_by : (q : Plan) (kept : List Kept) (words : List ℕ) (tellers : List (List
     → ((slot first : ℕ) → first < 4294967296 → total (told_ends (slot * 4294967296 + first)) tellers ≡ noted_ends slot first notes)
     → Closing q notes kept words → ToldOnce q.slots tellers
 once_by q kept words tellers notes same closing id inside =
-    let i = slot_of id in let f = version_of id in
+    let i = id_slot id in let f = id_first id in
     let is : i * 4294967296 + f ≡ id = div-add-mod' id 4294967296 in
     let a = same i f (version_low id) in
     let b = closing.ended_once i f inside in

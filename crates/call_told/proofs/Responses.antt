@@ -11,7 +11,7 @@ use Rattle.sock_words.specs.Words.{at_word_link}
 use Rattle.sock_words.specs.declared.at_word.AtWord.{AtWord}
 use Rattle.sock_words.specs.declared.outcome.Outcome.{Outcome}
 use Rattle.sock_words.specs.declared.outcome.Outcome.TheVariants.{CallFailed}
-use Rattle.corr_core.specs.Word.{Parts, parts, locked_word}
+use Rattle.corr_core.specs.Word.{Parts, parts, locked_word, id_slot, id_first}
 use Rattle.corr_core.specs.Law.{total, is_ended}
 use Rattle.corr_core.specs.declared.marks.Note.{Note}
 use Rattle.corr_core.specs.declared.marks.Note.TheVariants.{Ended}
@@ -23,7 +23,7 @@ use Rattle.id_rule.specs.Lawful.{at_index, notes_of, with_kept}
 use Rattle.corr_id.specs.declared.posts.Posted.{Posted}
 use Rattle.corr_id.specs.declared.posts.Posted.TheVariants.{Locked as HasLock}
 use Rattle.corr_id.specs.Attempts.{LacksAttempt}
-use Rattle.corr_id.specs.Calls.{Became, one, slot_of, version_of, is_saw, Found, FoundUpTo, GotLock}
+use Rattle.corr_id.specs.Calls.{Became, one, is_saw, Found, FoundUpTo, GotLock}
 use Rattle.corr_id.specs.Posts.{PostOk}
 use Rattle.corr_id.proofs.Doing.{became_grows}
 use Rattle.sock_message.specs.Asked.{Asked}
@@ -278,7 +278,7 @@ module _ (slots : ℕ) where
 
     pub id_goes : (id : ℕ) (b b' : Books) → HadEnded slots id b b' ⊎ EndedLast slots code id b b' → Goes slots b b'
     id_goes id b b' (inl h) = goes_so b b' h.quiet.grows (λ s. ap (λ (x : Books). x.starved) h.same ∙ s) (ap (λ (x : Books). x.early) h.same)
-    id_goes id b b' (inr l) = let u : Books = record b { view = l.locked } in goes_then b u b' (goes_view b l.locked l.got.did.grows) (lost_goes (slot_of id) l.word l.call b.view l.found u b' l.got l.lost)
+    id_goes id b b' (inr l) = let u : Books = record b { view = l.locked } in goes_then b u b' (goes_view b l.locked l.got.did.grows) (lost_goes (id_slot id) l.word l.call b.view l.found u b' l.got l.lost)
 
     pub one_goes : (p : Plan) → p.slots ≡ slots → (operation : ℕ) (b b' : Books) → OneEnded p code operation b b' → Goes slots b b'
     one_goes p is operation b b' (inl n) = goes_same b b' (n.same ∙ ap (λ (v : View Asked). record b { view = v }) n.view)
@@ -300,9 +300,9 @@ module _ (slots : ℕ) where
     lost_met slot w call u word b f got none_ is (by_want s) = inl s
 
     -- and the same where the code waits in the queue of an id
-    pub queued_met : (v : View Asked) (w word : ℕ) (b : Books) (f : Frame) → FoundUpTo (slot_of (call_at w)) (version_of (call_at w)) b.view → (parts word).first ≡ version_of (call_at w) → position (is_for (slot_of (call_at w)) (parts word)) b.early ≡ None → is_for (slot_of (call_at w)) (parts word) f ≡ true → IsMet f b → (b.starved ≡ true) ⊎ HasEnded f b.view
+    pub queued_met : (v : View Asked) (w word : ℕ) (b : Books) (f : Frame) → FoundUpTo (id_slot (call_at w)) (id_first (call_at w)) b.view → (parts word).first ≡ id_first (call_at w) → position (is_for (id_slot (call_at w)) (parts word)) b.early ≡ None → is_for (id_slot (call_at w)) (parts word) f ≡ true → IsMet f b → (b.starved ≡ true) ⊎ HasEnded f b.view
     queued_met v w word b f latest first none_ is (by_end h) = inr h
-    queued_met v w word b f latest first none_ is (by_keeping n at) = absurd (unkept (is_for (slot_of (call_at w)) (parts word)) b.early n f none_ at is)
+    queued_met v w word b f latest first none_ is (by_keeping n at) = absurd (unkept (is_for (id_slot (call_at w)) (parts word)) b.early n f none_ at is)
     queued_met v w word b f latest first none_ is (by_passing other found past) =
-        let a = for_is (slot_of (call_at w)) (parts word) f is in let c = latest other (subst (λ (i : ℕ). Found i other b.view) a.0 found) in absurd (let d = a.1 in omega (arith, c, d, past, first))
+        let a = for_is (id_slot (call_at w)) (parts word) f is in let c = latest other (subst (λ (i : ℕ). Found i other b.view) a.0 found) in absurd (let d = a.1 in omega (arith, c, d, past, first))
     queued_met v w word b f latest first none_ is (by_want s) = inl s

@@ -1,7 +1,7 @@
 -- Each call whose id was made and noted has ended once it was asked for all calls that are left.
 use Rattle.std.proofs.Common.{◌≡◌, ℕ, zero, suc, ◌<◌, ◌≤◌, ◌⊎◌, inl, inr, cond, eq-eqb, List, [], ◌∷◌, Some, None, refl, ap, ◌∙◌, subst, arith}
 use Rattle.std.specs.Prelude.{Option, slice_get, position}
-use Rattle.corr_core.specs.Word.{Parts, parts}
+use Rattle.corr_core.specs.Word.{Parts, parts, id_slot, id_first}
 use Rattle.corr_core.specs.Law.{total, only, pair, is_made, is_ended}
 use Rattle.corr_core.specs.declared.marks.Kept.{Kept}
 use Rattle.corr_core.specs.declared.marks.Note.TheVariants.{Ended}
@@ -10,7 +10,7 @@ use Rattle.corr_core.specs.declared.marks.View.{View}
 use Rattle.corr_core.proofs.Notes.{only-same, pair-same}
 use Rattle.id_rule.specs.Lawful.{call_index, notes_of}
 use Rattle.sock_message.specs.Asked.{Asked}
-use Rattle.corr_id.specs.Calls.{Found, OutOf, slot_of, version_of, one, is_saw}
+use Rattle.corr_id.specs.Calls.{Found, OutOf, one, is_saw}
 use Rattle.corr_id.specs.Closing.{Closing}
 use Rattle.corr_id.specs.Ruled.{is_place}
 use Rattle.sock_words.specs.declared.outcome.Outcome.{Outcome}
@@ -43,12 +43,12 @@ lost_noted i w call code b b' lost = by (position (is_for i w) b.early) lost
     by None l = as_noted i w call _ b b' l.0
     by (Some at) l = as_noted i w call _ b b' l.3
 
-module _ (p : Plan) (code operation id : ℕ) (inside : slot_of id < p.slots) where
+module _ (p : Plan) (code operation id : ℕ) (inside : id_slot id < p.slots) where
   abbrev slot : ℕ
-  slot = slot_of id
+  slot = id_slot id
 
   abbrev first : ℕ
-  first = version_of id
+  first = id_first id
 
   abbrev place : ℕ
   place = call_index p operation
@@ -82,7 +82,7 @@ module _ (p : Plan) (code operation id : ℕ) (inside : slot_of id < p.slots) wh
   id_over : (b b' : Books) → IsKnown b → HadEnded p.slots id b b' ⊎ EndedLast p.slots code id b b' → IsOver b'
   id_over b b' known (inl h) = by h.cause
     where
-      by : ((p.slots ≤ slot_of id) × (h.word ≡ 0)) ⊎ (Found (slot_of id) h.word b'.view × OutOf (parts h.word) (version_of id)) → IsOver b'
+      by : ((p.slots ≤ id_slot id) × (h.word ≡ 0)) ⊎ (Found (id_slot id) h.word b'.view × OutOf (parts h.word) (id_first id)) → IsOver b'
       by (inl none) = absurd (let a = none.0 in omega arith)
       by (inr found) = inr (h.word, found.0, h.later inside known)
   id_over b b' known (inr l) = inl (subst (λ (f : ℕ). 0 < noted_ends slot f b'.view.notes) (l.own known) (lost_noted slot l.word l.call code (record b { view = l.locked }) b' l.lost))

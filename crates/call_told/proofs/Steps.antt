@@ -7,7 +7,7 @@ use Rattle.sock_words.specs.Words.{at_word_link}
 use Rattle.sock_words.specs.declared.at_word.AtWord.{AtWord}
 use Rattle.sock_words.specs.declared.outcome.Outcome.{Outcome}
 use Rattle.sock_words.specs.declared.outcome.Outcome.TheVariants.{CallFailed}
-use Rattle.corr_core.specs.Word.{Parts, parts}
+use Rattle.corr_core.specs.Word.{Parts, parts, id_slot}
 use Rattle.corr_core.specs.declared.marks.Note.TheVariants.{Ended}
 use Rattle.corr_core.specs.declared.marks.Plan.{Plan}
 use Rattle.corr_core.specs.declared.marks.View.{View}
@@ -16,7 +16,7 @@ use Rattle.id_rule.specs.Lawful.{at_index, call_index, with_kept}
 use Rattle.corr_id.specs.declared.calls.IdLock.{IdLock}
 use Rattle.corr_id.specs.declared.posts.Posted.{Posted}
 use Rattle.corr_id.specs.declared.posts.Posted.TheVariants.{Locked as HasLock}
-use Rattle.corr_id.specs.Calls.{Became, Quiet, GotLock, one, slot_of}
+use Rattle.corr_id.specs.Calls.{Became, Quiet, GotLock, one}
 use Rattle.corr_id.specs.Posts.{PostOk}
 use Rattle.sock_message.specs.Asked.{Asked}
 use Rattle.brpc_model.specs.Frame as model
@@ -196,8 +196,8 @@ module _ (p : Plan) (links : ℕ) (gave : ℕ → List ℕ) (Later : View Asked 
         id_step id b b' (inl h) = step_quiet b b' (laws.quiet b.view b'.view h.quiet) (ap (λ (x : Books). x.told) h.same) (subst (λ (l : List Frame). GivenAll l) (sym (ap (λ (x : Books). x.early) h.same)))
         id_step id b b' (inr l) =
             let u : Books = record b { view = l.locked } in
-            step_then b u b' (step_seen b l.locked (laws.got (slot_of id) l.found l.word l.call b.view l.locked l.got))
-            (lost_step u b' (slot_of id) l.inside l.word l.call b.view l.found l.got (coded u b' (slot_of id) l.word l.call (let a = l.range.0 in omega (arith, a))) l.lost)
+            step_then b u b' (step_seen b l.locked (laws.got (id_slot id) l.found l.word l.call b.view l.locked l.got))
+            (lost_step u b' (id_slot id) l.inside l.word l.call b.view l.found l.got (coded u b' (id_slot id) l.word l.call (let a = l.range.0 in omega (arith, a))) l.lost)
 
         rest_one : (operation : ℕ) (b b' : Books) → OneEnded p code operation b b' → Step b b'
         rest_one operation b b' (inl n) = step_same b b' (n.same ∙ ap (λ (v : View Asked). record b { view = v }) n.view)

@@ -11,7 +11,7 @@ use Rattle.brpc_model.specs.Frame as model
 use Rattle.brpc_model.specs.Meta.{ResponseMeta}
 use Rattle.brpc_model.specs.ResponseOutcome.{by_code, outcome_by, ending_of}
 use Rattle.sock_io.specs.Link.{InState}
-use Rattle.corr_core.specs.Word.{Parts, parts}
+use Rattle.corr_core.specs.Word.{Parts, parts, id_slot, id_first}
 use Rattle.corr_core.specs.Law.{only, is_ended}
 use Rattle.corr_core.specs.declared.marks.Note.{Note}
 use Rattle.corr_core.specs.declared.marks.Note.TheVariants.{Ended, Locker, Queued}
@@ -23,7 +23,7 @@ use Rattle.corr_core.specs.Versions.{is_early}
 use Rattle.id_rule.specs.Lawful.{at_index, call_index, with_kept}
 use Rattle.corr_id.specs.declared.posts.Posted.{Posted}
 use Rattle.corr_id.specs.declared.posts.Posted.TheVariants.{Locked as HasLock, Queued as IsQueued}
-use Rattle.corr_id.specs.Calls.{slot_of, version_of, error_in, is_event, one, Quiet, Did, GotLock}
+use Rattle.corr_id.specs.Calls.{error_in, is_event, one, Quiet, Did, GotLock}
 use Rattle.corr_id.specs.Posts.{PostOk}
 use Rattle.sock_message.specs.Asked.{Asked}
 use Rattle.prpc_frame.specs.Meaning.{frame_of}
@@ -95,7 +95,7 @@ got_ends at v w word k call got = one_ends at v w _ (Locker k.first call) got.di
 
 post_ends : (slots : ℕ) (v w : View Asked) (id code : ℕ) (attempt : Option ℕ) (answer : Posted Asked) → PostOk slots v w id code attempt answer → SameEnds v.notes w.notes
 post_ends slots v w id code attempt (HasLock k) p = got_ends k.slot v w p.4.0 (parts k.word.0) k.content p.4.1
-post_ends slots v w id code attempt IsQueued p = one_ends (slot_of id) v w _ (Queued (version_of id) (error_in code attempt)) p.0 (λ first. refl)
+post_ends slots v w id code attempt IsQueued p = one_ends (id_slot id) v w _ (Queued (id_first id) (error_in code attempt)) p.0 (λ first. refl)
 post_ends slots v w id code attempt _ p = quiet_ends v w p.0
 
 -- ## A call ended
@@ -114,7 +114,7 @@ outcome_is id ended f (negsuc n) o = refl
 pub ending_is : (id ended : ℕ) (f : model.Frame) → ends_of id (ending_of ended f) ≡ only id ended
 ending_is id ended f = outcome_is id ended f f.meta.compress_type f.meta.response
 
-pub version_low : (id : ℕ) → version_of id < 4294967296
+pub version_low : (id : ℕ) → id_first id < 4294967296
 version_low id = let some : 0 < 4294967296 = omega arith in mod-lt id some
 
 ended_tally : (slot : ℕ) (w : Parts) (call : Asked) (by : Outcome) (b b' : Books) → w.first < 4294967296 → ((id : ℕ) → ends_of id by ≡ only id (id_of slot w)) → HasLocked slot w.first call.operation b.view → EndedAs slot w call by b b' → Tally b b'
@@ -211,8 +211,8 @@ module _ (code : ℕ) where
     id_tally id b b' (inl h) = tally_quiet b b' (λ s. ap (λ (x : Books). x.starved) h.same ∙ s) (ap (λ (x : Books). x.told) h.same) (quiet_ends b.view b'.view h.quiet) (λ x. quiet_grows x b.view b'.view h.quiet)
     id_tally id b b' (inr l) =
         let u : Books = record b { view = l.locked } in
-        tally_then b u b' (tally_seen b l.locked (got_ends (slot_of id) b.view l.locked l.found l.word l.call l.got) (λ x. did_grows x (slot_of id) b.view l.locked _ _ l.got.did))
-        (lost_tally (slot_of id) l.word l.call u b' (let x = l.range.0 in let y = version_low id in omega arith) (got_locked (slot_of id) b.view l.locked l.found l.word l.call l.got) l.lost)
+        tally_then b u b' (tally_seen b l.locked (got_ends (id_slot id) b.view l.locked l.found l.word l.call l.got) (λ x. did_grows x (id_slot id) b.view l.locked _ _ l.got.did))
+        (lost_tally (id_slot id) l.word l.call u b' (let x = l.range.0 in let y = version_low id in omega arith) (got_locked (id_slot id) b.view l.locked l.found l.word l.call l.got) l.lost)
 
     pub noted_tally : (operation id : ℕ) (b : Books) (seen : View Asked) → seen ≡ with_kept (call_index p operation) false id b.view → Tally b (record b { view = seen })
     noted_tally operation id b seen e = tally_seen b seen (λ slot first. ap (λ (y : View Asked). noted_ends slot first y.notes) e) (λ x. kept_grows x 0 b.view seen (call_index p operation) false id e (omega arith))

@@ -7,7 +7,7 @@ use Rattle.sock_words.specs.Words.{at_word_link}
 use Rattle.sock_words.specs.declared.at_word.AtWord.{AtWord}
 use Rattle.sock_words.specs.declared.outcome.Outcome.{Outcome}
 use Rattle.sock_words.specs.declared.outcome.Outcome.TheVariants.{CallFailed}
-use Rattle.corr_core.specs.Word.{Parts, parts, locked_word}
+use Rattle.corr_core.specs.Word.{Parts, parts, locked_word, id_slot}
 use Rattle.corr_core.specs.Law.{total, only, is_ended}
 use Rattle.corr_core.specs.declared.marks.Note.{Note}
 use Rattle.corr_core.specs.declared.marks.Note.TheVariants.{Ended}
@@ -16,7 +16,7 @@ use Rattle.corr_core.specs.declared.marks.View.{View}
 use Rattle.id_rule.specs.Lawful.{at_index, notes_of, with_kept}
 use Rattle.corr_id.specs.declared.posts.Posted.{Posted}
 use Rattle.corr_id.specs.declared.posts.Posted.TheVariants.{Locked as HasLock}
-use Rattle.corr_id.specs.Calls.{Became, one, slot_of, is_saw, Found, GotLock, HasId}
+use Rattle.corr_id.specs.Calls.{Became, one, is_saw, Found, GotLock, HasId}
 use Rattle.corr_id.specs.Posts.{PostOk}
 use Rattle.corr_id.specs.Closing.{Closing}
 use Rattle.corr_core.specs.declared.marks.Noted.{Noted}
@@ -226,7 +226,7 @@ module _ (slots : ℕ) (Given : Frame → Type 0) (asked : (f : Frame) → Given
 
     id_tells : (id : ℕ) (b b' : Books) → AllMet b → (b.starved ≡ true → ⊥) → HadEnded slots id b b' ⊎ EndedLast slots code id b b' → TellsEnds b b'
     id_tells id b b' all calm (inl h) = tells_none b b' (ap (λ (x : Books). x.told) h.same)
-    id_tells id b b' all calm (inr l) = let u : Books = record b { view = l.locked } in from_other b u b' refl (lost_tells (slot_of id) l.inside l.word (let x = l.range.0 in omega (arith, x)) l.call b.view l.found u b' l.got (all_met b u (goes_view slots b l.locked l.got.did.grows) all) calm l.lost)
+    id_tells id b b' all calm (inr l) = let u : Books = record b { view = l.locked } in from_other b u b' refl (lost_tells (id_slot id) l.inside l.word (let x = l.range.0 in omega (arith, x)) l.call b.view l.found u b' l.got (all_met b u (goes_view slots b l.locked l.got.did.grows) all) calm l.lost)
 
     one_tells : (p : Plan) → p.slots ≡ slots → (operation : ℕ) (b b' : Books) → AllMet b → (b.starved ≡ true → ⊥) → OneEnded p code operation b b' → TellsEnds b b'
     one_tells p is operation b b' all calm (inl n) = tells_none b b' (ap (λ (x : Books). x.told) n.same)

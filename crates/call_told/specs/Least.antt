@@ -9,9 +9,9 @@ use Rattle.corr_core.specs.declared.marks.Plan.{Plan}
 use Rattle.corr_core.specs.declared.marks.View.{View}
 use Rattle.id_rule.specs.Lawful.{call_index, notes_of, is_stored}
 use Rattle.sock_message.specs.Asked.{Asked}
-use Rattle.corr_id.specs.Calls.{slot_of, version_of}
 use Rattle.call_deeds.specs.Below.RpcClient.Told.{Told}
 use Rattle.call_told.specs.Once.{ends_of, told_ends}
+use Rattle.corr_core.specs.Word.{id_slot, id_first}
 
 -- 1 where the range with this first version was made for the call that is this operation
 abbrev pub is_made_for : ℕ → ℕ → Note Asked → ℕ
@@ -25,8 +25,8 @@ is_locked_for first operation _ = 0
 
 -- the seat made the id for the call that is this operation, and stored it where the operation's word is
 pub record HasBegun (q : Plan) (operation id : ℕ) (v : View Asked) : Type 0 where
-  pub inside : slot_of id < q.slots
-  pub made : 0 < total (is_made_for (version_of id) operation) (notes_of (slot_of id) v.notes)
+  pub inside : id_slot id < q.slots
+  pub made : 0 < total (is_made_for (id_first id) operation) (notes_of (id_slot id) v.notes)
   pub stored : 0 < total (is_stored (call_index q operation) id) v.kept
 
 -- by one of these it is told what became of this operation

@@ -3,8 +3,8 @@ use Rattle.std.specs.Prelude.{ℕ, ◌<◌, ◌≤◌, List, Option, Some, None}
 use Rattle.sock_words.specs.declared.outcome.Outcome.{Outcome}
 use Rattle.sock_words.specs.declared.outcome.Outcome.TheVariants.{Answered, Peer, CallFailed}
 use Rattle.corr_core.specs.Law.{total, only}
-use Rattle.corr_id.specs.Calls.{slot_of}
 use Rattle.call_deeds.specs.Below.RpcClient.Told.{Told}
+use Rattle.corr_core.specs.Word.{id_slot}
 
 -- 1 where the outcome is the end of the call with this id, else 0
 abbrev pub ends_of : ℕ → Outcome → ℕ
@@ -19,7 +19,7 @@ told_ends id told = total (λ (x : Told). ends_of id x.outcome) told
 
 -- over all that tell of calls, the end of a call whose id is in one of so many slots is told once at most
 abbrev pub ToldOnce : ℕ → List (List Told) → Type 0
-ToldOnce slots tellers = (id : ℕ) → slot_of id < slots → total (told_ends id) tellers ≤ 1
+ToldOnce slots tellers = (id : ℕ) → id_slot id < slots → total (told_ends id) tellers ≤ 1
 
 -- 1 where an operation has an outcome, which is the end of that call
 abbrev pub shows : ℕ → Option Outcome → ℕ
@@ -28,4 +28,4 @@ shows id (Some outcome) = ends_of id outcome
 
 -- of all operations one at most has the end of a call, whose id is in one of so many slots, as its outcome
 abbrev pub ShownOnce : ℕ → List (Option Outcome) → Type 0
-ShownOnce slots outcomes = (id : ℕ) → slot_of id < slots → total (shows id) outcomes ≤ 1
+ShownOnce slots outcomes = (id : ℕ) → id_slot id < slots → total (shows id) outcomes ≤ 1

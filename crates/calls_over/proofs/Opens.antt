@@ -6,7 +6,7 @@ use Rattle.brpc_model.specs.Items.{attempts_of}
 use Rattle.brpc_model.specs.Operations.{Operation, operations}
 use Rattle.brpc_model.specs.Places.{names}
 use Rattle.brpc_model.specs.Stream.{stream}
-use Rattle.corr_core.specs.Word.{Parts}
+use Rattle.corr_core.specs.Word.{Parts, id_slot, id_first, call_id}
 use Rattle.corr_core.specs.declared.marks.Plan.{Plan as IdPlan}
 use Rattle.corr_core.proofs.Notes.{at_length}
 use Rattle.id_rule.specs.Lawful.{local}
@@ -16,7 +16,6 @@ use Rattle.served_fits.specs.Below.script_facts.proofs.Sizes.{is_counted}
 use Rattle.served_fits.specs.Below.script_facts.proofs.Targets.{are_there}
 use Rattle.served_fits.specs.Below.script_facts.proofs.TaskLemmas.{numbers_at, task_is, call_asks}
 use Rattle.sock_message.specs.Asked.{Asked, request_of}
-use Rattle.seat_programs.specs.Asides.{id_slot, id_first, call_id}
 use Rattle.seat_programs.specs.Cores.{Core}
 use Rattle.seat_programs.specs.Scripts.{all_tasks, opened, set_up, played}
 use Rattle.seat_programs.specs.Tasks.{opens, numbered, plan_of, id_plan_of}

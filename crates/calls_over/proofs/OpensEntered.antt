@@ -9,7 +9,6 @@ use Rattle.sock_model.specs.Entries.{on}
 use Rattle.sock_model.specs.Links.{Failed}
 use Rattle.brpc_model.specs.Items.{Item}
 use Rattle.brpc_model.specs.Operations.{Turn}
-use Rattle.seat_programs.specs.Asides.{id_slot, id_first}
 use Rattle.seat_programs.specs.Cores.{Core}
 use Rattle.seat_programs.specs.Scripts.{all_tasks, opened, set_up, played, IsRunWithCalls}
 use Rattle.seat_programs.specs.Tasks.{plan_of}
@@ -40,6 +39,7 @@ use Rattle.calls_over.proofs.OpensHeld.{IsHeld, run_held}
 use Rattle.calls_over.proofs.OpensLog.{log, held_logged, logged_held, logged_on}
 use Rattle.calls_over.proofs.OpensNamed.{IsEarly}
 use Rattle.corr_core.proofs.Notes.{at_length}
+use Rattle.corr_core.specs.Word.{id_slot, id_first}
 
 module _ (script : List Item) (made : AreMade script) (turns : List Turn) (core : Core) (is : IsRunWithCalls script turns core) where
   abbrev rested : Core

@@ -29,7 +29,6 @@ use Rattle.served_fits.specs.Below.attempted_calls.proofs.EndedTrails.{lost}
 use Rattle.served_fits.specs.Below.attempted_calls.proofs.EndedNamed.{all_follow, begins_named, Named, Behind, seats_named, setup_named}
 use Rattle.served_fits.specs.Below.attempted_calls.proofs.EndedNames.{NameLaw, StoredFor}
 use Rattle.sock_words.specs.Words as sockets
-use Rattle.seat_programs.specs.Asides.{id_slot, id_first}
 use Rattle.served_fits.specs.Below.joint_runs.proofs.Runs.{AreMade}
 use Rattle.served_fits.specs.Below.call_owing.specs.Lives.{ClosesInRun}
 use Rattle.served_fits.specs.Below.call_owing.specs.Sound.{at_of}
@@ -37,6 +36,7 @@ use Rattle.served_fits.specs.Below.accept_counts.proofs.Early.{start, go, fittin
 use Rattle.served_fits.specs.Below.sent_once.proofs.Sends.{narrow, opening_bare}
 use Rattle.served_fits.specs.Below.accept_counts.proofs.Standing.{both}
 use Rattle.served_fits.specs.Below.accept_counts.proofs.Grounds.{setting}
+use Rattle.corr_core.specs.Word.{id_slot, id_first}
 
 -- what is known of an at word that was stored before the ending
 pub record IsEarly (script : List Item) (turns : List Turn) (core : Core) (is : IsRunWithCalls script turns core) (o w : ℕ) : Type 0 where

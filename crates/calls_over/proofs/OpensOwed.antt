@@ -17,7 +17,6 @@ use Rattle.brpc_model.specs.Frame.{Frame}
 use Rattle.brpc_model.specs.Operations.{Turn, clients}
 use Rattle.served_fits.specs.Below.script_facts.proofs.Reading.{InRange}
 use Rattle.served_fits.specs.Below.script_facts.proofs.Targets.{AreThere}
-use Rattle.seat_programs.specs.Asides.{id_slot, id_first}
 use Rattle.seat_programs.specs.Clients.{client_from}
 use Rattle.seat_programs.specs.Heads.{Exit, Reading, Joins, Opens, Reads, Discards}
 use Rattle.seat_programs.specs.Programs.{Program, Rest, Round}
@@ -59,6 +58,7 @@ use Rattle.served_fits.specs.Below.accept_counts.proofs.Standing.{Stands, restin
 use Rattle.served_fits.specs.Below.accept_counts.proofs.Standing as still
 use Rattle.served_fits.specs.Below.accept_counts.proofs.Grounds.{setting, stages}
 use Rattle.corr_core.proofs.Notes.{at_length}
+use Rattle.corr_core.specs.Word.{id_slot, id_first}
 
 -- ## A reader keeps no retry
 

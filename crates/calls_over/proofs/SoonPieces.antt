@@ -17,7 +17,6 @@ use Rattle.brpc_model.specs.Stream.{stream, stream_from}
 use Rattle.served_fits.specs.Below.script_facts.proofs.Lists.{all_at, all_from}
 use Rattle.corr_core.specs.declared.marks.Plan.{Plan as IdPlan}
 use Rattle.sock_message.specs.Asked.{Asked, request_of, frame_of}
-use Rattle.seat_programs.specs.Asides.{id_slot, id_first}
 use Rattle.seat_programs.specs.Cores.{Core}
 use Rattle.served_fits.specs.Below.programs_allowed.specs.program_steps.specs.Sound.{Sound}
 use Rattle.id_runs.specs.Held.{IdView}
@@ -32,6 +31,7 @@ use Rattle.served_fits.specs.served_runs.proofs.Frames.{IsPiece, piece_frames, I
 use Rattle.calls_over.proofs.SoonLists.{Stood, log_stood}
 use Rattle.calls_over.proofs.SoonWords.{bound_low}
 use Rattle.served_fits.specs.Below.own_decisions.proofs.OwnDecisionsTicks.{pair_self}
+use Rattle.corr_core.specs.Word.{id_slot, id_first}
 
 -- ## Requests of ranges that have begun
 

@@ -7,11 +7,10 @@ use Rattle.brpc_model.specs.Reply.{reply, reply_frames}
 use Rattle.brpc_model.specs.Served.{first_of}
 use Rattle.brpc_model.specs.Stream.{stream, stream_from}
 use Rattle.served_fits.specs.Below.script_facts.proofs.Lists.{Has, has_later, all_at, all_from, filter_map_has}
-use Rattle.corr_core.specs.Word.{parts}
+use Rattle.corr_core.specs.Word.{parts, id_slot, id_first}
 use Rattle.corr_core.specs.declared.marks.Plan.{Plan as IdPlan}
 use Rattle.corr_core.specs.Versions.{is_early}
 use Rattle.id_rule.specs.Lawful.{id_index}
-use Rattle.seat_programs.specs.Asides.{id_slot, id_first}
 use Rattle.seat_programs.specs.Cores.{Core}
 use Rattle.seat_programs.specs.Readers.{has_response, slot_in, version_in}
 use Rattle.served_fits.specs.Below.call_owing.specs.Sound.{id_word_of}

@@ -6,10 +6,10 @@ use Rattle.brpc_model.specs.Frame.{Frame}
 use Rattle.brpc_model.specs.Stream as streams
 use Rattle.brpc_model.specs.ResponseOutcome.{ending_of as outcome_of}
 use Rattle.sock_steps.proofs.Quiet.{either_way}
-use Rattle.corr_core.specs.Word.{parts, posted_word, code_of, error_of}
+use Rattle.corr_core.specs.Word.{parts, posted_word, code_of, error_of, call_id, id_first}
 use Rattle.corr_core.specs.Law.{LAST}
 use Rattle.corr_core.specs.Versions.{is_early}
-use Rattle.seat_programs.specs.Asides.{Taking, Bytes, Nothing, Closed, call_id, id_first}
+use Rattle.seat_programs.specs.Asides.{Taking, Bytes, Nothing, Closed}
 use Rattle.seat_programs.specs.Clients.{ending_of}
 use Rattle.seat_programs.specs.Heads.{Reading, Sought, Posting, WasGone, WasStale, WasCrowded, WasQueued, HasLocked, Locking, NotThere, Has, Ended}
 use Rattle.seat_programs.specs.Posts.{packed, is_first, is_stale, is_full, is_sought, judged, posts_round, post_with, end_id, locking}

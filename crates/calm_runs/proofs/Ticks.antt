@@ -11,9 +11,9 @@ use Rattle.sock_words.specs.declared.plain.Plan.{Plan}
 use Rattle.sock_words.specs.declared.outcome.Outcome.{Outcome}
 use Rattle.sock_model.specs.declared.home.Home.{Home}
 use Rattle.sock_steps.proofs.Quiet.{either_way}
-use Rattle.corr_core.specs.Word.{parts, posted_word, code_of}
+use Rattle.corr_core.specs.Word.{parts, posted_word, code_of, id_slot}
 use Rattle.sock_message.specs.Asked.{Asked}
-use Rattle.seat_programs.specs.Asides.{Step, Found, PutCall, TakeCall, Taking, id_slot}
+use Rattle.seat_programs.specs.Asides.{Step, Found, PutCall, TakeCall, Taking}
 use Rattle.seat_programs.specs.Beside.{call_at, found_in}
 use Rattle.seat_programs.specs.Calls.{Call, CreateLife}
 use Rattle.seat_programs.specs.Cores.{Calls, Core, SeatState, resolved, said, next_step}

@@ -14,7 +14,6 @@ use Rattle.sock_model.specs.declared.chain.Stage.TheVariants.{Placed, Passes}
 use Rattle.sock_model.specs.declared.home.Home.{Home}
 use Rattle.sock_model.specs.declared.view.View.{View}
 use Rattle.sock_model.specs.Layout.{head_index, next_index, request_index}
-use Rattle.sock_model.specs.Entries.{slot_of}
 use Rattle.sock_model.specs.Memory.{IDLE, UNCONNECTED}
 use Rattle.sock_model.specs.ChainRows.{with_claim, fresh_claim, ready_claim, queued, new_right, righted, without_loose, with_right, without_right, walking_right, passing_right, reading_right, turned_right, freed_right, freed_stage}
 use Rattle.sock_model.specs.Reads.{link_home}
@@ -38,6 +37,7 @@ use Rattle.sock_model.specs.Conditions.{HasClaim}
 use Rattle.chain_core.specs.Conditions.{MayLook, MayClaim, MaySwap, MayConnect, MayTry, MayPass, MayRead, MayRetire, MayTurnTo, MayFree}
 use Rattle.chain_core.specs.Rights.{TakesRight}
 use Rattle.chain_core.specs.Taken.{NotesTaken}
+use Rattle.sock_words.specs.Words.{ticket_request}
 
 -- ## Numbers
 
@@ -74,7 +74,7 @@ notes r found taken p s id v o here mine inside is = subst (λ x. Rule (λ home.
 -- C5 of an entry that has its place
 pub passes : (r found : ℕ) → KeepsRule (MayPass r) (λ p. next_index p r) found found (λ p v m. with_right v (passing_right m.mine.right m.now found))
 passes r found p s id v o here m is =
-    let word_is : get_or s.words (next_index p (slot_of m.now)) 0 ≡ found = ap (λ q. get_or s.words (next_index p q) 0) m.request_is ∙ is in
+    let word_is : get_or s.words (next_index p (ticket_request m.now)) 0 ≡ found = ap (λ q. get_or s.words (next_index p q) 0) m.request_is ∙ is in
     still p s (next_index p r) found id (with_right v (passing_right m.mine.right m.now found)) is
     (subst (λ x. Lawful (λ home. home) p record { words = s.words; homes = s.homes; views = set s.views id (with_right v (passing_right m.mine.right m.now x)) }) word_is
     (passing_law (λ home. home) p s o id v here m.mine m.now m.stage m.not_last))
@@ -82,7 +82,7 @@ passes r found p s id v o here m is =
 -- C5 of an entry that has its place, whose request isn't given back: the next entry comes at once
 pub retires : (r found : ℕ) → KeepsRule (MayRetire r) (λ p. next_index p r) found found (λ p v m. with_right v (freed_right (passing_right m.0.mine.right m.0.now found)))
 retires r found p s id v o here m is =
-    let word_is : get_or s.words (next_index p (slot_of m.0.now)) 0 ≡ found = ap (λ q. get_or s.words (next_index p q) 0) m.0.request_is ∙ is in
+    let word_is : get_or s.words (next_index p (ticket_request m.0.now)) 0 ≡ found = ap (λ q. get_or s.words (next_index p q) 0) m.0.request_is ∙ is in
     still p s (next_index p r) found id (with_right v (freed_right (passing_right m.0.mine.right m.0.now found))) is
     (subst (λ x. Lawful (λ home. home) p record { words = s.words; homes = s.homes; views = set s.views id (with_right v (freed_right (passing_right m.0.mine.right m.0.now x))) }) word_is
     (passing_last_law (λ home. home) p id v m.0.mine s o here m.0.now m.0.stage m.0.not_last m.1))
@@ -90,7 +90,7 @@ retires r found p s id v o here m is =
 -- C5 on the walk
 pub reads : (r found : ℕ) → found ≢ UNCONNECTED → KeepsRule (MayRead r) (λ p. next_index p r) found found (λ p v m. with_right v (reading_right m.mine.right m.top m.at m.after found))
 reads r found some_ p s id v o here m is =
-    let word_is : get_or s.words (next_index p (slot_of m.at)) 0 ≡ found = ap (λ q. get_or s.words (next_index p q) 0) m.request_is ∙ is in
+    let word_is : get_or s.words (next_index p (ticket_request m.at)) 0 ≡ found = ap (λ q. get_or s.words (next_index p q) 0) m.request_is ∙ is in
     still p s (next_index p r) found id (with_right v (reading_right m.mine.right m.top m.at m.after found)) is
     (subst (λ x. Lawful (λ home. home) p record { words = s.words; homes = s.homes; views = set s.views id (with_right v (reading_right m.mine.right m.top m.at m.after x)) }) word_is
     (reading_law (λ home. home) p s o id v here m.mine m.top m.at m.after m.stage (λ e. some_ (sym word_is ∙ e))))
@@ -154,5 +154,5 @@ passed_leads last now stage h = ⊎_elim
 pub frees : (r generation found : ℕ) → generation < 140737488355327 → KeepsRule (MayFree r generation) (λ p. request_index p r) found (2 * (generation + 1)) (λ p v m. with_right v (freed_right m.mine.right))
 frees r generation found small p s id v o here m is =
     subst (λ q. LawfulAfter p s (request_index p q) (2 * (generation + 1)) id (with_right v (freed_right m.mine.right))) m.request_is
-    (subst (λ g. LawfulAfter p s (request_index p (slot_of m.now)) (2 * (g + 1)) id (with_right v (freed_right m.mine.right))) m.generation_is
+    (subst (λ g. LawfulAfter p s (request_index p (ticket_request m.now)) (2 * (g + 1)) id (with_right v (freed_right m.mine.right))) m.generation_is
     (freeing_law (λ home. home) p id m.mine.place m.now (freed_stage m.mine.right.stage) v m.mine.right s o here m.mine.has (passed_leads m.mine.right.last m.now m.mine.right.stage m.passed) (omega (arith, m.generation_is, small))))

@@ -6,9 +6,9 @@ use Rattle.sock_words.specs.declared.plain.Plan.{Plan}
 use Rattle.sock_model.specs.declared.chain.Right.{Right}
 use Rattle.sock_model.specs.declared.chain.Stage.TheVariants.{Placed, Passes, Walks}
 use Rattle.sock_model.specs.declared.view.View.{View}
-use Rattle.sock_model.specs.Entries.{slot_of, generation_of}
 use Rattle.sock_model.specs.Memory.{IDLE}
 use Rattle.sock_model.specs.Conditions.{HasRight, MayExchange, MayEmpty, MayTurn}
+use Rattle.sock_words.specs.Words.{ticket_request, ticket_generation}
 
 -- nothing: the step tells the seat nothing
 abbrev pub MayLook : Plan → View → Type 0
@@ -38,11 +38,11 @@ pub record MayPass (r : ℕ) (p : Plan) (v : View) : Type 0 where
   pub now : ℕ
   pub stage : mine.right.stage ≡ Placed now
   pub not_last : now ≢ mine.right.last
-  pub request_is : slot_of now ≡ r
+  pub request_is : ticket_request now ≡ r
 
 -- C5 of a request that isn't given back, since its generation is the last one
 abbrev pub MayRetire : ℕ → Plan → View → Type 0
-MayRetire r p v = (m : MayPass r p v) × (generation_of m.now ≡ 140737488355327)
+MayRetire r p v = (m : MayPass r p v) × (ticket_generation m.now ≡ 140737488355327)
 
 -- C5 on the walk, which stands at this request
 pub record MayRead (r : ℕ) (p : Plan) (v : View) : Type 0 where
@@ -51,11 +51,11 @@ pub record MayRead (r : ℕ) (p : Plan) (v : View) : Type 0 where
   pub at : ℕ
   pub after : ℕ
   pub stage : mine.right.stage ≡ Walks top at after
-  pub request_is : slot_of at ≡ r
+  pub request_is : ticket_request at ≡ r
 
 -- C6: the walk read the next word of this request, whose successor is value
 abbrev pub MayTurnTo : (r value : ℕ) → Plan → View → Type 0
-MayTurnTo r value p v = (m : MayTurn v value) × (slot_of m.at ≡ r)
+MayTurnTo r value p v = (m : MayTurn v value) × (ticket_request m.at ≡ r)
 
 -- the entry `now` has its place, and its next word was read, unless it is the last one noted
 abbrev pub IsPassed : Right → ℕ → Type 0
@@ -66,5 +66,5 @@ pub record MayFree (r generation : ℕ) (p : Plan) (v : View) : Type 0 where
   pub mine : HasRight v
   pub now : ℕ
   pub passed : IsPassed mine.right now
-  pub request_is : slot_of now ≡ r
-  pub generation_is : generation_of now ≡ generation
+  pub request_is : ticket_request now ≡ r
+  pub generation_is : ticket_generation now ≡ generation

@@ -8,9 +8,10 @@ use Rattle.sock_model.specs.declared.chain.Entry.{Entry}
 use Rattle.sock_model.specs.declared.chain.Right.{Right}
 use Rattle.sock_model.specs.Entries.{on}
 use Rattle.sock_model.specs.Tokens.{Tokens}
-use Rattle.sock_model.specs.Deliveries.{HasTaken, whole, Taken, place_value, ShownAt, no_place, one_place, Delivered}
+use Rattle.sock_model.specs.Deliveries.{HasTaken, whole, Taken, ShownAt, no_place, one_place, Delivered}
 use Rattle.chain_steps.proofs.Lists.{at_longer, at_snoc, old, new, on_hit, on_miss}
 use Rattle.chain_steps.proofs.Frames.{Same, Changed, one_token}
+use Rattle.sock_model.specs.sock_words.specs.Words.{place_word}
 
 bool_cases : {P : Type 0} (b : Bool) → (b ≡ true → P) → (b ≡ false → P) → P
 bool_cases true f g = f refl
@@ -126,7 +127,7 @@ module _ {links labels : ℕ} {place : ℕ → ℕ} {home : ℕ → Option (List
 
     -- what is shown elsewhere, once the entry e of link k has its place
     shown_place : (q : ℕ) → ((j : ℕ) → j < links → j ≢ k → kept' j ≡ kept j) → ((i : ℕ) → i < places k → leb (kept' k) i ≡ leb (kept k) i)
-        → Changed labels place place' e.heading.place (place_value (leb (kept' k) (places k)) k (places k)) → q < labels → ShownAt links place' log places' kept' q
+        → Changed labels place place' e.heading.place (place_word (leb (kept' k) (places k)) k (places k)) → q < labels → ShownAt links place' log places' kept' q
     shown_place q kk kl' pl ql = dite (ℕ_discrete q e.heading.place)
         (λ same. one_place k (places k) e kl (let z = more.here in omega arith) here (sym same) (ap place' same ∙ pl.here))
         (λ ne. elim (s.shown q ql) [
@@ -138,13 +139,13 @@ module _ {links labels : ℕ} {place : ℕ → ℕ} {home : ℕ → Option (List
               (λ far. let a = more.else j jl far in h j i d jl (omega arith) g is))
           | one_place j i d jl il g is z ↦ dite (ℕ_discrete j k)
               (λ same. let a : places' j ≡ suc (places k) = ap places' same ∙ more.here in let b : places j ≡ places k = ap places same in
-              one_place j i d jl (omega arith) g is (pl.else q ql ne ∙ (z ∙ ap (λ y. place_value y j i) (ap (λ y. leb (kept y) i) same ∙ (sym (kl' i (omega arith)) ∙ ap (λ y. leb (kept' y) i) (sym same))))))
-              (λ far. let a = more.else j jl far in one_place j i d jl (omega arith) g is (pl.else q ql ne ∙ (z ∙ ap (λ y. place_value (leb y i) j i) (sym (kk j jl far)))))
+              one_place j i d jl (omega arith) g is (pl.else q ql ne ∙ (z ∙ ap (λ y. place_word y j i) (ap (λ y. leb (kept y) i) same ∙ (sym (kl' i (omega arith)) ∙ ap (λ y. leb (kept' y) i) (sym same))))))
+              (λ far. let a = more.else j jl far in one_place j i d jl (omega arith) g is (pl.else q ql ne ∙ (z ∙ ap (λ y. place_word (leb y i) j i) (sym (kk j jl far)))))
         ])
 
     -- P1, where the message was taken whole
     pub places_whole : r.clean ≡ true → r'.clean ≡ r.clean → r'.sent ≡ r.sent ++ e.bytes → Changed links kept kept' k (suc (kept k))
-        → Changed labels place place' e.heading.place (place_value false k (places k)) → ((j : ℕ) → j < links → Failed j → Failed' j) → home k ≡ none
+        → Changed labels place place' e.heading.place (place_word false k (places k)) → ((j : ℕ) → j < links → Failed j → Failed' j) → home k ≡ none
         → Delivered links labels place' home Failed' t' log places' kept'
     places_whole was clean' sent' kp pl mono away =
         let all : kept k ≡ places k = s.clean k r kl has was in
@@ -157,7 +158,7 @@ module _ {links labels : ℕ} {place : ℕ → ℕ} {home : ℕ → Option (List
               (λ far. let a = kp.else j jl far in let b = more.else j jl far in let c = s.kept_fits j jl in omega arith);
           shown = λ q ql. shown_place q (λ j jl far. kp.else j jl far)
               (λ i il. let a = kp.here in le-leb-false (kept' k) i (omega arith) ∙ sym (le-leb-false (kept k) i (omega arith)))
-              (subst (λ y. Changed labels place place' e.heading.place (place_value y k (places k))) (sym high) pl) ql;
+              (subst (λ y. Changed labels place place' e.heading.place (place_word y k (places k))) (sym high) pl) ql;
           failed = λ j jl low. dite (ℕ_discrete j k)
               (λ same. let a : kept' j ≡ suc (kept k) = ap kept' same ∙ kp.here in let b : places' j ≡ suc (places k) = ap places' same ∙ more.here in absurd (omega arith))
               (λ far. let a = kp.else j jl far in let b = more.else j jl far in mono j jl (s.failed j jl (omega arith)));
@@ -177,7 +178,7 @@ module _ {links labels : ℕ} {place : ℕ → ℕ} {home : ℕ → Option (List
 
     -- P1 with the dropped bit: its holder found the socket failed. Where a part of the message was taken, the right was clean
     pub drops : r'.clean ≡ false → (r'.sent ≡ r.sent) ⊎ ((r.clean ≡ true) × (part : List ℕ) × (rest : List ℕ) × (r'.sent ≡ r.sent ++ part) × (e.bytes ≡ part ++ rest) × (rest ≢ []))
-        → Same links kept kept' → Changed labels place place' e.heading.place (place_value true k (places k)) → ((j : ℕ) → j < links → Failed j → Failed' j) → Failed' k → home k ≡ none
+        → Same links kept kept' → Changed labels place place' e.heading.place (place_word true k (places k)) → ((j : ℕ) → j < links → Failed j → Failed' j) → Failed' k → home k ≡ none
         → Delivered links labels place' home Failed' t' log places' kept'
     drops clean' sent' kp pl mono dead away =
         let same_kept : kept' k ≡ kept k = kp k kl in
@@ -194,7 +195,7 @@ module _ {links labels : ℕ} {place : ℕ → ℕ} {home : ℕ → Option (List
               (λ same. let a = kp j jl in let b : places' j ≡ suc (places k) = ap places' same ∙ more.here in let c : kept j ≡ kept k = ap kept same in omega arith)
               (λ far. let a = kp j jl in let b = more.else j jl far in let c = s.kept_fits j jl in omega arith);
           shown = λ q ql. shown_place q (λ j jl far. kp j jl) (λ i il. ap (λ y. leb y i) same_kept)
-              (subst (λ y. Changed labels place place' e.heading.place (place_value y k (places k))) (sym low) pl) ql;
+              (subst (λ y. Changed labels place place' e.heading.place (place_word y k (places k))) (sym low) pl) ql;
           failed = λ j jl h. dite (ℕ_discrete j k) (λ same. subst Failed' (sym same) dead)
               (λ far. let a = kp j jl in let b = more.else j jl far in mono j jl (s.failed j jl (omega arith)));
           clean = λ j x jl h c. dite (ℕ_discrete j k)

@@ -5,7 +5,7 @@ use mathlib.Core.Option.{some, some-injective}
 use native.Mathlib.Decide.{ℕ_discrete}
 use lib.ListN.{get_elem?}
 use Rattle.sock_model.specs.declared.chain.Entry.{Entry}
-use Rattle.sock_model.specs.Entries.{ticket, slot_of, generation_of, on, nth}
+use Rattle.sock_model.specs.Entries.{ticket, on, nth}
 use Rattle.sock_model.specs.declared.chain.Stage.{Stage}
 use Rattle.sock_model.specs.declared.chain.Right.{Right}
 use Rattle.sock_model.specs.declared.chain.Stage.TheVariants.{Writes, Placed, Passes, Empties}
@@ -18,9 +18,10 @@ use Rattle.chain_steps.proofs.Lists.{nth_some, nth_same, Distinct}
 use Rattle.chain_steps.proofs.Frames.{Same, Changed, no_token, in_size, on_distinct, points_frame, live_same, standing_frame, in_use_frame}
 use Rattle.chain_steps.proofs.Claims.{used_word}
 use Rattle.chain_steps.proofs.Heads.{slot_is, held_of}
+use Rattle.sock_model.specs.sock_words.specs.Words.{ticket_request, ticket_generation}
 
-pub generation_is : (e : Entry) → e.request < 65535 → generation_of (ticket e) ≡ e.generation
-generation_is e h = omega arith
+pub generation_is : (e : Entry) → e.request < 65535 → e.generation < 140737488355328 → ticket_generation (ticket e) ≡ e.generation
+generation_is e h small = omega arith
 
 -- the stage after the entry `now` was written and its request given back
 pub data Leads (last : ℕ) : Stage → ℕ → Stage → Type 0 where
@@ -56,16 +57,16 @@ module _ {links requests : ℕ} {m : Memory} {t : Tokens} {log : List Entry} {fr
   size : (k < links) × (it.0.request < requests) × (it.0.generation < 140737488355328)
   size = in_size s k (freed k) it.0 it.1
 
-  slot : slot_of now ≡ it.0.request
-  slot = let z = size.1 in ap slot_of (sym fits.now_is ∙ it.2) ∙ slot_is it.0 (omega arith)
+  slot : ticket_request now ≡ it.0.request
+  slot = let z = size.1 in ap ticket_request (sym fits.now_is ∙ it.2) ∙ slot_is it.0 (omega arith)
 
-  pub now_slot : slot_of now < requests
+  pub now_slot : ticket_request now < requests
   now_slot = let z = size.1 in let q = slot in omega arith
 
-  its_generation : generation_of now ≡ it.0.generation
-  its_generation = let z = size.1 in ap generation_of (sym fits.now_is ∙ it.2) ∙ generation_is it.0 (omega arith)
+  its_generation : ticket_generation now ≡ it.0.generation
+  its_generation = let z = size.1 in ap ticket_generation (sym fits.now_is ∙ it.2) ∙ generation_is it.0 (omega arith) size.2
 
-  pub now_small : generation_of now < 140737488355328
+  pub now_small : ticket_generation now < 140737488355328
   now_small = let z = size.2 in let q = its_generation in omega arith
 
   -- the request of `now` is given back by no other entry
@@ -131,7 +132,7 @@ module _ {links requests : ℕ} {m : Memory} {t : Tokens} {log : List Entry} {fr
         }
 
     -- C8
-    pub frees : (r' : Right) → r'.last ≡ r.last → r'.turned ≡ r.turned → r'.noted ≡ r.noted → r'.stage ≡ b → generation_of now < 140737488355327 → Same links m.head m'.head → Same requests m.next m'.next → Changed requests m.request m'.request (slot_of now) (2 * (generation_of now + 1))
+    pub frees : (r' : Right) → r'.last ≡ r.last → r'.turned ≡ r.turned → r'.noted ≡ r.noted → r'.stage ≡ b → ticket_generation now < 140737488355327 → Same links m.head m'.head → Same requests m.next m'.next → Changed requests m.request m'.request (ticket_request now) (2 * (ticket_generation now + 1))
         → Changed links t.rights t'.rights k (r' ∷ []) → Same requests t.claims t'.claims → Same requests t.loose t'.loose
         → Chains links requests m' t' log freed' places
     frees r' last' turned' noted' stage' small hd nx rq rt cl lo =
@@ -150,7 +151,7 @@ module _ {links requests : ℕ} {m : Memory} {t : Tokens} {log : List Entry} {fr
         }
 
     -- the same where the generation is the last one: the request stays taken for good, and no word changes
-    pub retires : (r' : Right) → r'.last ≡ r.last → r'.turned ≡ r.turned → r'.noted ≡ r.noted → r'.stage ≡ b → generation_of now ≡ 140737488355327 → Same links m.head m'.head → Same requests m.next m'.next → Same requests m.request m'.request
+    pub retires : (r' : Right) → r'.last ≡ r.last → r'.turned ≡ r.turned → r'.noted ≡ r.noted → r'.stage ≡ b → ticket_generation now ≡ 140737488355327 → Same links m.head m'.head → Same requests m.next m'.next → Same requests m.request m'.request
         → Changed links t.rights t'.rights k (r' ∷ []) → Same requests t.claims t'.claims → Same requests t.loose t'.loose
         → Chains links requests m' t' log freed' places
     retires r' last' turned' noted' stage' last hd nx rq rt cl lo =

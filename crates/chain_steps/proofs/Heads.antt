@@ -4,7 +4,7 @@ use mathlib.Core.Logic.{dite}
 use mathlib.Core.Option.{some, some-injective}
 use native.Mathlib.Decide.{ℕ_discrete}
 use Rattle.sock_model.specs.declared.chain.Entry.{Entry}
-use Rattle.sock_model.specs.Entries.{ticket, slot_of, on, nth}
+use Rattle.sock_model.specs.Entries.{ticket, on, nth}
 use Rattle.sock_model.specs.declared.chain.Right.{Right}
 use Rattle.sock_model.specs.declared.chain.Stage.TheVariants.{Writes, Placed, Passes, Empties, Walks, Turns}
 use Rattle.sock_model.specs.Tokens.{Tokens}
@@ -13,8 +13,9 @@ use Rattle.sock_model.specs.Writing.{Counts, Connected, Waits, OnWalk, InStage, 
 use Rattle.sock_model.specs.Chains.{Chains}
 use Rattle.chain_steps.proofs.Lists.{at_length, ticket_at_is, nth_some, nth_same, Distinct}
 use Rattle.chain_steps.proofs.Frames.{Same, Changed, one_token, no_token, in_size, on_distinct, standing_frame, in_use_frame, held_frame}
+use Rattle.sock_model.specs.sock_words.specs.Words.{ticket_request}
 
-pub slot_is : (e : Entry) → e.request < 65535 → slot_of (ticket e) ≡ e.request
+pub slot_is : (e : Entry) → e.request < 65535 → ticket_request (ticket e) ≡ e.request
 slot_is e h = omega arith
 
 -- a step that changes the head and the right of link k alone, and the count of its places
@@ -126,7 +127,7 @@ module _ {links requests : ℕ} {m : Memory} {t : Tokens} {log : List Entry} {fr
         hd nx rq rt cl lo (λ j jl ne. pl.else j jl ne)
 
     -- C5 behind the entry that was written, where it isn't the last one
-    pub passes_on : (r' : Right) (now : ℕ) → requests ≤ 65535 → r.stage ≡ Placed now → now ≢ r.last → r'.last ≡ r.last → r'.turned ≡ r.turned → r'.noted ≡ r.noted → r'.stage ≡ Passes now (m.next (slot_of now))
+    pub passes_on : (r' : Right) (now : ℕ) → requests ≤ 65535 → r.stage ≡ Placed now → now ≢ r.last → r'.last ≡ r.last → r'.turned ≡ r.turned → r'.noted ≡ r.noted → r'.stage ≡ Passes now (m.next (ticket_request now))
         → Same links m.head m'.head → Same requests m.next m'.next → Same requests m.request m'.request
         → Changed links t.rights t'.rights k (r' ∷ []) → Same requests t.claims t'.claims → Same requests t.loose t'.loose
         → Chains links requests m' t' log freed places
@@ -136,13 +137,13 @@ module _ {links requests : ℕ} {m : Memory} {t : Tokens} {log : List Entry} {fr
         let more : suc (freed k) < n.noted = (let z : suc (freed k) ≢ n.noted = λ q. ne (sym st.3 ∙ (ap (λ y. nth c y) q ∙ h.last_is)) in let y = st.2 in omega arith) in
         let a = nth_some c (freed k) (omega arith) in
         let size = in_size s k (freed k) a.0 a.1 in let narrow' = size.1 in
-        let at : slot_of now ≡ a.0.request = ap slot_of (sym st.3 ∙ a.2) ∙ slot_is a.0 (omega arith) in
+        let at : ticket_request now ≡ a.0.request = ap ticket_request (sym st.3 ∙ a.2) ∙ slot_is a.0 (omega arith) in
         let p = (h.points (freed k) a.0 (omega arith) a.1).written (omega arith) in
         (st.0, st.1, more, st.3, sym (ap m.next at ∙ p.1 more))))
         hd nx rq rt cl lo (λ j jl ne. refl)
 
     -- C5 on the walk, where the next word was connected
-    pub reads_back : (r' : Right) (top at after : ℕ) → requests ≤ 65535 → r.stage ≡ Walks top at after → m.next (slot_of at) ≢ UNCONNECTED → r'.last ≡ r.last → r'.turned ≡ r.turned → r'.noted ≡ r.noted → r'.stage ≡ Turns top at after (m.next (slot_of at))
+    pub reads_back : (r' : Right) (top at after : ℕ) → requests ≤ 65535 → r.stage ≡ Walks top at after → m.next (ticket_request at) ≢ UNCONNECTED → r'.last ≡ r.last → r'.turned ≡ r.turned → r'.noted ≡ r.noted → r'.stage ≡ Turns top at after (m.next (ticket_request at))
         → Same links m.head m'.head → Same requests m.next m'.next → Same requests m.request m'.request
         → Changed links t.rights t'.rights k (r' ∷ []) → Same requests t.claims t'.claims → Same requests t.loose t'.loose
         → Chains links requests m' t' log freed places
@@ -153,7 +154,7 @@ module _ {links requests : ℕ} {m : Memory} {t : Tokens} {log : List Entry} {fr
           st,
           λ j e q g.
               let size = in_size s k j e g in let narrow' = size.1 in
-              let is : slot_of at ≡ e.request = ap slot_of (sym st.at_is ∙ (ap (λ y. nth c y) (sym q) ∙ ticket_at_is c j e g)) ∙ slot_is e (omega arith) in
+              let is : ticket_request at ≡ e.request = ap ticket_request (sym st.at_is ∙ (ap (λ y. nth c y) (sym q) ∙ ticket_at_is c j e g)) ∙ slot_is e (omega arith) in
               let w : Waits e (m.next e.request) (t.loose e.request) = (h.points j e (omega arith) g).unturned (omega arith) (omega arith) in
               ⊎_elim (λ (u : Connected e (m.next e.request) (t.loose e.request)). (ap m.next is ∙ u.0, u)) (λ u. absurd (found (ap m.next is ∙ u.0))) w,
         )))

@@ -5,7 +5,7 @@ use mathlib.Core.Option.{some, some-injective}
 use native.Mathlib.Decide.{ℕ_discrete}
 use lib.ListN.{get_elem?}
 use Rattle.sock_model.specs.declared.chain.Entry.{Entry}
-use Rattle.sock_model.specs.Entries.{ticket, slot_of, on, nth}
+use Rattle.sock_model.specs.Entries.{ticket, on, nth}
 use Rattle.sock_model.specs.declared.chain.Right.{Right}
 use Rattle.sock_model.specs.declared.chain.Loose.{Loose}
 use Rattle.sock_model.specs.declared.chain.Stage.TheVariants.{Writes, Walks, Turns}
@@ -18,6 +18,7 @@ use Rattle.chain_steps.proofs.Lists.{nth_some, nth_same}
 use Rattle.chain_steps.proofs.Frames.{Same, Changed, one_token, no_token, in_size, on_distinct, live_same, stage_frame, standing_frame, in_use_frame, points_frame, held_again}
 use Rattle.chain_steps.proofs.Claims.{used_word}
 use Rattle.chain_steps.proofs.Heads.{slot_is, held_of}
+use Rattle.sock_model.specs.sock_words.specs.Words.{ticket_request}
 
 -- a loose entry is connected
 points_connect : (c : List Entry) (n : Counts) (i : ℕ) (e : Entry) (x x' : ℕ) (l l' : List Loose) (y : Loose) → l ≡ y ∷ [] → x' ≡ y.before → l' ≡ [] → Points c n i e x l → Points c n i e x' l'
@@ -144,7 +145,7 @@ stands m t c freed places r h top at after before stage =
 
 module _ {links requests : ℕ} {m : Memory} {t : Tokens} {log : List Entry} {freed places : ℕ → ℕ} (s : Chains links requests m t log freed places) where
   module _ (m' : Memory) (t' : Tokens) (k : ℕ) (r : Right) (kl : k < links) (has : t.rights k ≡ r ∷ []) (narrow : requests ≤ 65535) (top at after before : ℕ) (stage : r.stage ≡ Turns top at after before)
-      (hd : Same links m.head m'.head) (nx : Changed requests m.next m'.next (slot_of at) after) (rq : Same requests m.request m'.request)
+      (hd : Same links m.head m'.head) (nx : Changed requests m.next m'.next (ticket_request at) after) (rq : Same requests m.request m'.request)
       (cl : Same requests t.claims t'.claims) (lo : Same requests t.loose t'.loose) where
     held : Held m t (on k log) (freed k) (places k) r
     held = (held_of s k r kl has).1
@@ -155,8 +156,8 @@ module _ {links requests : ℕ} {m : Memory} {t : Tokens} {log : List Entry} {fr
     in_here : (k < links) × (here.entry.request < requests) × (here.entry.generation < 140737488355328)
     in_here = in_size s k here.place here.entry here.here
 
-    slot : slot_of at ≡ here.entry.request
-    slot = let b = in_here.1 in ap slot_of here.at_is ∙ slot_is here.entry (omega arith)
+    slot : ticket_request at ≡ here.entry.request
+    slot = let b = in_here.1 in ap ticket_request here.at_is ∙ slot_is here.entry (omega arith)
 
     -- the other entries' next words stay
     elsewhere : (j i : ℕ) (d : Entry) → freed j ≤ i → get_elem? (on j log) i ≡ some d → (j ≡ k → i ≢ here.place) → m'.next d.request ≡ m.next d.request
@@ -235,8 +236,8 @@ module _ {links requests : ℕ} {m : Memory} {t : Tokens} {log : List Entry} {fr
 -- the next word that the walk turns is one of an entry's request
 pub turn_slot : {links requests : ℕ} {m : Memory} {t : Tokens} {log : List Entry} {freed places : ℕ → ℕ} (s : Chains links requests m t log freed places) (k : ℕ) (r : Right) → k < links → t.rights k ≡ r ∷ [] → requests ≤ 65535
     → (top at after before : ℕ) → r.stage ≡ Turns top at after before
-    → (i : ℕ) × (e : Entry) × (freed k ≤ i) × (get_elem? (on k log) i ≡ some e) × (slot_of at ≡ e.request) × (slot_of at < requests)
+    → (i : ℕ) × (e : Entry) × (freed k ≤ i) × (get_elem? (on k log) i ≡ some e) × (ticket_request at ≡ e.request) × (ticket_request at < requests)
 turn_slot {m = m} {t = t} {log = log} {freed = freed} {places = places} s k r kl has narrow top at after before stage =
     let h = (held_of s k r kl has).1 in let x = stands m t (on k log) (freed k) (places k) r h top at after before stage in
     let b = in_size s k x.place x.entry x.here in let c = b.1 in
-    let q : slot_of at ≡ x.entry.request = ap slot_of x.at_is ∙ slot_is x.entry (omega arith) in (x.place, x.entry, x.late, x.here, q, omega arith)
+    let q : ticket_request at ≡ x.entry.request = ap ticket_request x.at_is ∙ slot_is x.entry (omega arith) in (x.place, x.entry, x.late, x.here, q, omega arith)

@@ -9,12 +9,13 @@ use Rattle.sock_model.specs.Requests.{free_phase}
 use Rattle.sock_model.specs.Memory.{Memory, IDLE}
 use Rattle.sock_model.specs.Writing.{Standing, absent, idle, busy}
 use Rattle.sock_model.specs.Chains.{Chains}
-use Rattle.sock_model.specs.Deliveries.{place_value, no_place, one_place, Delivered}
+use Rattle.sock_model.specs.Deliveries.{no_place, one_place, Delivered}
 use Rattle.sock_model.specs.Fifo.{IsFifo}
 use Rattle.chain_steps.proofs.Lists.{Distinct, distinct_filter, at_length}
 use Rattle.chain_steps.proofs.Frames.{Same, Changed, no_token, in_log}
 use Rattle.chain_steps.proofs.Heads.{relinks}
 use Rattle.chain_steps.proofs.Delivers.{le-leb-false}
+use Rattle.sock_model.specs.sock_words.specs.Words.{place_word}
 
 module _ {links requests labels : ℕ} {m : Memory} {t : Tokens} {log : List Entry} {freed places kept : ℕ → ℕ} {place : ℕ → ℕ} {home : ℕ → Option (List ℕ × ℕ)} {Failed : ℕ → Type 0}
     (s : Chains links requests m t log freed places) (d : Delivered links labels place home Failed t log places kept) where
@@ -27,7 +28,7 @@ module _ {links requests labels : ℕ} {m : Memory} {t : Tokens} {log : List Ent
   ]
 
   module _ (apart : Distinct (λ (e : Entry). e.heading.place) log) (small : (p : ℕ) (e : Entry) → get_elem? log p ≡ some e → e.heading.place < labels) where
-    pub shown_as : (k i : ℕ) (e : Entry) → k < links → i < places k → get_elem? (on k log) i ≡ some e → place e.heading.place ≡ place_value (leb (kept k) i) k i
+    pub shown_as : (k i : ℕ) (e : Entry) → k < links → i < places k → get_elem? (on k log) i ≡ some e → place e.heading.place ≡ place_word (leb (kept k) i) k i
     shown_as k i e kl il g =
         let a = in_log s k i e g in elim (d.shown e.heading.place (small a.0 e a.1)) [
           | no_place z h ↦ absurd (h k i e kl il g refl)
@@ -36,14 +37,14 @@ module _ {links requests labels : ℕ} {m : Memory} {t : Tokens} {log : List Ent
               let xe : x ≡ e = some-injective x e (sym b.1 ∙ (ap (λ y. get_elem? log y) q ∙ a.1)) in
               let jk : j ≡ k = sym b.2 ∙ (ap (λ (y : Entry). y.link) xe ∙ a.2) in
               let li : l ≡ i = distinct_filter (λ (e : Entry). e.heading.place) (λ (e : Entry). Rattle.std.proofs.Common.eqb e.link k) log apart l i x e (subst (λ y. get_elem? (on y log) l ≡ some x) jk gx) g is in
-              z ∙ λ w. place_value (leb (kept (jk w)) (li w)) (jk w) (li w))
+              z ∙ λ w. place_word (leb (kept (jk w)) (li w)) (jk w) (li w))
         ]
 
     pub settles : (k : ℕ) (took : List ℕ) (next : ℕ) → k < links → t.rights k ≡ [] → home k ≡ some (took, next) → IsFifo place k (on k log) (kept k) took
     settles k took next kl gone at = let a = all_placed k kl gone in let b = d.kept_fits k kl in record {
       count = omega arith;
-      placed = λ i e g low. let n = at_length (on k log) i e g in shown_as k i e kl (omega arith) g ∙ ap (λ y. place_value y k i) (le-leb-false (kept k) i low);
-      dropped = λ i e g high. let n = at_length (on k log) i e g in shown_as k i e kl (omega arith) g ∙ ap (λ y. place_value y k i) (le-leb (kept k) i high);
+      placed = λ i e g low. let n = at_length (on k log) i e g in shown_as k i e kl (omega arith) g ∙ ap (λ y. place_word y k i) (le-leb-false (kept k) i low);
+      dropped = λ i e g high. let n = at_length (on k log) i e g in shown_as k i e kl (omega arith) g ∙ ap (λ y. place_word y k i) (le-leb (kept k) i high);
       took_is = (d.at_home k took next kl at).0;
     }
 

@@ -7,7 +7,7 @@ use mathlib.Core.Option.{some}
 use native.Mathlib.Decide.{ℕ_discrete}
 use lib.ListN.{get_elem?}
 use Rattle.atomic_table.proofs.Lists.{set_here}
-use Rattle.corr_core.specs.Word.{parts}
+use Rattle.corr_core.specs.Word.{parts, id_slot, id_first}
 use Rattle.corr_core.specs.Law.{total, pair, is_made, Local, SlotLaw, vacant, retired, claimed, opened, locked, leaving}
 use Rattle.corr_core.specs.declared.marks.Note.{Note}
 use Rattle.corr_core.specs.declared.marks.Note.TheVariants.{Saw}
@@ -18,7 +18,7 @@ use Rattle.corr_core.proofs.Notes.{at_length, total_set, only-else, pair-else, p
 use Rattle.corr_core.proofs.Shuffles.{total_flat}
 use Rattle.id_rule.specs.Lawful.{is_stored, kept_in, notes_of, notes_in, with_note, with_kept}
 use Rattle.id_rule.specs.Plays.{found_view}
-use Rattle.corr_id.specs.Calls.{slot_of, version_of, is_saw, one}
+use Rattle.corr_id.specs.Calls.{is_saw, one}
 use Rattle.corr_id.specs.Ruled.{InTurn, Known}
 use Rattle.corr_id.proofs.Seats.{notes_append, total_append}
 use Rattle.corr_id.proofs.Closes.{term}
@@ -39,18 +39,18 @@ module _ {C : Type 0} where
   -- a later view of a seat: what it stored at an operation is an id that it knows to be made, and the words that it found have their errors in turn
   pub record Adds (v w : View C) : Type 0 where
     pub grows : (j : ℕ) (g : Note C → ℕ) → total g (notes_of j v.notes) ≤ total g (notes_of j w.notes)
-    pub stored : (x n : ℕ) → x % 2 ≡ 0 → 0 < total (is_stored x n) w.kept → (0 < total (is_stored x n) v.kept) ⊎ (0 < total (is_made (version_of n)) (notes_of (slot_of n) w.notes))
+    pub stored : (x n : ℕ) → x % 2 ≡ 0 → 0 < total (is_stored x n) w.kept → (0 < total (is_stored x n) v.kept) ⊎ (0 < total (is_made (id_first n)) (notes_of (id_slot n) w.notes))
     pub saw : (j x : ℕ) → 0 < total (is_saw x) (notes_of j w.notes) → (0 < total (is_saw x) (notes_of j v.notes)) ⊎ InTurn (parts x)
 
   pub adds_then : (u v w : View C) → Adds u v → Adds v w → Adds u w
   adds_then u v w a b = record { grows = λ j g. (let x = a.grows j g in let y = b.grows j g in omega (arith, x, y)); stored = λ x n even h. stores x n even (b.stored x n even h); saw = λ j x h. saws j x (b.saw j x h) }
     where
-      stores : (x n : ℕ) → x % 2 ≡ 0 → (0 < total (is_stored x n) v.kept) ⊎ (0 < total (is_made (version_of n)) (notes_of (slot_of n) w.notes)) → (0 < total (is_stored x n) u.kept) ⊎ (0 < total (is_made (version_of n)) (notes_of (slot_of n) w.notes))
+      stores : (x n : ℕ) → x % 2 ≡ 0 → (0 < total (is_stored x n) v.kept) ⊎ (0 < total (is_made (id_first n)) (notes_of (id_slot n) w.notes)) → (0 < total (is_stored x n) u.kept) ⊎ (0 < total (is_made (id_first n)) (notes_of (id_slot n) w.notes))
       stores x n even (inl h) = still (a.stored x n even h)
         where
-          still : (0 < total (is_stored x n) u.kept) ⊎ (0 < total (is_made (version_of n)) (notes_of (slot_of n) v.notes)) → (0 < total (is_stored x n) u.kept) ⊎ (0 < total (is_made (version_of n)) (notes_of (slot_of n) w.notes))
+          still : (0 < total (is_stored x n) u.kept) ⊎ (0 < total (is_made (id_first n)) (notes_of (id_slot n) v.notes)) → (0 < total (is_stored x n) u.kept) ⊎ (0 < total (is_made (id_first n)) (notes_of (id_slot n) w.notes))
           still (inl k) = inl k
-          still (inr k) = inr (let y = b.grows (slot_of n) (is_made (version_of n)) in omega (arith, y, k))
+          still (inr k) = inr (let y = b.grows (id_slot n) (is_made (id_first n)) in omega (arith, y, k))
       stores x n even (inr h) = inr h
 
       saws : (j x : ℕ) → (0 < total (is_saw x) (notes_of j v.notes)) ⊎ InTurn (parts x) → (0 < total (is_saw x) (notes_of j u.notes)) ⊎ InTurn (parts x)
@@ -89,13 +89,13 @@ module _ {C : Type 0} where
   adds_either false v x y a b = b
 
   -- a word that is stored: where it is an operation's id, it was made
-  pub adds_stored : (x n : ℕ) (v : View C) → (x % 2 ≡ 0 → 0 < total (is_made (version_of n)) (notes_of (slot_of n) v.notes)) → Adds v (with_kept x true n v)
+  pub adds_stored : (x n : ℕ) (v : View C) → (x % 2 ≡ 0 → 0 < total (is_made (id_first n)) (notes_of (id_slot n) v.notes)) → Adds v (with_kept x true n v)
   adds_stored x n v made = record { grows = λ j g. omega arith; stored = λ y m even h. by y m even h; saw = λ j y h. inl h }
     where
-      by : (y m : ℕ) → y % 2 ≡ 0 → 0 < pair y m x n + total (is_stored y m) v.kept → (0 < total (is_stored y m) v.kept) ⊎ (0 < total (is_made (version_of m)) (notes_of (slot_of m) v.notes))
+      by : (y m : ℕ) → y % 2 ≡ 0 → 0 < pair y m x n + total (is_stored y m) v.kept → (0 < total (is_stored y m) v.kept) ⊎ (0 < total (is_made (id_first m)) (notes_of (id_slot m) v.notes))
       by y m even h = dite (ℕ_discrete x y)
           (λ e. dite (ℕ_discrete n m)
-          (λ f. inr (subst (λ (k : ℕ). 0 < total (is_made (version_of k)) (notes_of (slot_of k) v.notes)) f (made (omega (arith, e, even)))))
+          (λ f. inr (subst (λ (k : ℕ). 0 < total (is_made (id_first k)) (notes_of (id_slot k) v.notes)) f (made (omega (arith, e, even)))))
           (λ ne. inl (let a = pair-else y m x n ne in omega (arith, a, h))))
           (λ ne. inl (let a = pair-else_first y m x n ne in omega (arith, a, h)))
 
@@ -109,7 +109,7 @@ module _ {C : Type 0} where
       there : get_elem? (set vs id w) id ≡ some w
       there = set_here vs id w (at_length vs id v here)
 
-      names : (x n : ℕ) → x % 2 ≡ 0 → 0 < total (is_stored x n) (flat_map kept_in (set vs id w)) → 0 < total (is_made (version_of n)) (flat_map (notes_in (slot_of n)) (set vs id w))
+      names : (x n : ℕ) → x % 2 ≡ 0 → 0 < total (is_stored x n) (flat_map kept_in (set vs id w)) → 0 < total (is_made (id_first n)) (flat_map (notes_in (id_slot n)) (set vs id w))
       names x n even h = dite (ℕ_discrete (total (is_stored x n) w.kept) 0) (λ z. old (omega (arith, sf, sf', h, z, sums))) (λ nz. by (a.stored x n even (omega (arith, nz))))
         where
           sf : total (is_stored x n) (flat_map kept_in vs) ≡ total (λ (y : View C). total (is_stored x n) (kept_in y)) vs
@@ -121,14 +121,14 @@ module _ {C : Type 0} where
           sums : total (λ (y : View C). total (is_stored x n) (kept_in y)) (set vs id w) + total (is_stored x n) v.kept ≡ total (λ (y : View C). total (is_stored x n) (kept_in y)) vs + total (is_stored x n) w.kept
           sums = total_set (λ (y : View C). total (is_stored x n) (kept_in y)) vs id v w here
 
-          old : 0 < total (is_stored x n) (flat_map kept_in vs) → 0 < total (is_made (version_of n)) (flat_map (notes_in (slot_of n)) (set vs id w))
+          old : 0 < total (is_stored x n) (flat_map kept_in vs) → 0 < total (is_made (id_first n)) (flat_map (notes_in (id_slot n)) (set vs id w))
           old some_ =
-              let m = k.named x n even some_ in let b = total_flat (notes_in (slot_of n)) (is_made (version_of n)) vs in let c = total_flat (notes_in (slot_of n)) (is_made (version_of n)) (set vs id w) in
-              let d = total_set (λ (y : View C). total (is_made (version_of n)) (notes_in (slot_of n) y)) vs id v w here in let e = a.grows (slot_of n) (is_made (version_of n)) in omega (arith, m, b, c, d, e)
+              let m = k.named x n even some_ in let b = total_flat (notes_in (id_slot n)) (is_made (id_first n)) vs in let c = total_flat (notes_in (id_slot n)) (is_made (id_first n)) (set vs id w) in
+              let d = total_set (λ (y : View C). total (is_made (id_first n)) (notes_in (id_slot n) y)) vs id v w here in let e = a.grows (id_slot n) (is_made (id_first n)) in omega (arith, m, b, c, d, e)
 
-          by : (0 < total (is_stored x n) v.kept) ⊎ (0 < total (is_made (version_of n)) (notes_of (slot_of n) w.notes)) → 0 < total (is_made (version_of n)) (flat_map (notes_in (slot_of n)) (set vs id w))
+          by : (0 < total (is_stored x n) v.kept) ⊎ (0 < total (is_made (id_first n)) (notes_of (id_slot n) w.notes)) → 0 < total (is_made (id_first n)) (flat_map (notes_in (id_slot n)) (set vs id w))
           by (inl had) = old (let b = term (λ (y : View C). total (is_stored x n) (kept_in y)) vs id v here in omega (arith, b, sf, had))
-          by (inr made) = let b = term (λ (y : View C). total (is_made (version_of n)) (notes_in (slot_of n) y)) (set vs id w) id w there in let c = total_flat (notes_in (slot_of n)) (is_made (version_of n)) (set vs id w) in omega (arith, b, c, made)
+          by (inr made) = let b = term (λ (y : View C). total (is_made (id_first n)) (notes_in (id_slot n) y)) (set vs id w) id w there in let c = total_flat (notes_in (id_slot n)) (is_made (id_first n)) (set vs id w) in omega (arith, b, c, made)
 
       turns : (i x : ℕ) → 0 < total (is_saw x) (flat_map (notes_in i) (set vs id w)) → InTurn (parts x)
       turns i x h = dite (ℕ_discrete (total (is_saw x) (notes_of i w.notes)) 0) (λ z. k.in_turn i x (omega (arith, sf, sf', sums, h, z))) (λ nz. by (a.saw i x (omega (arith, nz))))

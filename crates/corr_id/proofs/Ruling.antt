@@ -9,7 +9,7 @@ use native.Mathlib.Decide.{ℕ_discrete, dec_le}
 use lib.ListN.{get_elem?}
 use Rattle.atomic_table.specs.Table.{State, Me, keeps, takes, gives, stepped, homes_after}
 use Rattle.atomic_table.proofs.Lists.{set_here}
-use Rattle.corr_core.specs.Word.{Parts, parts, made_word, locked_word, free_word}
+use Rattle.corr_core.specs.Word.{Parts, parts, made_word, locked_word, free_word, id_slot, id_first}
 use Rattle.corr_core.specs.Law.{LAST, Each, total, is_made}
 use Rattle.corr_core.specs.declared.marks.Plan.{Plan}
 use Rattle.corr_core.specs.declared.marks.Hand.{Hand}
@@ -26,7 +26,6 @@ use Rattle.id_rule.specs.Plays.{IsHome, NotLeaving, Fitting, hand_of, with_hand,
 use Rattle.id_rule.proofs.Frames.{token_here, drop_here, aside_token, aside_drop, own_tokens, first_tokens, same_tokens}
 use Rattle.id_rule.proofs.Allowed.{own, claims_law, reads_law, sees_law, makes_law, locks_law, queues_law, relocks_law, unlocks_law, advances_law, ends_law, frees_law, takes_law, gives_law, o}
 use Rattle.id_rule.proofs.Kept.{stores_law, finds_law}
-use Rattle.corr_id.specs.Calls.{slot_of, version_of}
 use Rattle.corr_id.specs.Ruled.{IsFresh, FreshBehind, Known, Ruled, is_place}
 use Rattle.corr_id.proofs.Knowing.{turn_of, Adds, adds_then, adds_none, adds_note, adds_saw, adds_either, adds_stored, adds_found, adds_later}
 use Rattle.corr_id.proofs.Fresh.{AllFresh, noted_all, none_queued, other_hand, one_queued, fresh_tag, fresh_id, own_fresh, fresh_high}
@@ -199,7 +198,7 @@ module _ {C : Type 0} (p : Plan) (id : ℕ) (me : Me (Maybe C) (View C)) (i : �
 
 -- the word of an operation
 module _ {C : Type 0} (p : Plan) (id : ℕ) (me : Me (Maybe C) (View C)) (x : ℕ) (high : 2 * p.slots ≤ x) (inside : x < all_words p) (real : 0 < me.0.share) (s : State (Maybe C) (View C)) (r : Ruled p s) (here : get_elem? s.views id ≡ some me.0) where
-  pub stores_ruled : (n : ℕ) → n ≢ 0 → (x % 2 ≡ 0 → 0 < total (is_made (version_of n)) (notes_of (slot_of n) me.0.notes)) → Ruled p (stepped s x n id me.1 (with_kept x true n me.0) keeps)
+  pub stores_ruled : (n : ℕ) → n ≢ 0 → (x % 2 ≡ 0 → 0 < total (is_made (id_first n)) (notes_of (id_slot n) me.0.notes)) → Ruled p (stepped s x n id me.1 (with_kept x true n me.0) keeps)
   stores_ruled n some_word made = record { lawful = stores_law p id me x high inside real s r.lawful here n some_word; fresh = fresh_high p s r.fresh id me.0 (with_kept x true n me.0) here refl x n high; known = adds_later s.views id me.0 (with_kept x true n me.0) here (adds_stored x n me.0 made) r.known }
 
   pub finds_ruled : Ruled p (stepped s x (get_or s.words x 0) id me.1 (found_view x (get_or s.words x 0) me.0) keeps)

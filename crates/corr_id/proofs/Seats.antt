@@ -9,7 +9,7 @@ use native.Mathlib.Decide.{ℕ_discrete}
 use Rattle.atomic_table.specs.Table.{Joins, Splits, opening}
 use Rattle.atomic_table.specs.declared.shared.Seat.{Seat}
 use Rattle.atomic_table.proofs.Lists.{at_set, at_snoc}
-use Rattle.corr_core.specs.Word.{parts, free_word}
+use Rattle.corr_core.specs.Word.{parts, free_word, id_slot, id_first}
 use Rattle.corr_core.specs.Law.{total, is_made, Each, Local, SlotLaw, vacant}
 use Rattle.corr_core.specs.declared.marks.Plan.{Plan}
 use Rattle.corr_core.specs.declared.marks.Note.{Note}
@@ -19,7 +19,7 @@ use Rattle.corr_core.specs.declared.marks.View.{View}
 use Rattle.corr_core.proofs.Notes.{each_map, total_set}
 use Rattle.corr_core.proofs.Gather.{gather_same}
 use Rattle.corr_core.proofs.Shuffles.{shuffled, total_flat, each_of, each_in, each_both, flat_snoc}
-use Rattle.corr_id.specs.Calls.{slot_of, version_of, is_saw}
+use Rattle.corr_id.specs.Calls.{is_saw}
 use Rattle.corr_id.specs.Seats.{Stays}
 use Rattle.corr_id.specs.Ruled.{FreshBehind, Known, Ruled}
 use Rattle.id_rule.specs.Lawful.{tag_index, id_index, KeptFits, kept_in, is_stored, tokens_of, notes_of, tokens_in, notes_in, share_of, local, IsBare, Lawful, Unused, first_view, spent, newcomer, lighter, joined}
@@ -85,7 +85,7 @@ module _ {C : Type 0} where
   joining_known vs id other v w at at' k =
       let noted : (i : ℕ) (g : Note C → ℕ) → total g (flat_map (notes_in i) (set (set vs id (joined v w)) other spent)) ≡ total g (flat_map (notes_in i) vs) = λ i g. total_at (notes_in i) g vs id other v w (joined v w) spent at at' (notes_append i v.notes w.notes) refl in record {
         named = λ x n even h. (
-            let a = total_at kept_in (is_stored x n) vs id other v w (joined v w) spent at at' refl refl in let b = noted (slot_of n) (is_made (version_of n)) in
+            let a = total_at kept_in (is_stored x n) vs id other v w (joined v w) spent at at' refl refl in let b = noted (id_slot n) (is_made (id_first n)) in
             let c = k.named x n even (omega (arith, a, h)) in omega (arith, b, c)
             );
         in_turn = λ i word h. k.in_turn i word (let a = noted i (is_saw word) in omega (arith, a, h));
@@ -122,7 +122,7 @@ module _ {C : Type 0} where
   splitting_known vs id v at k =
       let noted : (i : ℕ) → flat_map (notes_in i) (set vs id (lighter v) ++ newcomer ∷ []) ≡ flat_map (notes_in i) vs = λ i. flat_snoc (notes_in i) (set vs id (lighter v)) newcomer refl ∙ gather_same (notes_in i) vs id v (lighter v) at refl in
       let kept : flat_map kept_in (set vs id (lighter v) ++ newcomer ∷ []) ≡ flat_map kept_in vs = flat_snoc kept_in (set vs id (lighter v)) newcomer refl ∙ gather_same kept_in vs id v (lighter v) at refl in record {
-        named = λ x n even h. subst (λ (l : List (Note C)). 0 < total (is_made (version_of n)) l) (sym (noted (slot_of n))) (k.named x n even (subst (λ (l : List Kept). 0 < total (is_stored x n) l) kept h));
+        named = λ x n even h. subst (λ (l : List (Note C)). 0 < total (is_made (id_first n)) l) (sym (noted (id_slot n))) (k.named x n even (subst (λ (l : List Kept). 0 < total (is_stored x n) l) kept h));
         in_turn = λ i word h. k.in_turn i word (subst (λ (l : List (Note C)). 0 < total (is_saw word) l) (noted i) h);
       }
 

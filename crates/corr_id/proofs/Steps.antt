@@ -8,7 +8,7 @@ use native.Mathlib.Decide.{ℕ_discrete, dec_lt}
 use lib.ListN.{get_elem?}
 use prog.Atomic.{either}
 use Rattle.atomic_table.specs.Table.{State, Me, step, keeps, takes, gives, stepped, Allows}
-use Rattle.corr_core.specs.Word.{Parts, parts, made_word, locked_word, posted_word, unlocked_word, free_word}
+use Rattle.corr_core.specs.Word.{Parts, parts, made_word, locked_word, posted_word, unlocked_word, free_word, id_slot, id_first}
 use Rattle.corr_core.specs.Law.{total, born, is_made, is_advance, is_attempt, NoteFits, SlotLaw, Live, Stands, vacant, retired, claimed, opened, locked, leaving}
 use Rattle.corr_core.specs.declared.marks.Plan.{Plan}
 use Rattle.corr_core.specs.declared.marks.Hand.{Hand}
@@ -24,7 +24,7 @@ use Rattle.corr_core.proofs.Gather.{gather_none}
 use Rattle.corr_core.proofs.Notes.{each_at, total_some, pair-else, pair-else_first}
 use Rattle.corr_core.proofs.Shuffles.{each_of}
 use Rattle.corr_core.specs.declared.marks.Kept.{Kept}
-use Rattle.corr_id.specs.Calls.{slot_of, version_of, is_saw, is_at, FoundUpTo, ReachedUpTo}
+use Rattle.corr_id.specs.Calls.{is_saw, is_at, FoundUpTo, ReachedUpTo}
 use Rattle.corr_id.proofs.Closes.{saw_of}
 use Rattle.id_rule.specs.Lawful.{tag_index, id_index, all_words, is_stored, kept_in, KeptFits, notes_of, tokens_in, notes_in, local, with_token, no_token, with_note, with_kept}
 use Rattle.id_rule.specs.Plays.{IsHome, NotLeaving, Fitting, hand_of, with_hand, value_of, hand_by, claimed_view, locked_view, claim_told, take_told, give_told, make_told, end_told, free_told, store_told, found_view, put_error, popped_view, advanced_view, ended_view}
@@ -124,8 +124,8 @@ module _ {C : Type 0} (p : Plan) (slots id : ℕ) (me : Me (Maybe C) (View C)) (
           let fits : KeptFits (2 * p.slots) s.words (flat_map kept_in s.views) k.1 = each_at (KeptFits (2 * p.slots) s.words (flat_map kept_in s.views)) me.0.kept k.0 k.1 (each_of kept_in (KeptFits (2 * p.slots) s.words (flat_map kept_in s.views)) s.views id me.0 r.lawful.kept_fits here) k.2 in
           let place : k.1.place ≡ x = at_place x (i * 4294967296 + (local s i).word.first) k.1 k.3 in let word : k.1.word ≡ (i * 4294967296 + (local s i).word.first) = at_word_is x (i * 4294967296 + (local s i).word.first) k.1 k.3 in
           let stored : 0 < total (is_stored x (i * 4294967296 + (local s i).word.first)) (flat_map kept_in s.views) = subst (λ (y : ℕ). 0 < total (is_stored x y) (flat_map kept_in s.views)) word (subst (λ (y : ℕ). 0 < total (is_stored y k.1.word) (flat_map kept_in s.views)) place fits.3) in
-          let slot : slot_of (i * 4294967296 + (local s i).word.first) ≡ i = slot_is in let version : version_of (i * 4294967296 + (local s i).word.first) ≡ (local s i).word.first = version_is in
-          unborn (subst (λ (f : ℕ). 0 < total (is_made f) (flat_map (notes_in i) s.views)) version (subst (λ (y : ℕ). 0 < total (is_made (version_of (i * 4294967296 + (local s i).word.first))) (flat_map (notes_in y) s.views)) slot (r.known.named x (i * 4294967296 + (local s i).word.first) even stored)))
+          let slot : id_slot (i * 4294967296 + (local s i).word.first) ≡ i = slot_is in let version : id_first (i * 4294967296 + (local s i).word.first) ≡ (local s i).word.first = version_is in
+          unborn (subst (λ (f : ℕ). 0 < total (is_made f) (flat_map (notes_in i) s.views)) version (subst (λ (y : ℕ). 0 < total (is_made (id_first (i * 4294967296 + (local s i).word.first))) (flat_map (notes_in y) s.views)) slot (r.known.named x (i * 4294967296 + (local s i).word.first) even stored)))
         where
           short : (local s i).word.first < 4294967296
           short = let a = (claim_home (local s i) l seen h claim).2 in omega (arith, a)
@@ -361,7 +361,7 @@ pub posted_is : (w : Parts) (e : ℕ) → w.state ≡ 1 → posted_word w e ≡ 
 posted_is w e one = ap (λ b. cond b (locked_word w) record { first = w.first; state = 2; range = w.range; attempt = w.attempt; oldest = cond (eqb w.oldest 0) e w.oldest; second = cond (eqb w.oldest 0) 0 e }) (eq-eqb w.state 1 one)
 
 module _ {C : Type 0} (p : Plan) (slots id : ℕ) (me : Me (Maybe C) (View C)) (x : ℕ) (high : 2 * p.slots ≤ x) (inside : x < all_words p) (real : 0 < me.0.share) where
-  pub storing : (n : ℕ) → n ≢ 0 → (x % 2 ≡ 0 → 0 < total (is_made (version_of n)) (notes_of (slot_of n) me.0.notes)) → Allows (Ruled p) slots id me x (λ _. n) (λ _. store_told (step slots x n 0 none) me n)
+  pub storing : (n : ℕ) → n ≢ 0 → (x % 2 ≡ 0 → 0 < total (is_made (id_first n)) (notes_of (id_slot n) me.0.notes)) → Allows (Ruled p) slots id me x (λ _. n) (λ _. store_told (step slots x n 0 none) me n)
   storing n some_word made s r long here fits = (with_kept x true n me.0, keeps, tt, stores_ruled p id me x high inside real s r here n some_word made, refl)
 
   pub loading : Allows (Ruled p) slots id me x (λ n. n) (load_told (step slots x 0 0 none) me)

@@ -1,7 +1,7 @@
 -- What the calls say of a seat.
 use Rattle.std.specs.Prelude.{◌≡◌, ◌≢◌, ℕ, ◌+◌, ◌/◌, ◌%◌, ◌<◌, ◌≤◌, ◌⊎◌, Bool, true, false, cond, ◌==◌, List, [], ◌∷◌, ◌++◌, Some, None}
 use Rattle.std.specs.Prelude.{Option as Maybe}
-use Rattle.corr_core.specs.Word.{Parts, parts, error_of, locked_word}
+use Rattle.corr_core.specs.Word.{Parts, parts, error_of, locked_word, id_slot, id_first}
 use Rattle.corr_core.specs.Law.{LAST, total, only, pair, is_attempt}
 use Rattle.corr_core.specs.declared.marks.Hand.{Hand}
 use Rattle.corr_core.specs.declared.marks.Hand.TheVariants.{Empty, Full}
@@ -14,13 +14,6 @@ use Rattle.corr_core.specs.declared.marks.Kept.{Kept}
 use Rattle.corr_core.specs.declared.marks.View.{View}
 use Rattle.id_rule.specs.Lawful.{tokens_in, notes_of}
 use Rattle.id_rule.specs.Plays.{IsHome, Fitting, hand_of, with_hand, value_of, hand_by}
-
--- an id by its parts, or an attempt's version by its slot and version
-abbrev pub slot_of : ℕ → ℕ
-slot_of id = id / 4294967296
-
-abbrev pub version_of : ℕ → ℕ
-version_of id = id % 4294967296
 
 -- the word is free, or has another range than the version's
 abbrev pub OutOf : Parts → ℕ → Type 0
@@ -125,15 +118,15 @@ module _ {C : Type 0} where
 
   -- the id was made, with its range and content, in a slot of which the seat had nothing
   pub record MadeAs (v w : View C) (slots id r : ℕ) (c : C) : Type 0 where
-    pub inside : slot_of id < slots
-    pub first_some : 1 ≤ version_of id
-    pub low : version_of id ≤ LAST
+    pub inside : id_slot id < slots
+    pub first_some : 1 ≤ id_first id
+    pub low : id_first id ≤ LAST
     -- each range of a word that the seat had seen taken there was an earlier one
-    pub none_found : (w : ℕ) → 0 < total (is_saw w) (notes_of (slot_of id) v.notes) → 0 < (parts w).state → (parts w).first < version_of id
+    pub none_found : (w : ℕ) → 0 < total (is_saw w) (notes_of (id_slot id) v.notes) → 0 < (parts w).state → (parts w).first < id_first id
     -- and it had found the id at no operation: its words are those of even places
     pub unnoted : (x : ℕ) → x % 2 ≡ 0 → total (is_at x id) v.kept ≡ 0
-    pub nothing_before : tokens_in (slot_of id) v ≡ []
-    pub did : Did (slot_of id) v w [] (one (slot_of id) (Made (version_of id) r c))
+    pub nothing_before : tokens_in (id_slot id) v ≡ []
+    pub did : Did (id_slot id) v w [] (one (id_slot id) (Made (id_first id) r c))
 
   -- the id was locked by this seat, which had found this open word, and the lock has it as k; the content is in hand
   pub record GotLock (i : ℕ) (v w : View C) (open_word : ℕ) (k : Parts) (c : C) : Type 0 where

@@ -2,7 +2,7 @@
 use Rattle.std.specs.Prelude.{◌≡◌, ◌≢◌, ℕ, ◌+◌, ◌*◌, ◌%◌, List, ◌<◌, ◌≤◌, ◌⊎◌}
 use Rattle.std.specs.Prelude.{Option as Maybe}
 use Rattle.atomic_table.specs.Table.{State, Me, Step}
-use Rattle.corr_core.specs.Word.{Parts, parts, attempt_of}
+use Rattle.corr_core.specs.Word.{Parts, parts, attempt_of, id_slot, id_first, call_id}
 use Rattle.corr_core.specs.Law.{LAST, Each, total, only, is_made, is_advance}
 use Rattle.corr_core.specs.declared.marks.Plan.{Plan}
 use Rattle.corr_core.specs.declared.marks.Hand.{Hand}
@@ -14,7 +14,7 @@ use Rattle.corr_core.specs.declared.marks.Kept.{Kept}
 use Rattle.corr_core.specs.declared.marks.View.{View}
 use Rattle.std.specs.List.{flat_map}
 use Rattle.id_rule.specs.Lawful.{id_index, is_stored, kept_in, notes_in, local, Lawful, with_token, with_note}
-use Rattle.corr_id.specs.Calls.{slot_of, version_of, is_saw, is_at, FoundUpTo, ReachedUpTo}
+use Rattle.corr_id.specs.Calls.{is_saw, is_at, FoundUpTo, ReachedUpTo}
 use Rattle.id_rule.specs.Plays.{Becomes, has_token, LockFits, Longer, locked_view, put_error, popped_view, advanced_view, found_view}
 
 -- a word of this place
@@ -42,7 +42,7 @@ module _ {C : Type 0} where
 
   -- what the seats know together: an id that one of them stored at an operation was made, and the words that they found have their errors in turn
   pub record Known (views : List (View C)) : Type 0 where
-    pub named : (x id : ℕ) → x % 2 ≡ 0 → 0 < total (is_stored x id) (flat_map kept_in views) → 0 < total (is_made (version_of id)) (flat_map (notes_in (slot_of id)) views)
+    pub named : (x id : ℕ) → x % 2 ≡ 0 → 0 < total (is_stored x id) (flat_map kept_in views) → 0 < total (is_made (id_first id)) (flat_map (notes_in (id_slot id)) views)
     pub in_turn : (i w : ℕ) → 0 < total (is_saw w) (flat_map (notes_in i) views) → InTurn (parts w)
 
   -- the rule of the ids, with that
@@ -55,7 +55,7 @@ module _ {C : Type 0} where
   abbrev pub read_told : Step (Maybe C) → Me (Maybe C) (View C) → ℕ → Me (Maybe C) (View C) → Type 0
   read_told st m found n = (i seen : ℕ) (h : Hand C) → st.word ≡ id_index i → has_token i (Claimed seen h) m → Becomes m n (with_token i (Claimed (parts found).first h) m.0) × (1 ≤ (parts found).first) × ((parts found).first ≤ LAST)
       × ((w : ℕ) → 0 < total (is_saw w) (notes_in i m.0) → 0 < (parts w).state → (parts w).first < (parts found).first)
-      × ((x : ℕ) → x % 2 ≡ 0 → total (is_at x (i * 4294967296 + (parts found).first)) m.0.kept ≡ 0)
+      × ((x : ℕ) → x % 2 ≡ 0 → total (is_at x (call_id i (parts found).first)) m.0.kept ≡ 0)
 
   -- I7: a word is never 0, and none that is found behind an id that the seat knows to be made, or advanced, has an earlier range
   abbrev pub see_told : Step (Maybe C) → Me (Maybe C) (View C) → ℕ → Me (Maybe C) (View C) → Type 0

@@ -1,10 +1,10 @@
 // Ids that are locked by the version of an attempt.
 ghost use Rattle.std.specs.Prelude.{◌≡◌, ◌+◌, ◌*◌, ◌<◌, ◌≤◌, ◌⊎◌, ℕ, true, false, IfOk, IfErr};
-ghost use Rattle.corr_core.specs.Word.{parts};
+ghost use Rattle.corr_core.specs.Word.{parts, id_slot, id_first};
 ghost use Rattle.corr_core.specs.Law.{total, is_made};
 ghost use Rattle.id_rule.specs.Lawful.{notes_of};
 ghost use Rattle.corr_id.specs.Seats.{Sits, Stays};
-ghost use Rattle.corr_id.specs.Calls.{slot_of, version_of, GotLock, Quiet, Found};
+ghost use Rattle.corr_id.specs.Calls.{GotLock, Quiet, Found};
 ghost use Rattle.corr_id.specs.Attempts.{LacksAttempt, IsOutside, IsWithin, IsKnown};
 
 use crate::calls::{IdGone, Locking, is_out_of};
@@ -18,10 +18,10 @@ impl<C> IdTable<C> {
     pub fn lock_attempt<R: Wait>(&self, rt: &R, seat: &mut IdSeat<C>, version: u64) -> Locking<C>
         requires seat { Sits self.now.table.shared.table_id seat.old }
         ensures seat { Stays seat.old seat.new }
-        ensures locked { IfOk result (λ k. (k.slot ≡ slot_of version) × ((word : ℕ) × GotLock k.slot seat.old.me.0 seat.new.me.0 word (parts k.word.0) k.content)) }
+        ensures locked { IfOk result (λ k. (k.slot ≡ id_slot version) × ((word : ℕ) × GotLock k.slot seat.old.me.0 seat.new.me.0 word (parts k.word.0) k.content)) }
         ensures inside { IfOk result (λ k. k.slot < self.now.plan.slots) }
-        ensures of_range { IfOk result (λ k. ((parts k.word.0).first < version_of version) × (version_of version < (parts k.word.0).first + (parts k.word.0).range)) }
-        ensures gone { IfErr result (λ e. Quiet seat.old.me.0 seat.new.me.0 × (((self.now.plan.slots ≤ slot_of version) × (e.found ≡ 0)) ⊎ (Found (slot_of version) e.found seat.new.me.0 × LacksAttempt (parts e.found) (version_of version)))) }
+        ensures of_range { IfOk result (λ k. ((parts k.word.0).first < id_first version) × (id_first version < (parts k.word.0).first + (parts k.word.0).range)) }
+        ensures gone { IfErr result (λ e. Quiet seat.old.me.0 seat.new.me.0 × (((self.now.plan.slots ≤ id_slot version) × (e.found ≡ 0)) ⊎ (Found (id_slot version) e.found seat.new.me.0 × LacksAttempt (parts e.found) (id_first version)))) }
     {
         self.lock_within(rt, seat, version, true)
     }
@@ -36,12 +36,12 @@ impl<C> IdTable<C> {
     ) -> Locking<C>
         requires seat { Sits self.now.table.shared.table_id seat.old }
         ensures seat { Stays seat.old seat.new }
-        ensures locked { IfOk result (λ k. (k.slot ≡ slot_of version) × ((word : ℕ) × GotLock k.slot seat.old.me.0 seat.new.me.0 word (parts k.word.0) k.content)) }
+        ensures locked { IfOk result (λ k. (k.slot ≡ id_slot version) × ((word : ℕ) × GotLock k.slot seat.old.me.0 seat.new.me.0 word (parts k.word.0) k.content)) }
         ensures inside { IfOk result (λ k. k.slot < self.now.plan.slots) }
-        ensures of_range { IfOk result (λ k. IsWithin attempt (parts k.word.0) (version_of version)) }
-        ensures own { IfOk result (λ k. 0 < total (is_made (version_of version)) (notes_of (slot_of version) seat.old.me.0.notes) → (parts k.word.0).first ≡ version_of version) }
-        ensures gone { IfErr result (λ e. Quiet seat.old.me.0 seat.new.me.0 × (((self.now.plan.slots ≤ slot_of version) × (e.found ≡ 0)) ⊎ (Found (slot_of version) e.found seat.new.me.0 × IsOutside attempt (parts e.found) (version_of version)))) }
-        ensures ended { attempt ≡ false → IfErr result (λ e. slot_of version < self.now.plan.slots → IsKnown (slot_of version) (version_of version) seat.old.me.0 → version_of version < (parts e.found).first) }
+        ensures of_range { IfOk result (λ k. IsWithin attempt (parts k.word.0) (id_first version)) }
+        ensures own { IfOk result (λ k. 0 < total (is_made (id_first version)) (notes_of (id_slot version) seat.old.me.0.notes) → (parts k.word.0).first ≡ id_first version) }
+        ensures gone { IfErr result (λ e. Quiet seat.old.me.0 seat.new.me.0 × (((self.now.plan.slots ≤ id_slot version) × (e.found ≡ 0)) ⊎ (Found (id_slot version) e.found seat.new.me.0 × IsOutside attempt (parts e.found) (id_first version)))) }
+        ensures ended { attempt ≡ false → IfErr result (λ e. id_slot version < self.now.plan.slots → IsKnown (id_slot version) (id_first version) seat.old.me.0 → id_first version < (parts e.found).first) }
     {
         let slot = version / 4_294_967_296;
         if slot >= self.plan.slots as u64 {

@@ -1,6 +1,6 @@
 // Ids that are made, locked and ended.
 ghost use Rattle.std.specs.Prelude.{◌≡◌, ◌+◌, ◌*◌, ◌%◌, ◌<◌, ◌≤◌, ◌⊎◌, ℕ, [], ◌∷◌, true, false, IfOk, IfErr};
-ghost use Rattle.corr_core.specs.Word.{parts};
+ghost use Rattle.corr_core.specs.Word.{parts, id_slot, id_first};
 ghost use Rattle.corr_core.specs.Law.{LAST, total, is_made, is_advance, is_tried};
 ghost use Rattle.corr_core.specs.declared.marks.Hand.TheVariants.{Empty, Full};
 ghost use Rattle.corr_core.specs.declared.marks.Token.TheVariants.{Locked};
@@ -8,7 +8,7 @@ ghost use Rattle.corr_core.specs.declared.marks.Note.TheVariants.{Made, Ended};
 ghost use Rattle.id_rule.specs.Lawful.{notes_of};
 ghost use Rattle.id_rule.specs.Plays.{LockFits};
 ghost use Rattle.corr_id.specs.Seats.{Sits, Stays};
-ghost use Rattle.corr_id.specs.Calls.{is_saw, is_at, Became, one, slot_of, version_of, Claims, Locks, GotLock, Quiet, Did, MadeAs, OutOf, LacksId, Found};
+ghost use Rattle.corr_id.specs.Calls.{is_saw, is_at, Became, one, Claims, Locks, GotLock, Quiet, Did, MadeAs, OutOf, LacksId, Found};
 
 use crate::table::{IdSeat, IdTable};
 use sock_words::IdWord;
@@ -78,11 +78,11 @@ impl<C> IdTable<C> {
         requires range { (2 ≤ range) × (range ≤ 8) }
         requires claim { Claims at seat.old.me.0 0 Empty }
         ensures seat { Stays seat.old seat.new }
-        ensures id { (1 ≤ version_of result) × (version_of result ≤ LAST) × (slot_of result ≡ at) }
-        ensures made { Became at seat.old.me.0 seat.new.me.0 [] (one at (Made (version_of result) range content)) }
-        ensures before { (w : ℕ) → 0 < total (is_saw w) (notes_of at seat.old.me.0.notes) → 0 < (parts w).state → (parts w).first < version_of result }
+        ensures id { (1 ≤ id_first result) × (id_first result ≤ LAST) × (id_slot result ≡ at) }
+        ensures made { Became at seat.old.me.0 seat.new.me.0 [] (one at (Made (id_first result) range content)) }
+        ensures before { (w : ℕ) → 0 < total (is_saw w) (notes_of at seat.old.me.0.notes) → 0 < (parts w).state → (parts w).first < id_first result }
         ensures unnoted { (x : ℕ) → x % 2 ≡ 0 → total (is_at x result) seat.old.me.0.kept ≡ 0 }
-        ensures noted { 0 < total (is_made (version_of result)) (notes_of (slot_of result) seat.new.me.0.notes) }
+        ensures noted { 0 < total (is_made (id_first result)) (notes_of (id_slot result) seat.new.me.0.notes) }
     {
         let first = IdWord(self.read_first(seat, at)).first();
         let found = self.move_call(seat, at, Some(content));
@@ -101,8 +101,8 @@ impl<C> IdTable<C> {
         requires range { (2 ≤ range) × (range ≤ 8) }
         ensures seat { Stays seat.old seat.new }
         ensures made { IfOk result (λ id. MadeAs seat.old.me.0 seat.new.me.0 self.now.plan.slots id range content) }
-        ensures low { IfOk result (λ id. version_of id ≤ LAST) }
-        ensures noted { IfOk result (λ id. 0 < total (is_made (version_of id)) (notes_of (slot_of id) seat.new.me.0.notes)) }
+        ensures low { IfOk result (λ id. id_first id ≤ LAST) }
+        ensures noted { IfOk result (λ id. 0 < total (is_made (id_first id)) (notes_of (id_slot id) seat.new.me.0.notes)) }
         ensures full { IfErr result (λ e. (e.content ≡ content) × Quiet seat.old.me.0 seat.new.me.0 × ((i : ℕ) → i < self.now.plan.slots → 0 < total is_tried (notes_of i seat.new.me.0.notes))) }
     {
         let slots = self.plan.slots;
@@ -142,13 +142,13 @@ impl<C> IdTable<C> {
     pub fn lock<R: Wait>(&self, rt: &R, seat: &mut IdSeat<C>, version: u64) -> Locking<C>
         requires seat { Sits self.now.table.shared.table_id seat.old }
         ensures seat { Stays seat.old seat.new }
-        ensures locked { IfOk result (λ k. (k.slot ≡ slot_of version) × ((word : ℕ) × GotLock k.slot seat.old.me.0 seat.new.me.0 word (parts k.word.0) k.content)) }
+        ensures locked { IfOk result (λ k. (k.slot ≡ id_slot version) × ((word : ℕ) × GotLock k.slot seat.old.me.0 seat.new.me.0 word (parts k.word.0) k.content)) }
         ensures inside { IfOk result (λ k. k.slot < self.now.plan.slots) }
-        ensures of_range { IfOk result (λ k. ((parts k.word.0).first ≤ version_of version) × (version_of version < (parts k.word.0).first + (parts k.word.0).range)) }
-        ensures own { IfOk result (λ k. 0 < total (is_made (version_of version)) (notes_of (slot_of version) seat.old.me.0.notes) → (parts k.word.0).first ≡ version_of version) }
-        ensures gone { IfErr result (λ e. Quiet seat.old.me.0 seat.new.me.0 × (((self.now.plan.slots ≤ slot_of version) × (e.found ≡ 0)) ⊎ (Found (slot_of version) e.found seat.new.me.0 × OutOf (parts e.found) (version_of version)))) }
-        ensures ended { IfErr result (λ e. slot_of version < self.now.plan.slots → 0 < total (is_made (version_of version)) (notes_of (slot_of version) seat.old.me.0.notes) → version_of version < (parts e.found).first) }
-        ensures advanced { IfErr result (λ e. slot_of version < self.now.plan.slots → 0 < total (is_advance (version_of version)) (notes_of (slot_of version) seat.old.me.0.notes) → version_of version < (parts e.found).first) }
+        ensures of_range { IfOk result (λ k. ((parts k.word.0).first ≤ id_first version) × (id_first version < (parts k.word.0).first + (parts k.word.0).range)) }
+        ensures own { IfOk result (λ k. 0 < total (is_made (id_first version)) (notes_of (id_slot version) seat.old.me.0.notes) → (parts k.word.0).first ≡ id_first version) }
+        ensures gone { IfErr result (λ e. Quiet seat.old.me.0 seat.new.me.0 × (((self.now.plan.slots ≤ id_slot version) × (e.found ≡ 0)) ⊎ (Found (id_slot version) e.found seat.new.me.0 × OutOf (parts e.found) (id_first version)))) }
+        ensures ended { IfErr result (λ e. id_slot version < self.now.plan.slots → 0 < total (is_made (id_first version)) (notes_of (id_slot version) seat.old.me.0.notes) → id_first version < (parts e.found).first) }
+        ensures advanced { IfErr result (λ e. id_slot version < self.now.plan.slots → 0 < total (is_advance (id_first version)) (notes_of (id_slot version) seat.old.me.0.notes) → id_first version < (parts e.found).first) }
     {
         self.lock_within(rt, seat, version, false)
     }
@@ -202,7 +202,7 @@ impl<C> IdTable<C> {
         requires seat { Sits self.now.table.shared.table_id seat.old }
         ensures seat { Stays seat.old seat.new }
         ensures quiet { Quiet seat.old.me.0 seat.new.me.0 }
-        ensures gone { (self.now.plan.slots ≤ slot_of id) ⊎ ((word : ℕ) × Found (slot_of id) word seat.new.me.0 × LacksId (parts word) (version_of id)) }
+        ensures gone { (self.now.plan.slots ≤ id_slot id) ⊎ ((word : ℕ) × Found (id_slot id) word seat.new.me.0 × LacksId (parts word) (id_first id)) }
     {
         let slot = id / 4_294_967_296;
         if slot >= self.plan.slots as u64 {

@@ -5,7 +5,8 @@ ghost use Rattle.corr_core.specs.Law.{total, is_made};
 ghost use Rattle.id_rule.specs.Lawful.{call_index, at_index, notes_of, with_kept};
 ghost use Rattle.corr_id.specs.Ruled.{is_place};
 ghost use Rattle.corr_id.specs.Seats.{Sits, Stays};
-ghost use Rattle.corr_id.specs.Calls.{slot_of, version_of, Quiet, Found};
+ghost use Rattle.corr_id.specs.Calls.{Quiet, Found};
+ghost use Rattle.corr_core.specs.Word.{id_slot, id_first};
 
 use crate::plays::{Load, Store};
 use crate::table::{IdSeat, IdTable};
@@ -17,7 +18,7 @@ impl<C> IdTable<C> {
         requires seat { Sits self.now.table.shared.table_id seat.old }
         requires operation { operation < self.now.plan.operations }
         requires some { id ≢ 0 }
-        requires made { 0 < total (is_made (version_of id)) (notes_of (slot_of id) seat.old.me.0.notes) }
+        requires made { 0 < total (is_made (id_first id)) (notes_of (id_slot id) seat.old.me.0.notes) }
         ensures seat { Stays seat.old seat.new }
         ensures stored { seat.new.me.0 ≡ with_kept (call_index self.now.plan operation) true id seat.old.me.0 }
     {
@@ -44,11 +45,11 @@ impl<C> IdTable<C> {
     pub fn set_at(&self, seat: &mut IdSeat<C>, operation: u16, id: u64, link: u16, attempt: u8)
         requires seat { Sits self.now.table.shared.table_id seat.old }
         requires operation { operation < self.now.plan.operations }
-        requires id { (slot_of id < 65536) × (version_of id < 67108864) }
+        requires id { (id_slot id < 65536) × (id_first id < 67108864) }
         requires link { link < 65535 }
         requires attempt { attempt ≤ 6 }
         ensures seat { Stays seat.old seat.new }
-        ensures stored { seat.new.me.0 ≡ with_kept (at_index self.now.plan operation) true (packed_at (version_of id) (slot_of id) link attempt) seat.old.me.0 }
+        ensures stored { seat.new.me.0 ≡ with_kept (at_index self.now.plan operation) true (packed_at (id_first id) (id_slot id) link attempt) seat.old.me.0 }
     {
         let index = 2 * self.plan.slots as usize + 2 * operation as usize + 1;
         let slot = (id / 4_294_967_296) as u16;
@@ -79,8 +80,8 @@ impl<C> IdTable<C> {
         requires seat { Sits self.now.table.shared.table_id seat.old }
         ensures seat { Stays seat.old seat.new }
         ensures quiet { Quiet seat.old.me.0 seat.new.me.0 }
-        ensures found { slot_of version < self.now.plan.slots → Found (slot_of version) result seat.new.me.0 × (0 < result) }
-        ensures no_slot { self.now.plan.slots ≤ slot_of version → result ≡ 0 }
+        ensures found { id_slot version < self.now.plan.slots → Found (id_slot version) result seat.new.me.0 × (0 < result) }
+        ensures no_slot { self.now.plan.slots ≤ id_slot version → result ≡ 0 }
     {
         let slot = version / 4_294_967_296;
         if slot >= self.plan.slots as u64 {
@@ -94,7 +95,7 @@ impl<C> IdTable<C> {
         requires seat { Sits self.now.table.shared.table_id seat.old }
         requires place { (2 * self.now.plan.slots ≤ index) × (index < 2 * self.now.plan.slots + 2 * self.now.plan.operations) }
         requires some { value ≢ 0 }
-        requires made { index % 2 ≡ 0 → 0 < total (is_made (version_of value)) (notes_of (slot_of value) seat.old.me.0.notes) }
+        requires made { index % 2 ≡ 0 → 0 < total (is_made (id_first value)) (notes_of (id_slot value) seat.old.me.0.notes) }
         ensures seat { Stays seat.old seat.new }
         ensures stored { seat.new.me.0 ≡ with_kept index true value seat.old.me.0 }
     {

@@ -9,14 +9,13 @@ use native.Mathlib.Decide.{ℕ_discrete}
 use lib.ListN.{get_elem?}
 use Rattle.seat_programs.specs.brpc_model.specs.Items.{Item}
 use Rattle.seat_programs.specs.brpc_model.specs.Operations.{Turn}
-use Rattle.sock_words.specs.Words.{socket_id, socket_id_slot, socket_id_version, vref_version}
+use Rattle.sock_words.specs.Words.{socket_id, socket_id_slot, socket_id_version, vref_version, place_word}
 use Rattle.sock_words.specs.declared.outcome.Outcome.{Outcome}
 use Rattle.sock_words.specs.declared.outcome.Outcome.TheVariants.{Failed}
 use Rattle.sock_model.specs.declared.chain.Entry.{Entry}
 use Rattle.sock_model.specs.declared.chain.Heading.{Heading}
 use Rattle.sock_words.specs.declared.plain.Plan.{Plan}
 use Rattle.sock_model.specs.declared.view.View.{View}
-use Rattle.sock_model.specs.Deliveries.{place_value}
 use Rattle.sock_model.specs.Entries.{on}
 use Rattle.sock_model.specs.Layout.{open_index, place_index, request_index}
 use Rattle.sock_model.specs.Rule.{lists_of}
@@ -154,12 +153,12 @@ module _ (script : List Item) (made : AreMade script) (turns : List Turn) (core 
       (λ z. let none_ : get_or core.words (place_index p l) 0 ≡ 0 = z in absurd (omega (arith, word, none_)))
       (λ y. let j : ℕ = y.0 in let i : ℕ = y.1 in let a : Accepted = y.2 in let e = accepted_at (on j end_sound.lawful.log) i a y.4 in let low = few_accepted j i e.0 e.1 in let small = few_attempts j i e.0 e.1 in
       let attempt : a.attempt ≤ 6 = subst (λ (z : Accepted). z.attempt ≤ 6) e.2 small in let limits = end_sound.limits in let links = limits.links in
-      let shown : get_or core.words (place_index p l) 0 ≡ place_value (nat_le (orders j).placed i) j i = ap (λ z. get_or core.words (place_index p z) 0) y.5 ∙ are.written j i a y.3 y.4 in
+      let shown : get_or core.words (place_index p l) 0 ≡ place_word (nat_le (orders j).placed i) j i = ap (λ z. get_or core.words (place_index p z) 0) y.5 ∙ are.written j i a y.3 y.4 in
       by j i a y.3 y.4 (omega (arith, y.5, label_is, attempt, few)) (omega (arith, y.5, label_is, attempt, few)) low (nat_le (orders j).placed i) refl shown word links x.link x.small)
       (are.alone l x.low)
     where
       by : (j i : ℕ) (a : Accepted) → j < p.links → slice_get (orders j).accepted i ≡ Some a → a.operation ≡ o → a.attempt ≡ n → i < 2147483648 → (b : Bool) → nat_le (orders j).placed i ≡ b
-          → get_or core.words (place_index p l) 0 ≡ place_value b j i → get_or core.words (place_index p l) 0 ≡ place_value true k m → p.links ≤ 256 → k < p.links → m < MOST_PLACES → IsDroppedOn o n k
+          → get_or core.words (place_index p l) 0 ≡ place_word b j i → get_or core.words (place_index p l) 0 ≡ place_word true k m → p.links ≤ 256 → k < p.links → m < MOST_PLACES → IsDroppedOn o n k
       by j i a jl at op att low true late shown word links kl small = let same : j ≡ k = omega (arith, shown, word, low, small) in record {
         place = i;
         at = (kl, a, subst (λ z. slice_get (orders z).accepted i ≡ Some a) same at, op, att);

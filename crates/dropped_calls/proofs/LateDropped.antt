@@ -6,7 +6,7 @@ use mathlib.Core.Logic.{dite}
 use native.Mathlib.Decide.{dec_le}
 use Rattle.sock_words.specs.declared.plain.Plan.{Plan}
 use Rattle.sock_model.specs.declared.view.View.{View}
-use Rattle.sock_model.specs.Deliveries.{ShownAt, no_place, one_place, place_value}
+use Rattle.sock_model.specs.Deliveries.{ShownAt, no_place, one_place}
 use Rattle.sock_model.specs.Entries.{on}
 use Rattle.sock_model.specs.Layout.{place_index}
 use Rattle.sock_model.specs.Links.{Failed}
@@ -40,9 +40,10 @@ use Rattle.refused_attempts.specs.sent_once.proofs.Sends.{orders_are}
 use Rattle.refused_attempts.specs.Below.sock_steps.proofs.Positions.{on_shorter}
 use Rattle.refused_attempts.specs.Below.programs_allowed.specs.program_steps.specs.Lasts.{MOST_TICKS}
 use Rattle.corr_core.proofs.Notes.{at_length}
+use Rattle.sock_words.specs.Words.{place_word}
 
 -- a place word tells that the message at this position of the link was dropped: then the link had failed
-failed_here : (p : Plan) (c : Core) (vs : List View) (sound : Sound p c vs) → AreFew vs → (l k position : ℕ) → l < 8 * p.operations → k < p.links → position < 2147483648 → get_or c.words (place_index p l) 0 ≡ place_value true k position → Failed p (state c vs) k
+failed_here : (p : Plan) (c : Core) (vs : List View) (sound : Sound p c vs) → AreFew vs → (l k position : ℕ) → l < 8 * p.operations → k < p.links → position < 2147483648 → get_or c.words (place_index p l) 0 ≡ place_word true k position → Failed p (state c vs) k
 failed_here p c vs sound few l k position low kl small word = by_shown (sound.lawful.delivered.shown l low)
   where
     by_shown : ShownAt p.links (λ l. slice_index c.words (place_index p l)) sound.lawful.log sound.lawful.places sound.lawful.kept l → Failed p (state c vs) k
@@ -52,12 +53,12 @@ failed_here p c vs sound few l k position low kl small word = by_shown (sound.la
         others : i < 2147483648
         others = let s = log_small p c vs sound few in let o = on_shorter j sound.lawful.log in let n = at_length (on j sound.lawful.log) i e at in omega (arith, s, o, n)
 
-        by : (b : Bool) → nat_le (sound.lawful.kept j) i ≡ b → get_or c.words (place_index p l) 0 ≡ place_value b j i → Failed p (state c vs) k
+        by : (b : Bool) → nat_le (sound.lawful.kept j) i ≡ b → get_or c.words (place_index p l) 0 ≡ place_word b j i → Failed p (state c vs) k
         by true le w = let one : j ≡ k = (let y = others in omega (arith, word, w, small, y)) in subst (Failed p (state c vs)) one (sound.lawful.delivered.failed j jl (let less = leb-true (sound.lawful.kept j) i le in omega (arith, less, il)))
         by false le w = absurd (let y = others in let few_links = sound.limits.links in omega (arith, word, w, small, y, few_links, jl))
 
 -- and such a word tells of one link
-same_link : (d : Bool) (j k i n : ℕ) → j < 256 → i < 4294967295 → n < 2147483648 → place_value d j i ≡ place_value true k n → j ≡ k
+same_link : (d : Bool) (j k i n : ℕ) → j < 256 → i < 4294967295 → n < 2147483648 → place_word d j i ≡ place_word true k n → j ≡ k
 same_link true j k i n few small less e = omega (arith, small, less, e)
 same_link false j k i n few small less e = absurd (let z : ⊥ = omega (arith, few, small, less, e) in z)
 
@@ -90,7 +91,7 @@ module _ (script : List Item) (made : AreMade script) (turns : List Turn) (core 
       (λ seat at. seat_rests (played script is.setup (is.scheduled ++ is.later)) (rested_ahead script made.are (first_views script) s g turns core is f) 0 (rested_idle script made.are (first_views script) s g turns core is f) seat at))
 
   -- a place word that tells of a dropped message is as old as the ending, or tells of a late link
-  dropped_word : (l k n : ℕ) → l < 8 * (plan_of script).operations → k < (plan_of script).links → n < 2147483648 → get_or core.words (place_index (plan_of script) l) 0 ≡ place_value true k n
+  dropped_word : (l k n : ℕ) → l < 8 * (plan_of script).operations → k < (plan_of script).links → n < 2147483648 → get_or core.words (place_index (plan_of script) l) 0 ≡ place_word true k n
       → Failed (plan_of script) (state (played script is.setup (is.scheduled ++ is.later)) (views_played script turns core is (first_views script))) k ⊎ In k (late_links_of_run script turns core is)
   dropped_word l k n low kl small word = ⊎_elim
       (λ same. inl (failed_here (plan_of script) (played script is.setup (is.scheduled ++ is.later)) (views_played script turns core is (first_views script)) sound (first_few (replicate is.last (quiet 0)) (MOST_TICKS + 20 * length (opens script)) (let b = joint_bounded script turns core is made (joint_runs script turns core is made) in b.closing)) l k n low kl small
@@ -119,9 +120,9 @@ module _ (script : List Item) (made : AreMade script) (turns : List Turn) (core 
         a : (x : Accepted) × (slice_get (orders_here script made turns core is closes k).accepted (orders_here script made turns core is closes k).placed ≡ Some x)
         a = get_there (orders_here script made turns core is closes k).accepted (orders_here script made turns core is closes k).placed less
 
-        word : get_or core.words (place_index (plan_of script) (label a.0)) 0 ≡ place_value true k (orders_here script made turns core is closes k).placed
+        word : get_or core.words (place_index (plan_of script) (label a.0)) 0 ≡ place_word true k (orders_here script made turns core is closes k).placed
         word = let are = orders_are script made turns core is closes in are.written k (orders_here script made turns core is closes k).placed a.0 kl a.1
-            ∙ ap (λ b. place_value b k (orders_here script made turns core is closes k).placed) (le-leb (orders_here script made turns core is closes k).placed (orders_here script made turns core is closes k).placed (omega arith))
+            ∙ ap (λ b. place_word b k (orders_here script made turns core is closes k).placed) (le-leb (orders_here script made turns core is closes k).placed (orders_here script made turns core is closes k).placed (omega arith))
 
         sound : Sound (plan_of script) core (views_ended script turns core is (first_views script))
         sound = ended_sound script made.are (first_views script) (start script made turns core is) (go script made turns core is) turns core is (fitting script made turns core is)

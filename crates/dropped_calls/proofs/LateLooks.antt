@@ -14,7 +14,7 @@ use Rattle.seat_programs.specs.declared.task.Op.{Op}
 use Rattle.seat_programs.specs.declared.task.Task.{Task}
 use Rattle.seat_programs.specs.declared.task.Sizes.{Sizes}
 use Rattle.seat_programs.specs.Calls.{Call, LookWord, FindLink, ClaimRequest, SwapHead, EmptyHead}
-use Rattle.seat_programs.specs.Asides.{StoreAt, id_slot, id_first}
+use Rattle.seat_programs.specs.Asides.{StoreAt}
 use Rattle.seat_programs.specs.Heads.{Head, Exit, Retry, Posts, Unlocks, Decides, Opens, Posting, Unlocking, Deciding}
 use Rattle.seat_programs.specs.Programs.{Program, Do, Say, Sent, Write, Aside, Round, Keep, Retries, release, address}
 use Rattle.seat_programs.specs.Posts.{post}
@@ -33,6 +33,7 @@ use Rattle.refused_attempts.specs.Below.programs_allowed.specs.program_walks.pro
 use Rattle.refused_attempts.specs.Below.programs_allowed.specs.program_walks.proofs.ThroughSends.{through_block, through_write_link}
 use Rattle.refused_attempts.specs.Below.programs_allowed.specs.program_walks.proofs.ThroughCalls.{through_call, through_retry, through_join, through_reading}
 use Rattle.refused_attempts.specs.Below.programs_allowed.specs.program_walks.proofs.ThroughClients.{through_open, through_back, through_operation}
+use Rattle.corr_core.specs.Word.{id_slot, id_first}
 
 -- ## What a seat has in hand of a message
 

@@ -7,7 +7,6 @@ use lib.ListN.{get_elem?}
 use Rattle.sock_words.specs.declared.plain.Plan.{Plan}
 use Rattle.sock_model.specs.declared.chain.Right.{Right}
 use Rattle.sock_model.specs.declared.view.View.{View}
-use Rattle.sock_model.specs.Deliveries.{place_value}
 use Rattle.sock_model.specs.Layout.{place_index}
 use Rattle.seat_programs.specs.Calls.{Call, StorePlace, DropPlace}
 use Rattle.seat_programs.specs.Cores.{Core, found_at, words_after}
@@ -28,6 +27,7 @@ use Rattle.refused_attempts.specs.Below.outcome_causes.proofs.Plain.{in_left, in
 use Rattle.dropped_calls.proofs.LateLooks.{Mode, Writes}
 use Rattle.dropped_calls.proofs.LateSeats.{Righted, rights_of, Stands, AllStand, stand_ticks}
 use Rattle.dropped_calls.proofs.LateLives.{WasPast, Lives, lives_tell, lives_ticks}
+use Rattle.sock_words.specs.Words.{place_word}
 
 module _ (p : Plan) (base : Core) (L : ℕ → Type 0) where
   -- a place word tells of a message of such a link
@@ -38,7 +38,7 @@ module _ (p : Plan) (base : Core) (L : ℕ → Type 0) where
     pub late : L link
     pub inside : link < p.links
     pub small : position < MOST_PLACES
-    pub is : w ≡ place_value dropped link position
+    pub is : w ≡ place_word dropped link position
 
   late_right : (m : Mode) (k : ℕ) → rights_of p L (WasPast p base L) m k → L k
   late_right Writes k x = x
@@ -57,10 +57,10 @@ module _ (p : Plan) (base : Core) (L : ℕ → Type 0) where
         (late_right m r.link x.0, (sound.lawful.held i v at 0 r (ap (λ rs. get_elem? rs 0) one)).0)
 
     place_stored : (dropped : Bool) (n k position : ℕ) → L k → k < p.links → position < MOST_PLACES
-        → (get_or (Rattle.std.proofs.Common.set c.words (place_index p n) (place_value dropped k position)) (place_index p l) 0 ≡ get_or c.words (place_index p l) 0) ⊎ IsOfLate (get_or (Rattle.std.proofs.Common.set c.words (place_index p n) (place_value dropped k position)) (place_index p l) 0)
+        → (get_or (Rattle.std.proofs.Common.set c.words (place_index p n) (place_word dropped k position)) (place_index p l) 0 ≡ get_or c.words (place_index p l) 0) ⊎ IsOfLate (get_or (Rattle.std.proofs.Common.set c.words (place_index p n) (place_word dropped k position)) (place_index p l) 0)
     place_stored dropped n k position late inside small = dite (ℕ_discrete l n)
-        (λ e. inr record { dropped = dropped; link = k; position = position; late = late; inside = inside; small = small; is = ap (λ x. get_or (Rattle.std.proofs.Common.set c.words (place_index p n) (place_value dropped k position)) (place_index p x) 0) e ∙ get_or-set_same c.words (place_index p n) (place_value dropped k position) 0 (let sized = sound.lawful.references.sized in omega (arith, sized, low, e)) })
-        (λ far. inl (get_or-set_other c.words (place_index p n) (place_index p l) (place_value dropped k position) 0 (λ e. far (omega (arith, e)))))
+        (λ e. inr record { dropped = dropped; link = k; position = position; late = late; inside = inside; small = small; is = ap (λ x. get_or (Rattle.std.proofs.Common.set c.words (place_index p n) (place_word dropped k position)) (place_index p x) 0) e ∙ get_or-set_same c.words (place_index p n) (place_word dropped k position) 0 (let sized = sound.lawful.references.sized in omega (arith, sized, low, e)) })
+        (λ far. inl (get_or-set_other c.words (place_index p n) (place_index p l) (place_word dropped k position) 0 (λ e. far (omega (arith, e)))))
 
     place_after : (call : Call) → May p v call → After call
     place_after (StorePlace n k position) may = let x = may.0 in let y = late_one x.mine.right may.1 in place_stored false n k position (subst L (sym may.3) y.0) (subst (λ z. z < p.links) (sym may.3) y.1)

@@ -11,10 +11,10 @@ use Rattle.sock_model.specs.Reads.{message, link_home}
 use Rattle.sock_model.specs.Messages.{Letter}
 use Rattle.sock_io.specs.declared.link.Put.{Put}
 use Rattle.sock_io.specs.declared.link.Ready.{Ready}
-use Rattle.corr_core.specs.Word.{parts}
+use Rattle.corr_core.specs.Word.{parts, call_id}
 use Rattle.seat_programs.specs.id_rule.specs.Lawful.{at_index}
 use Rattle.attempted_calls.specs.Below.id_runs.specs.Goes as goes
-use Rattle.seat_programs.specs.Asides.{Step, Found, LoadAt, PostId, TakeBytes, Taking, call_id}
+use Rattle.seat_programs.specs.Asides.{Step, Found, LoadAt, PostId, TakeBytes, Taking}
 use Rattle.seat_programs.specs.Beside.{at_last, taking_in, found_in}
 use Rattle.seat_programs.specs.Programs.{Program, Do, TakeMessage, TakeHome, PutHome, PutBytes, AskReady, Aside, Round, Say, Sent, Rest, Keep}
 use Rattle.seat_programs.specs.Cores.{Core, SeatState, found_at, waiting_at}

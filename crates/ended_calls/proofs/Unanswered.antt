@@ -15,7 +15,6 @@ use Rattle.seat_programs.specs.brpc_model.specs.Script.{script_of}
 use Rattle.sock_message.specs.Asked.{Asked}
 use Rattle.seat_programs.specs.declared.task.Op.TheVariants as ops
 use Rattle.seat_programs.specs.declared.task.Task.{Task}
-use Rattle.seat_programs.specs.Asides.{id_slot, id_first}
 use Rattle.seat_programs.specs.Readers.{has_response, slot_in, version_in}
 use Rattle.seat_programs.specs.Cores.{Core}
 use Rattle.seat_programs.specs.Tasks.{opens, plan_of, id_plan_of}
@@ -33,6 +32,7 @@ use Rattle.attempted_calls.specs.Below.call_stories.specs.Scenes.{In}
 use Rattle.attempted_calls.specs.Below.story_steps.proofs.Whys.{in_contains}
 use Rattle.attempted_calls.specs.Below.call_causes.proofs.HandledWhole.{PostedLate, soon_behind, silent_of_readers, failed_inside}
 use Rattle.attempted_calls.specs.sent_once.proofs.Beside.{gave_of_run, fixed_of_run, orders_here}
+use Rattle.corr_core.specs.Word.{id_slot, id_first}
 
 pub some_response : (r : Option ResponseMeta) → IsSome r → has_response r ≡ true
 some_response (Some r) e = refl

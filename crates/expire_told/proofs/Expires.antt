@@ -22,7 +22,7 @@ use Rattle.seat_programs.specs.declared.task.Op.{Op}
 use Rattle.seat_programs.specs.declared.task.Op.TheVariants as ops
 use Rattle.seat_programs.specs.declared.task.Task.{Task}
 use Rattle.seat_programs.specs.Told.{HaveOwnLinks, AreTasks, IsTask, Became}
-use Rattle.corr_core.specs.Word.{parts}
+use Rattle.corr_core.specs.Word.{parts, id_slot, id_first}
 use Rattle.corr_core.specs.Law.{total, is_ended}
 use Rattle.corr_core.specs.declared.marks.Kept.{Kept}
 use Rattle.corr_core.specs.declared.marks.Note.{Note}
@@ -32,7 +32,6 @@ use Rattle.corr_core.specs.declared.marks.View.{View}
 use Rattle.corr_core.proofs.Notes.{only-at, total_some}
 use Rattle.id_rule.specs.Lawful.{call_index, notes_of, is_stored}
 use Rattle.sock_message.specs.Asked.{Asked}
-use Rattle.corr_id.specs.Calls.{slot_of, version_of}
 use Rattle.corr_id.specs.Closing.{Closing}
 use Rattle.corr_id.specs.Ruled.{is_place}
 use Rattle.call_told.specs.Below.RpcClient.Told.{Told}
@@ -103,8 +102,8 @@ call_acted {O} {g} state p q number asked op by s t is acted = with by (subst (�
     with (Some _) a = elim a [ ]
 
 -- an end that is noted of an id
-end_at : (v : View Asked) (a b : ℕ) → a ≡ b → 1 ≤ noted_ends (slot_of a) (version_of a) v.notes → 1 ≤ noted_ends (slot_of b) (version_of b) v.notes
-end_at v a b e h = subst (λ (id : ℕ). 1 ≤ noted_ends (slot_of id) (version_of id) v.notes) e h
+end_at : (v : View Asked) (a b : ℕ) → a ≡ b → 1 ≤ noted_ends (id_slot a) (id_first a) v.notes → 1 ≤ noted_ends (id_slot b) (id_first b) v.notes
+end_at v a b e h = subst (λ (id : ℕ). 1 ≤ noted_ends (id_slot id) (id_first id) v.notes) e h
 
 abbrev pub InOrder : Task → Task → Type 0
 InOrder a b = (a.number < b.number) × HaveOwnLinks a.op b.op
@@ -247,9 +246,9 @@ module _ {O : Type 0} {g : Ghosts O} {state : O → OutState} {readers : List (L
   -- the call that it ended is the one that was asked for
   its_call : (c of : ℕ) (x : Client g state p q) → get_elem? crew c ≡ some x → (s t : CallStand) (e : EndsAs q of s t) → ((slot : ℕ) (f : Note Asked → ℕ) → total f (notes_of slot t.view.notes) ≤ total f (notes_of slot (view_of x).notes)) → IsMaker of e.id → e.lock.content.operation ≡ of
   its_call c of x at s t e grows m =
-      let k = e.lock in let whole : slot_of e.id * 4294967296 + version_of e.id ≡ e.id = div-add-mod' e.id 4294967296 in let slot = e.slot_is in let first = e.first_is in
+      let k = e.lock in let whole : id_slot e.id * 4294967296 + id_first e.id ≡ e.id = div-add-mod' e.id 4294967296 in let slot = e.slot_is in let first = e.first_is in
       end_number q notes kept words closing of e.id (view_of x) (failed k ERPCTIMEDOUT) (within c x at) (let a = e.inside in omega arith)
-      (let a = m.begun.made in let b = within m.place m.client m.at (slot_of e.id) (is_made_for (version_of e.id) of) in omega arith)
+      (let a = m.begun.made in let b = within m.place m.client m.at (id_slot e.id) (is_made_for (id_first e.id) of) in omega arith)
       (record {
         slot = k.slot;
         first = (parts k.word.0).first;
@@ -270,7 +269,7 @@ module _ {O : Type 0} {g : Ghosts O} {state : O → OutState} {readers : List (L
       let there = said_ended c (length s.books.told + 0) x.thread.ended.calls.told.items one list
       (ap (λ (y : List Told). get_elem? y (length s.books.told + 0)) (l.books.told.1 ∙ ap (λ (y : List Told). y ++ l.books.told.0) e.told)
       ∙ append_first (s.books.told ++ one ∷ []) l.books.told.0 (length s.books.told + 0) one (append_later s.books.told (one ∷ []) 0 one refl)) in
-      let whole : slot_of e.id * 4294967296 + version_of e.id ≡ e.id = div-add-mod' e.id 4294967296 in let slot = e.slot_is in let first = e.first_is in
+      let whole : id_slot e.id * 4294967296 + id_first e.id ≡ e.id = div-add-mod' e.id 4294967296 in let slot = e.slot_is in let first = e.first_is in
       let same : id_in k ≡ e.id = omega (arith, whole, slot, first) in
       subst (λ (i : ℕ). Became every outcomes of (outcome.CallFailed i ERPCTIMEDOUT)) same (subst (λ (n : ℕ). Became every outcomes n (outcome.CallFailed (id_in k) ERPCTIMEDOUT)) call there)
 
@@ -397,9 +396,9 @@ module _ {O : Type 0} {g : Ghosts O} {state : O → OutState} {readers : List (L
   -- whoever expired a call noted its end
   pub record HasExpired (of : ℕ) (c : ℕ) (t : Task) (m : IsMade c t) : Type 0 where
     pub id : ℕ
-    pub inside : slot_of id < slots
+    pub inside : id_slot id < slots
     pub became : Became every outcomes of (outcome.CallFailed id ERPCTIMEDOUT)
-    pub more : 1 + noted_ends (slot_of id) (version_of id) m.done.made.ready.calls.view.notes ≤ noted_ends (slot_of id) (version_of id) (view_of m.client).notes
+    pub more : 1 + noted_ends (id_slot id) (id_first id) m.done.made.ready.calls.view.notes ≤ noted_ends (id_slot id) (id_first id) (view_of m.client).notes
 
   pub has_expired : (c of : ℕ) (t : Task) (m : IsMade c t) → t.op ≡ ops.Expire of → Became every outcomes t.number outcome.Expired → HasExpired of c t m
   has_expired c of t m op became =
@@ -407,7 +406,7 @@ module _ {O : Type 0} {g : Ghosts O} {state : O → OutState} {readers : List (L
         id = e.id;
         inside = (let a = e.inside in let b = e.slot_is in omega (arith, a, b));
         became = id_became c of m.client m.at d.made.ready.calls d.after.has.calls e d.later;
-        more = (let a = e.ended in let b = (d.later of).1.grows.notes (slot_of e.id) (is_ended (version_of e.id)) in omega (arith, a, b));
+        more = (let a = e.ended in let b = (d.later of).1.grows.notes (id_slot e.id) (is_ended (id_first e.id)) in omega (arith, a, b));
       }
 
   -- the outcome has one id
@@ -417,7 +416,7 @@ module _ {O : Type 0} {g : Ghosts O} {state : O → OutState} {readers : List (L
   -- no two clients
   two_clients : (c d of : ℕ) (t u : Task) (m : IsMade c t) (n : IsMade d u) → c ≢ d → HasExpired of c t m → HasExpired of d u n → ⊥
   two_clients c d of t u m n ne h k =
-      let same : k.id ≡ h.id = failed_once of k.id h.id k.became h.became in let i : ℕ = slot_of h.id in let f : ℕ = version_of h.id in
+      let same : k.id ≡ h.id = failed_once of k.id h.id k.became h.became in let i : ℕ = id_slot h.id in let f : ℕ = id_first h.id in
       let ends : View Asked → ℕ = λ v. noted_ends i f v.notes in
       let other : 1 ≤ ends (view_of n.client) = end_at (view_of n.client) k.id h.id same (let a = k.more in omega (arith, a)) in
       let both = two_terms (λ (x : Client g state p q). ends (view_of x)) crew c d m.client n.client m.at n.at ne in
@@ -439,9 +438,9 @@ module _ {O : Type 0} {g : Ghosts O} {state : O → OutState} {readers : List (L
       let all = on_then q s.after.has.calls ready (stand_of n.client.thread.ended.calls) went last in
       let e = timed_out_ends q of s.made.ready.calls s.after.has.calls (subst (λ (x : Outcome). ExpiredBy q of x s.made.ready.calls s.after.has.calls) is a.2) ((all of).1.books.fed (run_fed state p q n.client.thread.began n.client.thread.ended n.client.is.ran)) in
       let same : e.id ≡ h.id = failed_once of e.id h.id (id_became c of n.client n.at s.made.ready.calls s.after.has.calls e all) h.became in
-      let first : 1 ≤ noted_ends (slot_of e.id) (version_of e.id) ready.view.notes = (let z = e.ended in let y = (went of).1.grows.notes (slot_of e.id) (is_ended (version_of e.id)) in omega (arith, z, y)) in
-      let first' : 1 ≤ noted_ends (slot_of h.id) (version_of h.id) ready.view.notes = end_at ready.view e.id h.id same first in
-      let second = h.more in let w = within c n.client n.at (slot_of h.id) (is_ended (version_of h.id)) in let once = closing.ended_once (slot_of h.id) (version_of h.id) h.inside in
+      let first : 1 ≤ noted_ends (id_slot e.id) (id_first e.id) ready.view.notes = (let z = e.ended in let y = (went of).1.grows.notes (id_slot e.id) (is_ended (id_first e.id)) in omega (arith, z, y)) in
+      let first' : 1 ≤ noted_ends (id_slot h.id) (id_first h.id) ready.view.notes = end_at ready.view e.id h.id same first in
+      let second = h.more in let w = within c n.client n.at (id_slot h.id) (is_ended (id_first h.id)) in let once = closing.ended_once (id_slot h.id) (id_first h.id) h.inside in
       omega (arith, first', second, w, once)
 
   -- an `expire` ends a call once at most

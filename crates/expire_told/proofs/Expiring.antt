@@ -4,7 +4,7 @@ use Rattle.std.specs.Prelude.{Option as Maybe}
 use Rattle.sock_words.specs.Codes.{EINTERNAL, ERPCTIMEDOUT}
 use Rattle.sock_words.specs.declared.outcome.Outcome.{Outcome}
 use Rattle.sock_words.specs.declared.outcome.Outcome.TheVariants as outcome
-use Rattle.corr_core.specs.Word.{parts}
+use Rattle.corr_core.specs.Word.{parts, id_slot, id_first}
 use Rattle.corr_core.specs.Law.{total, is_ended}
 use Rattle.corr_core.specs.declared.marks.Kept.{Kept}
 use Rattle.corr_core.specs.declared.marks.Note.TheVariants.{Ended}
@@ -16,7 +16,7 @@ use Rattle.sock_message.specs.Asked.{Asked}
 use Rattle.corr_id.specs.declared.calls.IdLock.{IdLock}
 use Rattle.corr_id.specs.declared.posts.Posted.{Posted}
 use Rattle.corr_id.specs.declared.posts.Posted.TheVariants.{Locked as HasLock}
-use Rattle.corr_id.specs.Calls.{slot_of, version_of, one}
+use Rattle.corr_id.specs.Calls.{one}
 use Rattle.call_told.specs.Below.CallTable.DecisionVariants as decisions
 use Rattle.call_told.specs.Below.CallErrors.Books.{Books, CallStand, starving, Tells, told, lost}
 use Rattle.call_told.specs.Below.CallErrors.Ending.{EndedWith, failed}
@@ -56,27 +56,27 @@ decided_ends (handling.waits s k code attempt t a b e) none_ fed = let z = whole
 decided_ends (handling.goes_on s k code attempt t u l next of a b e rest) none_ fed = let z = whole_ends k code attempt none_ b in absurd (cc)
 
 -- and one end more is noted of its id
-once_more : (k : IdLock Asked) (code : ℕ) (s u t : CallStand) (id : ℕ) → k.slot ≡ slot_of id → (parts k.word.0).first ≡ version_of id → noted_ends k.slot (parts k.word.0).first s.view.notes ≤ noted_ends k.slot (parts k.word.0).first u.view.notes → EndedWith k code u t
-    → 1 + noted_ends (slot_of id) (version_of id) s.view.notes ≤ noted_ends (slot_of id) (version_of id) t.view.notes
+once_more : (k : IdLock Asked) (code : ℕ) (s u t : CallStand) (id : ℕ) → k.slot ≡ id_slot id → (parts k.word.0).first ≡ id_first id → noted_ends k.slot (parts k.word.0).first s.view.notes ≤ noted_ends k.slot (parts k.word.0).first u.view.notes → EndedWith k code u t
+    → 1 + noted_ends (id_slot id) (id_first id) s.view.notes ≤ noted_ends (id_slot id) (id_first id) t.view.notes
 once_more k code s u t id slot first grows e =
     let i : ℕ = k.slot in let f : ℕ = (parts k.word.0).first in let now : List (Noted Asked) = one i (Ended f (parts k.word.0).attempt) in
     let more : ℕ → ℕ → Type 0 = λ j g. 1 + noted_ends j g s.view.notes ≤ noted_ends j g t.view.notes in
     let a = ap (noted_ends i f) e.ended.notes in let b = noted_more i f now u.view.notes in let c : noted_ends i f now ≡ 1 = counted_here (is_ended f) i (Ended f (parts k.word.0).attempt) ∙ only-same f in
     let here : more i f = omega (arith, a, b, c, grows) in
-    subst (λ (j : ℕ). more j (version_of id)) slot (subst (λ (g : ℕ). more i g) first here)
+    subst (λ (j : ℕ). more j (id_first id)) slot (subst (λ (g : ℕ). more i g) first here)
 
 module _ (q : id_plan.Plan) where
   -- the id that was found where the operation's word is, locked and ended
   pub record EndsAs (operation : ℕ) (s t : CallStand) : Type 0 where
     pub id : ℕ
     pub lock : IdLock Asked
-    pub slot_is : lock.slot ≡ slot_of id
+    pub slot_is : lock.slot ≡ id_slot id
     pub inside : lock.slot < q.slots
-    pub first_is : (parts lock.word.0).first ≡ version_of id
+    pub first_is : (parts lock.word.0).first ≡ id_first id
     pub locked : HasLocked lock.slot (parts lock.word.0).first lock.content.operation t.view
     pub told : t.books.told ≡ s.books.told ++ failed lock ERPCTIMEDOUT ∷ []
     pub found : 0 < total (is_word (call_index q operation) id) t.view.kept
-    pub ended : 1 + noted_ends (slot_of id) (version_of id) s.view.notes ≤ noted_ends (slot_of id) (version_of id) t.view.notes
+    pub ended : 1 + noted_ends (id_slot id) (id_first id) s.view.notes ≤ noted_ends (id_slot id) (id_first id) t.view.notes
 
   -- the id that was found is kept in mind
   pub timed_out_word : (operation : ℕ) (by : Outcome) (s t : CallStand) (h : TimedOut q operation by s t) → 0 < total (is_word (call_index q operation) h.id) t.view.kept

@@ -20,7 +20,7 @@ use Rattle.seat_programs.specs.declared.task.Task.{Task}
 use Rattle.seat_programs.specs.Told.{AreTasks, IsTask, Became}
 use Rattle.seat_programs.specs.ToldCalls.{Fixed, Order, MayNotHaveBegun, WhyJoin}
 use Rattle.seat_programs.specs.ToldCalls as told_calls
-use Rattle.corr_core.specs.Word.{parts}
+use Rattle.corr_core.specs.Word.{parts, id_slot, id_first}
 use Rattle.corr_core.specs.Law.{total}
 use Rattle.corr_core.specs.declared.marks.Kept.{Kept}
 use Rattle.corr_core.specs.declared.marks.Noted.{Noted}
@@ -29,7 +29,7 @@ use Rattle.corr_core.specs.declared.marks.View.{View}
 use Rattle.corr_core.proofs.Notes.{pair-same}
 use Rattle.id_rule.specs.Lawful.{call_index, is_stored}
 use Rattle.sock_message.specs.Asked.{Asked}
-use Rattle.corr_id.specs.Calls.{slot_of, version_of, Found, LacksId}
+use Rattle.corr_id.specs.Calls.{Found, LacksId}
 use Rattle.corr_id.specs.Closing.{Closing}
 use Rattle.corr_id.specs.Ruled.{is_place}
 use Rattle.call_told.specs.Below.RpcClient.Told.{Told}
@@ -208,8 +208,8 @@ module _ {O : Type 0} {g : Ghosts O} {state : O → OutState} {readers : List (L
     pub id : ℕ
     pub made : IsMadeBy of id
     pub word : ℕ
-    pub found : Found (slot_of id) word v
-    pub lacks : LacksId (parts word) (version_of id)
+    pub found : Found (id_slot id) word v
+    pub lacks : LacksId (parts word) (id_first id)
 
   pub joined_saw : (c of : ℕ) (t : Task) (m : IsDone c t) → t.op ≡ ops.Join of → Became every outcomes t.number outcome.Joined → SawItEnd of m.done.after.has.calls.view
   joined_saw c of t m op became = by e.gone
@@ -220,9 +220,9 @@ module _ {O : Type 0} {g : Ghosts O} {state : O → OutState} {readers : List (L
       made : IsMadeBy of e.id
       made = joined_maker c of t m (e.id, saw_word q of m.done.made.ready.calls m.done.after.has.calls e)
 
-      by : (slots ≤ slot_of e.id) ⊎ ((word : ℕ) × Found (slot_of e.id) word e.view × LacksId (parts word) (version_of e.id)) → SawItEnd of m.done.after.has.calls.view
+      by : (slots ≤ id_slot e.id) ⊎ ((word : ℕ) × Found (id_slot e.id) word e.view × LacksId (parts word) (id_first e.id)) → SawItEnd of m.done.after.has.calls.view
       by (inl out_) = absurd (let i = made.begun.inside in omega (arith, out_, i))
-      by (inr w) = record { id = e.id; made = made; word = w.0; found = subst (λ (y : CallStand). Found (slot_of e.id) w.0 y.view) (sym e.after) w.1; lacks = w.2 }
+      by (inr w) = record { id = e.id; made = made; word = w.0; found = subst (λ (y : CallStand). Found (id_slot e.id) w.0 y.view) (sym e.after) w.1; lacks = w.2 }
 
   module _ (begun_not : (o id k : ℕ) (v : View Asked) → get_elem? ids k ≡ some v → HasBegun q o id v → Became every outcomes o outcome.Unopened → ⊥) (fixed : Fixed) (gave : ℕ → List ℕ) (orders : ℕ → Order) where
     -- a `join` that waited was of a call that began, and that is no later operation of its client

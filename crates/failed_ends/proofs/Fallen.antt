@@ -34,7 +34,6 @@ use Rattle.corr_core.specs.declared.marks.View.{View}
 use Rattle.corr_core.proofs.Notes.{only-at}
 use Rattle.corr_id.specs.id_rule.specs.Lawful.{notes_of}
 use Rattle.sock_message.specs.Asked.{Asked, name_of}
-use Rattle.corr_id.specs.Calls.{slot_of}
 use Rattle.corr_id.specs.Closing.{Closing}
 use Rattle.failed_reasons.specs.Below.RpcClient.Told.{Told}
 use Rattle.failed_reasons.specs.Below.CallAttempts.Retrying.{IsStray}
@@ -61,6 +60,7 @@ use Rattle.failed_reasons.proofs.Losses.{SawDead, SawFull, dead_later, full_late
 use Rattle.failed_reasons.proofs.Reaching.{Reaches, deeds_reach}
 use Rattle.failed_ends.proofs.Single.{IsNothing, not_accepted}
 use Rattle.failed_reasons.specs.call_whys.specs.call_places.specs.sock_deeds.proofs.Places.{map_back, map_there}
+use Rattle.corr_core.specs.Word.{id_slot}
 
 -- ## Of notes and operations
 
@@ -182,7 +182,7 @@ module _ {O : Type 0} {g : Ghosts O} {state : O → OutState} {readers : List (L
 
   module _ (c : ℕ) (x : Client g state p q) (at : get_elem? crew c ≡ some x) (i : ℕ) (d : Deed g state p q) (there : get_elem? (deeds_of x) i ≡ some d) (code : ℕ) (missed : missed_in d ≡ Some code) (backed : IsBacked (view_of x) d) where
     -- no link accepted it
-    pub unordered : (inside : slot_of (id_of d) < slots) → (f : IsNothing run tasks may notes kept words closing noted d) × IsUnordered p every outcomes fixed_here gave (orders drun differ) f.operation (attempt_of d)
+    pub unordered : (inside : id_slot (id_of d) < slots) → (f : IsNothing run tasks may notes kept words closing noted d) × IsUnordered p every outcomes fixed_here gave (orders drun differ) f.operation (attempt_of d)
     unordered inside =
         let n = not_accepted run tasks may notes kept words closing noted code c x at i d there missed backed inside in (
           n.0,

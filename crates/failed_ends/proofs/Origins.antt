@@ -22,7 +22,7 @@ use Rattle.failed_reasons.specs.Below.SockTable.SockRef.{SockRef}
 use Rattle.seat_programs.specs.declared.task.Op.{Op}
 use Rattle.seat_programs.specs.declared.task.Op.TheVariants as ops
 use Rattle.seat_programs.specs.declared.task.Task.{Task}
-use Rattle.corr_core.specs.Word.{Parts, parts}
+use Rattle.corr_core.specs.Word.{Parts, parts, id_slot, id_first}
 use Rattle.corr_core.specs.Law.{total, is_queued, is_attempt, is_ended_at}
 use Rattle.corr_core.specs.declared.marks.Note.{Note}
 use Rattle.corr_core.specs.declared.marks.Note.TheVariants.{Made, Queued}
@@ -36,7 +36,7 @@ use Rattle.sock_message.specs.Asked.{Asked}
 use Rattle.corr_id.specs.declared.calls.IdLock.{IdLock}
 use Rattle.corr_id.specs.declared.posts.Posted.{Posted}
 use Rattle.corr_id.specs.declared.posts.Posted.TheVariants.{Locked as HasLock, Queued as IsQueued, Gone, Crowded}
-use Rattle.corr_id.specs.Calls.{is_saw, slot_of, version_of, error_in, one, Did, Quiet, Found, GotLock}
+use Rattle.corr_id.specs.Calls.{is_saw, error_in, one, Did, Quiet, Found, GotLock}
 use Rattle.corr_id.specs.Posts.{PostOk}
 use Rattle.corr_id.specs.Unlocks.{UnlockOk}
 use Rattle.corr_id.specs.declared.unlocks.Unlocked.TheVariants as unlocked
@@ -123,7 +123,7 @@ module _ {O : Type 0} {g : Ghosts O} (state : O → OutState) (p : Plan) (q : id
   -- ## In later views
 
   made_later : (v w : View Asked) → Later v w → (number : ℕ) (op : Op) (by : Maybe Outcome) (s t : Stand g) (a : Acted state p q number op by s t) → IsMadeBy state p q v number op by s t a → IsMadeBy state p q w number op by s t a
-  made_later v w l number (ops.Call asked) None s t a h = let z = l.notes (slot_of a.0) (is_made_for (version_of a.0) asked.operation) in omega (arith, z, h)
+  made_later v w l number (ops.Call asked) None s t a h = let z = l.notes (id_slot a.0) (is_made_for (id_first a.0) asked.operation) in omega (arith, z, h)
   made_later v w l number (ops.Call asked) (Some by) s t a h = tt
   made_later v w l number _ by s t a h = tt
 
@@ -205,27 +205,27 @@ module _ {O : Type 0} {g : Ghosts O} (state : O → OutState) (p : Plan) (q : id
   caused_same s t e = caused_seen s t (same_stays s.view t.view (ap (λ (y : CallStand). y.view) e)) (ap (λ (y : CallStand). y.books) e)
 
   -- an error was queued
-  caused_queued : (s t : CallStand) (id code : ℕ) (attempt : Maybe ℕ) (ts : List (Token Asked)) → Did (slot_of id) s.view t.view ts (one (slot_of id) (Queued (version_of id) (error_in code attempt))) → t.books ≡ s.books → ReasonHere s.view id code attempt → Caused s t
+  caused_queued : (s t : CallStand) (id code : ℕ) (attempt : Maybe ℕ) (ts : List (Token Asked)) → Did (id_slot id) s.view t.view ts (one (id_slot id) (Queued (id_first id) (error_in code attempt))) → t.books ≡ s.books → ReasonHere s.view id code attempt → Caused s t
   caused_queued s t id code attempt ts d same r = record {
     later = now;
     queued = λ j first e h. (
-        let more : List (Noted Asked) = one (slot_of id) (Queued (version_of id) (error_in code attempt)) in
-        let a = did_total (is_queued first e) (queued_silent first e) (slot_of id) s.view t.view ts more d j in
+        let more : List (Noted Asked) = one (id_slot id) (Queued (id_first id) (error_in code attempt)) in
+        let a = did_total (is_queued first e) (queued_silent first e) (id_slot id) s.view t.view ts more d j in
         dite (ℕ_discrete (queued_in j first e more) 0)
         (λ z. inl (omega (arith, a, z, h)))
-        (λ ne. inr (let w = queued_one (slot_of id) j first e (version_of id) (error_in code attempt) (omega (arith, ne)) in
+        (λ ne. inr (let w = queued_one (id_slot id) j first e (id_first id) (error_in code attempt) (omega (arith, ne)) in
         record { id = id; code = code; attempt = attempt; slot_is = w.0; first_is = w.1; error_is = w.2; reason = reason_later s.view t.view now id code attempt r }))
         );
     advanced = λ j first n h. inl (
-        let x : Note Asked = Queued (version_of id) (error_in code attempt) in
-        let a = did_total (is_attempt first n) (attempt_silent first n) (slot_of id) s.view t.view ts (one (slot_of id) x) d j in
-        let b = none_of_one (is_attempt first n) (attempt_silent first n) (slot_of id) x refl j in omega (arith, a, b, h)
+        let x : Note Asked = Queued (id_first id) (error_in code attempt) in
+        let a = did_total (is_attempt first n) (attempt_silent first n) (id_slot id) s.view t.view ts (one (id_slot id) x) d j in
+        let b = none_of_one (is_attempt first n) (attempt_silent first n) (id_slot id) x refl j in omega (arith, a, b, h)
         );
     told = λ fed. (sym (ap (λ (y : Books). y.starved) same) ∙ fed, ([], ap (λ (y : Books). y.told) same ∙ sym (append-nil s.books.told), tt));
   }
     where
       now : Later s.view t.view
-      now = did_later (slot_of id) s.view t.view ts _ d
+      now = did_later (id_slot id) s.view t.view ts _ d
 
   -- ## Errors of calls
 
@@ -300,7 +300,7 @@ module _ {O : Type 0} {g : Ghosts O} (state : O → OutState) (p : Plan) (q : id
   posted_as : (s : CallStand) (v : View Asked) (id code : ℕ) (attempt : Maybe ℕ) (t : CallStand) (answer : Posted Asked) → PostOk q.slots s.view v id code attempt answer → Handled code attempt answer (record { view = v; books = s.books }) t → (Counts answer → ReasonHere s.view id code attempt) → Caused s t
   posted_as s v id code attempt t (HasLock k) post d r =
       let u : CallStand = record { view = v; books = s.books } in
-      let whole : slot_of id * 4294967296 + version_of id ≡ id = div-add-mod' id 4294967296 in let slot = post.0 in let first = post.2 in
+      let whole : id_slot id * 4294967296 + id_first id ≡ id = div-add-mod' id 4294967296 in let slot = post.0 in let first = post.2 in
       let same : id_in k ≡ id = omega (arith, whole, slot, first) in
       let got = got_stays k.slot s.view v post.4.0 (parts k.word.0) k.content post.4.1 in
       let reason = reason_later s.view v got.later (id_in k) code attempt (subst (λ (i : ℕ). ReasonHere s.view i code attempt) (sym same) (r tt)) in
@@ -401,20 +401,20 @@ module _ {O : Type 0} {g : Ghosts O} (state : O → OutState) (p : Plan) (q : id
 
   -- the id was made for the operation
   abbrev IsMade : ℕ → ℕ → View Asked → Type 0
-  IsMade operation id v = 0 < total (is_made_for (version_of id) operation) (notes_of (slot_of id) v.notes)
+  IsMade operation id v = 0 < total (is_made_for (id_first id) operation) (notes_of (id_slot id) v.notes)
 
   made_still : (operation id : ℕ) (v w : View Asked) → Later v w → IsMade operation id v → IsMade operation id w
-  made_still operation id v w l h = let a = l.notes (slot_of id) (is_made_for (version_of id) operation) in omega (arith, a, h)
+  made_still operation id v w l h = let a = l.notes (id_slot id) (is_made_for (id_first id) operation) in omega (arith, a, h)
 
   begun_by : (asked : Asked) (id : ℕ) (s t : Both) (h : CalledBy state p q asked (called.Begun id) s t) → Behind t.socks → WhyMissed (attempt_missed state p q h.socket _ h.at t h.attempted) id 0 (IsMade asked.operation id) → Caused s.calls t.calls
   begun_by asked id s t h behind why =
-      let m = h.made_for in let u : CallStand = record { view = m.view; books = s.calls.books } in let n : Note Asked = Made (version_of id) asked.range asked in
-      let f : Note Asked → ℕ = is_made_for (version_of id) asked.operation in
-      let made = did_stays (slot_of id) s.calls.view m.view _ (one (slot_of id) n) (one_silent (slot_of id) n (λ x y. refl) (λ x y. refl)) m.made.did in
+      let m = h.made_for in let u : CallStand = record { view = m.view; books = s.calls.books } in let n : Note Asked = Made (id_first id) asked.range asked in
+      let f : Note Asked → ℕ = is_made_for (id_first id) asked.operation in
+      let made = did_stays (id_slot id) s.calls.view m.view _ (one (id_slot id) n) (one_silent (id_slot id) n (λ x y. refl) (λ x y. refl)) m.made.did in
       let noted = kept_stays m.view h.at.calls.view _ _ _ m.noted in
       let known : IsMade asked.operation id h.at.calls.view = (
-      let a = did_total f (made_silent (version_of id) asked.operation) (slot_of id) s.calls.view m.view _ (one (slot_of id) n) m.made.did (slot_of id) in
-      let b = counted_here f (slot_of id) n in let c = pair-same (version_of id) asked.operation in let d = noted.later.notes (slot_of id) f in omega (arith, a, b, c, d)
+      let a = did_total f (made_silent (id_first id) asked.operation) (id_slot id) s.calls.view m.view _ (one (id_slot id) n) m.made.did (id_slot id) in
+      let b = counted_here f (id_slot id) n in let c = pair-same (id_first id) asked.operation in let d = noted.later.notes (id_slot id) f in omega (arith, a, b, c, d)
       ) in
       in_turn s.calls h.at.calls t.calls (in_turn s.calls u h.at.calls (caused_seen s.calls u made refl) (caused_seen u h.at.calls noted m.books)) (attempted_by (IsMade asked.operation id) (made_still asked.operation id) h.socket _ h.at t h.attempted h.made_for.found.0.inside behind known why)
 

@@ -26,7 +26,6 @@ use Rattle.corr_core.specs.declared.marks.Plan as id_plan
 use Rattle.corr_core.specs.declared.marks.View.{View}
 use Rattle.corr_id.specs.id_rule.specs.Lawful.{notes_of}
 use Rattle.sock_message.specs.Asked.{Asked}
-use Rattle.corr_id.specs.Calls.{slot_of, version_of}
 use Rattle.corr_id.specs.Closing.{Closing}
 use Rattle.failed_reasons.specs.Below.RpcClient.Told.{Told}
 use Rattle.failed_reasons.specs.Below.CallAttempts.Both.{Both}
@@ -49,6 +48,7 @@ use Rattle.failed_reasons.specs.call_whys.specs.call_places.specs.sock_deeds.pro
 use Rattle.failed_reasons.specs.attempts_told.proofs.Senders.{HasMade, IsNoted, all_noted}
 use Rattle.failed_ends.proofs.Single.{none_there, one_there, again_id, first_id}
 use Rattle.failed_reasons.specs.call_whys.specs.call_places.specs.sock_deeds.proofs.Places.{map_back}
+use Rattle.corr_core.specs.Word.{id_slot, id_first}
 
 -- ## The heading of a frame
 
@@ -96,7 +96,7 @@ module _ {O : Type 0} {g : Ghosts O} {state : O → OutState} {readers : List (L
   acted_owned v among number (ops.Send n bytes) (Some by) s t a made m e h = absurd (none_there m e h)
   acted_owned v among number (ops.Call asked) None s t a made m e h =
       let b = a.1 in of_call asked a.0 0 zero-le e (attempt_head state p q b.socket _ b.at (both_of t) b.attempted m e h)
-      (first_id run tasks may notes kept words closing noted asked.operation a.0 made.0 (let x = among (slot_of a.0) (is_made_for (version_of a.0) asked.operation) in let y = made.1 in omega (arith, x, y)))
+      (first_id run tasks may notes kept words closing noted asked.operation a.0 made.0 (let x = among (id_slot a.0) (is_made_for (id_first a.0) asked.operation) in let y = made.1 in omega (arith, x, y)))
   acted_owned v among number (ops.Call asked) (Some by) s t a made m e h = absurd (none_there m e h)
   acted_owned v among number _ by s t a made m e h = absurd (none_there m e h)
 

@@ -12,14 +12,14 @@ use Rattle.sock_words.specs.declared.place_word.PlaceWord.{PlaceWord}
 use Rattle.sock_words.specs.declared.vref.Vref.{Vref}
 use Rattle.seat_programs.specs.declared.task.Task.{Task}
 use Rattle.corr_core.specs.Law.{total}
-use Rattle.corr_core.specs.Word.{parts, code_of}
+use Rattle.corr_core.specs.Word.{parts, code_of, id_slot, id_first}
 use Rattle.corr_core.specs.declared.marks.Kept.{Kept}
 use Rattle.corr_core.specs.declared.marks.Noted.{Noted}
 use Rattle.corr_core.specs.declared.marks.Plan as id_plan
 use Rattle.corr_core.specs.declared.marks.View.{View}
 use Rattle.corr_core.proofs.Notes.{total_some}
 use Rattle.sock_message.specs.Asked.{Asked}
-use Rattle.corr_id.specs.Calls.{is_saw, slot_of, version_of, error_in}
+use Rattle.corr_id.specs.Calls.{is_saw, error_in}
 use Rattle.corr_id.specs.Closing.{Closing}
 use Rattle.corr_id.specs.Posts.{IsTimely}
 use Rattle.corr_id.specs.declared.calls.IdLock.{IdLock}
@@ -94,7 +94,7 @@ module _ {O : Type 0} {g : Ghosts O} {state : O → OutState} {readers : List (L
       let queues : View Asked → ℕ = λ v. queued_in k.slot (parts k.word.0).first (error_in code attempt) v.notes in
       let s = total_some (λ (y : Client g state p q). queues (view_of y)) crew (let b = total_map queues view_of crew in let d = ap (total queues) (views_are run) in omega (arith, own, b, d)) in
       let h = queued_caused run outcomes said s.0 s.1 s.2 k.slot (parts k.word.0).first (error_in code attempt) s.3 in
-      let whole : slot_of h.id * 4294967296 + version_of h.id ≡ h.id = div-add-mod' h.id 4294967296 in
+      let whole : id_slot h.id * 4294967296 + id_first h.id ≡ h.id = div-add-mod' h.id 4294967296 in
       let a = h.slot_is in let b = h.first_is in
       let same : h.id ≡ id_in k = omega (arith, whole, a, b) in
       let e = one_error h.code code h.attempt attempt (reason_low h.reason) low h.error_is in

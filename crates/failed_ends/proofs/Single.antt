@@ -32,7 +32,6 @@ use Rattle.corr_core.proofs.Notes.{only-at, only-else, pair-at, pair-else, pair-
 use Rattle.corr_id.specs.id_rule.specs.Lawful.{notes_of}
 use Rattle.sock_message.specs.Asked.{Asked}
 use Rattle.corr_id.specs.declared.calls.IdLock.{IdLock}
-use Rattle.corr_id.specs.Calls.{slot_of, version_of}
 use Rattle.corr_id.specs.Closing.{Closing}
 use Rattle.failed_reasons.specs.Below.RpcClient.Told.{Told}
 use Rattle.failed_reasons.specs.Below.CallErrors.Retry.{Retry}
@@ -63,6 +62,7 @@ use Rattle.failed_reasons.proofs.Losses.{IsAskedIn}
 use Rattle.failed_ends.proofs.Posters.{attempt_low}
 use Rattle.failed_reasons.specs.call_whys.specs.call_places.specs.sock_deeds.proofs.Places.{map_back}
 use Rattle.failed_reasons.proofs.Taken.{OneDeed}
+use Rattle.corr_core.specs.Word.{id_slot, id_first}
 
 -- ## Frames of a deed
 
@@ -119,7 +119,7 @@ module _ {O : Type 0} (state : O → OutState) (p : Plan) (q : id_plan.Plan) whe
     pub record IsFirst {g : Ghosts O} (v : View Asked) (number : ℕ) (op : Op) (by : Option Outcome) (s t : Stand g) (a : Acted state p q number op by s t) : Type 0 where
       pub operation : ℕ
       pub label : 0 < label_in (8 * operation + 0) number op
-      pub made : 0 < total (is_made_for (version_of (acted_id state p q number op by s t a)) operation) (notes_of (slot_of (acted_id state p q number op by s t a)) v.notes)
+      pub made : 0 < total (is_made_for (id_first (acted_id state p q number op by s t a)) operation) (notes_of (id_slot (acted_id state p q number op by s t a)) v.notes)
       pub no_frame : acted_entries state p q number op by s t a ≡ []
       pub asks : (asked : Asked) → op ≡ ops.Call asked → asked.operation ≡ operation
 
@@ -175,9 +175,9 @@ module _ {O : Type 0} {g : Ghosts O} {state : O → OutState} {readers : List (L
       let m = may_make run may j x at in let b = task_total x.thread x.is (labels l) in let d = own_labels p q l (tasks_of x) m.0 m.1 in omega (arith, b, d)) in
       let b = one_number run tasks (l / 8) in omega (arith, a, b)
 
-  one_again : (id n : ℕ) → slot_of id < slots → total (λ (x : Client g state p q). total (by_retry (is_retry id n)) (deeds_of x)) crew ≤ 1
+  one_again : (id n : ℕ) → id_slot id < slots → total (λ (x : Client g state p q). total (by_retry (is_retry id n)) (deeds_of x)) crew ≤ 1
   one_again id n inside =
-      let i : ℕ = slot_of id in let f : ℕ = version_of id in
+      let i : ℕ = id_slot id in let f : ℕ = id_first id in
       let whole : i * 4294967296 + f ≡ id = div-add-mod' id 4294967296 in
       let W : ℕ → ℕ = λ z. total (λ (x : Client g state p q). total (by_retry (is_retry z n)) (deeds_of x)) crew in
       let h : View Asked → ℕ = λ v. total (is_attempt f n) (notes_of i v.notes) in
@@ -200,7 +200,7 @@ module _ {O : Type 0} {g : Ghosts O} {state : O → OutState} {readers : List (L
       let t = two_terms (λ (z : Client g state p q). total W (deeds_of z)) crew b c y x by at ne in
       let s = term W (deeds_of x) i d there in let r = term W (deeds_of y) j e here in omega (arith, t, s, r, few, weighs, also)))
 
-  pub alone : (o id n : ℕ) → slot_of id < slots → (c : ℕ) (x : Client g state p q) → get_elem? crew c ≡ some x → (i : ℕ) (d : Deed g state p q) → get_elem? (deeds_of x) i ≡ some d → IsAttemptOf o id n d
+  pub alone : (o id n : ℕ) → id_slot id < slots → (c : ℕ) (x : Client g state p q) → get_elem? crew c ≡ some x → (i : ℕ) (d : Deed g state p q) → get_elem? (deeds_of x) i ≡ some d → IsAttemptOf o id n d
       → (b : ℕ) (y : Client g state p q) → get_elem? crew b ≡ some y → (j : ℕ) (e : Deed g state p q) → get_elem? (deeds_of y) j ≡ some e → IsAttemptOf o id n e → e ≡ d
   alone o id n inside c x at i d there (at_first z w) b y by j e here (at_first z' w') = same_deed (by_task (labels (8 * o + 0))) (one_first o) c x at i d there w b y by j e here w'
   alone o id n inside c x at i d there (again s w) b y by j e here (again s' w') = same_deed (by_retry (is_retry id n)) (one_again id n inside) c x at i d there w b y by j e here w'
@@ -253,17 +253,17 @@ module _ {O : Type 0} {g : Ghosts O} {state : O → OutState} {readers : List (L
     pub no_frame : entries_of d ≡ []
     pub asks : (asked : Asked) → IsAskedIn d asked → asked.operation ≡ operation
 
-  pub first_id : (o id : ℕ) → slot_of id < slots → 0 < total (is_made_for (version_of id) o) (notes_of (slot_of id) notes) → IsIdOf slots notes o id
+  pub first_id : (o id : ℕ) → id_slot id < slots → 0 < total (is_made_for (id_first id) o) (notes_of (id_slot id) notes) → IsIdOf slots notes o id
   first_id o id inside made =
-      let n = total_some (is_made_for (version_of id) o) (notes_of (slot_of id) notes) made in let m = made_note (version_of id) o n.1 n.3 in
-      record { slot = slot_of id; first = version_of id; inside = inside; low = version_low id; id_is = sym (div-add-mod' id 4294967296); range = m.0; asked = m.1; place = n.0; made = n.2 ∙ ap some m.2; operation = m.3 }
+      let n = total_some (is_made_for (id_first id) o) (notes_of (id_slot id) notes) made in let m = made_note (id_first id) o n.1 n.3 in
+      record { slot = id_slot id; first = id_first id; inside = inside; low = version_low id; id_is = sym (div-add-mod' id 4294967296); range = m.0; asked = m.1; place = n.0; made = n.2 ∙ ap some m.2; operation = m.3 }
 
-  missed_nothing : (code : ℕ) (c : ℕ) (x : Client g state p q) → get_elem? crew c ≡ some x → (i : ℕ) (d : Deed g state p q) → get_elem? (deeds_of x) i ≡ some d → missed_in d ≡ Some code → IsBacked (view_of x) d → slot_of (id_of d) < slots → IsNothing d
+  missed_nothing : (code : ℕ) (c : ℕ) (x : Client g state p q) → get_elem? crew c ≡ some x → (i : ℕ) (d : Deed g state p q) → get_elem? (deeds_of x) i ≡ some d → missed_in d ≡ Some code → IsBacked (view_of x) d → id_slot (id_of d) < slots → IsNothing d
   missed_nothing code c x at i (operates y by s t a) there is backed inside =
       let f = acted_first state p q code (view_of x) y.number y.op by s t a is backed in let id : ℕ = acted_id state p q y.number y.op by s t a in
       record {
         operation = f.operation;
-        id = first_id f.operation id inside (let b = noted_among run notes noted c x at (slot_of id) (is_made_for (version_of id) f.operation) in let m = f.made in omega (arith, b, m));
+        id = first_id f.operation id inside (let b = noted_among run notes noted c x at (id_slot id) (is_made_for (id_first id) f.operation) in let m = f.made in omega (arith, b, m));
         attempt = at_first refl f.label;
         no_frame = f.no_frame;
         asks = f.asks;
@@ -296,7 +296,7 @@ module _ {O : Type 0} {g : Ghosts O} {state : O → OutState} {readers : List (L
       record { one = record { place = j.0; client = y.0; in_crew = y.1; index = own.0; deed = own.1; there = own.2 }; at = own.3; sent = own.4; attempt = frame_attempt o id n low is j.0 y.0 y.1 own.0 own.1 own.2 own.3 e own.4 place }
 
   -- so the log has no entry with the place index of one that came to nothing
-  pub not_accepted : (code : ℕ) (c : ℕ) (x : Client g state p q) → get_elem? crew c ≡ some x → (i : ℕ) (d : Deed g state p q) → get_elem? (deeds_of x) i ≡ some d → missed_in d ≡ Some code → IsBacked (view_of x) d → slot_of (id_of d) < slots
+  pub not_accepted : (code : ℕ) (c : ℕ) (x : Client g state p q) → get_elem? crew c ≡ some x → (i : ℕ) (d : Deed g state p q) → get_elem? (deeds_of x) i ≡ some d → missed_in d ≡ Some code → IsBacked (view_of x) d → id_slot (id_of d) < slots
       → (f : IsNothing d) × ((k : ℕ) (e : Entry) → get_elem? run.closed.ordered.log k ≡ some e → e.heading.place ≡ 8 * f.operation + attempt_of d → ⊥)
   not_accepted code c x at i d there is backed inside =
       let f = missed_nothing code c x at i d there is backed inside in (

@@ -17,7 +17,7 @@ use Rattle.seat_programs.specs.declared.task.Op.TheVariants as ops
 use Rattle.seat_programs.specs.declared.task.Task.{Task}
 use Rattle.seat_programs.specs.Told.{AreTasks, IsTask, Became}
 use Rattle.seat_programs.specs.ToldCalls.{Fixed, Order, IsExpiredWith, FailedBy, ByExpiry}
-use Rattle.corr_core.specs.Word.{Parts, parts}
+use Rattle.corr_core.specs.Word.{Parts, parts, id_slot, id_first}
 use Rattle.corr_core.specs.Law.{total}
 use Rattle.corr_core.specs.declared.marks.Kept.{Kept}
 use Rattle.corr_core.specs.declared.marks.Note.{Note}
@@ -27,7 +27,7 @@ use Rattle.corr_core.specs.declared.marks.View.{View}
 use Rattle.corr_core.proofs.Notes.{only-at, total_some}
 use Rattle.corr_id.specs.id_rule.specs.Lawful.{call_index, notes_of}
 use Rattle.sock_message.specs.Asked.{Asked}
-use Rattle.corr_id.specs.Calls.{is_saw, slot_of, version_of}
+use Rattle.corr_id.specs.Calls.{is_saw}
 use Rattle.corr_id.specs.Closing.{Closing}
 use Rattle.corr_id.specs.Posts.{IsTimely}
 use Rattle.corr_id.specs.declared.calls.IdLock.{IdLock}
@@ -109,7 +109,7 @@ module _ {O : Type 0} {g : Ghosts O} {state : O → OutState} {readers : List (L
     its_operation o d y there kept_ =
         let m = found_maker run tasks may notes kept words closing noted keeps outcomes said_own said_ended o id d y there kept_ in
         end_number q notes kept words closing o id (view_of x) (failed lock e.code) (inside_notes c x at) m.begun.inside
-        (let a = inside_notes m.place m.client m.at (slot_of id) (is_made_for (version_of id) o) in let b = m.begun.made in omega (arith, a, b))
+        (let a = inside_notes m.place m.client m.at (id_slot id) (is_made_for (id_first id) o) in let b = m.begun.made in omega (arith, a, b))
         told_end (let a = only-at id id refl in omega (arith, a))
 
     -- its id was made for what was asked, with as many versions as the lock has

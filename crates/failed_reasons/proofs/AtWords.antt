@@ -29,7 +29,7 @@ use Rattle.sock_message.specs.Asked.{Asked}
 use Rattle.corr_id.specs.declared.calls.IdLock.{IdLock}
 use Rattle.corr_id.specs.declared.posts.Posted.{Posted}
 use Rattle.corr_id.specs.declared.posts.Posted.TheVariants.{Locked as HasLock}
-use Rattle.corr_id.specs.Calls.{slot_of, version_of, one}
+use Rattle.corr_id.specs.Calls.{one}
 use Rattle.corr_id.specs.Posts.{PostOk}
 use Rattle.attempts_told.specs.Below.CallErrors.Retry.{Retry}
 use Rattle.attempts_told.specs.Below.CallErrors.Books.{CallStand, stand_of}
@@ -55,6 +55,7 @@ use Rattle.attempts_told.specs.call_whys.specs.call_told.proofs.Least.{word_is a
 use Rattle.attempts_told.specs.call_whys.specs.call_places.specs.sock_deeds.proofs.Flats.{append_first, append_later}
 use Rattle.failed_reasons.specs.Missed.{acted_id, id_of, attempt_of}
 use Rattle.failed_reasons.proofs.Losses.{IsAskedIn}
+use Rattle.corr_core.specs.Word.{id_slot, id_first}
 
 -- ## The link of a deed
 
@@ -85,7 +86,7 @@ module _ {O : Type 0} {g : Ghosts O} {state : O → OutState} {p : Plan} {q : id
 
   -- the id of a first attempt was made for the operation
   abbrev pub IsMadeIn : View Asked → ℕ → Deed g state p q → Type 0
-  IsMadeIn v o (operates x by s t a) = 0 < total (is_made_for (version_of (acted_id state p q x.number x.op by s t a)) o) (notes_of (slot_of (acted_id state p q x.number x.op by s t a)) v.notes)
+  IsMadeIn v o (operates x by s t a) = 0 < total (is_made_for (id_first (acted_id state p q x.number x.op by s t a)) o) (notes_of (id_slot (acted_id state p q x.number x.op by s t a)) v.notes)
   IsMadeIn v o (retries r s t by) = Unit {0}
 
   -- the deed stored this word of the attempts of operation o
@@ -96,13 +97,13 @@ module _ {O : Type 0} {g : Ghosts O} {state : O → OutState} {p : Plan} {q : id
     pub link : ℕ
     pub link_is : link_in d ≡ Some link
     pub link_low : link < p.links
-    pub word_is : word ≡ at_word (version_of (id_of d)) (slot_of (id_of d)) link (attempt_of d)
-    pub low : version_of (id_of d) < 67108864
-    pub inside : slot_of (id_of d) < q.slots
+    pub word_is : word ≡ at_word (id_first (id_of d)) (id_slot (id_of d)) link (attempt_of d)
+    pub low : id_first (id_of d) < 67108864
+    pub inside : id_slot (id_of d) < q.slots
     pub made : IsMadeIn v asked.operation d
 
   made_stays : (v w : View Asked) → Grows v w → (o : ℕ) (d : Deed g state p q) → IsMadeIn v o d → IsMadeIn w o d
-  made_stays v w grows o (operates x by s t a) h = let z = grows (slot_of (acted_id state p q x.number x.op by s t a)) (is_made_for (version_of (acted_id state p q x.number x.op by s t a)) o) in omega (arith, z, h)
+  made_stays v w grows o (operates x by s t a) h = let z = grows (id_slot (acted_id state p q x.number x.op by s t a)) (is_made_for (id_first (acted_id state p q x.number x.op by s t a)) o) in omega (arith, z, h)
   made_stays v w grows o (retries r s t by) h = tt
 
   stored_stays : (v w : View Asked) → Grows v w → (o word : ℕ) (d : Deed g state p q) → IsStoredBy v o word d → IsStoredBy w o word d
@@ -191,12 +192,12 @@ module _ (q : id_plan.Plan) where
   module _ {O : Type 0} (state : O → OutState) (p : Plan) (Q : ℕ → ℕ → Type 0) where
     -- that word of the attempt in this message, with the link
     abbrev StoresLink : Letter → ℕ → Type 0
-    StoresLink msg link = Q msg.label.operation (at_word (version_of msg.owner) (slot_of msg.owner) link msg.label.attempt)
+    StoresLink msg link = Q msg.label.operation (at_word (id_first msg.owner) (id_slot msg.owner) link msg.label.attempt)
 
     attempt_for : (socket : SocketId) (msg : Letter) (s t : Both) (a : AttemptedBy state p q socket msg s t) → ((link : ℕ) → attempt_link state p q socket msg s t a ≡ Some link → link < p.links → StoresLink msg link) → StoresFor Q s.calls.view t.calls.view
     attempt_for socket msg s t (nowhere g) why = for_none Q s.calls.view t.calls.view (posts_none q.slots s.calls t.calls msg.owner EFAILEDSOCKET (Some msg.label.attempt) g.posted)
     attempt_for socket msg s t (over_link u l d) why =
-        let put : ℕ = at_word (version_of msg.owner) (slot_of msg.owner) l.link msg.label.attempt in
+        let put : ℕ = at_word (id_first msg.owner) (id_slot msg.owner) l.link msg.label.attempt in
         for_then Q s.calls.view u.calls.view t.calls.view (subst (StoresFor Q s.calls.view) (sym l.stored) (for_one Q msg.label.operation put s.calls.view (why l.link refl l.link_of.inside))) (for_none Q u.calls.view t.calls.view (delivered_by q (all_none q) state p socket msg u t d))
 
     went_for : (name : ℕ) (msg : Letter) (s t : Both) (w : WentTo state p q name msg s t) → ((link : ℕ) → went_link state p q name msg s t w ≡ Some link → link < p.links → StoresLink msg link) → StoresFor Q s.calls.view t.calls.view
@@ -244,7 +245,7 @@ module _ {O : Type 0} {g : Ghosts O} (state : O → OutState) (p : Plan) (q : id
           let Q : ℕ → ℕ → Type 0 = StoredAmong (d ∷ []) t.calls.view in
           let x : Both = record { socks = u.socks; calls = record { view = w.view; books = u.calls.books } } in
           for_then q Q s.calls.view w.view t.calls.view (for_none q Q s.calls.view w.view (none_by s.calls.view w.view (w.unlocked.4.kept ∙ l.got.got.did.kept)))
-          (went_for q state p Q _ (letter_for k.content r.id r.attempt r.low) x t w.went (λ link is small. one_deed d t.calls.view k.content.operation (at_word (version_of r.id) (slot_of r.id) link r.attempt) (record {
+          (went_for q state p Q _ (letter_for k.content r.id r.attempt r.low) x t w.went (λ link is small. one_deed d t.calls.view k.content.operation (at_word (id_first r.id) (id_slot r.id) link r.attempt) (record {
             asked = k.content;
             is = refl;
             operation = refl;
@@ -259,19 +260,19 @@ module _ {O : Type 0} {g : Ghosts O} (state : O → OutState) (p : Plan) (q : id
 
   -- what a call that began stored
   acted_for : (number : ℕ) (op : Op) (by : Option Outcome) (s t : Stand g) (a : Acted state p q number op by s t) (Q : ℕ → ℕ → Type 0)
-      → ((asked : Asked) (link : ℕ) → op ≡ ops.Call asked → acted_link state p q number op by s t a ≡ Some link → link < p.links → version_of (acted_id state p q number op by s t a) < 67108864 → slot_of (acted_id state p q number op by s t a) < q.slots
-      → 0 < total (is_made_for (version_of (acted_id state p q number op by s t a)) asked.operation) (notes_of (slot_of (acted_id state p q number op by s t a)) t.calls.view.notes)
-      → Q asked.operation (at_word (version_of (acted_id state p q number op by s t a)) (slot_of (acted_id state p q number op by s t a)) link 0)) → StoresFor q Q s.calls.view t.calls.view
+      → ((asked : Asked) (link : ℕ) → op ≡ ops.Call asked → acted_link state p q number op by s t a ≡ Some link → link < p.links → id_first (acted_id state p q number op by s t a) < 67108864 → id_slot (acted_id state p q number op by s t a) < q.slots
+      → 0 < total (is_made_for (id_first (acted_id state p q number op by s t a)) asked.operation) (notes_of (id_slot (acted_id state p q number op by s t a)) t.calls.view.notes)
+      → Q asked.operation (at_word (id_first (acted_id state p q number op by s t a)) (id_slot (acted_id state p q number op by s t a)) link 0)) → StoresFor q Q s.calls.view t.calls.view
   acted_for number (ops.Open n k) (Some by) s t h Q why = for_none q Q s.calls.view t.calls.view (none_by s.calls.view t.calls.view (same_keeps s.calls t.calls h.2))
   acted_for number (ops.Send n bytes) by s t h Q why = for_none q Q s.calls.view t.calls.view (sent_calling q (all_none q) state p n (letter_of number bytes) by s.me.0 s.calls t.me.0 t.calls h.0)
   acted_for number (ops.Call asked) (Some outcome.Unopened) s t h Q why = for_none q Q s.calls.view t.calls.view (none_by s.calls.view t.calls.view (same_keeps s.calls t.calls h.0.1))
   acted_for number (ops.Call asked) None s t h Q why =
       let b = h.1 in let m = b.made_for in let at = b.at.calls.view in let id : ℕ = h.0 in
-      let f = is_made_for (version_of id) asked.operation in
-      let a = did_total f (made_silent (version_of id) asked.operation) (slot_of id) s.calls.view m.view _ (one (slot_of id) (Made (version_of id) asked.range asked)) m.made.did (slot_of id) in
-      let c = counted_here f (slot_of id) (Made (version_of id) asked.range asked) in let e = pair-same (version_of id) asked.operation in
-      let noted = ap (λ (y : View Asked). total f (notes_of (slot_of id) y.notes)) m.noted in
-      let grows = (attempted_still state p q b.socket _ b.at (both_of t) b.attempted).grows (slot_of id) f in
+      let f = is_made_for (id_first id) asked.operation in
+      let a = did_total f (made_silent (id_first id) asked.operation) (id_slot id) s.calls.view m.view _ (one (id_slot id) (Made (id_first id) asked.range asked)) m.made.did (id_slot id) in
+      let c = counted_here f (id_slot id) (Made (id_first id) asked.range asked) in let e = pair-same (id_first id) asked.operation in
+      let noted = ap (λ (y : View Asked). total f (notes_of (id_slot id) y.notes)) m.noted in
+      let grows = (attempted_still state p q b.socket _ b.at (both_of t) b.attempted).grows (id_slot id) f in
       for_then q Q s.calls.view m.view t.calls.view (for_none q Q s.calls.view m.view (none_by s.calls.view m.view m.made.did.kept))
       (for_then q Q m.view at t.calls.view (subst (StoresFor q Q m.view) (sym m.noted) (for_call q Q asked.operation id m.view))
       (attempt_for q state p Q b.socket (letter_for asked id 0 zero-le) b.at (both_of t) b.attempted (λ link is small. why asked link refl is small (let l = m.made.low in omega (arith, l)) m.made.inside (omega (arith, a, c, e, noted, grows)))))

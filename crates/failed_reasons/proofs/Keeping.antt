@@ -2,11 +2,10 @@
 use Rattle.std.proofs.Common.{ℕ, suc, ap, ◌∙◌, arith}
 use lib.ListN.{get_elem?}
 use Rattle.sock_io.specs.Link.{OutState}
-use Rattle.sock_words.specs.Words.{socket_id_slot}
+use Rattle.sock_words.specs.Words.{socket_id_slot, place_word}
 use Rattle.sock_words.specs.declared.plain.Plan.{Plan}
 use Rattle.sock_model.specs.declared.view.StoredWord.{StoredWord}
 use Rattle.sock_model.specs.declared.view.View.{View}
-use Rattle.sock_model.specs.Deliveries.{place_value}
 use Rattle.sock_model.specs.Layout.{place_index}
 use Rattle.sock_model.specs.Weights.{total}
 use Rattle.std.specs.Prelude.{true}
@@ -33,7 +32,7 @@ module _ {O : Type 0} (state : O → OutState) where
 
   pub drop_still : (p : Plan) (id : ℕ) (msg : Undelivered) (v w : View) → WroteDrop state p id msg v w → StillHas v w
   drop_still p id msg v w d =
-      let s = wrote_still id v (record w { stores = v.stores; drops = v.drops }) d.wrote in let y : StoredWord = record { place = place_index p msg.label.place; word = place_value true d.link d.position } in
+      let s = wrote_still id v (record w { stores = v.stores; drops = v.drops }) d.wrote in let y : StoredWord = record { place = place_index p msg.label.place; word = place_word true d.link d.position } in
       record {
         marks = s.marks;
         puts = λ x n. (let e = ap (total (total (is_put x n))) d.stores in let m = note_is x n y v.stores in omega (arith, e, m));

@@ -15,7 +15,7 @@ use Rattle.sock_words.specs.declared.place_word.PlaceWord.{PlaceWord}
 use Rattle.sock_words.specs.declared.vref.Vref.{Vref}
 use Rattle.seat_programs.specs.declared.task.Task.{Task}
 use Rattle.seat_programs.specs.Told.{AreTasks}
-use Rattle.corr_core.specs.Word.{Parts, parts}
+use Rattle.corr_core.specs.Word.{Parts, parts, id_slot}
 use Rattle.corr_core.specs.Law.{total, is_ended}
 use Rattle.corr_core.specs.declared.marks.Kept.{Kept}
 use Rattle.corr_core.specs.declared.marks.Note.{Note}
@@ -26,7 +26,7 @@ use Rattle.corr_core.specs.declared.marks.View.{View}
 use Rattle.corr_core.proofs.Notes.{only-at, only-else}
 use Rattle.corr_id.specs.id_rule.specs.Lawful.{notes_of}
 use Rattle.sock_message.specs.Asked.{Asked}
-use Rattle.corr_id.specs.Calls.{FoundUpTo, is_saw, slot_of}
+use Rattle.corr_id.specs.Calls.{FoundUpTo, is_saw}
 use Rattle.corr_id.specs.Closing.{Closing}
 use Rattle.attempts_told.specs.Below.PrpcFrame.Meaning.{frame_of}
 use Rattle.sock_message.specs.brpc_model.specs.ResponseOutcome.{ending_of}
@@ -121,7 +121,7 @@ module _ (slots : ℕ) where
   id_last : (code id : ℕ) (b b' : Books) → HadEnded slots id b b' ⊎ EndedLast slots code id b b' → TellsLast b.told b'.told b.view.notes b'.view.notes
   id_last code id b b' (inl h) = last_none b.told b'.told b.view.notes b'.view.notes (ap (λ (x : Books). x.told) h.same)
   id_last code id b b' (inr l) = let u : Books = record b { view = l.locked } in
-      lost_last (slot_of id) l.inside l.word (let a = l.range.0 in let c = version_low id in omega (arith, a, c)) l.call b.view.notes u b' l.got.did.grows l.got.latest code (position (is_for (slot_of id) l.word) b.early) l.lost
+      lost_last (id_slot id) l.inside l.word (let a = l.range.0 in let c = version_low id in omega (arith, a, c)) l.call b.view.notes u b' l.got.did.grows l.got.latest code (position (is_for (id_slot id) l.word) b.early) l.lost
 
   one_last : (p : Plan) → p.slots ≡ slots → (code operation : ℕ) (b b' : Books) → OneEnded p code operation b b' → TellsLast b.told b'.told b.view.notes b'.view.notes
   one_last p is code operation b b' (inl n) = last_none b.told b'.told b.view.notes b'.view.notes (ap (λ (x : Books). x.told) n.same)

@@ -6,7 +6,7 @@ use mathlib.Core.Logic.{dite}
 use native.Mathlib.Decide.{ℕ_discrete}
 use Rattle.sock_words.specs.Words.{at_word_link}
 use Rattle.sock_words.specs.declared.at_word.AtWord.{AtWord}
-use Rattle.corr_core.specs.Word.{Parts, parts}
+use Rattle.corr_core.specs.Word.{Parts, parts, id_slot, id_first}
 use Rattle.corr_core.specs.Law.{total, is_queued}
 use Rattle.corr_core.specs.declared.marks.Note.TheVariants.{Queued}
 use Rattle.corr_core.specs.declared.marks.Noted.{Noted}
@@ -18,7 +18,7 @@ use Rattle.corr_id.specs.id_rule.specs.Lawful.{at_index, call_index, with_kept}
 use Rattle.sock_message.specs.Asked.{Asked}
 use Rattle.corr_id.specs.declared.posts.Posted.{Posted}
 use Rattle.corr_id.specs.declared.posts.Posted.TheVariants.{Locked as HasLock, Queued as IsQueued}
-use Rattle.corr_id.specs.Calls.{slot_of, version_of, error_in, one, Did}
+use Rattle.corr_id.specs.Calls.{error_in, one, Did}
 use Rattle.corr_id.specs.Posts.{PostOk}
 use Rattle.attempts_told.specs.Below.PrpcFrame.Frame.{Frame}
 use Rattle.attempts_told.specs.Below.CallClient.Telling.{did_total}
@@ -64,7 +64,7 @@ module _ (code : ℕ) where
 
   id_stays : (slots id : ℕ) (b b' : Books) → HadEnded slots id b b' ⊎ EndedLast slots code id b b' → Stays b.view b'.view
   id_stays slots id b b' (inl h) = quiet_stays b.view b'.view h.quiet
-  id_stays slots id b b' (inr l) = then_stays b.view l.locked b'.view (got_stays (slot_of id) b.view l.locked l.found l.word l.call l.got) (lost_stays (slot_of id) l.word l.call (record b { view = l.locked }) b' l.lost)
+  id_stays slots id b b' (inr l) = then_stays b.view l.locked b'.view (got_stays (id_slot id) b.view l.locked l.found l.word l.call l.got) (lost_stays (id_slot id) l.word l.call (record b { view = l.locked }) b' l.lost)
 
   one_stays : (p : Plan) (operation : ℕ) (b b' : Books) → OneEnded p code operation b b' → Stays b.view b'.view
   one_stays p operation b b' (inl n) = same_stays b.view b'.view n.view
@@ -122,8 +122,8 @@ post_later q link v w l word h = record { operation = h.operation; found = (let 
 pub record QueuedBy (q : Plan) (link code : ℕ) (v : View Asked) (i first e : ℕ) : Type 0 where
   pub word : ℕ
   pub post : IsPost q link v word
-  pub slot_is : slot_of (call_at word) ≡ i
-  pub first_is : version_of (call_at word) ≡ first
+  pub slot_is : id_slot (call_at word) ≡ i
+  pub first_is : id_first (call_at word) ≡ first
   pub error_is : error_in code (attempt_at word) ≡ e
 
 pub queued_later : (q : Plan) (link code : ℕ) (v w : View Asked) → Later v w → (i first e : ℕ) → QueuedBy q link code v i first e → QueuedBy q link code w i first e
@@ -142,8 +142,8 @@ module _ (q : Plan) (link code : ℕ) where
 
   post_posts : (word : ℕ) (v w : View Asked) (answer : Posted Asked) → IsPost q link v word → PostOk q.slots v w (call_at word) code (attempt_at word) answer → Posts v w
   post_posts word v w (HasLock k) post p = posts_none v w (got_stays k.slot v w p.4.0 (parts k.word.0) k.content p.4.1)
-  post_posts word v w IsQueued post p = queues_one (QueuedBy q link code) (slot_of (call_at word)) (version_of (call_at word)) (error_in code (attempt_at word)) v w _ p.0
-      (record { word = word; post = post_later q link v w (did_later (slot_of (call_at word)) v w _ _ p.0) word post; slot_is = refl; first_is = refl; error_is = refl })
+  post_posts word v w IsQueued post p = queues_one (QueuedBy q link code) (id_slot (call_at word)) (id_first (call_at word)) (error_in code (attempt_at word)) v w _ p.0
+      (record { word = word; post = post_later q link v w (did_later (id_slot (call_at word)) v w _ _ p.0) word post; slot_is = refl; first_is = refl; error_is = refl })
   post_posts word v w _ post p = posts_none v w (quiet_stays v w p.0)
 
   posted_if : (a : Bool) (word : ℕ) (b b' : Books) → (a ≡ true → IsPost q link b.view word) → PostedIf a q.slots code word b b' → Posts b.view b'.view

@@ -12,7 +12,7 @@ use Rattle.sock_words.specs.declared.socket_id.SocketId.{SocketId}
 use Rattle.sock_model.specs.declared.view.View as sock_view
 use Rattle.sock_io.specs.declared.link.Out.{Ghosts}
 use Rattle.sock_io.specs.Link.{InState}
-use Rattle.corr_core.specs.Word.{Parts, parts}
+use Rattle.corr_core.specs.Word.{Parts, parts, id_slot}
 use Rattle.corr_core.specs.declared.marks.Plan.{Plan}
 use Rattle.corr_id.specs.id_rule.specs.Lawful.{at_index, with_kept}
 use Rattle.sock_message.specs.Asked.{Asked}
@@ -21,7 +21,6 @@ use Rattle.sock_message.specs.brpc_model.specs.Meta.{ResponseMeta}
 use Rattle.sock_message.specs.brpc_model.specs.ResponseOutcome.{outcome_by, ending_of}
 use Rattle.corr_id.specs.declared.posts.Posted.{Posted}
 use Rattle.corr_id.specs.declared.posts.Posted.TheVariants.{Locked as HasLock}
-use Rattle.corr_id.specs.Calls.{slot_of}
 use Rattle.attempts_told.specs.Below.PrpcFrame.Meaning.{frame_of}
 use Rattle.attempts_told.specs.Below.PrpcFrame.Frame.{Frame}
 use Rattle.attempts_told.specs.Below.RpcClient.Told.{Told}
@@ -125,7 +124,7 @@ module _ (code : ℕ) (loss : IsReadCode code) where
 
   id_codes : (slots id : ℕ) (b b' : Books) → HadEnded slots id b b' ⊎ EndedLast slots code id b b' → TellsCodes b b'
   id_codes slots id b b' (inl h) = codes_none b b' (ap (λ (x : Books). x.told) h.same)
-  id_codes slots id b b' (inr l) = lost_codes (slot_of id) l.word l.call (record b { view = l.locked }) b' l.lost
+  id_codes slots id b b' (inr l) = lost_codes (id_slot id) l.word l.call (record b { view = l.locked }) b' l.lost
 
   one_codes : (p : Plan) (operation : ℕ) (b b' : Books) → OneEnded p code operation b b' → TellsCodes b b'
   one_codes p operation b b' (inl n) = codes_none b b' (ap (λ (x : Books). x.told) n.same)

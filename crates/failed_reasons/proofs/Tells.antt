@@ -4,7 +4,7 @@ use Rattle.std.proofs.lemmas.Nat.{div-add-mod'}
 use Rattle.sock_words.specs.declared.outcome.Outcome.{Outcome}
 use Rattle.sock_words.specs.declared.outcome.Outcome.TheVariants.{CallFailed}
 use Rattle.corr_core.specs.Law.{total, is_ended_at}
-use Rattle.corr_core.specs.Word.{Parts, parts, locked_word}
+use Rattle.corr_core.specs.Word.{Parts, parts, locked_word, id_slot}
 use Rattle.corr_core.specs.declared.marks.Plan.{Plan}
 use Rattle.corr_core.specs.declared.marks.View.{View}
 use Rattle.corr_id.specs.id_rule.specs.Lawful.{notes_of}
@@ -14,7 +14,7 @@ use Rattle.sock_message.specs.brpc_model.specs.ResponseOutcome.{ending_of}
 use Rattle.corr_id.specs.declared.calls.IdLock.{IdLock}
 use Rattle.corr_id.specs.declared.posts.Posted.{Posted}
 use Rattle.corr_id.specs.declared.posts.Posted.TheVariants.{Locked as HasLock, Queued as IsQueued}
-use Rattle.corr_id.specs.Calls.{is_saw, slot_of, Found, GotLock}
+use Rattle.corr_id.specs.Calls.{is_saw, Found, GotLock}
 use Rattle.corr_id.specs.Posts.{IsTimely, PostOk}
 use Rattle.attempts_told.specs.Below.PrpcFrame.Frame.{Frame}
 use Rattle.attempts_told.specs.Below.RpcClient.Told.{Told}
@@ -126,7 +126,7 @@ module _ (q : Plan) (links : ℕ) (gave : ℕ → List ℕ) (code link : ℕ) wh
 
   post_seen : (v w : View Asked) (word : ℕ) (answer : Posted Asked) → PostOk q.slots v w (call_at word) code (attempt_at word) answer → Later v w
   post_seen v w word (HasLock k) p = (got_stays k.slot v w p.4.0 (parts k.word.0) k.content p.4.1).later
-  post_seen v w word IsQueued p = did_later (slot_of (call_at word)) v w _ _ p.0
+  post_seen v w word IsQueued p = did_later (id_slot (call_at word)) v w _ _ p.0
   post_seen v w word _ p = (quiet_stays v w p.0).later
 
   pub posts_step : (os : List ℕ) (b b' : Books) → PostedAll q link code os b b' → Step q links gave code Known b b'

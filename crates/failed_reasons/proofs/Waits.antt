@@ -3,14 +3,14 @@ use Rattle.std.proofs.Common.{◌≡◌, ℕ, ◌⊎◌, inl, inr, ⊎_elim, Boo
 use Rattle.std.specs.Prelude.{Option, ◌==◌}
 use Rattle.sock_words.specs.Words.{at_word_link}
 use Rattle.sock_words.specs.declared.at_word.AtWord.{AtWord}
-use Rattle.corr_core.specs.Word.{parts}
+use Rattle.corr_core.specs.Word.{parts, id_slot, id_first}
 use Rattle.corr_core.specs.declared.marks.Plan.{Plan}
 use Rattle.corr_core.specs.declared.marks.View.{View}
 use Rattle.corr_id.specs.id_rule.specs.Lawful.{at_index, with_kept}
 use Rattle.sock_message.specs.Asked.{Asked}
 use Rattle.corr_id.specs.declared.posts.Posted.{Posted}
 use Rattle.corr_id.specs.declared.posts.Posted.TheVariants.{Locked as HasLock, Queued as IsQueued}
-use Rattle.corr_id.specs.Calls.{is_saw, slot_of, version_of, error_in, Found, HasId}
+use Rattle.corr_id.specs.Calls.{is_saw, error_in, Found, HasId}
 use Rattle.corr_id.specs.Posts.{PostOk}
 use Rattle.attempts_told.specs.Below.PrpcFrame.Frame.{Frame}
 use Rattle.attempts_told.specs.Below.RpcReader.Books.{Books}
@@ -51,15 +51,15 @@ module _ (slots : ℕ) (Given : Frame → Type 0) (asked : (f : Frame) → Given
   module _ (code : ℕ) where
     post_waits : (word : ℕ) (b : Books) (seen : View Asked) (answer : Posted Asked) → AllMet slots Given asked b → (b.starved ≡ true → ⊥) → PostOk slots b.view seen (call_at word) code (attempt_at word) answer → KeptNone answer word seen b.early → Waits b.view seen
     post_waits word b seen (HasLock k) all calm p none_ = waits_none b.view seen (got_stays k.slot b.view seen p.4.0 (parts k.word.0) k.content p.4.1)
-    post_waits word b seen IsQueued all calm p none_ = queues_one (λ u i first e. WaitsAt u i first) (slot_of (call_at word)) (version_of (call_at word)) (error_in code (attempt_at word)) b.view seen _ p.0 here
+    post_waits word b seen IsQueued all calm p none_ = queues_one (λ u i first e. WaitsAt u i first) (id_slot (call_at word)) (id_first (call_at word)) (error_in code (attempt_at word)) b.view seen _ p.0 here
       where
-        here : WaitsAt seen (slot_of (call_at word)) (version_of (call_at word))
+        here : WaitsAt seen (id_slot (call_at word)) (id_first (call_at word))
         here = record {
           word = none_.0;
           found = none_.1.0;
           has = none_.1.1;
           alone = λ f given is. ⊎_elim (λ s. absurd (calm s)) (λ h. h)
-              (queued_met slots code b.view word none_.0 (record b { view = seen }) f p.1.1.5 none_.1.1.0 none_.2 is (all_met slots Given asked b (record b { view = seen }) (goes_view slots b seen (did_later (slot_of (call_at word)) b.view seen _ _ p.0).notes) all f given));
+              (queued_met slots code b.view word none_.0 (record b { view = seen }) f p.1.1.5 none_.1.1.0 none_.2 is (all_met slots Given asked b (record b { view = seen }) (goes_view slots b seen (did_later (id_slot (call_at word)) b.view seen _ _ p.0).notes) all f given));
         }
     post_waits word b seen _ all calm p none_ = waits_none b.view seen (quiet_stays b.view seen p.0)
 

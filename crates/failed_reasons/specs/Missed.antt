@@ -15,7 +15,6 @@ use Rattle.corr_core.specs.declared.marks.Plan as id_plan
 use Rattle.corr_core.specs.declared.marks.View.{View}
 use Rattle.corr_id.specs.id_rule.specs.Lawful.{notes_of}
 use Rattle.sock_message.specs.Asked.{Asked}
-use Rattle.corr_id.specs.Calls.{slot_of, version_of}
 use Rattle.attempts_told.specs.Below.CallErrors.Retry.{Retry}
 use Rattle.attempts_told.specs.Below.CallAttempts.Both.{Both}
 use Rattle.attempts_told.specs.Below.CallAttempts.Attempting.{code_for, DeliveredBy, went_out, came_back, AttemptedBy, nowhere, over_link}
@@ -23,6 +22,7 @@ use Rattle.attempts_told.specs.Below.CallAttempts.Retrying.{WentTo, stray, unope
 use Rattle.attempts_told.specs.Below.CallClient.Acting.{Stand, both_of, Acted}
 use Rattle.attempts_told.specs.call_whys.specs.call_told.specs.Least.{is_made_for}
 use Rattle.attempts_told.specs.call_whys.specs.call_places.specs.Deeds.{Deed, operates, retries}
+use Rattle.corr_core.specs.Word.{id_slot, id_first}
 
 -- ## With which code
 
@@ -60,7 +60,7 @@ module _ {O : Type 0} (state : O → OutState) (p : Plan) (q : id_plan.Plan) whe
 
   -- this seat made it for the call's operation
   abbrev pub IsMadeBy : {g : Ghosts O} (v : View Asked) (number : ℕ) (op : Op) (by : Option Outcome) (s t : Stand g) → Acted state p q number op by s t → Type 0
-  IsMadeBy v number (ops.Call asked) None s t a = 0 < total (is_made_for (version_of a.0) asked.operation) (notes_of (slot_of a.0) v.notes)
+  IsMadeBy v number (ops.Call asked) None s t a = 0 < total (is_made_for (id_first a.0) asked.operation) (notes_of (id_slot a.0) v.notes)
   IsMadeBy v number _ _ s t a = Unit {0}
 
 -- ## Of a deed

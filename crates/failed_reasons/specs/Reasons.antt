@@ -18,7 +18,7 @@ use Rattle.sock_model.specs.SlotRows.{marks_of}
 use Rattle.attempts_told.specs.Below.SockRule.OnTable.{put_in}
 use Rattle.seat_programs.specs.declared.task.Op.TheVariants as ops
 use Rattle.seat_programs.specs.declared.task.Task.{Task}
-use Rattle.corr_core.specs.Word.{parts}
+use Rattle.corr_core.specs.Word.{parts, id_slot, id_first}
 use Rattle.corr_core.specs.Law.{total, pair, is_ended_at}
 use Rattle.corr_core.specs.declared.marks.Kept.{Kept}
 use Rattle.corr_core.specs.declared.marks.Plan as id_plan
@@ -28,7 +28,7 @@ use Rattle.sock_message.specs.Asked.{Asked}
 use Rattle.corr_id.specs.declared.calls.IdLock.{IdLock}
 use Rattle.corr_id.specs.declared.posts.Posted.{Posted}
 use Rattle.corr_id.specs.declared.posts.Posted.TheVariants.{Locked as HasLock, Queued as IsQueued}
-use Rattle.corr_id.specs.Calls.{Found, slot_of, version_of, error_in}
+use Rattle.corr_id.specs.Calls.{Found, error_in}
 use Rattle.corr_id.specs.Posts.{IsTimely}
 use Rattle.call_table.specs.declared.errors.Decision.TheVariants as decisions
 use Rattle.attempts_told.specs.Below.RpcClient.Told.{Told}
@@ -107,8 +107,8 @@ module _ {O : Type 0} {g : Ghosts O} (state : O → OutState) (p : Plan) (q : id
     pub id : ℕ
     pub code : ℕ
     pub attempt : Maybe ℕ
-    pub slot_is : slot_of id ≡ i
-    pub first_is : version_of id ≡ first
+    pub slot_is : id_slot id ≡ i
+    pub first_is : id_first id ≡ first
     pub error_is : error_in code attempt ≡ e
     pub reason : Reason v id code attempt
 

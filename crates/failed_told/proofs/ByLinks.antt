@@ -21,7 +21,7 @@ use Rattle.seat_programs.specs.Told.{AreTasks, IsTask}
 use Rattle.seat_programs.specs.ToldCalls.{IsAnsweredBy, MayBeOn, FailedBy, ByCompression, all_accepted}
 use Rattle.corr_core.specs.Law.{total, is_ended, is_ended_at}
 use Rattle.failed_ends.specs.call_whys.specs.call_places.proofs.Ids.{IsIdOf}
-use Rattle.corr_core.specs.Word.{Parts, parts, code_of}
+use Rattle.corr_core.specs.Word.{Parts, parts, code_of, id_slot, id_first}
 use Rattle.corr_core.specs.declared.marks.Kept.{Kept}
 use Rattle.corr_core.specs.declared.marks.Note.{Note}
 use Rattle.corr_core.specs.declared.marks.Note.TheVariants.{Made, Locker}
@@ -30,7 +30,7 @@ use Rattle.corr_core.specs.declared.marks.View.{View}
 use Rattle.corr_core.proofs.Notes.{total_some}
 use Rattle.corr_id.specs.id_rule.specs.Lawful.{at_index, notes_of}
 use Rattle.sock_message.specs.Asked.{Asked, name_of}
-use Rattle.corr_id.specs.Calls.{is_saw, slot_of, version_of, error_in}
+use Rattle.corr_id.specs.Calls.{is_saw, error_in}
 use Rattle.corr_id.specs.Closing.{Closing}
 use Rattle.corr_id.specs.Posts.{IsTimely}
 use Rattle.corr_id.proofs.Ranges.{lock_range}
@@ -229,8 +229,8 @@ module _ {O : Type 0} {g : Ghosts O} {state : O → OutState} {readers : List (L
     pub word : ℕ
     pub code : ℕ
     pub posted : IsPosted word code
-    pub slot_is : slot_of (call_at word) ≡ i
-    pub first_is : version_of (call_at word) ≡ first
+    pub slot_is : id_slot (call_at word) ≡ i
+    pub first_is : id_first (call_at word) ≡ first
     pub error_is : error_in code (attempt_at word) ≡ e
     -- where a client ended the range
     pub alone : WasEnded i first → code ≡ EEOF → Alone word

@@ -8,7 +8,7 @@ use lib.ListN.{get_elem?}
 use Rattle.sock_io.specs.declared.link.Out.{Ghosts}
 use Rattle.sock_io.specs.Link.{OutState}
 use Rattle.sock_words.specs.Codes.{EFAILEDSOCKET}
-use Rattle.sock_words.specs.Words.{socket_id_slot, socket_id_version}
+use Rattle.sock_words.specs.Words.{socket_id_slot, socket_id_version, place_word}
 use Rattle.sock_words.specs.declared.outcome.Outcome.{Outcome}
 use Rattle.sock_words.specs.declared.plain.Plan.{Plan}
 use Rattle.sock_words.specs.declared.place_word.PlaceWord.{PlaceWord}
@@ -17,7 +17,6 @@ use Rattle.sock_model.specs.declared.chain.Entry.{Entry}
 use Rattle.sock_model.specs.declared.chain.Heading.{Heading}
 use Rattle.sock_model.specs.declared.marks.Mark.{Mark}
 use Rattle.sock_model.specs.declared.view.StoredWord.{StoredWord}
-use Rattle.sock_model.specs.Deliveries.{place_value}
 use Rattle.sock_model.specs.Entries.{on}
 use Rattle.sock_model.specs.Layout.{place_index}
 use Rattle.sock_model.specs.SlotRows.{marks_of}
@@ -163,7 +162,7 @@ module _ {O : Type 0} {g : Ghosts O} {state : O → OutState} {readers : List (L
     place_there = w.drop.msg.label.place
 
     abbrev word_there : ℕ
-    word_there = place_value true w.drop.wrote.link w.drop.wrote.position
+    word_there = place_word true w.drop.wrote.link w.drop.wrote.position
 
     -- a deed at the table of sockets behind which the seat has all that it noted by the drop
     record IsKept : Type 0 where
@@ -243,7 +242,7 @@ module _ {O : Type 0} {g : Ghosts O} {state : O → OutState} {readers : List (L
           let l = logged_there in let d = w.drop.wrote in let e = l.entry in
           let attempt : e.heading.attempt ≡ n = l.attempt_is ∙ (d.attempt_is ∙ sym w.attempt_is) in
           let owner : e.heading.owner ≡ id = l.owner_is ∙ (d.owner_is ∙ sym w.owner) in
-          let k = kept_there in let l_ = w.drop.msg.label.place in let word = place_value true w.drop.wrote.link w.drop.wrote.position in let more = k.still.puts (place_index p l_) word in let put = stored_there in
+          let k = kept_there in let l_ = w.drop.msg.label.place in let word = place_word true w.drop.wrote.link w.drop.wrote.position in let more = k.still.puts (place_index p l_) word in let put = stored_there in
           let there : 0 < put_in (place_index p e.heading.place) word (after drun k.act) = subst (λ (z : ℕ). 0 < put_in (place_index p z) word (after drun k.act)) (sym (l.place_is ∙ d.place_is)) (omega (arith, more, put)) in
           let stands = dropped_stands drun differ few few_links l.position e l.there k.act w.drop.wrote.link w.drop.wrote.position w.drop.wrote.low there in
           let o : IsOwned run tasks may notes kept words closing noted e = elim (owned_by run tasks may notes kept words closing noted l.position e (ap (λ (z : List Entry). get_elem? z l.position) (sym logged) ∙ l.there)) [

@@ -29,7 +29,7 @@ use Rattle.corr_core.specs.declared.marks.View.{View}
 use Rattle.corr_core.proofs.Notes.{only-at, total_some}
 use Rattle.corr_id.specs.id_rule.specs.Lawful.{notes_of}
 use Rattle.sock_message.specs.Asked.{Asked, name_of}
-use Rattle.corr_id.specs.Calls.{FoundUpTo, slot_of, version_of}
+use Rattle.corr_id.specs.Calls.{FoundUpTo}
 use Rattle.corr_id.specs.Closing.{Closing}
 use Rattle.failed_ends.specs.Below.RpcClient.Told.{Told}
 use Rattle.failed_ends.specs.Below.CallAttempts.Both.{Both}
@@ -75,6 +75,7 @@ use Rattle.failed_ends.proofs.Single.{laws, IsAttemptOf, at_first, again_id, aga
 use Rattle.failed_told.proofs.Standing.{may_be_on, lost_on}
 use Rattle.failed_told.proofs.Unopened.{unopened_why}
 use Rattle.failed_ends.specs.call_whys.specs.call_places.specs.sock_deeds.proofs.Places.{map_back}
+use Rattle.corr_core.specs.Word.{id_slot, id_first}
 
 -- ## Of deeds
 
@@ -166,7 +167,7 @@ module _ {O : Type 0} {g : Ghosts O} {state : O → OutState} {readers : List (L
   -- ## An attempt that was made
 
   module _ (c : ℕ) (x : Client g state p q) (at : get_elem? crew c ≡ some x) (i : ℕ) (d : Deed g state p q) (there : get_elem? (deeds_of x) i ≡ some d) (asked : Asked) (asks : IsAskedIn d asked) (tried : IsTried d) (backed : IsBacked (view_of x) d)
-      (client : ℕ) (task : IsOperation every outcomes client asked.operation (ops.Call asked)) (its : IsIdOf slots notes asked.operation (id_of d)) (attempt : IsAttemptOf run tasks may notes kept words closing noted asked.operation (id_of d) (attempt_of d) d) (inside : slot_of (id_of d) < slots) (few : attempt_of d ≤ 6) where
+      (client : ℕ) (task : IsOperation every outcomes client asked.operation (ops.Call asked)) (its : IsIdOf slots notes asked.operation (id_of d)) (attempt : IsAttemptOf run tasks may notes kept words closing noted asked.operation (id_of d) (attempt_of d) d) (inside : id_slot (id_of d) < slots) (few : attempt_of d ≤ 6) where
     -- without a link, it came to nothing
     by_nothing : link_in d ≡ None → LeftHere client asked.operation asked (attempt_of d)
     by_nothing is = by (why_nothing run tasks may notes kept words closing noted outcomes drun seats logged differ gave (log_accepted drun differ (λ k. [])) c x at i d there EFAILEDSOCKET missed backed client asked.operation asked task why)
@@ -234,8 +235,8 @@ module _ {O : Type 0} {g : Ghosts O} {state : O → OutState} {readers : List (L
           let n = all_at (IsNoted g state p q (tasks_of x) (view_of x)) (deeds_of x) i d (all_noted x.thread x.is) there in
           let m = may_make run may c x at in
           let mine : asked.operation ≡ o = own_call p q (tasks_of x) m.0 m.1 k its_task here asked refl in
-          let made_ : 0 < total (is_made_for (version_of a.0) asked.operation) (notes_of (slot_of a.0) (view_of x).notes) = n.1.1 in
-          let its = first_id run tasks may notes kept words closing noted asked.operation a.0 n.1.0 (let b = noted_among run notes noted c x at (slot_of a.0) (is_made_for (version_of a.0) asked.operation) in omega (arith, b, made_)) in
+          let made_ : 0 < total (is_made_for (id_first a.0) asked.operation) (notes_of (id_slot a.0) (view_of x).notes) = n.1.1 in
+          let its = first_id run tasks may notes kept words closing noted asked.operation a.0 n.1.0 (let b = noted_among run notes noted c x at (id_slot a.0) (is_made_for (id_first a.0) asked.operation) in omega (arith, b, made_)) in
           let task = subst (λ (y : ℕ). IsOperation every outcomes client y (ops.Call asked)) (sym mine) is in
           let label = only-at (8 * asked.operation + 0) (8 * asked.operation + 0) refl in
           subst (λ (y : ℕ). LeftHere client y asked 0) mine (deed_left c x at i d there asked refl refl made_ client task its (at_first refl (omega (arith, label))) n.1.0 (omega arith))

@@ -22,7 +22,6 @@ use Rattle.corr_core.specs.declared.marks.View.{View}
 use Rattle.corr_core.proofs.Notes.{only-at, total_some}
 use Rattle.corr_id.specs.id_rule.specs.Lawful.{notes_of}
 use Rattle.sock_message.specs.Asked.{Asked}
-use Rattle.corr_id.specs.Calls.{slot_of, version_of}
 use Rattle.corr_id.specs.Closing.{Closing}
 use Rattle.failed_ends.specs.Below.RpcClient.Told.{Told}
 use Rattle.failed_ends.specs.Below.CallClient.Acting.{Stand, both_of, Acted}
@@ -39,13 +38,14 @@ use Rattle.failed_ends.specs.call_whys.specs.call_told.proofs.Coming.{made_begun
 use Rattle.failed_ends.specs.failed_reasons.proofs.Before.{operation_made, noted_last}
 use Rattle.failed_ends.proofs.Lasts.{one_made}
 use Rattle.failed_ends.specs.failed_reasons.proofs.Makers.{made_begun}
+use Rattle.corr_core.specs.Word.{id_slot, id_first}
 
 -- an id with room was made for the operation
 pub record MadeLow (slots o : ℕ) (v : View Asked) : Type 0 where
   pub id : ℕ
-  pub inside : slot_of id < slots
-  pub low : version_of id ≤ LAST
-  pub made : 0 < total (is_made_for (version_of id) o) (notes_of (slot_of id) v.notes)
+  pub inside : id_slot id < slots
+  pub low : id_first id ≤ LAST
+  pub made : 0 < total (is_made_for (id_first id) o) (notes_of (id_slot id) v.notes)
 
 acted_low : {O : Type 0} {g : Ghosts O} (state : O → OutState) (p : Plan) (q : id_plan.Plan) (number : ℕ) (asked : Asked) (s t : Stand g) → Acted state p q number (ops.Call asked) None s t → MadeLow q.slots asked.operation t.calls.view
 acted_low state p q number asked s t a = let b = begun_behind q state p asked a.0 (both_of s) (both_of t) a.1 in record { id = a.0; inside = b.inside; low = a.1.made_for.made.low; made = b.made }
@@ -59,7 +59,7 @@ client_low {O} {g} {state} {p} {q} x th o some_ =
     let acted : Acted state p q c.task.number (ops.Call b.3.asked) None c.before c.after =
     subst (λ (y : Option Outcome). Acted state p q c.task.number (ops.Call b.3.asked) y c.before c.after) none_ (subst (λ (z : Op). Acted state p q c.task.number z c.by c.before c.after) op c.acted) in
     let low = acted_low state p q c.task.number b.3.asked c.before c.after acted in
-    let f : ℕ → Note Asked → ℕ = is_made_for (version_of low.id) in let i = slot_of low.id in
+    let f : ℕ → Note Asked → ℕ = is_made_for (id_first low.id) in let i = id_slot low.id in
     record {
       id = low.id;
       inside = low.inside;
@@ -82,6 +82,6 @@ module _ {O : Type 0} {g : Ghosts O} {state : O → OutState} {readers : List (L
       let f : View Asked → ℕ = λ v. total (makes o) v.notes in
       let s = total_some (λ (y : Client g state p q). f (view_of y)) crew (let a = noted.made o in let b = total_map f view_of crew in let c = ap (total f) (views_are run) in omega (arith, one, here, a, b, c)) in
       let m = client_low s.1.thread s.1.is o s.3 in
-      let all = noted_among run notes noted s.0 s.1 s.2 (slot_of m.id) (is_made_for (version_of m.id) o) in
-      let same = one_made slots notes o id its (made_once run tasks may notes noted o) (slot_of m.id) (version_of m.id) (let made = m.made in omega (arith, all, made)) in
+      let all = noted_among run notes noted s.0 s.1 s.2 (id_slot m.id) (is_made_for (id_first m.id) o) in
+      let same = one_made slots notes o id its (made_once run tasks may notes noted o) (id_slot m.id) (id_first m.id) (let made = m.made in omega (arith, all, made)) in
       let low = m.low in let first = same.1 in omega (arith, low, first)

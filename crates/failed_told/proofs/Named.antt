@@ -26,7 +26,6 @@ use Rattle.corr_core.specs.declared.marks.View.{View}
 use Rattle.corr_core.proofs.Notes.{only-at, total_some}
 use Rattle.corr_id.specs.id_rule.specs.Lawful.{at_index, is_stored}
 use Rattle.sock_message.specs.Asked.{Asked, name_of}
-use Rattle.corr_id.specs.Calls.{slot_of, version_of}
 use Rattle.corr_id.specs.Closing.{Closing}
 use Rattle.failed_ends.specs.Below.RpcClient.Told.{Told}
 use Rattle.failed_ends.specs.Below.RpcReader.Posting.{call_at, attempt_at}
@@ -56,6 +55,7 @@ use Rattle.failed_ends.proofs.Posters.{attempt_low}
 use Rattle.failed_ends.proofs.Single.{IsAttemptOf, at_first, first_id, again_id, again_attempt, made_low}
 use Rattle.failed_told.proofs.Standing.{may_be_on, lost_on}
 use Rattle.failed_ends.specs.failed_reasons.proofs.Taken.{AskTasks}
+use Rattle.corr_core.specs.Word.{id_slot, id_first}
 
 -- ## Words
 
@@ -104,10 +104,10 @@ module _ {O : Type 0} {g : Ghosts O} {state : O → OutState} {readers : List (L
   own_attempt : (o word c : ℕ) (x : Client g state p q) → get_elem? crew c ≡ some x → (i : ℕ) (d : Deed g state p q) → get_elem? (deeds_of x) i ≡ some d → IsStoredBy (view_of x) o word d → IsOwn o d
   own_attempt o word c x at i d there s = subst (λ (n : ℕ). IsOwn n d) s.operation (by d there s.asked s.is s.link s.link_is s.inside s.made)
     where
-      by : (d : Deed g state p q) → get_elem? (deeds_of x) i ≡ some d → (asked : Asked) → IsAskedIn d asked → (link : ℕ) → link_in d ≡ Some link → slot_of (id_of d) < slots → IsMadeIn (view_of x) asked.operation d → IsOwn asked.operation d
+      by : (d : Deed g state p q) → get_elem? (deeds_of x) i ≡ some d → (asked : Asked) → IsAskedIn d asked → (link : ℕ) → link_in d ≡ Some link → id_slot (id_of d) < slots → IsMadeIn (view_of x) asked.operation d → IsOwn asked.operation d
       by (operates y how before after a) here asked is link has inside made =
           let id : ℕ = acted_id state p q y.number y.op how before after a in record {
-            id = first_id run tasks may notes kept words closing noted asked.operation id inside (let b = noted_among run notes noted c x at (slot_of id) (is_made_for (version_of id) asked.operation) in omega (arith, b, made));
+            id = first_id run tasks may notes kept words closing noted asked.operation id inside (let b = noted_among run notes noted c x at (id_slot id) (is_made_for (id_first id) asked.operation) in omega (arith, b, made));
             attempt = at_first refl (first_label asked.operation y.number y.op asked is refl);
           }
       by (retries r before after (had_ended h)) here asked is link has inside made = absurd (none-some link has)
@@ -141,8 +141,8 @@ module _ {O : Type 0} {g : Ghosts O} {state : O → OutState} {readers : List (L
       let task : IsOperation every outcomes is.0 o (ops.Call s.asked) = subst (λ (m : ℕ). IsOperation every outcomes is.0 m (ops.Call s.asked)) s.operation is.1 in
       let on = may_be_on run tasks may notes kept words closing noted outcomes drun seats logged differ gave all_there c x at i d there is.0 o id s.asked task own.id own.attempt few s.inside s.asked s.is refl s.link s.link_is in
       let lost = lost_on run tasks may notes kept words closing noted outcomes drun seats logged differ gave all_there c x at i d there is.0 o id s.asked task own.id own.attempt few s.inside s.asked s.is refl s.link s.link_is s.operation s.link_low in
-      let back : Reads (at_word (version_of id) (slot_of id) s.link n) (version_of id) (slot_of id) s.link n = reads_back (version_of id) (slot_of id) s.link n (let a = s.inside in omega (arith, a, few_slots)) (let a = s.link_low in omega (arith, a, few_links)) few in
-      let r : Reads word (version_of id) (slot_of id) s.link n = subst (λ (w : ℕ). Reads w (version_of id) (slot_of id) s.link n) (sym s.word_is) back in
+      let back : Reads (at_word (id_first id) (id_slot id) s.link n) (id_first id) (id_slot id) s.link n = reads_back (id_first id) (id_slot id) s.link n (let a = s.inside in omega (arith, a, few_slots)) (let a = s.link_low in omega (arith, a, few_links)) few in
+      let r : Reads word (id_first id) (id_slot id) s.link n = subst (λ (w : ℕ). Reads w (id_first id) (id_slot id) s.link n) (sym s.word_is) back in
       let call : call_at word ≡ id = let a = r.first_is in let b = r.slot_is in let whole = div-add-mod' id 4294967296 in omega (arith, a, b, whole) in
       record {
         client = is.0;

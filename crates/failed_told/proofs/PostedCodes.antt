@@ -15,7 +15,7 @@ use Rattle.seat_programs.specs.declared.task.Op.TheVariants as ops
 use Rattle.seat_programs.specs.declared.task.Task.{Task}
 use Rattle.seat_programs.specs.Told.{AreTasks, IsTask, Became}
 use Rattle.seat_programs.specs.ToldCalls.{IsPosted, WhyExpire, all_accepted}
-use Rattle.corr_core.specs.Word.{parts, code_of}
+use Rattle.corr_core.specs.Word.{parts, code_of, id_slot}
 use Rattle.corr_core.specs.Law.{total}
 use Rattle.corr_core.specs.declared.marks.Kept.{Kept}
 use Rattle.corr_core.specs.declared.marks.Noted.{Noted}
@@ -24,7 +24,7 @@ use Rattle.corr_id.specs.id_rule.specs.Lawful.{call_index, notes_of}
 use Rattle.sock_message.specs.Asked.{Asked}
 use Rattle.corr_id.specs.declared.posts.Posted.{Posted}
 use Rattle.corr_id.specs.declared.posts.Posted.TheVariants.{Locked as HasLock, Crowded}
-use Rattle.corr_id.specs.Calls.{slot_of, is_saw}
+use Rattle.corr_id.specs.Calls.{is_saw}
 use Rattle.corr_id.specs.Closing.{Closing}
 use Rattle.failed_ends.specs.Below.RpcClient.Told.{Told}
 use Rattle.failed_ends.specs.Below.CallErrors.Books.{Books, CallStand}
@@ -83,26 +83,26 @@ module _ {O : Type 0} {g : Ghosts O} {state : O → OutState} {readers : List (L
     h : TimedOut q of (outcome.Crowded a b) m.done.made.ready.calls m.done.after.has.calls
     h = expire_made run tasks may notes kept words closing noted keeps outcomes said_own said_ended c of t (outcome.Crowded a b) m op became
 
-    inside : slot_of h.id < slots
+    inside : id_slot h.id < slots
     inside =
         let w = is_word (call_index q of) h.id in let x = timed_out_word q of (outcome.Crowded a b) m.done.made.ready.calls m.done.after.has.calls h in let y = (m.done.later of).1.grows.kept w in
         (found_maker run tasks may notes kept words closing noted keeps outcomes said_own said_ended of h.id c m.client m.at (omega (arith, x, y))).begun.inside
 
     -- a word that was found behind the post
-    seen : (word : ℕ) (v : View Asked) (bs : Books) → m.done.after.has.calls ≡ record { view = v; books = bs } → 0 < total (is_saw word) (notes_of (slot_of h.id) v.notes) → 0 < total (is_saw word) (notes_of (slot_of h.id) notes)
+    seen : (word : ℕ) (v : View Asked) (bs : Books) → m.done.after.has.calls ≡ record { view = v; books = bs } → 0 < total (is_saw word) (notes_of (id_slot h.id) v.notes) → 0 < total (is_saw word) (notes_of (id_slot h.id) notes)
     seen word v bs e found =
-        let x = ap (λ (s : CallStand). total (is_saw word) (notes_of (slot_of h.id) s.view.notes)) e in let y = (m.done.later of).1.grows.notes (slot_of h.id) (is_saw word) in
-        let z = noted_among run notes noted c m.client m.at (slot_of h.id) (is_saw word) in omega (arith, x, y, z, found)
+        let x = ap (λ (s : CallStand). total (is_saw word) (notes_of (id_slot h.id) s.view.notes)) e in let y = (m.done.later of).1.grows.notes (id_slot h.id) (is_saw word) in
+        let z = noted_among run notes noted c m.client m.at (id_slot h.id) (is_saw word) in omega (arith, x, y, z, found)
 
     by_answer : (answer : Posted Asked) → outcome.Crowded a b ≡ outcome_by answer → PostedAs slots answer (found_id q of h.id m.done.made.ready.calls) h.id ERPCTIMEDOUT None m.done.after.has.calls → PostedHere a × PostedHere b
     by_answer (HasLock k) e x = absurd (cc)
     by_answer (Crowded first second) e x =
         let same = same_codes a b first second e in let word = x.post.1.0 in let was = x.post.1.1 in
         let saw = seen word x.view m.done.made.ready.calls.books x.handled was.0 in let taken : 0 < (parts word).state = (let s = was.2 in omega (arith, s)) in
-        let oldest = closing.oldest_is (slot_of h.id) word inside saw taken (λ z. was.3 (closing.in_turn (slot_of h.id) word inside saw was.2 z)) in
-        let younger = closing.second_is (slot_of h.id) word inside saw taken was.3 in (
-          subst PostedHere (was.5 ∙ same.0) (queued_posted (slot_of h.id) (parts word).first (parts word).oldest oldest),
-          subst PostedHere (was.6 ∙ same.1) (queued_posted (slot_of h.id) (parts word).first (parts word).second younger),
+        let oldest = closing.oldest_is (id_slot h.id) word inside saw taken (λ z. was.3 (closing.in_turn (id_slot h.id) word inside saw was.2 z)) in
+        let younger = closing.second_is (id_slot h.id) word inside saw taken was.3 in (
+          subst PostedHere (was.5 ∙ same.0) (queued_posted (id_slot h.id) (parts word).first (parts word).oldest oldest),
+          subst PostedHere (was.6 ∙ same.1) (queued_posted (id_slot h.id) (parts word).first (parts word).second younger),
         )
     by_answer _ e x = absurd (cc)
 

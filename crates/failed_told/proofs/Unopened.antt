@@ -22,7 +22,7 @@ use Rattle.seat_programs.specs.declared.task.Op.TheVariants as ops
 use Rattle.seat_programs.specs.declared.task.Task.{Task}
 use Rattle.seat_programs.specs.Told.{AreTasks, IsTask, Became, OpensNone, IsOpen}
 use Rattle.seat_programs.specs.ToldCalls.{Fixed, Order, Seeks, FoundNone, WhyLost, WasUnopened}
-use Rattle.corr_core.specs.Word.{parts}
+use Rattle.corr_core.specs.Word.{parts, id_slot, id_first}
 use Rattle.corr_core.specs.Law.{total}
 use Rattle.corr_core.specs.declared.marks.Kept.{Kept}
 use Rattle.corr_core.specs.declared.marks.Note.{Note}
@@ -32,7 +32,7 @@ use Rattle.corr_core.proofs.Notes.{total_some}
 use Rattle.corr_id.specs.id_rule.specs.Lawful.{notes_of}
 use Rattle.sock_message.specs.Asked.{Asked, name_of}
 use Rattle.corr_id.specs.declared.calls.IdLock.{IdLock}
-use Rattle.corr_id.specs.Calls.{is_saw, slot_of, version_of}
+use Rattle.corr_id.specs.Calls.{is_saw}
 use Rattle.corr_id.specs.Closing.{Closing}
 use Rattle.failed_ends.specs.Below.RpcClient.Told.{Told}
 use Rattle.failed_ends.specs.Below.CallErrors.Retry.{Retry}
@@ -222,15 +222,15 @@ module _ {O : Type 0} {g : Ghosts O} {state : O → OutState} {readers : List (L
     -- so the id wasn't made behind it
     not_behind : (asked : Asked) (id : ℕ) (before after : Stand g) → BegunAs state p q asked id (both_of before) (both_of after) → asked.operation ≡ k.content.operation → Grows t.calls.view before.calls.view → Grows after.calls.view (view_of x) → ⊥
     not_behind asked id before after b same from to =
-        let o : ℕ = asked.operation in let f : ℕ = version_of id in
+        let o : ℕ = asked.operation in let f : ℕ = id_first id in
         let h = begun_made q state p asked id (both_of before) (both_of after) b in
-        let made_ : 0 < total (is_made_for f o) (notes_of (slot_of id) notes) = (let a = h.made in let d = to (slot_of id) (is_made_for f o) in let e = among (slot_of id) (is_made_for f o) in omega (arith, a, d, e)) in
+        let made_ : 0 < total (is_made_for f o) (notes_of (id_slot id) notes) = (let a = h.made in let d = to (id_slot id) (is_made_for f o) in let e = among (id_slot id) (is_made_for f o) in omega (arith, a, d, e)) in
         let its = subst (λ (z : ℕ). IsIdOf slots notes z id) same (first_id run tasks may notes kept words closing noted o id h.inside made_) in
         let one : id ≡ k.slot * 4294967296 + first = one_id slots notes k.content.operation id (k.slot * 4294967296 + first) (made_once run tasks may notes noted k.content.operation) its lock_is in
-        let slot : k.slot ≡ slot_of id = (let a = first_low in omega (arith, one, a)) in
-        let version : version_of id ≡ first = (let a = first_low in omega (arith, one, a)) in
+        let slot : k.slot ≡ id_slot id = (let a = first_low in omega (arith, one, a)) in
+        let version : id_first id ≡ first = (let a = first_low in omega (arith, one, a)) in
         let seen = lock_stays k t.calls.view before.calls.view from known in
-        let found : 0 < total (is_saw seen.word) (notes_of (slot_of id) before.calls.view.notes) = subst (λ (z : ℕ). 0 < total (is_saw seen.word) (notes_of z before.calls.view.notes)) slot seen.found in
+        let found : 0 < total (is_saw seen.word) (notes_of (id_slot id) before.calls.view.notes) = subst (λ (z : ℕ). 0 < total (is_saw seen.word) (notes_of z before.calls.view.notes)) slot seen.found in
         let less = b.made_for.made.none_found seen.word found (let a = seen.was_open in omega (arith, a)) in
         let e = seen.first_is in omega (arith, less, version, e)
 

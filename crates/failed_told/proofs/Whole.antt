@@ -14,12 +14,11 @@ use Rattle.seat_programs.specs.declared.task.Op.TheVariants as ops
 use Rattle.seat_programs.specs.declared.task.Task.{Task}
 use Rattle.seat_programs.specs.Told.{AreTasks}
 use Rattle.seat_programs.specs.ToldCalls.{IsUnordered, all_accepted}
-use Rattle.corr_core.specs.Word.{parts}
+use Rattle.corr_core.specs.Word.{parts, id_slot}
 use Rattle.corr_core.specs.declared.marks.Kept.{Kept}
 use Rattle.corr_core.specs.declared.marks.Noted.{Noted}
 use Rattle.corr_core.specs.declared.marks.View.{View}
 use Rattle.sock_message.specs.Asked.{Asked}
-use Rattle.corr_id.specs.Calls.{slot_of}
 use Rattle.corr_id.specs.Closing.{Closing}
 use Rattle.failed_ends.specs.Below.RpcClient.Told.{Told}
 use Rattle.failed_ends.specs.Below.CallRun.Readers.{LinkReader}
@@ -70,7 +69,7 @@ module _ {O : Type 0} {g : Ghosts O} {state : O → OutState} {readers : List (L
     pub missed_why : IsAskedSo run tasks may notes kept words closing noted keeps outcomes said_own said_ended others c x at one e (fixed drun differ gave) gave (orders drun differ) → (l : MissedHere) → IsFallen l
     missed_why asks l =
         let first = (parts e.lock.word.0).first in let low = e.lock.fits.low in let same_id = l.id_is in
-        let inside : slot_of (id_of l.deed) < slots = (let a = e.cause.inside in omega (arith, a, same_id, low)) in
+        let inside : id_slot (id_of l.deed) < slots = (let a = e.cause.inside in omega (arith, a, same_id, low)) in
         let w = deed_why l.deed e.code l.missed in
         let is = asked_so l.place l.client l.in_crew l.index l.deed l.there w.asked w.is in
         let none_ = unordered run tasks may notes kept words closing noted outcomes drun seats logged differ gave all_there l.place l.client l.in_crew l.index l.deed l.there e.code l.missed l.backed inside in

@@ -1,8 +1,8 @@
 -- What the ids of calls and the numbers of attempts stand for.
 use Rattle.std.specs.Prelude.{ℕ, ◌%◌}
-use Rattle.seat_programs.specs.Asides.{call_id}
 use Rattle.id_points.specs.declared.call_id.CallId.{CallId}
 use Rattle.id_points.specs.declared.call_id.AttemptNumber.{AttemptNumber}
+use Rattle.corr_core.specs.Word.{call_id}
 
 abbrev pub id_of : CallId → ℕ
 id_of id = call_id id.slot (id.first % 67108864)

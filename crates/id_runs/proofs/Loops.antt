@@ -3,7 +3,7 @@ use Rattle.std.proofs.Common.{◌≡◌, ◌≢◌, ℕ, zero, suc, ◌+◌, ◌
 use Rattle.std.specs.Prelude.{Option}
 use Rattle.sock_words.specs.declared.plain.Plan.{Plan}
 use Rattle.sock_words.specs.Codes.{is_final}
-use Rattle.corr_core.specs.Word.{Parts, parts, locked_word, posted_word, unlocked_word, code_of, attempt_of}
+use Rattle.corr_core.specs.Word.{Parts, parts, locked_word, posted_word, unlocked_word, code_of, attempt_of, id_slot, id_first, call_id}
 use Rattle.corr_core.specs.Law.{LAST}
 use Rattle.corr_core.specs.declared.marks.Plan.{Plan as IdPlan}
 use Rattle.corr_core.specs.declared.marks.Hand.TheVariants.{Empty, Full}
@@ -18,7 +18,7 @@ use Rattle.seat_programs.specs.brpc_model.specs.Frame.{Frame}
 use Rattle.seat_programs.specs.brpc_model.specs.Stream as streams
 use Rattle.seat_programs.specs.brpc_model.specs.ResponseOutcome.{ending_of}
 use Rattle.seat_programs.specs.sock_message.specs.Asked.{Asked}
-use Rattle.seat_programs.specs.Asides.{PutCall, FreeId, Taking, Bytes, Nothing, Closed, id_slot, id_first, call_id}
+use Rattle.seat_programs.specs.Asides.{PutCall, FreeId, Taking, Bytes, Nothing, Closed}
 use Rattle.seat_programs.specs.Heads.{Head, Exit, Retry, Sought, First, Version, Reading, Posts, Unlocks, Decides, Locks, Joins, Opens, Reads, Discards, Posting, WasGone, WasStale, WasCrowded, WasQueued, HasLocked, Unlocking, IsOpen, HasNext, Deciding, HasEnded, GoesOn, Locking, NotThere, Has, Ended as Over}
 use Rattle.seat_programs.specs.Programs.{Program, Say, Aside, Round}
 use Rattle.seat_programs.specs.Posts.{packed, advance_of, is_first, is_sought, is_stale, is_full, judged, posted, post_with, post, popped, end_id, decide, decided, unlocked, locking}

@@ -1,6 +1,6 @@
 -- The programs of clients and of readers, as far as ids go: each step on them is one that the view allows.
 use Rattle.std.proofs.Common.{◌≡◌, ℕ, zero, suc, ◌+◌, ◌-◌, ◌/◌, ◌%◌, ◌<◌, ◌≤◌, ◌==◌, ◌&&◌, inl, Bool, true, false, cond, eqb, leb, nat_lt, nat_le, List, [], length, refl, sym, ap, ap₂, ◌∙◌, subst, arith}
-use Rattle.sock_words.specs.Words.{socket_id_version, socket_id_slot, vref_version, vref_nref, at_word, at_word_slot, at_word_first}
+use Rattle.sock_words.specs.Words.{socket_id_version, socket_id_slot, vref_version, vref_nref, at_word, at_word_slot, at_word_first, ticket_generation, ticket_request}
 use Rattle.sock_words.specs.declared.plain.Plan.{Plan}
 use Rattle.sock_words.specs.declared.outcome.Outcome.TheVariants as outcomes
 use Rattle.seat_programs.specs.sock_io.specs.declared.link.Put.{Put}
@@ -8,9 +8,9 @@ use Rattle.seat_programs.specs.sock_io.specs.declared.link.Put.TheVariants as pu
 use Rattle.seat_programs.specs.sock_io.specs.declared.link.Ready.{Ready}
 use Rattle.seat_programs.specs.sock_io.specs.declared.link.Ready.TheVariants as asks
 use Rattle.seat_programs.specs.sock_model.specs.declared.chain.Heading.{Heading}
-use Rattle.seat_programs.specs.sock_model.specs.Entries.{generation_of, slot_of, ticket_of}
+use Rattle.seat_programs.specs.sock_model.specs.Entries.{ticket_of}
 use Rattle.seat_programs.specs.sock_model.specs.Memory.{IDLE, UNCONNECTED}
-use Rattle.corr_core.specs.Word.{parts, error_of}
+use Rattle.corr_core.specs.Word.{parts, error_of, call_id, id_slot, id_first}
 use Rattle.corr_core.specs.declared.marks.Plan.{Plan as IdPlan}
 use Rattle.corr_core.specs.declared.marks.Hand.TheVariants.{Empty, Full}
 use Rattle.corr_core.specs.declared.marks.Token.{Token}
@@ -21,7 +21,7 @@ use Rattle.id_rule.specs.Plays.{with_hand}
 use Rattle.seat_programs.specs.Parts.{part}
 use Rattle.seat_programs.specs.sock_message.specs.Asked.{Asked, frame_of}
 use Rattle.seat_programs.specs.Calls.{SubRef, StoreCode, LoadLink, TakeLink, FinishLink, PutLink, FreeSlot, FreeRequest, ReadNext}
-use Rattle.seat_programs.specs.Asides.{PutCall, MakeId, StoreCall, StoreAt, call_id, id_slot, id_first}
+use Rattle.seat_programs.specs.Asides.{PutCall, MakeId, StoreCall, StoreAt}
 use Rattle.seat_programs.specs.Heads.{Retry, Unlocks, Joins, Unlocking, IsOpen, HasNext, Deciding, HasEnded, GoesOn, Locking, NotThere, Has}
 use Rattle.seat_programs.specs.Programs.{Program, Do, Say, TakeMessage, TakeHome, PutBytes, Write, Aside, Round, LAST_VERSION, LAST_GENERATION, recycle, release, address, set_failed}
 use Rattle.seat_programs.specs.Posts.{post, post_with, posted, decided}
@@ -63,14 +63,14 @@ module _ (p : Plan) (q : IdPlan) (narrow : q.slots ≤ 65536) where
   Follows after = (v : IdView) → IsFree v → Goes v after
 
   freed_goes : (u : IdView) (now : ℕ) (next : Program) → Goes u next → Goes u (freed now next)
-  freed_goes u now next goes = way p q u (generation_of now == LAST_GENERATION) next (Do (FreeRequest (slot_of now) (generation_of now)) (λ _. next)) (λ _. goes) (λ _. λ _ _. goes)
+  freed_goes u now next goes = way p q u (ticket_generation now == LAST_GENERATION) next (Do (FreeRequest (ticket_request now) (ticket_generation now)) (λ _. next)) (λ _. goes) (λ _. λ _ _. goes)
 
   passed_goes : (u : IdView) (h : Holder) (now : ℕ) (tells : Program → Program) (after : Program) → IsFree u → ((x : Program) → Follows x → Goes u (tells x)) → Follows after → Goes u (passed_telling h now tells after)
   passed_goes u h now tells after free told goes = way p q u (now == h.last) (freed now (tells (Write (Empties h) after)))
-      (Do (ReadNext (slot_of now)) (λ next. freed now (tells (TakeMessage (slot_of next) (λ heading bytes. Write (Puts h next heading bytes 0 false) after)))))
+      (Do (ReadNext (ticket_request now)) (λ next. freed now (tells (TakeMessage (ticket_request next) (λ heading bytes. Write (Puts h next heading bytes 0 false) after)))))
       (λ _. freed_goes u now (tells (Write (Empties h) after)) (told (Write (Empties h) after) (λ v free'. (free', tt, goes))))
-      (λ _. λ next _. freed_goes u now (tells (TakeMessage (slot_of next) (λ heading bytes. Write (Puts h next heading bytes 0 false) after)))
-      (told (TakeMessage (slot_of next) (λ heading bytes. Write (Puts h next heading bytes 0 false) after)) (λ v free'. λ heading bytes owner. (free', owner, goes))))
+      (λ _. λ next _. freed_goes u now (tells (TakeMessage (ticket_request next) (λ heading bytes. Write (Puts h next heading bytes 0 false) after)))
+      (told (TakeMessage (ticket_request next) (λ heading bytes. Write (Puts h next heading bytes 0 false) after)) (λ v free'. λ heading bytes owner. (free', owner, goes))))
 
   -- an error that a dropped message posts
   code_of_drop : (b : Bool) (c : ℕ) → eqb c 0 ≡ b → c < 4096 → (0 < cond b 1009 c) × (cond b 1009 c < 4096)
@@ -100,9 +100,9 @@ module _ (p : Plan) (q : IdPlan) (narrow : q.slots ≤ 65536) where
       ready_goes asks.Failed = set_failed_goes u h.id 1009 (omega arith) (λ _. Write (Puts h now heading left taken false) after) (λ _. g)
   block_goes u (Empties h) after g = λ found _. way p q u (found == h.last) after (TakeHome h.link (λ places. Write (Walks (record h { places = places }) found found 0) after)) (λ _. g.2 u g.0) (λ _. λ places. g)
   block_goes u (Walks h top at after) then_ g = λ found _. way p q u (found == UNCONNECTED) (Write (Walks h top at after) then_)
-      (Do (Rattle.seat_programs.specs.Calls.ReverseNext (slot_of at) after) (λ _. cond (found == h.last) (TakeMessage (slot_of at) (λ heading bytes. Write (Puts (record h { last = top }) at heading bytes 0 false) then_)) (Write (Walks h top found at) then_)))
+      (Do (Rattle.seat_programs.specs.Calls.ReverseNext (ticket_request at) after) (λ _. cond (found == h.last) (TakeMessage (ticket_request at) (λ heading bytes. Write (Puts (record h { last = top }) at heading bytes 0 false) then_)) (Write (Walks h top found at) then_)))
       (λ _. g)
-      (λ _. λ _ _. way p q u (found == h.last) (TakeMessage (slot_of at) (λ heading bytes. Write (Puts (record h { last = top }) at heading bytes 0 false) then_)) (Write (Walks h top found at) then_) (λ _. λ heading bytes owner. (g.0, owner, g.2)) (λ _. g))
+      (λ _. λ _ _. way p q u (found == h.last) (TakeMessage (ticket_request at) (λ heading bytes. Write (Puts (record h { last = top }) at heading bytes 0 false) then_)) (Write (Walks h top found at) then_) (λ _. λ heading bytes owner. (g.0, owner, g.2)) (λ _. g))
 
   -- ## Attempts
 

@@ -7,13 +7,13 @@ use Rattle.sock_words.specs.declared.outcome.Outcome.TheVariants.{CallFailed}
 use Rattle.sock_io.specs.declared.link.Put.{Put}
 use Rattle.sock_io.specs.declared.link.Ready.{Ready}
 use Rattle.sock_model.specs.declared.chain.Heading.{Heading}
-use Rattle.corr_core.specs.Word.{Parts, parts, locked_word, posted_word, unlocked_word, code_of}
+use Rattle.corr_core.specs.Word.{Parts, parts, locked_word, posted_word, unlocked_word, code_of, call_id, id_slot, id_first}
 use Rattle.corr_core.specs.Law.{LAST}
 use Rattle.corr_core.specs.Decisions.{ends_call}
 use Rattle.corr_core.specs.Versions.{is_early}
 use Rattle.id_runs.proofs.Keeps.{parts_packed}
 use Rattle.seat_programs.specs.sock_message.specs.Asked.{Asked}
-use Rattle.seat_programs.specs.Asides.{Step, Found, MakeId, StoreCall, StoreAt, UnlockId, PutCall, LoadIdWord, PostId, LockId, EndId, FreeId, TakeCall, TakeBytes, Taking, Bytes, Nothing, Closed, call_id, id_slot, id_first}
+use Rattle.seat_programs.specs.Asides.{Step, Found, MakeId, StoreCall, StoreAt, UnlockId, PutCall, LoadIdWord, PostId, LockId, EndId, FreeId, TakeCall, TakeBytes, Taking, Bytes, Nothing, Closed}
 use Rattle.seat_programs.specs.Calls.{Call, ClaimRequest, PutMessage, LoadOpen}
 use Rattle.seat_programs.specs.Heads.{Head, Exit, Sought, First, Version, Reading, Posts, Unlocks, Decides, Locks, Joins, Opens, Reads, Discards, Posting, WasGone, WasStale, WasCrowded, WasQueued, HasLocked, Unlocking, IsOpen, HasNext, Deciding, HasEnded, GoesOn, Locking, NotThere, Has, Ended}
 use Rattle.seat_programs.specs.Posts.{packed, advance_of, is_first, is_sought, is_stale, is_full, judged, posted, post_with, post, popped, end_id, decide, decided, unlocked, locking}

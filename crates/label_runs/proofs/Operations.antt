@@ -2,7 +2,7 @@
 use Rattle.std.proofs.Common.{◌≡◌, ℕ, zero, suc, ◌+◌, ◌-◌, ◌/◌, ◌%◌, ◌==◌, ◌&&◌, Bool, true, false, cond, eqb, leb, nat_lt, nat_le, List, [], ◌∷◌, ◌++◌, Option, Some, None, length, drop, refl}
 use Rattle.std.specs.List.{AllByRecursion}
 use Rattle.brpc_model.specs.Frame.{Frame}
-use Rattle.sock_words.specs.Words.{socket_id_slot, socket_id_version, vref_version, vref_nref, at_word_first, at_word_slot, at_word_link, at_word_attempt}
+use Rattle.sock_words.specs.Words.{socket_id_slot, socket_id_version, vref_version, vref_nref, at_word_first, at_word_slot, at_word_link, at_word_attempt, ticket_generation, ticket_request}
 use Rattle.sock_words.specs.declared.outcome.Outcome.TheVariants as outcomes
 use Rattle.sock_io.specs.declared.link.Put.{Put}
 use Rattle.sock_io.specs.declared.link.Put.TheVariants as puts
@@ -10,14 +10,14 @@ use Rattle.sock_io.specs.declared.link.Ready.{Ready}
 use Rattle.sock_io.specs.declared.link.Ready.TheVariants as asks
 use Rattle.seat_programs.specs.sock_message.specs.Asked.{Asked}
 use Rattle.sock_model.specs.declared.chain.Heading.{Heading}
-use Rattle.sock_model.specs.Entries.{generation_of, slot_of, ticket_of}
+use Rattle.sock_model.specs.Entries.{ticket_of}
 use Rattle.sock_model.specs.Memory.{IDLE, UNCONNECTED}
-use Rattle.corr_core.specs.Word.{parts, error_of}
+use Rattle.corr_core.specs.Word.{parts, error_of, call_id, id_first}
 use Rattle.seat_programs.specs.declared.task.Op.{Op}
 use Rattle.seat_programs.specs.declared.task.Op.TheVariants as ops
 use Rattle.seat_programs.specs.declared.task.Sizes.{Sizes}
 use Rattle.seat_programs.specs.declared.task.Task.{Task}
-use Rattle.seat_programs.specs.Asides.{LoadCall, LoadAt, call_id, id_first}
+use Rattle.seat_programs.specs.Asides.{LoadCall, LoadAt}
 use Rattle.seat_programs.specs.Attempts.{call, expire_outcome, expire, join}
 use Rattle.seat_programs.specs.Calls.{SubRef, AddRef, StoreCode, LoadLink, TakeLink, FinishLink, PutLink, FreeSlot, LoadName, FreeRequest, ReadNext, FindLink, LookWord, ReverseNext, Connect, Recycle, SetOdd, StorePlace, DropPlace, LoadCode, EmptyHead, PutMessage, Unconnect, SwapHead, StoreOpen, ClaimSlot, StoreLink, ClearCode, ResetHead, CreateLife, StoreName, LoadOpen}
 use Rattle.seat_programs.specs.Clients.{HeldLife, held_under, without_name, give_back, drop_of, operation, client_from, ending_of}
@@ -63,14 +63,14 @@ module _ {K : Type 0} {lost : K} {unlocked_behind : ℕ → ℕ → Bool → K �
   -- ## Writing
 
   freed_goes : (now : ℕ) (next : Program) → G lost next → G lost (given_back now next)
-  freed_goes now next goes = way g lost (generation_of now == LAST_GENERATION) next (Do (FreeRequest (slot_of now) (generation_of now)) (λ _. next)) (λ _. goes) (λ _. g.step lost (FreeRequest (slot_of now) (generation_of now)) _ refl (λ _. goes))
+  freed_goes now next goes = way g lost (ticket_generation now == LAST_GENERATION) next (Do (FreeRequest (ticket_request now) (ticket_generation now)) (λ _. next)) (λ _. goes) (λ _. g.step lost (FreeRequest (ticket_request now) (ticket_generation now)) _ refl (λ _. goes))
 
   passed_goes : (h : Holder) (now : ℕ) (tells : Program → Program) (after : Program) → ((x : Program) → G lost x → G lost (tells x)) → G lost after → G lost (passed_telling h now tells after)
   passed_goes h now tells after told goes = way g lost (now == h.last) (given_back now (tells (Write (Empties h) after)))
-      (Do (ReadNext (slot_of now)) (λ next. given_back now (tells (TakeMessage (slot_of next) (λ heading bytes. Write (Puts h next heading bytes 0 false) after)))))
+      (Do (ReadNext (ticket_request now)) (λ next. given_back now (tells (TakeMessage (ticket_request next) (λ heading bytes. Write (Puts h next heading bytes 0 false) after)))))
       (λ _. freed_goes now (tells (Write (Empties h) after)) (told (Write (Empties h) after) (g.passes lost (Write (Empties h) after) goes)))
-      (λ _. g.step lost (ReadNext (slot_of now)) _ refl (λ next. freed_goes now (tells (TakeMessage (slot_of next) (λ heading bytes. Write (Puts h next heading bytes 0 false) after)))
-      (told (TakeMessage (slot_of next) (λ heading bytes. Write (Puts h next heading bytes 0 false) after)) (g.passes lost (TakeMessage (slot_of next) _) (λ heading bytes. g.passes lost (Write (Puts h next heading bytes 0 false) after) goes)))))
+      (λ _. g.step lost (ReadNext (ticket_request now)) _ refl (λ next. freed_goes now (tells (TakeMessage (ticket_request next) (λ heading bytes. Write (Puts h next heading bytes 0 false) after)))
+      (told (TakeMessage (ticket_request next) (λ heading bytes. Write (Puts h next heading bytes 0 false) after)) (g.passes lost (TakeMessage (ticket_request next) _) (λ heading bytes. g.passes lost (Write (Puts h next heading bytes 0 false) after) goes)))))
 
   tell_goes : (heading : Heading) (code : ℕ) (x : Program) → G lost x → G lost (tell_drop heading code x)
   tell_goes heading code x goes = way g lost (eqb heading.owner 0) x (post heading.owner (cond (eqb code 0) 1009 code) heading.attempt x) (λ _. goes) (λ _. post_goes g lost heading.owner (cond (eqb code 0) 1009 code) heading.attempt x goes)
@@ -97,11 +97,11 @@ module _ {K : Type 0} {lost : K} {unlocked_behind : ℕ → ℕ → Bool → K �
   block_goes t (Waits h now heading left taken) after goes = g.passes t (AskReady h.link (ready_answered h now heading left taken after)) (ready_goes h now heading left taken after goes)
   block_goes t (Empties h) after goes = g.passes t (PutHome h.link h.places _) (g.step lost (EmptyHead (socket_id_slot h.id) h.last) _ refl (λ found. way g lost (found == h.last) after (TakeHome h.link (λ places. Write (Walks (record h { places = places }) found found 0) after))
       (λ _. goes) (λ _. g.passes lost (TakeHome h.link _) (λ places. g.passes lost (Write (Walks (record h { places = places }) found found 0) after) goes))))
-  block_goes t (Walks h top at after) then_ goes = g.looks t (ReadNext (slot_of at)) _ refl (λ found. way g lost (found == UNCONNECTED) (Write (Walks h top at after) then_)
-      (Do (ReverseNext (slot_of at) after) (λ _. cond (found == h.last) (TakeMessage (slot_of at) (λ heading bytes. Write (Puts (record h { last = top }) at heading bytes 0 false) then_)) (Write (Walks h top found at) then_)))
+  block_goes t (Walks h top at after) then_ goes = g.looks t (ReadNext (ticket_request at)) _ refl (λ found. way g lost (found == UNCONNECTED) (Write (Walks h top at after) then_)
+      (Do (ReverseNext (ticket_request at) after) (λ _. cond (found == h.last) (TakeMessage (ticket_request at) (λ heading bytes. Write (Puts (record h { last = top }) at heading bytes 0 false) then_)) (Write (Walks h top found at) then_)))
       (λ _. g.passes lost (Write (Walks h top at after) then_) goes)
-      (λ _. g.step lost (ReverseNext (slot_of at) after) _ refl (λ _. way g lost (found == h.last) (TakeMessage (slot_of at) (λ heading bytes. Write (Puts (record h { last = top }) at heading bytes 0 false) then_)) (Write (Walks h top found at) then_)
-      (λ _. g.passes lost (TakeMessage (slot_of at) _) (λ heading bytes. g.passes lost (Write (Puts (record h { last = top }) at heading bytes 0 false) then_) goes)) (λ _. g.passes lost (Write (Walks h top found at) then_) goes))))
+      (λ _. g.step lost (ReverseNext (ticket_request at) after) _ refl (λ _. way g lost (found == h.last) (TakeMessage (ticket_request at) (λ heading bytes. Write (Puts (record h { last = top }) at heading bytes 0 false) then_)) (Write (Walks h top found at) then_)
+      (λ _. g.passes lost (TakeMessage (ticket_request at) _) (λ heading bytes. g.passes lost (Write (Puts (record h { last = top }) at heading bytes 0 false) then_) goes)) (λ _. g.passes lost (Write (Walks h top found at) then_) goes))))
 
   first_goes : (h : Holder) (now : ℕ) (heading : Heading) (bytes : List ℕ) (after : Program) → G lost after → G lost (first_put h now heading bytes after)
   first_goes h now heading bytes after goes = g.step lost (LookWord h.id) _ refl (λ found.

@@ -7,7 +7,6 @@ use Rattle.sock_model.specs.declared.home.Home.{Home}
 use Rattle.sock_model.specs.declared.view.View.{View}
 use Rattle.sock_model.specs.declared.view.Hand.{Hand}
 use Rattle.sock_model.specs.Weights.{is_probe}
-use Rattle.sock_model.specs.Slots.{version_of}
 use Rattle.sock_model.specs.References.{slot_facts}
 use Rattle.sock_model.specs.SlotRows.{marks_of, added}
 use Rattle.sock_model.specs.Lawful.{Lawful}
@@ -40,7 +39,7 @@ module _ {S : Type 0} (shows : S → Home) (p : Plan) (s : State S View) (o : La
 
   -- and has one more 1 to take back
   pub stale_probe : (v : View) (hand : Hand) → marks_of is_probe (socket_id_slot id) (row p (AddRef id) found hand v) ≡ marks_of is_probe (socket_id_slot id) v + 1
-  stale_probe v hand = let i : ℕ = socket_id_slot id in let w : ℕ = version_of found in let a = ap (λ b. marks_of is_probe i (added i found b v)) stale_test in omega (arith, marks-added is_probe i found false v)
+  stale_probe v hand = let i : ℕ = socket_id_slot id in let w : ℕ = vref_version found in let a = ap (λ b. marks_of is_probe i (added i found b v)) stale_test in omega (arith, marks-added is_probe i found false v)
 
 -- the views of a new table have no life
 pub begins : (p : Plan) → plain (first_view p ∷ []) ≡ no_lives

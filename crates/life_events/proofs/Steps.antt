@@ -14,7 +14,7 @@ use Rattle.sock_model.specs.declared.view.View.{View}
 use Rattle.sock_model.specs.Weights.{is_busy, is_ref, is_probe, is_hold, is_known, is_zero, is_stage, is_coding, is_recycling}
 use Rattle.sock_model.specs.Marks.{about, at, without_at}
 use Rattle.sock_model.specs.Layout.{ref_index}
-use Rattle.sock_model.specs.Slots.{SlotFacts, version_of, nref_of, live, count}
+use Rattle.sock_model.specs.Slots.{SlotFacts, live, count}
 use Rattle.sock_model.specs.References.{slot_facts}
 use Rattle.sock_model.specs.SlotRows.{marks_of, claimed, gave_birth, added, back, subbed, failed, recycled, freed, coded}
 use Rattle.sock_model.specs.Lawful.{Lawful}
@@ -29,6 +29,7 @@ use Rattle.sock_steps.proofs.Places.{own_count}
 use Rattle.life_events.proofs.Grown.{Grown, Same, is_read, no_life, same_marks, silent_more, silent_less, born_more, failer_more, freer_more, hold_more, silent_before, hold_less}
 use Rattle.life_events.proofs.Readings.{own_holds, nothing_read, birth_read, hold_read, drop_read, fail_read, end_read}
 use Rattle.life_events.proofs.Laws.{births_are, fails_are, ends_are, unheld}
+use Rattle.sock_words.specs.Words.{vref_version, vref_nref}
 
 stage_busy : (n k : ℕ) (x : Mark) → is_stage n k x ≤ is_busy x
 stage_busy n k (mark.Claimed a b) = pair_le n k a b
@@ -82,8 +83,8 @@ module _ {S : Type 0} (shows : S → Home) (p : Plan) (s : State S View) (o : La
     mine f = own_count s id v here f i
 
     -- a claimed slot's life
-    pub birth_event : (k : ℕ) → 0 < marks_of (is_stage 3 k) i v → To (Birth (life_at i (version_of found))) (gave_birth i found k v)
-    birth_event k there = let h : ℕ = version_of found in let law = o.references.slots i inside in let rest : List SlotMark = without_at i (is_stage 3 k) v.marks in
+    pub birth_event : (k : ℕ) → 0 < marks_of (is_stage 3 k) i v → To (Birth (life_at i (vref_version found))) (gave_birth i found k v)
+    birth_event k there = let h : ℕ = vref_version found in let law = o.references.slots i inside in let rest : List SlotMark = without_at i (is_stage 3 k) v.marks in
         let busy : 0 < count is_busy L = omega (arith, mine is_busy, total_mono (is_stage 3 k) is_busy (stage_busy 3 k) (about i v.marks)) in
         let dead : live L ≡ 0 = live-busy L.tag L.version (count is_busy L) busy in let even = law.busy_even busy in
         let b = births_are p s o.references i inside in let e = ends_are p s o.references i inside in (
@@ -97,8 +98,8 @@ module _ {S : Type 0} (shows : S → Home) (p : Plan) (s : State S View) (o : La
         )
 
     -- a reference for the life h, which the seat knows
-    pub add_event : (h : ℕ) (is_life : Bool) → (is_life ≡ true → version_of found ≡ h) → 0 < marks_of (is_known h) i v → To (cond is_life (Hold (life_at i h) id) Nothing) (added i found is_life v)
-    add_event h true is known = let w : ℕ = version_of found in let law = o.references.slots i inside in let same = is refl in (
+    pub add_event : (h : ℕ) (is_life : Bool) → (is_life ≡ true → vref_version found ≡ h) → 0 < marks_of (is_known h) i v → To (cond is_life (Hold (life_at i h) id) Nothing) (added i found is_life v)
+    add_event h true is known = let w : ℕ = vref_version found in let law = o.references.slots i inside in let same = is refl in (
       (
         omega (arith, births_are p s o.references i inside h, law.known h (omega (arith, mine (is_known h)))),
         fails_are p s o.references i inside h ∙ life-high p.first h L.version (omega arith),
@@ -107,45 +108,45 @@ module _ {S : Type 0} (shows : S → Home) (p : Plan) (s : State S View) (o : La
           (subst (λ y. Grown v.marks (added i found true v).marks no_life no_life no_life (once_more (life_at i y) no_life)) same
           (hold_more v.marks (at i (mark.Saw w) ∷ v.marks) (silent_more v.marks v.marks (same_marks v.marks) i (mark.Saw w) refl) i w)),
     )
-    add_event h false is known = let w : ℕ = version_of found in nothing (added i found false v)
+    add_event h false is known = let w : ℕ = vref_version found in nothing (added i found false v)
         (silent_more v.marks (at i (mark.Saw w) ∷ v.marks) (silent_more v.marks v.marks (same_marks v.marks) i (mark.Saw w) refl) i mark.Probe refl)
 
     -- a reference that is taken back: a 1 that is none to a life, or one to the life that is held
-    pub sub_event : 0 < marks_of is_ref i v → To (cond (nat_lt 0 (marks_of is_probe i v)) Nothing (Drop (life_at i (version_of found - version_of found % 2)) id)) (subbed i found (back i found v) v)
-    sub_event there = let x : ℕ = version_of found in let h : ℕ = x - x % 2 in
+    pub sub_event : 0 < marks_of is_ref i v → To (cond (nat_lt 0 (marks_of is_probe i v)) Nothing (Drop (life_at i (vref_version found - vref_version found % 2)) id)) (subbed i found (back i found v) v)
+    sub_event there = let x : ℕ = vref_version found in let h : ℕ = x - x % 2 in
         let P : Bool → Type 0 = λ b. To (cond b Nothing (Drop (life_at i h) id)) (subbed i found (cond b is_probe (is_hold h)) v) in
         dite (dec_le (marks_of is_probe i v) 0)
         (λ none_. subst P (sym (le-ltb 0 (marks_of is_probe i v) none_)) (drops (held none_)))
         (λ some_. subst P (sym (lt-ltb 0 (marks_of is_probe i v) (omega arith))) backs)
       where
-        held : marks_of is_probe i v ≤ 0 → 0 < marks_of (is_hold (version_of found - version_of found % 2)) i v
+        held : marks_of is_probe i v ≤ 0 → 0 < marks_of (is_hold (vref_version found - vref_version found % 2)) i v
         held none_ = let t = taken is_ref (about i v.marks) there in ⊎_elim (λ y. absurd (omega (arith, t.2 is_probe)))
             (λ y. let g : ℕ = y.0 in let mine_g : 0 < marks_of (is_hold g) i v = omega (arith, y.1, t.2 (is_hold g)) in
             subst (λ (z : ℕ). 0 < marks_of (is_hold z) i v) (life_found p s o.references id v here [] keeps i inside fits g mine_g) mine_g) (ref_cases t.0 t.1)
 
-        drops : 0 < marks_of (is_hold (version_of found - version_of found % 2)) i v → To (Drop (life_at i (version_of found - version_of found % 2)) id) (subbed i found (is_hold (version_of found - version_of found % 2)) v)
-        drops there_h = let x : ℕ = version_of found in let h : ℕ = x - x % 2 in let rest : List SlotMark = without_at i (is_hold h) v.marks in let g = hold_less i h v.marks there_h in (
+        drops : 0 < marks_of (is_hold (vref_version found - vref_version found % 2)) i v → To (Drop (life_at i (vref_version found - vref_version found % 2)) id) (subbed i found (is_hold (vref_version found - vref_version found % 2)) v)
+        drops there_h = let x : ℕ = vref_version found in let h : ℕ = x - x % 2 in let rest : List SlotMark = without_at i (is_hold h) v.marks in let g = hold_less i h v.marks there_h in (
           omega (arith, own_holds s.views id v here (life_at i h)),
           drop_read s.views id v (subbed i found (is_hold h) v) here (life_at i h)
-              (conds (eqb (x % 2) 1) (eqb (nref_of found) 1) (at i (mark.Zero x) ∷ rest) rest (λ es. Grown es v.marks no_life no_life no_life (once_more (life_at i h) no_life))
+              (conds (eqb (x % 2) 1) (eqb (vref_nref found) 1) (at i (mark.Zero x) ∷ rest) rest (λ es. Grown es v.marks no_life no_life no_life (once_more (life_at i h) no_life))
               (silent_before rest v.marks g i (mark.Zero x) refl) g),
         )
 
         backs : To Nothing (subbed i found is_probe v)
-        backs = let x : ℕ = version_of found in let rest : List SlotMark = without_at i is_probe v.marks in let g = silent_less v.marks v.marks (same_marks v.marks) i is_probe (λ y z. ap is_read (probe_is y z)) in
-            nothing (subbed i found is_probe v) (conds (eqb (x % 2) 1) (eqb (nref_of found) 1) (at i (mark.Zero x) ∷ rest) rest (λ es. Same v.marks es) (silent_more v.marks rest g i (mark.Zero x) refl) g)
+        backs = let x : ℕ = vref_version found in let rest : List SlotMark = without_at i is_probe v.marks in let g = silent_less v.marks v.marks (same_marks v.marks) i is_probe (λ y z. ap is_read (probe_is y z)) in
+            nothing (subbed i found is_probe v) (conds (eqb (x % 2) 1) (eqb (vref_nref found) 1) (at i (mark.Zero x) ∷ rest) rest (λ es. Same v.marks es) (silent_more v.marks rest g i (mark.Zero x) refl) g)
 
     -- a life that the seat holds is set failed, by the first one that tries
-    pub fail_event : (h : ℕ) → 0 < marks_of (is_hold h) i v → To (cond (eqb (version_of found % 2) 0) (Fail (life_at i (version_of found)) id) Nothing) (failed i found v)
-    fail_event h there = let w : ℕ = version_of found in
+    pub fail_event : (h : ℕ) → 0 < marks_of (is_hold h) i v → To (cond (eqb (vref_version found % 2) 0) (Fail (life_at i (vref_version found)) id) Nothing) (failed i found v)
+    fail_event h there = let w : ℕ = vref_version found in
         let yes : List SlotMark = at i (mark.Hold w) ∷ at i (mark.Coding w) ∷ at i (mark.Failer w) ∷ at i (mark.Saw (w + 1)) ∷ v.marks in let no_ : List SlotMark = at i (mark.Saw w) ∷ v.marks in
         let P : Bool → Type 0 = λ b. To (cond b (Fail (life_at i w) id) Nothing) (record v { marks = cond b yes no_ }) in
         dite (ℕ_discrete (w % 2) 0)
         (λ even. subst P (sym (eq-eqb (w % 2) 0 even)) (fails even))
         (λ odd. subst P (sym (ne_eqb (w % 2) 0 odd)) (nothing (record v { marks = no_ }) (silent_more v.marks v.marks (same_marks v.marks) i (mark.Saw w) refl)))
       where
-        fails : version_of found % 2 ≡ 0 → To (Fail (life_at i (version_of found)) id) (record v { marks = at i (mark.Hold (version_of found)) ∷ at i (mark.Coding (version_of found)) ∷ at i (mark.Failer (version_of found)) ∷ at i (mark.Saw (version_of found + 1)) ∷ v.marks })
-        fails even = let w : ℕ = version_of found in let law = o.references.slots i inside in
+        fails : vref_version found % 2 ≡ 0 → To (Fail (life_at i (vref_version found)) id) (record v { marks = at i (mark.Hold (vref_version found)) ∷ at i (mark.Coding (vref_version found)) ∷ at i (mark.Failer (vref_version found)) ∷ at i (mark.Saw (vref_version found + 1)) ∷ v.marks })
+        fails even = let w : ℕ = vref_version found in let law = o.references.slots i inside in
             let is = life_found p s o.references id v here [] keeps i inside fits h there in let mine_w : 0 < marks_of (is_hold w) i v = subst (λ y. 0 < marks_of (is_hold y) i v) (let z : h ≡ w = omega arith in z) there in
             let t = law.held w (omega (arith, mine (is_hold w))) in let t₀ = t.0 in
             let m₁ : List SlotMark = at i (mark.Saw (w + 1)) ∷ v.marks in let m₂ : List SlotMark = at i (mark.Failer w) ∷ m₁ in let m₃ : List SlotMark = at i (mark.Coding w) ∷ m₂ in (
@@ -161,8 +162,8 @@ module _ {S : Type 0} (shows : S → Home) (p : Plan) (s : State S View) (o : La
             )
 
     -- whoever wins the exchange ends the life
-    pub recycle_event : (from : ℕ) → 0 < marks_of (is_zero (version_of from)) i v → version_of from % 2 ≡ 1 → nref_of from ≡ 0 → To (cond (eqb found from) (End (life_at i (version_of from - 1))) Nothing) (recycled i from found v)
-    recycle_event from there odd none_ = let w : ℕ = version_of from in let rest : List SlotMark = without_at i (is_zero w) v.marks in
+    pub recycle_event : (from : ℕ) → 0 < marks_of (is_zero (vref_version from)) i v → vref_version from % 2 ≡ 1 → vref_nref from ≡ 0 → To (cond (eqb found from) (End (life_at i (vref_version from - 1))) Nothing) (recycled i from found v)
+    recycle_event from there odd none_ = let w : ℕ = vref_version from in let rest : List SlotMark = without_at i (is_zero w) v.marks in
         let yes : List SlotMark = at i (mark.Recycling (w + 1)) ∷ at i (mark.Freer (w - 1)) ∷ rest in
         let P : Bool → Type 0 = λ b. To (cond b (End (life_at i (w - 1))) Nothing) (record v { marks = cond b yes rest }) in
         let g : Same v.marks rest = silent_less v.marks v.marks (same_marks v.marks) i (is_zero w) (λ x y. ap is_read (zero_is w x y)) in
@@ -170,10 +171,10 @@ module _ {S : Type 0} (shows : S → Home) (p : Plan) (s : State S View) (o : La
         (λ same. subst P (sym (eq-eqb found from same)) (ends same g))
         (λ miss. subst P (sym (ne_eqb found from miss)) (nothing (record v { marks = rest }) g))
       where
-        ends : found ≡ from → Same v.marks (without_at i (is_zero (version_of from)) v.marks)
-            → To (End (life_at i (version_of from - 1))) (record v { marks = at i (mark.Recycling (version_of from + 1)) ∷ at i (mark.Freer (version_of from - 1)) ∷ without_at i (is_zero (version_of from)) v.marks })
-        ends same g = let w : ℕ = version_of from in let rest : List SlotMark = without_at i (is_zero w) v.marks in let law = o.references.slots i inside in
-            let v_is : L.version ≡ w = ap version_of same in let n_is : L.nref ≡ 0 = ap nref_of same ∙ none_ in let dead : live L ≡ 0 = live-odd L.tag L.version (count is_busy L) (omega arith) in let begun = law.begun in let even = o.fits.even in (
+        ends : found ≡ from → Same v.marks (without_at i (is_zero (vref_version from)) v.marks)
+            → To (End (life_at i (vref_version from - 1))) (record v { marks = at i (mark.Recycling (vref_version from + 1)) ∷ at i (mark.Freer (vref_version from - 1)) ∷ without_at i (is_zero (vref_version from)) v.marks })
+        ends same g = let w : ℕ = vref_version from in let rest : List SlotMark = without_at i (is_zero w) v.marks in let law = o.references.slots i inside in
+            let v_is : L.version ≡ w = ap vref_version same in let n_is : L.nref ≡ 0 = ap vref_nref same ∙ none_ in let dead : live L ≡ 0 = live-odd L.tag L.version (count is_busy L) (omega arith) in let begun = law.begun in let even = o.fits.even in (
               (
                 omega (arith, fails_are p s o.references i inside (w - 1), life-in p.first (w - 1) L.version (omega arith) (omega arith) (omega arith)),
                 ends_are p s o.references i inside (w - 1) ∙ life-high p.first (w - 1) (L.version - 1) (omega arith),

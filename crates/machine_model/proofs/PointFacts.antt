@@ -4,13 +4,13 @@ use Rattle.std.proofs.Props.{props}
 use Rattle.std.proofs.Math.Logic.{∥∥₁_elim}
 use Rattle.sock_words.specs.declared.plain.Plan.{Plan}
 use Rattle.corr_core.specs.declared.marks.Plan.{Plan as IdPlan}
-use Rattle.corr_core.specs.Word.{parts, code_of}
+use Rattle.corr_core.specs.Word.{parts, code_of, id_slot}
 use Rattle.corr_core.specs.Decisions.{ends_call}
 use Rattle.sock_message.specs.Asked.{Asked}
 use Rattle.seat_programs.specs.declared.task.Sizes.{Sizes}
 use Rattle.seat_programs.specs.Calls as calls
 use Rattle.seat_programs.specs.Asides as asides
-use Rattle.seat_programs.specs.Asides.{PutCall, id_slot}
+use Rattle.seat_programs.specs.Asides.{PutCall}
 use Rattle.seat_programs.specs.Heads.{HasEnded, Unlocks}
 use Rattle.seat_programs.specs.Posts.{end_id, unlocked, decided}
 use Rattle.seat_programs.specs.Programs.{Program, Aside, Round}

@@ -1,7 +1,7 @@
 -- What a tick answers: the kind of its step, or for what the seat waits.
 use Rattle.std.proofs.Common.{◌≡◌, ◌≢◌, refl, ℕ, ◌+◌, ◌==◌, ◌&&◌, Bool, true, false, not, is_some, if◌then◌else◌, List, [], Option, Some, None, IfSome, option_map, ap, sym, ◌∙◌, subst}
 use mathlib.Core.Option as core
-use Rattle.corr_core.specs.Word.{parts, code_of}
+use Rattle.corr_core.specs.Word.{parts, code_of, id_first, id_slot}
 use Rattle.corr_core.specs.Decisions.{ends_call}
 use Rattle.sock_words.specs.declared.kind.Kind.{Kind}
 use Rattle.sock_words.specs.declared.kind.Kind.TheVariants.{I6, K1}
@@ -10,7 +10,7 @@ use Rattle.sock_io.specs.declared.link.Ready.{Ready}
 use Rattle.sock_io.specs.declared.link.Ready.TheVariants as asks
 use Rattle.sock_words.specs.declared.plain.Plan.{Plan}
 use Rattle.seat_programs.specs.Parts.{part}
-use Rattle.seat_programs.specs.Asides.{id_first, id_slot, PutCall}
+use Rattle.seat_programs.specs.Asides.{PutCall}
 use Rattle.seat_programs.specs.Asides as asides
 use Rattle.seat_programs.specs.Beside.{found_in}
 use Rattle.seat_programs.specs.Heads.{Posts, Unlocks, Decides, Locks, Joins, Opens, Reads, Discards, HasEnded}

@@ -8,7 +8,7 @@ use Rattle.sock_words.specs.declared.plain.Plan.{Plan}
 use Rattle.sock_words.specs.KindText.{kind_text}
 use Rattle.brpc_model.specs.Link.{LinkEnd}
 use Rattle.seat_programs.specs.Writings as heads
-use Rattle.seat_programs.specs.Asides.{Taking, AtEnd, Closed, Broken, call_id}
+use Rattle.seat_programs.specs.Asides.{Taking, AtEnd, Closed, Broken}
 use Rattle.seat_programs.specs.Heads.{Sought, First, Version, Locks, Joins, Opens, Reads, Discards}
 use Rattle.seat_programs.specs.Programs.{Program, Write, Round}
 use Rattle.seat_programs.specs.Cores.{Core, SeatState}
@@ -25,6 +25,7 @@ use Rattle.machine_model.specs.declared.tick.Tick.{Tick}
 use Rattle.machine_model.specs.declared.tick.Tick.TheVariants.{Moved, Waits, Idle}
 use Rattle.machine_model.specs.Links.{Taken, Given, Agrees, AgreesGave, SoFar, AreAlwaysReady, TellClosing, IsOffering, StayOffered}
 use Rattle.machine_model.specs.Machines.{MachineState, SameGivens, READERS, table_of, core_with, ending_by}
+use Rattle.corr_core.specs.Word.{call_id}
 
 -- ## Links
 

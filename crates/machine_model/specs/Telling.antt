@@ -2,9 +2,8 @@
 use Rattle.std.specs.Prelude.{ℕ, ◌≡◌, ◌==◌, ◌&&◌, not, Bool, true, false, List, [], slice_set, Some, None}
 use mathlib.Core.Option as core
 use lib.ListN.{get_elem?}
-use Rattle.corr_core.specs.Word.{parts}
+use Rattle.corr_core.specs.Word.{parts, id_first}
 use Rattle.sock_model.specs.Memory.{UNCONNECTED}
-use Rattle.seat_programs.specs.Asides.{id_first}
 use Rattle.seat_programs.specs.Heads.{Locks, Joins, Opens}
 use Rattle.seat_programs.specs.Posts.{is_first, is_sought}
 use Rattle.seat_programs.specs.Writings as heads

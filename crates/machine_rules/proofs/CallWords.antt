@@ -10,7 +10,7 @@ use Rattle.id_rule.specs.Lawful.{tag_index, id_index, call_index, at_index}
 use Rattle.id_points.specs.declared.call_id.CallId.{CallId}
 use Rattle.id_points.specs.Ids.{id_of}
 use Rattle.sock_message.specs.Asked.{Asked}
-use Rattle.seat_programs.specs.Asides.{Found, Taking, Bytes, id_first}
+use Rattle.seat_programs.specs.Asides.{Found, Taking, Bytes}
 use Rattle.seat_programs.specs.Beside.{calls_after, more_given}
 use Rattle.seat_programs.specs.Cores.{Calls}
 use Rattle.call_points.specs.declared.aside.Aside.{Aside}
@@ -20,6 +20,7 @@ use Rattle.call_slots.specs.Slots.{SlotState, calls_with}
 use Rattle.call_slots.specs.Steps as slots
 use Rattle.machine_model.specs.Machines.{TableState, AreCalled}
 use Rattle.machine_model.specs.Steps.{FitsSlots}
+use Rattle.corr_core.specs.Word.{id_first}
 
 abbrev IsBelow : ℕ → Type 0
 IsBelow word = id_first word < 67108864

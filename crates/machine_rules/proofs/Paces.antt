@@ -2,7 +2,7 @@
 use Rattle.std.proofs.Common.{◌≡◌, refl, ℕ, zero, suc, ◌+◌, ◌-◌, ◌%◌, ◌==◌, ◌&&◌, ◌⊎◌, inl, inr, ⊎_elim, not, nat_lt, nat_le, if◌then◌else◌, Bool, true, false, List, [], ◌∷◌, ◌++◌, length, Option, Some, None, ap, sym, ◌∙◌, subst}
 use Rattle.std.proofs.lemmas.Bool.{true≢false}
 use Rattle.sock_steps.proofs.Quiet.{either_way}
-use Rattle.sock_words.specs.Words.{socket_id_version, vref_version, vref_nref}
+use Rattle.sock_words.specs.Words.{socket_id_version, vref_version, vref_nref, ticket_request, ticket_generation}
 use Rattle.sock_words.specs.declared.socket_id.SocketId.{SocketId}
 use Rattle.sock_words.specs.declared.ticket.Ticket.{Ticket}
 use Rattle.sock_io.specs.declared.link.Put.{Put}
@@ -12,13 +12,12 @@ use Rattle.sock_io.specs.declared.link.Ready.TheVariants as asks
 use Rattle.sock_io.specs.Link.{OutState}
 use Rattle.sock_message.specs.Asked.{Asked}
 use Rattle.sock_model.specs.declared.chain.Heading.{Heading}
-use Rattle.sock_model.specs.Entries.{slot_of, generation_of}
 use Rattle.sock_model.specs.Memory.{IDLE, UNCONNECTED}
-use Rattle.corr_core.specs.Word.{parts, code_of, posted_word, unlocked_word}
+use Rattle.corr_core.specs.Word.{parts, code_of, posted_word, unlocked_word, id_slot, id_first}
 use Rattle.corr_core.specs.Law.{LAST}
 use Rattle.corr_core.specs.Decisions.{ends_call}
 use Rattle.seat_programs.specs.Asides as asides
-use Rattle.seat_programs.specs.Asides.{Step, Found, id_slot, id_first}
+use Rattle.seat_programs.specs.Asides.{Step, Found}
 use Rattle.seat_programs.specs.Calls as calls
 use Rattle.seat_programs.specs.Writings as heads
 use Rattle.seat_programs.specs.Programs.{Program, Do, PutBytes, Write, Aside, Round, Keep, NO_SOCKET, LAST_VERSION, LAST_GENERATION, open_from}
@@ -140,7 +139,7 @@ keep_calm : (r : Retry) (next : Program) → Calm next → Calm (Keep r next)
 keep_calm r next calm w = calm (w ++ r ∷ [])
 
 freed_calm : (now : ℕ) (next : Program) → Calm next → Calm (freed now next)
-freed_calm now next calm = either_way (generation_of now == LAST_GENERATION) next (Do (calls.FreeRequest (slot_of now) (generation_of now)) (λ _. next)) Calm calm (λ w. tt)
+freed_calm now next calm = either_way (ticket_generation now == LAST_GENERATION) next (Do (calls.FreeRequest (ticket_request now) (ticket_generation now)) (λ _. next)) Calm calm (λ w. tt)
 
 tell_calm : (heading : Heading) (code : ℕ) (next : Program) → Calm next → Calm (tell_drop heading code next)
 tell_calm heading code next calm = either_way (heading.owner == 0) next _ Calm calm (λ w. tt)

@@ -6,10 +6,10 @@ use Rattle.sock_io.specs.declared.link.Put.TheVariants as puts
 use Rattle.message_parts.specs.Frames.{OutgoingData, ParcelData}
 use Rattle.seat_programs.specs.declared.task.Sizes.{Sizes}
 use Rattle.seat_programs.specs.Programs.{Program, Aside, Round}
-use Rattle.corr_core.specs.Word.{parts, code_of}
+use Rattle.corr_core.specs.Word.{parts, code_of, id_slot}
 use Rattle.corr_core.specs.Decisions.{ends_call}
 use Rattle.id_points.specs.Ids.{id_of}
-use Rattle.seat_programs.specs.Asides.{PutCall, id_slot}
+use Rattle.seat_programs.specs.Asides.{PutCall}
 use Rattle.seat_programs.specs.Heads.{Retry, HasEnded, Unlocks}
 use Rattle.seat_programs.specs.Posts.{end_id, unlocked, decided}
 use Rattle.seat_programs.specs.Cores.{resolved, still_waiting, next_step, said}

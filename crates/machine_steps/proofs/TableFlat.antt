@@ -1,17 +1,16 @@
 -- Behind a step on a word no call has ended, and no retry is kept.
 use Rattle.std.proofs.Common.{◌≡◌, refl, ℕ, zero, suc, ◌+◌, ◌-◌, ◌/◌, ◌%◌, ◌==◌, ◌&&◌, Bool, true, false, nat_lt, nat_le, if◌then◌else◌, List, Option, Some, None, sym, subst}
-use Rattle.corr_core.specs.Word.{parts, code_of}
+use Rattle.corr_core.specs.Word.{parts, code_of, id_slot}
 use Rattle.corr_core.specs.Decisions.{ends_call}
-use Rattle.sock_words.specs.Words.{socket_id_version, socket_id_slot, vref_version, vref_nref}
+use Rattle.sock_words.specs.Words.{socket_id_version, socket_id_slot, vref_version, vref_nref, ticket_request, ticket_generation}
 use Rattle.sock_words.specs.declared.socket_id.SocketId.{SocketId}
 use Rattle.sock_words.specs.declared.outcome.Outcome.{Outcome}
 use Rattle.sock_words.specs.declared.outcome.Outcome.TheVariants.{CallFailed, Unopened, Failed, Already}
 use Rattle.sock_message.specs.Asked.{Asked}
-use Rattle.sock_model.specs.Entries.{slot_of, generation_of}
 use Rattle.sock_model.specs.Memory.{IDLE, UNCONNECTED}
 use Rattle.sock_model.specs.declared.chain.Heading.{Heading}
 use Rattle.id_points.specs.Ids.{id_of, number_of}
-use Rattle.seat_programs.specs.Asides.{PutCall, id_slot}
+use Rattle.seat_programs.specs.Asides.{PutCall}
 use Rattle.seat_programs.specs.Heads.{HasEnded, Unlocks}
 use Rattle.seat_programs.specs.Posts.{post, end_id, unlocked, decided}
 use Rattle.seat_programs.specs.Attempts.{claims_from, attempt, claim_id}
@@ -99,14 +98,14 @@ ids_none (suc more) i requests socket asked = tt
 -- ## Messages that have their places
 
 freed_none : (now : ℕ) (next : Program) → NoEnd next → NoEnd (freed now next)
-freed_none now next h = either_none (generation_of now == LAST_GENERATION) next (Do (calls.FreeRequest (slot_of now) (generation_of now)) (λ _. next)) h tt
+freed_none now next h = either_none (ticket_generation now == LAST_GENERATION) next (Do (calls.FreeRequest (ticket_request now) (ticket_generation now)) (λ _. next)) h tt
 
 tell_none : (heading : Heading) (code : ℕ) (next : Program) → NoEnd next → NoEnd (tell_drop heading code next)
 tell_none heading code next h = either_none (heading.owner == 0) next (post heading.owner (if code == 0 then 1009 else code) heading.attempt next) h tt
 
 passed_none : (h : heads.Holder) (now : ℕ) (tells : Program → Program) (after : Program) → ((next : Program) → NoEnd next → NoEnd (tells next)) → NoEnd (passed_telling h now tells after)
 passed_none h now tells after told_ = either_none (now == h.last) (freed now (tells (Write (heads.Empties h) after)))
-    (Do (calls.ReadNext (slot_of now)) (λ next. freed now (tells (TakeMessage (slot_of next) (λ heading bytes. Write (heads.Puts h next heading bytes 0 false) after)))))
+    (Do (calls.ReadNext (ticket_request now)) (λ next. freed now (tells (TakeMessage (ticket_request next) (λ heading bytes. Write (heads.Puts h next heading bytes 0 false) after)))))
     (freed_none now (tells (Write (heads.Empties h) after)) (told_ (Write (heads.Empties h) after) tt)) tt
 
 told_none : (c : Option OnCall) (next : Program) → NoEnd next → NoEnd (told c next)
@@ -206,7 +205,7 @@ ends_none a (points.Write w (writes.DropPlace m n)) found = passed_none (one_mor
 ends_none a (points.Write w (writes.ReadNext now c)) found = freed_none now.0 (told c (next_message (bare a) w (holder_of w.holder) found)) (told_none c (next_message (bare a) w (holder_of w.holder) found) tt)
 ends_none a (points.Write w (writes.Free now next c)) found = told_none c (freed_program (bare a) w next) (free_none a w next)
 ends_none a (points.Write w writes.EmptyHead) found = either_none (found == w.holder.last.0) (written_program (bare a) w) (taken_again (bare a) w found) tt tt
-ends_none a (points.Write w (writes.Walk top at after)) found = either_none (found == UNCONNECTED) (walk_program (bare a) w top.0 at.0 after.0) (Do (calls.ReverseNext (slot_of at.0) after.0) (λ _. if found == w.holder.last.0 then first_of_walk (bare a) w top.0 at.0 else walk_program (bare a) w top.0 found at.0)) tt tt
+ends_none a (points.Write w (writes.Walk top at after)) found = either_none (found == UNCONNECTED) (walk_program (bare a) w top.0 at.0 after.0) (Do (calls.ReverseNext (ticket_request at.0) after.0) (λ _. if found == w.holder.last.0 then first_of_walk (bare a) w top.0 at.0 else walk_program (bare a) w top.0 found at.0)) tt tt
 ends_none a (points.Write w (writes.Turn top at after before)) found = either_none (before.0 == w.holder.last.0) (first_of_walk (bare a) w top.0 at.0) (walk_program (bare a) w top.0 before.0 at.0) tt tt
 ends_none a (points.Call begins.LoadName) found = either_none (found == 0) (Say a.asked.operation Unopened Rest) (claim_id a.sizes.ids 0 a.sizes.requests (found - 1) a.asked Rest) tt (ids_none a.sizes.ids 0 a.sizes.requests (found - 1) a.asked)
 ends_none a (points.Attempt t socket attempts.AddRef) found = either_none (vref_version found == socket_id_version socket.0) (find_program (bare a) t socket) (release (socket_id_slot socket.0) (λ _. then_program (bare a) (thens.Unreached t) false)) tt tt

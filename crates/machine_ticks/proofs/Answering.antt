@@ -21,10 +21,10 @@ use Rattle.sock_io.specs.Causes.{Rose}
 use Rattle.seat_programs.specs.Calls as calls
 use Rattle.seat_programs.specs.Writings.{Waits}
 use Rattle.seat_programs.specs.Programs.{Program, PutBytes, AskReady, Write, Aside, Round}
-use Rattle.corr_core.specs.Word.{parts, code_of}
+use Rattle.corr_core.specs.Word.{parts, code_of, id_slot}
 use Rattle.corr_core.proofs.Notes.{at_length}
 use Rattle.corr_core.specs.Decisions.{ends_call}
-use Rattle.seat_programs.specs.Asides.{id_slot, PutCall}
+use Rattle.seat_programs.specs.Asides.{PutCall}
 use Rattle.seat_programs.specs.Heads.{Unlocks, Decides, Locks, HasEnded}
 use Rattle.seat_programs.specs.Posts.{end_id, unlocked}
 use Rattle.seat_states.specs.declared.point.Step.{Step}

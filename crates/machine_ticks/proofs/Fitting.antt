@@ -13,7 +13,6 @@ use Rattle.sock_message.specs.Asked.{Asked}
 use Rattle.sock_io.specs.Link.{OutState}
 use Rattle.seat_programs.specs.Calls as calls
 use Rattle.seat_programs.specs.Asides as asides
-use Rattle.seat_programs.specs.Asides.{id_slot, id_first}
 use Rattle.seat_programs.specs.Beside.{found_in, call_at}
 use Rattle.seat_programs.specs.Writings as heads
 use Rattle.seat_programs.specs.Programs.{Program, PutBytes, Write}
@@ -55,6 +54,7 @@ use Rattle.machine_model.proofs.PointFacts.{NoTake, finds_beside, takes_none, wi
 use Rattle.machine_rules.proofs.Seatings.{seat_at, read_at}
 use Rattle.machine_rules.proofs.Sounds.{Known, id_view, id_goes, id_may, known_first, finds_word}
 use Rattle.machine_rules.proofs.Ticked.{MayCall, MayMake}
+use Rattle.corr_core.specs.Word.{id_slot, id_first}
 
 -- ## Facts that have one proof at most
 

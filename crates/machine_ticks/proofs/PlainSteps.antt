@@ -5,7 +5,6 @@ use mathlib.Core.Option as core
 use lib.ListN.{get_elem?}
 use Rattle.chain_steps.proofs.Lists.{at_some}
 use Rattle.sock_words.specs.declared.kind.Kind.{Kind}
-use Rattle.sock_model.specs.Entries.{slot_of, generation_of}
 use Rattle.seat_programs.specs.declared.task.Sizes.{Sizes}
 use Rattle.seat_programs.specs.Calls as calls
 use Rattle.seat_programs.specs.Heads.{Retry}
@@ -46,6 +45,7 @@ use Rattle.machine_model.proofs.TableRoom.{IsCall, after_none, only_calls}
 use Rattle.machine_model.proofs.Tellings.{kind_is}
 use Rattle.machine_rules.proofs.Ticked.{gives_same, quiet_by}
 use Rattle.corr_core.proofs.Notes.{at_length}
+use Rattle.sock_words.specs.Words.{ticket_request, ticket_generation}
 
 -- ## Without a step left
 
@@ -88,7 +88,7 @@ none_either true x y f g h = f h
 none_either false x y f g h = g h
 
 freed_asks : (now : ℕ) (next : Program) → (AsksNone next → ⊥) → AsksNone (freed now next) → ⊥
-freed_asks now next f = none_either (generation_of now == LAST_GENERATION) next (Do (calls.FreeRequest (slot_of now) (generation_of now)) (λ _. next)) f (λ x. f (x.1 0))
+freed_asks now next f = none_either (ticket_generation now == LAST_GENERATION) next (Do (calls.FreeRequest (ticket_request now) (ticket_generation now)) (λ _. next)) f (λ x. f (x.1 0))
 
 -- what it needs is in hand, and it stands
 plain_stands : (a : Context) (p : Point) → AsksNone (point_program a p) → HasInHand a p × (framed p a ≡ a) × HasLinkAt p × TellsCodeAt p

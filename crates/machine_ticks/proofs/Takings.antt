@@ -7,7 +7,7 @@ use native.Mathlib.Decide.{ℕ_discrete}
 use mathlib.Core.Logic.{dite}
 use mathlib.Core.Option as core
 use lib.ListN.{get_elem?}
-use Rattle.corr_core.specs.Word.{parts, code_of}
+use Rattle.corr_core.specs.Word.{parts, code_of, id_slot}
 use Rattle.corr_core.proofs.Notes.{at_length}
 use Rattle.corr_core.specs.Decisions.{ends_call}
 use Rattle.brpc_model.specs.Link.{LinkEnd, TakeAnswer}
@@ -15,7 +15,7 @@ use Rattle.sock_io.specs.Link.{more_told}
 use Rattle.sock_words.specs.declared.plain.Plan.{Plan}
 use Rattle.machine_model.specs.run_theorems.specs.Heard.{as_told, as_taken, answer_of, take_answers, taken_link, heard_at, heard_in, taken_at, taken_in}
 use Rattle.seat_programs.specs.Asides as asides
-use Rattle.seat_programs.specs.Asides.{Taking, TakeBytes, PutCall, id_slot}
+use Rattle.seat_programs.specs.Asides.{Taking, TakeBytes, PutCall}
 use Rattle.seat_programs.specs.Heads.{Unlocks, Decides, Locks, Reads, Discards, HasEnded}
 use Rattle.seat_programs.specs.Posts.{end_id, unlocked}
 use Rattle.seat_programs.specs.Writings as heads

@@ -13,7 +13,7 @@ use Rattle.sock_model.specs.declared.home.Home.{Home}
 use Rattle.sock_model.specs.declared.home.Home.TheVariants.{Message}
 use Rattle.sock_model.specs.declared.view.View.{View}
 use Rattle.sock_model.specs.declared.view.Hand.{Hand}
-use Rattle.sock_model.specs.Entries.{slot_of, generation_of, on, nth, ticket}
+use Rattle.sock_model.specs.Entries.{on, nth, ticket}
 use Rattle.sock_model.specs.Writing.{Held, InStage}
 use Rattle.sock_model.specs.Layout.{request_index}
 use Rattle.sock_model.specs.Reads.{memory, tokens, rights_on, link_home, took_of, as_link, shown}
@@ -33,6 +33,7 @@ use Rattle.sock_runs.specs.program_steps.specs.Sound.{state}
 use Rattle.sock_runs.specs.program_steps.proofs.Leaves.{moves_right, moves_hand, rights_stay, hands_stay}
 use Rattle.message_events.specs.Messages.{IsOrder, MayCome, Claim, Free}
 use Rattle.message_events.specs.Standing.{hands_on, by_home, by_rights, stand, messages}
+use Rattle.sock_words.specs.Words.{ticket_request, ticket_generation}
 
 -- ## Steps that leave rights and hands
 
@@ -120,12 +121,12 @@ module _ (p : Plan) (c : Core) (views : List View) (o : Lawful (λ home. home) p
     pub placed_is : (stand p c views r.link).placed ≡ o.places r.link
     placed_is = ap (λ rs. (by_rights rs (link_home (λ home. home) p c.homes r.link) (flat_map (hands_on r.link) views)).placed) alone ∙ o.delivered.counted r.link r kl alone
 
-    freed_here : (now : ℕ) → o.places r.link ≡ suc (o.freed r.link) → o.freed r.link < held.counts.noted → nth (on r.link o.log) (suc (o.freed r.link)) ≡ now → Freed p c views o.log r.link (slot_of now) (generation_of now)
+    freed_here : (now : ℕ) → o.places r.link ≡ suc (o.freed r.link) → o.freed r.link < held.counts.noted → nth (on r.link o.log) (suc (o.freed r.link)) ≡ now → Freed p c views o.log r.link (ticket_request now) (ticket_generation now)
     freed_here now more few is = let f = held.fits in let e = at_some (on r.link o.log) (o.freed r.link) (omega (arith, f.1, f.2, f.3, few)) in
         let size = in_size o.chains r.link (o.freed r.link) e.0 e.1 in let narrow = o.fits.narrow in let z = size.1 in let small : e.0.request < 65535 = omega (arith, z, narrow) in
         let tick : ticket e.0 ≡ now = sym (ticket_at_is (on r.link o.log) (o.freed r.link) e.0 e.1) ∙ is in
-        let slot : e.0.request ≡ slot_of now = sym (slot_is e.0 small) ∙ ap slot_of tick in
-        let generation : e.0.generation ≡ generation_of now = sym (generation_is e.0 small) ∙ ap generation_of tick in
+        let slot : e.0.request ≡ ticket_request now = sym (slot_is e.0 small) ∙ ap ticket_request tick in
+        let generation : e.0.generation ≡ ticket_generation now = sym (generation_is e.0 small size.2) ∙ ap ticket_generation tick in
         let live = (o.chains.live r.link (o.freed r.link) e.0 (omega arith) e.1).0 in record {
           entry = e.0;
           place = o.freed r.link;
@@ -137,7 +138,7 @@ module _ (p : Plan) (c : Core) (views : List View) (o : Lawful (λ home. home) p
           word = ap (λ x. slice_index c.words (request_index p x)) (sym slot) ∙ (live ∙ ap (λ x. 2 * x + 1) generation);
         }
 
-    freed_at : (now : ℕ) → ((r.stage ≡ Placed now) × (now ≡ r.last)) ⊎ ((next : ℕ) × (r.stage ≡ Passes now next)) → Freed p c views o.log r.link (slot_of now) (generation_of now)
+    freed_at : (now : ℕ) → ((r.stage ≡ Placed now) × (now ≡ r.last)) ⊎ ((next : ℕ) × (r.stage ≡ Passes now next)) → Freed p c views o.log r.link (ticket_request now) (ticket_generation now)
     freed_at now x = ⊎_elim
         (λ a. let st : InStage (memory p o.slot c.words) (tokens views) (on r.link o.log) held.counts (o.freed r.link) (o.places r.link) (Placed now) = subst (InStage (memory p o.slot c.words) (tokens views) (on r.link o.log) held.counts (o.freed r.link) (o.places r.link)) a.0 held.stage_is in
         freed_here now st.1 st.2 st.3)
@@ -146,7 +147,7 @@ module _ (p : Plan) (c : Core) (views : List View) (o : Lawful (λ home. home) p
         x
 
   pub freed_entry : (q g : ℕ) → (may : May p v (FreeRequest q g)) → Freed p c views o.log may.4.0.link q g
-  freed_entry q g may = subst (λ x. Freed p c views o.log may.4.0.link x g) may.1 (subst (λ x. Freed p c views o.log may.4.0.link (slot_of may.0) x) may.2 (freed_at may.4.0 may.4.1 may.0 may.4.2))
+  freed_entry q g may = subst (λ x. Freed p c views o.log may.4.0.link x g) may.1 (subst (λ x. Freed p c views o.log may.4.0.link (ticket_request may.0) x) may.2 (freed_at may.4.0 may.4.1 may.0 may.4.2))
 
   -- the word of the request is the one that goes
   pub free_word : (q g : ℕ) → May p v (FreeRequest q g) → slice_index c.words (request_index p q) ≡ 2 * g + 1

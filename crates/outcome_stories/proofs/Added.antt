@@ -1,7 +1,7 @@
 -- What a step adds to the marks of its seat that stay.
 use Rattle.std.proofs.Common.{◌≡◌, ℕ, ◌+◌, ◌-◌, ◌%◌, ◌<◌, Bool, true, false, cond, eqb, List, ◌∷◌, refl, ap, ◌∙◌, arith, nat_lt}
 use Rattle.sock_words.specs.declared.plain.Plan.{Plan}
-use Rattle.sock_words.specs.Words.{socket_id_version, socket_id_slot, vref_version}
+use Rattle.sock_words.specs.Words.{socket_id_version, socket_id_slot, vref_version, vref_nref}
 use Rattle.sock_model.specs.declared.marks.Mark.{Mark}
 use Rattle.sock_model.specs.declared.marks.Mark.TheVariants.{Claimed, Recycling, Hold, Probe, Zero, Coding, Tried, Known, Born, Saw, Failer, Stored, Told, Freer, Linked, Met}
 use Rattle.sock_model.specs.declared.marks.SlotMark.{SlotMark}
@@ -9,7 +9,6 @@ use Rattle.sock_model.specs.declared.view.View.{View}
 use Rattle.sock_model.specs.declared.view.Hand.{Hand}
 use Rattle.sock_model.specs.Weights.{total, is_probe, is_hold, is_stage, is_recycling, is_zero, is_coding, is_born, is_failer, is_linked, is_tried}
 use Rattle.sock_model.specs.Marks.{about, at, without_at}
-use Rattle.sock_model.specs.Slots.{version_of, nref_of}
 use Rattle.sock_model.specs.SlotRows.{marks_of, back, subbed, recycled}
 use Rattle.program_walks.specs.slot_steps.proofs.Slots.{zero_is, hold_is, probe_is, stage_is}
 use Rattle.program_walks.specs.sock_steps.proofs.Quiet.{less_without, more_without}
@@ -79,15 +78,15 @@ module _ (f : Mark → ℕ) (note : IsNote f) (j : ℕ) where
   stage_none a k x p = ap f (stage_is a k x p) ∙ note.claimed a k
 
   subbed_same : (i found : ℕ) (v : View) → marks_of f j (subbed i found (back i found v) v) ≡ marks_of f j v
-  subbed_same i found v = let w : ℕ = version_of found in
+  subbed_same i found v = let w : ℕ = vref_version found in
       let P : (Mark → ℕ) → Type 0 = λ g. marks_of f j (subbed i found g v) ≡ marks_of f j v in
       let by : (g : Mark → ℕ) → ((x : Mark) → 0 < g x → f x ≡ 0) → P g = λ g none_. let less : List SlotMark = without_at i g v.marks in let same = gone i g v.marks none_ in
-      split (eqb (w % 2) 1) (cond (eqb (nref_of found) 1) (at i (Zero w) ∷ less) less) less (λ es. sum es ≡ sum v.marks)
-      (split (eqb (nref_of found) 1) (at i (Zero w) ∷ less) less (λ es. sum es ≡ sum v.marks) (quiet i (Zero w) less (note.zeros w) ∙ same) same) same in
+      split (eqb (w % 2) 1) (cond (eqb (vref_nref found) 1) (at i (Zero w) ∷ less) less) less (λ es. sum es ≡ sum v.marks)
+      (split (eqb (vref_nref found) 1) (at i (Zero w) ∷ less) less (λ es. sum es ≡ sum v.marks) (quiet i (Zero w) less (note.zeros w) ∙ same) same) same in
       split (nat_lt 0 (marks_of is_probe i v)) is_probe (is_hold (w - w % 2)) P (by is_probe (λ x q. ap f (probe_is x q) ∙ note.probe)) (by (is_hold (w - w % 2)) (λ x q. ap f (hold_is (w - w % 2) x q) ∙ note.hold (w - w % 2)))
 
   recycled_same : (i from found : ℕ) (v : View) → marks_of f j (recycled i from found v) ≡ marks_of f j v
-  recycled_same i from found v = let w : ℕ = version_of from in let less : List SlotMark = without_at i (is_zero w) v.marks in
+  recycled_same i from found v = let w : ℕ = vref_version from in let less : List SlotMark = without_at i (is_zero w) v.marks in
       let same = gone i (is_zero w) v.marks (λ x q. ap f (zero_is w x q) ∙ note.zeros w) in
       split (eqb found from) (at i (Recycling (w + 1)) ∷ at i (Freer (w - 1)) ∷ less) less (λ es. sum es ≡ sum v.marks)
       (quiet i (Recycling (w + 1)) (at i (Freer (w - 1)) ∷ less) (note.recycling (w + 1)) ∙ (quiet i (Freer (w - 1)) less (note.freer (w - 1)) ∙ same)) same
@@ -104,18 +103,18 @@ module _ (f : Mark → ℕ) (note : IsNote f) (j : ℕ) where
       tried_or : (b : Bool) → f (cond b (Claimed 0 0) Tried) ≡ cond b 0 (f Tried)
       tried_or true = note.claimed 0 0
       tried_or false = refl
-  row_adds p (CreateLife i k) found hand v = let h : ℕ = version_of found in let less : List SlotMark = without_at i (is_stage 3 k) v.marks in
+  row_adds p (CreateLife i k) found hand v = let h : ℕ = vref_version found in let less : List SlotMark = without_at i (is_stage 3 k) v.marks in
       let a = quiet i (Known h) (at i (Born h) ∷ at i (Linked h k) ∷ less) (note.known h) in let b = put i (Born h) (at i (Linked h k) ∷ less) in let c = put i (Linked h k) less in
       let e = both (eqb i j) (f (Born h)) (f (Linked h k)) in let d = gone i (is_stage 3 k) v.marks (stage_none 3 k) in omega arith
     where
       both : (b : Bool) (m n : ℕ) → cond b (m + n) 0 ≡ cond b m 0 + cond b n 0
       both true m n = refl
       both false m n = refl
-  row_adds p (AddRef id) found hand v = let i : ℕ = socket_id_slot id in let w : ℕ = version_of found in let b : Bool = eqb (vref_version found) (socket_id_version id) in
+  row_adds p (AddRef id) found hand v = let i : ℕ = socket_id_slot id in let w : ℕ = vref_version found in let b : Bool = eqb (vref_version found) (socket_id_version id) in
       let z : f (cond b (Hold w) Probe) ≡ 0 = split b (Hold w) Probe (λ m. f m ≡ 0) (note.hold w) note.probe in
       let a = quiet i (cond b (Hold w) Probe) (at i (Saw w) ∷ v.marks) z in let c = quiet i (Saw w) v.marks (note.saw w) in omega arith
   row_adds p (SubRef i) found hand v = let a = subbed_same i found v in omega arith
-  row_adds p (SetOdd i) found hand v = let w : ℕ = version_of found in
+  row_adds p (SetOdd i) found hand v = let w : ℕ = vref_version found in
       let P : Bool → Type 0 = λ b. sum (cond b (at i (Hold w) ∷ at i (Coding w) ∷ at i (Failer w) ∷ at i (Saw (w + 1)) ∷ v.marks) (at i (Saw w) ∷ v.marks)) ≡ sum v.marks + cond (eqb i j) (cond b (f (Failer w)) 0) 0 in
       either_way P (eqb (w % 2) 0)
       (let a = quiet i (Hold w) (at i (Coding w) ∷ at i (Failer w) ∷ at i (Saw (w + 1)) ∷ v.marks) (note.hold w) in let b = quiet i (Coding w) (at i (Failer w) ∷ at i (Saw (w + 1)) ∷ v.marks) (note.coding w) in

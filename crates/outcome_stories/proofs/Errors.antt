@@ -1,7 +1,7 @@
 -- Errors of calls, and the loops on ids and at reading halves: such steps tell no outcome of a task.
 use Rattle.std.proofs.Common.{ℕ, ◌+◌, ◌&&◌, true, false, not, eqb, List, [], ◌∷◌, ◌++◌, length, inr, nat_lt}
 use Rattle.std.specs.Prelude.{nat_le, if◌then◌else◌, Some, None}
-use Rattle.seat_programs.specs.corr_core.specs.Word.{parts, error_of, code_of, posted_word, unlocked_word}
+use Rattle.seat_programs.specs.corr_core.specs.Word.{parts, error_of, code_of, posted_word, unlocked_word, id_slot, id_first, call_id}
 use Rattle.seat_programs.specs.corr_core.specs.Law.{LAST}
 use Rattle.seat_programs.specs.corr_core.specs.Decisions.{ends_call}
 use Rattle.seat_programs.specs.corr_core.specs.Versions.{is_early}
@@ -11,7 +11,7 @@ use Rattle.brpc_model.specs.ResponseOutcome.{ending_of}
 use Rattle.sock_words.specs.declared.outcome.Outcome.{Outcome}
 use Rattle.sock_model.specs.declared.chain.Heading.{Heading}
 use Rattle.seat_programs.specs.declared.task.Task.{Task}
-use Rattle.seat_programs.specs.Asides.{FreeId, PutCall, Taking, Bytes, Nothing, Closed, id_slot, id_first, call_id}
+use Rattle.seat_programs.specs.Asides.{FreeId, PutCall, Taking, Bytes, Nothing, Closed}
 use Rattle.seat_programs.specs.Heads.{Head, Exit, Retry, Sought, Version, Reading, Ended, Posts, Unlocks, Decides, Locks, Joins, Opens, Reads, Discards, Posting, WasGone, WasStale, WasCrowded, WasQueued, HasLocked, Unlocking, IsOpen, HasNext, Deciding, HasEnded, Locking, NotThere}
 use Rattle.seat_programs.specs.Heads.{GoesOn as OpenAgain, Has as HasLock}
 use Rattle.seat_programs.specs.Programs.{Program, Say, Aside, Round}

@@ -4,7 +4,7 @@ use Rattle.std.proofs.lemmas.Bool.{true≢false}
 use mathlib.Core.Logic.{dite}
 use native.Mathlib.Decide.{ℕ_discrete}
 use Rattle.sock_words.specs.declared.plain.Plan.{Plan}
-use Rattle.sock_words.specs.Words.{socket_id_version, socket_id_slot, vref_version}
+use Rattle.sock_words.specs.Words.{socket_id_version, socket_id_slot, vref_version, vref_nref}
 use Rattle.sock_model.specs.declared.marks.Mark.{Mark}
 use Rattle.sock_model.specs.declared.marks.Mark.TheVariants.{Hold, Probe, Zero, Coding, Known, Born, Saw, Failer, Linked}
 use Rattle.sock_model.specs.declared.marks.SlotMark.{SlotMark}
@@ -12,7 +12,6 @@ use Rattle.sock_model.specs.declared.view.View.{View}
 use Rattle.sock_model.specs.declared.view.Hand.{Hand}
 use Rattle.sock_model.specs.Weights.{total, is_hold, is_stage, only}
 use Rattle.sock_model.specs.Marks.{about, at, without, without_at}
-use Rattle.sock_model.specs.Slots.{version_of, nref_of}
 use Rattle.sock_model.specs.SlotRows.{marks_of, back, subbed}
 use Rattle.program_walks.specs.slot_steps.proofs.Numbers.{only-at, only-else}
 use Rattle.program_walks.specs.slot_steps.proofs.Frame.{about-without, about-without_else}
@@ -69,7 +68,7 @@ module _ (h : ℕ) where
     row_keeps p (AddRef id) found hand still = absurd still
     row_keeps p (SubRef i) found hand still = absurd still
     row_keeps p (SetOdd i) found hand still = absurd still
-    row_keeps p (CreateLife i k) found hand still = let w : ℕ = version_of found in let less : List SlotMark = without_at i (is_stage 3 k) v.marks in
+    row_keeps p (CreateLife i k) found hand still = let w : ℕ = vref_version found in let less : List SlotMark = without_at i (is_stage 3 k) v.marks in
         kept_add i (Known w) (at i (Born w) ∷ at i (Linked w k) ∷ less) (kept_add i (Born w) (at i (Linked w k) ∷ less) (kept_add i (Linked w k) less (kept_without i (is_stage 3 k) (λ x q. ap f (stage_is 3 k x q)))))
     row_keeps p call found hand still = marks_way p v found hand Kept kept_all (λ i m es other k. kept_add i m es k) (λ i g taken. kept_without i g (λ x q. none_taken x (taken x q))) call refl
 
@@ -86,7 +85,7 @@ module _ (h : ℕ) where
 
     -- a reference is taken back
     sub_row : (j found n : ℕ) (g : Mark → ℕ) → n ≤ marks_of f i v → cond (eqb j i) (n - 1) n ≤ marks_of f i (subbed j found g v)
-    sub_row j found n g le = let w : ℕ = version_of found in let less : List SlotMark = without_at j g v.marks in
+    sub_row j found n g le = let w : ℕ = vref_version found in let less : List SlotMark = without_at j g v.marks in
         let rest : cond (eqb j i) (n - 1) n ≤ sum less = dite (ℕ_discrete j i)
         (λ same. let a : cond (eqb j i) (n - 1) n ≡ n - 1 = ap (λ b. cond b (n - 1) n) (eq-eqb j i same) in
         let b : sum (without_at i g v.marks) ≡ total f (without g (about i v.marks)) = ap (total f) (about-without i g v.marks) in
@@ -94,11 +93,11 @@ module _ (h : ℕ) where
         (λ far. let a : cond (eqb j i) (n - 1) n ≡ n = ap (λ b. cond b (n - 1) n) (ne_eqb j i far) in
         let b : sum less ≡ sum v.marks = ap (total f) (about-without_else i j g v.marks (λ e. far (sym e))) in omega arith) in
         let zero_ = put j (Zero w) less in
-        split (eqb (w % 2) 1) (cond (eqb (nref_of found) 1) (at j (Zero w) ∷ less) less) less (λ es. cond (eqb j i) (n - 1) n ≤ sum es)
-        (split (eqb (nref_of found) 1) (at j (Zero w) ∷ less) less (λ es. cond (eqb j i) (n - 1) n ≤ sum es) (omega arith) rest) rest
+        split (eqb (w % 2) 1) (cond (eqb (vref_nref found) 1) (at j (Zero w) ∷ less) less) less (λ es. cond (eqb j i) (n - 1) n ≤ sum es)
+        (split (eqb (vref_nref found) 1) (at j (Zero w) ∷ less) less (λ es. cond (eqb j i) (n - 1) n ≤ sum es) (omega arith) rest) rest
 
     odd_row : (p : Plan) (j found n : ℕ) (hand : Hand) → n ≤ marks_of f i v → (j ≡ i → 0 < n → vref_version found % 2 ≡ 0 → vref_version found ≡ h) → holds_behind i h (SetOdd j) found n ≤ marks_of f i (row p (SetOdd j) found hand v)
-    odd_row p j found n hand le odd = let w : ℕ = version_of found in let more : List SlotMark = at j (Hold w) ∷ at j (Coding w) ∷ at j (Failer w) ∷ at j (Saw (w + 1)) ∷ v.marks in
+    odd_row p j found n hand le odd = let w : ℕ = vref_version found in let more : List SlotMark = at j (Hold w) ∷ at j (Coding w) ∷ at j (Failer w) ∷ at j (Saw (w + 1)) ∷ v.marks in
         let inner : ℕ = cond (eqb n 0) 0 (n + 1) in
         let a = put j (Hold w) (at j (Coding w) ∷ at j (Failer w) ∷ at j (Saw (w + 1)) ∷ v.marks) in let b = put j (Coding w) (at j (Failer w) ∷ at j (Saw (w + 1)) ∷ v.marks) in
         let c = put j (Failer w) (at j (Saw (w + 1)) ∷ v.marks) in let d = put j (Saw (w + 1)) v.marks in let e = put j (Saw w) v.marks in
@@ -117,7 +116,7 @@ module _ (h : ℕ) where
         split (eqb (w % 2) 0) more (at j (Saw w) ∷ v.marks) (λ es. cond (eqb j i) (cond (eqb (w % 2) 0) inner n) n ≤ sum es) (omega arith) (omega arith))
 
     add_row : (p : Plan) (id found n : ℕ) (hand : Hand) → n ≤ marks_of f i v → holds_behind i h (AddRef id) found n ≤ marks_of f i (row p (AddRef id) found hand v)
-    add_row p id found n hand le = let s : ℕ = socket_id_slot id in let w : ℕ = version_of found in let b : Bool = eqb (vref_version found) (socket_id_version id) in
+    add_row p id found n hand le = let s : ℕ = socket_id_slot id in let w : ℕ = vref_version found in let b : Bool = eqb (vref_version found) (socket_id_version id) in
         let a = put s (cond b (Hold w) Probe) (at s (Saw w) ∷ v.marks) in let c = put s (Saw w) v.marks in
         let d : f (cond b (Hold w) Probe) ≡ cond b (f (Hold w)) 0 = either b w in
         let e : cond (eqb s i) (f (cond b (Hold w) Probe)) 0 ≡ cond (eqb s i) (cond b (f (Hold w)) 0) 0 = ap (λ z. cond (eqb s i) z 0) d in omega arith

@@ -13,9 +13,9 @@ use Rattle.seat_programs.specs.declared.task.Task.{Task}
 use Rattle.seat_programs.specs.Calls.{Call, LookWord, ReadNext}
 use Rattle.seat_programs.specs.Writings.{Puts, Waits, Empties, Walks}
 use Rattle.seat_programs.specs.Programs.{Program, Do, Write, Aside, Round}
-use Rattle.seat_programs.specs.corr_core.specs.Word.{parts, code_of}
+use Rattle.seat_programs.specs.corr_core.specs.Word.{parts, code_of, id_slot}
 use Rattle.seat_programs.specs.corr_core.specs.Decisions.{ends_call}
-use Rattle.seat_programs.specs.Asides.{PutCall, id_slot}
+use Rattle.seat_programs.specs.Asides.{PutCall}
 use Rattle.seat_programs.specs.Heads.{Head, Exit, HasEnded, Unlocks, Decides, Locks, Opens}
 use Rattle.seat_programs.specs.Posts.{end_id, unlocked}
 use Rattle.seat_programs.specs.Rounds.{round}
@@ -23,7 +23,6 @@ use Rattle.std.specs.Prelude.{Bool, true, false, if◌then◌else◌, ◌+◌}
 use Rattle.seat_programs.specs.Cores.{Core, SeatState}
 use Rattle.seat_programs.specs.Drops.{call_in, next_call, IsAt}
 use Rattle.seat_programs.specs.Told.{AreTasks}
-use Rattle.sock_model.specs.Entries.{slot_of}
 use Rattle.outcome_stories.specs.program_steps.specs.Sound.{first_step}
 use Rattle.outcome_stories.specs.Stories.{Entry, Event, In, trace_of}
 use Rattle.outcome_stories.specs.Explains.{Way, Own, IsLoopOf, Explains, Done, Explained, IsSend}
@@ -31,6 +30,7 @@ use Rattle.outcome_stories.specs.Kept.{AreKept, SeatAt, undo}
 use Rattle.outcome_stories.proofs.Members.{all_in, contains_in}
 use Rattle.outcome_ticks.proofs.Seats.{Less, undo_todo, from_undo}
 use Rattle.outcome_ticks.proofs.Tasks.{sorted_of, same_some}
+use Rattle.sock_words.specs.Words.{ticket_request}
 
 -- the next step on a word is the first of the next round
 -- a program of the tasks waits for no `open`
@@ -63,7 +63,7 @@ call_is (Do c n) call next is e = let q : c ≡ call = cc in ap (λ x. Some x) q
 call_is (Write (Puts h now heading left taken asked) after) call next is e = let q : LookWord h.id ≡ call = cc in ap (λ x. Some x) q
 call_is (Write (Waits h now heading left taken) after) call next is e = absurd (cc)
 call_is (Write (Empties h) after) call next is e = absurd (cc)
-call_is (Write (Walks h top at after) then_) call next is e = let q : ReadNext (slot_of at) ≡ call = cc in ap (λ x. Some x) q
+call_is (Write (Walks h top at after) then_) call next is e = let q : ReadNext (ticket_request at) ≡ call = cc in ap (λ x. Some x) q
 call_is (Round head n) call next is e = absurd (subst IsAside e (aside_begins head n is))
 call_is _ call next is e = absurd (cc)
 

@@ -1,7 +1,7 @@
 -- Whoever writes a link goes on, whatever its steps find and the link answers: its loops are one, whether a task's operation or an attempt of a call is at work.
 use Rattle.std.proofs.Common.{◌≡◌, ◌≢◌, ℕ, ◌+◌, ◌-◌, ◌%◌, ◌<◌, Bool, true, false, cond, eqb, eq-eqb, ne_eqb, List, ◌∷◌, length, drop, inl, refl, sym, ap, ◌∙◌, subst, arith}
 use Rattle.std.specs.Prelude.{nat_le, if◌then◌else◌}
-use Rattle.sock_words.specs.Words.{socket_id_version, socket_id_slot, vref_version}
+use Rattle.sock_words.specs.Words.{socket_id_version, socket_id_slot, vref_version, ticket_request, ticket_generation}
 use Rattle.seat_programs.specs.sock_io.specs.declared.link.Put.{Put}
 use Rattle.seat_programs.specs.sock_io.specs.declared.link.Put.TheVariants as puts
 use Rattle.seat_programs.specs.sock_io.specs.declared.link.Ready.{Ready}
@@ -9,7 +9,6 @@ use Rattle.seat_programs.specs.sock_io.specs.declared.link.Ready.TheVariants as 
 use Rattle.sock_model.specs.declared.chain.Heading.{Heading}
 use Rattle.sock_model.specs.declared.marks.Mark.TheVariants.{Hold}
 use Rattle.sock_model.specs.Weights.{is_hold}
-use Rattle.sock_model.specs.Entries.{slot_of, generation_of}
 use Rattle.sock_model.specs.Memory.{UNCONNECTED}
 use Rattle.outcome_stories.specs.program_steps.specs.slot_steps.proofs.Numbers.{only-at}
 use Rattle.seat_programs.specs.declared.task.Task.{Task}
@@ -92,15 +91,15 @@ module _ (slots requests : ℕ) (calls : ℕ → Type 0) (way : Way) (done : Lis
     -- ## Behind a message
 
     freed_goes : (h : Holder) (bs : List ℕ) (now : ℕ) (next : Program) → Once h bs next → Once h bs (freed now next)
-    freed_goes h bs now next k tr a = split (eqb (generation_of now) LAST_GENERATION) next (Do (FreeRequest (slot_of now) (generation_of now)) (λ _. next)) (Goes bs tr)
-        (k tr a) (quiet h bs (FreeRequest (slot_of now) (generation_of now)) (λ _. next) tt (λ found n. refl) (λ found. k) tr a)
+    freed_goes h bs now next k tr a = split (eqb (ticket_generation now) LAST_GENERATION) next (Do (FreeRequest (ticket_request now) (ticket_generation now)) (λ _. next)) (Goes bs tr)
+        (k tr a) (quiet h bs (FreeRequest (ticket_request now) (ticket_generation now)) (λ _. next) tt (λ found n. refl) (λ found. k) tr a)
 
     passed_goes : (h : Holder) (bs : List ℕ) (now : ℕ) (tells : Program → Program) → ((tr : List Entry) (q : Program) → Goes bs tr q → Goes bs tr (tells q)) → Once h bs (passed_telling h now tells after)
     passed_goes h bs now tells k tr a = let last : Program = Write (Empties h) after in
-        let on : ℕ → Program = λ next. TakeMessage (slot_of next) (λ heading bytes. Write (Puts h next heading bytes 0 false) after) in
-        split (eqb now h.last) (freed now (tells last)) (Do (ReadNext (slot_of now)) (λ next. freed now (tells (on next)))) (Goes bs tr)
+        let on : ℕ → Program = λ next. TakeMessage (ticket_request next) (λ heading bytes. Write (Puts h next heading bytes 0 false) after) in
+        split (eqb now h.last) (freed now (tells last)) (Do (ReadNext (ticket_request now)) (λ next. freed now (tells (on next)))) (Goes bs tr)
         (freed_goes h bs now (tells last) (λ tr a. k tr last (its.again (Empties h) bs tr a)) tr a)
-        (quiet h bs (ReadNext (slot_of now)) (λ next. freed now (tells (on next))) tt (λ found n. refl)
+        (quiet h bs (ReadNext (ticket_request now)) (λ next. freed now (tells (on next))) tt (λ found n. refl)
         (λ next. freed_goes h bs now (tells (on next)) (λ tr a. k tr (on next) (λ heading bytes. its.again (Puts h next heading bytes 0 false) bs tr a))) tr a)
 
     placed_goes : (h : Holder) (bs : List ℕ) (now : ℕ) (heading : Heading) → Once h bs (placed h now heading after)
@@ -160,12 +159,12 @@ module _ (slots requests : ℕ) (calls : ℕ → Type 0) (way : Way) (done : Lis
     block_goes (Empties h) bs = let walk : ℕ → Program = λ found. TakeHome h.link (λ places. Write (Walks (record h { places = places }) found found 0) after) in
         quiet h bs (EmptyHead (socket_id_slot h.id) h.last) (λ found. if eqb found h.last then after else walk found) tt (λ found n. refl)
         (λ found tr a. split (eqb found h.last) after (walk found) (Goes bs tr) (its.ends h.id h.link bs tr a) (λ places. its.again (Walks (record h { places = places }) found found 0) bs tr a))
-    block_goes (Walks h top at behind) bs = let here : Program = TakeMessage (slot_of at) (λ heading bytes. Write (Puts (record h { last = top }) at heading bytes 0 false) after) in
+    block_goes (Walks h top at behind) bs = let here : Program = TakeMessage (ticket_request at) (λ heading bytes. Write (Puts (record h { last = top }) at heading bytes 0 false) after) in
         let on : ℕ → Program = λ found. if eqb found h.last then here else Write (Walks h top found at) after in
-        let turn : ℕ → Program = λ found. Do (ReverseNext (slot_of at) behind) (λ _. on found) in
-        quiet h bs (ReadNext (slot_of at)) (λ found. if eqb found UNCONNECTED then Write (Walks h top at behind) after else turn found) tt (λ found n. refl)
+        let turn : ℕ → Program = λ found. Do (ReverseNext (ticket_request at) behind) (λ _. on found) in
+        quiet h bs (ReadNext (ticket_request at)) (λ found. if eqb found UNCONNECTED then Write (Walks h top at behind) after else turn found) tt (λ found n. refl)
         (λ found tr a. split (eqb found UNCONNECTED) (Write (Walks h top at behind) after) (turn found) (Goes bs tr) (its.again (Walks h top at behind) bs tr a)
-        (quiet h bs (ReverseNext (slot_of at) behind) (λ _. on found) tt (λ word n. refl)
+        (quiet h bs (ReverseNext (ticket_request at) behind) (λ _. on found) tt (λ word n. refl)
         (λ word tr a. split (eqb found h.last) here (Write (Walks h top found at) after) (Goes bs tr)
         (λ heading bytes. its.again (Puts (record h { last = top }) at heading bytes 0 false) bs tr a) (its.again (Walks h top found at) bs tr a)) tr a))
 

@@ -8,7 +8,7 @@ use Rattle.sock_model.specs.declared.view.View.{View}
 use Rattle.sock_model.specs.Layout.{open_index}
 use Rattle.corr_core.specs.declared.marks.Plan.{Plan as IdPlan}
 use Rattle.corr_core.proofs.Notes.{at_length}
-use Rattle.seat_programs.specs.Asides.{Step, Found, StoreAt, TakeBytes, call_id, id_slot}
+use Rattle.seat_programs.specs.Asides.{Step, Found, StoreAt, TakeBytes}
 use Rattle.seat_programs.specs.Programs.{Program, Do, Write, Aside, Round}
 use Rattle.seat_programs.specs.Readers.{reader}
 use Rattle.seat_programs.specs.Cores.{Core, SeatState, waiting_at}
@@ -34,6 +34,7 @@ use Rattle.owned_ids.specs.call_owing.proofs.Programs.{block_goes}
 use Rattle.owned_ids.proofs.WordsGiven.{Named, run_named}
 use Rattle.owed_calls.proofs.ClosedPast.{closed_past}
 use Rattle.owing_ticks.proofs.OwingRuns.{Reaches, id_is, life_is, own_open, same_first, reach_back}
+use Rattle.corr_core.specs.Word.{call_id, id_slot}
 
 -- the first step of a round is one that the marks allow
 owes_first : (life : ℕ → Option ℕ) (u : Owing) (program : Program) → OwesOn life u program → OwesOn life u (goes.first_of program)

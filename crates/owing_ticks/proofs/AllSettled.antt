@@ -6,12 +6,12 @@ use mathlib.Core.Option.{some, some-injective}
 use lib.ListN.{get_elem?}
 use Rattle.sock_words.specs.declared.plain.Plan.{Plan}
 use Rattle.sock_model.specs.Layout.{open_index}
-use Rattle.corr_core.specs.Word.{Parts}
+use Rattle.corr_core.specs.Word.{Parts, call_id, id_slot, id_first}
 use Rattle.corr_core.specs.Law.{Stands, vacant, retired, claimed, opened, locked, leaving}
 use Rattle.corr_core.specs.declared.marks.Plan.{Plan as IdPlan}
 use Rattle.corr_core.proofs.Notes.{at_length}
 use Rattle.seat_programs.specs.id_rule.specs.Lawful.{local}
-use Rattle.seat_programs.specs.Asides.{Nothing, Bytes, NoMore, AtEnd, Closed, Broken, call_id, id_slot, id_first}
+use Rattle.seat_programs.specs.Asides.{Nothing, Bytes, NoMore, AtEnd, Closed, Broken}
 use Rattle.seat_programs.specs.Heads.{Head, Exit, Sought, First, Version, Locks, Joins, Opens, Reads, Discards}
 use Rattle.seat_programs.specs.Programs.{Program, Rest, Round}
 use Rattle.seat_programs.specs.Posts.{is_first, is_sought}

@@ -4,10 +4,10 @@ use Rattle.std.specs.Prelude as std
 use mathlib.Core.Option.{some}
 use lib.ListN.{get_elem?}
 use Rattle.sock_words.specs.declared.outcome.Outcome.{Outcome}
-use Rattle.corr_core.specs.Word.{Parts, parts, attempt_of, posted_word, locked_word, unlocked_word}
+use Rattle.corr_core.specs.Word.{Parts, parts, attempt_of, posted_word, locked_word, unlocked_word, call_id, id_slot, id_first}
 use Rattle.corr_core.specs.declared.marks.Plan.{Plan as IdPlan}
 use Rattle.seat_programs.specs.id_rule.specs.Lawful as ids
-use Rattle.seat_programs.specs.Asides.{LockId, PostId, UnlockId, call_id, id_slot, id_first}
+use Rattle.seat_programs.specs.Asides.{LockId, PostId, UnlockId}
 use Rattle.seat_programs.specs.Posts.{packed, advance_of}
 use Rattle.seat_programs.specs.Cores.{Core, SeatState, Calls}
 use Rattle.seat_programs.specs.Beside.{calls_after}

@@ -6,10 +6,9 @@ use native.Mathlib.Decide.{ℕ_discrete}
 use mathlib.Core.Option.{some}
 use lib.ListN.{get_elem?}
 use Rattle.sock_words.specs.declared.outcome.Outcome.{Outcome}
-use Rattle.corr_core.specs.Word.{Parts, parts, attempt_of, locked_word}
+use Rattle.corr_core.specs.Word.{Parts, parts, attempt_of, locked_word, id_slot, id_first}
 use Rattle.corr_core.specs.declared.marks.Plan.{Plan as IdPlan}
 use Rattle.seat_programs.specs.id_rule.specs.Lawful as ids
-use Rattle.seat_programs.specs.Asides.{id_slot, id_first}
 use Rattle.seat_programs.specs.Posts.{is_first}
 use Rattle.seat_programs.specs.Cores.{Core, SeatState, Calls, waiting_at}
 use Rattle.call_owing.specs.Owing.{Duty, Free, Looking, Owing, Among, DutyTo, duty_tokens, with_duty, freed, Posting, posts_on, leaves, has_ended}

@@ -4,10 +4,9 @@ use Rattle.std.specs.Prelude as std
 use mathlib.Core.Option.{some}
 use lib.ListN.{get_elem?}
 use Rattle.sock_words.specs.declared.outcome.Outcome.{Outcome}
-use Rattle.corr_core.specs.Word.{Parts, parts, attempt_of, made_word, unlocked_word, free_word}
+use Rattle.corr_core.specs.Word.{Parts, parts, attempt_of, made_word, unlocked_word, free_word, call_id, id_slot, id_first}
 use Rattle.corr_core.specs.declared.marks.Plan.{Plan as IdPlan}
 use Rattle.seat_programs.specs.id_rule.specs.Lawful as ids
-use Rattle.seat_programs.specs.Asides.{call_id, id_slot, id_first}
 use Rattle.seat_programs.specs.Posts.{advance_of}
 use Rattle.seat_programs.specs.Cores.{Core, SeatState, waiting_at}
 use Rattle.call_owing.specs.Owing.{Duty, Free, Trying, Owing, Among, DutyTo, duty_tokens, with_duty, freed, with_known, with_error, unlocked_by, Ending, ends_other, ends_own, MayUnlock}

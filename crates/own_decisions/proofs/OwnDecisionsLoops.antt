@@ -2,11 +2,11 @@
 use Rattle.std.proofs.Common.{◌≡◌, ◌≢◌, ℕ, ◌+◌, ◌≤◌, ◌⊎◌, inl, inr, not, Bool, true, false, cond, eqb, eqb-true, leb, Option, Some, None, refl, sym, ap, ◌∙◌, subst}
 use Rattle.seat_programs.specs.brpc_model.specs.Frame.{Frame}
 use Rattle.seat_programs.specs.brpc_model.specs.ResponseOutcome.{ending_of}
-use Rattle.corr_core.specs.Word.{Parts, parts, posted_word, unlocked_word, code_of, attempt_of, error_of}
+use Rattle.corr_core.specs.Word.{Parts, parts, posted_word, unlocked_word, code_of, attempt_of, error_of, id_slot, id_first, call_id}
 use Rattle.corr_core.specs.Law.{LAST}
 use Rattle.corr_core.specs.Decisions.{WHOLE, ends_call}
 use Rattle.sock_message.specs.Asked.{Asked}
-use Rattle.seat_programs.specs.Asides.{FreeId, UnlockId, Taking, PutCall, id_slot, id_first, call_id}
+use Rattle.seat_programs.specs.Asides.{FreeId, UnlockId, Taking, PutCall}
 use Rattle.seat_programs.specs.Heads.{Head, Exit, Sought, Version, Reading, Posts, Unlocks, Decides, Locks, Joins, Opens, Reads, Discards, Retry, Posting, WasGone, WasStale, WasCrowded, WasQueued, HasLocked, Unlocking, IsOpen, HasNext, Deciding, HasEnded, GoesOn, Locking, NotThere, Has, Ended}
 use Rattle.seat_programs.specs.Posts.{packed, advance_of, is_first, is_sought, is_stale, is_full, judged, posted, post_with, post, popped, end_id, decide, decided, unlocked, locking}
 use Rattle.seat_programs.specs.Programs.{Program, Say, Aside, Round}

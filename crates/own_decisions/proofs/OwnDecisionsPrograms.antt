@@ -2,7 +2,7 @@
 use Rattle.std.proofs.Common.{◌≡◌, ◌≢◌, ℕ, zero, suc, ◌+◌, ◌-◌, ◌/◌, ◌%◌, ◌≤◌, ◌⊎◌, ◌==◌, ◌&&◌, inl, inr, Bool, true, false, cond, eqb, nat_lt, nat_le, List, [], ◌∷◌, ◌++◌, length, drop, refl, sym, ap, ◌∙◌, subst, arith}
 use Rattle.std.proofs.lemmas.Bool.{true≢false}
 use Rattle.seat_programs.specs.brpc_model.specs.Frame.{Frame}
-use Rattle.sock_words.specs.Words.{socket_id_slot, socket_id_version, vref_version, at_word, at_word_first, at_word_slot, at_word_link, at_word_attempt}
+use Rattle.sock_words.specs.Words.{socket_id_slot, socket_id_version, vref_version, at_word, at_word_first, at_word_slot, at_word_link, at_word_attempt, ticket_generation, ticket_request}
 use Rattle.sock_words.specs.declared.outcome.Outcome.TheVariants as outcomes
 use Rattle.sock_io.specs.declared.link.Put.{Put}
 use Rattle.sock_io.specs.declared.link.Put.TheVariants as puts
@@ -10,15 +10,15 @@ use Rattle.sock_io.specs.declared.link.Ready.{Ready}
 use Rattle.sock_io.specs.declared.link.Ready.TheVariants as asks
 use Rattle.sock_message.specs.Asked.{Asked, frame_of}
 use Rattle.sock_model.specs.declared.chain.Heading.{Heading}
-use Rattle.sock_model.specs.Entries.{generation_of, slot_of, ticket_of}
+use Rattle.sock_model.specs.Entries.{ticket_of}
 use Rattle.sock_model.specs.Memory.{IDLE, UNCONNECTED}
-use Rattle.corr_core.specs.Word.{parts, error_of, attempt_of}
+use Rattle.corr_core.specs.Word.{parts, error_of, attempt_of, call_id, id_slot, id_first}
 use Rattle.corr_core.specs.Decisions.{WHOLE}
 use Rattle.seat_programs.specs.declared.task.Op.{Op}
 use Rattle.seat_programs.specs.declared.task.Op.TheVariants as ops
 use Rattle.seat_programs.specs.declared.task.Sizes.{Sizes}
 use Rattle.seat_programs.specs.declared.task.Task.{Task}
-use Rattle.seat_programs.specs.Asides.{StoreAt, call_id, id_slot, id_first}
+use Rattle.seat_programs.specs.Asides.{StoreAt}
 use Rattle.seat_programs.specs.Attempts.{claims_from, heading_for, attempt, begin_call, claim_id, call, tried_again, retry_locked, retry, expire_outcome, expire, join}
 use Rattle.seat_programs.specs.Calls.{Call, PutMessage, FreeRequest, ReadNext, FindLink, LookWord, ReverseNext, Connect}
 use Rattle.seat_programs.specs.Clients.{HeldLife, held_under, without_name, operation, client_from, ending_of}
@@ -55,13 +55,13 @@ module _ (t : Stand) where
 -- ## Writing
 
 freed_goes : (s : Stand) (now : ℕ) (next : Program) → Aims s next → Aims s (given_back now next)
-freed_goes s now next goes = way s (generation_of now == LAST_GENERATION) next (Do (FreeRequest (slot_of now) (generation_of now)) (λ _. next)) (λ _. goes) (λ _. (tt, λ _ _. (s, inl refl, goes)))
+freed_goes s now next goes = way s (ticket_generation now == LAST_GENERATION) next (Do (FreeRequest (ticket_request now) (ticket_generation now)) (λ _. next)) (λ _. goes) (λ _. (tt, λ _ _. (s, inl refl, goes)))
 
 passed_goes : (s : Stand) (h : Holder) (now : ℕ) (tells : Program → Program) (after : Program) → ((x : Program) → Aims Calm x → Aims s (tells x)) → Aims Calm after → Aims s (passed_telling h now tells after)
 passed_goes s h now tells after told goes = way s (now == h.last) (given_back now (tells (Write (Empties h) after)))
-    (Do (ReadNext (slot_of now)) (λ next. given_back now (tells (TakeMessage (slot_of next) (λ heading bytes. Write (Puts h next heading bytes 0 false) after)))))
+    (Do (ReadNext (ticket_request now)) (λ next. given_back now (tells (TakeMessage (ticket_request next) (λ heading bytes. Write (Puts h next heading bytes 0 false) after)))))
     (λ _. freed_goes s now (tells (Write (Empties h) after)) (told (Write (Empties h) after) (tt, goes)))
-    (λ _. (tt, λ next _. (s, inl refl, freed_goes s now (tells (TakeMessage (slot_of next) (λ heading bytes. Write (Puts h next heading bytes 0 false) after))) (told (TakeMessage (slot_of next) (λ heading bytes. Write (Puts h next heading bytes 0 false) after)) (λ heading bytes. (refl, goes))))))
+    (λ _. (tt, λ next _. (s, inl refl, freed_goes s now (tells (TakeMessage (ticket_request next) (λ heading bytes. Write (Puts h next heading bytes 0 false) after))) (told (TakeMessage (ticket_request next) (λ heading bytes. Write (Puts h next heading bytes 0 false) after)) (λ heading bytes. (refl, goes))))))
 
 -- a message without an owner is nobody's, and the attempt of any other is behind
 tell_goes : (s : Stand) (heading : Heading) (code : ℕ) (x : Program) → s ≡ behind_message heading → Aims Calm x → Aims s (tell_drop heading code x)
@@ -101,9 +101,9 @@ block_goes s (Walks h top at after) then_ g = (
     Calm,
     inr (inl refl),
     way Calm (found == UNCONNECTED) (Write (Walks h top at after) then_)
-        (Do (ReverseNext (slot_of at) after) (λ _. cond (found == h.last) (TakeMessage (slot_of at) (λ heading bytes. Write (Puts (record h { last = top }) at heading bytes 0 false) then_)) (Write (Walks h top found at) then_)))
+        (Do (ReverseNext (ticket_request at) after) (λ _. cond (found == h.last) (TakeMessage (ticket_request at) (λ heading bytes. Write (Puts (record h { last = top }) at heading bytes 0 false) then_)) (Write (Walks h top found at) then_)))
         (λ _. (tt, g.1))
-        (λ _. (tt, λ _ _. (Calm, inl refl, way Calm (found == h.last) (TakeMessage (slot_of at) (λ heading bytes. Write (Puts (record h { last = top }) at heading bytes 0 false) then_)) (Write (Walks h top found at) then_) (λ _. λ heading bytes. (refl, g.1)) (λ _. (tt, g.1))))),
+        (λ _. (tt, λ _ _. (Calm, inl refl, way Calm (found == h.last) (TakeMessage (ticket_request at) (λ heading bytes. Write (Puts (record h { last = top }) at heading bytes 0 false) then_)) (Write (Walks h top found at) then_) (λ _. λ heading bytes. (refl, g.1)) (λ _. (tt, g.1))))),
   ),
 )
 

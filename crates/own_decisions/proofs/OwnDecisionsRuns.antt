@@ -7,7 +7,7 @@ use Rattle.sock_words.specs.declared.plain.Plan.{Plan}
 use Rattle.sock_model.specs.declared.home.Home.TheVariants.{Empty, Link, Message}
 use Rattle.sock_model.specs.declared.view.View.{View}
 use Rattle.sock_model.specs.Weights.{total}
-use Rattle.corr_core.specs.Word.{error_of, attempt_of}
+use Rattle.corr_core.specs.Word.{error_of, attempt_of, call_id, id_slot, id_first}
 use Rattle.corr_core.specs.declared.marks.Plan.{Plan as IdPlan}
 use Rattle.corr_core.specs.Decisions.{WHOLE}
 use Rattle.seat_programs.specs.id_rule.specs.Lawful.{at_index}
@@ -19,7 +19,6 @@ use Rattle.sock_message.specs.Asked.{Asked}
 use Rattle.sock_model.specs.declared.chain.Heading.{Heading}
 use Rattle.seat_programs.specs.declared.task.Sizes.{Sizes}
 use Rattle.seat_programs.specs.declared.task.Task.{Task}
-use Rattle.seat_programs.specs.Asides.{call_id, id_slot, id_first}
 use Rattle.seat_programs.specs.Clients.{client_from}
 use Rattle.seat_programs.specs.Cores.{Core, SeatState, resolved, next_step}
 use Rattle.seat_programs.specs.Programs.{Program, Say, Sent, Keep, Retries}

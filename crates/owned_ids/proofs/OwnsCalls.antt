@@ -8,7 +8,7 @@ use Rattle.sock_words.specs.Words.{socket_id_version, socket_id_slot, vref_versi
 use Rattle.sock_words.specs.declared.outcome.Outcome.TheVariants.{Unopened, Joined, NotBegun}
 use Rattle.sock_model.specs.declared.chain.Heading.{Heading}
 use Rattle.call_owing.specs.Below.sock_steps.proofs.Quiet.{either_way}
-use Rattle.corr_core.specs.Word.{parts, error_of}
+use Rattle.corr_core.specs.Word.{parts, error_of, call_id, id_slot, id_first}
 use Rattle.corr_core.specs.Decisions.{WHOLE}
 use Rattle.seat_programs.specs.brpc_model.specs.Frame.{Frame}
 use Rattle.seat_programs.specs.brpc_model.specs.Order.{EachBefore}
@@ -18,7 +18,7 @@ use Rattle.seat_programs.specs.declared.task.Op.TheVariants as ops
 use Rattle.seat_programs.specs.declared.task.Task.{Task}
 use Rattle.seat_programs.specs.declared.task.Sizes.{Sizes}
 use Rattle.seat_programs.specs.Calls.{Call, ClaimSlot, CreateLife, StoreLink, ResetHead, ClearCode, StoreName, StoreOpen, TakeLink, FinishLink, PutLink, LookWord, FindLink, ClaimRequest, LoadName}
-use Rattle.seat_programs.specs.Asides.{PutCall, LoadCall, StoreAt, LoadAt, call_id, id_slot, id_first}
+use Rattle.seat_programs.specs.Asides.{PutCall, LoadCall, StoreAt, LoadAt}
 use Rattle.seat_programs.specs.Heads.{First, Unlocks, Posting, WasGone, WasStale, WasCrowded, WasQueued, HasLocked, Unlocking, IsOpen, HasNext, Locking, NotThere, Has, Ended}
 use Rattle.seat_programs.specs.Programs.{Program, Do, Say, Rest, Aside, Round, NO_SOCKET, release, address, open_from, make_socket}
 use Rattle.seat_programs.specs.Posts.{post, posted, decided}

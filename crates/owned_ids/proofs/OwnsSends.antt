@@ -1,13 +1,13 @@
 -- Sockets and messages store nothing of a call's own: what holds behind a message that is sent, or behind the loops of whoever writes a link, holds before it.
 use Rattle.std.proofs.Common.{ℕ, zero, suc, ◌+◌, ◌-◌, ◌/◌, ◌%◌, ◌==◌, ◌&&◌, nat_lt, nat_le, Bool, true, false, cond, List, length, drop}
-use Rattle.sock_words.specs.Words.{socket_id_version, socket_id_slot, vref_version, vref_nref}
+use Rattle.sock_words.specs.Words.{socket_id_version, socket_id_slot, vref_version, vref_nref, ticket_request, ticket_generation}
 use Rattle.sock_words.specs.declared.outcome.Outcome.TheVariants.{Unopened, Gone, Full, Held, Freed, Kept}
 use Rattle.sock_io.specs.declared.link.Put.{Put}
 use Rattle.sock_io.specs.declared.link.Put.TheVariants as puts
 use Rattle.sock_io.specs.declared.link.Ready.{Ready}
 use Rattle.sock_io.specs.declared.link.Ready.TheVariants as asks
 use Rattle.sock_model.specs.declared.chain.Heading.{Heading}
-use Rattle.sock_model.specs.Entries.{ticket_of, slot_of, generation_of}
+use Rattle.sock_model.specs.Entries.{ticket_of}
 use Rattle.sock_model.specs.Memory.{IDLE, UNCONNECTED}
 use Rattle.call_owing.specs.Below.sock_steps.proofs.Quiet.{either_way}
 use Rattle.seat_programs.specs.Calls.{AddRef, SubRef, SetOdd, Recycle, FreeSlot, LoadLink, StoreCode, LoadName, LoadOpen, TakeLink, FinishLink, PutLink, LookWord, FindLink, LoadCode, ClaimRequest, PutMessage, Unconnect, SwapHead, Connect, EmptyHead, ReadNext, ReverseNext, FreeRequest, StorePlace, DropPlace}
@@ -51,12 +51,12 @@ module _ (has : ℕ → ℕ) (mine : ℕ → Bool) where
 
   -- one round of whoever writes a link
   freed_goes : (now : ℕ) (next : Program) → G next → G (freed now next)
-  freed_goes now next after = either_way (generation_of now == LAST_GENERATION) _ _ G after (step has mine (FreeRequest (slot_of now) (generation_of now)) _ (λ _. after))
+  freed_goes now next after = either_way (ticket_generation now == LAST_GENERATION) _ _ G after (step has mine (FreeRequest (ticket_request now) (ticket_generation now)) _ (λ _. after))
 
   passed_goes : (h : Holder) (now : ℕ) (tells : Program → Program) → ((x : Program) → G x → G (tells x)) → (next : Program) → G next → G (passed_telling h now tells next)
   passed_goes h now tells told next after = either_way (now == h.last) _ _ G (freed_goes now (tells (Write (Empties h) next)) (told (Write (Empties h) next) (write has mine (Empties h) next after)))
-      (step has mine (ReadNext (slot_of now)) _ (λ found. freed_goes now (tells (TakeMessage (slot_of found) (λ heading bytes. Write (Puts h found heading bytes 0 false) next)))
-      (told (TakeMessage (slot_of found) (λ heading bytes. Write (Puts h found heading bytes 0 false) next)) (message has mine (slot_of found) _ (λ heading bytes. write has mine (Puts h found heading bytes 0 false) next after)))))
+      (step has mine (ReadNext (ticket_request now)) _ (λ found. freed_goes now (tells (TakeMessage (ticket_request found) (λ heading bytes. Write (Puts h found heading bytes 0 false) next)))
+      (told (TakeMessage (ticket_request found) (λ heading bytes. Write (Puts h found heading bytes 0 false) next)) (message has mine (ticket_request found) _ (λ heading bytes. write has mine (Puts h found heading bytes 0 false) next after)))))
 
   tell_goes : (heading : Heading) (c : ℕ) (next : Program) → G next → G (tell_drop heading c next)
   tell_goes heading c next after = either_way (heading.owner == 0) _ _ G after (post_goes has mine heading.owner (cond (c == 0) 1009 c) heading.attempt next after)
@@ -86,9 +86,9 @@ module _ (has : ℕ → ℕ) (mine : ℕ → Bool) where
   block_goes (Waits h now heading left taken) next after = ask has mine h.link (ready_answered h now heading left taken next) (ready_goes h now heading left taken next after)
   block_goes (Empties h) next after = puts_home has mine h.link h.places _ (step has mine (EmptyHead (socket_id_slot h.id) h.last) _ (λ found. either_way (found == h.last) _ _ G after
       (home has mine h.link _ (λ places. write has mine (Walks (record h { places = places }) found found 0) next after))))
-  block_goes (Walks h top at after_) next after = step has mine (ReadNext (slot_of at)) _ (λ found. either_way (found == UNCONNECTED) _ _ G (write has mine (Walks h top at after_) next after)
-      (step has mine (ReverseNext (slot_of at) after_) _ (λ _. either_way (found == h.last) _ _ G
-      (message has mine (slot_of at) _ (λ heading bytes. write has mine (Puts (record h { last = top }) at heading bytes 0 false) next after)) (write has mine (Walks h top found at) next after))))
+  block_goes (Walks h top at after_) next after = step has mine (ReadNext (ticket_request at)) _ (λ found. either_way (found == UNCONNECTED) _ _ G (write has mine (Walks h top at after_) next after)
+      (step has mine (ReverseNext (ticket_request at) after_) _ (λ _. either_way (found == h.last) _ _ G
+      (message has mine (ticket_request at) _ (λ heading bytes. write has mine (Puts (record h { last = top }) at heading bytes 0 false) next after)) (write has mine (Walks h top found at) next after))))
 
   -- a message that is sent
   pub first_put_goes : (h : Holder) (now : ℕ) (heading : Heading) (bytes : List ℕ) (next : Program) → G next → G (first_put h now heading bytes next)

@@ -17,7 +17,6 @@ use Rattle.sock_model.specs.Marks.{at, without_at}
 use Rattle.sock_model.specs.Weights.{total, is_linked, is_stage}
 use Rattle.sock_model.specs.Layout.{all_words, open_index}
 use Rattle.sock_model.specs.SlotRows.{marks_of}
-use Rattle.sock_model.specs.Slots.{version_of}
 use Rattle.corr_core.specs.declared.marks.Plan.{Plan as IdPlan}
 use Rattle.call_owing.specs.Below.programs_allowed.specs.slot_steps.proofs.Sums.{about-here}
 use Rattle.call_owing.specs.Below.programs_allowed.specs.slot_steps.proofs.Numbers.{pair-same}
@@ -230,7 +229,7 @@ module _ (p : Plan) (own : ℕ → ℕ → Type 0) (c : Core) (vs : List View) (
         -- the new life's link is noted
         noted : 0 < marks_of (is_linked (vref_version found) k) a w
         noted = subst (λ (x : Call). 0 < marks_of (is_linked (vref_version found) k) a (row p x found (hand_at p c.words c.homes call) v)) (sym made)
-            (let h : ℕ = version_of found in let left = without_at a (is_stage 3 k) v.marks in
+            (let h : ℕ = vref_version found in let left = without_at a (is_stage 3 k) v.marks in
             omega (
               arith,
               ap (total (is_linked h k)) (about-here a (Known h) (at a (Born h) ∷ at a (Linked h k) ∷ left)),

@@ -23,8 +23,8 @@ use Rattle.seat_programs.specs.Heads.{Head, Exit, Posts, Unlocks, Decides, Locks
 use Rattle.seat_programs.specs.Rounds.{round}
 use Rattle.seat_programs.specs.Beside.{found_in, more_given, calls_after}
 use Rattle.program_steps.specs.Fits.{FitsFound}
-use Rattle.seat_programs.specs.corr_core.specs.Word.{parts, code_of}
-use Rattle.seat_programs.specs.Asides.{PutCall, TakeBytes, Taking, Bytes, id_slot}
+use Rattle.seat_programs.specs.corr_core.specs.Word.{parts, code_of, id_slot}
+use Rattle.seat_programs.specs.Asides.{PutCall, TakeBytes, Taking, Bytes}
 use Rattle.seat_programs.specs.corr_core.specs.Decisions.{ends_call}
 use Rattle.seat_programs.specs.Heads.{HasEnded}
 use Rattle.seat_programs.specs.Posts.{end_id, unlocked}

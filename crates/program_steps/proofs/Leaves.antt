@@ -12,7 +12,6 @@ use Rattle.sock_model.specs.declared.view.View.{View}
 use Rattle.sock_model.specs.declared.view.Hand.{Hand}
 use Rattle.sock_model.specs.Marks.{at}
 use Rattle.sock_model.specs.Memory.{IDLE, UNCONNECTED}
-use Rattle.sock_model.specs.Slots.{version_of}
 use Rattle.sock_model.specs.Weights.{total, only}
 use Rattle.sock_model.specs.SlotRows.{met, looked, told_code, met_link}
 use Rattle.sock_model.specs.ChainRows.{with_hand, spent_hand, with_claim, queued, righted, with_right, without_right, turned_right, placed_right, dropped_right}
@@ -169,8 +168,8 @@ module _ (p : Plan) (v : View) (found : ℕ) (hand : Hand) (Q : List SlotMark �
   found_marks = let i : ℕ = socket_id_slot (found - 1) in let h : ℕ = socket_id_version (found - 1) in either_way (is_id found) (met i h v) v P (known i h) same
 
   pub noting_marks : (call : Call) → is_noting call ≡ true → Q (row p call found hand v).marks
-  noting_marks (LookWord id) is = right_way P v.rights (looked_clean (socket_id_slot id) found v) (looked (socket_id_slot id) found v) (saw (socket_id_slot id) (version_of found))
-      (λ r. either_way (vref_version found % 2 == 0) (with_right (looked (socket_id_slot id) found v) (record r { clean = true })) (looked (socket_id_slot id) found v) P (saw (socket_id_slot id) (version_of found)) (saw (socket_id_slot id) (version_of found)))
+  noting_marks (LookWord id) is = right_way P v.rights (looked_clean (socket_id_slot id) found v) (looked (socket_id_slot id) found v) (saw (socket_id_slot id) (vref_version found))
+      (λ r. either_way (vref_version found % 2 == 0) (with_right (looked (socket_id_slot id) found v) (record r { clean = true })) (looked (socket_id_slot id) found v) P (saw (socket_id_slot id) (vref_version found)) (saw (socket_id_slot id) (vref_version found)))
   noting_marks (LoadLink i w) is = met_ i (w - 2) found
   noting_marks (FindLink i h) is = met_ i h found
   noting_marks (LoadCode i h) is = either_way (found == 0) v (told_code i h found v) P same (told i h found (h + 1))

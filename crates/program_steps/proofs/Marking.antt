@@ -10,7 +10,6 @@ use Rattle.sock_model.specs.declared.view.View.{View}
 use Rattle.sock_model.specs.declared.view.Hand.{Hand}
 use Rattle.sock_model.specs.Weights.{is_stage, is_recycling, is_zero, is_coding}
 use Rattle.sock_model.specs.Marks.{at, without_at}
-use Rattle.sock_model.specs.Slots.{version_of}
 use Rattle.sock_steps.specs.slot_steps.proofs.Slots.{stage_is, any_recycled, zero_is}
 use Rattle.sock_steps.proofs.Quiet.{either_way}
 use Rattle.seat_programs.specs.Calls.{Call, ClaimSlot, CreateLife, AddRef, SubRef, SetOdd, Recycle, FreeSlot, StoreLink, ResetHead, ClearCode, StoreCode}
@@ -51,12 +50,12 @@ module _ (p : Plan) (v : View) (found : ℕ) (hand : Hand) (Q : List SlotMark �
   marks_way (CreateLife i k) other = absurd (true≢false other)
   marks_way (SubRef i) other = absurd (true≢false other)
   marks_way (ClaimSlot i) other = put i (cond (found == 0) (Claimed 0 0) Tried) v.marks (either_way (found == 0) (Claimed 0 0) Tried (λ m. is_of_birth m ≡ false) refl refl) same
-  marks_way (AddRef id) other = let i : ℕ = socket_id_slot id in let g : ℕ = version_of found in let own : Bool = vref_version found == socket_id_version id in
+  marks_way (AddRef id) other = let i : ℕ = socket_id_slot id in let g : ℕ = vref_version found in let own : Bool = vref_version found == socket_id_version id in
       put i (cond own (Hold g) Probe) (at i (Saw g) ∷ v.marks) (either_way own (Hold g) Probe (λ m. is_of_birth m ≡ false) refl refl) (put i (Saw g) v.marks refl same)
-  marks_way (SetOdd i) other = let w : ℕ = version_of found in let saw : List SlotMark = at i (Saw (w + 1)) ∷ v.marks in let failer : List SlotMark = at i (Failer w) ∷ at i (Saw (w + 1)) ∷ v.marks in
+  marks_way (SetOdd i) other = let w : ℕ = vref_version found in let saw : List SlotMark = at i (Saw (w + 1)) ∷ v.marks in let failer : List SlotMark = at i (Failer w) ∷ at i (Saw (w + 1)) ∷ v.marks in
       either_way (w % 2 == 0) (at i (Hold w) ∷ at i (Coding w) ∷ failer) (at i (Saw w) ∷ v.marks) Q
       (put i (Hold w) (at i (Coding w) ∷ failer) refl (put i (Coding w) failer refl (put i (Failer w) saw refl (put i (Saw (w + 1)) v.marks refl same)))) (put i (Saw w) v.marks refl same)
-  marks_way (Recycle i from) other = let w : ℕ = version_of from in let left : List SlotMark = without_at i (is_zero w) v.marks in let zero_out = take_ i (is_zero w) (λ x some_. ap is_taken (zero_is w x some_)) in
+  marks_way (Recycle i from) other = let w : ℕ = vref_version from in let left : List SlotMark = without_at i (is_zero w) v.marks in let zero_out = take_ i (is_zero w) (λ x some_. ap is_taken (zero_is w x some_)) in
       either_way (found == from) (at i (Recycling (w + 1)) ∷ at i (Freer (w - 1)) ∷ left) left Q (put i (Recycling (w + 1)) (at i (Freer (w - 1)) ∷ left) refl (put i (Freer (w - 1)) left refl zero_out)) zero_out
   marks_way (FreeSlot i) other = take_ i is_recycling (λ x some_. ap is_taken (any_recycled x some_).1)
   marks_way (StoreLink i k) other = put i (Claimed 1 k) (without_at i (is_stage 0 0) v.marks) refl (out i 0 0)

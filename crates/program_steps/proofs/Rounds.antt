@@ -8,7 +8,7 @@ use mathlib.Core.Logic.{dite}
 use native.Mathlib.Decide.{ℕ_discrete}
 use lib.ListN.{get_elem?}
 use Rattle.sock_words.specs.declared.plain.Plan.{Plan}
-use Rattle.sock_words.specs.Words.{socket_id_version, socket_id_slot, vref_version, vref_nref}
+use Rattle.sock_words.specs.Words.{socket_id_version, socket_id_slot, vref_version, vref_nref, ticket_request, ticket_generation}
 use Rattle.seat_programs.specs.sock_io.specs.declared.link.Put.{Put}
 use Rattle.seat_programs.specs.sock_io.specs.declared.link.Put.TheVariants as puts
 use Rattle.seat_programs.specs.sock_io.specs.declared.link.Ready.{Ready}
@@ -31,7 +31,6 @@ use Rattle.seat_programs.specs.Ticks.{FitsPut}
 use Rattle.sock_steps.specs.slot_steps.proofs.Sums.{total_mono, about-here}
 use Rattle.sock_steps.specs.slot_steps.proofs.Numbers.{only-same, only-else}
 use Rattle.sock_steps.specs.slot_steps.proofs.Slots.{hold_ref}
-use Rattle.sock_model.specs.Entries.{slot_of, generation_of}
 use Rattle.sock_model.specs.Memory.{UNCONNECTED}
 use Rattle.seat_programs.specs.Calls.{StoreCode, SubRef, ReadNext, FreeRequest, DropPlace, EmptyHead, ReverseNext}
 use Rattle.seat_programs.specs.Parts.{room_of_part}
@@ -267,7 +266,7 @@ not_equal a b is e = true≢false (sym (eq-eqb a b e) ∙ sym is)
 module _ (p : Plan) (after : Program) where
   -- the message that follows is taken, and the loop goes on with it
   takes_next : (v : View) (h : Holder) (r : Right) (now : ℕ) → IsHolder p v h r → r.stage ≡ stages.Writes now → r.taken ≡ false → r.put ≡ 0 → Follows p v after
-      → GoesOn p v (TakeMessage (slot_of now) (λ heading bytes. Write (Puts h now heading bytes 0 false) after))
+      → GoesOn p v (TakeMessage (ticket_request now) (λ heading bytes. Write (Puts h now heading bytes 0 false) after))
   takes_next v h r now a stage none_ put follows = (
     (r, now, a.one, stage, none_, refl, put),
     λ heading bytes inside some_. let s : Right = taken_right r heading bytes in
@@ -284,23 +283,23 @@ module _ (p : Plan) (after : Program) where
     restaged : (b d : Stage) → IsHolder p (with_right (with_right v (record s { stage = b })) (record s { stage = d })) h (record s { stage = d })
     restaged b d = holder h (changed (record s { stage = d }) (keeps (staged b)) link) last places away
 
-    next_branch : (next : ℕ) (b : Bool) → b ≡ eqb (generation_of now) LAST_GENERATION → (w : View) (t : Right) → IsHolder p w h t → t.taken ≡ false → t.put ≡ 0 → Follows p w after
+    next_branch : (next : ℕ) (b : Bool) → b ≡ eqb (ticket_generation now) LAST_GENERATION → (w : View) (t : Right) → IsHolder p w h t → t.taken ≡ false → t.put ≡ 0 → Follows p w after
         → GoesOn p (with_right w (record t { stage = cond b (stages.Writes next) (stages.Passes now next) }))
-        (cond b (tells (TakeMessage (slot_of next) (λ heading bytes. Write (Puts h next heading bytes 0 false) after)))
-        (Do (FreeRequest (slot_of now) (generation_of now)) (λ _. tells (TakeMessage (slot_of next) (λ heading bytes. Write (Puts h next heading bytes 0 false) after)))))
+        (cond b (tells (TakeMessage (ticket_request next) (λ heading bytes. Write (Puts h next heading bytes 0 false) after)))
+        (Do (FreeRequest (ticket_request now) (ticket_generation now)) (λ _. tells (TakeMessage (ticket_request next) (λ heading bytes. Write (Puts h next heading bytes 0 false) after)))))
     next_branch next true is w t c none_ unput follows = let x : Right = record t { stage = stages.Writes next } in
-        tells_go (with_right w x) (TakeMessage (slot_of next) (λ heading bytes. Write (Puts h next heading bytes 0 false) after)) (takes_next (with_right w x) h x next (holder h (changed x (keeps c) c.link) c.last c.places c.away) refl none_ unput follows)
+        tells_go (with_right w x) (TakeMessage (ticket_request next) (λ heading bytes. Write (Puts h next heading bytes 0 false) after)) (takes_next (with_right w x) h x next (holder h (changed x (keeps c) c.link) c.last c.places c.away) refl none_ unput follows)
     next_branch next false is w t c none_ unput follows = let x : Right = record t { stage = stages.Passes now next } in let u : View = with_right w x in
         let d : IsHolder p u h x = holder h (changed x (keeps c) c.link) c.last c.places c.away in let y : Right = record x { stage = stages.Writes next } in (
           (now, refl, refl, not_equal _ _ is, (x, d.one, inr (next, refl))),
           λ found hand f.
-              by_one p u x (λ r. with_right u (record r { stage = freed_stage r.stage })) u (tells (TakeMessage (slot_of next) (λ heading bytes. Write (Puts h next heading bytes 0 false) after))) d.one
-              (tells_go (with_right u y) (TakeMessage (slot_of next) (λ heading bytes. Write (Puts h next heading bytes 0 false) after)) (takes_next (with_right u y) h y next (holder h (changed y (keeps d) d.link) d.last d.places d.away) refl none_ unput follows)),
+              by_one p u x (λ r. with_right u (record r { stage = freed_stage r.stage })) u (tells (TakeMessage (ticket_request next) (λ heading bytes. Write (Puts h next heading bytes 0 false) after))) d.one
+              (tells_go (with_right u y) (TakeMessage (ticket_request next) (λ heading bytes. Write (Puts h next heading bytes 0 false) after)) (takes_next (with_right u y) h y next (holder h (changed y (keeps d) d.link) d.last d.places d.away) refl none_ unput follows)),
         )
 
-    passed_branch : (b d : Bool) → b ≡ eqb now h.last → d ≡ eqb (generation_of now) LAST_GENERATION → GoesOn p (with_right v (record s { stage = cond (b && d) stages.Empties (stages.Placed now) }))
-        (cond b (cond d (tells (Write (Empties h) after)) (Do (FreeRequest (slot_of now) (generation_of now)) (λ _. tells (Write (Empties h) after))))
-        (Do (ReadNext (slot_of now)) (λ next. freed now (tells (TakeMessage (slot_of next) (λ heading bytes. Write (Puts h next heading bytes 0 false) after))))))
+    passed_branch : (b d : Bool) → b ≡ eqb now h.last → d ≡ eqb (ticket_generation now) LAST_GENERATION → GoesOn p (with_right v (record s { stage = cond (b && d) stages.Empties (stages.Placed now) }))
+        (cond b (cond d (tells (Write (Empties h) after)) (Do (FreeRequest (ticket_request now) (ticket_generation now)) (λ _. tells (Write (Empties h) after))))
+        (Do (ReadNext (ticket_request now)) (λ next. freed now (tells (TakeMessage (ticket_request next) (λ heading bytes. Write (Puts h next heading bytes 0 false) after))))))
     passed_branch true true is is₁ = tells_go (with_right v (record s { stage = stages.Empties })) (Write (Empties h) after) ((record s { stage = stages.Empties }, staged stages.Empties, record { stage_is = refl; none_ = none_; put = put }), follows)
     passed_branch true false is is₁ = let x : Right = record s { stage = stages.Placed now } in let u : View = with_right v x in (
       (now, refl, refl, not_equal _ _ is₁, (x, (staged (stages.Placed now)).one, inl (refl, eqb-true now h.last (sym is) ∙ sym last))),
@@ -309,13 +308,13 @@ module _ (p : Plan) (after : Program) where
     )
     passed_branch false d is is₁ = let x : Right = record s { stage = stages.Placed now } in let u : View = with_right v x in (
       (x, (staged (stages.Placed now)).one, inl (now, refl, (λ e. not_equal now h.last is (e ∙ last)), refl)),
-      λ found hand f. by_one p u x (λ r. read_next found u r r.stage) u (freed now (tells (TakeMessage (slot_of found) (λ heading bytes. Write (Puts h found heading bytes 0 false) after)))) (staged (stages.Placed now)).one
-          (next_branch found (eqb (generation_of now) LAST_GENERATION) refl u x (staged (stages.Placed now)) none_ put follows),
+      λ found hand f. by_one p u x (λ r. read_next found u r r.stage) u (freed now (tells (TakeMessage (ticket_request found) (λ heading bytes. Write (Puts h found heading bytes 0 false) after)))) (staged (stages.Placed now)).one
+          (next_branch found (eqb (ticket_generation now) LAST_GENERATION) refl u x (staged (stages.Placed now)) none_ put follows),
     )
 
     pub passed_goes : s.stage ≡ stages.Placed now → GoesOn p (with_right v (settled s)) (passed_telling h now tells after)
     passed_goes stage = subst (λ b. GoesOn p (with_right v (record s { stage = settled_stage s.last b })) (passed_telling h now tells after)) (sym stage)
-        (subst (λ l. GoesOn p (with_right v (record s { stage = settled_stage l (stages.Placed now) })) (passed_telling h now tells after)) (sym last) (passed_branch (eqb now h.last) (eqb (generation_of now) LAST_GENERATION) refl refl))
+        (subst (λ l. GoesOn p (with_right v (record s { stage = settled_stage l (stages.Placed now) })) (passed_telling h now tells after)) (sym last) (passed_branch (eqb now h.last) (eqb (ticket_generation now) LAST_GENERATION) refl refl))
 
 -- ## The message in hand
 
@@ -533,7 +532,7 @@ module _ (p : Plan) (after : Program) (v : View) (h : Holder) (r : Right) (a : I
     -- the walk turned the entry, and has come to that behind the last one noted, or to the next
     turned_branch : (u : View) (t : Right) (found : ℕ) (b : Bool) → Keeps p u h.id h.link t → t.last ≡ h.last → t.places ≡ h.places → t.at_home ≡ false → t.taken ≡ false → t.put ≡ 0 → Follows p u after
         → GoesOn p (with_right u (cond b (record t { last = top; stage = stages.Writes place; turned = 0; noted = t.noted + suc t.turned }) (record t { stage = stages.Walks top found place; turned = suc t.turned })))
-        (cond b (TakeMessage (slot_of place) (λ heading bytes. Write (Puts (record h { last = top }) place heading bytes 0 false) after)) (Write (Walks h top found place) after))
+        (cond b (TakeMessage (ticket_request place) (λ heading bytes. Write (Puts (record h { last = top }) place heading bytes 0 false) after)) (Write (Walks h top found place) after))
     turned_branch u t found true c last places away none_ put follows = let x : Right = record t { last = top; stage = stages.Writes place; turned = 0; noted = t.noted + suc t.turned } in
         takes_next p after (with_right u x) (record h { last = top }) x place (holder (record h { last = top }) (changed x c c.link) refl places away) refl none_ put follows
     turned_branch u t found false c last places away none_ put follows = let x : Right = record t { stage = stages.Walks top found place; turned = suc t.turned } in
@@ -541,10 +540,10 @@ module _ (p : Plan) (after : Program) (v : View) (h : Holder) (r : Right) (a : I
 
     read_branch : IsBetween r (stages.Walks top place successor) → (found : ℕ) (b : Bool) → GoesOn p (cond b v (with_right v (record r { stage = stages.Turns top place successor found })))
         (cond b (Write (Walks h top place successor) after)
-        (Do (ReverseNext (slot_of place) successor) (λ _. cond (eqb found h.last) (TakeMessage (slot_of place) (λ heading bytes. Write (Puts (record h { last = top }) place heading bytes 0 false) after)) (Write (Walks h top found place) after))))
+        (Do (ReverseNext (ticket_request place) successor) (λ _. cond (eqb found h.last) (TakeMessage (ticket_request place) (λ heading bytes. Write (Puts (record h { last = top }) place heading bytes 0 false) after)) (Write (Walks h top found place) after))))
     read_branch b found true = ((r, a, b), follows)
     read_branch b found false = let t : Right = record r { stage = stages.Turns top place successor found } in let u : View = with_right v t in let c : Keeps p u h.id h.link t = changed t (keeps a) a.link in
-        let next : Program = cond (eqb found h.last) (TakeMessage (slot_of place) (λ heading bytes. Write (Puts (record h { last = top }) place heading bytes 0 false) after)) (Write (Walks h top found place) after) in (
+        let next : Program = cond (eqb found h.last) (TakeMessage (ticket_request place) (λ heading bytes. Write (Puts (record h { last = top }) place heading bytes 0 false) after)) (Write (Walks h top found place) after) in (
           (record { mine = record { right = t; place = 0; has = ap (λ (rs : List Right). get_elem? rs 0) c.one }; top = top; at = place; before = found; stage = refl }, c.one, refl),
           λ word hand f. by_one p u t (λ r. turned_next u r r.stage) u next c.one
               (subst (λ l. GoesOn p (with_right u (cond (eqb found l) (record t { last = top; stage = stages.Writes place; turned = 0; noted = t.noted + suc t.turned }) (record t { stage = stages.Walks top found place; turned = suc t.turned }))) next) (sym a.last)
@@ -553,7 +552,7 @@ module _ (p : Plan) (after : Program) (v : View) (h : Holder) (r : Right) (a : I
 
     walks_round : IsBetween r (stages.Walks top place successor) → GoesOn p v (block (Walks h top place successor) after)
     walks_round b = let next : ℕ → Program = λ found. cond (eqb found UNCONNECTED) (Write (Walks h top place successor) after)
-        (Do (ReverseNext (slot_of place) successor) (λ _. cond (eqb found h.last) (TakeMessage (slot_of place) (λ heading bytes. Write (Puts (record h { last = top }) place heading bytes 0 false) after)) (Write (Walks h top found place) after))) in (
+        (Do (ReverseNext (ticket_request place) successor) (λ _. cond (eqb found h.last) (TakeMessage (ticket_request place) (λ heading bytes. Write (Puts (record h { last = top }) place heading bytes 0 false) after)) (Write (Walks h top found place) after))) in (
           (r, a.one, inr (top, place, successor, b.stage_is, refl)),
           λ found hand f. by_one p v r (λ r. read_next found v r r.stage) v (next found) a.one (subst (λ x. GoesOn p (read_next found v r x) (next found)) (sym b.stage_is) (read_branch b found (eqb found UNCONNECTED))),
         )

@@ -24,9 +24,9 @@ use Rattle.seat_programs.specs.Calls.{Call, PutMessage, SwapHead, ReverseNext}
 use Rattle.seat_programs.specs.Cores.{Core, SeatState}
 use Rattle.seat_programs.specs.Writings.{Holder, Writing, Puts, Waits, Empties, Walks}
 use Rattle.seat_programs.specs.Programs.{Program, Do, Say, Sent, Rest, TakeMessage, TakeHome, PutHome, PutBytes, AskReady, Write, Aside, Round, Keep, Retries}
-use Rattle.seat_programs.specs.corr_core.specs.Word.{Parts, parts}
+use Rattle.seat_programs.specs.corr_core.specs.Word.{Parts, parts, id_slot}
 use Rattle.seat_programs.specs.id_rule.specs.Lawful.{id_index}
-use Rattle.seat_programs.specs.Asides.{Step, Found, MakeId, StoreAt, LoadIdWord, LockId, PostId, UnlockId, EndId, id_slot}
+use Rattle.seat_programs.specs.Asides.{Step, Found, MakeId, StoreAt, LoadIdWord, LockId, PostId, UnlockId, EndId}
 use Rattle.seat_programs.specs.Beside.{found_in}
 use Rattle.seat_programs.specs.Posts.{advance_of}
 use Rattle.seat_programs.specs.Heads.{Head, Exit, Retry, Posts, Unlocks, Decides, Locks, Joins, Opens, Reads, Discards, Unlocking, IsOpen, HasNext}

@@ -1,7 +1,7 @@
 -- What the view of whoever writes a link says before a move or a put, and at the head of each loop.
 use Rattle.std.specs.Prelude.{ℕ, ◌≡◌, ◌≢◌, ◌*◌, ◌<◌, Bool, true, false, List, [], ◌∷◌, ◌++◌, drop}
 use Rattle.std.specs.List.{AllByRecursion}
-use Rattle.sock_words.specs.Words.{socket_id_version, socket_id_slot}
+use Rattle.sock_words.specs.Words.{socket_id_version, socket_id_slot, ticket_request}
 use Rattle.sock_words.specs.declared.plain.Plan.{Plan}
 use Rattle.sock_model.specs.declared.chain.Heading.{Heading}
 use Rattle.sock_model.specs.declared.chain.Right.{Right}
@@ -13,7 +13,6 @@ use Rattle.sock_model.specs.declared.marks.SlotMark.{SlotMark}
 use Rattle.sock_model.specs.declared.view.View.{View}
 use Rattle.sock_model.specs.Weights.{is_ref, is_probe, is_any_coding}
 use Rattle.sock_model.specs.SlotRows.{marks_of}
-use Rattle.sock_model.specs.Entries.{slot_of}
 use Rattle.sock_model.specs.Links.{HoldsLink}
 use Rattle.seat_programs.specs.Writings.{Holder, Writing, Puts, Waits, Empties, Walks}
 
@@ -21,7 +20,7 @@ use Rattle.seat_programs.specs.Writings.{Holder, Writing, Puts, Waits, Empties, 
 
 -- its one right is at a message that is not in hand, that of request q, and the link took nothing since one last got its place
 abbrev pub MayTakeMessage : View → ℕ → Type 0
-MayTakeMessage v q = (r : Right) × (now : ℕ) × (v.rights ≡ r ∷ []) × (r.stage ≡ stages.Writes now) × (r.taken ≡ false) × (slot_of now ≡ q) × (r.put ≡ 0)
+MayTakeMessage v q = (r : Right) × (now : ℕ) × (v.rights ≡ r ∷ []) × (r.stage ≡ stages.Writes now) × (r.taken ≡ false) × (ticket_request now ≡ q) × (r.put ≡ 0)
 
 -- its one right is to write link k, which is at home or in hand
 abbrev pub Writes : View → ℕ → Bool → Right → Type 0

@@ -12,11 +12,11 @@ use Rattle.seat_programs.specs.sock_io.specs.declared.link.Put.{Put}
 use Rattle.seat_programs.specs.sock_io.specs.declared.link.Ready.{Ready}
 use Rattle.sock_model.specs.declared.chain.Heading.{Heading}
 use Rattle.sock_steps.proofs.Quiet.{either_way}
-use Rattle.seat_programs.specs.corr_core.specs.Word.{parts}
+use Rattle.seat_programs.specs.corr_core.specs.Word.{parts, id_slot}
 use Rattle.seat_programs.specs.sock_message.specs.Asked.{Asked}
 use Rattle.seat_programs.specs.Calls.{Call, CreateLife, StoreOpen, AddRef, SubRef, SetOdd, Recycle, FreeSlot, LoadLink, StoreCode, LoadName, LoadOpen, TakeLink, FinishLink, PutLink, LookWord, ClaimRequest, PutMessage, SwapHead, EmptyHead}
 use Rattle.seat_programs.specs.Writings.{Writing}
-use Rattle.seat_programs.specs.Asides.{Step, Found, PutCall, StoreAt, LoadIdWord, LockId, UnlockId, EndId, FreeId, TakeCall, TakeBytes, Taking, id_slot}
+use Rattle.seat_programs.specs.Asides.{Step, Found, PutCall, StoreAt, LoadIdWord, LockId, UnlockId, EndId, FreeId, TakeCall, TakeBytes, Taking}
 use Rattle.seat_programs.specs.Heads.{Head, Exit, Retry, Sought, Reading, Ended, Posts, Unlocks, Decides, Locks, Joins, Opens, Reads, Discards, Posting, Unlocking, Deciding, Locking}
 use Rattle.seat_programs.specs.Programs.{Program, Do, Say, Sent, TakeMessage, TakeHome, PutHome, PutBytes, AskReady, Write, Aside, Round, Keep, Retries, LAST_VERSION, recycle, release, address, reach, set_failed, fail, fail_outcome, hold, drop_held}
 use Rattle.seat_programs.specs.Readers.{ended_by}

@@ -1,13 +1,13 @@
 -- What holds behind a message that is sent, or behind the loops of whoever writes a link, holds before it.
 use Rattle.std.proofs.Common.{ℕ, zero, suc, ◌+◌, ◌-◌, ◌/◌, ◌%◌, ◌==◌, nat_lt, nat_le, true, false, cond, List, [], ◌∷◌, length, drop, refl}
-use Rattle.sock_words.specs.Words.{socket_id_version, socket_id_slot, vref_version}
+use Rattle.sock_words.specs.Words.{socket_id_version, socket_id_slot, vref_version, ticket_request, ticket_generation}
 use Rattle.sock_words.specs.declared.outcome.Outcome.TheVariants.{Unopened, Gone, Full}
 use Rattle.seat_programs.specs.sock_io.specs.declared.link.Put.{Put}
 use Rattle.seat_programs.specs.sock_io.specs.declared.link.Put.TheVariants as puts
 use Rattle.seat_programs.specs.sock_io.specs.declared.link.Ready.{Ready}
 use Rattle.seat_programs.specs.sock_io.specs.declared.link.Ready.TheVariants as asks
 use Rattle.sock_model.specs.declared.chain.Heading.{Heading}
-use Rattle.sock_model.specs.Entries.{ticket_of, slot_of, generation_of}
+use Rattle.sock_model.specs.Entries.{ticket_of}
 use Rattle.sock_model.specs.Memory.{IDLE, UNCONNECTED}
 use Rattle.sock_steps.proofs.Quiet.{either_way}
 use Rattle.seat_programs.specs.Calls.{LookWord, FindLink, LoadCode, ClaimRequest, PutMessage, Unconnect, SwapHead, Connect, ReadNext, ReverseNext, FreeRequest, StorePlace, DropPlace}
@@ -22,12 +22,12 @@ use Rattle.program_walks.proofs.ThroughLoops.{through_post}
 module _ (G H : Program → Type 0) (g : PassesPlain G) (l : PassesLinks G H) where
   -- one round of whoever writes a link
   through_freed : (now : ℕ) (next : Program) → G next → G (freed now next)
-  through_freed now next after = either_way (generation_of now == LAST_GENERATION) _ _ G after (g.words.step (FreeRequest (slot_of now) (generation_of now)) _ refl (λ _. after))
+  through_freed now next after = either_way (ticket_generation now == LAST_GENERATION) _ _ G after (g.words.step (FreeRequest (ticket_request now) (ticket_generation now)) _ refl (λ _. after))
 
   through_passed : (h : Holder) (now : ℕ) (tells : Program → Program) → ((x : Program) → G x → G (tells x)) → (next : Program) → H next → G (passed_telling h now tells next)
   through_passed h now tells told next after = either_way (now == h.last) _ _ G (through_freed now (tells (Write (Empties h) next)) (told (Write (Empties h) next) (l.write (Empties h) next after)))
-      (g.words.step (ReadNext (slot_of now)) _ refl (λ found. through_freed now (tells (TakeMessage (slot_of found) (λ heading bytes. Write (Puts h found heading bytes 0 false) next)))
-      (told (TakeMessage (slot_of found) (λ heading bytes. Write (Puts h found heading bytes 0 false) next)) (l.message (slot_of found) _ (λ heading bytes. l.write (Puts h found heading bytes 0 false) next after)))))
+      (g.words.step (ReadNext (ticket_request now)) _ refl (λ found. through_freed now (tells (TakeMessage (ticket_request found) (λ heading bytes. Write (Puts h found heading bytes 0 false) next)))
+      (told (TakeMessage (ticket_request found) (λ heading bytes. Write (Puts h found heading bytes 0 false) next)) (l.message (ticket_request found) _ (λ heading bytes. l.write (Puts h found heading bytes 0 false) next after)))))
 
   through_tell : (heading : Heading) (c : ℕ) (next : Program) → G next → G (tell_drop heading c next)
   through_tell heading c next after = either_way (heading.owner == 0) _ _ G after (through_post G g.errors heading.owner (cond (c == 0) 1009 c) heading.attempt next after)
@@ -57,9 +57,9 @@ module _ (G H : Program → Type 0) (g : PassesPlain G) (l : PassesLinks G H) wh
   through_block (Waits h now heading left taken) next after = l.ask h.link (ready_answered h now heading left taken next) (through_ready h now heading left taken next after)
   through_block (Empties h) next after = l.puts_home h.link h.places _ (l.empty (socket_id_slot h.id) h.last next (λ found. TakeHome h.link (λ places. Write (Walks (record h { places = places }) found found 0) next))
       after (λ found. l.home h.link _ (λ places. l.write (Walks (record h { places = places }) found found 0) next after)))
-  through_block (Walks h top at after_) next after = g.words.step (ReadNext (slot_of at)) _ refl (λ found. either_way (found == UNCONNECTED) _ _ G (l.write (Walks h top at after_) next after)
-      (g.words.step (ReverseNext (slot_of at) after_) _ refl (λ _. either_way (found == h.last) _ _ G
-      (l.message (slot_of at) _ (λ heading bytes. l.write (Puts (record h { last = top }) at heading bytes 0 false) next after)) (l.write (Walks h top found at) next after))))
+  through_block (Walks h top at after_) next after = g.words.step (ReadNext (ticket_request at)) _ refl (λ found. either_way (found == UNCONNECTED) _ _ G (l.write (Walks h top at after_) next after)
+      (g.words.step (ReverseNext (ticket_request at) after_) _ refl (λ _. either_way (found == h.last) _ _ G
+      (l.message (ticket_request at) _ (λ heading bytes. l.write (Puts (record h { last = top }) at heading bytes 0 false) next after)) (l.write (Walks h top found at) next after))))
 
   -- whoever found an idle head
   pub through_first_put : (h : Holder) (now : ℕ) (heading : Heading) (bytes : List ℕ) (next : Program) → H next → G (first_put h now heading bytes next)

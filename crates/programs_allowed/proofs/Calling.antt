@@ -12,9 +12,9 @@ use Rattle.sock_model.specs.Weights.{is_hold, is_met}
 use Rattle.sock_model.specs.SlotRows.{looked, met_link}
 use Rattle.sock_model.specs.ChainRows.{with_claim}
 use Rattle.slot_steps.proofs.Numbers.{only-same}
-use Rattle.corr_core.specs.Word.{parts}
+use Rattle.corr_core.specs.Word.{parts, call_id, id_first, id_slot}
 use Rattle.seat_programs.specs.sock_message.specs.Asked.{Asked, name_of, meta_of, frame_of}
-use Rattle.seat_programs.specs.Asides.{StoreAt, call_id, id_first, id_slot}
+use Rattle.seat_programs.specs.Asides.{StoreAt}
 use Rattle.seat_programs.specs.Programs.{Program, Do, Say, Aside, release}
 use Rattle.seat_programs.specs.Calls.{FindLink, LookWord}
 use Rattle.seat_programs.specs.Sends.{accept}

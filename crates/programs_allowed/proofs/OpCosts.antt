@@ -6,7 +6,7 @@ use Rattle.sock_words.specs.declared.plain.Plan.{Plan}
 use Rattle.sock_words.specs.declared.outcome.Outcome.TheVariants.{Opened, SlotsFull, Unopened, Gone, Full, Held, Freed, Kept, NotBegun, Joined}
 use Rattle.sock_words.specs.Words.{socket_id, socket_id_slot, vref_version}
 use Rattle.sock_model.specs.Weights.{total}
-use Rattle.corr_core.specs.Word.{parts, error_of}
+use Rattle.corr_core.specs.Word.{parts, error_of, call_id}
 use Rattle.corr_core.specs.declared.marks.Plan.{Plan as IdPlan}
 use Rattle.corr_core.specs.Decisions.{WHOLE}
 use Rattle.seat_programs.specs.declared.task.Op.{Op}
@@ -14,7 +14,6 @@ use Rattle.seat_programs.specs.declared.task.Op.TheVariants as ops
 use Rattle.seat_programs.specs.declared.task.Task.{Task}
 use Rattle.seat_programs.specs.sock_message.specs.Asked.{Asked, name_of}
 use Rattle.seat_programs.specs.Calls.{ClaimSlot, CreateLife, StoreLink, ResetHead, ClearCode, StoreName, LoadName, StoreOpen, LoadOpen, LookWord, ClaimRequest}
-use Rattle.seat_programs.specs.Asides.{call_id}
 use Rattle.seat_programs.specs.Heads.{Joins}
 use Rattle.seat_programs.specs.Programs.{Program, Do, Say, Sent, Round, NO_SOCKET, release, address, reach, set_failed, no_socket, make_socket, open_from, fail_outcome, fail, hold, end_open}
 use Rattle.seat_programs.specs.Posts.{post_with, posted}

@@ -4,7 +4,7 @@ use Rattle.sock_words.specs.declared.plain.Plan.{Plan}
 use Rattle.std.proofs.lemmas.Bool.{cond_both}
 use Rattle.sock_words.specs.declared.outcome.Outcome.{Outcome}
 use Rattle.sock_words.specs.declared.outcome.Outcome.TheVariants.{Unopened, Gone, Full}
-use Rattle.sock_words.specs.Words.{socket_id_version, socket_id_slot, vref_version}
+use Rattle.sock_words.specs.Words.{socket_id_version, socket_id_slot, vref_version, ticket_request}
 use Rattle.sock_model.specs.declared.chain.Claim.{Claim}
 use Rattle.sock_model.specs.declared.chain.Entry.{Entry}
 use Rattle.sock_model.specs.declared.chain.Heading.{Heading}
@@ -18,7 +18,7 @@ use Rattle.sock_model.specs.Weights.{total, is_hold, is_met}
 use Rattle.sock_model.specs.Marks.{about}
 use Rattle.sock_model.specs.SlotRows.{marks_of, looked, met_link}
 use Rattle.sock_model.specs.ChainRows.{with_claim, entry_of, more, queued, righted, new_right, without_loose, taken_right}
-use Rattle.sock_model.specs.Entries.{ticket_of, slot_of}
+use Rattle.sock_model.specs.Entries.{ticket_of}
 use Rattle.sock_model.specs.Memory.{IDLE}
 use Rattle.seat_programs.specs.Calls.{Connect}
 use Rattle.seat_programs.specs.Programs.{Program, Do, Say, Sent, TakeMessage, TakeHome, release}
@@ -80,7 +80,7 @@ abbrev writing : Right → View → View
 writing r v = record v { rights = r ∷ [] }
 
 -- the request of a ticket
-slot_is : (q g : ℕ) → q < 65535 → slot_of (ticket_of q g) ≡ q
+slot_is : (q g : ℕ) → q < 65535 → ticket_request (ticket_of q g) ≡ q
 slot_is q g small = omega (arith, small)
 
 -- the right of whoever found an idle head, with the link in hand, and then with the message
@@ -118,14 +118,14 @@ module _ (p : Plan) {lists : List (List Entry)} {held : List HeldLife} {passes :
       (record { stage = refl; in_hand = refl; heading_is = refl; put = refl; left_is = refl; some_left = some_; clean = λ z. absurd (omega (arith, z)); label_in = label })
       (λ notes are. goes (behind notes w) (behind_has a notes are))
 
-  message_goes : {w : View} → Has lists (socket_id_slot id) (Hold (socket_id_version id) ∷ []) held passes [] w → 0 < marks_of (is_met (socket_id_version id) c.link) (socket_id_slot id) w → (q : ℕ) → slot_of (own_of c) ≡ q
+  message_goes : {w : View} → Has lists (socket_id_slot id) (Hold (socket_id_version id) ∷ []) held passes [] w → 0 < marks_of (is_met (socket_id_version id) c.link) (socket_id_slot id) w → (q : ℕ) → ticket_request (own_of c) ≡ q
       → GoesOn p (writing (right_away c found sent places) w) (TakeMessage q puts_of)
   message_goes {w} a met q is = let r : Right = right_away c found sent places in (
     (r, own_of c, refl, refl, refl, is, refl),
     λ heading bytes label some_. subst (λ rs. GoesOn p (record w { rights = taken_right r heading bytes ∷ rs }) (puts_of heading bytes)) (sym (one_right c.link r refl)) (puts_goes a met heading bytes label some_),
   )
 
-  home_goes : {w : View} → Has lists (socket_id_slot id) (Hold (socket_id_version id) ∷ []) held passes [] w → 0 < marks_of (is_met (socket_id_version id) c.link) (socket_id_slot id) w → (q : ℕ) → slot_of (own_of c) ≡ q
+  home_goes : {w : View} → Has lists (socket_id_slot id) (Hold (socket_id_version id) ∷ []) held passes [] w → 0 < marks_of (is_met (socket_id_version id) c.link) (socket_id_slot id) w → (q : ℕ) → ticket_request (own_of c) ≡ q
       → GoesOn p (writing (new_right c found sent places) w) (TakeHome c.link (λ n. TakeMessage q (λ heading bytes. first_put (record { id = id; link = c.link; last = own_of c; places = n }) (own_of c) heading bytes after)))
   home_goes {w} a met q is = let r : Right = new_right c found sent places in (
     r,
@@ -134,7 +134,7 @@ module _ (p : Plan) {lists : List (List Entry)} {held : List HeldLife} {passes :
     subst (λ rs. GoesOn p (record w { rights = right_away c found sent places ∷ rs }) (TakeMessage q puts_of)) (sym (one_right c.link r refl)) (message_goes a met q is),
   )
 
-  write_link_goes : {w : View} → Has lists (socket_id_slot id) (Hold (socket_id_version id) ∷ []) held passes [] w → 0 < marks_of (is_met (socket_id_version id) c.link) (socket_id_slot id) w → (q : ℕ) → slot_of (own_of c) ≡ q
+  write_link_goes : {w : View} → Has lists (socket_id_slot id) (Hold (socket_id_version id) ∷ []) held passes [] w → 0 < marks_of (is_met (socket_id_version id) c.link) (socket_id_slot id) w → (q : ℕ) → ticket_request (own_of c) ≡ q
       → GoesOn p (writing (new_right c found sent places) w) (write_link id q (own_of c) after)
   write_link_goes {w} a met q is = let i : ℕ = socket_id_slot id in let h : ℕ = socket_id_version id in let r : Right = new_right c found sent places in (
     (inside, first (Hold h) a (is_hold h) (tokens (is_hold h) refl) (only-same h)),

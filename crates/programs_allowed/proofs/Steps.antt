@@ -14,7 +14,6 @@ use Rattle.sock_model.specs.declared.view.View.{View}
 use Rattle.sock_model.specs.declared.view.Hand.{Hand}
 use Rattle.sock_model.specs.Weights.{total, only, is_ref, is_probe, is_hold, is_zero, is_any_coding, is_coding, is_stage, is_recycled, is_recycling, is_busy, is_known, is_met}
 use Rattle.sock_model.specs.Marks.{about, at, without, without_at, without_pass}
-use Rattle.sock_model.specs.Slots.{version_of}
 use Rattle.sock_model.specs.SlotRows.{marks_of, back, subbed, freed, wrote}
 use Rattle.sock_model.specs.Layout.{name_index, open_index}
 use Rattle.sock_model.specs.ChainRows.{with_hand, without_hand, spent_hand}
@@ -144,10 +143,10 @@ module _ (p : Plan) {lists : List (List Entry)} {s : ℕ} {t : List Mark} {held 
 module _ (p : Plan) {lists : List (List Entry)} {s : ℕ} {t : List Mark} {held : List HeldLife} {passes links : List ℕ} {v : View} where
   -- which weight the row takes
   back_probe : (found : ℕ) → Has lists s (Probe ∷ t) held passes links v → back s found v ≡ is_probe
-  back_probe found a = cond-true (ltb 0 (marks_of is_probe s v)) is_probe (is_hold (version_of found - version_of found % 2)) (lt-ltb 0 (marks_of is_probe s v) (omega (arith, probes a)))
+  back_probe found a = cond-true (ltb 0 (marks_of is_probe s v)) is_probe (is_hold (vref_version found - vref_version found % 2)) (lt-ltb 0 (marks_of is_probe s v) (omega (arith, probes a)))
 
   back_hold : (found h : ℕ) → Has lists s (Hold h ∷ t) held passes links v → total is_probe t ≡ 0 → even_version found ≡ h → back s found v ≡ is_hold h
-  back_hold found h a z e = cond-false (ltb 0 (marks_of is_probe s v)) is_probe (is_hold (version_of found - version_of found % 2)) (le-ltb 0 (marks_of is_probe s v) (omega (arith, probes a, z))) ∙ ap is_hold e
+  back_hold found h a z e = cond-false (ltb 0 (marks_of is_probe s v)) is_probe (is_hold (vref_version found - vref_version found % 2)) (le-ltb 0 (marks_of is_probe s v) (omega (arith, probes a, z))) ∙ ap is_hold e
 
   pub subs : (e : Mark) → Has lists s (e ∷ t) held passes links v → GoesFirst e t → total is_any_coding t ≡ 0 → s < p.slots → (next : ℕ → Program)
       → ((found : ℕ) (u : View) → vref_version found % 2 ≡ 1 → vref_nref found ≡ 1 → total is_ref t < vref_nref found → vref_version found < 4294967295 → Has lists s (Zero (vref_version found) ∷ t) held passes links u → GoesOn p u (next found))

@@ -5,9 +5,9 @@ use Rattle.std.proofs.Math.ListN.{drop_of_length-le}
 use Rattle.brpc_model.specs.Frame as model
 use Rattle.prpc_frame.specs.Meaning.{frame_of}
 use Rattle.prpc_frame.specs.declared.frame.Frame.{Frame}
-use Rattle.seat_programs.specs.Asides.{id_slot}
 use Rattle.seat_programs.specs.Readers.{kept_for, slot_in}
 use Rattle.reader_points.specs.Kept.{is_kept_of, IsFirstKept}
+use Rattle.corr_core.specs.Word.{id_slot}
 
 -- those of a range among these
 abbrev pub kept_of : ℕ → ℕ → List Frame → List model.Frame

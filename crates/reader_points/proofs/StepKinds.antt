@@ -3,9 +3,8 @@ use Rattle.std.proofs.Common.{◌≡◌, ℕ, ◌+◌, Bool, true, false, if◌t
 use Rattle.sock_message.specs.Asked.{Asked}
 use Rattle.seat_programs.specs.Asides as steps_aside
 use Rattle.sock_words.specs.declared.id_word.IdWord.{IdWord}
-use Rattle.corr_core.specs.Word.{parts, code_of}
+use Rattle.corr_core.specs.Word.{parts, code_of, id_slot}
 use Rattle.corr_core.specs.Decisions.{ends_call}
-use Rattle.seat_programs.specs.Asides.{id_slot}
 use Rattle.seat_programs.specs.Heads.{Locking, Posting, HasEnded, Unlocks}
 use Rattle.seat_programs.specs.Posts.{end_id, unlocked}
 use Rattle.seat_programs.specs.Programs.{Program, Round}

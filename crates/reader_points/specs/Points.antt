@@ -3,12 +3,12 @@ use Rattle.std.specs.Prelude.{ℕ, ◌≡◌, ◌≤◌, ◌-◌, ◌==◌, Bool
 use Rattle.sock_words.specs.Codes.{EEOF, ERESPONSE}
 use Rattle.sock_words.specs.Words.{socket_id_slot, socket_id_version, at_word_link, at_word_slot, at_word_first, at_word_attempt}
 use Rattle.sock_words.specs.declared.outcome.Outcome.TheVariants.{CallFailed}
-use Rattle.corr_core.specs.Word.{parts, error_of}
+use Rattle.corr_core.specs.Word.{parts, error_of, call_id, id_slot}
 use Rattle.brpc_model.specs.Frame.{Frame, NoneYet, judged}
 use Rattle.brpc_model.specs.Stream.{stream}
 use Rattle.brpc_model.specs.ResponseOutcome.{ending_of}
 use Rattle.sock_message.specs.Asked.{Asked}
-use Rattle.seat_programs.specs.Asides.{Taking, Bytes, Nothing, NoMore, AtEnd, Closed, Broken, LoadAt, TakeCall, FreeId, call_id, id_slot}
+use Rattle.seat_programs.specs.Asides.{Taking, Bytes, Nothing, NoMore, AtEnd, Closed, Broken, LoadAt, TakeCall, FreeId}
 use Rattle.seat_programs.specs.Calls as calls
 use Rattle.seat_programs.specs.Heads.{Reading, Ended, Opens, Reads, Discards, Deciding, Decides}
 use Rattle.seat_programs.specs.Programs.{Program, Do, Say, Rest, Aside, Round, NO_SOCKET, address, release, set_failed}

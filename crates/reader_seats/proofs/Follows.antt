@@ -7,9 +7,9 @@ use Rattle.brpc_model.specs.Frame as model
 use Rattle.prpc_frame.specs.Meaning.{frame_of}
 use Rattle.prpc_frame.specs.declared.frame.Frame.{Frame}
 use Rattle.sock_words.specs.declared.id_word.IdWord.{IdWord}
-use Rattle.corr_core.specs.Word.{parts}
+use Rattle.corr_core.specs.Word.{parts, id_slot}
 use Rattle.id_points.specs.Ids.{id_of}
-use Rattle.seat_programs.specs.Asides.{Taking, Bytes, Nothing, NoMore, AtEnd, Closed, Broken, id_slot}
+use Rattle.seat_programs.specs.Asides.{Taking, Bytes, Nothing, NoMore, AtEnd, Closed, Broken}
 use Rattle.seat_programs.specs.Readers.{LIMIT, slot_in, kept_for}
 use Rattle.seat_programs.specs.Beside.{at_last}
 use Rattle.reader_points.specs.declared.cutting.Cut.{Cut}

@@ -5,13 +5,13 @@ use mathlib.Core.Option.{Option, some, none}
 use lib.ListN.{get_elem?}
 use Rattle.sock_words.specs.declared.plain.Plan.{Plan}
 use Rattle.sock_model.specs.declared.view.View.{View}
-use Rattle.corr_core.specs.Word.{parts}
+use Rattle.corr_core.specs.Word.{parts, call_id}
 use Rattle.corr_core.specs.declared.marks.Plan.{Plan as IdPlan}
 use Rattle.attempted_calls.specs.Below.id_runs.specs.Held.{IdView}
 use Rattle.attempted_calls.specs.Below.id_runs.specs.Goes.{SoundIds}
 use Rattle.attempted_calls.specs.Below.id_runs.specs.Goes as goes
 use Rattle.sock_message.specs.Asked.{Asked}
-use Rattle.seat_programs.specs.Asides.{Step, Found, PostId, call_id}
+use Rattle.seat_programs.specs.Asides.{Step, Found, PostId}
 use Rattle.seat_programs.specs.Beside.{found_in}
 use Rattle.seat_programs.specs.Programs.{Program, Aside}
 use Rattle.seat_programs.specs.Cores.{Core, SeatState}

@@ -5,7 +5,7 @@ use Rattle.std.specs.List.{AllByRecursion}
 use mathlib.Core.Logic.{dite}
 use native.Mathlib.Decide.{ℕ_discrete}
 use Rattle.seat_programs.specs.brpc_model.specs.Frame.{Frame}
-use Rattle.sock_words.specs.Words.{socket_id_slot, socket_id_version, vref_version, vref_nref, at_word, at_word_first, at_word_slot, at_word_link, at_word_attempt}
+use Rattle.sock_words.specs.Words.{socket_id_slot, socket_id_version, vref_version, vref_nref, at_word, at_word_first, at_word_slot, at_word_link, at_word_attempt, ticket_generation, ticket_request}
 use Rattle.sock_words.specs.declared.outcome.Outcome.TheVariants as outcomes
 use Rattle.sock_io.specs.declared.link.Put.{Put}
 use Rattle.sock_io.specs.declared.link.Put.TheVariants as puts
@@ -13,14 +13,14 @@ use Rattle.sock_io.specs.declared.link.Ready.{Ready}
 use Rattle.sock_io.specs.declared.link.Ready.TheVariants as asks
 use Rattle.sock_message.specs.Asked.{Asked, frame_of, name_of}
 use Rattle.sock_model.specs.declared.chain.Heading.{Heading}
-use Rattle.sock_model.specs.Entries.{generation_of, slot_of, ticket_of}
+use Rattle.sock_model.specs.Entries.{ticket_of}
 use Rattle.sock_model.specs.Memory.{IDLE, UNCONNECTED}
-use Rattle.corr_core.specs.Word.{parts, error_of}
+use Rattle.corr_core.specs.Word.{parts, error_of, call_id, id_slot, id_first}
 use Rattle.seat_programs.specs.declared.task.Op.{Op}
 use Rattle.seat_programs.specs.declared.task.Op.TheVariants as ops
 use Rattle.seat_programs.specs.declared.task.Sizes.{Sizes}
 use Rattle.seat_programs.specs.declared.task.Task.{Task}
-use Rattle.seat_programs.specs.Asides.{StoreAt, call_id, id_slot, id_first}
+use Rattle.seat_programs.specs.Asides.{StoreAt}
 use Rattle.seat_programs.specs.Attempts.{claims_from, heading_for, attempt, begin_call, claim_id, call, tried_again, retry_locked, retry, expire_outcome, expire, join}
 use Rattle.seat_programs.specs.Calls.{Call, LoadOpen, SubRef, AddRef, LoadLink, TakeLink, FinishLink, PutLink, FreeSlot, LoadName, FreeRequest, ReadNext, FindLink, LookWord, ReverseNext, Connect, ClaimRequest, PutMessage, Recycle, LoadCode, DropPlace}
 use Rattle.seat_programs.specs.Clients.{HeldLife, held_under, without_name, operation, client_from, ending_of}
@@ -129,19 +129,19 @@ module _ (requests : ℕ) (is_call : Asked → Type 0) (reads : Bool) where
     )
 
     freed_keeps : (ds : List Deed) (now : ℕ) (next : Program) → ((es : List Deed) → G (due c es) next) → G (due c ds) (given_back now next)
-    freed_keeps ds now next goes = ways ds (generation_of now == LAST_GENERATION) next (Do (FreeRequest (slot_of now) (generation_of now)) (λ _. next)) (goes ds)
-        (tt, λ found _. (due c (DidStep (FreeRequest (slot_of now) (generation_of now)) found ∷ ds), inl (inl refl, inl (refl, refl)), goes (DidStep (FreeRequest (slot_of now) (generation_of now)) found ∷ ds)))
+    freed_keeps ds now next goes = ways ds (ticket_generation now == LAST_GENERATION) next (Do (FreeRequest (ticket_request now) (ticket_generation now)) (λ _. next)) (goes ds)
+        (tt, λ found _. (due c (DidStep (FreeRequest (ticket_request now) (ticket_generation now)) found ∷ ds), inl (inl refl, inl (refl, refl)), goes (DidStep (FreeRequest (ticket_request now) (ticket_generation now)) found ∷ ds)))
 
     pub passed_keeps : (mine : reads ≡ false) (ds : List Deed) (h : Holder) (now : ℕ) (tells : Program → Program) (after : Program) → ((es : List Deed) (x : Program) → G idle x → G (due c es) (tells x)) → G idle after → G (due c ds) (passed_telling h now tells after)
     passed_keeps mine ds h now tells after told goes = ways ds (now == h.last) (given_back now (tells (Write (Empties h) after)))
-        (Do (ReadNext (slot_of now)) (λ next. given_back now (tells (TakeMessage (slot_of next) (λ heading bytes. Write (Puts h next heading bytes 0 false) after)))))
+        (Do (ReadNext (ticket_request now)) (λ next. given_back now (tells (TakeMessage (ticket_request next) (λ heading bytes. Write (Puts h next heading bytes 0 false) after)))))
         (freed_keeps ds now (tells (Write (Empties h) after)) (λ es. told es (Write (Empties h) after) (mine, goes))) (
           tt,
           λ next _. (
-            due c (DidStep (ReadNext (slot_of now)) next ∷ ds),
+            due c (DidStep (ReadNext (ticket_request now)) next ∷ ds),
             inl (inl refl, inl (refl, refl)),
-            freed_keeps (DidStep (ReadNext (slot_of now)) next ∷ ds) now (tells (TakeMessage (slot_of next) (λ heading bytes. Write (Puts h next heading bytes 0 false) after)))
-                (λ es. told es (TakeMessage (slot_of next) (λ heading bytes. Write (Puts h next heading bytes 0 false) after)) (λ heading bytes. (mine, goes))),
+            freed_keeps (DidStep (ReadNext (ticket_request now)) next ∷ ds) now (tells (TakeMessage (ticket_request next) (λ heading bytes. Write (Puts h next heading bytes 0 false) after)))
+                (λ es. told es (TakeMessage (ticket_request next) (λ heading bytes. Write (Puts h next heading bytes 0 false) after)) (λ heading bytes. (mine, goes))),
           ),
         )
 
@@ -151,13 +151,13 @@ module _ (requests : ℕ) (is_call : Asked → Type 0) (reads : Bool) where
   -- ## Writing, of a client
 
   freed_goes : (s : Doing) (now : ℕ) (next : Program) → G idle next → G idle (given_back now next)
-  freed_goes s now next goes = split (generation_of now == LAST_GENERATION) next (Do (FreeRequest (slot_of now) (generation_of now)) (λ _. next)) (λ _. goes) (λ _. (tt, λ found _. then_ (FreeRequest (slot_of now) (generation_of now)) _ found idle goes))
+  freed_goes s now next goes = split (ticket_generation now == LAST_GENERATION) next (Do (FreeRequest (ticket_request now) (ticket_generation now)) (λ _. next)) (λ _. goes) (λ _. (tt, λ found _. then_ (FreeRequest (ticket_request now) (ticket_generation now)) _ found idle goes))
 
   passed_goes : (mine : reads ≡ false) (h : Holder) (now : ℕ) (tells : Program → Program) (after : Program) → ((x : Program) → G idle x → G idle (tells x)) → G idle after → G idle (passed_telling h now tells after)
   passed_goes mine h now tells after told goes = split (now == h.last) (given_back now (tells (Write (Empties h) after)))
-      (Do (ReadNext (slot_of now)) (λ next. given_back now (tells (TakeMessage (slot_of next) (λ heading bytes. Write (Puts h next heading bytes 0 false) after)))))
+      (Do (ReadNext (ticket_request now)) (λ next. given_back now (tells (TakeMessage (ticket_request next) (λ heading bytes. Write (Puts h next heading bytes 0 false) after)))))
       (λ _. freed_goes idle now (tells (Write (Empties h) after)) (told (Write (Empties h) after) (mine, goes)))
-      (λ _. (tt, λ next _. then_ (ReadNext (slot_of now)) _ next idle (freed_goes idle now (tells (TakeMessage (slot_of next) (λ heading bytes. Write (Puts h next heading bytes 0 false) after))) (told (TakeMessage (slot_of next) (λ heading bytes. Write (Puts h next heading bytes 0 false) after)) (λ heading bytes. (mine, goes))))))
+      (λ _. (tt, λ next _. then_ (ReadNext (ticket_request now)) _ next idle (freed_goes idle now (tells (TakeMessage (ticket_request next) (λ heading bytes. Write (Puts h next heading bytes 0 false) after))) (told (TakeMessage (ticket_request next) (λ heading bytes. Write (Puts h next heading bytes 0 false) after)) (λ heading bytes. (mine, goes))))))
 
   put_goes : (mine : reads ≡ false) (h : Holder) (now : ℕ) (heading : Heading) (left : List ℕ) (taken : ℕ) (after : Program) → G idle after → (answer : Put) → G idle (put_answered h now heading left taken after answer)
   put_goes mine h now heading left taken after goes (puts.Took n) = split (nat_le (length left) n) (placed h now heading after) (Write (Puts h now heading (drop n left) (taken + n) false) after)
@@ -216,10 +216,10 @@ module _ (requests : ℕ) (is_call : Asked → Type 0) (reads : Bool) where
     block_goes (Empties h) after g = (tt, λ found _. then_ (Rattle.seat_programs.specs.Calls.EmptyHead (socket_id_slot h.id) h.last) _ found idle (split (found == h.last) after (TakeHome h.link (λ places. Write (Walks (record h { places = places }) found found 0) after)) (λ _. g) (λ _. λ places. (mine, g))))
     block_goes (Walks h top at after) last g = (
       tt,
-      λ found _. then_ (ReadNext (slot_of at)) _ found (begins (Walks h top at after)) (split (found == UNCONNECTED) (Write (Walks h top at after) last)
-          (Do (ReverseNext (slot_of at) after) (λ _. cond (found == h.last) (TakeMessage (slot_of at) (λ heading bytes. Write (Puts (record h { last = top }) at heading bytes 0 false) last)) (Write (Walks h top found at) last)))
+      λ found _. then_ (ReadNext (ticket_request at)) _ found (begins (Walks h top at after)) (split (found == UNCONNECTED) (Write (Walks h top at after) last)
+          (Do (ReverseNext (ticket_request at) after) (λ _. cond (found == h.last) (TakeMessage (ticket_request at) (λ heading bytes. Write (Puts (record h { last = top }) at heading bytes 0 false) last)) (Write (Walks h top found at) last)))
           (λ _. (mine, g))
-          (λ _. (tt, λ other _. then_ (ReverseNext (slot_of at) after) _ other idle (split (found == h.last) (TakeMessage (slot_of at) (λ heading bytes. Write (Puts (record h { last = top }) at heading bytes 0 false) last)) (Write (Walks h top found at) last) (λ _. λ heading bytes. (mine, g)) (λ _. (mine, g)))))),
+          (λ _. (tt, λ other _. then_ (ReverseNext (ticket_request at) after) _ other idle (split (found == h.last) (TakeMessage (ticket_request at) (λ heading bytes. Write (Puts (record h { last = top }) at heading bytes 0 false) last)) (Write (Walks h top found at) last) (λ _. λ heading bytes. (mine, g)) (λ _. (mine, g)))))),
     )
 
   first_goes : (mine : reads ≡ false) (h : Holder) (now : ℕ) (heading : Heading) (bytes : List ℕ) (after : Program) → G idle after → G idle (first_put h now heading bytes after)

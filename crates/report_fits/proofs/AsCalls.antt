@@ -3,7 +3,7 @@ use Rattle.std.proofs.Common.{◌≡◌, ◌≢◌, ℕ, ◌*◌, ◌<◌, ◌%�
 use Rattle.std.proofs.lemmas.List.{take-map, drop-map}
 use Rattle.std.proofs.lemmas.List.Sums.{sum_by-cons}
 use Rattle.std.specs.List.{AllByRecursion}
-use Rattle.sock_words.specs.Words.{vref_version}
+use Rattle.sock_words.specs.Words.{vref_version, place_word}
 use Rattle.sock_words.specs.declared.outcome.Outcome.{Outcome}
 use Rattle.sock_words.specs.declared.outcome.Outcome.TheVariants.{Opened, SlotsFull, Unopened, Gone, Full, Held, Freed, Kept, NotHeld, Failed, Already}
 use Rattle.brpc_model.specs.Items.{Item}
@@ -17,7 +17,6 @@ use Rattle.brpc_model.specs.Run.{nothing_late}
 use Rattle.brpc_model.specs.PlaceWords.{ArePlaces, HasEachOutcome, AreTold}
 use Rattle.brpc_model.specs.Complete.{FitsWhole}
 use Rattle.seat_programs.specs.sock_model.specs.Layout.{place_index}
-use Rattle.seat_programs.specs.sock_model.specs.Deliveries.{place_value}
 use Rattle.seat_programs.specs.sock_message.specs.Asked.{Asked}
 use Rattle.seat_programs.specs.declared.task.Op.{Op}
 use Rattle.seat_programs.specs.declared.task.Op.TheVariants as ops
@@ -104,7 +103,7 @@ module _ (script : List Item) (core : Core) (broken : List ℕ) (callless : is_c
       let P : List (List ℕ) → Type 0 = λ x. IsCut t.cut x in
       record { cut = t.cut; took_is = t.took_is ∙ ap (λ l. l ++ t.cut) (sym whole); is_cut = subst P (sym later) t.is_cut }
 
-  written : (k i : ℕ) (a : Accepted) → k < length (link_names script) → StandsAt orders_of k i a → slice_index core.words (place_index (plan_of script) (label a)) ≡ place_value (nat_le (tells.orders k).placed i) k i
+  written : (k i : ℕ) (a : Accepted) → k < length (link_names script) → StandsAt orders_of k i a → slice_index core.words (place_index (plan_of script) (label a)) ≡ place_word (nat_le (tells.orders k).placed i) k i
   written k i a low at =
       let b = was k i a at in
       let place : label a ≡ 8 * b.0.operation = ap label (sym b.2) ∙ label_first b.0 in

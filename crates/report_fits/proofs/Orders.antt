@@ -4,12 +4,11 @@ use Rattle.std.proofs.lemmas.Bool.Decides.{nat_tests}
 use Rattle.std.proofs.lemmas.Option.{slice_get_within, slice_get_past}
 use Rattle.sock_words.specs.declared.plain.Plan.{Plan}
 use Rattle.sock_words.specs.declared.place_word.PlaceWord.{PlaceWord}
-use Rattle.sock_words.specs.Words.{no_place, HasPosition, IsPlaceWord}
+use Rattle.sock_words.specs.Words.{no_place, HasPosition, IsPlaceWord, place_word}
 use Rattle.brpc_model.specs.Operations.{Label}
 use Rattle.brpc_model.specs.Report.{LinkLine}
 use Rattle.brpc_model.specs.PlaceWords.{word_at, word_of, StandsAt as Stands, IsOrder, is_placed, IsLineOf, ArePlaces}
 use Rattle.seat_programs.specs.sock_model.specs.Layout.{place_index}
-use Rattle.seat_programs.specs.sock_model.specs.Deliveries.{place_value}
 use Rattle.seat_programs.specs.Cores.{Core}
 use Rattle.seat_programs.specs.Runs.{from_to}
 use Rattle.seat_programs.specs.Scripts.{place_words}
@@ -53,7 +52,7 @@ module _ (p : Plan) (c : Core) (orders : ℕ → Order) (are : AreOrders p c ord
   Words = place_words p c.words
 
   -- the word of a message that was accepted
-  pub word_is : (k i : ℕ) (a : Accepted) → k < p.links → StandsAt orders k i a → word_at Words (number_of a) ≡ place_value (nat_le (orders k).placed i) k i
+  pub word_is : (k i : ℕ) (a : Accepted) → k < p.links → StandsAt orders k i a → word_at Words (number_of a) ≡ place_word (nat_le (orders k).placed i) k i
   word_is k i a low at =
       let few = inside k i a low at in
       word_here p c.words (number_of a) (omega (arith, few.1, few.2)) ∙ are.written k i a low at

@@ -42,7 +42,7 @@ module _ {O : Type 0} {state : O → OutState} (p : Plan) (id : ℕ) where
   -- or dropped a message
   pub all_dropped : (msg : Undelivered) (v w : View) → WroteDrop state p id msg v w → WroteAll state p id v w
   all_dropped msg v w a = record {
-    drops = record { place = Rattle.sock_model.specs.Layout.place_index p msg.label.place; word = Rattle.sock_model.specs.Deliveries.place_value Rattle.std.specs.Prelude.true a.link a.position } ∷ [];
+    drops = record { place = Rattle.sock_model.specs.Layout.place_index p msg.label.place; word = Rattle.sock_words.specs.Words.place_word Rattle.std.specs.Prelude.true a.link a.position } ∷ [];
     are_drops = All-cons (IsDrop p id w) _ [] record { place = msg.label.place; link = a.link; position = a.position; word_is = refl; met = a.met } (All-nil (IsDrop p id w));
     stores = a.stores;
     headings = a.heading ∷ [];

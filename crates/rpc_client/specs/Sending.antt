@@ -5,14 +5,13 @@ use Rattle.sock_io.specs.Link.{OutState}
 use Rattle.sock_words.specs.declared.plain.Plan.{Plan}
 use Rattle.sock_words.specs.declared.outcome.Outcome.{Outcome}
 use Rattle.sock_words.specs.declared.outcome.Outcome.TheVariants as outcome
-use Rattle.sock_words.specs.Words.{socket_id_version, socket_id_slot}
+use Rattle.sock_words.specs.Words.{socket_id_version, socket_id_slot, place_word}
 use Rattle.sock_model.specs.declared.chain.Heading.{Heading}
 use Rattle.sock_model.specs.declared.marks.Mark.{Mark}
 use Rattle.sock_model.specs.declared.marks.Mark.TheVariants.{Hold, Saw}
 use Rattle.sock_model.specs.declared.view.View.{View}
 use Rattle.sock_model.specs.declared.view.StoredWord.{StoredWord}
 use Rattle.sock_model.specs.Layout.{place_index}
-use Rattle.sock_model.specs.Deliveries.{place_value}
 use Rattle.sock_model.specs.Marks as marks
 use Rattle.write_chain.specs.message_parts.specs.Parcels.{parcel_of}
 use Rattle.sock_rule.specs.Becoming.{Became}
@@ -40,7 +39,7 @@ pub record IsDrop (p : Plan) (id : ℕ) (w : View) (n : StoredWord) : Type 0 whe
   pub place : ℕ
   pub link : ℕ
   pub position : ℕ
-  pub word_is : n ≡ record { place = place_index p place; word = place_value true link position }
+  pub word_is : n ≡ record { place = place_index p place; word = place_word true link position }
   pub met : Met_by id w link
 
 -- a seat wrote the link of the life of this id until the head was empty. It noted what it dropped; its right is gone, and all else is as it was, but for notes

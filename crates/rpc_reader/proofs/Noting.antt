@@ -2,11 +2,11 @@
 use Rattle.std.proofs.Common.{◌≡◌, ℕ, ◌+◌, ◌<◌, ◌≤◌, List, [], ◌∷◌, ◌++◌, length, take, get_or, refl, sym, subst}
 use Rattle.std.proofs.lemmas.List.{take_more}
 use Rattle.corr_core.specs.Law.{total, is_made}
-use Rattle.corr_core.specs.Word.{Parts}
+use Rattle.corr_core.specs.Word.{Parts, id_slot, id_first}
 use Rattle.corr_core.specs.declared.marks.Plan.{Plan}
 use Rattle.corr_core.specs.declared.marks.View.{View}
 use Rattle.id_rule.specs.Lawful.{notes_of}
-use Rattle.corr_id.specs.Calls.{slot_of, version_of, GotLock}
+use Rattle.corr_id.specs.Calls.{GotLock}
 use Rattle.sock_message.specs.Asked.{Asked}
 use Rattle.rpc_reader.specs.Books.{Books}
 use Rattle.rpc_reader.specs.Posting.{LockLost}
@@ -14,10 +14,10 @@ use Rattle.rpc_reader.specs.Resting.{EndedLast, OneEnded, RestEnded}
 
 -- the seat knows of this id that it was made
 abbrev pub IsKnown : ℕ → View Asked → Type 0
-IsKnown id v = 0 < total (is_made (version_of id)) (notes_of (slot_of id) v.notes)
+IsKnown id v = 0 < total (is_made (id_first id)) (notes_of (id_slot id) v.notes)
 
 -- a lock that was got by an id, and whose call ended
-pub ended_last : (slots code id slot : ℕ) (locked : View Asked) (found : ℕ) (word : Parts) (call : Asked) (b b' : Books) → slot ≡ slot_of id → slot < slots → (word.first ≤ version_of id) × (version_of id < word.first + word.range) → (0 < total (is_made (version_of id)) (notes_of (slot_of id) b.view.notes) → word.first ≡ version_of id) → GotLock slot b.view locked found word call → LockLost slot word call code (record b { view = locked }) b' → EndedLast slots code id b b'
+pub ended_last : (slots code id slot : ℕ) (locked : View Asked) (found : ℕ) (word : Parts) (call : Asked) (b b' : Books) → slot ≡ id_slot id → slot < slots → (word.first ≤ id_first id) × (id_first id < word.first + word.range) → (0 < total (is_made (id_first id)) (notes_of (id_slot id) b.view.notes) → word.first ≡ id_first id) → GotLock slot b.view locked found word call → LockLost slot word call code (record b { view = locked }) b' → EndedLast slots code id b b'
 ended_last slots code id slot locked found word call b b' e inside range own got lost = record {
   inside = subst (λ (n : ℕ). n < slots) e inside;
   locked = locked;

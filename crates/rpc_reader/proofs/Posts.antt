@@ -5,13 +5,13 @@ use Rattle.std.specs.List.{remove}
 use Rattle.std.proofs.lemmas.Bool.{cases_lt}
 use Rattle.std.proofs.lemmas.List.{take_more}
 use Rattle.std.proofs.lemmas.List.Quantifiers.{position-Some}
-use Rattle.corr_core.specs.Word.{Parts, parts}
+use Rattle.corr_core.specs.Word.{Parts, parts, id_slot, id_first}
 use Rattle.corr_core.specs.declared.marks.Plan.{Plan}
 use Rattle.corr_core.specs.declared.marks.View.{View}
 use Rattle.corr_core.specs.declared.marks.Noted.{Noted}
 use Rattle.corr_id.specs.declared.posts.Posted.{Posted}
 use Rattle.corr_id.specs.declared.posts.Posted.TheVariants as posted
-use Rattle.corr_id.specs.Calls.{slot_of, version_of, Found, HasId, LacksId, Quiet, Did}
+use Rattle.corr_id.specs.Calls.{Found, HasId, LacksId, Quiet, Did}
 use Rattle.corr_id.specs.Posts.{PostOk}
 use Rattle.corr_id.proofs.Doing.{quiet_after, got_after}
 use Rattle.id_rule.specs.Lawful.{tokens_in}
@@ -49,19 +49,19 @@ first_inside slot w early i f e = (position-Some (is_for slot w) early i f (sym 
 -- ## The call that an at word names
 
 -- a word that has the id stands in a slot of the table
-pub found_of : (slots w id word : ℕ) (v : View Asked) → id ≡ call_at w → (slot_of id < slots → Found (slot_of id) word v × (0 < word)) → (slots ≤ slot_of id → word ≡ 0) → HasId (parts word) (version_of id) → FoundOf w word v
-found_of slots w id word v e found none_ has = subst (λ (n : ℕ). Found (slot_of n) word v × HasId (parts word) (version_of n)) e ((found (inside has none_)).0, has)
+pub found_of : (slots w id word : ℕ) (v : View Asked) → id ≡ call_at w → (id_slot id < slots → Found (id_slot id) word v × (0 < word)) → (slots ≤ id_slot id → word ≡ 0) → HasId (parts word) (id_first id) → FoundOf w word v
+found_of slots w id word v e found none_ has = subst (λ (n : ℕ). Found (id_slot n) word v × HasId (parts word) (id_first n)) e ((found (inside has none_)).0, has)
   where
-    inside : HasId (parts word) (version_of id) → (slots ≤ slot_of id → word ≡ 0) → slot_of id < slots
-    inside h z = ⊎_elim (λ lt. lt) (λ ge. absurd (let e₀ = ap (λ (n : ℕ). (parts n).state) (z ge) in let some_ = h.1 in omega (arith, e₀, some_))) (cases_lt (slot_of id) slots)
+    inside : HasId (parts word) (id_first id) → (slots ≤ id_slot id → word ≡ 0) → id_slot id < slots
+    inside h z = ⊎_elim (λ lt. lt) (λ ge. absurd (let e₀ = ap (λ (n : ℕ). (parts n).state) (z ge) in let some_ = h.1 in omega (arith, e₀, some_))) (cases_lt (id_slot id) slots)
 
 -- and one that lacks it tells that the id has ended
-pub gone_last : (slots code w id word : ℕ) (b : Books) (seen : View Asked) → id ≡ call_at w → Quiet b.view seen → (slot_of id < slots → Found (slot_of id) word seen × (0 < word)) → (slots ≤ slot_of id → word ≡ 0) → LacksId (parts word) (version_of id) → MetOrPosted slots code w b (record b { view = seen })
+pub gone_last : (slots code w id word : ℕ) (b : Books) (seen : View Asked) → id ≡ call_at w → Quiet b.view seen → (id_slot id < slots → Found (id_slot id) word seen × (0 < word)) → (slots ≤ id_slot id → word ≡ 0) → LacksId (parts word) (id_first id) → MetOrPosted slots code w b (record b { view = seen })
 gone_last slots code w id word b seen e quiet found none_ lacks = inr record {
   answer = posted.Gone word;
   seen = seen;
-  posted = subst (λ (n : ℕ). Quiet b.view seen × (((slots ≤ slot_of n) × (word ≡ 0)) ⊎ (Found (slot_of n) word seen × LacksId (parts word) (version_of n)))) e
-      (quiet, ⊎_elim (λ lt. inr ((found lt).0, lacks)) (λ ge. inl (ge, none_ ge)) (cases_lt (slot_of id) slots));
+  posted = subst (λ (n : ℕ). Quiet b.view seen × (((slots ≤ id_slot n) × (word ≡ 0)) ⊎ (Found (id_slot n) word seen × LacksId (parts word) (id_first n)))) e
+      (quiet, ⊎_elim (λ lt. inr ((found lt).0, lacks)) (λ ge. inl (ge, none_ ge)) (cases_lt (id_slot id) slots));
   none_kept = tt;
   then_ = refl;
 }
@@ -79,7 +79,7 @@ met_kept slots code w word place b b' seen frame quiet found first is met = inl 
   place = place;
   first = sym first;
   frame = frame;
-  there = stands b.early place frame (first_inside (slot_of (call_at w)) (parts word) b.early place frame first) is;
+  there = stands b.early place frame (first_inside (id_slot (call_at w)) (parts word) b.early place frame first) is;
   met = met;
 }
 
@@ -96,7 +96,7 @@ did_after i u v w es q d = record {
 -- a post behind a look
 post_after : (slots id code : ℕ) (attempt : Option ℕ) (u v w : View Asked) (answer : Posted Asked) → Quiet u v → PostOk slots v w id code attempt answer → PostOk slots u w id code attempt answer
 post_after slots id code attempt u v w (posted.Locked k) q (a, b, c, d, (word, got)) = (a, b, c, d, (word, got_after k.slot u v w word (parts k.word.0) k.content q got))
-post_after slots id code attempt u v w posted.Queued q (did, was) = (did_after (slot_of id) u v w _ q did, was)
+post_after slots id code attempt u v w posted.Queued q (did, was) = (did_after (id_slot id) u v w _ q did, was)
 post_after slots id code attempt u v w (posted.Gone found) q (quiet, was) = (quiet_after u v w q quiet, was)
 post_after slots id code attempt u v w (posted.Stale current) q (quiet, stale, was) = (quiet_after u v w q quiet, stale, was)
 post_after slots id code attempt u v w (posted.Crowded first second) q (quiet, was) = (quiet_after u v w q quiet, was)

@@ -1,7 +1,7 @@
 -- What a reader has for the calls whose responses it takes: what its seat noted, the responses that it keeps, what it told of the calls that it ended, and whether memory was wanting.
 use Rattle.std.specs.Prelude.{◌≡◌, ◌+◌, ◌*◌, ◌⊎◌, ℕ, true, Bool, List, [], ◌∷◌, ◌++◌}
 use Rattle.sock_words.specs.declared.outcome.Outcome.{Outcome}
-use Rattle.corr_core.specs.Word.{Parts}
+use Rattle.corr_core.specs.Word.{Parts, call_id}
 use Rattle.corr_core.specs.declared.marks.View.{View}
 use Rattle.corr_core.specs.declared.marks.Note.TheVariants.{Ended}
 use Rattle.corr_id.specs.Calls.{Became, one}
@@ -21,7 +21,7 @@ books c = record { view = c.seat.me.0; early = c.early.items; told = c.told.item
 
 -- the id of the range that has this word in its slot
 abbrev pub id_of : ℕ → Parts → ℕ
-id_of slot w = slot * 4294967296 + w.first
+id_of slot w = call_id slot w.first
 
 -- the outcome of this operation was told behind those before; or memory was wanting for that, which is noted
 abbrev pub ToldBy : ℕ → Outcome → List Told → Bool → List Told → Bool → Type 0

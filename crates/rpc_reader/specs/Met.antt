@@ -1,9 +1,9 @@
 -- What becomes of the whole frames that a link gave.
 use Rattle.std.specs.Prelude.{◌≡◌, ◌+◌, ◌<◌, ◌==◌, ◌&&◌, ◌⊎◌, ℕ, nat_lt, Bool, true, false, List, [], ◌∷◌, Option, Some, None, map}
-use Rattle.corr_core.specs.Word.{Parts, parts}
+use Rattle.corr_core.specs.Word.{Parts, parts, id_slot, id_first}
 use Rattle.corr_core.specs.declared.marks.View.{View}
 use Rattle.corr_core.specs.Versions.{has_version, is_early}
-use Rattle.corr_id.specs.Calls.{slot_of, version_of, GotLock, Quiet, Found}
+use Rattle.corr_id.specs.Calls.{GotLock, Quiet, Found}
 use Rattle.corr_id.specs.Attempts.{LacksAttempt}
 use Rattle.sock_message.specs.Asked.{Asked}
 use Rattle.prpc_frame.specs.rpc_meta.specs.declared.meta.ResponseMeta.{ResponseMeta}
@@ -18,10 +18,10 @@ has_response None = false
 has_response (Some r) = true
 
 abbrev pub slot_in : Frame → ℕ
-slot_in f = slot_of f.meta.correlation_id
+slot_in f = id_slot f.meta.correlation_id
 
 abbrev pub version_in : Frame → ℕ
-version_in f = version_of f.meta.correlation_id
+version_in f = id_first f.meta.correlation_id
 
 -- a response of one of so many id slots
 abbrev pub is_asked : ℕ → Frame → Bool

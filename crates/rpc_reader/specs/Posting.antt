@@ -6,13 +6,13 @@ use lib.ListN.{get_elem?}
 use Rattle.sock_words.specs.Words.{at_word_first, at_word_slot, at_word_link, at_word_attempt}
 use Rattle.sock_words.specs.declared.at_word.AtWord.{AtWord}
 use Rattle.sock_words.specs.declared.outcome.Outcome.TheVariants.{CallFailed}
-use Rattle.corr_core.specs.Word.{Parts, parts}
+use Rattle.corr_core.specs.Word.{Parts, parts, id_slot, id_first, call_id}
 use Rattle.corr_core.specs.declared.marks.Plan.{Plan}
 use Rattle.corr_core.specs.declared.marks.View.{View}
 use Rattle.id_rule.specs.Lawful.{at_index, with_kept}
 use Rattle.corr_id.specs.declared.posts.Posted.{Posted}
 use Rattle.corr_id.specs.declared.posts.Posted.TheVariants as posted
-use Rattle.corr_id.specs.Calls.{slot_of, version_of, Quiet, Found, HasId}
+use Rattle.corr_id.specs.Calls.{Quiet, Found, HasId}
 use Rattle.corr_id.specs.Posts.{PostOk}
 use Rattle.sock_message.specs.Asked.{Asked}
 use Rattle.prpc_frame.specs.Meaning.{frame_of}
@@ -36,18 +36,18 @@ PostedTo code other b b' = b' ≡ b
 
 -- the call and the attempt that an at word names; it has no attempt above 6
 abbrev pub call_at : ℕ → ℕ
-call_at w = at_word_slot w * 4294967296 + at_word_first w
+call_at w = call_id (at_word_slot w) (at_word_first w)
 
 abbrev pub attempt_at : ℕ → Option ℕ
 attempt_at w = if nat_lt (at_word_attempt w) 7 then Some (at_word_attempt w) else None
 
 -- the seat found this word of the id that the at word names, and it has the id
 abbrev pub FoundOf : ℕ → ℕ → View Asked → Type 0
-FoundOf w word v = Found (slot_of (call_at w)) word v × HasId (parts word) (version_of (call_at w))
+FoundOf w word v = Found (id_slot (call_at w)) word v × HasId (parts word) (id_first (call_at w))
 
 -- the first response that is kept for an attempt of the id with that word
 abbrev pub kept_at : ℕ → ℕ → List Frame → Option ℕ
-kept_at w word early = position (is_for (slot_of (call_at w)) (parts word)) early
+kept_at w word early = position (is_for (id_slot (call_at w)) (parts word)) early
 
 -- where the code waits in the queue of the id, no response of the id was kept
 abbrev pub KeptNone : Posted Asked → ℕ → View Asked → List Frame → Type 0

@@ -1,11 +1,11 @@
 -- The calls that are left when no link is read any more.
 use Rattle.std.specs.Prelude.{◌≡◌, ◌≢◌, ◌+◌, ◌<◌, ◌≤◌, ◌⊎◌, ℕ, false, List, [], ◌∷◌}
 use Rattle.corr_core.specs.Law.{total, is_made}
-use Rattle.corr_core.specs.Word.{Parts, parts}
+use Rattle.corr_core.specs.Word.{Parts, parts, id_slot, id_first}
 use Rattle.corr_core.specs.declared.marks.Plan.{Plan}
 use Rattle.corr_core.specs.declared.marks.View.{View}
 use Rattle.id_rule.specs.Lawful.{call_index, notes_of, with_kept}
-use Rattle.corr_id.specs.Calls.{slot_of, version_of, GotLock, Quiet, Found, OutOf}
+use Rattle.corr_id.specs.Calls.{GotLock, Quiet, Found, OutOf}
 use Rattle.corr_id.specs.Ruled.{is_place}
 use Rattle.sock_message.specs.Asked.{Asked}
 use Rattle.rpc_reader.specs.Books.{Books}
@@ -21,23 +21,23 @@ pub record NoneNoted (p : Plan) (operation : ℕ) (b b' : Books) : Type 0 where
 pub record HadEnded (slots id : ℕ) (b b' : Books) : Type 0 where
   pub quiet : Quiet b.view b'.view
   pub word : ℕ
-  pub cause : ((slots ≤ slot_of id) × (word ≡ 0)) ⊎ (Found (slot_of id) word b'.view × OutOf (parts word) (version_of id))
+  pub cause : ((slots ≤ id_slot id) × (word ≡ 0)) ⊎ (Found (id_slot id) word b'.view × OutOf (parts word) (id_first id))
   -- and if the seat knew that the id was made, the word has a later range
-  pub later : slot_of id < slots → 0 < total (is_made (version_of id)) (notes_of (slot_of id) b.view.notes) → version_of id < (parts word).first
+  pub later : id_slot id < slots → 0 < total (is_made (id_first id)) (notes_of (id_slot id) b.view.notes) → id_first id < (parts word).first
   pub same : b' ≡ record b { view = b'.view }
 
 -- it was locked, and its call ended with the first response that was kept for it, or with the code
 pub record EndedLast (slots code id : ℕ) (b b' : Books) : Type 0 where
-  pub inside : slot_of id < slots
+  pub inside : id_slot id < slots
   pub locked : View Asked
   pub found : ℕ
   pub word : Parts
   pub call : Asked
-  pub range : (word.first ≤ version_of id) × (version_of id < word.first + word.range)
+  pub range : (word.first ≤ id_first id) × (id_first id < word.first + word.range)
   -- if the seat knew that this id was made, it is the one that was locked
-  pub own : 0 < total (is_made (version_of id)) (notes_of (slot_of id) b.view.notes) → word.first ≡ version_of id
-  pub got : GotLock (slot_of id) b.view locked found word call
-  pub lost : LockLost (slot_of id) word call code (record b { view = locked }) b'
+  pub own : 0 < total (is_made (id_first id)) (notes_of (id_slot id) b.view.notes) → word.first ≡ id_first id
+  pub got : GotLock (id_slot id) b.view locked found word call
+  pub lost : LockLost (id_slot id) word call code (record b { view = locked }) b'
 
 -- the operation's word had an id, which the seat keeps in mind; and with that no call is left
 pub record NotedEnds (p : Plan) (code operation : ℕ) (b b' : Books) : Type 0 where

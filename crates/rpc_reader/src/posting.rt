@@ -1,10 +1,10 @@
 // The calls that wait for a link whose reading has ended.
 ghost use Rattle.std.specs.Prelude.{◌≡◌, ◌≢◌, ◌==◌, ◌<◌, ◌≤◌, ℕ, [], true, false, None, All, MatchOption, position};
 ghost use Rattle.sock_words.specs.Words.{at_word_link, at_word_slot, at_word_first};
-ghost use Rattle.corr_core.specs.Word.{parts};
+ghost use Rattle.corr_core.specs.Word.{parts, id_slot, id_first};
 ghost use Rattle.corr_core.specs.declared.marks.Hand.TheVariants.{Empty};
 ghost use Rattle.id_rule.specs.Lawful.{tokens_in};
-ghost use Rattle.corr_id.specs.Calls.{slot_of, version_of, HasId, LacksId, Locks};
+ghost use Rattle.corr_id.specs.Calls.{HasId, LacksId, Locks};
 ghost use Rattle.corr_id.specs.Seats.{Sits};
 ghost use Rattle.rpc_reader.specs.Seats.{IsOpen, Rests};
 ghost use Rattle.rpc_reader.specs.Books.{books};
@@ -74,7 +74,7 @@ fn attempt_of(word: AtWord) -> Option<u8>
 // The id that it names.
 fn id_at(word: AtWord) -> u64
     ensures id { result ≡ call_at word.0 }
-    ensures of_parts { (slot_of result ≡ at_word_slot word.0) × (version_of result ≡ at_word_first word.0) }
+    ensures of_parts { (id_slot result ≡ at_word_slot word.0) × (id_first result ≡ at_word_first word.0) }
 {
     u64::from(word.slot()) * 4_294_967_296 + u64::from(word.first())
 }

@@ -28,9 +28,9 @@ use Rattle.sock_steps.proofs.Places.{own_count}
 use Rattle.seat_programs.specs.Calls.{Call, SetOdd, LookWord, LoadCode}
 use Rattle.seat_programs.specs.Writings.{Puts, Waits, Empties, Walks}
 use Rattle.seat_programs.specs.Programs.{Program, Do, Rest, TakeMessage, TakeHome, PutHome, PutBytes, AskReady, Write, Aside, Round}
-use Rattle.corr_core.specs.Word.{parts, code_of}
+use Rattle.corr_core.specs.Word.{parts, code_of, id_slot}
 use Rattle.corr_core.specs.Decisions.{ends_call}
-use Rattle.seat_programs.specs.Asides.{PutCall, id_slot}
+use Rattle.seat_programs.specs.Asides.{PutCall}
 use Rattle.seat_programs.specs.Heads.{HasEnded, Posts, Unlocks, Decides, Locks, Joins, Opens, Reads, Discards}
 use Rattle.seat_programs.specs.Posts.{end_id, unlocked}
 use Rattle.seat_programs.specs.Beside.{calls_after}

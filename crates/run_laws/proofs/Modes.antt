@@ -3,14 +3,14 @@
 use Rattle.std.proofs.Common.{◌≡◌, ℕ, zero, suc, ◌+◌, ◌-◌, ◌%◌, ◌/◌, Bool, true, false, ◌&&◌, eqb, not, List, [], ◌∷◌, ◌++◌, length, drop, refl, sym, subst, nat_lt}
 use Rattle.std.specs.Prelude.{◌==◌, if◌then◌else◌, nat_le, None, Some}
 use Rattle.std.specs.Prelude as std
-use Rattle.sock_words.specs.Words.{socket_id_version, socket_id_slot, vref_version, vref_nref}
+use Rattle.sock_words.specs.Words.{socket_id_version, socket_id_slot, vref_version, vref_nref, ticket_request, ticket_generation}
 use Rattle.sock_words.specs.declared.outcome.Outcome.TheVariants.{Unopened, Gone, Held, Freed, Kept, Full}
 use Rattle.sock_io.specs.declared.link.Put.{Put}
 use Rattle.sock_io.specs.declared.link.Put.TheVariants as puts
 use Rattle.sock_io.specs.declared.link.Ready.{Ready}
 use Rattle.sock_io.specs.declared.link.Ready.TheVariants as asks
 use Rattle.sock_model.specs.declared.chain.Heading.{Heading}
-use Rattle.sock_model.specs.Entries.{ticket_of, slot_of, generation_of}
+use Rattle.sock_model.specs.Entries.{ticket_of}
 use Rattle.sock_model.specs.Memory.{IDLE, UNCONNECTED}
 use Rattle.seat_programs.specs.declared.task.Op.{Op}
 use Rattle.seat_programs.specs.declared.task.Op.TheVariants as ops
@@ -24,7 +24,7 @@ use Rattle.seat_programs.specs.Clients.{HeldLife, held_under, without_name, give
 use Rattle.seat_programs.specs.Cores.{next_step, resolved}
 use Rattle.programs_allowed.specs.program_steps.specs.Sound.{first_step}
 use Rattle.seat_programs.specs.Parts.{part}
-use Rattle.corr_core.specs.Word.{parts, error_of, code_of, posted_word, unlocked_word}
+use Rattle.corr_core.specs.Word.{parts, error_of, code_of, posted_word, unlocked_word, id_slot, id_first, call_id}
 use Rattle.corr_core.specs.Law.{LAST}
 use Rattle.corr_core.specs.Decisions.{WHOLE, ends_call}
 use Rattle.corr_core.specs.Versions.{is_early}
@@ -34,7 +34,7 @@ use Rattle.brpc_model.specs.ResponseOutcome.{ending_of as ending_by}
 use Rattle.sock_words.specs.Words.{at_word, at_word_slot, at_word_first, at_word_link, at_word_attempt}
 use Rattle.sock_words.specs.declared.outcome.Outcome.TheVariants.{NotBegun, Joined}
 use Rattle.sock_message.specs.Asked.{Asked, frame_of}
-use Rattle.seat_programs.specs.Asides.{Found, FreeId, PutCall, StoreAt, Taking, Bytes, Nothing, Closed, id_slot, id_first, call_id}
+use Rattle.seat_programs.specs.Asides.{Found, FreeId, PutCall, StoreAt, Taking, Bytes, Nothing, Closed}
 use Rattle.seat_programs.specs.Heads.{Head, Exit, Retry, Sought, Version, Reading, Ended, Posts, Unlocks, Decides, Locks, Joins, Opens, Reads, Discards, Posting, WasGone, WasStale, WasCrowded, WasQueued, HasLocked, Unlocking, IsOpen, HasNext, Deciding, HasEnded, Locking, NotThere}
 use Rattle.seat_programs.specs.Heads.{GoesOn as OpenAgain, Has as HasLock}
 use Rattle.seat_programs.specs.Posts.{packed, advance_of, is_first, is_stale, is_full, is_sought, judged, post, post_with, posted, popped, end_id, decide, decided, unlocked, locking}
@@ -286,13 +286,13 @@ loop_guarded (Discards l total) k goes = (tt, discarded_guarded l total k goes)
 -- ## Writing
 
 freed_guarded : (now : ℕ) (next : Program) → Guarded Unknown next → Guarded Unknown (freed now next)
-freed_guarded now next k = sides (generation_of now == LAST_GENERATION) next (Do (FreeRequest (slot_of now) (generation_of now)) (λ _. next)) Unknown k (tt, λ a. k)
+freed_guarded now next k = sides (ticket_generation now == LAST_GENERATION) next (Do (FreeRequest (ticket_request now) (ticket_generation now)) (λ _. next)) Unknown k (tt, λ a. k)
 
 module _ (after : Program) (k : Guarded Unknown after) where
   passed_guarded : (h : Holder) (now : ℕ) (tells : Program → Program) → ((q : Program) → Guarded Unknown q → Guarded Unknown (tells q)) → Guarded Unknown (passed_telling h now tells after)
-  passed_guarded h now tells t = sides (now == h.last) (freed now (tells (Write (Empties h) after))) (Do (ReadNext (slot_of now)) (λ next. freed now (tells (TakeMessage (slot_of next) (λ heading bytes. Write (Puts h next heading bytes 0 false) after))))) Unknown
+  passed_guarded h now tells t = sides (now == h.last) (freed now (tells (Write (Empties h) after))) (Do (ReadNext (ticket_request now)) (λ next. freed now (tells (TakeMessage (ticket_request next) (λ heading bytes. Write (Puts h next heading bytes 0 false) after))))) Unknown
       (freed_guarded now (tells (Write (Empties h) after)) (t (Write (Empties h) after) (tt, k)))
-      (tt, λ next. freed_guarded now (tells (TakeMessage (slot_of next) (λ heading bytes. Write (Puts h next heading bytes 0 false) after))) (t (TakeMessage (slot_of next) (λ heading bytes. Write (Puts h next heading bytes 0 false) after)) (tt, λ heading bytes. (tt, k))))
+      (tt, λ next. freed_guarded now (tells (TakeMessage (ticket_request next) (λ heading bytes. Write (Puts h next heading bytes 0 false) after))) (t (TakeMessage (ticket_request next) (λ heading bytes. Write (Puts h next heading bytes 0 false) after)) (tt, λ heading bytes. (tt, k))))
 
   put_guarded : (h : Holder) (now : ℕ) (heading : Heading) (left : List ℕ) (taken : ℕ) (answer : Put) → Guarded (put_mode (socket_id_slot h.id) answer) (put_answered h now heading left taken after answer)
   put_guarded h now heading left taken (puts.Took n) = sides (nat_le (length left) n) (placed h now heading after) (Write (Puts h now heading (drop n left) (taken + n) false) after) Fed (refl, λ a. passed_guarded (one_more h) now (λ q. q) (λ q g. g)) (tt, k)
@@ -322,8 +322,8 @@ module _ (after : Program) (k : Guarded Unknown after) where
   block_guarded (Walks h top at next) = (
     tt,
     λ found. sides (found == UNCONNECTED) (Write (Walks h top at next) after)
-        (Do (ReverseNext (slot_of at) next) (λ _. if found == h.last then TakeMessage (slot_of at) (λ heading bytes. Write (Puts (record h { last = top }) at heading bytes 0 false) after) else Write (Walks h top found at) after)) Unknown (tt, k)
-        (tt, λ a. sides (found == h.last) (TakeMessage (slot_of at) (λ heading bytes. Write (Puts (record h { last = top }) at heading bytes 0 false) after)) (Write (Walks h top found at) after) Unknown (tt, λ heading bytes. (tt, k)) (tt, k)),
+        (Do (ReverseNext (ticket_request at) next) (λ _. if found == h.last then TakeMessage (ticket_request at) (λ heading bytes. Write (Puts (record h { last = top }) at heading bytes 0 false) after) else Write (Walks h top found at) after)) Unknown (tt, k)
+        (tt, λ a. sides (found == h.last) (TakeMessage (ticket_request at) (λ heading bytes. Write (Puts (record h { last = top }) at heading bytes 0 false) after)) (Write (Walks h top found at) after) Unknown (tt, λ heading bytes. (tt, k)) (tt, k)),
   )
 
 -- a seat at the head of a loop makes the first step of the round, and any other its next one

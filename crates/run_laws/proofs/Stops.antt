@@ -27,7 +27,6 @@ use Rattle.sock_model.specs.Plain.{life_at}
 use Rattle.life_events.specs.Events.{life_of}
 use Rattle.seat_programs.specs.StepsOfSlots.{even_version}
 use Rattle.sock_model.specs.Links.{HoldsLink, Given, Failed}
-use Rattle.sock_model.specs.Slots.{version_of}
 use Rattle.sock_model.specs.SlotRows.{marks_of, looked, told_code}
 use Rattle.slot_steps.proofs.Numbers.{only-same}
 use Rattle.chain_steps.proofs.Lists.{at_length}
@@ -240,15 +239,15 @@ module _ (p : Plan) (c : Core) (views : List View) (stopped : ℕ → Bool) (kep
       pub link_of : (q : Right) → w.rights ≡ q ∷ [] → q.link ≡ r.link
       link_of q is_q = ap (λ (x : Right). x.link) (heads_same q k.right (sym is_q ∙ k.rights)) ∙ k.link
 
-      marks_are : w.marks ≡ at slot (mark.Saw (version_of word)) ∷ v.marks
+      marks_are : w.marks ≡ at slot (mark.Saw (vref_version word)) ∷ v.marks
       marks_are = ap (λ rs. (by_right rs (looked_clean slot word v) (looked slot word v)).marks) one ∙ by_test (eqb (vref_version word % 2) 0)
         where
-          by_test : (b : Bool) → (cond b (with_right (looked slot word v) (record r { clean = true })) (looked slot word v)).marks ≡ at slot (mark.Saw (version_of word)) ∷ v.marks
+          by_test : (b : Bool) → (cond b (with_right (looked slot word v) (record r { clean = true })) (looked slot word v)).marks ≡ at slot (mark.Saw (vref_version word)) ∷ v.marks
           by_test true = refl
           by_test false = refl
 
       more : (f : Mark → ℕ) (j : ℕ) → marks_of f j v ≤ marks_of f j w
-      more f j = let e = ap (λ (es : List SlotMark). total f (about j es)) marks_are in omega (arith, e, about_more f j slot (mark.Saw (version_of word)) v.marks)
+      more f j = let e = ap (λ (es : List SlotMark). total f (about j es)) marks_are in omega (arith, e, about_more f j slot (mark.Saw (vref_version word)) v.marks)
 
       pub not_stopped : vref_version word % 2 ≡ 0 → (b : Bool) → stopped r.link ≡ b → stopped r.link ≡ false
       not_stopped even false e = e

@@ -10,14 +10,14 @@ use lib.ListN.{get_elem?}
 use Rattle.sock_words.specs.declared.plain.Plan.{Plan}
 use Rattle.sock_io.specs.declared.link.Put.{Put}
 use Rattle.sock_io.specs.declared.link.Ready.{Ready}
-use Rattle.corr_core.specs.Word.{parts, code_of}
+use Rattle.corr_core.specs.Word.{parts, code_of, id_slot}
 use Rattle.corr_core.specs.Decisions.{ends_call}
 use Rattle.brpc_model.specs.Items.{Item}
 use Rattle.brpc_model.specs.Operations.{Turn}
 use Rattle.brpc_model.specs.Script.{script_of}
 use Rattle.sock_model.specs.Messages.{Letter}
 use Rattle.sock_model.specs.Reads.{message, link_home}
-use Rattle.seat_programs.specs.Asides.{Step, ClaimId, PutCall, MakeId, StoreCall, LoadCall, StoreAt, LoadAt, LoadIdWord, LockId, PostId, UnlockId, EndId, FreeId, TakeCall, TakeBytes, Found, Taking, Bytes, Nothing, NoMore, AtEnd, Closed, Broken, id_slot}
+use Rattle.seat_programs.specs.Asides.{Step, ClaimId, PutCall, MakeId, StoreCall, LoadCall, StoreAt, LoadAt, LoadIdWord, LockId, PostId, UnlockId, EndId, FreeId, TakeCall, TakeBytes, Found, Taking, Bytes, Nothing, NoMore, AtEnd, Closed, Broken}
 use Rattle.seat_programs.specs.Beside.{at_last, found_in, calls_after, more_given}
 use Rattle.seat_programs.specs.Heads.{Posts, Unlocks, Decides, Locks, Joins, Opens, Reads, Discards, HasEnded}
 use Rattle.seat_programs.specs.Posts.{end_id, unlocked}

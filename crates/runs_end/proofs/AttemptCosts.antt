@@ -8,7 +8,7 @@ use Rattle.sock_model.specs.Entries.{ticket_of}
 use Rattle.sock_model.specs.Memory.{IDLE}
 use Rattle.seat_programs.specs.sock_message.specs.Asked.{Asked, name_of, frame_of}
 use Rattle.seat_programs.specs.Calls.{AddRef, SubRef, Recycle, FreeSlot, LoadLink, LoadName, TakeLink, FinishLink, PutLink, LookWord, FindLink, ClaimRequest, PutMessage, Unconnect, SwapHead, Connect}
-use Rattle.seat_programs.specs.Asides.{StoreAt, id_slot, id_first}
+use Rattle.seat_programs.specs.Asides.{StoreAt}
 use Rattle.seat_programs.specs.Heads.{Unlocks, Unlocking, IsOpen, HasNext, Deciding, HasEnded, Locking, NotThere, Has}
 use Rattle.seat_programs.specs.Heads as heads
 use Rattle.seat_programs.specs.Programs.{Program, Do, Aside, LAST_VERSION, recycle, release, address}
@@ -21,6 +21,7 @@ use Rattle.seat_programs.specs.StepsOfLinks.{link_away}
 use Rattle.sock_runs.specs.program_steps.specs.Lasts.{LastsFor, STALE, CHANGE, ERROR, POST, ACCEPT, weight, attempt_cost, unlocking_gain}
 use Rattle.runs_end.proofs.IdCosts.{lasts_more, post_lasts, decide_lasts}
 use Rattle.runs_end.proofs.Costs.{Lasting, lasting_more, either_lasts, does, takes_first}
+use Rattle.seat_programs.specs.corr_core.specs.Word.{id_slot, id_first}
 
 module _ (p : Plan) where
   -- ## References

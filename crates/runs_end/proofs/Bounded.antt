@@ -6,7 +6,7 @@ use Rattle.std.specs.Prelude as std
 use mathlib.Core.Option.{Option, some, none}
 use lib.ListN.{get_elem?}
 use Rattle.atomic_table.proofs.Lists.{set_again}
-use Rattle.sock_words.specs.Words.{socket_id_version, socket_id_slot}
+use Rattle.sock_words.specs.Words.{socket_id_version, socket_id_slot, ticket_request}
 use Rattle.sock_words.specs.declared.plain.Plan.{Plan}
 use Rattle.seat_programs.specs.sock_io.specs.declared.link.Ready.TheVariants.{NotYet}
 use Rattle.sock_model.specs.declared.chain.Right.{Right}
@@ -14,7 +14,6 @@ use Rattle.sock_model.specs.declared.chain.Stage.{Stage}
 use Rattle.sock_model.specs.declared.chain.Stage.TheVariants as stages
 use Rattle.sock_model.specs.declared.view.View.{View}
 use Rattle.sock_model.specs.Layout.{next_index, open_index}
-use Rattle.sock_model.specs.Entries.{slot_of}
 use Rattle.sock_model.specs.Memory.{UNCONNECTED}
 use Rattle.sock_model.specs.ChainRows.{with_right}
 use Rattle.sock_model.specs.SlotRows.{met}
@@ -64,8 +63,8 @@ module _ (p : Plan) (i : ℕ) (c : Core) (vs : List View) (v : View) (at_view : 
 
   -- a seat that waits keeps its view
   views_stay : (program : Program) (answer : Answer) → GoesOn p v program → waits_at p c answer program ≡ true → views_of p i c vs v answer program ≡ vs
-  views_stay (Write (heads.Walks h top place after) then_) answer g is = let found : ℕ = slice_index c.words (next_index p (slot_of place)) in
-      set_same (row p (ReadNext (slot_of place)) found (hand_at p c.words c.homes (ReadNext (slot_of place))) v) (walk_same top place after g.0.0 g.0.1.one g.0.2.stage_is found is)
+  views_stay (Write (heads.Walks h top place after) then_) answer g is = let found : ℕ = slice_index c.words (next_index p (ticket_request place)) in
+      set_same (row p (ReadNext (ticket_request place)) found (hand_at p c.words c.homes (ReadNext (ticket_request place))) v) (walk_same top place after g.0.0 g.0.1.one g.0.2.stage_is found is)
   views_stay (Write (heads.Waits h now heading left taken) after) (OfReady NotYet) g is = refl
   views_stay (Write (heads.Waits h now heading left taken) after) _ g is = absurd (true≢false (sym is))
   views_stay (Round head next) answer g is = round_stays head next answer is

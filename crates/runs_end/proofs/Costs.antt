@@ -3,7 +3,7 @@ use Rattle.std.proofs.Common.{◌≡◌, ◌≢◌, ℕ, ◌+◌, ◌-◌, ◌*�
 use Rattle.std.proofs.lemmas.Bool.{true≢false}
 use Rattle.std.proofs.lemmas.List.{length-drop}
 use Rattle.sock_words.specs.declared.plain.Plan.{Plan}
-use Rattle.sock_words.specs.Words.{socket_id_version, socket_id_slot, vref_version, vref_nref}
+use Rattle.sock_words.specs.Words.{socket_id_version, socket_id_slot, vref_version, vref_nref, ticket_request, ticket_generation}
 use Rattle.seat_programs.specs.sock_io.specs.declared.link.Put.{Put}
 use Rattle.seat_programs.specs.sock_io.specs.declared.link.Put.TheVariants as puts
 use Rattle.seat_programs.specs.sock_io.specs.declared.link.Ready.TheVariants as asks
@@ -14,7 +14,6 @@ use Rattle.sock_model.specs.declared.marks.SlotMark.{SlotMark}
 use Rattle.sock_model.specs.declared.view.View.{View}
 use Rattle.sock_model.specs.Weights.{total, is_probe, is_hold, is_coding, is_saw}
 use Rattle.sock_model.specs.Marks.{about, at, without_at}
-use Rattle.sock_model.specs.Entries.{slot_of, generation_of}
 use Rattle.sock_model.specs.SlotRows.{marks_of, back, looked}
 use Rattle.sock_model.specs.ChainRows.{with_right}
 use Rattle.seat_programs.specs.Calls.{Call, LookWord, LoadCode, SetOdd, SubRef, StoreCode, StorePlace, DropPlace, EmptyHead, ReadNext, ReverseNext, FreeRequest}
@@ -182,18 +181,18 @@ module _ (p : Plan) (after : Program) (m : ℕ) (follows : Lasting p after m) wh
   )
 
   freed_lasts : (now : ℕ) (next : Program) (n : ℕ) → Lasting p next n → Lasting p (freed now next) (1 + n)
-  freed_lasts now next n l = either_lasts p next (Do (FreeRequest (slot_of now) (generation_of now)) (λ _. next)) (1 + n) (eqb (generation_of now) LAST_GENERATION) (lasting_more p next n (1 + n) (omega arith) l)
-      (λ u. (n, omega arith, λ found hand f. l (row p (FreeRequest (slot_of now) (generation_of now)) found hand u)))
+  freed_lasts now next n l = either_lasts p next (Do (FreeRequest (ticket_request now) (ticket_generation now)) (λ _. next)) (1 + n) (eqb (ticket_generation now) LAST_GENERATION) (lasting_more p next n (1 + n) (omega arith) l)
+      (λ u. (n, omega arith, λ found hand f. l (row p (FreeRequest (ticket_request now) (ticket_generation now)) found hand u)))
 
   -- where what is told costs so much
   telling_lasts : (h : Holder) (now : ℕ) (tells : Program → Program) (t : ℕ) → ((x : Program) (n : ℕ) → Lasting p x n → Lasting p (tells x) (t + n)) → Lasting p (passed_telling h now tells after) (5 + t + m)
-  telling_lasts h now tells t told = let next_of : ℕ → Program = λ next. TakeMessage (slot_of next) (λ heading bytes. Write (Puts h next heading bytes 0 false) after) in
-      either_lasts p (freed now (tells (Write (Empties h) after))) (Do (ReadNext (slot_of now)) (λ next. freed now (tells (next_of next)))) (5 + t + m) (eqb now h.last)
+  telling_lasts h now tells t told = let next_of : ℕ → Program = λ next. TakeMessage (ticket_request next) (λ heading bytes. Write (Puts h next heading bytes 0 false) after) in
+      either_lasts p (freed now (tells (Write (Empties h) after))) (Do (ReadNext (ticket_request now)) (λ next. freed now (tells (next_of next)))) (5 + t + m) (eqb now h.last)
       (lasting_more p (freed now (tells (Write (Empties h) after))) (1 + (t + (4 + m))) (5 + t + m) (omega arith) (freed_lasts now (tells (Write (Empties h) after)) (t + (4 + m)) (told (Write (Empties h) after) (4 + m) (λ u. heads_lasts u (Empties h) (4 + m) (omega arith)))))
       (λ u. (
         4 + t + m,
         omega arith,
-        λ next hand f. lasting_more p (freed now (tells (next_of next))) (1 + (t + (1 + m))) (4 + t + m) (omega arith) (freed_lasts now (tells (next_of next)) (t + (1 + m)) (told (next_of next) (1 + m) (takes_next h next (slot_of next)))) (row p (ReadNext (slot_of now)) next hand u),
+        λ next hand f. lasting_more p (freed now (tells (next_of next))) (1 + (t + (1 + m))) (4 + t + m) (omega arith) (freed_lasts now (tells (next_of next)) (t + (1 + m)) (told (next_of next) (1 + m) (takes_next h next (ticket_request next)))) (row p (ReadNext (ticket_request now)) next hand u),
       ))
 
   passed_lasts : (h : Holder) (now : ℕ) → Lasting p (passed h now after) (5 + m)
@@ -325,15 +324,15 @@ module _ (p : Plan) (after : Program) (m : ℕ) (follows : Lasting p after m) wh
   )
 
   -- a walk that found the next word of its entry, and turns it: its steps are counted by what is left of it
-  turned_lasts : (h : Holder) (top place successor found n : ℕ) → 1 + m ≤ n → Lasting p (Do (ReverseNext (slot_of place) successor) (λ _. cond (eqb found h.last)
-      (TakeMessage (slot_of place) (λ heading bytes. Write (Puts (record h { last = top }) place heading bytes 0 false) after)) (Write (Walks h top found place) after))) n
+  turned_lasts : (h : Holder) (top place successor found n : ℕ) → 1 + m ≤ n → Lasting p (Do (ReverseNext (ticket_request place) successor) (λ _. cond (eqb found h.last)
+      (TakeMessage (ticket_request place) (λ heading bytes. Write (Puts (record h { last = top }) place heading bytes 0 false) after)) (Write (Walks h top found place) after))) n
   turned_lasts h top place successor found n le v = (
     n,
     omega arith,
-    λ word hand f. either_lasts p (TakeMessage (slot_of place) (λ heading bytes. Write (Puts (record h { last = top }) place heading bytes 0 false) after)) (Write (Walks h top found place) after) n (eqb found h.last)
-        (lasting_more p (TakeMessage (slot_of place) (λ heading bytes. Write (Puts (record h { last = top }) place heading bytes 0 false) after)) (1 + m) n le (takes_next (record h { last = top }) place (slot_of place)))
+    λ word hand f. either_lasts p (TakeMessage (ticket_request place) (λ heading bytes. Write (Puts (record h { last = top }) place heading bytes 0 false) after)) (Write (Walks h top found place) after) n (eqb found h.last)
+        (lasting_more p (TakeMessage (ticket_request place) (λ heading bytes. Write (Puts (record h { last = top }) place heading bytes 0 false) after)) (1 + m) n le (takes_next (record h { last = top }) place (ticket_request place)))
         (λ u. heads_lasts u (Walks h top found place) n le)
-        (row p (ReverseNext (slot_of place) successor) word hand v),
+        (row p (ReverseNext (ticket_request place) successor) word hand v),
   )
 
 -- a program that is at the head of a walk
@@ -350,5 +349,5 @@ lasts_round p v (Walks h top place successor) after n a other l = absurd (other 
 
 -- a walk goes on behind the next word of its entry, where that was found
 pub lasts_walk : (p : Plan) (v : View) (h : Holder) (top place successor found : ℕ) (then_ : Program) (n : ℕ) → LastsFor p v (Write (Walks h top place successor) then_) n
-    → Lasting p (Do (ReverseNext (slot_of place) successor) (λ _. cond (eqb found h.last) (TakeMessage (slot_of place) (λ heading bytes. Write (Puts (record h { last = top }) place heading bytes 0 false) then_)) (Write (Walks h top found place) then_))) n
+    → Lasting p (Do (ReverseNext (ticket_request place) successor) (λ _. cond (eqb found h.last) (TakeMessage (ticket_request place) (λ heading bytes. Write (Puts (record h { last = top }) place heading bytes 0 false) then_)) (Write (Walks h top found place) then_))) n
 lasts_walk p v h top place successor found then_ n l = turned_lasts p then_ l.0 l.2 h top place successor found n l.1

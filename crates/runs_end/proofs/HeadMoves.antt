@@ -12,13 +12,13 @@ use Rattle.sock_model.specs.declared.view.View.{View}
 use Rattle.sock_model.specs.declared.view.Hand.{Hand}
 use Rattle.sock_model.specs.Layout.{open_index}
 use Rattle.sock_model.specs.Weights.{total}
-use Rattle.seat_programs.specs.corr_core.specs.Word.{parts, posted_word, unlocked_word, code_of}
+use Rattle.seat_programs.specs.corr_core.specs.Word.{parts, posted_word, unlocked_word, code_of, id_slot, id_first}
 use Rattle.seat_programs.specs.corr_core.specs.Law.{LAST}
 use Rattle.seat_programs.specs.corr_core.specs.Decisions.{ends_call}
 use Rattle.seat_programs.specs.id_rule.specs.Lawful.{id_index}
 use Rattle.seat_programs.specs.sock_message.specs.Asked.{Asked}
 use Rattle.seat_programs.specs.Calls.{LoadOpen}
-use Rattle.seat_programs.specs.Asides.{Step, Found, PutCall, LoadIdWord, LockId, PostId, UnlockId, EndId, FreeId, TakeBytes, Taking, Bytes, Nothing, NoMore, id_slot, id_first}
+use Rattle.seat_programs.specs.Asides.{Step, Found, PutCall, LoadIdWord, LockId, PostId, UnlockId, EndId, FreeId, TakeBytes, Taking, Bytes, Nothing, NoMore}
 use Rattle.seat_programs.specs.Heads.{Head, Exit, Sought, Reading, Posts, Unlocks, Decides, Locks, Joins, Opens, Reads, Discards, Posting, WasQueued, HasLocked, Unlocking, Deciding, HasEnded, Locking, Has, Ended}
 use Rattle.seat_programs.specs.Beside.{found_in, at_last, taking_in}
 use Rattle.seat_programs.specs.Posts.{packed, judged, popped, locking, advance_of, end_id, unlocked, is_sought, is_first}

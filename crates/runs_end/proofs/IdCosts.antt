@@ -4,11 +4,11 @@ use Rattle.std.proofs.lemmas.Bool.{true≢false}
 use Rattle.std.specs.Prelude as std
 use Rattle.sock_words.specs.declared.plain.Plan.{Plan}
 use Rattle.sock_model.specs.declared.view.View.{View}
-use Rattle.seat_programs.specs.corr_core.specs.Word.{parts, code_of, error_of, posted_word, unlocked_word}
+use Rattle.seat_programs.specs.corr_core.specs.Word.{parts, code_of, error_of, posted_word, unlocked_word, id_slot, id_first}
 use Rattle.seat_programs.specs.corr_core.specs.Law.{LAST}
 use Rattle.seat_programs.specs.corr_core.specs.Decisions.{ends_call}
 use Rattle.seat_programs.specs.sock_message.specs.Asked.{Asked}
-use Rattle.seat_programs.specs.Asides.{Step, Found, LoadIdWord, LockId, PostId, UnlockId, FreeId, PutCall, id_slot, id_first}
+use Rattle.seat_programs.specs.Asides.{Step, Found, LoadIdWord, LockId, PostId, UnlockId, FreeId, PutCall}
 use Rattle.seat_programs.specs.Heads.{Retry, Sought, Posts, Unlocks, Decides, Locks, Joins, Opens, Posting, WasGone, WasStale, WasCrowded, WasQueued, HasLocked, Unlocking, IsOpen, HasNext, Deciding, HasEnded, Locking, NotThere, Has}
 use Rattle.seat_programs.specs.Heads as heads
 use Rattle.seat_programs.specs.Programs.{Program, Say, Sent, Rest, TakeMessage, PutBytes, AskReady, Aside, Round, Retries}

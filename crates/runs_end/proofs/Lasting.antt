@@ -20,7 +20,7 @@ use Rattle.sock_model.specs.declared.home.Home.{Home}
 use Rattle.sock_model.specs.declared.home.Home.TheVariants.{Link, Message}
 use Rattle.sock_model.specs.declared.view.View.{View}
 use Rattle.sock_model.specs.declared.view.Hand.{Hand}
-use Rattle.sock_model.specs.Entries.{on, slot_of}
+use Rattle.sock_model.specs.Entries.{on}
 use Rattle.sock_model.specs.Layout.{head_index, link_index, next_index}
 use Rattle.sock_model.specs.Memory.{IDLE, UNCONNECTED}
 use Rattle.sock_model.specs.Weights.{total, only}
@@ -67,6 +67,7 @@ use Rattle.runs_end.proofs.SeatCosts.{IsThere, waiting_left, waiting_set, settle
 use Rattle.runs_end.proofs.IdsLeft.{all_stale}
 use Rattle.runs_end.proofs.WalksLeft.{rights_few, read_less, message_few, away_few, home_few, put_few, message_lists, away_lists, home_lists, put_lists, lists_more, all_more, all_rights, set_few, held_light, home_cost, homes_few}
 use Rattle.runs_end.proofs.WalksLeft as WalksLeft
+use Rattle.sock_words.specs.Words.{ticket_request}
 
 -- ## Steps
 
@@ -408,19 +409,19 @@ module _ (p : Plan) (c : Core) (vs : List View) (n : ℕ) (lasts : Lasts p c vs 
       round_moves w after step goes l a = ⊎_elim (λ none_. absurd (never_rests w after none_)) (λ few. few) (first_moves (block w after) step (begins_round p v w after goes) l a)
 
       walk_moves : (h : Holder) (top place successor : ℕ) (then_ : Program) → GoesOn p v (Write (Walks h top place successor) then_) → LastsFor p v (Write (Walks h top place successor) then_) k → Moves (Write (Walks h top place successor) then_)
-      walk_moves h top place successor then_ goes l = by_found (eqb (slice_index c.words (next_index p (slot_of place))) UNCONNECTED) refl
+      walk_moves h top place successor then_ goes l = by_found (eqb (slice_index c.words (next_index p (ticket_request place))) UNCONNECTED) refl
         where
-          by_found : (b : Bool) → eqb (slice_index c.words (next_index p (slot_of place))) UNCONNECTED ≡ b → Moves (Write (Walks h top place successor) then_)
+          by_found : (b : Bool) → eqb (slice_index c.words (next_index p (ticket_request place))) UNCONNECTED ≡ b → Moves (Write (Walks h top place successor) then_)
           by_found true is = inl (inr is)
-          by_found false is = let found : ℕ = slice_index c.words (next_index p (slot_of place)) in let r : Right = goes.0.0 in let o = sound.lawful in let call : Call = ReadNext (slot_of place) in
+          by_found false is = let found : ℕ = slice_index c.words (next_index p (ticket_request place)) in let r : Right = goes.0.0 in let o = sound.lawful in let call : Call = ReadNext (ticket_request place) in
               let w : View = row p call found (hand_at p c.words c.homes call) v in
-              let turns : Program = Do (ReverseNext (slot_of place) successor) (λ _. cond (eqb found h.last) (TakeMessage (slot_of place) (λ heading bytes. Write (Puts (record h { last = top }) place heading bytes 0 false) then_)) (Write (Walks h top found place) then_)) in
+              let turns : Program = Do (ReverseNext (ticket_request place) successor) (λ _. cond (eqb found h.last) (TakeMessage (ticket_request place) (λ heading bytes. Write (Puts (record h { last = top }) place heading bytes 0 false) then_)) (Write (Walks h top found place) then_)) in
               let begins = begins_round p v (Walks h top place successor) then_ goes in
-              inr (seat_steps (cond (eqb found UNCONNECTED) (Write (Walks h top place successor) then_) turns) seat.hand (set c.words (next_index p (slot_of place)) found) c.homes w k
+              inr (seat_steps (cond (eqb found UNCONNECTED) (Write (Walks h top place successor) then_) turns) seat.hand (set c.words (next_index p (ticket_request place)) found) c.homes w k
               (begins.1 found (hand_at p c.words c.homes call) (allowed sound call begins.0))
               (subst (λ b. LastsFor p w (cond b (Write (Walks h top place successor) then_) turns) k) (sym is) (lasts_walk p v h top place successor found then_ k l w))
               (lists_stay p v found (hand_at p c.words c.homes call) call refl)
-              (let z = WalksLeft.read_less (accepted vs) p v found (hand_at p c.words c.homes call) (slot_of place) r top place successor goes.0.1.one goes.0.2.stage_is (λ e. true≢false (sym (eq-eqb found UNCONNECTED e) ∙ is))
+              (let z = WalksLeft.read_less (accepted vs) p v found (hand_at p c.words c.homes call) (ticket_request place) r top place successor goes.0.1.one goes.0.2.stage_is (λ e. true≢false (sym (eq-eqb found UNCONNECTED e) ∙ is))
               (omega (arith, walk_less o i 0 v r at_view (ap (λ (rs : List Right). get_elem? rs 0) goes.0.1.one) top place successor goes.0.2.stage_is, accepted_count (λ (u : View). u.lists) vs o.log o.authors r.link)) in omega (arith, z)))
 
       no_loop : (program : Program) → ((kind_in program ≡ None) ⊎ Fewer p n (step_with p i seat c answer program) (views_with p i c vs v answer program))

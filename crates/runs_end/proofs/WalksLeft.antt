@@ -6,7 +6,7 @@ use mathlib.Core.Logic.{dite}
 use mathlib.Core.Option.{Option, some, none}
 use native.Mathlib.Decide.{ℕ_discrete}
 use Rattle.sock_words.specs.declared.plain.Plan.{Plan}
-use Rattle.sock_words.specs.Words.{socket_id_slot, vref_version}
+use Rattle.sock_words.specs.Words.{socket_id_slot, vref_version, ticket_generation}
 use Rattle.seat_programs.specs.sock_io.specs.declared.link.Put.{Put}
 use Rattle.seat_programs.specs.sock_io.specs.declared.link.Put.TheVariants.{Took, Again, Failed}
 use Rattle.sock_model.specs.declared.chain.Entry.{Entry}
@@ -18,7 +18,7 @@ use Rattle.sock_model.specs.declared.home.Home.{Home}
 use Rattle.sock_model.specs.declared.home.Home.TheVariants.{Message}
 use Rattle.sock_model.specs.declared.view.View.{View}
 use Rattle.sock_model.specs.declared.view.Hand.{Hand}
-use Rattle.sock_model.specs.Entries.{on, generation_of}
+use Rattle.sock_model.specs.Entries.{on}
 use Rattle.sock_model.specs.Memory.{UNCONNECTED}
 use Rattle.sock_model.specs.Weights.{total, only}
 use Rattle.sock_model.specs.SlotRows.{looked}
@@ -74,8 +74,8 @@ module _ (counts : ℕ → ℕ) where
   left = walk_left counts
 
   not_turning : (last : ℕ) (b : Stage) → is_turning (settled_stage last b) ≡ is_turning b
-  not_turning last (Placed now) = either_way ((now == last) && (generation_of now == LAST_GENERATION)) Empties (Placed now) (λ (z : Stage). is_turning z ≡ 0) refl refl
-  not_turning last (Passes now next) = either_way (generation_of now == LAST_GENERATION) (Writes next) (Passes now next) (λ (z : Stage). is_turning z ≡ 0) refl refl
+  not_turning last (Placed now) = either_way ((now == last) && (ticket_generation now == LAST_GENERATION)) Empties (Placed now) (λ (z : Stage). is_turning z ≡ 0) refl refl
+  not_turning last (Passes now next) = either_way (ticket_generation now == LAST_GENERATION) (Writes next) (Passes now next) (λ (z : Stage). is_turning z ≡ 0) refl refl
   not_turning last _ = refl
 
   turned_few : (r : Right) (top at before : ℕ) → (left (turned_right r top at before) ≡ 2 * (counts r.link - (r.noted + suc r.turned))) × ((turned_right r top at before).link ≡ r.link)

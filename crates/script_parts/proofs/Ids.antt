@@ -17,14 +17,13 @@ use Rattle.sock_words.specs.declared.vref.Vref.{Vref}
 use Rattle.brpc_model.specs.Items.{Item}
 use Rattle.brpc_model.specs.Messages.{shown_id}
 use Rattle.corr_core.specs.Law.{total}
-use Rattle.corr_core.specs.Word.{parts}
+use Rattle.corr_core.specs.Word.{parts, id_slot, id_first}
 use Rattle.corr_core.specs.declared.marks.Note.{Note}
 use Rattle.corr_core.specs.declared.marks.Note.TheVariants.{Tried, Made, Ended, Locker, Queued, Attempt, Saw}
 use Rattle.corr_core.specs.declared.marks.Noted.{Noted}
 use Rattle.corr_core.specs.declared.marks.Plan as id_plan
 use Rattle.corr_core.specs.declared.marks.View.{View}
 use Rattle.corr_core.proofs.Notes.{only-at, pair-at, pair-else, pair-else_first, total_some}
-use Rattle.corr_id.specs.Calls.{slot_of, version_of}
 use Rattle.corr_id.specs.Closing.{Closing}
 use Rattle.id_rule.specs.Lawful.{notes_of}
 use Rattle.sock_message.specs.Asked.{Asked}
@@ -144,7 +143,7 @@ module _ {O : Type 0} {g : Ghosts O} {state : O → OutState} {readers : List (L
     -- a call that began isn't unopened
     pub begun_not : (o id k : ℕ) (v : View Asked) → get_elem? ids k ≡ some v → HasBegunHere q o id v → Became all outcomes o outcome.Unopened → ⊥
     begun_not o id k v at begun un =
-        let slot = slot_of id in let f = version_of id in
+        let slot = id_slot id in let f = id_first id in
         let w = tellers_of.unopened ran script tasks are notes have tellers last end_told o un in
         let here = have.all slot (is_made_for f o) in
         let one = term (λ (y : View Asked). total (is_made_for f o) (notes_of slot y.notes)) ids k v at in

@@ -65,13 +65,3 @@ kind_aside (TakeCall i) = K2
 kind_aside (TakeBytes k room) = R1
 
 -- ## Ids
-
--- the slot in bits 32 to 63, the first version in bits 0 to 31
-abbrev pub call_id : ℕ → ℕ → ℕ
-call_id slot first = slot * 4294967296 + first
-
-abbrev pub id_slot : ℕ → ℕ
-id_slot id = id / 4294967296
-
-abbrev pub id_first : ℕ → ℕ
-id_first id = id % 4294967296

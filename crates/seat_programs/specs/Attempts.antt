@@ -5,12 +5,12 @@ use Rattle.sock_model.specs.sock_words.specs.Codes.{EFAILEDSOCKET, EREQUESTS, ER
 use Rattle.sock_model.specs.sock_words.specs.Words.{socket_id_version, socket_id_slot, vref_version, at_word}
 use Rattle.sock_model.specs.sock_words.specs.declared.outcome.Outcome.{Outcome}
 use Rattle.sock_model.specs.sock_words.specs.declared.outcome.Outcome.TheVariants.{Unopened, Expired, Queued, Late, Crowded, Joined, NotBegun}
-use Rattle.corr_core.specs.Word.{parts, error_of}
+use Rattle.corr_core.specs.Word.{parts, error_of, call_id, id_slot, id_first}
 use Rattle.corr_core.specs.Decisions.{WHOLE}
 use Rattle.sock_model.specs.declared.chain.Heading.{Heading}
 use Rattle.sock_message.specs.Asked.{Asked, name_of, frame_of, parts_of}
 use Rattle.seat_programs.specs.Calls.{LookWord, FindLink, ClaimRequest, LoadName}
-use Rattle.seat_programs.specs.Asides.{ClaimId, PutCall, MakeId, StoreCall, LoadCall, StoreAt, TakeCall, call_id, id_slot, id_first}
+use Rattle.seat_programs.specs.Asides.{ClaimId, PutCall, MakeId, StoreCall, LoadCall, StoreAt, TakeCall}
 use Rattle.seat_programs.specs.Heads.{First, Unlocks, Locks, Joins, Posting, WasGone, WasStale, WasCrowded, WasQueued, HasLocked, Unlocking, IsOpen, HasNext, Locking, NotThere, Has}
 use Rattle.seat_programs.specs.Programs.{Program, Do, Say, Aside, Round, address, release}
 use Rattle.seat_programs.specs.Posts.{post, post_with, posted, decide, decided}

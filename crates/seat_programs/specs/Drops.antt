@@ -3,12 +3,11 @@ use Rattle.std.specs.Prelude.{ℕ, ◌≡◌, ◌≢◌, ◌-◌, ◌%◌, ◌<�
 use mathlib.Core.Option.{none, some}
 use lib.ListN.{get_elem?}
 use Rattle.sock_model.specs.sock_words.specs.declared.plain.Plan.{Plan}
-use Rattle.sock_model.specs.sock_words.specs.Words.{vref_version, vref_nref}
+use Rattle.sock_model.specs.sock_words.specs.Words.{vref_version, vref_nref, ticket_request}
 use Rattle.sock_model.specs.sock_words.specs.declared.outcome.Outcome.{Outcome}
 use Rattle.sock_model.specs.sock_words.specs.declared.outcome.Outcome.TheVariants.{Freed, Kept}
 use Rattle.sock_message.specs.brpc_model.specs.Items.{Item}
 use Rattle.sock_message.specs.brpc_model.specs.Operations.{Turn}
-use Rattle.sock_model.specs.Entries.{slot_of}
 use Rattle.seat_programs.specs.declared.task.Op.TheVariants as ops
 use Rattle.seat_programs.specs.declared.task.Task.{Task}
 use Rattle.seat_programs.specs.Calls.{Call, SubRef, Recycle, LookWord, ReadNext}
@@ -26,7 +25,7 @@ use Rattle.seat_programs.specs.Told.{IsTask, Became}
 -- the step on a word from the head of a loop
 abbrev pub head_call : Writing → Option Call
 head_call (Puts h now heading left taken asked) = Some (LookWord h.id)
-head_call (Walks h top at after) = Some (ReadNext (slot_of at))
+head_call (Walks h top at after) = Some (ReadNext (ticket_request at))
 head_call other = None
 
 -- the step on a word that comes next, where one does

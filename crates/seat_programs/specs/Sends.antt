@@ -1,14 +1,14 @@
 -- The program of a `send`, and of whoever writes a link: each loop unrolled by one round.
 use Rattle.std.specs.Prelude.{ℕ, zero, suc, ◌+◌, ◌*◌, ◌/◌, ◌%◌, ◌==◌, true, false, List, [], length, drop, nat_lt, nat_le, if◌then◌else◌}
 use Rattle.sock_model.specs.sock_words.specs.Codes.{EFAILEDSOCKET}
-use Rattle.sock_model.specs.sock_words.specs.Words.{socket_id_version, socket_id_slot, vref_version}
+use Rattle.sock_model.specs.sock_words.specs.Words.{socket_id_version, socket_id_slot, vref_version, ticket_request, ticket_generation}
 use Rattle.sock_model.specs.sock_words.specs.declared.outcome.Outcome.TheVariants.{Unopened, Gone, Full}
 use Rattle.sock_io.specs.declared.link.Put.{Put}
 use Rattle.sock_io.specs.declared.link.Put.TheVariants as puts
 use Rattle.sock_io.specs.declared.link.Ready.{Ready}
 use Rattle.sock_io.specs.declared.link.Ready.TheVariants as asks
 use Rattle.sock_model.specs.declared.chain.Heading.{Heading}
-use Rattle.sock_model.specs.Entries.{ticket_of, slot_of, generation_of}
+use Rattle.sock_model.specs.Entries.{ticket_of}
 use Rattle.sock_model.specs.Memory.{IDLE, UNCONNECTED}
 use Rattle.seat_programs.specs.Calls.{LookWord, FindLink, LoadCode, ClaimRequest, PutMessage, Unconnect, SwapHead, Connect, EmptyHead, ReadNext, ReverseNext, FreeRequest, StorePlace, DropPlace}
 use Rattle.seat_programs.specs.Writings.{Holder, Writing, Puts, Waits, Empties, Walks}
@@ -20,7 +20,7 @@ use Rattle.seat_programs.specs.Posts.{post}
 
 -- the request of a message that has its place is given back, but for one of the last generation
 abbrev pub freed : ℕ → Program → Program
-freed now next = if generation_of now == LAST_GENERATION then next else Do (FreeRequest (slot_of now) (generation_of now)) (λ _. next)
+freed now next = if ticket_generation now == LAST_GENERATION then next else Do (FreeRequest (ticket_request now) (ticket_generation now)) (λ _. next)
 
 -- one place more was given
 abbrev pub one_more : Holder → Holder
@@ -29,7 +29,7 @@ one_more h = record h { places = h.places + 1 }
 -- the message of ticket `now` has its place, and what is told of it comes first: the head is tried next, or the message that follows is taken
 abbrev pub passed_telling : Holder → ℕ → (Program → Program) → Program → Program
 passed_telling h now tells after = if now == h.last then freed now (tells (Write (Empties h) after))
-    else Do (ReadNext (slot_of now)) (λ next. freed now (tells (TakeMessage (slot_of next) (λ heading bytes. Write (Puts h next heading bytes 0 false) after))))
+    else Do (ReadNext (ticket_request now)) (λ next. freed now (tells (TakeMessage (ticket_request next) (λ heading bytes. Write (Puts h next heading bytes 0 false) after))))
 
 abbrev pub passed : Holder → ℕ → Program → Program
 passed h now after = passed_telling h now (λ next. next) after
@@ -70,10 +70,10 @@ block (Puts h now heading left taken asked) after = Do (LookWord h.id) (λ found
 block (Waits h now heading left taken) after = AskReady h.link (ready_answered h now heading left taken after)
 block (Empties h) after = PutHome h.link h.places (Do (EmptyHead (socket_id_slot h.id) h.last) (λ found.
     if found == h.last then after else TakeHome h.link (λ places. Write (Walks (record h { places = places }) found found 0) after)))
-block (Walks h top at after) then_ = Do (ReadNext (slot_of at)) (λ found.
+block (Walks h top at after) then_ = Do (ReadNext (ticket_request at)) (λ found.
     if found == UNCONNECTED then Write (Walks h top at after) then_
-    else Do (ReverseNext (slot_of at) after) (λ _.
-    if found == h.last then TakeMessage (slot_of at) (λ heading bytes. Write (Puts (record h { last = top }) at heading bytes 0 false) then_)
+    else Do (ReverseNext (ticket_request at) after) (λ _.
+    if found == h.last then TakeMessage (ticket_request at) (λ heading bytes. Write (Puts (record h { last = top }) at heading bytes 0 false) then_)
     else Write (Walks h top found at) then_))
 
 -- ## Sending

@@ -1,13 +1,12 @@
 -- What steps of several families ask of the view of a seat, and make of it.
 use Rattle.std.specs.Prelude.{ℕ, ◌≡◌, ◌<◌, ◌==◌, ◌&&◌, List, [], ◌∷◌, if◌then◌else◌}
 use Rattle.sock_model.specs.sock_words.specs.declared.plain.Plan.{Plan}
-use Rattle.sock_model.specs.sock_words.specs.Words.{socket_id_version, socket_id_slot}
+use Rattle.sock_model.specs.sock_words.specs.Words.{socket_id_version, socket_id_slot, ticket_generation}
 use Rattle.sock_model.specs.declared.chain.Claim.{Claim}
 use Rattle.sock_model.specs.declared.chain.Right.{Right}
 use Rattle.sock_model.specs.declared.chain.Stage.{Stage}
 use Rattle.sock_model.specs.declared.chain.Stage.TheVariants.{Writes, Placed, Passes, Empties}
 use Rattle.sock_model.specs.declared.view.View.{View}
-use Rattle.sock_model.specs.Entries.{generation_of}
 use Rattle.sock_model.specs.Weights.{is_ref, is_hold, is_known, is_met}
 use Rattle.sock_model.specs.SlotRows.{marks_of}
 use Rattle.seat_programs.specs.Programs.{LAST_GENERATION}
@@ -43,8 +42,8 @@ by_right (r ∷ rs) then_ v = then_ r
 
 -- a request of the last generation isn't given back, so the right goes on at once
 abbrev pub settled_stage : ℕ → Stage → Stage
-settled_stage last (Placed now) = if (now == last) && (generation_of now == LAST_GENERATION) then Empties else Placed now
-settled_stage last (Passes now next) = if generation_of now == LAST_GENERATION then Writes next else Passes now next
+settled_stage last (Placed now) = if (now == last) && (ticket_generation now == LAST_GENERATION) then Empties else Placed now
+settled_stage last (Passes now next) = if ticket_generation now == LAST_GENERATION then Writes next else Passes now next
 settled_stage last other = other
 
 abbrev pub settled : Right → Right

@@ -4,7 +4,7 @@ use Rattle.std.specs.Prelude.{ℕ, ◌≡◌, ◌≢◌, ◌+◌, ◌*◌, ◌/�
 use lib.ListN.{get_elem?}
 use mathlib.Core.Option.{Option, none, some}
 use Rattle.sock_model.specs.sock_words.specs.declared.plain.Plan.{Plan}
-use Rattle.sock_model.specs.sock_words.specs.Words.{socket_id_version, socket_id_slot}
+use Rattle.sock_model.specs.sock_words.specs.Words.{socket_id_version, socket_id_slot, ticket_request, ticket_generation}
 use Rattle.sock_model.specs.declared.chain.Claim.{Claim}
 use Rattle.sock_model.specs.declared.chain.Right.{Right}
 use Rattle.sock_model.specs.declared.chain.Stage.{Stage}
@@ -13,7 +13,6 @@ use Rattle.sock_model.specs.declared.home.Home.{Home}
 use Rattle.sock_model.specs.declared.view.View.{View}
 use Rattle.sock_model.specs.declared.view.Hand.{Hand}
 use Rattle.sock_model.specs.Layout.{link_index}
-use Rattle.sock_model.specs.Entries.{slot_of, generation_of}
 use Rattle.sock_model.specs.Memory.{IDLE, UNCONNECTED}
 use Rattle.sock_model.specs.SlotRows.{met_link}
 use Rattle.sock_model.specs.ChainRows.{with_claim, queued, righted, without_loose, with_right, without_right, turned_right}
@@ -58,7 +57,7 @@ IsLoose v q before = (n : ℕ) × (get_elem? v.loose n ≡ some (record { reques
 
 -- of its one right it placed a message that isn't the last one noted, or its walk has come to the entry: that of request q
 abbrev pub MayRead : View → ℕ → Type 0
-MayRead v q = (r : Right) × (v.rights ≡ r ∷ []) × (((now : ℕ) × (r.stage ≡ Placed now) × (now ≢ r.last) × (slot_of now ≡ q)) ⊎ ((top at after : ℕ) × (r.stage ≡ Walks top at after) × (slot_of at ≡ q)))
+MayRead v q = (r : Right) × (v.rights ≡ r ∷ []) × (((now : ℕ) × (r.stage ≡ Placed now) × (now ≢ r.last) × (ticket_request now ≡ q)) ⊎ ((top at after : ℕ) × (r.stage ≡ Walks top at after) × (ticket_request at ≡ q)))
 
 -- of its one right it placed the message of this ticket, the last one noted, or it read what follows
 abbrev pub MayFree : View → ℕ → Type 0
@@ -71,9 +70,9 @@ ChainMay p v (SwapHead i own) = (i < p.slots) × MayExchange p v i own
 ChainMay p v (Connect q before) = (q < p.requests) × IsLoose v q before
 ChainMay p v (EmptyHead i last) = (i < p.slots) × ((x : MayEmpty p v i last (IDLE + last)) × (v.rights ≡ x.mine.right ∷ []))
 ChainMay p v (ReadNext q) = MayRead v q
-ChainMay p v (ReverseNext q value) = (x : MayTurn v value) × (v.rights ≡ x.mine.right ∷ []) × (slot_of x.at ≡ q)
+ChainMay p v (ReverseNext q value) = (x : MayTurn v value) × (v.rights ≡ x.mine.right ∷ []) × (ticket_request x.at ≡ q)
 ChainMay p v (Unconnect q) = (q < p.requests) × Claims v q
-ChainMay p v (FreeRequest q g) = (now : ℕ) × (slot_of now ≡ q) × (generation_of now ≡ g) × (g ≢ LAST_GENERATION) × MayFree v now
+ChainMay p v (FreeRequest q g) = (now : ℕ) × (ticket_request now ≡ q) × (ticket_generation now ≡ g) × (g ≢ LAST_GENERATION) × MayFree v now
 ChainMay p v other = Unit {0}
 
 -- ## What is found

@@ -8,7 +8,6 @@ use Rattle.sock_model.specs.declared.chain.Stage.{Stage}
 use Rattle.sock_model.specs.declared.chain.Stage.TheVariants.{Writes}
 use Rattle.sock_model.specs.declared.view.View.{View}
 use Rattle.sock_model.specs.declared.view.Hand.{Hand}
-use Rattle.sock_model.specs.Deliveries.{place_value}
 use Rattle.sock_model.specs.Weights.{is_saw}
 use Rattle.sock_model.specs.SlotRows.{marks_of}
 use Rattle.sock_model.specs.ChainRows.{with_right, placed_right, dropped_right}
@@ -17,6 +16,7 @@ use Rattle.sock_model.specs.Conditions.{MayPlace, MayDrop}
 use Rattle.seat_programs.specs.TableWords.{TableWord, PlaceOf}
 use Rattle.seat_programs.specs.Calls.{Call, StorePlace, DropPlace}
 use Rattle.seat_programs.specs.StepViews.{by_right, settled}
+use Rattle.sock_model.specs.sock_words.specs.Words.{place_word}
 
 -- ## The word
 
@@ -28,8 +28,8 @@ place_word other = none
 
 -- the word behind a step that found this one
 abbrev pub place_after : Call → ℕ → ℕ
-place_after (StorePlace l k n) found = place_value false k n
-place_after (DropPlace l k n) found = place_value true k n
+place_after (StorePlace l k n) found = place_word false k n
+place_after (DropPlace l k n) found = place_word true k n
 place_after other found = found
 
 -- ## Before a step

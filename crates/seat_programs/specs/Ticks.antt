@@ -11,14 +11,13 @@ use Rattle.sock_io.specs.declared.link.Ready.TheVariants.{NotYet}
 use Rattle.sock_io.specs.declared.link.Ready.TheVariants as ready
 use Rattle.sock_model.specs.declared.home.Home.{Home}
 use Rattle.sock_model.specs.declared.home.Home.TheVariants.{Link}
-use Rattle.sock_model.specs.Entries.{slot_of}
 use Rattle.sock_model.specs.Layout.{next_index}
 use Rattle.sock_model.specs.Memory.{UNCONNECTED}
 use Rattle.sock_model.specs.Messages.{Letter}
 use Rattle.sock_model.specs.Reads.{message, link_home}
 use Rattle.seat_programs.specs.Writings as heads
 use Rattle.seat_programs.specs.Programs.{Program, Do, TakeMessage, TakeHome, PutHome, PutBytes, AskReady, Write, Aside, Round}
-use Rattle.seat_programs.specs.Asides.{Step, Found, TakeBytes, Taking, Bytes, Nothing, NoMore, id_slot, id_first}
+use Rattle.seat_programs.specs.Asides.{Step, Found, TakeBytes, Taking, Bytes, Nothing, NoMore}
 use Rattle.seat_programs.specs.Heads.{Head, Locks, Joins, Opens, Reads, Discards}
 use Rattle.seat_programs.specs.Posts.{is_first, is_sought}
 use Rattle.seat_programs.specs.Readers.{room_of}
@@ -26,9 +25,10 @@ use Rattle.seat_programs.specs.Rounds.{round}
 use Rattle.seat_programs.specs.Beside.{found_in, calls_after}
 use Rattle.sock_model.specs.Layout.{open_index}
 use Rattle.id_rule.specs.Lawful as ids
-use Rattle.corr_core.specs.Word.{parts}
+use Rattle.corr_core.specs.Word.{parts, id_slot, id_first}
 use Rattle.seat_programs.specs.Sends.{block}
 use Rattle.seat_programs.specs.Cores.{Calls, Core, SeatState, lies_at, first_of, others_of, link_place, with_seat, stepped}
+use Rattle.sock_model.specs.sock_words.specs.Words.{ticket_request}
 
 -- what a link answered in a tick, where it was asked
 pub data Answer : Type 0 where
@@ -200,7 +200,7 @@ waits_in p ws a answer (Discards k total) = is_nothing a.ending answer
 waits_in p ws a answer other = false
 
 abbrev pub waits_at : Plan → Core → Answer → Program → Bool
-waits_at p c answer (Write (heads.Walks h top at after) then_) = slice_index c.words (next_index p (slot_of at)) == UNCONNECTED
+waits_at p c answer (Write (heads.Walks h top at after) then_) = slice_index c.words (next_index p (ticket_request at)) == UNCONNECTED
 waits_at p c (OfReady NotYet) (Write (heads.Waits h now heading left taken) then_) = true
 waits_at p c answer (Round head next) = waits_in p c.words c.calls answer head
 waits_at p c answer other = false

@@ -2,12 +2,11 @@
 use Rattle.std.specs.Prelude.{ℕ, ◌≡◌, ◌≢◌, ◌*◌, ◌%◌, ◌<◌, ◌≤◌, ◌⊎◌, ◌==◌, ◌&&◌, ◌++◌, Bool, true, false, not, nat_le, if◌then◌else◌, List, [], ◌∷◌, slice_get, slice_index, slice_index_or, length, map, flat_map, take, drop, sum_by, Option, Some, None, Contains}
 use Rattle.std.specs.List.{AllByRecursion}
 use Rattle.sock_model.specs.sock_words.specs.declared.plain.Plan.{Plan}
-use Rattle.sock_model.specs.sock_words.specs.Words.{vref_version}
+use Rattle.sock_model.specs.sock_words.specs.Words.{vref_version, place_word}
 use Rattle.sock_model.specs.sock_words.specs.declared.outcome.Outcome.{Outcome}
 use Rattle.sock_model.specs.sock_words.specs.declared.outcome.Outcome.TheVariants.{Opened, SlotsFull, Unopened, Gone, Full, Held, Freed, Kept, NotHeld, Failed, Already}
 use Rattle.sock_message.specs.brpc_model.specs.Order.{EachBefore, IsCut}
 use Rattle.sock_model.specs.Layout.{place_index}
-use Rattle.sock_model.specs.Deliveries.{place_value}
 use Rattle.seat_programs.specs.declared.task.Op.{Op}
 use Rattle.seat_programs.specs.declared.task.Op.TheVariants as ops
 use Rattle.seat_programs.specs.declared.task.Task.{Task}
@@ -116,7 +115,7 @@ all_accepted links orders = sum_by (λ k. length (orders k).accepted) (from_to 0
 -- the orders are those that the place words and the links of the core show
 pub record AreOrders (p : Plan) (c : Core) (orders : ℕ → Order) : Type 0 where
   -- the word of an accepted message tells its link and its place, and whether it was dropped
-  pub written : (k i : ℕ) (a : Accepted) → k < p.links → StandsAt orders k i a → slice_index c.words (place_index p (8 * a.operation)) ≡ place_value (nat_le (orders k).placed i) k i
+  pub written : (k i : ℕ) (a : Accepted) → k < p.links → StandsAt orders k i a → slice_index c.words (place_index p (8 * a.operation)) ≡ place_word (nat_le (orders k).placed i) k i
   -- and no other word tells anything
   pub alone : (l : ℕ) → l < 8 * p.operations → (slice_index c.words (place_index p l) ≡ 0) ⊎ ((k i : ℕ) × (a : Accepted) × (k < p.links) × StandsAt orders k i a × (l ≡ 8 * a.operation))
   pub within : (k : ℕ) → k < p.links → (orders k).placed ≤ length (orders k).accepted

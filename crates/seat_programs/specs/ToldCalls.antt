@@ -3,7 +3,7 @@ use Rattle.std.specs.Prelude.{ℕ, ◌≡◌, ◌≢◌, ◌+◌, ◌*◌, ◌%�
 use Rattle.std.specs.List.{AllByRecursion}
 use Rattle.sock_model.specs.sock_words.specs.Codes.{EEOF, EFAILEDSOCKET, EREQUESTS, ERESPONSE, ERPCTIMEDOUT}
 use Rattle.sock_model.specs.sock_words.specs.declared.plain.Plan.{Plan}
-use Rattle.sock_model.specs.sock_words.specs.Words.{vref_version}
+use Rattle.sock_model.specs.sock_words.specs.Words.{vref_version, place_word}
 use Rattle.sock_model.specs.sock_words.specs.declared.outcome.Outcome.{Outcome}
 use Rattle.sock_model.specs.sock_words.specs.declared.outcome.Outcome.TheVariants.{Opened, SlotsFull, Unopened, Gone, Full, Answered, Peer, CallFailed, Held, Freed, Kept, NotHeld, Failed, Already, Expired, Queued, Late, Crowded, Joined, NotBegun}
 use Rattle.sock_message.specs.brpc_model.specs.Order.{EachBefore, IsCut}
@@ -12,7 +12,6 @@ use Rattle.sock_message.specs.brpc_model.specs.Frame.{Frame, FrameFault}
 use Rattle.sock_message.specs.brpc_model.specs.Messages.{shown_id}
 use Rattle.sock_message.specs.brpc_model.specs.Stream.{stream, Fault}
 use Rattle.sock_model.specs.Layout.{place_index}
-use Rattle.sock_model.specs.Deliveries.{place_value}
 use Rattle.sock_message.specs.Asked.{Asked, name_of, frame_of}
 use Rattle.seat_programs.specs.declared.task.Op.{Op}
 use Rattle.seat_programs.specs.declared.task.Op.TheVariants as ops
@@ -59,7 +58,7 @@ pub record IsTaken (o : Order) (took : List ℕ) : Type 0 where
 -- the orders are those that the place words and the links of the core show
 pub record AreOrders (p : Plan) (c : Core) (orders : ℕ → Order) : Type 0 where
   -- the word of an accepted message tells its link and its place, and whether it was dropped
-  pub written : (k i : ℕ) (a : Accepted) → k < p.links → StandsAt orders k i a → slice_index c.words (place_index p (label a)) ≡ place_value (nat_le (orders k).placed i) k i
+  pub written : (k i : ℕ) (a : Accepted) → k < p.links → StandsAt orders k i a → slice_index c.words (place_index p (label a)) ≡ place_word (nat_le (orders k).placed i) k i
   -- and no other word tells anything
   pub alone : (l : ℕ) → l < 8 * p.operations → (slice_index c.words (place_index p l) ≡ 0) ⊎ ((k i : ℕ) × (a : Accepted) × (k < p.links) × StandsAt orders k i a × (l ≡ label a))
   pub within : (k : ℕ) → k < p.links → (orders k).placed ≤ length (orders k).accepted

@@ -4,9 +4,9 @@ use Rattle.sock_words.specs.declared.vref.Vref.{Vref}
 use Rattle.std.proofs.Math.Path.{fun_ext}
 use Rattle.std.proofs.Common.{ap, zero, suc, if◌then◌else◌, List, Option, Some, None, ◌≢◌, ◌≡◌, refl, ℕ, ◌+◌, ◌-◌, ◌/◌, ◌%◌, ◌==◌, ◌||◌, Bool, true, false, not, nat_le, length, sym, arith}
 use Rattle.sock_words.specs.declared.ticket.Ticket.{Ticket}
-use Rattle.sock_words.specs.Words.{socket_id_slot, socket_id_version, vref_version, ticket}
+use Rattle.sock_words.specs.Words.{socket_id_slot, socket_id_version, vref_version, ticket, ticket_request}
 use Rattle.sock_io.specs.declared.link.Put.TheVariants as puts
-use Rattle.sock_model.specs.Entries.{ticket_of, slot_of}
+use Rattle.sock_model.specs.Entries.{ticket_of}
 use Rattle.sock_words.specs.declared.outcome.Outcome.TheVariants.{Full, Expired}
 use Rattle.seat_programs.specs.Calls.{ClaimRequest}
 use Rattle.seat_programs.specs.Heads.{Posting, HasLocked}
@@ -185,7 +185,7 @@ after_asked a asked (afters.Attempt (Some i)) = refl
 after_asked a asked (afters.Expire o) = refl
 after_asked a asked (afters.Drop w None) = ap (λ p. let r : Program = Write (heads.Empties (holder_of w.holder)) p in r) (sent_asked a asked w.author w.holder.id.0)
 after_asked a asked (afters.Drop w (Some next)) =
-    ap (λ p. let r : Program = TakeMessage (slot_of next.0) (λ heading bytes. Write (heads.Puts (holder_of w.holder) next.0 heading bytes 0 false) p) in r) (sent_asked a asked w.author w.holder.id.0)
+    ap (λ p. let r : Program = TakeMessage (ticket_request next.0) (λ heading bytes. Write (heads.Puts (holder_of w.holder) next.0 heading bytes 0 false) p) in r) (sent_asked a asked w.author w.holder.id.0)
 
 -- ## The way to a life
 

@@ -15,10 +15,10 @@ use Rattle.seat_states.specs.declared.point.SendStep.TheVariants as sends
 use Rattle.seat_states.specs.declared.point.WriteStep.TheVariants as writes
 use Rattle.sock_words.specs.declared.id_word.IdWord.{IdWord}
 use Rattle.seat_programs.specs.Programs.{Program, Aside, Round}
-use Rattle.corr_core.specs.Word.{parts, code_of}
+use Rattle.corr_core.specs.Word.{parts, code_of, id_slot}
 use Rattle.corr_core.specs.Decisions.{ends_call}
 use Rattle.id_points.specs.Ids.{id_of}
-use Rattle.seat_programs.specs.Asides.{PutCall, id_slot}
+use Rattle.seat_programs.specs.Asides.{PutCall}
 use Rattle.seat_programs.specs.Heads.{HasEnded, Unlocks}
 use Rattle.seat_programs.specs.Posts.{end_id, unlocked, decided}
 use Rattle.call_points.specs.declared.deciding.OnCall.{OnCall}

@@ -1,7 +1,7 @@
 -- What a seat has still to do, by the point at which it stands: the programs of the operations from each of their steps on.
 use Rattle.std.specs.Prelude.{ℕ, ◌≡◌, IsTrue, ◌+◌, ◌-◌, ◌*◌, ◌/◌, ◌%◌, ◌==◌, ◌||◌, not, ◌<◌, ◌≤◌, Bool, true, false, nat_lt, nat_le, if◌then◌else◌, List, [], ◌∷◌, ◌++◌, length, drop, Option, Some, None}
 use Rattle.sock_words.specs.Codes.{EEOF, EFAILEDSOCKET, EREQUESTS}
-use Rattle.sock_words.specs.Words.{socket_id, socket_id_version, socket_id_slot, vref_version, at_word}
+use Rattle.sock_words.specs.Words.{socket_id, socket_id_version, socket_id_slot, vref_version, at_word, ticket_request, ticket_generation}
 use Rattle.sock_words.specs.declared.socket_id.SocketId.{SocketId}
 use Rattle.sock_words.specs.declared.ticket.Ticket.{Ticket}
 use Rattle.sock_words.specs.declared.outcome.Outcome.{Outcome}
@@ -9,13 +9,11 @@ use Rattle.sock_words.specs.declared.outcome.Outcome.TheVariants.{Opened, SlotsF
 use Rattle.sock_io.specs.declared.link.Put.{Put}
 use Rattle.sock_io.specs.declared.link.Put.TheVariants as puts
 use Rattle.sock_io.specs.declared.link.Ready.{Ready}
-use Rattle.sock_model.specs.Entries.{slot_of, generation_of}
 use Rattle.sock_model.specs.Memory.{IDLE}
 use Rattle.sock_model.specs.declared.chain.Heading.{Heading}
 use Rattle.seat_programs.specs.Parts.{part}
 use Rattle.seat_programs.specs.sock_message.specs.Asked.{Asked, name_of, frame_of, parts_of}
 use Rattle.seat_programs.specs.Asides as asides
-use Rattle.seat_programs.specs.Asides.{id_slot, id_first, call_id}
 use Rattle.seat_programs.specs.Heads.{Posting, HasLocked, Deciding, Unlocking, IsOpen, HasNext, Has, Joins, Unlocks}
 use Rattle.seat_programs.specs.Posts.{post, posted, decide, decided}
 use Rattle.seat_programs.specs.Attempts.{claims_from, attempt, begin_call, claim_id, call, retry_locked, tried_again, expire_outcome, expire, join}
@@ -41,7 +39,7 @@ use Rattle.seat_states.specs.declared.point.Released.{Released}
 use Rattle.seat_states.specs.declared.point.Released.TheVariants as turns
 use Rattle.seat_states.specs.declared.point.ReleaseStep.{ReleaseStep}
 use Rattle.seat_states.specs.declared.point.ReleaseStep.TheVariants as releases
-use Rattle.corr_core.specs.Word.{parts, error_of}
+use Rattle.corr_core.specs.Word.{parts, error_of, id_slot, id_first, call_id}
 use Rattle.id_points.specs.Ids.{id_of, number_of}
 use Rattle.id_points.specs.declared.locking.Sought.TheVariants.{First}
 use Rattle.call_points.specs.Points.{post_program, decide_program, lock_program}
@@ -299,7 +297,7 @@ module _ (a : Context) where
 
     -- a message is taken, with which the holder goes on
     abbrev pub next_message : heads.Holder → ℕ → Program
-    next_message h ticket = TakeMessage (slot_of ticket) (λ heading bytes. Write (heads.Puts h ticket heading bytes 0 false) written_program)
+    next_message h ticket = TakeMessage (ticket_request ticket) (λ heading bytes. Write (heads.Puts h ticket heading bytes 0 false) written_program)
 
     -- what follows the giving back of a request: the message of the next ticket, or the head
     abbrev pub freed_program : Option Ticket → Program
@@ -330,14 +328,14 @@ module _ (a : Context) where
     write_program (writes.StorePlace c) = Do (calls.StorePlace (place_by c.author) w.holder.link w.holder.places) (λ _. passed (one_more (holder_of w.holder)) c.ticket.0 written_program)
     write_program (writes.LoadCode c) = Do (calls.LoadCode (socket_id_slot w.holder.id.0) (socket_id_version w.holder.id.0)) (λ n. drop_program c n)
     write_program (writes.DropPlace c n) = drop_program c n
-    write_program (writes.ReadNext now c) = Do (calls.ReadNext (slot_of now.0)) (λ next. freed now.0 (told c (next_message (holder_of w.holder) next)))
-    write_program (writes.Free now next c) = Do (calls.FreeRequest (slot_of now.0) (generation_of now.0)) (λ _. behind_drop c next)
+    write_program (writes.ReadNext now c) = Do (calls.ReadNext (ticket_request now.0)) (λ next. freed now.0 (told c (next_message (holder_of w.holder) next)))
+    write_program (writes.Free now next c) = Do (calls.FreeRequest (ticket_request now.0) (ticket_generation now.0)) (λ _. behind_drop c next)
     write_program (writes.TakeMessage next) = next_message (holder_of w.holder) next.0
     write_program writes.PutHome = Write (heads.Empties (holder_of w.holder)) written_program
     write_program writes.EmptyHead = Do (calls.EmptyHead (socket_id_slot w.holder.id.0) w.holder.last.0) (λ found. if found == w.holder.last.0 then written_program else taken_again found)
     write_program (writes.TakeHome found) = taken_again found.0
     write_program (writes.Walk top at after) = walk_program top.0 at.0 after.0
-    write_program (writes.Turn top at after before) = Do (calls.ReverseNext (slot_of at.0) after.0) (λ _.
+    write_program (writes.Turn top at after before) = Do (calls.ReverseNext (ticket_request at.0) after.0) (λ _.
         if before.0 == w.holder.last.0 then first_of_walk top.0 at.0 else walk_program top.0 before.0 at.0)
     write_program (writes.TakeFirst top at) = first_of_walk top.0 at.0
 

@@ -1,5 +1,4 @@
 ghost use Rattle.std.specs.Prelude.{◌≡◌, ℕ, None, Some};
-ghost use Rattle.seat_programs.specs.Asides.{id_slot};
 ghost use Rattle.seat_programs.specs.Attempts.{retry_locked, tried_again, expire};
 ghost use Rattle.id_points.specs.Turns.{lock_on, unlock_on, sought_as};
 ghost use Rattle.call_points.specs.Steps.{after_word, after_call};
@@ -7,6 +6,7 @@ ghost use Rattle.seat_programs.specs.sock_message.specs.Asked.{Asked};
 ghost use Rattle.id_points.specs.Ids.{id_of, number_of};
 ghost use Rattle.seat_states.specs.Points.{Context, client_on, locker_of, retry_program, join_program, next_program, with_asked, with_frame, HasRetry, MayLock, RetriesByWord, MayFindId, MayFindJoined, link_behind};
 ghost use Rattle.seat_states.specs.Steps.{first_in, step_as};
+ghost use Rattle.corr_core.specs.Word.{id_slot};
 
 use crate::asking::posting;
 use crate::call::Call;

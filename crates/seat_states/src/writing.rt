@@ -1,6 +1,5 @@
 ghost use Rattle.std.specs.Prelude.{◌≡◌, ◌==◌, ◌+◌, ◌%◌, ◌<◌, ◌≤◌, if◌then◌else◌, ℕ, List, None, Some, Bool, false};
-ghost use Rattle.sock_words.specs.Words.{vref_version};
-ghost use Rattle.sock_model.specs.Entries.{slot_of, generation_of};
+ghost use Rattle.sock_words.specs.Words.{vref_version, ticket_request, ticket_generation};
 ghost use Rattle.seat_programs.specs.Sends.{one_more, freed, passed_telling};
 ghost use Rattle.sock_io.specs.declared.link.Put.{Put};
 ghost use Rattle.call_points.specs.Steps.{after_word};
@@ -25,13 +24,13 @@ const LAST_GENERATION: u64 = 140_737_488_355_327;
 
 /// The request of a ticket, and its generation.
 fn request_of(ticket: Ticket) -> u16
-    ensures { result ≡ slot_of ticket.0 }
+    ensures { result ≡ ticket_request ticket.0 }
 {
     ((ticket.0 % 65_536) as u16).saturating_sub(1)
 }
 
 fn generation(ticket: Ticket) -> u64
-    ensures { result ≡ generation_of ticket.0 }
+    ensures { result ≡ ticket_generation ticket.0 }
 {
     ticket.0 / 65_536
 }

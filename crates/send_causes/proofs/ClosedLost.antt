@@ -14,7 +14,6 @@ use Rattle.sock_model.specs.Layout.{ref_index}
 use Rattle.seat_programs.specs.brpc_model.specs.Items.{Item}
 use Rattle.seat_programs.specs.brpc_model.specs.Operations.{Turn}
 use Rattle.seat_programs.specs.brpc_model.specs.Script.{script_of}
-use Rattle.seat_programs.specs.Asides.{id_slot, id_first}
 use Rattle.seat_programs.specs.Calls.{ClaimRequest}
 use Rattle.seat_programs.specs.Clients.{ending_of}
 use Rattle.seat_programs.specs.Cores.{Core, SeatState, waiting_at}
@@ -63,6 +62,7 @@ use Rattle.send_causes.proofs.ClosedLostTicks.{Entered, Works, AreTaken, Ended, 
 use Rattle.send_causes.proofs.ClosedLostRuns.{Behind, run_fates, run_entered, none_closing, AllFree, begins_free, rests_free, waits_free}
 use Rattle.dropped_calls.specs.accept_counts.proofs.Grounds.{setting, stages}
 use Rattle.corr_core.proofs.Notes.{at_length}
+use Rattle.corr_core.specs.Word.{id_slot, id_first}
 
 -- ## Lists
 

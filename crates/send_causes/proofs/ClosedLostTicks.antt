@@ -20,7 +20,7 @@ use Rattle.sock_model.specs.Layout.{ref_index}
 use Rattle.sock_model.specs.Memory.{IDLE}
 use Rattle.dropped_calls.specs.Below.sock_steps.proofs.Quiet.{either_way}
 use Rattle.seat_programs.specs.id_rule.specs.Lawful as ids
-use Rattle.seat_programs.specs.Asides.{Step, Found, StoreAt, id_slot, id_first}
+use Rattle.seat_programs.specs.Asides.{Step, Found, StoreAt}
 use Rattle.seat_programs.specs.Beside.{calls_after}
 use Rattle.seat_programs.specs.Calls.{Call, AddRef, LookWord, FindLink, ClaimRequest, PutMessage, Unconnect, SwapHead}
 use Rattle.seat_programs.specs.Heads.{Retry}
@@ -48,6 +48,7 @@ use Rattle.dropped_calls.specs.refused_attempts.proofs.RefusedMeans.{IsSo, did_s
 use Rattle.dropped_calls.specs.accept_counts.proofs.Views.{row_same}
 use Rattle.send_causes.proofs.ClosedLostPrograms.{Try, Mode, Free, Held, Linked, Stored, Claims, Claimed, Filled, Marked, Goes, goes_first, goes_next}
 use Rattle.corr_core.proofs.Notes.{at_length}
+use Rattle.corr_core.specs.Word.{id_slot, id_first}
 
 -- ## Accepted messages
 

@@ -4,11 +4,10 @@ use mathlib.Core.Logic.{dite}
 use mathlib.Core.Option.{none, some}
 use native.Mathlib.Decide.{ℕ_discrete}
 use lib.ListN.{get_elem?}
-use Rattle.sock_words.specs.Words.{socket_id_version, socket_id_slot}
+use Rattle.sock_words.specs.Words.{socket_id_version, socket_id_slot, place_word}
 use Rattle.sock_words.specs.declared.plain.Plan.{Plan}
 use Rattle.sock_model.specs.declared.chain.Heading.{Heading}
 use Rattle.sock_model.specs.declared.view.View.{View}
-use Rattle.sock_model.specs.Deliveries.{place_value}
 use Rattle.sock_model.specs.Layout.{place_index}
 use Rattle.sock_model.specs.References.{slot_facts}
 use Rattle.sock_model.specs.Slots.{live}
@@ -70,7 +69,7 @@ module _ (p : Plan) (q : IdPlan) (is_call : Asked → Type 0) (ids : ℕ → ℕ
     pub low : l < 8 * p.operations
     pub link : k < p.links
     pub small : m < MOST_PLACES
-    pub word : (o n : ℕ) → IsSpoken clients o → n < 8 → l ≡ 8 * o + n → get_or c.words (place_index p l) 0 ≡ place_value true k m
+    pub word : (o n : ℕ) → IsSpoken clients o → n < 8 → l ≡ 8 * o + n → get_or c.words (place_index p l) 0 ≡ place_word true k m
 
   abbrev pub Tells : Core → List Event → Deed → Type 0
   Tells c es (DidStep (LoadCode i h) code) = code ≢ 0 → IsKnown clients es i h code
@@ -92,7 +91,7 @@ module _ (p : Plan) (q : IdPlan) (is_call : Asked → Type 0) (ids : ℕ → ℕ
     link = x.link;
     small = x.small;
     word = λ o n spoken few label. let e = x.word o n spoken few label in
-        stay o n l spoken few label x.low (λ z. let none_ : 0 ≡ place_value true k m = sym z ∙ e in omega (arith, none_)) ∙ e;
+        stay o n l spoken few label x.low (λ z. let none_ : 0 ≡ place_word true k m = sym z ∙ e in omega (arith, none_)) ∙ e;
   }
 
   pub tells_on : (c d : Core) (es fresh : List Event) → ((e : Event) → In e es → In e fresh) → PlacesStay c d → (deed : Deed) → Tells c es deed → Tells d fresh deed
@@ -140,7 +139,7 @@ module _ (p : Plan) (q : IdPlan) (is_call : Asked → Type 0) (ids : ℕ → ℕ
             link = subst (λ z. z < p.links) (sym may.3) (right_in s.sound.lawful m.seat x.mine.place v.0 r v.1 x.mine.has);
             small = subst (λ z. z < MOST_PLACES) (sym may.4) (places_small p (state c vs) s.sound.lawful m.seat v.0 v.1 x.mine.place r x.mine.has few x.now x.stage);
             word = λ o a spoken few label. ap (λ (d : Core). get_or d.words (place_index p l) 0) (tick_steps p c m seat (DropPlace l k n) next at is)
-                ∙ get_or-set_same c.words (place_index p l) (place_value true k n) 0 (let sized = s.sound.lawful.references.sized in omega (arith, low, sized));
+                ∙ get_or-set_same c.words (place_index p l) (place_word true k n) 0 (let sized = s.sound.lawful.references.sized in omega (arith, low, sized));
           }
 
       -- a round of a loop of writing

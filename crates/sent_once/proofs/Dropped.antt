@@ -6,10 +6,10 @@ use mathlib.Core.Option.{some}
 use native.Mathlib.Decide.{dec_le}
 use lib.ListN.{get_elem?}
 use Rattle.atomic_table.proofs.Lists.{at_set}
-use Rattle.sock_words.specs.Words.{socket_id_slot, socket_id_version, vref_version, vref_nref}
+use Rattle.sock_words.specs.Words.{socket_id_slot, socket_id_version, vref_version, vref_nref, place_word}
 use Rattle.sock_words.specs.declared.plain.Plan.{Plan}
 use Rattle.sock_model.specs.declared.view.View.{View}
-use Rattle.sock_model.specs.Deliveries.{ShownAt, no_place, one_place, place_value}
+use Rattle.sock_model.specs.Deliveries.{ShownAt, no_place, one_place}
 use Rattle.sock_model.specs.Entries.{on}
 use Rattle.sock_model.specs.Layout.{place_index}
 use Rattle.sock_model.specs.Links.{Failed}
@@ -159,8 +159,8 @@ failed_before p c c' vs vs' sound sound' few few' same are k kl less = dite (dec
     a : (x : Accepted) × (slice_get (orders_of p c' vs' sound'.lawful k).accepted (orders_of p c' vs' sound'.lawful k).placed ≡ Some x)
     a = get_there (orders_of p c' vs' sound'.lawful k).accepted (orders_of p c' vs' sound'.lawful k).placed less
 
-    word : get_or c'.words (place_index p (label a.0)) 0 ≡ place_value true k (orders_of p c' vs' sound'.lawful k).placed
-    word = are.written k (orders_of p c' vs' sound'.lawful k).placed a.0 kl a.1 ∙ ap (λ b. place_value b k (orders_of p c' vs' sound'.lawful k).placed) (le-leb (orders_of p c' vs' sound'.lawful k).placed (orders_of p c' vs' sound'.lawful k).placed (omega arith))
+    word : get_or c'.words (place_index p (label a.0)) 0 ≡ place_word true k (orders_of p c' vs' sound'.lawful k).placed
+    word = are.written k (orders_of p c' vs' sound'.lawful k).placed a.0 kl a.1 ∙ ap (λ b. place_word b k (orders_of p c' vs' sound'.lawful k).placed) (le-leb (orders_of p c' vs' sound'.lawful k).placed (orders_of p c' vs' sound'.lawful k).placed (omega arith))
 
     outside : 8 * p.operations ≤ label a.0 → ⊥
     outside high = let sized = sound'.lawful.references.sized in let z = beyond c'.words (place_index p (label a.0)) (omega (arith, sized, high)) in omega (arith, z, word)
@@ -175,7 +175,7 @@ failed_before p c c' vs vs' sound sound' few few' same are k kl less = dite (dec
         others : i' < 2147483648
         others = let s = log_small p c vs sound few in let o = on_shorter k' sound.lawful.log in let in' = at_length (on k' sound.lawful.log) i' e' at' in omega (arith, s, o, in')
 
-        by : (b : Bool) → nat_le (sound.lawful.kept k') i' ≡ b → get_or c.words (place_index p (label a.0)) 0 ≡ place_value b k' i' → Failed p (state c vs) k
+        by : (b : Bool) → nat_le (sound.lawful.kept k') i' ≡ b → get_or c.words (place_index p (label a.0)) 0 ≡ place_word b k' i' → Failed p (state c vs) k
         by true le w = let one : k' ≡ k = (let s = same (label a.0) low in let x = place_low in let y = others in omega (arith, s, word, w, x, y)) in
             subst (Failed p (state c vs)) one (sound.lawful.delivered.failed k' kl' (let l = leb-true (sound.lawful.kept k') i' le in omega (arith, l, il')))
         by false le w = absurd (let s = same (label a.0) low in let x = place_low in let y = others in let few_links = sound.limits.links in omega (arith, s, word, w, x, y, few_links, kl'))

@@ -7,7 +7,7 @@ use Rattle.accept_counts.specs.Below.chain_steps.proofs.Lists.{at_some}
 use Rattle.corr_core.specs.declared.marks.Plan.{Plan as IdPlan}
 use Rattle.seat_programs.specs.brpc_model.specs.Items.{Item}
 use Rattle.seat_programs.specs.brpc_model.specs.Operations.{Turn}
-use Rattle.seat_programs.specs.Asides.{StoreAt, call_id, id_slot, id_first}
+use Rattle.seat_programs.specs.Asides.{StoreAt}
 use Rattle.seat_programs.specs.Programs.{Program, Do, Write, Aside, Round}
 use Rattle.seat_programs.specs.Clients.{ending_of}
 use Rattle.seat_programs.specs.Cores.{Core}
@@ -31,6 +31,7 @@ use Rattle.accept_counts.specs.Counts.{StoresOwn, AreLabelled}
 use Rattle.accept_counts.specs.Refused.{WouldStore, WouldOwn, AllWouldOwn}
 use Rattle.accept_counts.proofs.Runs.{AreLabelledIn}
 use Rattle.accept_counts.proofs.Grounds.{setting}
+use Rattle.corr_core.specs.Word.{call_id, id_slot, id_first}
 
 -- the first step of a round
 owns_first : (has : ℕ → ℕ) (mine : ℕ → Bool) (b : Behind) (program : Program) → Owns has mine b program → (d : Behind) × Owns has mine d (first_step program)

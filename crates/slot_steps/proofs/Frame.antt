@@ -14,10 +14,11 @@ use Rattle.sock_model.specs.sock_words.specs.declared.plain.Plan.{Plan}
 use Rattle.sock_model.specs.Weights.{total, tally, only, is_born, uses}
 use Rattle.sock_model.specs.Marks.{about, without, without_at, without_pass}
 use Rattle.sock_model.specs.Layout.{tag_index, ref_index, link_index, code_index, name_index, open_index}
-use Rattle.sock_model.specs.Slots.{SlotFacts, version_of, nref_of, live, SlotLaw}
+use Rattle.sock_model.specs.Slots.{SlotFacts, live, SlotLaw}
 use Rattle.sock_model.specs.References.{spare, sayers, OnlyMarks, Stores, uses_of, uses_link, slot_facts, Names, References}
 use Rattle.slot_steps.proofs.Sums.{total-set}
 use Rattle.slot_steps.proofs.Numbers.{only-else}
+use Rattle.sock_model.specs.sock_words.specs.Words.{vref_version, vref_nref}
 
 -- the two removals are one
 pub about-without : (i : ℕ) (g : Mark → ℕ) (es : List SlotMark) → about i (without_at i g es) ≡ without g (about i es)
@@ -43,38 +44,38 @@ module _ {S : Type 0} (s : State S View) (id : ℕ) (v : View) (here : get_elem?
   pub apart : (i n x : ℕ) → tag_index x ≢ i → ref_index x ≢ i → link_index x ≢ i → code_index x ≢ i → about x w.marks ≡ about x v.marks → slot_facts (stepped s i n id c w a) x ≡ slot_facts s x
   apart i n x n₀ n₁ n₂ n₄ e = let e₀ = get_or-set_other s.words i (tag_index x) n 0 n₀ in let e₁ = get_or-set_other s.words i (ref_index x) n 0 n₁ in
       let e₂ = get_or-set_other s.words i (link_index x) n 0 n₂ in let e₄ = get_or-set_other s.words i (code_index x) n 0 n₄ in let e₅ = marks_same x e in
-      λ q. record { tag = e₀ q; version = version_of (e₁ q); nref = nref_of (e₁ q); link = e₂ q; code = e₄ q; marks = e₅ q }
+      λ q. record { tag = e₀ q; version = vref_version (e₁ q); nref = vref_nref (e₁ q); link = e₂ q; code = e₄ q; marks = e₅ q }
 
   pub at_ref : (i n : ℕ) → ref_index i < length s.words
-      → slot_facts (stepped s (ref_index i) n id c w a) i ≡ record (slot_facts s i) { version = version_of n; nref = nref_of n; marks = set (slot_facts s i).marks id (about i w.marks) }
+      → slot_facts (stepped s (ref_index i) n id c w a) i ≡ record (slot_facts s i) { version = vref_version n; nref = vref_nref n; marks = set (slot_facts s i).marks id (about i w.marks) }
   at_ref i n long = let e₀ = get_or-set_other s.words (ref_index i) (tag_index i) n 0 (λ e. omega arith) in let e₁ = get_or-set_same s.words (ref_index i) n 0 long in
       let e₂ = get_or-set_other s.words (ref_index i) (link_index i) n 0 (λ e. omega arith) in let e₄ = get_or-set_other s.words (ref_index i) (code_index i) n 0 (λ e. omega arith) in let e₅ = marks_at i in
-      λ q. record { tag = e₀ q; version = version_of (e₁ q); nref = nref_of (e₁ q); link = e₂ q; code = e₄ q; marks = e₅ q }
+      λ q. record { tag = e₀ q; version = vref_version (e₁ q); nref = vref_nref (e₁ q); link = e₂ q; code = e₄ q; marks = e₅ q }
 
   pub at_tag : (i n : ℕ) → tag_index i < length s.words
       → slot_facts (stepped s (tag_index i) n id c w a) i ≡ record (slot_facts s i) { tag = n; marks = set (slot_facts s i).marks id (about i w.marks) }
   at_tag i n long = let e₁ = get_or-set_other s.words (tag_index i) (ref_index i) n 0 (λ e. omega arith) in let e₀ = get_or-set_same s.words (tag_index i) n 0 long in
       let e₂ = get_or-set_other s.words (tag_index i) (link_index i) n 0 (λ e. omega arith) in let e₄ = get_or-set_other s.words (tag_index i) (code_index i) n 0 (λ e. omega arith) in let e₅ = marks_at i in
-      λ q. record { tag = e₀ q; version = version_of (e₁ q); nref = nref_of (e₁ q); link = e₂ q; code = e₄ q; marks = e₅ q }
+      λ q. record { tag = e₀ q; version = vref_version (e₁ q); nref = vref_nref (e₁ q); link = e₂ q; code = e₄ q; marks = e₅ q }
 
 module _ {S : Type 0} (s : State S View) (id : ℕ) (v : View) (here : get_elem? s.views id ≡ some v) (c : List (ℕ × S)) (w : View) (a : Act S) where
   pub at_link : (i n : ℕ) → link_index i < length s.words
       → slot_facts (stepped s (link_index i) n id c w a) i ≡ record (slot_facts s i) { link = n; marks = set (slot_facts s i).marks id (about i w.marks) }
   at_link i n long = let x : ℕ = link_index i in let e₀ = get_or-set_other s.words x (tag_index i) n 0 (λ e. omega arith) in let e₁ = get_or-set_other s.words x (ref_index i) n 0 (λ e. omega arith) in
       let e₂ = get_or-set_same s.words x n 0 long in let e₄ = get_or-set_other s.words x (code_index i) n 0 (λ e. omega arith) in let e₅ = marks_at s id v here c w a i in
-      λ q. record { tag = e₀ q; version = version_of (e₁ q); nref = nref_of (e₁ q); link = e₂ q; code = e₄ q; marks = e₅ q }
+      λ q. record { tag = e₀ q; version = vref_version (e₁ q); nref = vref_nref (e₁ q); link = e₂ q; code = e₄ q; marks = e₅ q }
 
   pub at_code : (i n : ℕ) → code_index i < length s.words
       → slot_facts (stepped s (code_index i) n id c w a) i ≡ record (slot_facts s i) { code = n; marks = set (slot_facts s i).marks id (about i w.marks) }
   at_code i n long = let x : ℕ = code_index i in let e₀ = get_or-set_other s.words x (tag_index i) n 0 (λ e. omega arith) in let e₁ = get_or-set_other s.words x (ref_index i) n 0 (λ e. omega arith) in
       let e₂ = get_or-set_other s.words x (link_index i) n 0 (λ e. omega arith) in let e₄ = get_or-set_same s.words x n 0 long in let e₅ = marks_at s id v here c w a i in
-      λ q. record { tag = e₀ q; version = version_of (e₁ q); nref = nref_of (e₁ q); link = e₂ q; code = e₄ q; marks = e₅ q }
+      λ q. record { tag = e₀ q; version = vref_version (e₁ q); nref = vref_nref (e₁ q); link = e₂ q; code = e₄ q; marks = e₅ q }
 
   -- a word that is none of the slot's tag, reference, link and code
   pub at_else : (i x n : ℕ) → tag_index i ≢ x → ref_index i ≢ x → link_index i ≢ x → code_index i ≢ x → slot_facts (stepped s x n id c w a) i ≡ record (slot_facts s i) { marks = set (slot_facts s i).marks id (about i w.marks) }
   at_else i x n n₀ n₁ n₂ n₄ = let e₀ = get_or-set_other s.words x (tag_index i) n 0 n₀ in let e₁ = get_or-set_other s.words x (ref_index i) n 0 n₁ in
       let e₂ = get_or-set_other s.words x (link_index i) n 0 n₂ in let e₄ = get_or-set_other s.words x (code_index i) n 0 n₄ in let e₅ = marks_at s id v here c w a i in
-      λ q. record { tag = e₀ q; version = version_of (e₁ q); nref = nref_of (e₁ q); link = e₂ q; code = e₄ q; marks = e₅ q }
+      λ q. record { tag = e₀ q; version = vref_version (e₁ q); nref = vref_nref (e₁ q); link = e₂ q; code = e₄ q; marks = e₅ q }
 
 -- the links that this seat has do not grow when a mark goes
 pub uses-without : (k i : ℕ) (g : Mark → ℕ) (es : List SlotMark) → total (uses_link k) (without_at i g es) ≤ total (uses_link k) es

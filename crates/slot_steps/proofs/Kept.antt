@@ -15,13 +15,14 @@ use Rattle.sock_model.specs.sock_words.specs.declared.plain.Plan.{Plan}
 use Rattle.sock_model.specs.Weights.{total, tally, only, is_busy, is_claimed, is_ref, is_probe, is_any_coding, is_stage, is_hold, is_known, is_born, is_zero, is_recycled, is_recycling}
 use Rattle.sock_model.specs.Marks.{about, at, without, without_at, dropped}
 use Rattle.sock_model.specs.Layout.{tag_index, ref_index}
-use Rattle.sock_model.specs.Slots.{SlotFacts, version_of, nref_of, live_by, live, SlotLaw}
+use Rattle.sock_model.specs.Slots.{SlotFacts, live_by, live, SlotLaw}
 use Rattle.sock_model.specs.References.{OnlyMarks, uses_of, uses_link, slot_facts, References}
 use Rattle.sock_model.specs.SlotRows.{back, marks_of, claimed, gave_birth, added, subbed, failed, recycled, freed, looked}
 use Rattle.slot_steps.proofs.Sums.{taken, total-set, total_mono, term_le, taken_as, total_bound, about-here, about-other}
 use Rattle.slot_steps.proofs.Numbers.{life_is, pair_is, or-even, or-odd, live_le, live-odd, live-busy, live-free, live-yes}
 use Rattle.slot_steps.proofs.Slots.{any_recycled, recycled_le, zero_is, stage_is, keeps_probe, keeps_hold, keeps_look, keeps_sub, IsRef, probe-ref, hold-ref, ref_cases, keeps_fail, keeps_recycle, keeps_free, keeps_claim, keeps_tried, keeps_birth, keeps_lost}
 use Rattle.slot_steps.proofs.Frame.{about-without, about-without_else, uses-without, uses-taken, at_ref, at_tag, slot_step}
+use Rattle.sock_model.specs.sock_words.specs.Words.{vref_version, vref_nref}
 
 -- a count leaves its half of the word to the version
 pub few_refs : {S : Type 0} (p : Plan) (s : State S View) → References p s → (i : ℕ) → i < p.slots → (slot_facts s i).nref < 40000000
@@ -76,7 +77,7 @@ module _ {S : Type 0} (p : Plan) (s : State S View) (law : References p s) (id :
   module _ (fits : found < 18446744073709551616) where
     -- the law of the slot, and what the seat's marks are, after a step on the reference word
     on_ref : (w : View) (n : ℕ) (ms : List Mark) (ver ref lives : ℕ) → ((x : ℕ) → x ≢ i → about x w.marks ≡ about x v.marks) → ((k : ℕ) → uses_of k w ≤ uses_of k v) → OnlyMarks v w
-        → about i w.marks ≡ ms → ((h : ℕ) → total (is_born h) mine ≤ total (is_born h) ms) → version_of n ≡ ver → nref_of n ≡ ref
+        → about i w.marks ≡ ms → ((h : ℕ) → total (is_born h) mine ≤ total (is_born h) ms) → vref_version n ≡ ver → vref_nref n ≡ ref
         → live_by L.tag ver (tally is_busy (set L.marks id ms)) ≡ lives
         → SlotLaw p.first lives record L { version = ver; nref = ref; marks = set L.marks id ms } → References p (stepped s (ref_index i) n id c w a)
     on_ref w n ms ver ref lives else_ links still is grows v_is n_is lv ok = let sized = law.sized in
@@ -84,7 +85,7 @@ module _ {S : Type 0} (p : Plan) (s : State S View) (law : References p s) (id :
         (settled _ (record L { version = ver; nref = ref; marks = set L.marks id ms }) lives
         (at_ref s id v here c w a i n (omega arith) ∙ (λ q. record L { version = v_is q; nref = n_is q; marks = set L.marks id (is q) })) lv ok)
 
-    add_hold : 0 < marks_of (is_known (version_of found)) i v → marks_of is_ref i v < 65540 → References p (stepped s (ref_index i) ((found + 1) % 2 ^ 64) id c (added i found true v) a)
+    add_hold : 0 < marks_of (is_known (vref_version found)) i v → marks_of is_ref i v < 65540 → References p (stepped s (ref_index i) ((found + 1) % 2 ^ 64) id c (added i found true v) a)
     add_hold known room = let few = few_refs p s law i inside in let ms : List Mark = Hold L.version ∷ Saw L.version ∷ mine in
         on_ref (added i found true v) ((found + 1) % 2 ^ 64) ms L.version (L.nref + 1) (live L) (λ x ne. simp about-other) (λ k. omega arith) refl (simp about-here) (λ h. omega arith) (omega arith) (omega arith)
         (live_same ms (omega arith)) (keeps_hold p.first L (law.slots i inside) id mine at_home known room)
@@ -95,33 +96,33 @@ module _ {S : Type 0} (p : Plan) (s : State S View) (law : References p s) (id :
         (live_same ms (omega arith)) (keeps_probe p.first L (law.slots i inside) id mine at_home room)
 
     -- a reference to a life that the seat knows, or only to the word
-    pub add_ref_keeps : (is_life : Bool) → (is_life ≡ true → 0 < marks_of (is_known (version_of found)) i v) → marks_of is_ref i v < 65540
+    pub add_ref_keeps : (is_life : Bool) → (is_life ≡ true → 0 < marks_of (is_known (vref_version found)) i v) → marks_of is_ref i v < 65540
         → References p (stepped s (ref_index i) ((found + 1) % 2 ^ 64) id c (added i found is_life v) a)
     add_ref_keeps true known room = add_hold (known refl) room
     add_ref_keeps false known room = add_probe room
 
     sub_with : (g : Mark → ℕ) → ((x : Mark) → 0 < g x → IsRef x) → 0 < marks_of g i v → marks_of is_any_coding i v ≡ 0 → References p (stepped s (ref_index i) ((found + (2 ^ 64 - 1)) % 2 ^ 64) id c (subbed i found g v) a)
-    sub_with g kind there idle = let rest : List SlotMark = without_at i g v.marks in let b : Bool = eqb (version_of found % 2) 1 in let d : Bool = eqb (nref_of found) 1 in
+    sub_with g kind there idle = let rest : List SlotMark = without_at i g v.marks in let b : Bool = eqb (vref_version found % 2) 1 in let d : Bool = eqb (vref_nref found) 1 in
         let w : View = subbed i found g v in let ms : List Mark = dropped L.version L.nref (without g mine) in let t = taken g mine there in let k = kind t.0 t.1 in let ref : is_ref t.0 ≡ 1 = k.0 in let nil = k.1 in
         let left : (f : Mark → ℕ) → total f (without g mine) + f t.0 ≡ total f mine = t.2 in
         let still = (law.slots i inside).counted in let all = term_le (total is_ref) L.marks id mine at_home in
-        let is : about i w.marks ≡ ms = about-conds i b d (Zero (version_of found)) rest ∙ (ap (λ (u : List Mark). cond b (cond d (Zero (version_of found) ∷ u) u) u) (about-without i g v.marks) ∙ sym (dropped-is (version_of found) (nref_of found) (without g mine))) in
+        let is : about i w.marks ≡ ms = about-conds i b d (Zero (vref_version found)) rest ∙ (ap (λ (u : List Mark). cond b (cond d (Zero (vref_version found) ∷ u) u) u) (about-without i g v.marks) ∙ sym (dropped-is (vref_version found) (vref_nref found) (without g mine))) in
         let some_ : 0 < L.nref = omega (arith, left is_ref) in
         on_ref w ((found + (2 ^ 64 - 1)) % 2 ^ 64) ms L.version (L.nref - 1) (live L)
-        (λ x ne. conds b d (at i (Zero (version_of found)) ∷ rest) rest (λ es. about x es ≡ about x v.marks) (about-other x i (Zero (version_of found)) rest ne ∙ about-without_else x i g v.marks ne) (about-without_else x i g v.marks ne))
-        (λ k. conds b d (at i (Zero (version_of found)) ∷ rest) rest (λ es. total (only k) v.passes + total (uses_link k) es ≤ uses_of k v) (omega (arith, uses-without k i g v.marks)) (omega (arith, uses-without k i g v.marks)))
-        refl is (λ h. omega (arith, left (is_born h), nil (is_born h) refl (λ _. refl), dropped-total (version_of found) (nref_of found) (without g mine) (is_born h) refl)) (omega arith) (omega arith)
-        (live_same ms (omega (arith, left is_busy, nil is_busy refl (λ _. refl), dropped-total (version_of found) (nref_of found) (without g mine) is_busy refl)))
+        (λ x ne. conds b d (at i (Zero (vref_version found)) ∷ rest) rest (λ es. about x es ≡ about x v.marks) (about-other x i (Zero (vref_version found)) rest ne ∙ about-without_else x i g v.marks ne) (about-without_else x i g v.marks ne))
+        (λ k. conds b d (at i (Zero (vref_version found)) ∷ rest) rest (λ es. total (only k) v.passes + total (uses_link k) es ≤ uses_of k v) (omega (arith, uses-without k i g v.marks)) (omega (arith, uses-without k i g v.marks)))
+        refl is (λ h. omega (arith, left (is_born h), nil (is_born h) refl (λ _. refl), dropped-total (vref_version found) (vref_nref found) (without g mine) (is_born h) refl)) (omega arith) (omega arith)
+        (live_same ms (omega (arith, left is_busy, nil is_busy refl (λ _. refl), dropped-total (vref_version found) (vref_nref found) (without g mine) is_busy refl)))
         (keeps_sub p.first L (law.slots i inside) id mine at_home g kind there idle)
 
     -- the life of each reference that the seat has is that of the word found
-    pub life_found : (h : ℕ) → 0 < marks_of (is_hold h) i v → h ≡ version_of found - version_of found % 2
+    pub life_found : (h : ℕ) → 0 < marks_of (is_hold h) i v → h ≡ vref_version found - vref_version found % 2
     life_found h there = let t = (law.slots i inside).held h (omega (arith, term_le (total (is_hold h)) L.marks id mine at_home)) in let t₀ = t.0 in let t₁ = t.1 in
         let le = live_le L.tag L.version (tally is_busy L.marks) in omega arith
 
     -- a reference is taken back
     pub sub_ref_keeps : 0 < marks_of is_ref i v → marks_of is_any_coding i v ≡ 0 → References p (stepped s (ref_index i) ((found + (2 ^ 64 - 1)) % 2 ^ 64) id c (subbed i found (back i found v) v) a)
-    sub_ref_keeps there idle = let x : ℕ = version_of found in let h : ℕ = x - x % 2 in let P : Bool → Type 0 = λ b. References p (stepped s (ref_index i) ((found + (2 ^ 64 - 1)) % 2 ^ 64) id c (subbed i found (cond b is_probe (is_hold h)) v) a) in
+    sub_ref_keeps there idle = let x : ℕ = vref_version found in let h : ℕ = x - x % 2 in let P : Bool → Type 0 = λ b. References p (stepped s (ref_index i) ((found + (2 ^ 64 - 1)) % 2 ^ 64) id c (subbed i found (cond b is_probe (is_hold h)) v) a) in
         dite (dec_le (marks_of is_probe i v) 0)
         (λ none_. subst P (sym (le-ltb 0 (marks_of is_probe i v) none_)) (sub_with (is_hold h) (hold-ref h)
         (let t = taken is_ref mine there in ⊎_elim (λ q. absurd (omega (arith, t.2 is_probe))) (λ q. let g : ℕ = q.0 in let mine_g : 0 < total (is_hold g) mine = omega (arith, q.1, t.2 (is_hold g)) in
@@ -134,23 +135,23 @@ module _ {S : Type 0} (p : Plan) (s : State S View) (law : References p s) (id :
         (live_same ms (omega arith)) (keeps_look p.first L (law.slots i inside) id mine at_home)
 
     -- the first to fail the life
-    pub fail_keeps : (h : ℕ) → 0 < marks_of (is_hold h) i v → version_of found % 2 ≡ 0 → marks_of is_ref i v < 65540 → (n : ℕ) → n ≡ found + 4294967296 → References p (stepped s (ref_index i) n id c (failed i found v) a)
+    pub fail_keeps : (h : ℕ) → 0 < marks_of (is_hold h) i v → vref_version found % 2 ≡ 0 → marks_of is_ref i v < 65540 → (n : ℕ) → n ≡ found + 4294967296 → References p (stepped s (ref_index i) n id c (failed i found v) a)
     fail_keeps h there even room n next = let w' : View = record v { marks = at i (Hold L.version) ∷ at i (Coding L.version) ∷ at i (Failer L.version) ∷ at i (Saw (L.version + 1)) ∷ v.marks } in
-        let is_w : failed i found v ≡ w' = ap (λ b. record v { marks = cond b w'.marks (at i (Saw L.version) ∷ v.marks) }) (eq-eqb (version_of found % 2) 0 even) in
+        let is_w : failed i found v ≡ w' = ap (λ b. record v { marks = cond b w'.marks (at i (Saw L.version) ∷ v.marks) }) (eq-eqb (vref_version found % 2) 0 even) in
         let ms : List Mark = Hold L.version ∷ Coding L.version ∷ Failer L.version ∷ Saw (L.version + 1) ∷ mine in
         subst (λ (w : View). References p (stepped s (ref_index i) n id c w a)) (sym is_w)
         (on_ref w' n ms (L.version + 1) L.nref 0 (λ x ne. simp about-other) (λ k. omega arith) refl (simp about-here) (λ g. omega arith) (omega arith) (omega arith)
         (live-odd L.tag (L.version + 1) (tally is_busy (set L.marks id ms)) (omega arith)) (keeps_fail p.first L (law.slots i inside) id mine at_home h there even room))
 
     -- it was failed already
-    pub fail_again_keeps : version_of found % 2 ≡ 1 → References p (stepped s (ref_index i) found id c (failed i found v) a)
-    fail_again_keeps odd = let is_w : failed i found v ≡ looked i found v = ap (λ b. record v { marks = cond b (at i (Hold L.version) ∷ at i (Coding L.version) ∷ at i (Failer L.version) ∷ at i (Saw (L.version + 1)) ∷ v.marks) (at i (Saw L.version) ∷ v.marks) }) (ne_eqb (version_of found % 2) 0 (λ e. omega arith)) in
+    pub fail_again_keeps : vref_version found % 2 ≡ 1 → References p (stepped s (ref_index i) found id c (failed i found v) a)
+    fail_again_keeps odd = let is_w : failed i found v ≡ looked i found v = ap (λ b. record v { marks = cond b (at i (Hold L.version) ∷ at i (Coding L.version) ∷ at i (Failer L.version) ∷ at i (Saw (L.version + 1)) ∷ v.marks) (at i (Saw L.version) ∷ v.marks) }) (ne_eqb (vref_version found % 2) 0 (λ e. omega arith)) in
         subst (λ (w : View). References p (stepped s (ref_index i) found id c w a)) (sym is_w) look_keeps
 
     -- of a life that it holds
     pub set_odd_keeps : (h : ℕ) → 0 < marks_of (is_hold h) i v → marks_of is_ref i v < 65540 → References p (stepped s (ref_index i) (bit_or found 4294967296) id c (failed i found v) a)
-    set_odd_keeps h there room = dite (ℕ_discrete (version_of found % 2) 0) (λ even. fail_keeps h there even room (bit_or found 4294967296) (or-even found even))
-        (λ n. let odd : version_of found % 2 ≡ 1 = omega arith in subst (λ (x : ℕ). References p (stepped s (ref_index i) x id c (failed i found v) a)) (sym (or-odd found odd)) (fail_again_keeps odd))
+    set_odd_keeps h there room = dite (ℕ_discrete (vref_version found % 2) 0) (λ even. fail_keeps h there even room (bit_or found 4294967296) (or-even found even))
+        (λ n. let odd : vref_version found % 2 ≡ 1 = omega arith in subst (λ (x : ℕ). References p (stepped s (ref_index i) x id c (failed i found v) a)) (sym (or-odd found odd)) (fail_again_keeps odd))
 
     pub birth_keeps : (k : ℕ) → 0 < marks_of (is_stage 3 k) i v → References p (stepped s (ref_index i) ((found + 1) % 2 ^ 64) id c (gave_birth i found k v) a)
     birth_keeps k there = let few = few_refs p s law i inside in let ms : List Mark = Known L.version ∷ Born L.version ∷ Linked L.version k ∷ without (is_stage 3 k) mine in
@@ -167,11 +168,11 @@ module _ {S : Type 0} (p : Plan) (s : State S View) (law : References p s) (id :
         (live-yes L.tag L.version (tally is_busy (set L.marks id ms)) tag_is even low (omega arith)) (keeps_birth p.first L law_i id mine at_home k there)
 
     -- the exchange won
-    pub recycle_keeps : p.first % 2 ≡ 0 → (from : ℕ) → found ≡ from → version_of from % 2 ≡ 1 → nref_of from ≡ 0 → 0 < marks_of (is_zero (version_of from)) i v
-        → References p (stepped s (ref_index i) ((version_of from + 1) * 4294967296) id c (recycled i from found v) a)
-    recycle_keeps even_first from hit odd last there = let x : ℕ = version_of from in let rest : List SlotMark = without_at i (is_zero x) v.marks in let w' : View = record v { marks = at i (Recycling (x + 1)) ∷ at i (Freer (x - 1)) ∷ rest } in
+    pub recycle_keeps : p.first % 2 ≡ 0 → (from : ℕ) → found ≡ from → vref_version from % 2 ≡ 1 → vref_nref from ≡ 0 → 0 < marks_of (is_zero (vref_version from)) i v
+        → References p (stepped s (ref_index i) ((vref_version from + 1) * 4294967296) id c (recycled i from found v) a)
+    recycle_keeps even_first from hit odd last there = let x : ℕ = vref_version from in let rest : List SlotMark = without_at i (is_zero x) v.marks in let w' : View = record v { marks = at i (Recycling (x + 1)) ∷ at i (Freer (x - 1)) ∷ rest } in
         let is_w : recycled i from found v ≡ w' = ap (λ b. record v { marks = cond b w'.marks rest }) (eq-eqb found from hit) in
-        let x_is : x ≡ L.version = ap version_of (sym hit) in let r_is : L.nref ≡ 0 = ap nref_of hit ∙ last in let odd' : L.version % 2 ≡ 1 = ap (λ (y : ℕ). version_of y % 2) hit ∙ odd in
+        let x_is : x ≡ L.version = ap vref_version (sym hit) in let r_is : L.nref ≡ 0 = ap vref_nref hit ∙ last in let odd' : L.version % 2 ≡ 1 = ap (λ (y : ℕ). vref_version y % 2) hit ∙ odd in
         let ms : List Mark = Recycling (x + 1) ∷ Freer (x - 1) ∷ without (is_zero x) mine in
         let left : (f : Mark → ℕ) → total f (without (is_zero x) mine) + f (Zero x) ≡ total f mine = taken_as (is_zero x) (Zero x) mine (zero_is x) there in
         subst (λ (w : View). References p (stepped s (ref_index i) ((x + 1) * 4294967296) id c w a)) (sym is_w)
@@ -184,9 +185,9 @@ module _ {S : Type 0} (p : Plan) (s : State S View) (law : References p s) (id :
         subst (λ (y : ℕ). P y 0) (sym x_is) (subst (P L.version) r_is (keeps_recycle p.first L (law.slots i inside) id mine at_home even_first (subst (λ (y : ℕ). 0 < total (is_zero y) mine) x_is there) odd' r_is))))
 
     -- the exchange lost
-    pub recycle_lost_keeps : (from : ℕ) → found ≢ from → nref_of from ≡ 0 → 0 < marks_of (is_zero (version_of from)) i v
+    pub recycle_lost_keeps : (from : ℕ) → found ≢ from → vref_nref from ≡ 0 → 0 < marks_of (is_zero (vref_version from)) i v
         → References p (stepped s (ref_index i) found id c (recycled i from found v) a)
-    recycle_lost_keeps from miss last there = let x : ℕ = version_of from in let rest : List SlotMark = without_at i (is_zero x) v.marks in let w' : View = record v { marks = rest } in
+    recycle_lost_keeps from miss last there = let x : ℕ = vref_version from in let rest : List SlotMark = without_at i (is_zero x) v.marks in let w' : View = record v { marks = rest } in
         let is_w : recycled i from found v ≡ w' = ap (λ b. record v { marks = cond b (at i (Recycling (x + 1)) ∷ at i (Freer (x - 1)) ∷ rest) rest }) (ne_eqb found from miss) in
         let ms : List Mark = without (is_zero x) mine in
         let left : (f : Mark → ℕ) → total f ms + f (Zero x) ≡ total f mine = taken_as (is_zero x) (Zero x) mine (zero_is x) there in
@@ -229,7 +230,7 @@ module _ {S : Type 0} (p : Plan) (s : State S View) (law : References p s) (id :
       refl (about-without i is_recycling v.marks) (λ h. omega (arith, left (is_born h)))
       (live-free 0 L.version (tally is_busy (set L.marks id ms)) refl ∙ sym still) (keeps_free p.first L law_i id mine at_home x there low)
 
-  pub some_ref : 0 < marks_of is_ref i v → 0 < nref_of found
+  pub some_ref : 0 < marks_of is_ref i v → 0 < vref_nref found
   some_ref there = let still = (law.slots i inside).counted in let own = term_le (total is_ref) L.marks id mine at_home in omega arith
 
   -- the seat has one claim of the slot
@@ -241,6 +242,6 @@ module _ {S : Type 0} (p : Plan) (s : State S View) (law : References p s) (id :
       (λ n. (pair_is 3 g 3 k (omega arith)).1) in d
 
   -- each life that the seat knows is at most as late as the version found
-  pub known_found : (h : ℕ) → 0 < marks_of (is_known h) i v → h ≤ version_of found
+  pub known_found : (h : ℕ) → 0 < marks_of (is_known h) i v → h ≤ vref_version found
   known_found h there = let t = life_is p.first h (L.version + live L) (omega (arith, (law.slots i inside).known h (omega (arith, term_le (total (is_known h)) L.marks id mine at_home)))) in let t₁ = t.1 in
       let le = live_le L.tag L.version (tally is_busy L.marks) in omega arith

@@ -15,11 +15,12 @@ use Rattle.sock_model.specs.sock_words.specs.declared.plain.Plan.{Plan}
 use Rattle.sock_model.specs.Weights.{total, tally, only, is_ref, is_busy, is_claimed, is_recycling, is_tried, is_recycled, is_hold, is_saw, is_zero, is_known, is_born, is_failer, is_freer, is_coding, is_coded, is_any_coding, is_stored, is_told, is_stage, is_linked, is_met}
 use Rattle.sock_model.specs.Marks.{about, says}
 use Rattle.sock_model.specs.Layout.{ref_index, name_index, open_index}
-use Rattle.sock_model.specs.Slots.{SlotFacts, live_by, version_of, nref_of, live, Each, KeepsCodes, SlotLaw}
+use Rattle.sock_model.specs.Slots.{SlotFacts, live_by, live, Each, KeepsCodes, SlotLaw}
 use Rattle.sock_model.specs.References.{spare, sayers, uses_of, uses_link, slot_facts, References}
 use Rattle.slot_steps.proofs.Sums.{total-append, total-set, each_set}
 use Rattle.sock_model.specs.Seats.{newcomer, spent, joined, Unused, below, later, earliest}
 use Rattle.slot_steps.proofs.Numbers.{only_le, only-else, life-none, live-free}
+use Rattle.sock_model.specs.sock_words.specs.Words.{vref_version, vref_nref}
 
 abbrev start : ℕ → SlotFacts
 start first = record { tag = 0; version = first; nref = 0; link = 0; code = 0; marks = [] ∷ [] }
@@ -83,7 +84,7 @@ module _ {S : Type 0} where
   opening_keeps p ws homes ps more u once small even low = let s : State S View = record { words = ws; homes = homes; views = newcomer p ps more ∷ [] } in record {
     sized = u.sized;
     seat_limit = omega arith;
-    slots = λ i inside. let r = u.refs i inside in let e₀ = u.tags i inside in let e₁ : version_of (get_or ws (ref_index i) 0) ≡ p.first = omega arith in let e₁' : nref_of (get_or ws (ref_index i) 0) ≡ 0 = omega arith in
+    slots = λ i inside. let r = u.refs i inside in let e₀ = u.tags i inside in let e₁ : vref_version (get_or ws (ref_index i) 0) ≡ p.first = omega arith in let e₁' : vref_nref (get_or ws (ref_index i) 0) ≡ 0 = omega arith in
         let e₂ = u.links i inside in let e₄ = u.codes i inside in
         let is : slot_facts s i ≡ start p.first = λ q. record { tag = e₀ q; version = e₁ q; nref = e₁' q; link = e₂ q; code = e₄ q; marks = [] ∷ [] } in
         subst (λ (l : SlotFacts). SlotLaw p.first (live l) l) (sym is) (subst (λ (x : ℕ). SlotLaw p.first x (start p.first)) (sym (live-free 0 p.first 0 refl)) (fresh_law p.first even low));

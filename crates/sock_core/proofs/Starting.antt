@@ -15,7 +15,6 @@ use Rattle.sock_model.specs.declared.home.Home.{Home}
 use Rattle.sock_model.specs.declared.home.Home.TheVariants.{Link}
 use Rattle.seat_programs.specs.declared.task.Task.{Task}
 use Rattle.seat_programs.specs.declared.task.Sizes.{Sizes}
-use Rattle.seat_programs.specs.Asides.{id_first}
 use Rattle.seat_programs.specs.Heads.{Retry}
 use Rattle.seat_programs.specs.Programs.{Program, Rest}
 use Rattle.seat_programs.specs.Readers.{reader}
@@ -41,6 +40,7 @@ use Rattle.machine_ticks.specs.machine_rules.proofs.Hands.{HasNone, hand_none}
 use Rattle.machine_steps.proofs.Begun.{told_length}
 use Rattle.machine_ticks.specs.machine_rules.proofs.Paces.{calm_paced, client_calm}
 use Rattle.machine_ticks.specs.machine_rules.proofs.Seatings.{core_is}
+use Rattle.corr_core.specs.Word.{id_first}
 
 -- nothing was taken, and nothing given
 abbrev pub NOTHING : Taken

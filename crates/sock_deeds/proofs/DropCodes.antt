@@ -8,7 +8,7 @@ use lib.ListN.{get_elem?}
 use Rattle.sock_io.specs.declared.link.Out.{Ghosts}
 use Rattle.sock_io.specs.Link.{OutState}
 use Rattle.sock_words.specs.Codes.{EFAILEDSOCKET}
-use Rattle.sock_words.specs.Words.{socket_id_slot, socket_id_version}
+use Rattle.sock_words.specs.Words.{socket_id_slot, socket_id_version, place_word}
 use Rattle.sock_words.specs.declared.outcome.Outcome.{Outcome}
 use Rattle.sock_words.specs.declared.outcome.Outcome.TheVariants as outcome
 use Rattle.sock_words.specs.declared.plain.Plan.{Plan}
@@ -19,7 +19,6 @@ use Rattle.sock_model.specs.declared.chain.Entry.{Entry}
 use Rattle.sock_model.specs.declared.marks.Mark.{Mark}
 use Rattle.sock_model.specs.declared.marks.Mark.TheVariants as marks
 use Rattle.sock_model.specs.declared.view.View.{View}
-use Rattle.sock_model.specs.Deliveries.{place_value}
 use Rattle.sock_model.specs.Entries.{on}
 use Rattle.sock_model.specs.Layout.{open_index, place_index}
 use Rattle.sock_model.specs.Marks.{about}
@@ -231,9 +230,9 @@ module _ {O : Type 0} {g : Ghosts O} {state : O → OutState} {p : Plan} {client
       pub less : position < length (on e.link (log run))
 
     -- where a seat stored the word of a dropped message at its place index, for this link
-    pub dropped_stands : (q : ℕ) (e : Entry) → get_elem? (log run) q ≡ some e → (a : Act run) (link position : ℕ) → position < 4294967295 → 0 < put_in (place_index p e.heading.place) (place_value true link position) (after run a) → IsBehindPlaced e × (link ≡ e.link)
+    pub dropped_stands : (q : ℕ) (e : Entry) → get_elem? (log run) q ≡ some e → (a : Act run) (link position : ℕ) → position < 4294967295 → 0 < put_in (place_index p e.heading.place) (place_word true link position) (after run a) → IsBehindPlaced e × (link ≡ e.link)
     dropped_stands q e at a link position low_position put =
-        let l = e.heading.place in let k = e.link in let n = place_value true link position in
+        let l = e.heading.place in let k = e.link in let n = place_word true link position in
         let low = low_entry run differ q e at in let kl = low_link q e at in
         let s = on_there k (log run) q e at refl in let i = s.0 in
         let all = has_puts run a (place_index p l) n in

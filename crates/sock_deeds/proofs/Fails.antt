@@ -14,12 +14,11 @@ use Rattle.sock_words.specs.declared.outcome.Outcome.TheVariants as outcome
 use Rattle.sock_words.specs.declared.plain.Plan.{Plan}
 use Rattle.sock_words.specs.declared.place_word.PlaceWord.{PlaceWord}
 use Rattle.sock_words.specs.declared.vref.Vref.{Vref}
-use Rattle.sock_words.specs.Words.{socket_id_version, socket_id_slot}
+use Rattle.sock_words.specs.Words.{socket_id_version, socket_id_slot, vref_version}
 use Rattle.sock_model.specs.declared.marks.Mark.{Mark}
 use Rattle.sock_model.specs.declared.view.StoredWord.{StoredWord}
 use Rattle.sock_model.specs.declared.view.View.{View}
 use Rattle.sock_model.specs.Layout.{name_index, ref_index}
-use Rattle.sock_model.specs.Slots.{version_of}
 use Rattle.sock_model.specs.SlotRows.{marks_of}
 use Rattle.sock_model.specs.Weights.{is_born, is_failer, only}
 use Rattle.slot_steps.proofs.Numbers.{only-same}
@@ -96,7 +95,7 @@ module _ {O : Type 0} {g : Ghosts O} {state : O → OutState} {p : Plan} {client
 
   -- a life is failed once at most
   pub failer_once : (i h : ℕ) → i < p.slots → 0 < marks_of (is_born h) i (All run) → marks_of (is_failer h) i (All run) ≤ 1
-  failer_once i h low born = let c = run.closed.closing in dite (dec_lt h (version_of (slice_index run.closed.words (ref_index i))))
+  failer_once i h low born = let c = run.closed.closing in dite (dec_lt h (vref_version (slice_index run.closed.words (ref_index i))))
       (λ lt. (let e = c.failed_once i h low born lt in omega arith))
       (λ ge. (let e = c.not_failed i h low (omega arith) in omega arith))
 

@@ -9,9 +9,8 @@ use Rattle.sock_words.specs.declared.outcome.Outcome.{Outcome}
 use Rattle.sock_words.specs.declared.plain.Plan.{Plan}
 use Rattle.sock_words.specs.declared.place_word.PlaceWord.{PlaceWord}
 use Rattle.sock_words.specs.declared.vref.Vref.{Vref}
-use Rattle.sock_words.specs.Words.{socket_id_version, socket_id_slot}
+use Rattle.sock_words.specs.Words.{socket_id_version, socket_id_slot, place_word}
 use Rattle.sock_model.specs.declared.chain.Entry.{Entry}
-use Rattle.sock_model.specs.Deliveries.{place_value}
 use Rattle.sock_model.specs.Entries.{on}
 use Rattle.sock_model.specs.Layout.{place_index}
 use Rattle.sock_model.specs.SlotRows.{marks_of}
@@ -37,7 +36,7 @@ use Rattle.sock_deeds.proofs.Stores.{done_drops}
 use Rattle.sock_deeds.proofs.Tasks.{fits, is_for}
 
 -- the word of a dropped message tells its link
-one_link : (k l i j : ℕ) → i < 4294967295 → j < 4294967295 → place_value true k i ≡ place_value true l j → k ≡ l
+one_link : (k l i j : ℕ) → i < 4294967295 → j < 4294967295 → place_word true k i ≡ place_word true l j → k ≡ l
 one_link k l i j low_i low_j e = omega arith
 
 module _ {O : Type 0} {g : Ghosts O} {state : O → OutState} {p : Plan} {clients : List (List Task)} {outcomes : List (Option Outcome)} {places : List PlaceWord} {vrefs : List Vref} {outs : List O} (run : DeedRun g state p clients outcomes places vrefs outs) (differ : PlacesDiffer (log run)) where
@@ -79,7 +78,7 @@ module _ {O : Type 0} {g : Ghosts O} {state : O → OutState} {p : Plan} {client
       let e = place_there (on k (log run)) i less in
       let l = e.0.heading.place in
       let n = slice_index run.closed.words (place_index p l) in
-      let word : n ≡ place_value true k i = ((ends run differ).1 k low).fifo.dropped i e.0 e.1 (omega arith) in
+      let word : n ≡ place_word true k i = ((ends run differ).1 k low).fifo.dropped i e.0 e.1 (omega arith) in
       let q = from_on k (log run) i e.0 e.1 in
       let put = (run.closed.dropped l (low_entry q.0 e.0 q.1)).told (omega arith) in
       let w = puts_from run (place_index p l) n put in

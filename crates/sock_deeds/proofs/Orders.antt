@@ -19,7 +19,7 @@ use Rattle.sock_words.specs.declared.vref.Vref.{Vref}
 use Rattle.sock_model.specs.declared.chain.Entry.{Entry}
 use Rattle.sock_model.specs.declared.home.Home.{Home}
 use Rattle.sock_model.specs.declared.home.Home.TheVariants.{Link}
-use Rattle.sock_model.specs.Deliveries.{whole, place_value}
+use Rattle.sock_model.specs.Deliveries.{whole}
 use Rattle.sock_model.specs.Entries.{on}
 use Rattle.sock_model.specs.Fifo.{IsFifo}
 use Rattle.sock_model.specs.Layout.{place_index}
@@ -47,6 +47,7 @@ use Rattle.sock_deeds.proofs.Entries.{from_on, on_there, on_rises}
 use Rattle.sock_deeds.proofs.Failing.{choose}
 use Rattle.sock_deeds.proofs.Flats.{append_later}
 use Rattle.sock_deeds.proofs.Tasks.{fits, same_task}
+use Rattle.sock_words.specs.Words.{place_word}
 
 -- ## What a link took
 
@@ -126,12 +127,12 @@ module _ {O : Type 0} {g : Ghosts O} {state : O → OutState} {p : Plan} {client
 
   -- ## The orders
 
-  word_at : (k i : ℕ) (e : Entry) → k < p.links → get_elem? (on k (log run)) i ≡ some e → slice_index run.closed.words (place_index p e.heading.place) ≡ place_value (nat_le (kept k) i) k i
+  word_at : (k i : ℕ) (e : Entry) → k < p.links → get_elem? (on k (log run)) i ≡ some e → slice_index run.closed.words (place_index p e.heading.place) ≡ place_word (nat_le (kept k) i) k i
   word_at k i e low at =
       let f = (ends.1 k low).fifo in
       dite (dec_lt i (kept k))
-      (λ lt. f.placed i e at lt ∙ ap (λ b. place_value b k i) (sym (first_le lt)))
-      (λ ge. f.dropped i e at (omega arith) ∙ ap (λ b. place_value b k i) (sym (later_le (omega arith))))
+      (λ lt. f.placed i e at lt ∙ ap (λ b. place_word b k i) (sym (first_le lt)))
+      (λ ge. f.dropped i e at (omega arith) ∙ ap (λ b. place_word b k i) (sym (later_le (omega arith))))
     where
       first_le : i < kept k → nat_le (kept k) i ≡ false
       first_le lt = grind (arith, nat_tests)

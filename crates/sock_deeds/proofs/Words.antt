@@ -2,9 +2,8 @@
 use Rattle.std.proofs.Common.{◌≡◌, ℕ, ◌+◌, ◌<◌, true, sym, ap, arith}
 use Rattle.sock_io.specs.Link.{OutState}
 use Rattle.sock_words.specs.declared.plain.Plan.{Plan}
-use Rattle.sock_words.specs.Words.{socket_id_version}
+use Rattle.sock_words.specs.Words.{socket_id_version, place_word}
 use Rattle.sock_model.specs.declared.view.View.{View}
-use Rattle.sock_model.specs.Deliveries.{place_value}
 use Rattle.sock_model.specs.Layout.{place_index}
 use Rattle.sock_model.specs.Weights.{total, is_met, is_saw}
 use Rattle.slot_steps.proofs.Numbers.{pair_is}
@@ -36,6 +35,6 @@ module _ {O : Type 0} {state : O → OutState} (p : Plan) (id x n : ℕ) where
   pub word_dropped : (msg : Undelivered) (v w : View) → WroteDrop state p id msg v w → FoundDead id w → put_in x n v < put_in x n w → IsDropWord p id w x n
   word_dropped msg v w a dead less =
       let e = ap (total (total (is_put x n))) a.stores in
-      let f = note_is x n record { place = place_index p msg.label.place; word = place_value true a.link a.position } v.stores in
-      let q = pair_is x n (place_index p msg.label.place) (place_value true a.link a.position) (omega arith) in
+      let f = note_is x n record { place = place_index p msg.label.place; word = place_word true a.link a.position } v.stores in
+      let q = pair_is x n (place_index p msg.label.place) (place_word true a.link a.position) (omega arith) in
       record { place = msg.label.place; at_place = sym q.0; link = a.link; position = a.position; low = a.low; word_is = sym q.1; met = a.met; dead = dead }

@@ -6,7 +6,6 @@ use Rattle.sock_words.specs.declared.plain.Plan.{Plan}
 use Rattle.sock_words.specs.declared.outcome.Outcome.{Outcome}
 use Rattle.sock_words.specs.declared.socket_id.SocketId.{SocketId}
 use Rattle.sock_model.specs.declared.view.View.{View}
-use Rattle.sock_model.specs.Deliveries.{place_value}
 use Rattle.sock_model.specs.Layout.{place_index}
 use Rattle.rpc_client.specs.sock_rule.specs.OnTable.{put_in}
 use Rattle.rpc_client.specs.sock_rule.specs.declared.homes.Letter.{Letter}
@@ -24,6 +23,7 @@ use Rattle.rpc_client.specs.Opening.{OpenedBy}
 use Rattle.rpc_client.specs.Holding.{HeldBy, DroppedBy}
 use Rattle.rpc_client.specs.Failing.{SetBy, FailedBy}
 use Rattle.rpc_client.specs.Sending.{Returned, DeliveredBy, ByName}
+use Rattle.sock_words.specs.Words.{place_word}
 
 -- what a seat has between two deeds: its view, and the references that it keeps by their names
 pub record Hand : Type 0 where
@@ -39,7 +39,7 @@ pub record IsDropWord (p : Plan) (id : ℕ) (v : View) (x n : ℕ) : Type 0 wher
   pub link : ℕ
   pub position : ℕ
   pub low : position < 4294967295
-  pub word_is : n ≡ place_value true link position
+  pub word_is : n ≡ place_word true link position
   pub met : Met_by id v link
   pub dead : FoundDead id v
 

@@ -6,6 +6,7 @@ use Rattle.sock_model.specs.declared.chain.Entry.{Entry}
 use Rattle.sock_model.specs.declared.chain.Right.{Right}
 use Rattle.sock_model.specs.Entries.{on}
 use Rattle.sock_model.specs.Tokens.{Tokens}
+use Rattle.sock_words.specs.Words.{place_word}
 
 -- the messages of the first n entries, one after another
 abbrev pub whole : List Entry → ℕ → List ℕ
@@ -26,13 +27,10 @@ pub record Taken (c : List Entry) (n : ℕ) (took : List ℕ) : Type 0 where
 abbrev pub HasTaken : List Entry → ℕ → ℕ → List ℕ → ℕ → Type 0
 HasTaken c places kept took next = Taken c kept took × (kept ≡ places → took ≡ whole c kept) × (next ≡ places)
 
-abbrev pub place_value : Bool → ℕ → ℕ → ℕ
-place_value dropped link position = cond dropped 9223372036854775808 0 + (link * 4294967296 + suc position)
-
 -- of the entries of link k, places k have places, of which those behind the first kept k are dropped
 pub data ShownAt (links : ℕ) (place : ℕ → ℕ) (log : List Entry) (places kept : ℕ → ℕ) (p : ℕ) : Type 0 where
   no_place : place p ≡ 0 → ((k i : ℕ) (e : Entry) → k < links → i < places k → get_elem? (on k log) i ≡ some e → e.heading.place ≢ p) → ShownAt links place log places kept p
-  one_place : (k i : ℕ) (e : Entry) → k < links → i < places k → get_elem? (on k log) i ≡ some e → e.heading.place ≡ p → place p ≡ place_value (nat_le (kept k) i) k i → ShownAt links place log places kept p
+  one_place : (k i : ℕ) (e : Entry) → k < links → i < places k → get_elem? (on k log) i ≡ some e → e.heading.place ≡ p → place p ≡ place_word (nat_le (kept k) i) k i → ShownAt links place log places kept p
 
 -- home has of a link that is at home what it took and its count of places, and Failed says of a link that its life isn't live
 pub record Delivered (links labels : ℕ) (place : ℕ → ℕ) (home : ℕ → Option (List ℕ × ℕ)) (Failed : ℕ → Type 0) (t : Tokens) (log : List Entry) (places kept : ℕ → ℕ) : Type 0 where

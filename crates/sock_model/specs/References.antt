@@ -7,7 +7,8 @@ use Rattle.sock_words.specs.declared.plain.Plan.{Plan}
 use Rattle.sock_model.specs.Weights.{total, only, is_born, uses}
 use Rattle.sock_model.specs.Marks.{about, says}
 use Rattle.sock_model.specs.Layout.{tag_index, ref_index, link_index, code_index, name_index, open_index, all_words}
-use Rattle.sock_model.specs.Slots.{SlotFacts, version_of, nref_of, live, count, SlotLaw}
+use Rattle.sock_model.specs.Slots.{SlotFacts, live, count, SlotLaw}
+use Rattle.sock_words.specs.Words.{vref_version, vref_nref, socket_id_slot, socket_id_version}
 
 -- how far the link k is used by this mark
 abbrev pub uses_link : ℕ → SlotMark → ℕ
@@ -33,8 +34,8 @@ module _ {S : Type 0} where
   abbrev pub slot_facts : State S View → ℕ → SlotFacts
   slot_facts s i = record {
     tag = slice_index s.words (tag_index i);
-    version = version_of (slice_index s.words (ref_index i));
-    nref = nref_of (slice_index s.words (ref_index i));
+    version = vref_version (slice_index s.words (ref_index i));
+    nref = vref_nref (slice_index s.words (ref_index i));
     link = slice_index s.words (link_index i);
     code = slice_index s.words (code_index i);
     marks = map (λ v. about i v.marks) s.views;
@@ -42,7 +43,7 @@ module _ {S : Type 0} where
 
   -- the word is 0, or one more than the id of a life that was made
   abbrev pub Names : Plan → State S View → ℕ → Type 0
-  Names p s w = w ≢ 0 → ((w - 1) % 4294967296 < p.slots) × (0 < count (is_born ((w - 1) / 4294967296)) (slot_facts s ((w - 1) % 4294967296)))
+  Names p s w = w ≢ 0 → (socket_id_slot (w - 1) < p.slots) × (0 < count (is_born (socket_id_version (w - 1))) (slot_facts s (socket_id_slot (w - 1))))
 
   -- a word that is not 0 is what one of the seats stored there last
   abbrev pub Stores : State S View → ℕ → Type 0

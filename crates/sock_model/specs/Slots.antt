@@ -15,12 +15,6 @@ pub record SlotFacts : Type 0 where
   pub code : ℕ
   pub marks : List (List Mark)
 
-abbrev pub version_of : ℕ → ℕ
-version_of w = w / 4294967296
-
-abbrev pub nref_of : ℕ → ℕ
-nref_of w = w % 4294967296
-
 -- 1 where the slot is live, else 0: by its tag, its version and how many seats claimed or recycled it
 unfoldable pub live_by : ℕ → ℕ → ℕ → ℕ
 live_by t v b = cond ((t == 1) && ((v % 2 == 0) && (nat_le v 4294967292 && (b == 0)))) 1 0

@@ -16,7 +16,6 @@ use Rattle.sock_model.specs.Marks.{about}
 use Rattle.sock_model.specs.Rule.{Rule}
 use Rattle.sock_model.specs.Weights.{is_claimed, is_busy, is_ref, is_any_coding, is_stage, is_recycled, is_hold, is_known, is_zero, is_saw}
 use Rattle.sock_model.specs.Layout.{tag_index, ref_index}
-use Rattle.sock_model.specs.Slots.{version_of, nref_of}
 use Rattle.sock_model.specs.References.{slot_facts}
 use Rattle.sock_model.specs.SlotRows.{marks_of, knows, claimed, gave_birth, added, back, subbed, failed, recycled, freed, looked}
 use Rattle.chain_core.specs.slot_steps.proofs.Numbers.{pair_le}
@@ -30,6 +29,7 @@ use Rattle.sock_rule.specs.Plays.{WordFits, claim_told, birth_told, add_told, su
 use Rattle.sock_rule.proofs.Beside.{beside}
 use Rattle.sock_rule.proofs.Faults.{claimed_same, birth_same, added_same, subbed_same, failed_same, recycled_same, freed_same}
 use Rattle.sock_rule.proofs.Settling.{slot_settled}
+use Rattle.sock_words.specs.Words.{vref_version, vref_nref}
 
 -- a claim is one mark that its seat has of the slot
 staged_claimed : (k : ℕ) (m : Mark) → is_stage 3 k m ≤ is_claimed m
@@ -89,7 +89,7 @@ module _ {S : Type 0} (shows : S → Home) (rose : S → ℕ) (p : Plan) (slots 
 
   -- A3
   pub adds : marks_of is_ref i v < 65540 → Allows (OnTable shows rose p) slots id me (ref_index i) (λ n. (n + 1) % 2 ^ 64) (add_told (step slots (ref_index i) 1 0 none) me)
-  adds room s t long here fits = let found : ℕ = get_or s.words (ref_index i) 0 in let h : ℕ = version_of found in let few = few_refs p s t.rule.lawful.references i inside in let b : Bool = knows i h v in (
+  adds room s t long here fits = let found : ℕ = get_or s.words (ref_index i) 0 in let h : ℕ = vref_version found in let few = few_refs p s t.rule.lawful.references i inside in let b : Bool = knows i h v in (
     added i found b v,
     keeps,
     tt,
@@ -106,7 +106,7 @@ module _ {S : Type 0} (shows : S → Home) (rose : S → ℕ) (p : Plan) (slots 
     tt,
     beside t id v (subbed i found (back i found v) v) here some_ (set s.words (ref_index i) ((found + (2 ^ 64 - 1)) % 2 ^ 64)) s.homes (refl, λ l ll. refl) record { share = refl; lists = refl; finds = refl; stores = λ x y. omega arith; accepts = λ l. omega arith; labels = λ x. x } record { faults = λ l. subbed_same l i v found; outs = λ l. omega arith } (slot_settled t.settled _ _ (omega arith) (λ j e. omega arith))
         (sub_rule t.rule id v here mine i inside fits there idle rights),
-    (some_ref p s refs id v here me.1 keeps i inside there, (refs.slots i inside).top, λ x at. (of_ref (λ y. subbed y found (back y found v) v) x at, word_fits s t here fits x at, (let own = own_count s id v here is_ref i in let counted = (refs.slots i inside).counted in let e : i ≡ x = omega arith in subst (λ (y : ℕ). marks_of is_ref y v ≤ nref_of found) e (omega arith)))),
+    (some_ref p s refs id v here me.1 keeps i inside there, (refs.slots i inside).top, λ x at. (of_ref (λ y. subbed y found (back y found v) v) x at, word_fits s t here fits x at, (let own = own_count s id v here is_ref i in let counted = (refs.slots i inside).counted in let e : i ≡ x = omega arith in subst (λ (y : ℕ). marks_of is_ref y v ≤ vref_nref found) e (omega arith)))),
   )
 
   -- A5
@@ -121,9 +121,9 @@ module _ {S : Type 0} (shows : S → Home) (rose : S → ℕ) (p : Plan) (slots 
   )
 
   -- A6, won or lost
-  pub recycles : (from next : ℕ) → next ≡ from + 4294967296 → version_of from % 2 ≡ 1 → nref_of from ≡ 0 → 0 < marks_of (is_zero (version_of from)) i v → (said : Option S)
+  pub recycles : (from next : ℕ) → next ≡ from + 4294967296 → vref_version from % 2 ≡ 1 → vref_nref from ≡ 0 → 0 < marks_of (is_zero (vref_version from)) i v → (said : Option S)
       → Allows (OnTable shows rose p) slots id me (ref_index i) (λ n. either (eqb n from) next n) (recycle_told (step slots (ref_index i) from next said) me)
-  recycles from next is odd last there said s t long here fits = let found : ℕ = get_or s.words (ref_index i) 0 in let w : View = recycled i from found v in let is_next : (version_of from + 1) * 4294967296 ≡ next = omega arith in (
+  recycles from next is odd last there said s t long here fits = let found : ℕ = get_or s.words (ref_index i) 0 in let w : View = recycled i from found v in let is_next : (vref_version from + 1) * 4294967296 ≡ next = omega arith in (
     w,
     keeps,
     tt,
@@ -134,7 +134,7 @@ module _ {S : Type 0} (shows : S → Home) (rose : S → ℕ) (p : Plan) (slots 
     λ x at. let e : i ≡ x = omega arith in (
       of_ref (λ y. recycled y from found v) x at,
       λ hit. let busy = own_count s id v here is_busy i in let law = t.rule.lawful.references.slots i inside in
-          let none_ : marks_of is_busy i me.0 ≡ 0 = dite (ℕ_discrete (marks_of is_busy i me.0) 0) (λ z. z) (λ n. let even = law.busy_even (omega arith) in let same : (slot_facts s i).version ≡ version_of from = ap version_of hit in absurd (omega arith)) in
+          let none_ : marks_of is_busy i me.0 ≡ 0 = dite (ℕ_discrete (marks_of is_busy i me.0) 0) (λ z. z) (λ n. let even = law.busy_even (omega arith) in let same : (slot_facts s i).version ≡ vref_version from = ap vref_version hit in absurd (omega arith)) in
           subst (λ (y : ℕ). marks_of is_busy y me.0 ≡ 0) e none_,
     ),
   )

@@ -6,7 +6,6 @@ use Rattle.sock_model.specs.declared.view.View.{View}
 use Rattle.sock_model.specs.declared.view.Hand.{Hand}
 use Rattle.sock_model.specs.Weights.{total, is_probe, is_hold, is_zero, is_recycling, is_recycled, is_coding}
 use Rattle.sock_model.specs.Marks.{about, at, without, without_at}
-use Rattle.sock_model.specs.Slots.{version_of, nref_of}
 use Rattle.sock_model.specs.SlotRows.{marks_of, added, back, subbed, failed, recycled, freed, looked, coded, met_link}
 use Rattle.sock_model.specs.ChainRows.{with_hand, without_hand}
 use Rattle.chain_core.specs.slot_steps.proofs.Sums.{total-append, total_mono, taken, taken_as, about-here, about-other}
@@ -17,6 +16,7 @@ use mathlib.Core.Logic.{dite}
 use native.Mathlib.Decide.{ℕ_discrete}
 use Rattle.chain_core.specs.slot_steps.proofs.Frame.{about-without, about-without_else}
 use Rattle.sock_rule.specs.Becoming.{Became, Goes, probe_goes, hold_goes}
+use Rattle.sock_words.specs.Words.{vref_version, vref_nref}
 
 module _ (i : ℕ) where
   pub stays : (v : View) → Became i v v [] []
@@ -43,52 +43,52 @@ module _ (i : ℕ) where
   becomes {v} {w} {x} {a} {d} e p = subst (λ (y : View). Became i v y a d) (sym e) p
 
   -- A3
-  pub added_marks : (found : ℕ) (is_life : Bool) (v : View) → Became i v (added i found is_life v) (Saw (version_of found) ∷ cond is_life (Hold (version_of found)) Probe ∷ []) []
-  added_marks found is_life v = let w : View = record v { marks = at i (Saw (version_of found)) ∷ v.marks } in then_ (adds_mark (Saw (version_of found)) v) (adds_mark (cond is_life (Hold (version_of found)) Probe) w)
+  pub added_marks : (found : ℕ) (is_life : Bool) (v : View) → Became i v (added i found is_life v) (Saw (vref_version found) ∷ cond is_life (Hold (vref_version found)) Probe ∷ []) []
+  added_marks found is_life v = let w : View = record v { marks = at i (Saw (vref_version found)) ∷ v.marks } in then_ (adds_mark (Saw (vref_version found)) v) (adds_mark (cond is_life (Hold (vref_version found)) Probe) w)
 
   -- A8
-  pub looked_marks : (found : ℕ) (v : View) → Became i v (looked i found v) (Saw (version_of found) ∷ []) []
-  looked_marks found v = adds_mark (Saw (version_of found)) v
+  pub looked_marks : (found : ℕ) (v : View) → Became i v (looked i found v) (Saw (vref_version found) ∷ []) []
+  looked_marks found v = adds_mark (Saw (vref_version found)) v
 
   -- A4
   -- whoever took nref to 0 at an odd version has its exchange left
   abbrev pub zero_left : ℕ → List Mark
-  zero_left found = cond (eqb (version_of found % 2) 1) (cond (eqb (nref_of found) 1) (Zero (version_of found) ∷ []) []) []
+  zero_left found = cond (eqb (vref_version found % 2) 1) (cond (eqb (vref_nref found) 1) (Zero (vref_version found) ∷ []) []) []
 
   subbed_by : (found : ℕ) (g : Mark → ℕ) (m : Mark) (v : View) → ((x : Mark) → 0 < g x → x ≡ m) → 0 < marks_of g i v → Became i v (subbed i found g v) (zero_left found) (m ∷ [])
-  subbed_by found g m v one there = by_cases (eqb (version_of found % 2) 1) (eqb (nref_of found) 1)
+  subbed_by found g m v one there = by_cases (eqb (vref_version found % 2) 1) (eqb (vref_nref found) 1)
     where
       r : View
       r = record v { marks = without_at i g v.marks }
 
-      by_cases : (b d : Bool) → Became i v (record v { marks = cond b (cond d (at i (Zero (version_of found)) ∷ without_at i g v.marks) (without_at i g v.marks)) (without_at i g v.marks) }) (cond b (cond d (Zero (version_of found) ∷ []) []) []) (m ∷ [])
-      by_cases true true = then_ (drops_mark g m v one there) (adds_mark (Zero (version_of found)) record v { marks = without_at i g v.marks })
+      by_cases : (b d : Bool) → Became i v (record v { marks = cond b (cond d (at i (Zero (vref_version found)) ∷ without_at i g v.marks) (without_at i g v.marks)) (without_at i g v.marks) }) (cond b (cond d (Zero (vref_version found) ∷ []) []) []) (m ∷ [])
+      by_cases true true = then_ (drops_mark g m v one there) (adds_mark (Zero (vref_version found)) record v { marks = without_at i g v.marks })
       by_cases true false = drops_mark g m v one there
       by_cases false d = drops_mark g m v one there
 
-  pub subbed_marks : (found : ℕ) (v : View) (m : Mark) → Goes i v m → ((h : ℕ) → 0 < marks_of (is_hold h) i v → h ≡ version_of found - version_of found % 2) → Became i v (subbed i found (back i found v) v) (zero_left found) (m ∷ [])
-  subbed_marks found v _ (probe_goes there) held = subst (λ (g : Mark → ℕ). Became i v (subbed i found g v) (zero_left found) (Probe ∷ [])) (sym (ap (λ b. cond b is_probe (is_hold (version_of found - version_of found % 2))) (lt-ltb 0 (marks_of is_probe i v) there)))
+  pub subbed_marks : (found : ℕ) (v : View) (m : Mark) → Goes i v m → ((h : ℕ) → 0 < marks_of (is_hold h) i v → h ≡ vref_version found - vref_version found % 2) → Became i v (subbed i found (back i found v) v) (zero_left found) (m ∷ [])
+  subbed_marks found v _ (probe_goes there) held = subst (λ (g : Mark → ℕ). Became i v (subbed i found g v) (zero_left found) (Probe ∷ [])) (sym (ap (λ b. cond b is_probe (is_hold (vref_version found - vref_version found % 2))) (lt-ltb 0 (marks_of is_probe i v) there)))
       (subbed_by found is_probe Probe v probe_is there)
-  subbed_marks found v _ (hold_goes h none_ there) held = let e : back i found v ≡ is_hold h = ap (λ b. cond b is_probe (is_hold (version_of found - version_of found % 2))) (le-ltb 0 (marks_of is_probe i v) (omega arith)) ∙ ap is_hold (sym (held h there)) in
+  subbed_marks found v _ (hold_goes h none_ there) held = let e : back i found v ≡ is_hold h = ap (λ b. cond b is_probe (is_hold (vref_version found - vref_version found % 2))) (le-ltb 0 (marks_of is_probe i v) (omega arith)) ∙ ap is_hold (sym (held h there)) in
       subst (λ (g : Mark → ℕ). Became i v (subbed i found g v) (zero_left found) (Hold h ∷ [])) (sym e) (subbed_by found (is_hold h) (Hold h) v (hold_is h) there)
 
   -- A6
-  pub lost_marks : (from found : ℕ) (w : View) → found ≢ from → 0 < marks_of (is_zero (version_of from)) i w → Became i w (recycled i from found w) [] (Zero (version_of from) ∷ [])
-  lost_marks from found w ne there = let x : ℕ = version_of from in becomes (ap (λ b. record w { marks = cond b (at i (Recycling (x + 1)) ∷ at i (Freer (x - 1)) ∷ without_at i (is_zero x) w.marks) (without_at i (is_zero x) w.marks) }) (ne_eqb found from ne))
+  pub lost_marks : (from found : ℕ) (w : View) → found ≢ from → 0 < marks_of (is_zero (vref_version from)) i w → Became i w (recycled i from found w) [] (Zero (vref_version from) ∷ [])
+  lost_marks from found w ne there = let x : ℕ = vref_version from in becomes (ap (λ b. record w { marks = cond b (at i (Recycling (x + 1)) ∷ at i (Freer (x - 1)) ∷ without_at i (is_zero x) w.marks) (without_at i (is_zero x) w.marks) }) (ne_eqb found from ne))
       (drops_mark (is_zero x) (Zero x) w (zero_is x) there)
 
-  pub won_marks : (from found : ℕ) (w : View) → found ≡ from → 0 < marks_of (is_zero (version_of from)) i w → Became i w (recycled i from found w) (Freer (version_of from - 1) ∷ Recycling (version_of from + 1) ∷ []) (Zero (version_of from) ∷ [])
-  won_marks from found w hit there = let x : ℕ = version_of from in becomes (ap (λ b. record w { marks = cond b (at i (Recycling (x + 1)) ∷ at i (Freer (x - 1)) ∷ without_at i (is_zero x) w.marks) (without_at i (is_zero x) w.marks) }) (eq-eqb found from hit))
+  pub won_marks : (from found : ℕ) (w : View) → found ≡ from → 0 < marks_of (is_zero (vref_version from)) i w → Became i w (recycled i from found w) (Freer (vref_version from - 1) ∷ Recycling (vref_version from + 1) ∷ []) (Zero (vref_version from) ∷ [])
+  won_marks from found w hit there = let x : ℕ = vref_version from in becomes (ap (λ b. record w { marks = cond b (at i (Recycling (x + 1)) ∷ at i (Freer (x - 1)) ∷ without_at i (is_zero x) w.marks) (without_at i (is_zero x) w.marks) }) (eq-eqb found from hit))
       (then_ (then_ (drops_mark (is_zero x) (Zero x) w (zero_is x) there) (adds_mark (Freer (x - 1)) record w { marks = without_at i (is_zero x) w.marks })) (adds_mark (Recycling (x + 1)) record w { marks = at i (Freer (x - 1)) ∷ without_at i (is_zero x) w.marks }))
 
   -- A5
-  pub failed_marks : (found : ℕ) (v : View) → version_of found % 2 ≡ 0 → Became i v (failed i found v) (Saw (version_of found + 1) ∷ Failer (version_of found) ∷ Coding (version_of found) ∷ Hold (version_of found) ∷ []) []
-  failed_marks found v even = let w : ℕ = version_of found in
+  pub failed_marks : (found : ℕ) (v : View) → vref_version found % 2 ≡ 0 → Became i v (failed i found v) (Saw (vref_version found + 1) ∷ Failer (vref_version found) ∷ Coding (vref_version found) ∷ Hold (vref_version found) ∷ []) []
+  failed_marks found v even = let w : ℕ = vref_version found in
       becomes (ap (λ b. record v { marks = cond b (at i (Hold w) ∷ at i (Coding w) ∷ at i (Failer w) ∷ at i (Saw (w + 1)) ∷ v.marks) (at i (Saw w) ∷ v.marks) }) (eq-eqb (w % 2) 0 even))
       (then_ (then_ (then_ (adds_mark (Saw (w + 1)) v) (adds_mark (Failer w) record v { marks = at i (Saw (w + 1)) ∷ v.marks })) (adds_mark (Coding w) record v { marks = at i (Failer w) ∷ at i (Saw (w + 1)) ∷ v.marks })) (adds_mark (Hold w) record v { marks = at i (Coding w) ∷ at i (Failer w) ∷ at i (Saw (w + 1)) ∷ v.marks }))
 
-  pub failed_again : (found : ℕ) (v : View) → version_of found % 2 ≢ 0 → Became i v (failed i found v) (Saw (version_of found) ∷ []) []
-  failed_again found v odd = let w : ℕ = version_of found in
+  pub failed_again : (found : ℕ) (v : View) → vref_version found % 2 ≢ 0 → Became i v (failed i found v) (Saw (vref_version found) ∷ []) []
+  failed_again found v odd = let w : ℕ = vref_version found in
       becomes (ap (λ b. record v { marks = cond b (at i (Hold w) ∷ at i (Coding w) ∷ at i (Failer w) ∷ at i (Saw (w + 1)) ∷ v.marks) (at i (Saw w) ∷ v.marks) }) (ne_eqb (w % 2) 0 odd)) (adds_mark (Saw w) v)
 
   -- S4 of a code

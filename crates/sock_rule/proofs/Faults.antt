@@ -15,12 +15,12 @@ use Rattle.sock_model.specs.Weights.{total, only, is_probe, is_hold, is_stage, i
 use Rattle.sock_model.specs.Marks.{about, at, without_at}
 use Rattle.sock_model.specs.References.{uses_link}
 use Rattle.sock_model.specs.Reads.{waits_link, carries}
-use Rattle.sock_model.specs.Slots.{version_of, nref_of}
 use Rattle.sock_model.specs.SlotRows.{marks_of, claimed, gave_birth, added, back, subbed, failed, recycled, freed, linked, staged, coded}
 use Rattle.chain_core.specs.slot_steps.proofs.Numbers.{only-same, only_is, only-else}
 use Rattle.chain_core.specs.slot_steps.proofs.Sums.{total-set, total-append, term_le, about-here, about-other}
 use Rattle.sock_rule.specs.Faults.{fault, is_fault, faults_link, faults_of, noting_fault, fault_found, without_fault, fault_left, away, out_of, noted_out, present, rose_at, LinkFaults}
 use Rattle.sock_rule.proofs.Light.{Light, Alike}
+use Rattle.sock_words.specs.Words.{vref_version, vref_nref}
 
 -- ## Marks that come and go in steps
 
@@ -75,20 +75,20 @@ module _ (k i : ℕ) (v : View) where
   birth_same found c = omega (arith, stay_without k i (is_stage 3 c) v.marks (stage_no 3 c k))
 
   pub added_same : (found : ℕ) (b : Bool) → faults_of k (added i found b v) ≡ faults_of k v
-  added_same found b = let z : is_fault k (cond b (Hold (version_of found)) Probe) ≡ 0 = either_way b (Hold (version_of found)) Probe (λ m. is_fault k m ≡ 0) refl refl in omega arith
+  added_same found b = let z : is_fault k (cond b (Hold (vref_version found)) Probe) ≡ 0 = either_way b (Hold (vref_version found)) Probe (λ m. is_fault k m ≡ 0) refl refl in omega arith
 
   pub subbed_same : (found : ℕ) → faults_of k (subbed i found (back i found v) v) ≡ faults_of k v
-  subbed_same found = let w : ℕ = version_of found in let g : Mark → ℕ = back i found v in let r : List SlotMark = without_at i (back i found v) v.marks in
+  subbed_same found = let w : ℕ = vref_version found in let g : Mark → ℕ = back i found v in let r : List SlotMark = without_at i (back i found v) v.marks in
       let no : (x : Mark) → 0 < back i found v x → is_fault k x ≡ 0 = either_way (nat_lt 0 (marks_of is_probe i v)) is_probe (is_hold (w - w % 2)) (λ (h : Mark → ℕ). (x : Mark) → 0 < h x → is_fault k x ≡ 0) (probe_no k) (hold_no (w - w % 2) k) in
       let s = stay_without k i (back i found v) v.marks no in let P : List SlotMark → Type 0 = λ es. total (faults_link k) es ≡ faults_of k v in
-      either_way (eqb (w % 2) 1) (cond (eqb (nref_of found) 1) (at i (Zero w) ∷ r) r) r (λ es. total (faults_link k) es ≡ faults_of k v)
-      (either_way (eqb (nref_of found) 1) (at i (Zero w) ∷ r) r (λ es. total (faults_link k) es ≡ faults_of k v) (omega arith) s) s
+      either_way (eqb (w % 2) 1) (cond (eqb (vref_nref found) 1) (at i (Zero w) ∷ r) r) r (λ es. total (faults_link k) es ≡ faults_of k v)
+      (either_way (eqb (vref_nref found) 1) (at i (Zero w) ∷ r) r (λ es. total (faults_link k) es ≡ faults_of k v) (omega arith) s) s
 
   pub failed_same : (found : ℕ) → faults_of k (failed i found v) ≡ faults_of k v
-  failed_same found = let w : ℕ = version_of found in either_way (eqb (w % 2) 0) (at i (Hold w) ∷ at i (Coding w) ∷ at i (Failer w) ∷ at i (Saw (w + 1)) ∷ v.marks) (at i (Saw w) ∷ v.marks) (λ es. total (faults_link k) es ≡ faults_of k v) (omega arith) (omega arith)
+  failed_same found = let w : ℕ = vref_version found in either_way (eqb (w % 2) 0) (at i (Hold w) ∷ at i (Coding w) ∷ at i (Failer w) ∷ at i (Saw (w + 1)) ∷ v.marks) (at i (Saw w) ∷ v.marks) (λ es. total (faults_link k) es ≡ faults_of k v) (omega arith) (omega arith)
 
   pub recycled_same : (from found : ℕ) → faults_of k (recycled i from found v) ≡ faults_of k v
-  recycled_same from found = let w : ℕ = version_of from in let r : List SlotMark = without_at i (is_zero w) v.marks in let s = stay_without k i (is_zero w) v.marks (zero_no w k) in
+  recycled_same from found = let w : ℕ = vref_version from in let r : List SlotMark = without_at i (is_zero w) v.marks in let s = stay_without k i (is_zero w) v.marks (zero_no w k) in
       either_way (eqb found from) (at i (Recycling (w + 1)) ∷ at i (Freer (w - 1)) ∷ r) r (λ es. total (faults_link k) es ≡ faults_of k v) (omega arith) s
 
   pub freed_same : faults_of k (freed i v) ≡ faults_of k v

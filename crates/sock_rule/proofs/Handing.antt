@@ -14,7 +14,6 @@ use Rattle.message_parts.specs.Parcels.{parcel_of}
 use Rattle.sock_rule.specs.declared.homes.Letter.{Letter}
 use Rattle.sock_model.specs.declared.chain.Heading.{Heading}
 use Rattle.sock_model.specs.declared.chain.Right.{Right}
-use Rattle.sock_model.specs.Entries.{slot_of}
 use Rattle.sock_model.specs.ChainRows.{with_right, taken_right, dropped_right}
 use Rattle.sock_rule.specs.Rows.{dropped_at}
 use Rattle.sock_rule.specs.ChainPlays.{TookOwn, TookLetter}
@@ -23,6 +22,7 @@ use Rattle.sock_rule.specs.Shows.{shows, rose, heading_of, number_in, shows_in}
 use Rattle.sock_rule.specs.OnKey.{LinkOnTop}
 use Rattle.sock_rule.specs.Plays.{TookLink}
 use Rattle.sock_rule.proofs.Ways.{own_number}
+use Rattle.sock_words.specs.Words.{ticket_request}
 
 -- what a link's home shows
 abbrev pub number : Home → ℕ
@@ -147,9 +147,9 @@ module _ {O : Type 0} {g : Ghosts O} (m n : Me (SockHome O g) View) (r : Right) 
     pub letter_label : h.label.place < 8 * m.0.plan.operations
     letter_label = subst (λ (y : Heading). y.place < 8 * m.0.plan.operations) (sym (ap (letter_heading (heading_of h)) letter_shown)) t.label_in
 
-    pub letter_after : slot ≡ slot_of now → (new : Me (SockHome O g) View) → new ≡ (n.0, (slot, Empty) ∷ rest n.1) → new ≡ (with_right m.0 (taken_right r (heading_of h) (parcel_of h.bytes).bytes), (slot_of now, Empty) ∷ m.1)
+    pub letter_after : slot ≡ ticket_request now → (new : Me (SockHome O g) View) → new ≡ (n.0, (slot, Empty) ∷ rest n.1) → new ≡ (with_right m.0 (taken_right r (heading_of h) (parcel_of h.bytes).bytes), (ticket_request now, Empty) ∷ m.1)
     letter_after at new e = let below : rest n.1 ≡ m.1 = ap rest t.slots in let l = ap (letter_heading (heading_of h)) letter_shown in let b = ap letter_bytes letter_shown in
-        e ∙ ((λ i. (t.view i, (at i, Empty) ∷ below i)) ∙ (λ i. (with_right m.0 (taken_right r (sym l i) (sym b i)), (slot_of now, Empty) ∷ m.1)))
+        e ∙ ((λ i. (t.view i, (at i, Empty) ∷ below i)) ∙ (λ i. (with_right m.0 (taken_right r (sym l i) (sym b i)), (ticket_request now, Empty) ∷ m.1)))
 
 -- ## A link that lay in a home for a while
 
@@ -165,7 +165,7 @@ pub same_link : {O : Type 0} {g : Ghosts O} (l : List (ℕ × SockHome O g)) (sl
 same_link l slot home back below there moved = ap (link_or home) (sym (comes_back l slot home (Link back) below there moved))
 
 -- it is laid into the home of a request, from which the message was taken, for the one step that drops the message
-module _ {O : Type 0} {g : Ghosts O} (m₀ m₁ : Me (SockHome O g) View) (slot now : ℕ) (home : LinkHome O g) (at : slot ≡ slot_of now) (there : m₀.1 ≡ (slot_of now, Empty) ∷ rest m₀.1) (laid : m₁ ≡ (m₀.0, (slot, Link home) ∷ rest m₀.1)) where
+module _ {O : Type 0} {g : Ghosts O} (m₀ m₁ : Me (SockHome O g) View) (slot now : ℕ) (home : LinkHome O g) (at : slot ≡ ticket_request now) (there : m₀.1 ≡ (ticket_request now, Empty) ∷ rest m₀.1) (laid : m₁ ≡ (m₀.0, (slot, Link home) ∷ rest m₀.1)) where
   pub laid_top : m₁.1 ≡ (slot, Link home) ∷ rest m₁.1
   laid_top = let t = ap (λ (m : Me (SockHome O g) View). m.1) laid in t ∙ ap (λ (l : List (ℕ × SockHome O g)). (slot, Link home) ∷ l) (sym (ap rest t))
 

@@ -18,14 +18,11 @@ use Rattle.sock_model.specs.declared.view.View.{View}
 use Rattle.sock_model.specs.Weights.{total, only, is_hold, is_saw}
 use Rattle.sock_model.specs.Layout.{ref_index, link_index, head_index, request_index, next_index, place_index}
 use Rattle.sock_model.specs.Memory.{IDLE, UNCONNECTED}
-use Rattle.sock_model.specs.Entries.{slot_of, generation_of}
-use Rattle.sock_model.specs.Slots.{version_of}
 use Rattle.sock_model.specs.References.{slot_facts}
 use Rattle.sock_model.specs.SlotRows.{marks_of, looked}
 use Rattle.sock_rule.specs.Rows.{dropped_at}
 use Rattle.sock_model.specs.ChainRows.{with_right, without_right, walking_right, passing_right, reading_right, turned_right, freed_stage, freed_right, placed_right, dropped_right, taken_right}
 use Rattle.sock_model.specs.Conditions.{HasRight, MayPlace, MayDrop, MayTake, MayEmpty, MayTurn}
-use Rattle.sock_model.specs.Deliveries.{place_value}
 use Rattle.sock_model.specs.Links.{HoldsLink, Failed}
 use Rattle.sock_model.specs.Lawful.{Lawful}
 use Rattle.chain_core.specs.slot_steps.proofs.Numbers.{life-in, only-at}
@@ -54,6 +51,7 @@ use Rattle.sock_rule.proofs.Chaining.{first_is}
 use Rattle.sock_rule.proofs.Settling.{slot_settled, next_settled, place_settled, load_settled, home_settled, home_taken_settled, back_settled, home_back_settled}
 use Rattle.sock_rule.proofs.Placing.{places_beside, drops_beside}
 use Rattle.sock_rule.proofs.Reached.{writes_ticket, writes_taken, passes_ticket, walk_ticket, turns_ticket, turn_ticket, free_home_law, spent_home_law, hand_label, next_few}
+use Rattle.sock_words.specs.Words.{ticket_request, ticket_generation, vref_version, place_word}
 
 pub the_right : (l : List Right) (a b : Right) → l ≡ a ∷ [] → l ≡ b ∷ [] → a ≡ b
 the_right l a b e f = let h : a ∷ [] ≡ b ∷ [] = sym e ∙ f in cc
@@ -114,7 +112,7 @@ module _ {S : Type 0} (shows : S → Home) (rose : S → ℕ) (p : Plan) (slots 
   pub looks_clean : (i h : ℕ) → HoldsLink p v i h r.link → Allows (OnTable shows rose p) slots id me (ref_index i) (λ n. n) (clean_told (step slots (ref_index i) 0 0 none) me)
   looks_clean i h holds s t long here fits = let found : ℕ = get_or s.words (ref_index i) 0 in let inside = holds.inside in
       let told : (x : ℕ) → ref_index i ≡ ref_index x → Rattle.sock_rule.specs.Plays.WordFits x found v = λ x at. word_fits shows rose p slots id me mine some_ i inside s t here fits x at in
-      dite (ℕ_discrete (version_of (get_or s.words (ref_index i) 0) % 2) 0)
+      dite (ℕ_discrete (vref_version (get_or s.words (ref_index i) 0) % 2) 0)
       (λ even. let w : View = with_right (looked i found v) (record r { clean = true }) in (
         with_right (looked i found v) (record r { clean = true }),
         keeps,
@@ -191,17 +189,17 @@ module _ {S : Type 0} (shows : S → Home) (rose : S → ℕ) (p : Plan) (slots 
   pub takes_letter : (x now : ℕ) → r.stage ≡ Writes now → r.taken ≡ false → Allows (OnTable shows rose p) slots id me x (λ n. n) (take_letter_told shows (step slots x 0 0 none) me)
   takes_letter x now stage idle s t long here fits = let o = t.rule.lawful in let may : MayTake v = record { mine = has_one; now = now; stage = stage; idle = idle } in
       let a = taking_law shows p id v may s o here in let y = a.0 in let l = a.1 in let bytes = a.2 in
-      let hs : List (Option S) = set s.homes (slot_of now) none in let r' : Right = taken_right r a.1 a.2 in let w : View = with_right v r' in
-      let t' : OnTable shows rose p record { words = s.words; homes = set s.homes (slot_of now) none; views = set s.views id (with_right v (taken_right r a.1 a.2)) } =
-      beside t id v w here some_ s.words hs (homes_else p s.homes (slot_of now) none (writes_ticket o id v here r one now stage).inside) (quiet r') (steady r' refl refl) (home_taken_settled t.settled (slot_of now) (writes_taken o id v here r one now stage)) (right_rule t.rule id v here mine r' hs (a.5 none refl)) in
+      let hs : List (Option S) = set s.homes (ticket_request now) none in let r' : Right = taken_right r a.1 a.2 in let w : View = with_right v r' in
+      let t' : OnTable shows rose p record { words = s.words; homes = set s.homes (ticket_request now) none; views = set s.views id (with_right v (taken_right r a.1 a.2)) } =
+      beside t id v w here some_ s.words hs (homes_else p s.homes (ticket_request now) none (writes_ticket o id v here r one now stage).inside) (quiet r') (steady r' refl refl) (home_taken_settled t.settled (ticket_request now) (writes_taken o id v here r one now stage)) (right_rule t.rule id v here mine r' hs (a.5 none refl)) in
       let label : a.1.place < 8 * p.operations = hand_label t'.rule.lawful t'.labelled id w (after s here w) r' now (one_right v r r' one refl) stage refl in (
         with_right v (taken_right r a.1 a.2),
-        takes (slot_of now) a.0,
+        takes (ticket_request now) a.0,
         a.3,
         loaded s x id w hs t',
         λ q m e st. let same = its q e in let sm : now ≡ m = writes_same now m (sym stage ∙ (ap (λ (z : Right). z.stage) same ∙ st)) in
-            subst (λ (z : Right). TookLetter shows me (with_right v (taken_right r a.1 a.2), (slot_of now, a.0) ∷ me.1) z m) same
-            (subst (λ (z : ℕ). TookLetter shows me (with_right v (taken_right r a.1 a.2), (slot_of now, a.0) ∷ me.1) r z) sm record {
+            subst (λ (z : Right). TookLetter shows me (with_right v (taken_right r a.1 a.2), (ticket_request now, a.0) ∷ me.1) z m) same
+            (subst (λ (z : ℕ). TookLetter shows me (with_right v (taken_right r a.1 a.2), (ticket_request now, a.0) ∷ me.1) r z) sm record {
               value = a.0;
               heading = a.1;
               bytes = a.2;
@@ -215,9 +213,9 @@ module _ {S : Type 0} (shows : S → Home) (rose : S → ℕ) (p : Plan) (slots 
 
   -- P1
   pub places : (now : ℕ) → r.stage ≡ Writes now → r.taken ≡ true → r.clean ≡ true → r.at_home ≡ false → r.heading.place < 8 * p.operations → r.link < 65536
-      → Allows (OnTable shows rose p) slots id me (place_index p r.heading.place) (λ _. place_value false r.link r.places) (λ _. place_told (step slots (place_index p r.heading.place) (place_value false r.link r.places) 0 none) me (place_value false r.link r.places))
+      → Allows (OnTable shows rose p) slots id me (place_index p r.heading.place) (λ _. place_word false r.link r.places) (λ _. place_told (step slots (place_index p r.heading.place) (place_word false r.link r.places) 0 none) me (place_word false r.link r.places))
   places now stage taken clean away label narrow s t long here fits = let may : MayPlace p v = record { mine = has_one; now = now; stage = stage; taken = taken; is_clean = clean; away = away; label_in = label } in let w : View = with_right v (placed_right r now) in
-      let value : ℕ = place_value false r.link r.places in (
+      let value : ℕ = place_word false r.link r.places in (
         with_right v (placed_right r now),
         keeps,
         tt,
@@ -235,10 +233,10 @@ module _ {S : Type 0} (shows : S → Home) (rose : S → ℕ) (p : Plan) (slots 
 
   -- P1 with the dropped bit: the link lies in the slot that was taken last
   pub drops : (now j h : ℕ) (y : ℕ × S) → r.stage ≡ Writes now → r.taken ≡ true → r.at_home ≡ false → r.heading.place < 8 * p.operations → Part r (took_in (shows y.1)) → me.1 ≡ y ∷ rest me.1 → HoldsLink p v j h r.link → 0 < marks_of (is_saw (h + 1)) j v
-      → Allows (OnTable shows rose p) slots id me (place_index p r.heading.place) (λ _. place_value true r.link r.places) (λ _. drop_told shows (step slots (place_index p r.heading.place) (place_value true r.link r.places) 0 none) me (place_value true r.link r.places))
+      → Allows (OnTable shows rose p) slots id me (place_index p r.heading.place) (λ _. place_word true r.link r.places) (λ _. drop_told shows (step slots (place_index p r.heading.place) (place_word true r.link r.places) 0 none) me (place_word true r.link r.places))
   drops now j h y stage taken away label part top holds seen s t long here fits = let may : MayDrop p v = record { mine = has_one; now = now; sent = took_in (shows y.1); stage = stage; taken = taken; away = away; label_in = label; part = part } in
-      let u : View = with_right v (dropped_right r now (took_in (shows y.1))) in let x : ℕ = place_index p r.heading.place in let value : ℕ = place_value true r.link r.places in (
-        dropped_at (place_index p r.heading.place) (place_value true r.link r.places) r.heading (with_right v (dropped_right r now (took_in (shows y.1)))),
+      let u : View = with_right v (dropped_right r now (took_in (shows y.1))) in let x : ℕ = place_index p r.heading.place in let value : ℕ = place_word true r.link r.places in (
+        dropped_at (place_index p r.heading.place) (place_word true r.link r.places) r.heading (with_right v (dropped_right r now (took_in (shows y.1)))),
         keeps,
         tt,
         drops_beside t id v here r one now stage taken label value u (omega arith) some_ mine (quiet (dropped_right r now (took_in (shows y.1)))) (steady (dropped_right r now (took_in (shows y.1))) refl refl) refl (omega (arith, t.rule.lawful.references.sized)) (λ noted same. place_settled t.settled r.heading.place value noted same (omega (arith, t.rule.lawful.references.sized)))
@@ -248,8 +246,8 @@ module _ {S : Type 0} (shows : S → Home) (rose : S → ℕ) (p : Plan) (slots 
       )
 
   -- C5 after a message that has its place
-  pub reads_on : (now : ℕ) → r.stage ≡ Placed now → now ≢ r.last → Allows (OnTable shows rose p) slots id me (next_index p (slot_of now)) (λ n. n) (read_next_told (step slots (next_index p (slot_of now)) 0 0 none) me)
-  reads_on now stage ne s t long here fits = let o = t.rule.lawful in let x : ℕ = next_index p (slot_of now) in let found : ℕ = get_or s.words (next_index p (slot_of now)) 0 in
+  pub reads_on : (now : ℕ) → r.stage ≡ Placed now → now ≢ r.last → Allows (OnTable shows rose p) slots id me (next_index p (ticket_request now)) (λ n. n) (read_next_told (step slots (next_index p (ticket_request now)) 0 0 none) me)
+  reads_on now stage ne s t long here fits = let o = t.rule.lawful in let x : ℕ = next_index p (ticket_request now) in let found : ℕ = get_or s.words (next_index p (ticket_request now)) 0 in
       let r' : Right = passing_right r now found in let w : View = with_right v r' in
       let t' : OnTable shows rose p record { words = s.words; homes = s.homes; views = set s.views id (with_right v (passing_right r now found)) } =
       beside t id v w here some_ s.words s.homes (refl, λ l ll. refl) (quiet r') (steady r' refl refl) t.settled (right_rule t.rule id v here mine r' s.homes (passing_law shows p s o id v here has_one now stage ne)) in
@@ -265,10 +263,10 @@ module _ {S : Type 0} (shows : S → Home) (rose : S → ℕ) (p : Plan) (slots 
       )
 
   -- C5 on the walk
-  pub reads_back : (top a next : ℕ) → r.stage ≡ Walks top a next → Allows (OnTable shows rose p) slots id me (next_index p (slot_of a)) (λ n. n) (read_next_told (step slots (next_index p (slot_of a)) 0 0 none) me)
-  reads_back top a next stage s t long here fits = let o = t.rule.lawful in let x : ℕ = next_index p (slot_of a) in let found : ℕ = get_or s.words (next_index p (slot_of a)) 0 in
+  pub reads_back : (top a next : ℕ) → r.stage ≡ Walks top a next → Allows (OnTable shows rose p) slots id me (next_index p (ticket_request a)) (λ n. n) (read_next_told (step slots (next_index p (ticket_request a)) 0 0 none) me)
+  reads_back top a next stage s t long here fits = let o = t.rule.lawful in let x : ℕ = next_index p (ticket_request a) in let found : ℕ = get_or s.words (next_index p (ticket_request a)) 0 in
       let not_placed : (q : Right) (m : ℕ) → me.0.rights ≡ q ∷ [] → q.stage ≡ Placed m → ⊥ = λ q m e st. (let z : Walks top a next ≡ Placed m = sym stage ∙ (ap (λ (u : Right). u.stage) (its q e) ∙ st) in cc) in
-      dite (ℕ_discrete (get_or s.words (next_index p (slot_of a)) 0) UNCONNECTED)
+      dite (ℕ_discrete (get_or s.words (next_index p (ticket_request a)) 0) UNCONNECTED)
       (λ waits. (
         v,
         keeps,
@@ -295,40 +293,40 @@ module _ {S : Type 0} (shows : S → Home) (rose : S → ℕ) (p : Plan) (slots 
       walks_as a b c d e f g q same found = let x : a ≡ d = cc in let y : b ≡ e = cc in let z : c ≡ f = cc in λ u. (with_right v (reading_right (same u) (x u) (y u) (z u) found), me.1)
 
   -- C8
-  pub frees : (now : ℕ) (b : Stage) (y : S) (below : List (ℕ × S)) → Leads r.last r.stage now b → generation_of now < 140737488355327 → me.1 ≡ (slot_of now, y) ∷ below
-      → Allows (OnTable shows rose p) slots id me (request_index p (slot_of now)) (λ _. 2 * (generation_of now + 1)) (λ _. free_request_told (step slots (request_index p (slot_of now)) (2 * (generation_of now + 1)) 0 none) me (2 * (generation_of now + 1)))
-  frees now b y below leads small top s t long here fits = let o = t.rule.lawful in let x : ℕ = request_index p (slot_of now) in let n : ℕ = 2 * (generation_of now + 1) in
+  pub frees : (now : ℕ) (b : Stage) (y : S) (below : List (ℕ × S)) → Leads r.last r.stage now b → ticket_generation now < 140737488355327 → me.1 ≡ (ticket_request now, y) ∷ below
+      → Allows (OnTable shows rose p) slots id me (request_index p (ticket_request now)) (λ _. 2 * (ticket_generation now + 1)) (λ _. free_request_told (step slots (request_index p (ticket_request now)) (2 * (ticket_generation now + 1)) 0 none) me (2 * (ticket_generation now + 1)))
+  frees now b y below leads small top s t long here fits = let o = t.rule.lawful in let x : ℕ = request_index p (ticket_request now) in let n : ℕ = 2 * (ticket_generation now + 1) in
       let kl = right_in o id 0 v r here has_one.has in let alone = right_alone o id 0 v r here has_one.has in
-      let low : slot_of now < p.requests = now_slot o.chains r.link r kl alone o.fits.narrow now b leads in
-      let r' : Right = record r { stage = b } in let w : View = with_right v r' in let hs : List (Option S) = set s.homes (slot_of now) (some y) in
+      let low : ticket_request now < p.requests = now_slot o.chains r.link r kl alone o.fits.narrow now b leads in
+      let r' : Right = record r { stage = b } in let w : View = with_right v r' in let hs : List (Option S) = set s.homes (ticket_request now) (some y) in
       let law = freeing_law shows p id 0 now b v r s o here has_one.has leads small in
-      let even : get_or (set s.words (request_index p (slot_of now)) (2 * (generation_of now + 1))) (request_index p (slot_of now)) 0 % 2 ≡ 0 =
-      (let e = get_or-set_same s.words (request_index p (slot_of now)) (2 * (generation_of now + 1)) 0 (omega (arith, o.references.sized)) in omega arith) in
-      let homed = free_home_law {s = record { words = set s.words (request_index p (slot_of now)) (2 * (generation_of now + 1)); homes = s.homes; views = set s.views id (with_right v (record r { stage = b })) }} law id w (after s here w) (slot_of now) (some y) low even in
-      let law' = subst (λ vs. Lawful shows p record { words = set s.words (request_index p (slot_of now)) (2 * (generation_of now + 1)); homes = set s.homes (slot_of now) (some y); views = vs }) (set_twice s.views id w w) homed in (
+      let even : get_or (set s.words (request_index p (ticket_request now)) (2 * (ticket_generation now + 1))) (request_index p (ticket_request now)) 0 % 2 ≡ 0 =
+      (let e = get_or-set_same s.words (request_index p (ticket_request now)) (2 * (ticket_generation now + 1)) 0 (omega (arith, o.references.sized)) in omega arith) in
+      let homed = free_home_law {s = record { words = set s.words (request_index p (ticket_request now)) (2 * (ticket_generation now + 1)); homes = s.homes; views = set s.views id (with_right v (record r { stage = b })) }} law id w (after s here w) (ticket_request now) (some y) low even in
+      let law' = subst (λ vs. Lawful shows p record { words = set s.words (request_index p (ticket_request now)) (2 * (ticket_generation now + 1)); homes = set s.homes (ticket_request now) (some y); views = vs }) (set_twice s.views id w w) homed in (
         with_right v (record r { stage = b }),
         gives_back,
         tt,
-        subst (λ (l : List (ℕ × S)). OnTable shows rose p record { words = set s.words (request_index p (slot_of now)) (2 * (generation_of now + 1)); homes = put_back s.homes l; views = set s.views id (with_right v (record r { stage = b })) }) (sym top)
-            (beside t id v w here some_ (set s.words x n) hs (homes_else p s.homes (slot_of now) (some y) low) (quiet r') (steady r' refl refl) (back_settled t.settled (slot_of now) n y low (omega (arith, t.housed)))
+        subst (λ (l : List (ℕ × S)). OnTable shows rose p record { words = set s.words (request_index p (ticket_request now)) (2 * (ticket_generation now + 1)); homes = put_back s.homes l; views = set s.views id (with_right v (record r { stage = b })) }) (sym top)
+            (beside t id v w here some_ (set s.words x n) hs (homes_else p s.homes (ticket_request now) (some y) low) (quiet r') (steady r' refl refl) (back_settled t.settled (ticket_request now) n y low (omega (arith, t.housed)))
             (word_rule t.rule id v here mine w x n hs record { plan = refl; found = refl; lists = refl } (λ l z. absurd (omega arith)) law')),
         λ q e. let same = its q e in let st = leads_freed r.last now r.stage b leads in (λ u. (with_right v (record r { stage = sym st u }), rest me.1)) ∙ (λ u. (with_right v (freed_right (same u)), rest me.1)),
       )
 
   -- C8 of the last generation: the request stays taken, and a load gives its home back
-  pub retires : (x now : ℕ) (b : Stage) (y : S) (below : List (ℕ × S)) → Leads r.last r.stage now b → generation_of now ≡ 140737488355327 → me.1 ≡ (slot_of now, y) ∷ below
+  pub retires : (x now : ℕ) (b : Stage) (y : S) (below : List (ℕ × S)) → Leads r.last r.stage now b → ticket_generation now ≡ 140737488355327 → me.1 ≡ (ticket_request now, y) ∷ below
       → Allows (OnTable shows rose p) slots id me x (λ n. n) (free_request_told (step slots x 0 0 none) me)
   retires x now b y below leads last_one top s t long here fits = let o = t.rule.lawful in let kl = right_in o id 0 v r here has_one.has in let alone = right_alone o id 0 v r here has_one.has in
-      let low : slot_of now < p.requests = now_slot o.chains r.link r kl alone o.fits.narrow now b leads in
-      let r' : Right = record r { stage = b } in let w : View = with_right v r' in let hs : List (Option S) = set s.homes (slot_of now) (some y) in
+      let low : ticket_request now < p.requests = now_slot o.chains r.link r kl alone o.fits.narrow now b leads in
+      let r' : Right = record r { stage = b } in let w : View = with_right v r' in let hs : List (Option S) = set s.homes (ticket_request now) (some y) in
       let homed = spent_home_law o id v here r one now b (some y) leads in
-      let law = retiring_law shows p id 0 now b v r record { words = s.words; homes = set s.homes (slot_of now) (some y); views = set s.views id v } homed (set_at s.views id v (at_length s.views id v here)) has_one.has leads last_one in
-      let law' = subst (λ vs. Lawful shows p record { words = s.words; homes = set s.homes (slot_of now) (some y); views = vs }) (set_twice s.views id v w) law in (
+      let law = retiring_law shows p id 0 now b v r record { words = s.words; homes = set s.homes (ticket_request now) (some y); views = set s.views id v } homed (set_at s.views id v (at_length s.views id v here)) has_one.has leads last_one in
+      let law' = subst (λ vs. Lawful shows p record { words = s.words; homes = set s.homes (ticket_request now) (some y); views = vs }) (set_twice s.views id v w) law in (
         with_right v (record r { stage = b }),
         gives_back,
         tt,
         subst (λ (l : List (ℕ × S)). OnTable shows rose p record { words = set s.words x (get_or s.words x 0); homes = put_back s.homes l; views = set s.views id (with_right v (record r { stage = b })) }) (sym top)
-            (loaded s x id w hs (beside t id v w here some_ s.words hs (homes_else p s.homes (slot_of now) (some y) low) (quiet r') (steady r' refl refl) (home_back_settled t.settled (slot_of now) y (omega (arith, t.housed)))
+            (loaded s x id w hs (beside t id v w here some_ s.words hs (homes_else p s.homes (ticket_request now) (some y) low) (quiet r') (steady r' refl refl) (home_back_settled t.settled (ticket_request now) y (omega (arith, t.housed)))
             (right_rule t.rule id v here mine r' hs law'))),
         λ q e. let same = its q e in let st = leads_freed r.last now r.stage b leads in (λ u. (with_right v (record r { stage = sym st u }), rest me.1)) ∙ (λ u. (with_right v (freed_right (same u)), rest me.1)),
       )
@@ -362,12 +360,12 @@ module _ {S : Type 0} (shows : S → Home) (rose : S → ℕ) (p : Plan) (slots 
       ))
 
   -- C6
-  pub turns : (top a next before : ℕ) → r.stage ≡ Turns top a next before → Allows (OnTable shows rose p) slots id me (next_index p (slot_of a)) (λ _. next) (λ _. turn_told (step slots (next_index p (slot_of a)) next 0 none) me next)
+  pub turns : (top a next before : ℕ) → r.stage ≡ Turns top a next before → Allows (OnTable shows rose p) slots id me (next_index p (ticket_request a)) (λ _. next) (λ _. turn_told (step slots (next_index p (ticket_request a)) next 0 none) me next)
   turns top a next before stage s t long here fits = let x : MayTurn v next = record { mine = has_one; top = top; at = a; before = before; stage = stage } in let w : View = with_right v (turned_right r top a before) in (
     with_right v (turned_right r top a before),
     keeps,
     tt,
-    beside t id v w here some_ (set s.words (next_index p (slot_of a)) next) s.homes (refl, λ l ll. refl) (quiet (turned_right r top a before)) (steady (turned_right r top a before) (turn_kept r top a before).0 (turn_kept r top a before).1) (next_settled t.settled (slot_of a) next (turn_ticket t.rule.lawful id v here r one top a next before stage).inside) (turning_rule t.rule id v here mine next x),
+    beside t id v w here some_ (set s.words (next_index p (ticket_request a)) next) s.homes (refl, λ l ll. refl) (quiet (turned_right r top a before)) (steady (turned_right r top a before) (turn_kept r top a before).0 (turn_kept r top a before).1) (next_settled t.settled (ticket_request a) next (turn_ticket t.rule.lawful id v here r one top a next before stage).inside) (turning_rule t.rule id v here mine next x),
     λ q top_ at_ after_ before_ e st. turns_as top a next before top_ at_ after_ before_ (sym stage ∙ (ap (λ (u : Right). u.stage) (its q e) ∙ st)) q (its q e),
   )
     where

@@ -14,7 +14,7 @@ use Rattle.sock_model.specs.declared.chain.Stage.TheVariants.{Writes, Placed, Pa
 use Rattle.sock_model.specs.declared.home.Home.{Home}
 use Rattle.sock_model.specs.declared.view.View.{View}
 use Rattle.sock_model.specs.Authors.{pick}
-use Rattle.sock_model.specs.Entries.{ticket, slot_of, on, nth}
+use Rattle.sock_model.specs.Entries.{ticket, on, nth}
 use Rattle.sock_model.specs.Layout.{request_index}
 use Rattle.sock_model.specs.Reads.{as_link, letter_of, shown, memory, message, claims_of, loose_at, tokens}
 use Rattle.sock_model.specs.Memory.{Memory}
@@ -36,6 +36,7 @@ use Rattle.sock_model.specs.Rule.{Rule}
 use Rattle.chain_core.specs.sock_steps.proofs.Positions.{place_fits}
 use Rattle.sock_rule.specs.OnTable.{Labelled}
 use Rattle.sock_rule.specs.ChainPlays.{IsTicket}
+use Rattle.sock_words.specs.Words.{ticket_request}
 
 freed_placed : (m : Memory) (t : Tokens) (c : List Entry) (n : Counts) (freed places : ℕ) (b : Stage) → InStage m t c n freed places b → freed ≤ places
 freed_placed m t c n freed places (Writes now) st = let a = st.1 in omega arith
@@ -66,7 +67,7 @@ module _ {S : Type 0} {shows : S → Home} {p : Plan} {s : State S View} (o : La
   pub entry_ticket : (k n now : ℕ) → n < length (on k o.log) → nth (on k o.log) (suc n) ≡ now → IsTicket p now
   entry_ticket k n now inside is = let e = at_some (on k o.log) n inside in let size = in_size o.chains k n e.0 e.1 in let narrow = o.fits.narrow in
       let tick : ticket e.0 ≡ now = sym (ticket_at_is (on k o.log) n e.0 e.1) ∙ is in let z = size.1 in let g = size.2 in let small : e.0.request < 65535 = omega arith in
-      let slot : slot_of now ≡ e.0.request = ap slot_of (sym tick) ∙ slot_is e.0 small in
+      let slot : ticket_request now ≡ e.0.request = ap ticket_request (sym tick) ∙ slot_is e.0 small in
       record { some_slot = omega arith; inside = omega arith; small = omega arith }
 
   module _ (id : ℕ) (v : View) (at : get_elem? s.views id ≡ some v) (r : Right) (one : v.rights ≡ r ∷ []) where
@@ -86,11 +87,11 @@ module _ {S : Type 0} {shows : S → Home} {p : Plan} {s : State S View} (o : La
     writes_ticket now stage = let f = held.fits in let st = in_stage (Writes now) stage in let some_ = st.2 in entry_ticket r.link (o.freed r.link) now (omega (arith, f.1, f.2, f.3, some_)) st.3
 
     -- the request of the next message is taken
-    pub writes_taken : (now : ℕ) → r.stage ≡ Writes now → get_or s.words (request_index p (slot_of now)) 0 % 2 ≡ 1
+    pub writes_taken : (now : ℕ) → r.stage ≡ Writes now → get_or s.words (request_index p (ticket_request now)) 0 % 2 ≡ 1
     writes_taken now stage = let f = held.fits in let st = in_stage (Writes now) stage in let some_ = st.2 in let e = at_some (on r.link o.log) (o.freed r.link) (omega (arith, f.1, f.2, f.3, some_)) in
         let size = in_size o.chains r.link (o.freed r.link) e.0 e.1 in let narrow = o.fits.narrow in let z = size.1 in let small : e.0.request < 65535 = omega arith in
         let tick : ticket e.0 ≡ now = sym (ticket_at_is (on r.link o.log) (o.freed r.link) e.0 e.1) ∙ st.3 in
-        let slot : slot_of now ≡ e.0.request = ap slot_of (sym tick) ∙ slot_is e.0 small in
+        let slot : ticket_request now ≡ e.0.request = ap ticket_request (sym tick) ∙ slot_is e.0 small in
         let word = ap (memory p o.slot s.words).request slot ∙ (o.chains.live r.link (o.freed r.link) e.0 (omega arith) e.1).0 in omega arith
 
     pub placed_ticket : (now : ℕ) → r.stage ≡ Placed now → IsTicket p now
@@ -150,13 +151,13 @@ module _ {S : Type 0} {shows : S → Home} {p : Plan} {s : State S View} (o : La
 
   -- as that of the entry that has its place, whose request isn't given back yet
   pub spent_home_law : (id : ℕ) (v : View) (at : get_elem? s.views id ≡ some v) (r : Right) (one : v.rights ≡ r ∷ []) (now : ℕ) (b : Stage) (z : Option S) → Leads r.last r.stage now b
-      → Lawful shows p record { words = s.words; homes = set s.homes (slot_of now) z; views = set s.views id v }
+      → Lawful shows p record { words = s.words; homes = set s.homes (ticket_request now) z; views = set s.views id v }
   spent_home_law id v at r one now b z leads = let h = held id v at r one in let f = h.fits in let st = placed_at (memory p o.slot s.words) (tokens s.views) (on r.link o.log) h.counts (o.freed r.link) (o.places r.link) r.last now r.stage b leads h.stage_is in
       let e = at_some (on r.link o.log) (o.freed r.link) (omega (arith, f.1, f.2, f.3, st.1)) in let size = in_size o.chains r.link (o.freed r.link) e.0 e.1 in let narrow = o.fits.narrow in let y = size.1 in let small : e.0.request < 65535 = omega arith in
       let tick : ticket e.0 ≡ now = sym (ticket_at_is (on r.link o.log) (o.freed r.link) e.0 e.1) ∙ st.2 in
-      let slot : slot_of now ≡ e.0.request = ap slot_of (sym tick) ∙ slot_is e.0 small in
+      let slot : ticket_request now ≡ e.0.request = ap ticket_request (sym tick) ∙ slot_is e.0 small in
       let live = o.chains.live r.link (o.freed r.link) e.0 (omega arith) e.1 in
-      home_law id v at (slot_of now) z (ap (tokens s.views).claims slot ∙ live.1)
+      home_law id v at (ticket_request now) z (ap (tokens s.views).claims slot ∙ live.1)
       (λ k i d late g same. let q = live_same o.chains k i d r.link (o.freed r.link) e.0 (freed_first k i d g late) g (omega arith) e.1 (same ∙ slot) in let w = ap o.places q.0 in let n = q.1 in let m = st.0 in omega arith) (omega arith)
 
   -- ## Labels

@@ -9,10 +9,8 @@ use Rattle.sock_model.specs.declared.chain.Claim.{Claim}
 use Rattle.sock_model.specs.declared.chain.Right.{Right}
 use Rattle.sock_model.specs.declared.chain.Stage.TheVariants.{Writes, Placed, Walks, Turns}
 use Rattle.sock_model.specs.declared.view.View.{View}
-use Rattle.sock_model.specs.Entries.{slot_of}
 use Rattle.sock_model.specs.Memory.{IDLE, UNCONNECTED}
 use Rattle.sock_model.specs.Layout.{ref_index, link_index, request_index, next_index}
-use Rattle.sock_model.specs.Slots.{version_of}
 use Rattle.sock_model.specs.Weights.{is_hold, is_met}
 use Rattle.sock_model.specs.SlotRows.{marks_of, looked, met_link}
 use Rattle.sock_rule.specs.Rows.{dropped_at}
@@ -20,6 +18,7 @@ use Rattle.sock_model.specs.ChainRows.{with_claim, fresh_claim, filled_claim, re
 use Rattle.sock_model.specs.Rule.{noting}
 use Rattle.sock_rule.specs.Faults.{faults_of, fault_found, noting_fault}
 use Rattle.sock_rule.specs.Plays.{WordFits}
+use Rattle.sock_words.specs.Words.{ticket_request, vref_version}
 
 -- the heading of a claim that has no message yet
 abbrev pub blank : Heading
@@ -28,7 +27,7 @@ blank = record { client = 0; operation = 0; attempt = 0; place = 0; owner = 0; p
 -- a ticket of one of the table's requests
 pub record IsTicket (p : Plan) (n : ℕ) : Type 0 where
   pub some_slot : 0 < n % 65536
-  pub inside : slot_of n < p.requests
+  pub inside : ticket_request n < p.requests
   pub small : n < 9223372036854775808
 
 -- what a link took
@@ -53,7 +52,7 @@ pub record TookLetter {S : Type 0} (shows : S → Home) (m n : Me S View) (r : R
   -- its position fits a place word
   pub few : r.places < 4294967295
   pub view : n.0 ≡ with_right m.0 (taken_right r heading bytes)
-  pub slots : n.1 ≡ (slot_of now, value) ∷ m.1
+  pub slots : n.1 ≡ (ticket_request now, value) ∷ m.1
 
 -- and here the home of the link that it may write, with what it took; where its half has faults, that is noted in slot i
 pub record TookOwn {S : Type 0} (shows : S → Home) (rose : S → ℕ) (m n : Me S View) (r : Right) (i : ℕ) : Type 0 where
@@ -95,7 +94,7 @@ module _ {S : Type 0} where
   -- A8
   abbrev pub clean_told : Step S → Me S View → ℕ → Me S View → Type 0
   clean_told st m found n = (r : Right) (i : ℕ) → m.0.rights ≡ r ∷ [] → st.word ≡ ref_index i →
-      WordFits i found m.0 × (version_of found % 2 ≡ 0 → n ≡ (with_right (looked i found m.0) (record r { clean = true }), m.1)) × (version_of found % 2 ≢ 0 → n ≡ (looked i found m.0, m.1))
+      WordFits i found m.0 × (vref_version found % 2 ≡ 0 → n ≡ (with_right (looked i found m.0) (record r { clean = true }), m.1)) × (vref_version found % 2 ≢ 0 → n ≡ (looked i found m.0, m.1))
 
   -- L1 and L2
   abbrev pub take_own_told : (S → Home) → (S → ℕ) → Step S → Me S View → ℕ → Me S View → Type 0

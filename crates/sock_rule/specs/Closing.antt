@@ -8,14 +8,13 @@ use Rattle.sock_model.specs.declared.chain.Entry.{Entry}
 use Rattle.sock_model.specs.declared.chain.Heading.{Heading}
 use Rattle.sock_model.specs.Authors.{pick}
 use Rattle.sock_model.specs.Entries.{on}
-use Rattle.sock_model.specs.Deliveries.{place_value}
 use Rattle.sock_model.specs.Fifo.{IsFifo}
 use Rattle.sock_model.specs.declared.view.StoredWord.{StoredWord}
 use Rattle.sock_model.specs.Weights.{total, is_claimed, is_any_coding, is_zero, is_tried, is_known, is_born, is_saw, is_failer, is_freer, is_coded, is_stored, is_told, is_linked, is_met}
 use Rattle.sock_model.specs.Layout.{ref_index, request_index, place_index}
-use Rattle.sock_model.specs.Slots.{version_of, nref_of}
 use Rattle.sock_model.specs.SlotRows.{marks_of}
 use Rattle.sock_rule.specs.OnTable.{is_put, put_in, DROPPED, Follows}
+use Rattle.sock_words.specs.Words.{place_word, vref_version, vref_nref}
 
 -- between two calls a seat has nothing but references, rights and notes
 pub record IsAtRest (p : Plan) (v : View) : Type 0 where
@@ -33,21 +32,21 @@ pub record Closing (p : Plan) (v : View) (words : List ℕ) : Type 0 where
   pub put : (x w : ℕ) → total (is_put x w) stored ≡ put_in x w v
   pub met : (n : ℕ) (h : List StoredWord) → get_elem? v.histories n ≡ some h → Follows stored h
   -- each word of a slot has an even version, and one reference where it is live, else none
-  pub even : (i : ℕ) → i < p.slots → version_of (slice_index words (ref_index i)) % 2 ≡ 0
-  pub one_or_none : (i : ℕ) → i < p.slots → nref_of (slice_index words (ref_index i)) ≤ 1
+  pub even : (i : ℕ) → i < p.slots → vref_version (slice_index words (ref_index i)) % 2 ≡ 0
+  pub one_or_none : (i : ℕ) → i < p.slots → vref_nref (slice_index words (ref_index i)) ≤ 1
   -- and that is so where the word has the version of a life that was made
-  pub one_where_live : (i : ℕ) → i < p.slots → nref_of (slice_index words (ref_index i)) ≡ marks_of (is_born (version_of (slice_index words (ref_index i)))) i v
+  pub one_where_live : (i : ℕ) → i < p.slots → vref_nref (slice_index words (ref_index i)) ≡ marks_of (is_born (vref_version (slice_index words (ref_index i)))) i v
   -- a life was made once
   pub born_once : (i h : ℕ) → i < p.slots → marks_of (is_born h) i v ≤ 1
   -- and has an even version, no less than the first one
   pub born_life : (i h : ℕ) → i < p.slots → 0 < marks_of (is_born h) i v → (p.first ≤ h) × (h % 2 ≡ 0)
   -- and then it was failed once, by a seat that stored its code, where the slot has a later version, and else not
-  pub failed_once : (i h : ℕ) → i < p.slots → 0 < marks_of (is_born h) i v → h < version_of (slice_index words (ref_index i)) → marks_of (is_failer h) i v ≡ 1
-  pub not_failed : (i h : ℕ) → i < p.slots → version_of (slice_index words (ref_index i)) ≤ h → marks_of (is_failer h) i v ≡ 0
+  pub failed_once : (i h : ℕ) → i < p.slots → 0 < marks_of (is_born h) i v → h < vref_version (slice_index words (ref_index i)) → marks_of (is_failer h) i v ≡ 1
+  pub not_failed : (i h : ℕ) → i < p.slots → vref_version (slice_index words (ref_index i)) ≤ h → marks_of (is_failer h) i v ≡ 0
   pub coded : (i h : ℕ) → i < p.slots → marks_of (is_failer h) i v ≡ marks_of (is_coded h) i v
   -- and ended once
-  pub ended_once : (i h : ℕ) → i < p.slots → 0 < marks_of (is_born h) i v → h < version_of (slice_index words (ref_index i)) → marks_of (is_freer h) i v ≡ 1
-  pub not_ended : (i h : ℕ) → i < p.slots → version_of (slice_index words (ref_index i)) ≤ h → marks_of (is_freer h) i v ≡ 0
+  pub ended_once : (i h : ℕ) → i < p.slots → 0 < marks_of (is_born h) i v → h < vref_version (slice_index words (ref_index i)) → marks_of (is_freer h) i v ≡ 1
+  pub not_ended : (i h : ℕ) → i < p.slots → vref_version (slice_index words (ref_index i)) ≤ h → marks_of (is_freer h) i v ≡ 0
   -- a life that is known, and behind a version that was seen, was failed
   pub dead_failed : (i h w : ℕ) → i < p.slots → 0 < marks_of (is_known h) i v → 0 < marks_of (is_saw w) i v → h < w → marks_of (is_failer h) i v ≡ 1
   -- a code that was found was stored, by the seat that failed the life
@@ -86,7 +85,7 @@ pub record PlaceOf (p : Plan) (log : List Entry) (words : List ℕ) (l : ℕ) : 
   pub inside : link < p.links
   pub there : get_elem? (on link log) position ≡ some entry
   pub own : entry.heading.place ≡ l
-  pub word : slice_index words (place_index p l) ≡ place_value dropped link position
+  pub word : slice_index words (place_index p l) ≡ place_word dropped link position
 
 -- of the place index l: a seat noted that it dropped the message there, with the word that stands there, where that has the dropped bit; and where the places of all labels differ, what a seat noted there is the word
 pub record IsDropTold (p : Plan) (log : List Entry) (v : View) (words : List ℕ) (l : ℕ) : Type 0 where

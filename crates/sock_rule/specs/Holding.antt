@@ -7,9 +7,7 @@ use Rattle.sock_model.specs.declared.chain.Stage.{Stage}
 use Rattle.sock_model.specs.declared.chain.Stage.TheVariants.{Writes, Placed, Passes, Empties, Walks, Turns}
 use Rattle.sock_model.specs.Memory.{UNCONNECTED}
 use Rattle.sock_model.specs.declared.view.View.{View}
-use Rattle.sock_model.specs.Entries.{slot_of}
 use Rattle.sock_model.specs.Links.{HoldsLink}
-use Rattle.sock_model.specs.Slots.{version_of}
 use Rattle.sock_model.specs.SlotRows.{marks_of, looked}
 use Rattle.sock_model.specs.Weights.{is_saw}
 use Rattle.sock_model.specs.ChainRows.{with_right, without_right, walking_right, taken_right, passing_right, reading_right}
@@ -18,6 +16,7 @@ use Rattle.sock_rule.specs.declared.homes.Letter.{Letter}
 use Rattle.sock_rule.specs.Shows.{heading_of}
 use Rattle.sock_rule.specs.ChainPlays.{IsTicket}
 use Rattle.sock_rule.specs.Plays.{WordFits}
+use Rattle.sock_words.specs.Words.{ticket_request, vref_version}
 
 -- the seat's one right is r
 abbrev pub Rights : Right → View → Type 0
@@ -39,7 +38,7 @@ pub record MayTakeMsg (now : ℕ) (v : View) : Type 0 where
 
 -- M2: the message is in hand, and the home where it lay is out with the seat, empty
 abbrev pub TookMsg : {S : Type 0} → Right → ℕ → Letter → S → Me S View → Me S View → Type 0
-TookMsg r now msg empty m n = n ≡ (with_right m.0 (taken_right r (heading_of msg) (parcel_of msg.bytes).bytes), (slot_of now, empty) ∷ m.1)
+TookMsg r now msg empty m n = n ≡ (with_right m.0 (taken_right r (heading_of msg) (parcel_of msg.bytes).bytes), (ticket_request now, empty) ∷ m.1)
 
 -- A8 of whoever writes link k, whose life it holds in slot i
 pub record MayLookToWrite (p : Plan) (i : ℕ) (v : View) : Type 0 where
@@ -49,7 +48,7 @@ pub record MayLookToWrite (p : Plan) (i : ℕ) (v : View) : Type 0 where
   pub holds : HoldsLink p v i life right.link
 
 abbrev pub LookedToWrite : {S : Type 0} → Right → ℕ → ℕ → Me S View → Me S View → Type 0
-LookedToWrite r i found m n = WordFits i found m.0 × (version_of found % 2 ≡ 0 → n ≡ (with_right (looked i found m.0) (record r { clean = true }), m.1)) × (version_of found % 2 ≢ 0 → n ≡ (looked i found m.0, m.1))
+LookedToWrite r i found m n = WordFits i found m.0 × (vref_version found % 2 ≡ 0 → n ≡ (with_right (looked i found m.0) (record r { clean = true }), m.1)) × (vref_version found % 2 ≢ 0 → n ≡ (looked i found m.0, m.1))
 
 -- the message that the right took is for the place l, and takes the next place of its link k, which is in hand
 pub record TakesNextPlace (p : Plan) (l k places : ℕ) (v : View) : Type 0 where
@@ -95,7 +94,7 @@ pub record MayFreeRequest {S : Type 0} (now : ℕ) (m : Me S View) : Type 0 wher
   pub next : Stage
   pub follows : Follows right.last right.stage now next
   pub value : S
-  pub home : m.1 ≡ (slot_of now, value) ∷ rest m.1
+  pub home : m.1 ≡ (ticket_request now, value) ∷ rest m.1
 
 -- C4: all is written, and its link is at home
 pub record MayEmptyHead (p : Plan) (i last : ℕ) (v : View) : Type 0 where

@@ -8,20 +8,20 @@ use Rattle.sock_model.specs.declared.home.Home.TheVariants.{Link}
 use Rattle.sock_model.specs.declared.view.View.{View}
 use Rattle.sock_model.specs.Weights.{is_busy, is_ref, is_known, is_hold, is_stage, is_saw, is_coding, is_told, is_met, is_recycled}
 use Rattle.sock_model.specs.Layout.{tag_index, ref_index, link_index, head_index, code_index}
-use Rattle.sock_model.specs.Slots.{version_of, nref_of}
 use Rattle.sock_model.specs.SlotRows.{marks_of, knows, claimed, gave_birth, added, back, subbed, failed, recycled, freed, looked, linked, staged, coded, told_code, met_link}
 use Rattle.sock_model.specs.ChainRows.{with_hand, without_hand, spent_hand}
 use Rattle.sock_rule.specs.Rows.{NOTHING, PutAt, FoundAt}
 use Rattle.sock_rule.specs.Faults.{faults_of, fault_found, fault_left}
+use Rattle.sock_words.specs.Words.{vref_version, vref_nref, socket_id_slot}
 
 -- what a seat knows of the reference word of a slot that it finds
 pub record WordFits (i found : ℕ) (v : View) : Type 0 where
   -- no life that it knows is yet to come
-  pub known : (h : ℕ) → 0 < marks_of (is_known h) i v → h ≤ version_of found
+  pub known : (h : ℕ) → 0 < marks_of (is_known h) i v → h ≤ vref_version found
   -- a life that it holds is the slot's last
-  pub held : (h : ℕ) → 0 < marks_of (is_hold h) i v → h ≡ version_of found - version_of found % 2
+  pub held : (h : ℕ) → 0 < marks_of (is_hold h) i v → h ≡ vref_version found - vref_version found % 2
   -- no version that it saw is yet to come
-  pub saw : (w : ℕ) → 0 < marks_of (is_saw w) i v → w ≤ version_of found
+  pub saw : (w : ℕ) → 0 < marks_of (is_saw w) i v → w ≤ vref_version found
 
 -- the seat has the link k in hand, with what it took and its next place, as it was at home; where its half has faults, that is noted until it goes home
 pub record TookLink {S : Type 0} (shows : S → Home) (rose : S → ℕ) (m n : Me S View) (k : ℕ) (row : List ℕ → ℕ → View) : Type 0 where
@@ -47,15 +47,15 @@ module _ {S : Type 0} where
 
   -- A2
   abbrev pub birth_told : Step S → Me S View → ℕ → Me S View → Type 0
-  birth_told st m found n = (nref_of found < 4294967295) × ((i k : ℕ) → st.word ≡ ref_index i → 0 < marks_of (is_stage 3 k) i m.0 → Becomes m n (gave_birth i found k m.0) × (version_of found ≤ 4294967292) × (version_of found % 2 ≡ 0))
+  birth_told st m found n = (vref_nref found < 4294967295) × ((i k : ℕ) → st.word ≡ ref_index i → 0 < marks_of (is_stage 3 k) i m.0 → Becomes m n (gave_birth i found k m.0) × (vref_version found ≤ 4294967292) × (vref_version found % 2 ≡ 0))
 
   -- A3
   abbrev pub add_told : Step S → Me S View → ℕ → Me S View → Type 0
-  add_told st m found n = (nref_of found < 4294967295) × ((i : ℕ) → st.word ≡ ref_index i → Becomes m n (added i found (knows i (version_of found) m.0) m.0) × WordFits i found m.0)
+  add_told st m found n = (vref_nref found < 4294967295) × ((i : ℕ) → st.word ≡ ref_index i → Becomes m n (added i found (knows i (vref_version found) m.0) m.0) × WordFits i found m.0)
 
   -- A4
   abbrev pub sub_told : Step S → Me S View → ℕ → Me S View → Type 0
-  sub_told st m found n = (0 < nref_of found) × (version_of found ≤ 4294967294) × ((i : ℕ) → st.word ≡ ref_index i → Becomes m n (subbed i found (back i found m.0) m.0) × WordFits i found m.0 × (marks_of is_ref i m.0 ≤ nref_of found))
+  sub_told st m found n = (0 < vref_nref found) × (vref_version found ≤ 4294967294) × ((i : ℕ) → st.word ≡ ref_index i → Becomes m n (subbed i found (back i found m.0) m.0) × WordFits i found m.0 × (marks_of is_ref i m.0 ≤ vref_nref found))
 
   -- A5
   abbrev pub fail_told : Step S → Me S View → ℕ → Me S View → Type 0
@@ -107,11 +107,11 @@ module _ {S : Type 0} where
 
   -- S7: an id that is found names a slot of the table, and a word that was found other than 0 is so still
   abbrev pub find_told : Step S → Me S View → ℕ → Me S View → Type 0
-  find_told st m found n = FoundAt st.word found m n × (found ≢ 0 → found ≢ NOTHING → (found - 1) % 4294967296 < m.0.plan.slots) × ((k : ℕ) → get_elem? m.0.found k ≡ some st.word → found ≢ 0)
+  find_told st m found n = FoundAt st.word found m n × (found ≢ 0 → found ≢ NOTHING → socket_id_slot (found - 1) < m.0.plan.slots) × ((k : ℕ) → get_elem? m.0.found k ≡ some st.word → found ≢ 0)
 
   -- S7 of a name: what stands there, other than 0, is one more than the id of a life
   abbrev pub find_name_told : Step S → Me S View → ℕ → Me S View → Type 0
-  find_name_told st m found n = find_told st m found n × (found ≢ 0 → (found - 1) % 4294967296 < m.0.plan.slots)
+  find_name_told st m found n = find_told st m found n × (found ≢ 0 → socket_id_slot (found - 1) < m.0.plan.slots)
 
   -- ## Links
 

@@ -1,18 +1,17 @@
 // The steps of whoever writes a link.
 ghost use Rattle.std.specs.Prelude.{◌≡◌, ◌≢◌, ◌+◌, ◌*◌, ◌/◌, ◌%◌, ◌<◌, ◌≤◌, ℕ, false, true, [], ◌∷◌, ◌↔◌, IsTrue};
 ghost use Rattle.atomic_table.specs.Table.{rest};
-ghost use Rattle.sock_model.specs.Deliveries.{place_value};
 ghost use Rattle.sock_model.specs.declared.chain.Right.{Right};
 ghost use Rattle.sock_model.specs.declared.chain.Stage.TheVariants.{Writes, Walks, Turns};
 ghost use Rattle.sock_model.specs.ChainRows.{with_right, placed_right, dropped_right, freed_right, turned_right};
 ghost use Rattle.sock_rule.specs.Rows.{dropped_at};
 ghost use Rattle.sock_model.specs.Layout.{place_index};
-ghost use Rattle.sock_model.specs.Entries.{slot_of, generation_of};
 ghost use Rattle.sock_rule.specs.declared.homes.SockHome.TheVariants.{Empty};
 ghost use Rattle.sock_rule.specs.Seated.{IsSeat};
 ghost use Rattle.sock_rule.specs.Faults.{faults_of, fault_found, noting_fault, CameOut};
 ghost use Rattle.sock_rule.specs.Shows.{heading_of, way_at};
 ghost use Rattle.sock_rule.specs.Holding.{Rights, LinkAtHome, MayTakeMsg, TookMsg, MayLookToWrite, LookedToWrite, MayStorePlace, MayDropPlace, MayFreeRequest, MayEmptyHead, Emptied, MayReadOn, ReadOn, MayReadBack, ReadBack, MayTurnNext};
+ghost use Rattle.sock_words.specs.Words.{place_word, ticket_request, ticket_generation};
 
 use crate::homes::{Letter, LinkHome, SockHome};
 use crate::plays::{
@@ -92,7 +91,7 @@ impl<O: Out> RuleTable<O> {
     /// P1 of a message that its link took whole.
     pub fn store_place(&self, seat: &mut SockSeat<O>, at: u32, value: PlaceWord)
         requires seat { IsSeat self.now.table.shared.table_id self.now.plan seat.old }
-        requires may { (k places : ℕ) × MayStorePlace self.now.plan at k places seat.old.me.0 × (value.0 ≡ place_value false k places) }
+        requires may { (k places : ℕ) × MayStorePlace self.now.plan at k places seat.old.me.0 × (value.0 ≡ place_word false k places) }
         ensures seat { IsSeat self.now.table.shared.table_id self.now.plan seat.new }
         ensures view { (r : Right) (now : ℕ) → Rights r seat.old.me.0 → r.stage ≡ Writes now → seat.new.me ≡ (with_right seat.old.me.0 (placed_right r now), seat.old.me.1) }
     {
@@ -110,9 +109,9 @@ impl<O: Out> RuleTable<O> {
         home: LinkHome<O>,
     ) -> LinkHome<O>
         requires seat { IsSeat self.now.table.shared.table_id self.now.plan seat.old }
-        requires may { (k places : ℕ) × MayDropPlace self.now.plan at k places home.took.list seat.old.me.0 × (value.0 ≡ place_value true k places) }
+        requires may { (k places : ℕ) × MayDropPlace self.now.plan at k places home.took.list seat.old.me.0 × (value.0 ≡ place_word true k places) }
         requires ticket { (0 < now.0 % 65536) × (now.0 < 9223372036854775808) }
-        requires top { seat.old.me.1 ≡ (slot_of now.0, Empty) ∷ rest seat.old.me.1 }
+        requires top { seat.old.me.1 ≡ (ticket_request now.0, Empty) ∷ rest seat.old.me.1 }
         ensures seat { IsSeat self.now.table.shared.table_id self.now.plan seat.new }
         ensures view { (r : Right) (n : ℕ) → Rights r seat.old.me.0 → r.stage ≡ Writes n → seat.new.me ≡ (dropped_at (place_index self.now.plan at) value.0 r.heading (with_right seat.old.me.0 (dropped_right r n home.took.list)), seat.old.me.1) }
         ensures home { result ≡ home }
@@ -128,8 +127,8 @@ impl<O: Out> RuleTable<O> {
     pub fn free_request(&self, seat: &mut SockSeat<O>, now: Ticket)
         requires seat { IsSeat self.now.table.shared.table_id self.now.plan seat.old }
         requires may { MayFreeRequest now.0 seat.old.me }
-        requires ticket { (0 < now.0 % 65536) × (slot_of now.0 < self.now.plan.requests) }
-        requires young { generation_of now.0 < 140737488355327 }
+        requires ticket { (0 < now.0 % 65536) × (ticket_request now.0 < self.now.plan.requests) }
+        requires young { ticket_generation now.0 < 140737488355327 }
         ensures seat { IsSeat self.now.table.shared.table_id self.now.plan seat.new }
         ensures view { (r : Right) → Rights r seat.old.me.0 → seat.new.me ≡ (with_right seat.old.me.0 (freed_right r), rest seat.old.me.1) }
     {
@@ -142,7 +141,7 @@ impl<O: Out> RuleTable<O> {
     pub fn retire_request(&self, seat: &mut SockSeat<O>, now: Ticket)
         requires seat { IsSeat self.now.table.shared.table_id self.now.plan seat.old }
         requires may { MayFreeRequest now.0 seat.old.me }
-        requires last { generation_of now.0 ≡ 140737488355327 }
+        requires last { ticket_generation now.0 ≡ 140737488355327 }
         ensures seat { IsSeat self.now.table.shared.table_id self.now.plan seat.new }
         ensures view { (r : Right) → Rights r seat.old.me.0 → seat.new.me ≡ (with_right seat.old.me.0 (freed_right r), rest seat.old.me.1) }
     {
@@ -189,7 +188,7 @@ impl<O: Out> RuleTable<O> {
     pub fn read_on(&self, seat: &mut SockSeat<O>, now: Ticket) -> u64
         requires seat { IsSeat self.now.table.shared.table_id self.now.plan seat.old }
         requires may { MayReadOn now.0 seat.old.me.0 }
-        requires ticket { (0 < now.0 % 65536) × (slot_of now.0 < self.now.plan.requests) }
+        requires ticket { (0 < now.0 % 65536) × (ticket_request now.0 < self.now.plan.requests) }
         ensures seat { IsSeat self.now.table.shared.table_id self.now.plan seat.new }
         ensures view { (r : Right) → Rights r seat.old.me.0 → ReadOn r now.0 result seat.old.me seat.new.me }
     {
@@ -201,7 +200,7 @@ impl<O: Out> RuleTable<O> {
     pub fn read_back(&self, seat: &mut SockSeat<O>, at: Ticket) -> u64
         requires seat { IsSeat self.now.table.shared.table_id self.now.plan seat.old }
         requires may { MayReadBack at.0 seat.old.me.0 }
-        requires ticket { (0 < at.0 % 65536) × (slot_of at.0 < self.now.plan.requests) }
+        requires ticket { (0 < at.0 % 65536) × (ticket_request at.0 < self.now.plan.requests) }
         ensures seat { IsSeat self.now.table.shared.table_id self.now.plan seat.new }
         ensures view { (r : Right) (top after : ℕ) → Rights r seat.old.me.0 → r.stage ≡ Walks top at.0 after → ReadBack r top at.0 after result seat.old.me seat.new.me }
     {
@@ -213,7 +212,7 @@ impl<O: Out> RuleTable<O> {
     pub fn turn_next(&self, seat: &mut SockSeat<O>, at: Ticket, value: u64)
         requires seat { IsSeat self.now.table.shared.table_id self.now.plan seat.old }
         requires may { MayTurnNext at.0 value seat.old.me.0 }
-        requires ticket { (0 < at.0 % 65536) × (slot_of at.0 < self.now.plan.requests) }
+        requires ticket { (0 < at.0 % 65536) × (ticket_request at.0 < self.now.plan.requests) }
         ensures seat { IsSeat self.now.table.shared.table_id self.now.plan seat.new }
         ensures view { (r : Right) (top after before : ℕ) → Rights r seat.old.me.0 → r.stage ≡ Turns top at.0 after before → seat.new.me ≡ (with_right seat.old.me.0 (turned_right r top at.0 before), seat.old.me.1) }
     {

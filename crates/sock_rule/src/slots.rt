@@ -2,7 +2,6 @@
 ghost use Rattle.std.specs.Prelude.{◌≡◌, ◌+◌, ◌-◌, ◌*◌, ◌%◌, ◌<◌, ◌≤◌, ◌≢◌, ℕ, true, false, [], ◌↔◌, IsTrue};
 ghost use Rattle.sock_words.specs.Words.{vref_nref, vref_version};
 ghost use Rattle.sock_model.specs.Weights.{is_busy, is_ref, is_any_coding, is_stage, is_hold, is_zero, is_recycled};
-ghost use Rattle.sock_model.specs.Slots.{version_of, nref_of};
 ghost use Rattle.sock_model.specs.SlotRows.{marks_of, knows, claimed, gave_birth, added, back, subbed, failed, recycled, freed, looked};
 ghost use Rattle.ref_core.specs.Keeping.{KeepsRights};
 ghost use Rattle.sock_rule.specs.Seated.{IsSeat};
@@ -34,7 +33,7 @@ impl<O: Out> RuleTable<O> {
         requires slot { at < self.now.plan.slots }
         requires room { marks_of is_ref at seat.old.me.0 < 65540 }
         ensures seat { IsSeat self.now.table.shared.table_id self.now.plan seat.new }
-        ensures view { seat.new.me ≡ (added at result.found (knows at (version_of result.found) seat.old.me.0) seat.old.me.0, seat.old.me.1) }
+        ensures view { seat.new.me ≡ (added at result.found (knows at (vref_version result.found) seat.old.me.0) seat.old.me.0, seat.old.me.1) }
         ensures step { result.next ≡ result.found + 1 }
         ensures fits { WordFits at result.found seat.old.me.0 }
     {
@@ -51,7 +50,7 @@ impl<O: Out> RuleTable<O> {
         ensures seat { IsSeat self.now.table.shared.table_id self.now.plan seat.new }
         ensures view { (k : ℕ) → 0 < marks_of (is_stage 3 k) at seat.old.me.0 → seat.new.me ≡ (gave_birth at result.found k seat.old.me.0, seat.old.me.1) }
         ensures step { result.next ≡ result.found + 1 }
-        ensures version { (version_of result.found ≤ 4294967292) × (version_of result.found % 2 ≡ 0) }
+        ensures version { (vref_version result.found ≤ 4294967292) × (vref_version result.found % 2 ≡ 0) }
     {
         let index = ref_index(at as u32);
         let found = self.table.shared.fetch_add::<CreateLife>(seat, index, 1);
@@ -68,8 +67,8 @@ impl<O: Out> RuleTable<O> {
         ensures seat { IsSeat self.now.table.shared.table_id self.now.plan seat.new }
         ensures view { seat.new.me ≡ (subbed at result.found (back at result.found seat.old.me.0) seat.old.me.0, seat.old.me.1) }
         ensures step { result.next ≡ result.found - 1 }
-        ensures more { marks_of is_ref at seat.old.me.0 ≤ nref_of result.found }
-        ensures top { (0 < nref_of result.found) × (version_of result.found ≤ 4294967294) }
+        ensures more { marks_of is_ref at seat.old.me.0 ≤ vref_nref result.found }
+        ensures top { (0 < vref_nref result.found) × (vref_version result.found ≤ 4294967294) }
         ensures fits { WordFits at result.found seat.old.me.0 }
     {
         let index = ref_index(at as u32);

@@ -7,7 +7,7 @@ use native.Mathlib.Decide.{ℕ_discrete, dec_le}
 use lib.ListN.{get_elem?}
 use lib.Seq.{set-get_or}
 use Rattle.atomic_table.specs.Table.{State}
-use Rattle.sock_words.specs.Words.{socket_id_version, socket_id_slot, vref_version}
+use Rattle.sock_words.specs.Words.{socket_id_version, socket_id_slot, vref_version, ticket_request, ticket_generation, place_word}
 use Rattle.sock_words.specs.declared.plain.Plan.{Plan}
 use Rattle.sock_model.specs.declared.chain.Claim.{Claim}
 use Rattle.sock_model.specs.declared.chain.Heading.{Heading}
@@ -20,7 +20,7 @@ use Rattle.sock_model.specs.declared.view.View.{View}
 use Rattle.sock_model.specs.declared.view.Hand.{Hand}
 use Rattle.sock_model.specs.Weights.{is_hold, is_met, is_saw, is_linked}
 use Rattle.sock_model.specs.Layout.{ref_index, link_index, head_index, code_index, request_index, next_index, place_index}
-use Rattle.sock_model.specs.Entries.{slot_of, generation_of, ticket, on, nth}
+use Rattle.sock_model.specs.Entries.{ticket, on, nth}
 use Rattle.sock_model.specs.Writing.{Held, InStage, OnWalk}
 use Rattle.sock_model.specs.Memory.{IDLE, UNCONNECTED}
 use Rattle.sock_model.specs.Slots.{count}
@@ -28,7 +28,6 @@ use Rattle.sock_model.specs.SlotRows.{marks_of, looked, told_code, met_link}
 use Rattle.sock_model.specs.References.{slot_facts}
 use Rattle.sock_model.specs.Links.{Given, Failed}
 use Rattle.sock_model.specs.Conditions.{HasRight, MayExchange}
-use Rattle.sock_model.specs.Deliveries.{place_value}
 use Rattle.sock_model.specs.Reads.{memory, tokens, link_home}
 use Rattle.sock_model.specs.ChainRows.{with_claim, with_right, without_right, queued, righted, new_right, turned_right, placed_right, dropped_right}
 use Rattle.sock_model.specs.Lawful.{Lawful}
@@ -197,7 +196,7 @@ module _ (p : Plan) (s : State Home View) (o : Lawful (λ home. home) p s) (i : 
 
   -- a right whose request is of the last generation goes on at once
   module _ (ws : List ℕ) (r : Right) (one : v.rights ≡ r ∷ []) (r' : Right) (same : r'.link ≡ r.link) (o' : With ws (with_right v r')) where
-    retire : (now : ℕ) (b : Stage) → Leads r'.last r'.stage now b → generation_of now ≡ LAST_GENERATION → With ws (with_right v (record r' { stage = b }))
+    retire : (now : ℕ) (b : Stage) → Leads r'.last r'.stage now b → ticket_generation now ≡ LAST_GENERATION → With ws (with_right v (record r' { stage = b }))
     retire now b leads old = let w : View = with_right v r' in let r'' : Right = record r' { stage = b } in
         let l = retiring_law (λ home. home) p i 0 now b w r' record { words = ws; homes = s.homes; views = set s.views i w } o' (set_at s.views i w (at_length s.views i v at)) refl leads old in
         subst (λ u. With ws u) (twice_one v r one r' r'' same same)
@@ -209,15 +208,15 @@ module _ (p : Plan) (s : State Home View) (o : Lawful (λ home. home) p s) (i : 
     settles_at : (b : Stage) → r'.stage ≡ b → With ws (with_right v (record r' { stage = settled_stage r'.last b }))
     settles_at (Placed now) e = let P : Bool → Bool → Type 0 = λ a b. With ws (with_right v (record r' { stage = cond (a && b) Empties (Placed now) })) in
         dite (ℕ_discrete now r'.last)
-        (λ end_. dite (ℕ_discrete (generation_of now) LAST_GENERATION)
-        (λ old. subst (λ a. P a (generation_of now == LAST_GENERATION)) (sym (eq-eqb now r'.last end_)) (subst (P true) (sym (eq-eqb (generation_of now) LAST_GENERATION old))
+        (λ end_. dite (ℕ_discrete (ticket_generation now) LAST_GENERATION)
+        (λ old. subst (λ a. P a (ticket_generation now == LAST_GENERATION)) (sym (eq-eqb now r'.last end_)) (subst (P true) (sym (eq-eqb (ticket_generation now) LAST_GENERATION old))
         (retire now Empties (subst (λ z. Leads r'.last z now Empties) (sym e) (to_end now end_)) old)))
-        (λ new. subst (λ a. P a (generation_of now == LAST_GENERATION)) (sym (eq-eqb now r'.last end_)) (subst (P true) (sym (ne_eqb (generation_of now) LAST_GENERATION new)) (stays (Placed now) e))))
-        (λ far. subst (λ a. P a (generation_of now == LAST_GENERATION)) (sym (ne_eqb now r'.last far)) (stays (Placed now) e))
+        (λ new. subst (λ a. P a (ticket_generation now == LAST_GENERATION)) (sym (eq-eqb now r'.last end_)) (subst (P true) (sym (ne_eqb (ticket_generation now) LAST_GENERATION new)) (stays (Placed now) e))))
+        (λ far. subst (λ a. P a (ticket_generation now == LAST_GENERATION)) (sym (ne_eqb now r'.last far)) (stays (Placed now) e))
     settles_at (Passes now next) e = let P : Bool → Type 0 = λ b. With ws (with_right v (record r' { stage = cond b (Writes next) (Passes now next) })) in
-        dite (ℕ_discrete (generation_of now) LAST_GENERATION)
-        (λ old. subst P (sym (eq-eqb (generation_of now) LAST_GENERATION old)) (retire now (Writes next) (subst (λ z. Leads r'.last z now (Writes next)) (sym e) (to_next now next)) old))
-        (λ new. subst P (sym (ne_eqb (generation_of now) LAST_GENERATION new)) (stays (Passes now next) e))
+        dite (ℕ_discrete (ticket_generation now) LAST_GENERATION)
+        (λ old. subst P (sym (eq-eqb (ticket_generation now) LAST_GENERATION old)) (retire now (Writes next) (subst (λ z. Leads r'.last z now (Writes next)) (sym e) (to_next now next)) old))
+        (λ new. subst P (sym (ne_eqb (ticket_generation now) LAST_GENERATION new)) (stays (Passes now next) e))
     settles_at (Writes now) e = stays (Writes now) e
     settles_at Empties e = stays Empties e
     settles_at (Walks top a after) e = stays (Walks top a after) e
@@ -232,13 +231,13 @@ module _ (p : Plan) (s : State Home View) (o : Lawful (λ home. home) p s) (i : 
       (subst (λ rs. With s.words (by_right rs (λ r. read_next found v r r.stage) v)) (sym may.1)
       (⊎_elim (λ x. passes r may.1 x.0 x.1 x.2 x.3) (λ x. walks r may.1 x.0 x.1 x.2 x.3 x.4) may.2))
     where
-      passes : (r : Right) → v.rights ≡ r ∷ [] → (now : ℕ) → r.stage ≡ Placed now → now ≢ r.last → slot_of now ≡ q → With s.words (read_next (get_or s.words (next_index p q) 0) v r r.stage)
+      passes : (r : Right) → v.rights ≡ r ∷ [] → (now : ℕ) → r.stage ≡ Placed now → now ≢ r.last → ticket_request now ≡ q → With s.words (read_next (get_or s.words (next_index p q) 0) v r r.stage)
       passes r one now stage ne is = let found : ℕ = get_or s.words (next_index p q) 0 in
           subst (λ b. With s.words (read_next (get_or s.words (next_index p q) 0) v r b)) (sym stage)
           (settles s.words r one (record r { stage = Passes now found }) refl
           (subst (λ z. With s.words (with_right v (record r { stage = Passes now (get_or s.words (next_index p z) 0) }))) is (passing_law (λ home. home) p s o i v at (has_one v r one) now stage ne)))
 
-      walks : (r : Right) → v.rights ≡ r ∷ [] → (top a after : ℕ) → r.stage ≡ Walks top a after → slot_of a ≡ q → With s.words (read_next (get_or s.words (next_index p q) 0) v r r.stage)
+      walks : (r : Right) → v.rights ≡ r ∷ [] → (top a after : ℕ) → r.stage ≡ Walks top a after → ticket_request a ≡ q → With s.words (read_next (get_or s.words (next_index p q) 0) v r r.stage)
       walks r one top a after stage is = let found : ℕ = get_or s.words (next_index p q) 0 in let P : Bool → Type 0 = λ b. With s.words (cond b v (with_right v (record r { stage = Turns top a after found }))) in
           subst (λ b. With s.words (read_next (get_or s.words (next_index p q) 0) v r b)) (sym stage)
           (dite (ℕ_discrete found UNCONNECTED)
@@ -256,11 +255,11 @@ module _ (p : Plan) (s : State Home View) (o : Lawful (λ home. home) p s) (i : 
   -- which isn't of the last generation, since generations are bounded
   pub free_small : (q g : ℕ) → May p v (FreeRequest q g) → g < LAST_GENERATION
   free_small q g may = let now : ℕ = may.0 in let r : Right = may.4.0 in
-      let low : generation_of now < 140737488355328 = ⊎_elim (λ x. small r may.4.1 now Empties (subst (λ z. Leads r.last z now Empties) (sym x.0) (to_end now x.1)))
+      let low : ticket_generation now < 140737488355328 = ⊎_elim (λ x. small r may.4.1 now Empties (subst (λ z. Leads r.last z now Empties) (sym x.0) (to_end now x.1)))
       (λ x. small r may.4.1 now (Writes x.0) (subst (λ z. Leads r.last z now (Writes x.0)) (sym x.1) (to_next now x.0))) may.4.2 in
       omega (arith, low, may.2, may.3)
     where
-      small : (r : Right) → v.rights ≡ r ∷ [] → (now : ℕ) (b : Stage) → Leads r.last r.stage now b → generation_of now < 140737488355328
+      small : (r : Right) → v.rights ≡ r ∷ [] → (now : ℕ) (b : Stage) → Leads r.last r.stage now b → ticket_generation now < 140737488355328
       small r one now b leads = let has = ap (λ l. get_elem? l 0) one in now_small o.chains r.link r (right_in o i 0 v r at has) (right_alone o i 0 v r at has) o.fits.narrow now b leads
 
   pub frees_request : (q g : ℕ) → May p v (FreeRequest q g) → KeepsWord p s i v (FreeRequest q g)
@@ -269,43 +268,43 @@ module _ (p : Plan) (s : State Home View) (o : Lawful (λ home. home) p s) (i : 
       (⊎_elim (λ x. goes r may.4.1 now Empties (subst (λ z. Leads r.last z now Empties) (sym x.0) (to_end now x.1)) may.1 may.2 (free_small q g may) (ap freed_stage x.0))
       (λ x. goes r may.4.1 now (Writes x.0) (subst (λ z. Leads r.last z now (Writes x.0)) (sym x.1) (to_next now x.0)) may.1 may.2 (free_small q g may) (ap freed_stage x.1)) may.4.2)
     where
-      goes : (r : Right) → v.rights ≡ r ∷ [] → (now : ℕ) (b : Stage) → Leads r.last r.stage now b → slot_of now ≡ q → generation_of now ≡ g → g < LAST_GENERATION → freed_stage r.stage ≡ b
+      goes : (r : Right) → v.rights ≡ r ∷ [] → (now : ℕ) (b : Stage) → Leads r.last r.stage now b → ticket_request now ≡ q → ticket_generation now ≡ g → g < LAST_GENERATION → freed_stage r.stage ≡ b
           → With (set s.words (request_index p q) (2 * (g + 1))) (freed_next v r)
-      goes r one now b leads slot is small to = let low : generation_of now < 140737488355327 = omega (arith, is, small) in
+      goes r one now b leads slot is small to = let low : ticket_generation now < 140737488355327 = omega (arith, is, small) in
           subst (λ z. With (set s.words (request_index p q) (2 * (g + 1))) (with_right v (record r { stage = z }))) (sym to)
           (subst (λ z. With (set s.words (request_index p z) (2 * (g + 1))) (with_right v (record r { stage = b }))) slot
-          (subst (λ z. With (set s.words (request_index p (slot_of now)) (2 * (z + 1))) (with_right v (record r { stage = b }))) is
+          (subst (λ z. With (set s.words (request_index p (ticket_request now)) (2 * (z + 1))) (with_right v (record r { stage = b }))) is
           (freeing_law (λ home. home) p i 0 now b v r s o at (ap (λ l. get_elem? l 0) one) leads low)))
 
   pub stores_place : (l k n : ℕ) → May p v (StorePlace l k n) → KeepsWord p s i v (StorePlace l k n)
-  stores_place l k n may = let x = may.0 in let r : Right = x.mine.right in let ws : List ℕ = set s.words (place_index p l) (place_value false k n) in
+  stores_place l k n may = let x = may.0 in let r : Right = x.mine.right in let ws : List ℕ = set s.words (place_index p l) (place_word false k n) in
       let placed = placing_law (λ home. home) p i v x s o at in
-      let placed₁ : With (set s.words (place_index p l) (place_value false r.link r.places)) (with_right v (placed_right r x.now)) = subst (λ z. With (set s.words (place_index p z) (place_value false r.link r.places)) (with_right v (placed_right r x.now))) (sym may.2) placed in
-      let placed₂ : With (set s.words (place_index p l) (place_value false k r.places)) (with_right v (placed_right r x.now)) = subst (λ z. With (set s.words (place_index p l) (place_value false z r.places)) (with_right v (placed_right r x.now))) (sym may.3) placed₁ in
-      let placed₃ : With (set s.words (place_index p l) (place_value false k n)) (with_right v (placed_right r x.now)) = subst (λ z. With (set s.words (place_index p l) (place_value false k z)) (with_right v (placed_right r x.now))) (sym may.4) placed₂ in
-      subst (λ rs. With (set s.words (place_index p l) (place_value false k n)) (by_right rs (λ r. placed_next v r r.stage) v)) (sym may.1)
-      (subst (λ b. With (set s.words (place_index p l) (place_value false k n)) (placed_next v r b)) (sym x.stage)
+      let placed₁ : With (set s.words (place_index p l) (place_word false r.link r.places)) (with_right v (placed_right r x.now)) = subst (λ z. With (set s.words (place_index p z) (place_word false r.link r.places)) (with_right v (placed_right r x.now))) (sym may.2) placed in
+      let placed₂ : With (set s.words (place_index p l) (place_word false k r.places)) (with_right v (placed_right r x.now)) = subst (λ z. With (set s.words (place_index p l) (place_word false z r.places)) (with_right v (placed_right r x.now))) (sym may.3) placed₁ in
+      let placed₃ : With (set s.words (place_index p l) (place_word false k n)) (with_right v (placed_right r x.now)) = subst (λ z. With (set s.words (place_index p l) (place_word false k z)) (with_right v (placed_right r x.now))) (sym may.4) placed₂ in
+      subst (λ rs. With (set s.words (place_index p l) (place_word false k n)) (by_right rs (λ r. placed_next v r r.stage) v)) (sym may.1)
+      (subst (λ b. With (set s.words (place_index p l) (place_word false k n)) (placed_next v r b)) (sym x.stage)
       (settles ws r may.1 (placed_right r x.now) refl placed₃))
 
   pub drops_place : (l k n : ℕ) → May p v (DropPlace l k n) → KeepsWord p s i v (DropPlace l k n)
-  drops_place l k n may = let x = may.0 in let r : Right = x.mine.right in let ws : List ℕ = set s.words (place_index p l) (place_value true k n) in
+  drops_place l k n may = let x = may.0 in let r : Right = x.mine.right in let ws : List ℕ = set s.words (place_index p l) (place_word true k n) in
       let dropped = dropping_law (λ home. home) p i v x s o at (failed_life r.link may.6) in
       let w : View = with_right v (dropped_right r x.now x.sent) in
-      let dropped₁ : With (set s.words (place_index p l) (place_value true r.link r.places)) w = subst (λ z. With (set s.words (place_index p z) (place_value true r.link r.places)) w) (sym may.2) dropped in
-      let dropped₂ : With (set s.words (place_index p l) (place_value true k r.places)) w = subst (λ z. With (set s.words (place_index p l) (place_value true z r.places)) w) (sym may.3) dropped₁ in
-      let dropped₃ : With (set s.words (place_index p l) (place_value true k n)) w = subst (λ z. With (set s.words (place_index p l) (place_value true k z)) w) (sym may.4) dropped₂ in
-      subst (λ rs. With (set s.words (place_index p l) (place_value true k n)) (by_right rs (λ r. dropped_next v r r.stage) v)) (sym may.1)
-      (subst (λ b. With (set s.words (place_index p l) (place_value true k n)) (dropped_next v r b)) (sym x.stage)
-      (subst (λ z. With (set s.words (place_index p l) (place_value true k n)) (with_right v (settled (dropped_right r x.now z)))) may.5
+      let dropped₁ : With (set s.words (place_index p l) (place_word true r.link r.places)) w = subst (λ z. With (set s.words (place_index p z) (place_word true r.link r.places)) w) (sym may.2) dropped in
+      let dropped₂ : With (set s.words (place_index p l) (place_word true k r.places)) w = subst (λ z. With (set s.words (place_index p l) (place_word true z r.places)) w) (sym may.3) dropped₁ in
+      let dropped₃ : With (set s.words (place_index p l) (place_word true k n)) w = subst (λ z. With (set s.words (place_index p l) (place_word true k z)) w) (sym may.4) dropped₂ in
+      subst (λ rs. With (set s.words (place_index p l) (place_word true k n)) (by_right rs (λ r. dropped_next v r r.stage) v)) (sym may.1)
+      (subst (λ b. With (set s.words (place_index p l) (place_word true k n)) (dropped_next v r b)) (sym x.stage)
+      (subst (λ z. With (set s.words (place_index p l) (place_word true k n)) (with_right v (settled (dropped_right r x.now z)))) may.5
       (settles ws r may.1 (dropped_right r x.now x.sent) refl dropped₃)))
 
   -- ## The requests of which these are
 
   -- the request of each entry is one of the table
-  entry_inside : (k n now : ℕ) → n < length (on k o.log) → nth (on k o.log) (suc n) ≡ now → slot_of now < p.requests
+  entry_inside : (k n now : ℕ) → n < length (on k o.log) → nth (on k o.log) (suc n) ≡ now → ticket_request now < p.requests
   entry_inside k n now inside is = let e = at_some (on k o.log) n inside in let size = in_size o.chains k n e.0 e.1 in let narrow = o.fits.narrow in
       let tick : ticket e.0 ≡ now = sym (ticket_at_is (on k o.log) n e.0 e.1) ∙ is in let small : e.0.request < 65535 = (let z = size.1 in omega arith) in
-      let slot : slot_of now ≡ e.0.request = ap slot_of (sym tick) ∙ slot_is e.0 small in let z = size.1 in omega arith
+      let slot : ticket_request now ≡ e.0.request = ap ticket_request (sym tick) ∙ slot_is e.0 small in let z = size.1 in omega arith
 
   module _ (r : Right) (one : v.rights ≡ r ∷ []) where
     inside_link : r.link < p.links
@@ -320,13 +319,13 @@ module _ (p : Plan) (s : State Home View) (o : Lawful (λ home. home) p s) (i : 
     in_stage : (b : Stage) → r.stage ≡ b → InStage (memory p o.slot s.words) (tokens s.views) (on r.link o.log) held.counts (o.freed r.link) (o.places r.link) b
     in_stage b e = subst (InStage (memory p o.slot s.words) (tokens s.views) (on r.link o.log) held.counts (o.freed r.link) (o.places r.link)) e held.stage_is
 
-    placed_inside : (now : ℕ) → r.stage ≡ Placed now → slot_of now < p.requests
+    placed_inside : (now : ℕ) → r.stage ≡ Placed now → ticket_request now < p.requests
     placed_inside now stage = let f = held.fits in let st = in_stage (Placed now) stage in let some_ = st.2 in entry_inside r.link (o.freed r.link) now (omega (arith, f.1, f.2, f.3, some_)) st.3
 
-    passed_inside : (now next : ℕ) → r.stage ≡ Passes now next → slot_of now < p.requests
+    passed_inside : (now next : ℕ) → r.stage ≡ Passes now next → ticket_request now < p.requests
     passed_inside now next stage = let f = held.fits in let st = in_stage (Passes now next) stage in let some_ = st.2 in entry_inside r.link (o.freed r.link) now (omega (arith, f.1, f.2, f.3, some_)) st.3
 
-    walk_inside : (top a after : ℕ) → r.stage ≡ Walks top a after → slot_of a < p.requests
+    walk_inside : (top a after : ℕ) → r.stage ≡ Walks top a after → ticket_request a < p.requests
     walk_inside top a after stage = let f = held.fits in let walk : OnWalk (on r.link o.log) held.counts (o.freed r.link) (o.places r.link) top a after = in_stage (Walks top a after) stage in let some_ = walk.some_left in
         let back : suc (held.counts.left - 1) ≡ held.counts.left = omega arith in
         entry_inside r.link (held.counts.left - 1) a (omega (arith, f.2, f.3, some_)) (ap (nth (on r.link o.log)) back ∙ walk.at_is)

@@ -11,7 +11,6 @@ use Rattle.sock_model.specs.declared.view.View.{View}
 use Rattle.sock_model.specs.declared.view.Hand.{Hand}
 use Rattle.sock_model.specs.Weights.{total, pair, is_linked, is_stage}
 use Rattle.sock_model.specs.Marks.{at, without_at}
-use Rattle.sock_model.specs.Slots.{version_of}
 use Rattle.sock_model.specs.SlotRows.{marks_of}
 use Rattle.sock_steps.specs.slot_steps.proofs.Sums.{about-other}
 use Rattle.sock_steps.specs.slot_steps.proofs.Numbers.{pair_is}
@@ -19,6 +18,7 @@ use Rattle.sock_steps.proofs.Quiet.{Less, More, less_add, less_without}
 use Rattle.seat_programs.specs.Calls.{Call, CreateLife}
 use Rattle.seat_programs.specs.StepTables.{row}
 use Rattle.sock_runs.proofs.Notes.{bears, IsKept, IsOfBirth, notes_stay, births_note}
+use Rattle.sock_words.specs.Words.{vref_version}
 
 -- of two other numbers
 no_pair : (a b x y : ℕ) → ((x ≡ a) × (y ≡ b) → ⊥) → pair a b x y ≡ 0
@@ -43,8 +43,8 @@ module _ (p : Plan) (v : View) (found : ℕ) (hand : Hand) where
     links_only call no_birth = births_note p v found hand (is_linked h l) of_birth call no_birth
 
     -- and a birth notes one
-    pub birth_links : (i k : ℕ) (j : ℕ) → ((j ≡ i) × (h ≡ version_of found) × (l ≡ k)) ⊎ (marks_of (is_linked h l) j (row p (CreateLife i k) found hand v) ≤ marks_of (is_linked h l) j v)
-    birth_links i k j = let g : ℕ = version_of found in let left : List SlotMark = without_at i (is_stage 3 k) v.marks in
+    pub birth_links : (i k : ℕ) (j : ℕ) → ((j ≡ i) × (h ≡ vref_version found) × (l ≡ k)) ⊎ (marks_of (is_linked h l) j (row p (CreateLife i k) found hand v) ≤ marks_of (is_linked h l) j v)
+    birth_links i k j = let g : ℕ = vref_version found in let left : List SlotMark = without_at i (is_stage 3 k) v.marks in
         let far : is_linked h l (Linked g k) ≡ 0 → marks_of (is_linked h l) j (row p (CreateLife i k) found hand v) ≤ marks_of (is_linked h l) j v =
         λ none_. less_add (is_linked h l) v.marks i (Known g) (at i (Born g) ∷ at i (Linked g k) ∷ left) refl (less_add (is_linked h l) v.marks i (Born g) (at i (Linked g k) ∷ left) refl (less_add (is_linked h l) v.marks i (Linked g k) left none_ (less_without (is_linked h l) v.marks i (is_stage 3 k)))) j in
         dite (ℕ_discrete h g)

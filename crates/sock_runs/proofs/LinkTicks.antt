@@ -15,7 +15,6 @@ use Rattle.sock_model.specs.declared.home.Home.{Home}
 use Rattle.sock_model.specs.declared.home.Home.TheVariants.{Link, Message}
 use Rattle.sock_model.specs.declared.view.View.{View}
 use Rattle.sock_model.specs.declared.view.Hand.{Hand}
-use Rattle.sock_model.specs.Entries.{slot_of}
 use Rattle.sock_model.specs.ChainRows.{with_right, taken_right, put_right}
 use Rattle.sock_model.specs.Conditions.{MayTake}
 use Rattle.sock_model.specs.Lawful.{Lawful}
@@ -42,6 +41,7 @@ use Rattle.program_steps.specs.Sound.{state, AreInHand, IsOfRight, AreHeld, AreL
 use Rattle.program_steps.proofs.Cases.{calls_waiting}
 use Rattle.sock_runs.proofs.HandTicks.{in_hand_nil}
 use Rattle.sock_runs.proofs.ChainTicks.{has_one, stays_one}
+use Rattle.sock_words.specs.Words.{ticket_request}
 
 -- what comes before the next step is passed over
 pub next_goes : (p : Plan) (v : View) (program : Program) → GoesOn p v program → GoesOn p v (next_step program)
@@ -208,8 +208,8 @@ module _ (p : Plan) (retries_go : RetriesGo p) (c : Core) (vs : List View) (soun
       reseats (next heading bytes) seat.hand c.words (set c.homes q none) (took_message heading bytes v)
       (subst (λ u. Lawful (λ home. home) p record { words = c.words; homes = set c.homes q none; views = set vs i u }) (sym w)
       (subst (λ n. Lawful (λ home. home) p record { words = c.words; homes = set c.homes n none; views = set vs i (with_right v (taken_right r heading bytes)) }) may.5
-      (subst (λ l. Lawful (λ home. home) p record { words = c.words; homes = set c.homes (slot_of may.1) none; views = set vs i (with_right v (taken_right r l bytes)) }) q'.0
-      (subst (λ b. Lawful (λ home. home) p record { words = c.words; homes = set c.homes (slot_of may.1) none; views = set vs i (with_right v (taken_right r law.1 b)) }) q'.1 (law.5 none refl)))))
+      (subst (λ l. Lawful (λ home. home) p record { words = c.words; homes = set c.homes (ticket_request may.1) none; views = set vs i (with_right v (taken_right r l bytes)) }) q'.0
+      (subst (λ b. Lawful (λ home. home) p record { words = c.words; homes = set c.homes (ticket_request may.1) none; views = set vs i (with_right v (taken_right r law.1 b)) }) q'.1 (law.5 none refl)))))
       (length-set c.homes q none) (labels_set p c.homes q none (λ l b e. some-ne-none (Message l b) (sym e)) sound.labels)
       (subst (λ (u : View). AreHeld seat.hand u.rights u.hands) (sym w) (restaged v r (taken_right r heading bytes) seat.hand may.2 refl
       (held_same seat.hand r (taken_right r heading bytes) v.hands refl refl (sym (ap (λ n. r.sent ++ take n r.bytes) may.6)) (with_one v r may.2 seat.hand are))))

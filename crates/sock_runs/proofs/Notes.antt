@@ -12,7 +12,6 @@ use Rattle.sock_model.specs.declared.view.View.{View}
 use Rattle.sock_model.specs.declared.view.Hand.{Hand}
 use Rattle.sock_model.specs.Weights.{total, is_born, is_failer, is_stage, is_hold, is_probe}
 use Rattle.sock_model.specs.Marks.{at, without_at}
-use Rattle.sock_model.specs.Slots.{version_of, nref_of}
 use Rattle.sock_model.specs.SlotRows.{marks_of, back}
 use Rattle.sock_steps.specs.slot_steps.proofs.Sums.{about-other}
 use Rattle.sock_steps.specs.slot_steps.proofs.Numbers.{only-else}
@@ -21,6 +20,7 @@ use Rattle.sock_steps.proofs.Quiet.{either_way, Less, More, less_add, less_all, 
 use Rattle.seat_programs.specs.Calls.{Call, CreateLife, SubRef}
 use Rattle.seat_programs.specs.StepTables.{row}
 use Rattle.program_steps.proofs.Marking.{is_taken, is_of_birth, marks_way}
+use Rattle.sock_words.specs.Words.{vref_version, vref_nref}
 
 -- the slot in which a step makes a life
 abbrev pub bears : Call → Option ℕ
@@ -61,15 +61,15 @@ module _ (p : Plan) (v : View) (found : ℕ) (hand : Hand) where
     drop i g z = more_without f v.marks i g z
 
     back_out : (i : ℕ) → More f v.marks (without_at i (back i found v) v.marks)
-    back_out i = let w : ℕ = version_of found in either_way (nat_lt 0 (marks_of is_probe i v)) is_probe (is_hold (w - w % 2)) (λ (g : Mark → ℕ). More f v.marks (without_at i g v.marks))
+    back_out i = let w : ℕ = vref_version found in either_way (nat_lt 0 (marks_of is_probe i v)) is_probe (is_hold (w - w % 2)) (λ (g : Mark → ℕ). More f v.marks (without_at i g v.marks))
         (drop i is_probe (λ x q. none_ x (ap may_go (probe_is x q)))) (drop i (is_hold (w - w % 2)) (λ x q. none_ x (ap may_go (hold_is (w - w % 2) x q))))
 
     -- what was noted stays
     pub notes_stay : (call : Call) → More f v.marks (row p call found hand v).marks
-    notes_stay (CreateLife i k) = let g : ℕ = version_of found in let left : List SlotMark = without_at i (is_stage 3 k) v.marks in
+    notes_stay (CreateLife i k) = let g : ℕ = vref_version found in let left : List SlotMark = without_at i (is_stage 3 k) v.marks in
         add i (Known g) (at i (Born g) ∷ at i (Linked g k) ∷ left) (add i (Born g) (at i (Linked g k) ∷ left) (add i (Linked g k) left (drop i (is_stage 3 k) (λ x q. none_ x (ap may_go (stage_is 3 k x q))))))
-    notes_stay (SubRef i) = let w : ℕ = version_of found in let left : List SlotMark = without_at i (back i found v) v.marks in
-        either_way (w % 2 == 1) (cond (nref_of found == 1) (at i (Zero w) ∷ left) left) left Stay (either_way (nref_of found == 1) (at i (Zero w) ∷ left) left Stay (add i (Zero w) left (back_out i)) (back_out i)) (back_out i)
+    notes_stay (SubRef i) = let w : ℕ = vref_version found in let left : List SlotMark = without_at i (back i found v) v.marks in
+        either_way (w % 2 == 1) (cond (vref_nref found == 1) (at i (Zero w) ∷ left) left) left Stay (either_way (vref_nref found == 1) (at i (Zero w) ∷ left) left Stay (add i (Zero w) left (back_out i)) (back_out i)) (back_out i)
     notes_stay call = marks_way p v found hand Stay same (λ i m new other stay. add i m new stay) (λ i g taken. drop i g (λ x q. none_ x (goes x (taken x q)))) call refl
 
   module _ (f : Mark → ℕ) (none_ : IsOfBirth f) where
@@ -82,9 +82,9 @@ module _ (p : Plan) (v : View) (found : ℕ) (hand : Hand) where
     -- a step that makes no life notes none
     pub births_note : (call : Call) → bears call ≡ none → Less f v.marks (row p call found hand v).marks
     births_note (CreateLife i k) no_birth = absurd (some-ne-none i no_birth)
-    births_note (SubRef i) no_birth = let w : ℕ = version_of found in let left : List SlotMark = without_at i (back i found v) v.marks in let fewer = less_without f v.marks i (back i found v) in
-        either_way (w % 2 == 1) (cond (nref_of found == 1) (at i (Zero w) ∷ left) left) left Fewer
-        (either_way (nref_of found == 1) (at i (Zero w) ∷ left) left Fewer (less_add f v.marks i (Zero w) left (none_ (Zero w) refl) fewer) fewer) fewer
+    births_note (SubRef i) no_birth = let w : ℕ = vref_version found in let left : List SlotMark = without_at i (back i found v) v.marks in let fewer = less_without f v.marks i (back i found v) in
+        either_way (w % 2 == 1) (cond (vref_nref found == 1) (at i (Zero w) ∷ left) left) left Fewer
+        (either_way (vref_nref found == 1) (at i (Zero w) ∷ left) left Fewer (less_add f v.marks i (Zero w) left (none_ (Zero w) refl) fewer) fewer) fewer
     births_note call no_birth = marks_way p v found hand Fewer as_many (λ i m new other fewer. less_add f v.marks i m new (none_ m other) fewer) (λ i g taken. less_without f v.marks i g) call refl
 
   module _ (h : ℕ) where
@@ -105,8 +105,8 @@ module _ (p : Plan) (v : View) (found : ℕ) (hand : Hand) where
     births_only call no_birth = births_note (is_born h) of_birth call no_birth
 
     -- and a birth notes one life
-    pub birth_notes : (i k : ℕ) (j : ℕ) → ((j ≡ i) × (h ≡ version_of found)) ⊎ (marks_of (is_born h) j (row p (CreateLife i k) found hand v) ≤ marks_of (is_born h) j v)
-    birth_notes i k j = let g : ℕ = version_of found in let left : List SlotMark = without_at i (is_stage 3 k) v.marks in
+    pub birth_notes : (i k : ℕ) (j : ℕ) → ((j ≡ i) × (h ≡ vref_version found)) ⊎ (marks_of (is_born h) j (row p (CreateLife i k) found hand v) ≤ marks_of (is_born h) j v)
+    birth_notes i k j = let g : ℕ = vref_version found in let left : List SlotMark = without_at i (is_stage 3 k) v.marks in
         dite (ℕ_discrete h g) (λ same. dite (ℕ_discrete j i) (λ here. inl (here, same))
         (λ far. inr (omega (arith, ap (total (is_born h)) (about-other j i (Known g) (at i (Born g) ∷ at i (Linked g k) ∷ left) far), ap (total (is_born h)) (about-other j i (Born g) (at i (Linked g k) ∷ left) far), ap (total (is_born h)) (about-other j i (Linked g k) left far), less_without (is_born h) v.marks i (is_stage 3 k) j))))
         (λ other. inr (less_add (is_born h) v.marks i (Known g) (at i (Born g) ∷ at i (Linked g k) ∷ left) refl (less_add (is_born h) v.marks i (Born g) (at i (Linked g k) ∷ left) (only-else h g (λ e. other (sym e))) (less_add (is_born h) v.marks i (Linked g k) left refl (less_without (is_born h) v.marks i (is_stage 3 k)))) j))

@@ -16,7 +16,7 @@ use Rattle.sock_model.specs.declared.chain.Right.{Right}
 use Rattle.sock_model.specs.declared.chain.Stage.TheVariants as stages
 use Rattle.sock_model.specs.declared.view.View.{View}
 use Rattle.sock_model.specs.Layout.{next_index}
-use Rattle.sock_model.specs.Entries.{slot_of, on, nth}
+use Rattle.sock_model.specs.Entries.{on, nth}
 use Rattle.sock_model.specs.Memory.{Memory, UNCONNECTED}
 use Rattle.sock_model.specs.Tokens.{Tokens}
 use Rattle.sock_model.specs.Writing.{Held, InStage, OnWalk, Waits}
@@ -29,11 +29,11 @@ use Rattle.sock_steps.proofs.Maps.{gather_nil}
 use Rattle.sock_steps.proofs.RightSteps.{right_in, right_alone}
 use Rattle.seat_programs.specs.Writings as heads
 use Rattle.std.specs.Prelude as std
-use Rattle.seat_programs.specs.corr_core.specs.Word.{parts}
+use Rattle.seat_programs.specs.corr_core.specs.Word.{parts, id_slot}
 use Rattle.seat_programs.specs.corr_core.proofs.Notes.{at_length}
 use Rattle.seat_programs.specs.id_rule.specs.Lawful.{id_index}
 use Rattle.sock_model.specs.Layout.{open_index}
-use Rattle.seat_programs.specs.Asides.{Taking, Nothing, id_slot}
+use Rattle.seat_programs.specs.Asides.{Taking, Nothing}
 use Rattle.seat_programs.specs.Beside.{at_last, more_given}
 use Rattle.seat_programs.specs.Heads.{Head, Exit, Retry, Sought, Locks, Joins, Opens, Reads, Discards, Locking, NotThere, Posts, Unlocks, Decides}
 use Rattle.seat_programs.specs.Posts.{is_sought, locking}
@@ -47,6 +47,7 @@ use Rattle.program_steps.specs.GoesOn.{GoesOn}
 use Rattle.program_steps.specs.Sound.{Sound, IsAhead, is_begun}
 use Rattle.sock_runs.proofs.Allowed.{view_there}
 use Rattle.sock_runs.proofs.Along.{seat_rests}
+use Rattle.sock_words.specs.Words.{ticket_request}
 
 -- ## Its tick changes nothing
 
@@ -65,10 +66,10 @@ module _ (p : Plan) (i : ℕ) (seat : SeatState) (c : Core) where
 
   walk_stays : (h : heads.Holder) (top place after : ℕ) (then_ : Program) (answer : Answer) → waits_at p c answer (Write (heads.Walks h top place after) then_) ≡ true
       → tick_with p i seat c answer (Write (heads.Walks h top place after) then_) ≡ with_program (Write (heads.Walks h top place after) then_)
-  walk_stays h top place after then_ answer is = let found : ℕ = slice_index c.words (next_index p (slot_of place)) in
-      ap₂ (λ (b : Bool) (ws : List ℕ). with_seat i (cond b (Write (heads.Walks h top place after) then_) (Do (ReverseNext (slot_of place) after) (λ _. cond (eqb found h.last)
-      (TakeMessage (slot_of place) (λ heading bytes. Write (heads.Puts (record h { last = top }) place heading bytes 0 false) then_)) (Write (heads.Walks h top found place) then_)))) seat.hand ws c.homes c)
-      is (set-get_or c.words (next_index p (slot_of place)) 0) ∙ again (Write (heads.Walks h top place after) then_) refl
+  walk_stays h top place after then_ answer is = let found : ℕ = slice_index c.words (next_index p (ticket_request place)) in
+      ap₂ (λ (b : Bool) (ws : List ℕ). with_seat i (cond b (Write (heads.Walks h top place after) then_) (Do (ReverseNext (ticket_request place) after) (λ _. cond (eqb found h.last)
+      (TakeMessage (ticket_request place) (λ heading bytes. Write (heads.Puts (record h { last = top }) place heading bytes 0 false) then_)) (Write (heads.Walks h top found place) then_)))) seat.hand ws c.homes c)
+      is (set-get_or c.words (next_index p (ticket_request place)) 0) ∙ again (Write (heads.Walks h top place after) then_) refl
 
   -- an id that is sought is locked
   locking_stays : (j : ℕ) (sought : Sought) (found : ℕ) (k : Locking → Program) → (is_sought sought (parts found) && not (eqb (parts found).state 1)) ≡ true → locking j sought found k ≡ Round (Locks j sought std.None) k
@@ -128,14 +129,14 @@ module _ {links requests : ℕ} {m : Memory} {t : Tokens} {log : List Entry} {fr
   before_small zero inside = omega arith
   before_small (suc n) inside = let e = nth_some (on k log) n (omega (arith, inside)) in let size = in_size s k n e.0 e.1 in omega (arith, e.2, size.1, size.2, narrow)
 
-  pub walk_waits : (top place after : ℕ) → r.stage ≡ stages.Walks top place after → m.next (slot_of place) ≡ UNCONNECTED → t.loose (slot_of place) ≢ []
+  pub walk_waits : (top place after : ℕ) → r.stage ≡ stages.Walks top place after → m.next (ticket_request place) ≡ UNCONNECTED → t.loose (ticket_request place) ≢ []
   walk_waits top place after stage unconnected none_ =
       let h : Held m t (on k log) (freed k) (places k) r = (held_of s k r kl has).1 in let n = h.counts in let f = h.fits in
       let walk : OnWalk (on k log) n (freed k) (places k) top place after = subst (InStage m t (on k log) n (freed k) (places k)) stage h.stage_is in
       let some_left = walk.some_left in let all_freed = walk.all_freed in
       let j : ℕ = n.left - 1 in let is : suc (n.left - 1) ≡ n.left = omega (arith, some_left) in
       let a = nth_some (on k log) (n.left - 1) (omega (arith, some_left, f.2, f.3)) in let e : Entry = a.0 in let size = in_size s k (n.left - 1) a.0 a.1 in
-      let slot : slot_of place ≡ a.0.request = ap slot_of (sym walk.at_is ∙ (ap (λ y. nth (on k log) y) (sym is) ∙ a.2)) ∙ slot_is a.0 (omega (arith, size.1, narrow)) in
+      let slot : ticket_request place ≡ a.0.request = ap ticket_request (sym walk.at_is ∙ (ap (λ y. nth (on k log) y) (sym is) ∙ a.2)) ∙ slot_is a.0 (omega (arith, size.1, narrow)) in
       is_loose a.0 (m.next a.0.request) (t.loose a.0.request) ((h.points (n.left - 1) a.0 (omega (arith, all_freed.0, some_left)) a.1).unturned (omega (arith, some_left)) (omega (arith, some_left)))
       (omega (arith, before_small (n.left - 1) (omega (arith, f.2, f.3)), s.chained k (n.left - 1) a.0 a.1)) (ap m.next (sym slot) ∙ unconnected) (ap t.loose (sym slot) ∙ none_)
 
@@ -177,7 +178,7 @@ module _ (p : Plan) (c : Core) (vs : List View) (sound : Sound p c vs) (ahead : 
   -- so no writer waits
   waits_aside : (j : ℕ) (v : View) → get_elem? vs j ≡ some v → (program : Program) (answer : Answer) → GoesOn p v program → answer ≢ OfReady NotYet → waits_at p c answer program ≡ true → (head : Head) × (next : Exit head → Program) × (program ≡ Round head next)
   waits_aside j v at (Write (heads.Walks h top place after) then_) answer goes always_ready is = let r : Right = goes.0.0 in let has = ap (λ (rs : List Right). get_elem? rs 0) goes.0.1.one in let o = sound.lawful in
-      absurd (walk_waits o.chains r.link r (right_in o j 0 v r at has) (right_alone o j 0 v r at has) o.fits.narrow top place after goes.0.2.stage_is (eqb-true _ UNCONNECTED is) (all_connected (slot_of place)))
+      absurd (walk_waits o.chains r.link r (right_in o j 0 v r at has) (right_alone o j 0 v r at has) o.fits.narrow top place after goes.0.2.stage_is (eqb-true _ UNCONNECTED is) (all_connected (ticket_request place)))
   waits_aside j v at (Write (heads.Waits h now heading left taken) after) (OfReady NotYet) goes always_ready is = absurd (always_ready refl)
   waits_aside j v at (Write (heads.Waits h now heading left taken) after) _ goes always_ready is = absurd (true≢false (sym is))
   waits_aside j v at (Round head next) answer goes always_ready is = (head, next, refl)

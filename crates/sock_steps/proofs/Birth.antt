@@ -16,7 +16,7 @@ use Rattle.sock_model.specs.declared.view.View.{View}
 use Rattle.sock_model.specs.Weights.{total, only, pair, is_busy, is_stage, is_reset, is_recycled, is_hold, is_freer, is_failer, is_linked, is_met}
 use Rattle.sock_model.specs.Marks.{about, at, without_at}
 use Rattle.sock_model.specs.Layout.{ref_index, head_index, request_index, next_index, place_index}
-use Rattle.sock_model.specs.Slots.{version_of, count}
+use Rattle.sock_model.specs.Slots.{count}
 use Rattle.sock_model.specs.References.{slot_facts}
 use Rattle.sock_model.specs.SlotRows.{marks_of, gave_birth, staged}
 use Rattle.sock_model.specs.Entries.{on}
@@ -39,6 +39,7 @@ use Rattle.sock_steps.proofs.Places.{counts, own_count, given_more, failed_more,
 use Rattle.sock_steps.proofs.SlotFrame.{still_holds, ChainWords, head_is, whole_law, slot_frame}
 use Rattle.sock_steps.proofs.SlotSteps.{low_words}
 use Rattle.sock_steps.proofs.Maps.{put, put-here, put-at, put-else, is_none, no_members}
+use Rattle.sock_model.specs.sock_words.specs.Words.{vref_version}
 
 stage_busy : (n k : ℕ) (x : Mark) → is_stage n k x ≤ is_busy x
 stage_busy n k (Claimed a b) = pair_le n k a b
@@ -75,7 +76,7 @@ module _ {S : Type 0} (shows : S → Home) (p : Plan) (s : State S View) (o : La
     found = get_or s.words (ref_index i) 0
 
     abbrev h : ℕ
-    h = version_of found
+    h = vref_version found
 
     abbrev rest : List SlotMark
     rest = without_at i (is_stage 3 k) v.marks

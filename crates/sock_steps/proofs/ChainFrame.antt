@@ -17,7 +17,7 @@ use Rattle.sock_model.specs.Entries.{on}
 use Rattle.sock_model.specs.Weights.{total, only, is_linked, is_freer, is_failer, is_born, is_busy, is_reset, is_recycled, is_met}
 use Rattle.sock_model.specs.Marks.{about, says}
 use Rattle.sock_model.specs.Layout.{name_index, open_index, place_index}
-use Rattle.sock_model.specs.Slots.{SlotFacts, version_of, nref_of, live, count, SlotLaw}
+use Rattle.sock_model.specs.Slots.{SlotFacts, live, count, SlotLaw}
 use Rattle.sock_model.specs.References.{uses_of, uses_link, sayers, spare, slot_facts, Names, Stores, References}
 use Rattle.sock_model.specs.SlotRows.{marks_of}
 use Rattle.sock_model.specs.Chains.{Chains}
@@ -34,6 +34,7 @@ use Rattle.chain_steps.proofs.Delivers.{delivers_failed}
 use Rattle.sock_steps.proofs.Steady.{Steady}
 use Rattle.sock_steps.proofs.Places.{given_to, given_from, lives_to, lives_from, failed_to, busy_idle, one_link}
 use Rattle.sock_steps.proofs.Words.{Beside}
+use Rattle.sock_model.specs.sock_words.specs.Words.{vref_version, vref_nref}
 
 -- all that the slots read of a view
 pub record SameSlots (v w : View) : Type 0 where
@@ -90,7 +91,7 @@ module _ {S : Type 0} (shows : S → Home) (p : Plan) (s : State S View) (o : La
 
   local_same : (i : ℕ) → i < p.slots → slot_facts t i ≡ slot_facts s i
   local_same i l = let e₀ = beside.tags i l in let e₁ = beside.refs i l in let e₂ = beside.links i l in let e₄ = beside.codes i l in let e₅ = marks_same i in
-      λ q. record { tag = e₀ q; version = version_of (e₁ q); nref = nref_of (e₁ q); link = e₂ q; code = e₄ q; marks = e₅ q }
+      λ q. record { tag = e₀ q; version = vref_version (e₁ q); nref = vref_nref (e₁ q); link = e₂ q; code = e₄ q; marks = e₅ q }
 
   names_same : (word : ℕ) → Names p s word → Names p t word
   names_same word a ne = let r = a ne in (r.0, subst (λ (l : SlotFacts). 0 < count (is_born ((word - 1) / 4294967296)) l) (sym (local_same ((word - 1) % 4294967296) r.0)) r.1)

@@ -16,7 +16,7 @@ use Rattle.sock_model.specs.declared.view.View.{View}
 use Rattle.sock_model.specs.Weights.{total, only, is_busy, is_zero, is_reset, is_recycled, is_hold, is_freer, is_failer, is_linked, is_met}
 use Rattle.sock_model.specs.Marks.{about, at, without_at}
 use Rattle.sock_model.specs.Layout.{ref_index, head_index}
-use Rattle.sock_model.specs.Slots.{version_of, nref_of, count}
+use Rattle.sock_model.specs.Slots.{count}
 use Rattle.sock_model.specs.References.{slot_facts, References}
 use Rattle.sock_model.specs.SlotRows.{marks_of, recycled}
 use Rattle.sock_model.specs.Reads.{rights_on, claims_of, loose_at, head_at, memory, tokens, link_at, waits_of, hands_of}
@@ -36,6 +36,7 @@ use Rattle.sock_steps.proofs.Places.{counts, own_count, given_more, failed_more,
 use Rattle.sock_steps.proofs.SlotFrame.{still_holds, ChainWords, head_is, whole_law}
 use Rattle.sock_steps.proofs.SlotSteps.{low_words}
 use Rattle.sock_steps.proofs.Maps.{put, put-here, put-at, put-else, no_members, gather_nil, took_some}
+use Rattle.sock_model.specs.sock_words.specs.Words.{vref_version, vref_nref}
 
 module _ {S : Type 0} (shows : S → Home) (p : Plan) (s : State S View) (o : Lawful shows p s) where
   -- where nobody refers to a slot, nobody has the right to write its link
@@ -48,9 +49,9 @@ module _ {S : Type 0} (shows : S → Home) (p : Plan) (s : State S View) (o : La
       let some_ = held_nref p s o.references id u c.1 c.2 at_u c.3.inside c.3.held in omega (arith, ap (λ y. (slot_facts s y).nref) same)))
 
 module _ {S : Type 0} (shows : S → Home) (p : Plan) (s : State S View) (o : Lawful shows p s) (id : ℕ) (v : View) (here : get_elem? s.views id ≡ some v) (i : ℕ) (inside : i < p.slots)
-    (fits : get_or s.words (ref_index i) 0 < 18446744073709551616) (from : ℕ) (hit : get_or s.words (ref_index i) 0 ≡ from) (odd : version_of from % 2 ≡ 1) (last : nref_of from ≡ 0) (there : 0 < marks_of (is_zero (version_of from)) i v) where
+    (fits : get_or s.words (ref_index i) 0 < 18446744073709551616) (from : ℕ) (hit : get_or s.words (ref_index i) 0 ≡ from) (odd : vref_version from % 2 ≡ 1) (last : vref_nref from ≡ 0) (there : 0 < marks_of (is_zero (vref_version from)) i v) where
   abbrev x : ℕ
-  x = version_of from
+  x = vref_version from
 
   abbrev g : ℕ
   g = x - 1
@@ -74,7 +75,7 @@ module _ {S : Type 0} (shows : S → Home) (p : Plan) (s : State S View) (o : La
   t = record { words = ws; homes = s.homes; views = set s.views id w }
 
   version_is : (slot_facts s i).version ≡ x
-  version_is = ap version_of hit
+  version_is = ap vref_version hit
 
   lives : Lives p s i g k
   lives = let law = o.references.slots i inside in let e = version_is in let q : (slot_facts s i).version - 1 ≡ g = omega arith in record {
@@ -89,7 +90,7 @@ module _ {S : Type 0} (shows : S → Home) (p : Plan) (s : State S View) (o : La
   k_in = o.in_slots.small i g k lives.life
 
   gone : (tokens s.views).rights k ≡ []
-  gone = unwritten shows p s o i g k lives (ap nref_of hit ∙ last)
+  gone = unwritten shows p s o i g k lives (ap vref_nref hit ∙ last)
 
   more : (f : Mark → ℕ) → f (Zero x) ≡ 0 → More f v.marks all
   more f z = more_add f v.marks i (Recycling (x + 1)) (at i (Freer (x - 1)) ∷ rest) (more_add f v.marks i (Freer (x - 1)) rest (more_without f v.marks i (is_zero x) (λ y q. ap f (zero_is x y q) ∙ z)))

@@ -13,7 +13,7 @@ use Rattle.sock_model.specs.declared.home.Home.TheVariants.{Empty, Link, Message
 use Rattle.sock_model.specs.sock_words.specs.declared.plain.Plan.{Plan}
 use Rattle.sock_model.specs.declared.view.View.{View}
 use Rattle.sock_model.specs.Layout.{place_index, ref_index}
-use Rattle.sock_model.specs.Slots.{version_of, count}
+use Rattle.sock_model.specs.Slots.{count}
 use Rattle.sock_model.specs.References.{slot_facts}
 use Rattle.sock_model.specs.SlotRows.{looked}
 use Rattle.sock_model.specs.Weights.{is_busy, is_hold, is_failer}
@@ -40,6 +40,7 @@ use Rattle.sock_steps.proofs.Words.{beside_all}
 use Rattle.sock_steps.proofs.RightSteps.{right_in, right_alone, right_slot, rights_after, claims_after, loose_after, right_base, right_moves}
 use Rattle.sock_steps.proofs.Steady.{looked_steady}
 use Rattle.sock_steps.proofs.SlotSteps.{look_law}
+use Rattle.sock_model.specs.sock_words.specs.Words.{vref_version}
 
 module _ {S : Type 0} (shows : S → Home) (p : Plan) (s : State S View) (o : Lawful shows p s) (id : ℕ) (v : View) (at : get_elem? s.views id ≡ some v) (x : HasRight v) where
   kl : x.right.link < p.links
@@ -147,7 +148,7 @@ module _ {S : Type 0} (shows : S → Home) (p : Plan) (s : State S View) (o : La
 
 -- A8 of whoever writes a link, where the life in its slot is live
 pub clean_look_law : {S : Type 0} (shows : S → Home) (p : Plan) (s : State S View) (o : Lawful shows p s) (id : ℕ) (v : View) → get_elem? s.views id ≡ some v → (x : HasRight v) (i h : ℕ) → HoldsLink p v i h x.right.link
-    → get_or s.words (ref_index i) 0 < 18446744073709551616 → version_of (get_or s.words (ref_index i) 0) % 2 ≡ 0
+    → get_or s.words (ref_index i) 0 < 18446744073709551616 → vref_version (get_or s.words (ref_index i) 0) % 2 ≡ 0
     → Lawful shows p (stepped s (ref_index i) (get_or s.words (ref_index i) 0) id [] (with_right (looked i (get_or s.words (ref_index i) 0) v) (record x.right { clean = true })) keeps)
 clean_look_law {S} shows p s o id v at x i h holds fits even =
     let f : ℕ = get_or s.words (ref_index i) 0 in let w : View = looked i (get_or s.words (ref_index i) 0) v in
@@ -155,5 +156,5 @@ clean_look_law {S} shows p s o id v at x i h holds fits even =
     let o' = look_law shows p s o id v at i holds.inside fits in let st = looked_steady v i (get_or s.words (ref_index i) 0) in let a = holds.held in let b = holds.met in
     let words : set s.words (ref_index i) (get_or s.words (ref_index i) 0) ≡ s.words = set-get_or s.words (ref_index i) 0 in
     let last = clean_law shows p t o' id w (set_at s.views id w (at_length s.views id v at)) record { right = x.right; place = x.place; has = x.has } i h
-    record { inside = holds.inside; held = omega (arith, st.1.hold i h); met = omega (arith, st.0.0.met i h x.right.link) } (ap (λ ws. version_of (get_or ws (ref_index i) 0) % 2) words ∙ even) in
+    record { inside = holds.inside; held = omega (arith, st.1.hold i h); met = omega (arith, st.0.0.met i h x.right.link) } (ap (λ ws. vref_version (get_or ws (ref_index i) 0) % 2) words ∙ even) in
     subst (λ vs. Lawful shows p record { words = set s.words (ref_index i) (get_or s.words (ref_index i) 0); homes = s.homes; views = vs }) (set_twice s.views id w (with_right w (record x.right { clean = true }))) last

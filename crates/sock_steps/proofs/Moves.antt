@@ -8,7 +8,6 @@ use Rattle.sock_model.specs.declared.chain.Heading.{Heading}
 use Rattle.sock_model.specs.declared.home.Home.{Home}
 use Rattle.sock_model.specs.declared.home.Home.TheVariants.{Link, Message}
 use Rattle.sock_model.specs.declared.view.View.{View}
-use Rattle.sock_model.specs.Entries.{slot_of}
 use Rattle.sock_model.specs.ChainRows.{with_claim, filled_claim, with_right, taken_right}
 use Rattle.sock_model.specs.Conditions.{HasClaim, HasRight, MayTake}
 use Rattle.sock_model.specs.Lawful.{Lawful}
@@ -16,6 +15,7 @@ use Rattle.chain_steps.proofs.Lists.{at_length}
 use Rattle.sock_steps.proofs.ClaimSteps.{filling_law}
 use Rattle.sock_steps.proofs.WriteSteps.{taking_law}
 use Rattle.sock_steps.proofs.LinkSteps.{link_goes_law, link_comes_law, link_home_law}
+use Rattle.sock_model.specs.sock_words.specs.Words.{ticket_request}
 
 module _ (p : Plan) (s : State Home View) (o : Lawful (λ home. home) p s) (id : ℕ) (v : View) (here : get_elem? s.views id ≡ some v) where
   -- M1: the message of the claim goes home
@@ -24,8 +24,8 @@ module _ (p : Plan) (s : State Home View) (o : Lawful (λ home. home) p s) (id :
   message_comes_law r x heading bytes long = filling_law o id r v x.claim (filled_claim x.claim heading bytes) here x.request_in x.claims x.request_is x.request_is (Message heading bytes) refl long refl refl
 
   -- M2: the message of the first entry without a place is taken from its home
-  pub message_goes_law : (x : MayTake v) → (heading : Heading) × (bytes : List ℕ) × (get_elem? s.homes (slot_of x.now) ≡ some (some (Message heading bytes)))
-      × Lawful (λ home. home) p record { words = s.words; homes = set s.homes (slot_of x.now) none; views = set s.views id (with_right v (taken_right x.mine.right heading bytes)) }
+  pub message_goes_law : (x : MayTake v) → (heading : Heading) × (bytes : List ℕ) × (get_elem? s.homes (ticket_request x.now) ≡ some (some (Message heading bytes)))
+      × Lawful (λ home. home) p record { words = s.words; homes = set s.homes (ticket_request x.now) none; views = set s.views id (with_right v (taken_right x.mine.right heading bytes)) }
   message_goes_law x = let a = taking_law (λ home. home) p id v x s o here in
       (a.1, a.2, a.3 ∙ ap (λ (y : Home). some (some y)) a.4, a.5 none refl)
 

@@ -11,7 +11,6 @@ use Rattle.sock_model.specs.declared.chain.Stage.{Stage}
 use Rattle.sock_model.specs.declared.home.Home.{Home}
 use Rattle.sock_model.specs.declared.view.View.{View}
 use Rattle.sock_model.specs.Layout.{head_index, request_index, next_index, place_index}
-use Rattle.sock_model.specs.Entries.{slot_of, generation_of}
 use Rattle.sock_model.specs.Memory.{IDLE}
 use Rattle.sock_model.specs.ChainRows.{with_claim, without_loose, with_right, without_right, turned_right, entry_of, queued, righted}
 use Rattle.sock_model.specs.Conditions.{MayExchange, MayEmpty, MayTurn}
@@ -23,6 +22,7 @@ use Rattle.sock_steps.proofs.ClaimSteps.{claiming_law, connecting_law}
 use Rattle.sock_steps.proofs.WalkSteps.{emptied_law, turning_law}
 use Rattle.sock_steps.proofs.WriteSteps.{freeing_law}
 use Rattle.sock_steps.proofs.RuleFrame.{lasting_in, SameNotes, word_rule, still_rule, accept_rule}
+use Rattle.sock_model.specs.sock_words.specs.Words.{ticket_request, ticket_generation}
 
 -- a word of a slot, and a next word or place word, is no lasting one
 low_apart : (p : Plan) (x : ℕ) → x < 6 * p.slots → ¬ Lasting p x
@@ -68,14 +68,14 @@ module _ {S : Type 0} {shows : S → Home} {p : Plan} {s : State S View} (r : Ru
   emptied_rule i last empty x inside won = apart_rule (head_index i) empty (low_apart p (head_index i) (omega arith)) (without_right v x.mine.right.link) s.homes record { plan = refl; found = refl; lists = refl } (emptied_law shows p s o id i last empty v here x won)
 
   -- C6
-  pub turning_rule : (value : ℕ) (x : MayTurn v value) → Rule shows p record { words = set s.words (next_index p (slot_of x.at)) value; homes = s.homes; views = set s.views id (with_right v (turned_right x.mine.right x.top x.at x.before)) }
+  pub turning_rule : (value : ℕ) (x : MayTurn v value) → Rule shows p record { words = set s.words (next_index p (ticket_request x.at)) value; homes = s.homes; views = set s.views id (with_right v (turned_right x.mine.right x.top x.at x.before)) }
   turning_rule value x = let w : Right = turned_right x.mine.right x.top x.at x.before in
-      apart_rule (next_index p (slot_of x.at)) value (high_apart p (next_index p (slot_of x.at)) (omega arith)) (with_right v (turned_right x.mine.right x.top x.at x.before)) s.homes record { plan = refl; found = refl; lists = refl } (turning_law shows p s o id value v here x)
+      apart_rule (next_index p (ticket_request x.at)) value (high_apart p (next_index p (ticket_request x.at)) (omega arith)) (with_right v (turned_right x.mine.right x.top x.at x.before)) s.homes record { plan = refl; found = refl; lists = refl } (turning_law shows p s o id value v here x)
 
   -- C8
-  pub freeing_rule : (i now : ℕ) (b : Stage) (right : Right) → get_elem? v.rights i ≡ some right → Leads right.last right.stage now b → generation_of now < 140737488355327
-      → Rule shows p record { words = set s.words (request_index p (slot_of now)) (2 * (generation_of now + 1)); homes = s.homes; views = set s.views id (with_right v (record right { stage = b })) }
-  freeing_rule i now b right has leads small = word_rule r id v here mine (with_right v (record right { stage = b })) (request_index p (slot_of now)) (2 * (generation_of now + 1)) s.homes record { plan = refl; found = refl; lists = refl } (λ l z. absurd (omega arith))
+  pub freeing_rule : (i now : ℕ) (b : Stage) (right : Right) → get_elem? v.rights i ≡ some right → Leads right.last right.stage now b → ticket_generation now < 140737488355327
+      → Rule shows p record { words = set s.words (request_index p (ticket_request now)) (2 * (ticket_generation now + 1)); homes = s.homes; views = set s.views id (with_right v (record right { stage = b })) }
+  freeing_rule i now b right has leads small = word_rule r id v here mine (with_right v (record right { stage = b })) (request_index p (ticket_request now)) (2 * (ticket_generation now + 1)) s.homes record { plan = refl; found = refl; lists = refl } (λ l z. absurd (omega arith))
       (freeing_law shows p id i now b v right s o here has leads small)
 
   -- the right's other steps: C4 lost, C5, M2, A8, L1 and L2 change no word, and P1 a place word

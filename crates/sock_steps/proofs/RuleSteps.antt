@@ -10,7 +10,7 @@ use Rattle.sock_model.specs.declared.view.View.{View}
 use Rattle.sock_model.specs.declared.view.Hand.{Hand}
 use Rattle.sock_model.specs.Weights.{total, only, is_ref, is_any_coding, is_stage, is_recycled, is_hold, is_known, is_zero, is_coding, is_born}
 use Rattle.sock_model.specs.Layout.{tag_index, ref_index, link_index, head_index, code_index, name_index, open_index}
-use Rattle.sock_model.specs.Slots.{version_of, nref_of, count}
+use Rattle.sock_model.specs.Slots.{count}
 use Rattle.sock_model.specs.References.{slot_facts}
 use Rattle.sock_model.specs.SlotRows.{marks_of, claimed, gave_birth, added, back, subbed, failed, recycled, freed, looked, linked, staged, coded, told_code, met, wrote, met_link}
 use Rattle.sock_model.specs.ChainRows.{with_hand, without_hand, spent_hand}
@@ -22,6 +22,7 @@ use Rattle.sock_steps.proofs.Birth.{reset_law, birth_law}
 use Rattle.sock_steps.proofs.End.{recycle_law}
 use Rattle.sock_steps.proofs.RuleFrame.{lasting_in, Lasts, lasts_all, SameNotes, same_rule, word_rule, still_rule}
 use Rattle.sock_steps.proofs.Noting.{step_notes}
+use Rattle.sock_model.specs.sock_words.specs.Words.{vref_version, vref_nref}
 
 module _ {S : Type 0} {shows : S → Home} {p : Plan} {s : State S View} (r : Rule shows p s) (id : ℕ) (v : View) (here : get_elem? s.views id ≡ some v) (mine : v.plan ≡ p) where
   abbrev o : Lawful shows p s
@@ -49,7 +50,7 @@ module _ {S : Type 0} {shows : S → Home} {p : Plan} {s : State S View} (r : Ru
       birth_rule k there = slot_rule (ref_index i) ((found + 1) % 2 ^ 64) (omega arith) (gave_birth i found k v) record { plan = refl; found = refl; lists = refl } (birth_law shows p s o id v here i inside fits k there)
 
       -- A3
-      pub add_rule : (is_life : Bool) → (is_life ≡ true → 0 < marks_of (is_known (version_of found)) i v) → marks_of is_ref i v < 65540 → Rule shows p (stepped s (ref_index i) ((found + 1) % 2 ^ 64) id [] (added i found is_life v) keeps)
+      pub add_rule : (is_life : Bool) → (is_life ≡ true → 0 < marks_of (is_known (vref_version found)) i v) → marks_of is_ref i v < 65540 → Rule shows p (stepped s (ref_index i) ((found + 1) % 2 ^ 64) id [] (added i found is_life v) keeps)
       add_rule is_life known room = slot_rule (ref_index i) ((found + 1) % 2 ^ 64) (omega arith) (added i found is_life v) record { plan = refl; found = refl; lists = refl } (add_law shows p s o id v here i inside fits is_life known room)
 
       -- A4
@@ -61,11 +62,11 @@ module _ {S : Type 0} {shows : S → Home} {p : Plan} {s : State S View} (r : Ru
       set_odd_rule h there room = slot_rule (ref_index i) (bit_or found 4294967296) (omega arith) (failed i found v) record { plan = refl; found = refl; lists = refl } (set_odd_law shows p s o id v here i inside fits h there room)
 
       -- A6, lost and won
-      pub recycle_lost_rule : (from : ℕ) → found ≢ from → nref_of from ≡ 0 → 0 < marks_of (is_zero (version_of from)) i v → Rule shows p (stepped s (ref_index i) found id [] (recycled i from found v) keeps)
+      pub recycle_lost_rule : (from : ℕ) → found ≢ from → vref_nref from ≡ 0 → 0 < marks_of (is_zero (vref_version from)) i v → Rule shows p (stepped s (ref_index i) found id [] (recycled i from found v) keeps)
       recycle_lost_rule from miss last there = slot_rule (ref_index i) found (omega arith) (recycled i from found v) record { plan = refl; found = refl; lists = refl } (recycle_lost_law shows p s o id v here i inside fits from miss last there)
 
-      pub recycle_rule : (from : ℕ) → found ≡ from → version_of from % 2 ≡ 1 → nref_of from ≡ 0 → 0 < marks_of (is_zero (version_of from)) i v → Rule shows p (stepped s (ref_index i) ((version_of from + 1) * 4294967296) id [] (recycled i from found v) keeps)
-      recycle_rule from hit odd last there = slot_rule (ref_index i) ((version_of from + 1) * 4294967296) (omega arith) (recycled i from found v) record { plan = refl; found = refl; lists = refl } (recycle_law shows p s o id v here i inside fits from hit odd last there)
+      pub recycle_rule : (from : ℕ) → found ≡ from → vref_version from % 2 ≡ 1 → vref_nref from ≡ 0 → 0 < marks_of (is_zero (vref_version from)) i v → Rule shows p (stepped s (ref_index i) ((vref_version from + 1) * 4294967296) id [] (recycled i from found v) keeps)
+      recycle_rule from hit odd last there = slot_rule (ref_index i) ((vref_version from + 1) * 4294967296) (omega arith) (recycled i from found v) record { plan = refl; found = refl; lists = refl } (recycle_law shows p s o id v here i inside fits from hit odd last there)
 
       -- A8, without a right
       pub look_rule : Rule shows p (stepped s (ref_index i) found id [] (looked i found v) keeps)

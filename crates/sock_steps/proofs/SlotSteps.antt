@@ -17,7 +17,7 @@ use Rattle.sock_model.specs.declared.view.View.{View}
 use Rattle.sock_model.specs.Weights.{total, only, is_ref, is_probe, is_any_coding, is_stage, is_reset, is_recycled, is_hold, is_known, is_zero, is_coding, is_met, is_born}
 use Rattle.sock_model.specs.Marks.{about, at, without, without_at}
 use Rattle.sock_model.specs.Layout.{tag_index, ref_index, link_index, head_index, code_index, request_index, next_index, place_index, name_index, open_index}
-use Rattle.sock_model.specs.Slots.{version_of, nref_of, count}
+use Rattle.sock_model.specs.Slots.{count}
 use Rattle.sock_model.specs.References.{slot_facts, References}
 use Rattle.sock_model.specs.SlotRows.{marks_of, claimed, added, back, subbed, failed, recycled, freed, looked, linked, staged, coded, told_code, met, wrote, met_link}
 use Rattle.sock_model.specs.Memory.{IDLE}
@@ -34,6 +34,7 @@ use Rattle.sock_steps.proofs.Quiet.{either_way}
 use Rattle.sock_steps.proofs.Steady.{Steady, NoReset, Holds, SameChain, added_steady, added_holds, subbed_steady, subbed_recycling, subbed_else, failed_steady, failed_holds, looked_steady, met_steady, met_link_steady, claimed_steady, freed_steady, lost_steady, coded_steady, told_steady, wrote_steady, staged_steady, staged_reset, linked_steady}
 use Rattle.sock_steps.proofs.Places.{counts}
 use Rattle.sock_steps.proofs.SlotFrame.{still_holds, ChainWords, slot_frame}
+use Rattle.sock_model.specs.sock_words.specs.Words.{vref_version, vref_nref}
 
 -- the rights of the seat that have their life in slot i keep a reference to it
 abbrev pub KeepsRights : ℕ → View → Type 0
@@ -49,8 +50,8 @@ hold_le h _ = omega arith
 
 module _ (i found : ℕ) (v : View) (some_ref : 0 < marks_of is_ref i v) where
   sub_hold : (g : Mark → ℕ) (h : ℕ) → total (is_hold h) (without g (about i v.marks)) ≤ marks_of (is_hold h) i (subbed i found g v)
-  sub_hold g h = let x : ℕ = version_of found in let r : List SlotMark = without_at i g v.marks in let q = ap (total (is_hold h)) (about-without i g v.marks) in
-      conds (eqb (x % 2) 1) (eqb (nref_of found) 1) (at i (Zero x) ∷ r) r (λ es. total (is_hold h) (without g (about i v.marks)) ≤ total (is_hold h) (about i es)) (let a = ap (total (is_hold h)) (about-here i (Zero x) r) in omega arith) (omega arith)
+  sub_hold g h = let x : ℕ = vref_version found in let r : List SlotMark = without_at i g v.marks in let q = ap (total (is_hold h)) (about-without i g v.marks) in
+      conds (eqb (x % 2) 1) (eqb (vref_nref found) 1) (at i (Zero x) ∷ r) r (λ es. total (is_hold h) (without g (about i v.marks)) ≤ total (is_hold h) (about i es)) (let a = ap (total (is_hold h)) (about-here i (Zero x) r) in omega arith) (omega arith)
 
   -- where a reference to the word goes, or one of two to a life, the life stays held
   pub sub_keeps_hold : (g : Mark → ℕ) (h : ℕ) → 0 < marks_of g i v → 0 < marks_of (is_hold h) i v → ((x : Mark) → 0 < g x → is_hold h x ≡ 0) ⊎ (1 < marks_of (is_hold h) i v) → 0 < marks_of (is_hold h) i (subbed i found g v)
@@ -87,14 +88,14 @@ module _ {S : Type 0} (shows : S → Home) (p : Plan) (s : State S View) (o : La
 
     module _ (fits : found < 18446744073709551616) where
       -- A3
-      pub add_law : (is_life : Bool) → (is_life ≡ true → 0 < marks_of (is_known (version_of found)) i v) → marks_of is_ref i v < 65540 → Lawful shows p (stepped s (ref_index i) ((found + 1) % 2 ^ 64) id [] (added i found is_life v) keeps)
+      pub add_law : (is_life : Bool) → (is_life ≡ true → 0 < marks_of (is_known (vref_version found)) i v) → marks_of is_ref i v < 65540 → Lawful shows p (stepped s (ref_index i) ((found + 1) % 2 ^ 64) id [] (added i found is_life v) keeps)
       add_law is_life known room = slot_law (ref_index i) ((found + 1) % 2 ^ 64) (omega arith) (λ j jl e. omega arith) (added i found is_life v) refl (added_steady v i found is_life, added_holds v i found is_life)
           (add_ref_keeps p s o.references id v here [] keeps i inside fits is_life known room)
 
       -- A4, where each right of the seat keeps its life
       pub sub_law : 0 < marks_of is_ref i v → marks_of is_any_coding i v ≡ 0 → KeepsRights i v → Lawful shows p (stepped s (ref_index i) ((found + (2 ^ 64 - 1)) % 2 ^ 64) id [] (subbed i found (back i found v) v) keeps)
       sub_law there idle mine = let g : Mark → ℕ = back i found v in let w : View = subbed i found (back i found v) v in let n : ℕ = (found + (2 ^ 64 - 1)) % 2 ^ 64 in
-          let x : ℕ = version_of found in let kind : (y : Mark) → 0 < back i found v y → IsRef y = either_way (nat_lt 0 (marks_of is_probe i v)) is_probe (is_hold (x - x % 2)) (λ (f : Mark → ℕ). (y : Mark) → 0 < f y → IsRef y) probe-ref (hold-ref (x - x % 2)) in
+          let x : ℕ = vref_version found in let kind : (y : Mark) → 0 < back i found v y → IsRef y = either_way (nat_lt 0 (marks_of is_probe i v)) is_probe (is_hold (x - x % 2)) (λ (f : Mark → ℕ). (y : Mark) → 0 < f y → IsRef y) probe-ref (hold-ref (x - x % 2)) in
           let st = subbed_steady v i found (back i found v) kind in
           let held : HoldsRights p (subbed i found (back i found v) v) = λ y r e. let b = o.held id v here y r e in let c = b.3 in let ch = c.held in let cm = c.met in (
             b.0,
@@ -115,11 +116,11 @@ module _ {S : Type 0} (shows : S → Home) (p : Plan) (s : State S View) (o : La
         where
           kept_hold : (h : ℕ) → 0 < marks_of is_ref i v → 0 < marks_of (is_hold h) i v → (0 < marks_of is_probe i v) ⊎ (1 < marks_of (is_hold h) i v) → 0 < marks_of (is_hold h) i (subbed i found (back i found v) v)
           kept_hold h some_ held how = dite (dec_le (marks_of is_probe i v) 0)
-              (λ none_. let is : back i found v ≡ is_hold (version_of found - version_of found % 2) = ap (λ b. cond b is_probe (is_hold (version_of found - version_of found % 2))) (le-ltb 0 (marks_of is_probe i v) none_) in
+              (λ none_. let is : back i found v ≡ is_hold (vref_version found - vref_version found % 2) = ap (λ b. cond b is_probe (is_hold (vref_version found - vref_version found % 2))) (le-ltb 0 (marks_of is_probe i v) none_) in
               let h_is = life_found p s o.references id v here [] keeps i inside fits h held in
               subst (λ (f : Mark → ℕ). 0 < marks_of (is_hold h) i (subbed i found f v)) (sym is)
-              (sub_keeps_hold i found v some_ (is_hold (version_of found - version_of found % 2)) h (subst (λ z. 0 < marks_of (is_hold z) i v) h_is held) held (⊎_elim (λ q. absurd (omega arith)) (λ q. inr q) how)))
-              (λ some_p. let is : back i found v ≡ is_probe = ap (λ b. cond b is_probe (is_hold (version_of found - version_of found % 2))) (lt-ltb 0 (marks_of is_probe i v) (omega arith)) in
+              (sub_keeps_hold i found v some_ (is_hold (vref_version found - vref_version found % 2)) h (subst (λ z. 0 < marks_of (is_hold z) i v) h_is held) held (⊎_elim (λ q. absurd (omega arith)) (λ q. inr q) how)))
+              (λ some_p. let is : back i found v ≡ is_probe = ap (λ b. cond b is_probe (is_hold (vref_version found - vref_version found % 2))) (lt-ltb 0 (marks_of is_probe i v) (omega arith)) in
               subst (λ (f : Mark → ℕ). 0 < marks_of (is_hold h) i (subbed i found f v)) (sym is)
               (sub_keeps_hold i found v some_ is_probe h (omega arith) held (inl (λ x q. ap (is_hold h) (probe_is x q)))))
 
@@ -129,7 +130,7 @@ module _ {S : Type 0} (shows : S → Home) (p : Plan) (s : State S View) (o : La
           (set_odd_keeps p s o.references id v here [] keeps i inside fits h there room)
 
       -- A6, lost
-      pub recycle_lost_law : (from : ℕ) → found ≢ from → nref_of from ≡ 0 → 0 < marks_of (is_zero (version_of from)) i v → Lawful shows p (stepped s (ref_index i) found id [] (recycled i from found v) keeps)
+      pub recycle_lost_law : (from : ℕ) → found ≢ from → vref_nref from ≡ 0 → 0 < marks_of (is_zero (vref_version from)) i v → Lawful shows p (stepped s (ref_index i) found id [] (recycled i from found v) keeps)
       recycle_lost_law from miss last there = slot_law (ref_index i) found (omega arith) (λ j jl e. omega arith) (recycled i from found v) refl (lost_steady v i from found miss)
           (recycle_lost_keeps p s o.references id v here [] keeps i inside fits from miss last there)
 

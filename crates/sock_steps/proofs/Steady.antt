@@ -8,7 +8,6 @@ use Rattle.sock_model.specs.declared.marks.SlotMark.{SlotMark}
 use Rattle.sock_model.specs.declared.view.View.{View}
 use Rattle.sock_model.specs.Weights.{total, only, is_failer, is_freer, is_linked, is_met, is_hold, is_zero, is_coding, is_stage, is_recycling, is_recycled, is_reset, is_waiting}
 use Rattle.sock_model.specs.Marks.{about, at, without, without_at}
-use Rattle.sock_model.specs.Slots.{version_of, nref_of}
 use Rattle.sock_model.specs.SlotRows.{marks_of, claimed, added, subbed, failed, recycled, freed, looked, linked, staged, coded, told_code, met, wrote, met_link}
 use Rattle.sock_model.specs.Reads.{waits_link, waits_of}
 use Rattle.slot_steps.proofs.Sums.{taken_as, about-here, about-other}
@@ -17,6 +16,7 @@ use Rattle.slot_steps.proofs.Kept.{conds}
 use Rattle.slot_steps.proofs.Codes.{coding_as}
 use Rattle.slot_steps.proofs.Slots.{IsRef, zero_is, stage_is, any_recycled}
 use Rattle.sock_steps.proofs.Quiet.{either_way, Less, More, less_add, more_add, less_all, more_all, less_without, more_without, Quiet, quiet_linked, quiet_freer, quiet_failer, quiet_reset, waits-without}
+use Rattle.sock_model.specs.sock_words.specs.Words.{vref_version, vref_nref}
 
 -- of lives, links and claims
 pub record Steady (v w : View) : Type 0 where
@@ -63,7 +63,7 @@ module _ (v : View) where
 
   -- A3
   pub added_steady : (i found : ℕ) (b : Bool) → Steady v (added i found b v) × NoReset v (added i found b v)
-  added_steady i found b = let x : ℕ = version_of found in let m : Mark = cond b (Hold x) Probe in
+  added_steady i found b = let x : ℕ = vref_version found in let m : Mark = cond b (Hold x) Probe in
       quiet_row v (added i found b v)
       (λ f q n. less_add f old i m (at i (Saw x) ∷ v.marks) (either_way b (Hold x) Probe (λ y. f y ≡ 0) (q.hold x) q.probe) (less_add f old i (Saw x) old (q.saw x) (less_all f old)))
       (λ f q. more_add f old i m (at i (Saw x) ∷ v.marks) (more_add f old i (Saw x) old (more_all f old)))
@@ -71,34 +71,34 @@ module _ (v : View) where
       (λ k. let z : is_waiting k m ≡ 0 = either_way b (Hold x) Probe (λ y. is_waiting k y ≡ 0) refl refl in omega arith)
 
   pub added_holds : (i found : ℕ) (b : Bool) → Holds v (added i found b v)
-  added_holds i found b = let x : ℕ = version_of found in let m : Mark = cond b (Hold x) Probe in let more : (f : Mark → ℕ) → More f v.marks (added i found b v).marks = λ f. more_add f old i m (at i (Saw x) ∷ v.marks) (more_add f old i (Saw x) old (more_all f old)) in
+  added_holds i found b = let x : ℕ = vref_version found in let m : Mark = cond b (Hold x) Probe in let more : (f : Mark → ℕ) → More f v.marks (added i found b v).marks = λ f. more_add f old i m (at i (Saw x) ∷ v.marks) (more_add f old i (Saw x) old (more_all f old)) in
       record { hold = λ j h. more (is_hold h) j; recycling = λ j y. more (is_recycled y) j }
 
   -- A4
   module _ (i found : ℕ) (g : Mark → ℕ) (kind : (x : Mark) → 0 < g x → IsRef x) where
     sub_more : (f : Mark → ℕ) → f Probe ≡ 0 → ((h : ℕ) → f (Hold h) ≡ 0) → More f v.marks (subbed i found g v).marks
-    sub_more f p h = let x : ℕ = version_of found in let r : List SlotMark = without_at i g v.marks in let keep : More f old r = more_without f old i g (λ y q. (kind y q).1 f p h) in
-        conds (eqb (x % 2) 1) (eqb (nref_of found) 1) (at i (Zero x) ∷ r) r (λ es. More f old es) (more_add f old i (Zero x) r keep) keep
+    sub_more f p h = let x : ℕ = vref_version found in let r : List SlotMark = without_at i g v.marks in let keep : More f old r = more_without f old i g (λ y q. (kind y q).1 f p h) in
+        conds (eqb (x % 2) 1) (eqb (vref_nref found) 1) (at i (Zero x) ∷ r) r (λ es. More f old es) (more_add f old i (Zero x) r keep) keep
 
     pub subbed_steady : Steady v (subbed i found g v) × NoReset v (subbed i found g v)
-    subbed_steady = let x : ℕ = version_of found in let r : List SlotMark = without_at i g v.marks in
+    subbed_steady = let x : ℕ = vref_version found in let r : List SlotMark = without_at i g v.marks in
         quiet_row v (subbed i found g v)
-        (λ f q n. let keep : Less f old r = less_without f old i g in conds (eqb (x % 2) 1) (eqb (nref_of found) 1) (at i (Zero x) ∷ r) r (λ es. Less f old es) (less_add f old i (Zero x) r (q.zeros x) keep) keep)
+        (λ f q n. let keep : Less f old r = less_without f old i g in conds (eqb (x % 2) 1) (eqb (vref_nref found) 1) (at i (Zero x) ∷ r) r (λ es. Less f old es) (less_add f old i (Zero x) r (q.zeros x) keep) keep)
         (λ f q. sub_more f q.probe q.hold)
         (λ h k. sub_more (is_met h k) refl (λ y. refl))
-        (λ k. let le = waits-without k i g v.marks in conds (eqb (x % 2) 1) (eqb (nref_of found) 1) (at i (Zero x) ∷ r) r (λ es. total (only k) v.passes + total (waits_link k) es ≤ waits_of k v) (omega arith) (omega arith))
+        (λ k. let le = waits-without k i g v.marks in conds (eqb (x % 2) 1) (eqb (vref_nref found) 1) (at i (Zero x) ∷ r) r (λ es. total (only k) v.passes + total (waits_link k) es ≤ waits_of k v) (omega arith) (omega arith))
 
     pub subbed_recycling : (j x : ℕ) → marks_of (is_recycled x) j v ≤ marks_of (is_recycled x) j (subbed i found g v)
     subbed_recycling j x = sub_more (is_recycled x) refl (λ y. refl) j
 
     -- the references to lives of another slot stay
     pub subbed_else : (j h : ℕ) → j ≢ i → marks_of (is_hold h) j v ≤ marks_of (is_hold h) j (subbed i found g v)
-    subbed_else j h ne = let x : ℕ = version_of found in let r : List SlotMark = without_at i g v.marks in let keep : total (is_hold h) (about j v.marks) ≤ total (is_hold h) (about j r) = (let q = ap (total (is_hold h)) (about-without_else j i g v.marks ne) in omega arith) in
-        conds (eqb (x % 2) 1) (eqb (nref_of found) 1) (at i (Zero x) ∷ r) r (λ es. total (is_hold h) (about j v.marks) ≤ total (is_hold h) (about j es)) (let q = ap (total (is_hold h)) (about-other j i (Zero x) r ne) in omega arith) keep
+    subbed_else j h ne = let x : ℕ = vref_version found in let r : List SlotMark = without_at i g v.marks in let keep : total (is_hold h) (about j v.marks) ≤ total (is_hold h) (about j r) = (let q = ap (total (is_hold h)) (about-without_else j i g v.marks ne) in omega arith) in
+        conds (eqb (x % 2) 1) (eqb (vref_nref found) 1) (at i (Zero x) ∷ r) r (λ es. total (is_hold h) (about j v.marks) ≤ total (is_hold h) (about j es)) (let q = ap (total (is_hold h)) (about-other j i (Zero x) r ne) in omega arith) keep
 
   -- A5
   pub failed_steady : (i found : ℕ) → Steady v (failed i found v) × NoReset v (failed i found v)
-  failed_steady i found = let x : ℕ = version_of found in let a : List SlotMark = at i (Hold x) ∷ at i (Coding x) ∷ at i (Failer x) ∷ at i (Saw (x + 1)) ∷ v.marks in let b : List SlotMark = at i (Saw x) ∷ v.marks in
+  failed_steady i found = let x : ℕ = vref_version found in let a : List SlotMark = at i (Hold x) ∷ at i (Coding x) ∷ at i (Failer x) ∷ at i (Saw (x + 1)) ∷ v.marks in let b : List SlotMark = at i (Saw x) ∷ v.marks in
       let more : (f : Mark → ℕ) → More f v.marks (failed i found v).marks = λ f. either_way (eqb (x % 2) 0) a b (λ es. More f old es)
       (more_add f old i (Hold x) (at i (Coding x) ∷ at i (Failer x) ∷ at i (Saw (x + 1)) ∷ v.marks) (more_add f old i (Coding x) (at i (Failer x) ∷ at i (Saw (x + 1)) ∷ v.marks) (more_add f old i (Failer x) (at i (Saw (x + 1)) ∷ v.marks) (more_add f old i (Saw (x + 1)) old (more_all f old)))))
       (more_add f old i (Saw x) old (more_all f old)) in
@@ -110,7 +110,7 @@ module _ (v : View) where
       (λ k. either_way (eqb (x % 2) 0) a b (λ es. total (only k) v.passes + total (waits_link k) es ≤ waits_of k v) (omega arith) (omega arith))
 
   pub failed_holds : (i found : ℕ) → Holds v (failed i found v)
-  failed_holds i found = let x : ℕ = version_of found in let a : List SlotMark = at i (Hold x) ∷ at i (Coding x) ∷ at i (Failer x) ∷ at i (Saw (x + 1)) ∷ v.marks in let b : List SlotMark = at i (Saw x) ∷ v.marks in
+  failed_holds i found = let x : ℕ = vref_version found in let a : List SlotMark = at i (Hold x) ∷ at i (Coding x) ∷ at i (Failer x) ∷ at i (Saw (x + 1)) ∷ v.marks in let b : List SlotMark = at i (Saw x) ∷ v.marks in
       let more : (f : Mark → ℕ) → More f v.marks (failed i found v).marks = λ f. either_way (eqb (x % 2) 0) a b (λ es. More f old es)
       (more_add f old i (Hold x) (at i (Coding x) ∷ at i (Failer x) ∷ at i (Saw (x + 1)) ∷ v.marks) (more_add f old i (Coding x) (at i (Failer x) ∷ at i (Saw (x + 1)) ∷ v.marks) (more_add f old i (Failer x) (at i (Saw (x + 1)) ∷ v.marks) (more_add f old i (Saw (x + 1)) old (more_all f old)))))
       (more_add f old i (Saw x) old (more_all f old)) in
@@ -131,7 +131,7 @@ module _ (v : View) where
   }
 
   pub looked_steady : (i found : ℕ) → (Steady v (looked i found v) × NoReset v (looked i found v)) × Holds v (looked i found v)
-  looked_steady i found = (note_steady i (Saw (version_of found)) [] (λ f q. q.saw (version_of found)) (λ k. refl) (looked i found v) refl refl, note_holds i (Saw (version_of found)) (looked i found v) refl)
+  looked_steady i found = (note_steady i (Saw (vref_version found)) [] (λ f q. q.saw (vref_version found)) (λ k. refl) (looked i found v) refl refl, note_holds i (Saw (vref_version found)) (looked i found v) refl)
 
   pub met_steady : (i h : ℕ) → (Steady v (met i h v) × NoReset v (met i h v)) × Holds v (met i h v)
   met_steady i h = (note_steady i (Known h) [] (λ f q. q.known h) (λ k. refl) (met i h v) refl refl, note_holds i (Known h) (met i h v) refl)
@@ -172,7 +172,7 @@ module _ (v : View) where
   )
 
   pub lost_steady : (i from found : ℕ) → found ≢ from → (Steady v (recycled i from found v) × NoReset v (recycled i from found v)) × Holds v (recycled i from found v)
-  lost_steady i from found miss = let x : ℕ = version_of from in let r : List SlotMark = without_at i (is_zero x) v.marks in let a : List SlotMark = at i (Recycling (x + 1)) ∷ at i (Freer (x - 1)) ∷ r in
+  lost_steady i from found miss = let x : ℕ = vref_version from in let r : List SlotMark = without_at i (is_zero x) v.marks in let a : List SlotMark = at i (Recycling (x + 1)) ∷ at i (Freer (x - 1)) ∷ r in
       let is : (recycled i from found v).marks ≡ without_at i (is_zero x) v.marks = ap (λ b. cond b a r) (ne_eqb found from miss) in
       let more : (f : Mark → ℕ) → f (Zero x) ≡ 0 → More f v.marks (recycled i from found v).marks = λ f z. subst (λ y. More f old y) (sym is) (more_without f old i (is_zero x) (λ y p. ap f (zero_is x y p) ∙ z)) in (
         drop_steady i (is_zero x) (λ f q y p. ap f (zero_is x y p) ∙ q.zeros x) (λ h k y p. ap (is_met h k) (zero_is x y p)) (recycled i from found v) is refl,

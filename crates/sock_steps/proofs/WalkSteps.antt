@@ -12,7 +12,6 @@ use Rattle.sock_model.specs.declared.home.Home.{Home}
 use Rattle.sock_model.specs.sock_words.specs.declared.plain.Plan.{Plan}
 use Rattle.sock_model.specs.declared.view.View.{View}
 use Rattle.sock_model.specs.Layout.{head_index, next_index}
-use Rattle.sock_model.specs.Entries.{slot_of}
 use Rattle.sock_model.specs.Memory.{UNCONNECTED, IDLE, Memory}
 use Rattle.sock_model.specs.Chains.{Chains}
 use Rattle.sock_model.specs.Reads.{head_at, memory, tokens}
@@ -26,6 +25,7 @@ use Rattle.sock_steps.proofs.Places.{holder_lives}
 use Rattle.sock_steps.proofs.Words.{beside_all, head_beside, head_changed, next_same, request_same, place_same, next_beside, next_head, next_changed, next_request, next_place}
 use Rattle.sock_steps.proofs.ChainFrame.{slots_in, one_slot}
 use Rattle.sock_steps.proofs.RightSteps.{right_in, right_alone, rights_after, claims_after, loose_after, right_step, right_goes}
+use Rattle.sock_model.specs.sock_words.specs.Words.{ticket_request}
 
 not_writes : (s a : Stage) → ((now : ℕ) → a ≢ Writes now) → s ≡ a → (now : ℕ) → s ≢ Writes now
 not_writes s a h e now q = h now (sym e ∙ q)
@@ -44,18 +44,18 @@ module _ {S : Type 0} (shows : S → Home) (p : Plan) (s : State S View) (o : La
   staged_law b no_ chains = right_step o id x.place v x.right at x.has (record x.right { stage = b }) refl s.words o.freed refl refl refl refl refl no_ (beside_all p o.slot s.words) (λ l ll. refl) chains
 
   -- C5, of an entry that was written and isn't the last one noted
-  pub passing_law : (now : ℕ) → x.right.stage ≡ Placed now → now ≢ x.right.last → Lawful shows p record { words = s.words; homes = s.homes; views = set s.views id (with_right v (record x.right { stage = Passes now (get_or s.words (next_index p (slot_of now)) 0) })) }
-  passing_law now stage ne = let b : Stage = Passes now (get_or s.words (next_index p (slot_of now)) 0) in
+  pub passing_law : (now : ℕ) → x.right.stage ≡ Placed now → now ≢ x.right.last → Lawful shows p record { words = s.words; homes = s.homes; views = set s.views id (with_right v (record x.right { stage = Passes now (get_or s.words (next_index p (ticket_request now)) 0) })) }
+  passing_law now stage ne = let b : Stage = Passes now (get_or s.words (next_index p (ticket_request now)) 0) in
       staged_law b (not_writes x.right.stage (Placed now) (λ m q. let z : Placed now ≡ Writes m = q in cc) stage)
-      (passes_on o.chains x.right.link x.right (right_in o id x.place v x.right at x.has) has (record x.right { stage = Passes now (get_or s.words (next_index p (slot_of now)) 0) }) now o.fits.narrow stage ne refl refl refl refl (λ k kl. refl) (λ q ql. refl) (λ q ql. refl)
-      (rights_after o id x.place v x.right at x.has (record x.right { stage = Passes now (get_or s.words (next_index p (slot_of now)) 0) }) refl) (claims_after o id x.place v x.right at x.has (record x.right { stage = Passes now (get_or s.words (next_index p (slot_of now)) 0) }) refl) (loose_after o id x.place v x.right at x.has (record x.right { stage = Passes now (get_or s.words (next_index p (slot_of now)) 0) }) refl))
+      (passes_on o.chains x.right.link x.right (right_in o id x.place v x.right at x.has) has (record x.right { stage = Passes now (get_or s.words (next_index p (ticket_request now)) 0) }) now o.fits.narrow stage ne refl refl refl refl (λ k kl. refl) (λ q ql. refl) (λ q ql. refl)
+      (rights_after o id x.place v x.right at x.has (record x.right { stage = Passes now (get_or s.words (next_index p (ticket_request now)) 0) }) refl) (claims_after o id x.place v x.right at x.has (record x.right { stage = Passes now (get_or s.words (next_index p (ticket_request now)) 0) }) refl) (loose_after o id x.place v x.right at x.has (record x.right { stage = Passes now (get_or s.words (next_index p (ticket_request now)) 0) }) refl))
 
   -- C5 on the walk, where the next word is connected. Where it isn't, the view stays, and nothing is to be shown
-  pub reading_law : (top a after : ℕ) → x.right.stage ≡ Walks top a after → get_or s.words (next_index p (slot_of a)) 0 ≢ UNCONNECTED → Lawful shows p record { words = s.words; homes = s.homes; views = set s.views id (with_right v (record x.right { stage = Turns top a after (get_or s.words (next_index p (slot_of a)) 0) })) }
-  reading_law top a after stage ne = let b : Stage = Turns top a after (get_or s.words (next_index p (slot_of a)) 0) in
+  pub reading_law : (top a after : ℕ) → x.right.stage ≡ Walks top a after → get_or s.words (next_index p (ticket_request a)) 0 ≢ UNCONNECTED → Lawful shows p record { words = s.words; homes = s.homes; views = set s.views id (with_right v (record x.right { stage = Turns top a after (get_or s.words (next_index p (ticket_request a)) 0) })) }
+  reading_law top a after stage ne = let b : Stage = Turns top a after (get_or s.words (next_index p (ticket_request a)) 0) in
       staged_law b (not_writes x.right.stage (Walks top a after) (λ m q. let z : Walks top a after ≡ Writes m = q in cc) stage)
-      (reads_back o.chains x.right.link x.right (right_in o id x.place v x.right at x.has) has (record x.right { stage = Turns top a after (get_or s.words (next_index p (slot_of a)) 0) }) top a after o.fits.narrow stage ne refl refl refl refl (λ k kl. refl) (λ q ql. refl) (λ q ql. refl)
-      (rights_after o id x.place v x.right at x.has (record x.right { stage = Turns top a after (get_or s.words (next_index p (slot_of a)) 0) }) refl) (claims_after o id x.place v x.right at x.has (record x.right { stage = Turns top a after (get_or s.words (next_index p (slot_of a)) 0) }) refl) (loose_after o id x.place v x.right at x.has (record x.right { stage = Turns top a after (get_or s.words (next_index p (slot_of a)) 0) }) refl))
+      (reads_back o.chains x.right.link x.right (right_in o id x.place v x.right at x.has) has (record x.right { stage = Turns top a after (get_or s.words (next_index p (ticket_request a)) 0) }) top a after o.fits.narrow stage ne refl refl refl refl (λ k kl. refl) (λ q ql. refl) (λ q ql. refl)
+      (rights_after o id x.place v x.right at x.has (record x.right { stage = Turns top a after (get_or s.words (next_index p (ticket_request a)) 0) }) refl) (claims_after o id x.place v x.right at x.has (record x.right { stage = Turns top a after (get_or s.words (next_index p (ticket_request a)) 0) }) refl) (loose_after o id x.place v x.right at x.has (record x.right { stage = Turns top a after (get_or s.words (next_index p (ticket_request a)) 0) }) refl))
 
 module _ {S : Type 0} (shows : S → Home) (p : Plan) (s : State S View) (o : Lawful shows p s) (id i last empty : ℕ) (v : View) (at : get_elem? s.views id ≡ some v) (x : MayEmpty p v i last empty) where
   kl : x.mine.right.link < p.links
@@ -101,7 +101,7 @@ by_test false r x y F a c = c
 
 module _ {S : Type 0} (shows : S → Home) (p : Plan) (s : State S View) (o : Lawful shows p s) (id value : ℕ) (v : View) (at : get_elem? s.views id ≡ some v) (x : MayTurn v value) where
   -- C6
-  pub turning_law : Lawful shows p record { words = set s.words (next_index p (slot_of x.at)) value; homes = s.homes; views = set s.views id (with_right v (turned_right x.mine.right x.top x.at x.before)) }
+  pub turning_law : Lawful shows p record { words = set s.words (next_index p (ticket_request x.at)) value; homes = s.homes; views = set s.views id (with_right v (turned_right x.mine.right x.top x.at x.before)) }
   turning_law =
       let y : Right = turned_right x.mine.right x.top x.at x.before in
       let link' : (turned_right x.mine.right x.top x.at x.before).link ≡ x.mine.right.link = by_test (eqb x.before x.mine.right.last) x.mine.right (record x.mine.right { last = x.top; stage = Writes x.at; turned = 0; noted = x.mine.right.noted + suc x.mine.right.turned }) (record x.mine.right { stage = Walks x.top x.before x.at; turned = suc x.mine.right.turned }) (λ z. z.link ≡ x.mine.right.link) refl refl in
@@ -112,20 +112,20 @@ module _ {S : Type 0} (shows : S → Home) (p : Plan) (s : State S View) (o : La
       let hand' : (turned_right x.mine.right x.top x.at x.before).taken ≡ x.mine.right.taken = by_test (eqb x.before x.mine.right.last) x.mine.right (record x.mine.right { last = x.top; stage = Writes x.at; turned = 0; noted = x.mine.right.noted + suc x.mine.right.turned }) (record x.mine.right { stage = Walks x.top x.before x.at; turned = suc x.mine.right.turned }) (λ z. z.taken ≡ x.mine.right.taken) refl refl in
       let kl = right_in o id x.mine.place v x.mine.right at x.mine.has in let has = right_alone o id x.mine.place v x.mine.right at x.mine.has in
       let c = turn_slot o.chains x.mine.right.link x.mine.right kl has o.fits.narrow x.top x.at value x.before x.stage in
-      let m' : Memory = memory p o.slot (set s.words (next_index p (slot_of x.at)) value) in
+      let m' : Memory = memory p o.slot (set s.words (next_index p (ticket_request x.at)) value) in
       let t' = tokens (set s.views id (with_right v (turned_right x.mine.right x.top x.at x.before))) in
       let after = rights_after o id x.mine.place v x.mine.right at x.mine.has (turned_right x.mine.right x.top x.at x.before) link' in
-      let chains : Chains p.links p.requests (memory p o.slot (set s.words (next_index p (slot_of x.at)) value)) (tokens (set s.views id (with_right v (turned_right x.mine.right x.top x.at x.before)))) o.log o.freed o.places =
+      let chains : Chains p.links p.requests (memory p o.slot (set s.words (next_index p (ticket_request x.at)) value)) (tokens (set s.views id (with_right v (turned_right x.mine.right x.top x.at x.before)))) o.log o.freed o.places =
       dite (ℕ_discrete x.before x.mine.right.last)
       (λ e. let q : turned_right x.mine.right x.top x.at x.before ≡ record x.mine.right { last = x.top; stage = Writes x.at; turned = 0; noted = x.mine.right.noted + suc x.mine.right.turned } = ap (λ b. cond b (record x.mine.right { last = x.top; stage = Writes x.at; turned = 0; noted = x.mine.right.noted + suc x.mine.right.turned }) (record x.mine.right { stage = Walks x.top x.before x.at; turned = suc x.mine.right.turned })) (eq-eqb x.before x.mine.right.last e) in
       turns_last o.chains m' t' x.mine.right.link x.mine.right kl has o.fits.narrow x.top x.at value x.before x.stage
-      (next_head p o.slot s.words value o.references.sized (slots_in o) (slot_of x.at) c.5) (next_changed p o.slot s.words value o.references.sized (slots_in o) (slot_of x.at) c.5) (next_request p o.slot s.words value o.references.sized (slots_in o) (slot_of x.at) c.5)
+      (next_head p o.slot s.words value o.references.sized (slots_in o) (ticket_request x.at) c.5) (next_changed p o.slot s.words value o.references.sized (slots_in o) (ticket_request x.at) c.5) (next_request p o.slot s.words value o.references.sized (slots_in o) (ticket_request x.at) c.5)
       (claims_after o id x.mine.place v x.mine.right at x.mine.has (turned_right x.mine.right x.top x.at x.before) link') (loose_after o id x.mine.place v x.mine.right at x.mine.has (turned_right x.mine.right x.top x.at x.before) link')
       (turned_right x.mine.right x.top x.at x.before) e (ap (λ (z : Right). z.last) q) (ap (λ (z : Right). z.turned) q) (ap (λ (z : Right). z.noted) q) (ap (λ (z : Right). z.stage) q) after)
       (λ ne. let q : turned_right x.mine.right x.top x.at x.before ≡ record x.mine.right { stage = Walks x.top x.before x.at; turned = suc x.mine.right.turned } = ap (λ b. cond b (record x.mine.right { last = x.top; stage = Writes x.at; turned = 0; noted = x.mine.right.noted + suc x.mine.right.turned }) (record x.mine.right { stage = Walks x.top x.before x.at; turned = suc x.mine.right.turned })) (ne_eqb x.before x.mine.right.last ne) in
       turns_on o.chains m' t' x.mine.right.link x.mine.right kl has o.fits.narrow x.top x.at value x.before x.stage
-      (next_head p o.slot s.words value o.references.sized (slots_in o) (slot_of x.at) c.5) (next_changed p o.slot s.words value o.references.sized (slots_in o) (slot_of x.at) c.5) (next_request p o.slot s.words value o.references.sized (slots_in o) (slot_of x.at) c.5)
+      (next_head p o.slot s.words value o.references.sized (slots_in o) (ticket_request x.at) c.5) (next_changed p o.slot s.words value o.references.sized (slots_in o) (ticket_request x.at) c.5) (next_request p o.slot s.words value o.references.sized (slots_in o) (ticket_request x.at) c.5)
       (claims_after o id x.mine.place v x.mine.right at x.mine.has (turned_right x.mine.right x.top x.at x.before) link') (loose_after o id x.mine.place v x.mine.right at x.mine.has (turned_right x.mine.right x.top x.at x.before) link')
       (turned_right x.mine.right x.top x.at x.before) ne (ap (λ (z : Right). z.last) q) (ap (λ (z : Right). z.turned) q) (ap (λ (z : Right). z.noted) q) (ap (λ (z : Right). z.stage) q) after) in
-      (right_step o id x.mine.place v x.mine.right at x.mine.has (turned_right x.mine.right x.top x.at x.before) link' (set s.words (next_index p (slot_of x.at)) value) o.freed clean' sent' count' home' hand' (λ now. no_writes x.mine.right.stage x.top x.at value x.before now x.stage)
-      (next_beside p o.slot s.words value o.references.sized (slots_in o) (slot_of x.at) c.5) (next_place p o.slot s.words value o.references.sized (slots_in o) (slot_of x.at) c.5) chains)
+      (right_step o id x.mine.place v x.mine.right at x.mine.has (turned_right x.mine.right x.top x.at x.before) link' (set s.words (next_index p (ticket_request x.at)) value) o.freed clean' sent' count' home' hand' (λ now. no_writes x.mine.right.stage x.top x.at value x.before now x.stage)
+      (next_beside p o.slot s.words value o.references.sized (slots_in o) (ticket_request x.at) c.5) (next_place p o.slot s.words value o.references.sized (slots_in o) (ticket_request x.at) c.5) chains)

@@ -14,11 +14,10 @@ use Rattle.sock_model.specs.declared.home.Home.TheVariants.{Empty, Link, Message
 use Rattle.sock_model.specs.sock_words.specs.declared.plain.Plan.{Plan}
 use Rattle.sock_model.specs.declared.view.View.{View}
 use Rattle.sock_model.specs.Layout.{request_index, place_index}
-use Rattle.sock_model.specs.Entries.{ticket, slot_of, generation_of, on, nth}
+use Rattle.sock_model.specs.Entries.{ticket, on, nth}
 use Rattle.sock_model.specs.Tokens.{Tokens}
 use Rattle.sock_model.specs.Writing.{InStage}
 use Rattle.sock_model.specs.Messages.{InHand}
-use Rattle.sock_model.specs.Deliveries.{place_value}
 use Rattle.sock_model.specs.Reads.{letter_of, took_of, as_link, shown, memory, message, link_home, tokens}
 use Rattle.sock_model.specs.ChainRows.{with_right, placed_right, dropped_right, taken_right}
 use Rattle.sock_model.specs.Conditions.{MayPlace, MayDrop, MayTake}
@@ -34,6 +33,7 @@ use Rattle.sock_steps.proofs.Maps.{set_at}
 use Rattle.sock_steps.proofs.Words.{beside_all, request_beside, request_head, request_changed, request_next, request_place, place_beside, place_head, place_changed, place_next, place_request}
 use Rattle.sock_steps.proofs.ChainFrame.{slots_in}
 use Rattle.sock_steps.proofs.RightSteps.{right_in, right_alone, rights_after, claims_after, loose_after, right_base, right_step}
+use Rattle.sock_model.specs.sock_words.specs.Words.{ticket_request, ticket_generation, place_word}
 
 leads_no_writes : (last now any : ℕ) (a b : Stage) → Leads last a now b → a ≢ Writes any
 leads_no_writes last now any a b (to_end x e) q = let z : Placed now ≡ Writes any = q in cc
@@ -51,25 +51,25 @@ unfolding bump
 bump-else f k j ne = ap (λ b. cond b (suc (f k)) (f j)) (ne_eqb j k ne)
 
 -- C8
-pub freeing_law : {S : Type 0} (shows : S → Home) (p : Plan) (id i now : ℕ) (b : Stage) (v : View) (r : Right) (s : State S View) (o : Lawful shows p s) → get_elem? s.views id ≡ some v → get_elem? v.rights i ≡ some r → Leads r.last r.stage now b → generation_of now < 140737488355327
-    → Lawful shows p record { words = set s.words (request_index p (slot_of now)) (2 * (generation_of now + 1)); homes = s.homes; views = set s.views id (with_right v (record r { stage = b })) }
+pub freeing_law : {S : Type 0} (shows : S → Home) (p : Plan) (id i now : ℕ) (b : Stage) (v : View) (r : Right) (s : State S View) (o : Lawful shows p s) → get_elem? s.views id ≡ some v → get_elem? v.rights i ≡ some r → Leads r.last r.stage now b → ticket_generation now < 140737488355327
+    → Lawful shows p record { words = set s.words (request_index p (ticket_request now)) (2 * (ticket_generation now + 1)); homes = s.homes; views = set s.views id (with_right v (record r { stage = b })) }
 freeing_law shows p id i now b v r s o at has leads small =
     let kl = right_in o id i v r at has in let alone = right_alone o id i v r at has in
-    let low : slot_of now < p.requests = now_slot o.chains r.link r kl alone o.fits.narrow now b leads in
-    let ws : List ℕ = set s.words (request_index p (slot_of now)) (2 * (generation_of now + 1)) in
-    right_step o id i v r at has (record r { stage = b }) refl (set s.words (request_index p (slot_of now)) (2 * (generation_of now + 1))) (bump o.freed r.link) refl refl refl refl refl (λ any. leads_no_writes r.last now any r.stage b leads)
-    (request_beside p o.slot s.words (2 * (generation_of now + 1)) o.references.sized (slots_in o) (slot_of now) low) (request_place p o.slot s.words (2 * (generation_of now + 1)) o.references.sized (slots_in o) (slot_of now) low)
-    (frees o.chains r.link r kl alone o.fits.narrow now b leads (memory p o.slot (set s.words (request_index p (slot_of now)) (2 * (generation_of now + 1)))) (tokens (set s.views id (with_right v (record r { stage = b })))) (bump o.freed r.link) (bump_changed p.links o.freed r.link)
+    let low : ticket_request now < p.requests = now_slot o.chains r.link r kl alone o.fits.narrow now b leads in
+    let ws : List ℕ = set s.words (request_index p (ticket_request now)) (2 * (ticket_generation now + 1)) in
+    right_step o id i v r at has (record r { stage = b }) refl (set s.words (request_index p (ticket_request now)) (2 * (ticket_generation now + 1))) (bump o.freed r.link) refl refl refl refl refl (λ any. leads_no_writes r.last now any r.stage b leads)
+    (request_beside p o.slot s.words (2 * (ticket_generation now + 1)) o.references.sized (slots_in o) (ticket_request now) low) (request_place p o.slot s.words (2 * (ticket_generation now + 1)) o.references.sized (slots_in o) (ticket_request now) low)
+    (frees o.chains r.link r kl alone o.fits.narrow now b leads (memory p o.slot (set s.words (request_index p (ticket_request now)) (2 * (ticket_generation now + 1)))) (tokens (set s.views id (with_right v (record r { stage = b })))) (bump o.freed r.link) (bump_changed p.links o.freed r.link)
     (record r { stage = b }) refl refl refl refl small
-    (request_head p o.slot s.words (2 * (generation_of now + 1)) o.references.sized (slots_in o) (slot_of now) low) (request_next p o.slot s.words (2 * (generation_of now + 1)) o.references.sized (slots_in o) (slot_of now) low) (request_changed p o.slot s.words (2 * (generation_of now + 1)) o.references.sized (slots_in o) (slot_of now) low)
+    (request_head p o.slot s.words (2 * (ticket_generation now + 1)) o.references.sized (slots_in o) (ticket_request now) low) (request_next p o.slot s.words (2 * (ticket_generation now + 1)) o.references.sized (slots_in o) (ticket_request now) low) (request_changed p o.slot s.words (2 * (ticket_generation now + 1)) o.references.sized (slots_in o) (ticket_request now) low)
     (rights_after o id i v r at has (record r { stage = b }) refl) (claims_after o id i v r at has (record r { stage = b }) refl) (loose_after o id i v r at has (record r { stage = b }) refl))
 
 -- at the last generation the request isn't given back, and the right goes on: a change of the view alone, which a step makes beside its own
-pub retiring_law : {S : Type 0} (shows : S → Home) (p : Plan) (id i now : ℕ) (b : Stage) (v : View) (r : Right) (s : State S View) (o : Lawful shows p s) → get_elem? s.views id ≡ some v → get_elem? v.rights i ≡ some r → Leads r.last r.stage now b → generation_of now ≡ 140737488355327
+pub retiring_law : {S : Type 0} (shows : S → Home) (p : Plan) (id i now : ℕ) (b : Stage) (v : View) (r : Right) (s : State S View) (o : Lawful shows p s) → get_elem? s.views id ≡ some v → get_elem? v.rights i ≡ some r → Leads r.last r.stage now b → ticket_generation now ≡ 140737488355327
     → Lawful shows p record { words = s.words; homes = s.homes; views = set s.views id (with_right v (record r { stage = b })) }
 retiring_law shows p id i now b v r s o at has leads small =
     let kl = right_in o id i v r at has in let alone = right_alone o id i v r at has in
-    let low : slot_of now < p.requests = now_slot o.chains r.link r kl alone o.fits.narrow now b leads in
+    let low : ticket_request now < p.requests = now_slot o.chains r.link r kl alone o.fits.narrow now b leads in
     let ws : List ℕ = s.words in
     right_step o id i v r at has (record r { stage = b }) refl (s.words) (bump o.freed r.link) refl refl refl refl refl (λ any. leads_no_writes r.last now any r.stage b leads)
     (beside_all p o.slot s.words) (λ l ll. refl)
@@ -90,7 +90,7 @@ letter_home shows (some (some y)) l bytes e = (y, refl, message_is (shows y) l b
     message_is (Message k cs) l bytes e = let q : (k, cs) ≡ (l, bytes) = some-injective (k, cs) (l, bytes) e in λ w. Message (q w).0 (q w).1
 
 -- the request of the message that is the next to be taken is one of the table
-pub writes_in : {S : Type 0} (shows : S → Home) (p : Plan) (id i now : ℕ) (v : View) (r : Right) (s : State S View) (o : Lawful shows p s) → get_elem? s.views id ≡ some v → get_elem? v.rights i ≡ some r → r.stage ≡ Writes now → slot_of now < p.requests
+pub writes_in : {S : Type 0} (shows : S → Home) (p : Plan) (id i now : ℕ) (v : View) (r : Right) (s : State S View) (o : Lawful shows p s) → get_elem? s.views id ≡ some v → get_elem? v.rights i ≡ some r → r.stage ≡ Writes now → ticket_request now < p.requests
 writes_in shows p id i now v r s o at has stage =
     let kl = right_in o id i v r at has in let alone = right_alone o id i v r at has in
     let e = at_some (on r.link o.log) (o.places r.link) (writes_room o.chains r.link r now kl alone stage) in
@@ -98,15 +98,15 @@ writes_in shows p id i now v r s o at has stage =
     let h = (held_of o.chains r.link r kl alone).1 in
     let st : InStage (memory p o.slot s.words) (tokens s.views) (on r.link o.log) h.counts (o.freed r.link) (o.places r.link) (Writes now) = subst (InStage (memory p o.slot s.words) (tokens s.views) (on r.link o.log) h.counts (o.freed r.link) (o.places r.link)) stage h.stage_is in
     let tick : ticket e.0 ≡ now = sym (ticket_at_is (on r.link o.log) (o.places r.link) e.0 e.1) ∙ (ap (λ y. nth (on r.link o.log) (suc y)) st.1 ∙ st.3) in
-    let low = size.1 in let is : slot_of now ≡ e.0.request = ap slot_of (sym tick) ∙ slot_is e.0 (omega arith) in omega arith
+    let low = size.1 in let is : ticket_request now ≡ e.0.request = ap ticket_request (sym tick) ∙ slot_is e.0 (omega arith) in omega arith
 
 -- M2: what stands at home then is no message
 pub taking_law : {S : Type 0} (shows : S → Home) (p : Plan) (id : ℕ) (v : View) (x : MayTake v) (s : State S View) (o : Lawful shows p s) → get_elem? s.views id ≡ some v
-    → (y : S) × (l : Heading) × (bytes : List ℕ) × (get_elem? s.homes (slot_of x.now) ≡ some (some y)) × (shows y ≡ Message l bytes)
-    × ((z : Option S) → letter_of (shown shows (some z)) ≡ none → Lawful shows p record { words = s.words; homes = set s.homes (slot_of x.now) z; views = set s.views id (with_right v (taken_right x.mine.right l bytes)) })
+    → (y : S) × (l : Heading) × (bytes : List ℕ) × (get_elem? s.homes (ticket_request x.now) ≡ some (some y)) × (shows y ≡ Message l bytes)
+    × ((z : Option S) → letter_of (shown shows (some z)) ≡ none → Lawful shows p record { words = s.words; homes = set s.homes (ticket_request x.now) z; views = set s.views id (with_right v (taken_right x.mine.right l bytes)) })
 taking_law shows p id v x s o at =
     let kl = right_in o id x.mine.place v x.mine.right at x.mine.has in let has = right_alone o id x.mine.place v x.mine.right at x.mine.has in
-    let request : ℕ = slot_of x.now in let k : ℕ = x.mine.right.link in
+    let request : ℕ = ticket_request x.now in let k : ℕ = x.mine.right.link in
     let room = writes_room o.chains x.mine.right.link x.mine.right x.now kl has x.stage in
     let e = at_some (on x.mine.right.link o.log) (o.places x.mine.right.link) room in
     let size = in_size o.chains x.mine.right.link (o.places x.mine.right.link) e.0 e.1 in let narrow = o.fits.narrow in
@@ -114,7 +114,7 @@ taking_law shows p id v x s o at =
     let st : InStage (memory p o.slot s.words) (tokens s.views) (on x.mine.right.link o.log) h.counts (o.freed x.mine.right.link) (o.places x.mine.right.link) (Writes x.now) = subst (InStage (memory p o.slot s.words) (tokens s.views) (on x.mine.right.link o.log) h.counts (o.freed x.mine.right.link) (o.places x.mine.right.link)) x.stage h.stage_is in
     let tick : ticket e.0 ≡ x.now = sym (ticket_at_is (on x.mine.right.link o.log) (o.places x.mine.right.link) e.0 e.1) ∙ (ap (λ y. nth (on x.mine.right.link o.log) (suc y)) st.1 ∙ st.3) in
     let small : e.0.request < 65535 = (let z = size.1 in omega arith) in
-    let rq : request ≡ e.0.request = ap slot_of (sym tick) ∙ slot_is e.0 small in
+    let rq : request ≡ e.0.request = ap ticket_request (sym tick) ∙ slot_is e.0 small in
     let low : request < p.requests = (let z = size.1 in omega arith) in
     let letter : message shows s.homes e.0.request ≡ some (e.0.heading, e.0.bytes) = ⊎_elim (λ z. z)
     (λ (u : InHand (tokens s.views) x.mine.right.link e.0). let q : x.mine.right ≡ u.right = one_token ((tokens s.views).rights x.mine.right.link) x.mine.right u.right has u.has in
@@ -171,19 +171,19 @@ leaves {p = p} o id i now v r at has stage taken label_in = let kl = right_in o 
 
 -- P1, of a message that was taken whole
 pub placing_law : {S : Type 0} (shows : S → Home) (p : Plan) (id : ℕ) (v : View) (x : MayPlace p v) (s : State S View) (o : Lawful shows p s) → get_elem? s.views id ≡ some v
-    → Lawful shows p record { words = set s.words (place_index p x.mine.right.heading.place) (place_value false x.mine.right.link x.mine.right.places); homes = s.homes; views = set s.views id (with_right v (placed_right x.mine.right x.now)) }
+    → Lawful shows p record { words = set s.words (place_index p x.mine.right.heading.place) (place_word false x.mine.right.link x.mine.right.places); homes = s.homes; views = set s.views id (with_right v (placed_right x.mine.right x.now)) }
 placing_law shows p id v x s o at =
     let r : Right = x.mine.right in
     let r' : Right = placed_right x.mine.right x.now in
-    let value : ℕ = place_value false x.mine.right.link x.mine.right.places in
+    let value : ℕ = place_word false x.mine.right.link x.mine.right.places in
     let e = leaves o id x.mine.place x.now v x.mine.right at x.mine.has x.stage x.taken x.label_in in let kl = e.inside in let has = e.alone in let hand = e.in_hand in let lab = e.label_in in
-    let val : value ≡ place_value false x.mine.right.link (o.places x.mine.right.link) = ap (place_value false x.mine.right.link) e.counted in
+    let val : value ≡ place_word false x.mine.right.link (o.places x.mine.right.link) = ap (place_word false x.mine.right.link) e.counted in
     let t' : Tokens = tokens (set s.views id (with_right v (placed_right x.mine.right x.now))) in
     let rt = rights_after o id x.mine.place v x.mine.right at x.mine.has (placed_right x.mine.right x.now) refl in
     let cl = claims_after o id x.mine.place v x.mine.right at x.mine.has (placed_right x.mine.right x.now) refl in
     let lo = loose_after o id x.mine.place v x.mine.right at x.mine.has (placed_right x.mine.right x.now) refl in
     let away : link_home shows p s.homes x.mine.right.link ≡ none = o.homes.busy x.mine.right.link x.mine.right kl has ∙ ap (λ b. cond b (some (x.mine.right.sent, x.mine.right.places)) none) x.away in
-    subst (λ i. Lawful shows p record { words = set s.words i (place_value false x.mine.right.link x.mine.right.places); homes = s.homes; views = set s.views id (with_right v (placed_right x.mine.right x.now)) }) e.at_label
+    subst (λ i. Lawful shows p record { words = set s.words i (place_word false x.mine.right.link x.mine.right.places); homes = s.homes; views = set s.views id (with_right v (placed_right x.mine.right x.now)) }) e.at_label
     (right_base o id x.mine.place v x.mine.right at x.mine.has (placed_right x.mine.right x.now) refl (set s.words (place_index p e.entry.heading.place) value) s.homes o.freed (bump o.places x.mine.right.link) (bump o.kept x.mine.right.link) (λ k ne. (bump-else o.places x.mine.right.link k ne, bump-else o.kept x.mine.right.link k ne))
     (place_beside p o.slot s.words value o.references.sized (slots_in o) e.entry.heading.place lab) (λ k. refl)
     (places_one o.chains x.mine.right.link x.mine.right kl has {places' = bump o.places x.mine.right.link} (placed_right x.mine.right x.now) x.now x.stage refl refl refl refl (bump_changed p.links o.places x.mine.right.link)
@@ -197,19 +197,19 @@ placing_law shows p id v x s o at =
 
 -- P1 with the dropped bit, where the life was failed
 pub dropping_law : {S : Type 0} (shows : S → Home) (p : Plan) (id : ℕ) (v : View) (x : MayDrop p v) (s : State S View) (o : Lawful shows p s) → get_elem? s.views id ≡ some v → Failed p s x.mine.right.link
-    → Lawful shows p record { words = set s.words (place_index p x.mine.right.heading.place) (place_value true x.mine.right.link x.mine.right.places); homes = s.homes; views = set s.views id (with_right v (dropped_right x.mine.right x.now x.sent)) }
+    → Lawful shows p record { words = set s.words (place_index p x.mine.right.heading.place) (place_word true x.mine.right.link x.mine.right.places); homes = s.homes; views = set s.views id (with_right v (dropped_right x.mine.right x.now x.sent)) }
 dropping_law shows p id v x s o at dead =
     let r : Right = x.mine.right in
     let r' : Right = dropped_right x.mine.right x.now x.sent in
-    let value : ℕ = place_value true x.mine.right.link x.mine.right.places in
+    let value : ℕ = place_word true x.mine.right.link x.mine.right.places in
     let e = leaves o id x.mine.place x.now v x.mine.right at x.mine.has x.stage x.taken x.label_in in let kl = e.inside in let has = e.alone in let hand = e.in_hand in let lab = e.label_in in
-    let val : value ≡ place_value true x.mine.right.link (o.places x.mine.right.link) = ap (place_value true x.mine.right.link) e.counted in
+    let val : value ≡ place_word true x.mine.right.link (o.places x.mine.right.link) = ap (place_word true x.mine.right.link) e.counted in
     let t' : Tokens = tokens (set s.views id (with_right v (dropped_right x.mine.right x.now x.sent))) in
     let rt = rights_after o id x.mine.place v x.mine.right at x.mine.has (dropped_right x.mine.right x.now x.sent) refl in
     let cl = claims_after o id x.mine.place v x.mine.right at x.mine.has (dropped_right x.mine.right x.now x.sent) refl in
     let lo = loose_after o id x.mine.place v x.mine.right at x.mine.has (dropped_right x.mine.right x.now x.sent) refl in
     let away : link_home shows p s.homes x.mine.right.link ≡ none = o.homes.busy x.mine.right.link x.mine.right kl has ∙ ap (λ b. cond b (some (x.mine.right.sent, x.mine.right.places)) none) x.away in
-    subst (λ i. Lawful shows p record { words = set s.words i (place_value true x.mine.right.link x.mine.right.places); homes = s.homes; views = set s.views id (with_right v (dropped_right x.mine.right x.now x.sent)) }) e.at_label
+    subst (λ i. Lawful shows p record { words = set s.words i (place_word true x.mine.right.link x.mine.right.places); homes = s.homes; views = set s.views id (with_right v (dropped_right x.mine.right x.now x.sent)) }) e.at_label
     (right_base o id x.mine.place v x.mine.right at x.mine.has (dropped_right x.mine.right x.now x.sent) refl (set s.words (place_index p e.entry.heading.place) value) s.homes o.freed (bump o.places x.mine.right.link) o.kept (λ k ne. (bump-else o.places x.mine.right.link k ne, refl))
     (place_beside p o.slot s.words value o.references.sized (slots_in o) e.entry.heading.place lab) (λ k. refl)
     (places_one o.chains x.mine.right.link x.mine.right kl has {places' = bump o.places x.mine.right.link} (dropped_right x.mine.right x.now x.sent) x.now x.stage refl refl refl refl (bump_changed p.links o.places x.mine.right.link)

@@ -10,7 +10,6 @@ use Rattle.sock_model.specs.declared.marks.SlotMark.{SlotMark}
 use Rattle.sock_model.specs.declared.view.View.{View}
 use Rattle.sock_model.specs.Weights.{total, is_busy, is_recycling, is_zero, is_recycled, is_met}
 use Rattle.sock_model.specs.Marks.{about, at}
-use Rattle.sock_model.specs.Slots.{version_of}
 use Rattle.sock_model.specs.SlotRows.{marks_of, recycled, freed, met_link}
 use Rattle.sock_rule.specs.slot_steps.proofs.Numbers.{only-same, pair-same}
 use Rattle.sock_rule.specs.slot_steps.proofs.Sums.{total_mono}
@@ -21,6 +20,7 @@ use Rattle.sock_rule.proofs.Faults.{found_alike}
 use Rattle.sock_rule.specs.Hands.{hand_of, Recycles}
 use Rattle.sock_rule.proofs.Becoming.{then_, back_again, counts_as, becomes, lost_marks, won_marks, met_marks, freed_marks}
 use Rattle.sock_table.specs.Refs.{retired, EndedBy}
+use Rattle.sock_words.specs.Words.{vref_version}
 
 -- a link came into an empty hand, and went home again: so did the note of its faults
 pub left_found : (n : ℕ) (v : View) (k : ℕ) (took : List ℕ) (next : ℕ) → v.hands ≡ [] → fault_left n k (without_hand (fault_found n 0 k (with_hand v (hand_of k took next))) k) ≡ v
@@ -49,52 +49,52 @@ came_home {S} b t c k took next n m x came same went empty = went ∙ ((λ i. (f
 pub in_hand : {S : Type 0} (b t : Me S View) (k : ℕ) (took took' : List ℕ) (next next' n : ℕ) (x : ℕ × S) → t ≡ (fault_found n 0 k (with_hand b.0 (hand_of k took next)), x ∷ b.1) → b.0.hands ≡ [] → took' ≡ took → next' ≡ next → t.0.hands ≡ hand_of k took' next' ∷ []
 in_hand {S} b t k took took' next next' n x came empty same also = ap (λ (m : Me S View). m.0.hands) came ∙ (ap (λ (v : View). v.hands) (found_alike n 0 k (with_hand b.0 (hand_of k took next))).others ∙ (λ i. hand_of k (sym same i) (sym also i) ∷ empty i))
 
-module _ (i from found : ℕ) (u a : View) (is : a ≡ recycled i from found u) (zero_ : 0 < marks_of (is_zero (version_of from)) i u) where
+module _ (i from found : ℕ) (u a : View) (is : a ≡ recycled i from found u) (zero_ : 0 < marks_of (is_zero (vref_version from)) i u) where
   -- lost
-  pub lost : found ≢ from → (notes : List Mark) × Became i u a notes (Zero (version_of from) ∷ []) × EndedBy false (version_of from) notes
+  pub lost : found ≢ from → (notes : List Mark) × Became i u a notes (Zero (vref_version from) ∷ []) × EndedBy false (vref_version from) notes
   lost ne = ([], becomes i is (lost_marks i from found u ne zero_), refl)
 
   module _ (hit : found ≡ from) where
-    won : Became i u a (Freer (version_of from - 1) ∷ Recycling (version_of from + 1) ∷ []) (Zero (version_of from) ∷ [])
+    won : Became i u a (Freer (vref_version from - 1) ∷ Recycling (vref_version from + 1) ∷ []) (Zero (vref_version from) ∷ [])
     won = becomes i is (won_marks i from found u hit zero_)
 
-    pub recycled_in : 0 < marks_of (is_recycled (version_of from + 1)) i a
-    recycled_in = let w = won.here (is_recycled (version_of from + 1)) in let s = only-same (version_of from + 1) in omega arith
+    pub recycled_in : 0 < marks_of (is_recycled (vref_version from + 1)) i a
+    recycled_in = let w = won.here (is_recycled (vref_version from + 1)) in let s = only-same (vref_version from + 1) in omega arith
 
-    module _ (k : ℕ) (b : View) (met : b ≡ met_link i (version_of from + 1 - 2) k a) where
-      met_now : Became i u b (Freer (version_of from - 1) ∷ Recycling (version_of from + 1) ∷ Met (version_of from + 1 - 2) k ∷ []) (Zero (version_of from) ∷ [])
-      met_now = then_ i won (becomes i met (met_marks i (version_of from + 1 - 2) k a))
+    module _ (k : ℕ) (b : View) (met : b ≡ met_link i (vref_version from + 1 - 2) k a) where
+      met_now : Became i u b (Freer (vref_version from - 1) ∷ Recycling (vref_version from + 1) ∷ Met (vref_version from + 1 - 2) k ∷ []) (Zero (vref_version from) ∷ [])
+      met_now = then_ i won (becomes i met (met_marks i (vref_version from + 1 - 2) k a))
 
       pub recycles : Recycles i k b
       recycles = record {
-        version = version_of from + 1;
-        recycled = (let w = met_now.here (is_recycled (version_of from + 1)) in let s = only-same (version_of from + 1) in omega arith);
-        met = (let w = met_now.here (is_met (version_of from + 1 - 2) k) in let s = pair-same (version_of from + 1 - 2) k in omega arith);
+        version = vref_version from + 1;
+        recycled = (let w = met_now.here (is_recycled (vref_version from + 1)) in let s = only-same (vref_version from + 1) in omega arith);
+        met = (let w = met_now.here (is_met (vref_version from + 1 - 2) k) in let s = pair-same (vref_version from + 1 - 2) k in omega arith);
       }
 
       -- the slot's versions are used up
-      pub retires : (c : View) → c ≡ b → 4294967292 < version_of from + 1 → (notes : List Mark) × Became i u c notes (Zero (version_of from) ∷ []) × EndedBy true (version_of from) notes
-      retires c same late = let r : retired (version_of from + 1) ≡ Recycling (version_of from + 1) ∷ [] = ap (λ z. cond z [] (Recycling (version_of from + 1) ∷ [])) (lt-leb (version_of from + 1) 4294967292 late) in (
-        Freer (version_of from - 1) ∷ Met (version_of from + 1 - 2) k ∷ Recycling (version_of from + 1) ∷ [],
+      pub retires : (c : View) → c ≡ b → 4294967292 < vref_version from + 1 → (notes : List Mark) × Became i u c notes (Zero (vref_version from) ∷ []) × EndedBy true (vref_version from) notes
+      retires c same late = let r : retired (vref_version from + 1) ≡ Recycling (vref_version from + 1) ∷ [] = ap (λ z. cond z [] (Recycling (vref_version from + 1) ∷ [])) (lt-leb (vref_version from + 1) 4294967292 late) in (
+        Freer (vref_version from - 1) ∷ Met (vref_version from + 1 - 2) k ∷ Recycling (vref_version from + 1) ∷ [],
         counts_as i (λ f. omega arith) (becomes i same met_now),
-        (k, ap (λ (l : List Mark). Freer (version_of from - 1) ∷ Met (version_of from + 1 - 2) k ∷ l) (sym r)),
+        (k, ap (λ (l : List Mark). Freer (vref_version from - 1) ∷ Met (vref_version from + 1 - 2) k ∷ l) (sym r)),
       )
 
       -- it may be given again
-      pub frees : (c d : View) → c ≡ b → d ≡ freed i c → version_of from + 1 ≤ 4294967292 → marks_of is_busy i u ≡ 0 → (notes : List Mark) × Became i u d notes (Zero (version_of from) ∷ []) × EndedBy true (version_of from) notes
-      frees c d same free early alone = let r : retired (version_of from + 1) ≡ [] = ap (λ z. cond z [] (Recycling (version_of from + 1) ∷ [])) (le-leb (version_of from + 1) 4294967292 early) in
-          let now : Became i u c (Freer (version_of from - 1) ∷ Recycling (version_of from + 1) ∷ Met (version_of from + 1 - 2) k ∷ []) (Zero (version_of from) ∷ []) = becomes i same met_now in
+      pub frees : (c d : View) → c ≡ b → d ≡ freed i c → vref_version from + 1 ≤ 4294967292 → marks_of is_busy i u ≡ 0 → (notes : List Mark) × Became i u d notes (Zero (vref_version from) ∷ []) × EndedBy true (vref_version from) notes
+      frees c d same free early alone = let r : retired (vref_version from + 1) ≡ [] = ap (λ z. cond z [] (Recycling (vref_version from + 1) ∷ [])) (le-leb (vref_version from + 1) 4294967292 early) in
+          let now : Became i u c (Freer (vref_version from - 1) ∷ Recycling (vref_version from + 1) ∷ Met (vref_version from + 1 - 2) k ∷ []) (Zero (vref_version from) ∷ []) = becomes i same met_now in
           let one : marks_of is_recycling i c ≡ 1 = (let w = now.here is_recycling in let le = total_mono is_recycling is_busy recycling_busy (about i u.marks) in omega arith) in
-          let there : 0 < marks_of (is_recycled (version_of from + 1)) i c = (let w = now.here (is_recycled (version_of from + 1)) in let s = only-same (version_of from + 1) in omega arith) in (
-            Freer (version_of from - 1) ∷ Met (version_of from + 1 - 2) k ∷ [],
-            counts_as i (λ f. omega arith) (then_ i now (becomes i free (freed_marks i (version_of from + 1) c one there))),
-            (k, ap (λ (l : List Mark). Freer (version_of from - 1) ∷ Met (version_of from + 1 - 2) k ∷ l) (sym r)),
+          let there : 0 < marks_of (is_recycled (vref_version from + 1)) i c = (let w = now.here (is_recycled (vref_version from + 1)) in let s = only-same (vref_version from + 1) in omega arith) in (
+            Freer (vref_version from - 1) ∷ Met (vref_version from + 1 - 2) k ∷ [],
+            counts_as i (λ f. omega arith) (then_ i now (becomes i free (freed_marks i (vref_version from + 1) c one there))),
+            (k, ap (λ (l : List Mark). Freer (vref_version from - 1) ∷ Met (vref_version from + 1 - 2) k ∷ l) (sym r)),
           )
         where
           recycling_busy : (m : Mark) → is_recycling m ≤ is_busy m
           recycling_busy (Recycling w) = omega arith
           recycling_busy _ = omega arith
 
-      pub recycled_there : (c : View) → c ≡ b → 0 < marks_of (is_recycled (version_of from + 1)) i c
+      pub recycled_there : (c : View) → c ≡ b → 0 < marks_of (is_recycled (vref_version from + 1)) i c
       unfolding recycles
-      recycled_there c same = subst (λ (y : View). 0 < marks_of (is_recycled (version_of from + 1)) i y) (sym same) recycles.recycled
+      recycled_there c same = subst (λ (y : View). 0 < marks_of (is_recycled (vref_version from + 1)) i y) (sym same) recycles.recycled

@@ -1,12 +1,11 @@
 -- A life that a seat fails, step by step.
 use Rattle.std.proofs.Common.{◌≡◌, ◌≢◌, ℕ, ◌+◌, ◌-◌, ◌%◌, ◌<◌, ◌⊎◌, inr, Bool, false, List, [], ◌∷◌, sym, ap, ◌∙◌, subst, arith}
 use Rattle.sock_words.specs.declared.plain.Plan.{Plan}
-use Rattle.sock_words.specs.Words.{socket_id_version, socket_id_slot}
+use Rattle.sock_words.specs.Words.{socket_id_version, socket_id_slot, vref_version}
 use Rattle.sock_model.specs.declared.marks.Mark.{Mark}
 use Rattle.sock_model.specs.declared.marks.Mark.TheVariants.{Hold, Coding, Saw, Failer, Stored, Told}
 use Rattle.sock_model.specs.declared.view.View.{View}
 use Rattle.sock_model.specs.Weights.{is_ref, is_probe, is_any_coding, is_coding, is_hold}
-use Rattle.sock_model.specs.Slots.{version_of}
 use Rattle.sock_model.specs.SlotRows.{marks_of, failed, coded}
 use mathlib.Core.Logic.{dite}
 use native.Mathlib.Decide.{ℕ_discrete}
@@ -19,15 +18,15 @@ use Rattle.sock_table.specs.Answers.{FailedBy, FoundFailed}
 use Rattle.sock_table.proofs.Giving.{some_ref}
 
 module _ (p : Plan) (i found id : ℕ) (u a : View) (is : a ≡ failed i found u) (inside : i < p.slots) (at_id : i ≡ socket_id_slot id) (rests : Rests p u) (there : 0 < marks_of (is_hold (socket_id_version id)) i u)
-    (held : (h : ℕ) → 0 < marks_of (is_hold h) i u → h ≡ version_of found - version_of found % 2) where
+    (held : (h : ℕ) → 0 < marks_of (is_hold h) i u → h ≡ vref_version found - vref_version found % 2) where
   abbrev h : ℕ
   h = socket_id_version id
 
-  pub found_failed : (word : ℕ) → word ≡ found → version_of found ≢ socket_id_version id → FoundFailed id word u a
+  pub found_failed : (word : ℕ) → word ≡ found → vref_version found ≢ socket_id_version id → FoundFailed id word u a
   found_failed word same ne = let e = held (socket_id_version id) there in subst (λ (w : ℕ). FoundFailed id w u a) (sym same)
-      (omega arith, subst (λ (j : ℕ). Became j u a (Saw (version_of found) ∷ []) []) at_id (becomes i is (failed_again i found u (λ z. ne (omega arith)))))
+      (omega arith, subst (λ (j : ℕ). Became j u a (Saw (vref_version found) ∷ []) []) at_id (becomes i is (failed_again i found u (λ z. ne (omega arith)))))
 
-  module _ (live : version_of found ≡ socket_id_version id) where
+  module _ (live : vref_version found ≡ socket_id_version id) where
     now_failed : Became i u a (Saw (socket_id_version id + 1) ∷ Failer (socket_id_version id) ∷ Coding (socket_id_version id) ∷ Hold (socket_id_version id) ∷ []) []
     now_failed = let e = held (socket_id_version id) there in subst (λ (w : ℕ). Became i u a (Saw (w + 1) ∷ Failer w ∷ Coding w ∷ Hold w ∷ []) []) live (becomes i is (failed_marks i found u (omega arith)))
 

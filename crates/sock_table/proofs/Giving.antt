@@ -8,7 +8,6 @@ use Rattle.sock_model.specs.declared.marks.Mark.TheVariants.{Hold, Probe, Zero}
 use Rattle.sock_model.specs.declared.view.View.{View}
 use Rattle.sock_model.specs.Weights.{total, is_ref, is_probe, is_hold, is_zero}
 use Rattle.sock_model.specs.Marks.{about}
-use Rattle.sock_model.specs.Slots.{version_of, nref_of}
 use Rattle.sock_model.specs.SlotRows.{marks_of, subbed, back}
 use Rattle.sock_rule.specs.ref_core.specs.Keeping.{KeepsRights}
 use Rattle.sock_rule.specs.slot_steps.proofs.Sums.{total_mono, total-append}
@@ -16,6 +15,7 @@ use Rattle.sock_rule.specs.slot_steps.proofs.Numbers.{only_le, only-same}
 use Rattle.sock_rule.specs.Becoming.{Became, Goes, probe_goes, hold_goes}
 use Rattle.sock_rule.proofs.Becoming.{then_, counts_as, becomes, zero_left, subbed_marks}
 use Rattle.sock_table.specs.Refs.{EndedBy, GaveBack}
+use Rattle.sock_words.specs.Words.{vref_version, vref_nref}
 
 -- whoever has a reference has one that is counted
 pub some_ref : (i : ℕ) (v : View) (m : Mark) → Goes i v m → 0 < marks_of is_ref i v
@@ -34,7 +34,7 @@ some_ref i v m (hold_goes h none_ there) = let le = total_mono (is_hold h) is_re
 pub no_rights : (i : ℕ) (v : View) → v.rights ≡ [] → KeepsRights i v
 no_rights i v none_ x r h e = absurd (some-ne-none r (sym (subst (λ (l : List Right). get_elem? l x ≡ some r) none_ e)))
 
-module _ (i found : ℕ) (u a : View) (is : a ≡ subbed i found (back i found u) u) (held : (h : ℕ) → 0 < marks_of (is_hold h) i u → h ≡ version_of found - version_of found % 2) (m : Mark) (goes : Goes i u m) where
+module _ (i found : ℕ) (u a : View) (is : a ≡ subbed i found (back i found u) u) (held : (h : ℕ) → 0 < marks_of (is_hold h) i u → h ≡ vref_version found - vref_version found % 2) (m : Mark) (goes : Goes i u m) where
   given : Became i u a (zero_left i found) (m ∷ [])
   given = becomes i is (subbed_marks i found u m goes held)
 
@@ -45,18 +45,18 @@ module _ (i found : ℕ) (u a : View) (is : a ≡ subbed i found (back i found u
       false_true : false ≡ true → ⊥
       false_true e = let n : ℕ ≡ ⊥ = ap (λ b. cond b ⊥ ℕ) e in subst (λ (x : Type 0). x) n 0
 
-  module _ (odd : version_of found % 2 ≡ 1) (last : nref_of found ≡ 1) where
-    zero_is_left : zero_left i found ≡ Zero (version_of found) ∷ []
-    zero_is_left = ap (λ b. cond b (cond (eqb (nref_of found) 1) (Zero (version_of found) ∷ []) []) []) (eq-eqb (version_of found % 2) 1 odd) ∙ ap (λ b. cond b (Zero (version_of found) ∷ []) []) (eq-eqb (nref_of found) 1 last)
+  module _ (odd : vref_version found % 2 ≡ 1) (last : vref_nref found ≡ 1) where
+    zero_is_left : zero_left i found ≡ Zero (vref_version found) ∷ []
+    zero_is_left = ap (λ b. cond b (cond (eqb (vref_nref found) 1) (Zero (vref_version found) ∷ []) []) []) (eq-eqb (vref_version found % 2) 1 odd) ∙ ap (λ b. cond b (Zero (vref_version found) ∷ []) []) (eq-eqb (vref_nref found) 1 last)
 
-    pub zero_now : 0 < marks_of (is_zero (version_of found)) i a
-    zero_now = let w = given.here (is_zero (version_of found)) in let e = ap (total (is_zero (version_of found))) zero_is_left in let s = only-same (version_of found) in let n = no_zero_goes goes in omega arith
+    pub zero_now : 0 < marks_of (is_zero (vref_version found)) i a
+    zero_now = let w = given.here (is_zero (vref_version found)) in let e = ap (total (is_zero (vref_version found))) zero_is_left in let s = only-same (vref_version found) in let n = no_zero_goes goes in omega arith
       where
-        no_zero_goes : {m : Mark} → Goes i u m → is_zero (version_of found) m ≡ 0
+        no_zero_goes : {m : Mark} → Goes i u m → is_zero (vref_version found) m ≡ 0
         no_zero_goes (probe_goes there) = refl
         no_zero_goes (hold_goes h none_ there) = refl
 
-    pub ends : (w : ℕ) (b : View) (ended : Bool) → w ≡ version_of found → (notes : List Mark) → Became i a b notes (Zero w ∷ []) → EndedBy ended w notes → GaveBack i u b m ended
+    pub ends : (w : ℕ) (b : View) (ended : Bool) → w ≡ vref_version found → (notes : List Mark) → Became i a b notes (Zero w ∷ []) → EndedBy ended w notes → GaveBack i u b m ended
     ends w b ended same notes became by = record {
       version = w;
       notes = notes;
@@ -66,12 +66,12 @@ module _ (i found : ℕ) (u a : View) (is : a ≡ subbed i found (back i found u
     }
 
 -- it wasn't the last one, or the slot isn't failed
-pub not_last : (i found next : ℕ) → next ≡ found - 1 → 0 < nref_of found → nref_of next ≢ 0 → zero_left i found ≡ []
-not_last i found next is some_ more = by_cases (eqb (version_of found % 2) 1) (eqb (nref_of found) 1) (ne_eqb (nref_of found) 1 (λ e. more (omega arith)))
+pub not_last : (i found next : ℕ) → next ≡ found - 1 → 0 < vref_nref found → vref_nref next ≢ 0 → zero_left i found ≡ []
+not_last i found next is some_ more = by_cases (eqb (vref_version found % 2) 1) (eqb (vref_nref found) 1) (ne_eqb (vref_nref found) 1 (λ e. more (omega arith)))
   where
-    by_cases : (b d : Bool) → d ≡ false → cond b (cond d (Zero (version_of found) ∷ []) []) [] ≡ []
-    by_cases true d e = ap (λ x. cond x (Zero (version_of found) ∷ []) []) e
+    by_cases : (b d : Bool) → d ≡ false → cond b (cond d (Zero (vref_version found) ∷ []) []) [] ≡ []
+    by_cases true d e = ap (λ x. cond x (Zero (vref_version found) ∷ []) []) e
     by_cases false d e = refl
 
-pub not_odd : (i found next : ℕ) → next ≡ found - 1 → 0 < nref_of found → version_of next % 2 ≢ 1 → zero_left i found ≡ []
-not_odd i found next is some_ even = ap (λ b. cond b (cond (eqb (nref_of found) 1) (Zero (version_of found) ∷ []) []) []) (ne_eqb (version_of found % 2) 1 (λ e. even (omega arith)))
+pub not_odd : (i found next : ℕ) → next ≡ found - 1 → 0 < vref_nref found → vref_version next % 2 ≢ 1 → zero_left i found ≡ []
+not_odd i found next is some_ even = ap (λ b. cond b (cond (eqb (vref_nref found) 1) (Zero (vref_version found) ∷ []) []) []) (ne_eqb (vref_version found % 2) 1 (λ e. even (omega arith)))

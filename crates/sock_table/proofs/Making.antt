@@ -3,14 +3,13 @@ use Rattle.std.proofs.Common.{◌≡◌, ◌≢◌, ℕ, ◌+◌, ◌<◌, List,
 use mathlib.Core.Logic.{dite}
 use native.Mathlib.Decide.{ℕ_discrete}
 use Rattle.sock_words.specs.declared.plain.Plan.{Plan}
-use Rattle.sock_words.specs.Words.{socket_id, socket_id_version, socket_id_slot}
+use Rattle.sock_words.specs.Words.{socket_id, socket_id_version, socket_id_slot, vref_version}
 use Rattle.sock_model.specs.declared.marks.Mark.{Mark}
 use Rattle.sock_model.specs.declared.marks.Mark.TheVariants.{Claimed, Tried, Known, Born, Linked}
 use Rattle.sock_model.specs.declared.view.View.{View}
 use Rattle.sock_model.specs.Weights.{total, only, is_ref, is_stage, is_claimed, is_probe, is_any_coding, is_zero, is_known, is_tried}
 use Rattle.sock_model.specs.Marks.{about, at, without_at, without_pass}
 use Rattle.sock_model.specs.Seats.{carrier, joined}
-use Rattle.sock_model.specs.Slots.{version_of}
 use Rattle.sock_model.specs.SlotRows.{marks_of, claimed, linked, staged, gave_birth}
 use Rattle.sock_rule.specs.slot_steps.proofs.Numbers.{only-same, only-else, pair-same, pair_only}
 use Rattle.sock_rule.specs.slot_steps.proofs.Sums.{total-append}
@@ -74,17 +73,17 @@ module _ (p : Plan) (u a x : View) (k : ℕ) (is : x ≡ carrier p (k ∷ [])) (
           pub stage_three : 0 < marks_of (is_stage 3 k) i d
           stage_three = let x = (next_stage 2 3 c d stage_two wiped).here (is_stage 3 k) in let s = pair-same 3 k in let o = other_stage 3 k 2 k (λ q. omega arith) in omega arith
 
-          module _ (found id : ℕ) (e : View) (born : e ≡ gave_birth i found k d) (small : i < 65536) (packed : id ≡ socket_id (version_of found) i) where
-            four : Became i d e (Linked (version_of found) k ∷ Born (version_of found) ∷ Known (version_of found) ∷ []) (Claimed 3 k ∷ [])
-            four = let h : ℕ = version_of found in let r = without_at i (is_stage 3 k) d.marks in becomes i born
+          module _ (found id : ℕ) (e : View) (born : e ≡ gave_birth i found k d) (small : i < 65536) (packed : id ≡ socket_id (vref_version found) i) where
+            four : Became i d e (Linked (vref_version found) k ∷ Born (vref_version found) ∷ Known (vref_version found) ∷ []) (Claimed 3 k ∷ [])
+            four = let h : ℕ = vref_version found in let r = without_at i (is_stage 3 k) d.marks in becomes i born
                 (then_ i (then_ i (then_ i (drops_mark i (is_stage 3 k) (Claimed 3 k) d (stage_is 3 k) stage_three) (adds_mark i (Linked h k) record d { marks = without_at i (is_stage 3 k) d.marks }))
                 (adds_mark i (Born h) record d { marks = at i (Linked h k) ∷ without_at i (is_stage 3 k) d.marks })) (adds_mark i (Known h) record d { marks = at i (Born h) ∷ at i (Linked h k) ∷ without_at i (is_stage 3 k) d.marks }))
 
-            all : Became i (record a { passes = b.passes }) e (Claimed 1 k ∷ Claimed 2 k ∷ Claimed 3 k ∷ Linked (version_of found) k ∷ Born (version_of found) ∷ Known (version_of found) ∷ []) (Claimed 0 0 ∷ Claimed 1 k ∷ Claimed 2 k ∷ Claimed 3 k ∷ [])
+            all : Became i (record a { passes = b.passes }) e (Claimed 1 k ∷ Claimed 2 k ∷ Claimed 3 k ∷ Linked (vref_version found) k ∷ Born (vref_version found) ∷ Known (vref_version found) ∷ []) (Claimed 0 0 ∷ Claimed 1 k ∷ Claimed 2 k ∷ Claimed 3 k ∷ [])
             all = then_ i three four
 
             pub made : Made p i id k u e
-            made = let v : socket_id_version id ≡ version_of found = omega arith in record {
+            made = let v : socket_id_version id ≡ vref_version found = omega arith in record {
               slot = omega arith;
               here = λ f. (let x = all.here f in let y = ap (λ es. total f (about i es)) marks_same in let l = ap (λ (n : ℕ). f (Linked n k)) v in let m = ap (λ (n : ℕ). f (Born n)) v in let n = ap (λ (n : ℕ). f (Known n)) v in omega arith);
               elsewhere = λ j ne. all.elsewhere j ne ∙ ap (about j) marks_same;

@@ -4,12 +4,12 @@ use Rattle.std.specs.List.{AllByRecursion}
 use mathlib.Core.Logic.{dite}
 use native.Mathlib.Decide.{ℕ_discrete}
 use Rattle.sock_words.specs.declared.plain.Plan.{Plan}
-use Rattle.corr_core.specs.Word.{Parts, made_word}
+use Rattle.corr_core.specs.Word.{Parts, made_word, call_id, id_slot, id_first}
 use Rattle.corr_core.specs.declared.marks.Plan.{Plan as IdPlan}
 use Rattle.seat_programs.specs.id_rule.specs.Lawful.{all_words}
 use Rattle.sock_message.specs.Asked.{Asked}
 use Rattle.seat_programs.specs.declared.task.Task.{Task}
-use Rattle.seat_programs.specs.Asides.{Step, Found, call_id, id_slot, id_first}
+use Rattle.seat_programs.specs.Asides.{Step, Found}
 use Rattle.call_stories.specs.Scenes.{Birth, Scene, In, IsBorn}
 use Rattle.call_stories.specs.Says.{Claims, Mark, MayAside}
 use Rattle.call_stories.specs.Stories.{word_at, LiesAt, SlotFits, HasPassed, IsCurrent, AreApart, AllApart, BirthsLaw, IsBehind, KnowsStep}

@@ -5,13 +5,13 @@ use native.Mathlib.Decide.{ℕ_discrete}
 use Rattle.sock_words.specs.declared.plain.Plan.{Plan}
 use Rattle.sock_words.specs.declared.outcome.Outcome.{Outcome}
 use Rattle.sock_words.specs.declared.outcome.Outcome.TheVariants as outcomes
-use Rattle.corr_core.specs.Word.{parts, error_of}
+use Rattle.corr_core.specs.Word.{parts, error_of, call_id, id_slot, id_first}
 use Rattle.corr_core.specs.declared.marks.Plan.{Plan as IdPlan}
 use Rattle.sock_message.specs.Asked.{Asked, name_of}
 use Rattle.seat_programs.specs.declared.task.Op.{Op}
 use Rattle.seat_programs.specs.declared.task.Op.TheVariants as ops
 use Rattle.seat_programs.specs.declared.task.Task.{Task}
-use Rattle.seat_programs.specs.Asides.{PutCall, MakeId, StoreCall, call_id, id_slot, id_first}
+use Rattle.seat_programs.specs.Asides.{PutCall, MakeId, StoreCall}
 use Rattle.seat_programs.specs.Heads.{Retry, Unlocks, Joins, Posting, WasGone, WasStale, WasCrowded, WasQueued, HasLocked, Unlocking, IsOpen, HasNext, HasEnded, GoesOn, Locking, NotThere, Has}
 use Rattle.seat_programs.specs.Programs.{Program, Say, Aside, Round}
 use Rattle.seat_programs.specs.Posts.{post, post_with, posted, decide, decided}

@@ -9,7 +9,6 @@ use Rattle.corr_core.specs.declared.marks.Plan.{Plan as IdPlan}
 use Rattle.sock_message.specs.Asked.{Asked}
 use Rattle.seat_programs.specs.declared.task.Op.TheVariants as ops
 use Rattle.seat_programs.specs.declared.task.Task.{Task}
-use Rattle.seat_programs.specs.Asides.{id_slot}
 use Rattle.seat_programs.specs.Told.{IsTask, Became}
 use Rattle.seat_programs.specs.ToldCalls.{Fixed, Order, IsAnsweredBy}
 use Rattle.call_stories.specs.Lists.{given}
@@ -18,6 +17,7 @@ use Rattle.call_stories.specs.Scenes.{Birth, Scene, In, IsAnsweredIn, WhyEnded, 
 use Rattle.call_stories.specs.Says.{Mark}
 use Rattle.call_stories.specs.Stories.{At, word_at, undo, BirthsLaw, TasksLaw}
 use Rattle.story_steps.proofs.BirthTicks.{two_of}
+use Rattle.corr_core.specs.Word.{id_slot}
 
 -- ## Lists
 

@@ -8,12 +8,12 @@ use Rattle.seat_programs.specs.brpc_model.specs.Frame.{Frame}
 use Rattle.seat_programs.specs.brpc_model.specs.Stream as streams
 use Rattle.seat_programs.specs.brpc_model.specs.Causes.{HasFault}
 use Rattle.seat_programs.specs.brpc_model.specs.ResponseOutcome.{by_code, outcome_by, ending_of}
-use Rattle.corr_core.specs.Word.{parts, error_of, code_of, attempt_of}
+use Rattle.corr_core.specs.Word.{parts, error_of, code_of, attempt_of, call_id, id_slot, id_first}
 use Rattle.corr_core.specs.declared.marks.Plan.{Plan as IdPlan}
 use Rattle.corr_core.specs.Versions.{is_early}
 use Rattle.sock_message.specs.Asked.{Asked}
 use Rattle.seat_programs.specs.declared.task.Task.{Task}
-use Rattle.seat_programs.specs.Asides.{Taking, Bytes, Nothing, Closed, call_id, id_slot, id_first}
+use Rattle.seat_programs.specs.Asides.{Taking, Bytes, Nothing, Closed}
 use Rattle.seat_programs.specs.Heads.{Version, Reading, Locks, Opens, Reads, Discards, WasGone, WasStale, WasCrowded, WasQueued, HasLocked, Locking, NotThere, Has, Ended}
 use Rattle.seat_programs.specs.Programs.{Program, Rest, Say, Round, NO_SOCKET, address, release, set_failed}
 use Rattle.seat_programs.specs.Posts.{is_stale, post_with, decided}

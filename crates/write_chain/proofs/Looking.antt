@@ -16,7 +16,6 @@ use Rattle.sock_words.specs.Words.{socket_id_version, socket_id_slot, vref_versi
 use Rattle.sock_model.specs.declared.marks.Mark.{Mark}
 use Rattle.sock_model.specs.declared.marks.Mark.TheVariants.{Saw}
 use Rattle.sock_model.specs.declared.view.View.{View}
-use Rattle.sock_model.specs.Slots.{version_of}
 use Rattle.sock_model.specs.Weights.{is_hold, is_met, is_saw}
 use Rattle.sock_model.specs.SlotRows.{marks_of, looked}
 use Rattle.sock_open.specs.slot_steps.proofs.Numbers.{only-same}
@@ -51,46 +50,46 @@ never_true false f = refl
 
 -- whether the word that was found is a failed one
 module _ (b : Bool) (found word : ℕ) (same : word ≡ found) (is : IsTrue b ↔ IsFailedVref word) where
-  pub found_live : not b ≡ true → version_of found % 2 ≡ 0
-  found_live t = dite (ℕ_discrete (version_of found % 2) 0) (λ e. e) (λ ne. absurd (false_true (sym (not_true b t) ∙ is.1 (ap (λ (w : ℕ). version_of w % 2) same ∙ omega arith))))
+  pub found_live : not b ≡ true → vref_version found % 2 ≡ 0
+  found_live t = dite (ℕ_discrete (vref_version found % 2) 0) (λ e. e) (λ ne. absurd (false_true (sym (not_true b t) ∙ is.1 (ap (λ (w : ℕ). vref_version w % 2) same ∙ omega arith))))
 
-  pub found_dead : not b ≡ false → version_of found % 2 ≢ 0
-  found_dead f e = let odd : version_of word % 2 ≡ 1 = is.0 (not_false b f) in let k = ap (λ (w : ℕ). version_of w % 2) same in absurd (omega arith)
+  pub found_dead : not b ≡ false → vref_version found % 2 ≢ 0
+  found_dead f e = let odd : vref_version word % 2 ≡ 1 = is.0 (not_false b f) in let k = ap (λ (w : ℕ). vref_version w % 2) same in absurd (omega arith)
 
 module _ {O : Type 0} {g : Ghosts O} {p : Plan} {ways : List (List ℕ)} {id last : ℕ} (hand : InHand O g) (m n : Me (SockHome O g) View) (slot found : ℕ) (at : slot ≡ socket_id_slot id) (h : HasPart p ways id last hand m) (l : LookedToWrite h.0.right_is slot found m n) where
-  became_looked : Became (socket_id_slot id) m.0 (looked slot found m.0) (Saw (version_of found) ∷ []) []
-  became_looked = subst (λ (j : ℕ). Became j m.0 (looked slot found m.0) (Saw (version_of found) ∷ []) []) at (looked_marks slot found m.0)
+  became_looked : Became (socket_id_slot id) m.0 (looked slot found m.0) (Saw (vref_version found) ∷ []) []
+  became_looked = subst (λ (j : ℕ). Became j m.0 (looked slot found m.0) (Saw (vref_version found) ∷ []) []) at (looked_marks slot found m.0)
 
-  noted_saw : {L : ℕ → Type 0} → Noted g.state L (socket_id_version id) (Saw (version_of found) ∷ [])
-  noted_saw {L} = found_it (Saw (version_of found)) (saw (version_of found))
+  noted_saw : {L : ℕ → Type 0} → Noted g.state L (socket_id_version id) (Saw (vref_version found) ∷ [])
+  noted_saw {L} = found_it (Saw (vref_version found)) (saw (vref_version found))
 
-  pub live : version_of found % 2 ≡ 0 → IsClean p ways id last hand n
-  live even = part_clean {L = λ k. ⊥} hand m n (looked slot found m.0) (Saw (version_of found) ∷ []) noted_saw became_looked (λ t. h.0.noted (became_faults hand.link (socket_id_slot id) m.0 (looked slot found m.0) _ _ became_looked refl t)) h (l.1 even)
+  pub live : vref_version found % 2 ≡ 0 → IsClean p ways id last hand n
+  live even = part_clean {L = λ k. ⊥} hand m n (looked slot found m.0) (Saw (vref_version found) ∷ []) noted_saw became_looked (λ t. h.0.noted (became_faults hand.link (socket_id_slot id) m.0 (looked slot found m.0) _ _ became_looked refl t)) h (l.1 even)
 
-  odd_is : version_of found % 2 ≢ 0 → version_of found ≡ socket_id_version id + 1
+  odd_is : vref_version found % 2 ≢ 0 → vref_version found ≡ socket_id_version id + 1
   odd_is odd = let a = l.0.held (socket_id_version id) (subst (λ (j : ℕ). 0 < marks_of (is_hold (socket_id_version id)) j m.0) (sym at) h.0.writer.holds.held) in omega arith
 
-  pub dead : version_of found % 2 ≢ 0 → HasPart p ways id last hand n × FoundDead id n.0
-  dead odd = let v = ap (λ (q : Me (SockHome O g) View). q.0) (l.2 odd) in let b : Became (socket_id_slot id) m.0 n.0 (Saw (version_of found) ∷ []) [] = subst (λ (y : View). Became (socket_id_slot id) m.0 y (Saw (version_of found) ∷ []) []) (sym v) became_looked in
-      let one : is_saw (socket_id_version id + 1) (Saw (version_of found)) ≡ 1 = ap (λ (y : ℕ). is_saw (socket_id_version id + 1) (Saw y)) (odd_is odd) ∙ only-same (socket_id_version id + 1) in (
-        part_noted {L = λ k. ⊥} hand m n (Saw (version_of found) ∷ []) noted_saw b (ap (λ (q : Me (SockHome O g) View). q.1) (l.2 odd)) (λ t. h.0.noted (became_faults hand.link (socket_id_slot id) m.0 n.0 _ _ b refl t)) h,
-        (let x : marks_of (is_saw (socket_id_version id + 1)) (socket_id_slot id) n.0 + 0 ≡ marks_of (is_saw (socket_id_version id + 1)) (socket_id_slot id) m.0 + (is_saw (socket_id_version id + 1) (Saw (version_of found)) + 0) = b.here (is_saw (socket_id_version id + 1)) in omega arith),
+  pub dead : vref_version found % 2 ≢ 0 → HasPart p ways id last hand n × FoundDead id n.0
+  dead odd = let v = ap (λ (q : Me (SockHome O g) View). q.0) (l.2 odd) in let b : Became (socket_id_slot id) m.0 n.0 (Saw (vref_version found) ∷ []) [] = subst (λ (y : View). Became (socket_id_slot id) m.0 y (Saw (vref_version found) ∷ []) []) (sym v) became_looked in
+      let one : is_saw (socket_id_version id + 1) (Saw (vref_version found)) ≡ 1 = ap (λ (y : ℕ). is_saw (socket_id_version id + 1) (Saw y)) (odd_is odd) ∙ only-same (socket_id_version id + 1) in (
+        part_noted {L = λ k. ⊥} hand m n (Saw (vref_version found) ∷ []) noted_saw b (ap (λ (q : Me (SockHome O g) View). q.1) (l.2 odd)) (λ t. h.0.noted (became_faults hand.link (socket_id_slot id) m.0 n.0 _ _ b refl t)) h,
+        (let x : marks_of (is_saw (socket_id_version id + 1)) (socket_id_slot id) n.0 + 0 ≡ marks_of (is_saw (socket_id_version id + 1)) (socket_id_slot id) m.0 + (is_saw (socket_id_version id + 1) (Saw (vref_version found)) + 0) = b.here (is_saw (socket_id_version id + 1)) in omega arith),
       )
 
   -- a life that was found failed is found so again
-  pub dead_again : FoundDead id m.0 → version_of found % 2 ≢ 0
+  pub dead_again : FoundDead id m.0 → vref_version found % 2 ≢ 0
   dead_again d even = let s = l.0.saw (socket_id_version id + 1) (subst (λ (j : ℕ). 0 < marks_of (is_saw (socket_id_version id + 1)) j m.0) (sym at) d) in
       let a = l.0.held (socket_id_version id) (subst (λ (j : ℕ). 0 < marks_of (is_hold (socket_id_version id)) j m.0) (sym at) h.0.writer.holds.held) in absurd (omega arith)
 
   pub looked_wrote : Wrote g.state id m.0 n.0
   looked_wrote = record {
-    notes = Saw (version_of found) ∷ [];
+    notes = Saw (vref_version found) ∷ [];
     noted = noted_saw;
-    became = subst (λ (y : View). Became (socket_id_slot id) m.0 y (Saw (version_of found) ∷ []) []) (sym by_found) became_looked;
+    became = subst (λ (y : View). Became (socket_id_slot id) m.0 y (Saw (vref_version found) ∷ []) []) (sym by_found) became_looked;
   }
     where
       by_found : record n.0 { rights = m.0.rights } ≡ looked slot found m.0
-      by_found = dite (ℕ_discrete (version_of found % 2) 0) (λ even. ap (λ (q : Me (SockHome O g) View). record q.0 { rights = m.0.rights }) (l.1 even)) (λ odd. ap (λ (q : Me (SockHome O g) View). record q.0 { rights = m.0.rights }) (l.2 odd))
+      by_found = dite (ℕ_discrete (vref_version found % 2) 0) (λ even. ap (λ (q : Me (SockHome O g) View). record q.0 { rights = m.0.rights }) (l.1 even)) (λ odd. ap (λ (q : Me (SockHome O g) View). record q.0 { rights = m.0.rights }) (l.2 odd))
 
 -- ## The link failed
 

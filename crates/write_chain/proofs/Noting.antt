@@ -2,7 +2,7 @@
 use Rattle.std.proofs.Common.{◌≡◌, ℕ, ◌+◌, ◌≤◌, true, List, [], ◌∷◌, ◌++◌, refl, sym, ap, ◌∙◌, subst, arith}
 use Rattle.sock_io.specs.Link.{OutState}
 use Rattle.sock_words.specs.declared.plain.Plan.{Plan}
-use Rattle.sock_words.specs.Words.{socket_id_version, socket_id_slot}
+use Rattle.sock_words.specs.Words.{socket_id_version, socket_id_slot, place_word}
 use Rattle.sock_model.specs.declared.chain.Right.{Right}
 use Rattle.sock_model.specs.declared.marks.Mark.{Mark}
 use Rattle.sock_model.specs.declared.chain.Heading.{Heading}
@@ -12,7 +12,6 @@ use Rattle.sock_model.specs.Weights.{total, is_ref, is_met}
 use Rattle.sock_model.specs.declared.view.StoredWord.{StoredWord}
 use Rattle.sock_model.specs.ChainRows.{with_right}
 use Rattle.sock_model.specs.Layout.{place_index}
-use Rattle.sock_model.specs.Deliveries.{place_value}
 use Rattle.sock_model.specs.Marks.{noted}
 use Rattle.sock_model.specs.SlotRows.{marks_of}
 use Rattle.sock_rule.specs.Rows.{dropped_at}
@@ -88,7 +87,7 @@ module _ {O : Type 0} {state : O → OutState} {id : ℕ} where
     position = b.position;
     low = b.low;
     met = b.met;
-    stores = b.stores ∙ ap (noted record { place = place_index p msg.label.place; word = place_value true b.link b.position }) same;
+    stores = b.stores ∙ ap (noted record { place = place_index p msg.label.place; word = place_word true b.link b.position }) same;
     heading = b.heading;
     drops = b.drops ∙ ap (λ (l : List Heading). b.heading ∷ l) kept;
     place_is = b.place_is;

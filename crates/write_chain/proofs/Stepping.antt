@@ -7,14 +7,13 @@ use Rattle.sock_io.specs.Link.{OutState}
 use Rattle.sock_words.specs.declared.plain.Plan.{Plan}
 use Rattle.sock_words.specs.declared.plain.Label.{Label}
 use Rattle.sock_words.specs.declared.ticket.Ticket.{Ticket}
-use Rattle.sock_words.specs.Words.{socket_id_version, socket_id_slot}
+use Rattle.sock_words.specs.Words.{socket_id_version, socket_id_slot, ticket_request}
 use Rattle.sock_model.specs.declared.chain.Right.{Right}
 use Rattle.sock_model.specs.declared.chain.Stage.{Stage}
 use Rattle.sock_model.specs.declared.chain.Stage.TheVariants.{Writes, Placed, Passes, Empties, Walks, Turns}
 use Rattle.sock_model.specs.declared.marks.Mark.{Mark}
 use Rattle.sock_model.specs.declared.marks.Mark.TheVariants.{Met}
 use Rattle.sock_model.specs.declared.view.View.{View}
-use Rattle.sock_model.specs.Entries.{slot_of}
 use Rattle.sock_model.specs.Links.{HoldsLink}
 use Rattle.sock_model.specs.Weights.{is_ref, is_hold, is_met}
 use Rattle.sock_model.specs.SlotRows.{met_link}
@@ -135,7 +134,7 @@ module _ {O : Type 0} {g : Ghosts O} {p : Plan} {ways : List (List ℕ)} {id las
       took = w.took ∙ (ap (λ y. y ++ taken) h.took ∙ append_assoc h.right_is.sent h.begun taken);
       noted = λ t. (let a = h.noted (subst (λ (y : ℕ). 0 < faults_of y m.0) k t) in let b = w.later in omega arith);
       few = subst (λ (n : ℕ). n < 4294967295) (sym w.next) h.few;
-      slots = h.slots ∙ (λ i. (slot_of (sym t i).0, Empty) ∷ (p.requests + sym k i, Empty) ∷ []);
+      slots = h.slots ∙ (λ i. (ticket_request (sym t i).0, Empty) ∷ (p.requests + sym k i, Empty) ∷ []);
     },
     refl,
     refl,
@@ -187,7 +186,7 @@ module _ {O : Type 0} {g : Ghosts O} {p : Plan} {ways : List (List ℕ)} {id las
 
   -- M2
   pub letter_taken : (hand : LinkInHand O g) (new : InHand O g) (now : ℕ) (msg : Letter) (m n : Me (SockHome O g) View) (h : HasLink p ways id last (Writes now) [] hand m) → IsTicket p now → msg.label.place < 8 * p.operations → h.right_is.places < 4294967295
-      → n ≡ (with_right m.0 (taken_right h.right_is (heading_of msg) (parcel_of msg.bytes).bytes), (slot_of now, Empty) ∷ m.1)
+      → n ≡ (with_right m.0 (taken_right h.right_is (heading_of msg) (parcel_of msg.bytes).bytes), (ticket_request now, Empty) ∷ m.1)
       → new.link ≡ hand.link → new.home ≡ hand.home → new.now.0 ≡ now → (outgoing_of new.bytes).left ≡ (parcel_of msg.bytes).bytes → new.label ≡ msg.label → new.owner ≡ msg.owner → HasPart p ways id last new n
   letter_taken hand new now msg m n h ticket label few e same_link same_home same_now left same_label same_owner = let x' : Right = taken_right h.right_is (heading_of msg) (parcel_of msg.bytes).bytes in let its : LinkHome O g → ℕ = λ y. y.next in (
     record {
@@ -213,14 +212,14 @@ module _ {O : Type 0} {g : Ghosts O} {p : Plan} {ways : List (List ℕ)} {id las
       took = ap (λ (y : LinkHome O g). y.took.list) same_home ∙ (h.took ∙ sym (append-nil h.right_is.sent));
       noted = λ t. subst (λ (y : LinkHome O g). 0 < (g.state y.out).faults) (sym same_home) (h.noted (subst (λ (k : ℕ). 0 < faults_of k m.0) same_link (subst (λ (y : View). 0 < faults_of new.link y) (ap (λ (q : Me (SockHome O g) View). q.0) e) t)));
       few = subst (λ (y : ℕ). y < 4294967295) (sym (ap (λ (y : LinkHome O g). y.next) same_home ∙ h.has.places_are)) few;
-      slots = ap (λ (q : Me (SockHome O g) View). q.1) e ∙ ((λ i. (slot_of now, Empty) ∷ h.slots i) ∙ (λ i. (slot_of (sym same_now i), Empty) ∷ (p.requests + sym same_link i, Empty) ∷ []));
+      slots = ap (λ (q : Me (SockHome O g) View). q.1) e ∙ ((λ i. (ticket_request now, Empty) ∷ h.slots i) ∙ (λ i. (ticket_request (sym same_now i), Empty) ∷ (p.requests + sym same_link i, Empty) ∷ []));
     },
     inl refl,
   )
 
   -- P1
   pub whole_placed : (hand : InHand O g) (home : LinkHome O g) (m n : Me (SockHome O g) View) (h : HasWhole p ways id last hand m) → (home.took.list ≡ hand.home.took.list) × (home.next ≡ hand.home.next + 1) → home.out ≡ hand.home.out
-      → n ≡ (with_right m.0 (placed_right h.0.right_is hand.now.0), m.1) → HasLink p ways id last (Placed hand.now.0) ((slot_of hand.now.0, Empty) ∷ []) record { link = hand.link; home = home } n
+      → n ≡ (with_right m.0 (placed_right h.0.right_is hand.now.0), m.1) → HasLink p ways id last (Placed hand.now.0) ((ticket_request hand.now.0, Empty) ∷ []) record { link = hand.link; home = home } n
   whole_placed hand home m n h more out e = let r = h.0 in let x' : Right = placed_right h.0.right_is hand.now.0 in record {
     right_is = placed_right h.0.right_is hand.now.0;
     writer = writer_on r.writer last x' refl r.writer.last_is r.writer.last_ticket (ap (λ (q : Me (SockHome O g) View). q.0) e);
@@ -242,7 +241,7 @@ module _ {O : Type 0} {g : Ghosts O} {p : Plan} {ways : List (List ℕ)} {id las
 
   -- P1 with the dropped bit
   pub part_dropped : (hand : InHand O g) (home : LinkHome O g) (m n : Me (SockHome O g) View) (h : HasInHand p ways id last hand m) → (home.took.list ≡ hand.home.took.list) × (home.next ≡ hand.home.next + 1) → home.out ≡ hand.home.out
-      → (word value : ℕ) → n ≡ (dropped_at word value h.right_is.heading (with_right m.0 (dropped_right h.right_is hand.now.0 hand.home.took.list)), m.1) → HasLink p ways id last (Placed hand.now.0) ((slot_of hand.now.0, Empty) ∷ []) record { link = hand.link; home = home } n
+      → (word value : ℕ) → n ≡ (dropped_at word value h.right_is.heading (with_right m.0 (dropped_right h.right_is hand.now.0 hand.home.took.list)), m.1) → HasLink p ways id last (Placed hand.now.0) ((ticket_request hand.now.0, Empty) ∷ []) record { link = hand.link; home = home } n
   part_dropped hand home m n r more out word value e = let x' : Right = dropped_right r.right_is hand.now.0 hand.home.took.list in record {
     right_is = dropped_right r.right_is hand.now.0 hand.home.took.list;
     writer = writer_dropped r.writer word value r.right_is.heading x' refl r.writer.last_is (ap (λ (q : Me (SockHome O g) View). q.0) e);
@@ -255,22 +254,22 @@ module _ {O : Type 0} {g : Ghosts O} {p : Plan} {ways : List (List ℕ)} {id las
   }
 
   -- C8
-  pub may_free : {at : Stage} (next : Stage) (now : ℕ) (hand : LinkInHand O g) (m : Me (SockHome O g) View) (h : HasLink p ways id last at ((slot_of now, Empty) ∷ []) hand m) → Follows h.right_is.last h.right_is.stage now next → MayFreeRequest now m
-  may_free next now hand m h follows = record { right = h.right_is; one = h.writer.one; next = next; follows = follows; value = Empty; home = h.slots ∙ ap (λ (l : List (ℕ × SockHome O g)). (slot_of now, Empty) ∷ l) (sym (ap rest h.slots)) }
+  pub may_free : {at : Stage} (next : Stage) (now : ℕ) (hand : LinkInHand O g) (m : Me (SockHome O g) View) (h : HasLink p ways id last at ((ticket_request now, Empty) ∷ []) hand m) → Follows h.right_is.last h.right_is.stage now next → MayFreeRequest now m
+  may_free next now hand m h follows = record { right = h.right_is; one = h.writer.one; next = next; follows = follows; value = Empty; home = h.slots ∙ ap (λ (l : List (ℕ × SockHome O g)). (ticket_request now, Empty) ∷ l) (sym (ap rest h.slots)) }
 
-  pub ends_at : (now : ℕ) (hand : LinkInHand O g) (m : Me (SockHome O g) View) (h : HasLink p ways id last (Placed now) ((slot_of now, Empty) ∷ []) hand m) → now ≡ last → Follows h.right_is.last h.right_is.stage now Empties
+  pub ends_at : (now : ℕ) (hand : LinkInHand O g) (m : Me (SockHome O g) View) (h : HasLink p ways id last (Placed now) ((ticket_request now, Empty) ∷ []) hand m) → now ≡ last → Follows h.right_is.last h.right_is.stage now Empties
   ends_at now hand m h e = subst (λ (b : Stage). Follows h.right_is.last b now Empties) (sym h.stage_is) (ends now (e ∙ sym h.writer.last_is))
 
-  pub past_end : (now : ℕ) (hand : LinkInHand O g) (m n : Me (SockHome O g) View) (h : HasLink p ways id last (Placed now) ((slot_of now, Empty) ∷ []) hand m) → n ≡ (with_right m.0 (freed_right h.right_is), rest m.1) → HasLink p ways id last Empties [] hand n
+  pub past_end : (now : ℕ) (hand : LinkInHand O g) (m n : Me (SockHome O g) View) (h : HasLink p ways id last (Placed now) ((ticket_request now, Empty) ∷ []) hand m) → n ≡ (with_right m.0 (freed_right h.right_is), rest m.1) → HasLink p ways id last Empties [] hand n
   past_end now hand m n h e = link_moves hand m n h (freed_right h.right_is) (rest m.1) refl h.writer.last_is h.writer.last_ticket h.has.away refl refl h.idle (ap freed_stage h.stage_is) e (ap rest h.slots)
 
-  pub passes_by : (now found : ℕ) (hand : LinkInHand O g) (m n : Me (SockHome O g) View) (h : HasLink p ways id last (Placed now) ((slot_of now, Empty) ∷ []) hand m) → n ≡ (with_right m.0 (passing_right h.right_is now found), m.1) → HasLink p ways id last (Passes now found) ((slot_of now, Empty) ∷ []) hand n
+  pub passes_by : (now found : ℕ) (hand : LinkInHand O g) (m n : Me (SockHome O g) View) (h : HasLink p ways id last (Placed now) ((ticket_request now, Empty) ∷ []) hand m) → n ≡ (with_right m.0 (passing_right h.right_is now found), m.1) → HasLink p ways id last (Passes now found) ((ticket_request now, Empty) ∷ []) hand n
   passes_by now found hand m n h e = link_moves hand m n h (passing_right h.right_is now found) m.1 refl h.writer.last_is h.writer.last_ticket h.has.away refl refl h.idle refl e h.slots
 
-  pub goes_to : (now found : ℕ) (hand : LinkInHand O g) (m : Me (SockHome O g) View) (h : HasLink p ways id last (Passes now found) ((slot_of now, Empty) ∷ []) hand m) → Follows h.right_is.last h.right_is.stage now (Writes found)
+  pub goes_to : (now found : ℕ) (hand : LinkInHand O g) (m : Me (SockHome O g) View) (h : HasLink p ways id last (Passes now found) ((ticket_request now, Empty) ∷ []) hand m) → Follows h.right_is.last h.right_is.stage now (Writes found)
   goes_to now found hand m h = subst (λ (b : Stage). Follows h.right_is.last b now (Writes found)) (sym h.stage_is) (goes_on now found)
 
-  pub past_next : (now found : ℕ) (hand : LinkInHand O g) (m n : Me (SockHome O g) View) (h : HasLink p ways id last (Passes now found) ((slot_of now, Empty) ∷ []) hand m) → n ≡ (with_right m.0 (freed_right h.right_is), rest m.1) → HasLink p ways id last (Writes found) [] hand n
+  pub past_next : (now found : ℕ) (hand : LinkInHand O g) (m n : Me (SockHome O g) View) (h : HasLink p ways id last (Passes now found) ((ticket_request now, Empty) ∷ []) hand m) → n ≡ (with_right m.0 (freed_right h.right_is), rest m.1) → HasLink p ways id last (Writes found) [] hand n
   past_next now found hand m n h e = link_moves hand m n h (freed_right h.right_is) (rest m.1) refl h.writer.last_is h.writer.last_ticket h.has.away refl refl h.idle (ap freed_stage h.stage_is) e (ap rest h.slots)
 
   -- L2

@@ -4,7 +4,7 @@ use Rattle.sock_io.specs.Link.{OutState}
 use Rattle.sock_io.specs.Causes.{Rose}
 use Rattle.sock_words.specs.declared.plain.Plan.{Plan}
 use Rattle.sock_words.specs.Codes.{EFAILEDSOCKET}
-use Rattle.sock_words.specs.Words.{socket_id_version, socket_id_slot}
+use Rattle.sock_words.specs.Words.{socket_id_version, socket_id_slot, place_word}
 use Rattle.sock_model.specs.declared.marks.Mark.{Mark}
 use Rattle.sock_model.specs.declared.marks.Mark.TheVariants.{Saw, Failer, Stored, Told, Met}
 use Rattle.sock_model.specs.declared.chain.Heading.{Heading}
@@ -12,7 +12,6 @@ use Rattle.sock_model.specs.declared.view.View.{View}
 use Rattle.write_chain.specs.declared.right.Undelivered.{Undelivered}
 use Rattle.sock_model.specs.Weights.{is_met}
 use Rattle.sock_model.specs.Layout.{place_index}
-use Rattle.sock_model.specs.Deliveries.{place_value}
 use Rattle.sock_model.specs.Marks.{noted}
 use Rattle.sock_model.specs.SlotRows.{marks_of}
 use Rattle.sock_rule.specs.Becoming.{Became}
@@ -57,7 +56,7 @@ pub record WroteDrop {O : Type 0} (state : O → OutState) (p : Plan) (id : ℕ)
   -- so the word tells its link
   pub low : position < 4294967295
   pub met : Met_by id w link
-  pub stores : w.stores ≡ noted record { place = place_index p msg.label.place; word = place_value true link position } v.stores
+  pub stores : w.stores ≡ noted record { place = place_index p msg.label.place; word = place_word true link position } v.stores
   pub heading : Heading
   pub drops : w.drops ≡ heading ∷ v.drops
   pub place_is : heading.place ≡ msg.label.place

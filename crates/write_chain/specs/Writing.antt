@@ -3,12 +3,11 @@ use Rattle.std.specs.Prelude.{◌≡◌, ◌≢◌, ℕ, ◌+◌, ◌*◌, ◌<�
 use Rattle.atomic_table.specs.Table.{Me}
 use Rattle.sock_io.specs.declared.link.Out.{Ghosts}
 use Rattle.sock_words.specs.declared.plain.Plan.{Plan}
-use Rattle.sock_words.specs.Words.{socket_id_version, socket_id_slot}
+use Rattle.sock_words.specs.Words.{socket_id_version, socket_id_slot, ticket_request}
 use Rattle.sock_model.specs.declared.chain.Right.{Right}
 use Rattle.sock_model.specs.declared.chain.Stage.{Stage}
 use Rattle.sock_model.specs.declared.chain.Stage.TheVariants as stage
 use Rattle.sock_model.specs.declared.view.View.{View}
-use Rattle.sock_model.specs.Entries.{slot_of}
 use Rattle.sock_model.specs.Links.{HoldsLink}
 use Rattle.sock_model.specs.Weights.{is_ref, is_saw}
 use Rattle.sock_model.specs.SlotRows.{marks_of}
@@ -113,7 +112,7 @@ pub record HasInHand {O : Type 0} {g : Ghosts O} (p : Plan) (ways : List (List �
   -- the half has a fault where the seat noted one
   pub noted : 0 < faults_of hand.link m.0 → 0 < (g.state hand.home.out).faults
   pub few : hand.home.next < 4294967295
-  pub slots : m.1 ≡ (slot_of hand.now.0, Empty) ∷ (p.requests + hand.link, Empty) ∷ []
+  pub slots : m.1 ≡ (ticket_request hand.now.0, Empty) ∷ (p.requests + hand.link, Empty) ∷ []
 
 -- and bytes are left, or none was put; the look before a put found the life live
 abbrev pub IsPart : Right → List ℕ → List ℕ → Type 0

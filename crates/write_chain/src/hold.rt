@@ -1,12 +1,11 @@
 // Whoever has the right writes the link: steps that both calls make.
 ghost use Rattle.std.specs.Prelude.{◌≡◌, ◌≢◌, ◌+◌, ◌*◌, ◌<◌, ℕ, [], ◌∷◌, true, false};
 ghost use Rattle.atomic_table.specs.Table.{rest};
-ghost use Rattle.sock_words.specs.Words.{socket_id_slot};
+ghost use Rattle.sock_words.specs.Words.{socket_id_slot, ticket_request};
 ghost use Rattle.sock_model.specs.declared.chain.Right.{Right};
 ghost use Rattle.sock_model.specs.declared.chain.Stage.{Stage};
 ghost use Rattle.sock_model.specs.declared.chain.Stage.TheVariants.{Writes, Placed, Empties};
 ghost use Rattle.sock_model.specs.ChainRows.{with_right, freed_right};
-ghost use Rattle.sock_model.specs.Entries.{slot_of};
 ghost use Rattle.message_parts.specs.Parcels.{outgoing_of};
 ghost use Rattle.sock_rule.specs.declared.homes.SockHome.TheVariants.{Empty};
 ghost use Rattle.sock_rule.specs.Seated.{IsSeat};
@@ -109,7 +108,7 @@ impl<O: Out> HeldChain<'_, O> {
     /// A message has its place: its request is given back, and the next one follows, or the head.
     pub fn go_past(&self, seat: &mut SockSeat<O>, link: LinkInHand<O>, now: Ticket) -> Doing<O>
         requires seat { IsSeat self.now.table.now.rule.table.shared.table_id self.now.table.now.rule.plan seat.old }
-        requires may { HasLink self.now.table.now.rule.plan self.now.table.now.rule.ways.list self.now.sock.id.0 self.now.last.0 (Placed now.0) ((slot_of now.0, Empty) ∷ []) link seat.old.me × IsTicket self.now.table.now.rule.plan now.0 }
+        requires may { HasLink self.now.table.now.rule.plan self.now.table.now.rule.ways.list self.now.sock.id.0 self.now.last.0 (Placed now.0) ((ticket_request now.0, Empty) ∷ []) link seat.old.me × IsTicket self.now.table.now.rule.plan now.0 }
         ensures seat { IsSeat self.now.table.now.rule.table.shared.table_id self.now.table.now.rule.plan seat.new }
         ensures goes { GoesBy self.now.table.now.rule.plan self.now.table.now.rule.ways.list self.now.sock.id.0 self.now.last.0 result seat.new.me }
         ensures last { now.0 ≡ self.now.last.0 → IsLast result }

@@ -1,6 +1,6 @@
 use Rattle.std.proofs.Common.{◌≡◌, ℕ, List, Some, None, refl, sym, ap, ◌∙◌, subst}
-use Rattle.corr_core.specs.Word.{parts}
-use Rattle.corr_id.specs.Calls.{slot_of, version_of, HasId, LacksId}
+use Rattle.corr_core.specs.Word.{parts, id_slot, id_first}
+use Rattle.corr_id.specs.Calls.{HasId, LacksId}
 use Rattle.prpc_frame.specs.declared.frame.Frame.{Frame}
 use Rattle.rpc_reader.specs.Books.{Books, books}
 use Rattle.rpc_reader.specs.Met.{FrameMet}
@@ -25,8 +25,8 @@ returns-in-Some-clause-rest g c = rests_then c.args.calls.now.seat c.word.new.se
 
 pub returns-in-Some-clause-met_or_posted : goal.returns-in-Some-clause-met_or_posted
 returns-in-Some-clause-met_or_posted g c = let id = c.id_at.result in let w = c.args.word.0 in let b : Books = books c.args.calls.now in let frame = c.remove-frame.result in
-    let has : HasId (parts c.word.result) (version_of id) = subst (λ (v : ℕ). HasId (parts c.word.result) v) (c.first.ensures ∙ sym c.id_at.ensures.of_parts.1) (c.lacks_id.ensures.has c.if-lacks_id.false) in
-    let first : Some c.in-Some.at ≡ kept_at w c.word.result b.early = sym c.in-Some.is ∙ c.first_for.ensures ∙ kept_is c.slot.result (slot_of (call_at w)) c.word.result c.word.result c.as_slice.result.now b.early (c.slot.ensures ∙ sym c.id_at.ensures.of_parts.0 ∙ ap slot_of c.id_at.ensures.id) refl c.as_slice.ensures.value in
+    let has : HasId (parts c.word.result) (id_first id) = subst (λ (v : ℕ). HasId (parts c.word.result) v) (c.first.ensures ∙ sym c.id_at.ensures.of_parts.1) (c.lacks_id.ensures.has c.if-lacks_id.false) in
+    let first : Some c.in-Some.at ≡ kept_at w c.word.result b.early = sym c.in-Some.is ∙ c.first_for.ensures ∙ kept_is c.slot.result (id_slot (call_at w)) c.word.result c.word.result c.as_slice.result.now b.early (c.slot.ensures ∙ sym c.id_at.ensures.of_parts.0 ∙ ap id_slot c.id_at.ensures.id) refl c.as_slice.ensures.value in
     met_kept c.args.ids.now.plan.slots c.args.code w c.word.result c.in-Some.at b (books c.meet.new.calls) c.word.new.seat.me.0 frame c.word.ensures.quiet (found_of c.args.ids.now.plan.slots w id c.word.result c.word.new.seat.me.0 c.id_at.ensures.id c.word.ensures.found c.word.ensures.no_slot has) first c.remove-frame.ensures.value
     (subst (λ (l : List Frame). FrameMet c.args.ids.now.plan.slots frame (record b { view = c.word.new.seat.me.0; early = l }) (books c.meet.new.calls)) c.remove-frame.ensures.items c.meet.ensures.met)
 
@@ -35,8 +35,8 @@ post_code-requires-clause-seat g c = open_still c.args.ids.now.table.shared.tabl
 
 pub post_code-requires-clause-none_kept : goal.post_code-requires-clause-none_kept
 post_code-requires-clause-none_kept g c = let id = c.id_at.result in let w = c.args.word.0 in let b : Books = books c.args.calls.now in
-    let has : HasId (parts c.word.result) (version_of id) = subst (λ (v : ℕ). HasId (parts c.word.result) v) (c.first.ensures ∙ sym c.id_at.ensures.of_parts.1) (c.lacks_id.ensures.has c.if-lacks_id.false) in
-    let none_ : None ≡ kept_at w c.word.result b.early = sym c.in-None.is ∙ c.first_for.ensures ∙ kept_is c.slot.result (slot_of (call_at w)) c.word.result c.word.result c.as_slice.result.now b.early (c.slot.ensures ∙ sym c.id_at.ensures.of_parts.0 ∙ ap slot_of c.id_at.ensures.id) refl c.as_slice.ensures.value in
+    let has : HasId (parts c.word.result) (id_first id) = subst (λ (v : ℕ). HasId (parts c.word.result) v) (c.first.ensures ∙ sym c.id_at.ensures.of_parts.1) (c.lacks_id.ensures.has c.if-lacks_id.false) in
+    let none_ : None ≡ kept_at w c.word.result b.early = sym c.in-None.is ∙ c.first_for.ensures ∙ kept_is c.slot.result (id_slot (call_at w)) c.word.result c.word.result c.as_slice.result.now b.early (c.slot.ensures ∙ sym c.id_at.ensures.of_parts.0 ∙ ap id_slot c.id_at.ensures.id) refl c.as_slice.ensures.value in
     (c.word.result, found_of c.args.ids.now.plan.slots w id c.word.result c.word.new.seat.me.0 c.id_at.ensures.id c.word.ensures.found c.word.ensures.no_slot has, sym none_)
 
 pub returns-in-None-clause-rest : goal.returns-in-None-clause-rest

@@ -1,8 +1,7 @@
 use Rattle.std.proofs.Common.{◌≡◌, ℕ, ◌+◌, ◌*◌, ◌≤◌, ◌∙◌, ap, sym, refl, subst, arith}
 use Rattle.sock_words.specs.declared.plain.Label.{Label}
 use Rattle.sock_rule.specs.declared.homes.Letter.{Letter}
-use Rattle.corr_core.specs.Word.{parts}
-use Rattle.corr_id.specs.Calls.{version_of}
+use Rattle.corr_core.specs.Word.{parts, id_first}
 use Rattle.corr_id.proofs.Testing.{sits_on, did_free, quiet_free}
 use Rattle.corr_id.specs.declared.calls.IdLock.{IdLock}
 use Rattle.sock_message.specs.Asked.{Asked, name_of}
@@ -80,7 +79,7 @@ pub go_to-requires-clause-ids : goal.go_to-requires-clause-ids
 go_to-requires-clause-ids g c = (sits_on c.args.self.now.tables.now.ids.table.shared.table_id c.lock.new.seat c.unlock.new.seat c.unlock.ensures.seat c.in-Open.ensures.unlocked.4.share (sits_on c.args.self.now.tables.now.ids.table.shared.table_id c.args.calls.now.seat c.lock.new.seat c.lock.ensures.seat c.in-Ok.ensures.locked.1.1.did.share c.requires.ids.0), did_free c.in-Ok.lock.slot c.lock.new.seat.me.0 c.unlock.new.seat.me.0 _ c.in-Open.ensures.unlocked.4 (locked_but c.in-Ok.lock.slot c.in-Ok.ensures.locked.1.0 _ c.in-Ok.lock.content c.args.calls.now.seat.me.0 c.lock.new.seat.me.0 c.in-Ok.ensures.locked.1.1 c.requires.ids.1))
 
 pub go_to-requires-clause-id : goal.go_to-requires-clause-id
-go_to-requires-clause-id g c = subst (λ (o : ℕ). IsCallId c.args.self.now.tables.now.ids.plan o) (sym c.letter_of-msg.ensures.owner) record { inside = omega (arith, c.in-Ok.ensures.inside, c.in-Ok.ensures.locked.0); low = version_low (version_of c.args.retry.id) (parts c.in-Ok.lock.word.0).first (parts c.in-Ok.lock.word.0).range c.in-Ok.lock.fits.low c.in-Ok.lock.fits.range_high c.in-Ok.ensures.of_range.1 }
+go_to-requires-clause-id g c = subst (λ (o : ℕ). IsCallId c.args.self.now.tables.now.ids.plan o) (sym c.letter_of-msg.ensures.owner) record { inside = omega (arith, c.in-Ok.ensures.inside, c.in-Ok.ensures.locked.0); low = version_low (id_first c.args.retry.id) (parts c.in-Ok.lock.word.0).first (parts c.in-Ok.lock.word.0).range c.in-Ok.lock.fits.low c.in-Ok.lock.fits.range_high c.in-Ok.ensures.of_range.1 }
 
 pub go_to-requires-clause-place : goal.go_to-requires-clause-place
 go_to-requires-clause-place g c = subst (λ (l : Label). l.place ≡ 8 * l.operation + l.attempt) (sym c.letter_of-msg.ensures.label) refl

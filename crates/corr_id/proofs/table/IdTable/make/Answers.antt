@@ -1,11 +1,11 @@
 use Rattle.std.proofs.Common.{arith, ap, sym, ◌∙◌, subst, ℕ, ◌≡◌, ◌<◌, ◌+◌, ◌*◌, ◌%◌, ◌/◌, [], ◌∷◌}
-use Rattle.corr_core.specs.Word.{parts}
+use Rattle.corr_core.specs.Word.{parts, id_first}
 use Rattle.corr_core.specs.declared.marks.Hand.TheVariants.{Empty, Full}
 use Rattle.corr_core.specs.declared.marks.Token.TheVariants.{Claimed}
 use Rattle.corr_core.specs.declared.marks.Note.TheVariants.{Made}
 use Rattle.corr_core.specs.Law.{total, is_made}
 use Rattle.id_rule.specs.Lawful.{notes_of}
-use Rattle.corr_id.specs.Calls.{is_at, version_of, Became, one}
+use Rattle.corr_id.specs.Calls.{is_at, Became, one}
 use Rattle.corr_id.proofs.Doing.{made_noted}
 use Rattle.corr_id.proofs.Becoming.{became_both}
 use Rattle.corr_id.proofs.table.IdTable.make.Goals as goal
@@ -47,5 +47,5 @@ pub returns-clause-noted : goal.returns-clause-noted
 returns-clause-noted g c =
     let f = c.first-first.result in let small = c.first-first.type_inv in let id = c.args.at * 4294967296 + f in
     let slot : c.args.at ≡ id / 4294967296 = omega arith in
-    subst (λ (i : ℕ). 0 < total (is_made (version_of id)) (notes_of i c.make_id.new.seat.me.0.notes)) slot
-    (made_noted c.args.at (version_of id) c.args.range c.args.content c.args.seat.now.me.0 c.make_id.new.seat.me.0 (returns-clause-made g c))
+    subst (λ (i : ℕ). 0 < total (is_made (id_first id)) (notes_of i c.make_id.new.seat.me.0.notes)) slot
+    (made_noted c.args.at (id_first id) c.args.range c.args.content c.args.seat.now.me.0 c.make_id.new.seat.me.0 (returns-clause-made g c))

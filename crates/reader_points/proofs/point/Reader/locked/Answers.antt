@@ -1,7 +1,6 @@
 use Rattle.std.proofs.Common.{◌≡◌, ◌∙◌, true, false, sym, refl, ap}
-use Rattle.seat_programs.specs.Asides.{call_id}
 use Rattle.seat_programs.specs.Readers.{version_in}
-use Rattle.corr_core.specs.Word.{parts}
+use Rattle.corr_core.specs.Word.{parts, call_id}
 use Rattle.corr_core.specs.Versions.{is_early}
 use Rattle.id_points.specs.Ids.{id_of}
 use Rattle.reader_points.specs.declared.point.Behind.TheVariants as behinds

@@ -1,9 +1,8 @@
 use Rattle.std.proofs.Common.{ℕ, ◌<◌, [], ◌∷◌, arith, sym, ap, ◌∙◌, subst}
 use Rattle.sock_model.specs.declared.marks.Mark.TheVariants.{Saw}
-use Rattle.sock_model.specs.Slots.{version_of}
 use Rattle.sock_model.specs.SlotRows.{marks_of}
 use Rattle.sock_model.specs.Weights.{is_hold}
-use Rattle.sock_words.specs.Words.{socket_id_version}
+use Rattle.sock_words.specs.Words.{socket_id_version, vref_version}
 use Rattle.sock_rule.specs.Becoming.{Became}
 use Rattle.sock_rule.proofs.Becoming.{becomes, looked_marks}
 use Rattle.sock_table.proofs.Quiet.{saw_between}
@@ -24,7 +23,7 @@ returns-else-version-clause-live g c = (
     c.version.ensures,
     c.version-2.ensures,
   ),
-  subst (λ (j : ℕ). Became j c.args.seat.now.me.0 c.look_word-step.new.seat.me.0 (Saw (version_of c.look_word-step.result.found) ∷ []) []) c.slot-slot.ensures
+  subst (λ (j : ℕ). Became j c.args.seat.now.me.0 c.look_word-step.new.seat.me.0 (Saw (vref_version c.look_word-step.result.found) ∷ []) []) c.slot-slot.ensures
       (becomes c.slot-slot.result (ap (λ m. m.0) c.look_word-step.ensures.view) (looked_marks c.slot-slot.result c.look_word-step.result.found c.args.seat.now.me.0)),
 )
 

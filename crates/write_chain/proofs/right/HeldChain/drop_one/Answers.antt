@@ -1,11 +1,9 @@
 use Rattle.std.proofs.Common.{◌≡◌, ℕ, ◌+◌, ◌<◌, true, List, ◌∷◌, arith, sym, ap, ◌∙◌, subst}
 use Rattle.atomic_table.specs.Table.{rest}
-use Rattle.sock_words.specs.Words.{socket_id_version, socket_id_slot}
+use Rattle.sock_words.specs.Words.{socket_id_version, socket_id_slot, place_word, ticket_request}
 use Rattle.sock_model.specs.declared.marks.SlotMark.{SlotMark}
 use Rattle.sock_model.specs.declared.view.View.{View}
 use Rattle.sock_model.specs.ChainRows.{dropped_right}
-use Rattle.sock_model.specs.Deliveries.{place_value}
-use Rattle.sock_model.specs.Entries.{slot_of}
 use Rattle.sock_model.specs.Layout.{place_index}
 use Rattle.sock_model.specs.Marks.{about, noted}
 use Rattle.sock_model.specs.Weights.{total, is_met}
@@ -50,7 +48,7 @@ pub drop_place-home-requires-clause-ticket : goal.drop_place-home-requires-claus
 drop_place-home-requires-clause-ticket g c = let t = c.requires.may.0.0.ticket in (t.some_slot, t.small)
 
 pub drop_place-home-requires-clause-top : goal.drop_place-home-requires-clause-top
-drop_place-home-requires-clause-top g c = let h = part_noted c.args.hand c.args.seat.now.me c.code-told.new.seat.me (code_noted {state = g.O.Out.state} c.code-told.result c.args.self.now.sock.id.0 c.args.seat.now.me.0 c.code-told.new.seat.me.0 c.code-told.ensures.code).notes (code_noted {state = g.O.Out.state} c.code-told.result c.args.self.now.sock.id.0 c.args.seat.now.me.0 c.code-told.new.seat.me.0 c.code-told.ensures.code).noted (code_noted {state = g.O.Out.state} c.code-told.result c.args.self.now.sock.id.0 c.args.seat.now.me.0 c.code-told.new.seat.me.0 c.code-told.ensures.code).became c.code-told.ensures.slots (λ t. c.requires.may.0.0.noted (code_faults c.args.hand.link c.code-told.result c.args.self.now.sock.id.0 c.args.seat.now.me.0 c.code-told.new.seat.me.0 c.code-told.ensures.code t)) c.requires.may.0 in h.0.slots ∙ ap (λ l. (slot_of c.args.hand.now.0, Empty) ∷ l) (sym (ap rest h.0.slots))
+drop_place-home-requires-clause-top g c = let h = part_noted c.args.hand c.args.seat.now.me c.code-told.new.seat.me (code_noted {state = g.O.Out.state} c.code-told.result c.args.self.now.sock.id.0 c.args.seat.now.me.0 c.code-told.new.seat.me.0 c.code-told.ensures.code).notes (code_noted {state = g.O.Out.state} c.code-told.result c.args.self.now.sock.id.0 c.args.seat.now.me.0 c.code-told.new.seat.me.0 c.code-told.ensures.code).noted (code_noted {state = g.O.Out.state} c.code-told.result c.args.self.now.sock.id.0 c.args.seat.now.me.0 c.code-told.new.seat.me.0 c.code-told.ensures.code).became c.code-told.ensures.slots (λ t. c.requires.may.0.0.noted (code_faults c.args.hand.link c.code-told.result c.args.self.now.sock.id.0 c.args.seat.now.me.0 c.code-told.new.seat.me.0 c.code-told.ensures.code t)) c.requires.may.0 in h.0.slots ∙ ap (λ l. (ticket_request c.args.hand.now.0, Empty) ∷ l) (sym (ap rest h.0.slots))
 
 pub go_past-doing-requires-clause-may : goal.go_past-doing-requires-clause-may
 go_past-doing-requires-clause-may g c = let h = part_noted c.args.hand c.args.seat.now.me c.code-told.new.seat.me (code_noted {state = g.O.Out.state} c.code-told.result c.args.self.now.sock.id.0 c.args.seat.now.me.0 c.code-told.new.seat.me.0 c.code-told.ensures.code).notes (code_noted {state = g.O.Out.state} c.code-told.result c.args.self.now.sock.id.0 c.args.seat.now.me.0 c.code-told.new.seat.me.0 c.code-told.ensures.code).noted (code_noted {state = g.O.Out.state} c.code-told.result c.args.self.now.sock.id.0 c.args.seat.now.me.0 c.code-told.new.seat.me.0 c.code-told.ensures.code).became c.code-told.ensures.slots (λ t. c.requires.may.0.0.noted (code_faults c.args.hand.link c.code-told.result c.args.self.now.sock.id.0 c.args.seat.now.me.0 c.code-told.new.seat.me.0 c.code-told.ensures.code t)) c.requires.may.0 in let is = c.drop_place-home.ensures.home in let n = c.count_place.ensures in (
@@ -63,7 +61,7 @@ pub returns-clause-wrote : goal.returns-clause-wrote
 returns-clause-wrote g c = let h = part_noted c.args.hand c.args.seat.now.me c.code-told.new.seat.me (code_noted {state = g.O.Out.state} c.code-told.result c.args.self.now.sock.id.0 c.args.seat.now.me.0 c.code-told.new.seat.me.0 c.code-told.ensures.code).notes (code_noted {state = g.O.Out.state} c.code-told.result c.args.self.now.sock.id.0 c.args.seat.now.me.0 c.code-told.new.seat.me.0 c.code-told.ensures.code).noted (code_noted {state = g.O.Out.state} c.code-told.result c.args.self.now.sock.id.0 c.args.seat.now.me.0 c.code-told.new.seat.me.0 c.code-told.ensures.code).became c.code-told.ensures.slots (λ t. c.requires.may.0.0.noted (code_faults c.args.hand.link c.code-told.result c.args.self.now.sock.id.0 c.args.seat.now.me.0 c.code-told.new.seat.me.0 c.code-told.ensures.code t)) c.requires.may.0 in
     let left = rights_but_store c.code-told.new.seat.me.0 c.drop_place-home.new.seat.me.0 c.go_past-doing.new.seat.me.0 (place_index c.args.self.now.table.now.rule.plan c.args.hand.label.place) c.pack-place.result.0 h.0.right_is.heading (dropped_right h.0.right_is c.args.hand.now.0 c.args.hand.home.took.list)
     (ap (λ m. m.0) (c.drop_place-home.ensures.view h.0.right_is c.args.hand.now.0 h.0.writer.one h.0.stage_is)) c.go_past-doing.ensures.others in
-    let value : c.pack-place.result.0 ≡ place_value true c.args.hand.link c.args.hand.home.next = omega (arith, c.pack-place.ensures.word) in
+    let value : c.pack-place.result.0 ≡ place_word true c.args.hand.link c.args.hand.home.next = omega (arith, c.pack-place.ensures.word) in
     let begun = wrote_notes c.args.seat.now.me.0 c.code-told.new.seat.me.0 (code_noted {state = g.O.Out.state} c.code-told.result c.args.self.now.sock.id.0 c.args.seat.now.me.0 c.code-told.new.seat.me.0 c.code-told.ensures.code).notes (code_noted {state = g.O.Out.state} c.code-told.result c.args.self.now.sock.id.0 c.args.seat.now.me.0 c.code-told.new.seat.me.0 c.code-told.ensures.code).noted (code_noted {state = g.O.Out.state} c.code-told.result c.args.self.now.sock.id.0 c.args.seat.now.me.0 c.code-told.new.seat.me.0 c.code-told.ensures.code).became in
     drop_then {state = g.O.Out.state} c.args.self.now.table.now.rule.plan record { left = c.args.hand.bytes; label = c.args.hand.label; owner = c.args.hand.owner; numbered = c.result-1.given.0 } c.args.seat.now.me.0 c.code-told.new.seat.me.0 c.go_past-doing.new.seat.me.0 begun record {
       link = c.args.hand.link;
