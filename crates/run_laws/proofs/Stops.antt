@@ -439,7 +439,7 @@ kept_tick p c views stopped m kept answered = tick_does p c views m kept.sound a
     (λ seat v k next answer at_seat at_view is goes answer_is.
     subst (λ us. Sound p (with_seat m.seat (next answer) seat.hand c.words c.homes c) us → Kept p (with_seat m.seat (next answer) seat.hand c.words c.homes c) us (stopped_after (ready_event k answer) stopped)) (set_again views m.seat v at_view)
     (ready_kept p c views stopped kept m.seat seat v at_seat at_view k next is goes.0 answer seat.hand c.homes))
-    (λ seat v s next found at_seat at_view is goes. let g = mode_guarded p c views stopped kept m.seat seat v at_seat at_view (Aside s next) is in
+    (λ seat v s next found at_seat at_view is goes found_is. let g = mode_guarded p c views stopped kept m.seat seat v at_seat at_view (Aside s next) is in
     let d : Core = with_seat m.seat (next found) seat.hand c.words c.homes (record c { calls = calls_after s found c.calls }) in
     subst (λ us. Sound p d us → Kept p d us stopped) (set_again views m.seat v at_view)
     (λ sound. calm p c views stopped kept m.seat seat v at_seat at_view (calls_after s found c.calls) v Unknown (next found) seat.hand c.words c.homes (λ j h. same_more (is_failer h) j v v refl) (λ k j h. same_more (is_linked h k) j v v refl)
