@@ -5,8 +5,6 @@ use Rattle.std.specs.List.{AllByRecursion}
 use Rattle.std.specs.Prelude.{slice_get, Some}
 use mathlib.Core.Option.{some, some-injective}
 use lib.ListN.{get_elem?}
-use lib.Seq.{set-get_or}
-use Rattle.sock_words.specs.Words.{socket_id_slot}
 use Rattle.sock_words.specs.declared.plain.Plan.{Plan}
 use Rattle.sock_model.specs.declared.chain.Entry.{Entry}
 use Rattle.sock_model.specs.declared.chain.Heading.{Heading}
@@ -15,7 +13,7 @@ use Rattle.sock_model.specs.declared.chain.Stage.TheVariants.{Writes}
 use Rattle.sock_model.specs.declared.view.View.{View}
 use Rattle.sock_model.specs.Deliveries.{ShownAt, no_place, one_place}
 use Rattle.sock_model.specs.Entries.{ticket, on}
-use Rattle.sock_model.specs.Layout.{tag_index, ref_index, link_index, head_index, code_index, name_index, open_index, request_index, next_index, place_index}
+use Rattle.sock_model.specs.Layout.{place_index}
 use Rattle.accept_counts.specs.Below.sock_steps.proofs.RightSteps.{right_in, right_alone}
 use Rattle.accept_counts.specs.Below.chain_steps.proofs.Frames.{in_log}
 use Rattle.accept_counts.specs.Below.chain_steps.proofs.Letters.{writes_room}
@@ -23,15 +21,16 @@ use Rattle.accept_counts.specs.Below.chain_steps.proofs.Lists.{at_some, distinct
 use Rattle.corr_core.specs.declared.marks.Plan.{Plan as IdPlan}
 use Rattle.sock_message.specs.Asked.{Asked}
 use Rattle.seat_programs.specs.declared.task.Task.{Task}
-use Rattle.seat_programs.specs.Calls.{Call, ClaimSlot, CreateLife, AddRef, SubRef, SetOdd, Recycle, FreeSlot, StoreLink, LoadLink, ResetHead, ClearCode, StoreCode, StoreName, LoadName, StoreOpen, LoadOpen, LookWord, FindLink, LoadCode, ClaimRequest, Unconnect, SwapHead, Connect, EmptyHead, ReadNext, ReverseNext, FreeRequest, StorePlace, DropPlace}
+use Rattle.seat_programs.specs.Calls.{Call, StorePlace, DropPlace}
 use Rattle.seat_programs.specs.Cores.{Core, SeatState, found_at, words_after}
-use Rattle.seat_programs.specs.StepTables.{word_of, word_after}
+use Rattle.seat_programs.specs.TableWords.{PlaceOf}
+use Rattle.seat_programs.specs.StepTables.{May, table_word, word_of, word_after}
 use Rattle.seat_programs.specs.Sends.{heading_of}
 use Rattle.seat_programs.specs.Ticks.{Moment, IsAnswered, ticked}
-use Rattle.seat_programs.specs.StepTables.{May}
 use Rattle.accept_counts.specs.Below.programs_allowed.specs.program_steps.specs.Sound.{state, Sound, IsFitting}
 use Rattle.accept_counts.specs.Below.programs_allowed.specs.program_steps.proofs.Cases.{tick_keeps_marks}
-use Rattle.accept_counts.specs.Below.programs_allowed.specs.sock_runs.proofs.ChainTicks.{turn_inside, free_inside}
+use Rattle.accept_counts.specs.Below.programs_allowed.specs.program_steps.proofs.WordFrame.{word_left}
+use Rattle.accept_counts.specs.Below.programs_allowed.specs.sock_runs.proofs.ChainTicks.{word_inside}
 use Rattle.accept_counts.specs.Below.programs_allowed.specs.program_steps.proofs.Passes.{goes_round}
 use Rattle.accept_counts.specs.Below.programs_allowed.specs.program_steps.proofs.Rounds.{begins_round}
 use Rattle.accept_counts.specs.Below.outcome_stories.specs.Causes.{Asks}
@@ -179,36 +178,9 @@ module _ (p : Plan) (q : IdPlan) (is_call : Asked → Type 0) (ids : ℕ → ℕ
           (λ e. no_writer r (sym is ∙ (let z : m ≡ l = omega (arith, e) in z)) now (ap (λ rs. get_elem? rs 0) one) stage taken)
 
       step_keeps : (call : Call) → May p v call → get_or (words_after c.words (word_of p call) (word_after call (found_at c.words (word_of p call)))) (place_index p l) 0 ≡ get_or c.words (place_index p l) 0
-      step_keeps (ClaimSlot j) may = let slot = may in get_or-set_other c.words (tag_index j) (place_index p l) 1 0 (λ e. omega arith)
-      step_keeps (CreateLife j k) may = let slot = may.0 in get_or-set_other c.words (ref_index j) (place_index p l) (word_after (CreateLife j k) (get_or c.words (ref_index j) 0)) 0 (λ e. omega arith)
-      step_keeps (AddRef id) may = let slot = may.0.0 in get_or-set_other c.words (ref_index (socket_id_slot id)) (place_index p l) (word_after (AddRef id) (get_or c.words (ref_index (socket_id_slot id)) 0)) 0 (λ e. omega arith)
-      step_keeps (SubRef j) may = let slot = may.0 in get_or-set_other c.words (ref_index j) (place_index p l) (word_after (SubRef j) (get_or c.words (ref_index j) 0)) 0 (λ e. omega arith)
-      step_keeps (SetOdd j) may = let slot = may.0 in get_or-set_other c.words (ref_index j) (place_index p l) (word_after (SetOdd j) (get_or c.words (ref_index j) 0)) 0 (λ e. omega arith)
-      step_keeps (Recycle j from) may = let slot = may.0 in get_or-set_other c.words (ref_index j) (place_index p l) (word_after (Recycle j from) (get_or c.words (ref_index j) 0)) 0 (λ e. omega arith)
-      step_keeps (FreeSlot j) may = let slot = may.0 in get_or-set_other c.words (tag_index j) (place_index p l) 0 0 (λ e. omega arith)
-      step_keeps (StoreLink j k) may = let slot = may.0 in get_or-set_other c.words (link_index j) (place_index p l) k 0 (λ e. omega arith)
-      step_keeps (LoadLink j w) may = ap (λ xs. get_or xs (place_index p l) 0) (set-get_or c.words (link_index j) 0)
-      step_keeps (ResetHead j k) may = let slot = may.0 in get_or-set_other c.words (head_index j) (place_index p l) (word_after (ResetHead j k) (get_or c.words (head_index j) 0)) 0 (λ e. omega arith)
-      step_keeps (ClearCode j k) may = let slot = may.0 in get_or-set_other c.words (code_index j) (place_index p l) 0 0 (λ e. omega arith)
-      step_keeps (StoreCode j h d) may = let slot = may.0 in get_or-set_other c.words (code_index j) (place_index p l) d 0 (λ e. omega arith)
-      step_keeps (StoreName n w) may = let slot = may.0 in get_or-set_other c.words (name_index p n) (place_index p l) w 0 (λ e. omega arith)
-      step_keeps (LoadName n) may = ap (λ xs. get_or xs (place_index p l) 0) (set-get_or c.words (name_index p n) 0)
-      step_keeps (StoreOpen n w) may = let slot = may.0 in get_or-set_other c.words (open_index p n) (place_index p l) w 0 (λ e. omega arith)
-      step_keeps (LoadOpen n) may = ap (λ xs. get_or xs (place_index p l) 0) (set-get_or c.words (open_index p n) 0)
-      step_keeps (LookWord id) may = ap (λ xs. get_or xs (place_index p l) 0) (set-get_or c.words (ref_index (socket_id_slot id)) 0)
-      step_keeps (FindLink i h) may = ap (λ xs. get_or xs (place_index p l) 0) (set-get_or c.words (link_index i) 0)
-      step_keeps (LoadCode i h) may = ap (λ xs. get_or xs (place_index p l) 0) (set-get_or c.words (code_index i) 0)
-      step_keeps (ClaimRequest id q) may = let slot = may.0 in get_or-set_other c.words (request_index p q) (place_index p l) (word_after (ClaimRequest id q) (get_or c.words (request_index p q) 0)) 0 (λ e. omega arith)
-      step_keeps (Unconnect q) may = let slot = may.0 in get_or-set_other c.words (next_index p q) (place_index p l) (word_after (Unconnect q) 0) 0 (λ e. omega arith)
-      step_keeps (SwapHead i own) may = let slot = may.0 in get_or-set_other c.words (head_index i) (place_index p l) own 0 (λ e. omega arith)
-      step_keeps (Connect q before) may = let slot = may.0 in get_or-set_other c.words (next_index p q) (place_index p l) before 0 (λ e. omega arith)
-      step_keeps (EmptyHead i last) may = let slot = may.0 in get_or-set_other c.words (head_index i) (place_index p l) (word_after (EmptyHead i last) (get_or c.words (head_index i) 0)) 0 (λ e. omega arith)
-      step_keeps (ReadNext q) may = ap (λ xs. get_or xs (place_index p l) 0) (set-get_or c.words (next_index p q) 0)
-      step_keeps (ReverseNext q value) may = let slot = turn_inside p (state c vs) sound.lawful i v at q value may in get_or-set_other c.words (next_index p q) (place_index p l) value 0 (λ e. omega (arith, e, slot))
-      step_keeps (FreeRequest q g) may = let slot = free_inside p (state c vs) sound.lawful i v at q g may in get_or-set_other c.words (request_index p q) (place_index p l) (word_after (FreeRequest q g) 0) 0 (λ e. omega (arith, e, slot))
       step_keeps (StorePlace m k n) may = let x = may.0 in other_place m (word_after (StorePlace m k n) 0) x.mine.right x.now may.1 x.stage x.taken may.2
       step_keeps (DropPlace m k n) may = let x = may.0 in other_place m (word_after (DropPlace m k n) 0) x.mine.right x.now may.1 x.stage x.taken may.2
-      step_keeps _ may = refl
+      step_keeps call may = word_left p c.words (table_word call) (word_inside p (state c vs) sound.lawful i v at call may) (word_after call (found_at c.words (word_of p call))) (PlaceOf l) low refl
 
     -- so does a tick
     pub place_stays : l < 8 * p.operations → get_or c.words (place_index p l) 0 ≢ 0 → (m : Moment) → IsAnswered c m → IsFitting p c m → get_or (ticked p c m).words (place_index p l) 0 ≡ get_or c.words (place_index p l) 0

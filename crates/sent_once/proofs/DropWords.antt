@@ -1,17 +1,16 @@
 -- What a step does to the code of a failed slot: it stays, or it is stored just then.
 use Rattle.std.proofs.Common.{◌≡◌, ◌≢◌, ℕ, ◌+◌, ◌*◌, ◌%◌, ◌<◌, ◌≤◌, ◌⊎◌, inl, inr, Bool, true, false, cond, eqb, List, bit_or, get_or, set, get_or-set_other, get_or-set_same, refl, sym, ap, ◌∙◌, arith}
 use mathlib.Core.Logic.{dite}
-use mathlib.Core.Option.{some}
+use mathlib.Core.Option.{Option, some}
 use native.Mathlib.Decide.{ℕ_discrete}
 use lib.ListN.{get_elem?}
-use lib.Seq.{set-get_or}
 use Rattle.atomic_table.proofs.Lists.{at_map}
 use Rattle.sock_words.specs.Words.{socket_id_slot, vref_version}
 use Rattle.sock_words.specs.declared.plain.Plan.{Plan}
 use Rattle.sock_model.specs.declared.marks.Mark.{Mark}
 use Rattle.sock_model.specs.declared.marks.Mark.TheVariants.{Coding}
 use Rattle.sock_model.specs.declared.view.View.{View}
-use Rattle.sock_model.specs.Layout.{tag_index, ref_index, link_index, head_index, code_index, name_index, open_index, request_index, next_index, place_index}
+use Rattle.sock_model.specs.Layout.{ref_index, code_index}
 use Rattle.sock_model.specs.Marks.{about}
 use Rattle.sock_model.specs.References.{slot_facts}
 use Rattle.sock_model.specs.SlotRows.{marks_of}
@@ -20,13 +19,13 @@ use Rattle.sock_model.specs.Weights.{is_hold, is_coding, is_any_coding}
 use Rattle.accept_counts.specs.Below.slot_steps.proofs.Numbers.{or-odd, only_le}
 use Rattle.accept_counts.specs.Below.slot_steps.proofs.Sums.{total_mono}
 use Rattle.accept_counts.specs.Below.sock_steps.proofs.Places.{own_count}
-use Rattle.seat_programs.specs.Calls.{Call, ClaimSlot, CreateLife, AddRef, SubRef, SetOdd, Recycle, FreeSlot, StoreLink, LoadLink, ResetHead, ClearCode, StoreCode, StoreName, LoadName, StoreOpen, LoadOpen, LookWord, FindLink, LoadCode, ClaimRequest, Unconnect, SwapHead, Connect, EmptyHead, ReadNext, ReverseNext, FreeRequest, StorePlace, DropPlace}
+use Rattle.seat_programs.specs.Calls.{Call, CreateLife, AddRef, SubRef, SetOdd, Recycle, ClearCode, StoreCode, LookWord, LoadCode}
 use Rattle.seat_programs.specs.Cores.{Core, found_at, words_after}
-use Rattle.seat_programs.specs.StepTables.{word_of, word_after}
-use Rattle.seat_programs.specs.StepTables.{hand_at}
-use Rattle.seat_programs.specs.StepTables.{May, Finds}
+use Rattle.seat_programs.specs.TableWords.{TableWord, RefOf, CodeOf, index_of}
+use Rattle.seat_programs.specs.StepTables.{word_of, word_after, hand_at, May, Finds}
 use Rattle.accept_counts.specs.Below.programs_allowed.specs.program_steps.specs.Sound.{state, Sound}
 use Rattle.accept_counts.specs.Below.programs_allowed.specs.program_steps.proofs.Bounds.{law, lives_le}
+use Rattle.accept_counts.specs.Below.programs_allowed.specs.program_steps.proofs.WordFrame.{load_leaves, word_stays}
 use Rattle.accept_counts.specs.Below.programs_allowed.specs.sock_runs.proofs.Founds.{finds}
 
 abbrev pub version_in : List ℕ → ℕ → ℕ
@@ -69,11 +68,11 @@ module _ (p : Plan) (c : Core) (vs : List View) (sound : Sound p c vs) (i : ℕ)
     abbrev Kept : Call → List ℕ → Type 0
     Kept call ws = version_in ws j ≡ h + 1 → code_in ws j ≢ 0 → WasSo ws ⊎ IsNew call ws
 
-    elsewhere : (call : Call) (x w : ℕ) → (ref_index j ≡ x → ⊥) → (code_index j ≡ x → ⊥) → Kept call (set c.words x w)
-    elsewhere call x w ref code version some_ = inl (sym (ap vref_version (get_or-set_other c.words x (ref_index j) w 0 ref)) ∙ version, get_or-set_other c.words x (code_index j) w 0 code)
+    left : (call : Call) (ws : List ℕ) → get_or ws (ref_index j) 0 ≡ get_or c.words (ref_index j) 0 → code_in ws j ≡ code_in c.words j → Kept call ws
+    left call ws ref code version some_ = inl (sym (ap vref_version ref) ∙ version, code)
 
-    loaded : (call : Call) (x : ℕ) → Kept call (set c.words x (get_or c.words x 0))
-    loaded call x version some_ = let e = set-get_or c.words x 0 in inl (sym (ap (λ ws. version_in ws j) e) ∙ version, ap (λ ws. code_in ws j) e)
+    loaded : (call : Call) (o : Option TableWord) → Kept call (words_after c.words (index_of p o) (found_at c.words (index_of p o)))
+    loaded call o = let e = load_leaves p c.words o in left call (words_after c.words (index_of p o) (found_at c.words (index_of p o))) (ap (λ ws. get_or ws (ref_index j) 0) e) (ap (λ ws. code_in ws j) e)
 
     -- the reference word of a slot, where the step makes no slot with a code fail
     on_ref : (call : Call) (n w : ℕ) → (n ≡ j → vref_version w ≡ h + 1 → code_in c.words j ≢ 0 → version_in c.words n ≡ h + 1) → Kept call (set c.words (ref_index n) w)
@@ -81,13 +80,13 @@ module _ (p : Plan) (c : Core) (vs : List View) (sound : Sound p c vs) (i : ℕ)
         dite (ℕ_discrete n j)
         (λ same. let here : get_or (set c.words (ref_index n) w) (ref_index j) 0 ≡ w = ap (λ k. get_or (set c.words (ref_index n) w) (ref_index k) 0) (sym same) ∙ get_or-set_same c.words (ref_index n) w 0 (omega (arith, inside, same, sound.lawful.references.sized)) in
         inl (ap (version_in c.words) (sym same) ∙ before same (sym (ap vref_version here) ∙ version) (λ z. some_ (code ∙ z)), code))
-        (λ far. elsewhere call (ref_index n) w (λ e. far (omega (arith, e))) (λ e. omega (arith, e)) version some_)
+        (λ far. left call (set c.words (ref_index n) w) (get_or-set_other c.words (ref_index n) (ref_index j) w 0 (λ e. far (omega (arith, e)))) code version some_)
 
     on_code : (call : Call) (n w : ℕ) → (n ≡ j → w ≢ 0 → version_in c.words j ≡ h + 1 → IsNew call (set c.words (code_index n) w)) → Kept call (set c.words (code_index n) w)
     on_code call n w new version some_ = dite (ℕ_discrete n j)
         (λ same. let here : code_in (set c.words (code_index n) w) j ≡ w = ap (λ k. code_in (set c.words (code_index n) w) k) (sym same) ∙ get_or-set_same c.words (code_index n) w 0 (omega (arith, inside, same, sound.lawful.references.sized)) in
         inr (new same (λ z. some_ (here ∙ z)) (sym (ap vref_version (get_or-set_other c.words (code_index n) (ref_index j) w 0 (λ e. omega (arith, e)))) ∙ version)))
-        (λ far. elsewhere call (code_index n) w (λ e. omega (arith, e)) (λ e. far (omega (arith, e))) version some_)
+        (λ far. left call (set c.words (code_index n) w) (get_or-set_other c.words (code_index n) (ref_index j) w 0 (λ e. omega (arith, e))) (get_or-set_other c.words (code_index n) (code_index j) w 0 (λ e. far (omega (arith, e)))) version some_)
 
     found : (call : Call) → May p v call → Finds p v call (found_at c.words (word_of p call)) (hand_at p c.words c.homes call)
     found call may = finds p (state c vs) sound.lawful i v at sound.limits.slots call may
@@ -109,33 +108,14 @@ module _ (p : Plan) (c : Core) (vs : List View) (sound : Sound p c vs) (i : ℕ)
     pub code_stays : (call : Call) → May p v call → version_in (words_after c.words (word_of p call) (word_after call (found_at c.words (word_of p call)))) j ≡ h + 1 → code_in (words_after c.words (word_of p call) (word_after call (found_at c.words (word_of p call)))) j ≢ 0
         → ((version_in c.words j ≡ h + 1) × (code_in (words_after c.words (word_of p call) (word_after call (found_at c.words (word_of p call)))) j ≡ code_in c.words j))
         ⊎ ((g d : ℕ) × (call ≡ StoreCode j g d) × (version_in c.words j ≡ h + 1) × (code_in (words_after c.words (word_of p call) (word_after call (found_at c.words (word_of p call)))) j ≡ d))
-    code_stays (ClaimSlot n) may = elsewhere (ClaimSlot n) (tag_index n) _ (λ e. omega (arith, e, inside)) (λ e. omega (arith, e, inside))
     code_stays (CreateLife n k) may = on_ref (CreateLife n k) n _ (λ same version some_. let f = (found (CreateLife n k) may).0 in omega (arith, f, version))
     code_stays (AddRef id) may = on_ref (AddRef id) (socket_id_slot id) _ (λ same version some_. let f = found (AddRef id) may in omega (arith, f, version))
     code_stays (SubRef n) may = on_ref (SubRef n) n _ (λ same version some_. let f = (found (SubRef n) may).0 in let m = may.1 in omega (arith, f, m, version))
     code_stays (SetOdd n) may = on_ref (SetOdd n) n _ (λ same version some_. odd_before n may same version some_)
     code_stays (Recycle n from) may = on_ref (Recycle n from) n _ (λ same version some_. recycled_before n from may.2 version)
-    code_stays (FreeSlot n) may = elsewhere (FreeSlot n) (tag_index n) _ (λ e. omega (arith, e, inside)) (λ e. omega (arith, e, inside))
-    code_stays (StoreLink n k) may = elsewhere (StoreLink n k) (link_index n) _ (λ e. omega (arith, e, inside)) (λ e. omega (arith, e, inside))
-    code_stays (LoadLink n w) may = loaded (LoadLink n w) (link_index n)
-    code_stays (ResetHead n k) may = elsewhere (ResetHead n k) (head_index n) _ (λ e. omega (arith, e, inside)) (λ e. omega (arith, e, inside))
     code_stays (ClearCode n k) may = on_code (ClearCode n k) n 0 (λ same some_ version. absurd (some_ refl))
     code_stays (StoreCode n g d) may = on_code (StoreCode n g d) n d (λ same some_ version. (g, d, ap (λ z. StoreCode z g d) same, version, ap (λ z. code_in (set c.words (code_index n) d) z) (sym same) ∙ get_or-set_same c.words (code_index n) d 0 (let a = may.0 in omega (arith, a, sound.lawful.references.sized))))
-    code_stays (StoreName n w) may = elsewhere (StoreName n w) (name_index p n) _ (λ e. omega (arith, e, inside)) (λ e. omega (arith, e, inside))
-    code_stays (LoadName n) may = loaded (LoadName n) (name_index p n)
-    code_stays (StoreOpen o w) may = elsewhere (StoreOpen o w) (open_index p o) _ (λ e. omega (arith, e, inside)) (λ e. omega (arith, e, inside))
-    code_stays (LoadOpen o) may = loaded (LoadOpen o) (open_index p o)
-    code_stays (LookWord id) may = loaded (LookWord id) (ref_index (socket_id_slot id))
-    code_stays (FindLink n g) may = loaded (FindLink n g) (link_index n)
-    code_stays (LoadCode n g) may = loaded (LoadCode n g) (code_index n)
-    code_stays (ClaimRequest id q) may = elsewhere (ClaimRequest id q) (request_index p q) _ (λ e. omega (arith, e, inside)) (λ e. omega (arith, e, inside))
-    code_stays (Unconnect q) may = elsewhere (Unconnect q) (next_index p q) _ (λ e. omega (arith, e, inside)) (λ e. omega (arith, e, inside))
-    code_stays (SwapHead n own) may = elsewhere (SwapHead n own) (head_index n) _ (λ e. omega (arith, e, inside)) (λ e. omega (arith, e, inside))
-    code_stays (Connect q before) may = elsewhere (Connect q before) (next_index p q) _ (λ e. omega (arith, e, inside)) (λ e. omega (arith, e, inside))
-    code_stays (EmptyHead n last) may = elsewhere (EmptyHead n last) (head_index n) _ (λ e. omega (arith, e, inside)) (λ e. omega (arith, e, inside))
-    code_stays (ReadNext q) may = loaded (ReadNext q) (next_index p q)
-    code_stays (ReverseNext q value) may = elsewhere (ReverseNext q value) (next_index p q) _ (λ e. omega (arith, e, inside)) (λ e. omega (arith, e, inside))
-    code_stays (FreeRequest q g) may = elsewhere (FreeRequest q g) (request_index p q) _ (λ e. omega (arith, e, inside)) (λ e. omega (arith, e, inside))
-    code_stays (StorePlace l k n) may = elsewhere (StorePlace l k n) (place_index p l) _ (λ e. omega (arith, e, inside)) (λ e. omega (arith, e, inside))
-    code_stays (DropPlace l k n) may = elsewhere (DropPlace l k n) (place_index p l) _ (λ e. omega (arith, e, inside)) (λ e. omega (arith, e, inside))
-    code_stays _ may = λ version some_. inl (version, refl)
+    code_stays (LookWord id) may = loaded (LookWord id) (some (RefOf (socket_id_slot id)))
+    code_stays (LoadCode n g) may = loaded (LoadCode n g) (some (CodeOf n))
+    code_stays call may = left call (words_after c.words (word_of p call) (word_after call (found_at c.words (word_of p call))))
+        (word_stays p c.words v call may (word_after call (found_at c.words (word_of p call))) (RefOf j) inside (omega arith) refl) (word_stays p c.words v call may (word_after call (found_at c.words (word_of p call))) (CodeOf j) inside (omega arith) refl)
