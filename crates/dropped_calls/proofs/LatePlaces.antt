@@ -4,21 +4,20 @@ use mathlib.Core.Logic.{dite}
 use mathlib.Core.Option.{some}
 use native.Mathlib.Decide.{ℕ_discrete}
 use lib.ListN.{get_elem?}
-use lib.Seq.{set-get_or}
-use Rattle.sock_words.specs.Words.{socket_id_slot}
 use Rattle.sock_words.specs.declared.plain.Plan.{Plan}
 use Rattle.sock_model.specs.declared.chain.Right.{Right}
 use Rattle.sock_model.specs.declared.view.View.{View}
 use Rattle.sock_model.specs.Deliveries.{place_value}
-use Rattle.sock_model.specs.Layout.{tag_index, ref_index, link_index, head_index, code_index, name_index, open_index, request_index, next_index, place_index}
-use Rattle.seat_programs.specs.Calls.{Call, ClaimSlot, CreateLife, AddRef, SubRef, SetOdd, Recycle, FreeSlot, StoreLink, LoadLink, ResetHead, ClearCode, StoreCode, StoreName, LoadName, StoreOpen, LoadOpen, LookWord, FindLink, LoadCode, ClaimRequest, Unconnect, SwapHead, Connect, EmptyHead, ReadNext, ReverseNext, FreeRequest, StorePlace, DropPlace}
+use Rattle.sock_model.specs.Layout.{place_index}
+use Rattle.seat_programs.specs.Calls.{Call, StorePlace, DropPlace}
 use Rattle.seat_programs.specs.Cores.{Core, found_at, words_after}
-use Rattle.seat_programs.specs.StepTables.{word_of, word_after}
+use Rattle.seat_programs.specs.TableWords.{PlaceOf}
+use Rattle.seat_programs.specs.StepTables.{May, table_word, word_of, word_after}
 use Rattle.seat_programs.specs.Ticks.{Moment, IsAnswered, AreAnswered, ticked, run}
-use Rattle.seat_programs.specs.StepTables.{May}
 use Rattle.refused_attempts.specs.Below.programs_allowed.specs.program_steps.specs.Sound.{state, Sound, AreFew, MOST_PLACES, IsFitting, AreFitting, views_after, views_along}
 use Rattle.refused_attempts.specs.Below.programs_allowed.specs.program_steps.proofs.Cases.{tick_keeps_marks}
-use Rattle.refused_attempts.specs.Below.programs_allowed.specs.sock_runs.proofs.ChainTicks.{turn_inside, free_inside}
+use Rattle.refused_attempts.specs.Below.programs_allowed.specs.program_steps.proofs.WordFrame.{word_left}
+use Rattle.refused_attempts.specs.Below.programs_allowed.specs.sock_runs.proofs.ChainTicks.{word_inside}
 use Rattle.refused_attempts.specs.Below.programs_allowed.specs.sock_runs.proofs.Few.{places_small}
 use Rattle.refused_attempts.specs.Below.programs_allowed.specs.sock_runs.proofs.LinkTicks.{RetriesGo}
 use Rattle.refused_attempts.specs.Below.programs_allowed.specs.program_steps.proofs.Passes.{goes_round}
@@ -66,38 +65,11 @@ module _ (p : Plan) (base : Core) (L : ℕ → Type 0) where
         (λ far. inl (get_or-set_other c.words (place_index p n) (place_index p l) (place_value dropped k position) 0 (λ e. far (omega (arith, e)))))
 
     place_after : (call : Call) → May p v call → After call
-    place_after (ClaimSlot j) may = inl (let slot = may in get_or-set_other c.words (tag_index j) (place_index p l) 1 0 (λ e. omega arith))
-    place_after (CreateLife j k) may = inl (let slot = may.0 in get_or-set_other c.words (ref_index j) (place_index p l) (word_after (CreateLife j k) (get_or c.words (ref_index j) 0)) 0 (λ e. omega arith))
-    place_after (AddRef id) may = inl (let slot = may.0.0 in get_or-set_other c.words (ref_index (socket_id_slot id)) (place_index p l) (word_after (AddRef id) (get_or c.words (ref_index (socket_id_slot id)) 0)) 0 (λ e. omega arith))
-    place_after (SubRef j) may = inl (let slot = may.0 in get_or-set_other c.words (ref_index j) (place_index p l) (word_after (SubRef j) (get_or c.words (ref_index j) 0)) 0 (λ e. omega arith))
-    place_after (SetOdd j) may = inl (let slot = may.0 in get_or-set_other c.words (ref_index j) (place_index p l) (word_after (SetOdd j) (get_or c.words (ref_index j) 0)) 0 (λ e. omega arith))
-    place_after (Recycle j from) may = inl (let slot = may.0 in get_or-set_other c.words (ref_index j) (place_index p l) (word_after (Recycle j from) (get_or c.words (ref_index j) 0)) 0 (λ e. omega arith))
-    place_after (FreeSlot j) may = inl (let slot = may.0 in get_or-set_other c.words (tag_index j) (place_index p l) 0 0 (λ e. omega arith))
-    place_after (StoreLink j k) may = inl (let slot = may.0 in get_or-set_other c.words (link_index j) (place_index p l) k 0 (λ e. omega arith))
-    place_after (LoadLink j w) may = inl (ap (λ xs. get_or xs (place_index p l) 0) (set-get_or c.words (link_index j) 0))
-    place_after (ResetHead j k) may = inl (let slot = may.0 in get_or-set_other c.words (head_index j) (place_index p l) (word_after (ResetHead j k) (get_or c.words (head_index j) 0)) 0 (λ e. omega arith))
-    place_after (ClearCode j k) may = inl (let slot = may.0 in get_or-set_other c.words (code_index j) (place_index p l) 0 0 (λ e. omega arith))
-    place_after (StoreCode j h d) may = inl (let slot = may.0 in get_or-set_other c.words (code_index j) (place_index p l) d 0 (λ e. omega arith))
-    place_after (StoreName n w) may = inl (let slot = may.0 in get_or-set_other c.words (name_index p n) (place_index p l) w 0 (λ e. omega arith))
-    place_after (LoadName n) may = inl (ap (λ xs. get_or xs (place_index p l) 0) (set-get_or c.words (name_index p n) 0))
-    place_after (StoreOpen n w) may = inl (let slot = may.0 in get_or-set_other c.words (open_index p n) (place_index p l) w 0 (λ e. omega arith))
-    place_after (LoadOpen n) may = inl (ap (λ xs. get_or xs (place_index p l) 0) (set-get_or c.words (open_index p n) 0))
-    place_after (LookWord id) may = inl (ap (λ xs. get_or xs (place_index p l) 0) (set-get_or c.words (ref_index (socket_id_slot id)) 0))
-    place_after (FindLink i h) may = inl (ap (λ xs. get_or xs (place_index p l) 0) (set-get_or c.words (link_index i) 0))
-    place_after (LoadCode i h) may = inl (ap (λ xs. get_or xs (place_index p l) 0) (set-get_or c.words (code_index i) 0))
-    place_after (ClaimRequest id q) may = inl (let slot = may.0 in get_or-set_other c.words (request_index p q) (place_index p l) (word_after (ClaimRequest id q) (get_or c.words (request_index p q) 0)) 0 (λ e. omega arith))
-    place_after (Unconnect q) may = inl (let slot = may.0 in get_or-set_other c.words (next_index p q) (place_index p l) (word_after (Unconnect q) 0) 0 (λ e. omega arith))
-    place_after (SwapHead i own) may = inl (let slot = may.0 in get_or-set_other c.words (head_index i) (place_index p l) own 0 (λ e. omega arith))
-    place_after (Connect q before) may = inl (let slot = may.0 in get_or-set_other c.words (next_index p q) (place_index p l) before 0 (λ e. omega arith))
-    place_after (EmptyHead i last) may = inl (let slot = may.0 in get_or-set_other c.words (head_index i) (place_index p l) (word_after (EmptyHead i last) (get_or c.words (head_index i) 0)) 0 (λ e. omega arith))
-    place_after (ReadNext q) may = inl (ap (λ xs. get_or xs (place_index p l) 0) (set-get_or c.words (next_index p q) 0))
-    place_after (ReverseNext q value) may = let slot = turn_inside p (state c vs) sound.lawful i v at q value may in inl (get_or-set_other c.words (next_index p q) (place_index p l) value 0 (λ e. omega (arith, e, slot)))
-    place_after (FreeRequest q g) may = let slot = free_inside p (state c vs) sound.lawful i v at q g may in inl (get_or-set_other c.words (request_index p q) (place_index p l) (word_after (FreeRequest q g) 0) 0 (λ e. omega (arith, e, slot)))
     place_after (StorePlace n k position) may = let x = may.0 in let y = late_one x.mine.right may.1 in place_stored false n k position (subst L (sym may.3) y.0) (subst (λ z. z < p.links) (sym may.3) y.1)
         (subst (λ z. z < MOST_PLACES) (sym may.4) (places_small p (state c vs) sound.lawful i v at x.mine.place x.mine.right x.mine.has few x.now x.stage))
     place_after (DropPlace n k position) may = let x = may.0 in let y = late_one x.mine.right may.1 in place_stored true n k position (subst L (sym may.3) y.0) (subst (λ z. z < p.links) (sym may.3) y.1)
         (subst (λ z. z < MOST_PLACES) (sym may.4) (places_small p (state c vs) sound.lawful i v at x.mine.place x.mine.right x.mine.has few x.now x.stage))
-    place_after _ may = inl (refl)
+    place_after call may = inl (word_left p c.words (table_word call) (word_inside p (state c vs) sound.lawful i v at call may) (word_after call (found_at c.words (word_of p call))) (PlaceOf l) low refl)
 
   -- ## Ticks
 
