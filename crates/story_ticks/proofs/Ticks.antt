@@ -13,7 +13,7 @@ use Rattle.sock_model.specs.declared.home.Home.TheVariants.{Message}
 use Rattle.sock_model.specs.declared.view.View.{View}
 use Rattle.sock_model.specs.Layout.{name_index, all_words}
 use Rattle.sock_model.specs.Messages.{Letter}
-use Rattle.sock_model.specs.Reads.{shown, message, link_home}
+use Rattle.sock_model.specs.Reads.{message, link_home}
 use Rattle.corr_core.specs.declared.marks.Plan.{Plan as IdPlan}
 use Rattle.seat_programs.specs.declared.task.Op.TheVariants as ops
 use Rattle.seat_programs.specs.declared.task.Task.{Task}
