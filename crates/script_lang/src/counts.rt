@@ -1,7 +1,6 @@
-ghost use Rattle.std.specs.Prelude.{◌≡◌, ℕ, List, Ok, map};
-ghost use Rattle.brpc_model.specs.Script.{script_of};
+ghost use Rattle.std.specs.Prelude.{◌≡◌};
 ghost use Rattle.script_items.specs.Meaning.{item};
-ghost use Rattle.script_lang.specs.Counting.{no_counts, counts_of, counted, stands_wrong, is_one_too_many, IsWithinLimits};
+ghost use Rattle.script_lang.specs.Counting.{no_counts, counted, stands_wrong, is_one_too_many, IsWithinLimits};
 
 use script_items::Line;
 
@@ -58,18 +57,6 @@ impl Counts {
             turns: 0,
             unserved: false,
         }
-    }
-
-    /// The counts of a script that is read elsewhere.
-    pub fn of(lines: &[Line]) -> Self
-        requires { (bytes : List ℕ) × (script_of bytes ≡ Ok (map item lines.now)) }
-        ensures { result ≡ counts_of (map item lines.now) }
-    {
-        let mut counts = Counts::new();
-        for line in lines {
-            counts = counts.with(line);
-        }
-        counts
     }
 
     /// Whether the line is at a wrong place behind these.

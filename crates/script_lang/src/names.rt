@@ -1,7 +1,6 @@
 ghost use Rattle.std.specs.Prelude.{◌≡◌, ◌≤◌, not, [], ◌∷◌, filter, length, map, bytes_eq, IfOk, OnOk, OnErr};
 ghost use Rattle.std.specs.List.{list_any};
 ghost use Rattle.brpc_model.specs.Items.{mentioned};
-ghost use Rattle.brpc_model.specs.Places as model;
 ghost use Rattle.brpc_model.specs.Places.{with_names};
 ghost use Rattle.script_items.specs.Meaning.{item};
 ghost use Rattle.seat_programs.specs.Tasks.{name_number};
@@ -34,17 +33,6 @@ impl NameList {
             alloc,
             names: Vec::new(alloc),
         }
-    }
-
-    /// The names that these lines mention, in the order of first mention.
-    pub fn of(alloc: Global, lines: &[Line]) -> Result<Self, AllocError>
-        ensures { IfOk result (λ known. known ≡ model.names (map item lines.now)) }
-    {
-        let mut names = NameList::new(alloc);
-        for line in lines {
-            names.add_mentioned(line)?;
-        }
-        Ok(names)
     }
 
     /// How many names there are.

@@ -1,9 +1,7 @@
-ghost use Rattle.std.specs.Prelude.{◌≡◌, ◌+◌, ◌-◌, ◌<◌, ◌∷◌, ◌++◌, [], ℕ, List, Ok, true, false, map, unwrap_or, IfOk, OnOk};
-ghost use Rattle.brpc_model.specs.Script.{script_of};
+ghost use Rattle.std.specs.Prelude.{◌≡◌, ◌+◌, ◌-◌, ◌<◌, ◌∷◌, ◌++◌, [], true, false, unwrap_or, OnOk};
 ghost use Rattle.script_items.specs.Meaning.{item};
-ghost use Rattle.script_lang.specs.Numbers.{Numbers, no_numbers, numbers_of, numbers_behind, end_of, start_of, operation_in, has_call};
+ghost use Rattle.script_lang.specs.Numbers.{no_numbers, numbers_behind, end_of, start_of, operation_in, has_call};
 
-use crate::counts::Counts;
 use script_items::{Line, Target};
 use std::alloc::{AllocError, Global};
 use std::marker::Model;
@@ -45,20 +43,6 @@ impl Numbering {
             calls: Vec::new(alloc),
             begins: Vec::new(alloc),
         }
-    }
-
-    /// The numbering of a script that is read elsewhere.
-    pub fn of(alloc: Global, lines: &[Line]) -> Result<Self, AllocError>
-        requires { (bytes : List ℕ) × (script_of bytes ≡ Ok (map item lines.now)) }
-        ensures { IfOk result (λ numbering. numbering ≡ numbers_of (map item lines.now)) }
-    {
-        let mut numbering = Numbering::new(alloc);
-        let mut counts = Counts::new();
-        for line in lines {
-            numbering.add(line, counts.operations as u16)?;
-            counts = counts.with(line);
-        }
-        Ok(numbering)
     }
 
     /// One more line, which has this number if it is an operation. After an error the numbering is

@@ -46,19 +46,20 @@ impl Model for Script {
     ghost invariant = { λ s. (s.names ≡ model.names (map item s.lines.items)) × (s.counts ≡ counts_of (map item s.lines.items)) × (s.numbering ≡ numbers_of (map item s.lines.items)) };
 }
 
-/// The names of lines that were made otherwise, and which number each of their operations has.
-fn found_of(alloc: Global, lines: &[Line]) -> Result<(NameList, Numbering), AllocError>
+/// What is found of lines that were made otherwise, as their reader finds it.
+fn found_of(alloc: Global, lines: &[Line]) -> Result<(NameList, Counts, Numbering), AllocError>
     requires { (bytes : List ℕ) × (script_of bytes ≡ Ok (map item lines.now)) }
-    ensures { IfOk result (λ found. (found.0 ≡ model.names (map item lines.now)) × (found.1 ≡ numbers_of (map item lines.now))) }
+    ensures { IfOk result (λ found. (found.0 ≡ model.names (map item lines.now)) × (found.1 ≡ counts_of (map item lines.now)) × (found.2 ≡ numbers_of (map item lines.now))) }
 {
-    let numbering = Numbering::of(alloc, lines)?;
-    match NameList::of(alloc, lines) {
-        Ok(names) => Ok((names, numbering)),
-        Err(fault) => {
-            drop(numbering);
-            Err(fault)
-        }
+    let mut names = NameList::new(alloc);
+    let mut counts = Counts::new();
+    let mut numbering = Numbering::new(alloc);
+    for line in lines {
+        names.add_mentioned(line)?;
+        numbering.add(line, counts.operations as u16)?;
+        counts = counts.with(line);
     }
+    Ok((names, counts, numbering))
 }
 
 impl Script {
@@ -88,9 +89,8 @@ impl Script {
         requires { (bytes : List ℕ) × (script_of bytes ≡ Ok (map item lines.items)) }
         ensures { IfOk result (λ script. script ≡ map item lines.items) }
     {
-        let counts = Counts::of(&lines);
         match found_of(alloc, &lines) {
-            Ok((names, numbering)) => Ok(Script::new(lines, names, counts, numbering)),
+            Ok((names, counts, numbering)) => Ok(Script::new(lines, names, counts, numbering)),
             Err(fault) => {
                 drop(lines);
                 Err(fault)

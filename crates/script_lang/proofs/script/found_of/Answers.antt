@@ -1,4 +1,7 @@
 use Rattle.std.proofs.Common.{map, take, ap, sym, ◌∙◌, arith}
+use Rattle.brpc_model.specs.Items.{mentioned}
+use Rattle.brpc_model.specs.Places as model
+use Rattle.brpc_model.proofs.Growing.{names_more}
 use Rattle.script_items.specs.Meaning.{item}
 use Rattle.script_lang.specs.declared.counts.Counts.{Counts}
 use Rattle.script_lang.specs.Counting.{counts_of, counted}
@@ -7,7 +10,7 @@ use Rattle.script_lang.proofs.Counted.{front_counted}
 use Rattle.script_lang.proofs.Judged.{counts_more}
 use Rattle.script_lang.proofs.LineSteps.{line_more}
 use Rattle.script_lang.proofs.Noted.{numbers_more}
-use Rattle.script_lang.proofs.numbering.Numbering.of.Goals as goal
+use Rattle.script_lang.proofs.script.found_of.Goals as goal
 
 pub overflow_cast-counts : goal.overflow_cast-counts
 overflow_cast-counts c =
@@ -30,6 +33,7 @@ loop-line-preserved c =
     let before = map item (take i lines) in
     let more = sym (line_more lines i c.line-item.result c.loop-line-test.true c.line-item.is) in
     record {
+      names = c.in_ok-add_mentioned.ensures ∙ ap (λ ns. model.with_names ns (mentioned here)) c.loop-line.invariant.names ∙ sym (names_more before here) ∙ ap model.names more;
       counts = c.with-counts.ensures ∙ ap (λ k. counted k here) c.loop-line.invariant.counts ∙ sym (counts_more before here) ∙ ap counts_of more;
       numbers = c.in_ok-add.ensures ∙ ap (λ ns. numbers_behind ns c.loop-line.counts.operations here) c.loop-line.invariant.numbers
           ∙ ap (λ (k : Counts). numbers_behind (numbers_of before) k.operations here) c.loop-line.invariant.counts

@@ -1,7 +1,0 @@
-use Rattle.std.proofs.Common.{◌≡◌, map, take}
-use Rattle.script_items.specs.Meaning.{item}
-use Rattle.script_lang.specs.Counting.{counts_of}
-use Rattle.script_lang.proofs.counts.Counts.of.Given as goal
-
-abbrev pub invariant-loop-line : goal.invariant-loop-line
-invariant-loop-line l = l.counts ≡ counts_of (map item (take l.line-index l.lines))
