@@ -8,19 +8,19 @@ use Rattle.sock_model.specs.declared.view.View.{View}
 use Rattle.sock_model.specs.declared.view.Hand.{Hand}
 use Rattle.seat_programs.specs.TableWords.{TableWord, index_of}
 use Rattle.seat_programs.specs.Calls.{Call, Family, Slots, Names, Chain, Places, Links, Messages, family_of}
-use Rattle.seat_programs.specs.StepsOfSlots.{slot_word, slot_after, SlotMay, SlotFinds, slot_row}
-use Rattle.seat_programs.specs.StepsOfNames.{name_word, name_after, NameMay, NameFinds, name_row}
-use Rattle.seat_programs.specs.StepsOfChain.{chain_word, chain_after, ChainMay, chain_hand, ChainFinds, chain_row}
-use Rattle.seat_programs.specs.StepsOfPlaces.{place_word, place_after, PlaceMay, place_row}
+use Rattle.seat_programs.specs.StepsOfSlots.{word_of_slot, slot_after, SlotMay, SlotFinds, slot_row}
+use Rattle.seat_programs.specs.StepsOfNames.{word_of_name, name_after, NameMay, NameFinds, name_row}
+use Rattle.seat_programs.specs.StepsOfChain.{word_of_chain, chain_after, ChainMay, chain_hand, ChainFinds, chain_row}
+use Rattle.seat_programs.specs.StepsOfPlaces.{word_of_place, place_after, PlaceMay, place_row}
 use Rattle.seat_programs.specs.StepsOfLinks.{as_hand, LinkMay, link_hand, LinkFinds, link_row}
 use Rattle.seat_programs.specs.StepsOfMessages.{MessageMay, message_row}
 
 -- the word that a step reads or changes; a move has none
 abbrev pub word_by : Family → Call → Option TableWord
-word_by Slots = slot_word
-word_by Names = name_word
-word_by Chain = chain_word
-word_by Places = place_word
+word_by Slots = word_of_slot
+word_by Names = word_of_name
+word_by Chain = word_of_chain
+word_by Places = word_of_place
 word_by other = λ call. none
 
 abbrev pub table_word : Call → Option TableWord

@@ -27,16 +27,16 @@ use Rattle.seat_programs.specs.StepsOfLinks.{as_hand}
 -- ## The word
 
 -- the word that a step reads or changes
-abbrev pub chain_word : Call → Option TableWord
-chain_word (ClaimRequest id q) = some (RequestOf q)
-chain_word (SwapHead i own) = some (HeadOf i)
-chain_word (Connect q before) = some (NextOf q)
-chain_word (EmptyHead i last) = some (HeadOf i)
-chain_word (ReadNext q) = some (NextOf q)
-chain_word (ReverseNext q value) = some (NextOf q)
-chain_word (Unconnect q) = some (NextOf q)
-chain_word (FreeRequest q g) = some (RequestOf q)
-chain_word other = none
+abbrev pub word_of_chain : Call → Option TableWord
+word_of_chain (ClaimRequest id q) = some (RequestOf q)
+word_of_chain (SwapHead i own) = some (HeadOf i)
+word_of_chain (Connect q before) = some (NextOf q)
+word_of_chain (EmptyHead i last) = some (HeadOf i)
+word_of_chain (ReadNext q) = some (NextOf q)
+word_of_chain (ReverseNext q value) = some (NextOf q)
+word_of_chain (Unconnect q) = some (NextOf q)
+word_of_chain (FreeRequest q g) = some (RequestOf q)
+word_of_chain other = none
 
 -- the word behind a step that found this one
 abbrev pub chain_after : Call → ℕ → ℕ

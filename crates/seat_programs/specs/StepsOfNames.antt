@@ -16,12 +16,12 @@ use Rattle.seat_programs.specs.StepViews.{Knows}
 -- ## The word
 
 -- the word that a step reads or changes
-abbrev pub name_word : Call → Option TableWord
-name_word (StoreName n w) = some (NameOf n)
-name_word (LoadName n) = some (NameOf n)
-name_word (StoreOpen o w) = some (OpenOf o)
-name_word (LoadOpen o) = some (OpenOf o)
-name_word other = none
+abbrev pub word_of_name : Call → Option TableWord
+word_of_name (StoreName n w) = some (NameOf n)
+word_of_name (LoadName n) = some (NameOf n)
+word_of_name (StoreOpen o w) = some (OpenOf o)
+word_of_name (LoadOpen o) = some (OpenOf o)
+word_of_name other = none
 
 -- the word behind a step that found this one
 abbrev pub name_after : Call → ℕ → ℕ

@@ -21,10 +21,10 @@ use Rattle.sock_model.specs.sock_words.specs.Words.{place_word}
 -- ## The word
 
 -- the word that a step reads or changes
-abbrev pub place_word : Call → Option TableWord
-place_word (StorePlace l k n) = some (PlaceOf l)
-place_word (DropPlace l k n) = some (PlaceOf l)
-place_word other = none
+abbrev pub word_of_place : Call → Option TableWord
+word_of_place (StorePlace l k n) = some (PlaceOf l)
+word_of_place (DropPlace l k n) = some (PlaceOf l)
+word_of_place other = none
 
 -- the word behind a step that found this one
 abbrev pub place_after : Call → ℕ → ℕ

@@ -21,23 +21,23 @@ use Rattle.seat_programs.specs.StepViews.{Knows, HasRoom, HoldsLife, FindsLink, 
 -- ## The word
 
 -- the word that a step reads or changes
-abbrev pub slot_word : Call → Option TableWord
-slot_word (ClaimSlot i) = some (TagOf i)
-slot_word (CreateLife i k) = some (RefOf i)
-slot_word (AddRef id) = some (RefOf (socket_id_slot id))
-slot_word (SubRef i) = some (RefOf i)
-slot_word (SetOdd i) = some (RefOf i)
-slot_word (Recycle i from) = some (RefOf i)
-slot_word (FreeSlot i) = some (TagOf i)
-slot_word (LookWord id) = some (RefOf (socket_id_slot id))
-slot_word (StoreLink i k) = some (LinkOf i)
-slot_word (LoadLink i w) = some (LinkOf i)
-slot_word (FindLink i h) = some (LinkOf i)
-slot_word (ResetHead i k) = some (HeadOf i)
-slot_word (ClearCode i k) = some (CodeOf i)
-slot_word (StoreCode i h c) = some (CodeOf i)
-slot_word (LoadCode i h) = some (CodeOf i)
-slot_word other = none
+abbrev pub word_of_slot : Call → Option TableWord
+word_of_slot (ClaimSlot i) = some (TagOf i)
+word_of_slot (CreateLife i k) = some (RefOf i)
+word_of_slot (AddRef id) = some (RefOf (socket_id_slot id))
+word_of_slot (SubRef i) = some (RefOf i)
+word_of_slot (SetOdd i) = some (RefOf i)
+word_of_slot (Recycle i from) = some (RefOf i)
+word_of_slot (FreeSlot i) = some (TagOf i)
+word_of_slot (LookWord id) = some (RefOf (socket_id_slot id))
+word_of_slot (StoreLink i k) = some (LinkOf i)
+word_of_slot (LoadLink i w) = some (LinkOf i)
+word_of_slot (FindLink i h) = some (LinkOf i)
+word_of_slot (ResetHead i k) = some (HeadOf i)
+word_of_slot (ClearCode i k) = some (CodeOf i)
+word_of_slot (StoreCode i h c) = some (CodeOf i)
+word_of_slot (LoadCode i h) = some (CodeOf i)
+word_of_slot other = none
 
 -- the word behind a step that found this one
 abbrev pub slot_after : Call → ℕ → ℕ
