@@ -14,9 +14,8 @@ use Rattle.seat_programs.specs.Asides.{Step, Found, TakeBytes, Taking, Bytes, No
 use Rattle.seat_programs.specs.Heads.{Head, Exit, Retry, Reading, Posts, Unlocks, Decides, Locks, Joins, Opens, Reads, Discards, HasEnded, Ended}
 use Rattle.seat_programs.specs.Programs.{Program, Do, Say, Sent, Rest, Write, Aside, Round, Keep, Retries, release, address, set_failed}
 use Rattle.seat_programs.specs.Readers.{LIMIT, last_of, ended_by, read_on, took, discarded, post_each, thrown_away, read}
-use Rattle.seat_programs.specs.Rounds.{round}
+use Rattle.seat_programs.specs.Rounds.{round, first_step}
 use Rattle.seat_programs.specs.Cores.{resolved, next_step}
-use Rattle.outcome_causes.specs.program_steps.specs.Sound.{first_step}
 use Rattle.call_causes.specs.Below.outcome_stories.specs.Stories.{In}
 use Rattle.outcome_causes.proofs.Plain.{in_left, in_right}
 use Rattle.run_theorems.specs.Heard.{bytes_found, given_by}

@@ -21,12 +21,11 @@ use Rattle.seat_programs.specs.Programs.{Program, Do, Say, Sent, Write, Round, K
 use Rattle.seat_programs.specs.Posts.{post}
 use Rattle.seat_programs.specs.Sends.{heading_of, accept, claim_from, start, send}
 use Rattle.seat_programs.specs.Attempts.{claims_from, heading_for, attempt, retry}
-use Rattle.seat_programs.specs.Rounds.{round}
+use Rattle.seat_programs.specs.Rounds.{round, first_step}
 use Rattle.seat_programs.specs.Readers.{reader}
 use Rattle.seat_programs.specs.Clients.{HeldLife, operation, client_from, ending_of}
 use Rattle.seat_programs.specs.Cores.{resolved, still_waiting, next_step}
 use Rattle.outcome_causes.specs.program_steps.specs.AtSteps.{Asks, AtSteps, asks_words}
-use Rattle.outcome_causes.specs.program_steps.specs.Sound.{first_step}
 use Rattle.outcome_causes.specs.program_steps.proofs.AtCalls.{every_exit}
 use Rattle.outcome_causes.specs.program_walks.proofs.Through.{PassesPlain, PassesFails, PassesLinks, PassesReads, any_end, is_of_message, others_plain, others_failing, others_make, reads_any, at_steps_plain, at_steps_links, through_release, through_address, through_reach, through_set_failed, through_fail}
 use Rattle.outcome_causes.specs.program_walks.proofs.ThroughLoops.{through_post, through_round}

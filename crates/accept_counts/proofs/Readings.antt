@@ -33,7 +33,7 @@ use Rattle.seat_programs.specs.StepTables.{row}
 use Rattle.seat_programs.specs.StepsOfNames.{found_id}
 use Rattle.seat_programs.specs.StepViews.{by_right}
 use Rattle.seat_programs.specs.StepsOfSlots.{looked_clean}
-use Rattle.outcome_causes.specs.program_steps.specs.Sound.{Sound, first_step, IsFitting, views_with, views_of, views_after}
+use Rattle.outcome_causes.specs.program_steps.specs.Sound.{Sound, IsFitting, views_with, views_of, views_after}
 use Rattle.outcome_causes.specs.program_steps.proofs.Leaves.{rights_stay}
 use Rattle.outcome_causes.specs.sock_runs.proofs.LinkTicks.{RetriesGo}
 use Rattle.outcome_causes.specs.program_walks.proofs.Recorded.{Recorded}
@@ -41,6 +41,7 @@ use Rattle.outcome_causes.specs.program_walks.proofs.OpensStay.{run_word}
 use Rattle.outcome_causes.specs.program_steps.proofs.Cases.{beside, tick_keeps_marks, tick_cases, ticks_first, views_first}
 use Rattle.run_theorems.specs.Heard.{taken_link, taken_at, as_taken}
 use Rattle.accept_counts.proofs.Closers.{Ends, Calm, IsCalmCall, IsNoTake, calm_first, calm_next, begins_calm, calm_step, calm_aside}
+use Rattle.seat_programs.specs.Rounds.{first_step}
 
 -- ## Rights
 

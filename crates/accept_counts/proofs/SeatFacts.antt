@@ -27,8 +27,9 @@ use Rattle.seat_programs.specs.StepTables.{row, hand_at}
 use Rattle.seat_programs.specs.StepsOfMessages.{took_message}
 use Rattle.seat_programs.specs.StepsOfLinks.{link_away, link_home_again, took_bytes}
 use Rattle.outcome_causes.specs.program_steps.specs.GoesOn.{GoesOn}
-use Rattle.outcome_causes.specs.program_steps.specs.Sound.{Sound, first_step, views_after}
+use Rattle.outcome_causes.specs.program_steps.specs.Sound.{Sound, views_after}
 use Rattle.outcome_causes.specs.program_steps.proofs.Cases.{with_rights, right_rights, put_rights, tick_cases, elem_there}
+use Rattle.seat_programs.specs.Rounds.{first_step}
 
 pub ids_first : (p : Plan) (q : IdPlan) → q.slots ≤ 65536 → (u : IdView) (program : Program) → IdGoesOn p q u program → IdGoesOn p q u (first_step program)
 ids_first p q narrow u (Write w after) g = id_programs.block_goes p q narrow u w after g

@@ -15,8 +15,8 @@ use Rattle.seat_programs.specs.Beside.{found_in}
 use Rattle.seat_programs.specs.Cores.{Core, SeatState}
 use Rattle.seat_programs.specs.Programs.{Program, Do, TakeMessage, TakeHome, PutHome, PutBytes, AskReady, Aside}
 use Rattle.seat_programs.specs.Ticks.{Answer, OfPut, OfReady, Moment, taken, ticked, step_with, tick_with, with_message, with_link, with_put, with_ready, with_found}
-use Rattle.outcome_causes.specs.program_steps.specs.Sound.{first_step}
 use Rattle.outcome_causes.specs.program_steps.proofs.Cases.{ticks_first}
+use Rattle.seat_programs.specs.Rounds.{first_step}
 
 module _ (p : Plan) (i : ℕ) (seat : SeatState) (c : Core) where
   -- a tick of seat i changes no other seat

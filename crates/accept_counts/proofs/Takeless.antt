@@ -17,12 +17,12 @@ use Rattle.seat_programs.specs.Asides.{Step, Found, TakeBytes}
 use Rattle.seat_programs.specs.Heads.{Head, Exit, Retry, Posts, Unlocks, Decides, Locks, Joins, Opens, Reads, Discards}
 use Rattle.seat_programs.specs.Programs.{Program, Say, Sent, TakeMessage, TakeHome, PutHome, PutBytes, AskReady, Write, Aside, Round, Keep, Retries}
 use Rattle.seat_programs.specs.Attempts.{attempt}
-use Rattle.seat_programs.specs.Rounds.{round}
+use Rattle.seat_programs.specs.Rounds.{round, first_step}
 use Rattle.seat_programs.specs.Clients.{HeldLife, operation, client_from, ending_of}
 use Rattle.seat_programs.specs.Cores.{Core, SeatState, resolved, next_step}
 use Rattle.seat_programs.specs.Ticks.{Moment, IsAnswered, AreAnswered, ticked, run}
 use Rattle.outcome_causes.specs.program_steps.specs.AtSteps.{Asks, AtSteps, asks_words}
-use Rattle.outcome_causes.specs.program_steps.specs.Sound.{Sound, first_step, IsFitting, AreFitting, views_after}
+use Rattle.outcome_causes.specs.program_steps.specs.Sound.{Sound, IsFitting, AreFitting, views_after}
 use Rattle.outcome_causes.specs.sock_runs.proofs.LinkTicks.{RetriesGo}
 use Rattle.outcome_causes.specs.program_steps.proofs.Cases.{ComesNext, tick_keeps_marks}
 use Rattle.outcome_causes.specs.sock_runs.proofs.Ticks.{sound_ticks}

@@ -31,7 +31,7 @@ use Rattle.seat_programs.specs.StepTables.{word_of, word_after}
 use Rattle.seat_programs.specs.Ticks.{Moment, IsAnswered, taken, ticked}
 use Rattle.seat_programs.specs.StepTables.{May}
 use Rattle.seat_programs.specs.StepTables.{row, hand_at}
-use Rattle.outcome_causes.specs.program_steps.specs.Sound.{Sound, first_step, views_after}
+use Rattle.outcome_causes.specs.program_steps.specs.Sound.{Sound, views_after}
 use Rattle.outcome_causes.specs.program_steps.proofs.Cases.{with_rights, calls_waiting}
 use Rattle.label_runs.specs.Labels.{Trial, Idle, Tries, Sends, IsOfTrial, MayPut, put_behind, Kept, Storing, unlocked_trial, Labels}
 use Rattle.label_runs.proofs.Programs.{labels_round, block_goes, retry_goes}
@@ -41,6 +41,7 @@ use Rattle.call_causes.specs.Below.outcome_stories.proofs.HomeCalls.{AreCalls, P
 use Rattle.accept_counts.proofs.SeatFacts.{seat_facts, tick_moves}
 use Rattle.accept_counts.proofs.Views.{put_of, row_count, rights_count, PutsFit, row_fits, rights_fit}
 use Rattle.call_causes.specs.story_ticks.proofs.Chains.{AreFewTries}
+use Rattle.seat_programs.specs.Rounds.{first_step}
 
 -- ## Pairs
 
@@ -153,10 +154,10 @@ labels_first is_call t (Round head next) g = labels_round is_call t head next g
 labels_first is_call t _ g = g
 
 -- what is found of a step on the sockets
-pub fits_as : (p : Plan) (c : Core) (program : Program) (call : Call) (next : ℕ → Program) → first_step program ≡ Do call next → FitsFirst p c (goes.first_of program) → FitsSock call (found_at c.words (word_of p call))
+pub fits_as : (p : Plan) (c : Core) (program : Program) (call : Call) (next : ℕ → Program) → first_step program ≡ Do call next → FitsFirst p c (first_step program) → FitsSock call (found_at c.words (word_of p call))
 fits_as p c program call next e f = by program e f
   where
-    by : (program : Program) → first_step program ≡ Do call next → FitsFirst p c (goes.first_of program) → FitsSock call (found_at c.words (word_of p call))
+    by : (program : Program) → first_step program ≡ Do call next → FitsFirst p c (first_step program) → FitsSock call (found_at c.words (word_of p call))
     by (Write w after) e f = subst (FitsFirst p c) e f
     by _ e f = subst (FitsFirst p c) e f
 

@@ -8,7 +8,7 @@ use Rattle.sock_model.specs.declared.chain.Entry.{Entry}
 use Rattle.sock_model.specs.declared.chain.Right.{Right}
 use Rattle.sock_model.specs.declared.view.View.{View}
 use Rattle.sock_model.specs.declared.view.Hand.{Hand}
-use Rattle.sock_model.specs.ChainRows.{with_claim, entry_of, more, queued, righted}
+use Rattle.sock_model.specs.ChainRows.{with_claim, entry_of, more, queued, righted, ready_claim, filled_claim}
 use Rattle.sock_model.specs.Memory.{IDLE}
 use Rattle.sock_model.specs.Weights.{total}
 use Rattle.call_causes.specs.Below.programs_allowed.specs.slot_steps.proofs.Sums.{total-append}
@@ -16,8 +16,7 @@ use Rattle.sock_message.specs.Asked.{Asked}
 use Rattle.seat_programs.specs.Calls.{Call, ClaimRequest, PutMessage, Unconnect, SwapHead}
 use Rattle.seat_programs.specs.StepTables.{row}
 use Rattle.seat_programs.specs.StepViews.{by_claim}
-use Rattle.seat_programs.specs.StepsOfChain.{exchanged, ready_claim}
-use Rattle.seat_programs.specs.StepsOfMessages.{filled_claim}
+use Rattle.seat_programs.specs.StepsOfChain.{exchanged}
 use Rattle.seat_programs.specs.StepTables.{May}
 use Rattle.outcome_causes.specs.program_steps.proofs.Cases.{with_rights}
 use Rattle.outcome_causes.specs.program_steps.proofs.Leaves.{is_claiming, claim_way, claims_stay, lists_stay}

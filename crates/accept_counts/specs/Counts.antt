@@ -20,10 +20,10 @@ use Rattle.sock_words.specs.declared.plain.Plan.{Plan}
 use Rattle.sock_words.specs.Words.{at_word}
 use Rattle.seat_programs.specs.Programs.{Program, Aside}
 use Rattle.seat_programs.specs.Ticks.{Moment, ticked}
-use Rattle.outcome_causes.specs.program_steps.specs.Sound.{first_step}
 use Rattle.call_causes.specs.Below.id_runs.specs.Held.{IdView}
 use Rattle.call_causes.specs.Below.id_runs.specs.Goes.{SoundIds, IsFittingIds}
 use Rattle.label_runs.specs.Labels.{Trial, Idle, Tries, Sends, Labels}
+use Rattle.seat_programs.specs.Rounds.{first_step}
 
 -- 1 where these are attempt n of the call with this id
 abbrev pub pair_of : ℕ → ℕ → ℕ → ℕ → ℕ

@@ -14,9 +14,9 @@ use Rattle.seat_programs.specs.Programs.{Program, Aside}
 use Rattle.seat_programs.specs.Cores.{Calls, Core}
 use Rattle.seat_programs.specs.Ticks.{Moment, taken}
 use Rattle.seat_programs.specs.Scripts.{IsRunWithCalls}
-use Rattle.outcome_causes.specs.program_steps.specs.Sound.{first_step}
 use Rattle.call_causes.specs.call_stories.specs.Lists.{given, shows_in_run, early_of_run, closed_of_run, silent_of_run}
 use Rattle.call_causes.specs.call_stories.specs.Posts.{Post, posted_at}
+use Rattle.seat_programs.specs.Rounds.{first_step}
 
 -- ## At words that were loaded
 

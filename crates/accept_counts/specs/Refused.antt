@@ -22,7 +22,6 @@ use Rattle.seat_programs.specs.Ticks.{Moment, quiet, ticked}
 use Rattle.seat_programs.specs.Tasks.{plan_of}
 use Rattle.seat_programs.specs.Scripts.{opened, ending, set_up, played, IsRunWithCalls}
 use Rattle.outcome_causes.specs.program_steps.specs.AtSteps.{Asks, AtSteps}
-use Rattle.outcome_causes.specs.program_steps.specs.Sound.{first_step}
 use Rattle.call_causes.specs.Below.outcome_stories.specs.Stories.{In}
 use Rattle.call_causes.specs.Below.id_runs.specs.Goes.{FitsSock}
 use Rattle.label_runs.specs.Labels.{Trial, Idle, Tries, Sends, put_behind, Kept, unlocks_trial, locked_trial, LeavesLabel, MayPut, AsideMove, FindsLabel, AtLabel}
@@ -31,6 +30,7 @@ use Rattle.corr_core.specs.Decisions.{WHOLE}
 use Rattle.sock_model.specs.declared.view.View.{View}
 use Rattle.call_causes.specs.call_stories.specs.Posts.{Post}
 use Rattle.accept_counts.specs.Counts.{times_of, WasMade, TrialFits}
+use Rattle.seat_programs.specs.Rounds.{first_step}
 
 -- ## What a seat did
 

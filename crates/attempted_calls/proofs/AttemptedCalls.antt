@@ -18,10 +18,11 @@ use Rattle.own_decisions.specs.Below.script_facts.proofs.Reading.{InRange}
 use Rattle.own_decisions.specs.Below.script_facts.proofs.Targets.{AreThere}
 use Rattle.own_decisions.specs.Below.call_owing.specs.Lives.{ClosesInRun}
 use Rattle.own_decisions.specs.Below.call_stories.specs.Lists.{given}
-use Rattle.own_decisions.specs.Below.call_stories.specs.Scenes.{Birth, In, WhyEnded}
+use Rattle.own_decisions.specs.Below.call_stories.specs.Scenes.{Birth, WhyEnded}
 use Rattle.own_decisions.specs.Below.story_steps.proofs.BirthTicks.{one_call}
 use Rattle.own_decisions.specs.Below.story_steps.proofs.End.{ended_call}
 use Rattle.own_decisions.specs.Below.call_causes.proofs.Whole.{run_has_story, run_has_ended}
+use Rattle.own_decisions.specs.Below.outcome_stories.specs.Stories.{In}
 
 -- as the run ends the word of a call is its id
 abbrev pub AreStored : (ℕ → ℕ) → (script : List Item) → Core → Type 0

@@ -10,17 +10,18 @@ use Rattle.sock_message.specs.Asked.{Asked}
 use Rattle.seat_programs.specs.Asides.{PutCall, StoreCall, Found}
 use Rattle.seat_programs.specs.Cores.{Core, SeatState}
 use Rattle.seat_programs.specs.Programs.{Program, Aside}
-use Rattle.own_decisions.specs.Below.programs_allowed.specs.program_steps.specs.Sound.{first_step}
 use Rattle.own_decisions.specs.Below.programs_allowed.specs.program_steps.proofs.Cases.{elem_there}
 use Rattle.seat_programs.specs.declared.task.Task.{Task}
 use Rattle.own_decisions.specs.Below.call_stories.specs.Posts.{Post}
-use Rattle.own_decisions.specs.Below.call_stories.specs.Scenes.{Birth, Scene, In, IsBorn}
+use Rattle.own_decisions.specs.Below.call_stories.specs.Scenes.{Birth, Scene, IsBorn}
 use Rattle.own_decisions.specs.Below.call_stories.specs.Says.{Mark, Claims, Holds}
 use Rattle.own_decisions.specs.Below.call_stories.specs.Stories.{SlotFits, CallStory, HasStory}
 use Rattle.own_decisions.specs.Below.story_steps.proofs.BirthTicks.{two_of, one_call}
 use Rattle.own_decisions.specs.Below.story_steps.proofs.Firsts.{MayFirst, may_first}
 use Rattle.own_decisions.specs.accept_counts.specs.Counts.{word_of_id}
 use Rattle.corr_core.specs.Word.{call_id, id_slot}
+use Rattle.seat_programs.specs.Rounds.{first_step}
+use Rattle.own_decisions.specs.Below.outcome_stories.specs.Stories.{In}
 
 module _ (q : IdPlan) where
   -- the word of the call has the id

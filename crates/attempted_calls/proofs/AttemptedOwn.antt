@@ -35,7 +35,7 @@ use Rattle.seat_programs.specs.Programs.{Program, Do, TakeMessage, TakeHome, Put
 use Rattle.seat_programs.specs.Cores.{Calls, Core, SeatState, found_at, words_after, homes_after, hand_after, lies_at, first_of, others_of, link_place, resolved, waiting_at, next_step, with_seat}
 use Rattle.seat_programs.specs.StepTables.{word_of, word_after}
 use Rattle.seat_programs.specs.Ticks.{Moment, IsAnswered, fed, with_places, onto_first, taken, ticked}
-use Rattle.own_decisions.specs.Below.programs_allowed.specs.program_steps.specs.Sound.{Sound, first_step}
+use Rattle.own_decisions.specs.Below.programs_allowed.specs.program_steps.specs.Sound.{Sound}
 use Rattle.own_decisions.specs.Below.programs_allowed.specs.program_steps.proofs.Cases.{tick_cases, calls_waiting}
 use Rattle.own_decisions.specs.Below.label_runs.specs.Labels.{FindsLabel}
 use Rattle.own_decisions.specs.accept_counts.specs.Counts.{word_of_id}
@@ -47,6 +47,7 @@ use Rattle.attempted_calls.proofs.EndedTrails.{StoresNext, Of, NoCall, Makes, Kn
 use Rattle.attempted_calls.proofs.EndedNames.{follows_first, resolves}
 use Rattle.own_decisions.specs.accept_counts.proofs.SeatFacts.{seat_facts}
 use Rattle.attempted_calls.proofs.AttemptedFacts.{IsStored, IsStoring, IsOwn, Facts}
+use Rattle.seat_programs.specs.Rounds.{first_step}
 
 -- what is known of a call
 abbrev pub IsTrueOf : IdPlan → Core → Of → Type 0

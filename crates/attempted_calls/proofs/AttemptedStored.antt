@@ -24,7 +24,7 @@ use Rattle.seat_programs.specs.Runs.{IsAtRest}
 use Rattle.seat_programs.specs.Ticks.{Moment, AreAnswered, quiet, ticked, run}
 use Rattle.seat_programs.specs.Tasks.{opens, calls, plan_of, id_plan_of}
 use Rattle.seat_programs.specs.Scripts.{sizes_of, programs, readers_from, all_programs, all_tasks, opened, ending, set_up, played, is_ending, IsRunWithCalls}
-use Rattle.own_decisions.specs.Below.programs_allowed.specs.program_steps.specs.Sound.{IsAhead, AllRest, first_step, views_after, views_along}
+use Rattle.own_decisions.specs.Below.programs_allowed.specs.program_steps.specs.Sound.{IsAhead, AllRest, views_after, views_along}
 use Rattle.own_decisions.specs.Below.programs_allowed.specs.program_steps.proofs.Cases.{elem_there}
 use Rattle.own_decisions.specs.Below.programs_allowed.specs.sock_runs.proofs.Along.{seat_rests, ticked_ahead}
 use Rattle.own_decisions.specs.Below.programs_allowed.specs.sock_runs.proofs.Quiets.{ticked_rests, run_rests}
@@ -64,6 +64,7 @@ use Rattle.attempted_calls.proofs.AttemptedFacts.{IsStoring, IsOwn, facts}
 use Rattle.attempted_calls.proofs.AttemptedOwn.{IsTrueOf, CallLaw, beside, own_ticks}
 use Rattle.own_decisions.specs.Below.programs_allowed.specs.program_walks.proofs.Opening.{mapped}
 use Rattle.own_decisions.specs.Below.joint_runs.proofs.Starts.{narrow}
+use Rattle.seat_programs.specs.Rounds.{first_step}
 
 -- a step on the sockets leaves which call is known, or forgets it
 stays_of : (t u : Trail) → Stays t u → (u.of ≡ t.of) ⊎ (u.of ≡ NoCall)

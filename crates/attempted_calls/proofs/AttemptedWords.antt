@@ -18,7 +18,6 @@ use Rattle.corr_core.specs.declared.marks.Token.TheVariants.{Locked}
 use Rattle.seat_programs.specs.id_rule.specs.Lawful.{id_index, tag_index, call_index, at_index, all_words}
 use Rattle.own_decisions.specs.Below.id_runs.specs.Held.{IdView, MayId}
 use Rattle.own_decisions.specs.Below.id_runs.specs.Goes.{SoundIds, FindsId, IdGoesOn}
-use Rattle.own_decisions.specs.Below.id_runs.specs.Goes as goes
 use Rattle.own_decisions.specs.Below.id_runs.proofs.Keeps.{parts_packed}
 use Rattle.own_decisions.specs.Below.id_runs.proofs.Loops.{ids_round}
 use Rattle.own_decisions.specs.Below.id_runs.proofs.Programs.{block_goes}
@@ -29,7 +28,7 @@ use Rattle.seat_programs.specs.Beside.{found_in, calls_after, call_at}
 use Rattle.seat_programs.specs.Cores.{Core, SeatState}
 use Rattle.seat_programs.specs.Posts.{packed, advance_of}
 use Rattle.seat_programs.specs.Programs.{Program, TakeMessage, TakeHome, PutBytes, AskReady, Write, Aside, Round}
-use Rattle.seat_programs.specs.Rounds.{round}
+use Rattle.seat_programs.specs.Rounds.{round, first_step}
 use Rattle.seat_programs.specs.Sends.{block}
 use Rattle.seat_programs.specs.Ticks.{Answer, OfPut, OfReady, Moment, taken, with_message, with_link, with_put, with_ready, with_found, step_with, tick_with, ticked}
 use Rattle.own_decisions.specs.Below.call_owing.proofs.EndsStill.{view_of}
@@ -188,7 +187,7 @@ module _ (p : Plan) (q : IdPlan) (narrow : q.slots ≤ 65536) (c : Core) (j : �
   first_effect answer (AskReady k next) go = by_ready answer next
   first_effect answer _ go = none_aside refl refl refl
 
-  tick_effect : (answer : Answer) (program : Program) → IdGoesOn p q u program → Effect p q c u (tick_with p j seat c answer program) (advanced_with c.calls (taken answer) (goes.first_of program))
+  tick_effect : (answer : Answer) (program : Program) → IdGoesOn p q u program → Effect p q c u (tick_with p j seat c answer program) (advanced_with c.calls (taken answer) (first_step program))
   tick_effect answer (Write w after) go = first_effect answer (block w after) (block_goes p q narrow u w after go)
   tick_effect answer (Round head next) go = first_effect answer (round head next) (ids_round p q u head next go)
   tick_effect answer other go = first_effect answer other go
@@ -211,6 +210,6 @@ module _ (p : Plan) (q : IdPlan) (narrow : q.slots ≤ 65536) (c : Core) (us : L
   pub tick_rises : (i : ℕ) → i < q.slots → 0 < (word_of_id (ticked p c m).calls.words i).state → Rise (word_of_id c.calls.words i) (word_of_id (ticked p c m).calls.words i) (Unit {0}) (AdvancesAt c m i)
   tick_rises = by_seat (get_elem? c.seats m.seat) refl
     where
-      by_seat : (x : Option SeatState) → get_elem? c.seats m.seat ≡ x → Rises (elim x as (λ o. Core) [ none ↦ c | some seat ↦ tick_with p m.seat seat c m.answer seat.program ]) (elim x as (λ o. List ℕ) [ none ↦ [] | some seat ↦ advanced_with c.calls (taken m.answer) (goes.first_of seat.program) ])
+      by_seat : (x : Option SeatState) → get_elem? c.seats m.seat ≡ x → Rises (elim x as (λ o. Core) [ none ↦ c | some seat ↦ tick_with p m.seat seat c m.answer seat.program ]) (elim x as (λ o. List ℕ) [ none ↦ [] | some seat ↦ advanced_with c.calls (taken m.answer) (first_step seat.program) ])
       by_seat none e = λ i low live. is_same refl live refl
       by_seat (some seat) e = let v = view_of c.seats us m.seat seat e ids.each in of_effect m.seat v.0 v.1 _ _ (tick_effect p q narrow c m.seat seat v.0 m.answer seat.program (ids.seats m.seat seat v.0 e v.1))

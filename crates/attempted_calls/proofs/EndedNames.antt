@@ -17,7 +17,7 @@ use Rattle.sock_model.specs.declared.chain.Entry.{Entry}
 use Rattle.sock_model.specs.declared.home.Home.{Home}
 use Rattle.sock_model.specs.declared.view.View.{View}
 use Rattle.sock_model.specs.declared.view.Hand.{Hand}
-use Rattle.sock_model.specs.ChainRows.{with_claim, entry_of, more, queued, righted}
+use Rattle.sock_model.specs.ChainRows.{with_claim, entry_of, more, queued, righted, ready_claim, filled_claim}
 use Rattle.sock_model.specs.Memory.{IDLE}
 use Rattle.sock_model.specs.SlotRows.{met_link}
 use Rattle.corr_core.specs.declared.marks.Plan.{Plan as IdPlan}
@@ -37,10 +37,9 @@ use Rattle.seat_programs.specs.declared.task.Task.{Task}
 use Rattle.seat_programs.specs.Ticks.{Moment, IsAnswered, taken, ticked}
 use Rattle.seat_programs.specs.StepTables.{May}
 use Rattle.seat_programs.specs.StepTables.{row, hand_at}
-use Rattle.seat_programs.specs.StepsOfChain.{new_claim, ready_claim, exchanged}
-use Rattle.seat_programs.specs.StepsOfMessages.{filled_claim}
+use Rattle.seat_programs.specs.StepsOfChain.{new_claim, exchanged}
 use Rattle.seat_programs.specs.StepViews.{by_claim}
-use Rattle.own_decisions.specs.Below.programs_allowed.specs.program_steps.specs.Sound.{Sound, first_step, views_after}
+use Rattle.own_decisions.specs.Below.programs_allowed.specs.program_steps.specs.Sound.{Sound, views_after}
 use Rattle.own_decisions.specs.Below.programs_allowed.specs.program_steps.proofs.Cases.{with_rights, calls_waiting}
 use Rattle.own_decisions.specs.Below.outcome_stories.specs.Causes.{WasGiven}
 use Rattle.own_decisions.specs.Below.outcome_stories.specs.Kept.{Story}
@@ -60,6 +59,7 @@ use Rattle.own_decisions.specs.accept_counts.proofs.SeatFacts.{seat_facts, tick_
 use Rattle.attempted_calls.proofs.EndedPrograms.{follows_round, block_goes, retry_goes}
 use Rattle.own_decisions.specs.Below.script_facts.proofs.Lists.{all_map}
 use Rattle.corr_core.specs.Word.{id_slot, id_first}
+use Rattle.seat_programs.specs.Rounds.{first_step}
 
 -- ## First steps
 

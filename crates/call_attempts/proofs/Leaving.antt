@@ -52,7 +52,8 @@ use Rattle.call_attempts.specs.Both.{Both, both, wanting}
 use Rattle.call_attempts.specs.Retrying.{TookNext, without_oldest, RetriedBy, GaveUp, Retried, one_more, RetriedAll, RanOut, for_frame, before_next}
 use Rattle.message_parts.specs.Parcels.{parcel_of}
 use Rattle.call_writes.proofs.Drains.{drained_refs, drained_same}
-use Rattle.call_attempts.specs.Attempting.{message_of, reference_of, PostedOf, RefusedFor, WentOut, CameBack, DeliveredBy, went_out, came_back, Linked, AttemptedBy, nowhere, over_link}
+use Rattle.call_attempts.specs.Attempting.{message_of, PostedOf, RefusedFor, WentOut, CameBack, DeliveredBy, went_out, came_back, Linked, AttemptedBy, nowhere, over_link}
+use Rattle.write_chain.specs.Ready.{refused_of}
 
 -- ## The seat of the ids
 
@@ -89,7 +90,7 @@ pub message_is : (p : Plan) (sock : SockRef) (msg : Letter) (r : Refused) (v w :
 message_is p sock msg (refused.Failed s m found) v w b = b.1
 message_is p sock msg (refused.Full s m) v w b = b.1
 
-pub reference_is : (p : Plan) (sock : SockRef) (msg : Letter) (r : Refused) (v w : View) → RefusedBy p sock msg r v w → reference_of r ≡ sock
+pub reference_is : (p : Plan) (sock : SockRef) (msg : Letter) (r : Refused) (v w : View) → RefusedBy p sock msg r v w → refused_of r ≡ sock
 reference_is p sock msg (refused.Failed s m found) v w b = b.0
 reference_is p sock msg (refused.Full s m) v w b = b.0
 

@@ -22,6 +22,7 @@ use Rattle.call_errors.specs.rpc_client.specs.Sending.{Returned}
 use Rattle.call_writes.specs.Sending.{SeenCalling}
 use Rattle.call_attempts.specs.Both.{Both, PostedFor}
 use Rattle.corr_core.specs.Word.{id_slot, id_first}
+use Rattle.write_chain.specs.Ready.{refused_of}
 
 -- the message of a refusal
 abbrev pub message_of : Refused → Letter
@@ -33,10 +34,6 @@ abbrev pub code_for : Refused → ℕ
 code_for (refused.Failed sock msg found) = EFAILEDSOCKET
 code_for (refused.Full sock msg) = EREQUESTS
 
-abbrev pub reference_of : Refused → SockRef
-reference_of (refused.Failed sock msg found) = sock
-reference_of (refused.Full sock msg) = sock
-
 -- of the attempt in this message an error is posted to the call
 abbrev pub PostedOf : id_plan.Plan → Letter → ℕ → Both → Both → Type 0
 PostedOf q msg code s t = PostedFor q msg.owner msg.label.attempt code s t
@@ -44,7 +41,7 @@ PostedOf q msg code s t = PostedFor q msg.owner msg.label.attempt code s t
 -- a refused attempt is posted to the call by the reason, and then the reference is given back
 pub record RefusedFor (q : id_plan.Plan) (by : Refused) (s t : Both) : Type 0 where
   pub posted : PostedOf q (message_of by) (code_for by) s t
-  pub returned : Returned (reference_of by).id.0 s.socks t.socks
+  pub returned : Returned (refused_of by).id.0 s.socks t.socks
 
 module _ {O : Type 0} (state : O → OutState) (p : Plan) (q : id_plan.Plan) (socket : SocketId) (msg : Letter) where
   -- the frame was accepted, and then it was seen through

@@ -13,14 +13,16 @@ use Rattle.seat_programs.specs.declared.task.Op.{Op}
 use Rattle.seat_programs.specs.declared.task.Op.TheVariants as ops
 use Rattle.seat_programs.specs.declared.task.Task.{Task}
 use Rattle.seat_programs.specs.Told.{IsTask, Became, OpensNone}
-use Rattle.seat_programs.specs.ToldCalls.{Fixed, Order, FoundNone, Seeks, HasCode, IsExpiredWith}
+use Rattle.seat_programs.specs.ToldCalls.{Fixed, Order, FoundNone, Seeks, IsExpiredWith}
 use Rattle.story_ticks.specs.call_stories.specs.Lists.{given, times}
 use Rattle.story_ticks.specs.call_stories.specs.Target.{IsOnCalls, FailedInPart, ByExpiry, ByCompression, ByFrameFault, ByFail, ByReading, BySocketOrRequests, WhyCallInPart, WhyInPart}
-use Rattle.story_ticks.specs.call_stories.specs.Scenes.{Scene, In, IsOther, IsOpened, SeeksName, IsTaskOf, HasNoneOf, NoneFound, FailedIn, by_expiry, by_compression, by_other, WhyEnded, WhyOwn, ToldOf, was_said, was_sent, was_begun}
+use Rattle.story_ticks.specs.call_stories.specs.Scenes.{Scene, IsOther, IsOpened, SeeksName, IsTaskOf, HasNoneOf, NoneFound, FailedIn, by_expiry, by_compression, by_other, WhyEnded, WhyOwn, ToldOf, was_said, was_sent, was_begun}
 use Rattle.story_ticks.specs.call_stories.specs.Says.{Mark}
 use Rattle.story_ticks.specs.call_stories.proofs.Posts.{or_cases}
 use Rattle.story_ticks.specs.story_steps.proofs.End.{HasEnded, ended_call, one_outcome, call_of, answered, contains_in}
 use Rattle.story_ticks.specs.story_steps.proofs.Whys.{AreAscending, IsDone, is_done, in_contains, why_expire, why_join}
+use Rattle.seat_programs.specs.brpc_model.specs.Attempts.{HasCode}
+use Rattle.story_ticks.specs.Below.outcome_stories.specs.Stories.{In}
 
 module _ (p : Plan) (q : IdPlan) (clients : List (List Task)) (gives : ℕ → List ℕ) (ascending : (c : ℕ) → AreAscending (get_or clients c [])) (w : Scene) (ms : List Mark) (e : HasEnded p q clients gives w ms) where
   -- where an operation found a name without a socket, those of its client before it found so too
@@ -97,8 +99,8 @@ module _ (p : Plan) (q : IdPlan) (clients : List (List Task)) (gives : ℕ → L
 
   ended_by : (c o id : ℕ) (asked : Asked) (x : Outcome) → o ≡ asked.operation → WhyEnded p q clients gives w (record { id = id; asked = asked }) x → WhyCallInPart p clients w.core.outcomes fixed (given w.core) orders last c o asked x
   ended_by c o id asked (outcomes.Answered i payload attachment) own why = subst (λ n. WhyCallInPart p clients w.core.outcomes fixed (given w.core) orders last c o asked (outcomes.Answered n payload attachment)) (sym why.0)
-      (answered p q clients gives w ms e fixed orders id asked (λ (frame : Frame). HasCode p clients w.core.outcomes fixed (given w.core) orders (pos 0) frame × (frame.payload ≡ payload) × (frame.attachment ≡ attachment)) why.1)
-  ended_by c o id asked (outcomes.Peer i code) own why = subst (λ n. WhyCallInPart p clients w.core.outcomes fixed (given w.core) orders last c o asked (outcomes.Peer n code)) (sym why.0) (answered p q clients gives w ms e fixed orders id asked (HasCode p clients w.core.outcomes fixed (given w.core) orders code) why.1, why.2)
+      (answered p q clients gives w ms e fixed orders id asked (λ (frame : Frame). HasCode (pos 0) frame × (frame.payload ≡ payload) × (frame.attachment ≡ attachment)) why.1)
+  ended_by c o id asked (outcomes.Peer i code) own why = subst (λ n. WhyCallInPart p clients w.core.outcomes fixed (given w.core) orders last c o asked (outcomes.Peer n code)) (sym why.0) (answered p q clients gives w ms e fixed orders id asked (HasCode code) why.1, why.2)
   ended_by c o id asked (outcomes.CallFailed i code) own why = subst (λ n. FailedInPart p clients w.core.outcomes fixed (given w.core) orders last o asked n code) (sym why.0) (failed_by asked o id code own why.1)
   ended_by c o id asked _ own why = absurd why
 

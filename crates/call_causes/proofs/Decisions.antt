@@ -25,7 +25,7 @@ use Rattle.story_ticks.specs.call_stories.specs.Lists.{given, times, shows_in, s
 use Rattle.story_ticks.specs.call_stories.specs.Posts.{Post, posts_of_run}
 use Rattle.story_ticks.specs.call_stories.specs.Decided.{Decision, decided_at, decided_by}
 use Rattle.story_ticks.specs.call_stories.specs.Target.{FailedByDecision}
-use Rattle.story_ticks.specs.call_stories.specs.Scenes.{Scene, In, WasPosted, FailedIn, by_expiry, by_compression, by_other}
+use Rattle.story_ticks.specs.call_stories.specs.Scenes.{Scene, WasPosted, FailedIn, by_expiry, by_compression, by_other}
 use Rattle.story_ticks.specs.call_stories.specs.Says.{Mark}
 use Rattle.story_ticks.specs.story_steps.proofs.Attempts.{in_behind, in_front}
 use Rattle.story_ticks.specs.story_steps.proofs.End.{HasEnded, call_of, answered}
@@ -34,6 +34,7 @@ use Rattle.call_causes.proofs.CallWhys.{expired_with}
 use Rattle.story_ticks.proofs.Scripts.{are_ascending}
 use Rattle.call_causes.proofs.Run.{in_either}
 use Rattle.call_causes.proofs.Whole.{run_has_story, run_attempts, run_posted, run_decided, run_has_ended}
+use Rattle.story_ticks.specs.Below.outcome_stories.specs.Stories.{In}
 
 module _ (p : Plan) (q : IdPlan) (clients : List (List Task)) (gives : ℕ → List ℕ) (w : Scene) (ms : List Mark) (e : HasEnded p q clients gives w ms) (fixed : Fixed) (orders : ℕ → Order) (last : ℕ → ℕ) (counts : (o : ℕ) → times o w.advances ≡ last o) (posts : List Post) (posted : (id error : ℕ) → WasPosted w id error → In (record { id = id; error = error }) posts)
     (decided : ℕ → List Decision) (by_seat : (d : Decision) → In d w.decisions → (j : ℕ) × In d (decided j)) (ascending : (c : ℕ) → AreAscending (get_or clients c [])) (as_given : (k : ℕ) → given w.core k ≡ gives k) where

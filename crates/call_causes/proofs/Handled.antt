@@ -9,7 +9,7 @@ use Rattle.corr_core.specs.Versions.{has_version, is_early}
 use Rattle.seat_programs.specs.id_rule.specs.Lawful.{id_index}
 use Rattle.seat_programs.specs.Heads.{Reading}
 use Rattle.seat_programs.specs.Readers.{has_response, slot_in, version_in}
-use Rattle.story_ticks.specs.call_stories.specs.Scenes.{In}
+use Rattle.story_ticks.specs.Below.outcome_stories.specs.Stories.{In}
 
 -- ## Words of id slots
 

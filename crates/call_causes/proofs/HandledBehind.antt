@@ -10,16 +10,16 @@ use Rattle.seat_programs.specs.Calls.{LoadOpen}
 use Rattle.seat_programs.specs.Programs.{Program, Do, Aside}
 use Rattle.seat_programs.specs.Cores.{Core, SeatState}
 use Rattle.seat_programs.specs.Ticks.{Moment, ticked, run}
-use Rattle.story_ticks.specs.Below.programs_allowed.specs.program_steps.specs.Sound.{first_step}
 use Rattle.story_ticks.specs.call_stories.specs.Lists.{soon_at, shows_in}
 use Rattle.story_ticks.specs.call_stories.specs.Posts.{Post, posted_at}
 use Rattle.story_ticks.specs.call_stories.specs.Decided.{is_late_step, late_at, late_in, posted_behind}
-use Rattle.story_ticks.specs.call_stories.specs.Scenes.{In}
 use Rattle.call_causes.proofs.Handled.{Sit}
 use Rattle.call_causes.proofs.HandledSteps.{State, state_on, onward}
 use Rattle.call_causes.proofs.HandledTicks.{sit, Known, HasReader, reader_ticks}
 use Rattle.call_causes.proofs.HandledPosts.{IsLate, late_over, With, with_on, with_onward, HasClaims, claims_at}
 use Rattle.call_causes.proofs.HandledRuns.{AreKnown, along, Reads', claims_along}
+use Rattle.seat_programs.specs.Rounds.{first_step}
+use Rattle.story_ticks.specs.Below.outcome_stories.specs.Stories.{In}
 
 -- a step that is late
 late_step : (k ids : ℕ) (calls : List ℕ) (o : ℕ) (many : length calls ≡ ids) (x : Program) → is_late_step x ≡ true → IsLate k ids calls o many x

@@ -17,14 +17,14 @@ use Rattle.seat_programs.specs.Beside.{found_in}
 use Rattle.seat_programs.specs.Readers.{slot_in, version_in, kept_for, reader}
 use Rattle.seat_programs.specs.Cores.{Core, SeatState}
 use Rattle.seat_programs.specs.Ticks.{Moment, taken}
-use Rattle.story_ticks.specs.Below.programs_allowed.specs.program_steps.specs.Sound.{first_step}
 use Rattle.story_ticks.specs.Below.owing_ticks.proofs.OwingRuns.{same_first}
 use Rattle.story_ticks.specs.call_stories.specs.Posts.{Post, posts_by, posted_with, posted_at}
-use Rattle.story_ticks.specs.call_stories.specs.Scenes.{In}
 use Rattle.call_causes.proofs.Handled.{Sit, word_of, frames_in, IsResp, Done, Later, Over, Frozen, all_at, over_on, frozen_on}
 use Rattle.call_causes.proofs.HandledStates.{after_first, after_map}
 use Rattle.call_causes.proofs.HandledSteps.{IsOver, over_onward, Onward, State, waiting, reading, seeking, taking, ending_, freeing, over, state_on, onward}
 use Rattle.call_causes.proofs.HandledTicks.{sit, Known, HasReader}
+use Rattle.seat_programs.specs.Rounds.{first_step}
+use Rattle.story_ticks.specs.Below.outcome_stories.specs.Stories.{In}
 
 -- ## A reader behind the end of its reading
 
@@ -189,7 +189,7 @@ module _ (p : Plan) (q : IdPlan) (k : ℕ) where
     by_whom : (seat : SeatState) × (get_elem? c.seats m.seat ≡ some seat) × PostedBy q (taken m.answer) c (first_step seat.program) x
     by_whom = by_seat (get_elem? c.seats m.seat) refl there
       where
-        by_seat : (y : Option SeatState) → get_elem? c.seats m.seat ≡ y → In x (elim y as (λ o. List Post) [ none ↦ [] | some seat ↦ posted_with c.calls (taken m.answer) (Rattle.story_ticks.specs.Below.id_runs.specs.Goes.first_of seat.program) ])
+        by_seat : (y : Option SeatState) → get_elem? c.seats m.seat ≡ y → In x (elim y as (λ o. List Post) [ none ↦ [] | some seat ↦ posted_with c.calls (taken m.answer) (Rattle.seat_programs.specs.Rounds.first_step seat.program) ])
             → (seat : SeatState) × (get_elem? c.seats m.seat ≡ some seat) × PostedBy q (taken m.answer) c (first_step seat.program) x
         by_seat none e z = absurd z
         by_seat (some seat) e z = (seat, e, posted_is q (taken m.answer) c (first_step seat.program) x (subst (λ y. In x (posted_with c.calls (taken m.answer) y)) (same_first seat.program) z))

@@ -12,7 +12,7 @@ use Rattle.seat_programs.specs.Programs.{Program, Write, Round}
 use Rattle.seat_programs.specs.Cores.{Core, SeatState}
 use Rattle.seat_programs.specs.Ticks.{Moment, quiet, ticked, run}
 use Rattle.seat_programs.specs.Runs.{IsAtRest}
-use Rattle.story_ticks.specs.Below.programs_allowed.specs.program_steps.specs.Sound.{IsAhead, first_step, views_after}
+use Rattle.story_ticks.specs.Below.programs_allowed.specs.program_steps.specs.Sound.{IsAhead, views_after}
 use Rattle.story_ticks.specs.Below.programs_allowed.specs.program_steps.proofs.Cases.{elem_there}
 use Rattle.story_ticks.specs.Below.programs_allowed.specs.sock_runs.proofs.Along.{seat_rests, ticked_ahead}
 use Rattle.story_ticks.specs.Below.programs_allowed.specs.sock_runs.proofs.Quiets.{ticked_rests}
@@ -24,7 +24,7 @@ use Rattle.story_ticks.specs.Below.id_runs.proofs.Programs.{block_goes}
 use Rattle.story_ticks.specs.call_stories.specs.Lists.{soon_at, shows_in, advanced_at}
 use Rattle.story_ticks.specs.call_stories.specs.Posts.{Post, posted_at}
 use Rattle.story_ticks.specs.call_stories.specs.Decided.{posted_by, Decision, decision_in, decided_at, decided_by}
-use Rattle.story_ticks.specs.call_stories.specs.Scenes.{Scene, In, LeadsTo}
+use Rattle.story_ticks.specs.call_stories.specs.Scenes.{Scene, LeadsTo}
 use Rattle.story_ticks.specs.call_stories.specs.Says.{Mark, SaysOn}
 use Rattle.story_ticks.specs.call_stories.specs.Stories.{SlotFits, CallStory}
 use Rattle.story_ticks.specs.call_stories.proofs.Leading.{run_leads}
@@ -39,6 +39,8 @@ use Rattle.call_causes.proofs.HandledStates.{After}
 use Rattle.call_causes.proofs.HandledTicks.{sit, Known, HasReader, reader_ticks}
 use Rattle.call_causes.proofs.HandledPosts.{Claims, claims_on, claims_onward, Silence, silence_on, silence_onward, silent_here, deciding_over, IsDecision, HasClaims, claims_at, over_at}
 use Rattle.corr_core.specs.Word.{id_slot, id_first}
+use Rattle.seat_programs.specs.Rounds.{first_step}
+use Rattle.story_ticks.specs.Below.outcome_stories.specs.Stories.{In}
 
 -- ## What is known of ticks
 

@@ -14,9 +14,8 @@ use Rattle.seat_programs.specs.Heads.{Head, Exit, Retry, Sought, Posts, Unlocks,
 use Rattle.seat_programs.specs.Programs.{Program, Do, Say, Sent, Rest, TakeMessage, TakeHome, PutHome, PutBytes, AskReady, Write, Aside, Round, Keep, Retries, LAST_VERSION, recycle, release, address, set_failed}
 use Rattle.seat_programs.specs.Posts.{packed, advance_of, is_first, is_sought, is_stale, is_full, judged, posts_round, post_with, popped, unlocks_round, end_id, decided, unlocked, locking}
 use Rattle.seat_programs.specs.Readers.{LIMIT, slot_in, answer, discarded, kept_for, ends_with, posted_last, post_each, thrown_away, read}
-use Rattle.seat_programs.specs.Rounds.{round}
+use Rattle.seat_programs.specs.Rounds.{round, first_step}
 use Rattle.seat_programs.specs.Cores.{resolved, next_step}
-use Rattle.story_ticks.specs.Below.programs_allowed.specs.program_steps.specs.Sound.{first_step}
 
 -- ## Behind the end of a reading
 

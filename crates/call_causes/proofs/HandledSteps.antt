@@ -16,11 +16,11 @@ use Rattle.seat_programs.specs.Programs.{Program, Do, Say, Rest, TakeMessage, Ta
 use Rattle.seat_programs.specs.Posts.{packed, end_id, locking}
 use Rattle.seat_programs.specs.Readers.{LIMIT, slot_in, version_in, has_response, answer, answered, responses, last_of, ended_by, read_on, took, read, reader}
 use Rattle.seat_programs.specs.Cores.{resolved, next_step}
-use Rattle.story_ticks.specs.Below.programs_allowed.specs.program_steps.specs.Sound.{first_step}
-use Rattle.story_ticks.specs.call_stories.specs.Scenes.{In}
 use Rattle.story_ticks.specs.call_stories.proofs.Streams.{frames_behind_rest, frames_before_fault, faults_follow}
 use Rattle.call_causes.proofs.Handled.{Goes, AllFrom, all_on, Sit, word_of, frames_in, IsResp, Bounded, Done, Waits, Later, Over, Frozen, IsAt, Mid, mid_on, at_on, over_on, frozen_on, mid_next, mid_same, mid_over, early_done, done_on, gone_by, bounded_by, gone_behind, bounded_on}
 use Rattle.call_causes.proofs.HandledStates.{After, after_read, after_first, after_next, after_map}
+use Rattle.seat_programs.specs.Rounds.{first_step}
+use Rattle.story_ticks.specs.Below.outcome_stories.specs.Stories.{In}
 
 abbrev pub bytes_in : Taking → List ℕ
 bytes_in (Bytes bytes) = bytes

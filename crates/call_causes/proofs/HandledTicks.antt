@@ -25,20 +25,19 @@ use Rattle.seat_programs.specs.Programs.{Program, Do, TakeMessage, TakeHome, Put
 use Rattle.sock_message.specs.Asked.{Asked}
 use Rattle.seat_programs.specs.Writings.{Puts, Waits, Empties, Walks}
 use Rattle.seat_programs.specs.Sends.{block}
-use Rattle.seat_programs.specs.Rounds.{round}
+use Rattle.seat_programs.specs.Rounds.{round, first_step}
 use Rattle.seat_programs.specs.Beside.{found_in, calls_after}
 use Rattle.seat_programs.specs.Readers.{has_response, slot_in, version_in}
 use Rattle.seat_programs.specs.Cores.{Core, SeatState, found_at, words_after, homes_after, hand_after, lies_at, first_of, others_of, link_place, resolved, waiting_at, next_step, with_seat}
 use Rattle.seat_programs.specs.StepTables.{word_of, word_after}
 use Rattle.seat_programs.specs.Ticks.{Answer, OfPut, OfReady, Moment, fed, with_places, onto_first, taken, with_message, with_link, with_put, with_ready, with_found, step_with, tick_with, ticked}
-use Rattle.story_ticks.specs.Below.programs_allowed.specs.program_steps.specs.Sound.{first_step}
 use Rattle.story_ticks.specs.call_stories.specs.Lists.{Take, taken_link, takes_by, takes_at, given, is_soon, soon_from, soon_by, soon_at}
-use Rattle.story_ticks.specs.call_stories.specs.Scenes.{In}
 use Rattle.story_ticks.specs.story_steps.proofs.Attempts.{in_behind}
 use Rattle.call_causes.proofs.Handled as handled
 use Rattle.call_causes.proofs.Handled.{bound, early_is, goes_same, AllFrom, Sit, frames_in, IsResp, Later, in_more}
 use Rattle.call_causes.proofs.HandledFacts.{Facts, Tied}
 use Rattle.call_causes.proofs.HandledSteps.{Took, Onward, bytes_in}
+use Rattle.story_ticks.specs.Below.outcome_stories.specs.Stories.{In}
 
 -- ## What a program takes
 

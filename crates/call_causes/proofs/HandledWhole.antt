@@ -34,7 +34,7 @@ use Rattle.story_ticks.specs.Below.call_owing.specs.Below.script_facts.proofs.Ta
 use Rattle.story_ticks.specs.call_stories.specs.Lists.{advanced_at, given, soon_at, shows_in, shows_in_run, soon_of_run}
 use Rattle.story_ticks.specs.call_stories.specs.Posts.{Post, posted_at}
 use Rattle.story_ticks.specs.call_stories.specs.Decided.{posted_by, Decision, decided_by, posted_behind, late_in}
-use Rattle.story_ticks.specs.call_stories.specs.Scenes.{Scene, In, LeadsTo}
+use Rattle.story_ticks.specs.call_stories.specs.Scenes.{Scene, LeadsTo}
 use Rattle.story_ticks.specs.call_stories.specs.Says.{Mark}
 use Rattle.story_ticks.specs.story_steps.proofs.Numbered.{AreNumbered}
 use Rattle.story_ticks.proofs.Claiming.{HaveSlots}
@@ -52,6 +52,7 @@ use Rattle.call_causes.proofs.HandledPosts.{Claims, Silence}
 use Rattle.call_causes.proofs.HandledBehind.{IsBehind, behind_along, behind_claims, late_claims, late_behind}
 use Rattle.call_causes.proofs.HandledRuns.{AreKnown, setup_known, played_known, Reads', reads_along, claims_along, posts_claim, silence_along, decides_silent}
 use Rattle.corr_core.specs.Word.{id_slot, id_first}
+use Rattle.story_ticks.specs.Below.outcome_stories.specs.Stories.{In}
 
 each_at : {A : Type 0} (P : A → Type 0) (xs : List A) → AllByRecursion P xs → (i : ℕ) (x : A) → get_elem? xs i ≡ some x → P x
 each_at P [] all i x at = absurd (some-ne-none x (sym at))

@@ -6,11 +6,12 @@ use Rattle.corr_core.specs.declared.marks.Plan.{Plan as IdPlan}
 use Rattle.seat_programs.specs.declared.task.Op.TheVariants as ops
 use Rattle.seat_programs.specs.declared.task.Task.{Task}
 use Rattle.seat_programs.specs.Told.{IsTask, Became}
-use Rattle.story_ticks.specs.call_stories.specs.Scenes.{Saying, Scene, In, IsFirst, IsOver, IsJust, ToldOf, was_said, was_sent, was_begun}
+use Rattle.story_ticks.specs.call_stories.specs.Scenes.{Saying, Scene, IsFirst, IsOver, IsJust, ToldOf, was_said, was_sent, was_begun}
 use Rattle.story_ticks.specs.call_stories.specs.Says.{Mark}
 use Rattle.story_ticks.specs.call_stories.specs.Stories.{AreOnce}
 use Rattle.story_ticks.specs.story_steps.proofs.End.{HasEnded, one_outcome}
 use Rattle.story_ticks.specs.story_steps.proofs.Whys.{AreAscending, is_done}
+use Rattle.story_ticks.specs.Below.outcome_stories.specs.Stories.{In}
 
 module _ (p : Plan) (q : IdPlan) (clients : List (List Task)) (gives : ℕ → List ℕ) where
   first_in : (y : Saying) (ss : List Saying) → IsFirst y ss → In y ss

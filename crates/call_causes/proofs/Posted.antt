@@ -26,7 +26,7 @@ use Rattle.story_ticks.specs.call_stories.specs.Lists.{given, times, shows_in_ru
 use Rattle.story_ticks.specs.call_stories.specs.Posts.{Post, posts_of_run}
 use Rattle.story_ticks.specs.call_stories.specs.Decided.{Decision, decided_by}
 use Rattle.story_ticks.specs.call_stories.specs.Target.{FailedByPost, FailedByDecision, AdvancedByPost}
-use Rattle.story_ticks.specs.call_stories.specs.Scenes.{Birth, Scene, In, WasPosted, IsTaskOf, WhyEnded}
+use Rattle.story_ticks.specs.call_stories.specs.Scenes.{Birth, Scene, WasPosted, IsTaskOf, WhyEnded}
 use Rattle.story_ticks.specs.call_stories.specs.Says.{Mark}
 use Rattle.story_ticks.specs.call_stories.specs.Stories.{BirthsLaw, TasksLaw}
 use Rattle.story_ticks.specs.story_steps.proofs.Moving.{in_todo, in_done, listed}
@@ -37,6 +37,7 @@ use Rattle.story_ticks.specs.story_steps.proofs.Whys.{in_contains}
 use Rattle.story_ticks.proofs.Scripts.{are_numbered}
 use Rattle.call_causes.proofs.Whole.{run_has_story, run_attempts, run_posted, run_has_ended}
 use Rattle.call_causes.proofs.Decisions.{run_failed_decided}
+use Rattle.story_ticks.specs.Below.outcome_stories.specs.Stories.{In}
 
 -- each task of each client
 all_of : (P : Task → Type 0) (cs : List (List Task)) → AllByRecursion (AllByRecursion P) cs → (c : ℕ) (ts : List Task) → slice_get cs c ≡ Some ts → AllByRecursion P ts

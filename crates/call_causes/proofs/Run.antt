@@ -27,7 +27,7 @@ use Rattle.story_ticks.specs.Below.joint_runs.proofs.Starts.{narrow}
 use Rattle.story_ticks.specs.call_stories.specs.Lists.{times, advanced_at, shows_in, shows_in_run, attempts_of_run}
 use Rattle.story_ticks.specs.call_stories.specs.Posts.{Post, posted_at, posts_of_run}
 use Rattle.story_ticks.specs.call_stories.specs.Decided.{Decision, decided_at}
-use Rattle.story_ticks.specs.call_stories.specs.Scenes.{Scene, In, LeadsTo}
+use Rattle.story_ticks.specs.call_stories.specs.Scenes.{Scene, LeadsTo}
 use Rattle.story_ticks.specs.call_stories.proofs.Leading.{run_leads}
 use Rattle.story_ticks.specs.call_stories.specs.Says.{Mark, SaysOn}
 use Rattle.story_ticks.specs.call_stories.specs.Stories.{CallStory, HasStory, GoesOn}
@@ -41,6 +41,7 @@ use Rattle.story_ticks.proofs.Allowing.{allows}
 use Rattle.story_ticks.specs.call_stories.proofs.RunTicks.{parts}
 use Rattle.story_ticks.proofs.RunFacts.{run_facts, leadings}
 use Rattle.story_ticks.proofs.Opening.{Begins, first_decided}
+use Rattle.story_ticks.specs.Below.outcome_stories.specs.Stories.{In}
 
 pub times_append : (o : ℕ) (xs ys : List ℕ) → times o (xs ++ ys) ≡ times o xs + times o ys
 times_append o [] ys = omega arith

@@ -23,7 +23,7 @@ use Rattle.story_ticks.specs.call_stories.specs.Lists.{given, times, shows_in_ru
 use Rattle.story_ticks.specs.call_stories.specs.Target.{ToldOnCallsInPart}
 use Rattle.story_ticks.specs.call_stories.specs.Posts.{Post, posts_of_run}
 use Rattle.story_ticks.specs.call_stories.specs.Decided.{Decision, decided_at}
-use Rattle.story_ticks.specs.call_stories.specs.Scenes.{In, WasPosted, SeeksName, LeadsTo}
+use Rattle.story_ticks.specs.call_stories.specs.Scenes.{WasPosted, SeeksName, LeadsTo}
 use Rattle.story_ticks.specs.call_stories.specs.Stories.{HasStory}
 use Rattle.story_ticks.specs.story_steps.proofs.End.{HasEnded, told, versions}
 use Rattle.call_causes.proofs.CallWhys.{names_found_none, why}
@@ -32,6 +32,7 @@ use Rattle.story_ticks.proofs.Scripts.{are_numbered, are_ascending, have_slots, 
 use Rattle.call_causes.proofs.Run.{run_told}
 use Rattle.story_ticks.proofs.RunFacts.{run_facts}
 use Rattle.story_ticks.proofs.Over.{has_ended}
+use Rattle.story_ticks.specs.Below.outcome_stories.specs.Stories.{In}
 
 seeks_name : (n : ℕ) (op : Op) → Seeks n op → SeeksName n op
 seeks_name n (ops.Open m k) s = absurd s

@@ -15,12 +15,11 @@ use Rattle.seat_programs.specs.Beside.{found_in, calls_after}
 use Rattle.seat_programs.specs.Calls.{kind_of}
 use Rattle.seat_programs.specs.Asides.{kind_aside}
 use Rattle.seat_programs.specs.Programs.{Program, Do, Say, Sent, Rest, TakeMessage, TakeHome, PutBytes, AskReady, Aside, Round, Keep, Retries}
-use Rattle.seat_programs.specs.Rounds.{kind_of_round}
+use Rattle.seat_programs.specs.Rounds.{kind_of_round, first_step}
 use Rattle.seat_programs.specs.Cores.{Calls, Core, SeatState}
 use Rattle.seat_programs.specs.Ticks.{Answer, Unasked, Moment, seats_of, taken, with_message, with_link, with_found, step_with, tick_with, ticked, run, waits, IsAlwaysReady}
 use Rattle.seat_programs.specs.Runs.{kind_in, IsAtRest, from_to}
 use Rattle.seat_programs.specs.Scripts.{AreStill}
-use Rattle.joint_runs.specs.Below.program_steps.specs.Sound.{first_step}
 use Rattle.joint_runs.specs.Below.program_steps.proofs.Cases.{ticks_first}
 use Rattle.joint_runs.specs.Below.sock_runs.proofs.Waiting.{still}
 

@@ -14,10 +14,10 @@ use Rattle.seat_programs.specs.Programs.{Program, Do, PutHome, Aside}
 use Rattle.seat_programs.specs.Cores.{Core, SeatState, found_at, words_after, first_of}
 use Rattle.seat_programs.specs.StepTables.{word_of, word_after}
 use Rattle.seat_programs.specs.Ticks.{Answer, Moment, taken}
-use Rattle.joint_runs.specs.Below.id_runs.specs.Goes as goes
 use Rattle.call_owing.specs.Owing.{Linked, Owing, InList, FindsCall}
 use Rattle.call_owing.specs.Sound.{at_of, FailedIn}
 use Rattle.corr_core.specs.Word.{call_id}
+use Rattle.seat_programs.specs.Rounds.{first_step}
 
 module _ (p : Plan) (life : ℕ → Option ℕ) (c : Core) (u : Owing) (call : Call) where
   abbrev pub found : ℕ
@@ -49,4 +49,4 @@ module _ (p : Plan) (q : IdPlan) (life : ℕ → Option ℕ) (calls : List ℕ) 
 
 -- at a tick of a seat with these marks
 abbrev pub IsFittingOwing : Plan → IdPlan → (ℕ → Option ℕ) → List ℕ → Core → List Owing → Moment → Type 0
-IsFittingOwing p q life calls c us m = (seat : SeatState) (u : Owing) → get_elem? c.seats m.seat ≡ core.some seat → get_elem? us m.seat ≡ core.some u → StepFits p q life calls c seat u m.answer (goes.first_of seat.program)
+IsFittingOwing p q life calls c us m = (seat : SeatState) (u : Owing) → get_elem? c.seats m.seat ≡ core.some seat → get_elem? us m.seat ≡ core.some u → StepFits p q life calls c seat u m.answer (first_step seat.program)

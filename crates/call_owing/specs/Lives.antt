@@ -18,10 +18,10 @@ use Rattle.seat_programs.specs.Cores.{Core, SeatState, link_place}
 use Rattle.seat_programs.specs.Ticks.{Answer, Moment, taken, ticked}
 use Rattle.joint_runs.specs.Below.id_runs.specs.Held.{IdView}
 use Rattle.joint_runs.specs.Below.id_runs.specs.Goes.{SoundIds}
-use Rattle.joint_runs.specs.Below.id_runs.specs.Goes as goes
 use Rattle.call_owing.specs.Owing.{Linked, Owing, InList}
 use Rattle.call_owing.specs.Sound.{at_of, FailedIn, SoundOwing}
 use Rattle.corr_core.specs.Word.{call_id}
+use Rattle.seat_programs.specs.Rounds.{first_step}
 
 -- the socket that a word of an `open` names
 abbrev pub id_of : ℕ → Option ℕ
@@ -39,7 +39,7 @@ module _ (q : IdPlan) (life : ℕ → Option ℕ) (calls : List ℕ) (c : Core) 
   OthersFit u answer other = Unit {0}
 
   abbrev pub IsSaying : Moment → Type 0
-  IsSaying m = (us : List Owing) → SoundOwing q life calls c us → (seat : SeatState) (u : Owing) → get_elem? c.seats m.seat ≡ core.some seat → get_elem? us m.seat ≡ core.some u → OthersFit u m.answer (goes.first_of seat.program)
+  IsSaying m = (us : List Owing) → SoundOwing q life calls c us → (seat : SeatState) (u : Owing) → get_elem? c.seats m.seat ≡ core.some seat → get_elem? us m.seat ≡ core.some u → OthersFit u m.answer (first_step seat.program)
 
 -- at each of these ticks the ids are sound, and so it is said
 abbrev pub AreSaying : Plan → IdPlan → (ℕ → Option ℕ) → List ℕ → Core → List Moment → Type 0
@@ -65,7 +65,7 @@ ClosesAt p c answer other = Unit {0}
 -- halves share one state, does so.
 abbrev pub ClosesInTime : Plan → Core → List Moment → Type 0
 ClosesInTime p c [] = Unit {0}
-ClosesInTime p c (m ∷ ms) = ((seat : SeatState) → get_elem? c.seats m.seat ≡ core.some seat → ClosesAt p c m.answer (goes.first_of seat.program)) × ClosesInTime p (ticked p c m) ms
+ClosesInTime p c (m ∷ ms) = ((seat : SeatState) → get_elem? c.seats m.seat ≡ core.some seat → ClosesAt p c m.answer (first_step seat.program)) × ClosesInTime p (ticked p c m) ms
 
 -- the setup and the ending ask no link
 pub record ClosesInRun (script : List Item) (turns : List Turn) (core : Core) (is : IsRunWithCalls script turns core) : Type 0 where
@@ -79,4 +79,4 @@ KeepsAt q calls c other = Unit {0}
 
 abbrev pub AreKept : Plan → IdPlan → List ℕ → Core → List Moment → Type 0
 AreKept p q calls c [] = Unit {0}
-AreKept p q calls c (m ∷ ms) = ((seat : SeatState) → get_elem? c.seats m.seat ≡ core.some seat → KeepsAt q calls c (goes.first_of seat.program)) × AreKept p q calls (ticked p c m) ms
+AreKept p q calls c (m ∷ ms) = ((seat : SeatState) → get_elem? c.seats m.seat ≡ core.some seat → KeepsAt q calls c (first_step seat.program)) × AreKept p q calls (ticked p c m) ms

@@ -9,7 +9,7 @@ use Rattle.seat_programs.specs.Asides.{Found}
 use Rattle.seat_programs.specs.Heads.{Head, Exit, Sought, First, Posts, Unlocks, Decides, Locks, Joins, Opens, Reads, Posting, HasLocked, Unlocking, IsOpen, HasNext, Locking, NotThere, Has}
 use Rattle.seat_programs.specs.Programs.{Program, Do, Say, Sent, Rest, TakeMessage, TakeHome, PutHome, PutBytes, AskReady, Write, Aside, Round, Keep, Retries, NO_SOCKET}
 use Rattle.sock_words.specs.Codes.{is_final}
-use Rattle.seat_programs.specs.Posts.{advance_of, is_stale, is_sought}
+use Rattle.seat_programs.specs.Posts.{advance_of, is_stale, is_sought, IsSoughtWord}
 use Rattle.seat_programs.specs.Writings.{Writing, Puts, Waits}
 use Rattle.call_owing.specs.Owing.{Duty, Free, Trying, Telling, Owing, Among, with_duty, freed, with_left, with_keeps, with_dead, KnowsError, KnowsOwner, MayCall, CallMove, FindsCall, AsideMove, MayOwe, FindsOwe}
 
@@ -59,10 +59,6 @@ abbrev pub MaySeek : ℕ → Sought → Duty → Type 0
 MaySeek i sought Free = Unit {0}
 MaySeek i sought (Trying id n) = (id_slot id ≡ i) × (sought ≡ First (id_first id))
 MaySeek i sought other = ⊥
-
-abbrev pub IsSoughtWord : Sought → Option ℕ → Type 0
-IsSoughtWord sought None = Unit {0}
-IsSoughtWord sought (Some w) = (is_sought sought (parts w) ≡ true) × ((parts w).state ≡ 1)
 
 abbrev pub FoundRange : ℕ → ℕ → Duty → Type 0
 FoundRange i w (Trying id n) = ((parts w).first ≡ id_first id) × ((parts w).attempt ≡ n)

@@ -12,11 +12,11 @@ use Rattle.seat_programs.specs.Asides.{PutCall, LockId, PostId, UnlockId, FreeId
 use Rattle.seat_programs.specs.Calls.{Call}
 use Rattle.seat_programs.specs.Heads.{Retry, Sought, First, Version, Posts, Unlocks, Decides, Locks, Joins, Posting, WasGone, WasStale, WasCrowded, WasQueued, HasLocked, Unlocking, IsOpen, HasNext, Deciding, HasEnded, GoesOn, Locking, NotThere, Has}
 use Rattle.seat_programs.specs.Programs.{Program, Do, Aside, Round}
-use Rattle.seat_programs.specs.Posts.{packed, advance_of, is_first, is_sought, is_stale, is_full, judged, posts_round, post_with, posted, post, popped, unlocks_round, end_id, decide, unlocked, decides_round, decided, locking, locks_round, joins_round}
+use Rattle.seat_programs.specs.Posts.{packed, advance_of, is_first, is_sought, is_stale, is_full, judged, posts_round, post_with, posted, post, popped, unlocks_round, end_id, decide, unlocked, decides_round, decided, locking, locks_round, joins_round, IsSoughtWord}
 use Rattle.owed_calls.specs.Below.id_runs.proofs.Keeps.{parts_packed}
 use Rattle.owed_calls.specs.Below.id_runs.proofs.Loops.{not_equal}
 use Rattle.call_stories.specs.Scenes.{Birth, Scene, IsBorn, WasPosted, WasDecided, IsOther, EndedAt, MayAdvance, CauseOf, of_expiry, of_other, FailedIn, by_expiry, by_other, Later}
-use Rattle.call_stories.specs.Says.{Shape, shape_of, HasShape, with_attempt, unlocked_by, Slot, NoSlot, Locked, Holds, Leaves, Mark, with_slot, with_owed, IsVacant, IsFree, put_in, taken_out, SaidBy, HasCodes, MayDo, MayUnlock, Moves, Shows, IsSoughtIn, AtHead, Again, MatchesRange, LeavesPost, LeavesUnlock, IsLast, EndsBy, LeavesDecision, LeavesLock, YieldsPost, SaysOn}
+use Rattle.call_stories.specs.Says.{Shape, shape_of, HasShape, with_attempt, unlocked_by, Slot, NoSlot, Locked, Holds, Leaves, Mark, with_slot, with_owed, IsVacant, IsFree, put_in, taken_out, SaidBy, HasCodes, MayDo, MayUnlock, Moves, Shows, AtHead, Again, MatchesRange, LeavesPost, LeavesUnlock, IsLast, EndsBy, LeavesDecision, LeavesLock, YieldsPost, SaysOn}
 use Rattle.call_stories.proofs.Lasting.{far, cause_on, unlock_on}
 
 -- ## Tests
@@ -370,7 +370,7 @@ module _ (p : Plan) (q : IdPlan) (clients : List (List Task)) (gives : ℕ → L
   matches (Version v) word is = let both = and_right (not (eqb (parts word).state 0)) (nat_lt (parts word).first v && nat_lt v ((parts word).first + (parts word).range)) is in
       (ltb-true (parts word).first v (and_left (nat_lt (parts word).first v) (nat_lt v ((parts word).first + (parts word).range)) both), ltb-true v ((parts word).first + (parts word).range) (and_right (nat_lt (parts word).first v) (nat_lt v ((parts word).first + (parts word).range)) both))
 
-  pub locks_says : (w : Scene) (m : Mark) (i : ℕ) (sought : Sought) (from : Option ℕ) (k : Locking → Program) → IsFree m → IsSoughtIn p q clients gives sought from → Lockings w m i sought k → Says w m (locks_round i sought from k)
+  pub locks_says : (w : Scene) (m : Mark) (i : ℕ) (sought : Sought) (from : Option ℕ) (k : Locking → Program) → IsFree m → IsSoughtWord sought from → Lockings w m i sought k → Says w m (locks_round i sought from k)
   locks_says w m i sought None k free is goes = (tt, λ found v m' l s mv. (tt, subst (λ x. Says v x (locking i sought found k)) (sym mv.0) (locking_then w m i sought found k free goes v l s)))
   locks_says w m i sought (Some from) k free is goes = (free, λ found v m' l s mv. (tt, by_found found v m' l mv (eqb found from) refl s))
     where

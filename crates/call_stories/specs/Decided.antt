@@ -10,9 +10,9 @@ use Rattle.seat_programs.specs.Heads.{Decides}
 use Rattle.seat_programs.specs.Programs.{Program, Do, Aside, Round}
 use Rattle.seat_programs.specs.Cores.{Core}
 use Rattle.seat_programs.specs.Ticks.{Moment, ticked}
-use Rattle.outcome_stories.specs.program_steps.specs.Sound.{first_step}
 use Rattle.call_stories.specs.Lists.{shows_in}
 use Rattle.call_stories.specs.Posts.{Post, posted_at}
+use Rattle.seat_programs.specs.Rounds.{first_step}
 
 -- the errors that ids take from this seat
 abbrev pub posted_by : ℕ → Core → Moment → List Post

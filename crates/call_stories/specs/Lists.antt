@@ -15,13 +15,13 @@ use Rattle.corr_core.specs.Word.{parts}
 use Rattle.corr_core.specs.Versions.{is_early}
 use Rattle.seat_programs.specs.Readers.{LIMIT, has_response, slot_in, version_in}
 use Rattle.seat_programs.specs.Beside.{call_at, found_in, taking_in}
-use Rattle.owed_calls.specs.Below.id_runs.specs.Goes.{first_of}
 use Rattle.seat_programs.specs.Cores.{Calls, Core}
 use Rattle.seat_programs.specs.Runs.{from_to}
 use Rattle.seat_programs.specs.Ticks.{Moment, quiet, taken, ticked}
 use Rattle.seat_programs.specs.Tasks.{plan_of}
 use Rattle.seat_programs.specs.Scripts.{opened, ending, set_up, played, IsRunWithCalls}
 pub use Rattle.owed_calls.specs.call_owing.specs.Takes.{taken_link}
+use Rattle.seat_programs.specs.Rounds.{first_step}
 
 -- ## Takes
 
@@ -58,7 +58,7 @@ advanced_with a t (Aside step next) = elim (found_in step a t) as (λ o. List �
 advanced_with a t other = []
 
 abbrev pub advanced_at : Core → Moment → List ℕ
-advanced_at c m = elim (get_elem? c.seats m.seat) as (λ o. List ℕ) [ none ↦ [] | some seat ↦ advanced_with c.calls (taken m.answer) (first_of seat.program) ]
+advanced_at c m = elim (get_elem? c.seats m.seat) as (λ o. List ℕ) [ none ↦ [] | some seat ↦ advanced_with c.calls (taken m.answer) (first_step seat.program) ]
 
 -- ## Responses that came before their call began
 

@@ -8,11 +8,11 @@ use Rattle.corr_core.specs.Word.{parts, call_id}
 use Rattle.seat_programs.specs.Asides.{Step, Found, PostId, Taking}
 use Rattle.seat_programs.specs.Programs.{Program, Aside}
 use Rattle.seat_programs.specs.Beside.{found_in}
-use Rattle.owed_calls.specs.Below.id_runs.specs.Goes.{first_of}
 use Rattle.seat_programs.specs.Cores.{Calls, Core}
 use Rattle.seat_programs.specs.Ticks.{Moment, taken}
 use Rattle.seat_programs.specs.Scripts.{IsRunWithCalls}
 use Rattle.call_stories.specs.Lists.{shows_in_run}
+use Rattle.seat_programs.specs.Rounds.{first_step}
 
 -- an error that an id took
 pub record Post : Type 0 where
@@ -29,7 +29,7 @@ posted_with a t (Aside step next) = elim (found_in step a t) as (λ o. List Post
 posted_with a t other = []
 
 abbrev pub posted_at : Core → Moment → List Post
-posted_at c m = elim (get_elem? c.seats m.seat) as (λ o. List Post) [ none ↦ [] | some seat ↦ posted_with c.calls (taken m.answer) (first_of seat.program) ]
+posted_at c m = elim (get_elem? c.seats m.seat) as (λ o. List Post) [ none ↦ [] | some seat ↦ posted_with c.calls (taken m.answer) (first_step seat.program) ]
 
 -- in the ticks of a whole run, one after another
 abbrev pub posts_of_run : (script : List Item) (turns : List Turn) (end_ : Core) → IsRunWithCalls script turns end_ → List Post

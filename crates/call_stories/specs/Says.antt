@@ -19,7 +19,7 @@ use Rattle.seat_programs.specs.declared.task.Task.{Task}
 use Rattle.seat_programs.specs.Calls.{Call, StoreName, LoadName, StoreCode, LoadCode}
 use Rattle.seat_programs.specs.Asides.{Step, ClaimId, PutCall, MakeId, StoreCall, LoadCall, StoreAt, LoadAt, LoadIdWord, LockId, PostId, UnlockId, EndId, FreeId, TakeCall, TakeBytes, Taking, Bytes, Found}
 use Rattle.seat_programs.specs.Heads.{Head, Exit, Sought, First, Version, Posts, Unlocks, Decides, Locks, Joins, Opens, Reads, Discards, Posting, WasCrowded, WasQueued, HasLocked, Unlocking, IsOpen, HasNext, Deciding, HasEnded, GoesOn, Locking, NotThere, Has, Reading}
-use Rattle.seat_programs.specs.Posts.{is_first, is_stale, is_sought, packed, advance_of}
+use Rattle.seat_programs.specs.Posts.{is_first, is_stale, is_sought, packed, advance_of, IsSoughtWord}
 use Rattle.seat_programs.specs.Programs.{Program, Do, Say, Sent, Rest, TakeMessage, TakeHome, PutHome, PutBytes, AskReady, Write, Aside, Round, Keep, Retries}
 use Rattle.seat_programs.specs.Readers.{has_response}
 use Rattle.owed_calls.specs.Below.id_runs.specs.Goes.{FitsOwner, FitsWriting}
@@ -194,10 +194,6 @@ module _ (p : Plan) (q : IdPlan) (clients : List (List Task)) (gives : ℕ → L
 
   -- ## Loops
 
-  abbrev pub IsSoughtIn : Sought → Option ℕ → Type 0
-  IsSoughtIn sought None = Unit {0}
-  IsSoughtIn sought (Some word) = (is_sought sought (parts word) ≡ true) × ((parts word).state ≡ 1)
-
   -- a response that link k gave
   abbrev pub CameFrom : Scene → ℕ → Frame → Type 0
   CameFrom w k frame = (n : ℕ) × Came w k n frame × (has_response frame.meta.response ≡ true)
@@ -214,7 +210,7 @@ module _ (p : Plan) (q : IdPlan) (clients : List (List Task)) (gives : ℕ → L
   AtHead w m (Unlocks i word advance) = MayUnlock w m i advance × (m.owes ≡ []) × (m.makes ≡ [])
   AtHead w m (Decides id asked word e) = ((shape : Shape) × (m.slot ≡ Holds (id_slot id) (id_first id) shape asked) × HasShape word shape × (asked.range ≡ shape.range)) × IsBorn w id asked × (m.owes ≡ []) × (m.makes ≡ [])
       × (is_stale e (parts word) ≡ false) × (attempt_of e ≢ WHOLE → WasPosted w id e)
-  AtHead w m (Locks i sought word) = IsFree m × IsSoughtIn sought word
+  AtHead w m (Locks i sought word) = IsFree m × IsSoughtWord sought word
   AtHead w m (Joins id) = IsFree m
   AtHead w m (Opens o) = IsFree m
   AtHead w m (Reads r) = IsFree m × IsReading w m r

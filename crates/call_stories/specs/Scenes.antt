@@ -22,6 +22,8 @@ use Rattle.seat_programs.specs.Cores.{Core}
 use Rattle.call_stories.specs.Lists.{given, times}
 use Rattle.call_stories.specs.Posts.{Post}
 use Rattle.call_stories.specs.Decided.{Decision}
+use Rattle.outcome_stories.specs.Stories.{In}
+use Rattle.seat_programs.specs.brpc_model.specs.Attempts.{HasCode}
 
 -- the id of a call, which has the versions behind it, as many as the call's range less one
 pub record Birth : Type 0 where
@@ -48,11 +50,6 @@ pub record Scene : Type 0 where
   pub posts : List Post
   pub decisions : List Decision
   pub sayings : List Saying
-
--- x is one of the list
-abbrev pub In : {A : Type 0} → A → List A → Type 0
-In x [] = ⊥
-In x (y ∷ ys) = (x ≡ y) ⊎ In x ys
 
 -- x was added to the list directly behind y
 abbrev pub IsFirst : {A : Type 0} → A → List A → Type 0
@@ -87,9 +84,6 @@ Came w k n frame = slice_get (stream (given w.core k)).frames n ≡ Some frame
 -- it is the response of one of the versions of the call with this id
 abbrev pub IsResponseTo : ℕ → Asked → Frame → Type 0
 IsResponseTo id asked frame = IsSome frame.meta.response × (id < frame.meta.correlation_id) × (frame.meta.correlation_id < id + asked.range)
-
-abbrev pub HasCode : ℤ → Frame → Type 0
-HasCode code frame = (frame.meta.compress_type ≡ pos 0) × (r : ResponseMeta) × (frame.meta.response ≡ Some r) × (r.code ≡ code)
 
 abbrev pub IsOpened : Outcome → Type 0
 IsOpened (Opened slot version k) = Unit {0}

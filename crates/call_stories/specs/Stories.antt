@@ -20,8 +20,9 @@ use Rattle.seat_programs.specs.Cores.{Core, SeatState}
 use Rattle.call_stories.specs.Lists.{given, times, advances_by}
 use Rattle.call_stories.specs.Posts.{Post, posts_by}
 use Rattle.call_stories.specs.Decided.{Decision}
-use Rattle.call_stories.specs.Scenes.{Birth, Claim, Saying, Scene, In, IsOver, Said, IsBorn, IsOther, MayAdvance, CauseOf, Begun, IsTaskOf, WhyEnded, WhyOwn, AreTold, IsClaimed, Later}
+use Rattle.call_stories.specs.Scenes.{Birth, Claim, Saying, Scene, IsOver, Said, IsBorn, IsOther, MayAdvance, CauseOf, Begun, IsTaskOf, WhyEnded, WhyOwn, AreTold, IsClaimed, Later}
 use Rattle.call_stories.specs.Says.{Shape, shape_of, with_attempt, unlocked_by, Slot, NoSlot, Claims, Locked, Holds, Leaves, Mark, with_slot, with_owed, with_made, with_done, put_in, taken_out, given_more, SaysOn}
+use Rattle.outcome_stories.specs.Stories.{In}
 
 abbrev pub At : List Mark → ℕ → Mark → Type 0
 At ms j m = get_elem? ms j ≡ core.some m

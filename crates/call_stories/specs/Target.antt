@@ -11,10 +11,11 @@ use Rattle.seat_programs.specs.declared.task.Op.TheVariants as ops
 use Rattle.seat_programs.specs.declared.task.Task.{Task}
 use Rattle.corr_core.specs.Word.{error_of}
 use Rattle.seat_programs.specs.Told.{IsTask, Became}
-use Rattle.seat_programs.specs.ToldCalls.{Fixed, Order, FoundNone, HasCode, IsAnsweredBy, IsExpiredWith, GaveFault, ShowsId, WhyExpire, WhyJoin}
+use Rattle.seat_programs.specs.ToldCalls.{Fixed, Order, FoundNone, IsAnsweredBy, IsExpiredWith, GaveFault, ShowsId, WhyExpire, WhyJoin}
 use Rattle.call_stories.specs.Posts.{Post}
 use Rattle.call_stories.specs.Decided.{Decision}
-use Rattle.call_stories.specs.Scenes.{In}
+use Rattle.seat_programs.specs.brpc_model.specs.Attempts.{HasCode}
+use Rattle.outcome_stories.specs.Stories.{In}
 
 abbrev pub IsOnCalls : Op → Type 0
 IsOnCalls (ops.Call asked) = Unit {0}
@@ -37,8 +38,8 @@ module _ (p : Plan) (clients : List (List Task)) (outcomes : List (Option Outcom
 
   abbrev pub WhyCallInPart : (ℕ → ℕ) → ℕ → ℕ → Asked → Outcome → Type 0
   WhyCallInPart last c o asked Unopened = FoundNone p clients outcomes fixed gave orders c o (name_of asked 0)
-  WhyCallInPart last c o asked (Answered id payload attachment) = IsAnsweredBy p clients outcomes fixed gave orders asked id (λ (frame : Frame). HasCode p clients outcomes fixed gave orders (pos 0) frame × (frame.payload ≡ payload) × (frame.attachment ≡ attachment))
-  WhyCallInPart last c o asked (Peer id code) = IsAnsweredBy p clients outcomes fixed gave orders asked id (HasCode p clients outcomes fixed gave orders code) × (code ≢ pos 0)
+  WhyCallInPart last c o asked (Answered id payload attachment) = IsAnsweredBy p clients outcomes fixed gave orders asked id (λ (frame : Frame). HasCode (pos 0) frame × (frame.payload ≡ payload) × (frame.attachment ≡ attachment))
+  WhyCallInPart last c o asked (Peer id code) = IsAnsweredBy p clients outcomes fixed gave orders asked id (HasCode code) × (code ≢ pos 0)
   WhyCallInPart last c o asked (CallFailed id code) = FailedInPart last o asked id code
   WhyCallInPart last c o asked other = ⊥
 

@@ -8,8 +8,9 @@ use Rattle.brpc_model.specs.Frame.{Frame}
 use Rattle.brpc_model.specs.Items.{Item, Call, CallLine}
 use Rattle.sock_message.specs.Asked.{Asked}
 use Rattle.seat_programs.specs.declared.task.Task.{Task}
-use Rattle.seat_programs.specs.ToldCalls.{Fixed, Order, IsAnsweredBy, HasCode, WhyCall}
+use Rattle.seat_programs.specs.ToldCalls.{Fixed, Order, IsAnsweredBy, WhyCall}
 use Rattle.expire_told.specs.call_told.specs.Answers.{IsAnswer, HasAnswer}
+use Rattle.brpc_model.specs.Attempts.{HasCode}
 
 -- the line of a call
 line_of : Item → CallLine → CallLine
@@ -31,17 +32,17 @@ module _ (p : Plan) (clients : List (List Task)) (outcomes : List (Option Outcom
       let last = r.2 in
       (a.given.link, a.given.place, f, a.given.whole, (r.0, r.1, omega arith), holds)
 
-  pub answered : (id : ℕ) (payload attachment : List ℕ) → HasAnswer p.links gave (Call call) (Answered id payload attachment) → IsAnsweredHere id (λ (f : Frame). HasCode p clients outcomes fixed gave orders (pos 0) f × (f.payload ≡ payload) × (f.attachment ≡ attachment))
+  pub answered : (id : ℕ) (payload attachment : List ℕ) → HasAnswer p.links gave (Call call) (Answered id payload attachment) → IsAnsweredHere id (λ (f : Frame). HasCode (pos 0) f × (f.payload ≡ payload) × (f.attachment ≡ attachment))
   answered id payload attachment h =
       let f = h.2 in
       let a : IsAnswer p.links gave call id (pos 0) f = subst (λ (c : CallLine). IsAnswer p.links gave c id (pos 0) f) (sym (same_line call h.0 h.1)) h.3 in
-      answered_by id (pos 0) f a (λ (f : Frame). HasCode p clients outcomes fixed gave orders (pos 0) f × (f.payload ≡ payload) × (f.attachment ≡ attachment)) (a.coded, h.4, h.5)
+      answered_by id (pos 0) f a (λ (f : Frame). HasCode (pos 0) f × (f.payload ≡ payload) × (f.attachment ≡ attachment)) (a.coded, h.4, h.5)
 
-  pub peer : (id : ℕ) (code : ℤ) → HasAnswer p.links gave (Call call) (Peer id code) → IsAnsweredHere id (λ (f : Frame). HasCode p clients outcomes fixed gave orders code f) × (code ≢ pos 0)
+  pub peer : (id : ℕ) (code : ℤ) → HasAnswer p.links gave (Call call) (Peer id code) → IsAnsweredHere id (λ (f : Frame). HasCode code f) × (code ≢ pos 0)
   peer id code h =
       let f = h.2 in
       let a : IsAnswer p.links gave call id code f = subst (λ (c : CallLine). IsAnswer p.links gave c id code f) (sym (same_line call h.0 h.1)) h.3 in
-      (answered_by id code f a (λ (f : Frame). HasCode p clients outcomes fixed gave orders code f) a.coded, h.4)
+      (answered_by id code f a (λ (f : Frame). HasCode code f) a.coded, h.4)
 
   -- so that is why it was answered, whatever its last attempt was
   module _ (last : ℕ → ℕ) (c o : ℕ) where

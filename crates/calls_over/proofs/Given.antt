@@ -14,13 +14,12 @@ use Rattle.brpc_model.specs.Operations.{Turn, clients, link_names, link_shapes}
 use Rattle.seat_programs.specs.Asides.{Bytes, Nothing, NoMore, AtEnd, Closed, Broken}
 use Rattle.seat_programs.specs.Heads.{Exit, Reading, Reads}
 use Rattle.seat_programs.specs.Programs.{Program, Round}
-use Rattle.seat_programs.specs.Rounds.{kind_of_round}
+use Rattle.seat_programs.specs.Rounds.{kind_of_round, first_step}
 use Rattle.seat_programs.specs.Cores.{Core, SeatState}
 use Rattle.seat_programs.specs.Runs.{IsAtRest, kind_in}
 use Rattle.seat_programs.specs.Tasks.{plan_of}
 use Rattle.seat_programs.specs.Ticks.{Answer, Unasked, OfPut, OfReady, OfTake, Moment, seats_of, ticked, run, waits, waits_at}
 use Rattle.seat_programs.specs.Scripts.{set_up, played, AreStill, ticks_of, IsRunWithCalls}
-use Rattle.served_fits.specs.Below.programs_allowed.specs.program_steps.specs.Sound.{first_step}
 use Rattle.served_fits.specs.Below.call_owing.proofs.EndsStill.{all_still, in_round}
 use Rattle.served_fits.specs.Below.accept_counts.proofs.Rests.{before_last, rested_still}
 use Rattle.served_fits.specs.served_runs.specs.Offered.{GaveAll, OffersAt, IsOffered, AreOffered, OffersInRun}

@@ -17,13 +17,13 @@ use Rattle.served_fits.specs.Below.joint_runs.proofs.Runs.{AreMade}
 use Rattle.served_fits.specs.Below.script_facts.proofs.Reading.{InRange}
 use Rattle.served_fits.specs.Below.script_facts.proofs.Targets.{AreThere}
 use Rattle.served_fits.specs.Below.call_stories.specs.Lists.{given, soon_at, shows_in}
-use Rattle.served_fits.specs.Below.call_stories.specs.Scenes.{In}
 use Rattle.served_fits.specs.Below.call_causes.proofs.HandledWhole.{reads_played}
 use Rattle.served_fits.specs.Below.call_causes.proofs.Handled.{word_of, frames_in, all_at, IsResp, Done, Over, Frozen}
 use Rattle.served_fits.specs.Below.call_causes.proofs.HandledSteps.{State, waiting, reading, seeking, taking, ending_, freeing, over}
 use Rattle.served_fits.specs.Below.call_causes.proofs.HandledStates.{After}
 use Rattle.served_fits.specs.Below.call_causes.proofs.HandledTicks.{sit}
 use Rattle.served_fits.specs.Below.call_causes.proofs.HandledRuns.{Reads'}
+use Rattle.served_fits.specs.Below.outcome_stories.specs.Stories.{In}
 
 -- what a program waits for at the head of a reading
 abbrev reading_in : Program → Option Reading

@@ -10,7 +10,7 @@ use Rattle.sock_model.specs.declared.chain.Entry.{Entry}
 use Rattle.sock_model.specs.declared.chain.Right.{Right}
 use Rattle.sock_model.specs.declared.view.Hand.{Hand}
 use Rattle.sock_model.specs.declared.view.View.{View}
-use Rattle.sock_model.specs.ChainRows.{with_claim, entry_of, more, queued, righted, taken_right}
+use Rattle.sock_model.specs.ChainRows.{with_claim, entry_of, more, queued, righted, taken_right, ready_claim, filled_claim}
 use Rattle.sock_model.specs.Memory.{IDLE}
 use Rattle.sock_steps.proofs.Quiet.{either_way}
 use Rattle.seat_programs.specs.Calls.{Call, ClaimRequest, PutMessage, Unconnect, SwapHead}
@@ -18,8 +18,8 @@ use Rattle.seat_programs.specs.Cores.{Core, found_at}
 use Rattle.seat_programs.specs.StepTables.{word_of}
 use Rattle.seat_programs.specs.Ticks.{Moment, IsAnswered, AreAnswered, ticked}
 use Rattle.seat_programs.specs.StepTables.{row, hand_at}
-use Rattle.seat_programs.specs.StepsOfChain.{exchanged, ready_claim}
-use Rattle.seat_programs.specs.StepsOfMessages.{filled_claim, took_message}
+use Rattle.seat_programs.specs.StepsOfChain.{exchanged}
+use Rattle.seat_programs.specs.StepsOfMessages.{took_message}
 use Rattle.seat_programs.specs.StepsOfLinks.{link_away, link_home_again, took_bytes}
 use Rattle.served_fits.specs.Below.programs_allowed.specs.program_steps.specs.Sound.{Sound, AreFitting, views_after, views_along}
 use Rattle.served_fits.specs.Below.programs_allowed.specs.program_steps.proofs.Cases.{with_rights, right_rights, put_rights, tick_cases}

@@ -23,12 +23,13 @@ use Rattle.seat_programs.specs.Programs.{Program, Do, TakeMessage, TakeHome, Put
 use Rattle.seat_programs.specs.Cores.{Core, SeatState, with_seat}
 use Rattle.seat_programs.specs.Ticks.{Moment, IsAnswered, fed, onto_first, ticked}
 use Rattle.served_fits.specs.Below.programs_allowed.specs.program_steps.specs.Writes.{MayPut}
-use Rattle.served_fits.specs.Below.programs_allowed.specs.program_steps.specs.Sound.{Sound, IsFitting, IsOfRight, AreHeld, first_step}
+use Rattle.served_fits.specs.Below.programs_allowed.specs.program_steps.specs.Sound.{Sound, IsFitting, IsOfRight, AreHeld}
 use Rattle.served_fits.specs.Below.programs_allowed.specs.program_steps.proofs.Cases.{tick_cases}
 use Rattle.served_fits.specs.Below.programs_allowed.specs.sock_runs.proofs.LinkTicks.{RetriesGo}
 use Rattle.served_fits.specs.Below.call_owing.specs.Lives.{InHand}
 use Rattle.served_fits.specs.served_runs.specs.Offered.{Lies, TookSoFar}
 use Rattle.served_fits.specs.served_runs.proofs.Places.{IsPut, all_lay}
+use Rattle.seat_programs.specs.Rounds.{first_step}
 
 module _ (p : Plan) (k : ℕ) (retries : RetriesGo p) (c : Core) (vs : List View) (m : Moment) (sound : Sound p c vs) where
   -- the front of the messages that it accepted

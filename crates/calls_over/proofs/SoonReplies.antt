@@ -15,13 +15,13 @@ use Rattle.seat_programs.specs.Cores.{Core}
 use Rattle.seat_programs.specs.Readers.{has_response, slot_in, version_in}
 use Rattle.served_fits.specs.Below.call_owing.specs.Sound.{id_word_of}
 use Rattle.served_fits.specs.Below.call_stories.specs.Lists.{Take, given, is_soon, soon_from, soon_by}
-use Rattle.served_fits.specs.Below.call_stories.specs.Scenes.{In}
 use Rattle.served_fits.specs.Below.call_causes.proofs.Handled.{bound, early_is}
 use Rattle.served_fits.specs.Below.call_stories.proofs.Streams.{frames_stay}
 use Rattle.served_fits.specs.served_runs.proofs.Frames.{IsPiece, piece_frames, reply_is}
 use Rattle.calls_over.proofs.SoonPieces.{IsLow}
 use Rattle.served_fits.specs.Below.call_causes.proofs.Run.{in_either}
 use Rattle.served_fits.specs.Below.call_stories.proofs.Posts.{and_right}
+use Rattle.served_fits.specs.Below.outcome_stories.specs.Stories.{In}
 
 -- ## One reply
 

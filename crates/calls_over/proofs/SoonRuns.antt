@@ -29,7 +29,6 @@ use Rattle.served_fits.specs.Below.outcome_stories.proofs.Members.{all_in}
 use Rattle.served_fits.specs.Below.outcome_ticks.proofs.Tasks.{fits_of}
 use Rattle.served_fits.specs.Below.joint_runs.proofs.Runs.{AreMade, first_views, joint_runs}
 use Rattle.served_fits.specs.Below.call_owing.specs.Lives.{ClosesInRun, InHand}
-use Rattle.served_fits.specs.Below.call_stories.specs.Scenes.{In}
 use Rattle.served_fits.specs.Below.accept_counts.proofs.Early.{start, go, fitting}
 use Rattle.served_fits.specs.Below.sent_once.proofs.Labelled.{ids_of_run}
 use Rattle.served_fits.specs.Below.accept_counts.proofs.Runs.{IsCallOf, programs_go, begins_labels, asked_by}
@@ -46,6 +45,7 @@ use Rattle.calls_over.proofs.SoonTicks.{Stands', plain_before, run_stands, quiet
 use Rattle.calls_over.proofs.SoonUnsent.{plain_played}
 use Rattle.served_fits.specs.served_runs.proofs.Replies.{gave_long, empty_long}
 use Rattle.served_fits.specs.Below.owned_ids.proofs.OpensStored.{place_at}
+use Rattle.served_fits.specs.Below.outcome_stories.specs.Stories.{In}
 
 -- ## How a run begins
 

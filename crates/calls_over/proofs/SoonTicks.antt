@@ -22,7 +22,6 @@ use Rattle.served_fits.specs.Below.label_runs.specs.Labels.{Trial}
 use Rattle.served_fits.specs.Below.call_owing.specs.Sound.{id_word_of}
 use Rattle.served_fits.specs.Below.run_theorems.proofs.Lengths.{tick_long}
 use Rattle.served_fits.specs.Below.call_stories.specs.Lists.{Take, taken_link, takes_by, takes_at, given, soon_by, soon_at, shows_in}
-use Rattle.served_fits.specs.Below.call_stories.specs.Scenes.{In}
 use Rattle.served_fits.specs.Below.call_causes.proofs.Handled.{bound}
 use Rattle.served_fits.specs.Below.call_causes.proofs.HandledTicks.{Known}
 use Rattle.served_fits.specs.Below.call_causes.proofs.HandledRuns.{AreKnown}
@@ -38,6 +37,7 @@ use Rattle.calls_over.proofs.SoonReplies.{soon_of, given_late}
 use Rattle.served_fits.specs.Below.call_causes.proofs.Run.{in_either as in_two}
 use Rattle.calls_over.proofs.SoonWords.{begun_below, words_go}
 use Rattle.corr_core.specs.Word.{id_slot, id_first}
+use Rattle.served_fits.specs.Below.outcome_stories.specs.Stories.{In}
 
 module _ (p : Plan) (q : IdPlan) (narrow : q.slots ≤ 65536) (is_call : Asked → Type 0) (short : (asked : Asked) → is_call asked → (id n : ℕ) → length (frame_of asked id n) ≤ 131072) (ids : ℕ → ℕ) (go : RetriesGo p) (k : ℕ) where
   -- how attempts stand at one moment, and what link k took

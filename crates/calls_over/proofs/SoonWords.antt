@@ -18,11 +18,11 @@ use Rattle.seat_programs.specs.Beside.{found_in}
 use Rattle.seat_programs.specs.Programs.{Program, TakeMessage, TakeHome, PutBytes, AskReady, Aside}
 use Rattle.seat_programs.specs.Cores.{Core, SeatState}
 use Rattle.seat_programs.specs.Ticks.{Answer, OfPut, OfReady, Moment, taken, with_message, with_link, with_put, with_ready, with_found, step_with, tick_with, ticked}
-use Rattle.served_fits.specs.Below.programs_allowed.specs.program_steps.specs.Sound.{first_step}
 use Rattle.served_fits.specs.Below.programs_allowed.specs.program_steps.proofs.Cases.{ticks_first}
 use Rattle.served_fits.specs.Below.call_owing.specs.Sound.{id_word_of}
 use Rattle.served_fits.specs.Below.call_causes.proofs.Handled.{bound, Goes, goes_same}
 use Rattle.served_fits.specs.Below.call_causes.proofs.HandledTicks.{Known}
+use Rattle.seat_programs.specs.Rounds.{first_step}
 
 -- ## One range
 

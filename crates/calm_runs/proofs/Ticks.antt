@@ -22,13 +22,13 @@ use Rattle.seat_programs.specs.Heads.{Retry, Posts, Unlocks, Decides, Locks, Ope
 use Rattle.seat_programs.specs.Posts.{packed, end_id, unlocked}
 use Rattle.seat_programs.specs.Programs.{Program, Do, Say, Rest, Aside, Round}
 use Rattle.seat_programs.specs.Ticks.{Answer, Moment, taken, ticked, step_with, tick_with, with_found}
-use Rattle.send_causes.specs.Below.programs_allowed.specs.program_steps.specs.Sound.{first_step}
 use Rattle.send_causes.specs.Below.programs_allowed.specs.program_steps.proofs.Cases.{ticks_first}
 use Rattle.send_causes.specs.Below.outcome_stories.specs.Facts.{born_at, born_of, put_at, put_by}
 use Rattle.send_causes.specs.Below.story_ticks.proofs.Sayings.{got_other}
 use Rattle.send_causes.specs.Below.accept_counts.proofs.SeatTicks.{own_tick, tick_none, tick_some}
 use Rattle.calm_runs.specs.Calm.{IsCalm}
 use Rattle.calm_runs.proofs.Programs.{calm_end_id, calm_posts, calm_locking, calm_took, calm_discarded}
+use Rattle.seat_programs.specs.Rounds.{first_step}
 
 shows_none : (f : SeatState → List ℕ) (c : Core) (i : ℕ) → ((seat : SeatState) → get_elem? c.seats i ≡ some seat → f seat ≡ []) → elim (get_elem? c.seats i) as (λ o. List ℕ) [ none ↦ [] | some seat ↦ f seat ] ≡ []
 shows_none f c i h = by (get_elem? c.seats i) refl

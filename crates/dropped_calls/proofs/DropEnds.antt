@@ -22,7 +22,7 @@ use Rattle.seat_programs.specs.Readers.{reader}
 use Rattle.seat_programs.specs.Ticks.{Moment, IsAnswered, AreAnswered, fed, with_places, onto_first, ticked, run}
 use Rattle.refused_attempts.specs.Below.programs_allowed.specs.program_steps.specs.GoesOn.{GoesOn}
 use Rattle.seat_programs.specs.StepTables.{May}
-use Rattle.refused_attempts.specs.Below.programs_allowed.specs.program_steps.specs.Sound.{state, Sound, IsFitting, AreFitting, first_step, views_after, views_along}
+use Rattle.refused_attempts.specs.Below.programs_allowed.specs.program_steps.specs.Sound.{state, Sound, IsFitting, AreFitting, views_after, views_along}
 use Rattle.refused_attempts.specs.Below.programs_allowed.specs.program_steps.proofs.Cases.{goes_first, tick_cases}
 use Rattle.refused_attempts.specs.Below.programs_allowed.specs.sock_runs.proofs.LinkTicks.{RetriesGo}
 use Rattle.refused_attempts.specs.Below.programs_allowed.specs.program_walks.proofs.OpensStay.{run_word}
@@ -35,6 +35,7 @@ use Rattle.refused_attempts.specs.sent_once.proofs.DropTicks.{Behind, stores_non
 use Rattle.refused_attempts.specs.sent_once.proofs.DropWords.{version_in, code_in, held_version, coding_version, live_none, code_stays}
 use Rattle.refused_attempts.specs.accept_counts.proofs.Readings.{State, found_by}
 use Rattle.refused_attempts.specs.accept_counts.proofs.ReaderRuns.{Keeps, founds, keeps_ticks, keeps_same, reader_of, view_at, state_at}
+use Rattle.seat_programs.specs.Rounds.{first_step}
 
 -- ## What clients and the ending store
 

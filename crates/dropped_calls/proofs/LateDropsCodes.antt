@@ -20,7 +20,7 @@ use Rattle.seat_programs.specs.Readers.{reader}
 use Rattle.seat_programs.specs.Ticks.{Moment, IsAnswered, ticked}
 use Rattle.refused_attempts.specs.Below.programs_allowed.specs.program_steps.specs.GoesOn.{GoesOn}
 use Rattle.seat_programs.specs.StepTables.{May}
-use Rattle.refused_attempts.specs.Below.programs_allowed.specs.program_steps.specs.Sound.{state, Sound, IsFitting, first_step, views_after}
+use Rattle.refused_attempts.specs.Below.programs_allowed.specs.program_steps.specs.Sound.{state, Sound, IsFitting, views_after}
 use Rattle.refused_attempts.specs.Below.programs_allowed.specs.program_steps.proofs.Cases.{goes_first, tick_cases}
 use Rattle.refused_attempts.specs.Below.programs_allowed.specs.sock_runs.proofs.LinkTicks.{RetriesGo}
 use Rattle.refused_attempts.specs.Below.programs_allowed.specs.program_walks.proofs.Recorded.{Recorded}
@@ -31,6 +31,7 @@ use Rattle.dropped_calls.proofs.DropEnds.{StoresThose, those, program_of, those_
 use Rattle.refused_attempts.specs.sent_once.proofs.DropWords.{version_in, code_in, held_version, coding_version, live_none, code_stays}
 use Rattle.refused_attempts.specs.accept_counts.proofs.Readings.{State, found_by}
 use Rattle.refused_attempts.specs.accept_counts.proofs.ReaderRuns.{Keeps, keeps_ticks, reader_of, view_at, state_at}
+use Rattle.seat_programs.specs.Rounds.{first_step}
 
 -- P tells which codes clients store, W are the words of the table in the end, and New tells of which lives something is said
 module _ (p : Plan) (calls os : List ℕ) (in_os : (k o : ℕ) → get_elem? os k ≡ some o → o < p.operations) (Odd : List Taking → Type 0) (Lasts : Type 0) (ends : (n id : ℕ) → Ends n id Odd Lasts) (P : ℕ → Type 0) (gone : P 1009) (W : List ℕ) (New : ℕ → ℕ → Type 0) where

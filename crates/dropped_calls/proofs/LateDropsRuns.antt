@@ -15,7 +15,7 @@ use Rattle.seat_programs.specs.Asides.{Taking}
 use Rattle.seat_programs.specs.Calls.{LoadCode}
 use Rattle.seat_programs.specs.Cores.{Core, SeatState}
 use Rattle.seat_programs.specs.Ticks.{Moment, AreAnswered, IsAnswered, quiet, ticked, run}
-use Rattle.refused_attempts.specs.Below.programs_allowed.specs.program_steps.specs.Sound.{Sound, AreFitting, IsFitting, first_step, views_after, views_along}
+use Rattle.refused_attempts.specs.Below.programs_allowed.specs.program_steps.specs.Sound.{Sound, AreFitting, IsFitting, views_after, views_along}
 use Rattle.refused_attempts.specs.Below.programs_allowed.specs.sock_runs.proofs.LinkTicks.{RetriesGo}
 use Rattle.refused_attempts.specs.Below.programs_allowed.specs.program_walks.proofs.OpensStay.{run_word}
 use Rattle.refused_attempts.specs.Below.programs_allowed.specs.program_walks.proofs.Recorded.{Recorded, recorded_ticks}
@@ -38,6 +38,7 @@ use Rattle.refused_attempts.proofs.RefusedTicks.{charge_ticks}
 use Rattle.refused_attempts.specs.accept_counts.proofs.Runs.{Lawful_}
 use Rattle.refused_attempts.specs.accept_counts.proofs.Ticks.{label_ticks}
 use Rattle.refused_attempts.specs.accept_counts.proofs.PostSeats.{of_tick}
+use Rattle.seat_programs.specs.Rounds.{first_step}
 
 -- ## Lists of posts
 

@@ -28,7 +28,7 @@ use Rattle.seat_programs.specs.Tasks.{opens, plan_of}
 use Rattle.seat_programs.specs.Ticks.{Moment, IsAnswered, AreAnswered, quiet, ticked, run}
 use Rattle.seat_programs.specs.Scripts.{played, IsRunWithCalls}
 use Rattle.seat_programs.specs.StepTables.{row, hand_at}
-use Rattle.refused_attempts.specs.Below.programs_allowed.specs.program_steps.specs.Sound.{state, Sound, first_step, IsFitting, AreFitting, views_after, views_along}
+use Rattle.refused_attempts.specs.Below.programs_allowed.specs.program_steps.specs.Sound.{state, Sound, IsFitting, AreFitting, views_after, views_along}
 use Rattle.refused_attempts.specs.Below.programs_allowed.specs.sock_runs.proofs.Along.{seat_rests}
 use Rattle.refused_attempts.specs.Below.programs_allowed.specs.program_steps.proofs.Bounds.{law, lives_le}
 use Rattle.refused_attempts.specs.Below.programs_allowed.specs.program_steps.proofs.Cases.{ComesNext, with_rights, tick_keeps_marks}
@@ -47,6 +47,7 @@ use Rattle.refused_attempts.specs.Below.joint_runs.proofs.Runs.{AreMade, first_v
 use Rattle.refused_attempts.specs.accept_counts.proofs.Early.{start, go, fitting}
 use Rattle.refused_attempts.specs.accept_counts.proofs.Rests.{many, aside}
 use Rattle.corr_core.proofs.Notes.{at_length}
+use Rattle.seat_programs.specs.Rounds.{first_step}
 
 -- a life that was given a link was born
 pub given_born : (p : Plan) (c : Core) (vs : List View) → Sound p c vs → (i h k : ℕ) → i < p.slots → IsGiven c vs i h k → 0 < count (is_born h) (slot_facts (state c vs) i)

@@ -21,11 +21,10 @@ use Rattle.seat_programs.specs.Posts.{post}
 use Rattle.seat_programs.specs.Readers.{opens_round, reader}
 use Rattle.seat_programs.specs.Sends.{block, heading_of, accept, claim_from, start, send}
 use Rattle.seat_programs.specs.Attempts.{claims_from, heading_for, attempt, retry}
-use Rattle.seat_programs.specs.Rounds.{round}
+use Rattle.seat_programs.specs.Rounds.{round, first_step}
 use Rattle.seat_programs.specs.Clients.{HeldLife, operation, client_from}
 use Rattle.seat_programs.specs.Cores.{resolved, next_step}
 use Rattle.refused_attempts.specs.Below.programs_allowed.specs.program_steps.specs.AtSteps.{Asks, AtSteps, asks_words}
-use Rattle.refused_attempts.specs.Below.programs_allowed.specs.program_steps.specs.Sound.{first_step}
 use Rattle.refused_attempts.specs.Below.programs_allowed.specs.program_steps.proofs.AtCalls.{every_exit}
 use Rattle.refused_attempts.specs.Below.programs_allowed.specs.program_walks.proofs.Records.{awaits}
 use Rattle.refused_attempts.specs.Below.programs_allowed.specs.program_walks.proofs.Through.{PassesPlain, PassesFails, PassesLinks, PassesReads, any_end, is_of_message, by_errors, others_plain, others_failing, others_make, reads_any, at_steps_plain, at_steps_links, through_release, through_address, through_reach, through_set_failed, through_fail}

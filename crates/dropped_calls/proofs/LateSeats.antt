@@ -15,7 +15,7 @@ use Rattle.sock_model.specs.declared.chain.Stage.TheVariants as stages
 use Rattle.sock_model.specs.declared.home.Home.{Home}
 use Rattle.sock_model.specs.declared.view.Hand.{Hand}
 use Rattle.sock_model.specs.declared.view.View.{View}
-use Rattle.sock_model.specs.ChainRows.{with_claim, with_right, without_right, queued, righted, turned_right, placed_right, dropped_right, taken_right, put_right}
+use Rattle.sock_model.specs.ChainRows.{with_claim, with_right, without_right, queued, righted, turned_right, placed_right, dropped_right, taken_right, put_right, ready_claim, filled_claim}
 use Rattle.sock_model.specs.Layout.{ref_index}
 use Rattle.sock_model.specs.Memory.{IDLE, UNCONNECTED}
 use Rattle.sock_model.specs.SlotRows.{looked, met_link}
@@ -27,9 +27,9 @@ use Rattle.seat_programs.specs.Cores.{Core, SeatState, resolved, next_step, foun
 use Rattle.seat_programs.specs.StepTables.{word_of}
 use Rattle.seat_programs.specs.Ticks.{Moment, IsAnswered, fed, onto_first, ticked}
 use Rattle.seat_programs.specs.StepTables.{row, hand_at}
-use Rattle.seat_programs.specs.StepsOfChain.{link_in, new_claim, ready_claim, exchanged, emptied, read_next, turned_next, freed_next, freed_stage}
+use Rattle.seat_programs.specs.StepsOfChain.{link_in, new_claim, exchanged, emptied, read_next, turned_next, freed_next, freed_stage}
 use Rattle.seat_programs.specs.StepViews.{by_claim, by_right, settled}
-use Rattle.seat_programs.specs.StepsOfMessages.{filled_claim, took_message}
+use Rattle.seat_programs.specs.StepsOfMessages.{took_message}
 use Rattle.seat_programs.specs.StepsOfSlots.{looked_clean}
 use Rattle.seat_programs.specs.StepsOfPlaces.{placed_next, dropped_next}
 use Rattle.seat_programs.specs.StepsOfLinks.{link_away, link_home_again, took_bytes}

@@ -17,7 +17,6 @@ use Rattle.attempted_calls.specs.Below.programs_allowed.specs.sock_runs.proofs.L
 use Rattle.attempted_calls.specs.Below.programs_allowed.specs.program_walks.proofs.Recorded.{Recorded, recorded_ticks}
 use Rattle.attempted_calls.specs.Below.programs_allowed.specs.sock_runs.proofs.Ticks.{sound_ticks}
 use Rattle.attempted_calls.specs.Below.programs_allowed.specs.program_walks.proofs.Whole.{IsListed, closing_of, views_played, views_closed, set_up_answered, end_answered, set_up_sound, closing_sound, closed_sound, recorded_opened, recorded_set_up, recorded_closing, recorded_closed}
-use Rattle.attempted_calls.specs.Below.id_runs.specs.Goes.{first_of}
 use Rattle.attempted_calls.specs.Below.outcome_stories.specs.Stories.{In}
 use Rattle.attempted_calls.specs.Below.outcome_stories.proofs.Members.{in_contains}
 use Rattle.attempted_calls.specs.Below.outcome_causes.proofs.Plain.{in_left, in_right, in_both}
@@ -35,6 +34,7 @@ use Rattle.ended_calls.proofs.EndedWhole.{opened_keeps, opened_told, h₁, h₂,
 use Rattle.attempted_calls.specs.accept_counts.proofs.ReaderRuns.{keeps_along}
 use Rattle.attempted_calls.specs.accept_counts.proofs.Readings.{found_by}
 use Rattle.corr_core.proofs.Notes.{at_length}
+use Rattle.seat_programs.specs.Rounds.{first_step}
 
 -- ## Ticks one after another
 
@@ -50,7 +50,7 @@ module _ (p : Plan) (calls os : List ℕ) (in_os : (k o : ℕ) → get_elem? os 
   tick_may c vs m h keeps told x there = by (m.seat == 32 + k) refl there
     where
       inside : m.seat ≡ 32 + k → In x (posted_at c m) → (o : Option SeatState) → get_elem? c.seats m.seat ≡ o → k < length os
-      inside own z none e = absurd (subst (λ o. In x (elim o as (λ o. List Post) [ none ↦ [] | some seat ↦ posted_with c.calls (taken m.answer) (first_of seat.program) ])) e z)
+      inside own z none e = absurd (subst (λ o. In x (elim o as (λ o. List Post) [ none ↦ [] | some seat ↦ posted_with c.calls (taken m.answer) (first_step seat.program) ])) e z)
       inside own z (some seat) e = let l = at_length c.seats m.seat seat e in let many = keeps.many in omega (arith, l, many, own)
 
       by : (b : Bool) → (m.seat == 32 + k) ≡ b → In x (cond b (posted_at c m) []) → May (h k) x

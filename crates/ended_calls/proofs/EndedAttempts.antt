@@ -23,7 +23,6 @@ use Rattle.seat_programs.specs.Tasks.{opens, plan_of, id_plan_of}
 use Rattle.seat_programs.specs.Scripts.{all_tasks, opened, set_up, IsRunWithCalls}
 use Rattle.seat_programs.specs.Told.{AreTasks, Made}
 use Rattle.seat_programs.specs.ToldCalls.{Accepted, Fixed, StandsOn, MayBeOn, GaveFault}
-use Rattle.attempted_calls.specs.Below.programs_allowed.specs.program_steps.specs.Sound.{first_step}
 use Rattle.attempted_calls.specs.Below.programs_allowed.specs.program_walks.proofs.Whole.{closing_of, views_ended, ended_sound, end_rests}
 use Rattle.attempted_calls.specs.Below.outcome_stories.specs.Explains.{is_plain}
 use Rattle.attempted_calls.specs.Below.outcome_stories.specs.Kept.{IsSpoken}
@@ -51,6 +50,7 @@ use Rattle.ended_calls.proofs.EndedWhole.{run_end_posts}
 use Rattle.attempted_calls.specs.Below.call_stories.proofs.Posts.{id_back}
 use Rattle.attempted_calls.specs.accept_counts.proofs.Grounds.{setting, grounds}
 use Rattle.attempted_calls.specs.Below.owned_ids.proofs.OpensStored.{place_at}
+use Rattle.seat_programs.specs.Rounds.{first_step}
 
 -- ## Numbers
 

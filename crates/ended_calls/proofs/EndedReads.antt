@@ -13,9 +13,8 @@ use Rattle.seat_programs.specs.Heads.{Head, Exit, Retry, Reading, Posts, Unlocks
 use Rattle.seat_programs.specs.Programs.{Program, Do, Say, Sent, Rest, TakeMessage, TakeHome, PutHome, PutBytes, AskReady, Write, Aside, Round, Keep, Retries, NO_SOCKET}
 use Rattle.seat_programs.specs.Posts.{packed, is_first, is_stale, is_full, judged, posts_round, post_with}
 use Rattle.seat_programs.specs.Readers.{LIMIT, last_of, ended_by, read_on, took, discarded, posted_last, post_each, thrown_away, read, reader}
-use Rattle.seat_programs.specs.Rounds.{round}
+use Rattle.seat_programs.specs.Rounds.{round, first_step}
 use Rattle.seat_programs.specs.Cores.{resolved, next_step}
-use Rattle.attempted_calls.specs.Below.programs_allowed.specs.program_steps.specs.Sound.{first_step}
 use Rattle.attempted_calls.specs.Below.outcome_stories.specs.Stories.{In}
 use Rattle.attempted_calls.specs.Below.outcome_causes.proofs.Plain.{in_left}
 use Rattle.attempted_calls.specs.Below.run_theorems.specs.Heard.{bytes_found, given_by}

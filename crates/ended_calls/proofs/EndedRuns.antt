@@ -55,7 +55,7 @@ module _ (p : Plan) (calls os : List ℕ) (in_os : (k o : ℕ) → get_elem? os 
     tick_posts c vs m h k told x there = by_seat (nat_le 32 m.seat) refl there
       where
         by_state : 32 ≤ m.seat → In x (posted_at c m) → (o : Option SeatState) → get_elem? c.seats m.seat ≡ o → IsPostOf h x
-        by_state high there none e = absurd (subst (λ o. In x (elim o as (λ o. List Post) [ none ↦ [] | some seat ↦ posted_with c.calls (taken m.answer) (Rattle.attempted_calls.specs.Below.id_runs.specs.Goes.first_of seat.program) ])) e there)
+        by_state high there none e = absurd (subst (λ o. In x (elim o as (λ o. List Post) [ none ↦ [] | some seat ↦ posted_with c.calls (taken m.answer) (Rattle.seat_programs.specs.Rounds.first_step seat.program) ])) e there)
         by_state high there (some seat) e = let r = reader_of p calls os in_os Any (Unit {0}) ends_anyhow c vs h k m.seat seat e high in record { link = r.0; inside = at_length os r.0 r.1 r.3; may = told_posts p r.0 (Seen r.0) (h r.0) c m (told r.0) r.2 x there }
 
         by_seat : (b : Bool) → nat_le 32 m.seat ≡ b → In x (cond b (posted_at c m) []) → IsPostOf h x

@@ -13,14 +13,12 @@ use Rattle.sock_io.specs.declared.link.Put.{Put}
 use Rattle.sock_io.specs.declared.link.Ready.{Ready}
 use Rattle.corr_core.specs.Word.{parts, call_id}
 use Rattle.seat_programs.specs.id_rule.specs.Lawful.{at_index}
-use Rattle.attempted_calls.specs.Below.id_runs.specs.Goes as goes
 use Rattle.seat_programs.specs.Asides.{Step, Found, LoadAt, PostId, TakeBytes, Taking}
 use Rattle.seat_programs.specs.Beside.{at_last, taking_in, found_in}
 use Rattle.seat_programs.specs.Programs.{Program, Do, TakeMessage, TakeHome, PutHome, PutBytes, AskReady, Aside, Round, Say, Sent, Rest, Keep}
 use Rattle.seat_programs.specs.Cores.{Core, SeatState, found_at, waiting_at}
 use Rattle.seat_programs.specs.StepTables.{word_of}
 use Rattle.seat_programs.specs.Ticks.{Answer, OfPut, OfReady, OfTake, Moment, taken, with_message, with_link, with_put, with_ready, with_found, step_with, tick_with, ticked}
-use Rattle.attempted_calls.specs.Below.programs_allowed.specs.program_steps.specs.Sound.{first_step}
 use Rattle.attempted_calls.specs.Below.programs_allowed.specs.program_steps.proofs.Cases.{ticks_first}
 use Rattle.attempted_calls.specs.Below.outcome_stories.specs.Stories.{In}
 use Rattle.attempted_calls.specs.Below.owing_ticks.proofs.OwingRuns.{same_first}
@@ -30,6 +28,7 @@ use Rattle.attempted_calls.specs.Below.call_causes.proofs.HandledTicks.{take_of,
 use Rattle.attempted_calls.specs.accept_counts.specs.EndedCalls.{Load, loaded_with, loaded_at}
 use Rattle.ended_calls.proofs.EndedReads.{Tells, MayPost, tell_first, tell_next}
 use Rattle.attempted_calls.specs.accept_counts.proofs.Readings.{found_by}
+use Rattle.seat_programs.specs.Rounds.{first_step}
 
 -- a tick leaves the other seats as they are
 module _ (p : Plan) (c : Core) (m : Moment) (j : ℕ) (far : j ≢ m.seat) where
@@ -159,6 +158,6 @@ module _ (p : Plan) (n : ℕ) (At : ℕ → ℕ → Type 0) where
         by_program (Aside step next) t z = by_step step next t (found_in step c.calls (taken m.answer)) z
         by_program _ t z = absurd z
 
-        by_seat : (o : Option SeatState) → get_elem? c.seats m.seat ≡ o → In x (elim o as (λ o. List Post) [ none ↦ [] | some seat ↦ posted_with c.calls (taken m.answer) (goes.first_of seat.program) ]) → MayPost n At h x.id x.error
+        by_seat : (o : Option SeatState) → get_elem? c.seats m.seat ≡ o → In x (elim o as (λ o. List Post) [ none ↦ [] | some seat ↦ posted_with c.calls (taken m.answer) (first_step seat.program) ]) → MayPost n At h x.id x.error
         by_seat none e z = absurd z
         by_seat (some seat) e z = by_program (first_step seat.program) (tell_first n At h seat.program (before seat (sym (ap (get_elem? c.seats) own) ∙ e))) (subst (λ y. In x (posted_with c.calls (taken m.answer) y)) (same_first seat.program) z)

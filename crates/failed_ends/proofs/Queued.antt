@@ -12,7 +12,7 @@ use Rattle.sock_words.specs.declared.plain.Plan.{Plan}
 use Rattle.sock_words.specs.declared.place_word.PlaceWord.{PlaceWord}
 use Rattle.sock_words.specs.declared.vref.Vref.{Vref}
 use Rattle.seat_programs.specs.declared.task.Task.{Task}
-use Rattle.seat_programs.specs.ToldCalls.{Fixed, Order, IsPosted}
+use Rattle.seat_programs.specs.ToldCalls.{Fixed, Order}
 use Rattle.corr_core.specs.Law.{total}
 use Rattle.corr_core.specs.Word.{code_of}
 use Rattle.corr_core.specs.declared.marks.Noted.{Noted}
@@ -33,10 +33,11 @@ use Rattle.failed_reasons.proofs.Codes.{IsMissCode, IsReadCode, deed_code}
 use Rattle.failed_ends.proofs.Posters.{reason_low, code_is}
 use Rattle.failed_reasons.proofs.Views.{queued_in}
 use Rattle.failed_reasons.proofs.Taken.{OthersRead}
+use Rattle.seat_programs.specs.brpc_model.specs.Outcomes.{IsPosted}
 
 module _ (p : Plan) (clients : List (List Task)) (outcomes : List (Option Outcome)) (fixed : Fixed) (gave : ℕ → List ℕ) (orders : ℕ → Order) where
   abbrev PostedHere : ℕ → Type 0
-  PostedHere code = IsPosted p clients outcomes fixed gave orders code
+  PostedHere code = IsPosted code
 
   -- the codes besides those of `fail`s
   abbrev codes : List ℕ

@@ -11,7 +11,7 @@ use Rattle.failed_ends.specs.Below.SockRule.Closing.{PlacesDiffer}
 use Rattle.seat_programs.specs.declared.task.Op.TheVariants as ops
 use Rattle.seat_programs.specs.declared.task.Task.{Task}
 use Rattle.seat_programs.specs.Told.{AreTasks, IsTask, Became}
-use Rattle.seat_programs.specs.ToldCalls.{IsPosted, WhyExpire}
+use Rattle.seat_programs.specs.ToldCalls.{WhyExpire}
 use Rattle.corr_core.specs.Word.{code_of}
 use Rattle.corr_core.specs.declared.marks.Kept.{Kept}
 use Rattle.corr_core.specs.declared.marks.Noted.{Noted}
@@ -32,6 +32,7 @@ use Rattle.failed_told.proofs.Ended.{TellsDrops}
 use Rattle.failed_told.proofs.PostedCodes.{queued_posted, expire_posted}
 use Rattle.failed_ends.specs.failed_reasons.proofs.Views.{queued_in}
 use Rattle.failed_ends.specs.failed_reasons.proofs.Taken.{OthersRead}
+use Rattle.seat_programs.specs.brpc_model.specs.Outcomes.{IsPosted}
 
 module _ {O : Type 0} {g : Ghosts O} {state : O → OutState} {readers : List (LinkReader g)} {p : Plan} {slots : ℕ} {setup : List Task} {clients : List (List Task)} {opens : List ℕ} {told ended : List (List Told)} {places : List PlaceWord} {vrefs : List Vref} {outs : List O} {ids : List (View Asked)}
     (run : RanWith g state readers p slots setup clients opens told ended places vrefs outs ids) (tasks : AreTasks p (setup ∷ clients)) (may : MayRunAll p (ids_of p slots) setup clients)
@@ -47,7 +48,7 @@ module _ {O : Type 0} {g : Ghosts O} {state : O → OutState} {readers : List (L
 
   module _ (keeps : HaveKeptOf ids kept) (said_own : AreSaid outcomes told) (said_ended : AreSaid outcomes ended) (others : OthersRead ids notes) where
     -- whatever was queued has a code that is posted
-    pub codes_with : (i f e : ℕ) → 0 < queued_in i f e notes → IsPosted p (setup ∷ clients) outcomes (fixed drun differ gave) gave (orders drun differ) (code_of e)
+    pub codes_with : (i f e : ℕ) → 0 < queued_in i f e notes → IsPosted (code_of e)
     codes_with = queued_posted run tasks may notes kept words closing noted keeps outcomes said_own said_ended others drun seats logged differ gave (log_accepted drun differ (λ k. [])) few few_links bounds
 
     -- and so have both errors of a crowded id: each `expire` has its outcome as is told of it

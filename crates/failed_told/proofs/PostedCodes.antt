@@ -14,7 +14,7 @@ use Rattle.failed_ends.specs.Below.SockRule.Closing.{PlacesDiffer}
 use Rattle.seat_programs.specs.declared.task.Op.TheVariants as ops
 use Rattle.seat_programs.specs.declared.task.Task.{Task}
 use Rattle.seat_programs.specs.Told.{AreTasks, IsTask, Became}
-use Rattle.seat_programs.specs.ToldCalls.{IsPosted, WhyExpire, all_accepted}
+use Rattle.seat_programs.specs.ToldCalls.{WhyExpire, all_accepted}
 use Rattle.corr_core.specs.Word.{parts, code_of, id_slot}
 use Rattle.corr_core.specs.Law.{total}
 use Rattle.corr_core.specs.declared.marks.Kept.{Kept}
@@ -46,6 +46,7 @@ use Rattle.failed_ends.proofs.Queued.{read_posted, WasDropCode, queued_code}
 use Rattle.failed_ends.specs.failed_reasons.proofs.Views.{queued_in}
 use Rattle.failed_ends.specs.call_whys.specs.call_places.proofs.Places.{noted_among, crew_of}
 use Rattle.failed_ends.specs.failed_reasons.proofs.Taken.{OthersRead}
+use Rattle.seat_programs.specs.brpc_model.specs.Outcomes.{IsPosted}
 
 -- the codes of a crowded id
 same_codes : (a b c d : ℕ) → outcome.Crowded a b ≡ outcome.Crowded c d → (c ≡ a) × (d ≡ b)
@@ -62,7 +63,7 @@ module _ {O : Type 0} {g : Ghosts O} {state : O → OutState} {readers : List (L
   open laws_of drun differ gave use {fixed_here, orders_here}
 
   abbrev PostedHere : ℕ → Type 0
-  PostedHere code = IsPosted p every outcomes fixed_here gave orders_here code
+  PostedHere code = IsPosted code
 
   dropped_posted : (code : ℕ) → WasDropCode p every outcomes fixed_here gave orders_here run said_own notes others code → PostedHere code
   dropped_posted code d = elim (drop_code run tasks may notes kept words closing noted outcomes drun seats logged differ gave all_there few few_links bounds d.place d.client d.in_crew d.id code d.attempt d.drop) [

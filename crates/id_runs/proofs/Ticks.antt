@@ -29,7 +29,7 @@ use Rattle.seat_programs.specs.Heads.{Retry}
 use Rattle.seat_programs.specs.Programs.{Program, Do, Say, Sent, TakeMessage, TakeHome, PutHome, PutBytes, AskReady, Write, Aside, Round, Keep, Retries}
 use Rattle.seat_programs.specs.Posts.{packed, advance_of}
 use Rattle.seat_programs.specs.Sends.{block}
-use Rattle.seat_programs.specs.Rounds.{round}
+use Rattle.seat_programs.specs.Rounds.{round, first_step}
 use Rattle.seat_programs.specs.Cores.{Calls, Core, SeatState, found_at, words_after, homes_after, hand_after, lies_at, first_of, others_of, link_place, resolved, still_waiting, waiting_at, next_step, with_seat}
 use Rattle.seat_programs.specs.StepTables.{word_of, word_after}
 use Rattle.seat_programs.specs.Beside.{found_in, calls_after}
@@ -37,7 +37,6 @@ use Rattle.seat_programs.specs.Ticks.{Answer, OfPut, OfReady, Moment, fed, with_
 use Rattle.seat_programs.specs.Told.{AskedFits}
 use Rattle.id_runs.specs.Held.{CallFits, AtFits, StoredFit, IdView, id_state, by_token, made_by, unlocked_by, ended_by, locked_by, id_row, MayId}
 use Rattle.id_runs.specs.Goes.{FitsOwner, FitsRetryId, IdGoesOn, HandFits, HomesFit, CodesFit, SoundIds, FitsFirst, IsFittingIds}
-use Rattle.id_runs.specs.Goes as goes
 use Rattle.id_runs.proofs.Steps.{keeps_ids, finds_ids}
 use Rattle.id_runs.proofs.Loops.{ids_round}
 use Rattle.id_runs.proofs.Programs.{block_goes, retry_goes}
@@ -257,7 +256,7 @@ module _ (p : Plan) (q : IdPlan) (narrow : q.slots ≤ 65536) (same : q.operatio
     first_step answer (Aside step next) go fits = on_ids step next (taken answer) go (found_in step c.calls (taken answer)) refl
     first_step answer _ go fits = before
 
-    any_step : (answer : Answer) (program : Program) → IdGoesOn p q u program → FitsFirst p c (goes.first_of program) → After (tick_with p i seat c answer program)
+    any_step : (answer : Answer) (program : Program) → IdGoesOn p q u program → FitsFirst p c (first_step program) → After (tick_with p i seat c answer program)
     any_step answer (Write w after) go fits = first_step answer (block w after) (block_goes p q narrow u w after go) fits
     any_step answer (Round head next) go fits = first_step answer (round head next) (ids_round p q u head next go) fits
     any_step answer (Do call next) go fits = first_step answer (Do call next) go fits

@@ -23,7 +23,7 @@ use Rattle.std.specs.List.{AllByRecursion}
 use Rattle.seat_programs.specs.Cores.{Core, SeatState, found_at, waiting_at}
 use Rattle.seat_programs.specs.StepTables.{word_of}
 use Rattle.seat_programs.specs.Sends.{block}
-use Rattle.seat_programs.specs.Rounds.{round}
+use Rattle.seat_programs.specs.Rounds.{round, first_step}
 use Rattle.seat_programs.specs.Ticks.{Moment}
 use Rattle.seat_programs.specs.sock_model.specs.declared.home.Home.{Home}
 use Rattle.seat_programs.specs.sock_model.specs.declared.home.Home.TheVariants.{Message}
@@ -210,14 +210,9 @@ pub record SoundIds (p : Plan) (q : IdPlan) (c : Core) (us : List IdView) : Type
 
 -- ## What the table of the sockets says at a tick
 
-abbrev pub first_of : Program → Program
-first_of (Write w after) = block w after
-first_of (Round head next) = round head next
-first_of other = other
-
 abbrev pub FitsFirst : Plan → Core → Program → Type 0
 FitsFirst p c (Do call next) = FitsSock call (found_at c.words (word_of p call))
 FitsFirst p c other = Unit {0}
 
 abbrev pub IsFittingIds : Plan → Core → Moment → Type 0
-IsFittingIds p c m = (seat : SeatState) → get_elem? c.seats m.seat ≡ core.some seat → FitsFirst p c (first_of seat.program)
+IsFittingIds p c m = (seat : SeatState) → get_elem? c.seats m.seat ≡ core.some seat → FitsFirst p c (first_step seat.program)

@@ -12,19 +12,18 @@ use Rattle.seat_programs.specs.Cores.{Core, found_at}
 use Rattle.seat_programs.specs.StepTables.{word_of}
 use Rattle.seat_programs.specs.Beside.{found_in, call_at, at_last}
 use Rattle.seat_programs.specs.Sends.{block}
-use Rattle.seat_programs.specs.Rounds.{round}
+use Rattle.seat_programs.specs.Rounds.{round, first_step}
 use Rattle.seat_programs.specs.Ticks.{Answer, Moment, IsAnswer, IsAnswered, taken}
 use Rattle.programs_allowed.specs.program_steps.specs.Fits.{FitsFound}
 use Rattle.seat_programs.specs.StepTables.{May}
 use Rattle.programs_allowed.specs.program_steps.specs.GoesOn.{GoesOn}
-use Rattle.programs_allowed.specs.program_steps.specs.Sound.{state, Sound, FitsBeside, IsFitting, first_step}
+use Rattle.programs_allowed.specs.program_steps.specs.Sound.{state, Sound, FitsBeside, IsFitting}
 use Rattle.programs_allowed.specs.program_steps.specs.Lasts.{IsSlot, IsCountedStep, IsCountedAt, IsCounted}
 use Rattle.programs_allowed.specs.program_steps.proofs.Cases as cases
 use Rattle.programs_allowed.specs.program_steps.proofs.Cases.{elem_there}
 use Rattle.programs_allowed.specs.sock_runs.proofs.Founds.{finds}
 use Rattle.programs_allowed.specs.id_runs.specs.Held.{IdView, MayId}
 use Rattle.programs_allowed.specs.id_runs.specs.Goes.{FindsId, IdGoesOn, SoundIds, FitsSock, FitsFirst, IsFittingIds}
-use Rattle.programs_allowed.specs.id_runs.specs.Goes as goes
 use Rattle.programs_allowed.specs.id_runs.proofs.Steps.{finds_ids, call_there}
 use Rattle.programs_allowed.specs.id_runs.proofs.Loops.{ids_round}
 use Rattle.programs_allowed.specs.id_runs.proofs.Programs.{block_goes}
@@ -93,7 +92,7 @@ module _ (p : Plan) (q : IdPlan) (c : Core) (vs : List View) (us : List IdView) 
   fits_step v at (Do call next) g = fits_call v at call g.0
   fits_step v at _ g = tt
 
-  fits_first : (v : View) → get_elem? vs m.seat ≡ some v → (program : Program) → GoesOn p v (first_step program) → FitsFirst p c (goes.first_of program)
+  fits_first : (v : View) → get_elem? vs m.seat ≡ some v → (program : Program) → GoesOn p v (first_step program) → FitsFirst p c (first_step program)
   fits_first v at (Write w after) g = fits_step v at (block w after) g
   fits_first v at (Round head next) g = fits_step v at (round head next) g
   fits_first v at (Do call next) g = fits_step v at (Do call next) g

@@ -16,12 +16,12 @@ use Rattle.seat_programs.specs.sock_message.specs.Asked.{Asked}
 use Rattle.seat_programs.specs.Asides.{Step, Found, MakeId, StoreCall, StoreAt, UnlockId, PutCall, LoadIdWord, PostId, LockId, EndId, FreeId, TakeCall, TakeBytes, Taking, Bytes, Nothing, Closed}
 use Rattle.seat_programs.specs.Calls.{Call, ClaimRequest, PutMessage, LoadOpen}
 use Rattle.seat_programs.specs.Heads.{Head, Exit, Sought, First, Version, Reading, Posts, Unlocks, Decides, Locks, Joins, Opens, Reads, Discards, Posting, WasGone, WasStale, WasCrowded, WasQueued, HasLocked, Unlocking, IsOpen, HasNext, Deciding, HasEnded, GoesOn, Locking, NotThere, Has, Ended}
-use Rattle.seat_programs.specs.Posts.{packed, advance_of, is_first, is_sought, is_stale, is_full, judged, posted, post_with, post, popped, end_id, decide, decided, unlocked, locking}
+use Rattle.seat_programs.specs.Posts.{packed, advance_of, is_first, is_sought, is_stale, is_full, judged, posted, post_with, post, popped, end_id, decide, decided, unlocked, locking, IsSoughtWord}
 use Rattle.seat_programs.specs.Programs.{Program, Do, Say, Sent, Rest, TakeMessage, TakeHome, PutHome, PutBytes, AskReady, Write, Aside, Round, Keep, Retries}
 use Rattle.seat_programs.specs.Readers.{answer, answered, responses, read_on, took, discarded, last_of, room_of, slot_in, version_in, has_response, ended_by as how_ended, LIMIT}
 use Rattle.seat_programs.specs.Rounds.{round}
 use Rattle.seat_programs.specs.Sends.{heading_of}
-use Rattle.label_runs.specs.Labels.{FindsLabel, AtLabel, LeavesLabel, LeavesUnlock, LeavesLock, IsSoughtWord}
+use Rattle.label_runs.specs.Labels.{FindsLabel, AtLabel, LeavesLabel, LeavesUnlock, LeavesLock}
 pub use Rattle.id_runs.proofs.Loops.{not_true, not_equal, and_left}
 
 -- ## Numbers

@@ -11,7 +11,7 @@ use Rattle.seat_programs.specs.Asides.{Step, Found, PutCall, MakeId, StoreAt, Un
 use Rattle.seat_programs.specs.Attempts.{heading_for}
 use Rattle.seat_programs.specs.Calls.{Call, PutMessage}
 use Rattle.seat_programs.specs.Heads.{Head, Exit, Sought, First, Posts, Unlocks, Decides, Locks, Posting, HasLocked, Unlocking, HasNext, Locking, NotThere, Has}
-use Rattle.seat_programs.specs.Posts.{advance_of, is_sought}
+use Rattle.seat_programs.specs.Posts.{advance_of, is_sought, IsSoughtWord}
 use Rattle.seat_programs.specs.Programs.{Program, Do, Say, Sent, Rest, TakeMessage, TakeHome, PutHome, PutBytes, AskReady, Write, Aside, Round, Keep, Retries}
 
 -- a seat tries attempt n of the call with this id; and has stored its at word, the call being this operation
@@ -41,10 +41,6 @@ unlocked_trial i from true found t = if found == from then Tries (call_id i (par
 unlocked_trial i from false found t = t
 
 -- ## Loops
-
-abbrev pub IsSoughtWord : Sought → Option ℕ → Type 0
-IsSoughtWord sought None = Unit {0}
-IsSoughtWord sought (Some w) = (is_sought sought (parts w) ≡ true) × ((parts w).state ≡ 1)
 
 abbrev pub locked_trial : Locking → Trial → Trial
 locked_trial (NotThere w) t = Idle

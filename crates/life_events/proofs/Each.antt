@@ -16,7 +16,7 @@ use Rattle.sock_model.specs.Lawful.{Lawful}
 use Rattle.sock_model.specs.Plain.{Event, Nothing, Becomes, Leads, plain}
 use Rattle.seat_programs.specs.Calls.{Call, ClaimSlot, CreateLife, AddRef, SubRef, SetOdd, Recycle, FreeSlot, StoreLink, ResetHead, ClearCode, StoreCode}
 use Rattle.seat_programs.specs.Programs.{Program, Do, TakeMessage, TakeHome, PutHome, PutBytes, Write, Round}
-use Rattle.seat_programs.specs.Rounds.{round}
+use Rattle.seat_programs.specs.Rounds.{round, first_step}
 use Rattle.seat_programs.specs.Cores.{Core, SeatState, found_at}
 use Rattle.seat_programs.specs.StepTables.{word_of}
 use Rattle.seat_programs.specs.Sends.{block}
@@ -26,7 +26,7 @@ use Rattle.seat_programs.specs.StepsOfMessages.{took_message}
 use Rattle.seat_programs.specs.StepsOfLinks.{link_away, link_home_again, took_bytes}
 use Rattle.seat_programs.specs.StepTables.{May}
 use Rattle.sock_runs.specs.program_steps.specs.GoesOn.{GoesOn}
-use Rattle.sock_runs.specs.program_steps.specs.Sound.{Sound, state, first_step, views_with_message, views_with_link, views_with_put, views_with, views_of, views_after, views_along, AreFitting}
+use Rattle.sock_runs.specs.program_steps.specs.Sound.{Sound, state, views_with_message, views_with_link, views_with_put, views_with, views_of, views_after, views_along, AreFitting}
 use Rattle.life_events.specs.Events.{event_of, next_event, event_at, events_of}
 use Rattle.sock_model.specs.declared.marks.Mark.TheVariants as mark
 use Rattle.sock_model.specs.Marks.{at}

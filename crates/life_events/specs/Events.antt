@@ -14,7 +14,8 @@ use Rattle.seat_programs.specs.Cores.{Core, found_at}
 use Rattle.seat_programs.specs.StepTables.{word_of}
 use Rattle.seat_programs.specs.Ticks.{Moment, ticked}
 use Rattle.seat_programs.specs.StepsOfSlots.{even_version}
-use Rattle.sock_runs.specs.program_steps.specs.Sound.{first_step, views_after}
+use Rattle.sock_runs.specs.program_steps.specs.Sound.{views_after}
+use Rattle.seat_programs.specs.Rounds.{first_step}
 
 -- the life that an id names
 abbrev pub life_of : ℕ → Life

@@ -18,7 +18,6 @@ use Rattle.seat_programs.specs.Programs.{Program, Do, TakeMessage, TakeHome, Put
 use Rattle.seat_programs.specs.Cores.{Core, SeatState, found_at, words_after, homes_after, hand_after, lies_at, first_of, others_of, link_place, with_seat}
 use Rattle.seat_programs.specs.StepTables.{word_of, word_after}
 use Rattle.seat_programs.specs.Ticks.{Answer, OfPut, OfReady, FitsPut, IsAnswer, IsTaken, taken, fed, with_places, onto_first, with_message, with_link, with_found, step_with, tick_with}
-use Rattle.seat_states.specs.program_steps.specs.Sound.{first_step}
 use Rattle.seat_states.specs.program_steps.proofs.Cases.{ticks_first}
 use Rattle.sock_io.specs.Link.{OutState}
 use Rattle.call_points.specs.Steps.{after_word, word_behind}
@@ -31,6 +30,7 @@ use Rattle.seat_states.specs.Points.{Context, point_program, heading_by, TakesMe
 use Rattle.seat_states.specs.Steps.{First, OfCall, OfAside, OfMessage, OfLink, OfHome, first_in}
 use Rattle.seat_states.specs.Steps as kinds
 use Rattle.machine_model.specs.Links.{IsClear, IsPaced}
+use Rattle.seat_programs.specs.Rounds.{first_step}
 
 pub same_some : {A : Type 0} {a b : A} → Some a ≡ Some b → a ≡ b
 same_some e = cc

@@ -5,7 +5,7 @@ use mathlib.Core.Option as core
 use lib.ListN.{get_elem?}
 use Rattle.brpc_model.specs.Link.{LinkEnd}
 use Rattle.sock_io.specs.Link.{OutState, InState, Offer, IsServed, more_told}
-use Rattle.run_theorems.specs.Heard.{answer_of}
+use Rattle.run_theorems.specs.Heard.{answer_of, bytes_found}
 use Rattle.run_theorems.specs.Offered.{GaveSo}
 use Rattle.seat_programs.specs.Asides as asides
 use Rattle.seat_programs.specs.Asides.{Found, Taking, Bytes, Closed}
@@ -16,7 +16,7 @@ use Rattle.seat_programs.specs.Programs as programs
 use Rattle.seat_programs.specs.StepTables.{word_of, word_after}
 use Rattle.seat_programs.specs.Cores.{found_at, words_after}
 use Rattle.seat_programs.specs.Ticks.{Answer, Unasked, OfTake, FitsTake}
-use Rattle.seat_states.specs.program_steps.specs.Sound.{AllowsWord, first_step}
+use Rattle.seat_states.specs.program_steps.specs.Sound.{AllowsWord}
 use Rattle.call_points.specs.Steps.{after_word}
 use Rattle.call_slots.specs.Steps as slots
 use Rattle.call_slots.specs.Steps.{word_found}
@@ -34,6 +34,7 @@ use Rattle.machine_model.specs.Machines.{MachineState, TableState, SameGivens, t
 use Rattle.machine_model.specs.Runs.{SameLink, ShowsTaking}
 use Rattle.machine_model.specs.Steps.{AsMany, OutsAfter, FitsSlots, IsOfLinks, holders_after, beside}
 use Rattle.machine_model.specs.Telling.{OneWent, Tells}
+use Rattle.seat_programs.specs.Rounds.{first_step}
 
 -- ## Before a step
 
@@ -77,18 +78,13 @@ pub record SameTables (old fresh : TableState) : Type 0 where
   pub letters : fresh.letters ≡ old.letters
   pub nexts : fresh.links.nexts ≡ old.links.nexts
 
--- the bytes that a take gave
-abbrev pub given_in : Taking → List ℕ
-given_in (Bytes bytes) = bytes
-given_in other = []
-
 -- a link that took and gave these bytes was offered what belongs to it behind a take as well, which found some of it, or nothing more where all was given
 pub record OffersOn (took : List ℕ) (finished : Bool) (gave : List ℕ) (before : Offer) (inn : InState) (taking : Taking) : Type 0 where
   pub offer : Offer
   pub is : inn.offer ≡ Some offer
   pub serve : offer.serve ≡ before.serve
   pub end : offer.end ≡ before.end
-  pub served : IsServed took finished (gave ++ given_in taking) offer
+  pub served : IsServed took finished (gave ++ bytes_found taking) offer
   pub all : GaveSo before.serve before.end took gave taking
 
 -- the reading half of link k gave this, and the link shows it
@@ -97,8 +93,8 @@ pub record TakenFrom (old fresh : TableState) (k room : ℕ) (taking : Taking) :
   pub at : get_elem? old.links.inns k ≡ core.some inn
   pub inn' : InState
   pub inns_are : fresh.links.inns ≡ slice_set old.links.inns k inn'
-  pub gave : inn'.gave ≡ inn.gave + length (given_in taking)
-  pub bytes : inn'.gave_bytes ≡ append_known inn.gave_bytes (given_in taking)
+  pub gave : inn'.gave ≡ inn.gave + length (bytes_found taking)
+  pub bytes : inn'.gave_bytes ≡ append_known inn.gave_bytes (bytes_found taking)
   pub fits : FitsTake room taking
   pub before : LinkEnd
   pub end_at : get_elem? old.ends k ≡ core.some before

@@ -18,7 +18,7 @@ use Rattle.seat_programs.specs.Programs as programs
 use Rattle.seat_programs.specs.Cores.{Calls, found_at, words_after, resolved, still_waiting, next_step, said}
 use Rattle.seat_programs.specs.StepTables.{word_of, word_after}
 use Rattle.seat_programs.specs.Ticks.{Answer, Unasked, OfPut, OfReady}
-use Rattle.seat_states.specs.program_steps.specs.Sound.{AllowsWord, first_step}
+use Rattle.seat_states.specs.program_steps.specs.Sound.{AllowsWord}
 use Rattle.call_slots.specs.Slots.{calls_with}
 use Rattle.call_slots.specs.Steps as slots
 use Rattle.call_slots.specs.Steps.{word_found}
@@ -38,6 +38,7 @@ use Rattle.client_seats.specs.Following.{IsWithFrame, IsPrepared}
 use Rattle.client_seats.specs.Seats.{SeatData, around, seat_program, bytes_of, parts_of, left_of, taken_of, left_parts_of, asked_or_nothing}
 use Rattle.machine_model.specs.Runs.{SameLink}
 use Rattle.machine_model.specs.Machines.{MachineState, TableState, SameGivens, machine_sizes, table_of, table_sizes}
+use Rattle.seat_programs.specs.Rounds.{first_step}
 
 -- ## Links as they are given back
 

@@ -24,7 +24,7 @@ use Rattle.seat_programs.specs.Programs.{Program, Do, PutBytes, Write, Aside, Ro
 use Rattle.seat_programs.specs.Sends.{block, freed, passed_telling, tell_drop, claim_from}
 use Rattle.seat_programs.specs.Attempts.{claims_from, claim_id, tried_again, retry_locked}
 use Rattle.seat_programs.specs.Posts.{packed, is_first, is_stale, is_full, is_sought, judged, posted, decided, popped, unlocked, decide, locking, advance_of}
-use Rattle.seat_programs.specs.Rounds.{round}
+use Rattle.seat_programs.specs.Rounds.{round, first_step}
 use Rattle.seat_programs.specs.Clients.{HeldLife, operation, give_back, client_from, ending_of, drop_of, held_under, without_name}
 use Rattle.seat_programs.specs.Cores.{resolved, next_step}
 use Rattle.seat_programs.specs.Heads.{Retry, Sought, Unlocks, Posting, WasGone, WasStale, WasCrowded, WasQueued, HasLocked, Unlocking, IsOpen, HasNext, Deciding, GoesOn, Locking, NotThere, Has}
@@ -32,7 +32,6 @@ use Rattle.seat_programs.specs.declared.task.Op.TheVariants as ops
 use Rattle.seat_programs.specs.declared.task.Op.{Op}
 use Rattle.seat_programs.specs.declared.task.Sizes.{Sizes}
 use Rattle.seat_programs.specs.declared.task.Task.{Task}
-use Rattle.machine_model.specs.program_steps.specs.Sound.{first_step}
 use Rattle.id_points.specs.Ids.{id_of, number_of}
 use Rattle.id_points.specs.Turns.{sought_as}
 use Rattle.call_points.specs.Points.{retry_of}

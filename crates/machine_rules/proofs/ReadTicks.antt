@@ -24,17 +24,18 @@ use Rattle.reader_points.specs.Steps.{step_as}
 use Rattle.reader_seats.specs.Readers.{ReaderData, reader_program}
 use Rattle.machine_model.specs.Links.{LinksData, Taken, Given, Agrees, AgreesGave, homes_of, hand_of}
 use Rattle.machine_model.specs.Machines.{MachineState, READERS, table_of, state_of, waiting_of, given_by, calls_of, core_with, IsSized}
-use Rattle.machine_model.specs.Reading.{SameTables, CallRead, AsideRead, TakeRead, MadeRead, given_in}
+use Rattle.machine_model.specs.Reading.{SameTables, CallRead, AsideRead, TakeRead, MadeRead}
 use Rattle.machine_rules.proofs.Changes.{none_changes}
 use Rattle.machine_rules.proofs.Ranges.{get-range, set-range}
 use Rattle.machine_rules.proofs.Seatings.{Stays, reader_set, read_at}
 use Rattle.machine_model.proofs.FirstSteps.{word_tick, aside_tick, AnswersFirst, answers_first}
 use Rattle.machine_rules.proofs.Ticked.{MayCall, LettersBy, SteppedWith, later_at, call_changes, call_agrees, letters_by, gives_same, later_here, later_else, known_more, agrees_same}
+use Rattle.machine_model.specs.run_theorems.specs.Heard.{bytes_found}
 
 -- ## What links gave
 
-more_length : (o : Taking) (n : ℕ) (bytes : List ℕ) → n ≡ length bytes → n + length (given_in o) ≡ length (bytes ++ given_in o)
-more_length o n bytes e = let all = length-append bytes (given_in o) in omega (arith, e, all)
+more_length : (o : Taking) (n : ℕ) (bytes : List ℕ) → n ≡ length bytes → n + length (bytes_found o) ≡ length (bytes ++ bytes_found o)
+more_length o n bytes e = let all = length-append bytes (bytes_found o) in omega (arith, e, all)
 
 gives_set : (l l' : LinksData) (gave : Given) (k : ℕ) (inn inn' : InState) (bytes : List ℕ) → get_elem? l.inns k ≡ core.some inn → l'.inns ≡ slice_set l.inns k inn' → inn'.gave ≡ inn.gave + length bytes → inn'.gave_bytes ≡ append_known inn.gave_bytes bytes →
     AgreesGave l gave → AgreesGave l' (later_at k (gave k ++ bytes) gave)
@@ -80,7 +81,7 @@ given_none n k gave = ap (λ (g : Given). map g (from_to 0 n)) (λ x j. same j x
     same j = ⊎_elim (λ e. subst (λ x. later_at k (gave k ++ []) gave x ≡ gave x) (sym e) (later_here k (gave k ++ []) gave ∙ append-nil (gave k))) (λ differ. later_else k j (gave k ++ []) gave differ) (same_or j k)
 
 -- what a take makes of what stands aside of the sockets
-taken_calls : (a : Calls) (n k : ℕ) (gave : Given) (ending : Bool) (t : Taking) → a.gave ≡ given_by n gave → k < n → more_given k (at_last ending t) a ≡ (record a { gave = given_by n (later_at k (gave k ++ given_in t) gave) })
+taken_calls : (a : Calls) (n k : ℕ) (gave : Given) (ending : Bool) (t : Taking) → a.gave ≡ given_by n gave → k < n → more_given k (at_last ending t) a ≡ (record a { gave = given_by n (later_at k (gave k ++ bytes_found t) gave) })
 taken_calls a n k gave true (Bytes bytes) e inside = ap (λ g. record a { gave = slice_set g k (slice_index_or g k [] ++ bytes) }) e ∙ ap (λ g. record a { gave = g }) (given_set n k gave bytes inside)
 taken_calls a n k gave false (Bytes bytes) e inside = ap (λ g. record a { gave = slice_set g k (slice_index_or g k [] ++ bytes) }) e ∙ ap (λ g. record a { gave = g }) (given_set n k gave bytes inside)
 taken_calls a n k gave true Nothing e inside = ap (λ g. record a { gave = g }) (e ∙ sym (given_none n k gave))
@@ -153,12 +154,12 @@ module _ (old fresh : MachineState) (k : ℕ) (reader reader' : ReaderData) (at 
   }
 
   take_reads : (j room : ℕ) (taking : Taking) → first_in program ≡ Some (OfAside (asides.TakeBytes j room)) → j < old.plan.links → TakeRead (table_of old) (table_of fresh) i reader reader' j room taking → SteppedWith old fresh i (OfTake taking) took gave
-  take_reads j room taking next inside w = let f = w.from in let later : Given = later_at j (gave j ++ given_in taking) gave in record {
+  take_reads j room taking next inside w = let f = w.from in let later : Given = later_at j (gave j ++ bytes_found taking) gave in record {
     so_far = record {
       took = took;
       gave = later;
       agrees = agrees_same old.links fresh.links took w.outs agrees;
-      agrees_gave = gives_set old.links fresh.links gave j f.inn f.inn' (given_in taking) f.at f.inns_are f.gave f.bytes agrees_gave;
+      agrees_gave = gives_set old.links fresh.links gave j f.inn f.inn' (bytes_found taking) f.at f.inns_are f.gave f.bytes agrees_gave;
     };
     core = reader_set old fresh k reader reader' (w.next (at_last old.ending taking)) took took gave later own.hand before.homes before.words at (stays w.same) readers few w.goes w.words
         (record { own = ap (λ (l : LinksData). hand_of l old.plan.links took i) same_out; others = λ x differ. ap (λ (l : LinksData). hand_of l old.plan.links took x) same_out; homes_are = ap₂ (λ (l : LinksData) ls. homes_of l old.plan ls took) same_out w.same.letters })

@@ -16,14 +16,14 @@ use Rattle.seat_programs.specs.Calls as calls
 use Rattle.seat_programs.specs.Asides as asides
 use Rattle.seat_programs.specs.Programs.{Program, Do, TakeMessage, TakeHome, PutHome, PutBytes, AskReady, Write, Aside, Round}
 use Rattle.seat_programs.specs.Writings as heads
-use Rattle.seat_programs.specs.Rounds.{round}
+use Rattle.seat_programs.specs.Rounds.{round, first_step}
 use Rattle.seat_programs.specs.Ticks.{quiet}
 use Rattle.seat_programs.specs.Cores.{Core, SeatState, link_place, found_at}
 use Rattle.seat_programs.specs.StepTables.{word_of}
 use Rattle.seat_programs.specs.Scripts.{sizes_of}
 use Rattle.seat_programs.specs.StepTables.{May}
 use Rattle.machine_model.specs.program_steps.specs.GoesOn.{GoesOn}
-use Rattle.machine_model.specs.program_steps.specs.Sound.{IsOfRight, AreInHand, AreHeld, Allows, AllowsStep, first_step}
+use Rattle.machine_model.specs.program_steps.specs.Sound.{IsOfRight, AreInHand, AreHeld, Allows, AllowsStep}
 use Rattle.machine_model.specs.sock_runs.proofs.Held.{held_in_hand}
 use Rattle.machine_model.specs.program_steps.proofs.Cases.{goes_first}
 use Rattle.machine_model.specs.sock_runs.proofs.Allowed.{sound_allows, view_there}
@@ -192,6 +192,6 @@ module _ (m : MachineState) (sized : IsSized (table_of m)) (s : IsSoundMachine m
   finds_word call next = fits_word m.plan c (first_step program) call (sym (first_is program) ∙ next)
       (is_first program (is_fitting_ids m.plan m.ids.plan c s.views s.id_views s.sound s.ids (quiet i) own own_at))
     where
-      is_first : (x : Program) → FitsFirst m.plan c (goes.first_of x) → FitsFirst m.plan c (first_step x)
+      is_first : (x : Program) → FitsFirst m.plan c (first_step x) → FitsFirst m.plan c (first_step x)
       is_first (Write w after) f = f
       is_first _ f = f

@@ -9,7 +9,6 @@ use Rattle.seat_programs.specs.Beside.{calls_after}
 use Rattle.seat_programs.specs.Cores.{Calls}
 use Rattle.seat_programs.specs.Programs.{Program, Aside}
 use Rattle.seat_programs.specs.Ticks.{Unasked}
-use Rattle.machine_model.specs.program_steps.specs.Sound.{first_step}
 use Rattle.call_slots.specs.Slots.{SlotState, calls_with}
 use Rattle.call_slots.specs.Steps as slots
 use Rattle.call_slots.specs.Steps.{word_found}
@@ -30,6 +29,7 @@ use Rattle.machine_model.specs.Machines.{TableState, table_sizes}
 use Rattle.machine_model.proofs.FirstSteps.{IsBare, bare_first, after_first, step_is}
 use Rattle.machine_model.proofs.PointFacts.{GoesAside, goes_aside}
 use Rattle.machine_steps.proofs.Stepping.{makes_along, next_along}
+use Rattle.seat_programs.specs.Rounds.{first_step}
 
 -- ## A word that is found
 

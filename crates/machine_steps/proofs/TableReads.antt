@@ -14,7 +14,6 @@ use Rattle.seat_programs.specs.Cores.{resolved, still_waiting, next_step, said}
 use Rattle.seat_programs.specs.Heads.{HasEnded, Unlocks}
 use Rattle.seat_programs.specs.Posts.{end_id, unlocked}
 use Rattle.seat_programs.specs.Programs.{Program, Aside, Round}
-use Rattle.machine_model.specs.program_steps.specs.Sound.{first_step}
 use Rattle.call_points.specs.Steps.{after_call}
 use Rattle.call_points.specs.declared.word_step.WordStep.TheVariants as id_steps
 use Rattle.call_points.specs.declared.ending.EndStep.TheVariants as ends
@@ -31,6 +30,7 @@ use Rattle.reader_seats.specs.Readers.{ReaderData, around, reader_program}
 use Rattle.seat_states.specs.Steps.{First, OfCall, OfAside, first_of, first_in}
 use Rattle.machine_model.proofs.FirstSteps.{IsBare, bare_first, step_is}
 use Rattle.machine_steps.proofs.TableAsides.{FindsWord}
+use Rattle.seat_programs.specs.Rounds.{first_step}
 
 -- ## Which step it is
 

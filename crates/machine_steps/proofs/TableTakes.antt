@@ -11,24 +11,24 @@ use Rattle.sock_io.specs.declared.link.Take.TheVariants as takes
 use Rattle.sock_io.specs.Causes.{Rose}
 use Rattle.sock_io.specs.Link.{OutState, InState, Offer, IsServed, IsSettled, OfferTaken, OffersKept, OffersTaken, TakeStep, SettleStep, given_of, offered_by, of_take, more_told, end_of}
 use Rattle.sock_io.proofs.Offers.{served_take, gave_offered, gave_to_end}
-use Rattle.machine_model.specs.run_theorems.specs.Heard.{answer_of}
+use Rattle.machine_model.specs.run_theorems.specs.Heard.{answer_of, bytes_found}
 use Rattle.machine_model.specs.run_theorems.specs.Offered.{GaveSo}
 use Rattle.seat_programs.specs.Asides.{Closed}
 use Rattle.seat_programs.specs.Ticks.{FitsTake}
 use Rattle.reader_seats.specs.GoesOn.{taking_of}
 use Rattle.machine_model.specs.Links.{is_done}
 use Rattle.machine_model.specs.Machines.{TableState}
-use Rattle.machine_model.specs.Reading.{OffersOn, TakenFrom, given_in}
+use Rattle.machine_model.specs.Reading.{OffersOn, TakenFrom}
 use Rattle.machine_model.specs.Runs.{SameLink, ShowsTaking}
 
 -- ## What a take gave
 
-given_as : (room : List ℕ) (answer : Take) → given_in (taking_of room answer) ≡ given_of room answer
+given_as : (room : List ℕ) (answer : Take) → bytes_found (taking_of room answer) ≡ given_of room answer
 given_as room (takes.Took n) = refl
 given_as room _ = refl
 
 module _ (inn inn' : InState) (room : List ℕ) where
-  count_is : (answer : Take) → TakeStep inn inn' room answer → inn'.gave ≡ inn.gave + length (given_in (taking_of room answer))
+  count_is : (answer : Take) → TakeStep inn inn' room answer → inn'.gave ≡ inn.gave + length (bytes_found (taking_of room answer))
   count_is (takes.Took n) step = let all = length-take n room in let most = step.count in let a = step.gave in omega (arith, all, most.1, a)
   count_is _ step = step.gave
 
@@ -137,7 +137,7 @@ module _ {A : Type 0} (fo : A → OutState) (fi : A → InState) (old fresh : Ta
     inn' = fi y;
     inns_are = inns' ∙ set_by fi ∙ ap (λ (is : List InState). slice_set is k (fi y)) (sym inns);
     gave = let a = ap (λ (i : InState). i.gave) settled.same in let b = count_is (fi mid) (fi y) room answer taken in omega (arith, a, b);
-    bytes = taken.bytes ∙ ap (append_known (fi mid).gave_bytes) (sym (given_as room answer)) ∙ ap (λ (i : InState). append_known i.gave_bytes (given_in (taking_of room answer))) settled.same;
+    bytes = taken.bytes ∙ ap (append_known (fi mid).gave_bytes) (sym (given_as room answer)) ∙ ap (λ (i : InState). append_known i.gave_bytes (bytes_found (taking_of room answer))) settled.same;
     fits = subst (λ (m : ℕ). FitsTake m (taking_of room answer)) roomy (fits_is (fi mid) (fi y) room answer taken);
     before = end_of (fo x) (fi x);
     end_at = ap (λ (es : List LinkEnd). get_elem? es k) ends ∙ at_by (λ (e : A). end_of (fo e) (fi e));

@@ -20,7 +20,6 @@ use Rattle.seat_programs.specs.Programs.{Program}
 use Rattle.seat_programs.specs.Cores.{Core, SeatState, link_place}
 use Rattle.seat_programs.specs.Ticks.{Answer, Unasked, OfPut, OfReady, Moment, taken}
 use Rattle.seat_programs.specs.Runs.{from_to}
-use Rattle.machine_model.specs.id_runs.specs.Goes.{first_of}
 use Rattle.machine_model.specs.run_theorems.specs.Offered.{HasTaken}
 use Rattle.machine_model.specs.run_theorems.specs.call_owing.specs.Lives.{InHand, IsFinished, ClosesAt, ClosesInTime}
 use Rattle.seat_states.specs.declared.point.Step.{Step}
@@ -38,6 +37,7 @@ use Rattle.machine_rules.proofs.Hands.{lies_home, own_link, home_at}
 use Rattle.machine_ticks.proofs.Joining.{not_closed}
 use Rattle.machine_rules.proofs.Seatings.{seat_at, read_at}
 use Rattle.corr_core.proofs.Notes.{at_length}
+use Rattle.seat_programs.specs.Rounds.{first_step}
 
 -- ## Where a link lies that is finished
 
@@ -104,7 +104,7 @@ module _ (m : MachineState) (letters : length m.letters ≡ m.plan.requests) (fe
 
 -- a tick in which no link answered that it is closed
 pub one_closes : (p : Plan) (c : Core) (m : Moment) → taken m.answer ≢ core.some Closed → ClosesInTime p c (m ∷ [])
-one_closes p c m differ = (λ seat at. not_closed p c m.answer (first_of seat.program) differ, tt)
+one_closes p c m differ = (λ seat at. not_closed p c m.answer (first_step seat.program) differ, tt)
 
 -- no client takes bytes of a link
 asks_none : (answer other : Answer) → answer ≡ other → taken other ≡ core.none → taken answer ≢ core.some Closed
@@ -258,8 +258,8 @@ module _ (old fresh : MachineState) (n : ℕ) (reader reader' : ReaderData) wher
       program = reader_program old.calls reader
 
       -- the one seat whose tick it is
-      at_own : (answer : Answer) → ClosesAt old.plan before answer (first_of program) → ClosesInTime old.plan before (record { seat = i; answer = answer } ∷ [])
-      at_own answer closes = (λ seat there. subst (λ (s : SeatState). ClosesAt old.plan before answer (first_of s.program)) (core.some-injective _ seat (sym (read_at old took n reader few at) ∙ there)) closes, tt)
+      at_own : (answer : Answer) → ClosesAt old.plan before answer (first_step program) → ClosesInTime old.plan before (record { seat = i; answer = answer } ∷ [])
+      at_own answer closes = (λ seat there. subst (λ (s : SeatState). ClosesAt old.plan before answer (first_step s.program)) (core.some-injective _ seat (sym (read_at old took n reader few at) ∙ there)) closes, tt)
 
       closes_asides : (step : asides.Step) (answer : Answer) → MadeRead (table_of old) (table_of fresh) i reader reader' (OfAside step) answer → ClosesInTime old.plan before (record { seat = i; answer = answer } ∷ [])
       closes_asides (asides.TakeBytes k room) answer w = let t = w.2 in let f = t.from in at_own answer (subst (ClosesAt old.plan before answer) (sym t.is)

@@ -16,7 +16,6 @@ use Rattle.sock_io.specs.Link.{OutState, more_told}
 use Rattle.machine_model.specs.run_theorems.specs.Answers.{said_at}
 use Rattle.machine_model.specs.run_theorems.specs.Heard.{as_told, as_taken, answer_of, take_answers, taken_link, heard_at, heard_in, taken_at, taken_in}
 use Rattle.machine_model.specs.run_theorems.proofs.HeardRuns.{told_append, taken_append, heard_on, taken_on}
-use Rattle.machine_model.specs.id_runs.specs.Goes.{first_of}
 use Rattle.machine_model.specs.run_theorems.specs.call_owing.specs.Lives.{ClosesAt, ClosesInTime}
 use Rattle.machine_model.specs.run_theorems.specs.Offered.{OffersAt, AreOffered}
 use Rattle.seat_programs.specs.Asides.{TakeBytes, Taking, Bytes, Nothing, NoMore, AtEnd, Closed, Broken}
@@ -32,6 +31,7 @@ use Rattle.reader_seats.specs.Readers.{ReaderData, reader_program}
 use Rattle.machine_model.specs.Machines.{MachineState, READERS, machine_sizes, between, resting, clients_with, readers_with, seats_with, core_with}
 use Rattle.machine_model.specs.Runs.{SameLink, SameTable, SameLinks, ShowFaults, LinksTell, TakesTell, ShowsTaking, ShowTakings, LinksShow, Follows, Made, Ticked, Ran, RanWith}
 use Rattle.machine_model.proofs.Same.{stood_before, same_table_none, same_table_join, same_links_none, same_links_join}
+use Rattle.seat_programs.specs.Rounds.{first_step}
 
 -- ## Links that failed
 
@@ -204,7 +204,7 @@ not_closed p c answer _ differ = tt
 
 pub quiet_closes : (p : Plan) (c : Core) (n i : ℕ) → ClosesInTime p c (replicate n (quiet i))
 quiet_closes p c zero i = tt
-quiet_closes p c (suc n) i = (λ seat at. not_closed p c Unasked (first_of seat.program) (λ e. cc), quiet_closes p (ticked p c (quiet i)) n i)
+quiet_closes p c (suc n) i = (λ seat at. not_closed p c Unasked (first_step seat.program) (λ e. cc), quiet_closes p (ticked p c (quiet i)) n i)
 
 -- no take was answered
 pub not_offered : (p : Plan) (k : ℕ) (serve : std.Bool) (end : std.Option ℕ) (c : Core) (answer : Answer) (program : Program) → taken answer ≡ none → OffersAt p k serve end c answer program
@@ -213,7 +213,7 @@ not_offered p k serve end c answer _ none_ = tt
 
 pub quiet_offers : (p : Plan) (k : ℕ) (serve : std.Bool) (end : std.Option ℕ) (c : Core) (n i : ℕ) → AreOffered p k serve end c (replicate n (quiet i))
 quiet_offers p k serve end c zero i = tt
-quiet_offers p k serve end c (suc n) i = (λ seat at. not_offered p k serve end c Unasked (first_of seat.program) refl, quiet_offers p k serve end (ticked p c (quiet i)) n i)
+quiet_offers p k serve end c (suc n) i = (λ seat at. not_offered p k serve end c Unasked (first_step seat.program) refl, quiet_offers p k serve end (ticked p c (quiet i)) n i)
 
 pub offers_append : (p : Plan) (k : ℕ) (serve : std.Bool) (end : std.Option ℕ) (c : Core) (xs ys : List Moment) → AreOffered p k serve end c xs → AreOffered p k serve end (run p c xs) ys → AreOffered p k serve end c (xs ++ ys)
 offers_append p k serve end c [] ys first second = second

@@ -17,7 +17,6 @@ use Rattle.seat_programs.specs.Calls as calls
 use Rattle.seat_programs.specs.Programs.{Program}
 use Rattle.seat_programs.specs.Cores.{Core, SeatState}
 use Rattle.seat_programs.specs.Ticks.{Answer, Unasked, OfPut, OfReady, Moment, taken}
-use Rattle.machine_model.specs.id_runs.specs.Goes.{first_of}
 use Rattle.machine_model.specs.run_theorems.specs.Offered.{GaveSo, OffersAt, AreOffered}
 use Rattle.seat_states.specs.declared.point.Step.{Step}
 use Rattle.seat_states.specs.Steps.{First, OfCall, OfAside, OfMessage, OfLink, OfHome}
@@ -27,12 +26,14 @@ use Rattle.client_seats.specs.Seats.{SeatData}
 use Rattle.machine_model.specs.Links.{LinksData, Taken, Given, Agrees, AgreesGave, IsOffering}
 use Rattle.machine_model.specs.Machines.{MachineState, KeepsClosed, READERS, table_of, core_with}
 use Rattle.machine_model.specs.Steps.{OutsAfter, MadeFirst}
-use Rattle.machine_model.specs.Reading.{OffersOn, TakenFrom, MadeRead, given_in}
+use Rattle.machine_model.specs.Reading.{OffersOn, TakenFrom, MadeRead}
 use Rattle.machine_ticks.proofs.Closings.{taken_there}
 use Rattle.machine_ticks.proofs.Joining.{not_offered}
 use Rattle.machine_rules.proofs.ReadTicks.{given_at}
 use Rattle.machine_rules.proofs.Seatings.{read_at}
 use Rattle.corr_core.proofs.Notes.{at_length}
+use Rattle.seat_programs.specs.Rounds.{first_step}
+use Rattle.machine_model.specs.run_theorems.specs.Heard.{bytes_found}
 
 -- ## A call of a writing half
 
@@ -91,7 +92,7 @@ module _ (l l' : LinksData) (k : ℕ) (serve : Bool) (end : Option ℕ) (h : IsO
 
 -- no link was asked for bytes
 one_offers : (p : Plan) (k : ℕ) (serve : Bool) (end : Option ℕ) (c : Core) (m : Moment) (other : Answer) → m.answer ≡ other → taken other ≡ core.none → AreOffered p k serve end c (m ∷ [])
-one_offers p k serve end c m other e none_ = (λ seat at. not_offered p k serve end c m.answer (first_of seat.program) (ap taken e ∙ none_), tt)
+one_offers p k serve end c m other e none_ = (λ seat at. not_offered p k serve end c m.answer (first_step seat.program) (ap taken e ∙ none_), tt)
 
 module _ (old fresh : MachineState) (i : ℕ) (place seat' : SeatData) (step : Step) where
   module _ (p : Plan) (k : ℕ) (serve : Bool) (end : Option ℕ) (c : Core) where
@@ -132,8 +133,8 @@ module _ (old fresh : MachineState) (x room : ℕ) (taking : Taking) (f : TakenF
         took = h.took;
         took_is = h.took_is;
         tells = record {
-          gave = h.gave ++ given_in taking;
-          gave_is = f.bytes ∙ ap (λ (b : Option (List ℕ)). append_known b (given_in taking)) (ap (λ (i : InState). i.gave_bytes) (sym on.0) ∙ h.gave_is);
+          gave = h.gave ++ bytes_found taking;
+          gave_is = f.bytes ∙ ap (λ (b : Option (List ℕ)). append_known b (bytes_found taking)) (ap (λ (i : InState). i.gave_bytes) (sym on.0) ∙ h.gave_is);
           offer = on.1.offer;
           offer_is = on.1.is;
           serves = on.1.serve ∙ h.serves;
@@ -182,8 +183,8 @@ module _ (old fresh : MachineState) (n : ℕ) (reader reader' : ReaderData) (k :
         (took_offers old fresh x room taking f k serve end h (sym same)).1.all)))
 
     -- the one seat whose tick it is
-    at_own : (answer : Answer) → OffersAt old.plan k serve end before answer (first_of program) → AreOffered old.plan k serve end before (record { seat = i; answer = answer } ∷ [])
-    at_own answer offers = (λ seat there. subst (λ (s : SeatState). OffersAt old.plan k serve end before answer (first_of s.program)) (core.some-injective _ seat (sym (read_at old took n reader few at) ∙ there)) offers, tt)
+    at_own : (answer : Answer) → OffersAt old.plan k serve end before answer (first_step program) → AreOffered old.plan k serve end before (record { seat = i; answer = answer } ∷ [])
+    at_own answer offers = (λ seat there. subst (λ (s : SeatState). OffersAt old.plan k serve end before answer (first_step s.program)) (core.some-injective _ seat (sym (read_at old took n reader few at) ∙ there)) offers, tt)
 
     offers_asides : (step : asides.Step) (answer : Answer) → MadeRead (table_of old) (table_of fresh) i reader reader' (OfAside step) answer → AreOffered old.plan k serve end before (record { seat = i; answer = answer } ∷ [])
     offers_asides (asides.TakeBytes x room) answer w = at_own answer (subst (OffersAt old.plan k serve end before answer) (sym w.2.is)

@@ -17,7 +17,6 @@ use Rattle.served_runs.specs.Below.programs_allowed.specs.program_steps.specs.So
 use Rattle.served_runs.specs.Below.programs_allowed.specs.sock_runs.proofs.LinkTicks.{RetriesGo}
 use Rattle.served_runs.specs.Below.programs_allowed.specs.sock_runs.proofs.Ticks.{sound_ticks}
 use Rattle.served_runs.specs.Below.programs_allowed.specs.program_walks.proofs.Whole.{closing_of, views_played, views_closed, set_up_answered, end_answered, set_up_sound, closing_sound, closed_sound}
-use Rattle.served_runs.specs.Below.id_runs.specs.Goes as goes
 use Rattle.served_runs.specs.Below.joint_runs.proofs.Runs.{AreMade, first_views}
 use Rattle.served_runs.specs.Below.call_owing.specs.Lives.{IsFinished, ClosesAt, ClosesInTime, ClosesInRun}
 use Rattle.served_runs.specs.Below.owing_ticks.proofs.OwingRuns.{same_first}
@@ -29,6 +28,7 @@ use Rattle.served_runs.specs.Below.accept_counts.proofs.Early.{start, go, fittin
 use Rattle.served_runs.specs.Below.call_stories.proofs.RunTicks.{in_setup, in_clients, in_closing}
 use Rattle.served_runs.specs.Offered.{TookSoFar, IsDone, IsOfferedSo, OffersAt, AreOffered, OffersInRun}
 use Rattle.offered_runs.proofs.Once.{IsOnce, one_link, once_tick, once_along, once_opened, once_ending}
+use Rattle.seat_programs.specs.Rounds.{first_step}
 
 -- what a link took, and whether it is finished
 abbrev took_of : Home → List ℕ
@@ -75,7 +75,7 @@ module _ (script : List Item) where
   offered_along : RetriesGo (plan_of script) → (ms : List Moment) (c : Core) (vs : List View) → Sound (plan_of script) c vs → AreAnswered (plan_of script) c ms → AreFitting (plan_of script) c ms → AllOnce c → TellsAll c ms → ClosesInTime (plan_of script) c ms → AreOffered script c ms
   offered_along retries [] c vs sound answered fits once tells closes = tt
   offered_along retries (m ∷ ms) c vs sound answered fits once tells closes = (
-    λ seat at. subst (OffersAt script c m.answer) (same_first seat.program) (offered_at c m.answer once (goes.first_of seat.program) (λ k shape there. (tells k shape there).0 seat at) (closes.0 seat at)),
+    λ seat at. subst (OffersAt script c m.answer) (same_first seat.program) (offered_at c m.answer once (first_step seat.program) (λ k shape there. (tells k shape there).0 seat at) (closes.0 seat at)),
     offered_along retries ms (ticked (plan_of script) c m) (views_after (plan_of script) c vs m) (sound_ticks (plan_of script) retries c vs m sound answered.0 fits.0) answered.1 fits.1
         (λ k. once_tick (plan_of script) k retries c vs m sound answered.0 fits.0 (once k)) (λ k shape there. (tells k shape there).1) closes.1,
   )

@@ -9,7 +9,7 @@ use Rattle.sock_model.specs.declared.chain.Heading.{Heading}
 use Rattle.sock_model.specs.declared.chain.Entry as chain
 use Rattle.sock_model.specs.declared.view.View.{View}
 use Rattle.sock_model.specs.declared.view.Hand.{Hand}
-use Rattle.sock_model.specs.ChainRows.{with_claim, entry_of, more, queued, righted}
+use Rattle.sock_model.specs.ChainRows.{with_claim, entry_of, more, queued, righted, ready_claim, filled_claim}
 use Rattle.sock_model.specs.SlotRows.{met_link}
 use Rattle.sock_model.specs.Memory.{IDLE}
 use Rattle.seat_programs.specs.declared.task.Op.TheVariants as ops
@@ -18,8 +18,7 @@ use Rattle.seat_programs.specs.Calls.{Call, LoadName, ClaimRequest, PutMessage, 
 use Rattle.seat_programs.specs.Sends.{heading_of}
 use Rattle.seat_programs.specs.StepTables.{row}
 use Rattle.seat_programs.specs.StepViews.{by_claim}
-use Rattle.seat_programs.specs.StepsOfChain.{exchanged, new_claim, ready_claim}
-use Rattle.seat_programs.specs.StepsOfMessages.{filled_claim}
+use Rattle.seat_programs.specs.StepsOfChain.{exchanged, new_claim}
 use Rattle.seat_programs.specs.StepTables.{May}
 use Rattle.outcome_stories.specs.program_steps.proofs.Leaves.{lists_stay}
 use Rattle.outcome_stories.specs.Stories.{Entry, Event, In, trace_of}

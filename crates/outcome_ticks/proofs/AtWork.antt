@@ -18,12 +18,11 @@ use Rattle.seat_programs.specs.corr_core.specs.Decisions.{ends_call}
 use Rattle.seat_programs.specs.Asides.{PutCall}
 use Rattle.seat_programs.specs.Heads.{Head, Exit, HasEnded, Unlocks, Decides, Locks, Opens}
 use Rattle.seat_programs.specs.Posts.{end_id, unlocked}
-use Rattle.seat_programs.specs.Rounds.{round}
+use Rattle.seat_programs.specs.Rounds.{round, first_step}
 use Rattle.std.specs.Prelude.{Bool, true, false, if◌then◌else◌, ◌+◌}
 use Rattle.seat_programs.specs.Cores.{Core, SeatState}
 use Rattle.seat_programs.specs.Drops.{call_in, next_call, IsAt}
 use Rattle.seat_programs.specs.Told.{AreTasks}
-use Rattle.outcome_stories.specs.program_steps.specs.Sound.{first_step}
 use Rattle.outcome_stories.specs.Stories.{Entry, Event, In, trace_of}
 use Rattle.outcome_stories.specs.Explains.{Way, Own, IsLoopOf, Explains, Done, Explained, IsSend}
 use Rattle.outcome_stories.specs.Kept.{AreKept, SeatAt, undo}

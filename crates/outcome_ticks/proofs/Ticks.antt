@@ -50,7 +50,7 @@ use Rattle.seat_programs.specs.StepTables.{row, hand_at}
 use Rattle.seat_programs.specs.StepsOfMessages.{took_message}
 use Rattle.seat_programs.specs.StepsOfLinks.{link_away, link_home_again, took_bytes}
 use Rattle.seat_programs.specs.StepTables.{May}
-use Rattle.outcome_stories.specs.program_steps.specs.Sound.{state, Sound, first_step, views_after, is_begun}
+use Rattle.outcome_stories.specs.program_steps.specs.Sound.{state, Sound, views_after, is_begun}
 use Rattle.outcome_stories.specs.sock_runs.proofs.Along.{begins}
 use Rattle.outcome_stories.specs.program_steps.proofs.Cases.{with_rights, right_rights, put_rights, IsOfLoop, loop_begins, tick_cases}
 use Rattle.outcome_stories.specs.Stories.{Entry, Event, In, trace_of, told_of, stored_by, last_name, adds, marked}
@@ -75,6 +75,7 @@ use Rattle.outcome_ticks.proofs.Broken.{failed_more, good_more}
 use Rattle.outcome_ticks.proofs.Seats.{undo_in, length_said, said_else, after_say, given_more, seat_else, seat_moves, seat_ends, seat_closes, seat_beside, seat_step}
 use Rattle.outcome_ticks.proofs.Accepting.{IsNoSwap, row_lists, claims_row, ends_still, ends_swap, beside_swap}
 use Rattle.outcome_ticks.proofs.Tasks.{sorted_of, fits_of, numbers_differ, same_some}
+use Rattle.seat_programs.specs.Rounds.{first_step}
 
 -- ## Steps that leave the story as it is
 

@@ -30,7 +30,6 @@ use Rattle.owned_ids.specs.Below.programs_allowed.specs.sock_runs.proofs.LinkTic
 use Rattle.owned_ids.specs.Below.programs_allowed.specs.sock_runs.proofs.Along.{seat_rests}
 use Rattle.owned_ids.specs.Below.programs_allowed.specs.sock_runs.proofs.Quiets.{run_seats, run_rests}
 use Rattle.owned_ids.specs.Below.programs_allowed.specs.program_walks.proofs.ThroughCalls.{through_next}
-use Rattle.owned_ids.specs.Below.id_runs.specs.Goes as goes
 use Rattle.owned_ids.specs.Below.programs_allowed.specs.program_walks.proofs.WillStore.{WillStore, IsToStore, will_passes, will_follow, will_client, run_stores, rested_stored}
 use Rattle.owned_ids.specs.Below.programs_allowed.specs.program_walks.proofs.LinksOpening.{OpensLink}
 use Rattle.owned_ids.specs.Below.programs_allowed.specs.program_walks.proofs.Whole.{AreFittingIn, Begins, IsOwed, IsListed, views_closed, set_up_answered, end_answered, set_up_sound, closing_sound, closed_sound, views_played, rested_ahead, rested_idle, ended_idle, end_rests}
@@ -57,6 +56,7 @@ use Rattle.owed_calls.proofs.Saying.{says_along}
 use Rattle.owed_calls.proofs.Owed.{IsKnown, IsAtEnd, tasks_own, opened_seats}
 use Rattle.owed_calls.proofs.Owed as owed
 use Rattle.seat_programs.specs.brpc_model.specs.Order.{EachBefore}
+use Rattle.seat_programs.specs.Rounds.{first_step}
 
 -- ## Scripts
 
@@ -104,7 +104,7 @@ quiet_at p c program = tt
 
 pub quiet_closes : (p : Plan) (c : Core) (n : ℕ) → ClosesInTime p c (replicate n (quiet 0))
 quiet_closes p c zero = tt
-quiet_closes p c (suc n) = ((λ seat at. quiet_at p c (goes.first_of seat.program)), quiet_closes p (ticked p c (quiet 0)) n)
+quiet_closes p c (suc n) = ((λ seat at. quiet_at p c (first_step seat.program)), quiet_closes p (ticked p c (quiet 0)) n)
 
 module _ (script : List Item) (made : AreMade script) (turns : List Turn) (core : Core) (is : IsRunWithCalls script turns core) where
   abbrev p : Plan

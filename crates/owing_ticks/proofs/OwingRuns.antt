@@ -20,7 +20,7 @@ use Rattle.seat_programs.specs.StepTables.{word_of}
 use Rattle.seat_programs.specs.Ticks.{Answer, Moment, ticked, run, AreAnswered}
 use Rattle.seat_programs.specs.StepTables.{May}
 use Rattle.call_owing.specs.Below.programs_allowed.specs.program_steps.specs.GoesOn.{GoesOn}
-use Rattle.call_owing.specs.Below.programs_allowed.specs.program_steps.specs.Sound.{state, Sound, AreFitting, first_step, views_after, views_along}
+use Rattle.call_owing.specs.Below.programs_allowed.specs.program_steps.specs.Sound.{state, Sound, AreFitting, views_after, views_along}
 use Rattle.call_owing.specs.Below.programs_allowed.specs.program_steps.proofs.Cases.{goes_first, elem_there}
 use Rattle.call_owing.specs.Below.programs_allowed.specs.sock_runs.proofs.LinkTicks.{RetriesGo}
 use Rattle.call_owing.specs.Below.programs_allowed.specs.sock_runs.proofs.Ticks.{sound_ticks}
@@ -31,7 +31,6 @@ use Rattle.call_owing.specs.Below.programs_allowed.specs.program_walks.proofs.Re
 use Rattle.call_owing.specs.Below.programs_allowed.specs.program_walks.proofs.ReaderSeats.{AtReader, run_reader, loads_own, steps_behind}
 use Rattle.call_owing.specs.Below.programs_allowed.specs.program_walks.proofs.OpensStay.{run_word}
 use Rattle.call_owing.specs.Below.programs_allowed.specs.sock_runs.proofs.LinksStay.{IsGiven, run_given, finds_given}
-use Rattle.call_owing.specs.Below.id_runs.specs.Goes as goes
 use Rattle.call_owing.specs.Below.id_runs.specs.Goes.{SoundIds}
 use Rattle.call_owing.specs.Below.id_runs.specs.Held.{IdView}
 use Rattle.call_owing.specs.Owing.{Owing, FindsCall, IsLifeOf}
@@ -40,6 +39,7 @@ use Rattle.call_owing.specs.Fits.{StepFits}
 use Rattle.call_owing.specs.Lives.{id_of, life_of, OthersFit, IsSaying, AreSaying}
 use Rattle.owing_ticks.proofs.LivesFit.{holds_links, lives_fit}
 use Rattle.owing_ticks.proofs.OwingTicks.{owing_ticks}
+use Rattle.seat_programs.specs.Rounds.{first_step}
 
 -- ## Small facts
 
@@ -48,7 +48,7 @@ at_some [] k low = absurd (let z : ⊥ = omega (arith, low) in z)
 at_some (x ∷ xs) zero low = (x, refl)
 at_some (x ∷ xs) (suc k) low = at_some xs k (omega (arith, low))
 
-pub same_first : (program : Program) → goes.first_of program ≡ first_step program
+pub same_first : (program : Program) → first_step program ≡ first_step program
 same_first (Write w after) = refl
 same_first _ = refl
 
@@ -122,7 +122,7 @@ module _ (p : Plan) (q : IdPlan) (narrow : q.slots ≤ 65536) (same : q.operatio
     by_program answer (Aside step next) is g f = by_aside answer step next f
     by_program answer program is g f = tt
 
-    fits_step : (answer : Answer) → OthersFit q life calls c u answer (goes.first_of seat.program) → StepFits p q life calls c seat u answer (goes.first_of seat.program)
+    fits_step : (answer : Answer) → OthersFit q life calls c u answer (first_step seat.program) → StepFits p q life calls c seat u answer (first_step seat.program)
     fits_step answer f = subst (StepFits p q life calls c seat u answer) (sym (same_first seat.program)) (by_program answer (first_step seat.program) refl
         (goes_first p v seat.program (sound.seats i seat v at_seat at_view).goes_on) (subst (OthersFit q life calls c u answer) (same_first seat.program) f))
 

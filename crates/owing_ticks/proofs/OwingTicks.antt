@@ -23,13 +23,12 @@ use Rattle.seat_programs.specs.Asides.{Step, Found, ClaimId, PutCall, MakeId, St
 use Rattle.seat_programs.specs.Programs.{Program, Do, TakeMessage, TakeHome, PutHome, PutBytes, AskReady, Write, Aside, Round}
 use Rattle.seat_programs.specs.Posts.{advance_of}
 use Rattle.seat_programs.specs.Sends.{block}
-use Rattle.seat_programs.specs.Rounds.{round}
+use Rattle.seat_programs.specs.Rounds.{round, first_step}
 use Rattle.seat_programs.specs.Cores.{Calls, Core, SeatState, homes_after, lies_at, first_of, others_of, link_place, waiting_at, with_seat, stepped}
 use Rattle.seat_programs.specs.Beside.{taking_in, at_last, more_given, found_in, calls_after}
 use Rattle.seat_programs.specs.Ticks.{Answer, OfPut, OfReady, Moment, fed, with_places, onto_first, taken, with_message, with_link, with_put, with_ready, with_found, step_with, tick_with, ticked}
 use Rattle.call_owing.specs.Below.id_runs.specs.Held.{IdView, MayId}
 use Rattle.call_owing.specs.Below.id_runs.specs.Goes.{FindsId, IdGoesOn, SoundIds}
-use Rattle.call_owing.specs.Below.id_runs.specs.Goes as goes
 use Rattle.call_owing.specs.Below.id_runs.proofs.Steps.{finds_ids}
 use Rattle.call_owing.specs.Below.id_runs.proofs.Loops.{ids_round}
 use Rattle.call_owing.specs.Below.id_runs.proofs.Programs as idprograms
@@ -241,7 +240,7 @@ module _ (p : Plan) (q : IdPlan) (narrow : q.slots ≤ 65536) (same : q.operatio
     first_step answer (Aside step next) g go fits = on_aside step next answer g go.0 fits (found_in step c.calls (taken answer)) refl
     first_step answer _ g go fits = before
 
-    any_step : (answer : Answer) (program : Program) → OwesOn life u program → IdGoesOn p q w program → StepFits p q life calls c seat u answer (goes.first_of program) → Owed' (tick_with p i seat c answer program)
+    any_step : (answer : Answer) (program : Program) → OwesOn life u program → IdGoesOn p q w program → StepFits p q life calls c seat u answer (first_step program) → Owed' (tick_with p i seat c answer program)
     any_step answer (Write x after) g go fits = first_step answer (block x after) (block_goes life u x after g) (idprograms.block_goes p q narrow w x after go) fits
     any_step answer (Round head next) g go fits = first_step answer (round head next) (owes_round life u head next g) (ids_round p q w head next go) fits
     any_step answer (Do call next) g go fits = first_step answer (Do call next) g go fits

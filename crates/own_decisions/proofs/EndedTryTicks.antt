@@ -26,7 +26,7 @@ use Rattle.seat_programs.specs.Programs.{Program, Do, Say, Sent, Rest, TakeMessa
 use Rattle.seat_programs.specs.Cores.{Calls, Core, SeatState, found_at, words_after, homes_after, hand_after, lies_at, first_of, others_of, link_place, resolved, still_waiting, waiting_at, next_step, with_seat}
 use Rattle.seat_programs.specs.StepTables.{word_of, word_after}
 use Rattle.seat_programs.specs.Ticks.{Moment, IsAnswered, fed, with_places, onto_first, taken, step_with, tick_with, ticked}
-use Rattle.sent_once.specs.Below.programs_allowed.specs.program_steps.specs.Sound.{Sound, first_step}
+use Rattle.sent_once.specs.Below.programs_allowed.specs.program_steps.specs.Sound.{Sound}
 use Rattle.sent_once.specs.Below.programs_allowed.specs.program_steps.proofs.Cases.{tick_cases, ticks_first, calls_waiting}
 use Rattle.sent_once.specs.Below.outcome_stories.specs.Stories.{In}
 use Rattle.sent_once.specs.Below.label_runs.specs.Labels.{Trial, Idle, Tries, put_behind, Kept, Storing, unlocked_trial, Labels}
@@ -39,6 +39,7 @@ use Rattle.sent_once.specs.Below.story_ticks.proofs.Chains.{AreFewTries as AreTr
 use Rattle.sent_once.specs.Below.label_runs.proofs.Programs.{retry_goes}
 use Rattle.sent_once.specs.accept_counts.proofs.SeatFacts.{seat_facts}
 use Rattle.own_decisions.proofs.OwnDecisionsTicks.{pair_self}
+use Rattle.seat_programs.specs.Rounds.{first_step}
 
 -- ## Attempts that are tried
 

@@ -24,7 +24,7 @@ use Rattle.sent_once.specs.Below.call_owing.specs.Lives.{ClosesInRun}
 use Rattle.sent_once.specs.Below.call_stories.specs.Decided.{posted_by, Decision, decided_by}
 use Rattle.sent_once.specs.Below.call_stories.specs.Lists.{advanced_at, given, shows_in, shows_in_run}
 use Rattle.sent_once.specs.Below.call_stories.specs.Posts.{Post, posted_at}
-use Rattle.sent_once.specs.Below.call_stories.specs.Scenes.{In, LeadsTo}
+use Rattle.sent_once.specs.Below.call_stories.specs.Scenes.{LeadsTo}
 use Rattle.sent_once.specs.Below.story_ticks.proofs.Claiming.{HaveSlots}
 use Rattle.sent_once.specs.Below.story_steps.proofs.Numbered.{AreNumbered}
 use Rattle.sent_once.specs.Below.story_ticks.proofs.Opening.{Begins}
@@ -40,6 +40,7 @@ use Rattle.sent_once.specs.Below.story_steps.proofs.Attempts.{in_front as in_lef
 use Rattle.sent_once.specs.Below.call_causes.proofs.Run.{in_either}
 use Rattle.own_decisions.proofs.OwnDecisionsStands.{Stand, Calm}
 use Rattle.own_decisions.proofs.OwnDecisionsTicks.{AimLaw, law_more, restarts}
+use Rattle.sent_once.specs.Below.outcome_stories.specs.Stories.{In}
 
 module _ (script : List Item) (made : AreMade script) (there : AreThere script) (range : AllByRecursion InRange script) (turns : List Turn) (core : Core) (is : IsRunWithCalls script turns core) (closes : ClosesInRun script turns core is) where
   leads : LeadsTo (plan_of script) (id_plan_of script) (all_tasks script) (given core) core

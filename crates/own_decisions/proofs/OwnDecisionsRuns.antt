@@ -34,7 +34,7 @@ use Rattle.sent_once.specs.Below.call_stories.specs.Decided.{posted_by, Decision
 use Rattle.sent_once.specs.Below.call_stories.specs.Lists.{times, shows_in, advanced_at}
 use Rattle.sent_once.specs.Below.call_stories.specs.Posts.{Post, posted_at}
 use Rattle.sent_once.specs.Below.call_stories.specs.Says.{Mark}
-use Rattle.sent_once.specs.Below.call_stories.specs.Scenes.{Birth, Scene, In, LeadsTo, CauseOf, of_expiry, of_other}
+use Rattle.sent_once.specs.Below.call_stories.specs.Scenes.{Birth, Scene, LeadsTo, CauseOf, of_expiry, of_other}
 use Rattle.sent_once.specs.Below.call_stories.specs.Stories.{IsCurrent, CallStory}
 use Rattle.sent_once.specs.Below.story_ticks.proofs.Claiming.{HaveSlots}
 use Rattle.sent_once.specs.Below.call_stories.proofs.Leading.{run_leads}
@@ -48,6 +48,7 @@ use Rattle.own_decisions.proofs.OwnDecisionsStands.{Stand, Calm, Aims}
 use Rattle.own_decisions.proofs.OwnDecisionsTicks.{of_stand, IsPast, StandFits, HeadFits, AimLaw, QueuedAt, AreQueued, law_more, aim_ticks, decided_own}
 use Rattle.sent_once.specs.Below.story_steps.proofs.Attempts.{in_front}
 use Rattle.sent_once.specs.accept_counts.proofs.Runs.{none_waits}
+use Rattle.sent_once.specs.Below.outcome_stories.specs.Stories.{In}
 
 -- ## Lists
 

@@ -10,10 +10,10 @@ use Rattle.sent_once.specs.Below.id_runs.specs.Goes.{FitsSock}
 use Rattle.seat_programs.specs.Asides.{Step, Found, MakeId, StoreAt, LoadAt, PostId, UnlockId}
 use Rattle.seat_programs.specs.Calls.{Call, PutMessage}
 use Rattle.seat_programs.specs.Heads.{Head, Exit, Posts, Unlocks, Decides, Locks, Posting, HasLocked, Unlocking, Locking, NotThere, Has}
-use Rattle.seat_programs.specs.Posts.{advance_of, is_stale}
+use Rattle.seat_programs.specs.Posts.{advance_of, is_stale, IsSoughtWord}
 use Rattle.seat_programs.specs.Writings.{Writing, Puts, Waits}
 use Rattle.seat_programs.specs.Programs.{Program, Do, Say, Sent, Rest, TakeMessage, TakeHome, PutHome, PutBytes, AskReady, Write, Aside, Round, Keep, Retries}
-use Rattle.sent_once.specs.Below.label_runs.specs.Labels.{IsSoughtWord, LeavesNext, LeavesBy}
+use Rattle.sent_once.specs.Below.label_runs.specs.Labels.{LeavesNext, LeavesBy}
 
 -- a seat tries attempt n of the call with this id; nobody tries it any more; or it posted this error to the id, which it locked by that
 pub data Stand : Type 0 where

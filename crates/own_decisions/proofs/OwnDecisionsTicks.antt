@@ -25,7 +25,6 @@ use Rattle.corr_core.specs.Decisions.{WHOLE}
 use Rattle.seat_programs.specs.id_rule.specs.Lawful.{all_words, tag_index, id_index, call_index, at_index}
 use Rattle.sent_once.specs.Below.id_runs.specs.Held.{IdView, MayId}
 use Rattle.sent_once.specs.Below.id_runs.specs.Goes.{FitsFirst, FindsId, FitsRetryId, IdGoesOn, SoundIds, IsFittingIds}
-use Rattle.sent_once.specs.Below.id_runs.specs.Goes as goes
 use Rattle.sent_once.specs.Below.id_runs.proofs.Steps.{finds_ids}
 use Rattle.seat_programs.specs.Asides.{Step, Found, ClaimId, PutCall, MakeId, StoreCall, LoadCall, StoreAt, LoadAt, LoadIdWord, LockId, PostId, UnlockId, EndId, FreeId, TakeCall, TakeBytes, Taking, Bytes}
 use Rattle.seat_programs.specs.Beside.{found_in, calls_after}
@@ -36,11 +35,9 @@ use Rattle.seat_programs.specs.Programs.{Program, Do, Say, Sent, TakeMessage, Ta
 use Rattle.seat_programs.specs.Cores.{Calls, Core, SeatState, found_at, words_after, homes_after, hand_after, lies_at, first_of, others_of, link_place, resolved, still_waiting, waiting_at, next_step, with_seat}
 use Rattle.seat_programs.specs.StepTables.{word_of, word_after}
 use Rattle.seat_programs.specs.Ticks.{Answer, OfPut, OfReady, Moment, fed, with_places, onto_first, taken, with_message, with_link, with_put, with_ready, with_found, step_with, tick_with, ticked}
-use Rattle.sent_once.specs.Below.programs_allowed.specs.program_steps.specs.Sound.{first_step}
 use Rattle.sent_once.specs.Below.programs_allowed.specs.program_steps.proofs.Cases.{elem_there, ticks_first, calls_waiting}
 use Rattle.sent_once.specs.Below.call_stories.specs.Decided.{posted_by, Decision, decision_in, decided_at}
 use Rattle.sent_once.specs.Below.call_stories.specs.Posts.{Post, posts_by, posted_with, posted_at}
-use Rattle.sent_once.specs.Below.call_stories.specs.Scenes.{In}
 use Rattle.sent_once.specs.Below.owing_ticks.proofs.OwingTicks.{message_there}
 use Rattle.sent_once.specs.accept_counts.specs.Counts.{pair_of, of_retry, with_waiting, word_of_id, WasMade, WasNow}
 use Rattle.sent_once.specs.accept_counts.proofs.Words.{made_on, finds_label, words_forward, makes_new, advances_new}
@@ -54,6 +51,8 @@ use Rattle.own_decisions.proofs.OwnDecisionsStands.{Stand, Calm, Trying, Past, P
 use Rattle.own_decisions.proofs.OwnDecisionsLoops.{aims_round}
 use Rattle.own_decisions.proofs.OwnDecisionsPrograms.{block_goes, retry_goes}
 use Rattle.sent_once.specs.Below.owing_ticks.proofs.OwingRuns.{same_first}
+use Rattle.seat_programs.specs.Rounds.{first_step}
+use Rattle.sent_once.specs.Below.outcome_stories.specs.Stories.{In}
 
 -- ## Attempts that are tried
 
@@ -627,7 +626,7 @@ module _ (p : Plan) (q : IdPlan) (narrow : q.slots ≤ 65536) (Taken : Post → 
       shown = posted_with c.calls (taken m.answer) (first_step seat.program)
 
       is_shown : posted_at c m ≡ posted_with c.calls (taken m.answer) (first_step seat.program)
-      is_shown = ap (λ x. elim x as (λ o. List Post) [ none ↦ [] | some seat ↦ posted_with c.calls (taken m.answer) (goes.first_of seat.program) ]) at ∙ ap (posted_with c.calls (taken m.answer)) (same_first seat.program)
+      is_shown = ap (λ x. elim x as (λ o. List Post) [ none ↦ [] | some seat ↦ posted_with c.calls (taken m.answer) (first_step seat.program) ]) at ∙ ap (posted_with c.calls (taken m.answer)) (same_first seat.program)
 
       mine_shown : (j : ℕ) (x : Post) → (j ≡ m.seat) × In x (posted_with c.calls (taken m.answer) (first_step seat.program)) → In x (posted_by j c m)
       mine_shown j x there = subst (λ b. In x (cond b (posted_at c m) [])) (sym (eq-eqb m.seat j (sym there.0))) (subst (In x) (sym is_shown) there.1)
@@ -635,7 +634,7 @@ module _ (p : Plan) (q : IdPlan) (narrow : q.slots ≤ 65536) (Taken : Post → 
       after : ticked p c m ≡ step_with p m.seat seat c m.answer (first_step seat.program)
       after = ap (λ x. elim x as (λ x. Core) [ none ↦ c | some s ↦ tick_with p m.seat s c m.answer s.program ]) at ∙ ticks_first p m.seat seat c m.answer seat.program
 
-      by_seat : AreQueued q Taken c → FitsFirst p c (goes.first_of seat.program) → After (ticked p c m)
+      by_seat : AreQueued q Taken c → FitsFirst p c (first_step seat.program) → After (ticked p c m)
       by_seat known fits =
           let s = elem_there c.seats ss m.seat seat law.each at in let u = elem_there c.seats us m.seat seat ids.each at in
           let r = steps m.seat seat s.0 at s.1 u.0 u.1 known m.answer (first_step seat.program) (aims_first s.0 seat.program (law.programs m.seat seat s.0 at s.1)) (ids_first p q narrow u.0 seat.program (ids.seats m.seat seat u.0 at u.1))
@@ -667,7 +666,7 @@ module _ (p : Plan) (q : IdPlan) (narrow : q.slots ≤ 65536) (Taken : Post → 
         by none e = subst After (sym (ap (λ x. elim x as (λ x. Core) [ none ↦ c | some s ↦ tick_with p m.seat s c m.answer s.program ]) e)) (
           ss,
           law_more q Taken (λ x. Taken x ⊎ In x (posted_at c m)) Mine (λ j x. Mine j x ⊎ In x (posted_by j c m)) c ss
-              (λ x there. ⊎_elim (λ old. old) (λ now. absurd (subst (In x) (ap (λ x. elim x as (λ o. List Post) [ none ↦ [] | some seat ↦ posted_with c.calls (taken m.answer) (goes.first_of seat.program) ]) e) now)) there) (λ j x mine. inl mine) law,
+              (λ x there. ⊎_elim (λ old. old) (λ now. absurd (subst (In x) (ap (λ x. elim x as (λ o. List Post) [ none ↦ [] | some seat ↦ posted_with c.calls (taken m.answer) (first_step seat.program) ]) e) now)) there) (λ j x mine. inl mine) law,
         )
         by (some seat) e = by_seat seat e known (fits seat e)
 

@@ -28,7 +28,6 @@ use Rattle.seat_programs.specs.Scripts.{sizes_of, programs, readers_from, all_pr
 use Rattle.call_owing.specs.Below.programs_allowed.specs.program_walks.proofs.Opening.{mapped, appended, or_cases, second_true}
 use Rattle.call_owing.specs.Below.id_runs.specs.Held.{IdView}
 use Rattle.call_owing.specs.Below.id_runs.specs.Goes.{IdGoesOn, SoundIds}
-use Rattle.call_owing.specs.Below.id_runs.specs.Goes as goes
 use Rattle.call_owing.specs.Below.id_runs.proofs.Loops.{ids_round}
 use Rattle.call_owing.specs.Below.id_runs.proofs.Programs as idprograms
 use Rattle.call_owing.specs.Below.id_runs.proofs.Opening.{unused}
@@ -47,25 +46,26 @@ use Rattle.owned_ids.proofs.OwnsSends.{block_goes}
 use Rattle.owned_ids.proofs.OwnsCalls.{CallsOwn, is_calling, calls_in, client_goes, reader_goes, ending_goes}
 use Rattle.owned_ids.proofs.OwnsTicks.{own_at, resolved_owns, true_of, true_on, on_sockets, owns_ticks}
 use Rattle.call_owing.specs.Below.id_runs.proofs.Loops.{and_left}
+use Rattle.seat_programs.specs.Rounds.{first_step}
 
 -- ## Along ticks
 
 -- the first step of a round
-owns_first : (has : ℕ → ℕ) (mine : ℕ → Bool) (b : Behind) (program : Program) → Owns has mine b program → (d : Behind) × Owns has mine d (goes.first_of program)
+owns_first : (has : ℕ → ℕ) (mine : ℕ → Bool) (b : Behind) (program : Program) → Owns has mine b program → (d : Behind) × Owns has mine d (first_step program)
 owns_first has mine b (Write w after) g = (Other, (block_goes has mine w after (record { goes = λ more h d. owns_any more mine d after (g more h) })).goes has (grows_same has) Other)
 owns_first has mine b (Round head next) g = (b, owns_round has mine b head next g)
 owns_first has mine b _ g = (b, g)
 
-ids_first : (p : Plan) (q : IdPlan) → q.slots ≤ 65536 → (u : IdView) (program : Program) → IdGoesOn p q u program → IdGoesOn p q u (goes.first_of program)
+ids_first : (p : Plan) (q : IdPlan) → q.slots ≤ 65536 → (u : IdView) (program : Program) → IdGoesOn p q u program → IdGoesOn p q u (first_step program)
 ids_first p q narrow u (Write w after) g = idprograms.block_goes p q narrow u w after g
 ids_first p q narrow u (Round head next) g = ids_round p q u head next g
 ids_first p q narrow u _ g = g
 
 module _ (p : Plan) (q : IdPlan) (narrow : q.slots ≤ 65536) (calls : List ℕ) where
   -- whoever stores an at word stores one of the id that it named
-  keeps_at : (c : Core) (ws : List IdView) → SoundIds p q c ws → (has : ℕ → ℕ) (left : ℕ → ℕ → Bool) → Owned q calls c has left → (j : ℕ) (seat : SeatState) → get_elem? c.seats j ≡ some seat → KeepsAt q calls c (goes.first_of seat.program)
+  keeps_at : (c : Core) (ws : List IdView) → SoundIds p q c ws → (has : ℕ → ℕ) (left : ℕ → ℕ → Bool) → Owned q calls c has left → (j : ℕ) (seat : SeatState) → get_elem? c.seats j ≡ some seat → KeepsAt q calls c (first_step seat.program)
   keeps_at c ws ids has left owned j seat at = let o = owned.seats j seat at in let f = owns_first has (left j) o.0 seat.program o.1 in let v = view_of c.seats ws j seat at ids.each in
-      by_program (goes.first_of seat.program) f.0 f.1 v.0 (ids_first p q narrow v.0 seat.program (ids.seats j seat v.0 at v.1))
+      by_program (first_step seat.program) f.0 f.1 v.0 (ids_first p q narrow v.0 seat.program (ids.seats j seat v.0 at v.1))
     where
       by_program : (program : Program) (b : Behind) → Owns has (left j) b program → (u : IdView) → IdGoesOn p q u program → KeepsAt q calls c program
       by_program (Aside (StoreAt o w) next) b g u go = let mine = own_at q narrow has (λ y z. (owned.inside y z).0) o w g.0 in

@@ -34,7 +34,7 @@ use Rattle.seat_programs.specs.Scripts.{sizes_of, beginning, programs, readers_f
 use Rattle.call_owing.proofs.EndsStill.{all_at}
 use Rattle.seat_programs.specs.StepTables.{row, hand_at}
 use Rattle.seat_programs.specs.StepTables.{May}
-use Rattle.call_owing.specs.Below.programs_allowed.specs.program_steps.specs.Sound.{state, Sound, first_step, IsFitting, AreFitting, views_after, views_along}
+use Rattle.call_owing.specs.Below.programs_allowed.specs.program_steps.specs.Sound.{state, Sound, IsFitting, AreFitting, views_after, views_along}
 use Rattle.call_owing.specs.Below.programs_allowed.specs.sock_runs.proofs.Notes.{bears}
 use Rattle.call_owing.specs.Below.programs_allowed.specs.sock_runs.proofs.LinkNotes.{links_stay}
 use Rattle.call_owing.specs.Below.programs_allowed.specs.sock_runs.proofs.LinksStay.{IsGiven}
@@ -49,6 +49,7 @@ use Rattle.call_owing.specs.Below.programs_allowed.specs.program_walks.proofs.Th
 use Rattle.call_owing.specs.Below.programs_allowed.specs.program_steps.proofs.Cases.{ComesNext, with_rights, tick_keeps_marks}
 use Rattle.call_owing.specs.Below.programs_allowed.specs.sock_runs.proofs.LinkTicks.{RetriesGo}
 use Rattle.call_owing.specs.Below.programs_allowed.specs.sock_runs.proofs.Ticks.{sound_ticks}
+use Rattle.seat_programs.specs.Rounds.{first_step}
 
 -- ## Programs
 

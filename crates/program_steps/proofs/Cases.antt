@@ -20,7 +20,7 @@ use Rattle.seat_programs.specs.Calls.{Call, LoadOpen}
 use Rattle.seat_programs.specs.Programs.{Program, Do, Say, Sent, Rest, TakeMessage, TakeHome, PutHome, PutBytes, AskReady, Write, Aside, Round, Keep, Retries}
 use Rattle.seat_programs.specs.Asides.{Step, Found}
 use Rattle.seat_programs.specs.Heads.{Head, Exit, Posts, Unlocks, Decides, Locks, Joins, Opens, Reads, Discards}
-use Rattle.seat_programs.specs.Rounds.{round}
+use Rattle.seat_programs.specs.Rounds.{round, first_step}
 use Rattle.seat_programs.specs.Beside.{found_in, more_given, calls_after}
 use Rattle.program_steps.specs.Fits.{FitsFound}
 use Rattle.seat_programs.specs.corr_core.specs.Word.{parts, code_of, id_slot}
@@ -37,7 +37,7 @@ use Rattle.seat_programs.specs.StepViews.{by_right}
 use Rattle.seat_programs.specs.StepsOfMessages.{took_message}
 use Rattle.seat_programs.specs.StepsOfLinks.{link_away, link_home_again, took_bytes}
 use Rattle.program_steps.specs.GoesOn.{GoesOn}
-use Rattle.program_steps.specs.Sound.{Sound, first_step, views_with_message, views_with_link, views_with, views_of, views_after, FitsBeside, IsFitting}
+use Rattle.program_steps.specs.Sound.{Sound, views_with_message, views_with_link, views_with, views_of, views_after, FitsBeside, IsFitting}
 use Rattle.program_steps.proofs.Passes.{goes_round}
 use Rattle.program_steps.proofs.Rounds.{begins_round}
 

@@ -37,7 +37,7 @@ use Rattle.seat_programs.specs.StepTables.{row}
 use Rattle.seat_programs.specs.StepsOfMessages.{took_message}
 use Rattle.seat_programs.specs.StepsOfLinks.{link_away, link_home_again, took_bytes}
 use Rattle.seat_programs.specs.StepTables.{Finds}
-use Rattle.program_steps.specs.Sound.{first_step}
+use Rattle.seat_programs.specs.Rounds.{first_step}
 
 -- ## Errors of calls
 

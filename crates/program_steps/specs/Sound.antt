@@ -24,7 +24,7 @@ use Rattle.sock_model.specs.Reads.{message, link_home}
 use Rattle.seat_programs.specs.Calls.{Call, CreateLife, AddRef, SubRef, Recycle, LoadLink, LoadName, TakeLink, FinishLink, PutLink, FindLink, ClaimRequest, PutMessage, EmptyHead, FreeRequest, StorePlace, DropPlace}
 use Rattle.seat_programs.specs.Programs.{Program, Do, TakeMessage, TakeHome, PutHome, PutBytes, Say, Sent, Keep, Retries, AskReady, Write, Aside, Round, Rest, LAST_VERSION, NO_SOCKET, LAST_GENERATION}
 use Rattle.seat_programs.specs.Sends.{block}
-use Rattle.seat_programs.specs.Rounds.{round}
+use Rattle.seat_programs.specs.Rounds.{round, first_step}
 use Rattle.seat_programs.specs.Asides.{Found}
 use Rattle.seat_programs.specs.Beside.{found_in}
 use Rattle.program_steps.specs.Fits.{FitsFound, FitsRetry}
@@ -189,12 +189,6 @@ AllowsStep p c seat (PutHome k n after) = HasLink p seat k
 AllowsStep p c seat (PutBytes k asked bytes next) = HasLink p seat k × (bytes ≢ [])
 AllowsStep p c seat (AskReady k next) = HasLink p seat k
 AllowsStep p c seat other = Unit {0}
-
--- at the head of a loop it is the first step of the next round
-abbrev pub first_step : Program → Program
-first_step (Write w after) = block w after
-first_step (Round head next) = round head next
-first_step other = other
 
 -- what a step aside finds is as the rule of the ids says
 abbrev pub FitsBeside : Plan → Core → Answer → Program → Type 0

@@ -17,7 +17,7 @@ use Rattle.seat_programs.specs.Cores.{Core, SeatState, resolved, next_step, step
 use Rattle.seat_programs.specs.Ticks.{Moment, ticked, run, IsAnswered, AreAnswered}
 use Rattle.seat_programs.specs.Scripts.{beginning, readers_from, all_programs}
 use Rattle.seat_programs.specs.StepTables.{May}
-use Rattle.sock_runs.specs.program_steps.specs.Sound.{Sound, first_step, IsFitting, AreFitting, views_after}
+use Rattle.sock_runs.specs.program_steps.specs.Sound.{Sound, IsFitting, AreFitting, views_after}
 use Rattle.program_walks.proofs.Records.{Records, opens_same}
 use Rattle.program_walks.proofs.Recorded.{Recorded, recorded_ticks}
 use Rattle.program_walks.proofs.Through.{records_passes, records_opens, records_follow}
@@ -27,6 +27,7 @@ use Rattle.sock_runs.proofs.LinkTicks.{RetriesGo}
 use Rattle.sock_runs.proofs.Ticks.{sound_ticks}
 use Rattle.program_walks.proofs.Opening.{mapped}
 use Rattle.program_walks.proofs.ReaderSeats.{AtReader}
+use Rattle.seat_programs.specs.Rounds.{first_step}
 
 module _ (p : Plan) (Q : ℕ → ℕ → Type 0) (o : ℕ) (inside : o < p.operations) where
   abbrev pub Word : Core → ℕ

@@ -20,7 +20,7 @@ use Rattle.seat_programs.specs.StepTables.{word_of, word_after}
 use Rattle.seat_programs.specs.Ticks.{Moment, ticked, run, IsAnswered, AreAnswered}
 use Rattle.seat_programs.specs.StepTables.{May}
 use Rattle.seat_programs.specs.StepViews.{Knows}
-use Rattle.sock_runs.specs.program_steps.specs.Sound.{Sound, first_step, IsFitting, AreFitting, views_after}
+use Rattle.sock_runs.specs.program_steps.specs.Sound.{Sound, IsFitting, AreFitting, views_after}
 use Rattle.sock_runs.specs.program_steps.proofs.AtCalls.{AtCalls, every_exit}
 use Rattle.program_walks.proofs.Records.{stores, loads, awaits, opens_same}
 use Rattle.sock_runs.proofs.Notes.{bears}
@@ -29,6 +29,7 @@ use Rattle.program_walks.proofs.ThroughCalls.{through_reading, through_head, thr
 use Rattle.sock_runs.specs.program_steps.proofs.Cases.{ComesNext, tick_keeps_marks}
 use Rattle.sock_runs.proofs.LinkTicks.{RetriesGo}
 use Rattle.sock_runs.proofs.Ticks.{sound_ticks}
+use Rattle.seat_programs.specs.Rounds.{first_step}
 
 -- ## Programs that load no word of an `open`
 

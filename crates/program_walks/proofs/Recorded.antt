@@ -24,7 +24,7 @@ use Rattle.seat_programs.specs.StepTables.{word_of, word_after}
 use Rattle.seat_programs.specs.Ticks.{Moment, ticked, run, IsAnswered, AreAnswered}
 use Rattle.seat_programs.specs.StepTables.{row, hand_at}
 use Rattle.seat_programs.specs.StepTables.{May}
-use Rattle.sock_runs.specs.program_steps.specs.Sound.{state, Sound, first_step, IsFitting, AreFitting, views_after, views_along}
+use Rattle.sock_runs.specs.program_steps.specs.Sound.{state, Sound, IsFitting, AreFitting, views_after, views_along}
 use Rattle.sock_runs.proofs.Notes.{bears, births_only, birth_notes}
 use Rattle.program_walks.proofs.Records.{stores, next_stores, but, Records, next_stored, first_stored, opens_same}
 use Rattle.program_walks.proofs.Through.{records_passes, records_opens, records_follow, comes_follows}
@@ -33,6 +33,7 @@ use Rattle.sock_runs.specs.program_steps.proofs.Cases.{ComesNext, with_rights, t
 use Rattle.sock_runs.proofs.LinkTicks.{RetriesGo}
 use Rattle.sock_runs.proofs.Ticks.{sound_ticks}
 use Rattle.seat_programs.specs.corr_core.proofs.Notes.{at_length}
+use Rattle.seat_programs.specs.Rounds.{first_step}
 
 -- the id stands in the word of operation o, in which no seat stores any more
 pub record IsRecorded (p : Plan) (c : Core) (left : ℕ → ℕ → Bool) (o id : ℕ) : Type 0 where

@@ -12,9 +12,9 @@ use Rattle.seat_programs.specs.TableWords.{OpenOf}
 use Rattle.seat_programs.specs.StepTables.{word_of, word_after}
 use Rattle.seat_programs.specs.Cores.{found_at, words_after, next_step, resolved}
 use Rattle.seat_programs.specs.StepTables.{May}
-use Rattle.sock_runs.specs.program_steps.specs.Sound.{first_step}
 use Rattle.sock_runs.specs.program_steps.proofs.WordFrame.{load_leaves, word_stays}
 use Rattle.sock_runs.specs.program_steps.proofs.AtCalls.{AtCalls, every_exit}
+use Rattle.seat_programs.specs.Rounds.{first_step}
 
 -- ## What a program stores in the words of operations
 

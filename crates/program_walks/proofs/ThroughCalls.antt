@@ -20,9 +20,8 @@ use Rattle.seat_programs.specs.Posts.{post, posted, decided}
 use Rattle.seat_programs.specs.Attempts.{claims_from, heading_for, attempt, begin_call, claim_id, call, tried_again, retry_locked, retry, expire_outcome, expire, join}
 use Rattle.seat_programs.specs.Readers.{LIMIT, kept_for, ends_with, posted_last, post_each, thrown_away, read, reader}
 use Rattle.seat_programs.specs.Scripts.{readers_from}
-use Rattle.seat_programs.specs.Rounds.{round}
+use Rattle.seat_programs.specs.Rounds.{round, first_step}
 use Rattle.seat_programs.specs.Cores.{resolved, next_step}
-use Rattle.sock_runs.specs.program_steps.specs.Sound.{first_step}
 use Rattle.program_walks.proofs.Through.{PassesErrors, PassesLocked, PassesWords, PassesPlain, PassesFails, PassesSends, PassesStores, PassesLocks, PassesJoins, PassesReads, PassesOpens, Passes, any_end, Follows, next_follows, locked, through_release, through_address, through_any_failed}
 use Rattle.program_walks.proofs.ThroughLoops.{through_post, through_post_with, through_posted, through_decide, through_decided, through_answer, through_opens, through_round}
 use Rattle.program_walks.proofs.ThroughSends.{through_accept, through_block}

@@ -20,7 +20,7 @@ use Rattle.seat_programs.specs.Cores.{Calls, Core, SeatState, found_at, hand_aft
 use Rattle.seat_programs.specs.StepTables.{word_of}
 use Rattle.seat_programs.specs.Ticks.{Moment, ticked, run, IsAnswered, AreAnswered}
 use Rattle.seat_programs.specs.StepTables.{May}
-use Rattle.sock_runs.specs.program_steps.specs.Sound.{Sound, first_step, IsFitting, AreFitting, views_after}
+use Rattle.sock_runs.specs.program_steps.specs.Sound.{Sound, IsFitting, AreFitting, views_after}
 use Rattle.sock_runs.specs.program_steps.proofs.AtCalls.{AtCalls, every_exit}
 use Rattle.program_walks.proofs.Through.{Passes, PassesOpens, Follows, at_calls_passes, at_calls_follow, comes_follows}
 use Rattle.program_walks.proofs.ThroughCalls.{through_first, through_next}
@@ -30,6 +30,7 @@ use Rattle.sock_runs.proofs.LinkTicks.{RetriesGo}
 use Rattle.sock_runs.proofs.Ticks.{sound_ticks}
 use Rattle.program_walks.proofs.Opening.{is_opening, opens_in, or_cases, second_true}
 use Rattle.program_walks.proofs.ReaderSeats.{stays_stored, stored_some}
+use Rattle.seat_programs.specs.Rounds.{first_step}
 
 abbrev pub WillStoreAt : ℕ → Unit {0} → Call → (ℕ → Program) → (Unit {0} → ℕ → Type 0) → Type 0
 WillStoreAt o s (StoreOpen n w) next behind = (n ≡ o) ⊎ ((found : ℕ) → behind tt found)

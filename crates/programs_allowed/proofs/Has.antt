@@ -20,10 +20,10 @@ use Rattle.seat_programs.specs.Clients.{HeldLife}
 use Rattle.program_walks.specs.program_steps.specs.GoesOn.{HasNothing}
 use Rattle.program_walks.specs.program_steps.specs.Has.{IsQuiet, OfTokens, holds, Has}
 use Rattle.program_walks.specs.program_steps.proofs.Rounds.{about_top}
-use Rattle.seat_programs.specs.StepsOfSlots.{KeepsRights}
 use Rattle.slot_steps.proofs.Sums.{total_mono, about-other}
 use Rattle.slot_steps.proofs.Numbers.{only-else}
 use Rattle.slot_steps.proofs.Slots.{probe_ref}
+use Rattle.sock_model.specs.Conditions.{KeepsRights}
 
 -- ## Weights of tokens
 

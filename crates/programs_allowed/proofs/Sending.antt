@@ -17,7 +17,7 @@ use Rattle.sock_model.specs.declared.view.View.{View}
 use Rattle.sock_model.specs.Weights.{total, is_hold, is_met}
 use Rattle.sock_model.specs.Marks.{about}
 use Rattle.sock_model.specs.SlotRows.{marks_of, looked, met_link}
-use Rattle.sock_model.specs.ChainRows.{with_claim, entry_of, more, queued, righted, new_right, without_loose, taken_right}
+use Rattle.sock_model.specs.ChainRows.{with_claim, entry_of, more, queued, righted, new_right, without_loose, taken_right, ready_claim, filled_claim}
 use Rattle.sock_model.specs.Entries.{ticket_of}
 use Rattle.sock_model.specs.Memory.{IDLE}
 use Rattle.seat_programs.specs.Calls.{Connect}
@@ -27,8 +27,7 @@ use Rattle.seat_programs.specs.Clients.{HeldLife}
 use Rattle.program_walks.specs.program_steps.proofs.Rounds.{first_goes, about_top}
 use Rattle.seat_programs.specs.StepViews.{by_right}
 use Rattle.seat_programs.specs.StepsOfSlots.{looked_clean}
-use Rattle.seat_programs.specs.StepsOfChain.{new_claim, ready_claim}
-use Rattle.seat_programs.specs.StepsOfMessages.{filled_claim}
+use Rattle.seat_programs.specs.StepsOfChain.{new_claim}
 use Rattle.program_walks.specs.program_steps.specs.Writes.{IsNote, AreNotes, behind}
 use Rattle.program_walks.specs.program_steps.specs.GoesOn.{GoesOn}
 use Rattle.slot_steps.proofs.Numbers.{only-same, pair-same}

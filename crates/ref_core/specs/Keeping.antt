@@ -9,6 +9,7 @@ use Rattle.sock_model.specs.declared.view.View.{View}
 use Rattle.sock_model.specs.Weights.{is_ref, is_probe, is_any_coding, is_hold, is_known, is_zero, is_stage, is_recycled, is_met}
 use Rattle.sock_model.specs.SlotRows.{marks_of}
 use Rattle.sock_model.specs.Keeping.{KeepsRule}
+use Rattle.sock_model.specs.Conditions.{KeepsRights}
 
 -- the rule is kept by a step on the word at place x, whose row is a function of the view
 abbrev pub KeepsSlotRule : (may : Plan → View → Type 0) → (x found next : ℕ) → (View → View) → Type 0
@@ -23,10 +24,6 @@ MayClaim i p v = i < p.slots
 -- one more reference may be counted; to a life only where the seat knows its id
 abbrev pub MayAdd : ℕ → ℕ → Bool → Plan → View → Type 0
 MayAdd i found is_life p v = (i < p.slots) × (is_life ≡ true → 0 < marks_of (is_known (vref_version found)) i v) × (marks_of is_ref i v < 65540)
-
--- it has a reference to give, owes no code, and keeps the life of each link that it writes
-abbrev pub KeepsRights : ℕ → View → Type 0
-KeepsRights i v = (x : ℕ) (r : Right) (h : ℕ) → get_elem? v.rights x ≡ some r → 0 < marks_of (is_hold h) i v → 0 < marks_of (is_met h r.link) i v → (0 < marks_of is_probe i v) ⊎ (1 < marks_of (is_hold h) i v)
 
 abbrev pub MaySub : ℕ → Plan → View → Type 0
 MaySub i p v = (i < p.slots) × (0 < marks_of is_ref i v) × (marks_of is_any_coding i v ≡ 0) × KeepsRights i v

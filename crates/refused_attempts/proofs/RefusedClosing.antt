@@ -15,7 +15,7 @@ use Rattle.attempted_calls.specs.Below.outcome_stories.specs.Stories.{In}
 use Rattle.attempted_calls.specs.Below.outcome_causes.proofs.Plain.{in_both}
 use Rattle.attempted_calls.specs.Below.call_stories.specs.Lists.{shows_in}
 use Rattle.attempted_calls.specs.Below.call_stories.specs.Posts.{Post, posted_with, posted_at}
-use Rattle.attempted_calls.specs.Below.id_runs.specs.Goes as goes
+use Rattle.seat_programs.specs.Rounds.{first_step}
 
 -- the program makes steps on the table of the sockets alone
 abbrev pub OnSockets : Program → Type 0
@@ -73,9 +73,9 @@ module _ (p : Plan) where
       by _ g = absurd g
 
   none_posted : (c : Core) → MakesSteps c → (x : Post) → In x (posted_at c (quiet 0)) → ⊥
-  none_posted c s x at = by s.0.program s.2 (subst (λ o. In x (elim o as (λ o. List Post) [ none ↦ [] | some seat ↦ posted_with c.calls none (goes.first_of seat.program) ])) s.1 at)
+  none_posted c s x at = by s.0.program s.2 (subst (λ o. In x (elim o as (λ o. List Post) [ none ↦ [] | some seat ↦ posted_with c.calls none (first_step seat.program) ])) s.1 at)
     where
-      by : (y : Program) → OnSockets y → In x (posted_with c.calls none (goes.first_of y)) → ⊥
+      by : (y : Program) → OnSockets y → In x (posted_with c.calls none (first_step y)) → ⊥
       by (Do call next) g m = m
       by Rest g m = m
       by _ g m = absurd g

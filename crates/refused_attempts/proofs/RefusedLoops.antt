@@ -9,12 +9,12 @@ use Rattle.sock_message.specs.Asked.{Asked}
 use Rattle.seat_programs.specs.Asides.{UnlockId, FreeId, Taking, PutCall}
 use Rattle.seat_programs.specs.Calls.{Call}
 use Rattle.seat_programs.specs.Heads.{Head, Exit, Sought, Version, Reading, Posts, Unlocks, Decides, Locks, Joins, Opens, Reads, Discards, Retry, Posting, WasGone, WasStale, WasCrowded, WasQueued, HasLocked, Unlocking, IsOpen, HasNext, Deciding, HasEnded, GoesOn, Locking, NotThere, Has, Ended}
-use Rattle.seat_programs.specs.Posts.{packed, advance_of, is_first, is_sought, is_stale, is_full, judged, posted, post_with, popped, end_id, decide, decided, unlocked, locking}
+use Rattle.seat_programs.specs.Posts.{packed, advance_of, is_first, is_sought, is_stale, is_full, judged, posted, post_with, popped, end_id, decide, decided, unlocked, locking, IsSoughtWord}
 use Rattle.seat_programs.specs.Programs.{Program, Say, Aside, Round}
 use Rattle.seat_programs.specs.Readers.{answer, took, discarded, slot_in}
 use Rattle.seat_programs.specs.Rounds.{round}
 use Rattle.attempted_calls.specs.Below.programs_allowed.specs.program_walks.proofs.ThroughLoops.{through_took, through_discarded}
-use Rattle.attempted_calls.specs.Below.label_runs.specs.Labels.{Trial, Idle, Tries, Kept, LeavesLabel, LeavesLock, LeavesUnlock, unlocks_trial, unlocked_trial, locked_trial, IsSoughtWord, FindsLabel}
+use Rattle.attempted_calls.specs.Below.label_runs.specs.Labels.{Trial, Idle, Tries, Kept, LeavesLabel, LeavesLock, LeavesUnlock, unlocks_trial, unlocked_trial, locked_trial, FindsLabel}
 use Rattle.attempted_calls.specs.Below.label_runs.proofs.Programs.{hit_is, miss_is, found_is}
 use Rattle.attempted_calls.specs.Below.label_runs.proofs.Loops.{first_as, id_back, not_true, not_equal, and_left, locked_parts, none_left, word_got}
 use Rattle.attempted_calls.specs.accept_counts.specs.Refused.{Deed, NoCharge, Doing, idle, Moves, Remembers, IsPostOf, Charges, LeavesCode}

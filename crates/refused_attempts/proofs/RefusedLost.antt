@@ -23,7 +23,7 @@ use Rattle.seat_programs.specs.Ticks.{Moment, quiet, ticked}
 use Rattle.seat_programs.specs.Scripts.{all_tasks, opened, set_up, IsRunWithCalls}
 use Rattle.seat_programs.specs.Told.{AreTasks}
 use Rattle.seat_programs.specs.ToldCalls.{WhyLost, WasFailing, RunEnding}
-use Rattle.attempted_calls.specs.Below.programs_allowed.specs.program_steps.specs.Sound.{Sound, first_step, state}
+use Rattle.attempted_calls.specs.Below.programs_allowed.specs.program_steps.specs.Sound.{Sound, state}
 use Rattle.attempted_calls.specs.Below.programs_allowed.specs.program_walks.proofs.Whole.{closing_of, set_up_answered, end_answered, set_up_sound, played_sound, closing_sound, closed_sound, ended_sound, end_rests}
 use Rattle.attempted_calls.specs.Below.outcome_stories.specs.Facts.{put_by, put_at, shown_in, late_of_run}
 use Rattle.attempted_calls.specs.Below.outcome_stories.specs.Kept.{Story}
@@ -44,6 +44,7 @@ use Rattle.attempted_calls.specs.sent_once.proofs.Sends.{owed}
 use Rattle.attempted_calls.proofs.RefusedNames.{IsNamed, named_more, Named, Then, seats_named, setup_named, named_life}
 use Rattle.refused_attempts.proofs.RefusedWhys.{early_so, all_in}
 use Rattle.attempted_calls.specs.accept_counts.proofs.Grounds.{setting, stages}
+use Rattle.seat_programs.specs.Rounds.{first_step}
 
 -- ## Calls that are put into their homes
 

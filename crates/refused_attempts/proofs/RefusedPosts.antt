@@ -16,7 +16,7 @@ use Rattle.seat_programs.specs.Beside.{found_in}
 use Rattle.seat_programs.specs.Programs.{Program, Aside}
 use Rattle.seat_programs.specs.Cores.{Core, SeatState}
 use Rattle.seat_programs.specs.Ticks.{Moment, taken}
-use Rattle.attempted_calls.specs.Below.programs_allowed.specs.program_steps.specs.Sound.{Sound, first_step}
+use Rattle.attempted_calls.specs.Below.programs_allowed.specs.program_steps.specs.Sound.{Sound}
 use Rattle.attempted_calls.specs.Below.programs_allowed.specs.program_steps.proofs.Cases.{elem_there}
 use Rattle.attempted_calls.specs.Below.outcome_stories.specs.Stories.{In}
 use Rattle.attempted_calls.specs.Below.call_stories.specs.Posts.{Post, posts_by, posted_with, posted_at}
@@ -24,6 +24,7 @@ use Rattle.attempted_calls.specs.accept_counts.specs.Refused.{Deed, Charge, NoCh
 use Rattle.attempted_calls.specs.Below.outcome_stories.proofs.HomeCalls.{AreCalls}
 use Rattle.refused_attempts.proofs.RefusedTicks.{Then, First, first_as}
 use Rattle.attempted_calls.specs.Below.owing_ticks.proofs.OwingRuns.{same_first}
+use Rattle.seat_programs.specs.Rounds.{first_step}
 
 pub all_done : (Did Done : Deed → Type 0) → ((d : Deed) → Did d → Done d) → (ds : List Deed) → AllByRecursion Did ds → AllByRecursion Done ds
 all_done Did Done f [] a = tt
@@ -63,7 +64,7 @@ module _ (p : Plan) (q : IdPlan) (narrow : q.slots ≤ 65536) (is_call : Asked �
       by_program (Aside step next) f x at = posts_of step next f (found_in step c.calls (taken m.answer)) x at
       by_program _ f x at = absurd at
 
-      seat_posts : (x : Post) → In x (posted_with c.calls (taken m.answer) (goes.first_of seat.program)) → P x
+      seat_posts : (x : Post) → In x (posted_with c.calls (taken m.answer) (first_step seat.program)) → P x
       seat_posts x at = by_program (first_step seat.program) (first_as p q narrow is_call ids Did c vs ss law calls us real_ids m seat v s at_seat at_view at_doing (first_step seat.program) refl) x
           (subst (λ y. In x (posted_with c.calls (taken m.answer) y)) (same_first seat.program) at)
 
@@ -71,7 +72,7 @@ module _ (p : Plan) (q : IdPlan) (narrow : q.slots ≤ 65536) (is_call : Asked �
     pub tick_posts : (x : Post) → In x (posted_at c m) → P x
     tick_posts x at = by (get_elem? c.seats m.seat) refl at
       where
-        by : (o : Option SeatState) → get_elem? c.seats m.seat ≡ o → In x (elim o as (λ o. List Post) [ none ↦ [] | some seat ↦ posted_with c.calls (taken m.answer) (goes.first_of seat.program) ]) → P x
+        by : (o : Option SeatState) → get_elem? c.seats m.seat ≡ o → In x (elim o as (λ o. List Post) [ none ↦ [] | some seat ↦ posted_with c.calls (taken m.answer) (first_step seat.program) ]) → P x
         by none e z = absurd z
         by (some seat) e z = let d = elem_there c.seats ss m.seat seat law.each e in let v = elem_there c.seats vs m.seat seat sound.each e in seat_posts seat v.0 d.0 e v.1 d.1 x z
 

@@ -19,7 +19,7 @@ use Rattle.seat_programs.specs.Cores.{Core, SeatState, resolved, next_step, wait
 use Rattle.seat_programs.specs.Ticks.{Moment, AreAnswered, ticked, run}
 use Rattle.seat_programs.specs.Tasks.{calls}
 use Rattle.seat_programs.specs.Scripts.{programs, readers_from, all_programs, beginning}
-use Rattle.attempted_calls.specs.Below.programs_allowed.specs.program_steps.specs.Sound.{Sound, AreFitting, first_step, views_after, views_along}
+use Rattle.attempted_calls.specs.Below.programs_allowed.specs.program_steps.specs.Sound.{Sound, AreFitting, views_after, views_along}
 use Rattle.attempted_calls.specs.Below.programs_allowed.specs.sock_runs.proofs.LinkTicks.{RetriesGo}
 use Rattle.attempted_calls.specs.Below.programs_allowed.specs.sock_runs.proofs.Ticks.{sound_ticks}
 use Rattle.attempted_calls.specs.Below.programs_allowed.specs.program_walks.proofs.Opening.{mapped}
@@ -38,6 +38,7 @@ use Rattle.refused_attempts.proofs.RefusedTicks.{charge_ticks}
 use Rattle.attempted_calls.specs.accept_counts.proofs.PostSeats.{of_tick}
 use Rattle.refused_attempts.proofs.RefusedPosts.{kind_more, tick_kinds}
 use Rattle.refused_attempts.proofs.RefusedPrograms.{client_goes, reader_goes}
+use Rattle.seat_programs.specs.Rounds.{first_step}
 
 -- ## Lists
 

@@ -31,7 +31,7 @@ use Rattle.seat_programs.specs.Cores.{Calls, Core, SeatState, found_at, words_af
 use Rattle.seat_programs.specs.StepTables.{word_of, word_after}
 use Rattle.seat_programs.specs.Ticks.{Moment, IsAnswered, taken, ticked}
 use Rattle.seat_programs.specs.StepTables.{row, hand_at}
-use Rattle.attempted_calls.specs.Below.programs_allowed.specs.program_steps.specs.Sound.{Sound, first_step, views_after}
+use Rattle.attempted_calls.specs.Below.programs_allowed.specs.program_steps.specs.Sound.{Sound, views_after}
 use Rattle.attempted_calls.specs.Below.programs_allowed.specs.program_steps.proofs.Cases.{with_rights, elem_there, calls_waiting}
 use Rattle.attempted_calls.specs.Below.call_owing.proofs.EndsStill.{mapped_at}
 use Rattle.attempted_calls.specs.Below.label_runs.specs.Labels.{Trial, Idle, Tries, Sends, put_behind, Kept, Storing, unlocked_trial}
@@ -47,6 +47,7 @@ use Rattle.refused_attempts.proofs.RefusedLoops.{bare, charges_round}
 use Rattle.refused_attempts.proofs.RefusedPrograms.{block_goes, retry_goes}
 use Rattle.attempted_calls.specs.Below.script_facts.proofs.Lists.{all_map}
 use Rattle.attempted_calls.specs.own_decisions.proofs.OwnDecisionsTicks.{pair_self}
+use Rattle.seat_programs.specs.Rounds.{first_step}
 
 -- ## Lists
 

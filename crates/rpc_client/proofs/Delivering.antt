@@ -26,10 +26,11 @@ use Rattle.write_chain.specs.declared.entry.Refused.{Refused}
 use Rattle.write_chain.specs.declared.entry.Refused.TheVariants as refused
 use Rattle.write_chain.specs.Sending.{HasRoom, Accepted, StartedBy, RefusedBy}
 use Rattle.rpc_client.specs.Seats.{Idle, StaysSeen, SameRefs, OneMore}
-use Rattle.rpc_client.specs.Sending.{RefusedHolds, RefusedAs, sock_of, Returned, CameBack, DeliveredBy}
+use Rattle.rpc_client.specs.Sending.{RefusedHolds, RefusedAs, Returned, CameBack, DeliveredBy}
 use Rattle.rpc_client.proofs.Counting.{same_refs, then_more, given}
 use Rattle.rpc_client.proofs.Finding.{holds_still, seen_same, seen_then, seen_became}
 use Rattle.rpc_client.proofs.Writing.{all_refs}
+use Rattle.write_chain.specs.Ready.{sock_of}
 
 -- ## Accepted
 

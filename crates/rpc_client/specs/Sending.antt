@@ -68,11 +68,6 @@ abbrev pub RefusedAs : Refused → Outcome → View → View → Type 0
 RefusedAs (refused.Failed sock msg found) o v w = (o ≡ outcome.Gone found) × Returned sock.id.0 v w
 RefusedAs (refused.Full sock msg) o v w = (o ≡ outcome.Full) × Returned sock.id.0 v w
 
--- the reference of a message that was accepted
-abbrev pub sock_of : {O : Type 0} {g : Ghosts O} → Started O g → SockRef
-sock_of (started.Queued sock) = sock
-sock_of (started.Right right) = right.sock
-
 -- whoever had the right wrote, and the reference was given back
 pub record SeenThrough {O : Type 0} (state : O → OutState) (p : Plan) (id : ℕ) (v w : View) : Type 0 where
   pub wrote : View

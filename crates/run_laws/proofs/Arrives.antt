@@ -43,7 +43,7 @@ use Rattle.seat_programs.specs.StepsOfMessages.{took_message}
 use Rattle.seat_programs.specs.StepsOfLinks.{link_away, link_home_again, took_bytes}
 use Rattle.seat_programs.specs.StepTables.{May}
 use Rattle.programs_allowed.specs.program_steps.specs.GoesOn.{GoesOn}
-use Rattle.programs_allowed.specs.program_steps.specs.Sound.{Sound, first_step, state, views_after}
+use Rattle.programs_allowed.specs.program_steps.specs.Sound.{Sound, state, views_after}
 use Rattle.programs_allowed.specs.program_steps.proofs.Cases.{with_rights, right_rights, put_rights, IsStill, untold, tick_does, tick_cases}
 use Rattle.programs_allowed.specs.sock_runs.proofs.Ticks.{sound_ticks}
 use Rattle.sock_model.specs.ChainRows.{taken_right}
@@ -55,6 +55,7 @@ use Rattle.run_laws.proofs.Modes.{Mode, Unknown, Live, Dead, mode_behind, put_mo
 use Rattle.run_laws.proofs.Lives.{live_unfailed, even_is, link_is, failed_stays}
 use Rattle.run_laws.proofs.Kept.{IsGiven, Kept, mode, mode_guarded}
 use Rattle.run_laws.proofs.Stops.{link_of, no_right, not_stopped, same_more, fails_even}
+use Rattle.seat_programs.specs.Rounds.{first_step}
 
 -- seat s is at a put into link k
 abbrev pub AtPut : ℕ → ℕ → Core → Type 0

@@ -20,7 +20,7 @@ use Rattle.seat_programs.specs.Writings.{Puts, Waits, Empties, Walks}
 use Rattle.seat_programs.specs.Programs.{Program, Do, Say, Sent, Rest, TakeMessage, TakeHome, PutHome, PutBytes, AskReady, Write, Aside, Round, Keep, Retries}
 use Rattle.seat_programs.specs.Cores.{Core, SeatState}
 use Rattle.seat_programs.specs.Ticks.{OfPut, OfReady, Moment, ticked, asked_link, is_refusal, broken_at}
-use Rattle.programs_allowed.specs.program_steps.specs.Sound.{first_step, state, views_after}
+use Rattle.programs_allowed.specs.program_steps.specs.Sound.{state, views_after}
 use Rattle.programs_allowed.specs.program_steps.proofs.Cases.{IsStill, tick_does, elem_there}
 use Rattle.programs_allowed.specs.program_steps.specs.GoesOn.{GoesOn}
 use Rattle.run_laws.specs.World.{Nothing, Stop, stopped_after}
@@ -30,6 +30,7 @@ use Rattle.run_laws.proofs.Lives.{one_writer}
 use Rattle.run_laws.proofs.Cases.{still_nothing}
 use Rattle.run_laws.proofs.Kept.{IsGiven, Kept}
 use Rattle.run_laws.proofs.Arrives.{AtPut, IsGone, put_right_of, next_is, odd_tick}
+use Rattle.seat_programs.specs.Rounds.{first_step}
 
 contains_one : (l k : ℕ) → Contains (l ∷ []) k → l ≡ k
 contains_one l k (zero, low, is) = is

@@ -38,7 +38,7 @@ use Rattle.seat_programs.specs.StepsOfLinks.{link_away, link_home_again, took_by
 use Rattle.seat_programs.specs.StepTables.{May}
 use Rattle.seat_programs.specs.StepsOfSlots.{even_version}
 use Rattle.programs_allowed.specs.program_steps.specs.Writes.{MayPut}
-use Rattle.programs_allowed.specs.program_steps.specs.Sound.{first_step, state, views_after}
+use Rattle.programs_allowed.specs.program_steps.specs.Sound.{state, views_after}
 use Rattle.programs_allowed.specs.program_steps.proofs.Cases.{with_rights, right_rights, put_rights, tick_does}
 use Rattle.outcome_stories.specs.Stories.{adds}
 use Rattle.outcome_stories.proofs.Added.{linked_note, row_adds}
@@ -63,6 +63,7 @@ use Rattle.run_laws.proofs.Kept.{FitsRight, IsGiven, Kept, mode, mode_guarded, m
 use Rattle.run_laws.proofs.Stops.{live}
 use Rattle.run_laws.proofs.Breaks.{asked_first}
 use Rattle.run_laws.proofs.Full.{cut_off}
+use Rattle.seat_programs.specs.Rounds.{first_step}
 
 -- ## What an event is for lives, for messages and for links
 

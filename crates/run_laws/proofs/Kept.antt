@@ -15,9 +15,10 @@ use Rattle.seat_programs.specs.Programs.{Program, Write, Round}
 use Rattle.seat_programs.specs.Cores.{Calls, Core, SeatState, resolved, waiting_at, next_step, with_seat}
 use Rattle.programs_allowed.specs.program_steps.specs.GoesOn.{GoesOn}
 use Rattle.seat_programs.specs.Ticks.{Moment, IsAnswered, ticked}
-use Rattle.programs_allowed.specs.program_steps.specs.Sound.{Sound, first_step, state, IsFitting}
+use Rattle.programs_allowed.specs.program_steps.specs.Sound.{Sound, state, IsFitting}
 use Rattle.programs_allowed.specs.sock_runs.proofs.LinkTicks.{RetriesGo}
 use Rattle.run_laws.proofs.Modes.{Mode, Unknown, Live, Fed, Dead, Asks, Broken, IsWhole, Guarded, first_mode, first_guarded, come_guarded, round_mode}
+use Rattle.seat_programs.specs.Rounds.{first_step}
 
 -- the seat holds a life in slot i whose link is k
 abbrev pub HoldsAt : Plan → View → ℕ → ℕ → Type 0

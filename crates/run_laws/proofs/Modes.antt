@@ -22,7 +22,6 @@ use Rattle.seat_programs.specs.Programs.{Program, Do, Say, Sent, Rest, TakeMessa
 use Rattle.seat_programs.specs.Sends.{freed, one_more, passed_telling, tell_drop, placed, dropped, put_answered, ready_answered, block, first_put, write_link, heading_of, accept, claim_from, start}
 use Rattle.seat_programs.specs.Clients.{HeldLife, held_under, without_name, give_back, drop_of, operation, client_from, ending_of}
 use Rattle.seat_programs.specs.Cores.{next_step, resolved}
-use Rattle.programs_allowed.specs.program_steps.specs.Sound.{first_step}
 use Rattle.seat_programs.specs.Parts.{part}
 use Rattle.corr_core.specs.Word.{parts, error_of, code_of, posted_word, unlocked_word, id_slot, id_first, call_id}
 use Rattle.corr_core.specs.Law.{LAST}
@@ -40,7 +39,7 @@ use Rattle.seat_programs.specs.Heads.{GoesOn as OpenAgain, Has as HasLock}
 use Rattle.seat_programs.specs.Posts.{packed, advance_of, is_first, is_stale, is_full, is_sought, judged, post, post_with, posted, popped, end_id, decide, decided, unlocked, locking}
 use Rattle.seat_programs.specs.Attempts.{claims_from, heading_for, attempt, begin_call, claim_id, call, tried_again, retry_locked, retry, expire_outcome, expire, join}
 use Rattle.seat_programs.specs.Readers.{LIMIT, slot_in, version_in, answer, answered, has_response, responses, last_of, ended_by, read_on, took, discarded, kept_for, ends_with, posted_last, post_each, thrown_away, read, reader}
-use Rattle.seat_programs.specs.Rounds.{round}
+use Rattle.seat_programs.specs.Rounds.{round, first_step}
 
 -- ## What a seat found last
 

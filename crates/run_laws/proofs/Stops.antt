@@ -44,7 +44,7 @@ use Rattle.seat_programs.specs.StepsOfMessages.{took_message}
 use Rattle.seat_programs.specs.StepsOfLinks.{link_away, link_home_again, took_bytes}
 use Rattle.seat_programs.specs.StepTables.{May}
 use Rattle.programs_allowed.specs.program_steps.specs.Writes.{Writes, MayPut}
-use Rattle.programs_allowed.specs.program_steps.specs.Sound.{Sound, first_step, state, views_after}
+use Rattle.programs_allowed.specs.program_steps.specs.Sound.{Sound, state, views_after}
 use Rattle.programs_allowed.specs.program_steps.proofs.Cases.{with_rights, right_rights, put_rights, tick_does}
 use Rattle.programs_allowed.specs.sock_runs.proofs.Ticks.{sound_ticks}
 use Rattle.outcome_stories.specs.Stories.{adds}
@@ -58,6 +58,7 @@ use Rattle.run_laws.proofs.Modes.{Mode, Unknown, Live, Fed, Dead, Asks, Broken, 
 use Rattle.run_laws.proofs.Lives.{one_writer, live_unfailed, odd_failed, even_is, more_count, failed_stays}
 use Rattle.run_laws.proofs.Cases.{still_nothing}
 use Rattle.run_laws.proofs.Kept.{HoldsAt, FitsRight, Fits, IsBroken, IsGiven, Kept, first_broken, mode_at, mode_here, mode, mode_guarded, mode_fits, not_broken, broken_else, steps}
+use Rattle.seat_programs.specs.Rounds.{first_step}
 
 -- ## Small facts
 

@@ -9,7 +9,7 @@ use Rattle.seat_programs.specs.Calls.{SetOdd, LookWord}
 use Rattle.seat_programs.specs.Programs.{Program, Do, Rest, PutBytes}
 use Rattle.seat_programs.specs.Cores.{Core}
 use Rattle.seat_programs.specs.Ticks.{Moment, run, broken_at}
-use Rattle.programs_allowed.specs.program_steps.specs.Sound.{first_step}
+use Rattle.seat_programs.specs.Rounds.{first_step}
 
 -- ## Steps of a tick
 

@@ -22,11 +22,12 @@ use Rattle.seat_programs.specs.Cores.{Core, found_at}
 use Rattle.seat_programs.specs.StepTables.{word_of}
 use Rattle.seat_programs.specs.Ticks.{Answer, OfPut, OfReady, Moment, broken_at, ticked}
 use Rattle.seat_programs.specs.StepsOfSlots.{even_version}
-use Rattle.programs_allowed.specs.program_steps.specs.Sound.{first_step, views_after}
+use Rattle.programs_allowed.specs.program_steps.specs.Sound.{views_after}
 use Rattle.message_events.specs.Standing as standing
 use Rattle.life_events.specs.Events.{life_of}
 use Rattle.run_laws.specs.World.{World, Event, Nothing, Birth, Hold, Drop, Fail, End, Accept, Take, Stop, Place, Dropped, Free, Becomes, stopped_after}
 use Rattle.run_laws.specs.World as world
+use Rattle.seat_programs.specs.Rounds.{first_step}
 
 -- ## The event of a tick
 

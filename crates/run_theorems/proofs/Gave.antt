@@ -27,11 +27,11 @@ use Rattle.seat_programs.specs.Cores.{Core, SeatState}
 use Rattle.seat_programs.specs.Ticks.{Answer, Unasked, OfPut, OfReady, OfTake, Moment, quiet, taken, with_message, with_link, with_put, with_ready, with_found, step_with, tick_with, ticked, run}
 use Rattle.seat_programs.specs.Tasks.{plan_of}
 use Rattle.seat_programs.specs.Scripts.{opened, ending, set_up, played, IsRunWithCalls}
-use Rattle.outcome_causes.specs.program_steps.specs.Sound.{first_step}
 use Rattle.outcome_causes.specs.program_steps.proofs.Cases.{ticks_first}
 use Rattle.run_theorems.specs.Heard.{take_of, as_taken, taken_link, taken_at, taken_in, heard_takes, take_answers, bytes_found, given_by}
 use Rattle.run_theorems.proofs.HeardRuns.{same_heard_takes}
 use Rattle.run_theorems.proofs.Lengths.{tick_long, run_sizes}
+use Rattle.seat_programs.specs.Rounds.{first_step}
 
 -- ## A tick
 

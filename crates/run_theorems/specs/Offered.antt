@@ -11,8 +11,8 @@ use Rattle.seat_programs.specs.Asides.{TakeBytes, Taking, Bytes, Nothing, AtEnd,
 use Rattle.seat_programs.specs.Programs.{Program, Aside}
 use Rattle.seat_programs.specs.Cores.{Core, SeatState, link_place}
 use Rattle.seat_programs.specs.Ticks.{Answer, Moment, taken, ticked}
-use Rattle.owed_calls.specs.Below.id_runs.specs.Goes as goes
 use Rattle.owed_calls.specs.call_owing.specs.Lives.{InHand}
+use Rattle.seat_programs.specs.Rounds.{first_step}
 
 -- what the other end of a link offers for these bytes: the server the replies, up to the number that is given, and another end nothing
 abbrev pub offered : Bool → Option ℕ → List ℕ → List ℕ
@@ -42,4 +42,4 @@ module _ (p : Plan) (k : ℕ) where
     -- at each of these ticks
     abbrev pub AreOffered : Core → List Moment → Type 0
     AreOffered c [] = Unit {0}
-    AreOffered c (m ∷ ms) = ((seat : SeatState) → get_elem? c.seats m.seat ≡ core.some seat → OffersAt c m.answer (goes.first_of seat.program)) × AreOffered (ticked p c m) ms
+    AreOffered c (m ∷ ms) = ((seat : SeatState) → get_elem? c.seats m.seat ≡ core.some seat → OffersAt c m.answer (first_step seat.program)) × AreOffered (ticked p c m) ms

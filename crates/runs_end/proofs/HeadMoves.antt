@@ -29,7 +29,7 @@ use Rattle.seat_programs.specs.Ticks.{Answer, OfReady, OfTake, Moment, FitsTake,
 use Rattle.seat_programs.specs.Runs.{kind_in, IsAtRest}
 use Rattle.seat_programs.specs.StepTables.{row, hand_at}
 use Rattle.sock_runs.specs.program_steps.specs.GoesOn.{GoesOn}
-use Rattle.sock_runs.specs.program_steps.specs.Sound.{Sound, FitsBeside, IsFitting, first_step, views_with, views_of, views_after}
+use Rattle.sock_runs.specs.program_steps.specs.Sound.{Sound, FitsBeside, IsFitting, views_with, views_of, views_after}
 use Rattle.sock_runs.specs.program_steps.specs.Lasts.{STALE, accepted, expects, arriving, stale_cost, LastsFor, Lasts, IsCountedStep, IsCountedAt, IsCounted}
 use Rattle.sock_runs.proofs.Allowed.{view_there}
 use Rattle.sock_runs.specs.program_steps.proofs.Cases.{beside}
@@ -40,6 +40,7 @@ use Rattle.runs_end.proofs.IdCosts.{lasts_more, Falls, posts_fall, unlocks_fall,
 use Rattle.runs_end.proofs.ReadCosts.{FitsRoom, reads_fall, discards_fall}
 use Rattle.runs_end.proofs.Lasting.{Fewer, found_steps, tick_moves}
 use Rattle.runs_end.proofs.AsideMoves.{IsLate, any_moves}
+use Rattle.seat_programs.specs.Rounds.{first_step}
 
 -- ## Takes
 

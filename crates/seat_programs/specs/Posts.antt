@@ -1,6 +1,6 @@
 -- Errors of calls: posted to an id, decided on, and the loops that give a lock back or get one (bRPC's bthread_id.md: `bthread_id_error`,
 -- `bthread_id_lock`, `bthread_id_unlock`, `bthread_id_unlock_and_destroy`).
-use Rattle.std.specs.Prelude.{ℕ, ◌+◌, ◌-◌, ◌*◌, ◌==◌, ◌&&◌, not, Bool, true, false, nat_le, if◌then◌else◌, Option, Some, None}
+use Rattle.std.specs.Prelude.{ℕ, ◌≡◌, ◌+◌, ◌-◌, ◌*◌, ◌==◌, ◌&&◌, not, Bool, true, false, nat_le, if◌then◌else◌, Option, Some, None}
 use Rattle.sock_model.specs.sock_words.specs.declared.outcome.Outcome.TheVariants.{CallFailed}
 use Rattle.corr_core.specs.Word.{Parts, parts, error_of, code_of, attempt_of, posted_word, unlocked_word, id_slot, id_first}
 use Rattle.corr_core.specs.Law.{LAST}
@@ -28,6 +28,11 @@ is_first first w = (w.first == first) && not (w.state == 0)
 abbrev pub is_sought : Sought → Parts → Bool
 is_sought (First first) w = is_first first w
 is_sought (Version v) w = has_version v w
+
+-- where a word was found from which the lock is tried, it has what is sought, and is open
+abbrev pub IsSoughtWord : Sought → Option ℕ → Type 0
+IsSoughtWord sought None = Unit {0}
+IsSoughtWord sought (Some w) = (is_sought sought (parts w) ≡ true) × ((parts w).state ≡ 1)
 
 -- the error is for another attempt than the current one
 abbrev pub is_stale : ℕ → Parts → Bool

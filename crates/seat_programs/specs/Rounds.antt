@@ -6,7 +6,8 @@ use Rattle.std.specs.Prelude.{Option, Some, None, if◌then◌else◌}
 use Rattle.corr_core.specs.Word.{parts}
 use Rattle.corr_core.specs.Decisions.{ends_call}
 use Rattle.seat_programs.specs.Heads.{Head, Exit, Posts, Unlocks, Decides, Locks, Joins, Opens, Reads, Discards}
-use Rattle.seat_programs.specs.Programs.{Program}
+use Rattle.seat_programs.specs.Programs.{Program, Write, Round}
+use Rattle.seat_programs.specs.Sends.{block}
 use Rattle.seat_programs.specs.Posts.{posts_round, unlocks_round, decides_round, locks_round, joins_round}
 use Rattle.seat_programs.specs.Readers.{opens_round, reads_round, discards_round}
 
@@ -19,6 +20,12 @@ round (Joins id) k = joins_round id k
 round (Opens o) k = opens_round o k
 round (Reads r) k = reads_round r k
 round (Discards l total) k = discards_round l total k
+
+-- the program from its first step on: at the head of a loop it is that of the next round
+abbrev pub first_step : Program → Program
+first_step (Write w after) = block w after
+first_step (Round head next) = round head next
+first_step other = other
 
 -- the kind of its first step
 abbrev pub kind_of_lock : Option ℕ → Kind

@@ -15,7 +15,7 @@ use Rattle.sock_model.specs.declared.view.Hand.{Hand}
 use Rattle.sock_model.specs.Layout.{link_index}
 use Rattle.sock_model.specs.Memory.{IDLE, UNCONNECTED}
 use Rattle.sock_model.specs.SlotRows.{met_link}
-use Rattle.sock_model.specs.ChainRows.{with_claim, queued, righted, without_loose, with_right, without_right, turned_right}
+use Rattle.sock_model.specs.ChainRows.{with_claim, queued, righted, without_loose, with_right, without_right, turned_right, ready_claim}
 use Rattle.sock_model.specs.Reads.{link_home}
 use Rattle.sock_model.specs.Conditions.{MayExchange, MayEmpty, MayTurn}
 use Rattle.seat_programs.specs.Programs.{LAST_GENERATION}
@@ -101,9 +101,6 @@ new_claim k q found = record { link = k; request = q; generation = found / 2; fi
 -- where the request was free it is claimed, and the link is noted as that of the life
 abbrev pub claimed_request : ℕ → ℕ → ℕ → ℕ → View → View
 claimed_request id q found k v = if found % 2 == 0 then with_claim (met_link (socket_id_slot id) (socket_id_version id) k v) (new_claim k q found) else v
-
-abbrev pub ready_claim : Claim → Claim
-ready_claim c = record c { ready = true }
 
 -- the exchange found a busy head, or an idle one: then the seat has the right to write the link, which took this so far
 abbrev pub exchanged : ℕ → Hand → View → Claim → View

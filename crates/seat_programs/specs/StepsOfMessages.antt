@@ -5,7 +5,7 @@ use Rattle.sock_model.specs.declared.chain.Claim.{Claim}
 use Rattle.sock_model.specs.declared.chain.Heading.{Heading}
 use Rattle.sock_model.specs.declared.view.View.{View}
 use Rattle.sock_model.specs.declared.view.Hand.{Hand}
-use Rattle.sock_model.specs.ChainRows.{with_claim, with_right, taken_right}
+use Rattle.sock_model.specs.ChainRows.{with_claim, with_right, taken_right, filled_claim}
 use Rattle.seat_programs.specs.Calls.{Call, PutMessage}
 use Rattle.seat_programs.specs.StepViews.{Claims, by_claim, by_right}
 
@@ -17,9 +17,6 @@ MessageMay p v (PutMessage q heading bytes) = (q < p.requests) × Claims v q × 
 MessageMay p v other = Unit {0}
 
 -- ## Behind a step
-
-abbrev pub filled_claim : Claim → Heading → List ℕ → Claim
-filled_claim c heading bytes = record c { filled = true; heading = heading; bytes = bytes }
 
 -- the message is in hand, the link is in hand or home again, and the link took so many bytes more
 abbrev pub took_message : Heading → List ℕ → View → View

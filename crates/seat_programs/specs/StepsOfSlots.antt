@@ -17,6 +17,7 @@ use Rattle.seat_programs.specs.Programs.{LAST_VERSION}
 use Rattle.seat_programs.specs.TableWords.{TableWord, TagOf, RefOf, LinkOf, HeadOf, CodeOf}
 use Rattle.seat_programs.specs.Calls.{Call, ClaimSlot, CreateLife, AddRef, SubRef, SetOdd, Recycle, FreeSlot, LookWord, StoreLink, LoadLink, FindLink, ResetHead, ClearCode, StoreCode, LoadCode}
 use Rattle.seat_programs.specs.StepViews.{Knows, HasRoom, HoldsLife, FindsLink, by_right}
+use Rattle.sock_model.specs.Conditions.{KeepsRights}
 
 -- ## The word
 
@@ -55,10 +56,6 @@ slot_after (StoreCode i h c) found = c
 slot_after other found = found
 
 -- ## Before a step
-
--- of each right of the seat whose life is in slot i it keeps a reference to the life, where one reference to the slot goes
-abbrev pub KeepsRights : ℕ → View → Type 0
-KeepsRights i v = (x : ℕ) (r : Right) (h : ℕ) → get_elem? v.rights x ≡ some r → 0 < marks_of (is_hold h) i v → 0 < marks_of (is_met h r.link) i v → (0 < marks_of is_probe i v) ⊎ (1 < marks_of (is_hold h) i v)
 
 -- it writes no link, or that of the life of this id alone
 abbrev pub MayLook : Plan → View → ℕ → Type 0

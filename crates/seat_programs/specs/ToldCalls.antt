@@ -11,6 +11,8 @@ use Rattle.sock_message.specs.brpc_model.specs.Meta.{ResponseMeta}
 use Rattle.sock_message.specs.brpc_model.specs.Frame.{Frame, FrameFault}
 use Rattle.sock_message.specs.brpc_model.specs.Messages.{shown_id}
 use Rattle.sock_message.specs.brpc_model.specs.Stream.{stream, Fault}
+use Rattle.sock_message.specs.brpc_model.specs.Attempts.{HasCode}
+use Rattle.sock_message.specs.brpc_model.specs.Outcomes.{IsPosted}
 use Rattle.sock_model.specs.Layout.{place_index}
 use Rattle.sock_message.specs.Asked.{Asked, name_of, frame_of}
 use Rattle.seat_programs.specs.declared.task.Op.{Op}
@@ -141,9 +143,6 @@ module _ (p : Plan) (clients : List (List Task)) (outcomes : List (Option Outcom
   abbrev pub IsAnsweredBy : Asked → ℕ → (Frame → Type 0) → Type 0
   IsAnsweredBy asked id P = (k n : ℕ) × (frame : Frame) × Gave k n frame × IsResponse asked id frame × P frame
 
-  abbrev pub HasCode : ℤ → Frame → Type 0
-  HasCode code frame = (frame.meta.compress_type ≡ pos 0) × (r : ResponseMeta) × (frame.meta.response ≡ Some r) × (r.code ≡ code)
-
   -- ## Attempts
 
   abbrev pub IsAt : ℕ → ℕ → ℕ → ℕ → Type 0
@@ -218,9 +217,6 @@ module _ (p : Plan) (clients : List (List Task)) (outcomes : List (Option Outcom
 
   abbrev pub MayNotHaveBegun : ℕ → ℕ → ℕ → Type 0
   MayNotHaveBegun c o t = (task : Task) → IsTask clients outcomes c task → task.number ≡ t → t < o → Became clients outcomes t Unopened
-
-  abbrev pub IsPosted : ℕ → Type 0
-  IsPosted code = Contains (ERPCTIMEDOUT ∷ EFAILEDSOCKET ∷ EEOF ∷ ERESPONSE ∷ EREQUESTS ∷ []) code ⊎ ((1500 ≤ code) × (code ≤ 1999))
 
   -- the id that the outcome of a call shows
   abbrev pub ShowsId : Outcome → ℕ → Type 0

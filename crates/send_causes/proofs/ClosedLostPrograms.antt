@@ -23,12 +23,11 @@ use Rattle.seat_programs.specs.Posts.{advance_of, post, unlocks_round}
 use Rattle.seat_programs.specs.Readers.{reader}
 use Rattle.seat_programs.specs.Sends.{accept}
 use Rattle.seat_programs.specs.Attempts.{claims_from, heading_for, attempt, call, retry}
-use Rattle.seat_programs.specs.Rounds.{round}
+use Rattle.seat_programs.specs.Rounds.{round, first_step}
 use Rattle.seat_programs.specs.Cores.{resolved, next_step}
 use Rattle.dropped_calls.specs.Below.programs_allowed.specs.program_steps.specs.AtSteps.{Asks, AtSteps}
 use Rattle.dropped_calls.specs.Below.programs_allowed.specs.program_steps.specs.Fits.{FitsHead, FitsRetry}
 use Rattle.dropped_calls.specs.Below.programs_allowed.specs.program_steps.specs.GoesOn.{GoesOn}
-use Rattle.dropped_calls.specs.Below.programs_allowed.specs.program_steps.specs.Sound.{first_step}
 use Rattle.dropped_calls.specs.Below.programs_allowed.specs.program_walks.proofs.Through.{PassesPlain, PassesFails, PassesSends, PassesReads, any_end, is_plain_aside, reads_any, locked, at_steps_plain, at_steps_sends, through_release, through_set_failed, through_fail}
 use Rattle.dropped_calls.specs.Below.programs_allowed.specs.program_walks.proofs.ThroughLoops.{through_post, through_unlocks, through_round}
 use Rattle.dropped_calls.specs.Below.programs_allowed.specs.program_walks.proofs.ThroughSends.{through_block, through_write_link, through_send}

@@ -15,7 +15,7 @@ use Rattle.seat_programs.specs.declared.task.Sizes.{Sizes}
 use Rattle.seat_programs.specs.declared.task.Task.{Task}
 use Rattle.seat_programs.specs.Scripts.{programs, readers_from, all_programs, beginning}
 use Rattle.seat_programs.specs.Ticks.{Answer, Moment, IsAnswered, AreAnswered, quiet, ticked, run, waits_at}
-use Rattle.dropped_calls.specs.Below.programs_allowed.specs.program_steps.specs.Sound.{Sound, first_step, IsFitting, AreFitting, views_after, views_along}
+use Rattle.dropped_calls.specs.Below.programs_allowed.specs.program_steps.specs.Sound.{Sound, IsFitting, AreFitting, views_after, views_along}
 use Rattle.dropped_calls.specs.Below.programs_allowed.specs.sock_runs.proofs.LinkTicks.{RetriesGo}
 use Rattle.dropped_calls.specs.Below.programs_allowed.specs.program_walks.proofs.Opening.{mapped}
 use Rattle.dropped_calls.specs.Below.programs_allowed.specs.sock_runs.proofs.Ticks.{sound_ticks}
@@ -27,6 +27,7 @@ use Rattle.dropped_calls.specs.refused_attempts.proofs.RefusedClosing.{OnSockets
 use Rattle.dropped_calls.specs.accept_counts.proofs.Beginnings.{all_begin}
 use Rattle.send_causes.proofs.ClosedLostPrograms.{Mode, Free, Goes, client_goes, reader_goes, goes_next}
 use Rattle.send_causes.proofs.ClosedLostTicks.{Entered, AllStand, Fate, keeps_here, tick_stands, tick_stores}
+use Rattle.seat_programs.specs.Rounds.{first_step}
 
 -- ## Ticks one after another
 

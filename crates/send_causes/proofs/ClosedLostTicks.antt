@@ -15,7 +15,7 @@ use Rattle.sock_model.specs.declared.chain.Right.{Right}
 use Rattle.sock_model.specs.declared.home.Home.{Home}
 use Rattle.sock_model.specs.declared.view.Hand.{Hand}
 use Rattle.sock_model.specs.declared.view.View.{View}
-use Rattle.sock_model.specs.ChainRows.{with_claim, entry_of, more, queued, righted, taken_right}
+use Rattle.sock_model.specs.ChainRows.{with_claim, entry_of, more, queued, righted, taken_right, ready_claim, filled_claim}
 use Rattle.sock_model.specs.Layout.{ref_index}
 use Rattle.sock_model.specs.Memory.{IDLE}
 use Rattle.dropped_calls.specs.Below.sock_steps.proofs.Quiet.{either_way}
@@ -32,10 +32,10 @@ use Rattle.dropped_calls.specs.Below.programs_allowed.specs.program_steps.specs.
 use Rattle.seat_programs.specs.StepTables.{May}
 use Rattle.seat_programs.specs.StepTables.{row, hand_at}
 use Rattle.seat_programs.specs.StepViews.{by_claim}
-use Rattle.seat_programs.specs.StepsOfChain.{exchanged, ready_claim}
-use Rattle.seat_programs.specs.StepsOfMessages.{filled_claim, took_message}
+use Rattle.seat_programs.specs.StepsOfChain.{exchanged}
+use Rattle.seat_programs.specs.StepsOfMessages.{took_message}
 use Rattle.seat_programs.specs.StepsOfLinks.{link_away, link_home_again, took_bytes}
-use Rattle.dropped_calls.specs.Below.programs_allowed.specs.program_steps.specs.Sound.{Sound, IsFitting, first_step, views_with, views_of, views_after}
+use Rattle.dropped_calls.specs.Below.programs_allowed.specs.program_steps.specs.Sound.{Sound, IsFitting, views_with, views_of, views_after}
 use Rattle.dropped_calls.specs.Below.programs_allowed.specs.program_steps.proofs.Cases.{with_rights, right_rights, put_rights, tick_cases, elem_there, ticks_first, views_first, calls_waiting}
 use Rattle.dropped_calls.specs.Below.programs_allowed.specs.program_steps.proofs.Leaves.{claim_way}
 use Rattle.dropped_calls.specs.Below.programs_allowed.specs.sock_runs.proofs.LinksStay.{IsGiven, run_given, finds_given}
@@ -49,6 +49,7 @@ use Rattle.dropped_calls.specs.accept_counts.proofs.Views.{row_same}
 use Rattle.send_causes.proofs.ClosedLostPrograms.{Try, Mode, Free, Held, Linked, Stored, Claims, Claimed, Filled, Marked, Goes, goes_first, goes_next}
 use Rattle.corr_core.proofs.Notes.{at_length}
 use Rattle.corr_core.specs.Word.{id_slot, id_first}
+use Rattle.seat_programs.specs.Rounds.{first_step}
 
 -- ## Accepted messages
 

@@ -25,7 +25,6 @@ use Rattle.seat_programs.specs.Readers.{reader}
 use Rattle.seat_programs.specs.Tasks.{opens, calls, plan_of}
 use Rattle.seat_programs.specs.Scripts.{IsRunWithCalls}
 use Rattle.seat_programs.specs.ToldCalls.{IsSent, Gave, IsResponse, IsPlaced, StandsOn}
-use Rattle.dropped_calls.specs.Below.programs_allowed.specs.program_steps.specs.Sound.{first_step}
 use Rattle.dropped_calls.specs.Below.programs_allowed.specs.program_walks.proofs.Whole.{IsListed, views_closed, views_ended, closed_sound, recorded_closed}
 use Rattle.dropped_calls.specs.Below.outcome_stories.specs.Causes.{WasGiven}
 use Rattle.dropped_calls.specs.Below.outcome_causes.proofs.Final.{at_there}
@@ -48,6 +47,7 @@ use Rattle.dropped_calls.specs.accept_counts.proofs.ReaderRuns.{Keeps, keeps_alo
 use Rattle.dropped_calls.specs.accept_counts.proofs.Runs.{AreLabelledIn}
 use Rattle.dropped_calls.specs.sent_once.proofs.Sends.{orders_are}
 use Rattle.send_causes.proofs.Laws.{laws}
+use Rattle.seat_programs.specs.Rounds.{first_step}
 
 module _ (script : List Item) (made : AreMade script) (turns : List Turn) (core : Core) (is : IsRunWithCalls script turns core) (closes : ClosesInRun script turns core is) (ids : ℕ → ℕ) (labelled : AreLabelledIn ids script turns core is) where
   abbrev views : List View

@@ -13,9 +13,8 @@ use Rattle.seat_programs.specs.Asides.{StoreCall}
 use Rattle.seat_programs.specs.Calls.{Call}
 use Rattle.seat_programs.specs.Cores.{SeatState}
 use Rattle.seat_programs.specs.Programs.{Program, Do, Aside}
-use Rattle.dropped_calls.specs.Below.programs_allowed.specs.program_steps.specs.Sound.{first_step}
 use Rattle.dropped_calls.specs.Below.programs_allowed.specs.program_steps.proofs.Cases.{elem_there}
-use Rattle.dropped_calls.specs.Below.call_stories.specs.Scenes.{Scene, In, Named, IsTaskOf, HasNoneOf, NoneFound, ToldOf, was_said, was_sent, was_begun, AreTold, Later}
+use Rattle.dropped_calls.specs.Below.call_stories.specs.Scenes.{Scene, Named, IsTaskOf, HasNoneOf, NoneFound, ToldOf, was_said, was_sent, was_begun, AreTold, Later}
 use Rattle.dropped_calls.specs.Below.call_stories.specs.Says.{Mark, NoneOfSetup, SaysOn}
 use Rattle.dropped_calls.specs.Below.call_stories.specs.Stories.{At, undo, CallStory}
 use Rattle.dropped_calls.specs.Below.story_steps.proofs.Calls.{told_at, open_named, none_found}
@@ -24,6 +23,8 @@ use Rattle.dropped_calls.specs.Below.call_stories.proofs.Lasting.{own_on}
 use Rattle.dropped_calls.specs.Below.story_steps.proofs.Numbered.{AreNumbered, one_task, listed_or}
 use Rattle.dropped_calls.specs.Below.story_ticks.proofs.Ticks.{IsSetUp}
 use Rattle.dropped_calls.specs.attempted_calls.proofs.AttemptedFacts.{IsOwn, IsStoring}
+use Rattle.seat_programs.specs.Rounds.{first_step}
+use Rattle.dropped_calls.specs.Below.outcome_stories.specs.Stories.{In}
 
 -- a place of a list of clients that has a task is one of the list
 listed : (cs : List (List Task)) (c : ℕ) (t : Task) → In t (slice_index_or cs c []) → (ts : List Task) × (slice_get cs c ≡ Some ts) × In t ts

@@ -11,7 +11,7 @@ use Rattle.seat_programs.specs.declared.task.Task.{Task}
 use Rattle.seat_programs.specs.Calls.{LoadName}
 use Rattle.seat_programs.specs.Cores.{Core, SeatState}
 use Rattle.seat_programs.specs.Ticks.{Moment, AreAnswered, ticked, run}
-use Rattle.dropped_calls.specs.Below.programs_allowed.specs.program_steps.specs.Sound.{first_step, views_after}
+use Rattle.dropped_calls.specs.Below.programs_allowed.specs.program_steps.specs.Sound.{views_after}
 use Rattle.dropped_calls.specs.Below.programs_allowed.specs.program_steps.proofs.Cases.{elem_there}
 use Rattle.dropped_calls.specs.Below.joint_runs.proofs.Both.{AreBoth}
 use Rattle.dropped_calls.specs.Below.call_stories.specs.Lists.{advanced_at}
@@ -30,6 +30,7 @@ use Rattle.dropped_calls.specs.attempted_calls.proofs.EndedNames.{follows_first}
 use Rattle.dropped_calls.specs.attempted_calls.proofs.AttemptedOwn.{IsTrueOf, own_ticks}
 use Rattle.dropped_calls.specs.attempted_calls.proofs.AttemptedStored.{Owns, AreSetUp, would_of}
 use Rattle.send_causes.proofs.FoundNames.{Missed, missed_on, missed_here}
+use Rattle.seat_programs.specs.Rounds.{first_step}
 
 first_there : {A : Type 0} (xs : List A) (i : ℕ) (x : A) → get_elem? xs i ≡ some x → (y : A) × (get_elem? xs 0 ≡ some y)
 first_there [] i x at = absurd (some-ne-none x (sym at))

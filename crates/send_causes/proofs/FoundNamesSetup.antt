@@ -21,12 +21,13 @@ use Rattle.seat_programs.specs.Runs.{kind_in, next_kind, IsAtRest}
 use Rattle.seat_programs.specs.Scripts.{programs, all_programs, beginning}
 use Rattle.seat_programs.specs.Ticks.{Moment, quiet, ticked, tick_with}
 use Rattle.seat_programs.specs.Told.{IsOpen}
-use Rattle.dropped_calls.specs.Below.programs_allowed.specs.program_steps.specs.Sound.{IsAhead, first_step}
+use Rattle.dropped_calls.specs.Below.programs_allowed.specs.program_steps.specs.Sound.{IsAhead}
 use Rattle.dropped_calls.specs.Below.programs_allowed.specs.sock_runs.proofs.Along.{seat_rests, ticked_ahead}
 use Rattle.dropped_calls.specs.Below.programs_allowed.specs.program_walks.proofs.Opening.{mapped}
 use Rattle.dropped_calls.specs.Below.programs_allowed.specs.sock_runs.proofs.Quiets.{ticked_rests}
 use Rattle.dropped_calls.specs.accept_counts.specs.Refused.{DidMiss, DidIn}
 use Rattle.dropped_calls.specs.refused_attempts.proofs.RefusedClosing.{set_first}
+use Rattle.seat_programs.specs.Rounds.{first_step}
 
 -- ## Programs that open sockets
 

@@ -30,7 +30,7 @@ use Rattle.dropped_calls.specs.Below.call_owing.specs.Lives.{ClosesInRun}
 use Rattle.dropped_calls.specs.Below.owed_calls.proofs.Known.{run_all_ended, run_all_rest}
 use Rattle.dropped_calls.specs.Below.call_stories.specs.Lists.{given}
 use Rattle.dropped_calls.specs.Below.call_stories.specs.Posts.{Post}
-use Rattle.dropped_calls.specs.Below.call_stories.specs.Scenes.{Scene, In, IsOpened, SeeksName, IsTaskOf, HasNoneOf}
+use Rattle.dropped_calls.specs.Below.call_stories.specs.Scenes.{Scene, IsOpened, SeeksName, IsTaskOf, HasNoneOf}
 use Rattle.dropped_calls.specs.Below.call_stories.specs.Says.{Mark}
 use Rattle.dropped_calls.specs.Below.call_stories.specs.Stories.{HasStory}
 use Rattle.dropped_calls.specs.Below.story_steps.proofs.End.{HasEnded, contains_in, listed_or, one_outcome, undo_done}
@@ -45,6 +45,7 @@ use Rattle.dropped_calls.specs.attempted_calls.proofs.AttemptedStored.{alone_set
 use Rattle.send_causes.proofs.FoundNamesRuns.{Since, then_since, since_change, since_ticks, Finds, find_along}
 use Rattle.send_causes.proofs.FoundNamesSetup.{none_in_setup, none_beside, none_at_rest, begins_setup, begins_at_rest}
 use Rattle.send_causes.proofs.FoundNames.{Missed}
+use Rattle.dropped_calls.specs.Below.outcome_stories.specs.Stories.{In}
 
 seeks_name : (p : Plan) (clients : List (List Task)) (os : List _) (fixed : Fixed) (gave : ℕ → List ℕ) (orders : ℕ → Order) (n : ℕ) (op : Op) → Seeks p clients os fixed gave orders n op → SeeksName n op
 seeks_name p clients os fixed gave orders n (ops.Fail m code) s = s

@@ -22,7 +22,7 @@ use Rattle.seat_programs.specs.Tasks.{plan_of, id_plan_of}
 use Rattle.seat_programs.specs.Scripts.{all_tasks, IsRunWithCalls}
 use Rattle.seat_programs.specs.Told.{IsTask, Became}
 use Rattle.seat_programs.specs.ToldCalls.{Accepted, IsSent, Gave, IsResponse, StandsOn, MayBeOn}
-use Rattle.dropped_calls.specs.Below.outcome_stories.specs.Stories.{In}
+use Rattle.dropped_calls.specs.Below.outcome_stories.specs.Stories.{In, In as Has}
 use Rattle.dropped_calls.specs.Below.joint_runs.proofs.Runs.{AreMade}
 use Rattle.dropped_calls.specs.Below.script_facts.proofs.Reading.{InRange}
 use Rattle.dropped_calls.specs.Below.script_facts.proofs.Targets.{AreThere}
@@ -31,7 +31,7 @@ use Rattle.dropped_calls.specs.Below.owed_calls.proofs.Known.{run_all_rest}
 use Rattle.dropped_calls.specs.Below.call_stories.specs.Decided.{posted_by}
 use Rattle.dropped_calls.specs.Below.call_stories.specs.Lists.{given, shows_in_run}
 use Rattle.dropped_calls.specs.Below.call_stories.specs.Posts.{Post}
-use Rattle.dropped_calls.specs.Below.call_stories.specs.Scenes.{Scene, In as Has, Begun, WhyOwn, ToldOf, was_said, was_sent, was_begun, AreTold}
+use Rattle.dropped_calls.specs.Below.call_stories.specs.Scenes.{Scene, Begun, WhyOwn, ToldOf, was_said, was_sent, was_begun, AreTold}
 use Rattle.dropped_calls.specs.Below.call_stories.specs.Says.{Mark}
 use Rattle.dropped_calls.specs.Below.story_steps.proofs.End.{HasEnded, one_outcome, call_of}
 use Rattle.dropped_calls.specs.Below.call_causes.proofs.Whole.{run_has_story, run_has_ended}

@@ -14,12 +14,11 @@ use Rattle.seat_programs.specs.Calls.{Call, SubRef, SetOdd, StoreCode}
 use Rattle.seat_programs.specs.Heads.{Head, Exit, Retry, Ended, Opens, Reads}
 use Rattle.seat_programs.specs.Programs.{Program, Do, Say, Sent, Write, Round, Keep, Retries, release, set_failed, fail, fail_outcome}
 use Rattle.seat_programs.specs.Attempts.{attempt}
-use Rattle.seat_programs.specs.Rounds.{round}
+use Rattle.seat_programs.specs.Rounds.{round, first_step}
 use Rattle.seat_programs.specs.Readers.{reader}
 use Rattle.seat_programs.specs.Clients.{HeldLife, operation, client_from, ending_of}
 use Rattle.seat_programs.specs.Cores.{resolved, next_step}
 use Rattle.accept_counts.specs.Below.programs_allowed.specs.program_steps.specs.AtSteps.{Asks, AtSteps, asks_words}
-use Rattle.accept_counts.specs.Below.programs_allowed.specs.program_steps.specs.Sound.{first_step}
 use Rattle.accept_counts.specs.Below.programs_allowed.specs.program_walks.proofs.Through.{PassesSteps, PassesPlain, PassesFails, PassesSends, PassesReads, is_plain, is_of_message, makes_life, by_errors, at_steps_plain, at_steps_sends, through_release, through_reach}
 use Rattle.accept_counts.specs.Below.programs_allowed.specs.program_walks.proofs.ThroughLoops.{through_round}
 use Rattle.accept_counts.specs.Below.programs_allowed.specs.program_walks.proofs.ThroughSends.{through_block, through_send, through_ending}

@@ -25,7 +25,7 @@ use Rattle.seat_programs.specs.Ticks.{Moment, IsAnswered, AreAnswered, quiet, st
 use Rattle.seat_programs.specs.Told.{AreTasks}
 use Rattle.seat_programs.specs.Writings.{Holder, Puts}
 use Rattle.accept_counts.specs.Below.programs_allowed.specs.program_steps.specs.GoesOn.{GoesOn}
-use Rattle.accept_counts.specs.Below.programs_allowed.specs.program_steps.specs.Sound.{state, Sound, AreFew, IsFitting, AreFitting, first_step, views_after, views_along, MOST_PLACES}
+use Rattle.accept_counts.specs.Below.programs_allowed.specs.program_steps.specs.Sound.{state, Sound, AreFew, IsFitting, AreFitting, views_after, views_along, MOST_PLACES}
 use Rattle.accept_counts.specs.Below.programs_allowed.specs.program_steps.proofs.Cases.{goes_first, ticks_first}
 use Rattle.accept_counts.specs.Below.programs_allowed.specs.sock_runs.proofs.Few.{places_small}
 use Rattle.accept_counts.specs.Below.programs_allowed.specs.sock_runs.proofs.LinkTicks.{RetriesGo}
@@ -46,6 +46,7 @@ use Rattle.sent_once.proofs.DropPlaces.{log_calls, in_hand, place_stays}
 use Rattle.sent_once.proofs.DropTicks.{IsKnown, CodesLaw, known_later, codes_ticks}
 use Rattle.sent_once.proofs.DropWords.{held_version, live_none, code_in}
 use Rattle.accept_counts.proofs.Ticks.{label_ticks}
+use Rattle.seat_programs.specs.Rounds.{first_step}
 
 -- a tick of a seat is its first step
 tick_steps : (p : Plan) (c : Core) (m : Moment) (seat : SeatState) (call : Call) (next : ℕ → Program) → get_elem? c.seats m.seat ≡ some seat → first_step seat.program ≡ Do call next → ticked p c m ≡ stepped p m.seat seat call next c

@@ -9,11 +9,11 @@ use Rattle.seat_programs.specs.declared.task.Task.{Task}
 use Rattle.seat_programs.specs.Calls.{Call, SetOdd, LoadOpen}
 use Rattle.seat_programs.specs.Writings.{Puts, Waits, Empties, Walks}
 use Rattle.seat_programs.specs.Programs.{Program, Do, Say, Write, Round}
-use Rattle.accept_counts.specs.Below.programs_allowed.specs.program_steps.specs.Sound.{first_step}
 use Rattle.accept_counts.specs.Below.programs_allowed.specs.program_steps.proofs.Cases.{IsOfLoop, loop_begins}
 use Rattle.accept_counts.specs.Below.outcome_stories.specs.Explains.{Way, Own, Beside, Closing, Done, Because, Explained, ExplainsBy, step}
 use Rattle.accept_counts.specs.Below.outcome_stories.specs.Stories.{Entry, In}
 use Rattle.sent_once.proofs.DropCodes.{SaysFailed}
+use Rattle.seat_programs.specs.Rounds.{first_step}
 
 says_on : (o : ℕ) (call : Call) (next : ℕ → Program) → SaysFailed o (Do call next) → ((i : ℕ) → call ≡ SetOdd i → ⊥) × SaysFailed o (next 0)
 says_on o (SetOdd i) next s = absurd s

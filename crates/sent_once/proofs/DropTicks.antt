@@ -32,7 +32,7 @@ use Rattle.seat_programs.specs.StepTables.{May}
 use Rattle.seat_programs.specs.StepTables.{row, hand_at}
 use Rattle.seat_programs.specs.StepsOfMessages.{took_message}
 use Rattle.seat_programs.specs.StepsOfLinks.{link_away, link_home_again, took_bytes}
-use Rattle.accept_counts.specs.Below.programs_allowed.specs.program_steps.specs.Sound.{Sound, first_step, views_after}
+use Rattle.accept_counts.specs.Below.programs_allowed.specs.program_steps.specs.Sound.{Sound, views_after}
 use Rattle.accept_counts.specs.Below.programs_allowed.specs.program_steps.proofs.Cases.{tick_cases}
 use Rattle.accept_counts.specs.Below.sock_steps.proofs.Maps.{set_at}
 use Rattle.accept_counts.specs.Below.outcome_stories.specs.Causes.{Asks}
@@ -48,6 +48,7 @@ use Rattle.sent_once.proofs.DropCodes.{Failing, NoFail, Fails, IsOtherCode, Says
 use Rattle.sent_once.proofs.DropSays.{IsInHand, first_numbered, says, sets_here}
 use Rattle.sent_once.proofs.DropWords.{version_in, code_in, coding_version, code_stays}
 use Rattle.corr_core.proofs.Notes.{at_length}
+use Rattle.seat_programs.specs.Rounds.{first_step}
 
 -- ## What is known of codes
 

@@ -32,7 +32,7 @@ use Rattle.seat_programs.specs.Cores.{Core, SeatState, resolved, next_step}
 use Rattle.seat_programs.specs.Runs.{IsAtRest}
 use Rattle.seat_programs.specs.Ticks.{Moment, AreAnswered, IsAnswered, quiet, ticked, run}
 use Rattle.seat_programs.specs.ToldCalls.{Accepted, label, AreOrders}
-use Rattle.accept_counts.specs.Below.programs_allowed.specs.program_steps.specs.Sound.{state, Sound, IsAhead, IsFitting, AreFitting, AreFew, views_after, first_step}
+use Rattle.accept_counts.specs.Below.programs_allowed.specs.program_steps.specs.Sound.{state, Sound, IsAhead, IsFitting, AreFitting, AreFew, views_after}
 use Rattle.accept_counts.specs.Below.programs_allowed.specs.program_steps.specs.GoesOn.{GoesOn, HasNothing}
 use Rattle.accept_counts.specs.Below.programs_allowed.specs.sock_runs.proofs.Along.{seat_rests, ticked_ahead}
 use Rattle.accept_counts.specs.Below.programs_allowed.specs.program_steps.proofs.Cases.{ComesNext, tick_keeps_marks}
@@ -45,6 +45,7 @@ use Rattle.accept_counts.proofs.Places.{places_ticks}
 use Rattle.accept_counts.proofs.Readings.{rights_none}
 use Rattle.accept_counts.specs.Below.outcome_ticks.proofs.Accepting.{IsNoSwap}
 use Rattle.corr_core.proofs.Notes.{at_length}
+use Rattle.seat_programs.specs.Rounds.{first_step}
 
 -- ## The ending exchanges no head
 

@@ -14,7 +14,7 @@ use Rattle.seat_programs.specs.Cores.{Core}
 use Rattle.seat_programs.specs.Ticks.{Moment, quiet, ticked, run}
 use Rattle.seat_programs.specs.Tasks.{opens, calls, plan_of, id_plan_of}
 use Rattle.seat_programs.specs.Scripts.{all_tasks, opened, set_up, played, IsRunWithCalls}
-use Rattle.accept_counts.specs.Below.programs_allowed.specs.program_steps.specs.Sound.{first_step, views_along}
+use Rattle.accept_counts.specs.Below.programs_allowed.specs.program_steps.specs.Sound.{views_along}
 use Rattle.accept_counts.specs.Below.programs_allowed.specs.sock_runs.proofs.Quiets.{run_seats}
 use Rattle.accept_counts.specs.Below.programs_allowed.specs.program_walks.proofs.Whole.{closing_of, views_played, views_closed}
 use Rattle.accept_counts.specs.Below.joint_runs.proofs.Both.{AreBoth, behind_both}
@@ -32,6 +32,7 @@ use Rattle.accept_counts.specs.Refused.{WouldStore, WouldOwn, AllWouldOwn}
 use Rattle.accept_counts.proofs.Runs.{AreLabelledIn}
 use Rattle.accept_counts.proofs.Grounds.{setting}
 use Rattle.corr_core.specs.Word.{call_id, id_slot, id_first}
+use Rattle.seat_programs.specs.Rounds.{first_step}
 
 -- the first step of a round
 owns_first : (has : ℕ → ℕ) (mine : ℕ → Bool) (b : Behind) (program : Program) → Owns has mine b program → (d : Behind) × Owns has mine d (first_step program)

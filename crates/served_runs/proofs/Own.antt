@@ -32,7 +32,7 @@ use Rattle.send_causes.specs.Below.outcome_ticks.proofs.Tasks.{one_task}
 use Rattle.send_causes.specs.Below.joint_runs.proofs.Runs.{AreMade}
 use Rattle.send_causes.specs.Below.call_owing.specs.Lives.{ClosesInRun}
 use Rattle.send_causes.specs.Below.call_stories.specs.Lists.{given, attempts_of_run}
-use Rattle.send_causes.specs.Below.call_stories.specs.Scenes.{Scene, In, WhyOwn}
+use Rattle.send_causes.specs.Below.call_stories.specs.Scenes.{Scene, WhyOwn}
 use Rattle.send_causes.specs.Below.story_steps.proofs.End.{call_of, shows_own}
 use Rattle.send_causes.specs.Below.call_causes.proofs.Posted.{run_few_attempts}
 use Rattle.send_causes.specs.Below.call_stories.proofs.Streams.{frames_stay, faults_more}
@@ -45,6 +45,7 @@ use Rattle.served_runs.proofs.Requests.{IsRequestOf}
 use Rattle.served_runs.specs.Served.{request_with}
 use Rattle.served_runs.proofs.Frames.{IsPiece, piece_frames, pieces_end, IsSmall, request_is, reply_is}
 use Rattle.send_causes.specs.Below.script_facts.proofs.Lists.{all_map}
+use Rattle.send_causes.specs.Below.outcome_stories.specs.Stories.{In}
 
 -- ## Lists
 

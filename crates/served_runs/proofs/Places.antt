@@ -22,13 +22,14 @@ use Rattle.seat_programs.specs.StepTables.{word_of, word_after}
 use Rattle.seat_programs.specs.Ticks.{Moment, IsAnswered, fed, with_places, onto_first, ticked}
 use Rattle.seat_programs.specs.StepTables.{May}
 use Rattle.send_causes.specs.Below.programs_allowed.specs.program_steps.specs.GoesOn.{GoesOn}
-use Rattle.send_causes.specs.Below.programs_allowed.specs.program_steps.specs.Sound.{state, Sound, IsFitting, HasLink, first_step}
+use Rattle.send_causes.specs.Below.programs_allowed.specs.program_steps.specs.Sound.{state, Sound, IsFitting, HasLink}
 use Rattle.send_causes.specs.Below.programs_allowed.specs.program_steps.proofs.Cases.{tick_cases, goes_first}
 use Rattle.send_causes.specs.Below.programs_allowed.specs.sock_runs.proofs.HandTicks.{taking}
 use Rattle.send_causes.specs.Below.programs_allowed.specs.sock_runs.proofs.LinkTicks.{RetriesGo, link_there, has_link, link_put_there}
 use Rattle.send_causes.specs.Below.call_owing.specs.Lives.{InHand}
 use Rattle.send_causes.specs.Below.call_owing.proofs.EndsStill.{view_of}
 use Rattle.served_runs.specs.Offered.{Lies, IsDone}
+use Rattle.seat_programs.specs.Rounds.{first_step}
 
 -- ## In hand
 

@@ -8,9 +8,8 @@ use Rattle.seat_programs.specs.Asides.{Step, Found, TakeBytes, Taking, Bytes, No
 use Rattle.seat_programs.specs.Heads.{Head, Exit, Retry, Reading, Posts, Unlocks, Decides, Locks, Joins, Opens, Reads, Discards, Ended}
 use Rattle.seat_programs.specs.Programs.{Program, Do, Say, Sent, Rest, Write, Aside, Round, Keep, Retries}
 use Rattle.seat_programs.specs.Readers.{LIMIT, last_of, ended_by, read_on, took, discarded, thrown_away, read}
-use Rattle.seat_programs.specs.Rounds.{round}
+use Rattle.seat_programs.specs.Rounds.{round, first_step}
 use Rattle.seat_programs.specs.Cores.{resolved, next_step}
-use Rattle.send_causes.specs.Below.programs_allowed.specs.program_steps.specs.Sound.{first_step}
 use Rattle.send_causes.specs.Below.run_theorems.specs.Heard.{bytes_found}
 use Rattle.send_causes.specs.Below.programs_allowed.specs.program_walks.proofs.Through.{PassesPlain, is_plain_aside, by_errors, locked, through_set_failed}
 use Rattle.send_causes.specs.Below.programs_allowed.specs.program_walks.proofs.ThroughLoops.{through_errors, through_locks, through_joins, through_answer, through_responses, through_opens}

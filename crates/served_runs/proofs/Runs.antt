@@ -15,7 +15,7 @@ use Rattle.seat_programs.specs.Programs.{Program, Aside}
 use Rattle.seat_programs.specs.Cores.{Core, SeatState}
 use Rattle.seat_programs.specs.Tasks.{opens, calls, plan_of}
 use Rattle.seat_programs.specs.Ticks.{Answer, Unasked, OfTake, Moment, IsAnswered, AreAnswered, quiet, ticked, run}
-use Rattle.send_causes.specs.Below.programs_allowed.specs.program_steps.specs.Sound.{Sound, IsFitting, AreFitting, first_step, views_after}
+use Rattle.send_causes.specs.Below.programs_allowed.specs.program_steps.specs.Sound.{Sound, IsFitting, AreFitting, views_after}
 use Rattle.send_causes.specs.Below.programs_allowed.specs.sock_runs.proofs.LinkTicks.{RetriesGo}
 use Rattle.send_causes.specs.Below.programs_allowed.specs.program_walks.proofs.OpensStay.{run_word}
 use Rattle.send_causes.specs.Below.programs_allowed.specs.program_walks.proofs.Recorded.{Recorded, recorded_ticks}
@@ -32,6 +32,7 @@ use Rattle.send_causes.specs.Below.accept_counts.proofs.Takeless.{none_taken}
 use Rattle.served_runs.specs.Offered.{OffersAt, AreOffered}
 use Rattle.served_runs.proofs.Places.{IsPut}
 use Rattle.served_runs.proofs.Ends.{Holds, holds_tick}
+use Rattle.seat_programs.specs.Rounds.{first_step}
 
 -- ## Ticks that ask no link
 

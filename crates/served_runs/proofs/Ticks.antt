@@ -18,13 +18,13 @@ use Rattle.seat_programs.specs.Readers.{read, reader}
 use Rattle.seat_programs.specs.Cores.{Core, SeatState, found_at, waiting_at, with_seat, resolved, next_step}
 use Rattle.seat_programs.specs.StepTables.{word_of}
 use Rattle.seat_programs.specs.Ticks.{Answer, OfPut, OfReady, OfTake, Moment, taken, with_message, with_link, with_put, with_ready, with_found, step_with, tick_with, ticked}
-use Rattle.send_causes.specs.Below.programs_allowed.specs.program_steps.specs.Sound.{first_step}
 use Rattle.send_causes.specs.Below.programs_allowed.specs.program_steps.proofs.Cases.{ticks_first}
 use Rattle.send_causes.specs.Below.run_theorems.specs.Heard.{taken_link, bytes_found}
 use Rattle.send_causes.specs.Below.call_stories.specs.Lists.{given}
 use Rattle.send_causes.specs.Below.accept_counts.proofs.Readings.{IsTake}
 use Rattle.served_runs.proofs.Readings.{Goes, is_last, goes_first, goes_next, begins_reading}
 use Rattle.send_causes.specs.Below.call_causes.proofs.HandledTicks.{take_of, taken_first}
+use Rattle.seat_programs.specs.Rounds.{first_step}
 
 -- ## What is taken
 

@@ -14,9 +14,9 @@ use Rattle.seat_programs.specs.Cores.{Core, SeatState, link_place}
 use Rattle.seat_programs.specs.Ticks.{Answer, OfTake, Moment, ticked}
 use Rattle.seat_programs.specs.Tasks.{plan_of}
 use Rattle.seat_programs.specs.Scripts.{set_up, IsRunWithCalls}
-use Rattle.send_causes.specs.Below.programs_allowed.specs.program_steps.specs.Sound.{first_step}
 use Rattle.send_causes.specs.Below.call_owing.specs.Lives.{InHand}
 use Rattle.send_causes.specs.Below.call_stories.specs.Lists.{given}
+use Rattle.seat_programs.specs.Rounds.{first_step}
 
 -- ## What a link took
 

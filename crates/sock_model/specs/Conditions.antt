@@ -11,6 +11,8 @@ use Rattle.sock_model.specs.declared.view.View.{View}
 use Rattle.sock_model.specs.Entries.{ticket_of}
 use Rattle.sock_model.specs.Memory.{IDLE}
 use Rattle.sock_model.specs.Links.{HoldsLink}
+use Rattle.sock_model.specs.Weights.{is_hold, is_met, is_probe}
+use Rattle.sock_model.specs.SlotRows.{marks_of}
 
 -- M1 and C7: its one claim is of request r
 pub record HasClaim (r : ℕ) (p : Plan) (v : View) : Type 0 where
@@ -85,3 +87,7 @@ pub record MayTake (v : View) : Type 0 where
   pub now : ℕ
   pub stage : mine.right.stage ≡ Writes now
   pub idle : mine.right.taken ≡ false
+
+-- of each right of the seat whose life is in slot i it keeps a reference to the life, where one reference to the slot goes
+abbrev pub KeepsRights : ℕ → View → Type 0
+KeepsRights i v = (x : ℕ) (r : Right) (h : ℕ) → get_elem? v.rights x ≡ some r → 0 < marks_of (is_hold h) i v → 0 < marks_of (is_met h r.link) i v → (0 < marks_of is_probe i v) ⊎ (1 < marks_of (is_hold h) i v)

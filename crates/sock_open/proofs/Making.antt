@@ -8,9 +8,9 @@ use Rattle.sock_io.specs.declared.link.Out.{Ghosts}
 use Rattle.sock_words.specs.declared.plain.Plan.{Plan}
 use Rattle.sock_model.specs.declared.view.View.{View}
 use Rattle.sock_model.specs.Weights.{total}
-use Rattle.sock_model.specs.Seats.{newcomer, below, carrier, earliest, later}
+use Rattle.sock_model.specs.Seats.{newcomer, below, carrier, earliest, later, lighter}
 use Rattle.sock_rule.specs.OnTable.{opener}
-use Rattle.sock_rule.specs.Seated.{IsSeat, giving, given, passing, passed}
+use Rattle.sock_rule.specs.Seated.{IsSeat, giving, given, passed}
 use Rattle.sock_rule.specs.declared.homes.SockHome.{SockHome}
 use Rattle.sock_table.specs.declared.passes.LinkPass.{LinkPass}
 use Rattle.sock_table.specs.Passes.{IsPass}
@@ -55,7 +55,7 @@ module _ {S : Type 0} (z : TableId) (p : Plan) where
   }
 
   -- a pass was split off
-  pub one_passed : (n m spare share : ℕ) (s t : Seat S View) → First z p n spare share s → IsSeat z p t → t.me ≡ (passing s.me.0, s.me.1) → n ≡ suc m → First z p m (spare - 1) share t
+  pub one_passed : (n m spare share : ℕ) (s t : Seat S View) → First z p n spare share s → IsSeat z p t → t.me ≡ (lighter s.me.0, s.me.1) → n ≡ suc m → First z p m (spare - 1) share t
   one_passed n m spare share s t f is view e = let v = ap (λ (x : Me S View). x.0) view in let b = f.blank in record {
     seat = is;
     slots = ap (λ (x : Me S View). x.1) view ∙ f.slots;

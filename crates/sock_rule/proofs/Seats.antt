@@ -16,7 +16,7 @@ use Rattle.sock_model.specs.declared.view.StoredWord.{StoredWord}
 use Rattle.sock_model.specs.Weights.{total}
 use Rattle.sock_model.specs.Layout.{place_index}
 use Rattle.sock_model.specs.Reads.{carries, as_link, shown, link_at}
-use Rattle.sock_model.specs.Seats.{newcomer, carrier, earliest, later, joined, spent, first_view}
+use Rattle.sock_model.specs.Seats.{newcomer, carrier, earliest, later, joined, spent, first_view, lighter}
 use Rattle.sock_model.specs.Rule.{lists_of, Rule}
 use Rattle.chain_core.specs.chain_steps.proofs.Lists.{at_length}
 use Rattle.chain_core.specs.slot_steps.proofs.Sums.{total-set, total-append}
@@ -26,7 +26,7 @@ use Rattle.chain_core.specs.sock_steps.proofs.Reseat.{opening_law}
 use Rattle.chain_core.specs.sock_steps.proofs.RuleSeats.{opening_rule, splitting_rule, joining_rule}
 use Rattle.chain_core.specs.sock_steps.proofs.Carriers.{carrying_rule}
 use Rattle.sock_rule.specs.OnTable.{share_of, is_put, put_in, is_labelled, labelled_in, is_headed, headed_in, IsIdle, Labelled, OnTable, opener}
-use Rattle.sock_rule.specs.Seated.{giving, given, MayGive, passing, passed, IsDone, IsNew}
+use Rattle.sock_rule.specs.Seated.{giving, given, MayGive, passed, IsDone, IsNew}
 use Rattle.sock_rule.specs.Faults.{faults_link, faults_of, away, out_of}
 use Rattle.sock_rule.proofs.Beside.{Calm, drop_stays}
 use Rattle.sock_rule.proofs.Faults.{new_faults, split_faults, join_faults}
@@ -137,11 +137,11 @@ module _ {S : Type 0} (shows : S → Home) (rose : S → ℕ) (p : Plan) (id : �
       no_entries (suc n) l e i x f = absurd (some-ne-none l (sym e))
 
   -- a pass becomes a seat of its own
-  pub passes_out : 0 < v.spare → 0 < v.share → Splits (OnTable shows rose p) id v (passing v) (passed v)
+  pub passes_out : 0 < v.spare → 0 < v.share → Splits (OnTable shows rose p) id v (lighter v) (passed v)
   passes_out room some_ s t here = let two = carrying_rule t.rule id v here mine (later v.passes) (earliest v.passes) (v.spare - 1) (λ k. omega (arith, passes-left k v.passes)) (omega (arith, room)) in
-      let r : Rule shows p record { words = s.words; homes = s.homes; views = set s.views id (passing v) ++ passed v ∷ [] } =
-      subst (λ (q : Plan). Rule shows p record { words = s.words; homes = s.homes; views = set s.views id (passing v) ++ carrier q (earliest v.passes) ∷ [] }) (sym mine) two in
-      adds_seat s t here (passing v) (passed v) some_ refl refl record { faults = λ k. refl; outs = λ k. refl } (λ k. (refl, refl)) (λ l. omega arith) (t.listed id v here) (omega arith) (omega arith) (λ e. record { marks = refl; lists = refl; finds = refl; stores = λ x w. refl; claims = refl; loose = refl; rights = refl; hands = refl }) refl (λ x. record { entries = x.entries; claimed = x.claimed }) record { entries = λ n l e. absurd (some-ne-none l (sym e)); claimed = λ i c e. absurd (some-ne-none c (sym e)) } r
+      let r : Rule shows p record { words = s.words; homes = s.homes; views = set s.views id (lighter v) ++ passed v ∷ [] } =
+      subst (λ (q : Plan). Rule shows p record { words = s.words; homes = s.homes; views = set s.views id (lighter v) ++ carrier q (earliest v.passes) ∷ [] }) (sym mine) two in
+      adds_seat s t here (lighter v) (passed v) some_ refl refl record { faults = λ k. refl; outs = λ k. refl } (λ k. (refl, refl)) (λ l. omega arith) (t.listed id v here) (omega arith) (omega arith) (λ e. record { marks = refl; lists = refl; finds = refl; stores = λ x w. refl; claims = refl; loose = refl; rights = refl; hands = refl }) refl (λ x. record { entries = x.entries; claimed = x.claimed }) record { entries = λ n l e. absurd (some-ne-none l (sym e)); claimed = λ i c e. absurd (some-ne-none c (sym e)) } r
 
   -- a seat takes in another
   pub takes : 0 < v.share → (other : ℕ) (w : View) → IsDone p w → Joins (OnTable shows rose p) id v other w (joined v w) spent

@@ -33,10 +33,6 @@ pub record MayGive (v : View) : Type 0 where
   pub another : 1 < v.share
   pub spare : 0 < v.spare
 
--- a seat that gives away its first pass, and the one that has only that
-abbrev pub passing : View → View
-passing v = record v { passes = later v.passes; spare = v.spare - 1 }
-
 abbrev pub passed : View → View
 passed v = carrier v.plan (earliest v.passes)
 

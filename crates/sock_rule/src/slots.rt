@@ -3,9 +3,9 @@ ghost use Rattle.std.specs.Prelude.{◌≡◌, ◌+◌, ◌-◌, ◌*◌, ◌%�
 ghost use Rattle.sock_words.specs.Words.{vref_nref, vref_version};
 ghost use Rattle.sock_model.specs.Weights.{is_busy, is_ref, is_any_coding, is_stage, is_hold, is_zero, is_recycled};
 ghost use Rattle.sock_model.specs.SlotRows.{marks_of, knows, claimed, gave_birth, added, back, subbed, failed, recycled, freed, looked};
-ghost use Rattle.ref_core.specs.Keeping.{KeepsRights};
 ghost use Rattle.sock_rule.specs.Seated.{IsSeat};
 ghost use Rattle.sock_rule.specs.Plays.{WordFits};
+ghost use Rattle.sock_model.specs.Conditions.{KeepsRights};
 
 use crate::plays::{AddRef, ClaimSlot, CreateLife, FreeSlot, LookWord, Recycle, SetOdd, SubRef};
 use crate::table::{RuleTable, SockSeat};

@@ -1,10 +1,10 @@
 // The table of words and homes, and its seats.
 ghost use Rattle.std.specs.Prelude.{◌≡◌, ◌+◌, ◌*◌, ◌<◌, ◌≤◌, ℕ, [], IfOk, IfErr, length};
 ghost use Rattle.sock_model.specs.Layout.{all_words, next_index, place_index};
-ghost use Rattle.sock_model.specs.Seats.{joined};
+ghost use Rattle.sock_model.specs.Seats.{joined, lighter};
 ghost use Rattle.sock_rule.specs.OnTable.{opener};
 ghost use Rattle.sock_rule.specs.Shows.{shows_in, SaysWays};
-ghost use Rattle.sock_rule.specs.Seated.{IsNew, IsSeat, MayGive, giving, given, passing, passed, IsDone};
+ghost use Rattle.sock_rule.specs.Seated.{IsNew, IsSeat, MayGive, giving, given, passed, IsDone};
 
 use crate::homes::SockHome;
 use crate::key::{TableKey, Ways};
@@ -77,7 +77,7 @@ impl<O: Out> RuleTable<O> {
         requires spare { 0 < seat.old.me.0.spare }
         ensures seat { IsSeat self.now.table.shared.table_id self.now.plan seat.new }
         ensures pass { result.table_id ≡ self.now.table.shared.table_id }
-        ensures view { (seat.new.me ≡ (passing seat.old.me.0, seat.old.me.1)) × (result.me ≡ (passed seat.old.me.0, [])) }
+        ensures view { (seat.new.me ≡ (lighter seat.old.me.0, seat.old.me.1)) × (result.me ≡ (passed seat.old.me.0, [])) }
     {
         self.table.shared.split_seat::<PassOut>(seat)
     }

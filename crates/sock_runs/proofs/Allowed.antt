@@ -11,13 +11,14 @@ use Rattle.seat_programs.specs.Cores.{Core, SeatState, found_at}
 use Rattle.seat_programs.specs.StepTables.{table_word, word_of, hand_at, May, Finds}
 use Rattle.program_steps.proofs.WordFrame.{in_table}
 use Rattle.program_steps.specs.GoesOn.{GoesOn}
-use Rattle.program_steps.specs.Sound.{state, Sound, AllowsWord, AllowsMove, Allows, AllowsStep, AreFew, MOST_PLACES, first_step}
+use Rattle.program_steps.specs.Sound.{state, Sound, AllowsWord, AllowsMove, Allows, AllowsStep, AreFew, MOST_PLACES}
 use Rattle.sock_runs.proofs.HandTicks.{taking}
 use Rattle.sock_runs.proofs.Founds.{finds}
 use Rattle.sock_runs.proofs.ChainTicks.{word_inside, free_small}
 use Rattle.sock_runs.proofs.LinkTicks.{RetriesGo, message_there, link_there, has_link, link_put_there, link_asked_there}
 use Rattle.program_steps.proofs.Cases.{beside, goes_first}
 use Rattle.sock_runs.proofs.Few.{last_small, places_small}
+use Rattle.seat_programs.specs.Rounds.{first_step}
 
 module _ (p : Plan) (c : Core) (vs : List View) (sound : Sound p c vs) (few : AreFew vs) (i : ℕ) (v : View) (at : get_elem? vs i ≡ some v) where
   abbrev found : Call → ℕ

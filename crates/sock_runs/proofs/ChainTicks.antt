@@ -29,7 +29,7 @@ use Rattle.sock_model.specs.References.{slot_facts}
 use Rattle.sock_model.specs.Links.{Given, Failed}
 use Rattle.sock_model.specs.Conditions.{HasRight, MayExchange}
 use Rattle.sock_model.specs.Reads.{memory, tokens, link_home}
-use Rattle.sock_model.specs.ChainRows.{with_claim, with_right, without_right, queued, righted, new_right, turned_right, placed_right, dropped_right}
+use Rattle.sock_model.specs.ChainRows.{with_claim, with_right, without_right, queued, righted, new_right, turned_right, placed_right, dropped_right, ready_claim, filled_claim}
 use Rattle.sock_model.specs.Lawful.{Lawful}
 use Rattle.sock_steps.specs.slot_steps.proofs.Numbers.{life-in}
 use Rattle.sock_steps.specs.chain_steps.proofs.Lists.{at_length, at_some, ticket_at_is}
@@ -54,8 +54,7 @@ use Rattle.seat_programs.specs.Programs.{LAST_GENERATION}
 use Rattle.seat_programs.specs.StepTables.{row, hand_at}
 use Rattle.seat_programs.specs.StepsOfLinks.{as_hand}
 use Rattle.seat_programs.specs.StepViews.{by_claim, by_right, settled_stage, settled}
-use Rattle.seat_programs.specs.StepsOfChain.{new_claim, ready_claim, exchanged, emptied, read_next, turned_next, freed_stage, freed_next}
-use Rattle.seat_programs.specs.StepsOfMessages.{filled_claim}
+use Rattle.seat_programs.specs.StepsOfChain.{new_claim, exchanged, emptied, read_next, turned_next, freed_stage, freed_next}
 use Rattle.seat_programs.specs.StepsOfSlots.{looked_clean}
 use Rattle.seat_programs.specs.StepsOfPlaces.{placed_next, dropped_next}
 use Rattle.seat_programs.specs.StepTables.{May}

@@ -12,10 +12,10 @@ use native.Mathlib.Decide.{ℕ_discrete}
 use Rattle.sock_rule.specs.slot_steps.proofs.Numbers.{only-same, only-else}
 use Rattle.sock_rule.specs.Becoming.{Became, Goes, hold_goes}
 use Rattle.sock_rule.proofs.Becoming.{then_, counts_as, becomes, failed_marks, failed_again, coded_marks}
-use Rattle.sock_rule.specs.ref_core.specs.Keeping.{KeepsRights}
 use Rattle.sock_table.specs.Refs.{Rests, EndedBy, GaveBack}
 use Rattle.sock_table.specs.Answers.{FailedBy, FoundFailed}
 use Rattle.sock_table.proofs.Giving.{some_ref}
+use Rattle.sock_model.specs.Conditions.{KeepsRights}
 
 module _ (p : Plan) (i found id : ℕ) (u a : View) (is : a ≡ failed i found u) (inside : i < p.slots) (at_id : i ≡ socket_id_slot id) (rests : Rests p u) (there : 0 < marks_of (is_hold (socket_id_version id)) i u)
     (held : (h : ℕ) → 0 < marks_of (is_hold h) i u → h ≡ vref_version found - vref_version found % 2) where

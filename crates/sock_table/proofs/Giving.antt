@@ -9,13 +9,13 @@ use Rattle.sock_model.specs.declared.view.View.{View}
 use Rattle.sock_model.specs.Weights.{total, is_ref, is_probe, is_hold, is_zero}
 use Rattle.sock_model.specs.Marks.{about}
 use Rattle.sock_model.specs.SlotRows.{marks_of, subbed, back}
-use Rattle.sock_rule.specs.ref_core.specs.Keeping.{KeepsRights}
 use Rattle.sock_rule.specs.slot_steps.proofs.Sums.{total_mono, total-append}
 use Rattle.sock_rule.specs.slot_steps.proofs.Numbers.{only_le, only-same}
 use Rattle.sock_rule.specs.Becoming.{Became, Goes, probe_goes, hold_goes}
 use Rattle.sock_rule.proofs.Becoming.{then_, counts_as, becomes, zero_left, subbed_marks}
 use Rattle.sock_table.specs.Refs.{EndedBy, GaveBack}
 use Rattle.sock_words.specs.Words.{vref_version, vref_nref}
+use Rattle.sock_model.specs.Conditions.{KeepsRights}
 
 -- whoever has a reference has one that is counted
 pub some_ref : (i : ℕ) (v : View) (m : Mark) → Goes i v m → 0 < marks_of is_ref i v

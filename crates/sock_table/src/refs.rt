@@ -5,11 +5,11 @@ ghost use Rattle.sock_model.specs.declared.marks.Mark.{Mark};
 ghost use Rattle.sock_model.specs.declared.marks.Mark.TheVariants.{Hold, Zero};
 ghost use Rattle.sock_model.specs.Weights.{is_ref, is_zero, is_any_coding};
 ghost use Rattle.sock_model.specs.SlotRows.{marks_of};
-ghost use Rattle.sock_rule.specs.ref_core.specs.Keeping.{KeepsRights};
 ghost use Rattle.sock_rule.specs.Seated.{IsSeat};
 ghost use Rattle.sock_rule.specs.Becoming.{Became, Goes};
 ghost use Rattle.sock_table.specs.Refs.{IsBetween, Rests, EndedBy, GaveBack, MayAddress};
 ghost use Rattle.sock_table.specs.Answers.{is_freed, IfLive, NoneLater, Holds, Held, GoneFrom, LookedAt, LinkOf, CodeOf, FailedBy, FoundFailed};
+ghost use Rattle.sock_model.specs.Conditions.{KeepsRights};
 
 use crate::table::SockTable;
 use sock_io::Out;

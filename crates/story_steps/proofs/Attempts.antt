@@ -15,7 +15,7 @@ use Rattle.seat_programs.specs.Posts.{packed, advance_of}
 use Rattle.call_stories.specs.Below.id_runs.proofs.Keeps.{parts_packed}
 use Rattle.call_stories.specs.Lists.{times}
 use Rattle.call_stories.specs.Posts.{posts_by}
-use Rattle.call_stories.specs.Scenes.{Birth, Scene, In, EndedAt, MayAdvance}
+use Rattle.call_stories.specs.Scenes.{Birth, Scene, EndedAt, MayAdvance}
 use Rattle.call_stories.specs.Says.{Claims, Locked, Mark, MayAside}
 use Rattle.call_stories.specs.Stories.{word_at, LiesAt, SlotFits, IsCurrent, BirthsLaw, IsBehind, KnowsStep}
 use Rattle.call_stories.proofs.Posts.{locked_parts, id_back}
@@ -23,6 +23,7 @@ use Rattle.call_stories.proofs.Effects.{Touches, beside, word_is, word_stays}
 use Rattle.story_steps.proofs.Slots.{queued_parts}
 use Rattle.story_steps.proofs.Births.{IsMake, IsEnd, turn, tests, passed_still, current_before}
 use Rattle.story_steps.proofs.BirthTicks.{two_of, Made, no_more, one_more, born_still}
+use Rattle.call_stories.specs.Below.outcome_stories.specs.Stories.{In}
 
 -- one of the list is one of a longer one
 pub in_behind : {A : Type 0} (x : A) (xs ys : List A) → In x ys → In x (xs ++ ys)

@@ -10,11 +10,12 @@ use Rattle.seat_programs.specs.id_rule.specs.Lawful.{all_words}
 use Rattle.sock_message.specs.Asked.{Asked}
 use Rattle.seat_programs.specs.declared.task.Task.{Task}
 use Rattle.seat_programs.specs.Asides.{Step, Found}
-use Rattle.call_stories.specs.Scenes.{Birth, Scene, In, IsBorn}
+use Rattle.call_stories.specs.Scenes.{Birth, Scene, IsBorn}
 use Rattle.call_stories.specs.Says.{Claims, Mark, MayAside}
 use Rattle.call_stories.specs.Stories.{word_at, LiesAt, SlotFits, HasPassed, IsCurrent, AreApart, AllApart, BirthsLaw, IsBehind, KnowsStep}
 use Rattle.call_stories.proofs.Effects.{SameAt}
 use Rattle.story_steps.proofs.Births.{Turn, keeps, ends, makes, IsMake, IsEnd, turn, there_still}
+use Rattle.call_stories.specs.Below.outcome_stories.specs.Stories.{In}
 
 -- ## Ids apart
 

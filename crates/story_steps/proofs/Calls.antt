@@ -17,11 +17,12 @@ use Rattle.seat_programs.specs.Programs.{Program, Say, Aside, Round}
 use Rattle.seat_programs.specs.Posts.{post, post_with, posted, decide, decided}
 use Rattle.seat_programs.specs.Attempts.{attempt, begin_call, claim_id, call, tried_again, retry_locked, retry, expire_outcome, expire, join}
 use Rattle.call_stories.specs.Below.id_runs.proofs.Loops.{not_equal}
-use Rattle.call_stories.specs.Scenes.{Birth, Scene, In, Said, IsOver, IsBorn, IsOpened, SeeksName, IsClaimed, CauseOf, of_expiry, by_expiry, Named, Begun, IsTaskOf, HasNoneOf, NoneFound, HasBegunIn, HasNotBegunIn, WhyOwn, IsJust, ToldOf, was_said, was_sent, was_begun, AreTold}
+use Rattle.call_stories.specs.Scenes.{Birth, Scene, Said, IsOver, IsBorn, IsOpened, SeeksName, IsClaimed, CauseOf, of_expiry, by_expiry, Named, Begun, IsTaskOf, HasNoneOf, NoneFound, HasBegunIn, HasNotBegunIn, WhyOwn, IsJust, ToldOf, was_said, was_sent, was_begun, AreTold}
 use Rattle.call_stories.specs.Says.{Shape, with_attempt, NoSlot, Claims, Locked, Mark, with_slot, with_owed, with_made, with_done, IsFree, put_in, SaidBy, NoneOfSetup, Again, LeavesUnlock, LeavesLock}
 use Rattle.call_stories.proofs.Lasting.{far, own_on}
 use Rattle.call_stories.proofs.Posts.{speech, way, again_same, follows_on, id_back, was_posted, failed_of, Exits, Decided, decide_says, decided_says, post_with_says, post_says}
 use Rattle.call_stories.proofs.Programs.{attempt_says}
+use Rattle.call_stories.specs.Below.outcome_stories.specs.Stories.{In}
 
 module _ (p : Plan) (q : IdPlan) (clients : List (List Task)) (gives : ℕ → List ℕ) where
   open speech p q clients gives use {Tells, Later', Ends}

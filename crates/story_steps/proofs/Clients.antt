@@ -15,12 +15,13 @@ use Rattle.seat_programs.specs.Sends.{accept, heading_of, claim_from, start, sen
 use Rattle.seat_programs.specs.Clients.{HeldLife, held_under, without_name, give_back, drop_of, operation, client_from, ending_of}
 use Rattle.seat_programs.specs.Scripts.{sizes_of}
 use Rattle.call_stories.specs.Below.id_runs.proofs.Loops.{not_equal}
-use Rattle.call_stories.specs.Scenes.{Scene, In, Named, IsTaskOf, NoneFound, WhyOwn, IsJust}
+use Rattle.call_stories.specs.Scenes.{Scene, Named, IsTaskOf, NoneFound, WhyOwn, IsJust}
 use Rattle.call_stories.specs.Says.{Mark, with_slot, with_done, IsFree, SaidBy, Again}
 use Rattle.call_stories.proofs.Lasting.{far}
 use Rattle.call_stories.proofs.Posts.{speech, way, again_same, then_does, then_way, follows_later}
 use Rattle.call_stories.proofs.Programs.{release_says, address_says, set_failed_says, accept_says, releases}
 use Rattle.story_steps.proofs.Calls.{IsCalls, IsNext, own_at, none_found, call_says, expire_says, join_says}
+use Rattle.call_stories.specs.Below.outcome_stories.specs.Stories.{In}
 
 module _ (p : Plan) (q : IdPlan) (clients : List (List Task)) (gives : ℕ → List ℕ) where
   open speech p q clients gives use {Tells, Later', Next, Ends}

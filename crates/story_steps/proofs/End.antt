@@ -13,11 +13,12 @@ use Rattle.seat_programs.specs.Told.{IsTask, Became}
 use Rattle.seat_programs.specs.ToldCalls.{Fixed, Order, IsAnsweredBy}
 use Rattle.call_stories.specs.Lists.{given}
 use Rattle.call_stories.specs.Target.{IsOnCalls}
-use Rattle.call_stories.specs.Scenes.{Birth, Scene, In, IsAnsweredIn, WhyEnded, WhyOwn, ToldOf, was_said, was_sent, was_begun, AreTold}
+use Rattle.call_stories.specs.Scenes.{Birth, Scene, IsAnsweredIn, WhyEnded, WhyOwn, ToldOf, was_said, was_sent, was_begun, AreTold}
 use Rattle.call_stories.specs.Says.{Mark}
 use Rattle.call_stories.specs.Stories.{At, word_at, undo, BirthsLaw, TasksLaw}
 use Rattle.story_steps.proofs.BirthTicks.{two_of}
 use Rattle.corr_core.specs.Word.{id_slot}
+use Rattle.call_stories.specs.Below.outcome_stories.specs.Stories.{In}
 
 -- ## Lists
 

@@ -10,9 +10,8 @@ use Rattle.seat_programs.specs.Asides.{PutCall}
 use Rattle.seat_programs.specs.Heads.{Posts, Unlocks, Decides, Locks, Joins, Opens, Reads, Discards, Deciding, HasEnded}
 use Rattle.seat_programs.specs.Posts.{end_id, unlocked, decides_round}
 use Rattle.seat_programs.specs.Programs.{Program, Write, Aside, Round}
-use Rattle.seat_programs.specs.Rounds.{round}
+use Rattle.seat_programs.specs.Rounds.{round, first_step}
 use Rattle.seat_programs.specs.Sends.{block}
-use Rattle.call_stories.specs.Below.programs_allowed.specs.program_steps.specs.Sound.{first_step}
 use Rattle.call_stories.specs.Scenes.{Scene, IsBorn}
 use Rattle.call_stories.specs.Says.{Mark, MayAside, AtHead, SaysOn}
 use Rattle.call_stories.proofs.Posts.{id_back}

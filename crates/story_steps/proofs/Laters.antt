@@ -19,7 +19,7 @@ use Rattle.seat_programs.specs.Asides as asides
 use Rattle.seat_programs.specs.Posts.{packed, advance_of}
 use Rattle.call_stories.specs.Below.id_runs.proofs.Keeps.{parts_packed}
 use Rattle.call_stories.specs.Posts.{posts_by}
-use Rattle.call_stories.specs.Scenes.{Birth, Scene, In, IsBorn, IsClaimed, Came, Begun, StaysWithin, Later}
+use Rattle.call_stories.specs.Scenes.{Birth, Scene, IsBorn, IsClaimed, Came, Begun, StaysWithin, Later}
 use Rattle.call_stories.specs.Says.{Claims, Holds, Mark, MayAside}
 use Rattle.call_stories.specs.Stories.{word_at, LiesAt, SlotFits, BirthsLaw, IsBehind, KnowsStep, put_of, born_by, claimed_by}
 use Rattle.call_stories.proofs.Streams.{frames_stay}
@@ -27,6 +27,7 @@ use Rattle.call_stories.proofs.Effects.{beside, word_is, lies_is}
 use Rattle.story_steps.proofs.Births.{IsMake}
 use Rattle.story_steps.proofs.Attempts.{in_behind, ended_still}
 use Rattle.story_steps.proofs.BirthTicks.{Made, no_more, one_more, one_call, born, born_still, apart}
+use Rattle.call_stories.specs.Below.outcome_stories.specs.Stories.{In}
 
 module _ (p : Plan) (q : IdPlan) (clients : List (List Task)) (gives : ℕ → List ℕ) (w w' : Scene) (m : Mark) (plan : w.core.calls.plan ≡ q) (sized : length w.core.calls.words ≡ all_words q) (fits : SlotFits q w m.slot) (law : BirthsLaw p q clients gives w)
     (low : (k : ℕ) → k < q.slots → (word_at w k).first ≤ 67108856) where

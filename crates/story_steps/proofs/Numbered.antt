@@ -4,9 +4,10 @@ use Rattle.std.specs.List.{AllByRecursion}
 use Rattle.sock_words.specs.declared.plain.Plan.{Plan}
 use Rattle.corr_core.specs.declared.marks.Plan.{Plan as IdPlan}
 use Rattle.seat_programs.specs.declared.task.Task.{Task}
-use Rattle.call_stories.specs.Scenes.{In, IsTaskOf}
+use Rattle.call_stories.specs.Scenes.{IsTaskOf}
 use Rattle.call_stories.specs.Stories.{undo}
 use Rattle.story_steps.proofs.BirthTicks.{in_all}
+use Rattle.call_stories.specs.Below.outcome_stories.specs.Stories.{In}
 
 abbrev pub AllDistinct : List Task → Type 0
 AllDistinct [] = Unit {0}

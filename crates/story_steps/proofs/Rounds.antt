@@ -7,10 +7,11 @@ use Rattle.seat_programs.specs.Heads.{Head, Exit, Posts, Unlocks, Decides, Locks
 use Rattle.seat_programs.specs.Programs.{Program, Round}
 use Rattle.seat_programs.specs.Rounds.{round}
 use Rattle.call_stories.specs.Decided.{Decision, decision_in}
-use Rattle.call_stories.specs.Scenes.{Scene, In}
+use Rattle.call_stories.specs.Scenes.{Scene}
 use Rattle.call_stories.specs.Says.{Mark, SaysOn}
 use Rattle.call_stories.proofs.Posts.{posts_says, unlocks_says, decides_says, locks_says, joins_says}
 use Rattle.story_steps.proofs.Reading.{reads_says, discards_says, opens_says}
+use Rattle.call_stories.specs.Below.outcome_stories.specs.Stories.{In}
 
 module _ (p : Plan) (q : IdPlan) (clients : List (List Task)) (gives : ℕ → List ℕ) where
   -- where the error on which it decides is noted, if it decides on one

@@ -13,9 +13,9 @@ use Rattle.seat_programs.specs.Runs.{from_to}
 use Rattle.seat_programs.specs.Tasks.{plan_of}
 use Rattle.seat_programs.specs.Scripts.{IsRunWithCalls}
 use Rattle.call_stories.specs.Lists.{Take, given, takes_of_run, is_last, is_closed, found_so, is_fault, early_of_run, closed_of_run}
-use Rattle.call_stories.specs.Scenes.{In}
 use Rattle.call_stories.proofs.Posts.{and_left, and_right, or_cases}
 use Rattle.story_steps.proofs.End.{contains_in}
+use Rattle.call_stories.specs.Below.outcome_stories.specs.Stories.{In}
 
 kept_passes : (f : ℕ → Bool) (xs : List ℕ) (k : ℕ) → In k (filter f xs) → f k ≡ true
 kept_passes f [] k there = absurd there

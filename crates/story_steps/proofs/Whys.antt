@@ -10,13 +10,15 @@ use Rattle.seat_programs.specs.declared.task.Op.{Op}
 use Rattle.seat_programs.specs.declared.task.Op.TheVariants as ops
 use Rattle.seat_programs.specs.declared.task.Task.{Task}
 use Rattle.seat_programs.specs.Told.{IsTask, Became}
-use Rattle.seat_programs.specs.ToldCalls.{Fixed, Order, HasBegun, MayNotHaveBegun, IsPosted, WhyJoin, WhyExpire}
+use Rattle.seat_programs.specs.ToldCalls.{Fixed, Order, HasBegun, MayNotHaveBegun, WhyJoin, WhyExpire}
 use Rattle.call_stories.specs.Lists.{given}
-use Rattle.call_stories.specs.Scenes.{Scene, In, IsErrorCode, WhyEnded, WhyOwn, HasBegunIn, HasNotBegunIn, ToldOf, was_said, was_sent, was_begun, AreTold}
+use Rattle.call_stories.specs.Scenes.{Scene, IsErrorCode, WhyEnded, WhyOwn, HasBegunIn, HasNotBegunIn, ToldOf, was_said, was_sent, was_begun, AreTold}
 use Rattle.call_stories.specs.Says.{Mark}
 use Rattle.call_stories.specs.Stories.{undo, QuietOf, AreQuiet}
 use Rattle.story_steps.proofs.BirthTicks.{in_all}
 use Rattle.story_steps.proofs.End.{HasEnded, ended_call, one_outcome, contains_in, listed_or, undo_done}
+use Rattle.seat_programs.specs.brpc_model.specs.Outcomes.{IsPosted}
+use Rattle.call_stories.specs.Below.outcome_stories.specs.Stories.{In}
 
 -- tasks stand in the order of their numbers
 abbrev pub AreAscending : List Task → Type 0
@@ -88,7 +90,7 @@ module _ (p : Plan) (q : IdPlan) (clients : List (List Task)) (gives : ℕ → L
 
       -- ## Causes
 
-      pub posted : (code : ℕ) → IsErrorCode p q clients gives code → IsPosted p clients w.core.outcomes fixed (given w.core) orders code
+      pub posted : (code : ℕ) → IsErrorCode p q clients gives code → IsPosted code
       posted code (inl is) = inl (in_contains (1008 ∷ 1009 ∷ 1014 ∷ 2002 ∷ 3001 ∷ []) code (inl is))
       posted code (inr (inl is)) = inl (in_contains (1008 ∷ 1009 ∷ 1014 ∷ 2002 ∷ 3001 ∷ []) code (inr (inl is)))
       posted code (inr (inr (inl is))) = inl (in_contains (1008 ∷ 1009 ∷ 1014 ∷ 2002 ∷ 3001 ∷ []) code (inr (inr (inl is))))

@@ -6,14 +6,13 @@ use Rattle.sock_words.specs.declared.plain.Plan.{Plan}
 use Rattle.sock_model.specs.declared.view.View.{View}
 use Rattle.seat_programs.specs.Programs.{Program, Do, Write, Round}
 use Rattle.seat_programs.specs.Sends.{block}
-use Rattle.seat_programs.specs.Rounds.{round}
+use Rattle.seat_programs.specs.Rounds.{round, first_step}
 use Rattle.seat_programs.specs.Cores.{Core}
 use Rattle.seat_programs.specs.Ticks.{Moment}
 use Rattle.story_steps.specs.Below.programs_allowed.specs.program_steps.specs.GoesOn.{GoesOn}
-use Rattle.story_steps.specs.Below.programs_allowed.specs.program_steps.specs.Sound.{Sound, first_step}
+use Rattle.story_steps.specs.Below.programs_allowed.specs.program_steps.specs.Sound.{Sound}
 use Rattle.story_steps.specs.Below.programs_allowed.specs.program_steps.proofs.Cases as cases
 use Rattle.story_steps.specs.Below.programs_allowed.specs.program_steps.proofs.Cases.{elem_there}
-use Rattle.story_steps.specs.Below.id_runs.specs.Goes as goes
 use Rattle.story_ticks.proofs.Ticks.{AllowsDo}
 
 module _ (p : Plan) where
@@ -21,12 +20,12 @@ module _ (p : Plan) where
   step_allows v (Do call next) g = (v, g.0)
   step_allows v _ g = tt
 
-  first_allows : (v : View) (program : Program) → GoesOn p v (first_step program) → AllowsDo p (goes.first_of program)
+  first_allows : (v : View) (program : Program) → GoesOn p v (first_step program) → AllowsDo p (first_step program)
   first_allows v (Write w after) g = step_allows v (block w after) g
   first_allows v (Round head next) g = step_allows v (round head next) g
   first_allows v (Do call next) g = step_allows v (Do call next) g
   first_allows v _ g = tt
 
-  pub allows : (c : Core) (vs : List View) (m : Moment) → Sound p c vs → (seat : Rattle.seat_programs.specs.Cores.SeatState) → get_elem? c.seats m.seat ≡ some seat → AllowsDo p (goes.first_of seat.program)
+  pub allows : (c : Core) (vs : List View) (m : Moment) → Sound p c vs → (seat : Rattle.seat_programs.specs.Cores.SeatState) → get_elem? c.seats m.seat ≡ some seat → AllowsDo p (first_step seat.program)
   allows c vs m sound seat at = let v = elem_there c.seats vs m.seat seat sound.each at in
       first_allows v.0 seat.program (cases.goes_first p v.0 seat.program (sound.seats m.seat seat v.0 at v.1).goes_on)

@@ -12,7 +12,7 @@ use Rattle.seat_programs.specs.Programs.{Program, Say, Sent, Aside, Keep, Retrie
 use Rattle.seat_programs.specs.Cores.{resolved, said, next_step}
 use Rattle.sock_words.specs.declared.outcome.Outcome.{Outcome}
 use Rattle.story_steps.specs.Below.joint_runs.specs.Below.sock_steps.proofs.Maps.{set_twice}
-use Rattle.story_steps.specs.call_stories.specs.Scenes.{Birth, Saying, Scene, In, IsOver, IsOther, StaysWithin, Later}
+use Rattle.story_steps.specs.call_stories.specs.Scenes.{Birth, Saying, Scene, IsOver, IsOther, StaysWithin, Later}
 use Rattle.story_steps.specs.call_stories.specs.Says.{Claims, Mark, IsNextSaid, SaidBy, MayAside, Moves, Shows, SaysOn}
 use Rattle.story_steps.specs.call_stories.specs.Stories.{At, word_at, SlotFits, SlotsLaw, BirthsLaw, TasksLaw, ClaimsLaw, ReadsLaw, IsBehind, KnowsStep, mark_after}
 use Rattle.story_steps.specs.call_stories.proofs.Lasting.{here_later}
@@ -28,6 +28,7 @@ use Rattle.story_ticks.proofs.Sayings.{put_at, other_call}
 use Rattle.story_ticks.proofs.TaskTicks.{changed}
 use Rattle.story_ticks.proofs.TaskSteps.{changes}
 use Rattle.story_ticks.proofs.Chains.{sayings_of, AreFewTries, KeepsFew, IsKept, chain, said_first}
+use Rattle.story_steps.specs.call_stories.specs.Below.outcome_stories.specs.Stories.{In}
 
 -- what was said stays said
 pub sayings_keep : (x : Program) (ss : List Saying) (s : Saying) → In s ss → In s (sayings_of x ss)

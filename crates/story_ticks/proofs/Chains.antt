@@ -11,7 +11,7 @@ use Rattle.seat_programs.specs.Attempts.{retry}
 use Rattle.seat_programs.specs.Programs.{Program, Do, Say, Sent, Rest, TakeMessage, TakeHome, PutHome, PutBytes, AskReady, Write, Aside, Round, Keep, Retries}
 use Rattle.seat_programs.specs.Cores.{resolved, said, next_step}
 use Rattle.story_steps.specs.Below.joint_runs.specs.Below.sock_steps.proofs.Maps.{set_twice}
-use Rattle.story_steps.specs.call_stories.specs.Scenes.{Saying, Scene, In, Said, Later, was_said, was_sent}
+use Rattle.story_steps.specs.call_stories.specs.Scenes.{Saying, Scene, Said, Later, was_said, was_sent}
 use Rattle.story_steps.specs.call_stories.specs.Says.{Mark, with_done, with_owed, IsFree, IsNextSaid, SaidBy, SaysOn}
 use Rattle.story_steps.specs.call_stories.specs.Stories.{At, BirthsLaw, TasksLaw, unclaimed}
 use Rattle.story_steps.specs.call_stories.proofs.Lasting.{far}
@@ -23,6 +23,7 @@ use Rattle.story_steps.proofs.Moving.{free_unclaimed}
 use Rattle.story_steps.proofs.Numbered.{AreNumbered}
 use Rattle.story_ticks.proofs.Sayings.{put_at, say_own, sent_own}
 use Rattle.story_ticks.proofs.SayingsOwed.{say_owed}
+use Rattle.story_steps.specs.call_stories.specs.Below.outcome_stories.specs.Stories.{In}
 
 -- what was said with that, the latest first
 abbrev pub sayings_of : Program → List Saying → List Saying

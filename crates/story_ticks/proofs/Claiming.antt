@@ -13,7 +13,7 @@ use Rattle.seat_programs.specs.declared.task.Task.{Task}
 use Rattle.seat_programs.specs.Asides.{Step, ClaimId, PutCall, MakeId, StoreCall, LoadCall, StoreAt, LoadAt, LoadIdWord, LockId, PostId, UnlockId, EndId, FreeId, TakeCall, TakeBytes, Bytes, Found}
 use Rattle.seat_programs.specs.Asides as asides
 use Rattle.seat_programs.specs.Posts.{packed, advance_of}
-use Rattle.story_steps.specs.call_stories.specs.Scenes.{Birth, Saying, Claim, Scene, In, IsClaimed, IsTaskOf, HasRoom}
+use Rattle.story_steps.specs.call_stories.specs.Scenes.{Birth, Saying, Claim, Scene, IsClaimed, IsTaskOf, HasRoom}
 use Rattle.story_steps.specs.call_stories.specs.Says.{with_attempt, unlocked_by, shape_of, Slot, NoSlot, Claims, Locked, Leaves, Mark, with_slot, put_in, taken_out, IsVacant, MayAside}
 use Rattle.story_steps.specs.call_stories.specs.Stories.{At, tag_at, SlotFits, BirthsLaw, TasksLaw, ClaimsLaw, tasks_behind, ahead, unclaimed, IsBehind, KnowsStep, put_of, born_by, claimed_by, stored_by, mark_after}
 use Rattle.story_steps.specs.call_stories.proofs.Effects.{Touches, beside, tag_stays, tag_is}
@@ -22,6 +22,7 @@ use Rattle.story_steps.proofs.BirthTicks.{in_all}
 use Rattle.story_steps.proofs.Moving.{free_unclaimed}
 use Rattle.story_steps.proofs.Numbered.{AllDistinct, AreNumbered}
 use Rattle.story_ticks.proofs.Sayings.{at_either, is_todo, distinct_at}
+use Rattle.story_steps.specs.call_stories.specs.Below.outcome_stories.specs.Stories.{In}
 
 -- ## Counting
 

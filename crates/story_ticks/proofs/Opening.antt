@@ -21,7 +21,7 @@ use Rattle.seat_programs.specs.Readers.{reader}
 use Rattle.seat_programs.specs.Cores.{Core, SeatState, resolved, said, next_step}
 use Rattle.seat_programs.specs.Scripts.{opening_words, sizes_of, programs, readers_from, all_programs, beginning}
 use Rattle.story_steps.specs.Below.id_runs.proofs.Opening.{unused}
-use Rattle.story_steps.specs.call_stories.specs.Scenes.{Saying, Scene, In, IsOver, IsTaskOf, LeadsTo, Later}
+use Rattle.story_steps.specs.call_stories.specs.Scenes.{Saying, Scene, IsOver, IsTaskOf, LeadsTo, Later}
 use Rattle.story_steps.specs.call_stories.specs.Says.{NoSlot, Mark, SaysOn}
 use Rattle.story_steps.specs.call_stories.specs.Stories.{At, word_at, SlotsLaw, BirthsLaw, TasksLaw, ClaimsLaw, ReadsLaw, HasStory}
 use Rattle.story_steps.specs.call_stories.proofs.Lasting.{here_later}
@@ -35,6 +35,7 @@ use Rattle.story_ticks.proofs.Chains.{sayings_of, KeepsFew, IsKept, chain}
 use Rattle.story_ticks.proofs.Kept.{kept_slots, kept_claims, kept_reads}
 use Rattle.story_steps.specs.call_stories.proofs.SockWords.{AreOther}
 use Rattle.story_ticks.proofs.AsideTicks.{sayings_keep, overs_keep, said_all}
+use Rattle.story_steps.specs.call_stories.specs.Below.outcome_stories.specs.Stories.{In}
 
 -- ## Lists
 

@@ -11,12 +11,13 @@ use Rattle.sock_words.specs.declared.outcome.Outcome.{Outcome}
 use Rattle.corr_core.specs.declared.marks.Plan.{Plan as IdPlan}
 use Rattle.seat_programs.specs.declared.task.Op.TheVariants as ops
 use Rattle.seat_programs.specs.declared.task.Task.{Task}
-use Rattle.story_steps.specs.call_stories.specs.Scenes.{Birth, Saying, Scene, In, Said, IsTaskOf, WhyOwn, ToldOf}
+use Rattle.story_steps.specs.call_stories.specs.Scenes.{Birth, Saying, Scene, Said, IsTaskOf, WhyOwn, ToldOf}
 use Rattle.story_steps.specs.call_stories.specs.Says.{Mark, with_done}
 use Rattle.story_steps.specs.call_stories.specs.Stories.{At, HasPassed, BirthsLaw, undo, ahead, IsUntold, IsBegunBy, IsOwed, AreOnce, QuietOf, AreQuiet, TasksLaw}
 use Rattle.story_steps.proofs.BirthTicks.{in_all}
 use Rattle.story_steps.proofs.Numbered.{AllDistinct, AreNumbered, distinct_undo}
 use Rattle.story_steps.proofs.Moving.{in_todo, in_done, listed}
+use Rattle.story_steps.specs.call_stories.specs.Below.outcome_stories.specs.Stories.{In}
 
 -- ## Lists
 

@@ -23,7 +23,7 @@ use Rattle.story_steps.specs.Below.call_owing.specs.Below.script_facts.proofs.Nu
 use Rattle.story_steps.specs.Below.call_owing.specs.Below.script_facts.proofs.Targets.{IsTarget, AreThere, expired, joined}
 use Rattle.story_steps.specs.Below.call_owing.specs.Below.script_facts.proofs.TaskLemmas as lemmas
 use Rattle.story_steps.specs.Below.call_owing.specs.Below.script_facts.proofs.TaskLemmas.{of_tasks, has_task, numbers_at, call_asks, expire_asks, join_asks, fail_asks}
-use Rattle.story_steps.specs.call_stories.specs.Scenes.{In, IsTaskOf}
+use Rattle.story_steps.specs.call_stories.specs.Scenes.{IsTaskOf}
 use Rattle.story_steps.proofs.BirthTicks.{all_in, in_all}
 use Rattle.story_steps.proofs.Numbered.{AllDistinct, AreNumbered}
 use Rattle.story_steps.proofs.Calls.{IsCalls}
@@ -31,6 +31,7 @@ use Rattle.story_steps.proofs.Clients.{FitsOp, FitsClient, FitsTask}
 use Rattle.story_ticks.proofs.Claiming.{HaveSlots}
 use Rattle.story_ticks.proofs.Opening.{Begins}
 use Rattle.story_steps.proofs.Whys.{AreAscending}
+use Rattle.story_steps.specs.call_stories.specs.Below.outcome_stories.specs.Stories.{In}
 
 -- ## Lists
 

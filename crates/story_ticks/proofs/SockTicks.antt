@@ -16,7 +16,7 @@ use Rattle.seat_programs.specs.Programs.{Program}
 use Rattle.seat_programs.specs.Cores.{resolved, said, next_step}
 use Rattle.story_steps.specs.call_stories.specs.Lists.{times}
 use Rattle.story_steps.specs.call_stories.specs.Decided.{Decision}
-use Rattle.story_steps.specs.call_stories.specs.Scenes.{Birth, Scene, In, IsOver, IsBorn, IsOther, Named, StaysWithin, Later}
+use Rattle.story_steps.specs.call_stories.specs.Scenes.{Birth, Scene, IsOver, IsBorn, IsOther, Named, StaysWithin, Later}
 use Rattle.story_steps.specs.call_stories.specs.Says.{Mark, SaidBy, SaysOn}
 use Rattle.story_steps.specs.call_stories.specs.Stories.{At, word_at, HasPassed, IsCurrent, SlotsLaw, BirthsLaw, TasksLaw}
 use Rattle.story_steps.specs.call_stories.proofs.Lasting.{are_told_on, cause_on, advance_on, here_later}
@@ -26,6 +26,7 @@ use Rattle.story_steps.proofs.Numbered.{AreNumbered}
 use Rattle.story_ticks.proofs.TaskTicks.{Change, quiet_on, changed}
 use Rattle.story_ticks.proofs.Chains.{sayings_of, AreFewTries, KeepsFew, IsKept, chain, said_first}
 use Rattle.story_ticks.proofs.AsideTicks.{sayings_keep, overs_keep, said_all}
+use Rattle.story_steps.specs.call_stories.specs.Below.outcome_stories.specs.Stories.{In}
 
 module _ (p : Plan) (q : IdPlan) (clients : List (List Task)) (gives : ℕ → List ℕ) (numbered : AreNumbered p q clients gives) (w w' : Scene) (ms : List Mark) (j : ℕ) (m : Mark) (at : At ms j m) (slots : SlotsLaw q w ms) (births : BirthsLaw p q clients gives w) (tasks : TasksLaw p q clients gives w w.core.outcomes w.sayings ms) (room : StaysWithin p q clients gives w') where
   -- the table of the ids is as it was; no name loses its socket, and each code of a socket is that of an error

@@ -13,7 +13,7 @@ use Rattle.seat_programs.specs.declared.task.Task.{Task}
 use Rattle.seat_programs.specs.Asides.{Step, ClaimId, PutCall, MakeId, StoreCall, LoadCall, StoreAt, LoadAt, LoadIdWord, LockId, PostId, UnlockId, EndId, FreeId, TakeCall, TakeBytes, Bytes, Found}
 use Rattle.seat_programs.specs.Asides as asides
 use Rattle.seat_programs.specs.Posts.{packed, advance_of}
-use Rattle.story_steps.specs.call_stories.specs.Scenes.{Birth, Saying, Scene, In, AreTold, was_begun, Later}
+use Rattle.story_steps.specs.call_stories.specs.Scenes.{Birth, Saying, Scene, AreTold, was_begun, Later}
 use Rattle.story_steps.specs.call_stories.specs.Says.{shape_of, with_attempt, unlocked_by, Slot, NoSlot, Claims, Locked, Holds, Leaves, Mark, with_slot, with_owed, with_made, with_done, MayAside}
 use Rattle.story_steps.specs.call_stories.specs.Stories.{At, word_at, SlotFits, HasPassed, IsCurrent, BirthsLaw, undo, ahead, tasks_behind, IsUntold, AreQuiet, TasksLaw, IsBehind, KnowsStep, put_of, born_by, ended_of, stored_by, mark_after}
 use Rattle.story_steps.specs.call_stories.proofs.Lasting.{are_told_on}
@@ -23,6 +23,7 @@ use Rattle.story_steps.proofs.Laters.{stored_is}
 use Rattle.story_steps.proofs.Numbered.{AreNumbered}
 use Rattle.story_ticks.proofs.Sayings.{in_ahead}
 use Rattle.story_ticks.proofs.TaskTicks.{IsNew, Change, quiet_on}
+use Rattle.story_steps.specs.call_stories.specs.Below.outcome_stories.specs.Stories.{In}
 
 -- a step stores the word of this call
 abbrev IsStore : Step → ℕ → Type 0

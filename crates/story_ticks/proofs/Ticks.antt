@@ -22,7 +22,7 @@ use Rattle.seat_programs.specs.Asides.{Step, Taking, Found}
 use Rattle.seat_programs.specs.Heads.{Retry}
 use Rattle.seat_programs.specs.Programs.{Program, Do, Say, Sent, Rest, TakeMessage, TakeHome, PutHome, PutBytes, AskReady, Write, Aside, Round, Keep, Retries}
 use Rattle.seat_programs.specs.Sends.{block}
-use Rattle.seat_programs.specs.Rounds.{round}
+use Rattle.seat_programs.specs.Rounds.{round, first_step}
 use Rattle.seat_programs.specs.Cores.{Core, SeatState, found_at, words_after, homes_after, hand_after, lies_at, first_of, others_of, link_place, resolved, waiting_at, next_step, with_seat}
 use Rattle.seat_programs.specs.StepTables.{May, word_of, word_after}
 use Rattle.seat_programs.specs.Beside.{found_in, calls_after}
@@ -30,7 +30,6 @@ use Rattle.seat_programs.specs.Scripts.{is_ending}
 use Rattle.seat_programs.specs.Ticks.{Answer, OfPut, OfReady, Moment, fed, with_places, onto_first, taken, with_message, with_link, with_put, with_ready, with_found, step_with, tick_with, ticked}
 use Rattle.story_steps.specs.Below.id_runs.specs.Held.{IdView, id_row}
 use Rattle.story_steps.specs.Below.id_runs.specs.Goes.{FitsRetryId, IdGoesOn, SoundIds, FitsFirst, IsFittingIds}
-use Rattle.story_steps.specs.Below.id_runs.specs.Goes as goes
 use Rattle.story_steps.specs.Below.id_runs.proofs.Loops.{ids_round}
 use Rattle.story_steps.specs.Below.id_runs.proofs.Programs.{block_goes}
 use Rattle.story_steps.specs.Below.id_runs.proofs.Owners.{steps_on}
@@ -39,7 +38,7 @@ use Rattle.story_steps.specs.Below.joint_runs.specs.Below.sock_steps.proofs.Maps
 use Rattle.story_steps.specs.call_stories.specs.Lists.{advances_by, advanced_with, advanced_at}
 use Rattle.story_steps.specs.call_stories.specs.Posts.{Post, posts_by, posted_with, posted_at}
 use Rattle.story_steps.specs.call_stories.specs.Decided.{Decision, decision_in, decided_at}
-use Rattle.story_steps.specs.call_stories.specs.Scenes.{Scene, In, IsTaskOf, Named, HasNoneOf, ToldOf, was_said, was_sent, was_begun, AreTold, HasRoom, LeadsTo, StaysWithin, Later}
+use Rattle.story_steps.specs.call_stories.specs.Scenes.{Scene, IsTaskOf, Named, HasNoneOf, ToldOf, was_said, was_sent, was_begun, AreTold, HasRoom, LeadsTo, StaysWithin, Later}
 use Rattle.story_steps.specs.call_stories.specs.Says.{Mark, SaidBy, MayDo, FindsDo, NoneOfSetup, SaysOn}
 use Rattle.story_steps.specs.call_stories.specs.Stories.{At, SlotsLaw, ClaimsLaw, ReadsLaw, IsBehind, births_after, claims_after, mark_after, CallStory, HasStory, GoesOn, undo}
 use Rattle.story_steps.specs.call_stories.proofs.Lasting.{far, here_later, are_told_on, says_on}
@@ -60,6 +59,7 @@ use Rattle.story_ticks.proofs.Kept.{kept_slots, kept_claims, kept_reads}
 use Rattle.story_ticks.proofs.AsideTicks.{sayings_keep, overs_keep, is_later, aside_ticks}
 use Rattle.story_ticks.proofs.SockTicks.{IsBeside, beside_later, beside_slots, beside_births, beside_tasks, beside_said, beside_ticks}
 use Rattle.story_steps.specs.Below.programs_allowed.specs.program_steps.proofs.Cases.{elem_there, calls_waiting}
+use Rattle.story_steps.specs.call_stories.specs.Below.outcome_stories.specs.Stories.{In}
 
 module _ (p : Plan) (q : IdPlan) where
   few_of : (ws : List Retry) → AllByRecursion (FitsRetryId q) ws → AreFewTries ws
@@ -316,7 +316,7 @@ module _ (p : Plan) (q : IdPlan) (clients : List (List Task)) (gives : ℕ → L
     first_step answer _ says go fits in_ lead = before lead
 
     -- where the error on which the seat decides is noted, if it decides on one
-    any_step : (answer : Answer) (program : Program) → ((d : Decision) → In d (decision_in program) → In d w.decisions) → SaysOn p q clients gives w m program → IdGoesOn p q u program → FitsFirst p w.core (goes.first_of program) → AllowsDo p (goes.first_of program) → Leads (tick_with p i seat w.core answer program) → Goes (posted_with w.core.calls (taken answer) (goes.first_of program) ++ w.posts) (advanced_with w.core.calls (taken answer) (goes.first_of program) ++ w.advances) (tick_with p i seat w.core answer program)
+    any_step : (answer : Answer) (program : Program) → ((d : Decision) → In d (decision_in program) → In d w.decisions) → SaysOn p q clients gives w m program → IdGoesOn p q u program → FitsFirst p w.core (first_step program) → AllowsDo p (first_step program) → Leads (tick_with p i seat w.core answer program) → Goes (posted_with w.core.calls (taken answer) (first_step program) ++ w.posts) (advanced_with w.core.calls (taken answer) (first_step program) ++ w.advances) (tick_with p i seat w.core answer program)
     any_step answer (Write x after) on says go fits in_ lead = first_step answer (block x after) (block_says p q clients gives w m x after says) (block_goes p q narrow u x after go) fits in_ lead
     any_step answer (Round head next) on says go fits in_ lead = first_step answer (round head next) (round_says p q clients gives w m head next on says) (ids_round p q u head next go) fits in_ lead
     any_step answer (Do call next) on says go fits in_ lead = first_step answer (Do call next) says go fits in_ lead
@@ -330,7 +330,7 @@ module _ (p : Plan) (q : IdPlan) (clients : List (List Task)) (gives : ℕ → L
 
   -- the view of each seat allows its step
   abbrev pub Allows : Core → Moment → Type 0
-  Allows c mm = (seat : SeatState) → get_elem? c.seats mm.seat ≡ some seat → AllowsDo p (goes.first_of seat.program)
+  Allows c mm = (seat : SeatState) → get_elem? c.seats mm.seat ≡ some seat → AllowsDo p (first_step seat.program)
 
   -- a tick of any seat goes on with the story, with the error noted on which it decides; behind seat 0 once it has nothing left to do
   pub story_lasts : (ps : List Post) (ns : List ℕ) (c : Core) (us : List IdView) (mm : Moment) → SoundIds p q c us → IsFittingIds p c mm → length c.words ≡ all_words p → Allows c mm → (mm.seat ≢ 0 → IsSetUp c) → LeadsTo p q clients gives (ticked p c mm) → (h : HasStory p q clients gives ps ns c)
@@ -350,7 +350,7 @@ module _ (p : Plan) (q : IdPlan) (clients : List (List Task)) (gives : ℕ → L
           here : LeadsTo p q clients gives w.core
           here = run_leads p q clients gives (mm ∷ []) w.core lead
 
-          by_seat : (x : Option SeatState) → get_elem? w.core.seats mm.seat ≡ x → LeadsTo p q clients gives (elim x as (λ o. Core) [ none ↦ w.core | some seat ↦ tick_with p mm.seat seat w.core mm.answer seat.program ]) → GoesOn p q clients gives w (elim x as (λ o. List Decision) [ none ↦ [] | some seat ↦ decision_in seat.program ] ++ w.decisions) (elim x as (λ o. List Post) [ none ↦ [] | some seat ↦ posted_with w.core.calls (taken mm.answer) (goes.first_of seat.program) ] ++ w.posts) (elim x as (λ o. List ℕ) [ none ↦ [] | some seat ↦ advanced_with w.core.calls (taken mm.answer) (goes.first_of seat.program) ] ++ w.advances) (elim x as (λ o. Core) [ none ↦ w.core | some seat ↦ tick_with p mm.seat seat w.core mm.answer seat.program ])
+          by_seat : (x : Option SeatState) → get_elem? w.core.seats mm.seat ≡ x → LeadsTo p q clients gives (elim x as (λ o. Core) [ none ↦ w.core | some seat ↦ tick_with p mm.seat seat w.core mm.answer seat.program ]) → GoesOn p q clients gives w (elim x as (λ o. List Decision) [ none ↦ [] | some seat ↦ decision_in seat.program ] ++ w.decisions) (elim x as (λ o. List Post) [ none ↦ [] | some seat ↦ posted_with w.core.calls (taken mm.answer) (first_step seat.program) ] ++ w.posts) (elim x as (λ o. List ℕ) [ none ↦ [] | some seat ↦ advanced_with w.core.calls (taken mm.answer) (first_step seat.program) ] ++ w.advances) (elim x as (λ o. Core) [ none ↦ w.core | some seat ↦ tick_with p mm.seat seat w.core mm.answer seat.program ])
           by_seat none e lead = stays w ms story here
           by_seat (some seat) e lead = let u = elem_there w.core.seats us mm.seat seat ids.each e in let m = elem_there w.core.seats ms mm.seat seat story.each e in
               let told = noted_story w ms story us ids sized mm.seat seat e u.0 u.1 m.0 m.1 over (decision_in seat.program) here in
