@@ -61,6 +61,7 @@ use Rattle.accept_counts.proofs.Closers.{Ends}
 use Rattle.accept_counts.proofs.ReaderRuns.{Keeps, founds, keeps_same, keeps_along, closes_along}
 use Rattle.accept_counts.proofs.Takeless.{NoTakes, TakesNone, client_takes, ending_takes, takes_next}
 use Rattle.call_causes.specs.Below.programs_allowed.proofs.Fresh.{opening_fresh, opening_rights}
+use Rattle.corr_core.proofs.Notes.{at_length}
 
 -- ## How a reading ends early
 
@@ -358,6 +359,6 @@ module _ (script : List Item) (made : AreMade script) (turns : List Turn) (core 
   -- a link whose socket was closed before the ending is one of the script's, and its reading ended early
   pub closed_early : (x : ℕ) → In x (closed_before_ending script turns core is) → (x < length (link_names script)) × EndedEarly x
   closed_early x there = let y = closed_so x there in (
-    (let low = Rattle.outcome_causes.specs.sock_runs.proofs.Along.place_inside (opens script) x y.0.0 y.0.1 in let many = known.as_many in omega (arith, low, many)),
+    (let low = at_length (opens script) x y.0.0 y.0.1 in let many = known.as_many in omega (arith, low, many)),
     ⊎_elim (λ a. inl (in_contains (heard_takes is x) AtEnd a)) (λ b. ⊎_elim (λ f. inr (inl f)) (λ d. ⊎_elim (λ l. inr (inr (inl l))) (λ e. inr (inr (inr (in_contains (heard_takes is x) Broken e)))) d) b) y.1,
   )

@@ -37,6 +37,7 @@ use Rattle.refused_attempts.specs.accept_counts.proofs.Early.{start, go, fitting
 use Rattle.dropped_calls.proofs.LateLooks.{Mode, Idle, Looks, client_looks, reader_looks, looks_next}
 use Rattle.dropped_calls.proofs.LateSeats.{Claiming, Righted, Never, Stands, AllStand, Tells, stand_ticks}
 use Rattle.refused_attempts.specs.accept_counts.proofs.Rests.{still, aside}
+use Rattle.corr_core.proofs.Notes.{at_length}
 
 -- of all links, and no life is old
 abbrev pub Any : ℕ → Type 0
@@ -129,7 +130,7 @@ module _ (script : List Item) (made : AreMade script) (turns : List Turn) (core 
       (λ w. ⊎_elim (λ rest. resting rest) (λ a. waiting w a) (aside script made turns core is j inside)) (still script made turns core is j inside)
     where
       inside : j < length (played script is.setup (is.scheduled ++ is.later)).seats
-      inside = Rattle.refused_attempts.specs.Below.programs_allowed.specs.sock_runs.proofs.Along.place_inside (played script is.setup (is.scheduled ++ is.later)).seats j seat at
+      inside = at_length (played script is.setup (is.scheduled ++ is.later)).seats j seat at
 
       resting : IsAtRest (played script is.setup (is.scheduled ++ is.later)) j → IsIdle seat.program v
       resting rest = rests_idle (played script is.setup (is.scheduled ++ is.later)) (views_played script turns core is (first_views script)) (played_sound script made.are (first_views script) (start script made turns core is) (go script made turns core is) turns core is (fitting script made turns core is))

@@ -13,7 +13,7 @@ use Rattle.seat_programs.specs.Programs.{Program, Say, Aside, Round}
 use Rattle.seat_programs.specs.Readers.{answer, took, discarded, slot_in}
 use Rattle.seat_programs.specs.Rounds.{round}
 use Rattle.sent_once.specs.Below.programs_allowed.specs.program_walks.proofs.ThroughLoops.{through_took, through_discarded}
-use Rattle.sent_once.specs.Below.label_runs.proofs.Loops.{id_back, not_true, not_equal, and_left, locked_parts, none_left, word_got, first_as}
+use Rattle.sent_once.specs.Below.label_runs.proofs.Loops.{id_back, not_true, not_equal, and_left, locked_parts, none_left, word_got}
 use Rattle.own_decisions.proofs.OwnDecisionsStands.{Stand, Calm, Trying, Past, Posted, Eases, MayPost, MayDecide, IsTryingAt, FindsAside, unlocked_stand, unlocks_stand, posted_stand, locked_stand, LeavesUnlock, LeavesStand, Aims}
 use Rattle.sent_once.specs.accept_counts.proofs.Words.{unlocked_is}
 
@@ -157,6 +157,10 @@ module _ (s : Stand) (i from : ℕ) (advance : Bool) (k : Unlocking → Program)
   found_is : (b : Bool) (found : ℕ) → (parts found).first ≡ (parts from).first → (parts found).attempt ≡ (parts from).attempt → unlocks_stand i from b s ≡ unlocks_stand i found b s
   found_is true found f a = ap (λ x. Trying (call_id i x) ((parts from).attempt + 1)) (sym f) ∙ ap (λ x. Trying (call_id i (parts found).first) (x + 1)) (sym a)
   found_is false found f a = refl
+
+  first_as : (x y : ℕ) → x ≡ y → (exit : Unlocking) → LeavesUnlock x exit → LeavesUnlock y exit
+  first_as x y e (HasNext w error) l = (l.0 ∙ e, l.1)
+  first_as x y e (IsOpen w) l = tt
 
   pops : (low : (parts from).attempt + advance_of advance ≤ 6) → ((parts from).oldest ≢ 0 → is_stale (parts from).oldest (unlocked_word (parts from) (advance_of advance)) ≡ false → attempt_of (parts from).oldest ≡ WHOLE) → Aims (unlocks_stand i from advance s) (popped i (parts from).oldest after k)
   pops low whole = let is = unlocked_is from advance low in let first : (parts after).first ≡ (parts from).first = ap (λ (w : Parts). w.first) (unlocked_is from advance low) in
