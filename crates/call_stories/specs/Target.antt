@@ -14,7 +14,7 @@ use Rattle.seat_programs.specs.Told.{IsTask, Became}
 use Rattle.seat_programs.specs.ToldCalls.{Fixed, Order, FoundNone, IsAnsweredBy, IsExpiredWith, GaveFault, ShowsId, WhyExpire, WhyJoin}
 use Rattle.call_stories.specs.Posts.{Post}
 use Rattle.call_stories.specs.Decided.{Decision}
-use Rattle.seat_programs.specs.brpc_model.specs.Attempts.{HasCode}
+use Rattle.seat_programs.specs.brpc_model.specs.Why.{HasCode}
 use Rattle.outcome_stories.specs.Stories.{In}
 
 abbrev pub IsOnCalls : Op → Type 0
