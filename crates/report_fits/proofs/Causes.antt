@@ -45,8 +45,8 @@ module _ (g : Given) where
   abbrev Run_ : Rattle.brpc_model.specs.Run.Run
   Run_ = lives.run_of g
 
-  abbrev Links : ℕ
-  Links = length (link_names g.run.script)
+  abbrev LinkCount : ℕ
+  LinkCount = length (link_names g.run.script)
 
   abbrev Names : List (List ℕ)
   Names = names g.run.script
@@ -111,11 +111,11 @@ module _ (g : Given) where
   full o n q there counts out many = (omega (arith, many, lines.lines_sum g), omega (arith, many, known.fewer g.run o n q there counts out))
 
   -- a link that dropped a message was failing
-  pub dropped_failing : (k : ℕ) → k < Links → (g.run.orders k).placed < length (g.run.orders k).accepted → Failing Run_ k
+  pub dropped_failing : (k : ℕ) → k < LinkCount → (g.run.orders k).placed < length (g.run.orders k).accepted → Failing Run_ k
   dropped_failing k low fewer = lives.is_failing g k low (g.run.tells.dropped k low fewer)
 
   -- a life has one of the script's links
-  pub life_low : (n k slot version : ℕ) → Made (all_tasks g.run.script) Outcomes n k slot version → k < Links
+  pub life_low : (n k slot version : ℕ) → Made (all_tasks g.run.script) Outcomes n k slot version → k < LinkCount
   life_low n k slot version m = let w = lives.opened_at g m.task.number slot version k m.became in slice_get_within (link_names g.run.script) k w.name w.named
 
   -- ## Sends
@@ -181,7 +181,7 @@ module _ (g : Given) where
         λ l p at. w.3 l (p, at_stand i n l p at),
       )
 
-  reading_ended : (k : ℕ) → k < Links → Contains g.run.fixed.early k ⊎ (Contains g.run.fixed.closed k ⊎ Contains g.run.fixed.silent k) → OfLink Run_ (ReadingEnded Run_) k
+  reading_ended : (k : ℕ) → k < LinkCount → Contains g.run.fixed.early k ⊎ (Contains g.run.fixed.closed k ⊎ Contains g.run.fixed.silent k) → OfLink Run_ (ReadingEnded Run_) k
   reading_ended k low w = lives.of_link g (ReadingEnded Run_) k low (λ e. elim w [
     | inl early ↦ Early (lives.ended_early g k e early)
     | inr (inl closed) ↦ AtClosed (e.is.closed closed)
@@ -225,7 +225,7 @@ module _ (g : Given) where
     abbrev its_name : ℕ
     its_name = name_of (asked_of Names i call) n
 
-    on_low : (k : ℕ) → lives.TMayBeOn g i n its_name k → k < Links
+    on_low : (k : ℕ) → lives.TMayBeOn g i n its_name k → k < LinkCount
     on_low k on = life_low its_name k on.0 on.1 on.2
 
     attempt_leads : AttemptLeads TLinks (links_of Run_) (TAttempt i n its_name) (attempt_of Run_ (attempt i n))
