@@ -9,10 +9,8 @@ use Rattle.seat_programs.specs.declared.task.Op.{Op}
 use Rattle.seat_programs.specs.declared.task.Op.TheVariants as ops
 use Rattle.seat_programs.specs.Calls.{Call, SubRef, Recycle}
 use Rattle.brpc_model.specs.Order.{EachBefore}
-use Rattle.brpc_model.specs.Why.{Finding, Sending}
-use Rattle.brpc_model.specs.Why as causes
 use Rattle.seat_programs.specs.declared.task.Task.{Task}
-use Rattle.seat_programs.specs.Told.{IsTask, Became, Made, IsFail, FoundNone, WasFailed, AfterHold, HasLife, opening_of}
+use Rattle.seat_programs.specs.Told.{IsTask, Became, Made, IsFail, FoundNone, WasFailed, HasLife, OnSockets, WhyOnSockets}
 use Rattle.seat_programs.specs.ToldCalls.{Accepted, Order, StandsAt, all_accepted}
 use Rattle.outcome_stories.specs.Kept.{IsSpoken}
 
@@ -27,31 +25,17 @@ module _ (clients : List (List Task)) (outcomes : List (Option Outcome)) where
     pub failed : WasFailed clients outcomes fails broken c o link ⊎ late o
 
   module _ (p : Plan) (fails : List (ℕ × ℕ)) (broken : List ℕ) (late : ℕ → Type 0) (orders : ℕ → Order) where
-    -- what is told of operation o of client c, which looks for a socket of name n
-    abbrev pub finding_of : ℕ → ℕ → ℕ → Finding
-    finding_of c o n = record {
-      FoundNone = FoundNone clients outcomes c o n;
-      FoundFailed = λ P. FoundFailed fails broken late c o n P;
-      HasSocket = HasLife clients outcomes n;
-    }
-
-    -- of a send whose message was accepted no outcome is said
-    abbrev pub sending_of : ℕ → ℕ → ℕ → Sending
-    sending_of c o n = record {
-      find = finding_of c o n;
+    -- what is told of operation o of client c
+    abbrev pub on_sockets : ℕ → ℕ → OnSockets
+    on_sockets c o = record {
+      find = λ n. record { FoundNone = FoundNone clients outcomes c o n; FoundFailed = λ P. FoundFailed fails broken late c o n P; HasSocket = HasLife clients outcomes n };
       WasFull = p.requests ≤ all_accepted p.links orders;
-      WasPlaced = λ k i. ⊥;
-      WasDropped = λ k i. ⊥;
+      FailsLife = (k : ℕ) × Contains fails (o, k);
     }
 
-    -- why operation o of client c has its outcome
+    -- why it has its outcome
     abbrev pub Why : ℕ → ℕ → Op → Outcome → Type 0
-    Why c o (ops.Open n k) outcome = causes.OpenCause (opening_of clients outcomes p k) outcome
-    Why c o (ops.Send n bytes) outcome = causes.SendCause (sending_of c o n) outcome
-    Why c o (ops.Hold n) outcome = causes.HoldCause (finding_of c o n) outcome
-    Why c o (ops.Fail n code) outcome = causes.FailCause (finding_of c o n) ((k : ℕ) × Contains fails (o, k)) outcome
-    Why c o (ops.Drop n) outcome = causes.DropCause (λ P. AfterHold clients outcomes c o n P) outcome
-    Why c o op outcome = ⊥
+    Why c o op outcome = WhyOnSockets clients outcomes p (on_sockets c o) c o op outcome
 
   -- message a, which link k accepted, is that of a `send` to a name of the link's socket, of which nothing is said
   pub record IsSent (k : ℕ) (a : Accepted) : Type 0 where

@@ -10,7 +10,6 @@ use Rattle.brpc_model.specs.Items.{Item}
 use Rattle.brpc_model.specs.Operations.{operations, link_names}
 use Rattle.brpc_model.specs.Order.{EachBefore, IsCut}
 use Rattle.brpc_model.specs.Places.{names}
-use Rattle.brpc_model.specs.Why.{Finding}
 use Rattle.brpc_model.proofs.Leads.{FindingLeads, send_leads, hold_leads, fail_leads}
 use Rattle.brpc_model.specs.Script.{script_of}
 use Rattle.brpc_model.specs.Link.{LinkEnd}
@@ -27,7 +26,7 @@ use Rattle.seat_programs.specs.Cores.{Core}
 use Rattle.seat_programs.specs.Runs.{from_to}
 use Rattle.seat_programs.specs.Tasks.{numbered, plan_of}
 use Rattle.seat_programs.specs.Scripts.{all_tasks, is_callless, is_later, place_words, Reports}
-use Rattle.seat_programs.specs.Told.{Told, IsTask, IsSent}
+use Rattle.seat_programs.specs.Told.{Told, IsTask, IsSent, OnSockets}
 use Rattle.seat_programs.specs.Told as sends
 use Rattle.seat_programs.specs.ToldCalls.{Accepted, Order, Fixed, ToldCalls, AreOrders, IsTaken, StandsAt, OfSend, StandsOn, all_accepted, label, bytes_of}
 use Rattle.seat_programs.specs.ToldCalls as told
@@ -169,21 +168,21 @@ module _ (script : List Item) (core : Core) (broken : List ℕ) (callless : is_c
       by_cause (inl f) = inl (inl f)
       by_cause (inr b) = inl (inr (inl b))
 
-  abbrev Found : ℕ → ℕ → ℕ → Finding
-  Found c o n = sends.finding_of (all_tasks script) core.outcomes (plan_of script) tells.fails broken tells.orders c o n
+  abbrev Sockets : ℕ → ℕ → OnSockets
+  Sockets c o = sends.on_sockets (all_tasks script) core.outcomes (plan_of script) tells.fails broken tells.orders c o
 
-  abbrev FoundNow : ℕ → ℕ → ℕ → Finding
-  FoundNow c o n = told.finding_told (plan_of script) (all_tasks script) core.outcomes fixed_of gave_of orders_of c o n
+  abbrev SocketsNow : ℕ → ℕ → OnSockets
+  SocketsNow c o = told.sockets_told (plan_of script) (all_tasks script) core.outcomes fixed_of gave_of orders_of c o
 
-  finding : (c o n : ℕ) → FindingLeads (Found c o n) (FoundNow c o n)
+  finding : (c o n : ℕ) → FindingLeads ((Sockets c o).find n) ((SocketsNow c o).find n)
   finding c o n = record { none_ = found_none c o n; failed = found_failed c o n; socket = λ w. w }
 
   why : (c o : ℕ) (op : Op) (outcome : Outcome) → Before c o op outcome → Why c o op outcome
   why c o (ops.Open n k) outcome w = w
-  why c o (ops.Send n bytes) outcome w = send_leads (sends.sending_of (all_tasks script) core.outcomes (plan_of script) tells.fails broken tells.orders c o n) (told.sending_told (plan_of script) (all_tasks script) core.outcomes fixed_of gave_of orders_of c o n)
+  why c o (ops.Send n bytes) outcome w = send_leads (sends.sending_of (Sockets c o) n) (sends.sending_of (SocketsNow c o) n)
       (record { find = finding c o n; full = λ many. omega (arith, many, as_many); placed = λ k i x. x; dropped = λ k i x. x }) outcome w
-  why c o (ops.Hold n) outcome w = hold_leads (Found c o n) (FoundNow c o n) (finding c o n) outcome w
-  why c o (ops.Fail n code) outcome w = let Fails : Type 0 = (k : ℕ) × Contains tells.fails (o, k) in fail_leads (Found c o n) (FoundNow c o n) Fails Fails (finding c o n) (λ f. f) outcome w
+  why c o (ops.Hold n) outcome w = hold_leads ((Sockets c o).find n) ((SocketsNow c o).find n) (finding c o n) outcome w
+  why c o (ops.Fail n code) outcome w = fail_leads ((Sockets c o).find n) ((SocketsNow c o).find n) (Sockets c o).FailsLife (SocketsNow c o).FailsLife (finding c o n) (λ f. f) outcome w
   why c o (ops.Drop n) outcome w = w
   why c o (ops.Call asked) outcome w = absurd w
   why c o (ops.Expire t) outcome w = absurd w

@@ -23,6 +23,7 @@ use Rattle.seat_programs.specs.sock_message.specs.Asked.{Asked, name_of}
 use Rattle.seat_programs.specs.Tasks.{numbered, name_number, number_of, asked_of, op_of, plan_of}
 use Rattle.seat_programs.specs.Scripts.{all_tasks}
 use Rattle.seat_programs.specs.Told.{IsTask, Made}
+use Rattle.seat_programs.specs.Told as plain
 use Rattle.seat_programs.specs.ToldCalls as told
 use Rattle.seat_programs.specs.ToldCalls.{Accepted, all_accepted, label}
 use Rattle.script_facts.proofs.Lists.{Has, some_is, has_from}
@@ -62,7 +63,7 @@ module _ (g : Given) where
 
   -- what is told of it, in its own words
   abbrev TSending : ℕ → ℕ → ℕ → Sending
-  TSending c o n = told.sending_told (plan_of g.run.script) (all_tasks g.run.script) Outcomes g.run.fixed g.run.gave g.run.orders c o n
+  TSending c o n = plain.sending_of (lives.TSockets g c o) n
 
   abbrev TLinks : Links
   TLinks = told.links_told (plan_of g.run.script) (all_tasks g.run.script) Outcomes g.run.fixed g.run.gave g.run.orders

@@ -22,7 +22,7 @@ use Rattle.seat_programs.specs.sock_message.specs.Asked.{Asked}
 use Rattle.seat_programs.specs.Cores.{Core}
 use Rattle.seat_programs.specs.Tasks.{Numbered, numbered, name_number, asked_of, op_of, plan_of}
 use Rattle.seat_programs.specs.Scripts.{all_tasks}
-use Rattle.seat_programs.specs.Told.{IsTask, Made, OpensNone, AfterHold, HasLife, EachOpened, IsFail}
+use Rattle.seat_programs.specs.Told.{IsTask, Made, OpensNone, AfterHold, HasLife, EachOpened, IsFail, OnSockets}
 use Rattle.seat_programs.specs.ToldCalls as told
 use Rattle.seat_programs.specs.ToldCalls.{Accepted, Fixed, all_accepted, label}
 use Rattle.report_fits.specs.Ends.{IsEndOf}
@@ -78,8 +78,11 @@ module _ (g : Given) where
   abbrev pub TIsNoLater : ℕ → ℕ → ℕ → Type 0
   TIsNoLater c o f = (t : Task) → IsTask (all_tasks g.run.script) g.run.core.outcomes c t → t.number ≡ f → f < o
 
+  abbrev pub TSockets : ℕ → ℕ → OnSockets
+  TSockets c o = told.sockets_told (plan_of g.run.script) (all_tasks g.run.script) g.run.core.outcomes g.run.fixed g.run.gave g.run.orders c o
+
   abbrev pub TFinding : ℕ → ℕ → ℕ → Finding
-  TFinding c o n = told.finding_told (plan_of g.run.script) (all_tasks g.run.script) g.run.core.outcomes g.run.fixed g.run.gave g.run.orders c o n
+  TFinding c o n = (TSockets c o).find n
 
   abbrev pub TFoundFailed : ℕ → ℕ → ℕ → (ℕ → Type 0) → Type 0
   TFoundFailed c o n P = told.FoundFailed (plan_of g.run.script) (all_tasks g.run.script) g.run.core.outcomes g.run.fixed g.run.gave g.run.orders c o n P

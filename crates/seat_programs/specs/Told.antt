@@ -127,6 +127,16 @@ pub record AreOrders (p : Plan) (c : Core) (orders : ℕ → Order) : Type 0 whe
 
 -- ## What became of them
 
+-- what is told of an operation on sockets: of where it looks for a socket of a name, that each request may be found taken, and that it fails a life
+pub record OnSockets : Type 1 where
+  pub find : ℕ → Finding
+  pub WasFull : Type 0
+  pub FailsLife : Type 0
+
+-- and of a send, whose outcome isn't said where its message was accepted
+abbrev pub sending_of : OnSockets → ℕ → Sending
+sending_of a n = record { find = a.find n; WasFull = a.WasFull; WasPlaced = λ k i. ⊥; WasDropped = λ k i. ⊥ }
+
 module _ (clients : List (List Task)) (outcomes : List (Option Outcome)) where
   -- task t is one of client c's
   abbrev pub IsTask : ℕ → Task → Type 0
@@ -195,9 +205,20 @@ module _ (clients : List (List Task)) (outcomes : List (Option Outcome)) where
   abbrev pub EachOpened : Plan → Type 0
   EachOpened p = (slot : ℕ) → slot < p.slots → (n k version : ℕ) × Made n k slot version
 
+  -- ## The causes of operations on sockets
+
   -- what is told of an `open` with link k
   abbrev pub opening_of : Plan → ℕ → Opening
   opening_of p k = record { link = k; slots = p.slots; first = p.first; NoneFree = EachOpened p }
+
+  -- why operation o of client c has its outcome, by what is told of it
+  abbrev pub WhyOnSockets : Plan → OnSockets → ℕ → ℕ → Op → Outcome → Type 0
+  WhyOnSockets p a c o (ops.Open n k) outcome = causes.OpenCause (opening_of p k) outcome
+  WhyOnSockets p a c o (ops.Send n bytes) outcome = causes.SendCause (sending_of a n) outcome
+  WhyOnSockets p a c o (ops.Hold n) outcome = causes.HoldCause (a.find n) outcome
+  WhyOnSockets p a c o (ops.Fail n code) outcome = causes.FailCause (a.find n) a.FailsLife outcome
+  WhyOnSockets p a c o (ops.Drop n) outcome = causes.DropCause (λ P. AfterHold c o n P) outcome
+  WhyOnSockets p a c o op outcome = ⊥
 
   -- the `fail` operation of this pair was answered `failed`, and its name had this link
   pub record IsFail (fail : ℕ × ℕ) : Type 0 where
@@ -231,31 +252,17 @@ module _ (clients : List (List Task)) (outcomes : List (Option Outcome)) where
   InOwnOrder a b = (c : ℕ) (t u : Task) → IsTask c t → IsTask c u → t.number ≡ a.operation → u.number ≡ b.operation → t.number < u.number
 
   module _ (p : Plan) (fails : List (ℕ × ℕ)) (broken : List ℕ) (orders : ℕ → Order) where
-    -- what is told of operation o of client c, which looks for a socket of name n
-    abbrev pub finding_of : ℕ → ℕ → ℕ → Finding
-    finding_of c o n = record {
-      FoundNone = FoundNone c o n;
-      FoundFailed = λ P. FoundFailed fails broken c o n P;
-      HasSocket = HasLife n;
-    }
-
-    -- of a send whose message was accepted no outcome is said
-    abbrev pub sending_of : ℕ → ℕ → ℕ → Sending
-    sending_of c o n = record {
-      find = finding_of c o n;
+    -- what is told of operation o of client c
+    abbrev pub on_sockets : ℕ → ℕ → OnSockets
+    on_sockets c o = record {
+      find = λ n. record { FoundNone = FoundNone c o n; FoundFailed = λ P. FoundFailed fails broken c o n P; HasSocket = HasLife n };
       WasFull = p.requests ≤ all_accepted p.links orders;
-      WasPlaced = λ k i. ⊥;
-      WasDropped = λ k i. ⊥;
+      FailsLife = (k : ℕ) × Contains fails (o, k);
     }
 
-    -- why operation o of client c has its outcome
+    -- why it has its outcome
     abbrev pub Why : ℕ → ℕ → Op → Outcome → Type 0
-    Why c o (ops.Open n k) outcome = causes.OpenCause (opening_of p k) outcome
-    Why c o (ops.Send n bytes) outcome = causes.SendCause (sending_of c o n) outcome
-    Why c o (ops.Hold n) outcome = causes.HoldCause (finding_of c o n) outcome
-    Why c o (ops.Fail n code) outcome = causes.FailCause (finding_of c o n) ((k : ℕ) × Contains fails (o, k)) outcome
-    Why c o (ops.Drop n) outcome = causes.DropCause (λ P. AfterHold c o n P) outcome
-    Why c o op outcome = ⊥
+    Why c o op outcome = WhyOnSockets p (on_sockets c o) c o op outcome
 
   -- why each task has its outcome, and each link took what it took; these links answered that they failed
   pub record Told (p : Plan) (c : Core) (broken : List ℕ) : Type 0 where

@@ -9,7 +9,7 @@ use Rattle.sock_message.specs.brpc_model.specs.Order.{EachBefore, IsCut}
 use Rattle.sock_message.specs.brpc_model.specs.Frame.{Frame, FrameFault}
 use Rattle.sock_message.specs.brpc_model.specs.Messages.{shown_id}
 use Rattle.sock_message.specs.brpc_model.specs.Stream.{stream, Fault}
-use Rattle.sock_message.specs.brpc_model.specs.Why.{Links, Attempt, Seeking, Ending, Finding, Sending, Calling, Target}
+use Rattle.sock_message.specs.brpc_model.specs.Why.{Links, Attempt, Seeking, Ending, Calling, Target}
 use Rattle.sock_message.specs.brpc_model.specs.Why as causes
 pub use Rattle.sock_message.specs.brpc_model.specs.Why.{WasFailing, RunEnding, WasUnopened, AfterDrop, AfterLoss, AfterFull, ByExpiry, ByCompression, ByFrameFault, ByEnd, BySocket, ByRequests, ByFail}
 use Rattle.sock_model.specs.Layout.{place_index}
@@ -20,7 +20,7 @@ use Rattle.seat_programs.specs.declared.task.Task.{Task}
 use Rattle.seat_programs.specs.Cores.{Core}
 use Rattle.seat_programs.specs.Runs.{from_to}
 use Rattle.seat_programs.specs.Scripts.{took_at_home}
-use Rattle.seat_programs.specs.Told.{IsTask, Became, Made, OpensNone, IsNoLater, AfterHold, HasLife, IsFail, opening_of}
+use Rattle.seat_programs.specs.Told.{IsTask, Became, Made, OpensNone, IsNoLater, HasLife, IsFail, OnSockets, WhyOnSockets}
 
 -- ## What the links accepted
 
@@ -249,21 +249,12 @@ module _ (p : Plan) (clients : List (List Task)) (outcomes : List (Option Outcom
 
   -- ## Causes
 
-  -- what is told of operation o of client c, which looks for a socket of name n
-  abbrev pub finding_told : ℕ → ℕ → ℕ → Finding
-  finding_told c o n = record {
-    FoundNone = FoundNone c o n;
-    FoundFailed = λ P. FoundFailed c o n P;
-    HasSocket = HasLife clients outcomes n;
-  }
-
-  -- of a send whose message was accepted no outcome is said
-  abbrev pub sending_told : ℕ → ℕ → ℕ → Sending
-  sending_told c o n = record {
-    find = finding_told c o n;
+  -- what is told of operation o of client c, if it is on sockets
+  abbrev pub sockets_told : ℕ → ℕ → OnSockets
+  sockets_told c o = record {
+    find = λ n. record { FoundNone = FoundNone c o n; FoundFailed = λ P. FoundFailed c o n P; HasSocket = HasLife clients outcomes n };
     WasFull = WasFull;
-    WasPlaced = λ k i. ⊥;
-    WasDropped = λ k i. ⊥;
+    FailsLife = (k : ℕ) × Contains fixed.fails (o, k);
   }
 
   -- of the call that is operation t, to operation o of client c
@@ -297,11 +288,7 @@ module _ (p : Plan) (clients : List (List Task)) (outcomes : List (Option Outcom
     Why c o (ops.Call asked) outcome = WhyCall c o asked outcome
     Why c o (ops.Expire t) outcome = WhyExpire c o t outcome
     Why c o (ops.Join t) outcome = WhyJoin c o t outcome
-    Why c o (ops.Open n k) outcome = causes.OpenCause (opening_of clients outcomes p k) outcome
-    Why c o (ops.Send n bytes) outcome = causes.SendCause (sending_told c o n) outcome
-    Why c o (ops.Hold n) outcome = causes.HoldCause (finding_told c o n) outcome
-    Why c o (ops.Fail n code) outcome = causes.FailCause (finding_told c o n) ((k : ℕ) × Contains fixed.fails (o, k)) outcome
-    Why c o (ops.Drop n) outcome = causes.DropCause (λ P. AfterHold clients outcomes c o n P) outcome
+    Why c o op outcome = WhyOnSockets clients outcomes p (sockets_told c o) c o op outcome
 
     -- message a, which link k accepted, is that of a `send` of which nothing is said, or of an attempt that was made of a call with an id,
     -- to a name of the link's socket
