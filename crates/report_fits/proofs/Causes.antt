@@ -12,7 +12,7 @@ use Rattle.brpc_model.specs.PlaceWords.{word_at, outcome_by_word}
 use Rattle.brpc_model.specs.Why.{Sending, Links, Attempt, Seeking, Ending, Calling, Target}
 use Rattle.brpc_model.specs.Attempts.{attempt, links_of, attempt_of, seeking_of, ending_of, IsTried, MayBeOn, WhyAgain, IsAnsweredBy, IsResponse, FailedBy, IsExpiredWith, IsFailedWith}
 use Rattle.brpc_model.specs.Attempts as attempts
-use Rattle.brpc_model.specs.Run.{IsOperation, HasOutcome, BecameSocket, StandsAt, IsUnordered, GaveFrame}
+use Rattle.brpc_model.specs.Run.{IsOperation, HasOutcome, StandsAt, IsUnordered, GaveFrame}
 use Rattle.brpc_model.specs.Causes.{HasFault, ReadingEnded, Early, AtClosed, AtSilence, Failing, OfLink, MayBeFull}
 use Rattle.brpc_model.specs.Outcomes.{sending_of, SendCause, calling_of, target_of, HasBegun, MayNotHaveBegun, IsTarget, Cause}
 use Rattle.brpc_model.proofs.Leads.{SendingLeads, send_leads, AttemptLeads, SeekingLeads, EndingLeads, answered_leads, again_leads, failed_leads, CallingLeads, call_leads, TargetLeads, expire_leads, join_leads}
@@ -25,7 +25,7 @@ use Rattle.seat_programs.specs.Scripts.{all_tasks}
 use Rattle.seat_programs.specs.Told.{IsTask, Made}
 use Rattle.seat_programs.specs.Told as plain
 use Rattle.seat_programs.specs.ToldCalls as told
-use Rattle.seat_programs.specs.ToldCalls.{Accepted, all_accepted, label}
+use Rattle.seat_programs.specs.ToldCalls.{Accepted, label}
 use Rattle.script_facts.proofs.Lists.{Has, some_is, has_from}
 use Rattle.script_facts.proofs.Names.{same_name}
 use Rattle.script_facts.proofs.Numbering.{are_from}

@@ -18,13 +18,12 @@ use Rattle.brpc_model.proofs.Leads.{FindingLeads, fail_leads, hold_leads, drop_l
 use Rattle.seat_programs.specs.declared.task.Op.{Op}
 use Rattle.seat_programs.specs.declared.task.Op.TheVariants as ops
 use Rattle.seat_programs.specs.declared.task.Task.{Task}
-use Rattle.seat_programs.specs.sock_message.specs.Asked.{Asked}
 use Rattle.seat_programs.specs.Cores.{Core}
 use Rattle.seat_programs.specs.Tasks.{Numbered, numbered, name_number, asked_of, op_of, plan_of}
 use Rattle.seat_programs.specs.Scripts.{all_tasks}
 use Rattle.seat_programs.specs.Told.{IsTask, Made, OpensNone, AfterHold, HasLife, EachOpened, IsFail, OnSockets}
 use Rattle.seat_programs.specs.ToldCalls as told
-use Rattle.seat_programs.specs.ToldCalls.{Accepted, Fixed, all_accepted, label}
+use Rattle.seat_programs.specs.ToldCalls.{all_accepted}
 use Rattle.report_fits.specs.Ends.{IsEndOf}
 use Rattle.script_facts.proofs.Lists.{Has, within, some_is, contains_from, has_from, all_at, all_map}
 use Rattle.script_facts.proofs.Counting.{but, but_other, one_less, HasPlace, places, passing, passing_length, passing_pass, passing_apart, Passes, passes_at, tally_all, count_tally}
@@ -32,7 +31,7 @@ use Rattle.script_facts.proofs.Names.{same_name}
 use Rattle.script_facts.proofs.Numbering.{link_at}
 use Rattle.script_facts.proofs.TaskLemmas.{numbers_at, asks_at, asked_at, task_is, operation_task, open_asks, hold_asks, fail_asks, mentions_open, mentions_hold, mentions_fail, named_at}
 use Rattle.report_fits.proofs.Reported.{is_said, outcome_told, told_outcome, SaidOrPlaced, said_or_placed}
-use Rattle.script_facts.proofs.Known.{first_number, attempt_named}
+use Rattle.script_facts.proofs.Known.{first_number}
 use Rattle.script_facts.proofs.Known as known
 use Rattle.report_fits.proofs.Lines.{Given}
 use Rattle.report_fits.proofs.Lines as lines
