@@ -1,5 +1,5 @@
 -- Why each operation of a script has its outcome, as a report has to say it: sends, calls, `expire` and `join`.
-use Rattle.std.proofs.Common.{◌≡◌, ◌≢◌, ℕ, ◌+◌, ◌<◌, ◌≤◌, ◌*◌, ◌⊎◌, inl, inr, Bool, true, false, if◌then◌else◌, nat_le, List, length, slice_get, Option, Some, None, Contains, refl, ap, sym, ◌∙◌, subst, arith}
+use Rattle.std.proofs.Common.{◌≡◌, ℕ, ◌+◌, ◌<◌, ◌≤◌, ◌*◌, ◌⊎◌, inl, inr, Bool, true, false, if◌then◌else◌, nat_le, List, length, slice_get, Option, Some, None, Contains, refl, ap, sym, ◌∙◌, subst, arith}
 use Rattle.std.proofs.lemmas.Bool.Decides.{nat_tests}
 use Rattle.std.proofs.lemmas.Option.{slice_get_within}
 use Rattle.sock_words.specs.declared.outcome.Outcome.{Outcome}
