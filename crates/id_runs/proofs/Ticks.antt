@@ -243,29 +243,29 @@ module _ (p : Plan) (q : IdPlan) (narrow : q.slots ≤ 65536) (same : q.operatio
     by_ready next go (OfReady answer) = on_sockets (next answer) seat.hand c.words c.homes held sound.codes sound.owners (go answer)
     by_ready next go _ = before
 
-    first_step : (answer : Answer) (program : Program) → IdGoesOn p q u program → FitsFirst p c program → After (step_with p i seat c answer program)
-    first_step answer (Do call next) go fits = let found : ℕ = found_at c.words (word_of p call) in let may = steps_on p q u call next go in
+    of_first : (answer : Answer) (program : Program) → IdGoesOn p q u program → FitsFirst p c program → After (step_with p i seat c answer program)
+    of_first answer (Do call next) go fits = let found : ℕ = found_at c.words (word_of p call) in let may = steps_on p q u call next go in
         on_sockets (next found) (hand_after p call c.homes seat.hand) (words_after c.words (word_of p call) (word_after call found)) (homes_after p call seat.hand c.homes)
         (hand_fits (FitsOwner q) p call c.homes seat.hand sound.owners held) (codes_fit p q call may.0 c.words sound.codes) (homes_fit (FitsOwner q) p call (puts_fit q call may.0) c.homes seat.hand sound.owners held) (may.1 found fits)
-    first_step answer (TakeMessage r next) go fits = by_letter r next go (message (λ (h : Home). h) c.homes r) refl
-    first_step answer (TakeHome k next) go fits = by_link k next go (link_home (λ (h : Home). h) p c.homes k)
-    first_step answer (PutHome k n after) go fits = on_sockets after (others_of seat.hand) c.words (set c.homes (link_place p k) (first_of (onto_first (with_places n) seat.hand))) (others_fit (FitsOwner q) seat.hand held) sound.codes
+    of_first answer (TakeMessage r next) go fits = by_letter r next go (message (λ (h : Home). h) c.homes r) refl
+    of_first answer (TakeHome k next) go fits = by_link k next go (link_home (λ (h : Home). h) p c.homes k)
+    of_first answer (PutHome k n after) go fits = on_sockets after (others_of seat.hand) c.words (set c.homes (link_place p k) (first_of (onto_first (with_places n) seat.hand))) (others_fit (FitsOwner q) seat.hand held) sound.codes
         (home_set (FitsOwner q) c.homes (link_place p k) (first_of (onto_first (with_places n) seat.hand)) (first_fits (FitsOwner q) (onto_first (with_places n) seat.hand) (places_fit (FitsOwner q) n seat.hand held)) sound.owners) go
-    first_step answer (PutBytes k asked bytes next) go fits = by_put bytes next go answer
-    first_step answer (AskReady k next) go fits = by_ready next go answer
-    first_step answer (Aside step next) go fits = on_ids step next (taken answer) go (found_in step c.calls (taken answer)) refl
-    first_step answer _ go fits = before
+    of_first answer (PutBytes k asked bytes next) go fits = by_put bytes next go answer
+    of_first answer (AskReady k next) go fits = by_ready next go answer
+    of_first answer (Aside step next) go fits = on_ids step next (taken answer) go (found_in step c.calls (taken answer)) refl
+    of_first answer _ go fits = before
 
     any_step : (answer : Answer) (program : Program) → IdGoesOn p q u program → FitsFirst p c (first_step program) → After (tick_with p i seat c answer program)
-    any_step answer (Write w after) go fits = first_step answer (block w after) (block_goes p q narrow u w after go) fits
-    any_step answer (Round head next) go fits = first_step answer (round head next) (ids_round p q u head next go) fits
-    any_step answer (Do call next) go fits = first_step answer (Do call next) go fits
-    any_step answer (TakeMessage r next) go fits = first_step answer (TakeMessage r next) go fits
-    any_step answer (TakeHome k next) go fits = first_step answer (TakeHome k next) go fits
-    any_step answer (PutHome k n after) go fits = first_step answer (PutHome k n after) go fits
-    any_step answer (PutBytes k asked bytes next) go fits = first_step answer (PutBytes k asked bytes next) go fits
-    any_step answer (AskReady k next) go fits = first_step answer (AskReady k next) go fits
-    any_step answer (Aside step next) go fits = first_step answer (Aside step next) go fits
+    any_step answer (Write w after) go fits = of_first answer (block w after) (block_goes p q narrow u w after go) fits
+    any_step answer (Round head next) go fits = of_first answer (round head next) (ids_round p q u head next go) fits
+    any_step answer (Do call next) go fits = of_first answer (Do call next) go fits
+    any_step answer (TakeMessage r next) go fits = of_first answer (TakeMessage r next) go fits
+    any_step answer (TakeHome k next) go fits = of_first answer (TakeHome k next) go fits
+    any_step answer (PutHome k n after) go fits = of_first answer (PutHome k n after) go fits
+    any_step answer (PutBytes k asked bytes next) go fits = of_first answer (PutBytes k asked bytes next) go fits
+    any_step answer (AskReady k next) go fits = of_first answer (AskReady k next) go fits
+    any_step answer (Aside step next) go fits = of_first answer (Aside step next) go fits
     any_step answer _ go fits = before
 
   -- of two lists of one length each place of one is a place of the other

@@ -230,26 +230,26 @@ module _ (p : Plan) (q : IdPlan) (narrow : q.slots ≤ 65536) (same : q.operatio
     by_ready next g (OfReady answer) = same_homes (next answer) seat.hand (g answer)
     by_ready next g _ = before
 
-    first_step : (answer : Answer) (program : Program) → OwesOn life u program → IdGoesOn p q w program → StepFits p q life calls c seat u answer program → Owed' (step_with p i seat c answer program)
-    first_step answer (Do call next) g go fits = on_call call next g fits.0 fits.1
-    first_step answer (TakeMessage r next) g go fits = by_letter r next g (message (λ (h : Home). h) c.homes r) refl
-    first_step answer (TakeHome k next) g go fits = by_link k next g (link_home (λ (h : Home). h) p c.homes k)
-    first_step answer (PutHome k n after) g go fits = puts_home k n after g fits
-    first_step answer (PutBytes k asked bytes next) g go fits = by_put bytes next g answer
-    first_step answer (AskReady k next) g go fits = by_ready next g answer
-    first_step answer (Aside step next) g go fits = on_aside step next answer g go.0 fits (found_in step c.calls (taken answer)) refl
-    first_step answer _ g go fits = before
+    of_first : (answer : Answer) (program : Program) → OwesOn life u program → IdGoesOn p q w program → StepFits p q life calls c seat u answer program → Owed' (step_with p i seat c answer program)
+    of_first answer (Do call next) g go fits = on_call call next g fits.0 fits.1
+    of_first answer (TakeMessage r next) g go fits = by_letter r next g (message (λ (h : Home). h) c.homes r) refl
+    of_first answer (TakeHome k next) g go fits = by_link k next g (link_home (λ (h : Home). h) p c.homes k)
+    of_first answer (PutHome k n after) g go fits = puts_home k n after g fits
+    of_first answer (PutBytes k asked bytes next) g go fits = by_put bytes next g answer
+    of_first answer (AskReady k next) g go fits = by_ready next g answer
+    of_first answer (Aside step next) g go fits = on_aside step next answer g go.0 fits (found_in step c.calls (taken answer)) refl
+    of_first answer _ g go fits = before
 
     any_step : (answer : Answer) (program : Program) → OwesOn life u program → IdGoesOn p q w program → StepFits p q life calls c seat u answer (first_step program) → Owed' (tick_with p i seat c answer program)
-    any_step answer (Write x after) g go fits = first_step answer (block x after) (block_goes life u x after g) (idprograms.block_goes p q narrow w x after go) fits
-    any_step answer (Round head next) g go fits = first_step answer (round head next) (owes_round life u head next g) (ids_round p q w head next go) fits
-    any_step answer (Do call next) g go fits = first_step answer (Do call next) g go fits
-    any_step answer (TakeMessage r next) g go fits = first_step answer (TakeMessage r next) g go fits
-    any_step answer (TakeHome k next) g go fits = first_step answer (TakeHome k next) g go fits
-    any_step answer (PutHome k n after) g go fits = first_step answer (PutHome k n after) g go fits
-    any_step answer (PutBytes k asked bytes next) g go fits = first_step answer (PutBytes k asked bytes next) g go fits
-    any_step answer (AskReady k next) g go fits = first_step answer (AskReady k next) g go fits
-    any_step answer (Aside step next) g go fits = first_step answer (Aside step next) g go fits
+    any_step answer (Write x after) g go fits = of_first answer (block x after) (block_goes life u x after g) (idprograms.block_goes p q narrow w x after go) fits
+    any_step answer (Round head next) g go fits = of_first answer (round head next) (owes_round life u head next g) (ids_round p q w head next go) fits
+    any_step answer (Do call next) g go fits = of_first answer (Do call next) g go fits
+    any_step answer (TakeMessage r next) g go fits = of_first answer (TakeMessage r next) g go fits
+    any_step answer (TakeHome k next) g go fits = of_first answer (TakeHome k next) g go fits
+    any_step answer (PutHome k n after) g go fits = of_first answer (PutHome k n after) g go fits
+    any_step answer (PutBytes k asked bytes next) g go fits = of_first answer (PutBytes k asked bytes next) g go fits
+    any_step answer (AskReady k next) g go fits = of_first answer (AskReady k next) g go fits
+    any_step answer (Aside step next) g go fits = of_first answer (Aside step next) g go fits
     any_step answer _ g go fits = before
 
   -- a tick of any seat keeps what is owed

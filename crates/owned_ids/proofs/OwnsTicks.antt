@@ -458,15 +458,15 @@ module _ (p : Plan) (q : IdPlan) (narrow : q.slots ≤ 65536) (calls : List ℕ)
   by_ready next g (OfReady answer) = on_sockets Other (next answer) seat.hand c.words c.homes (g answer) tt
   by_ready next g _ = before
 
-  owned_first : (answer : Answer) (program : Program) (b : Behind) → Owns has (left i) b program → IsTrueOf c b program → IdGoesOn p q u program → FitsFirst p c program → After (step_with p i seat c answer program)
-  owned_first answer (Do call next) b g true_ go fits = on_sockets Other (next (found_at c.words (word_of p call))) _ _ _ (g (found_at c.words (word_of p call)) fits has (grows_same has)) tt
-  owned_first answer (TakeMessage r next) b g true_ go fits = by_letter r (λ letter. next letter.0 letter.1) (λ letter. g letter.0 letter.1 has (grows_same has)) (message (λ (h : Home). h) c.homes r)
-  owned_first answer (TakeHome k next) b g true_ go fits = by_link k next (λ n. g n has (grows_same has)) (link_home (λ (h : Home). h) p c.homes k)
-  owned_first answer (PutHome k n after) b g true_ go fits = on_sockets Other after _ c.words _ (g has (grows_same has)) tt
-  owned_first answer (PutBytes k asked bytes next) b g true_ go fits = by_put bytes next (λ x. g x has (grows_same has)) answer
-  owned_first answer (AskReady k next) b g true_ go fits = by_ready next (λ x. g x has (grows_same has)) answer
-  owned_first answer (Aside step next) b g true_ go fits = on_aside step next (taken answer) go b g true_ (found_in step c.calls (taken answer)) refl
-  owned_first answer _ b g true_ go fits = before
+  of_first : (answer : Answer) (program : Program) (b : Behind) → Owns has (left i) b program → IsTrueOf c b program → IdGoesOn p q u program → FitsFirst p c program → After (step_with p i seat c answer program)
+  of_first answer (Do call next) b g true_ go fits = on_sockets Other (next (found_at c.words (word_of p call))) _ _ _ (g (found_at c.words (word_of p call)) fits has (grows_same has)) tt
+  of_first answer (TakeMessage r next) b g true_ go fits = by_letter r (λ letter. next letter.0 letter.1) (λ letter. g letter.0 letter.1 has (grows_same has)) (message (λ (h : Home). h) c.homes r)
+  of_first answer (TakeHome k next) b g true_ go fits = by_link k next (λ n. g n has (grows_same has)) (link_home (λ (h : Home). h) p c.homes k)
+  of_first answer (PutHome k n after) b g true_ go fits = on_sockets Other after _ c.words _ (g has (grows_same has)) tt
+  of_first answer (PutBytes k asked bytes next) b g true_ go fits = by_put bytes next (λ x. g x has (grows_same has)) answer
+  of_first answer (AskReady k next) b g true_ go fits = by_ready next (λ x. g x has (grows_same has)) answer
+  of_first answer (Aside step next) b g true_ go fits = on_aside step next (taken answer) go b g true_ (found_in step c.calls (taken answer)) refl
+  of_first answer _ b g true_ go fits = before
 
   -- the first step of a round
   round_true : (head : Head) (next : Exit head → Program) (b : Behind) → Owns has (left i) b (Round head next) → IsTrueOf c b (Round head next) → (d : Behind) × Owns has (left i) d (round head next) × IsTrueOf c d (round head next)
@@ -484,16 +484,16 @@ module _ (p : Plan) (q : IdPlan) (narrow : q.slots ≤ 65536) (calls : List ℕ)
   round_true (Reads r) next b g true_ = (Other, owns_round has (left i) Other (Reads r) next g, tt)
   round_true (Discards k total) next b g true_ = (Other, owns_round has (left i) Other (Discards k total) next g, tt)
 
-  any_step : (answer : Answer) (program : Program) (b : Behind) → Owns has (left i) b program → IsTrueOf c b program → IdGoesOn p q u program → FitsFirst p c (owned_first program) → After (tick_with p i seat c answer program)
-  any_step answer (Write w after) b g true_ go fits = owned_first answer (block w after) Other ((block_goes has (left i) w after (record { goes = λ more h d. owns_any more (left i) d after (g more h) })).goes has (grows_same has) Other) tt (idprograms.block_goes p q narrow u w after go) fits
-  any_step answer (Round head next) b g true_ go fits = let r = round_true head next b g true_ in owned_first answer (round head next) r.0 r.1 r.2 (ids_round p q u head next go) fits
-  any_step answer (Do call next) b g true_ go fits = owned_first answer (Do call next) b g true_ go fits
-  any_step answer (TakeMessage r next) b g true_ go fits = owned_first answer (TakeMessage r next) b g true_ go fits
-  any_step answer (TakeHome k next) b g true_ go fits = owned_first answer (TakeHome k next) b g true_ go fits
-  any_step answer (PutHome k n after) b g true_ go fits = owned_first answer (PutHome k n after) b g true_ go fits
-  any_step answer (PutBytes k asked bytes next) b g true_ go fits = owned_first answer (PutBytes k asked bytes next) b g true_ go fits
-  any_step answer (AskReady k next) b g true_ go fits = owned_first answer (AskReady k next) b g true_ go fits
-  any_step answer (Aside step next) b g true_ go fits = owned_first answer (Aside step next) b g true_ go fits
+  any_step : (answer : Answer) (program : Program) (b : Behind) → Owns has (left i) b program → IsTrueOf c b program → IdGoesOn p q u program → FitsFirst p c (of_first program) → After (tick_with p i seat c answer program)
+  any_step answer (Write w after) b g true_ go fits = of_first answer (block w after) Other ((block_goes has (left i) w after (record { goes = λ more h d. owns_any more (left i) d after (g more h) })).goes has (grows_same has) Other) tt (idprograms.block_goes p q narrow u w after go) fits
+  any_step answer (Round head next) b g true_ go fits = let r = round_true head next b g true_ in of_first answer (round head next) r.0 r.1 r.2 (ids_round p q u head next go) fits
+  any_step answer (Do call next) b g true_ go fits = of_first answer (Do call next) b g true_ go fits
+  any_step answer (TakeMessage r next) b g true_ go fits = of_first answer (TakeMessage r next) b g true_ go fits
+  any_step answer (TakeHome k next) b g true_ go fits = of_first answer (TakeHome k next) b g true_ go fits
+  any_step answer (PutHome k n after) b g true_ go fits = of_first answer (PutHome k n after) b g true_ go fits
+  any_step answer (PutBytes k asked bytes next) b g true_ go fits = of_first answer (PutBytes k asked bytes next) b g true_ go fits
+  any_step answer (AskReady k next) b g true_ go fits = of_first answer (AskReady k next) b g true_ go fits
+  any_step answer (Aside step next) b g true_ go fits = of_first answer (Aside step next) b g true_ go fits
   any_step answer _ b g true_ go fits = before
 
 -- a tick of any seat, where the words of the sockets are as they should be

@@ -1,5 +1,5 @@
 ghost use Rattle.std.specs.Prelude.{◌≡◌, ◌==◌, ◌+◌, ◌%◌, ◌<◌, ◌≤◌, if◌then◌else◌, ℕ, List, None, Some, Bool, false};
-ghost use Rattle.sock_words.specs.Words.{vref_version, ticket_request, ticket_generation};
+ghost use Rattle.sock_words.specs.Words.{vref_version, ticket_request};
 ghost use Rattle.seat_programs.specs.Sends.{one_more, freed, passed_telling};
 ghost use Rattle.sock_io.specs.declared.link.Put.{Put};
 ghost use Rattle.call_points.specs.Steps.{after_word};
@@ -22,17 +22,11 @@ const UNCONNECTED: u64 = u64::MAX;
 /// The last generation of a request, which isn't given back then.
 const LAST_GENERATION: u64 = 140_737_488_355_327;
 
-/// The request of a ticket, and its generation.
+/// The request of a ticket.
 fn request_of(ticket: Ticket) -> u16
     ensures { result ≡ ticket_request ticket.0 }
 {
     ((ticket.0 % 65_536) as u16).saturating_sub(1)
-}
-
-fn generation(ticket: Ticket) -> u64
-    ensures { result ≡ ticket_generation ticket.0 }
-{
-    ticket.0 / 65_536
 }
 
 impl Current {
@@ -153,7 +147,7 @@ impl Writer {
             }
             WriteStep::ReadNext(now, _) => Step::Call(Call::ReadNext(request_of(now))),
             WriteStep::Free(now, _, _) => {
-                Step::Call(Call::FreeRequest(request_of(now), generation(now)))
+                Step::Call(Call::FreeRequest(request_of(now), now.generation()))
             }
             WriteStep::TakeMessage(next) => Step::TakeMessage(request_of(next)),
             WriteStep::PutHome => Step::PutHome(link, places),
@@ -206,7 +200,7 @@ impl Writer {
         ensures program { (a : Context) → next_program a result ≡ freed now.0 (behind_drop a self told next) }
         ensures hand { link_behind result ≡ None }
     {
-        if generation(now) == LAST_GENERATION {
+        if now.generation() == LAST_GENERATION {
             self.tells(next, told)
         } else {
             self.to(WriteStep::Free(now, next, told))

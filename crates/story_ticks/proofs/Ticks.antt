@@ -302,30 +302,30 @@ module _ (p : Plan) (q : IdPlan) (clients : List (List Task)) (gives : ℕ → L
     by_ready next says go (OfReady answer) lead = on_homes (next answer) seat.hand w.core.homes (keeps_few p q u (next answer) (go answer)) lead (λ v l s. says answer v l s)
     by_ready next says go _ lead = before lead
 
-    first_step : (answer : Answer) (program : Program) → SaysOn p q clients gives w m program → IdGoesOn p q u program → FitsFirst p w.core program → AllowsDo p program → Leads (step_with p i seat w.core answer program) → Goes (posted_with w.core.calls (taken answer) program ++ w.posts) (advanced_with w.core.calls (taken answer) program ++ w.advances) (step_with p i seat w.core answer program)
-    first_step answer (Do call next) says go fits in_ lead = let found : ℕ = found_at w.core.words (word_of p call) in
+    of_first : (answer : Answer) (program : Program) → SaysOn p q clients gives w m program → IdGoesOn p q u program → FitsFirst p w.core program → AllowsDo p program → Leads (step_with p i seat w.core answer program) → Goes (posted_with w.core.calls (taken answer) program ++ w.posts) (advanced_with w.core.calls (taken answer) program ++ w.advances) (step_with p i seat w.core answer program)
+    of_first answer (Do call next) says go fits in_ lead = let found : ℕ = found_at w.core.words (word_of p call) in
         on_sockets (next found) (hand_after p call w.core.homes seat.hand) (words_after w.core.words (word_of p call) (word_after call (found_at w.core.words (word_of p call)))) (homes_after p call seat.hand w.core.homes)
         (λ n low some_. names_after p q clients gives in_.0 call in_.1 says.0 w.core.words sized n low some_) (codes_after p q clients gives call says.0 w.core.words story.births.codes)
         (keeps_few p q u (next found) ((steps_on p q u call next go).1 found fits)) lead (λ v words l s. says.1 found v l s (finds_do in_.0 call in_.1 says.0 v words l))
-    first_step answer (TakeMessage r next) says go fits in_ lead = by_letter r next says go (message (λ (h : Home). h) w.core.homes r) refl lead
-    first_step answer (TakeHome k next) says go fits in_ lead = by_link k next says go (link_home (λ (h : Home). h) p w.core.homes k) lead
-    first_step answer (PutHome k n after) says go fits in_ lead = on_homes after (others_of seat.hand) (set w.core.homes (link_place p k) (first_of (onto_first (with_places n) seat.hand))) (keeps_few p q u after go) lead (λ v l s. says v l s)
-    first_step answer (PutBytes k asked bytes next) says go fits in_ lead = by_put bytes next says go answer lead
-    first_step answer (AskReady k next) says go fits in_ lead = by_ready next says go answer lead
-    first_step answer (Aside step next) says go fits in_ lead = by_found step next (taken answer) says go (found_in step w.core.calls (taken answer)) refl lead
-    first_step answer _ says go fits in_ lead = before lead
+    of_first answer (TakeMessage r next) says go fits in_ lead = by_letter r next says go (message (λ (h : Home). h) w.core.homes r) refl lead
+    of_first answer (TakeHome k next) says go fits in_ lead = by_link k next says go (link_home (λ (h : Home). h) p w.core.homes k) lead
+    of_first answer (PutHome k n after) says go fits in_ lead = on_homes after (others_of seat.hand) (set w.core.homes (link_place p k) (first_of (onto_first (with_places n) seat.hand))) (keeps_few p q u after go) lead (λ v l s. says v l s)
+    of_first answer (PutBytes k asked bytes next) says go fits in_ lead = by_put bytes next says go answer lead
+    of_first answer (AskReady k next) says go fits in_ lead = by_ready next says go answer lead
+    of_first answer (Aside step next) says go fits in_ lead = by_found step next (taken answer) says go (found_in step w.core.calls (taken answer)) refl lead
+    of_first answer _ says go fits in_ lead = before lead
 
     -- where the error on which the seat decides is noted, if it decides on one
     any_step : (answer : Answer) (program : Program) → ((d : Decision) → In d (decision_in program) → In d w.decisions) → SaysOn p q clients gives w m program → IdGoesOn p q u program → FitsFirst p w.core (first_step program) → AllowsDo p (first_step program) → Leads (tick_with p i seat w.core answer program) → Goes (posted_with w.core.calls (taken answer) (first_step program) ++ w.posts) (advanced_with w.core.calls (taken answer) (first_step program) ++ w.advances) (tick_with p i seat w.core answer program)
-    any_step answer (Write x after) on says go fits in_ lead = first_step answer (block x after) (block_says p q clients gives w m x after says) (block_goes p q narrow u x after go) fits in_ lead
-    any_step answer (Round head next) on says go fits in_ lead = first_step answer (round head next) (round_says p q clients gives w m head next on says) (ids_round p q u head next go) fits in_ lead
-    any_step answer (Do call next) on says go fits in_ lead = first_step answer (Do call next) says go fits in_ lead
-    any_step answer (TakeMessage r next) on says go fits in_ lead = first_step answer (TakeMessage r next) says go fits in_ lead
-    any_step answer (TakeHome k next) on says go fits in_ lead = first_step answer (TakeHome k next) says go fits in_ lead
-    any_step answer (PutHome k n after) on says go fits in_ lead = first_step answer (PutHome k n after) says go fits in_ lead
-    any_step answer (PutBytes k asked bytes next) on says go fits in_ lead = first_step answer (PutBytes k asked bytes next) says go fits in_ lead
-    any_step answer (AskReady k next) on says go fits in_ lead = first_step answer (AskReady k next) says go fits in_ lead
-    any_step answer (Aside step next) on says go fits in_ lead = first_step answer (Aside step next) says go fits in_ lead
+    any_step answer (Write x after) on says go fits in_ lead = of_first answer (block x after) (block_says p q clients gives w m x after says) (block_goes p q narrow u x after go) fits in_ lead
+    any_step answer (Round head next) on says go fits in_ lead = of_first answer (round head next) (round_says p q clients gives w m head next on says) (ids_round p q u head next go) fits in_ lead
+    any_step answer (Do call next) on says go fits in_ lead = of_first answer (Do call next) says go fits in_ lead
+    any_step answer (TakeMessage r next) on says go fits in_ lead = of_first answer (TakeMessage r next) says go fits in_ lead
+    any_step answer (TakeHome k next) on says go fits in_ lead = of_first answer (TakeHome k next) says go fits in_ lead
+    any_step answer (PutHome k n after) on says go fits in_ lead = of_first answer (PutHome k n after) says go fits in_ lead
+    any_step answer (PutBytes k asked bytes next) on says go fits in_ lead = of_first answer (PutBytes k asked bytes next) says go fits in_ lead
+    any_step answer (AskReady k next) on says go fits in_ lead = of_first answer (AskReady k next) says go fits in_ lead
+    any_step answer (Aside step next) on says go fits in_ lead = of_first answer (Aside step next) says go fits in_ lead
     any_step answer _ on says go fits in_ lead = before lead
 
   -- the view of each seat allows its step
