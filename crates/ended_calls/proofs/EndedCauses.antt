@@ -35,7 +35,7 @@ module _ (script : List Item) (made : AreMade script) (turns : List Turn) (core 
 
   module _ (client : ℕ) (t : Task) (asked : Asked) (it : IsTask (all_tasks script) core.outcomes client t) (op : t.op ≡ ops.Call asked) (x : Post) (there : In x (reader_posts_of_run script turns core is)) (own : x.id ≡ ids t.number) where
     same_asked : (a : Asked) → IsCallOf script a → a.operation ≡ t.number → a ≡ asked
-    same_asked a of number = let one = (one_task (plan_of script) (all_tasks script) made.are of.0 client of.2 t (of.1, place_at script made turns core is closes ids labelled (all_tasks script) of.0 of.1 of.3, of.4) (it.0, it.1, contains_in it.0 t it.2) (sym of.6 ∙ number)).1 in
+    same_asked a of number = let one = (one_task (plan_of script) (all_tasks script) made.are of.0 client of.2 t (of.1, place_at (all_tasks script) of.0 of.1 of.3, of.4) (it.0, it.1, contains_in it.0 t it.2) (sym of.6 ∙ number)).1 in
         let two : ops.Call a ≡ ops.Call asked = sym of.5 ∙ (ap (λ (y : Task). y.op) one ∙ op) in cc
 
     -- a link of the attempt whose reading ended with the code

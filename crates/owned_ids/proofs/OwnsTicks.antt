@@ -484,7 +484,7 @@ module _ (p : Plan) (q : IdPlan) (narrow : q.slots ≤ 65536) (calls : List ℕ)
   round_true (Reads r) next b g true_ = (Other, owns_round has (left i) Other (Reads r) next g, tt)
   round_true (Discards k total) next b g true_ = (Other, owns_round has (left i) Other (Discards k total) next g, tt)
 
-  any_step : (answer : Answer) (program : Program) (b : Behind) → Owns has (left i) b program → IsTrueOf c b program → IdGoesOn p q u program → FitsFirst p c (of_first program) → After (tick_with p i seat c answer program)
+  any_step : (answer : Answer) (program : Program) (b : Behind) → Owns has (left i) b program → IsTrueOf c b program → IdGoesOn p q u program → FitsFirst p c (first_step program) → After (tick_with p i seat c answer program)
   any_step answer (Write w after) b g true_ go fits = of_first answer (block w after) Other ((block_goes has (left i) w after (record { goes = λ more h d. owns_any more (left i) d after (g more h) })).goes has (grows_same has) Other) tt (idprograms.block_goes p q narrow u w after go) fits
   any_step answer (Round head next) b g true_ go fits = let r = round_true head next b g true_ in of_first answer (round head next) r.0 r.1 r.2 (ids_round p q u head next go) fits
   any_step answer (Do call next) b g true_ go fits = of_first answer (Do call next) b g true_ go fits
