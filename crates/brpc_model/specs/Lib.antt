@@ -22,6 +22,7 @@ pub mod Run
 pub mod Messages
 pub mod Order
 pub mod Causes
+pub mod Why
 pub mod Attempts
 pub mod Outcomes
 pub mod Fits

@@ -21,7 +21,7 @@ use Rattle.story_ticks.specs.call_stories.specs.Says.{Mark}
 use Rattle.story_ticks.specs.call_stories.proofs.Posts.{or_cases}
 use Rattle.story_ticks.specs.story_steps.proofs.End.{HasEnded, ended_call, one_outcome, call_of, answered, contains_in}
 use Rattle.story_ticks.specs.story_steps.proofs.Whys.{AreAscending, IsDone, is_done, in_contains, why_expire, why_join}
-use Rattle.seat_programs.specs.brpc_model.specs.Attempts.{HasCode}
+use Rattle.seat_programs.specs.brpc_model.specs.Why.{HasCode}
 use Rattle.story_ticks.specs.Below.outcome_stories.specs.Stories.{In}
 
 module _ (p : Plan) (q : IdPlan) (clients : List (List Task)) (gives : ℕ → List ℕ) (ascending : (c : ℕ) → AreAscending (get_or clients c [])) (w : Scene) (ms : List Mark) (e : HasEnded p q clients gives w ms) where

@@ -77,8 +77,8 @@ module _ (p : Plan) (q : IdPlan) (clients : List (List Task)) (gives : ℕ → L
     failed_on id asked c (by_other n x there ended last on) = by_other n x (l.posted (record { id = id; error = error_of c n }) there) (l.ended (record { id = id; asked = asked }) n ended) last (l.decided (record { id = id; asked = asked; error = error_of c n }) on)
 
     pub ended_on : (b : Birth) (x : Outcome) → WhyEnded p q clients gives w b x → WhyEnded p q clients gives w' b x
-    ended_on b (outcomes.Answered id payload attachment) y = (y.0, answered_on b.id b.asked (λ (frame : Frame). Rattle.seat_programs.specs.brpc_model.specs.Attempts.HasCode (Rattle.std.specs.Prelude.pos 0) frame × (frame.payload ≡ payload) × (frame.attachment ≡ attachment)) y.1)
-    ended_on b (outcomes.Peer id c) y = (y.0, answered_on b.id b.asked (Rattle.seat_programs.specs.brpc_model.specs.Attempts.HasCode c) y.1, y.2)
+    ended_on b (outcomes.Answered id payload attachment) y = (y.0, answered_on b.id b.asked (λ (frame : Frame). Rattle.seat_programs.specs.brpc_model.specs.Why.HasCode (Rattle.std.specs.Prelude.pos 0) frame × (frame.payload ≡ payload) × (frame.attachment ≡ attachment)) y.1)
+    ended_on b (outcomes.Peer id c) y = (y.0, answered_on b.id b.asked (Rattle.seat_programs.specs.brpc_model.specs.Why.HasCode c) y.1, y.2)
     ended_on b (outcomes.CallFailed id c) y = (y.0, failed_on b.id b.asked c y.1)
     ended_on b _ y = absurd y
 

@@ -23,7 +23,7 @@ use Rattle.call_stories.specs.Lists.{given, times}
 use Rattle.call_stories.specs.Posts.{Post}
 use Rattle.call_stories.specs.Decided.{Decision}
 use Rattle.outcome_stories.specs.Stories.{In}
-use Rattle.seat_programs.specs.brpc_model.specs.Attempts.{HasCode}
+use Rattle.seat_programs.specs.brpc_model.specs.Why.{HasCode}
 
 -- the id of a call, which has the versions behind it, as many as the call's range less one
 pub record Birth : Type 0 where

@@ -3,8 +3,7 @@ use Rattle.std.specs.Prelude.{ℕ, ◌≡◌, ◌≢◌, ◌+◌, ◌<◌, ◌�
 use Rattle.sock_words.specs.Codes.{EEOF, EFAILEDSOCKET, EREQUESTS, ERESPONSE, ERPCTIMEDOUT, is_final}
 use Rattle.sock_words.specs.declared.plain.Plan.{Plan}
 use Rattle.sock_words.specs.declared.outcome.Outcome.{Outcome}
-use Rattle.sock_words.specs.declared.outcome.Outcome.TheVariants.{Unopened, Answered, Peer, CallFailed, Expired, Queued}
-use Rattle.seat_programs.specs.brpc_model.specs.Frame.{Frame}
+use Rattle.sock_words.specs.declared.outcome.Outcome.TheVariants.{Expired, Queued}
 use Rattle.sock_message.specs.Asked.{Asked, name_of}
 use Rattle.seat_programs.specs.declared.task.Op.{Op}
 use Rattle.seat_programs.specs.declared.task.Op.TheVariants as ops
@@ -14,7 +13,8 @@ use Rattle.seat_programs.specs.Told.{IsTask, Became}
 use Rattle.seat_programs.specs.ToldCalls.{Fixed, Order, FoundNone, IsAnsweredBy, IsExpiredWith, GaveFault, ShowsId, WhyExpire, WhyJoin}
 use Rattle.call_stories.specs.Posts.{Post}
 use Rattle.call_stories.specs.Decided.{Decision}
-use Rattle.seat_programs.specs.brpc_model.specs.Attempts.{HasCode}
+use Rattle.seat_programs.specs.brpc_model.specs.Why.{Calling}
+use Rattle.seat_programs.specs.brpc_model.specs.Why as causes
 use Rattle.outcome_stories.specs.Stories.{In}
 
 abbrev pub IsOnCalls : Op → Type 0
@@ -36,12 +36,16 @@ module _ (p : Plan) (clients : List (List Task)) (outcomes : List (Option Outcom
     ByReading : code ≡ EEOF → FailedInPart last o asked id code
     BySocketOrRequests : last o + 2 ≡ asked.range → Contains (EFAILEDSOCKET ∷ EREQUESTS ∷ []) code → FailedInPart last o asked id code
 
+  -- what is told of the call that is operation o of client c
+  abbrev pub calling_in_part : (ℕ → ℕ) → ℕ → ℕ → Asked → Calling
+  calling_in_part last c o asked = record {
+    FoundNone = FoundNone p clients outcomes fixed gave orders c o (name_of asked 0);
+    IsAnswered = λ id P. IsAnsweredBy p clients outcomes fixed gave orders asked id P;
+    HasFailed = λ id code. FailedInPart last o asked id code;
+  }
+
   abbrev pub WhyCallInPart : (ℕ → ℕ) → ℕ → ℕ → Asked → Outcome → Type 0
-  WhyCallInPart last c o asked Unopened = FoundNone p clients outcomes fixed gave orders c o (name_of asked 0)
-  WhyCallInPart last c o asked (Answered id payload attachment) = IsAnsweredBy p clients outcomes fixed gave orders asked id (λ (frame : Frame). HasCode (pos 0) frame × (frame.payload ≡ payload) × (frame.attachment ≡ attachment))
-  WhyCallInPart last c o asked (Peer id code) = IsAnsweredBy p clients outcomes fixed gave orders asked id (HasCode code) × (code ≢ pos 0)
-  WhyCallInPart last c o asked (CallFailed id code) = FailedInPart last o asked id code
-  WhyCallInPart last c o asked other = ⊥
+  WhyCallInPart last c o asked outcome = causes.CallCause (calling_in_part last c o asked) outcome
 
   abbrev pub WhyInPart : (ℕ → ℕ) → ℕ → ℕ → Op → Outcome → Type 0
   WhyInPart last c o (ops.Call asked) outcome = WhyCallInPart last c o asked outcome

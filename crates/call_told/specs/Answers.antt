@@ -7,7 +7,8 @@ use Rattle.sock_words.specs.declared.outcome.Outcome.TheVariants.{Answered, Peer
 use Rattle.brpc_model.specs.Frame.{Frame}
 use Rattle.brpc_model.specs.Items.{Item, Call, CallLine}
 use Rattle.brpc_model.specs.Operations.{Operation}
-use Rattle.brpc_model.specs.Attempts.{IsResponse, HasCode}
+use Rattle.brpc_model.specs.Attempts.{IsResponse}
+use Rattle.brpc_model.specs.Why.{HasCode}
 use Rattle.brpc_model.specs.Link.{LinkEnd}
 use Rattle.brpc_model.specs.Stream.{stream}
 use Rattle.brpc_model.specs.ResponseOutcome.{ending_of}

@@ -10,7 +10,7 @@ use Rattle.sock_message.specs.Asked.{Asked}
 use Rattle.seat_programs.specs.declared.task.Task.{Task}
 use Rattle.seat_programs.specs.ToldCalls.{Fixed, Order, IsAnsweredBy, WhyCall}
 use Rattle.expire_told.specs.call_told.specs.Answers.{IsAnswer, HasAnswer}
-use Rattle.brpc_model.specs.Attempts.{HasCode}
+use Rattle.brpc_model.specs.Why.{HasCode}
 
 -- the line of a call
 line_of : Item → CallLine → CallLine

@@ -54,7 +54,7 @@ module _ (s : Known) (untroubled : IsUntroubled s.run.script s.run.ends) (none_e
   no_drop o n k i w dropped = let inside = slice_get_within (s.run.orders k).accepted i w.1 w.2 in unfailed s.run untroubled none_early (λ f. Unit {0}) k w.0 (s.run.tells.dropped k w.0 (omega (arith, inside, dropped)))
 
   pub no_loss : (c o name : ℕ) → told.WhyLost (plan_of s.run.script) (all_tasks s.run.script) s.run.outcomes (fixed_by s.run.broken s.run.early s.run.fails) s.run.gave s.run.orders c o 0 name → ⊥
-  no_loss c o name (told.WasFailing k slot version life failing) = unfailed s.run untroubled none_early (λ f. Unit {0}) k (life_low s.run untroubled none_early name k slot version life) failing
+  no_loss c o name (told.WasFailing k (slot, version, life) failing) = unfailed s.run untroubled none_early (λ f. Unit {0}) k (life_low s.run untroubled none_early name k slot version life) failing
   no_loss c o name (told.RunEnding late) = has_none o (has_from [] o late)
   no_loss c o name (told.WasUnopened later d m some_ few behind none_) = let z : ⊥ = omega (arith, later) in z
 

@@ -104,7 +104,7 @@ module _ (script : List Item) (made : AreMade script) (turns : List Turn) (core 
           → IsFailing p clients core.outcomes fixed gave orders k) where
         pub lost_by_drop : (c : ℕ) → WhyLost p clients core.outcomes fixed gave orders c d.task.number (attempt_of x.error) (name_of d.asked (attempt_of x.error))
         lost_by_drop c = let at = d.dropped.at in let late = d.dropped.late in let inside = get_within (orders d.link).accepted d.dropped.place at.1 at.2 in
-            WasFailing d.link named.0 named.1 named.2 (failing d.link at.0 (omega (arith, late, inside)))
+            WasFailing d.link (named.0, named.1, named.2) (failing d.link at.0 (omega (arith, late, inside)))
 
         -- why the call failed, where this was its last attempt; a code of the ending or of a reader ends it whatever retries are left
         pub failed_by_drop : AreThere script → AllByRecursion InRange script → (c id : ℕ) → attempt_of x.error + 2 ≡ d.asked.range

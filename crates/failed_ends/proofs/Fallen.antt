@@ -210,7 +210,7 @@ module _ {O : Type 0} {g : Ghosts O} {state : O → OutState} {readers : List (L
         let low = (fits drun client record { number = asked.operation; op = ops.Call asked } is).1.names (attempt_of d) in
         let seen = subst (SawDead p (name_of asked (attempt_of d))) (sym y.2) (dead_later p (name_of asked (attempt_of d)) (socks_behind d) x.thread.ended.seat.me.0 (reached c x at i d there) dead) in
         let l = dead_by drun c y.0 y.1 (name_of asked (attempt_of d)) low seen in
-        had_failed same (WasFailing l.link l.slot l.version l.made (failing_by l.slot l.version l.link l.why))
+        had_failed same (WasFailing l.link (l.slot, l.version, l.made) (failing_by l.slot l.version l.link l.why))
     why_nothing client o asked is (was_full same full) =
         let y = its_seat c x at in
         let seen = subst (SawFull p) (sym y.2) (full_later p (socks_behind d) x.thread.ended.seat.me.0 (reached c x at i d there) full) in

@@ -33,7 +33,7 @@ use Rattle.failed_reasons.proofs.Codes.{IsMissCode, IsReadCode, deed_code}
 use Rattle.failed_ends.proofs.Posters.{reason_low, code_is}
 use Rattle.failed_reasons.proofs.Views.{queued_in}
 use Rattle.failed_reasons.proofs.Taken.{OthersRead}
-use Rattle.seat_programs.specs.brpc_model.specs.Outcomes.{IsPosted}
+use Rattle.seat_programs.specs.brpc_model.specs.Why.{IsPosted}
 
 module _ (p : Plan) (clients : List (List Task)) (outcomes : List (Option Outcome)) (fixed : Fixed) (gave : ℕ → List ℕ) (orders : ℕ → Order) where
   abbrev PostedHere : ℕ → Type 0

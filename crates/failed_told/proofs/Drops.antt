@@ -276,7 +276,7 @@ module _ {O : Type 0} {g : Ghosts O} {state : O → OutState} {readers : List (L
         WhyDropped = WhyDroppedWith client asked code n
 
         by_socket : code ≡ EFAILEDSOCKET → WhyDropped
-        by_socket e = let s = its_socket in inl (e, WasFailing dropped_at.entry.link s.slot s.version s.made is_failing)
+        by_socket e = let s = its_socket in inl (e, WasFailing dropped_at.entry.link (s.slot, s.version, s.made) is_failing)
 
         by_fail : FailsWith drun name code → WhyDropped
         by_fail f = let b = bounds f.client f.number name code f.is in inr (inl (b.0, b.1, (f.client, record { number = f.number; op = ops.Fail name code }, f.is, refl, f.became)))

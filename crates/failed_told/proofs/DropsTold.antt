@@ -32,7 +32,7 @@ use Rattle.failed_told.proofs.Ended.{TellsDrops}
 use Rattle.failed_told.proofs.PostedCodes.{queued_posted, expire_posted}
 use Rattle.failed_ends.specs.failed_reasons.proofs.Views.{queued_in}
 use Rattle.failed_ends.specs.failed_reasons.proofs.Taken.{OthersRead}
-use Rattle.seat_programs.specs.brpc_model.specs.Outcomes.{IsPosted}
+use Rattle.seat_programs.specs.brpc_model.specs.Why.{IsPosted}
 
 module _ {O : Type 0} {g : Ghosts O} {state : O → OutState} {readers : List (LinkReader g)} {p : Plan} {slots : ℕ} {setup : List Task} {clients : List (List Task)} {opens : List ℕ} {told ended : List (List Told)} {places : List PlaceWord} {vrefs : List Vref} {outs : List O} {ids : List (View Asked)}
     (run : RanWith g state readers p slots setup clients opens told ended places vrefs outs ids) (tasks : AreTasks p (setup ∷ clients)) (may : MayRunAll p (ids_of p slots) setup clients)

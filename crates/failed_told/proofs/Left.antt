@@ -160,7 +160,7 @@ module _ {O : Type 0} {g : Ghosts O} {state : O → OutState} {readers : List (L
   Unordered o n = IsUnordered p every outcomes fixed_here gave orders_here o n
 
   by_lost : (client o n : ℕ) (asked : Asked) → WhyLost p every outcomes fixed_here gave orders_here client o n (name_of asked n) → Unordered o n → LeftHere client o asked n
-  by_lost client o n asked (WasFailing k slot version made failing) free = OnLink k (slot, version, made, λ l stands. absurd (free l stands)) (inl failing)
+  by_lost client o n asked (WasFailing k (slot, version, made) failing) free = OnLink k (slot, version, made, λ l stands. absurd (free l stands)) (inl failing)
   by_lost client o n asked (RunEnding late) free = absurd (has_none o (has_from [] o late))
   by_lost client o n asked (WasUnopened some_ c m low high before none_) free = NoneOpened some_ free c m low high before none_
 

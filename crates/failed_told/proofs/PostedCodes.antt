@@ -46,7 +46,7 @@ use Rattle.failed_ends.proofs.Queued.{read_posted, WasDropCode, queued_code}
 use Rattle.failed_ends.specs.failed_reasons.proofs.Views.{queued_in}
 use Rattle.failed_ends.specs.call_whys.specs.call_places.proofs.Places.{noted_among, crew_of}
 use Rattle.failed_ends.specs.failed_reasons.proofs.Taken.{OthersRead}
-use Rattle.seat_programs.specs.brpc_model.specs.Outcomes.{IsPosted}
+use Rattle.seat_programs.specs.brpc_model.specs.Why.{IsPosted}
 
 -- the codes of a crowded id
 same_codes : (a b c d : ℕ) → outcome.Crowded a b ≡ outcome.Crowded c d → (c ≡ a) × (d ≡ b)

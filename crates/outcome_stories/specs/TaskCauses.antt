@@ -4,13 +4,13 @@ use Rattle.std.specs.List.{AllByRecursion}
 use Rattle.sock_words.specs.declared.plain.Plan.{Plan}
 use Rattle.sock_words.specs.Words.{vref_version, vref_nref}
 use Rattle.sock_words.specs.declared.outcome.Outcome.{Outcome}
-use Rattle.sock_words.specs.declared.outcome.Outcome.TheVariants.{Opened, SlotsFull, Unopened, Gone, Full, Held, Freed, Kept, NotHeld, Failed, Already}
+use Rattle.sock_words.specs.declared.outcome.Outcome.TheVariants.{Freed, Kept}
 use Rattle.seat_programs.specs.declared.task.Op.{Op}
 use Rattle.seat_programs.specs.declared.task.Op.TheVariants as ops
 use Rattle.seat_programs.specs.Calls.{Call, SubRef, Recycle}
 use Rattle.brpc_model.specs.Order.{EachBefore}
 use Rattle.seat_programs.specs.declared.task.Task.{Task}
-use Rattle.seat_programs.specs.Told.{IsTask, Became, Made, IsFail, FoundNone, WasFailed, AfterHold, HasLife, EachOpened}
+use Rattle.seat_programs.specs.Told.{IsTask, Became, Made, IsFail, FoundNone, WasFailed, HasLife, OnSockets, WhyOnSockets}
 use Rattle.seat_programs.specs.ToldCalls.{Accepted, Order, StandsAt, all_accepted}
 use Rattle.outcome_stories.specs.Kept.{IsSpoken}
 
@@ -25,24 +25,17 @@ module _ (clients : List (List Task)) (outcomes : List (Option Outcome)) where
     pub failed : WasFailed clients outcomes fails broken c o link ⊎ late o
 
   module _ (p : Plan) (fails : List (ℕ × ℕ)) (broken : List ℕ) (late : ℕ → Type 0) (orders : ℕ → Order) where
-    -- why operation o of client c has its outcome
+    -- what is told of operation o of client c
+    abbrev pub on_sockets : ℕ → ℕ → OnSockets
+    on_sockets c o = record {
+      find = λ n. record { FoundNone = FoundNone clients outcomes c o n; FoundFailed = λ P. FoundFailed fails broken late c o n P; HasSocket = HasLife clients outcomes n };
+      WasFull = p.requests ≤ all_accepted p.links orders;
+      FailsLife = (k : ℕ) × Contains fails (o, k);
+    }
+
+    -- why it has its outcome
     abbrev pub Why : ℕ → ℕ → Op → Outcome → Type 0
-    Why c o (ops.Open n k) (Opened slot version l) = (l ≡ k) × (slot < p.slots) × (version % 2 ≡ 0) × (p.first ≤ version)
-    Why c o (ops.Open n k) SlotsFull = EachOpened clients outcomes p
-    Why c o (ops.Send n bytes) Unopened = FoundNone clients outcomes c o n
-    Why c o (ops.Send n bytes) (Gone found) = FoundFailed fails broken late c o n (λ version. vref_version found.0 ≢ version)
-    Why c o (ops.Send n bytes) Full = HasLife clients outcomes n × (p.requests ≤ all_accepted p.links orders)
-    Why c o (ops.Hold n) Unopened = FoundNone clients outcomes c o n
-    Why c o (ops.Hold n) (Gone found) = FoundFailed fails broken late c o n (λ version. vref_version found.0 ≢ version)
-    Why c o (ops.Hold n) Held = HasLife clients outcomes n
-    Why c o (ops.Fail n code) Unopened = FoundNone clients outcomes c o n
-    Why c o (ops.Fail n code) (Gone found) = FoundFailed fails broken late c o n (λ version. vref_version found.0 ≢ version)
-    Why c o (ops.Fail n code) (Already found) = FoundFailed fails broken late c o n (λ version. vref_version found.0 % 2 ≡ 1)
-    Why c o (ops.Fail n code) Failed = (k : ℕ) × Contains fails (o, k)
-    Why c o (ops.Drop n) NotHeld = AfterHold clients outcomes c o n (λ outcome. outcome ≢ Held)
-    Why c o (ops.Drop n) Freed = AfterHold clients outcomes c o n (λ outcome. outcome ≡ Held)
-    Why c o (ops.Drop n) Kept = AfterHold clients outcomes c o n (λ outcome. outcome ≡ Held)
-    Why c o op outcome = ⊥
+    Why c o op outcome = WhyOnSockets clients outcomes p (on_sockets c o) c o op outcome
 
   -- message a, which link k accepted, is that of a `send` to a name of the link's socket, of which nothing is said
   pub record IsSent (k : ℕ) (a : Accepted) : Type 0 where

@@ -6,7 +6,8 @@ use Rattle.std.specs.List.{AllByRecursion}
 use Rattle.sock_words.specs.Words.{vref_version}
 use Rattle.sock_words.specs.declared.plain.Plan.{Plan}
 use Rattle.sock_words.specs.declared.outcome.Outcome.{Outcome}
-use Rattle.sock_words.specs.declared.outcome.Outcome.TheVariants.{Opened, SlotsFull, Unopened, Gone, Full, Held, Freed, Kept, NotHeld, Failed, Already}
+use Rattle.sock_words.specs.declared.outcome.Outcome.TheVariants.{Opened, SlotsFull, Unopened, Gone, Full, Held, Failed, Already}
+use Rattle.brpc_model.proofs.Leads.{drop_leads}
 use Rattle.seat_programs.specs.sock_message.specs.Asked.{Asked, name_of}
 use Rattle.seat_programs.specs.declared.task.Op.{Op}
 use Rattle.seat_programs.specs.declared.task.Op.TheVariants as ops
@@ -219,10 +220,7 @@ module _ (clients : List (List Task)) (readers : ℕ) where
         lift_fail n code _ e b w = absurd w
 
         lift_drop : (n : ℕ) (o : Outcome) → Lifts (ops.Drop n) o
-        lift_drop n NotHeld e b w = after_hold c t.number n (λ outcome. outcome ≢ Held) w
-        lift_drop n Freed e b w = after_hold c t.number n (λ outcome. outcome ≡ Held) w
-        lift_drop n Kept e b w = after_hold c t.number n (λ outcome. outcome ≡ Held) w
-        lift_drop n _ e b w = absurd w
+        lift_drop n o e b w = drop_leads (λ P. AfterHold cs outcomes c t.number n P) (λ P. AfterHold clients outcomes c t.number n P) (after_hold c t.number n) o w
 
         lifts : (op : Op) (o : Outcome) → is_plain op ≡ true → Lifts op o
         lifts (ops.Open n k) o plain_ = lift_open n k o

@@ -153,7 +153,7 @@ module _ (script : List Item) (made : AreMade script) (turns : List Turn) (core 
         (ended_sound script made.are (first_views script) (start script made turns core is) (go script made turns core is) turns core is (fitting script made turns core is)) end_story
         (end_rests script made.are (first_views script) (start script made turns core is) (go script made turns core is) turns core is (fitting script made turns core is) (owed script made turns core is closes))
         rested rested_views played_told.after.events played_told.after.lost played_told.after.story (λ e m. final_told.kept e (closed_told.kept e m)) name s x in
-        WasFailing life.0 (socket_id_slot s) (socket_id_version s) (made_up (all_tasks script) (length (opens script)) core.outcomes name life.0 (socket_id_slot s) (socket_id_version s) life.1)
+        WasFailing life.0 (socket_id_slot s, socket_id_version s, made_up (all_tasks script) (length (opens script)) core.outcomes name life.0 (socket_id_slot s) (socket_id_version s) life.1)
         (failing_of_run script made turns core is closes bytes reads life.0 (record { slot = socket_id_slot s; version = socket_id_version s; life = record { inside = life.2; given = life.3 }; failed = failed }))
 
     -- or nothing was found under the name, before the ending

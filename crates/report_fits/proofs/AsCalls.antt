@@ -1,15 +1,15 @@
 -- A script without calls: what is told of its run is what is told of a run with calls, in which none comes. So its report fits.
-use Rattle.std.proofs.Common.{◌≡◌, ◌≢◌, ℕ, ◌*◌, ◌<◌, ◌%◌, ◌⊎◌, inl, inr, true, false, nat_le, List, [], ◌∷◌, ◌++◌, length, map, flat_map, take, drop, sum_by, slice_get, slice_index, Some, Ok, Contains, refl, ap, sym, ◌∙◌, subst, arith}
+use Rattle.std.proofs.Common.{◌≡◌, ℕ, ◌*◌, ◌<◌, ◌⊎◌, inl, inr, true, false, nat_le, List, [], ◌∷◌, ◌++◌, length, map, flat_map, take, drop, sum_by, slice_get, slice_index, Some, Ok, Contains, refl, ap, sym, ◌∙◌, subst, arith}
 use Rattle.std.proofs.lemmas.List.{take-map, drop-map}
 use Rattle.std.proofs.lemmas.List.Sums.{sum_by-cons}
 use Rattle.std.specs.List.{AllByRecursion}
-use Rattle.sock_words.specs.Words.{vref_version, place_word}
+use Rattle.sock_words.specs.Words.{place_word}
 use Rattle.sock_words.specs.declared.outcome.Outcome.{Outcome}
-use Rattle.sock_words.specs.declared.outcome.Outcome.TheVariants.{Opened, SlotsFull, Unopened, Gone, Full, Held, Freed, Kept, NotHeld, Failed, Already}
 use Rattle.brpc_model.specs.Items.{Item}
 use Rattle.brpc_model.specs.Operations.{operations, link_names}
 use Rattle.brpc_model.specs.Order.{EachBefore, IsCut}
 use Rattle.brpc_model.specs.Places.{names}
+use Rattle.brpc_model.proofs.Leads.{FindingLeads, send_leads, hold_leads, fail_leads}
 use Rattle.brpc_model.specs.Script.{script_of}
 use Rattle.brpc_model.specs.Link.{LinkEnd}
 use Rattle.brpc_model.specs.Report.{Report, report_text}
@@ -25,7 +25,7 @@ use Rattle.seat_programs.specs.Cores.{Core}
 use Rattle.seat_programs.specs.Runs.{from_to}
 use Rattle.seat_programs.specs.Tasks.{numbered, plan_of}
 use Rattle.seat_programs.specs.Scripts.{all_tasks, is_callless, is_later, place_words, Reports}
-use Rattle.seat_programs.specs.Told.{Told, IsTask, IsSent}
+use Rattle.seat_programs.specs.Told.{Told, IsTask, IsSent, OnSockets}
 use Rattle.seat_programs.specs.Told as sends
 use Rattle.seat_programs.specs.ToldCalls.{Accepted, Order, Fixed, ToldCalls, AreOrders, IsTaken, StandsAt, OfSend, StandsOn, all_accepted, label, bytes_of}
 use Rattle.seat_programs.specs.ToldCalls as told
@@ -167,26 +167,25 @@ module _ (script : List Item) (core : Core) (broken : List ℕ) (callless : is_c
       by_cause (inl f) = inl (inl f)
       by_cause (inr b) = inl (inr (inl b))
 
+  abbrev Sockets : ℕ → ℕ → OnSockets
+  Sockets c o = sends.on_sockets (all_tasks script) core.outcomes (plan_of script) tells.fails broken tells.orders c o
+
+  abbrev SocketsNow : ℕ → ℕ → OnSockets
+  SocketsNow c o = told.sockets_told (plan_of script) (all_tasks script) core.outcomes fixed_of gave_of orders_of c o
+
+  finding : (c o n : ℕ) → FindingLeads ((Sockets c o).find n) ((SocketsNow c o).find n)
+  finding c o n = record { none_ = found_none c o n; failed = found_failed c o n; socket = λ w. w }
+
   why : (c o : ℕ) (op : Op) (outcome : Outcome) → Before c o op outcome → Why c o op outcome
-  why c o (ops.Open n k) (Opened slot version l) w = w
-  why c o (ops.Open n k) SlotsFull w = w
-  why c o (ops.Send n bytes) Unopened w = found_none c o n w
-  why c o (ops.Send n bytes) (Gone found) w = found_failed c o n (λ version. vref_version found.0 ≢ version) w
-  why c o (ops.Send n bytes) Full w = let many = w.1 in (w.0, omega (arith, many, as_many))
-  why c o (ops.Hold n) Unopened w = found_none c o n w
-  why c o (ops.Hold n) (Gone found) w = found_failed c o n (λ version. vref_version found.0 ≢ version) w
-  why c o (ops.Hold n) Held w = w
-  why c o (ops.Fail n code) Unopened w = found_none c o n w
-  why c o (ops.Fail n code) (Gone found) w = found_failed c o n (λ version. vref_version found.0 ≢ version) w
-  why c o (ops.Fail n code) (Already found) w = found_failed c o n (λ version. vref_version found.0 % 2 ≡ 1) w
-  why c o (ops.Fail n code) Failed w = w
-  why c o (ops.Drop n) NotHeld w = w
-  why c o (ops.Drop n) Freed w = w
-  why c o (ops.Drop n) Kept w = w
+  why c o (ops.Open n k) outcome w = w
+  why c o (ops.Send n bytes) outcome w = send_leads (sends.sending_of (Sockets c o) n) (sends.sending_of (SocketsNow c o) n)
+      (record { find = finding c o n; full = λ many. omega (arith, many, as_many); placed = λ k i x. x; dropped = λ k i x. x }) outcome w
+  why c o (ops.Hold n) outcome w = hold_leads ((Sockets c o).find n) ((SocketsNow c o).find n) (finding c o n) outcome w
+  why c o (ops.Fail n code) outcome w = fail_leads ((Sockets c o).find n) ((SocketsNow c o).find n) (Sockets c o).FailsLife (SocketsNow c o).FailsLife (finding c o n) (λ f. f) outcome w
+  why c o (ops.Drop n) outcome w = w
   why c o (ops.Call asked) outcome w = absurd w
   why c o (ops.Expire t) outcome w = absurd w
   why c o (ops.Join t) outcome w = absurd w
-  why c o _ other w = absurd w
 
   -- ## What is told
 

@@ -1,21 +1,21 @@
 -- Why each operation of a script has its outcome, as a report has to say it: sends, calls, `expire` and `join`.
-use Rattle.std.proofs.Common.{◌≡◌, ◌≢◌, ℕ, ◌+◌, ◌<◌, ◌≤◌, ◌*◌, ◌⊎◌, inl, inr, Bool, true, false, if◌then◌else◌, nat_le, List, length, slice_get, Option, Some, None, Contains, refl, ap, sym, ◌∙◌, subst, arith}
+use Rattle.std.proofs.Common.{◌≡◌, ℕ, ◌+◌, ◌<◌, ◌≤◌, ◌*◌, ◌⊎◌, inl, inr, Bool, true, false, if◌then◌else◌, nat_le, List, length, slice_get, Option, Some, None, Contains, refl, ap, sym, ◌∙◌, subst, arith}
 use Rattle.std.proofs.lemmas.Bool.Decides.{nat_tests}
 use Rattle.std.proofs.lemmas.Option.{slice_get_within}
-use Rattle.std.specs.Prelude.{pos}
-use Rattle.sock_words.specs.Words.{vref_version}
 use Rattle.sock_words.specs.declared.outcome.Outcome.{Outcome}
-use Rattle.sock_words.specs.declared.outcome.Outcome.TheVariants.{Unopened, Gone, Placed, Dropped, Full, Answered, Peer, CallFailed, Failed, Expired, Queued, Late, Crowded, Joined, NotBegun}
+use Rattle.sock_words.specs.declared.outcome.Outcome.TheVariants.{Unopened, Placed, Dropped, Failed}
 use Rattle.brpc_model.specs.Items.{Item, Open, Send, Call, Expire, Join, Fail, Hold, Drop, CallLine, is_open, attempts_of}
 use Rattle.brpc_model.specs.Operations.{Operation, Label, operations, clients, link_names}
 use Rattle.brpc_model.specs.Places.{names}
 use Rattle.brpc_model.specs.Frame.{Frame}
 use Rattle.brpc_model.specs.PlaceWords.{word_at, outcome_by_word}
-use Rattle.brpc_model.specs.Attempts.{attempt, IsTried, MayBeOn, EndedWith, WhyLost, WhyAgain, WasDropped, FoundNoSocket, FoundNoRequest, IsAnsweredBy, IsResponse, HasCode, FailedBy, IsExpiredWith, IsFailedWith}
+use Rattle.brpc_model.specs.Why.{Sending, Links, Attempt, Seeking, Ending, Calling, Target}
+use Rattle.brpc_model.specs.Attempts.{attempt, links_of, attempt_of, seeking_of, ending_of, IsTried, MayBeOn, WhyAgain, IsAnsweredBy, IsResponse, FailedBy, IsExpiredWith, IsFailedWith}
 use Rattle.brpc_model.specs.Attempts as attempts
-use Rattle.brpc_model.specs.Run.{IsOperation, HasOutcome, BecameSocket, StandsAt, IsUnordered, GaveFrame}
+use Rattle.brpc_model.specs.Run.{IsOperation, HasOutcome, StandsAt, IsUnordered, GaveFrame}
 use Rattle.brpc_model.specs.Causes.{HasFault, ReadingEnded, Early, AtClosed, AtSilence, Failing, OfLink, MayBeFull}
-use Rattle.brpc_model.specs.Outcomes.{SendCause, CallCause, ExpireCause, JoinCause, HasBegun, MayNotHaveBegun, IsTarget, Cause}
+use Rattle.brpc_model.specs.Outcomes.{sending_of, SendCause, calling_of, target_of, HasBegun, MayNotHaveBegun, IsTarget, Cause}
+use Rattle.brpc_model.proofs.Leads.{SendingLeads, send_leads, AttemptLeads, SeekingLeads, EndingLeads, answered_leads, again_leads, failed_leads, CallingLeads, call_leads, TargetLeads, expire_leads, join_leads}
 use Rattle.seat_programs.specs.declared.task.Op.{Op}
 use Rattle.seat_programs.specs.declared.task.Op.TheVariants as ops
 use Rattle.seat_programs.specs.declared.task.Task.{Task}
@@ -23,8 +23,9 @@ use Rattle.seat_programs.specs.sock_message.specs.Asked.{Asked, name_of}
 use Rattle.seat_programs.specs.Tasks.{numbered, name_number, number_of, asked_of, op_of, plan_of}
 use Rattle.seat_programs.specs.Scripts.{all_tasks}
 use Rattle.seat_programs.specs.Told.{IsTask, Made}
+use Rattle.seat_programs.specs.Told as plain
 use Rattle.seat_programs.specs.ToldCalls as told
-use Rattle.seat_programs.specs.ToldCalls.{Accepted, all_accepted, label}
+use Rattle.seat_programs.specs.ToldCalls.{Accepted, label}
 use Rattle.script_facts.proofs.Lists.{Has, some_is, has_from}
 use Rattle.script_facts.proofs.Names.{same_name}
 use Rattle.script_facts.proofs.Numbering.{are_from}
@@ -45,8 +46,8 @@ module _ (g : Given) where
   abbrev Run_ : Rattle.brpc_model.specs.Run.Run
   Run_ = lives.run_of g
 
-  abbrev Links : ℕ
-  Links = length (link_names g.run.script)
+  abbrev LinkCount : ℕ
+  LinkCount = length (link_names g.run.script)
 
   abbrev Names : List (List ℕ)
   Names = names g.run.script
@@ -59,6 +60,28 @@ module _ (g : Given) where
 
   abbrev Stands : ℕ → ℕ → Accepted → Type 0
   Stands k i a = known.Stands g.run k i a
+
+  -- what is told of it, in its own words
+  abbrev TSending : ℕ → ℕ → ℕ → Sending
+  TSending c o n = plain.sending_of (lives.TSockets g c o) n
+
+  abbrev TLinks : Links
+  TLinks = told.links_told (plan_of g.run.script) (all_tasks g.run.script) Outcomes g.run.fixed g.run.gave g.run.orders
+
+  abbrev TAttempt : ℕ → ℕ → ℕ → Attempt
+  TAttempt o n name = told.attempt_told (plan_of g.run.script) (all_tasks g.run.script) Outcomes g.run.fixed g.run.gave g.run.orders o n name
+
+  abbrev TSeeking : ℕ → ℕ → ℕ → ℕ → Seeking
+  TSeeking c o n name = told.seeking_told (plan_of g.run.script) (all_tasks g.run.script) Outcomes g.run.fixed g.run.gave g.run.orders c o n name
+
+  abbrev TEnding : ℕ → Asked → ℕ → ℕ → Ending
+  TEnding o asked id n = told.ending_told (plan_of g.run.script) (all_tasks g.run.script) Outcomes g.run.fixed g.run.gave g.run.orders o asked id n
+
+  abbrev TCalling : ℕ → ℕ → Asked → Calling
+  TCalling c o asked = told.calling_told (plan_of g.run.script) (all_tasks g.run.script) Outcomes g.run.fixed g.run.gave g.run.orders (lives.last g) c o asked
+
+  abbrev TTarget : ℕ → ℕ → ℕ → Target
+  TTarget c o t = told.target_told (plan_of g.run.script) (all_tasks g.run.script) Outcomes g.run.fixed g.run.gave g.run.orders c o t
 
   -- ## Where attempts stand
 
@@ -89,11 +112,11 @@ module _ (g : Given) where
   full o n q there counts out many = (omega (arith, many, lines.lines_sum g), omega (arith, many, known.fewer g.run o n q there counts out))
 
   -- a link that dropped a message was failing
-  pub dropped_failing : (k : ℕ) → k < Links → (g.run.orders k).placed < length (g.run.orders k).accepted → Failing Run_ k
+  pub dropped_failing : (k : ℕ) → k < LinkCount → (g.run.orders k).placed < length (g.run.orders k).accepted → Failing Run_ k
   dropped_failing k low fewer = lives.is_failing g k low (g.run.tells.dropped k low fewer)
 
   -- a life has one of the script's links
-  pub life_low : (n k slot version : ℕ) → Made (all_tasks g.run.script) Outcomes n k slot version → k < Links
+  pub life_low : (n k slot version : ℕ) → Made (all_tasks g.run.script) Outcomes n k slot version → k < LinkCount
   life_low n k slot version m = let w = lives.opened_at g m.task.number slot version k m.became in slice_get_within (link_names g.run.script) k w.name w.named
 
   -- ## Sends
@@ -115,45 +138,13 @@ module _ (g : Given) where
         | inr x ↦ absurd (let same : Call x.call ≡ Send name bytes = sym x.item ∙ ap (λ (y : Operation). y.item) whose ∙ item in cc)
       ]
 
-  send_cause : (i n : ℕ) (bytes : List ℕ) (q : Operation) (name : List ℕ) (o : Outcome) → IsOp i q → q.item ≡ Send name bytes → lives.IsNumberOf g n name → slice_get Outcomes i ≡ Some (Some o) → lives.WhyAt g q.client i (ops.Send n bytes) o → SendCause Run_ i q name o
-  send_cause i n bytes q name Unopened there item is b w = lives.find_none g q.client i n name is w
-  send_cause i n bytes q name (Gone found) there item is b w = lives.found_failed g i n q name (λ version. vref_version found.0 ≢ version) there is w
-  send_cause i n bytes q name Full there item is b w =
-      let one : 0 < attempts_of q.item = omega (arith, ap attempts_of item) in
-      (lives.has_socket g n name is w.0, full i 0 q there one (send_out i q name bytes Full there item b) w.1)
-  send_cause i n bytes q name other there item is b w = absurd w
-
-  -- ## Attempts of calls
-
-  -- why an attempt found no live socket, or lost it
-  lost : (i n : ℕ) (q : Operation) (call : CallLine) → IsOp i q → q.item ≡ Call call → n ≤ call.retry → lives.TWhyLost g q.client i n (name_of (asked_of Names i call) n) → WhyLost Run_ (attempt i n)
-  lost i n q call there item low w =
-      let a = known.call_attempt g.run i q call there item n in
-      let named = attempt_named g.run.script i n q call a.name there item low a.named in
-      elim w [
-        | told.WasFailing k slot version made failing ↦
-            let link = lives.link_of g (name_of (asked_of Names i call) n) k slot version a.name (a.number, a.mentions) made in
-            attempts.WasFailing k (named ∙ sym link) (lives.is_failing g k (life_low (name_of (asked_of Names i call) n) k slot version made) failing)
-        | told.RunEnding h ↦ attempts.RunEnding h
-        | told.WasUnopened some_ client m first few behind found ↦
-            attempts.WasUnopened a.name named some_ client m first (omega (arith, few, tasks_length g.run.script 0 (clients g.run.script + 1)))
-            (λ op at own. behind (sym own ∙ ap (λ (x : Operation). x.client) (lives.operation_is g i op q at there)))
-            (lives.find_none g client m (name_of (asked_of Names i call) n) a.name (a.number, a.mentions) found)
-      ]
-
-  again : (i n : ℕ) (q : Operation) (call : CallLine) → IsOp i q → q.item ≡ Call call → n ≤ call.retry → lives.TWhyAgain g q.client i n (name_of (asked_of Names i call) n) → WhyAgain Run_ (attempt i n)
-  again i n q call there item low w = elim w [
-    | told.AfterDrop d ↦ WasDropped (dropped i n d)
-    | told.AfterLoss out why ↦ FoundNoSocket (unordered i n out) (lost i n q call there item low why)
-    | told.AfterFull out many ↦ let counts : n < attempts_of q.item = omega (arith, low, ap attempts_of item) in FoundNoRequest (unordered i n out) (full i n q there counts out many)
-  ]
-
-  pub tried : (i : ℕ) (q : Operation) (call : CallLine) → IsOp i q → q.item ≡ Call call → IsTried Run_ i call
-  tried i q call there item =
-      let last_low = known.last_low g.run i q call there item in
-      let asked = asked_of Names i call in
-      let h = g.run.tells.again q.client (record { number = i; op = ops.Call asked }) asked (known.call_task g.run i q call there item) refl in
-      (last_low, λ n less. again i n q call there item (omega (arith, less, last_low)) (h.1 n less))
+  sending : (i n : ℕ) (q : Operation) (name bytes : List ℕ) (o : Outcome) → IsOp i q → q.item ≡ Send name bytes → lives.IsNumberOf g n name → slice_get Outcomes i ≡ Some (Some o) → SendingLeads (TSending q.client i n) (sending_of Run_ i q name)
+  sending i n q name bytes o there item is b = record {
+    find = lives.finding g i n q name there is;
+    full = λ many. let one : 0 < attempts_of q.item = omega (arith, ap attempts_of item) in full i 0 q there one (send_out i q name bytes o there item b) many;
+    placed = λ k p w. absurd w;
+    dropped = λ k p w. absurd w;
+  }
 
   -- ## Responses
 
@@ -167,12 +158,17 @@ module _ (g : Given) where
       let same : h.0 ≡ k = sym is.numbered ∙ w.0.2 in
       (omega (arith, same, slice_get_within g.ends h.0 w.0.0 h.1, g.given.as_many), w.1)
 
+  abbrev TIsResponse : Asked → ℕ → Frame → Type 0
+  TIsResponse asked id frame = told.IsResponse (plan_of g.run.script) (all_tasks g.run.script) Outcomes g.run.fixed g.run.gave g.run.orders asked id frame
+
   abbrev TIsAnsweredBy : Asked → ℕ → (Frame → Type 0) → Type 0
   TIsAnsweredBy asked id P = told.IsAnsweredBy (plan_of g.run.script) (all_tasks g.run.script) Outcomes g.run.fixed g.run.gave g.run.orders asked id P
 
+  response_of : (i id : ℕ) (call : CallLine) (frame : Frame) → TIsResponse (asked_of Names i call) id frame → IsResponse call id frame
+  response_of i id call frame r = let high = r.2 in (r.0, r.1, omega (arith, high))
+
   answered_by : (i id : ℕ) (call : CallLine) (P : Frame → Type 0) → TIsAnsweredBy (asked_of Names i call) id P → IsAnsweredBy Run_ call id P
-  answered_by i id call P w = let frame = w.2 in let high = w.4.2 in
-      (w.0, w.1, frame, gave_frame w.0 w.1 frame w.3, (w.4.0, w.4.1, omega (arith, high)), w.5)
+  answered_by i id call P w = answered_leads TLinks.Gave (links_of Run_).Gave (TIsResponse (asked_of Names i call) id) (IsResponse call id) gave_frame (response_of i id call) P w
 
   -- ## Calls that failed
 
@@ -186,31 +182,12 @@ module _ (g : Given) where
         λ l p at. w.3 l (p, at_stand i n l p at),
       )
 
-  reading_ended : (k : ℕ) → k < Links → Contains g.run.fixed.early k ⊎ (Contains g.run.fixed.closed k ⊎ Contains g.run.fixed.silent k) → OfLink Run_ (ReadingEnded Run_) k
+  reading_ended : (k : ℕ) → k < LinkCount → Contains g.run.fixed.early k ⊎ (Contains g.run.fixed.closed k ⊎ Contains g.run.fixed.silent k) → OfLink Run_ (ReadingEnded Run_) k
   reading_ended k low w = lives.of_link g (ReadingEnded Run_) k low (λ e. elim w [
     | inl early ↦ Early (lives.ended_early g k e early)
     | inr (inl closed) ↦ AtClosed (e.is.closed closed)
     | inr (inr silent) ↦ let P : ℕ → Type 0 = λ x. Contains g.run.fixed.silent x in AtSilence (subst P (sym e.is.numbered) silent)
   ])
-
-  ended_with : (i n id k : ℕ) (q : Operation) (call : CallLine) → IsOp i q → q.item ≡ Call call → n ≤ call.retry → lives.TEndedWith g (asked_of Names i call) i n (name_of (asked_of Names i call) n) id k → EndedWith Run_ (attempt i n) call id k
-  ended_with i n id k q call there item low w =
-      let k_low = life_low (name_of (asked_of Names i call) n) k w.on.0 w.on.1 w.on.2 in
-      record {
-        on = may_be_on i n k q call there item low w.on;
-        ended = reading_ended k k_low w.ended;
-        lost = by_loss k_low w.lost;
-        unanswered = λ m frame gave response. (
-            let high = response.2 in
-            let h = w.unanswered m frame (frame_gave k m frame gave) (response.0, response.1, omega (arith, high)) in
-            (λ placed. h.0 (placed_back i n placed), h.1)
-            );
-      }
-    where
-      by_loss : k < Links → lives.TIsFailing g k ⊎ (((p : ℕ) × lives.TIsAt g i n k p) ⊎ (lives.TIsOut g i n × lives.TWasFull g)) → Failing Run_ k ⊎ (((p : ℕ) × StandsAt Run_ (attempt i n) k p) ⊎ (IsUnordered Run_ (attempt i n) × MayBeFull Run_))
-      by_loss k_low (inl f) = inl (lives.is_failing g k k_low f)
-      by_loss k_low (inr (inl s)) = inr (inl (s.0, stands_at i n k s.0 s.1))
-      by_loss k_low (inr (inr u)) = let counts : n < attempts_of q.item = omega (arith, low, ap attempts_of item) in inr (inr (unordered i n u.0, full i n q there counts u.0 u.1))
 
   -- the call that an `expire` or a `join` names is operation t
   pub its_target : (client number t : ℕ) → targets.IsTarget g.run.script client number t → IsTarget Run_ client number t
@@ -242,30 +219,78 @@ module _ (g : Given) where
       let named = attempt_named g.run.script i n q call a.name there item low a.named in
       (w.1.number, m.0, t.operation, t.there, m.1, named ∙ ap Some (sym same), lives.reported g w.1.number Failed w.4)
 
-  failed_by : (i n id code : ℕ) (q : Operation) (call : CallLine) → IsOp i q → q.item ≡ Call call → n ≤ call.retry → lives.TFailedBy g q.client i (asked_of Names i call) id code n → FailedBy Run_ i call id code (attempt i n)
-  failed_by i n id code q call there item low w = elim w [
-    | told.ByExpiry is (inl x) ↦ attempts.ByExpiry is (inl (expired_with i q Expired there x))
-    | told.ByExpiry is (inr x) ↦ attempts.ByExpiry is (inr (expired_with i q Queued there x))
-    | told.ByCompression is x ↦ attempts.ByCompression is (answered_by i id call (λ frame. frame.meta.compress_type ≢ pos 0) x)
-    | told.ByFrameFault is k on fault ↦ attempts.ByFrameFault is k (may_be_on i n k q call there item low on)
-        (lives.of_link g (λ e. HasFault (g.run.gave e.link)) k (life_low (name_of (asked_of Names i call) n) k on.0 on.1 on.2) (λ e. let P : ℕ → Type 0 = λ x. HasFault (g.run.gave x) in subst P (sym e.is.numbered) fault))
-    | told.ByEnd is k x ↦ attempts.ByEnd is k (ended_with i n id k q call there item low x)
-    | told.BySocket is no_more (inl out) x ↦ attempts.BySocket is (omega (arith, no_more)) (inl (unordered i n out)) (lost i n q call there item low x)
-    | told.BySocket is no_more (inr d) x ↦ attempts.BySocket is (omega (arith, no_more)) (inr (dropped i n d)) (lost i n q call there item low x)
-    | told.ByRequests is no_more out many ↦ let counts : n < attempts_of q.item = omega (arith, low, ap attempts_of item) in attempts.ByRequests is (omega (arith, no_more)) (unordered i n out) (full i n q there counts out many)
-    | told.ByFail from to no_more d x ↦ attempts.ByFail from to (omega (arith, no_more)) (dropped i n d) (failed_with i n code q call there item low x)
-  ]
+  -- ## An attempt of a call
 
-  call_cause : (i : ℕ) (q : Operation) (call : CallLine) (o : Outcome) → IsOp i q → q.item ≡ Call call → lives.WhyAt g q.client i (ops.Call (asked_of Names i call)) o → CallCause Run_ i q call o
-  call_cause i q call Unopened there item w = λ name e.
-      let a = known.call_attempt g.run i q call there item 0 in
-      let number : name_of (asked_of Names i call) 0 ≡ name_number Names name = first_number Names i call name (sym e) in
-      let mentions : Has Names name = known.mentions_call g.run i q call there item name (0, sym e) in
-      lives.find_none g q.client i (name_of (asked_of Names i call) 0) name (number, mentions) w
-  call_cause i q call (Answered id payload attachment) there item w = answered_by i id call (λ (frame : Frame). HasCode (pos 0) frame × (frame.payload ≡ payload) × (frame.attachment ≡ attachment)) w
-  call_cause i q call (Peer id code) there item w = (answered_by i id call (HasCode code) w.0, w.1)
-  call_cause i q call (CallFailed id code) there item w = failed_by i (lives.last g i) id code q call there item (known.last_low g.run i q call there item) w
-  call_cause i q call other there item w = absurd w
+  module _ (i n : ℕ) (q : Operation) (call : CallLine) (there : IsOp i q) (item : q.item ≡ Call call) (low : n ≤ call.retry) where
+    -- the number of its name
+    abbrev its_name : ℕ
+    its_name = name_of (asked_of Names i call) n
+
+    on_low : (k : ℕ) → lives.TMayBeOn g i n its_name k → k < LinkCount
+    on_low k on = life_low its_name k on.0 on.1 on.2
+
+    attempt_leads : AttemptLeads TLinks (links_of Run_) (TAttempt i n its_name) (attempt_of Run_ (attempt i n))
+    attempt_leads = record {
+      placed = placed_back i n;
+      dropped = dropped i n;
+      unordered = unordered i n;
+      stands = λ k s. (s.0, stands_at i n k s.0 s.1);
+      on = λ k on. may_be_on i n k q call there item low on;
+      failing = λ k on failing. lives.is_failing g k (on_low k on) failing;
+      ended = λ k on ended. reading_ended k (on_low k on) ended;
+      fault = λ k on fault. lives.of_link g (λ e. HasFault (g.run.gave e.link)) k (on_low k on) (λ e. let P : ℕ → Type 0 = λ x. HasFault (g.run.gave x) in subst P (sym e.is.numbered) fault);
+      gave = gave_frame;
+      gave_back = frame_gave;
+      early = λ k m early. early;
+      full = λ out many. let counts : n < attempts_of q.item = omega (arith, low, ap attempts_of item) in full i n q there counts out many;
+    }
+
+    seeking_leads : SeekingLeads TLinks (links_of Run_) (TSeeking q.client i n its_name) (seeking_of Run_ (attempt i n))
+    seeking_leads =
+        let a = known.call_attempt g.run i q call there item n in
+        let named = attempt_named g.run.script i n q call a.name there item low a.named in
+        record {
+          retry = λ first. first;
+          named = λ k w. named ∙ sym (lives.link_of g its_name k w.0 w.1 a.name (a.number, a.mentions) w.2);
+          failing = λ k w failing. lives.is_failing g k (life_low its_name k w.0 w.1 w.2) failing;
+          ended = λ late. late;
+          client = λ c few. omega (arith, few, tasks_length g.run.script 0 (clients g.run.script + 1));
+          behind = λ c m behind op at own. behind (sym own ∙ ap (λ (x : Operation). x.client) (lives.operation_is g i op q at there));
+          none_ = λ c m found. (a.name, named, lives.find_none g c m its_name a.name (a.number, a.mentions) found);
+        }
+
+    ending_leads : (id : ℕ) → EndingLeads (TEnding i (asked_of Names i call) id n) (ending_of Run_ i call id (attempt i n))
+    ending_leads id = record {
+      none_left = λ no_more. omega (arith, no_more);
+      response = λ frame r. response_of i id call frame r;
+      response_back = λ frame r. let high = r.2 in (r.0, r.1, omega (arith, high));
+      expired = λ o w. expired_with i q o there w;
+      failed = λ code w. failed_with i n code q call there item low w;
+    }
+
+    again : told.WhyAgain (plan_of g.run.script) (all_tasks g.run.script) Outcomes g.run.fixed g.run.gave g.run.orders q.client i n its_name → WhyAgain Run_ (attempt i n)
+    again w = again_leads TLinks (links_of Run_) (TAttempt i n its_name) (attempt_of Run_ (attempt i n)) (TSeeking q.client i n its_name) (seeking_of Run_ (attempt i n)) attempt_leads seeking_leads w
+
+    failed_by : (id code : ℕ) → told.FailedBy (plan_of g.run.script) (all_tasks g.run.script) Outcomes g.run.fixed g.run.gave g.run.orders q.client i (asked_of Names i call) id code n → FailedBy Run_ i call id code (attempt i n)
+    failed_by id code w = failed_leads TLinks (links_of Run_) (TAttempt i n its_name) (attempt_of Run_ (attempt i n)) (TSeeking q.client i n its_name) (seeking_of Run_ (attempt i n))
+        (TEnding i (asked_of Names i call) id n) (ending_of Run_ i call id (attempt i n)) attempt_leads seeking_leads (ending_leads id) code w
+
+  pub tried : (i : ℕ) (q : Operation) (call : CallLine) → IsOp i q → q.item ≡ Call call → IsTried Run_ i call
+  tried i q call there item =
+      let last_low = known.last_low g.run i q call there item in
+      let asked = asked_of Names i call in
+      let h = g.run.tells.again q.client (record { number = i; op = ops.Call asked }) asked (known.call_task g.run i q call there item) refl in
+      (last_low, λ n less. again i n q call there item (omega (arith, less, last_low)) (h.1 n less))
+
+  calling_leads : (i : ℕ) (q : Operation) (call : CallLine) → IsOp i q → q.item ≡ Call call → CallingLeads (TCalling q.client i (asked_of Names i call)) (calling_of Run_ i q call)
+  calling_leads i q call there item = record {
+    none_ = λ w name e.
+        let number : name_of (asked_of Names i call) 0 ≡ name_number Names name = first_number Names i call name (sym e) in
+        let mentions : Has Names name = known.mentions_call g.run i q call there item name (0, sym e) in
+        lives.find_none g q.client i (name_of (asked_of Names i call) 0) name (number, mentions) w;
+    answered = λ id P w. answered_by i id call P w;
+    failed = λ id code w. failed_by i (lives.last g i) q call there item (known.last_low g.run i q call there item) id code w;
+  }
 
   -- ## What is said of another call
 
@@ -291,20 +316,15 @@ module _ (g : Given) where
       let Q : ℕ → Type 0 = λ x. slice_get Outcomes x ≡ Some (Some Unopened) in
       lives.reported g t Unopened (subst Q place (w (record { number = t; op = a.0 }) task (sym place) (omega (arith, less, place))))
 
-  expire_cause : (i client number : ℕ) (q : Operation) (o : Outcome) → targets.IsTarget g.run.script client number (number_of (numbered g.run.script) client number) → lives.WhyAt g q.client i (ops.Expire (number_of (numbered g.run.script) client number)) o →
-      ExpireCause Run_ i q client number o
-  expire_cause i client number q Expired target w = let t = number_of (numbered g.run.script) client number in (t, w.0, its_target client number t target, lives.reported g t (CallFailed w.0 1008) w.1)
-  expire_cause i client number q Queued target w = has_begun i client number (number_of (numbered g.run.script) client number) q target w
-  expire_cause i client number q Late target w = has_begun i client number (number_of (numbered g.run.script) client number) q target w
-  expire_cause i client number q (Crowded a b) target w = (has_begun i client number (number_of (numbered g.run.script) client number) q target w.0, w.1, w.2)
-  expire_cause i client number q NotBegun target w = not_begun i client number q w
-  expire_cause i client number q other target w = absurd w
-
-  join_cause : (i client number : ℕ) (q : Operation) (o : Outcome) → targets.IsTarget g.run.script client number (number_of (numbered g.run.script) client number) → lives.WhyAt g q.client i (ops.Join (number_of (numbered g.run.script) client number)) o →
-      JoinCause Run_ i q client number o
-  join_cause i client number q Joined target w = has_begun i client number (number_of (numbered g.run.script) client number) q target w
-  join_cause i client number q NotBegun target w = not_begun i client number q w
-  join_cause i client number q other target w = absurd w
+  target_leads : (i client number : ℕ) (q : Operation) → targets.IsTarget g.run.script client number (number_of (numbered g.run.script) client number) →
+      TargetLeads (TTarget q.client i (number_of (numbered g.run.script) client number)) (target_of Run_ i q client number)
+  target_leads i client number q target =
+      let t = number_of (numbered g.run.script) client number in
+      record {
+        outcome = λ o w. (t, its_target client number t target, lives.reported g t o w);
+        begun = λ w. has_begun i client number t q target w;
+        not_begun = λ w. not_begun i client number q w;
+      }
 
   -- ## Any operation
 
@@ -314,17 +334,20 @@ module _ (g : Given) where
       lives.open_cause g i (name_number Names name) (lives.link g i) q o there (ap is_open e) refl b (subst P (sym (some_is (ops.Open (name_number Names name) (lives.link g i)) op asks)) w)
   cause_of i q (Send name bytes) op o there e asks b w =
       let P : Op → Type 0 = λ x. lives.WhyAt g q.client i x o in
-      send_cause i (name_number Names name) bytes q name o there e (refl, mentions_send g.run.script i q there name bytes e) b (subst P (sym (some_is (ops.Send (name_number Names name) bytes) op asks)) w)
+      let n = name_number Names name in
+      send_leads (TSending q.client i n) (sending_of Run_ i q name) (sending i n q name bytes o there e (refl, mentions_send g.run.script i q there name bytes e) b) o (subst P (sym (some_is (ops.Send (name_number Names name) bytes) op asks)) w)
   cause_of i q (Call call) op o there e asks b w =
       let P : Op → Type 0 = λ x. lives.WhyAt g q.client i x o in
-      call_cause i q call o there e (subst P (sym (some_is (ops.Call (asked_of Names i call)) op asks)) w)
+      call_leads (TCalling q.client i (asked_of Names i call)) (calling_of Run_ i q call) (calling_leads i q call there e) o (subst P (sym (some_is (ops.Call (asked_of Names i call)) op asks)) w)
   cause_of i q (Expire client number) op o there e asks b w =
       let P : Op → Type 0 = λ x. lives.WhyAt g q.client i x o in
-      expire_cause i client number q o (targets.expired g.run.script g.run.targets client number (known.in_script g.run i q there (Expire client number) e))
+      let target = targets.expired g.run.script g.run.targets client number (known.in_script g.run i q there (Expire client number) e) in
+      expire_leads (TTarget q.client i (number_of (numbered g.run.script) client number)) (target_of Run_ i q client number) (target_leads i client number q target) o
       (subst P (sym (some_is (ops.Expire (number_of (numbered g.run.script) client number)) op asks)) w)
   cause_of i q (Join client number) op o there e asks b w =
       let P : Op → Type 0 = λ x. lives.WhyAt g q.client i x o in
-      join_cause i client number q o (targets.joined g.run.script g.run.targets client number (known.in_script g.run i q there (Join client number) e))
+      let target = targets.joined g.run.script g.run.targets client number (known.in_script g.run i q there (Join client number) e) in
+      join_leads (TTarget q.client i (number_of (numbered g.run.script) client number)) (target_of Run_ i q client number) (target_leads i client number q target) o
       (subst P (sym (some_is (ops.Join (number_of (numbered g.run.script) client number)) op asks)) w)
   cause_of i q (Hold name) op o there e asks b w =
       let P : Op → Type 0 = λ x. lives.WhyAt g q.client i x o in

@@ -1,29 +1,29 @@
 -- The lives of a run with calls: what is told of names and sockets, as a report has to say it.
-use Rattle.std.proofs.Common.{◌≡◌, ◌≢◌, ℕ, ◌<◌, ◌≤◌, ◌%◌, ◌⊎◌, inl, inr, Bool, true, List, length, count_by, slice_get, Some, Contains, refl, ap, sym, ◌∙◌, subst, arith}
+use Rattle.std.proofs.Common.{◌≡◌, ◌≢◌, ℕ, ◌<◌, ◌≤◌, ◌⊎◌, inl, inr, Bool, true, List, length, count_by, slice_get, Some, Contains, refl, ap, sym, ◌∙◌, subst, arith}
 use Rattle.std.proofs.lemmas.Option.{slice_get_within}
 use Rattle.std.specs.List.{AllByRecursion}
-use Rattle.sock_words.specs.Words.{vref_version}
 use Rattle.sock_words.specs.declared.outcome.Outcome.{Outcome}
-use Rattle.sock_words.specs.declared.outcome.Outcome.TheVariants.{Opened, SlotsFull, Unopened, Gone, Held, Freed, Kept, NotHeld, Failed, Already}
+use Rattle.sock_words.specs.declared.outcome.Outcome.TheVariants.{Opened, SlotsFull, Unopened, Failed}
 use Rattle.sock_words.specs.declared.place_word.PlaceWord.{PlaceWord}
-use Rattle.brpc_model.specs.Items.{Item, Open, Send, Call, Fail, Hold, Shape, is_open, sought_name}
+use Rattle.brpc_model.specs.Items.{Item, Open, Send, Call, Fail, Hold, Drop, Shape, is_open, sought_name}
 use Rattle.brpc_model.specs.Operations.{Operation, operations, link_names, slots, requests}
 use Rattle.brpc_model.specs.Places.{names}
 use Rattle.brpc_model.specs.Frame.{Frame}
 use Rattle.brpc_model.specs.Link.{LinkEnd}
 use Rattle.brpc_model.specs.Run.{Run, Story, Lateness, IsOperation, HasOutcome, IsLinkOf, BecameSocket, HasSocket}
 use Rattle.brpc_model.specs.Causes.{HasFault, EndedEarly, GaveItsEnd, GaveAFault, GaveTheMost, TakeFailed, FailingBy, PutFailed, WasFailed as ByFail, ReadEarly, BornLate, FailingFor, Failing, OfLink, MayFindNone, Opens, IsNoLater}
-use Rattle.brpc_model.specs.Outcomes.{FoundFailed as RunFoundFailed, AfterHold as RunAfterHold, OpenCause, HoldCause, FailCause, DropCause, EachSlotOpened}
+use Rattle.brpc_model.specs.Why.{OpenCause, Finding}
+use Rattle.brpc_model.specs.Outcomes.{opening_of, finding_of, FoundFailed as RunFoundFailed, AfterHold as RunAfterHold, EachSlotOpened, Cause}
+use Rattle.brpc_model.proofs.Leads.{FindingLeads, fail_leads, hold_leads, drop_leads}
 use Rattle.seat_programs.specs.declared.task.Op.{Op}
 use Rattle.seat_programs.specs.declared.task.Op.TheVariants as ops
 use Rattle.seat_programs.specs.declared.task.Task.{Task}
-use Rattle.seat_programs.specs.sock_message.specs.Asked.{Asked}
 use Rattle.seat_programs.specs.Cores.{Core}
 use Rattle.seat_programs.specs.Tasks.{Numbered, numbered, name_number, asked_of, op_of, plan_of}
 use Rattle.seat_programs.specs.Scripts.{all_tasks}
-use Rattle.seat_programs.specs.Told.{IsTask, Made, OpensNone, AfterHold, HasLife, EachOpened, IsFail}
+use Rattle.seat_programs.specs.Told.{IsTask, Made, OpensNone, AfterHold, HasLife, EachOpened, IsFail, OnSockets}
 use Rattle.seat_programs.specs.ToldCalls as told
-use Rattle.seat_programs.specs.ToldCalls.{Accepted, Fixed, all_accepted, label}
+use Rattle.seat_programs.specs.ToldCalls.{all_accepted}
 use Rattle.report_fits.specs.Ends.{IsEndOf}
 use Rattle.script_facts.proofs.Lists.{Has, within, some_is, contains_from, has_from, all_at, all_map}
 use Rattle.script_facts.proofs.Counting.{but, but_other, one_less, HasPlace, places, passing, passing_length, passing_pass, passing_apart, Passes, passes_at, tally_all, count_tally}
@@ -31,7 +31,7 @@ use Rattle.script_facts.proofs.Names.{same_name}
 use Rattle.script_facts.proofs.Numbering.{link_at}
 use Rattle.script_facts.proofs.TaskLemmas.{numbers_at, asks_at, asked_at, task_is, operation_task, open_asks, hold_asks, fail_asks, mentions_open, mentions_hold, mentions_fail, named_at}
 use Rattle.report_fits.proofs.Reported.{is_said, outcome_told, told_outcome, SaidOrPlaced, said_or_placed}
-use Rattle.script_facts.proofs.Known.{first_number, attempt_named}
+use Rattle.script_facts.proofs.Known.{first_number}
 use Rattle.script_facts.proofs.Known as known
 use Rattle.report_fits.proofs.Lines.{Given}
 use Rattle.report_fits.proofs.Lines as lines
@@ -77,6 +77,12 @@ module _ (g : Given) where
   abbrev pub TIsNoLater : ℕ → ℕ → ℕ → Type 0
   TIsNoLater c o f = (t : Task) → IsTask (all_tasks g.run.script) g.run.core.outcomes c t → t.number ≡ f → f < o
 
+  abbrev pub TSockets : ℕ → ℕ → OnSockets
+  TSockets c o = told.sockets_told (plan_of g.run.script) (all_tasks g.run.script) g.run.core.outcomes g.run.fixed g.run.gave g.run.orders c o
+
+  abbrev pub TFinding : ℕ → ℕ → ℕ → Finding
+  TFinding c o n = (TSockets c o).find n
+
   abbrev pub TFoundFailed : ℕ → ℕ → ℕ → (ℕ → Type 0) → Type 0
   TFoundFailed c o n P = told.FoundFailed (plan_of g.run.script) (all_tasks g.run.script) g.run.core.outcomes g.run.fixed g.run.gave g.run.orders c o n P
 
@@ -98,20 +104,8 @@ module _ (g : Given) where
   abbrev pub TGave : ℕ → ℕ → Frame → Type 0
   TGave k n frame = told.Gave (plan_of g.run.script) (all_tasks g.run.script) g.run.core.outcomes g.run.fixed g.run.gave g.run.orders k n frame
 
-  abbrev pub TWhyLost : ℕ → ℕ → ℕ → ℕ → Type 0
-  TWhyLost c o n name = told.WhyLost (plan_of g.run.script) (all_tasks g.run.script) g.run.core.outcomes g.run.fixed g.run.gave g.run.orders c o n name
-
-  abbrev pub TWhyAgain : ℕ → ℕ → ℕ → ℕ → Type 0
-  TWhyAgain c o n name = told.WhyAgain (plan_of g.run.script) (all_tasks g.run.script) g.run.core.outcomes g.run.fixed g.run.gave g.run.orders c o n name
-
   abbrev pub TMayBeOn : ℕ → ℕ → ℕ → ℕ → Type 0
   TMayBeOn o n name k = told.MayBeOn (plan_of g.run.script) (all_tasks g.run.script) g.run.core.outcomes g.run.fixed g.run.gave g.run.orders o n name k
-
-  abbrev pub TEndedWith : Asked → ℕ → ℕ → ℕ → ℕ → ℕ → Type 0
-  TEndedWith asked o n name id k = told.EndedWith (plan_of g.run.script) (all_tasks g.run.script) g.run.core.outcomes g.run.fixed g.run.gave g.run.orders asked o n name id k
-
-  abbrev pub TFailedBy : ℕ → ℕ → Asked → ℕ → ℕ → ℕ → Type 0
-  TFailedBy c o asked id code n = told.FailedBy (plan_of g.run.script) (all_tasks g.run.script) g.run.core.outcomes g.run.fixed g.run.gave g.run.orders c o asked id code n
 
   abbrev pub WhyAt : ℕ → ℕ → Op → Outcome → Type 0
   WhyAt c i op o = told.Why (plan_of g.run.script) (all_tasks g.run.script) g.run.core.outcomes g.run.fixed g.run.gave g.run.orders g.run.tells.last c i op o
@@ -348,17 +342,13 @@ module _ (g : Given) where
 
   -- ## The causes
 
-  pub hold_cause : (i n : ℕ) (q : Operation) (name : List ℕ) (o : Outcome) → IsOperation run_of i q → IsNumberOf n name → WhyAt q.client i (ops.Hold n) o → HoldCause run_of i q name o
-  hold_cause i n q name Unopened there is w = find_none q.client i n name is w
-  hold_cause i n q name (Gone found) there is w = found_failed i n q name (λ version. vref_version found.0 ≢ version) there is w
-  hold_cause i n q name Held there is w = has_socket n name is w
-  hold_cause i n q name other there is w = absurd w
-
-  pub drop_cause : (i n : ℕ) (q : Operation) (name : List ℕ) (o : Outcome) → IsNumberOf n name → WhyAt q.client i (ops.Drop n) o → DropCause run_of i q name o
-  drop_cause i n q name NotHeld is w = after_hold i n q name (λ outcome. outcome ≢ Held) is w
-  drop_cause i n q name Freed is w = after_hold i n q name (λ outcome. outcome ≡ Held) is w
-  drop_cause i n q name Kept is w = after_hold i n q name (λ outcome. outcome ≡ Held) is w
-  drop_cause i n q name other is w = absurd w
+  -- what is told of an operation that looks for a socket leads to what is reported of it
+  pub finding : (i n : ℕ) (q : Operation) (name : List ℕ) → IsOperation run_of i q → IsNumberOf n name → FindingLeads (TFinding q.client i n) (finding_of run_of i q name)
+  finding i n q name there is = record {
+    none_ = λ w. find_none q.client i n name is w;
+    failed = λ P w. found_failed i n q name P there is w;
+    socket = λ w. has_socket n name is w;
+  }
 
   -- a `fail` that was answered `failed`: the operation, and the link that it failed
   pub record FailedAt (i k : ℕ) : Type 0 where
@@ -396,12 +386,15 @@ module _ (g : Given) where
       let name_is : w.name ≡ name = cc in
       (k, w.named ∙ ap Some name_is, w.opened)
 
-  pub fail_cause : (i n code : ℕ) (q : Operation) (name : List ℕ) (o : Outcome) → IsOperation run_of i q → q.item ≡ Fail name code → IsNumberOf n name → WhyAt q.client i (ops.Fail n code) o → FailCause run_of i q name o
-  fail_cause i n code q name Unopened there item is w = find_none q.client i n name is w
-  fail_cause i n code q name (Gone found) there item is w = found_failed i n q name (λ version. vref_version found.0 ≢ version) there is w
-  fail_cause i n code q name (Already found) there item is w = found_failed i n q name (λ version. vref_version found.0 % 2 ≡ 1) there is w
-  fail_cause i n code q name Failed there item is w = failed_cause i w.0 q name code there item w.1
-  fail_cause i n code q name other there item is w = absurd w
+  pub fail_cause : (i n code : ℕ) (q : Operation) (name : List ℕ) (o : Outcome) → IsOperation run_of i q → q.item ≡ Fail name code → IsNumberOf n name → WhyAt q.client i (ops.Fail n code) o → Cause run_of i q (Fail name code) o
+  fail_cause i n code q name o there item is w = fail_leads (TFinding q.client i n) (finding_of run_of i q name) ((k : ℕ) × Contains g.run.fixed.fails (i, k)) (HasSocket run_of name)
+      (finding i n q name there is) (λ f. failed_cause i f.0 q name code there item f.1) o w
+
+  pub hold_cause : (i n : ℕ) (q : Operation) (name : List ℕ) (o : Outcome) → IsOperation run_of i q → IsNumberOf n name → WhyAt q.client i (ops.Hold n) o → Cause run_of i q (Hold name) o
+  hold_cause i n q name o there is w = hold_leads (TFinding q.client i n) (finding_of run_of i q name) (finding i n q name there is) o w
+
+  pub drop_cause : (i n : ℕ) (q : Operation) (name : List ℕ) (o : Outcome) → IsNumberOf n name → WhyAt q.client i (ops.Drop n) o → Cause run_of i q (Drop name) o
+  drop_cause i n q name o is w = drop_leads (λ P. AfterHold (all_tasks script) g.run.core.outcomes q.client i n P) (λ P. RunAfterHold run_of i q name P) (λ P h. after_hold i n q name P is h) o w
 
   -- ## No slot
 
@@ -448,7 +441,7 @@ module _ (g : Given) where
         count_tally (λ (op : Operation). is_open op.item) (operations script),
       )
 
-  pub open_cause : (i n k : ℕ) (q : Operation) (o : Outcome) → IsOperation run_of i q → is_open q.item ≡ true → k ≡ link i → slice_get g.run.core.outcomes i ≡ Some (Some o) → WhyAt q.client i (ops.Open n k) o → OpenCause run_of i o
+  pub open_cause : (i n k : ℕ) (q : Operation) (o : Outcome) → IsOperation run_of i q → is_open q.item ≡ true → k ≡ link i → slice_get g.run.core.outcomes i ≡ Some (Some o) → WhyAt q.client i (ops.Open n k) o → OpenCause (opening_of run_of i) o
   open_cause i n k q (Opened slot version l) there o its b w = (w.0 ∙ its, w.1, w.2, w.3)
   open_cause i n k q SlotsFull there o its b w = (each_opened w, more_opens i q there o b w)
   open_cause i n k q other there o its b w = absurd w

@@ -15,7 +15,7 @@ module _ (p : Plan) (n : ℕ) (clients : List (List Task)) (outcomes : List (Opt
   wide = record p { seats = n }
 
   lost_still : (c o m name : ℕ) → WhyLost wide clients outcomes fixed gave orders c o m name → WhyLost p clients outcomes fixed gave orders c o m name
-  lost_still c o m name (WasFailing k slot version made failing) = WasFailing k slot version made failing
+  lost_still c o m name (WasFailing k named failing) = WasFailing k named failing
   lost_still c o m name (RunEnding late) = RunEnding late
   lost_still c o m name (WasUnopened behind client before first low own none_) = WasUnopened behind client before first low own (none_still p n clients outcomes fixed gave orders client before name none_)
 

@@ -1,11 +1,13 @@
 -- What the outcomes of the tasks tell, once each of them is told: why each task has its outcome, by what became of the others.
-use Rattle.std.specs.Prelude.{ℕ, ◌≡◌, ◌≢◌, ◌*◌, ◌%◌, ◌<◌, ◌≤◌, ◌⊎◌, ◌==◌, ◌&&◌, ◌++◌, Bool, true, false, not, nat_le, if◌then◌else◌, List, [], ◌∷◌, slice_get, slice_index, slice_index_or, length, map, flat_map, take, drop, sum_by, Option, Some, None, Contains}
+use Rattle.std.specs.Prelude.{ℕ, ◌≡◌, ◌≢◌, ◌*◌, ◌<◌, ◌≤◌, ◌⊎◌, ◌==◌, ◌&&◌, ◌++◌, Bool, true, false, not, nat_le, if◌then◌else◌, List, [], ◌∷◌, slice_get, slice_index, slice_index_or, length, map, flat_map, take, drop, sum_by, Option, Some, None, Contains}
 use Rattle.std.specs.List.{AllByRecursion}
 use Rattle.sock_model.specs.sock_words.specs.declared.plain.Plan.{Plan}
-use Rattle.sock_model.specs.sock_words.specs.Words.{vref_version, place_word}
+use Rattle.sock_model.specs.sock_words.specs.Words.{place_word}
 use Rattle.sock_model.specs.sock_words.specs.declared.outcome.Outcome.{Outcome}
-use Rattle.sock_model.specs.sock_words.specs.declared.outcome.Outcome.TheVariants.{Opened, SlotsFull, Unopened, Gone, Full, Held, Freed, Kept, NotHeld, Failed, Already}
+use Rattle.sock_model.specs.sock_words.specs.declared.outcome.Outcome.TheVariants.{Opened, Unopened, Failed}
 use Rattle.sock_message.specs.brpc_model.specs.Order.{EachBefore, IsCut}
+use Rattle.sock_message.specs.brpc_model.specs.Why.{Opening, Finding, Sending}
+use Rattle.sock_message.specs.brpc_model.specs.Why as causes
 use Rattle.sock_model.specs.Layout.{place_index}
 use Rattle.seat_programs.specs.declared.task.Op.{Op}
 use Rattle.seat_programs.specs.declared.task.Op.TheVariants as ops
@@ -125,6 +127,16 @@ pub record AreOrders (p : Plan) (c : Core) (orders : ℕ → Order) : Type 0 whe
 
 -- ## What became of them
 
+-- what is told of an operation on sockets: of where it looks for a socket of a name, that each request may be found taken, and that it fails a life
+pub record OnSockets : Type 1 where
+  pub find : ℕ → Finding
+  pub WasFull : Type 0
+  pub FailsLife : Type 0
+
+-- and of a send, whose outcome isn't said where its message was accepted
+abbrev pub sending_of : OnSockets → ℕ → Sending
+sending_of a n = record { find = a.find n; WasFull = a.WasFull; WasPlaced = λ k i. ⊥; WasDropped = λ k i. ⊥ }
+
 module _ (clients : List (List Task)) (outcomes : List (Option Outcome)) where
   -- task t is one of client c's
   abbrev pub IsTask : ℕ → Task → Type 0
@@ -193,6 +205,21 @@ module _ (clients : List (List Task)) (outcomes : List (Option Outcome)) where
   abbrev pub EachOpened : Plan → Type 0
   EachOpened p = (slot : ℕ) → slot < p.slots → (n k version : ℕ) × Made n k slot version
 
+  -- ## The causes of operations on sockets
+
+  -- what is told of an `open` with link k
+  abbrev pub opening_of : Plan → ℕ → Opening
+  opening_of p k = record { link = k; slots = p.slots; first = p.first; NoneFree = EachOpened p }
+
+  -- why operation o of client c has its outcome, by what is told of it
+  abbrev pub WhyOnSockets : Plan → OnSockets → ℕ → ℕ → Op → Outcome → Type 0
+  WhyOnSockets p a c o (ops.Open n k) outcome = causes.OpenCause (opening_of p k) outcome
+  WhyOnSockets p a c o (ops.Send n bytes) outcome = causes.SendCause (sending_of a n) outcome
+  WhyOnSockets p a c o (ops.Hold n) outcome = causes.HoldCause (a.find n) outcome
+  WhyOnSockets p a c o (ops.Fail n code) outcome = causes.FailCause (a.find n) a.FailsLife outcome
+  WhyOnSockets p a c o (ops.Drop n) outcome = causes.DropCause (λ P. AfterHold c o n P) outcome
+  WhyOnSockets p a c o op outcome = ⊥
+
   -- the `fail` operation of this pair was answered `failed`, and its name had this link
   pub record IsFail (fail : ℕ × ℕ) : Type 0 where
     pub client : ℕ
@@ -225,24 +252,17 @@ module _ (clients : List (List Task)) (outcomes : List (Option Outcome)) where
   InOwnOrder a b = (c : ℕ) (t u : Task) → IsTask c t → IsTask c u → t.number ≡ a.operation → u.number ≡ b.operation → t.number < u.number
 
   module _ (p : Plan) (fails : List (ℕ × ℕ)) (broken : List ℕ) (orders : ℕ → Order) where
-    -- why operation o of client c has its outcome
+    -- what is told of operation o of client c
+    abbrev pub on_sockets : ℕ → ℕ → OnSockets
+    on_sockets c o = record {
+      find = λ n. record { FoundNone = FoundNone c o n; FoundFailed = λ P. FoundFailed fails broken c o n P; HasSocket = HasLife n };
+      WasFull = p.requests ≤ all_accepted p.links orders;
+      FailsLife = (k : ℕ) × Contains fails (o, k);
+    }
+
+    -- why it has its outcome
     abbrev pub Why : ℕ → ℕ → Op → Outcome → Type 0
-    Why c o (ops.Open n k) (Opened slot version l) = (l ≡ k) × (slot < p.slots) × (version % 2 ≡ 0) × (p.first ≤ version)
-    Why c o (ops.Open n k) SlotsFull = EachOpened p
-    Why c o (ops.Send n bytes) Unopened = FoundNone c o n
-    Why c o (ops.Send n bytes) (Gone found) = FoundFailed fails broken c o n (λ version. vref_version found.0 ≢ version)
-    Why c o (ops.Send n bytes) Full = HasLife n × (p.requests ≤ all_accepted p.links orders)
-    Why c o (ops.Hold n) Unopened = FoundNone c o n
-    Why c o (ops.Hold n) (Gone found) = FoundFailed fails broken c o n (λ version. vref_version found.0 ≢ version)
-    Why c o (ops.Hold n) Held = HasLife n
-    Why c o (ops.Fail n code) Unopened = FoundNone c o n
-    Why c o (ops.Fail n code) (Gone found) = FoundFailed fails broken c o n (λ version. vref_version found.0 ≢ version)
-    Why c o (ops.Fail n code) (Already found) = FoundFailed fails broken c o n (λ version. vref_version found.0 % 2 ≡ 1)
-    Why c o (ops.Fail n code) Failed = (k : ℕ) × Contains fails (o, k)
-    Why c o (ops.Drop n) NotHeld = AfterHold c o n (λ outcome. outcome ≢ Held)
-    Why c o (ops.Drop n) Freed = AfterHold c o n (λ outcome. outcome ≡ Held)
-    Why c o (ops.Drop n) Kept = AfterHold c o n (λ outcome. outcome ≡ Held)
-    Why c o op outcome = ⊥
+    Why c o op outcome = WhyOnSockets p (on_sockets c o) c o op outcome
 
   -- why each task has its outcome, and each link took what it took; these links answered that they failed
   pub record Told (p : Plan) (c : Core) (broken : List ℕ) : Type 0 where

@@ -1,18 +1,17 @@
 -- Why each task has its outcome, in scripts with calls: what is told of what links accepted, took and gave, and the causes of all outcomes.
-use Rattle.std.specs.Prelude.{ℕ, ◌≡◌, ◌≢◌, ◌+◌, ◌*◌, ◌%◌, ◌<◌, ◌≤◌, ◌⊎◌, nat_le, List, [], ◌∷◌, ◌++◌, slice_get, slice_index, slice_index_or, length, map, flat_map, take, drop, sum_by, Option, Some, None, Contains, IsSome, ℤ, pos}
+use Rattle.std.specs.Prelude.{ℕ, ◌≡◌, ◌≢◌, ◌+◌, ◌*◌, ◌<◌, ◌≤◌, ◌⊎◌, nat_le, List, [], ◌++◌, slice_get, slice_index, slice_index_or, length, map, flat_map, take, drop, sum_by, Option, Some, None, Contains, IsSome}
 use Rattle.std.specs.List.{AllByRecursion}
-use Rattle.sock_model.specs.sock_words.specs.Codes.{EEOF, EFAILEDSOCKET, EREQUESTS, ERESPONSE, ERPCTIMEDOUT}
 use Rattle.sock_model.specs.sock_words.specs.declared.plain.Plan.{Plan}
-use Rattle.sock_model.specs.sock_words.specs.Words.{vref_version, place_word}
+use Rattle.sock_model.specs.sock_words.specs.Words.{place_word}
 use Rattle.sock_model.specs.sock_words.specs.declared.outcome.Outcome.{Outcome}
-use Rattle.sock_model.specs.sock_words.specs.declared.outcome.Outcome.TheVariants.{Opened, SlotsFull, Unopened, Gone, Full, Answered, Peer, CallFailed, Held, Freed, Kept, NotHeld, Failed, Already, Expired, Queued, Late, Crowded, Joined, NotBegun}
+use Rattle.sock_model.specs.sock_words.specs.declared.outcome.Outcome.TheVariants.{Unopened, Failed, Expired}
 use Rattle.sock_message.specs.brpc_model.specs.Order.{EachBefore, IsCut}
-use Rattle.sock_message.specs.brpc_model.specs.Meta.{ResponseMeta}
 use Rattle.sock_message.specs.brpc_model.specs.Frame.{Frame, FrameFault}
 use Rattle.sock_message.specs.brpc_model.specs.Messages.{shown_id}
 use Rattle.sock_message.specs.brpc_model.specs.Stream.{stream, Fault}
-use Rattle.sock_message.specs.brpc_model.specs.Attempts.{HasCode}
-use Rattle.sock_message.specs.brpc_model.specs.Outcomes.{IsPosted}
+use Rattle.sock_message.specs.brpc_model.specs.Why.{Links, Attempt, Seeking, Ending, Calling, Target}
+use Rattle.sock_message.specs.brpc_model.specs.Why as causes
+pub use Rattle.sock_message.specs.brpc_model.specs.Why.{WasFailing, RunEnding, WasUnopened, AfterDrop, AfterLoss, AfterFull, ByExpiry, ByCompression, ByFrameFault, ByEnd, BySocket, ByRequests, ByFail}
 use Rattle.sock_model.specs.Layout.{place_index}
 use Rattle.sock_message.specs.Asked.{Asked, name_of, frame_of}
 use Rattle.seat_programs.specs.declared.task.Op.{Op}
@@ -21,7 +20,7 @@ use Rattle.seat_programs.specs.declared.task.Task.{Task}
 use Rattle.seat_programs.specs.Cores.{Core}
 use Rattle.seat_programs.specs.Runs.{from_to}
 use Rattle.seat_programs.specs.Scripts.{took_at_home}
-use Rattle.seat_programs.specs.Told.{IsTask, Became, Made, OpensNone, IsNoLater, AfterHold, HasLife, EachOpened, IsFail}
+use Rattle.seat_programs.specs.Told.{IsTask, Became, Made, OpensNone, IsNoLater, HasLife, IsFail, OnSockets, WhyOnSockets}
 
 -- ## What the links accepted
 
@@ -141,7 +140,7 @@ module _ (p : Plan) (clients : List (List Task)) (outcomes : List (Option Outcom
   IsResponse asked id frame = IsSome frame.meta.response × (id < frame.meta.correlation_id) × (frame.meta.correlation_id < id + asked.range)
 
   abbrev pub IsAnsweredBy : Asked → ℕ → (Frame → Type 0) → Type 0
-  IsAnsweredBy asked id P = (k n : ℕ) × (frame : Frame) × Gave k n frame × IsResponse asked id frame × P frame
+  IsAnsweredBy asked id P = causes.IsAnsweredBy (λ k n frame. Gave k n frame) (λ frame. IsResponse asked id frame) P
 
   -- ## Attempts
 
@@ -160,22 +159,9 @@ module _ (p : Plan) (clients : List (List Task)) (outcomes : List (Option Outcom
   abbrev pub IsUnordered : ℕ → ℕ → Type 0
   IsUnordered o n = (k : ℕ) → StandsOn o n k → ⊥
 
-  -- why an attempt found no live socket under its name, or lost it
-  pub data WhyLost (c o n name : ℕ) : Type 0 where
-    WasFailing : (k slot version : ℕ) → Made clients outcomes name k slot version → IsFailing k → WhyLost c o n name
-    RunEnding : Contains fixed.late o → WhyLost c o n name
-    -- a retry, which any client may have tried behind the call
-    WasUnopened : 0 < n → (client m : ℕ) → 1 ≤ client → client < length clients → (client ≡ c → o < m) → FoundNone client m name → WhyLost c o n name
-
   -- each request may have been found taken
   abbrev pub WasFull : Type 0
   WasFull = p.requests ≤ all_accepted p.links orders
-
-  -- why attempt n was followed by another
-  pub data WhyAgain (c o n name : ℕ) : Type 0 where
-    AfterDrop : IsDropped o n → WhyAgain c o n name
-    AfterLoss : IsUnordered o n → WhyLost c o n name → WhyAgain c o n name
-    AfterFull : IsUnordered o n → WasFull → WhyAgain c o n name
 
   -- ## Calls that failed
 
@@ -183,13 +169,49 @@ module _ (p : Plan) (clients : List (List Task)) (outcomes : List (Option Outcom
   abbrev pub MayBeOn : ℕ → ℕ → ℕ → ℕ → Type 0
   MayBeOn o n name k = (slot version : ℕ) × Made clients outcomes name k slot version × ((l : ℕ) → StandsOn o n l → l ≡ k)
 
-  -- the reading of k ended; k was failing, or accepted the attempt, or the attempt found each request taken; and k gave no response,
-  -- but one that came before the call began, where the attempt isn't placed
-  pub record EndedWith (asked : Asked) (o n name id k : ℕ) : Type 0 where
-    pub on : MayBeOn o n name k
-    pub ended : Contains fixed.early k ⊎ (Contains fixed.closed k ⊎ Contains fixed.silent k)
-    pub lost : IsFailing k ⊎ (StandsOn o n k ⊎ (IsUnordered o n × WasFull))
-    pub unanswered : (m : ℕ) (frame : Frame) → Gave k m frame → IsResponse asked id frame → (IsPlaced o n → ⊥) × Contains fixed.soon (k, m)
+  -- what is told of links
+  abbrev pub links_told : Links
+  links_told = record {
+    IsFailing = λ k. IsFailing k;
+    ReadingEnded = λ k. Contains fixed.early k ⊎ (Contains fixed.closed k ⊎ Contains fixed.silent k);
+    GaveFault = λ k. GaveFault k;
+    Gave = λ k n frame. Gave k n frame;
+    CameEarly = λ k n. Contains fixed.soon (k, n);
+    WasFull = WasFull;
+  }
+
+  -- of attempt n of operation o, to this name
+  abbrev pub attempt_told : ℕ → ℕ → ℕ → Attempt
+  attempt_told o n name = record {
+    IsPlaced = IsPlaced o n;
+    IsDropped = IsDropped o n;
+    IsUnordered = IsUnordered o n;
+    StandsOn = λ k. StandsOn o n k;
+    MayBeOn = λ k. MayBeOn o n name k;
+  }
+
+  -- and of where it looked for a socket, in client c; a retry any client may have tried behind the call
+  abbrev pub seeking_told : ℕ → ℕ → ℕ → ℕ → Seeking
+  seeking_told c o n name = record {
+    attempt = n;
+    IsOfName = λ k. (slot version : ℕ) × Made clients outcomes name k slot version;
+    RunEnded = Contains fixed.late o;
+    IsClient = λ client. client < length clients;
+    IsBehind = λ client m. client ≡ c → o < m;
+    FoundNone = λ client m. FoundNone client m name;
+  }
+
+  -- why an attempt found no live socket under its name, or lost it
+  abbrev pub WhyLost : ℕ → ℕ → ℕ → ℕ → Type 0
+  WhyLost c o n name = causes.WhyLost links_told (seeking_told c o n name)
+
+  -- why attempt n was followed by another
+  abbrev pub WhyAgain : ℕ → ℕ → ℕ → ℕ → Type 0
+  WhyAgain c o n name = causes.WhyAgain links_told (attempt_told o n name) (seeking_told c o n name)
+
+  -- the reading of k ended, for an attempt of a call with this id
+  abbrev pub EndedWith : Asked → ℕ → ℕ → ℕ → ℕ → ℕ → Type 0
+  EndedWith asked o n name id k = causes.EndedWith links_told (attempt_told o n name) (λ frame. IsResponse asked id frame) k
 
   -- an `expire` of the call that is operation o with this outcome
   abbrev pub IsExpiredWith : ℕ → Outcome → Type 0
@@ -199,15 +221,18 @@ module _ (p : Plan) (clients : List (List Task)) (outcomes : List (Option Outcom
   abbrev pub IsFailedWith : ℕ → ℕ → Type 0
   IsFailedWith name code = (client : ℕ) × (t : Task) × IsTask clients outcomes client t × (t.op ≡ ops.Fail name code) × Became clients outcomes t.number Failed
 
-  -- why the call that is operation o, with this id, ended with the code; n is its last attempt
-  pub data FailedBy (c o : ℕ) (asked : Asked) (id code n : ℕ) : Type 0 where
-    ByExpiry : code ≡ ERPCTIMEDOUT → IsExpiredWith o Expired ⊎ IsExpiredWith o Queued → FailedBy c o asked id code n
-    ByCompression : code ≡ ERESPONSE → IsAnsweredBy asked id (λ frame. frame.meta.compress_type ≢ pos 0) → FailedBy c o asked id code n
-    ByFrameFault : code ≡ ERESPONSE → (k : ℕ) → MayBeOn o n (name_of asked n) k → GaveFault k → FailedBy c o asked id code n
-    ByEnd : code ≡ EEOF → (k : ℕ) → EndedWith asked o n (name_of asked n) id k → FailedBy c o asked id code n
-    BySocket : code ≡ EFAILEDSOCKET → n + 2 ≡ asked.range → IsUnordered o n ⊎ IsDropped o n → WhyLost c o n (name_of asked n) → FailedBy c o asked id code n
-    ByRequests : code ≡ EREQUESTS → n + 2 ≡ asked.range → IsUnordered o n → WasFull → FailedBy c o asked id code n
-    ByFail : 1500 ≤ code → code ≤ 1999 → n + 2 ≡ asked.range → IsDropped o n → IsFailedWith (name_of asked n) code → FailedBy c o asked id code n
+  -- what is told of the call that is operation o, with this id; n is its last attempt
+  abbrev pub ending_told : ℕ → Asked → ℕ → ℕ → Ending
+  ending_told o asked id n = record {
+    NoneLeft = n + 2 ≡ asked.range;
+    IsResponse = λ frame. IsResponse asked id frame;
+    IsExpiredWith = λ outcome. IsExpiredWith o outcome;
+    IsFailedWith = λ code. IsFailedWith (name_of asked n) code;
+  }
+
+  -- why it ended with the code
+  abbrev pub FailedBy : ℕ → ℕ → Asked → ℕ → ℕ → ℕ → Type 0
+  FailedBy c o asked id code n = causes.FailedBy links_told (attempt_told o n (name_of asked n)) (seeking_told c o n (name_of asked n)) (ending_told o asked id n) code
 
   -- ## What is said of another call
 
@@ -224,49 +249,46 @@ module _ (p : Plan) (clients : List (List Task)) (outcomes : List (Option Outcom
 
   -- ## Causes
 
+  -- what is told of operation o of client c, if it is on sockets
+  abbrev pub sockets_told : ℕ → ℕ → OnSockets
+  sockets_told c o = record {
+    find = λ n. record { FoundNone = FoundNone c o n; FoundFailed = λ P. FoundFailed c o n P; HasSocket = HasLife clients outcomes n };
+    WasFull = WasFull;
+    FailsLife = (k : ℕ) × Contains fixed.fails (o, k);
+  }
+
+  -- of the call that is operation t, to operation o of client c
+  abbrev pub target_told : ℕ → ℕ → ℕ → Target
+  target_told c o t = record {
+    HasOutcome = λ outcome. Became clients outcomes t outcome;
+    HasBegun = HasBegun c o t;
+    MayNotHaveBegun = MayNotHaveBegun c o t;
+  }
+
   -- last o is the last attempt of operation o
   module _ (last : ℕ → ℕ) where
+    abbrev pub calling_told : ℕ → ℕ → Asked → Calling
+    calling_told c o asked = record {
+      FoundNone = FoundNone c o (name_of asked 0);
+      IsAnswered = λ id P. IsAnsweredBy asked id P;
+      HasFailed = λ id code. FailedBy c o asked id code (last o);
+    }
+
     abbrev pub WhyCall : ℕ → ℕ → Asked → Outcome → Type 0
-    WhyCall c o asked Unopened = FoundNone c o (name_of asked 0)
-    WhyCall c o asked (Answered id payload attachment) = IsAnsweredBy asked id (λ (frame : Frame). HasCode (pos 0) frame × (frame.payload ≡ payload) × (frame.attachment ≡ attachment))
-    WhyCall c o asked (Peer id code) = IsAnsweredBy asked id (HasCode code) × (code ≢ pos 0)
-    WhyCall c o asked (CallFailed id code) = FailedBy c o asked id code (last o)
-    WhyCall c o asked other = ⊥
+    WhyCall c o asked outcome = causes.CallCause (calling_told c o asked) outcome
 
     abbrev pub WhyExpire : ℕ → ℕ → ℕ → Outcome → Type 0
-    WhyExpire c o t Expired = (id : ℕ) × Became clients outcomes t (CallFailed id ERPCTIMEDOUT)
-    WhyExpire c o t Queued = HasBegun c o t
-    WhyExpire c o t Late = HasBegun c o t
-    WhyExpire c o t (Crowded a b) = HasBegun c o t × IsPosted a × IsPosted b
-    WhyExpire c o t NotBegun = MayNotHaveBegun c o t
-    WhyExpire c o t other = ⊥
+    WhyExpire c o t outcome = causes.ExpireCause (target_told c o t) outcome
 
     abbrev pub WhyJoin : ℕ → ℕ → ℕ → Outcome → Type 0
-    WhyJoin c o t Joined = HasBegun c o t
-    WhyJoin c o t NotBegun = MayNotHaveBegun c o t
-    WhyJoin c o t other = ⊥
+    WhyJoin c o t outcome = causes.JoinCause (target_told c o t) outcome
 
     -- why operation o of client c has its outcome
     abbrev pub Why : ℕ → ℕ → Op → Outcome → Type 0
     Why c o (ops.Call asked) outcome = WhyCall c o asked outcome
     Why c o (ops.Expire t) outcome = WhyExpire c o t outcome
     Why c o (ops.Join t) outcome = WhyJoin c o t outcome
-    Why c o (ops.Open n k) (Opened slot version l) = (l ≡ k) × (slot < p.slots) × (version % 2 ≡ 0) × (p.first ≤ version)
-    Why c o (ops.Open n k) SlotsFull = EachOpened clients outcomes p
-    Why c o (ops.Send n bytes) Unopened = FoundNone c o n
-    Why c o (ops.Send n bytes) (Gone found) = FoundFailed c o n (λ version. vref_version found.0 ≢ version)
-    Why c o (ops.Send n bytes) Full = HasLife clients outcomes n × WasFull
-    Why c o (ops.Hold n) Unopened = FoundNone c o n
-    Why c o (ops.Hold n) (Gone found) = FoundFailed c o n (λ version. vref_version found.0 ≢ version)
-    Why c o (ops.Hold n) Held = HasLife clients outcomes n
-    Why c o (ops.Fail n code) Unopened = FoundNone c o n
-    Why c o (ops.Fail n code) (Gone found) = FoundFailed c o n (λ version. vref_version found.0 ≢ version)
-    Why c o (ops.Fail n code) (Already found) = FoundFailed c o n (λ version. vref_version found.0 % 2 ≡ 1)
-    Why c o (ops.Fail n code) Failed = (k : ℕ) × Contains fixed.fails (o, k)
-    Why c o (ops.Drop n) NotHeld = AfterHold clients outcomes c o n (λ outcome. outcome ≢ Held)
-    Why c o (ops.Drop n) Freed = AfterHold clients outcomes c o n (λ outcome. outcome ≡ Held)
-    Why c o (ops.Drop n) Kept = AfterHold clients outcomes c o n (λ outcome. outcome ≡ Held)
-    Why c o op outcome = ⊥
+    Why c o op outcome = WhyOnSockets clients outcomes p (sockets_told c o) c o op outcome
 
     -- message a, which link k accepted, is that of a `send` of which nothing is said, or of an attempt that was made of a call with an id,
     -- to a name of the link's socket

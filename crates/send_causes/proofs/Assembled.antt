@@ -102,7 +102,7 @@ module _ (script : List Item) (made : AreMade script) (there : AreThere script) 
       by (OfSend client u name slot version it' numbered op' first life untold) = absurd (let e : ops.Send name a.bytes ≡ ops.Call asked = sym op' ∙ same client u it' numbered in cc)
       by (OfCall client u asked' outcome id slot version it' numbered op' became shows made_ bytes_ life) =
           let e : ops.Call asked' ≡ ops.Call asked = sym op' ∙ same client u it' numbered in let named : asked' ≡ asked = cc in
-          WasFailing k slot version (subst (λ m. Made (all_tasks script) core.outcomes m k slot version) ((λ j. name_of (named j) a.attempt) ∙ ap (name_of asked) attempt) life) failing
+          WasFailing k (slot, version, subst (λ m. Made (all_tasks script) core.outcomes m k slot version) ((λ j. name_of (named j) a.attempt) ∙ ap (name_of asked) attempt) life) failing
 
   -- and each error that an id took for an attempt of its call has its cause, but for those of the end of a reading; where a call failed with that, it has its own
   module _ (caused : (client : ℕ) (t : Task) (asked : Asked) → IsTask (all_tasks script) core.outcomes client t → t.op ≡ ops.Call asked → (outcome : Outcome) → Became (all_tasks script) core.outcomes t.number outcome → (id code n : ℕ) → shown_id outcome ≡ Some id → n ≤ 6 → code ≢ 1014

@@ -41,7 +41,7 @@ use Rattle.send_causes.proofs.Laws.{laws}
 
 -- an attempt's loss is none of what links gave
 lost_over : (p : Plan) (clients : List (List Task)) (outcomes : List (Option Outcome)) (fixed : Fixed) (gave took : ℕ → List ℕ) (orders : ℕ → Order) (c o n name : ℕ) → WhyLost p clients outcomes fixed gave orders c o n name → WhyLost p clients outcomes fixed took orders c o n name
-lost_over p clients outcomes fixed gave took orders c o n name (WasFailing k slot version life failing) = WasFailing k slot version life failing
+lost_over p clients outcomes fixed gave took orders c o n name (WasFailing k named failing) = WasFailing k named failing
 lost_over p clients outcomes fixed gave took orders c o n name (RunEnding late) = RunEnding late
 lost_over p clients outcomes fixed gave took orders c o n name (WasUnopened later client m low high before none_) = WasUnopened later client m low high before (record { setup = none_.setup; own = none_.own })
 

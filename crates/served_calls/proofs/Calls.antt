@@ -99,7 +99,7 @@ module _ (script : List Item) (made : AreMade script) (turns : List Turn) (core 
 
     module _ (servers : IsForServers script turns core is fixed orders asked) where
       no_loss : told.WhyLost (plan_of script) (all_tasks script) core.outcomes fixed (given core) orders client t.number 0 (name_of asked 0) → ⊥
-      no_loss (told.WasFailing k slot version life failing) = unfailing k (servers k slot version life) failing
+      no_loss (told.WasFailing k (slot, version, life) failing) = unfailing k (servers k slot version life) failing
       no_loss (told.RunEnding late) = quiet.none_late client t asked it op late
       no_loss (told.WasUnopened later c m some_ few behind none_) = let z : ⊥ = omega (arith, later) in z
 

@@ -22,6 +22,7 @@ use Rattle.slot_steps.proofs.Sums.{total-append}
 use Rattle.seat_programs.specs.declared.task.Op.{Op}
 use Rattle.seat_programs.specs.declared.task.Op.TheVariants as ops
 use Rattle.seat_programs.specs.declared.task.Task.{Task}
+use Rattle.brpc_model.specs.Why.{DropCause}
 use Rattle.seat_programs.specs.Told.{IsTask, AfterHold, goes_well, in_hand_behind, alternate}
 use Rattle.outcome_ticks.specs.outcome_stories.proofs.Tests.{split_eq, both_left, both_right, none_of}
 use Rattle.report_fits.specs.script_facts.proofs.Lists.{all_at, contains_from}
@@ -358,10 +359,7 @@ module _ {O : Type 0} {g : Ghosts O} {state : O → OutState} {p : Plan} {client
 
   -- the last `hold` of the name by the client of this `drop`, by what the `drop` gave
   abbrev pub WhyDrop : ℕ → ℕ → ℕ → Outcome → Type 0
-  WhyDrop c number n outcome.NotHeld = AfterHold clients outcomes c number n (λ x. x ≢ outcome.Held)
-  WhyDrop c number n outcome.Freed = AfterHold clients outcomes c number n (λ x. x ≡ outcome.Held)
-  WhyDrop c number n outcome.Kept = AfterHold clients outcomes c number n (λ x. x ≡ outcome.Held)
-  WhyDrop c number n other = ⊥
+  WhyDrop c number n by = DropCause (λ P. AfterHold clients outcomes c number n P) by
 
   not_held : (a : Act run) (n : ℕ) (w : LastHold a.y.deeds n a.k a.d.before.held) → place_in n a.d.before.held ≡ None → w.became ≢ outcome.Held
   not_held a n w none_ e = elim w.held [ inl q ↦ (let one = q.1 in let z = place_none n a.d.before.held none_ in absurd (omega arith)) | inr q ↦ q.0 e ]

@@ -36,7 +36,7 @@ use Rattle.sock_deeds.specs.Told.{fixed_by, IsOfSockets, ToldSockets}
 use Rattle.sock_deeds.proofs.Accepting.{log, act_of_entry}
 use Rattle.sock_deeds.proofs.Acts.{Act, before, after, did_of, done_of}
 use Rattle.sock_deeds.proofs.Causes.{FailsNone, FoundDead, gone_cause, refused_cause, already_cause, has_life, opened_cause}
-use Rattle.sock_deeds.proofs.Drops.{WhyDrop, drop_cause}
+use Rattle.sock_deeds.proofs.Drops.{drop_cause}
 use Rattle.sock_deeds.proofs.Fails.{fail_for}
 use Rattle.sock_deeds.proofs.Failing.{FailedBy, WhyFailed, by_name, by_link, by_reader, early, all_fails, each_failed, broken, are, once}
 use Rattle.sock_deeds.proofs.Growing.{stays, over_grew}
@@ -138,13 +138,7 @@ module _ {O : Type 0} {g : Ghosts O} {state : O → OutState} {p : Plan} {client
     why_fail a number n code other named client task became is b = elim b [ ]
 
     why_drop : (a : Act run) (number n : ℕ) (o : Outcome) → did_of run a ≡ drops n number o → WhyHere a.c number (ops.Drop n) o
-    why_drop a number n o is = by_outcome o (drop_cause run a n number o is)
-      where
-        by_outcome : (x : Outcome) → WhyDrop run a.c number n x → WhyHere a.c number (ops.Drop n) x
-        by_outcome outcome.NotHeld w = w
-        by_outcome outcome.Freed w = w
-        by_outcome outcome.Kept w = w
-        by_outcome other w = elim w [ ]
+    why_drop a number n o is = drop_cause run a n number o is
 
     why_op : (a : Act run) (number : ℕ) (op : Op) (o : Outcome) → IsOperation clients outcomes a.c number op → Became clients outcomes number o → IsOfSockets op → Does clients outcomes number op (did_of run a) → WhyHere a.c number op o
     why_op a number (ops.Open n k) o is became on d =

@@ -17,7 +17,7 @@ use Rattle.call_stories.specs.Says.{Mark}
 use Rattle.call_stories.specs.Stories.{undo, QuietOf, AreQuiet}
 use Rattle.story_steps.proofs.BirthTicks.{in_all}
 use Rattle.story_steps.proofs.End.{HasEnded, ended_call, one_outcome, contains_in, listed_or, undo_done}
-use Rattle.seat_programs.specs.brpc_model.specs.Outcomes.{IsPosted}
+use Rattle.seat_programs.specs.brpc_model.specs.Why.{IsPosted}
 use Rattle.call_stories.specs.Below.outcome_stories.specs.Stories.{In}
 
 -- tasks stand in the order of their numbers
