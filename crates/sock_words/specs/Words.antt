@@ -47,6 +47,10 @@ pub record IsVref (word version nref : ℕ) : Type 0 where
 abbrev pub OnlyVref : ℕ → ℕ → ℕ → Type 0
 OnlyVref word version nref = (v n : ℕ) → v < 2 ^ 32 → n < 2 ^ 32 → vref v n ≡ word → (v ≡ version) × (n ≡ nref)
 
+-- the word of an operation that got no socket; one that got one has its id, plus 1
+abbrev pub NO_SOCKET : ℕ
+NO_SOCKET = 2 ^ 64 - 1
+
 -- the socket is failed where the version is odd
 abbrev pub IsFailedVref : ℕ → Type 0
 IsFailedVref word = vref_version word % 2 ≡ 1
@@ -86,6 +90,27 @@ pub record IsTicket (word : ℕ) (idle : Bool) (generation request : ℕ) : Type
 -- no other parts have this word
 abbrev pub OnlyTicket : ℕ → Bool → ℕ → ℕ → Type 0
 OnlyTicket word idle generation request = (i : Bool) (g r : ℕ) → FitsTicket g r → ticket i g r ≡ word → (i ≡ idle) × (g ≡ generation) × (r ≡ request)
+
+-- the head of a chain that no ticket was ever put into: the bit of an idle head alone
+abbrev pub IDLE : ℕ
+IDLE = 2 ^ 63
+
+-- the next word of a request that isn't connected to the one before it; 0 where it has none behind it
+abbrev pub UNCONNECTED : ℕ
+UNCONNECTED = 2 ^ 64 - 1
+
+-- ## The id of a call
+
+-- the slot in bits 32 to 63; in bits 0 to 31 a version of its range, by which the first one names the
+-- call and each other one an attempt
+abbrev pub call_id : ℕ → ℕ → ℕ
+call_id slot version = slot * 2 ^ 32 + version
+
+abbrev pub id_slot : ℕ → ℕ
+id_slot id = id / 2 ^ 32
+
+abbrev pub id_first : ℕ → ℕ
+id_first id = id % 2 ^ 32
 
 -- ## The word of a call id
 
@@ -200,6 +225,10 @@ place_word_link word = word / 2 ^ 32 % 2 ^ 16
 
 abbrev pub place_word_position : ℕ → ℕ
 place_word_position word = word % 2 ^ 32 - 1
+
+-- the least word with the dropped bit
+abbrev pub DROPPED : ℕ
+DROPPED = 2 ^ 63
 
 -- the word tells a position
 abbrev pub HasPosition : ℕ → Type 0
