@@ -3,9 +3,9 @@ use Rattle.std.proofs.Common.{◌≡◌, ℕ, ◌+◌, ◌%◌, ◌≤◌, ◌==
 use Rattle.std.proofs.lemmas.Bool.{true≢false}
 use Rattle.std.proofs.lemmas.List.Concat.{flat_map-append}
 use Rattle.std.specs.Prelude.{Some, None}
-use Rattle.sock_words.specs.Words.{socket_id_version, socket_id_slot, vref_version}
+use Rattle.sock_words.specs.Words.{socket_id_version, socket_id_slot, vref_version, id_slot}
 use Rattle.run_theorems.specs.Below.sock_steps.proofs.Quiet.{either_way}
-use Rattle.corr_core.specs.Word.{parts, code_of, id_slot}
+use Rattle.corr_core.specs.Word.{parts, code_of}
 use Rattle.corr_core.specs.Decisions.{ends_call}
 use Rattle.seat_programs.specs.brpc_model.specs.Frame.{Frame}
 use Rattle.seat_programs.specs.brpc_model.specs.Stream as streams

@@ -7,7 +7,7 @@ use lib.ListN.{get_elem?}
 use Rattle.seat_programs.specs.brpc_model.specs.Items.{Item}
 use Rattle.seat_programs.specs.brpc_model.specs.Operations.{Turn}
 use Rattle.sock_model.specs.Layout.{open_index}
-use Rattle.corr_core.specs.Word.{Parts, id_first, id_slot}
+use Rattle.corr_core.specs.Word.{Parts}
 use Rattle.corr_core.proofs.Notes.{at_length}
 use Rattle.seat_programs.specs.Cores.{Core, SeatState}
 use Rattle.seat_programs.specs.Heads.{Head, Exit, Reading, Sought, First, Version, Locks, Joins, Opens, Reads, Discards}
@@ -32,6 +32,7 @@ use Rattle.call_causes.specs.Below.call_owing.proofs.EndsStill.{view_of}
 use Rattle.accept_counts.proofs.Early.{start, go, fitting}
 use Rattle.accept_counts.proofs.Rests.{still, aside}
 use Rattle.accept_counts.proofs.Takeless.{NoTakes, TakesNone}
+use Rattle.sock_words.specs.Words.{id_first, id_slot}
 
 -- a range that has ended isn't sought
 not_sought : (sought : Sought) (w : Parts) → w.state ≡ 0 → is_sought sought w ≡ true → ⊥

@@ -7,14 +7,14 @@ use mathlib.Core.Option.{Option, some}
 use lib.ListN.{get_elem?}
 use Rattle.atomic_table.proofs.Lists.{at_set, set_again}
 use Rattle.sock_words.specs.declared.plain.Plan.{Plan}
-use Rattle.sock_words.specs.Words.{at_word}
+use Rattle.sock_words.specs.Words.{at_word, call_id, id_slot, id_first}
 use Rattle.sock_model.specs.declared.chain.Right.{Right}
 use Rattle.sock_model.specs.declared.chain.Heading.{Heading}
 use Rattle.sock_model.specs.declared.home.Home.{Home}
 use Rattle.sock_model.specs.declared.view.View.{View}
 use Rattle.sock_model.specs.Weights.{total}
 use Rattle.call_causes.specs.Below.programs_allowed.specs.slot_steps.proofs.Sums.{term_le, total-append, total-set}
-use Rattle.corr_core.specs.Word.{parts, call_id, id_slot, id_first}
+use Rattle.corr_core.specs.Word.{parts}
 use Rattle.corr_core.specs.declared.marks.Plan.{Plan as IdPlan}
 use Rattle.call_causes.specs.Below.id_runs.specs.Held.{IdView, MayId}
 use Rattle.call_causes.specs.Below.id_runs.specs.Goes.{FitsRetryId, FitsSock, FindsId, SoundIds, FitsFirst, IsFittingIds}

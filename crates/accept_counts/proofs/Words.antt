@@ -5,7 +5,7 @@ use native.Mathlib.Decide.{ℕ_discrete}
 use mathlib.Core.Option.{Option, some, some-injective}
 use lib.ListN.{get_elem?}
 use Rattle.sock_words.specs.declared.plain.Plan.{Plan}
-use Rattle.corr_core.specs.Word.{Parts, parts, made_word, locked_word, posted_word, unlocked_word, free_word, call_id, id_slot, id_first}
+use Rattle.corr_core.specs.Word.{Parts, parts, made_word, locked_word, posted_word, unlocked_word, free_word}
 use Rattle.corr_core.specs.declared.marks.Plan.{Plan as IdPlan}
 use Rattle.corr_core.specs.declared.marks.Hand.TheVariants.{Full}
 use Rattle.corr_core.specs.declared.marks.Token.TheVariants.{Claimed}
@@ -24,6 +24,7 @@ use Rattle.label_runs.specs.Labels.{FindsLabel}
 use Rattle.accept_counts.specs.Counts.{word_of_id, WasMade, WasNow}
 use Rattle.call_causes.specs.Below.owing_ticks.proofs.IdFacts.{claimed_free}
 use Rattle.call_causes.specs.Below.call_owing.proofs.Words.{Forward}
+use Rattle.sock_words.specs.Words.{call_id, id_slot, id_first}
 
 abbrev pub AnyCall : Asked → Type 0
 AnyCall asked = Unit {0}

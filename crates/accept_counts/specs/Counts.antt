@@ -8,7 +8,7 @@ use Rattle.sock_model.specs.declared.chain.Entry.{Entry}
 use Rattle.sock_model.specs.declared.chain.Heading.{Heading}
 use Rattle.sock_model.specs.declared.view.View.{View}
 use Rattle.sock_model.specs.Weights.{total}
-use Rattle.corr_core.specs.Word.{Parts, parts, id_slot, id_first}
+use Rattle.corr_core.specs.Word.{Parts, parts}
 use Rattle.corr_core.specs.declared.marks.Plan.{Plan as IdPlan}
 use Rattle.seat_programs.specs.id_rule.specs.Lawful.{id_index}
 use Rattle.seat_programs.specs.Asides.{StoreAt}
@@ -17,7 +17,7 @@ use Rattle.seat_programs.specs.Beside.{call_at}
 use Rattle.seat_programs.specs.Heads.{Retry}
 use Rattle.seat_programs.specs.Cores.{Core, SeatState}
 use Rattle.sock_words.specs.declared.plain.Plan.{Plan}
-use Rattle.sock_words.specs.Words.{at_word}
+use Rattle.sock_words.specs.Words.{at_word, id_slot, id_first}
 use Rattle.seat_programs.specs.Programs.{Program, Aside}
 use Rattle.seat_programs.specs.Ticks.{Moment, ticked}
 use Rattle.call_causes.specs.Below.id_runs.specs.Held.{IdView}

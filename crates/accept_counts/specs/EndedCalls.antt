@@ -3,11 +3,11 @@ use Rattle.std.specs.Prelude.{ℕ, ◌≡◌, ◌≢◌, ◌+◌, ◌⊎◌, if�
 use Rattle.sock_words.specs.Codes.{EEOF, ERESPONSE}
 use mathlib.Core.Option.{Option, none, some}
 use lib.ListN.{get_elem?}
-use Rattle.sock_words.specs.Words.{at_word_first, at_word_slot, at_word_link, at_word_attempt}
+use Rattle.sock_words.specs.Words.{at_word_first, at_word_slot, at_word_link, at_word_attempt, call_id}
 use Rattle.seat_programs.specs.brpc_model.specs.Causes.{HasFault}
 use Rattle.seat_programs.specs.brpc_model.specs.Items.{Item}
 use Rattle.seat_programs.specs.brpc_model.specs.Operations.{Turn}
-use Rattle.corr_core.specs.Word.{error_of, call_id}
+use Rattle.corr_core.specs.Word.{error_of}
 use Rattle.seat_programs.specs.Asides.{Step, Found, StoreAt, LoadAt, Taking}
 use Rattle.seat_programs.specs.Beside.{found_in}
 use Rattle.seat_programs.specs.Programs.{Program, Aside}

@@ -5,11 +5,11 @@ use Rattle.sock_words.specs.Codes.{EEOF, EFAILEDSOCKET, EREQUESTS, ERESPONSE, ER
 use mathlib.Core.Option.{some}
 use lib.ListN.{get_elem?}
 use Rattle.sock_words.specs.declared.plain.Plan.{Plan}
-use Rattle.sock_words.specs.Words.{at_word, socket_id_slot, socket_id_version, vref_version}
+use Rattle.sock_words.specs.Words.{at_word, socket_id_slot, socket_id_version, vref_version, call_id, id_slot, id_first}
 use Rattle.sock_model.specs.declared.chain.Heading.{Heading}
 use Rattle.seat_programs.specs.brpc_model.specs.Items.{Item}
 use Rattle.seat_programs.specs.brpc_model.specs.Operations.{Turn}
-use Rattle.corr_core.specs.Word.{parts, error_of, call_id, id_slot, id_first}
+use Rattle.corr_core.specs.Word.{parts, error_of}
 use Rattle.sock_message.specs.Asked.{Asked, name_of}
 use Rattle.seat_programs.specs.Asides.{Step, Found, PutCall, StoreAt, PostId}
 use Rattle.seat_programs.specs.Calls.{Call, AddRef, LoadName, LookWord, LoadCode, ClaimRequest, DropPlace}

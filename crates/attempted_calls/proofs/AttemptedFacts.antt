@@ -19,9 +19,9 @@ use Rattle.own_decisions.specs.Below.call_stories.specs.Stories.{SlotFits, CallS
 use Rattle.own_decisions.specs.Below.story_steps.proofs.BirthTicks.{two_of, one_call}
 use Rattle.own_decisions.specs.Below.story_steps.proofs.Firsts.{MayFirst, may_first}
 use Rattle.own_decisions.specs.accept_counts.specs.Counts.{word_of_id}
-use Rattle.corr_core.specs.Word.{call_id, id_slot}
 use Rattle.seat_programs.specs.Rounds.{first_step}
 use Rattle.own_decisions.specs.Below.outcome_stories.specs.Stories.{In}
+use Rattle.sock_words.specs.Words.{call_id, id_slot}
 
 module _ (q : IdPlan) where
   -- the word of the call has the id

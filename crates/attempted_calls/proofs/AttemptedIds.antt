@@ -12,7 +12,7 @@ use Rattle.own_decisions.specs.Below.programs_allowed.specs.program_walks.proofs
 use Rattle.own_decisions.specs.Below.call_stories.specs.Lists.{advanced_at}
 use Rattle.own_decisions.specs.accept_counts.specs.Counts.{word_of_id}
 use Rattle.attempted_calls.proofs.AttemptedWords.{Rise}
-use Rattle.corr_core.specs.Word.{call_id}
+use Rattle.sock_words.specs.Words.{call_id}
 
 -- the tick advances the call of this id alone
 abbrev pub AdvancesId : (ℕ → ℕ) → Core → Moment → ℕ → Type 0

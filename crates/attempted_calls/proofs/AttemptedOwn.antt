@@ -11,7 +11,7 @@ use Rattle.own_decisions.specs.Below.chain_steps.proofs.Lists.{at_length}
 use Rattle.sock_words.specs.declared.plain.Plan.{Plan}
 use Rattle.sock_model.specs.declared.home.Home.{Home}
 use Rattle.sock_model.specs.declared.view.View.{View}
-use Rattle.corr_core.specs.Word.{parts, call_id}
+use Rattle.corr_core.specs.Word.{parts}
 use Rattle.corr_core.specs.Law.{Births, Local, Stands, vacant, retired, claimed, opened, locked, leaving}
 use Rattle.corr_core.specs.declared.marks.Plan.{Plan as IdPlan}
 use Rattle.corr_core.specs.declared.marks.Hand.{Hand}
@@ -48,6 +48,7 @@ use Rattle.attempted_calls.proofs.EndedNames.{follows_first, resolves}
 use Rattle.own_decisions.specs.accept_counts.proofs.SeatFacts.{seat_facts}
 use Rattle.attempted_calls.proofs.AttemptedFacts.{IsStored, IsStoring, IsOwn, Facts}
 use Rattle.seat_programs.specs.Rounds.{first_step}
+use Rattle.sock_words.specs.Words.{call_id}
 
 -- what is known of a call
 abbrev pub IsTrueOf : IdPlan → Core → Of → Type 0

@@ -7,7 +7,7 @@ use Rattle.sock_words.specs.declared.plain.Plan.{Plan}
 use Rattle.sock_model.specs.declared.view.View.{View}
 use Rattle.seat_programs.specs.brpc_model.specs.Items.{Item}
 use Rattle.seat_programs.specs.brpc_model.specs.Operations.{Turn}
-use Rattle.corr_core.specs.Word.{Parts, call_id, id_slot, id_first}
+use Rattle.corr_core.specs.Word.{Parts}
 use Rattle.corr_core.specs.declared.marks.Plan.{Plan as IdPlan}
 use Rattle.own_decisions.specs.Below.id_runs.specs.Held.{IdView}
 use Rattle.own_decisions.specs.Below.id_runs.specs.Goes.{SoundIds, IsFittingIds}
@@ -36,6 +36,7 @@ use Rattle.own_decisions.specs.accept_counts.proofs.Runs.{AreLabelledIn, IsCallO
 use Rattle.attempted_calls.proofs.AttemptedWords.{Rise, is_new, is_same, is_more}
 use Rattle.attempted_calls.proofs.AttemptedIds.{AdvancesId, AreRising, AreRisingIn}
 use Rattle.own_decisions.specs.Below.call_causes.proofs.Run.{times_append}
+use Rattle.sock_words.specs.Words.{call_id, id_slot, id_first}
 
 times_one : (o : ℕ) (ns : List ℕ) → ns ≡ o ∷ [] → times o ns ≡ 1
 times_one o ns e = ap (times o) e ∙ ap (λ b. cond b 1 0 + 0) (eq-eqb o o refl)

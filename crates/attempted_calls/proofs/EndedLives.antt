@@ -2,7 +2,7 @@
 use Rattle.std.proofs.Common.{◌≡◌, ◌≢◌, ℕ, ⊎_elim, true, false, List, [], ◌∷◌, sym, subst}
 use Rattle.std.specs.List.{AllByRecursion}
 use Rattle.sock_words.specs.declared.plain.Plan.{Plan}
-use Rattle.sock_words.specs.Words.{socket_id_slot, socket_id_version, at_word}
+use Rattle.sock_words.specs.Words.{socket_id_slot, socket_id_version, at_word, id_slot, id_first}
 use Rattle.sock_model.specs.declared.chain.Entry.{Entry}
 use Rattle.sock_model.specs.declared.chain.Heading.{Heading}
 use Rattle.sock_model.specs.declared.view.View.{View}
@@ -25,7 +25,6 @@ use Rattle.attempted_calls.proofs.EndedTrails.{Trail}
 use Rattle.attempted_calls.proofs.RefusedNames as lives
 use Rattle.attempted_calls.proofs.EndedNames.{IsNamed, IsOver, EntryOver, StoredFor, NameLaw}
 use Rattle.own_decisions.specs.Below.programs_allowed.specs.program_walks.proofs.Recorded.{either_bool}
-use Rattle.corr_core.specs.Word.{id_slot, id_first}
 
 module _ (p : Plan) (clients : List (List Task)) (are : AreTasks p clients) (c : Core) (vs : List View) (es : List Event) (lost : List ℕ) (sound : Sound p c vs) (story : Story p clients true c vs es lost) (settled : AllRest c) where
   abbrev world : World p clients c.outcomes lost (orders_of p c vs sound.lawful) es

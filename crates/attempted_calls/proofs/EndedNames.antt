@@ -9,7 +9,7 @@ use mathlib.Core.Option.{Option, some, none, some-injective}
 use lib.ListN.{get_elem?}
 use Rattle.atomic_table.proofs.Lists.{at_set, set_again}
 use Rattle.sock_words.specs.declared.plain.Plan.{Plan}
-use Rattle.sock_words.specs.Words.{socket_id_slot, socket_id_version, at_word}
+use Rattle.sock_words.specs.Words.{socket_id_slot, socket_id_version, at_word, IDLE, id_slot, id_first}
 use Rattle.sock_model.specs.declared.chain.Right.{Right}
 use Rattle.sock_model.specs.declared.chain.Heading.{Heading}
 use Rattle.sock_model.specs.declared.chain.Claim.{Claim}
@@ -18,7 +18,6 @@ use Rattle.sock_model.specs.declared.home.Home.{Home}
 use Rattle.sock_model.specs.declared.view.View.{View}
 use Rattle.sock_model.specs.declared.view.Hand.{Hand}
 use Rattle.sock_model.specs.ChainRows.{with_claim, entry_of, more, queued, righted, ready_claim, filled_claim}
-use Rattle.sock_model.specs.Memory.{IDLE}
 use Rattle.sock_model.specs.SlotRows.{met_link}
 use Rattle.corr_core.specs.declared.marks.Plan.{Plan as IdPlan}
 use Rattle.seat_programs.specs.id_rule.specs.Lawful as ids
@@ -58,7 +57,6 @@ use Rattle.attempted_calls.proofs.EndedTrails.{Of, NoCall, Makes, Knows, Trail, 
 use Rattle.own_decisions.specs.accept_counts.proofs.SeatFacts.{seat_facts, tick_moves}
 use Rattle.attempted_calls.proofs.EndedPrograms.{follows_round, block_goes, retry_goes}
 use Rattle.own_decisions.specs.Below.script_facts.proofs.Lists.{all_map}
-use Rattle.corr_core.specs.Word.{id_slot, id_first}
 use Rattle.seat_programs.specs.Rounds.{first_step}
 
 -- ## First steps

@@ -1,11 +1,11 @@
 -- The programs of clients, readers and the ending follow what leads to attempts, and so does one round of each loop. (As Programs of label_runs has it for the attempts.)
 use Rattle.std.proofs.Common.{◌≡◌, ℕ, zero, suc, ◌+◌, ◌-◌, ◌/◌, ◌%◌, ◌≤◌, ◌==◌, inl, inr, Bool, true, false, cond, eqb, eqb-true, sym, ap, ⊎_elim, List, [], ◌∷◌, refl, ◌∙◌, subst, arith}
 use Rattle.std.specs.List.{AllByRecursion}
-use Rattle.sock_words.specs.Words.{socket_id_slot, socket_id_version, vref_version, at_word}
+use Rattle.sock_words.specs.Words.{socket_id_slot, socket_id_version, vref_version, at_word, call_id, id_slot, id_first}
 use Rattle.sock_words.specs.declared.outcome.Outcome.TheVariants as outcomes
 use Rattle.sock_message.specs.Asked.{Asked, name_of, frame_of}
 use Rattle.sock_model.specs.declared.chain.Heading.{Heading}
-use Rattle.corr_core.specs.Word.{parts, call_id, id_slot, id_first}
+use Rattle.corr_core.specs.Word.{parts}
 use Rattle.seat_programs.specs.declared.task.Sizes.{Sizes}
 use Rattle.seat_programs.specs.declared.task.Task.{Task}
 use Rattle.seat_programs.specs.Asides.{Step, Found, PutCall, MakeId, StoreCall, StoreAt}

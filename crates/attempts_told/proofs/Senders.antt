@@ -62,7 +62,7 @@ use Rattle.call_whys.specs.call_places.specs.sock_deeds.proofs.Flats.{flat_from,
 use Rattle.call_whys.specs.call_places.specs.sock_deeds.proofs.Places.{to_slice, map_back, map_there}
 use Rattle.call_whys.specs.call_places.specs.script_facts.proofs.Lists.{contains_from}
 use Rattle.attempts_told.proofs.Bounds.{attempted_grows, acted_grows}
-use Rattle.corr_core.specs.Word.{id_slot, id_first}
+use Rattle.sock_words.specs.Words.{id_slot, id_first}
 
 -- ## Frames
 

@@ -5,7 +5,7 @@ use mathlib.Core.Logic.{dite}
 use native.Mathlib.Decide.{ℕ_discrete}
 use Rattle.atomic_table.specs.Seated.{TableId}
 use Rattle.atomic_table.specs.declared.shared.Seat.{Seat}
-use Rattle.corr_core.specs.Word.{Parts, parts, id_slot, id_first}
+use Rattle.corr_core.specs.Word.{Parts, parts}
 use Rattle.corr_core.specs.declared.marks.Hand.TheVariants.{Empty}
 use Rattle.corr_core.specs.Law.{LAST}
 use Rattle.corr_core.specs.declared.marks.View.{View}
@@ -18,6 +18,7 @@ use Rattle.corr_id.specs.declared.calls.IdLock.{IdLock}
 use Rattle.sock_message.specs.Asked.{Asked}
 use Rattle.call_errors.specs.Books.{LetGo}
 use Rattle.call_attempts.proofs.Leaving.{kept_free}
+use Rattle.sock_words.specs.Words.{id_slot, id_first}
 
 -- no id is 0, and there is room for the versions of its attempts
 pub id_some : (id : ℕ) → 1 ≤ id_first id → id ≢ 0

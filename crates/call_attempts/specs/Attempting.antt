@@ -2,7 +2,7 @@
 use Rattle.std.specs.Prelude.{◌≡◌, ℕ, List, [], ◌∷◌, true}
 use Rattle.sock_io.specs.Link.{OutState}
 use Rattle.sock_words.specs.Codes.{EFAILEDSOCKET, EREQUESTS}
-use Rattle.sock_words.specs.Words.{socket_id_version, at_word as packed_at}
+use Rattle.sock_words.specs.Words.{socket_id_version, at_word as packed_at, id_slot, id_first}
 use Rattle.sock_words.specs.declared.plain.Plan.{Plan}
 use Rattle.sock_words.specs.declared.socket_id.SocketId.{SocketId}
 use Rattle.sock_words.specs.declared.vref.Vref.{Vref}
@@ -21,7 +21,6 @@ use Rattle.message_parts.specs.Parcels.{parcel_of}
 use Rattle.call_errors.specs.rpc_client.specs.Sending.{Returned}
 use Rattle.call_writes.specs.Sending.{SeenCalling}
 use Rattle.call_attempts.specs.Both.{Both, PostedFor}
-use Rattle.corr_core.specs.Word.{id_slot, id_first}
 use Rattle.write_chain.specs.Ready.{refused_of}
 
 -- the message of a refusal

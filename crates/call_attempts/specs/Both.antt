@@ -6,7 +6,7 @@ use Rattle.sock_model.specs.declared.view.View.{View}
 use Rattle.call_errors.specs.declared.seats.CallSeat.{CallSeat}
 use Rattle.call_errors.specs.Books.{CallStand, stand_of, starving}
 use Rattle.call_errors.specs.Posting.{PostedBy}
-use Rattle.corr_core.specs.Word.{id_slot, id_first}
+use Rattle.sock_words.specs.Words.{id_slot, id_first}
 
 -- what its seat of the sockets knows, and what it knows of calls
 pub record Both : Type 0 where

@@ -6,7 +6,7 @@ use mathlib.Core.Option.{Option, none, some, some-injective}
 use lib.ListN.{get_elem?}
 use Rattle.sock_words.specs.declared.plain.Plan.{Plan}
 use Rattle.seat_programs.specs.brpc_model.specs.Frame.{Frame}
-use Rattle.corr_core.specs.Word.{Parts, parts, call_id, id_slot, id_first}
+use Rattle.corr_core.specs.Word.{Parts, parts}
 use Rattle.seat_programs.specs.id_rule.specs.Lawful.{id_index}
 use Rattle.corr_core.specs.declared.marks.Plan.{Plan as IdPlan}
 use Rattle.seat_programs.specs.Calls.{LoadOpen}
@@ -25,6 +25,7 @@ use Rattle.call_causes.proofs.HandledSteps.{IsOver, over_onward, Onward, State, 
 use Rattle.call_causes.proofs.HandledTicks.{sit, Known, HasReader}
 use Rattle.seat_programs.specs.Rounds.{first_step}
 use Rattle.story_ticks.specs.Below.outcome_stories.specs.Stories.{In}
+use Rattle.sock_words.specs.Words.{call_id, id_slot, id_first}
 
 -- ## A reader behind the end of its reading
 

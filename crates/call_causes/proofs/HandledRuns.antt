@@ -38,9 +38,9 @@ use Rattle.call_causes.proofs.HandledSteps.{Onward, State, state_on, onward}
 use Rattle.call_causes.proofs.HandledStates.{After}
 use Rattle.call_causes.proofs.HandledTicks.{sit, Known, HasReader, reader_ticks}
 use Rattle.call_causes.proofs.HandledPosts.{Claims, claims_on, claims_onward, Silence, silence_on, silence_onward, silent_here, deciding_over, IsDecision, HasClaims, claims_at, over_at}
-use Rattle.corr_core.specs.Word.{id_slot, id_first}
 use Rattle.seat_programs.specs.Rounds.{first_step}
 use Rattle.story_ticks.specs.Below.outcome_stories.specs.Stories.{In}
+use Rattle.sock_words.specs.Words.{id_slot, id_first}
 
 -- ## What is known of ticks
 

@@ -13,7 +13,7 @@ use Rattle.sock_model.specs.declared.home.Home.{Home}
 use Rattle.sock_model.specs.Messages.{Letter}
 use Rattle.sock_model.specs.Reads.{message, link_home}
 use Rattle.seat_programs.specs.brpc_model.specs.Frame.{Frame}
-use Rattle.corr_core.specs.Word.{parts, id_slot, id_first}
+use Rattle.corr_core.specs.Word.{parts}
 use Rattle.corr_core.specs.declared.marks.Plan.{Plan as IdPlan}
 use Rattle.corr_core.specs.Versions.{is_early}
 use Rattle.corr_core.specs.Decisions.{ends_call}
@@ -38,6 +38,7 @@ use Rattle.call_causes.proofs.Handled.{bound, early_is, goes_same, AllFrom, Sit,
 use Rattle.call_causes.proofs.HandledFacts.{Facts, Tied}
 use Rattle.call_causes.proofs.HandledSteps.{Took, Onward, bytes_in}
 use Rattle.story_ticks.specs.Below.outcome_stories.specs.Stories.{In}
+use Rattle.sock_words.specs.Words.{id_slot, id_first}
 
 -- ## What a program takes
 

@@ -51,8 +51,8 @@ use Rattle.call_causes.proofs.HandledTicks.{sit}
 use Rattle.call_causes.proofs.HandledPosts.{Claims, Silence}
 use Rattle.call_causes.proofs.HandledBehind.{IsBehind, behind_along, behind_claims, late_claims, late_behind}
 use Rattle.call_causes.proofs.HandledRuns.{AreKnown, setup_known, played_known, Reads', reads_along, claims_along, posts_claim, silence_along, decides_silent}
-use Rattle.corr_core.specs.Word.{id_slot, id_first}
 use Rattle.story_ticks.specs.Below.outcome_stories.specs.Stories.{In}
+use Rattle.sock_words.specs.Words.{id_slot, id_first}
 
 each_at : {A : Type 0} (P : A → Type 0) (xs : List A) → AllByRecursion P xs → (i : ℕ) (x : A) → get_elem? xs i ≡ some x → P x
 each_at P [] all i x at = absurd (some-ne-none x (sym at))

@@ -4,7 +4,7 @@ use Rattle.std.specs.Prelude.{None}
 use Rattle.std.specs.Prelude.{Option as Maybe}
 use mathlib.Core.Logic.{dite}
 use native.Mathlib.Decide.{ℕ_discrete}
-use Rattle.corr_core.specs.Word.{Parts, parts, id_slot, id_first}
+use Rattle.corr_core.specs.Word.{Parts, parts}
 use Rattle.corr_core.specs.Law.{total, only, is_ended}
 use Rattle.corr_core.specs.declared.marks.Note.{Note}
 use Rattle.corr_core.specs.declared.marks.Note.TheVariants.{Tried, Made, Ended, Locker, Queued, Attempt, Saw}
@@ -32,6 +32,7 @@ use Rattle.call_errors.specs.Ending.{EndedWith, failed}
 use Rattle.call_errors.specs.Handling.{Advanced, Decided, ends, starves, waits, goes_on}
 use Rattle.call_errors.specs.Posting.{Handled, PostedBy}
 use Rattle.call_errors.specs.Asking.{found_id, TimedOut, SawEnd}
+use Rattle.sock_words.specs.Words.{id_slot, id_first}
 
 -- the outcome is that of the call with this id, which failed
 abbrev pub fails : ℕ → Outcome → ℕ

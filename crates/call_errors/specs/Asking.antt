@@ -3,7 +3,7 @@ use Rattle.std.specs.Prelude.{◌≡◌, ◌≢◌, ℕ, ◌≤◌, ◌⊎◌, f
 use Rattle.sock_words.specs.Codes.{ERPCTIMEDOUT}
 use Rattle.sock_words.specs.declared.outcome.Outcome.{Outcome}
 use Rattle.sock_words.specs.declared.outcome.Outcome.TheVariants as outcome
-use Rattle.corr_core.specs.Word.{parts, id_slot, id_first}
+use Rattle.corr_core.specs.Word.{parts}
 use Rattle.corr_core.specs.Law.{total}
 use Rattle.corr_core.specs.declared.marks.Plan.{Plan}
 use Rattle.corr_core.specs.declared.marks.View.{View}
@@ -17,6 +17,7 @@ use Rattle.call_errors.specs.declared.asking.Ask.{Ask}
 use Rattle.call_errors.specs.declared.asking.Ask.TheVariants.{Expire, Join}
 use Rattle.call_errors.specs.Books.{CallStand}
 use Rattle.call_errors.specs.Posting.{PostedAs}
+use Rattle.sock_words.specs.Words.{id_slot, id_first}
 
 -- the operation's word was 0, and the seat knew of no id there
 pub record FoundNone (p : Plan) (operation : ℕ) (s t : CallStand) : Type 0 where

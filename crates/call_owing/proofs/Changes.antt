@@ -5,7 +5,7 @@ use native.Mathlib.Decide.{ℕ_discrete}
 use mathlib.Core.Option.{some, some-ne-none, some-injective}
 use lib.ListN.{get_elem?}
 use Rattle.atomic_table.proofs.Lists.{at_set}
-use Rattle.sock_words.specs.Words.{at_word_first, at_word_slot, at_word_attempt}
+use Rattle.sock_words.specs.Words.{at_word_first, at_word_slot, at_word_attempt, call_id, id_slot, id_first}
 use Rattle.sock_model.specs.declared.chain.Heading.{Heading}
 use Rattle.sock_model.specs.declared.home.Home.TheVariants.{Message}
 use Rattle.corr_core.specs.declared.marks.Plan.{Plan as IdPlan}
@@ -13,7 +13,6 @@ use Rattle.seat_programs.specs.Heads.{Retry}
 use Rattle.seat_programs.specs.Cores.{Core, waiting_at}
 use Rattle.call_owing.specs.Owing.{Owing, Among, duty_tokens}
 use Rattle.call_owing.specs.Sound.{id_word_of, at_of, retry_tokens, Owed, Past, tokens_at, Token, Distinct, HasEnded, IsAt, WasAt, IsOpen, ErrorPast, Failed, Stored, OwingLaw}
-use Rattle.corr_core.specs.Word.{call_id, id_slot, id_first}
 
 -- ## Lists
 

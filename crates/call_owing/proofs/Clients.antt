@@ -1,12 +1,12 @@
 -- Whole clients, and the ending, do what they owe.
 use Rattle.std.proofs.Common.{◌≡◌, ℕ, zero, suc, ◌+◌, ◌-◌, ◌/◌, ◌%◌, ◌==◌, Bool, true, false, cond, List, [], ◌∷◌, ◌++◌, Option, Some, None, refl, sym, ◌∙◌}
 use Rattle.sock_words.specs.declared.outcome.Outcome.TheVariants as outcomes
-use Rattle.sock_words.specs.Words.{socket_id_slot, vref_version}
+use Rattle.sock_words.specs.Words.{socket_id_slot, vref_version, NO_SOCKET}
 use Rattle.seat_programs.specs.declared.task.Op.{Op}
 use Rattle.seat_programs.specs.declared.task.Op.TheVariants as ops
 use Rattle.seat_programs.specs.declared.task.Task.{Task}
 use Rattle.seat_programs.specs.declared.task.Sizes.{Sizes}
-use Rattle.seat_programs.specs.Programs.{Program, Say, Sent, Retries, NO_SOCKET, release, address, reach, set_failed, make_socket, open_from, fail_outcome, fail}
+use Rattle.seat_programs.specs.Programs.{Program, Say, Sent, Retries, release, address, reach, set_failed, make_socket, open_from, fail_outcome, fail}
 use Rattle.seat_programs.specs.Sends.{accept, heading_of, claim_from, start, send}
 use Rattle.seat_programs.specs.Clients.{HeldLife, held_under, without_name, give_back, drop_of, operation, client_from, ending_of}
 use Rattle.call_owing.specs.Owing.{Owing, Free, with_keeps, stays}

@@ -15,7 +15,7 @@ use Rattle.call_owing.specs.Owing.{Duty, Owing, InList, DutyTo, Among}
 use Rattle.call_owing.specs.Owes.{OwesOn}
 use Rattle.call_owing.specs.Sound.{id_word_of, Owed, by_seat, by_retry, by_reader, SoundOwing, AllRest, retry_tokens}
 use Rattle.joint_runs.specs.Below.program_steps.proofs.Cases.{elem_there}
-use Rattle.corr_core.specs.Word.{call_id, id_slot, id_first}
+use Rattle.sock_words.specs.Words.{call_id, id_slot, id_first}
 
 pub none_held : (i : ℕ) (us : List IdView) → ((j : ℕ) (u : IdView) → get_elem? us j ≡ some u → u.tokens ≡ []) → flat_map (tokens_in i) us ≡ []
 none_held i [] all = refl

@@ -2,7 +2,7 @@
 use Rattle.std.proofs.Common.{◌≡◌, ◌≢◌, ℕ, ◌+◌, ◌<◌, ◌≤◌, inl, ⊎_elim, Bool, true, false, List, Option, get_or, refl, sym, ap, ◌∙◌, subst, arith}
 use mathlib.Core.Option.{some}
 use lib.ListN.{get_elem?}
-use Rattle.corr_core.specs.Word.{Parts, parts, call_id, id_slot, id_first}
+use Rattle.corr_core.specs.Word.{Parts, parts}
 use Rattle.corr_core.specs.declared.marks.Plan.{Plan as IdPlan}
 use Rattle.seat_programs.specs.id_rule.specs.Lawful as ids
 use Rattle.seat_programs.specs.Asides.{LockId}
@@ -11,6 +11,7 @@ use Rattle.seat_programs.specs.Cores.{Core, waiting_at}
 use Rattle.call_owing.specs.Owing.{Duty, Trying, Owing, Among, duty_tokens, MayUnlock, FindsOwe, FindsUnlock}
 use Rattle.call_owing.specs.Sound.{id_word_of, retry_tokens, Past, Token, ErrorPast, OwingLaw}
 use Rattle.call_owing.proofs.Changes.{among_left}
+use Rattle.sock_words.specs.Words.{call_id, id_slot, id_first}
 
 module _ (q : IdPlan) (life : ℕ → Option ℕ) (calls : List ℕ) (c : Core) (us : List Owing) (i : ℕ) (u : Owing) (law : OwingLaw q life calls c us) (at : get_elem? us i ≡ some u) where
   tries : (id n : ℕ) → u.duty ≡ Trying id n → Token c us id n i

@@ -4,12 +4,13 @@ use mathlib.Core.Option.{some}
 use lib.ListN.{get_elem?}
 use Rattle.sock_model.specs.declared.chain.Heading.{Heading}
 use Rattle.sock_model.specs.declared.home.Home.TheVariants.{Message}
-use Rattle.corr_core.specs.Word.{Parts, id_slot}
+use Rattle.corr_core.specs.Word.{Parts}
 use Rattle.corr_core.specs.declared.marks.Plan.{Plan as IdPlan}
 use Rattle.seat_programs.specs.id_rule.specs.Lawful as ids
 use Rattle.seat_programs.specs.Cores.{Core, waiting_at}
 use Rattle.call_owing.specs.Owing.{Duty, Free, Owing, Among, duty_tokens}
 use Rattle.call_owing.specs.Sound.{id_word_of, retry_tokens, Past, Token, Distinct, Stored, OwingLaw}
+use Rattle.sock_words.specs.Words.{id_slot}
 
 -- nobody has a duty, knows an attempt or keeps a retry, no message is at home, and each link that gets a socket has its reader
 pub record Begins (q : IdPlan) (life : ℕ → Option ℕ) (calls : List ℕ) (c : Core) (us : List Owing) : Type 0 where

@@ -1,6 +1,6 @@
 -- Posts, decisions and the loops that give a lock back: who makes them does what it owes.
 use Rattle.std.proofs.Common.{◌≡◌, ◌≢◌, ℕ, ◌+◌, ◌<◌, ◌≤◌, inl, inr, ◌&&◌, ◌||◌, not, Bool, true, false, cond, eqb, eqb-true, eq-eqb, ne_eqb, leb, Option, refl, sym, ap, ◌∙◌, subst, arith}
-use Rattle.corr_core.specs.Word.{Parts, parts, locked_word, posted_word, unlocked_word, code_of, attempt_of, error_of, id_slot, id_first, call_id}
+use Rattle.corr_core.specs.Word.{Parts, parts, locked_word, posted_word, unlocked_word, code_of, attempt_of, error_of}
 use Rattle.corr_core.specs.Law.{LAST}
 use Rattle.corr_core.specs.Decisions.{ends_call}
 use Rattle.seat_programs.specs.sock_message.specs.Asked.{Asked}
@@ -15,6 +15,7 @@ use Rattle.call_owing.specs.Owing.{Duty, Free, Trying, Linked, Looking, Telling,
 use Rattle.call_owing.specs.Owing as owing
 use Rattle.call_owing.specs.Owes.{Further, PostsOwn, IsDue, MayDecide, MayAdvance, AtOwe, LeavesUnlocks, LeavesPosts, OwesOn}
 pub use Rattle.joint_runs.specs.Below.id_runs.proofs.Loops.{not_true, not_equal, and_left, and_right}
+use Rattle.sock_words.specs.Words.{id_slot, id_first, call_id}
 
 -- ## Numbers and truth values
 

@@ -6,12 +6,12 @@ use native.Mathlib.Decide.{ℕ_discrete}
 use mathlib.Core.Option as core
 use mathlib.Core.Option.{some, some-injective}
 use lib.ListN.{get_elem?}
-use Rattle.sock_words.specs.Words.{socket_id_version, socket_id_slot, vref_version, at_word, at_word_first, at_word_slot, at_word_attempt}
+use Rattle.sock_words.specs.Words.{socket_id_version, socket_id_slot, vref_version, at_word, at_word_first, at_word_slot, at_word_attempt, call_id, id_slot, id_first}
 use Rattle.sock_words.specs.declared.outcome.Outcome.{Outcome}
 use Rattle.sock_model.specs.declared.chain.Heading.{Heading}
 use Rattle.sock_model.specs.declared.home.Home.{Home}
 use Rattle.sock_model.specs.declared.home.Home.TheVariants.{Message}
-use Rattle.corr_core.specs.Word.{attempt_of, call_id, id_slot, id_first}
+use Rattle.corr_core.specs.Word.{attempt_of}
 use Rattle.corr_core.specs.declared.marks.Plan.{Plan as IdPlan}
 use Rattle.seat_programs.specs.Calls.{Call, AddRef, SetOdd, LookWord}
 use Rattle.seat_programs.specs.Cores.{Core, SeatState, waiting_at}

@@ -1,12 +1,12 @@
 -- The reader of a link does what it owes.
 use Rattle.std.proofs.Common.{◌≡◌, ℕ, ◌+◌, ◌-◌, ◌%◌, ◌<◌, ◌&&◌, ◌||◌, inl, inr, Bool, true, false, cond, eqb, nat_lt, List, [], ◌∷◌, Option, Some, None, length, refl, sym, ap, ◌∙◌, subst, arith}
-use Rattle.sock_words.specs.Words.{socket_id_slot, socket_id_version, vref_version, at_word_first, at_word_slot, at_word_link, at_word_attempt}
+use Rattle.sock_words.specs.Words.{socket_id_slot, socket_id_version, vref_version, at_word_first, at_word_slot, at_word_link, at_word_attempt, call_id, id_slot, id_first, NO_SOCKET}
 use Rattle.sock_words.specs.Codes.{is_final}
-use Rattle.corr_core.specs.Word.{parts, error_of, code_of, attempt_of, call_id, id_slot, id_first}
+use Rattle.corr_core.specs.Word.{parts, error_of, code_of, attempt_of}
 use Rattle.seat_programs.specs.brpc_model.specs.Frame.{Frame}
 use Rattle.seat_programs.specs.Calls.{AddRef, StoreCode, SubRef}
 use Rattle.seat_programs.specs.Heads.{Reads, Discards, Posting, HasLocked, Ended}
-use Rattle.seat_programs.specs.Programs.{Program, Do, Rest, Round, NO_SOCKET, address, release, set_failed}
+use Rattle.seat_programs.specs.Programs.{Program, Do, Rest, Round, address, release, set_failed}
 use Rattle.seat_programs.specs.Posts.{post_with, decide, decided, is_stale}
 use Rattle.seat_programs.specs.Readers.{LIMIT, slot_in, kept_for, ends_with, posted_last, post_each, thrown_away, read, reader}
 use Rattle.call_owing.specs.Owing.{Free, Telling, Owing, freed, with_duty, with_known, with_left, with_dead, loaded, KnowsError, CallMove, stays, fails, gone}

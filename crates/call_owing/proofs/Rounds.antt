@@ -1,6 +1,6 @@
 -- From the head of each loop one round goes on with what is owed.
 use Rattle.std.proofs.Common.{◌≡◌, ℕ, ◌+◌, ◌-◌, ◌&&◌, not, Bool, true, false, cond, eqb, eqb-true, nat_lt, List, [], ◌∷◌, ◌++◌, Option, Some, None, length, refl, sym, ap, ◌∙◌, subst}
-use Rattle.corr_core.specs.Word.{Parts, parts, locked_word, posted_word, id_first, call_id}
+use Rattle.corr_core.specs.Word.{Parts, parts, locked_word, posted_word}
 use Rattle.corr_core.specs.Versions.{is_early}
 use Rattle.seat_programs.specs.brpc_model.specs.Frame.{Frame}
 use Rattle.seat_programs.specs.brpc_model.specs.Stream as streams
@@ -8,7 +8,7 @@ use Rattle.seat_programs.specs.brpc_model.specs.ResponseOutcome.{ending_of}
 use Rattle.seat_programs.specs.Calls.{LoadOpen}
 use Rattle.seat_programs.specs.Asides.{LockId, Taking, Bytes, Nothing, Closed}
 use Rattle.seat_programs.specs.Heads.{Head, Exit, Sought, Version, Reading, Posts, Unlocks, Decides, Locks, Joins, Opens, Reads, Discards, Locking, NotThere, Has, Ended}
-use Rattle.seat_programs.specs.Programs.{Program, Say, Round, NO_SOCKET}
+use Rattle.seat_programs.specs.Programs.{Program, Say, Round}
 use Rattle.seat_programs.specs.Posts.{packed, is_first, is_sought, locking}
 use Rattle.seat_programs.specs.Readers.{answer, answered, responses, read_on, took, discarded, last_of, slot_in, version_in, has_response, ended_by as how_ended, LIMIT}
 use Rattle.seat_programs.specs.Rounds.{round}
@@ -16,6 +16,7 @@ use Rattle.call_owing.specs.Owing.{Duty, Free, Trying, Linked, Looking, Telling,
 use Rattle.call_owing.specs.Owing as owing
 use Rattle.call_owing.specs.Owes.{MaySeek, FoundRange, AtOwe, LeavesLocks, LeavesOpens, LeavesOwe, OwesOn}
 use Rattle.call_owing.proofs.Posts.{was_free, same_further, not_true, not_false, and_left, way, pick, end_goes, locked_parts, posts_goes, decides_goes, unlocks_goes}
+use Rattle.sock_words.specs.Words.{id_first, call_id, NO_SOCKET}
 
 module _ (life : ℕ → Option ℕ) where
   -- ## Locks

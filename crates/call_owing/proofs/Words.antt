@@ -5,9 +5,9 @@ use mathlib.Core.Logic.{dite}
 use native.Mathlib.Decide.{ℕ_discrete}
 use mathlib.Core.Option.{some, some-injective}
 use lib.ListN.{get_elem?}
-use Rattle.sock_words.specs.Words.{at_word, at_word_first, at_word_slot, at_word_attempt}
+use Rattle.sock_words.specs.Words.{at_word, at_word_first, at_word_slot, at_word_attempt, call_id, id_slot, id_first}
 use Rattle.sock_words.specs.declared.outcome.Outcome.{Outcome}
-use Rattle.corr_core.specs.Word.{Parts, attempt_of, call_id, id_slot, id_first}
+use Rattle.corr_core.specs.Word.{Parts, attempt_of}
 use Rattle.corr_core.specs.declared.marks.Plan.{Plan as IdPlan}
 use Rattle.seat_programs.specs.Heads.{Retry}
 use Rattle.seat_programs.specs.Cores.{Core, SeatState, Calls, waiting_at}

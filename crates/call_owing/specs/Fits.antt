@@ -3,7 +3,7 @@ use Rattle.std.specs.Prelude.{ℕ, ◌≡◌, ◌≢◌, ◌%◌, List, [], ◌�
 use mathlib.Core.Option as core
 use lib.ListN.{get_elem?}
 use Rattle.sock_words.specs.declared.plain.Plan.{Plan}
-use Rattle.sock_words.specs.Words.{socket_id_version, socket_id_slot, vref_version, at_word_first, at_word_slot}
+use Rattle.sock_words.specs.Words.{socket_id_version, socket_id_slot, vref_version, at_word_first, at_word_slot, call_id}
 use Rattle.sock_model.specs.declared.chain.Heading.{Heading}
 use Rattle.sock_model.specs.declared.home.Home.{Home}
 use Rattle.sock_model.specs.declared.home.Home.TheVariants.{Message}
@@ -16,7 +16,6 @@ use Rattle.seat_programs.specs.StepTables.{word_of, word_after}
 use Rattle.seat_programs.specs.Ticks.{Answer, Moment, taken}
 use Rattle.call_owing.specs.Owing.{Linked, Owing, InList, FindsCall}
 use Rattle.call_owing.specs.Sound.{at_of, FailedIn}
-use Rattle.corr_core.specs.Word.{call_id}
 use Rattle.seat_programs.specs.Rounds.{first_step}
 
 module _ (p : Plan) (life : ℕ → Option ℕ) (c : Core) (u : Owing) (call : Call) where

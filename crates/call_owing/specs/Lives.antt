@@ -2,7 +2,7 @@
 use Rattle.std.specs.Prelude.{ℕ, ◌≡◌, ◌≢◌, ◌-◌, ◌⊎◌, ◌==◌, true, if◌then◌else◌, List, [], ◌∷◌, ◌++◌, slice_index, Option, Some, None}
 use mathlib.Core.Option as core
 use lib.ListN.{get_elem?}
-use Rattle.sock_words.specs.Words.{at_word_first, at_word_slot}
+use Rattle.sock_words.specs.Words.{at_word_first, at_word_slot, NO_SOCKET, call_id}
 use Rattle.sock_model.specs.declared.home.Home.{Home}
 use Rattle.sock_model.specs.declared.home.Home.TheVariants.{Link}
 use Rattle.sock_words.specs.declared.plain.Plan.{Plan}
@@ -13,14 +13,13 @@ use Rattle.seat_programs.specs.brpc_model.specs.Operations.{Turn}
 use Rattle.seat_programs.specs.Tasks.{plan_of}
 use Rattle.seat_programs.specs.Scripts.{set_up, IsRunWithCalls}
 use Rattle.seat_programs.specs.Asides.{StoreAt, TakeBytes, Closed}
-use Rattle.seat_programs.specs.Programs.{Program, Aside, NO_SOCKET}
+use Rattle.seat_programs.specs.Programs.{Program, Aside}
 use Rattle.seat_programs.specs.Cores.{Core, SeatState, link_place}
 use Rattle.seat_programs.specs.Ticks.{Answer, Moment, taken, ticked}
 use Rattle.joint_runs.specs.Below.id_runs.specs.Held.{IdView}
 use Rattle.joint_runs.specs.Below.id_runs.specs.Goes.{SoundIds}
 use Rattle.call_owing.specs.Owing.{Linked, Owing, InList}
 use Rattle.call_owing.specs.Sound.{at_of, FailedIn, SoundOwing}
-use Rattle.corr_core.specs.Word.{call_id}
 use Rattle.seat_programs.specs.Rounds.{first_step}
 
 -- the socket that a word of an `open` names

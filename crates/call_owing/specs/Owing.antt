@@ -1,10 +1,9 @@
 -- What a seat owes to a call: marks without words of their own, and how each step may change them.
 use Rattle.std.specs.Prelude.{ℕ, ◌≡◌, ◌≢◌, ◌+◌, ◌-◌, ◌%◌, ◌<◌, ◌≤◌, ◌⊎◌, ◌==◌, Bool, true, false, if◌then◌else◌, List, [], ◌∷◌, Option, Some, None}
-use Rattle.sock_words.specs.Words.{socket_id_version, socket_id_slot, vref_version, at_word, at_word_first, at_word_slot, at_word_link, at_word_attempt}
-use Rattle.corr_core.specs.Word.{Parts, parts, attempt_of, call_id, id_slot, id_first}
+use Rattle.sock_words.specs.Words.{socket_id_version, socket_id_slot, vref_version, at_word, at_word_first, at_word_slot, at_word_link, at_word_attempt, call_id, id_slot, id_first, NO_SOCKET}
+use Rattle.corr_core.specs.Word.{Parts, parts, attempt_of}
 use Rattle.seat_programs.specs.Calls.{Call, AddRef, SetOdd, LookWord, FindLink, LoadOpen, PutMessage}
 use Rattle.seat_programs.specs.Asides.{Step, MakeId, StoreAt, LoadAt, LoadIdWord, LockId, PostId, UnlockId, EndId, TakeBytes, Taking, Closed, Found}
-use Rattle.seat_programs.specs.Programs.{NO_SOCKET}
 use Rattle.seat_programs.specs.Posts.{advance_of, is_first}
 use Rattle.sock_model.specs.declared.chain.Heading.{Heading}
 

@@ -2,11 +2,11 @@
 use Rattle.std.specs.Prelude.{ℕ, ◌≡◌, ◌≢◌, ◌<◌, ◌⊎◌, ◌==◌, ◌&&◌, not, Bool, true, if◌then◌else◌, List, Option, Some}
 use mathlib.Core.Option as core
 use lib.ListN.{get_elem?}
-use Rattle.sock_words.specs.Words.{at_word, at_word_first, at_word_slot}
+use Rattle.sock_words.specs.Words.{at_word, at_word_first, at_word_slot, call_id, id_slot, id_first}
 use Rattle.sock_io.specs.declared.link.Put.{Put}
 use Rattle.sock_io.specs.declared.link.Ready.{Ready}
 use Rattle.sock_model.specs.declared.chain.Heading.{Heading}
-use Rattle.corr_core.specs.Word.{parts, call_id, id_slot, id_first}
+use Rattle.corr_core.specs.Word.{parts}
 use Rattle.corr_core.specs.declared.marks.Plan.{Plan as IdPlan}
 use Rattle.seat_programs.specs.sock_message.specs.Asked.{Asked}
 use Rattle.seat_programs.specs.Asides.{Step, ClaimId, PutCall, MakeId, StoreAt, LockId, PostId, UnlockId, TakeCall, Found}

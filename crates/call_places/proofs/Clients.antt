@@ -33,7 +33,7 @@ use Rattle.call_places.proofs.Counts.{call_in, by_retry, Knows, tried_few, made_
 use Rattle.call_places.proofs.Labels.{at_place, again_at, own_place, none_again}
 use Rattle.call_places.proofs.Numbers.{numbered, own_calls, own_labels, low_number, no_labels}
 use Rattle.call_places.proofs.Ids.{IdLaws, IsIdOf, version_low, lock_id, one_id, some_made}
-use Rattle.corr_core.specs.Word.{id_slot, id_first}
+use Rattle.sock_words.specs.Words.{id_slot, id_first}
 
 -- a client's whole run
 pub record Client {O : Type 0} (g : Ghosts O) (state : O → OutState) (p : Plan) (q : id_plan.Plan) : Type 0 where

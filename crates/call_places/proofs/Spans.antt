@@ -2,12 +2,12 @@
 use Rattle.std.proofs.Common.{◌≡◌, ℕ, ◌⊎◌, inl, inr, Bool, true, false, List, [], ◌∷◌, Some, None, refl, ap}
 use Rattle.std.specs.Prelude.{Option, position, ◌==◌}
 use Rattle.std.specs.List.{remove}
-use Rattle.sock_words.specs.Words.{at_word_link}
+use Rattle.sock_words.specs.Words.{at_word_link, id_slot}
 use Rattle.sock_words.specs.declared.at_word.AtWord.{AtWord}
 use Rattle.sock_words.specs.declared.outcome.Outcome.{Outcome}
 use Rattle.sock_words.specs.declared.outcome.Outcome.TheVariants.{CallFailed}
 use Rattle.sock_io.specs.Link.{InState}
-use Rattle.corr_core.specs.Word.{Parts, parts, id_slot}
+use Rattle.corr_core.specs.Word.{Parts, parts}
 use Rattle.corr_core.specs.declared.marks.Note.TheVariants.{Ended}
 use Rattle.corr_core.specs.declared.marks.Plan.{Plan}
 use Rattle.corr_core.specs.declared.marks.View.{View}

@@ -1,6 +1,6 @@
 -- What a seat has still to do with a call id, by where it stands; k is what follows.
 use Rattle.std.specs.Prelude.{ℕ, ◌≡◌, ◌<◌, Bool, true, false, not, IsTrue, nat_le, if◌then◌else◌, Option, Some, None}
-use Rattle.corr_core.specs.Word.{parts, code_of, id_slot}
+use Rattle.corr_core.specs.Word.{parts, code_of}
 use Rattle.corr_core.specs.Law.{LAST}
 use Rattle.seat_programs.specs.Asides.{Step, FreeId, EndId}
 use Rattle.seat_programs.specs.Heads.{Retry, Sought, Posts, Unlocks, Decides, Locks, Posting, Unlocking, Deciding, HasEnded, GoesOn, Locking}
@@ -19,6 +19,7 @@ use Rattle.call_points.specs.declared.ending.EndStep.TheVariants as ends
 use Rattle.call_points.specs.declared.word_step.WordStep.{WordStep}
 use Rattle.call_points.specs.declared.word_step.WordStep.TheVariants as id_steps
 use Rattle.call_points.specs.declared.locking.Locker.{Locker}
+use Rattle.sock_words.specs.Words.{id_slot}
 
 -- ## The end of a range
 

@@ -1,6 +1,6 @@
 -- What writers, attempts and calls say has its cause.
 use Rattle.std.proofs.Common.{◌≡◌, ◌≢◌, ℕ, zero, suc, ◌+◌, ◌-◌, ◌/◌, ◌%◌, ◌≤◌, inl, inr, ◌==◌, ◌&&◌, Bool, true, false, cond, eqb, leb, nat_lt, nat_le, List, length, refl, sym, ap, ◌∙◌, subst, arith}
-use Rattle.sock_words.specs.Words.{socket_id_version, socket_id_slot, vref_version, vref_nref, at_word, at_word_attempt, ticket_generation, ticket_request}
+use Rattle.sock_words.specs.Words.{socket_id_version, socket_id_slot, vref_version, vref_nref, at_word, at_word_attempt, ticket_generation, ticket_request, IDLE, UNCONNECTED, id_slot, id_first}
 use Rattle.sock_words.specs.declared.plain.Plan.{Plan}
 use Rattle.sock_io.specs.declared.link.Put.{Put}
 use Rattle.sock_io.specs.declared.link.Put.TheVariants as puts
@@ -8,7 +8,6 @@ use Rattle.sock_io.specs.declared.link.Ready.{Ready}
 use Rattle.sock_io.specs.declared.link.Ready.TheVariants as asks
 use Rattle.sock_model.specs.declared.chain.Heading.{Heading}
 use Rattle.sock_model.specs.Entries.{ticket_of}
-use Rattle.sock_model.specs.Memory.{IDLE, UNCONNECTED}
 use Rattle.corr_core.specs.declared.marks.Plan.{Plan as IdPlan}
 use Rattle.sock_message.specs.Asked.{Asked, frame_of}
 use Rattle.seat_programs.specs.declared.task.Task.{Task}
@@ -26,7 +25,6 @@ use Rattle.call_stories.specs.Scenes.{Scene, IsOther}
 use Rattle.call_stories.specs.Says.{Mark, with_slot, IsFree, Again}
 use Rattle.call_stories.proofs.Lasting.{far}
 use Rattle.call_stories.proofs.Posts.{speech, way, again_same, then_on, then_does, then_way, follows_later, then_follows, post_says}
-use Rattle.corr_core.specs.Word.{id_slot, id_first}
 
 module _ (p : Plan) (q : IdPlan) (clients : List (List Task)) (gives : ℕ → List ℕ) where
   open speech p q clients gives use {Tells, Later', Next, Ends}

@@ -4,7 +4,7 @@ use mathlib.Core.Option.{Option, none, some}
 use lib.ListN.{get_elem?}
 use Rattle.seat_programs.specs.brpc_model.specs.Items.{Item}
 use Rattle.seat_programs.specs.brpc_model.specs.Operations.{Turn}
-use Rattle.corr_core.specs.Word.{parts, call_id}
+use Rattle.corr_core.specs.Word.{parts}
 use Rattle.seat_programs.specs.Asides.{Step, Found, PostId, Taking}
 use Rattle.seat_programs.specs.Programs.{Program, Aside}
 use Rattle.seat_programs.specs.Beside.{found_in}
@@ -13,6 +13,7 @@ use Rattle.seat_programs.specs.Ticks.{Moment, taken}
 use Rattle.seat_programs.specs.Scripts.{IsRunWithCalls}
 use Rattle.call_stories.specs.Lists.{shows_in_run}
 use Rattle.seat_programs.specs.Rounds.{first_step}
+use Rattle.sock_words.specs.Words.{call_id}
 
 -- an error that an id took
 pub record Post : Type 0 where

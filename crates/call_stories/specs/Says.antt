@@ -2,7 +2,7 @@
 use Rattle.std.specs.Prelude.{ℕ, ◌≡◌, ◌≢◌, ◌+◌, ◌<◌, ◌≤◌, ◌⊎◌, Bool, true, false, List, [], ◌∷◌, ◌++◌, slice_get, Option, Some, None}
 use Rattle.std.specs.List.{AllByRecursion}
 use Rattle.sock_words.specs.Codes.{EEOF, ERESPONSE, is_final}
-use Rattle.sock_words.specs.Words.{at_word_attempt}
+use Rattle.sock_words.specs.Words.{at_word_attempt, call_id, id_slot, id_first}
 use Rattle.sock_words.specs.declared.plain.Plan.{Plan}
 use Rattle.sock_io.specs.declared.link.Put.{Put}
 use Rattle.sock_io.specs.declared.link.Ready.{Ready}
@@ -10,7 +10,7 @@ use Rattle.sock_model.specs.declared.chain.Heading.{Heading}
 use Rattle.seat_programs.specs.brpc_model.specs.Frame.{Frame}
 use Rattle.seat_programs.specs.brpc_model.specs.Stream.{stream}
 use Rattle.seat_programs.specs.brpc_model.specs.Causes.{HasFault}
-use Rattle.corr_core.specs.Word.{Parts, parts, code_of, attempt_of, unlocked_word, call_id, id_slot, id_first}
+use Rattle.corr_core.specs.Word.{Parts, parts, code_of, attempt_of, unlocked_word}
 use Rattle.corr_core.specs.declared.marks.Plan.{Plan as IdPlan}
 use Rattle.corr_core.specs.Decisions.{WHOLE}
 use Rattle.sock_message.specs.Asked.{Asked, name_of}

@@ -8,7 +8,7 @@ use Rattle.seat_programs.specs.brpc_model.specs.Meta.{ResponseMeta}
 use Rattle.seat_programs.specs.brpc_model.specs.Frame.{Frame}
 use Rattle.seat_programs.specs.brpc_model.specs.Stream.{stream}
 use Rattle.seat_programs.specs.brpc_model.specs.Causes.{HasFault}
-use Rattle.corr_core.specs.Word.{parts, error_of, code_of, attempt_of, id_slot, id_first}
+use Rattle.corr_core.specs.Word.{parts, error_of, code_of, attempt_of}
 use Rattle.corr_core.specs.declared.marks.Plan.{Plan as IdPlan}
 use Rattle.corr_core.specs.Decisions.{WHOLE}
 use Rattle.seat_programs.specs.id_rule.specs.Lawful.{id_index, call_index}
@@ -24,6 +24,7 @@ use Rattle.call_stories.specs.Posts.{Post}
 use Rattle.call_stories.specs.Decided.{Decision}
 use Rattle.outcome_stories.specs.Stories.{In}
 use Rattle.seat_programs.specs.brpc_model.specs.Why.{HasCode}
+use Rattle.sock_words.specs.Words.{id_slot, id_first}
 
 -- the id of a call, which has the versions behind it, as many as the call's range less one
 pub record Birth : Type 0 where

@@ -36,7 +36,7 @@ use Rattle.call_told.proofs.Ends.{made_silent, counted_here}
 use Rattle.call_told.proofs.Growing.{Grows}
 use Rattle.call_told.proofs.Lists.{all_at, last_there}
 use Rattle.call_told.proofs.Moves.{attempted_by, Fits, made_moves, end_moves}
-use Rattle.corr_core.specs.Word.{id_slot, id_first}
+use Rattle.sock_words.specs.Words.{id_slot, id_first}
 
 -- of an operation, by what the client told of its own and what its seat of the ids knows
 pub data HasCome (q : id_plan.Plan) (x : Task) (told : List Told) (v : View Asked) : Type 0 where

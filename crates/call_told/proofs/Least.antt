@@ -33,7 +33,7 @@ use Rattle.call_told.proofs.Lists.{all_at}
 use Rattle.call_told.proofs.Once.{told_noted}
 use Rattle.call_told.proofs.Resting.{is_word, IsSeen, rest_seen, seen_ended}
 use Rattle.call_told.proofs.Tallies.{Tally, rest_accounts, version_low}
-use Rattle.corr_core.specs.Word.{id_slot, id_first}
+use Rattle.sock_words.specs.Words.{id_slot, id_first}
 
 -- ## One of a list
 

@@ -2,7 +2,7 @@
 use Rattle.std.proofs.Common.{◌≡◌, ℕ, ◌≤◌, true, false, cond, List, [], ◌∷◌, ◌++◌, append_assoc, Some, refl, sym, ap, ◌∙◌, arith}
 use Rattle.std.specs.List.{AllByRecursion, flat_map}
 use Rattle.std.specs.Prelude.{Option as Maybe, slice_get}
-use Rattle.corr_core.specs.Word.{Parts, parts, id_slot, id_first}
+use Rattle.corr_core.specs.Word.{Parts, parts}
 use Rattle.corr_core.specs.Law.{total, is_any_made}
 use Rattle.corr_core.specs.declared.marks.Note.{Note}
 use Rattle.corr_core.specs.declared.marks.Note.TheVariants.{Ended, Locker, Queued}
@@ -20,6 +20,7 @@ use Rattle.corr_id.proofs.Seats.{notes_append, total_append}
 use Rattle.call_deeds.specs.Below.RpcClient.Told.{Told}
 use Rattle.call_told.specs.Answers.{HasNoted, HasEnded, ToldFrom}
 use Rattle.call_told.proofs.Lists.{at_front, at_back, all_both, all_then}
+use Rattle.sock_words.specs.Words.{id_slot, id_first}
 
 -- none of these is that an id was made
 abbrev pub NoneMade : List (Noted Asked) → Type 0

@@ -16,7 +16,7 @@ use Rattle.call_deeds.specs.Below.RpcReader.Resting.{RestEnded}
 use Rattle.call_told.specs.Once.{told_ends, ToldOnce}
 use Rattle.call_told.proofs.Balance.{noted_ends, Accounted, AreBalanced, balanced_all}
 use Rattle.call_told.proofs.Tallies.{Accounts, rest_accounts, version_low}
-use Rattle.corr_core.specs.Word.{id_slot, id_first}
+use Rattle.sock_words.specs.Words.{id_slot, id_first}
 
 -- memory was not wanting
 pub calm_accounts : (b b' : Books) → Accounts b b' → b'.starved ≡ false → Accounted b.told b.view.notes b'.told b'.view.notes

@@ -7,11 +7,11 @@ use mathlib.Core.Logic.{dite}
 use mathlib.Core.Option.{some, some-injective, some-ne-none}
 use native.Mathlib.Decide.{ℕ_discrete, dec_le}
 use lib.ListN.{get_elem?}
-use Rattle.sock_words.specs.Words.{at_word_link}
+use Rattle.sock_words.specs.Words.{at_word_link, id_slot, id_first}
 use Rattle.sock_words.specs.declared.at_word.AtWord.{AtWord}
 use Rattle.sock_words.specs.declared.outcome.Outcome.{Outcome}
 use Rattle.sock_words.specs.declared.outcome.Outcome.TheVariants.{CallFailed}
-use Rattle.corr_core.specs.Word.{Parts, parts, locked_word, id_slot, id_first}
+use Rattle.corr_core.specs.Word.{Parts, parts, locked_word}
 use Rattle.corr_core.specs.Law.{total, is_ended}
 use Rattle.corr_core.specs.declared.marks.Note.{Note}
 use Rattle.corr_core.specs.declared.marks.Note.TheVariants.{Ended}

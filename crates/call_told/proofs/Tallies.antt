@@ -3,7 +3,7 @@ use Rattle.std.proofs.Common.{◌≡◌, ℕ, zero, suc, ◌+◌, ◌*◌, ◌<�
 use Rattle.std.specs.Prelude.{ℤ, Option, position, ◌==◌}
 use Rattle.std.specs.List.{remove}
 use Rattle.std.proofs.Math.Nat.{mod-lt}
-use Rattle.sock_words.specs.Words.{at_word_link}
+use Rattle.sock_words.specs.Words.{at_word_link, id_slot, id_first}
 use Rattle.sock_words.specs.declared.at_word.AtWord.{AtWord}
 use Rattle.sock_words.specs.declared.outcome.Outcome.{Outcome}
 use Rattle.sock_words.specs.declared.outcome.Outcome.TheVariants.{CallFailed}
@@ -11,7 +11,7 @@ use Rattle.brpc_model.specs.Frame as model
 use Rattle.brpc_model.specs.Meta.{ResponseMeta}
 use Rattle.brpc_model.specs.ResponseOutcome.{by_code, outcome_by, ending_of}
 use Rattle.sock_io.specs.Link.{InState}
-use Rattle.corr_core.specs.Word.{Parts, parts, id_slot, id_first}
+use Rattle.corr_core.specs.Word.{Parts, parts}
 use Rattle.corr_core.specs.Law.{only, is_ended}
 use Rattle.corr_core.specs.declared.marks.Note.{Note}
 use Rattle.corr_core.specs.declared.marks.Note.TheVariants.{Ended, Locker, Queued}

@@ -11,7 +11,7 @@ use Rattle.id_rule.specs.Lawful.{call_index, notes_of, is_stored}
 use Rattle.sock_message.specs.Asked.{Asked}
 use Rattle.call_deeds.specs.Below.RpcClient.Told.{Told}
 use Rattle.call_told.specs.Once.{ends_of, told_ends}
-use Rattle.corr_core.specs.Word.{id_slot, id_first}
+use Rattle.sock_words.specs.Words.{id_slot, id_first}
 
 -- 1 where the range with this first version was made for the call that is this operation
 abbrev pub is_made_for : ℕ → ℕ → Note Asked → ℕ

@@ -4,7 +4,7 @@ use Rattle.sock_words.specs.declared.outcome.Outcome.{Outcome}
 use Rattle.sock_words.specs.declared.outcome.Outcome.TheVariants.{Answered, Peer, CallFailed}
 use Rattle.corr_core.specs.Law.{total, only}
 use Rattle.call_deeds.specs.Below.RpcClient.Told.{Told}
-use Rattle.corr_core.specs.Word.{id_slot}
+use Rattle.sock_words.specs.Words.{id_slot}
 
 -- 1 where the outcome is the end of the call with this id, else 0
 abbrev pub ends_of : ℕ → Outcome → ℕ

@@ -1,12 +1,12 @@
 -- Each id that is open as the ending begins, in a run in which nothing went wrong, is that of a call whose request the link of its attempt took, which has the server and whose reader waits for bytes.
 use Rattle.std.proofs.Common.{◌≡◌, ◌≢◌, ℕ, ◌+◌, ◌<◌, ◌≤◌, ⊎_elim, List, ◌++◌, replicate, slice_get, Some, refl, sym, ap, ◌∙◌, subst, arith}
 use Rattle.sock_words.specs.declared.plain.Plan.{Plan}
-use Rattle.sock_words.specs.Words.{at_word, at_word_first, at_word_slot, at_word_link, at_word_attempt}
+use Rattle.sock_words.specs.Words.{at_word, at_word_first, at_word_slot, at_word_link, at_word_attempt, id_slot, id_first, call_id}
 use Rattle.brpc_model.specs.Items.{attempts_of}
 use Rattle.brpc_model.specs.Operations.{Operation, operations}
 use Rattle.brpc_model.specs.Places.{names}
 use Rattle.brpc_model.specs.Stream.{stream}
-use Rattle.corr_core.specs.Word.{Parts, id_slot, id_first, call_id}
+use Rattle.corr_core.specs.Word.{Parts}
 use Rattle.corr_core.specs.declared.marks.Plan.{Plan as IdPlan}
 use Rattle.corr_core.proofs.Notes.{at_length}
 use Rattle.id_rule.specs.Lawful.{local}

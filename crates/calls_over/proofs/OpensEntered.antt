@@ -2,7 +2,7 @@
 use Rattle.std.proofs.Common.{◌≡◌, ℕ, ◌<◌, ◌⊎◌, inl, inr, ⊎_elim, List, ◌++◌, replicate, sym, ap, ◌∙◌, subst, arith}
 use mathlib.Core.Option.{some}
 use lib.ListN.{get_elem?}
-use Rattle.sock_words.specs.Words.{at_word, at_word_link, at_word_attempt, socket_id_slot, socket_id_version}
+use Rattle.sock_words.specs.Words.{at_word, at_word_link, at_word_attempt, socket_id_slot, socket_id_version, id_slot, id_first}
 use Rattle.sock_model.specs.declared.chain.Entry.{Entry}
 use Rattle.sock_model.specs.declared.view.View.{View}
 use Rattle.sock_model.specs.Entries.{on}
@@ -39,7 +39,6 @@ use Rattle.calls_over.proofs.OpensHeld.{IsHeld, run_held}
 use Rattle.calls_over.proofs.OpensLog.{log, held_logged, logged_held, logged_on}
 use Rattle.calls_over.proofs.OpensNamed.{IsEarly}
 use Rattle.corr_core.proofs.Notes.{at_length}
-use Rattle.corr_core.specs.Word.{id_slot, id_first}
 
 module _ (script : List Item) (made : AreMade script) (turns : List Turn) (core : Core) (is : IsRunWithCalls script turns core) where
   abbrev rested : Core

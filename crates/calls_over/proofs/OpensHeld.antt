@@ -11,7 +11,6 @@ use Rattle.sock_model.specs.declared.chain.Right.{Right}
 use Rattle.sock_model.specs.declared.view.Hand.{Hand}
 use Rattle.sock_model.specs.declared.view.View.{View}
 use Rattle.sock_model.specs.ChainRows.{with_claim, entry_of, more, queued, righted, taken_right, ready_claim, filled_claim}
-use Rattle.sock_model.specs.Memory.{IDLE}
 use Rattle.sock_steps.proofs.Quiet.{either_way}
 use Rattle.seat_programs.specs.Calls.{Call, ClaimRequest, PutMessage, Unconnect, SwapHead}
 use Rattle.seat_programs.specs.Cores.{Core, found_at}
@@ -30,6 +29,7 @@ use Rattle.served_fits.specs.Below.outcome_stories.specs.Stories.{In}
 use Rattle.served_fits.specs.Below.outcome_causes.proofs.Plain.{in_left}
 use Rattle.served_fits.specs.Below.accept_counts.proofs.Views.{row_same}
 use Rattle.corr_core.proofs.Notes.{at_length}
+use Rattle.sock_words.specs.Words.{IDLE}
 
 module _ (e : Entry) where
   abbrev pub IsThere : List (List Entry) → Type 0

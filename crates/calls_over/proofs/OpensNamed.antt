@@ -36,7 +36,7 @@ use Rattle.served_fits.specs.Below.accept_counts.proofs.Early.{start, go, fittin
 use Rattle.served_fits.specs.Below.sent_once.proofs.Sends.{narrow, opening_bare}
 use Rattle.served_fits.specs.Below.accept_counts.proofs.Standing.{both}
 use Rattle.served_fits.specs.Below.accept_counts.proofs.Grounds.{setting}
-use Rattle.corr_core.specs.Word.{id_slot, id_first}
+use Rattle.sock_words.specs.Words.{id_slot, id_first}
 
 -- what is known of an at word that was stored before the ending
 pub record IsEarly (script : List Item) (turns : List Turn) (core : Core) (is : IsRunWithCalls script turns core) (o w : ℕ) : Type 0 where

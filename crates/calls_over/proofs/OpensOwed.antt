@@ -9,7 +9,7 @@ use mathlib.Core.Option.{Option as Maybe}
 use mathlib.Core.Option.{none, some}
 use lib.ListN.{get_elem?}
 use Rattle.chain_steps.proofs.Lists.{at_some}
-use Rattle.sock_words.specs.Words.{at_word, socket_id, socket_id_slot}
+use Rattle.sock_words.specs.Words.{at_word, socket_id, socket_id_slot, id_slot, id_first}
 use Rattle.sock_model.specs.declared.view.View.{View}
 use Rattle.sock_model.specs.Layout.{open_index}
 use Rattle.brpc_model.specs.Items.{Item}
@@ -58,7 +58,6 @@ use Rattle.served_fits.specs.Below.accept_counts.proofs.Standing.{Stands, restin
 use Rattle.served_fits.specs.Below.accept_counts.proofs.Standing as still
 use Rattle.served_fits.specs.Below.accept_counts.proofs.Grounds.{setting, stages}
 use Rattle.corr_core.proofs.Notes.{at_length}
-use Rattle.corr_core.specs.Word.{id_slot, id_first}
 
 -- ## A reader keeps no retry
 

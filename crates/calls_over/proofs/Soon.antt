@@ -28,7 +28,7 @@ use Rattle.corr_core.specs.declared.marks.Plan.{Plan as IdPlan}
 use Rattle.sock_message.specs.Asked.{request_of}
 use Rattle.seat_programs.specs.declared.task.Op.TheVariants as ops
 use Rattle.seat_programs.specs.declared.task.Task.{Task}
-use Rattle.corr_core.specs.Word.{Parts, id_slot, id_first}
+use Rattle.corr_core.specs.Word.{Parts}
 use Rattle.seat_programs.specs.Readers.{has_response, slot_in, version_in}
 use Rattle.seat_programs.specs.Cores.{Core}
 use Rattle.seat_programs.specs.Tasks.{numbered, plan_of, id_plan_of}
@@ -51,6 +51,7 @@ use Rattle.calls_over.proofs.Handled.{in_soon}
 use Rattle.calls_over.proofs.SoonPieces.{IsLow}
 use Rattle.calls_over.proofs.SoonRuns.{stands_before, never_soon}
 use Rattle.served_fits.specs.Below.ended_calls.proofs.Unanswered.{some_response}
+use Rattle.sock_words.specs.Words.{id_slot, id_first}
 
 -- ## Replies
 

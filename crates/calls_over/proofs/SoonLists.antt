@@ -14,7 +14,6 @@ use Rattle.sock_model.specs.declared.view.View.{View}
 use Rattle.sock_model.specs.Authors.{pick}
 use Rattle.sock_model.specs.ChainRows.{more, entry_of, queued, righted}
 use Rattle.sock_model.specs.Lawful.{Lawful}
-use Rattle.sock_model.specs.Memory.{IDLE}
 use Rattle.seat_programs.specs.Calls.{Call, SwapHead}
 use Rattle.seat_programs.specs.Cores.{Core, found_at}
 use Rattle.seat_programs.specs.StepTables.{word_of}
@@ -30,6 +29,7 @@ use Rattle.served_fits.specs.Below.programs_allowed.specs.sock_runs.proofs.LinkT
 use Rattle.served_fits.specs.Below.programs_allowed.specs.sock_runs.proofs.Ticks.{sound_ticks}
 use Rattle.served_fits.specs.Below.programs_allowed.specs.runs_end.proofs.WalksLeft.{message_lists, away_lists, home_lists, put_lists}
 use Rattle.served_fits.specs.Below.outcome_ticks.proofs.Accepting.{row_lists}
+use Rattle.sock_words.specs.Words.{IDLE}
 
 -- ## Lists of one seat
 

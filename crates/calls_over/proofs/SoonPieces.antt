@@ -31,7 +31,7 @@ use Rattle.served_fits.specs.served_runs.proofs.Frames.{IsPiece, piece_frames, I
 use Rattle.calls_over.proofs.SoonLists.{Stood, log_stood}
 use Rattle.calls_over.proofs.SoonWords.{bound_low}
 use Rattle.served_fits.specs.Below.own_decisions.proofs.OwnDecisionsTicks.{pair_self}
-use Rattle.corr_core.specs.Word.{id_slot, id_first}
+use Rattle.sock_words.specs.Words.{id_slot, id_first}
 
 -- ## Requests of ranges that have begun
 

@@ -7,7 +7,7 @@ use Rattle.brpc_model.specs.Reply.{reply, reply_frames}
 use Rattle.brpc_model.specs.Served.{first_of}
 use Rattle.brpc_model.specs.Stream.{stream, stream_from}
 use Rattle.served_fits.specs.Below.script_facts.proofs.Lists.{Has, has_later, all_at, all_from, filter_map_has}
-use Rattle.corr_core.specs.Word.{parts, id_slot, id_first}
+use Rattle.corr_core.specs.Word.{parts}
 use Rattle.corr_core.specs.declared.marks.Plan.{Plan as IdPlan}
 use Rattle.corr_core.specs.Versions.{is_early}
 use Rattle.id_rule.specs.Lawful.{id_index}
@@ -22,6 +22,7 @@ use Rattle.calls_over.proofs.SoonPieces.{IsLow}
 use Rattle.served_fits.specs.Below.call_causes.proofs.Run.{in_either}
 use Rattle.served_fits.specs.Below.call_stories.proofs.Posts.{and_right}
 use Rattle.served_fits.specs.Below.outcome_stories.specs.Stories.{In}
+use Rattle.sock_words.specs.Words.{id_slot, id_first}
 
 -- ## One reply
 

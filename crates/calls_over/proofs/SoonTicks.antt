@@ -36,8 +36,8 @@ use Rattle.calls_over.proofs.SoonPuts.{took_behind, took_before}
 use Rattle.calls_over.proofs.SoonReplies.{soon_of, given_late}
 use Rattle.served_fits.specs.Below.call_causes.proofs.Run.{in_either as in_two}
 use Rattle.calls_over.proofs.SoonWords.{begun_below, words_go}
-use Rattle.corr_core.specs.Word.{id_slot, id_first}
 use Rattle.served_fits.specs.Below.outcome_stories.specs.Stories.{In}
+use Rattle.sock_words.specs.Words.{id_slot, id_first}
 
 module _ (p : Plan) (q : IdPlan) (narrow : q.slots ≤ 65536) (is_call : Asked → Type 0) (short : (asked : Asked) → is_call asked → (id n : ℕ) → length (frame_of asked id n) ≤ 131072) (ids : ℕ → ℕ) (go : RetriesGo p) (k : ℕ) where
   -- how attempts stand at one moment, and what link k took

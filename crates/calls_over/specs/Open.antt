@@ -6,7 +6,7 @@ use Rattle.brpc_model.specs.Items.{Item, Shape}
 use Rattle.brpc_model.specs.Operations.{Turn, link_shapes}
 use Rattle.brpc_model.specs.Stream.{stream}
 use Rattle.sock_message.specs.Asked.{Asked, request_of}
-use Rattle.corr_core.specs.Word.{Parts, call_id}
+use Rattle.corr_core.specs.Word.{Parts}
 use Rattle.seat_programs.specs.Cores.{Core, SeatState}
 use Rattle.seat_programs.specs.Heads.{Exit, Reading, Reads}
 use Rattle.seat_programs.specs.Programs.{Program, Round}
@@ -15,6 +15,7 @@ use Rattle.seat_programs.specs.Tasks.{opens, plan_of, id_plan_of}
 use Rattle.served_fits.specs.Below.script_facts.proofs.Lists.{Has}
 use Rattle.served_fits.specs.Below.call_owing.specs.Sound.{id_word_of}
 use Rattle.served_fits.specs.served_runs.specs.Offered.{TookSoFar}
+use Rattle.sock_words.specs.Words.{call_id}
 
 module _ (script : List Item) (turns : List Turn) (core : Core) (is : IsRunWithCalls script turns core) where
   -- where the ending begins

@@ -1,19 +1,19 @@
 -- The ending and the readers are calm: a reader posts only errors that end their calls.
 use Rattle.std.proofs.Common.{◌≡◌, ℕ, ◌+◌, ◌-◌, ◌%◌, ◌<◌, ◌==◌, ◌&&◌, not, nat_lt, nat_le, Bool, true, false, cond, List, [], ◌∷◌, ◌++◌, length, refl, ap, ◌∙◌, arith}
-use Rattle.sock_words.specs.Words.{socket_id_version, socket_id_slot, vref_version, vref_nref, at_word_first, at_word_slot, at_word_link, at_word_attempt}
+use Rattle.sock_words.specs.Words.{socket_id_version, socket_id_slot, vref_version, vref_nref, at_word_first, at_word_slot, at_word_link, at_word_attempt, call_id, id_first, NO_SOCKET}
 use Rattle.sock_words.specs.Codes.{is_final}
 use Rattle.brpc_model.specs.Frame.{Frame}
 use Rattle.brpc_model.specs.Stream as streams
 use Rattle.brpc_model.specs.ResponseOutcome.{ending_of as outcome_of}
 use Rattle.sock_steps.proofs.Quiet.{either_way}
-use Rattle.corr_core.specs.Word.{parts, posted_word, code_of, error_of, call_id, id_first}
+use Rattle.corr_core.specs.Word.{parts, posted_word, code_of, error_of}
 use Rattle.corr_core.specs.Law.{LAST}
 use Rattle.corr_core.specs.Versions.{is_early}
 use Rattle.seat_programs.specs.Asides.{Taking, Bytes, Nothing, Closed}
 use Rattle.seat_programs.specs.Clients.{ending_of}
 use Rattle.seat_programs.specs.Heads.{Reading, Sought, Posting, WasGone, WasStale, WasCrowded, WasQueued, HasLocked, Locking, NotThere, Has, Ended}
 use Rattle.seat_programs.specs.Posts.{packed, is_first, is_stale, is_full, is_sought, judged, posts_round, post_with, end_id, locking}
-use Rattle.seat_programs.specs.Programs.{Program, Say, LAST_VERSION, NO_SOCKET, recycle, release, address, set_failed}
+use Rattle.seat_programs.specs.Programs.{Program, Say, LAST_VERSION, recycle, release, address, set_failed}
 use Rattle.seat_programs.specs.Readers.{LIMIT, has_response, slot_in, version_in, answer, answered, responses, read_on, took, discarded, kept_for, ends_with, posted_last, post_each, thrown_away, read, reader}
 use Rattle.send_causes.specs.Below.call_causes.proofs.HandledStates.{ends_final}
 use Rattle.calm_runs.specs.Calm.{IsCalm}

@@ -11,7 +11,7 @@ use Rattle.sock_words.specs.declared.plain.Plan.{Plan}
 use Rattle.sock_words.specs.declared.outcome.Outcome.{Outcome}
 use Rattle.sock_model.specs.declared.home.Home.{Home}
 use Rattle.sock_steps.proofs.Quiet.{either_way}
-use Rattle.corr_core.specs.Word.{parts, posted_word, code_of, id_slot}
+use Rattle.corr_core.specs.Word.{parts, posted_word, code_of}
 use Rattle.sock_message.specs.Asked.{Asked}
 use Rattle.seat_programs.specs.Asides.{Step, Found, PutCall, TakeCall, Taking}
 use Rattle.seat_programs.specs.Beside.{call_at, found_in}
@@ -29,6 +29,7 @@ use Rattle.send_causes.specs.Below.accept_counts.proofs.SeatTicks.{own_tick, tic
 use Rattle.calm_runs.specs.Calm.{IsCalm}
 use Rattle.calm_runs.proofs.Programs.{calm_end_id, calm_posts, calm_locking, calm_took, calm_discarded}
 use Rattle.seat_programs.specs.Rounds.{first_step}
+use Rattle.sock_words.specs.Words.{id_slot}
 
 shows_none : (f : SeatState → List ℕ) (c : Core) (i : ℕ) → ((seat : SeatState) → get_elem? c.seats i ≡ some seat → f seat ≡ []) → elim (get_elem? c.seats i) as (λ o. List ℕ) [ none ↦ [] | some seat ↦ f seat ] ≡ []
 shows_none f c i h = by (get_elem? c.seats i) refl

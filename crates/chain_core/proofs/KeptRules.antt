@@ -14,7 +14,6 @@ use Rattle.sock_model.specs.declared.chain.Stage.TheVariants.{Placed, Passes}
 use Rattle.sock_model.specs.declared.home.Home.{Home}
 use Rattle.sock_model.specs.declared.view.View.{View}
 use Rattle.sock_model.specs.Layout.{head_index, next_index, request_index}
-use Rattle.sock_model.specs.Memory.{IDLE, UNCONNECTED}
 use Rattle.sock_model.specs.ChainRows.{with_claim, fresh_claim, ready_claim, queued, new_right, righted, without_loose, with_right, without_right, walking_right, passing_right, reading_right, turned_right, freed_right, freed_stage}
 use Rattle.sock_model.specs.Reads.{link_home}
 use Rattle.sock_model.specs.Lawful.{Lawful}
@@ -37,7 +36,7 @@ use Rattle.sock_model.specs.Conditions.{HasClaim}
 use Rattle.chain_core.specs.Conditions.{MayLook, MayClaim, MaySwap, MayConnect, MayTry, MayPass, MayRead, MayRetire, MayTurnTo, MayFree}
 use Rattle.chain_core.specs.Rights.{TakesRight}
 use Rattle.chain_core.specs.Taken.{NotesTaken}
-use Rattle.sock_words.specs.Words.{ticket_request}
+use Rattle.sock_words.specs.Words.{ticket_request, IDLE, UNCONNECTED}
 
 -- ## Numbers
 

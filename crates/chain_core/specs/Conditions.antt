@@ -6,9 +6,8 @@ use Rattle.sock_words.specs.declared.plain.Plan.{Plan}
 use Rattle.sock_model.specs.declared.chain.Right.{Right}
 use Rattle.sock_model.specs.declared.chain.Stage.TheVariants.{Placed, Passes, Walks}
 use Rattle.sock_model.specs.declared.view.View.{View}
-use Rattle.sock_model.specs.Memory.{IDLE}
 use Rattle.sock_model.specs.Conditions.{HasRight, MayExchange, MayEmpty, MayTurn}
-use Rattle.sock_words.specs.Words.{ticket_request, ticket_generation}
+use Rattle.sock_words.specs.Words.{ticket_request, ticket_generation, IDLE}
 
 -- nothing: the step tells the seat nothing
 abbrev pub MayLook : Plan → View → Type 0

@@ -8,12 +8,12 @@ use Rattle.sock_model.specs.Entries.{ticket, on, nth}
 use Rattle.sock_model.specs.declared.chain.Right.{Right}
 use Rattle.sock_model.specs.declared.chain.Stage.TheVariants.{Writes, Placed, Passes, Empties, Walks, Turns}
 use Rattle.sock_model.specs.Tokens.{Tokens}
-use Rattle.sock_model.specs.Memory.{Memory, UNCONNECTED, IDLE}
+use Rattle.sock_model.specs.Memory.{Memory}
 use Rattle.sock_model.specs.Writing.{Counts, Connected, Waits, OnWalk, InStage, Held, Standing, absent, idle, busy}
 use Rattle.sock_model.specs.Chains.{Chains}
 use Rattle.chain_steps.proofs.Lists.{at_length, ticket_at_is, nth_some, nth_same, Distinct}
 use Rattle.chain_steps.proofs.Frames.{Same, Changed, one_token, no_token, in_size, on_distinct, standing_frame, in_use_frame, held_frame}
-use Rattle.sock_model.specs.sock_words.specs.Words.{ticket_request}
+use Rattle.sock_model.specs.sock_words.specs.Words.{ticket_request, UNCONNECTED, IDLE}
 
 pub slot_is : (e : Entry) → e.request < 65535 → ticket_request (ticket e) ≡ e.request
 slot_is e h = omega arith

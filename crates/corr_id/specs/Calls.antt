@@ -1,7 +1,7 @@
 -- What the calls say of a seat.
 use Rattle.std.specs.Prelude.{◌≡◌, ◌≢◌, ℕ, ◌+◌, ◌/◌, ◌%◌, ◌<◌, ◌≤◌, ◌⊎◌, Bool, true, false, cond, ◌==◌, List, [], ◌∷◌, ◌++◌, Some, None}
 use Rattle.std.specs.Prelude.{Option as Maybe}
-use Rattle.corr_core.specs.Word.{Parts, parts, error_of, locked_word, id_slot, id_first}
+use Rattle.corr_core.specs.Word.{Parts, parts, error_of, locked_word}
 use Rattle.corr_core.specs.Law.{LAST, total, only, pair, is_attempt}
 use Rattle.corr_core.specs.declared.marks.Hand.{Hand}
 use Rattle.corr_core.specs.declared.marks.Hand.TheVariants.{Empty, Full}
@@ -14,6 +14,7 @@ use Rattle.corr_core.specs.declared.marks.Kept.{Kept}
 use Rattle.corr_core.specs.declared.marks.View.{View}
 use Rattle.id_rule.specs.Lawful.{tokens_in, notes_of}
 use Rattle.id_rule.specs.Plays.{IsHome, Fitting, hand_of, with_hand, value_of, hand_by}
+use Rattle.sock_words.specs.Words.{id_slot, id_first}
 
 -- the word is free, or has another range than the version's
 abbrev pub OutOf : Parts → ℕ → Type 0

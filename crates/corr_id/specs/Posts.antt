@@ -1,13 +1,14 @@
 -- What a post says, by its answer.
 use Rattle.std.specs.Prelude.{◌≡◌, ◌≢◌, ℕ, ◌<◌, ◌≤◌, ◌⊎◌, Some, None}
 use Rattle.std.specs.Prelude.{Option as Maybe}
-use Rattle.corr_core.specs.Word.{parts, code_of, id_slot, id_first}
+use Rattle.corr_core.specs.Word.{parts, code_of}
 use Rattle.corr_core.specs.declared.marks.Note.TheVariants.{Queued}
 use Rattle.corr_core.specs.declared.marks.View.{View}
 use Rattle.corr_id.specs.declared.posts.Posted.{Posted}
 use Rattle.corr_id.specs.declared.posts.Posted.TheVariants.{Locked as HasLock, Queued as IsQueued, Gone, Stale, Crowded}
 use Rattle.id_rule.specs.Lawful.{tokens_in}
 use Rattle.corr_id.specs.Calls.{one, Quiet, Did, GotLock, HasId, LacksId, Found, FoundUpTo, error_in}
+use Rattle.sock_words.specs.Words.{id_slot, id_first}
 
 -- another attempt is current
 abbrev pub IsStale : Maybe ℕ → ℕ → Type 0

@@ -1,6 +1,6 @@
 // Ids that are locked by the version of an attempt.
 ghost use Rattle.std.specs.Prelude.{◌≡◌, ◌+◌, ◌*◌, ◌<◌, ◌≤◌, ◌⊎◌, ℕ, true, false, IfOk, IfErr};
-ghost use Rattle.corr_core.specs.Word.{parts, id_slot, id_first};
+ghost use Rattle.corr_core.specs.Word.{parts};
 ghost use Rattle.corr_core.specs.Law.{total, is_made};
 ghost use Rattle.id_rule.specs.Lawful.{notes_of};
 ghost use Rattle.corr_id.specs.Seats.{Sits, Stays};
@@ -11,6 +11,7 @@ use crate::calls::{IdGone, Locking, is_out_of};
 use crate::table::{IdSeat, IdTable};
 use sock_words::IdWord;
 use std::sync::Wait;
+ghost use Rattle.sock_words.specs.Words.{id_slot, id_first};
 
 impl<C> IdTable<C> {
     /// Locks an id by the version of an attempt, as `lock` does (`bthread_id_lock`). The id's own version, the first of its range,

@@ -1,6 +1,6 @@
 // Ids that are made, locked and ended.
 ghost use Rattle.std.specs.Prelude.{◌≡◌, ◌+◌, ◌*◌, ◌%◌, ◌<◌, ◌≤◌, ◌⊎◌, ℕ, [], ◌∷◌, true, false, IfOk, IfErr};
-ghost use Rattle.corr_core.specs.Word.{parts, id_slot, id_first};
+ghost use Rattle.corr_core.specs.Word.{parts};
 ghost use Rattle.corr_core.specs.Law.{LAST, total, is_made, is_advance, is_tried};
 ghost use Rattle.corr_core.specs.declared.marks.Hand.TheVariants.{Empty, Full};
 ghost use Rattle.corr_core.specs.declared.marks.Token.TheVariants.{Locked};
@@ -13,6 +13,7 @@ ghost use Rattle.corr_id.specs.Calls.{is_saw, is_at, Became, one, Claims, Locks,
 use crate::table::{IdSeat, IdTable};
 use sock_words::IdWord;
 use std::sync::Wait;
+ghost use Rattle.sock_words.specs.Words.{id_slot, id_first};
 
 /// There was no free slot. The content comes back.
 #[derive(Drop)]

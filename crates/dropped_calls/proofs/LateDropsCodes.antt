@@ -5,7 +5,7 @@ use mathlib.Core.Logic.{dite}
 use mathlib.Core.Option.{Option, none, some}
 use native.Mathlib.Decide.{ℕ_discrete, dec_le}
 use lib.ListN.{get_elem?}
-use Rattle.sock_words.specs.Words.{socket_id_version, socket_id_slot}
+use Rattle.sock_words.specs.Words.{socket_id_version, socket_id_slot, NO_SOCKET}
 use Rattle.sock_words.specs.declared.plain.Plan.{Plan}
 use Rattle.sock_model.specs.declared.view.View.{View}
 use Rattle.sock_model.specs.Layout.{open_index}
@@ -15,7 +15,7 @@ use Rattle.seat_programs.specs.Asides.{Taking}
 use Rattle.seat_programs.specs.Calls.{StoreCode, LoadCode}
 use Rattle.seat_programs.specs.Cores.{Core, SeatState, found_at}
 use Rattle.seat_programs.specs.StepTables.{word_of}
-use Rattle.seat_programs.specs.Programs.{Program, Do, Rest, NO_SOCKET}
+use Rattle.seat_programs.specs.Programs.{Program, Do, Rest}
 use Rattle.seat_programs.specs.Readers.{reader}
 use Rattle.seat_programs.specs.Ticks.{Moment, IsAnswered, ticked}
 use Rattle.refused_attempts.specs.Below.programs_allowed.specs.program_steps.specs.GoesOn.{GoesOn}

@@ -5,7 +5,7 @@ use mathlib.Core.Option.{none, some, some-injective, some-ne-none}
 use native.Mathlib.Decide.{ℕ_discrete}
 use lib.ListN.{get_elem?}
 use Rattle.atomic_table.proofs.Lists.{at_set, set_else}
-use Rattle.sock_words.specs.Words.{socket_id, socket_id_version, socket_id_slot, vref_version, vref_nref}
+use Rattle.sock_words.specs.Words.{socket_id, socket_id_version, socket_id_slot, vref_version, vref_nref, NO_SOCKET}
 use Rattle.sock_words.specs.declared.plain.Plan.{Plan}
 use Rattle.sock_model.specs.declared.view.View.{View}
 use Rattle.sock_model.specs.Layout.{ref_index, open_index}
@@ -20,7 +20,7 @@ use Rattle.seat_programs.specs.brpc_model.specs.Items.{Item}
 use Rattle.seat_programs.specs.brpc_model.specs.Operations.{Turn}
 use Rattle.seat_programs.specs.Calls.{Call, SetOdd}
 use Rattle.seat_programs.specs.Heads.{Retry}
-use Rattle.seat_programs.specs.Programs.{Program, Do, Rest, LAST_VERSION, NO_SOCKET, recycle, release}
+use Rattle.seat_programs.specs.Programs.{Program, Do, Rest, LAST_VERSION, recycle, release}
 use Rattle.seat_programs.specs.Clients.{ending_of}
 use Rattle.seat_programs.specs.Cores.{Core, SeatState, found_at, words_after, homes_after, resolved, next_step, waiting_at}
 use Rattle.seat_programs.specs.StepTables.{word_of, word_after}

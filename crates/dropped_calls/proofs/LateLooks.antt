@@ -3,11 +3,10 @@ use Rattle.std.proofs.Common.{◌≡◌, ℕ, zero, suc, ◌+◌, ◌/◌, ◌%�
 use Rattle.std.proofs.lemmas.Bool.{true≢false}
 use Rattle.std.specs.Prelude.{if◌then◌else◌}
 use mathlib.Core.Option.{none}
-use Rattle.sock_words.specs.Words.{socket_id_version, socket_id_slot, vref_version, at_word}
+use Rattle.sock_words.specs.Words.{socket_id_version, socket_id_slot, vref_version, at_word, IDLE, id_slot, id_first}
 use Rattle.sock_words.specs.declared.outcome.Outcome.TheVariants.{Unopened, Gone, Full}
 use Rattle.sock_model.specs.declared.chain.Heading.{Heading}
 use Rattle.sock_model.specs.Entries.{ticket_of}
-use Rattle.sock_model.specs.Memory.{IDLE}
 use Rattle.refused_attempts.specs.Below.sock_steps.proofs.Quiet.{either_way}
 use Rattle.sock_message.specs.Asked.{Asked, frame_of}
 use Rattle.seat_programs.specs.declared.task.Op.{Op}
@@ -32,7 +31,6 @@ use Rattle.refused_attempts.specs.Below.programs_allowed.specs.program_walks.pro
 use Rattle.refused_attempts.specs.Below.programs_allowed.specs.program_walks.proofs.ThroughSends.{through_block, through_write_link}
 use Rattle.refused_attempts.specs.Below.programs_allowed.specs.program_walks.proofs.ThroughCalls.{through_call, through_retry, through_join, through_reading}
 use Rattle.refused_attempts.specs.Below.programs_allowed.specs.program_walks.proofs.ThroughClients.{through_open, through_back, through_operation}
-use Rattle.corr_core.specs.Word.{id_slot, id_first}
 
 -- ## What a seat has in hand of a message
 

@@ -4,7 +4,7 @@ use Rattle.std.specs.List.{AllByRecursion}
 use mathlib.Core.Option.{some}
 use lib.ListN.{get_elem?}
 use Rattle.atomic_table.proofs.Lists.{at_set, set_again}
-use Rattle.sock_words.specs.Words.{socket_id_version, socket_id_slot, vref_version}
+use Rattle.sock_words.specs.Words.{socket_id_version, socket_id_slot, vref_version, IDLE, UNCONNECTED}
 use Rattle.sock_words.specs.declared.plain.Plan.{Plan}
 use Rattle.sock_io.specs.declared.link.Put.{Put}
 use Rattle.sock_io.specs.declared.link.Put.TheVariants.{Took, Again, Failed}
@@ -17,7 +17,6 @@ use Rattle.sock_model.specs.declared.view.Hand.{Hand}
 use Rattle.sock_model.specs.declared.view.View.{View}
 use Rattle.sock_model.specs.ChainRows.{with_claim, with_right, without_right, queued, righted, turned_right, placed_right, dropped_right, taken_right, put_right, ready_claim, filled_claim}
 use Rattle.sock_model.specs.Layout.{ref_index}
-use Rattle.sock_model.specs.Memory.{IDLE, UNCONNECTED}
 use Rattle.sock_model.specs.SlotRows.{looked, met_link}
 use Rattle.refused_attempts.specs.Below.sock_steps.proofs.Quiet.{either_way}
 use Rattle.seat_programs.specs.Calls.{Call, LookWord, ClaimRequest, PutMessage, Unconnect, SwapHead, EmptyHead, ReadNext, ReverseNext, FreeRequest, StorePlace, DropPlace}

@@ -11,7 +11,7 @@ use Rattle.sock_model.specs.Reads.{message, link_home}
 use Rattle.sock_model.specs.Messages.{Letter}
 use Rattle.sock_io.specs.declared.link.Put.{Put}
 use Rattle.sock_io.specs.declared.link.Ready.{Ready}
-use Rattle.corr_core.specs.Word.{parts, call_id}
+use Rattle.corr_core.specs.Word.{parts}
 use Rattle.seat_programs.specs.id_rule.specs.Lawful.{at_index}
 use Rattle.seat_programs.specs.Asides.{Step, Found, LoadAt, PostId, TakeBytes, Taking}
 use Rattle.seat_programs.specs.Beside.{at_last, taking_in, found_in}
@@ -29,6 +29,7 @@ use Rattle.attempted_calls.specs.accept_counts.specs.EndedCalls.{Load, loaded_wi
 use Rattle.ended_calls.proofs.EndedReads.{Tells, MayPost, tell_first, tell_next}
 use Rattle.attempted_calls.specs.accept_counts.proofs.Readings.{found_by}
 use Rattle.seat_programs.specs.Rounds.{first_step}
+use Rattle.sock_words.specs.Words.{call_id}
 
 -- a tick leaves the other seats as they are
 module _ (p : Plan) (c : Core) (m : Moment) (j : ℕ) (far : j ≢ m.seat) where

@@ -31,8 +31,8 @@ use Rattle.attempted_calls.specs.Below.call_stories.specs.Decided.{decided_by}
 use Rattle.attempted_calls.specs.Below.story_steps.proofs.Whys.{in_contains}
 use Rattle.attempted_calls.specs.Below.call_causes.proofs.HandledWhole.{PostedLate, soon_behind, silent_of_readers, failed_inside}
 use Rattle.attempted_calls.specs.sent_once.proofs.Beside.{gave_of_run, fixed_of_run, orders_here}
-use Rattle.corr_core.specs.Word.{id_slot, id_first}
 use Rattle.attempted_calls.specs.Below.outcome_stories.specs.Stories.{In}
+use Rattle.sock_words.specs.Words.{id_slot, id_first}
 
 pub some_response : (r : Option ResponseMeta) → IsSome r → has_response r ≡ true
 some_response (Some r) e = refl

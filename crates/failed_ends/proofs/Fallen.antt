@@ -9,7 +9,7 @@ use Rattle.atomic_table.specs.declared.shared.Seat.{Seat}
 use Rattle.sock_io.specs.declared.link.Out.{Ghosts}
 use Rattle.sock_io.specs.Link.{OutState}
 use Rattle.sock_words.specs.Codes.{EFAILEDSOCKET, EREQUESTS}
-use Rattle.sock_words.specs.Words.{socket_id_slot, socket_id_version}
+use Rattle.sock_words.specs.Words.{socket_id_slot, socket_id_version, id_slot}
 use Rattle.sock_words.specs.declared.outcome.Outcome.{Outcome}
 use Rattle.sock_words.specs.declared.plain.Plan.{Plan}
 use Rattle.sock_words.specs.declared.place_word.PlaceWord.{PlaceWord}
@@ -60,7 +60,6 @@ use Rattle.failed_reasons.proofs.Losses.{SawDead, SawFull, dead_later, full_late
 use Rattle.failed_reasons.proofs.Reaching.{Reaches, deeds_reach}
 use Rattle.failed_ends.proofs.Single.{IsNothing, not_accepted}
 use Rattle.failed_reasons.specs.call_whys.specs.call_places.specs.sock_deeds.proofs.Places.{map_back, map_there}
-use Rattle.corr_core.specs.Word.{id_slot}
 
 -- ## Of notes and operations
 

@@ -48,7 +48,7 @@ use Rattle.failed_reasons.specs.call_whys.specs.call_places.specs.sock_deeds.pro
 use Rattle.failed_reasons.specs.attempts_told.proofs.Senders.{HasMade, IsNoted, all_noted}
 use Rattle.failed_ends.proofs.Single.{none_there, one_there, again_id, first_id}
 use Rattle.failed_reasons.specs.call_whys.specs.call_places.specs.sock_deeds.proofs.Places.{map_back}
-use Rattle.corr_core.specs.Word.{id_slot, id_first}
+use Rattle.sock_words.specs.Words.{id_slot, id_first}
 
 -- ## The heading of a frame
 

@@ -62,7 +62,7 @@ use Rattle.failed_reasons.proofs.Losses.{IsAskedIn}
 use Rattle.failed_ends.proofs.Posters.{attempt_low}
 use Rattle.failed_reasons.specs.call_whys.specs.call_places.specs.sock_deeds.proofs.Places.{map_back}
 use Rattle.failed_reasons.proofs.Taken.{OneDeed}
-use Rattle.corr_core.specs.Word.{id_slot, id_first}
+use Rattle.sock_words.specs.Words.{id_slot, id_first}
 
 -- ## Frames of a deed
 

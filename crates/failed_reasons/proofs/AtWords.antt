@@ -9,7 +9,7 @@ use Rattle.atomic_table.specs.Table.{Me}
 use Rattle.sock_io.specs.declared.link.Out.{Ghosts}
 use Rattle.sock_io.specs.Link.{OutState}
 use Rattle.sock_words.specs.Codes.{EFAILEDSOCKET}
-use Rattle.sock_words.specs.Words.{at_word}
+use Rattle.sock_words.specs.Words.{at_word, id_slot, id_first}
 use Rattle.sock_words.specs.declared.outcome.Outcome.{Outcome}
 use Rattle.sock_words.specs.declared.outcome.Outcome.TheVariants as outcome
 use Rattle.sock_words.specs.declared.plain.Plan.{Plan}
@@ -55,7 +55,6 @@ use Rattle.attempts_told.specs.call_whys.specs.call_told.proofs.Least.{word_is a
 use Rattle.attempts_told.specs.call_whys.specs.call_places.specs.sock_deeds.proofs.Flats.{append_first, append_later}
 use Rattle.failed_reasons.specs.Missed.{acted_id, id_of, attempt_of}
 use Rattle.failed_reasons.proofs.Losses.{IsAskedIn}
-use Rattle.corr_core.specs.Word.{id_slot, id_first}
 
 -- ## The link of a deed
 

@@ -1,9 +1,9 @@
 -- An error that a reader queued when its reading ended waits at an id of which the reader had met no response, unless it had ended a range with the response's version.
 use Rattle.std.proofs.Common.{◌≡◌, ℕ, ◌⊎◌, inl, inr, ⊎_elim, Bool, true, false, List, [], ◌∷◌, Some, None, refl, subst, arith}
 use Rattle.std.specs.Prelude.{Option, ◌==◌}
-use Rattle.sock_words.specs.Words.{at_word_link}
+use Rattle.sock_words.specs.Words.{at_word_link, id_slot, id_first}
 use Rattle.sock_words.specs.declared.at_word.AtWord.{AtWord}
-use Rattle.corr_core.specs.Word.{parts, id_slot, id_first}
+use Rattle.corr_core.specs.Word.{parts}
 use Rattle.corr_core.specs.declared.marks.Plan.{Plan}
 use Rattle.corr_core.specs.declared.marks.View.{View}
 use Rattle.corr_id.specs.id_rule.specs.Lawful.{at_index, with_kept}

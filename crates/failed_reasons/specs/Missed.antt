@@ -22,7 +22,7 @@ use Rattle.attempts_told.specs.Below.CallAttempts.Retrying.{WentTo, stray, unope
 use Rattle.attempts_told.specs.Below.CallClient.Acting.{Stand, both_of, Acted}
 use Rattle.attempts_told.specs.call_whys.specs.call_told.specs.Least.{is_made_for}
 use Rattle.attempts_told.specs.call_whys.specs.call_places.specs.Deeds.{Deed, operates, retries}
-use Rattle.corr_core.specs.Word.{id_slot, id_first}
+use Rattle.sock_words.specs.Words.{id_slot, id_first}
 
 -- ## With which code
 

@@ -6,7 +6,7 @@ use lib.ListN.{get_elem?}
 use Rattle.sock_io.specs.declared.link.Out.{Ghosts}
 use Rattle.sock_io.specs.Link.{OutState}
 use Rattle.sock_words.specs.Codes.{ERPCTIMEDOUT}
-use Rattle.sock_words.specs.Words.{socket_id_slot}
+use Rattle.sock_words.specs.Words.{socket_id_slot, id_slot, id_first}
 use Rattle.sock_words.specs.declared.outcome.Outcome.{Outcome}
 use Rattle.sock_words.specs.declared.outcome.Outcome.TheVariants as outcome
 use Rattle.sock_words.specs.declared.plain.Plan.{Plan}
@@ -18,7 +18,7 @@ use Rattle.sock_model.specs.SlotRows.{marks_of}
 use Rattle.attempts_told.specs.Below.SockRule.OnTable.{put_in}
 use Rattle.seat_programs.specs.declared.task.Op.TheVariants as ops
 use Rattle.seat_programs.specs.declared.task.Task.{Task}
-use Rattle.corr_core.specs.Word.{parts, id_slot, id_first}
+use Rattle.corr_core.specs.Word.{parts}
 use Rattle.corr_core.specs.Law.{total, pair, is_ended_at}
 use Rattle.corr_core.specs.declared.marks.Kept.{Kept}
 use Rattle.corr_core.specs.declared.marks.Plan as id_plan

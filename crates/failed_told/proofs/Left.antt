@@ -75,7 +75,7 @@ use Rattle.failed_ends.proofs.Single.{laws, IsAttemptOf, at_first, again_id, aga
 use Rattle.failed_told.proofs.Standing.{may_be_on, lost_on}
 use Rattle.failed_told.proofs.Unopened.{unopened_why}
 use Rattle.failed_ends.specs.call_whys.specs.call_places.specs.sock_deeds.proofs.Places.{map_back}
-use Rattle.corr_core.specs.Word.{id_slot, id_first}
+use Rattle.sock_words.specs.Words.{id_slot, id_first}
 
 -- ## Of deeds
 

@@ -38,7 +38,7 @@ use Rattle.failed_ends.specs.call_whys.specs.call_told.proofs.Coming.{made_begun
 use Rattle.failed_ends.specs.failed_reasons.proofs.Before.{operation_made, noted_last}
 use Rattle.failed_ends.proofs.Lasts.{one_made}
 use Rattle.failed_ends.specs.failed_reasons.proofs.Makers.{made_begun}
-use Rattle.corr_core.specs.Word.{id_slot, id_first}
+use Rattle.sock_words.specs.Words.{id_slot, id_first}
 
 -- an id with room was made for the operation
 pub record MadeLow (slots o : ℕ) (v : View Asked) : Type 0 where

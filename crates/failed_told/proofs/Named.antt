@@ -8,7 +8,7 @@ use mathlib.Core.Option.{some}
 use lib.ListN.{get_elem?}
 use Rattle.sock_io.specs.declared.link.Out.{Ghosts}
 use Rattle.sock_io.specs.Link.{OutState}
-use Rattle.sock_words.specs.Words.{at_word, at_word_first, at_word_slot, at_word_link, at_word_attempt}
+use Rattle.sock_words.specs.Words.{at_word, at_word_first, at_word_slot, at_word_link, at_word_attempt, id_slot, id_first}
 use Rattle.sock_words.specs.declared.outcome.Outcome.{Outcome}
 use Rattle.sock_words.specs.declared.plain.Plan.{Plan}
 use Rattle.sock_words.specs.declared.place_word.PlaceWord.{PlaceWord}
@@ -55,7 +55,6 @@ use Rattle.failed_ends.proofs.Posters.{attempt_low}
 use Rattle.failed_ends.proofs.Single.{IsAttemptOf, at_first, first_id, again_id, again_attempt, made_low}
 use Rattle.failed_told.proofs.Standing.{may_be_on, lost_on}
 use Rattle.failed_ends.specs.failed_reasons.proofs.Taken.{AskTasks}
-use Rattle.corr_core.specs.Word.{id_slot, id_first}
 
 -- ## Words
 

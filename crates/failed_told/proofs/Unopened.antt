@@ -22,7 +22,7 @@ use Rattle.seat_programs.specs.declared.task.Op.TheVariants as ops
 use Rattle.seat_programs.specs.declared.task.Task.{Task}
 use Rattle.seat_programs.specs.Told.{AreTasks, IsTask, Became, OpensNone, IsOpen}
 use Rattle.seat_programs.specs.ToldCalls.{Fixed, Order, Seeks, FoundNone, WhyLost, WasUnopened}
-use Rattle.corr_core.specs.Word.{parts, id_slot, id_first}
+use Rattle.corr_core.specs.Word.{parts}
 use Rattle.corr_core.specs.Law.{total}
 use Rattle.corr_core.specs.declared.marks.Kept.{Kept}
 use Rattle.corr_core.specs.declared.marks.Note.{Note}
@@ -70,6 +70,7 @@ use Rattle.failed_ends.specs.failed_reasons.proofs.Makers.{IsBegun, made_begun}
 use Rattle.failed_ends.specs.failed_reasons.proofs.Crew.{tasks_there, its_tasks, place_of, is_task, own_call}
 use Rattle.failed_ends.specs.failed_reasons.proofs.Before.{stands_before, IsRetry, MadeBefore, PlacedHere, all_placed, noted_last}
 use Rattle.failed_ends.specs.failed_reasons.proofs.Seeking.{sought_seen, opens_seen, missed_seen, waited_seen, names_are, none_again}
+use Rattle.sock_words.specs.Words.{id_slot, id_first}
 
 -- ## Tasks in their order
 

@@ -14,7 +14,7 @@ use Rattle.seat_programs.specs.declared.task.Op.TheVariants as ops
 use Rattle.seat_programs.specs.declared.task.Task.{Task}
 use Rattle.seat_programs.specs.Told.{AreTasks}
 use Rattle.seat_programs.specs.ToldCalls.{IsUnordered, all_accepted}
-use Rattle.corr_core.specs.Word.{parts, id_slot}
+use Rattle.corr_core.specs.Word.{parts}
 use Rattle.corr_core.specs.declared.marks.Kept.{Kept}
 use Rattle.corr_core.specs.declared.marks.Noted.{Noted}
 use Rattle.corr_core.specs.declared.marks.View.{View}
@@ -41,6 +41,7 @@ use Rattle.failed_ends.specs.failed_reasons.proofs.Losses.{IsAskedIn, deed_why}
 use Rattle.failed_ends.proofs.Single.{made_low}
 use Rattle.failed_ends.proofs.Verdicts.{made_so, MissedLast, IsAskedSo, last_attempt as last_asked}
 use Rattle.failed_ends.specs.failed_reasons.proofs.Taken.{OthersRead, AskTasks}
+use Rattle.sock_words.specs.Words.{id_slot}
 
 module _ {O : Type 0} {g : Ghosts O} {state : O → OutState} {readers : List (LinkReader g)} {p : Plan} {slots : ℕ} {setup : List Task} {clients : List (List Task)} {opens : List ℕ} {told ended : List (List Told)} {places : List PlaceWord} {vrefs : List Vref} {outs : List O} {ids : List (View Asked)}
     (run : RanWith g state readers p slots setup clients opens told ended places vrefs outs ids) (tasks : AreTasks p (setup ∷ clients)) (may : MayRunAll p (ids_of p slots) setup clients)

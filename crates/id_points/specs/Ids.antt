@@ -2,7 +2,7 @@
 use Rattle.std.specs.Prelude.{ℕ, ◌%◌}
 use Rattle.id_points.specs.declared.call_id.CallId.{CallId}
 use Rattle.id_points.specs.declared.call_id.AttemptNumber.{AttemptNumber}
-use Rattle.corr_core.specs.Word.{call_id}
+use Rattle.sock_words.specs.Words.{call_id}
 
 abbrev pub id_of : CallId → ℕ
 id_of id = call_id id.slot (id.first % 67108864)

@@ -1,6 +1,6 @@
 ghost use Rattle.std.specs.Prelude.{◌≡◌, ◌<◌, ◌≤◌, ◌+◌, ◌*◌, ◌/◌, ◌%◌, ℕ};
 ghost use Rattle.id_points.specs.Ids.{id_of, number_of};
-ghost use Rattle.corr_core.specs.Word.{call_id, id_slot, id_first};
+ghost use Rattle.sock_words.specs.Words.{call_id, id_slot, id_first};
 
 /// The versions of call ids end below this, 2^26.
 const VERSIONS: u32 = 67_108_864;

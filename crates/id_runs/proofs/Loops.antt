@@ -3,7 +3,7 @@ use Rattle.std.proofs.Common.{◌≡◌, ◌≢◌, ℕ, zero, suc, ◌+◌, ◌
 use Rattle.std.specs.Prelude.{Option}
 use Rattle.sock_words.specs.declared.plain.Plan.{Plan}
 use Rattle.sock_words.specs.Codes.{is_final}
-use Rattle.corr_core.specs.Word.{Parts, parts, locked_word, posted_word, unlocked_word, code_of, attempt_of, id_slot, id_first, call_id}
+use Rattle.corr_core.specs.Word.{Parts, parts, locked_word, posted_word, unlocked_word, code_of, attempt_of}
 use Rattle.corr_core.specs.Law.{LAST}
 use Rattle.corr_core.specs.declared.marks.Plan.{Plan as IdPlan}
 use Rattle.corr_core.specs.declared.marks.Hand.TheVariants.{Empty, Full}
@@ -27,6 +27,7 @@ use Rattle.seat_programs.specs.Rounds.{round}
 use Rattle.id_runs.specs.Held.{IdView, one, by_token, unlocked_by, ended_by, locked_by, HasOne}
 use Rattle.id_runs.specs.Goes.{EndsReading, HasRoom, IsIdWord, IsError, IsPostable, IsLocked, IsFree, AtHead, LeavesPost, LeavesUnlock, LeavesLock, FitsRetryId, IdGoesOn}
 use Rattle.id_runs.proofs.Keeps.{parts_packed}
+use Rattle.sock_words.specs.Words.{id_slot, id_first, call_id}
 
 -- ## One token
 

@@ -1,6 +1,6 @@
 -- The programs of clients and of readers, as far as ids go: each step on them is one that the view allows.
 use Rattle.std.proofs.Common.{◌≡◌, ℕ, zero, suc, ◌+◌, ◌-◌, ◌/◌, ◌%◌, ◌<◌, ◌≤◌, ◌==◌, ◌&&◌, inl, Bool, true, false, cond, eqb, leb, nat_lt, nat_le, List, [], length, refl, sym, ap, ap₂, ◌∙◌, subst, arith}
-use Rattle.sock_words.specs.Words.{socket_id_version, socket_id_slot, vref_version, vref_nref, at_word, at_word_slot, at_word_first, ticket_generation, ticket_request}
+use Rattle.sock_words.specs.Words.{socket_id_version, socket_id_slot, vref_version, vref_nref, at_word, at_word_slot, at_word_first, ticket_generation, ticket_request, IDLE, UNCONNECTED, call_id, id_slot, id_first}
 use Rattle.sock_words.specs.declared.plain.Plan.{Plan}
 use Rattle.sock_words.specs.declared.outcome.Outcome.TheVariants as outcomes
 use Rattle.seat_programs.specs.sock_io.specs.declared.link.Put.{Put}
@@ -9,8 +9,7 @@ use Rattle.seat_programs.specs.sock_io.specs.declared.link.Ready.{Ready}
 use Rattle.seat_programs.specs.sock_io.specs.declared.link.Ready.TheVariants as asks
 use Rattle.seat_programs.specs.sock_model.specs.declared.chain.Heading.{Heading}
 use Rattle.seat_programs.specs.sock_model.specs.Entries.{ticket_of}
-use Rattle.seat_programs.specs.sock_model.specs.Memory.{IDLE, UNCONNECTED}
-use Rattle.corr_core.specs.Word.{parts, error_of, call_id, id_slot, id_first}
+use Rattle.corr_core.specs.Word.{parts, error_of}
 use Rattle.corr_core.specs.declared.marks.Plan.{Plan as IdPlan}
 use Rattle.corr_core.specs.declared.marks.Hand.TheVariants.{Empty, Full}
 use Rattle.corr_core.specs.declared.marks.Token.{Token}

@@ -2,13 +2,13 @@
 use Rattle.std.proofs.Common.{◌≡◌, ℕ, ◌+◌, ◌-◌, ◌<◌, ◌≤◌, ◌&&◌, Bool, true, false, cond, eqb, eqb-true, nat_lt, List, [], ◌∷◌, length, refl, sym, subst, arith}
 use Rattle.std.specs.List.{AllByRecursion}
 use Rattle.sock_words.specs.declared.plain.Plan.{Plan}
-use Rattle.sock_words.specs.Words.{socket_id_slot, at_word_first, at_word_slot, at_word_link, at_word_attempt}
-use Rattle.corr_core.specs.Word.{parts, error_of, call_id, id_slot, id_first}
+use Rattle.sock_words.specs.Words.{socket_id_slot, at_word_first, at_word_slot, at_word_link, at_word_attempt, call_id, id_slot, id_first, NO_SOCKET}
+use Rattle.corr_core.specs.Word.{parts, error_of}
 use Rattle.corr_core.specs.declared.marks.Plan.{Plan as IdPlan}
 use Rattle.seat_programs.specs.brpc_model.specs.Frame.{Frame}
 use Rattle.id_rule.specs.Lawful.{at_index as at_place, with_kept}
 use Rattle.seat_programs.specs.Heads.{Reads, Discards, Posting, HasLocked, Deciding, HasEnded, GoesOn, Ended}
-use Rattle.seat_programs.specs.Programs.{Program, Rest, Round, NO_SOCKET, address, release, set_failed}
+use Rattle.seat_programs.specs.Programs.{Program, Rest, Round, address, release, set_failed}
 use Rattle.seat_programs.specs.Posts.{post_with, decided}
 use Rattle.seat_programs.specs.Readers.{LIMIT, slot_in, kept_for, ends_with, posted_last, post_each, thrown_away, read, reader}
 use Rattle.id_runs.specs.Held.{IdView}

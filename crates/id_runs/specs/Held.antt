@@ -3,7 +3,7 @@ use Rattle.std.specs.Prelude.{ℕ, ◌≡◌, ◌≢◌, ◌+◌, ◌<◌, ◌�
 use Rattle.std.specs.Prelude as std
 use Rattle.atomic_table.specs.Table.{State}
 use Rattle.sock_words.specs.declared.plain.Plan.{Plan}
-use Rattle.corr_core.specs.Word.{parts, call_id, id_slot}
+use Rattle.corr_core.specs.Word.{parts}
 use Rattle.corr_core.specs.declared.marks.Plan.{Plan as IdPlan}
 use Rattle.corr_core.specs.declared.marks.Hand.TheVariants.{Empty, Full}
 use Rattle.corr_core.specs.declared.marks.Token.{Token}
@@ -14,7 +14,7 @@ use Rattle.corr_core.specs.declared.marks.View.{View}
 use Rattle.id_rule.specs.Lawful.{call_index, at_index, tokens_in, with_token, no_token, with_note, with_kept}
 use Rattle.id_rule.specs.Plays.{hand_of, with_hand, claimed_view, locked_view, popped_view, advanced_view, ended_view, found_view, Longer}
 use Rattle.seat_programs.specs.sock_message.specs.Asked.{Asked}
-use Rattle.sock_words.specs.Words.{at_word_slot, at_word_first}
+use Rattle.sock_words.specs.Words.{at_word_slot, at_word_first, call_id, id_slot}
 use Rattle.seat_programs.specs.Asides.{Step, ClaimId, PutCall, MakeId, StoreCall, LoadCall, StoreAt, LoadAt, LoadIdWord, LockId, PostId, UnlockId, EndId, FreeId, TakeCall, TakeBytes, Found}
 use Rattle.seat_programs.specs.Posts.{advance_of}
 use Rattle.seat_programs.specs.Cores.{Calls}

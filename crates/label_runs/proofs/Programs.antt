@@ -1,11 +1,11 @@
 -- The programs of clients, readers and the ending keep to their attempts, and so does one round of each loop.
 use Rattle.std.proofs.Common.{◌≡◌, ℕ, zero, suc, ◌+◌, ◌-◌, sym, ap, ⊎_elim, ◌/◌, ◌%◌, ◌≤◌, ◌⊎◌, ◌==◌, inl, inr, Bool, true, false, cond, eqb, List, [], refl, ◌∙◌, subst, arith}
 use Rattle.std.specs.List.{AllByRecursion}
-use Rattle.sock_words.specs.Words.{socket_id_slot, socket_id_version, vref_version, at_word}
+use Rattle.sock_words.specs.Words.{socket_id_slot, socket_id_version, vref_version, at_word, call_id, id_slot, id_first}
 use Rattle.sock_words.specs.declared.outcome.Outcome.TheVariants as outcomes
 use Rattle.seat_programs.specs.sock_message.specs.Asked.{Asked, frame_of}
 use Rattle.sock_model.specs.declared.chain.Heading.{Heading}
-use Rattle.corr_core.specs.Word.{parts, call_id, id_slot, id_first}
+use Rattle.corr_core.specs.Word.{parts}
 use Rattle.seat_programs.specs.declared.task.Sizes.{Sizes}
 use Rattle.seat_programs.specs.declared.task.Task.{Task}
 use Rattle.seat_programs.specs.Asides.{Step, Found, PutCall, MakeId, StoreAt, UnlockId}

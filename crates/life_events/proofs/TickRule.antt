@@ -13,7 +13,6 @@ use Rattle.sock_model.specs.declared.home.Home.{Home}
 use Rattle.sock_model.specs.declared.view.View.{View}
 use Rattle.sock_model.specs.declared.view.Hand.{Hand}
 use Rattle.sock_model.specs.Layout.{head_index, name_index, open_index, request_index, all_words}
-use Rattle.sock_model.specs.Memory.{IDLE}
 use Rattle.sock_model.specs.ChainRows.{entry_of, queued, righted, taken_right}
 use Rattle.sock_model.specs.Messages.{Letter}
 use Rattle.sock_model.specs.Reads.{message, link_home}
@@ -43,6 +42,7 @@ use Rattle.sock_runs.specs.program_steps.proofs.Passes.{goes_round}
 use Rattle.sock_runs.specs.program_steps.proofs.Cases.{beside, with_rights, right_rights, put_rights}
 use Rattle.sock_runs.proofs.Few.{row_same, IsShorter}
 use Rattle.sock_steps.proofs.RuleFrame.{accept_rule, Lasts, lasts_all, lasts_set, lasting_in, still_rule, same_rule}
+use Rattle.sock_words.specs.Words.{IDLE}
 
 positive : (w : ℕ) → IsTrue (nat_lt 0 w) → w ≢ 0
 positive w some_ e = let z : false ≡ true = subst (λ (n : ℕ). IsTrue (nat_lt 0 n)) e some_ in cc

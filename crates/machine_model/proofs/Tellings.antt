@@ -1,7 +1,7 @@
 -- What a tick answers: the kind of its step, or for what the seat waits.
 use Rattle.std.proofs.Common.{◌≡◌, ◌≢◌, refl, ℕ, ◌+◌, ◌==◌, ◌&&◌, Bool, true, false, not, is_some, if◌then◌else◌, List, [], Option, Some, None, IfSome, option_map, ap, sym, ◌∙◌, subst}
 use mathlib.Core.Option as core
-use Rattle.corr_core.specs.Word.{parts, code_of, id_first, id_slot}
+use Rattle.corr_core.specs.Word.{parts, code_of}
 use Rattle.corr_core.specs.Decisions.{ends_call}
 use Rattle.sock_words.specs.declared.kind.Kind.{Kind}
 use Rattle.sock_words.specs.declared.kind.Kind.TheVariants.{I6, K1}
@@ -46,6 +46,7 @@ use Rattle.client_seats.specs.Seats.{SeatData, around, seat_program, bytes_of, p
 use Rattle.machine_model.specs.Machines.{TableState, table_sizes}
 use Rattle.machine_model.specs.Steps.{IsNext, Makes, FoundBeside, beside}
 use Rattle.seat_states.proofs.StepFacts as facts
+use Rattle.sock_words.specs.Words.{id_first, id_slot}
 
 -- ## Kinds
 

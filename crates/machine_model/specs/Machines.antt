@@ -24,7 +24,7 @@ use Rattle.reader_seats.specs.Readers.{ReaderData, reader_program}
 use Rattle.machine_model.specs.declared.letter.Letter.{Letter}
 use Rattle.client_seats.specs.Seats.{SeatData, seat_program}
 use Rattle.machine_model.specs.Links.{LinksData, Taken, Given, Agrees, AgreesGave, IsPaced, ClosedAreDone, holder_of, homes_of, hand_of}
-use Rattle.corr_core.specs.Word.{id_first}
+use Rattle.sock_words.specs.Words.{id_first}
 
 -- the tables on which the seats step: their sizes, the words, the messages at the homes of requests, the links, the table of the ids, the
 -- operations that are calls, whether the run is ending, the outcomes, and the links as they would be given back

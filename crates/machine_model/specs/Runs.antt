@@ -25,7 +25,7 @@ use Rattle.machine_model.specs.declared.tick.Tick.{Tick}
 use Rattle.machine_model.specs.declared.tick.Tick.TheVariants.{Moved, Waits, Idle}
 use Rattle.machine_model.specs.Links.{Taken, Given, Agrees, AgreesGave, SoFar, AreAlwaysReady, TellClosing, IsOffering, StayOffered}
 use Rattle.machine_model.specs.Machines.{MachineState, SameGivens, READERS, table_of, core_with, ending_by}
-use Rattle.corr_core.specs.Word.{call_id}
+use Rattle.sock_words.specs.Words.{call_id}
 
 -- ## Links
 

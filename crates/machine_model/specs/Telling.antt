@@ -2,8 +2,7 @@
 use Rattle.std.specs.Prelude.{ℕ, ◌≡◌, ◌==◌, ◌&&◌, not, Bool, true, false, List, [], slice_set, Some, None}
 use mathlib.Core.Option as core
 use lib.ListN.{get_elem?}
-use Rattle.corr_core.specs.Word.{parts, id_first}
-use Rattle.sock_model.specs.Memory.{UNCONNECTED}
+use Rattle.corr_core.specs.Word.{parts}
 use Rattle.seat_programs.specs.Heads.{Locks, Joins, Opens}
 use Rattle.seat_programs.specs.Posts.{is_first, is_sought}
 use Rattle.seat_programs.specs.Writings as heads
@@ -17,6 +16,7 @@ use Rattle.client_seats.specs.Seats.{SeatData, seat_program}
 use Rattle.machine_model.specs.Machines.{MachineState, TableState, table_of, table_sizes}
 use Rattle.machine_model.specs.Runs.{IsWaitingFor}
 use Rattle.machine_model.specs.Steps.{Makes, beside}
+use Rattle.sock_words.specs.Words.{id_first, UNCONNECTED}
 
 -- whether a seat waits, by the words of the tables
 abbrev pub is_waiting : TableState → Answer → Program → Bool

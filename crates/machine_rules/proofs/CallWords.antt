@@ -20,7 +20,7 @@ use Rattle.call_slots.specs.Slots.{SlotState, calls_with}
 use Rattle.call_slots.specs.Steps as slots
 use Rattle.machine_model.specs.Machines.{TableState, AreCalled}
 use Rattle.machine_model.specs.Steps.{FitsSlots}
-use Rattle.corr_core.specs.Word.{id_first}
+use Rattle.sock_words.specs.Words.{id_first}
 
 abbrev IsBelow : ℕ → Type 0
 IsBelow word = id_first word < 67108864

@@ -2,7 +2,7 @@
 use Rattle.std.proofs.Common.{◌≡◌, refl, ℕ, zero, suc, ◌+◌, ◌-◌, ◌%◌, ◌==◌, ◌&&◌, ◌⊎◌, inl, inr, ⊎_elim, not, nat_lt, nat_le, if◌then◌else◌, Bool, true, false, List, [], ◌∷◌, ◌++◌, length, Option, Some, None, ap, sym, ◌∙◌, subst}
 use Rattle.std.proofs.lemmas.Bool.{true≢false}
 use Rattle.sock_steps.proofs.Quiet.{either_way}
-use Rattle.sock_words.specs.Words.{socket_id_version, vref_version, vref_nref, ticket_request, ticket_generation}
+use Rattle.sock_words.specs.Words.{socket_id_version, vref_version, vref_nref, ticket_request, ticket_generation, IDLE, UNCONNECTED, id_slot, id_first, NO_SOCKET}
 use Rattle.sock_words.specs.declared.socket_id.SocketId.{SocketId}
 use Rattle.sock_words.specs.declared.ticket.Ticket.{Ticket}
 use Rattle.sock_io.specs.declared.link.Put.{Put}
@@ -12,15 +12,14 @@ use Rattle.sock_io.specs.declared.link.Ready.TheVariants as asks
 use Rattle.sock_io.specs.Link.{OutState}
 use Rattle.sock_message.specs.Asked.{Asked}
 use Rattle.sock_model.specs.declared.chain.Heading.{Heading}
-use Rattle.sock_model.specs.Memory.{IDLE, UNCONNECTED}
-use Rattle.corr_core.specs.Word.{parts, code_of, posted_word, unlocked_word, id_slot, id_first}
+use Rattle.corr_core.specs.Word.{parts, code_of, posted_word, unlocked_word}
 use Rattle.corr_core.specs.Law.{LAST}
 use Rattle.corr_core.specs.Decisions.{ends_call}
 use Rattle.seat_programs.specs.Asides as asides
 use Rattle.seat_programs.specs.Asides.{Step, Found}
 use Rattle.seat_programs.specs.Calls as calls
 use Rattle.seat_programs.specs.Writings as heads
-use Rattle.seat_programs.specs.Programs.{Program, Do, PutBytes, Write, Aside, Round, Keep, NO_SOCKET, LAST_VERSION, LAST_GENERATION, open_from}
+use Rattle.seat_programs.specs.Programs.{Program, Do, PutBytes, Write, Aside, Round, Keep, LAST_VERSION, LAST_GENERATION, open_from}
 use Rattle.seat_programs.specs.Sends.{block, freed, passed_telling, tell_drop, claim_from}
 use Rattle.seat_programs.specs.Attempts.{claims_from, claim_id, tried_again, retry_locked}
 use Rattle.seat_programs.specs.Posts.{packed, is_first, is_stale, is_full, is_sought, judged, posted, decided, popped, unlocked, decide, locking, advance_of}

@@ -6,7 +6,7 @@ use Rattle.sock_io.specs.declared.link.Put.TheVariants as puts
 use Rattle.message_parts.specs.Frames.{OutgoingData, ParcelData}
 use Rattle.seat_programs.specs.declared.task.Sizes.{Sizes}
 use Rattle.seat_programs.specs.Programs.{Program, Aside, Round}
-use Rattle.corr_core.specs.Word.{parts, code_of, id_slot}
+use Rattle.corr_core.specs.Word.{parts, code_of}
 use Rattle.corr_core.specs.Decisions.{ends_call}
 use Rattle.id_points.specs.Ids.{id_of}
 use Rattle.seat_programs.specs.Asides.{PutCall}
@@ -46,6 +46,7 @@ use Rattle.seat_programs.specs.Parts.{part}
 use Rattle.machine_model.specs.Links.{LinksData}
 use Rattle.machine_model.specs.Machines.{TableState, table_sizes}
 use Rattle.machine_model.specs.Steps.{SameBase, Goes, Makes, MadeFirst, LinkAsked, IsNext, AskedAt, OutsAfter, left_behind, taken_behind}
+use Rattle.sock_words.specs.Words.{id_slot}
 
 -- a list that was written whole
 pub written : {A : Type 0} (n : ℕ) (xs ys : List A) → length xs ≡ n → take n (xs ++ ys) ≡ xs

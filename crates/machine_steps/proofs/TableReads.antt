@@ -2,7 +2,7 @@
 use Rattle.std.proofs.Common.{◌≡◌, refl, ℕ, ◌+◌, ◌≤◌, Bool, true, false, if◌then◌else◌, List, [], length, take, Option, Some, ap, sym, ◌∙◌, subst, arith}
 use Rattle.std.proofs.lemmas.List.{length-take}
 use Rattle.sock_words.specs.declared.outcome.Outcome.{Outcome}
-use Rattle.corr_core.specs.Word.{parts, code_of, id_slot}
+use Rattle.corr_core.specs.Word.{parts, code_of}
 use Rattle.corr_core.specs.Decisions.{ends_call}
 use Rattle.sock_message.specs.Asked.{Asked}
 use Rattle.id_points.specs.Ids.{id_of}
@@ -31,6 +31,7 @@ use Rattle.seat_states.specs.Steps.{First, OfCall, OfAside, first_of, first_in}
 use Rattle.machine_model.proofs.FirstSteps.{IsBare, bare_first, step_is}
 use Rattle.machine_steps.proofs.TableAsides.{FindsWord}
 use Rattle.seat_programs.specs.Rounds.{first_step}
+use Rattle.sock_words.specs.Words.{id_slot}
 
 -- ## Which step it is
 

@@ -21,7 +21,7 @@ use Rattle.sock_io.specs.Causes.{Rose}
 use Rattle.seat_programs.specs.Calls as calls
 use Rattle.seat_programs.specs.Writings.{Waits}
 use Rattle.seat_programs.specs.Programs.{Program, PutBytes, AskReady, Write, Aside, Round}
-use Rattle.corr_core.specs.Word.{parts, code_of, id_slot}
+use Rattle.corr_core.specs.Word.{parts, code_of}
 use Rattle.corr_core.proofs.Notes.{at_length}
 use Rattle.corr_core.specs.Decisions.{ends_call}
 use Rattle.seat_programs.specs.Asides.{PutCall}
@@ -40,6 +40,7 @@ use Rattle.machine_model.specs.Runs.{SameLink, SameLinks, ShowFaults, LinksTell}
 use Rattle.machine_model.proofs.FirstSteps.{same_some}
 use Rattle.machine_ticks.proofs.Joining.{show_faults_none, more_none, tells_none}
 use Rattle.machine_model.proofs.Same.{same_link_none}
+use Rattle.sock_words.specs.Words.{id_slot}
 
 -- a link that is asked isn't finished
 abbrev pub AsksUnfinished : LinksData → First → Type 0

@@ -54,7 +54,7 @@ use Rattle.machine_model.proofs.PointFacts.{NoTake, finds_beside, takes_none, wi
 use Rattle.machine_rules.proofs.Seatings.{seat_at, read_at}
 use Rattle.machine_rules.proofs.Sounds.{Known, id_view, id_goes, id_may, known_first, finds_word}
 use Rattle.machine_rules.proofs.Ticked.{MayCall, MayMake}
-use Rattle.corr_core.specs.Word.{id_slot, id_first}
+use Rattle.sock_words.specs.Words.{id_slot, id_first}
 
 -- ## Facts that have one proof at most
 

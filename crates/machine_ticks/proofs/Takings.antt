@@ -7,7 +7,7 @@ use native.Mathlib.Decide.{ℕ_discrete}
 use mathlib.Core.Logic.{dite}
 use mathlib.Core.Option as core
 use lib.ListN.{get_elem?}
-use Rattle.corr_core.specs.Word.{parts, code_of, id_slot}
+use Rattle.corr_core.specs.Word.{parts, code_of}
 use Rattle.corr_core.proofs.Notes.{at_length}
 use Rattle.corr_core.specs.Decisions.{ends_call}
 use Rattle.brpc_model.specs.Link.{LinkEnd, TakeAnswer}
@@ -34,6 +34,7 @@ use Rattle.machine_model.specs.Runs.{ShowFaults, LinksTell, TakesTell, ShowsTaki
 use Rattle.machine_ticks.proofs.Answering.{behind_is, first_is, get_set_other, asks_first}
 use Rattle.machine_model.proofs.FirstSteps.{same_some}
 use Rattle.machine_ticks.proofs.Joining.{show_faults_none, more_none, tells_none, takes_none, takings_none}
+use Rattle.sock_words.specs.Words.{id_slot}
 
 -- ## A link that was written back
 

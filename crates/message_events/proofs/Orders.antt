@@ -18,7 +18,6 @@ use Rattle.sock_model.specs.declared.view.View.{View}
 use Rattle.sock_model.specs.Layout.{head_index}
 use Rattle.sock_model.specs.Entries.{on, nth}
 use Rattle.sock_model.specs.Authors.{pick}
-use Rattle.sock_model.specs.Memory.{IDLE}
 use Rattle.sock_model.specs.Reads.{head_at, memory, claims_of, tokens}
 use Rattle.sock_model.specs.ChainRows.{entry_of, more, with_right, taken_right, put_right}
 use Rattle.sock_model.specs.Conditions.{MayExchange}
@@ -39,6 +38,7 @@ use Rattle.chain_steps.proofs.Grow.{busy_found, idle_found}
 use Rattle.sock_steps.proofs.Places.{holder_lives}
 use Rattle.message_events.specs.Messages.{Has, IsOrder, MayCome, Accept}
 use Rattle.message_events.specs.Standing.{accepted_by, messages}
+use Rattle.sock_words.specs.Words.{IDLE}
 
 -- ## What stands in lists of lists
 

@@ -16,7 +16,6 @@ use Rattle.sock_model.specs.Conditions.{MayExchange}
 use Rattle.sock_model.specs.Lawful.{Lawful}
 use Rattle.sock_model.specs.Layout.{head_index, link_index}
 use Rattle.sock_model.specs.Links.{Lives}
-use Rattle.sock_model.specs.Memory.{IDLE}
 use Rattle.sock_model.specs.Reads.{memory, tokens, link_home, rights_on, head_at}
 use Rattle.chain_steps.proofs.Gather.{gather_own, gather_same, gather_none}
 use Rattle.chain_steps.proofs.Grow.{idle_found}
@@ -32,6 +31,7 @@ use Rattle.sock_runs.proofs.ChainTicks.{held_link_is}
 use Rattle.message_events.specs.Standing.{hands_on, by_rights, by_home, stand}
 use Rattle.message_events.proofs.Carried.{no_hand}
 use Rattle.message_events.proofs.Rights.{home_of, same_stand}
+use Rattle.sock_words.specs.Words.{IDLE}
 
 module _ (p : Plan) (c : Core) (views : List View) (o : Lawful (λ (home : Home). home) p (state c views)) (i : ℕ) (v : View) (at : get_elem? views i ≡ some v) (j own : ℕ) (x : MayExchange p v j own) where
   abbrev found : ℕ

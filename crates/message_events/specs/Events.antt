@@ -5,10 +5,10 @@ use Rattle.sock_io.specs.declared.link.Put.TheVariants.{Took}
 use Rattle.sock_model.specs.declared.chain.Claim.{Claim}
 use Rattle.sock_model.specs.declared.view.View.{View}
 use Rattle.sock_model.specs.ChainRows.{entry_of}
-use Rattle.sock_model.specs.Memory.{IDLE}
 use Rattle.seat_programs.specs.Calls.{Call, ClaimRequest, SwapHead, FreeRequest, StorePlace, DropPlace}
 use Rattle.message_events.specs.Messages.{Event, Nothing, Accept, Take, Place, Dropped, Free}
 use Rattle.message_events.specs.Messages as messages
+use Rattle.sock_words.specs.Words.{IDLE}
 
 -- the exchange of a head accepts the message of the seat's one claim, behind the ticket that it found
 abbrev pub accept_event : ℕ → List Claim → Event

@@ -1,7 +1,7 @@
 -- Errors of calls, and the loops on ids and at reading halves: such steps tell no outcome of a task.
 use Rattle.std.proofs.Common.{ℕ, ◌+◌, ◌&&◌, true, false, not, eqb, List, [], ◌∷◌, ◌++◌, length, inr, nat_lt}
 use Rattle.std.specs.Prelude.{nat_le, if◌then◌else◌, Some, None}
-use Rattle.seat_programs.specs.corr_core.specs.Word.{parts, error_of, code_of, posted_word, unlocked_word, id_slot, id_first, call_id}
+use Rattle.seat_programs.specs.corr_core.specs.Word.{parts, error_of, code_of, posted_word, unlocked_word}
 use Rattle.seat_programs.specs.corr_core.specs.Law.{LAST}
 use Rattle.seat_programs.specs.corr_core.specs.Decisions.{ends_call}
 use Rattle.seat_programs.specs.corr_core.specs.Versions.{is_early}
@@ -22,6 +22,7 @@ use Rattle.seat_programs.specs.Sends.{tell_drop}
 use Rattle.outcome_stories.specs.Stories.{Entry}
 use Rattle.outcome_stories.specs.Explains.{Way, Own, Beside, Closing, Done, ExplainsBy, EndedCall, IsClosing}
 use Rattle.outcome_stories.proofs.Tests.{split}
+use Rattle.sock_words.specs.Words.{id_slot, id_first, call_id}
 
 -- what is said of a call
 pub call_said : (slots requests : ℕ) (calls : ℕ → Type 0) (w : Way) (broken : List ℕ) (done : List Done) (trace : List Entry) (todo : List Task) (o : ℕ) (outcome : Outcome) (next : Program) → calls o

@@ -13,7 +13,7 @@ use Rattle.seat_programs.specs.declared.task.Task.{Task}
 use Rattle.seat_programs.specs.Calls.{Call, LookWord, ReadNext}
 use Rattle.seat_programs.specs.Writings.{Puts, Waits, Empties, Walks}
 use Rattle.seat_programs.specs.Programs.{Program, Do, Write, Aside, Round}
-use Rattle.seat_programs.specs.corr_core.specs.Word.{parts, code_of, id_slot}
+use Rattle.seat_programs.specs.corr_core.specs.Word.{parts, code_of}
 use Rattle.seat_programs.specs.corr_core.specs.Decisions.{ends_call}
 use Rattle.seat_programs.specs.Asides.{PutCall}
 use Rattle.seat_programs.specs.Heads.{Head, Exit, HasEnded, Unlocks, Decides, Locks, Opens}
@@ -29,7 +29,7 @@ use Rattle.outcome_stories.specs.Kept.{AreKept, SeatAt, undo}
 use Rattle.outcome_stories.proofs.Members.{all_in, contains_in}
 use Rattle.outcome_ticks.proofs.Seats.{Less, undo_todo, from_undo}
 use Rattle.outcome_ticks.proofs.Tasks.{sorted_of, same_some}
-use Rattle.sock_words.specs.Words.{ticket_request}
+use Rattle.sock_words.specs.Words.{ticket_request, id_slot}
 
 -- the next step on a word is the first of the next round
 -- a program of the tasks waits for no `open`

@@ -1,13 +1,13 @@
 -- Readers and the ending close sockets: their steps tell no outcome of a task.
 use Rattle.std.proofs.Common.{ℕ, ◌+◌, ◌-◌, ◌%◌, ◌&&◌, Bool, true, false, eqb, List, [], ◌∷◌, length, refl, nat_lt}
 use Rattle.std.specs.Prelude.{nat_le, if◌then◌else◌}
-use Rattle.seat_programs.specs.corr_core.specs.Word.{parts, error_of, call_id, id_first}
+use Rattle.seat_programs.specs.corr_core.specs.Word.{parts, error_of}
 use Rattle.brpc_model.specs.Frame.{Frame}
-use Rattle.sock_words.specs.Words.{socket_id_version, socket_id_slot, vref_version, vref_nref, at_word_first, at_word_slot, at_word_link, at_word_attempt}
+use Rattle.sock_words.specs.Words.{socket_id_version, socket_id_slot, vref_version, vref_nref, at_word_first, at_word_slot, at_word_link, at_word_attempt, call_id, id_first, NO_SOCKET}
 use Rattle.seat_programs.specs.declared.task.Task.{Task}
 use Rattle.seat_programs.specs.Calls.{SubRef, StoreCode, LoadLink, TakeLink, FinishLink, PutLink, FreeSlot}
 use Rattle.seat_programs.specs.Heads.{Ended, Reads, Discards, Posting, HasLocked}
-use Rattle.seat_programs.specs.Programs.{Program, Do, Rest, Round, NO_SOCKET, LAST_VERSION, recycle, release, address, set_failed}
+use Rattle.seat_programs.specs.Programs.{Program, Do, Rest, Round, LAST_VERSION, recycle, release, address, set_failed}
 use Rattle.seat_programs.specs.Posts.{post_with, decided}
 use Rattle.seat_programs.specs.Readers.{LIMIT, kept_for, ends_with, posted_last, post_each, thrown_away, read, reader}
 use Rattle.seat_programs.specs.Clients.{ending_of}

@@ -1,7 +1,7 @@
 -- Whoever writes a link goes on, whatever its steps find and the link answers: its loops are one, whether a task's operation or an attempt of a call is at work.
 use Rattle.std.proofs.Common.{◌≡◌, ◌≢◌, ℕ, ◌+◌, ◌-◌, ◌%◌, ◌<◌, Bool, true, false, cond, eqb, eq-eqb, ne_eqb, List, ◌∷◌, length, drop, inl, refl, sym, ap, ◌∙◌, subst, arith}
 use Rattle.std.specs.Prelude.{nat_le, if◌then◌else◌}
-use Rattle.sock_words.specs.Words.{socket_id_version, socket_id_slot, vref_version, ticket_request, ticket_generation}
+use Rattle.sock_words.specs.Words.{socket_id_version, socket_id_slot, vref_version, ticket_request, ticket_generation, UNCONNECTED}
 use Rattle.seat_programs.specs.sock_io.specs.declared.link.Put.{Put}
 use Rattle.seat_programs.specs.sock_io.specs.declared.link.Put.TheVariants as puts
 use Rattle.seat_programs.specs.sock_io.specs.declared.link.Ready.{Ready}
@@ -9,7 +9,6 @@ use Rattle.seat_programs.specs.sock_io.specs.declared.link.Ready.TheVariants as 
 use Rattle.sock_model.specs.declared.chain.Heading.{Heading}
 use Rattle.sock_model.specs.declared.marks.Mark.TheVariants.{Hold}
 use Rattle.sock_model.specs.Weights.{is_hold}
-use Rattle.sock_model.specs.Memory.{UNCONNECTED}
 use Rattle.outcome_stories.specs.program_steps.specs.slot_steps.proofs.Numbers.{only-at}
 use Rattle.seat_programs.specs.declared.task.Task.{Task}
 use Rattle.seat_programs.specs.Calls.{Call, AddRef, SubRef, SetOdd, StoreCode, LookWord, LoadCode, EmptyHead, ReadNext, ReverseNext, FreeRequest, StorePlace, DropPlace}

@@ -10,7 +10,7 @@ use Rattle.sock_model.specs.Layout.{open_index}
 use Rattle.corr_core.specs.declared.marks.Plan.{Plan as IdPlan}
 use Rattle.corr_core.proofs.Notes.{at_length}
 use Rattle.seat_programs.specs.Heads.{Opens}
-use Rattle.seat_programs.specs.Programs.{Round, NO_SOCKET}
+use Rattle.seat_programs.specs.Programs.{Round}
 use Rattle.seat_programs.specs.Cores.{Core}
 use Rattle.seat_programs.specs.Ticks.{Moment, IsAlwaysReady, waits, waits_at}
 use Rattle.seat_programs.specs.Runs.{kind_in, IsSettled}
@@ -30,6 +30,7 @@ use Rattle.owned_ids.specs.call_owing.specs.Settled.{IsAtRest, WaitsAside, Waits
 use Rattle.owned_ids.specs.call_owing.specs.Lives.{id_of, life_of}
 use Rattle.owing_ticks.proofs.AllSettled.{ranges_ended, waits_for_opens, lives_failed}
 use Rattle.owing_ticks.proofs.OwingRuns.{id_is, id_by}
+use Rattle.sock_words.specs.Words.{NO_SOCKET}
 
 pub at_some : {A : Type 0} (l : List A) (k : ℕ) → k < length l → (a : A) × (get_elem? l k ≡ some a)
 at_some [] k low = absurd (let z : ⊥ = omega (arith, low) in z)

@@ -2,7 +2,7 @@
 use Rattle.std.proofs.Common.{◌≡◌, ◌≢◌, ℕ, ◌+◌, ◌<◌, ◌≤◌, ⊎_elim, inl, List, [], ◌∷◌, length, get_or, Option, Some, refl, sym, ap, ◌∙◌, subst, arith}
 use mathlib.Core.Option.{some}
 use lib.ListN.{get_elem?}
-use Rattle.sock_words.specs.Words.{socket_id_slot, at_word_first, at_word_slot}
+use Rattle.sock_words.specs.Words.{socket_id_slot, at_word_first, at_word_slot, call_id, id_slot}
 use Rattle.sock_words.specs.declared.plain.Plan.{Plan}
 use Rattle.sock_model.specs.declared.view.View.{View}
 use Rattle.sock_model.specs.Layout.{open_index}
@@ -33,7 +33,6 @@ use Rattle.owned_ids.specs.call_owing.proofs.Programs.{block_goes}
 use Rattle.owned_ids.proofs.WordsGiven.{Named, run_named}
 use Rattle.owed_calls.proofs.ClosedPast.{closed_past}
 use Rattle.owing_ticks.proofs.OwingRuns.{Reaches, id_is, life_is, own_open, same_first, reach_back}
-use Rattle.corr_core.specs.Word.{call_id, id_slot}
 use Rattle.seat_programs.specs.Rounds.{first_step}
 
 -- the first step of a round is one that the marks allow

@@ -5,12 +5,12 @@ use native.Mathlib.Decide.{ℕ_discrete}
 use mathlib.Core.Option.{none, some, some-ne-none}
 use lib.ListN.{get_elem?}
 use Rattle.atomic_table.proofs.Lists.{at_set, set_else}
-use Rattle.sock_words.specs.Words.{socket_id, socket_id_slot}
+use Rattle.sock_words.specs.Words.{socket_id, socket_id_slot, NO_SOCKET}
 use Rattle.sock_words.specs.declared.plain.Plan.{Plan}
 use Rattle.sock_model.specs.declared.view.View.{View}
 use Rattle.sock_model.specs.Layout.{open_index}
 use Rattle.corr_core.specs.declared.marks.Plan.{Plan as IdPlan}
-use Rattle.seat_programs.specs.Programs.{Rest, NO_SOCKET}
+use Rattle.seat_programs.specs.Programs.{Rest}
 use Rattle.seat_programs.specs.Clients.{ending_of}
 use Rattle.seat_programs.specs.Cores.{Core, SeatState, resolved, next_step, waiting_at, with_seat}
 use Rattle.seat_programs.specs.Ticks.{Moment, run, AreAnswered}

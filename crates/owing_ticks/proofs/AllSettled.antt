@@ -6,7 +6,7 @@ use mathlib.Core.Option.{some, some-injective}
 use lib.ListN.{get_elem?}
 use Rattle.sock_words.specs.declared.plain.Plan.{Plan}
 use Rattle.sock_model.specs.Layout.{open_index}
-use Rattle.corr_core.specs.Word.{Parts, call_id, id_slot, id_first}
+use Rattle.corr_core.specs.Word.{Parts}
 use Rattle.corr_core.specs.Law.{Stands, vacant, retired, claimed, opened, locked, leaving}
 use Rattle.corr_core.specs.declared.marks.Plan.{Plan as IdPlan}
 use Rattle.corr_core.proofs.Notes.{at_length}
@@ -26,6 +26,7 @@ use Rattle.call_owing.specs.Settled.{IsAtRest, WaitsAside, WaitsForOpen, OpensKn
 use Rattle.call_owing.proofs.End.{none_held}
 use Rattle.call_owing.specs.Below.id_runs.proofs.Loops.{and_left, and_right}
 use Rattle.call_owing.specs.Below.programs_allowed.specs.program_steps.proofs.Cases.{elem_there}
+use Rattle.sock_words.specs.Words.{call_id, id_slot, id_first}
 
 not_zero : (n : ℕ) → not (n == 0) ≡ true → n ≢ 0
 not_zero n e z = true≢false (sym e ∙ ap not (eq-eqb n 0 z))

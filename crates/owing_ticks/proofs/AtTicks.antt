@@ -3,7 +3,7 @@ use Rattle.std.proofs.Common.{◌≡◌, ◌≢◌, ℕ, ◌<◌, ◌≤◌, Lis
 use Rattle.std.specs.List.{AllByRecursion}
 use mathlib.Core.Option.{some}
 use lib.ListN.{get_elem?}
-use Rattle.sock_words.specs.Words.{at_word_first, at_word_slot}
+use Rattle.sock_words.specs.Words.{at_word_first, at_word_slot, call_id, id_slot}
 use Rattle.corr_core.specs.declared.marks.Plan.{Plan as IdPlan}
 use Rattle.seat_programs.specs.id_rule.specs.Lawful as ids
 use Rattle.seat_programs.specs.Asides.{Step, Found, StoreAt, LoadAt}
@@ -17,7 +17,6 @@ use Rattle.owing_ticks.proofs.Beside.{Behind, still_keeps}
 use Rattle.owing_ticks.proofs.Stores.{stores_keep, loads_keep}
 use Rattle.owing_ticks.proofs.Seats.{Few}
 use Rattle.owing_ticks.proofs.Ticks.{After, follows}
-use Rattle.corr_core.specs.Word.{call_id, id_slot}
 
 module _ (q : IdPlan) (narrow : q.slots ≤ 65536) (life : ℕ → Option ℕ) (low_links : (k s : ℕ) → life k ≡ Some s → k < 65535) (calls : List ℕ) (c : Core) (us : List Owing) (sound : SoundOwing q life calls c us) (i : ℕ) (seat : SeatState) (u : Owing) (at_seat : get_elem? c.seats i ≡ some seat) (at : get_elem? us i ≡ some u)
     (plan : c.calls.plan ≡ q) (sized : length c.calls.words ≡ ids.all_words q) (few : AllByRecursion Few (waiting_at c.calls.waiting i)) where

@@ -4,7 +4,7 @@ use Rattle.std.specs.Prelude as std
 use mathlib.Core.Option.{some}
 use lib.ListN.{get_elem?}
 use Rattle.sock_words.specs.declared.outcome.Outcome.{Outcome}
-use Rattle.corr_core.specs.Word.{Parts, parts, attempt_of, posted_word, locked_word, unlocked_word, call_id, id_slot, id_first}
+use Rattle.corr_core.specs.Word.{Parts, parts, attempt_of, posted_word, locked_word, unlocked_word}
 use Rattle.corr_core.specs.declared.marks.Plan.{Plan as IdPlan}
 use Rattle.seat_programs.specs.id_rule.specs.Lawful as ids
 use Rattle.seat_programs.specs.Asides.{LockId, PostId, UnlockId}
@@ -18,6 +18,7 @@ use Rattle.call_owing.proofs.Changes.{past_on}
 use Rattle.call_owing.proofs.Words.{worded}
 use Rattle.owing_ticks.proofs.Exchanges.{Holds, stays_so, locks_so, queues_so, posting_keeps, same_step}
 use Rattle.owing_ticks.proofs.Turns.{unlocks_keep}
+use Rattle.sock_words.specs.Words.{call_id, id_slot, id_first}
 
 set_get : (l : List ℕ) (k : ℕ) → set l k (get_or l k 0) ≡ l
 set_get [] k = refl

@@ -6,7 +6,7 @@ use native.Mathlib.Decide.{ℕ_discrete}
 use mathlib.Core.Option.{some}
 use lib.ListN.{get_elem?}
 use Rattle.sock_words.specs.declared.outcome.Outcome.{Outcome}
-use Rattle.corr_core.specs.Word.{Parts, parts, attempt_of, locked_word, id_slot, id_first}
+use Rattle.corr_core.specs.Word.{Parts, parts, attempt_of, locked_word}
 use Rattle.corr_core.specs.declared.marks.Plan.{Plan as IdPlan}
 use Rattle.seat_programs.specs.id_rule.specs.Lawful as ids
 use Rattle.seat_programs.specs.Posts.{is_first}
@@ -17,6 +17,7 @@ use Rattle.call_owing.proofs.Posts.{true_false}
 use Rattle.call_owing.proofs.Changes.{past_on}
 use Rattle.call_owing.proofs.Quiet.{distinct_tail}
 use Rattle.call_owing.proofs.Words.{Forward, WordStep, worded}
+use Rattle.sock_words.specs.Words.{id_slot, id_first}
 
 module _ (q : IdPlan) (life : ℕ → Option ℕ) (calls : List ℕ) (c : Core) (us : List Owing) (i : ℕ) (u : Owing) (law : OwingLaw q life calls c us) (at : get_elem? us i ≡ some u) (sized : length c.calls.words ≡ ids.all_words q)
     (ss : List SeatState) (os : List (std.Option Outcome)) (s : ℕ) (inside : s < q.slots) where

@@ -3,7 +3,7 @@ use Rattle.std.proofs.Common.{◌≡◌, ◌≢◌, ℕ, zero, suc, ◌+◌, ◌
 use Rattle.std.proofs.lemmas.Bool.{true≢false}
 use mathlib.Core.Option.{none, some}
 use lib.ListN.{get_elem?}
-use Rattle.sock_words.specs.Words.{socket_id, socket_id_version, socket_id_slot}
+use Rattle.sock_words.specs.Words.{socket_id, socket_id_version, socket_id_slot, NO_SOCKET}
 use Rattle.sock_words.specs.declared.plain.Plan.{Plan}
 use Rattle.sock_model.specs.declared.view.View.{View}
 use Rattle.sock_model.specs.Layout.{open_index, link_index}
@@ -14,7 +14,7 @@ use Rattle.corr_core.specs.declared.marks.Plan.{Plan as IdPlan}
 use Rattle.corr_core.proofs.Notes.{at_length}
 use Rattle.seat_programs.specs.Calls.{Call, SetOdd, FindLink, LoadOpen}
 use Rattle.seat_programs.specs.Asides.{Step, Found, StoreAt, TakeBytes}
-use Rattle.seat_programs.specs.Programs.{Program, Do, PutHome, Write, Aside, NO_SOCKET}
+use Rattle.seat_programs.specs.Programs.{Program, Do, PutHome, Write, Aside}
 use Rattle.seat_programs.specs.Cores.{Core, SeatState, found_at}
 use Rattle.seat_programs.specs.StepTables.{word_of}
 use Rattle.seat_programs.specs.Ticks.{Answer, Moment, ticked, run, AreAnswered}

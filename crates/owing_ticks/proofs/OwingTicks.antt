@@ -15,7 +15,7 @@ use Rattle.sock_model.specs.declared.home.Home.{Home}
 use Rattle.sock_model.specs.declared.home.Home.TheVariants.{Empty, Link, Message}
 use Rattle.sock_model.specs.Messages.{Letter}
 use Rattle.sock_model.specs.Reads.{message, link_home}
-use Rattle.corr_core.specs.Word.{parts, id_slot}
+use Rattle.corr_core.specs.Word.{parts}
 use Rattle.corr_core.specs.declared.marks.Plan.{Plan as IdPlan}
 use Rattle.seat_programs.specs.id_rule.specs.Lawful as ids
 use Rattle.seat_programs.specs.Calls.{Call, TakeLink, PutLink, PutMessage}
@@ -48,6 +48,7 @@ use Rattle.call_owing.proofs.Rounds.{owes_round}
 use Rattle.call_owing.proofs.Programs.{block_goes}
 use Rattle.call_owing.specs.Below.programs_allowed.specs.program_steps.proofs.Cases.{elem_there}
 pub use Rattle.call_owing.specs.Below.id_runs.proofs.Ticks.{message_there}
+use Rattle.sock_words.specs.Words.{id_slot}
 
 module _ (p : Plan) (q : IdPlan) (narrow : q.slots ≤ 65536) (same : q.operations ≡ p.operations) (life : ℕ → Maybe ℕ) (low_links : (k s : ℕ) → life k ≡ Some s → k < 65535) (calls : List ℕ) where
   module _ (c : Core) (us : List Owing) (sound : SoundOwing q life calls c us) (vs : List IdView) (known : SoundIds p q c vs) (i : ℕ) (seat : SeatState) (u : Owing) (at_seat : get_elem? c.seats i ≡ some seat) (at : get_elem? us i ≡ some u)

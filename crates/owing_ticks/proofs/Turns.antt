@@ -4,7 +4,7 @@ use Rattle.std.specs.Prelude as std
 use mathlib.Core.Option.{some}
 use lib.ListN.{get_elem?}
 use Rattle.sock_words.specs.declared.outcome.Outcome.{Outcome}
-use Rattle.corr_core.specs.Word.{Parts, parts, attempt_of, made_word, unlocked_word, free_word, call_id, id_slot, id_first}
+use Rattle.corr_core.specs.Word.{Parts, parts, attempt_of, made_word, unlocked_word, free_word}
 use Rattle.corr_core.specs.declared.marks.Plan.{Plan as IdPlan}
 use Rattle.seat_programs.specs.id_rule.specs.Lawful as ids
 use Rattle.seat_programs.specs.Posts.{advance_of}
@@ -15,6 +15,7 @@ use Rattle.call_owing.proofs.Posts.{id_back, not_equal}
 use Rattle.call_owing.proofs.Changes.{past_on, among_right}
 use Rattle.call_owing.proofs.Words.{worded}
 use Rattle.owing_ticks.proofs.Exchanges.{word_set, ats_set, own_past, tail, stored_there, back_at}
+use Rattle.sock_words.specs.Words.{call_id, id_slot, id_first}
 
 module _ (q : IdPlan) (narrow : q.slots ≤ 65536) (life : ℕ → Option ℕ) (calls : List ℕ) (c : Core) (us : List Owing) (i : ℕ) (u : Owing) (law : OwingLaw q life calls c us) (at : get_elem? us i ≡ some u) (sized : length c.calls.words ≡ ids.all_words q)
     (ss : List SeatState) (os : List (std.Option Outcome)) (s : ℕ) (inside : s < q.slots) where

@@ -7,12 +7,12 @@ use native.Mathlib.Decide.{ℕ_discrete}
 use mathlib.Core.Option.{Option, some, none}
 use lib.ListN.{get_elem?}
 use Rattle.sock_words.specs.declared.plain.Plan.{Plan}
-use Rattle.sock_words.specs.Words.{at_word, at_word_attempt}
+use Rattle.sock_words.specs.Words.{at_word, at_word_attempt, call_id, id_slot, id_first}
 use Rattle.sock_model.specs.declared.home.Home.{Home}
 use Rattle.sock_model.specs.declared.view.View.{View}
 use Rattle.sock_model.specs.Weights.{total}
 use Rattle.sent_once.specs.Below.slot_steps.proofs.Sums.{term_le, total-append}
-use Rattle.corr_core.specs.Word.{parts, call_id, id_slot, id_first}
+use Rattle.corr_core.specs.Word.{parts}
 use Rattle.corr_core.specs.declared.marks.Plan.{Plan as IdPlan}
 use Rattle.sent_once.specs.Below.id_runs.specs.Held.{IdView, MayId}
 use Rattle.sent_once.specs.Below.id_runs.specs.Goes.{FindsId, SoundIds, IsFittingIds}

@@ -2,7 +2,7 @@
 use Rattle.std.proofs.Common.{◌≡◌, ◌≢◌, ℕ, ◌+◌, ◌≤◌, ◌⊎◌, inl, inr, not, Bool, true, false, cond, eqb, eqb-true, leb, Option, Some, None, refl, sym, ap, ◌∙◌, subst}
 use Rattle.seat_programs.specs.brpc_model.specs.Frame.{Frame}
 use Rattle.seat_programs.specs.brpc_model.specs.ResponseOutcome.{ending_of}
-use Rattle.corr_core.specs.Word.{Parts, parts, posted_word, unlocked_word, code_of, attempt_of, error_of, id_slot, id_first, call_id}
+use Rattle.corr_core.specs.Word.{Parts, parts, posted_word, unlocked_word, code_of, attempt_of, error_of}
 use Rattle.corr_core.specs.Law.{LAST}
 use Rattle.corr_core.specs.Decisions.{WHOLE, ends_call}
 use Rattle.sock_message.specs.Asked.{Asked}
@@ -16,6 +16,7 @@ use Rattle.sent_once.specs.Below.programs_allowed.specs.program_walks.proofs.Thr
 use Rattle.sent_once.specs.Below.label_runs.proofs.Loops.{id_back, not_true, not_equal, and_left, locked_parts, none_left, word_got}
 use Rattle.own_decisions.proofs.OwnDecisionsStands.{Stand, Calm, Trying, Past, Posted, Eases, MayPost, MayDecide, IsTryingAt, FindsAside, unlocked_stand, unlocks_stand, posted_stand, locked_stand, LeavesUnlock, LeavesStand, Aims}
 use Rattle.sent_once.specs.accept_counts.proofs.Words.{unlocked_is}
+use Rattle.sock_words.specs.Words.{id_slot, id_first, call_id}
 
 pub way : (s : Stand) (b : Bool) (x y : Program) → (b ≡ true → Aims s x) → (b ≡ false → Aims s y) → Aims s (cond b x y)
 way s true x y f g = f refl

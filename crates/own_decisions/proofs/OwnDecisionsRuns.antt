@@ -7,7 +7,7 @@ use Rattle.sock_words.specs.declared.plain.Plan.{Plan}
 use Rattle.sock_model.specs.declared.home.Home.TheVariants.{Empty, Link, Message}
 use Rattle.sock_model.specs.declared.view.View.{View}
 use Rattle.sock_model.specs.Weights.{total}
-use Rattle.corr_core.specs.Word.{error_of, attempt_of, call_id, id_slot, id_first}
+use Rattle.corr_core.specs.Word.{error_of, attempt_of}
 use Rattle.corr_core.specs.declared.marks.Plan.{Plan as IdPlan}
 use Rattle.corr_core.specs.Decisions.{WHOLE}
 use Rattle.seat_programs.specs.id_rule.specs.Lawful.{at_index}
@@ -49,6 +49,7 @@ use Rattle.own_decisions.proofs.OwnDecisionsTicks.{of_stand, IsPast, StandFits, 
 use Rattle.sent_once.specs.Below.story_steps.proofs.Attempts.{in_front}
 use Rattle.sent_once.specs.accept_counts.proofs.Runs.{none_waits}
 use Rattle.sent_once.specs.Below.outcome_stories.specs.Stories.{In}
+use Rattle.sock_words.specs.Words.{call_id, id_slot, id_first}
 
 -- ## Lists
 

@@ -7,7 +7,7 @@ use Rattle.sock_io.specs.declared.link.Put.{Put}
 use Rattle.sock_io.specs.declared.link.Ready.{Ready}
 use Rattle.sock_model.specs.declared.chain.Heading.{Heading}
 use Rattle.call_owing.specs.Below.sock_steps.proofs.Quiet.{either_way}
-use Rattle.corr_core.specs.Word.{parts, posted_word, unlocked_word, code_of, error_of, call_id, id_slot, id_first}
+use Rattle.corr_core.specs.Word.{parts, posted_word, unlocked_word, code_of, error_of}
 use Rattle.corr_core.specs.Law.{LAST}
 use Rattle.corr_core.specs.Decisions.{ends_call}
 use Rattle.corr_core.specs.Versions.{is_early}
@@ -25,6 +25,7 @@ use Rattle.seat_programs.specs.Readers.{LIMIT, slot_in, version_in, has_response
 use Rattle.seat_programs.specs.Rounds.{round}
 use Rattle.call_owing.specs.Owns.{Behind, Other, HasClaimed, HasPut, HasLock, HasTaken, Grows, IsIdOf, MayOwn, taken_behind, behind, IsOfSought, AtOwn, LeavesLock, behind_head, Owns}
 use Rattle.call_owing.specs.Below.id_runs.proofs.Loops.{and_left}
+use Rattle.sock_words.specs.Words.{call_id, id_slot, id_first}
 
 -- ## More calls with ids
 

@@ -7,7 +7,7 @@ use mathlib.Core.Option.{Option, some, none, some-ne-none}
 use native.Mathlib.Decide.{ℕ_discrete}
 use lib.ListN.{get_elem?}
 use Rattle.atomic_table.proofs.Lists.{at_set}
-use Rattle.sock_words.specs.Words.{socket_id, vref_version}
+use Rattle.sock_words.specs.Words.{socket_id, vref_version, NO_SOCKET}
 use Rattle.sock_words.specs.declared.plain.Plan.{Plan}
 use Rattle.sock_model.specs.declared.chain.Right.{Right}
 use Rattle.sock_model.specs.declared.home.Home.{Home}
@@ -25,7 +25,7 @@ use Rattle.call_owing.specs.Below.sock_steps.proofs.Quiet.{either_way}
 use Rattle.seat_programs.specs.declared.task.Task.{Task}
 use Rattle.seat_programs.specs.declared.task.Sizes.{Sizes}
 use Rattle.seat_programs.specs.Calls.{Call, CreateLife, StoreOpen}
-use Rattle.seat_programs.specs.Programs.{Program, Do, Rest, NO_SOCKET, open_from, make_socket}
+use Rattle.seat_programs.specs.Programs.{Program, Do, Rest, open_from, make_socket}
 use Rattle.seat_programs.specs.Clients.{HeldLife, operation, client_from, ending_of}
 use Rattle.seat_programs.specs.Cores.{Calls, Core, SeatState, found_at, words_after, homes_after, hand_after, resolved, next_step, waiting_at, with_seat, stepped}
 use Rattle.seat_programs.specs.StepTables.{word_of, word_after}

@@ -23,7 +23,7 @@ use Rattle.seat_programs.specs.Heads.{Head, Exit, Posts, Unlocks, Decides, Locks
 use Rattle.seat_programs.specs.Rounds.{round, first_step}
 use Rattle.seat_programs.specs.Beside.{found_in, more_given, calls_after}
 use Rattle.program_steps.specs.Fits.{FitsFound}
-use Rattle.seat_programs.specs.corr_core.specs.Word.{parts, code_of, id_slot}
+use Rattle.seat_programs.specs.corr_core.specs.Word.{parts, code_of}
 use Rattle.seat_programs.specs.Asides.{PutCall, TakeBytes, Taking, Bytes}
 use Rattle.seat_programs.specs.corr_core.specs.Decisions.{ends_call}
 use Rattle.seat_programs.specs.Heads.{HasEnded}
@@ -40,6 +40,7 @@ use Rattle.program_steps.specs.GoesOn.{GoesOn}
 use Rattle.program_steps.specs.Sound.{Sound, views_with_message, views_with_link, views_with, views_of, views_after, FitsBeside, IsFitting}
 use Rattle.program_steps.proofs.Passes.{goes_round}
 use Rattle.program_steps.proofs.Rounds.{begins_round}
+use Rattle.sock_words.specs.Words.{id_slot}
 
 -- of two lists of one length each place of one is a place of the other
 pub elem_there : {A B : Type 0} (xs : List A) (ys : List B) (i : ℕ) (x : A) → length ys ≡ length xs → get_elem? xs i ≡ some x → (y : B) × (get_elem? ys i ≡ some y)

@@ -5,7 +5,7 @@ use Rattle.sock_words.specs.declared.plain.Plan.{Plan}
 use Rattle.sock_words.specs.Codes.{is_final}
 use Rattle.sock_model.specs.declared.chain.Heading.{Heading}
 use Rattle.sock_model.specs.declared.view.View.{View}
-use Rattle.seat_programs.specs.corr_core.specs.Word.{Parts, parts, posted_word, locked_word, unlocked_word, code_of, error_of, id_slot, id_first}
+use Rattle.seat_programs.specs.corr_core.specs.Word.{Parts, parts, posted_word, locked_word, unlocked_word, code_of, error_of}
 use Rattle.seat_programs.specs.corr_core.specs.Versions.{is_early}
 use Rattle.seat_programs.specs.corr_core.specs.Decisions.{ends_call}
 use Rattle.seat_programs.specs.brpc_model.specs.Frame.{Frame}
@@ -22,6 +22,7 @@ use Rattle.seat_programs.specs.StepsOfNames.{found_id}
 use Rattle.seat_programs.specs.StepsOfNames.{FindsId}
 use Rattle.program_steps.specs.Fits.{FitsMore, FitsWord, FitsTaken, FitsPosting, FitsUnlocking, FitsLocking, FitsEnded, FitsRetry}
 use Rattle.program_steps.specs.GoesOn.{GoesOn}
+use Rattle.sock_words.specs.Words.{id_slot, id_first}
 
 -- ## Words
 
@@ -129,7 +130,7 @@ module _ (p : Plan) (v : View) where
   unlocked_goes r k few goes (HasNext word e) f = (few, decide_goes r.id word e k f goes)
 
   pub answer_goes : (frame : Frame) (first : ℕ) (next : Program) → GoesOn p v next → GoesOn p v (answer frame first next)
-  answer_goes frame first next goes = λ asked _. end_goes (slot_in frame) (Say asked.operation (ending_of (Rattle.seat_programs.specs.corr_core.specs.Word.call_id (slot_in frame) first) frame) next) goes
+  answer_goes frame first next goes = λ asked _. end_goes (slot_in frame) (Say asked.operation (ending_of (Rattle.sock_words.specs.Words.call_id (slot_in frame) first) frame) next) goes
 
   answered_goes : (frame : Frame) (kept : List Frame) (k : List Frame → Program) → ((kept' : List Frame) → GoesOn p v (k kept')) → Goes FitsLocking (answered frame kept k)
   answered_goes frame kept k goes (NotThere found) f = goes (cond (is_early (version_in frame) (parts found)) (kept ++ frame ∷ []) kept)

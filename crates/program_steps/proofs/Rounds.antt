@@ -8,7 +8,7 @@ use mathlib.Core.Logic.{dite}
 use native.Mathlib.Decide.{ℕ_discrete}
 use lib.ListN.{get_elem?}
 use Rattle.sock_words.specs.declared.plain.Plan.{Plan}
-use Rattle.sock_words.specs.Words.{socket_id_version, socket_id_slot, vref_version, vref_nref, ticket_request, ticket_generation}
+use Rattle.sock_words.specs.Words.{socket_id_version, socket_id_slot, vref_version, vref_nref, ticket_request, ticket_generation, UNCONNECTED}
 use Rattle.seat_programs.specs.sock_io.specs.declared.link.Put.{Put}
 use Rattle.seat_programs.specs.sock_io.specs.declared.link.Put.TheVariants as puts
 use Rattle.seat_programs.specs.sock_io.specs.declared.link.Ready.{Ready}
@@ -31,7 +31,6 @@ use Rattle.seat_programs.specs.Ticks.{FitsPut}
 use Rattle.sock_steps.specs.slot_steps.proofs.Sums.{total_mono, about-here}
 use Rattle.sock_steps.specs.slot_steps.proofs.Numbers.{only-same, only-else}
 use Rattle.sock_steps.specs.slot_steps.proofs.Slots.{hold_ref}
-use Rattle.sock_model.specs.Memory.{UNCONNECTED}
 use Rattle.seat_programs.specs.Calls.{StoreCode, SubRef, ReadNext, FreeRequest, DropPlace, EmptyHead, ReverseNext}
 use Rattle.seat_programs.specs.Parts.{room_of_part}
 use Rattle.seat_programs.specs.Writings.{Holder, Writing, Puts, Waits, Empties, Walks}

@@ -4,11 +4,11 @@ use mathlib.Core.Logic.{dite}
 use mathlib.Core.Option.{some, some-injective, some-ne-none}
 use native.Mathlib.Decide.{ℕ_discrete}
 use lib.ListN.{get_elem?}
-use Rattle.sock_words.specs.Words.{socket_id_version, socket_id_slot, vref_version}
+use Rattle.sock_words.specs.Words.{socket_id_version, socket_id_slot, vref_version, NO_SOCKET}
 use Rattle.sock_words.specs.declared.plain.Plan.{Plan}
 use Rattle.sock_model.specs.Layout.{ref_index, open_index}
 use Rattle.seat_programs.specs.Calls.{Call, AddRef, SetOdd, LoadOpen}
-use Rattle.seat_programs.specs.Programs.{Program, Do, NO_SOCKET, address, set_failed, release}
+use Rattle.seat_programs.specs.Programs.{Program, Do, address, set_failed, release}
 use Rattle.seat_programs.specs.Clients.{ending_of}
 use Rattle.seat_programs.specs.StepTables.{word_of}
 use Rattle.seat_programs.specs.Cores.{found_at}

@@ -13,7 +13,7 @@ use Rattle.sock_model.specs.declared.view.View.{View}
 use Rattle.sock_model.specs.Layout.{open_index}
 use Rattle.seat_programs.specs.Calls.{Call, LoadOpen, StoreOpen}
 use Rattle.seat_programs.specs.Heads.{Head, Exit, Opens, Reads}
-use Rattle.seat_programs.specs.Programs.{Program, Do, Rest, Round, NO_SOCKET}
+use Rattle.seat_programs.specs.Programs.{Program, Do, Rest, Round}
 use Rattle.seat_programs.specs.Readers.{read, reader}
 use Rattle.seat_programs.specs.Cores.{Calls, Core, SeatState, found_at, words_after, hand_after, resolved, next_step, waiting_at, with_seat, stepped}
 use Rattle.seat_programs.specs.StepTables.{word_of, word_after}
@@ -30,6 +30,7 @@ use Rattle.sock_runs.specs.program_steps.proofs.Cases.{ComesNext, tick_keeps_mar
 use Rattle.sock_runs.proofs.LinkTicks.{RetriesGo}
 use Rattle.sock_runs.proofs.Ticks.{sound_ticks}
 use Rattle.seat_programs.specs.Rounds.{first_step}
+use Rattle.sock_words.specs.Words.{NO_SOCKET}
 
 -- ## Programs that load no word of an `open`
 

@@ -6,7 +6,7 @@ use mathlib.Core.Option.{some, some-ne-none}
 use native.Mathlib.Decide.{ℕ_discrete}
 use lib.ListN.{get_elem?}
 use Rattle.atomic_table.proofs.Lists.{at_set, set_else}
-use Rattle.sock_words.specs.Words.{socket_id, socket_id_version, socket_id_slot, vref_version}
+use Rattle.sock_words.specs.Words.{socket_id, socket_id_version, socket_id_slot, vref_version, NO_SOCKET}
 use Rattle.sock_words.specs.declared.plain.Plan.{Plan}
 use Rattle.sock_model.specs.declared.view.View.{View}
 use Rattle.sock_model.specs.Layout.{ref_index, open_index}
@@ -14,7 +14,7 @@ use Rattle.sock_model.specs.Weights.{is_failer}
 use Rattle.sock_model.specs.Slots.{count, live}
 use Rattle.sock_model.specs.References.{slot_facts}
 use Rattle.sock_steps.specs.slot_steps.proofs.Numbers.{life_is, life-in}
-use Rattle.seat_programs.specs.Programs.{Rest, NO_SOCKET}
+use Rattle.seat_programs.specs.Programs.{Rest}
 use Rattle.seat_programs.specs.Clients.{ending_of}
 use Rattle.seat_programs.specs.Cores.{Core, SeatState, resolved, next_step, waiting_at, with_seat}
 use Rattle.seat_programs.specs.Scripts.{is_ending}

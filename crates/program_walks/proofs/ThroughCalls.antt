@@ -4,18 +4,18 @@ use Rattle.std.specs.Prelude as std
 use Rattle.std.specs.Prelude.{None}
 use mathlib.Core.Option.{some, some-injective, some-ne-none}
 use lib.ListN.{get_elem?}
-use Rattle.sock_words.specs.Words.{socket_id_version, socket_id_slot, vref_version, at_word, at_word_first, at_word_slot, at_word_link, at_word_attempt}
+use Rattle.sock_words.specs.Words.{socket_id_version, socket_id_slot, vref_version, at_word, at_word_first, at_word_slot, at_word_link, at_word_attempt, call_id, id_slot, id_first, NO_SOCKET}
 use Rattle.sock_words.specs.declared.outcome.Outcome.TheVariants.{Unopened, Joined, NotBegun}
 use Rattle.sock_steps.proofs.Quiet.{either_way}
 use Rattle.sock_model.specs.declared.chain.Heading.{Heading}
-use Rattle.seat_programs.specs.corr_core.specs.Word.{parts, error_of, call_id, id_slot, id_first}
+use Rattle.seat_programs.specs.corr_core.specs.Word.{parts, error_of}
 use Rattle.seat_programs.specs.corr_core.specs.Decisions.{WHOLE}
 use Rattle.seat_programs.specs.brpc_model.specs.Frame.{Frame}
 use Rattle.seat_programs.specs.sock_message.specs.Asked.{Asked, name_of, frame_of}
 use Rattle.seat_programs.specs.Calls.{LookWord, FindLink, ClaimRequest, LoadName}
 use Rattle.seat_programs.specs.Asides.{ClaimId, PutCall, MakeId, StoreCall, LoadCall, StoreAt, LoadAt, TakeCall}
 use Rattle.seat_programs.specs.Heads.{Head, Exit, First, Unlocks, Opens, Reads, Retry, Posting, HasLocked, Unlocking, IsOpen, HasNext, Locking, NotThere, Has, Ended}
-use Rattle.seat_programs.specs.Programs.{Program, Do, Say, Sent, Rest, Write, Aside, Round, Keep, Retries, NO_SOCKET, release, address}
+use Rattle.seat_programs.specs.Programs.{Program, Do, Say, Sent, Rest, Write, Aside, Round, Keep, Retries, release, address}
 use Rattle.seat_programs.specs.Posts.{post, posted, decided}
 use Rattle.seat_programs.specs.Attempts.{claims_from, heading_for, attempt, begin_call, claim_id, call, tried_again, retry_locked, retry, expire_outcome, expire, join}
 use Rattle.seat_programs.specs.Readers.{LIMIT, kept_for, ends_with, posted_last, post_each, thrown_away, read, reader}

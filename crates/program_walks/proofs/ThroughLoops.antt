@@ -5,7 +5,7 @@ use Rattle.std.specs.Prelude.{Option, Some, None}
 use Rattle.sock_words.specs.declared.outcome.Outcome.TheVariants.{CallFailed}
 use mathlib.Core.Option.{none, some-ne-none}
 use Rattle.sock_steps.proofs.Quiet.{either_way}
-use Rattle.seat_programs.specs.corr_core.specs.Word.{parts, posted_word, unlocked_word, code_of, error_of, call_id, id_slot, id_first}
+use Rattle.seat_programs.specs.corr_core.specs.Word.{parts, posted_word, unlocked_word, code_of, error_of}
 use Rattle.seat_programs.specs.corr_core.specs.Law.{LAST}
 use Rattle.seat_programs.specs.corr_core.specs.Decisions.{ends_call}
 use Rattle.seat_programs.specs.corr_core.specs.Versions.{is_early}
@@ -21,6 +21,7 @@ use Rattle.seat_programs.specs.Readers.{LIMIT, slot_in, version_in, has_response
 use Rattle.seat_programs.specs.Rounds.{round}
 use Rattle.program_walks.proofs.Records.{awaits}
 use Rattle.program_walks.proofs.Through.{PassesErrors, PassesLocked, PassesLocks, PassesJoins, PassesReads, PassesOpens, is_of_errors, locked}
+use Rattle.sock_words.specs.Words.{call_id, id_slot, id_first}
 
 module _ (G : Program → Type 0) (g : PassesLocked G) where
   -- ## Locks given back, and decisions

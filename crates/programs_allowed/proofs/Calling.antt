@@ -2,7 +2,7 @@
 use Rattle.std.proofs.Common.{◌≡◌, ◌≢◌, ℕ, zero, suc, ◌+◌, ◌*◌, ◌-◌, ◌/◌, ◌%◌, ◌<◌, ◌≤◌, Bool, true, false, List, [], ◌∷◌, ◌++◌, length, refl, sym, subst, inl, inr, arith, cond, eqb}
 use mathlib.Core.List.{cons-ne-nil}
 use Rattle.sock_words.specs.declared.plain.Plan.{Plan}
-use Rattle.sock_words.specs.Words.{socket_id_version, socket_id_slot, vref_version, at_word}
+use Rattle.sock_words.specs.Words.{socket_id_version, socket_id_slot, vref_version, at_word, call_id, id_first, id_slot}
 use Rattle.sock_words.specs.declared.outcome.Outcome.TheVariants.{Unopened}
 use Rattle.sock_model.specs.declared.chain.Entry.{Entry}
 use Rattle.sock_model.specs.declared.chain.Heading.{Heading}
@@ -12,7 +12,7 @@ use Rattle.sock_model.specs.Weights.{is_hold, is_met}
 use Rattle.sock_model.specs.SlotRows.{looked, met_link}
 use Rattle.sock_model.specs.ChainRows.{with_claim}
 use Rattle.slot_steps.proofs.Numbers.{only-same}
-use Rattle.corr_core.specs.Word.{parts, call_id, id_first, id_slot}
+use Rattle.corr_core.specs.Word.{parts}
 use Rattle.seat_programs.specs.sock_message.specs.Asked.{Asked, name_of, meta_of, frame_of}
 use Rattle.seat_programs.specs.Asides.{StoreAt}
 use Rattle.seat_programs.specs.Programs.{Program, Do, Say, Aside, release}

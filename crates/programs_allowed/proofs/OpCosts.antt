@@ -4,9 +4,9 @@ use Rattle.std.specs.Prelude.{Option, Some, None}
 use Rattle.std.specs.List.{AllByRecursion}
 use Rattle.sock_words.specs.declared.plain.Plan.{Plan}
 use Rattle.sock_words.specs.declared.outcome.Outcome.TheVariants.{Opened, SlotsFull, Unopened, Gone, Full, Held, Freed, Kept, NotBegun, Joined}
-use Rattle.sock_words.specs.Words.{socket_id, socket_id_slot, vref_version}
+use Rattle.sock_words.specs.Words.{socket_id, socket_id_slot, vref_version, call_id, NO_SOCKET}
 use Rattle.sock_model.specs.Weights.{total}
-use Rattle.corr_core.specs.Word.{parts, error_of, call_id}
+use Rattle.corr_core.specs.Word.{parts, error_of}
 use Rattle.corr_core.specs.declared.marks.Plan.{Plan as IdPlan}
 use Rattle.corr_core.specs.Decisions.{WHOLE}
 use Rattle.seat_programs.specs.declared.task.Op.{Op}
@@ -15,7 +15,7 @@ use Rattle.seat_programs.specs.declared.task.Task.{Task}
 use Rattle.seat_programs.specs.sock_message.specs.Asked.{Asked, name_of}
 use Rattle.seat_programs.specs.Calls.{ClaimSlot, CreateLife, StoreLink, ResetHead, ClearCode, StoreName, LoadName, StoreOpen, LoadOpen, LookWord, ClaimRequest}
 use Rattle.seat_programs.specs.Heads.{Joins}
-use Rattle.seat_programs.specs.Programs.{Program, Do, Say, Sent, Round, NO_SOCKET, release, address, reach, set_failed, no_socket, make_socket, open_from, fail_outcome, fail, hold, end_open}
+use Rattle.seat_programs.specs.Programs.{Program, Do, Say, Sent, Round, release, address, reach, set_failed, no_socket, make_socket, open_from, fail_outcome, fail, hold, end_open}
 use Rattle.seat_programs.specs.Posts.{post_with, posted}
 use Rattle.seat_programs.specs.Sends.{heading_of, accept, claim_from, start, send}
 use Rattle.seat_programs.specs.Attempts.{begin_call, claim_id, call, expire_outcome, expire, join}

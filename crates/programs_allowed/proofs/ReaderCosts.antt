@@ -1,13 +1,13 @@
 -- What a reader costs: its reading, the end of its socket, a post for each call, and what it throws away.
 use Rattle.std.proofs.Common.{ℕ, suc, ◌+◌, ◌-◌, ◌*◌, ◌&&◌, cond, eqb, nat_lt, List, [], ◌∷◌, length, arith}
 use Rattle.sock_words.specs.declared.plain.Plan.{Plan}
-use Rattle.sock_words.specs.Words.{socket_id_slot, at_word_first, at_word_slot, at_word_link, at_word_attempt}
+use Rattle.sock_words.specs.Words.{socket_id_slot, at_word_first, at_word_slot, at_word_link, at_word_attempt, call_id, id_first, NO_SOCKET}
 use Rattle.sock_model.specs.declared.view.View.{View}
-use Rattle.corr_core.specs.Word.{parts, error_of, call_id, id_first}
+use Rattle.corr_core.specs.Word.{parts, error_of}
 use Rattle.program_walks.specs.brpc_model.specs.Frame.{Frame}
 use Rattle.seat_programs.specs.Asides.{LoadAt}
 use Rattle.seat_programs.specs.Heads.{Reads, Discards, Posting, HasLocked, Deciding, HasEnded, GoesOn, Ended}
-use Rattle.seat_programs.specs.Programs.{Program, Rest, Aside, Round, NO_SOCKET, address, release, set_failed}
+use Rattle.seat_programs.specs.Programs.{Program, Rest, Aside, Round, address, release, set_failed}
 use Rattle.seat_programs.specs.Posts.{post_with, decided}
 use Rattle.seat_programs.specs.Readers.{LIMIT, kept_for, ends_with, posted_last, post_each, thrown_away, read, reader}
 use Rattle.program_walks.specs.program_steps.specs.Fits.{FitsPosting}

@@ -4,7 +4,7 @@ use Rattle.sock_words.specs.declared.plain.Plan.{Plan}
 use Rattle.std.proofs.lemmas.Bool.{cond_both}
 use Rattle.sock_words.specs.declared.outcome.Outcome.{Outcome}
 use Rattle.sock_words.specs.declared.outcome.Outcome.TheVariants.{Unopened, Gone, Full}
-use Rattle.sock_words.specs.Words.{socket_id_version, socket_id_slot, vref_version, ticket_request}
+use Rattle.sock_words.specs.Words.{socket_id_version, socket_id_slot, vref_version, ticket_request, IDLE}
 use Rattle.sock_model.specs.declared.chain.Claim.{Claim}
 use Rattle.sock_model.specs.declared.chain.Entry.{Entry}
 use Rattle.sock_model.specs.declared.chain.Heading.{Heading}
@@ -19,7 +19,6 @@ use Rattle.sock_model.specs.Marks.{about}
 use Rattle.sock_model.specs.SlotRows.{marks_of, looked, met_link}
 use Rattle.sock_model.specs.ChainRows.{with_claim, entry_of, more, queued, righted, new_right, without_loose, taken_right, ready_claim, filled_claim}
 use Rattle.sock_model.specs.Entries.{ticket_of}
-use Rattle.sock_model.specs.Memory.{IDLE}
 use Rattle.seat_programs.specs.Calls.{Connect}
 use Rattle.seat_programs.specs.Programs.{Program, Do, Say, Sent, TakeMessage, TakeHome, release}
 use Rattle.seat_programs.specs.Sends.{write_link, first_put, heading_of, accept, claim_from, start, send}

@@ -7,7 +7,7 @@ use Rattle.prpc_frame.specs.Meaning.{frame_of}
 use Rattle.prpc_frame.specs.declared.frame.Frame.{Frame}
 use Rattle.seat_programs.specs.Readers.{kept_for, slot_in}
 use Rattle.reader_points.specs.Kept.{is_kept_of, IsFirstKept}
-use Rattle.corr_core.specs.Word.{id_slot}
+use Rattle.sock_words.specs.Words.{id_slot}
 
 -- those of a range among these
 abbrev pub kept_of : ℕ → ℕ → List Frame → List model.Frame

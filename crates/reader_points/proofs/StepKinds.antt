@@ -3,7 +3,7 @@ use Rattle.std.proofs.Common.{◌≡◌, ℕ, ◌+◌, Bool, true, false, if◌t
 use Rattle.sock_message.specs.Asked.{Asked}
 use Rattle.seat_programs.specs.Asides as steps_aside
 use Rattle.sock_words.specs.declared.id_word.IdWord.{IdWord}
-use Rattle.corr_core.specs.Word.{parts, code_of, id_slot}
+use Rattle.corr_core.specs.Word.{parts, code_of}
 use Rattle.corr_core.specs.Decisions.{ends_call}
 use Rattle.seat_programs.specs.Heads.{Locking, Posting, HasEnded, Unlocks}
 use Rattle.seat_programs.specs.Posts.{end_id, unlocked}
@@ -36,6 +36,7 @@ use Rattle.reader_points.specs.declared.point.ReadPoint.{ReadPoint}
 use Rattle.reader_points.specs.declared.point.ReadPoint.TheVariants as points
 use Rattle.reader_points.specs.declared.point.ReadStep.TheVariants as steps
 use Rattle.reader_points.specs.Points.{Context, on_call, error_in, room_at, answer_program, close_program, fail_program, ended_call, point_program, NO_FRAME, GoesBy, GoesByWord, TakesBytes, TakesCall}
+use Rattle.sock_words.specs.Words.{id_slot}
 
 -- a reader with nothing in hand
 abbrev pub nowhere : Context

@@ -4,7 +4,7 @@ use Rattle.brpc_model.specs.Frame as model
 use Rattle.prpc_frame.specs.Meaning.{frame_of}
 use Rattle.prpc_frame.specs.declared.frame.Frame.{Frame}
 use Rattle.seat_programs.specs.Readers.{kept_for, slot_in}
-use Rattle.corr_core.specs.Word.{id_slot}
+use Rattle.sock_words.specs.Words.{id_slot}
 
 -- it is one of a version of the id behind its first, whose range has so many
 abbrev pub is_kept_of : ℕ → ℕ → model.Frame → Bool

@@ -1,9 +1,9 @@
 -- What the reader of a link has still to do, by the point at which it stands: its program from each of its steps on.
 use Rattle.std.specs.Prelude.{ℕ, ◌≡◌, ◌≤◌, ◌-◌, ◌==◌, Bool, true, false, min, nat_lt, if◌then◌else◌, List, [], ◌∷◌, ◌++◌, length, drop, Option, Some, None, pos}
 use Rattle.sock_words.specs.Codes.{EEOF, ERESPONSE}
-use Rattle.sock_words.specs.Words.{socket_id_slot, socket_id_version, at_word_link, at_word_slot, at_word_first, at_word_attempt}
+use Rattle.sock_words.specs.Words.{socket_id_slot, socket_id_version, at_word_link, at_word_slot, at_word_first, at_word_attempt, call_id, id_slot, NO_SOCKET}
 use Rattle.sock_words.specs.declared.outcome.Outcome.TheVariants.{CallFailed}
-use Rattle.corr_core.specs.Word.{parts, error_of, call_id, id_slot}
+use Rattle.corr_core.specs.Word.{parts, error_of}
 use Rattle.brpc_model.specs.Frame.{Frame, NoneYet, judged}
 use Rattle.brpc_model.specs.Stream.{stream}
 use Rattle.brpc_model.specs.ResponseOutcome.{ending_of}
@@ -11,7 +11,7 @@ use Rattle.sock_message.specs.Asked.{Asked}
 use Rattle.seat_programs.specs.Asides.{Taking, Bytes, Nothing, NoMore, AtEnd, Closed, Broken, LoadAt, TakeCall, FreeId}
 use Rattle.seat_programs.specs.Calls as calls
 use Rattle.seat_programs.specs.Heads.{Reading, Ended, Opens, Reads, Discards, Deciding, Decides}
-use Rattle.seat_programs.specs.Programs.{Program, Do, Say, Rest, Aside, Round, NO_SOCKET, address, release, set_failed}
+use Rattle.seat_programs.specs.Programs.{Program, Do, Say, Rest, Aside, Round, address, release, set_failed}
 use Rattle.seat_programs.specs.Posts.{post_with, decide, decided, end_id}
 use Rattle.seat_programs.specs.Readers.{LIMIT, slot_in, version_in, answered, responses, ended_by, read_on, read, kept_for, ends_with, posted_last, post_each, thrown_away, room_of}
 use Rattle.call_points.specs.Points.{end_program, post_program, lock_program, IsOpen}

@@ -4,13 +4,14 @@ ghost use Rattle.brpc_model.specs.Frame as model;
 ghost use Rattle.prpc_frame.specs.Meaning.{frame_of};
 ghost use Rattle.id_points.specs.Ids.{id_of};
 ghost use Rattle.reader_points.specs.Kept.{IsFirstKept, is_kept_of};
-ghost use Rattle.corr_core.specs.Word.{parts, id_slot};
+ghost use Rattle.corr_core.specs.Word.{parts};
 ghost use Rattle.reader_points.specs.Points.{Context, next_program, point_program, with_kept, HasInHand};
 
 use crate::point::{AnswerStep, Behind, FailStep, Lost, ReadNext, ReadPoint};
 use id_points::CallId;
 use prpc_frame::Frame;
 use sock_words::IdWord;
+ghost use Rattle.sock_words.specs.Words.{id_slot};
 
 /// Whether a response is one of a version of the id behind its first, whose range has so many.
 fn is_of(frame: &Frame, id: CallId, range: u8) -> bool

@@ -2,7 +2,7 @@ ghost use Rattle.std.specs.Prelude.{◌≡◌, true};
 ghost use Rattle.seat_programs.specs.Asides.{Taking};
 ghost use Rattle.brpc_model.specs.Frame.{Frame};
 ghost use Rattle.seat_programs.specs.Readers.{answered, version_in};
-ghost use Rattle.corr_core.specs.Word.{parts, call_id, id_slot};
+ghost use Rattle.corr_core.specs.Word.{parts};
 ghost use Rattle.corr_core.specs.Versions.{is_early};
 ghost use Rattle.id_points.specs.Ids.{id_of};
 ghost use Rattle.id_points.specs.Turns.{lock_on, sought_as};
@@ -16,6 +16,7 @@ use call_points::{Locker, WordStep};
 use corr_core::is_early;
 use id_points::{CallId, LockTurn, Sought};
 use sock_words::IdWord;
+ghost use Rattle.sock_words.specs.Words.{call_id, id_slot};
 
 impl Reader {
     /// Its reading has ended, by a frame fault or not.

@@ -7,7 +7,7 @@ use Rattle.brpc_model.specs.Frame as model
 use Rattle.prpc_frame.specs.Meaning.{frame_of}
 use Rattle.prpc_frame.specs.declared.frame.Frame.{Frame}
 use Rattle.sock_words.specs.declared.id_word.IdWord.{IdWord}
-use Rattle.corr_core.specs.Word.{parts, id_slot}
+use Rattle.corr_core.specs.Word.{parts}
 use Rattle.id_points.specs.Ids.{id_of}
 use Rattle.seat_programs.specs.Asides.{Taking, Bytes, Nothing, NoMore, AtEnd, Closed, Broken}
 use Rattle.seat_programs.specs.Readers.{LIMIT, slot_in, kept_for}
@@ -25,6 +25,7 @@ use Rattle.reader_seats.specs.declared.hand.Hand.{Hand}
 use Rattle.reader_seats.specs.Hands.{frame_in, is_fresh, hand_of}
 use Rattle.sock_message.specs.Asked.{nothing_asked}
 use Rattle.reader_seats.specs.Readers.{ReaderData, around, reader_program}
+use Rattle.sock_words.specs.Words.{id_slot}
 
 -- ## Behind a cut
 

@@ -2,7 +2,7 @@
 use Rattle.std.proofs.Common.{◌≡◌, ℕ, ◌+◌, ◌<◌, ◌≤◌, inl, inr, not, Bool, true, false, cond, eqb, eqb-true, leb, List, [], Option, Some, None, refl, sym, ap, ◌∙◌, subst, arith}
 use Rattle.seat_programs.specs.brpc_model.specs.Frame.{Frame}
 use Rattle.seat_programs.specs.brpc_model.specs.ResponseOutcome.{ending_of}
-use Rattle.corr_core.specs.Word.{Parts, parts, posted_word, unlocked_word, code_of, id_slot, id_first, call_id}
+use Rattle.corr_core.specs.Word.{Parts, parts, posted_word, unlocked_word, code_of}
 use Rattle.corr_core.specs.Law.{LAST}
 use Rattle.corr_core.specs.Decisions.{ends_call}
 use Rattle.sock_message.specs.Asked.{Asked}
@@ -19,6 +19,7 @@ use Rattle.attempted_calls.specs.Below.label_runs.proofs.Programs.{hit_is, miss_
 use Rattle.attempted_calls.specs.Below.label_runs.proofs.Loops.{first_as, id_back, not_true, not_equal, and_left, locked_parts, none_left, word_got}
 use Rattle.attempted_calls.specs.accept_counts.specs.Refused.{Deed, NoCharge, Doing, idle, Moves, Remembers, IsPostOf, Charges, LeavesCode}
 use Rattle.attempted_calls.specs.accept_counts.proofs.Words.{unlocked_is}
+use Rattle.sock_words.specs.Words.{id_slot, id_first, call_id}
 
 -- a seat that tries, or none, and has nothing to post
 abbrev pub bare : Trial → List Deed → Doing

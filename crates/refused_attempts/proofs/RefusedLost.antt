@@ -57,8 +57,8 @@ same_put : (program : Program) → put_first (first_step program) ≡ put_by pro
 same_put (Aside (PutCall i asked) next) = refl
 same_put (Round (Decides id asked w e) next) = by (ends_call (parts w) e)
   where
-    by : (b : Bool) → put_first (cond b (Rattle.seat_programs.specs.Posts.end_id (Rattle.corr_core.specs.Word.id_slot id) (next (Rattle.seat_programs.specs.Heads.HasEnded asked.operation (Rattle.corr_core.specs.Word.code_of e))))
-        (Aside (PutCall (Rattle.corr_core.specs.Word.id_slot id) asked) (λ _. Round (Unlocks (Rattle.corr_core.specs.Word.id_slot id) w true) (Rattle.seat_programs.specs.Posts.unlocked (record { id = id; attempt = (parts w).attempt + 1 }) next)))) ≡ cond b [] (asked.operation ∷ [])
+    by : (b : Bool) → put_first (cond b (Rattle.seat_programs.specs.Posts.end_id (Rattle.sock_words.specs.Words.id_slot id) (next (Rattle.seat_programs.specs.Heads.HasEnded asked.operation (Rattle.corr_core.specs.Word.code_of e))))
+        (Aside (PutCall (Rattle.sock_words.specs.Words.id_slot id) asked) (λ _. Round (Unlocks (Rattle.sock_words.specs.Words.id_slot id) w true) (Rattle.seat_programs.specs.Posts.unlocked (record { id = id; attempt = (parts w).attempt + 1 }) next)))) ≡ cond b [] (asked.operation ∷ [])
     by true = refl
     by false = refl
 same_put (Round (Locks i sought None) next) = refl

@@ -5,7 +5,7 @@ use mathlib.Core.Option.{Option, some, none}
 use lib.ListN.{get_elem?}
 use Rattle.sock_words.specs.declared.plain.Plan.{Plan}
 use Rattle.sock_model.specs.declared.view.View.{View}
-use Rattle.corr_core.specs.Word.{parts, call_id}
+use Rattle.corr_core.specs.Word.{parts}
 use Rattle.corr_core.specs.declared.marks.Plan.{Plan as IdPlan}
 use Rattle.attempted_calls.specs.Below.id_runs.specs.Held.{IdView}
 use Rattle.attempted_calls.specs.Below.id_runs.specs.Goes.{SoundIds}
@@ -25,6 +25,7 @@ use Rattle.attempted_calls.specs.Below.outcome_stories.proofs.HomeCalls.{AreCall
 use Rattle.refused_attempts.proofs.RefusedTicks.{Then, First, first_as}
 use Rattle.attempted_calls.specs.Below.owing_ticks.proofs.OwingRuns.{same_first}
 use Rattle.seat_programs.specs.Rounds.{first_step}
+use Rattle.sock_words.specs.Words.{call_id}
 
 pub all_done : (Did Done : Deed → Type 0) → ((d : Deed) → Did d → Done d) → (ds : List Deed) → AllByRecursion Did ds → AllByRecursion Done ds
 all_done Did Done f [] a = tt

@@ -5,7 +5,7 @@ use Rattle.std.specs.List.{remove}
 use Rattle.std.proofs.lemmas.Bool.{cases_lt}
 use Rattle.std.proofs.lemmas.List.{take_more}
 use Rattle.std.proofs.lemmas.List.Quantifiers.{position-Some}
-use Rattle.corr_core.specs.Word.{Parts, parts, id_slot, id_first}
+use Rattle.corr_core.specs.Word.{Parts, parts}
 use Rattle.corr_core.specs.declared.marks.Plan.{Plan}
 use Rattle.corr_core.specs.declared.marks.View.{View}
 use Rattle.corr_core.specs.declared.marks.Noted.{Noted}
@@ -24,6 +24,7 @@ use Rattle.rpc_reader.proofs.Frames.{for_responds}
 use mathlib.Core.Option.{some}
 use lib.ListN.{get_elem?}
 use Rattle.std.proofs.Common.{zero, suc, true, ap, arith, ⊎_elim}
+use Rattle.sock_words.specs.Words.{id_slot, id_first}
 
 module _ (p : Plan) (link code : ℕ) where
   posted_more : (os : List ℕ) (o : ℕ) (b m b' : Books) → PostedAll p link code os b m → PostedOne p link code o m b' → PostedAll p link code (os ++ o ∷ []) b b'

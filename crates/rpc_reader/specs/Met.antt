@@ -1,6 +1,6 @@
 -- What becomes of the whole frames that a link gave.
 use Rattle.std.specs.Prelude.{◌≡◌, ◌+◌, ◌<◌, ◌==◌, ◌&&◌, ◌⊎◌, ℕ, nat_lt, Bool, true, false, List, [], ◌∷◌, Option, Some, None, map}
-use Rattle.corr_core.specs.Word.{Parts, parts, id_slot, id_first}
+use Rattle.corr_core.specs.Word.{Parts, parts}
 use Rattle.corr_core.specs.declared.marks.View.{View}
 use Rattle.corr_core.specs.Versions.{has_version, is_early}
 use Rattle.corr_id.specs.Calls.{GotLock, Quiet, Found}
@@ -12,6 +12,7 @@ use Rattle.prpc_frame.specs.Meaning.{frame_of}
 use Rattle.prpc_frame.specs.declared.frame.Frame.{Frame}
 use Rattle.brpc_model.specs.ResponseOutcome.{ending_of}
 use Rattle.rpc_reader.specs.Books.{Books, EndedAs, KeptBy, id_of}
+use Rattle.sock_words.specs.Words.{id_slot, id_first}
 
 abbrev pub has_response : Option ResponseMeta → Bool
 has_response None = false

@@ -1,7 +1,7 @@
 -- The calls that are left when no link is read any more.
 use Rattle.std.specs.Prelude.{◌≡◌, ◌≢◌, ◌+◌, ◌<◌, ◌≤◌, ◌⊎◌, ℕ, false, List, [], ◌∷◌}
 use Rattle.corr_core.specs.Law.{total, is_made}
-use Rattle.corr_core.specs.Word.{Parts, parts, id_slot, id_first}
+use Rattle.corr_core.specs.Word.{Parts, parts}
 use Rattle.corr_core.specs.declared.marks.Plan.{Plan}
 use Rattle.corr_core.specs.declared.marks.View.{View}
 use Rattle.id_rule.specs.Lawful.{call_index, notes_of, with_kept}
@@ -10,6 +10,7 @@ use Rattle.corr_id.specs.Ruled.{is_place}
 use Rattle.sock_message.specs.Asked.{Asked}
 use Rattle.rpc_reader.specs.Books.{Books}
 use Rattle.rpc_reader.specs.Posting.{LockLost}
+use Rattle.sock_words.specs.Words.{id_slot, id_first}
 
 -- the operation's word was 0, and the seat knew of no id there
 pub record NoneNoted (p : Plan) (operation : ℕ) (b b' : Books) : Type 0 where

@@ -1,6 +1,6 @@
 -- A link that answers that it failed is stopped, and its seat is at no put then.
 use Rattle.std.proofs.Common.{◌≡◌, ℕ, zero, suc, ◌⊎◌, inl, inr, ⊎_elim, Bool, true, false, cond, eq-eqb, List, [], ◌∷◌, refl, sym, ap, ◌∙◌, subst, arith}
-use Rattle.corr_core.specs.Word.{parts, code_of, id_slot}
+use Rattle.corr_core.specs.Word.{parts, code_of}
 use Rattle.corr_core.specs.Decisions.{ends_call}
 use Rattle.seat_programs.specs.Asides.{PutCall}
 use Rattle.seat_programs.specs.Heads.{HasEnded, Unlocks, Decides, Locks}
@@ -31,6 +31,7 @@ use Rattle.run_laws.proofs.Cases.{still_nothing}
 use Rattle.run_laws.proofs.Kept.{IsGiven, Kept}
 use Rattle.run_laws.proofs.Arrives.{AtPut, IsGone, put_right_of, next_is, odd_tick}
 use Rattle.seat_programs.specs.Rounds.{first_step}
+use Rattle.sock_words.specs.Words.{id_slot}
 
 contains_one : (l k : ℕ) → Contains (l ∷ []) k → l ≡ k
 contains_one l k (zero, low, is) = is

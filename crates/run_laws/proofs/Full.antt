@@ -7,7 +7,7 @@ use mathlib.Core.Option.{some, some-injective}
 use lib.ListN.{get_elem?}
 use Rattle.atomic_table.proofs.Lists.{at_set}
 use Rattle.sock_words.specs.declared.plain.Plan.{Plan}
-use Rattle.sock_words.specs.Words.{socket_id_slot, socket_id_version}
+use Rattle.sock_words.specs.Words.{socket_id_slot, socket_id_version, IDLE}
 use Rattle.sock_model.specs.declared.chain.Claim.{Claim}
 use Rattle.sock_model.specs.declared.chain.Entry.{Entry}
 use Rattle.sock_model.specs.declared.chain.Right.{Right}
@@ -15,7 +15,6 @@ use Rattle.sock_model.specs.declared.view.View.{View}
 use Rattle.sock_model.specs.declared.view.Hand.{Hand}
 use Rattle.sock_model.specs.ChainRows.{with_claim, queued, righted, taken_right}
 use Rattle.sock_model.specs.Deliveries.{whole}
-use Rattle.sock_model.specs.Memory.{IDLE}
 use Rattle.sock_model.specs.SlotRows.{met_link}
 use Rattle.seat_programs.specs.Calls.{Call, ClaimRequest, PutMessage, Unconnect, SwapHead}
 use Rattle.seat_programs.specs.Cores.{Core, found_at}

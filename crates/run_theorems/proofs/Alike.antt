@@ -10,7 +10,7 @@ use mathlib.Core.List.{cons-ne-nil}
 use lib.ListN.{get_elem?}
 use Rattle.sock_words.specs.declared.plain.Plan.{Plan}
 use Rattle.sock_words.specs.KindText.{kind_text}
-use Rattle.corr_core.specs.Word.{parts, code_of, id_slot}
+use Rattle.corr_core.specs.Word.{parts, code_of}
 use Rattle.corr_core.specs.Decisions.{ends_call}
 use Rattle.brpc_model.specs.Items.{Item}
 use Rattle.brpc_model.specs.Operations.{Turn, Ticks, Until}
@@ -26,6 +26,7 @@ use Rattle.seat_programs.specs.Tasks.{plan_of}
 use Rattle.seat_programs.specs.Scripts.{AreStill, EachMoves, Settles, ticks_of, round_of}
 use Rattle.run_theorems.specs.Answers.{asked, said_at, said_in}
 use Rattle.owed_calls.specs.call_owing.proofs.EndsStill.{run_parts}
+use Rattle.sock_words.specs.Words.{id_slot}
 
 -- ## Lists
 

@@ -10,7 +10,7 @@ use lib.ListN.{get_elem?}
 use Rattle.sock_words.specs.declared.plain.Plan.{Plan}
 use Rattle.sock_io.specs.declared.link.Put.{Put}
 use Rattle.sock_io.specs.declared.link.Ready.{Ready}
-use Rattle.corr_core.specs.Word.{parts, code_of, id_slot}
+use Rattle.corr_core.specs.Word.{parts, code_of}
 use Rattle.corr_core.specs.Decisions.{ends_call}
 use Rattle.brpc_model.specs.Items.{Item}
 use Rattle.brpc_model.specs.Operations.{Turn}
@@ -32,6 +32,7 @@ use Rattle.run_theorems.specs.Heard.{take_of, as_taken, taken_link, taken_at, ta
 use Rattle.run_theorems.proofs.HeardRuns.{same_heard_takes}
 use Rattle.run_theorems.proofs.Lengths.{tick_long, run_sizes}
 use Rattle.seat_programs.specs.Rounds.{first_step}
+use Rattle.sock_words.specs.Words.{id_slot}
 
 -- ## A tick
 

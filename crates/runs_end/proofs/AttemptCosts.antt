@@ -1,11 +1,10 @@
 -- What an attempt of a call costs, and a retry that waited.
 use Rattle.std.proofs.Common.{ℕ, zero, suc, ◌+◌, ◌-◌, ◌/◌, ◌≤◌, ◌==◌, ◌%◌, ◌&&◌, Bool, true, false, List, length, arith, cond, nat_le, nat_lt}
 use Rattle.sock_words.specs.declared.plain.Plan.{Plan}
-use Rattle.sock_words.specs.Words.{socket_id_version, socket_id_slot, vref_version, vref_nref, at_word}
+use Rattle.sock_words.specs.Words.{socket_id_version, socket_id_slot, vref_version, vref_nref, at_word, IDLE, id_slot, id_first}
 use Rattle.sock_model.specs.declared.chain.Heading.{Heading}
 use Rattle.sock_model.specs.declared.view.View.{View}
 use Rattle.sock_model.specs.Entries.{ticket_of}
-use Rattle.sock_model.specs.Memory.{IDLE}
 use Rattle.seat_programs.specs.sock_message.specs.Asked.{Asked, name_of, frame_of}
 use Rattle.seat_programs.specs.Calls.{AddRef, SubRef, Recycle, FreeSlot, LoadLink, LoadName, TakeLink, FinishLink, PutLink, LookWord, FindLink, ClaimRequest, PutMessage, Unconnect, SwapHead, Connect}
 use Rattle.seat_programs.specs.Asides.{StoreAt}
@@ -21,7 +20,6 @@ use Rattle.seat_programs.specs.StepsOfLinks.{link_away}
 use Rattle.sock_runs.specs.program_steps.specs.Lasts.{LastsFor, STALE, CHANGE, ERROR, POST, ACCEPT, weight, attempt_cost, unlocking_gain}
 use Rattle.runs_end.proofs.IdCosts.{lasts_more, post_lasts, decide_lasts}
 use Rattle.runs_end.proofs.Costs.{Lasting, lasting_more, either_lasts, does, takes_first}
-use Rattle.seat_programs.specs.corr_core.specs.Word.{id_slot, id_first}
 
 module _ (p : Plan) where
   -- ## References

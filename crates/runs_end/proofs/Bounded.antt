@@ -6,7 +6,7 @@ use Rattle.std.specs.Prelude as std
 use mathlib.Core.Option.{Option, some, none}
 use lib.ListN.{get_elem?}
 use Rattle.atomic_table.proofs.Lists.{set_again}
-use Rattle.sock_words.specs.Words.{socket_id_version, socket_id_slot, ticket_request}
+use Rattle.sock_words.specs.Words.{socket_id_version, socket_id_slot, ticket_request, UNCONNECTED, NO_SOCKET}
 use Rattle.sock_words.specs.declared.plain.Plan.{Plan}
 use Rattle.seat_programs.specs.sock_io.specs.declared.link.Ready.TheVariants.{NotYet}
 use Rattle.sock_model.specs.declared.chain.Right.{Right}
@@ -14,13 +14,12 @@ use Rattle.sock_model.specs.declared.chain.Stage.{Stage}
 use Rattle.sock_model.specs.declared.chain.Stage.TheVariants as stages
 use Rattle.sock_model.specs.declared.view.View.{View}
 use Rattle.sock_model.specs.Layout.{next_index, open_index}
-use Rattle.sock_model.specs.Memory.{UNCONNECTED}
 use Rattle.sock_model.specs.ChainRows.{with_right}
 use Rattle.sock_model.specs.SlotRows.{met}
 use Rattle.seat_programs.specs.Calls.{ReadNext}
 use Rattle.seat_programs.specs.Writings as heads
 use Rattle.seat_programs.specs.Heads.{Head, Exit, Locks, Joins, Opens, Reads, Discards}
-use Rattle.seat_programs.specs.Programs.{Program, Rest, Write, Round, NO_SOCKET}
+use Rattle.seat_programs.specs.Programs.{Program, Rest, Write, Round}
 use Rattle.seat_programs.specs.Cores.{Core, SeatState}
 use Rattle.seat_programs.specs.Ticks.{Answer, OfReady, Moment, IsAnswered, IsAlwaysReady, ticked, tick_with, waits_at, waits_in, waits}
 use Rattle.seat_programs.specs.Runs.{IsAtRest}

@@ -12,7 +12,7 @@ use Rattle.sock_model.specs.declared.view.View.{View}
 use Rattle.sock_model.specs.declared.view.Hand.{Hand}
 use Rattle.sock_model.specs.Layout.{open_index}
 use Rattle.sock_model.specs.Weights.{total}
-use Rattle.seat_programs.specs.corr_core.specs.Word.{parts, posted_word, unlocked_word, code_of, id_slot, id_first}
+use Rattle.seat_programs.specs.corr_core.specs.Word.{parts, posted_word, unlocked_word, code_of}
 use Rattle.seat_programs.specs.corr_core.specs.Law.{LAST}
 use Rattle.seat_programs.specs.corr_core.specs.Decisions.{ends_call}
 use Rattle.seat_programs.specs.id_rule.specs.Lawful.{id_index}
@@ -41,6 +41,7 @@ use Rattle.runs_end.proofs.ReadCosts.{FitsRoom, reads_fall, discards_fall}
 use Rattle.runs_end.proofs.Lasting.{Fewer, found_steps, tick_moves}
 use Rattle.runs_end.proofs.AsideMoves.{IsLate, any_moves}
 use Rattle.seat_programs.specs.Rounds.{first_step}
+use Rattle.sock_words.specs.Words.{id_slot, id_first}
 
 -- ## Takes
 

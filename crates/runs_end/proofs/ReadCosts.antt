@@ -5,7 +5,7 @@ use Rattle.sock_model.specs.declared.view.View.{View}
 use Rattle.seat_programs.specs.brpc_model.specs.Frame.{Frame, Judged, NoneYet, Faulty, Begins, judged}
 use Rattle.seat_programs.specs.brpc_model.specs.Stream as streams
 use Rattle.seat_programs.specs.brpc_model.specs.ResponseOutcome.{ending_of}
-use Rattle.seat_programs.specs.corr_core.specs.Word.{parts, call_id}
+use Rattle.seat_programs.specs.corr_core.specs.Word.{parts}
 use Rattle.seat_programs.specs.corr_core.specs.Versions.{is_early}
 use Rattle.seat_programs.specs.Asides.{TakeBytes, Taking, Bytes, Nothing, Closed}
 use Rattle.seat_programs.specs.Heads.{Version, Reading, Locks, Reads, Discards, Locking, NotThere, Has, Ended}
@@ -14,6 +14,7 @@ use Rattle.seat_programs.specs.Readers.{LIMIT, answer, answered, responses, read
 use Rattle.sock_runs.specs.program_steps.specs.Fits.{FitsEnded}
 use Rattle.sock_runs.specs.program_steps.specs.Lasts.{LastsFor, CHANGE, FRAME}
 use Rattle.runs_end.proofs.IdCosts.{lasts_more, end_lasts, Falls}
+use Rattle.sock_words.specs.Words.{call_id}
 
 -- ## Takes
 

@@ -21,11 +21,11 @@ use Rattle.rpc_reader.specs.Taking.{Took, Takes, goes_on, piece_of, bytes_of}
 use Rattle.rpc_reader.specs.Throwing.{ThrewAway}
 use Rattle.rpc_reader.specs.declared.reading.How.{How}
 use Rattle.rpc_reader.specs.declared.reading.How.TheVariants as how
-use Rattle.call_run.specs.sock_rule.specs.Rows.{NOTHING}
 use Rattle.script_parts.specs.call_whys.specs.call_told.proofs.Gains.{Gains, gains_read}
 use Rattle.script_parts.specs.call_whys.specs.call_told.proofs.Linked.{read_bytes}
 use Rattle.script_parts.specs.call_whys.specs.call_told.proofs.Readers.{link_read}
 use Rattle.script_threads.proofs.Early.{last_step, rose_some}
+use Rattle.sock_words.specs.Words.{NO_SOCKET}
 
 -- it shows where its reading ended
 pub data ShowsOut (t : InState) : Type 0 where
@@ -98,6 +98,6 @@ module _ (q : id_plan.Plan) (link : ℕ) (calls : List ℕ) (s t : InState) wher
 
   -- and then its reader found that noted
   pub found_none : (p : Plan) (operation : ℕ) (id : Option SocketId) (v noted w : View) (b b' : Books) → id ≡ None → OpenedBy p operation id v noted → ReadIf q link calls false false s t id noted w b b'
-      → get_elem? w.finds 0 ≡ some record { place = open_index p operation; word = NOTHING }
+      → get_elem? w.finds 0 ≡ some record { place = open_index p operation; word = NO_SOCKET }
   found_none p operation None v noted w b b' none opened r = ap (λ (z : View). get_elem? z.finds 0) (r.0 ∙ opened.view)
   found_none p operation (Some id) v noted w b b' none opened r = absurd (cc)

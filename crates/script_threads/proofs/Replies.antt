@@ -35,7 +35,6 @@ use Rattle.seat_programs.specs.Tasks.{plan_of, opens, calls}
 use Rattle.seat_programs.specs.Told.{IsTask, Made}
 use Rattle.seat_programs.specs.ToldCalls.{Accepted, Order, IsTaken, IsSent, OfSend, OfCall, bytes_of}
 use Rattle.call_run.specs.Readers.{LinkReader, IsReader, AreReaders, nothing_read}
-use Rattle.call_run.specs.sock_rule.specs.Rows.{NOTHING}
 use Rattle.script_links.specs.Given.{spec_of, specs_of}
 use Rattle.script_links.proofs.Offers.{asked_at}
 use Rattle.script_parts.specs.script_facts.proofs.Flat.{at_map}
@@ -63,6 +62,7 @@ use Rattle.script_threads.proofs.Reports.{text_of, text_outcomes}
 use Rattle.script_threads.proofs.Small.{text_small}
 use Rattle.script_threads.proofs.Sockets.{asked, run}
 use Rattle.script_threads.proofs.Unopened.{none_made, one_opener}
+use Rattle.sock_words.specs.Words.{NO_SOCKET}
 
 pub some_there : {A : Type 0} (o : Option A) → IsSome o → (x : A) × (o ≡ Some x)
 some_there None told = absurd (cc)
@@ -188,9 +188,9 @@ module _ (P : Type 0) {O I : Type 0} (out : O → OutState) (inn : I → InState
 
   -- its reader found that its `open` got no socket
   module _ (k : ℕ) (x : LinkReader g) (at : slice_get readers k ≡ Some x) (reader : IsReader p q (calls script) x) (opened : get_elem? (opens script) k ≡ some x.operation) (none : reader.ran.id ≡ None) where
-    noted : HasFound record { place = open_index p x.operation; word = NOTHING } (All the_run)
+    noted : HasFound record { place = open_index p x.operation; word = NO_SOCKET } (All the_run)
     noted =
-        let y : StoredWord = record { place = open_index p x.operation; word = NOTHING } in
+        let y : StoredWord = record { place = open_index p x.operation; word = NO_SOCKET } in
         let here = found_none q x.link (calls script) x.before x.behind p x.operation reader.ran.id _ reader.ran.noted x.seat.me.0 nothing_read x.books none reader.ran.opened reader.ran.read in
         let seats = map (λ (z : LinkReader g). z.seat) readers ++ r.left.ran.seats in
         let place = append_first (map (λ (z : LinkReader g). z.seat) readers) r.left.ran.seats k x.seat (map_there (λ (z : LinkReader g). z.seat) readers k x (to_elem readers k x at)) in

@@ -13,7 +13,7 @@ use Rattle.sock_words.specs.declared.plain.Plan.{Plan}
 use Rattle.sock_words.specs.declared.place_word.PlaceWord.{PlaceWord}
 use Rattle.sock_words.specs.declared.socket_id.SocketId.{SocketId}
 use Rattle.sock_words.specs.declared.vref.Vref.{Vref}
-use Rattle.sock_words.specs.Words.{socket_id_version}
+use Rattle.sock_words.specs.Words.{socket_id_version, NO_SOCKET}
 use Rattle.seat_programs.specs.sock_model.specs.declared.view.View.{View}
 use Rattle.seat_programs.specs.sock_model.specs.Layout.{name_index, open_index}
 use Rattle.seat_programs.specs.sock_model.specs.Weights.{pair}
@@ -24,7 +24,7 @@ use Rattle.brpc_model.specs.Places.{names}
 use Rattle.seat_programs.specs.Tasks.{numbered}
 use Rattle.seat_programs.specs.Told.{IsTask}
 use Rattle.call_run.specs.sock_rule.specs.OnTable.{put_in}
-use Rattle.call_run.specs.sock_rule.specs.Rows.{NOTHING, PutAt}
+use Rattle.call_run.specs.sock_rule.specs.Rows.{PutAt}
 use Rattle.rpc_client.specs.Opening.{OpenedBy}
 use Rattle.script_parts.specs.script_facts.proofs.Numbering.{link_at, link_later}
 use Rattle.script_parts.specs.script_facts.proofs.TaskLemmas.{numbers_at, open_asks, task_is}
@@ -73,14 +73,14 @@ module _ {O : Type 0} {g : Ghosts O} {state : O → OutState} {p : Plan} {client
       by_storing (by_open name number link by is u) = by_open_of name number link by is (act_name run b name (ap own_name is)) u
       by_storing (by_drop name number attempt msg is over dropped) = absurd (let e = dropped.at_place in omega arith)
 
-  pub none_made : (o : ℕ) → o < p.operations → HasFound record { place = open_index p o; word = NOTHING } (All run) → (n k slot version : ℕ) (m : MadeHere run n k slot version) → m.task.number ≡ o → ⊥
+  pub none_made : (o : ℕ) → o < p.operations → HasFound record { place = open_index p o; word = NO_SOCKET } (All run) → (n k slot version : ℕ) (m : MadeHere run n k slot version) → m.task.number ≡ o → ⊥
   none_made o low h n k slot version m same =
-      let w = puts_from run (open_index p o) NOTHING (run.closed.closing.found_was h.0 record { place = open_index p o; word = NOTHING } h.1) in
+      let w = puts_from run (open_index p o) NO_SOCKET (run.closed.closing.found_was h.0 record { place = open_index p o; word = NO_SOCKET } h.1) in
       let a = maker run n k slot version m in
-      let at = one_place run a.0 w.0 o (ap own_number a.2 ∙ ap Some same) (opens_by o NOTHING low w.0 w.1) in
+      let at = one_place run a.0 w.0 o (ap own_number a.2 ∙ ap Some same) (opens_by o NO_SOCKET low w.0 w.1) in
       let did : did_of run w.0 ≡ opens n m.task.number k (outcome.Opened slot version k) = ap (λ (d : Deed g state p). d.did) (sym (same_deed run a.0 w.0 at.0 at.1)) ∙ a.2 in
       let done = subst (λ (d : Did). DoneBy g state p d w.0.d.before w.0.d.after) did (done_of run w.0) in
-      let id = stores_id p (open_index p o) NOTHING n m.task.number k slot version k (w.0.d.before.view, done.0.0) (w.0.d.after.view, done.0.1) done.0.2 w.1 in
+      let id = stores_id p (open_index p o) NO_SOCKET n m.task.number k slot version k (w.0.d.before.view, done.0.0) (w.0.d.after.view, done.0.1) done.0.2 w.1 in
       let even = (run.closed.closing.born_life slot version (made_inside run n k slot version m) (made_born run n k slot version m)).1 in
       let v = id.1 in let e = id.2 in omega (arith, v, e, even)
 

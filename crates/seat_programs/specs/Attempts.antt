@@ -2,10 +2,10 @@
 -- `bthread_id_join`; baidu_std.md for the frame).
 use Rattle.std.specs.Prelude.{ℕ, zero, suc, ◌+◌, ◌-◌, ◌*◌, ◌/◌, ◌%◌, ◌==◌, List, None, false, if◌then◌else◌}
 use Rattle.sock_model.specs.sock_words.specs.Codes.{EFAILEDSOCKET, EREQUESTS, ERPCTIMEDOUT}
-use Rattle.sock_model.specs.sock_words.specs.Words.{socket_id_version, socket_id_slot, vref_version, at_word}
+use Rattle.sock_model.specs.sock_words.specs.Words.{socket_id_version, socket_id_slot, vref_version, at_word, call_id, id_slot, id_first}
 use Rattle.sock_model.specs.sock_words.specs.declared.outcome.Outcome.{Outcome}
 use Rattle.sock_model.specs.sock_words.specs.declared.outcome.Outcome.TheVariants.{Unopened, Expired, Queued, Late, Crowded, Joined, NotBegun}
-use Rattle.corr_core.specs.Word.{parts, error_of, call_id, id_slot, id_first}
+use Rattle.corr_core.specs.Word.{parts, error_of}
 use Rattle.corr_core.specs.Decisions.{WHOLE}
 use Rattle.sock_model.specs.declared.chain.Heading.{Heading}
 use Rattle.sock_message.specs.Asked.{Asked, name_of, frame_of, parts_of}

@@ -2,7 +2,7 @@
 -- `bthread_id_lock`, `bthread_id_unlock`, `bthread_id_unlock_and_destroy`).
 use Rattle.std.specs.Prelude.{ℕ, ◌≡◌, ◌+◌, ◌-◌, ◌*◌, ◌==◌, ◌&&◌, not, Bool, true, false, nat_le, if◌then◌else◌, Option, Some, None}
 use Rattle.sock_model.specs.sock_words.specs.declared.outcome.Outcome.TheVariants.{CallFailed}
-use Rattle.corr_core.specs.Word.{Parts, parts, error_of, code_of, attempt_of, posted_word, unlocked_word, id_slot, id_first}
+use Rattle.corr_core.specs.Word.{Parts, parts, error_of, code_of, attempt_of, posted_word, unlocked_word}
 use Rattle.corr_core.specs.Law.{LAST}
 use Rattle.corr_core.specs.Versions.{has_version}
 use Rattle.corr_core.specs.Decisions.{WHOLE, ends_call}
@@ -10,7 +10,7 @@ use Rattle.sock_message.specs.Asked.{Asked}
 use Rattle.seat_programs.specs.Asides.{PutCall, LoadIdWord, LockId, PostId, UnlockId, EndId, FreeId, TakeCall}
 use Rattle.seat_programs.specs.Heads.{Retry, Sought, First, Version, Posts, Unlocks, Decides, Locks, Joins, Posting, WasGone, WasStale, WasCrowded, WasQueued, HasLocked, Unlocking, IsOpen, HasNext, Deciding, HasEnded, GoesOn, Locking, NotThere, Has}
 use Rattle.seat_programs.specs.Programs.{Program, Say, Aside, Round, Keep}
-use Rattle.sock_model.specs.sock_words.specs.Words.{id_word}
+use Rattle.sock_model.specs.sock_words.specs.Words.{id_word, id_slot, id_first}
 
 -- ## Words
 

@@ -1,7 +1,7 @@
 -- The program of each operation: a tree of steps, which goes on by the word that each step found.
 use Rattle.std.specs.Prelude.{ℕ, zero, suc, ◌+◌, ◌-◌, ◌%◌, ◌^◌, ◌==◌, ◌&&◌, Bool, true, false, List, nat_le, if◌then◌else◌}
 use Rattle.sock_model.specs.sock_words.specs.Codes.{EEOF}
-use Rattle.sock_model.specs.sock_words.specs.Words.{socket_id, socket_id_version, socket_id_slot, vref_version, vref_nref}
+use Rattle.sock_model.specs.sock_words.specs.Words.{socket_id, socket_id_version, socket_id_slot, vref_version, vref_nref, NO_SOCKET}
 use Rattle.sock_model.specs.sock_words.specs.declared.outcome.Outcome.{Outcome}
 use Rattle.sock_model.specs.sock_words.specs.declared.outcome.Outcome.TheVariants.{Opened, SlotsFull, Unopened, Gone, Held, Freed, Kept, Failed, Already}
 use Rattle.sock_io.specs.declared.link.Put.{Put}
@@ -36,10 +36,6 @@ pub data Program : Type 0 where
   Retries : ℕ → Program → Program
 
 -- ## Words
-
--- the word of an `open` that got no slot
-abbrev pub NO_SOCKET : ℕ
-NO_SOCKET = 2 ^ 64 - 1
 
 -- the last version that a slot may be given again with
 abbrev pub LAST_VERSION : ℕ

@@ -1,8 +1,8 @@
 -- The program of the reader of a link (bRPC's baidu_std.md for frames and correlation ids, bthread_id.md for who ends a call).
 use Rattle.std.specs.Prelude.{ℕ, ◌+◌, ◌-◌, ◌==◌, ◌&&◌, Bool, true, false, List, [], ◌∷◌, ◌++◌, length, drop, filter, nat_lt, min, if◌then◌else◌, Option, Some, None}
 use Rattle.sock_model.specs.sock_words.specs.Codes.{EEOF, ERESPONSE}
-use Rattle.sock_model.specs.sock_words.specs.Words.{socket_id_slot, at_word_first, at_word_slot, at_word_link, at_word_attempt}
-use Rattle.corr_core.specs.Word.{parts, error_of, call_id, id_slot, id_first}
+use Rattle.sock_model.specs.sock_words.specs.Words.{socket_id_slot, at_word_first, at_word_slot, at_word_link, at_word_attempt, call_id, id_slot, id_first, NO_SOCKET}
+use Rattle.corr_core.specs.Word.{parts, error_of}
 use Rattle.corr_core.specs.Versions.{is_early}
 use Rattle.sock_message.specs.brpc_model.specs.Meta.{ResponseMeta}
 use Rattle.sock_message.specs.brpc_model.specs.Frame.{Frame}
@@ -11,7 +11,7 @@ use Rattle.sock_message.specs.brpc_model.specs.Stream as streams
 use Rattle.seat_programs.specs.Calls.{LoadOpen}
 use Rattle.seat_programs.specs.Asides.{LoadAt, TakeCall, TakeBytes, Taking, Bytes, Nothing, Closed}
 use Rattle.seat_programs.specs.Heads.{Version, Reading, Locks, Opens, Reads, Discards, Posting, HasLocked, Locking, NotThere, Has, Ended}
-use Rattle.seat_programs.specs.Programs.{Program, Do, Say, Rest, Aside, Round, NO_SOCKET, address, release, set_failed}
+use Rattle.seat_programs.specs.Programs.{Program, Do, Say, Rest, Aside, Round, address, release, set_failed}
 use Rattle.seat_programs.specs.Posts.{post_with, decided, decide, end_id}
 
 -- ## Responses

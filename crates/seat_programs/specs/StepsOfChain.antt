@@ -4,7 +4,7 @@ use Rattle.std.specs.Prelude.{ℕ, ◌≡◌, ◌≢◌, ◌+◌, ◌*◌, ◌/�
 use lib.ListN.{get_elem?}
 use mathlib.Core.Option.{Option, none, some}
 use Rattle.sock_model.specs.sock_words.specs.declared.plain.Plan.{Plan}
-use Rattle.sock_model.specs.sock_words.specs.Words.{socket_id_version, socket_id_slot, ticket_request, ticket_generation}
+use Rattle.sock_model.specs.sock_words.specs.Words.{socket_id_version, socket_id_slot, ticket_request, ticket_generation, IDLE, UNCONNECTED}
 use Rattle.sock_model.specs.declared.chain.Claim.{Claim}
 use Rattle.sock_model.specs.declared.chain.Right.{Right}
 use Rattle.sock_model.specs.declared.chain.Stage.{Stage}
@@ -13,7 +13,6 @@ use Rattle.sock_model.specs.declared.home.Home.{Home}
 use Rattle.sock_model.specs.declared.view.View.{View}
 use Rattle.sock_model.specs.declared.view.Hand.{Hand}
 use Rattle.sock_model.specs.Layout.{link_index}
-use Rattle.sock_model.specs.Memory.{IDLE, UNCONNECTED}
 use Rattle.sock_model.specs.SlotRows.{met_link}
 use Rattle.sock_model.specs.ChainRows.{with_claim, queued, righted, without_loose, with_right, without_right, turned_right, ready_claim}
 use Rattle.sock_model.specs.Reads.{link_home}

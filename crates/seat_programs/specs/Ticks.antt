@@ -12,7 +12,6 @@ use Rattle.sock_io.specs.declared.link.Ready.TheVariants as ready
 use Rattle.sock_model.specs.declared.home.Home.{Home}
 use Rattle.sock_model.specs.declared.home.Home.TheVariants.{Link}
 use Rattle.sock_model.specs.Layout.{next_index}
-use Rattle.sock_model.specs.Memory.{UNCONNECTED}
 use Rattle.sock_model.specs.Messages.{Letter}
 use Rattle.sock_model.specs.Reads.{message, link_home}
 use Rattle.seat_programs.specs.Writings as heads
@@ -25,10 +24,10 @@ use Rattle.seat_programs.specs.Rounds.{round}
 use Rattle.seat_programs.specs.Beside.{found_in, calls_after}
 use Rattle.sock_model.specs.Layout.{open_index}
 use Rattle.id_rule.specs.Lawful as ids
-use Rattle.corr_core.specs.Word.{parts, id_slot, id_first}
+use Rattle.corr_core.specs.Word.{parts}
 use Rattle.seat_programs.specs.Sends.{block}
 use Rattle.seat_programs.specs.Cores.{Calls, Core, SeatState, lies_at, first_of, others_of, link_place, with_seat, stepped}
-use Rattle.sock_model.specs.sock_words.specs.Words.{ticket_request}
+use Rattle.sock_model.specs.sock_words.specs.Words.{ticket_request, UNCONNECTED, id_slot, id_first}
 
 -- what a link answered in a tick, where it was asked
 pub data Answer : Type 0 where

@@ -4,7 +4,7 @@ use Rattle.sock_words.specs.declared.vref.Vref.{Vref}
 use Rattle.std.proofs.Math.Path.{fun_ext}
 use Rattle.std.proofs.Common.{ap, zero, suc, if◌then◌else◌, List, Option, Some, None, ◌≢◌, ◌≡◌, refl, ℕ, ◌+◌, ◌-◌, ◌/◌, ◌%◌, ◌==◌, ◌||◌, Bool, true, false, not, nat_le, length, sym, arith}
 use Rattle.sock_words.specs.declared.ticket.Ticket.{Ticket}
-use Rattle.sock_words.specs.Words.{socket_id_slot, socket_id_version, vref_version, ticket, ticket_request}
+use Rattle.sock_words.specs.Words.{socket_id_slot, socket_id_version, vref_version, ticket, ticket_request, NO_SOCKET}
 use Rattle.sock_io.specs.declared.link.Put.TheVariants as puts
 use Rattle.sock_model.specs.Entries.{ticket_of}
 use Rattle.sock_words.specs.declared.outcome.Outcome.TheVariants.{Full, Expired}
@@ -15,7 +15,7 @@ use Rattle.seat_programs.specs.sock_message.specs.Asked.{Asked}
 use Rattle.seat_programs.specs.Attempts.{claims_from, expire_outcome}
 use Rattle.seat_programs.specs.Sends.{claim_from, heading_of, accept, one_more, freed, passed_telling}
 use Rattle.seat_programs.specs.Writings as heads
-use Rattle.seat_programs.specs.Programs.{Program, Do, Say, Sent, TakeMessage, Write, release, NO_SOCKET}
+use Rattle.seat_programs.specs.Programs.{Program, Do, Say, Sent, TakeMessage, Write, release}
 use Rattle.id_points.specs.Ids.{id_of, number_of}
 use Rattle.call_points.specs.declared.deciding.OnCall.{OnCall}
 use Rattle.call_points.specs.declared.word_step.WordStep.TheVariants as id_steps

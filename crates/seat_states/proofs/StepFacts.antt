@@ -15,7 +15,7 @@ use Rattle.seat_states.specs.declared.point.SendStep.TheVariants as sends
 use Rattle.seat_states.specs.declared.point.WriteStep.TheVariants as writes
 use Rattle.sock_words.specs.declared.id_word.IdWord.{IdWord}
 use Rattle.seat_programs.specs.Programs.{Program, Aside, Round}
-use Rattle.corr_core.specs.Word.{parts, code_of, id_slot}
+use Rattle.corr_core.specs.Word.{parts, code_of}
 use Rattle.corr_core.specs.Decisions.{ends_call}
 use Rattle.id_points.specs.Ids.{id_of}
 use Rattle.seat_programs.specs.Asides.{PutCall}
@@ -36,6 +36,7 @@ use Rattle.seat_states.specs.declared.point.Point.{Point}
 use Rattle.seat_states.specs.declared.point.Point.TheVariants as points
 use Rattle.seat_states.specs.Points.{Context, point_program, look_program, after_program, link_at, link_left, MayFind, IsWithin, GoesByWord, TakesCall, TakesMessage, TakesLink, PutsHome, PutsPiece, Asks}
 use Rattle.seat_states.specs.Steps.{First, OfCall, OfAside, OfMessage, OfLink, OfHome, OfPut, OfReady, first_of, first_in}
+use Rattle.sock_words.specs.Words.{id_slot}
 
 -- the link in hand without a right before and behind a step
 abbrev pub HandOver : calls.Call → Option ℕ → Option ℕ → Type 0

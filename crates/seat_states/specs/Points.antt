@@ -1,7 +1,7 @@
 -- What a seat has still to do, by the point at which it stands: the programs of the operations from each of their steps on.
 use Rattle.std.specs.Prelude.{ℕ, ◌≡◌, IsTrue, ◌+◌, ◌-◌, ◌*◌, ◌/◌, ◌%◌, ◌==◌, ◌||◌, not, ◌<◌, ◌≤◌, Bool, true, false, nat_lt, nat_le, if◌then◌else◌, List, [], ◌∷◌, ◌++◌, length, drop, Option, Some, None}
 use Rattle.sock_words.specs.Codes.{EEOF, EFAILEDSOCKET, EREQUESTS}
-use Rattle.sock_words.specs.Words.{socket_id, socket_id_version, socket_id_slot, vref_version, at_word, ticket_request, ticket_generation}
+use Rattle.sock_words.specs.Words.{socket_id, socket_id_version, socket_id_slot, vref_version, at_word, ticket_request, ticket_generation, IDLE, NO_SOCKET, id_slot, id_first, call_id}
 use Rattle.sock_words.specs.declared.socket_id.SocketId.{SocketId}
 use Rattle.sock_words.specs.declared.ticket.Ticket.{Ticket}
 use Rattle.sock_words.specs.declared.outcome.Outcome.{Outcome}
@@ -9,7 +9,6 @@ use Rattle.sock_words.specs.declared.outcome.Outcome.TheVariants.{Opened, SlotsF
 use Rattle.sock_io.specs.declared.link.Put.{Put}
 use Rattle.sock_io.specs.declared.link.Put.TheVariants as puts
 use Rattle.sock_io.specs.declared.link.Ready.{Ready}
-use Rattle.sock_model.specs.Memory.{IDLE}
 use Rattle.sock_model.specs.declared.chain.Heading.{Heading}
 use Rattle.seat_programs.specs.Parts.{part}
 use Rattle.seat_programs.specs.sock_message.specs.Asked.{Asked, name_of, frame_of, parts_of}
@@ -20,7 +19,7 @@ use Rattle.seat_programs.specs.Attempts.{claims_from, attempt, begin_call, claim
 use Rattle.seat_programs.specs.declared.task.Sizes.{Sizes}
 use Rattle.seat_programs.specs.Calls as calls
 use Rattle.seat_programs.specs.Writings as heads
-use Rattle.seat_programs.specs.Programs.{Program, Do, Say, Sent, Rest, Aside, Round, Keep, TakeMessage, TakeHome, PutHome, PutBytes, AskReady, Write, NO_SOCKET, LAST_VERSION, recycle, release, address, set_failed, no_socket, make_socket, open_from, fail_outcome, fail, hold, end_open}
+use Rattle.seat_programs.specs.Programs.{Program, Do, Say, Sent, Rest, Aside, Round, Keep, TakeMessage, TakeHome, PutHome, PutBytes, AskReady, Write, LAST_VERSION, recycle, release, address, set_failed, no_socket, make_socket, open_from, fail_outcome, fail, hold, end_open}
 use Rattle.seat_programs.specs.Sends.{block, one_more, freed, passed, passed_telling, tell_drop, put_answered, first_put, write_link, heading_of, accept, start, send}
 use Rattle.seat_programs.specs.Clients.{HeldLife}
 use Rattle.seat_states.specs.declared.point.Opening.{Opening}
@@ -39,7 +38,7 @@ use Rattle.seat_states.specs.declared.point.Released.{Released}
 use Rattle.seat_states.specs.declared.point.Released.TheVariants as turns
 use Rattle.seat_states.specs.declared.point.ReleaseStep.{ReleaseStep}
 use Rattle.seat_states.specs.declared.point.ReleaseStep.TheVariants as releases
-use Rattle.corr_core.specs.Word.{parts, error_of, id_slot, id_first, call_id}
+use Rattle.corr_core.specs.Word.{parts, error_of}
 use Rattle.id_points.specs.Ids.{id_of, number_of}
 use Rattle.id_points.specs.declared.locking.Sought.TheVariants.{First}
 use Rattle.call_points.specs.Points.{post_program, decide_program, lock_program}

@@ -6,7 +6,7 @@ use mathlib.Core.Option.{none, some}
 use native.Mathlib.Decide.{ℕ_discrete, dec_le}
 use lib.ListN.{get_elem?}
 use Rattle.atomic_table.proofs.Lists.{set_else}
-use Rattle.sock_words.specs.Words.{at_word_link, at_word_attempt, vref_version, socket_id_slot, socket_id_version}
+use Rattle.sock_words.specs.Words.{at_word_link, at_word_attempt, vref_version, socket_id_slot, socket_id_version, id_slot, id_first}
 use Rattle.sock_words.specs.declared.plain.Plan.{Plan}
 use Rattle.sock_model.specs.declared.chain.Entry.{Entry}
 use Rattle.sock_model.specs.declared.view.View.{View}
@@ -62,7 +62,6 @@ use Rattle.send_causes.proofs.ClosedLostTicks.{Entered, Works, AreTaken, Ended, 
 use Rattle.send_causes.proofs.ClosedLostRuns.{Behind, run_fates, run_entered, none_closing, AllFree, begins_free, rests_free, waits_free}
 use Rattle.dropped_calls.specs.accept_counts.proofs.Grounds.{setting, stages}
 use Rattle.corr_core.proofs.Notes.{at_length}
-use Rattle.corr_core.specs.Word.{id_slot, id_first}
 
 -- ## Lists
 

@@ -8,7 +8,7 @@ use mathlib.Core.Option.{Option, some, none, some-injective}
 use lib.ListN.{get_elem?}
 use Rattle.atomic_table.proofs.Lists.{at_set, set_again, set_else, set_here}
 use Rattle.sock_words.specs.declared.plain.Plan.{Plan}
-use Rattle.sock_words.specs.Words.{socket_id_version, socket_id_slot, vref_version, at_word, at_word_link, at_word_attempt}
+use Rattle.sock_words.specs.Words.{socket_id_version, socket_id_slot, vref_version, at_word, at_word_link, at_word_attempt, IDLE, id_slot, id_first}
 use Rattle.sock_model.specs.declared.chain.Claim.{Claim}
 use Rattle.sock_model.specs.declared.chain.Entry.{Entry}
 use Rattle.sock_model.specs.declared.chain.Right.{Right}
@@ -17,7 +17,6 @@ use Rattle.sock_model.specs.declared.view.Hand.{Hand}
 use Rattle.sock_model.specs.declared.view.View.{View}
 use Rattle.sock_model.specs.ChainRows.{with_claim, entry_of, more, queued, righted, taken_right, ready_claim, filled_claim}
 use Rattle.sock_model.specs.Layout.{ref_index}
-use Rattle.sock_model.specs.Memory.{IDLE}
 use Rattle.dropped_calls.specs.Below.sock_steps.proofs.Quiet.{either_way}
 use Rattle.seat_programs.specs.id_rule.specs.Lawful as ids
 use Rattle.seat_programs.specs.Asides.{Step, Found, StoreAt}
@@ -48,7 +47,6 @@ use Rattle.dropped_calls.specs.refused_attempts.proofs.RefusedMeans.{IsSo, did_s
 use Rattle.dropped_calls.specs.accept_counts.proofs.Views.{row_same}
 use Rattle.send_causes.proofs.ClosedLostPrograms.{Try, Mode, Free, Held, Linked, Stored, Claims, Claimed, Filled, Marked, Goes, goes_first, goes_next}
 use Rattle.corr_core.proofs.Notes.{at_length}
-use Rattle.corr_core.specs.Word.{id_slot, id_first}
 use Rattle.seat_programs.specs.Rounds.{first_step}
 
 -- ## Accepted messages

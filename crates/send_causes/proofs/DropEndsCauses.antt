@@ -9,7 +9,7 @@ use Rattle.seat_programs.specs.brpc_model.specs.Operations.{Turn}
 use Rattle.seat_programs.specs.brpc_model.specs.Script.{script_of}
 use Rattle.dropped_calls.specs.Below.script_facts.proofs.Reading.{InRange}
 use Rattle.dropped_calls.specs.Below.script_facts.proofs.Targets.{AreThere}
-use Rattle.sock_words.specs.Words.{socket_id_slot, socket_id_version}
+use Rattle.sock_words.specs.Words.{socket_id_slot, socket_id_version, NO_SOCKET}
 use Rattle.sock_words.specs.declared.plain.Plan.{Plan}
 use Rattle.sock_model.specs.Layout.{open_index}
 use Rattle.corr_core.specs.Word.{code_of, attempt_of}
@@ -17,7 +17,6 @@ use Rattle.corr_core.proofs.Notes.{at_length}
 use Rattle.seat_programs.specs.declared.task.Op.TheVariants as ops
 use Rattle.seat_programs.specs.declared.task.Task.{Task}
 use Rattle.seat_programs.specs.Cores.{Core}
-use Rattle.seat_programs.specs.Programs.{NO_SOCKET}
 use Rattle.seat_programs.specs.Tasks.{opens, plan_of}
 use Rattle.seat_programs.specs.Ticks.{run, quiet}
 use Rattle.seat_programs.specs.Scripts.{all_tasks, opened, set_up, played, IsRunWithCalls}

@@ -19,7 +19,6 @@ use Rattle.sock_model.specs.declared.home.Home.{Home}
 use Rattle.sock_model.specs.declared.view.Hand.{Hand}
 use Rattle.sock_model.specs.declared.view.View.{View}
 use Rattle.sock_model.specs.ChainRows.{with_claim, entry_of, more, queued, righted, taken_right, ready_claim, filled_claim}
-use Rattle.sock_model.specs.Memory.{IDLE}
 use Rattle.seat_programs.specs.declared.task.Sizes.{Sizes}
 use Rattle.seat_programs.specs.declared.task.Task.{Task}
 use Rattle.seat_programs.specs.Beside.{calls_after}
@@ -63,6 +62,7 @@ use Rattle.accept_counts.specs.Below.script_facts.proofs.Lists.{all_map}
 use Rattle.accept_counts.specs.Below.script_facts.proofs.Sizes.{all_more}
 use Rattle.accept_counts.specs.Below.owned_ids.proofs.OpensStored.{place_at}
 use Rattle.seat_programs.specs.Rounds.{first_step}
+use Rattle.sock_words.specs.Words.{IDLE}
 
 -- ## Messages of one seat
 

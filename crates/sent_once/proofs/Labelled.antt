@@ -1,7 +1,7 @@
 -- In a run each operation's call has one id, so whoever stores an at word stores one of its operation's own.
 use Rattle.std.proofs.Common.{Bool, ◌≡◌, ◌≢◌, ℕ, ◌+◌, ◌<◌, ◌≤◌, List, [], ◌∷◌, ◌++◌, length, replicate, sym, ap, ◌∙◌, subst, arith}
 use Rattle.sock_words.specs.declared.plain.Plan.{Plan}
-use Rattle.sock_words.specs.Words.{at_word, at_word_first, at_word_slot}
+use Rattle.sock_words.specs.Words.{at_word, at_word_first, at_word_slot, call_id, id_slot, id_first}
 use Rattle.sock_model.specs.declared.view.View.{View}
 use Rattle.accept_counts.specs.Below.chain_steps.proofs.Lists.{at_some}
 use Rattle.corr_core.specs.declared.marks.Plan.{Plan as IdPlan}
@@ -31,7 +31,6 @@ use Rattle.accept_counts.specs.Counts.{StoresOwn, AreLabelled}
 use Rattle.accept_counts.specs.Refused.{WouldStore, WouldOwn, AllWouldOwn}
 use Rattle.accept_counts.proofs.Runs.{AreLabelledIn}
 use Rattle.accept_counts.proofs.Grounds.{setting}
-use Rattle.corr_core.specs.Word.{call_id, id_slot, id_first}
 use Rattle.seat_programs.specs.Rounds.{first_step}
 
 -- the first step of a round

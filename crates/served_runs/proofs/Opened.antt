@@ -4,7 +4,7 @@ use Rattle.std.specs.Prelude.{Some}
 use Rattle.std.specs.List.{AllByRecursion}
 use mathlib.Core.Option.{some, some-injective}
 use lib.ListN.{get_elem?}
-use Rattle.sock_words.specs.Words.{socket_id, socket_id_slot, socket_id_version}
+use Rattle.sock_words.specs.Words.{socket_id, socket_id_slot, socket_id_version, NO_SOCKET}
 use Rattle.sock_words.specs.declared.outcome.Outcome.TheVariants.{Opened}
 use Rattle.sock_model.specs.Layout.{open_index}
 use Rattle.brpc_model.specs.Items.{Item}
@@ -13,7 +13,6 @@ use Rattle.send_causes.specs.Below.script_facts.proofs.Reading.{InRange}
 use Rattle.send_causes.specs.Below.script_facts.proofs.Targets.{AreThere}
 use Rattle.seat_programs.specs.declared.task.Op.TheVariants as ops
 use Rattle.seat_programs.specs.Calls.{CreateLife}
-use Rattle.seat_programs.specs.Programs.{NO_SOCKET}
 use Rattle.seat_programs.specs.Cores.{Core}
 use Rattle.seat_programs.specs.Tasks.{opens, plan_of}
 use Rattle.seat_programs.specs.Told.{Made}

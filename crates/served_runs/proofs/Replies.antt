@@ -15,7 +15,7 @@ use Rattle.brpc_model.specs.Items.{Item, Shape}
 use Rattle.brpc_model.specs.Operations.{Turn, link_shapes}
 use Rattle.brpc_model.specs.Causes.{HasFault}
 use Rattle.seat_programs.specs.Asides.{AtEnd, Broken}
-use Rattle.seat_programs.specs.Programs.{Rest, NO_SOCKET}
+use Rattle.seat_programs.specs.Programs.{Rest}
 use Rattle.seat_programs.specs.Readers.{LIMIT, reader}
 use Rattle.seat_programs.specs.Cores.{Core, SeatState, lies_at, link_place}
 use Rattle.seat_programs.specs.Tasks.{opens, calls, plan_of}
@@ -53,6 +53,7 @@ use Rattle.served_runs.proofs.Runs.{Kept, quiet_offered, quiet_takes, holds_alon
 use Rattle.served_runs.proofs.Ticks.{Stands}
 use Rattle.corr_core.proofs.Notes.{at_length}
 use Rattle.send_causes.specs.Below.call_causes.proofs.HandledWhole.{empty_at}
+use Rattle.sock_words.specs.Words.{NO_SOCKET}
 
 pub gave_long : (p : Plan) (ms : List Moment) (c : Core) → length (run p c ms).calls.gave ≡ length c.calls.gave
 gave_long p [] c = refl

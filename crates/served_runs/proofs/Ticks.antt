@@ -13,7 +13,7 @@ use Rattle.seat_programs.specs.Asides.{Step, Found, TakeBytes, Taking, Bytes}
 use Rattle.seat_programs.specs.Beside.{at_last, found_in, calls_after, more_given}
 use Rattle.seat_programs.specs.Calls.{LoadOpen}
 use Rattle.seat_programs.specs.Heads.{Retry, Reads}
-use Rattle.seat_programs.specs.Programs.{Program, Do, Rest, TakeMessage, TakeHome, PutHome, PutBytes, AskReady, Write, Aside, Round, Retries, NO_SOCKET}
+use Rattle.seat_programs.specs.Programs.{Program, Do, Rest, TakeMessage, TakeHome, PutHome, PutBytes, AskReady, Write, Aside, Round, Retries}
 use Rattle.seat_programs.specs.Readers.{read, reader}
 use Rattle.seat_programs.specs.Cores.{Core, SeatState, found_at, waiting_at, with_seat, resolved, next_step}
 use Rattle.seat_programs.specs.StepTables.{word_of}
@@ -25,6 +25,7 @@ use Rattle.send_causes.specs.Below.accept_counts.proofs.Readings.{IsTake}
 use Rattle.served_runs.proofs.Readings.{Goes, is_last, goes_first, goes_next, begins_reading}
 use Rattle.send_causes.specs.Below.call_causes.proofs.HandledTicks.{take_of, taken_first}
 use Rattle.seat_programs.specs.Rounds.{first_step}
+use Rattle.sock_words.specs.Words.{NO_SOCKET}
 
 -- ## What is taken
 

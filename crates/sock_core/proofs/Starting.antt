@@ -40,7 +40,7 @@ use Rattle.machine_ticks.specs.machine_rules.proofs.Hands.{HasNone, hand_none}
 use Rattle.machine_steps.proofs.Begun.{told_length}
 use Rattle.machine_ticks.specs.machine_rules.proofs.Paces.{calm_paced, client_calm}
 use Rattle.machine_ticks.specs.machine_rules.proofs.Seatings.{core_is}
-use Rattle.corr_core.specs.Word.{id_first}
+use Rattle.sock_words.specs.Words.{id_first}
 
 -- nothing was taken, and nothing given
 abbrev pub NOTHING : Taken

@@ -9,14 +9,13 @@ use Rattle.sock_words.specs.declared.plain.Plan.{Plan}
 use Rattle.sock_words.specs.declared.place_word.PlaceWord.{PlaceWord}
 use Rattle.sock_words.specs.declared.socket_id.SocketId.{SocketId}
 use Rattle.sock_words.specs.declared.vref.Vref.{Vref}
-use Rattle.sock_words.specs.Words.{socket_id_version, socket_id_slot}
+use Rattle.sock_words.specs.Words.{socket_id_version, socket_id_slot, NO_SOCKET}
 use Rattle.sock_model.specs.declared.view.StoredWord.{StoredWord}
 use Rattle.sock_model.specs.declared.view.View.{View}
 use Rattle.sock_model.specs.Layout.{open_index}
 use Rattle.seat_programs.specs.declared.task.Op.{Op}
 use Rattle.seat_programs.specs.declared.task.Op.TheVariants as ops
 use Rattle.seat_programs.specs.declared.task.Task.{Task}
-use Rattle.rpc_client.specs.sock_rule.specs.Rows.{NOTHING}
 use Rattle.rpc_client.specs.sock_table.specs.declared.finding.Noted.TheVariants as noted
 use Rattle.sock_deeds.specs.Deeds.{Did, looks, DoneBy, own_name}
 use Rattle.sock_deeds.specs.Runs.{IsFor, did_in, ReaderSeat, DeedRun}
@@ -41,7 +40,7 @@ module _ {O : Type 0} {g : Ghosts O} {state : O → OutState} {p : Plan} {client
         read_found run a record { place = open_index p r.number; word = sock.0 + 1 } (0, ap (λ (z : View). get_elem? z.finds 0) b.1.view)
 
     -- it was made by that `open`
-    pub noted_made : sock.0 + 1 ≢ NOTHING → (n : ℕ) × MadeHere run n r.link (socket_id_slot sock.0) (socket_id_version sock.0)
+    pub noted_made : sock.0 + 1 ≢ NO_SOCKET → (n : ℕ) × MadeHere run n r.link (socket_id_slot sock.0) (socket_id_version sock.0)
     noted_made some_ =
         let x : StoredWord = record { place = open_index p r.number; word = sock.0 + 1 } in
         let h = noted_found in

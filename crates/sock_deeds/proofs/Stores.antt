@@ -9,7 +9,7 @@ use Rattle.sock_words.specs.declared.outcome.Outcome.{Outcome}
 use Rattle.sock_words.specs.declared.outcome.Outcome.TheVariants as outcome
 use Rattle.sock_words.specs.declared.plain.Plan.{Plan}
 use Rattle.sock_words.specs.declared.socket_id.SocketId.{SocketId}
-use Rattle.sock_words.specs.Words.{socket_id_version, socket_id_slot}
+use Rattle.sock_words.specs.Words.{socket_id_version, socket_id_slot, NO_SOCKET}
 use Rattle.sock_model.specs.declared.view.StoredWord.{StoredWord}
 use Rattle.sock_model.specs.declared.view.View.{View}
 use Rattle.sock_model.specs.Layout.{name_index, open_index, place_index}
@@ -17,7 +17,7 @@ use Rattle.sock_model.specs.Marks.{noted}
 use Rattle.sock_model.specs.Weights.{total, pair}
 use Rattle.slot_steps.proofs.Numbers.{pair_is}
 use Rattle.rpc_client.specs.sock_rule.specs.OnTable.{is_put, put_in}
-use Rattle.rpc_client.specs.sock_rule.specs.Rows.{NOTHING, PutAt}
+use Rattle.rpc_client.specs.sock_rule.specs.Rows.{PutAt}
 use Rattle.rpc_client.specs.sock_rule.specs.declared.homes.Letter.{Letter}
 use Rattle.rpc_client.specs.sock_table.specs.Answers.{LinkOf}
 use Rattle.rpc_client.specs.sock_table.specs.Named.{FindsId, NotedAs}
@@ -68,7 +68,7 @@ module _ (p : Plan) (x w : ℕ) where
 
   -- an `open` stored what is noted for its number: the id of its socket, or that it got none; or that id at its name
   abbrev pub NotesOpen : ℕ → Outcome → Type 0
-  NotesOpen link by = ((id : SocketId) × (by ≡ outcome.Opened (socket_id_slot id.0) (socket_id_version id.0) link) × (w ≡ id.0 + 1)) ⊎ (w ≡ NOTHING)
+  NotesOpen link by = ((id : SocketId) × (by ≡ outcome.Opened (socket_id_slot id.0) (socket_id_version id.0) link) × (w ≡ id.0 + 1)) ⊎ (w ≡ NO_SOCKET)
 
   pub data Publishes (name number link : ℕ) (by : Outcome) : Type 0 where
     for_number : x ≡ open_index p number → NotesOpen link by → Publishes name number link by
@@ -96,9 +96,9 @@ module _ (p : Plan) (x w : ℕ) where
   opened_puts name number link outcome.SlotsFull m m' b less =
       let n = b.none_ in
       let e1 = ap puts b.each.others in
-      let e2 = put_is x w (open_index p number) NOTHING n.finished m' n.noted in
+      let e2 = put_is x w (open_index p number) NO_SOCKET n.finished m' n.noted in
       let e3 = n.same.stores x w in
-      let q = pair_is x w (open_index p number) NOTHING (omega arith) in
+      let q = pair_is x w (open_index p number) NO_SOCKET (omega arith) in
       for_number (sym q.0) (inr (sym q.1))
   opened_puts name number link _ m m' b less = elim b [ ]
 
@@ -223,7 +223,7 @@ module _ (p : Plan) (o w : ℕ) (low : o < p.operations) where
   OpensBy d = (name : ℕ) × OpensAs w name o d
 
   -- whoever stored an id for the operation of this number opened a socket by it, the one of that id
-  pub done_notes : {O : Type 0} (g : Ghosts O) (state : O → OutState) (d : Did) (s t : Hand) → DoneBy g state p d s t → ((name number link : ℕ) (by : Outcome) → d ≡ opens name number link by → name < p.names) → w ≢ NOTHING → put_in (open_index p o) w s.view < put_in (open_index p o) w t.view → OpensBy d
+  pub done_notes : {O : Type 0} (g : Ghosts O) (state : O → OutState) (d : Did) (s t : Hand) → DoneBy g state p d s t → ((name number link : ℕ) (by : Outcome) → d ≡ opens name number link by → name < p.names) → w ≢ NO_SOCKET → put_in (open_index p o) w s.view < put_in (open_index p o) w t.view → OpensBy d
   done_notes g state d s t b named some_ less = by_storing (done_stores p (open_index p o) w g state d s t b less)
     where
       by_open_of : (name number link : ℕ) (by : Outcome) → d ≡ opens name number link by → name < p.names → Publishes p (open_index p o) w name number link by → OpensBy d

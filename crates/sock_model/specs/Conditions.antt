@@ -9,10 +9,10 @@ use Rattle.sock_model.specs.declared.chain.Claim.{Claim}
 use Rattle.sock_model.specs.declared.chain.Stage.TheVariants.{Writes, Empties, Turns}
 use Rattle.sock_model.specs.declared.view.View.{View}
 use Rattle.sock_model.specs.Entries.{ticket_of}
-use Rattle.sock_model.specs.Memory.{IDLE}
 use Rattle.sock_model.specs.Links.{HoldsLink}
 use Rattle.sock_model.specs.Weights.{is_hold, is_met, is_probe}
 use Rattle.sock_model.specs.SlotRows.{marks_of}
+use Rattle.sock_words.specs.Words.{IDLE}
 
 -- M1 and C7: its one claim is of request r
 pub record HasClaim (r : ℕ) (p : Plan) (v : View) : Type 0 where

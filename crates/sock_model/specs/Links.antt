@@ -12,7 +12,7 @@ use Rattle.sock_model.specs.Layout.{head_index}
 use Rattle.sock_model.specs.Slots.{count}
 use Rattle.sock_model.specs.References.{slot_facts}
 use Rattle.sock_model.specs.SlotRows.{marks_of}
-use Rattle.sock_model.specs.Memory.{IDLE}
+use Rattle.sock_words.specs.Words.{IDLE}
 
 -- the seat holds the life h of slot j, and knows that its link is k
 pub record HoldsLink (p : Plan) (v : View) (j h k : ℕ) : Type 0 where

@@ -12,10 +12,11 @@ use Rattle.sock_model.specs.Authors.{pick}
 use Rattle.sock_model.specs.Layout.{place_index}
 use Rattle.chain_core.specs.slot_steps.proofs.Numbers.{only_is, only_le, pair_is}
 use Rattle.chain_core.specs.slot_steps.proofs.Sums.{total_some}
-use Rattle.sock_rule.specs.OnTable.{put_in, DROPPED, is_labelled, labelled_in, is_headed, headed_in, OnTable}
+use Rattle.sock_rule.specs.OnTable.{put_in, is_labelled, labelled_in, is_headed, headed_in, OnTable}
 use Rattle.sock_rule.specs.Closing.{PlacesDiffer, IsDropTold, IsLogged}
 use Rattle.sock_rule.proofs.Closes.{others, put_is, only_one}
 use Rattle.sock_rule.proofs.Counting.{names_weight, one_at_most}
+use Rattle.sock_words.specs.Words.{DROPPED}
 
 -- where a product isn't 0, neither part is
 both_some : (a b : ℕ) → 0 < a * b → (0 < a) × (0 < b)

@@ -3,7 +3,7 @@ use Rattle.std.proofs.Common.{◌≡◌, ◌≢◌, ℕ, List, ◌+◌, ◌-◌,
 use mathlib.Core.Option.{none}
 use Rattle.atomic_table.specs.Table.{Me, step, Allows}
 use Rattle.sock_words.specs.declared.plain.Plan.{Plan}
-use Rattle.sock_words.specs.Words.{socket_id_version, socket_id_slot}
+use Rattle.sock_words.specs.Words.{socket_id_version, socket_id_slot, NO_SOCKET}
 use Rattle.sock_model.specs.declared.home.Home.{Home}
 use Rattle.sock_model.specs.declared.view.View.{View}
 use Rattle.sock_model.specs.declared.view.StoredWord.{StoredWord}
@@ -13,7 +13,7 @@ use Rattle.atomic_table.specs.Seated.{TableId}
 use Rattle.atomic_table.specs.declared.shared.Seat.{Seat}
 use Rattle.sock_model.specs.SlotRows.{met}
 use Rattle.sock_rule.specs.OnTable.{OnTable}
-use Rattle.sock_rule.specs.Rows.{NOTHING, finding, found_at}
+use Rattle.sock_rule.specs.Rows.{finding, found_at}
 use Rattle.sock_rule.specs.Seated.{IsSeat}
 use Rattle.sock_model.specs.Layout.{name_index, open_index}
 use Rattle.sock_rule.specs.Plays.{store_told, find_told, find_name_told}
@@ -40,7 +40,7 @@ module _ {S : Type 0} (shows : S → Home) (rose : S → ℕ) (q p : Plan) (slot
   stores_open_on n x word low is inside known = let r = stored_id p me.0 x word is inside known in subst (λ (r : Plan). Allows (OnTable shows rose r) slots id me (open_index p n) (λ _. word) (λ _. store_told (step slots (open_index p n) word 0 none) me word)) (sym key)
       (stores_open shows rose p slots id me mine some_ n word ((word - 1) % 4294967296) low r.0 r.1 (inr (refl, r.2)))
 
-  pub stores_nothing_on : (n word : ℕ) → n < p.operations → 0 < p.slots → word ≡ NOTHING → Allows (OnTable shows rose q) slots id me (open_index p n) (λ _. word) (λ _. store_told (step slots (open_index p n) word 0 none) me word)
+  pub stores_nothing_on : (n word : ℕ) → n < p.operations → 0 < p.slots → word ≡ NO_SOCKET → Allows (OnTable shows rose q) slots id me (open_index p n) (λ _. word) (λ _. store_told (step slots (open_index p n) word 0 none) me word)
   stores_nothing_on n word low some_slots is = subst (λ (r : Plan). Allows (OnTable shows rose r) slots id me (open_index p n) (λ _. word) (λ _. store_told (step slots (open_index p n) word 0 none) me word)) (sym key)
       (stores_open shows rose p slots id me mine some_ n word 0 low (λ z. omega arith) some_slots (inl is))
 

@@ -14,7 +14,6 @@ use Rattle.sock_model.specs.declared.home.Home.{Home}
 use Rattle.sock_model.specs.declared.home.Home.TheVariants as home
 use Rattle.sock_model.specs.declared.view.View.{View}
 use Rattle.sock_model.specs.Layout.{ref_index, head_index, request_index, next_index, place_index}
-use Rattle.sock_model.specs.Memory.{IDLE, UNCONNECTED}
 use Rattle.chain_core.specs.chain_steps.proofs.Frees.{Leads, to_end, to_next}
 use Rattle.sock_rule.specs.Faults.{faults_of}
 use Rattle.sock_rule.specs.OnTable.{OnTable}
@@ -23,7 +22,7 @@ use Rattle.sock_rule.specs.Holding.{MayLookToWrite, LookedToWrite, MayStorePlace
 use Rattle.sock_rule.specs.ChainPlays.{took_in, clean_told, place_told, drop_told, free_request_told, put_own_told, empty_told, read_next_told, turn_told}
 use Rattle.sock_rule.proofs.Holding.{looks_clean, places, drops, frees, retires, puts_own, empties, reads_on, reads_back, turns}
 use Rattle.sock_rule.proofs.Seating.{still_seat}
-use Rattle.sock_words.specs.Words.{place_word, ticket_request, ticket_generation, vref_version}
+use Rattle.sock_words.specs.Words.{place_word, ticket_request, ticket_generation, vref_version, IDLE, UNCONNECTED}
 
 leads_by : (last now : ℕ) (a b : Stage) → Follows last a now b → Leads last a now b
 leads_by last now a b (ends _ e) = to_end now e

@@ -35,13 +35,14 @@ use Rattle.chain_core.specs.sock_steps.proofs.RightSteps.{right_in, right_alone}
 use Rattle.chain_core.specs.sock_steps.proofs.RuleFrame.{lasts_all, same_rule}
 use Rattle.chain_core.specs.sock_steps.proofs.SlotFrame.{still_holds, slot_frame}
 use Rattle.chain_core.specs.sock_steps.proofs.Steady.{wrote_steady}
-use Rattle.sock_rule.specs.OnTable.{share_of, is_put, put_in, DROPPED, is_labelled, labelled_in, is_headed, headed_in, IsDropKept, Follows, Settled, Labelled, OnTable}
+use Rattle.sock_rule.specs.OnTable.{share_of, is_put, put_in, is_labelled, labelled_in, is_headed, headed_in, IsDropKept, Follows, Settled, Labelled, OnTable}
 use Rattle.sock_rule.proofs.Beside.{SameShare, Calm, drop_stays, beside_placed}
 use Rattle.sock_rule.proofs.Faults.{calm}
 use Rattle.sock_rule.proofs.Closes.{two_terms}
 use Rattle.sock_rule.proofs.Counting.{log_weight, on_weight, on_both}
 use Rattle.sock_rule.proofs.Finds.{wrote_more, aside_rule}
 use Rattle.sock_rule.specs.Rows.{dropped_at}
+use Rattle.sock_words.specs.Words.{DROPPED}
 
 -- ## A note of a store elsewhere than at names and operations
 

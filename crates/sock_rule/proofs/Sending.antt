@@ -14,7 +14,6 @@ use Rattle.sock_model.specs.declared.chain.Loose.{Loose}
 use Rattle.sock_model.specs.declared.view.View.{View}
 use Rattle.sock_model.specs.declared.home.Home.{Home}
 use Rattle.sock_model.specs.Layout.{request_index, next_index, place_index}
-use Rattle.sock_model.specs.Memory.{UNCONNECTED, IDLE}
 use Rattle.sock_model.specs.Rule.{noting}
 use Rattle.sock_model.specs.ChainRows.{with_claim}
 use Rattle.sock_rule.specs.OnTable.{OnTable}
@@ -23,6 +22,7 @@ use Rattle.sock_rule.specs.Sending.{Asked, Swapped}
 use Rattle.sock_rule.specs.ChainPlays.{blank, request_told, ready_told, connect_told}
 use Rattle.sock_rule.proofs.Chaining.{asks, readies, connects}
 use Rattle.sock_rule.proofs.Seating.{still_seat}
+use Rattle.sock_words.specs.Words.{UNCONNECTED, IDLE}
 
 module _ {S : Type 0} (shows : S → Home) (rose : S → ℕ) (q p : Plan) (slots id : ℕ) (me : Me S View) (mine : me.0.plan ≡ p) (some_ : 0 < me.0.share) (key : q ≡ p) (at word : ℕ) (low : at < p.requests) where
   pub asks_on : word ≡ request_index p at → me.0.claims ≡ [] → Allows (OnTable shows rose q) slots id me word (λ n. bit_or n 1) (request_told (step slots word 1 0 none) me)

@@ -13,7 +13,6 @@ use Rattle.sock_model.specs.declared.marks.Mark.{Mark}
 use Rattle.sock_model.specs.Marks.{about}
 use Rattle.sock_model.specs.Weights.{total, tally, only, is_busy, is_recycling, is_stage, is_recycled, is_hold, is_known, is_coding, is_told, is_met}
 use Rattle.sock_model.specs.Layout.{link_index, head_index, code_index, name_index, open_index}
-use Rattle.sock_model.specs.Memory.{IDLE}
 use Rattle.sock_model.specs.References.{slot_facts, Names, Stores}
 use Rattle.sock_model.specs.SlotRows.{marks_of, linked, staged, coded, told_code, met, met_link}
 use Rattle.sock_model.specs.Rule.{Lasting, of_name, of_open, noting, Rule}
@@ -27,12 +26,13 @@ use Rattle.chain_core.specs.sock_steps.proofs.SlotSteps.{idle_law}
 use Rattle.chain_core.specs.sock_steps.proofs.RuleSteps.{load_rule, link_rule, meet_rule, meet_last_rule, reset_rule, wipe_rule, code_rule, found_code_rule, find_note_rule, store_name_note_rule, store_open_note_rule}
 use Rattle.chain_core.specs.sock_steps.proofs.Noting.{step_notes}
 use Rattle.sock_rule.specs.OnTable.{put_in, OnTable}
-use Rattle.sock_rule.specs.Rows.{NOTHING, finding, put_at}
+use Rattle.sock_rule.specs.Rows.{finding, put_at}
 use Rattle.sock_rule.specs.Plays.{link_told, meet_told, meet_last_told, reset_told, wipe_told, code_told, read_told, store_told, find_told, find_name_told}
 use Rattle.sock_rule.proofs.Beside.{SameShare, beside}
 use Rattle.sock_rule.proofs.Faults.{linked_same, staged_same, coded_same}
 use Rattle.sock_rule.proofs.Settling.{slot_settled, name_settled, code_settled, load_settled}
 use Rattle.sock_rule.proofs.Finds.{was_put, finds_beside, puts_beside, found_history, stored_history}
+use Rattle.sock_words.specs.Words.{IDLE, NO_SOCKET}
 
 -- the link of a life that a seat holds, and of one that it ended, is one of the table
 module _ {S : Type 0} {shows : S → Home} {rose : S → ℕ} {p : Plan} (s : State S View) (t : OnTable shows rose p s) (id : ℕ) (u : View) (here : get_elem? s.views id ≡ some u) (i : ℕ) (inside : i < p.slots) where
@@ -177,7 +177,7 @@ module _ {S : Type 0} (shows : S → Home) (rose : S → ℕ) (p : Plan) (slots 
   )
 
   -- S6 into the word of an operation
-  pub stores_open : (n word i : ℕ) → n < p.operations → word ≢ 0 → i < p.slots → (word ≡ NOTHING) ⊎ (((word - 1) % 4294967296 ≡ i) × (0 < marks_of (is_known ((word - 1) / 4294967296)) i v))
+  pub stores_open : (n word i : ℕ) → n < p.operations → word ≢ 0 → i < p.slots → (word ≡ NO_SOCKET) ⊎ (((word - 1) % 4294967296 ≡ i) × (0 < marks_of (is_known ((word - 1) / 4294967296)) i v))
       → Allows (OnTable shows rose p) slots id me (open_index p n) (λ _. word) (λ _. store_told (step slots (open_index p n) word 0 none) me word)
   stores_open n word i low some_word inside how s t long here fits = (
     put_at (open_index p n) word (record { place = open_index p n; word = word } ∷ t.stored) v,
@@ -190,10 +190,10 @@ module _ {S : Type 0} (shows : S → Home) (rose : S → ℕ) (p : Plan) (slots 
 
   -- S7 at a place whose word, other than 0, is the id of a life that was born or says that there is none, and was stored there
   finds_at : (x : ℕ) → Lasting p x → 6 * p.slots ≤ x → x < 6 * p.slots + p.names + p.operations
-      → ((s : State S View) → OnTable shows rose p s → get_or s.words x 0 ≢ NOTHING → Names p s (get_or s.words x 0)) → ((s : State S View) → OnTable shows rose p s → Stores s x)
+      → ((s : State S View) → OnTable shows rose p s → get_or s.words x 0 ≢ NO_SOCKET → Names p s (get_or s.words x 0)) → ((s : State S View) → OnTable shows rose p s → Stores s x)
       → Allows (OnTable shows rose p) slots id me x (λ n. n) (find_told (step slots x 0 0 none) me)
   finds_at x last high low names stores s t long here fits = let w : ℕ = get_or s.words x 0 in let i : ℕ = (w - 1) % 4294967296 in let h : ℕ = (w - 1) / 4294967296 in
-      let fresh : get_or s.words x 0 ≢ NOTHING → get_or s.words x 0 ≢ 0 → (get_or s.words x 0 - 1) % 4294967296 < me.0.plan.slots = λ n z. subst (λ (q : Plan). (get_or s.words x 0 - 1) % 4294967296 < q.slots) (sym mine) (names s t n z).0 in
+      let fresh : get_or s.words x 0 ≢ NO_SOCKET → get_or s.words x 0 ≢ 0 → (get_or s.words x 0 - 1) % 4294967296 < me.0.plan.slots = λ n z. subst (λ (q : Plan). (get_or s.words x 0 - 1) % 4294967296 < q.slots) (sym mine) (names s t n z).0 in
       let stays : (k : ℕ) → get_elem? me.0.found k ≡ some x → get_or s.words x 0 ≢ 0 = λ k e. (t.rule.found_words id v here k x e).1 in
       let quiet : SameShare p v v = record { share = refl; lists = refl; finds = refl; stores = λ y z. omega arith; accepts = λ l. omega arith; labels = λ x. x } in
       let read : Rule shows p (stepped s x (get_or s.words x 0) id [] me.0 keeps) = load_rule t.rule id v here mine x w refl v record { plan = refl; found = refl; lists = refl } (idle_law shows p s t.rule.lawful id v here x) in

@@ -5,7 +5,6 @@ use Rattle.sock_words.specs.declared.plain.Plan.{Plan}
 use Rattle.sock_model.specs.declared.chain.Right.{Right}
 use Rattle.sock_model.specs.declared.chain.Stage.{Stage}
 use Rattle.sock_model.specs.declared.chain.Stage.TheVariants.{Writes, Placed, Passes, Empties, Walks, Turns}
-use Rattle.sock_model.specs.Memory.{UNCONNECTED}
 use Rattle.sock_model.specs.declared.view.View.{View}
 use Rattle.sock_model.specs.Links.{HoldsLink}
 use Rattle.sock_model.specs.SlotRows.{marks_of, looked}
@@ -16,7 +15,7 @@ use Rattle.sock_rule.specs.declared.homes.Letter.{Letter}
 use Rattle.sock_rule.specs.Shows.{heading_of}
 use Rattle.sock_rule.specs.ChainPlays.{IsTicket}
 use Rattle.sock_rule.specs.Plays.{WordFits}
-use Rattle.sock_words.specs.Words.{ticket_request, vref_version}
+use Rattle.sock_words.specs.Words.{ticket_request, vref_version, UNCONNECTED}
 
 -- the seat's one right is r
 abbrev pub Rights : Right → View → Type 0

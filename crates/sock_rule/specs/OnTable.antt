@@ -16,6 +16,7 @@ use Rattle.sock_model.specs.Layout.{code_index, request_index, place_index}
 use Rattle.sock_model.specs.Seats.{first_view}
 use Rattle.sock_model.specs.Rule.{lists_of, Rule}
 use Rattle.sock_rule.specs.Faults.{LinkFaults}
+use Rattle.sock_words.specs.Words.{DROPPED}
 
 abbrev pub share_of : View → ℕ
 share_of v = v.share
@@ -45,10 +46,6 @@ FindsWere views v = (n : ℕ) (x : StoredWord) → get_elem? v.finds n ≡ some 
 -- what was stored later stands before what was stored earlier
 abbrev pub Follows : List StoredWord → List StoredWord → Type 0
 Follows all before = (more : List StoredWord) × (all ≡ more ++ before)
-
--- the least word with the dropped bit
-abbrev pub DROPPED : ℕ
-DROPPED = 9223372036854775808
 
 -- how many of the messages that a view's lists have are of the label with this place index
 abbrev pub is_labelled : ℕ → Entry → ℕ

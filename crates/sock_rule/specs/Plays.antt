@@ -10,9 +10,9 @@ use Rattle.sock_model.specs.Weights.{is_busy, is_ref, is_known, is_hold, is_stag
 use Rattle.sock_model.specs.Layout.{tag_index, ref_index, link_index, head_index, code_index}
 use Rattle.sock_model.specs.SlotRows.{marks_of, knows, claimed, gave_birth, added, back, subbed, failed, recycled, freed, looked, linked, staged, coded, told_code, met_link}
 use Rattle.sock_model.specs.ChainRows.{with_hand, without_hand, spent_hand}
-use Rattle.sock_rule.specs.Rows.{NOTHING, PutAt, FoundAt}
+use Rattle.sock_rule.specs.Rows.{PutAt, FoundAt}
 use Rattle.sock_rule.specs.Faults.{faults_of, fault_found, fault_left}
-use Rattle.sock_words.specs.Words.{vref_version, vref_nref, socket_id_slot}
+use Rattle.sock_words.specs.Words.{vref_version, vref_nref, socket_id_slot, NO_SOCKET}
 
 -- what a seat knows of the reference word of a slot that it finds
 pub record WordFits (i found : ℕ) (v : View) : Type 0 where
@@ -107,7 +107,7 @@ module _ {S : Type 0} where
 
   -- S7: an id that is found names a slot of the table, and a word that was found other than 0 is so still
   abbrev pub find_told : Step S → Me S View → ℕ → Me S View → Type 0
-  find_told st m found n = FoundAt st.word found m n × (found ≢ 0 → found ≢ NOTHING → socket_id_slot (found - 1) < m.0.plan.slots) × ((k : ℕ) → get_elem? m.0.found k ≡ some st.word → found ≢ 0)
+  find_told st m found n = FoundAt st.word found m n × (found ≢ 0 → found ≢ NO_SOCKET → socket_id_slot (found - 1) < m.0.plan.slots) × ((k : ℕ) → get_elem? m.0.found k ≡ some st.word → found ≢ 0)
 
   -- S7 of a name: what stands there, other than 0, is one more than the id of a life
   abbrev pub find_name_told : Step S → Me S View → ℕ → Me S View → Type 0

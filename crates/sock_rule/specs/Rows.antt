@@ -5,7 +5,7 @@ use lib.ListN.{get_elem?}
 use Rattle.atomic_table.specs.Table.{Me}
 use Rattle.sock_words.specs.declared.plain.Plan.{Plan}
 use Rattle.sock_words.specs.declared.socket_id.SocketId.{SocketId}
-use Rattle.sock_words.specs.Words.{socket_id_version, socket_id_slot}
+use Rattle.sock_words.specs.Words.{socket_id_version, socket_id_slot, NO_SOCKET}
 use Rattle.sock_model.specs.declared.chain.Heading.{Heading}
 use Rattle.sock_model.specs.declared.view.View.{View}
 use Rattle.sock_model.specs.declared.view.StoredWord.{StoredWord}
@@ -15,10 +15,6 @@ use Rattle.sock_rule.specs.OnTable.{Follows}
 use Rattle.sock_model.specs.SlotRows.{marks_of, met, wrote}
 use Rattle.sock_model.specs.Weights.{is_known}
 use Rattle.sock_model.specs.Rule.{noting}
-
--- the word of an operation that got no socket
-abbrev pub NOTHING : ℕ
-NOTHING = 18446744073709551615
 
 -- of all that was stored by then, the word is the last for the place x, and behind it stands all that this seat had met before
 pub record IsHistory (x word : ℕ) (v : View) (all : List StoredWord) : Type 0 where
@@ -60,4 +56,4 @@ pub record Knows (p : Plan) (v : View) (id : ℕ) : Type 0 where
 -- what it stores at an operation: the id of its socket, or that it got none
 abbrev pub NotedBy : {S : Type 0} → Plan → ℕ → Option SocketId → Me S View → Me S View → Type 0
 NotedBy {S} p o (Some id) m n = PutAt (open_index p o) (id.0 + 1) m n
-NotedBy {S} p o None m n = PutAt (open_index p o) NOTHING m n
+NotedBy {S} p o None m n = PutAt (open_index p o) NO_SOCKET m n

@@ -6,11 +6,11 @@ use Rattle.sock_model.specs.declared.chain.Claim.{Claim}
 use Rattle.sock_model.specs.declared.chain.Heading.{Heading}
 use Rattle.sock_model.specs.declared.view.View.{View}
 use Rattle.sock_model.specs.Layout.{request_index}
-use Rattle.sock_model.specs.Memory.{IDLE}
 use Rattle.sock_model.specs.Conditions.{MayExchange}
 use Rattle.sock_model.specs.ChainRows.{with_claim, fresh_claim, filled_claim, queued, righted}
 use Rattle.sock_model.specs.Rule.{MOST_ACCEPTED, noting}
 use Rattle.sock_rule.specs.ChainPlays.{blank}
+use Rattle.sock_words.specs.Words.{IDLE}
 
 -- C1: where the word was even the request is claimed, and its home is out with the seat
 abbrev pub Asked : {S : Type 0} → Plan → ℕ → ℕ → Me S View → Me S View → Type 0

@@ -3,7 +3,7 @@ ghost use Rattle.std.specs.Prelude.{◌≡◌, ◌≢◌, ◌+◌, ◌-◌, ◌%
 ghost use mathlib.Core.Option.{some};
 ghost use lib.ListN.{get_elem?};
 ghost use Rattle.sock_model.specs.Layout.{name_index, open_index};
-ghost use Rattle.sock_rule.specs.Rows.{NOTHING, PutAt, FoundAt, Knows, NotedBy};
+ghost use Rattle.sock_rule.specs.Rows.{PutAt, FoundAt, Knows, NotedBy};
 ghost use Rattle.sock_rule.specs.Seated.{IsSeat};
 
 use crate::plays::{FindId, FindName, StoreId};
@@ -11,6 +11,7 @@ use crate::table::{RuleTable, SockSeat};
 use sock_io::Out;
 use sock_model::{name_index, open_index};
 use sock_words::SocketId;
+ghost use Rattle.sock_words.specs.Words.{NO_SOCKET};
 
 impl<O: Out> RuleTable<O> {
     /// S6 into the word of a name: an id that the seat knows.
@@ -70,7 +71,7 @@ impl<O: Out> RuleTable<O> {
         requires operation { operation < self.now.plan.operations }
         ensures seat { IsSeat self.now.table.shared.table_id self.now.plan seat.new }
         ensures view { FoundAt (open_index self.now.plan operation) result seat.old.me seat.new.me }
-        ensures inside { result ≢ 0 → result ≢ NOTHING → (result - 1) % 4294967296 < self.now.plan.slots }
+        ensures inside { result ≢ 0 → result ≢ NO_SOCKET → (result - 1) % 4294967296 < self.now.plan.slots }
         ensures stays { (k : ℕ) → get_elem? seat.old.me.0.found k ≡ some (open_index self.now.plan operation) → result ≢ 0 }
     {
         let index = open_index(&self.plan, operation);

@@ -4,7 +4,6 @@ use mathlib.Core.Option.{Option, some, none}
 use lib.ListN.{get_elem?}
 use Rattle.sock_words.specs.declared.plain.Plan.{Plan}
 use Rattle.sock_model.specs.declared.view.View.{View}
-use Rattle.sock_model.specs.Memory.{IDLE}
 use Rattle.seat_programs.specs.Calls.{Call, CreateLife, AddRef, SubRef, Recycle, LoadLink, LoadName, TakeLink, FinishLink, PutLink, FindLink, ClaimRequest, PutMessage, EmptyHead, FreeRequest, StorePlace, DropPlace}
 use Rattle.seat_programs.specs.Programs.{Program, Do, TakeMessage, TakeHome, PutHome, PutBytes, AskReady}
 use Rattle.seat_programs.specs.Cores.{Core, SeatState, found_at}
@@ -19,6 +18,7 @@ use Rattle.sock_runs.proofs.LinkTicks.{RetriesGo, message_there, link_there, has
 use Rattle.program_steps.proofs.Cases.{beside, goes_first}
 use Rattle.sock_runs.proofs.Few.{last_small, places_small}
 use Rattle.seat_programs.specs.Rounds.{first_step}
+use Rattle.sock_words.specs.Words.{IDLE}
 
 module _ (p : Plan) (c : Core) (vs : List View) (sound : Sound p c vs) (few : AreFew vs) (i : ℕ) (v : View) (at : get_elem? vs i ≡ some v) where
   abbrev found : Call → ℕ

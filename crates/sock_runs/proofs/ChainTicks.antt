@@ -7,7 +7,7 @@ use native.Mathlib.Decide.{ℕ_discrete, dec_le}
 use lib.ListN.{get_elem?}
 use lib.Seq.{set-get_or}
 use Rattle.atomic_table.specs.Table.{State}
-use Rattle.sock_words.specs.Words.{socket_id_version, socket_id_slot, vref_version, ticket_request, ticket_generation, place_word}
+use Rattle.sock_words.specs.Words.{socket_id_version, socket_id_slot, vref_version, ticket_request, ticket_generation, place_word, IDLE, UNCONNECTED}
 use Rattle.sock_words.specs.declared.plain.Plan.{Plan}
 use Rattle.sock_model.specs.declared.chain.Claim.{Claim}
 use Rattle.sock_model.specs.declared.chain.Heading.{Heading}
@@ -22,7 +22,6 @@ use Rattle.sock_model.specs.Weights.{is_hold, is_met, is_saw, is_linked}
 use Rattle.sock_model.specs.Layout.{ref_index, link_index, head_index, code_index, request_index, next_index, place_index}
 use Rattle.sock_model.specs.Entries.{ticket, on, nth}
 use Rattle.sock_model.specs.Writing.{Held, InStage, OnWalk}
-use Rattle.sock_model.specs.Memory.{IDLE, UNCONNECTED}
 use Rattle.sock_model.specs.Slots.{count}
 use Rattle.sock_model.specs.SlotRows.{marks_of, looked, told_code, met_link}
 use Rattle.sock_model.specs.References.{slot_facts}

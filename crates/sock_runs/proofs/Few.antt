@@ -13,7 +13,6 @@ use Rattle.sock_model.specs.declared.view.View.{View}
 use Rattle.sock_model.specs.declared.view.Hand.{Hand}
 use Rattle.sock_model.specs.Weights.{total}
 use Rattle.sock_model.specs.Entries.{on, nth}
-use Rattle.sock_model.specs.Memory.{IDLE}
 use Rattle.sock_model.specs.Writing.{Held}
 use Rattle.sock_model.specs.Reads.{memory, tokens}
 use Rattle.sock_model.specs.ChainRows.{entry_of, more, queued, righted}
@@ -40,6 +39,7 @@ use Rattle.program_steps.specs.Sound.{Sound, AreFew, MOST_PLACES, views_after, I
 use Rattle.program_steps.specs.Lasts.{Lasts, MOST_PAID}
 use Rattle.program_steps.proofs.Leaves.{is_exchange, row_leaves, plan_stays, lists_stay}
 use Rattle.program_steps.proofs.Cases.{tick_keeps_marks}
+use Rattle.sock_words.specs.Words.{IDLE}
 
 -- ## What each step leaves
 

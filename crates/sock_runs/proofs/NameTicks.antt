@@ -5,7 +5,7 @@ use mathlib.Core.Option.{some}
 use native.Mathlib.Decide.{ℕ_discrete}
 use lib.ListN.{get_elem?}
 use Rattle.atomic_table.specs.Table.{State, stepped, keeps}
-use Rattle.sock_words.specs.Words.{socket_id_version, socket_id_slot}
+use Rattle.sock_words.specs.Words.{socket_id_version, socket_id_slot, NO_SOCKET}
 use Rattle.sock_words.specs.declared.plain.Plan.{Plan}
 use Rattle.sock_model.specs.declared.home.Home.{Home}
 use Rattle.sock_model.specs.declared.view.View.{View}
@@ -22,7 +22,6 @@ use Rattle.sock_steps.specs.slot_steps.proofs.Stored.{noted-else, noted-here}
 use Rattle.sock_steps.proofs.Steady.{wrote_steady}
 use Rattle.sock_steps.proofs.SlotSteps.{slot_law, idle_law, find_law, store_name_law, store_open_law}
 use Rattle.seat_programs.specs.Calls.{StoreName, LoadName, StoreOpen, LoadOpen}
-use Rattle.seat_programs.specs.Programs.{NO_SOCKET}
 use Rattle.seat_programs.specs.StepsOfNames.{is_id, found_id}
 use Rattle.seat_programs.specs.StepTables.{May}
 use Rattle.program_steps.proofs.Ids.{id_some, id_socket}

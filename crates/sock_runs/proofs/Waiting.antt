@@ -17,7 +17,7 @@ use Rattle.sock_model.specs.declared.chain.Stage.TheVariants as stages
 use Rattle.sock_model.specs.declared.view.View.{View}
 use Rattle.sock_model.specs.Layout.{next_index}
 use Rattle.sock_model.specs.Entries.{on, nth}
-use Rattle.sock_model.specs.Memory.{Memory, UNCONNECTED}
+use Rattle.sock_model.specs.Memory.{Memory}
 use Rattle.sock_model.specs.Tokens.{Tokens}
 use Rattle.sock_model.specs.Writing.{Held, InStage, OnWalk, Waits}
 use Rattle.sock_model.specs.Chains.{Chains}
@@ -29,7 +29,7 @@ use Rattle.sock_steps.proofs.Maps.{gather_nil}
 use Rattle.sock_steps.proofs.RightSteps.{right_in, right_alone}
 use Rattle.seat_programs.specs.Writings as heads
 use Rattle.std.specs.Prelude as std
-use Rattle.seat_programs.specs.corr_core.specs.Word.{parts, id_slot}
+use Rattle.seat_programs.specs.corr_core.specs.Word.{parts}
 use Rattle.seat_programs.specs.corr_core.proofs.Notes.{at_length}
 use Rattle.seat_programs.specs.id_rule.specs.Lawful.{id_index}
 use Rattle.sock_model.specs.Layout.{open_index}
@@ -47,7 +47,7 @@ use Rattle.program_steps.specs.GoesOn.{GoesOn}
 use Rattle.program_steps.specs.Sound.{Sound, IsAhead, is_begun}
 use Rattle.sock_runs.proofs.Allowed.{view_there}
 use Rattle.sock_runs.proofs.Along.{seat_rests}
-use Rattle.sock_words.specs.Words.{ticket_request}
+use Rattle.sock_words.specs.Words.{ticket_request, UNCONNECTED, id_slot}
 
 -- ## Its tick changes nothing
 

@@ -17,7 +17,6 @@ use Rattle.sock_model.specs.Weights.{is_met}
 use Rattle.sock_model.specs.SlotRows.{marks_of}
 use Rattle.sock_model.specs.Layout.{head_index, place_index}
 use Rattle.sock_model.specs.Entries.{ticket, ticket_of, on, nth}
-use Rattle.sock_model.specs.Memory.{IDLE}
 use Rattle.sock_model.specs.Writing.{loose_of}
 use Rattle.sock_model.specs.Reads.{head_at, memory, link_home, rights_on, claims_of, loose_at, tokens}
 use Rattle.sock_model.specs.ChainRows.{entry_of, more, queued, righted}
@@ -36,6 +35,7 @@ use Rattle.chain_steps.proofs.Grow.{IsNext, busy_found, idle_found, queues, begi
 use Rattle.sock_steps.proofs.Places.{holder_lives}
 use Rattle.sock_steps.proofs.Words.{Beside, head_beside, head_changed, next_same, request_same, place_same}
 use Rattle.sock_steps.proofs.ChainFrame.{SameSlots, carried_same, slots_in, one_slot, links_frame, chain_frame}
+use Rattle.sock_model.specs.sock_words.specs.Words.{IDLE}
 
 -- the tokens of a request or link, where one more stands in a view, or the one claim goes
 own_claim : (r : ℕ) (v : View) (c : Claim) → v.claims ≡ c ∷ [] → c.request ≡ r → claims_of r v ≡ c ∷ []

@@ -20,7 +20,6 @@ use Rattle.sock_model.specs.Slots.{count}
 use Rattle.sock_model.specs.References.{slot_facts}
 use Rattle.sock_model.specs.SlotRows.{marks_of, gave_birth, staged}
 use Rattle.sock_model.specs.Entries.{on}
-use Rattle.sock_model.specs.Memory.{IDLE}
 use Rattle.sock_model.specs.Reads.{rights_on, claims_of, loose_at, head_at, memory, tokens, link_at, link_home, took_of, waits_of, hands_of}
 use Rattle.sock_model.specs.Links.{Given, Lives, InSlots}
 use Rattle.sock_model.specs.Homes.{Unborn, Recycles, LinkHomes}
@@ -39,7 +38,7 @@ use Rattle.sock_steps.proofs.Places.{counts, own_count, given_more, failed_more,
 use Rattle.sock_steps.proofs.SlotFrame.{still_holds, ChainWords, head_is, whole_law, slot_frame}
 use Rattle.sock_steps.proofs.SlotSteps.{low_words}
 use Rattle.sock_steps.proofs.Maps.{put, put-here, put-at, put-else, is_none, no_members}
-use Rattle.sock_model.specs.sock_words.specs.Words.{vref_version}
+use Rattle.sock_model.specs.sock_words.specs.Words.{vref_version, IDLE}
 
 stage_busy : (n k : ℕ) (x : Mark) → is_stage n k x ≤ is_busy x
 stage_busy n k (Claimed a b) = pair_le n k a b

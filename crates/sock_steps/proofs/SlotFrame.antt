@@ -12,7 +12,6 @@ use Rattle.sock_model.specs.Layout.{head_index, request_index, next_index, place
 use Rattle.sock_model.specs.Slots.{count}
 use Rattle.sock_model.specs.References.{slot_facts, References}
 use Rattle.sock_model.specs.SlotRows.{marks_of}
-use Rattle.sock_model.specs.Memory.{IDLE}
 use Rattle.sock_model.specs.Reads.{head_at, memory, rights_on, claims_of, loose_at, tokens, link_home, message, waits_of, hands_of}
 use Rattle.sock_model.specs.declared.view.Hand.{Hand}
 use Rattle.sock_model.specs.Entries.{on}
@@ -31,6 +30,7 @@ use Rattle.chain_steps.proofs.Letters.{messages_frame}
 use Rattle.chain_steps.proofs.Delivers.{delivers_same, delivers_failed}
 use Rattle.sock_steps.proofs.Steady.{Steady, SameChain}
 use Rattle.sock_steps.proofs.Places.{given_to, given_from, lives_to, lives_from, failed_to}
+use Rattle.sock_model.specs.sock_words.specs.Words.{IDLE}
 
 -- rights that stay, and lives that are held and known as before
 pub still_holds : (p : Plan) (v w : View) → ((j h k : ℕ) → marks_of (is_met h k) j v ≤ marks_of (is_met h k) j w) → ((j h : ℕ) → marks_of (is_hold h) j v ≤ marks_of (is_hold h) j w) → w.rights ≡ v.rights → HoldsRights p v → HoldsRights p w

@@ -20,7 +20,6 @@ use Rattle.sock_model.specs.Layout.{tag_index, ref_index, link_index, head_index
 use Rattle.sock_model.specs.Slots.{count}
 use Rattle.sock_model.specs.References.{slot_facts, References}
 use Rattle.sock_model.specs.SlotRows.{marks_of, claimed, added, back, subbed, failed, recycled, freed, looked, linked, staged, coded, told_code, met, wrote, met_link}
-use Rattle.sock_model.specs.Memory.{IDLE}
 use Rattle.sock_model.specs.Reads.{carries}
 use Rattle.sock_model.specs.Links.{HoldsRights}
 use Rattle.sock_model.specs.Lawful.{Lawful}
@@ -34,7 +33,7 @@ use Rattle.sock_steps.proofs.Quiet.{either_way}
 use Rattle.sock_steps.proofs.Steady.{Steady, NoReset, Holds, SameChain, added_steady, added_holds, subbed_steady, subbed_recycling, subbed_else, failed_steady, failed_holds, looked_steady, met_steady, met_link_steady, claimed_steady, freed_steady, lost_steady, coded_steady, told_steady, wrote_steady, staged_steady, staged_reset, linked_steady}
 use Rattle.sock_steps.proofs.Places.{counts}
 use Rattle.sock_steps.proofs.SlotFrame.{still_holds, ChainWords, slot_frame}
-use Rattle.sock_model.specs.sock_words.specs.Words.{vref_version, vref_nref}
+use Rattle.sock_model.specs.sock_words.specs.Words.{vref_version, vref_nref, IDLE}
 
 -- the rights of the seat that have their life in slot i keep a reference to it
 abbrev pub KeepsRights : ℕ → View → Type 0

@@ -12,7 +12,7 @@ use Rattle.sock_model.specs.declared.home.Home.{Home}
 use Rattle.sock_model.specs.sock_words.specs.declared.plain.Plan.{Plan}
 use Rattle.sock_model.specs.declared.view.View.{View}
 use Rattle.sock_model.specs.Layout.{head_index, next_index}
-use Rattle.sock_model.specs.Memory.{UNCONNECTED, IDLE, Memory}
+use Rattle.sock_model.specs.Memory.{Memory}
 use Rattle.sock_model.specs.Chains.{Chains}
 use Rattle.sock_model.specs.Reads.{head_at, memory, tokens}
 use Rattle.sock_model.specs.ChainRows.{with_right, without_right, turned_right}
@@ -25,7 +25,7 @@ use Rattle.sock_steps.proofs.Places.{holder_lives}
 use Rattle.sock_steps.proofs.Words.{beside_all, head_beside, head_changed, next_same, request_same, place_same, next_beside, next_head, next_changed, next_request, next_place}
 use Rattle.sock_steps.proofs.ChainFrame.{slots_in, one_slot}
 use Rattle.sock_steps.proofs.RightSteps.{right_in, right_alone, rights_after, claims_after, loose_after, right_step, right_goes}
-use Rattle.sock_model.specs.sock_words.specs.Words.{ticket_request}
+use Rattle.sock_model.specs.sock_words.specs.Words.{ticket_request, UNCONNECTED, IDLE}
 
 not_writes : (s a : Stage) → ((now : ℕ) → a ≢ Writes now) → s ≡ a → (now : ℕ) → s ≢ Writes now
 not_writes s a h e now q = h now (sym e ∙ q)

@@ -2,7 +2,7 @@
 use Rattle.std.proofs.Common.{◌≡◌, ◌≢◌, ℕ, ◌+◌, ◌-◌, ◌/◌, ◌%◌, ◌<◌, cond, eqb, ne_eqb, eq-eqb, List, [], ◌∷◌, refl, sym, ap, ◌∙◌, subst, arith}
 use Rattle.atomic_table.specs.Table.{Me}
 use Rattle.sock_words.specs.declared.plain.Plan.{Plan}
-use Rattle.sock_words.specs.Words.{socket_id_version, socket_id_slot}
+use Rattle.sock_words.specs.Words.{socket_id_version, socket_id_slot, NO_SOCKET}
 use Rattle.sock_model.specs.declared.marks.Mark.TheVariants.{Known}
 use Rattle.sock_model.specs.declared.view.View.{View}
 use Rattle.sock_model.specs.declared.view.StoredWord.{StoredWord}
@@ -10,7 +10,7 @@ use Rattle.sock_model.specs.Weights.{is_known}
 use Rattle.sock_model.specs.SlotRows.{marks_of, met}
 use Rattle.sock_rule.specs.slot_steps.proofs.Numbers.{only-same}
 use Rattle.sock_rule.specs.Becoming.{Became}
-use Rattle.sock_rule.specs.Rows.{NOTHING, IsHistory, FoundAt, put_at, finding, found_at}
+use Rattle.sock_rule.specs.Rows.{IsHistory, FoundAt, put_at, finding, found_at}
 use Rattle.sock_rule.proofs.Becoming.{adds_mark}
 use Rattle.sock_table.specs.Refs.{IsBetween, SameTokens, Knows}
 use Rattle.sock_table.specs.Named.{FindsId, FindsNothing}
@@ -57,10 +57,10 @@ module _ {S : Type 0} (x word : ℕ) (m n : Me S View) (told : FoundAt x word m 
   pub read_none : word ≡ 0 → n.0 ≡ m.0
   read_none e = ap (λ (y : Me S View). y.0) told.view ∙ ap (λ b. cond b m.0 (cond (eqb word 18446744073709551615) (finding x word told.all m.0) (finding x word told.all (met ((word - 1) % 4294967296) ((word - 1) / 4294967296) m.0)))) (eq-eqb word 0 e)
 
-  pub read_nothing : word ≡ NOTHING → FindsNothing x m.0 n.0
+  pub read_nothing : word ≡ NO_SOCKET → FindsNothing x m.0 n.0
   read_nothing e = record { all = told.all; view = ap (λ (y : Me S View). y.0) told.view ∙ ap (λ (z : ℕ). found_at x z told.all m.0) e; history = subst (λ (z : ℕ). IsHistory x z m.0 told.all) e told.history }
 
-  pub read_id : word ≢ 0 → word ≢ NOTHING → (id : ℕ) → id ≡ word - 1 → FindsId x id m.0 n.0
+  pub read_id : word ≢ 0 → word ≢ NO_SOCKET → (id : ℕ) → id ≡ word - 1 → FindsId x id m.0 n.0
   read_id some_ an_id id e = let is : word ≡ id + 1 = omega arith in record {
     all = told.all;
     history = subst (λ (z : ℕ). IsHistory x z m.0 told.all) is told.history;

@@ -4,12 +4,12 @@ use mathlib.Core.Option.{some}
 use lib.ListN.{get_elem?}
 use Rattle.sock_words.specs.declared.plain.Plan.{Plan}
 use Rattle.sock_words.specs.declared.socket_id.SocketId.{SocketId}
-use Rattle.sock_words.specs.Words.{socket_id_version, socket_id_slot}
+use Rattle.sock_words.specs.Words.{socket_id_version, socket_id_slot, NO_SOCKET}
 use Rattle.sock_model.specs.declared.view.View.{View}
 use Rattle.sock_model.specs.declared.view.StoredWord.{StoredWord}
 use Rattle.sock_model.specs.Layout.{name_index, open_index}
 use Rattle.sock_model.specs.SlotRows.{met}
-use Rattle.sock_rule.specs.Rows.{NOTHING, Knows, IsHistory, finding}
+use Rattle.sock_rule.specs.Rows.{Knows, IsHistory, finding}
 pub use Rattle.sock_rule.specs.Rows.{NotedBy}
 use Rattle.sock_table.specs.declared.finding.Noted.{Noted}
 use Rattle.sock_table.specs.declared.finding.Noted.TheVariants as noted
@@ -31,8 +31,8 @@ pub record FindsId (x id : ℕ) (v w : View) : Type 0 where
 -- the same of an operation that got no socket
 pub record FindsNothing (x : ℕ) (v w : View) : Type 0 where
   pub all : List StoredWord
-  pub view : w ≡ finding x NOTHING all v
-  pub history : IsHistory x NOTHING v all
+  pub view : w ≡ finding x NO_SOCKET all v
+  pub history : IsHistory x NO_SOCKET v all
 
 -- what a step read under a name: the id that stands there now, or 0, which a seat reads only where it hasn't seen another word
 abbrev pub Found : Plan → ℕ → Option SocketId → View → View → Type 0

@@ -112,6 +112,11 @@ id_slot id = id / 2 ^ 32
 abbrev pub id_first : ℕ → ℕ
 id_first id = id % 2 ^ 32
 
+-- reading the id gives these parts
+pub record IsCallId (id slot version : ℕ) : Type 0 where
+  pub slot_is : id_slot id ≡ slot
+  pub version_is : id_first id ≡ version
+
 -- ## The word of a call id
 
 -- the first version in bits 38 to 63, the state in bits 36 and 37, one less than the range in bits 33

@@ -1,5 +1,5 @@
 ghost use Rattle.std.specs.Prelude.{◌≡◌, ◌↔◌, IsTrue};
-ghost use Rattle.sock_words.specs.Words.{at_word, no_at, at_word_first, at_word_slot, at_word_link, at_word_attempt, HasLink, FitsAtWord, IsAtWord, OnlyAtWord};
+ghost use Rattle.sock_words.specs.Words.{at_word, no_at, at_word_first, at_word_slot, at_word_link, at_word_attempt, FitsAtWord, IsAtWord, OnlyAtWord};
 
 /// Where the last attempt of a call went: the call id by its slot and first version, the link, and
 /// the number of the attempt. A link's reader finds the calls that still wait for it by this.
@@ -43,12 +43,11 @@ impl AtWord {
         ((self.0 >> 22) & 0xffff) as u16
     }
 
-    /// The link that the attempt went to, 0 to 65,534. `NONE` has none, and must not be asked.
+    /// The link that the attempt went to, 0 to 65,534; 0 for `NONE`, which has none.
     pub fn link(self) -> u16
-        requires { HasLink self.0 }
         ensures { result ≡ at_word_link self.0 }
     {
-        ((self.0 >> 6) & 0xffff) as u16 - 1
+        (((self.0 >> 6) & 0xffff) as u16).saturating_sub(1)
     }
 
     /// The number of the attempt, counted from 0.

@@ -1,5 +1,5 @@
 ghost use Rattle.std.specs.Prelude.{◌≡◌, ◌<◌, ◌-◌, ◌^◌, ◌↔◌, IsTrue};
-ghost use Rattle.sock_words.specs.Words.{place_word, no_place, place_word_dropped, place_word_link, place_word_position, HasPosition, IsPlaceWord, OnlyPlaceWord};
+ghost use Rattle.sock_words.specs.Words.{place_word, no_place, place_word_dropped, place_word_link, place_word_position, IsPlaceWord, OnlyPlaceWord};
 
 /// Where a message stands in the order of a link, and whether it was dropped. Positions are counted
 /// from 0 per link, over placed and dropped messages alike.
@@ -41,11 +41,10 @@ impl PlaceWord {
         ((self.0 >> 32) & 0xffff) as u16
     }
 
-    /// The position in the link's order, counted from 0. `NONE` has none.
+    /// The position in the link's order, counted from 0; 0 for `NONE`, which has none.
     pub fn position(self) -> u32
-        requires { HasPosition self.0 }
         ensures { result ≡ place_word_position self.0 }
     {
-        (self.0 & 0xffff_ffff) as u32 - 1
+        ((self.0 & 0xffff_ffff) as u32).saturating_sub(1)
     }
 }

@@ -1,5 +1,9 @@
 ghost use Rattle.std.specs.Prelude.{◌≡◌, ◌≢◌, true, false};
 
+/// The next word of a request that isn't connected to the one before it yet (socket.cpp,
+/// `WriteRequest::UNCONNECTED`).
+pub const UNCONNECTED: u64 = u64::MAX;
+
 /// The label of a message: which attempt of which operation it belongs to.
 #[derive(Clone, Copy)]
 pub struct Label {

@@ -1,6 +1,9 @@
 ghost use Rattle.std.specs.Prelude.{◌≡◌};
 ghost use Rattle.sock_words.specs.Words.{socket_id, socket_id_version, socket_id_slot, IsSocketId, OnlySocketId};
 
+/// The word of an `open` that got no socket. One that got one stores the socket's id, plus 1.
+pub const NO_SOCKET: u64 = u64::MAX;
+
 /// The id of a socket: the slot that it lies in, and the version with which it was made there.
 /// Versions of a slot never come twice, so an id names one socket for good. The layout is that of
 /// bRPC's `VersionedRefWithId` (`versioned_ref_with_id.h`).

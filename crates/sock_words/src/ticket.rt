@@ -1,5 +1,5 @@
 ghost use Rattle.std.specs.Prelude.{◌≡◌};
-ghost use Rattle.sock_words.specs.Words.{ticket, ticket_idle, ticket_generation, ticket_request, HasRequest, FitsTicket, IsTicket, OnlyTicket};
+ghost use Rattle.sock_words.specs.Words.{ticket, ticket_idle, ticket_generation, ticket_request, FitsTicket, IsTicket, OnlyTicket};
 
 /// A ticket: the mark of a writer's request in the head of a write chain (bRPC's io.md). It has the
 /// slot of the request and the generation in which the request was claimed, so that no ticket comes
@@ -36,11 +36,10 @@ impl Ticket {
         (self.0 >> 16) & 0x7fff_ffff_ffff
     }
 
-    /// The slot of the request. An idle head without any ticket has none.
+    /// The slot of the request; 0 for an idle head without any ticket, which has none.
     pub fn request(self) -> u16
-        requires { HasRequest self.0 }
         ensures { result ≡ ticket_request self.0 }
     {
-        (self.0 & 0xffff) as u16 - 1
+        ((self.0 & 0xffff) as u16).saturating_sub(1)
     }
 }

@@ -4,7 +4,7 @@ use mathlib.Core.Option as core
 use mathlib.Core.Logic.{dite}
 use native.Mathlib.Decide.{ℕ_discrete}
 use Rattle.sock_words.specs.declared.plain.Plan.{Plan}
-use Rattle.corr_core.specs.Word.{Parts, parts, error_of, posted_word, unlocked_word, free_word, call_id, id_slot, id_first}
+use Rattle.corr_core.specs.Word.{Parts, parts, error_of, posted_word, unlocked_word, free_word}
 use Rattle.corr_core.specs.declared.marks.Plan.{Plan as IdPlan}
 use Rattle.seat_programs.specs.id_rule.specs.Lawful.{id_index, all_words}
 use Rattle.sock_message.specs.Asked.{Asked}
@@ -24,6 +24,7 @@ use Rattle.story_steps.proofs.Slots.{queued_parts}
 use Rattle.story_steps.proofs.Births.{IsMake, IsEnd, turn, tests, passed_still, current_before}
 use Rattle.story_steps.proofs.BirthTicks.{two_of, Made, no_more, one_more, born_still}
 use Rattle.call_stories.specs.Below.outcome_stories.specs.Stories.{In}
+use Rattle.sock_words.specs.Words.{call_id, id_slot, id_first}
 
 -- one of the list is one of a longer one
 pub in_behind : {A : Type 0} (x : A) (xs ys : List A) → In x ys → In x (xs ++ ys)

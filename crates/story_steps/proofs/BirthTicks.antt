@@ -4,7 +4,7 @@ use Rattle.std.specs.List.{AllByRecursion}
 use mathlib.Core.Logic.{dite}
 use native.Mathlib.Decide.{ℕ_discrete}
 use Rattle.sock_words.specs.declared.plain.Plan.{Plan}
-use Rattle.corr_core.specs.Word.{Parts, made_word, call_id, id_slot, id_first}
+use Rattle.corr_core.specs.Word.{Parts, made_word}
 use Rattle.corr_core.specs.declared.marks.Plan.{Plan as IdPlan}
 use Rattle.seat_programs.specs.id_rule.specs.Lawful.{all_words}
 use Rattle.sock_message.specs.Asked.{Asked}
@@ -16,6 +16,7 @@ use Rattle.call_stories.specs.Stories.{word_at, LiesAt, SlotFits, HasPassed, IsC
 use Rattle.call_stories.proofs.Effects.{SameAt}
 use Rattle.story_steps.proofs.Births.{Turn, keeps, ends, makes, IsMake, IsEnd, turn, there_still}
 use Rattle.call_stories.specs.Below.outcome_stories.specs.Stories.{In}
+use Rattle.sock_words.specs.Words.{call_id, id_slot, id_first}
 
 -- ## Ids apart
 

@@ -3,7 +3,7 @@ use Rattle.std.proofs.Common.{◌≡◌, ℕ, ◌+◌, ◌<◌, ◌≤◌, ◌�
 use mathlib.Core.Logic.{dite}
 use native.Mathlib.Decide.{ℕ_discrete}
 use Rattle.sock_words.specs.declared.plain.Plan.{Plan}
-use Rattle.corr_core.specs.Word.{Parts, parts, made_word, posted_word, unlocked_word, free_word, id_slot, id_first}
+use Rattle.corr_core.specs.Word.{Parts, parts, made_word, posted_word, unlocked_word, free_word}
 use Rattle.corr_core.specs.declared.marks.Plan.{Plan as IdPlan}
 use Rattle.seat_programs.specs.id_rule.specs.Lawful.{id_index, all_words}
 use Rattle.seat_programs.specs.declared.task.Task.{Task}
@@ -16,6 +16,7 @@ use Rattle.call_stories.specs.Stories.{word_at, SlotFits, HasPassed, IsCurrent, 
 use Rattle.call_stories.proofs.Posts.{locked_parts}
 use Rattle.call_stories.proofs.Effects.{Touches, beside, word_is, word_stays}
 use Rattle.story_steps.proofs.Slots.{queued_parts}
+use Rattle.sock_words.specs.Words.{id_slot, id_first}
 
 -- how the word of a slot changes: the range stays, or the step ends it, or makes one
 pub data Turn (Made Ended : Type 0) (old new : Parts) : Type 0 where

@@ -5,7 +5,7 @@ use native.Mathlib.Decide.{ℕ_discrete}
 use Rattle.sock_words.specs.declared.plain.Plan.{Plan}
 use Rattle.sock_words.specs.declared.outcome.Outcome.{Outcome}
 use Rattle.sock_words.specs.declared.outcome.Outcome.TheVariants as outcomes
-use Rattle.corr_core.specs.Word.{parts, error_of, call_id, id_slot, id_first}
+use Rattle.corr_core.specs.Word.{parts, error_of}
 use Rattle.corr_core.specs.declared.marks.Plan.{Plan as IdPlan}
 use Rattle.sock_message.specs.Asked.{Asked, name_of}
 use Rattle.seat_programs.specs.declared.task.Op.{Op}
@@ -23,6 +23,7 @@ use Rattle.call_stories.proofs.Lasting.{far, own_on}
 use Rattle.call_stories.proofs.Posts.{speech, way, again_same, follows_on, id_back, was_posted, failed_of, Exits, Decided, decide_says, decided_says, post_with_says, post_says}
 use Rattle.call_stories.proofs.Programs.{attempt_says}
 use Rattle.call_stories.specs.Below.outcome_stories.specs.Stories.{In}
+use Rattle.sock_words.specs.Words.{call_id, id_slot, id_first}
 
 module _ (p : Plan) (q : IdPlan) (clients : List (List Task)) (gives : ℕ → List ℕ) where
   open speech p q clients gives use {Tells, Later', Ends}

@@ -17,8 +17,8 @@ use Rattle.call_stories.specs.Scenes.{Birth, Scene, IsAnsweredIn, WhyEnded, WhyO
 use Rattle.call_stories.specs.Says.{Mark}
 use Rattle.call_stories.specs.Stories.{At, word_at, undo, BirthsLaw, TasksLaw}
 use Rattle.story_steps.proofs.BirthTicks.{two_of}
-use Rattle.corr_core.specs.Word.{id_slot}
 use Rattle.call_stories.specs.Below.outcome_stories.specs.Stories.{In}
+use Rattle.sock_words.specs.Words.{id_slot}
 
 -- ## Lists
 

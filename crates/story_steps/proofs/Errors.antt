@@ -1,7 +1,7 @@
 -- Behind a step aside each error that waits has its cause.
 use Rattle.std.proofs.Common.{◌≡◌, ◌≢◌, ℕ, ◌+◌, ◌<◌, ◌≤◌, ⊎_elim, Bool, true, false, cond, eqb, eqb-true, List, length, get_or, set, refl, sym, ap, ◌∙◌, subst, arith}
 use Rattle.sock_words.specs.declared.plain.Plan.{Plan}
-use Rattle.corr_core.specs.Word.{Parts, parts, made_word, locked_word, posted_word, unlocked_word, free_word, call_id}
+use Rattle.corr_core.specs.Word.{Parts, parts, made_word, locked_word, posted_word, unlocked_word, free_word}
 use Rattle.corr_core.specs.declared.marks.Plan.{Plan as IdPlan}
 use Rattle.seat_programs.specs.id_rule.specs.Lawful.{id_index, all_words}
 use Rattle.seat_programs.specs.declared.task.Task.{Task}
@@ -15,6 +15,7 @@ use Rattle.call_stories.proofs.Lasting.{cause_on}
 use Rattle.call_stories.proofs.Posts.{locked_parts}
 use Rattle.call_stories.proofs.Effects.{Touches, beside, word_is, word_stays}
 use Rattle.story_steps.proofs.Births.{tests}
+use Rattle.sock_words.specs.Words.{call_id}
 
 module _ (p : Plan) (q : IdPlan) (clients : List (List Task)) (gives : ℕ → List ℕ) where
   -- each error of the word, which is that of slot i, has its cause

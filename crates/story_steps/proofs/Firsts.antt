@@ -1,7 +1,7 @@
 -- The first step of a program that says of calls only what has its cause is one that it may make, whatever is noted of decisions.
 use Rattle.std.proofs.Common.{ℕ, ◌+◌, inr, Bool, true, false, cond, List, sym, subst}
 use Rattle.sock_words.specs.declared.plain.Plan.{Plan}
-use Rattle.corr_core.specs.Word.{parts, code_of, id_slot, id_first}
+use Rattle.corr_core.specs.Word.{parts, code_of}
 use Rattle.corr_core.specs.declared.marks.Plan.{Plan as IdPlan}
 use Rattle.corr_core.specs.Decisions.{ends_call}
 use Rattle.sock_message.specs.Asked.{Asked}
@@ -17,6 +17,7 @@ use Rattle.call_stories.specs.Says.{Mark, MayAside, AtHead, SaysOn}
 use Rattle.call_stories.proofs.Posts.{id_back}
 use Rattle.call_stories.proofs.Programs.{block_says}
 use Rattle.story_steps.proofs.Rounds.{round_says}
+use Rattle.sock_words.specs.Words.{id_slot, id_first}
 
 module _ (p : Plan) (q : IdPlan) (clients : List (List Task)) (gives : ℕ → List ℕ) where
   abbrev pub MayFirst : Scene → Mark → Program → Type 0

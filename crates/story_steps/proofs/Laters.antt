@@ -5,11 +5,11 @@ use mathlib.Core.Option.{some-injective}
 use mathlib.Core.Logic.{dite}
 use native.Mathlib.Decide.{ℕ_discrete}
 use lib.ListN.{get_elem?}
-use Rattle.sock_words.specs.Words.{at_word_attempt}
+use Rattle.sock_words.specs.Words.{at_word_attempt, call_id}
 use Rattle.sock_words.specs.declared.plain.Plan.{Plan}
 use Rattle.seat_programs.specs.brpc_model.specs.Frame.{Frame}
 use Rattle.seat_programs.specs.brpc_model.specs.Stream as streams
-use Rattle.corr_core.specs.Word.{Parts, parts, made_word, posted_word, unlocked_word, free_word, call_id}
+use Rattle.corr_core.specs.Word.{Parts, parts, made_word, posted_word, unlocked_word, free_word}
 use Rattle.corr_core.specs.declared.marks.Plan.{Plan as IdPlan}
 use Rattle.seat_programs.specs.id_rule.specs.Lawful.{tag_index, id_index, call_index, at_index, all_words}
 use Rattle.sock_message.specs.Asked.{Asked}

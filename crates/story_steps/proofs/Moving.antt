@@ -2,10 +2,10 @@
 use Rattle.std.proofs.Common.{◌≡◌, ◌≢◌, ℕ, ◌+◌, ◌<◌, ◌≤◌, ◌⊎◌, inl, inr, ⊎_elim, Bool, true, false, cond, eqb, eq-eqb, ne_eqb, List, [], ◌∷◌, ◌++◌, length, get_or, get_or-set_same, Option, None, Some, refl, sym, ap, ◌∙◌, subst, arith}
 use mathlib.Core.Option.{some-injective}
 use lib.ListN.{get_elem?}
-use Rattle.sock_words.specs.Words.{at_word_attempt}
+use Rattle.sock_words.specs.Words.{at_word_attempt, call_id, id_slot, id_first}
 use Rattle.sock_words.specs.declared.plain.Plan.{Plan}
 use Rattle.sock_words.specs.declared.outcome.Outcome.{Outcome}
-use Rattle.corr_core.specs.Word.{Parts, parts, code_of, unlocked_word, free_word, call_id, id_slot, id_first}
+use Rattle.corr_core.specs.Word.{Parts, parts, code_of, unlocked_word, free_word}
 use Rattle.seat_programs.specs.Posts.{packed, advance_of}
 use Rattle.call_stories.specs.Below.id_runs.proofs.Keeps.{parts_packed}
 use Rattle.corr_core.specs.declared.marks.Plan.{Plan as IdPlan}

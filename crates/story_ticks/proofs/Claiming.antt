@@ -4,7 +4,7 @@ use mathlib.Core.Logic.{dite}
 use native.Mathlib.Decide.{ℕ_discrete}
 use Rattle.sock_words.specs.declared.plain.Plan.{Plan}
 use Rattle.sock_words.specs.declared.outcome.Outcome.{Outcome}
-use Rattle.corr_core.specs.Word.{parts, made_word, posted_word, unlocked_word, free_word, call_id}
+use Rattle.corr_core.specs.Word.{parts, made_word, posted_word, unlocked_word, free_word}
 use Rattle.corr_core.specs.declared.marks.Plan.{Plan as IdPlan}
 use Rattle.seat_programs.specs.id_rule.specs.Lawful.{all_words}
 use Rattle.sock_message.specs.Asked.{Asked}
@@ -23,6 +23,7 @@ use Rattle.story_steps.proofs.Moving.{free_unclaimed}
 use Rattle.story_steps.proofs.Numbered.{AllDistinct, AreNumbered}
 use Rattle.story_ticks.proofs.Sayings.{at_either, is_todo, distinct_at}
 use Rattle.story_steps.specs.call_stories.specs.Below.outcome_stories.specs.Stories.{In}
+use Rattle.sock_words.specs.Words.{call_id}
 
 -- ## Counting
 

@@ -1,5 +1,5 @@
 use Rattle.std.proofs.Common.{◌≡◌, ℕ, List, Some, None, refl, sym, ap, ◌∙◌, subst}
-use Rattle.corr_core.specs.Word.{parts, id_slot, id_first}
+use Rattle.corr_core.specs.Word.{parts}
 use Rattle.corr_id.specs.Calls.{HasId, LacksId}
 use Rattle.prpc_frame.specs.declared.frame.Frame.{Frame}
 use Rattle.rpc_reader.specs.Books.{Books, books}
@@ -8,6 +8,7 @@ use Rattle.rpc_reader.specs.Posting.{call_at, kept_at}
 use Rattle.rpc_reader.proofs.Locks.{open_still, rests_then, rests_quiet}
 use Rattle.rpc_reader.proofs.Posts.{found_of, gone_last, kept_is, met_kept, last_after}
 use Rattle.rpc_reader.proofs.posting.post_last.Goals as goal
+use Rattle.sock_words.specs.Words.{id_slot, id_first}
 
 pub returns-then-lacks_id-clause-rest : goal.returns-then-lacks_id-clause-rest
 returns-then-lacks_id-clause-rest g c = rests_quiet c.args.calls.now.seat c.word.new.seat c.requires.seat.free c.word.ensures.seat c.word.ensures.quiet

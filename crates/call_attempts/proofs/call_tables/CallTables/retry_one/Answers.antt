@@ -1,7 +1,7 @@
 use Rattle.std.proofs.Common.{◌≡◌, ℕ, ◌+◌, ◌*◌, ◌≤◌, ◌∙◌, ap, sym, refl, subst, arith}
 use Rattle.sock_words.specs.declared.plain.Label.{Label}
 use Rattle.sock_rule.specs.declared.homes.Letter.{Letter}
-use Rattle.corr_core.specs.Word.{parts, id_first}
+use Rattle.corr_core.specs.Word.{parts}
 use Rattle.corr_id.proofs.Testing.{sits_on, did_free, quiet_free}
 use Rattle.corr_id.specs.declared.calls.IdLock.{IdLock}
 use Rattle.sock_message.specs.Asked.{Asked, name_of}
@@ -13,6 +13,7 @@ use Rattle.call_attempts.proofs.Locking.{id_short, version_low, locked_but, let_
 use Rattle.call_attempts.proofs.Leaving.{own_after, keeps_leaves, none_keeps, not_ok, both_err, rested_still}
 use Rattle.call_attempts.proofs.Framing.{letter_is}
 use Rattle.call_attempts.proofs.call_tables.CallTables.retry_one.Goals as goal
+use Rattle.sock_words.specs.Words.{id_first}
 
 pub new-requires : goal.new-requires
 new-requires g c = id_short c.args.retry.id c.args.retry.attempt (omega (arith, c.in-Ok.ensures.inside, c.in-Ok.ensures.locked.0)) (omega arith)

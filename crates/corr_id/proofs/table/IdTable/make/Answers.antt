@@ -1,5 +1,5 @@
 use Rattle.std.proofs.Common.{arith, ap, sym, ◌∙◌, subst, ℕ, ◌≡◌, ◌<◌, ◌+◌, ◌*◌, ◌%◌, ◌/◌, [], ◌∷◌}
-use Rattle.corr_core.specs.Word.{parts, id_first}
+use Rattle.corr_core.specs.Word.{parts}
 use Rattle.corr_core.specs.declared.marks.Hand.TheVariants.{Empty, Full}
 use Rattle.corr_core.specs.declared.marks.Token.TheVariants.{Claimed}
 use Rattle.corr_core.specs.declared.marks.Note.TheVariants.{Made}
@@ -9,6 +9,7 @@ use Rattle.corr_id.specs.Calls.{is_at, Became, one}
 use Rattle.corr_id.proofs.Doing.{made_noted}
 use Rattle.corr_id.proofs.Becoming.{became_both}
 use Rattle.corr_id.proofs.table.IdTable.make.Goals as goal
+use Rattle.sock_words.specs.Words.{id_first}
 
 pub unreachable-requires : goal.unreachable-requires
 unreachable-requires g c = c.in_default.not-None (c.move_call-found.ensures.moved (Claimed (parts c.read_first.result).first Empty) c.read_first.ensures.read.tokens).0

@@ -1,10 +1,11 @@
 use Rattle.std.proofs.Common.{ℕ, ◌≡◌, ap, sym, refl, ◌∙◌, subst, arith}
-use Rattle.corr_core.specs.Word.{Parts, parts, id_slot, id_first}
+use Rattle.corr_core.specs.Word.{Parts, parts}
 use Rattle.corr_core.specs.declared.marks.Note.TheVariants.{Queued}
 use Rattle.corr_id.specs.Calls.{FoundUpTo, GotLock}
 use Rattle.corr_id.specs.Posts.{IsTimely}
 use Rattle.corr_id.proofs.Doing.{found_noted, found_grows, up_to_more, became_grows, quiet_none, quiet_more, queued_did, error_is, was_two, got_after}
 use Rattle.corr_id.proofs.table.IdTable.post.Goals as goal
+use Rattle.sock_words.specs.Words.{id_slot, id_first}
 
 pub tries-init : goal.tries-init
 tries-init g c = let at = id_slot c.args.id in let u = c.args.seat.now.me.0 in let w = c.load_id_word-found.new.seat.me.0 in let saw = c.load_id_word-found.ensures.saw in record {

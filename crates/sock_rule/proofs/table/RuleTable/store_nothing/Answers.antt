@@ -1,10 +1,11 @@
 use Rattle.std.proofs.Common.{ℕ, arith, refl, subst}
-use Rattle.sock_rule.specs.Rows.{NOTHING, PutAt}
+use Rattle.sock_rule.specs.Rows.{PutAt}
 use Rattle.sock_rule.specs.OnKey.{shows_by}
 use Rattle.sock_rule.specs.Shows.{rose}
 use Rattle.sock_rule.proofs.Naming.{stores_nothing_on}
 use Rattle.sock_rule.proofs.Seating.{still_seat}
 use Rattle.sock_rule.proofs.table.RuleTable.store_nothing.Goals as goal
+use Rattle.sock_words.specs.Words.{NO_SOCKET}
 
 pub store-requires : goal.store-requires
 store-requires g c = let a = c.requires.seat in (
@@ -14,7 +15,7 @@ store-requires g c = let a = c.requires.seat in (
 )
 
 pub returns-clause-noted : goal.returns-clause-noted
-returns-clause-noted g c = subst (λ (x : ℕ). PutAt x NOTHING c.args.seat.now.me c.store.new.seat.me) c.open_index-index.ensures c.store.ensures.2
+returns-clause-noted g c = subst (λ (x : ℕ). PutAt x NO_SOCKET c.args.seat.now.me c.store.new.seat.me) c.open_index-index.ensures c.store.ensures.2
 
 pub returns-clause-seat : goal.returns-clause-seat
 returns-clause-seat g c = still_seat _ _ c.args.seat.now c.store.new.seat _ c.requires.seat c.store.ensures.0 (returns-clause-noted g c).view refl refl
