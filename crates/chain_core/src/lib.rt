@@ -10,6 +10,5 @@
 mod steps;
 
 pub use steps::{
-    UNCONNECTED, claim_request, connect, empty_head, free_request, read_next, swap_head, turn_next,
-    unconnect,
+    claim_request, connect, empty_head, free_request, read_next, swap_head, turn_next, unconnect,
 };

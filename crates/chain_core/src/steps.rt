@@ -1,4 +1,5 @@
 ghost use Rattle.std.specs.Prelude.{◌≡◌, ◌≢◌, ℕ, ◌+◌, ◌*◌, ◌%◌, ◌<◌, ◌≤◌, List, true, false, bit_or};
+ghost use Rattle.sock_words.specs.Words.{IDLE, UNCONNECTED};
 ghost use Rattle.sock_model.specs.declared.chain.Heading.{Heading};
 ghost use Rattle.sock_model.specs.Layout.{head_index, next_index, request_index};
 ghost use Rattle.sock_model.specs.ChainRows.{with_claim, fresh_claim, ready_claim, queued, without_loose, with_right, without_right, walking_right, passing_right, reading_right, turned_right, freed_right};
@@ -8,16 +9,13 @@ ghost use Rattle.chain_core.specs.Conditions.{MayLook, MayClaim, MaySwap, MayCon
 ghost use Rattle.chain_core.specs.Rights.{TakesRight};
 ghost use Rattle.chain_core.specs.Taken.{NotesTaken};
 
-use sock_words::{Step, Ticket};
-
-/// The next word of a request whose writer has not connected it yet (socket.cpp, `WriteRequest::UNCONNECTED`).
-pub const UNCONNECTED: u64 = u64::MAX;
+use sock_words::{Step, Ticket, UNCONNECTED};
 
 /// Bit 0 of a request word: the request is taken.
 const TAKEN: u64 = 1;
 
 /// Bit 63 of a head: nobody writes, and the other bits are the last ticket that was put there.
-const IDLE: u64 = 1 << 63;
+const IDLE: u64 = Ticket::IDLE.0;
 
 /// C1, fetch_or of bit 0 of a request word: the request is claimed, in the generation of the word found, where the bit
 /// was clear. bRPC takes a request from a pool of objects (socket.cpp, `Socket::Write`); here they are in a table.
@@ -41,8 +39,8 @@ pub fn claim_request(found: u64) -> Step
 /// own, and connects itself behind it. Who found it idle has the right to write.
 pub fn swap_head(found: u64, own: Ticket) -> Step
     ensures step { (result.found ≡ found) × (result.next ≡ own.0) × (result.won ≡ true) }
-    ensures keeps_busy { found < 9223372036854775808 → (i : ℕ) → KeepsRule (MaySwap i own.0) (λ p. head_index i) found result.next (λ p v m. queued v m.claim found) }
-    ensures keeps_idle { 9223372036854775808 ≤ found → (i : ℕ) → TakesRight i own.0 found result.next }
+    ensures keeps_busy { found < IDLE → (i : ℕ) → KeepsRule (MaySwap i own.0) (λ p. head_index i) found result.next (λ p v m. queued v m.claim found) }
+    ensures keeps_idle { IDLE ≤ found → (i : ℕ) → TakesRight i own.0 found result.next }
 {
     Step {
         found,
@@ -69,7 +67,7 @@ pub fn connect(found: u64, before: Ticket) -> Step
 /// puts null there; that the ticket stays beside the mark is this project's own.
 pub fn empty_head(found: u64, last: Ticket) -> Step
     ensures found { result.found ≡ found }
-    ensures won { found ≡ last.0 → (result.next ≡ bit_or last.0 9223372036854775808) × (result.won ≡ true) }
+    ensures won { found ≡ last.0 → (result.next ≡ bit_or last.0 IDLE) × (result.won ≡ true) }
     ensures lost { found ≢ last.0 → (result.next ≡ found) × (result.won ≡ false) }
     ensures keeps_won { found ≡ last.0 → (i : ℕ) → KeepsRule (MayTry i last.0) (λ p. head_index i) found result.next (λ p v m. without_right v m.mine.right.link) }
     ensures keeps_lost { found ≢ last.0 → (i : ℕ) → KeepsRule (MayTry i last.0) (λ p. head_index i) found result.next (λ p v m. with_right v (walking_right m.mine.right found)) }
@@ -83,7 +81,7 @@ pub fn read_next(found: u64) -> Step
     ensures step { (result.found ≡ found) × (result.next ≡ found) × (result.won ≡ true) }
     ensures keeps_written { (r : ℕ) → KeepsRule (MayPass r) (λ p. next_index p r) found result.next (λ p v m. with_right v (passing_right m.mine.right m.now found)) }
     ensures keeps_retired { (r : ℕ) → KeepsRule (MayRetire r) (λ p. next_index p r) found result.next (λ p v m. with_right v (freed_right (passing_right m.0.mine.right m.0.now found))) }
-    ensures keeps_walk { found ≢ 18446744073709551615 → (r : ℕ) → KeepsRule (MayRead r) (λ p. next_index p r) found result.next (λ p v m. with_right v (reading_right m.mine.right m.top m.at m.after found)) }
+    ensures keeps_walk { found ≢ UNCONNECTED → (r : ℕ) → KeepsRule (MayRead r) (λ p. next_index p r) found result.next (λ p v m. with_right v (reading_right m.mine.right m.top m.at m.after found)) }
     ensures keeps_waiting { (r : ℕ) → KeepsRule MayLook (λ p. next_index p r) found result.next (λ p v m. v) }
 {
     Step {
@@ -109,7 +107,7 @@ pub fn turn_next(found: u64, value: u64) -> Step
 /// C7, store of `UNCONNECTED` into the own next word, before the own ticket comes into the head (socket.cpp,
 /// `Socket::Write`: `req->next = WriteRequest::UNCONNECTED`).
 pub fn unconnect(found: u64) -> Step
-    ensures step { (result.found ≡ found) × (result.next ≡ 18446744073709551615) × (result.won ≡ true) }
+    ensures step { (result.found ≡ found) × (result.next ≡ UNCONNECTED) × (result.won ≡ true) }
     ensures keeps { (r : ℕ) → KeepsRule (HasClaim r) (λ p. next_index p r) found result.next (λ p v m. with_claim v (ready_claim m.claim)) }
 {
     Step {

@@ -6,12 +6,12 @@ ghost use Rattle.id_rule.specs.Lawful.{notes_of};
 ghost use Rattle.corr_id.specs.Seats.{Sits, Stays};
 ghost use Rattle.corr_id.specs.Calls.{GotLock, Quiet, Found};
 ghost use Rattle.corr_id.specs.Attempts.{LacksAttempt, IsOutside, IsWithin, IsKnown};
+ghost use Rattle.sock_words.specs.Words.{id_slot, id_first};
 
 use crate::calls::{IdGone, Locking, is_out_of};
 use crate::table::{IdSeat, IdTable};
-use sock_words::IdWord;
+use sock_words::{CorrelationId, IdWord};
 use std::sync::Wait;
-ghost use Rattle.sock_words.specs.Words.{id_slot, id_first};
 
 impl<C> IdTable<C> {
     /// Locks an id by the version of an attempt, as `lock` does (`bthread_id_lock`). The id's own version, the first of its range,
@@ -44,12 +44,12 @@ impl<C> IdTable<C> {
         ensures gone { IfErr result (λ e. Quiet seat.old.me.0 seat.new.me.0 × (((self.now.plan.slots ≤ id_slot version) × (e.found ≡ 0)) ⊎ (Found (id_slot version) e.found seat.new.me.0 × IsOutside attempt (parts e.found) (id_first version)))) }
         ensures ended { attempt ≡ false → IfErr result (λ e. id_slot version < self.now.plan.slots → IsKnown (id_slot version) (id_first version) seat.old.me.0 → id_first version < (parts e.found).first) }
     {
-        let slot = version / 4_294_967_296;
-        if slot >= self.plan.slots as u64 {
+        let slot = CorrelationId(version).slot();
+        if slot >= u32::from(self.plan.slots) {
             return Err(IdGone { found: 0 });
         }
         let at = slot as u16;
-        let own = version % 4_294_967_296;
+        let own = u64::from(CorrelationId(version).version());
         'looks: for _ in rt.forever() {
             let found = self.load_id_word(seat, at);
             let word = IdWord(found);

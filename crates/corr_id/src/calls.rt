@@ -9,11 +9,11 @@ ghost use Rattle.id_rule.specs.Lawful.{notes_of};
 ghost use Rattle.id_rule.specs.Plays.{LockFits};
 ghost use Rattle.corr_id.specs.Seats.{Sits, Stays};
 ghost use Rattle.corr_id.specs.Calls.{is_saw, is_at, Became, one, Claims, Locks, GotLock, Quiet, Did, MadeAs, OutOf, LacksId, Found};
+ghost use Rattle.sock_words.specs.Words.{call_id, id_slot, id_first};
 
 use crate::table::{IdSeat, IdTable};
-use sock_words::IdWord;
+use sock_words::{CorrelationId, IdWord};
 use std::sync::Wait;
-ghost use Rattle.sock_words.specs.Words.{id_slot, id_first};
 
 /// There was no free slot. The content comes back.
 #[derive(Drop)]
@@ -51,9 +51,9 @@ impl<C> IdLock<C> {
 
     /// The id.
     pub fn id(&self) -> u64
-        ensures { result ≡ self.now.slot * 4294967296 + (parts self.now.word.0).first }
+        ensures { result ≡ call_id self.now.slot (parts self.now.word.0).first }
     {
-        u64::from(self.slot) * 4_294_967_296 + u64::from(self.word.first())
+        CorrelationId::pack(self.slot, self.word.first()).0
     }
 
     /// The current attempt, counted from 0.
@@ -92,7 +92,7 @@ impl<C> IdTable<C> {
         };
         let word = IdWord::pack(first, IdWord::OPEN, range, 0, 0, 0);
         self.make_id(seat, at, word.0);
-        at as u64 * 4_294_967_296 + first as u64
+        CorrelationId::pack(at, first).0
     }
 
     /// A new id of 2 to 8 versions, open and at attempt 0 (`bthread_id_create_ranged`). There is no room only where each slot was
@@ -205,12 +205,12 @@ impl<C> IdTable<C> {
         ensures quiet { Quiet seat.old.me.0 seat.new.me.0 }
         ensures gone { (self.now.plan.slots ≤ id_slot id) ⊎ ((word : ℕ) × Found (id_slot id) word seat.new.me.0 × LacksId (parts word) (id_first id)) }
     {
-        let slot = id / 4_294_967_296;
-        if slot >= self.plan.slots as u64 {
+        let slot = CorrelationId(id).slot();
+        if slot >= u32::from(self.plan.slots) {
             return;
         }
         let at = slot as u16;
-        let own = id % 4_294_967_296;
+        let own = u64::from(CorrelationId(id).version());
         'looks: for _ in rt.forever() {
             if lacks_id(IdWord(self.load_id_word(seat, at)), own) {
                 return;

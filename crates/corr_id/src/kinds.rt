@@ -38,7 +38,7 @@ impl<C> IdTable<C> {
         ensures read { Became at seat.old.me.0 seat.new.me.0 (Claimed (parts result).first Empty ∷ []) [] }
         ensures first { (1 ≤ (parts result).first) × ((parts result).first ≤ LAST) }
         ensures before { (w : ℕ) → 0 < total (is_saw w) (notes_in at seat.old.me.0) → 0 < (parts w).state → (parts w).first < (parts result).first }
-        ensures unnoted { (x : ℕ) → x % 2 ≡ 0 → total (is_at x (at * 4294967296 + (parts result).first)) seat.old.me.0.kept ≡ 0 }
+        ensures unnoted { (x : ℕ) → x % 2 ≡ 0 → total (is_at x (call_id at (parts result).first)) seat.old.me.0.kept ≡ 0 }
     {
         let index = 2 * at as usize + 1;
         self.table.shared.load::<Read>(seat, index)

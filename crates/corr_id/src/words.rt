@@ -9,7 +9,7 @@ ghost use Rattle.corr_id.specs.Calls.{Quiet, Found};
 
 use crate::plays::{Load, Store};
 use crate::table::{IdSeat, IdTable};
-use sock_words::AtWord;
+use sock_words::{AtWord, CorrelationId};
 
 impl<C> IdTable<C> {
     /// Stores the id of a call, by its operation, where others find it. The id isn't 0, and this seat made it.
@@ -51,9 +51,8 @@ impl<C> IdTable<C> {
         ensures stored { seat.new.me.0 ≡ with_kept (at_index self.now.plan operation) true (packed_at (id_first id) (id_slot id) link attempt) seat.old.me.0 }
     {
         let index = 2 * self.plan.slots as usize + 2 * operation as usize + 1;
-        let slot = (id / 4_294_967_296) as u16;
-        let first = (id % 4_294_967_296) as u32;
-        let at = AtWord::pack(first, slot, link, attempt);
+        let id = CorrelationId(id);
+        let at = AtWord::pack(id.version(), id.slot() as u16, link, attempt);
         self.store_word(seat, index, at.0);
     }
 
@@ -82,8 +81,8 @@ impl<C> IdTable<C> {
         ensures found { id_slot version < self.now.plan.slots → Found (id_slot version) result seat.new.me.0 × (0 < result) }
         ensures no_slot { self.now.plan.slots ≤ id_slot version → result ≡ 0 }
     {
-        let slot = version / 4_294_967_296;
-        if slot >= self.plan.slots as u64 {
+        let slot = CorrelationId(version).slot();
+        if slot >= u32::from(self.plan.slots) {
             return 0;
         }
         self.load_id_word(seat, slot as u16)

@@ -2,6 +2,8 @@ ghost use Rattle.std.specs.Prelude.{◌≡◌, ◌<◌, ◌≤◌, ◌+◌, ◌*
 ghost use Rattle.id_points.specs.Ids.{id_of, number_of};
 ghost use Rattle.sock_words.specs.Words.{call_id, id_slot, id_first};
 
+use sock_words::CorrelationId;
+
 /// The versions of call ids end below this, 2^26.
 const VERSIONS: u32 = 67_108_864;
 
@@ -28,9 +30,10 @@ impl CallId {
         requires first { id_first number < 67108864 }
         ensures { id_of result ≡ number }
     {
+        let id = CorrelationId(number);
         CallId {
-            slot: (number / 0x1_0000_0000) as u16,
-            first: (number % 0x1_0000_0000) as u32,
+            slot: id.slot() as u16,
+            first: id.version(),
         }
     }
 
@@ -38,7 +41,7 @@ impl CallId {
     pub fn number(self) -> u64
         ensures { result ≡ id_of self }
     {
-        u64::from(self.slot) * 0x1_0000_0000 + u64::from(self.first % VERSIONS)
+        CorrelationId::pack(self.slot, self.first % VERSIONS).0
     }
 
     /// The slot of the id.

@@ -11,7 +11,7 @@ use machine_model::Letter;
 use reader_seats::ReaderSeat;
 use seat_programs::{Sizes, Task};
 use sock_message::NoMemory;
-use sock_words::{Outcome, PlaceWord, Plan};
+use sock_words::{Outcome, PlaceWord, Plan, Vref};
 use std::alloc::{AllocError, Global};
 use std::collections::VecDeque;
 
@@ -19,7 +19,7 @@ use std::collections::VecDeque;
 fn push_slot(words: &mut Vec<u64>, first: u32) -> Result<(), AllocError>
     ensures { OnOk result (words.new.items ≡ words.old.items ++ free_slot first) }
 {
-    words.extend_from_slice(&[0, u64::from(first) << 32, 0, 0, 0, 0])
+    words.extend_from_slice(&[0, Vref::pack(first, 0).0, 0, 0, 0, 0])
 }
 
 /// Appends so many slots that are free at this version.

@@ -13,10 +13,7 @@ use id_points::{Sought, is_awaited};
 use machine_model::On;
 use reader_points::ReadPoint;
 use seat_states::{AttemptStep, JoinStep, Point, RetryStep, WriteStep};
-use sock_words::IdWord;
-
-/// The next word of an entry that isn't connected to its successor yet: 2^64 - 1.
-const UNCONNECTED: u64 = u64::MAX;
+use sock_words::{CorrelationId, IdWord, UNCONNECTED};
 
 /// Whether what is sought is there and locked, by the word of its slot.
 fn is_locked(there: bool, word: IdWord) -> bool
@@ -86,7 +83,7 @@ fn sought_id(slot: u16, sought: Sought) -> u64
         Sought::First(first) => first,
         Sought::Version(version) => version,
     };
-    u64::from(slot) * 0x1_0000_0000 + u64::from(version)
+    CorrelationId::pack(slot, version).0
 }
 
 /// The same of a reader, behind a step on a word.

@@ -8,6 +8,7 @@ use call_points::{Locker, WordStep};
 use id_points::Sought;
 use io_buf::NoMemory;
 use prpc_frame::{Cutter, Frame, NextFault};
+use sock_words::CorrelationId;
 
 /// How a reader goes on behind the bytes that it took: with the response that it has in hand now, if it has one.
 /// Frames are those of baidu_std.md.
@@ -22,12 +23,11 @@ fn locker_of(frame: &Frame, ids: u16) -> Option<Locker>
     ensures none { IfNone result (is_asked ids (frame_of frame.now) ≡ false) }
     ensures some { IfSome result (λ l. (is_asked ids (frame_of frame.now) ≡ true) × IsLocker (frame_of frame.now) l) }
 {
-    let id = frame.meta.correlation_id;
-    let slot = id / 0x1_0000_0000;
-    if frame.meta.response.is_some() && slot < u64::from(ids) {
+    let id = CorrelationId(frame.meta.correlation_id);
+    if frame.meta.response.is_some() && id.slot() < u32::from(ids) {
         Some(Locker {
-            slot: slot as u16,
-            sought: Sought::Version((id % 0x1_0000_0000) as u32),
+            slot: id.slot() as u16,
+            sought: Sought::Version(id.version()),
         })
     } else {
         None

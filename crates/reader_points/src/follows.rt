@@ -4,10 +4,7 @@ ghost use Rattle.call_points.specs.Steps.{after_word, after_call};
 ghost use Rattle.reader_points.specs.Points.{Context, next_program, point_program, with_asked, HasInHand, HasNext, GoesByWord, TakesCall, MayFind, IsWithin};
 
 use crate::point::{AnswerStep, ByteCount, FailStep, ReadNext, ReadPoint, Reader};
-use sock_words::SocketId;
-
-/// The word of an `open` that got no slot.
-const NO_SOCKET: u64 = u64::MAX;
+use sock_words::{NO_SOCKET, SocketId};
 
 /// How the reader of a link goes on by the word of the `open` of its link and operation.
 fn opened(link: u16, operation: u16, found: u64) -> ReadNext

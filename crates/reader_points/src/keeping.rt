@@ -6,12 +6,12 @@ ghost use Rattle.id_points.specs.Ids.{id_of};
 ghost use Rattle.reader_points.specs.Kept.{IsFirstKept, is_kept_of};
 ghost use Rattle.corr_core.specs.Word.{parts};
 ghost use Rattle.reader_points.specs.Points.{Context, next_program, point_program, with_kept, HasInHand};
+ghost use Rattle.sock_words.specs.Words.{id_slot};
 
 use crate::point::{AnswerStep, Behind, FailStep, Lost, ReadNext, ReadPoint};
 use id_points::CallId;
 use prpc_frame::Frame;
-use sock_words::IdWord;
-ghost use Rattle.sock_words.specs.Words.{id_slot};
+use sock_words::{CorrelationId, IdWord};
 
 /// Whether a response is one of a version of the id behind its first, whose range has so many.
 fn is_of(frame: &Frame, id: CallId, range: u8) -> bool
@@ -19,7 +19,7 @@ fn is_of(frame: &Frame, id: CallId, range: u8) -> bool
 {
     let version = frame.meta.correlation_id;
     let first = id.number();
-    version / 0x1_0000_0000 == u64::from(id.slot())
+    CorrelationId(version).slot() == u32::from(id.slot())
         && first < version
         && version < first + u64::from(range)
 }

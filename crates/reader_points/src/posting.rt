@@ -11,19 +11,12 @@ use call_points::{OnCall, WordStep};
 use id_points::{AttemptNumber, CallId, IdError, PostTurn};
 use sock_words::AtWord;
 
-/// The link that this at word names, if it names one.
-fn link_of(word: AtWord) -> u16
-    ensures { result ≡ at_word_link word.0 }
-{
-    ((word.0 / 64 % 65_536) as u16).saturating_sub(1)
-}
-
 impl Closing {
     /// Whether an at word names the reader's link.
     fn is_named(self, word: AtWord) -> bool
         ensures { result ≡ (not (word.0 == 0) && (at_word_link word.0 == self.reader.link)) }
     {
-        word.0 != 0 && link_of(word) == self.reader.link
+        !word.is_none() && word.link() == self.reader.link
     }
 
     /// The call whose at word this is.

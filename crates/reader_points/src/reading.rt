@@ -8,6 +8,7 @@ ghost use Rattle.id_points.specs.Ids.{id_of};
 ghost use Rattle.id_points.specs.Turns.{lock_on, sought_as};
 ghost use Rattle.reader_points.specs.Points.{Context, point_program, next_program, frames_behind, with_taking, room, IsTaken, IsLocker, FitsRoom, HasInHand, HasNext};
 ghost use Rattle.reader_points.specs.Steps.{after_taking};
+ghost use Rattle.sock_words.specs.Words.{call_id, id_slot};
 
 use crate::point::{
     AnswerStep, Behind, ByteCount, CloseStep, Closing, ReadNext, ReadPoint, Reader, Taken,
@@ -16,7 +17,6 @@ use call_points::{Locker, WordStep};
 use corr_core::is_early;
 use id_points::{CallId, LockTurn, Sought};
 use sock_words::IdWord;
-ghost use Rattle.sock_words.specs.Words.{call_id, id_slot};
 
 impl Reader {
     /// Its reading has ended, by a frame fault or not.

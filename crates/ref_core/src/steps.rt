@@ -1,5 +1,5 @@
 ghost use Rattle.std.specs.Prelude.{◌≡◌, ◌≢◌, ℕ, Bool, ◌+◌, ◌-◌, ◌*◌, ◌%◌, ◌<◌, ◌↔◌, IsTrue, true, false, bit_or};
-ghost use Rattle.sock_words.specs.Words.{vref_nref, vref_version};
+ghost use Rattle.sock_words.specs.Words.{vref_nref, vref_version, vref_unused};
 ghost use Rattle.sock_model.specs.Layout.{tag_index, ref_index};
 ghost use Rattle.sock_model.specs.SlotRows.{claimed, gave_birth, added, back, subbed, failed, recycled, freed, looked};
 ghost use Rattle.ref_core.specs.Keeping.{KeepsSlotRule, MayClaim, MayAdd, MaySub, MayFail, MayRecycle, MayFree, MayBear};
@@ -83,7 +83,7 @@ pub fn recycle(found: u64, from: Vref) -> Step
     requires odd { vref_version from.0 % 2 ≡ 1 }
     requires last { vref_version from.0 < 4294967295 }
     ensures found { result.found ≡ found }
-    ensures won { found ≡ from.0 → (result.next ≡ (vref_version from.0 + 1) * 4294967296) × (result.won ≡ true) }
+    ensures won { found ≡ from.0 → (result.next ≡ vref_unused (vref_version from.0 + 1)) × (result.won ≡ true) }
     ensures lost { found ≢ from.0 → (result.next ≡ found) × (result.won ≡ false) }
     ensures keeps { (i : ℕ) → KeepsSlotRule (MayRecycle i from.0) (ref_index i) found result.next (recycled i from.0 found) }
 {

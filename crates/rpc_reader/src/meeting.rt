@@ -10,14 +10,14 @@ use call_table::Call;
 use corr_core::is_early;
 use corr_id::IdTable;
 use prpc_frame::Frame;
-use sock_words::IdWord;
+use sock_words::{CorrelationId, IdWord};
 use std::sync::Wait;
 
 // Whether the frame is a response of one of so many id slots.
 fn is_asked(frame: &Frame, slots: u16) -> bool
     ensures { result ≡ asks slots frame.now }
 {
-    has_response(frame) && frame.meta.correlation_id / 4_294_967_296 < u64::from(slots)
+    has_response(frame) && CorrelationId(frame.meta.correlation_id).slot() < u32::from(slots)
 }
 
 /// A response ends the call whose id its correlation id is a version of, where that id is open. Where its range wasn't made yet,
@@ -36,7 +36,7 @@ pub fn meet<R: Wait>(rt: &R, ids: &IdTable<Call>, calls: &mut AnswerSeat, frame:
         Ok(lock) => end_answered(ids, calls, lock, frame),
         Err(gone) => {
             let word = IdWord(gone.found);
-            if is_early(word, (version % 4_294_967_296) as u32) {
+            if is_early(word, CorrelationId(version).version()) {
                 calls.keep(frame);
             } else {
                 drop(frame);

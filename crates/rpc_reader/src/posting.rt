@@ -18,17 +18,15 @@ use call_table::Call;
 use corr_core::has_version;
 use corr_id::{IdLock, IdTable, Posted};
 use prpc_frame::Frame;
-use sock_words::{AtWord, IdWord};
+use sock_words::{AtWord, CorrelationId, IdWord};
 use std::sync::Wait;
 
 // Whether the frame is a response of an attempt of the id that has this word in this slot.
 fn is_for(frame: &Frame, slot: u16, word: IdWord) -> bool
     ensures { result ≡ answers slot (parts word.0) frame.now }
 {
-    let version = frame.meta.correlation_id;
-    has_response(frame)
-        && version / 4_294_967_296 == u64::from(slot)
-        && has_version(word, (version % 4_294_967_296) as u32)
+    let id = CorrelationId(frame.meta.correlation_id);
+    has_response(frame) && id.slot() == u32::from(slot) && has_version(word, id.version())
 }
 
 // The first response among these that is one of an attempt of the id with this word.
@@ -55,13 +53,6 @@ pub fn end_lost(ids: &IdTable<Call>, calls: &mut AnswerSeat, lock: IdLock<Call>,
     }
 }
 
-// The link that this at word names.
-fn link_of(word: AtWord) -> u16
-    ensures { result ≡ at_word_link word.0 }
-{
-    ((word.0 / 64 % 65_536) as u16).saturating_sub(1)
-}
-
 // The attempt that it names.
 fn attempt_of(word: AtWord) -> Option<u8>
     ensures attempt { result ≡ attempt_at word.0 }
@@ -76,7 +67,7 @@ fn id_at(word: AtWord) -> u64
     ensures id { result ≡ call_at word.0 }
     ensures of_parts { (id_slot result ≡ at_word_slot word.0) × (id_first result ≡ at_word_first word.0) }
 {
-    u64::from(word.slot()) * 4_294_967_296 + u64::from(word.first())
+    CorrelationId::pack(word.slot(), word.first()).0
 }
 
 // The code is posted to the id that this at word names, for its attempt. Its word was found before, and no response of it is kept.
@@ -146,7 +137,7 @@ fn post_one<R: Wait>(
     let Some(word) = ids.at(&mut calls.seat, operation) else {
         return;
     };
-    if link_of(word) == link {
+    if word.link() == link {
         post_last(rt, ids, calls, code, word);
     }
 }

@@ -4,6 +4,7 @@ use Rattle.std.specs.List.{AllByRecursion, list_any}
 use mathlib.Core.Option as core
 use Rattle.sock_model.specs.sock_words.specs.declared.plain.Plan.{Plan}
 use Rattle.sock_model.specs.sock_words.specs.declared.place_word.PlaceWord.{PlaceWord}
+use Rattle.sock_model.specs.sock_words.specs.Words.{vref_unused}
 use Rattle.sock_model.specs.declared.home.Home.{Home}
 use Rattle.sock_model.specs.declared.home.Home.TheVariants.{Link}
 use Rattle.sock_model.specs.Layout.{all_words, place_index}
@@ -40,7 +41,7 @@ is_callless script = not (list_any is_later script)
 
 -- a slot's words: it is free, at the first version, without references
 abbrev pub free_slot : ℕ → List ℕ
-free_slot first = 0 ∷ first * 4294967296 ∷ 0 ∷ 0 ∷ 0 ∷ 0 ∷ []
+free_slot first = 0 ∷ vref_unused first ∷ 0 ∷ 0 ∷ 0 ∷ 0 ∷ []
 
 abbrev pub free_slots : ℕ → ℕ → List ℕ
 free_slots first zero = []

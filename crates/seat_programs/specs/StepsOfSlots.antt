@@ -4,7 +4,7 @@ use Rattle.std.specs.Prelude.{ℕ, ◌≡◌, ◌≢◌, ◌+◌, ◌-◌, ◌*�
 use lib.ListN.{get_elem?}
 use mathlib.Core.Option.{Option, none, some}
 use Rattle.sock_model.specs.sock_words.specs.declared.plain.Plan.{Plan}
-use Rattle.sock_model.specs.sock_words.specs.Words.{socket_id_version, socket_id_slot, vref_version, vref_nref, IDLE}
+use Rattle.sock_model.specs.sock_words.specs.Words.{socket_id_version, socket_id_slot, vref_version, vref_nref, IDLE, vref_unused}
 use Rattle.sock_model.specs.declared.chain.Right.{Right}
 use Rattle.sock_model.specs.declared.view.View.{View}
 use Rattle.sock_model.specs.declared.view.Hand.{Hand}
@@ -46,7 +46,7 @@ slot_after (CreateLife i k) found = found + 1
 slot_after (AddRef id) found = found + 1
 slot_after (SubRef i) found = found - 1
 slot_after (SetOdd i) found = bit_or found 4294967296
-slot_after (Recycle i from) found = if found == from then (vref_version from + 1) * 4294967296 else found
+slot_after (Recycle i from) found = if found == from then vref_unused (vref_version from + 1) else found
 slot_after (FreeSlot i) found = 0
 slot_after (StoreLink i k) found = k
 slot_after (ResetHead i k) found = IDLE

@@ -6,6 +6,7 @@ ghost use Rattle.seat_programs.specs.sock_message.specs.Asked.{Asked};
 ghost use Rattle.id_points.specs.Ids.{id_of, number_of};
 ghost use Rattle.seat_states.specs.Points.{Context, client_on, locker_of, retry_program, join_program, next_program, with_asked, with_frame, HasRetry, MayLock, RetriesByWord, MayFindId, MayFindJoined, link_behind};
 ghost use Rattle.seat_states.specs.Steps.{first_in, step_as};
+ghost use Rattle.sock_words.specs.Words.{id_slot};
 
 use crate::asking::posting;
 use crate::call::Call;
@@ -15,7 +16,6 @@ use crate::point::{
 use call_points::{Aside, DecideStep, Locker, OnCall, WordStep};
 use id_points::{CallId, IdError, LockTurn, Sought, UnlockTurn, is_awaited, unlock_behind};
 use sock_words::{EFAILEDSOCKET, ERPCTIMEDOUT, IdWord, Outcome, SocketId};
-ghost use Rattle.sock_words.specs.Words.{id_slot};
 
 impl Retrying {
     /// A retry comes to this step.

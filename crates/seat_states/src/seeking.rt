@@ -8,8 +8,7 @@ use crate::point::{
     Sending,
 };
 use crate::releasing::releasing;
-use crate::steps::NO_SOCKET;
-use sock_words::{EEOF, Outcome, SocketId, Vref};
+use sock_words::{EEOF, NO_SOCKET, Outcome, SocketId, Vref};
 
 impl Failing {
     /// What follows the failing of a life that found this word.

@@ -8,10 +8,7 @@ use crate::call::Call;
 use crate::calling::Calling;
 use crate::point::{Aim, FailStep, Failing, OpenStep, Opening, Point, ReleaseStep, SeekStep, Step};
 use call_points::Aside;
-use sock_words::{Kind, SocketId};
-
-/// The word of an `open` that got no slot.
-pub const NO_SOCKET: u64 = u64::MAX;
+use sock_words::{Kind, NO_SOCKET, SocketId};
 
 /// The word that names a life: its id, and 1.
 fn socket_word(version: u32, slot: u16) -> u64

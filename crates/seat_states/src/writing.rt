@@ -14,20 +14,10 @@ use crate::point::{
 use crate::releasing::releasing;
 use call_points::OnCall;
 use sock_io::{Put, Ready};
-use sock_words::{EFAILEDSOCKET, Ticket, Vref};
-
-/// The next word of a request that isn't connected yet.
-const UNCONNECTED: u64 = u64::MAX;
+use sock_words::{EFAILEDSOCKET, Ticket, UNCONNECTED, Vref};
 
 /// The last generation of a request, which isn't given back then.
 const LAST_GENERATION: u64 = 140_737_488_355_327;
-
-/// The request of a ticket.
-fn request_of(ticket: Ticket) -> u16
-    ensures { result ≡ ticket_request ticket.0 }
-{
-    ((ticket.0 % 65_536) as u16).saturating_sub(1)
-}
 
 impl Current {
     /// What follows a put into the link, by its answer and by whether it took all that was left: a whole message gets
@@ -145,20 +135,17 @@ impl Writer {
             WriteStep::DropPlace(current, _) => {
                 Step::Call(Call::DropPlace(current.author.place(), link, places))
             }
-            WriteStep::ReadNext(now, _) => Step::Call(Call::ReadNext(request_of(now))),
+            WriteStep::ReadNext(now, _) => Step::Call(Call::ReadNext(now.request())),
             WriteStep::Free(now, _, _) => {
-                Step::Call(Call::FreeRequest(request_of(now), now.generation()))
+                Step::Call(Call::FreeRequest(now.request(), now.generation()))
             }
-            WriteStep::TakeMessage(next) => Step::TakeMessage(request_of(next)),
+            WriteStep::TakeMessage(next) => Step::TakeMessage(next.request()),
             WriteStep::PutHome => Step::PutHome(link, places),
             WriteStep::EmptyHead => Step::Call(Call::EmptyHead(id.slot(), last)),
             WriteStep::TakeHome(_) => Step::TakeHome(link),
-            WriteStep::Walk(_, at, _) => Step::Call(Call::ReadNext(request_of(at))),
-            WriteStep::Turn(_, at, after, _) => Step::Call(Call::ReverseNext(
-                request_of(at),
-                after,
-            )),
-            WriteStep::TakeFirst(_, at) => Step::TakeMessage(request_of(at)),
+            WriteStep::Walk(_, at, _) => Step::Call(Call::ReadNext(at.request())),
+            WriteStep::Turn(_, at, after, _) => Step::Call(Call::ReverseNext(at.request(), after)),
+            WriteStep::TakeFirst(_, at) => Step::TakeMessage(at.request()),
         }
     }
 

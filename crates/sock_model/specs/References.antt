@@ -8,7 +8,7 @@ use Rattle.sock_model.specs.Weights.{total, only, is_born, uses}
 use Rattle.sock_model.specs.Marks.{about, says}
 use Rattle.sock_model.specs.Layout.{tag_index, ref_index, link_index, code_index, name_index, open_index, all_words}
 use Rattle.sock_model.specs.Slots.{SlotFacts, live, count, SlotLaw}
-use Rattle.sock_words.specs.Words.{vref_version, vref_nref, socket_id_slot, socket_id_version}
+use Rattle.sock_words.specs.Words.{vref_version, vref_nref, socket_id_slot, socket_id_version, NO_SOCKET}
 
 -- how far the link k is used by this mark
 abbrev pub uses_link : ℕ → SlotMark → ℕ
@@ -53,7 +53,7 @@ module _ {S : Type 0} where
   pub record NamedWords (p : Plan) (s : State S View) : Type 0 where
     -- each is the id of a life that was born
     pub names : (n : ℕ) → n < p.names → Names p s (slice_index s.words (name_index p n))
-    pub opens : (o : ℕ) → o < p.operations → slice_index s.words (open_index p o) ≢ 18446744073709551615 → Names p s (slice_index s.words (open_index p o))
+    pub opens : (o : ℕ) → o < p.operations → slice_index s.words (open_index p o) ≢ NO_SOCKET → Names p s (slice_index s.words (open_index p o))
     -- and what one of the seats stored there last
     pub names_by : (n : ℕ) → n < p.names → Stores s (name_index p n)
     pub opens_by : (o : ℕ) → o < p.operations → Stores s (open_index p o)

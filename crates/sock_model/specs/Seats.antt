@@ -1,6 +1,7 @@
 -- What becomes of views where a seat is split in two, and where two are joined.
 use Rattle.std.specs.Prelude.{◌≡◌, ℕ, zero, suc, ◌+◌, ◌-◌, ◌*◌, ◌<◌, List, [], ◌∷◌, ◌++◌, length, slice_index}
 use Rattle.sock_words.specs.declared.plain.Plan.{Plan}
+use Rattle.sock_words.specs.Words.{vref_unused}
 use Rattle.sock_model.specs.Layout.{tag_index, ref_index, link_index, code_index, name_index, open_index, all_words}
 use Rattle.sock_model.specs.declared.view.View.{View}
 
@@ -57,7 +58,7 @@ lighter v = record v { passes = later v.passes; spare = v.spare - 1 }
 pub record Unused (p : Plan) (ws : List ℕ) : Type 0 where
   pub sized : length ws ≡ all_words p
   pub tags : (i : ℕ) → i < p.slots → slice_index ws (tag_index i) ≡ 0
-  pub refs : (i : ℕ) → i < p.slots → slice_index ws (ref_index i) ≡ p.first * 4294967296
+  pub refs : (i : ℕ) → i < p.slots → slice_index ws (ref_index i) ≡ vref_unused p.first
   pub links : (i : ℕ) → i < p.slots → slice_index ws (link_index i) ≡ 0
   pub codes : (i : ℕ) → i < p.slots → slice_index ws (code_index i) ≡ 0
   pub names : (n : ℕ) → n < p.names → slice_index ws (name_index p n) ≡ 0

@@ -7,6 +7,7 @@ use lib.ListN.{get_elem?}
 use Rattle.sock_io.specs.declared.link.Out.{Ghosts}
 use Rattle.sock_io.specs.Link.{OutState}
 use Rattle.sock_words.specs.declared.plain.Plan.{Plan}
+use Rattle.sock_words.specs.Words.{vref_unused}
 use Rattle.sock_model.specs.declared.home.Home.TheVariants as home
 use Rattle.sock_model.specs.Layout.{ref_index, all_words}
 use Rattle.sock_rule.specs.declared.homes.SockHome.{SockHome}
@@ -15,7 +16,7 @@ use Rattle.sock_rule.specs.Shows.{shows_in}
 -- the word of each slot stands at its first version, and all others are 0
 pub record AreNewWords (p : Plan) (ws : List ℕ) : Type 0 where
   pub sized : length ws ≡ all_words p
-  pub refs : (i : ℕ) → i < p.slots → slice_index ws (ref_index i) ≡ p.first * 4294967296
+  pub refs : (i : ℕ) → i < p.slots → slice_index ws (ref_index i) ≡ vref_unused p.first
   pub zeros : (x : ℕ) → ((i : ℕ) → i < p.slots → ¬ (x ≡ ref_index i)) → slice_index ws x ≡ 0
 
 -- one writing half for each link, in order, which took nothing and isn't finished

@@ -9,7 +9,7 @@ use atomic_table::Refused;
 use sock_io::Out;
 use sock_rule::{LinkHome, RuleTable, SockHome, SockSeat, Ways};
 use sock_table::{LinkPass, SockTable};
-use sock_words::Plan;
+use sock_words::{Plan, Vref};
 use std::alloc::{AllocError, Global};
 use std::mem;
 
@@ -37,7 +37,7 @@ fn new_words(alloc: Global, plan: &Plan) -> Result<Vec<u64>, AllocError>
         + 9 * plan.operations as usize
         + 2 * plan.requests as usize;
     let mut words = vec![in alloc; 0u64; count]?;
-    let first = u64::from(plan.first) * 4_294_967_296;
+    let first = Vref::pack(plan.first, 0).0;
     for i in 0..slots {
         words[6 * i + 1] = first;
     }

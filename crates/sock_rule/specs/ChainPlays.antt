@@ -27,7 +27,7 @@ blank = record { client = 0; operation = 0; attempt = 0; place = 0; owner = 0; p
 pub record IsTicket (p : Plan) (n : ℕ) : Type 0 where
   pub some_slot : 0 < n % 65536
   pub inside : ticket_request n < p.requests
-  pub small : n < 9223372036854775808
+  pub small : n < IDLE
 
 -- what a link took
 abbrev pub took_in : Home → List ℕ

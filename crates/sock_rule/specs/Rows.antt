@@ -27,7 +27,7 @@ finding x word all v = record (noting x v) { finds = record { place = x; word = 
 
 -- S7: the id that a word names is known then
 abbrev pub found_at : ℕ → ℕ → List StoredWord → View → View
-found_at x word all v = cond (word == 0) v (cond (word == 18446744073709551615) (finding x word all v) (finding x word all (met (socket_id_slot (word - 1)) (socket_id_version (word - 1)) v)))
+found_at x word all v = cond (word == 0) v (cond (word == NO_SOCKET) (finding x word all v) (finding x word all (met (socket_id_slot (word - 1)) (socket_id_version (word - 1)) v)))
 
 -- S6: the word stands there, and stays other than 0
 abbrev pub put_at : ℕ → ℕ → List StoredWord → View → View

@@ -5,13 +5,13 @@ ghost use lib.ListN.{get_elem?};
 ghost use Rattle.sock_model.specs.Layout.{name_index, open_index};
 ghost use Rattle.sock_rule.specs.Rows.{PutAt, FoundAt, Knows, NotedBy};
 ghost use Rattle.sock_rule.specs.Seated.{IsSeat};
+ghost use Rattle.sock_words.specs.Words.{NO_SOCKET, socket_id_slot};
 
 use crate::plays::{FindId, FindName, StoreId};
 use crate::table::{RuleTable, SockSeat};
 use sock_io::Out;
 use sock_model::{name_index, open_index};
-use sock_words::SocketId;
-ghost use Rattle.sock_words.specs.Words.{NO_SOCKET};
+use sock_words::{NO_SOCKET, SocketId};
 
 impl<O: Out> RuleTable<O> {
     /// S6 into the word of a name: an id that the seat knows.
@@ -34,7 +34,7 @@ impl<O: Out> RuleTable<O> {
         requires name { name < self.now.plan.names }
         ensures seat { IsSeat self.now.table.shared.table_id self.now.plan seat.new }
         ensures view { FoundAt (name_index self.now.plan name) result seat.old.me seat.new.me }
-        ensures inside { result ≢ 0 → (result - 1) % 4294967296 < self.now.plan.slots }
+        ensures inside { result ≢ 0 → socket_id_slot (result - 1) < self.now.plan.slots }
         ensures stays { (k : ℕ) → get_elem? seat.old.me.0.found k ≡ some (name_index self.now.plan name) → result ≢ 0 }
     {
         let index = name_index(&self.plan, name);
@@ -62,7 +62,7 @@ impl<O: Out> RuleTable<O> {
         ensures noted { NotedBy self.now.plan operation None seat.old.me seat.new.me }
     {
         let index = open_index(&self.plan, operation);
-        self.table.shared.store::<StoreId>(seat, index, u64::MAX);
+        self.table.shared.store::<StoreId>(seat, index, NO_SOCKET);
     }
 
     /// S7 of the word of an operation.
@@ -71,7 +71,7 @@ impl<O: Out> RuleTable<O> {
         requires operation { operation < self.now.plan.operations }
         ensures seat { IsSeat self.now.table.shared.table_id self.now.plan seat.new }
         ensures view { FoundAt (open_index self.now.plan operation) result seat.old.me seat.new.me }
-        ensures inside { result ≢ 0 → result ≢ NO_SOCKET → (result - 1) % 4294967296 < self.now.plan.slots }
+        ensures inside { result ≢ 0 → result ≢ NO_SOCKET → socket_id_slot (result - 1) < self.now.plan.slots }
         ensures stays { (k : ℕ) → get_elem? seat.old.me.0.found k ≡ some (open_index self.now.plan operation) → result ≢ 0 }
     {
         let index = open_index(&self.plan, operation);

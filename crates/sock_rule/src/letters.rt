@@ -18,7 +18,7 @@ use crate::plays::{ClaimRequest, Connect, FillHome, SwapHead, Unconnect};
 use crate::table::{RuleTable, SockSeat};
 use sock_io::Out;
 use sock_model::{head_index, link_index, request_index};
-use sock_words::{Step, Ticket};
+use sock_words::{Step, Ticket, UNCONNECTED};
 
 impl<O: Out> RuleTable<O> {
     /// C1, fetch_or of bit 0 of a request word: the request is claimed where the bit was clear, and its home comes with it.
@@ -69,7 +69,9 @@ impl<O: Out> RuleTable<O> {
         ensures view { (c : Claim) → Claims c seat.old.me.0 → seat.new.me ≡ (with_claim seat.old.me.0 (ready_claim c), seat.old.me.1) }
     {
         let index = self.next_index(at);
-        self.table.shared.store::<Unconnect>(seat, index, u64::MAX);
+        self.table
+            .shared
+            .store::<Unconnect>(seat, index, UNCONNECTED);
     }
 
     /// C2, swap of the head with the own ticket: the message is accepted.

@@ -11,7 +11,7 @@ ghost use Rattle.sock_rule.specs.Seated.{IsSeat};
 ghost use Rattle.sock_rule.specs.Faults.{faults_of, fault_found, noting_fault, CameOut};
 ghost use Rattle.sock_rule.specs.Shows.{heading_of, way_at};
 ghost use Rattle.sock_rule.specs.Holding.{Rights, LinkAtHome, MayTakeMsg, TookMsg, MayLookToWrite, LookedToWrite, MayStorePlace, MayDropPlace, MayFreeRequest, MayEmptyHead, Emptied, MayReadOn, ReadOn, MayReadBack, ReadBack, MayTurnNext};
-ghost use Rattle.sock_words.specs.Words.{place_word, ticket_request, ticket_generation};
+ghost use Rattle.sock_words.specs.Words.{HasRequest, IDLE, place_word, ticket_request, ticket_generation};
 
 use crate::homes::{Letter, LinkHome, SockHome};
 use crate::plays::{
@@ -58,7 +58,7 @@ impl<O: Out> RuleTable<O> {
     pub fn take_msg(&self, seat: &mut SockSeat<O>, now: Ticket) -> Letter
         requires seat { IsSeat self.now.table.shared.table_id self.now.plan seat.old }
         requires may { MayTakeMsg now.0 seat.old.me.0 }
-        requires ticket { (0 < now.0 % 65536) × (now.0 < 9223372036854775808) }
+        requires ticket { (HasRequest now.0) × (now.0 < IDLE) }
         ensures seat { IsSeat self.now.table.shared.table_id self.now.plan seat.new }
         ensures view { (r : Right) → Rights r seat.old.me.0 → TookMsg r now.0 result Empty seat.old.me seat.new.me }
         ensures label { result.label.place < 8 * self.now.plan.operations }
@@ -110,7 +110,7 @@ impl<O: Out> RuleTable<O> {
     ) -> LinkHome<O>
         requires seat { IsSeat self.now.table.shared.table_id self.now.plan seat.old }
         requires may { (k places : ℕ) × MayDropPlace self.now.plan at k places home.took.list seat.old.me.0 × (value.0 ≡ place_word true k places) }
-        requires ticket { (0 < now.0 % 65536) × (now.0 < 9223372036854775808) }
+        requires ticket { (HasRequest now.0) × (now.0 < IDLE) }
         requires top { seat.old.me.1 ≡ (ticket_request now.0, Empty) ∷ rest seat.old.me.1 }
         ensures seat { IsSeat self.now.table.shared.table_id self.now.plan seat.new }
         ensures view { (r : Right) (n : ℕ) → Rights r seat.old.me.0 → r.stage ≡ Writes n → seat.new.me ≡ (dropped_at (place_index self.now.plan at) value.0 r.heading (with_right seat.old.me.0 (dropped_right r n home.took.list)), seat.old.me.1) }
@@ -127,7 +127,7 @@ impl<O: Out> RuleTable<O> {
     pub fn free_request(&self, seat: &mut SockSeat<O>, now: Ticket)
         requires seat { IsSeat self.now.table.shared.table_id self.now.plan seat.old }
         requires may { MayFreeRequest now.0 seat.old.me }
-        requires ticket { (0 < now.0 % 65536) × (ticket_request now.0 < self.now.plan.requests) }
+        requires ticket { (HasRequest now.0) × (ticket_request now.0 < self.now.plan.requests) }
         requires young { ticket_generation now.0 < 140737488355327 }
         ensures seat { IsSeat self.now.table.shared.table_id self.now.plan seat.new }
         ensures view { (r : Right) → Rights r seat.old.me.0 → seat.new.me ≡ (with_right seat.old.me.0 (freed_right r), rest seat.old.me.1) }
@@ -170,13 +170,13 @@ impl<O: Out> RuleTable<O> {
     pub fn empty_head(&self, seat: &mut SockSeat<O>, at: u16, last: Ticket) -> Step
         requires seat { IsSeat self.now.table.shared.table_id self.now.plan seat.old }
         requires may { MayEmptyHead self.now.plan at last.0 seat.old.me.0 }
-        requires ticket { last.0 < 9223372036854775808 }
+        requires ticket { last.0 < IDLE }
         ensures seat { IsSeat self.now.table.shared.table_id self.now.plan seat.new }
         ensures view { (r : Right) → Rights r seat.old.me.0 → Emptied r last.0 result.found seat.old.me seat.new.me }
     {
         let index = head_index(at as u32);
         let old = last.0;
-        let new = old + 9_223_372_036_854_775_808;
+        let new = old + Ticket::IDLE.0;
         let found = self
             .table
             .shared
@@ -188,7 +188,7 @@ impl<O: Out> RuleTable<O> {
     pub fn read_on(&self, seat: &mut SockSeat<O>, now: Ticket) -> u64
         requires seat { IsSeat self.now.table.shared.table_id self.now.plan seat.old }
         requires may { MayReadOn now.0 seat.old.me.0 }
-        requires ticket { (0 < now.0 % 65536) × (ticket_request now.0 < self.now.plan.requests) }
+        requires ticket { (HasRequest now.0) × (ticket_request now.0 < self.now.plan.requests) }
         ensures seat { IsSeat self.now.table.shared.table_id self.now.plan seat.new }
         ensures view { (r : Right) → Rights r seat.old.me.0 → ReadOn r now.0 result seat.old.me seat.new.me }
     {
@@ -200,7 +200,7 @@ impl<O: Out> RuleTable<O> {
     pub fn read_back(&self, seat: &mut SockSeat<O>, at: Ticket) -> u64
         requires seat { IsSeat self.now.table.shared.table_id self.now.plan seat.old }
         requires may { MayReadBack at.0 seat.old.me.0 }
-        requires ticket { (0 < at.0 % 65536) × (ticket_request at.0 < self.now.plan.requests) }
+        requires ticket { (HasRequest at.0) × (ticket_request at.0 < self.now.plan.requests) }
         ensures seat { IsSeat self.now.table.shared.table_id self.now.plan seat.new }
         ensures view { (r : Right) (top after : ℕ) → Rights r seat.old.me.0 → r.stage ≡ Walks top at.0 after → ReadBack r top at.0 after result seat.old.me seat.new.me }
     {
@@ -212,7 +212,7 @@ impl<O: Out> RuleTable<O> {
     pub fn turn_next(&self, seat: &mut SockSeat<O>, at: Ticket, value: u64)
         requires seat { IsSeat self.now.table.shared.table_id self.now.plan seat.old }
         requires may { MayTurnNext at.0 value seat.old.me.0 }
-        requires ticket { (0 < at.0 % 65536) × (ticket_request at.0 < self.now.plan.requests) }
+        requires ticket { (HasRequest at.0) × (ticket_request at.0 < self.now.plan.requests) }
         ensures seat { IsSeat self.now.table.shared.table_id self.now.plan seat.new }
         ensures view { (r : Right) (top after before : ℕ) → Rights r seat.old.me.0 → r.stage ≡ Turns top at.0 after before → seat.new.me ≡ (with_right seat.old.me.0 (turned_right r top at.0 before), seat.old.me.1) }
     {

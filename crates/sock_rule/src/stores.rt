@@ -8,6 +8,7 @@ use crate::plays::{ClearCode, MeetLast, MeetLink, ReadCode, ResetHead, StoreCode
 use crate::table::{RuleTable, SockSeat};
 use sock_io::Out;
 use sock_model::{code_index, head_index, link_index};
+use sock_words::Ticket;
 
 impl<O: Out> RuleTable<O> {
     /// S1: the claimed slot gets the link of a pass, which is spent.
@@ -63,7 +64,7 @@ impl<O: Out> RuleTable<O> {
         let index = head_index(at as u32);
         self.table
             .shared
-            .store::<ResetHead>(seat, index, 9_223_372_036_854_775_808);
+            .store::<ResetHead>(seat, index, Ticket::IDLE.0);
     }
 
     /// S4 of 0: a claimed slot has no code.

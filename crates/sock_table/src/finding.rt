@@ -10,7 +10,7 @@ ghost use Rattle.sock_table.specs.Named.{Found, NotedBy, NotedAs};
 use crate::table::SockTable;
 use sock_io::Out;
 use sock_rule::SockSeat;
-use sock_words::SocketId;
+use sock_words::{NO_SOCKET, SocketId};
 
 /// What is noted for an operation.
 #[derive(Clone, Copy, Debug, PartialEq, Eq)]
@@ -53,7 +53,7 @@ impl<O: Out> SockTable<O> {
             None
         } else {
             prove!((word - 1) % 4_294_967_296 < slots);
-            prove!(word != u64::MAX);
+            prove!(word != NO_SOCKET);
             Some(SocketId(word - 1))
         }
     }
@@ -87,7 +87,7 @@ impl<O: Out> SockTable<O> {
         let word = self.rule.load_open(seat, operation);
         if word == 0 {
             Noted::NotYet
-        } else if word == u64::MAX {
+        } else if word == NO_SOCKET {
             Noted::Nothing
         } else {
             Noted::Id(SocketId(word - 1))

@@ -38,6 +38,10 @@ vref_version word = word / 2 ^ 32
 abbrev pub vref_nref : ℕ → ℕ
 vref_nref word = word % 2 ^ 32
 
+-- the word of a version that nobody refers to
+abbrev pub vref_unused : ℕ → ℕ
+vref_unused version = version * 2 ^ 32
+
 -- reading the word gives these parts
 pub record IsVref (word version nref : ℕ) : Type 0 where
   pub version_is : vref_version word ≡ version

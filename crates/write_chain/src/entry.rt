@@ -20,7 +20,7 @@ use sock_table::{Look, SockRef, SockTable};
 use sock_words::{Ticket, Vref};
 
 /// A head from here on is idle.
-const IDLE: u64 = 1 << 63;
+const IDLE: u64 = Ticket::IDLE.0;
 
 /// What became of a message that was accepted: another seat writes it, or this one has the right to write.
 pub enum Started<O: Out> {

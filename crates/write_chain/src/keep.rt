@@ -13,11 +13,8 @@ use crossbeam_utils::Backoff;
 use sock_io::{Out, Ready};
 use sock_rule::SockSeat;
 use sock_table::{SockRef, SockTable};
-use sock_words::{EFAILEDSOCKET, PlaceWord, Ticket};
+use sock_words::{EFAILEDSOCKET, PlaceWord, Ticket, UNCONNECTED};
 use std::sync::Wait;
-
-/// A next word that isn't connected yet.
-const UNCONNECTED: u64 = u64::MAX;
 
 /// What writing came to: the head was emptied, or a message was dropped, after which the right goes on.
 pub enum Kept<O: Out> {
