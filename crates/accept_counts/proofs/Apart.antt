@@ -10,7 +10,6 @@ use Rattle.sock_words.specs.declared.plain.Plan.{Plan}
 use Rattle.sock_model.specs.declared.chain.Entry.{Entry}
 use Rattle.sock_model.specs.declared.chain.Heading.{Heading}
 use Rattle.sock_model.specs.declared.view.View.{View}
-use Rattle.sock_model.specs.Weights.{total}
 use Rattle.run_theorems.specs.Below.chain_steps.proofs.Lists.{Distinct}
 use Rattle.call_causes.specs.Below.programs_allowed.specs.slot_steps.proofs.Sums.{term_le}
 use Rattle.corr_core.specs.declared.marks.Plan.{Plan as IdPlan}
@@ -34,6 +33,7 @@ use Rattle.outcome_causes.specs.outcome_ticks.proofs.Tasks.{one_task}
 use Rattle.label_runs.specs.Labels.{Trial}
 use Rattle.accept_counts.specs.Counts.{pair_of, of_heading, of_entry, of_view, IsOfCall, EntryFits, LabelLaw}
 use Rattle.outcome_causes.specs.program_walks.proofs.Recorded.{either_bool}
+use Rattle.sock_words.specs.Totals.{total}
 
 -- two places of a list count twice
 pub total_two : {A : Type 0} (g : A → ℕ) (l : List A) (m n : ℕ) (a b : A) → get_elem? l m ≡ some a → get_elem? l n ≡ some b → m ≢ n → g a + g b ≤ total g l

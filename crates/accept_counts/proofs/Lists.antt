@@ -28,9 +28,10 @@ use Rattle.call_causes.specs.Below.outcome_stories.proofs.Members.{in_contains, 
 use Rattle.run_theorems.specs.Heard.{as_taken, taken_link, taken_at, taken_in, heard_takes, given_by}
 use Rattle.run_theorems.proofs.Gave.{gave_heard}
 use Rattle.run_theorems.proofs.HeardRuns.{taken_append}
-use Rattle.call_causes.specs.call_stories.specs.Lists.{Take, takes_by, takes_at, given, shows_in, is_last, is_closed, found_so, is_fault, early_of_run, closed_of_run}
+use Rattle.call_causes.specs.call_stories.specs.Lists.{Take, takes_by, takes_at, gave_in, is_last, is_closed, found_so, is_fault, early_of_run, closed_of_run}
 use Rattle.accept_counts.proofs.Early.{EndedBy}
 use Rattle.accept_counts.proofs.Readings.{takes_or_not}
+use Rattle.call_causes.specs.Below.outcome_stories.specs.Facts.{shown_in}
 
 any_append : {A : Type 0} (f : A → Bool) (xs ys : List A) → list_any f (xs ++ ys) ≡ (list_any f xs || list_any f ys)
 any_append f [] ys = refl
@@ -110,10 +111,10 @@ module _ (holds : Taking → Bool) (as_told : (b : Bool) (t : Taking) → holds 
       by_seat none = refl
       by_seat (some seat) = by_link (taken_link seat.program) (⊎_elim (λ e. inl e) (λ t. inr (t.link, t.takes)) (takes_or_not seat.program))
 
-  ticks_show : (p : Plan) (ms : List Moment) (c : Core) → Shown (shows_in takes_at p c ms) ≡ Heard (taken_in p c ms k)
+  ticks_show : (p : Plan) (ms : List Moment) (c : Core) → Shown (shown_in takes_at p c ms) ≡ Heard (taken_in p c ms k)
   ticks_show p [] c = refl
-  ticks_show p (m ∷ ms) c = any_append (λ (t : Take). (t.link == k) && holds t.found) (takes_at c m) (shows_in takes_at p (ticked p c m) ms)
-      ∙ (ap (λ x. x || Shown (shows_in takes_at p (ticked p c m) ms)) (tick_shows c m) ∙ (ap (λ x. Heard (taken_at c m k) || x) (ticks_show p ms (ticked p c m))
+  ticks_show p (m ∷ ms) c = any_append (λ (t : Take). (t.link == k) && holds t.found) (takes_at c m) (shown_in takes_at p (ticked p c m) ms)
+      ∙ (ap (λ x. x || Shown (shown_in takes_at p (ticked p c m) ms)) (tick_shows c m) ∙ (ap (λ x. Heard (taken_at c m k) || x) (ticks_show p ms (ticked p c m))
       ∙ (sym (any_append holds (as_taken (taken_at c m k)) (as_taken (taken_in p (ticked p c m) ms k))) ∙ ap (list_any holds) (sym (taken_append (taken_at c m k) (taken_in p (ticked p c m) ms k))))))
 
   -- ticks that ask no link
@@ -133,8 +134,8 @@ module _ (holds : Taking → Bool) (as_told : (b : Bool) (t : Taking) → holds 
   -- a take of the whole run found so where the link answered so
   run_shows : (script : List Item) (turns : List Turn) (core : Core) (is : IsRunWithCalls script turns core) → found_so script turns core is holds k ≡ list_any holds (heard_takes is k)
   run_shows script turns core is = let p : Plan = plan_of script in let f : Take → Bool = λ t. (t.link == k) && holds t.found in
-      let s₁ : List Take = shows_in takes_at p (opened script) (replicate is.setup (quiet 0)) in let s₂ : List Take = shows_in takes_at p (set_up script is.setup) (is.scheduled ++ is.later) in
-      let s₃ : List Take = shows_in takes_at p (ending script (played script is.setup (is.scheduled ++ is.later))) (replicate is.last (quiet 0)) in let s₄ : List Take = shows_in takes_at p is.ended is.final in
+      let s₁ : List Take = shown_in takes_at p (opened script) (replicate is.setup (quiet 0)) in let s₂ : List Take = shown_in takes_at p (set_up script is.setup) (is.scheduled ++ is.later) in
+      let s₃ : List Take = shown_in takes_at p (ending script (played script is.setup (is.scheduled ++ is.later))) (replicate is.last (quiet 0)) in let s₄ : List Take = shown_in takes_at p is.ended is.final in
       any_append f s₁ (s₂ ++ (s₃ ++ s₄)) ∙ (ap (λ x. x || list_any f (s₂ ++ (s₃ ++ s₄))) (ticks_show p (replicate is.setup (quiet 0)) (opened script) ∙ quiet_show p is.setup (opened script))
       ∙ (any_append f s₂ (s₃ ++ s₄) ∙ (ap (λ x. x || list_any f (s₃ ++ s₄)) (ticks_show p (is.scheduled ++ is.later) (set_up script is.setup))
       ∙ (ap (λ x. Heard (taken_in p (set_up script is.setup) (is.scheduled ++ is.later) k) || x) (any_append f s₃ s₄ ∙ (ap (λ x. x || list_any f s₄) (ticks_show p (replicate is.last (quiet 0)) (ending script (played script is.setup (is.scheduled ++ is.later))) ∙ quiet_show p is.last (ending script (played script is.setup (is.scheduled ++ is.later)))) ∙ ticks_show p is.final is.ended))
@@ -157,14 +158,14 @@ module _ (script : List Item) (turns : List Turn) (core : Core) (is : IsRunWithC
   Gone k = found_so script turns core is (is_last script turns core is) k
 
   abbrev Spoilt : ℕ → Bool
-  Spoilt k = is_fault script turns core is (stream (given core k)).ending || nat_le LIMIT (length (given core k))
+  Spoilt k = is_fault script turns core is (stream (gave_in core k)).ending || nat_le LIMIT (length (gave_in core k))
 
   module _ (bytes : List ℕ) (reads : script_of bytes ≡ Ok script) where
     -- the reading of a link ended so: it is in the list
     pub early_listed : (k : ℕ) → k < (plan_of script).links → EndedBy (heard_takes is k) → Contains (early_of_run script turns core is) k
     early_listed k low by = in_contains (early_of_run script turns core is) k (filtered_in (λ n. Gone n || Spoilt n) (from_to 0 (plan_of script).links) k (in_range 0 (plan_of script).links k (omega arith) (omega (arith, low))) (test by))
       where
-        same : given core k ≡ given_by (heard_takes is k)
+        same : gave_in core k ≡ given_by (heard_takes is k)
         same = gave_heard bytes script reads turns core is k low
 
         gone : list_any (is_last script turns core is) (heard_takes is k) ≡ true → (Gone k || Spoilt k) ≡ true
@@ -179,14 +180,14 @@ module _ (script : List Item) (turns : List Turn) (core : Core) (is : IsRunWithC
 
         test : EndedBy (heard_takes is k) → (Gone k || Spoilt k) ≡ true
         test (inl m) = gone (any_in (is_last script turns core is) (heard_takes is k) AtEnd m refl)
-        test (inr (inl f)) = either (Gone k) (Spoilt k) (ap (λ b. b || nat_le LIMIT (length (given core k))) (faulty (stream (given core k)).ending f.0 f.1 (ap (λ l. (stream l).ending) same ∙ f.2)))
-        test (inr (inr (inl l))) = either (Gone k) (Spoilt k) (either (is_fault script turns core is (stream (given core k)).ending) (nat_le LIMIT (length (given core k))) (le-leb LIMIT (length (given core k)) (let e = ap length same in omega (arith, e, l))))
+        test (inr (inl f)) = either (Gone k) (Spoilt k) (ap (λ b. b || nat_le LIMIT (length (gave_in core k))) (faulty (stream (gave_in core k)).ending f.0 f.1 (ap (λ l. (stream l).ending) same ∙ f.2)))
+        test (inr (inr (inl l))) = either (Gone k) (Spoilt k) (either (is_fault script turns core is (stream (gave_in core k)).ending) (nat_le LIMIT (length (gave_in core k))) (le-leb LIMIT (length (gave_in core k)) (let e = ap length same in omega (arith, e, l))))
         test (inr (inr (inr m))) = gone (any_in (is_last script turns core is) (heard_takes is k) Broken m refl)
 
     -- and each link in the list is one of the run's, and its reading ended so
     pub early_shown : (k : ℕ) → Contains (early_of_run script turns core is) k
         → (k < (plan_of script).links) × (Contains (heard_takes is k) AtEnd ⊎ (HasFault (given_by (heard_takes is k)) ⊎ ((reading_limit ≤ length (given_by (heard_takes is k))) ⊎ Contains (heard_takes is k) Broken)))
-    early_shown k m = (low, by (Gone k) (is_fault script turns core is (stream (given core k)).ending) (nat_le LIMIT (length (given core k))) refl refl refl f.1)
+    early_shown k m = (low, by (Gone k) (is_fault script turns core is (stream (gave_in core k)).ending) (nat_le LIMIT (length (gave_in core k))) refl refl refl f.1)
       where
         f : In k (from_to 0 (plan_of script).links) × ((Gone k || Spoilt k) ≡ true)
         f = in_filtered (λ n. Gone n || Spoilt n) (from_to 0 (plan_of script).links) k (contains_in (early_of_run script turns core is) k m)
@@ -194,10 +195,10 @@ module _ (script : List Item) (turns : List Turn) (core : Core) (is : IsRunWithC
         low : k < (plan_of script).links
         low = let r = of_range 0 (plan_of script).links k f.0 in omega (arith, r)
 
-        same : given core k ≡ given_by (heard_takes is k)
+        same : gave_in core k ≡ given_by (heard_takes is k)
         same = gave_heard bytes script reads turns core is k low
 
-        fault_in : (e : Ending) → (stream (given core k)).ending ≡ e → is_fault script turns core is e ≡ true → HasFault (given_by (heard_takes is k))
+        fault_in : (e : Ending) → (stream (gave_in core k)).ending ≡ e → is_fault script turns core is e ≡ true → HasFault (given_by (heard_takes is k))
         fault_in (Rest n) e is' = absurd (true≢false (sym is'))
         fault_in (Fault s x) e is' = (s, x, sym (ap (λ l. (stream l).ending) same) ∙ e)
 
@@ -206,11 +207,11 @@ module _ (script : List Item) (turns : List Turn) (core : Core) (is : IsRunWithC
         which Broken m is' = inr (inr (inr (in_contains (heard_takes is k) Broken m)))
         which _ m is' = absurd (true≢false (sym is'))
 
-        by : (a b c : Bool) → Gone k ≡ a → is_fault script turns core is (stream (given core k)).ending ≡ b → nat_le LIMIT (length (given core k)) ≡ c → (a || (b || c)) ≡ true
+        by : (a b c : Bool) → Gone k ≡ a → is_fault script turns core is (stream (gave_in core k)).ending ≡ b → nat_le LIMIT (length (gave_in core k)) ≡ c → (a || (b || c)) ≡ true
             → Contains (heard_takes is k) AtEnd ⊎ (HasFault (given_by (heard_takes is k)) ⊎ ((reading_limit ≤ length (given_by (heard_takes is k))) ⊎ Contains (heard_takes is k) Broken))
         by true b c ea eb ec e = let t = any_some (is_last script turns core is) (heard_takes is k) (sym (run_shows (is_last script turns core is) last_told k script turns core is) ∙ ea) in which t.0 t.1 t.2
-        by false true c ea eb ec e = inr (inl (fault_in (stream (given core k)).ending refl eb))
-        by false false true ea eb ec e = inr (inr (inl (let l = leb-true LIMIT (length (given core k)) ec in let s = ap length same in omega (arith, l, s))))
+        by false true c ea eb ec e = inr (inl (fault_in (stream (gave_in core k)).ending refl eb))
+        by false false true ea eb ec e = inr (inr (inl (let l = leb-true LIMIT (length (gave_in core k)) ec in let s = ap length same in omega (arith, l, s))))
         by false false false ea eb ec e = absurd (true≢false (sym e))
 
   -- a link that is in the list of closed ones answered so

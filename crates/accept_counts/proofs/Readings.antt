@@ -14,7 +14,7 @@ use Rattle.sock_model.specs.declared.view.Hand.{Hand}
 use Rattle.sock_model.specs.Layout.{open_index}
 use Rattle.sock_model.specs.Marks.{about, at}
 use Rattle.sock_model.specs.SlotRows.{marks_of, added, looked}
-use Rattle.sock_model.specs.Weights.{total, only, is_hold}
+use Rattle.sock_model.specs.Weights.{only, is_hold}
 use Rattle.corr_core.specs.Word.{parts}
 use Rattle.corr_core.specs.Decisions.{ends_call}
 use Rattle.call_causes.specs.Below.programs_allowed.specs.slot_steps.proofs.Numbers.{only-same}
@@ -42,6 +42,7 @@ use Rattle.outcome_causes.specs.program_steps.proofs.Cases.{beside, tick_keeps_m
 use Rattle.run_theorems.specs.Heard.{taken_link, taken_at, as_taken}
 use Rattle.accept_counts.proofs.Closers.{Ends, Calm, IsCalmCall, IsNoTake, calm_first, calm_next, begins_calm, calm_step, calm_aside}
 use Rattle.seat_programs.specs.Rounds.{first_step}
+use Rattle.sock_words.specs.Totals.{total}
 
 -- ## Rights
 

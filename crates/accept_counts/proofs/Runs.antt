@@ -8,7 +8,6 @@ use lib.ListN.{get_elem?}
 use Rattle.atomic_table.proofs.Lists.{set_again}
 use Rattle.sock_words.specs.declared.plain.Plan.{Plan}
 use Rattle.sock_model.specs.declared.view.View.{View}
-use Rattle.sock_model.specs.Weights.{total}
 use Rattle.seat_programs.specs.brpc_model.specs.Items.{Item}
 use Rattle.seat_programs.specs.brpc_model.specs.Operations.{Turn, clients}
 use Rattle.corr_core.specs.declared.marks.Plan.{Plan as IdPlan}
@@ -45,6 +44,7 @@ use Rattle.outcome_causes.proofs.Scripts.{own_from, seats, closing_told}
 use Rattle.outcome_causes.proofs.Begin.{no_call}
 use Rattle.accept_counts.specs.Counts.{of_trial, of_retry, of_claim, of_entry, of_view, times_of, ClaimFits, EntryFits, TrialFits, LabelLaw, AreLabelled}
 use Rattle.accept_counts.proofs.Ticks.{moves, label_ticks}
+use Rattle.sock_words.specs.Totals.{total}
 
 -- at the beginning no seat has a retry, and no home a call
 pub none_waits : (id n m : ℕ) → total (total (of_retry id n)) (replicate m []) ≡ 0

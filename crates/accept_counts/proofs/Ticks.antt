@@ -12,7 +12,6 @@ use Rattle.sock_model.specs.declared.chain.Right.{Right}
 use Rattle.sock_model.specs.declared.chain.Heading.{Heading}
 use Rattle.sock_model.specs.declared.home.Home.{Home}
 use Rattle.sock_model.specs.declared.view.View.{View}
-use Rattle.sock_model.specs.Weights.{total}
 use Rattle.call_causes.specs.Below.programs_allowed.specs.slot_steps.proofs.Sums.{term_le, total-append, total-set}
 use Rattle.corr_core.specs.Word.{parts}
 use Rattle.corr_core.specs.declared.marks.Plan.{Plan as IdPlan}
@@ -42,6 +41,7 @@ use Rattle.accept_counts.proofs.SeatFacts.{seat_facts, tick_moves}
 use Rattle.accept_counts.proofs.Views.{put_of, row_count, rights_count, PutsFit, row_fits, rights_fit}
 use Rattle.call_causes.specs.story_ticks.proofs.Chains.{AreFewTries}
 use Rattle.seat_programs.specs.Rounds.{first_step}
+use Rattle.sock_words.specs.Totals.{total}
 
 -- ## Pairs
 

@@ -9,7 +9,6 @@ use Rattle.sock_model.specs.declared.chain.Right.{Right}
 use Rattle.sock_model.specs.declared.view.View.{View}
 use Rattle.sock_model.specs.declared.view.Hand.{Hand}
 use Rattle.sock_model.specs.ChainRows.{with_claim, entry_of, more, queued, righted, ready_claim, filled_claim}
-use Rattle.sock_model.specs.Weights.{total}
 use Rattle.call_causes.specs.Below.programs_allowed.specs.slot_steps.proofs.Sums.{total-append}
 use Rattle.sock_message.specs.Asked.{Asked}
 use Rattle.seat_programs.specs.Calls.{Call, ClaimRequest, PutMessage, Unconnect, SwapHead}
@@ -22,6 +21,7 @@ use Rattle.outcome_causes.specs.program_steps.proofs.Leaves.{is_claiming, claim_
 use Rattle.call_causes.specs.Below.outcome_stories.proofs.Tests.{split}
 use Rattle.accept_counts.specs.Counts.{of_heading, of_claim, of_entry, of_view, HeadFits, ClaimFits, EntryFits, ViewFits}
 use Rattle.sock_words.specs.Words.{IDLE}
+use Rattle.sock_words.specs.Totals.{total}
 
 module _ (v : View) where
   abbrev pub Same : View → Type 0

@@ -19,12 +19,12 @@ use Rattle.sock_message.specs.Asked.{Asked}
 use Rattle.seat_programs.specs.Asides.{Step, Found, ClaimId, MakeId, StoreCall, StoreAt, LockId, PostId, UnlockId, EndId, FreeId, TakeBytes, Taking, Bytes}
 use Rattle.seat_programs.specs.Beside.{found_in, calls_after}
 use Rattle.seat_programs.specs.Cores.{Core}
-use Rattle.seat_programs.specs.Posts.{packed, advance_of}
+use Rattle.seat_programs.specs.Posts.{packed}
 use Rattle.label_runs.specs.Labels.{FindsLabel}
 use Rattle.accept_counts.specs.Counts.{word_of_id, WasMade, WasNow}
 use Rattle.call_causes.specs.Below.owing_ticks.proofs.IdFacts.{claimed_free}
 use Rattle.call_causes.specs.Below.call_owing.proofs.Words.{Forward}
-use Rattle.sock_words.specs.Words.{call_id, id_slot, id_first}
+use Rattle.sock_words.specs.Words.{call_id, id_slot, id_first, bit}
 
 abbrev pub AnyCall : Asked → Type 0
 AnyCall asked = Unit {0}
@@ -60,10 +60,10 @@ posted_forward from e small = by (eqb (parts from).state 1)
         let is : parts (packed w) ≡ w = parts_packed w (omega arith) (omega arith) (omega arith) (omega arith) (small_first (eqb (parts from).oldest 0) e (parts from).oldest small (omega arith)) (small_first (eqb (parts from).oldest 0) 0 e (omega arith) small) in
         inr (ap (λ (x : Parts). x.first) is, λ some_. ((let z : (parts (packed w)).state ≡ 2 = ap (λ (x : Parts). x.state) is in omega (arith, z)), (let z : (parts (packed w)).attempt ≡ (parts from).attempt = ap (λ (x : Parts). x.attempt) is in omega (arith, z))))
 
-pub unlocked_is : (from : ℕ) (advance : Bool) → (parts from).attempt + advance_of advance ≤ 6 → parts (packed (unlocked_word (parts from) (advance_of advance))) ≡ unlocked_word (parts from) (advance_of advance)
-unlocked_is from advance few = parts_packed (unlocked_word (parts from) (advance_of advance)) (state_fits (eqb (parts from).oldest 0)) (omega arith) (omega arith) (omega (arith, few)) (omega arith) (omega arith)
+pub unlocked_is : (from : ℕ) (advance : Bool) → (parts from).attempt + bit advance ≤ 6 → parts (packed (unlocked_word (parts from) (bit advance))) ≡ unlocked_word (parts from) (bit advance)
+unlocked_is from advance few = parts_packed (unlocked_word (parts from) (bit advance)) (state_fits (eqb (parts from).oldest 0)) (omega arith) (omega arith) (omega (arith, few)) (omega arith) (omega arith)
 
-unlocked_forward : (from : ℕ) (advance : Bool) → (parts from).attempt + advance_of advance ≤ 6 → Forward (parts from) (parts (packed (unlocked_word (parts from) (advance_of advance))))
+unlocked_forward : (from : ℕ) (advance : Bool) → (parts from).attempt + bit advance ≤ 6 → Forward (parts from) (parts (packed (unlocked_word (parts from) (bit advance))))
 unlocked_forward from advance few = let is = unlocked_is from advance few in let some_more = state_some (eqb (parts from).oldest 0) in
     inr (ap (λ (w : Parts). w.first) is, λ some_. (subst (λ (w : Parts). 0 < w.state) (sym is) some_more, subst (λ (w : Parts). (parts from).attempt ≤ w.attempt) (sym is) (omega arith)))
 
@@ -138,8 +138,8 @@ module _ (p : Plan) (q : IdPlan) (c : Core) (us : List IdView) (ids : SoundIds p
   words_forward (PostId k from e) t found is may f j low = as_found k found (λ n. Forward (word_of_id c.calls.words j) (word_of_id (set c.calls.words (id_index k) (cond (eqb n from) (packed (posted_word (parts from) e)) n)) j)) is
       (exchanged_word k from (packed (posted_word (parts from) e)) may.0 (λ _. posted_forward from e may.3) j)
   words_forward (UnlockId k from advance) t found is may f j low = let l = finds_label (UnlockId k from advance) found may f in as_found k found
-      (λ n. Forward (word_of_id c.calls.words j) (word_of_id (set c.calls.words (id_index k) (cond (eqb n from) (packed (unlocked_word (parts from) (advance_of advance))) n)) j)) is
-      (exchanged_word k from (packed (unlocked_word (parts from) (advance_of advance))) may.0 (λ _. unlocked_forward from advance l.1) j)
+      (λ n. Forward (word_of_id c.calls.words j) (word_of_id (set c.calls.words (id_index k) (cond (eqb n from) (packed (unlocked_word (parts from) (bit advance))) n)) j)) is
+      (exchanged_word k from (packed (unlocked_word (parts from) (bit advance))) may.0 (λ _. unlocked_forward from advance l.1) j)
   words_forward (EndId k) t found is may f j low = as_found k found (λ n. Forward (word_of_id c.calls.words j) (word_of_id (set c.calls.words (id_index k) (packed (free_word ((parts n).first + (parts n).range)))) j)) is
       (one_word k (packed (free_word ((parts (Word k)).first + (parts (Word k)).range))) may.0 (ended_forward (Word k)) j)
   words_forward (FreeId k) t found is may f j low = other_word (tag_index k) 0 j (λ e. omega (arith, e))

@@ -7,7 +7,6 @@ use Rattle.sock_model.specs.declared.chain.Claim.{Claim}
 use Rattle.sock_model.specs.declared.chain.Entry.{Entry}
 use Rattle.sock_model.specs.declared.chain.Heading.{Heading}
 use Rattle.sock_model.specs.declared.view.View.{View}
-use Rattle.sock_model.specs.Weights.{total}
 use Rattle.corr_core.specs.Word.{Parts, parts}
 use Rattle.corr_core.specs.declared.marks.Plan.{Plan as IdPlan}
 use Rattle.seat_programs.specs.id_rule.specs.Lawful.{id_index}
@@ -24,6 +23,7 @@ use Rattle.call_causes.specs.Below.id_runs.specs.Held.{IdView}
 use Rattle.call_causes.specs.Below.id_runs.specs.Goes.{SoundIds, IsFittingIds}
 use Rattle.label_runs.specs.Labels.{Trial, Idle, Tries, Sends, Labels}
 use Rattle.seat_programs.specs.Rounds.{first_step}
+use Rattle.sock_words.specs.Totals.{total}
 
 -- 1 where these are attempt n of the call with this id
 abbrev pub pair_of : ℕ → ℕ → ℕ → ℕ → ℕ

@@ -14,9 +14,10 @@ use Rattle.seat_programs.specs.Programs.{Program, Aside}
 use Rattle.seat_programs.specs.Cores.{Calls, Core}
 use Rattle.seat_programs.specs.Ticks.{Moment, taken}
 use Rattle.seat_programs.specs.Scripts.{IsRunWithCalls}
-use Rattle.call_causes.specs.call_stories.specs.Lists.{given, shows_in_run, early_of_run, closed_of_run, silent_of_run}
+use Rattle.call_causes.specs.call_stories.specs.Lists.{gave_in, early_of_run, closed_of_run, silent_of_run}
 use Rattle.call_causes.specs.call_stories.specs.Posts.{Post, posted_at}
 use Rattle.seat_programs.specs.Rounds.{first_step}
+use Rattle.call_causes.specs.Below.outcome_stories.specs.Facts.{shown_in_run}
 
 -- ## At words that were loaded
 
@@ -48,18 +49,18 @@ client_posts_at c m = if nat_le 32 m.seat then [] else posted_at c m
 
 module _ (script : List Item) (turns : List Turn) (end_ : Core) (is : IsRunWithCalls script turns end_) where
   abbrev pub loads_of_run : List Load
-  loads_of_run = shows_in_run script turns end_ is loaded_at
+  loads_of_run = shown_in_run script turns end_ is loaded_at
 
   abbrev pub reader_posts_of_run : List Post
-  reader_posts_of_run = shows_in_run script turns end_ is reader_posts_at
+  reader_posts_of_run = shown_in_run script turns end_ is reader_posts_at
 
   abbrev pub client_posts_of_run : List Post
-  client_posts_of_run = shows_in_run script turns end_ is client_posts_at
+  client_posts_of_run = shown_in_run script turns end_ is client_posts_at
 
   -- the reading of link k ended with this code
   abbrev pub EndedSo : ℕ → ℕ → Type 0
   EndedSo k code = ((code ≡ EEOF) × (Contains (early_of_run script turns end_ is) k ⊎ (Contains (closed_of_run script turns end_ is) k ⊎ Contains (silent_of_run script turns end_ is) k)))
-      ⊎ ((code ≡ ERESPONSE) × HasFault (given end_ k))
+      ⊎ ((code ≡ ERESPONSE) × HasFault (gave_in end_ k))
 
   -- the reader of link k posted the error for the at word of operation o, which names its link
   pub record IsEndPost (k o word code : ℕ) (x : Post) : Type 0 where
@@ -84,7 +85,7 @@ abbrev pub stored_at : Core → Moment → List Store
 stored_at c m = elim (get_elem? c.seats m.seat) as (λ o. List Store) [ none ↦ [] | some seat ↦ stores_by (first_step seat.program) ]
 
 abbrev pub stores_of_run : (script : List Item) (turns : List Turn) (end_ : Core) → IsRunWithCalls script turns end_ → List Store
-stores_of_run script turns end_ is = shows_in_run script turns end_ is stored_at
+stores_of_run script turns end_ is = shown_in_run script turns end_ is stored_at
 
 -- no attempt has two at words
 abbrev pub AreStoredOnce : (script : List Item) (turns : List Turn) (end_ : Core) → IsRunWithCalls script turns end_ → Type 0

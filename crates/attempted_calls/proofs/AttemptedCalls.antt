@@ -17,7 +17,7 @@ use Rattle.own_decisions.specs.Below.joint_runs.proofs.Runs.{AreMade}
 use Rattle.own_decisions.specs.Below.script_facts.proofs.Reading.{InRange}
 use Rattle.own_decisions.specs.Below.script_facts.proofs.Targets.{AreThere}
 use Rattle.own_decisions.specs.Below.call_owing.specs.Lives.{ClosesInRun}
-use Rattle.own_decisions.specs.Below.call_stories.specs.Lists.{given}
+use Rattle.own_decisions.specs.Below.call_stories.specs.Lists.{gave_in}
 use Rattle.own_decisions.specs.Below.call_stories.specs.Scenes.{Birth, WhyEnded}
 use Rattle.own_decisions.specs.Below.story_steps.proofs.BirthTicks.{one_call}
 use Rattle.own_decisions.specs.Below.story_steps.proofs.End.{ended_call}
@@ -46,13 +46,13 @@ module _ (script : List Item) (made : AreMade script) (there : AreThere script) 
     -- and its outcome shows it
     pub shows : (o : ℕ) → ids o ≢ 0 → (x : Outcome) × Became (all_tasks script) core.outcomes o x × (shown_id x ≡ Some (ids o))
     shows o some_ = let h = run_has_story script made there range turns core is in let b = has_id o some_ in
-        let e = ended_call (plan_of script) (id_plan_of script) (all_tasks script) (given core) h.scene h.marks (run_has_ended script made there range turns core is closes) b.0 b.1 in (
+        let e = ended_call (plan_of script) (id_plan_of script) (all_tasks script) (gave_in core) h.scene h.marks (run_has_ended script made there range turns core is closes) b.0 b.1 in (
           e.0,
           subst (λ n. Became (all_tasks script) core.outcomes n e.0) b.3 (subst (λ (d : Core). Became (all_tasks script) d.outcomes b.0.asked.operation e.0) h.is e.1),
           by_why b.0 e.0 e.2 ∙ ap (λ i. Some i) b.2,
         )
       where
-        by_why : (b : Birth) (x : Outcome) → WhyEnded (plan_of script) (id_plan_of script) (all_tasks script) (given core) (run_has_story script made there range turns core is).scene b x → shown_id x ≡ Some b.id
+        by_why : (b : Birth) (x : Outcome) → WhyEnded (plan_of script) (id_plan_of script) (all_tasks script) (gave_in core) (run_has_story script made there range turns core is).scene b x → shown_id x ≡ Some b.id
         by_why b (outcomes.Answered id payload attachment) why = ap (λ i. Some i) why.0
         by_why b (outcomes.Peer id code) why = ap (λ i. Some i) why.0
         by_why b (outcomes.CallFailed id code) why = ap (λ i. Some i) why.0

@@ -27,7 +27,7 @@ use Rattle.own_decisions.specs.Below.programs_allowed.specs.program_walks.proofs
 use Rattle.own_decisions.specs.Below.outcome_stories.specs.PlainTasks.{told_tasks_of}
 use Rattle.own_decisions.specs.Below.outcome_causes.proofs.Final.{at_there}
 use Rattle.own_decisions.specs.Below.outcome_causes.proofs.Scripts.{seats, closing_told}
-use Rattle.own_decisions.specs.Below.call_stories.specs.Lists.{times, advanced_at, shows_in, attempts_of_run}
+use Rattle.own_decisions.specs.Below.call_stories.specs.Lists.{times, advanced_at, attempts_of_run}
 use Rattle.own_decisions.specs.Below.label_runs.specs.Labels.{Trial}
 use Rattle.own_decisions.specs.Below.label_runs.proofs.Programs.{ending_goes}
 use Rattle.own_decisions.specs.accept_counts.specs.Counts.{times_of, word_of_id, WasNow, LabelLaw, StoresOwn, AreLabelled}
@@ -37,6 +37,7 @@ use Rattle.attempted_calls.proofs.AttemptedWords.{Rise, is_new, is_same, is_more
 use Rattle.attempted_calls.proofs.AttemptedIds.{AdvancesId, AreRising, AreRisingIn}
 use Rattle.own_decisions.specs.Below.call_causes.proofs.Run.{times_append}
 use Rattle.sock_words.specs.Words.{call_id, id_slot, id_first}
+use Rattle.own_decisions.specs.Below.outcome_stories.specs.Facts.{shown_in}
 
 times_one : (o : ℕ) (ns : List ℕ) → ns ≡ o ∷ [] → times o ns ≡ 1
 times_one o ns e = ap (times o) e ∙ ap (λ b. cond b 1 0 + 0) (eq-eqb o o refl)
@@ -108,10 +109,10 @@ module _ (p : Plan) (q : IdPlan) (narrow : q.slots ≤ 65536) (is_call : Asked �
 
   -- ticks one after another
   pub run_counted : RetriesGo p → (ms : List Moment) (so more : ℕ → ℕ) (c : Core) (vs : List View) → Sound p c vs → AreAnswered p c ms → AreFitting p c ms → AreLabelled ids p q c ms → AreRising ids p q c ms
-      → ((o : ℕ) → so o + times o (shows_in advanced_at p c ms) ≤ more o) → Counted so c vs → Counted more (run p c ms) (views_along p c vs ms)
+      → ((o : ℕ) → so o + times o (shown_in advanced_at p c ms) ≤ more o) → Counted so c vs → Counted more (run p c ms) (views_along p c vs ms)
   run_counted go [] so more c vs sound answered fitting are rising up k = counted_on so more c vs (λ o. (let z = up o in omega (arith, z))) k
   run_counted go (m ∷ ms) so more c vs sound answered fitting are rising up k = run_counted go ms (λ o. so o + times o (advanced_at c m)) more (ticked p c m) (views_after p c vs m) (sound_ticks p go c vs m sound answered.0 fitting.0) answered.1 fitting.1 are.3 rising.1
-      (λ o. (let z = up o in let y = times_append o (advanced_at c m) (shows_in advanced_at p (ticked p c m) ms) in omega (arith, z, y)))
+      (λ o. (let z = up o in let y = times_append o (advanced_at c m) (shown_in advanced_at p (ticked p c m) ms) in omega (arith, z, y)))
       (one_tick so (λ o. so o + times o (advanced_at c m)) c vs are.0.0 are.0.1 sound m answered.0 are.1 are.2 rising.0 (λ o. omega arith) k)
 
 -- ## A whole run
@@ -124,13 +125,13 @@ module _ (script : List Item) (are : AreTasks (plan_of script) (all_tasks script
 
   -- how often the call of an operation was advanced behind each part of the run
   abbrev since_setup : ℕ → ℕ
-  since_setup o = times o (shows_in advanced_at (plan_of script) (opened script) (replicate is.setup (quiet 0)))
+  since_setup o = times o (shown_in advanced_at (plan_of script) (opened script) (replicate is.setup (quiet 0)))
 
   abbrev since_clients : ℕ → ℕ
-  since_clients o = since_setup o + times o (shows_in advanced_at (plan_of script) (set_up script is.setup) (is.scheduled ++ is.later))
+  since_clients o = since_setup o + times o (shown_in advanced_at (plan_of script) (set_up script is.setup) (is.scheduled ++ is.later))
 
   abbrev since_closing : ℕ → ℕ
-  since_closing o = since_clients o + times o (shows_in advanced_at (plan_of script) (closing_of script turns core is) (replicate is.last (quiet 0)))
+  since_closing o = since_clients o + times o (shown_in advanced_at (plan_of script) (closing_of script turns core is) (replicate is.last (quiet 0)))
 
   first : Keeps (λ o. 0) (opened script) vs
   first = let l = begins_labels (plan_of script) (id_plan_of script) narrow (IsCallOf script) ids (all_programs (programs (sizes_of (plan_of script) (id_plan_of script)) (all_tasks script)) (readers_from (calls script) 0 (opens script)))
@@ -189,8 +190,8 @@ module _ (script : List Item) (are : AreTasks (plan_of script) (all_tasks script
       (run_counted (plan_of script) (id_plan_of script) narrow (IsCallOf script) ids single go is.final since_closing (attempts_of_run script turns core is) is.ended (views_closed script turns core is vs) (closed_sound script are vs begins go turns core is fitting) is.answered_again fitting.of_final labelled.of_final rising.of_final
       all_parts closed_counted)
     where
-      all_parts : (o : ℕ) → since_closing o + times o (shows_in advanced_at (plan_of script) is.ended is.final) ≤ attempts_of_run script turns core is o
+      all_parts : (o : ℕ) → since_closing o + times o (shown_in advanced_at (plan_of script) is.ended is.final) ≤ attempts_of_run script turns core is o
       all_parts o = let p : Plan = plan_of script in
-          let one : List ℕ = shows_in advanced_at (plan_of script) (opened script) (replicate is.setup (quiet 0)) in let two : List ℕ = shows_in advanced_at (plan_of script) (set_up script is.setup) (is.scheduled ++ is.later) in
-          let three : List ℕ = shows_in advanced_at (plan_of script) (closing_of script turns core is) (replicate is.last (quiet 0)) in let four : List ℕ = shows_in advanced_at (plan_of script) is.ended is.final in
+          let one : List ℕ = shown_in advanced_at (plan_of script) (opened script) (replicate is.setup (quiet 0)) in let two : List ℕ = shown_in advanced_at (plan_of script) (set_up script is.setup) (is.scheduled ++ is.later) in
+          let three : List ℕ = shown_in advanced_at (plan_of script) (closing_of script turns core is) (replicate is.last (quiet 0)) in let four : List ℕ = shown_in advanced_at (plan_of script) is.ended is.final in
           let a = times_append o one (two ++ (three ++ four)) in let b = times_append o two (three ++ four) in let c = times_append o three four in omega (arith, a, b, c)

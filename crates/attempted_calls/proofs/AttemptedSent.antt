@@ -5,7 +5,6 @@ use Rattle.sock_words.specs.declared.plain.Plan.{Plan}
 use Rattle.sock_model.specs.declared.chain.Entry.{Entry}
 use Rattle.sock_model.specs.declared.chain.Heading.{Heading}
 use Rattle.sock_model.specs.declared.view.View.{View}
-use Rattle.sock_model.specs.Weights.{total}
 use Rattle.own_decisions.specs.Below.slot_steps.proofs.Sums.{term_le}
 use Rattle.seat_programs.specs.brpc_model.specs.Items.{Item}
 use Rattle.seat_programs.specs.brpc_model.specs.Operations.{Turn}
@@ -49,6 +48,7 @@ use Rattle.own_decisions.proofs.OwnDecisionsTicks.{pair_self}
 use Rattle.own_decisions.specs.accept_counts.proofs.Grounds.{setting, grounds}
 use Rattle.own_decisions.specs.Below.programs_allowed.specs.program_walks.proofs.Recorded.{either_bool}
 use Rattle.own_decisions.specs.Below.owned_ids.proofs.OpensStored.{place_at}
+use Rattle.sock_words.specs.Totals.{total}
 
 -- ## Accepted messages
 

@@ -34,7 +34,7 @@ use Rattle.own_decisions.specs.Below.joint_runs.proofs.Both.{BothSound, AreBoth,
 use Rattle.own_decisions.specs.Below.joint_runs.proofs.Runs.{AreMade, first_views, joint_runs}
 use Rattle.own_decisions.specs.Below.script_facts.proofs.Reading.{InRange}
 use Rattle.own_decisions.specs.Below.script_facts.proofs.Targets.{AreThere}
-use Rattle.own_decisions.specs.Below.call_stories.specs.Lists.{given, advanced_at}
+use Rattle.own_decisions.specs.Below.call_stories.specs.Lists.{gave_in, advanced_at}
 use Rattle.own_decisions.specs.Below.call_stories.specs.Scenes.{LeadsTo}
 use Rattle.own_decisions.specs.Below.call_stories.specs.Posts.{Post, posted_at}
 use Rattle.own_decisions.specs.Below.call_stories.specs.Stories.{HasStory}
@@ -221,28 +221,28 @@ module _ (script : List Item) (made : AreMade script) (there : AreThere script) 
   q = id_plan_of script
 
   abbrev gives : ℕ → List ℕ
-  gives = given core
+  gives = gave_in core
 
-  abbrev pub numbered : AreNumbered (plan_of script) (id_plan_of script) (all_tasks script) (given core)
-  numbered = scripts.are_numbered script made there range (given core)
+  abbrev pub numbered : AreNumbered (plan_of script) (id_plan_of script) (all_tasks script) (gave_in core)
+  numbered = scripts.are_numbered script made there range (gave_in core)
 
-  abbrev pub slots : HaveSlots (plan_of script) (id_plan_of script) (all_tasks script) (given core)
-  slots = scripts.have_slots script made there range (given core)
+  abbrev pub slots : HaveSlots (plan_of script) (id_plan_of script) (all_tasks script) (gave_in core)
+  slots = scripts.have_slots script made there range (gave_in core)
 
   abbrev pub small : (id_plan_of script).slots ≤ 65536
   small = narrow (plan_of script) (id_plan_of script) (all_tasks script) (calls script) (opens script) made
 
   abbrev pub Leads : Core → Type 0
-  Leads c = LeadsTo (plan_of script) (id_plan_of script) (all_tasks script) (given core) c
+  Leads c = LeadsTo (plan_of script) (id_plan_of script) (all_tasks script) (gave_in core) c
 
   abbrev Has : Core → Type 0
-  Has c = Owns (plan_of script) (id_plan_of script) (all_tasks script) (given core) numbered slots small (IsCallOf script) c
+  Has c = Owns (plan_of script) (id_plan_of script) (all_tasks script) (gave_in core) numbered slots small (IsCallOf script) c
 
   abbrev Goes : Core → List Moment → Type 0
-  Goes c ms = Ahead (plan_of script) (id_plan_of script) (all_tasks script) (given core) numbered slots small (IsCallOf script) c ms
+  Goes c ms = Ahead (plan_of script) (id_plan_of script) (all_tasks script) (gave_in core) numbered slots small (IsCallOf script) c ms
 
   open run_facts script made turns core is use {length_is, few_tries, set_up_ahead, played_ahead, ended_ahead, many_played, many_closed}
-  open leadings script turns core is (given core) (own_leads script core) use {ended_leads, told_leads, closed_leads, ending_leads, played_leads, set_up_leads, opened_leads}
+  open leadings script turns core is (gave_in core) (own_leads script core) use {ended_leads, told_leads, closed_leads, ending_leads, played_leads, set_up_leads, opened_leads}
 
   first : Has (opened script)
   first = let n = begins_named (plan_of script) (id_plan_of script) (IsCallOf script) [] [] (all_programs (programs (sizes_of (plan_of script) (id_plan_of script)) (all_tasks script)) (readers_from (calls script) 0 (opens script)))
@@ -250,7 +250,7 @@ module _ (script : List Item) (made : AreMade script) (there : AreThere script) 
       (opening_bare script) in record {
         posted = [];
         shown = [];
-        story = first_story (plan_of script) (id_plan_of script) (all_tasks script) (given core) numbered slots (calls script) (opens script) (scripts.begins script made there range (given core)) made.seats length_is few_tries opened_leads;
+        story = first_story (plan_of script) (id_plan_of script) (all_tasks script) (gave_in core) numbered slots (calls script) (opens script) (scripts.begins script made there range (gave_in core)) made.seats length_is few_tries opened_leads;
         trails = map (λ (x : Program). lost) (all_programs (programs (sizes_of (plan_of script) (id_plan_of script)) (all_tasks script)) (readers_from (calls script) 0 (opens script)));
         law = record {
           knows = λ j t at. subst (λ (y : Trail). IsTrueOf (id_plan_of script) (opened script) y.of) (mapped (λ (x : Program). lost) (all_programs (programs (sizes_of (plan_of script) (id_plan_of script)) (all_tasks script)) (readers_from (calls script) 0 (opens script))) j t at).2 tt;

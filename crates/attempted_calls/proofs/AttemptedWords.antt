@@ -26,15 +26,17 @@ use Rattle.sock_message.specs.Asked.{Asked}
 use Rattle.seat_programs.specs.Asides.{Step, Found, ClaimId, PutCall, MakeId, StoreCall, LoadCall, StoreAt, LoadAt, LoadIdWord, LockId, PostId, UnlockId, EndId, FreeId, TakeCall, TakeBytes, Taking, Bytes}
 use Rattle.seat_programs.specs.Beside.{found_in, calls_after, call_at}
 use Rattle.seat_programs.specs.Cores.{Core, SeatState}
-use Rattle.seat_programs.specs.Posts.{packed, advance_of}
+use Rattle.seat_programs.specs.Posts.{packed}
 use Rattle.seat_programs.specs.Programs.{Program, TakeMessage, TakeHome, PutBytes, AskReady, Write, Aside, Round}
 use Rattle.seat_programs.specs.Rounds.{round, first_step}
 use Rattle.seat_programs.specs.Sends.{block}
 use Rattle.seat_programs.specs.Ticks.{Answer, OfPut, OfReady, Moment, taken, with_message, with_link, with_put, with_ready, with_found, step_with, tick_with, ticked}
 use Rattle.own_decisions.specs.Below.call_owing.proofs.EndsStill.{view_of}
-use Rattle.own_decisions.specs.Below.call_stories.specs.Lists.{advances_by, called_at, advanced_with, advanced_at}
+use Rattle.own_decisions.specs.Below.call_stories.specs.Lists.{advances_by, advanced_with, advanced_at}
 use Rattle.own_decisions.specs.accept_counts.specs.Counts.{word_of_id}
 use Rattle.own_decisions.specs.accept_counts.proofs.Words.{state_fits, small_first}
+use Rattle.sock_words.specs.Words.{bit}
+use Rattle.own_decisions.specs.Below.outcome_stories.specs.Facts.{called_at}
 
 -- the word of an id that lives, and what it was: its range is new, or its attempt is as it was, or one more; and what holds of a new one, and of one more
 pub data Rise (old new : Parts) (New More : Type 0) : Type 0 where
@@ -109,7 +111,7 @@ module _ (p : Plan) (q : IdPlan) (c : Core) (us : List IdView) (ids : SoundIds p
     finds : (step : Step) (t : Option Taking) (found : Found step) → found_in step c.calls t ≡ some found → MayId p q u step → FindsId p q u step found
     finds step t found is may = finds_ids p q c.calls ids.plan us ids.rule j u at (ids.real j u at) (ids.called, ids.placed) ids.homes step t found is may
 
-    few_more : (k from : ℕ) (advance : Bool) → MayId p q u (UnlockId k from advance) → ((parts from).attempt + advance_of advance ≤ 6) × ((parts from).state ≡ 2)
+    few_more : (k from : ℕ) (advance : Bool) → MayId p q u (UnlockId k from advance) → ((parts from).attempt + bit advance ≤ 6) × ((parts from).state ≡ 2)
     few_more k from advance may = let x = may.1 in let l = x.7 in let att = l.attempt_is in let rg = l.range_is in let room = x.8 in let eight : (parts from).range ≤ 8 = omega arith in (omega (arith, att, rg, room, eight), l.state_is)
 
     -- the call of a lock is at home

@@ -39,7 +39,6 @@ use Rattle.own_decisions.specs.Below.outcome_causes.proofs.Begin.{no_call}
 use Rattle.own_decisions.specs.Below.outcome_ticks.proofs.Ticks.{tick_story}
 use Rattle.own_decisions.specs.Below.label_runs.proofs.Operations.{OpCalls}
 use Rattle.seat_programs.specs.id_rule.specs.Lawful.{at_index}
-use Rattle.own_decisions.specs.Below.call_stories.specs.Lists.{shows_in}
 use Rattle.own_decisions.specs.Below.id_runs.proofs.Opening.{unused}
 use Rattle.own_decisions.specs.accept_counts.proofs.Beginnings.{all_begin}
 use Rattle.own_decisions.specs.accept_counts.specs.Counts.{AreLabelled}
@@ -49,6 +48,7 @@ use Rattle.own_decisions.specs.accept_counts.proofs.Runs.{AreLabelledIn, IsCallO
 use Rattle.attempted_calls.proofs.EndedTrails.{Trail, lost, Follows}
 use Rattle.attempted_calls.proofs.EndedPrograms.{client_goes, ending_goes, reader_goes}
 use Rattle.attempted_calls.proofs.EndedNames.{NameLaw, StoredFor, for_up, lost_true, resolves, moves, name_ticks, tick_loads}
+use Rattle.own_decisions.specs.Below.outcome_stories.specs.Facts.{shown_in}
 
 -- ## How a run begins
 
@@ -84,7 +84,7 @@ module _ (p : Plan) (q : IdPlan) (narrow : q.slots ≤ 65536) (is_call : Asked �
   pub record Behind (over : Bool) (before : List Event) (c : Core) (vs : List View) (ms : List Moment) : Type 0 where
     pub named : Named over (run p c ms) (views_along p c vs ms)
     pub up : (e : Event) → In e before → In e named.events
-    pub loads : (l : Load) → In l (shows_in loaded_at p c ms) → l.word ≢ 0 → StoredFor is_call seen named.events l.operation l.word
+    pub loads : (l : Load) → In l (shown_in loaded_at p c ms) → l.word ≢ 0 → StoredFor is_call seen named.events l.operation l.word
 
   joined : (over : Bool) (before between : List Event) (c : Core) (vs : List View) (m : Moment) (ms : List Moment) → ((e : Event) → In e before → In e between) → ((l : Load) → In l (loaded_at c m) → l.word ≢ 0 → StoredFor is_call seen before l.operation l.word)
       → Behind over between (ticked p c m) (views_after p c vs m) ms → Behind over before c vs (m ∷ ms)
@@ -93,26 +93,26 @@ module _ (p : Plan) (q : IdPlan) (narrow : q.slots ≤ 65536) (is_call : Asked �
     up = λ e there. r.up e (kept e there);
     loads = λ l there some_. ⊎_elim
         (λ a. for_up is_call seen before r.named.events (λ e there. r.up e (kept e there)) l.operation l.word (now l a some_))
-        (λ a. r.loads l a some_) (in_both (loaded_at c m) (shows_in loaded_at p (ticked p c m) ms) l there);
+        (λ a. r.loads l a some_) (in_both (loaded_at c m) (shown_in loaded_at p (ticked p c m) ms) l there);
   }
 
-  pub seats_named : RetriesGo p → (ms : List Moment) (c : Core) (vs : List View) → Sound p c vs → AreAnswered p c ms → AreFitting p c ms → AreLabelled ids p q c ms → ((x : Store) → In x (shows_in stored_at p c ms) → In x seen) → (t : Named true c vs) → Behind true t.events c vs ms
+  pub seats_named : RetriesGo p → (ms : List Moment) (c : Core) (vs : List View) → Sound p c vs → AreAnswered p c ms → AreFitting p c ms → AreLabelled ids p q c ms → ((x : Store) → In x (shown_in stored_at p c ms) → In x seen) → (t : Named true c vs) → Behind true t.events c vs ms
   seats_named go [] c vs sound answered fitting labelled stores t = record { named = t; up = λ e there. there; loads = λ l there. absurd there }
   seats_named go (m ∷ ms) c vs sound answered fitting labelled stores t = let g = tick_story p cs are true c vs t.events t.lost_links sound t.story m answered.0 (inl refl) in
-      let now = λ (x : Store) (there : In x (stored_at c m)). stores x (in_left (stored_at c m) (shows_in stored_at p (ticked p c m) ms) x there) in
+      let now = λ (x : Store) (there : In x (stored_at c m)). stores x (in_left (stored_at c m) (shown_in stored_at p (ticked p c m) ms) x there) in
       let n = name_ticks p q narrow is_call seen cs true c vs t.events g.events t.lost_links sound t.story g.kept t.trails t.law labelled.0.0 labelled.0.1 m answered.0 labelled.1 now in
       joined true t.events g.events c vs m ms g.kept (tick_loads p q narrow is_call seen cs true c vs t.events g.events t.lost_links sound t.story g.kept t.trails t.law labelled.0.0 labelled.0.1 m answered.0 labelled.1 now)
-      (seats_named go ms (ticked p c m) (views_after p c vs m) (sound_ticks p go c vs m sound answered.0 fitting.0) answered.1 fitting.1 labelled.3 (λ x there. stores x (in_right (stored_at c m) (shows_in stored_at p (ticked p c m) ms) x there))
+      (seats_named go ms (ticked p c m) (views_after p c vs m) (sound_ticks p go c vs m sound answered.0 fitting.0) answered.1 fitting.1 labelled.3 (λ x there. stores x (in_right (stored_at c m) (shown_in stored_at p (ticked p c m) ms) x there))
       (record { events = g.events; lost_links = g.lost; story = g.told; trails = n.0; law = n.1 }))
 
-  pub setup_named : RetriesGo p → (n : ℕ) (c : Core) (vs : List View) → Sound p c vs → AreAnswered p c (replicate n (quiet 0)) → AreFitting p c (replicate n (quiet 0)) → AreLabelled ids p q c (replicate n (quiet 0)) → ((x : Store) → In x (shows_in stored_at p c (replicate n (quiet 0))) → In x seen)
+  pub setup_named : RetriesGo p → (n : ℕ) (c : Core) (vs : List View) → Sound p c vs → AreAnswered p c (replicate n (quiet 0)) → AreFitting p c (replicate n (quiet 0)) → AreLabelled ids p q c (replicate n (quiet 0)) → ((x : Store) → In x (shown_in stored_at p c (replicate n (quiet 0))) → In x seen)
       → (t : Named false c vs) → ((e : Event) → In e t.events → e.client ≡ 0) → Behind false t.events c vs (replicate n (quiet 0))
   setup_named go zero c vs sound answered fitting labelled stores t alone = record { named = t; up = λ e there. there; loads = λ l there. absurd there }
   setup_named go (suc n) c vs sound answered fitting labelled stores t alone = let g = tick_story p cs are false c vs t.events t.lost_links sound t.story (quiet 0) answered.0 (inr (refl, alone)) in
-      let now = λ (x : Store) (there : In x (stored_at c (quiet 0))). stores x (in_left (stored_at c (quiet 0)) (shows_in stored_at p (ticked p c (quiet 0)) (replicate n (quiet 0))) x there) in
+      let now = λ (x : Store) (there : In x (stored_at c (quiet 0))). stores x (in_left (stored_at c (quiet 0)) (shown_in stored_at p (ticked p c (quiet 0)) (replicate n (quiet 0))) x there) in
       let n' = name_ticks p q narrow is_call seen cs false c vs t.events g.events t.lost_links sound t.story g.kept t.trails t.law labelled.0.0 labelled.0.1 (quiet 0) answered.0 labelled.1 now in
       joined false t.events g.events c vs (quiet 0) (replicate n (quiet 0)) g.kept (tick_loads p q narrow is_call seen cs false c vs t.events g.events t.lost_links sound t.story g.kept t.trails t.law labelled.0.0 labelled.0.1 (quiet 0) answered.0 labelled.1 now)
-      (setup_named go n (ticked p c (quiet 0)) (views_after p c vs (quiet 0)) (sound_ticks p go c vs (quiet 0) sound answered.0 fitting.0) answered.1 fitting.1 labelled.3 (λ x there. stores x (in_right (stored_at c (quiet 0)) (shows_in stored_at p (ticked p c (quiet 0)) (replicate n (quiet 0))) x there))
+      (setup_named go n (ticked p c (quiet 0)) (views_after p c vs (quiet 0)) (sound_ticks p go c vs (quiet 0) sound answered.0 fitting.0) answered.1 fitting.1 labelled.3 (λ x there. stores x (in_right (stored_at c (quiet 0)) (shown_in stored_at p (ticked p c (quiet 0)) (replicate n (quiet 0))) x there))
       (record { events = g.events; lost_links = g.lost; story = g.told; trails = n'.0; law = n'.1 })
       (λ e m. ⊎_elim (λ o. alone e o) (λ o. o.0) (g.fresh e m)))
 
@@ -231,9 +231,9 @@ module _ (script : List Item) (are : AreTasks (plan_of script) (all_tasks script
       (λ a. of_clients l (on setup_part.named.events over_part.named.events over_part.up l (setup_part.loads l a some_)))
       (λ b. ⊎_elim (λ a. of_played l (clients_part.loads l a some_))
       (λ b. ⊎_elim (λ a. of_closing l (closing_part.loads l a some_)) (λ a. final_part.loads l a some_)
-      (in_both (shows_in loaded_at (plan_of script) (closing_of script turns core is) (in_closing is)) (shows_in loaded_at (plan_of script) is.ended is.final) l b))
-      (in_both (shows_in loaded_at (plan_of script) (set_up script is.setup) (in_clients is)) (shows_in loaded_at (plan_of script) (closing_of script turns core is) (in_closing is) ++ shows_in loaded_at (plan_of script) is.ended is.final) l b))
-      (in_both (shows_in loaded_at (plan_of script) (opened script) (in_setup is)) (shows_in loaded_at (plan_of script) (set_up script is.setup) (in_clients is) ++ (shows_in loaded_at (plan_of script) (closing_of script turns core is) (in_closing is) ++ shows_in loaded_at (plan_of script) is.ended is.final)) l there)
+      (in_both (shown_in loaded_at (plan_of script) (closing_of script turns core is) (in_closing is)) (shown_in loaded_at (plan_of script) is.ended is.final) l b))
+      (in_both (shown_in loaded_at (plan_of script) (set_up script is.setup) (in_clients is)) (shown_in loaded_at (plan_of script) (closing_of script turns core is) (in_closing is) ++ shown_in loaded_at (plan_of script) is.ended is.final) l b))
+      (in_both (shown_in loaded_at (plan_of script) (opened script) (in_setup is)) (shown_in loaded_at (plan_of script) (set_up script is.setup) (in_clients is) ++ (shown_in loaded_at (plan_of script) (closing_of script turns core is) (in_closing is) ++ shown_in loaded_at (plan_of script) is.ended is.final)) l there)
 
   -- so it is as the run ends, and each at word that was loaded in it is known
   pub record EndNamed (c : Core) : Type 0 where

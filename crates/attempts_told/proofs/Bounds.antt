@@ -15,7 +15,7 @@ use Rattle.call_whys.specs.Below.CallTable.DecisionVariants as decisions
 use Rattle.seat_programs.specs.declared.task.Op.{Op}
 use Rattle.seat_programs.specs.declared.task.Task.{Task}
 use Rattle.corr_core.specs.Word.{Parts, parts}
-use Rattle.corr_core.specs.Law.{total, pair, is_attempt}
+use Rattle.corr_core.specs.Law.{pair, is_attempt}
 use Rattle.corr_core.specs.declared.marks.Note.{Note}
 use Rattle.corr_core.specs.declared.marks.Note.TheVariants.{Made, Ended, Locker, Queued, Attempt}
 use Rattle.corr_core.specs.declared.marks.Noted.{Noted}
@@ -52,6 +52,7 @@ use Rattle.call_whys.specs.call_places.proofs.Walks.{Walks, run_walk}
 use Rattle.call_whys.specs.call_places.proofs.Still.{advances, attempt_silent, advance_there}
 use Rattle.call_whys.specs.call_places.proofs.Own.{end_is}
 use Rattle.sock_words.specs.Words.{id_slot, id_first}
+use Rattle.sock_words.specs.Totals.{total}
 
 -- ## Words of locks
 

@@ -3,7 +3,7 @@ use Rattle.std.proofs.Common.{◌≡◌, ℕ, zero, suc, ◌+◌, ◌<◌, ◌�
 use Rattle.std.proofs.Math.Nat.{le-max_left, le-max_right}
 use mathlib.Core.Logic.{dite}
 use native.Mathlib.Decide.{ℕ_discrete, dec_lt}
-use Rattle.corr_core.specs.Law.{total, pair, is_advance, is_attempt}
+use Rattle.corr_core.specs.Law.{pair, is_advance, is_attempt}
 use Rattle.corr_core.specs.declared.marks.Note.{Note}
 use Rattle.corr_core.specs.declared.marks.Note.TheVariants.{Attempt}
 use Rattle.corr_core.specs.declared.marks.Noted.{Noted}
@@ -13,6 +13,7 @@ use Rattle.sock_message.specs.Asked.{Asked}
 use Rattle.call_whys.specs.call_told.specs.Least.{is_made_for}
 use Rattle.call_whys.specs.call_places.proofs.Weights.{term, each_less, all_zero, total_sum}
 use Rattle.attempts_told.specs.Attempts.{advanced_to, last_among}
+use Rattle.sock_words.specs.Totals.{total}
 
 attempt_is : (f n : ℕ) (y : Note Asked) → 0 < is_attempt f n y → y ≡ Attempt f n
 attempt_is f n (Attempt g m) h = dite (ℕ_discrete g f)

@@ -6,7 +6,6 @@ use Rattle.sock_words.specs.declared.socket_id.SocketId.{SocketId}
 use Rattle.sock_model.specs.declared.view.View as sock_view
 use Rattle.sock_io.specs.declared.link.Out.{Ghosts}
 use Rattle.sock_io.specs.Link.{InState}
-use Rattle.corr_core.specs.Law.{total}
 use Rattle.corr_core.specs.declared.marks.Plan.{Plan}
 use Rattle.corr_core.specs.declared.marks.View.{View}
 use Rattle.call_whys.specs.Below.RpcReader.Books.{Books}
@@ -17,6 +16,7 @@ use Rattle.call_whys.specs.call_places.proofs.Spans.{Spans, rest_reads, link_rea
 use Rattle.call_whys.specs.call_places.proofs.Still.{advances}
 use Rattle.call_whys.specs.call_told.proofs.Readers.{AllRead, link_read}
 use Rattle.attempts_told.proofs.Bounds.{Unmoved, unmoved_then, unmoved_noted, unmoved_quiet, unmoved_got, unmoved_ended, unmoved_post}
+use Rattle.sock_words.specs.Totals.{total}
 
 unmoved_reads : Spans Unmoved
 unmoved_reads = record { in_turn = unmoved_then; noted = unmoved_noted; looks = unmoved_quiet; locks = λ i v w word. unmoved_got i word v w; posts = unmoved_post; ends = λ i f n. unmoved_ended {n = n} i f }

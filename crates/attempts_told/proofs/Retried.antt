@@ -14,7 +14,7 @@ use Rattle.sock_words.specs.declared.outcome.Outcome.{Outcome}
 use Rattle.seat_programs.specs.declared.task.Op.{Op}
 use Rattle.seat_programs.specs.declared.task.Task.{Task}
 use Rattle.corr_core.specs.Word.{Parts, parts}
-use Rattle.corr_core.specs.Law.{total, is_attempt, is_ended}
+use Rattle.corr_core.specs.Law.{is_attempt, is_ended}
 use Rattle.corr_core.specs.declared.marks.Note.{Note}
 use Rattle.corr_core.specs.declared.marks.Note.TheVariants.{Made, Ended, Attempt}
 use Rattle.corr_core.specs.declared.marks.Noted.{Noted}
@@ -54,6 +54,7 @@ use Rattle.call_whys.specs.call_places.proofs.Ids.{version_low}
 use Rattle.call_whys.specs.call_places.proofs.Own.{end_is}
 use Rattle.attempts_told.proofs.Bounds.{Unmoved, unmoved_then, unmoved_noted, unmoved_quiet, unmoved_got, unmoved_ended, unmoved_post, advance_none}
 use Rattle.sock_words.specs.Words.{id_slot, id_first}
+use Rattle.sock_words.specs.Totals.{total}
 
 -- ## Counts
 

@@ -11,7 +11,7 @@ use Rattle.sock_words.specs.declared.place_word.PlaceWord.{PlaceWord}
 use Rattle.sock_words.specs.declared.vref.Vref.{Vref}
 use Rattle.seat_programs.specs.declared.task.Task.{Task}
 use Rattle.corr_core.specs.Word.{Parts, parts}
-use Rattle.corr_core.specs.Law.{total, is_attempt, is_advance, is_ended}
+use Rattle.corr_core.specs.Law.{is_attempt, is_advance, is_ended}
 use Rattle.corr_core.specs.declared.marks.Note.{Note}
 use Rattle.corr_core.specs.declared.marks.Note.TheVariants.{Made, Attempt}
 use Rattle.corr_core.specs.declared.marks.Noted.{Noted}
@@ -40,6 +40,7 @@ use Rattle.call_whys.specs.call_places.proofs.Places.{all, noted_among, views_ar
 use Rattle.call_whys.specs.call_places.specs.sock_deeds.proofs.Places.{map_back}
 use Rattle.attempts_told.proofs.Retried.{Moves, decided_moves, Founded, taken_out, all_founded}
 use Rattle.sock_words.specs.Words.{id_slot, id_first}
+use Rattle.sock_words.specs.Totals.{total}
 
 -- a retry that counts as one of this attempt of the call with this id
 retry_is : (id n : ℕ) (r : Retry) → 0 < is_retry id n r → (r.id ≡ id) × (r.attempt ≡ n)

@@ -20,7 +20,7 @@ use Rattle.seat_programs.specs.declared.task.Op.{Op}
 use Rattle.seat_programs.specs.declared.task.Op.TheVariants as ops
 use Rattle.seat_programs.specs.declared.task.Task.{Task}
 use Rattle.seat_programs.specs.ToldCalls.{Accepted}
-use Rattle.corr_core.specs.Law.{total, is_attempt}
+use Rattle.corr_core.specs.Law.{is_attempt}
 use Rattle.corr_core.specs.declared.marks.Note.{Note}
 use Rattle.corr_core.specs.declared.marks.Note.TheVariants.{Made}
 use Rattle.corr_core.specs.declared.marks.Noted.{Noted}
@@ -63,6 +63,7 @@ use Rattle.call_whys.specs.call_places.specs.sock_deeds.proofs.Places.{to_slice,
 use Rattle.call_whys.specs.call_places.specs.script_facts.proofs.Lists.{contains_from}
 use Rattle.attempts_told.proofs.Bounds.{attempted_grows, acted_grows}
 use Rattle.sock_words.specs.Words.{id_slot, id_first}
+use Rattle.sock_words.specs.Totals.{total}
 
 -- ## Frames
 

@@ -21,7 +21,7 @@ use Rattle.seat_programs.specs.Cores.{Core}
 use Rattle.seat_programs.specs.Told.{IsTask, Became}
 use Rattle.seat_programs.specs.ToldCalls.{Accepted, Order, Fixed, StandsAt, IsSent, OfCall}
 use Rattle.corr_core.specs.Word.{parts}
-use Rattle.corr_core.specs.Law.{total, is_made, is_attempt}
+use Rattle.corr_core.specs.Law.{is_made, is_attempt}
 use Rattle.corr_core.specs.declared.marks.Kept.{Kept}
 use Rattle.corr_core.specs.declared.marks.Note.{Note}
 use Rattle.corr_core.specs.declared.marks.Note.TheVariants.{Made}
@@ -53,6 +53,7 @@ use Rattle.attempts_told.proofs.Bounds.{IsBounded, all_bounded}
 use Rattle.attempts_told.proofs.Last.{none_further, one_reached, few_advances}
 use Rattle.attempts_told.proofs.Senders.{made_for_there, IsOwnAttempt, SentBy, of_send, of_call, sent_by}
 use Rattle.sock_words.specs.Words.{id_slot, id_first}
+use Rattle.sock_words.specs.Totals.{total}
 
 -- ## Parts
 

@@ -3,7 +3,6 @@ use Rattle.std.specs.Prelude.{ℕ, ◌≡◌, ◌+◌, ◌<◌, ◌≤◌, ◌==
 use Rattle.std.specs.List.{AllByRecursion}
 use Rattle.sock_words.specs.declared.outcome.Outcome.{Outcome}
 use Rattle.sock_words.specs.declared.plain.Plan.{Plan}
-use Rattle.corr_core.specs.Law.{total}
 use Rattle.corr_core.specs.declared.marks.Note.{Note}
 use Rattle.corr_core.specs.declared.marks.Note.TheVariants.{Attempt}
 use Rattle.corr_core.specs.declared.marks.Noted.{Noted}
@@ -14,6 +13,7 @@ use Rattle.seat_programs.specs.declared.task.Task.{Task}
 use Rattle.seat_programs.specs.Told.{IsTask}
 use Rattle.seat_programs.specs.ToldCalls.{Order, Fixed, IsSent}
 use Rattle.call_whys.specs.call_told.specs.Least.{is_made_for}
+use Rattle.sock_words.specs.Totals.{total}
 
 -- ## The last attempt
 

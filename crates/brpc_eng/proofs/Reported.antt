@@ -23,6 +23,7 @@ use Rattle.seat_programs.specs.Tasks.{plan_of}
 use Rattle.seat_programs.specs.ToldCalls.{Fixed}
 use Rattle.script_threads.specs.script_parts.specs.script_facts.proofs.Lists.{within, has_from, has_none}
 use Rattle.script_threads.specs.script_parts.specs.report_fits.proofs.Places.{lateness}
+use Rattle.calls_over.specs.Below.call_stories.specs.Lists.{gave_in}
 use Rattle.calls_over.specs.Below.run_theorems.specs.Heard.{as_told, as_taken, take_answers, heard_of, heard_takes}
 use Rattle.calls_over.specs.Below.run_theorems.specs.Unserved.{IsInTime}
 use Rattle.calls_over.specs.Below.run_theorems.proofs.HeardRuns.{one_text_told}
@@ -35,7 +36,7 @@ use Rattle.calls_over.specs.served_fits.specs.Shown.{AreSo, TellTook}
 use Rattle.calls_over.proofs.Over.{calls_over}
 use Rattle.calls_over.specs.served_fits.proofs.Served.{serves_fits}
 use Rattle.offered_runs.proofs.Runs.{offers_in_run}
-use Rattle.script_run.specs.Causes.{HasCauses, gave_in}
+use Rattle.script_run.specs.Causes.{HasCauses}
 use Rattle.sock_io.specs.declared.link.Mode.{Mode}
 use Rattle.script_links.specs.Given.{AreNumbered, IsBeginning, specs_of}
 use Rattle.script_run.specs.Played.{IsWholeRun, IsRunText, IsRunSummary}

@@ -5,7 +5,7 @@ use Rattle.sock_io.specs.Link.{OutState}
 use Rattle.sock_words.specs.declared.plain.Plan.{Plan}
 use Rattle.sock_words.specs.declared.socket_id.SocketId.{SocketId}
 use Rattle.sock_table.specs.Named.{Found}
-use Rattle.corr_core.specs.Law.{total, is_tried}
+use Rattle.corr_core.specs.Law.{is_tried}
 use Rattle.corr_core.specs.declared.marks.Plan as id_plan
 use Rattle.corr_core.specs.declared.marks.View as id_view
 use Rattle.id_rule.specs.Lawful.{call_index, notes_of, with_kept}
@@ -17,6 +17,7 @@ use Rattle.call_attempts.specs.declared.calling.Called.TheVariants.{Unopened, No
 use Rattle.call_attempts.specs.Both.{Both, wanting}
 use Rattle.call_attempts.specs.Letters.{letter_for}
 use Rattle.call_attempts.specs.Attempting.{AttemptedBy}
+use Rattle.sock_words.specs.Totals.{total}
 
 module _ {O : Type 0} (state : O → OutState) (p : Plan) (q : id_plan.Plan) (asked : Asked) where
   -- the first name's word was read, and nothing else was done

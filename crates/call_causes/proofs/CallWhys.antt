@@ -14,7 +14,7 @@ use Rattle.seat_programs.specs.declared.task.Op.TheVariants as ops
 use Rattle.seat_programs.specs.declared.task.Task.{Task}
 use Rattle.seat_programs.specs.Told.{IsTask, Became, OpensNone}
 use Rattle.seat_programs.specs.ToldCalls.{Fixed, Order, FoundNone, Seeks, IsExpiredWith}
-use Rattle.story_ticks.specs.call_stories.specs.Lists.{given, times}
+use Rattle.story_ticks.specs.call_stories.specs.Lists.{gave_in, times}
 use Rattle.story_ticks.specs.call_stories.specs.Target.{IsOnCalls, FailedInPart, ByExpiry, ByCompression, ByFrameFault, ByFail, ByReading, BySocketOrRequests, WhyCallInPart, WhyInPart}
 use Rattle.story_ticks.specs.call_stories.specs.Scenes.{Scene, IsOther, IsOpened, SeeksName, IsTaskOf, HasNoneOf, NoneFound, FailedIn, by_expiry, by_compression, by_other, WhyEnded, WhyOwn, ToldOf, was_said, was_sent, was_begun}
 use Rattle.story_ticks.specs.call_stories.specs.Says.{Mark}
@@ -45,7 +45,7 @@ module _ (p : Plan) (q : IdPlan) (clients : List (List Task)) (gives : ℕ → L
       by_told d (was_begun id a call own born begun named) = let x = ended_call p q clients gives w ms e (record { id = id; asked = a }) born in
           absurd (subst (WhyEnded p q clients gives w (record { id = id; asked = a })) (one_outcome p q clients gives w ms e a.operation x.0 outcomes.Unopened x.1 (subst (λ o. Became clients w.core.outcomes o outcomes.Unopened) own has)) x.2)
 
-module _ (p : Plan) (q : IdPlan) (clients : List (List Task)) (gives : ℕ → List ℕ) (ascending : (c : ℕ) → AreAscending (get_or clients c [])) (w : Scene) (ms : List Mark) (e : HasEnded p q clients gives w ms) (fixed : Fixed) (orders : ℕ → Order) (as_given : (k : ℕ) → given w.core k ≡ gives k) (last : ℕ → ℕ) (counts : (o : ℕ) → times o w.advances ≡ last o) where
+module _ (p : Plan) (q : IdPlan) (clients : List (List Task)) (gives : ℕ → List ℕ) (ascending : (c : ℕ) → AreAscending (get_or clients c [])) (w : Scene) (ms : List Mark) (e : HasEnded p q clients gives w ms) (fixed : Fixed) (orders : ℕ → Order) (as_given : (k : ℕ) → gave_in w.core k ≡ gives k) (last : ℕ → ℕ) (counts : (o : ℕ) → times o w.advances ≡ last o) where
   abbrev os : List (Option Outcome)
   os = w.core.outcomes
 
@@ -55,23 +55,23 @@ module _ (p : Plan) (q : IdPlan) (clients : List (List Task)) (gives : ℕ → L
   opens_none : (n : ℕ) (t : Task) → HasNoneOf p q clients gives w n t → OpensNone clients w.core.outcomes n t
   opens_none n t h k slot version op became = let x = h k op in x.2 (subst IsOpened (one_outcome p q clients gives w ms e t.number (outcomes.Opened slot version k) x.0 became (e.tasks.said t.number x.0 x.1)) tt)
 
-  seeks : (n : ℕ) (op : Op) → Seeks p clients w.core.outcomes fixed (given w.core) orders n op → SeeksName n op
+  seeks : (n : ℕ) (op : Op) → Seeks p clients w.core.outcomes fixed (gave_in w.core) orders n op → SeeksName n op
   seeks n (ops.Open m k) s = absurd s
   seeks n (ops.Expire t) s = absurd s
   seeks n (ops.Join t) s = absurd s
   seeks n (ops.Drop m) s = absurd s
   seeks n _ s = s
 
-  found_none : (c : ℕ) (t : Task) (d : IsDone p q clients gives ascending w ms e c t) (n : ℕ) → NoneFound p q clients gives w d.before n → FoundNone p clients w.core.outcomes fixed (given w.core) orders c t.number n
+  found_none : (c : ℕ) (t : Task) (d : IsDone p q clients gives ascending w ms e c t) (n : ℕ) → NoneFound p q clients gives w d.before n → FoundNone p clients w.core.outcomes fixed (gave_in w.core) orders c t.number n
   found_none c t d n f = record {
     setup = λ u is. opens_none n u (f.setup u (is_task 0 u is));
     own = λ u is low. let x = f.own u (d.all u is low) in (opens_none n u x.0, (λ s. e.tasks.said u.number outcomes.Unopened (x.1 (seeks n u.op s))));
   }
 
-  pub expired_with : (asked : Asked) (o : ℕ) (x : Outcome) (client : ℕ) (t : Task) → o ≡ asked.operation → IsTaskOf p q clients gives client t → t.op ≡ ops.Expire asked.operation → In (record { number = t.number; outcome = x }) w.sayings → IsExpiredWith p clients w.core.outcomes fixed (given w.core) orders o x
+  pub expired_with : (asked : Asked) (o : ℕ) (x : Outcome) (client : ℕ) (t : Task) → o ≡ asked.operation → IsTaskOf p q clients gives client t → t.op ≡ ops.Expire asked.operation → In (record { number = t.number; outcome = x }) w.sayings → IsExpiredWith p clients w.core.outcomes fixed (gave_in w.core) orders o x
   expired_with asked o x client t own is op said = (client, t, (is.0, is.1, in_contains is.0 t is.2), op ∙ ap (λ n. ops.Expire n) (sym own), e.tasks.said t.number x said)
 
-  other_by : (asked : Asked) (o id code : ℕ) → o ≡ asked.operation → IsOther p q clients gives code → (is_final code ≡ true) ⊎ (last o + 2 ≡ asked.range) → FailedInPart p clients w.core.outcomes fixed (given w.core) orders last o asked id code
+  other_by : (asked : Asked) (o id code : ℕ) → o ≡ asked.operation → IsOther p q clients gives code → (is_final code ≡ true) ⊎ (last o + 2 ≡ asked.range) → FailedInPart p clients w.core.outcomes fixed (gave_in w.core) orders last o asked id code
   other_by asked o id code own other by_last = by_code other
     where
       -- a code that isn't final is that of the last attempt that might be
@@ -84,7 +84,7 @@ module _ (p : Plan) (q : IdPlan) (clients : List (List Task)) (gives : ℕ → L
       one_of : (n : ℕ) → is_final n ≡ true → (n ≡ 1008) ⊎ ((n ≡ 1014) ⊎ ((n ≡ 2001) ⊎ (n ≡ 2002)))
       one_of n final = ⊎_elim (λ a. inl (eqb-true n 1008 a)) (λ a. inr (⊎_elim (λ b. inl (eqb-true n 1014 b)) (λ b. inr (⊎_elim (λ c. inl (eqb-true n 2001 c)) (λ c. inr (eqb-true n 2002 c)) (or_cases (eqb n 2001) (eqb n 2002) b))) (or_cases (eqb n 1014) (eqb n 2001 || eqb n 2002) a))) (or_cases (eqb n 1008) (eqb n 1014 || (eqb n 2001 || eqb n 2002)) final)
 
-      by_code : IsOther p q clients gives code → FailedInPart p clients w.core.outcomes fixed (given w.core) orders last o asked id code
+      by_code : IsOther p q clients gives code → FailedInPart p clients w.core.outcomes fixed (gave_in w.core) orders last o asked id code
       by_code (inl is) = BySocketOrRequests (used (not_final 1009 refl is)) (in_contains (1009 ∷ 3001 ∷ []) code (inl is))
       by_code (inr (inl is)) = ByReading is
       by_code (inr (inr (inl is))) = ByFrameFault is.0 is.1.0 is.1.1 (subst HasFault (sym (as_given is.1.0)) is.1.2)
@@ -92,27 +92,27 @@ module _ (p : Plan) (q : IdPlan) (clients : List (List Task)) (gives : ℕ → L
       by_code (inr (inr (inr (inr is)))) = let low = is.0 in let high = is.1 in let f = is.2 in let t = f.3 in
           ByFail (used (λ final. ⊎_elim (λ a. omega (arith, low, a)) (⊎_elim (λ a. omega (arith, low, a)) (⊎_elim (λ a. omega (arith, high, a)) (λ a. omega (arith, high, a)))) (one_of code final))) is.0 is.1 f.0 f.1 f.2 (t.0, t.1, in_contains t.0 f.1 t.2) f.4
 
-  failed_by : (asked : Asked) (o id code : ℕ) → o ≡ asked.operation → FailedIn p q clients gives w id asked code → FailedInPart p clients w.core.outcomes fixed (given w.core) orders last o asked id code
+  failed_by : (asked : Asked) (o id code : ℕ) → o ≡ asked.operation → FailedIn p q clients gives w id asked code → FailedInPart p clients w.core.outcomes fixed (gave_in w.core) orders last o asked id code
   failed_by asked o id code own (by_expiry is x) = ByExpiry is (⊎_elim (λ s. inl (expired_with asked o outcomes.Expired x.0 x.1 own x.2 x.3 s)) (λ s. inr (expired_with asked o outcomes.Queued x.0 x.1 own x.2 x.3 s)) x.4)
   failed_by asked o id code own (by_compression is x) = ByCompression is (answered p q clients gives w ms e fixed orders id asked (λ frame. frame.meta.compress_type ≢ pos 0) x)
   failed_by asked o id code own (by_other n x there ended by_last on) = other_by asked o id code own x (⊎_elim (λ final. inl final) (λ u. inr (ap (λ k. k + 2) (ap last own ∙ (sym (counts asked.operation) ∙ ended.2)) ∙ u)) by_last)
 
-  ended_by : (c o id : ℕ) (asked : Asked) (x : Outcome) → o ≡ asked.operation → WhyEnded p q clients gives w (record { id = id; asked = asked }) x → WhyCallInPart p clients w.core.outcomes fixed (given w.core) orders last c o asked x
-  ended_by c o id asked (outcomes.Answered i payload attachment) own why = subst (λ n. WhyCallInPart p clients w.core.outcomes fixed (given w.core) orders last c o asked (outcomes.Answered n payload attachment)) (sym why.0)
+  ended_by : (c o id : ℕ) (asked : Asked) (x : Outcome) → o ≡ asked.operation → WhyEnded p q clients gives w (record { id = id; asked = asked }) x → WhyCallInPart p clients w.core.outcomes fixed (gave_in w.core) orders last c o asked x
+  ended_by c o id asked (outcomes.Answered i payload attachment) own why = subst (λ n. WhyCallInPart p clients w.core.outcomes fixed (gave_in w.core) orders last c o asked (outcomes.Answered n payload attachment)) (sym why.0)
       (answered p q clients gives w ms e fixed orders id asked (λ (frame : Frame). HasCode (pos 0) frame × (frame.payload ≡ payload) × (frame.attachment ≡ attachment)) why.1)
-  ended_by c o id asked (outcomes.Peer i code) own why = subst (λ n. WhyCallInPart p clients w.core.outcomes fixed (given w.core) orders last c o asked (outcomes.Peer n code)) (sym why.0) (answered p q clients gives w ms e fixed orders id asked (HasCode code) why.1, why.2)
-  ended_by c o id asked (outcomes.CallFailed i code) own why = subst (λ n. FailedInPart p clients w.core.outcomes fixed (given w.core) orders last o asked n code) (sym why.0) (failed_by asked o id code own why.1)
+  ended_by c o id asked (outcomes.Peer i code) own why = subst (λ n. WhyCallInPart p clients w.core.outcomes fixed (gave_in w.core) orders last c o asked (outcomes.Peer n code)) (sym why.0) (answered p q clients gives w ms e fixed orders id asked (HasCode code) why.1, why.2)
+  ended_by c o id asked (outcomes.CallFailed i code) own why = subst (λ n. FailedInPart p clients w.core.outcomes fixed (gave_in w.core) orders last o asked n code) (sym why.0) (failed_by asked o id code own why.1)
   ended_by c o id asked _ own why = absurd why
 
-  own_by : (c : ℕ) (t : Task) (d : IsDone p q clients gives ascending w ms e c t) (asked : Asked) (x : Outcome) → WhyOwn p q clients gives w c d.before (ops.Call asked) x → WhyCallInPart p clients w.core.outcomes fixed (given w.core) orders last c t.number asked x
+  own_by : (c : ℕ) (t : Task) (d : IsDone p q clients gives ascending w ms e c t) (asked : Asked) (x : Outcome) → WhyOwn p q clients gives w c d.before (ops.Call asked) x → WhyCallInPart p clients w.core.outcomes fixed (gave_in w.core) orders last c t.number asked x
   own_by c t d asked outcomes.Unopened why = found_none c t d (name_of asked 0) why
   own_by c t d asked _ why = absurd why
 
   -- why each call has its outcome
-  pub why_call : (c : ℕ) (t : Task) (asked : Asked) (x : Outcome) → IsTask clients w.core.outcomes c t → t.op ≡ ops.Call asked → Became clients w.core.outcomes t.number x → WhyCallInPart p clients w.core.outcomes fixed (given w.core) orders last c t.number asked x
+  pub why_call : (c : ℕ) (t : Task) (asked : Asked) (x : Outcome) → IsTask clients w.core.outcomes c t → t.op ≡ ops.Call asked → Became clients w.core.outcomes t.number x → WhyCallInPart p clients w.core.outcomes fixed (gave_in w.core) orders last c t.number asked x
   why_call c t asked x is op has = let d = is_done p q clients gives ascending w ms e c t is in by_told d d.told
     where
-      by_told : (d : IsDone p q clients gives ascending w ms e c t) → ToldOf p q clients gives w c d.before t → WhyCallInPart p clients w.core.outcomes fixed (given w.core) orders last c t.number asked x
+      by_told : (d : IsDone p q clients gives ascending w ms e c t) → ToldOf p q clients gives w c d.before t → WhyCallInPart p clients w.core.outcomes fixed (gave_in w.core) orders last c t.number asked x
       by_told d (was_said y s why just) = own_by c t d asked x (subst (λ o. WhyOwn p q clients gives w c d.before o x) op (subst (WhyOwn p q clients gives w c d.before t.op) (one_outcome p q clients gives w ms e t.number y x (e.tasks.said t.number y s) has) why))
       by_told d (was_sent n bytes sent named) = absurd (let z : ops.Send n bytes ≡ ops.Call asked = sym sent ∙ op in cc)
       by_told d (was_begun id a call own born begun named) = ⊎_elim
@@ -121,21 +121,21 @@ module _ (p : Plan) (q : IdPlan) (clients : List (List Task)) (gives : ℕ → L
           (call_of p q clients gives w ms e c t asked x is op has)
         where
           -- of a call that had an id nothing else is said
-          own_call : (before : List Task) → WhyOwn p q clients gives w c before (ops.Call asked) x → WhyCallInPart p clients w.core.outcomes fixed (given w.core) orders last c t.number asked x
+          own_call : (before : List Task) → WhyOwn p q clients gives w c before (ops.Call asked) x → WhyCallInPart p clients w.core.outcomes fixed (gave_in w.core) orders last c t.number asked x
           own_call before why = by_outcome x why has
             where
               ends : (y : Outcome) × Became clients w.core.outcomes a.operation y × WhyEnded p q clients gives w (record { id = id; asked = a }) y
               ends = Rattle.story_ticks.specs.story_steps.proofs.End.ended_call p q clients gives w ms e (record { id = id; asked = a }) born
 
-              by_outcome : (y : Outcome) → WhyOwn p q clients gives w c before (ops.Call asked) y → Became clients w.core.outcomes t.number y → WhyCallInPart p clients w.core.outcomes fixed (given w.core) orders last c t.number asked x
+              by_outcome : (y : Outcome) → WhyOwn p q clients gives w c before (ops.Call asked) y → Became clients w.core.outcomes t.number y → WhyCallInPart p clients w.core.outcomes fixed (gave_in w.core) orders last c t.number asked x
               by_outcome outcomes.Unopened why has = absurd (subst (WhyEnded p q clients gives w (record { id = id; asked = a })) (one_outcome p q clients gives w ms e a.operation ends.0 outcomes.Unopened ends.1 (subst (λ o. Became clients w.core.outcomes o outcomes.Unopened) own has)) ends.2)
               by_outcome _ why has = absurd why
 
   -- why each task on calls has its outcome
-  pub why : (c : ℕ) (t : Task) (x : Outcome) → IsTask clients w.core.outcomes c t → IsOnCalls t.op → Became clients w.core.outcomes t.number x → WhyInPart p clients w.core.outcomes fixed (given w.core) orders last c t.number t.op x
+  pub why : (c : ℕ) (t : Task) (x : Outcome) → IsTask clients w.core.outcomes c t → IsOnCalls t.op → Became clients w.core.outcomes t.number x → WhyInPart p clients w.core.outcomes fixed (gave_in w.core) orders last c t.number t.op x
   why c t x is on has = by_op t.op refl on
     where
-      by_op : (op : Op) → t.op ≡ op → IsOnCalls op → WhyInPart p clients w.core.outcomes fixed (given w.core) orders last c t.number op x
+      by_op : (op : Op) → t.op ≡ op → IsOnCalls op → WhyInPart p clients w.core.outcomes fixed (gave_in w.core) orders last c t.number op x
       by_op (ops.Call asked) e on = why_call c t asked x is e has
       by_op (ops.Expire o) op on = why_expire p q clients gives ascending w ms e fixed orders last c t is o x op has
       by_op (ops.Join o) op on = why_join p q clients gives ascending w ms e fixed orders last c t is o x op has

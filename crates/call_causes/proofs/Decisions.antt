@@ -21,7 +21,7 @@ use Rattle.story_ticks.specs.Below.joint_runs.proofs.Runs.{AreMade}
 use Rattle.story_ticks.specs.Below.call_owing.specs.Below.script_facts.proofs.Reading.{InRange}
 use Rattle.story_ticks.specs.Below.call_owing.specs.Below.script_facts.proofs.Targets.{AreThere}
 use Rattle.story_ticks.specs.Below.call_owing.specs.Lives.{ClosesInRun}
-use Rattle.story_ticks.specs.call_stories.specs.Lists.{given, times, shows_in, shows_in_run, attempts_of_run}
+use Rattle.story_ticks.specs.call_stories.specs.Lists.{gave_in, times, attempts_of_run}
 use Rattle.story_ticks.specs.call_stories.specs.Posts.{Post, posts_of_run}
 use Rattle.story_ticks.specs.call_stories.specs.Decided.{Decision, decided_at, decided_by}
 use Rattle.story_ticks.specs.call_stories.specs.Target.{FailedByDecision}
@@ -35,14 +35,15 @@ use Rattle.story_ticks.proofs.Scripts.{are_ascending}
 use Rattle.call_causes.proofs.Run.{in_either}
 use Rattle.call_causes.proofs.Whole.{run_has_story, run_attempts, run_posted, run_decided, run_has_ended}
 use Rattle.story_ticks.specs.Below.outcome_stories.specs.Stories.{In}
+use Rattle.story_ticks.specs.Below.outcome_stories.specs.Facts.{shown_in, shown_in_run}
 
 module _ (p : Plan) (q : IdPlan) (clients : List (List Task)) (gives : ℕ → List ℕ) (w : Scene) (ms : List Mark) (e : HasEnded p q clients gives w ms) (fixed : Fixed) (orders : ℕ → Order) (last : ℕ → ℕ) (counts : (o : ℕ) → times o w.advances ≡ last o) (posts : List Post) (posted : (id error : ℕ) → WasPosted w id error → In (record { id = id; error = error }) posts)
-    (decided : ℕ → List Decision) (by_seat : (d : Decision) → In d w.decisions → (j : ℕ) × In d (decided j)) (ascending : (c : ℕ) → AreAscending (get_or clients c [])) (as_given : (k : ℕ) → given w.core k ≡ gives k) where
+    (decided : ℕ → List Decision) (by_seat : (d : Decision) → In d w.decisions → (j : ℕ) × In d (decided j)) (ascending : (c : ℕ) → AreAscending (get_or clients c [])) (as_given : (k : ℕ) → gave_in w.core k ≡ gives k) where
   -- a call failed by an `expire`, by a compressed response, or by an error that was posted for its last attempt, on which a seat decided
-  failed_by : (c : ℕ) (t : Task) (asked : Asked) (id code : ℕ) → IsTask clients w.core.outcomes c t → t.op ≡ ops.Call asked → Became clients w.core.outcomes t.number (outcomes.CallFailed id code) → FailedByDecision p clients w.core.outcomes fixed (given w.core) orders last posts decided t.number asked id code
+  failed_by : (c : ℕ) (t : Task) (asked : Asked) (id code : ℕ) → IsTask clients w.core.outcomes c t → t.op ≡ ops.Call asked → Became clients w.core.outcomes t.number (outcomes.CallFailed id code) → FailedByDecision p clients w.core.outcomes fixed (gave_in w.core) orders last posts decided t.number asked id code
   failed_by c t asked id code is op has = ⊎_elim (λ own. absurd own.1) (λ x. by_cause x.0 x.2.0 x.3 x.2.1) (call_of p q clients gives w ms e c t asked (outcomes.CallFailed id code) is op has)
     where
-      by_cause : (i : ℕ) → id ≡ i → t.number ≡ asked.operation → FailedIn p q clients gives w i asked code → FailedByDecision p clients w.core.outcomes fixed (given w.core) orders last posts decided t.number asked id code
+      by_cause : (i : ℕ) → id ≡ i → t.number ≡ asked.operation → FailedIn p q clients gives w i asked code → FailedByDecision p clients w.core.outcomes fixed (gave_in w.core) orders last posts decided t.number asked id code
       by_cause i same own (by_expiry is x) = inl (
         is,
         ⊎_elim
@@ -63,28 +64,28 @@ module _ (p : Plan) (q : IdPlan) (clients : List (List Task)) (gives : ℕ → L
 -- ## Who decides
 
 -- of each decision in ticks some seat made it
-seat_decides : (p : Plan) (ms : List Moment) (c : Core) (d : Decision) → In d (shows_in decided_at p c ms) → (j : ℕ) × In d (shows_in (decided_by j) p c ms)
+seat_decides : (p : Plan) (ms : List Moment) (c : Core) (d : Decision) → In d (shown_in decided_at p c ms) → (j : ℕ) × In d (shown_in (decided_by j) p c ms)
 seat_decides p [] c d there = absurd there
 seat_decides p (m ∷ ms) c d there = ⊎_elim
-    (λ now. (m.seat, in_front d (decided_by m.seat c m) (shows_in (decided_by m.seat) p (ticked p c m) ms) (subst (λ b. In d (cond b (decided_at c m) [])) (sym (eq-eqb m.seat m.seat refl)) now)))
-    (λ later. let x = seat_decides p ms (ticked p c m) d later in (x.0, in_behind d (decided_by x.0 c m) (shows_in (decided_by x.0) p (ticked p c m) ms) x.1))
-    (in_either d (decided_at c m) (shows_in decided_at p (ticked p c m) ms) there)
+    (λ now. (m.seat, in_front d (decided_by m.seat c m) (shown_in (decided_by m.seat) p (ticked p c m) ms) (subst (λ b. In d (cond b (decided_at c m) [])) (sym (eq-eqb m.seat m.seat refl)) now)))
+    (λ later. let x = seat_decides p ms (ticked p c m) d later in (x.0, in_behind d (decided_by x.0 c m) (shown_in (decided_by x.0) p (ticked p c m) ms) x.1))
+    (in_either d (decided_at c m) (shown_in decided_at p (ticked p c m) ms) there)
 
 module _ (script : List Item) (turns : List Turn) (core : Core) (is : IsRunWithCalls script turns core) where
   -- what the parts of the run show
   abbrev in_setup : {A : Type 0} → (Core → Moment → List A) → List A
-  in_setup show = shows_in show (plan_of script) (opened script) (replicate is.setup (quiet 0))
+  in_setup show = shown_in show (plan_of script) (opened script) (replicate is.setup (quiet 0))
 
   abbrev in_clients : {A : Type 0} → (Core → Moment → List A) → List A
-  in_clients show = shows_in show (plan_of script) (set_up script is.setup) (is.scheduled ++ is.later)
+  in_clients show = shown_in show (plan_of script) (set_up script is.setup) (is.scheduled ++ is.later)
 
   abbrev in_closing : {A : Type 0} → (Core → Moment → List A) → List A
-  in_closing show = shows_in show (plan_of script) (ending script (played script is.setup (is.scheduled ++ is.later))) (replicate is.last (quiet 0))
+  in_closing show = shown_in show (plan_of script) (ending script (played script is.setup (is.scheduled ++ is.later))) (replicate is.last (quiet 0))
 
   abbrev in_final : {A : Type 0} → (Core → Moment → List A) → List A
-  in_final show = shows_in show (plan_of script) is.ended is.final
+  in_final show = shown_in show (plan_of script) is.ended is.final
 
-  pub seat_decides_in_run : (d : Decision) → In d (shows_in_run script turns core is decided_at) → (j : ℕ) × In d (shows_in_run script turns core is (decided_by j))
+  pub seat_decides_in_run : (d : Decision) → In d (shown_in_run script turns core is decided_at) → (j : ℕ) × In d (shown_in_run script turns core is (decided_by j))
   seat_decides_in_run d there = ⊎_elim
       (λ a. let x = seat_decides (plan_of script) (replicate is.setup (quiet 0)) (opened script) d a in (x.0, in_front d (in_setup (decided_by x.0)) (in_clients (decided_by x.0) ++ (in_closing (decided_by x.0) ++ in_final (decided_by x.0))) x.1))
       (λ l. ⊎_elim
@@ -103,9 +104,9 @@ module _ (script : List Item) (turns : List Turn) (core : Core) (is : IsRunWithC
 module _ (script : List Item) (made : AreMade script) (there : AreThere script) (range : AllByRecursion InRange script) (turns : List Turn) (core : Core) (is : IsRunWithCalls script turns core) (closes : ClosesInRun script turns core is) (fixed : Fixed) (orders : ℕ → Order) where
   -- a call that failed did so by an `expire`, by a compressed response, or by an error that was posted for its last attempt, on which some seat decided
   pub run_failed_decided : (client : ℕ) (t : Task) (asked : Asked) (id code : ℕ) → IsTask (all_tasks script) core.outcomes client t → t.op ≡ ops.Call asked → Became (all_tasks script) core.outcomes t.number (outcomes.CallFailed id code)
-      → FailedByDecision (plan_of script) (all_tasks script) core.outcomes fixed (given core) orders (attempts_of_run script turns core is) (posts_of_run script turns core is) (λ j. shows_in_run script turns core is (decided_by j)) t.number asked id code
+      → FailedByDecision (plan_of script) (all_tasks script) core.outcomes fixed (gave_in core) orders (attempts_of_run script turns core is) (posts_of_run script turns core is) (λ j. shown_in_run script turns core is (decided_by j)) t.number asked id code
   run_failed_decided client t asked id code at op has = let h = run_has_story script made there range turns core is in let e = run_has_ended script made there range turns core is closes in
-      subst (λ (d : Core). IsTask (all_tasks script) d.outcomes client t → Became (all_tasks script) d.outcomes t.number (outcomes.CallFailed id code) → FailedByDecision (plan_of script) (all_tasks script) d.outcomes fixed (given d) orders (attempts_of_run script turns core is) (posts_of_run script turns core is) (λ j. shows_in_run script turns core is (decided_by j)) t.number asked id code) h.is
-      (λ at' has'. failed_by (plan_of script) (id_plan_of script) (all_tasks script) (given core) h.scene h.marks e fixed orders (attempts_of_run script turns core is) (run_attempts script made there range turns core is) (posts_of_run script turns core is) (run_posted script made there range turns core is)
-      (λ j. shows_in_run script turns core is (decided_by j)) (λ d on. seat_decides_in_run script turns core is d (run_decided script made there range turns core is d on))
-      (are_ascending script made there range (given core)) (λ k. ap (λ (d : Core). given d k) h.is) client t asked id code at' op has') at has
+      subst (λ (d : Core). IsTask (all_tasks script) d.outcomes client t → Became (all_tasks script) d.outcomes t.number (outcomes.CallFailed id code) → FailedByDecision (plan_of script) (all_tasks script) d.outcomes fixed (gave_in d) orders (attempts_of_run script turns core is) (posts_of_run script turns core is) (λ j. shown_in_run script turns core is (decided_by j)) t.number asked id code) h.is
+      (λ at' has'. failed_by (plan_of script) (id_plan_of script) (all_tasks script) (gave_in core) h.scene h.marks e fixed orders (attempts_of_run script turns core is) (run_attempts script made there range turns core is) (posts_of_run script turns core is) (run_posted script made there range turns core is)
+      (λ j. shown_in_run script turns core is (decided_by j)) (λ d on. seat_decides_in_run script turns core is d (run_decided script made there range turns core is d on))
+      (are_ascending script made there range (gave_in core)) (λ k. ap (λ (d : Core). gave_in d k) h.is) client t asked id code at' op has') at has

@@ -10,7 +10,7 @@ use Rattle.seat_programs.specs.Calls.{LoadOpen}
 use Rattle.seat_programs.specs.Programs.{Program, Do, Aside}
 use Rattle.seat_programs.specs.Cores.{Core, SeatState}
 use Rattle.seat_programs.specs.Ticks.{Moment, ticked, run}
-use Rattle.story_ticks.specs.call_stories.specs.Lists.{soon_at, shows_in}
+use Rattle.story_ticks.specs.call_stories.specs.Lists.{soon_at}
 use Rattle.story_ticks.specs.call_stories.specs.Posts.{Post, posted_at}
 use Rattle.story_ticks.specs.call_stories.specs.Decided.{is_late_step, late_at, late_in, posted_behind}
 use Rattle.call_causes.proofs.Handled.{Sit}
@@ -20,6 +20,7 @@ use Rattle.call_causes.proofs.HandledPosts.{IsLate, late_over, With, with_on, wi
 use Rattle.call_causes.proofs.HandledRuns.{AreKnown, along, Reads', claims_along}
 use Rattle.seat_programs.specs.Rounds.{first_step}
 use Rattle.story_ticks.specs.Below.outcome_stories.specs.Stories.{In}
+use Rattle.story_ticks.specs.Below.outcome_stories.specs.Facts.{shown_in}
 
 -- a step that is late
 late_step : (k ids : ℕ) (calls : List ℕ) (o : ℕ) (many : length calls ≡ ids) (x : Program) → is_late_step x ≡ true → IsLate k ids calls o many x
@@ -60,37 +61,37 @@ module _ (p : Plan) (q : IdPlan) (k : ℕ) (calls : List ℕ) (o : ℕ) (many : 
   in_both x (z ∷ xs) ys (inl same) = inl (inl same)
   in_both x (z ∷ xs) ys (inr there) = ⊎_elim (λ a. inl (inr a)) (λ a. inr a) (in_both x xs ys there)
 
-  pub behind_along : (ms : List Moment) (soon : List (ℕ × ℕ)) (c : Core) → AreKnown p q c ms → IsBehind soon c → IsBehind (soon ++ shows_in (soon_at p) p c ms) (run p c ms)
+  pub behind_along : (ms : List Moment) (soon : List (ℕ × ℕ)) (c : Core) → AreKnown p q c ms → IsBehind soon c → IsBehind (soon ++ shown_in (soon_at p) p c ms) (run p c ms)
   behind_along ms soon c known h = along p q k (With k q.slots None' none_on) (with_on k q.slots None' none_on) (with_onward k q.slots None' none_on) ms soon c known h
 
   -- from there on
-  pub behind_claims : (x : Post) (ms : List Moment) (soon : List (ℕ × ℕ)) (c : Core) → AreKnown p q c ms → IsBehind soon c → In x (shows_in posted_at p c ms) → HasClaims p q k x (soon ++ shows_in (soon_at p) p c ms) (run p c ms)
+  pub behind_claims : (x : Post) (ms : List Moment) (soon : List (ℕ × ℕ)) (c : Core) → AreKnown p q c ms → IsBehind soon c → In x (shown_in posted_at p c ms) → HasClaims p q k x (soon ++ shown_in (soon_at p) p c ms) (run p c ms)
   behind_claims x [] soon c known h there = absurd there
   behind_claims x (m ∷ ms) soon c known h there = ⊎_elim
       (λ now. claims_along p q k calls o many x (m ∷ ms) soon c known (claims_at p q k c m known.0 x now soon (λ seat at. (h seat at).0)))
-      (λ later. subst (λ l. HasClaims p q k x l (run p (ticked p c m) ms)) (append_assoc soon (soon_at p c m) (shows_in (soon_at p) p (ticked p c m) ms))
+      (λ later. subst (λ l. HasClaims p q k x l (run p (ticked p c m) ms)) (append_assoc soon (soon_at p c m) (shown_in (soon_at p) p (ticked p c m) ms))
       (behind_claims x ms (soon ++ soon_at p c m) (ticked p c m) known.1 (reader_ticks p q k (With k q.slots None' none_on) (with_on k q.slots None' none_on) (with_onward k q.slots None' none_on) soon c m known.0 h) later))
-      (in_both x (posted_at c m) (shows_in posted_at p (ticked p c m) ms) there)
+      (in_both x (posted_at c m) (shown_in posted_at p (ticked p c m) ms) there)
 
   reads_next : (c : Core) (m : Moment) (soon : List (ℕ × ℕ)) → Known q c m → Reads' p q k calls o many soon c → Reads' p q k calls o many (soon ++ soon_at p c m) (ticked p c m)
   reads_next c m soon known h = reader_ticks p q k (State k q.slots calls o many) (state_on k q.slots calls o many) (onward k q.slots calls o many) soon c m known h
 
   -- from its first late step on
-  pub late_claims : (x : Post) (ms : List Moment) (soon : List (ℕ × ℕ)) (c : Core) → AreKnown p q c ms → Reads' p q k calls o many soon c → In x (posted_behind (32 + k) p c ms) → HasClaims p q k x (soon ++ shows_in (soon_at p) p c ms) (run p c ms)
+  pub late_claims : (x : Post) (ms : List Moment) (soon : List (ℕ × ℕ)) (c : Core) → AreKnown p q c ms → Reads' p q k calls o many soon c → In x (posted_behind (32 + k) p c ms) → HasClaims p q k x (soon ++ shown_in (soon_at p) p c ms) (run p c ms)
   late_claims x [] soon c known h there = absurd there
   late_claims x (m ∷ ms) soon c known h there = by_late (late_at (32 + k) c m) refl there (late_claims x ms (soon ++ soon_at p c m) (ticked p c m) known.1 (reads_next c m soon known.0 h))
     where
-      by_late : (b : Bool) → late_at (32 + k) c m ≡ b → In x (cond b (shows_in posted_at p c (m ∷ ms)) (posted_behind (32 + k) p (ticked p c m) ms))
-          → (In x (posted_behind (32 + k) p (ticked p c m) ms) → HasClaims p q k x ((soon ++ soon_at p c m) ++ shows_in (soon_at p) p (ticked p c m) ms) (run p (ticked p c m) ms)) → HasClaims p q k x (soon ++ shows_in (soon_at p) p c (m ∷ ms)) (run p c (m ∷ ms))
+      by_late : (b : Bool) → late_at (32 + k) c m ≡ b → In x (cond b (shown_in posted_at p c (m ∷ ms)) (posted_behind (32 + k) p (ticked p c m) ms))
+          → (In x (posted_behind (32 + k) p (ticked p c m) ms) → HasClaims p q k x ((soon ++ soon_at p c m) ++ shown_in (soon_at p) p (ticked p c m) ms) (run p (ticked p c m) ms)) → HasClaims p q k x (soon ++ shown_in (soon_at p) p c (m ∷ ms)) (run p c (m ∷ ms))
       by_late true late z later = behind_claims x (m ∷ ms) soon c known (late_here c m soon h late) z
-      by_late false late z later = subst (λ l. HasClaims p q k x l (run p (ticked p c m) ms)) (append_assoc soon (soon_at p c m) (shows_in (soon_at p) p (ticked p c m) ms)) (later z)
+      by_late false late z later = subst (λ l. HasClaims p q k x l (run p (ticked p c m) ms)) (append_assoc soon (soon_at p c m) (shown_in (soon_at p) p (ticked p c m) ms)) (later z)
 
   -- where it made one, it is behind
-  pub late_behind : (ms : List Moment) (soon : List (ℕ × ℕ)) (c : Core) → AreKnown p q c ms → Reads' p q k calls o many soon c → late_in (32 + k) p c ms ≡ true → IsBehind (soon ++ shows_in (soon_at p) p c ms) (run p c ms)
+  pub late_behind : (ms : List Moment) (soon : List (ℕ × ℕ)) (c : Core) → AreKnown p q c ms → Reads' p q k calls o many soon c → late_in (32 + k) p c ms ≡ true → IsBehind (soon ++ shown_in (soon_at p) p c ms) (run p c ms)
   late_behind [] soon c known h late = absurd (true≢false (sym late))
   late_behind (m ∷ ms) soon c known h late = by_late (late_at (32 + k) c m) refl late (λ e. late_behind ms (soon ++ soon_at p c m) (ticked p c m) known.1 (reads_next c m soon known.0 h) e)
     where
       by_late : (b : Bool) → late_at (32 + k) c m ≡ b → (b || late_in (32 + k) p (ticked p c m) ms) ≡ true
-          → (late_in (32 + k) p (ticked p c m) ms ≡ true → IsBehind ((soon ++ soon_at p c m) ++ shows_in (soon_at p) p (ticked p c m) ms) (run p (ticked p c m) ms)) → IsBehind (soon ++ shows_in (soon_at p) p c (m ∷ ms)) (run p c (m ∷ ms))
+          → (late_in (32 + k) p (ticked p c m) ms ≡ true → IsBehind ((soon ++ soon_at p c m) ++ shown_in (soon_at p) p (ticked p c m) ms) (run p (ticked p c m) ms)) → IsBehind (soon ++ shown_in (soon_at p) p c (m ∷ ms)) (run p c (m ∷ ms))
       by_late true is e later = behind_along (m ∷ ms) soon c known (late_here c m soon h is)
-      by_late false is e later = subst (λ l. IsBehind l (run p (ticked p c m) ms)) (append_assoc soon (soon_at p c m) (shows_in (soon_at p) p (ticked p c m) ms)) (later e)
+      by_late false is e later = subst (λ l. IsBehind l (run p (ticked p c m) ms)) (append_assoc soon (soon_at p c m) (shown_in (soon_at p) p (ticked p c m) ms)) (later e)

@@ -21,7 +21,7 @@ use Rattle.story_ticks.specs.Below.id_runs.specs.Held.{IdView}
 use Rattle.story_ticks.specs.Below.id_runs.specs.Goes.{IdGoesOn, SoundIds}
 use Rattle.story_ticks.specs.Below.id_runs.proofs.Loops.{ids_round}
 use Rattle.story_ticks.specs.Below.id_runs.proofs.Programs.{block_goes}
-use Rattle.story_ticks.specs.call_stories.specs.Lists.{soon_at, shows_in, advanced_at}
+use Rattle.story_ticks.specs.call_stories.specs.Lists.{soon_at, advanced_at}
 use Rattle.story_ticks.specs.call_stories.specs.Posts.{Post, posted_at}
 use Rattle.story_ticks.specs.call_stories.specs.Decided.{posted_by, Decision, decision_in, decided_at, decided_by}
 use Rattle.story_ticks.specs.call_stories.specs.Scenes.{Scene, LeadsTo}
@@ -41,6 +41,7 @@ use Rattle.call_causes.proofs.HandledPosts.{Claims, claims_on, claims_onward, Si
 use Rattle.seat_programs.specs.Rounds.{first_step}
 use Rattle.story_ticks.specs.Below.outcome_stories.specs.Stories.{In}
 use Rattle.sock_words.specs.Words.{id_slot, id_first}
+use Rattle.story_ticks.specs.Below.outcome_stories.specs.Facts.{shown_in}
 
 -- ## What is known of ticks
 
@@ -91,9 +92,9 @@ module _ (p : Plan) (q : IdPlan) (clients : List (List Task)) (gives : ℕ → L
 -- ## Along ticks
 
 module _ (p : Plan) (q : IdPlan) (k : ℕ) (St : Sit → Program → Type 0) (st_on : (s t : Sit) → Later k q.slots s t → (x : Program) → St s x → St t x) (onw : (s t : Sit) (ws : List Retry) (x : Program) → St s x → Onward k q.slots St s t ws (first_step x)) where
-  pub along : (ms : List Moment) (soon : List (ℕ × ℕ)) (c : Core) → AreKnown p q c ms → HasReader p q k St st_on onw soon c → HasReader p q k St st_on onw (soon ++ shows_in (soon_at p) p c ms) (run p c ms)
+  pub along : (ms : List Moment) (soon : List (ℕ × ℕ)) (c : Core) → AreKnown p q c ms → HasReader p q k St st_on onw soon c → HasReader p q k St st_on onw (soon ++ shown_in (soon_at p) p c ms) (run p c ms)
   along [] soon c known h = subst (λ l. HasReader p q k St st_on onw l c) (sym (append-nil soon)) h
-  along (m ∷ ms) soon c known h = subst (λ l. HasReader p q k St st_on onw l (run p (ticked p c m) ms)) (append_assoc soon (soon_at p c m) (shows_in (soon_at p) p (ticked p c m) ms))
+  along (m ∷ ms) soon c known h = subst (λ l. HasReader p q k St st_on onw l (run p (ticked p c m) ms)) (append_assoc soon (soon_at p c m) (shown_in (soon_at p) p (ticked p c m) ms))
       (along ms (soon ++ soon_at p c m) (ticked p c m) known.1 (reader_ticks p q k St st_on onw soon c m known.0 h))
 
 module _ (p : Plan) (q : IdPlan) (k : ℕ) (calls : List ℕ) (o : ℕ) (many : length calls ≡ q.slots) where
@@ -107,22 +108,22 @@ module _ (p : Plan) (q : IdPlan) (k : ℕ) (calls : List ℕ) (o : ℕ) (many : 
       by_seat true is z = (eqb-true m.seat (32 + k) is, z)
       by_seat false is z = absurd z
 
-  pub reads_along : (ms : List Moment) (soon : List (ℕ × ℕ)) (c : Core) → AreKnown p q c ms → Reads' soon c → Reads' (soon ++ shows_in (soon_at p) p c ms) (run p c ms)
+  pub reads_along : (ms : List Moment) (soon : List (ℕ × ℕ)) (c : Core) → AreKnown p q c ms → Reads' soon c → Reads' (soon ++ shown_in (soon_at p) p c ms) (run p c ms)
   reads_along ms soon c known h = along p q k (State k q.slots calls o many) (state_on k q.slots calls o many) (onward k q.slots calls o many) ms soon c known h
 
   -- what is claimed lasts
-  pub claims_along : (x : Post) (ms : List Moment) (soon : List (ℕ × ℕ)) (c : Core) → AreKnown p q c ms → HasClaims p q k x soon c → HasClaims p q k x (soon ++ shows_in (soon_at p) p c ms) (run p c ms)
+  pub claims_along : (x : Post) (ms : List Moment) (soon : List (ℕ × ℕ)) (c : Core) → AreKnown p q c ms → HasClaims p q k x soon c → HasClaims p q k x (soon ++ shown_in (soon_at p) p c ms) (run p c ms)
   claims_along x ms soon c known h = along p q k (Claims k q.slots (id_slot x.id) (id_first x.id)) (claims_on k q.slots (id_slot x.id) (id_first x.id))
       (claims_onward k q.slots (id_slot x.id) (id_first x.id)) ms soon c known h
 
   -- where the reader posts an error, it claims
-  pub posts_claim : (x : Post) (ms : List Moment) (soon : List (ℕ × ℕ)) (c : Core) → AreKnown p q c ms → Reads' soon c → In x (shows_in (posted_by (32 + k)) p c ms) → HasClaims p q k x (soon ++ shows_in (soon_at p) p c ms) (run p c ms)
+  pub posts_claim : (x : Post) (ms : List Moment) (soon : List (ℕ × ℕ)) (c : Core) → AreKnown p q c ms → Reads' soon c → In x (shown_in (posted_by (32 + k)) p c ms) → HasClaims p q k x (soon ++ shown_in (soon_at p) p c ms) (run p c ms)
   posts_claim x [] soon c known h there = absurd there
   posts_claim x (m ∷ ms) soon c known h there = ⊎_elim
       (λ now. let y = at_reader m (posted_at c m) x now in claims_along x (m ∷ ms) soon c known (claims_at p q k c m known.0 x y.1 soon (over_at p q k c m known.0 x y.1 calls o many soon h y.0)))
-      (λ later. subst (λ l. HasClaims p q k x l (run p (ticked p c m) ms)) (append_assoc soon (soon_at p c m) (shows_in (soon_at p) p (ticked p c m) ms))
+      (λ later. subst (λ l. HasClaims p q k x l (run p (ticked p c m) ms)) (append_assoc soon (soon_at p c m) (shown_in (soon_at p) p (ticked p c m) ms))
       (posts_claim x ms (soon ++ soon_at p c m) (ticked p c m) known.1 (reader_ticks p q k (State k q.slots calls o many) (state_on k q.slots calls o many) (onward k q.slots calls o many) soon c m known.0 h) later))
-      (in_either x (posted_by (32 + k) c m) (shows_in (posted_by (32 + k)) p (ticked p c m) ms) there)
+      (in_either x (posted_by (32 + k) c m) (shown_in (posted_by (32 + k)) p (ticked p c m) ms) there)
 
   -- ## Decisions
 
@@ -150,14 +151,14 @@ module _ (p : Plan) (q : IdPlan) (k : ℕ) (calls : List ℕ) (o : ℕ) (many : 
           let locked = known.decides seat here d.id d.asked is.0 d.error is.1 is.2 in
           (ov, silent_here k q.slots (sit k c soon) ov.0 d.id d.asked.range ov.1 locked.0 (ap (λ n. Rattle.seat_programs.specs.Readers.kept_for d.id n ov.0) (sym locked.1) ∙ a.0.0))
 
-  pub silence_along : (d : Decision) (ms : List Moment) (soon : List (ℕ × ℕ)) (c : Core) → AreKnown p q c ms → IsSilent d soon c → IsSilent d (soon ++ shows_in (soon_at p) p c ms) (run p c ms)
+  pub silence_along : (d : Decision) (ms : List Moment) (soon : List (ℕ × ℕ)) (c : Core) → AreKnown p q c ms → IsSilent d soon c → IsSilent d (soon ++ shown_in (soon_at p) p c ms) (run p c ms)
   silence_along d ms soon c known h = along p q k (Silence k q.slots (id_slot d.id) (id_first d.id) d.asked.range) (silence_on k q.slots (id_slot d.id) (id_first d.id) d.asked.range) (silence_onward k q.slots (id_slot d.id) (id_first d.id) d.asked.range) ms soon c known h
 
   -- where the reader decides on an error of a call, its link gave no response to it
-  pub decides_silent : (d : Decision) (ms : List Moment) (soon : List (ℕ × ℕ)) (c : Core) → AreKnown p q c ms → Reads' soon c → In d (shows_in (decided_by (32 + k)) p c ms) → IsSilent d (soon ++ shows_in (soon_at p) p c ms) (run p c ms)
+  pub decides_silent : (d : Decision) (ms : List Moment) (soon : List (ℕ × ℕ)) (c : Core) → AreKnown p q c ms → Reads' soon c → In d (shown_in (decided_by (32 + k)) p c ms) → IsSilent d (soon ++ shown_in (soon_at p) p c ms) (run p c ms)
   decides_silent d [] soon c known h there = absurd there
   decides_silent d (m ∷ ms) soon c known h there = ⊎_elim
       (λ now. silence_along d (m ∷ ms) soon c known (silent_at d m soon c known.0 h now))
-      (λ later. subst (λ l. IsSilent d l (run p (ticked p c m) ms)) (append_assoc soon (soon_at p c m) (shows_in (soon_at p) p (ticked p c m) ms))
+      (λ later. subst (λ l. IsSilent d l (run p (ticked p c m) ms)) (append_assoc soon (soon_at p c m) (shown_in (soon_at p) p (ticked p c m) ms))
       (decides_silent d ms (soon ++ soon_at p c m) (ticked p c m) known.1 (reader_ticks p q k (State k q.slots calls o many) (state_on k q.slots calls o many) (onward k q.slots calls o many) soon c m known.0 h) later))
-      (in_either d (decided_by (32 + k) c m) (shows_in (decided_by (32 + k)) p (ticked p c m) ms) there)
+      (in_either d (decided_by (32 + k) c m) (shown_in (decided_by (32 + k)) p (ticked p c m) ms) there)

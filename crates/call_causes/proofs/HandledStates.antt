@@ -1,7 +1,7 @@
 -- Where the reader of a link stands in its program, and what it has handled there.
 use Rattle.std.proofs.Common.{◌≡◌, ℕ, ◌+◌, ◌-◌, ◌%◌, ◌<◌, ◌==◌, ◌&&◌, ◌||◌, not, Bool, true, false, cond, nat_le, nat_lt, List, [], ◌∷◌, ◌++◌, length, None, Some, refl, sym, ap, ◌∙◌, subst, arith}
 use Rattle.std.proofs.lemmas.Bool.{true≢false}
-use Rattle.sock_words.specs.Words.{socket_id_version, socket_id_slot, vref_version, vref_nref, at_word_first, at_word_slot, at_word_link, at_word_attempt, call_id, id_slot, id_first}
+use Rattle.sock_words.specs.Words.{socket_id_version, socket_id_slot, vref_version, vref_nref, at_word_first, at_word_slot, at_word_link, at_word_attempt, call_id, id_slot, id_first, bit}
 use Rattle.sock_words.specs.Codes.{is_final}
 use Rattle.corr_core.specs.Word.{Parts, parts, posted_word, unlocked_word, code_of, attempt_of, error_of}
 use Rattle.corr_core.specs.Law.{LAST}
@@ -12,7 +12,7 @@ use Rattle.sock_message.specs.Asked.{Asked}
 use Rattle.seat_programs.specs.Asides.{Step, Found, PostId, FreeId, TakeBytes, Taking, Bytes, Nothing}
 use Rattle.seat_programs.specs.Heads.{Head, Exit, Retry, Sought, Posts, Unlocks, Decides, Locks, Joins, Opens, Reads, Discards, Posting, WasGone, WasStale, WasCrowded, WasQueued, HasLocked, Unlocking, IsOpen, HasNext, Deciding, HasEnded, GoesOn, Locking, NotThere, Has, Ended}
 use Rattle.seat_programs.specs.Programs.{Program, Do, Say, Sent, Rest, TakeMessage, TakeHome, PutHome, PutBytes, AskReady, Write, Aside, Round, Keep, Retries, LAST_VERSION, recycle, release, address, set_failed}
-use Rattle.seat_programs.specs.Posts.{packed, advance_of, is_first, is_sought, is_stale, is_full, judged, posts_round, post_with, popped, unlocks_round, end_id, decided, unlocked, locking}
+use Rattle.seat_programs.specs.Posts.{packed, is_first, is_sought, is_stale, is_full, judged, posts_round, post_with, popped, unlocks_round, end_id, decided, unlocked, locking}
 use Rattle.seat_programs.specs.Readers.{LIMIT, slot_in, answer, discarded, kept_for, ends_with, posted_last, post_each, thrown_away, read}
 use Rattle.seat_programs.specs.Rounds.{round, first_step}
 use Rattle.seat_programs.specs.Cores.{resolved, next_step}
@@ -112,8 +112,8 @@ module _ (F : Type 0) (kept : List Frame) where
   after_unlocks : (i from : ℕ) (advance : Bool) (next : Unlocking → Program) → ((x : Unlocking) → After (next x)) → After (unlocks_round i from advance next)
   after_unlocks i from advance next a = (
     tt,
-    λ found. both (found == from) (popped i (parts from).oldest (packed (unlocked_word (parts from) (advance_of advance))) next) (Round (Unlocks i found advance) next)
-        (after_popped i (parts from).oldest (packed (unlocked_word (parts from) (advance_of advance))) next a) (tt, a),
+    λ found. both (found == from) (popped i (parts from).oldest (packed (unlocked_word (parts from) (bit advance))) next) (Round (Unlocks i found advance) next)
+        (after_popped i (parts from).oldest (packed (unlocked_word (parts from) (bit advance))) next a) (tt, a),
   )
 
   after_decides : (id : ℕ) (asked : Asked) (word e : ℕ) (next : Deciding → Program) → is_final (code_of e) ≡ true → ((x : Deciding) → After (next x)) → After (round (Decides id asked word e) next)

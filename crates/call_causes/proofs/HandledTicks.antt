@@ -31,7 +31,7 @@ use Rattle.seat_programs.specs.Readers.{has_response, slot_in, version_in}
 use Rattle.seat_programs.specs.Cores.{Core, SeatState, found_at, words_after, homes_after, hand_after, lies_at, first_of, others_of, link_place, resolved, waiting_at, next_step, with_seat}
 use Rattle.seat_programs.specs.StepTables.{word_of, word_after}
 use Rattle.seat_programs.specs.Ticks.{Answer, OfPut, OfReady, Moment, fed, with_places, onto_first, taken, with_message, with_link, with_put, with_ready, with_found, step_with, tick_with, ticked}
-use Rattle.story_ticks.specs.call_stories.specs.Lists.{Take, taken_link, takes_by, takes_at, given, is_soon, soon_from, soon_by, soon_at}
+use Rattle.story_ticks.specs.call_stories.specs.Lists.{Take, taken_link, takes_by, takes_at, gave_in, is_soon, soon_from, soon_by, soon_at}
 use Rattle.story_ticks.specs.story_steps.proofs.Attempts.{in_behind}
 use Rattle.call_causes.proofs.Handled as handled
 use Rattle.call_causes.proofs.Handled.{bound, early_is, goes_same, AllFrom, Sit, frames_in, IsResp, Later, in_more}
@@ -64,7 +64,7 @@ drop_front (x ∷ xs) ys = drop_front xs ys
 -- ## Soon frames
 
 abbrev pub sit : ℕ → Core → List (ℕ × ℕ) → Sit
-sit k c soon = record { words = c.calls.words; soon = soon; bytes = given c k }
+sit k c soon = record { words = c.calls.words; soon = soon; bytes = gave_in c k }
 
 -- each frame that comes is soon, or some range has passed it
 soon_by_test : (a b e : Bool) → (a && b) ≡ true → (a && (b && e)) ≡ false → e ≡ false
@@ -109,7 +109,7 @@ module _ (p : Plan) (q : IdPlan) (k : ℕ) (St : Sit → Program → Type 0) (st
     Goal d = HasReader (soon_then d) d
 
     -- words and bytes as they were
-    still : (d : Core) → d.calls.words ≡ c.calls.words → given d k ≡ given c k → Later k q.slots (sit k c soon) (sit k d (soon_then d))
+    still : (d : Core) → d.calls.words ≡ c.calls.words → gave_in d k ≡ gave_in c k → Later k q.slots (sit k c soon) (sit k d (soon_then d))
     still d words bytes = record {
       words = λ i low. subst (λ ws. handled.Goes (parts (slice_index c.calls.words (id_index i))) (parts (slice_index ws (id_index i)))) (sym words) (goes_same (parts (slice_index c.calls.words (id_index i))));
       soon = λ x there. in_more x soon (flat_map (soon_by c d) (takes_at c m)) there;
@@ -175,10 +175,10 @@ module _ (p : Plan) (q : IdPlan) (k : ℕ) (St : Sit → Program → Type 0) (st
         words = f.goes;
         soon = λ y there. in_more y soon (flat_map (soon_by c d) (takes_at c m)) there;
         bytes = gave_more l room found same f.tied.1;
-        waits = λ fs eq. soon_waits k q.slots d (ap (λ (r : IdPlan). r.slots) (plan_same l room found ∙ known.plan)) (soon_then d) fs (length (frames_in (given c k)))
+        waits = λ fs eq. soon_waits k q.slots d (ap (λ (r : IdPlan). r.slots) (plan_same l room found ∙ known.plan)) (soon_then d) fs (length (frames_in (gave_in c k)))
             (λ x there. in_behind x soon (flat_map (soon_by c d) (takes_at c m)) (subst (λ ts. In x (flat_map (soon_by c d) ts)) (sym takes) (in_more x (soon_by c d (record { link = l; found = found })) []
-            (subst (λ j. In x (soon_from d j (length (frames_in (given c j))) (drop (length (frames_in (given c j))) (frames_in (given d j))))) (sym same)
-            (subst (λ xs. In x (soon_from d k (length (frames_in (given c k))) xs)) (sym (ap (drop (length (frames_in (given c k)))) eq ∙ drop_front (frames_in (given c k)) fs)) there)))));
+            (subst (λ j. In x (soon_from d j (length (frames_in (gave_in c j))) (drop (length (frames_in (gave_in c j))) (frames_in (gave_in d j))))) (sym same)
+            (subst (λ xs. In x (soon_from d k (length (frames_in (gave_in c k))) xs)) (sym (ap (drop (length (frames_in (gave_in c k)))) eq ∙ drop_front (frames_in (gave_in c k)) fs)) there)))));
       }
 
       -- the take of the tick

@@ -31,7 +31,7 @@ use Rattle.story_ticks.specs.Below.joint_runs.proofs.Both.{BothSound}
 use Rattle.story_ticks.specs.Below.joint_runs.proofs.Runs.{AreMade, first_views, joint_runs}
 use Rattle.story_ticks.specs.Below.call_owing.specs.Below.script_facts.proofs.Reading.{InRange}
 use Rattle.story_ticks.specs.Below.call_owing.specs.Below.script_facts.proofs.Targets.{AreThere}
-use Rattle.story_ticks.specs.call_stories.specs.Lists.{advanced_at, given, soon_at, shows_in, shows_in_run, soon_of_run}
+use Rattle.story_ticks.specs.call_stories.specs.Lists.{advanced_at, gave_in, soon_at, soon_of_run}
 use Rattle.story_ticks.specs.call_stories.specs.Posts.{Post, posted_at}
 use Rattle.story_ticks.specs.call_stories.specs.Decided.{posted_by, Decision, decided_by, posted_behind, late_in}
 use Rattle.story_ticks.specs.call_stories.specs.Scenes.{Scene, LeadsTo}
@@ -53,6 +53,7 @@ use Rattle.call_causes.proofs.HandledBehind.{IsBehind, behind_along, behind_clai
 use Rattle.call_causes.proofs.HandledRuns.{AreKnown, setup_known, played_known, Reads', reads_along, claims_along, posts_claim, silence_along, decides_silent}
 use Rattle.story_ticks.specs.Below.outcome_stories.specs.Stories.{In}
 use Rattle.sock_words.specs.Words.{id_slot, id_first}
+use Rattle.story_ticks.specs.Below.outcome_stories.specs.Facts.{shown_in, shown_in_run}
 
 each_at : {A : Type 0} (P : A → Type 0) (xs : List A) → AllByRecursion P xs → (i : ℕ) (x : A) → get_elem? xs i ≡ some x → P x
 each_at P [] all i x at = absurd (some-ne-none x (sym at))
@@ -65,17 +66,17 @@ empty_at (suc n) zero = refl
 empty_at (suc n) (suc k) = empty_at n k
 
 module _ (script : List Item) (made : AreMade script) (there : AreThere script) (range : AllByRecursion InRange script) (turns : List Turn) (core : Core) (is : IsRunWithCalls script turns core) where
-  leads : LeadsTo (plan_of script) (id_plan_of script) (all_tasks script) (given core) core
+  leads : LeadsTo (plan_of script) (id_plan_of script) (all_tasks script) (gave_in core) core
   leads = own_leads script core
 
   open run_facts script made turns core is use {set_up_ahead, ended_ahead, many_seats}
-  open leadings script turns core is (given core) leads use {set_up_leads, played_leads, closed_leads}
+  open leadings script turns core is (gave_in core) leads use {set_up_leads, played_leads, closed_leads}
 
-  numbered : AreNumbered (plan_of script) (id_plan_of script) (all_tasks script) (given core)
-  numbered = are_numbered script made there range (given core)
+  numbered : AreNumbered (plan_of script) (id_plan_of script) (all_tasks script) (gave_in core)
+  numbered = are_numbered script made there range (gave_in core)
 
-  slots : HaveSlots (plan_of script) (id_plan_of script) (all_tasks script) (given core)
-  slots = have_slots script made there range (given core)
+  slots : HaveSlots (plan_of script) (id_plan_of script) (all_tasks script) (gave_in core)
+  slots = have_slots script made there range (gave_in core)
 
   -- ## The ticks of each part
 
@@ -86,51 +87,51 @@ module _ (script : List Item) (made : AreMade script) (there : AreThere script) 
   closing = ending script (played script is.setup (is.scheduled ++ is.later))
 
   pub known_setup : AreKnown (plan_of script) (id_plan_of script) (opened script) (in_setup is)
-  known_setup = let s = runs.sound_run script made (given core) (are_numbered script made there range (given core)) (have_slots script made there range (given core)) (begins script made there range (given core)) turns core is leads in
-      setup_known (plan_of script) (id_plan_of script) (all_tasks script) (given core) (are_numbered script made there range (given core)) (have_slots script made there range (given core)) (runs.small script made (given core) (are_numbered script made there range (given core)) (have_slots script made there range (given core)) (begins script made there range (given core)) turns core is leads)
+  known_setup = let s = runs.sound_run script made (gave_in core) (are_numbered script made there range (gave_in core)) (have_slots script made there range (gave_in core)) (begins script made there range (gave_in core)) turns core is leads in
+      setup_known (plan_of script) (id_plan_of script) (all_tasks script) (gave_in core) (are_numbered script made there range (gave_in core)) (have_slots script made there range (gave_in core)) (runs.small script made (gave_in core) (are_numbered script made there range (gave_in core)) (have_slots script made there range (gave_in core)) (begins script made there range (gave_in core)) turns core is leads)
       is.setup [] [] (opened script) (first_views script) s.setup
       set_up_leads
-      (let t = runs.first_tale script made (given core) (are_numbered script made there range (given core)) (have_slots script made there range (given core)) (begins script made there range (given core)) turns core is leads in t.0)
+      (let t = runs.first_tale script made (gave_in core) (are_numbered script made there range (gave_in core)) (have_slots script made there range (gave_in core)) (begins script made there range (gave_in core)) turns core is leads in t.0)
 
   pub known_clients : AreKnown (plan_of script) (id_plan_of script) (set_up script is.setup) (in_clients is)
-  known_clients = let s = runs.sound_run script made (given core) (are_numbered script made there range (given core)) (have_slots script made there range (given core)) (begins script made there range (given core)) turns core is leads in
-      played_known (plan_of script) (id_plan_of script) (all_tasks script) (given core) (are_numbered script made there range (given core)) (have_slots script made there range (given core)) (runs.small script made (given core) (are_numbered script made there range (given core)) (have_slots script made there range (given core)) (begins script made there range (given core)) turns core is leads)
+  known_clients = let s = runs.sound_run script made (gave_in core) (are_numbered script made there range (gave_in core)) (have_slots script made there range (gave_in core)) (begins script made there range (gave_in core)) turns core is leads in
+      played_known (plan_of script) (id_plan_of script) (all_tasks script) (gave_in core) (are_numbered script made there range (gave_in core)) (have_slots script made there range (gave_in core)) (runs.small script made (gave_in core) (are_numbered script made there range (gave_in core)) (have_slots script made there range (gave_in core)) (begins script made there range (gave_in core)) turns core is leads)
       (is.scheduled ++ is.later) posts_in_setup
       advanced_in_setup
-      (set_up script is.setup) (runs.views_set_up script made (given core) (are_numbered script made there range (given core)) (have_slots script made there range (given core)) (begins script made there range (given core)) turns core is leads) s.clients
+      (set_up script is.setup) (runs.views_set_up script made (gave_in core) (are_numbered script made there range (gave_in core)) (have_slots script made there range (gave_in core)) (begins script made there range (gave_in core)) turns core is leads) s.clients
       set_up_ahead is.is_set_up
       played_leads
-      (let t = runs.set_up_tale script made (given core) (are_numbered script made there range (given core)) (have_slots script made there range (given core)) (begins script made there range (given core)) turns core is leads in t.0)
+      (let t = runs.set_up_tale script made (gave_in core) (are_numbered script made there range (gave_in core)) (have_slots script made there range (gave_in core)) (begins script made there range (gave_in core)) turns core is leads in t.0)
 
   known_closing : AreKnown (plan_of script) (id_plan_of script) closing (in_closing is)
-  known_closing = let s = runs.sound_run script made (given core) (are_numbered script made there range (given core)) (have_slots script made there range (given core)) (begins script made there range (given core)) turns core is leads in
-      let told = runs.ending_tale script made (given core) (are_numbered script made there range (given core)) (have_slots script made there range (given core)) (begins script made there range (given core)) turns core is leads in let t = told.0 in
-      setup_known (plan_of script) (id_plan_of script) (all_tasks script) (given core) (are_numbered script made there range (given core)) (have_slots script made there range (given core)) (runs.small script made (given core) (are_numbered script made there range (given core)) (have_slots script made there range (given core)) (begins script made there range (given core)) turns core is leads)
+  known_closing = let s = runs.sound_run script made (gave_in core) (are_numbered script made there range (gave_in core)) (have_slots script made there range (gave_in core)) (begins script made there range (gave_in core)) turns core is leads in
+      let told = runs.ending_tale script made (gave_in core) (are_numbered script made there range (gave_in core)) (have_slots script made there range (gave_in core)) (begins script made there range (gave_in core)) turns core is leads in let t = told.0 in
+      setup_known (plan_of script) (id_plan_of script) (all_tasks script) (gave_in core) (are_numbered script made there range (gave_in core)) (have_slots script made there range (gave_in core)) (runs.small script made (gave_in core) (are_numbered script made there range (gave_in core)) (have_slots script made there range (gave_in core)) (begins script made there range (gave_in core)) turns core is leads)
       is.last t.0 t.1 closing (views_played script turns core is (first_views script)) s.closing
       closed_leads (t.0, t.1, t.2, (λ x y. y), λ n. refl)
 
   known_final : AreKnown (plan_of script) (id_plan_of script) is.ended is.final
-  known_final = let s = runs.sound_run script made (given core) (are_numbered script made there range (given core)) (have_slots script made there range (given core)) (begins script made there range (given core)) turns core is leads in
-      let told = runs.ended_tale script made (given core) (are_numbered script made there range (given core)) (have_slots script made there range (given core)) (begins script made there range (given core)) turns core is leads in let t = told.0 in
-      played_known (plan_of script) (id_plan_of script) (all_tasks script) (given core) (are_numbered script made there range (given core)) (have_slots script made there range (given core)) (runs.small script made (given core) (are_numbered script made there range (given core)) (have_slots script made there range (given core)) (begins script made there range (given core)) turns core is leads)
+  known_final = let s = runs.sound_run script made (gave_in core) (are_numbered script made there range (gave_in core)) (have_slots script made there range (gave_in core)) (begins script made there range (gave_in core)) turns core is leads in
+      let told = runs.ended_tale script made (gave_in core) (are_numbered script made there range (gave_in core)) (have_slots script made there range (gave_in core)) (begins script made there range (gave_in core)) turns core is leads in let t = told.0 in
+      played_known (plan_of script) (id_plan_of script) (all_tasks script) (gave_in core) (are_numbered script made there range (gave_in core)) (have_slots script made there range (gave_in core)) (runs.small script made (gave_in core) (are_numbered script made there range (gave_in core)) (have_slots script made there range (gave_in core)) (begins script made there range (gave_in core)) turns core is leads)
       is.final t.0 t.1 is.ended (views_closed script turns core is (first_views script)) s.final
       ended_ahead is.is_over
-      (subst (LeadsTo (plan_of script) (id_plan_of script) (all_tasks script) (given core)) is.is_end leads) (t.0, t.1, t.2, (λ x y. y), λ n. refl)
+      (subst (LeadsTo (plan_of script) (id_plan_of script) (all_tasks script) (gave_in core)) is.is_end leads) (t.0, t.1, t.2, (λ x y. y), λ n. refl)
 
   module _ (k o : ℕ) (at : get_elem? (opens script) k ≡ some o) where
     -- ## Through the parts of the run
 
     abbrev soon_setup : List (ℕ × ℕ)
-    soon_setup = shows_in (soon_at (plan_of script)) (plan_of script) (opened script) (in_setup is)
+    soon_setup = shown_in (soon_at (plan_of script)) (plan_of script) (opened script) (in_setup is)
 
     abbrev soon_clients : List (ℕ × ℕ)
-    soon_clients = shows_in (soon_at (plan_of script)) (plan_of script) (set_up script is.setup) (in_clients is)
+    soon_clients = shown_in (soon_at (plan_of script)) (plan_of script) (set_up script is.setup) (in_clients is)
 
     abbrev soon_closing : List (ℕ × ℕ)
-    soon_closing = shows_in (soon_at (plan_of script)) (plan_of script) closing (in_closing is)
+    soon_closing = shown_in (soon_at (plan_of script)) (plan_of script) closing (in_closing is)
 
     abbrev soon_final : List (ℕ × ℕ)
-    soon_final = shows_in (soon_at (plan_of script)) (plan_of script) is.ended is.final
+    soon_final = shown_in (soon_at (plan_of script)) (plan_of script) is.ended is.final
 
     module _ (St : Sit → Program → Type 0) where
       abbrev Has : List (ℕ × ℕ) → Core → Type 0
@@ -144,7 +145,7 @@ module _ (script : List Item) (made : AreMade script) (there : AreThere script) 
       is_told : (soon : List (ℕ × ℕ)) (c : Core) → Has soon c → Has soon (is_ending c)
       is_told soon c h = h
 
-      module _ (on : (soon : List (ℕ × ℕ)) (c : Core) (ms : List Moment) → AreKnown (plan_of script) (id_plan_of script) c ms → Has soon c → Has (soon ++ shows_in (soon_at (plan_of script)) (plan_of script) c ms) (run (plan_of script) c ms)) where
+      module _ (on : (soon : List (ℕ × ℕ)) (c : Core) (ms : List Moment) → AreKnown (plan_of script) (id_plan_of script) c ms → Has soon c → Has (soon ++ shown_in (soon_at (plan_of script)) (plan_of script) c ms) (run (plan_of script) c ms)) where
         from_ended : (soon : List (ℕ × ℕ)) → Has soon is.ended → Has (soon ++ soon_final) core
         from_ended soon h = subst (Has (soon ++ soon_final)) (sym is.is_end) (on soon is.ended is.final known_final h)
 
@@ -172,7 +173,7 @@ module _ (script : List Item) (made : AreMade script) (there : AreThere script) 
         (let l = length-map (all_tasks script) (client_from (sizes_of (plan_of script) (id_plan_of script)) []) in let f = made.few_clients in omega (arith, l, f)) k o at seat at_seat))
         (empty_at (plan_of script).links k)
 
-    reads_on : (soon : List (ℕ × ℕ)) (c : Core) (ms : List Moment) → AreKnown (plan_of script) (id_plan_of script) c ms → Reading soon c → Reading (soon ++ shows_in (soon_at (plan_of script)) (plan_of script) c ms) (run (plan_of script) c ms)
+    reads_on : (soon : List (ℕ × ℕ)) (c : Core) (ms : List Moment) → AreKnown (plan_of script) (id_plan_of script) c ms → Reading soon c → Reading (soon ++ shown_in (soon_at (plan_of script)) (plan_of script) c ms) (run (plan_of script) c ms)
     reads_on soon c ms known h = reads_along (plan_of script) (id_plan_of script) k (calls script) o many ms soon c known h
 
     reads_set_up : Reading soon_setup (set_up script is.setup)
@@ -190,19 +191,19 @@ module _ (script : List Item) (made : AreMade script) (there : AreThere script) 
 
     -- what each part of the run makes of it stands in the end
     module _ {A : Type 0} (show : Core → Moment → List A) (x : A) (St : Sit → Program → Type 0)
-        (on : (soon : List (ℕ × ℕ)) (c : Core) (ms : List Moment) → AreKnown (plan_of script) (id_plan_of script) c ms → Has St soon c → Has St (soon ++ shows_in (soon_at (plan_of script)) (plan_of script) c ms) (run (plan_of script) c ms))
-        (comes : (soon : List (ℕ × ℕ)) (c : Core) (ms : List Moment) → AreKnown (plan_of script) (id_plan_of script) c ms → Reading soon c → In x (shows_in show (plan_of script) c ms) → Has St (soon ++ shows_in (soon_at (plan_of script)) (plan_of script) c ms) (run (plan_of script) c ms)) where
+        (on : (soon : List (ℕ × ℕ)) (c : Core) (ms : List Moment) → AreKnown (plan_of script) (id_plan_of script) c ms → Has St soon c → Has St (soon ++ shown_in (soon_at (plan_of script)) (plan_of script) c ms) (run (plan_of script) c ms))
+        (comes : (soon : List (ℕ × ℕ)) (c : Core) (ms : List Moment) → AreKnown (plan_of script) (id_plan_of script) c ms → Reading soon c → In x (shown_in show (plan_of script) c ms) → Has St (soon ++ shown_in (soon_at (plan_of script)) (plan_of script) c ms) (run (plan_of script) c ms)) where
       abbrev shown_setup : List A
-      shown_setup = shows_in show (plan_of script) (opened script) (in_setup is)
+      shown_setup = shown_in show (plan_of script) (opened script) (in_setup is)
 
       abbrev shown_clients : List A
-      shown_clients = shows_in show (plan_of script) (set_up script is.setup) (in_clients is)
+      shown_clients = shown_in show (plan_of script) (set_up script is.setup) (in_clients is)
 
       abbrev shown_closing : List A
-      shown_closing = shows_in show (plan_of script) closing (in_closing is)
+      shown_closing = shown_in show (plan_of script) closing (in_closing is)
 
       abbrev shown_final : List A
-      shown_final = shows_in show (plan_of script) is.ended is.final
+      shown_final = shown_in show (plan_of script) is.ended is.final
 
       abbrev Ended : Type 0
       Ended = Has St (soon_of_run script turns core is) core
@@ -221,7 +222,7 @@ module _ (script : List Item) (made : AreMade script) (there : AreThere script) 
       by_setup : In x shown_setup → Ended
       by_setup a = from_set_up St on soon_setup (comes [] (opened script) (in_setup is) known_setup reads_first a)
 
-      in_the_end : In x (shows_in_run script turns core is show) → Ended
+      in_the_end : In x (shown_in_run script turns core is show) → Ended
       in_the_end there = ⊎_elim by_setup
           (λ l. ⊎_elim by_clients (λ l. ⊎_elim by_closing by_final (runs.in_either x shown_closing shown_final l)) (runs.in_either x shown_clients (shown_closing ++ shown_final) l))
           (runs.in_either x shown_setup (shown_clients ++ (shown_closing ++ shown_final)) there)
@@ -236,13 +237,13 @@ module _ (script : List Item) (made : AreMade script) (there : AreThere script) 
         inside (y ∷ ys) (suc i) e = let z = inside ys i e in omega (arith, z)
 
     -- each response of link k that is of the id's slot and behind its first version is soon, where the reader of k posted to the id
-    pub soon_of_readers : (x : Post) → In x (shows_in_run script turns core is (posted_by (32 + k))) → (n : ℕ) (f : Frame) → slice_get (frames_in (given core k)) n ≡ Some f → IsResp k (id_plan_of script).slots f → slot_in f ≡ id_slot x.id → id_first x.id < version_in f → In (k, n) (soon_of_run script turns core is)
+    pub soon_of_readers : (x : Post) → In x (shown_in_run script turns core is (posted_by (32 + k))) → (n : ℕ) (f : Frame) → slice_get (frames_in (gave_in core k)) n ≡ Some f → IsResp k (id_plan_of script).slots f → slot_in f ≡ id_slot x.id → id_first x.id < version_in f → In (k, n) (soon_of_run script turns core is)
     soon_of_readers x posted n f frame resp slot behind = (in_the_end (posted_by (32 + k)) x (Claims k (id_plan_of script).slots (id_slot x.id) (id_first x.id))
         (λ soon c ms known h. claims_along (plan_of script) (id_plan_of script) k (calls script) o many x ms soon c known h)
         (λ soon c ms known h a. posts_claim (plan_of script) (id_plan_of script) k (calls script) o many x ms soon c known h a) posted seat_there.0 seat_there.1).1 n f frame resp slot behind
 
     -- link k gave no response to a call on whose error its reader decided
-    pub silent_of_readers : (d : Decision) → In d (shows_in_run script turns core is (decided_by (32 + k))) → (n : ℕ) (f : Frame) → slice_get (frames_in (given core k)) n ≡ Some f → IsResp k (id_plan_of script).slots f → slot_in f ≡ id_slot d.id → id_first d.id < version_in f → version_in f < id_first d.id + d.asked.range → ⊥
+    pub silent_of_readers : (d : Decision) → In d (shown_in_run script turns core is (decided_by (32 + k))) → (n : ℕ) (f : Frame) → slice_get (frames_in (gave_in core k)) n ≡ Some f → IsResp k (id_plan_of script).slots f → slot_in f ≡ id_slot d.id → id_first d.id < version_in f → version_in f < id_first d.id + d.asked.range → ⊥
     silent_of_readers d decided n f frame resp slot low high = (in_the_end (decided_by (32 + k)) d (Silence k (id_plan_of script).slots (id_slot d.id) (id_first d.id) d.asked.range)
         (λ soon c ms known h. silence_along (plan_of script) (id_plan_of script) k (calls script) o many d ms soon c known h)
         (λ soon c ms known h a. decides_silent (plan_of script) (id_plan_of script) k (calls script) o many d ms soon c known h a) decided seat_there.0 seat_there.1).1 n f frame resp slot low high
@@ -253,7 +254,7 @@ module _ (script : List Item) (made : AreMade script) (there : AreThere script) 
     abbrev pub PostedLate : Post → Type 0
     PostedLate x = In x (posted_behind (32 + k) (plan_of script) (set_up script is.setup) (is.scheduled ++ is.later))
         ⊎ (In x (posted_behind (32 + k) (plan_of script) is.ended is.final)
-        ⊎ ((late_in (32 + k) (plan_of script) (set_up script is.setup) (is.scheduled ++ is.later) ≡ true) × In x (shows_in posted_at (plan_of script) is.ended is.final)))
+        ⊎ ((late_in (32 + k) (plan_of script) (set_up script is.setup) (is.scheduled ++ is.later) ≡ true) × In x (shown_in posted_at (plan_of script) is.ended is.final)))
 
     module _ (x : Post) where
       abbrev Cl : Sit → Program → Type 0
@@ -262,7 +263,7 @@ module _ (script : List Item) (made : AreMade script) (there : AreThere script) 
       abbrev Behind : List (ℕ × ℕ) → Core → Type 0
       Behind soon c = IsBehind (plan_of script) (id_plan_of script) k (calls script) o many soon c
 
-      on : (soon : List (ℕ × ℕ)) (c : Core) (ms : List Moment) → AreKnown (plan_of script) (id_plan_of script) c ms → Has Cl soon c → Has Cl (soon ++ shows_in (soon_at (plan_of script)) (plan_of script) c ms) (run (plan_of script) c ms)
+      on : (soon : List (ℕ × ℕ)) (c : Core) (ms : List Moment) → AreKnown (plan_of script) (id_plan_of script) c ms → Has Cl soon c → Has Cl (soon ++ shown_in (soon_at (plan_of script)) (plan_of script) c ms) (run (plan_of script) c ms)
       on soon c ms known h = claims_along (plan_of script) (id_plan_of script) k (calls script) o many x ms soon c known h
 
       in_final : Has Cl (((soon_setup ++ soon_clients) ++ soon_closing) ++ soon_final) (run (plan_of script) is.ended is.final) → Has Cl (soon_of_run script turns core is) core
@@ -283,7 +284,7 @@ module _ (script : List Item) (made : AreMade script) (there : AreThere script) 
           (λ a. in_final (behind_claims (plan_of script) (id_plan_of script) k (calls script) o many x is.final ((soon_setup ++ soon_clients) ++ soon_closing) is.ended known_final (behind_ended a.0) a.1)) l) there
 
     -- so each response of link k that is of the id's slot and behind its first version is soon
-    pub soon_behind : (x : Post) → PostedLate x → (n : ℕ) (f : Frame) → slice_get (frames_in (given core k)) n ≡ Some f → IsResp k (id_plan_of script).slots f → slot_in f ≡ id_slot x.id → id_first x.id < version_in f → In (k, n) (soon_of_run script turns core is)
+    pub soon_behind : (x : Post) → PostedLate x → (n : ℕ) (f : Frame) → slice_get (frames_in (gave_in core k)) n ≡ Some f → IsResp k (id_plan_of script).slots f → slot_in f ≡ id_slot x.id → id_first x.id < version_in f → In (k, n) (soon_of_run script turns core is)
     soon_behind x posted n f frame resp slot behind = (late_claimed x posted seat_there.0 seat_there.1).1 n f frame resp slot behind
 
   -- ## The ids of calls that failed
@@ -297,12 +298,12 @@ module _ (script : List Item) (made : AreMade script) (there : AreThere script) 
         (λ is_task' has'. ⊎_elim (λ own. absurd own.1)
         (λ x. let same : id ≡ x.0 = x.2.0 in subst (λ i. (id_slot i < (id_plan_of script).slots) × (id_first i + asked.range ≤ 67108856)) (sym same) (of_birth h.scene h.marks e (subst (λ d. BothSound (plan_of script) (id_plan_of script) d (views_ended script turns core is (first_views script))) (sym h.is)
         (let s = joint_runs script turns core is made in s.over)).id_views (subst (λ d. BothSound (plan_of script) (id_plan_of script) d (views_ended script turns core is (first_views script))) (sym h.is) (let s = joint_runs script turns core is made in s.over)).ids x.0 x.1))
-        (call_of (plan_of script) (id_plan_of script) (all_tasks script) (given core) h.scene h.marks e client t asked (outcomes.CallFailed id code) is_task' op has')) is_task has
+        (call_of (plan_of script) (id_plan_of script) (all_tasks script) (gave_in core) h.scene h.marks e client t asked (outcomes.CallFailed id code) is_task' op has')) is_task has
       where
-        of_birth : (w : Scene) (ms : List Mark) → HasEnded (plan_of script) (id_plan_of script) (all_tasks script) (given core) w ms → (us : List IdView) → SoundIds (plan_of script) (id_plan_of script) w.core us → (i : ℕ) → In (record { id = i; asked = asked }) w.births
+        of_birth : (w : Scene) (ms : List Mark) → HasEnded (plan_of script) (id_plan_of script) (all_tasks script) (gave_in core) w ms → (us : List IdView) → SoundIds (plan_of script) (id_plan_of script) w.core us → (i : ℕ) → In (record { id = i; asked = asked }) w.births
             → (id_slot i < (id_plan_of script).slots) × (id_first i + asked.range ≤ 67108856)
         of_birth w ms e us ids i born = let b = e.births.born (record { id = i; asked = asked }) born in (
           b.0,
-          ⊎_elim (λ passed. let low = are_low (plan_of script) (id_plan_of script) (all_tasks script) (given core) w us ids (id_slot i) b.0 in omega (arith, passed, low))
+          ⊎_elim (λ passed. let low = are_low (plan_of script) (id_plan_of script) (all_tasks script) (gave_in core) w us ids (id_slot i) b.0 in omega (arith, passed, low))
               (λ now. absurd (let live = now.1 in let none_ = e.free (id_slot i) b.0 in omega (arith, live, none_))) b.3,
         )

@@ -22,7 +22,7 @@ use Rattle.story_ticks.specs.Below.joint_runs.proofs.Runs.{AreMade}
 use Rattle.story_ticks.specs.Below.call_owing.specs.Below.script_facts.proofs.Reading.{InRange}
 use Rattle.story_ticks.specs.Below.call_owing.specs.Below.script_facts.proofs.Targets.{AreThere}
 use Rattle.story_ticks.specs.Below.call_owing.specs.Lives.{ClosesInRun}
-use Rattle.story_ticks.specs.call_stories.specs.Lists.{given, times, shows_in_run, attempts_of_run}
+use Rattle.story_ticks.specs.call_stories.specs.Lists.{gave_in, times, attempts_of_run}
 use Rattle.story_ticks.specs.call_stories.specs.Posts.{Post, posts_of_run}
 use Rattle.story_ticks.specs.call_stories.specs.Decided.{Decision, decided_by}
 use Rattle.story_ticks.specs.call_stories.specs.Target.{FailedByPost, FailedByDecision, AdvancedByPost}
@@ -38,6 +38,7 @@ use Rattle.story_ticks.proofs.Scripts.{are_numbered}
 use Rattle.call_causes.proofs.Whole.{run_has_story, run_attempts, run_posted, run_has_ended}
 use Rattle.call_causes.proofs.Decisions.{run_failed_decided}
 use Rattle.story_ticks.specs.Below.outcome_stories.specs.Stories.{In}
+use Rattle.story_ticks.specs.Below.outcome_stories.specs.Facts.{shown_in_run}
 
 -- each task of each client
 all_of : (P : Task → Type 0) (cs : List (List Task)) → AllByRecursion (AllByRecursion P) cs → (c : ℕ) (ts : List Task) → slice_get cs c ≡ Some ts → AllByRecursion P ts
@@ -81,7 +82,7 @@ module _ (p : Plan) (q : IdPlan) (clients : List (List Task)) (gives : ℕ → L
 
   module _ (w : Scene) (ms : List Mark) (e : HasEnded p q clients gives w ms) (fixed : Fixed) (orders : ℕ → Order) (last : ℕ → ℕ) (counts : (o : ℕ) → times o w.advances ≡ last o) (posts : List Post) (posted : (id error : ℕ) → WasPosted w id error → In (record { id = id; error = error }) posts) where
     -- an advance was for an error of the attempt before, which ends no call by its code alone
-    advanced_by : (o n : ℕ) → n < last o → AdvancedByPost p clients w.core.outcomes fixed (given w.core) orders posts o n
+    advanced_by : (o n : ℕ) → n < last o → AdvancedByPost p clients w.core.outcomes fixed (gave_in w.core) orders posts o n
     advanced_by o n less = ⊎_elim
         (λ x. let a = e.births.advanced x.0 x.1 n (subst (λ k. n < k) (sym (counts o) ∙ ap (λ k. times k w.advances) (sym x.2)) less) in (
           x.0.id,
@@ -95,13 +96,13 @@ module _ (p : Plan) (q : IdPlan) (clients : List (List Task)) (gives : ℕ → L
         (id_of w ms e.births e.tasks o)
 
     -- and the call has an outcome that shows its id
-    advanced_shown : (o n : ℕ) → n < last o → (outcome : Outcome) × (id : ℕ) × Became clients w.core.outcomes o outcome × ShowsId p clients w.core.outcomes fixed (given w.core) orders outcome id
+    advanced_shown : (o n : ℕ) → n < last o → (outcome : Outcome) × (id : ℕ) × Became clients w.core.outcomes o outcome × ShowsId p clients w.core.outcomes fixed (gave_in w.core) orders outcome id
     advanced_shown o n less = ⊎_elim
         (λ x. let y = ended_call p q clients gives w ms e x.0 x.1 in let shown = shows_some x.0 y.0 y.2 in (y.0, shown.0, subst (λ k. Became clients w.core.outcomes k y.0) x.2 y.1, shown.1))
         (λ none_. absurd (let z = e.births.unmade o none_ in let is = counts o in omega (arith, z, is, less)))
         (id_of w ms e.births e.tasks o)
       where
-        shows_some : (b : Birth) (outcome : Outcome) → WhyEnded p q clients gives w b outcome → (id : ℕ) × ShowsId p clients w.core.outcomes fixed (given w.core) orders outcome id
+        shows_some : (b : Birth) (outcome : Outcome) → WhyEnded p q clients gives w b outcome → (id : ℕ) × ShowsId p clients w.core.outcomes fixed (gave_in w.core) orders outcome id
         shows_some b (outcomes.Answered id payload attachment) h = (id, refl)
         shows_some b (outcomes.Peer id code) h = (id, refl)
         shows_some b (outcomes.CallFailed id code) h = (id, refl)
@@ -117,29 +118,29 @@ module _ (script : List Item) (made : AreMade script) (there : AreThere script) 
   -- no call comes to more attempts than its range has
   pub run_few_attempts : (client : ℕ) (t : Task) (asked : Asked) → IsTask (all_tasks script) core.outcomes client t → t.op ≡ ops.Call asked → attempts_of_run script turns core is t.number + 2 ≤ asked.range
   run_few_attempts client t asked at op =
-      let h = run_has_story script made there range turns core is in let own = is_task (plan_of script) (id_plan_of script) (all_tasks script) (given core) core.outcomes client t at in
+      let h = run_has_story script made there range turns core is in let own = is_task (plan_of script) (id_plan_of script) (all_tasks script) (gave_in core) core.outcomes client t at in
       subst (λ n. n + 2 ≤ asked.range) (run_attempts script made there range turns core is t.number)
-      (few_attempts (plan_of script) (id_plan_of script) (all_tasks script) (given core) h.scene h.marks (let s = h.story in s.births) (let s = h.story in s.tasks) (are_numbered script made there range (given core)) client t asked own op
+      (few_attempts (plan_of script) (id_plan_of script) (all_tasks script) (gave_in core) h.scene h.marks (let s = h.story in s.births) (let s = h.story in s.tasks) (are_numbered script made there range (gave_in core)) client t asked own op
       (let fits : TaskFits (plan_of script) t = in_all (TaskFits (plan_of script)) own.0 (all_of (TaskFits (plan_of script)) (all_tasks script) (let are = made.are in are.fit) client own.0 own.1) t own.2 in
       let call = subst (OpFits (plan_of script)) op fits.1 in call.range_low))
 
   module _ (closes : ClosesInRun script turns core is) (fixed : Fixed) (orders : ℕ → Order) where
     -- each attempt but the last of a call was given up for an error that was posted for it
     pub run_advanced_by : (client : ℕ) (t : Task) (asked : Asked) → IsTask (all_tasks script) core.outcomes client t → t.op ≡ ops.Call asked → (n : ℕ) → n < attempts_of_run script turns core is t.number
-        → AdvancedByPost (plan_of script) (all_tasks script) core.outcomes fixed (given core) orders (posts_of_run script turns core is) t.number n
+        → AdvancedByPost (plan_of script) (all_tasks script) core.outcomes fixed (gave_in core) orders (posts_of_run script turns core is) t.number n
     run_advanced_by client t asked at op n less = let h = run_has_story script made there range turns core is in let e = run_has_ended script made there range turns core is closes in
-        subst (λ (d : Core). AdvancedByPost (plan_of script) (all_tasks script) d.outcomes fixed (given d) orders (posts_of_run script turns core is) t.number n) h.is
-        (advanced_by (plan_of script) (id_plan_of script) (all_tasks script) (given core) h.scene h.marks e fixed orders (attempts_of_run script turns core is) (run_attempts script made there range turns core is) (posts_of_run script turns core is) (run_posted script made there range turns core is) t.number n less)
+        subst (λ (d : Core). AdvancedByPost (plan_of script) (all_tasks script) d.outcomes fixed (gave_in d) orders (posts_of_run script turns core is) t.number n) h.is
+        (advanced_by (plan_of script) (id_plan_of script) (all_tasks script) (gave_in core) h.scene h.marks e fixed orders (attempts_of_run script turns core is) (run_attempts script made there range turns core is) (posts_of_run script turns core is) (run_posted script made there range turns core is) t.number n less)
 
     -- and such a call has an outcome, which shows its id
     pub run_advanced_shown : (client : ℕ) (t : Task) (asked : Asked) → IsTask (all_tasks script) core.outcomes client t → t.op ≡ ops.Call asked → (n : ℕ) → n < attempts_of_run script turns core is t.number
-        → (outcome : Outcome) × (id : ℕ) × Became (all_tasks script) core.outcomes t.number outcome × ShowsId (plan_of script) (all_tasks script) core.outcomes fixed (given core) orders outcome id
+        → (outcome : Outcome) × (id : ℕ) × Became (all_tasks script) core.outcomes t.number outcome × ShowsId (plan_of script) (all_tasks script) core.outcomes fixed (gave_in core) orders outcome id
     run_advanced_shown client t asked at op n less = let h = run_has_story script made there range turns core is in let e = run_has_ended script made there range turns core is closes in
-        subst (λ (d : Core). (outcome : Outcome) × (id : ℕ) × Became (all_tasks script) d.outcomes t.number outcome × ShowsId (plan_of script) (all_tasks script) d.outcomes fixed (given d) orders outcome id) h.is
-        (advanced_shown (plan_of script) (id_plan_of script) (all_tasks script) (given core) h.scene h.marks e fixed orders (attempts_of_run script turns core is) (run_attempts script made there range turns core is) (posts_of_run script turns core is) (run_posted script made there range turns core is) t.number n less)
+        subst (λ (d : Core). (outcome : Outcome) × (id : ℕ) × Became (all_tasks script) d.outcomes t.number outcome × ShowsId (plan_of script) (all_tasks script) d.outcomes fixed (gave_in d) orders outcome id) h.is
+        (advanced_shown (plan_of script) (id_plan_of script) (all_tasks script) (gave_in core) h.scene h.marks e fixed orders (attempts_of_run script turns core is) (run_attempts script made there range turns core is) (posts_of_run script turns core is) (run_posted script made there range turns core is) t.number n less)
 
     -- a call that failed did so by an `expire`, by a compressed response, or by an error that was posted for its last attempt
     pub run_failed_by : (client : ℕ) (t : Task) (asked : Asked) (id code : ℕ) → IsTask (all_tasks script) core.outcomes client t → t.op ≡ ops.Call asked → Became (all_tasks script) core.outcomes t.number (outcomes.CallFailed id code)
-        → FailedByPost (plan_of script) (all_tasks script) core.outcomes fixed (given core) orders (attempts_of_run script turns core is) (posts_of_run script turns core is) t.number asked id code
-    run_failed_by client t asked id code at op has = posted_of (plan_of script) (id_plan_of script) (all_tasks script) (given core) core.outcomes fixed (given core) orders (attempts_of_run script turns core is) (posts_of_run script turns core is) (λ j. shows_in_run script turns core is (decided_by j)) t.number asked id code
+        → FailedByPost (plan_of script) (all_tasks script) core.outcomes fixed (gave_in core) orders (attempts_of_run script turns core is) (posts_of_run script turns core is) t.number asked id code
+    run_failed_by client t asked id code at op has = posted_of (plan_of script) (id_plan_of script) (all_tasks script) (gave_in core) core.outcomes fixed (gave_in core) orders (attempts_of_run script turns core is) (posts_of_run script turns core is) (λ j. shown_in_run script turns core is (decided_by j)) t.number asked id code
         (run_failed_decided script made there range turns core is closes fixed orders client t asked id code at op has)

@@ -24,7 +24,7 @@ use Rattle.story_ticks.specs.Below.programs_allowed.specs.program_walks.proofs.W
 use Rattle.story_ticks.specs.Below.joint_runs.proofs.Both.{BothSound, AreBoth, behind_both}
 use Rattle.story_ticks.specs.Below.joint_runs.proofs.Runs.{AreMade, first_views, IsSoundRun, joint_runs}
 use Rattle.story_ticks.specs.Below.joint_runs.proofs.Starts.{narrow}
-use Rattle.story_ticks.specs.call_stories.specs.Lists.{times, advanced_at, shows_in, shows_in_run, attempts_of_run}
+use Rattle.story_ticks.specs.call_stories.specs.Lists.{times, advanced_at, attempts_of_run}
 use Rattle.story_ticks.specs.call_stories.specs.Posts.{Post, posted_at, posts_of_run}
 use Rattle.story_ticks.specs.call_stories.specs.Decided.{Decision, decided_at}
 use Rattle.story_ticks.specs.call_stories.specs.Scenes.{Scene, LeadsTo}
@@ -42,6 +42,7 @@ use Rattle.story_ticks.specs.call_stories.proofs.RunTicks.{parts}
 use Rattle.story_ticks.proofs.RunFacts.{run_facts, leadings}
 use Rattle.story_ticks.proofs.Opening.{Begins, first_decided}
 use Rattle.story_ticks.specs.Below.outcome_stories.specs.Stories.{In}
+use Rattle.story_ticks.specs.Below.outcome_stories.specs.Facts.{shown_in, shown_in_run}
 
 pub times_append : (o : ℕ) (xs ys : List ℕ) → times o (xs ++ ys) ≡ times o xs + times o ys
 times_append o [] ys = omega arith
@@ -91,19 +92,19 @@ module _ (p : Plan) (q : IdPlan) (clients : List (List Task)) (gives : ℕ → L
 
   -- ticks of seat 0
   setup_told : (n : ℕ) (decided : List Decision) (posted : List Post) (shown : List ℕ) (c : Core) (vs : List View) → AreBoth p q c vs (replicate n (quiet 0)) → LeadsTo p q clients gives (run p c (replicate n (quiet 0))) → Told decided posted shown c
-      → Told (decided ++ shows_in decided_at p c (replicate n (quiet 0))) (posted ++ shows_in posted_at p c (replicate n (quiet 0))) (shown ++ shows_in advanced_at p c (replicate n (quiet 0))) (run p c (replicate n (quiet 0)))
+      → Told (decided ++ shown_in decided_at p c (replicate n (quiet 0))) (posted ++ shown_in posted_at p c (replicate n (quiet 0))) (shown ++ shown_in advanced_at p c (replicate n (quiet 0))) (run p c (replicate n (quiet 0)))
   setup_told zero decided posted shown c vs are lead h = retold decided (decided ++ []) posted (posted ++ []) shown (shown ++ []) c (sym (append-nil decided)) (sym (append-nil posted)) (λ o. let z : times o (shown ++ []) ≡ times o shown + 0 = times_append o shown [] in omega (arith, z)) h
-  setup_told (suc n) decided posted shown c vs are lead h = retold ((decided ++ decided_at c (quiet 0)) ++ shows_in decided_at p (ticked p c (quiet 0)) (replicate n (quiet 0))) (decided ++ (decided_at c (quiet 0) ++ shows_in decided_at p (ticked p c (quiet 0)) (replicate n (quiet 0))))
-      ((posted ++ posted_at c (quiet 0)) ++ shows_in posted_at p (ticked p c (quiet 0)) (replicate n (quiet 0))) (posted ++ (posted_at c (quiet 0) ++ shows_in posted_at p (ticked p c (quiet 0)) (replicate n (quiet 0)))) ((shown ++ advanced_at c (quiet 0)) ++ shows_in advanced_at p (ticked p c (quiet 0)) (replicate n (quiet 0))) (shown ++ (advanced_at c (quiet 0) ++ shows_in advanced_at p (ticked p c (quiet 0)) (replicate n (quiet 0)))) (run p (ticked p c (quiet 0)) (replicate n (quiet 0)))
-      (append_assoc decided (decided_at c (quiet 0)) (shows_in decided_at p (ticked p c (quiet 0)) (replicate n (quiet 0)))) (append_assoc posted (posted_at c (quiet 0)) (shows_in posted_at p (ticked p c (quiet 0)) (replicate n (quiet 0)))) (λ o. times_assoc o shown (advanced_at c (quiet 0)) (shows_in advanced_at p (ticked p c (quiet 0)) (replicate n (quiet 0))))
+  setup_told (suc n) decided posted shown c vs are lead h = retold ((decided ++ decided_at c (quiet 0)) ++ shown_in decided_at p (ticked p c (quiet 0)) (replicate n (quiet 0))) (decided ++ (decided_at c (quiet 0) ++ shown_in decided_at p (ticked p c (quiet 0)) (replicate n (quiet 0))))
+      ((posted ++ posted_at c (quiet 0)) ++ shown_in posted_at p (ticked p c (quiet 0)) (replicate n (quiet 0))) (posted ++ (posted_at c (quiet 0) ++ shown_in posted_at p (ticked p c (quiet 0)) (replicate n (quiet 0)))) ((shown ++ advanced_at c (quiet 0)) ++ shown_in advanced_at p (ticked p c (quiet 0)) (replicate n (quiet 0))) (shown ++ (advanced_at c (quiet 0) ++ shown_in advanced_at p (ticked p c (quiet 0)) (replicate n (quiet 0)))) (run p (ticked p c (quiet 0)) (replicate n (quiet 0)))
+      (append_assoc decided (decided_at c (quiet 0)) (shown_in decided_at p (ticked p c (quiet 0)) (replicate n (quiet 0)))) (append_assoc posted (posted_at c (quiet 0)) (shown_in posted_at p (ticked p c (quiet 0)) (replicate n (quiet 0)))) (λ o. times_assoc o shown (advanced_at c (quiet 0)) (shown_in advanced_at p (ticked p c (quiet 0)) (replicate n (quiet 0))))
       (setup_told n (decided ++ decided_at c (quiet 0)) (posted ++ posted_at c (quiet 0)) (shown ++ advanced_at c (quiet 0)) (ticked p c (quiet 0)) (views_after p c vs (quiet 0)) are.2 lead (told_tick decided posted shown c vs (quiet 0) are.0 are.1 (λ other. absurd (other refl)) (run_leads p q clients gives (replicate n (quiet 0)) (ticked p c (quiet 0)) lead) h))
 
   -- ticks behind seat 0, which has no step left
-  played_told : (ms : List Moment) (decided : List Decision) (posted : List Post) (shown : List ℕ) (c : Core) (vs : List View) → AreBoth p q c vs ms → IsAhead c → IsAtRest c 0 → LeadsTo p q clients gives (run p c ms) → Told decided posted shown c → Told (decided ++ shows_in decided_at p c ms) (posted ++ shows_in posted_at p c ms) (shown ++ shows_in advanced_at p c ms) (run p c ms)
+  played_told : (ms : List Moment) (decided : List Decision) (posted : List Post) (shown : List ℕ) (c : Core) (vs : List View) → AreBoth p q c vs ms → IsAhead c → IsAtRest c 0 → LeadsTo p q clients gives (run p c ms) → Told decided posted shown c → Told (decided ++ shown_in decided_at p c ms) (posted ++ shown_in posted_at p c ms) (shown ++ shown_in advanced_at p c ms) (run p c ms)
   played_told [] decided posted shown c vs are ahead rests lead h = retold decided (decided ++ []) posted (posted ++ []) shown (shown ++ []) c (sym (append-nil decided)) (sym (append-nil posted)) (λ o. let z : times o (shown ++ []) ≡ times o shown + 0 = times_append o shown [] in omega (arith, z)) h
-  played_told (m ∷ ms) decided posted shown c vs are ahead rests lead h = retold ((decided ++ decided_at c m) ++ shows_in decided_at p (ticked p c m) ms) (decided ++ (decided_at c m ++ shows_in decided_at p (ticked p c m) ms))
-      ((posted ++ posted_at c m) ++ shows_in posted_at p (ticked p c m) ms) (posted ++ (posted_at c m ++ shows_in posted_at p (ticked p c m) ms)) ((shown ++ advanced_at c m) ++ shows_in advanced_at p (ticked p c m) ms) (shown ++ (advanced_at c m ++ shows_in advanced_at p (ticked p c m) ms)) (run p (ticked p c m) ms)
-      (append_assoc decided (decided_at c m) (shows_in decided_at p (ticked p c m) ms)) (append_assoc posted (posted_at c m) (shows_in posted_at p (ticked p c m) ms)) (λ o. times_assoc o shown (advanced_at c m) (shows_in advanced_at p (ticked p c m) ms))
+  played_told (m ∷ ms) decided posted shown c vs are ahead rests lead h = retold ((decided ++ decided_at c m) ++ shown_in decided_at p (ticked p c m) ms) (decided ++ (decided_at c m ++ shown_in decided_at p (ticked p c m) ms))
+      ((posted ++ posted_at c m) ++ shown_in posted_at p (ticked p c m) ms) (posted ++ (posted_at c m ++ shown_in posted_at p (ticked p c m) ms)) ((shown ++ advanced_at c m) ++ shown_in advanced_at p (ticked p c m) ms) (shown ++ (advanced_at c m ++ shown_in advanced_at p (ticked p c m) ms)) (run p (ticked p c m) ms)
+      (append_assoc decided (decided_at c m) (shown_in decided_at p (ticked p c m) ms)) (append_assoc posted (posted_at c m) (shown_in posted_at p (ticked p c m) ms)) (λ o. times_assoc o shown (advanced_at c m) (shown_in advanced_at p (ticked p c m) ms))
       (played_told ms (decided ++ decided_at c m) (posted ++ posted_at c m) (shown ++ advanced_at c m) (ticked p c m) (views_after p c vs m) are.2 (ticked_ahead p c m ahead) (ticked_rests p c m 0 rests) lead (told_tick decided posted shown c vs m are.0 are.1 (λ _ seat at. seat_rests c ahead 0 rests seat at) (run_leads p q clients gives ms (ticked p c m) lead) h))
 
   -- a story that shows as much as the scene of one shows what that shows
@@ -214,7 +215,7 @@ module _ (script : List Item) (made : AreMade script) (gives : ℕ → List ℕ)
   end_tale = subst (Tale (((decided_in_setup ++ decided_in_clients) ++ decided_in_closing) ++ decided_in_final) (((posts_in_setup ++ posts_in_clients) ++ posts_in_closing) ++ posts_in_final) (((in_setup ++ in_clients) ++ in_closing) ++ in_final)) (sym is.is_end) (played_told (plan_of script) (id_plan_of script) (all_tasks script) gives numbered slots small is.final ((decided_in_setup ++ decided_in_clients) ++ decided_in_closing) ((posts_in_setup ++ posts_in_clients) ++ posts_in_closing) ((in_setup ++ in_clients) ++ in_closing) is.ended (views_closed script turns core is (first_views script)) (let s = sound_run in s.final) ended_ahead is.is_over (subst (LeadsTo (plan_of script) (id_plan_of script) (all_tasks script) gives) is.is_end leads) ended_tale)
 
   -- at the end of a run its story is there, ids took no other errors than the run shows, the attempt of each call was advanced as often, and seats decided on no other errors
-  pub run_told : (s : (ps : List Post) × (ns : List ℕ) × HasStory (plan_of script) (id_plan_of script) (all_tasks script) gives ps ns core × ((x : Post) → In x ps → In x (posts_of_run script turns core is)) × ((o : ℕ) → times o ns ≡ attempts_of_run script turns core is o)) × ((d : Decision) → In d s.2.scene.decisions → In d (shows_in_run script turns core is decided_at))
+  pub run_told : (s : (ps : List Post) × (ns : List ℕ) × HasStory (plan_of script) (id_plan_of script) (all_tasks script) gives ps ns core × ((x : Post) → In x ps → In x (posts_of_run script turns core is)) × ((o : ℕ) → times o ns ≡ attempts_of_run script turns core is o)) × ((d : Decision) → In d s.2.scene.decisions → In d (shown_in_run script turns core is decided_at))
   run_told = let t = end_tale in let h = t.0 in (
     (h.0, h.1, h.2, (λ x there. subst (In x) (append_assoc (posts_in_setup ++ posts_in_clients) posts_in_closing posts_in_final ∙ append_assoc posts_in_setup posts_in_clients (posts_in_closing ++ posts_in_final)) (h.3 x there)), λ o. h.4 o ∙ (times_assoc o (in_setup ++ in_clients) in_closing in_final ∙ times_assoc o in_setup in_clients (in_closing ++ in_final))),
     λ d there. subst (In d) (append_assoc (decided_in_setup ++ decided_in_clients) decided_in_closing decided_in_final ∙ append_assoc decided_in_setup decided_in_clients (decided_in_closing ++ decided_in_final)) (t.1 d there),

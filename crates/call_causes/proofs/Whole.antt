@@ -13,13 +13,13 @@ use Rattle.seat_programs.specs.Tasks.{plan_of, id_plan_of}
 use Rattle.seat_programs.specs.Scripts.{all_tasks, IsRunWithCalls}
 use Rattle.seat_programs.specs.ToldCalls.{Fixed, Order}
 use Rattle.story_ticks.specs.Below.programs_allowed.specs.program_steps.specs.Sound.{AllRest}
-use Rattle.story_ticks.specs.Below.outcome_stories.specs.Facts.{Seeks, CallsFoundNone}
+use Rattle.story_ticks.specs.Below.outcome_stories.specs.Facts.{Seeks, CallsFoundNone, shown_in_run}
 use Rattle.story_ticks.specs.Below.joint_runs.proofs.Runs.{AreMade}
 use Rattle.story_ticks.specs.Below.call_owing.specs.Below.script_facts.proofs.Reading.{InRange}
 use Rattle.story_ticks.specs.Below.call_owing.specs.Below.script_facts.proofs.Targets.{AreThere}
 use Rattle.story_ticks.specs.Below.call_owing.specs.Lives.{ClosesInRun}
 use Rattle.story_ticks.specs.Below.owed_calls.proofs.Known.{run_all_ended, run_all_rest}
-use Rattle.story_ticks.specs.call_stories.specs.Lists.{given, times, shows_in_run, attempts_of_run}
+use Rattle.story_ticks.specs.call_stories.specs.Lists.{gave_in, times, attempts_of_run}
 use Rattle.story_ticks.specs.call_stories.specs.Target.{ToldOnCallsInPart}
 use Rattle.story_ticks.specs.call_stories.specs.Posts.{Post, posts_of_run}
 use Rattle.story_ticks.specs.call_stories.specs.Decided.{Decision, decided_at}
@@ -43,17 +43,17 @@ seeks_name n _ s = s
 
 module _ (script : List Item) (made : AreMade script) (there : AreThere script) (range : AllByRecursion InRange script) (turns : List Turn) (core : Core) (is : IsRunWithCalls script turns core) where
   abbrev gives : ℕ → List ℕ
-  gives = given core
+  gives = gave_in core
 
-  leads : LeadsTo (plan_of script) (id_plan_of script) (all_tasks script) (given core) core
-  leads k = ([], append-nil (given core k))
+  leads : LeadsTo (plan_of script) (id_plan_of script) (all_tasks script) (gave_in core) core
+  leads k = ([], append-nil (gave_in core k))
 
   -- with the errors that ids took, and the calls whose attempts were advanced, each the latest first, and with the errors on which seats decided
-  pub run_tale : (s : (ps : List Post) × (ns : List ℕ) × HasStory (plan_of script) (id_plan_of script) (all_tasks script) (given core) ps ns core × ((x : Post) → In x ps → In x (posts_of_run script turns core is)) × ((o : ℕ) → times o ns ≡ attempts_of_run script turns core is o)) × ((d : Decision) → In d s.2.scene.decisions → In d (shows_in_run script turns core is decided_at))
-  run_tale = run_told script made (given core) (are_numbered script made there range (given core)) (have_slots script made there range (given core)) (begins script made there range (given core)) turns core is leads
+  pub run_tale : (s : (ps : List Post) × (ns : List ℕ) × HasStory (plan_of script) (id_plan_of script) (all_tasks script) (gave_in core) ps ns core × ((x : Post) → In x ps → In x (posts_of_run script turns core is)) × ((o : ℕ) → times o ns ≡ attempts_of_run script turns core is o)) × ((d : Decision) → In d s.2.scene.decisions → In d (shown_in_run script turns core is decided_at))
+  run_tale = run_told script made (gave_in core) (are_numbered script made there range (gave_in core)) (have_slots script made there range (gave_in core)) (begins script made there range (gave_in core)) turns core is leads
 
   -- whatever the schedule, the story of the calls goes on up to the end of the run
-  pub run_has_story : HasStory (plan_of script) (id_plan_of script) (all_tasks script) (given core) run_tale.0.0 run_tale.0.1 core
+  pub run_has_story : HasStory (plan_of script) (id_plan_of script) (all_tasks script) (gave_in core) run_tale.0.0 run_tale.0.1 core
   run_has_story = run_tale.0.2
 
   -- the number of the last attempt of each call is how often it was advanced
@@ -65,14 +65,14 @@ module _ (script : List Item) (made : AreMade script) (there : AreThere script) 
   run_posted id error there = run_tale.0.3 (record { id = id; error = error }) (subst (In (record { id = id; error = error })) run_has_story.shown_posts there)
 
   -- and on each error of which it shows a decision a seat decided in the run
-  pub run_decided : (d : Decision) → In d run_has_story.scene.decisions → In d (shows_in_run script turns core is decided_at)
+  pub run_decided : (d : Decision) → In d run_has_story.scene.decisions → In d (shown_in_run script turns core is decided_at)
   unfolding run_has_story
   run_decided d there = run_tale.1 d there
 
   module _ (closes : ClosesInRun script turns core is) where
     -- and has ended there, where a link answers that it is closed only where its writing half is finished
-    pub run_has_ended : HasEnded (plan_of script) (id_plan_of script) (all_tasks script) (given core) run_has_story.scene run_has_story.marks
-    run_has_ended = let h = run_has_story in has_ended (plan_of script) (id_plan_of script) (all_tasks script) (given core) h.scene h.marks h.story
+    pub run_has_ended : HasEnded (plan_of script) (id_plan_of script) (all_tasks script) (gave_in core) run_has_story.scene run_has_story.marks
+    run_has_ended = let h = run_has_story in has_ended (plan_of script) (id_plan_of script) (all_tasks script) (gave_in core) h.scene h.marks h.story
         (subst AllRest (sym h.is) (run_all_rest script made turns core is closes))
         (λ i inside. subst (λ (d : Core). (parts (get_or d.calls.words (id_index i) 0)).state ≡ 0) (sym h.is) (run_all_ended script made turns core is closes i inside))
         (let r = run_facts script made turns core is in let many = ap (λ (d : Core). length d.seats) h.is ∙ r.many_seats in let seats = made.seats in let few = made.few_clients in omega (arith, many, seats, few))
@@ -80,14 +80,14 @@ module _ (script : List Item) (made : AreMade script) (there : AreThere script) 
     -- where an operation found a name without a socket, the calls of its client before it found so too
     pub run_found_none : CallsFoundNone (all_tasks script) core.outcomes
     run_found_none = let h = run_has_story in subst (λ (d : Core). CallsFoundNone (all_tasks script) d.outcomes) h.is
-        (λ c t u asked n is us sought has low op name. names_found_none (plan_of script) (id_plan_of script) (all_tasks script) (given core) (are_ascending script made there range (given core)) h.scene h.marks run_has_ended c t u n is us (seeks_name n t.op sought) has low (subst (SeeksName n) (sym op) name))
+        (λ c t u asked n is us sought has low op name. names_found_none (plan_of script) (id_plan_of script) (all_tasks script) (gave_in core) (are_ascending script made there range (gave_in core)) h.scene h.marks run_has_ended c t u n is us (seeks_name n t.op sought) has low (subst (SeeksName n) (sym op) name))
 
     module _ (fixed : Fixed) (orders : ℕ → Order) where
       -- each `call`, `expire` and `join` has an outcome and its cause; of a call that failed only so much is told as shows without its sockets
-      pub run_told_in_part : ToldOnCallsInPart (plan_of script) (all_tasks script) core.outcomes fixed (given core) orders (attempts_of_run script turns core is)
-      run_told_in_part = let h = run_has_story in let e = run_has_ended in subst (λ (d : Core). ToldOnCallsInPart (plan_of script) (all_tasks script) d.outcomes fixed (given d) orders (attempts_of_run script turns core is)) h.is (record {
-        told = told (plan_of script) (id_plan_of script) (all_tasks script) (given core) h.scene h.marks e;
-        why = why (plan_of script) (id_plan_of script) (all_tasks script) (given core) (are_ascending script made there range (given core)) h.scene h.marks e fixed orders (λ k. ap (λ (d : Core). given d k) h.is) (attempts_of_run script turns core is) run_attempts;
-        expired_once = expired_once (plan_of script) (id_plan_of script) (all_tasks script) (given core) (are_ascending script made there range (given core)) h.scene h.marks e;
-        versions = versions (plan_of script) (id_plan_of script) (all_tasks script) (given core) h.scene h.marks e;
+      pub run_told_in_part : ToldOnCallsInPart (plan_of script) (all_tasks script) core.outcomes fixed (gave_in core) orders (attempts_of_run script turns core is)
+      run_told_in_part = let h = run_has_story in let e = run_has_ended in subst (λ (d : Core). ToldOnCallsInPart (plan_of script) (all_tasks script) d.outcomes fixed (gave_in d) orders (attempts_of_run script turns core is)) h.is (record {
+        told = told (plan_of script) (id_plan_of script) (all_tasks script) (gave_in core) h.scene h.marks e;
+        why = why (plan_of script) (id_plan_of script) (all_tasks script) (gave_in core) (are_ascending script made there range (gave_in core)) h.scene h.marks e fixed orders (λ k. ap (λ (d : Core). gave_in d k) h.is) (attempts_of_run script turns core is) run_attempts;
+        expired_once = expired_once (plan_of script) (id_plan_of script) (all_tasks script) (gave_in core) (are_ascending script made there range (gave_in core)) h.scene h.marks e;
+        versions = versions (plan_of script) (id_plan_of script) (all_tasks script) (gave_in core) h.scene h.marks e;
       })

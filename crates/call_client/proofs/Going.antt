@@ -10,7 +10,6 @@ use Rattle.sock_words.specs.declared.outcome.Outcome.{Outcome}
 use Rattle.sock_words.specs.declared.outcome.Outcome.TheVariants as outcome
 use Rattle.sock_words.specs.Words.{socket_id_slot}
 use Rattle.sock_model.specs.declared.view.View.{View}
-use Rattle.sock_model.specs.Weights.{total}
 use Rattle.slot_steps.proofs.Numbers.{only_le}
 use Rattle.sock_rule.specs.declared.homes.Letter.{Letter}
 use Rattle.sock_table.specs.Passes.{IsPass}
@@ -28,6 +27,7 @@ use Rattle.call_attempts.specs.call_writes.specs.Sending.{SentCalling}
 use Rattle.call_client.specs.declared.caller.Caller.{Caller}
 use Rattle.call_client.specs.Acting.{MayGo}
 use Rattle.call_client.proofs.Knowing.{sent_plainly}
+use Rattle.sock_words.specs.Totals.{total}
 
 few_there : (i : ℕ) (h : List Held) → total (is_there i) h ≤ length h
 few_there i [] = omega arith

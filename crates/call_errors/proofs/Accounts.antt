@@ -5,7 +5,7 @@ use Rattle.std.specs.Prelude.{Option as Maybe}
 use mathlib.Core.Logic.{dite}
 use native.Mathlib.Decide.{ℕ_discrete}
 use Rattle.corr_core.specs.Word.{Parts, parts}
-use Rattle.corr_core.specs.Law.{total, only, is_ended}
+use Rattle.corr_core.specs.Law.{only, is_ended}
 use Rattle.corr_core.specs.declared.marks.Note.{Note}
 use Rattle.corr_core.specs.declared.marks.Note.TheVariants.{Tried, Made, Ended, Locker, Queued, Attempt, Saw}
 use Rattle.corr_core.specs.declared.marks.Noted.{Noted}
@@ -33,6 +33,7 @@ use Rattle.call_errors.specs.Handling.{Advanced, Decided, ends, starves, waits, 
 use Rattle.call_errors.specs.Posting.{Handled, PostedBy}
 use Rattle.call_errors.specs.Asking.{found_id, TimedOut, SawEnd}
 use Rattle.sock_words.specs.Words.{id_slot, id_first}
+use Rattle.sock_words.specs.Totals.{total}
 
 -- the outcome is that of the call with this id, which failed
 abbrev pub fails : ℕ → Outcome → ℕ

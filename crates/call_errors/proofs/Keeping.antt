@@ -3,7 +3,6 @@ use Rattle.std.proofs.Common.{◌≡◌, ℕ, ◌≤◌, List, [], ◌∷◌, �
 use Rattle.std.specs.Prelude.{Option as Maybe}
 use Rattle.atomic_table.specs.Seated.{TableId}
 use Rattle.atomic_table.specs.declared.shared.Seat.{Seat}
-use Rattle.corr_core.specs.Law.{total}
 use Rattle.corr_core.specs.declared.marks.Note.{Note}
 use Rattle.corr_core.specs.declared.marks.Noted.{Noted}
 use Rattle.corr_core.specs.declared.marks.Token.{Token}
@@ -25,6 +24,7 @@ use Rattle.call_errors.specs.Books.{CallStand, HasNoLock, KeepsSeat}
 use Rattle.call_errors.specs.Handling.{Advanced, Decided, ends, starves, waits, goes_on}
 use Rattle.call_errors.specs.Posting.{Handled, PostedBy}
 use Rattle.call_errors.specs.Starving.{GivenUp, was_gone, ended, AllGivenUp, StarvedBy}
+use Rattle.sock_words.specs.Totals.{total}
 
 -- the same seat behind one step and the next
 pub stays_then : (s t u : Seat (Maybe Asked) (View Asked)) → Stays s t → Stays t u → Stays s u

@@ -4,7 +4,6 @@ use Rattle.sock_words.specs.Codes.{ERPCTIMEDOUT}
 use Rattle.sock_words.specs.declared.outcome.Outcome.{Outcome}
 use Rattle.sock_words.specs.declared.outcome.Outcome.TheVariants as outcome
 use Rattle.corr_core.specs.Word.{parts}
-use Rattle.corr_core.specs.Law.{total}
 use Rattle.corr_core.specs.declared.marks.Plan.{Plan}
 use Rattle.corr_core.specs.declared.marks.View.{View}
 use Rattle.corr_id.specs.id_rule.specs.Lawful.{call_index, with_kept}
@@ -18,6 +17,7 @@ use Rattle.call_errors.specs.declared.asking.Ask.TheVariants.{Expire, Join}
 use Rattle.call_errors.specs.Books.{CallStand}
 use Rattle.call_errors.specs.Posting.{PostedAs}
 use Rattle.sock_words.specs.Words.{id_slot, id_first}
+use Rattle.sock_words.specs.Totals.{total}
 
 -- the operation's word was 0, and the seat knew of no id there
 pub record FoundNone (p : Plan) (operation : ℕ) (s t : CallStand) : Type 0 where

@@ -1,13 +1,14 @@
 -- What a lock by a version came to.
 use Rattle.std.specs.Prelude.{◌≡◌, ℕ, ◌+◌, ◌*◌, ◌<◌, ◌≤◌, ◌⊎◌}
 use Rattle.corr_core.specs.Word.{parts}
-use Rattle.corr_core.specs.Law.{total, is_advance}
+use Rattle.corr_core.specs.Law.{is_advance}
 use Rattle.corr_core.specs.declared.marks.View.{View}
 use Rattle.corr_id.specs.id_rule.specs.Lawful.{notes_of}
 use Rattle.sock_message.specs.Asked.{Asked}
 use Rattle.corr_id.specs.declared.calls.IdLock.{IdLock}
 use Rattle.corr_id.specs.Calls.{Quiet, GotLock, Found, OutOf}
 use Rattle.sock_words.specs.Words.{id_slot, id_first, call_id}
+use Rattle.sock_words.specs.Totals.{total}
 
 -- the id that a lock has
 abbrev pub id_in : IdLock Asked → ℕ

@@ -6,12 +6,11 @@ use Rattle.corr_core.specs.Word.{Parts, parts}
 use Rattle.corr_core.specs.declared.marks.Plan.{Plan as IdPlan}
 use Rattle.seat_programs.specs.id_rule.specs.Lawful as ids
 use Rattle.seat_programs.specs.Asides.{LockId}
-use Rattle.seat_programs.specs.Posts.{advance_of}
 use Rattle.seat_programs.specs.Cores.{Core, waiting_at}
 use Rattle.call_owing.specs.Owing.{Duty, Trying, Owing, Among, duty_tokens, MayUnlock, FindsOwe, FindsUnlock}
 use Rattle.call_owing.specs.Sound.{id_word_of, retry_tokens, Past, Token, ErrorPast, OwingLaw}
 use Rattle.call_owing.proofs.Changes.{among_left}
-use Rattle.sock_words.specs.Words.{call_id, id_slot, id_first}
+use Rattle.sock_words.specs.Words.{call_id, id_slot, id_first, bit}
 
 module _ (q : IdPlan) (life : ℕ → Option ℕ) (calls : List ℕ) (c : Core) (us : List Owing) (i : ℕ) (u : Owing) (law : OwingLaw q life calls c us) (at : get_elem? us i ≡ some u) where
   tries : (id n : ℕ) → u.duty ≡ Trying id n → Token c us id n i
@@ -36,10 +35,10 @@ module _ (q : IdPlan) (life : ℕ → Option ℕ) (calls : List ℕ) (c : Core) 
     oldest_past = subst (λ (y : Parts). ErrorPast us (call_id s (parts from).first) y.oldest) word_is
         (law.errors (call_id s (parts from).first) (subst (λ k. k < q.slots) (sym slot_is) inside) (ap (λ (y : Parts). y.first) word_is ∙ sym first_is) (subst (λ (y : Parts). 0 < y.state) (sym word_is) some_)).0
 
-    not_past : (advance : Bool) → MayUnlock s from advance u → Past us (call_id s (parts from).first) ((parts from).attempt + advance_of advance) → ⊥
+    not_past : (advance : Bool) → MayUnlock s from advance u → Past us (call_id s (parts from).first) ((parts from).attempt + bit advance) → ⊥
     not_past true may p = ⊎_elim (λ e. let z = e.1 in let y = ap (λ (y : Parts). y.first) word_is in omega (arith, z, y, first_is)) (λ a. let z = a.3 in let y = ap (λ (y : Parts). y.attempt) word_is in omega (arith, z, y)) (law.past (call_id s (parts from).first) ((parts from).attempt + 1) p)
     not_past false may p = law.coming (call_id s (parts from).first) (parts from).attempt i (tries (call_id s (parts from).first) (parts from).attempt may) (subst (Past us (call_id s (parts from).first)) (let z : (parts from).attempt + 0 ≡ (parts from).attempt = omega arith in z) p)
 
     -- with what the rule of the ids says of the word of a lock
-    pub unlock_finds : (found : ℕ) (advance : Bool) → MayUnlock s from advance u → (parts from).attempt + advance_of advance ≤ 6 → (found ≢ from → ((parts found).first ≡ (parts from).first) × ((parts found).attempt ≡ (parts from).attempt)) → FindsUnlock from advance found
+    pub unlock_finds : (found : ℕ) (advance : Bool) → MayUnlock s from advance u → (parts from).attempt + bit advance ≤ 6 → (found ≢ from → ((parts found).first ≡ (parts from).first) × ((parts found).attempt ≡ (parts from).attempt)) → FindsUnlock from advance found
     unlock_finds found advance may few longer = (low, few, longer, λ _ error same. ⊎_elim (λ whole. omega (arith, whole, same, few)) (λ p. not_past advance may (subst (Past us (call_id s (parts from).first)) same p)) (oldest_past error))

@@ -8,14 +8,14 @@ use Rattle.seat_programs.specs.Asides.{PutCall, FreeId}
 use Rattle.seat_programs.specs.Heads.{Retry, Posts, Unlocks, Decides, Posting, WasGone, WasStale, WasCrowded, WasQueued, HasLocked, Unlocking, IsOpen, HasNext, Deciding, HasEnded, GoesOn}
 use Rattle.seat_programs.specs.Programs.{Program, Aside, Round}
 use Rattle.sock_words.specs.Codes.{is_final}
-use Rattle.seat_programs.specs.Posts.{packed, advance_of, is_first, is_stale, is_full, judged, posted, post_with, post, popped, end_id, decide, decided, unlocked}
+use Rattle.seat_programs.specs.Posts.{packed, is_first, is_stale, is_full, judged, posted, post_with, post, popped, end_id, decide, decided, unlocked}
 use Rattle.seat_programs.specs.Rounds.{round}
 use Rattle.joint_runs.specs.Below.id_runs.proofs.Keeps.{parts_packed}
 use Rattle.call_owing.specs.Owing.{Duty, Free, Trying, Linked, Looking, Telling, Owing, Among, IsOpenAt, with_duty, freed, with_known, with_error, unlocked_by, KnowsError, FindsUnlock}
 use Rattle.call_owing.specs.Owing as owing
 use Rattle.call_owing.specs.Owes.{Further, PostsOwn, IsDue, MayDecide, MayAdvance, AtOwe, LeavesUnlocks, LeavesPosts, OwesOn}
 pub use Rattle.joint_runs.specs.Below.id_runs.proofs.Loops.{not_true, not_equal, and_left, and_right}
-use Rattle.sock_words.specs.Words.{id_slot, id_first, call_id}
+use Rattle.sock_words.specs.Words.{id_slot, id_first, call_id, bit}
 
 -- ## Numbers and truth values
 
@@ -246,7 +246,7 @@ module _ (life : ℕ → Option ℕ) where
   -- ## Giving a lock back
 
   turn_duty : (u : Owing) (i from : ℕ) (advance : Bool) → AtOwe life u (Unlocks i from advance)
-      → Further (with_duty (Trying (call_id i (parts from).first) ((parts from).attempt + advance_of advance)) u) (cond advance (with_duty (Trying (call_id i (parts from).first) ((parts from).attempt + 1)) u) u)
+      → Further (with_duty (Trying (call_id i (parts from).first) ((parts from).attempt + bit advance)) u) (cond advance (with_duty (Trying (call_id i (parts from).first) ((parts from).attempt + 1)) u) u)
   turn_duty u i from true at = same_further (with_duty (Trying (call_id i (parts from).first) ((parts from).attempt + 1)) u)
   turn_duty u i from false at = let same : (parts from).attempt + 0 ≡ (parts from).attempt = omega arith in
       subst (λ (m : ℕ). Further (with_duty (Trying (call_id i (parts from).first) m) u) u) (sym same) (subst (λ (x : Owing). Further x u) (sym (had_duty u (Trying (call_id i (parts from).first) (parts from).attempt) at)) (same_further u))
@@ -268,7 +268,7 @@ module _ (life : ℕ → Option ℕ) where
   slot_first i f low = omega (arith, low)
 
   pub unlocks_goes : (u : Owing) (i from : ℕ) (advance : Bool) (k : Unlocking → Program) → AtOwe life u (Unlocks i from advance)
-      → ((exit : Unlocking) (v : Owing) → LeavesUnlocks life (call_id i (parts from).first) ((parts from).attempt + advance_of advance) exit u v → OwesOn life v (k exit)) → OwesOn life u (round (Unlocks i from advance) k)
+      → ((exit : Unlocking) (v : Owing) → LeavesUnlocks life (call_id i (parts from).first) ((parts from).attempt + bit advance) exit u v → OwesOn life v (k exit)) → OwesOn life u (round (Unlocks i from advance) k)
   unlocks_goes u i from advance k at goes = (
     may_unlock u i from advance at,
     λ found f. pick (λ (v : Owing). v ≡ cond (eqb found from) (unlocked_by i from advance u) u) (eqb found from) (popped i (parts from).oldest after k) (Round (Unlocks i found advance) k)
@@ -278,54 +278,54 @@ module _ (life : ℕ → Option ℕ) where
           sym (ap (λ b. cond b (unlocked_by i from advance u) u) miss),
           (
             at_found u i from found advance same.0 same.1 at,
-            λ exit v l. goes exit v (subst (λ x. LeavesUnlocks life (call_id i x) ((parts from).attempt + advance_of advance) exit u v) same.0 (subst (λ x. LeavesUnlocks life (call_id i (parts found).first) (x + advance_of advance) exit u v) same.1 l)),
+            λ exit v l. goes exit v (subst (λ x. LeavesUnlocks life (call_id i x) ((parts from).attempt + bit advance) exit u v) same.0 (subst (λ x. LeavesUnlocks life (call_id i (parts found).first) (x + bit advance) exit u v) same.1 l)),
           ),
         )),
   )
     where
       after : ℕ
-      after = packed (unlocked_word (parts from) (advance_of advance))
+      after = packed (unlocked_word (parts from) (bit advance))
 
       id : ℕ
       id = call_id i (parts from).first
 
       n : ℕ
-      n = (parts from).attempt + advance_of advance
+      n = (parts from).attempt + bit advance
 
       turned : Owing
       turned = cond advance (with_duty (Trying (call_id i (parts from).first) ((parts from).attempt + 1)) u) u
 
-      further : Further (with_duty (Trying (call_id i (parts from).first) ((parts from).attempt + advance_of advance)) u) (unlocked_by i from advance u)
-      further = then_further (with_duty (Trying (call_id i (parts from).first) ((parts from).attempt + advance_of advance)) u) (cond advance (with_duty (Trying (call_id i (parts from).first) ((parts from).attempt + 1)) u) u) (unlocked_by i from advance u)
+      further : Further (with_duty (Trying (call_id i (parts from).first) ((parts from).attempt + bit advance)) u) (unlocked_by i from advance u)
+      further = then_further (with_duty (Trying (call_id i (parts from).first) ((parts from).attempt + bit advance)) u) (cond advance (with_duty (Trying (call_id i (parts from).first) ((parts from).attempt + 1)) u) u) (unlocked_by i from advance u)
           (turn_duty u i from advance at) (error_further (call_id i (parts from).first) (parts from).oldest (cond advance (with_duty (Trying (call_id i (parts from).first) ((parts from).attempt + 1)) u) u))
 
       state_fits : (b : Bool) → cond b 1 2 < 4
       state_fits true = omega arith
       state_fits false = omega arith
 
-      word_after : (parts from).attempt + advance_of advance ≤ 6 → parts (packed (unlocked_word (parts from) (advance_of advance))) ≡ unlocked_word (parts from) (advance_of advance)
-      word_after low = parts_packed (unlocked_word (parts from) (advance_of advance)) (state_fits (eqb (parts from).oldest 0)) (omega arith) (omega arith) (omega (arith, low)) (omega arith) (omega arith)
+      word_after : (parts from).attempt + bit advance ≤ 6 → parts (packed (unlocked_word (parts from) (bit advance))) ≡ unlocked_word (parts from) (bit advance)
+      word_after low = parts_packed (unlocked_word (parts from) (bit advance)) (state_fits (eqb (parts from).oldest 0)) (omega arith) (omega arith) (omega (arith, low)) (omega arith) (omega arith)
 
-      again : (parts (packed (unlocked_word (parts from) (advance_of advance)))) ≡ unlocked_word (parts from) (advance_of advance) → OwesOn life (unlocked_by i from advance u) (Round (Unlocks i (packed (unlocked_word (parts from) (advance_of advance))) false) k)
-      again is = let f : (parts (packed (unlocked_word (parts from) (advance_of advance)))).first ≡ (parts from).first = ap (λ (w : Parts). w.first) is in
-          let a : (parts (packed (unlocked_word (parts from) (advance_of advance)))).attempt ≡ (parts from).attempt + advance_of advance = ap (λ (w : Parts). w.attempt) is in (
-            further.duty ∙ ap (λ x. Trying (call_id i x) ((parts from).attempt + advance_of advance)) (sym f) ∙ ap (λ x. Trying (call_id i (parts (packed (unlocked_word (parts from) (advance_of advance)))).first) x) (sym a),
-            λ exit v l. goes exit v (further_unlocks (call_id i (parts from).first) ((parts from).attempt + advance_of advance) u (unlocked_by i from advance u) further exit v
-                (subst (λ x. LeavesUnlocks life (call_id i (parts from).first) x exit (unlocked_by i from advance u) v) (plus_none ((parts from).attempt + advance_of advance))
-                (subst (λ x. LeavesUnlocks life (call_id i x) ((parts from).attempt + advance_of advance + 0) exit (unlocked_by i from advance u) v) f
-                (subst (λ x. LeavesUnlocks life (call_id i (parts (packed (unlocked_word (parts from) (advance_of advance)))).first) (x + 0) exit (unlocked_by i from advance u) v) a l)))),
+      again : (parts (packed (unlocked_word (parts from) (bit advance)))) ≡ unlocked_word (parts from) (bit advance) → OwesOn life (unlocked_by i from advance u) (Round (Unlocks i (packed (unlocked_word (parts from) (bit advance))) false) k)
+      again is = let f : (parts (packed (unlocked_word (parts from) (bit advance)))).first ≡ (parts from).first = ap (λ (w : Parts). w.first) is in
+          let a : (parts (packed (unlocked_word (parts from) (bit advance)))).attempt ≡ (parts from).attempt + bit advance = ap (λ (w : Parts). w.attempt) is in (
+            further.duty ∙ ap (λ x. Trying (call_id i x) ((parts from).attempt + bit advance)) (sym f) ∙ ap (λ x. Trying (call_id i (parts (packed (unlocked_word (parts from) (bit advance)))).first) x) (sym a),
+            λ exit v l. goes exit v (further_unlocks (call_id i (parts from).first) ((parts from).attempt + bit advance) u (unlocked_by i from advance u) further exit v
+                (subst (λ x. LeavesUnlocks life (call_id i (parts from).first) x exit (unlocked_by i from advance u) v) (plus_none ((parts from).attempt + bit advance))
+                (subst (λ x. LeavesUnlocks life (call_id i x) ((parts from).attempt + bit advance + 0) exit (unlocked_by i from advance u) v) f
+                (subst (λ x. LeavesUnlocks life (call_id i (parts (packed (unlocked_word (parts from) (bit advance)))).first) (x + 0) exit (unlocked_by i from advance u) v) a l)))),
           )
         where
           plus_none : (m : ℕ) → m + 0 ≡ m
           plus_none m = omega arith
 
-      next : FindsUnlock from advance from → (parts from).oldest ≢ 0 → is_stale (parts from).oldest (parts (packed (unlocked_word (parts from) (advance_of advance)))) ≡ false → attempt_of (parts from).oldest ≡ 7
+      next : FindsUnlock from advance from → (parts from).oldest ≢ 0 → is_stale (parts from).oldest (parts (packed (unlocked_word (parts from) (bit advance)))) ≡ false → attempt_of (parts from).oldest ≡ 7
       next f some_ fresh = by_whole (eqb (attempt_of (parts from).oldest) 7) refl
         where
           by_whole : (b : Bool) → eqb (attempt_of (parts from).oldest) 7 ≡ b → attempt_of (parts from).oldest ≡ 7
           by_whole true is = eqb-true (attempt_of (parts from).oldest) 7 is
-          by_whole false is = absurd (f.3 refl some_ (eqb-true (attempt_of (parts from).oldest) (parts (packed (unlocked_word (parts from) (advance_of advance)))).attempt
-              (current_of (eqb (attempt_of (parts from).oldest) 7) (eqb (attempt_of (parts from).oldest) (parts (packed (unlocked_word (parts from) (advance_of advance)))).attempt) fresh is) ∙ ap (λ (w : Parts). w.attempt) (word_after f.1)))
+          by_whole false is = absurd (f.3 refl some_ (eqb-true (attempt_of (parts from).oldest) (parts (packed (unlocked_word (parts from) (bit advance)))).attempt
+              (current_of (eqb (attempt_of (parts from).oldest) 7) (eqb (attempt_of (parts from).oldest) (parts (packed (unlocked_word (parts from) (bit advance)))).attempt) fresh is) ∙ ap (λ (w : Parts). w.attempt) (word_after f.1)))
 
       pops : {found : ℕ} → FindsUnlock from advance found → found ≡ from → (b : Bool) → eqb (parts from).oldest 0 ≡ b → OwesOn life (unlocked_by i from advance u) (cond b (k (IsOpen after))
           (cond (is_stale (parts from).oldest (parts after)) (Round (Unlocks i after false) k) (k (HasNext after (parts from).oldest))))

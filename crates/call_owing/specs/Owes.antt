@@ -9,10 +9,10 @@ use Rattle.seat_programs.specs.Asides.{Found}
 use Rattle.seat_programs.specs.Heads.{Head, Exit, Sought, First, Posts, Unlocks, Decides, Locks, Joins, Opens, Reads, Posting, HasLocked, Unlocking, IsOpen, HasNext, Locking, NotThere, Has}
 use Rattle.seat_programs.specs.Programs.{Program, Do, Say, Sent, Rest, TakeMessage, TakeHome, PutHome, PutBytes, AskReady, Write, Aside, Round, Keep, Retries}
 use Rattle.sock_words.specs.Codes.{is_final}
-use Rattle.seat_programs.specs.Posts.{advance_of, is_stale, is_sought, IsSoughtWord}
+use Rattle.seat_programs.specs.Posts.{is_stale, is_sought, IsSoughtWord}
 use Rattle.seat_programs.specs.Writings.{Writing, Puts, Waits}
 use Rattle.call_owing.specs.Owing.{Duty, Free, Trying, Telling, Owing, Among, with_duty, freed, with_left, with_keeps, with_dead, KnowsError, KnowsOwner, MayCall, CallMove, FindsCall, AsideMove, MayOwe, FindsOwe}
-use Rattle.sock_words.specs.Words.{call_id, id_slot, id_first, NO_SOCKET}
+use Rattle.sock_words.specs.Words.{call_id, id_slot, id_first, NO_SOCKET, bit}
 
 -- v is u, but for more that it knows
 pub record Further (u v : Owing) : Type 0 where
@@ -95,7 +95,7 @@ module _ (life : ℕ → Option ℕ) where
 
   abbrev pub LeavesOwe : (head : Head) → Exit head → Owing → Owing → Type 0
   LeavesOwe (Posts id e w) exit u v = LeavesPosts id e exit u v
-  LeavesOwe (Unlocks i w advance) exit u v = LeavesUnlocks (call_id i (parts w).first) ((parts w).attempt + advance_of advance) exit u v
+  LeavesOwe (Unlocks i w advance) exit u v = LeavesUnlocks (call_id i (parts w).first) ((parts w).attempt + bit advance) exit u v
   LeavesOwe (Reads r) exit u v = Further (if exit.closed then with_dead u else u) v × (exit.reading.link ≡ r.link) × (exit.reading.id ≡ r.id) × (is_final exit.code ≡ true)
   LeavesOwe (Locks i sought w) exit u v = LeavesLocks i exit u v
   LeavesOwe (Opens o) exit u v = LeavesOpens exit u v

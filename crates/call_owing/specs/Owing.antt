@@ -1,10 +1,10 @@
 -- What a seat owes to a call: marks without words of their own, and how each step may change them.
 use Rattle.std.specs.Prelude.{ℕ, ◌≡◌, ◌≢◌, ◌+◌, ◌-◌, ◌%◌, ◌<◌, ◌≤◌, ◌⊎◌, ◌==◌, Bool, true, false, if◌then◌else◌, List, [], ◌∷◌, Option, Some, None}
-use Rattle.sock_words.specs.Words.{socket_id_version, socket_id_slot, vref_version, at_word, at_word_first, at_word_slot, at_word_link, at_word_attempt, call_id, id_slot, id_first, NO_SOCKET}
+use Rattle.sock_words.specs.Words.{socket_id_version, socket_id_slot, vref_version, at_word, at_word_first, at_word_slot, at_word_link, at_word_attempt, call_id, id_slot, id_first, NO_SOCKET, bit}
 use Rattle.corr_core.specs.Word.{Parts, parts, attempt_of}
 use Rattle.seat_programs.specs.Calls.{Call, AddRef, SetOdd, LookWord, FindLink, LoadOpen, PutMessage}
 use Rattle.seat_programs.specs.Asides.{Step, MakeId, StoreAt, LoadAt, LoadIdWord, LockId, PostId, UnlockId, EndId, TakeBytes, Taking, Closed, Found}
-use Rattle.seat_programs.specs.Posts.{advance_of, is_first}
+use Rattle.seat_programs.specs.Posts.{is_first}
 use Rattle.sock_model.specs.declared.chain.Heading.{Heading}
 
 -- ## Marks
@@ -171,9 +171,9 @@ MayOwe u other = Unit {0}
 
 -- what it may find. Whoever has the lock finds it with more errors at most, and no error of the attempt that it is to try. A retry finds its range at its attempt.
 abbrev pub FindsUnlock : ℕ → Bool → ℕ → Type 0
-FindsUnlock from advance found = ((parts from).first < 4294967296) × ((parts from).attempt + advance_of advance ≤ 6)
+FindsUnlock from advance found = ((parts from).first < 4294967296) × ((parts from).attempt + bit advance ≤ 6)
     × (found ≢ from → ((parts found).first ≡ (parts from).first) × ((parts found).attempt ≡ (parts from).attempt))
-    × (found ≡ from → (parts from).oldest ≢ 0 → attempt_of (parts from).oldest ≢ (parts from).attempt + advance_of advance)
+    × (found ≡ from → (parts from).oldest ≢ 0 → attempt_of (parts from).oldest ≢ (parts from).attempt + bit advance)
 
 abbrev pub FindsOwe : Owing → (step : Step) → Found step → Type 0
 FindsOwe u (UnlockId i from advance) found = FindsUnlock from advance found

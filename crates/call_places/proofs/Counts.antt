@@ -14,7 +14,7 @@ use Rattle.seat_programs.specs.declared.task.Op.{Op}
 use Rattle.seat_programs.specs.declared.task.Op.TheVariants as ops
 use Rattle.seat_programs.specs.declared.task.Task.{Task}
 use Rattle.corr_core.specs.Word.{Parts, parts}
-use Rattle.corr_core.specs.Law.{total, only, pair}
+use Rattle.corr_core.specs.Law.{only, pair}
 use Rattle.corr_core.specs.declared.marks.Note.{Note}
 use Rattle.corr_core.specs.declared.marks.Note.TheVariants.{Made, Locker}
 use Rattle.corr_core.specs.declared.marks.Noted.{Noted}
@@ -44,6 +44,7 @@ use Rattle.call_places.proofs.Walks.{Walks, retries_walk, run_walk}
 use Rattle.call_places.proofs.Still.{Still, is_retry, is_first, waiting, advances, makes_silent, still_same, still_follows, attempted_still, again_still, retried_still}
 use Rattle.call_places.proofs.Own.{came, end_is}
 use Rattle.sock_words.specs.Words.{id_slot, id_first}
+use Rattle.sock_words.specs.Totals.{total}
 
 all_both : {A : Type 0} (P : A → Type 0) (xs ys : List A) → AllByRecursion P xs → AllByRecursion P ys → AllByRecursion P (xs ++ ys)
 all_both P [] ys a b = b

@@ -7,7 +7,7 @@ use mathlib.Core.Option.{some, some-injective}
 use native.Mathlib.Decide.{ℕ_discrete, dec_lt}
 use lib.ListN.{get_elem?}
 use Rattle.corr_core.specs.Word.{parts}
-use Rattle.corr_core.specs.Law.{total, is_made, is_attempt}
+use Rattle.corr_core.specs.Law.{is_made, is_attempt}
 use Rattle.corr_core.specs.declared.marks.Kept.{Kept}
 use Rattle.corr_core.specs.declared.marks.Note.{Note}
 use Rattle.corr_core.specs.declared.marks.Note.TheVariants.{Made, Locker}
@@ -26,6 +26,7 @@ use Rattle.call_places.proofs.Weights.{term, two_terms, noted_at}
 use Rattle.call_places.proofs.Still.{advances}
 use Rattle.call_places.proofs.Counts.{locks_for, KnowsLock}
 use Rattle.sock_words.specs.Words.{id_slot, id_first}
+use Rattle.sock_words.specs.Totals.{total}
 
 -- what is used of the closed table of ids
 pub record IdLaws (slots : ℕ) (notes : List (Noted Asked)) : Type 0 where

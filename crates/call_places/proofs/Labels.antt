@@ -13,7 +13,7 @@ use Rattle.call_run.specs.sock_rule.specs.declared.homes.Letter.{Letter}
 use Rattle.seat_programs.specs.declared.task.Op.{Op}
 use Rattle.seat_programs.specs.declared.task.Op.TheVariants as ops
 use Rattle.seat_programs.specs.declared.task.Task.{Task}
-use Rattle.corr_core.specs.Law.{total, only}
+use Rattle.corr_core.specs.Law.{only}
 use Rattle.corr_core.specs.declared.marks.Plan as id_plan
 use Rattle.corr_core.proofs.Notes.{only-at, only-else, total_mono}
 use Rattle.call_run.specs.call_client.specs.call_errors.specs.declared.retries.Retry.{Retry}
@@ -26,6 +26,7 @@ use Rattle.call_places.specs.Deeds.{Deed, operates, retries, deeds, delivered_en
 use Rattle.call_places.proofs.Weights.{flat_total, total_sum}
 use Rattle.call_places.proofs.Still.{is_first}
 use Rattle.call_places.proofs.Counts.{by_task, by_retry, none_first, task_total}
+use Rattle.sock_words.specs.Totals.{total}
 
 -- the message has this place index
 abbrev pub at_place : ℕ → Entry → ℕ

@@ -9,13 +9,14 @@ use Rattle.seat_programs.specs.declared.task.Op.{Op}
 use Rattle.seat_programs.specs.declared.task.Op.TheVariants as ops
 use Rattle.seat_programs.specs.declared.task.Task.{Task}
 use Rattle.seat_programs.specs.Told.{AreTasks, Differ, HaveOwnLinks}
-use Rattle.corr_core.specs.Law.{total, only}
+use Rattle.corr_core.specs.Law.{only}
 use Rattle.corr_core.specs.declared.marks.Plan as id_plan
 use Rattle.corr_core.proofs.Notes.{only-at, only-else, only_le}
 use Rattle.call_run.specs.call_client.specs.Acting.{Needs}
 use Rattle.call_run.specs.call_client.specs.Running.{MayMakeAll, left_by}
 use Rattle.call_places.proofs.Counts.{call_in}
 use Rattle.call_places.proofs.Labels.{label_in, labels}
+use Rattle.sock_words.specs.Totals.{total}
 
 -- the task of this number
 abbrev pub numbered : ℕ → Task → ℕ

@@ -31,7 +31,6 @@ use Rattle.seat_programs.specs.declared.task.Op.{Op}
 use Rattle.seat_programs.specs.declared.task.Op.TheVariants as ops
 use Rattle.seat_programs.specs.declared.task.Task.{Task}
 use Rattle.seat_programs.specs.Told.{AreTasks}
-use Rattle.corr_core.specs.Law.{total}
 use Rattle.corr_core.specs.declared.marks.Kept.{Kept}
 use Rattle.corr_core.specs.declared.marks.Note.{Note}
 use Rattle.corr_core.specs.declared.marks.Noted.{Noted}
@@ -60,6 +59,7 @@ use Rattle.call_places.proofs.Numbers.{numbered, numbered_once}
 use Rattle.call_places.proofs.Ids.{IdLaws, laws_of}
 use Rattle.call_places.proofs.Clients.{Client, total_map, view_of, tasks_of, deeds_of, own_of, made_once as once_made, once, inside}
 use Rattle.call_places.proofs.Log as log
+use Rattle.sock_words.specs.Totals.{total}
 
 -- ## Behind the readers
 

@@ -2,7 +2,6 @@
 use Rattle.std.proofs.Common.{◌≡◌, ℕ, ◌+◌, ◌≤◌, List, [], refl, ap, ◌∙◌, arith}
 use Rattle.std.specs.Prelude.{Option}
 use Rattle.corr_core.specs.Word.{Parts, parts}
-use Rattle.corr_core.specs.Law.{total}
 use Rattle.corr_core.specs.declared.marks.Note.{Note}
 use Rattle.corr_core.specs.declared.marks.Note.TheVariants.{Ended, Locker, Queued}
 use Rattle.corr_core.specs.declared.marks.Token.{Token}
@@ -20,6 +19,7 @@ use Rattle.call_places.proofs.Spans.{Spans}
 use Rattle.call_places.proofs.Weights.{quiet_all, did_all, became_all}
 use Rattle.call_places.proofs.Still.{makes_silent, NoneMade}
 use Rattle.sock_words.specs.Words.{id_slot, id_first}
+use Rattle.sock_words.specs.Totals.{total}
 
 -- a later view of the same seat, which made no id between
 pub record MadeNone (v w : View Asked) : Type 0 where

@@ -9,7 +9,7 @@ use Rattle.sock_words.specs.declared.plain.Plan.{Plan}
 use Rattle.sock_words.specs.declared.socket_id.SocketId.{SocketId}
 use Rattle.call_run.specs.sock_rule.specs.declared.homes.Letter.{Letter}
 use Rattle.corr_core.specs.Word.{Parts, parts}
-use Rattle.corr_core.specs.Law.{total, only, pair, is_attempt}
+use Rattle.corr_core.specs.Law.{only, pair, is_attempt}
 use Rattle.corr_core.specs.declared.marks.Note.{Note}
 use Rattle.corr_core.specs.declared.marks.Note.TheVariants.{Made, Ended, Locker, Queued, Attempt}
 use Rattle.corr_core.specs.declared.marks.Noted.{Noted}
@@ -43,6 +43,7 @@ use Rattle.call_places.specs.Counted.{makes_for, makes}
 use Rattle.call_places.proofs.Follows.{Follows, attempted_by, went_to}
 use Rattle.call_places.proofs.Weights.{quiet_all, did_all, became_all}
 use Rattle.sock_words.specs.Words.{id_slot, id_first}
+use Rattle.sock_words.specs.Totals.{total}
 
 -- ## Counts
 

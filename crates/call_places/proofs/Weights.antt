@@ -5,7 +5,7 @@ use mathlib.Core.Logic.{dite}
 use mathlib.Core.Option.{some, some-injective, some-ne-none}
 use native.Mathlib.Decide.{ℕ_discrete}
 use lib.ListN.{get_elem?}
-use Rattle.corr_core.specs.Law.{total, only}
+use Rattle.corr_core.specs.Law.{only}
 use Rattle.corr_core.specs.declared.marks.Note.{Note}
 use Rattle.corr_core.specs.declared.marks.Noted.{Noted}
 use Rattle.corr_core.specs.declared.marks.Token.{Token}
@@ -13,6 +13,7 @@ use Rattle.corr_core.specs.declared.marks.View.{View}
 use Rattle.id_rule.specs.Lawful.{notes_of}
 use Rattle.corr_id.specs.Calls.{Became, Did, Quiet, is_event, events}
 use Rattle.corr_id.proofs.Seats.{total_append}
+use Rattle.sock_words.specs.Totals.{total}
 
 -- ## All notes
 

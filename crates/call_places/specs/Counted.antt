@@ -1,12 +1,13 @@
 -- What the closed table of ids has of the seats of the clients.
 use Rattle.std.specs.Prelude.{ℕ, ◌≤◌, List}
-use Rattle.corr_core.specs.Law.{total, only}
+use Rattle.corr_core.specs.Law.{only}
 use Rattle.corr_core.specs.declared.marks.Note.{Note}
 use Rattle.corr_core.specs.declared.marks.Note.TheVariants.{Made}
 use Rattle.corr_core.specs.declared.marks.Noted.{Noted}
 use Rattle.corr_core.specs.declared.marks.View.{View}
 use Rattle.id_rule.specs.Lawful.{notes_of}
 use Rattle.sock_message.specs.Asked.{Asked}
+use Rattle.sock_words.specs.Totals.{total}
 
 -- 1 for a note that the id of this operation's call was made
 abbrev pub makes_for : ℕ → Note Asked → ℕ

@@ -11,12 +11,10 @@ use Rattle.sock_io.specs.Link.{InState}
 use Rattle.sock_io.specs.Peer.{PeerState}
 use Rattle.sock_words.specs.declared.plain.Plan.{Plan}
 use Rattle.sock_model.specs.declared.view.View.{View}
-use Rattle.sock_model.specs.Weights.{total}
 use Rattle.sock_model.specs.Seats.{newcomer}
 use Rattle.sock_rule.specs.declared.homes.SockHome.{SockHome}
 use Rattle.sock_table.specs.Closed.{AllDone}
 use Rattle.sock_open.proofs.Making.{new_view}
-use Rattle.corr_core.specs.Law.{total as id_total}
 use Rattle.corr_core.specs.declared.marks.Plan as id_plan
 use Rattle.corr_core.specs.declared.marks.View as id_view
 use Rattle.corr_id.proofs.Testing.{new_sits}
@@ -33,6 +31,7 @@ use Rattle.call_run.specs.Readers.{LinkReader, IsReader, AreReaders, AllServed}
 use Rattle.call_run.specs.Crew.{AreLeft}
 use Rattle.call_run.specs.Links.{IsSeated, AreSeated, rest_of, HaveWorked, AreParted, LinksRan}
 use Rattle.call_run.proofs.Whole.{twice}
+use Rattle.sock_words.specs.Totals.{total, total as id_total}
 
 module _ {O I P : Type 0} {g : Ghosts O} (z : TableId) (p : Plan) (y : TableId) where
   -- ## Before

@@ -5,12 +5,12 @@ use Rattle.atomic_table.specs.Seated.{TableId}
 use Rattle.atomic_table.specs.declared.shared.Seat.{Seat}
 use Rattle.sock_words.specs.declared.plain.Plan.{Plan}
 use Rattle.sock_model.specs.declared.view.View.{View}
-use Rattle.sock_model.specs.Weights.{total}
 use Rattle.sock_table.specs.Closed.{IsDoneSeat, AllDone}
 use Rattle.sock_open.proofs.Testing.{done_between}
 use Rattle.call_client.specs.rpc_client.specs.Seats.{Idle, MayAct, SameRefs}
 use Rattle.call_run.specs.Crew.{IsLeft}
 use Rattle.call_run.specs.Ending.{EndedOne, EndedEach}
+use Rattle.sock_words.specs.Totals.{total}
 
 module _ {S : Type 0} (z : TableId) (p : Plan) where
   -- a seat that is done is idle, and keeps no reference

@@ -10,10 +10,8 @@ use Rattle.sock_io.specs.Link.{OutState, InState}
 use Rattle.sock_io.specs.Peer.{PeerState}
 use Rattle.sock_words.specs.declared.plain.Plan.{Plan}
 use Rattle.sock_model.specs.declared.view.View.{View}
-use Rattle.sock_model.specs.Weights.{total}
 use Rattle.sock_table.specs.Closed.{AllDone}
 use Rattle.sock_open.specs.slot_steps.proofs.Sums.{total-append}
-use Rattle.corr_core.specs.Law.{total as id_total}
 use Rattle.corr_core.specs.declared.marks.Plan as id_plan
 use Rattle.corr_core.specs.declared.marks.View as id_view
 use Rattle.corr_id.specs.declared.table.IdTable.{IdTable}
@@ -29,6 +27,7 @@ use Rattle.call_run.specs.Readers.{LinkReader, AreReaders, AllServed, AreLeftBy}
 use Rattle.call_run.specs.Crew.{IsLeft, AreLeft, CrewRan, HasEnded}
 use Rattle.call_run.specs.Links.{LinksRan, BothEnded}
 use Rattle.call_run.proofs.Whole.{ran_with}
+use Rattle.sock_words.specs.Totals.{total, total as id_total}
 
 -- ## The seats
 

@@ -9,11 +9,9 @@ use Rattle.sock_io.specs.declared.link.Out.{Ghosts}
 use Rattle.sock_io.specs.Link.{OutState}
 use Rattle.sock_words.specs.declared.plain.Plan.{Plan}
 use Rattle.sock_model.specs.declared.view.View.{View}
-use Rattle.sock_model.specs.Weights.{total}
 use Rattle.sock_rule.specs.declared.homes.SockHome.{SockHome}
 use Rattle.sock_table.specs.Closed.{AllDone}
 use Rattle.sock_open.proofs.Making.{new_view}
-use Rattle.corr_core.specs.Law.{total as id_total}
 use Rattle.corr_core.specs.declared.marks.Plan as id_plan
 use Rattle.corr_core.specs.declared.marks.View as id_view
 use Rattle.sock_message.specs.Asked.{Asked}
@@ -23,6 +21,7 @@ use Rattle.call_run.specs.Threads.{opens_of, LinksDown, FoundEach, DidNothing, T
 use Rattle.call_run.specs.Hired.{IsHired, AreHired}
 use Rattle.call_run.specs.Working.{IsReady, HasWorked}
 use Rattle.call_run.specs.Crew.{AreLeft}
+use Rattle.sock_words.specs.Totals.{total, total as id_total}
 
 pub none_short : (a b : Bool) → (a || b) ≡ false → (a ≡ false) × (b ≡ false)
 none_short true b e = absurd (true≢false e)

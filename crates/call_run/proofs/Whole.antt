@@ -12,11 +12,9 @@ use Rattle.sock_io.specs.declared.link.Out.{Ghosts}
 use Rattle.sock_io.specs.Link.{OutState}
 use Rattle.sock_words.specs.declared.plain.Plan.{Plan}
 use Rattle.sock_model.specs.declared.view.View.{View}
-use Rattle.sock_model.specs.Weights.{total}
 use Rattle.sock_rule.specs.declared.homes.SockHome.{SockHome}
 use Rattle.sock_table.specs.Closed.{AllDone, ClosedBy}
 use Rattle.sock_open.specs.Opening.{AreFresh}
-use Rattle.corr_core.specs.Law.{total as id_total}
 use Rattle.corr_core.specs.declared.marks.Plan as id_plan
 use Rattle.corr_core.specs.declared.marks.View as id_view
 use Rattle.corr_id.specs.declared.table.IdTable.{IdTable}
@@ -32,6 +30,7 @@ use Rattle.call_run.specs.Threads.{opens_of, openings, opened_names, ids_of, Are
 use Rattle.call_run.specs.Working.{HasWorked}
 use Rattle.call_run.specs.Crew.{HandedIn, IsLeft, AreLeft, IsCrew, CrewRan, HasEnded, AreBack}
 use Rattle.call_run.proofs.Weaving.{none_short, thread_of, one_thread, one_share, one_id, Woven, weave}
+use Rattle.sock_words.specs.Totals.{total, total as id_total}
 
 abbrev pub made_by : {O : Type 0} {g : Ghosts O} → List (Worker O g) → List (List Task)
 made_by {O} {g} workers = map (λ (w : Worker O g). w.tasks.items) workers

@@ -9,11 +9,10 @@ use Rattle.sock_io.specs.declared.link.Out.{Ghosts}
 use Rattle.sock_io.specs.Link.{OutState}
 use Rattle.sock_words.specs.declared.plain.Plan.{Plan}
 use Rattle.sock_model.specs.declared.view.View as sock_view
-use Rattle.sock_model.specs.Weights.{total as sock_total}
 use Rattle.sock_rule.specs.declared.homes.SockHome.{SockHome}
 use Rattle.sock_table.specs.Closed.{AllDone, ClosedBy}
 use Rattle.sock_open.specs.Opening.{IsRoom}
-use Rattle.corr_core.specs.Law.{Each, total}
+use Rattle.corr_core.specs.Law.{Each}
 use Rattle.corr_core.specs.declared.marks.Plan as id_plan
 use Rattle.corr_core.specs.declared.marks.View as id_view
 use Rattle.corr_id.specs.declared.table.IdTable.{IdTable}
@@ -29,6 +28,7 @@ use Rattle.call_run.specs.declared.running.Crew.{Crew}
 use Rattle.call_run.specs.declared.running.Ran.{Ran}
 use Rattle.call_run.specs.Threads.{opens_of, openings, MayRunAll, AllRan}
 use Rattle.call_run.specs.Hired.{HasRoom, IsHired, AreHired}
+use Rattle.sock_words.specs.Totals.{total as sock_total, total}
 
 -- ## What clients leave
 

@@ -11,7 +11,6 @@ use Rattle.sock_words.specs.declared.plain.Plan.{Plan}
 use Rattle.sock_table.specs.Closed.{IsRoomOf}
 use Rattle.sock_open.specs.Made.{IsNewSeat}
 use Rattle.sock_open.specs.Opening.{IsRoom}
-use Rattle.corr_core.specs.Law.{total}
 use Rattle.corr_core.specs.declared.marks.Plan as id_plan
 use Rattle.corr_core.specs.declared.marks.View as id_view
 use Rattle.corr_id.specs.Opening.{AreNew}
@@ -30,6 +29,7 @@ use Rattle.call_run.specs.Threads.{ids_of}
 use Rattle.call_run.specs.Hired.{IsNewId}
 use Rattle.call_run.specs.Readers.{LinkReader, nothing_read, AreReaders, AreLeftBy}
 use Rattle.call_run.specs.Crew.{IsLeft, AreLeft, IsCast, HasEnded}
+use Rattle.sock_words.specs.Totals.{total}
 
 -- ## Their readers
 

@@ -3,12 +3,12 @@ ghost use Rattle.std.specs.Prelude.{◌≡◌, ◌+◌, ◌++◌, ◌<◌, ◌�
 ghost use Rattle.std.specs.Thread.{IsSync};
 ghost use Rattle.sock_open.specs.Opening.{MayBegin, AreFresh};
 ghost use Rattle.sock_table.specs.Closed.{IsRoomOf, ways_of};
-ghost use Rattle.corr_core.specs.Law.{total};
 ghost use Rattle.link_crew.specs.Beside.{IsReady};
 ghost use Rattle.call_run.specs.Threads.{ids_of, MayRunAll, RanWith};
 ghost use Rattle.call_run.specs.Readers.{LinkReader, AreReaders, AreLeftBy};
 ghost use Rattle.call_run.specs.Crew.{IsLeft, AreLeft, IsCrew, CrewRan, AreBack};
 ghost use Rattle.call_run.specs.Links.{AreSeated, rest_of, HaveWorked, IsLinksRoom, LinksRan, IsStage, BothEnded};
+ghost use Rattle.sock_words.specs.Totals.{total};
 
 use crate::leaving::{Left, either};
 use crate::links::{Links, LinksLeft, part_all, room_for_links, seat_links, work_links};

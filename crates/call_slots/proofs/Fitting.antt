@@ -15,7 +15,6 @@ use Rattle.id_rule.proofs.Allowed as allowed
 use Rattle.sock_message.specs.Asked.{Asked}
 use Rattle.seat_programs.specs.Asides.{Step, PutCall, TakeCall}
 use Rattle.seat_programs.specs.Programs.{Program, Aside, Round}
-use Rattle.seat_programs.specs.Posts.{advance_of}
 use Rattle.seat_programs.specs.Rounds.{round}
 use Rattle.seat_programs.specs.Heads.{Retry}
 use Rattle.seat_programs.specs.Cores.{Calls, Core, SeatState}
@@ -28,6 +27,7 @@ use Rattle.call_points.specs.declared.aside.Aside.TheVariants as steps
 use Rattle.call_slots.specs.Slots.{SlotState, calls_with}
 use Rattle.call_slots.specs.Words.{place_of, IsWithin, WordFits}
 use Rattle.call_slots.specs.Steps.{StepFits}
+use Rattle.sock_words.specs.Words.{bit}
 
 -- a step that `CallSlots::step` makes
 abbrev pub IsOnWord : code.Aside → Type 0
@@ -64,7 +64,7 @@ module _ (p : Plan) (q : IdPlan) (u : IdView) (step : Step) where
 
 -- ## What is allowed fits
 
-room_of : (advance : Bool) (att rg : ℕ) → att + advance_of advance + 2 ≤ rg → IsTrue advance → att + 2 < rg
+room_of : (advance : Bool) (att rg : ℕ) → att + bit advance + 2 ≤ rg → IsTrue advance → att + 2 < rg
 room_of true att rg h e = omega (arith, h)
 room_of false att rg h e = let z : false ≡ true = e in absurd (cc)
 
@@ -91,7 +91,7 @@ module _ (p : Plan) (q : IdPlan) (c : Core) (us : List IdView) (sound : SoundIds
   room asked (steps.PostId i from e) may = may.3
   room asked (steps.UnlockId i from advance) may =
       let l = may.1.7 in
-      let least : (parts from.0).attempt + advance_of advance + 2 ≤ (parts from.0).range = (let more = may.1.8 in omega (arith, more, l.attempt_is, l.range_is)) in
+      let least : (parts from.0).attempt + bit advance + 2 ≤ (parts from.0).range = (let more = may.1.8 in omega (arith, more, l.attempt_is, l.range_is)) in
       (l.state_is, room_of advance (parts from.0).attempt (parts from.0).range least)
   room asked (steps.EndId i) may =
       let m = may.1 in

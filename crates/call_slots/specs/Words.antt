@@ -3,10 +3,11 @@ use Rattle.std.specs.Prelude.{ℕ, ◌≡◌, ◌+◌, ◌<◌, ◌≤◌, ◌==
 use Rattle.corr_core.specs.declared.marks.Plan.{Plan}
 use Rattle.corr_core.specs.Word.{parts, made_word, posted_word, unlocked_word, free_word}
 use Rattle.id_rule.specs.Lawful.{tag_index, id_index, call_index, at_index}
-use Rattle.seat_programs.specs.Posts.{packed, advance_of}
+use Rattle.seat_programs.specs.Posts.{packed}
 use Rattle.id_points.specs.Ids.{id_of}
 use Rattle.call_points.specs.declared.aside.Aside.{Aside}
 use Rattle.call_points.specs.declared.aside.Aside.TheVariants.{ClaimId, PutCall, MakeId, StoreCall, LoadCall, StoreAt, LoadAt, LoadIdWord, LockId, PostId, UnlockId, EndId, FreeId, TakeCall, TakeBytes}
+use Rattle.sock_words.specs.Words.{bit}
 
 abbrev pub place_of : Plan → Aside → ℕ
 place_of p (ClaimId i) = tag_index i
@@ -40,7 +41,7 @@ next_of (LoadAt o) found = found
 next_of (LoadIdWord i) found = found
 next_of (LockId i from) found = left_by from.0 (packed (posted_word (parts from.0) 0)) found
 next_of (PostId i from e) found = left_by from.0 (packed (posted_word (parts from.0) e.0)) found
-next_of (UnlockId i from advance) found = left_by from.0 (packed (unlocked_word (parts from.0) (advance_of advance))) found
+next_of (UnlockId i from advance) found = left_by from.0 (packed (unlocked_word (parts from.0) (bit advance))) found
 next_of (EndId i) found = packed (free_word ((parts found).first + (parts found).range))
 next_of (FreeId i) found = 0
 next_of (TakeCall i) found = found

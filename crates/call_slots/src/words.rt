@@ -1,8 +1,9 @@
 ghost use Rattle.std.specs.Prelude.{◌≡◌, ◌≢◌, ◌+◌, ◌<◌, ◌≤◌, IsTrue, length, slice_index, slice_set};
 ghost use Rattle.corr_core.specs.Word.{parts, made_word, posted_word, unlocked_word, free_word};
-ghost use Rattle.seat_programs.specs.Posts.{packed, advance_of};
+ghost use Rattle.seat_programs.specs.Posts.{packed};
 ghost use Rattle.id_rule.specs.Lawful.{tag_index, call_index};
 ghost use Rattle.call_slots.specs.Words.{place_of, next_of, left_by, IsWithin, WordFits};
+ghost use Rattle.sock_words.specs.Words.{bit};
 
 use call_points::Aside;
 use corr_core::{Plan, claim_id, destroy_id, free_id, lock_id, make_id, unlock_id};
@@ -93,7 +94,7 @@ fn posted(found: u64, from: IdWord, error: u16) -> u64
 fn unlocked(found: u64, from: IdWord, advance: bool) -> u64
     requires from { (parts from.0).state ≡ 2 }
     requires room { IsTrue advance → (parts from.0).attempt + 2 < (parts from.0).range }
-    ensures { result ≡ left_by from.0 (packed (unlocked_word (parts from.0) (advance_of advance))) found }
+    ensures { result ≡ left_by from.0 (packed (unlocked_word (parts from.0) (bit advance))) found }
 {
     unlock_id(found, from, advance).next
 }

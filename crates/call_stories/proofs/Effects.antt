@@ -11,10 +11,11 @@ use Rattle.seat_programs.specs.id_rule.specs.Lawful.{tag_index, id_index, call_i
 use Rattle.sock_message.specs.Asked.{Asked}
 use Rattle.seat_programs.specs.declared.task.Task.{Task}
 use Rattle.seat_programs.specs.Asides.{Step, ClaimId, PutCall, MakeId, StoreCall, StoreAt, LockId, PostId, UnlockId, EndId, FreeId, TakeCall, TakeBytes, Bytes, Found}
-use Rattle.seat_programs.specs.Posts.{packed, advance_of}
+use Rattle.seat_programs.specs.Posts.{packed}
 use Rattle.call_stories.specs.Scenes.{Scene}
 use Rattle.call_stories.specs.Says.{Mark}
 use Rattle.call_stories.specs.Stories.{word_at, tag_at, LiesAt, IsBehind}
+use Rattle.sock_words.specs.Words.{bit}
 
 -- the slot whose words or home a step changes
 abbrev pub Touches : Step → ℕ → Type 0
@@ -81,7 +82,7 @@ module _ (p : Plan) (q : IdPlan) (clients : List (List Task)) (gives : ℕ → L
     beside (StoreAt o x) found b k low ne = let z = stored_beside k (2 * w.core.calls.plan.slots) low refl o in by_words (at_index w.core.calls.plan o) x k b.words b.homes z.2 z.3
     beside (LockId i from) found b k low ne = by_words (id_index i) (cond (eqb found from) (packed (posted_word (parts from) 0)) found) k b.words b.homes (λ e. omega (arith, e)) (λ e. ne (omega (arith, e)))
     beside (PostId i from e) found b k low ne = by_words (id_index i) (cond (eqb found from) (packed (posted_word (parts from) e)) found) k b.words b.homes (λ e. omega (arith, e)) (λ e. ne (omega (arith, e)))
-    beside (UnlockId i from advance) found b k low ne = by_words (id_index i) (cond (eqb found from) (packed (unlocked_word (parts from) (advance_of advance))) found) k b.words b.homes (λ e. omega (arith, e)) (λ e. ne (omega (arith, e)))
+    beside (UnlockId i from advance) found b k low ne = by_words (id_index i) (cond (eqb found from) (packed (unlocked_word (parts from) (bit advance))) found) k b.words b.homes (λ e. omega (arith, e)) (λ e. ne (omega (arith, e)))
     beside (EndId i) found b k low ne = by_words (id_index i) (packed (free_word ((parts found).first + (parts found).range))) k b.words b.homes (λ e. omega (arith, e)) (λ e. ne (omega (arith, e)))
     beside (FreeId i) found b k low ne = by_words (tag_index i) 0 k b.words b.homes (λ e. ne (omega (arith, e))) (λ e. omega (arith, e))
     beside (TakeCall i) found b k low ne = by_homes i k (core.some None) b.words b.homes ne

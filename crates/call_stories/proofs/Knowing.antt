@@ -11,7 +11,6 @@ use Rattle.seat_programs.specs.id_rule.specs.Lawful.{tag_index, id_index, call_i
 use Rattle.sock_message.specs.Asked.{Asked}
 use Rattle.seat_programs.specs.declared.task.Task.{Task}
 use Rattle.seat_programs.specs.Asides.{Step, ClaimId, MakeId, StoreCall, LoadCall, LoadAt, LoadIdWord, LockId, PostId, UnlockId, EndId, TakeCall, TakeBytes, Taking, Found}
-use Rattle.seat_programs.specs.Posts.{advance_of}
 use Rattle.seat_programs.specs.Beside.{found_in, call_at}
 use Rattle.owed_calls.specs.Below.id_runs.specs.Held.{IdView, id_state, MayId}
 use Rattle.owed_calls.specs.Below.id_runs.specs.Goes.{FindsId, SoundIds}
@@ -19,6 +18,7 @@ use Rattle.owed_calls.specs.Below.id_runs.proofs.Steps.{finds_ids, call_there}
 use Rattle.call_stories.specs.Scenes.{Scene}
 use Rattle.call_stories.specs.Says.{Mark, MayAside}
 use Rattle.call_stories.specs.Stories.{At, word_at, LiesAt, ReadsLaw, IsWordAt, IsTakenWith, KnowsStep}
+use Rattle.sock_words.specs.Words.{bit}
 
 -- a slot with an id is taken, and a free one is free
 taken_of : {C : Type 0} (l : Local C) → SlotLaw l → (0 < l.word.state → l.tag ≢ 0) × (l.tag ≡ 0 → l.word.state ≡ 0)
@@ -67,7 +67,7 @@ module _ (p : Plan) (q : IdPlan) (clients : List (List Task)) (gives : ℕ → L
     knows (LoadIdWord i) t found is may a = let f = finds (LoadIdWord i) t found is may in (is_word i found may is, f.2)
     knows (LockId i from) t found is may a = (is_word i found may.0 is, may.1, taken_with i may.0)
     knows (PostId i from e) t found is may a = let f = finds (PostId i from e) t found is may in (is_word i found may.0 is, may.1, may.3, taken_with i may.0, f.2)
-    knows (UnlockId i from advance) t found is may a = let x = may.1 in let l = x.7 in let att = l.attempt_is in let rg = l.range_is in let room = x.8 in (is_word i found may.0 is, l.state_is, few from (advance_of advance) (omega (arith, att, rg, room)), call_there p q w.core.calls ids.plan us ids.rule j u at_view (ids.real j u at_view) i may.0 (Rattle.corr_core.specs.declared.marks.Token.TheVariants.Locked x.0 x.1 x.2 x.5 x.3 x.4 (Rattle.corr_core.specs.declared.marks.Hand.TheVariants.Full x.5), x.5, x.6, refl), (omega (arith, att, rg, room)))
+    knows (UnlockId i from advance) t found is may a = let x = may.1 in let l = x.7 in let att = l.attempt_is in let rg = l.range_is in let room = x.8 in (is_word i found may.0 is, l.state_is, few from (bit advance) (omega (arith, att, rg, room)), call_there p q w.core.calls ids.plan us ids.rule j u at_view (ids.real j u at_view) i may.0 (Rattle.corr_core.specs.declared.marks.Token.TheVariants.Locked x.0 x.1 x.2 x.5 x.3 x.4 (Rattle.corr_core.specs.declared.marks.Hand.TheVariants.Full x.5), x.5, x.6, refl), (omega (arith, att, rg, room)))
     knows (EndId i) t found is may a = is_word i found may.0 is
     knows (TakeCall i) t found is may a = (may.0, lies i (get_elem? w.core.calls.homes i) found refl is)
     knows (TakeBytes k room) t found is may a = reads.inside j k m at a

@@ -21,7 +21,7 @@ use Rattle.seat_programs.specs.Rounds.{round}
 use Rattle.seat_programs.specs.Beside.{found_in, calls_after}
 use Rattle.seat_programs.specs.Cores.{Calls, Core, SeatState}
 use Rattle.seat_programs.specs.Ticks.{Answer, OfPut, OfReady, Moment, taken, with_message, with_link, with_put, with_ready, with_found, step_with, tick_with, ticked, run}
-use Rattle.call_stories.specs.Lists.{given}
+use Rattle.call_stories.specs.Lists.{gave_in}
 use Rattle.call_stories.specs.Scenes.{LeadsTo}
 
 -- each link gave what it gave before, and maybe more
@@ -91,7 +91,7 @@ tick_grows p c m = by_seat (get_elem? c.seats m.seat)
 module _ (p : Plan) (q : IdPlan) (clients : List (List Task)) (gives : ℕ → List ℕ) where
   -- so a link gave the beginning of it before a tick, and before ticks one after another
   pub tick_leads : (c : Core) (m : Moment) → LeadsTo p q clients gives (ticked p c m) → LeadsTo p q clients gives c
-  tick_leads c m lead k = let g = tick_grows p c m k in let l = lead k in (g.0 ++ l.0, sym (append_assoc (given c k) g.0 l.0) ∙ (ap (λ xs. xs ++ l.0) (sym g.1) ∙ l.1))
+  tick_leads c m lead k = let g = tick_grows p c m k in let l = lead k in (g.0 ++ l.0, sym (append_assoc (gave_in c k) g.0 l.0) ∙ (ap (λ xs. xs ++ l.0) (sym g.1) ∙ l.1))
 
   pub run_leads : (ms : List Moment) (c : Core) → LeadsTo p q clients gives (run p c ms) → LeadsTo p q clients gives c
   run_leads [] c lead = lead

@@ -7,7 +7,7 @@ use Rattle.corr_core.specs.declared.marks.Plan.{Plan as IdPlan}
 use Rattle.seat_programs.specs.declared.task.Task.{Task}
 use Rattle.seat_programs.specs.Asides.{Step, ClaimId, PutCall, MakeId, StoreCall, LockId, PostId, UnlockId, EndId, FreeId, TakeCall, TakeBytes, Bytes, Found}
 use Rattle.seat_programs.specs.Asides as asides
-use Rattle.call_stories.specs.Lists.{given}
+use Rattle.call_stories.specs.Lists.{gave_in}
 use Rattle.call_stories.specs.Scenes.{Scene}
 use Rattle.call_stories.specs.Says.{with_attempt, unlocked_by, shape_of, NoSlot, Claims, Locked, Mark, with_slot, MayAside}
 use Rattle.call_stories.specs.Stories.{At, ReadsLaw, IsBehind, KnowsStep, stored_by, mark_after}
@@ -23,7 +23,7 @@ module _ (p : Plan) (q : IdPlan) (clients : List (List Task)) (gives : ℕ → L
   -- where no link gave anything
   same_reads : w'.core.calls.gave ≡ w.core.calls.gave → (m' : Mark) → m'.link ≡ m.link → m'.bytes ≡ m.bytes → ReadsLaw p q clients gives w' (set ms j m')
   same_reads same m' link bytes = record {
-    bytes = λ l k n there own. either (λ l n. n.link ≡ k ∷ [] → given w'.core k ≡ n.bytes) m' (λ x. ap (λ g. get_or g k []) same ∙ (reads.bytes j k m at (sym link ∙ x) ∙ sym bytes)) (λ l n ne there x. ap (λ g. get_or g k []) same ∙ reads.bytes l k n there x) l n there own;
+    bytes = λ l k n there own. either (λ l n. n.link ≡ k ∷ [] → gave_in w'.core k ≡ n.bytes) m' (λ x. ap (λ g. get_or g k []) same ∙ (reads.bytes j k m at (sym link ∙ x) ∙ sym bytes)) (λ l n ne there x. ap (λ g. get_or g k []) same ∙ reads.bytes l k n there x) l n there own;
     tied = λ l k n there own. either (λ l n. n.link ≡ k ∷ [] → l ≡ 32 + k) m' (λ x. reads.tied j k m at (sym link ∙ x)) (λ l n ne there x. reads.tied l k n there x) l n there own;
     inside = λ l k n there own. either (λ l n. n.link ≡ k ∷ [] → k < length w'.core.calls.gave) m' (λ x. subst (λ g. k < length g) (sym same) (reads.inside j k m at (sym link ∙ x))) (λ l n ne there x. subst (λ g. k < length g) (sym same) (reads.inside l k n there x)) l n there own;
   }
@@ -42,9 +42,9 @@ module _ (p : Plan) (q : IdPlan) (clients : List (List Task)) (gives : ℕ → L
 
   more_reads : (k : ℕ) (bytes : List ℕ) → k < length w.core.calls.gave → w'.core.calls.gave ≡ set w.core.calls.gave k (get_or w.core.calls.gave k [] ++ bytes) → (m' : Mark) → m.link ≡ k ∷ [] → m'.link ≡ m.link → m'.bytes ≡ m.bytes ++ bytes → ReadsLaw p q clients gives w' (set ms j m')
   more_reads k bytes low gave m' mine link is = record {
-    bytes = λ l i n there own. either (λ l n. n.link ≡ i ∷ [] → given w'.core i ≡ n.bytes) m'
+    bytes = λ l i n there own. either (λ l n. n.link ≡ i ∷ [] → gave_in w'.core i ≡ n.bytes) m'
         (λ x. let e : k ∷ [] ≡ i ∷ [] = sym mine ∙ (sym link ∙ x) in let same : k ≡ i = cc in
-        subst (λ a. given w'.core a ≡ m'.bytes) same (ap (λ g. get_or g k []) gave ∙ (get_or-set_same w.core.calls.gave k (get_or w.core.calls.gave k [] ++ bytes) [] low ∙ (ap (λ xs. xs ++ bytes) (reads.bytes j k m at mine) ∙ sym is))))
+        subst (λ a. gave_in w'.core a ≡ m'.bytes) same (ap (λ g. get_or g k []) gave ∙ (get_or-set_same w.core.calls.gave k (get_or w.core.calls.gave k [] ++ bytes) [] low ∙ (ap (λ xs. xs ++ bytes) (reads.bytes j k m at mine) ∙ sym is))))
         (λ l n ne there x. ap (λ g. get_or g i []) gave ∙ (get_or-set_other w.core.calls.gave k i (get_or w.core.calls.gave k [] ++ bytes) [] (λ e. ne (reads.tied l i n there x ∙ (ap (λ a. 32 + a) e ∙ sym (reads.tied j k m at mine)))) ∙ reads.bytes l i n there x)) l n there own;
     tied = λ l i n there own. either (λ l n. n.link ≡ i ∷ [] → l ≡ 32 + i) m' (λ x. reads.tied j i m at (sym link ∙ x)) (λ l n ne there x. reads.tied l i n there x) l n there own;
     inside = λ l i n there own. either (λ l n. n.link ≡ i ∷ [] → i < length w'.core.calls.gave) m' (λ x. long i (reads.inside j i m at (sym link ∙ x))) (λ l n ne there x. long i (reads.inside l i n there x)) l n there own;

@@ -12,13 +12,13 @@ use Rattle.seat_programs.specs.Asides.{PutCall, LockId, PostId, UnlockId, FreeId
 use Rattle.seat_programs.specs.Calls.{Call}
 use Rattle.seat_programs.specs.Heads.{Retry, Sought, First, Version, Posts, Unlocks, Decides, Locks, Joins, Posting, WasGone, WasStale, WasCrowded, WasQueued, HasLocked, Unlocking, IsOpen, HasNext, Deciding, HasEnded, GoesOn, Locking, NotThere, Has}
 use Rattle.seat_programs.specs.Programs.{Program, Do, Aside, Round}
-use Rattle.seat_programs.specs.Posts.{packed, advance_of, is_first, is_sought, is_stale, is_full, judged, posts_round, post_with, posted, post, popped, unlocks_round, end_id, decide, unlocked, decides_round, decided, locking, locks_round, joins_round, IsSoughtWord}
+use Rattle.seat_programs.specs.Posts.{packed, is_first, is_sought, is_stale, is_full, judged, posts_round, post_with, posted, post, popped, unlocks_round, end_id, decide, unlocked, decides_round, decided, locking, locks_round, joins_round, IsSoughtWord}
 use Rattle.owed_calls.specs.Below.id_runs.proofs.Keeps.{parts_packed}
 use Rattle.owed_calls.specs.Below.id_runs.proofs.Loops.{not_equal}
 use Rattle.call_stories.specs.Scenes.{Birth, Scene, IsBorn, WasPosted, WasDecided, IsOther, EndedAt, MayAdvance, CauseOf, of_expiry, of_other, FailedIn, by_expiry, by_other, Later}
 use Rattle.call_stories.specs.Says.{Shape, shape_of, HasShape, with_attempt, unlocked_by, Slot, NoSlot, Locked, Holds, Leaves, Mark, with_slot, with_owed, IsVacant, IsFree, put_in, taken_out, SaidBy, HasCodes, MayDo, MayUnlock, Moves, Shows, AtHead, Again, MatchesRange, LeavesPost, LeavesUnlock, IsLast, EndsBy, LeavesDecision, LeavesLock, YieldsPost, SaysOn}
 use Rattle.call_stories.proofs.Lasting.{far, cause_on, unlock_on}
-use Rattle.sock_words.specs.Words.{call_id, id_slot, id_first}
+use Rattle.sock_words.specs.Words.{call_id, id_slot, id_first, bit}
 
 -- ## Tests
 
@@ -327,7 +327,7 @@ module _ (p : Plan) (q : IdPlan) (clients : List (List Task)) (gives : ℕ → L
   unlocks_says w m i from advance k slot owes makes goes = (slot, λ found v m' l s mv. (tt, by_found found v m' l mv (eqb found from) refl s))
     where
       after : ℕ
-      after = packed (unlocked_word (parts from) (advance_of advance))
+      after = packed (unlocked_word (parts from) (bit advance))
 
       again : (word : ℕ) (v : Scene) (m' : Mark) → After w v → m' ≡ m → Says v m' (Round (Unlocks i word advance) k)
       again word v m' l is = subst (λ x. Says v x (Round (Unlocks i word advance) k)) (sym is) ((unlock_on p q clients gives w v l m i advance slot, owes, makes), λ exit v' m'' l' s' lv. (tt, goes exit v' m'' (far p q clients gives w v v' l l') s' lv))
@@ -344,9 +344,9 @@ module _ (p : Plan) (q : IdPlan) (clients : List (List Task)) (gives : ℕ → L
       further a word v m' l is = subst (λ x. Says v x (Round (Unlocks i word false) k)) (sym is) (((slot.0, record { range = slot.1.range; attempt = a }, ap (with_attempt a) slot.2, λ e. absurd (let z : false ≡ true = e in cc)), owes, makes), λ exit v' m'' l' s' lv. (tt, goes exit v' m'' (far p q clients gives w v v' l l') s' (rebase v' a exit m'' lv)))
 
       by_found : (found : ℕ) (v : Scene) (m' : Mark) → After w v → Moves p q clients gives v m (UnlockId i from advance) found m' → (b : Bool) → eqb found from ≡ b
-          → SaidBy v (cond b (popped i (parts from).oldest (packed (unlocked_word (parts from) (advance_of advance))) k) (Round (Unlocks i found advance) k)) → Says v m' (cond b (popped i (parts from).oldest (packed (unlocked_word (parts from) (advance_of advance))) k) (Round (Unlocks i found advance) k))
+          → SaidBy v (cond b (popped i (parts from).oldest (packed (unlocked_word (parts from) (bit advance))) k) (Round (Unlocks i found advance) k)) → Says v m' (cond b (popped i (parts from).oldest (packed (unlocked_word (parts from) (bit advance))) k) (Round (Unlocks i found advance) k))
       by_found found v m' l mv true is s = let same = eqb-true found from is in
-          let word : ℕ = packed (unlocked_word (parts from) (advance_of advance)) in
+          let word : ℕ = packed (unlocked_word (parts from) (bit advance)) in
           let two : Program = cond (is_stale (parts from).oldest (parts word)) (Round (Unlocks i word false) k) (k (HasNext word (parts from).oldest)) in
           way v m' (eqb (parts from).oldest 0) (k (IsOpen word)) two s
           (λ none_ s'. goes (IsOpen word) v m' l s' (mv.0 same (eqb-true (parts from).oldest 0 none_)))

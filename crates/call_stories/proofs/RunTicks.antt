@@ -6,7 +6,7 @@ use Rattle.seat_programs.specs.Cores.{Core}
 use Rattle.seat_programs.specs.Scripts.{opened, set_up, played, ending, IsRunWithCalls}
 use Rattle.seat_programs.specs.Tasks.{plan_of}
 use Rattle.seat_programs.specs.Ticks.{Moment, quiet}
-use Rattle.call_stories.specs.Lists.{shows_in}
+use Rattle.outcome_stories.specs.Facts.{shown_in}
 
 module _ {script : List Item} {turns : List Turn} {core : Core} (is : IsRunWithCalls script turns core) where
   abbrev pub in_setup : List Moment
@@ -26,8 +26,8 @@ pub record Parts (A : Type 0) : Type 0 where
 
 abbrev pub parts : {A : Type 0} (shown : Core → Moment → List A) {script : List Item} {turns : List Turn} {core : Core} → IsRunWithCalls script turns core → Parts A
 parts shown {script = script} is = record {
-  setup = shows_in shown (plan_of script) (opened script) (in_setup is);
-  clients = shows_in shown (plan_of script) (set_up script is.setup) (in_clients is);
-  closing = shows_in shown (plan_of script) (ending script (played script is.setup (is.scheduled ++ is.later))) (in_closing is);
-  final = shows_in shown (plan_of script) is.ended is.final;
+  setup = shown_in shown (plan_of script) (opened script) (in_setup is);
+  clients = shown_in shown (plan_of script) (set_up script is.setup) (in_clients is);
+  closing = shown_in shown (plan_of script) (ending script (played script is.setup (is.scheduled ++ is.later))) (in_closing is);
+  final = shown_in shown (plan_of script) is.ended is.final;
 }

@@ -10,9 +10,9 @@ use Rattle.seat_programs.specs.Heads.{Decides}
 use Rattle.seat_programs.specs.Programs.{Program, Do, Aside, Round}
 use Rattle.seat_programs.specs.Cores.{Core}
 use Rattle.seat_programs.specs.Ticks.{Moment, ticked}
-use Rattle.call_stories.specs.Lists.{shows_in}
 use Rattle.call_stories.specs.Posts.{Post, posted_at}
 use Rattle.seat_programs.specs.Rounds.{first_step}
+use Rattle.outcome_stories.specs.Facts.{shown_in}
 
 -- the errors that ids take from this seat
 abbrev pub posted_by : ℕ → Core → Moment → List Post
@@ -54,4 +54,4 @@ late_in j p c (m ∷ ms) = late_at j c m || late_in j p (ticked p c m) ms
 -- the errors that ids take from its first such step on
 abbrev pub posted_behind : ℕ → Plan → Core → List Moment → List Post
 posted_behind j p c [] = []
-posted_behind j p c (m ∷ ms) = if late_at j c m then shows_in posted_at p c (m ∷ ms) else posted_behind j p (ticked p c m) ms
+posted_behind j p c (m ∷ ms) = if late_at j c m then shown_in posted_at p c (m ∷ ms) else posted_behind j p (ticked p c m) ms

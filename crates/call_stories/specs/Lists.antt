@@ -22,6 +22,7 @@ use Rattle.seat_programs.specs.Tasks.{plan_of}
 use Rattle.seat_programs.specs.Scripts.{opened, ending, set_up, played, IsRunWithCalls}
 pub use Rattle.owed_calls.specs.call_owing.specs.Takes.{taken_link}
 use Rattle.seat_programs.specs.Rounds.{first_step}
+use Rattle.outcome_stories.specs.Facts.{called_at, shown_in_run}
 
 -- ## Takes
 
@@ -44,10 +45,6 @@ abbrev pub times : ℕ → List ℕ → ℕ
 times o [] = 0
 times o (n ∷ ns) = (if n == o then 1 else 0) + times o ns
 
--- the operation of the call that lies at this home
-abbrev pub called_at : Calls → ℕ → List ℕ
-called_at a i = elim (call_at (get_elem? a.homes i)) as (λ o. List ℕ) [ none ↦ [] | some asked ↦ asked.operation ∷ [] ]
-
 -- the call whose attempt the step advances: the exchange finds the word that it expects
 abbrev pub advances_by : (step : Step) → Found step → Calls → List ℕ
 advances_by (UnlockId i from true) found a = if found == from then called_at a i else []
@@ -63,8 +60,8 @@ advanced_at c m = elim (get_elem? c.seats m.seat) as (λ o. List ℕ) [ none ↦
 -- ## Responses that came before their call began
 
 -- link k's bytes so far
-abbrev pub given : Core → ℕ → List ℕ
-given c k = slice_index_or c.calls.gave k []
+abbrev pub gave_in : Core → ℕ → List ℕ
+gave_in c k = slice_index_or c.calls.gave k []
 
 -- by the id words a response is of no range that was made so far
 abbrev pub is_soon : Core → Frame → Bool
@@ -77,28 +74,16 @@ soon_from c k n (f ∷ fs) = if is_soon c f then (k, n) ∷ soon_from c k (n + 1
 
 -- those that were made whole between these two cores
 abbrev pub soon_by : Core → Core → Take → List (ℕ × ℕ)
-soon_by c c' take = let before = length (stream (given c take.link)).frames in soon_from c' take.link before (drop before (stream (given c' take.link)).frames)
+soon_by c c' take = let before = length (stream (gave_in c take.link)).frames in soon_from c' take.link before (drop before (stream (gave_in c' take.link)).frames)
 
 abbrev pub soon_at : Plan → Core → Moment → List (ℕ × ℕ)
 soon_at p c m = flat_map (soon_by c (ticked p c m)) (takes_at c m)
 
 -- ## In a run
 
-module _ {A : Type 0} (shown : Core → Moment → List A) where
-  -- what these ticks show, one after another
-  abbrev pub shows_in : Plan → Core → List Moment → List A
-  shows_in p c [] = []
-  shows_in p c (m ∷ ms) = shown c m ++ shows_in p (ticked p c m) ms
-
 module _ (script : List Item) (turns : List Turn) (end_ : Core) (is : IsRunWithCalls script turns end_) where
-  -- the ticks of the whole run, of the setup first
-  abbrev pub shows_in_run : {A : Type 0} → (Core → Moment → List A) → List A
-  shows_in_run shown = let p = plan_of script in shows_in shown p (opened script) (replicate is.setup (quiet 0))
-      ++ (shows_in shown p (set_up script is.setup) (is.scheduled ++ is.later)
-      ++ (shows_in shown p (ending script (played script is.setup (is.scheduled ++ is.later))) (replicate is.last (quiet 0)) ++ shows_in shown p is.ended is.final))
-
   abbrev pub takes_of_run : List Take
-  takes_of_run = shows_in_run takes_at
+  takes_of_run = shown_in_run script turns end_ is takes_at
 
   -- the link gave its end, or failed
   abbrev pub is_last : Taking → Bool
@@ -124,7 +109,7 @@ module _ (script : List Item) (turns : List Turn) (end_ : Core) (is : IsRunWithC
 
   -- the links whose reading ended early: a take found their end, or that they failed, or their bytes have a frame fault, or are the most
   abbrev pub early_of_run : List ℕ
-  early_of_run = filter (λ k. found_so is_last k || (is_fault (stream (given end_ k)).ending || nat_le LIMIT (length (given end_ k)))) (from_to 0 (plan_of script).links)
+  early_of_run = filter (λ k. found_so is_last k || (is_fault (stream (gave_in end_ k)).ending || nat_le LIMIT (length (gave_in end_ k)))) (from_to 0 (plan_of script).links)
 
   -- those that answered that they were closed, and those with nothing there once the run was ending
   abbrev pub closed_of_run : List ℕ
@@ -135,8 +120,8 @@ module _ (script : List Item) (turns : List Turn) (end_ : Core) (is : IsRunWithC
 
   -- the number of the last attempt of a call: so often its attempt was advanced
   abbrev pub attempts_of_run : ℕ → ℕ
-  attempts_of_run o = times o (shows_in_run advanced_at)
+  attempts_of_run o = times o (shown_in_run script turns end_ is advanced_at)
 
   -- the responses, by link and place, that were whole before a range of theirs was made
   abbrev pub soon_of_run : List (ℕ × ℕ)
-  soon_of_run = shows_in_run (soon_at (plan_of script))
+  soon_of_run = shown_in_run script turns end_ is (soon_at (plan_of script))

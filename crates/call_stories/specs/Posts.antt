@@ -11,9 +11,9 @@ use Rattle.seat_programs.specs.Beside.{found_in}
 use Rattle.seat_programs.specs.Cores.{Calls, Core}
 use Rattle.seat_programs.specs.Ticks.{Moment, taken}
 use Rattle.seat_programs.specs.Scripts.{IsRunWithCalls}
-use Rattle.call_stories.specs.Lists.{shows_in_run}
 use Rattle.seat_programs.specs.Rounds.{first_step}
 use Rattle.sock_words.specs.Words.{call_id}
+use Rattle.outcome_stories.specs.Facts.{shown_in_run}
 
 -- an error that an id took
 pub record Post : Type 0 where
@@ -34,4 +34,4 @@ posted_at c m = elim (get_elem? c.seats m.seat) as (λ o. List Post) [ none ↦ 
 
 -- in the ticks of a whole run, one after another
 abbrev pub posts_of_run : (script : List Item) (turns : List Turn) (end_ : Core) → IsRunWithCalls script turns end_ → List Post
-posts_of_run script turns end_ is = shows_in_run script turns end_ is posted_at
+posts_of_run script turns end_ is = shown_in_run script turns end_ is posted_at

@@ -2,7 +2,7 @@
 use Rattle.std.specs.Prelude.{ℕ, ◌≡◌, ◌≢◌, ◌+◌, ◌<◌, ◌≤◌, ◌⊎◌, Bool, true, false, List, [], ◌∷◌, ◌++◌, slice_get, Option, Some, None}
 use Rattle.std.specs.List.{AllByRecursion}
 use Rattle.sock_words.specs.Codes.{EEOF, ERESPONSE, is_final}
-use Rattle.sock_words.specs.Words.{at_word_attempt, call_id, id_slot, id_first}
+use Rattle.sock_words.specs.Words.{at_word_attempt, call_id, id_slot, id_first, bit}
 use Rattle.sock_words.specs.declared.plain.Plan.{Plan}
 use Rattle.sock_io.specs.declared.link.Put.{Put}
 use Rattle.sock_io.specs.declared.link.Ready.{Ready}
@@ -19,11 +19,11 @@ use Rattle.seat_programs.specs.declared.task.Task.{Task}
 use Rattle.seat_programs.specs.Calls.{Call, StoreName, LoadName, StoreCode, LoadCode}
 use Rattle.seat_programs.specs.Asides.{Step, ClaimId, PutCall, MakeId, StoreCall, LoadCall, StoreAt, LoadAt, LoadIdWord, LockId, PostId, UnlockId, EndId, FreeId, TakeCall, TakeBytes, Taking, Bytes, Found}
 use Rattle.seat_programs.specs.Heads.{Head, Exit, Sought, First, Version, Posts, Unlocks, Decides, Locks, Joins, Opens, Reads, Discards, Posting, WasCrowded, WasQueued, HasLocked, Unlocking, IsOpen, HasNext, Deciding, HasEnded, GoesOn, Locking, NotThere, Has, Reading}
-use Rattle.seat_programs.specs.Posts.{is_first, is_stale, is_sought, packed, advance_of, IsSoughtWord}
+use Rattle.seat_programs.specs.Posts.{is_first, is_stale, is_sought, packed, IsSoughtWord}
 use Rattle.seat_programs.specs.Programs.{Program, Do, Say, Sent, Rest, TakeMessage, TakeHome, PutHome, PutBytes, AskReady, Write, Aside, Round, Keep, Retries}
 use Rattle.seat_programs.specs.Readers.{has_response}
 use Rattle.owed_calls.specs.Below.id_runs.specs.Goes.{FitsOwner, FitsWriting}
-use Rattle.call_stories.specs.Lists.{given}
+use Rattle.call_stories.specs.Lists.{gave_in}
 use Rattle.sock_words.specs.declared.outcome.Outcome.{Outcome}
 use Rattle.call_stories.specs.Scenes.{Birth, Scene, Said, IsOver, IsJust, IsBorn, IsClaimed, Came, HasFaulted, IsOther, IsErrorCode, Named, Begun, WasPosted, WasDecided, EndedAt, MayAdvance, HasBegunIn, CauseOf, WhyEnded, WhyOwn, AreTold, HasNoneOf, IsTaskOf, Later}
 
@@ -93,7 +93,7 @@ with_attempt n other = other
 
 -- the word that an exchange writes which gives the oldest error out
 abbrev pub unlocked_by : ℕ → Bool → ℕ
-unlocked_by from advance = packed (unlocked_word (parts from) (advance_of advance))
+unlocked_by from advance = packed (unlocked_word (parts from) (bit advance))
 
 abbrev pub put_in : Asked → Slot → Slot
 put_in asked (Claims i c) = Claims i (Some asked)
@@ -184,7 +184,7 @@ module _ (p : Plan) (q : IdPlan) (clients : List (List Task)) (gives : ℕ → L
   Moves w m (LoadAt o) found m' = (m' ≡ m) × (at_word_attempt found ≤ 6)
   Moves w m (FreeId i) found m' = m' ≡ with_slot NoSlot m
   Moves w m (TakeCall i) found m' = (m' ≡ with_slot (taken_out found m.slot) m) × ((f : ℕ) (shape : Shape) → m.slot ≡ Locked i f shape → IsBorn w (call_id i f) found × (found.range ≡ shape.range))
-  Moves w m (TakeBytes k room) found m' = (m' ≡ given_more found m) × (m.link ≡ k ∷ [] → given w.core k ≡ (given_more found m).bytes)
+  Moves w m (TakeBytes k room) found m' = (m' ≡ given_more found m) × (m.link ≡ k ∷ [] → gave_in w.core k ≡ (given_more found m).bytes)
   Moves w m other found m' = m' ≡ m
 
   -- and what the seat shows in return: an error that it queued has its cause

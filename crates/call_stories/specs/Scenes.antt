@@ -19,7 +19,7 @@ use Rattle.seat_programs.specs.declared.task.Op.TheVariants as ops
 use Rattle.seat_programs.specs.declared.task.Task.{Task}
 pub use Rattle.seat_programs.specs.ToldCalls.{SeeksName}
 use Rattle.seat_programs.specs.Cores.{Core}
-use Rattle.call_stories.specs.Lists.{given, times}
+use Rattle.call_stories.specs.Lists.{gave_in, times}
 use Rattle.call_stories.specs.Posts.{Post}
 use Rattle.call_stories.specs.Decided.{Decision}
 use Rattle.outcome_stories.specs.Stories.{In}
@@ -80,7 +80,7 @@ WasDecided w b e = In (record { id = b.id; asked = b.asked; error = e }) w.decis
 
 -- frame n of link k came
 abbrev pub Came : Scene → ℕ → ℕ → Frame → Type 0
-Came w k n frame = slice_get (stream (given w.core k)).frames n ≡ Some frame
+Came w k n frame = slice_get (stream (gave_in w.core k)).frames n ≡ Some frame
 
 -- it is the response of one of the versions of the call with this id
 abbrev pub IsResponseTo : ℕ → Asked → Frame → Type 0
@@ -217,7 +217,7 @@ module _ (p : Plan) (q : IdPlan) (clients : List (List Task)) (gives : ℕ → L
 
   -- what each link gave is the beginning of what it gives in the end
   abbrev pub LeadsTo : Core → Type 0
-  LeadsTo c = (k : ℕ) → (more : List ℕ) × (given c k ++ more ≡ gives k)
+  LeadsTo c = (k : ℕ) → (more : List ℕ) × (gave_in c k ++ more ≡ gives k)
 
   abbrev pub StaysWithin : Scene → Type 0
   StaysWithin w = HasRoom w × LeadsTo w.core

@@ -3,7 +3,7 @@ use Rattle.std.specs.Prelude.{ℕ, ◌==◌, if◌then◌else◌, ◌++◌, ◌�
 use Rattle.std.specs.List.{AllByRecursion}
 use mathlib.Core.Option as core
 use lib.ListN.{get_elem?}
-use Rattle.sock_words.specs.Words.{at_word_attempt, call_id, id_slot, id_first}
+use Rattle.sock_words.specs.Words.{at_word_attempt, call_id, id_slot, id_first, bit}
 use Rattle.sock_words.specs.declared.plain.Plan.{Plan}
 use Rattle.sock_words.specs.declared.outcome.Outcome.{Outcome}
 use Rattle.sock_model.specs.Layout.{code_index}
@@ -15,9 +15,8 @@ use Rattle.seat_programs.specs.declared.task.Op.TheVariants as ops
 use Rattle.seat_programs.specs.declared.task.Task.{Task}
 use Rattle.seat_programs.specs.Asides.{Step, ClaimId, PutCall, MakeId, StoreCall, LoadCall, StoreAt, LoadAt, LoadIdWord, LockId, PostId, UnlockId, EndId, FreeId, TakeCall, TakeBytes, Found}
 use Rattle.seat_programs.specs.Beside.{calls_after}
-use Rattle.seat_programs.specs.Posts.{advance_of}
 use Rattle.seat_programs.specs.Cores.{Core, SeatState}
-use Rattle.call_stories.specs.Lists.{given, times, advances_by}
+use Rattle.call_stories.specs.Lists.{gave_in, times, advances_by}
 use Rattle.call_stories.specs.Posts.{Post, posts_by}
 use Rattle.call_stories.specs.Decided.{Decision}
 use Rattle.call_stories.specs.Scenes.{Birth, Claim, Saying, Scene, IsOver, Said, IsBorn, IsOther, MayAdvance, CauseOf, Begun, IsTaskOf, WhyEnded, WhyOwn, AreTold, IsClaimed, Later}
@@ -177,7 +176,7 @@ module _ (p : Plan) (q : IdPlan) (clients : List (List Task)) (gives : ℕ → L
     pub free : (j : ℕ) (m : Mark) (t : Task) → At ms j m → In t (unclaimed m.slot m.makes m.todo) → (i : ℕ) → IsClaimed w i t.number → ⊥
 
   pub record ReadsLaw (w : Scene) (ms : List Mark) : Type 0 where
-    pub bytes : (j k : ℕ) (m : Mark) → At ms j m → m.link ≡ k ∷ [] → given w.core k ≡ m.bytes
+    pub bytes : (j k : ℕ) (m : Mark) → At ms j m → m.link ≡ k ∷ [] → gave_in w.core k ≡ m.bytes
     pub tied : (j k : ℕ) (m : Mark) → At ms j m → m.link ≡ k ∷ [] → j ≡ 32 + k
     pub inside : (j k : ℕ) (m : Mark) → At ms j m → m.link ≡ k ∷ [] → k < length w.core.calls.gave
 
@@ -263,7 +262,7 @@ module _ (p : Plan) (q : IdPlan) (clients : List (List Task)) (gives : ℕ → L
   KnowsStep w (LoadIdWord i) found = IsWordAt w i found × HasOldest found
   KnowsStep w (LockId i from) found = IsWordAt w i found × ((parts from).state ≡ 1) × IsTakenWith w i
   KnowsStep w (PostId i from e) found = IsWordAt w i found × (((parts from).state ≡ 1) ⊎ (((parts from).state ≡ 2) × ((parts from).second ≡ 0))) × (e < 32768) × IsTakenWith w i × HasOldest found
-  KnowsStep w (UnlockId i from advance) found = IsWordAt w i found × ((parts from).state ≡ 2) × ((parts from).attempt + advance_of advance ≤ 6) × ((asked : Asked) × LiesAt w i asked) × ((parts from).attempt + advance_of advance + 2 ≤ (parts from).range)
+  KnowsStep w (UnlockId i from advance) found = IsWordAt w i found × ((parts from).state ≡ 2) × ((parts from).attempt + bit advance ≤ 6) × ((asked : Asked) × LiesAt w i asked) × ((parts from).attempt + bit advance + 2 ≤ (parts from).range)
   KnowsStep w (EndId i) found = IsWordAt w i found
   KnowsStep w (FreeId i) found = i < q.slots
   KnowsStep w (TakeCall i) found = (i < q.slots) × LiesAt w i found

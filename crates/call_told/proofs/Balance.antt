@@ -1,7 +1,7 @@
 -- Counts of what is told of calls that ended, beside what seats noted of them.
 use Rattle.std.proofs.Common.{◌≡◌, ℕ, ◌+◌, ◌*◌, ◌<◌, true, false, cond, eqb, List, [], ◌∷◌, ◌++◌, map, refl, ◌∙◌, ap, sym, arith}
 use Rattle.std.specs.List.{AllByRecursion, flat_map}
-use Rattle.corr_core.specs.Law.{total, only, is_ended}
+use Rattle.corr_core.specs.Law.{only, is_ended}
 use Rattle.corr_core.specs.declared.marks.Note.TheVariants.{Ended}
 use Rattle.corr_core.specs.declared.marks.Noted.{Noted}
 use Rattle.corr_core.specs.declared.marks.View.{View}
@@ -12,6 +12,7 @@ use Rattle.corr_id.proofs.Seats.{total_append, notes_append}
 use Rattle.call_deeds.specs.Below.RpcClient.Told.{Told}
 use Rattle.call_deeds.specs.Below.CallErrors.Accounts.{same_id}
 use Rattle.call_told.specs.Once.{ends_of, told_ends}
+use Rattle.sock_words.specs.Totals.{total}
 
 -- how often it was noted that the range of this slot with this first version ended
 abbrev pub noted_ends : ℕ → ℕ → List (Noted Asked) → ℕ

@@ -16,7 +16,6 @@ use Rattle.sock_io.specs.declared.link.Ends.{Ends}
 use Rattle.sock_io.specs.declared.link.Out.{Ghosts}
 use Rattle.sock_io.specs.Link.{OutState, InState}
 use Rattle.prpc_frame.specs.declared.frame.Frame.{Frame}
-use Rattle.corr_core.specs.Law.{total}
 use Rattle.corr_core.specs.declared.marks.Note.{Note}
 use Rattle.corr_core.specs.declared.marks.Noted.{Noted}
 use Rattle.corr_core.specs.declared.marks.Plan as ids
@@ -49,6 +48,7 @@ use Rattle.call_told.proofs.Balance.{AreBalanced, balanced_both}
 use Rattle.call_told.proofs.Once.{told_once}
 use Rattle.call_told.proofs.Least.{TellEnds, tell_both, AllEnded, told_least}
 use Rattle.call_told.proofs.Readers.{IsUnread, ReadBeside, AllRead, total_none, each_read, readers_gave, readers_told, told_gave, readers_none, readers_made, readers_own, readers_balanced, readers_tell}
+use Rattle.sock_words.specs.Totals.{total}
 
 -- ## Seats
 

@@ -13,7 +13,6 @@ use Rattle.sock_words.specs.declared.outcome.Outcome.{Outcome}
 use Rattle.seat_programs.specs.declared.task.Op.{Op}
 use Rattle.seat_programs.specs.declared.task.Op.TheVariants as ops
 use Rattle.seat_programs.specs.declared.task.Task.{Task}
-use Rattle.corr_core.specs.Law.{total}
 use Rattle.corr_core.specs.declared.marks.Note.TheVariants.{Made as made_note}
 use Rattle.corr_core.specs.declared.marks.Plan as id_plan
 use Rattle.corr_core.specs.declared.marks.View.{View}
@@ -37,6 +36,7 @@ use Rattle.call_told.proofs.Growing.{Grows}
 use Rattle.call_told.proofs.Lists.{all_at, last_there}
 use Rattle.call_told.proofs.Moves.{attempted_by, Fits, made_moves, end_moves}
 use Rattle.sock_words.specs.Words.{id_slot, id_first}
+use Rattle.sock_words.specs.Totals.{total}
 
 -- of an operation, by what the client told of its own and what its seat of the ids knows
 pub data HasCome (q : id_plan.Plan) (x : Task) (told : List Told) (v : View Asked) : Type 0 where

@@ -2,7 +2,7 @@
 use Rattle.std.proofs.Common.{◌≡◌, ℕ, ◌+◌, ◌*◌, ◌<◌, ◌≤◌, true, false, cond, eq-eqb, List, [], ◌∷◌, refl, ap, arith}
 use Rattle.std.specs.List.{AllByRecursion}
 use Rattle.corr_core.specs.Word.{Parts}
-use Rattle.corr_core.specs.Law.{total, only}
+use Rattle.corr_core.specs.Law.{only}
 use Rattle.corr_core.specs.declared.marks.Note.{Note}
 use Rattle.corr_core.specs.declared.marks.Note.TheVariants.{Made, Locker}
 use Rattle.corr_core.specs.declared.marks.View.{View}
@@ -15,6 +15,7 @@ use Rattle.call_deeds.specs.Below.CallClient.Telling.{did_total}
 use Rattle.call_told.specs.Once.{ends_of}
 use Rattle.call_told.specs.Least.{is_made_for, is_locked_for}
 use Rattle.call_told.proofs.Lists.{all_then}
+use Rattle.sock_words.specs.Totals.{total}
 
 -- only events count
 pub locked_silent : (first operation : ℕ) (n : Note Asked) → is_event n ≡ false → is_locked_for first operation n ≡ 0

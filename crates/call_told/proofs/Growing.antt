@@ -1,7 +1,7 @@
 -- What a seat noted it has noted still, what it keeps in mind it keeps, and the words that it stored itself are counted.
 use Rattle.std.proofs.Common.{◌≡◌, ℕ, ◌+◌, ◌≤◌, Bool, cond, List, ap, arith}
 use Rattle.std.specs.Prelude.{Option as Maybe}
-use Rattle.corr_core.specs.Law.{total, only}
+use Rattle.corr_core.specs.Law.{only}
 use Rattle.corr_core.specs.declared.marks.Kept.{Kept}
 use Rattle.corr_core.specs.declared.marks.Note.{Note}
 use Rattle.corr_core.specs.declared.marks.Noted.{Noted}
@@ -14,6 +14,7 @@ use Rattle.corr_id.specs.declared.posts.Posted.TheVariants.{Locked as HasLock, Q
 use Rattle.corr_id.specs.Calls.{Became, Did, Quiet}
 use Rattle.corr_id.specs.Posts.{PostOk}
 use Rattle.corr_id.proofs.Doing.{became_grows}
+use Rattle.sock_words.specs.Totals.{total}
 
 -- 1 where it is a word of this place that the seat stored itself
 abbrev pub own_at : ℕ → Kept → ℕ

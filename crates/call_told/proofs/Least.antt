@@ -7,7 +7,7 @@ use mathlib.Core.Logic.{dite}
 use mathlib.Core.Option.{some, some-injective, some-ne-none}
 use native.Mathlib.Decide.{ℕ_discrete}
 use lib.ListN.{get_elem?}
-use Rattle.corr_core.specs.Law.{total, only, pair, is_made}
+use Rattle.corr_core.specs.Law.{only, pair, is_made}
 use Rattle.corr_core.specs.declared.marks.Kept.{Kept}
 use Rattle.corr_core.specs.declared.marks.Note.{Note}
 use Rattle.corr_core.specs.declared.marks.Note.TheVariants.{Made, Locker}
@@ -34,6 +34,7 @@ use Rattle.call_told.proofs.Once.{told_noted}
 use Rattle.call_told.proofs.Resting.{is_word, IsSeen, rest_seen, seen_ended}
 use Rattle.call_told.proofs.Tallies.{Tally, rest_accounts, version_low}
 use Rattle.sock_words.specs.Words.{id_slot, id_first}
+use Rattle.sock_words.specs.Totals.{total}
 
 -- ## One of a list
 

@@ -25,7 +25,7 @@ use Rattle.call_deeds.specs.Below.RpcReader.Running.{throws, ReadLink}
 use Rattle.call_deeds.specs.Below.RpcReader.How.{How}
 use Rattle.call_deeds.specs.Below.RpcReader.HowVariants as how
 use Rattle.corr_core.specs.Word.{parts}
-use Rattle.corr_core.specs.Law.{total, is_ended}
+use Rattle.corr_core.specs.Law.{is_ended}
 use Rattle.corr_core.specs.declared.marks.Note.{Note}
 use Rattle.corr_core.specs.declared.marks.Noted.{Noted}
 use Rattle.corr_core.specs.declared.marks.Kept.{Kept}
@@ -39,6 +39,7 @@ use Rattle.call_told.proofs.Given.{for_is}
 use Rattle.call_told.proofs.Linked.{read_bytes}
 use Rattle.call_told.proofs.Responses.{HasEnded}
 use Rattle.call_told.proofs.Unanswered.{EndOf, WasMet, twice_never, ended_never}
+use Rattle.sock_words.specs.Totals.{total}
 
 -- ## Each frame
 

@@ -22,7 +22,7 @@ use Rattle.seat_programs.specs.declared.task.Op.TheVariants as ops
 use Rattle.seat_programs.specs.declared.task.Task.{Task}
 use Rattle.call_deeds.specs.Below.WriteChain.Undelivered.{Undelivered}
 use Rattle.corr_core.specs.Word.{Parts, parts}
-use Rattle.corr_core.specs.Law.{total, only}
+use Rattle.corr_core.specs.Law.{only}
 use Rattle.corr_core.specs.declared.marks.Note.{Note}
 use Rattle.corr_core.specs.declared.marks.Note.TheVariants.{Ended}
 use Rattle.corr_core.specs.declared.marks.Plan as id_plan
@@ -60,6 +60,7 @@ use Rattle.call_told.proofs.Lists.{all_both, all_at}
 use Rattle.call_told.proofs.Onward.{Onward, onward_as, onward_then, onward_starving, onward_tells}
 use Rattle.call_told.proofs.Runs.{none_left}
 use Rattle.sock_words.specs.Words.{id_slot}
+use Rattle.sock_words.specs.Totals.{total}
 
 -- the lock of the error that is handed out instead of a lock
 next_locked : (k l : IdLock Asked) (v w : View Asked) → ((j : ℕ) (g : Note Asked → ℕ) → total g (notes_of j v.notes) ≤ total g (notes_of j w.notes)) → l.slot ≡ k.slot → (parts l.word.0).first ≡ (parts k.word.0).first → l.content ≡ k.content

@@ -3,7 +3,7 @@ use Rattle.std.proofs.Common.{◌≡◌, ℕ, ◌≤◌, true, false, cond, List
 use Rattle.std.specs.List.{AllByRecursion, flat_map}
 use Rattle.std.specs.Prelude.{Option as Maybe, slice_get}
 use Rattle.corr_core.specs.Word.{Parts, parts}
-use Rattle.corr_core.specs.Law.{total, is_any_made}
+use Rattle.corr_core.specs.Law.{is_any_made}
 use Rattle.corr_core.specs.declared.marks.Note.{Note}
 use Rattle.corr_core.specs.declared.marks.Note.TheVariants.{Ended, Locker, Queued}
 use Rattle.corr_core.specs.declared.marks.Noted.{Noted}
@@ -21,6 +21,7 @@ use Rattle.call_deeds.specs.Below.RpcClient.Told.{Told}
 use Rattle.call_told.specs.Answers.{HasNoted, HasEnded, ToldFrom}
 use Rattle.call_told.proofs.Lists.{at_front, at_back, all_both, all_then}
 use Rattle.sock_words.specs.Words.{id_slot, id_first}
+use Rattle.sock_words.specs.Totals.{total}
 
 -- none of these is that an id was made
 abbrev pub NoneMade : List (Noted Asked) → Type 0

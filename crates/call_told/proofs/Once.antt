@@ -2,7 +2,6 @@
 use Rattle.std.proofs.Common.{◌≡◌, ℕ, ◌+◌, ◌*◌, ◌<◌, ◌≤◌, inl, inr, true, false, List, [], ◌∷◌, ◌++◌, ◌∙◌, ap, sym, subst, arith}
 use Rattle.std.specs.List.{flat_map}
 use Rattle.std.proofs.lemmas.Nat.{div-add-mod'}
-use Rattle.corr_core.specs.Law.{total}
 use Rattle.corr_core.specs.declared.marks.Kept.{Kept}
 use Rattle.corr_core.specs.declared.marks.Noted.{Noted}
 use Rattle.corr_core.specs.declared.marks.Plan.{Plan}
@@ -17,6 +16,7 @@ use Rattle.call_told.specs.Once.{told_ends, ToldOnce}
 use Rattle.call_told.proofs.Balance.{noted_ends, Accounted, AreBalanced, balanced_all}
 use Rattle.call_told.proofs.Tallies.{Accounts, rest_accounts, version_low}
 use Rattle.sock_words.specs.Words.{id_slot, id_first}
+use Rattle.sock_words.specs.Totals.{total}
 
 -- memory was not wanting
 pub calm_accounts : (b b' : Books) → Accounts b b' → b'.starved ≡ false → Accounted b.told b.view.notes b'.told b'.view.notes

@@ -8,7 +8,6 @@ use Rattle.sock_words.specs.declared.socket_id.SocketId.{SocketId}
 use Rattle.sock_model.specs.declared.view.View as sock_view
 use Rattle.sock_io.specs.declared.link.Out.{Ghosts}
 use Rattle.sock_io.specs.Link.{InState}
-use Rattle.corr_core.specs.Law.{total}
 use Rattle.corr_core.specs.declared.marks.Plan as ids
 use Rattle.corr_core.specs.declared.marks.View.{View}
 use Rattle.sock_message.specs.Asked.{Asked}
@@ -32,6 +31,7 @@ use Rattle.call_told.proofs.Tallies.{Tally, tally_same, read_tally}
 use Rattle.call_told.proofs.Once.{calm_accounts}
 use Rattle.call_told.proofs.Ends.{AreEnds}
 use Rattle.call_told.proofs.Least.{TellEnds, tell_each}
+use Rattle.sock_words.specs.Totals.{total}
 
 -- ## Lists
 

@@ -12,7 +12,7 @@ use Rattle.sock_words.specs.declared.at_word.AtWord.{AtWord}
 use Rattle.sock_words.specs.declared.outcome.Outcome.{Outcome}
 use Rattle.sock_words.specs.declared.outcome.Outcome.TheVariants.{CallFailed}
 use Rattle.corr_core.specs.Word.{Parts, parts, locked_word}
-use Rattle.corr_core.specs.Law.{total, is_ended}
+use Rattle.corr_core.specs.Law.{is_ended}
 use Rattle.corr_core.specs.declared.marks.Note.{Note}
 use Rattle.corr_core.specs.declared.marks.Note.TheVariants.{Ended}
 use Rattle.corr_core.specs.declared.marks.Plan.{Plan}
@@ -38,6 +38,7 @@ use Rattle.call_deeds.specs.Below.RpcReader.Resting.{HadEnded, EndedLast, OneEnd
 use Rattle.call_deeds.specs.call_places.specs.sock_deeds.proofs.Flats.{append_first}
 use Rattle.call_told.proofs.Given.{for_is}
 use Rattle.call_told.proofs.Lists.{last_there, elem_or}
+use Rattle.sock_words.specs.Totals.{total}
 
 -- ## Elements of lists
 

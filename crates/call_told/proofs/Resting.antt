@@ -2,7 +2,7 @@
 use Rattle.std.proofs.Common.{◌≡◌, ℕ, zero, suc, ◌<◌, ◌≤◌, ◌⊎◌, inl, inr, cond, eq-eqb, List, [], ◌∷◌, Some, None, refl, ap, ◌∙◌, subst, arith}
 use Rattle.std.specs.Prelude.{Option, slice_get, position}
 use Rattle.corr_core.specs.Word.{Parts, parts}
-use Rattle.corr_core.specs.Law.{total, only, pair, is_made, is_ended}
+use Rattle.corr_core.specs.Law.{only, pair, is_made, is_ended}
 use Rattle.corr_core.specs.declared.marks.Kept.{Kept}
 use Rattle.corr_core.specs.declared.marks.Note.TheVariants.{Ended}
 use Rattle.corr_core.specs.declared.marks.Plan.{Plan}
@@ -23,6 +23,7 @@ use Rattle.call_told.proofs.Growing.{Grows}
 use Rattle.call_told.proofs.Lists.{some_same}
 use Rattle.call_told.proofs.Tallies.{id_tally, one_tally, rest_accounts}
 use Rattle.sock_words.specs.Words.{id_slot, id_first}
+use Rattle.sock_words.specs.Totals.{total}
 
 -- 1 where it is this word at this place
 abbrev pub is_word : ℕ → ℕ → Kept → ℕ

@@ -8,7 +8,6 @@ use Rattle.sock_io.specs.declared.link.Out.{Ghosts}
 use Rattle.sock_io.specs.Link.{OutState}
 use Rattle.sock_words.specs.declared.plain.Plan.{Plan}
 use Rattle.seat_programs.specs.declared.task.Task.{Task}
-use Rattle.corr_core.specs.Law.{total}
 use Rattle.corr_core.specs.declared.marks.Plan as id_plan
 use Rattle.corr_core.specs.declared.marks.View.{View}
 use Rattle.id_rule.specs.Lawful.{newcomer}
@@ -25,6 +24,7 @@ use Rattle.call_told.specs.Answers.{IsFailure, TellsOnly}
 use Rattle.call_told.specs.Once.{ends_of, told_ends}
 use Rattle.call_told.proofs.Balance.{noted_ends, Accounted, Balanced, told_more, balanced_more}
 use Rattle.call_told.proofs.Clients.{ended_fails}
+use Rattle.sock_words.specs.Totals.{total}
 
 failure_ends : (id : ℕ) (x : Told) → IsFailure x → errors.is_end id x ≡ ends_of id x.outcome
 failure_ends id x h = ap (errors.fails id) h.is ∙ sym (ap (ends_of id) h.is)

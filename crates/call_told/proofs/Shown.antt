@@ -4,11 +4,11 @@ use Rattle.std.specs.Prelude.{Option, slice_set}
 use Rattle.std.specs.List.{AllByRecursion}
 use Rattle.sock_words.specs.declared.outcome.Outcome.{Outcome}
 use Rattle.sock_words.specs.declared.outcome.Outcome.TheVariants as outcomes
-use Rattle.corr_core.specs.Law.{total}
 use Rattle.corr_id.proofs.Seats.{total_append}
 use Rattle.call_deeds.specs.Below.RpcClient.Told.{Told}
 use Rattle.call_told.specs.Answers.{is_end_of_call, IsOwn}
 use Rattle.call_told.specs.Once.{ends_of, told_ends, ToldOnce, shows, ShownOnce}
+use Rattle.sock_words.specs.Totals.{total}
 
 -- ## Put together by their numbers
 

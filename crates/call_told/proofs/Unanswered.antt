@@ -8,7 +8,7 @@ use Rattle.sock_words.specs.declared.at_word.AtWord.{AtWord}
 use Rattle.sock_words.specs.declared.outcome.Outcome.{Outcome}
 use Rattle.sock_words.specs.declared.outcome.Outcome.TheVariants.{CallFailed}
 use Rattle.corr_core.specs.Word.{Parts, parts, locked_word}
-use Rattle.corr_core.specs.Law.{total, only, is_ended}
+use Rattle.corr_core.specs.Law.{only, is_ended}
 use Rattle.corr_core.specs.declared.marks.Note.{Note}
 use Rattle.corr_core.specs.declared.marks.Note.TheVariants.{Ended}
 use Rattle.corr_core.specs.declared.marks.Plan.{Plan}
@@ -45,6 +45,7 @@ use Rattle.call_deeds.specs.Below.RpcReader.Resting.{HadEnded, EndedLast, OneEnd
 use Rattle.call_told.proofs.Given.{for_is}
 use Rattle.call_told.proofs.Lists.{all_both, all_then}
 use Rattle.call_told.proofs.Responses.{NotesGrow, HasEnded, IsMet, Goes, met_still, goes_view, same_notes, post_grows, posted_goes, all_goes, one_goes, rest_goes, lost_met, frames_goes, frames_met}
+use Rattle.sock_words.specs.Totals.{total}
 
 -- ## No response ends a call with 1014
 

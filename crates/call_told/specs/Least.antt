@@ -2,7 +2,7 @@
 use Rattle.std.specs.Prelude.{◌≡◌, ℕ, ◌<◌, ◌≤◌, List}
 use mathlib.Core.Option.{some}
 use lib.ListN.{get_elem?}
-use Rattle.corr_core.specs.Law.{total, pair}
+use Rattle.corr_core.specs.Law.{pair}
 use Rattle.corr_core.specs.declared.marks.Note.{Note}
 use Rattle.corr_core.specs.declared.marks.Note.TheVariants.{Made, Locker}
 use Rattle.corr_core.specs.declared.marks.Plan.{Plan}
@@ -12,6 +12,7 @@ use Rattle.sock_message.specs.Asked.{Asked}
 use Rattle.call_deeds.specs.Below.RpcClient.Told.{Told}
 use Rattle.call_told.specs.Once.{ends_of, told_ends}
 use Rattle.sock_words.specs.Words.{id_slot, id_first}
+use Rattle.sock_words.specs.Totals.{total}
 
 -- 1 where the range with this first version was made for the call that is this operation
 abbrev pub is_made_for : ℕ → ℕ → Note Asked → ℕ

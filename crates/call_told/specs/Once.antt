@@ -2,9 +2,10 @@
 use Rattle.std.specs.Prelude.{ℕ, ◌<◌, ◌≤◌, List, Option, Some, None}
 use Rattle.sock_words.specs.declared.outcome.Outcome.{Outcome}
 use Rattle.sock_words.specs.declared.outcome.Outcome.TheVariants.{Answered, Peer, CallFailed}
-use Rattle.corr_core.specs.Law.{total, only}
+use Rattle.corr_core.specs.Law.{only}
 use Rattle.call_deeds.specs.Below.RpcClient.Told.{Told}
 use Rattle.sock_words.specs.Words.{id_slot}
+use Rattle.sock_words.specs.Totals.{total}
 
 -- 1 where the outcome is the end of the call with this id, else 0
 abbrev pub ends_of : ℕ → Outcome → ℕ

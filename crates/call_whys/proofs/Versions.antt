@@ -12,7 +12,7 @@ use Rattle.brpc_model.specs.Messages.{shown_id}
 use Rattle.seat_programs.specs.declared.task.Op.TheVariants as ops
 use Rattle.seat_programs.specs.declared.task.Task.{Task}
 use Rattle.seat_programs.specs.Told.{IsTask, Became}
-use Rattle.corr_core.specs.Law.{total, is_made, is_ended}
+use Rattle.corr_core.specs.Law.{is_made, is_ended}
 use Rattle.corr_core.specs.Word.{parts}
 use Rattle.corr_core.specs.declared.marks.Kept.{Kept}
 use Rattle.corr_core.specs.declared.marks.Note.{Note}
@@ -25,6 +25,7 @@ use Rattle.corr_id.specs.Closing.{Closing}
 use Rattle.sock_message.specs.Asked.{Asked}
 use Rattle.expire_told.specs.call_told.specs.Once.{ends_of}
 use Rattle.expire_told.specs.call_places.proofs.Weights.{two_terms}
+use Rattle.sock_words.specs.Totals.{total}
 
 content_of : Note Asked → Asked → Asked
 content_of (Made f r asked) other = asked

@@ -16,7 +16,7 @@ use Rattle.seat_programs.specs.Scripts.{opened, set_up, played, IsRunWithCalls}
 use Rattle.served_fits.specs.Below.joint_runs.proofs.Runs.{AreMade}
 use Rattle.served_fits.specs.Below.script_facts.proofs.Reading.{InRange}
 use Rattle.served_fits.specs.Below.script_facts.proofs.Targets.{AreThere}
-use Rattle.served_fits.specs.Below.call_stories.specs.Lists.{given, soon_at, shows_in}
+use Rattle.served_fits.specs.Below.call_stories.specs.Lists.{gave_in, soon_at}
 use Rattle.served_fits.specs.Below.call_causes.proofs.HandledWhole.{reads_played}
 use Rattle.served_fits.specs.Below.call_causes.proofs.Handled.{word_of, frames_in, all_at, IsResp, Done, Over, Frozen}
 use Rattle.served_fits.specs.Below.call_causes.proofs.HandledSteps.{State, waiting, reading, seeking, taking, ending_, freeing, over}
@@ -24,6 +24,7 @@ use Rattle.served_fits.specs.Below.call_causes.proofs.HandledStates.{After}
 use Rattle.served_fits.specs.Below.call_causes.proofs.HandledTicks.{sit}
 use Rattle.served_fits.specs.Below.call_causes.proofs.HandledRuns.{Reads'}
 use Rattle.served_fits.specs.Below.outcome_stories.specs.Stories.{In}
+use Rattle.served_fits.specs.Below.outcome_stories.specs.Facts.{shown_in}
 
 -- what a program waits for at the head of a reading
 abbrev reading_in : Program → Option Reading
@@ -32,10 +33,10 @@ reading_in other = None
 
 module _ (script : List Item) (made : AreMade script) (there : AreThere script) (range : AllByRecursion InRange script) (turns : List Turn) (core : Core) (is : IsRunWithCalls script turns core) where
   abbrev pub soon_setup : List (ℕ × ℕ)
-  soon_setup = shows_in (soon_at (plan_of script)) (plan_of script) (opened script) (replicate is.setup (quiet 0))
+  soon_setup = shown_in (soon_at (plan_of script)) (plan_of script) (opened script) (replicate is.setup (quiet 0))
 
   abbrev pub soon_clients : List (ℕ × ℕ)
-  soon_clients = shows_in (soon_at (plan_of script)) (plan_of script) (set_up script is.setup) (is.scheduled ++ is.later)
+  soon_clients = shown_in (soon_at (plan_of script)) (plan_of script) (set_up script is.setup) (is.scheduled ++ is.later)
 
   -- ## A reader
 
@@ -69,7 +70,7 @@ module _ (script : List Item) (made : AreMade script) (there : AreThere script) 
           by (over kept ov a) = absurd (subst (After (Frozen k (id_plan_of script).slots (sit k before (soon_setup ++ soon_clients))) kept) waits a).0
 
       -- a response of an id that hasn't passed came before its call began
-      pub in_soon : (n : ℕ) (f : Frame) → slice_get (frames_in (given before k)) n ≡ Some f → IsResp k (id_plan_of script).slots f → (word_of (sit k before (soon_setup ++ soon_clients)) (slot_in f)).first < version_in f → In (k, n) (soon_setup ++ soon_clients)
+      pub in_soon : (n : ℕ) (f : Frame) → slice_get (frames_in (gave_in before k)) n ≡ Some f → IsResp k (id_plan_of script).slots f → (word_of (sit k before (soon_setup ++ soon_clients)) (slot_in f)).first < version_in f → In (k, n) (soon_setup ++ soon_clients)
       in_soon n f stands resp behind = ⊎_elim (λ gone. absurd (let z : ⊥ = omega (arith, gone, behind) in z))
           (λ kept. kept.0) (subst (λ j. Done k (id_plan_of script).slots (sit k before (soon_setup ++ soon_clients)) all_handled.0 j f) (let z : 0 + n ≡ n = omega arith in z)
-          (all_at (Done k (id_plan_of script).slots (sit k before (soon_setup ++ soon_clients)) all_handled.0) 0 (frames_in (given before k)) all_handled.1 n f stands) resp)
+          (all_at (Done k (id_plan_of script).slots (sit k before (soon_setup ++ soon_clients)) all_handled.0) 0 (frames_in (gave_in before k)) all_handled.1 n f stands) resp)

@@ -29,7 +29,7 @@ use Rattle.served_fits.specs.Below.call_owing.specs.Sound.{id_word_of, at_of, Is
 use Rattle.served_fits.specs.Below.owed_calls.proofs.Known.{run_all_rest}
 use Rattle.served_fits.specs.Below.run_theorems.proofs.Lengths.{ended_length}
 use Rattle.served_fits.specs.Below.run_theorems.proofs.Starts.{made}
-use Rattle.served_fits.specs.Below.call_stories.specs.Lists.{given, shows_in, times, advanced_at, attempts_of_run}
+use Rattle.served_fits.specs.Below.call_stories.specs.Lists.{gave_in, times, advanced_at, attempts_of_run}
 use Rattle.served_fits.specs.Below.call_causes.proofs.Posted.{run_few_attempts}
 use Rattle.served_fits.specs.Below.call_causes.proofs.Run.{times_append}
 use Rattle.served_fits.specs.send_causes.proofs.Assembled.{fixed_in_run}
@@ -52,6 +52,7 @@ use Rattle.calls_over.proofs.OpensRequest.{own_told, IsAttempt, attempt_of, take
 use Rattle.served_fits.specs.Below.accept_counts.proofs.Standing.{both, unlocked}
 use Rattle.id_runs.proofs.Steps.{live_room}
 use Rattle.served_fits.specs.Below.owned_ids.proofs.OpensStored.{place_at}
+use Rattle.served_fits.specs.Below.outcome_stories.specs.Facts.{shown_in}
 
 -- ## At words
 
@@ -101,7 +102,7 @@ module _ (calm : CalmRun) where
       (counted.words i low live)
     where
       since_clients : ℕ → ℕ
-      since_clients y = times y (shows_in advanced_at (plan_of script) (opened script) (replicate is.setup (quiet 0))) + times y (shows_in advanced_at (plan_of script) (set_up script is.setup) (is.scheduled ++ is.later))
+      since_clients y = times y (shown_in advanced_at (plan_of script) (opened script) (replicate is.setup (quiet 0))) + times y (shown_in advanced_at (plan_of script) (set_up script is.setup) (is.scheduled ++ is.later))
 
       counted : Counted (plan_of script) (id_plan_of script) (narrow script (are_made calm) turns core is closes) (IsCallOf script) (ids_at script core) (single_at script (are_made calm) (targets calm) (range calm) turns core is closes) since_clients rested (views_played script turns core is (first_views script))
       counted = played_counted script (are_made calm).are (first_views script) (start script (are_made calm) turns core is) (go script (are_made calm) turns core is) turns core is (fitting script (are_made calm) turns core is) (narrow script (are_made calm) turns core is closes)
@@ -110,8 +111,8 @@ module _ (calm : CalmRun) where
 
       all_parts : since_clients o ≤ attempts_of_run script turns core is o
       all_parts = let p : Plan = plan_of script in
-          let one : List ℕ = shows_in advanced_at (plan_of script) (opened script) (replicate is.setup (quiet 0)) in let two : List ℕ = shows_in advanced_at (plan_of script) (set_up script is.setup) (is.scheduled ++ is.later) in
-          let three : List ℕ = shows_in advanced_at (plan_of script) (closing_of script turns core is) (replicate is.last (quiet 0)) in let four : List ℕ = shows_in advanced_at (plan_of script) is.ended is.final in
+          let one : List ℕ = shown_in advanced_at (plan_of script) (opened script) (replicate is.setup (quiet 0)) in let two : List ℕ = shown_in advanced_at (plan_of script) (set_up script is.setup) (is.scheduled ++ is.later) in
+          let three : List ℕ = shown_in advanced_at (plan_of script) (closing_of script turns core is) (replicate is.last (quiet 0)) in let four : List ℕ = shown_in advanced_at (plan_of script) is.ended is.final in
           let a = times_append o one (two ++ (three ++ four)) in let b = times_append o two (three ++ four) in omega (arith, a, b)
 
   -- ## An id that is open
@@ -205,13 +206,13 @@ module _ (calm : CalmRun) where
         (u.operation, subst (λ y. slice_get (operations script) y ≡ Some u.operation) number u.there, omega (arith, tries, most, same, has, counts, n))
 
     accepted : IsAccepted script (are_made calm) turns core is closes ids labelled o w early
-    accepted = ⊎_elim (λ a. a) by_full (accepted_or script (are_made calm) turns core is closes ids labelled o w early own_fixed (given core) (unfailed calm early.link))
+    accepted = ⊎_elim (λ a. a) by_full (accepted_or script (are_made calm) turns core is closes ids labelled o w early own_fixed (gave_in core) (unfailed calm early.link))
       where
         by_full : AllTaken script (are_made calm) turns core is closes ids labelled o w early → IsAccepted script (are_made calm) turns core is closes ids labelled o w early
         by_full full = let t : IsIn o early.attempt (early_log script (are_made calm) turns core is) =
-            taken_has bytes script reads (are_made calm) turns core is closes own_fixed (given core) (own_told calm) (ended_length bytes script reads turns core is)
+            taken_has bytes script reads (are_made calm) turns core is closes own_fixed (gave_in core) (own_told calm) (ended_length bytes script reads turns core is)
             untroubled.few_attempts full o early.attempt its_place.0 its_place.1 its_place.2 in
-            accepted_so script (are_made calm) turns core is closes ids labelled o w early own_fixed (given core) t.0 t.1 t.2 t.3 t.4
+            accepted_so script (are_made calm) turns core is closes ids labelled o w early own_fixed (gave_in core) t.0 t.1 t.2 t.3 t.4
 
     over : accepted.entry.link ≡ is_read.link
     over = accepted.over ∙ same_link

@@ -25,7 +25,6 @@ use Rattle.served_fits.specs.Below.outcome_stories.proofs.Members.{in_contains}
 use Rattle.served_fits.specs.Below.outcome_causes.proofs.Plain.{in_both, in_left, in_right}
 use Rattle.served_fits.specs.Below.joint_runs.proofs.Runs.{AreMade, first_views}
 use Rattle.served_fits.specs.Below.call_owing.specs.Lives.{ClosesInRun}
-use Rattle.served_fits.specs.Below.call_stories.specs.Lists.{shows_in}
 use Rattle.served_fits.specs.Below.accept_counts.specs.EndedCalls.{Store, stored_at, stores_of_run}
 use Rattle.served_fits.specs.send_causes.proofs.ClosedLost.{setup_fates, played_fates, early_ended}
 use Rattle.served_fits.specs.send_causes.proofs.ClosedLostTicks.{AreTaken, Ended, word_link, word_attempt}
@@ -39,6 +38,7 @@ use Rattle.calls_over.proofs.OpensHeld.{IsHeld, run_held}
 use Rattle.calls_over.proofs.OpensLog.{log, held_logged, logged_held, logged_on}
 use Rattle.calls_over.proofs.OpensNamed.{IsEarly}
 use Rattle.corr_core.proofs.Notes.{at_length}
+use Rattle.served_fits.specs.Below.outcome_stories.specs.Facts.{shown_in}
 
 module _ (script : List Item) (made : AreMade script) (turns : List Turn) (core : Core) (is : IsRunWithCalls script turns core) where
   abbrev rested : Core
@@ -97,13 +97,13 @@ module _ (script : List Item) (made : AreMade script) (turns : List Turn) (core 
 
   module _ (closes : ClosesInRun script turns core is) (ids : ℕ → ℕ) (labelled : AreLabelledIn ids script turns core is) (o w : ℕ) (x : IsEarly script turns core is o w) where
     abbrev s₁ : List Store
-    s₁ = shows_in stored_at (plan_of script) (opened script) (replicate is.setup (quiet 0))
+    s₁ = shown_in stored_at (plan_of script) (opened script) (replicate is.setup (quiet 0))
 
     abbrev s₂ : List Store
-    s₂ = shows_in stored_at (plan_of script) (set_up script is.setup) (is.scheduled ++ is.later)
+    s₂ = shown_in stored_at (plan_of script) (set_up script is.setup) (is.scheduled ++ is.later)
 
     in_run : In (record { operation = o; word = w }) (stores_of_run script turns core is)
-    in_run = let s₃ = shows_in stored_at (plan_of script) (closing_of script turns core is) (replicate is.last (quiet 0)) in let s₄ = shows_in stored_at (plan_of script) is.ended is.final in
+    in_run = let s₃ = shown_in stored_at (plan_of script) (closing_of script turns core is) (replicate is.last (quiet 0)) in let s₄ = shown_in stored_at (plan_of script) is.ended is.final in
         ⊎_elim (λ a. in_left s₁ (s₂ ++ (s₃ ++ s₄)) (record { operation = o; word = w }) a) (λ a. in_right s₁ (s₂ ++ (s₃ ++ s₄)) (record { operation = o; word = w }) (in_left s₂ (s₃ ++ s₄) (record { operation = o; word = w }) a))
         (in_both s₁ s₂ (record { operation = o; word = w }) x.stored)
 

@@ -21,7 +21,7 @@ use Rattle.served_fits.specs.Below.outcome_stories.specs.Facts.{broken_of_run}
 use Rattle.served_fits.specs.Below.joint_runs.proofs.Runs.{AreMade}
 use Rattle.served_fits.specs.Below.call_owing.specs.Lives.{ClosesInRun}
 use Rattle.served_fits.specs.Below.run_theorems.proofs.Starts.{made}
-use Rattle.served_fits.specs.Below.call_stories.specs.Lists.{given}
+use Rattle.served_fits.specs.Below.call_stories.specs.Lists.{gave_in}
 use Rattle.served_fits.specs.served_runs.specs.Offered.{OffersInRun}
 use Rattle.served_fits.specs.served_calls.specs.Quiet.{AreShown}
 
@@ -37,13 +37,13 @@ pub record CalmRun : Type 0 where
   pub offers : OffersInRun script turns core is
   pub fixed : Fixed
   pub orders : ℕ → Order
-  pub tells : ToldCalls (plan_of script) (all_tasks script) core.outcomes fixed (given core) orders core
+  pub tells : ToldCalls (plan_of script) (all_tasks script) core.outcomes fixed (gave_in core) orders core
   pub report : Report
   pub took : List (List ℕ)
   pub ends : List LinkEnd
   pub reports : Reports script core took report
   pub told : AreTold ends took
-  pub given_back : AreEndsOf script core fixed (given core) ends
+  pub given_back : AreEndsOf script core fixed (gave_in core) ends
   pub shown : AreShown script turns core is fixed ends
   pub breaks : (k : ℕ) → Contains (broken_of_run script turns core is) k → Contains fixed.broken k
   pub served : (name : List ℕ) (shape : Shape) → Contains script (Open name shape) → IsTrue shape.serve

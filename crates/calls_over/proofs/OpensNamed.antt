@@ -22,7 +22,6 @@ use Rattle.served_fits.specs.Below.outcome_causes.proofs.Openings.{are_seats, al
 use Rattle.served_fits.specs.Below.outcome_causes.proofs.Runs.{IsStoried, set_up_over}
 use Rattle.served_fits.specs.Below.outcome_causes.proofs.Scripts.{own_from}
 use Rattle.id_rule.specs.Lawful.{at_index}
-use Rattle.served_fits.specs.Below.call_stories.specs.Lists.{shows_in}
 use Rattle.served_fits.specs.Below.accept_counts.specs.EndedCalls.{Store, stored_at}
 use Rattle.served_fits.specs.Below.accept_counts.proofs.Runs.{AreLabelledIn, IsCallOf, asked_by}
 use Rattle.served_fits.specs.Below.attempted_calls.proofs.EndedTrails.{lost}
@@ -37,6 +36,7 @@ use Rattle.served_fits.specs.Below.sent_once.proofs.Sends.{narrow, opening_bare}
 use Rattle.served_fits.specs.Below.accept_counts.proofs.Standing.{both}
 use Rattle.served_fits.specs.Below.accept_counts.proofs.Grounds.{setting}
 use Rattle.sock_words.specs.Words.{id_slot, id_first}
+use Rattle.served_fits.specs.Below.outcome_stories.specs.Facts.{shown_in}
 
 -- what is known of an at word that was stored before the ending
 pub record IsEarly (script : List Item) (turns : List Turn) (core : Core) (is : IsRunWithCalls script turns core) (o w : ℕ) : Type 0 where
@@ -50,7 +50,7 @@ pub record IsEarly (script : List Item) (turns : List Turn) (core : Core) (is : 
   pub slot : id_slot id < 65536
   pub small : link < 65535
   pub few : attempt ≤ 6
-  pub stored : In (record { operation = o; word = w }) (shows_in stored_at (plan_of script) (opened script) (replicate is.setup (quiet 0)) ++ shows_in stored_at (plan_of script) (set_up script is.setup) (is.scheduled ++ is.later))
+  pub stored : In (record { operation = o; word = w }) (shown_in stored_at (plan_of script) (opened script) (replicate is.setup (quiet 0)) ++ shown_in stored_at (plan_of script) (set_up script is.setup) (is.scheduled ++ is.later))
 
 module _ (script : List Item) (made : AreMade script) (turns : List Turn) (core : Core) (is : IsRunWithCalls script turns core) (closes : ClosesInRun script turns core is) (ids : ℕ → ℕ) (labelled : AreLabelledIn ids script turns core is) where
   open setting script use {p, q, vs}
@@ -62,10 +62,10 @@ module _ (script : List Item) (made : AreMade script) (turns : List Turn) (core 
   in_clients = is.scheduled ++ is.later
 
   abbrev s₁ : List Store
-  s₁ = shows_in stored_at (plan_of script) (opened script) in_setup
+  s₁ = shown_in stored_at (plan_of script) (opened script) in_setup
 
   abbrev s₂ : List Store
-  s₂ = shows_in stored_at (plan_of script) (set_up script is.setup) in_clients
+  s₂ = shown_in stored_at (plan_of script) (set_up script is.setup) in_clients
 
   few_slots : (id_plan_of script).slots ≤ 65536
   few_slots = narrow script made turns core is closes

@@ -37,7 +37,7 @@ use Rattle.served_fits.specs.Below.joint_runs.proofs.Runs.{first_views}
 use Rattle.served_fits.specs.Below.run_theorems.specs.Heard.{heard_takes, given_by}
 use Rattle.served_fits.specs.Below.run_theorems.proofs.Gave.{gave_heard}
 use Rattle.served_fits.specs.Below.run_theorems.proofs.Lengths.{ended_length}
-use Rattle.served_fits.specs.Below.call_stories.specs.Lists.{given}
+use Rattle.served_fits.specs.Below.call_stories.specs.Lists.{gave_in}
 use Rattle.served_fits.specs.Below.call_stories.specs.Scenes.{LeadsTo}
 use Rattle.served_fits.specs.Below.story_ticks.proofs.RunFacts.{own_leads, leadings}
 use Rattle.served_fits.specs.Below.accept_counts.proofs.Early.{start, go, fitting, closed_early, first_fresh}
@@ -64,7 +64,7 @@ module _ (calm : CalmRun) where
   open calm use {bytes, script, reads, short, turns, core, is, closes, offers, fixed, orders, tells, report, took, ends, reports, told, given_back, shown, breaks, served, untroubled}
 
   abbrev all_given : Given
-  all_given = record { run = known_of bytes script reads core fixed (given core) orders (ended_length bytes script reads turns core is) tells; report = report; took = took; ends = ends; reports = reports; told = told; given = given_back }
+  all_given = record { run = known_of bytes script reads core fixed (gave_in core) orders (ended_length bytes script reads turns core is) tells; report = report; took = took; ends = ends; reports = reports; told = told; given = given_back }
 
   -- ## Links
 
@@ -91,10 +91,10 @@ module _ (calm : CalmRun) where
     for_calls : IsForCalls script turns core is k s.0
     for_calls = record { opened = s.1; serves = s.2; unsent = unsent }
 
-    no_fault : HasFault (given core k) → ⊥
+    no_fault : HasFault (gave_in core k) → ⊥
     no_fault = gives_no_fault script (are_made calm) (targets calm) (range calm) turns core is closes offers k s.0 for_calls
 
-    few : length (given core k) < LIMIT
+    few : length (gave_in core k) < LIMIT
     few = sizes.few bytes script reads short turns core is closes offers fixed orders tells untroubled.few_attempts k s.0 s.1 s.2
 
     endless : Contains (heard_takes is k) AtEnd → ⊥
@@ -110,7 +110,7 @@ module _ (calm : CalmRun) where
     unclosed : In k (closed_before_ending script turns core is) → ⊥
     unclosed closed = by (closed_early script (are_made calm) turns core is k closed).1
       where
-        same : given core k ≡ given_by (heard_takes is k)
+        same : gave_in core k ≡ given_by (heard_takes is k)
         same = gave_heard bytes script reads turns core is k low
 
         by : Contains (heard_takes is k) AtEnd ⊎ (HasFault (given_by (heard_takes is k)) ⊎ ((reading_limit ≤ length (given_by (heard_takes is k))) ⊎ Contains (heard_takes is k) Broken)) → ⊥
@@ -156,7 +156,7 @@ module _ (calm : CalmRun) where
   pub none_thrown : NoneThrown script (are_made calm) turns core is closes (targets calm) (range calm)
   none_thrown k o at seat there l total next e = ⊎_elim (λ x. absurd (let z : reader (calls script) k o ≡ Round (Discards l total) next = sym x.0 ∙ e in cc))
       (λ other. ⊎_elim (λ x. absurd (let z : Rest ≡ Round (Discards l total) next = sym x.0 ∙ e in cc))
-      (λ x. let g = subst (Goes k (given before k) held.last) e x in by_fault g.2) other)
+      (λ x. let g = subst (Goes k (gave_in before k) held.last) e x in by_fault g.2) other)
       (held.reader seat there)
     where
       low : k < length (link_names script)
@@ -171,8 +171,8 @@ module _ (calm : CalmRun) where
       held : Holds script k o server.0 (In Broken (heard_takes is k)) before
       held = played_holds script (are_made calm) turns core is offers k o at server.0 server.1
 
-      leads : LeadsTo (plan_of script) (id_plan_of script) (all_tasks script) (given core) (played script is.setup (is.scheduled ++ is.later))
-      leads = let l = leadings script turns core is (given core) (own_leads script core) in l.played_leads
+      leads : LeadsTo (plan_of script) (id_plan_of script) (all_tasks script) (gave_in core) (played script is.setup (is.scheduled ++ is.later))
+      leads = let l = leadings script turns core is (gave_in core) (own_leads script core) in l.played_leads
 
-      by_fault : HasFault (given (played script is.setup (is.scheduled ++ is.later)) k) → ⊥
-      by_fault fault = let m = leads k in no_fault k low (subst HasFault m.1 (faults_more (given (played script is.setup (is.scheduled ++ is.later)) k) m.0 fault))
+      by_fault : HasFault (gave_in (played script is.setup (is.scheduled ++ is.later)) k) → ⊥
+      by_fault fault = let m = leads k in no_fault k low (subst HasFault m.1 (faults_more (gave_in (played script is.setup (is.scheduled ++ is.later)) k) m.0 fault))

@@ -24,7 +24,7 @@ use Rattle.served_fits.specs.Below.outcome_stories.proofs.Delivered.{accepted_of
 use Rattle.served_fits.specs.Below.joint_runs.proofs.Runs.{first_views}
 use Rattle.served_fits.specs.Below.owned_ids.proofs.OpensStored.{at_place, place_at}
 use Rattle.served_fits.specs.Below.run_theorems.proofs.Starts.{made}
-use Rattle.served_fits.specs.Below.call_stories.specs.Lists.{given}
+use Rattle.served_fits.specs.Below.call_stories.specs.Lists.{gave_in}
 use Rattle.served_fits.specs.send_causes.proofs.AllTold.{told_of_run}
 use Rattle.served_fits.specs.send_causes.proofs.Assembled.{fixed_in_run}
 use Rattle.served_fits.specs.Below.attempted_calls.proofs.AttemptedStored.{ids_at}
@@ -52,7 +52,7 @@ module _ (calm : CalmRun) where
   abbrev own_orders : ℕ → Order
   own_orders = orders_of_run script (made bytes script reads) turns core is closes
 
-  pub own_told : ToldCalls (plan_of script) (all_tasks script) core.outcomes own_fixed (given core) own_orders core
+  pub own_told : ToldCalls (plan_of script) (all_tasks script) core.outcomes own_fixed (gave_in core) own_orders core
   own_told = told_of_run script (are_made calm) (targets calm) (range calm) turns core is closes bytes reads
 
   -- ## A message
@@ -66,12 +66,12 @@ module _ (calm : CalmRun) where
     pub own : ids_at script core e.heading.operation ≡ id
 
   pub attempt_of : (q : ℕ) (e : Entry) → get_elem? (early_log script (made bytes script reads) turns core is) q ≡ some e → IsAttempt e
-  attempt_of q e at = by (all_at (IsSent (plan_of script) (all_tasks script) core.outcomes own_fixed (given core) own_orders own_told.last e.link) (own_orders e.link).accepted (accepted_of e) (own_told.sent e.link later.low) (later.place, later.stands))
+  attempt_of q e at = by (all_at (IsSent (plan_of script) (all_tasks script) core.outcomes own_fixed (gave_in core) own_orders own_told.last e.link) (own_orders e.link).accepted (accepted_of e) (own_told.sent e.link later.low) (later.place, later.stands))
     where
       later : StandsLater script (are_made calm) turns core is closes e
       later = stands_later script (are_made calm) turns core is closes q e at
 
-      by : IsSent (plan_of script) (all_tasks script) core.outcomes own_fixed (given core) own_orders own_told.last e.link (accepted_of e) → IsAttempt e
+      by : IsSent (plan_of script) (all_tasks script) core.outcomes own_fixed (gave_in core) own_orders own_told.last e.link (accepted_of e) → IsAttempt e
       by (OfSend client t name slot version it number op first life untold) = absurd (unsent calm e.link later.low client t name slot version e.bytes it op life)
       by (OfCall client t asked outcome id slot version it number op became shows last bytes_ life) = let became' : Became (all_tasks script) core.outcomes t.number outcome = subst (λ n. Became (all_tasks script) core.outcomes n outcome) (sym number) became in record {
         asked = asked;

@@ -39,19 +39,20 @@ use Rattle.served_fits.specs.Below.call_owing.specs.Lives.{ClosesInRun}
 use Rattle.served_fits.specs.Below.call_owing.specs.Sound.{id_word_of}
 use Rattle.served_fits.specs.Below.run_theorems.proofs.Lengths.{ended_length}
 use Rattle.served_fits.specs.Below.run_theorems.proofs.Starts.{made}
-use Rattle.served_fits.specs.Below.call_stories.specs.Lists.{given}
+use Rattle.served_fits.specs.Below.call_stories.specs.Lists.{gave_in}
 use Rattle.served_fits.specs.Below.call_causes.proofs.Handled.{IsResp}
 use Rattle.served_fits.specs.served_runs.specs.Offered.{OffersInRun}
 use Rattle.served_fits.specs.served_runs.proofs.Frames.{IsPiece, reply_is}
 use Rattle.served_fits.specs.served_calls.proofs.Frames.{SaysReply, piece_has, reply_to, reply_says}
 use Rattle.served_fits.specs.served_calls.proofs.Calm.{named_shape}
-use Rattle.calls_over.specs.Open.{before, slot_word, slot_id, OpenCall}
+use Rattle.calls_over.specs.Open.{slot_word, slot_id, OpenCall}
 use Rattle.calls_over.proofs.Given.{gave_before}
 use Rattle.calls_over.proofs.Handled.{in_soon}
 use Rattle.calls_over.proofs.SoonPieces.{IsLow}
 use Rattle.calls_over.proofs.SoonRuns.{stands_before, never_soon}
 use Rattle.served_fits.specs.Below.ended_calls.proofs.Unanswered.{some_response}
 use Rattle.sock_words.specs.Words.{id_slot, id_first}
+use Rattle.served_fits.specs.Below.outcome_stories.specs.Facts.{before_ending}
 
 -- ## Replies
 
@@ -73,10 +74,10 @@ both_true x y a b = ap (λ z. z && y) a ∙ b
 -- ## Links
 
 module _ (bytes : List ℕ) (script : List Item) (reads : script_of bytes ≡ Ok script) (turns : List Turn) (core : Core) (is : IsRunWithCalls script turns core) (closes : ClosesInRun script turns core is) (offers : OffersInRun script turns core is) (fixed : Fixed)
-    (orders : ℕ → Order) (tells : ToldCalls (plan_of script) (all_tasks script) core.outcomes fixed (given core) orders core) (report : Report) (took : List (List ℕ)) (ends : List LinkEnd)
-    (reports : Reports script core took report) (told : AreTold ends took) (given_back : AreEndsOf script core fixed (given core) ends) (untroubled : IsUntroubled script ends) where
+    (orders : ℕ → Order) (tells : ToldCalls (plan_of script) (all_tasks script) core.outcomes fixed (gave_in core) orders core) (report : Report) (took : List (List ℕ)) (ends : List LinkEnd)
+    (reports : Reports script core took report) (told : AreTold ends took) (given_back : AreEndsOf script core fixed (gave_in core) ends) (untroubled : IsUntroubled script ends) where
   abbrev all_given : Given
-  all_given = record { run = known_of bytes script reads core fixed (given core) orders (ended_length bytes script reads turns core is) tells; report = report; took = took; ends = ends; reports = reports; told = told; given = given_back }
+  all_given = record { run = known_of bytes script reads core fixed (gave_in core) orders (ended_length bytes script reads turns core is) tells; report = report; took = took; ends = ends; reports = reports; told = told; given = given_back }
 
   there : AreThere script
   there = are_there bytes script reads
@@ -110,11 +111,11 @@ module _ (bytes : List ℕ) (script : List Item) (reads : script_of bytes ≡ Ok
     says = reply_says o.asked (id + word.attempt + 1) g refl
 
     -- its link gave the reply
-    given_there : Has (stream (given (before script turns core is) o.link)).frames g
+    given_there : Has (stream (gave_in (before_ending script turns core is) o.link)).frames g
     given_there = let s = stands_before script (made bytes script reads) there range turns core is closes offers o.link o.shape o.opened o.serves (no_stray o.link o.shape o.opened o.serves) in
-        subst (λ l. Has (stream l).frames g) (sym all) (reply_given (id_plan_of script) (before script turns core is) o.took (request_of o.asked id word.attempt) g (s.took o.took o.took_so) o.request refl)
+        subst (λ l. Has (stream l).frames g) (sym all) (reply_given (id_plan_of script) (before_ending script turns core is) o.took (request_of o.asked id word.attempt) g (s.took o.took o.took_so) o.request refl)
       where
-        all : given (before script turns core is) o.link ≡ flat_map frame_bytes (reply_frames o.took)
+        all : gave_in (before_ending script turns core is) o.link ≡ flat_map frame_bytes (reply_frames o.took)
         all = gave_before script turns core is offers o.link o.shape o.opened o.seat o.seat_there o.reading o.next o.reads o.of_link o.took o.took_so
             ∙ (ap (λ b. cond b (given_for o.shape o.took) []) o.serves ∙ ap (λ e. flat_map frame_bytes (first_of e (reply_frames o.took))) (no_end o.link o.shape o.opened))
 
@@ -130,8 +131,8 @@ module _ (bytes : List ℕ) (script : List Item) (reads : script_of bytes ≡ Ok
     response : IsResp o.link (id_plan_of script).slots g
     response = both_true (has_response g.meta.response) (nat_lt (slot_in g) (id_plan_of script).slots) (some_response g.meta.response says.response) (lt-ltb (slot_in g) (id_plan_of script).slots (let s = slot_is in let l = o.inside in omega (arith, s, l)))
 
-    behind : (id_word_of (before script turns core is) (slot_in g)).first < version_in g
-    behind = subst (λ j. (id_word_of (before script turns core is) j).first < version_in g) (sym slot_is) (let v = version_is in omega (arith, v))
+    behind : (id_word_of (before_ending script turns core is) (slot_in g)).first < version_in g
+    behind = subst (λ j. (id_word_of (before_ending script turns core is) j).first < version_in g) (sym slot_is) (let v = version_is in omega (arith, v))
 
     -- its link's reader would have ended it
     pub no_open_call : ⊥

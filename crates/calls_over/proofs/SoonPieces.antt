@@ -11,7 +11,6 @@ use Rattle.sock_model.specs.declared.chain.Heading.{Heading}
 use Rattle.sock_model.specs.declared.view.View.{View}
 use Rattle.sock_model.specs.Deliveries.{whole}
 use Rattle.sock_model.specs.Entries.{on}
-use Rattle.sock_model.specs.Weights.{total}
 use Rattle.brpc_model.specs.Frame.{Frame, IsFrame}
 use Rattle.brpc_model.specs.Stream.{stream, stream_from}
 use Rattle.served_fits.specs.Below.script_facts.proofs.Lists.{all_at, all_from}
@@ -32,6 +31,7 @@ use Rattle.calls_over.proofs.SoonLists.{Stood, log_stood}
 use Rattle.calls_over.proofs.SoonWords.{bound_low}
 use Rattle.served_fits.specs.Below.own_decisions.proofs.OwnDecisionsTicks.{pair_self}
 use Rattle.sock_words.specs.Words.{id_slot, id_first}
+use Rattle.sock_words.specs.Totals.{total}
 
 -- ## Requests of ranges that have begun
 

@@ -14,7 +14,7 @@ use Rattle.id_rule.specs.Lawful.{id_index}
 use Rattle.seat_programs.specs.Cores.{Core}
 use Rattle.seat_programs.specs.Readers.{has_response, slot_in, version_in}
 use Rattle.served_fits.specs.Below.call_owing.specs.Sound.{id_word_of}
-use Rattle.served_fits.specs.Below.call_stories.specs.Lists.{Take, given, is_soon, soon_from, soon_by}
+use Rattle.served_fits.specs.Below.call_stories.specs.Lists.{Take, gave_in, is_soon, soon_from, soon_by}
 use Rattle.served_fits.specs.Below.call_causes.proofs.Handled.{bound, early_is}
 use Rattle.served_fits.specs.Below.call_stories.proofs.Streams.{frames_stay}
 use Rattle.served_fits.specs.served_runs.proofs.Frames.{IsPiece, piece_frames, reply_is}
@@ -102,9 +102,9 @@ soon_in d l n (f ∷ fs) x there = by (is_soon d f) refl (soon_in d l (n + 1) fs
     by false is later rest = more (later rest)
 
 -- so of all takes of a tick
-pub soon_of : (c d : Core) (takes : List Take) (k j : ℕ) → In (k, j) (flat_map (soon_by c d) takes) → IsSoonOf d k (stream (given d k)).frames
+pub soon_of : (c d : Core) (takes : List Take) (k j : ℕ) → In (k, j) (flat_map (soon_by c d) takes) → IsSoonOf d k (stream (gave_in d k)).frames
 soon_of c d [] k j there = absurd there
 soon_of c d (t ∷ takes) k j there = ⊎_elim
-    (λ here. let before = length (stream (given c t.link)).frames in let s = soon_in d t.link before (drop before (stream (given d t.link)).frames) (k, j) here in
-    subst (λ l. IsSoonOf d l (stream (given d l)).frames) (sym s.0) (s.1.0, has_drop before (stream (given d t.link)).frames s.1.0 s.1.1, s.1.2))
+    (λ here. let before = length (stream (gave_in c t.link)).frames in let s = soon_in d t.link before (drop before (stream (gave_in d t.link)).frames) (k, j) here in
+    subst (λ l. IsSoonOf d l (stream (gave_in d l)).frames) (sym s.0) (s.1.0, has_drop before (stream (gave_in d t.link)).frames s.1.0 s.1.1, s.1.2))
     (λ later. soon_of c d takes k j later) (in_either (k, j) (soon_by c d t) (flat_map (soon_by c d) takes) there)

@@ -21,7 +21,7 @@ use Rattle.served_fits.specs.Below.joint_runs.proofs.Both.{BothSound, FitsBoth, 
 use Rattle.served_fits.specs.Below.label_runs.specs.Labels.{Trial}
 use Rattle.served_fits.specs.Below.call_owing.specs.Sound.{id_word_of}
 use Rattle.served_fits.specs.Below.run_theorems.proofs.Lengths.{tick_long}
-use Rattle.served_fits.specs.Below.call_stories.specs.Lists.{Take, taken_link, takes_by, takes_at, given, soon_by, soon_at, shows_in}
+use Rattle.served_fits.specs.Below.call_stories.specs.Lists.{Take, taken_link, takes_by, takes_at, gave_in, soon_by, soon_at}
 use Rattle.served_fits.specs.Below.call_causes.proofs.Handled.{bound}
 use Rattle.served_fits.specs.Below.call_causes.proofs.HandledTicks.{Known}
 use Rattle.served_fits.specs.Below.call_causes.proofs.HandledRuns.{AreKnown}
@@ -38,6 +38,7 @@ use Rattle.served_fits.specs.Below.call_causes.proofs.Run.{in_either as in_two}
 use Rattle.calls_over.proofs.SoonWords.{begun_below, words_go}
 use Rattle.served_fits.specs.Below.outcome_stories.specs.Stories.{In}
 use Rattle.sock_words.specs.Words.{id_slot, id_first}
+use Rattle.served_fits.specs.Below.outcome_stories.specs.Facts.{shown_in}
 
 module _ (p : Plan) (q : IdPlan) (narrow : q.slots ≤ 65536) (is_call : Asked → Type 0) (short : (asked : Asked) → is_call asked → (id n : ℕ) → length (frame_of asked id n) ≤ 131072) (ids : ℕ → ℕ) (go : RetriesGo p) (k : ℕ) where
   -- how attempts stand at one moment, and what link k took
@@ -90,10 +91,10 @@ module _ (p : Plan) (q : IdPlan) (narrow : q.slots ≤ 65536) (is_call : Asked �
 -- ## What the link gave
 
 -- ticks that ask no link find nothing
-pub quiet_soon : (p : Plan) (n : ℕ) (c : Core) (x : ℕ × ℕ) → In x (shows_in (soon_at p) p c (replicate n (quiet 0))) → ⊥
+pub quiet_soon : (p : Plan) (n : ℕ) (c : Core) (x : ℕ × ℕ) → In x (shown_in (soon_at p) p c (replicate n (quiet 0))) → ⊥
 quiet_soon p zero c x there = there
 quiet_soon p (suc n) c x there = ⊎_elim (λ now. by_seat (get_elem? c.seats 0) now) (λ later. quiet_soon p n (ticked p c (quiet 0)) x later)
-    (in_two x (soon_at p c (quiet 0)) (shows_in (soon_at p) p (ticked p c (quiet 0)) (replicate n (quiet 0))) there)
+    (in_two x (soon_at p c (quiet 0)) (shown_in (soon_at p) p (ticked p c (quiet 0)) (replicate n (quiet 0))) there)
   where
     by_links : (ks : List ℕ) → In x (flat_map (soon_by c (ticked p c (quiet 0))) (takes_by c.calls (quiet 0) ks)) → ⊥
     by_links [] there = there
@@ -111,14 +112,14 @@ module _ (script : List Item) (narrow : (id_plan_of script).slots ≤ 65536) (is
   -- no response came before its call began
   pub none_soon : (ms : List Moment) (c : Core) (vs : List View) → AreBoth (plan_of script) (id_plan_of script) c vs ms → AreAnswered (plan_of script) c ms → AreKnown (plan_of script) (id_plan_of script) c ms → AreLabelled ids (plan_of script) (id_plan_of script) c ms
       → NonePlain k (views_along (plan_of script) c vs ms) → AreOffered script c ms → k < length c.calls.gave → IsPart script k shape c → Stands' c vs → (took : List ℕ) → TookSoFar (plan_of script) (run (plan_of script) c ms) k took
-      → (j : ℕ) → In (k, j) (shows_in (soon_at (plan_of script)) (plan_of script) c ms) → ⊥
+      → (j : ℕ) → In (k, j) (shown_in (soon_at (plan_of script)) (plan_of script) c ms) → ⊥
   none_soon [] c vs both answered known own none_ offered low part s took t j there = there
   none_soon (m ∷ ms) c vs both answered known own none_ offered low part s took t j there = ⊎_elim
       (λ now. let old = run_took (plan_of script) (id_plan_of script) narrow is_call short ids go k ms (ticked (plan_of script) c m) (views_after (plan_of script) c vs m) both.2 answered.1 took t in
       let f = soon_of c (ticked (plan_of script) c m) (takes_at c m) k j now in let x = part' old.0 old.1 in
-      given_late (id_plan_of script) (ticked (plan_of script) c m) shape.end old.0 (given (ticked (plan_of script) c m) k) x.0 (s'.took old.0 old.1) (x.1 ∙ ap (λ b. cond b (given_for shape old.0) []) serves) f.0 f.1 f.2)
+      given_late (id_plan_of script) (ticked (plan_of script) c m) shape.end old.0 (gave_in (ticked (plan_of script) c m) k) x.0 (s'.took old.0 old.1) (x.1 ∙ ap (λ b. cond b (given_for shape old.0) []) serves) f.0 f.1 f.2)
       (λ later. none_soon ms (ticked (plan_of script) c m) (views_after (plan_of script) c vs m) both.2 answered.1 known.1 own.3 none_ offered.1 (let long = (tick_long (plan_of script) m c).gave in omega (arith, long, low)) part' s' took t j later)
-      (in_two (k, j) (soon_at (plan_of script) c m) (shows_in (soon_at (plan_of script)) (plan_of script) (ticked (plan_of script) c m) ms) there)
+      (in_two (k, j) (soon_at (plan_of script) c m) (shown_in (soon_at (plan_of script)) (plan_of script) (ticked (plan_of script) c m) ms) there)
     where
       s' : Stands' (ticked (plan_of script) c m) (views_after (plan_of script) c vs m)
       s' = next_stands (plan_of script) (id_plan_of script) narrow is_call short ids go k m ms c vs both answered known own none_ s

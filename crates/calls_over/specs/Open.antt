@@ -14,17 +14,14 @@ use Rattle.seat_programs.specs.Scripts.{played, IsRunWithCalls}
 use Rattle.seat_programs.specs.Tasks.{opens, plan_of, id_plan_of}
 use Rattle.served_fits.specs.Below.script_facts.proofs.Lists.{Has}
 use Rattle.served_fits.specs.Below.call_owing.specs.Sound.{id_word_of}
+use Rattle.served_fits.specs.Below.outcome_stories.specs.Facts.{before_ending}
 use Rattle.served_fits.specs.served_runs.specs.Offered.{TookSoFar}
 use Rattle.sock_words.specs.Words.{call_id}
 
 module _ (script : List Item) (turns : List Turn) (core : Core) (is : IsRunWithCalls script turns core) where
-  -- where the ending begins
-  abbrev pub before : Core
-  before = played script is.setup (is.scheduled ++ is.later)
-
   -- the word of id slot i there, and its id
   abbrev pub slot_word : ℕ → Parts
-  slot_word i = id_word_of before i
+  slot_word i = id_word_of (before_ending script turns core is) i
 
   abbrev pub slot_id : ℕ → ℕ
   slot_id i = call_id i (slot_word i).first
@@ -48,11 +45,11 @@ module _ (script : List Item) (turns : List Turn) (core : Core) (is : IsRunWithC
     pub serves : IsTrue shape.serve
     -- what it took by then, the call's request among it
     pub took : List ℕ
-    pub took_so : TookSoFar (plan_of script) before link took
+    pub took_so : TookSoFar (plan_of script) (before_ending script turns core is) link took
     pub request : Has (stream took).frames (request_of asked (slot_id i) (slot_word i).attempt)
     -- its reader waits for bytes
     pub seat : SeatState
-    pub seat_there : get_elem? before.seats (32 + link) ≡ some seat
+    pub seat_there : get_elem? (before_ending script turns core is).seats (32 + link) ≡ some seat
     pub reading : Reading
     pub next : Exit (Reads reading) → Program
     pub reads : seat.program ≡ Round (Reads reading) next

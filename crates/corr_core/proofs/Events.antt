@@ -1,9 +1,10 @@
 -- Each exchange of an id word is one event of the plain id that the word says.
 use Rattle.std.proofs.Common.{◌≡◌, ◌≢◌, ℕ, ◌+◌, ◌<◌, ◌≤◌, Bool, List, [], ◌∷◌, sym, refl, subst, MatchOption}
 use Rattle.std.specs.Prelude.{Option, Some, None}
-use Rattle.corr_core.specs.Word.{Parts, error_of, posted_word, unlocked_word, free_word, tick}
+use Rattle.corr_core.specs.Word.{Parts, error_of, posted_word, unlocked_word, free_word}
 use Rattle.corr_core.specs.Plain.{Ended, Plain, Event, Queue, Unlock, End, Run, IsEvent, EndsOnce}
 use Rattle.corr_core.proofs.Ends.{nothing_after, ends_once, queue_reads, unlock_reads, end_reads}
+use Rattle.sock_words.specs.Words.{bit}
 
 -- the event by the word's parts
 module _ (e : Event) (who : ℕ) (w x : Parts) where
@@ -13,8 +14,8 @@ module _ (e : Event) (who : ℕ) (w x : Parts) where
 pub ended : (who next : ℕ) (w x : Parts) → x ≡ free_word next → w.state ≡ 2 → w.first < next → IsEvent (End who) who w x
 ended who next w x same two up = becomes (End who) who w x (free_word next) same (λ p r. end_reads w.first who next w p refl two up r)
 
-pub unlocked : (who : ℕ) (advance : Bool) (w x : Parts) → x ≡ unlocked_word w (tick advance) → w.state ≡ 2 → w.attempt + tick advance + 2 ≤ w.range → IsEvent (Unlock who advance) who w x
-unlocked who advance w x same two room = becomes (Unlock who advance) who w x (unlocked_word w (tick advance)) same (λ p r. unlock_reads w.first who advance w p refl two room r)
+pub unlocked : (who : ℕ) (advance : Bool) (w x : Parts) → x ≡ unlocked_word w (bit advance) → w.state ≡ 2 → w.attempt + bit advance + 2 ≤ w.range → IsEvent (Unlock who advance) who w x
+unlocked who advance w x same two room = becomes (Unlock who advance) who w x (unlocked_word w (bit advance)) same (λ p r. unlock_reads w.first who advance w p refl two room r)
 
 pub queued : (who poster e : ℕ) (w x : Parts) → x ≡ posted_word w e → w.state ≡ 2 → w.second ≡ 0 → e ≢ 0 → IsEvent (Queue poster e) who w x
 queued who poster e w x same two room some_error = becomes (Queue poster e) who w x (posted_word w e) same (λ p r. queue_reads w.first who poster e w p refl two room some_error r)

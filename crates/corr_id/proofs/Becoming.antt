@@ -2,7 +2,7 @@
 use Rattle.std.proofs.Common.{◌≡◌, ◌≢◌, ℕ, Bool, true, false, cond, eqb, eq-eqb, ne_eqb, le-leb, ◌+◌, ◌<◌, ◌≤◌, ◌⊎◌, inl, inr, IsTrue, List, [], ◌∷◌, ◌++◌, append_assoc, sym, refl, ap, ◌∙◌, subst, arith}
 use Rattle.std.specs.Prelude.{Option as Maybe}
 use mathlib.Core.Option.{Option, none, some}
-use Rattle.corr_core.specs.Word.{Parts, tick, unlocked_word}
+use Rattle.corr_core.specs.Word.{Parts, unlocked_word}
 use Rattle.corr_core.specs.Law.{LAST}
 use Rattle.std.proofs.lemmas.Bool.{lt-leb}
 use mathlib.Core.Logic.{dite}
@@ -19,6 +19,7 @@ use Rattle.id_rule.specs.Lawful.{tokens_in, with_token, no_token, with_note}
 use Rattle.id_rule.specs.Plays.{claimed_view, ended_view, popped_view, advanced_view, Longer, hand_of, with_hand, hand_by, IsHome, NotLeaving, Fitting}
 use Rattle.corr_id.specs.Calls.{Became, one, tokens_left, advance_note}
 use Rattle.id_rule.proofs.Frames.{token_here, drop_here, aside_token, aside_drop}
+use Rattle.sock_words.specs.Words.{bit}
 
 module _ {C : Type 0} (i : ℕ) where
   pub became_token : (v : View C) (t : Token C) → Became i v (with_token i t v) (t ∷ []) []
@@ -116,6 +117,6 @@ abbrev pub top_value : {S : Type 0} → List (ℕ × S) → Option S
 top_value [] = none
 top_value (x ∷ xs) = some x.1
 
-pub ticks : (b : Bool) (a r : ℕ) → (IsTrue b → a + 2 < r) → (tick b ≡ 0) ⊎ ((tick b ≡ 1) × (a + 3 ≤ r))
+pub ticks : (b : Bool) (a r : ℕ) → (IsTrue b → a + 2 < r) → (bit b ≡ 0) ⊎ ((bit b ≡ 1) × (a + 3 ≤ r))
 ticks true a r h = let k : a + 2 < r = h refl in inr (refl, omega arith)
 ticks false a r h = inl refl

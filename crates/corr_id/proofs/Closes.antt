@@ -8,7 +8,7 @@ use native.Mathlib.Decide.{ℕ_discrete, dec_le}
 use lib.ListN.{get_elem?}
 use Rattle.atomic_table.specs.Table.{State}
 use Rattle.corr_core.specs.Word.{parts}
-use Rattle.corr_core.specs.Law.{total, Each, born, is_made, is_ended, is_ended_at, is_attempt, is_tried, is_any_made, is_claim, SawFits, NoteFits, SlotLaw}
+use Rattle.corr_core.specs.Law.{Each, born, is_made, is_ended, is_ended_at, is_attempt, is_tried, is_any_made, is_claim, SawFits, NoteFits, SlotLaw}
 use Rattle.corr_core.specs.declared.marks.Plan.{Plan}
 use Rattle.corr_core.specs.declared.marks.Note.{Note}
 use Rattle.corr_core.specs.declared.marks.Note.TheVariants.{Made, Locker, Attempt, Saw}
@@ -20,6 +20,7 @@ use Rattle.id_rule.specs.Lawful.{id_index, KeptFits, kept_in, is_stored, tokens_
 use Rattle.corr_id.specs.Calls.{is_saw}
 use Rattle.corr_id.specs.Ruled.{Known}
 use Rattle.corr_id.specs.Closing.{Closing}
+use Rattle.sock_words.specs.Totals.{total}
 
 pub term : {V : Type 0} (g : V → ℕ) (vs : List V) (i : ℕ) (v : V) → get_elem? vs i ≡ some v → g v ≤ total g vs
 term g [] i v e = absurd (some-ne-none v (sym e))

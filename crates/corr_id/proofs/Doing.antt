@@ -8,7 +8,7 @@ use Rattle.corr_core.proofs.Notes.{only-same}
 use Rattle.corr_core.specs.declared.marks.Hand.TheVariants.{Empty, Full}
 use Rattle.corr_core.specs.declared.marks.Token.TheVariants.{Locked}
 use Rattle.corr_core.specs.declared.marks.Note.TheVariants.{Made, Locker, Queued, Saw}
-use Rattle.corr_core.specs.Law.{total, is_made, is_attempt, is_advance}
+use Rattle.corr_core.specs.Law.{is_made, is_attempt, is_advance}
 use Rattle.corr_core.specs.declared.marks.Token.{Token}
 use Rattle.corr_core.specs.declared.marks.Note.{Note}
 use Rattle.corr_core.specs.declared.marks.Noted.{Noted}
@@ -18,6 +18,7 @@ use Rattle.id_rule.specs.Plays.{LockFits}
 use Rattle.corr_id.specs.Calls.{Became, one, is_event, events, is_saw, Found, FoundUpTo, ReachedUpTo, OutOf, Quiet, Did, GotLock, error_in}
 use Rattle.corr_id.specs.Ruled.{IsBehind}
 use Rattle.corr_id.proofs.Seats.{notes_append, total_append}
+use Rattle.sock_words.specs.Totals.{total}
 
 module _ {C : Type 0} where
   events_append : (a b : List (Noted C)) → events (a ++ b) ≡ events a ++ events b

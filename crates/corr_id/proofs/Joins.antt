@@ -5,7 +5,7 @@ use Rattle.std.specs.List.{flat_map}
 use Rattle.atomic_table.specs.Seated.{TableId}
 use Rattle.atomic_table.specs.Table.{Me}
 use Rattle.atomic_table.specs.declared.shared.Seat.{Seat}
-use Rattle.corr_core.specs.Law.{total, Each}
+use Rattle.corr_core.specs.Law.{Each}
 use Rattle.corr_core.specs.declared.marks.Noted.{Noted}
 use Rattle.corr_core.specs.declared.marks.Kept.{Kept}
 use Rattle.corr_core.specs.declared.marks.View.{View}
@@ -13,6 +13,7 @@ use Rattle.corr_core.specs.declared.marks.Held.{Held}
 use Rattle.id_rule.specs.Lawful.{joined, tokens_in, tokens_of}
 use Rattle.corr_id.specs.Seats.{IsFree}
 use Rattle.corr_id.specs.Closed.{AllOf}
+use Rattle.sock_words.specs.Totals.{total}
 
 each_snoc : {A : Type 0} (P : A → Type 0) (xs : List A) (x : A) → Each P (xs ++ x ∷ []) → Each P xs × P x
 each_snoc P [] x h = (tt, h.0)

@@ -8,7 +8,7 @@ use native.Mathlib.Decide.{ℕ_discrete}
 use lib.ListN.{get_elem?}
 use Rattle.atomic_table.proofs.Lists.{set_here}
 use Rattle.corr_core.specs.Word.{parts}
-use Rattle.corr_core.specs.Law.{total, pair, is_made, Local, SlotLaw, vacant, retired, claimed, opened, locked, leaving}
+use Rattle.corr_core.specs.Law.{pair, is_made, Local, SlotLaw, vacant, retired, claimed, opened, locked, leaving}
 use Rattle.corr_core.specs.declared.marks.Note.{Note}
 use Rattle.corr_core.specs.declared.marks.Note.TheVariants.{Saw}
 use Rattle.corr_core.specs.declared.marks.Noted.{Noted}
@@ -24,6 +24,7 @@ use Rattle.corr_id.proofs.Seats.{notes_append, total_append}
 use Rattle.corr_id.proofs.Closes.{term}
 use Rattle.corr_id.proofs.Doing.{notes_grow}
 use Rattle.sock_words.specs.Words.{id_slot, id_first}
+use Rattle.sock_words.specs.Totals.{total}
 
 module _ {C : Type 0} where
   -- a locked word has its errors in turn

@@ -3,12 +3,13 @@ use Rattle.std.proofs.Common.{◌≡◌, ◌≢◌, ℕ, ◌+◌, ◌-◌, ◌*�
 use Rattle.std.specs.Prelude.{Option as Maybe, IfSome, not, ◌&&◌}
 use mathlib.Core.Logic.{dite}
 use native.Mathlib.Decide.{ℕ_discrete}
-use Rattle.corr_core.specs.Word.{Parts, parts, tick, unlocked_word, code_of, attempt_of}
+use Rattle.corr_core.specs.Word.{Parts, parts, unlocked_word, code_of, attempt_of}
 use Rattle.id_rule.specs.Plays.{Longer}
 use Rattle.corr_id.specs.Ruled.{IsFresh}
 use Rattle.corr_id.specs.Calls.{error_in}
 use Rattle.corr_id.specs.Posts.{IsTimely}
 use Rattle.corr_id.specs.Unlocks.{stale, some_error, exchanges_left}
+use Rattle.sock_words.specs.Words.{bit}
 
 -- a word is made of its parts
 low_is : (x : ℕ) → x ≡ x / 32768 * 32768 + x % 32768
@@ -72,23 +73,23 @@ lost_less x y step ne two order l fresh =
     let a = stale_none w.attempt w.oldest z in let b = stale_none w.attempt w.second zs in let c = some_none w.oldest z in let d = some_none w.second zs in let e = stale_fresh q.attempt q.oldest (fresh.0 z nz) in let f = some_some q.oldest nz in
     dite (ℕ_discrete q.second 0)
     (λ k. let g = stale_none q.attempt q.second k in let h = some_none q.second k in
-    less_first (tick step) (stale w.attempt w.oldest) (stale w.attempt w.second) (some_error w.oldest) (some_error w.second) (some_error q.oldest) a b c d f (stale q.attempt q.oldest) (stale q.attempt q.second) (some_error q.second) 0 e g (inl h))
+    less_first (bit step) (stale w.attempt w.oldest) (stale w.attempt w.second) (some_error w.oldest) (some_error w.second) (some_error q.oldest) a b c d f (stale q.attempt q.oldest) (stale q.attempt q.second) (some_error q.second) 0 e g (inl h))
     (λ k. let g = stale_fresh q.attempt q.second (fresh.1 zs k) in let h = some_some q.second k in
-    less_first (tick step) (stale w.attempt w.oldest) (stale w.attempt w.second) (some_error w.oldest) (some_error w.second) (some_error q.oldest) a b c d f (stale q.attempt q.oldest) (stale q.attempt q.second) (some_error q.second) 0 e g (inr h)))
+    less_first (bit step) (stale w.attempt w.oldest) (stale w.attempt w.second) (some_error w.oldest) (some_error w.second) (some_error q.oldest) a b c d f (stale q.attempt q.oldest) (stale q.attempt q.second) (some_error q.second) 0 e g (inr h)))
     (λ nz. let same : q.oldest ≡ w.oldest = l.begins.0 nz in dite (ℕ_discrete w.second 0)
     (λ zs. let ns : q.second ≢ 0 = (λ k. equal same (k ∙ sym zs)) in
     let a : stale q.attempt q.oldest ≡ stale w.attempt w.oldest = (λ k. stale (sym l.attempt_is k) (same k)) in let b = stale_none w.attempt w.second zs in let c = stale_fresh q.attempt q.second (fresh.1 zs ns) in
     let d = some_some w.oldest nz in let e = some_none w.second zs in let f = some_some q.oldest (λ k. nz (sym same ∙ k)) in let g = some_some q.second ns in
-    less_next (tick step) (stale w.attempt w.oldest) (stale w.attempt w.second) (some_error w.oldest) (some_error w.second) (stale q.attempt q.oldest) (stale q.attempt q.second) (some_error q.oldest) (some_error q.second) a b c d e f g)
+    less_next (bit step) (stale w.attempt w.oldest) (stale w.attempt w.second) (some_error w.oldest) (some_error w.second) (stale q.attempt q.oldest) (stale q.attempt q.second) (some_error q.oldest) (some_error q.second) a b c d e f g)
     (λ ns. absurd (equal same (l.begins.1 ns))))
   where
     less_next : (t a b c d e f g h : ℕ) → e ≡ a → b ≡ 0 → f ≡ 0 → c ≡ 1 → d ≡ 0 → g ≡ 1 → h ≡ 1 → 100 * t + 3 * (e + f) + (2 - (g + h)) < 100 * t + 3 * (a + b) + (2 - (c + d))
     less_next t a b c d e f g h p0 p1 p2 p3 p4 p5 p6 = omega arith
 
 -- an exchange that took out a stale error
-pub won_less : (w q : Parts) (step : Bool) → q ≡ unlocked_word w (tick step) → w.oldest ≢ 0 → stale q.attempt w.oldest ≡ 1 → exchanges_left q false < exchanges_left w step
+pub won_less : (w q : Parts) (step : Bool) → q ≡ unlocked_word w (bit step) → w.oldest ≢ 0 → stale q.attempt w.oldest ≡ 1 → exchanges_left q false < exchanges_left w step
 won_less w q step is nz old =
-    let att : q.attempt ≡ w.attempt + tick step = ap (λ (y : Parts). y.attempt) is in let first : q.oldest ≡ w.second = ap (λ (y : Parts). y.oldest) is in let none_ : q.second ≡ 0 = ap (λ (y : Parts). y.second) is in
+    let att : q.attempt ≡ w.attempt + bit step = ap (λ (y : Parts). y.attempt) is in let first : q.oldest ≡ w.second = ap (λ (y : Parts). y.oldest) is in let none_ : q.second ≡ 0 = ap (λ (y : Parts). y.second) is in
     by step att (stale w.attempt w.oldest) (stale w.attempt w.second) (some_error w.oldest) (some_error w.second) (stale q.attempt q.oldest) (stale q.attempt q.second) (some_error q.oldest) (some_error q.second)
     (some_some w.oldest nz) (stale_none q.attempt q.second none_) (some_none q.second none_) (stale_le q.attempt q.oldest) (ap some_error first) (bit_some w.second)
     (λ same. ((λ k. stale (sym same k) w.oldest) ∙ old, (λ k. stale (same k) (first k))))
@@ -96,6 +97,6 @@ won_less w q step is nz old =
     bit_some : (e : ℕ) → some_error e ≤ 1
     bit_some e = dite (ℕ_discrete e 0) (λ z. let k = some_none e z in omega arith) (λ n. let k = some_some e n in omega arith)
 
-    by : (step : Bool) → q.attempt ≡ w.attempt + tick step → (a b c d e f g h : ℕ) → c ≡ 1 → f ≡ 0 → h ≡ 0 → e ≤ 1 → g ≡ d → d ≤ 1 → (q.attempt ≡ w.attempt → (a ≡ 1) × (e ≡ b)) → 100 * 0 + 3 * (e + f) + (2 - (g + h)) < 100 * tick step + 3 * (a + b) + (2 - (c + d))
+    by : (step : Bool) → q.attempt ≡ w.attempt + bit step → (a b c d e f g h : ℕ) → c ≡ 1 → f ≡ 0 → h ≡ 0 → e ≤ 1 → g ≡ d → d ≤ 1 → (q.attempt ≡ w.attempt → (a ≡ 1) × (e ≡ b)) → 100 * 0 + 3 * (e + f) + (2 - (g + h)) < 100 * bit step + 3 * (a + b) + (2 - (c + d))
     by true att a b c d e f g h p0 p1 p2 p3 p4 p5 k = omega arith
     by false att a b c d e f g h p0 p1 p2 p3 p4 p5 k = let y = k (omega arith) in let y0 = y.0 in let y1 = y.1 in omega arith

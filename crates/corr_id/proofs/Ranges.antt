@@ -3,7 +3,7 @@ use Rattle.std.proofs.Common.{◌≡◌, ℕ, zero, suc, ◌<◌, ◌≤◌, Lis
 use mathlib.Core.Option.{some, some-injective, some-ne-none}
 use lib.ListN.{get_elem?}
 use Rattle.corr_core.specs.Word.{parts}
-use Rattle.corr_core.specs.Law.{total, is_made}
+use Rattle.corr_core.specs.Law.{is_made}
 use Rattle.corr_core.specs.declared.marks.Plan.{Plan}
 use Rattle.corr_core.specs.declared.marks.Note.{Note}
 use Rattle.corr_core.specs.declared.marks.Note.TheVariants.{Made, Locker}
@@ -13,6 +13,7 @@ use Rattle.corr_core.proofs.Notes.{only-same}
 use Rattle.id_rule.specs.Lawful.{notes_of}
 use Rattle.corr_id.specs.Calls.{is_saw}
 use Rattle.corr_id.specs.Closing.{Closing}
+use Rattle.sock_words.specs.Totals.{total}
 
 -- what a function counts at two places is at least what it counts there together
 some_at : {A : Type 0} (g : A → ℕ) (l : List A) (i : ℕ) (x : A) → get_elem? l i ≡ some x → g x ≤ total g l

@@ -3,12 +3,13 @@ use Rattle.std.proofs.Common.{◌≡◌, ℕ, zero, suc, ◌+◌, ◌<◌, ◌�
 use Rattle.std.proofs.lemmas.Bool.{lt-ltb, le-ltb}
 use mathlib.Core.Logic.{dite}
 use native.Mathlib.Decide.{ℕ_discrete, dec_le}
-use Rattle.corr_core.specs.Law.{total, is_tried, is_any_made}
+use Rattle.corr_core.specs.Law.{is_tried, is_any_made}
 use Rattle.corr_core.specs.declared.marks.Plan.{Plan}
 use Rattle.corr_core.specs.declared.marks.Noted.{Noted}
 use Rattle.corr_core.specs.declared.marks.Kept.{Kept}
 use Rattle.id_rule.specs.Lawful.{notes_of}
 use Rattle.corr_id.specs.Closing.{Closing, is_making}
+use Rattle.sock_words.specs.Totals.{total}
 
 module _ {C : Type 0} where
   below : (n : ℕ) (h : Noted C) → h.slot < n → is_making n h ≡ is_any_made h.note

@@ -10,7 +10,7 @@ use lib.ListN.{get_elem?}
 use Rattle.atomic_table.specs.Table.{State, Me, keeps, takes, gives, stepped, homes_after}
 use Rattle.atomic_table.proofs.Lists.{set_here}
 use Rattle.corr_core.specs.Word.{Parts, parts, made_word, locked_word, free_word}
-use Rattle.corr_core.specs.Law.{LAST, Each, total, is_made}
+use Rattle.corr_core.specs.Law.{LAST, Each, is_made}
 use Rattle.corr_core.specs.declared.marks.Plan.{Plan}
 use Rattle.corr_core.specs.declared.marks.Hand.{Hand}
 use Rattle.corr_core.specs.declared.marks.Hand.TheVariants.{Empty, Out, Full}
@@ -30,6 +30,7 @@ use Rattle.corr_id.specs.Ruled.{IsFresh, FreshBehind, Known, Ruled, is_place}
 use Rattle.corr_id.proofs.Knowing.{turn_of, Adds, adds_then, adds_none, adds_note, adds_saw, adds_either, adds_stored, adds_found, adds_later}
 use Rattle.corr_id.proofs.Fresh.{AllFresh, noted_all, none_queued, other_hand, one_queued, fresh_tag, fresh_id, own_fresh, fresh_high}
 use Rattle.sock_words.specs.Words.{id_slot, id_first}
+use Rattle.sock_words.specs.Totals.{total}
 
 set_self : (l : List ℕ) (k : ℕ) → set l k (get_or l k 0) ≡ l
 set_self [] k = refl

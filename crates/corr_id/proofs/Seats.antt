@@ -10,7 +10,7 @@ use Rattle.atomic_table.specs.Table.{Joins, Splits, opening}
 use Rattle.atomic_table.specs.declared.shared.Seat.{Seat}
 use Rattle.atomic_table.proofs.Lists.{at_set, at_snoc}
 use Rattle.corr_core.specs.Word.{parts, free_word}
-use Rattle.corr_core.specs.Law.{total, is_made, Each, Local, SlotLaw, vacant}
+use Rattle.corr_core.specs.Law.{is_made, Each, Local, SlotLaw, vacant}
 use Rattle.corr_core.specs.declared.marks.Plan.{Plan}
 use Rattle.corr_core.specs.declared.marks.Note.{Note}
 use Rattle.corr_core.specs.declared.marks.Noted.{Noted}
@@ -24,6 +24,7 @@ use Rattle.corr_id.specs.Seats.{Stays}
 use Rattle.corr_id.specs.Ruled.{FreshBehind, Known, Ruled}
 use Rattle.id_rule.specs.Lawful.{tag_index, id_index, KeptFits, kept_in, is_stored, tokens_of, notes_of, tokens_in, notes_in, share_of, local, IsBare, Lawful, Unused, first_view, spent, newcomer, lighter, joined}
 use Rattle.sock_words.specs.Words.{id_slot, id_first}
+use Rattle.sock_words.specs.Totals.{total}
 
 pub total_append : {A : Type 0} (g : A → ℕ) (l m : List A) → total g (l ++ m) ≡ total g l + total g m
 total_append g [] m = omega arith

@@ -1,7 +1,7 @@
 -- The unlocking exchanges of one call, one after another.
 use Rattle.std.proofs.Common.{◌≡◌, ◌≢◌, ℕ, ◌+◌, ◌<◌, ◌≤◌, Bool, true, false, IsTrue, cond, eqb, eq-eqb, ne_eqb, List, [], ◌∷◌, ◌++◌, sym, refl, ap, ◌∙◌, subst, arith}
 use Rattle.std.specs.Prelude.{Option as Maybe}
-use Rattle.corr_core.specs.Word.{Parts, parts, tick, unlocked_word}
+use Rattle.corr_core.specs.Word.{Parts, parts, unlocked_word}
 use Rattle.corr_core.specs.declared.marks.Hand.TheVariants.{Empty, Full}
 use Rattle.corr_core.specs.declared.marks.Token.TheVariants.{Locked}
 use Rattle.corr_core.specs.declared.marks.Note.TheVariants.{Attempt, Saw}
@@ -14,6 +14,7 @@ use Rattle.corr_id.specs.Posts.{IsTimely}
 use Rattle.corr_id.specs.Unlocks.{Stepped, Replaced}
 use Rattle.corr_id.proofs.Becoming.{became_note}
 use Rattle.corr_id.proofs.Doing.{quiet_none, did_none, did_more, found_noted, found_grows, became_grows}
+use Rattle.sock_words.specs.Words.{bit}
 
 module _ {C : Type 0} where
   note_none : (i : ℕ) (p q : Parts) → p.attempt ≡ q.attempt → advance_note {C = C} i p q ≡ []
@@ -22,7 +23,7 @@ module _ {C : Type 0} where
   note_events : (i : ℕ) (p q : Parts) → events (advance_note {C = C} i p q) ≡ advance_note i p q
   note_events i p q = elim (eqb p.attempt q.attempt) as (λ b. events (cond b [] (one {C = C} i (Attempt p.first q.attempt))) ≡ cond b [] (one i (Attempt p.first q.attempt))) [ true ↦ refl | false ↦ refl ]
 
-  joined_notes : (i : ℕ) (p m q : Parts) (step : Bool) → m.first ≡ p.first → (IsTrue step → m.attempt ≡ p.attempt) → q.attempt ≡ m.attempt + tick step → events (advance_note {C = C} i m q) ++ advance_note i p m ≡ advance_note i p q
+  joined_notes : (i : ℕ) (p m q : Parts) (step : Bool) → m.first ≡ p.first → (IsTrue step → m.attempt ≡ p.attempt) → q.attempt ≡ m.attempt + bit step → events (advance_note {C = C} i m q) ++ advance_note i p m ≡ advance_note i p q
   joined_notes i p m q true ff pend at = let e : m.attempt ≡ p.attempt = pend refl in
       (λ z. note_events i m q z ++ note_none i p m (sym e) z) ∙ (end (advance_note i m q) ∙ λ z. cond (eqb (e z) q.attempt) [] (one i (Attempt (ff z) q.attempt)))
     where
@@ -60,17 +61,17 @@ module _ {C : Type 0} where
           (did_more slot u v w (Locked m.first m.range m.attempt c m.oldest m.second (Full c) ∷ []) (Locked q.first q.range q.attempt c q.oldest q.second (Full c) ∷ []) (advance_note slot p m) [] s.did b);
     }
 
-    module _ (v w : View C) (n : ℕ) (q : Parts) (step : Bool) (s : Stepped u v slot p c advance (parts n) step) (is : q ≡ unlocked_word (parts n) (tick step)) (b : Became slot (with_note slot (Saw n) v) w (tokens_left (parts n) q c) (advance_note slot (parts n) q)) where
+    module _ (v w : View C) (n : ℕ) (q : Parts) (step : Bool) (s : Stepped u v slot p c advance (parts n) step) (is : q ≡ unlocked_word (parts n) (bit step)) (b : Became slot (with_note slot (Saw n) v) w (tokens_left (parts n) q c) (advance_note slot (parts n) q)) where
       abbrev m : Parts
       m = parts n
 
       abbrev noted : View C
       noted = with_note slot (Saw n) v
 
-      attempt_of : q.attempt ≡ m.attempt + tick step
+      attempt_of : q.attempt ≡ m.attempt + bit step
       attempt_of = ap (λ (y : Parts). y.attempt) is
 
-      attempt_now : q.attempt ≡ p.attempt + tick advance
+      attempt_now : q.attempt ≡ p.attempt + bit advance
       attempt_now = attempt_of ∙ s.attempt_is
 
       did_all : Did slot u w (tokens_left m q c) (advance_note slot p q)
@@ -90,11 +91,11 @@ module _ {C : Type 0} where
       pub opened_all : m.oldest ≡ 0 → Did slot u w [] (advance_note slot p q)
       opened_all z = subst (λ ts. Did slot u w ts (advance_note slot p q)) (ap (λ y. cond y [] (Locked q.first q.range q.attempt c q.oldest q.second (Full c) ∷ [])) (eq-eqb m.oldest 0 z)) did_all
 
-      fits_now : (st : Bool) → q.attempt ≡ m.attempt + tick st → (IsTrue st → m.attempt + 2 < m.range) → LockFits q
+      fits_now : (st : Bool) → q.attempt ≡ m.attempt + bit st → (IsTrue st → m.attempt + 2 < m.range) → LockFits q
       fits_now st at room = let f = ap (λ (y : Parts). y.first) is in let r = ap (λ (y : Parts). y.range) is in let k = s.fits in let a = k.low in let d = k.range_low in let e = k.range_high in
           record { low = omega arith; range_low = omega arith; range_high = omega arith; room = roomy st at room }
         where
-          roomy : (st : Bool) → q.attempt ≡ m.attempt + tick st → (IsTrue st → m.attempt + 2 < m.range) → q.attempt + 2 ≤ q.range
+          roomy : (st : Bool) → q.attempt ≡ m.attempt + bit st → (IsTrue st → m.attempt + 2 < m.range) → q.attempt + 2 ≤ q.range
           roomy true at room = let k : m.attempt + 2 < m.range = room refl in let r = ap (λ (y : Parts). y.range) is in omega arith
           roomy false at room = let k = s.fits.room in let r = ap (λ (y : Parts). y.range) is in omega arith
 

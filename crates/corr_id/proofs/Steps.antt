@@ -9,7 +9,7 @@ use lib.ListN.{get_elem?}
 use prog.Atomic.{either}
 use Rattle.atomic_table.specs.Table.{State, Me, step, keeps, takes, gives, stepped, Allows}
 use Rattle.corr_core.specs.Word.{Parts, parts, made_word, locked_word, posted_word, unlocked_word, free_word}
-use Rattle.corr_core.specs.Law.{total, born, is_made, is_advance, is_attempt, NoteFits, SlotLaw, Live, Stands, vacant, retired, claimed, opened, locked, leaving}
+use Rattle.corr_core.specs.Law.{born, is_made, is_advance, is_attempt, NoteFits, SlotLaw, Live, Stands, vacant, retired, claimed, opened, locked, leaving}
 use Rattle.corr_core.specs.declared.marks.Plan.{Plan}
 use Rattle.corr_core.specs.declared.marks.Hand.{Hand}
 use Rattle.corr_core.specs.declared.marks.Hand.TheVariants.{Empty, Out, Full}
@@ -33,6 +33,7 @@ use Rattle.corr_id.specs.Ruled.{IsFresh, FreshBehind, IsBehind, Ruled, read_told
 use Rattle.corr_id.proofs.Seats.{total_append}
 use Rattle.corr_id.proofs.Ruling.{claims_ruled, reads_ruled, sees_ruled, makes_ruled, locks_ruled, queues_ruled, relocks_ruled, unlocks_ruled, advances_ruled, behind, ends_ruled, frees_ruled, takes_ruled, gives_ruled, stores_ruled, finds_ruled, kept_stays}
 use Rattle.sock_words.specs.Words.{id_slot, id_first}
+use Rattle.sock_words.specs.Totals.{total}
 
 opened_is : (w : Parts) (more : ℕ) → w.oldest ≡ 0 → w.second ≡ 0 → unlocked_word w more ≡ open_word w more
 opened_is w more z y = λ k. record { first = w.first; state = ap (λ b. cond b 1 2) (eq-eqb w.oldest 0 z) k; range = w.range; attempt = w.attempt + more; oldest = y k; second = 0 }

@@ -1,10 +1,11 @@
 -- Locks by the version of an attempt, and by an id's own.
 use Rattle.std.specs.Prelude.{◌≡◌, ℕ, ◌+◌, ◌<◌, ◌≤◌, ◌⊎◌, Bool, true, false}
 use Rattle.corr_core.specs.Word.{Parts}
-use Rattle.corr_core.specs.Law.{total, is_made, is_advance}
+use Rattle.corr_core.specs.Law.{is_made, is_advance}
 use Rattle.corr_core.specs.declared.marks.View.{View}
 use Rattle.id_rule.specs.Lawful.{notes_of}
 use Rattle.corr_id.specs.Calls.{OutOf}
+use Rattle.sock_words.specs.Totals.{total}
 
 -- the word is free, or its range doesn't have the version behind its first one, which is the id itself
 abbrev pub LacksAttempt : Parts → ℕ → Type 0

@@ -3,13 +3,14 @@ use Rattle.std.specs.Prelude.{◌≡◌, ◌≢◌, ℕ, ◌+◌, ◌<◌, ◌�
 use mathlib.Core.Option.{some}
 use lib.ListN.{get_elem?}
 use Rattle.corr_core.specs.Word.{parts}
-use Rattle.corr_core.specs.Law.{total, is_made, is_ended, is_ended_at, is_locker, is_queued, is_advance, is_attempt, is_tried, is_any_made}
+use Rattle.corr_core.specs.Law.{is_made, is_ended, is_ended_at, is_locker, is_queued, is_advance, is_attempt, is_tried, is_any_made}
 use Rattle.corr_core.specs.declared.marks.Plan.{Plan}
 use Rattle.corr_core.specs.declared.marks.Note.TheVariants.{Made, Locker}
 use Rattle.corr_core.specs.declared.marks.Noted.{Noted}
 use Rattle.corr_core.specs.declared.marks.Kept.{Kept}
 use Rattle.id_rule.specs.Lawful.{notes_of, is_stored}
 use Rattle.corr_id.specs.Calls.{is_saw}
+use Rattle.sock_words.specs.Totals.{total}
 
 module _ {C : Type 0} where
   -- 1 for a note that an id was made in one of the first n slots

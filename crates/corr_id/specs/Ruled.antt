@@ -3,7 +3,7 @@ use Rattle.std.specs.Prelude.{◌≡◌, ◌≢◌, ℕ, ◌+◌, ◌*◌, ◌%�
 use Rattle.std.specs.Prelude.{Option as Maybe}
 use Rattle.atomic_table.specs.Table.{State, Me, Step}
 use Rattle.corr_core.specs.Word.{Parts, parts, attempt_of}
-use Rattle.corr_core.specs.Law.{LAST, Each, total, only, is_made, is_advance}
+use Rattle.corr_core.specs.Law.{LAST, Each, only, is_made, is_advance}
 use Rattle.corr_core.specs.declared.marks.Plan.{Plan}
 use Rattle.corr_core.specs.declared.marks.Hand.{Hand}
 use Rattle.corr_core.specs.declared.marks.Hand.TheVariants.{Full}
@@ -17,6 +17,7 @@ use Rattle.id_rule.specs.Lawful.{id_index, is_stored, kept_in, notes_in, local, 
 use Rattle.corr_id.specs.Calls.{is_saw, is_at, FoundUpTo, ReachedUpTo}
 use Rattle.id_rule.specs.Plays.{Becomes, has_token, LockFits, Longer, locked_view, put_error, popped_view, advanced_view, found_view}
 use Rattle.sock_words.specs.Words.{id_slot, id_first, call_id}
+use Rattle.sock_words.specs.Totals.{total}
 
 -- a word of this place
 abbrev pub is_place : ℕ → Kept → ℕ

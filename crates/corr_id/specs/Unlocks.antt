@@ -1,6 +1,6 @@
 -- What an unlocking says, by its answer.
 use Rattle.std.specs.Prelude.{◌≡◌, ℕ, ◌+◌, ◌-◌, ◌*◌, ◌<◌, ◌==◌, ◌&&◌, not, Bool, IsTrue, if◌then◌else◌, [], ◌∷◌}
-use Rattle.corr_core.specs.Word.{Parts, parts, tick, attempt_of, unlocked_word}
+use Rattle.corr_core.specs.Word.{Parts, parts, attempt_of, unlocked_word}
 use Rattle.corr_core.specs.declared.marks.Hand.TheVariants.{Empty, Full}
 use Rattle.corr_core.specs.declared.marks.Token.TheVariants.{Locked}
 use Rattle.corr_core.specs.declared.marks.View.{View}
@@ -10,6 +10,7 @@ use Rattle.id_rule.specs.Lawful.{tokens_in}
 use Rattle.id_rule.specs.Plays.{LockFits}
 use Rattle.corr_id.specs.Calls.{Locks, Did, Found, advance_note, error_in}
 use Rattle.corr_id.specs.Posts.{IsTimely}
+use Rattle.sock_words.specs.Words.{bit}
 
 -- 1 where there is such an error and it is for another attempt
 abbrev pub stale : ℕ → ℕ → ℕ
@@ -20,7 +21,7 @@ some_error e = if e == 0 then 0 else 1
 
 -- how many exchanges are left at most: those that find more errors, and those that throw away a stale one
 abbrev pub exchanges_left : Parts → Bool → ℕ
-exchanges_left w step = 100 * tick step + 3 * (stale w.attempt w.oldest + stale w.attempt w.second) + (2 - (some_error w.oldest + some_error w.second))
+exchanges_left w step = 100 * bit step + 3 * (stale w.attempt w.oldest + stale w.attempt w.second) + (2 - (some_error w.oldest + some_error w.second))
 
 module _ {C : Type 0} (u w : View C) (slot : ℕ) (p : Parts) (c : C) (advance : Bool) where
   -- of the word that the lock had, and the one that it has now: the advance was made where none is left to be made
@@ -28,7 +29,7 @@ module _ {C : Type 0} (u w : View C) (slot : ℕ) (p : Parts) (c : C) (advance :
     pub first_is : q.first ≡ p.first
     pub two : q.state ≡ 2
     pub fits : LockFits q
-    pub attempt_is : q.attempt + tick step ≡ p.attempt + tick advance
+    pub attempt_is : q.attempt + bit step ≡ p.attempt + bit advance
     pub pending : IsTrue step → q.attempt ≡ p.attempt
     pub room : IsTrue step → q.attempt + 2 < q.range
     pub in_order : q.oldest ≡ 0 → q.second ≡ 0
@@ -39,8 +40,8 @@ module _ {C : Type 0} (u w : View C) (slot : ℕ) (p : Parts) (c : C) (advance :
     pub was_found : Found slot found w
     pub same_id : (parts found).first ≡ p.first
     pub was_locked : (parts found).state ≡ 2
-    pub left : (step : Bool) × (q ≡ unlocked_word (parts found) (tick step))
-    pub attempt_is : q.attempt ≡ p.attempt + tick advance
+    pub left : (step : Bool) × (q ≡ unlocked_word (parts found) (bit step))
+    pub attempt_is : q.attempt ≡ p.attempt + bit advance
 
   abbrev pub UnlockOk : Unlocked C → Type 0
   UnlockOk Open = (found : ℕ) × (q : Parts) × Replaced found q × ((parts found).oldest ≡ 0) × Did slot u w [] (advance_note slot p q)

@@ -1,12 +1,13 @@
 // Ids that are locked by the version of an attempt.
 ghost use Rattle.std.specs.Prelude.{◌≡◌, ◌+◌, ◌*◌, ◌<◌, ◌≤◌, ◌⊎◌, ℕ, true, false, IfOk, IfErr};
 ghost use Rattle.corr_core.specs.Word.{parts};
-ghost use Rattle.corr_core.specs.Law.{total, is_made};
+ghost use Rattle.corr_core.specs.Law.{is_made};
 ghost use Rattle.id_rule.specs.Lawful.{notes_of};
 ghost use Rattle.corr_id.specs.Seats.{Sits, Stays};
 ghost use Rattle.corr_id.specs.Calls.{GotLock, Quiet, Found};
 ghost use Rattle.corr_id.specs.Attempts.{LacksAttempt, IsOutside, IsWithin, IsKnown};
 ghost use Rattle.sock_words.specs.Words.{id_slot, id_first};
+ghost use Rattle.sock_words.specs.Totals.{total};
 
 use crate::calls::{IdGone, Locking, is_out_of};
 use crate::table::{IdSeat, IdTable};

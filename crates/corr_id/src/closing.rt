@@ -2,11 +2,11 @@
 ghost use Rattle.std.specs.Prelude.{◌≡◌, ◌≤◌, ◌<◌, ◌*◌, ℕ, [], map, length, IfOk, IfErr, slice_index, slice_index_or, false};
 ghost use Rattle.std.specs.List.{flat_map};
 ghost use Rattle.std.specs.Mem.Slots.{slots_items, slots_len, slots_filled, IsFull};
-ghost use Rattle.corr_core.specs.Law.{total};
 ghost use Rattle.id_rule.specs.Lawful.{all_words};
 ghost use Rattle.corr_id.specs.Closed.{AllOf, AreIdWords};
 ghost use Rattle.corr_id.specs.Closing.{Closing};
 ghost use Rattle.corr_id.specs.Seats.{IsFree};
+ghost use Rattle.sock_words.specs.Totals.{total};
 
 use crate::table::{IdSeat, IdTable};
 use atomic_table::Closed;

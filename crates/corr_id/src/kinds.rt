@@ -1,7 +1,7 @@
 // A call for each kind of step.
 ghost use Rattle.std.specs.Prelude.{◌≡◌, ◌≢◌, ◌+◌, ◌*◌, ◌%◌, ◌<◌, ◌≤◌, ℕ, Bool, [], ◌∷◌, IsTrue, MatchOption};
-ghost use Rattle.corr_core.specs.Word.{parts, made_word, locked_word, posted_word, unlocked_word, free_word, tick};
-ghost use Rattle.corr_core.specs.Law.{LAST, total, is_made, is_advance};
+ghost use Rattle.corr_core.specs.Word.{parts, made_word, locked_word, posted_word, unlocked_word, free_word};
+ghost use Rattle.corr_core.specs.Law.{LAST, is_made, is_advance};
 ghost use Rattle.corr_core.specs.declared.marks.Hand.TheVariants.{Empty, Full};
 ghost use Rattle.corr_core.specs.declared.marks.Token.TheVariants.{Claimed, Locked, Leaving};
 ghost use Rattle.corr_core.specs.declared.marks.Note.TheVariants.{Tried, Made, Ended, Locker, Queued, Saw};
@@ -10,6 +10,8 @@ ghost use Rattle.id_rule.specs.Plays.{LockFits, Longer};
 ghost use Rattle.corr_id.specs.Ruled.{FreshBehind, IsBehind, IsFresh};
 ghost use Rattle.corr_id.specs.Seats.{Sits, Stays};
 ghost use Rattle.corr_id.specs.Calls.{is_saw, is_at, Became, one, MayMove, Moved, Claims, Locks, FoundUpTo, ReachedUpTo, tokens_left, advance_note};
+ghost use Rattle.sock_words.specs.Words.{bit};
+ghost use Rattle.sock_words.specs.Totals.{total};
 
 use crate::plays::{Claim, End, Free, Give, Lock, Make, Queue, Read, See, Take, Unlock};
 use crate::table::{IdSeat, IdTable};
@@ -133,7 +135,7 @@ impl<C> IdTable<C> {
     pub(crate) fn unlock_id(&self, seat: &mut IdSeat<C>, at: u16, from: u64, next: u64) -> u64
         requires seat { Sits self.now.table.shared.table_id seat.old }
         requires slot { at < self.now.table.shared.key.slots }
-        requires next { (advance : Bool) × (parts next ≡ unlocked_word (parts from) (tick advance)) × (IsTrue advance → (parts from).attempt + 2 < (parts from).range) }
+        requires next { (advance : Bool) × (parts next ≡ unlocked_word (parts from) (bit advance)) × (IsTrue advance → (parts from).attempt + 2 < (parts from).range) }
         requires lock { (c : C) × Locks at seat.old.me.0 (parts from) c (Full c) }
         ensures seat { Stays seat.old seat.new }
         ensures won { result ≡ from → (c : C) → Locks at seat.old.me.0 (parts from) c (Full c) → Became at (with_note at (Saw from) seat.old.me.0) seat.new.me.0 (tokens_left (parts from) (parts next) c) (advance_note at (parts from) (parts next)) }

@@ -1,10 +1,11 @@
 // Giving a lock back.
 ghost use Rattle.std.specs.Prelude.{◌≡◌, ◌≢◌, ◌+◌, ◌<◌, IsTrue, true, false, IfSome};
-ghost use Rattle.corr_core.specs.Word.{parts, unlocked_word, tick, code_of};
+ghost use Rattle.corr_core.specs.Word.{parts, unlocked_word, code_of};
 ghost use Rattle.corr_core.specs.declared.marks.Hand.TheVariants.{Empty};
 ghost use Rattle.corr_id.specs.Seats.{Sits, Stays};
 ghost use Rattle.corr_id.specs.Calls.{Locks, error_in};
 ghost use Rattle.corr_id.specs.Unlocks.{UnlockOk, stale};
+ghost use Rattle.sock_words.specs.Words.{bit};
 
 use crate::calls::IdLock;
 use crate::table::{IdSeat, IdTable};
@@ -73,7 +74,7 @@ impl<C> IdTable<C> {
 fn without_oldest(word: u64, advance: bool) -> u64
     requires locked { (parts word).state ≡ 2 }
     requires room { IsTrue advance → (parts word).attempt + 2 < (parts word).range }
-    ensures { parts result ≡ unlocked_word (parts word) (tick advance) }
+    ensures { parts result ≡ unlocked_word (parts word) (bit advance) }
 {
     corr_core::unlock_id(word, IdWord(word), advance).next
 }

@@ -1,11 +1,12 @@
 // The words of the calls among the operations.
 ghost use Rattle.std.specs.Prelude.{◌≡◌, ◌≢◌, ◌+◌, ◌*◌, ◌%◌, ◌<◌, ◌≤◌, false, true, IfNone, IfSome, IsSome};
 ghost use Rattle.sock_words.specs.Words.{at_word as packed_at, id_slot, id_first};
-ghost use Rattle.corr_core.specs.Law.{total, is_made};
+ghost use Rattle.corr_core.specs.Law.{is_made};
 ghost use Rattle.id_rule.specs.Lawful.{call_index, at_index, notes_of, with_kept};
 ghost use Rattle.corr_id.specs.Ruled.{is_place};
 ghost use Rattle.corr_id.specs.Seats.{Sits, Stays};
 ghost use Rattle.corr_id.specs.Calls.{Quiet, Found};
+ghost use Rattle.sock_words.specs.Totals.{total};
 
 use crate::plays::{Load, Store};
 use crate::table::{IdSeat, IdTable};

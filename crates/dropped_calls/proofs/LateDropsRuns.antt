@@ -24,7 +24,6 @@ use Rattle.refused_attempts.specs.Below.outcome_stories.specs.Stories.{In}
 use Rattle.refused_attempts.specs.Below.outcome_stories.proofs.Members.{all_in}
 use Rattle.refused_attempts.specs.Below.outcome_causes.proofs.Plain.{in_left, in_right, in_both}
 use Rattle.refused_attempts.specs.Below.call_stories.specs.Decided.{posted_by, is_late_step, late_at, late_in, posted_behind}
-use Rattle.refused_attempts.specs.Below.call_stories.specs.Lists.{shows_in}
 use Rattle.refused_attempts.specs.Below.call_stories.specs.Posts.{Post, posted_at}
 use Rattle.refused_attempts.specs.accept_counts.specs.Counts.{AreLabelled}
 use Rattle.refused_attempts.specs.accept_counts.specs.Refused.{Deed, DidStep, Doing, DidAt, DidIn, ChargeLaw, AllWouldOwn}
@@ -39,26 +38,27 @@ use Rattle.refused_attempts.specs.accept_counts.proofs.Runs.{Lawful_}
 use Rattle.refused_attempts.specs.accept_counts.proofs.Ticks.{label_ticks}
 use Rattle.refused_attempts.specs.accept_counts.proofs.PostSeats.{of_tick}
 use Rattle.seat_programs.specs.Rounds.{first_step}
+use Rattle.refused_attempts.specs.Below.outcome_stories.specs.Facts.{shown_in}
 
 -- ## Lists of posts
 
 -- what is posted behind a late step is posted
-behind_shown : (j : ℕ) (p : Plan) (ms : List Moment) (c : Core) (x : Post) → In x (posted_behind j p c ms) → In x (shows_in posted_at p c ms)
+behind_shown : (j : ℕ) (p : Plan) (ms : List Moment) (c : Core) (x : Post) → In x (posted_behind j p c ms) → In x (shown_in posted_at p c ms)
 behind_shown j p [] c x at = absurd at
 behind_shown j p (m ∷ ms) c x at = by (late_at j c m) at (behind_shown j p ms (ticked p c m) x)
   where
-    by : (b : Bool) → In x (cond b (shows_in posted_at p c (m ∷ ms)) (posted_behind j p (ticked p c m) ms)) → (In x (posted_behind j p (ticked p c m) ms) → In x (shows_in posted_at p (ticked p c m) ms)) → In x (shows_in posted_at p c (m ∷ ms))
+    by : (b : Bool) → In x (cond b (shown_in posted_at p c (m ∷ ms)) (posted_behind j p (ticked p c m) ms)) → (In x (posted_behind j p (ticked p c m) ms) → In x (shown_in posted_at p (ticked p c m) ms)) → In x (shown_in posted_at p c (m ∷ ms))
     by true z later = z
-    by false z later = in_right (posted_at c m) (shows_in posted_at p (ticked p c m) ms) x (later z)
+    by false z later = in_right (posted_at c m) (shown_in posted_at p (ticked p c m) ms) x (later z)
 
-behind_now : (j : ℕ) (p : Plan) (c : Core) (m : Moment) (ms : List Moment) (x : Post) → late_at j c m ≡ true → In x (shows_in posted_at p c (m ∷ ms)) → In x (posted_behind j p c (m ∷ ms))
-behind_now j p c m ms x late at = subst (λ b. In x (cond b (shows_in posted_at p c (m ∷ ms)) (posted_behind j p (ticked p c m) ms))) (sym late) at
+behind_now : (j : ℕ) (p : Plan) (c : Core) (m : Moment) (ms : List Moment) (x : Post) → late_at j c m ≡ true → In x (shown_in posted_at p c (m ∷ ms)) → In x (posted_behind j p c (m ∷ ms))
+behind_now j p c m ms x late at = subst (λ b. In x (cond b (shown_in posted_at p c (m ∷ ms)) (posted_behind j p (ticked p c m) ms))) (sym late) at
 
 behind_later : (j : ℕ) (p : Plan) (c : Core) (m : Moment) (ms : List Moment) (x : Post) → In x (posted_behind j p (ticked p c m) ms) → In x (posted_behind j p c (m ∷ ms))
 behind_later j p c m ms x at = by (late_at j c m)
   where
-    by : (b : Bool) → In x (cond b (shows_in posted_at p c (m ∷ ms)) (posted_behind j p (ticked p c m) ms))
-    by true = in_right (posted_at c m) (shows_in posted_at p (ticked p c m) ms) x (behind_shown j p ms (ticked p c m) x at)
+    by : (b : Bool) → In x (cond b (shown_in posted_at p c (m ∷ ms)) (posted_behind j p (ticked p c m) ms))
+    by true = in_right (posted_at c m) (shown_in posted_at p (ticked p c m) ms) x (behind_shown j p ms (ticked p c m) x at)
     by false = at
 
 -- ## Ticks of one seat
@@ -78,7 +78,7 @@ none_late p n (suc i) c late = none_late p n i (ticked p c (quiet 0)) (sym (ap (
 pub none_behind : (p : Plan) (n i : ℕ) (c : Core) (x : Post) → In x (posted_behind (32 + n) p c (replicate i (quiet 0))) → ⊥
 none_behind p n zero c x at = at
 none_behind p n (suc i) c x at = none_behind p n i (ticked p c (quiet 0)) x
-    (subst (λ b. In x (cond b (shows_in posted_at p c (quiet 0 ∷ replicate i (quiet 0))) (posted_behind (32 + n) p (ticked p c (quiet 0)) (replicate i (quiet 0))))) (never_late n c i) at)
+    (subst (λ b. In x (cond b (shown_in posted_at p c (quiet 0 ∷ replicate i (quiet 0))) (posted_behind (32 + n) p (ticked p c (quiet 0)) (replicate i (quiet 0))))) (never_late n c i) at)
 
 either : (b d : Bool) → (b ≡ true) ⊎ (d ≡ true) → (b || d) ≡ true
 either b d (inl e) = ap (λ x. x || d) e
@@ -123,7 +123,7 @@ module _ (p : Plan) (q : IdPlan) (narrow : q.slots ≤ 65536) (is_call : Asked �
 
   -- in these ticks it was posted behind a late step of link n's reader, which may have been made before them
   abbrev pub InTime : (ℕ → Type 0) → Core → List Moment → Post → ℕ → Type 0
-  InTime Late c ms x n = (Late n × In x (shows_in posted_at p c ms)) ⊎ In x (posted_behind (32 + n) p c ms)
+  InTime Late c ms x n = (Late n × In x (shown_in posted_at p c ms)) ⊎ In x (posted_behind (32 + n) p c ms)
 
   abbrev pub With : (ℕ → Type 0) → Core → List Moment → ℕ → Type 0
   With Late c ms n = Late n ⊎ (late_in (32 + n) p c ms ≡ true)
@@ -137,7 +137,7 @@ module _ (p : Plan) (q : IdPlan) (narrow : q.slots ≤ 65536) (is_call : Asked �
     pub law : Law (With Late c ms) (run p c ms) (views_along p c vs ms) taken
     pub doings : List Doing
     pub charges : Charged (Done_ Done c ms) (With Late c ms) (run p c ms) (views_along p c vs ms) doings
-    pub posts : (j : ℕ) → j < 32 → (x : Post) → In x (shows_in (posted_by j) p c ms) → code_of x.error ≡ 1014 → LatePost (Done_ Done c ms j) (InTime Late c ms x) x
+    pub posts : (j : ℕ) → j < 32 → (x : Post) → In x (shown_in (posted_by j) p c ms) → code_of x.error ≡ 1014 → LatePost (Done_ Done c ms j) (InTime Late c ms x) x
 
   module _ (Q : ℕ → ℕ → Type 0) (go : RetriesGo p) (lasts : Lasts) where
     -- a post of one tick
@@ -174,8 +174,8 @@ module _ (p : Plan) (q : IdPlan) (narrow : q.slots ≤ 65536) (is_call : Asked �
     with_next Late c m ms n (inr e) = inr (either (late_at (32 + n) c m) (late_in (32 + n) p (ticked p c m) ms) (inr e))
 
     time_next : (Late : ℕ → Type 0) (c : Core) (m : Moment) (ms : List Moment) (x : Post) (n : ℕ) → InTime (Next Late c m) (ticked p c m) ms x n → InTime Late c (m ∷ ms) x n
-    time_next Late c m ms x n (inl (inl a, at)) = inl (a, in_right (posted_at c m) (shows_in posted_at p (ticked p c m) ms) x at)
-    time_next Late c m ms x n (inl (inr b, at)) = inr (behind_now (32 + n) p c m ms x b (in_right (posted_at c m) (shows_in posted_at p (ticked p c m) ms) x at))
+    time_next Late c m ms x n (inl (inl a, at)) = inl (a, in_right (posted_at c m) (shown_in posted_at p (ticked p c m) ms) x at)
+    time_next Late c m ms x n (inl (inr b, at)) = inr (behind_now (32 + n) p c m ms x b (in_right (posted_at c m) (shown_in posted_at p (ticked p c m) ms) x at))
     time_next Late c m ms x n (inr e) = inr (behind_later (32 + n) p c m ms x e)
 
     pub posts_along : (ms : List Moment) (Done : ℕ → Deed → Type 0) (Late : ℕ → Type 0) (c : Core) (vs : List View) → Sound p c vs → AreAnswered p c ms → AreFitting p c ms → Recorded p Q c vs → AreLabelled ids p q c ms → AllWouldOwn ids p c ms
@@ -200,12 +200,12 @@ module _ (p : Plan) (q : IdPlan) (narrow : q.slots ≤ 65536) (is_call : Asked �
           charges = law_more p q narrow is_call ids (Told (Done_ (λ j d. Done j d ⊎ DidAt p c m j d) (ticked p c m) ms) (With (Next Late c m) (ticked p c m) ms)) (Told (Done_ Done c (m ∷ ms)) (With Late c (m ∷ ms)))
               (λ j d t. (grouped Done c m ms j d t.0, says_more (With (Next Late c m) (ticked p c m) ms) (With Late c (m ∷ ms)) (with_next Late c m ms) d t.1)) (run p (ticked p c m) ms) (views_along p (ticked p c m) (views_after p c vs m) ms) r.doings r.charges;
           posts = λ j low x at code. ⊎_elim
-              (λ now. let o = of_tick j c m x now in late_post_more (λ d. Done j d ⊎ DidAt p c m j d) (Done_ Done c (m ∷ ms) j) (λ n. Late n × In x (shows_in posted_at p c (m ∷ ms))) (InTime Late c (m ∷ ms) x) (λ d y. grouped Done c m ms j d (inl y)) (λ n y. inl y) x
-              (as_late Done Late c vs m taken ss sound answered.0 fitting.0 recorded open_ahead law j (λ n. Late n × In x (shows_in posted_at p c (m ∷ ms))) (λ n l. (l, in_left (posted_at c m) (shows_in posted_at p (ticked p c m) ms) x o.1)) x
+              (λ now. let o = of_tick j c m x now in late_post_more (λ d. Done j d ⊎ DidAt p c m j d) (Done_ Done c (m ∷ ms) j) (λ n. Late n × In x (shown_in posted_at p c (m ∷ ms))) (InTime Late c (m ∷ ms) x) (λ d y. grouped Done c m ms j d (inl y)) (λ n y. inl y) x
+              (as_late Done Late c vs m taken ss sound answered.0 fitting.0 recorded open_ahead law j (λ n. Late n × In x (shown_in posted_at p c (m ∷ ms))) (λ n l. (l, in_left (posted_at c m) (shown_in posted_at p (ticked p c m) ms) x o.1)) x
               (subst (λ i. DropPost (λ d. Told Done Late i d ⊎ DidAt p c m i d) x) o.0 (tick_drop p q narrow is_call ids (Told Done Late) c vs ss charges labels.1.calls are.0.0 are.0.1 m sound (let e = o.0 in omega (arith, e, low)) x o.1 code))))
               (λ later. late_post_more (Done_ (λ j d. Done j d ⊎ DidAt p c m j d) (ticked p c m) ms j) (Done_ Done c (m ∷ ms) j) (InTime (Next Late c m) (ticked p c m) ms x) (InTime Late c (m ∷ ms) x) (λ d y. grouped Done c m ms j d y) (time_next Late c m ms x) x
               (r.posts j low x later code))
-              (in_both (posted_by j c m) (shows_in (posted_by j) p (ticked p c m) ms) x at);
+              (in_both (posted_by j c m) (shown_in (posted_by j) p (ticked p c m) ms) x at);
         }
       where
         -- words of opens stay

@@ -29,7 +29,6 @@ use Rattle.refused_attempts.specs.Below.programs_allowed.proofs.Beginning as cli
 use Rattle.refused_attempts.specs.Below.joint_runs.proofs.Runs.{AreMade, first_views}
 use Rattle.refused_attempts.specs.Below.call_owing.specs.Lives.{ClosesInRun}
 use Rattle.refused_attempts.specs.Below.call_stories.specs.Decided.{posted_by, posted_behind}
-use Rattle.refused_attempts.specs.Below.call_stories.specs.Lists.{shows_in, shows_in_run}
 use Rattle.refused_attempts.specs.Below.call_stories.specs.Posts.{Post}
 use Rattle.refused_attempts.specs.accept_counts.specs.Counts.{AreLabelled}
 use Rattle.refused_attempts.specs.accept_counts.specs.Refused.{Deed, Doing, DidIn, DidEarly, DidLate, AllWouldOwn, RunWouldOwn}
@@ -48,6 +47,7 @@ use Rattle.refused_attempts.proofs.RefusedWhole.{few_slots, Law, first_doings, N
 use Rattle.refused_attempts.specs.accept_counts.proofs.Runs.{AreLabelledIn, IsCallOf, Lawful_}
 use Rattle.refused_attempts.specs.accept_counts.proofs.Runs as labels
 use Rattle.refused_attempts.specs.accept_counts.proofs.PostSeats.{of_all}
+use Rattle.refused_attempts.specs.Below.outcome_stories.specs.Facts.{shown_in, shown_in_run}
 
 -- the codes that clients store
 abbrev pub IsNoEnd : ℕ → Type 0
@@ -216,7 +216,7 @@ module _ (script : List Item) (made : AreMade script) (turns : List Turn) (core 
   BehindEnding x n = In x (posted_behind (32 + n) (plan_of script) is.ended is.final)
 
   -- before the run was ending, or behind that, where it is known of the lives that were made then
-  pub posts_late : (j : ℕ) → j < 32 → (x : Post) → In x (shows_in_run script turns core is (posted_by j)) → code_of x.error ≡ 1014
+  pub posts_late : (j : ℕ) → j < 32 → (x : Post) → In x (shown_in_run script turns core is (posted_by j)) → code_of x.error ≡ 1014
       → PostOf AnyLife (DidEarly script turns core is j) (BehindClients x) x ⊎ PostOf (IsNew script made turns core is) (DidLate script turns core is j) (BehindEnding x) x
   posts_late j low x at code = ⊎_elim
       (λ a. inl (more AnyLife (DidSetup j) (DidEarly script turns core is j) (Time AnyLife (opened script) (replicate is.setup (quiet 0)) x) (BehindClients x) (λ d. ⊎_elim (λ z. absurd z) (λ y. inl y))
@@ -228,6 +228,6 @@ module _ (script : List Item) (made : AreMade script) (turns : List Turn) (core 
       (λ a. absurd (closing_none script made turns core is closes ids labelled would x (of_all j (plan_of script) (replicate is.last (quiet 0)) (closing_of script turns core is) x a)))
       (λ a. inr (more (IsNew script made turns core is) (λ d. None j d ⊎ DidIn (plan_of script) is.ended is.final j d) (DidLate script turns core is j) (Time (IsNew script made turns core is) is.ended is.final x) (BehindEnding x) (λ d. ⊎_elim (λ z. absurd z) (λ y. y))
       (λ n. ⊎_elim (λ z. absurd z.0) (λ z. z)) x ((let s = final_part in s.posts) j low x a code)))
-      (in_both (shows_in (posted_by j) (plan_of script) (closing_of script turns core is) (replicate is.last (quiet 0))) (shows_in (posted_by j) (plan_of script) is.ended is.final) x rest))
-      (in_both (shows_in (posted_by j) (plan_of script) (set_up script is.setup) (is.scheduled ++ is.later)) _ x rest))
-      (in_both (shows_in (posted_by j) (plan_of script) (opened script) (replicate is.setup (quiet 0))) _ x at)
+      (in_both (shown_in (posted_by j) (plan_of script) (closing_of script turns core is) (replicate is.last (quiet 0))) (shown_in (posted_by j) (plan_of script) is.ended is.final) x rest))
+      (in_both (shown_in (posted_by j) (plan_of script) (set_up script is.setup) (is.scheduled ++ is.later)) _ x rest))
+      (in_both (shown_in (posted_by j) (plan_of script) (opened script) (replicate is.setup (quiet 0))) _ x at)

@@ -21,7 +21,6 @@ use Rattle.attempted_calls.specs.Below.outcome_stories.specs.Stories.{In}
 use Rattle.attempted_calls.specs.Below.outcome_stories.proofs.Members.{in_contains}
 use Rattle.attempted_calls.specs.Below.outcome_causes.proofs.Plain.{in_left, in_right, in_both}
 use Rattle.attempted_calls.specs.Below.joint_runs.proofs.Runs.{AreMade, first_views}
-use Rattle.attempted_calls.specs.Below.call_stories.specs.Lists.{shows_in, shows_in_run}
 use Rattle.attempted_calls.specs.Below.call_stories.specs.Posts.{Post, posted_with, posted_at}
 use Rattle.attempted_calls.specs.Below.call_stories.specs.Decided.{posted_by}
 use Rattle.attempted_calls.specs.accept_counts.specs.EndedCalls.{Load, loaded_at, loads_of_run, IsEndPost}
@@ -35,6 +34,7 @@ use Rattle.attempted_calls.specs.accept_counts.proofs.ReaderRuns.{keeps_along}
 use Rattle.attempted_calls.specs.accept_counts.proofs.Readings.{found_by}
 use Rattle.corr_core.proofs.Notes.{at_length}
 use Rattle.seat_programs.specs.Rounds.{first_step}
+use Rattle.attempted_calls.specs.Below.outcome_stories.specs.Facts.{shown_in, shown_in_run}
 
 -- ## Ticks one after another
 
@@ -59,7 +59,7 @@ module _ (p : Plan) (calls os : List ℕ) (in_os : (k o : ℕ) → get_elem? os 
 
   module _ (Q : ℕ → ℕ → Type 0) (go : RetriesGo p) where
     seat_may : (ms : List Moment) (c : Core) (vs : List View) (h : ℕ → List Taking) → Sound p c vs → AreAnswered p c ms → AreFitting p c ms → Recorded p Q c vs → Keeping p calls os in_os c vs h → AllTold p calls os in_os seen h c
-        → ((l : Load) → In l (shows_in loaded_at p c ms) → In l seen) → (x : Post) → In x (shows_in (posted_by (32 + k)) p c ms) → May (h k ++ finds p calls os in_os c ms k) x
+        → ((l : Load) → In l (shown_in loaded_at p c ms) → In l seen) → (x : Post) → In x (shown_in (posted_by (32 + k)) p c ms) → May (h k ++ finds p calls os in_os c ms k) x
     seat_may [] c vs h sound answered fits recorded keeps told loads x there = absurd there
     seat_may (m ∷ ms) c vs h sound answered fits recorded keeps told loads x there = ⊎_elim
         (λ now. may_more (h k) (finds p calls os in_os c (m ∷ ms) k) x (tick_may c vs m h keeps told x now))
@@ -67,11 +67,11 @@ module _ (p : Plan) (calls os : List ℕ) (in_os : (k o : ℕ) → get_elem? os 
         (seat_may ms (ticked p c m) (views_after p c vs m) (λ n. h n ++ finds p calls os in_os c (m ∷ []) n) (sound_ticks p go c vs m sound answered.0 fits.0) answered.1 fits.1 (recorded_ticks p Q c vs m sound answered.0 fits.0 recorded)
         (keeps_along p calls os in_os Any (Unit {0}) ends_anyhow Q go (m ∷ []) c vs h sound (answered.0, tt) (fits.0, tt) recorded (λ e. tt) keeps)
         (told_along p calls os in_os seen Q go (m ∷ []) c vs h sound (answered.0, tt) (fits.0, tt) recorded keeps told first_loads).0
-        (λ l z. loads l (in_right (loaded_at c m) (shows_in loaded_at p (ticked p c m) ms) l z)) x later))
-        (in_both (posted_by (32 + k) c m) (shows_in (posted_by (32 + k)) p (ticked p c m) ms) x there)
+        (λ l z. loads l (in_right (loaded_at c m) (shown_in loaded_at p (ticked p c m) ms) l z)) x later))
+        (in_both (posted_by (32 + k) c m) (shown_in (posted_by (32 + k)) p (ticked p c m) ms) x there)
       where
         first_loads : (l : Load) → In l (loaded_at c m ++ []) → In l seen
-        first_loads l z = loads l (in_left (loaded_at c m) (shows_in loaded_at p (ticked p c m) ms) l (subst (In l) (append-nil (loaded_at c m)) z))
+        first_loads l z = loads l (in_left (loaded_at c m) (shown_in loaded_at p (ticked p c m) ms) l (subst (In l) (append-nil (loaded_at c m)) z))
 
 -- ## A whole run
 
@@ -91,13 +91,13 @@ module _ (script : List Item) (made : AreMade script) (turns : List Turn) (core 
 
     open parts loaded_at is use {setup as l₁, clients as l₂, closing as l₃, final as l₄}
 
-    from_final : In x (shows_in (posted_by (32 + k)) (plan_of script) is.ended is.final) → Here (h₄ script made turns core is)
+    from_final : In x (shown_in (posted_by (32 + k)) (plan_of script) is.ended is.final) → Here (h₄ script made turns core is)
     from_final there = seat_may (plan_of script) (calls script) (opens script) in_script (loads_of_run script turns core is) k (IsListed script) (go script made turns core is) is.final is.ended (views_closed script turns core is (first_views script)) (h₃ script made turns core is)
         (closed_sound script made.are (first_views script) (start script made turns core is) (go script made turns core is) turns core is (fitting script made turns core is)) is.answered_again (let f = fitting script made turns core is in f.of_final)
         (recorded_closed script made.are (first_views script) (start script made turns core is) (go script made turns core is) turns core is (fitting script made turns core is)) (closed_keeps script made turns core is) (closed_told script made turns core is)
         (λ l z. in_right l₁ (l₂ ++ (l₃ ++ l₄)) l (in_right l₂ (l₃ ++ l₄) l (in_right l₃ l₄ l z))) x there
 
-    from_closing : In x (shows_in (posted_by (32 + k)) (plan_of script) (closing_of script turns core is) (in_closing is)) → Here (h₄ script made turns core is)
+    from_closing : In x (shown_in (posted_by (32 + k)) (plan_of script) (closing_of script turns core is) (in_closing is)) → Here (h₄ script made turns core is)
     from_closing there = more (h₃ script made turns core is) (finds_in is.ended is.final)
         (seat_may (plan_of script) (calls script) (opens script) in_script (loads_of_run script turns core is) k (IsListed script) (go script made turns core is) (in_closing is) (closing_of script turns core is) (views_played script turns core is (first_views script)) (h₂ script made turns core is)
         (closing_sound script made.are (first_views script) (start script made turns core is) (go script made turns core is) turns core is (fitting script made turns core is))
@@ -105,14 +105,14 @@ module _ (script : List Item) (made : AreMade script) (turns : List Turn) (core 
         (recorded_closing script made.are (first_views script) (start script made turns core is) (go script made turns core is) turns core is (fitting script made turns core is)) (closing_keeps script made turns core is) (closing_told script made turns core is)
         (λ l z. in_right l₁ (l₂ ++ (l₃ ++ l₄)) l (in_right l₂ (l₃ ++ l₄) l (in_left l₃ l₄ l z))) x there)
 
-    from_clients : In x (shows_in (posted_by (32 + k)) (plan_of script) (set_up script is.setup) (in_clients is)) → Here (h₄ script made turns core is)
+    from_clients : In x (shown_in (posted_by (32 + k)) (plan_of script) (set_up script is.setup) (in_clients is)) → Here (h₄ script made turns core is)
     from_clients there = more (h₃ script made turns core is) (finds_in is.ended is.final) (more (h₂ script made turns core is) (finds_in (closing_of script turns core is) (in_closing is))
         (seat_may (plan_of script) (calls script) (opens script) in_script (loads_of_run script turns core is) k (IsListed script) (go script made turns core is) (in_clients is) (set_up script is.setup) (views_along (plan_of script) (opened script) (first_views script) (in_setup is)) (h₁ script made turns core is)
         (set_up_sound script made.are (first_views script) (start script made turns core is) (go script made turns core is) turns core is (fitting script made turns core is)) is.answered (let f = fitting script made turns core is in f.of_played)
         (recorded_set_up script made.are (first_views script) (start script made turns core is) (go script made turns core is) turns core is (fitting script made turns core is)) (set_up_keeps script made turns core is) (setup_part script made turns core is).0
         (λ l z. in_right l₁ (l₂ ++ (l₃ ++ l₄)) l (in_left l₂ (l₃ ++ l₄) l z)) x there))
 
-    from_setup : In x (shows_in (posted_by (32 + k)) (plan_of script) (opened script) (in_setup is)) → Here (h₄ script made turns core is)
+    from_setup : In x (shown_in (posted_by (32 + k)) (plan_of script) (opened script) (in_setup is)) → Here (h₄ script made turns core is)
     from_setup there = more (h₃ script made turns core is) (finds_in is.ended is.final) (more (h₂ script made turns core is) (finds_in (closing_of script turns core is) (in_closing is)) (more (h₁ script made turns core is) (finds_in (set_up script is.setup) (in_clients is))
         (seat_may (plan_of script) (calls script) (opens script) in_script (loads_of_run script turns core is) k (IsListed script) (go script made turns core is) (in_setup is) (opened script) (first_views script) (λ n. [])
         (let s = start script made turns core is in s.sound) (set_up_answered script made.are (first_views script) (start script made turns core is) (go script made turns core is) turns core is (fitting script made turns core is)) (let f = fitting script made turns core is in f.of_setup)
@@ -120,21 +120,21 @@ module _ (script : List Item) (made : AreMade script) (turns : List Turn) (core 
         (λ l z. in_left l₁ (l₂ ++ (l₃ ++ l₄)) l z) x there)))
 
     abbrev s₂ : List Post
-    s₂ = shows_in (posted_by (32 + k)) (plan_of script) (set_up script is.setup) (in_clients is)
+    s₂ = shown_in (posted_by (32 + k)) (plan_of script) (set_up script is.setup) (in_clients is)
 
     abbrev s₃ : List Post
-    s₃ = shows_in (posted_by (32 + k)) (plan_of script) (closing_of script turns core is) (in_closing is)
+    s₃ = shown_in (posted_by (32 + k)) (plan_of script) (closing_of script turns core is) (in_closing is)
 
     abbrev s₄ : List Post
-    s₄ = shows_in (posted_by (32 + k)) (plan_of script) is.ended is.final
+    s₄ = shown_in (posted_by (32 + k)) (plan_of script) is.ended is.final
 
-    in_run : In x (shows_in_run script turns core is (posted_by (32 + k))) → Here (h₄ script made turns core is)
+    in_run : In x (shown_in_run script turns core is (posted_by (32 + k))) → Here (h₄ script made turns core is)
     in_run there = ⊎_elim from_setup
         (λ l. ⊎_elim from_clients (λ l. ⊎_elim from_closing from_final (in_both s₃ s₄ x l)) (in_both s₂ (s₃ ++ s₄) x l))
-        (in_both (shows_in (posted_by (32 + k)) (plan_of script) (opened script) (in_setup is)) (s₂ ++ (s₃ ++ s₄)) x there)
+        (in_both (shown_in (posted_by (32 + k)) (plan_of script) (opened script) (in_setup is)) (s₂ ++ (s₃ ++ s₄)) x there)
 
     -- each post by the reader of a link
-    pub seat_end_posts : (bytes : List ℕ) → script_of bytes ≡ Ok script → In x (shows_in_run script turns core is (posted_by (32 + k))) → (o word code : ℕ) × (k < (plan_of script).links) × IsEndPost script turns core is k o word code x
+    pub seat_end_posts : (bytes : List ℕ) → script_of bytes ≡ Ok script → In x (shown_in_run script turns core is (posted_by (32 + k))) → (o word code : ℕ) × (k < (plan_of script).links) × IsEndPost script turns core is k o word code x
     seat_end_posts bytes reads there = let y = in_run there in let may = y.1 in let low : k < (plan_of script).links = (let facts = known script made turns core is in let many = facts.as_many in let l = y.0 in omega (arith, l, many)) in (
       may.operation,
       may.word,

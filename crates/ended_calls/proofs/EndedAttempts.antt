@@ -35,7 +35,6 @@ use Rattle.attempted_calls.specs.Below.outcome_ticks.proofs.Tasks.{one_task}
 use Rattle.attempted_calls.specs.Below.joint_runs.proofs.Runs.{AreMade}
 use Rattle.attempted_calls.specs.Below.call_owing.specs.Lives.{ClosesInRun}
 use Rattle.attempted_calls.specs.Below.run_theorems.proofs.Gave.{gave_heard}
-use Rattle.attempted_calls.specs.Below.call_stories.specs.Lists.{shows_in}
 use Rattle.attempted_calls.specs.Below.call_stories.specs.Posts.{Post}
 use Rattle.attempted_calls.specs.accept_counts.specs.Counts.{AreLabelled}
 use Rattle.attempted_calls.specs.accept_counts.specs.EndedCalls.{Store, stores_by, stored_at, stores_of_run, reader_posts_of_run, AreStoredOnce, EndedSo, IsEndPost}
@@ -51,6 +50,7 @@ use Rattle.attempted_calls.specs.Below.call_stories.proofs.Posts.{id_back}
 use Rattle.attempted_calls.specs.accept_counts.proofs.Grounds.{setting, grounds}
 use Rattle.attempted_calls.specs.Below.owned_ids.proofs.OpensStored.{place_at}
 use Rattle.seat_programs.specs.Rounds.{first_step}
+use Rattle.attempted_calls.specs.Below.outcome_stories.specs.Facts.{shown_in}
 
 -- ## Numbers
 
@@ -75,9 +75,9 @@ module _ (ids : ℕ → ℕ) (p : Plan) (q : IdPlan) where
   abbrev IsOwn : Store → Type 0
   IsOwn x = (id n k : ℕ) → x.word ≡ at_word (id_first id) (id_slot id) k n → k < 65535 → n ≤ 6 → id_slot id < 65536 → (ids x.operation ≡ id) × (id ≢ 0)
 
-  ticks_own : (ms : List Moment) (c : Core) → AreLabelled ids p q c ms → (x : Store) → In x (shows_in stored_at p c ms) → IsOwn x
+  ticks_own : (ms : List Moment) (c : Core) → AreLabelled ids p q c ms → (x : Store) → In x (shown_in stored_at p c ms) → IsOwn x
   ticks_own [] c labelled x there = absurd there
-  ticks_own (m ∷ ms) c labelled x there = ⊎_elim (λ a. by (get_elem? c.seats m.seat) refl a) (λ a. ticks_own ms (ticked p c m) labelled.3 x a) (in_both (stored_at c m) (shows_in stored_at p (ticked p c m) ms) x there)
+  ticks_own (m ∷ ms) c labelled x there = ⊎_elim (λ a. by (get_elem? c.seats m.seat) refl a) (λ a. ticks_own ms (ticked p c m) labelled.3 x a) (in_both (stored_at c m) (shown_in stored_at p (ticked p c m) ms) x there)
     where
       by_program : (program : Program) (seat : SeatState) → get_elem? c.seats m.seat ≡ some seat → first_step seat.program ≡ program → In x (stores_by program) → IsOwn x
       by_program (Aside (StoreAt o w) next) seat at is (inl same) = subst IsOwn (sym same) (λ id n k e low few small. labelled.2 seat o w next at is id n k e low few small)
@@ -99,10 +99,10 @@ module _ (script : List Item) (made : AreMade script) (turns : List Turn) (core 
   own_store x there = ⊎_elim (λ a. ticks_own ids (plan_of script) (id_plan_of script) (replicate is.setup (quiet 0)) (opened script) labelled.of_setup x a)
       (λ b. ⊎_elim (λ a. ticks_own ids (plan_of script) (id_plan_of script) (is.scheduled ++ is.later) (set_up script is.setup) labelled.of_played x a)
       (λ b. ⊎_elim (λ a. ticks_own ids (plan_of script) (id_plan_of script) (replicate is.last (quiet 0)) (closing_of script turns core is) labelled.of_closing x a) (λ a. ticks_own ids (plan_of script) (id_plan_of script) is.final is.ended labelled.of_final x a)
-      (in_both (shows_in stored_at (plan_of script) (closing_of script turns core is) (replicate is.last (quiet 0))) (shows_in stored_at (plan_of script) is.ended is.final) x b))
-      (in_both (shows_in stored_at (plan_of script) (set_up script is.setup) (is.scheduled ++ is.later)) (shows_in stored_at (plan_of script) (closing_of script turns core is) (replicate is.last (quiet 0)) ++ shows_in stored_at (plan_of script) is.ended is.final) x b))
-      (in_both (shows_in stored_at (plan_of script) (opened script) (replicate is.setup (quiet 0)))
-      (shows_in stored_at (plan_of script) (set_up script is.setup) (is.scheduled ++ is.later) ++ (shows_in stored_at (plan_of script) (closing_of script turns core is) (replicate is.last (quiet 0)) ++ shows_in stored_at (plan_of script) is.ended is.final)) x there)
+      (in_both (shown_in stored_at (plan_of script) (closing_of script turns core is) (replicate is.last (quiet 0))) (shown_in stored_at (plan_of script) is.ended is.final) x b))
+      (in_both (shown_in stored_at (plan_of script) (set_up script is.setup) (is.scheduled ++ is.later)) (shown_in stored_at (plan_of script) (closing_of script turns core is) (replicate is.last (quiet 0)) ++ shown_in stored_at (plan_of script) is.ended is.final) x b))
+      (in_both (shown_in stored_at (plan_of script) (opened script) (replicate is.setup (quiet 0)))
+      (shown_in stored_at (plan_of script) (set_up script is.setup) (is.scheduled ++ is.later) ++ (shown_in stored_at (plan_of script) (closing_of script turns core is) (replicate is.last (quiet 0)) ++ shown_in stored_at (plan_of script) is.ended is.final)) x there)
 
   abbrev tasks : AreTasks (plan_of script) (told_tasks_of script)
   tasks = tasks_are script made.are vs begins goes turns core is fits (narrow script made turns core is closes) (opening_bare script) ids labelled

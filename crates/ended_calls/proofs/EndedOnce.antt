@@ -5,7 +5,6 @@ use mathlib.Core.Option.{some}
 use lib.ListN.{get_elem?}
 use Rattle.sock_words.specs.declared.plain.Plan.{Plan}
 use Rattle.sock_model.specs.declared.view.View.{View}
-use Rattle.sock_model.specs.Weights.{total}
 use Rattle.seat_programs.specs.brpc_model.specs.Items.{Item}
 use Rattle.seat_programs.specs.brpc_model.specs.Operations.{Turn}
 use Rattle.corr_core.specs.declared.marks.Plan.{Plan as IdPlan}
@@ -31,7 +30,6 @@ use Rattle.attempted_calls.specs.Below.joint_runs.proofs.Runs.{AreMade, first_vi
 use Rattle.attempted_calls.specs.Below.label_runs.specs.Labels.{Trial, Idle, Labels}
 use Rattle.attempted_calls.specs.Below.label_runs.proofs.Programs.{ending_goes}
 use Rattle.attempted_calls.specs.Below.call_owing.specs.Lives.{ClosesInRun}
-use Rattle.attempted_calls.specs.Below.call_stories.specs.Lists.{shows_in}
 use Rattle.attempted_calls.specs.accept_counts.specs.Counts.{AreLabelled}
 use Rattle.attempted_calls.specs.accept_counts.specs.EndedCalls.{Store, stored_at, stores_of_run, AreStoredOnce}
 use Rattle.attempted_calls.specs.Below.call_stories.proofs.RunTicks.{in_setup, in_clients, in_closing}
@@ -40,6 +38,8 @@ use Rattle.attempted_calls.specs.accept_counts.proofs.Runs.{AreLabelledIn, IsCal
 use Rattle.attempted_calls.specs.sent_once.proofs.Sends.{narrow}
 use Rattle.attempted_calls.specs.own_decisions.proofs.EndedTryTicks.{of_try, OnceLaw, moves, once_ticks}
 use Rattle.ended_calls.proofs.EndedWhole.{seats_played}
+use Rattle.sock_words.specs.Totals.{total}
+use Rattle.attempted_calls.specs.Below.outcome_stories.specs.Facts.{shown_in}
 
 -- ## How a run begins
 
@@ -75,7 +75,7 @@ module _ (p : Plan) (q : IdPlan) (narrow : q.slots ≤ 65536) (is_call : Asked �
     pub trials : List Trial
     pub law : OnceLaw is_call ids q all d trials
     pub old : (x : Store) → In x done → In x all
-    pub new : (x : Store) → In x (shows_in stored_at p c ms) → In x all
+    pub new : (x : Store) → In x (shown_in stored_at p c ms) → In x all
 
   pub run_once : RetriesGo p → (ms : List Moment) (c : Core) (vs : List View) → Sound p c vs → AreAnswered p c ms → AreFitting p c ms → AreLabelled ids p q c ms → (done : List Store) (ts : List Trial) → OnceLaw is_call ids q done c ts → Behind done c ms (run p c ms)
   run_once retries [] c vs sound answered fits labelled done ts law = record { all = done; trials = ts; law = law; old = λ x there. there; new = λ x there. absurd there }
@@ -86,7 +86,7 @@ module _ (p : Plan) (q : IdPlan) (narrow : q.slots ≤ 65536) (is_call : Asked �
         trials = r.trials;
         law = r.law;
         old = λ x there. r.old x (in_right (stored_at c m) done x there);
-        new = λ x there. ⊎_elim (λ a. r.old x (in_left (stored_at c m) done x a)) (λ a. r.new x a) (in_both (stored_at c m) (shows_in stored_at p (ticked p c m) ms) x there);
+        new = λ x there. ⊎_elim (λ a. r.old x (in_left (stored_at c m) done x a)) (λ a. r.new x a) (in_both (stored_at c m) (shown_in stored_at p (ticked p c m) ms) x there);
       }
 
 -- ## A whole run
@@ -137,9 +137,9 @@ module _ (script : List Item) (made : AreMade script) (turns : List Turn) (core 
   all_there : (x : Store) → In x (stores_of_run script turns core is) → In x final_part.all
   all_there x there = ⊎_elim (λ a. final_part.old x (closing_part.old x (clients_part.old x (setup_part.new x a))))
       (λ b. ⊎_elim (λ a. final_part.old x (closing_part.old x (clients_part.new x a)))
-      (λ b. ⊎_elim (λ a. final_part.old x (closing_part.new x a)) (λ a. final_part.new x a) (in_both (shows_in stored_at (plan_of script) (closing_of script turns core is) (in_closing is)) (shows_in stored_at (plan_of script) is.ended is.final) x b))
-      (in_both (shows_in stored_at (plan_of script) (set_up script is.setup) (in_clients is)) (shows_in stored_at (plan_of script) (closing_of script turns core is) (in_closing is) ++ shows_in stored_at (plan_of script) is.ended is.final) x b))
-      (in_both (shows_in stored_at (plan_of script) (opened script) (in_setup is)) (shows_in stored_at (plan_of script) (set_up script is.setup) (in_clients is) ++ (shows_in stored_at (plan_of script) (closing_of script turns core is) (in_closing is) ++ shows_in stored_at (plan_of script) is.ended is.final)) x there)
+      (λ b. ⊎_elim (λ a. final_part.old x (closing_part.new x a)) (λ a. final_part.new x a) (in_both (shown_in stored_at (plan_of script) (closing_of script turns core is) (in_closing is)) (shown_in stored_at (plan_of script) is.ended is.final) x b))
+      (in_both (shown_in stored_at (plan_of script) (set_up script is.setup) (in_clients is)) (shown_in stored_at (plan_of script) (closing_of script turns core is) (in_closing is) ++ shown_in stored_at (plan_of script) is.ended is.final) x b))
+      (in_both (shown_in stored_at (plan_of script) (opened script) (in_setup is)) (shown_in stored_at (plan_of script) (set_up script is.setup) (in_clients is) ++ (shown_in stored_at (plan_of script) (closing_of script turns core is) (in_closing is) ++ shown_in stored_at (plan_of script) is.ended is.final)) x there)
 
   -- no attempt has two at words
   pub run_stored_once : AreStoredOnce script turns core is

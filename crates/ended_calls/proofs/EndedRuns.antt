@@ -17,7 +17,7 @@ use Rattle.attempted_calls.specs.Below.outcome_stories.specs.Stories.{In}
 use Rattle.attempted_calls.specs.Below.outcome_causes.proofs.Plain.{in_left, in_right, in_both}
 use Rattle.attempted_calls.specs.Below.run_theorems.specs.Heard.{as_taken, bytes_found, taken_link, taken_at, taken_in, given_by}
 use Rattle.attempted_calls.specs.Below.run_theorems.proofs.HeardRuns.{taken_append}
-use Rattle.attempted_calls.specs.Below.call_stories.specs.Lists.{Take, takes_by, takes_at, shows_in}
+use Rattle.attempted_calls.specs.Below.call_stories.specs.Lists.{Take, takes_by, takes_at}
 use Rattle.attempted_calls.specs.Below.call_stories.specs.Posts.{Post, posted_with, posted_at}
 use Rattle.attempted_calls.specs.accept_counts.specs.EndedCalls.{Load, loaded_at, reader_posts_at}
 use Rattle.attempted_calls.specs.accept_counts.proofs.Early.{Any, ends_anyhow}
@@ -26,6 +26,7 @@ use Rattle.ended_calls.proofs.EndedTicks.{HasTold, LoadsSo, told_ticks, told_pos
 use Rattle.attempted_calls.specs.accept_counts.proofs.ReaderRuns.{Keeps, founds, keeps_ticks, reader_of, others_none}
 use Rattle.attempted_calls.specs.accept_counts.proofs.Readings.{found_by, takes_or_not}
 use Rattle.corr_core.proofs.Notes.{at_length}
+use Rattle.attempted_calls.specs.Below.outcome_stories.specs.Facts.{shown_in}
 
 module _ (p : Plan) (calls os : List ℕ) (in_os : (k o : ℕ) → get_elem? os k ≡ some o → o < p.operations) where
   abbrev pub Keeping : Core → List View → (ℕ → List Taking) → Type 0
@@ -70,24 +71,24 @@ module _ (p : Plan) (calls os : List ℕ) (in_os : (k o : ℕ) → get_elem? os 
       keeps_tick c vs m ms h sound answered fitting recorded k = keeps_ticks p calls os in_os Any (Unit {0}) ends_anyhow Q go c vs m h sound answered.0 fitting.0 recorded (λ e. tt) k
 
       joined : (c : Core) (vs : List View) (m : Moment) (ms : List Moment) (h : ℕ → List Taking) → Keeping c vs h → AllTold h c
-          → AllTold (λ n. (h n ++ found_by c m n) ++ finds (ticked p c m) ms n) (run p (ticked p c m) ms) × ((x : Post) → In x (shows_in reader_posts_at p (ticked p c m) ms) → IsPostOf (λ n. (h n ++ found_by c m n) ++ finds (ticked p c m) ms n) x)
-          → AllTold (λ n. h n ++ finds c (m ∷ ms) n) (run p c (m ∷ ms)) × ((x : Post) → In x (shows_in reader_posts_at p c (m ∷ ms)) → IsPostOf (λ n. h n ++ finds c (m ∷ ms) n) x)
+          → AllTold (λ n. (h n ++ found_by c m n) ++ finds (ticked p c m) ms n) (run p (ticked p c m) ms) × ((x : Post) → In x (shown_in reader_posts_at p (ticked p c m) ms) → IsPostOf (λ n. (h n ++ found_by c m n) ++ finds (ticked p c m) ms n) x)
+          → AllTold (λ n. h n ++ finds c (m ∷ ms) n) (run p c (m ∷ ms)) × ((x : Post) → In x (shown_in reader_posts_at p c (m ∷ ms)) → IsPostOf (λ n. h n ++ finds c (m ∷ ms) n) x)
       joined c vs m ms h k told rest = (
         λ n. subst (λ l. HasTold p n (Seen n) l (run p c (m ∷ ms))) (append_assoc (h n) (found_by c m n) (finds (ticked p c m) ms n)) (rest.0 n),
         λ x there. ⊎_elim
             (λ now. more_post h (λ n. finds c (m ∷ ms) n) x (tick_posts c vs m h k told x now))
             (λ later. let y = rest.1 x later in record { link = y.link; inside = y.inside; may = subst (λ l. MayPost y.link (Seen y.link) l x.id x.error) (append_assoc (h y.link) (found_by c m y.link) (finds (ticked p c m) ms y.link)) y.may })
-            (in_both (reader_posts_at c m) (shows_in reader_posts_at p (ticked p c m) ms) x there),
+            (in_both (reader_posts_at c m) (shown_in reader_posts_at p (ticked p c m) ms) x there),
       )
 
-      pub told_along : (ms : List Moment) (c : Core) (vs : List View) (h : ℕ → List Taking) → Sound p c vs → AreAnswered p c ms → AreFitting p c ms → Recorded p Q c vs → Keeping c vs h → AllTold h c → ((l : Load) → In l (shows_in loaded_at p c ms) → In l seen)
-          → AllTold (λ n. h n ++ finds c ms n) (run p c ms) × ((x : Post) → In x (shows_in reader_posts_at p c ms) → IsPostOf (λ n. h n ++ finds c ms n) x)
+      pub told_along : (ms : List Moment) (c : Core) (vs : List View) (h : ℕ → List Taking) → Sound p c vs → AreAnswered p c ms → AreFitting p c ms → Recorded p Q c vs → Keeping c vs h → AllTold h c → ((l : Load) → In l (shown_in loaded_at p c ms) → In l seen)
+          → AllTold (λ n. h n ++ finds c ms n) (run p c ms) × ((x : Post) → In x (shown_in reader_posts_at p c ms) → IsPostOf (λ n. h n ++ finds c ms n) x)
       told_along [] c vs h sound answered fitting recorded k told loads = (λ n. subst (λ l. HasTold p n (Seen n) l c) (sym (append-nil (h n))) (told n), λ x there. absurd there)
       told_along (m ∷ ms) c vs h sound answered fitting recorded k told loads = joined c vs m ms h k told
           (told_along ms (ticked p c m) (views_after p c vs m) (λ n. h n ++ found_by c m n) (sound_ticks p go c vs m sound answered.0 fitting.0) answered.1 fitting.1 (recorded_ticks p Q c vs m sound answered.0 fitting.0 recorded)
           (keeps_tick c vs m ms h sound answered fitting recorded k)
-          (λ n. told_ticks p n (Seen n) (h n) c m (told n) (loads_so c m (λ l there. loads l (in_left (loaded_at c m) (shows_in loaded_at p (ticked p c m) ms) l there)) n) (λ seat at far. others_none p calls os in_os Any (Unit {0}) ends_anyhow c vs h sound k m.seat seat at n far))
-          (λ l there. loads l (in_right (loaded_at c m) (shows_in loaded_at p (ticked p c m) ms) l there)))
+          (λ n. told_ticks p n (Seen n) (h n) c m (told n) (loads_so c m (λ l there. loads l (in_left (loaded_at c m) (shown_in loaded_at p (ticked p c m) ms) l there)) n) (λ seat at far. others_none p calls os in_os Any (Unit {0}) ends_anyhow c vs h sound k m.seat seat at n far))
+          (λ l there. loads l (in_right (loaded_at c m) (shown_in loaded_at p (ticked p c m) ms) l there)))
 
   -- ## What was found
 
@@ -116,10 +117,10 @@ module _ (p : Plan) (calls os : List ℕ) (in_os : (k o : ℕ) → get_elem? os 
       by_seat none z = absurd z
       by_seat (some seat) z = by_link (taken_link seat.program) (⊎_elim (λ e. inl e) (λ t. inr (t.link, t.takes)) (takes_or_not seat.program)) z
 
-  pub finds_taken : (ms : List Moment) (c : Core) (n : ℕ) (t : Taking) → In t (finds c ms n) → In (record { link = n; found = t }) (shows_in takes_at p c ms)
+  pub finds_taken : (ms : List Moment) (c : Core) (n : ℕ) (t : Taking) → In t (finds c ms n) → In (record { link = n; found = t }) (shown_in takes_at p c ms)
   finds_taken [] c n t there = absurd there
-  finds_taken (m ∷ ms) c n t there = ⊎_elim (λ now. in_left (takes_at c m) (shows_in takes_at p (ticked p c m) ms) (record { link = n; found = t }) (tick_take c m n t now))
-      (λ later. in_right (takes_at c m) (shows_in takes_at p (ticked p c m) ms) (record { link = n; found = t }) (finds_taken ms (ticked p c m) n t later)) (in_both (found_by c m n) (finds (ticked p c m) ms n) t there)
+  finds_taken (m ∷ ms) c n t there = ⊎_elim (λ now. in_left (takes_at c m) (shown_in takes_at p (ticked p c m) ms) (record { link = n; found = t }) (tick_take c m n t now))
+      (λ later. in_right (takes_at c m) (shown_in takes_at p (ticked p c m) ms) (record { link = n; found = t }) (finds_taken ms (ticked p c m) n t later)) (in_both (found_by c m n) (finds (ticked p c m) ms n) t there)
 
   -- the bytes are those that were answered
   last_gives : (b : Bool) (ts : List Taking) → given_by (map (at_last b) ts) ≡ given_by ts

@@ -31,7 +31,7 @@ use Rattle.attempted_calls.specs.Below.owed_calls.proofs.Owed.{opened_seats}
 use Rattle.attempted_calls.specs.Below.run_theorems.specs.Heard.{as_taken, bytes_found, taken_in, heard_takes, given_by}
 use Rattle.attempted_calls.specs.Below.run_theorems.proofs.Gave.{gave_heard}
 use Rattle.attempted_calls.specs.Below.run_theorems.proofs.HeardRuns.{taken_append}
-use Rattle.attempted_calls.specs.Below.call_stories.specs.Lists.{Take, takes_at, given, shows_in, takes_of_run, is_last, is_closed, is_no_more, found_so, is_fault, early_of_run}
+use Rattle.attempted_calls.specs.Below.call_stories.specs.Lists.{Take, takes_at, gave_in, takes_of_run, is_last, is_closed, is_no_more, found_so, is_fault, early_of_run}
 use Rattle.attempted_calls.specs.Below.call_stories.specs.Posts.{Post, posted_at, posts_of_run}
 use Rattle.attempted_calls.specs.Below.programs_allowed.proofs.Fresh.{opening_rights}
 use Rattle.attempted_calls.specs.accept_counts.specs.EndedCalls.{loaded_at, reader_posts_at, client_posts_at, loads_of_run, reader_posts_of_run, client_posts_of_run, EndedSo, IsEndPost}
@@ -42,6 +42,7 @@ use Rattle.attempted_calls.specs.accept_counts.proofs.ReaderRuns.{keeps_along}
 use Rattle.attempted_calls.specs.accept_counts.proofs.Lists.{any_in, in_range}
 use Rattle.attempted_calls.specs.accept_counts.proofs.Takeless.{NoTakes, ending_takes, takes_next}
 use Rattle.corr_core.proofs.Notes.{at_length}
+use Rattle.attempted_calls.specs.Below.outcome_stories.specs.Facts.{shown_in}
 
 module _ (script : List Item) (made : AreMade script) (turns : List Turn) (core : Core) (is : IsRunWithCalls script turns core) where
   abbrev K : Core → List View → (ℕ → List Taking) → Type 0
@@ -86,7 +87,7 @@ module _ (script : List Item) (made : AreMade script) (turns : List Turn) (core 
 
   -- ## What is said of the parts
 
-  pub setup_part : T h₁ (set_up script is.setup) × ((x : Post) → In x (shows_in reader_posts_at (plan_of script) (opened script) (in_setup is)) → P h₁ x)
+  pub setup_part : T h₁ (set_up script is.setup) × ((x : Post) → In x (shown_in reader_posts_at (plan_of script) (opened script) (in_setup is)) → P h₁ x)
   setup_part = told_along (plan_of script) (calls script) (opens script) (let k = known script made turns core is in k.in_script) (loads_of_run script turns core is) (IsListed script) (go script made turns core is) (in_setup is) (opened script) (first_views script) (λ n. [])
       (let s = start script made turns core is in s.sound) (set_up_answered script made.are (first_views script) (start script made turns core is) (go script made turns core is) turns core is (fitting script made turns core is)) (let f = fitting script made turns core is in f.of_setup)
       (recorded_opened script made.are (first_views script) (start script made turns core is) (go script made turns core is) turns core is (fitting script made turns core is)) opened_keeps opened_told
@@ -97,7 +98,7 @@ module _ (script : List Item) (made : AreMade script) (turns : List Turn) (core 
       (let s = start script made turns core is in s.sound) (set_up_answered script made.are (first_views script) (start script made turns core is) (go script made turns core is) turns core is (fitting script made turns core is)) (let f = fitting script made turns core is in f.of_setup)
       (recorded_opened script made.are (first_views script) (start script made turns core is) (go script made turns core is) turns core is (fitting script made turns core is)) (λ e. tt) opened_keeps
 
-  pub clients_part : T h₂ (played script is.setup (in_clients is)) × ((x : Post) → In x (shows_in reader_posts_at (plan_of script) (set_up script is.setup) (in_clients is)) → P h₂ x)
+  pub clients_part : T h₂ (played script is.setup (in_clients is)) × ((x : Post) → In x (shown_in reader_posts_at (plan_of script) (set_up script is.setup) (in_clients is)) → P h₂ x)
   clients_part = told_along (plan_of script) (calls script) (opens script) (let k = known script made turns core is in k.in_script) (loads_of_run script turns core is) (IsListed script) (go script made turns core is) (in_clients is) (set_up script is.setup) (views_along (plan_of script) (opened script) (first_views script) (in_setup is)) h₁
       (set_up_sound script made.are (first_views script) (start script made turns core is) (go script made turns core is) turns core is (fitting script made turns core is)) is.answered (let f = fitting script made turns core is in f.of_played)
       (recorded_set_up script made.are (first_views script) (start script made turns core is) (go script made turns core is) turns core is (fitting script made turns core is)) set_up_keeps setup_part.0
@@ -122,7 +123,7 @@ module _ (script : List Item) (made : AreMade script) (turns : List Turn) (core 
   pub closing_told : T h₂ (closing_of script turns core is)
   closing_told n seat at = clients_part.0 n seat (sym (set_else (played script is.setup (in_clients is)).seats 0 (32 + n) _ (λ e. let z : ⊥ = omega (arith, e) in z)) ∙ at)
 
-  closing_part : T h₃ (run (plan_of script) (closing_of script turns core is) (in_closing is)) × ((x : Post) → In x (shows_in reader_posts_at (plan_of script) (closing_of script turns core is) (in_closing is)) → P h₃ x)
+  closing_part : T h₃ (run (plan_of script) (closing_of script turns core is) (in_closing is)) × ((x : Post) → In x (shown_in reader_posts_at (plan_of script) (closing_of script turns core is) (in_closing is)) → P h₃ x)
   closing_part = told_along (plan_of script) (calls script) (opens script) (let k = known script made turns core is in k.in_script) (loads_of_run script turns core is) (IsListed script) (go script made turns core is) (in_closing is) (closing_of script turns core is) (views_played script turns core is (first_views script)) h₂
       (closing_sound script made.are (first_views script) (start script made turns core is) (go script made turns core is) turns core is (fitting script made turns core is))
       (end_answered script made.are (first_views script) (start script made turns core is) (go script made turns core is) turns core is (fitting script made turns core is)) (let f = fitting script made turns core is in f.of_closing)
@@ -142,7 +143,7 @@ module _ (script : List Item) (made : AreMade script) (turns : List Turn) (core 
   pub closed_told : T h₃ is.ended
   closed_told = subst (λ d. T h₃ d) (sym is.is_ended) (λ n seat at. closing_part.0 n seat at)
 
-  final_part : T h₄ (run (plan_of script) is.ended is.final) × ((x : Post) → In x (shows_in reader_posts_at (plan_of script) is.ended is.final) → P h₄ x)
+  final_part : T h₄ (run (plan_of script) is.ended is.final) × ((x : Post) → In x (shown_in reader_posts_at (plan_of script) is.ended is.final) → P h₄ x)
   final_part = told_along (plan_of script) (calls script) (opens script) (let k = known script made turns core is in k.in_script) (loads_of_run script turns core is) (IsListed script) (go script made turns core is) is.final is.ended (views_closed script turns core is (first_views script)) h₃
       (closed_sound script made.are (first_views script) (start script made turns core is) (go script made turns core is) turns core is (fitting script made turns core is)) is.answered_again (let f = fitting script made turns core is in f.of_final)
       (recorded_closed script made.are (first_views script) (start script made turns core is) (go script made turns core is) turns core is (fitting script made turns core is)) closed_keeps closed_told
@@ -157,9 +158,9 @@ module _ (script : List Item) (made : AreMade script) (turns : List Turn) (core 
       (λ a. more h₃ (F is.ended is.final) x (more h₂ (F (closing_of script turns core is) (in_closing is)) x (more h₁ (F (set_up script is.setup) (in_clients is)) x (setup_part.1 x a))))
       (λ b. ⊎_elim (λ a. more h₃ (F is.ended is.final) x (more h₂ (F (closing_of script turns core is) (in_closing is)) x (clients_part.1 x a)))
       (λ b. ⊎_elim (λ a. more h₃ (F is.ended is.final) x (closing_part.1 x a)) (λ a. final_part.1 x a)
-      (in_both (shows_in reader_posts_at (plan_of script) (closing_of script turns core is) (in_closing is)) (shows_in reader_posts_at (plan_of script) is.ended is.final) x b))
-      (in_both (shows_in reader_posts_at (plan_of script) (set_up script is.setup) (in_clients is)) (shows_in reader_posts_at (plan_of script) (closing_of script turns core is) (in_closing is) ++ shows_in reader_posts_at (plan_of script) is.ended is.final) x b))
-      (in_both (shows_in reader_posts_at (plan_of script) (opened script) (in_setup is)) (shows_in reader_posts_at (plan_of script) (set_up script is.setup) (in_clients is) ++ (shows_in reader_posts_at (plan_of script) (closing_of script turns core is) (in_closing is) ++ shows_in reader_posts_at (plan_of script) is.ended is.final)) x there)
+      (in_both (shown_in reader_posts_at (plan_of script) (closing_of script turns core is) (in_closing is)) (shown_in reader_posts_at (plan_of script) is.ended is.final) x b))
+      (in_both (shown_in reader_posts_at (plan_of script) (set_up script is.setup) (in_clients is)) (shown_in reader_posts_at (plan_of script) (closing_of script turns core is) (in_closing is) ++ shown_in reader_posts_at (plan_of script) is.ended is.final) x b))
+      (in_both (shown_in reader_posts_at (plan_of script) (opened script) (in_setup is)) (shown_in reader_posts_at (plan_of script) (set_up script is.setup) (in_clients is) ++ (shown_in reader_posts_at (plan_of script) (closing_of script turns core is) (in_closing is) ++ shown_in reader_posts_at (plan_of script) is.ended is.final)) x there)
 
   -- ## What was taken
 
@@ -201,26 +202,26 @@ module _ (script : List Item) (made : AreMade script) (turns : List Turn) (core 
   listed holds k low good = in_contains (filter holds (from_to 0 (plan_of script).links)) k (filtered_in holds (from_to 0 (plan_of script).links) k (in_range 0 (plan_of script).links k (omega arith) (omega (arith, low))) good)
 
   module _ (bytes : List ℕ) (reads : script_of bytes ≡ Ok script) (k : ℕ) (low : k < (plan_of script).links) where
-    same : given core k ≡ given_by (h₄ k)
+    same : gave_in core k ≡ given_by (h₄ k)
     same = gave_heard bytes script reads turns core is k low ∙ sym (all_given k)
 
     either : (a b : Bool) → b ≡ true → (a || b) ≡ true
     either true b e = refl
     either false b e = e
 
-    early : (found_so script turns core is (is_last script turns core is) k || (is_fault script turns core is (stream (given core k)).ending || nat_le LIMIT (length (given core k)))) ≡ true → Contains (early_of_run script turns core is) k
-    early e = listed (λ n. found_so script turns core is (is_last script turns core is) n || (is_fault script turns core is (stream (given core n)).ending || nat_le LIMIT (length (given core n)))) k low e
+    early : (found_so script turns core is (is_last script turns core is) k || (is_fault script turns core is (stream (gave_in core k)).ending || nat_le LIMIT (length (gave_in core k)))) ≡ true → Contains (early_of_run script turns core is) k
+    early e = listed (λ n. found_so script turns core is (is_last script turns core is) n || (is_fault script turns core is (stream (gave_in core n)).ending || nat_le LIMIT (length (gave_in core n)))) k low e
 
     by_take : (t : Taking) → In t (h₄ k) → is_last script turns core is t ≡ true → Contains (early_of_run script turns core is) k
-    by_take t there good = early (ap (λ b. b || (is_fault script turns core is (stream (given core k)).ending || nat_le LIMIT (length (given core k)))) (found_here (is_last script turns core is) k t there good))
+    by_take t there good = early (ap (λ b. b || (is_fault script turns core is (stream (gave_in core k)).ending || nat_le LIMIT (length (gave_in core k)))) (found_here (is_last script turns core is) k t there good))
 
-    spoilt : (is_fault script turns core is (stream (given core k)).ending || nat_le LIMIT (length (given core k))) ≡ true → Contains (early_of_run script turns core is) k
-    spoilt e = early (either (found_so script turns core is (is_last script turns core is) k) (is_fault script turns core is (stream (given core k)).ending || nat_le LIMIT (length (given core k))) e)
+    spoilt : (is_fault script turns core is (stream (gave_in core k)).ending || nat_le LIMIT (length (gave_in core k))) ≡ true → Contains (early_of_run script turns core is) k
+    spoilt e = early (either (found_so script turns core is (is_last script turns core is) k) (is_fault script turns core is (stream (gave_in core k)).ending || nat_le LIMIT (length (gave_in core k))) e)
 
     ended_early : EndedBy (h₄ k) → Contains (early_of_run script turns core is) k
     ended_early (inl m) = by_take AtEnd m refl
-    ended_early (inr (inl f)) = spoilt (ap (λ b. b || nat_le LIMIT (length (given core k))) (ap (is_fault script turns core is) (ap (λ l. (stream l).ending) same ∙ f.2)))
-    ended_early (inr (inr (inl l))) = spoilt (either (is_fault script turns core is (stream (given core k)).ending) (nat_le LIMIT (length (given core k))) (le-leb LIMIT (length (given core k)) (let e = ap length same in omega (arith, e, l))))
+    ended_early (inr (inl f)) = spoilt (ap (λ b. b || nat_le LIMIT (length (gave_in core k))) (ap (is_fault script turns core is) (ap (λ l. (stream l).ending) same ∙ f.2)))
+    ended_early (inr (inr (inl l))) = spoilt (either (is_fault script turns core is (stream (gave_in core k)).ending) (nat_le LIMIT (length (gave_in core k))) (le-leb LIMIT (length (gave_in core k)) (let e = ap length same in omega (arith, e, l))))
     ended_early (inr (inr (inr m))) = by_take Broken m refl
 
     pub ended_so : (code : ℕ) → WasOver code (h₄ k) → EndedSo script turns core is k code
@@ -257,22 +258,22 @@ module _ (script : List Item) (made : AreMade script) (turns : List Turn) (core 
       by true = inr there
       by false = inl there
 
-  ticks_split : (ms : List Moment) (c : Core) (x : Post) → In x (shows_in posted_at (plan_of script) c ms) → In x (shows_in client_posts_at (plan_of script) c ms) ⊎ In x (shows_in reader_posts_at (plan_of script) c ms)
+  ticks_split : (ms : List Moment) (c : Core) (x : Post) → In x (shown_in posted_at (plan_of script) c ms) → In x (shown_in client_posts_at (plan_of script) c ms) ⊎ In x (shown_in reader_posts_at (plan_of script) c ms)
   ticks_split [] c x there = absurd there
   ticks_split (m ∷ ms) c x there = ⊎_elim
-      (λ a. ⊎_elim (λ b. inl (in_left (client_posts_at c m) (shows_in client_posts_at (plan_of script) (ticked (plan_of script) c m) ms) x b)) (λ b. inr (in_left (reader_posts_at c m) (shows_in reader_posts_at (plan_of script) (ticked (plan_of script) c m) ms) x b)) (tick_split c m x a))
-      (λ a. ⊎_elim (λ b. inl (in_right (client_posts_at c m) (shows_in client_posts_at (plan_of script) (ticked (plan_of script) c m) ms) x b)) (λ b. inr (in_right (reader_posts_at c m) (shows_in reader_posts_at (plan_of script) (ticked (plan_of script) c m) ms) x b)) (ticks_split ms (ticked (plan_of script) c m) x a))
-      (in_both (posted_at c m) (shows_in posted_at (plan_of script) (ticked (plan_of script) c m) ms) x there)
+      (λ a. ⊎_elim (λ b. inl (in_left (client_posts_at c m) (shown_in client_posts_at (plan_of script) (ticked (plan_of script) c m) ms) x b)) (λ b. inr (in_left (reader_posts_at c m) (shown_in reader_posts_at (plan_of script) (ticked (plan_of script) c m) ms) x b)) (tick_split c m x a))
+      (λ a. ⊎_elim (λ b. inl (in_right (client_posts_at c m) (shown_in client_posts_at (plan_of script) (ticked (plan_of script) c m) ms) x b)) (λ b. inr (in_right (reader_posts_at c m) (shown_in reader_posts_at (plan_of script) (ticked (plan_of script) c m) ms) x b)) (ticks_split ms (ticked (plan_of script) c m) x a))
+      (in_both (posted_at c m) (shown_in posted_at (plan_of script) (ticked (plan_of script) c m) ms) x there)
 
   -- each post is one by a client, or one by a reader
   pub posts_split : (x : Post) → In x (posts_of_run script turns core is) → In x (client_posts_of_run script turns core is) ⊎ In x (reader_posts_of_run script turns core is)
   posts_split x there = ⊎_elim (λ a. first_ (split (in_setup is) (opened script) a))
       (λ b. ⊎_elim (λ a. second (split (in_clients is) (set_up script is.setup) a))
-      (λ b. ⊎_elim (λ a. third (split (in_closing is) (closing_of script turns core is) a)) (λ a. fourth (split is.final is.ended a)) (in_both (shows_in posted_at (plan_of script) (closing_of script turns core is) (in_closing is)) (shows_in posted_at (plan_of script) is.ended is.final) x b))
-      (in_both (shows_in posted_at (plan_of script) (set_up script is.setup) (in_clients is)) (shows_in posted_at (plan_of script) (closing_of script turns core is) (in_closing is) ++ shows_in posted_at (plan_of script) is.ended is.final) x b))
-      (in_both (shows_in posted_at (plan_of script) (opened script) (in_setup is)) (shows_in posted_at (plan_of script) (set_up script is.setup) (in_clients is) ++ (shows_in posted_at (plan_of script) (closing_of script turns core is) (in_closing is) ++ shows_in posted_at (plan_of script) is.ended is.final)) x there)
+      (λ b. ⊎_elim (λ a. third (split (in_closing is) (closing_of script turns core is) a)) (λ a. fourth (split is.final is.ended a)) (in_both (shown_in posted_at (plan_of script) (closing_of script turns core is) (in_closing is)) (shown_in posted_at (plan_of script) is.ended is.final) x b))
+      (in_both (shown_in posted_at (plan_of script) (set_up script is.setup) (in_clients is)) (shown_in posted_at (plan_of script) (closing_of script turns core is) (in_closing is) ++ shown_in posted_at (plan_of script) is.ended is.final) x b))
+      (in_both (shown_in posted_at (plan_of script) (opened script) (in_setup is)) (shown_in posted_at (plan_of script) (set_up script is.setup) (in_clients is) ++ (shown_in posted_at (plan_of script) (closing_of script turns core is) (in_closing is) ++ shown_in posted_at (plan_of script) is.ended is.final)) x there)
     where
-      split : (ms : List Moment) (c : Core) → In x (shows_in posted_at (plan_of script) c ms) → In x (shows_in client_posts_at (plan_of script) c ms) ⊎ In x (shows_in reader_posts_at (plan_of script) c ms)
+      split : (ms : List Moment) (c : Core) → In x (shown_in posted_at (plan_of script) c ms) → In x (shown_in client_posts_at (plan_of script) c ms) ⊎ In x (shown_in reader_posts_at (plan_of script) c ms)
       split ms c a = ticks_split ms c x a
 
       open parts client_posts_at is use {setup as c₁, clients as c₂, closing as c₃, final as c₄}

@@ -26,13 +26,14 @@ use Rattle.attempted_calls.specs.Below.script_facts.proofs.Reading.{InRange}
 use Rattle.attempted_calls.specs.Below.script_facts.proofs.Targets.{AreThere}
 use Rattle.attempted_calls.specs.Below.call_owing.specs.Lives.{ClosesInRun}
 use Rattle.attempted_calls.specs.Below.run_theorems.proofs.Gave.{gave_heard}
-use Rattle.attempted_calls.specs.Below.call_stories.specs.Lists.{given, shows_in_run, soon_of_run}
+use Rattle.attempted_calls.specs.Below.call_stories.specs.Lists.{gave_in, soon_of_run}
 use Rattle.attempted_calls.specs.Below.call_stories.specs.Decided.{decided_by}
 use Rattle.attempted_calls.specs.Below.story_steps.proofs.Whys.{in_contains}
 use Rattle.attempted_calls.specs.Below.call_causes.proofs.HandledWhole.{PostedLate, soon_behind, silent_of_readers, failed_inside}
 use Rattle.attempted_calls.specs.sent_once.proofs.Beside.{gave_of_run, fixed_of_run, orders_here}
 use Rattle.attempted_calls.specs.Below.outcome_stories.specs.Stories.{In}
 use Rattle.sock_words.specs.Words.{id_slot, id_first}
+use Rattle.attempted_calls.specs.Below.outcome_stories.specs.Facts.{shown_in_run}
 
 pub some_response : (r : Option ResponseMeta) → IsSome r → has_response r ≡ true
 some_response (Some r) e = refl
@@ -50,7 +51,7 @@ module _ (script : List Item) (made : AreMade script) (there : AreThere script) 
   inside : (id_slot id < (id_plan_of script).slots) × (id_first id + asked.range ≤ 67108856)
   inside = failed_inside script made there range turns core is closes client t asked id code is_task op has
 
-  there_too : (m : ℕ) (frame : Frame) → Gives m frame → slice_get (stream (given core k)).frames m ≡ Some frame
+  there_too : (m : ℕ) (frame : Frame) → Gives m frame → slice_get (stream (gave_in core k)).frames m ≡ Some frame
   there_too m frame g = subst (λ b. slice_get (stream b).frames m ≡ Some frame) (sym (gave_heard bytes script reads turns core is k g.0)) g.1
 
   slot_is : (frame : Frame) → Responds frame → slot_in frame ≡ id_slot id
@@ -71,6 +72,6 @@ module _ (script : List Item) (made : AreMade script) (there : AreThere script) 
       (soon_behind script made there range turns core is k o at (record { id = id; error = e }) posted m frame (there_too m frame g) (responds frame r) (slot_is frame r) (behind frame r))
 
   -- where it decided on the error, as whoever ends a call by it
-  pub unanswered_where_decided : (e n : ℕ) → In (record { id = id; asked = asked; error = e }) (shows_in_run script turns core is (decided_by (32 + k))) → (m : ℕ) (frame : Frame) → Gives m frame → Responds frame
+  pub unanswered_where_decided : (e n : ℕ) → In (record { id = id; asked = asked; error = e }) (shown_in_run script turns core is (decided_by (32 + k))) → (m : ℕ) (frame : Frame) → Gives m frame → Responds frame
       → (IsPlaced (plan_of script) (all_tasks script) core.outcomes (fixed_of_run script made turns core is closes) (gave_of_run script made turns core is closes) (orders_here script made turns core is closes) t.number n → ⊥) × Contains (soon_of_run script turns core is) (k, m)
   unanswered_where_decided e n decided m frame g r = absurd (silent_of_readers script made there range turns core is k o at (record { id = id; asked = asked; error = e }) decided m frame (there_too m frame g) (responds frame r) (slot_is frame r) (behind frame r) (before frame r))

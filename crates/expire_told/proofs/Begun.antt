@@ -10,7 +10,6 @@ use Rattle.sock_io.specs.Link.{OutState}
 use Rattle.sock_words.specs.declared.plain.Plan.{Plan}
 use Rattle.seat_programs.specs.declared.task.Op.TheVariants as ops
 use Rattle.seat_programs.specs.declared.task.Task.{Task}
-use Rattle.corr_core.specs.Law.{total}
 use Rattle.corr_core.specs.declared.marks.Plan as id_plan
 use Rattle.corr_core.specs.declared.marks.View.{View}
 use Rattle.corr_core.proofs.Notes.{only-else}
@@ -23,6 +22,7 @@ use Rattle.call_told.proofs.Growing.{Grows, own_at}
 use Rattle.call_told.proofs.Lists.{all_at}
 use Rattle.call_told.proofs.Moves.{Fits, Moves, retried_here, begun_by, BeginsCall, acted_or, made_moves}
 use Rattle.call_told.proofs.Coming.{begun_later, made_begun}
+use Rattle.sock_words.specs.Totals.{total}
 
 module _ (q : id_plan.Plan) where
   -- one of the first operations is this call, and it has begun

@@ -23,7 +23,7 @@ use Rattle.seat_programs.specs.declared.task.Op.TheVariants as ops
 use Rattle.seat_programs.specs.declared.task.Task.{Task}
 use Rattle.seat_programs.specs.Told.{HaveOwnLinks, AreTasks, IsTask, Became}
 use Rattle.corr_core.specs.Word.{parts}
-use Rattle.corr_core.specs.Law.{total, is_ended}
+use Rattle.corr_core.specs.Law.{is_ended}
 use Rattle.corr_core.specs.declared.marks.Kept.{Kept}
 use Rattle.corr_core.specs.declared.marks.Note.{Note}
 use Rattle.corr_core.specs.declared.marks.Noted.{Noted}
@@ -65,6 +65,7 @@ use Rattle.expire_told.proofs.Making.{before_in, owned, placed, same_stored}
 use Rattle.expire_told.proofs.Expiring.{EndsAs, timed_out_word, timed_out_ends}
 use Rattle.call_told.specs.call_places.specs.sock_deeds.proofs.Places.{map_back, to_elem, map_there}
 use Rattle.sock_words.specs.Words.{id_slot, id_first}
+use Rattle.sock_words.specs.Totals.{total}
 
 -- ## Calls have their own numbers
 

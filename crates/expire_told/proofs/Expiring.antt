@@ -5,7 +5,7 @@ use Rattle.sock_words.specs.Codes.{EINTERNAL, ERPCTIMEDOUT}
 use Rattle.sock_words.specs.declared.outcome.Outcome.{Outcome}
 use Rattle.sock_words.specs.declared.outcome.Outcome.TheVariants as outcome
 use Rattle.corr_core.specs.Word.{parts}
-use Rattle.corr_core.specs.Law.{total, is_ended}
+use Rattle.corr_core.specs.Law.{is_ended}
 use Rattle.corr_core.specs.declared.marks.Kept.{Kept}
 use Rattle.corr_core.specs.declared.marks.Note.TheVariants.{Ended}
 use Rattle.corr_core.specs.declared.marks.Noted.{Noted}
@@ -30,6 +30,7 @@ use Rattle.call_told.proofs.Ends.{HasLocked, got_locked, counted_here}
 use Rattle.call_told.proofs.Resting.{is_word}
 use Rattle.call_told.proofs.Moves.{posted, decided}
 use Rattle.sock_words.specs.Words.{id_slot, id_first}
+use Rattle.sock_words.specs.Totals.{total}
 
 -- where memory is there behind it, the end is told
 ended_told : (k : IdLock Asked) (code : ℕ) (s t : CallStand) → t.books.starved ≡ false → EndedWith k code s t → t.books.told ≡ s.books.told ++ failed k code ∷ []

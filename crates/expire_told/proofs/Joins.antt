@@ -21,7 +21,6 @@ use Rattle.seat_programs.specs.Told.{AreTasks, IsTask, Became}
 use Rattle.seat_programs.specs.ToldCalls.{Fixed, Order, MayNotHaveBegun, WhyJoin}
 use Rattle.seat_programs.specs.ToldCalls as told_calls
 use Rattle.corr_core.specs.Word.{parts}
-use Rattle.corr_core.specs.Law.{total}
 use Rattle.corr_core.specs.declared.marks.Kept.{Kept}
 use Rattle.corr_core.specs.declared.marks.Noted.{Noted}
 use Rattle.corr_core.specs.declared.marks.Plan as id_plan
@@ -54,6 +53,7 @@ use Rattle.expire_told.proofs.Making.{before_in, placed}
 use Rattle.expire_told.proofs.Expires.{with_outcome, call_acted, InOrder, fits, tasks_at, IsMade, made_of, own_told, one_stored, IsMaker, found_maker, stands_before, earlier_told}
 use Rattle.expire_told.proofs.Whole.{maker_begun}
 use Rattle.sock_words.specs.Words.{id_slot, id_first}
+use Rattle.sock_words.specs.Totals.{total}
 
 -- a `join` has an outcome, by what was done
 join_acted : {O : Type 0} {g : Ghosts O} (state : O → OutState) (p : Plan) (q : id_plan.Plan) (number of : ℕ) (op : Op) (by : Option Outcome) (s t : Stand g) → op ≡ ops.Join of → Acted state p q number op by s t → (o : Outcome) × (by ≡ Some o) × JoinedBy q of o s.calls t.calls

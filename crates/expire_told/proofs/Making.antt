@@ -5,7 +5,7 @@ use mathlib.Core.Option.{some, some-injective, some-ne-none}
 use native.Mathlib.Decide.{ℕ_discrete}
 use lib.ListN.{get_elem?}
 use Rattle.brpc_model.specs.Order.{EachBefore}
-use Rattle.corr_core.specs.Law.{total, only, pair}
+use Rattle.corr_core.specs.Law.{only, pair}
 use Rattle.corr_core.specs.declared.marks.Kept.{Kept}
 use Rattle.corr_core.specs.declared.marks.View.{View}
 use Rattle.corr_core.proofs.Notes.{pair_le, total_mono}
@@ -17,6 +17,7 @@ use Rattle.call_told.proofs.Growing.{Grows, own_at}
 use Rattle.call_told.proofs.Least.{all_kept, apart_sum, stored_apart}
 use Rattle.call_told.proofs.Lists.{all_at}
 use Rattle.expire_told.specs.Said.{HaveKeptOf}
+use Rattle.sock_words.specs.Totals.{total}
 
 -- ## Lists by places
 

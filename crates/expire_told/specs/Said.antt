@@ -10,12 +10,12 @@ use Rattle.seat_programs.specs.declared.task.Op.TheVariants as ops
 use Rattle.seat_programs.specs.declared.task.Task.{Task}
 use Rattle.seat_programs.specs.Told.{IsTask, Became}
 use Rattle.seat_programs.specs.ToldCalls.{Fixed, Order, HasBegun, MayNotHaveBegun}
-use Rattle.corr_core.specs.Law.{total}
 use Rattle.corr_core.specs.declared.marks.Kept.{Kept}
 use Rattle.corr_core.specs.declared.marks.View.{View}
 use Rattle.id_rule.specs.Lawful.{is_stored}
 use Rattle.sock_message.specs.Asked.{Asked}
 use Rattle.call_told.specs.Below.RpcClient.Told.{Told}
+use Rattle.sock_words.specs.Totals.{total}
 
 -- whatever one of these told is what became of that operation
 abbrev pub AreSaid : List (Option Outcome) → List (List Told) → Type 0

@@ -7,7 +7,7 @@ use lib.ListN.{get_elem?}
 use Rattle.sock_words.specs.Codes.{EEOF}
 use Rattle.sock_words.specs.declared.plain.Plan as sizes
 use Rattle.sock_io.specs.declared.link.Out.{Ghosts}
-use Rattle.corr_core.specs.Law.{total, is_made, is_ended}
+use Rattle.corr_core.specs.Law.{is_made, is_ended}
 use Rattle.corr_core.specs.Word.{Parts, parts}
 use Rattle.corr_core.specs.declared.marks.Kept.{Kept}
 use Rattle.corr_core.specs.declared.marks.Note.TheVariants.{Made}
@@ -29,6 +29,7 @@ use Rattle.failed_reasons.proofs.Ends.{ReadEnded}
 use Rattle.failed_ends.proofs.Unmet.{NotesIn, HasMet, has_asked, reader_unanswered, reader_unwaited}
 use Rattle.failed_reasons.proofs.Waits.{WaitsAt}
 use Rattle.failed_reasons.specs.call_whys.specs.call_places.proofs.Weights.{two_terms}
+use Rattle.sock_words.specs.Totals.{total}
 
 module _ (q : Plan) (notes : List (Noted Asked)) (kept : List Kept) (words : List ℕ) (closed : Closing q notes kept words) where
   -- a range is made once, with one length

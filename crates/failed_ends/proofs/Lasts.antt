@@ -4,7 +4,7 @@ use mathlib.Core.Logic.{dite}
 use mathlib.Core.Option.{some, some-injective}
 use native.Mathlib.Decide.{ℕ_discrete, dec_lt}
 use lib.ListN.{get_elem?}
-use Rattle.corr_core.specs.Law.{total, is_attempt, is_ended_at}
+use Rattle.corr_core.specs.Law.{is_attempt, is_ended_at}
 use Rattle.corr_core.specs.declared.marks.Kept.{Kept}
 use Rattle.corr_core.specs.declared.marks.Note.TheVariants.{Made}
 use Rattle.corr_core.specs.declared.marks.Noted.{Noted}
@@ -20,6 +20,7 @@ use Rattle.failed_reasons.specs.call_whys.specs.call_told.specs.Least.{is_made_f
 use Rattle.failed_reasons.specs.attempts_told.specs.Attempts.{last_attempt}
 use Rattle.failed_reasons.specs.attempts_told.proofs.Last.{one_reached}
 use Rattle.failed_ends.proofs.Single.{made_note}
+use Rattle.sock_words.specs.Totals.{total}
 
 same_first : (f g r s : ℕ) (a b : Asked) → Made f r a ≡ Made g s b → f ≡ g
 same_first f g r s a b e = cc

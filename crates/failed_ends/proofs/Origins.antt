@@ -23,7 +23,7 @@ use Rattle.seat_programs.specs.declared.task.Op.{Op}
 use Rattle.seat_programs.specs.declared.task.Op.TheVariants as ops
 use Rattle.seat_programs.specs.declared.task.Task.{Task}
 use Rattle.corr_core.specs.Word.{Parts, parts}
-use Rattle.corr_core.specs.Law.{total, is_queued, is_attempt, is_ended_at}
+use Rattle.corr_core.specs.Law.{is_queued, is_attempt, is_ended_at}
 use Rattle.corr_core.specs.declared.marks.Note.{Note}
 use Rattle.corr_core.specs.declared.marks.Note.TheVariants.{Made, Queued}
 use Rattle.corr_core.specs.declared.marks.Noted.{Noted}
@@ -76,6 +76,7 @@ use Rattle.failed_reasons.specs.Reasons.{Counts, StillHas, IsBehind, WasDropped,
 use Rattle.failed_reasons.specs.Missed.{delivery_missed, attempt_missed, went_missed, retry_missed, acted_missed, acted_id, IsMadeBy, IsBacked, socks_behind}
 use Rattle.failed_reasons.proofs.Keeping.{still_as, still_then, wrote_still, drop_still}
 use Rattle.failed_reasons.proofs.Views.{queued_silent, queued_in, advanced_in, Later, later_then, Stays, Steps, one_silent, queued_one, same_stays, then_stays, did_later, did_stays, quiet_stays, kept_stays, ended_stays, ended_over, got_stays, opened_stays, handed_stays, handed_later, opened_steps, handed_steps}
+use Rattle.sock_words.specs.Totals.{total}
 
 -- the lock that was got has the word that was found
 got_seen : (v w : View Asked) (word : ℕ) (k : IdLock Asked) → GotLock k.slot v w word (parts k.word.0) k.content → IsSeen w k

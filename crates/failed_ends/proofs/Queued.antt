@@ -13,7 +13,6 @@ use Rattle.sock_words.specs.declared.place_word.PlaceWord.{PlaceWord}
 use Rattle.sock_words.specs.declared.vref.Vref.{Vref}
 use Rattle.seat_programs.specs.declared.task.Task.{Task}
 use Rattle.seat_programs.specs.ToldCalls.{Fixed, Order}
-use Rattle.corr_core.specs.Law.{total}
 use Rattle.corr_core.specs.Word.{code_of}
 use Rattle.corr_core.specs.declared.marks.Noted.{Noted}
 use Rattle.corr_core.specs.declared.marks.Plan as id_plan
@@ -34,6 +33,7 @@ use Rattle.failed_ends.proofs.Posters.{reason_low, code_is}
 use Rattle.failed_reasons.proofs.Views.{queued_in}
 use Rattle.failed_reasons.proofs.Taken.{OthersRead}
 use Rattle.seat_programs.specs.brpc_model.specs.Why.{IsPosted}
+use Rattle.sock_words.specs.Totals.{total}
 
 module _ (p : Plan) (clients : List (List Task)) (outcomes : List (Option Outcome)) (fixed : Fixed) (gave : ℕ → List ℕ) (orders : ℕ → Order) where
   abbrev PostedHere : ℕ → Type 0

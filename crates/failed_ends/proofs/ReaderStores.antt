@@ -24,7 +24,7 @@ use Rattle.sock_model.specs.Layout.{open_index}
 use Rattle.sock_model.specs.Marks.{about, at}
 use Rattle.sock_model.specs.Seats.{newcomer}
 use Rattle.sock_model.specs.SlotRows.{marks_of}
-use Rattle.sock_model.specs.Weights.{is_stored, pair, total}
+use Rattle.sock_model.specs.Weights.{is_stored, pair}
 use Rattle.failed_reasons.specs.call_whys.specs.call_places.specs.outcome_stories.specs.program_walks.specs.slot_steps.proofs.Numbers.{pair_is}
 use Rattle.failed_reasons.specs.call_whys.specs.call_places.specs.outcome_stories.specs.program_walks.specs.slot_steps.proofs.Sums.{about-here, about-other}
 use Rattle.failed_reasons.specs.Below.SockRule.Becoming.{Became}
@@ -47,6 +47,7 @@ use Rattle.failed_reasons.specs.call_whys.specs.call_places.specs.sock_deeds.pro
 use Rattle.failed_reasons.specs.call_whys.specs.call_places.specs.sock_deeds.proofs.DropCodes.{StoredByReader, first_found}
 use Rattle.failed_reasons.proofs.Ends.{EndedIf, ReadEnded}
 use Rattle.failed_reasons.specs.call_whys.specs.call_places.specs.sock_deeds.proofs.Places.{map_back, map_there}
+use Rattle.sock_words.specs.Totals.{total}
 
 -- ## Notes that are no codes
 

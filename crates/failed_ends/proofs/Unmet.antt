@@ -10,7 +10,7 @@ use Rattle.sock_words.specs.declared.socket_id.SocketId.{SocketId}
 use Rattle.sock_model.specs.declared.view.View as sock_view
 use Rattle.sock_io.specs.declared.link.Out.{Ghosts}
 use Rattle.sock_io.specs.Link.{InState}
-use Rattle.corr_core.specs.Law.{total, is_ended}
+use Rattle.corr_core.specs.Law.{is_ended}
 use Rattle.corr_core.specs.Word.{parts}
 use Rattle.corr_core.specs.declared.marks.Kept.{Kept}
 use Rattle.corr_core.specs.declared.marks.Note.{Note}
@@ -36,6 +36,7 @@ use Rattle.failed_reasons.proofs.Ends.{EndedIf, ReadEnded}
 use Rattle.failed_reasons.proofs.Posts.{frames_stay}
 use Rattle.failed_reasons.proofs.Views.{queued_in}
 use Rattle.failed_reasons.proofs.Waits.{WaitsAt, Waits, waits_none, waits_then, all_waits}
+use Rattle.sock_words.specs.Totals.{total}
 
 -- all that a seat noted is among these
 abbrev pub NotesIn : View Asked → List (Noted Asked) → Type 0

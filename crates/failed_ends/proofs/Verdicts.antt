@@ -18,7 +18,6 @@ use Rattle.seat_programs.specs.declared.task.Task.{Task}
 use Rattle.seat_programs.specs.Told.{AreTasks, IsTask, Became}
 use Rattle.seat_programs.specs.ToldCalls.{Fixed, Order, IsExpiredWith, FailedBy, ByExpiry}
 use Rattle.corr_core.specs.Word.{Parts, parts}
-use Rattle.corr_core.specs.Law.{total}
 use Rattle.corr_core.specs.declared.marks.Kept.{Kept}
 use Rattle.corr_core.specs.declared.marks.Note.{Note}
 use Rattle.corr_core.specs.declared.marks.Note.TheVariants.{Made, Locker}
@@ -55,6 +54,7 @@ use Rattle.failed_ends.proofs.Posters.{Poster, posted_by}
 use Rattle.failed_reasons.specs.call_whys.specs.call_places.specs.sock_deeds.proofs.Places.{to_slice, map_there}
 use Rattle.failed_reasons.proofs.Taken.{OthersRead, MissedBy, DroppedBy}
 use Rattle.sock_words.specs.Words.{id_slot, id_first}
+use Rattle.sock_words.specs.Totals.{total}
 
 -- ## The last attempt
 

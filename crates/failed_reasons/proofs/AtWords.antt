@@ -18,7 +18,6 @@ use Rattle.attempts_told.specs.Below.SockRule.Letter.{Letter}
 use Rattle.seat_programs.specs.declared.task.Op.{Op}
 use Rattle.seat_programs.specs.declared.task.Op.TheVariants as ops
 use Rattle.seat_programs.specs.declared.task.Task.{Task}
-use Rattle.corr_core.specs.Law.{total}
 use Rattle.corr_core.specs.declared.marks.Kept.{Kept}
 use Rattle.corr_core.specs.declared.marks.Note.TheVariants.{Made}
 use Rattle.corr_core.specs.declared.marks.Plan as id_plan
@@ -55,6 +54,7 @@ use Rattle.attempts_told.specs.call_whys.specs.call_told.proofs.Least.{word_is a
 use Rattle.attempts_told.specs.call_whys.specs.call_places.specs.sock_deeds.proofs.Flats.{append_first, append_later}
 use Rattle.failed_reasons.specs.Missed.{acted_id, id_of, attempt_of}
 use Rattle.failed_reasons.proofs.Losses.{IsAskedIn}
+use Rattle.sock_words.specs.Totals.{total}
 
 -- ## The link of a deed
 

@@ -12,7 +12,6 @@ use Rattle.sock_words.specs.declared.outcome.Outcome.{Outcome}
 use Rattle.sock_words.specs.declared.plain.Plan.{Plan}
 use Rattle.seat_programs.specs.declared.task.Op.{Op}
 use Rattle.seat_programs.specs.declared.task.Task.{Task}
-use Rattle.corr_core.specs.Law.{total}
 use Rattle.corr_core.specs.declared.marks.Plan as id_plan
 use Rattle.corr_id.specs.id_rule.specs.Lawful.{notes_of}
 use Rattle.attempts_told.specs.Below.CallErrors.Retry.{Retry}
@@ -33,6 +32,7 @@ use Rattle.attempts_told.specs.call_whys.specs.call_places.specs.sock_deeds.proo
 use Rattle.attempts_told.specs.call_whys.specs.call_places.specs.sock_deeds.proofs.Growing.{Grew, stays_as, grew_then}
 use Rattle.attempts_told.specs.call_whys.specs.call_places.specs.sock_deeds.proofs.Places.{place_low}
 use Rattle.failed_reasons.proofs.Reaching.{retry_grew, acted_grew}
+use Rattle.sock_words.specs.Totals.{total}
 
 -- ## From one stand to a later one
 

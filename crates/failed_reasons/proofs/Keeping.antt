@@ -7,7 +7,6 @@ use Rattle.sock_words.specs.declared.plain.Plan.{Plan}
 use Rattle.sock_model.specs.declared.view.StoredWord.{StoredWord}
 use Rattle.sock_model.specs.declared.view.View.{View}
 use Rattle.sock_model.specs.Layout.{place_index}
-use Rattle.sock_model.specs.Weights.{total}
 use Rattle.std.specs.Prelude.{true}
 use Rattle.attempts_told.specs.Below.SockRule.OnTable.{is_put}
 use Rattle.attempts_told.specs.call_whys.specs.call_places.specs.sock_deeds.proofs.Growing.{Grew, added_grew}
@@ -15,6 +14,7 @@ use Rattle.attempts_told.specs.call_whys.specs.call_places.specs.sock_deeds.proo
 use Rattle.attempts_told.specs.Below.WriteChain.Undelivered.{Undelivered}
 use Rattle.attempts_told.specs.Below.WriteChain.Noting.{Wrote, WroteDrop}
 use Rattle.failed_reasons.specs.Reasons.{StillHas}
+use Rattle.sock_words.specs.Totals.{total}
 
 pub still_as : (v w : View) → Grew v w → StillHas v w
 still_as v w g = record { marks = g.marks; puts = g.puts; drops = g.dropped }

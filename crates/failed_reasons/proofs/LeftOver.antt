@@ -16,7 +16,7 @@ use Rattle.sock_words.specs.declared.vref.Vref.{Vref}
 use Rattle.seat_programs.specs.declared.task.Task.{Task}
 use Rattle.seat_programs.specs.Told.{AreTasks}
 use Rattle.corr_core.specs.Word.{Parts, parts}
-use Rattle.corr_core.specs.Law.{total, is_ended}
+use Rattle.corr_core.specs.Law.{is_ended}
 use Rattle.corr_core.specs.declared.marks.Kept.{Kept}
 use Rattle.corr_core.specs.declared.marks.Note.{Note}
 use Rattle.corr_core.specs.declared.marks.Note.TheVariants.{Ended}
@@ -48,6 +48,7 @@ use Rattle.attempts_told.specs.call_whys.specs.call_told.proofs.Responses.{one_g
 use Rattle.attempts_told.specs.call_whys.specs.call_told.proofs.Tallies.{ending_is, version_low}
 use Rattle.attempts_told.proofs.Senders.{made_for_there}
 use Rattle.sock_words.specs.Words.{id_slot}
+use Rattle.sock_words.specs.Totals.{total}
 
 -- all notes of the one list are in the other
 abbrev pub MoreNotes : List (Noted Asked) → List (Noted Asked) → Type 0

@@ -15,7 +15,7 @@ use Rattle.sock_model.specs.declared.marks.Mark.TheVariants.{Saw}
 use Rattle.sock_model.specs.declared.view.View.{View}
 use Rattle.sock_model.specs.Layout.{name_index, request_index}
 use Rattle.sock_model.specs.SlotRows.{marks_of}
-use Rattle.sock_model.specs.Weights.{is_known, is_saw, only, total}
+use Rattle.sock_model.specs.Weights.{is_known, is_saw, only}
 use Rattle.attempts_told.specs.call_whys.specs.call_places.specs.outcome_stories.specs.program_walks.specs.slot_steps.proofs.Numbers.{only-same}
 use Rattle.attempts_told.specs.Below.SockRule.Becoming.{Became}
 use Rattle.attempts_told.specs.Below.SockRule.Letter.{Letter}
@@ -34,6 +34,7 @@ use Rattle.attempts_told.specs.Below.CallClient.Acting.{Stand, both_of, Acted}
 use Rattle.attempts_told.specs.call_whys.specs.call_places.specs.Deeds.{Deed, operates, retries}
 use Rattle.attempts_told.specs.call_whys.specs.call_places.specs.sock_deeds.proofs.Growing.{Grew, HasFound, grew_then, added_grew, returned_grew}
 use Rattle.failed_reasons.specs.Missed.{delivery_missed, attempt_missed, went_missed, acted_missed, missed_in, attempt_of, socks_behind}
+use Rattle.sock_words.specs.Totals.{total}
 
 -- ## What was seen
 

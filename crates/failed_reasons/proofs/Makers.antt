@@ -13,7 +13,6 @@ use Rattle.seat_programs.specs.declared.task.Op.{Op}
 use Rattle.seat_programs.specs.declared.task.Op.TheVariants as ops
 use Rattle.seat_programs.specs.declared.task.Task.{Task}
 use Rattle.atomic_table.specs.Table.{Me}
-use Rattle.corr_core.specs.Law.{total}
 use Rattle.corr_core.specs.declared.marks.Plan as id_plan
 use Rattle.corr_core.specs.declared.marks.View.{View}
 use Rattle.corr_core.proofs.Notes.{only-else, total_some}
@@ -31,6 +30,7 @@ use Rattle.attempts_told.specs.call_whys.specs.call_places.proofs.Counts.{call_i
 use Rattle.attempts_told.specs.call_whys.specs.call_places.proofs.Own.{end_is}
 use Rattle.attempts_told.specs.call_whys.specs.call_deeds.proofs.Ran.{Result, results}
 use Rattle.attempts_told.specs.call_whys.specs.call_deeds.proofs.Told.{came, made, all_results}
+use Rattle.sock_words.specs.Totals.{total}
 
 -- 1 where it is the call of this operation, and nothing was told of it at once
 abbrev call_begun : ℕ → Op → Option Outcome → ℕ

@@ -7,7 +7,7 @@ use native.Mathlib.Decide.{ℕ_discrete}
 use Rattle.sock_words.specs.Words.{at_word_link, id_slot, id_first}
 use Rattle.sock_words.specs.declared.at_word.AtWord.{AtWord}
 use Rattle.corr_core.specs.Word.{Parts, parts}
-use Rattle.corr_core.specs.Law.{total, is_queued}
+use Rattle.corr_core.specs.Law.{is_queued}
 use Rattle.corr_core.specs.declared.marks.Note.TheVariants.{Queued}
 use Rattle.corr_core.specs.declared.marks.Noted.{Noted}
 use Rattle.corr_core.specs.declared.marks.Plan.{Plan}
@@ -28,6 +28,7 @@ use Rattle.attempts_told.specs.Below.RpcReader.Met.{slot_in, is_asked, is_for, A
 use Rattle.attempts_told.specs.Below.RpcReader.Posting.{LostBy, LockLost, PostedTo, MetKept, PostedIf, PostedAt, PostedAll, call_at, attempt_at}
 use Rattle.attempts_told.specs.Below.RpcReader.Resting.{HadEnded, EndedLast, OneEnded, RestEnded}
 use Rattle.failed_reasons.proofs.Views.{queued_silent, queued_in, Later, later_then, Stays, queued_one, same_stays, then_stays, did_later, quiet_stays, kept_stays, ended_stays, got_stays}
+use Rattle.sock_words.specs.Totals.{total}
 
 -- ## What queues nothing
 

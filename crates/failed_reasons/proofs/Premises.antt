@@ -13,7 +13,7 @@ use Rattle.sock_words.specs.declared.vref.Vref.{Vref}
 use Rattle.seat_programs.specs.declared.task.Op.TheVariants as ops
 use Rattle.seat_programs.specs.declared.task.Task.{Task}
 use Rattle.seat_programs.specs.Told.{AreTasks, IsTask, TaskFits, OpFits}
-use Rattle.corr_core.specs.Law.{total, is_attempt}
+use Rattle.corr_core.specs.Law.{is_attempt}
 use Rattle.corr_core.specs.declared.marks.Kept.{Kept}
 use Rattle.corr_core.specs.declared.marks.Note.TheVariants.{Made}
 use Rattle.corr_core.specs.declared.marks.Noted.{Noted}
@@ -39,6 +39,7 @@ use Rattle.attempts_told.proofs.Told.{few as few_attempts}
 use Rattle.failed_reasons.proofs.Asked.{own_task, asked_task}
 use Rattle.failed_reasons.proofs.Crew.{is_task, own_call}
 use Rattle.failed_reasons.proofs.Losses.{IsAskedIn}
+use Rattle.sock_words.specs.Totals.{total}
 
 module _ {O : Type 0} {g : Ghosts O} {state : O → OutState} {readers : List (LinkReader g)} {p : Plan} {slots : ℕ} {setup : List Task} {clients : List (List Task)} {opens : List ℕ} {told ended : List (List Told)} {places : List PlaceWord} {vrefs : List Vref} {outs : List O} {ids : List (View Asked)}
     (run : RanWith g state readers p slots setup clients opens told ended places vrefs outs ids) (tasks : AreTasks p (setup ∷ clients)) (may : MayRunAll p (ids_of p slots) setup clients)

@@ -13,7 +13,7 @@ use Rattle.sock_model.specs.declared.view.View as sock_view
 use Rattle.sock_io.specs.declared.link.Out.{Ghosts}
 use Rattle.sock_io.specs.Link.{InState}
 use Rattle.corr_core.specs.Word.{code_of}
-use Rattle.corr_core.specs.Law.{total, is_queued}
+use Rattle.corr_core.specs.Law.{is_queued}
 use Rattle.corr_core.specs.declared.marks.Note.{Note}
 use Rattle.corr_core.specs.declared.marks.Noted.{Noted}
 use Rattle.corr_core.specs.declared.marks.Plan.{Plan}
@@ -36,6 +36,7 @@ use Rattle.attempts_told.specs.call_whys.specs.call_told.proofs.Readers.{AllRead
 use Rattle.failed_reasons.proofs.Codes.{IsReadCode}
 use Rattle.failed_reasons.proofs.Posts.{Posts, frames_stay, rest_stays, posted_all}
 use Rattle.failed_reasons.proofs.Views.{queued_in, Stays, same_stays}
+use Rattle.sock_words.specs.Totals.{total}
 
 -- each error that is noted as queued more has one of those codes
 pub record Queues (v w : View Asked) : Type 0 where

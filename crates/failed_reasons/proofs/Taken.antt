@@ -8,7 +8,6 @@ use Rattle.sock_words.specs.declared.outcome.Outcome.{Outcome}
 use Rattle.sock_words.specs.declared.place_word.PlaceWord.{PlaceWord}
 use Rattle.sock_words.specs.declared.plain.Plan.{Plan}
 use Rattle.sock_words.specs.declared.vref.Vref.{Vref}
-use Rattle.corr_core.specs.Law.{total}
 use Rattle.corr_core.specs.Word.{code_of}
 use Rattle.corr_core.specs.declared.marks.Noted.{Noted}
 use Rattle.corr_core.specs.declared.marks.View.{View}
@@ -27,6 +26,7 @@ use Rattle.failed_reasons.specs.Reasons.{WasDropped}
 use Rattle.failed_reasons.proofs.Codes.{IsReadCode}
 use Rattle.failed_reasons.proofs.Losses.{IsAskedIn}
 use Rattle.failed_reasons.proofs.Views.{queued_in}
+use Rattle.sock_words.specs.Totals.{total}
 
 -- whatever the clients didn't queue has a code with which whoever reads the links ends calls
 abbrev pub OthersRead : List (View Asked) → List (Noted Asked) → Type 0

@@ -3,7 +3,7 @@ use Rattle.std.proofs.Common.{◌≡◌, ℕ, ◌<◌, List, refl, arith}
 use Rattle.std.proofs.lemmas.Nat.{div-add-mod'}
 use Rattle.sock_words.specs.declared.outcome.Outcome.{Outcome}
 use Rattle.sock_words.specs.declared.outcome.Outcome.TheVariants.{CallFailed}
-use Rattle.corr_core.specs.Law.{total, is_ended_at}
+use Rattle.corr_core.specs.Law.{is_ended_at}
 use Rattle.corr_core.specs.Word.{Parts, parts, locked_word}
 use Rattle.corr_core.specs.declared.marks.Plan.{Plan}
 use Rattle.corr_core.specs.declared.marks.View.{View}
@@ -28,6 +28,7 @@ use Rattle.attempts_told.specs.call_whys.specs.call_told.proofs.Steps as steps
 use Rattle.failed_reasons.proofs.Posts.{IsPost, post_later, post_found}
 use Rattle.failed_reasons.proofs.Views.{Later, later_then, same_stays, quiet_stays, kept_stays, ended_stays, ended_over, got_stays, did_later}
 use Rattle.sock_words.specs.Words.{id_slot}
+use Rattle.sock_words.specs.Totals.{total}
 
 -- the seat found a word of this slot open and locked it, with this call as its content; w is the word of the lock
 pub record HadLock (slot : ℕ) (w : Parts) (call : Asked) (v : View Asked) : Type 0 where

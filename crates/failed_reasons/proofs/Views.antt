@@ -4,7 +4,7 @@ use Rattle.std.specs.Prelude.{Option}
 use mathlib.Core.Logic.{dite}
 use native.Mathlib.Decide.{ℕ_discrete}
 use Rattle.corr_core.specs.Word.{Parts, parts}
-use Rattle.corr_core.specs.Law.{total, pair, is_queued, is_attempt, is_ended_at}
+use Rattle.corr_core.specs.Law.{pair, is_queued, is_attempt, is_ended_at}
 use Rattle.corr_core.specs.declared.marks.Kept.{Kept}
 use Rattle.corr_core.specs.declared.marks.Note.{Note}
 use Rattle.corr_core.specs.declared.marks.Note.TheVariants.{Ended, Locker, Queued, Attempt}
@@ -23,6 +23,7 @@ use Rattle.attempts_told.specs.Below.CallClient.Telling.{quiet_total, did_total,
 use Rattle.attempts_told.specs.call_whys.specs.call_places.proofs.Still.{attempt_silent}
 use Rattle.attempts_told.specs.call_whys.specs.call_told.proofs.Ends.{counted_here}
 use Rattle.attempts_told.specs.call_whys.specs.call_told.proofs.Growing.{Grows, grows_same, did_grows, quiet_grows, ended_grows}
+use Rattle.sock_words.specs.Totals.{total}
 
 -- only events count
 pub queued_silent : (first e : ℕ) (n : Note Asked) → is_event n ≡ false → is_queued first e n ≡ 0

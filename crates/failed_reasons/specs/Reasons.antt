@@ -19,7 +19,7 @@ use Rattle.attempts_told.specs.Below.SockRule.OnTable.{put_in}
 use Rattle.seat_programs.specs.declared.task.Op.TheVariants as ops
 use Rattle.seat_programs.specs.declared.task.Task.{Task}
 use Rattle.corr_core.specs.Word.{parts}
-use Rattle.corr_core.specs.Law.{total, pair, is_ended_at}
+use Rattle.corr_core.specs.Law.{pair, is_ended_at}
 use Rattle.corr_core.specs.declared.marks.Kept.{Kept}
 use Rattle.corr_core.specs.declared.marks.Plan as id_plan
 use Rattle.corr_core.specs.declared.marks.View.{View}
@@ -41,6 +41,7 @@ use Rattle.attempts_told.specs.Below.CallWrites.Draining.{DroppedOne}
 use Rattle.attempts_told.specs.call_whys.specs.call_told.specs.Least.{is_locked_for}
 use Rattle.attempts_told.specs.call_whys.specs.call_places.specs.Deeds.{Deed}
 use Rattle.failed_reasons.specs.Missed.{missed_in, id_of, IsBacked, attempt_of, socks_behind}
+use Rattle.sock_words.specs.Totals.{total}
 
 -- the post locked the id, or its error was queued there
 abbrev pub Counts : Posted Asked → Type 0

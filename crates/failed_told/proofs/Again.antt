@@ -17,7 +17,6 @@ use Rattle.seat_programs.specs.declared.task.Op.TheVariants as ops
 use Rattle.seat_programs.specs.declared.task.Task.{Task}
 use Rattle.seat_programs.specs.Told.{AreTasks, IsTask}
 use Rattle.seat_programs.specs.ToldCalls.{IsDropped, IsUnordered, WhyAgain, AfterDrop, AfterLoss, AfterFull, all_accepted}
-use Rattle.corr_core.specs.Law.{total}
 use Rattle.corr_core.specs.declared.marks.Kept.{Kept}
 use Rattle.corr_core.specs.declared.marks.Note.TheVariants.{Made}
 use Rattle.corr_core.specs.declared.marks.Noted.{Noted}
@@ -54,6 +53,7 @@ use Rattle.failed_ends.specs.failed_reasons.proofs.Premises.{asked_so as asked_h
 use Rattle.failed_told.proofs.Unopened.{unopened_why}
 use Rattle.failed_ends.specs.failed_reasons.proofs.Views.{advanced_in}
 use Rattle.failed_ends.specs.failed_reasons.proofs.Taken.{OthersRead, AskTasks, MissedBy, DroppedBy}
+use Rattle.sock_words.specs.Totals.{total}
 
 module _ {O : Type 0} {g : Ghosts O} {state : O → OutState} {readers : List (LinkReader g)} {p : Plan} {slots : ℕ} {setup : List Task} {clients : List (List Task)} {opens : List ℕ} {told ended : List (List Told)} {places : List PlaceWord} {vrefs : List Vref} {outs : List O} {ids : List (View Asked)}
     (run : RanWith g state readers p slots setup clients opens told ended places vrefs outs ids) (tasks : AreTasks p (setup ∷ clients)) (may : MayRunAll p (ids_of p slots) setup clients)

@@ -19,7 +19,7 @@ use Rattle.seat_programs.specs.declared.task.Op.TheVariants as ops
 use Rattle.seat_programs.specs.declared.task.Task.{Task}
 use Rattle.seat_programs.specs.Told.{AreTasks, IsTask}
 use Rattle.seat_programs.specs.ToldCalls.{IsAnsweredBy, MayBeOn, FailedBy, ByCompression, all_accepted}
-use Rattle.corr_core.specs.Law.{total, is_ended, is_ended_at}
+use Rattle.corr_core.specs.Law.{is_ended, is_ended_at}
 use Rattle.failed_ends.specs.call_whys.specs.call_places.proofs.Ids.{IsIdOf}
 use Rattle.corr_core.specs.Word.{Parts, parts, code_of}
 use Rattle.corr_core.specs.declared.marks.Kept.{Kept}
@@ -69,6 +69,7 @@ use Rattle.failed_ends.specs.failed_reasons.proofs.Tells.{HadLock, EndsBy, on_re
 use Rattle.failed_ends.proofs.Verdicts.{made_so}
 use Rattle.failed_ends.specs.failed_reasons.proofs.Views.{queued_in}
 use Rattle.failed_ends.specs.failed_reasons.proofs.Taken.{AskTasks}
+use Rattle.sock_words.specs.Totals.{total}
 
 -- ## Codes
 

@@ -20,7 +20,7 @@ use Rattle.sock_model.specs.declared.view.StoredWord.{StoredWord}
 use Rattle.sock_model.specs.Entries.{on}
 use Rattle.sock_model.specs.Layout.{place_index}
 use Rattle.sock_model.specs.SlotRows.{marks_of}
-use Rattle.sock_model.specs.Weights.{is_met, is_saw, is_told, total}
+use Rattle.sock_model.specs.Weights.{is_met, is_saw, is_told}
 use Rattle.failed_ends.specs.call_whys.specs.call_places.specs.outcome_stories.specs.program_walks.specs.slot_steps.proofs.Numbers.{pair-same}
 use Rattle.failed_ends.specs.Below.SockRule.Closing.{PlacesDiffer, IsLogged}
 use Rattle.failed_ends.specs.Below.SockRule.OnTable.{is_put, put_in}
@@ -71,6 +71,7 @@ use Rattle.failed_ends.proofs.Fallen.{chain_last, its_seat, reached, failing_by,
 use Rattle.failed_ends.specs.failed_reasons.proofs.Keeping.{still_as, still_then}
 use Rattle.failed_ends.proofs.Owners.{IsOwned, owned_by}
 use Rattle.failed_ends.proofs.Single.{sender, made_low}
+use Rattle.sock_words.specs.Totals.{total}
 
 name_at : ℕ → Op → ℕ
 name_at n (ops.Call asked) = name_of asked n

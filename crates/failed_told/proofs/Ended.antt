@@ -17,7 +17,7 @@ use Rattle.seat_programs.specs.declared.task.Op.TheVariants as ops
 use Rattle.seat_programs.specs.declared.task.Task.{Task}
 use Rattle.seat_programs.specs.Told.{AreTasks, IsTask}
 use Rattle.seat_programs.specs.ToldCalls.{Accepted, IsDropped, IsFailedWith, WhyLost, FailedBy, BySocket, ByFail, all_accepted}
-use Rattle.corr_core.specs.Law.{total, is_attempt}
+use Rattle.corr_core.specs.Law.{is_attempt}
 use Rattle.corr_core.specs.Word.{parts}
 use Rattle.corr_core.specs.declared.marks.Kept.{Kept}
 use Rattle.corr_core.specs.declared.marks.Note.TheVariants.{Made}
@@ -60,6 +60,7 @@ use Rattle.failed_ends.proofs.Verdicts.{last_one, made_so, MissedLast, DroppedLa
 use Rattle.failed_told.proofs.Whole.{IsFallen, missed_why}
 use Rattle.failed_ends.specs.call_whys.specs.call_places.specs.sock_deeds.proofs.Places.{map_back}
 use Rattle.failed_ends.specs.failed_reasons.proofs.Taken.{OthersRead, AskTasks}
+use Rattle.sock_words.specs.Totals.{total}
 
 -- ## A `fail`'s code leaves retries
 

@@ -20,7 +20,7 @@ use Rattle.seat_programs.specs.declared.task.Op.TheVariants as ops
 use Rattle.seat_programs.specs.declared.task.Task.{Task}
 use Rattle.seat_programs.specs.Told.{AreTasks, Became}
 use Rattle.seat_programs.specs.ToldCalls.{IsUnordered, WhyLost, WasFailing, RunEnding, WasUnopened}
-use Rattle.corr_core.specs.Law.{total, is_attempt, is_ended}
+use Rattle.corr_core.specs.Law.{is_attempt, is_ended}
 use Rattle.corr_core.specs.declared.marks.Kept.{Kept}
 use Rattle.corr_core.specs.declared.marks.Note.TheVariants.{Made}
 use Rattle.corr_core.specs.declared.marks.Noted.{Noted}
@@ -76,6 +76,7 @@ use Rattle.failed_told.proofs.Standing.{may_be_on, lost_on}
 use Rattle.failed_told.proofs.Unopened.{unopened_why}
 use Rattle.failed_ends.specs.call_whys.specs.call_places.specs.sock_deeds.proofs.Places.{map_back}
 use Rattle.sock_words.specs.Words.{id_slot, id_first}
+use Rattle.sock_words.specs.Totals.{total}
 
 -- ## Of deeds
 

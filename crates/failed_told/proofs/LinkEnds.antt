@@ -14,7 +14,6 @@ use Rattle.failed_ends.specs.Below.SockRule.Closing.{PlacesDiffer}
 use Rattle.seat_programs.specs.declared.task.Op.TheVariants as ops
 use Rattle.seat_programs.specs.declared.task.Task.{Task}
 use Rattle.seat_programs.specs.Told.{AreTasks, IsTask}
-use Rattle.corr_core.specs.Law.{total}
 use Rattle.corr_core.specs.Word.{parts}
 use Rattle.corr_core.specs.declared.marks.Kept.{Kept}
 use Rattle.corr_core.specs.declared.marks.Note.TheVariants.{Made}
@@ -52,6 +51,7 @@ use Rattle.failed_ends.specs.failed_reasons.proofs.Premises.{asked_so as asked_h
 use Rattle.failed_ends.proofs.Verdicts.{made_so}
 use Rattle.failed_ends.specs.failed_reasons.proofs.Views.{queued_in}
 use Rattle.failed_ends.specs.call_whys.specs.call_places.specs.sock_deeds.proofs.Places.{map_back}
+use Rattle.sock_words.specs.Totals.{total}
 
 module _ {O : Type 0} {g : Ghosts O} {state : O → OutState} {readers : List (LinkReader g)} {p : Plan} {slots : ℕ} {setup : List Task} {clients : List (List Task)} {opens : List ℕ} {told ended : List (List Told)} {places : List PlaceWord} {vrefs : List Vref} {outs : List O} {ids : List (View Asked)}
     (run : RanWith g state readers p slots setup clients opens told ended places vrefs outs ids) (tasks : AreTasks p (setup ∷ clients)) (may : MayRunAll p (ids_of p slots) setup clients)

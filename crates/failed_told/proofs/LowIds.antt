@@ -12,7 +12,7 @@ use Rattle.seat_programs.specs.declared.task.Op.{Op}
 use Rattle.seat_programs.specs.declared.task.Op.TheVariants as ops
 use Rattle.seat_programs.specs.declared.task.Task.{Task}
 use Rattle.seat_programs.specs.Told.{AreTasks}
-use Rattle.corr_core.specs.Law.{LAST, total}
+use Rattle.corr_core.specs.Law.{LAST}
 use Rattle.corr_core.specs.declared.marks.Kept.{Kept}
 use Rattle.corr_core.specs.declared.marks.Note.{Note}
 use Rattle.corr_core.specs.declared.marks.Note.TheVariants.{Made}
@@ -39,6 +39,7 @@ use Rattle.failed_ends.specs.failed_reasons.proofs.Before.{operation_made, noted
 use Rattle.failed_ends.proofs.Lasts.{one_made}
 use Rattle.failed_ends.specs.failed_reasons.proofs.Makers.{made_begun}
 use Rattle.sock_words.specs.Words.{id_slot, id_first}
+use Rattle.sock_words.specs.Totals.{total}
 
 -- an id with room was made for the operation
 pub record MadeLow (slots o : ℕ) (v : View Asked) : Type 0 where

@@ -19,7 +19,6 @@ use Rattle.seat_programs.specs.declared.task.Op.TheVariants as ops
 use Rattle.seat_programs.specs.declared.task.Task.{Task}
 use Rattle.seat_programs.specs.Told.{AreTasks}
 use Rattle.seat_programs.specs.ToldCalls.{MayBeOn, all_accepted}
-use Rattle.corr_core.specs.Law.{total}
 use Rattle.corr_core.specs.declared.marks.Kept.{Kept}
 use Rattle.corr_core.specs.declared.marks.Noted.{Noted}
 use Rattle.corr_core.specs.declared.marks.View.{View}
@@ -55,6 +54,7 @@ use Rattle.failed_ends.proofs.Posters.{attempt_low}
 use Rattle.failed_ends.proofs.Single.{IsAttemptOf, at_first, first_id, again_id, again_attempt, made_low}
 use Rattle.failed_told.proofs.Standing.{may_be_on, lost_on}
 use Rattle.failed_ends.specs.failed_reasons.proofs.Taken.{AskTasks}
+use Rattle.sock_words.specs.Totals.{total}
 
 -- ## Words
 

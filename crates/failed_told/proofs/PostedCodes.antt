@@ -16,7 +16,6 @@ use Rattle.seat_programs.specs.declared.task.Task.{Task}
 use Rattle.seat_programs.specs.Told.{AreTasks, IsTask, Became}
 use Rattle.seat_programs.specs.ToldCalls.{WhyExpire, all_accepted}
 use Rattle.corr_core.specs.Word.{parts, code_of}
-use Rattle.corr_core.specs.Law.{total}
 use Rattle.corr_core.specs.declared.marks.Kept.{Kept}
 use Rattle.corr_core.specs.declared.marks.Noted.{Noted}
 use Rattle.corr_core.specs.declared.marks.View.{View}
@@ -48,6 +47,7 @@ use Rattle.failed_ends.specs.call_whys.specs.call_places.proofs.Places.{noted_am
 use Rattle.failed_ends.specs.failed_reasons.proofs.Taken.{OthersRead}
 use Rattle.seat_programs.specs.brpc_model.specs.Why.{IsPosted}
 use Rattle.sock_words.specs.Words.{id_slot}
+use Rattle.sock_words.specs.Totals.{total}
 
 -- the codes of a crowded id
 same_codes : (a b c d : ℕ) → outcome.Crowded a b ≡ outcome.Crowded c d → (c ≡ a) × (d ≡ b)

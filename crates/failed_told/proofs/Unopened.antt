@@ -23,7 +23,6 @@ use Rattle.seat_programs.specs.declared.task.Task.{Task}
 use Rattle.seat_programs.specs.Told.{AreTasks, IsTask, Became, OpensNone, IsOpen}
 use Rattle.seat_programs.specs.ToldCalls.{Fixed, Order, Seeks, FoundNone, WhyLost, WasUnopened}
 use Rattle.corr_core.specs.Word.{parts}
-use Rattle.corr_core.specs.Law.{total}
 use Rattle.corr_core.specs.declared.marks.Kept.{Kept}
 use Rattle.corr_core.specs.declared.marks.Note.{Note}
 use Rattle.corr_core.specs.declared.marks.Noted.{Noted}
@@ -71,6 +70,7 @@ use Rattle.failed_ends.specs.failed_reasons.proofs.Crew.{tasks_there, its_tasks,
 use Rattle.failed_ends.specs.failed_reasons.proofs.Before.{stands_before, IsRetry, MadeBefore, PlacedHere, all_placed, noted_last}
 use Rattle.failed_ends.specs.failed_reasons.proofs.Seeking.{sought_seen, opens_seen, missed_seen, waited_seen, names_are, none_again}
 use Rattle.sock_words.specs.Words.{id_slot, id_first}
+use Rattle.sock_words.specs.Totals.{total}
 
 -- ## Tasks in their order
 

@@ -2,8 +2,9 @@ ghost use Rattle.std.specs.Prelude.{◌≡◌, ◌≤◌, ◌<◌, ◌+◌, ◌=
 ghost use Rattle.corr_core.specs.Word.{parts, unlocked_word};
 ghost use Rattle.seat_programs.specs.Heads.{Unlocking, Unlocks};
 ghost use Rattle.seat_programs.specs.Programs.{Program, Round};
-ghost use Rattle.seat_programs.specs.Posts.{packed, popped, advance_of};
+ghost use Rattle.seat_programs.specs.Posts.{packed, popped};
 ghost use Rattle.id_points.specs.Turns.{unlock_on};
+ghost use Rattle.sock_words.specs.Words.{bit};
 
 use crate::error::IdError;
 use crate::posting::is_stale;
@@ -23,7 +24,7 @@ pub enum UnlockTurn {
 /// The word without its oldest error, at the next attempt or at this one; where it has no error, the open one.
 fn unlocked(word: IdWord, advance: bool) -> IdWord
     requires { IsTrue advance → (parts word.0).attempt < 7 }
-    ensures { result.0 ≡ packed (unlocked_word (parts word.0) (advance_of advance)) }
+    ensures { result.0 ≡ packed (unlocked_word (parts word.0) (bit advance)) }
 {
     let state = if word.oldest() == 0 {
         IdWord::OPEN
@@ -56,7 +57,7 @@ fn popped_turn(oldest: IdError, after: IdWord) -> UnlockTurn
 pub fn unlock_behind(from: IdWord, advance: bool, found: IdWord) -> UnlockTurn
     requires { IsTrue advance → (parts from.0).attempt < 7 }
     ensures { (i : ℕ) (k : Unlocking → Program) → unlock_on i k result ≡
-        (if found.0 == from.0 then popped i (parts from.0).oldest (packed (unlocked_word (parts from.0) (advance_of advance))) k
+        (if found.0 == from.0 then popped i (parts from.0).oldest (packed (unlocked_word (parts from.0) (bit advance))) k
         else Round (Unlocks i found.0 advance) k) }
 {
     if found != from {

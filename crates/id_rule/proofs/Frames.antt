@@ -9,7 +9,7 @@ use lib.ListN.{get_elem?}
 use Rattle.atomic_table.specs.Table.{State}
 use Rattle.atomic_table.proofs.Lists.{at_set}
 use Rattle.corr_core.specs.Word.{parts}
-use Rattle.corr_core.specs.Law.{total, Each, Local, SlotLaw, vacant, retired, claimed, opened, locked, leaving}
+use Rattle.corr_core.specs.Law.{Each, Local, SlotLaw, vacant, retired, claimed, opened, locked, leaving}
 use Rattle.corr_core.specs.declared.marks.Plan.{Plan}
 use Rattle.corr_core.specs.declared.marks.Token.{Token}
 use Rattle.corr_core.specs.declared.marks.Note.{Note}
@@ -19,6 +19,7 @@ use Rattle.corr_core.specs.declared.marks.View.{View}
 use Rattle.corr_core.proofs.Notes.{Inserted, each_map, gather_more, total_set}
 use Rattle.corr_core.proofs.Gather.{gather_all, gather_none, gather_own, gather_same}
 use Rattle.id_rule.specs.Lawful.{tag_index, id_index, KeptFits, kept_in, is_stored, tokens_of, notes_of, tokens_in, notes_in, share_of, local, Lawful, without, with_token, no_token, with_note}
+use Rattle.sock_words.specs.Totals.{total}
 
 module _ {C : Type 0} where
   without_here : (i : ℕ) (hs : List (Held C)) → tokens_of i (without i hs) ≡ []

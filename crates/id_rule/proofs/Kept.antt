@@ -9,7 +9,7 @@ use lib.ListN.{get_elem?}
 use Rattle.atomic_table.specs.Table.{State, Me, step, keeps, stepped, Allows}
 use Rattle.atomic_table.proofs.Lists.{at_set}
 use Rattle.corr_core.specs.Word.{parts}
-use Rattle.corr_core.specs.Law.{total, Each, SlotLaw}
+use Rattle.corr_core.specs.Law.{Each, SlotLaw}
 use Rattle.corr_core.specs.declared.marks.Plan.{Plan}
 use Rattle.corr_core.specs.declared.marks.Kept.{Kept}
 use Rattle.corr_core.specs.declared.marks.View.{View}
@@ -17,6 +17,7 @@ use Rattle.corr_core.proofs.Notes.{Inserted, total_insert, each_insert, each_map
 use Rattle.corr_core.proofs.Gather.{gather_same}
 use Rattle.id_rule.specs.Lawful.{tag_index, id_index, all_words, KeptFits, kept_in, is_stored, tokens_of, notes_of, tokens_in, notes_in, share_of, local, Lawful, with_kept}
 use Rattle.id_rule.specs.Plays.{store_told, load_told, found_view}
+use Rattle.sock_words.specs.Totals.{total}
 
 -- a step on the word of an operation leaves what is read of each slot
 module _ {C : Type 0} (p : Plan) (id : ℕ) (me : Me (Maybe C) (View C)) (x : ℕ) (high : 2 * p.slots ≤ x) (inside : x < all_words p) (real : 0 < me.0.share) (s : State (Maybe C) (View C)) (law : Lawful p s) (here : get_elem? s.views id ≡ some me.0) where

@@ -28,10 +28,11 @@ use Rattle.id_rule.proofs.Allowed as allowed
 use Rattle.id_rule.proofs.Kept as kept
 use Rattle.seat_programs.specs.sock_message.specs.Asked.{Asked}
 use Rattle.seat_programs.specs.Asides.{ClaimId, PutCall, MakeId, LockId, PostId, UnlockId, EndId, FreeId, TakeCall}
-use Rattle.seat_programs.specs.Posts.{packed, advance_of}
+use Rattle.seat_programs.specs.Posts.{packed}
 use Rattle.seat_programs.specs.Cores.{Calls}
 use Rattle.seat_programs.specs.Beside.{calls_after}
 use Rattle.id_runs.specs.Held.{IdView, id_state, by_token, made_by, unlocked_by, ended_by, locked_by, id_row, HasOne, HasCallAt, MayPut}
+use Rattle.sock_words.specs.Words.{bit}
 
 -- ## Words
 
@@ -227,10 +228,10 @@ module _ (p : Plan) (q : IdPlan) (a : Calls) (us : List IdView) (law : Lawful q 
           (subst (λ m. RuleOf (record a { words = set a.words (id_index i) (packed (unlocked_word (parts from) 1)) }) (with_note i (Attempt f (m + 1)) (popped_view i f rg (m + 1) c (parts found).oldest (parts found).second u))) same r)))
           (λ miss. missed from 1 miss)
 
-      of_advance : (from : ℕ) (advance : Bool) → (parts from).attempt + advance_of advance + 2 ≤ (parts from).range → Row from (advance_of advance) (eqb found from)
+      of_advance : (from : ℕ) (advance : Bool) → (parts from).attempt + bit advance + 2 ≤ (parts from).range → Row from (bit advance) (eqb found from)
       of_advance from true room = advancing from (omega (arith, room))
       of_advance from false room = plain from (omega (arith, room))
 
-      pub unlocks : (from : ℕ) (advance : Bool) → Longer f rg att x y (parts from) → att + advance_of advance + 2 ≤ rg
-          → RuleOf (calls_after (UnlockId i from advance) (get_or a.words (id_index i) 0) a) (by_token (tokens_in i u) (unlocked_by i from (advance_of advance) (get_or a.words (id_index i) 0) u) u)
-      unlocks from advance is room = by_own (Locked f rg att c x y (Full c)) (unlocked_by i from (advance_of advance) found u) (calls_after (UnlockId i from advance) found a) has (of_advance from advance (let g = is.range_is in let h = is.attempt_is in omega (arith, g, h, room)))
+      pub unlocks : (from : ℕ) (advance : Bool) → Longer f rg att x y (parts from) → att + bit advance + 2 ≤ rg
+          → RuleOf (calls_after (UnlockId i from advance) (get_or a.words (id_index i) 0) a) (by_token (tokens_in i u) (unlocked_by i from (bit advance) (get_or a.words (id_index i) 0) u) u)
+      unlocks from advance is room = by_own (Locked f rg att c x y (Full c)) (unlocked_by i from (bit advance) found u) (calls_after (UnlockId i from advance) found a) has (of_advance from advance (let g = is.range_is in let h = is.attempt_is in omega (arith, g, h, room)))

@@ -21,13 +21,13 @@ use Rattle.seat_programs.specs.sock_message.specs.Asked.{Asked}
 use Rattle.seat_programs.specs.Asides.{PutCall, FreeId, Taking, Bytes, Nothing, Closed}
 use Rattle.seat_programs.specs.Heads.{Head, Exit, Retry, Sought, First, Version, Reading, Posts, Unlocks, Decides, Locks, Joins, Opens, Reads, Discards, Posting, WasGone, WasStale, WasCrowded, WasQueued, HasLocked, Unlocking, IsOpen, HasNext, Deciding, HasEnded, GoesOn, Locking, NotThere, Has, Ended as Over}
 use Rattle.seat_programs.specs.Programs.{Program, Say, Aside, Round}
-use Rattle.seat_programs.specs.Posts.{packed, advance_of, is_first, is_sought, is_stale, is_full, judged, posted, post_with, post, popped, end_id, decide, decided, unlocked, locking}
+use Rattle.seat_programs.specs.Posts.{packed, is_first, is_sought, is_stale, is_full, judged, posted, post_with, post, popped, end_id, decide, decided, unlocked, locking}
 use Rattle.seat_programs.specs.Readers.{answer, answered, responses, read_on, took, discarded, last_of, slot_in, version_in, has_response, ended_by as how_ended, LIMIT}
 use Rattle.seat_programs.specs.Rounds.{round}
 use Rattle.id_runs.specs.Held.{IdView, one, by_token, unlocked_by, ended_by, locked_by, HasOne}
 use Rattle.id_runs.specs.Goes.{EndsReading, HasRoom, IsIdWord, IsError, IsPostable, IsLocked, IsFree, AtHead, LeavesPost, LeavesUnlock, LeavesLock, FitsRetryId, IdGoesOn}
 use Rattle.id_runs.proofs.Keeps.{parts_packed}
-use Rattle.sock_words.specs.Words.{id_slot, id_first, call_id}
+use Rattle.sock_words.specs.Words.{id_slot, id_first, call_id, bit}
 
 -- ## One token
 
@@ -243,12 +243,12 @@ module _ (p : Plan) (q : IdPlan) where
 
   -- ## Giving a lock back
 
-  module _ (u : IdView) (i from : ℕ) (advance : Bool) (k : Unlocking → Program) (inside : i < q.slots) (l : IsLocked i (advance_of advance) from u) (goes : (exit : Unlocking) (v : IdView) → LeavesUnlock i exit v → Goes v (k exit)) where
+  module _ (u : IdView) (i from : ℕ) (advance : Bool) (k : Unlocking → Program) (inside : i < q.slots) (l : IsLocked i (bit advance) from u) (goes : (exit : Unlocking) (v : IdView) → LeavesUnlock i exit v → Goes v (k exit)) where
     abbrev more : ℕ
-    more = advance_of advance
+    more = bit advance
 
     abbrev after : ℕ
-    after = packed (unlocked_word (parts from) (advance_of advance))
+    after = packed (unlocked_word (parts from) (bit advance))
 
     abbrev t : Token Asked
     t = Locked l.f l.rg l.att l.c l.o l.s (Full l.c)
@@ -260,31 +260,31 @@ module _ (p : Plan) (q : IdPlan) where
     state_fits true = omega arith
     state_fits false = omega arith
 
-    word_after : parts (packed (unlocked_word (parts from) (advance_of advance))) ≡ unlocked_word (parts from) (advance_of advance)
-    word_after = parts_packed (unlocked_word (parts from) (advance_of advance)) (state_fits (eqb (parts from).oldest 0)) (omega arith) (omega arith) (let r = l.room in let g = l.word_is.range_is in let h = l.word_is.attempt_is in omega (arith, r, g, h)) (omega arith) (omega arith)
+    word_after : parts (packed (unlocked_word (parts from) (bit advance))) ≡ unlocked_word (parts from) (bit advance)
+    word_after = parts_packed (unlocked_word (parts from) (bit advance)) (state_fits (eqb (parts from).oldest 0)) (omega arith) (omega arith) (let r = l.room in let g = l.word_is.range_is in let h = l.word_is.attempt_is in omega (arith, r, g, h)) (omega arith) (omega arith)
 
     -- an error was taken out
-    popped_lock : (parts from).oldest ≢ 0 → (v : IdView) → v.tokens ≡ one i (Locked l.f l.rg ((parts from).attempt + advance_of advance) l.c (parts from).second 0 (Full l.c)) → IsLocked i 0 (packed (unlocked_word (parts from) (advance_of advance))) v
+    popped_lock : (parts from).oldest ≢ 0 → (v : IdView) → v.tokens ≡ one i (Locked l.f l.rg ((parts from).attempt + bit advance) l.c (parts from).second 0 (Full l.c)) → IsLocked i 0 (packed (unlocked_word (parts from) (bit advance))) v
     popped_lock some_ v is = record {
       f = l.f;
       rg = l.rg;
-      att = (parts from).attempt + advance_of advance;
+      att = (parts from).attempt + bit advance;
       o = (parts from).second;
       s = 0;
       c = l.c;
       tokens = is;
-      word_is = subst (Longer l.f l.rg ((parts from).attempt + advance_of advance) (parts from).second 0) (sym word_after)
+      word_is = subst (Longer l.f l.rg ((parts from).attempt + bit advance) (parts from).second 0) (sym word_after)
           record { first_is = l.word_is.first_is; state_is = ap (λ b. cond b 1 2) (ne_eqb (parts from).oldest 0 some_); range_is = l.word_is.range_is; attempt_is = refl; begins = ((λ n. refl), (λ n. absurd (n refl)), (λ z. refl)) };
       room = (let r = l.room in let h = l.word_is.attempt_is in omega (arith, r, h));
     }
 
     -- the exchange found the word that was expected
-    won : (v : IdView) (b : Bool) → eqb (parts from).oldest 0 ≡ b → v.tokens ≡ (cond b (no_token i u) (with_token i (Locked l.f l.rg ((parts from).attempt + advance_of advance) l.c (parts from).second 0 (Full l.c)) u)).tokens
-        → Goes v (cond b (k (IsOpen (packed (unlocked_word (parts from) (advance_of advance))))) (cond (is_stale (parts from).oldest (parts (packed (unlocked_word (parts from) (advance_of advance))))) (Round (Unlocks i (packed (unlocked_word (parts from) (advance_of advance))) false) k) (k (HasNext (packed (unlocked_word (parts from) (advance_of advance))) (parts from).oldest))))
-    won v true is same = goes (IsOpen (packed (unlocked_word (parts from) (advance_of advance)))) v (same ∙ none_left i (Locked l.f l.rg l.att l.c l.o l.s (Full l.c)) u l.tokens)
-    won v false is same = let lock = popped_lock (not_equal (parts from).oldest 0 is) v (same ∙ other_one i (Locked l.f l.rg l.att l.c l.o l.s (Full l.c)) u l.tokens (Locked l.f l.rg ((parts from).attempt + advance_of advance) l.c (parts from).second 0 (Full l.c))) in
-        way p q v (is_stale (parts from).oldest (parts (packed (unlocked_word (parts from) (advance_of advance))))) (Round (Unlocks i (packed (unlocked_word (parts from) (advance_of advance))) false) k) (k (HasNext (packed (unlocked_word (parts from) (advance_of advance))) (parts from).oldest))
-        (λ _. ((inside, lock), goes)) (λ _. goes (HasNext (packed (unlocked_word (parts from) (advance_of advance))) (parts from).oldest) v lock)
+    won : (v : IdView) (b : Bool) → eqb (parts from).oldest 0 ≡ b → v.tokens ≡ (cond b (no_token i u) (with_token i (Locked l.f l.rg ((parts from).attempt + bit advance) l.c (parts from).second 0 (Full l.c)) u)).tokens
+        → Goes v (cond b (k (IsOpen (packed (unlocked_word (parts from) (bit advance))))) (cond (is_stale (parts from).oldest (parts (packed (unlocked_word (parts from) (bit advance))))) (Round (Unlocks i (packed (unlocked_word (parts from) (bit advance))) false) k) (k (HasNext (packed (unlocked_word (parts from) (bit advance))) (parts from).oldest))))
+    won v true is same = goes (IsOpen (packed (unlocked_word (parts from) (bit advance)))) v (same ∙ none_left i (Locked l.f l.rg l.att l.c l.o l.s (Full l.c)) u l.tokens)
+    won v false is same = let lock = popped_lock (not_equal (parts from).oldest 0 is) v (same ∙ other_one i (Locked l.f l.rg l.att l.c l.o l.s (Full l.c)) u l.tokens (Locked l.f l.rg ((parts from).attempt + bit advance) l.c (parts from).second 0 (Full l.c))) in
+        way p q v (is_stale (parts from).oldest (parts (packed (unlocked_word (parts from) (bit advance))))) (Round (Unlocks i (packed (unlocked_word (parts from) (bit advance))) false) k) (k (HasNext (packed (unlocked_word (parts from) (bit advance))) (parts from).oldest))
+        (λ _. ((inside, lock), goes)) (λ _. goes (HasNext (packed (unlocked_word (parts from) (bit advance))) (parts from).oldest) v lock)
 
     -- it found another one, with more errors
     lost : (found : ℕ) → Longer l.f l.rg l.att (parts found).oldest (parts found).second (parts found) → Goes (with_token i (Locked l.f l.rg l.att l.c (parts found).oldest (parts found).second (Full l.c)) u) (Round (Unlocks i found advance) k)
@@ -293,13 +293,13 @@ module _ (p : Plan) (q : IdPlan) where
     unlocks_goes : Goes u (round (Unlocks i from advance) k)
     unlocks_goes = (
       (inside, (l.f, l.rg, l.att, l.o, l.s, l.c, has, l.word_is, l.room)),
-      λ found c f. subst (λ ts. Goes (by_token ts (unlocked_by i from (advance_of advance) found u) u)
-          (cond (eqb found from) (popped i (parts from).oldest (packed (unlocked_word (parts from) (advance_of advance))) k) (Round (Unlocks i found advance) k))) (sym has)
-          (both_ways p q (eqb found from) (advanced_view i l.f (parts from).attempt ((parts from).attempt + advance_of advance) (popped_view i l.f l.rg ((parts from).attempt + advance_of advance) l.c (parts found).oldest (parts found).second u))
-          (with_token i (Locked l.f l.rg l.att l.c (parts found).oldest (parts found).second (Full l.c)) u) (popped i (parts from).oldest (packed (unlocked_word (parts from) (advance_of advance))) k) (Round (Unlocks i found advance) k)
-          (λ hit. let same : found ≡ from = eqb-true found from hit in subst (λ n. Goes (advanced_view i l.f (parts from).attempt ((parts from).attempt + advance_of advance) (popped_view i l.f l.rg ((parts from).attempt + advance_of advance) l.c (parts n).oldest (parts n).second u)) (popped i (parts from).oldest (packed (unlocked_word (parts from) (advance_of advance))) k)) (sym same)
-          (won (advanced_view i l.f (parts from).attempt ((parts from).attempt + advance_of advance) (popped_view i l.f l.rg ((parts from).attempt + advance_of advance) l.c (parts from).oldest (parts from).second u)) (eqb (parts from).oldest 0) refl
-          (let x : IdView = popped_view i l.f l.rg ((parts from).attempt + advance_of advance) l.c (parts from).oldest (parts from).second u in cond_tokens (eqb (parts from).attempt ((parts from).attempt + advance_of advance)) x (with_note i (Attempt l.f ((parts from).attempt + advance_of advance)) x) refl)))
+      λ found c f. subst (λ ts. Goes (by_token ts (unlocked_by i from (bit advance) found u) u)
+          (cond (eqb found from) (popped i (parts from).oldest (packed (unlocked_word (parts from) (bit advance))) k) (Round (Unlocks i found advance) k))) (sym has)
+          (both_ways p q (eqb found from) (advanced_view i l.f (parts from).attempt ((parts from).attempt + bit advance) (popped_view i l.f l.rg ((parts from).attempt + bit advance) l.c (parts found).oldest (parts found).second u))
+          (with_token i (Locked l.f l.rg l.att l.c (parts found).oldest (parts found).second (Full l.c)) u) (popped i (parts from).oldest (packed (unlocked_word (parts from) (bit advance))) k) (Round (Unlocks i found advance) k)
+          (λ hit. let same : found ≡ from = eqb-true found from hit in subst (λ n. Goes (advanced_view i l.f (parts from).attempt ((parts from).attempt + bit advance) (popped_view i l.f l.rg ((parts from).attempt + bit advance) l.c (parts n).oldest (parts n).second u)) (popped i (parts from).oldest (packed (unlocked_word (parts from) (bit advance))) k)) (sym same)
+          (won (advanced_view i l.f (parts from).attempt ((parts from).attempt + bit advance) (popped_view i l.f l.rg ((parts from).attempt + bit advance) l.c (parts from).oldest (parts from).second u)) (eqb (parts from).oldest 0) refl
+          (let x : IdView = popped_view i l.f l.rg ((parts from).attempt + bit advance) l.c (parts from).oldest (parts from).second u in cond_tokens (eqb (parts from).attempt ((parts from).attempt + bit advance)) x (with_note i (Attempt l.f ((parts from).attempt + bit advance)) x) refl)))
           (λ _. lost found (f l.f l.rg l.att l.o l.s l.c has))),
     )
 

@@ -10,7 +10,7 @@ use lib.ListN.{get_elem?}
 use Rattle.atomic_table.proofs.Lists.{at_set}
 use Rattle.sock_words.specs.declared.plain.Plan.{Plan}
 use Rattle.corr_core.specs.Word.{Parts, parts, free_word}
-use Rattle.corr_core.specs.Law.{Local, SlotLaw, Each, total, vacant}
+use Rattle.corr_core.specs.Law.{Local, SlotLaw, Each, vacant}
 use Rattle.corr_core.specs.declared.marks.Plan.{Plan as IdPlan}
 use Rattle.corr_core.specs.declared.marks.Token.{Token}
 use Rattle.corr_core.specs.declared.marks.Note.{Note}
@@ -29,6 +29,7 @@ use Rattle.id_runs.specs.Goes.{FitsOwner, IsFree, FitsRetryId, HandFits, HomesFi
 use Rattle.id_runs.proofs.Clients.{client_goes, ending_goes}
 use Rattle.id_runs.proofs.Reading.{reader_goes}
 use Rattle.id_runs.proofs.Ticks.{fits_set, resolved_goes, still_fit}
+use Rattle.sock_words.specs.Totals.{total}
 
 -- ## The words
 

@@ -27,7 +27,7 @@ use Rattle.seat_programs.specs.sock_message.specs.Asked.{Asked}
 use Rattle.seat_programs.specs.Asides.{Step, Found, ClaimId, PutCall, MakeId, StoreCall, LoadCall, StoreAt, LoadAt, LockId, PostId, UnlockId, EndId, FreeId, TakeCall, TakeBytes, Taking, Bytes}
 use Rattle.seat_programs.specs.Heads.{Retry}
 use Rattle.seat_programs.specs.Programs.{Program, Do, Say, Sent, TakeMessage, TakeHome, PutHome, PutBytes, AskReady, Write, Aside, Round, Keep, Retries}
-use Rattle.seat_programs.specs.Posts.{packed, advance_of}
+use Rattle.seat_programs.specs.Posts.{packed}
 use Rattle.seat_programs.specs.Sends.{block}
 use Rattle.seat_programs.specs.Rounds.{round, first_step}
 use Rattle.seat_programs.specs.Cores.{Calls, Core, SeatState, found_at, words_after, homes_after, hand_after, lies_at, first_of, others_of, link_place, resolved, still_waiting, waiting_at, next_step, with_seat}
@@ -42,6 +42,7 @@ use Rattle.id_runs.proofs.Loops.{ids_round}
 use Rattle.id_runs.proofs.Programs.{block_goes, retry_goes}
 use Rattle.id_runs.proofs.Homes.{home_set, first_fits, others_fit, lies_fit, fed_fits, places_fit, hand_fits, homes_fit}
 use Rattle.id_runs.proofs.Owners.{steps_on, puts_fit, codes_fit}
+use Rattle.sock_words.specs.Words.{bit}
 
 -- ## Shares stay
 
@@ -69,13 +70,13 @@ row_share q (LoadAt o) found c u = cond_share (eqb found 0) u u (Rattle.id_rule.
 row_share q (LockId i from) found c u = cond_share (eqb found from) u (locked_by i found c u) (with_note i (Saw found) u) refl refl
 row_share q (PostId i from e) found c u = cond_share (eqb found from) u (cond (eqb (parts from).state 1) (locked_by i found c u) (with_note i (Queued (parts found).first e) u)) (with_note i (Saw found) u)
     (cond_share (eqb (parts from).state 1) u (locked_by i found c u) (with_note i (Queued (parts found).first e) u) refl refl) refl
-row_share q (UnlockId i from advance) found c u = by_token_share (tokens_in i u) (unlocked_by i from (advance_of advance) found u) u unlocked_share
+row_share q (UnlockId i from advance) found c u = by_token_share (tokens_in i u) (unlocked_by i from (bit advance) found u) u unlocked_share
   where
-    unlocked_share : (t : Token Asked) → (unlocked_by i from (advance_of advance) found u t).share ≡ u.share
-    unlocked_share (Locked f rg att d o s h) = let x : IdView = popped_view i f rg ((parts from).attempt + advance_of advance) d (parts found).oldest (parts found).second u in
-        let y : x.share ≡ u.share = cond_share (eqb (parts found).oldest 0) u (no_token i u) (with_token i (Locked f rg ((parts from).attempt + advance_of advance) d (parts found).second 0 (hands.Full d)) u) refl refl in
-        cond_share (eqb found from) u (advanced_view i f (parts from).attempt ((parts from).attempt + advance_of advance) x) (with_token i (Locked f rg att d (parts found).oldest (parts found).second (hands.Full d)) u)
-        (cond_share (eqb (parts from).attempt ((parts from).attempt + advance_of advance)) u x (with_note i (Attempt f ((parts from).attempt + advance_of advance)) x) y y) refl
+    unlocked_share : (t : Token Asked) → (unlocked_by i from (bit advance) found u t).share ≡ u.share
+    unlocked_share (Locked f rg att d o s h) = let x : IdView = popped_view i f rg ((parts from).attempt + bit advance) d (parts found).oldest (parts found).second u in
+        let y : x.share ≡ u.share = cond_share (eqb (parts found).oldest 0) u (no_token i u) (with_token i (Locked f rg ((parts from).attempt + bit advance) d (parts found).second 0 (hands.Full d)) u) refl refl in
+        cond_share (eqb found from) u (advanced_view i f (parts from).attempt ((parts from).attempt + bit advance) x) (with_token i (Locked f rg att d (parts found).oldest (parts found).second (hands.Full d)) u)
+        (cond_share (eqb (parts from).attempt ((parts from).attempt + bit advance)) u x (with_note i (Attempt f ((parts from).attempt + bit advance)) x) y y) refl
     unlocked_share (Claimed seen h) = refl
     unlocked_share Leaving = refl
 row_share q (EndId i) found c u = by_token_share (tokens_in i u) (ended_by i found u) u ended_share
@@ -206,7 +207,7 @@ module _ (p : Plan) (q : IdPlan) (narrow : q.slots ≤ 65536) (same : q.operatio
     calls_stored (StoreAt o w) found may = subst (λ (r : IdPlan). StoredFit q (record c.calls { words = set c.calls.words (at_index r o) w })) (sym sound.plan) (at_stored o w may.0 may.2)
     calls_stored (LockId k from) found may = let inside = may.0 in low_stored (id_index k) (cond (eqb found from) (packed (posted_word (parts from) 0)) found) (omega (arith, inside))
     calls_stored (PostId k from e) found may = let inside = may.0 in low_stored (id_index k) (cond (eqb found from) (packed (posted_word (parts from) e)) found) (omega (arith, inside))
-    calls_stored (UnlockId k from advance) found may = let inside = may.0 in low_stored (id_index k) (cond (eqb found from) (packed (unlocked_word (parts from) (advance_of advance))) found) (omega (arith, inside))
+    calls_stored (UnlockId k from advance) found may = let inside = may.0 in low_stored (id_index k) (cond (eqb found from) (packed (unlocked_word (parts from) (bit advance))) found) (omega (arith, inside))
     calls_stored (EndId k) found may = let inside = may.0 in low_stored (id_index k) (packed (free_word ((parts found).first + (parts found).range))) (omega (arith, inside))
     calls_stored (FreeId k) found may = let inside = may.0 in low_stored (tag_index k) 0 (omega (arith, inside))
     calls_stored (TakeBytes l room) (Bytes bytes) may = (sound.called, sound.placed)

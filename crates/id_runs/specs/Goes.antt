@@ -18,7 +18,6 @@ use Rattle.seat_programs.specs.Writings.{Writing, Puts, Waits}
 use Rattle.seat_programs.specs.Asides.{Step, LoadCall, LoadAt, MakeId, LoadIdWord, LockId, PostId, UnlockId, TakeCall, Found}
 use Rattle.seat_programs.specs.Heads.{Head, Exit, Retry, Posts, Unlocks, Decides, Locks, Joins, Opens, Reads, Discards, Posting, HasLocked, Unlocking, IsOpen, HasNext, Locking, NotThere, Has, Ended}
 use Rattle.seat_programs.specs.Programs.{Program, Do, Say, Sent, Rest, TakeMessage, TakeHome, PutHome, PutBytes, AskReady, Write, Aside, Round, Keep, Retries}
-use Rattle.seat_programs.specs.Posts.{advance_of}
 use Rattle.std.specs.List.{AllByRecursion}
 use Rattle.seat_programs.specs.Cores.{Core, SeatState, found_at, waiting_at}
 use Rattle.seat_programs.specs.StepTables.{word_of}
@@ -30,7 +29,7 @@ use Rattle.seat_programs.specs.sock_model.specs.declared.home.Home.TheVariants.{
 use Rattle.seat_programs.specs.sock_model.specs.Layout.{code_index}
 use Rattle.seat_programs.specs.Told.{AskedFits}
 use Rattle.id_runs.specs.Held.{IdView, id_state, one, HasOne, CallFits, AtFits, MayId, id_row}
-use Rattle.sock_words.specs.Words.{id_slot}
+use Rattle.sock_words.specs.Words.{id_slot, bit}
 
 -- ## What the table of the sockets says
 
@@ -131,7 +130,7 @@ IsOpenWord None = Unit {0}
 
 abbrev pub AtHead : Plan → IdPlan → IdView → Head → Type 0
 AtHead p q u (Posts id e w) = IsFree u × (id_slot id < q.slots) × IsPostable (parts w) × IsError e
-AtHead p q u (Unlocks i w advance) = (i < q.slots) × IsLocked i (advance_of advance) w u
+AtHead p q u (Unlocks i w advance) = (i < q.slots) × IsLocked i (bit advance) w u
 AtHead p q u (Decides id asked w e) = (id_slot id < q.slots) × IsTaken (id_slot id) asked w u × AskedFits p asked
 AtHead p q u (Locks i sought w) = IsFree u × (i < q.slots) × IsOpenWord w
 AtHead p q u (Joins id) = IsFree u × (id_slot id < q.slots)

@@ -14,9 +14,8 @@ use Rattle.corr_core.specs.declared.marks.View.{View}
 use Rattle.id_rule.specs.Lawful.{call_index, at_index, tokens_in, with_token, no_token, with_note, with_kept}
 use Rattle.id_rule.specs.Plays.{hand_of, with_hand, claimed_view, locked_view, popped_view, advanced_view, ended_view, found_view, Longer}
 use Rattle.seat_programs.specs.sock_message.specs.Asked.{Asked}
-use Rattle.sock_words.specs.Words.{at_word_slot, at_word_first, call_id, id_slot}
+use Rattle.sock_words.specs.Words.{at_word_slot, at_word_first, call_id, id_slot, bit}
 use Rattle.seat_programs.specs.Asides.{Step, ClaimId, PutCall, MakeId, StoreCall, LoadCall, StoreAt, LoadAt, LoadIdWord, LockId, PostId, UnlockId, EndId, FreeId, TakeCall, TakeBytes, Found}
-use Rattle.seat_programs.specs.Posts.{advance_of}
 use Rattle.seat_programs.specs.Cores.{Calls}
 use Rattle.seat_programs.specs.Told.{AskedFits}
 
@@ -67,7 +66,7 @@ id_row q (LoadAt o) found c u = found_view (at_index q o) found u
 id_row q (LoadIdWord i) found c u = with_note i (Saw found) u
 id_row q (LockId i from) found c u = if found == from then locked_by i found c u else with_note i (Saw found) u
 id_row q (PostId i from e) found c u = if found == from then (if (parts from).state == 1 then locked_by i found c u else with_note i (Queued (parts found).first e) u) else with_note i (Saw found) u
-id_row q (UnlockId i from advance) found c u = by_token (tokens_in i u) (unlocked_by i from (advance_of advance) found u) u
+id_row q (UnlockId i from advance) found c u = by_token (tokens_in i u) (unlocked_by i from (bit advance) found u) u
 id_row q (EndId i) found c u = by_token (tokens_in i u) (ended_by i found u) u
 id_row q (FreeId i) found c u = no_token i u
 id_row q (TakeCall i) found c u = by_token (tokens_in i u) (λ t. with_token i (with_hand t Empty) u) u
@@ -104,7 +103,7 @@ MayId p q u (LoadAt o) = o < q.operations
 MayId p q u (LoadIdWord i) = i < q.slots
 MayId p q u (LockId i from) = (i < q.slots) × ((parts from).state ≡ 1)
 MayId p q u (PostId i from e) = (i < q.slots) × (((parts from).state ≡ 1) ⊎ (((parts from).state ≡ 2) × ((parts from).second ≡ 0))) × (e ≢ 0) × (e < 32768)
-MayId p q u (UnlockId i from advance) = (i < q.slots) × ((f rg att o s : ℕ) × (c : Asked) × HasOne i (Locked f rg att c o s (Full c)) u × Longer f rg att o s (parts from) × (att + advance_of advance + 2 ≤ rg))
+MayId p q u (UnlockId i from advance) = (i < q.slots) × ((f rg att o s : ℕ) × (c : Asked) × HasOne i (Locked f rg att c o s (Full c)) u × Longer f rg att o s (parts from) × (att + bit advance + 2 ≤ rg))
 MayId p q u (EndId i) = (i < q.slots) × ((f rg att o s : ℕ) × (c : Asked) × HasOne i (Locked f rg att c o s Empty) u)
 MayId p q u (FreeId i) = (i < q.slots) × HasOne i Leaving u
 MayId p q u (TakeCall i) = (i < q.slots) × HasCallAt i u

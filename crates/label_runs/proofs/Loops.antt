@@ -16,14 +16,14 @@ use Rattle.seat_programs.specs.sock_message.specs.Asked.{Asked}
 use Rattle.seat_programs.specs.Asides.{Step, Found, MakeId, StoreCall, StoreAt, UnlockId, PutCall, LoadIdWord, PostId, LockId, EndId, FreeId, TakeCall, TakeBytes, Taking, Bytes, Nothing, Closed}
 use Rattle.seat_programs.specs.Calls.{Call, ClaimRequest, PutMessage, LoadOpen}
 use Rattle.seat_programs.specs.Heads.{Head, Exit, Sought, First, Version, Reading, Posts, Unlocks, Decides, Locks, Joins, Opens, Reads, Discards, Posting, WasGone, WasStale, WasCrowded, WasQueued, HasLocked, Unlocking, IsOpen, HasNext, Deciding, HasEnded, GoesOn, Locking, NotThere, Has, Ended}
-use Rattle.seat_programs.specs.Posts.{packed, advance_of, is_first, is_sought, is_stale, is_full, judged, posted, post_with, post, popped, end_id, decide, decided, unlocked, locking, IsSoughtWord}
+use Rattle.seat_programs.specs.Posts.{packed, is_first, is_sought, is_stale, is_full, judged, posted, post_with, post, popped, end_id, decide, decided, unlocked, locking, IsSoughtWord}
 use Rattle.seat_programs.specs.Programs.{Program, Do, Say, Sent, Rest, TakeMessage, TakeHome, PutHome, PutBytes, AskReady, Write, Aside, Round, Keep, Retries}
 use Rattle.seat_programs.specs.Readers.{answer, answered, responses, read_on, took, discarded, last_of, room_of, slot_in, version_in, has_response, ended_by as how_ended, LIMIT}
 use Rattle.seat_programs.specs.Rounds.{round}
 use Rattle.seat_programs.specs.Sends.{heading_of}
 use Rattle.label_runs.specs.Labels.{FindsLabel, AtLabel, LeavesLabel, LeavesUnlock, LeavesLock}
 pub use Rattle.id_runs.proofs.Loops.{not_true, not_equal, and_left}
-use Rattle.sock_words.specs.Words.{call_id, id_slot, id_first}
+use Rattle.sock_words.specs.Words.{call_id, id_slot, id_first, bit}
 
 -- ## Numbers
 
@@ -173,17 +173,17 @@ module _ {K : Type 0} {lost : K} {unlocked_behind : ℕ → ℕ → Bool → K �
   state_fits true = omega arith
   state_fits false = omega arith
 
-  word_after : (from : ℕ) (advance : Bool) → (parts from).attempt + advance_of advance ≤ 6 → parts (packed (unlocked_word (parts from) (advance_of advance))) ≡ unlocked_word (parts from) (advance_of advance)
-  word_after from advance low = parts_packed (unlocked_word (parts from) (advance_of advance)) (state_fits (eqb (parts from).oldest 0)) (omega arith) (omega arith) (omega (arith, low)) (omega arith) (omega arith)
+  word_after : (from : ℕ) (advance : Bool) → (parts from).attempt + bit advance ≤ 6 → parts (packed (unlocked_word (parts from) (bit advance))) ≡ unlocked_word (parts from) (bit advance)
+  word_after from advance low = parts_packed (unlocked_word (parts from) (bit advance)) (state_fits (eqb (parts from).oldest 0)) (omega arith) (omega arith) (omega (arith, low)) (omega arith) (omega arith)
 
   module _ (t : K) (i from : ℕ) (advance : Bool) (k : Unlocking → Program) (goes : (exit : Unlocking) → LeavesLabel (Unlocks i from advance) exit → G (unlocked_behind i from advance t) (k exit)) where
     abbrev after : ℕ
-    after = packed (unlocked_word (parts from) (advance_of advance))
+    after = packed (unlocked_word (parts from) (bit advance))
 
     abbrev now : K
     now = unlocked_behind i from advance t
 
-    pops : (low : (parts from).attempt + advance_of advance ≤ 6) → G (unlocked_behind i from advance t) (popped i (parts from).oldest after k)
+    pops : (low : (parts from).attempt + bit advance ≤ 6) → G (unlocked_behind i from advance t) (popped i (parts from).oldest after k)
     pops low = let first : (parts after).first ≡ (parts from).first = ap (λ (w : Parts). w.first) (word_after from advance low) in
         way now (eqb (parts from).oldest 0) (k (IsOpen after)) (cond (is_stale (parts from).oldest (parts after)) (Round (Unlocks i after false) k) (k (HasNext after (parts from).oldest)))
         (λ _. goes (IsOpen after) (low, tt))

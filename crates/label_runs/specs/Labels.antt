@@ -3,7 +3,7 @@ use Rattle.std.specs.Prelude.{ℕ, ◌≡◌, ◌≢◌, ◌+◌, ◌<◌, ◌�
 use Rattle.sock_io.specs.declared.link.Put.{Put}
 use Rattle.sock_io.specs.declared.link.Ready.{Ready}
 use Rattle.sock_model.specs.declared.chain.Heading.{Heading}
-use Rattle.sock_words.specs.Words.{at_word, call_id, id_slot, id_first}
+use Rattle.sock_words.specs.Words.{at_word, call_id, id_slot, id_first, bit}
 use Rattle.corr_core.specs.Word.{parts}
 use Rattle.id_runs.specs.Goes.{FitsSock}
 use Rattle.seat_programs.specs.sock_message.specs.Asked.{Asked, frame_of}
@@ -11,7 +11,7 @@ use Rattle.seat_programs.specs.Asides.{Step, Found, PutCall, MakeId, StoreAt, Un
 use Rattle.seat_programs.specs.Attempts.{heading_for}
 use Rattle.seat_programs.specs.Calls.{Call, PutMessage}
 use Rattle.seat_programs.specs.Heads.{Head, Exit, Sought, First, Posts, Unlocks, Decides, Locks, Posting, HasLocked, Unlocking, HasNext, Locking, NotThere, Has}
-use Rattle.seat_programs.specs.Posts.{advance_of, is_sought, IsSoughtWord}
+use Rattle.seat_programs.specs.Posts.{is_sought, IsSoughtWord}
 use Rattle.seat_programs.specs.Programs.{Program, Do, Say, Sent, Rest, TakeMessage, TakeHome, PutHome, PutBytes, AskReady, Write, Aside, Round, Keep, Retries}
 
 -- a seat tries attempt n of the call with this id; and has stored its at word, the call being this operation
@@ -70,7 +70,7 @@ LeavesNext Next first other = Unit {0}
 
 abbrev pub LeavesBy : (ℕ → ℕ → ℕ → Type 0) → (head : Head) → Exit head → Type 0
 LeavesBy Next (Posts id e w) exit = LeavesPost id exit
-LeavesBy Next (Unlocks i w advance) exit = ((parts w).attempt + advance_of advance ≤ 6) × LeavesNext Next (parts w).first exit
+LeavesBy Next (Unlocks i w advance) exit = ((parts w).attempt + bit advance ≤ 6) × LeavesNext Next (parts w).first exit
 LeavesBy Next (Locks i sought w) exit = LeavesLock sought exit
 LeavesBy Next other exit = Unit {0}
 
@@ -104,7 +104,7 @@ module _ (is_call : Asked → Type 0) where
 
   -- whoever has a lock finds it with more errors at most; and a call at home is one of these
   abbrev pub FindsLabel : (step : Step) → Found step → Type 0
-  FindsLabel (UnlockId i from advance) found = ((parts from).first < 4294967296) × ((parts from).attempt + advance_of advance ≤ 6) × (found ≢ from → ((parts found).first ≡ (parts from).first) × ((parts found).attempt ≡ (parts from).attempt))
+  FindsLabel (UnlockId i from advance) found = ((parts from).first < 4294967296) × ((parts from).attempt + bit advance ≤ 6) × (found ≢ from → ((parts found).first ≡ (parts from).first) × ((parts found).attempt ≡ (parts from).attempt))
   FindsLabel (TakeCall i) found = is_call found
   FindsLabel other found = Unit {0}
 

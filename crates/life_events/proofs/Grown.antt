@@ -6,12 +6,13 @@ use native.Mathlib.Decide.{ℕ_discrete}
 use Rattle.sock_model.specs.declared.marks.Mark.{Mark}
 use Rattle.sock_model.specs.declared.marks.Mark.TheVariants as mark
 use Rattle.sock_model.specs.declared.marks.SlotMark.{SlotMark}
-use Rattle.sock_model.specs.Weights.{total, only, pair, is_hold, is_born, is_failer, is_freer}
+use Rattle.sock_model.specs.Weights.{only, pair, is_hold, is_born, is_failer, is_freer}
 use Rattle.sock_model.specs.Marks.{about, at, without, without_at}
 use Rattle.sock_model.specs.Plain.{Life, life_at, once_more}
 use Rattle.slot_steps.proofs.Sums.{about-here, about-other, taken_as}
 use Rattle.slot_steps.proofs.Frame.{about-without, about-without_else}
 use Rattle.slot_steps.proofs.Slots.{hold_is}
+use Rattle.sock_words.specs.Totals.{total}
 
 -- of each life the new marks have so many more
 pub record Grown (old new : List SlotMark) (births fails ends holds : Life → ℕ) : Type 0 where

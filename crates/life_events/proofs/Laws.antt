@@ -8,7 +8,7 @@ use Rattle.sock_words.specs.declared.plain.Plan.{Plan}
 use Rattle.sock_model.specs.declared.marks.Mark.{Mark}
 use Rattle.sock_model.specs.declared.home.Home.{Home}
 use Rattle.sock_model.specs.declared.view.View.{View}
-use Rattle.sock_model.specs.Weights.{total, life, is_busy, is_ref, is_hold, is_born, is_failer, is_freer}
+use Rattle.sock_model.specs.Weights.{life, is_busy, is_ref, is_hold, is_born, is_failer, is_freer}
 use Rattle.sock_model.specs.Marks.{about}
 use Rattle.sock_model.specs.Slots.{SlotFacts, live, count}
 use Rattle.sock_model.specs.References.{slot_facts, References}
@@ -18,6 +18,7 @@ use Rattle.sock_model.specs.Plain.{Life, life_at, Plain, IsUnheld, IsUnended, Pl
 use Rattle.slot_steps.proofs.Sums.{total_mono}
 use Rattle.slot_steps.proofs.Slots.{hold_ref}
 use Rattle.slot_steps.proofs.Numbers.{life-in, life_is, life_le, life-high, live_le, live_is}
+use Rattle.sock_words.specs.Totals.{total}
 
 total_map : {A B : Type 0} (f : A → B) (g : B → ℕ) (l : List A) → total (λ a. g (f a)) l ≡ total g (map f l)
 total_map f g [] = omega arith

@@ -8,12 +8,13 @@ use lib.Seq.{map-set}
 use Rattle.atomic_table.proofs.Lists.{at_map}
 use Rattle.sock_model.specs.declared.marks.Mark.{Mark}
 use Rattle.sock_model.specs.declared.view.View.{View}
-use Rattle.sock_model.specs.Weights.{total, is_hold, is_born, is_failer, is_freer}
+use Rattle.sock_model.specs.Weights.{is_hold, is_born, is_failer, is_freer}
 use Rattle.sock_model.specs.Marks.{about}
 use Rattle.sock_model.specs.SlotRows.{marks_of}
 use Rattle.sock_model.specs.Plain.{Life, Nothing, Birth, Hold, Drop, Fail, End, same_life, once_more, one_more, one_less, changed, plain}
 use Rattle.slot_steps.proofs.Sums.{total-set}
 use Rattle.life_events.proofs.Grown.{Grown, Same, no_life}
+use Rattle.sock_words.specs.Totals.{total}
 
 at_index : (l : List ℕ) (i a : ℕ) → get_elem? l i ≡ some a → get_or l i 0 ≡ a
 at_index [] i a e = absurd (some-ne-none a (sym e))

@@ -7,7 +7,7 @@ use native.Mathlib.Decide.{ℕ_discrete}
 use lib.ListN.{get_elem?}
 use Rattle.sock_model.specs.declared.marks.Mark.{Mark}
 use Rattle.sock_model.specs.declared.view.View.{View}
-use Rattle.sock_model.specs.Weights.{total, is_ref, is_hold, is_born, is_failer, is_freer}
+use Rattle.sock_model.specs.Weights.{is_ref, is_hold, is_born, is_failer, is_freer}
 use Rattle.sock_model.specs.Marks.{about}
 use Rattle.sock_model.specs.SlotRows.{marks_of}
 use Rattle.sock_model.specs.Seats.{spent, joined}
@@ -16,6 +16,7 @@ use Rattle.slot_steps.proofs.Sums.{total-append, total-set, total_mono}
 use Rattle.slot_steps.proofs.Slots.{hold_ref}
 use Rattle.slot_steps.proofs.Seats.{about-append}
 use Rattle.life_events.proofs.Readings.{own_holds, seat_after, other_after}
+use Rattle.sock_words.specs.Totals.{total}
 
 -- the same lives, and the same holders of each, in so many slots
 pub record SameLives (slots : ℕ) (before after : Plain) : Type 0 where

@@ -2,7 +2,7 @@
 use Rattle.std.proofs.Common.{◌≡◌, refl, ℕ, zero, suc, ◌+◌, ◌-◌, ◌%◌, ◌==◌, ◌&&◌, ◌⊎◌, inl, inr, ⊎_elim, not, nat_lt, nat_le, if◌then◌else◌, Bool, true, false, List, [], ◌∷◌, ◌++◌, length, Option, Some, None, ap, sym, ◌∙◌, subst}
 use Rattle.std.proofs.lemmas.Bool.{true≢false}
 use Rattle.sock_steps.proofs.Quiet.{either_way}
-use Rattle.sock_words.specs.Words.{socket_id_version, vref_version, vref_nref, ticket_request, ticket_generation, IDLE, UNCONNECTED, id_slot, id_first, NO_SOCKET}
+use Rattle.sock_words.specs.Words.{socket_id_version, vref_version, vref_nref, ticket_request, ticket_generation, IDLE, UNCONNECTED, id_slot, id_first, NO_SOCKET, bit}
 use Rattle.sock_words.specs.declared.socket_id.SocketId.{SocketId}
 use Rattle.sock_words.specs.declared.ticket.Ticket.{Ticket}
 use Rattle.sock_io.specs.declared.link.Put.{Put}
@@ -22,7 +22,7 @@ use Rattle.seat_programs.specs.Writings as heads
 use Rattle.seat_programs.specs.Programs.{Program, Do, PutBytes, Write, Aside, Round, Keep, LAST_VERSION, LAST_GENERATION, open_from}
 use Rattle.seat_programs.specs.Sends.{block, freed, passed_telling, tell_drop, claim_from}
 use Rattle.seat_programs.specs.Attempts.{claims_from, claim_id, tried_again, retry_locked}
-use Rattle.seat_programs.specs.Posts.{packed, is_first, is_stale, is_full, is_sought, judged, posted, decided, popped, unlocked, decide, locking, advance_of}
+use Rattle.seat_programs.specs.Posts.{packed, is_first, is_stale, is_full, is_sought, judged, posted, decided, popped, unlocked, decide, locking}
 use Rattle.seat_programs.specs.Rounds.{round, first_step}
 use Rattle.seat_programs.specs.Clients.{HeldLife, operation, give_back, client_from, ending_of, drop_of, held_under, without_name}
 use Rattle.seat_programs.specs.Cores.{resolved, next_step}
@@ -177,8 +177,8 @@ popped_calm : (i oldest after : ℕ) (k : Unlocking → Program) → ((how : Unl
 popped_calm i oldest after k calm = either_way (oldest == 0) _ _ Calm (calm (IsOpen after)) (either_way (is_stale oldest (parts after)) _ _ Calm (λ w. tt) (calm (HasNext after oldest)))
 
 unlocks_calm : (i from found : ℕ) (advance : Bool) (k : Unlocking → Program) → ((how : Unlocking) → Calm (k how)) →
-    Calm (if found == from then popped i (parts from).oldest (packed (unlocked_word (parts from) (advance_of advance))) k else Round (Unlocks i found advance) k)
-unlocks_calm i from found advance k calm = either_way (found == from) _ _ Calm (popped_calm i (parts from).oldest (packed (unlocked_word (parts from) (advance_of advance))) k calm) (λ w. tt)
+    Calm (if found == from then popped i (parts from).oldest (packed (unlocked_word (parts from) (bit advance))) k else Round (Unlocks i found advance) k)
+unlocks_calm i from found advance k calm = either_way (found == from) _ _ Calm (popped_calm i (parts from).oldest (packed (unlocked_word (parts from) (bit advance))) k calm) (λ w. tt)
 
 locking_calm : (i : ℕ) (sought : Sought) (found : ℕ) (k : Locking → Program) → ((how : Locking) → Calm (k how)) → Calm (locking i sought found k)
 locking_calm i sought found k calm = either_way (not (is_sought sought (parts found))) _ _ Calm (calm (NotThere found)) (either_way ((parts found).state == 1) _ _ Calm (λ w. tt) (λ w. tt))

@@ -16,7 +16,7 @@ use Rattle.sock_model.specs.declared.view.View.{View}
 use Rattle.sock_model.specs.declared.view.Hand.{Hand}
 use Rattle.sock_model.specs.declared.chain.Right.{Right}
 use Rattle.sock_model.specs.Marks.{about}
-use Rattle.sock_model.specs.Weights.{total, only, is_recycled, is_recycling, is_busy, is_met}
+use Rattle.sock_model.specs.Weights.{only, is_recycled, is_recycling, is_busy, is_met}
 use Rattle.sock_model.specs.SlotRows.{marks_of}
 use Rattle.sock_model.specs.Links.{Given}
 use Rattle.sock_model.specs.Homes.{Unborn, Recycles}
@@ -40,6 +40,7 @@ use Rattle.sock_runs.specs.program_steps.specs.Sound.{state}
 use Rattle.sock_runs.proofs.HandTicks.{AtHome, taking, found_hand}
 use Rattle.message_events.specs.Standing.{hands_on, by_home, stand}
 use Rattle.message_events.proofs.Others.{stand_of, stand_on}
+use Rattle.sock_words.specs.Totals.{total}
 
 -- none of these has the link
 pub no_hands : (k : ℕ) (hs : List Hand) → total (carries k) hs ≡ 0 → filter (λ (h : Hand). eqb h.link k) hs ≡ []

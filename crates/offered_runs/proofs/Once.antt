@@ -11,7 +11,6 @@ use Rattle.sock_io.specs.declared.link.Put.TheVariants.{Took, Again, Failed}
 use Rattle.sock_model.specs.declared.home.Home.{Home}
 use Rattle.sock_model.specs.declared.home.Home.TheVariants.{Empty, Link, Message}
 use Rattle.sock_model.specs.declared.view.View.{View}
-use Rattle.sock_model.specs.Weights.{total}
 use Rattle.slot_steps.proofs.Sums.{total-append, total-set, term_le}
 use Rattle.sock_steps.proofs.Places.{two_seats}
 use Rattle.brpc_model.specs.Items.{Item}
@@ -32,6 +31,7 @@ use Rattle.served_runs.specs.Below.programs_allowed.specs.sock_runs.proofs.LinkT
 use Rattle.served_runs.specs.Below.programs_allowed.specs.sock_runs.proofs.Ticks.{sound_ticks}
 use Rattle.served_runs.specs.Below.call_owing.specs.Lives.{InHand}
 use Rattle.served_runs.specs.Offered.{Lies}
+use Rattle.sock_words.specs.Totals.{total}
 
 -- ## How many
 

@@ -23,7 +23,7 @@ use Rattle.served_runs.specs.Below.owing_ticks.proofs.OwingRuns.{same_first}
 use Rattle.served_runs.specs.Below.run_theorems.specs.Offered.{GaveSo, HasTaken}
 use Rattle.served_runs.specs.Below.run_theorems.specs.Offered as told
 use Rattle.served_runs.specs.Below.run_theorems.specs.OfferedRuns as runs
-use Rattle.served_runs.specs.Below.call_stories.specs.Lists.{given}
+use Rattle.served_runs.specs.Below.call_stories.specs.Lists.{gave_in}
 use Rattle.served_runs.specs.Below.accept_counts.proofs.Early.{start, go, fitting}
 use Rattle.served_runs.specs.Below.call_stories.proofs.RunTicks.{in_setup, in_clients, in_closing}
 use Rattle.served_runs.specs.Offered.{TookSoFar, IsDone, IsOfferedSo, OffersAt, AreOffered, OffersInRun}
@@ -51,7 +51,7 @@ module _ (script : List Item) where
     one_took : (took t : List ℕ) → HasTaken (plan_of script) k c took → TookSoFar (plan_of script) c k t → took ≡ t
     one_took took t a b = ap took_of (one_link (plan_of script) k c took t a.0 b.0 a.1 b.1 (once k) a.2 b.2)
 
-    offered_so : (taking : Taking) (took : List ℕ) → HasTaken (plan_of script) k c took → GaveSo shape.serve shape.end took (given c k) taking → (taking ≡ Closed → IsDone (plan_of script) c k) → IsOfferedSo (plan_of script) shape c k taking
+    offered_so : (taking : Taking) (took : List ℕ) → HasTaken (plan_of script) k c took → GaveSo shape.serve shape.end took (gave_in c k) taking → (taking ≡ Closed → IsDone (plan_of script) c k) → IsOfferedSo (plan_of script) shape c k taking
     offered_so (Bytes bytes) took has gave done = λ t b. (gave.0, gave.1 ∙ ap (told.offered shape.serve shape.end) (one_took took t has b))
     offered_so Nothing took has gave done = λ t b. gave ∙ ap (told.offered shape.serve shape.end) (one_took took t has b)
     offered_so AtEnd took has gave done = λ t more b. gave more ∙ ap (λ x. told.offered shape.serve shape.end (x ++ more)) (one_took took t has b)

@@ -7,7 +7,7 @@ use Rattle.sock_model.specs.declared.marks.Mark.TheVariants.{Claimed, Recycling,
 use Rattle.sock_model.specs.declared.marks.SlotMark.{SlotMark}
 use Rattle.sock_model.specs.declared.view.View.{View}
 use Rattle.sock_model.specs.declared.view.Hand.{Hand}
-use Rattle.sock_model.specs.Weights.{total, is_probe, is_hold, is_stage, is_recycling, is_zero, is_coding, is_born, is_failer, is_linked, is_tried}
+use Rattle.sock_model.specs.Weights.{is_probe, is_hold, is_stage, is_recycling, is_zero, is_coding, is_born, is_failer, is_linked, is_tried}
 use Rattle.sock_model.specs.Marks.{about, at, without_at}
 use Rattle.sock_model.specs.SlotRows.{marks_of, back, subbed, recycled}
 use Rattle.program_walks.specs.slot_steps.proofs.Slots.{zero_is, hold_is, probe_is, stage_is}
@@ -17,6 +17,7 @@ use Rattle.seat_programs.specs.StepTables.{row}
 use Rattle.program_walks.specs.program_steps.proofs.Leaves.{is_noting, noting_marks}
 use Rattle.outcome_stories.specs.Stories.{adds}
 use Rattle.outcome_stories.proofs.Tests.{split}
+use Rattle.sock_words.specs.Totals.{total}
 
 -- a weight of no mark but Tried, Born, Linked and Failer
 pub record IsNote (f : Mark → ℕ) : Type 0 where

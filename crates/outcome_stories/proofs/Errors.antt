@@ -15,14 +15,14 @@ use Rattle.seat_programs.specs.Asides.{FreeId, PutCall, Taking, Bytes, Nothing, 
 use Rattle.seat_programs.specs.Heads.{Head, Exit, Retry, Sought, Version, Reading, Ended, Posts, Unlocks, Decides, Locks, Joins, Opens, Reads, Discards, Posting, WasGone, WasStale, WasCrowded, WasQueued, HasLocked, Unlocking, IsOpen, HasNext, Deciding, HasEnded, Locking, NotThere}
 use Rattle.seat_programs.specs.Heads.{GoesOn as OpenAgain, Has as HasLock}
 use Rattle.seat_programs.specs.Programs.{Program, Say, Aside, Round}
-use Rattle.seat_programs.specs.Posts.{packed, advance_of, is_first, is_stale, is_full, is_sought, judged, post, post_with, posted, popped, end_id, decide, decided, unlocked, locking}
+use Rattle.seat_programs.specs.Posts.{packed, is_first, is_stale, is_full, is_sought, judged, post, post_with, posted, popped, end_id, decide, decided, unlocked, locking}
 use Rattle.seat_programs.specs.Readers.{LIMIT, slot_in, version_in, answer, answered, has_response, responses, last_of, ended_by, read_on, took, discarded}
 use Rattle.seat_programs.specs.Rounds.{round}
 use Rattle.seat_programs.specs.Sends.{tell_drop}
 use Rattle.outcome_stories.specs.Stories.{Entry}
 use Rattle.outcome_stories.specs.Explains.{Way, Own, Beside, Closing, Done, ExplainsBy, EndedCall, IsClosing}
 use Rattle.outcome_stories.proofs.Tests.{split}
-use Rattle.sock_words.specs.Words.{id_slot, id_first, call_id}
+use Rattle.sock_words.specs.Words.{id_slot, id_first, call_id, bit}
 
 -- what is said of a call
 pub call_said : (slots requests : ℕ) (calls : ℕ → Type 0) (w : Way) (broken : List ℕ) (done : List Done) (trace : List Entry) (todo : List Task) (o : ℕ) (outcome : Outcome) (next : Program) → calls o
@@ -148,7 +148,7 @@ module _ (slots requests : ℕ) (calls : ℕ → Type 0) (w : Way) (broken : Lis
   )
   loop_goes (Unlocks i from advance) k x = let goes = λ (exit : Unlocking). x.1 exit tt in (
     tt,
-    λ found _. let after : ℕ = packed (unlocked_word (parts from) (advance_of advance)) in
+    λ found _. let after : ℕ = packed (unlocked_word (parts from) (bit advance)) in
         split (eqb found from) (popped i (parts from).oldest after k) (Round (Unlocks i found advance) k) Goes (popped_goes i (parts from).oldest after k goes) ((tt, tt), λ exit _. goes exit),
   )
   loop_goes (Decides id asked word e) k x = let r : Retry = record { id = id; attempt = (parts word).attempt + 1 } in

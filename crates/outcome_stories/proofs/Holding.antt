@@ -10,7 +10,7 @@ use Rattle.sock_model.specs.declared.marks.Mark.TheVariants.{Hold, Probe, Zero, 
 use Rattle.sock_model.specs.declared.marks.SlotMark.{SlotMark}
 use Rattle.sock_model.specs.declared.view.View.{View}
 use Rattle.sock_model.specs.declared.view.Hand.{Hand}
-use Rattle.sock_model.specs.Weights.{total, is_hold, is_stage, only}
+use Rattle.sock_model.specs.Weights.{is_hold, is_stage, only}
 use Rattle.sock_model.specs.Marks.{about, at, without, without_at}
 use Rattle.sock_model.specs.SlotRows.{marks_of, back, subbed}
 use Rattle.program_walks.specs.slot_steps.proofs.Numbers.{only-at, only-else}
@@ -22,6 +22,7 @@ use Rattle.seat_programs.specs.StepTables.{row}
 use Rattle.program_walks.specs.program_steps.proofs.Marking.{is_taken, marks_way}
 use Rattle.outcome_stories.specs.Explains.{holds_behind}
 use Rattle.outcome_stories.proofs.Tests.{split}
+use Rattle.sock_words.specs.Totals.{total}
 
 only_one : (h k : ℕ) → only h k ≤ 1
 only_one h k = dite (ℕ_discrete k h) (λ e. let a = only-at h k e in omega arith) (λ n. let a = only-else h k n in omega arith)

@@ -62,8 +62,8 @@ abbrev pub advanced_at : Core → Moment → List ℕ
 advanced_at c m = elim (get_elem? c.seats m.seat) as (λ o. List ℕ) [ none ↦ [] | some seat ↦ advanced_by c.calls seat.program ]
 
 -- what these ticks show, one after another
-module _ (shown : Core → Moment → List ℕ) where
-  abbrev pub shown_in : Plan → Core → List Moment → List ℕ
+module _ {A : Type 0} (shown : Core → Moment → List A) where
+  abbrev pub shown_in : Plan → Core → List Moment → List A
   shown_in p c [] = []
   shown_in p c (m ∷ ms) = shown c m ++ shown_in p (ticked p c m) ms
 
@@ -79,7 +79,7 @@ module _ (script : List Item) (turns : List Turn) (end_ : Core) (is : IsRunWithC
   before_ending = played script is.setup (is.scheduled ++ is.later)
 
   -- what the ticks of the whole run show, of the setup first
-  abbrev pub shown_in_run : (Core → Moment → List ℕ) → List ℕ
+  abbrev pub shown_in_run : {A : Type 0} → (Core → Moment → List A) → List A
   shown_in_run shown = let p = plan_of script in shown_in shown p (opened script) (replicate is.setup (quiet 0))
       ++ (shown_in shown p (set_up script is.setup) (is.scheduled ++ is.later)
       ++ (shown_in shown p (ending script before_ending) (replicate is.last (quiet 0)) ++ shown_in shown p is.ended is.final))

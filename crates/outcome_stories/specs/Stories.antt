@@ -3,9 +3,9 @@ use Rattle.std.specs.Prelude.{ℕ, ◌+◌, ◌%◌, ◌==◌, ◌&&◌, ◌⊎�
 use Rattle.sock_words.specs.Words.{vref_version}
 use Rattle.sock_model.specs.declared.marks.Mark.{Mark}
 use Rattle.sock_model.specs.declared.marks.Mark.TheVariants.{Tried, Born, Failer, Linked}
-use Rattle.sock_model.specs.Weights.{total}
 use Rattle.seat_programs.specs.Calls.{Call, ClaimSlot, CreateLife, SetOdd, StoreName}
 use Rattle.seat_programs.specs.declared.task.Task.{Task}
+use Rattle.sock_words.specs.Totals.{total}
 
 -- a step and the word that it found
 pub record Entry : Type 0 where

@@ -6,13 +6,14 @@ use Rattle.sock_words.specs.declared.plain.Plan.{Plan}
 use Rattle.sock_words.specs.Words.{vref_version}
 use Rattle.sock_model.specs.declared.marks.Mark.{Mark}
 use Rattle.sock_model.specs.declared.marks.Mark.TheVariants.{Born, Failer, Linked}
-use Rattle.sock_model.specs.Weights.{total, is_born, is_failer, is_linked, is_tried}
+use Rattle.sock_model.specs.Weights.{is_born, is_failer, is_linked, is_tried}
 use Rattle.outcome_stories.specs.program_steps.specs.slot_steps.proofs.Numbers.{only_is, only-at, pair_is, pair-at}
 use Rattle.seat_programs.specs.declared.task.Task.{Task}
 use Rattle.seat_programs.specs.Calls.{Call, ClaimSlot, CreateLife, SetOdd, StoreName}
 use Rattle.outcome_stories.specs.Stories.{Entry, Event, In, trace_of, stored_by, last_name, adds, added_by, marked}
 use Rattle.outcome_stories.specs.Explains.{Fits, step}
 use Rattle.outcome_stories.specs.Causes.{Cause, Good}
+use Rattle.sock_words.specs.Totals.{total}
 
 abbrev pub event : ℕ → ℕ → Call → ℕ → Event
 event c o call found = record { client = c; number = o; entry = step call found }

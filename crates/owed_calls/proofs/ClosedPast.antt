@@ -14,7 +14,7 @@ use Rattle.sock_model.specs.declared.view.View.{View}
 use Rattle.sock_model.specs.declared.view.Hand.{Hand}
 use Rattle.sock_model.specs.Layout.{open_index, ref_index}
 use Rattle.sock_model.specs.Reads.{as_link, shown, carries, hands_of}
-use Rattle.sock_model.specs.Weights.{total, is_freer, is_linked}
+use Rattle.sock_model.specs.Weights.{is_freer, is_linked}
 use Rattle.sock_model.specs.Slots.{count}
 use Rattle.sock_model.specs.References.{slot_facts}
 use Rattle.owned_ids.specs.Below.programs_allowed.specs.slot_steps.proofs.Sums.{term_le}
@@ -27,6 +27,7 @@ use Rattle.owned_ids.specs.Below.programs_allowed.specs.program_walks.proofs.Lin
 use Rattle.owned_ids.specs.call_owing.proofs.EndsStill.{view_of}
 use Rattle.owned_ids.specs.call_owing.specs.Lives.{InHand, IsFinished}
 use Rattle.owned_ids.proofs.WordsGiven.{Named}
+use Rattle.sock_words.specs.Totals.{total}
 
 -- ## In hand
 

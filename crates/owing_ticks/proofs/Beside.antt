@@ -8,7 +8,7 @@ use Rattle.corr_core.specs.Word.{Parts, parts, attempt_of, posted_word, locked_w
 use Rattle.corr_core.specs.declared.marks.Plan.{Plan as IdPlan}
 use Rattle.seat_programs.specs.id_rule.specs.Lawful as ids
 use Rattle.seat_programs.specs.Asides.{LockId, PostId, UnlockId}
-use Rattle.seat_programs.specs.Posts.{packed, advance_of}
+use Rattle.seat_programs.specs.Posts.{packed}
 use Rattle.seat_programs.specs.Cores.{Core, SeatState, Calls}
 use Rattle.seat_programs.specs.Beside.{calls_after}
 use Rattle.call_owing.specs.Below.id_runs.proofs.Keeps.{parts_packed}
@@ -18,7 +18,7 @@ use Rattle.call_owing.proofs.Changes.{past_on}
 use Rattle.call_owing.proofs.Words.{worded}
 use Rattle.owing_ticks.proofs.Exchanges.{Holds, stays_so, locks_so, queues_so, posting_keeps, same_step}
 use Rattle.owing_ticks.proofs.Turns.{unlocks_keep}
-use Rattle.sock_words.specs.Words.{call_id, id_slot, id_first}
+use Rattle.sock_words.specs.Words.{call_id, id_slot, id_first, bit}
 
 set_get : (l : List ℕ) (k : ℕ) → set l k (get_or l k 0) ≡ l
 set_get [] k = refl
@@ -119,14 +119,14 @@ module _ (q : IdPlan) (narrow : q.slots ≤ 65536) (life : ℕ → Option ℕ) (
                 ∙ parts_packed record { first = (parts from).first; state = 2; range = (parts from).range; attempt = (parts from).attempt; oldest = cond (eqb (parts from).oldest 0) e (parts from).oldest; second = cond (eqb (parts from).oldest 0) 0 e } (omega arith) (omega arith) (omega arith) (omega arith) (fits (eqb (parts from).oldest 0)).0 (fits (eqb (parts from).oldest 0)).1
 
     -- I5
-    pub unlock_keeps : (from : ℕ) (advance : Bool) → (parts from).first < 4294967296 → (parts from).attempt + advance_of advance ≤ 6 → (parts from).state ≡ 2 → MayOwe u (UnlockId s from advance) → OwingLaw q life calls (Behind (calls_after (UnlockId s from advance) found c.calls)) (set us i (cond (eqb found from) (unlocked_by s from advance u) u))
+    pub unlock_keeps : (from : ℕ) (advance : Bool) → (parts from).first < 4294967296 → (parts from).attempt + bit advance ≤ 6 → (parts from).state ≡ 2 → MayOwe u (UnlockId s from advance) → OwingLaw q life calls (Behind (calls_after (UnlockId s from advance) found c.calls)) (set us i (cond (eqb found from) (unlocked_by s from advance u) u))
     unlock_keeps from advance low few two may = by_hit (eqb found from) refl
       where
         state_fits : (b : Bool) → cond b 1 2 < 4
         state_fits true = omega arith
         state_fits false = omega arith
 
-        by_hit : (b : Bool) → eqb found from ≡ b → OwingLaw q life calls (Behind (record c.calls { words = set c.calls.words (ids.id_index s) (cond b (packed (unlocked_word (parts from) (advance_of advance))) found) })) (set us i (cond b (unlocked_by s from advance u) u))
-        by_hit true h = let w : parts from ≡ id_word_of c s = ap parts (sym (eqb-true found from h)) ∙ is_word in unlocks_keep q narrow life calls c us i u law at sized ss os s inside (packed (unlocked_word (parts from) (advance_of advance))) from advance low w two
-            (parts_packed (unlocked_word (parts from) (advance_of advance)) (state_fits (eqb (parts from).oldest 0)) (omega arith) (omega arith) (omega (arith, few)) (omega arith) (omega arith)) may
+        by_hit : (b : Bool) → eqb found from ≡ b → OwingLaw q life calls (Behind (record c.calls { words = set c.calls.words (ids.id_index s) (cond b (packed (unlocked_word (parts from) (bit advance))) found) })) (set us i (cond b (unlocked_by s from advance u) u))
+        by_hit true h = let w : parts from ≡ id_word_of c s = ap parts (sym (eqb-true found from h)) ∙ is_word in unlocks_keep q narrow life calls c us i u law at sized ss os s inside (packed (unlocked_word (parts from) (bit advance))) from advance low w two
+            (parts_packed (unlocked_word (parts from) (bit advance)) (state_fits (eqb (parts from).oldest 0)) (omega arith) (omega arith) (omega (arith, few)) (omega arith) (omega arith)) may
         by_hit false h = worded q life calls c us i u law at (record c.calls { words = set c.calls.words (ids.id_index s) found }) refl ss os u s (parts found) (same_step q life calls c us i u law at sized ss os s inside found (stays_so q life calls c us i u law at sized ss os s inside found is_word))

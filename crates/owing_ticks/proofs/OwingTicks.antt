@@ -21,7 +21,6 @@ use Rattle.seat_programs.specs.id_rule.specs.Lawful as ids
 use Rattle.seat_programs.specs.Calls.{Call, TakeLink, PutLink, PutMessage}
 use Rattle.seat_programs.specs.Asides.{Step, Found, ClaimId, PutCall, MakeId, StoreCall, LoadCall, StoreAt, LoadAt, LoadIdWord, LockId, PostId, UnlockId, EndId, FreeId, TakeCall, TakeBytes, Taking, Bytes, Nothing, NoMore, AtEnd, Closed, Broken}
 use Rattle.seat_programs.specs.Programs.{Program, Do, TakeMessage, TakeHome, PutHome, PutBytes, AskReady, Write, Aside, Round}
-use Rattle.seat_programs.specs.Posts.{advance_of}
 use Rattle.seat_programs.specs.Sends.{block}
 use Rattle.seat_programs.specs.Rounds.{round, first_step}
 use Rattle.seat_programs.specs.Cores.{Calls, Core, SeatState, homes_after, lies_at, first_of, others_of, link_place, waiting_at, with_seat, stepped}
@@ -48,7 +47,7 @@ use Rattle.call_owing.proofs.Rounds.{owes_round}
 use Rattle.call_owing.proofs.Programs.{block_goes}
 use Rattle.call_owing.specs.Below.programs_allowed.specs.program_steps.proofs.Cases.{elem_there}
 pub use Rattle.call_owing.specs.Below.id_runs.proofs.Ticks.{message_there}
-use Rattle.sock_words.specs.Words.{id_slot}
+use Rattle.sock_words.specs.Words.{id_slot, bit}
 
 module _ (p : Plan) (q : IdPlan) (narrow : q.slots ≤ 65536) (same : q.operations ≡ p.operations) (life : ℕ → Maybe ℕ) (low_links : (k s : ℕ) → life k ≡ Some s → k < 65535) (calls : List ℕ) where
   module _ (c : Core) (us : List Owing) (sound : SoundOwing q life calls c us) (vs : List IdView) (known : SoundIds p q c vs) (i : ℕ) (seat : SeatState) (u : Owing) (at_seat : get_elem? c.seats i ≡ some seat) (at : get_elem? us i ≡ some u)
@@ -140,7 +139,7 @@ module _ (p : Plan) (q : IdPlan) (narrow : q.slots ≤ 65536) (same : q.operatio
         → Goes (UnlockId s from advance) (get_or c.calls.words (ids.id_index s) 0) next
     unlocks_some s from advance next g may finds = let m = may.1 in let found : ℕ = get_or c.calls.words (ids.id_index s) 0 in
         let low = lock_low q c.calls vs known.rule i w at_view real s may.0 m.0 m.1 m.2 m.3 m.4 m.5 m.6 from m.7 in
-        let small = lock_few q c.calls vs known.rule i w at_view real s may.0 m.0 m.1 m.2 m.3 m.4 m.5 m.6 from m.7 (advance_of advance) m.8 in
+        let small = lock_few q c.calls vs known.rule i w at_view real s may.0 m.0 m.1 m.2 m.3 m.4 m.5 m.6 from m.7 (bit advance) m.8 in
         let two = lock_two q c.calls vs known.rule i w at_view real s may.0 m.0 m.1 m.2 m.3 m.4 m.5 m.6 from m.7 in
         let longer = lock_longer q c.calls vs known.rule i w at_view real s may.0 m.0 m.1 m.2 m.3 m.4 m.5 m.6 from m.7 finds in
         let f : FindsUnlock from advance (get_or c.calls.words (ids.id_index s) 0) = dite (ℕ_discrete (get_or c.calls.words (ids.id_index s) 0) from)

@@ -7,7 +7,6 @@ use Rattle.sock_words.specs.declared.outcome.Outcome.{Outcome}
 use Rattle.corr_core.specs.Word.{Parts, parts, attempt_of, made_word, unlocked_word, free_word}
 use Rattle.corr_core.specs.declared.marks.Plan.{Plan as IdPlan}
 use Rattle.seat_programs.specs.id_rule.specs.Lawful as ids
-use Rattle.seat_programs.specs.Posts.{advance_of}
 use Rattle.seat_programs.specs.Cores.{Core, SeatState, waiting_at}
 use Rattle.call_owing.specs.Owing.{Duty, Free, Trying, Owing, Among, DutyTo, duty_tokens, with_duty, freed, with_known, with_error, unlocked_by, Ending, ends_other, ends_own, MayUnlock}
 use Rattle.call_owing.specs.Sound.{id_word_of, retry_tokens, Past, Token, Distinct, HasEnded, IsAt, IsOpen, ErrorPast, Stored, OwingLaw}
@@ -15,7 +14,7 @@ use Rattle.call_owing.proofs.Posts.{id_back, not_equal}
 use Rattle.call_owing.proofs.Changes.{past_on, among_right}
 use Rattle.call_owing.proofs.Words.{worded}
 use Rattle.owing_ticks.proofs.Exchanges.{word_set, ats_set, own_past, tail, stored_there, back_at}
-use Rattle.sock_words.specs.Words.{call_id, id_slot, id_first}
+use Rattle.sock_words.specs.Words.{call_id, id_slot, id_first, bit}
 
 module _ (q : IdPlan) (narrow : q.slots ≤ 65536) (life : ℕ → Option ℕ) (calls : List ℕ) (c : Core) (us : List Owing) (i : ℕ) (u : Owing) (law : OwingLaw q life calls c us) (at : get_elem? us i ≡ some u) (sized : length c.calls.words ≡ ids.all_words q)
     (ss : List SeatState) (os : List (std.Option Outcome)) (s : ℕ) (inside : s < q.slots) where
@@ -144,17 +143,17 @@ module _ (q : IdPlan) (narrow : q.slots ≤ 65536) (life : ℕ → Option ℕ) (
       by_zero false true = k
       by_zero false false = inr k
 
-  module _ (x from : ℕ) (advance : Bool) (low : (parts from).first < 4294967296) (is_from : parts from ≡ id_word_of c s) (two : (parts from).state ≡ 2) (is : parts x ≡ unlocked_word (parts from) (advance_of advance)) (may : MayUnlock s from advance u) where
+  module _ (x from : ℕ) (advance : Bool) (low : (parts from).first < 4294967296) (is_from : parts from ≡ id_word_of c s) (two : (parts from).state ≡ 2) (is : parts x ≡ unlocked_word (parts from) (bit advance)) (may : MayUnlock s from advance u) where
     abbrev own_id : ℕ
     own_id = call_id s (parts from).first
 
     abbrev now : ℕ
-    now = (parts from).attempt + advance_of advance
+    now = (parts from).attempt + bit advance
 
     abbrev base : Owing
     base = cond advance (with_duty (Trying (call_id s (parts from).first) ((parts from).attempt + 1)) u) u
 
-    base_duty : (b : Bool) → MayUnlock s from b u → (cond b (with_duty (Trying (call_id s (parts from).first) ((parts from).attempt + 1)) u) u).duty ≡ Trying (call_id s (parts from).first) ((parts from).attempt + advance_of b)
+    base_duty : (b : Bool) → MayUnlock s from b u → (cond b (with_duty (Trying (call_id s (parts from).first) ((parts from).attempt + 1)) u) u).duty ≡ Trying (call_id s (parts from).first) ((parts from).attempt + bit b)
     base_duty true m = refl
     base_duty false m = m ∙ ap (Trying (call_id s (parts from).first)) (let z : (parts from).attempt ≡ (parts from).attempt + 0 = omega arith in z)
 
@@ -162,7 +161,7 @@ module _ (q : IdPlan) (narrow : q.slots ≤ 65536) (life : ℕ → Option ℕ) (
     base_rest true = (refl, refl, refl, refl, refl)
     base_rest false = (refl, refl, refl, refl, refl)
 
-    v_duty : (unlocked_by s from advance u).duty ≡ Trying (call_id s (parts from).first) ((parts from).attempt + advance_of advance)
+    v_duty : (unlocked_by s from advance u).duty ≡ Trying (call_id s (parts from).first) ((parts from).attempt + bit advance)
     v_duty = error_duty (call_id s (parts from).first) (parts from).oldest (cond advance (with_duty (Trying (call_id s (parts from).first) ((parts from).attempt + 1)) u) u) ∙ base_duty advance may
 
     slot_here : id_slot (call_id s (parts from).first) ≡ s
@@ -194,7 +193,7 @@ module _ (q : IdPlan) (narrow : q.slots ≤ 65536) (life : ℕ → Option ℕ) (
     x_first : (parts x).first ≡ (id_word_of c s).first
     x_first = ap (λ (y : Parts). y.first) is ∙ ap (λ (y : Parts). y.first) is_from
 
-    x_attempt : (parts x).attempt ≡ (parts from).attempt + advance_of advance
+    x_attempt : (parts x).attempt ≡ (parts from).attempt + bit advance
     x_attempt = ap (λ (y : Parts). y.attempt) is
 
     x_state : 0 < (parts x).state
@@ -207,12 +206,12 @@ module _ (q : IdPlan) (narrow : q.slots ≤ 65536) (life : ℕ → Option ℕ) (
     locked_c : (id_word_of c s).state ≡ 2
     locked_c = ap (λ (y : Parts). y.state) (sym is_from) ∙ two
 
-    tokens_on : (b : Bool) → MayUnlock s from b u → (parts x).attempt ≡ (parts from).attempt + advance_of b → (j m l : ℕ) → Token c us j m l → id_slot j ≡ s → IsAt q c j m → (parts x).attempt ≡ m
+    tokens_on : (b : Bool) → MayUnlock s from b u → (parts x).attempt ≡ (parts from).attempt + bit b → (j m l : ℕ) → Token c us j m l → id_slot j ≡ s → IsAt q c j m → (parts x).attempt ≡ m
     tokens_on true may e j m l t slot a = absurd (no_old true may refl l (subst (λ k. Token c us k (parts from).attempt l) (only_id j (parts from).first slot (sym a.1 ∙ ap (λ k. (id_word_of c k).first) slot ∙ ap (λ (y : Parts). y.first) (sym is_from)))
         (subst (λ k. Token c us j k l) (sym a.3 ∙ ap (λ k. (id_word_of c k).attempt) slot ∙ ap (λ (y : Parts). y.attempt) (sym is_from)) t)))
     tokens_on false may e j m l t slot a = let z = ap (λ (y : Parts). y.attempt) is_from in let y = ap (λ k. (id_word_of c k).attempt) slot in let w = a.3 in omega (arith, e, z, y, w)
 
-    v_tokens : (b : Bool) → MayUnlock s from b u → (v : Owing) → v.duty ≡ Trying (call_id s (parts from).first) ((parts from).attempt + advance_of b) → (parts x).attempt ≡ (parts from).attempt + advance_of b
+    v_tokens : (b : Bool) → MayUnlock s from b u → (v : Owing) → v.duty ≡ Trying (call_id s (parts from).first) ((parts from).attempt + bit b) → (parts x).attempt ≡ (parts from).attempt + bit b
         → ((j m : ℕ) → Among j m (duty_tokens v.duty) → Among j m (duty_tokens u.duty) ⊎ (IsAt q (There x) j m × ((l : ℕ) → Token c us j m l → ⊥) × (Past us j m → ⊥))) × Distinct (duty_tokens v.duty ++ retry_tokens (waiting_at c.calls.waiting i))
     v_tokens true may v d e = let f = ap (λ (y : Parts). y.first) is_from in let low' : (id_word_of c s).first < 4294967296 = subst (λ k. k < 4294967296) f low in
         let d' : v.duty ≡ Trying (call_id s (id_word_of c s).first) ((parts from).attempt + 1) = d ∙ ap (λ k. Trying (call_id s k) ((parts from).attempt + 1)) f in

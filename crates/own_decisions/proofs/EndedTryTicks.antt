@@ -10,7 +10,6 @@ use Rattle.sock_words.specs.declared.plain.Plan.{Plan}
 use Rattle.sock_words.specs.Words.{at_word, at_word_attempt, call_id, id_slot, id_first}
 use Rattle.sock_model.specs.declared.home.Home.{Home}
 use Rattle.sock_model.specs.declared.view.View.{View}
-use Rattle.sock_model.specs.Weights.{total}
 use Rattle.sent_once.specs.Below.slot_steps.proofs.Sums.{term_le, total-append}
 use Rattle.corr_core.specs.Word.{parts}
 use Rattle.corr_core.specs.declared.marks.Plan.{Plan as IdPlan}
@@ -40,6 +39,7 @@ use Rattle.sent_once.specs.Below.label_runs.proofs.Programs.{retry_goes}
 use Rattle.sent_once.specs.accept_counts.proofs.SeatFacts.{seat_facts}
 use Rattle.own_decisions.proofs.OwnDecisionsTicks.{pair_self}
 use Rattle.seat_programs.specs.Rounds.{first_step}
+use Rattle.sock_words.specs.Totals.{total}
 
 -- ## Attempts that are tried
 

@@ -22,7 +22,7 @@ use Rattle.sent_once.specs.Below.script_facts.proofs.Reading.{InRange}
 use Rattle.sent_once.specs.Below.script_facts.proofs.Targets.{AreThere}
 use Rattle.sent_once.specs.Below.call_owing.specs.Lives.{ClosesInRun}
 use Rattle.sent_once.specs.Below.call_stories.specs.Decided.{posted_by, Decision, decided_by}
-use Rattle.sent_once.specs.Below.call_stories.specs.Lists.{advanced_at, given, shows_in, shows_in_run}
+use Rattle.sent_once.specs.Below.call_stories.specs.Lists.{advanced_at, gave_in}
 use Rattle.sent_once.specs.Below.call_stories.specs.Posts.{Post, posted_at}
 use Rattle.sent_once.specs.Below.call_stories.specs.Scenes.{LeadsTo}
 use Rattle.sent_once.specs.Below.story_ticks.proofs.Claiming.{HaveSlots}
@@ -41,19 +41,20 @@ use Rattle.sent_once.specs.Below.call_causes.proofs.Run.{in_either}
 use Rattle.own_decisions.proofs.OwnDecisionsStands.{Stand, Calm}
 use Rattle.own_decisions.proofs.OwnDecisionsTicks.{AimLaw, law_more, restarts}
 use Rattle.sent_once.specs.Below.outcome_stories.specs.Stories.{In}
+use Rattle.sent_once.specs.Below.outcome_stories.specs.Facts.{shown_in, shown_in_run}
 
 module _ (script : List Item) (made : AreMade script) (there : AreThere script) (range : AllByRecursion InRange script) (turns : List Turn) (core : Core) (is : IsRunWithCalls script turns core) (closes : ClosesInRun script turns core is) where
-  leads : LeadsTo (plan_of script) (id_plan_of script) (all_tasks script) (given core) core
-  leads k = ([], append-nil (given core k))
+  leads : LeadsTo (plan_of script) (id_plan_of script) (all_tasks script) (gave_in core) core
+  leads k = ([], append-nil (gave_in core k))
 
-  abbrev numbered : AreNumbered (plan_of script) (id_plan_of script) (all_tasks script) (given core)
-  numbered = are_numbered script made there range (given core)
+  abbrev numbered : AreNumbered (plan_of script) (id_plan_of script) (all_tasks script) (gave_in core)
+  numbered = are_numbered script made there range (gave_in core)
 
-  abbrev slots : HaveSlots (plan_of script) (id_plan_of script) (all_tasks script) (given core)
-  slots = have_slots script made there range (given core)
+  abbrev slots : HaveSlots (plan_of script) (id_plan_of script) (all_tasks script) (gave_in core)
+  slots = have_slots script made there range (gave_in core)
 
-  abbrev fit : Begins (plan_of script) (id_plan_of script) (all_tasks script) (given core) (are_numbered script made there range (given core)) (have_slots script made there range (given core)) (opens script)
-  fit = begins script made there range (given core)
+  abbrev fit : Begins (plan_of script) (id_plan_of script) (all_tasks script) (gave_in core) (are_numbered script made there range (gave_in core)) (have_slots script made there range (gave_in core)) (opens script)
+  fit = begins script made there range (gave_in core)
 
   sound : IsSoundRun script turns core is
   sound = joint_runs script turns core is made
@@ -63,27 +64,27 @@ module _ (script : List Item) (made : AreMade script) (there : AreThere script) 
   open parts posted_at is use {setup as posts_in_setup, clients as posts_in_clients, closing as posts_in_closing}
   open parts advanced_at is use {setup as advanced_in_setup, clients as advanced_in_clients, closing as advanced_in_closing}
   open run_facts script made turns core is use {set_up_ahead, ended_ahead}
-  open leadings script turns core is (given core) leads use {set_up_leads, played_leads, closed_leads}
+  open leadings script turns core is (gave_in core) leads use {set_up_leads, played_leads, closed_leads}
 
   queued_setup : AllQueued (id_plan_of script) (plan_of script) [] (opened script) (in_setup is)
-  queued_setup = let s = sound in setup_queued (plan_of script) (id_plan_of script) (all_tasks script) (given core) numbered slots (runs.small script made (given core) numbered slots fit turns core is leads) is.setup [] [] (opened script) (first_views script) s.setup
-      set_up_leads (runs.first_tale script made (given core) numbered slots fit turns core is leads).0
+  queued_setup = let s = sound in setup_queued (plan_of script) (id_plan_of script) (all_tasks script) (gave_in core) numbered slots (runs.small script made (gave_in core) numbered slots fit turns core is leads) is.setup [] [] (opened script) (first_views script) s.setup
+      set_up_leads (runs.first_tale script made (gave_in core) numbered slots fit turns core is leads).0
 
   queued_clients : AllQueued (id_plan_of script) (plan_of script) posts_in_setup (set_up script is.setup) (in_clients is)
-  queued_clients = let s = sound in played_queued (plan_of script) (id_plan_of script) (all_tasks script) (given core) numbered slots (runs.small script made (given core) numbered slots fit turns core is leads) (in_clients is) posts_in_setup
+  queued_clients = let s = sound in played_queued (plan_of script) (id_plan_of script) (all_tasks script) (gave_in core) numbered slots (runs.small script made (gave_in core) numbered slots fit turns core is leads) (in_clients is) posts_in_setup
       advanced_in_setup (set_up script is.setup) (views_along (plan_of script) (opened script) (first_views script) (in_setup is)) s.clients
-      set_up_ahead is.is_set_up played_leads (runs.set_up_tale script made (given core) numbered slots fit turns core is leads).0
+      set_up_ahead is.is_set_up played_leads (runs.set_up_tale script made (gave_in core) numbered slots fit turns core is leads).0
 
   queued_closing : AllQueued (id_plan_of script) (plan_of script) (posts_in_setup ++ posts_in_clients) (closing_of script turns core is) (in_closing is)
-  queued_closing = let s = sound in setup_queued (plan_of script) (id_plan_of script) (all_tasks script) (given core) numbered slots (runs.small script made (given core) numbered slots fit turns core is leads) is.last (posts_in_setup ++ posts_in_clients)
+  queued_closing = let s = sound in setup_queued (plan_of script) (id_plan_of script) (all_tasks script) (gave_in core) numbered slots (runs.small script made (gave_in core) numbered slots fit turns core is leads) is.last (posts_in_setup ++ posts_in_clients)
       (advanced_in_setup ++ advanced_in_clients) (closing_of script turns core is) (views_played script turns core is (first_views script)) s.closing
-      closed_leads (runs.ending_tale script made (given core) numbered slots fit turns core is leads).0
+      closed_leads (runs.ending_tale script made (gave_in core) numbered slots fit turns core is leads).0
 
   queued_final : AllQueued (id_plan_of script) (plan_of script) ((posts_in_setup ++ posts_in_clients) ++ posts_in_closing) is.ended is.final
-  queued_final = let s = sound in played_queued (plan_of script) (id_plan_of script) (all_tasks script) (given core) numbered slots (runs.small script made (given core) numbered slots fit turns core is leads) is.final ((posts_in_setup ++ posts_in_clients) ++ posts_in_closing)
+  queued_final = let s = sound in played_queued (plan_of script) (id_plan_of script) (all_tasks script) (gave_in core) numbered slots (runs.small script made (gave_in core) numbered slots fit turns core is leads) is.final ((posts_in_setup ++ posts_in_clients) ++ posts_in_closing)
       ((advanced_in_setup ++ advanced_in_clients) ++ advanced_in_closing)
       is.ended (views_closed script turns core is (first_views script)) s.final
-      ended_ahead is.is_over (subst (LeadsTo (plan_of script) (id_plan_of script) (all_tasks script) (given core)) is.is_end leads) (runs.ended_tale script made (given core) numbered slots fit turns core is leads).0
+      ended_ahead is.is_over (subst (LeadsTo (plan_of script) (id_plan_of script) (all_tasks script) (gave_in core)) is.is_end leads) (runs.ended_tale script made (gave_in core) numbered slots fit turns core is leads).0
 
   -- ## The parts one after another
 
@@ -97,13 +98,13 @@ module _ (script : List Item) (made : AreMade script) (there : AreThere script) 
   Mine₀ j x = ⊥
 
   abbrev Mine₁ : ℕ → Post → Type 0
-  Mine₁ j x = Mine₀ j x ⊎ In x (shows_in (posted_by j) (plan_of script) (opened script) (in_setup is))
+  Mine₁ j x = Mine₀ j x ⊎ In x (shown_in (posted_by j) (plan_of script) (opened script) (in_setup is))
 
   abbrev Mine₂ : ℕ → Post → Type 0
-  Mine₂ j x = Mine₁ j x ⊎ In x (shows_in (posted_by j) (plan_of script) (set_up script is.setup) (in_clients is))
+  Mine₂ j x = Mine₁ j x ⊎ In x (shown_in (posted_by j) (plan_of script) (set_up script is.setup) (in_clients is))
 
   abbrev Mine₃ : ℕ → Post → Type 0
-  Mine₃ j x = Mine₂ j x ⊎ In x (shows_in (posted_by j) (plan_of script) (closing_of script turns core is) (in_closing is))
+  Mine₃ j x = Mine₂ j x ⊎ In x (shown_in (posted_by j) (plan_of script) (closing_of script turns core is) (in_closing is))
 
   setup_part : A [] Mine₀ (opened script) (in_setup is)
   setup_part = let s = sound in run_aims (plan_of script) (id_plan_of script) (narrow script made turns core is closes) (in_setup is) [] Mine₀ (opened script) (first_views script) s.setup queued_setup
@@ -144,16 +145,16 @@ module _ (script : List Item) (made : AreMade script) (there : AreThere script) 
 
   module _ (j : ℕ) where
     abbrev a : List Post
-    a = shows_in (posted_by j) (plan_of script) (opened script) (in_setup is)
+    a = shown_in (posted_by j) (plan_of script) (opened script) (in_setup is)
 
     abbrev b : List Post
-    b = shows_in (posted_by j) (plan_of script) (set_up script is.setup) (in_clients is)
+    b = shown_in (posted_by j) (plan_of script) (set_up script is.setup) (in_clients is)
 
     abbrev c : List Post
-    c = shows_in (posted_by j) (plan_of script) (closing_of script turns core is) (in_closing is)
+    c = shown_in (posted_by j) (plan_of script) (closing_of script turns core is) (in_closing is)
 
     abbrev d : List Post
-    d = shows_in (posted_by j) (plan_of script) is.ended is.final
+    d = shown_in (posted_by j) (plan_of script) is.ended is.final
 
     first_there : (x : Post) → Mine₁ j x → In x (a ++ (b ++ (c ++ d)))
     first_there x (inl none_) = absurd none_
@@ -172,11 +173,11 @@ module _ (script : List Item) (made : AreMade script) (there : AreThere script) 
     last_there x (inr now) = in_right x a (b ++ (c ++ d)) (in_right x b (c ++ d) (in_right x c d now))
 
   -- who decides on an error that isn't for the whole call has posted it
-  pub own_decisions : (j : ℕ) (d : Decision) → In d (shows_in_run script turns core is (decided_by j)) → attempt_of d.error ≢ WHOLE → In (record { id = d.id; error = d.error }) (shows_in_run script turns core is (posted_by j))
+  pub own_decisions : (j : ℕ) (d : Decision) → In d (shown_in_run script turns core is (decided_by j)) → attempt_of d.error ≢ WHOLE → In (record { id = d.id; error = d.error }) (shown_in_run script turns core is (posted_by j))
   own_decisions j d at own = ⊎_elim (λ x. first_there j (record { id = d.id; error = d.error }) (setup_part.owned j d x own))
       (λ rest. ⊎_elim (λ x. second_there j (record { id = d.id; error = d.error }) (clients_part.owned j d x own))
       (λ rest. ⊎_elim (λ x. third_there j (record { id = d.id; error = d.error }) (closing_part.owned j d x own)) (λ x. last_there j (record { id = d.id; error = d.error }) (final_part.owned j d x own))
-      (in_either d (shows_in (decided_by j) (plan_of script) (closing_of script turns core is) (in_closing is)) (shows_in (decided_by j) (plan_of script) is.ended is.final) rest))
-      (in_either d (shows_in (decided_by j) (plan_of script) (set_up script is.setup) (in_clients is)) (shows_in (decided_by j) (plan_of script) (closing_of script turns core is) (in_closing is) ++ shows_in (decided_by j) (plan_of script) is.ended is.final) rest))
-      (in_either d (shows_in (decided_by j) (plan_of script) (opened script) (in_setup is))
-      (shows_in (decided_by j) (plan_of script) (set_up script is.setup) (in_clients is) ++ (shows_in (decided_by j) (plan_of script) (closing_of script turns core is) (in_closing is) ++ shows_in (decided_by j) (plan_of script) is.ended is.final)) at)
+      (in_either d (shown_in (decided_by j) (plan_of script) (closing_of script turns core is) (in_closing is)) (shown_in (decided_by j) (plan_of script) is.ended is.final) rest))
+      (in_either d (shown_in (decided_by j) (plan_of script) (set_up script is.setup) (in_clients is)) (shown_in (decided_by j) (plan_of script) (closing_of script turns core is) (in_closing is) ++ shown_in (decided_by j) (plan_of script) is.ended is.final) rest))
+      (in_either d (shown_in (decided_by j) (plan_of script) (opened script) (in_setup is))
+      (shown_in (decided_by j) (plan_of script) (set_up script is.setup) (in_clients is) ++ (shown_in (decided_by j) (plan_of script) (closing_of script turns core is) (in_closing is) ++ shown_in (decided_by j) (plan_of script) is.ended is.final)) at)

@@ -8,7 +8,7 @@ use Rattle.corr_core.specs.Decisions.{WHOLE, ends_call}
 use Rattle.sock_message.specs.Asked.{Asked}
 use Rattle.seat_programs.specs.Asides.{FreeId, UnlockId, Taking, PutCall}
 use Rattle.seat_programs.specs.Heads.{Head, Exit, Sought, Version, Reading, Posts, Unlocks, Decides, Locks, Joins, Opens, Reads, Discards, Retry, Posting, WasGone, WasStale, WasCrowded, WasQueued, HasLocked, Unlocking, IsOpen, HasNext, Deciding, HasEnded, GoesOn, Locking, NotThere, Has, Ended}
-use Rattle.seat_programs.specs.Posts.{packed, advance_of, is_first, is_sought, is_stale, is_full, judged, posted, post_with, post, popped, end_id, decide, decided, unlocked, locking, IsSoughtWord}
+use Rattle.seat_programs.specs.Posts.{packed, is_first, is_sought, is_stale, is_full, judged, posted, post_with, post, popped, end_id, decide, decided, unlocked, locking, IsSoughtWord}
 use Rattle.seat_programs.specs.Programs.{Program, Say, Aside, Round}
 use Rattle.seat_programs.specs.Readers.{answer, took, discarded, slot_in}
 use Rattle.seat_programs.specs.Rounds.{round}
@@ -16,7 +16,7 @@ use Rattle.sent_once.specs.Below.programs_allowed.specs.program_walks.proofs.Thr
 use Rattle.sent_once.specs.Below.label_runs.proofs.Loops.{id_back, not_true, not_equal, and_left, locked_parts, none_left, word_got}
 use Rattle.own_decisions.proofs.OwnDecisionsStands.{Stand, Calm, Trying, Past, Posted, Eases, MayPost, MayDecide, IsTryingAt, FindsAside, unlocked_stand, unlocks_stand, posted_stand, locked_stand, LeavesUnlock, LeavesStand, Aims}
 use Rattle.sent_once.specs.accept_counts.proofs.Words.{unlocked_is}
-use Rattle.sock_words.specs.Words.{id_slot, id_first, call_id}
+use Rattle.sock_words.specs.Words.{id_slot, id_first, call_id, bit}
 
 pub way : (s : Stand) (b : Bool) (x y : Program) → (b ≡ true → Aims s x) → (b ≡ false → Aims s y) → Aims s (cond b x y)
 way s true x y f g = f refl
@@ -132,7 +132,7 @@ post_goes s id c n next eases goes = post_with_goes s (Past id n) id (error_of c
 
 module _ (s : Stand) (i from : ℕ) (advance : Bool) (k : Unlocking → Program) (trying : advance ≡ false → IsTryingAt s i (parts from).first) (goes : (exit : Unlocking) → LeavesStand (Unlocks i from advance) exit → Aims (unlocks_stand i from advance s) (k exit)) where
   abbrev after : ℕ
-  after = packed (unlocked_word (parts from) (advance_of advance))
+  after = packed (unlocked_word (parts from) (bit advance))
 
   may : (b : Bool) → (b ≡ false → IsTryingAt s i (parts from).first) → Rattle.own_decisions.proofs.OwnDecisionsStands.MayAside s (UnlockId i from b)
   may true t = tt
@@ -163,7 +163,7 @@ module _ (s : Stand) (i from : ℕ) (advance : Bool) (k : Unlocking → Program)
   first_as x y e (HasNext w error) l = (l.0 ∙ e, l.1)
   first_as x y e (IsOpen w) l = tt
 
-  pops : (low : (parts from).attempt + advance_of advance ≤ 6) → ((parts from).oldest ≢ 0 → is_stale (parts from).oldest (unlocked_word (parts from) (advance_of advance)) ≡ false → attempt_of (parts from).oldest ≡ WHOLE) → Aims (unlocks_stand i from advance s) (popped i (parts from).oldest after k)
+  pops : (low : (parts from).attempt + bit advance ≤ 6) → ((parts from).oldest ≢ 0 → is_stale (parts from).oldest (unlocked_word (parts from) (bit advance)) ≡ false → attempt_of (parts from).oldest ≡ WHOLE) → Aims (unlocks_stand i from advance s) (popped i (parts from).oldest after k)
   pops low whole = let is = unlocked_is from advance low in let first : (parts after).first ≡ (parts from).first = ap (λ (w : Parts). w.first) (unlocked_is from advance low) in
       way (unlocks_stand i from advance s) (eqb (parts from).oldest 0) (k (IsOpen after)) (cond (is_stale (parts from).oldest (parts after)) (Round (Unlocks i after false) k) (k (HasNext after (parts from).oldest)))
       (λ _. goes (IsOpen after) (low, tt))

@@ -6,7 +6,6 @@ use lib.ListN.{get_elem?}
 use Rattle.sock_words.specs.declared.plain.Plan.{Plan}
 use Rattle.sock_model.specs.declared.home.Home.TheVariants.{Empty, Link, Message}
 use Rattle.sock_model.specs.declared.view.View.{View}
-use Rattle.sock_model.specs.Weights.{total}
 use Rattle.corr_core.specs.Word.{error_of, attempt_of}
 use Rattle.corr_core.specs.declared.marks.Plan.{Plan as IdPlan}
 use Rattle.corr_core.specs.Decisions.{WHOLE}
@@ -31,7 +30,7 @@ use Rattle.sent_once.specs.Below.programs_allowed.specs.program_walks.proofs.Ope
 use Rattle.sent_once.specs.Below.programs_allowed.specs.sock_runs.proofs.Quiets.{ticked_rests}
 use Rattle.sent_once.specs.Below.joint_runs.proofs.Both.{BothSound, AreBoth}
 use Rattle.sent_once.specs.Below.call_stories.specs.Decided.{posted_by, Decision, decided_at, decided_by}
-use Rattle.sent_once.specs.Below.call_stories.specs.Lists.{times, shows_in, advanced_at}
+use Rattle.sent_once.specs.Below.call_stories.specs.Lists.{times, advanced_at}
 use Rattle.sent_once.specs.Below.call_stories.specs.Posts.{Post, posted_at}
 use Rattle.sent_once.specs.Below.call_stories.specs.Says.{Mark}
 use Rattle.sent_once.specs.Below.call_stories.specs.Scenes.{Birth, Scene, LeadsTo, CauseOf, of_expiry, of_other}
@@ -50,6 +49,8 @@ use Rattle.sent_once.specs.Below.story_steps.proofs.Attempts.{in_front}
 use Rattle.sent_once.specs.accept_counts.proofs.Runs.{none_waits}
 use Rattle.sent_once.specs.Below.outcome_stories.specs.Stories.{In}
 use Rattle.sock_words.specs.Words.{call_id, id_slot, id_first}
+use Rattle.sock_words.specs.Totals.{total}
+use Rattle.sent_once.specs.Below.outcome_stories.specs.Facts.{shown_in}
 
 -- ## Lists
 
@@ -137,8 +138,8 @@ module _ (p : Plan) (q : IdPlan) (narrow : q.slots ≤ 65536) where
   -- behind these ticks
   pub record Along (posted : List Post) (Mine : ℕ → Post → Type 0) (c : Core) (ms : List Moment) : Type 0 where
     pub stands : List Stand
-    pub law : AimLaw q (λ x. In x (posted ++ shows_in posted_at p c ms)) (λ j x. Mine j x ⊎ In x (shows_in (posted_by j) p c ms)) (run p c ms) stands
-    pub owned : Owned Mine (λ j. shows_in (decided_by j) p c ms) (λ j. shows_in (posted_by j) p c ms)
+    pub law : AimLaw q (λ x. In x (posted ++ shown_in posted_at p c ms)) (λ j x. Mine j x ⊎ In x (shown_in (posted_by j) p c ms)) (run p c ms) stands
+    pub owned : Owned Mine (λ j. shown_in (decided_by j) p c ms) (λ j. shown_in (posted_by j) p c ms)
 
   pub run_aims : (ms : List Moment) (posted : List Post) (Mine : ℕ → Post → Type 0) (c : Core) (vs : List View) → AreBoth p q c vs ms → AllQueued q p posted c ms → (ss : List Stand) → AimLaw q (λ x. In x posted) Mine c ss → Along posted Mine c ms
   run_aims [] posted Mine c vs are known ss law = record {
@@ -151,16 +152,16 @@ module _ (p : Plan) (q : IdPlan) (narrow : q.slots ≤ 65536) where
       let r = run_aims ms (posted ++ posted_at c m) (λ j x. Mine j x ⊎ In x (posted_by j c m)) (ticked p c m) (views_after p c vs m) are.2 known.1 b.0
       (law_more q (λ x. In x posted ⊎ In x (posted_at c m)) (λ x. In x (posted ++ posted_at c m)) (λ j x. Mine j x ⊎ In x (posted_by j c m)) (λ j x. Mine j x ⊎ In x (posted_by j c m)) (ticked p c m) b.0 (λ x there. in_either x posted (posted_at c m) there) (λ j x mine. mine) b.1) in record {
         stands = r.stands;
-        law = law_more q (λ x. In x ((posted ++ posted_at c m) ++ shows_in posted_at p (ticked p c m) ms)) (λ x. In x (posted ++ (posted_at c m ++ shows_in posted_at p (ticked p c m) ms)))
-            (λ j x. (Mine j x ⊎ In x (posted_by j c m)) ⊎ In x (shows_in (posted_by j) p (ticked p c m) ms)) (λ j x. Mine j x ⊎ In x (posted_by j c m ++ shows_in (posted_by j) p (ticked p c m) ms)) (run p c (m ∷ ms)) r.stands
-            (λ x there. subst (In x) (sym (append_assoc posted (posted_at c m) (shows_in posted_at p (ticked p c m) ms))) there) regroup r.law;
-        owned = λ j d there own. ⊎_elim (λ now. inl (here j d now own)) (λ later. regroup j (record { id = d.id; error = d.error }) (r.owned j d later own)) (in_either d (decided_by j c m) (shows_in (decided_by j) p (ticked p c m) ms) there);
+        law = law_more q (λ x. In x ((posted ++ posted_at c m) ++ shown_in posted_at p (ticked p c m) ms)) (λ x. In x (posted ++ (posted_at c m ++ shown_in posted_at p (ticked p c m) ms)))
+            (λ j x. (Mine j x ⊎ In x (posted_by j c m)) ⊎ In x (shown_in (posted_by j) p (ticked p c m) ms)) (λ j x. Mine j x ⊎ In x (posted_by j c m ++ shown_in (posted_by j) p (ticked p c m) ms)) (run p c (m ∷ ms)) r.stands
+            (λ x there. subst (In x) (sym (append_assoc posted (posted_at c m) (shown_in posted_at p (ticked p c m) ms))) there) regroup r.law;
+        owned = λ j d there own. ⊎_elim (λ now. inl (here j d now own)) (λ later. regroup j (record { id = d.id; error = d.error }) (r.owned j d later own)) (in_either d (decided_by j c m) (shown_in (decided_by j) p (ticked p c m) ms) there);
       }
     where
-      regroup : (j : ℕ) (x : Post) → (Mine j x ⊎ In x (posted_by j c m)) ⊎ In x (shows_in (posted_by j) p (ticked p c m) ms) → Mine j x ⊎ In x (posted_by j c m ++ shows_in (posted_by j) p (ticked p c m) ms)
+      regroup : (j : ℕ) (x : Post) → (Mine j x ⊎ In x (posted_by j c m)) ⊎ In x (shown_in (posted_by j) p (ticked p c m) ms) → Mine j x ⊎ In x (posted_by j c m ++ shown_in (posted_by j) p (ticked p c m) ms)
       regroup j x (inl (inl old)) = inl old
-      regroup j x (inl (inr now)) = inr (in_front x (posted_by j c m) (shows_in (posted_by j) p (ticked p c m) ms) now)
-      regroup j x (inr later) = inr (in_right x (posted_by j c m) (shows_in (posted_by j) p (ticked p c m) ms) later)
+      regroup j x (inl (inr now)) = inr (in_front x (posted_by j c m) (shown_in (posted_by j) p (ticked p c m) ms) now)
+      regroup j x (inr later) = inr (in_right x (posted_by j c m) (shown_in (posted_by j) p (ticked p c m) ms) later)
 
       here : (j : ℕ) (d : Decision) → In d (decided_by j c m) → attempt_of d.error ≢ WHOLE → Mine j (record { id = d.id; error = d.error })
       here j d now own = by (m.seat == j) refl now

@@ -3,14 +3,14 @@ use Rattle.std.specs.Prelude.{ℕ, ◌≡◌, ◌≢◌, ◌+◌, ◌<◌, ◌�
 use Rattle.sock_io.specs.declared.link.Put.{Put}
 use Rattle.sock_io.specs.declared.link.Ready.{Ready}
 use Rattle.sock_model.specs.declared.chain.Heading.{Heading}
-use Rattle.sock_words.specs.Words.{at_word, at_word_first, at_word_slot, at_word_attempt, call_id, id_slot, id_first}
+use Rattle.sock_words.specs.Words.{at_word, at_word_first, at_word_slot, at_word_attempt, call_id, id_slot, id_first, bit}
 use Rattle.corr_core.specs.Word.{parts, error_of, attempt_of, unlocked_word}
 use Rattle.corr_core.specs.Decisions.{WHOLE}
 use Rattle.sent_once.specs.Below.id_runs.specs.Goes.{FitsSock}
 use Rattle.seat_programs.specs.Asides.{Step, Found, MakeId, StoreAt, LoadAt, PostId, UnlockId}
 use Rattle.seat_programs.specs.Calls.{Call, PutMessage}
 use Rattle.seat_programs.specs.Heads.{Head, Exit, Posts, Unlocks, Decides, Locks, Posting, HasLocked, Unlocking, Locking, NotThere, Has}
-use Rattle.seat_programs.specs.Posts.{advance_of, is_stale, IsSoughtWord}
+use Rattle.seat_programs.specs.Posts.{is_stale, IsSoughtWord}
 use Rattle.seat_programs.specs.Writings.{Writing, Puts, Waits}
 use Rattle.seat_programs.specs.Programs.{Program, Do, Say, Sent, Rest, TakeMessage, TakeHome, PutHome, PutBytes, AskReady, Write, Aside, Round, Keep, Retries}
 use Rattle.sent_once.specs.Below.label_runs.specs.Labels.{LeavesNext, LeavesBy}
@@ -71,8 +71,8 @@ MovesAside other found s u = Eases s u
 
 -- whoever has a lock finds it with more errors at most; and the one that it takes out is for the whole call, or stale
 abbrev pub FindsAside : (step : Step) → Found step → Type 0
-FindsAside (UnlockId i from advance) found = ((parts from).first < 4294967296) × ((parts from).attempt + advance_of advance ≤ 6) × (found ≢ from → ((parts found).first ≡ (parts from).first) × ((parts found).attempt ≡ (parts from).attempt))
-    × (found ≡ from → (parts from).oldest ≢ 0 → is_stale (parts from).oldest (unlocked_word (parts from) (advance_of advance)) ≡ false → attempt_of (parts from).oldest ≡ WHOLE)
+FindsAside (UnlockId i from advance) found = ((parts from).first < 4294967296) × ((parts from).attempt + bit advance ≤ 6) × (found ≢ from → ((parts found).first ≡ (parts from).first) × ((parts found).attempt ≡ (parts from).attempt))
+    × (found ≡ from → (parts from).oldest ≢ 0 → is_stale (parts from).oldest (unlocked_word (parts from) (bit advance)) ≡ false → attempt_of (parts from).oldest ≡ WHOLE)
 FindsAside other found = Unit {0}
 
 -- ## Loops

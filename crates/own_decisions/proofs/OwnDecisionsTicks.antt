@@ -9,7 +9,7 @@ use lib.ListN.{get_elem?}
 use Rattle.atomic_table.proofs.Lists.{at_set}
 use Rattle.sock_words.specs.declared.plain.Plan.{Plan}
 use Rattle.sock_words.specs.Words as words
-use Rattle.sock_words.specs.Words.{at_word_first, at_word_slot, at_word_attempt, call_id, id_slot, id_first}
+use Rattle.sock_words.specs.Words.{at_word_first, at_word_slot, at_word_attempt, call_id, id_slot, id_first, bit}
 use Rattle.sock_io.specs.declared.link.Put.{Put}
 use Rattle.sock_io.specs.declared.link.Ready.{Ready}
 use Rattle.sock_model.specs.declared.chain.Heading.{Heading}
@@ -17,7 +17,6 @@ use Rattle.sock_model.specs.declared.home.Home.{Home}
 use Rattle.sock_model.specs.declared.home.Home.TheVariants.{Message}
 use Rattle.sock_model.specs.Messages.{Letter}
 use Rattle.sock_model.specs.Reads.{message, link_home}
-use Rattle.sock_model.specs.Weights.{total}
 use Rattle.sent_once.specs.Below.slot_steps.proofs.Sums.{term_le, total-append}
 use Rattle.corr_core.specs.Word.{Parts, parts, error_of, attempt_of, made_word, posted_word, unlocked_word, free_word}
 use Rattle.corr_core.specs.declared.marks.Plan.{Plan as IdPlan}
@@ -30,7 +29,7 @@ use Rattle.seat_programs.specs.Asides.{Step, Found, ClaimId, PutCall, MakeId, St
 use Rattle.seat_programs.specs.Beside.{found_in, calls_after}
 use Rattle.seat_programs.specs.Calls.{Call, PutMessage}
 use Rattle.seat_programs.specs.Heads.{Retry, Decides}
-use Rattle.seat_programs.specs.Posts.{packed, advance_of, is_stale}
+use Rattle.seat_programs.specs.Posts.{packed, is_stale}
 use Rattle.seat_programs.specs.Programs.{Program, Do, Say, Sent, TakeMessage, TakeHome, PutHome, PutBytes, AskReady, Write, Aside, Round, Keep, Retries}
 use Rattle.seat_programs.specs.Cores.{Calls, Core, SeatState, found_at, words_after, homes_after, hand_after, lies_at, first_of, others_of, link_place, resolved, still_waiting, waiting_at, next_step, with_seat}
 use Rattle.seat_programs.specs.StepTables.{word_of, word_after}
@@ -53,6 +52,7 @@ use Rattle.own_decisions.proofs.OwnDecisionsPrograms.{block_goes, retry_goes}
 use Rattle.sent_once.specs.Below.owing_ticks.proofs.OwingRuns.{same_first}
 use Rattle.seat_programs.specs.Rounds.{first_step}
 use Rattle.sent_once.specs.Below.outcome_stories.specs.Stories.{In}
+use Rattle.sock_words.specs.Totals.{total}
 
 -- ## Attempts that are tried
 
@@ -397,7 +397,7 @@ module _ (p : Plan) (q : IdPlan) (narrow : q.slots ≤ 65536) (Taken : Post → 
       word_kept (StoreAt x w) found may none_ o = absurd none_
       word_kept (LockId k from) found may none_ o = let inside = may.0 in low_kept (id_index k) (cond (eqb found from) (packed (posted_word (parts from) 0)) found) o (omega (arith, inside))
       word_kept (PostId k from e) found may none_ o = let inside = may.0 in low_kept (id_index k) (cond (eqb found from) (packed (posted_word (parts from) e)) found) o (omega (arith, inside))
-      word_kept (UnlockId k from advance) found may none_ o = let inside = may.0 in low_kept (id_index k) (cond (eqb found from) (packed (unlocked_word (parts from) (advance_of advance))) found) o (omega (arith, inside))
+      word_kept (UnlockId k from advance) found may none_ o = let inside = may.0 in low_kept (id_index k) (cond (eqb found from) (packed (unlocked_word (parts from) (bit advance))) found) o (omega (arith, inside))
       word_kept (EndId k) found may none_ o = let inside = may.0 in low_kept (id_index k) (packed (free_word ((parts found).first + (parts found).range))) o (omega (arith, inside))
       word_kept (FreeId k) found may none_ o = let inside = may.0 in low_kept (tag_index k) 0 o (omega (arith, inside))
       word_kept (TakeBytes l room) (Bytes bytes) may none_ o = refl
@@ -516,8 +516,8 @@ module _ (p : Plan) (q : IdPlan) (narrow : q.slots ≤ 65536) (Taken : Post → 
 
       -- none of an attempt is fresh where its seat tries an attempt of the range, or makes the next one
       whole : AreQueued q Taken c → (k from : ℕ) (advance : Bool) (next : ℕ → Program) (found : ℕ) (t : Option Taking) → found_in (UnlockId k from advance) c.calls t ≡ some found → MayId p q u (UnlockId k from advance) → MayAside s (UnlockId k from advance)
-          → found ≡ from → (parts from).oldest ≢ 0 → is_stale (parts from).oldest (unlocked_word (parts from) (advance_of advance)) ≡ false → attempt_of (parts from).oldest ≡ WHOLE
-      whole known k from advance next found t is may trying hit some_ fresh = ⊎_elim (λ z. z) (λ there. ⊎_elim (λ z. z) (λ past. ⊎_elim (λ z. z) (λ same_. absurd (none_fresh advance is may trying past same_)) (fresh_error (parts from).oldest (unlocked_word (parts from) (advance_of advance)) fresh))
+          → found ≡ from → (parts from).oldest ≢ 0 → is_stale (parts from).oldest (unlocked_word (parts from) (bit advance)) ≡ false → attempt_of (parts from).oldest ≡ WHOLE
+      whole known k from advance next found t is may trying hit some_ fresh = ⊎_elim (λ z. z) (λ there. ⊎_elim (λ z. z) (λ past. ⊎_elim (λ z. z) (λ same_. absurd (none_fresh advance is may trying past same_)) (fresh_error (parts from).oldest (unlocked_word (parts from) (bit advance)) fresh))
           (law.posts (record { id = call_id k (parts from).first; error = (parts from).oldest }) there)) (queued.0 some_)
         where
           here : word_of_id c.calls.words k ≡ parts from
@@ -529,7 +529,7 @@ module _ (p : Plan) (q : IdPlan) (narrow : q.slots ≤ 65536) (Taken : Post → 
           queued : QueuedAt Taken k (parts from)
           queued = subst (QueuedAt Taken k) here (known k may.0 (subst (λ (w : Parts). 0 < w.state) (sym here) (omega (arith, alive))))
 
-          none_fresh : (b : Bool) → found_in (UnlockId k from b) c.calls t ≡ some found → MayId p q u (UnlockId k from b) → MayAside s (UnlockId k from b) → IsPast q c ss (call_id k (parts from).first) (attempt_of (parts from).oldest) → attempt_of (parts from).oldest ≡ (parts from).attempt + advance_of b → ⊥
+          none_fresh : (b : Bool) → found_in (UnlockId k from b) c.calls t ≡ some found → MayId p q u (UnlockId k from b) → MayAside s (UnlockId k from b) → IsPast q c ss (call_id k (parts from).first) (attempt_of (parts from).oldest) → attempt_of (parts from).oldest ≡ (parts from).attempt + bit b → ⊥
           none_fresh true is may trying past same_ = (advances_new p q c us ids i u at_view k from found is hit may (finds_label p q c us ids i u at_view (UnlockId k from true) found may (finds (UnlockId k from true) next found t is may))).1
               (subst (WasMade q c.calls.words (call_id k (parts from).first)) same_ past.2)
           none_fresh false is may trying past same_ = dite (ℕ_discrete trying.0 (parts from).attempt)

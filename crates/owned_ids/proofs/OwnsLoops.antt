@@ -20,12 +20,12 @@ use Rattle.seat_programs.specs.Asides.{Step, Found, ClaimId, PutCall, MakeId, St
 use Rattle.seat_programs.specs.Heads.{Head, Exit, Retry, Sought, First, Version, Reading, Posts, Unlocks, Decides, Locks, Joins, Opens, Reads, Discards, Posting, WasGone, WasStale, WasCrowded, WasQueued, HasLocked, Unlocking, IsOpen, HasNext, Deciding, HasEnded, GoesOn, Locking, NotThere, Has, Ended}
 use Rattle.seat_programs.specs.Programs.{Program, Do, Say, Sent, Rest, TakeMessage, TakeHome, PutHome, PutBytes, AskReady, Write, Aside, Round, Keep, Retries}
 use Rattle.seat_programs.specs.Writings.{Writing}
-use Rattle.seat_programs.specs.Posts.{packed, advance_of, is_first, is_sought, is_stale, is_full, judged, posts_round, post_with, posted, post, popped, unlocks_round, end_id, decide, decided, unlocked, decides_round, locking, locks_round, joins_round}
+use Rattle.seat_programs.specs.Posts.{packed, is_first, is_sought, is_stale, is_full, judged, posts_round, post_with, posted, post, popped, unlocks_round, end_id, decide, decided, unlocked, decides_round, locking, locks_round, joins_round}
 use Rattle.seat_programs.specs.Readers.{LIMIT, slot_in, version_in, has_response, answer, answered, responses, last_of, ended_by, read_on, took, room_of, discarded, opens_round}
 use Rattle.seat_programs.specs.Rounds.{round}
 use Rattle.call_owing.specs.Owns.{Behind, Other, HasClaimed, HasPut, HasLock, HasTaken, Grows, IsIdOf, MayOwn, taken_behind, behind, IsOfSought, AtOwn, LeavesLock, behind_head, Owns}
 use Rattle.call_owing.specs.Below.id_runs.proofs.Loops.{and_left}
-use Rattle.sock_words.specs.Words.{call_id, id_slot, id_first}
+use Rattle.sock_words.specs.Words.{call_id, id_slot, id_first, bit}
 
 -- ## More calls with ids
 
@@ -218,7 +218,7 @@ module _ (has : ℕ → ℕ) (left : ℕ → Bool) where
     goes = λ more g b. (
       tt,
       λ found most h _. let hs = grows_on has more most g h in either_way (found == from) _ _ (Owns most left (HasLock i (parts found).first))
-          (popped_goes i (parts from).oldest (packed (unlocked_word (parts from) (advance_of advance))) k after most hs (parts found).first) ((unlocks_again i found advance k after).goes most hs (HasLock i (parts found).first)),
+          (popped_goes i (parts from).oldest (packed (unlocked_word (parts from) (bit advance))) k after most hs (parts found).first) ((unlocks_again i found advance k after).goes most hs (HasLock i (parts found).first)),
     );
   }
 

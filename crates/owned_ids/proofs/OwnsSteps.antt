@@ -20,13 +20,14 @@ use Rattle.seat_programs.specs.id_rule.specs.Lawful.{tag_index, id_index, call_i
 use Rattle.seat_programs.specs.id_rule.proofs.Allowed as allowed
 use Rattle.seat_programs.specs.sock_message.specs.Asked.{Asked}
 use Rattle.seat_programs.specs.Asides.{Step, Found, ClaimId, PutCall, MakeId, StoreCall, StoreAt, LockId, PostId, UnlockId, EndId, FreeId, TakeCall, TakeBytes, Taking, Bytes}
-use Rattle.seat_programs.specs.Posts.{packed, advance_of}
+use Rattle.seat_programs.specs.Posts.{packed}
 use Rattle.seat_programs.specs.Beside.{found_in, calls_after, more_given}
 use Rattle.seat_programs.specs.Cores.{Calls, Core}
 use Rattle.call_owing.specs.Below.id_runs.specs.Held.{IdView, id_state, HasOne, MayId}
 use Rattle.call_owing.specs.Below.id_runs.specs.Goes.{SoundIds, FindsId}
 use Rattle.call_owing.specs.Below.id_runs.proofs.Keeps.{parts_packed}
 use Rattle.call_owing.specs.Sound.{id_word_of}
+use Rattle.sock_words.specs.Words.{bit}
 
 -- ## Words
 
@@ -161,9 +162,9 @@ module _ (p : Plan) (q : IdPlan) (c : Core) (ws : List IdView) (ids : SoundIds p
         (λ hit. let w = posted_parts from 0 (omega arith) in let two = w.1 in let one = may.1 in (w.0, (λ z. omega (arith, z, two)), (λ z. omega (arith, z, one)))))
     step_keeps (PostId m from e) t found may finds is n inside = inr (exchange m from found (packed (posted_word (parts from) e)) n inside (some-injective (get_or c.calls.words (id_index m) 0) found is)
         (λ hit. let w = posted_parts from e may.3 in let two = w.1 in (w.0, (λ z. omega (arith, z, two)), (λ z. ⊎_elim (λ one. omega (arith, z, one)) (λ x. let y = x.0 in omega (arith, z, y)) may.1))))
-    step_keeps (UnlockId m from advance) t found may finds is n inside = inr (exchange m from found (packed (unlocked_word (parts from) (advance_of advance))) n inside (some-injective (get_or c.calls.words (id_index m) 0) found is)
+    step_keeps (UnlockId m from advance) t found may finds is n inside = inr (exchange m from found (packed (unlocked_word (parts from) (bit advance))) n inside (some-injective (get_or c.calls.words (id_index m) 0) found is)
         (λ hit. let x = may.1 in let longer = x.7 in let g = longer.range_is in let h = longer.attempt_is in let s = longer.state_is in let room = x.8 in let high : (parts from).range ≤ 8 = omega arith in
-        let w = unlocked_parts from (advance_of advance) (omega (arith, g, h, room, high)) in (w.0, w.1, (λ z. omega (arith, z, s)))))
+        let w = unlocked_parts from (bit advance) (omega (arith, g, h, room, high)) in (w.0, w.1, (λ z. omega (arith, z, s)))))
     step_keeps (EndId m) t found may finds is n inside = dite (ℕ_discrete n m) (λ e. inl e) (λ far. inr (other_word (id_index m) (packed (free_word ((parts found).first + (parts found).range))) n (λ e. far (let z : 2 * n + 1 ≡ 2 * m + 1 = e in omega (arith, z)))))
     step_keeps (FreeId m) t found may finds is n inside = inr (other_word (tag_index m) 0 n (λ e. let z : 2 * n + 1 ≡ 2 * m = e in omega (arith, z)))
     step_keeps (TakeCall m) t found may finds is n inside = dite (ℕ_discrete n m) (λ e. inl e) (λ far. inr (keeps_by (calls_after (TakeCall m) found c.calls) n refl (set_else c.calls.homes m n (some std.None) far)))

@@ -8,7 +8,7 @@ use native.Mathlib.Decide.{ℕ_discrete}
 use mathlib.Core.Option.{Option, none, some, some-injective, some-ne-none}
 use lib.ListN.{get_elem?}
 use Rattle.atomic_table.proofs.Lists.{at_set, set_here}
-use Rattle.sock_words.specs.Words.{at_word as word_of_at, at_word_first, at_word_slot, call_id, id_slot, id_first}
+use Rattle.sock_words.specs.Words.{at_word as word_of_at, at_word_first, at_word_slot, call_id, id_slot, id_first, bit}
 use Rattle.sock_words.specs.declared.plain.Plan.{Plan}
 use Rattle.sock_io.specs.declared.link.Put.{Put}
 use Rattle.sock_io.specs.declared.link.Ready.{Ready}
@@ -27,7 +27,7 @@ use Rattle.seat_programs.specs.Asides.{Step, Found, ClaimId, PutCall, MakeId, St
 use Rattle.call_owing.specs.Below.sock_steps.proofs.Quiet.{either_way}
 use Rattle.seat_programs.specs.Heads.{Head, Exit, Retry, Posts, Unlocks, Decides, Locks, Joins, Opens, Reads, Discards}
 use Rattle.seat_programs.specs.Programs.{Program, Do, Say, Sent, TakeMessage, TakeHome, PutHome, PutBytes, AskReady, Write, Aside, Round, Keep, Retries}
-use Rattle.seat_programs.specs.Posts.{packed, advance_of}
+use Rattle.seat_programs.specs.Posts.{packed}
 use Rattle.seat_programs.specs.Sends.{block}
 use Rattle.seat_programs.specs.Rounds.{round, first_step}
 use Rattle.seat_programs.specs.Beside.{found_in, calls_after, call_at, more_given}
@@ -384,7 +384,7 @@ module _ (p : Plan) (q : IdPlan) (narrow : q.slots ≤ 65536) (calls : List ℕ)
       (let k = slot_keeps (UnlockId m from advance) found t is may m may.0 (λ e. e) in let word = some-injective (get_or c.calls.words (id_index m) 0) found is in let y = may.1 in
       let two = (finds_ids p q c.calls ids.plan ws ids.rule i u at (ids.real i u at) (ids.called, ids.placed) ids.homes (UnlockId m from advance) t found is may y.0 y.1 y.2 y.3 y.4 y.5 y.6).state_is in
       (k.first ∙ ap (λ y. (parts y).first) word, k.some_ (λ z. let w : (parts found).state ≡ 0 = sym (ap (λ y. (parts y).state) word) ∙ z in omega (arith, two, w))))
-      (all_homes (UnlockId m from advance) next found t is may (λ n e. e)) (kept_ats (UnlockId m from advance) next found t is may (λ o inside. low_at (id_index m) (cond (found == from) (packed (unlocked_word (parts from) (advance_of advance))) found) o (let low = may.0 in omega (arith, low))))
+      (all_homes (UnlockId m from advance) next found t is may (λ n e. e)) (kept_ats (UnlockId m from advance) next found t is may (λ o inside. low_at (id_index m) (cond (found == from) (packed (unlocked_word (parts from) (bit advance))) found) o (let low = may.0 in omega (arith, low))))
   on_ids (EndId m) next found t is may b g true_ = settle (EndId m) next found t is may Other (g.1 found has (grows_same has) tt) tt homes (kept_ats (EndId m) next found t is may (λ o inside. low_at (id_index m) (packed (free_word ((parts found).first + (parts found).range))) o (let low = may.0 in omega (arith, low))))
     where
       free : (n : ℕ) → n ≡ m → (id_word_of (Then p q c ws ids (calls_after (EndId m) found c.calls)) n).state ≡ 0

@@ -14,7 +14,7 @@ use Rattle.sock_model.specs.declared.home.Home.{Home}
 use Rattle.sock_model.specs.declared.marks.Mark.TheVariants.{Known, Born, Linked}
 use Rattle.sock_model.specs.declared.view.View.{View}
 use Rattle.sock_model.specs.Marks.{at, without_at}
-use Rattle.sock_model.specs.Weights.{total, is_linked, is_stage}
+use Rattle.sock_model.specs.Weights.{is_linked, is_stage}
 use Rattle.sock_model.specs.Layout.{all_words, open_index}
 use Rattle.sock_model.specs.SlotRows.{marks_of}
 use Rattle.corr_core.specs.declared.marks.Plan.{Plan as IdPlan}
@@ -50,6 +50,7 @@ use Rattle.call_owing.specs.Below.programs_allowed.specs.program_steps.proofs.Ca
 use Rattle.call_owing.specs.Below.programs_allowed.specs.sock_runs.proofs.LinkTicks.{RetriesGo}
 use Rattle.call_owing.specs.Below.programs_allowed.specs.sock_runs.proofs.Ticks.{sound_ticks}
 use Rattle.seat_programs.specs.Rounds.{first_step}
+use Rattle.sock_words.specs.Totals.{total}
 
 -- ## Programs
 

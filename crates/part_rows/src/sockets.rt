@@ -1,9 +1,9 @@
 ghost use Rattle.std.specs.Prelude.{◌≡◌, ◌+◌, ◌<◌, ◌≤◌, IfSome};
-ghost use Rattle.sock_model.specs.Weights.{total};
 ghost use Rattle.sock_table.specs.Closed.{AllDone, IsDoneSeat};
 ghost use Rattle.sock_table.specs.Passes.{IsPass};
 ghost use Rattle.sock_table.specs.Refs.{Knows};
 ghost use Rattle.sock_open.specs.Made.{AreNewSeats, PassesFrom};
+ghost use Rattle.sock_words.specs.Totals.{total};
 
 use sock_io::MemOut;
 use sock_open::{Made, new_table};

@@ -6,13 +6,14 @@ use Rattle.sock_words.specs.Words.{vref_version, vref_nref}
 use Rattle.sock_words.specs.declared.plain.Plan.{Plan}
 use Rattle.sock_model.specs.declared.home.Home.{Home}
 use Rattle.sock_model.specs.declared.view.View.{View}
-use Rattle.sock_model.specs.Weights.{total, is_ref, is_busy}
+use Rattle.sock_model.specs.Weights.{is_ref, is_busy}
 use Rattle.sock_model.specs.Marks.{about}
 use Rattle.sock_model.specs.Layout.{ref_index}
 use Rattle.sock_model.specs.Slots.{SlotLaw, live, count}
 use Rattle.sock_model.specs.References.{slot_facts, References}
 use Rattle.sock_steps.specs.slot_steps.proofs.Sums.{total_bound}
 use Rattle.sock_steps.specs.slot_steps.proofs.Numbers.{live_le}
+use Rattle.sock_words.specs.Totals.{total}
 
 module _ (p : Plan) (s : State Home View) (o : References p s) (i : ℕ) (inside : i < p.slots) where
   pub law : SlotLaw p.first (live (slot_facts s i)) (slot_facts s i)

@@ -11,7 +11,7 @@ use Rattle.sock_model.specs.declared.marks.SlotMark.{SlotMark}
 use Rattle.sock_model.specs.declared.view.View.{View}
 use Rattle.sock_model.specs.declared.view.Hand.{Hand}
 use Rattle.sock_model.specs.Marks.{at}
-use Rattle.sock_model.specs.Weights.{total, only}
+use Rattle.sock_model.specs.Weights.{only}
 use Rattle.sock_model.specs.SlotRows.{met, looked, told_code, met_link}
 use Rattle.sock_model.specs.ChainRows.{with_hand, spent_hand, with_claim, queued, righted, with_right, without_right, turned_right, placed_right, dropped_right, ready_claim, filled_claim}
 use Rattle.sock_steps.proofs.Quiet.{either_way}
@@ -22,6 +22,7 @@ use Rattle.seat_programs.specs.StepsOfNames.{is_id, found_id}
 use Rattle.seat_programs.specs.StepsOfChain.{new_claim, exchanged, emptied, read_next, turned_next, freed_next}
 use Rattle.seat_programs.specs.StepsOfSlots.{looked_clean}
 use Rattle.seat_programs.specs.StepsOfPlaces.{placed_next, dropped_next}
+use Rattle.sock_words.specs.Totals.{total}
 
 -- whether a step is one on whose word the right of whoever writes goes on
 abbrev pub moves_right : Call → Bool

@@ -14,7 +14,7 @@ use Rattle.seat_programs.specs.brpc_model.specs.ResponseOutcome.{ending_of}
 use Rattle.seat_programs.specs.Asides.{Taking, Bytes, Nothing, Closed, FreeId}
 use Rattle.seat_programs.specs.Heads.{Head, Exit, Retry, Sought, Version, Reading, Posts, Unlocks, Decides, Locks, Joins, Opens, Reads, Discards, Posting, WasGone, WasStale, WasCrowded, WasQueued, HasLocked, Unlocking, IsOpen, HasNext, Deciding, HasEnded, GoesOn as OpenAgain, Locking, NotThere, Has, Ended}
 use Rattle.seat_programs.specs.Programs.{Program, Say, Aside, Round}
-use Rattle.seat_programs.specs.Posts.{packed, advance_of, is_first, is_sought, is_stale, is_full, judged, post_with, post, posted, popped, end_id, decide, decided, unlocked, locking}
+use Rattle.seat_programs.specs.Posts.{packed, is_first, is_sought, is_stale, is_full, judged, post_with, post, posted, popped, end_id, decide, decided, unlocked, locking}
 use Rattle.seat_programs.specs.Readers.{answer, answered, responses, read_on, took, last_of, slot_in, version_in, has_response, LIMIT}
 use Rattle.seat_programs.specs.Rounds.{round}
 use Rattle.seat_programs.specs.Sends.{tell_drop}
@@ -22,7 +22,7 @@ use Rattle.seat_programs.specs.StepsOfNames.{found_id}
 use Rattle.seat_programs.specs.StepsOfNames.{FindsId}
 use Rattle.program_steps.specs.Fits.{FitsMore, FitsWord, FitsTaken, FitsPosting, FitsUnlocking, FitsLocking, FitsEnded, FitsRetry}
 use Rattle.program_steps.specs.GoesOn.{GoesOn}
-use Rattle.sock_words.specs.Words.{id_slot, id_first}
+use Rattle.sock_words.specs.Words.{id_slot, id_first, bit}
 
 -- ## Words
 
@@ -173,9 +173,9 @@ module _ (p : Plan) (v : View) where
       (λ s. g.1 (HasLocked (packed (posted_word (parts from) e))) (posted_fits from e (eqb-true (parts from).state 1 s) g.0.0)) (λ _. g.1 WasQueued tt))
       (λ _. judged_goes id e found k fits g.1)
   goes_round (Unlocks i from advance) k g = λ found fits.
-      let after : ℕ = packed (unlocked_word (parts from) (advance_of advance)) in
-      way p v (eqb found from) (popped i (parts from).oldest (packed (unlocked_word (parts from) (advance_of advance))) k) (Round (Unlocks i found advance) k)
-      (λ _. popped_goes i (parts from).oldest (packed (unlocked_word (parts from) (advance_of advance))) k (unlocked_fits from (advance_of advance) g.0.0) g.1)
+      let after : ℕ = packed (unlocked_word (parts from) (bit advance)) in
+      way p v (eqb found from) (popped i (parts from).oldest (packed (unlocked_word (parts from) (bit advance))) k) (Round (Unlocks i found advance) k)
+      (λ _. popped_goes i (parts from).oldest (packed (unlocked_word (parts from) (bit advance))) k (unlocked_fits from (bit advance) g.0.0) g.1)
       (λ _. ((fits, tt), g.1))
   goes_round (Decides id asked word e) k g =
       way p v (ends_call (parts word) e) (end_id (id_slot id) (k (HasEnded asked.operation (code_of e))))

@@ -21,7 +21,7 @@ use Rattle.sock_model.specs.declared.marks.Mark.{Mark}
 use Rattle.sock_model.specs.declared.marks.Mark.TheVariants.{Hold, Coding, Saw, Failer, Stored, Told, Met, Zero}
 use Rattle.sock_model.specs.declared.marks.SlotMark.{SlotMark}
 use Rattle.sock_model.specs.declared.view.View.{View}
-use Rattle.sock_model.specs.Weights.{total, is_ref, is_probe, is_hold, is_any_coding, is_coding, is_met, is_saw}
+use Rattle.sock_model.specs.Weights.{is_ref, is_probe, is_hold, is_any_coding, is_coding, is_met, is_saw}
 use Rattle.sock_model.specs.Marks.{about, at, without_at}
 use Rattle.sock_model.specs.SlotRows.{marks_of, back, subbed, looked, told_code}
 use Rattle.sock_model.specs.ChainRows.{with_right, without_right, taken_right, placed_right, dropped_right, put_right}
@@ -45,6 +45,7 @@ use Rattle.seat_programs.specs.StepsOfSlots.{looked_clean}
 use Rattle.seat_programs.specs.StepsOfLinks.{took_bytes}
 use Rattle.program_steps.specs.Writes.{IsHolder, HasMessage, IsBetween, IsNote, AreNotes, behind}
 use Rattle.program_steps.specs.GoesOn.{GoesOn}
+use Rattle.sock_words.specs.Totals.{total}
 
 -- ## Marks of one slot
 

@@ -4,8 +4,8 @@ use Rattle.sock_words.specs.declared.plain.Plan.{Plan}
 use Rattle.seat_programs.specs.corr_core.specs.Word.{parts}
 use Rattle.seat_programs.specs.Asides.{Step, TakeCall, LoadIdWord, LockId, PostId, UnlockId, Found}
 use Rattle.seat_programs.specs.Heads.{Head, Exit, Retry, Posts, Unlocks, Decides, Locks, Opens, Posting, HasLocked, Unlocking, HasNext, Locking, Has, Reads, Ended}
-use Rattle.seat_programs.specs.Posts.{advance_of}
 use Rattle.seat_programs.specs.Told.{AskedFits}
+use Rattle.sock_words.specs.Words.{bit}
 
 -- the attempt of the word is one of its range, also behind so many more
 abbrev pub FitsMore : ℕ → ℕ → Type 0
@@ -27,7 +27,7 @@ FitsFound p (TakeCall i) asked = AskedFits p asked
 FitsFound p (LoadIdWord i) found = FitsTaken found
 FitsFound p (LockId i from) found = FitsTaken found
 FitsFound p (PostId i from e) found = FitsTaken found
-FitsFound p (UnlockId i from advance) found = FitsMore (advance_of advance) found
+FitsFound p (UnlockId i from advance) found = FitsMore (bit advance) found
 FitsFound p other found = Unit {0}
 
 abbrev pub FitsFrom : Option ℕ → Type 0
@@ -36,7 +36,7 @@ FitsFrom None = Unit {0}
 
 abbrev pub FitsHead : Plan → Head → Type 0
 FitsHead p (Posts id e w) = FitsWord w
-FitsHead p (Unlocks i w advance) = FitsMore (advance_of advance) w
+FitsHead p (Unlocks i w advance) = FitsMore (bit advance) w
 FitsHead p (Decides id asked w e) = AskedFits p asked × FitsWord w
 FitsHead p (Locks i sought w) = FitsFrom w
 FitsHead p (Opens o) = o < p.operations

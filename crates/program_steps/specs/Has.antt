@@ -7,11 +7,12 @@ use Rattle.sock_model.specs.declared.marks.Mark.TheVariants.{Hold, Tried, Known,
 use Rattle.sock_model.specs.declared.marks.SlotMark.{SlotMark}
 use Rattle.sock_model.specs.declared.view.View.{View}
 use Rattle.sock_model.specs.declared.view.Hand.{Hand}
-use Rattle.sock_model.specs.Weights.{total, only, is_ref, is_zero, is_any_coding, is_claimed, is_recycled}
+use Rattle.sock_model.specs.Weights.{only, is_ref, is_zero, is_any_coding, is_claimed, is_recycled}
 use Rattle.sock_model.specs.Marks.{about, at}
 use Rattle.sock_model.specs.SlotRows.{marks_of}
 use Rattle.seat_programs.specs.Programs.{LAST_VERSION}
 use Rattle.seat_programs.specs.Clients.{HeldLife}
+use Rattle.sock_words.specs.Totals.{total}
 
 -- a seat that writes no link and has no message on its way
 pub record IsQuiet (v : View) : Type 0 where

@@ -3,7 +3,7 @@ use Rattle.std.specs.Prelude.{ℕ, zero, suc, ◌≡◌, ◌≢◌, ◌+◌, ◌
 use Rattle.std.specs.Prelude as std
 use mathlib.Core.Option.{Option, some}
 use lib.ListN.{get_elem?}
-use Rattle.sock_words.specs.Words.{socket_id_version, socket_id_slot, id_slot}
+use Rattle.sock_words.specs.Words.{socket_id_version, socket_id_slot, id_slot, bit}
 use Rattle.sock_words.specs.declared.plain.Plan.{Plan}
 use Rattle.seat_programs.specs.sock_io.specs.declared.link.Put.{Put}
 use Rattle.seat_programs.specs.sock_io.specs.declared.link.Ready.{Ready}
@@ -19,7 +19,7 @@ use Rattle.sock_model.specs.declared.view.View.{View}
 use Rattle.sock_model.specs.declared.view.Hand.{Hand}
 use Rattle.sock_model.specs.Entries.{on}
 use Rattle.sock_model.specs.SlotRows.{marks_of}
-use Rattle.sock_model.specs.Weights.{total, is_saw}
+use Rattle.sock_model.specs.Weights.{is_saw}
 use Rattle.seat_programs.specs.Calls.{Call, PutMessage, SwapHead, ReverseNext}
 use Rattle.seat_programs.specs.Cores.{Core, SeatState}
 use Rattle.seat_programs.specs.Writings.{Holder, Writing, Puts, Waits, Empties, Walks}
@@ -28,7 +28,6 @@ use Rattle.seat_programs.specs.corr_core.specs.Word.{Parts, parts}
 use Rattle.seat_programs.specs.id_rule.specs.Lawful.{id_index}
 use Rattle.seat_programs.specs.Asides.{Step, Found, MakeId, StoreAt, LoadIdWord, LockId, PostId, UnlockId, EndId}
 use Rattle.seat_programs.specs.Beside.{found_in}
-use Rattle.seat_programs.specs.Posts.{advance_of}
 use Rattle.seat_programs.specs.Heads.{Head, Exit, Retry, Posts, Unlocks, Decides, Locks, Joins, Opens, Reads, Discards, Unlocking, IsOpen, HasNext}
 use Rattle.seat_programs.specs.Readers.{LIMIT}
 use Rattle.program_steps.specs.Fits.{FitsFound, FitsExit}
@@ -38,6 +37,7 @@ use Rattle.seat_programs.specs.StepsOfMessages.{took_message}
 use Rattle.seat_programs.specs.StepsOfLinks.{link_away, link_home_again, took_bytes}
 use Rattle.seat_programs.specs.StepTables.{Finds}
 use Rattle.seat_programs.specs.Rounds.{first_step}
+use Rattle.sock_words.specs.Totals.{total}
 
 -- ## Errors of calls
 
@@ -276,7 +276,7 @@ abbrev pub IsCountedStep : Core → Step → Type 0
 IsCountedStep c (MakeId i range) = IsSlot c i × (2 ≤ range) × (range ≤ 8)
 IsCountedStep c (LockId i from) = IsSlot c i × ((parts from).state ≡ 1)
 IsCountedStep c (PostId i from e) = IsSlot c i × (e < 32768) × (((parts from).state ≡ 1) ⊎ (((parts from).state ≡ 2) × ((parts from).second ≡ 0)))
-IsCountedStep c (UnlockId i from advance) = IsSlot c i × (0 < (parts from).state) × ((parts from).attempt + advance_of advance + 2 ≤ (parts from).range)
+IsCountedStep c (UnlockId i from advance) = IsSlot c i × (0 < (parts from).state) × ((parts from).attempt + bit advance + 2 ≤ (parts from).range)
 IsCountedStep c (EndId i) = IsSlot c i
 IsCountedStep c other = Unit {0}
 

@@ -11,7 +11,7 @@ use Rattle.seat_programs.specs.brpc_model.specs.Operations.{Operation, operation
 use Rattle.seat_programs.specs.brpc_model.specs.Places.{names}
 use Rattle.seat_programs.specs.corr_core.specs.declared.marks.Plan.{Plan as IdPlan}
 use Rattle.sock_model.specs.declared.view.View.{View}
-use Rattle.sock_model.specs.Weights.{total, is_linked}
+use Rattle.sock_model.specs.Weights.{is_linked}
 use Rattle.sock_model.specs.Marks.{about}
 use Rattle.sock_steps.proofs.Quiet.{either_way}
 use Rattle.seat_programs.specs.declared.task.Op.{Op}
@@ -28,6 +28,7 @@ use Rattle.program_walks.proofs.ThroughCalls.{through_others, through_next}
 use Rattle.program_walks.proofs.ThroughClients.{through_back, through_any}
 use Rattle.program_walks.proofs.Opening.{mapped, appended, all_at}
 use Rattle.program_walks.proofs.LinksRecorded.{Gives, gives_passes, gives_opens, gives_follow, Linked}
+use Rattle.sock_words.specs.Totals.{total}
 
 -- ## Programs
 

@@ -9,7 +9,7 @@ use lib.ListN.{get_elem?}
 use Rattle.sock_words.specs.declared.plain.Plan.{Plan}
 use Rattle.seat_programs.specs.brpc_model.specs.Order.{EachBefore}
 use Rattle.sock_model.specs.declared.view.View.{View}
-use Rattle.sock_model.specs.Weights.{total, is_born}
+use Rattle.sock_model.specs.Weights.{is_born}
 use Rattle.sock_model.specs.Marks.{about}
 use Rattle.sock_steps.proofs.Quiet.{either_way}
 use Rattle.seat_programs.specs.declared.task.Op.{Op}
@@ -30,6 +30,7 @@ use Rattle.program_walks.proofs.Recorded.{Recorded, nothing, records_more}
 use Rattle.program_walks.proofs.Through.{any_end, through_any_failed, records_passes, records_opens, records_follow}
 use Rattle.program_walks.proofs.ThroughCalls.{through_reader, through_next}
 use Rattle.program_walks.proofs.ThroughClients.{through_back, through_any}
+use Rattle.sock_words.specs.Totals.{total}
 
 -- ## The operations of a client
 

@@ -16,12 +16,12 @@ use Rattle.seat_programs.specs.sock_message.specs.Asked.{Asked}
 use Rattle.seat_programs.specs.Asides.{PutCall, LoadIdWord, LockId, PostId, UnlockId, EndId, FreeId, TakeCall, Taking, Bytes, Nothing, Closed}
 use Rattle.seat_programs.specs.Heads.{Head, Exit, Sought, Version, Reading, Posts, Unlocks, Decides, Locks, Joins, Opens, Reads, Discards, Posting, WasGone, WasStale, WasCrowded, WasQueued, HasLocked, Unlocking, IsOpen, HasNext, Deciding, HasEnded, GoesOn, Locking, NotThere, Has, Ended}
 use Rattle.seat_programs.specs.Programs.{Program, Say, Round, Keep}
-use Rattle.seat_programs.specs.Posts.{packed, advance_of, is_first, is_sought, is_stale, is_full, judged, posts_round, post_with, posted, post, popped, unlocks_round, end_id, decide, decided, unlocked, decides_round, locking, locks_round, joins_round}
+use Rattle.seat_programs.specs.Posts.{packed, is_first, is_sought, is_stale, is_full, judged, posts_round, post_with, posted, post, popped, unlocks_round, end_id, decide, decided, unlocked, decides_round, locking, locks_round, joins_round}
 use Rattle.seat_programs.specs.Readers.{LIMIT, slot_in, version_in, has_response, answer, answered, responses, last_of, ended_by, read_on, took, room_of, discarded, opens_round}
 use Rattle.seat_programs.specs.Rounds.{round}
 use Rattle.program_walks.proofs.Records.{awaits}
 use Rattle.program_walks.proofs.Through.{PassesErrors, PassesLocked, PassesLocks, PassesJoins, PassesReads, PassesOpens, is_of_errors, locked}
-use Rattle.sock_words.specs.Words.{call_id, id_slot, id_first}
+use Rattle.sock_words.specs.Words.{call_id, id_slot, id_first, bit}
 
 module _ (G : Program → Type 0) (g : PassesLocked G) where
   -- ## Locks given back, and decisions
@@ -31,7 +31,7 @@ module _ (G : Program → Type 0) (g : PassesLocked G) where
 
   pub through_unlocks : (i from : ℕ) (advance : Bool) (k : Unlocking → Program) → ((x : Unlocking) → G (k x)) → G (unlocks_round i from advance k)
   through_unlocks i from advance k after = g.aside (UnlockId i from advance) _ refl (λ found. either_way (found == from) _ _ G
-      (through_popped i (parts from).oldest (packed (unlocked_word (parts from) (advance_of advance))) k after) (g.round (Unlocks i found advance) k refl after))
+      (through_popped i (parts from).oldest (packed (unlocked_word (parts from) (bit advance))) k after) (g.round (Unlocks i found advance) k refl after))
 
   pub through_end_id : (i : ℕ) (next : Program) → G next → G (end_id i next)
   through_end_id i next after = g.aside (EndId i) _ refl (λ found. either_way (nat_le ((parts found).first + (parts found).range) LAST) _ _ G (g.aside (FreeId i) _ refl (λ _. after)) after)

@@ -10,7 +10,6 @@ use Rattle.sock_words.specs.Words.{socket_id_version, socket_id_slot}
 use Rattle.sock_model.specs.declared.chain.Entry.{Entry}
 use Rattle.sock_model.specs.declared.marks.Mark.TheVariants.{Hold}
 use Rattle.sock_model.specs.declared.view.View.{View}
-use Rattle.sock_model.specs.Weights.{total}
 use Rattle.seat_programs.specs.declared.task.Op.{Op}
 use Rattle.seat_programs.specs.declared.task.Op.TheVariants as ops
 use Rattle.seat_programs.specs.declared.task.Task.{Task}
@@ -37,6 +36,7 @@ use Rattle.programs_allowed.proofs.Held.{IsInTable, under, more_here, more_else,
 use Rattle.programs_allowed.proofs.Steps.{loads_open}
 use Rattle.programs_allowed.proofs.Sending.{send_goes}
 use Rattle.programs_allowed.proofs.Parts.{Ready, release_goes, address_goes, reach_goes, set_failed_goes, open_goes}
+use Rattle.sock_words.specs.Totals.{total}
 
 -- ## The operations
 

@@ -12,7 +12,7 @@ use Rattle.sock_model.specs.declared.marks.Mark.TheVariants.{Recycling, Hold, Tr
 use Rattle.sock_model.specs.declared.marks.SlotMark.{SlotMark}
 use Rattle.sock_model.specs.declared.view.View.{View}
 use Rattle.sock_model.specs.declared.view.Hand.{Hand}
-use Rattle.sock_model.specs.Weights.{total, only, is_ref, is_probe, is_zero, is_any_coding, is_claimed, is_recycled}
+use Rattle.sock_model.specs.Weights.{only, is_ref, is_probe, is_zero, is_any_coding, is_claimed, is_recycled}
 use Rattle.sock_model.specs.Marks.{about, at}
 use Rattle.sock_model.specs.SlotRows.{marks_of}
 use Rattle.seat_programs.specs.Programs.{LAST_VERSION}
@@ -24,6 +24,7 @@ use Rattle.slot_steps.proofs.Sums.{total_mono, about-other}
 use Rattle.slot_steps.proofs.Numbers.{only-else}
 use Rattle.slot_steps.proofs.Slots.{probe_ref}
 use Rattle.sock_model.specs.Conditions.{KeepsRights}
+use Rattle.sock_words.specs.Totals.{total}
 
 -- ## Weights of tokens
 

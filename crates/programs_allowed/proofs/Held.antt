@@ -9,11 +9,12 @@ use Rattle.sock_words.specs.Words.{socket_id_version, socket_id_slot}
 use Rattle.sock_model.specs.declared.marks.Mark.{Mark}
 use Rattle.sock_model.specs.declared.marks.Mark.TheVariants.{Hold}
 use Rattle.sock_model.specs.declared.marks.SlotMark.{SlotMark}
-use Rattle.sock_model.specs.Weights.{total, only}
+use Rattle.sock_model.specs.Weights.{only}
 use Rattle.sock_model.specs.Marks.{about, at}
 use Rattle.seat_programs.specs.Clients.{HeldLife, held_under, without_name}
 use Rattle.slot_steps.proofs.Numbers.{only-at, only-else}
 use Rattle.program_walks.specs.program_steps.specs.Has.{holds}
+use Rattle.sock_words.specs.Totals.{total}
 
 -- the life's slot is one of the table
 abbrev pub IsInTable : Plan → HeldLife → Type 0

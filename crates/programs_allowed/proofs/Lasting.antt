@@ -11,7 +11,6 @@ use Rattle.sock_words.specs.declared.plain.Plan.{Plan}
 use Rattle.sock_model.specs.declared.chain.Entry.{Entry}
 use Rattle.sock_model.specs.declared.chain.Right.{Right}
 use Rattle.sock_model.specs.declared.view.View.{View}
-use Rattle.sock_model.specs.Weights.{total}
 use Rattle.corr_core.specs.Word.{Parts, parts}
 use Rattle.corr_core.specs.declared.marks.Plan.{Plan as IdPlan}
 use Rattle.id_runs.specs.id_rule.specs.Lawful.{id_index}
@@ -40,6 +39,7 @@ use Rattle.programs_allowed.specs.Openings.{client_view, opening_views, all_seat
 use Rattle.programs_allowed.proofs.OpCosts.{op_cost, task_cost, client_lasts, ending_of_lasts}
 use Rattle.programs_allowed.proofs.ReaderCosts.{reader_cost, reader_lasts}
 use Rattle.programs_allowed.proofs.Opens.{at_first, begun_core, opens_goes, ending_resolved}
+use Rattle.sock_words.specs.Totals.{total}
 
 -- ## A run begins
 

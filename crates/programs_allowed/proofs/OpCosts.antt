@@ -5,7 +5,6 @@ use Rattle.std.specs.List.{AllByRecursion}
 use Rattle.sock_words.specs.declared.plain.Plan.{Plan}
 use Rattle.sock_words.specs.declared.outcome.Outcome.TheVariants.{Opened, SlotsFull, Unopened, Gone, Full, Held, Freed, Kept, NotBegun, Joined}
 use Rattle.sock_words.specs.Words.{socket_id, socket_id_slot, vref_version, call_id, NO_SOCKET}
-use Rattle.sock_model.specs.Weights.{total}
 use Rattle.corr_core.specs.Word.{parts, error_of}
 use Rattle.corr_core.specs.declared.marks.Plan.{Plan as IdPlan}
 use Rattle.corr_core.specs.Decisions.{WHOLE}
@@ -28,6 +27,7 @@ use Rattle.runs_end.proofs.IdCosts.{lasts_more, judged_lasts, posted_lasts}
 use Rattle.runs_end.proofs.Costs.{Lasting, lasting_more, either_lasts, does, set_failed_lasts}
 use Rattle.runs_end.proofs.AttemptCosts.{release_lasts, address_lasts, ends_link, accept_lasts, attempt_lasts}
 use Rattle.programs_allowed.proofs.Held.{length_without}
+use Rattle.sock_words.specs.Totals.{total}
 
 -- ## Parts of programs
 

@@ -9,7 +9,7 @@ use Rattle.atomic_table.proofs.Lists.{at_set}
 use Rattle.sock_words.specs.declared.plain.Plan.{Plan}
 use Rattle.sock_model.specs.declared.home.Home.{Home}
 use Rattle.sock_model.specs.declared.view.View.{View}
-use Rattle.sock_model.specs.Weights.{total, only}
+use Rattle.sock_model.specs.Weights.{only}
 use Rattle.sock_model.specs.Layout.{request_index, place_index}
 use Rattle.sock_model.specs.Seats.{newcomer, below}
 use Rattle.sock_model.specs.Lawful.{PlanFits, Lawful}
@@ -38,6 +38,7 @@ use Rattle.programs_allowed.proofs.Retrying.{retries_go}
 use Rattle.programs_allowed.proofs.Reading.{reader_goes}
 use Rattle.programs_allowed.proofs.Beginning.{beyond, unused, at_home, length_homes, no_message}
 use Rattle.programs_allowed.proofs.Passes.{total_without, without_append, enough}
+use Rattle.sock_words.specs.Totals.{total}
 
 -- ## The views of the seats
 

@@ -4,7 +4,7 @@ use Rattle.std.specs.List.{AllByRecursion}
 use mathlib.Core.Logic.{dite}
 use native.Mathlib.Decide.{ℕ_discrete, dec_le}
 use Rattle.sock_words.specs.declared.plain.Plan.{Plan}
-use Rattle.sock_model.specs.Weights.{total, only}
+use Rattle.sock_model.specs.Weights.{only}
 use Rattle.sock_model.specs.Marks.{without_pass}
 use Rattle.sock_model.specs.Seats.{below}
 use Rattle.program_walks.specs.brpc_model.specs.Order.{EachBefore}
@@ -16,6 +16,7 @@ use Rattle.slot_steps.proofs.Sums.{total-append}
 use Rattle.slot_steps.proofs.Numbers.{only-same, only-else, only-at, only_le}
 use Rattle.slot_steps.proofs.Frame.{passes-without}
 use Rattle.programs_allowed.specs.Openings.{link_of, links_of, links_of_all, without_passes}
+use Rattle.sock_words.specs.Totals.{total}
 
 -- ## Passes that go
 

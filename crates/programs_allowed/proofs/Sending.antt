@@ -14,7 +14,7 @@ use Rattle.sock_model.specs.declared.marks.Mark.{Mark}
 use Rattle.sock_model.specs.declared.marks.Mark.TheVariants.{Hold, Saw, Met, Failer, Stored, Told}
 use Rattle.sock_model.specs.declared.marks.SlotMark.{SlotMark}
 use Rattle.sock_model.specs.declared.view.View.{View}
-use Rattle.sock_model.specs.Weights.{total, is_hold, is_met}
+use Rattle.sock_model.specs.Weights.{is_hold, is_met}
 use Rattle.sock_model.specs.Marks.{about}
 use Rattle.sock_model.specs.SlotRows.{marks_of, looked, met_link}
 use Rattle.sock_model.specs.ChainRows.{with_claim, entry_of, more, queued, righted, new_right, without_loose, taken_right, ready_claim, filled_claim}
@@ -35,6 +35,7 @@ use Rattle.programs_allowed.proofs.Has.{probes, codings, refs_few, no_links, tok
 use Rattle.programs_allowed.proofs.Held.{about_share}
 use Rattle.programs_allowed.proofs.Steps.{noted, first}
 use Rattle.programs_allowed.proofs.Parts.{Ready, release_goes, reach_goes}
+use Rattle.sock_words.specs.Totals.{total}
 
 -- ## Notes of a writer
 

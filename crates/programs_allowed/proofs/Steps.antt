@@ -12,7 +12,7 @@ use Rattle.sock_model.specs.declared.marks.Mark.TheVariants.{Claimed, Recycling,
 use Rattle.sock_model.specs.declared.marks.SlotMark.{SlotMark}
 use Rattle.sock_model.specs.declared.view.View.{View}
 use Rattle.sock_model.specs.declared.view.Hand.{Hand}
-use Rattle.sock_model.specs.Weights.{total, only, is_ref, is_probe, is_hold, is_zero, is_any_coding, is_coding, is_stage, is_recycled, is_recycling, is_busy, is_known, is_met}
+use Rattle.sock_model.specs.Weights.{only, is_ref, is_probe, is_hold, is_zero, is_any_coding, is_coding, is_stage, is_recycled, is_recycling, is_busy, is_known, is_met}
 use Rattle.sock_model.specs.Marks.{about, at, without, without_at, without_pass}
 use Rattle.sock_model.specs.SlotRows.{marks_of, back, subbed, freed, wrote}
 use Rattle.sock_model.specs.Layout.{name_index, open_index}
@@ -33,6 +33,7 @@ use Rattle.slot_steps.proofs.Codes.{coding_as}
 use Rattle.program_walks.specs.program_steps.specs.Has.{Has, OfTokens}
 use Rattle.program_walks.specs.program_steps.proofs.Rounds.{about_top}
 use Rattle.programs_allowed.proofs.Has.{becomes, marked, kept, probes, codings, refs_few, keeps_rights, still, at_slot, no_links, tokens}
+use Rattle.sock_words.specs.Totals.{total}
 
 -- ## Marks that come and go
 

@@ -13,9 +13,9 @@ use Rattle.seat_programs.specs.StepTables.{word_of}
 use Rattle.seat_programs.specs.Ticks.{quiet, ticked, tick_with}
 use Rattle.attempted_calls.specs.Below.outcome_stories.specs.Stories.{In}
 use Rattle.attempted_calls.specs.Below.outcome_causes.proofs.Plain.{in_both}
-use Rattle.attempted_calls.specs.Below.call_stories.specs.Lists.{shows_in}
 use Rattle.attempted_calls.specs.Below.call_stories.specs.Posts.{Post, posted_with, posted_at}
 use Rattle.seat_programs.specs.Rounds.{first_step}
+use Rattle.attempted_calls.specs.Below.outcome_stories.specs.Facts.{shown_in}
 
 -- the program makes steps on the table of the sockets alone
 abbrev pub OnSockets : Program → Type 0
@@ -80,6 +80,6 @@ module _ (p : Plan) where
       by Rest g m = m
       by _ g m = absurd g
 
-  pub none_closing : (n : ℕ) (c : Core) → MakesSteps c → (x : Post) → In x (shows_in posted_at p c (replicate n (quiet 0))) → ⊥
+  pub none_closing : (n : ℕ) (c : Core) → MakesSteps c → (x : Post) → In x (shown_in posted_at p c (replicate n (quiet 0))) → ⊥
   none_closing zero c s x at = at
-  none_closing (suc n) c s x at = ⊎_elim (none_posted c s x) (none_closing n (ticked p c (quiet 0)) (tick_steps c s) x) (in_both (posted_at c (quiet 0)) (shows_in posted_at p (ticked p c (quiet 0)) (replicate n (quiet 0))) x at)
+  none_closing (suc n) c s x at = ⊎_elim (none_posted c s x) (none_closing n (ticked p c (quiet 0)) (tick_steps c s) x) (in_both (posted_at c (quiet 0)) (shown_in posted_at p (ticked p c (quiet 0)) (replicate n (quiet 0))) x at)

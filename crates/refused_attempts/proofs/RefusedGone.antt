@@ -5,7 +5,6 @@ use Rattle.std.specs.Prelude.{Some, slice_get}
 use Rattle.std.specs.List.{AllByRecursion}
 use Rattle.sock_model.specs.declared.chain.Entry.{Entry}
 use Rattle.sock_model.specs.declared.view.View.{View}
-use Rattle.sock_model.specs.Weights.{total}
 use Rattle.attempted_calls.specs.Below.slot_steps.proofs.Sums.{term_le}
 use Rattle.seat_programs.specs.brpc_model.specs.Items.{Item}
 use Rattle.seat_programs.specs.brpc_model.specs.Operations.{Turn}
@@ -36,6 +35,7 @@ use Rattle.attempted_calls.specs.sent_once.proofs.ToldEnd.{told_end}
 use Rattle.attempted_calls.specs.sent_once.proofs.Sends.{narrow, opening_bare}
 use Rattle.refused_attempts.proofs.RefusedWhole.{IsGone}
 use Rattle.attempted_calls.specs.Below.owned_ids.proofs.OpensStored.{place_at}
+use Rattle.sock_words.specs.Totals.{total}
 
 module _ (script : List Item) (made : AreMade script) (turns : List Turn) (core : Core) (is : IsRunWithCalls script turns core) (closes : ClosesInRun script turns core is) (ids : ℕ → ℕ) (labelled : AreLabelledIn ids script turns core is) (would : RunWouldOwn ids script turns core is) where
   abbrev vs : List View

@@ -9,7 +9,7 @@ use Rattle.sock_message.specs.Asked.{Asked}
 use Rattle.seat_programs.specs.Asides.{UnlockId, FreeId, Taking, PutCall}
 use Rattle.seat_programs.specs.Calls.{Call}
 use Rattle.seat_programs.specs.Heads.{Head, Exit, Sought, Version, Reading, Posts, Unlocks, Decides, Locks, Joins, Opens, Reads, Discards, Retry, Posting, WasGone, WasStale, WasCrowded, WasQueued, HasLocked, Unlocking, IsOpen, HasNext, Deciding, HasEnded, GoesOn, Locking, NotThere, Has, Ended}
-use Rattle.seat_programs.specs.Posts.{packed, advance_of, is_first, is_sought, is_stale, is_full, judged, posted, post_with, popped, end_id, decide, decided, unlocked, locking, IsSoughtWord}
+use Rattle.seat_programs.specs.Posts.{packed, is_first, is_sought, is_stale, is_full, judged, posted, post_with, popped, end_id, decide, decided, unlocked, locking, IsSoughtWord}
 use Rattle.seat_programs.specs.Programs.{Program, Say, Aside, Round}
 use Rattle.seat_programs.specs.Readers.{answer, took, discarded, slot_in}
 use Rattle.seat_programs.specs.Rounds.{round}
@@ -19,7 +19,7 @@ use Rattle.attempted_calls.specs.Below.label_runs.proofs.Programs.{hit_is, miss_
 use Rattle.attempted_calls.specs.Below.label_runs.proofs.Loops.{first_as, id_back, not_true, not_equal, and_left, locked_parts, none_left, word_got}
 use Rattle.attempted_calls.specs.accept_counts.specs.Refused.{Deed, NoCharge, Doing, idle, Moves, Remembers, IsPostOf, Charges, LeavesCode}
 use Rattle.attempted_calls.specs.accept_counts.proofs.Words.{unlocked_is}
-use Rattle.sock_words.specs.Words.{id_slot, id_first, call_id}
+use Rattle.sock_words.specs.Words.{id_slot, id_first, call_id, bit}
 
 -- a seat that tries, or none, and has nothing to post
 abbrev pub bare : Trial → List Deed → Doing
@@ -132,9 +132,9 @@ module _ (requests : ℕ) (is_call : Asked → Type 0) (reads : Bool) where
 
   module _ (t : Trial) (ds : List Deed) (i from : ℕ) (advance : Bool) (k : Unlocking → Program) (goes : (exit : Unlocking) → LeavesLabel (Unlocks i from advance) exit → Goes (bare (unlocks_trial i from advance t) ds) (k exit)) where
     abbrev after : ℕ
-    after = packed (unlocked_word (parts from) (advance_of advance))
+    after = packed (unlocked_word (parts from) (bit advance))
 
-    pops : (low : (parts from).attempt + advance_of advance ≤ 6) → Goes (bare (unlocks_trial i from advance t) ds) (popped i (parts from).oldest after k)
+    pops : (low : (parts from).attempt + bit advance ≤ 6) → Goes (bare (unlocks_trial i from advance t) ds) (popped i (parts from).oldest after k)
     pops low = let first : (parts after).first ≡ (parts from).first = ap (λ (w : Parts). w.first) (unlocked_is from advance low) in let s : Doing = bare (unlocks_trial i from advance t) ds in
         way (bare (unlocks_trial i from advance t) ds) (eqb (parts from).oldest 0) (k (IsOpen after)) (cond (is_stale (parts from).oldest (parts after)) (Round (Unlocks i after false) k) (k (HasNext after (parts from).oldest)))
         (λ _. goes (IsOpen after) (low, tt))

@@ -16,7 +16,6 @@ use Rattle.attempted_calls.specs.Below.outcome_stories.specs.Stories.{In}
 use Rattle.attempted_calls.specs.Below.joint_runs.proofs.Runs.{AreMade}
 use Rattle.attempted_calls.specs.Below.call_owing.specs.Lives.{ClosesInRun}
 use Rattle.attempted_calls.specs.Below.call_stories.specs.Decided.{posted_by}
-use Rattle.attempted_calls.specs.Below.call_stories.specs.Lists.{shows_in_run}
 use Rattle.attempted_calls.specs.Below.call_stories.specs.Posts.{Post}
 use Rattle.attempted_calls.specs.accept_counts.specs.Refused.{Deed, DidEarly, DidLate, DidInRun, FoundNothing, IsRefusal, IsDrop, RunWouldOwn, ByReader, ByExpiry, ByRefusal, ByDrop}
 use Rattle.attempted_calls.specs.sent_once.proofs.Beside.{fixed_of_run, gave_of_run, orders_here}
@@ -27,6 +26,7 @@ use Rattle.refused_attempts.proofs.RefusedMeans.{IsSo}
 use Rattle.refused_attempts.proofs.RefusedWhole.{end_views, IsGone, KindOfPost, kinds_of_seat}
 use Rattle.refused_attempts.proofs.RefusedWhys.{full, before_so, late_so}
 use Rattle.refused_attempts.proofs.RefusedPosts.{all_done}
+use Rattle.attempted_calls.specs.Below.outcome_stories.specs.Facts.{shown_in_run}
 
 code_is : (e code n : ℕ) → n ≤ 6 → e ≡ error_of code n → (code_of e ≡ code) × (attempt_of e ≡ n)
 code_is e code n few is = (ap code_of is ∙ (let z : code_of (error_of code n) ≡ code = omega (arith, few) in z), ap attempt_of is ∙ (let z : attempt_of (error_of code n) ≡ n = omega (arith, few) in z))
@@ -90,7 +90,7 @@ module _ (script : List Item) (made : AreMade script) (turns : List Turn) (core 
       PostedByDrop : (heading : Heading) (code : ℕ) (ds : List Deed) → j < 32 → AllByRecursion (DidInRun script turns core is j) ds → IsDrop heading code ds → heading.owner ≢ 0 → heading.owner ≡ x.id
           → x.error ≡ error_of (Rattle.std.specs.Prelude.if◌then◌else◌ (Rattle.std.specs.Prelude.◌==◌ code 0) 1009 code) heading.attempt → WhyPosted j x
 
-    pub refused_of_seat : (j : ℕ) (x : Post) → In x (shows_in_run script turns core is (posted_by j)) → WhyPosted j x
+    pub refused_of_seat : (j : ℕ) (x : Post) → In x (shown_in_run script turns core is (posted_by j)) → WhyPosted j x
     refused_of_seat j x at = ⊎_elim early late (kinds_of_seat script made turns core is closes ids labelled would j x at)
       where
         early : KindOfPost script made turns core is closes ids labelled would (DidEarly script turns core is) j x → WhyPosted j x

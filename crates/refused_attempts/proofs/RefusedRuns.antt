@@ -27,7 +27,6 @@ use Rattle.attempted_calls.specs.Below.outcome_stories.specs.Stories.{In}
 use Rattle.attempted_calls.specs.Below.outcome_causes.proofs.Plain.{in_both}
 use Rattle.attempted_calls.specs.Below.label_runs.specs.Labels.{Trial, Idle}
 use Rattle.attempted_calls.specs.Below.label_runs.proofs.Operations.{OpCalls}
-use Rattle.attempted_calls.specs.Below.call_stories.specs.Lists.{shows_in}
 use Rattle.attempted_calls.specs.Below.call_stories.specs.Decided.{posted_by}
 use Rattle.attempted_calls.specs.Below.call_stories.specs.Posts.{Post}
 use Rattle.attempted_calls.specs.accept_counts.specs.Counts.{of_trial, of_view, times_of, TrialFits, AreLabelled}
@@ -39,6 +38,7 @@ use Rattle.attempted_calls.specs.accept_counts.proofs.PostSeats.{of_tick}
 use Rattle.refused_attempts.proofs.RefusedPosts.{kind_more, tick_kinds}
 use Rattle.refused_attempts.proofs.RefusedPrograms.{client_goes, reader_goes}
 use Rattle.seat_programs.specs.Rounds.{first_step}
+use Rattle.attempted_calls.specs.Below.outcome_stories.specs.Facts.{shown_in}
 
 -- ## Lists
 
@@ -77,7 +77,7 @@ module _ (p : Plan) (q : IdPlan) (narrow : q.slots ≤ 65536) (is_call : Asked �
     pub law : Law (λ j d. Did j d ⊎ DidIn p c ms j d) (run p c ms) (views_along p c vs ms) doings
     pub spent : (id n : ℕ) → Spent c vs ss id n → Spent (run p c ms) (views_along p c vs ms) doings id n
     -- of the posts of each seat
-    pub kinds : (j : ℕ) (x : Post) → In x (shows_in (posted_by j) p c ms) → Kind (λ j d. Did j d ⊎ DidIn p c ms j d) (Spent (run p c ms) (views_along p c vs ms) doings) j x
+    pub kinds : (j : ℕ) (x : Post) → In x (shown_in (posted_by j) p c ms) → Kind (λ j d. Did j d ⊎ DidIn p c ms j d) (Spent (run p c ms) (views_along p c vs ms) doings) j x
 
   pub run_charges : RetriesGo p → (ms : List Moment) (Did : ℕ → Deed → Type 0) (c : Core) (vs : List View) → Sound p c vs → AreAnswered p c ms → AreFitting p c ms → AreLabelled ids p q c ms → AllWouldOwn ids p c ms
       → Lawful_ p q narrow is_call ids c vs → (ss : List Doing) → Law Did c vs ss → Behind Did c vs ss ms
@@ -95,7 +95,7 @@ module _ (p : Plan) (q : IdPlan) (narrow : q.slots ≤ 65536) (is_call : Asked �
             (subst (λ j. Kind (λ j d. Did j d ⊎ DidAt p c m j d) (Spent c vs ss) j x) y.0 (tick_kinds p q narrow is_call ids Did c vs ss law labels.1.calls are.0.0 are.0.1 m sound x y.1)))
             (λ later. kind_more p.requests is_call ids (λ j d. (Did j d ⊎ DidAt p c m j d) ⊎ DidIn p (ticked p c m) ms j d) (λ j d. Did j d ⊎ (DidAt p c m j d ⊎ DidIn p (ticked p c m) ms j d))
             (Spent (run p c (m ∷ ms)) (views_along p c vs (m ∷ ms)) r.doings) (Spent (run p c (m ∷ ms)) (views_along p c vs (m ∷ ms)) r.doings) regroup (λ id n y. y) j x (r.kinds j x later))
-            (in_both (posted_by j c m) (shows_in (posted_by j) p (ticked p c m) ms) x at);
+            (in_both (posted_by j c m) (shown_in (posted_by j) p (ticked p c m) ms) x at);
       }
     where
       regroup : (j : ℕ) (d : Deed) → (Did j d ⊎ DidAt p c m j d) ⊎ DidIn p (ticked p c m) ms j d → Did j d ⊎ (DidAt p c m j d ⊎ DidIn p (ticked p c m) ms j d)

@@ -13,7 +13,6 @@ use Rattle.sock_model.specs.declared.chain.Heading.{Heading}
 use Rattle.sock_model.specs.declared.home.Home.{Home}
 use Rattle.sock_model.specs.declared.view.Hand.{Hand}
 use Rattle.sock_model.specs.declared.view.View.{View}
-use Rattle.sock_model.specs.Weights.{total}
 use Rattle.attempted_calls.specs.Below.slot_steps.proofs.Sums.{term_le, total-append, total-set}
 use Rattle.corr_core.specs.Word.{parts}
 use Rattle.corr_core.specs.declared.marks.Plan.{Plan as IdPlan}
@@ -48,6 +47,7 @@ use Rattle.refused_attempts.proofs.RefusedPrograms.{block_goes, retry_goes}
 use Rattle.attempted_calls.specs.Below.script_facts.proofs.Lists.{all_map}
 use Rattle.attempted_calls.specs.own_decisions.proofs.OwnDecisionsTicks.{pair_self}
 use Rattle.seat_programs.specs.Rounds.{first_step}
+use Rattle.sock_words.specs.Totals.{total}
 
 -- ## Lists
 

@@ -14,7 +14,6 @@ use Rattle.sock_model.specs.declared.view.View.{View}
 use Rattle.sock_model.specs.declared.home.Home.{Home}
 use Rattle.sock_model.specs.Messages.{Letter}
 use Rattle.sock_model.specs.Reads.{message, link_home}
-use Rattle.sock_model.specs.Weights.{total}
 use Rattle.seat_programs.specs.brpc_model.specs.Items.{Item}
 use Rattle.seat_programs.specs.brpc_model.specs.Operations.{Turn}
 use Rattle.corr_core.specs.declared.marks.Plan.{Plan as IdPlan}
@@ -42,7 +41,6 @@ use Rattle.attempted_calls.specs.Below.outcome_causes.proofs.Plain.{in_both}
 use Rattle.attempted_calls.specs.Below.joint_runs.proofs.Runs.{AreMade, first_views}
 use Rattle.attempted_calls.specs.Below.call_owing.specs.Lives.{ClosesInRun}
 use Rattle.attempted_calls.specs.Below.call_stories.specs.Decided.{posted_by}
-use Rattle.attempted_calls.specs.Below.call_stories.specs.Lists.{shows_in, shows_in_run}
 use Rattle.attempted_calls.specs.Below.call_stories.specs.Posts.{Post, posted_at}
 use Rattle.attempted_calls.specs.accept_counts.specs.Counts.{times_of, TrialFits}
 use Rattle.attempted_calls.specs.accept_counts.specs.Refused.{Deed, Charge, NoCharge, IsRefused, HasDropped, Doing, idle, trial_in, Charges, DidAt, DidIn, DidEarly, DidLate, IsSpent, ChargeFits, ChargeLaw, PostKind, RunWouldOwn}
@@ -59,6 +57,8 @@ use Rattle.refused_attempts.proofs.RefusedPrograms.{ending_goes}
 use Rattle.refused_attempts.proofs.RefusedRuns.{law_more, Behind, run_charges, none_did, begins_charges, seats_charge, none_done}
 use Rattle.refused_attempts.proofs.RefusedTicks.{moves}
 use Rattle.attempted_calls.specs.accept_counts.proofs.Grounds.{setting}
+use Rattle.sock_words.specs.Totals.{total}
+use Rattle.attempted_calls.specs.Below.outcome_stories.specs.Facts.{shown_in, shown_in_run}
 
 -- ## Seats that wait
 
@@ -372,14 +372,14 @@ module _ (script : List Item) (made : AreMade script) (turns : List Turn) (core 
   more Did Done Spent f g j x k = kind_more (plan_of script).requests (IsCallOf script) ids Did Done Spent IsGone f g j x k
 
   -- no error is posted while seat 0 closes what was opened
-  pub closing_none : (x : Post) → In x (shows_in posted_at (plan_of script) (closing_of script turns core is) (replicate is.last (quiet 0))) → ⊥
+  pub closing_none : (x : Post) → In x (shown_in posted_at (plan_of script) (closing_of script turns core is) (replicate is.last (quiet 0))) → ⊥
   closing_none x at = none_closing (plan_of script) is.last (closing_of script turns core is)
       (let seat = at_there rested.seats 0 many in (_, set_first rested.seats seat.0 _ seat.1, subst OnSockets (sym (alone (waiting_at rested.calls.waiting 0) (ending_of (opens script)) (on_sockets (opens script)))) (on_sockets (opens script)))) x at
     where
       many : 0 < length (played script is.setup (is.scheduled ++ is.later)).seats
       many = let m = Rattle.attempted_calls.specs.accept_counts.proofs.Rests.many script made turns core is in omega (arith, m)
 
-  pub kinds_of_seat : (j : ℕ) (x : Post) → In x (shows_in_run script turns core is (posted_by j)) → KindOfPost (DidEarly script turns core is) j x ⊎ KindOfPost (DidLate script turns core is) j x
+  pub kinds_of_seat : (j : ℕ) (x : Post) → In x (shown_in_run script turns core is (posted_by j)) → KindOfPost (DidEarly script turns core is) j x ⊎ KindOfPost (DidLate script turns core is) j x
   unfolding last_doings
   kinds_of_seat j x at = ⊎_elim
       (λ a. inl (more DidSetup (DidEarly script turns core is) _ (λ j d. ⊎_elim (λ z. absurd z) (λ y. inl y)) from_set_up j x (setup_runs.kinds j x a)))
@@ -389,6 +389,6 @@ module _ (script : List Item) (made : AreMade script) (turns : List Turn) (core 
       (λ a. absurd (closing_none x (of_all j (plan_of script) (replicate is.last (quiet 0)) (closing_of script turns core is) x a)))
       (λ a. inr (more (λ j d. Nothing j d ⊎ DidIn (plan_of script) is.ended is.final j d) (DidLate script turns core is) (Gone (run (plan_of script) is.ended is.final) last_views final_runs.doings) (λ j d. ⊎_elim (λ z. absurd z) (λ y. y))
       (λ id n y. subst (λ c. Gone c last_views final_runs.doings id n) (sym is.is_end) y) j x (final_runs.kinds j x a)))
-      (in_both (shows_in (posted_by j) (plan_of script) (closing_of script turns core is) (replicate is.last (quiet 0))) (shows_in (posted_by j) (plan_of script) is.ended is.final) x rest))
-      (in_both (shows_in (posted_by j) (plan_of script) (set_up script is.setup) (is.scheduled ++ is.later)) _ x rest))
-      (in_both (shows_in (posted_by j) (plan_of script) (opened script) (replicate is.setup (quiet 0))) _ x at)
+      (in_both (shown_in (posted_by j) (plan_of script) (closing_of script turns core is) (replicate is.last (quiet 0))) (shown_in (posted_by j) (plan_of script) is.ended is.final) x rest))
+      (in_both (shown_in (posted_by j) (plan_of script) (set_up script is.setup) (is.scheduled ++ is.later)) _ x rest))
+      (in_both (shown_in (posted_by j) (plan_of script) (opened script) (replicate is.setup (quiet 0))) _ x at)

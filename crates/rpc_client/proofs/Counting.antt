@@ -11,7 +11,7 @@ use Rattle.sock_words.specs.Words.{socket_id_version, socket_id_slot}
 use Rattle.sock_model.specs.declared.marks.Mark.{Mark}
 use Rattle.sock_model.specs.declared.marks.Mark.TheVariants.{Hold, Known, Tried, Linked, Born}
 use Rattle.sock_model.specs.declared.view.View.{View}
-use Rattle.sock_model.specs.Weights.{total, only, pair, is_ref, is_hold}
+use Rattle.sock_model.specs.Weights.{only, pair, is_ref, is_hold}
 use Rattle.sock_model.specs.Marks.{about}
 use Rattle.sock_model.specs.SlotRows.{marks_of, met}
 use Rattle.write_chain.specs.slot_steps.proofs.Sums.{total_mono, total-append}
@@ -29,6 +29,7 @@ use Rattle.rpc_client.specs.Holding.{IsHolder, is_there, is_life, GaveOne, given
 use Rattle.sock_table.specs.Named.{FindsId}
 use Rattle.write_chain.specs.sock_open.proofs.Testing.{ended_refs}
 use Rattle.rpc_client.specs.Seats.{SameRefs, OneMore}
+use Rattle.sock_words.specs.Totals.{total}
 
 hold_ref : (h : ℕ) (m : Mark) → is_hold h m ≤ is_ref m
 hold_ref h (Hold k) = only_le h k

@@ -12,7 +12,7 @@ use Rattle.sock_model.specs.declared.chain.Heading.{Heading}
 use Rattle.sock_model.specs.declared.marks.Mark.{Mark}
 use Rattle.sock_model.specs.declared.marks.Mark.TheVariants.{Saw}
 use Rattle.sock_model.specs.declared.view.View.{View}
-use Rattle.sock_model.specs.Weights.{total, is_ref}
+use Rattle.sock_model.specs.Weights.{is_ref}
 use Rattle.write_chain.specs.message_parts.specs.Parcels.{parcel_of}
 use Rattle.sock_rule.specs.Seated.{IsSeat}
 use Rattle.sock_rule.specs.declared.homes.Letter.{Letter}
@@ -31,6 +31,7 @@ use Rattle.rpc_client.proofs.Counting.{same_refs, then_more, given}
 use Rattle.rpc_client.proofs.Finding.{holds_still, seen_same, seen_then, seen_became}
 use Rattle.rpc_client.proofs.Writing.{all_refs}
 use Rattle.write_chain.specs.Ready.{sock_of}
+use Rattle.sock_words.specs.Totals.{total}
 
 -- ## Accepted
 

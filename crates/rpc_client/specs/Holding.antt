@@ -10,12 +10,13 @@ use Rattle.sock_words.specs.declared.outcome.Outcome.TheVariants as outcome
 use Rattle.sock_words.specs.Words.{socket_id_version, socket_id_slot}
 use Rattle.sock_model.specs.declared.marks.Mark.TheVariants.{Hold}
 use Rattle.sock_model.specs.declared.view.View.{View}
-use Rattle.sock_model.specs.Weights.{total, only, pair, is_ref, is_hold}
+use Rattle.sock_model.specs.Weights.{only, pair, is_ref, is_hold}
 use Rattle.sock_model.specs.SlotRows.{marks_of}
 use Rattle.sock_table.specs.Refs.{GaveBack}
 use Rattle.rpc_client.specs.declared.holding.Held.{Held}
 use Rattle.rpc_client.specs.declared.reaching.Reached.TheVariants as reached
 use Rattle.rpc_client.specs.Reaching.{ReachedBy}
+use Rattle.sock_words.specs.Totals.{total}
 
 abbrev pub is_there : ℕ → Held → ℕ
 is_there i x = only i (socket_id_slot x.id.0)

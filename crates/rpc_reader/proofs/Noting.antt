@@ -1,7 +1,7 @@
 -- Calls that end one behind the other, by the ids that a seat found.
 use Rattle.std.proofs.Common.{◌≡◌, ℕ, ◌+◌, ◌<◌, ◌≤◌, List, [], ◌∷◌, ◌++◌, length, take, get_or, refl, sym, subst}
 use Rattle.std.proofs.lemmas.List.{take_more}
-use Rattle.corr_core.specs.Law.{total, is_made}
+use Rattle.corr_core.specs.Law.{is_made}
 use Rattle.corr_core.specs.Word.{Parts}
 use Rattle.corr_core.specs.declared.marks.Plan.{Plan}
 use Rattle.corr_core.specs.declared.marks.View.{View}
@@ -12,6 +12,7 @@ use Rattle.rpc_reader.specs.Books.{Books}
 use Rattle.rpc_reader.specs.Posting.{LockLost}
 use Rattle.rpc_reader.specs.Resting.{EndedLast, OneEnded, RestEnded}
 use Rattle.sock_words.specs.Words.{id_slot, id_first}
+use Rattle.sock_words.specs.Totals.{total}
 
 -- the seat knows of this id that it was made
 abbrev pub IsKnown : ℕ → View Asked → Type 0

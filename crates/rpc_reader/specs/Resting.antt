@@ -1,6 +1,6 @@
 -- The calls that are left when no link is read any more.
 use Rattle.std.specs.Prelude.{◌≡◌, ◌≢◌, ◌+◌, ◌<◌, ◌≤◌, ◌⊎◌, ℕ, false, List, [], ◌∷◌}
-use Rattle.corr_core.specs.Law.{total, is_made}
+use Rattle.corr_core.specs.Law.{is_made}
 use Rattle.corr_core.specs.Word.{Parts, parts}
 use Rattle.corr_core.specs.declared.marks.Plan.{Plan}
 use Rattle.corr_core.specs.declared.marks.View.{View}
@@ -11,6 +11,7 @@ use Rattle.sock_message.specs.Asked.{Asked}
 use Rattle.rpc_reader.specs.Books.{Books}
 use Rattle.rpc_reader.specs.Posting.{LockLost}
 use Rattle.sock_words.specs.Words.{id_slot, id_first}
+use Rattle.sock_words.specs.Totals.{total}
 
 -- the operation's word was 0, and the seat knew of no id there
 pub record NoneNoted (p : Plan) (operation : ℕ) (b b' : Books) : Type 0 where

@@ -16,7 +16,7 @@ use Rattle.sock_model.specs.Marks.{about}
 use Rattle.sock_model.specs.Reads.{rights_on, link_home, took_of}
 use Rattle.sock_model.specs.Seats.{newcomer}
 use Rattle.sock_model.specs.SlotRows.{marks_of}
-use Rattle.sock_model.specs.Weights.{total, is_born, is_failer, is_freer, is_hold, is_linked}
+use Rattle.sock_model.specs.Weights.{is_born, is_failer, is_freer, is_hold, is_linked}
 use Rattle.seat_programs.specs.declared.task.Task.{Task}
 use Rattle.seat_programs.specs.declared.task.Sizes.{Sizes}
 use Rattle.corr_core.specs.declared.marks.Plan.{Plan as IdPlan}
@@ -34,6 +34,7 @@ use Rattle.run_laws.proofs.Modes.{Unknown, Guarded, client_guarded, reader_guard
 use Rattle.run_laws.proofs.Kept.{Kept}
 use Rattle.run_laws.proofs.Arrives.{AtPut, guarded_put, unknown_live}
 use Rattle.run_laws.proofs.Full.{AreFull, none_full}
+use Rattle.sock_words.specs.Totals.{total}
 
 -- ## Views without anything
 

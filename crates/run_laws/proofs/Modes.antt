@@ -3,7 +3,7 @@
 use Rattle.std.proofs.Common.{◌≡◌, ℕ, zero, suc, ◌+◌, ◌-◌, ◌%◌, ◌/◌, Bool, true, false, ◌&&◌, eqb, not, List, [], ◌∷◌, ◌++◌, length, drop, refl, sym, subst, nat_lt}
 use Rattle.std.specs.Prelude.{◌==◌, if◌then◌else◌, nat_le, None, Some}
 use Rattle.std.specs.Prelude as std
-use Rattle.sock_words.specs.Words.{socket_id_version, socket_id_slot, vref_version, vref_nref, ticket_request, ticket_generation, IDLE, UNCONNECTED, NO_SOCKET, id_slot, id_first, call_id}
+use Rattle.sock_words.specs.Words.{socket_id_version, socket_id_slot, vref_version, vref_nref, ticket_request, ticket_generation, IDLE, UNCONNECTED, NO_SOCKET, id_slot, id_first, call_id, bit}
 use Rattle.sock_words.specs.declared.outcome.Outcome.TheVariants.{Unopened, Gone, Held, Freed, Kept, Full}
 use Rattle.sock_io.specs.declared.link.Put.{Put}
 use Rattle.sock_io.specs.declared.link.Put.TheVariants as puts
@@ -35,7 +35,7 @@ use Rattle.sock_message.specs.Asked.{Asked, frame_of}
 use Rattle.seat_programs.specs.Asides.{Found, FreeId, PutCall, StoreAt, Taking, Bytes, Nothing, Closed}
 use Rattle.seat_programs.specs.Heads.{Head, Exit, Retry, Sought, Version, Reading, Ended, Posts, Unlocks, Decides, Locks, Joins, Opens, Reads, Discards, Posting, WasGone, WasStale, WasCrowded, WasQueued, HasLocked, Unlocking, IsOpen, HasNext, Deciding, HasEnded, Locking, NotThere}
 use Rattle.seat_programs.specs.Heads.{GoesOn as OpenAgain, Has as HasLock}
-use Rattle.seat_programs.specs.Posts.{packed, advance_of, is_first, is_stale, is_full, is_sought, judged, post, post_with, posted, popped, end_id, decide, decided, unlocked, locking}
+use Rattle.seat_programs.specs.Posts.{packed, is_first, is_stale, is_full, is_sought, judged, post, post_with, posted, popped, end_id, decide, decided, unlocked, locking}
 use Rattle.seat_programs.specs.Attempts.{claims_from, heading_for, attempt, begin_call, claim_id, call, tried_again, retry_locked, retry, expire_outcome, expire, join}
 use Rattle.seat_programs.specs.Readers.{LIMIT, slot_in, version_in, answer, answered, has_response, responses, last_of, ended_by, read_on, took, discarded, kept_for, ends_with, posted_last, post_each, thrown_away, read, reader}
 use Rattle.seat_programs.specs.Rounds.{round, first_step}
@@ -264,7 +264,7 @@ loop_guarded (Posts id e from) k goes = (
 )
 loop_guarded (Unlocks i from advance) k goes = (
   tt,
-  λ found. let after : ℕ = packed (unlocked_word (parts from) (advance_of advance)) in
+  λ found. let after : ℕ = packed (unlocked_word (parts from) (bit advance)) in
       sides (found == from) (popped i (parts from).oldest after k) (Round (Unlocks i found advance) k) Unknown (popped_guarded i (parts from).oldest after k goes) (tt, goes),
 )
 loop_guarded (Decides id asked word e) k goes = let r : Retry = record { id = id; attempt = (parts word).attempt + 1 } in

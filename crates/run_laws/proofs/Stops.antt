@@ -20,7 +20,7 @@ use Rattle.sock_model.specs.declared.marks.Mark.{Mark}
 use Rattle.sock_model.specs.declared.marks.Mark.TheVariants as mark
 use Rattle.sock_model.specs.declared.marks.SlotMark.{SlotMark}
 use Rattle.sock_model.specs.declared.view.View.{View}
-use Rattle.sock_model.specs.Weights.{total, only, is_probe, is_hold, is_met, is_failer, is_linked}
+use Rattle.sock_model.specs.Weights.{only, is_probe, is_hold, is_met, is_failer, is_linked}
 use Rattle.sock_model.specs.ChainRows.{with_right, taken_right}
 use Rattle.sock_model.specs.Marks.{about, at}
 use Rattle.sock_model.specs.Plain.{life_at}
@@ -59,6 +59,7 @@ use Rattle.run_laws.proofs.Lives.{one_writer, live_unfailed, odd_failed, even_is
 use Rattle.run_laws.proofs.Cases.{still_nothing}
 use Rattle.run_laws.proofs.Kept.{HoldsAt, FitsRight, Fits, IsBroken, IsGiven, Kept, first_broken, mode_at, mode_here, mode, mode_guarded, mode_fits, not_broken, broken_else, steps}
 use Rattle.seat_programs.specs.Rounds.{first_step}
+use Rattle.sock_words.specs.Totals.{total}
 
 -- ## Small facts
 

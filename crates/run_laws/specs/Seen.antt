@@ -14,7 +14,7 @@ use Rattle.sock_model.specs.declared.view.View.{View}
 use Rattle.sock_model.specs.ChainRows.{entry_of}
 use Rattle.sock_model.specs.Plain.{life_at, plain}
 use Rattle.sock_model.specs.SlotRows.{marks_of}
-use Rattle.sock_model.specs.Weights.{total, is_probe, is_linked}
+use Rattle.sock_model.specs.Weights.{is_probe, is_linked}
 use Rattle.seat_programs.specs.Calls.{Call, CreateLife, AddRef, SubRef, SetOdd, Recycle, LookWord, ClaimRequest, SwapHead, FreeRequest, StorePlace, DropPlace}
 use Rattle.seat_programs.specs.Programs.{Program, Do, PutBytes, AskReady}
 use Rattle.seat_programs.specs.Cores.{Core, found_at}
@@ -27,6 +27,7 @@ use Rattle.life_events.specs.Events.{life_of}
 use Rattle.run_laws.specs.World.{World, Event, Nothing, Birth, Hold, Drop, Fail, End, Accept, Take, Stop, Place, Dropped, Free, Becomes, stopped_after}
 use Rattle.run_laws.specs.World as world
 use Rattle.seat_programs.specs.Rounds.{first_step}
+use Rattle.sock_words.specs.Totals.{total}
 
 -- ## The event of a tick
 

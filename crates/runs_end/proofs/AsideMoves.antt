@@ -8,12 +8,11 @@ use lib.Seq.{set-get_or}
 use Rattle.atomic_table.proofs.Lists.{set_again}
 use Rattle.sock_words.specs.declared.plain.Plan.{Plan}
 use Rattle.sock_model.specs.declared.view.View.{View}
-use Rattle.sock_model.specs.Weights.{total}
 use Rattle.seat_programs.specs.corr_core.specs.Word.{parts, made_word, posted_word, unlocked_word, free_word}
 use Rattle.seat_programs.specs.id_rule.specs.Lawful.{id_index, at_index}
 use Rattle.seat_programs.specs.Asides.{Step, Found, ClaimId, PutCall, MakeId, StoreCall, LoadCall, StoreAt, LoadAt, LoadIdWord, LockId, PostId, UnlockId, EndId, FreeId, TakeCall, TakeBytes, Taking, Bytes}
 use Rattle.seat_programs.specs.Beside.{found_in, calls_after, with_word, more_given}
-use Rattle.seat_programs.specs.Posts.{packed, advance_of}
+use Rattle.seat_programs.specs.Posts.{packed}
 use Rattle.seat_programs.specs.Programs.{Program, Aside}
 use Rattle.seat_programs.specs.Cores.{Calls, Core, SeatState, with_seat}
 use Rattle.sock_runs.specs.program_steps.specs.Fits.{FitsFound}
@@ -24,6 +23,8 @@ use Rattle.runs_end.proofs.IdCosts.{Falls}
 use Rattle.runs_end.proofs.SeatCosts.{IsThere}
 use Rattle.runs_end.proofs.AsideTicks.{made_counts, ended_counts, locked_counts, queued_counts, unlocked_counts, tag_same, call_same, at_counts}
 use Rattle.runs_end.proofs.Lasting.{AreSameIds, Fewer, quiet_moves, loud_moves, walks}
+use Rattle.sock_words.specs.Totals.{total}
+use Rattle.sock_words.specs.Words.{bit}
 
 -- what the seat paid for the word that it expects is at most what it counts for another one, unless its exchange succeeds
 abbrev pub IsLate : (step : Step) → Found step → ℕ → ℕ → Type 0
@@ -112,10 +113,10 @@ module _ (p : Plan) (c : Core) (vs : List View) (n : ℕ) (lasts : Lasts p c vs 
   unlocks_move : (j from : ℕ) (advance : Bool) (next : ℕ → Program) (found : ℕ) → slice_index c.calls.words (id_index j) ≡ found → IsCountedStep c (UnlockId j from advance) → IsLate (UnlockId j from advance) found paid old → GoesOn p v (next found) → Falls p v (UnlockId j from advance) next (k + paid) found
       → Behind (UnlockId j from advance) next found
   unlocks_move j from advance next found there counted late goes f =
-      exchange_moves j from (packed (unlocked_word (parts from) (advance_of advance))) (cond (eqb found from) (STALE + CHANGE) 1) (cond (eqb found from) (popped_gain from + advance_gain p advance) 0) found there (next found) f.0 (eqb found from) refl
+      exchange_moves j from (packed (unlocked_word (parts from) (bit advance))) (cond (eqb found from) (STALE + CHANGE) 1) (cond (eqb found from) (popped_gain from + advance_gain p advance) 0) found there (next found) f.0 (eqb found from) refl
       (λ e. let is : found ≡ from = eqb-true found from e in
-      subst (λ b. ids_left p.requests (set c.calls.words (id_index j) (packed (unlocked_word (parts from) (advance_of advance)))) c.calls.plan.slots + cond b (popped_gain from + advance_gain p advance) 0 + STALE + CHANGE ≤ ids_left p.requests c.calls.words c.calls.plan.slots + cond b (STALE + CHANGE) 1) (sym e)
-      (won_sum (ids_left p.requests (set c.calls.words (id_index j) (packed (unlocked_word (parts from) (advance_of advance)))) c.calls.plan.slots) (ids_left p.requests c.calls.words c.calls.plan.slots) (popped_gain from + advance_gain p advance) 0
+      subst (λ b. ids_left p.requests (set c.calls.words (id_index j) (packed (unlocked_word (parts from) (bit advance)))) c.calls.plan.slots + cond b (popped_gain from + advance_gain p advance) 0 + STALE + CHANGE ≤ ids_left p.requests c.calls.words c.calls.plan.slots + cond b (STALE + CHANGE) 1) (sym e)
+      (won_sum (ids_left p.requests (set c.calls.words (id_index j) (packed (unlocked_word (parts from) (bit advance)))) c.calls.plan.slots) (ids_left p.requests c.calls.words c.calls.plan.slots) (popped_gain from + advance_gain p advance) 0
       (unlocked_counts p.requests c.calls.words j c.calls.plan.slots counted.0.1 counted.0.0 from (there ∙ is) advance counted.1 counted.2)))
       (λ e. (ap (λ b. cond b (popped_gain from + advance_gain p advance) 0) e, subst (λ b. 1 ≤ cond b (STALE + CHANGE) 1) (sym e) (omega arith), late e))
       goes f.2 f.1

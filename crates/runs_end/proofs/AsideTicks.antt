@@ -4,10 +4,11 @@ use Rattle.std.specs.Prelude.{slice_index}
 use Rattle.seat_programs.specs.corr_core.specs.Word.{Parts, parts, made_word, locked_word, posted_word, unlocked_word, free_word}
 use Rattle.seat_programs.specs.corr_core.specs.declared.marks.Plan.{Plan as IdPlan}
 use Rattle.seat_programs.specs.id_rule.specs.Lawful.{tag_index, id_index, call_index, at_index}
-use Rattle.seat_programs.specs.Posts.{packed, advance_of}
+use Rattle.seat_programs.specs.Posts.{packed}
 use Rattle.sock_runs.specs.program_steps.specs.Lasts.{ERROR, attempt_cost, popped_gain, id_left, ids_left}
 use Rattle.sock_runs.specs.program_steps.proofs.Passes.{packed_attempt, packed_range}
 use Rattle.runs_end.proofs.IdsLeft.{ids_set, made_left, freed_left, locked_left, queued_left, unlocked_left}
+use Rattle.sock_words.specs.Words.{bit}
 
 -- ## Words
 
@@ -114,11 +115,11 @@ module _ (requests : ℕ) (ws : List ℕ) (i n : ℕ) (inside : id_index i < len
         queued_sum a b c is le = omega (arith, is, le)
 
     -- a lock is given back
-    pub unlocked_counts : (advance : Bool) → 0 < (parts from).state → (parts from).attempt + advance_of advance + 2 ≤ (parts from).range
-        → ids_left requests (set ws (id_index i) (packed (unlocked_word (parts from) (advance_of advance)))) n + (popped_gain from + cond advance (attempt_cost requests) 0) ≤ ids_left requests ws n + 0
-    unlocked_counts advance some_ room = counts (packed (unlocked_word (parts from) (advance_of advance))) 0 (popped_gain from + cond advance (attempt_cost requests) 0)
-        (unlocked_sum (id_left requests (parts (packed (unlocked_word (parts from) (advance_of advance))))) (id_left requests (unlocked_word (parts from) (advance_of advance))) (popped_gain from + cond advance (attempt_cost requests) 0) (id_left requests (parts from))
-        (unlocked_packed requests from (advance_of advance) room) (unlocked_left requests (parts from) advance some_ room))
+    pub unlocked_counts : (advance : Bool) → 0 < (parts from).state → (parts from).attempt + bit advance + 2 ≤ (parts from).range
+        → ids_left requests (set ws (id_index i) (packed (unlocked_word (parts from) (bit advance)))) n + (popped_gain from + cond advance (attempt_cost requests) 0) ≤ ids_left requests ws n + 0
+    unlocked_counts advance some_ room = counts (packed (unlocked_word (parts from) (bit advance))) 0 (popped_gain from + cond advance (attempt_cost requests) 0)
+        (unlocked_sum (id_left requests (parts (packed (unlocked_word (parts from) (bit advance))))) (id_left requests (unlocked_word (parts from) (bit advance))) (popped_gain from + cond advance (attempt_cost requests) 0) (id_left requests (parts from))
+        (unlocked_packed requests from (bit advance) room) (unlocked_left requests (parts from) advance some_ room))
       where
         unlocked_sum : (a b y c : ℕ) → a ≡ b → b + y ≤ c → a + y ≤ c + 0
         unlocked_sum a b y c is le = omega (arith, is, le)

@@ -12,7 +12,7 @@ use Rattle.sock_model.specs.declared.marks.Mark.{Mark}
 use Rattle.sock_model.specs.declared.marks.Mark.TheVariants.{Hold, Coding, Saw, Failer, Stored, Told, Zero}
 use Rattle.sock_model.specs.declared.marks.SlotMark.{SlotMark}
 use Rattle.sock_model.specs.declared.view.View.{View}
-use Rattle.sock_model.specs.Weights.{total, is_probe, is_hold, is_coding, is_saw}
+use Rattle.sock_model.specs.Weights.{is_probe, is_hold, is_coding, is_saw}
 use Rattle.sock_model.specs.Marks.{about, at, without_at}
 use Rattle.sock_model.specs.SlotRows.{marks_of, back, looked}
 use Rattle.sock_model.specs.ChainRows.{with_right}
@@ -36,6 +36,7 @@ use Rattle.sock_runs.specs.program_steps.specs.Writes.{At}
 use Rattle.sock_runs.specs.program_steps.specs.Lasts.{POST, weight, cost, saw_failed, asking_cost, failing_cost, waiting_cost, loop_cost, LastsFor}
 use Rattle.sock_runs.specs.program_steps.proofs.Leaves.{right_way}
 use Rattle.runs_end.proofs.IdCosts.{lasts_more, post_lasts}
+use Rattle.sock_words.specs.Totals.{total}
 
 -- ## Numbers
 

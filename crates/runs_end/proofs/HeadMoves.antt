@@ -11,7 +11,6 @@ use Rattle.seat_programs.specs.sock_io.specs.declared.link.Ready.TheVariants.{No
 use Rattle.sock_model.specs.declared.view.View.{View}
 use Rattle.sock_model.specs.declared.view.Hand.{Hand}
 use Rattle.sock_model.specs.Layout.{open_index}
-use Rattle.sock_model.specs.Weights.{total}
 use Rattle.seat_programs.specs.corr_core.specs.Word.{parts, posted_word, unlocked_word, code_of}
 use Rattle.seat_programs.specs.corr_core.specs.Law.{LAST}
 use Rattle.seat_programs.specs.corr_core.specs.Decisions.{ends_call}
@@ -21,7 +20,7 @@ use Rattle.seat_programs.specs.Calls.{LoadOpen}
 use Rattle.seat_programs.specs.Asides.{Step, Found, PutCall, LoadIdWord, LockId, PostId, UnlockId, EndId, FreeId, TakeBytes, Taking, Bytes, Nothing, NoMore}
 use Rattle.seat_programs.specs.Heads.{Head, Exit, Sought, Reading, Posts, Unlocks, Decides, Locks, Joins, Opens, Reads, Discards, Posting, WasQueued, HasLocked, Unlocking, Deciding, HasEnded, Locking, Has, Ended}
 use Rattle.seat_programs.specs.Beside.{found_in, at_last, taking_in}
-use Rattle.seat_programs.specs.Posts.{packed, judged, popped, locking, advance_of, end_id, unlocked, is_sought, is_first}
+use Rattle.seat_programs.specs.Posts.{packed, judged, popped, locking, end_id, unlocked, is_sought, is_first}
 use Rattle.seat_programs.specs.Readers.{took, discarded, room_of}
 use Rattle.seat_programs.specs.Programs.{Program, Do, TakeMessage, TakeHome, PutHome, PutBytes, AskReady, Write, Aside, Round}
 use Rattle.seat_programs.specs.Cores.{Core, SeatState}
@@ -41,7 +40,8 @@ use Rattle.runs_end.proofs.ReadCosts.{FitsRoom, reads_fall, discards_fall}
 use Rattle.runs_end.proofs.Lasting.{Fewer, found_steps, tick_moves}
 use Rattle.runs_end.proofs.AsideMoves.{IsLate, any_moves}
 use Rattle.seat_programs.specs.Rounds.{first_step}
-use Rattle.sock_words.specs.Words.{id_slot, id_first}
+use Rattle.sock_words.specs.Words.{id_slot, id_first, bit}
+use Rattle.sock_words.specs.Totals.{total}
 
 -- ## Takes
 
@@ -106,8 +106,8 @@ module _ (p : Plan) (go : RetriesGo p) (c : Core) (vs : List View) (n : ℕ) (la
   unlocks_move : (j from : ℕ) (advance : Bool) (next : Unlocking → Program) → seat.program ≡ Round (Unlocks j from advance) next → GoesOn p v (Round (Unlocks j from advance) next) → LastsFor p v (Round (Unlocks j from advance) next) (k + STALE) → Counted (Round (Unlocks j from advance) next)
       → Moves (Round (Unlocks j from advance) next)
   unlocks_move j from advance next at goes l counted =
-      inr (aside_moves STALE (omega arith) (UnlockId j from advance) (λ found. cond (eqb found from) (popped j (parts from).oldest (packed (unlocked_word (parts from) (advance_of advance))) next) (Round (Unlocks j found advance) next)) (slice_index c.calls.words (id_index j)) refl counted.0.1 counted.1 (λ lost. late_of j from lost (ap expects at))
-      (goes_round p v (Unlocks j from advance) next goes) (unlocks_fall p v j from advance next (k + STALE) (unlocked_fits from (advance_of advance) goes.0.0) l (slice_index c.calls.words (id_index j))))
+      inr (aside_moves STALE (omega arith) (UnlockId j from advance) (λ found. cond (eqb found from) (popped j (parts from).oldest (packed (unlocked_word (parts from) (bit advance))) next) (Round (Unlocks j found advance) next)) (slice_index c.calls.words (id_index j)) refl counted.0.1 counted.1 (λ lost. late_of j from lost (ap expects at))
+      (goes_round p v (Unlocks j from advance) next goes) (unlocks_fall p v j from advance next (k + STALE) (unlocked_fits from (bit advance) goes.0.0) l (slice_index c.calls.words (id_index j))))
 
   tries_move : (j : ℕ) (sought : Sought) (from : ℕ) (next : Locking → Program) → seat.program ≡ Round (Locks j sought (Some from)) next → GoesOn p v (Round (Locks j sought (Some from)) next) → LastsFor p v (Round (Locks j sought (Some from)) next) (k + STALE) → Counted (Round (Locks j sought (Some from)) next)
       → Moves (Round (Locks j sought (Some from)) next)

@@ -12,10 +12,10 @@ use Rattle.seat_programs.specs.Asides.{Step, Found, LoadIdWord, LockId, PostId, 
 use Rattle.seat_programs.specs.Heads.{Retry, Sought, Posts, Unlocks, Decides, Locks, Joins, Opens, Posting, WasGone, WasStale, WasCrowded, WasQueued, HasLocked, Unlocking, IsOpen, HasNext, Deciding, HasEnded, Locking, NotThere, Has}
 use Rattle.seat_programs.specs.Heads as heads
 use Rattle.seat_programs.specs.Programs.{Program, Say, Sent, Rest, TakeMessage, PutBytes, AskReady, Aside, Round, Retries}
-use Rattle.seat_programs.specs.Posts.{packed, advance_of, is_first, is_sought, is_stale, is_full, judged, posted, post, popped, end_id, decide, unlocked, decides_round, decided, locking}
+use Rattle.seat_programs.specs.Posts.{packed, is_first, is_sought, is_stale, is_full, judged, posted, post, popped, end_id, decide, unlocked, decides_round, decided, locking}
 use Rattle.sock_runs.specs.program_steps.specs.Fits.{FitsWord, FitsPosting, FitsUnlocking, FitsLocking}
 use Rattle.sock_runs.specs.program_steps.specs.Lasts.{LastsFor, fresh, fresh_at, left_word, STALE, CHANGE, DECISION, ERROR, POST, attempt_cost, advance_gain, aside_cost, aside_gain, unlocking_gain}
-use Rattle.sock_words.specs.Words.{id_slot, id_first}
+use Rattle.sock_words.specs.Words.{id_slot, id_first, bit}
 
 -- who has at most so many steps left has at most more
 pub lasts_more : (p : Plan) (v : View) (program : Program) (m n : ℕ) → m ≤ n → LastsFor p v program m → LastsFor p v program n
@@ -95,19 +95,19 @@ module _ (p : Plan) (v : View) where
 
   -- ## Giving a lock back
 
-  pub unlocks_fall : (i from : ℕ) (advance : Bool) (k : Unlocking → Program) (n : ℕ) → FitsWord (packed (unlocked_word (parts from) (advance_of advance))) → LastsFor p v (Round (Unlocks i from advance) k) n → (found : ℕ)
-      → Falls (UnlockId i from advance) (λ found. cond (eqb found from) (popped i (parts from).oldest (packed (unlocked_word (parts from) (advance_of advance))) k) (Round (Unlocks i found advance) k)) n found
-  unlocks_fall i from advance k n fits l found = by_word (eqb found from) (eqb (parts from).oldest 0) (is_stale (parts from).oldest (parts (packed (unlocked_word (parts from) (advance_of advance))))) l.0 l.1 l.2
+  pub unlocks_fall : (i from : ℕ) (advance : Bool) (k : Unlocking → Program) (n : ℕ) → FitsWord (packed (unlocked_word (parts from) (bit advance))) → LastsFor p v (Round (Unlocks i from advance) k) n → (found : ℕ)
+      → Falls (UnlockId i from advance) (λ found. cond (eqb found from) (popped i (parts from).oldest (packed (unlocked_word (parts from) (bit advance))) k) (Round (Unlocks i found advance) k)) n found
+  unlocks_fall i from advance k n fits l found = by_word (eqb found from) (eqb (parts from).oldest 0) (is_stale (parts from).oldest (parts (packed (unlocked_word (parts from) (bit advance))))) l.0 l.1 l.2
     where
       by_word : (b o s : Bool) (m : ℕ) → STALE + CHANGE + m ≤ n → ((exit : Unlocking) → FitsUnlocking exit → LastsFor p v (k exit) (m + (unlocking_gain exit + advance_gain p advance)))
           → (x : ℕ) × (x + cond b (STALE + CHANGE) 1 ≤ n + cond b (cond o 0 ERROR + advance_gain p advance) 0
-          + fresh (cond b None (Some (i, found))) (cond b (cond o (k (IsOpen (packed (unlocked_word (parts from) (advance_of advance))))) (cond s (Round (Unlocks i (packed (unlocked_word (parts from) (advance_of advance))) false) k) (k (HasNext (packed (unlocked_word (parts from) (advance_of advance))) (parts from).oldest)))) (Round (Unlocks i found advance) k)))
-          × LastsFor p v (cond b (cond o (k (IsOpen (packed (unlocked_word (parts from) (advance_of advance))))) (cond s (Round (Unlocks i (packed (unlocked_word (parts from) (advance_of advance))) false) k) (k (HasNext (packed (unlocked_word (parts from) (advance_of advance))) (parts from).oldest))))
+          + fresh (cond b None (Some (i, found))) (cond b (cond o (k (IsOpen (packed (unlocked_word (parts from) (bit advance))))) (cond s (Round (Unlocks i (packed (unlocked_word (parts from) (bit advance))) false) k) (k (HasNext (packed (unlocked_word (parts from) (bit advance))) (parts from).oldest)))) (Round (Unlocks i found advance) k)))
+          × LastsFor p v (cond b (cond o (k (IsOpen (packed (unlocked_word (parts from) (bit advance))))) (cond s (Round (Unlocks i (packed (unlocked_word (parts from) (bit advance))) false) k) (k (HasNext (packed (unlocked_word (parts from) (bit advance))) (parts from).oldest))))
           (Round (Unlocks i found advance) k)) x
-      by_word true true s m room leave = let gain : ℕ = advance_gain p advance in (m + (0 + gain), omega (arith, room), leave (IsOpen (packed (unlocked_word (parts from) (advance_of advance)))) tt)
+      by_word true true s m room leave = let gain : ℕ = advance_gain p advance in (m + (0 + gain), omega (arith, room), leave (IsOpen (packed (unlocked_word (parts from) (bit advance)))) tt)
       by_word true false true m room leave = let gain : ℕ = advance_gain p advance in
           (STALE + CHANGE + (m + gain), omega (arith, room), (m + gain, omega arith, λ exit f. lasts_more p v (k exit) (m + (unlocking_gain exit + gain)) (m + gain + (unlocking_gain exit + 0)) (omega arith) (leave exit f)))
-      by_word true false false m room leave = let gain : ℕ = advance_gain p advance in (m + (ERROR + gain), omega (arith, room), leave (HasNext (packed (unlocked_word (parts from) (advance_of advance))) (parts from).oldest) fits)
+      by_word true false false m room leave = let gain : ℕ = advance_gain p advance in (m + (ERROR + gain), omega (arith, room), leave (HasNext (packed (unlocked_word (parts from) (bit advance))) (parts from).oldest) fits)
       by_word false o s m room leave = (STALE + CHANGE + m, omega (arith, room, one_fresh i found), (m, omega arith, leave))
 
   -- ## Getting a lock

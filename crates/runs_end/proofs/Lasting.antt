@@ -22,7 +22,7 @@ use Rattle.sock_model.specs.declared.view.View.{View}
 use Rattle.sock_model.specs.declared.view.Hand.{Hand}
 use Rattle.sock_model.specs.Entries.{on}
 use Rattle.sock_model.specs.Layout.{head_index, link_index, next_index}
-use Rattle.sock_model.specs.Weights.{total, only}
+use Rattle.sock_model.specs.Weights.{only}
 use Rattle.sock_model.specs.Messages.{Letter}
 use Rattle.sock_model.specs.ChainRows.{entry_of, more, new_right, queued, righted}
 use Rattle.sock_model.specs.Reads.{letter_of, took_of, as_link, shown, message, link_home}
@@ -67,6 +67,7 @@ use Rattle.runs_end.proofs.IdsLeft.{all_stale}
 use Rattle.runs_end.proofs.WalksLeft.{rights_few, read_less, message_few, away_few, home_few, put_few, message_lists, away_lists, home_lists, put_lists, lists_more, all_more, all_rights, set_few, held_light, home_cost, homes_few}
 use Rattle.runs_end.proofs.WalksLeft as WalksLeft
 use Rattle.sock_words.specs.Words.{ticket_request, IDLE, UNCONNECTED}
+use Rattle.sock_words.specs.Totals.{total}
 
 -- ## Steps
 

@@ -5,7 +5,6 @@ use Rattle.std.specs.Prelude.{slice_index, slice_index_or}
 use Rattle.std.specs.Prelude as std
 use Rattle.sock_words.specs.declared.plain.Plan.{Plan}
 use Rattle.sock_model.specs.declared.view.View.{View}
-use Rattle.sock_model.specs.Weights.{total}
 use Rattle.seat_programs.specs.id_rule.specs.Lawful.{id_index}
 use Rattle.seat_programs.specs.Heads.{Head, Exit, Retry, Posts, Unlocks, Locks}
 use Rattle.seat_programs.specs.Programs.{Program, Say, Sent, Round, Keep, Retries}
@@ -15,6 +14,7 @@ use Rattle.sock_runs.specs.program_steps.specs.GoesOn.{GoesOn}
 use Rattle.sock_runs.specs.program_steps.specs.Lasts.{LastsFor, STALE, attempt_cost, expects, arriving, stale_cost, fresh, fresh_at}
 use Rattle.runs_end.proofs.IdCosts.{lasts_more}
 use Rattle.runs_end.proofs.AttemptCosts.{retry_lasts}
+use Rattle.sock_words.specs.Totals.{total}
 
 -- ## Words that are expected
 

@@ -19,7 +19,7 @@ use Rattle.sock_model.specs.declared.home.Home.TheVariants.{Message}
 use Rattle.sock_model.specs.declared.view.View.{View}
 use Rattle.sock_model.specs.declared.view.Hand.{Hand}
 use Rattle.sock_model.specs.Entries.{on}
-use Rattle.sock_model.specs.Weights.{total, only}
+use Rattle.sock_model.specs.Weights.{only}
 use Rattle.sock_model.specs.SlotRows.{looked}
 use Rattle.sock_model.specs.ChainRows.{with_right, without_right, more, turned_right, placed_right, dropped_right, taken_right, put_right}
 use Rattle.sock_model.specs.Reads.{rights_on}
@@ -40,6 +40,7 @@ use Rattle.seat_programs.specs.StepTables.{May}
 use Rattle.sock_runs.specs.program_steps.specs.Sound.{AreInHand, IsOfRight, AreHeld}
 use Rattle.sock_runs.specs.program_steps.specs.Lasts.{weight, home_weight, is_turning, walk_left}
 use Rattle.sock_runs.specs.program_steps.proofs.Leaves.{is_exchange, moves_right, right_way, rights_stay}
+use Rattle.sock_words.specs.Totals.{total}
 
 -- ## Rights that change
 

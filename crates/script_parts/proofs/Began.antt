@@ -16,7 +16,7 @@ use Rattle.sock_model.specs.declared.view.View.{View}
 use Rattle.call_run.specs.sock_rule.specs.declared.homes.SockHome.{SockHome}
 use Rattle.seat_programs.specs.declared.task.Task.{Task}
 use Rattle.seat_programs.specs.Told.{Differ, HaveOwnLinks}
-use Rattle.corr_core.specs.Law.{total, only}
+use Rattle.corr_core.specs.Law.{only}
 use Rattle.corr_core.specs.declared.marks.Plan as id_plan
 use Rattle.corr_core.specs.declared.marks.View as id_view
 use Rattle.corr_core.proofs.Notes.{only-else, only_le, total_some}
@@ -32,6 +32,7 @@ use Rattle.calls_done.specs.call_whys.specs.call_told.proofs.Growing.{own_at}
 use Rattle.calls_done.specs.call_whys.specs.call_told.proofs.Least.{TellEnds}
 use Rattle.calls_done.specs.call_whys.specs.call_told.proofs.Moves.{Fits, is_task, run_moves}
 use Rattle.callless_fits.specs.sock_deeds.proofs.Places.{to_slice}
+use Rattle.sock_words.specs.Totals.{total}
 
 -- ## Operations by their numbers
 

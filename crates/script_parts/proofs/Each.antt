@@ -18,7 +18,6 @@ use Rattle.brpc_model.specs.Items.{Item, is_call}
 use Rattle.brpc_model.specs.Operations.{Operation, operations}
 use Rattle.brpc_model.specs.Places.{names}
 use Rattle.brpc_model.specs.PlaceWords.{word_at, HasEachOutcome}
-use Rattle.corr_core.specs.Law.{total}
 use Rattle.corr_core.specs.declared.marks.Plan as id_plan
 use Rattle.corr_core.specs.declared.marks.View.{View}
 use Rattle.id_rule.specs.Lawful.{call_index}
@@ -44,6 +43,7 @@ use Rattle.script_parts.proofs.Began.{each_one, few, IsOneOf, one_of, one_come}
 use Rattle.script_parts.proofs.MayCall.{IsOwn, IsOwnTask, all_own}
 use Rattle.script_parts.proofs.Said.{IsSaid, own_said, end_said, said_some}
 use Rattle.callless_fits.specs.sock_deeds.proofs.Places.{to_slice, to_elem}
+use Rattle.sock_words.specs.Totals.{total}
 
 -- ## The operations of a script
 

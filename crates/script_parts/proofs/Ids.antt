@@ -16,7 +16,6 @@ use Rattle.sock_words.specs.declared.place_word.PlaceWord.{PlaceWord}
 use Rattle.sock_words.specs.declared.vref.Vref.{Vref}
 use Rattle.brpc_model.specs.Items.{Item}
 use Rattle.brpc_model.specs.Messages.{shown_id}
-use Rattle.corr_core.specs.Law.{total}
 use Rattle.corr_core.specs.Word.{parts}
 use Rattle.corr_core.specs.declared.marks.Note.{Note}
 use Rattle.corr_core.specs.declared.marks.Note.TheVariants.{Tried, Made, Ended, Locker, Queued, Attempt, Saw}
@@ -58,6 +57,7 @@ use Rattle.script_parts.proofs.Tellers as tellers_of
 use Rattle.script_parts.proofs.Tellers.{IsEndTold, end_made, together}
 use Rattle.callless_fits.specs.sock_deeds.proofs.Places.{to_slice, map_there}
 use Rattle.sock_words.specs.Words.{id_slot, id_first}
+use Rattle.sock_words.specs.Totals.{total}
 
 -- an id that was made for an operation's call
 made_for : (f o : ℕ) (n : Note Asked) → is_made_for f o n ≤ makes_for o n

@@ -9,7 +9,6 @@ use Rattle.sock_words.specs.declared.outcome.Outcome.{Outcome}
 use Rattle.sock_words.specs.declared.plain.Plan.{Plan}
 use Rattle.sock_words.specs.declared.place_word.PlaceWord.{PlaceWord}
 use Rattle.sock_words.specs.declared.vref.Vref.{Vref}
-use Rattle.corr_core.specs.Law.{total}
 use Rattle.corr_core.specs.declared.marks.Note.{Note}
 use Rattle.corr_core.specs.declared.marks.Plan as id_plan
 use Rattle.corr_core.specs.declared.marks.View.{View}
@@ -37,6 +36,7 @@ use Rattle.script_parts.proofs.Asked.{AskFor, all_by_place}
 use Rattle.script_parts.proofs.MayCall.{IsOwnTask}
 use Rattle.script_parts.proofs.Retrying.{IsKnown, locks_with, lock_is, asked_known, asked_later}
 use Rattle.callless_fits.specs.sock_deeds.proofs.Places.{map_back, to_slice, map_there}
+use Rattle.sock_words.specs.Totals.{total}
 
 -- one of the clients asked for this call
 abbrev pub IsCallOf : List (List Task) → List (Option Outcome) → ℕ → Asked → Type 0

@@ -11,7 +11,6 @@ use Rattle.sock_words.specs.declared.plain.Plan.{Plan}
 use Rattle.sock_words.specs.declared.place_word.PlaceWord.{PlaceWord}
 use Rattle.sock_words.specs.declared.vref.Vref.{Vref}
 use Rattle.brpc_model.specs.PlaceWords.{word_at}
-use Rattle.corr_core.specs.Law.{total}
 use Rattle.corr_core.specs.declared.marks.Note.{Note}
 use Rattle.corr_core.specs.declared.marks.Noted.{Noted}
 use Rattle.corr_core.specs.declared.marks.View.{View}
@@ -30,6 +29,7 @@ use Rattle.calls_done.specs.call_whys.specs.call_places.proofs.Ids.{IdLaws}
 use Rattle.calls_done.specs.call_whys.specs.call_places.proofs.Own.{IsMade, deed_of}
 use Rattle.calls_done.specs.call_whys.specs.call_places.proofs.Places.{all, all_are, tasks_are, send_placed}
 use Rattle.callless_fits.specs.sock_deeds.proofs.Places.{map_back, map_there}
+use Rattle.sock_words.specs.Totals.{total}
 
 -- ## What the closed table has of the clients' seats
 

@@ -1,13 +1,13 @@
 -- The seats of a table of ids, of which one takes in the others.
 use Rattle.std.proofs.Common.{◌≡◌, ℕ, ◌≤◌, List, [], ◌∷◌, ◌++◌, sym, ap, ◌∙◌, subst, arith}
 use Rattle.atomic_table.specs.Seated.{TableId}
-use Rattle.corr_core.specs.Law.{total}
 use Rattle.corr_id.specs.Closed.{AllOf}
 use Rattle.corr_id.specs.Seats.{IsFree}
 use Rattle.rpc_reader.specs.Seats.{IsOpen, Rests}
 use Rattle.rpc_reader.proofs.Locks.{open_still}
 use Rattle.call_run.specs.Crew.{AreLeft}
 use Rattle.script_parts.specs.Seats.{IdSeat}
+use Rattle.sock_words.specs.Totals.{total}
 
 abbrev pub share_of : IdSeat → ℕ
 share_of s = s.me.0.share

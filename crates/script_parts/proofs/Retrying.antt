@@ -9,7 +9,7 @@ use Rattle.sock_io.specs.Link.{OutState}
 use Rattle.sock_words.specs.declared.plain.Plan.{Plan}
 use Rattle.seat_programs.specs.declared.task.Task.{Task}
 use Rattle.corr_core.specs.Word.{parts}
-use Rattle.corr_core.specs.Law.{total, only}
+use Rattle.corr_core.specs.Law.{only}
 use Rattle.corr_core.specs.declared.marks.Note.{Note}
 use Rattle.corr_core.specs.declared.marks.Note.TheVariants.{Tried, Made, Ended, Locker, Queued, Attempt, Saw}
 use Rattle.corr_core.specs.declared.marks.Plan as id_plan
@@ -39,6 +39,7 @@ use Rattle.calls_done.specs.call_whys.specs.call_places.proofs.Weights.{term}
 use Rattle.calls_done.specs.call_whys.specs.call_deeds.specs.Retried.{Again, asked_by, asked_in, asked_before, all_asked}
 use Rattle.calls_done.specs.call_whys.specs.call_deeds.proofs.Told.{came, made}
 use Rattle.script_parts.proofs.Began.{only_is}
+use Rattle.sock_words.specs.Totals.{total}
 
 -- ## The same call
 

@@ -3,7 +3,6 @@ use Rattle.std.proofs.Common.{◌≡◌, ℕ, ◌+◌, ◌≤◌, List, [], ◌�
 use Rattle.std.specs.Prelude.{Option, slice_set}
 use Rattle.std.specs.List.{flat_map}
 use Rattle.sock_words.specs.declared.outcome.Outcome.{Outcome}
-use Rattle.corr_core.specs.Law.{total}
 use Rattle.corr_core.specs.declared.marks.View.{View}
 use Rattle.sock_message.specs.Asked.{Asked}
 use Rattle.rpc_client.specs.declared.acting.Told.{Told}
@@ -12,6 +11,7 @@ use Rattle.calls_done.specs.call_whys.specs.call_told.specs.Once.{told_ends, sho
 use Rattle.calls_done.specs.call_whys.specs.call_told.proofs.Shown.{shown_none, shown_set}
 use Rattle.script_parts.specs.Seats.{IdSeat}
 use Rattle.script_parts.specs.Told.{outcomes_of}
+use Rattle.sock_words.specs.Totals.{total}
 
 abbrev pub view_of : IdSeat → View Asked
 view_of s = s.me.0

@@ -13,7 +13,7 @@ use Rattle.sock_words.specs.declared.place_word.PlaceWord.{PlaceWord}
 use Rattle.sock_words.specs.declared.vref.Vref.{Vref}
 use Rattle.brpc_model.specs.Items.{Item}
 use Rattle.brpc_model.specs.Operations.{Operation, operations}
-use Rattle.corr_core.specs.Law.{total, is_ended}
+use Rattle.corr_core.specs.Law.{is_ended}
 use Rattle.corr_core.specs.Word.{Parts}
 use Rattle.corr_core.specs.declared.marks.Note.TheVariants.{Made, Ended, Locker}
 use Rattle.corr_core.specs.declared.marks.Noted.{Noted}
@@ -63,6 +63,7 @@ use Rattle.script_parts.proofs.MayCall.{IsOwn, IsOwnTask, all_own}
 use Rattle.script_parts.proofs.Placed.{each_notes}
 use Rattle.script_parts.proofs.Said.{own_said}
 use Rattle.callless_fits.specs.sock_deeds.proofs.Places.{map_back, map_there, to_slice}
+use Rattle.sock_words.specs.Totals.{total}
 
 -- what stands in a list of two parts stands in one of them
 pub split : {A : Type 0} (xs ys : List A) (i : ℕ) (x : A) → get_elem? (xs ++ ys) i ≡ some x → (get_elem? xs i ≡ some x) ⊎ ((j : ℕ) × (get_elem? ys j ≡ some x))

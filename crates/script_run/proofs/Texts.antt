@@ -40,7 +40,7 @@ use Rattle.calm_runs.specs.Below.script_facts.proofs.Tasks.{tasks_of_script}
 use Rattle.machine_model.specs.Links.{AreAlwaysReady, TellClosing, IsOffering}
 use Rattle.machine_model.specs.Machines.{MachineState, core_with}
 use Rattle.machine_model.specs.Runs.{SameLink, SameLinks, ShowsTaking}
-use Rattle.script_run.specs.Causes.{HasCauses, EndedEarly, gave_in}
+use Rattle.script_run.specs.Causes.{HasCauses, EndedEarly}
 use Rattle.script_links.specs.Given.{IsUntouched, AreUntouched, spec_of, specs_of}
 use Rattle.script_links.specs.Offered.{AreAsked}
 use Rattle.script_report.specs.Sums.{told_of, sums_of, summary_text}
@@ -52,6 +52,7 @@ use Rattle.script_run.proofs.Homes.{index_at, took_is, lies_is, told_is, tells_i
 use Rattle.script_links.proofs.Offers.{asked_at, shapes_many}
 use Rattle.script_run.proofs.Idle.{clients_idle}
 use Rattle.script_run.proofs.Told.{has_causes}
+use Rattle.calm_runs.specs.Below.call_stories.specs.Lists.{gave_in}
 
 -- ## The links that are given back
 

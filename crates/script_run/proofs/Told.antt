@@ -31,9 +31,10 @@ use Rattle.calm_runs.specs.Below.script_facts.proofs.Reading.{InRange}
 use Rattle.calm_runs.specs.Below.script_facts.proofs.Sizes.{is_counted}
 use Rattle.calm_runs.specs.Below.script_facts.proofs.Targets.{AreThere, are_there}
 use Rattle.calm_runs.specs.Below.run_theorems.proofs.Starts.{made}
-use Rattle.script_run.specs.Causes.{HasCauses, gave_in, lost_before}
+use Rattle.script_run.specs.Causes.{HasCauses, lost_before}
 use Rattle.script_run.proofs.Callless.{plain_task, no_call, all_told}
 use Rattle.script_run.proofs.Idle.{no_slot, nothing_late}
+use Rattle.calm_runs.specs.Below.call_stories.specs.Lists.{gave_in}
 
 module _ (bytes : List ℕ) (script : List Item) (reads : script_of bytes ≡ Ok script) (turns : List Turn) (core : Core) (run : IsRunWithCalls script turns core) (closes : ClosesInRun script turns core run) where
   abbrev orders : ℕ → Order

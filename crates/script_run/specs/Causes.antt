@@ -20,7 +20,7 @@ use Rattle.calm_runs.specs.Below.outcome_stories.specs.Facts.{broken_of_run, is_
 use Rattle.calm_runs.specs.Below.outcome_stories.specs.Losses.{lost_in}
 use Rattle.calm_runs.specs.Below.outcome_stories.specs.TaskCauses.{ToldTasks, DropsMade}
 use Rattle.calm_runs.specs.Below.outcome_causes.proofs.Scripts.{MadeInRun, lost_of_run}
-use Rattle.calm_runs.specs.Below.call_stories.specs.Lists.{attempts_of_run, silent_of_run, soon_of_run}
+use Rattle.calm_runs.specs.Below.call_stories.specs.Lists.{attempts_of_run, silent_of_run, soon_of_run, gave_in}
 use Rattle.calm_runs.specs.Below.run_theorems.specs.Heard.{heard_takes, given_by}
 
 -- the links that answered that they failed in a run, before its ending and behind it
@@ -31,10 +31,6 @@ module _ {script : List Item} {turns : List Turn} {core : Core} (run : IsRunWith
   -- why a reading ended early: the link gave its end, a frame with a fault, or as much as is read of it, or it failed
   abbrev pub EndedEarly : Type 0
   EndedEarly = Contains (heard_takes run k) AtEnd ⊎ (HasFault (given_by (heard_takes run k)) ⊎ ((reading_limit ≤ length (given_by (heard_takes run k))) ⊎ Contains (heard_takes run k) Broken))
-
--- what link k gave in a run that ended in this core
-abbrev pub gave_in : Core → ℕ → List ℕ
-gave_in core k = slice_index_or core.calls.gave k []
 
 -- ## What came late
 

@@ -27,11 +27,12 @@ use Rattle.calm_runs.specs.Below.run_theorems.specs.OfferedRuns.{OffersInRun}
 use Rattle.calm_runs.specs.Below.run_theorems.specs.Over.{IsAllOver}
 use Rattle.machine_model.specs.Runs.{ShowsTaking, LinksShow, MadeByTicks, Made}
 use Rattle.machine_model.specs.Driving.{FirstRests}
-use Rattle.script_run.specs.Causes.{HasCauses, DropsTold, broken_of, gave_in}
+use Rattle.script_run.specs.Causes.{HasCauses, DropsTold, broken_of}
 use Rattle.script_run.specs.declared.report.Print.{Print}
 use Rattle.script_run.specs.declared.report.Print.TheVariants as print
 use Rattle.script_run.specs.declared.schedule.Schedule.{Schedule}
 use Rattle.script_run.specs.declared.schedule.Schedule.TheVariants.{Own, Drawn}
+use Rattle.calm_runs.specs.Below.call_stories.specs.Lists.{gave_in}
 
 -- the lines of the schedule by which a script is run
 abbrev pub turns_of : List Item → Schedule → List Turn

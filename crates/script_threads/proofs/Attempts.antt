@@ -11,7 +11,7 @@ use Rattle.brpc_model.specs.Items.{Item}
 use Rattle.brpc_model.specs.Link.{LinkEnd}
 use Rattle.brpc_model.specs.Messages.{shown_id}
 use Rattle.brpc_model.specs.Script.{script_of}
-use Rattle.corr_core.specs.Law.{total, is_attempt}
+use Rattle.corr_core.specs.Law.{is_attempt}
 use Rattle.corr_core.specs.declared.marks.Noted.{Noted}
 use Rattle.corr_core.specs.declared.marks.View.{View}
 use Rattle.script_parts.specs.id_rule.specs.Lawful.{notes_of}
@@ -55,6 +55,7 @@ use Rattle.script_threads.proofs.Left.{all_seats, notes_of as notes_taken}
 use Rattle.script_threads.proofs.Placed.{left_told}
 use Rattle.script_threads.proofs.Sockets as sockets
 use Rattle.script_threads.proofs.Widened.{still_attempts}
+use Rattle.sock_words.specs.Totals.{total}
 
 module _ (P : Type 0) {O I : Type 0} (g : Ghosts O) (out : O → OutState) (inn : I → InState) (bytes : List ℕ) (script : List Item) (reads : script_of bytes ≡ Ok script) (text : List ℕ) (links : List LinkEnd) (r : IsThreadsRun P g out inn script text links) where
   open parts_of r use {p, q, all, readers, last, outcomes}

@@ -19,7 +19,7 @@ use Rattle.brpc_model.specs.Causes.{HasFault}
 use Rattle.brpc_model.specs.Frame.{Frame}
 use Rattle.brpc_model.specs.Stream.{stream}
 use Rattle.prpc_frame.specs.declared.frame.Frame.{Frame as Answer}
-use Rattle.corr_core.specs.Law.{total, is_ended}
+use Rattle.corr_core.specs.Law.{is_ended}
 use Rattle.corr_core.specs.Word.{Parts, code_of}
 use Rattle.corr_core.specs.declared.marks.Kept.{Kept}
 use Rattle.corr_core.specs.declared.marks.Note.{Note}
@@ -100,6 +100,7 @@ use Rattle.script_threads.proofs.Attempts as attempts
 use Rattle.script_threads.proofs.Sockets as sockets
 use Rattle.script_threads.proofs.Telling as telling
 use Rattle.script_threads.proofs.WideCalls.{failure_still, left_still, again_still, expire_still}
+use Rattle.sock_words.specs.Totals.{total}
 
 -- a frame that is kept early by one of these is among those of all
 early_at : {O : Type 0} {g : Ghosts O} (xs : List (LinkReader g)) (j n : ℕ) (x : LinkReader g) (f : Answer) → get_elem? xs j ≡ some x → get_elem? x.books.early n ≡ some f → (m : ℕ) × (get_elem? (flat_map (λ (fs : List Answer). fs) (map (λ (y : LinkReader g). y.books.early) xs)) m ≡ some f)

@@ -9,7 +9,6 @@ use Rattle.sock_words.specs.declared.outcome.Outcome.TheVariants as outcome
 use Rattle.brpc_model.specs.Items.{Item}
 use Rattle.brpc_model.specs.Link.{LinkEnd}
 use Rattle.brpc_model.specs.Script.{script_of}
-use Rattle.corr_core.specs.Law.{total}
 use Rattle.corr_core.specs.declared.marks.View.{View}
 use Rattle.sock_message.specs.Asked.{Asked}
 use Rattle.seat_programs.specs.declared.task.Task.{Task}
@@ -38,6 +37,7 @@ use Rattle.script_threads.specs.Told.{IsThreadsRun}
 use Rattle.script_threads.proofs.Speaking.{parts_of}
 use Rattle.script_threads.proofs.Left.{all_seats, early_of, notes_of, kept_of}
 use Rattle.script_threads.proofs.Sockets as sockets
+use Rattle.sock_words.specs.Totals.{total}
 
 module _ (P : Type 0) {O I : Type 0} (g : Ghosts O) (out : O → OutState) (inn : I → InState) (bytes : List ℕ) (script : List Item) (reads : script_of bytes ≡ Ok script) (text : List ℕ) (links : List LinkEnd) (r : IsThreadsRun P g out inn script text links) where
   open parts_of r use {p, q, all, readers, main, last, outcomes}

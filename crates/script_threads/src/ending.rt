@@ -1,9 +1,9 @@
 // What is left of calls once all clients and readers of a run have ended, and how the table of ids ends.
 ghost use Rattle.std.specs.Prelude.{◌≡◌, ◌<◌, ◌≤◌, All, IfOk};
 ghost use Rattle.std.specs.List.{flat_map};
-ghost use Rattle.corr_core.specs.Law.{total};
 ghost use Rattle.call_run.specs.Crew.{AreLeft};
 ghost use Rattle.script_threads.specs.Told.{HasEnded};
+ghost use Rattle.sock_words.specs.Totals.{total};
 
 use corr_id::{IdSeat, IdTable};
 use prpc_frame::Frame;

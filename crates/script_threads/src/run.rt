@@ -1,7 +1,6 @@
 // A script on threads whose links are read beside its clients, from its links to its report.
 ghost use Rattle.std.specs.Prelude.{◌≡◌, ◌≤◌, ◌<◌, ◌+◌, ◌++◌, ℕ, List, Ok, true, false, [], map, length, All, IfOk, OnOk, IsErrOf};
 ghost use Rattle.std.specs.List.{list_all, flat_map, AllByRecursion};
-ghost use Rattle.corr_core.specs.Law.{total};
 ghost use Rattle.brpc_model.specs.Script.{script_of};
 ghost use Rattle.brpc_model.specs.Operations.{link_names};
 ghost use Rattle.sock_io.specs.declared.link.Ends.{Ends};
@@ -17,6 +16,7 @@ ghost use Rattle.script_parts.specs.Told.{IsReported, outcomes_of};
 ghost use Rattle.script_threads.specs.Gave.{GaveOffers};
 ghost use Rattle.script_threads.specs.Served.{IsServedText};
 ghost use Rattle.script_threads.specs.Told.{seated_ids, HasEnded, IsLeftByThreads, IsThreadsRun, IsThreadsText};
+ghost use Rattle.sock_words.specs.Totals.{total};
 
 use crate::ending::end_calls;
 use call_run::{NoneBeside, Ran, RanBeside, meet_all, run_beside};

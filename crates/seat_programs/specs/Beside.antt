@@ -7,8 +7,9 @@ use Rattle.corr_core.specs.Word.{parts, made_word, posted_word, unlocked_word, f
 use Rattle.id_rule.specs.Lawful.{tag_index, id_index, call_index, at_index}
 use Rattle.sock_message.specs.Asked.{Asked}
 use Rattle.seat_programs.specs.Asides.{Step, ClaimId, PutCall, MakeId, StoreCall, LoadCall, StoreAt, LoadAt, LoadIdWord, LockId, PostId, UnlockId, EndId, FreeId, TakeCall, TakeBytes, Found, Taking, Bytes, Nothing, NoMore}
-use Rattle.seat_programs.specs.Posts.{packed, advance_of}
+use Rattle.seat_programs.specs.Posts.{packed}
 use Rattle.seat_programs.specs.Cores.{Calls}
+use Rattle.sock_model.specs.sock_words.specs.Words.{bit}
 
 -- what lies at the home of a call
 abbrev pub call_at : Option (Option (std.Option Asked)) → Option Asked
@@ -72,7 +73,7 @@ calls_after (LoadAt o) found a = a
 calls_after (LoadIdWord i) found a = a
 calls_after (LockId i from) found a = exchanged i from found (packed (posted_word (parts from) 0)) a
 calls_after (PostId i from e) found a = exchanged i from found (packed (posted_word (parts from) e)) a
-calls_after (UnlockId i from advance) found a = exchanged i from found (packed (unlocked_word (parts from) (advance_of advance))) a
+calls_after (UnlockId i from advance) found a = exchanged i from found (packed (unlocked_word (parts from) (bit advance))) a
 calls_after (EndId i) found a = with_word (id_index i) (packed (free_word ((parts found).first + (parts found).range))) a
 calls_after (FreeId i) found a = with_word (tag_index i) 0 a
 calls_after (TakeCall i) found a = record a { homes = slice_set a.homes i (some std.None) }

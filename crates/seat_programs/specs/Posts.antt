@@ -10,16 +10,13 @@ use Rattle.sock_message.specs.Asked.{Asked}
 use Rattle.seat_programs.specs.Asides.{PutCall, LoadIdWord, LockId, PostId, UnlockId, EndId, FreeId, TakeCall}
 use Rattle.seat_programs.specs.Heads.{Retry, Sought, First, Version, Posts, Unlocks, Decides, Locks, Joins, Posting, WasGone, WasStale, WasCrowded, WasQueued, HasLocked, Unlocking, IsOpen, HasNext, Deciding, HasEnded, GoesOn, Locking, NotThere, Has}
 use Rattle.seat_programs.specs.Programs.{Program, Say, Aside, Round, Keep}
-use Rattle.sock_model.specs.sock_words.specs.Words.{id_word, id_slot, id_first}
+use Rattle.sock_model.specs.sock_words.specs.Words.{id_word, id_slot, id_first, bit}
 
 -- ## Words
 
 -- the word after a lock, a post, and an unlocking, by the word before
 abbrev pub packed : Parts → ℕ
 packed w = id_word w.first w.state w.range w.attempt w.oldest w.second
-
-abbrev pub advance_of : Bool → ℕ
-advance_of advance = if advance then 1 else 0
 
 -- the id's range is there
 abbrev pub is_first : ℕ → Parts → Bool
@@ -67,7 +64,7 @@ popped i oldest after k = if oldest == 0 then k (IsOpen after)
 
 abbrev pub unlocks_round : ℕ → ℕ → Bool → (Unlocking → Program) → Program
 unlocks_round i from advance k = Aside (UnlockId i from advance) (λ found.
-    if found == from then popped i (parts from).oldest (packed (unlocked_word (parts from) (advance_of advance))) k
+    if found == from then popped i (parts from).oldest (packed (unlocked_word (parts from) (bit advance))) k
     else Round (Unlocks i found advance) k)
 
 -- ## Deciding

@@ -8,7 +8,7 @@ use Rattle.sock_model.specs.sock_words.specs.Words.{socket_id_version, socket_id
 use Rattle.sock_model.specs.declared.chain.Right.{Right}
 use Rattle.sock_model.specs.declared.view.View.{View}
 use Rattle.sock_model.specs.declared.view.Hand.{Hand}
-use Rattle.sock_model.specs.Weights.{total, only, is_ref, is_hold, is_zero, is_recycled, is_stage, is_coding, is_any_coding, is_busy, is_met, is_probe, is_saw}
+use Rattle.sock_model.specs.Weights.{only, is_ref, is_hold, is_zero, is_recycled, is_stage, is_coding, is_any_coding, is_busy, is_met, is_probe, is_saw}
 use Rattle.sock_model.specs.SlotRows.{marks_of, claimed, gave_birth, added, back, subbed, failed, recycled, freed, linked, staged, coded, met_link, looked, told_code}
 use Rattle.sock_model.specs.ChainRows.{with_right}
 use Rattle.sock_model.specs.Links.{HoldsLink}
@@ -17,6 +17,7 @@ use Rattle.seat_programs.specs.TableWords.{TableWord, TagOf, RefOf, LinkOf, Head
 use Rattle.seat_programs.specs.Calls.{Call, ClaimSlot, CreateLife, AddRef, SubRef, SetOdd, Recycle, FreeSlot, LookWord, StoreLink, LoadLink, FindLink, ResetHead, ClearCode, StoreCode, LoadCode}
 use Rattle.seat_programs.specs.StepViews.{Knows, HasRoom, HoldsLife, FindsLink, by_right}
 use Rattle.sock_model.specs.Conditions.{KeepsRights}
+use Rattle.sock_model.specs.sock_words.specs.Totals.{total}
 
 -- ## The word
 

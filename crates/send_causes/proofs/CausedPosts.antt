@@ -25,7 +25,7 @@ use Rattle.dropped_calls.specs.Below.script_facts.proofs.Reading.{InRange}
 use Rattle.dropped_calls.specs.Below.script_facts.proofs.Targets.{AreThere}
 use Rattle.dropped_calls.specs.Below.call_owing.specs.Lives.{ClosesInRun}
 use Rattle.dropped_calls.specs.Below.call_stories.specs.Decided.{posted_by}
-use Rattle.dropped_calls.specs.Below.call_stories.specs.Lists.{given, shows_in_run}
+use Rattle.dropped_calls.specs.Below.call_stories.specs.Lists.{gave_in}
 use Rattle.dropped_calls.specs.Below.call_stories.specs.Posts.{Post, posts_of_run}
 use Rattle.dropped_calls.specs.accept_counts.specs.EndedCalls.{reader_posts_of_run}
 use Rattle.dropped_calls.specs.accept_counts.specs.PostCauses.{PostCause, OfLoss, OfWant, OfFault}
@@ -38,6 +38,7 @@ use Rattle.send_causes.proofs.OwnIds.{labelled_at, would_at, single_at, some_id,
 use Rattle.dropped_calls.specs.accept_counts.proofs.PostSeats.{seat_of_post, reader_post_of}
 use Rattle.dropped_calls.specs.refused_attempts.proofs.RefusedRun.{IsOfRefusal, WhyPosted, PostedByReader, PostedByExpiry, PostedByRefusal, PostedByDrop}
 use Rattle.send_causes.proofs.Laws.{laws}
+use Rattle.dropped_calls.specs.Below.outcome_stories.specs.Facts.{shown_in_run}
 
 -- an attempt's loss is none of what links gave
 lost_over : (p : Plan) (clients : List (List Task)) (outcomes : List (Option Outcome)) (fixed : Fixed) (gave took : ℕ → List ℕ) (orders : ℕ → Order) (c o n name : ℕ) → WhyLost p clients outcomes fixed gave orders c o n name → WhyLost p clients outcomes fixed took orders c o n name
@@ -49,14 +50,14 @@ module _ (script : List Item) (made : AreMade script) (there : AreThere script) 
   open laws script made there range bytes reads turns core is closes use {p, clients, fixed, orders}
 
   abbrev pub Lost : ℕ → ℕ → ℕ → ℕ → Type 0
-  Lost c o n name = WhyLost p clients core.outcomes fixed (given core) orders c o n name
+  Lost c o n name = WhyLost p clients core.outcomes fixed (gave_in core) orders c o n name
 
   module _ (client : ℕ) (t : Task) (asked : Asked) (it : IsTask (all_tasks script) core.outcomes client t) (op : t.op ≡ ops.Call asked) (id code n : ℕ) (own : ids_at script core t.number ≡ id) (some_ : id ≢ 0) (few : n ≤ 6) (other : code ≢ 1014) where
     abbrev x : Post
     x = record { id = id; error = error_of code n }
 
     abbrev Caused : Type 0
-    Caused = PostCause p clients core.outcomes fixed (given core) orders client t.number asked id code n
+    Caused = PostCause p clients core.outcomes fixed (gave_in core) orders client t.number asked id code n
 
     code_is : code_of (error_of code n) ≡ code
     code_is = omega (arith, few)
@@ -68,8 +69,8 @@ module _ (script : List Item) (made : AreMade script) (there : AreThere script) 
     by_refusal r = ⊎_elim
         (λ full. OfWant (sym code_is ∙ full.0) unordered full.1)
         (λ gone. OfLoss (sym code_is ∙ gone.0) unordered (⊎_elim
-        (λ lost. own_attempt (λ o m name. Lost client o m name) (lost_over p clients core.outcomes fixed (gave_of_run script made turns core is closes) (given core) orders client r.asked.operation (attempt_of (error_of code n)) (name_of r.asked (attempt_of (error_of code n))) (lost client)))
-        (λ none_. found_lost script made there range turns core is closes fixed (given core) orders client t n (name_of asked n) it (own_attempt (λ o m name. FoundNothing script turns core is o m name) none_)) gone.1)) r.why
+        (λ lost. own_attempt (λ o m name. Lost client o m name) (lost_over p clients core.outcomes fixed (gave_of_run script made turns core is closes) (gave_in core) orders client r.asked.operation (attempt_of (error_of code n)) (name_of r.asked (attempt_of (error_of code n))) (lost client)))
+        (λ none_. found_lost script made there range turns core is closes fixed (gave_in core) orders client t n (name_of asked n) it (own_attempt (λ o m name. FoundNothing script turns core is o m name) none_)) gone.1)) r.why
       where
         number : r.asked.operation ≡ t.number
         number = single_at script made there range turns core is closes r.asked.operation t.number (λ z. some_ (sym r.own ∙ z)) (r.own ∙ sym own)
@@ -81,8 +82,8 @@ module _ (script : List Item) (made : AreMade script) (there : AreThere script) 
         own_attempt : (P : ℕ → ℕ → ℕ → Type 0) → P r.asked.operation (attempt_of (error_of code n)) (name_of r.asked (attempt_of (error_of code n))) → P t.number n (name_of asked n)
         own_attempt P has = subst (λ (a : Asked). P t.number n (name_of a n)) same (subst (λ o. P o n (name_of r.asked n)) number (subst (λ m. P r.asked.operation m (name_of r.asked m)) attempt_is has))
 
-        unordered : IsUnordered p clients core.outcomes fixed (given core) orders t.number n
-        unordered = own_attempt (λ o m name. IsUnordered p clients core.outcomes fixed (given core) orders o m) r.unordered
+        unordered : IsUnordered p clients core.outcomes fixed (gave_in core) orders t.number n
+        unordered = own_attempt (λ o m name. IsUnordered p clients core.outcomes fixed (gave_in core) orders o m) r.unordered
 
     by_client : (j : ℕ) → j < 32 → WhyPosted script made turns core is closes (ids_at script core) (labelled_at script made there range turns core is closes) (would_at script made there range turns core is closes) bytes reads j x → Caused
     by_client j low (PostedByReader m high e) = absurd (omega (arith, low, high))
@@ -95,12 +96,12 @@ module _ (script : List Item) (made : AreMade script) (there : AreThere script) 
     by_reader at = let r = reader_post script made there range turns core is closes bytes reads client t asked it op x at (sym own) code n refl (omega (arith, few)) in
         ⊎_elim (λ end_. absurd (other end_.0)) (λ fault. OfFault fault.0 r.0 r.1 fault.1) r.2
 
-    by_seat : (j : ℕ) → In x (shows_in_run script turns core is (posted_by j)) → Caused
+    by_seat : (j : ℕ) → In x (shown_in_run script turns core is (posted_by j)) → Caused
     by_seat j at = dite (dec_le 32 j) (λ high. by_reader (reader_post_of script turns core is j high x at)) (λ low. by_client j (omega (arith, low)) (whys_of_seat script made there range turns core is closes bytes reads j x at))
 
   -- each error that the id of a call took for an attempt has its cause, but for that of the end of a reading
   pub caused_of_run : (client : ℕ) (t : Task) (asked : Asked) → IsTask (all_tasks script) core.outcomes client t → t.op ≡ ops.Call asked → (outcome : Outcome) → Became (all_tasks script) core.outcomes t.number outcome → (id code n : ℕ) → shown_id outcome ≡ Some id → n ≤ 6 → code ≢ 1014
-      → Contains (posts_of_run script turns core is) (record { id = id; error = error_of code n }) → PostCause p clients core.outcomes fixed (given core) orders client t.number asked id code n
+      → Contains (posts_of_run script turns core is) (record { id = id; error = error_of code n }) → PostCause p clients core.outcomes fixed (gave_in core) orders client t.number asked id code n
   caused_of_run client t asked it op outcome became id code n shown few other posted =
       let own = own_id script made there range turns core is closes client t asked it op outcome became id shown in
       let x : Post = record { id = id; error = error_of code n } in

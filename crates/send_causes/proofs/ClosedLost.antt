@@ -39,7 +39,6 @@ use Rattle.dropped_calls.specs.Below.outcome_causes.proofs.Plain.{in_both, in_le
 use Rattle.dropped_calls.specs.Below.outcome_stories.proofs.Senders.{sent_stands}
 use Rattle.dropped_calls.specs.Below.joint_runs.proofs.Runs.{AreMade, first_views}
 use Rattle.dropped_calls.specs.Below.call_owing.specs.Lives.{ClosesInRun}
-use Rattle.dropped_calls.specs.Below.call_stories.specs.Lists.{shows_in}
 use Rattle.dropped_calls.specs.Below.call_stories.specs.Posts.{Post}
 use Rattle.dropped_calls.specs.accept_counts.specs.EndedCalls.{Store, stored_at, stores_of_run, loads_of_run, IsEndPost}
 use Rattle.dropped_calls.specs.accept_counts.specs.Refused.{DidStep}
@@ -181,7 +180,7 @@ module _ (script : List Item) (made : AreMade script) (turns : List Turn) (core 
       (record { later = λ i inside. omega arith; links = λ i h k inside given. inl (ended_past script made turns core is i h k inside given) }))
 
   -- seat 0 stores no at word while it closes what was opened
-  none_closes : (x : Store) → In x (shows_in stored_at (plan_of script) (closing_of script turns core is) (replicate is.last (quiet 0))) → ⊥
+  none_closes : (x : Store) → In x (shown_in stored_at (plan_of script) (closing_of script turns core is) (replicate is.last (quiet 0))) → ⊥
   none_closes x at = none_closing (plan_of script) is.last (closing_of script turns core is)
       (let seat = at_there rested.seats 0 some_ in (_, set_first rested.seats seat.0 _ seat.1, subst OnSockets (sym (alone (waiting_at rested.calls.waiting 0) (ending_of (opens script)) (closing.ending_goes (opens script)))) (closing.ending_goes (opens script)))) x at
     where
@@ -270,9 +269,9 @@ module _ (script : List Item) (made : AreMade script) (turns : List Turn) (core 
       stored_lost x there only = ⊎_elim (λ a. early (played_fates.fates x.operation (at_word_attempt x.word) (at_word_link x.word) (setup_fates.stores x a)))
           (λ b. ⊎_elim (λ a. early (played_fates.stores x a))
           (λ b. ⊎_elim (λ a. absurd (none_closes x a)) (λ a. of_late x.operation (at_word_attempt x.word) (at_word_link x.word) only (subst (λ d. Fate (plan_of script) Past d end_views x.operation (at_word_attempt x.word) (at_word_link x.word)) (sym is.is_end) (late_fates.stores x a)))
-          (in_both (shows_in stored_at (plan_of script) (closing_of script turns core is) (replicate is.last (quiet 0))) (shows_in stored_at (plan_of script) is.ended is.final) x b))
-          (in_both (shows_in stored_at (plan_of script) (set_up script is.setup) (is.scheduled ++ is.later)) _ x b))
-          (in_both (shows_in stored_at (plan_of script) (opened script) (replicate is.setup (quiet 0))) _ x there)
+          (in_both (shown_in stored_at (plan_of script) (closing_of script turns core is) (replicate is.last (quiet 0))) (shown_in stored_at (plan_of script) is.ended is.final) x b))
+          (in_both (shown_in stored_at (plan_of script) (set_up script is.setup) (is.scheduled ++ is.later)) _ x b))
+          (in_both (shown_in stored_at (plan_of script) (opened script) (replicate is.setup (quiet 0))) _ x there)
         where
           early : Fate (plan_of script) NoOld (played script is.setup (is.scheduled ++ is.later)) (views_played script turns core is (first_views script)) x.operation (at_word_attempt x.word) (at_word_link x.word) → Lost x.operation (at_word_attempt x.word) (at_word_link x.word)
           early f = of_early x.operation (at_word_attempt x.word) (at_word_link x.word) only bytes reads (early_ended x.operation (at_word_attempt x.word) (at_word_link x.word) f)

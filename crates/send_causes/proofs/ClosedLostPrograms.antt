@@ -3,7 +3,7 @@ use Rattle.std.proofs.Common.{◌≡◌, ℕ, zero, suc, ◌+◌, ◌/◌, ◌%�
 use Rattle.std.proofs.lemmas.Bool.{true≢false}
 use Rattle.std.specs.List.{AllByRecursion}
 use Rattle.sock_words.specs.declared.plain.Plan.{Plan}
-use Rattle.sock_words.specs.Words.{socket_id_version, socket_id_slot, vref_version, at_word, IDLE, id_slot, id_first}
+use Rattle.sock_words.specs.Words.{socket_id_version, socket_id_slot, vref_version, at_word, IDLE, id_slot, id_first, bit}
 use Rattle.sock_model.specs.declared.chain.Heading.{Heading}
 use Rattle.sock_model.specs.declared.view.View.{View}
 use Rattle.sock_model.specs.Entries.{ticket_of}
@@ -18,7 +18,7 @@ use Rattle.seat_programs.specs.Clients.{HeldLife, operation, client_from}
 use Rattle.seat_programs.specs.Asides.{Step, Found, StoreAt}
 use Rattle.seat_programs.specs.Heads.{Head, Exit, Retry, Unlocks, Opens, Unlocking}
 use Rattle.seat_programs.specs.Programs.{Program, Do, Say, Sent, Write, Aside, Round, Keep, Retries, release, address}
-use Rattle.seat_programs.specs.Posts.{advance_of, post, unlocks_round}
+use Rattle.seat_programs.specs.Posts.{post, unlocks_round}
 use Rattle.seat_programs.specs.Readers.{reader}
 use Rattle.seat_programs.specs.Sends.{accept}
 use Rattle.seat_programs.specs.Attempts.{claims_from, heading_for, attempt, call, retry}
@@ -78,7 +78,7 @@ module _ (requests : ℕ) where
   GoesBeside m step next behind = ⊥
 
   abbrev GoesLoop : Mode → (head : Head) → (Mode → Exit head → Type 0) → Type 0
-  GoesLoop Free (Unlocks i w advance) behind = (exit : Unlocking) → (parts w).attempt + advance_of advance ≤ 6 → behind Free exit
+  GoesLoop Free (Unlocks i w advance) behind = (exit : Unlocking) → (parts w).attempt + bit advance ≤ 6 → behind Free exit
   GoesLoop Free head behind = (exit : Exit head) → behind Free exit
   GoesLoop m head behind = ⊥
 

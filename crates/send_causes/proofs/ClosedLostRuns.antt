@@ -21,13 +21,13 @@ use Rattle.dropped_calls.specs.Below.programs_allowed.specs.program_walks.proofs
 use Rattle.dropped_calls.specs.Below.programs_allowed.specs.sock_runs.proofs.Ticks.{sound_ticks}
 use Rattle.dropped_calls.specs.Below.outcome_stories.specs.Stories.{In}
 use Rattle.dropped_calls.specs.Below.outcome_causes.proofs.Plain.{in_both}
-use Rattle.dropped_calls.specs.Below.call_stories.specs.Lists.{shows_in}
 use Rattle.dropped_calls.specs.accept_counts.specs.EndedCalls.{Store, stores_by, stored_at}
 use Rattle.dropped_calls.specs.refused_attempts.proofs.RefusedClosing.{OnSockets, MakesSteps, tick_steps}
 use Rattle.dropped_calls.specs.accept_counts.proofs.Beginnings.{all_begin}
 use Rattle.send_causes.proofs.ClosedLostPrograms.{Mode, Free, Goes, client_goes, reader_goes, goes_next}
 use Rattle.send_causes.proofs.ClosedLostTicks.{Entered, AllStand, Fate, keeps_here, tick_stands, tick_stores}
 use Rattle.seat_programs.specs.Rounds.{first_step}
+use Rattle.dropped_calls.specs.Below.outcome_stories.specs.Facts.{shown_in}
 
 -- ## Ticks one after another
 
@@ -37,7 +37,7 @@ module _ (p : Plan) (Old : ℕ → ℕ → Type 0) (retries : RetriesGo p) (Hold
   pub record Behind (c : Core) (vs : List View) (ms : List Moment) : Type 0 where
     pub stands : AllStand p Old (run p c ms) (views_along p c vs ms)
     pub fates : (o n k : ℕ) → Fate p Old c vs o n k → Fate p Old (run p c ms) (views_along p c vs ms) o n k
-    pub stores : (x : Store) → In x (shows_in stored_at p c ms) → Fate p Old (run p c ms) (views_along p c vs ms) x.operation (at_word_attempt x.word) (at_word_link x.word)
+    pub stores : (x : Store) → In x (shown_in stored_at p c ms) → Fate p Old (run p c ms) (views_along p c vs ms) x.operation (at_word_attempt x.word) (at_word_link x.word)
 
   pub run_fates : (ms : List Moment) (c : Core) (vs : List View) → Sound p c vs → AreAnswered p c ms → AreFitting p c ms → Holds c vs → AllStand p Old c vs → Behind c vs ms
   run_fates [] c vs sound answered fitting holds all = record { stands = all; fates = λ o n k f. f; stores = λ x there. absurd there }
@@ -47,7 +47,7 @@ module _ (p : Plan) (Old : ℕ → ℕ → Type 0) (retries : RetriesGo p) (Hold
         stands = r.stands;
         fates = λ o n k f. r.fates o n k (one.1 o n k f);
         stores = λ x there. ⊎_elim (λ now. r.fates x.operation (at_word_attempt x.word) (at_word_link x.word) (tick_stores p Old retries c vs sound m answered.0 fitting.0 (fresh c vs holds) all x now)) (λ later. r.stores x later)
-            (in_both (stored_at c m) (shows_in stored_at p (ticked p c m) ms) x there);
+            (in_both (stored_at c m) (shown_in stored_at p (ticked p c m) ms) x there);
       }
 
 -- what was accepted stays so
@@ -66,9 +66,9 @@ module _ (p : Plan) where
       by Rest g m = m
       by _ g m = absurd g
 
-  pub none_closing : (n : ℕ) (c : Core) → MakesSteps c → (x : Store) → In x (shows_in stored_at p c (replicate n (quiet 0))) → ⊥
+  pub none_closing : (n : ℕ) (c : Core) → MakesSteps c → (x : Store) → In x (shown_in stored_at p c (replicate n (quiet 0))) → ⊥
   none_closing zero c s x at = at
-  none_closing (suc n) c s x at = ⊎_elim (none_stored c s x) (none_closing n (ticked p c (quiet 0)) (tick_steps p c s) x) (in_both (stored_at c (quiet 0)) (shows_in stored_at p (ticked p c (quiet 0)) (replicate n (quiet 0))) x at)
+  none_closing (suc n) c s x at = ⊎_elim (none_stored c s x) (none_closing n (ticked p c (quiet 0)) (tick_steps p c s) x) (in_both (stored_at c (quiet 0)) (shown_in stored_at p (ticked p c (quiet 0)) (replicate n (quiet 0))) x at)
 
 -- ## How a run begins
 

@@ -31,7 +31,7 @@ use Rattle.dropped_calls.specs.Below.joint_runs.proofs.Runs.{AreMade, first_view
 use Rattle.dropped_calls.specs.Below.call_owing.specs.Lives.{ClosesInRun}
 use Rattle.dropped_calls.specs.Below.owed_calls.proofs.Known.{opens_apart}
 use Rattle.dropped_calls.specs.Below.owned_ids.proofs.WordsGiven.{Named, IsOfLink, run_named, named_ending, named_on}
-use Rattle.dropped_calls.specs.Below.call_stories.specs.Lists.{given}
+use Rattle.dropped_calls.specs.Below.call_stories.specs.Lists.{gave_in}
 use Rattle.dropped_calls.specs.Below.call_stories.specs.Posts.{Post}
 use Rattle.dropped_calls.specs.accept_counts.specs.PostCauses.{PostCause, OfFault}
 use Rattle.dropped_calls.specs.sent_once.proofs.Beside.{orders_here}
@@ -100,21 +100,21 @@ module _ (script : List Item) (made : AreMade script) (turns : List Turn) (core 
       IsNoFault code = code ≢ 2002
 
       fits : (j : ℕ) (ts : List Task) → slice_get (all_tasks script) j ≡ Some ts → (t : Task) → In t ts → (name code : ℕ) → t.op ≡ ops.Fail name code → IsNoFault code
-      fits j ts at t m name code op e = let x = fail_range script made turns core is closes ids labelled fixed (given core) there range j t name code (ts, at, in_contains ts t m) op in let high = x.1 in omega (arith, e, high)
+      fits j ts at t m name code op e = let x = fail_range script made turns core is closes ids labelled fixed (gave_in core) there range j t name code (ts, at, in_contains ts t m) op in let high = x.1 in omega (arith, e, high)
 
       -- the code of a frame fault
-      pub fault_of_drop : (x : Post) (d : DropOf script made turns core is closes ids labelled x) → code_of x.error ≡ 2002 → GaveFault p clients core.outcomes fixed (given core) orders d.link
+      pub fault_of_drop : (x : Post) (d : DropOf script made turns core is closes ids labelled x) → code_of x.error ≡ 2002 → GaveFault p clients core.outcomes fixed (gave_in core) orders d.link
       fault_of_drop x d code = ⊎_elim (λ e. absurd (omega (arith, e, code))) (λ f. by f.1 f.2 f.5 (whose_of_run script made turns core is IsNoFault (λ e. omega (arith, e)) fits (λ e. omega (arith, e)) f.0 f.1 f.2 (code_of x.error) f.3 f.4)) d.found
         where
-          by : (j h : ℕ) → WasGiven (ends script made turns core is closes ids labelled).events j h d.link → WhoseIn script made turns core is IsNoFault (λ e. omega (arith, e)) fits core (h₄ script made turns core is) j h (code_of x.error) → GaveFault p clients core.outcomes fixed (given core) orders d.link
+          by : (j h : ℕ) → WasGiven (ends script made turns core is closes ids labelled).events j h d.link → WhoseIn script made turns core is IsNoFault (λ e. omega (arith, e)) fits core (h₄ script made turns core is) j h (code_of x.error) → GaveFault p clients core.outcomes fixed (gave_in core) orders d.link
           by j h given_ (inl other) = absurd (other code)
-          by j h given_ (inr r) = subst (GaveFault p clients core.outcomes fixed (given core) orders) (own_link r.link r.operation r.id j h d.link r.at r.word r.socket r.slot r.version given_)
+          by j h given_ (inr r) = subst (GaveFault p clients core.outcomes fixed (gave_in core) orders) (own_link r.link r.operation r.id j h d.link r.at r.word r.socket r.slot r.version given_)
               (⊎_elim (λ a. absurd (let e = a.0 in omega (arith, e, code))) (λ b. ⊎_elim (λ a. absurd (let e = a.0 in omega (arith, e))) (λ f. f.1)
               (ended_so script made turns core is bytes reads r.link (let low = at_length (opens script) r.link r.operation r.at in let many = (let k = known script made turns core is in k.as_many) in omega (arith, low, many)) 2002 (inr (refl, b.1)))) r.codes)
 
-      module _ (last : ℕ → ℕ) (sent : (k : ℕ) → k < p.links → AllByRecursion (IsSent p clients core.outcomes fixed (given core) orders last k) (orders k).accepted) where
+      module _ (last : ℕ → ℕ) (sent : (k : ℕ) → k < p.links → AllByRecursion (IsSent p clients core.outcomes fixed (gave_in core) orders last k) (orders k).accepted) where
         -- why an error was posted for a dropped message, where its code isn't that of the end of a reading
-        pub cause_of_drop : (x : Post) (d : DropOf script made turns core is closes ids labelled x) (c id : ℕ) → PostCause p clients core.outcomes fixed (given core) orders c d.task.number d.asked id (code_of x.error) (attempt_of x.error) ⊎ (code_of x.error ≡ 1014)
+        pub cause_of_drop : (x : Post) (d : DropOf script made turns core is closes ids labelled x) (c id : ℕ) → PostCause p clients core.outcomes fixed (gave_in core) orders c d.task.number d.asked id (code_of x.error) (attempt_of x.error) ⊎ (code_of x.error ≡ 1014)
         cause_of_drop x d c id = ⊎_elim (λ a. inl a) (λ rest. ⊎_elim (λ e. inr e)
-            (λ e. inl (OfFault e d.link (may_be_on script made turns core is closes ids labelled fixed (given core) last sent x d) (fault_of_drop x d e))) rest)
-            (caused_by_drop script made turns core is closes ids labelled fixed (given core) last sent x d there range c id)
+            (λ e. inl (OfFault e d.link (may_be_on script made turns core is closes ids labelled fixed (gave_in core) last sent x d) (fault_of_drop x d e))) rest)
+            (caused_by_drop script made turns core is closes ids labelled fixed (gave_in core) last sent x d there range c id)

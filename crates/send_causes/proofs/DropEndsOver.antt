@@ -32,7 +32,7 @@ use Rattle.dropped_calls.specs.Below.outcome_stories.proofs.Members.{contains_in
 use Rattle.dropped_calls.specs.Below.outcome_ticks.proofs.Tasks.{one_task}
 use Rattle.dropped_calls.specs.Below.joint_runs.proofs.Runs.{AreMade, first_views}
 use Rattle.dropped_calls.specs.Below.call_owing.specs.Lives.{ClosesInRun}
-use Rattle.dropped_calls.specs.Below.call_stories.specs.Lists.{given, early_of_run, closed_of_run, silent_of_run}
+use Rattle.dropped_calls.specs.Below.call_stories.specs.Lists.{gave_in, early_of_run, closed_of_run, silent_of_run}
 use Rattle.dropped_calls.specs.Below.call_stories.specs.Posts.{Post}
 use Rattle.dropped_calls.specs.accept_counts.specs.PostCauses.{PostCause, OfEnd}
 use Rattle.send_causes.proofs.Assembled.{last_in_run}
@@ -111,20 +111,20 @@ module _ (script : List Item) (made : AreMade script) (turns : List Turn) (core 
     open laws script made there range bytes reads turns core is closes use {p, clients, fixed, orders}
 
     -- the dropped attempt isn't placed
-    not_placed : (x : Post) (d : DropOf script made turns core is closes ids labelled x) → IsPlaced p clients core.outcomes fixed (given core) orders d.task.number (attempt_of x.error) → ⊥
+    not_placed : (x : Post) (d : DropOf script made turns core is closes ids labelled x) → IsPlaced p clients core.outcomes fixed (gave_in core) orders d.task.number (attempt_of x.error) → ⊥
     not_placed x d (k, i, (low, a, at, op, attempt), placed) = let are = orders_are script made turns core is closes in let mine = d.dropped.at in
         let same = are.apart k d.link i d.dropped.place a mine.1 low mine.0 at mine.2 (let b = mine.3 in let e = mine.4 in omega (arith, op, attempt, b, e)) in
         let late = d.dropped.late in let here : i < (orders d.link).placed = subst (λ n. i < (orders n).placed) same.0 placed in let place = same.1 in omega (arith, late, here, place)
 
-    module _ (sent : (k : ℕ) → k < p.links → AllByRecursion (IsSent p clients core.outcomes fixed (given core) orders (last_in_run script made there range bytes reads turns core is closes) k) (orders k).accepted) where
+    module _ (sent : (k : ℕ) → k < p.links → AllByRecursion (IsSent p clients core.outcomes fixed (gave_in core) orders (last_in_run script made there range bytes reads turns core is closes) k) (orders k).accepted) where
       -- why an error was posted for a dropped message, where the link's responses of an id whose code is that of the ending came before the call began
       pub caused_for_drop : (x : Post) (d : DropOf script made turns core is closes ids labelled x)
-          → (code_of x.error ≡ 1014 → (m : ℕ) (frame : Frame) → Gave p clients core.outcomes fixed (given core) orders d.link m frame → IsResponse p clients core.outcomes fixed (given core) orders d.asked x.id frame → Contains fixed.soon (d.link, m))
-          → (c : ℕ) → PostCause p clients core.outcomes fixed (given core) orders c d.task.number d.asked x.id (code_of x.error) (attempt_of x.error)
+          → (code_of x.error ≡ 1014 → (m : ℕ) (frame : Frame) → Gave p clients core.outcomes fixed (gave_in core) orders d.link m frame → IsResponse p clients core.outcomes fixed (gave_in core) orders d.asked x.id frame → Contains fixed.soon (d.link, m))
+          → (c : ℕ) → PostCause p clients core.outcomes fixed (gave_in core) orders c d.task.number d.asked x.id (code_of x.error) (attempt_of x.error)
       caused_for_drop x d soon c = ⊎_elim (λ cause. cause) (λ code. OfEnd code d.link (record {
-        on = may_be_on script made turns core is closes ids labelled fixed (given core) (last_in_run script made there range bytes reads turns core is closes) sent x d;
+        on = may_be_on script made turns core is closes ids labelled fixed (gave_in core) (last_in_run script made there range bytes reads turns core is closes) sent x d;
         ended = ⊎_elim (λ e. absurd (omega (arith, e, code))) (λ f. ended_of_link bytes reads f.1 f.2 d.link f.5) d.found;
-        lost = inr (inl (stands_on script made turns core is closes ids labelled fixed (given core) (last_in_run script made there range bytes reads turns core is closes) sent x d));
+        lost = inr (inl (stands_on script made turns core is closes ids labelled fixed (gave_in core) (last_in_run script made there range bytes reads turns core is closes) sent x d));
         unanswered = λ m frame gave response. (not_placed x d, soon code m frame gave response);
       })) (cause_of_drop script made turns core is closes ids labelled there range bytes reads fixed (last_in_run script made there range bytes reads turns core is closes) sent x d c x.id)
 
@@ -132,14 +132,14 @@ module _ (script : List Item) (made : AreMade script) (turns : List Turn) (core 
       module _ (single : (o x : ℕ) → ids o ≢ 0 → ids o ≡ ids x → o ≡ x) where
         pub caused_for_call : (c : ℕ) (t : Task) (asked : Asked) (id code n : ℕ) → IsTask clients core.outcomes c t → t.op ≡ ops.Call asked → ids t.number ≡ id → id ≢ 0 → n ≤ 7
             → DropOf script made turns core is closes ids labelled (record { id = id; error = error_of code n })
-            → ((k : ℕ) → code ≡ 1014 → (m : ℕ) (frame : Frame) → StandsOn p clients core.outcomes fixed (given core) orders t.number n k → Gave p clients core.outcomes fixed (given core) orders k m frame → IsResponse p clients core.outcomes fixed (given core) orders asked id frame → Contains fixed.soon (k, m))
-            → PostCause p clients core.outcomes fixed (given core) orders c t.number asked id code n
-        caused_for_call c t asked id code n it op own some_ small d soon = subst (λ z. PostCause p clients core.outcomes fixed (given core) orders c t.number asked id z n) code_is (subst (λ z. PostCause p clients core.outcomes fixed (given core) orders c t.number asked id (code_of (error_of code n)) z) attempt_is
-            (subst (λ z. PostCause p clients core.outcomes fixed (given core) orders c t.number z id (code_of (error_of code n)) (attempt_of (error_of code n))) same_asked
-            (subst (λ z. PostCause p clients core.outcomes fixed (given core) orders c z d.asked id (code_of (error_of code n)) (attempt_of (error_of code n))) number
+            → ((k : ℕ) → code ≡ 1014 → (m : ℕ) (frame : Frame) → StandsOn p clients core.outcomes fixed (gave_in core) orders t.number n k → Gave p clients core.outcomes fixed (gave_in core) orders k m frame → IsResponse p clients core.outcomes fixed (gave_in core) orders asked id frame → Contains fixed.soon (k, m))
+            → PostCause p clients core.outcomes fixed (gave_in core) orders c t.number asked id code n
+        caused_for_call c t asked id code n it op own some_ small d soon = subst (λ z. PostCause p clients core.outcomes fixed (gave_in core) orders c t.number asked id z n) code_is (subst (λ z. PostCause p clients core.outcomes fixed (gave_in core) orders c t.number asked id (code_of (error_of code n)) z) attempt_is
+            (subst (λ z. PostCause p clients core.outcomes fixed (gave_in core) orders c t.number z id (code_of (error_of code n)) (attempt_of (error_of code n))) same_asked
+            (subst (λ z. PostCause p clients core.outcomes fixed (gave_in core) orders c z d.asked id (code_of (error_of code n)) (attempt_of (error_of code n))) number
             (caused_for_drop (record { id = id; error = error_of code n }) d (λ e m frame gave response. soon d.link (sym code_is ∙ e) m frame
-            (subst (λ z. StandsOn p clients core.outcomes fixed (given core) orders t.number z d.link) attempt_is (subst (λ z. StandsOn p clients core.outcomes fixed (given core) orders z (attempt_of (error_of code n)) d.link) number (d.dropped.place, d.dropped.at)))
-            gave (subst (λ z. IsResponse p clients core.outcomes fixed (given core) orders z id frame) same_asked response)) c))))
+            (subst (λ z. StandsOn p clients core.outcomes fixed (gave_in core) orders t.number z d.link) attempt_is (subst (λ z. StandsOn p clients core.outcomes fixed (gave_in core) orders z (attempt_of (error_of code n)) d.link) number (d.dropped.place, d.dropped.at)))
+            gave (subst (λ z. IsResponse p clients core.outcomes fixed (gave_in core) orders z id frame) same_asked response)) c))))
           where
             code_is : code_of (error_of code n) ≡ code
             code_is = omega (arith, small)

@@ -28,7 +28,7 @@ use Rattle.dropped_calls.specs.Below.script_facts.proofs.Reading.{InRange}
 use Rattle.dropped_calls.specs.Below.script_facts.proofs.Targets.{AreThere}
 use Rattle.dropped_calls.specs.Below.call_owing.specs.Lives.{ClosesInRun}
 use Rattle.dropped_calls.specs.Below.owed_calls.proofs.Known.{run_all_ended, run_all_rest}
-use Rattle.dropped_calls.specs.Below.call_stories.specs.Lists.{given}
+use Rattle.dropped_calls.specs.Below.call_stories.specs.Lists.{gave_in}
 use Rattle.dropped_calls.specs.Below.call_stories.specs.Posts.{Post}
 use Rattle.dropped_calls.specs.Below.call_stories.specs.Scenes.{Scene, IsOpened, SeeksName, IsTaskOf, HasNoneOf}
 use Rattle.dropped_calls.specs.Below.call_stories.specs.Says.{Mark}
@@ -95,19 +95,19 @@ module _ (script : List Item) (made : AreMade script) (there : AreThere script) 
   q = id_plan_of script
 
   open run_facts script made turns core is use {set_up_ahead, played_ahead, ended_ahead, many_played, many_closed, many_seats}
-  open leadings script turns core is (given core) (own_leads script core) use {told_leads, closed_leads, ending_leads, played_leads}
+  open leadings script turns core is (gave_in core) (own_leads script core) use {told_leads, closed_leads, ending_leads, played_leads}
 
   abbrev Later_ : Scene → Core → Type 0
-  Later_ w c = Since (plan_of script) (id_plan_of script) (all_tasks script) (given core) (numbered script made there range turns core is) (slots script made there range turns core is) (small script made there range turns core is) w c
+  Later_ w c = Since (plan_of script) (id_plan_of script) (all_tasks script) (gave_in core) (numbered script made there range turns core is) (slots script made there range turns core is) (small script made there range turns core is) w c
 
   abbrev Has : List Post → List ℕ → Core → Type 0
-  Has ps ns c = HasStory (plan_of script) (id_plan_of script) (all_tasks script) (given core) ps ns c
+  Has ps ns c = HasStory (plan_of script) (id_plan_of script) (all_tasks script) (gave_in core) ps ns c
 
   abbrev set_scene : Scene
   set_scene = (setup_goes script made there range turns core is).owns.story.scene
 
-  played_finds : Finds (plan_of script) (id_plan_of script) (all_tasks script) (given core) (numbered script made there range turns core is) (slots script made there range turns core is) (small script made there range turns core is) (IsCallOf script) set_scene (set_up script is.setup) (is.scheduled ++ is.later)
-  played_finds = let s = joint_runs script turns core is made in find_along p q (all_tasks script) (given core) (numbered script made there range turns core is) (slots script made there range turns core is) (small script made there range turns core is) (IsCallOf script) (is.scheduled ++ is.later) (set_up script is.setup)
+  played_finds : Finds (plan_of script) (id_plan_of script) (all_tasks script) (gave_in core) (numbered script made there range turns core is) (slots script made there range turns core is) (small script made there range turns core is) (IsCallOf script) set_scene (set_up script is.setup) (is.scheduled ++ is.later)
+  played_finds = let s = joint_runs script turns core is made in find_along p q (all_tasks script) (gave_in core) (numbered script made there range turns core is) (slots script made there range turns core is) (small script made there range turns core is) (IsCallOf script) (is.scheduled ++ is.later) (set_up script is.setup)
       (views_along (plan_of script) (opened script) (first_views script) (replicate is.setup (quiet 0))) s.clients is.answered (rests_set_up p (is.scheduled ++ is.later) (set_up script is.setup) set_up_ahead is.is_set_up) played_leads
       (setup_goes script made there range turns core is).owns
 
@@ -118,27 +118,27 @@ module _ (script : List Item) (made : AreMade script) (there : AreThere script) 
   closed = run (plan_of script) (ending script (played script is.setup (is.scheduled ++ is.later))) (replicate is.last (quiet 0))
 
   begun : (ps : List Post) (ns : List ℕ) (h : Has ps ns rested) → Later_ h.scene (ending script rested)
-  begun ps ns h = since_change p q (all_tasks script) (given core) (numbered script made there range turns core is) (slots script made there range turns core is) (small script made there range turns core is) h.scene h.scene.decisions ps ns (ending script rested)
-      (ending_lasts p q (all_tasks script) (given core) (numbered script made there range turns core is) (slots script made there range turns core is) (small script made there range turns core is) (opens script) ps ns rested (views_played script turns core is (first_views script)) (played_both script made there range turns core is)
+  begun ps ns h = since_change p q (all_tasks script) (gave_in core) (numbered script made there range turns core is) (slots script made there range turns core is) (small script made there range turns core is) h.scene h.scene.decisions ps ns (ending script rested)
+      (ending_lasts p q (all_tasks script) (gave_in core) (numbered script made there range turns core is) (slots script made there range turns core is) (small script made there range turns core is) (opens script) ps ns rested (views_played script turns core is (first_views script)) (played_both script made there range turns core is)
       (let m = many_played in let s = some_seats script made there range turns core is in omega (arith, m, s)) played_ahead (run_rests (plan_of script) (set_up script is.setup) (is.scheduled ++ is.later) 0 is.is_set_up)
       ending_leads h)
 
   closing : (ps : List Post) (ns : List ℕ) (h : Has ps ns (ending script rested)) → Later_ h.scene closed
-  closing ps ns h = let s = joint_runs script turns core is made in since_ticks p q (all_tasks script) (given core) (numbered script made there range turns core is) (slots script made there range turns core is) (small script made there range turns core is) (replicate is.last (quiet 0)) (ending script rested)
+  closing ps ns h = let s = joint_runs script turns core is made in since_ticks p q (all_tasks script) (gave_in core) (numbered script made there range turns core is) (slots script made there range turns core is) (small script made there range turns core is) (replicate is.last (quiet 0)) (ending script rested)
       (views_played script turns core is (first_views script)) s.closing (alone_set_up p is.last (ending script rested)) closed_leads ps ns h
 
   ended : (ps : List Post) (ns : List ℕ) (h : Has ps ns closed) → Later_ h.scene is.ended
   ended ps ns h = let s = joint_runs script turns core is made in let both = behind_both p q (ending script rested) (views_played script turns core is (first_views script)) (replicate is.last (quiet 0)) s.closing in
-      subst (λ c. Later_ h.scene c) (sym is.is_ended) (since_change p q (all_tasks script) (given core) (numbered script made there range turns core is) (slots script made there range turns core is) (small script made there range turns core is) h.scene h.scene.decisions ps ns (is_ending closed)
-      (told_lasts p q (all_tasks script) (given core) (numbered script made there range turns core is) (slots script made there range turns core is) (small script made there range turns core is) ps ns closed (views_closed script turns core is (first_views script)) both
+      subst (λ c. Later_ h.scene c) (sym is.is_ended) (since_change p q (all_tasks script) (gave_in core) (numbered script made there range turns core is) (slots script made there range turns core is) (small script made there range turns core is) h.scene h.scene.decisions ps ns (is_ending closed)
+      (told_lasts p q (all_tasks script) (gave_in core) (numbered script made there range turns core is) (slots script made there range turns core is) (small script made there range turns core is) ps ns closed (views_closed script turns core is (first_views script)) both
       (let m = many_closed in let s = some_seats script made there range turns core is in omega (arith, m, s)) told_leads h))
 
   final : (ps : List Post) (ns : List ℕ) (h : Has ps ns is.ended) → Later_ h.scene core
-  final ps ns h = let s = joint_runs script turns core is made in subst (λ c. Later_ h.scene c) (sym is.is_end) (since_ticks p q (all_tasks script) (given core) (numbered script made there range turns core is) (slots script made there range turns core is) (small script made there range turns core is) is.final is.ended
+  final ps ns h = let s = joint_runs script turns core is made in subst (λ c. Later_ h.scene c) (sym is.is_end) (since_ticks p q (all_tasks script) (gave_in core) (numbered script made there range turns core is) (slots script made there range turns core is) (small script made there range turns core is) is.final is.ended
       (views_closed script turns core is (first_views script)) s.final (rests_set_up p is.final is.ended ended_ahead is.is_over) (subst (Leads script made there range turns core is) is.is_end (own_leads script core)) ps ns h)
 
   abbrev ThenSince : (w : Scene) (c d : Core) → Later_ w c → ((ps : List Post) (ns : List ℕ) (h : Has ps ns c) → Later_ h.scene d) → Later_ w d
-  ThenSince w c d s on = then_since (plan_of script) (id_plan_of script) (all_tasks script) (given core) (numbered script made there range turns core is) (slots script made there range turns core is) (small script made there range turns core is) w c d s on
+  ThenSince w c d s on = then_since (plan_of script) (id_plan_of script) (all_tasks script) (gave_in core) (numbered script made there range turns core is) (slots script made there range turns core is) (small script made there range turns core is) w c d s on
 
   -- up to the end
   over : (ps : List Post) (ns : List ℕ) (h : Has ps ns rested) → Later_ h.scene core
@@ -148,12 +148,12 @@ module _ (script : List Item) (made : AreMade script) (there : AreThere script) 
   at_end : Later_ played_finds.later.story.scene core
   at_end = over played_finds.later.posted played_finds.later.shown played_finds.later.story
 
-  missed : (j name o id n : ℕ) → j ≢ 0 → DidIn (plan_of script) (set_up script is.setup) (is.scheduled ++ is.later) j (DidMiss name o id n) → Missed (plan_of script) (id_plan_of script) (all_tasks script) (given core) at_end.story.scene j name o
+  missed : (j name o id n : ℕ) → j ≢ 0 → DidIn (plan_of script) (set_up script is.setup) (is.scheduled ++ is.later) j (DidMiss name o id n) → Missed (plan_of script) (id_plan_of script) (all_tasks script) (gave_in core) at_end.story.scene j name o
   missed j name o id n other x = at_end.stays j name o (played_finds.missed j name o id n other x)
 
   module _ (closes : ClosesInRun script turns core is) where
-    at_end_over : HasEnded (plan_of script) (id_plan_of script) (all_tasks script) (given core) at_end.story.scene at_end.story.marks
-    at_end_over = let h = at_end.story in has_ended (plan_of script) (id_plan_of script) (all_tasks script) (given core) h.scene h.marks h.story
+    at_end_over : HasEnded (plan_of script) (id_plan_of script) (all_tasks script) (gave_in core) at_end.story.scene at_end.story.marks
+    at_end_over = let h = at_end.story in has_ended (plan_of script) (id_plan_of script) (all_tasks script) (gave_in core) h.scene h.marks h.story
         (subst AllRest (sym h.is) (run_all_rest script made turns core is closes))
         (λ i inside. subst (λ (d : Core). (parts (get_or d.calls.words (id_index i) 0)).state ≡ 0) (sym h.is) (run_all_ended script made turns core is closes i inside))
         (let many = ap (λ (d : Core). length d.seats) h.is ∙ many_seats in
@@ -181,9 +181,9 @@ module _ (script : List Item) (made : AreMade script) (there : AreThere script) 
         → WhyLost (plan_of script) (all_tasks script) core.outcomes fixed gave orders c t.number n name
     found_lost fixed gave orders c t n name it (later, j, id, low, did) = let x = of_client j name t.number id n low did in let some_ : 1 ≤ j = positive j x.0 in dite (ℕ_discrete j c)
         (λ own. WasUnopened later j (t.number + 1) some_ x.1 (λ _. omega arith) (subst (λ (d : Core). FoundNone (plan_of script) (all_tasks script) d.outcomes fixed gave orders j (t.number + 1) name) at_end.story.is
-        (none_up_to p q (all_tasks script) (given core) (are_ascending script made there range (given core)) at_end.story.scene at_end.story.marks at_end_over fixed gave orders j name t (subst (λ k. IsTask (all_tasks script) core.outcomes k t) (sym own) it) (missed j name t.number id n x.0 x.2))))
+        (none_up_to p q (all_tasks script) (gave_in core) (are_ascending script made there range (gave_in core)) at_end.story.scene at_end.story.marks at_end_over fixed gave orders j name t (subst (λ k. IsTask (all_tasks script) core.outcomes k t) (sym own) it) (missed j name t.number id n x.0 x.2))))
         (λ other. WasUnopened later j 0 some_ x.1 (λ same. absurd (other same)) (subst (λ (d : Core). FoundNone (plan_of script) (all_tasks script) d.outcomes fixed gave orders j 0 name) at_end.story.is
-        (none_before p q (all_tasks script) (given core) (are_ascending script made there range (given core)) at_end.story.scene at_end.story.marks at_end_over fixed gave orders j name t.number (missed j name t.number id n x.0 x.2))))
+        (none_before p q (all_tasks script) (gave_in core) (are_ascending script made there range (gave_in core)) at_end.story.scene at_end.story.marks at_end_over fixed gave orders j name t.number (missed j name t.number id n x.0 x.2))))
       where
         positive : (i : ℕ) → i ≢ 0 → 1 ≤ i
         positive i ne = omega (arith, ne)

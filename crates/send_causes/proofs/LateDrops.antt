@@ -28,7 +28,7 @@ use Rattle.dropped_calls.specs.Below.outcome_stories.proofs.Members.{all_in, in_
 use Rattle.dropped_calls.specs.Below.joint_runs.proofs.Runs.{AreMade}
 use Rattle.dropped_calls.specs.Below.call_owing.specs.Lives.{ClosesInRun}
 use Rattle.dropped_calls.specs.Below.call_stories.specs.Decided.{posted_by}
-use Rattle.dropped_calls.specs.Below.call_stories.specs.Lists.{given, shows_in_run}
+use Rattle.dropped_calls.specs.Below.call_stories.specs.Lists.{gave_in}
 use Rattle.dropped_calls.specs.Below.call_stories.specs.Posts.{Post}
 use Rattle.dropped_calls.specs.Below.call_causes.proofs.HandledWhole.{PostedLate}
 use Rattle.dropped_calls.specs.accept_counts.specs.Refused.{Deed, DidStep, DidRound, DidInRun, DidEarly, DidLate, RunWouldOwn}
@@ -46,6 +46,7 @@ use Rattle.send_causes.proofs.OwnIds.{labelled_at, would_at, single_at}
 use Rattle.dropped_calls.specs.accept_counts.proofs.Runs.{AreLabelledIn, IsCallOf}
 use Rattle.dropped_calls.specs.sent_once.proofs.Sends.{orders_are}
 use Rattle.dropped_calls.specs.Below.owned_ids.proofs.OpensStored.{place_at}
+use Rattle.dropped_calls.specs.Below.outcome_stories.specs.Facts.{shown_in_run}
 
 module _ (script : List Item) (made : AreMade script) (there : AreThere script) (range : AllByRecursion InRange script) (turns : List Turn) (core : Core) (is : IsRunWithCalls script turns core) (closes : ClosesInRun script turns core is)
     (ids : ℕ → ℕ) (labelled : AreLabelledIn ids script turns core is) (would : RunWouldOwn ids script turns core is) where
@@ -54,7 +55,7 @@ module _ (script : List Item) (made : AreMade script) (there : AreThere script) 
 
   -- no `fail` of the script has that code
   fits : (j : ℕ) (ts : List Task) → slice_get (all_tasks script) j ≡ Some ts → (t : Task) → In t ts → (name code : ℕ) → t.op ≡ ops.Fail name code → IsNoEnd code
-  fits j ts at t m name code op e = let x = fail_range script made turns core is closes ids labelled (fixed_of_run script made turns core is closes) (given core) there range j t name code (ts, at, in_contains ts t m) op in let high = x.0 in omega (arith, e, high)
+  fits j ts at t m name code op e = let x = fail_range script made turns core is closes ids labelled (fixed_of_run script made turns core is closes) (gave_in core) there range j t name code (ts, at, in_contains ts t m) op in let high = x.0 in omega (arith, e, high)
 
   -- ## Lives of a link
 
@@ -163,12 +164,12 @@ module _ (script : List Item) (made : AreMade script) (there : AreThere script) 
             subst (λ i. IsNew script made turns core is i (socket_id_version y.post.drop.holder.id)) same.0 (subst (IsNew script made turns core is n.0) same.1 n.4)
 
   -- where no two calls have one id, each error that a client posted so for a dropped message was posted behind the end of the reading of the message's link
-  pub late_drop : ((o x : ℕ) → ids o ≢ 0 → ids o ≡ ids x → o ≡ x) → (j : ℕ) → j < 32 → (x : Post) → In x (shows_in_run script turns core is (posted_by j)) → code_of x.error ≡ 1014 → (d : DropOf script made turns core is closes ids labelled x)
+  pub late_drop : ((o x : ℕ) → ids o ≢ 0 → ids o ≡ ids x → o ≡ x) → (j : ℕ) → j < 32 → (x : Post) → In x (shown_in_run script turns core is (posted_by j)) → code_of x.error ≡ 1014 → (d : DropOf script made turns core is closes ids labelled x)
       → (o : ℕ) × (at : get_elem? (opens script) d.link ≡ some o) × PostedLate script made there range turns core is d.link o at x
   late_drop single j low x at code d = ⊎_elim (early single j low x code d) (late single j low x code d) (posts_late script made turns core is closes ids labelled would fits j low x at code)
 
 -- by the ids that the calls' words tell
 module _ (script : List Item) (made : AreMade script) (there : AreThere script) (range : AllByRecursion InRange script) (turns : List Turn) (core : Core) (is : IsRunWithCalls script turns core) (closes : ClosesInRun script turns core is) where
-  pub late_drop_at : (j : ℕ) → j < 32 → (x : Post) → In x (shows_in_run script turns core is (posted_by j)) → code_of x.error ≡ 1014 → (d : DropOf script made turns core is closes (ids_at script core) (labelled_at script made there range turns core is closes) x)
+  pub late_drop_at : (j : ℕ) → j < 32 → (x : Post) → In x (shown_in_run script turns core is (posted_by j)) → code_of x.error ≡ 1014 → (d : DropOf script made turns core is closes (ids_at script core) (labelled_at script made there range turns core is closes) x)
       → (o : ℕ) × (at : get_elem? (opens script) d.link ≡ some o) × PostedLate script made there range turns core is d.link o at x
   late_drop_at = late_drop script made there range turns core is closes (ids_at script core) (labelled_at script made there range turns core is closes) (would_at script made there range turns core is closes) (single_at script made there range turns core is closes)

@@ -29,7 +29,7 @@ use Rattle.dropped_calls.specs.Below.script_facts.proofs.Targets.{AreThere}
 use Rattle.dropped_calls.specs.Below.call_owing.specs.Lives.{ClosesInRun}
 use Rattle.dropped_calls.specs.Below.owed_calls.proofs.Known.{run_all_rest}
 use Rattle.dropped_calls.specs.Below.call_stories.specs.Decided.{posted_by}
-use Rattle.dropped_calls.specs.Below.call_stories.specs.Lists.{given, shows_in_run}
+use Rattle.dropped_calls.specs.Below.call_stories.specs.Lists.{gave_in}
 use Rattle.dropped_calls.specs.Below.call_stories.specs.Posts.{Post}
 use Rattle.dropped_calls.specs.Below.call_stories.specs.Scenes.{Scene, Begun, WhyOwn, ToldOf, was_said, was_sent, was_begun, AreTold}
 use Rattle.dropped_calls.specs.Below.call_stories.specs.Says.{Mark}
@@ -48,6 +48,7 @@ use Rattle.dropped_calls.specs.ended_calls.proofs.EndedCauses.{EndedOn, run_ende
 use Rattle.dropped_calls.specs.refused_attempts.proofs.RefusedRun.{WhyPosted, refused_of_seat}
 use Rattle.dropped_calls.specs.accept_counts.proofs.Runs.{AreLabelledIn}
 use Rattle.send_causes.proofs.Laws.{laws}
+use Rattle.dropped_calls.specs.Below.outcome_stories.specs.Facts.{shown_in_run}
 
 -- ## Words of calls
 
@@ -96,7 +97,7 @@ module _ (script : List Item) (made : AreMade script) (there : AreThere script) 
   pub some_id : (client : ℕ) (t : Task) (asked : Asked) → IsTask (all_tasks script) core.outcomes client t → t.op ≡ ops.Call asked → (outcome : Outcome) → Became (all_tasks script) core.outcomes t.number outcome → (id : ℕ) → shown_id outcome ≡ Some id → ids_at script core t.number ≢ 0
   some_id client t asked it op outcome became id shown = let h = run_has_story script made there range turns core is in
       subst (λ (d : Core). IsTask (all_tasks script) d.outcomes client t → Became (all_tasks script) d.outcomes t.number outcome → get_or d.calls.words (call_index (id_plan_of script) t.number) 0 ≢ 0) h.is
-      (λ it' has. word_stored (plan_of script) (id_plan_of script) (all_tasks script) (given core) h.scene h.marks (run_has_ended script made there range turns core is closes) client t asked outcome id it' op has shown) it became
+      (λ it' has. word_stored (plan_of script) (id_plan_of script) (all_tasks script) (gave_in core) h.scene h.marks (run_has_ended script made there range turns core is closes) client t asked outcome id it' op has shown) it became
 
   -- and it is the one that is shown
   pub own_id : (client : ℕ) (t : Task) (asked : Asked) → IsTask (all_tasks script) core.outcomes client t → t.op ≡ ops.Call asked → (outcome : Outcome) → Became (all_tasks script) core.outcomes t.number outcome → (id : ℕ) → shown_id outcome ≡ Some id → ids_at script core t.number ≡ id
@@ -111,7 +112,7 @@ module _ (script : List Item) (made : AreMade script) (there : AreThere script) 
     open laws script made there range bytes reads turns core is closes use {p, clients, fixed, orders}
 
     -- why each error was posted that an id took from a seat
-    pub whys_of_seat : (j : ℕ) (x : Post) → In x (shows_in_run script turns core is (posted_by j)) → WhyPosted script made turns core is closes (ids_at script core) labelled_at would_at bytes reads j x
+    pub whys_of_seat : (j : ℕ) (x : Post) → In x (shown_in_run script turns core is (posted_by j)) → WhyPosted script made turns core is closes (ids_at script core) labelled_at would_at bytes reads j x
     whys_of_seat = refused_of_seat script made turns core is closes (ids_at script core) labelled_at would_at bytes reads
 
     -- of an error that was posted for a dropped message
@@ -122,18 +123,18 @@ module _ (script : List Item) (made : AreMade script) (there : AreThere script) 
         → x.error ≡ error_of (if code == 0 then 1009 else code) heading.attempt → DropAt x
     drop_post = drop_of_run script made turns core is closes (ids_at script core) labelled_at
 
-    sent : (k : ℕ) → k < p.links → AllByRecursion (λ (a : Accepted). IsSent p clients core.outcomes fixed (given core) orders (last_in_run script made there range bytes reads turns core is closes) k a) (orders k).accepted
-    sent = attempted_of_run script made there range turns core is closes fixed (given core)
+    sent : (k : ℕ) → k < p.links → AllByRecursion (λ (a : Accepted). IsSent p clients core.outcomes fixed (gave_in core) orders (last_in_run script made there range bytes reads turns core is closes) k a) (orders k).accepted
+    sent = attempted_of_run script made there range turns core is closes fixed (gave_in core)
 
     -- why it was posted, where the link's responses of an id whose code is that of the ending came before the call began
     pub drop_cause : (c : ℕ) (t : Task) (asked : Asked) (id code n : ℕ) → IsTask clients core.outcomes c t → t.op ≡ ops.Call asked → ids_at script core t.number ≡ id → id ≢ 0 → n ≤ 7 → DropAt (record { id = id; error = error_of code n })
-        → ((k : ℕ) → code ≡ 1014 → (m : ℕ) (frame : Frame) → StandsOn p clients core.outcomes fixed (given core) orders t.number n k → Gave p clients core.outcomes fixed (given core) orders k m frame → IsResponse p clients core.outcomes fixed (given core) orders asked id frame → Contains fixed.soon (k, m))
-        → PostCause p clients core.outcomes fixed (given core) orders c t.number asked id code n
+        → ((k : ℕ) → code ≡ 1014 → (m : ℕ) (frame : Frame) → StandsOn p clients core.outcomes fixed (gave_in core) orders t.number n k → Gave p clients core.outcomes fixed (gave_in core) orders k m frame → IsResponse p clients core.outcomes fixed (gave_in core) orders asked id frame → Contains fixed.soon (k, m))
+        → PostCause p clients core.outcomes fixed (gave_in core) orders c t.number asked id code n
     drop_cause = caused_for_call script made turns core is closes (ids_at script core) labelled_at there range bytes reads sent single_at
 
     -- ## Posts by readers
 
     module _ (client : ℕ) (t : Task) (asked : Asked) (it : IsTask (all_tasks script) core.outcomes client t) (op : t.op ≡ ops.Call asked) (x : Post) (at : In x (reader_posts_of_run script turns core is)) (own : x.id ≡ ids_at script core t.number) where
       -- the attempt for which a reader posted an error may be on a link whose reading ended with the code
-      pub reader_post : (code n : ℕ) → x.error ≡ error_of code n → n ≤ 7 → (k : ℕ) × MayBeOn p clients core.outcomes fixed (given core) orders t.number n (name_of asked n) k × EndedSo script turns core is k code
+      pub reader_post : (code n : ℕ) → x.error ≡ error_of code n → n ≤ 7 → (k : ℕ) × MayBeOn p clients core.outcomes fixed (gave_in core) orders t.number n (name_of asked n) k × EndedSo script turns core is k code
       reader_post code n error few = let e : EndedOn script made turns core is closes (ids_at script core) labelled_at single_at bytes reads client t asked it op x at own code n = run_ended_on script made turns core is closes (ids_at script core) labelled_at single_at bytes reads client t asked it op x at own code n error few in (e.link, e.on, e.ended)

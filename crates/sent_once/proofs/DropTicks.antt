@@ -15,7 +15,7 @@ use Rattle.sock_model.specs.declared.marks.SlotMark.{SlotMark}
 use Rattle.sock_model.specs.declared.view.View.{View}
 use Rattle.sock_model.specs.Marks.{about, at}
 use Rattle.sock_model.specs.SlotRows.{marks_of, failed}
-use Rattle.sock_model.specs.Weights.{total, is_coding}
+use Rattle.sock_model.specs.Weights.{is_coding}
 use Rattle.accept_counts.specs.Below.slot_steps.proofs.Numbers.{only-at}
 use Rattle.accept_counts.specs.Below.slot_steps.proofs.Sums.{about-here}
 use Rattle.seat_programs.specs.declared.task.Op.TheVariants as ops
@@ -49,6 +49,7 @@ use Rattle.sent_once.proofs.DropSays.{IsInHand, first_numbered, says, sets_here}
 use Rattle.sent_once.proofs.DropWords.{version_in, code_in, coding_version, code_stays}
 use Rattle.corr_core.proofs.Notes.{at_length}
 use Rattle.seat_programs.specs.Rounds.{first_step}
+use Rattle.sock_words.specs.Totals.{total}
 
 -- ## What is known of codes
 

@@ -28,7 +28,7 @@ use Rattle.seat_programs.specs.ToldCalls.{Accepted, Order, Fixed, ToldCalls, OfS
 use Rattle.seat_programs.specs.Scripts.{all_tasks, IsRunWithCalls}
 use Rattle.served_runs.specs.Below.joint_runs.proofs.Runs.{AreMade}
 use Rattle.served_runs.specs.Below.run_theorems.specs.Heard.{heard_takes}
-use Rattle.served_runs.specs.Below.call_stories.specs.Lists.{given, attempts_of_run}
+use Rattle.served_runs.specs.Below.call_stories.specs.Lists.{gave_in, attempts_of_run}
 use Rattle.served_runs.proofs.Served.{shapes_many}
 use Rattle.served_runs.specs.Served.{request_with, IsServed, IsForCalls, IsReplyToCall, GivesReplies, GivesLast, GivesNoFault, GivesCallReplies}
 use Rattle.served_runs.proofs.Frames.{request_is}
@@ -53,7 +53,7 @@ gives_peer id (pos zero) frame other = absurd (other refl)
 gives_peer id (pos (suc n)) frame other = refl
 gives_peer id (negsuc n) frame other = refl
 
-module _ (script : List Item) (made : AreMade script) (turns : List Turn) (core : Core) (is : IsRunWithCalls script turns core) (fixed : Fixed) (orders : ℕ → Order) (tells : ToldCalls (plan_of script) (all_tasks script) core.outcomes fixed (given core) orders core) (ids : AreIdsSmall script core)
+module _ (script : List Item) (made : AreMade script) (turns : List Turn) (core : Core) (is : IsRunWithCalls script turns core) (fixed : Fixed) (orders : ℕ → Order) (tells : ToldCalls (plan_of script) (all_tasks script) core.outcomes fixed (gave_in core) orders core) (ids : AreIdsSmall script core)
     (last_is : (client : ℕ) (t : Task) (asked : Asked) → IsTask (all_tasks script) core.outcomes client t → t.op ≡ ops.Call asked → tells.last t.number ≡ attempts_of_run script turns core is t.number)
     (replies : GivesReplies script turns core is) (call_replies : GivesCallReplies script turns core is) (no_fault : GivesNoFault script turns core is) (lasts : GivesLast script turns core is) (shows_early : AreEarly script turns core is fixed orders) (quiet : IsQuiet script turns core is fixed orders) where
   abbrev Task_ : ℕ → Task → Type 0
@@ -81,14 +81,14 @@ module _ (script : List Item) (made : AreMade script) (turns : List Turn) (core 
   pub none_early : (k : ℕ) → HasServer script turns core is k → Contains fixed.early k → ⊥
   none_early k s early = by (shows_early k early)
     where
-      by : Contains (heard_takes is k) AtEnd ⊎ (HasFault (given core k) ⊎ ((LIMIT ≤ length (given core k)) ⊎ Contains (heard_takes is k) Broken)) → ⊥
+      by : Contains (heard_takes is k) AtEnd ⊎ (HasFault (gave_in core k) ⊎ ((LIMIT ≤ length (gave_in core k)) ⊎ Contains (heard_takes is k) Broken)) → ⊥
       by (inl ended) = endless k s ended
       by (inr (inl fault)) = no_fault k s.0 (for_calls k s) fault
       by (inr (inr (inl most))) = let few = quiet.few k s in let z : ⊥ = omega (arith, most, few) in z
       by (inr (inr (inr broken))) = quiet.whole k s broken
 
   -- so it isn't failing
-  unfailing : (k : ℕ) → HasServer script turns core is k → told.IsFailing (plan_of script) (all_tasks script) core.outcomes fixed (given core) orders k → ⊥
+  unfailing : (k : ℕ) → HasServer script turns core is k → told.IsFailing (plan_of script) (all_tasks script) core.outcomes fixed (gave_in core) orders k → ⊥
   unfailing k s (inl (f, there, counts)) = let w = all_at (IsFail (all_tasks script) core.outcomes) fixed.fails (f, k) tells.are (has_from fixed.fails (f, k) there) in quiet.no_fail w.client w.task w.name w.code w.is w.op
   unfailing k s (inr (inl broken)) = quiet.none_broken k s broken
   unfailing k s (inr (inr (inl early))) = none_early k s early
@@ -98,13 +98,13 @@ module _ (script : List Item) (made : AreMade script) (turns : List Turn) (core 
     -- ## The first attempt
 
     module _ (servers : IsForServers script turns core is fixed orders asked) where
-      no_loss : told.WhyLost (plan_of script) (all_tasks script) core.outcomes fixed (given core) orders client t.number 0 (name_of asked 0) → ⊥
+      no_loss : told.WhyLost (plan_of script) (all_tasks script) core.outcomes fixed (gave_in core) orders client t.number 0 (name_of asked 0) → ⊥
       no_loss (told.WasFailing k (slot, version, life) failing) = unfailing k (servers k slot version life) failing
       no_loss (told.RunEnding late) = quiet.none_late client t asked it op late
       no_loss (told.WasUnopened later c m some_ few behind none_) = let z : ⊥ = omega (arith, later) in z
 
       abbrev At : ℕ → ℕ → Type 0
-      At k i = told.IsAt (plan_of script) (all_tasks script) core.outcomes fixed (given core) orders t.number 0 k i
+      At k i = told.IsAt (plan_of script) (all_tasks script) core.outcomes fixed (gave_in core) orders t.number 0 k i
 
       -- a message of it that a link accepted is the request, on a link of its name
       pub record IsOwn (k : ℕ) (a : Accepted) : Type 0 where
@@ -118,12 +118,12 @@ module _ (script : List Item) (made : AreMade script) (turns : List Turn) (core 
         pub life : Made_ (name_of asked 0) k slot version
 
       own : (k i : ℕ) (w : At k i) → IsOwn k w.1
-      own k i (low, a, at, number, attempt) = by (all_at (told.IsSent (plan_of script) (all_tasks script) core.outcomes fixed (given core) orders tells.last k) (orders k).accepted a (tells.sent k low) (i, at))
+      own k i (low, a, at, number, attempt) = by (all_at (told.IsSent (plan_of script) (all_tasks script) core.outcomes fixed (gave_in core) orders tells.last k) (orders k).accepted a (tells.sent k low) (i, at))
         where
           same_op : (c : ℕ) (u : Task) → Task_ c u → u.number ≡ a.operation → u.op ≡ ops.Call asked
           same_op c u it' numbered = ap (λ (x : Task). x.op) (same_task script made turns core is fixed orders tells ids c client u t it' it (numbered ∙ number)) ∙ op
 
-          by : told.IsSent (plan_of script) (all_tasks script) core.outcomes fixed (given core) orders tells.last k a → IsOwn k a
+          by : told.IsSent (plan_of script) (all_tasks script) core.outcomes fixed (gave_in core) orders tells.last k a → IsOwn k a
           by (OfSend c u name slot version it' numbered op' first life untold) = absurd (let e : ops.Send name a.bytes ≡ ops.Call asked = sym op' ∙ same_op c u it' numbered in cc)
           by (OfCall c u asked' outcome id slot version it' numbered op' became shows last bytes life) = let e : ops.Call asked' ≡ ops.Call asked = sym op' ∙ same_op c u it' numbered in let named : asked' ≡ asked = cc in record {
             outcome = outcome;
@@ -139,7 +139,7 @@ module _ (script : List Item) (made : AreMade script) (turns : List Turn) (core 
       no_drop : (k i : ℕ) → At k i → (orders k).placed ≤ i → ⊥
       no_drop k i w dropped = let o = own k i w in let inside = slice_get_within (orders k).accepted i w.1 w.2 in unfailing k (servers k o.slot o.version o.life) (tells.dropped k w.0 (omega (arith, inside, dropped)))
 
-      no_again : told.WhyAgain (plan_of script) (all_tasks script) core.outcomes fixed (given core) orders client t.number 0 (name_of asked 0) → ⊥
+      no_again : told.WhyAgain (plan_of script) (all_tasks script) core.outcomes fixed (gave_in core) orders client t.number 0 (name_of asked 0) → ⊥
       no_again (told.AfterDrop w) = no_drop w.0 w.1 w.2 w.3
       no_again (told.AfterLoss out lost) = no_loss lost
       no_again (told.AfterFull out full) = quiet.unfull client t asked it op out full
@@ -159,7 +159,7 @@ module _ (script : List Item) (made : AreMade script) (turns : List Turn) (core 
         same_id y j became' shows' = let a : Some (Some y) ≡ Some (Some x) = sym became' ∙ became in let same : y ≡ x = cc in let b : Some j ≡ Some id = sym shows' ∙ (ap shown_id same ∙ shows) in cc
 
         -- a response of the call that came is the reply to its request
-        own_reply : (k n : ℕ) (frame : Frame) → told.Gave (plan_of script) (all_tasks script) core.outcomes fixed (given core) orders k n frame → told.IsResponse (plan_of script) (all_tasks script) core.outcomes fixed (given core) orders asked id frame
+        own_reply : (k n : ℕ) (frame : Frame) → told.Gave (plan_of script) (all_tasks script) core.outcomes fixed (gave_in core) orders k n frame → told.IsResponse (plan_of script) (all_tasks script) core.outcomes fixed (gave_in core) orders asked id frame
             → reply (request_with asked (id + 1)) ≡ Some frame
         own_reply k n frame (low, there) (some_, above, below) = by (within (link_shapes script) k (let m = shapes_many script in omega (arith, low, m)))
           where
@@ -181,7 +181,7 @@ module _ (script : List Item) (made : AreMade script) (turns : List Turn) (core 
 
             by_server : (shape : Shape) → slice_get (link_shapes script) k ≡ Some shape → (b : Bool) → shape.serve ≡ b → reply (request_with asked (id + 1)) ≡ Some frame
             by_server shape at true serves = let s : HasServer script turns core is k = (shape, at, serves) in of_reply (call_replies k n shape frame (for_calls k s) there)
-            by_server shape at false none_ = absurd (none_given (given core k) n frame (quiet.silent k shape at (λ serves. let z : false ≡ true = sym none_ ∙ serves in cc)) there)
+            by_server shape at false none_ = absurd (none_given (gave_in core k) n frame (quiet.silent k shape at (λ serves. let z : false ≡ true = sym none_ ∙ serves in cc)) there)
 
             by : (shape : Shape) × (slice_get (link_shapes script) k ≡ Some shape) → reply (request_with asked (id + 1)) ≡ Some frame
             by (shape, at) = by_server shape at shape.serve refl
@@ -190,7 +190,7 @@ module _ (script : List Item) (made : AreMade script) (turns : List Turn) (core 
 
         module _ (unexpired : IsUnexpired script turns core is fixed orders t.number) where
           -- the link of its name gave the reply to it
-          no_end : (k : ℕ) → told.EndedWith (plan_of script) (all_tasks script) core.outcomes fixed (given core) orders asked t.number 0 (name_of asked 0) id k → ⊥
+          no_end : (k : ℕ) → told.EndedWith (plan_of script) (all_tasks script) core.outcomes fixed (gave_in core) orders asked t.number 0 (name_of asked 0) id k → ⊥
           no_end k w = by w.lost
             where
               s : HasServer script turns core is k
@@ -228,17 +228,17 @@ module _ (script : List Item) (made : AreMade script) (turns : List Turn) (core 
                     few = quiet.few k s;
                   }
 
-                  h : Has (stream (given core k)).frames g
+                  h : Has (stream (gave_in core k)).frames g
                   h = reply_there script made turns core is fixed orders tells ids k (link_low k s) (for_calls k s).unsent s.0 (quiet.no_end k s.0 s.1) (replies k s.0 served) f g
                       (request_there script made turns core is fixed orders tells ids k (link_low k s) (for_calls k s).unsent i at.1 f at.2 placed is_request) refl
 
-              by : told.IsFailing (plan_of script) (all_tasks script) core.outcomes fixed (given core) orders k ⊎ (told.StandsOn (plan_of script) (all_tasks script) core.outcomes fixed (given core) orders t.number 0 k
-                  ⊎ (told.IsUnordered (plan_of script) (all_tasks script) core.outcomes fixed (given core) orders t.number 0 × told.WasFull (plan_of script) (all_tasks script) core.outcomes fixed (given core) orders)) → ⊥
+              by : told.IsFailing (plan_of script) (all_tasks script) core.outcomes fixed (gave_in core) orders k ⊎ (told.StandsOn (plan_of script) (all_tasks script) core.outcomes fixed (gave_in core) orders t.number 0 k
+                  ⊎ (told.IsUnordered (plan_of script) (all_tasks script) core.outcomes fixed (gave_in core) orders t.number 0 × told.WasFull (plan_of script) (all_tasks script) core.outcomes fixed (gave_in core) orders)) → ⊥
               by (inl failing) = unfailing k s failing
               by (inr (inl (i, at))) = ⊎_elim (λ placed. answered i at placed) (λ dropped. no_drop k i at dropped) (below_or_not i (orders k).placed)
               by (inr (inr (out, full))) = quiet.unfull client t asked it op out full
 
-          failed : (code : ℕ) → told.FailedBy (plan_of script) (all_tasks script) core.outcomes fixed (given core) orders client t.number asked id code 0 → ⊥
+          failed : (code : ℕ) → told.FailedBy (plan_of script) (all_tasks script) core.outcomes fixed (gave_in core) orders client t.number asked id code 0 → ⊥
           failed code (told.ByExpiry e (inl w)) = unexpired w.0 w.1 w.2 w.3
           failed code (told.ByExpiry e (inr w)) = unexpired w.0 w.1 w.2 w.3
           failed code (told.ByCompression e (k, n, frame, gave, response, compressed)) = compressed (reply_says asked (id + 1) frame (own_reply k n frame gave response)).uncompressed
@@ -251,18 +251,18 @@ module _ (script : List Item) (made : AreMade script) (turns : List Turn) (core 
       -- ## Its outcome
 
       module _ (unexpired : IsUnexpired script turns core is fixed orders t.number) where
-        by_why : (x : Outcome) → Became_ t.number x → told.WhyCall (plan_of script) (all_tasks script) core.outcomes fixed (given core) orders tells.last client t.number asked x → CallIsDone script turns core is fixed orders client t.number asked x
+        by_why : (x : Outcome) → Became_ t.number x → told.WhyCall (plan_of script) (all_tasks script) core.outcomes fixed (gave_in core) orders tells.last client t.number asked x → CallIsDone script turns core is fixed orders client t.number asked x
         by_why Unopened became why = inr (refl, why)
         by_why (Answered id payload attachment) became (k, n, frame, gave, response, ((uncompressed, r, there, code), p, a)) =
             inl (id, frame, r, own_reply (Answered id payload attachment) id became refl k n frame gave response, there, gives_answer id r.code frame payload attachment code p a)
         by_why (Peer id code) became ((k, n, frame, gave, response, (uncompressed, r, there, same)), other) =
             inl (id, frame, r, own_reply (Peer id code) id became refl k n frame gave response, there, subst (λ c. Gives id c frame (Peer id code)) (sym same) (gives_peer id code frame other))
         by_why (CallFailed id code) became why = absurd (failed (CallFailed id code) id became refl unexpired code
-            (subst (λ n. told.FailedBy (plan_of script) (all_tasks script) core.outcomes fixed (given core) orders client t.number asked id code n) last_first why))
+            (subst (λ n. told.FailedBy (plan_of script) (all_tasks script) core.outcomes fixed (gave_in core) orders client t.number asked id code n) last_first why))
         by_why other became why = absurd why
 
   -- each call whose first name has links with the server alone, and that no `expire` names, is done
   pub served_call_done : (client : ℕ) (t : Task) (asked : Asked) (outcome : Outcome) → Task_ client t → t.op ≡ ops.Call asked → Became_ t.number outcome → IsForServers script turns core is fixed orders asked → IsUnexpired script turns core is fixed orders t.number
       → CallIsDone script turns core is fixed orders client t.number asked outcome
   served_call_done client t asked outcome it op became servers unexpired = by_why asked client t it op servers unexpired outcome became
-      (subst (λ z. told.Why (plan_of script) (all_tasks script) core.outcomes fixed (given core) orders tells.last client t.number z outcome) op (tells.why client t outcome it became))
+      (subst (λ z. told.Why (plan_of script) (all_tasks script) core.outcomes fixed (gave_in core) orders tells.last client t.number z outcome) op (tells.why client t outcome it became))

@@ -39,7 +39,7 @@ use Rattle.seat_programs.specs.Scripts.{Reports, all_tasks, IsRunWithCalls}
 use Rattle.served_runs.specs.Below.run_theorems.specs.Heard.{heard_takes, given_by}
 use Rattle.served_runs.specs.Below.run_theorems.proofs.Gave.{gave_heard}
 use Rattle.served_runs.specs.Below.run_theorems.proofs.Starts.{made}
-use Rattle.served_runs.specs.Below.call_stories.specs.Lists.{given, attempts_of_run}
+use Rattle.served_runs.specs.Below.call_stories.specs.Lists.{gave_in, attempts_of_run}
 use Rattle.served_runs.specs.Served.{GivesReplies, GivesLast, GivesNoFault, GivesCallReplies}
 use Rattle.served_calls.specs.Quiet.{AreShown, GivesFew, HasServer, AreEarly, IsQuiet, IsTimely, IsForServers, IsUnexpired, CallIsDone}
 use Rattle.served_runs.proofs.Served.{shapes_many}
@@ -63,10 +63,10 @@ not_true true f = absurd (f refl)
 not_true false f = refl
 
 module _ (bytes : List ℕ) (script : List Item) (reads : script_of bytes ≡ Ok script) (turns : List Turn) (core : Core) (is : IsRunWithCalls script turns core) (fixed : Fixed) (orders : ℕ → Order) (long : length core.outcomes ≡ length (operations script))
-    (tells : ToldCalls (plan_of script) (all_tasks script) core.outcomes fixed (given core) orders core) (report : Report) (took : List (List ℕ)) (ends : List LinkEnd) (reports : Reports script core took report) (told : AreTold ends took)
-    (given_back : AreEndsOf script core fixed (given core) ends) where
+    (tells : ToldCalls (plan_of script) (all_tasks script) core.outcomes fixed (gave_in core) orders core) (report : Report) (took : List (List ℕ)) (ends : List LinkEnd) (reports : Reports script core took report) (told : AreTold ends took)
+    (given_back : AreEndsOf script core fixed (gave_in core) ends) where
   abbrev pub all_given : Given
-  all_given = record { run = known_of bytes script reads core fixed (given core) orders long tells; report = report; took = took; ends = ends; reports = reports; told = told; given = given_back }
+  all_given = record { run = known_of bytes script reads core fixed (gave_in core) orders long tells; report = report; took = took; ends = ends; reports = reports; told = told; given = given_back }
 
   abbrev Task_ : ℕ → Task → Type 0
   Task_ client t = IsTask (all_tasks script) core.outcomes client t
@@ -82,10 +82,10 @@ module _ (bytes : List ℕ) (script : List Item) (reads : script_of bytes ≡ Ok
     faultless k low = all_at (λ (x : LinkEnd). (x.put_faults ≡ 0) × (x.take_faults ≡ 0)) ends (end_of k low).end untroubled.put (has_from ends (end_of k low).end (end_of k low).there)
 
     -- a link without the server gave nothing, and no end
-    unserved : (k : ℕ) (shape : Shape) (low : k < length (link_names script)) → slice_get (link_shapes script) k ≡ Some shape → (IsTrue shape.serve → ⊥) → (given core k ≡ []) × ((end_of k low).end.gave_count ≡ 0) × ((end_of k low).end.gave_end ≡ false)
+    unserved : (k : ℕ) (shape : Shape) (low : k < length (link_names script)) → slice_get (link_shapes script) k ≡ Some shape → (IsTrue shape.serve → ⊥) → (gave_in core k ≡ []) × ((end_of k low).end.gave_count ≡ 0) × ((end_of k low).end.gave_end ≡ false)
     unserved k shape low at none_ = let e = end_of k low in
         let quiet = all_at (IsSilentUnserved script) ends e.end untroubled.unserved (has_from ends e.end e.there) shape (ap (slice_get (link_shapes script)) e.is.numbered ∙ at) (not_true shape.serve none_) in
-        let counted = e.is.counted in let zero_ = quiet.0 in (nil_from_length (given core k) (omega (arith, counted, zero_)), quiet.0, quiet.1)
+        let counted = e.is.counted in let zero_ = quiet.0 in (nil_from_length (gave_in core k) (omega (arith, counted, zero_)), quiet.0, quiet.1)
 
     -- ## The script
 
@@ -106,7 +106,7 @@ module _ (bytes : List ℕ) (script : List Item) (reads : script_of bytes ≡ Ok
         let mentions = mentions_send script t.number w.operation w.there m.0 sent m.1 in let link = lives.link_of all_given name k slot version m.0 (m.2, mentions) life in let x = link_shape k m.0 link in
         untroubled.no_stray m.0 sent (contains_from script (Send m.0 sent) (known.in_script all_given.run t.number w.operation w.there (Send m.0 sent) m.1)) (x.0, x.2, subst (λ (y : Shape). IsTrue y.serve) (some_is s.0 x.0 (sym s.1 ∙ x.1)) s.2)
 
-    unfull : (client : ℕ) (t : Task) (asked : Asked) → Task_ client t → t.op ≡ ops.Call asked → IsUnordered (plan_of script) (all_tasks script) core.outcomes fixed (given core) orders t.number 0 → WasFull (plan_of script) (all_tasks script) core.outcomes fixed (given core) orders → ⊥
+    unfull : (client : ℕ) (t : Task) (asked : Asked) → Task_ client t → t.op ≡ ops.Call asked → IsUnordered (plan_of script) (all_tasks script) core.outcomes fixed (gave_in core) orders t.number 0 → WasFull (plan_of script) (all_tasks script) core.outcomes fixed (gave_in core) orders → ⊥
     unfull client t asked it op out full = let w = task_is script core.outcomes client t it in let m = call_asks (numbered script) (names script) (numbers_at script t.number w.operation) w.operation.item asked (w.asks ∙ ap Some op) in
         let counts = ap attempts_of m.1 in let less = known.fewer all_given.run t.number 0 w.operation w.there (omega (arith, counts)) out in let few_attempts = untroubled.few_attempts in let z : ⊥ = omega (arith, less, full, few_attempts) in z
 
@@ -125,8 +125,8 @@ module _ (bytes : List ℕ) (script : List Item) (reads : script_of bytes ≡ Ok
     early : AreEarly script turns core is fixed orders
     early k there = let e = shown.0 k there in by (gave_heard bytes script reads turns core is k e.0) e.1
       where
-        by : given core k ≡ given_by (heard_takes is k) → Contains (heard_takes is k) AtEnd ⊎ (HasFault (given_by (heard_takes is k)) ⊎ ((reading_limit ≤ length (given_by (heard_takes is k))) ⊎ Contains (heard_takes is k) Broken))
-            → Contains (heard_takes is k) AtEnd ⊎ (HasFault (given core k) ⊎ ((LIMIT ≤ length (given core k)) ⊎ Contains (heard_takes is k) Broken))
+        by : gave_in core k ≡ given_by (heard_takes is k) → Contains (heard_takes is k) AtEnd ⊎ (HasFault (given_by (heard_takes is k)) ⊎ ((reading_limit ≤ length (given_by (heard_takes is k))) ⊎ Contains (heard_takes is k) Broken))
+            → Contains (heard_takes is k) AtEnd ⊎ (HasFault (gave_in core k) ⊎ ((LIMIT ≤ length (gave_in core k)) ⊎ Contains (heard_takes is k) Broken))
         by same (inl ended) = inl ended
         by same (inr (inl fault)) = inr (inl (subst HasFault (sym same) fault))
         by same (inr (inr (inl most))) = inr (inr (inl (let l = ap length same in omega (arith, l, most))))
@@ -158,7 +158,7 @@ module _ (bytes : List ℕ) (script : List Item) (reads : script_of bytes ≡ Ok
       none_early_at : (k : ℕ) → Contains fixed.early k → ⊥
       none_early_at k there = by (within (link_shapes script) k (let l = (shown.0 k there).0 in let m = shapes_many script in omega (arith, l, m)))
         where
-          by_end : (shape : Shape) (low : k < length (link_names script)) → slice_get (link_shapes script) k ≡ Some shape → (IsTrue shape.serve → ⊥) → EndsEarly (given core k) (end_of k low).end → ⊥
+          by_end : (shape : Shape) (low : k < length (link_names script)) → slice_get (link_shapes script) k ≡ Some shape → (IsTrue shape.serve → ⊥) → EndsEarly (gave_in core k) (end_of k low).end → ⊥
           by_end shape low at none_ (inl ended) = let u = unserved k shape low at none_ in let z : false ≡ true = sym u.2 ∙ ended in cc
           by_end shape low at none_ (inr (inl fault)) = no_fault_none (subst HasFault (unserved k shape low at none_).0 fault)
           by_end shape low at none_ (inr (inr (inl most))) = let u = (unserved k shape low at none_).1 in let z : ⊥ = omega (arith, most, u) in z

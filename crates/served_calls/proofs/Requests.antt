@@ -23,7 +23,7 @@ use Rattle.seat_programs.specs.Scripts.{all_tasks, IsRunWithCalls}
 use Rattle.served_runs.specs.Below.outcome_stories.proofs.Members.{contains_in}
 use Rattle.served_runs.specs.Below.outcome_ticks.proofs.Tasks.{one_task}
 use Rattle.served_runs.specs.Below.joint_runs.proofs.Runs.{AreMade}
-use Rattle.served_runs.specs.Below.call_stories.specs.Lists.{given}
+use Rattle.served_runs.specs.Below.call_stories.specs.Lists.{gave_in}
 use Rattle.served_runs.specs.Below.call_stories.proofs.Streams.{frames_stay}
 use Rattle.served_runs.specs.Served.{took_in_all}
 use Rattle.served_runs.proofs.Frames.{IsPiece, piece_frames, pieces_end, IsSmall, request_is, reply_is}
@@ -57,12 +57,12 @@ tiny_small = record { short = omega arith; low = omega arith }
 abbrev pub AreIdsSmall : List Item → Core → Type 0
 AreIdsSmall script core = (client : ℕ) (t : Task) (asked : Asked) (x : Outcome) (id : ℕ) → IsTask (all_tasks script) core.outcomes client t → t.op ≡ ops.Call asked → Became (all_tasks script) core.outcomes t.number x → shown_id x ≡ Some id → id < 281474976710656
 
-module _ (script : List Item) (made : AreMade script) (turns : List Turn) (core : Core) (is : IsRunWithCalls script turns core) (fixed : Fixed) (orders : ℕ → Order) (tells : ToldCalls (plan_of script) (all_tasks script) core.outcomes fixed (given core) orders core) (ids : AreIdsSmall script core) where
+module _ (script : List Item) (made : AreMade script) (turns : List Turn) (core : Core) (is : IsRunWithCalls script turns core) (fixed : Fixed) (orders : ℕ → Order) (tells : ToldCalls (plan_of script) (all_tasks script) core.outcomes fixed (gave_in core) orders core) (ids : AreIdsSmall script core) where
   abbrev Task_ : ℕ → Task → Type 0
   Task_ client t = IsTask (all_tasks script) core.outcomes client t
 
   abbrev Sent_ : ℕ → Accepted → Type 0
-  Sent_ k a = IsSent (plan_of script) (all_tasks script) core.outcomes fixed (given core) orders tells.last k a
+  Sent_ k a = IsSent (plan_of script) (all_tasks script) core.outcomes fixed (gave_in core) orders tells.last k a
 
   -- a number is one task's
   pub same_task : (c d : ℕ) (t u : Task) → Task_ c t → Task_ d u → t.number ≡ u.number → t ≡ u
@@ -125,15 +125,15 @@ module _ (script : List Item) (made : AreMade script) (turns : List Turn) (core 
     request_there i a f at placed frame = subst (λ l. Has (stream l).frames f) (sym taken.took_is) (piece_has bytes_of IsCalled (take (orders k).placed accepted) placed_pieces a f (i, take_at (orders k).placed accepted i a at placed) frame taken.cut)
 
     -- where it gave the replies to all that it took, the reply to such a frame is among them
-    pub reply_there : (shape : Shape) → shape.end ≡ None → given core k ≡ given_for shape took → (f g : Frame) → Has (stream took).frames f → reply f ≡ Some g → Has (stream (given core k)).frames g
+    pub reply_there : (shape : Shape) → shape.end ≡ None → gave_in core k ≡ given_for shape took → (f g : Frame) → Has (stream took).frames f → reply f ≡ Some g → Has (stream (gave_in core k)).frames g
     reply_there shape endless gives f g there is = subst (λ l. Has (stream l).frames g) (append-nil (flat_map frame_bytes (reply_frames took)) ∙ sym all) (piece_has frame_bytes Any (reply_frames took) (replies_whole (stream took).frames took_called) g g
         (has_filter_map reply (stream took).frames f g there is) (let w = all_at IsCalled (stream took).frames f took_called there in (reply_is w.asked w.id w.attempt g w.small (sym (ap reply w.frame) ∙ is)).0) [])
       where
-        all : given core k ≡ flat_map frame_bytes (reply_frames took)
+        all : gave_in core k ≡ flat_map frame_bytes (reply_frames took)
         all = gives ∙ ap (λ e. flat_map frame_bytes (first_of e (reply_frames took))) endless
 
     -- a link without `end` gave no last reply: a request more has one more
-    pub never_last : (shape : Shape) → shape.end ≡ None → ((more : List ℕ) → given core k ≡ given_for shape (took ++ more)) → ⊥
+    pub never_last : (shape : Shape) → shape.end ≡ None → ((more : List ℕ) → gave_in core k ≡ given_for shape (took ++ more)) → ⊥
     never_last shape endless last = let r = reply_more (stream all).frames (stream one).frames f g there refl in let e = ap length same in let z : ⊥ = omega (arith, r, e) in z
       where
         all : List ℕ
@@ -154,10 +154,10 @@ module _ (script : List Item) (made : AreMade script) (turns : List Turn) (core 
         given_as : (bytes : List ℕ) → given_for shape bytes ≡ flat_map frame_bytes (filter_map reply (stream bytes).frames)
         given_as bytes = ap (λ e. flat_map frame_bytes (first_of e (reply_frames bytes))) endless
 
-        before : given core k ≡ flat_map frame_bytes (filter_map reply (stream all).frames)
+        before : gave_in core k ≡ flat_map frame_bytes (filter_map reply (stream all).frames)
         before = last whole.0 ∙ (ap (given_for shape) whole.1 ∙ given_as all)
 
-        behind : given core k ≡ flat_map frame_bytes (filter_map reply ((stream all).frames ++ (stream one).frames))
+        behind : gave_in core k ≡ flat_map frame_bytes (filter_map reply ((stream all).frames ++ (stream one).frames))
         behind = last (whole.0 ++ one) ∙ (ap (given_for shape) (sym (append_assoc took whole.0 one) ∙ ap (λ l. l ++ one) whole.1) ∙ (given_as (all ++ one)
             ∙ ap (λ l. flat_map frame_bytes (filter_map reply l)) (frames_then all one (pieces_end bytes_of IsCalled accepted pieces 0))))
 

@@ -25,7 +25,7 @@ use Rattle.seat_programs.specs.ToldCalls.{Order, Fixed, ToldCalls}
 use Rattle.seat_programs.specs.Scripts.{Reports, all_tasks, IsRunWithCalls}
 use Rattle.served_runs.specs.Below.call_owing.specs.Lives.{ClosesInRun}
 use Rattle.served_runs.specs.Below.run_theorems.proofs.Starts.{made}
-use Rattle.served_runs.specs.Below.call_stories.specs.Lists.{given, attempts_of_run}
+use Rattle.served_runs.specs.Below.call_stories.specs.Lists.{gave_in, attempts_of_run}
 use Rattle.served_runs.specs.Offered.{OffersInRun}
 use Rattle.served_runs.proofs.Own.{id_small}
 use Rattle.served_runs.proofs.Served.{gives_replies, gives_last, gives_no_fault, gives_call_replies}
@@ -33,7 +33,7 @@ use Rattle.served_calls.specs.Quiet.{AreShown, GivesFew, IsTimely}
 use Rattle.served_calls.proofs.Calm.{all_given, served_run}
 
 module _ (bytes : List ℕ) (script : List Item) (reads : script_of bytes ≡ Ok script) (turns : List Turn) (core : Core) (is : IsRunWithCalls script turns core) (closes : ClosesInRun script turns core is) (offers : OffersInRun script turns core is) (fixed : Fixed) (orders : ℕ → Order)
-    (long : length core.outcomes ≡ length (operations script)) (tells : ToldCalls (plan_of script) (all_tasks script) core.outcomes fixed (given core) orders core)
+    (long : length core.outcomes ≡ length (operations script)) (tells : ToldCalls (plan_of script) (all_tasks script) core.outcomes fixed (gave_in core) orders core)
     (last_is : (client : ℕ) (t : Task) (asked : Asked) → IsTask (all_tasks script) core.outcomes client t → t.op ≡ ops.Call asked → tells.last t.number ≡ attempts_of_run script turns core is t.number) where
   there : AreThere script
   there = are_there bytes script reads
@@ -42,7 +42,7 @@ module _ (bytes : List ℕ) (script : List Item) (reads : script_of bytes ≡ Ok
   range = (is_counted bytes script reads).in_range
 
   -- its report fits the script and the links, and where nothing went wrong it is complete
-  pub offered_run : (report : Report) (took : List (List ℕ)) (ends : List LinkEnd) (reports : Reports script core took report) (told : AreTold ends took) (given_back : AreEndsOf script core fixed (given core) ends)
+  pub offered_run : (report : Report) (took : List (List ℕ)) (ends : List LinkEnd) (reports : Reports script core took report) (told : AreTold ends took) (given_back : AreEndsOf script core fixed (gave_in core) ends)
       → AreShown script turns core is fixed ends → (IsUntroubled script ends → GivesFew script turns core is) → (IsUntroubled script ends → IsTimely script turns core is fixed orders)
       → FitsRun (run_of (all_given bytes script reads turns core is fixed orders long tells report took ends reports told given_back)) × Completeness (run_of (all_given bytes script reads turns core is fixed orders long tells report took ends reports told given_back))
   offered_run report took ends reports told given_back shown few timely = served_run bytes script reads turns core is fixed orders long tells report took ends reports told given_back shown few timely
@@ -50,7 +50,7 @@ module _ (bytes : List ℕ) (script : List Item) (reads : script_of bytes ≡ Ok
       (gives_replies script (made bytes script reads) there range turns core is closes offers) (gives_call_replies script (made bytes script reads) there range turns core is closes offers)
       (gives_no_fault script (made bytes script reads) there range turns core is closes offers) (gives_last script (made bytes script reads) there range turns core is closes offers)
 
-  pub offered_fits : (report : Report) (took : List (List ℕ)) (ends : List LinkEnd) (reports : Reports script core took report) (told : AreTold ends took) (given_back : AreEndsOf script core fixed (given core) ends)
+  pub offered_fits : (report : Report) (took : List (List ℕ)) (ends : List LinkEnd) (reports : Reports script core took report) (told : AreTold ends took) (given_back : AreEndsOf script core fixed (gave_in core) ends)
       → AreShown script turns core is fixed ends → (IsUntroubled script ends → GivesFew script turns core is) → (IsUntroubled script ends → IsTimely script turns core is fixed orders) → FitsWhole script (report_text script report) ends (lateness fixed)
   offered_fits report took ends reports told given_back shown few timely =
       (report, story_of (all_given bytes script reads turns core is fixed orders long tells report took ends reports told given_back), refl, offered_run report took ends reports told given_back shown few timely)

@@ -22,7 +22,7 @@ use Rattle.seat_programs.specs.ToldCalls.{Fixed, Order, FoundNone, IsUnordered, 
 use Rattle.seat_programs.specs.Scripts.{all_tasks, IsRunWithCalls}
 use Rattle.served_runs.specs.Below.outcome_stories.specs.Facts.{late_links_of_run}
 use Rattle.served_runs.specs.Below.run_theorems.specs.Heard.{heard_takes, given_by}
-use Rattle.served_runs.specs.Below.call_stories.specs.Lists.{given}
+use Rattle.served_runs.specs.Below.call_stories.specs.Lists.{gave_in}
 use Rattle.served_runs.specs.Served.{request_with}
 
 -- the call with this outcome has what the reply to the request of its first attempt gives
@@ -36,7 +36,7 @@ module _ (script : List Item) (turns : List Turn) (core : Core) (is : IsRunWithC
 
   -- links with the server gave less than is read at most
   abbrev pub GivesFew : Type 0
-  GivesFew = (k : ℕ) → HasServer k → length (given core k) < LIMIT
+  GivesFew = (k : ℕ) → HasServer k → length (gave_in core k) < LIMIT
 
   -- what the list of early readings shows, as the links tell it, and which links show that a take failed
   abbrev pub AreShown : Fixed → List LinkEnd → Type 0
@@ -46,7 +46,7 @@ module _ (script : List Item) (turns : List Turn) (core : Core) (is : IsRunWithC
   module _ (fixed : Fixed) (orders : ℕ → Order) where
     -- what the list of readings that ended early shows
     abbrev pub AreEarly : Type 0
-    AreEarly = (k : ℕ) → Contains fixed.early k → Contains (heard_takes is k) AtEnd ⊎ (HasFault (given core k) ⊎ ((LIMIT ≤ length (given core k)) ⊎ Contains (heard_takes is k) Broken))
+    AreEarly = (k : ℕ) → Contains fixed.early k → Contains (heard_takes is k) AtEnd ⊎ (HasFault (gave_in core k) ⊎ ((LIMIT ≤ length (gave_in core k)) ⊎ Contains (heard_takes is k) Broken))
 
     -- nothing of the script, and nothing that the links did, can make a call fail
     pub record IsQuiet : Type 0 where
@@ -56,13 +56,13 @@ module _ (script : List Item) (turns : List Turn) (core : Core) (is : IsRunWithC
       pub none_broken : (k : ℕ) → HasServer k → Contains fixed.broken k → ⊥
       pub whole : (k : ℕ) → HasServer k → Contains (heard_takes is k) Broken → ⊥
       -- a link without the server gave nothing, and one with it less than is read at most
-      pub silent : (k : ℕ) (shape : Shape) → slice_get (link_shapes script) k ≡ Some shape → (IsTrue shape.serve → ⊥) → given core k ≡ []
+      pub silent : (k : ℕ) (shape : Shape) → slice_get (link_shapes script) k ≡ Some shape → (IsTrue shape.serve → ⊥) → gave_in core k ≡ []
       pub few : GivesFew
       -- and no `send` is to its socket
       pub no_stray : (k client : ℕ) (t : Task) (name slot version : ℕ) (bytes : List ℕ) → HasServer k → IsTask (all_tasks script) core.outcomes client t → t.op ≡ ops.Send name bytes → Made (all_tasks script) core.outcomes name k slot version → ⊥
       -- there are requests for all attempts
-      pub unfull : (client : ℕ) (t : Task) (asked : Asked) → IsTask (all_tasks script) core.outcomes client t → t.op ≡ ops.Call asked → IsUnordered (plan_of script) (all_tasks script) core.outcomes fixed (given core) orders t.number 0
-          → WasFull (plan_of script) (all_tasks script) core.outcomes fixed (given core) orders → ⊥
+      pub unfull : (client : ℕ) (t : Task) (asked : Asked) → IsTask (all_tasks script) core.outcomes client t → t.op ≡ ops.Call asked → IsUnordered (plan_of script) (all_tasks script) core.outcomes fixed (gave_in core) orders t.number 0
+          → WasFull (plan_of script) (all_tasks script) core.outcomes fixed (gave_in core) orders → ⊥
       -- no attempt of a call was begun or ended while the run was ending, and no link became a socket's then
       pub none_late : (client : ℕ) (t : Task) (asked : Asked) → IsTask (all_tasks script) core.outcomes client t → t.op ≡ ops.Call asked → Contains fixed.late t.number → ⊥
       pub no_late_link : (k : ℕ) → Contains fixed.late_links k → ⊥
@@ -84,4 +84,4 @@ module _ (script : List Item) (turns : List Turn) (core : Core) (is : IsRunWithC
 
     -- the call has its reply, or its name had no socket yet
     abbrev pub CallIsDone : ℕ → ℕ → Asked → Outcome → Type 0
-    CallIsDone client o asked outcome = HasReply asked outcome ⊎ ((outcome ≡ Unopened) × FoundNone (plan_of script) (all_tasks script) core.outcomes fixed (given core) orders client o (name_of asked 0))
+    CallIsDone client o asked outcome = HasReply asked outcome ⊎ ((outcome ≡ Unopened) × FoundNone (plan_of script) (all_tasks script) core.outcomes fixed (gave_in core) orders client o (name_of asked 0))

@@ -32,7 +32,7 @@ use Rattle.served_calls.specs.Below.outcome_stories.specs.Facts.{late_links_of_r
 use Rattle.served_calls.specs.Below.call_owing.specs.Lives.{ClosesInRun}
 use Rattle.served_calls.specs.Below.run_theorems.proofs.Lengths.{ended_length}
 use Rattle.served_calls.specs.Below.run_theorems.proofs.Starts.{made}
-use Rattle.served_calls.specs.Below.call_stories.specs.Lists.{given}
+use Rattle.served_calls.specs.Below.call_stories.specs.Lists.{gave_in}
 use Rattle.served_calls.specs.served_runs.specs.Offered.{OffersInRun}
 use Rattle.served_calls.specs.served_runs.specs.Served.{IsServed, took_in_all}
 use Rattle.served_calls.specs.served_runs.proofs.Model.{link_own_replies}
@@ -42,8 +42,8 @@ use Rattle.served_calls.proofs.Shown.{outcome_there, both_told}
 use Rattle.served_fits.specs.Shown.{TellTook}
 
 module _ (bytes : List ℕ) (script : List Item) (reads : script_of bytes ≡ Ok script) (turns : List Turn) (core : Core) (is : IsRunWithCalls script turns core) (closes : ClosesInRun script turns core is) (offers : OffersInRun script turns core is) (fixed : Fixed)
-    (orders : ℕ → Order) (tells : ToldCalls (plan_of script) (all_tasks script) core.outcomes fixed (given core) orders core) (report : Report) (took : List (List ℕ)) (ends : List LinkEnd)
-    (reports : Reports script core took report) (told : AreTold ends took) (given_back : AreEndsOf script core fixed (given core) ends) where
+    (orders : ℕ → Order) (tells : ToldCalls (plan_of script) (all_tasks script) core.outcomes fixed (gave_in core) orders core) (report : Report) (took : List (List ℕ)) (ends : List LinkEnd)
+    (reports : Reports script core took report) (told : AreTold ends took) (given_back : AreEndsOf script core fixed (gave_in core) ends) where
   there : AreThere script
   there = are_there bytes script reads
 
@@ -51,7 +51,7 @@ module _ (bytes : List ℕ) (script : List Item) (reads : script_of bytes ≡ Ok
   range = (is_counted bytes script reads).in_range
 
   abbrev pub all_given : Given
-  all_given = record { run = known_of bytes script reads core fixed (given core) orders (ended_length bytes script reads turns core is) tells; report = report; took = took; ends = ends; reports = reports; told = told; given = given_back }
+  all_given = record { run = known_of bytes script reads core fixed (gave_in core) orders (ended_length bytes script reads turns core is) tells; report = report; took = took; ends = ends; reports = reports; told = told; given = given_back }
 
   -- the run that is reported
   abbrev pub reported : Run
@@ -72,8 +72,8 @@ module _ (bytes : List ℕ) (script : List Item) (reads : script_of bytes ≡ Ok
       record { name = n; slot = slot; version = version; life = record { client = w.operation.client; task = record { number = i; op = ops.Open n k }; is = w.is; op = refl; became = b } }
 
   -- the link of this number as it was given back
-  end_of : (k : ℕ) (e : LinkEnd) → Contains ends e → e.link ≡ k → length (given core k) ≡ e.gave_count
-  end_of k e has numbered = let h = has_from ends e has in let x = given_back.each h.0 e h.1 in subst (λ j. length (given core j) ≡ e.gave_count) (sym x.numbered ∙ numbered) x.counted
+  end_of : (k : ℕ) (e : LinkEnd) → Contains ends e → e.link ≡ k → length (gave_in core k) ≡ e.gave_count
+  end_of k e has numbered = let h = has_from ends e has in let x = given_back.each h.0 e h.1 in subst (λ j. length (gave_in core j) ≡ e.gave_count) (sym x.numbered ∙ numbered) x.counted
 
   module _ (late : (k : ℕ) → Contains (late_links_of_run script turns core is) k → Contains fixed.late_links k) (shown : AreShown script turns core is fixed ends) where
     served : (k : ℕ) (shape : Shape) → model.IsServedLink reported k shape → IsServed script turns core is k shape

@@ -22,7 +22,7 @@ use Rattle.served_calls.specs.Below.call_owing.specs.Lives.{ClosesInRun}
 use Rattle.served_calls.specs.Below.run_theorems.proofs.Lengths.{ended_length}
 use Rattle.served_calls.specs.Below.run_theorems.proofs.Starts.{made}
 use Rattle.served_calls.specs.Below.run_theorems.proofs.Unjoined.{no_join}
-use Rattle.served_calls.specs.Below.call_stories.specs.Lists.{given}
+use Rattle.served_calls.specs.Below.call_stories.specs.Lists.{gave_in}
 use Rattle.served_calls.specs.served_runs.specs.Offered.{OffersInRun}
 use Rattle.calm_runs.proofs.Nothing.{nothing_behind, nothing_late}
 use Rattle.served_calls.specs.Quiet.{AreShown, GivesFew, IsTimely}
@@ -50,8 +50,8 @@ nothing_there : (x : ℕ) (l : List ℕ) → l ≡ [] → Contains l x → ⊥
 nothing_there x l none_ there = has_none x (subst (λ (m : List ℕ). Has m x) none_ (has_from l x there))
 
 module _ (bytes : List ℕ) (script : List Item) (reads : script_of bytes ≡ Ok script) (short : length bytes ≤ 1048576) (turns : List Turn) (core : Core) (is : IsRunWithCalls script turns core) (closes : ClosesInRun script turns core is) (offers : OffersInRun script turns core is) (fixed : Fixed)
-    (orders : ℕ → Order) (tells : ToldCalls (plan_of script) (all_tasks script) core.outcomes fixed (given core) orders core) (so : AreSo script turns core is fixed tells.last) (report : Report) (took : List (List ℕ)) (ends : List LinkEnd)
-    (reports : Reports script core took report) (told : AreTold ends took) (given_back : AreEndsOf script core fixed (given core) ends) (shown : AreShown script turns core is fixed ends) where
+    (orders : ℕ → Order) (tells : ToldCalls (plan_of script) (all_tasks script) core.outcomes fixed (gave_in core) orders core) (so : AreSo script turns core is fixed tells.last) (report : Report) (took : List (List ℕ)) (ends : List LinkEnd)
+    (reports : Reports script core took report) (told : AreTold ends took) (given_back : AreEndsOf script core fixed (gave_in core) ends) (shown : AreShown script turns core is fixed ends) where
   timely : IsInTime script turns core is → IsTimely script turns core is fixed orders
   timely none_ = record {
     none_late = λ o op at late. nothing_there o (late_of_run script turns core is) none_.1 (so.late o late);

@@ -20,7 +20,7 @@ use Rattle.send_causes.specs.Below.programs_allowed.specs.sock_runs.proofs.LinkT
 use Rattle.send_causes.specs.Below.outcome_stories.specs.Stories.{In}
 use Rattle.send_causes.specs.Below.call_owing.proofs.EndsStill.{run_ending}
 use Rattle.send_causes.specs.Below.run_theorems.specs.Heard.{as_taken, taken_link, taken_at, bytes_found}
-use Rattle.send_causes.specs.Below.call_stories.specs.Lists.{given}
+use Rattle.send_causes.specs.Below.call_stories.specs.Lists.{gave_in}
 use Rattle.send_causes.specs.Below.ended_calls.proofs.EndedTicks.{seats_else}
 use Rattle.send_causes.specs.Below.accept_counts.proofs.Readings.{IsTake, takes_or_not}
 use Rattle.served_runs.specs.Offered.{IsDone, offered_by, GaveAll, GaveLast, IsOfferedSo, OffersAt, IsOffered}
@@ -35,17 +35,17 @@ module _ (script : List Item) (k o : ℕ) (shape : Shape) (Fails : Type 0) where
 
   -- how a reading is over: by what the link gave, since it failed, or since it gave all
   abbrev pub IsOverSo : Core → Type 0
-  IsOverSo c = IsBad (given c k) ⊎ (Fails ⊎ GaveFor c)
+  IsOverSo c = IsBad (gave_in c k) ⊎ (Fails ⊎ GaveFor c)
 
   pub record Holds (c : Core) : Type 0 where
     pub last : Bool
-    pub reader : HasReader (plan_of script) (calls script) k o (given c k) last (Word (plan_of script) (calls script) k o c) c
+    pub reader : HasReader (plan_of script) (calls script) k o (gave_in c k) last (Word (plan_of script) (calls script) k o c) c
     pub over : last ≡ true → IsOverSo c
 
   -- ## What a tick keeps
 
   module _ (retries : RetriesGo (plan_of script)) (c : Core) (vs : List View) (m : Moment) (sound : Sound (plan_of script) c vs) (answered : IsAnswered c m) (fitting : IsFitting (plan_of script) c m) (quiet : c.calls.ending ≡ true → IsPut (plan_of script) k c m → ⊥)
-      (same : given (ticked (plan_of script) c m) k ≡ given c k) where
+      (same : gave_in (ticked (plan_of script) c m) k ≡ gave_in c k) where
     lay : AllLay (plan_of script) k c m (ticked (plan_of script) c m)
     lay = all_lay (plan_of script) k retries c vs m sound answered fitting
 
@@ -82,11 +82,11 @@ module _ (script : List Item) (k o : ℕ) (shape : Shape) (Fails : Type 0) where
     next = ticked (plan_of script) c m
 
     -- where no bytes of the link are taken
-    kept : given next k ≡ given c k → HasReader (plan_of script) (calls script) k o (given c k) before.last (Word (plan_of script) (calls script) k o c) next → Holds next
+    kept : gave_in next k ≡ gave_in c k → HasReader (plan_of script) (calls script) k o (gave_in c k) before.last (Word (plan_of script) (calls script) k o c) next → Holds next
     kept same reader = record {
       last = before.last;
       reader = subst (λ g. HasReader (plan_of script) (calls script) k o g before.last (Word (plan_of script) (calls script) k o next) next) (sym same)
-          (reader_word (plan_of script) (calls script) k o (given c k) before.last (Word (plan_of script) (calls script) k o c) (Word (plan_of script) (calls script) k o next) next stays reader);
+          (reader_word (plan_of script) (calls script) k o (gave_in c k) before.last (Word (plan_of script) (calls script) k o c) (Word (plan_of script) (calls script) k o next) next stays reader);
       over = λ e. over_on retries c vs m sound answered fitting quiet same (before.over e);
     }
 
@@ -120,29 +120,29 @@ module _ (script : List Item) (k o : ℕ) (shape : Shape) (Fails : Type 0) where
         found : Taking
         found = at_last c.calls.ending told.0
 
-        took : Takes (plan_of script) (calls script) k o c m own seat at (given c k) before.last before.reader (at_last c.calls.ending told.0)
-        took = reader_takes (plan_of script) (calls script) k o c m own seat at (given c k) before.last before.reader t told.0 told.1
+        took : Takes (plan_of script) (calls script) k o c m own seat at (gave_in c k) before.last before.reader (at_last c.calls.ending told.0)
+        took = reader_takes (plan_of script) (calls script) k o c m own seat at (gave_in c k) before.last before.reader t told.0 told.1
 
-        gave : given next k ≡ given c k ++ bytes_found (at_last c.calls.ending told.0)
-        gave = ap (λ d. given d k) took.after ∙ gave_more (plan_of script) k c m seat took.next (at_last c.calls.ending told.0) low
+        gave : gave_in next k ≡ gave_in c k ++ bytes_found (at_last c.calls.ending told.0)
+        gave = ap (λ d. gave_in d k) took.after ∙ gave_more (plan_of script) k c m seat took.next (at_last c.calls.ending told.0) low
 
         over : (before.last || is_last (at_last c.calls.ending told.0)) ≡ true → IsOverSo next
         over e = let x = ends_so c.calls.ending refl told.0 t.room told.2 (or_last before.last (is_last (at_last c.calls.ending told.0)) took.time e) (offers t (no_two t.link (sym t.takes ∙ took.link)) told.0 told.1)
             (λ broken. fails (shown took.link (told.1 ∙ ap OfTake broken))) in
-            over_on retries c vs m sound answered fitting quiet (gave ∙ (ap (λ l. given c k ++ l) x.1 ∙ append-nil (given c k))) (inr x.0)
+            over_on retries c vs m sound answered fitting quiet (gave ∙ (ap (λ l. gave_in c k ++ l) x.1 ∙ append-nil (gave_in c k))) (inr x.0)
 
         after_take : Holds next
         after_take = record {
           last = before.last || is_last (at_last c.calls.ending told.0);
           reader = subst (λ g. HasReader (plan_of script) (calls script) k o g (before.last || is_last (at_last c.calls.ending told.0)) (Word (plan_of script) (calls script) k o next) next) (sym gave)
-              (reader_word (plan_of script) (calls script) k o (given c k ++ bytes_found (at_last c.calls.ending told.0)) (before.last || is_last (at_last c.calls.ending told.0)) (Word (plan_of script) (calls script) k o c) (Word (plan_of script) (calls script) k o next) next stays took.reader);
+              (reader_word (plan_of script) (calls script) k o (gave_in c k ++ bytes_found (at_last c.calls.ending told.0)) (before.last || is_last (at_last c.calls.ending told.0)) (Word (plan_of script) (calls script) k o c) (Word (plan_of script) (calls script) k o next) next stays took.reader);
           over = over;
         }
 
       own_tick : Holds next
       own_tick = ⊎_elim
           (λ none_. kept (gave_same (plan_of script) k c m (λ s at_s. subst (λ (x : SeatState). filter (λ j. j == k) (taken_link x.program) ≡ []) (some-injective seat s (sym at ∙ at_s)) (ap (filter (λ j. j == k)) none_)))
-          (reader_goes (plan_of script) (calls script) k o c m own seat at (given c k) before.last before.reader none_))
+          (reader_goes (plan_of script) (calls script) k o c m own seat at (gave_in c k) before.last before.reader none_))
           (λ t. after_take t (t.answers m.answer (answered seat at))) (takes_or_not seat.program)
 
     pub holds_tick : Holds next

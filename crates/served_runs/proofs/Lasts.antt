@@ -25,7 +25,7 @@ use Rattle.send_causes.specs.Below.outcome_causes.proofs.Plain.{in_both}
 use Rattle.send_causes.specs.Below.run_theorems.specs.Heard.{as_taken, taken_link, taken_at, taken_in, bytes_found}
 use Rattle.send_causes.specs.Below.run_theorems.proofs.HeardRuns.{taken_append}
 use Rattle.send_causes.specs.Below.run_theorems.proofs.Lengths.{tick_long}
-use Rattle.send_causes.specs.Below.call_stories.specs.Lists.{given}
+use Rattle.send_causes.specs.Below.call_stories.specs.Lists.{gave_in}
 use Rattle.send_causes.specs.Below.accept_counts.proofs.Early.{Any, ends_anyhow}
 use Rattle.send_causes.specs.Below.ended_calls.proofs.EndedTicks.{seats_else}
 use Rattle.send_causes.specs.Below.accept_counts.proofs.ReaderRuns.{keeps_ticks}
@@ -46,15 +46,15 @@ or_true false = refl
 
 module _ (script : List Item) (k o : ℕ) (shape : Shape) where
   abbrev Reader : Bool → Core → Type 0
-  Reader last c = HasReader (plan_of script) (calls script) k o (given c k) last (Word (plan_of script) (calls script) k o c) c
+  Reader last c = HasReader (plan_of script) (calls script) k o (gave_in c k) last (Word (plan_of script) (calls script) k o c) c
 
   -- the link's reader, and whether a take found that its reading is over
   abbrev pub Reads : Core → Type 0
-  Reads c = (last : Bool) × HasReader (plan_of script) (calls script) k o (given c k) last (Word (plan_of script) (calls script) k o c) c
+  Reads c = (last : Bool) × HasReader (plan_of script) (calls script) k o (gave_in c k) last (Word (plan_of script) (calls script) k o c) c
 
   -- it is over, behind the link's end
   abbrev pub Behind : Core → Type 0
-  Behind c = HasReader (plan_of script) (calls script) k o (given c k) true (Word (plan_of script) (calls script) k o c) c × GaveLast (plan_of script) shape c k
+  Behind c = HasReader (plan_of script) (calls script) k o (gave_in c k) true (Word (plan_of script) (calls script) k o c) c × GaveLast (plan_of script) shape c k
 
   -- ## A tick
 
@@ -64,17 +64,17 @@ module _ (script : List Item) (k o : ℕ) (shape : Shape) where
     abbrev next : Core
     next = ticked (plan_of script) c m
 
-    last_on : given next k ≡ given c k → GaveLast (plan_of script) shape c k → GaveLast (plan_of script) shape next k
+    last_on : gave_in next k ≡ gave_in c k → GaveLast (plan_of script) shape c k → GaveLast (plan_of script) shape next k
     last_on same gave took more t = let l = all_lay (plan_of script) k retries c vs m sound answered fitting took t.0 t.1 t.2 in
         same ∙ (gave l.took (l.more ++ more) (l.next, l.done, l.lies) ∙ ap (offered_by shape) (sym (append_assoc l.took l.more more) ∙ ap (λ x. x ++ more) (sym l.took_is)))
 
-    kept : (g : List ℕ) (last : Bool) → given next k ≡ g → HasReader (plan_of script) (calls script) k o g last (Word (plan_of script) (calls script) k o c) next → Reader last next
+    kept : (g : List ℕ) (last : Bool) → gave_in next k ≡ g → HasReader (plan_of script) (calls script) k o g last (Word (plan_of script) (calls script) k o c) next → Reader last next
     kept g last same reader = subst (λ g. HasReader (plan_of script) (calls script) k o g last (Word (plan_of script) (calls script) k o next) next) (sym same)
         (reader_word (plan_of script) (calls script) k o g last (Word (plan_of script) (calls script) k o c) (Word (plan_of script) (calls script) k o next) next stays reader)
 
     -- where none of its bytes are taken
     record Quiet (last : Bool) : Type 0 where
-      same : given next k ≡ given c k
+      same : gave_in next k ≡ gave_in c k
       reader : Reader last next
 
     -- by a take of its reader
@@ -85,12 +85,12 @@ module _ (script : List Item) (k o : ℕ) (shape : Shape) where
       told : IsTaken take.room m.answer
       link : taken_link seat.program ≡ k ∷ []
       time : last ≡ false
-      gave : given next k ≡ given c k ++ bytes_found (at_last c.calls.ending told.0)
+      gave : gave_in next k ≡ gave_in c k ++ bytes_found (at_last c.calls.ending told.0)
       reader : Reader (last || is_last (at_last c.calls.ending told.0)) next
 
     by_tick : (last : Bool) → Reader last c → (((seat : SeatState) → get_elem? c.seats m.seat ≡ some seat → filter (λ j. j == k) (taken_link seat.program) ≡ []) × Quiet last) ⊎ Taken last
     by_tick last r = dite (ℕ_discrete m.seat (32 + k)) (λ own. near own (get_elem? c.seats m.seat) refl)
-        (λ far. inl ((λ seat at. others seat at far), record { same = gave_same (plan_of script) k c m (λ seat at. others seat at far); reader = kept (given c k) last (gave_same (plan_of script) k c m (λ seat at. others seat at far)) (λ seat at. r seat (sym (seats_else (plan_of script) c m (32 + k) (λ e. far (sym e))) ∙ at)) }))
+        (λ far. inl ((λ seat at. others seat at far), record { same = gave_same (plan_of script) k c m (λ seat at. others seat at far); reader = kept (gave_in c k) last (gave_same (plan_of script) k c m (λ seat at. others seat at far)) (λ seat at. r seat (sym (seats_else (plan_of script) c m (32 + k) (λ e. far (sym e))) ∙ at)) }))
       where
         nobody : get_elem? c.seats m.seat ≡ none → ticked (plan_of script) c m ≡ c
         nobody e = ap (λ (x : Option SeatState). elim x as (λ o. Core) [ none ↦ c | some seat ↦ tick_with (plan_of script) m.seat seat c m.answer seat.program ]) e
@@ -98,14 +98,14 @@ module _ (script : List Item) (k o : ℕ) (shape : Shape) where
         by_take : (own : m.seat ≡ 32 + k) (seat : SeatState) (at : get_elem? c.seats m.seat ≡ some seat) → (taken_link seat.program ≡ []) ⊎ IsTake seat.program
             → (((seat : SeatState) → get_elem? c.seats m.seat ≡ some seat → filter (λ j. j == k) (taken_link seat.program) ≡ []) × Quiet last) ⊎ Taken last
         by_take own seat at (inl none_) = let each : (s : SeatState) → get_elem? c.seats m.seat ≡ some s → filter (λ j. j == k) (taken_link s.program) ≡ [] = λ s at_s. subst (λ (x : SeatState). filter (λ j. j == k) (taken_link x.program) ≡ []) (some-injective seat s (sym at ∙ at_s)) (ap (filter (λ j. j == k)) none_) in
-            inl (each, record { same = gave_same (plan_of script) k c m each; reader = kept (given c k) last (gave_same (plan_of script) k c m each) (reader_goes (plan_of script) (calls script) k o c m own seat at (given c k) last r none_) })
-        by_take own seat at (inr t) = let told = t.answers m.answer (answered seat at) in let x = reader_takes (plan_of script) (calls script) k o c m own seat at (given c k) last r t told.0 told.1 in
-            let gave = ap (λ d. given d k) x.after ∙ gave_more (plan_of script) k c m seat x.next (at_last c.calls.ending told.0) low in
-            inr record { seat = seat; at = at; take = t; told = told; link = x.link; time = x.time; gave = gave; reader = kept (given c k ++ bytes_found (at_last c.calls.ending told.0)) (last || is_last (at_last c.calls.ending told.0)) gave x.reader }
+            inl (each, record { same = gave_same (plan_of script) k c m each; reader = kept (gave_in c k) last (gave_same (plan_of script) k c m each) (reader_goes (plan_of script) (calls script) k o c m own seat at (gave_in c k) last r none_) })
+        by_take own seat at (inr t) = let told = t.answers m.answer (answered seat at) in let x = reader_takes (plan_of script) (calls script) k o c m own seat at (gave_in c k) last r t told.0 told.1 in
+            let gave = ap (λ d. gave_in d k) x.after ∙ gave_more (plan_of script) k c m seat x.next (at_last c.calls.ending told.0) low in
+            inr record { seat = seat; at = at; take = t; told = told; link = x.link; time = x.time; gave = gave; reader = kept (gave_in c k ++ bytes_found (at_last c.calls.ending told.0)) (last || is_last (at_last c.calls.ending told.0)) gave x.reader }
 
         near : m.seat ≡ 32 + k → (x : Option SeatState) → get_elem? c.seats m.seat ≡ x → (((seat : SeatState) → get_elem? c.seats m.seat ≡ some seat → filter (λ j. j == k) (taken_link seat.program) ≡ []) × Quiet last) ⊎ Taken last
         near own none e = let each : (s : SeatState) → get_elem? c.seats m.seat ≡ some s → filter (λ j. j == k) (taken_link s.program) ≡ [] = λ s at_s. absurd (some-ne-none s (sym at_s ∙ e)) in
-            inl (each, record { same = gave_same (plan_of script) k c m each; reader = kept (given c k) last (gave_same (plan_of script) k c m each) (λ seat at. r seat (sym (ap (λ (d : Core). get_elem? d.seats (32 + k)) (nobody e)) ∙ at)) })
+            inl (each, record { same = gave_same (plan_of script) k c m each; reader = kept (gave_in c k) last (gave_same (plan_of script) k c m each) (λ seat at. r seat (sym (ap (λ (d : Core). get_elem? d.seats (32 + k)) (nobody e)) ∙ at)) })
         near own (some seat) e = by_take own seat e (takes_or_not seat.program)
 
     reads_tick : Reads c → Reads next
@@ -128,7 +128,7 @@ module _ (script : List Item) (k o : ℕ) (shape : Shape) where
         found : Taken last → Behind next
         found t = (
           subst (λ b. Reader b next) (ap (λ a. last || is_last (at_last c.calls.ending a)) is_end ∙ (ap (λ a. last || is_last a) (last_found c.calls.ending) ∙ or_true last)) t.reader,
-          last_on (t.gave ∙ (ap (λ a. given c k ++ bytes_found (at_last c.calls.ending a)) is_end ∙ (ap (λ a. given c k ++ bytes_found a) (last_found c.calls.ending) ∙ append-nil (given c k)))) (subst (IsOfferedSo (plan_of script) shape c k) is_end offers),
+          last_on (t.gave ∙ (ap (λ a. gave_in c k ++ bytes_found (at_last c.calls.ending a)) is_end ∙ (ap (λ a. gave_in c k ++ bytes_found a) (last_found c.calls.ending) ∙ append-nil (gave_in c k)))) (subst (IsOfferedSo (plan_of script) shape c k) is_end offers),
         )
           where
             shown : In AtEnd (as_taken (m.answer ∷ []))

@@ -25,7 +25,7 @@ use Rattle.seat_programs.specs.Told.{IsTask, Made}
 use Rattle.seat_programs.specs.Scripts.{all_tasks, IsRunWithCalls}
 use Rattle.send_causes.specs.Below.joint_runs.proofs.Runs.{AreMade}
 use Rattle.send_causes.specs.Below.call_owing.specs.Lives.{ClosesInRun}
-use Rattle.send_causes.specs.Below.call_stories.specs.Lists.{given}
+use Rattle.send_causes.specs.Below.call_stories.specs.Lists.{gave_in}
 use Rattle.served_runs.specs.Offered.{OffersInRun}
 use Rattle.served_runs.specs.Served.{IsForCalls}
 use Rattle.served_runs.proofs.Served.{gives_own_replies}
@@ -51,7 +51,7 @@ module _ (script : List Item) (made : AreMade script) (there : AreThere script) 
   for_calls = record { opened = opened; serves = serves; unsent = unsent_of script core.outcomes k unnamed }
 
   -- each response of a call's versions is the reply to the call's own request
-  pub link_own_replies : (n i id : ℕ) (frame : Frame) (op : Operation) (call : CallLine) (outcome : Outcome) → slice_get (stream (given core k)).frames n ≡ Some frame → slice_get (operations script) i ≡ Some op → op.item ≡ Call call
+  pub link_own_replies : (n i id : ℕ) (frame : Frame) (op : Operation) (call : CallLine) (outcome : Outcome) → slice_get (stream (gave_in core k)).frames n ≡ Some frame → slice_get (operations script) i ≡ Some op → op.item ≡ Call call
       → slice_get core.outcomes i ≡ Some (Some outcome) → shown_id outcome ≡ Some id → IsResponse call id frame → reply (request_frame call frame.meta.correlation_id) ≡ Some frame
   link_own_replies n i id frame op call outcome stands at item became shows response =
       gives_own_replies script made there range turns core is closes offers k n id op.client shape frame (record { number = i; op = ops.Call (asked_of (names script) i call) }) (asked_of (names script) i call) outcome for_calls stands

@@ -31,7 +31,7 @@ use Rattle.send_causes.specs.Below.outcome_stories.proofs.Members.{contains_in}
 use Rattle.send_causes.specs.Below.outcome_ticks.proofs.Tasks.{one_task}
 use Rattle.send_causes.specs.Below.joint_runs.proofs.Runs.{AreMade}
 use Rattle.send_causes.specs.Below.call_owing.specs.Lives.{ClosesInRun}
-use Rattle.send_causes.specs.Below.call_stories.specs.Lists.{given, attempts_of_run}
+use Rattle.send_causes.specs.Below.call_stories.specs.Lists.{gave_in, attempts_of_run}
 use Rattle.send_causes.specs.Below.call_stories.specs.Scenes.{Scene, WhyOwn}
 use Rattle.send_causes.specs.Below.story_steps.proofs.End.{call_of, shows_own}
 use Rattle.send_causes.specs.Below.call_causes.proofs.Posted.{run_few_attempts}
@@ -80,7 +80,7 @@ module _ (script : List Item) (made : AreMade script) (there : AreThere script) 
 
   -- ## Ids
 
-  shows_none : (w : Scene) (c : ℕ) (before : List Task) (asked : Asked) (x : Outcome) (i : ℕ) → WhyOwn (plan_of script) (id_plan_of script) (all_tasks script) (given core) w c before (ops.Call asked) x → shown_id x ≡ Some i → ⊥
+  shows_none : (w : Scene) (c : ℕ) (before : List Task) (asked : Asked) (x : Outcome) (i : ℕ) → WhyOwn (plan_of script) (id_plan_of script) (all_tasks script) (gave_in core) w c before (ops.Call asked) x → shown_id x ≡ Some i → ⊥
   shows_none w c before asked outcomes.Unopened i why is = let z : None ≡ Some i = is in cc
   shows_none w c before asked _ i why is = absurd why
 
@@ -89,9 +89,9 @@ module _ (script : List Item) (made : AreMade script) (there : AreThere script) 
   id_small client t asked x id it op became shows = let h = run_has_story script made there range turns core is in let ended = run_has_ended script made there range turns core is closes in
       ⊎_elim (λ s. absurd (shows_none h.scene client s.0 asked x id s.1 shows))
       (λ b. let births = ended.births in let low = (births.born (record { id = b.0; asked = asked }) b.1).0 in
-      let same = shows_own (plan_of script) (id_plan_of script) (all_tasks script) (given core) h.scene h.marks ended (record { id = b.0; asked = asked }) x id b.2 shows in
+      let same = shows_own (plan_of script) (id_plan_of script) (all_tasks script) (gave_in core) h.scene h.marks ended (record { id = b.0; asked = asked }) x id b.2 shows in
       let few = (let k = known script made turns core is in k.narrow) in let l : b.0 / 4294967296 < (id_plan_of script).slots = low in omega (arith, l, few, same))
-      (call_of (plan_of script) (id_plan_of script) (all_tasks script) (given core) h.scene h.marks ended client t asked x (subst (λ (d : Core). IsTask (all_tasks script) d.outcomes client t) (sym h.is) it) op
+      (call_of (plan_of script) (id_plan_of script) (all_tasks script) (gave_in core) h.scene h.marks ended client t asked x (subst (λ (d : Core). IsTask (all_tasks script) d.outcomes client t) (sym h.is) it) op
       (subst (λ (d : Core). Became (all_tasks script) d.outcomes t.number x) (sym h.is) became))
 
   -- ## Requests
@@ -109,7 +109,7 @@ module _ (script : List Item) (made : AreMade script) (there : AreThere script) 
     accepted = (orders_here script made turns core is closes k).accepted
 
     -- each message that the link accepted is one
-    sent_piece : (a : Accepted) → IsSent (plan_of script) (all_tasks script) core.outcomes (fixed_of_run script made turns core is closes) (given core) (orders_here script made turns core is closes) (attempts_of_run script turns core is) k a → IsPiece IsRequest a.bytes
+    sent_piece : (a : Accepted) → IsSent (plan_of script) (all_tasks script) core.outcomes (fixed_of_run script made turns core is closes) (gave_in core) (orders_here script made turns core is closes) (attempts_of_run script turns core is) k a → IsPiece IsRequest a.bytes
     sent_piece a (OfSend client t name slot version it number op first life untold) = absurd (unsent client t name slot version a.bytes it op life)
     sent_piece a (OfCall client t asked outcome id slot version it number op became shows last bytes life) = record {
       frame = request_of asked id a.attempt;
@@ -135,8 +135,8 @@ module _ (script : List Item) (made : AreMade script) (there : AreThere script) 
     -- so is each whole frame that it took
     took_requests : AllByRecursion IsRequest (stream took).frames
     took_requests = all_get IsRequest (stream took).frames (λ i f e. get_all IsRequest (stream_from 0 (flat_map bytes_of accepted)).frames
-        (piece_frames bytes_of IsRequest accepted (all_map (IsSent (plan_of script) (all_tasks script) core.outcomes (fixed_of_run script made turns core is closes) (given core) (orders_here script made turns core is closes) (attempts_of_run script turns core is) k) (λ a. IsPiece IsRequest (bytes_of a))
-        sent_piece accepted (attempted_of_run script made there range turns core is closes (fixed_of_run script made turns core is closes) (given core) k low)) 0) i f
+        (piece_frames bytes_of IsRequest accepted (all_map (IsSent (plan_of script) (all_tasks script) core.outcomes (fixed_of_run script made turns core is closes) (gave_in core) (orders_here script made turns core is closes) (attempts_of_run script turns core is) k) (λ a. IsPiece IsRequest (bytes_of a))
+        sent_piece accepted (attempted_of_run script made there range turns core is closes (fixed_of_run script made turns core is closes) (gave_in core) k low)) 0) i f
         (subst (λ l. slice_get (stream_from 0 l).frames i ≡ Some f) whole.1 (frames_stay (suc (length took)) 0 took whole.0 i f (omega arith) e)))
       where
         taken : IsTaken (orders_here script made turns core is closes k) took
@@ -172,17 +172,17 @@ module _ (script : List Item) (made : AreMade script) (there : AreThere script) 
     first_replied (Some n) gs all = all_take IsReplied n gs all
 
     -- it gave the front of those replies
-    module _ (shape : Shape) (more : List ℕ) (gives : given core k ++ more ≡ given_for shape took) where
+    module _ (shape : Shape) (more : List ℕ) (gives : gave_in core k ++ more ≡ given_for shape took) where
       pieces : AllByRecursion (λ g. IsPiece IsReplied (frame_bytes g)) (first_of shape.end (reply_frames took))
       pieces = all_map IsReplied (λ g. IsPiece IsReplied (frame_bytes g)) (λ g r. record { frame = g; is = (of_request r.request g r.made_so r.replied).0; holds = r }) (first_of shape.end (reply_frames took))
           (first_replied shape.end (reply_frames took) (replied_all (stream took).frames took_requests))
 
-      pub replied_at : (n : ℕ) (frame : Frame) → slice_get (stream (given core k)).frames n ≡ Some frame → IsReplied frame
+      pub replied_at : (n : ℕ) (frame : Frame) → slice_get (stream (gave_in core k)).frames n ≡ Some frame → IsReplied frame
       replied_at n frame stands = get_all IsReplied (stream_from 0 (given_for shape took)).frames (piece_frames frame_bytes IsReplied (first_of shape.end (reply_frames took)) pieces 0) n frame
-          (subst (λ l. slice_get (stream_from 0 l).frames n ≡ Some frame) gives (frames_stay (suc (length (given core k))) 0 (given core k) more n frame (omega arith) stands))
+          (subst (λ l. slice_get (stream_from 0 l).frames n ≡ Some frame) gives (frames_stay (suc (length (gave_in core k))) 0 (gave_in core k) more n frame (omega arith) stands))
 
-      pub faultless : HasFault (given core k) → ⊥
-      faultless fault = let f = subst HasFault gives (faults_more (given core k) more fault) in let z : Rest 0 ≡ Fault f.0 f.1 = sym (pieces_end frame_bytes IsReplied (first_of shape.end (reply_frames took)) pieces 0) ∙ f.2 in cc
+      pub faultless : HasFault (gave_in core k) → ⊥
+      faultless fault = let f = subst HasFault gives (faults_more (gave_in core k) more fault) in let z : Rest 0 ≡ Fault f.0 f.1 = sym (pieces_end frame_bytes IsReplied (first_of shape.end (reply_frames took)) pieces 0) ∙ f.2 in cc
 
     -- ## Of one call
 

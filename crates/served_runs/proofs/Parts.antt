@@ -27,7 +27,7 @@ use Rattle.send_causes.specs.Below.programs_allowed.specs.sock_runs.proofs.LinkT
 use Rattle.send_causes.specs.Below.programs_allowed.specs.sock_runs.proofs.Ticks.{sound_ticks}
 use Rattle.send_causes.specs.Below.run_theorems.specs.Heard.{taken_link, bytes_found}
 use Rattle.send_causes.specs.Below.run_theorems.proofs.Lengths.{tick_long}
-use Rattle.send_causes.specs.Below.call_stories.specs.Lists.{given}
+use Rattle.send_causes.specs.Below.call_stories.specs.Lists.{gave_in}
 use Rattle.send_causes.specs.Below.call_stories.proofs.Streams.{frames_behind_rest, frames_before_fault}
 use Rattle.send_causes.specs.Below.accept_counts.proofs.Readings.{IsTake, takes_or_not}
 use Rattle.served_runs.specs.Offered.{TookSoFar, offered_by, IsOfferedSo, OffersAt, IsOffered, AreOffered}
@@ -75,7 +75,7 @@ offered_front shape took more = by shape.serve
 
 module _ (script : List Item) (k : ℕ) (shape : Shape) where
   abbrev pub IsPart : Core → Type 0
-  IsPart c = (took : List ℕ) → TookSoFar (plan_of script) c k took → (more : List ℕ) × (given c k ++ more ≡ offered_by shape took)
+  IsPart c = (took : List ℕ) → TookSoFar (plan_of script) c k took → (more : List ℕ) × (gave_in c k ++ more ≡ offered_by shape took)
 
   module _ (shape_is : slice_get (link_shapes script) k ≡ Some shape) (retries : RetriesGo (plan_of script)) where
     module _ (c : Core) (vs : List View) (m : Moment) (sound : Sound (plan_of script) c vs) (answered : IsAnswered c m) (fitting : IsFitting (plan_of script) c m) where
@@ -83,36 +83,36 @@ module _ (script : List Item) (k : ℕ) (shape : Shape) where
       next = ticked (plan_of script) c m
 
       -- by what it gave then
-      part_on : ((took : List ℕ) → TookSoFar (plan_of script) c k took → (more : List ℕ) × (given next k ++ more ≡ offered_by shape took)) → IsPart next
+      part_on : ((took : List ℕ) → TookSoFar (plan_of script) c k took → (more : List ℕ) × (gave_in next k ++ more ≡ offered_by shape took)) → IsPart next
       part_on part took t = let l = all_lay (plan_of script) k retries c vs m sound answered fitting took t.0 t.1 t.2 in let x = part l.took (l.next, l.done, l.lies) in let f = offered_front shape l.took l.more in (
         x.0 ++ f.0,
-        sym (append_assoc (given next k) x.0 f.0) ∙ (ap (λ z. z ++ f.0) x.1 ∙ (f.1 ∙ ap (offered_by shape) (sym l.took_is))),
+        sym (append_assoc (gave_in next k) x.0 f.0) ∙ (ap (λ z. z ++ f.0) x.1 ∙ (f.1 ∙ ap (offered_by shape) (sym l.took_is))),
       )
 
-      part_same : given next k ≡ given c k → IsPart c → IsPart next
+      part_same : gave_in next k ≡ gave_in c k → IsPart c → IsPart next
       part_same same part = part_on (λ took t. let x = part took t in (x.0, ap (λ z. z ++ x.0) same ∙ x.1))
 
       part_tick : IsOffered script c m → k < length c.calls.gave → IsPart c → IsPart next
       part_tick offered low part = by_seat (get_elem? c.seats m.seat) refl
         where
-          by_found : (b : Bool) (a : Taking) → IsOfferedSo (plan_of script) shape c k a → given next k ≡ given c k ++ bytes_found (at_last b a) → IsPart next
+          by_found : (b : Bool) (a : Taking) → IsOfferedSo (plan_of script) shape c k a → gave_in next k ≡ gave_in c k ++ bytes_found (at_last b a) → IsPart next
           by_found true (Bytes bytes) all gave = part_on (λ took t. let x = all took t in (x.0, ap (λ z. z ++ x.0) gave ∙ x.1))
           by_found false (Bytes bytes) all gave = part_on (λ took t. let x = all took t in (x.0, ap (λ z. z ++ x.0) gave ∙ x.1))
-          by_found true Nothing all gave = part_same (gave ∙ append-nil (given c k)) part
-          by_found false Nothing all gave = part_same (gave ∙ append-nil (given c k)) part
-          by_found true NoMore all gave = part_same (gave ∙ append-nil (given c k)) part
-          by_found false NoMore all gave = part_same (gave ∙ append-nil (given c k)) part
-          by_found true AtEnd all gave = part_same (gave ∙ append-nil (given c k)) part
-          by_found false AtEnd all gave = part_same (gave ∙ append-nil (given c k)) part
-          by_found true Closed all gave = part_same (gave ∙ append-nil (given c k)) part
-          by_found false Closed all gave = part_same (gave ∙ append-nil (given c k)) part
-          by_found true Broken all gave = part_same (gave ∙ append-nil (given c k)) part
-          by_found false Broken all gave = part_same (gave ∙ append-nil (given c k)) part
+          by_found true Nothing all gave = part_same (gave ∙ append-nil (gave_in c k)) part
+          by_found false Nothing all gave = part_same (gave ∙ append-nil (gave_in c k)) part
+          by_found true NoMore all gave = part_same (gave ∙ append-nil (gave_in c k)) part
+          by_found false NoMore all gave = part_same (gave ∙ append-nil (gave_in c k)) part
+          by_found true AtEnd all gave = part_same (gave ∙ append-nil (gave_in c k)) part
+          by_found false AtEnd all gave = part_same (gave ∙ append-nil (gave_in c k)) part
+          by_found true Closed all gave = part_same (gave ∙ append-nil (gave_in c k)) part
+          by_found false Closed all gave = part_same (gave ∙ append-nil (gave_in c k)) part
+          by_found true Broken all gave = part_same (gave ∙ append-nil (gave_in c k)) part
+          by_found false Broken all gave = part_same (gave ∙ append-nil (gave_in c k)) part
 
           taken : (seat : SeatState) → get_elem? c.seats m.seat ≡ core.some seat → (t : IsTake seat.program) → t.link ≡ k → IsTaken t.room m.answer → IsPart next
           taken seat at t own told = by_found c.calls.ending told.0
               ((subst (λ l. OffersAt script c m.answer (Aside (TakeBytes l t.room) t.next)) own (subst (OffersAt script c m.answer) t.first (offered seat at))) shape told.0 shape_is told.1)
-              (ap (λ d. given d k) (tick_is (plan_of script) k c m seat at ∙ (ap (step_with (plan_of script) m.seat seat c m.answer) t.first
+              (ap (λ d. gave_in d k) (tick_is (plan_of script) k c m seat at ∙ (ap (step_with (plan_of script) m.seat seat c m.answer) t.first
               ∙ (ap (λ (y : Answer). step_with (plan_of script) m.seat seat c y (Aside (TakeBytes t.link t.room) t.next)) told.1
               ∙ ap (λ l. with_seat m.seat (t.next (at_last c.calls.ending told.0)) seat.hand c.words c.homes (record c { calls = more_given l (at_last c.calls.ending told.0) c.calls })) own)))
               ∙ gave_more (plan_of script) k c m seat t.next (at_last c.calls.ending told.0) low)

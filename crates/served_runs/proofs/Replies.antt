@@ -37,7 +37,7 @@ use Rattle.send_causes.specs.Below.owed_calls.proofs.Known.{run_all_rest}
 use Rattle.send_causes.specs.Below.run_theorems.specs.Heard.{as_taken, taken_in, heard_takes}
 use Rattle.send_causes.specs.Below.run_theorems.proofs.HeardRuns.{taken_append}
 use Rattle.send_causes.specs.Below.run_theorems.proofs.Lengths.{tick_long}
-use Rattle.send_causes.specs.Below.call_stories.specs.Lists.{given}
+use Rattle.send_causes.specs.Below.call_stories.specs.Lists.{gave_in}
 use Rattle.send_causes.specs.Below.accept_counts.proofs.Early.{Any, ends_anyhow, start, go, fitting, known, begins_at}
 use Rattle.send_causes.specs.Below.ended_calls.proofs.EndedWhole.{opened_keeps, closing_keeps, closed_keeps}
 use Rattle.send_causes.specs.Below.accept_counts.proofs.ReaderRuns.{founds, keeps_along}
@@ -266,11 +266,11 @@ module _ (script : List Item) (made : AreMade script) (turns : List Turn) (core 
     took_is = took_there (plan_of script) core.homes k home.took home.next home.done home.is link_inside
 
     -- it gave some of what belongs to what it took
-    pub gives_part : (more : List ℕ) × (given core k ++ more ≡ offered_by shape (slice_index_or (took_at_home (plan_of script) core.homes) k []))
+    pub gives_part : (more : List ℕ) × (gave_in core k ++ more ≡ offered_by shape (slice_index_or (took_at_home (plan_of script) core.homes) k []))
     gives_part = let x = part_over home.took there in (x.0, x.1 ∙ ap (offered_by shape) (sym took_is))
 
     -- and where it gave its end, all that belongs to that and to whatever may come
-    pub gives_at_end : In AtEnd (heard_takes is k) → (more : List ℕ) → given core k ≡ offered_by shape (slice_index_or (took_at_home (plan_of script) core.homes) k [] ++ more)
+    pub gives_at_end : In AtEnd (heard_takes is k) → (more : List ℕ) → gave_in core k ≡ offered_by shape (slice_index_or (took_at_home (plan_of script) core.homes) k [] ++ more)
     gives_at_end end_ more = (last_taken end_).1 home.took more there ∙ ap (λ l. offered_by shape (l ++ more)) (sym took_is)
 
     seat_there : (s : SeatState) × (get_elem? core.seats (32 + k) ≡ some s)
@@ -280,11 +280,11 @@ module _ (script : List Item) (made : AreMade script) (turns : List Turn) (core 
         seat_low = let m = (let x = closed_keeps script made turns core is in x.many) in let r = run_seats (plan_of script) is.ended is.final in let e = ap (λ (d : Core). length d.seats) is.is_end in
             let i = at_length (opens script) k o at in omega (arith, m, r, e, i)
 
-    module _ (in_time : In k (late_links_of_run script turns core is) → ⊥) (socket : get_or core.words (open_index (plan_of script) o) 0 ≢ NO_SOCKET) (none_broken : In Broken (heard_takes is k) → ⊥) (faultless : HasFault (given core k) → ⊥) (few : length (given core k) < LIMIT) where
-      gave_all : given core k ≡ offered_by shape home.took
+    module _ (in_time : In k (late_links_of_run script turns core is) → ⊥) (socket : get_or core.words (open_index (plan_of script) o) 0 ≢ NO_SOCKET) (none_broken : In Broken (heard_takes is k) → ⊥) (faultless : HasFault (gave_in core k) → ⊥) (few : length (gave_in core k) < LIMIT) where
+      gave_all : gave_in core k ≡ offered_by shape home.took
       gave_all = by_stand ((over_holds in_time).reader seat_there.0 seat_there.1)
         where
-          by_over : IsOverSo script k o shape Fails core → given core k ≡ offered_by shape home.took
+          by_over : IsOverSo script k o shape Fails core → gave_in core k ≡ offered_by shape home.took
           by_over (inl (inl fault)) = absurd (faultless fault)
           by_over (inl (inr most)) = absurd (let z : ⊥ = omega (arith, most, few) in z)
           by_over (inr (inl fails)) = absurd (none_broken fails)
@@ -294,15 +294,15 @@ module _ (script : List Item) (made : AreMade script) (turns : List Turn) (core 
           at_rest : seat_there.0.program ≡ Rest
           at_rest = rests (32 + k) seat_there.0 seat_there.1
 
-          by_stand : Stands (plan_of script) (calls script) k o (given core k) (over_holds in_time).last (get_or core.words (open_index (plan_of script) o) 0) seat_there.0.program → given core k ≡ offered_by shape home.took
+          by_stand : Stands (plan_of script) (calls script) k o (gave_in core k) (over_holds in_time).last (get_or core.words (open_index (plan_of script) o) 0) seat_there.0.program → gave_in core k ≡ offered_by shape home.took
           by_stand (inl x) = absurd (let z : Rest ≡ reader (calls script) k o = sym at_rest ∙ x.0 in cc)
           by_stand (inr (inl x)) = absurd (socket x.1)
-          by_stand (inr (inr x)) = by_rest (subst (Goes k (given core k) (over_holds in_time).last) at_rest x)
+          by_stand (inr (inr x)) = by_rest (subst (Goes k (gave_in core k) (over_holds in_time).last) at_rest x)
             where
-              by_rest : IsOver (given core k) (over_holds in_time).last → given core k ≡ offered_by shape home.took
+              by_rest : IsOver (gave_in core k) (over_holds in_time).last → gave_in core k ≡ offered_by shape home.took
               by_rest (inl last) = by_over ((over_holds in_time).over last)
               by_rest (inr bad) = by_over (inl bad)
 
       -- it gave all that belongs to what it took
-      pub gives_all : given core k ≡ offered_by shape (slice_index_or (took_at_home (plan_of script) core.homes) k [])
+      pub gives_all : gave_in core k ≡ offered_by shape (slice_index_or (took_at_home (plan_of script) core.homes) k [])
       gives_all = gave_all ∙ ap (offered_by shape) (sym took_is)

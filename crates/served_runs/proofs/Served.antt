@@ -25,7 +25,7 @@ use Rattle.send_causes.specs.Below.joint_runs.proofs.Runs.{AreMade}
 use Rattle.send_causes.specs.Below.call_owing.specs.Lives.{ClosesInRun}
 use Rattle.send_causes.specs.Below.run_theorems.specs.Heard.{heard_takes}
 use Rattle.served_runs.specs.Offered.{OffersInRun}
-use Rattle.send_causes.specs.Below.call_stories.specs.Lists.{given}
+use Rattle.send_causes.specs.Below.call_stories.specs.Lists.{gave_in}
 use Rattle.send_causes.specs.Below.accept_counts.proofs.Early.{known}
 use Rattle.served_runs.specs.Served.{took_in_all, IsForCalls, GivesReplies, GivesFront, GivesLast, GivesNoFault, GivesCallReplies, GivesOwnReplies}
 use Rattle.served_runs.proofs.Opened.{opened_word}
@@ -53,7 +53,7 @@ module _ (script : List Item) (made : AreMade script) (there : AreThere script) 
       (opened_word script made there range turns core is closes s.name k s.slot s.version s.lived x.0 x.1) (λ m. s.whole (in_contains (heard_takes is k) Broken m)) s.faultless s.few
       ∙ by_true shape.serve (given_for shape (took_in_all script turns core is k)) [] s.serves
 
-  part : (k : ℕ) (shape : Shape) → slice_get (link_shapes script) k ≡ Some shape → (more : List ℕ) × (given core k ++ more ≡ cond shape.serve (given_for shape (took_in_all script turns core is k)) [])
+  part : (k : ℕ) (shape : Shape) → slice_get (link_shapes script) k ≡ Some shape → (more : List ℕ) × (gave_in core k ++ more ≡ cond shape.serve (given_for shape (took_in_all script turns core is k)) [])
   part k shape at = let x = link_open k shape at in gives_part script made turns core is offers k x.0 x.1 shape at closes
 
   pub gives_front : GivesFront script turns core is
@@ -69,10 +69,10 @@ module _ (script : List Item) (made : AreMade script) (there : AreThere script) 
     low : k < (plan_of script).links
     low = let x = link_open k shape s.opened in link_inside script made turns core is offers k x.0 x.1 shape s.opened
 
-    replied : (n : ℕ) (frame : Frame) → slice_get (stream (given core k)).frames n ≡ Some frame → IsReplied script made there range turns core is closes k low s.unsent frame
+    replied : (n : ℕ) (frame : Frame) → slice_get (stream (gave_in core k)).frames n ≡ Some frame → IsReplied script made there range turns core is closes k low s.unsent frame
     replied n frame stands = let x = gives_front k shape s.opened s.serves in replied_at script made there range turns core is closes k low s.unsent shape x.0 x.1 n frame stands
 
-    no_fault : HasFault (given core k) → ⊥
+    no_fault : HasFault (gave_in core k) → ⊥
     no_fault fault = let x = gives_front k shape s.opened s.serves in faultless script made there range turns core is closes k low s.unsent shape x.0 x.1 fault
 
   pub gives_no_fault : GivesNoFault script turns core is

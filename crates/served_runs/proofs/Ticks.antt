@@ -20,7 +20,7 @@ use Rattle.seat_programs.specs.StepTables.{word_of}
 use Rattle.seat_programs.specs.Ticks.{Answer, OfPut, OfReady, OfTake, Moment, taken, with_message, with_link, with_put, with_ready, with_found, step_with, tick_with, ticked}
 use Rattle.send_causes.specs.Below.programs_allowed.specs.program_steps.proofs.Cases.{ticks_first}
 use Rattle.send_causes.specs.Below.run_theorems.specs.Heard.{taken_link, bytes_found}
-use Rattle.send_causes.specs.Below.call_stories.specs.Lists.{given}
+use Rattle.send_causes.specs.Below.call_stories.specs.Lists.{gave_in}
 use Rattle.send_causes.specs.Below.accept_counts.proofs.Readings.{IsTake}
 use Rattle.served_runs.proofs.Readings.{Goes, is_last, goes_first, goes_next, begins_reading}
 use Rattle.send_causes.specs.Below.call_causes.proofs.HandledTicks.{take_of, taken_first}
@@ -47,35 +47,35 @@ module _ (p : Plan) (k : ℕ) (c : Core) (m : Moment) where
   -- ## Where no bytes of the link are taken
 
   module _ (seat : SeatState) where
-    letter_gave : (q : ℕ) (o : Option Letter) (next : Letter → Program) → given (with_message p m.seat seat c q o next) k ≡ given c k
+    letter_gave : (q : ℕ) (o : Option Letter) (next : Letter → Program) → gave_in (with_message p m.seat seat c q o next) k ≡ gave_in c k
     letter_gave q none next = refl
     letter_gave q (some letter) next = refl
 
-    link_gave : (l : ℕ) (o : Option (List ℕ × ℕ)) (next : ℕ → Program) → given (with_link p m.seat seat c l o next) k ≡ given c k
+    link_gave : (l : ℕ) (o : Option (List ℕ × ℕ)) (next : ℕ → Program) → gave_in (with_link p m.seat seat c l o next) k ≡ gave_in c k
     link_gave l none next = refl
     link_gave l (some home) next = refl
 
-    put_gave : (bytes : List ℕ) (answer : Answer) (next : Put → Program) → given (with_put p m.seat seat c bytes answer next) k ≡ given c k
+    put_gave : (bytes : List ℕ) (answer : Answer) (next : Put → Program) → gave_in (with_put p m.seat seat c bytes answer next) k ≡ gave_in c k
     put_gave bytes (OfPut answer) next = refl
     put_gave bytes other next = refl
 
-    ready_gave : (answer : Answer) (next : Ready → Program) → given (with_ready p m.seat seat c answer next) k ≡ given c k
+    ready_gave : (answer : Answer) (next : Ready → Program) → gave_in (with_ready p m.seat seat c answer next) k ≡ gave_in c k
     ready_gave (OfReady answer) next = refl
     ready_gave other next = refl
 
-    found_gave : (step : Step) (o : Option (Found step)) (next : Found step → Program) → ((found : Found step) → get_or (calls_after step found c.calls).gave k [] ≡ given c k) → given (with_found p m.seat seat c step o next) k ≡ given c k
+    found_gave : (step : Step) (o : Option (Found step)) (next : Found step → Program) → ((found : Found step) → get_or (calls_after step found c.calls).gave k [] ≡ gave_in c k) → gave_in (with_found p m.seat seat c step o next) k ≡ gave_in c k
     found_gave step none next same = refl
     found_gave step (some found) next same = same found
 
-    other_link : (l : ℕ) → l ≢ k → (found : Taking) → get_or (more_given l found c.calls).gave k [] ≡ given c k
+    other_link : (l : ℕ) → l ≢ k → (found : Taking) → get_or (more_given l found c.calls).gave k [] ≡ gave_in c k
     other_link l far (Bytes bytes) = get_or-set_other c.calls.gave l k (get_or c.calls.gave l [] ++ bytes) [] (λ e. far (sym e))
     other_link l far _ = refl
 
-    aside_gave : (step : Step) (next : Found step → Program) → NoneOf k (take_of (Aside step next)) → given (step_with p m.seat seat c m.answer (Aside step next)) k ≡ given c k
+    aside_gave : (step : Step) (next : Found step → Program) → NoneOf k (take_of (Aside step next)) → gave_in (step_with p m.seat seat c m.answer (Aside step next)) k ≡ gave_in c k
     aside_gave (TakeBytes l room) next none_ = found_gave (TakeBytes l room) (found_in (TakeBytes l room) c.calls (taken m.answer)) next (other_link l (apart k l none_))
     aside_gave other next none_ = found_gave other (found_in other c.calls (taken m.answer)) next (λ found. refl)
 
-    step_gave : (x : Program) → NoneOf k (take_of x) → given (step_with p m.seat seat c m.answer x) k ≡ given c k
+    step_gave : (x : Program) → NoneOf k (take_of x) → gave_in (step_with p m.seat seat c m.answer x) k ≡ gave_in c k
     step_gave (Aside step next) none_ = aside_gave step next none_
     step_gave (TakeMessage q next) none_ = letter_gave q (message (λ home. home) c.homes q) (λ letter. next letter.0 letter.1)
     step_gave (TakeHome l next) none_ = link_gave l (link_home (λ home. home) p c.homes l) next
@@ -84,12 +84,12 @@ module _ (p : Plan) (k : ℕ) (c : Core) (m : Moment) where
     step_gave _ none_ = refl
 
   -- it gave what it had given
-  pub gave_same : ((seat : SeatState) → get_elem? c.seats m.seat ≡ some seat → NoneOf k (taken_link seat.program)) → given (ticked p c m) k ≡ given c k
+  pub gave_same : ((seat : SeatState) → get_elem? c.seats m.seat ≡ some seat → NoneOf k (taken_link seat.program)) → gave_in (ticked p c m) k ≡ gave_in c k
   gave_same others = by_seat (get_elem? c.seats m.seat) refl
     where
-      by_seat : (o : Option SeatState) → get_elem? c.seats m.seat ≡ o → given (ticked p c m) k ≡ given c k
-      by_seat none e = ap (λ (o : Option SeatState). given (elim o as (λ o. Core) [ none ↦ c | some seat ↦ tick_with p m.seat seat c m.answer seat.program ]) k) e
-      by_seat (some seat) e = ap (λ d. given d k) (tick_is seat e) ∙ step_gave seat (first_step seat.program) (ap (filter (λ j. j == k)) (sym (taken_first seat.program)) ∙ others seat e)
+      by_seat : (o : Option SeatState) → get_elem? c.seats m.seat ≡ o → gave_in (ticked p c m) k ≡ gave_in c k
+      by_seat none e = ap (λ (o : Option SeatState). gave_in (elim o as (λ o. Core) [ none ↦ c | some seat ↦ tick_with p m.seat seat c m.answer seat.program ]) k) e
+      by_seat (some seat) e = ap (λ d. gave_in d k) (tick_is seat e) ∙ step_gave seat (first_step seat.program) (ap (filter (λ j. j == k)) (sym (taken_first seat.program)) ∙ others seat e)
 
   -- ## Where some are taken
 
@@ -97,9 +97,9 @@ module _ (p : Plan) (k : ℕ) (c : Core) (m : Moment) where
   abbrev pub took_so : SeatState → (Taking → Program) → Taking → Core
   took_so seat next found = with_seat m.seat (next found) seat.hand c.words c.homes (record c { calls = more_given k found c.calls })
 
-  pub gave_more : (seat : SeatState) (next : Taking → Program) (found : Taking) → k < length c.calls.gave → given (took_so seat next found) k ≡ given c k ++ bytes_found found
+  pub gave_more : (seat : SeatState) (next : Taking → Program) (found : Taking) → k < length c.calls.gave → gave_in (took_so seat next found) k ≡ gave_in c k ++ bytes_found found
   gave_more seat next (Bytes bytes) low = get_or-set_same c.calls.gave k (get_or c.calls.gave k [] ++ bytes) [] low
-  gave_more seat next _ low = sym (append-nil (given c k))
+  gave_more seat next _ low = sym (append-nil (gave_in c k))
 
 -- ## Where its reader stands
 

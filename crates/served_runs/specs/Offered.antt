@@ -15,7 +15,7 @@ use Rattle.seat_programs.specs.Ticks.{Answer, OfTake, Moment, ticked}
 use Rattle.seat_programs.specs.Tasks.{plan_of}
 use Rattle.seat_programs.specs.Scripts.{set_up, IsRunWithCalls}
 use Rattle.send_causes.specs.Below.call_owing.specs.Lives.{InHand}
-use Rattle.send_causes.specs.Below.call_stories.specs.Lists.{given}
+use Rattle.send_causes.specs.Below.call_stories.specs.Lists.{gave_in}
 use Rattle.seat_programs.specs.Rounds.{first_step}
 
 -- ## What a link took
@@ -40,15 +40,15 @@ offered_by shape took = if shape.serve then given_for shape took else []
 
 -- with these bytes more the link gave some of what belongs to what it took, in order
 abbrev pub GavePart : Plan → Shape → Core → ℕ → List ℕ → Type 0
-GavePart p shape c k bytes = (took : List ℕ) → TookSoFar p c k took → (more : List ℕ) × ((given c k ++ bytes) ++ more ≡ offered_by shape took)
+GavePart p shape c k bytes = (took : List ℕ) → TookSoFar p c k took → (more : List ℕ) × ((gave_in c k ++ bytes) ++ more ≡ offered_by shape took)
 
 -- it gave what belongs to all that it took
 abbrev pub GaveAll : Plan → Shape → Core → ℕ → Type 0
-GaveAll p shape c k = (took : List ℕ) → TookSoFar p c k took → given c k ≡ offered_by shape took
+GaveAll p shape c k = (took : List ℕ) → TookSoFar p c k took → gave_in c k ≡ offered_by shape took
 
 -- and that is all, whatever it takes besides
 abbrev pub GaveLast : Plan → Shape → Core → ℕ → Type 0
-GaveLast p shape c k = (took more : List ℕ) → TookSoFar p c k took → given c k ≡ offered_by shape (took ++ more)
+GaveLast p shape c k = (took more : List ℕ) → TookSoFar p c k took → gave_in c k ≡ offered_by shape (took ++ more)
 
 -- a take finds some of what belongs to what was taken; where it finds nothing, the other end has given all of that; behind its end nothing belongs to
 -- what comes; and it closes only a link that is finished

@@ -20,7 +20,7 @@ use Rattle.seat_programs.specs.Told.{IsTask, Became, Made}
 use Rattle.seat_programs.specs.Scripts.{all_tasks, took_at_home, IsRunWithCalls}
 use Rattle.send_causes.specs.Below.outcome_stories.specs.Facts.{late_links_of_run}
 use Rattle.send_causes.specs.Below.run_theorems.specs.Heard.{heard_takes}
-use Rattle.send_causes.specs.Below.call_stories.specs.Lists.{given, attempts_of_run}
+use Rattle.send_causes.specs.Below.call_stories.specs.Lists.{gave_in, attempts_of_run}
 
 -- the request of a call under a correlation id
 abbrev pub request_with : Asked → ℕ → Frame
@@ -37,8 +37,8 @@ module _ (script : List Item) (turns : List Turn) (core : Core) (is : IsRunWithC
     pub lived : Made (all_tasks script) core.outcomes name k slot version
     pub in_time : Contains (late_links_of_run script turns core is) k → ⊥
     pub whole : Contains (heard_takes is k) Broken → ⊥
-    pub faultless : HasFault (given core k) → ⊥
-    pub few : length (given core k) < LIMIT
+    pub faultless : HasFault (gave_in core k) → ⊥
+    pub few : length (gave_in core k) < LIMIT
 
   -- what link k took in the end
   abbrev pub took_in_all : ℕ → List ℕ
@@ -46,15 +46,15 @@ module _ (script : List Item) (turns : List Turn) (core : Core) (is : IsRunWithC
 
   -- such a link gave the replies to what it took
   abbrev pub GivesReplies : Type 0
-  GivesReplies = (k : ℕ) (shape : Shape) → IsServed k shape → given core k ≡ given_for shape (took_in_all k)
+  GivesReplies = (k : ℕ) (shape : Shape) → IsServed k shape → gave_in core k ≡ given_for shape (took_in_all k)
 
   -- each link with the server gave the front of them, however its reading ended
   abbrev pub GivesFront : Type 0
-  GivesFront = (k : ℕ) (shape : Shape) → slice_get (link_shapes script) k ≡ Some shape → IsTrue shape.serve → (more : List ℕ) × (given core k ++ more ≡ given_for shape (took_in_all k))
+  GivesFront = (k : ℕ) (shape : Shape) → slice_get (link_shapes script) k ≡ Some shape → IsTrue shape.serve → (more : List ℕ) × (gave_in core k ++ more ≡ given_for shape (took_in_all k))
 
   -- one that gave its end gave all that belongs to what it took, and to whatever it might take besides
   abbrev pub GivesLast : Type 0
-  GivesLast = (k : ℕ) (shape : Shape) → slice_get (link_shapes script) k ≡ Some shape → IsTrue shape.serve → Contains (heard_takes is k) AtEnd → (more : List ℕ) → given core k ≡ given_for shape (took_in_all k ++ more)
+  GivesLast = (k : ℕ) (shape : Shape) → slice_get (link_shapes script) k ≡ Some shape → IsTrue shape.serve → Contains (heard_takes is k) AtEnd → (more : List ℕ) → gave_in core k ≡ given_for shape (took_in_all k ++ more)
 
   -- ## Calls
 
@@ -83,13 +83,13 @@ module _ (script : List Item) (turns : List Turn) (core : Core) (is : IsRunWithC
 
   -- such a link gave no frame fault, and each frame that it gave is such a reply
   abbrev pub GivesNoFault : Type 0
-  GivesNoFault = (k : ℕ) (shape : Shape) → IsForCalls k shape → HasFault (given core k) → ⊥
+  GivesNoFault = (k : ℕ) (shape : Shape) → IsForCalls k shape → HasFault (gave_in core k) → ⊥
 
   abbrev pub GivesCallReplies : Type 0
-  GivesCallReplies = (k n : ℕ) (shape : Shape) (frame : Frame) → IsForCalls k shape → slice_get (stream (given core k)).frames n ≡ Some frame → IsReplyToCall frame
+  GivesCallReplies = (k n : ℕ) (shape : Shape) (frame : Frame) → IsForCalls k shape → slice_get (stream (gave_in core k)).frames n ≡ Some frame → IsReplyToCall frame
 
   -- each response of a call's versions that such a link gave is the reply to the call's own request
   abbrev pub GivesOwnReplies : Type 0
-  GivesOwnReplies = (k n id client : ℕ) (shape : Shape) (frame : Frame) (t : Task) (asked : Asked) (outcome : Outcome) → IsForCalls k shape → slice_get (stream (given core k)).frames n ≡ Some frame → IsTask (all_tasks script) core.outcomes client t
+  GivesOwnReplies = (k n id client : ℕ) (shape : Shape) (frame : Frame) (t : Task) (asked : Asked) (outcome : Outcome) → IsForCalls k shape → slice_get (stream (gave_in core k)).frames n ≡ Some frame → IsTask (all_tasks script) core.outcomes client t
       → t.op ≡ ops.Call asked → Became (all_tasks script) core.outcomes t.number outcome → shown_id outcome ≡ Some id → id < frame.meta.correlation_id → frame.meta.correlation_id < id + asked.range
       → reply (request_with asked frame.meta.correlation_id) ≡ Some frame

@@ -32,7 +32,7 @@ use Rattle.seat_programs.specs.ToldCalls.{Accepted, Order, Fixed, AreOrders, Tol
 use Rattle.seat_programs.specs.Scripts.{all_tasks, took_at_home, IsRunWithCalls}
 use Rattle.served_runs.specs.Below.call_owing.specs.Lives.{ClosesInRun}
 use Rattle.served_runs.specs.Below.run_theorems.proofs.Starts.{made}
-use Rattle.served_runs.specs.Below.call_stories.specs.Lists.{given}
+use Rattle.served_runs.specs.Below.call_stories.specs.Lists.{gave_in}
 use Rattle.served_runs.specs.Offered.{OffersInRun}
 use Rattle.served_runs.specs.Served.{took_in_all}
 use Rattle.served_runs.proofs.Served.{gives_front}
@@ -143,14 +143,14 @@ module _ (bytes : List ℕ) (script : List Item) (reads : script_of bytes ≡ Ok
 -- ## A run that was replayed
 
 module _ (bytes : List ℕ) (script : List Item) (reads : script_of bytes ≡ Ok script) (short : length bytes ≤ 1048576) (turns : List Turn) (core : Core) (is : IsRunWithCalls script turns core) (closes : ClosesInRun script turns core is) (offers : OffersInRun script turns core is)
-    (fixed : Fixed) (orders : ℕ → Order) (tells : ToldCalls (plan_of script) (all_tasks script) core.outcomes fixed (given core) orders core) where
+    (fixed : Fixed) (orders : ℕ → Order) (tells : ToldCalls (plan_of script) (all_tasks script) core.outcomes fixed (gave_in core) orders core) where
   in_range : AllByRecursion InRange script
   in_range = let counted = is_counted bytes script reads in counted.in_range
 
   -- where there are requests for all attempts, each link with the server gives less than is read at most
-  pub few : attempts script ≤ requests script → (k : ℕ) (shape : Shape) → slice_get (link_shapes script) k ≡ Some shape → IsTrue shape.serve → length (given core k) < LIMIT
+  pub few : attempts script ≤ requests script → (k : ℕ) (shape : Shape) → slice_get (link_shapes script) k ≡ Some shape → IsTrue shape.serve → length (gave_in core k) < LIMIT
   few enough k shape at serves =
       let x = gives_front script (made bytes script reads) (are_there bytes script reads) in_range turns core is closes offers k shape at serves in
       let low : k < length (link_names script) = (let l = slice_get_within (link_shapes script) k shape at in let m = shapes_many script in omega (arith, l, m)) in
-      front_few bytes script reads core.outcomes fixed (given core) orders core (let are = tells.are_orders in are) tells.last (λ client t asked it op. (tells.again client t asked it op).0) tells.sent short enough k low shape
-      (took_in_all script turns core is k) [] (given core k) x.0 (sym (append-nil (took_in_all script turns core is k))) x.1
+      front_few bytes script reads core.outcomes fixed (gave_in core) orders core (let are = tells.are_orders in are) tells.last (λ client t asked it op. (tells.again client t asked it op).0) tells.sent short enough k low shape
+      (took_in_all script turns core is k) [] (gave_in core k) x.0 (sym (append-nil (took_in_all script turns core is k))) x.1

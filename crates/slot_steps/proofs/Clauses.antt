@@ -5,10 +5,11 @@ use mathlib.Core.Option.{some}
 use native.Mathlib.Decide.{ℕ_discrete, dec_le}
 use lib.ListN.{get_elem?}
 use Rattle.sock_model.specs.declared.marks.Mark.{Mark}
-use Rattle.sock_model.specs.Weights.{total, tally, is_claimed, is_hold, is_saw, is_told, is_stored, is_known, is_failer, is_born, is_tried, is_linked}
+use Rattle.sock_model.specs.Weights.{tally, is_claimed, is_hold, is_saw, is_told, is_stored, is_known, is_failer, is_born, is_tried, is_linked}
 use Rattle.sock_model.specs.Slots.{SlotFacts, live, count, SlotLaw}
 use Rattle.slot_steps.proofs.Sums.{term_le}
 use Rattle.slot_steps.proofs.Numbers.{live_le, life-in, life_is}
+use Rattle.sock_model.specs.sock_words.specs.Totals.{total}
 
 module _ (first : ℕ) (l : SlotFacts) (law : SlotLaw first (live l) l) where
   lives_le : live l ≤ 1

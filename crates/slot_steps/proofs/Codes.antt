@@ -6,12 +6,13 @@ use native.Mathlib.Decide.{ℕ_discrete}
 use lib.ListN.{get_elem?}
 use Rattle.sock_model.specs.declared.marks.Mark.{Mark}
 use Rattle.sock_model.specs.declared.marks.Mark.TheVariants.{Claimed, Coding, Known, Saw, Stored, Told, Met}
-use Rattle.sock_model.specs.Weights.{total, tally, pair, life, is_claimed, is_recycling, is_busy, is_ref, is_any_coding, is_tried, is_stage, is_recycled, is_hold, is_zero, is_coding, is_known, is_born, is_saw, is_failer, is_freer, is_coded, is_stored, is_told, is_linked, is_met}
+use Rattle.sock_model.specs.Weights.{tally, pair, life, is_claimed, is_recycling, is_busy, is_ref, is_any_coding, is_tried, is_stage, is_recycled, is_hold, is_zero, is_coding, is_known, is_born, is_saw, is_failer, is_freer, is_coded, is_stored, is_told, is_linked, is_met}
 use Rattle.sock_model.specs.Marks.{without}
 use Rattle.sock_model.specs.Slots.{SlotFacts, live, Each, KeepsCodes, SlotLaw}
 use Rattle.slot_steps.proofs.Sums.{taken_as, tally_mono, each_set}
 use Rattle.slot_steps.proofs.Numbers.{only-else, only_is, pair_is, pair-at, life_le, pair_le, pair_only, live_is}
 use Rattle.slot_steps.proofs.Slots.{moved, own, few_with, keeps_idle, busy_is, alive_le, keeps_notes, stage_is}
+use Rattle.sock_model.specs.sock_words.specs.Totals.{total}
 
 stage_le : (n k : ℕ) (x : Mark) → is_stage n k x ≤ is_claimed x
 stage_le n k (Claimed a b) = pair_le n k a b

@@ -11,7 +11,7 @@ use Rattle.sock_model.specs.declared.marks.Mark.{Mark}
 use Rattle.sock_model.specs.declared.marks.SlotMark.{SlotMark}
 use Rattle.sock_model.specs.declared.view.View.{View}
 use Rattle.sock_model.specs.sock_words.specs.declared.plain.Plan.{Plan}
-use Rattle.sock_model.specs.Weights.{total, tally, only, is_born, uses}
+use Rattle.sock_model.specs.Weights.{tally, only, is_born, uses}
 use Rattle.sock_model.specs.Marks.{about, without, without_at, without_pass}
 use Rattle.sock_model.specs.Layout.{tag_index, ref_index, link_index, code_index, name_index, open_index}
 use Rattle.sock_model.specs.Slots.{SlotFacts, live, SlotLaw}
@@ -19,6 +19,7 @@ use Rattle.sock_model.specs.References.{spare, sayers, OnlyMarks, Stores, uses_o
 use Rattle.slot_steps.proofs.Sums.{total-set}
 use Rattle.slot_steps.proofs.Numbers.{only-else}
 use Rattle.sock_model.specs.sock_words.specs.Words.{vref_version, vref_nref}
+use Rattle.sock_model.specs.sock_words.specs.Totals.{total}
 
 -- the two removals are one
 pub about-without : (i : ℕ) (g : Mark → ℕ) (es : List SlotMark) → about i (without_at i g es) ≡ without g (about i es)

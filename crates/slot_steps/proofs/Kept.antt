@@ -12,7 +12,7 @@ use Rattle.sock_model.specs.declared.marks.Mark.TheVariants.{Claimed, Recycling,
 use Rattle.sock_model.specs.declared.marks.SlotMark.{SlotMark}
 use Rattle.sock_model.specs.declared.view.View.{View}
 use Rattle.sock_model.specs.sock_words.specs.declared.plain.Plan.{Plan}
-use Rattle.sock_model.specs.Weights.{total, tally, only, is_busy, is_claimed, is_ref, is_probe, is_any_coding, is_stage, is_hold, is_known, is_born, is_zero, is_recycled, is_recycling}
+use Rattle.sock_model.specs.Weights.{tally, only, is_busy, is_claimed, is_ref, is_probe, is_any_coding, is_stage, is_hold, is_known, is_born, is_zero, is_recycled, is_recycling}
 use Rattle.sock_model.specs.Marks.{about, at, without, without_at, dropped}
 use Rattle.sock_model.specs.Layout.{tag_index, ref_index}
 use Rattle.sock_model.specs.Slots.{SlotFacts, live_by, live, SlotLaw}
@@ -23,6 +23,7 @@ use Rattle.slot_steps.proofs.Numbers.{life_is, pair_is, or-even, or-odd, live_le
 use Rattle.slot_steps.proofs.Slots.{any_recycled, recycled_le, zero_is, stage_is, keeps_probe, keeps_hold, keeps_look, keeps_sub, IsRef, probe-ref, hold-ref, ref_cases, keeps_fail, keeps_recycle, keeps_free, keeps_claim, keeps_tried, keeps_birth, keeps_lost}
 use Rattle.slot_steps.proofs.Frame.{about-without, about-without_else, uses-without, uses-taken, at_ref, at_tag, slot_step}
 use Rattle.sock_model.specs.sock_words.specs.Words.{vref_version, vref_nref}
+use Rattle.sock_model.specs.sock_words.specs.Totals.{total}
 
 -- a count leaves its half of the word to the version
 pub few_refs : {S : Type 0} (p : Plan) (s : State S View) → References p s → (i : ℕ) → i < p.slots → (slot_facts s i).nref < 40000000

@@ -12,7 +12,7 @@ use Rattle.sock_model.specs.declared.marks.Mark.{Mark}
 use Rattle.sock_model.specs.declared.marks.SlotMark.{SlotMark}
 use Rattle.sock_model.specs.declared.view.View.{View}
 use Rattle.sock_model.specs.sock_words.specs.declared.plain.Plan.{Plan}
-use Rattle.sock_model.specs.Weights.{total, tally, only, is_ref, is_busy, is_claimed, is_recycling, is_tried, is_recycled, is_hold, is_saw, is_zero, is_known, is_born, is_failer, is_freer, is_coding, is_coded, is_any_coding, is_stored, is_told, is_stage, is_linked, is_met}
+use Rattle.sock_model.specs.Weights.{tally, only, is_ref, is_busy, is_claimed, is_recycling, is_tried, is_recycled, is_hold, is_saw, is_zero, is_known, is_born, is_failer, is_freer, is_coding, is_coded, is_any_coding, is_stored, is_told, is_stage, is_linked, is_met}
 use Rattle.sock_model.specs.Marks.{about, says}
 use Rattle.sock_model.specs.Layout.{ref_index, name_index, open_index}
 use Rattle.sock_model.specs.Slots.{SlotFacts, live_by, live, Each, KeepsCodes, SlotLaw}
@@ -21,6 +21,7 @@ use Rattle.slot_steps.proofs.Sums.{total-append, total-set, each_set}
 use Rattle.sock_model.specs.Seats.{newcomer, spent, joined, Unused, below, later, earliest}
 use Rattle.slot_steps.proofs.Numbers.{only_le, only-else, life-none, live-free}
 use Rattle.sock_model.specs.sock_words.specs.Words.{vref_version, vref_nref}
+use Rattle.sock_model.specs.sock_words.specs.Totals.{total}
 
 abbrev start : ℕ → SlotFacts
 start first = record { tag = 0; version = first; nref = 0; link = 0; code = 0; marks = [] ∷ [] }

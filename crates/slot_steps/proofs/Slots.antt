@@ -6,11 +6,12 @@ use native.Mathlib.Decide.{ℕ_discrete}
 use lib.ListN.{get_elem?}
 use Rattle.sock_model.specs.declared.marks.Mark.{Mark}
 use Rattle.sock_model.specs.declared.marks.Mark.TheVariants.{Claimed, Recycling, Hold, Probe, Zero, Coding, Tried, Known, Born, Saw, Failer, Freer, Linked, Told, Met}
-use Rattle.sock_model.specs.Weights.{total, tally, pair, life, is_claimed, is_recycling, is_busy, is_ref, is_probe, is_any_coding, is_tried, is_stage, is_recycled, is_hold, is_zero, is_coding, is_known, is_born, is_saw, is_failer, is_freer, is_coded, is_stored, is_told, is_linked, is_met}
+use Rattle.sock_model.specs.Weights.{tally, pair, life, is_claimed, is_recycling, is_busy, is_ref, is_probe, is_any_coding, is_tried, is_stage, is_recycled, is_hold, is_zero, is_coding, is_known, is_born, is_saw, is_failer, is_freer, is_coded, is_stored, is_told, is_linked, is_met}
 use Rattle.sock_model.specs.Marks.{without, dropped}
 use Rattle.sock_model.specs.Slots.{SlotFacts, live, Each, KeepsCodes, SlotLaw}
 use Rattle.slot_steps.proofs.Sums.{total-set, term_le, taken, taken_as, total_mono, tally_mono, tally_parts, total_some, each_set}
 use Rattle.slot_steps.proofs.Numbers.{only-same, only-at, only-else, only_is, only_le, pair_is, pair-at, life-in, life_is, life-more, life-odd_more, life-less, live_le, live_is}
+use Rattle.sock_model.specs.sock_words.specs.Totals.{total}
 
 pub busy-parts : (x : Mark) → is_busy x ≡ is_claimed x + is_recycling x
 busy-parts (Claimed n k) = omega arith

@@ -12,7 +12,7 @@ use Rattle.sock_model.specs.declared.marks.Mark.TheVariants.{Claimed, Coding, Kn
 use Rattle.sock_model.specs.declared.marks.SlotMark.{SlotMark}
 use Rattle.sock_model.specs.declared.view.View.{View}
 use Rattle.sock_model.specs.sock_words.specs.declared.plain.Plan.{Plan}
-use Rattle.sock_model.specs.Weights.{life, total, tally, only, is_busy, is_coding, is_stage, is_hold, is_known, is_born, is_recycled, is_recycling, is_linked}
+use Rattle.sock_model.specs.Weights.{life, tally, only, is_busy, is_coding, is_stage, is_hold, is_known, is_born, is_recycled, is_recycling, is_linked}
 use Rattle.sock_model.specs.Marks.{about, without, without_at, latest, says, noted}
 use Rattle.sock_model.specs.Layout.{link_index, head_index, code_index, name_index, open_index}
 use Rattle.sock_model.specs.Slots.{SlotFacts, live_by, live, count, SlotLaw}
@@ -26,6 +26,7 @@ use Rattle.slot_steps.proofs.Codes.{keeps_known, coding_as, keeps_stage, keeps_c
 use lib.Seq.{set-get_or}
 use Rattle.sock_model.specs.declared.view.StoredWord.{StoredWord}
 use Rattle.slot_steps.proofs.Kept.{settled}
+use Rattle.sock_model.specs.sock_words.specs.Totals.{total}
 
 pub noted-else : (x z : ℕ) (n : StoredWord) → n.place ≢ x → (ss : List (List StoredWord)) → total (says x z) ss ≤ total (says x z) (noted n ss)
 noted-else x z n ne [] = omega arith

@@ -23,7 +23,6 @@ use Rattle.sock_model.specs.declared.view.View.{View}
 use Rattle.sock_model.specs.Marks.{about}
 use Rattle.sock_model.specs.Seats.{newcomer}
 use Rattle.sock_model.specs.SlotRows.{marks_of}
-use Rattle.sock_model.specs.Weights.{total}
 use Rattle.slot_steps.proofs.Seats.{about-append}
 use Rattle.slot_steps.proofs.Sums.{total-append, total_some, term_le}
 use Rattle.seat_programs.specs.declared.task.Task.{Task}
@@ -40,6 +39,7 @@ use Rattle.sock_deeds.proofs.Growing.{IsNote, HasFound, HasDropped, Grew}
 use Rattle.sock_deeds.proofs.Places.{map_there, map_back, map_append}
 use Rattle.sock_deeds.proofs.Readers.{read_by_ids}
 use Rattle.sock_deeds.proofs.Sources.{IsOfLife}
+use Rattle.sock_words.specs.Totals.{total}
 
 -- ## What all seats have together
 

@@ -11,7 +11,6 @@ use Rattle.sock_words.specs.declared.vref.Vref.{Vref}
 use Rattle.sock_words.specs.Words.{socket_id_version, socket_id_slot}
 use Rattle.sock_model.specs.declared.marks.Mark.{Mark}
 use Rattle.sock_model.specs.SlotRows.{marks_of}
-use Rattle.sock_model.specs.Weights.{total}
 use Rattle.slot_steps.proofs.Numbers.{only-at}
 use Rattle.seat_programs.specs.declared.task.Task.{Task}
 use Rattle.rpc_client.specs.sock_rule.specs.Faults.{is_fault}
@@ -27,6 +26,7 @@ use Rattle.sock_deeds.proofs.Failing.{broken}
 use Rattle.sock_deeds.proofs.Flats.{flat_from}
 use Rattle.sock_deeds.proofs.Growing.{returned_grew}
 use Rattle.sock_deeds.proofs.Places.{to_elem}
+use Rattle.sock_words.specs.Totals.{total}
 
 -- the fault for which a seat failed a socket is among its notes
 noted_fault : {O : Type 0} {state : O → OutState} {L : ℕ → Type 0} (k h : ℕ) (ms : List Mark) (noted : Noted state L h ms) (j : ℕ) → get_elem? (noted_links h ms noted) j ≡ some k → 0 < total (is_fault k) ms

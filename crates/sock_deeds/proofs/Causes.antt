@@ -17,7 +17,7 @@ use Rattle.sock_model.specs.declared.marks.Mark.TheVariants.{Saw}
 use Rattle.sock_model.specs.declared.view.View.{View}
 use Rattle.sock_model.specs.Layout.{name_index}
 use Rattle.sock_model.specs.SlotRows.{marks_of}
-use Rattle.sock_model.specs.Weights.{is_known, is_saw, only, total}
+use Rattle.sock_model.specs.Weights.{is_known, is_saw, only}
 use Rattle.slot_steps.proofs.Numbers.{only-same}
 use Rattle.rpc_client.specs.sock_rule.specs.Becoming.{Became as Becomes}
 use Rattle.rpc_client.specs.sock_rule.specs.declared.homes.Letter.{Letter}
@@ -35,6 +35,7 @@ use Rattle.sock_deeds.proofs.Failing.{FailedBy, WhyFailed, life_failed}
 use Rattle.sock_deeds.proofs.Growing.{Grew, HasFound, grew_then, added_grew, back_grew, found_grew, returned_grew, over_grew}
 use Rattle.sock_deeds.proofs.Lives.{MadeHere, made_of, found_made, made_inside}
 use Rattle.sock_deeds.proofs.Tasks.{earlier, one_place}
+use Rattle.sock_words.specs.Totals.{total}
 
 -- the id was found under the name, and its life is known
 found_knows : (p : Plan) (n : ℕ) (sock : SockRef) (v w : View) → ReachedBy p n (reached.Here sock) v w → (socket_id_slot sock.id.0 < p.slots) × (0 < marks_of (is_known (socket_id_version sock.id.0)) (socket_id_slot sock.id.0) w)

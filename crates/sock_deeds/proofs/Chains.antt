@@ -7,10 +7,10 @@ use Rattle.sock_io.specs.Link.{OutState}
 use Rattle.sock_words.specs.declared.plain.Plan.{Plan}
 use Rattle.sock_model.specs.declared.marks.Mark.{Mark}
 use Rattle.sock_model.specs.SlotRows.{marks_of}
-use Rattle.sock_model.specs.Weights.{total}
 use Rattle.rpc_client.specs.sock_rule.specs.OnTable.{put_in}
 use Rattle.sock_deeds.specs.Deeds.{Hand, Deed, Chain}
 use Rattle.sock_deeds.proofs.Growing.{IsNote, Grew, stays_as, grew_then, deed_grew}
+use Rattle.sock_words.specs.Totals.{total}
 
 module _ {O : Type 0} {g : Ghosts O} {state : O → OutState} {p : Plan} where
   -- how many marks of this weight a deed added

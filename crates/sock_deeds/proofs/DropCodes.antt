@@ -23,7 +23,7 @@ use Rattle.sock_model.specs.Entries.{on}
 use Rattle.sock_model.specs.Layout.{open_index, place_index}
 use Rattle.sock_model.specs.Marks.{about}
 use Rattle.sock_model.specs.SlotRows.{marks_of}
-use Rattle.sock_model.specs.Weights.{is_coded, is_failer, is_saw, is_stored, is_told, only, pair, total}
+use Rattle.sock_model.specs.Weights.{is_coded, is_failer, is_saw, is_stored, is_told, only, pair}
 use Rattle.slot_steps.proofs.Numbers.{only_is, pair-same, pair_is, pair_only}
 use Rattle.rpc_client.specs.sock_rule.specs.Closing.{PlacesDiffer}
 use Rattle.rpc_client.specs.sock_rule.specs.OnTable.{put_in}
@@ -50,6 +50,7 @@ use Rattle.sock_deeds.proofs.Places.{map_back, place_low}
 use Rattle.sock_deeds.proofs.Readers.{dids_of, read_sets}
 use Rattle.sock_deeds.proofs.Sources.{Source, by_open, by_fail, by_set, by_write, done_source}
 use Rattle.sock_deeds.proofs.Tasks.{is_for}
+use Rattle.sock_words.specs.Totals.{total}
 
 -- ## Codes among the notes
 

@@ -17,7 +17,6 @@ use Rattle.sock_words.specs.declared.plain.Plan.{Plan}
 use Rattle.sock_words.specs.declared.place_word.PlaceWord.{PlaceWord}
 use Rattle.sock_words.specs.declared.vref.Vref.{Vref}
 use Rattle.sock_model.specs.Seats.{newcomer}
-use Rattle.sock_model.specs.Weights.{total}
 use Rattle.slot_steps.proofs.Sums.{total-append}
 use Rattle.seat_programs.specs.declared.task.Op.{Op}
 use Rattle.seat_programs.specs.declared.task.Op.TheVariants as ops
@@ -34,6 +33,7 @@ use Rattle.sock_deeds.proofs.Acts.{Act, did_of, done_of, before, after, same_sea
 use Rattle.sock_deeds.proofs.Numbered.{IsOnSockets, tasks_of}
 use Rattle.sock_deeds.proofs.Places.{to_slice, place_low, place_there}
 use Rattle.sock_deeds.proofs.Tasks.{Does, is_for, act_of, act_does, earlier, rises}
+use Rattle.sock_words.specs.Totals.{total}
 
 -- ## References by a name
 

@@ -20,7 +20,6 @@ use Rattle.sock_model.specs.declared.view.View.{View}
 use Rattle.sock_model.specs.Layout.{name_index, open_index}
 use Rattle.sock_model.specs.Marks.{about, at, noted}
 use Rattle.sock_model.specs.SlotRows.{marks_of}
-use Rattle.sock_model.specs.Weights.{total}
 use Rattle.slot_steps.proofs.Sums.{about-here, about-other}
 use Rattle.rpc_client.specs.sock_rule.specs.Becoming.{Became}
 use Rattle.rpc_client.specs.sock_rule.specs.OnTable.{is_put, put_in}
@@ -46,6 +45,7 @@ use Rattle.rpc_client.specs.Reaching.{ReachedBy}
 use Rattle.rpc_client.specs.Sending.{with_notes, WroteAll, Returned, CameBack, DeliveredBy}
 use Rattle.sock_deeds.proofs.Flats.{append_later}
 use Rattle.sock_deeds.specs.Deeds.{Hand, SentOver, MessageBy, Did, opens, sends, holds, drops, fails, waits, looks, takes, misses, sets, returns, DoneBy, Deed}
+use Rattle.sock_words.specs.Totals.{total}
 
 -- a mark that isn't a reference
 abbrev pub IsNote : (Mark → ℕ) → Type 0

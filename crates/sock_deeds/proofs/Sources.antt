@@ -19,7 +19,6 @@ use Rattle.sock_model.specs.declared.view.View.{View}
 use Rattle.sock_model.specs.Layout.{name_index, open_index}
 use Rattle.sock_model.specs.Marks.{about, at}
 use Rattle.sock_model.specs.SlotRows.{marks_of}
-use Rattle.sock_model.specs.Weights.{total}
 use Rattle.slot_steps.proofs.Sums.{about-here, about-other}
 use Rattle.rpc_client.specs.sock_rule.specs.Becoming.{Became}
 use Rattle.rpc_client.specs.sock_rule.specs.Faults.{fault as fault_mark}
@@ -47,6 +46,7 @@ use Rattle.rpc_client.specs.Sending.{WroteAll, Returned, CameBack}
 use Rattle.sock_deeds.specs.Deeds.{Hand, SentOver, MessageBy, Did, opens, sends, holds, drops, fails, waits, looks, takes, misses, sets, returns, DoneBy}
 use Rattle.sock_deeds.specs.Broken.{noted_links, faults_by}
 use Rattle.sock_deeds.proofs.Growing.{Grew, returned_grew}
+use Rattle.sock_words.specs.Totals.{total}
 
 -- a life's birth, its link and its failing
 abbrev pub of_life : Mark → Bool

@@ -14,7 +14,7 @@ use Rattle.sock_model.specs.declared.view.StoredWord.{StoredWord}
 use Rattle.sock_model.specs.declared.view.View.{View}
 use Rattle.sock_model.specs.Layout.{name_index, open_index, place_index}
 use Rattle.sock_model.specs.Marks.{noted}
-use Rattle.sock_model.specs.Weights.{total, pair}
+use Rattle.sock_model.specs.Weights.{pair}
 use Rattle.slot_steps.proofs.Numbers.{pair_is}
 use Rattle.rpc_client.specs.sock_rule.specs.OnTable.{is_put, put_in}
 use Rattle.rpc_client.specs.sock_rule.specs.Rows.{PutAt}
@@ -37,6 +37,7 @@ use Rattle.rpc_client.specs.Reaching.{ReachedBy}
 use Rattle.rpc_client.specs.Sending.{CameBack}
 use Rattle.rpc_client.proofs.Finding.{set_others}
 use Rattle.sock_deeds.specs.Deeds.{Hand, IsDropWord, SentOver, MessageBy, Did, opens, sends, holds, drops, fails, waits, looks, takes, misses, sets, returns, DoneBy}
+use Rattle.sock_words.specs.Totals.{total}
 
 pub note_is : (x n : ℕ) (y : StoredWord) (all : List (List StoredWord)) → total (total (is_put x n)) (noted y all) ≡ is_put x n y + total (total (is_put x n)) all
 note_is x n y [] = omega arith

@@ -5,7 +5,7 @@ use Rattle.sock_words.specs.declared.plain.Plan.{Plan}
 use Rattle.sock_words.specs.Words.{socket_id_version, place_word}
 use Rattle.sock_model.specs.declared.view.View.{View}
 use Rattle.sock_model.specs.Layout.{place_index}
-use Rattle.sock_model.specs.Weights.{total, is_met, is_saw}
+use Rattle.sock_model.specs.Weights.{is_met, is_saw}
 use Rattle.slot_steps.proofs.Numbers.{pair_is}
 use Rattle.rpc_client.specs.sock_rule.specs.OnTable.{is_put, put_in}
 use Rattle.rpc_client.specs.write_chain.specs.declared.right.Undelivered.{Undelivered}
@@ -14,6 +14,7 @@ use Rattle.rpc_client.specs.write_chain.specs.Writing.{FoundDead}
 use Rattle.rpc_client.specs.write_chain.proofs.Noting.{wrote_more, wrote_stores}
 use Rattle.sock_deeds.specs.Deeds.{IsDropWord}
 use Rattle.sock_deeds.proofs.Stores.{note_is}
+use Rattle.sock_words.specs.Totals.{total}
 
 module _ {O : Type 0} {state : O → OutState} (p : Plan) (id x n : ℕ) where
   pub no_word : (v w : View) → Wrote state id v w → put_in x n w ≡ put_in x n v

@@ -8,10 +8,11 @@ use Rattle.sock_model.specs.declared.chain.Right.{Right}
 use Rattle.sock_model.specs.declared.home.Home.{Home}
 use Rattle.sock_model.specs.declared.home.Home.TheVariants.{Link}
 use Rattle.sock_model.specs.declared.view.View.{View}
-use Rattle.sock_model.specs.Weights.{total, is_recycled}
+use Rattle.sock_model.specs.Weights.{is_recycled}
 use Rattle.sock_model.specs.SlotRows.{marks_of}
 use Rattle.sock_model.specs.Reads.{tokens, link_at, link_home, waits_of, hands_of}
 use Rattle.sock_model.specs.Links.{Given}
+use Rattle.sock_words.specs.Totals.{total}
 
 -- the home of link k has the writing half that was handed in for it, unfinished while it is in a slot
 pub record IsOwn (slot : ℕ → Option ℕ) (k : ℕ) (x : Home) : Type 0 where

@@ -1,8 +1,9 @@
 -- The plain model of references: which lives there are and who holds them, what may happen to them, and how the views of all seats are read as it.
 use Rattle.std.specs.Prelude.{◌≡◌, ℕ, ◌+◌, ◌-◌, ◌<◌, ◌≤◌, ◌==◌, cond, List, [], ◌∷◌, map, slice_index}
 use Rattle.sock_model.specs.declared.view.View.{View}
-use Rattle.sock_model.specs.Weights.{total, pair, is_hold, is_born, is_failer, is_freer}
+use Rattle.sock_model.specs.Weights.{pair, is_hold, is_born, is_failer, is_freer}
 use Rattle.sock_model.specs.SlotRows.{marks_of}
+use Rattle.sock_words.specs.Totals.{total}
 
 -- ## Lives and who holds them
 

@@ -12,11 +12,12 @@ use Rattle.sock_model.specs.declared.home.Home.TheVariants.{Link, Message}
 use Rattle.sock_model.specs.declared.marks.SlotMark.{SlotMark}
 use Rattle.sock_model.specs.declared.view.View.{View}
 use Rattle.sock_model.specs.declared.view.Hand.{Hand}
-use Rattle.sock_model.specs.Weights.{total, only, is_waiting}
+use Rattle.sock_model.specs.Weights.{only, is_waiting}
 use Rattle.sock_model.specs.Layout.{head_index, request_index, next_index}
 use Rattle.sock_model.specs.Tokens.{Tokens}
 use Rattle.sock_model.specs.Memory.{Memory}
 use Rattle.sock_model.specs.Messages.{Letter}
+use Rattle.sock_words.specs.Totals.{total}
 
 abbrev pub head_at : List ℕ → Option ℕ → Option ℕ
 head_at ws none = none

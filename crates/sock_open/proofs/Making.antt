@@ -7,7 +7,6 @@ use Rattle.atomic_table.specs.declared.shared.Seat.{Seat}
 use Rattle.sock_io.specs.declared.link.Out.{Ghosts}
 use Rattle.sock_words.specs.declared.plain.Plan.{Plan}
 use Rattle.sock_model.specs.declared.view.View.{View}
-use Rattle.sock_model.specs.Weights.{total}
 use Rattle.sock_model.specs.Seats.{newcomer, below, carrier, earliest, later, lighter}
 use Rattle.sock_rule.specs.OnTable.{opener}
 use Rattle.sock_rule.specs.Seated.{IsSeat, giving, given, passed}
@@ -19,6 +18,7 @@ use Rattle.sock_table.specs.Closed.{IsDoneSeat}
 use Rattle.sock_rule.specs.Seated.{IsDone}
 use Rattle.sock_rule.specs.Closing.{IsAtRest}
 use Rattle.sock_open.specs.Made.{IsNewSeat, AreNewSeats, PassesFrom}
+use Rattle.sock_words.specs.Totals.{total}
 
 -- a seat with the passes of the first n links, which stands for some of the seats
 abbrev pub standing : Plan → ℕ → ℕ → ℕ → View

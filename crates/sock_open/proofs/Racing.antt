@@ -10,7 +10,7 @@ use Rattle.sock_words.specs.Words.{socket_id_version, socket_id_slot}
 use Rattle.sock_model.specs.declared.marks.Mark.{Mark}
 use Rattle.sock_model.specs.declared.marks.SlotMark.{SlotMark}
 use Rattle.sock_model.specs.declared.view.View.{View}
-use Rattle.sock_model.specs.Weights.{total, is_ref, is_known}
+use Rattle.sock_model.specs.Weights.{is_ref, is_known}
 use Rattle.sock_table.specs.slot_steps.proofs.Sums.{total-append}
 use Rattle.sock_rule.specs.Becoming.{Became}
 use Rattle.sock_rule.proofs.Becoming.{then_}
@@ -25,6 +25,7 @@ use Rattle.sock_table.specs.Closed.{AllDone, IsDoneSeat}
 use Rattle.sock_open.specs.Made.{IsNewSeat, AreNewSeats, PassesFrom}
 use Rattle.sock_open.proofs.Testing.{done_between, kept_done}
 use Rattle.sock_open.proofs.Making.{new_view}
+use Rattle.sock_words.specs.Totals.{total}
 
 -- the link that was found is a note, and no reference
 pub linked_notes : (p : Plan) (k id : ℕ) (v w : View) → LinkOf p k id v w → (adds : List Mark) × (total is_ref adds ≡ 0) × Became (socket_id_slot id) v w adds []

@@ -9,7 +9,7 @@ use Rattle.sock_words.specs.Words.{socket_id_version, socket_id_slot}
 use Rattle.sock_model.specs.declared.marks.Mark.{Mark}
 use Rattle.sock_model.specs.declared.marks.Mark.TheVariants.{Hold, Probe, Freer, Met, Recycling, Saw}
 use Rattle.sock_model.specs.declared.view.View.{View}
-use Rattle.sock_model.specs.Weights.{total, is_ref, is_probe, is_known, is_hold}
+use Rattle.sock_model.specs.Weights.{is_ref, is_probe, is_known, is_hold}
 use Rattle.sock_model.specs.Marks.{about}
 use Rattle.sock_model.specs.SlotRows.{marks_of}
 use Rattle.sock_table.specs.slot_steps.proofs.Sums.{total_mono, total-append}
@@ -22,6 +22,7 @@ use Rattle.sock_table.specs.Answers.{Holds, Held, GoneFrom, FailedBy, FoundFaile
 use Rattle.sock_table.specs.Closed.{IsDoneSeat}
 use Rattle.sock_table.specs.declared.refs.Already.{Already}
 use Rattle.sock_table.proofs.Making.{became_same}
+use Rattle.sock_words.specs.Totals.{total}
 
 probe_ref : (m : Mark) → is_probe m ≤ is_ref m
 probe_ref Probe = omega arith

@@ -5,10 +5,10 @@ use Rattle.atomic_table.specs.declared.shared.Seat.{Seat}
 use Rattle.sock_io.specs.declared.link.Out.{Ghosts}
 use Rattle.sock_words.specs.declared.plain.Plan.{Plan}
 use Rattle.sock_model.specs.declared.view.View.{View}
-use Rattle.sock_model.specs.Weights.{total}
 use Rattle.sock_model.specs.Seats.{newcomer}
 use Rattle.sock_table.specs.declared.passes.LinkPass.{LinkPass}
 use Rattle.sock_table.specs.Passes.{IsPass}
+use Rattle.sock_words.specs.Totals.{total}
 
 -- a seat that made no call yet: it stands for itself, and has nothing
 pub record IsNewSeat {S : Type 0} (z : TableId) (p : Plan) (s : Seat S View) : Type 0 where

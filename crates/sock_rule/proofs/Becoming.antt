@@ -4,7 +4,7 @@ use Rattle.sock_model.specs.declared.marks.Mark.{Mark}
 use Rattle.sock_model.specs.declared.marks.Mark.TheVariants.{Recycling, Hold, Probe, Zero, Coding, Saw, Failer, Freer, Stored, Told, Met}
 use Rattle.sock_model.specs.declared.view.View.{View}
 use Rattle.sock_model.specs.declared.view.Hand.{Hand}
-use Rattle.sock_model.specs.Weights.{total, is_probe, is_hold, is_zero, is_recycling, is_recycled, is_coding}
+use Rattle.sock_model.specs.Weights.{is_probe, is_hold, is_zero, is_recycling, is_recycled, is_coding}
 use Rattle.sock_model.specs.Marks.{about, at, without, without_at}
 use Rattle.sock_model.specs.SlotRows.{marks_of, added, back, subbed, failed, recycled, freed, looked, coded, met_link}
 use Rattle.sock_model.specs.ChainRows.{with_hand, without_hand}
@@ -17,6 +17,7 @@ use native.Mathlib.Decide.{ℕ_discrete}
 use Rattle.chain_core.specs.slot_steps.proofs.Frame.{about-without, about-without_else}
 use Rattle.sock_rule.specs.Becoming.{Became, Goes, probe_goes, hold_goes}
 use Rattle.sock_words.specs.Words.{vref_version, vref_nref}
+use Rattle.sock_words.specs.Totals.{total}
 
 module _ (i : ℕ) where
   pub stays : (v : View) → Became i v v [] []

@@ -10,7 +10,6 @@ use Rattle.sock_model.specs.declared.view.View.{View}
 use Rattle.sock_model.specs.declared.view.StoredWord.{StoredWord}
 use Rattle.sock_model.specs.declared.chain.Entry.{Entry}
 use Rattle.sock_model.specs.declared.chain.Heading.{Heading}
-use Rattle.sock_model.specs.Weights.{total}
 use Rattle.sock_model.specs.Layout.{place_index}
 use Rattle.sock_model.specs.Rule.{lists_of, Rule}
 use Rattle.chain_core.specs.slot_steps.proofs.Sums.{total-set}
@@ -20,6 +19,7 @@ use Rattle.sock_rule.specs.Faults.{faults_of, out_of, LinkFaults}
 use Rattle.sock_rule.specs.OnTable.{share_of, put_in, is_labelled, labelled_in, is_headed, headed_in, IsDropKept, Settled, Labelled, OnTable}
 use Rattle.sock_rule.proofs.Light.{Alike, light_rule}
 use Rattle.sock_rule.proofs.Faults.{calm}
+use Rattle.sock_words.specs.Totals.{total}
 
 -- the step leaves the seat's share, its number of lists, what it found, met and dropped, and what it stored
 pub record SameShare (p : Plan) (v w : View) : Type 0 where

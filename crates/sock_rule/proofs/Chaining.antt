@@ -14,7 +14,7 @@ use Rattle.sock_model.specs.declared.chain.Claim.{Claim}
 use Rattle.sock_model.specs.declared.chain.Entry.{Entry}
 use Rattle.sock_model.specs.declared.chain.Heading.{Heading}
 use Rattle.sock_model.specs.declared.chain.Loose.{Loose}
-use Rattle.sock_model.specs.Weights.{total, is_hold, is_met}
+use Rattle.sock_model.specs.Weights.{is_hold, is_met}
 use Rattle.sock_model.specs.Layout.{request_index, next_index, head_index, link_index}
 use Rattle.sock_model.specs.SlotRows.{marks_of, met_link}
 use Rattle.sock_model.specs.ChainRows.{with_claim, fresh_claim, filled_claim, ready_claim, queued, righted, without_loose, more, entry_of}
@@ -37,6 +37,7 @@ use Rattle.sock_rule.proofs.Settling.{slot_settled, next_settled, taken_settled,
 use Rattle.sock_rule.proofs.Reached.{free_generation, free_home_law}
 use Rattle.sock_rule.proofs.Storing.{held_linked, held_is, met_is}
 use Rattle.sock_words.specs.Words.{IDLE, UNCONNECTED}
+use Rattle.sock_words.specs.Totals.{total}
 
 the_claim : (l : List Claim) (c d : Claim) → l ≡ c ∷ [] → l ≡ d ∷ [] → c ≡ d
 the_claim l c d e f = let h : c ∷ [] ≡ d ∷ [] = sym e ∙ f in cc

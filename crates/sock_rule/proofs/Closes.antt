@@ -10,7 +10,7 @@ use Rattle.sock_words.specs.declared.plain.Plan.{Plan}
 use Rattle.sock_model.specs.declared.home.Home.{Home}
 use Rattle.sock_model.specs.declared.marks.Mark.{Mark}
 use Rattle.sock_model.specs.declared.view.View.{View}
-use Rattle.sock_model.specs.Weights.{total, tally, life, is_busy, is_ref, is_claimed, is_any_coding, is_coding, is_zero, is_tried, is_known, is_born, is_saw, is_failer, is_freer, is_stored, is_told, is_linked, is_met}
+use Rattle.sock_model.specs.Weights.{tally, life, is_busy, is_ref, is_claimed, is_any_coding, is_coding, is_zero, is_tried, is_known, is_born, is_saw, is_failer, is_freer, is_stored, is_told, is_linked, is_met}
 use Rattle.sock_model.specs.Marks.{about}
 use Rattle.sock_model.specs.Slots.{live, count, SlotLaw}
 use Rattle.sock_model.specs.References.{slot_facts}
@@ -28,6 +28,7 @@ use Rattle.std.specs.List.{filter, flat_map}
 use Rattle.sock_model.specs.declared.chain.Claim.{Claim}
 use Rattle.sock_model.specs.Reads.{claims_of}
 use Rattle.chain_core.specs.sock_steps.proofs.Positions.{full_log}
+use Rattle.sock_words.specs.Totals.{total}
 
 pub two_terms : {A : Type 0} (g : A → ℕ) (vs : List A) (i j : ℕ) (v u : A) → get_elem? vs i ≡ some v → get_elem? vs j ≡ some u → ¬ (j ≡ i) → g v + g u ≤ total g vs
 two_terms g [] i j v u e f ne = absurd (some-ne-none v (sym e))

@@ -7,7 +7,7 @@ use Rattle.sock_words.specs.declared.plain.Plan.{Plan}
 use Rattle.sock_model.specs.declared.chain.Heading.{Heading}
 use Rattle.sock_model.specs.declared.home.Home.{Home}
 use Rattle.sock_model.specs.declared.view.View.{View}
-use Rattle.sock_model.specs.Weights.{total, only, pair}
+use Rattle.sock_model.specs.Weights.{only, pair}
 use Rattle.sock_model.specs.Authors.{pick}
 use Rattle.sock_model.specs.Layout.{place_index}
 use Rattle.chain_core.specs.slot_steps.proofs.Numbers.{only_is, only_le, pair_is}
@@ -17,6 +17,7 @@ use Rattle.sock_rule.specs.Closing.{PlacesDiffer, IsDropTold, IsLogged}
 use Rattle.sock_rule.proofs.Closes.{others, put_is, only_one}
 use Rattle.sock_rule.proofs.Counting.{names_weight, one_at_most}
 use Rattle.sock_words.specs.Words.{DROPPED}
+use Rattle.sock_words.specs.Totals.{total}
 
 -- where a product isn't 0, neither part is
 both_some : (a b : ℕ) → 0 < a * b → (0 < a) × (0 < b)

@@ -11,7 +11,7 @@ use Rattle.sock_model.specs.declared.marks.Mark.{Mark}
 use Rattle.sock_model.specs.declared.marks.Mark.TheVariants.{Claimed, Recycling, Hold, Probe, Zero, Coding, Tried, Saw, Failer, Freer, Handed}
 use Rattle.sock_model.specs.declared.marks.SlotMark.{SlotMark}
 use Rattle.sock_model.specs.declared.view.View.{View}
-use Rattle.sock_model.specs.Weights.{total, only, is_probe, is_hold, is_stage, is_zero, is_coding, is_recycling}
+use Rattle.sock_model.specs.Weights.{only, is_probe, is_hold, is_stage, is_zero, is_coding, is_recycling}
 use Rattle.sock_model.specs.Marks.{about, at, without_at}
 use Rattle.sock_model.specs.References.{uses_link}
 use Rattle.sock_model.specs.Reads.{waits_link, carries}
@@ -21,6 +21,7 @@ use Rattle.chain_core.specs.slot_steps.proofs.Sums.{total-set, total-append, ter
 use Rattle.sock_rule.specs.Faults.{fault, is_fault, faults_link, faults_of, noting_fault, fault_found, without_fault, fault_left, away, out_of, noted_out, present, rose_at, LinkFaults}
 use Rattle.sock_rule.proofs.Light.{Light, Alike}
 use Rattle.sock_words.specs.Words.{vref_version, vref_nref}
+use Rattle.sock_words.specs.Totals.{total}
 
 -- ## Marks that come and go in steps
 

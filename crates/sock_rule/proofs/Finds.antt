@@ -11,7 +11,7 @@ use Rattle.sock_model.specs.declared.home.Home.{Home}
 use Rattle.sock_model.specs.declared.view.View.{View}
 use Rattle.sock_model.specs.declared.view.StoredWord.{StoredWord}
 use Rattle.sock_model.specs.declared.chain.Heading.{Heading}
-use Rattle.sock_model.specs.Weights.{total, only}
+use Rattle.sock_model.specs.Weights.{only}
 use Rattle.sock_model.specs.Layout.{place_index}
 use Rattle.sock_model.specs.Marks.{latest, says, noted}
 use Rattle.sock_model.specs.SlotRows.{wrote}
@@ -35,6 +35,7 @@ use Rattle.sock_rule.specs.OnTable.{share_of, is_put, put_in, is_labelled, label
 use Rattle.sock_rule.specs.Rows.{IsHistory, put_at}
 use Rattle.sock_rule.proofs.Beside.{SameShare, Calm, drop_stays, beside}
 use Rattle.sock_rule.proofs.Faults.{calm}
+use Rattle.sock_words.specs.Totals.{total}
 
 -- the last word that was stored was stored
 latest_put : (x w : ℕ) → w ≢ 0 → (ns : List StoredWord) → says x w ns ≤ total (is_put x w) ns

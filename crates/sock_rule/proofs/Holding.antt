@@ -15,7 +15,7 @@ use Rattle.sock_model.specs.declared.chain.Stage.TheVariants.{Writes, Placed, Em
 use Rattle.sock_model.specs.declared.home.Home.{Home}
 use Rattle.sock_model.specs.declared.home.Home.TheVariants.{Link}
 use Rattle.sock_model.specs.declared.view.View.{View}
-use Rattle.sock_model.specs.Weights.{total, only, is_hold, is_saw}
+use Rattle.sock_model.specs.Weights.{only, is_hold, is_saw}
 use Rattle.sock_model.specs.Layout.{ref_index, link_index, head_index, request_index, next_index, place_index}
 use Rattle.sock_model.specs.References.{slot_facts}
 use Rattle.sock_model.specs.SlotRows.{marks_of, looked}
@@ -51,6 +51,7 @@ use Rattle.sock_rule.proofs.Settling.{slot_settled, next_settled, place_settled,
 use Rattle.sock_rule.proofs.Placing.{places_beside, drops_beside}
 use Rattle.sock_rule.proofs.Reached.{writes_ticket, writes_taken, passes_ticket, walk_ticket, turns_ticket, turn_ticket, free_home_law, spent_home_law, hand_label, next_few}
 use Rattle.sock_words.specs.Words.{ticket_request, ticket_generation, vref_version, place_word, IDLE, UNCONNECTED}
+use Rattle.sock_words.specs.Totals.{total}
 
 pub the_right : (l : List Right) (a b : Right) → l ≡ a ∷ [] → l ≡ b ∷ [] → a ≡ b
 the_right l a b e f = let h : a ∷ [] ≡ b ∷ [] = sym e ∙ f in cc

@@ -13,7 +13,7 @@ use Rattle.sock_model.specs.declared.home.Home.TheVariants.{Empty, Link, Message
 use Rattle.sock_model.specs.declared.chain.Entry.{Entry}
 use Rattle.sock_model.specs.declared.chain.Right.{Right}
 use Rattle.sock_model.specs.declared.view.View.{View}
-use Rattle.sock_model.specs.Weights.{total, is_linked, is_failer, is_freer}
+use Rattle.sock_model.specs.Weights.{is_linked, is_failer, is_freer}
 use Rattle.sock_model.specs.SlotRows.{marks_of}
 use Rattle.sock_model.specs.Reads.{took_of, link_at, rights_on, hands_of, carries, tokens}
 use Rattle.sock_model.specs.Seats.{IsBare}
@@ -29,6 +29,7 @@ use Rattle.sock_rule.specs.Closing.{LifeFailed, LinkTook, PlaceOf}
 use Rattle.sock_rule.proofs.Faults.{close_faults}
 use Rattle.sock_rule.proofs.Closes.{others, counts, none_flat, only_one}
 use Rattle.sock_rule.proofs.Reached.{label_of}
+use Rattle.sock_words.specs.Totals.{total}
 
 -- a home that took something is a link's
 took_there : (o : Option Home) (t : List ℕ) (n : ℕ) → took_of o ≡ some (t, n) → (k : ℕ) × (d : Bool) × (o ≡ some (Link k t n d))

@@ -11,7 +11,7 @@ use Rattle.sock_model.specs.declared.home.Home.{Home}
 use Rattle.sock_model.specs.declared.home.Home.TheVariants.{Link}
 use Rattle.sock_model.specs.declared.view.View.{View}
 use Rattle.sock_model.specs.declared.view.Hand.{Hand}
-use Rattle.sock_model.specs.Weights.{total, only, is_recycling, is_recycled, is_met}
+use Rattle.sock_model.specs.Weights.{only, is_recycling, is_recycled, is_met}
 use Rattle.sock_model.specs.Marks.{about}
 use Rattle.sock_model.specs.Layout.{link_index}
 use Rattle.sock_model.specs.References.{slot_facts}
@@ -30,6 +30,7 @@ use Rattle.sock_rule.specs.Faults.{faults_of, fault_found, fault_left, out_of}
 use Rattle.sock_rule.proofs.Faults.{found_alike, left_alike, left_none, left_other, knows_taken, takes_link, puts_link}
 use Rattle.sock_rule.proofs.Beside.{beside_faults, alike_share, light_after}
 use Rattle.sock_rule.proofs.Settling.{home_settled}
+use Rattle.sock_words.specs.Totals.{total}
 
 -- a word that is loaded stays
 module _ {S : Type 0} {shows : S → Home} {rose : S → ℕ} {p : Plan} (s : State S View) (x id : ℕ) (w : View) (hs : List (Option S)) where

@@ -15,7 +15,7 @@ use Rattle.sock_model.specs.declared.home.Home.{Home}
 use Rattle.sock_model.specs.declared.marks.Mark.{Mark}
 use Rattle.sock_model.specs.declared.view.View.{View}
 use Rattle.sock_model.specs.declared.view.StoredWord.{StoredWord}
-use Rattle.sock_model.specs.Weights.{total, is_born, is_reset}
+use Rattle.sock_model.specs.Weights.{is_born, is_reset}
 use Rattle.sock_model.specs.Marks.{about, latest}
 use Rattle.sock_model.specs.Entries.{on}
 use Rattle.sock_model.specs.Layout.{name_index, open_index, place_index}
@@ -43,6 +43,7 @@ use Rattle.sock_rule.proofs.Counting.{log_weight, on_weight, on_both}
 use Rattle.sock_rule.proofs.Finds.{wrote_more, aside_rule}
 use Rattle.sock_rule.specs.Rows.{dropped_at}
 use Rattle.sock_words.specs.Words.{DROPPED}
+use Rattle.sock_words.specs.Totals.{total}
 
 -- ## A note of a store elsewhere than at names and operations
 

@@ -13,7 +13,6 @@ use Rattle.sock_model.specs.declared.chain.Heading.{Heading}
 use Rattle.sock_model.specs.declared.home.Home.TheVariants.{Link}
 use Rattle.sock_model.specs.declared.view.View.{View}
 use Rattle.sock_model.specs.declared.view.StoredWord.{StoredWord}
-use Rattle.sock_model.specs.Weights.{total}
 use Rattle.sock_model.specs.Layout.{place_index}
 use Rattle.sock_model.specs.Reads.{carries, as_link, shown, link_at}
 use Rattle.sock_model.specs.Seats.{newcomer, carrier, earliest, later, joined, spent, first_view, lighter}
@@ -31,6 +30,7 @@ use Rattle.sock_rule.specs.Faults.{faults_link, faults_of, away, out_of}
 use Rattle.sock_rule.proofs.Beside.{Calm, drop_stays}
 use Rattle.sock_rule.proofs.Faults.{new_faults, split_faults, join_faults}
 use Rattle.sock_rule.proofs.Finds.{aside_rule}
+use Rattle.sock_words.specs.Totals.{total}
 
 -- of a weight that is at most another, and less by d at one place, the sum is less by d
 less_by : {A : Type 0} (f g : A → ℕ) (d : ℕ) (l : List A) (i : ℕ) (a : A) → ((j : ℕ) (b : A) → get_elem? l j ≡ some b → f b ≤ g b) → get_elem? l i ≡ some a → f a + d ≤ g a → total f l + d ≤ total g l

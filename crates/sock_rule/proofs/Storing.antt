@@ -11,7 +11,7 @@ use Rattle.sock_model.specs.declared.home.Home.{Home}
 use Rattle.sock_model.specs.declared.view.View.{View}
 use Rattle.sock_model.specs.declared.marks.Mark.{Mark}
 use Rattle.sock_model.specs.Marks.{about}
-use Rattle.sock_model.specs.Weights.{total, tally, only, is_busy, is_recycling, is_stage, is_recycled, is_hold, is_known, is_coding, is_told, is_met}
+use Rattle.sock_model.specs.Weights.{tally, only, is_busy, is_recycling, is_stage, is_recycled, is_hold, is_known, is_coding, is_told, is_met}
 use Rattle.sock_model.specs.Layout.{link_index, head_index, code_index, name_index, open_index}
 use Rattle.sock_model.specs.References.{slot_facts, Names, Stores}
 use Rattle.sock_model.specs.SlotRows.{marks_of, linked, staged, coded, told_code, met, met_link}
@@ -33,6 +33,7 @@ use Rattle.sock_rule.proofs.Faults.{linked_same, staged_same, coded_same}
 use Rattle.sock_rule.proofs.Settling.{slot_settled, name_settled, code_settled, load_settled}
 use Rattle.sock_rule.proofs.Finds.{was_put, finds_beside, puts_beside, found_history, stored_history}
 use Rattle.sock_words.specs.Words.{IDLE, NO_SOCKET}
+use Rattle.sock_words.specs.Totals.{total}
 
 -- the link of a life that a seat holds, and of one that it ended, is one of the table
 module _ {S : Type 0} {shows : S → Home} {rose : S → ℕ} {p : Plan} (s : State S View) (t : OnTable shows rose p s) (id : ℕ) (u : View) (here : get_elem? s.views id ≡ some u) (i : ℕ) (inside : i < p.slots) where

@@ -3,9 +3,10 @@ use Rattle.std.specs.Prelude.{◌≡◌, ◌≢◌, ℕ, ◌+◌, ◌<◌, List}
 use Rattle.sock_model.specs.declared.marks.Mark.{Mark}
 use Rattle.sock_model.specs.declared.view.View.{View}
 use Rattle.sock_model.specs.declared.marks.Mark.TheVariants.{Hold, Probe}
-use Rattle.sock_model.specs.Weights.{total, is_probe, is_hold}
+use Rattle.sock_model.specs.Weights.{is_probe, is_hold}
 use Rattle.sock_model.specs.Marks.{about}
 use Rattle.sock_model.specs.SlotRows.{marks_of}
+use Rattle.sock_words.specs.Totals.{total}
 
 -- of slot i the marks `adds` came and the marks `drops` went
 pub record Became (i : ℕ) (v w : View) (adds drops : List Mark) : Type 0 where

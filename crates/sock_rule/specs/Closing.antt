@@ -10,11 +10,12 @@ use Rattle.sock_model.specs.Authors.{pick}
 use Rattle.sock_model.specs.Entries.{on}
 use Rattle.sock_model.specs.Fifo.{IsFifo}
 use Rattle.sock_model.specs.declared.view.StoredWord.{StoredWord}
-use Rattle.sock_model.specs.Weights.{total, is_claimed, is_any_coding, is_zero, is_tried, is_known, is_born, is_saw, is_failer, is_freer, is_coded, is_stored, is_told, is_linked, is_met}
+use Rattle.sock_model.specs.Weights.{is_claimed, is_any_coding, is_zero, is_tried, is_known, is_born, is_saw, is_failer, is_freer, is_coded, is_stored, is_told, is_linked, is_met}
 use Rattle.sock_model.specs.Layout.{ref_index, request_index, place_index}
 use Rattle.sock_model.specs.SlotRows.{marks_of}
 use Rattle.sock_rule.specs.OnTable.{is_put, put_in, Follows}
 use Rattle.sock_words.specs.Words.{place_word, vref_version, vref_nref, DROPPED}
+use Rattle.sock_words.specs.Totals.{total}
 
 -- between two calls a seat has nothing but references, rights and notes
 pub record IsAtRest (p : Plan) (v : View) : Type 0 where

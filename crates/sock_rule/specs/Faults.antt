@@ -9,11 +9,12 @@ use Rattle.sock_model.specs.declared.marks.Mark.{Mark}
 use Rattle.sock_model.specs.declared.marks.Mark.TheVariants.{Handed}
 use Rattle.sock_model.specs.declared.marks.SlotMark.{SlotMark}
 use Rattle.sock_model.specs.declared.view.View.{View}
-use Rattle.sock_model.specs.Weights.{total, only}
+use Rattle.sock_model.specs.Weights.{only}
 use Rattle.sock_model.specs.Marks.{at}
 use Rattle.sock_model.specs.Reads.{hands_of}
 use Rattle.sock_io.specs.Link.{OutState}
 use Rattle.sock_rule.specs.Shows.{way_at}
+use Rattle.sock_words.specs.Totals.{total}
 
 -- the note that the half of link k has a fault
 abbrev pub fault : ℕ → Mark

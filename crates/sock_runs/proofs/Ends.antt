@@ -11,7 +11,7 @@ use Rattle.sock_model.specs.declared.home.Home.{Home}
 use Rattle.sock_model.specs.declared.marks.Mark.{Mark}
 use Rattle.sock_model.specs.declared.marks.Mark.TheVariants.{Claimed, Recycling}
 use Rattle.sock_model.specs.declared.view.View.{View}
-use Rattle.sock_model.specs.Weights.{total, tally, is_ref, is_zero, is_busy, is_claimed, is_recycled, is_born, is_failer, is_freer}
+use Rattle.sock_model.specs.Weights.{tally, is_ref, is_zero, is_busy, is_claimed, is_recycled, is_born, is_failer, is_freer}
 use Rattle.sock_model.specs.Marks.{about}
 use Rattle.sock_model.specs.SlotRows.{marks_of}
 use Rattle.sock_model.specs.Slots.{SlotFacts, SlotLaw, live, count}
@@ -28,6 +28,7 @@ use Rattle.program_steps.specs.Sound.{state, Sound, AllRest, AllFailed, AllEnded
 use Rattle.program_steps.proofs.Bounds.{law}
 use Rattle.sock_runs.proofs.HandTicks.{AtHome}
 use Rattle.sock_runs.proofs.Allowed.{view_there}
+use Rattle.sock_words.specs.Totals.{total}
 
 -- what no seat has is had by none together
 pub none_has : (f : Mark → ℕ) (i : ℕ) (vs : List View) → ((j : ℕ) (v : View) → get_elem? vs j ≡ some v → marks_of f i v ≡ 0) → tally f (map (λ (v : View). about i v.marks) vs) ≡ 0

@@ -11,7 +11,6 @@ use Rattle.sock_model.specs.declared.chain.Stage.TheVariants.{Writes}
 use Rattle.sock_model.specs.declared.home.Home.{Home}
 use Rattle.sock_model.specs.declared.view.View.{View}
 use Rattle.sock_model.specs.declared.view.Hand.{Hand}
-use Rattle.sock_model.specs.Weights.{total}
 use Rattle.sock_model.specs.Entries.{on, nth}
 use Rattle.sock_model.specs.Writing.{Held}
 use Rattle.sock_model.specs.Reads.{memory, tokens}
@@ -40,6 +39,7 @@ use Rattle.program_steps.specs.Lasts.{Lasts, MOST_PAID}
 use Rattle.program_steps.proofs.Leaves.{is_exchange, row_leaves, plan_stays, lists_stay}
 use Rattle.program_steps.proofs.Cases.{tick_keeps_marks}
 use Rattle.sock_words.specs.Words.{IDLE}
+use Rattle.sock_words.specs.Totals.{total}
 
 -- ## What each step leaves
 

@@ -10,7 +10,7 @@ use Rattle.sock_model.specs.declared.marks.Mark.{Mark}
 use Rattle.sock_model.specs.declared.marks.Mark.TheVariants.{Claimed}
 use Rattle.sock_model.specs.declared.view.View.{View}
 use Rattle.sock_model.specs.declared.view.Hand.{Hand}
-use Rattle.sock_model.specs.Weights.{total, only, is_ref, is_hold, is_saw, is_claimed, is_busy, is_recycling, is_recycled, is_stage}
+use Rattle.sock_model.specs.Weights.{only, is_ref, is_hold, is_saw, is_claimed, is_busy, is_recycling, is_recycled, is_stage}
 use Rattle.sock_model.specs.Marks.{about}
 use Rattle.sock_model.specs.Layout.{ref_index, link_index, name_index, open_index, request_index}
 use Rattle.sock_model.specs.Requests.{Phase, free_phase, claimed_phase, used_phase, retired_phase}
@@ -35,6 +35,7 @@ use Rattle.program_steps.proofs.Bounds.{law, fits, has_room, next_version}
 use Rattle.program_steps.proofs.Ids.{id_some, id_socket}
 use Rattle.sock_runs.proofs.HandTicks.{found_hand}
 use Rattle.sock_runs.proofs.ChainTicks.{held_link_in, held_link_is}
+use Rattle.sock_words.specs.Totals.{total}
 
 stage_claimed : (n k : ℕ) (x : Mark) → is_stage n k x ≤ is_claimed x
 stage_claimed n k (Claimed a b) = pair_le n k a b

@@ -12,7 +12,7 @@ use Rattle.sock_model.specs.declared.home.Home.{Home}
 use Rattle.sock_model.specs.declared.home.Home.TheVariants.{Link}
 use Rattle.sock_model.specs.declared.view.View.{View}
 use Rattle.sock_model.specs.declared.view.Hand.{Hand}
-use Rattle.sock_model.specs.Weights.{total, only}
+use Rattle.sock_model.specs.Weights.{only}
 use Rattle.sock_model.specs.Reads.{took_of, as_link, shown}
 use Rattle.sock_model.specs.ChainRows.{with_hand, without_hand, spent_hand}
 use Rattle.sock_model.specs.Lawful.{Lawful}
@@ -24,6 +24,7 @@ use Rattle.seat_programs.specs.StepsOfLinks.{as_hand, taken}
 use Rattle.seat_programs.specs.StepTables.{May}
 use Rattle.seat_programs.specs.StepsOfLinks.{HasInHand}
 use Rattle.program_steps.specs.Sound.{AreInHand}
+use Rattle.sock_words.specs.Totals.{total}
 
 -- the rule holds behind a move of seat i, which has this view and these links in hand
 abbrev pub KeepsHome : Plan → State Home View → ℕ → View → List Home → Call → Type 0

@@ -12,7 +12,7 @@ use Rattle.sock_model.specs.declared.home.Home.{Home}
 use Rattle.sock_model.specs.declared.home.Home.TheVariants.{Link}
 use Rattle.sock_model.specs.declared.view.View.{View}
 use Rattle.sock_model.specs.declared.view.Hand.{Hand}
-use Rattle.sock_model.specs.Weights.{total, only}
+use Rattle.sock_model.specs.Weights.{only}
 use Rattle.sock_model.specs.SlotRows.{looked}
 use Rattle.sock_model.specs.ChainRows.{with_hand, spent_hand, without_hand, with_right, without_right, turned_right, placed_right, dropped_right}
 use Rattle.sock_model.specs.Lawful.{Lawful}
@@ -31,6 +31,7 @@ use Rattle.program_steps.specs.Sound.{state, IsOfRight, AreInHand, AreHeld}
 use Rattle.sock_runs.proofs.HandTicks.{taking, found_hand, take_in_hand, finish_in_hand, put_in_hand}
 use Rattle.sock_runs.proofs.ChainTicks.{stays_one}
 use Rattle.program_steps.proofs.Leaves.{claim_way, exchanges_way, moves_right, moves_hand, rights_stay, hands_stay}
+use Rattle.sock_words.specs.Totals.{total}
 
 -- ## Without a right, and with one
 

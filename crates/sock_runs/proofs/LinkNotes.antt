@@ -9,7 +9,7 @@ use Rattle.sock_model.specs.declared.marks.Mark.TheVariants.{Known, Born, Linked
 use Rattle.sock_model.specs.declared.marks.SlotMark.{SlotMark}
 use Rattle.sock_model.specs.declared.view.View.{View}
 use Rattle.sock_model.specs.declared.view.Hand.{Hand}
-use Rattle.sock_model.specs.Weights.{total, pair, is_linked, is_stage}
+use Rattle.sock_model.specs.Weights.{pair, is_linked, is_stage}
 use Rattle.sock_model.specs.Marks.{at, without_at}
 use Rattle.sock_model.specs.SlotRows.{marks_of}
 use Rattle.sock_steps.specs.slot_steps.proofs.Sums.{about-other}
@@ -19,6 +19,7 @@ use Rattle.seat_programs.specs.Calls.{Call, CreateLife}
 use Rattle.seat_programs.specs.StepTables.{row}
 use Rattle.sock_runs.proofs.Notes.{bears, IsKept, IsOfBirth, notes_stay, births_note}
 use Rattle.sock_words.specs.Words.{vref_version}
+use Rattle.sock_words.specs.Totals.{total}
 
 -- of two other numbers
 no_pair : (a b x y : ℕ) → ((x ≡ a) × (y ≡ b) → ⊥) → pair a b x y ≡ 0

@@ -10,7 +10,7 @@ use Rattle.sock_words.specs.declared.plain.Plan.{Plan}
 use Rattle.sock_model.specs.declared.home.Home.{Home}
 use Rattle.sock_model.specs.declared.view.View.{View}
 use Rattle.sock_model.specs.declared.view.StoredWord.{StoredWord}
-use Rattle.sock_model.specs.Weights.{total, is_born}
+use Rattle.sock_model.specs.Weights.{is_born}
 use Rattle.sock_model.specs.Layout.{name_index, open_index, head_index}
 use Rattle.sock_model.specs.References.{slot_facts, References, Names, Stores, sayers, spare, uses_of}
 use Rattle.sock_model.specs.SlotRows.{met, wrote}
@@ -26,6 +26,7 @@ use Rattle.seat_programs.specs.StepsOfNames.{is_id, found_id}
 use Rattle.seat_programs.specs.StepTables.{May}
 use Rattle.program_steps.proofs.Ids.{id_some, id_socket}
 use Rattle.sock_runs.proofs.SlotTicks.{KeepsWord}
+use Rattle.sock_words.specs.Totals.{total}
 
 module _ (p : Plan) (s : State Home View) (o : Lawful (λ home. home) p s) (i : ℕ) (v : View) (at : get_elem? s.views i ≡ some v) where
   -- a load of a word that names a life, or none

@@ -10,7 +10,7 @@ use Rattle.sock_model.specs.declared.marks.Mark.TheVariants.{Hold, Probe, Zero, 
 use Rattle.sock_model.specs.declared.marks.SlotMark.{SlotMark}
 use Rattle.sock_model.specs.declared.view.View.{View}
 use Rattle.sock_model.specs.declared.view.Hand.{Hand}
-use Rattle.sock_model.specs.Weights.{total, is_born, is_failer, is_stage, is_hold, is_probe}
+use Rattle.sock_model.specs.Weights.{is_born, is_failer, is_stage, is_hold, is_probe}
 use Rattle.sock_model.specs.Marks.{at, without_at}
 use Rattle.sock_model.specs.SlotRows.{marks_of, back}
 use Rattle.sock_steps.specs.slot_steps.proofs.Sums.{about-other}
@@ -21,6 +21,7 @@ use Rattle.seat_programs.specs.Calls.{Call, CreateLife, SubRef}
 use Rattle.seat_programs.specs.StepTables.{row}
 use Rattle.program_steps.proofs.Marking.{is_taken, is_of_birth, marks_way}
 use Rattle.sock_words.specs.Words.{vref_version, vref_nref}
+use Rattle.sock_words.specs.Totals.{total}
 
 -- the slot in which a step makes a life
 abbrev pub bears : Call → Option ℕ

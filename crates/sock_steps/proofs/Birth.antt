@@ -13,7 +13,7 @@ use Rattle.sock_model.specs.declared.home.Home.{Home}
 use Rattle.sock_model.specs.declared.home.Home.TheVariants.{Link}
 use Rattle.sock_model.specs.sock_words.specs.declared.plain.Plan.{Plan}
 use Rattle.sock_model.specs.declared.view.View.{View}
-use Rattle.sock_model.specs.Weights.{total, only, pair, is_busy, is_stage, is_reset, is_recycled, is_hold, is_freer, is_failer, is_linked, is_met}
+use Rattle.sock_model.specs.Weights.{only, pair, is_busy, is_stage, is_reset, is_recycled, is_hold, is_freer, is_failer, is_linked, is_met}
 use Rattle.sock_model.specs.Marks.{about, at, without_at}
 use Rattle.sock_model.specs.Layout.{ref_index, head_index, request_index, next_index, place_index}
 use Rattle.sock_model.specs.Slots.{count}
@@ -39,6 +39,7 @@ use Rattle.sock_steps.proofs.SlotFrame.{still_holds, ChainWords, head_is, whole_
 use Rattle.sock_steps.proofs.SlotSteps.{low_words}
 use Rattle.sock_steps.proofs.Maps.{put, put-here, put-at, put-else, is_none, no_members}
 use Rattle.sock_model.specs.sock_words.specs.Words.{vref_version, IDLE}
+use Rattle.sock_model.specs.sock_words.specs.Totals.{total}
 
 stage_busy : (n k : ℕ) (x : Mark) → is_stage n k x ≤ is_busy x
 stage_busy n k (Claimed a b) = pair_le n k a b

@@ -10,7 +10,7 @@ use Rattle.sock_model.specs.sock_words.specs.declared.plain.Plan.{Plan}
 use Rattle.sock_model.specs.declared.chain.Entry.{Entry}
 use Rattle.sock_model.specs.declared.home.Home.{Home}
 use Rattle.sock_model.specs.declared.view.View.{View}
-use Rattle.sock_model.specs.Weights.{total, only}
+use Rattle.sock_model.specs.Weights.{only}
 use Rattle.sock_model.specs.Layout.{place_index}
 use Rattle.sock_model.specs.Seats.{newcomer, carrier}
 use Rattle.sock_model.specs.Authors.{pick, Authored}
@@ -27,6 +27,7 @@ use Rattle.sock_steps.proofs.Words.{beside_all}
 use Rattle.sock_steps.proofs.ChainFrame.{SameSlots, carried_same, links_frame, chain_frame}
 use Rattle.sock_steps.proofs.Reseat.{splitting_law}
 use Rattle.sock_steps.proofs.Positions.{pick_has}
+use Rattle.sock_model.specs.sock_words.specs.Totals.{total}
 
 -- the names without those of the view id
 except : (ℕ → List ℕ) → ℕ → ℕ → List ℕ

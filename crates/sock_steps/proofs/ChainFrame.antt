@@ -14,7 +14,7 @@ use Rattle.sock_model.specs.sock_words.specs.declared.plain.Plan.{Plan}
 use Rattle.sock_model.specs.declared.view.View.{View}
 use Rattle.sock_model.specs.declared.view.Hand.{Hand}
 use Rattle.sock_model.specs.Entries.{on}
-use Rattle.sock_model.specs.Weights.{total, only, is_linked, is_freer, is_failer, is_born, is_busy, is_reset, is_recycled, is_met}
+use Rattle.sock_model.specs.Weights.{only, is_linked, is_freer, is_failer, is_born, is_busy, is_reset, is_recycled, is_met}
 use Rattle.sock_model.specs.Marks.{about, says}
 use Rattle.sock_model.specs.Layout.{name_index, open_index, place_index}
 use Rattle.sock_model.specs.Slots.{SlotFacts, live, count, SlotLaw}
@@ -35,6 +35,7 @@ use Rattle.sock_steps.proofs.Steady.{Steady}
 use Rattle.sock_steps.proofs.Places.{given_to, given_from, lives_to, lives_from, failed_to, busy_idle, one_link}
 use Rattle.sock_steps.proofs.Words.{Beside}
 use Rattle.sock_model.specs.sock_words.specs.Words.{vref_version, vref_nref}
+use Rattle.sock_model.specs.sock_words.specs.Totals.{total}
 
 -- all that the slots read of a view
 pub record SameSlots (v w : View) : Type 0 where

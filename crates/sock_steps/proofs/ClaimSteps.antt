@@ -12,7 +12,7 @@ use Rattle.sock_model.specs.declared.home.Home.TheVariants.{Message}
 use Rattle.sock_model.specs.sock_words.specs.declared.plain.Plan.{Plan}
 use Rattle.sock_model.specs.declared.view.View.{View}
 use Rattle.sock_model.specs.declared.marks.SlotMark.{SlotMark}
-use Rattle.sock_model.specs.Weights.{total, is_hold, is_met}
+use Rattle.sock_model.specs.Weights.{is_hold, is_met}
 use Rattle.sock_model.specs.Marks.{about}
 use Rattle.sock_model.specs.Layout.{next_index, request_index, place_index}
 use Rattle.sock_model.specs.Chains.{Chains}
@@ -35,6 +35,7 @@ use Rattle.atomic_table.proofs.Lists.{set_else}
 use Rattle.sock_steps.proofs.Maps.{set_at}
 use Rattle.sock_steps.proofs.RightSteps.{single, out_here, out_else}
 use Rattle.sock_model.specs.sock_words.specs.Words.{UNCONNECTED}
+use Rattle.sock_model.specs.sock_words.specs.Totals.{total}
 
 module _ {S : Type 0} {shows : S → Home} {p : Plan} {s : State S View} (o : Lawful shows p s) (id : ℕ) (v w : View) (at : get_elem? s.views id ≡ some v) (same : SameSlots v w) (hands : w.hands ≡ v.hands) (rights : w.rights ≡ v.rights) (lists : w.lists ≡ v.lists) where
   pub rights_stay : (k : ℕ) → (tokens (set s.views id w)).rights k ≡ (tokens s.views).rights k

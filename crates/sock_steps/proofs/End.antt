@@ -13,7 +13,7 @@ use Rattle.sock_model.specs.declared.chain.Right.{Right}
 use Rattle.sock_model.specs.declared.home.Home.{Home}
 use Rattle.sock_model.specs.sock_words.specs.declared.plain.Plan.{Plan}
 use Rattle.sock_model.specs.declared.view.View.{View}
-use Rattle.sock_model.specs.Weights.{total, only, is_busy, is_zero, is_reset, is_recycled, is_hold, is_freer, is_failer, is_linked, is_met}
+use Rattle.sock_model.specs.Weights.{only, is_busy, is_zero, is_reset, is_recycled, is_hold, is_freer, is_failer, is_linked, is_met}
 use Rattle.sock_model.specs.Marks.{about, at, without_at}
 use Rattle.sock_model.specs.Layout.{ref_index, head_index}
 use Rattle.sock_model.specs.Slots.{count}
@@ -37,6 +37,7 @@ use Rattle.sock_steps.proofs.SlotFrame.{still_holds, ChainWords, head_is, whole_
 use Rattle.sock_steps.proofs.SlotSteps.{low_words}
 use Rattle.sock_steps.proofs.Maps.{put, put-here, put-at, put-else, no_members, gather_nil, took_some}
 use Rattle.sock_model.specs.sock_words.specs.Words.{vref_version, vref_nref}
+use Rattle.sock_model.specs.sock_words.specs.Totals.{total}
 
 module _ {S : Type 0} (shows : S → Home) (p : Plan) (s : State S View) (o : Lawful shows p s) where
   -- where nobody refers to a slot, nobody has the right to write its link

@@ -17,7 +17,7 @@ use Rattle.sock_model.specs.declared.home.Home.TheVariants.{Empty, Link, Message
 use Rattle.sock_model.specs.sock_words.specs.declared.plain.Plan.{Plan}
 use Rattle.sock_model.specs.declared.view.View.{View}
 use Rattle.sock_model.specs.declared.view.Hand.{Hand}
-use Rattle.sock_model.specs.Weights.{total, only, is_hold, is_busy, is_recycling, is_recycled, is_met}
+use Rattle.sock_model.specs.Weights.{only, is_hold, is_busy, is_recycling, is_recycled, is_met}
 use Rattle.sock_model.specs.Marks.{about}
 use Rattle.sock_model.specs.Layout.{place_index}
 use Rattle.sock_model.specs.SlotRows.{marks_of}
@@ -43,6 +43,7 @@ use Rattle.sock_steps.proofs.Places.{own_count, given_to, given_from, given_once
 use Rattle.sock_steps.proofs.Words.{beside_all}
 use Rattle.sock_steps.proofs.ChainFrame.{SameSlots, steady_same, Carries, no_slot_of, chain_frame}
 use Rattle.sock_steps.proofs.Maps.{set_at, is_none, no_members, gather_nil}
+use Rattle.sock_model.specs.sock_words.specs.Totals.{total}
 
 -- a home that has a link
 pub link_value : {S : Type 0} (shows : S → Home) (h : Option (Option S)) (k : ℕ) (t : List ℕ) (n : ℕ) (d : Bool) → as_link (shown shows h) ≡ some (Link k t n d) → (y : S) × (h ≡ some (some y)) × (shows y ≡ Link k t n d)

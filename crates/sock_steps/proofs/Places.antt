@@ -12,7 +12,7 @@ use Rattle.sock_model.specs.declared.marks.Mark.TheVariants.{Claimed, Linked}
 use Rattle.sock_model.specs.declared.marks.SlotMark.{SlotMark}
 use Rattle.sock_model.specs.sock_words.specs.declared.plain.Plan.{Plan}
 use Rattle.sock_model.specs.declared.view.View.{View}
-use Rattle.sock_model.specs.Weights.{total, tally, is_waiting, only, pair, uses, is_stage, is_busy, is_ref, is_hold, is_failer, is_freer, is_linked, is_met}
+use Rattle.sock_model.specs.Weights.{tally, is_waiting, only, pair, uses, is_stage, is_busy, is_ref, is_hold, is_failer, is_freer, is_linked, is_met}
 use Rattle.sock_model.specs.Marks.{about}
 use Rattle.sock_model.specs.Slots.{SlotFacts, count}
 use Rattle.sock_model.specs.References.{uses_of, uses_link, slot_facts, References}
@@ -23,6 +23,7 @@ use Rattle.slot_steps.proofs.Sums.{total-set, term_le, total_mono}
 use Rattle.slot_steps.proofs.Slots.{hold_ref}
 use Rattle.slot_steps.proofs.Numbers.{only-at, pair_is, pair_le, life-in, life-high, live-busy, live_le}
 use Rattle.sock_steps.proofs.Steady.{Steady}
+use Rattle.sock_model.specs.sock_words.specs.Totals.{total}
 
 module _ {S : Type 0} (s : State S View) (id : ℕ) (v w : View) (here : get_elem? s.views id ≡ some v) (ws : List ℕ) (hs : List (Option S)) where
   abbrev after : State S View

@@ -9,7 +9,7 @@ use Rattle.sock_model.specs.sock_words.specs.declared.plain.Plan.{Plan}
 use Rattle.sock_model.specs.declared.chain.Entry.{Entry}
 use Rattle.sock_model.specs.declared.home.Home.{Home}
 use Rattle.sock_model.specs.declared.view.View.{View}
-use Rattle.sock_model.specs.Weights.{total, only}
+use Rattle.sock_model.specs.Weights.{only}
 use Rattle.sock_model.specs.Entries.{on, uses, count_up}
 use Rattle.sock_model.specs.Layout.{request_index}
 use Rattle.sock_model.specs.Reads.{tokens}
@@ -21,6 +21,7 @@ use Rattle.slot_steps.proofs.Numbers.{only-at, only-else}
 use Rattle.std.proofs.lemmas.List.{length-map}
 use Rattle.chain_steps.proofs.Totals.{log_full}
 use Rattle.chain_steps.proofs.Lists.{at_length}
+use Rattle.sock_model.specs.sock_words.specs.Totals.{total}
 
 -- ## Each author's entries stand in one list
 

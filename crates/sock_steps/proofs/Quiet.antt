@@ -5,11 +5,12 @@ use native.Mathlib.Decide.{ℕ_discrete}
 use Rattle.sock_model.specs.declared.marks.Mark.{Mark}
 use Rattle.sock_model.specs.declared.marks.Mark.TheVariants.{Recycling, Hold, Probe, Zero, Coding, Tried, Known, Saw, Stored, Told, Met}
 use Rattle.sock_model.specs.declared.marks.SlotMark.{SlotMark}
-use Rattle.sock_model.specs.Weights.{total, is_failer, is_freer, is_linked, is_reset}
+use Rattle.sock_model.specs.Weights.{is_failer, is_freer, is_linked, is_reset}
 use Rattle.sock_model.specs.Marks.{about, at, without, without_at}
 use Rattle.sock_model.specs.Reads.{waits_link}
 use Rattle.slot_steps.proofs.Sums.{about-here, about-other}
 use Rattle.slot_steps.proofs.Frame.{about-without, about-without_else}
+use Rattle.sock_model.specs.sock_words.specs.Totals.{total}
 
 pub either_way : {A : Type 0} (b : Bool) (x y : A) (P : A → Type 0) → P x → P y → P (cond b x y)
 either_way true x y P p q = p

@@ -19,7 +19,7 @@ use Rattle.sock_model.specs.declared.home.Home.TheVariants.{Link}
 use Rattle.sock_model.specs.sock_words.specs.declared.plain.Plan.{Plan}
 use Rattle.sock_model.specs.declared.view.View.{View}
 use Rattle.sock_model.specs.declared.view.Hand.{Hand}
-use Rattle.sock_model.specs.Weights.{total, tally, only, is_ref, is_reset, is_linked, is_freer, is_failer, is_hold, is_met, is_recycled}
+use Rattle.sock_model.specs.Weights.{tally, only, is_ref, is_reset, is_linked, is_freer, is_failer, is_hold, is_met, is_recycled}
 use Rattle.sock_model.specs.Marks.{about}
 use Rattle.sock_model.specs.Layout.{request_index, place_index}
 use Rattle.sock_model.specs.References.{References}
@@ -43,6 +43,7 @@ use Rattle.chain_steps.proofs.Letters.{messages_frame}
 use Rattle.chain_steps.proofs.Delivers.{delivers_same, delivers_failed, taken_whole}
 use Rattle.chain_steps.proofs.Settles.{opens, settles}
 use Rattle.sock_steps.proofs.SlotFrame.{again, homes_again}
+use Rattle.sock_model.specs.sock_words.specs.Totals.{total}
 
 -- seats that change hands, and no word and no home
 module _ {S : Type 0} (shows : S → Home) (p : Plan) (s : State S View) (o : Lawful shows p s) (vs : List View)

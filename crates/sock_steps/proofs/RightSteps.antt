@@ -11,7 +11,6 @@ use Rattle.sock_model.specs.declared.chain.Stage.TheVariants.{Writes}
 use Rattle.sock_model.specs.sock_words.specs.declared.plain.Plan.{Plan}
 use Rattle.sock_model.specs.declared.view.View.{View}
 use Rattle.sock_model.specs.declared.home.Home.{Home}
-use Rattle.sock_model.specs.Weights.{total}
 use Rattle.sock_model.specs.Entries.{ticket}
 use Rattle.sock_model.specs.Layout.{place_index}
 use Rattle.sock_model.specs.Chains.{Chains}
@@ -32,6 +31,7 @@ use Rattle.chain_steps.proofs.Delivers.{delivers_same}
 use Rattle.sock_steps.proofs.Places.{holder_lives, given_unwaited}
 use Rattle.sock_steps.proofs.Words.{Beside, beside_all}
 use Rattle.sock_steps.proofs.ChainFrame.{SameSlots, carried_same, links_frame, chain_frame}
+use Rattle.sock_model.specs.sock_words.specs.Totals.{total}
 
 pub single : {A : Type 0} (l : List A) (i : ℕ) (a : A) → length l ≤ 1 → get_elem? l i ≡ some a → l ≡ a ∷ []
 single [] i a h g = absurd (some-ne-none a (sym g))

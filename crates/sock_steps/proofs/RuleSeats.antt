@@ -8,13 +8,14 @@ use Rattle.sock_model.specs.sock_words.specs.declared.plain.Plan.{Plan}
 use Rattle.sock_model.specs.declared.chain.Entry.{Entry}
 use Rattle.sock_model.specs.declared.home.Home.{Home}
 use Rattle.sock_model.specs.declared.view.View.{View}
-use Rattle.sock_model.specs.Weights.{total, only, is_ref}
+use Rattle.sock_model.specs.Weights.{only, is_ref}
 use Rattle.sock_model.specs.Marks.{about}
 use Rattle.sock_model.specs.Seats.{newcomer, spent, joined, IsBare, first_view}
 use Rattle.sock_model.specs.Lawful.{Lawful}
 use Rattle.sock_model.specs.Rule.{FoundWords, MOST_ACCEPTED, AreShort, lists_of, Rule}
 use Rattle.slot_steps.proofs.Sums.{total-set, total-append, total_bound}
 use Rattle.sock_steps.proofs.Reseat.{splitting_law, joining_law}
+use Rattle.sock_model.specs.sock_words.specs.Totals.{total}
 
 at_append : {A : Type 0} (xs ys : List A) (i : ℕ) (a : A) → get_elem? (xs ++ ys) i ≡ some a → (get_elem? xs i ≡ some a) ⊎ ((k : ℕ) × (get_elem? ys k ≡ some a))
 at_append [] ys i a e = inr (i, e)

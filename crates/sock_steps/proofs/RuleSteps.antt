@@ -8,7 +8,7 @@ use Rattle.sock_model.specs.sock_words.specs.declared.plain.Plan.{Plan}
 use Rattle.sock_model.specs.declared.home.Home.{Home}
 use Rattle.sock_model.specs.declared.view.View.{View}
 use Rattle.sock_model.specs.declared.view.Hand.{Hand}
-use Rattle.sock_model.specs.Weights.{total, only, is_ref, is_any_coding, is_stage, is_recycled, is_hold, is_known, is_zero, is_coding, is_born}
+use Rattle.sock_model.specs.Weights.{only, is_ref, is_any_coding, is_stage, is_recycled, is_hold, is_known, is_zero, is_coding, is_born}
 use Rattle.sock_model.specs.Layout.{tag_index, ref_index, link_index, head_index, code_index, name_index, open_index}
 use Rattle.sock_model.specs.Slots.{count}
 use Rattle.sock_model.specs.References.{slot_facts}
@@ -22,6 +22,7 @@ use Rattle.sock_steps.proofs.End.{recycle_law}
 use Rattle.sock_steps.proofs.RuleFrame.{lasting_in, Lasts, lasts_all, SameNotes, same_rule, word_rule, still_rule}
 use Rattle.sock_steps.proofs.Noting.{step_notes}
 use Rattle.sock_model.specs.sock_words.specs.Words.{vref_version, vref_nref, IDLE}
+use Rattle.sock_model.specs.sock_words.specs.Totals.{total}
 
 module _ {S : Type 0} {shows : S → Home} {p : Plan} {s : State S View} (r : Rule shows p s) (id : ℕ) (v : View) (here : get_elem? s.views id ≡ some v) (mine : v.plan ≡ p) where
   abbrev o : Lawful shows p s

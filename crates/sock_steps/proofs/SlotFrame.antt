@@ -7,7 +7,7 @@ use Rattle.atomic_table.proofs.Lists.{at_set}
 use Rattle.sock_model.specs.declared.home.Home.{Home}
 use Rattle.sock_model.specs.sock_words.specs.declared.plain.Plan.{Plan}
 use Rattle.sock_model.specs.declared.view.View.{View}
-use Rattle.sock_model.specs.Weights.{total, is_reset, is_recycled, is_hold, is_met}
+use Rattle.sock_model.specs.Weights.{is_reset, is_recycled, is_hold, is_met}
 use Rattle.sock_model.specs.Layout.{head_index, request_index, next_index, place_index}
 use Rattle.sock_model.specs.Slots.{count}
 use Rattle.sock_model.specs.References.{slot_facts, References}
@@ -31,6 +31,7 @@ use Rattle.chain_steps.proofs.Delivers.{delivers_same, delivers_failed}
 use Rattle.sock_steps.proofs.Steady.{Steady, SameChain}
 use Rattle.sock_steps.proofs.Places.{given_to, given_from, lives_to, lives_from, failed_to}
 use Rattle.sock_model.specs.sock_words.specs.Words.{IDLE}
+use Rattle.sock_model.specs.sock_words.specs.Totals.{total}
 
 -- rights that stay, and lives that are held and known as before
 pub still_holds : (p : Plan) (v w : View) → ((j h k : ℕ) → marks_of (is_met h k) j v ≤ marks_of (is_met h k) j w) → ((j h : ℕ) → marks_of (is_hold h) j v ≤ marks_of (is_hold h) j w) → w.rights ≡ v.rights → HoldsRights p v → HoldsRights p w

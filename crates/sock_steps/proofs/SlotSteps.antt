@@ -14,7 +14,7 @@ use Rattle.sock_model.specs.declared.chain.Right.{Right}
 use Rattle.sock_model.specs.declared.home.Home.{Home}
 use Rattle.sock_model.specs.sock_words.specs.declared.plain.Plan.{Plan}
 use Rattle.sock_model.specs.declared.view.View.{View}
-use Rattle.sock_model.specs.Weights.{total, only, is_ref, is_probe, is_any_coding, is_stage, is_reset, is_recycled, is_hold, is_known, is_zero, is_coding, is_met, is_born}
+use Rattle.sock_model.specs.Weights.{only, is_ref, is_probe, is_any_coding, is_stage, is_reset, is_recycled, is_hold, is_known, is_zero, is_coding, is_met, is_born}
 use Rattle.sock_model.specs.Marks.{about, at, without, without_at}
 use Rattle.sock_model.specs.Layout.{tag_index, ref_index, link_index, head_index, code_index, request_index, next_index, place_index, name_index, open_index}
 use Rattle.sock_model.specs.Slots.{count}
@@ -34,6 +34,7 @@ use Rattle.sock_steps.proofs.Steady.{Steady, NoReset, Holds, SameChain, added_st
 use Rattle.sock_steps.proofs.Places.{counts}
 use Rattle.sock_steps.proofs.SlotFrame.{still_holds, ChainWords, slot_frame}
 use Rattle.sock_model.specs.sock_words.specs.Words.{vref_version, vref_nref, IDLE}
+use Rattle.sock_model.specs.sock_words.specs.Totals.{total}
 
 -- the rights of the seat that have their life in slot i keep a reference to it
 abbrev pub KeepsRights : ℕ → View → Type 0

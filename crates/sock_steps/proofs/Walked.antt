@@ -12,7 +12,7 @@ use Rattle.sock_model.specs.declared.chain.Stage.{Stage}
 use Rattle.sock_model.specs.declared.chain.Stage.TheVariants.{Writes, Placed, Passes, Empties, Walks, Turns}
 use Rattle.sock_model.specs.declared.home.Home.{Home}
 use Rattle.sock_model.specs.declared.view.View.{View}
-use Rattle.sock_model.specs.Weights.{total, only}
+use Rattle.sock_model.specs.Weights.{only}
 use Rattle.sock_model.specs.Entries.{on}
 use Rattle.sock_model.specs.Tokens.{Tokens}
 use Rattle.sock_model.specs.Memory.{Memory}
@@ -25,6 +25,7 @@ use Rattle.chain_steps.proofs.Heads.{held_of}
 use Rattle.chain_steps.proofs.Letters.{writes_room}
 use Rattle.sock_steps.proofs.RightSteps.{right_in, right_alone}
 use Rattle.sock_steps.proofs.Positions.{spread, spread_parts}
+use Rattle.sock_model.specs.sock_words.specs.Totals.{total}
 
 -- ## What a right has behind it
 

@@ -8,7 +8,7 @@ use Rattle.sock_model.specs.declared.marks.Mark.{Mark}
 use Rattle.sock_model.specs.declared.marks.Mark.TheVariants.{Recycling, Zero, Freer, Met}
 use Rattle.sock_model.specs.declared.marks.SlotMark.{SlotMark}
 use Rattle.sock_model.specs.declared.view.View.{View}
-use Rattle.sock_model.specs.Weights.{total, is_busy, is_recycling, is_zero, is_recycled, is_met}
+use Rattle.sock_model.specs.Weights.{is_busy, is_recycling, is_zero, is_recycled, is_met}
 use Rattle.sock_model.specs.Marks.{about, at}
 use Rattle.sock_model.specs.SlotRows.{marks_of, recycled, freed, met_link}
 use Rattle.sock_rule.specs.slot_steps.proofs.Numbers.{only-same, pair-same}
@@ -21,6 +21,7 @@ use Rattle.sock_rule.specs.Hands.{hand_of, Recycles}
 use Rattle.sock_rule.proofs.Becoming.{then_, back_again, counts_as, becomes, lost_marks, won_marks, met_marks, freed_marks}
 use Rattle.sock_table.specs.Refs.{retired, EndedBy}
 use Rattle.sock_words.specs.Words.{vref_version}
+use Rattle.sock_words.specs.Totals.{total}
 
 -- a link came into an empty hand, and went home again: so did the note of its faults
 pub left_found : (n : ℕ) (v : View) (k : ℕ) (took : List ℕ) (next : ℕ) → v.hands ≡ [] → fault_left n k (without_hand (fault_found n 0 k (with_hand v (hand_of k took next))) k) ≡ v

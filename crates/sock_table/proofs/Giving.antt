@@ -6,7 +6,7 @@ use Rattle.sock_model.specs.declared.chain.Right.{Right}
 use Rattle.sock_model.specs.declared.marks.Mark.{Mark}
 use Rattle.sock_model.specs.declared.marks.Mark.TheVariants.{Hold, Probe, Zero}
 use Rattle.sock_model.specs.declared.view.View.{View}
-use Rattle.sock_model.specs.Weights.{total, is_ref, is_probe, is_hold, is_zero}
+use Rattle.sock_model.specs.Weights.{is_ref, is_probe, is_hold, is_zero}
 use Rattle.sock_model.specs.Marks.{about}
 use Rattle.sock_model.specs.SlotRows.{marks_of, subbed, back}
 use Rattle.sock_rule.specs.slot_steps.proofs.Sums.{total_mono, total-append}
@@ -16,6 +16,7 @@ use Rattle.sock_rule.proofs.Becoming.{then_, counts_as, becomes, zero_left, subb
 use Rattle.sock_table.specs.Refs.{EndedBy, GaveBack}
 use Rattle.sock_words.specs.Words.{vref_version, vref_nref}
 use Rattle.sock_model.specs.Conditions.{KeepsRights}
+use Rattle.sock_words.specs.Totals.{total}
 
 -- whoever has a reference has one that is counted
 pub some_ref : (i : ℕ) (v : View) (m : Mark) → Goes i v m → 0 < marks_of is_ref i v

@@ -11,7 +11,7 @@ use Rattle.sock_model.specs.declared.chain.Heading.{Heading}
 use Rattle.sock_model.specs.declared.marks.SlotMark.{SlotMark}
 use Rattle.sock_model.specs.declared.view.View.{View}
 use Rattle.sock_model.specs.declared.view.StoredWord.{StoredWord}
-use Rattle.sock_model.specs.Weights.{total, is_ref, is_claimed, is_any_coding, is_zero}
+use Rattle.sock_model.specs.Weights.{is_ref, is_claimed, is_any_coding, is_zero}
 use Rattle.sock_model.specs.Marks.{about}
 use Rattle.sock_model.specs.SlotRows.{marks_of}
 use Rattle.sock_model.specs.Seats.{joined}
@@ -20,6 +20,7 @@ use Rattle.sock_rule.specs.slot_steps.proofs.Seats.{about-append}
 use Rattle.sock_rule.specs.Seated.{IsSeat, IsDone}
 use Rattle.sock_rule.specs.Closing.{IsAtRest}
 use Rattle.sock_table.specs.Closed.{IsDoneSeat, AllDone}
+use Rattle.sock_words.specs.Totals.{total}
 
 flat_last : {A B : Type 0} (f : A → List B) (xs : List A) (x : A) → flat_map f (xs ++ x ∷ []) ≡ flat_map f xs ++ f x
 flat_last f [] x = append-nil (f x)

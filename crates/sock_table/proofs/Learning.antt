@@ -6,7 +6,7 @@ use Rattle.sock_words.specs.declared.plain.Plan.{Plan}
 use Rattle.sock_words.specs.Words.{socket_id_version, socket_id_slot}
 use Rattle.sock_model.specs.declared.marks.Mark.TheVariants.{Saw, Told, Met}
 use Rattle.sock_model.specs.declared.view.View.{View}
-use Rattle.sock_model.specs.Weights.{total, is_ref, is_probe, is_claimed, is_any_coding, is_zero, is_met, is_told}
+use Rattle.sock_model.specs.Weights.{is_ref, is_probe, is_claimed, is_any_coding, is_zero, is_met, is_told}
 use Rattle.sock_model.specs.Marks.{about, without_pass}
 use Rattle.sock_model.specs.Seats.{carrier, joined}
 use Rattle.sock_model.specs.SlotRows.{marks_of, met_link, told_code}
@@ -23,6 +23,7 @@ use Rattle.sock_table.proofs.Ending.{left_found}
 use Rattle.sock_table.proofs.Joining.{sum_of}
 use Rattle.sock_table.proofs.Making.{marks_same, pass_alone, spent_alone}
 use Rattle.sock_table.proofs.Quiet.{between}
+use Rattle.sock_words.specs.Totals.{total}
 
 module _ (p : Plan) (i id : ℕ) (v w : View) (at_id : i ≡ socket_id_slot id) where
   pub link_of : (k : ℕ) → w ≡ met_link i (socket_id_version id) k v → ((d : ℕ) → 0 < marks_of (is_met (socket_id_version id) d) i v → k ≡ d) → k < p.links → LinkOf p k id v w

@@ -7,7 +7,7 @@ use Rattle.sock_words.specs.Words.{socket_id, socket_id_version, socket_id_slot,
 use Rattle.sock_model.specs.declared.marks.Mark.{Mark}
 use Rattle.sock_model.specs.declared.marks.Mark.TheVariants.{Claimed, Tried, Known, Born, Linked}
 use Rattle.sock_model.specs.declared.view.View.{View}
-use Rattle.sock_model.specs.Weights.{total, only, is_ref, is_stage, is_claimed, is_probe, is_any_coding, is_zero, is_known, is_tried}
+use Rattle.sock_model.specs.Weights.{only, is_ref, is_stage, is_claimed, is_probe, is_any_coding, is_zero, is_known, is_tried}
 use Rattle.sock_model.specs.Marks.{about, at, without_at, without_pass}
 use Rattle.sock_model.specs.Seats.{carrier, joined}
 use Rattle.sock_model.specs.SlotRows.{marks_of, claimed, linked, staged, gave_birth}
@@ -20,6 +20,7 @@ use Rattle.sock_rule.proofs.Becoming.{then_, becomes, adds_mark, drops_mark}
 use Rattle.sock_table.specs.Refs.{IsBetween, SameTokens}
 use Rattle.sock_rule.specs.OnTable.{is_put, put_in}
 use Rattle.sock_table.specs.Passes.{Made, TriedTo, Created}
+use Rattle.sock_words.specs.Totals.{total}
 
 -- a claim has one stage
 other_stage : (n k m d : ℕ) → m ≢ n → is_stage n k (Claimed m d) ≡ 0

@@ -7,11 +7,12 @@ use Rattle.sock_words.specs.Words.{socket_id_slot, vref_version}
 use Rattle.sock_model.specs.declared.marks.Mark.{Mark}
 use Rattle.sock_model.specs.declared.marks.Mark.TheVariants.{Recycling, Tried, Saw, Freer, Met}
 use Rattle.sock_model.specs.declared.view.View.{View}
-use Rattle.sock_model.specs.Weights.{total, is_probe, is_claimed, is_any_coding, is_zero}
+use Rattle.sock_model.specs.Weights.{is_probe, is_claimed, is_any_coding, is_zero}
 use Rattle.sock_model.specs.SlotRows.{marks_of}
 use Rattle.sock_rule.specs.Becoming.{Became}
 use Rattle.sock_table.specs.Refs.{IsBetween, Rests, EndedBy, GaveBack}
 use Rattle.sock_table.specs.Answers.{Held, GoneFrom, FailedBy}
+use Rattle.sock_words.specs.Totals.{total}
 
 -- marks among which are no tokens but references to lives
 pub record IsQuiet (l : List Mark) : Type 0 where

@@ -5,9 +5,9 @@ ghost use Rattle.sock_words.specs.declared.vref.Vref.{Vref};
 ghost use Rattle.sock_words.specs.declared.place_word.PlaceWord.{PlaceWord};
 ghost use Rattle.sock_model.specs.Layout.{all_words, ref_index, place_index};
 ghost use Rattle.std.specs.List.{flat_map};
-ghost use Rattle.sock_model.specs.Weights.{total};
 ghost use Rattle.sock_rule.specs.Seated.{IsSeat};
 ghost use Rattle.sock_table.specs.Closed.{AllDone, IsDoneSeat, WordsAre, AreLinks, OutsOf, ways_of, ClosedBy, IsRoomOf, HasAll};
+ghost use Rattle.sock_words.specs.Totals.{total};
 
 use crate::table::SockTable;
 use atomic_table::Closed as ClosedTable;

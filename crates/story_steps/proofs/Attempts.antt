@@ -11,7 +11,7 @@ use Rattle.sock_message.specs.Asked.{Asked}
 use Rattle.seat_programs.specs.declared.task.Task.{Task}
 use Rattle.seat_programs.specs.Asides.{Step, ClaimId, PutCall, MakeId, StoreAt, LockId, PostId, UnlockId, EndId, FreeId, TakeCall, Found}
 use Rattle.seat_programs.specs.Beside.{call_at}
-use Rattle.seat_programs.specs.Posts.{packed, advance_of}
+use Rattle.seat_programs.specs.Posts.{packed}
 use Rattle.call_stories.specs.Below.id_runs.proofs.Keeps.{parts_packed}
 use Rattle.call_stories.specs.Lists.{times}
 use Rattle.call_stories.specs.Posts.{posts_by}
@@ -24,7 +24,7 @@ use Rattle.story_steps.proofs.Slots.{queued_parts}
 use Rattle.story_steps.proofs.Births.{IsMake, IsEnd, turn, tests, passed_still, current_before}
 use Rattle.story_steps.proofs.BirthTicks.{two_of, Made, no_more, one_more, born_still}
 use Rattle.call_stories.specs.Below.outcome_stories.specs.Stories.{In}
-use Rattle.sock_words.specs.Words.{call_id, id_slot, id_first}
+use Rattle.sock_words.specs.Words.{call_id, id_slot, id_first, bit}
 
 -- one of the list is one of a longer one
 pub in_behind : {A : Type 0} (x : A) (xs ys : List A) → In x ys → In x (xs ++ ys)
@@ -93,13 +93,13 @@ module _ (p : Plan) (q : IdPlan) (clients : List (List Task)) (gives : ℕ → L
       by_found false hit words = missed i k found here knows.0.0 words knows.0.1
   touched (UnlockId i from true) found b knows k here live none_ still = by_found (eqb found from) refl b.words
     where
-      by_found : (c : Bool) → eqb found from ≡ c → w'.core.calls.words ≡ set w.core.calls.words (id_index i) (cond c (packed (unlocked_word (parts from) (advance_of true))) found) → Same k
+      by_found : (c : Bool) → eqb found from ≡ c → w'.core.calls.words ≡ set w.core.calls.words (id_index i) (cond c (packed (unlocked_word (parts from) (bit true))) found) → Same k
       by_found true hit words = absurd (still (here, eqb-true found from hit))
       by_found false hit words = missed i k found here knows.0.0 words knows.0.1
   touched (UnlockId i from false) found b knows k here live none_ still = by_found (eqb found from) refl b.words
     where
-      by_found : (c : Bool) → eqb found from ≡ c → w'.core.calls.words ≡ set w.core.calls.words (id_index i) (cond c (packed (unlocked_word (parts from) (advance_of false))) found) → Same k
-      by_found true hit words = by_word i k (packed (unlocked_word (parts from) (advance_of false))) here knows.0.0 words (unlocked_attempt from (advance_of false) knows.2 ∙ ((let z : (parts from).attempt + 0 ≡ (parts from).attempt = omega arith in z) ∙ ap (λ (x : Parts). x.attempt) (ap parts (sym (eqb-true found from hit)) ∙ knows.0.1)))
+      by_found : (c : Bool) → eqb found from ≡ c → w'.core.calls.words ≡ set w.core.calls.words (id_index i) (cond c (packed (unlocked_word (parts from) (bit false))) found) → Same k
+      by_found true hit words = by_word i k (packed (unlocked_word (parts from) (bit false))) here knows.0.0 words (unlocked_attempt from (bit false) knows.2 ∙ ((let z : (parts from).attempt + 0 ≡ (parts from).attempt = omega arith in z) ∙ ap (λ (x : Parts). x.attempt) (ap parts (sym (eqb-true found from hit)) ∙ knows.0.1)))
       by_found false hit words = missed i k found here knows.0.0 words knows.0.1
   touched (EndId i) found b knows k here live none_ still = absurd (let v : ℕ = packed (free_word ((parts found).first + (parts found).range)) in
       let x = word_is p q clients gives w w' m plan i knows.0 sized (packed (free_word ((parts found).first + (parts found).range))) b.words ∙ parts_packed (free_word ((parts found).first + (parts found).range)) (omega arith) (omega arith) (omega arith) (omega arith) (omega arith) (omega arith) in
@@ -120,11 +120,11 @@ module _ (p : Plan) (q : IdPlan) (clients : List (List Task)) (gives : ℕ → L
   advance_of_step : (step : Step) (found : Found step) → Behind step found → KnowsStep p q clients gives w step found → Advance step found
   advance_of_step (UnlockId i from true) found b knows = by_found (eqb found from) refl b.words b.advances
     where
-      by_found : (c : Bool) → eqb found from ≡ c → w'.core.calls.words ≡ set w.core.calls.words (id_index i) (cond c (packed (unlocked_word (parts from) (advance_of true))) found)
-          → w'.advances ≡ cond c (Rattle.call_stories.specs.Lists.called_at w.core.calls i) [] ++ w.advances → Advance (UnlockId i from true) found
+      by_found : (c : Bool) → eqb found from ≡ c → w'.core.calls.words ≡ set w.core.calls.words (id_index i) (cond c (packed (unlocked_word (parts from) (bit true))) found)
+          → w'.advances ≡ cond c (Rattle.call_stories.specs.Below.outcome_stories.specs.Facts.called_at w.core.calls i) [] ++ w.advances → Advance (UnlockId i from true) found
       by_found true hit words more = let same = eqb-true found from hit in let is : parts from ≡ word_at w i = ap parts (sym same) ∙ knows.0.1 in
           one_more_at i knows.3.0 knows.0.0 knows.3.1 (let z : (word_at w i).state ≡ 2 = ap (λ (x : Parts). x.state) (sym is) ∙ knows.1 in omega (arith, z))
-          (ap (λ (x : Parts). x.attempt) (word_is p q clients gives w w' m plan i knows.0.0 sized (packed (unlocked_word (parts from) (advance_of true))) words) ∙ (unlocked_attempt from (advance_of true) knows.2 ∙ ap (λ (x : Parts). x.attempt + 1) is))
+          (ap (λ (x : Parts). x.attempt) (word_is p q clients gives w w' m plan i knows.0.0 sized (packed (unlocked_word (parts from) (bit true))) words) ∙ (unlocked_attempt from (bit true) knows.2 ∙ ap (λ (x : Parts). x.attempt + 1) is))
           (more ∙ ap (λ h. (elim (call_at h) as (λ o. List ℕ) [ core.none ↦ [] | core.some asked ↦ asked.operation ∷ [] ]) ++ w.advances) knows.3.1)
           (λ k x. x.0) (λ k x. x) (refl, same)
       by_found false hit words more = none_more more (λ k x. let z : false ≡ true = sym hit ∙ eq-eqb found from x.1 in cc)

@@ -8,7 +8,7 @@ use Rattle.corr_core.specs.declared.marks.Plan.{Plan as IdPlan}
 use Rattle.seat_programs.specs.id_rule.specs.Lawful.{id_index, all_words}
 use Rattle.seat_programs.specs.declared.task.Task.{Task}
 use Rattle.seat_programs.specs.Asides.{Step, ClaimId, PutCall, MakeId, LockId, PostId, UnlockId, EndId, FreeId, TakeCall, Found}
-use Rattle.seat_programs.specs.Posts.{packed, advance_of}
+use Rattle.seat_programs.specs.Posts.{packed}
 use Rattle.call_stories.specs.Below.id_runs.proofs.Keeps.{parts_packed}
 use Rattle.call_stories.specs.Scenes.{Birth, Scene}
 use Rattle.call_stories.specs.Says.{Mark, MayAside}
@@ -16,7 +16,7 @@ use Rattle.call_stories.specs.Stories.{word_at, SlotFits, HasPassed, IsCurrent, 
 use Rattle.call_stories.proofs.Posts.{locked_parts}
 use Rattle.call_stories.proofs.Effects.{Touches, beside, word_is, word_stays}
 use Rattle.story_steps.proofs.Slots.{queued_parts}
-use Rattle.sock_words.specs.Words.{id_slot, id_first}
+use Rattle.sock_words.specs.Words.{id_slot, id_first, bit}
 
 -- how the word of a slot changes: the range stays, or the step ends it, or makes one
 pub data Turn (Made Ended : Type 0) (old new : Parts) : Type 0 where
@@ -84,10 +84,10 @@ module _ (p : Plan) (q : IdPlan) (clients : List (List Task)) (gives : ℕ → L
       state_fits true = (omega arith, omega arith)
       state_fits false = (omega arith, omega arith)
 
-      by_found : (c : Bool) → eqb found from ≡ c → w'.core.calls.words ≡ set w.core.calls.words (id_index i) (cond c (packed (unlocked_word (parts from) (advance_of advance))) found) → TurnAt (UnlockId i from advance) i
+      by_found : (c : Bool) → eqb found from ≡ c → w'.core.calls.words ≡ set w.core.calls.words (id_index i) (cond c (packed (unlocked_word (parts from) (bit advance))) found) → TurnAt (UnlockId i from advance) i
       by_found true hit words = let y : parts from ≡ word_at w i = ap parts (sym (eqb-true found from hit)) ∙ knows.0.1 in
-          let x = parts_packed (unlocked_word (parts from) (advance_of advance)) (state_fits (eqb (parts from).oldest 0)).0 (omega arith) (omega arith) (let z = knows.2 in omega (arith, z)) (omega arith) (omega arith) in
-          keeps_turn (UnlockId i from advance) i (packed (unlocked_word (parts from) (advance_of advance))) knows.0.0 words (ap (λ (z : Parts). z.first) x ∙ ap (λ (z : Parts). z.first) y) (ap (λ (z : Parts). z.range) x ∙ ap (λ (z : Parts). z.range) y)
+          let x = parts_packed (unlocked_word (parts from) (bit advance)) (state_fits (eqb (parts from).oldest 0)).0 (omega arith) (omega arith) (let z = knows.2 in omega (arith, z)) (omega arith) (omega arith) in
+          keeps_turn (UnlockId i from advance) i (packed (unlocked_word (parts from) (bit advance))) knows.0.0 words (ap (λ (z : Parts). z.first) x ∙ ap (λ (z : Parts). z.first) y) (ap (λ (z : Parts). z.range) x ∙ ap (λ (z : Parts). z.range) y)
           (subst (λ (z : Parts). 0 < z.state) (sym x) (state_fits (eqb (parts from).oldest 0)).1) (subst (λ (z : Parts). 0 < z.state) y (let s = knows.1 in omega (arith, s)))
       by_found false hit words = missed (UnlockId i from advance) i found knows.0.0 knows.0.1 words
   touched (EndId i) found b knows may k low t = subst (TurnAt (EndId i)) t (

@@ -11,7 +11,7 @@ use Rattle.seat_programs.specs.declared.task.Op.TheVariants as ops
 use Rattle.seat_programs.specs.declared.task.Task.{Task}
 use Rattle.seat_programs.specs.Told.{IsTask, Became}
 use Rattle.seat_programs.specs.ToldCalls.{Fixed, Order, IsAnsweredBy}
-use Rattle.call_stories.specs.Lists.{given}
+use Rattle.call_stories.specs.Lists.{gave_in}
 use Rattle.call_stories.specs.Target.{IsOnCalls}
 use Rattle.call_stories.specs.Scenes.{Birth, Scene, IsAnsweredIn, WhyEnded, WhyOwn, ToldOf, was_said, was_sent, was_begun, AreTold}
 use Rattle.call_stories.specs.Says.{Mark}
@@ -125,5 +125,5 @@ module _ (p : Plan) (q : IdPlan) (clients : List (List Task)) (gives : ℕ → L
     -- ## Responses
 
     -- a call that a response ended was answered by it
-    pub answered : (fixed : Fixed) (orders : ℕ → Order) (id : ℕ) (asked : Asked) (P : Frame → Type 0) → IsAnsweredIn p q clients gives w id asked P → IsAnsweredBy p clients w.core.outcomes fixed (given w.core) orders asked id P
+    pub answered : (fixed : Fixed) (orders : ℕ → Order) (id : ℕ) (asked : Asked) (P : Frame → Type 0) → IsAnsweredIn p q clients gives w id asked P → IsAnsweredBy p clients w.core.outcomes fixed (gave_in w.core) orders asked id P
     answered fixed orders id asked P a = (a.0, a.1, a.2, (a.3, a.4), a.5, a.6)

@@ -6,7 +6,7 @@ use Rattle.corr_core.specs.declared.marks.Plan.{Plan as IdPlan}
 use Rattle.seat_programs.specs.id_rule.specs.Lawful.{id_index, all_words}
 use Rattle.seat_programs.specs.declared.task.Task.{Task}
 use Rattle.seat_programs.specs.Asides.{Step, ClaimId, PutCall, MakeId, LockId, PostId, UnlockId, EndId, FreeId, TakeCall, Found}
-use Rattle.seat_programs.specs.Posts.{packed, advance_of}
+use Rattle.seat_programs.specs.Posts.{packed}
 use Rattle.call_stories.specs.Below.id_runs.proofs.Keeps.{parts_packed}
 use Rattle.call_stories.specs.Scenes.{Scene, CauseOf, Later}
 use Rattle.call_stories.specs.Says.{Mark, Shows}
@@ -15,7 +15,7 @@ use Rattle.call_stories.proofs.Lasting.{cause_on}
 use Rattle.call_stories.proofs.Posts.{locked_parts}
 use Rattle.call_stories.proofs.Effects.{Touches, beside, word_is, word_stays}
 use Rattle.story_steps.proofs.Births.{tests}
-use Rattle.sock_words.specs.Words.{call_id}
+use Rattle.sock_words.specs.Words.{call_id, bit}
 
 module _ (p : Plan) (q : IdPlan) (clients : List (List Task)) (gives : ℕ → List ℕ) where
   -- each error of the word, which is that of slot i, has its cause
@@ -51,8 +51,8 @@ module _ (p : Plan) (q : IdPlan) (clients : List (List Task)) (gives : ℕ → L
     locks : (i from e : ℕ) → (parts from).state ≡ 1 → HasCauses w' i (parts from) → HasCauses w' i (parts (packed (posted_word (parts from) e)))
     locks i from e one old = subst (HasCauses w' i) (sym (locked_parts p q clients gives from e one)) (λ _. old (omega (arith, one)))
 
-    pops : (i from : ℕ) (advance : Bool) → (parts from).state ≡ 2 → (parts from).attempt + advance_of advance ≤ 6 → HasCauses w' i (parts from) → HasCauses w' i (parts (packed (unlocked_word (parts from) (advance_of advance))))
-    pops i from advance two few old = subst (HasCauses w' i) (sym (parts_packed (unlocked_word (parts from) (advance_of advance)) (state_fits (eqb (parts from).oldest 0)) (omega arith) (omega arith) (omega (arith, few)) (omega arith) (omega arith))) (λ _. ((old (omega (arith, two))).1, (λ ne. absurd (ne refl))))
+    pops : (i from : ℕ) (advance : Bool) → (parts from).state ≡ 2 → (parts from).attempt + bit advance ≤ 6 → HasCauses w' i (parts from) → HasCauses w' i (parts (packed (unlocked_word (parts from) (bit advance))))
+    pops i from advance two few old = subst (HasCauses w' i) (sym (parts_packed (unlocked_word (parts from) (bit advance)) (state_fits (eqb (parts from).oldest 0)) (omega arith) (omega arith) (omega (arith, few)) (omega arith) (omega arith))) (λ _. ((old (omega (arith, two))).1, (λ ne. absurd (ne refl))))
       where
         state_fits : (c : Bool) → cond c 1 2 < 4
         state_fits true = omega arith
@@ -79,8 +79,8 @@ module _ (p : Plan) (q : IdPlan) (clients : List (List Task)) (gives : ℕ → L
         by_found false hit words = subst (HasCauses w' i) (sym (word_is p q clients gives w w' m plan i knows.0.0 sized found words)) (found_causes i found knows.0.0 knows.0.1)
     touched (UnlockId i from advance) found b knows shows k low t = subst (λ n. HasCauses w' n (word_at w' n)) t (by_found (eqb found from) refl b.words)
       where
-        by_found : (c : Bool) → eqb found from ≡ c → w'.core.calls.words ≡ set w.core.calls.words (id_index i) (cond c (packed (unlocked_word (parts from) (advance_of advance))) found) → HasCauses w' i (word_at w' i)
-        by_found true hit words = subst (HasCauses w' i) (sym (word_is p q clients gives w w' m plan i knows.0.0 sized (packed (unlocked_word (parts from) (advance_of advance))) words))
+        by_found : (c : Bool) → eqb found from ≡ c → w'.core.calls.words ≡ set w.core.calls.words (id_index i) (cond c (packed (unlocked_word (parts from) (bit advance))) found) → HasCauses w' i (word_at w' i)
+        by_found true hit words = subst (HasCauses w' i) (sym (word_is p q clients gives w w' m plan i knows.0.0 sized (packed (unlocked_word (parts from) (bit advance))) words))
             (pops i from advance knows.1 knows.2 (subst (λ n. HasCauses w' i (parts n)) (eqb-true found from hit) (found_causes i found knows.0.0 knows.0.1)))
         by_found false hit words = subst (HasCauses w' i) (sym (word_is p q clients gives w w' m plan i knows.0.0 sized found words)) (found_causes i found knows.0.0 knows.0.1)
     touched (EndId i) found b knows shows k low t = subst (λ n. HasCauses w' n (word_at w' n)) t (

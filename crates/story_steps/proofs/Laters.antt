@@ -5,7 +5,7 @@ use mathlib.Core.Option.{some-injective}
 use mathlib.Core.Logic.{dite}
 use native.Mathlib.Decide.{ℕ_discrete}
 use lib.ListN.{get_elem?}
-use Rattle.sock_words.specs.Words.{at_word_attempt, call_id}
+use Rattle.sock_words.specs.Words.{at_word_attempt, call_id, bit}
 use Rattle.sock_words.specs.declared.plain.Plan.{Plan}
 use Rattle.seat_programs.specs.brpc_model.specs.Frame.{Frame}
 use Rattle.seat_programs.specs.brpc_model.specs.Stream as streams
@@ -16,7 +16,7 @@ use Rattle.sock_message.specs.Asked.{Asked}
 use Rattle.seat_programs.specs.declared.task.Task.{Task}
 use Rattle.seat_programs.specs.Asides.{Step, ClaimId, PutCall, MakeId, StoreCall, LoadCall, StoreAt, LockId, PostId, UnlockId, EndId, FreeId, TakeCall, TakeBytes, Bytes, Found}
 use Rattle.seat_programs.specs.Asides as asides
-use Rattle.seat_programs.specs.Posts.{packed, advance_of}
+use Rattle.seat_programs.specs.Posts.{packed}
 use Rattle.call_stories.specs.Below.id_runs.proofs.Keeps.{parts_packed}
 use Rattle.call_stories.specs.Posts.{posts_by}
 use Rattle.call_stories.specs.Scenes.{Birth, Scene, IsBorn, IsClaimed, Came, Begun, StaysWithin, Later}
@@ -86,7 +86,7 @@ module _ (p : Plan) (q : IdPlan) (clients : List (List Task)) (gives : ℕ → L
   begun_still (StoreAt u x) found b knows o = word_beside (at_index q u) x o (b.words ∙ ap (λ (r : IdPlan). set w.core.calls.words (at_index r u) x) plan) (λ e. omega (arith, e))
   begun_still (LockId i from) found b knows o = word_beside (id_index i) (cond (eqb found from) (packed (posted_word (parts from) 0)) found) o b.words (λ e. omega (arith, e))
   begun_still (PostId i from e) found b knows o = word_beside (id_index i) (cond (eqb found from) (packed (posted_word (parts from) e)) found) o b.words (λ z. omega (arith, z))
-  begun_still (UnlockId i from advance) found b knows o = word_beside (id_index i) (cond (eqb found from) (packed (unlocked_word (parts from) (advance_of advance))) found) o b.words (λ e. omega (arith, e))
+  begun_still (UnlockId i from advance) found b knows o = word_beside (id_index i) (cond (eqb found from) (packed (unlocked_word (parts from) (bit advance))) found) o b.words (λ e. omega (arith, e))
   begun_still (EndId i) found b knows o = word_beside (id_index i) (packed (free_word ((parts found).first + (parts found).range))) o b.words (λ e. omega (arith, e))
   begun_still (FreeId i) found b knows o = word_beside (tag_index i) 0 o b.words (λ e. omega (arith, knows, e))
   begun_still (TakeBytes l room) (Bytes bytes) b knows o = words_still o b.words
@@ -119,7 +119,7 @@ module _ (p : Plan) (q : IdPlan) (clients : List (List Task)) (gives : ℕ → L
       (λ ne. at_beside (at_index q u) x o inside words (λ e. ne (omega (arith, e))))
   ats_still (LockId i from) found b knows may o inside = at_beside (id_index i) (cond (eqb found from) (packed (posted_word (parts from) 0)) found) o inside b.words (let z = knows.0.0 in λ e. omega (arith, z, e))
   ats_still (PostId i from e) found b knows may o inside = at_beside (id_index i) (cond (eqb found from) (packed (posted_word (parts from) e)) found) o inside b.words (let z = knows.0.0 in λ x. omega (arith, z, x))
-  ats_still (UnlockId i from advance) found b knows may o inside = at_beside (id_index i) (cond (eqb found from) (packed (unlocked_word (parts from) (advance_of advance))) found) o inside b.words (let z = knows.0.0 in λ e. omega (arith, z, e))
+  ats_still (UnlockId i from advance) found b knows may o inside = at_beside (id_index i) (cond (eqb found from) (packed (unlocked_word (parts from) (bit advance))) found) o inside b.words (let z = knows.0.0 in λ e. omega (arith, z, e))
   ats_still (EndId i) found b knows may o inside = at_beside (id_index i) (packed (free_word ((parts found).first + (parts found).range))) o inside b.words (let z = knows.0 in λ e. omega (arith, z, e))
   ats_still (FreeId i) found b knows may o inside = at_beside (tag_index i) 0 o inside b.words (λ e. omega (arith, e))
   ats_still (TakeBytes l room) (Bytes bytes) b knows may o inside = ats_same o inside b.words

@@ -2,11 +2,11 @@
 use Rattle.std.proofs.Common.{◌≡◌, ◌≢◌, ℕ, ◌+◌, ◌<◌, ◌≤◌, ◌⊎◌, inl, inr, ⊎_elim, Bool, true, false, cond, eqb, eq-eqb, ne_eqb, List, [], ◌∷◌, ◌++◌, length, get_or, get_or-set_same, Option, None, Some, refl, sym, ap, ◌∙◌, subst, arith}
 use mathlib.Core.Option.{some-injective}
 use lib.ListN.{get_elem?}
-use Rattle.sock_words.specs.Words.{at_word_attempt, call_id, id_slot, id_first}
+use Rattle.sock_words.specs.Words.{at_word_attempt, call_id, id_slot, id_first, bit}
 use Rattle.sock_words.specs.declared.plain.Plan.{Plan}
 use Rattle.sock_words.specs.declared.outcome.Outcome.{Outcome}
 use Rattle.corr_core.specs.Word.{Parts, parts, code_of, unlocked_word, free_word}
-use Rattle.seat_programs.specs.Posts.{packed, advance_of}
+use Rattle.seat_programs.specs.Posts.{packed}
 use Rattle.call_stories.specs.Below.id_runs.proofs.Keeps.{parts_packed}
 use Rattle.corr_core.specs.declared.marks.Plan.{Plan as IdPlan}
 use Rattle.seat_programs.specs.id_rule.specs.Lawful.{call_index, all_words}
@@ -150,7 +150,7 @@ module _ (p : Plan) (q : IdPlan) (clients : List (List Task)) (gives : ℕ → L
           let held : SlotFits q w (Locked i f shape) = subst (SlotFits q w) slot fits in
           let is : parts from ≡ word_at w i = ap parts (sym same) ∙ knows.0.1 in
           let e = law.errors i held.0 (let z = held.2 in omega (arith, z)) in
-          let packed_is = parts_packed (unlocked_word (parts from) (advance_of advance)) (state_fits (eqb (parts from).oldest 0)) (omega arith) (omega arith) (let z = knows.2 in omega (arith, z)) (omega arith) (omega arith) in (
+          let packed_is = parts_packed (unlocked_word (parts from) (bit advance)) (state_fits (eqb (parts from).oldest 0)) (omega arith) (omega arith) (let z = knows.2 in omega (arith, z)) (omega arith) (omega arith) in (
             subst (λ n. CauseOf p q clients gives w' (call_id i f) n) (sym (ap (λ (z : Parts). z.oldest) is))
                 (subst (λ n. CauseOf p q clients gives w' (call_id i n) (word_at w i).oldest) held.3 (cause_on p q clients gives w w' l (call_id i (word_at w i).first) (word_at w i).oldest (e.0 (subst (λ (z : Parts). z.oldest ≢ 0) is some_)))),
             ap (λ (z : Parts). z.range) packed_is ∙ (ap (λ (z : Parts). z.range) is ∙ held.4),

@@ -18,7 +18,7 @@ use Rattle.seat_programs.specs.Heads.{Version, Reading, Locks, Opens, Reads, Dis
 use Rattle.seat_programs.specs.Programs.{Program, Rest, Say, Round, address, release, set_failed}
 use Rattle.seat_programs.specs.Posts.{is_stale, post_with, decided}
 use Rattle.seat_programs.specs.Readers.{LIMIT, has_response, slot_in, version_in, answer, answered, responses, last_of, ended_by, read_on, took_bytes, took, reads_round, discarded, discards_round, opens_round, kept_for, ends_with, posted_last, post_each, thrown_away, read, reader}
-use Rattle.call_stories.specs.Lists.{given}
+use Rattle.call_stories.specs.Lists.{gave_in}
 use Rattle.call_stories.specs.Scenes.{Birth, Scene, Came, IsResponseTo, WasPosted, HasFaulted, IsOther, of_other, by_compression, WhyEnded}
 use Rattle.call_stories.specs.Says.{Shape, HasShape, Locked, Mark, with_slot, with_owed, with_bytes, IsFree, taken_out, SaidBy, GoesFrom, CameFrom, IsReading, Again, LeavesLock, Leaves'}
 use Rattle.call_stories.proofs.Lasting.{far, kept_on}
@@ -180,13 +180,13 @@ module _ (p : Plan) (q : IdPlan) (clients : List (List Task)) (gives : ℕ → L
           (a.slot, m.bytes ++ bytes, a.vacant, a.is, refl, refl, all, inr (refl, faulted (at.goes.2 bytes (start, fault, is))), at.inside)
 
       -- the frames of the piece came
-      frames_came : (v : Scene) → given v.core r.link ≡ m.bytes ++ bytes → AllCame v r.link (streams.stream (r.rest ++ bytes)).frames
+      frames_came : (v : Scene) → gave_in v.core r.link ≡ m.bytes ++ bytes → AllCame v r.link (streams.stream (r.rest ++ bytes)).frames
       frames_came v is = all_at (λ f. (n : ℕ) × Came v r.link n f) (streams.stream (r.rest ++ bytes)).frames (λ n f there. (
         at.goes.0 + n,
         subst (λ l. slice_get (streams.stream l).frames (at.goes.0 + n) ≡ Some f) (sym is) (at.goes.1 bytes n f there),
       ))
 
-    took_says : (t : Taking) (v : Scene) (m1 : Mark) → Later' w v → SaidBy v (took r k t) → m1 ≡ Rattle.call_stories.specs.Says.given_more t m → given v.core r.link ≡ (Rattle.call_stories.specs.Says.given_more t m).bytes → Tells v m1 (took r k t)
+    took_says : (t : Taking) (v : Scene) (m1 : Mark) → Later' w v → SaidBy v (took r k t) → m1 ≡ Rattle.call_stories.specs.Says.given_more t m → gave_in v.core r.link ≡ (Rattle.call_stories.specs.Says.given_more t m).bytes → Tells v m1 (took r k t)
     took_says (Bytes bytes) v m1 l s same is = subst (λ x. Tells v x (took_bytes r bytes k)) (sym same)
         (responses_at w r.ids r.link (λ kept. read_on (record { ids = r.ids; link = r.link; id = r.id; rest = r.rest; total = r.total + length bytes; kept = kept }) (r.rest ++ bytes) (streams.stream (r.rest ++ bytes)).ending k) at.inside (streams.stream (r.rest ++ bytes)).frames r.kept
         (with_bytes (m.bytes ++ bytes) m) free (read_on_says bytes (λ x. let lead = l.within.1 r.link in (r.link, at.inside, subst HasFault (ap (λ xs. xs ++ lead.0) (sym is) ∙ lead.1) (faults_more (m.bytes ++ bytes) lead.0 x))) (streams.stream (r.rest ++ bytes)).ending refl) v l (frames_came bytes v is) (kept_on p q clients gives w v l r.link r.kept at.kept) s)

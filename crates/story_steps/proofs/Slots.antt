@@ -12,13 +12,14 @@ use Rattle.seat_programs.specs.id_rule.specs.Lawful.{tag_index, id_index, all_wo
 use Rattle.sock_message.specs.Asked.{Asked}
 use Rattle.seat_programs.specs.declared.task.Task.{Task}
 use Rattle.seat_programs.specs.Asides.{Step, ClaimId, PutCall, MakeId, StoreCall, LoadCall, StoreAt, LoadAt, LoadIdWord, LockId, PostId, UnlockId, EndId, FreeId, TakeCall, TakeBytes, Bytes, Found}
-use Rattle.seat_programs.specs.Posts.{packed, advance_of}
+use Rattle.seat_programs.specs.Posts.{packed}
 use Rattle.call_stories.specs.Below.id_runs.proofs.Keeps.{parts_packed}
 use Rattle.call_stories.specs.Scenes.{Scene}
 use Rattle.call_stories.specs.Says.{Shape, shape_of, with_attempt, unlocked_by, Slot, NoSlot, Claims, Locked, Holds, Leaves, Mark, with_slot, put_in, taken_out, MayAside}
 use Rattle.call_stories.specs.Stories.{word_at, tag_at, LiesAt, InSlot, PutThere, SlotFits, IsBehind, KnowsStep, mark_after, stored_by}
 use Rattle.call_stories.proofs.Posts.{locked_parts}
 use Rattle.call_stories.proofs.Effects.{Touches, SameAt, beside, word_is, tag_stays, tag_is, word_stays, lies_is}
+use Rattle.sock_words.specs.Words.{bit}
 
 module _ (q : IdPlan) where
   -- slot k has the same range in the same state, and is still taken
@@ -220,14 +221,14 @@ module _ (p : Plan) (q : IdPlan) (clients : List (List Task)) (gives : ℕ → L
       moved : (v : ℕ) → w'.core.calls.words ≡ set w.core.calls.words (id_index i) v → (parts v).first ≡ (word_at w i).first → (parts v).range ≡ (word_at w i).range → (parts v).state ≡ (word_at w i).state → (parts v).attempt ≡ (word_at w i).attempt → SlotFits q w (Locked i may.0 may.1) → SlotFits q w' m.slot
       moved v words first range state attempt x = subst (SlotFits q w') (sym may.2) (like_fits q w w' (Locked i may.0 may.1) (λ k low there. subst (λ n. LikeAt q n w w') there (by_word i v knows.0.0 words b.homes first range state attempt)) x)
 
-      popped : (c : Bool) → eqb (parts from).oldest 0 ≡ c → found ≡ from → w'.core.calls.words ≡ set w.core.calls.words (id_index i) (packed (unlocked_word (parts from) (advance_of advance))) → SlotFits q w (Locked i may.0 may.1) → SlotFits q w' (cond c (with_slot NoSlot m) (with_slot (with_attempt (parts (unlocked_by from advance)).attempt m.slot) m)).slot
+      popped : (c : Bool) → eqb (parts from).oldest 0 ≡ c → found ≡ from → w'.core.calls.words ≡ set w.core.calls.words (id_index i) (packed (unlocked_word (parts from) (bit advance))) → SlotFits q w (Locked i may.0 may.1) → SlotFits q w' (cond c (with_slot NoSlot m) (with_slot (with_attempt (parts (unlocked_by from advance)).attempt m.slot) m)).slot
       popped true none_ same words x = tt
       popped false some_ same words x = let is : parts from ≡ word_at w i = ap parts (sym same) ∙ knows.0.1 in
-          let y = parts_packed (unlocked_word (parts from) (advance_of advance)) (state_fits (eqb (parts from).oldest 0)) (omega arith) (omega arith) (let z = knows.2 in omega (arith, z)) (omega arith) (omega arith) in
-          let there = word_is p q clients gives w w' m plan i knows.0.0 sized (packed (unlocked_word (parts from) (advance_of advance))) words in
+          let y = parts_packed (unlocked_word (parts from) (bit advance)) (state_fits (eqb (parts from).oldest 0)) (omega arith) (omega arith) (let z = knows.2 in omega (arith, z)) (omega arith) (omega arith) in
+          let there = word_is p q clients gives w w' m plan i knows.0.0 sized (packed (unlocked_word (parts from) (bit advance))) words in
           subst (λ s. SlotFits q w' (with_attempt (parts (unlocked_by from advance)).attempt s)) (sym may.2) (
             x.0,
-            (λ e. x.1 (sym (tag_stays p q clients gives w w' m plan i knows.0.0 sized (packed (unlocked_word (parts from) (advance_of advance))) words) ∙ e)),
+            (λ e. x.1 (sym (tag_stays p q clients gives w w' m plan i knows.0.0 sized (packed (unlocked_word (parts from) (bit advance))) words) ∙ e)),
             ap (λ (z : Parts). z.state) (there ∙ y) ∙ ap (λ c. cond c 1 2) some_,
             ap (λ (z : Parts). z.first) (there ∙ y) ∙ (ap (λ (z : Parts). z.first) is ∙ x.3),
             ap (λ (z : Parts). z.range) (there ∙ y) ∙ (ap (λ (z : Parts). z.range) is ∙ x.4),
@@ -238,10 +239,10 @@ module _ (p : Plan) (q : IdPlan) (clients : List (List Task)) (gives : ℕ → L
           state_fits true = omega arith
           state_fits false = omega arith
 
-      by_found : (c : Bool) → eqb found from ≡ c → w'.core.calls.words ≡ set w.core.calls.words (id_index i) (cond (eqb found from) (packed (unlocked_word (parts from) (advance_of advance))) found) → SlotFits q w (Locked i may.0 may.1)
+      by_found : (c : Bool) → eqb found from ≡ c → w'.core.calls.words ≡ set w.core.calls.words (id_index i) (cond (eqb found from) (packed (unlocked_word (parts from) (bit advance))) found) → SlotFits q w (Locked i may.0 may.1)
           → SlotFits q w' (cond c (cond (eqb (parts from).oldest 0) (with_slot NoSlot m) (with_slot (with_attempt (parts (unlocked_by from advance)).attempt m.slot) m)) m).slot
-      by_found true hit words x = popped (eqb (parts from).oldest 0) refl (eqb-true found from hit) (words ∙ ap (λ z. set w.core.calls.words (id_index i) (cond z (packed (unlocked_word (parts from) (advance_of advance))) found)) hit) x
-      by_found false hit words x = moved found (words ∙ ap (λ z. set w.core.calls.words (id_index i) (cond z (packed (unlocked_word (parts from) (advance_of advance))) found)) hit) (ap (λ (y : Parts). y.first) knows.0.1) (ap (λ (y : Parts). y.range) knows.0.1) (ap (λ (y : Parts). y.state) knows.0.1) (ap (λ (y : Parts). y.attempt) knows.0.1) x
+      by_found true hit words x = popped (eqb (parts from).oldest 0) refl (eqb-true found from hit) (words ∙ ap (λ z. set w.core.calls.words (id_index i) (cond z (packed (unlocked_word (parts from) (bit advance))) found)) hit) x
+      by_found false hit words x = moved found (words ∙ ap (λ z. set w.core.calls.words (id_index i) (cond z (packed (unlocked_word (parts from) (bit advance))) found)) hit) (ap (λ (y : Parts). y.first) knows.0.1) (ap (λ (y : Parts). y.range) knows.0.1) (ap (λ (y : Parts). y.state) knows.0.1) (ap (λ (y : Parts). y.attempt) knows.0.1) x
   own_fits (EndId i) found b knows may f = let x = subst (SlotFits q w) may.3 f in let v : ℕ = packed (free_word ((parts found).first + (parts found).range)) in (
     x.0,
     (λ e. x.1 (sym (tag_stays p q clients gives w w' m plan i x.0 sized v b.words) ∙ e)),

@@ -11,7 +11,7 @@ use Rattle.seat_programs.specs.declared.task.Op.TheVariants as ops
 use Rattle.seat_programs.specs.declared.task.Task.{Task}
 use Rattle.seat_programs.specs.Told.{IsTask, Became}
 use Rattle.seat_programs.specs.ToldCalls.{Fixed, Order, HasBegun, MayNotHaveBegun, WhyJoin, WhyExpire}
-use Rattle.call_stories.specs.Lists.{given}
+use Rattle.call_stories.specs.Lists.{gave_in}
 use Rattle.call_stories.specs.Scenes.{Scene, IsErrorCode, WhyEnded, WhyOwn, HasBegunIn, HasNotBegunIn, ToldOf, was_said, was_sent, was_begun, AreTold}
 use Rattle.call_stories.specs.Says.{Mark}
 use Rattle.call_stories.specs.Stories.{undo, QuietOf, AreQuiet}
@@ -73,7 +73,7 @@ module _ (p : Plan) (q : IdPlan) (clients : List (List Task)) (gives : ℕ → L
     -- ## What is said of another call
 
     module _ (fixed : Fixed) (orders : ℕ → Order) where
-      has_begun : (c : ℕ) (t : Task) (o : ℕ) (d : IsDone c t) → HasBegunIn p q clients gives w c d.before o → HasBegun p clients w.core.outcomes fixed (given w.core) orders c t.number o
+      has_begun : (c : ℕ) (t : Task) (o : ℕ) (d : IsDone c t) → HasBegunIn p q clients gives w c d.before o → HasBegun p clients w.core.outcomes fixed (gave_in w.core) orders c t.number o
       has_begun c t o d h = (
         h.0,
         h.1,
@@ -85,7 +85,7 @@ module _ (p : Plan) (q : IdPlan) (clients : List (List Task)) (gives : ℕ → L
         (λ same. subst (λ n. n < t.number) h.6 (d.less h.1 (h.9 same))),
       )
 
-      not_begun : (c : ℕ) (t : Task) (o : ℕ) (d : IsDone c t) → HasNotBegunIn p q clients gives w d.before o → MayNotHaveBegun p clients w.core.outcomes fixed (given w.core) orders c t.number o
+      not_begun : (c : ℕ) (t : Task) (o : ℕ) (d : IsDone c t) → HasNotBegunIn p q clients gives w d.before o → MayNotHaveBegun p clients w.core.outcomes fixed (gave_in w.core) orders c t.number o
       not_begun c t o d h = λ task is number low. e.tasks.said o outcomes.Unopened (h task (d.all task is (subst (λ n. n < t.number) (sym number) low)) number)
 
       -- ## Causes
@@ -99,12 +99,12 @@ module _ (p : Plan) (q : IdPlan) (clients : List (List Task)) (gives : ℕ → L
       posted code (inr (inr (inr (inr (inr is))))) = inr (is.0, is.1)
 
       module _ (last : ℕ → ℕ) (c : ℕ) (t : Task) (is : IsTask clients w.core.outcomes c t) where
-        join_by : (o : ℕ) (d : IsDone c t) (x : Outcome) → WhyOwn p q clients gives w c d.before (ops.Join o) x → WhyJoin p clients w.core.outcomes fixed (given w.core) orders last c t.number o x
+        join_by : (o : ℕ) (d : IsDone c t) (x : Outcome) → WhyOwn p q clients gives w c d.before (ops.Join o) x → WhyJoin p clients w.core.outcomes fixed (gave_in w.core) orders last c t.number o x
         join_by o d outcomes.Joined why = has_begun c t o d why
         join_by o d outcomes.NotBegun why = not_begun c t o d why
         join_by o d _ why = absurd why
 
-        expire_by : (o : ℕ) (d : IsDone c t) (x : Outcome) → WhyOwn p q clients gives w c d.before (ops.Expire o) x → WhyExpire p clients w.core.outcomes fixed (given w.core) orders last c t.number o x
+        expire_by : (o : ℕ) (d : IsDone c t) (x : Outcome) → WhyOwn p q clients gives w c d.before (ops.Expire o) x → WhyExpire p clients w.core.outcomes fixed (gave_in w.core) orders last c t.number o x
         expire_by o d outcomes.Expired why = (why.0, e.tasks.said o (outcomes.CallFailed why.0 1008) why.1)
         expire_by o d outcomes.Queued why = has_begun c t o d why
         expire_by o d outcomes.Late why = has_begun c t o d why
@@ -122,8 +122,8 @@ module _ (p : Plan) (q : IdPlan) (clients : List (List Task)) (gives : ℕ → L
             by_told d (was_begun id a call own born begun named) = absurd (calls_ a (sym call ∙ is_op))
 
         -- why each `join`, and each `expire`, has its outcome
-        pub why_join : (o : ℕ) (x : Outcome) → t.op ≡ ops.Join o → Became clients w.core.outcomes t.number x → WhyJoin p clients w.core.outcomes fixed (given w.core) orders last c t.number o x
+        pub why_join : (o : ℕ) (x : Outcome) → t.op ≡ ops.Join o → Became clients w.core.outcomes t.number x → WhyJoin p clients w.core.outcomes fixed (gave_in w.core) orders last c t.number o x
         why_join o x op has = let r = own_why (ops.Join o) x op (λ n bytes z. cc) (λ a z. cc) has in join_by o r.0 x r.1
 
-        pub why_expire : (o : ℕ) (x : Outcome) → t.op ≡ ops.Expire o → Became clients w.core.outcomes t.number x → WhyExpire p clients w.core.outcomes fixed (given w.core) orders last c t.number o x
+        pub why_expire : (o : ℕ) (x : Outcome) → t.op ≡ ops.Expire o → Became clients w.core.outcomes t.number x → WhyExpire p clients w.core.outcomes fixed (gave_in w.core) orders last c t.number o x
         why_expire o x op has = let r = own_why (ops.Expire o) x op (λ n bytes z. cc) (λ a z. cc) has in expire_by o r.0 x r.1

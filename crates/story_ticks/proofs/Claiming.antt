@@ -12,7 +12,7 @@ use Rattle.seat_programs.specs.declared.task.Op.TheVariants as ops
 use Rattle.seat_programs.specs.declared.task.Task.{Task}
 use Rattle.seat_programs.specs.Asides.{Step, ClaimId, PutCall, MakeId, StoreCall, LoadCall, StoreAt, LoadAt, LoadIdWord, LockId, PostId, UnlockId, EndId, FreeId, TakeCall, TakeBytes, Bytes, Found}
 use Rattle.seat_programs.specs.Asides as asides
-use Rattle.seat_programs.specs.Posts.{packed, advance_of}
+use Rattle.seat_programs.specs.Posts.{packed}
 use Rattle.story_steps.specs.call_stories.specs.Scenes.{Birth, Saying, Claim, Scene, IsClaimed, IsTaskOf, HasRoom}
 use Rattle.story_steps.specs.call_stories.specs.Says.{with_attempt, unlocked_by, shape_of, Slot, NoSlot, Claims, Locked, Leaves, Mark, with_slot, put_in, taken_out, IsVacant, MayAside}
 use Rattle.story_steps.specs.call_stories.specs.Stories.{At, tag_at, SlotFits, BirthsLaw, TasksLaw, ClaimsLaw, tasks_behind, ahead, unclaimed, IsBehind, KnowsStep, put_of, born_by, claimed_by, stored_by, mark_after}
@@ -23,7 +23,7 @@ use Rattle.story_steps.proofs.Moving.{free_unclaimed}
 use Rattle.story_steps.proofs.Numbered.{AllDistinct, AreNumbered}
 use Rattle.story_ticks.proofs.Sayings.{at_either, is_todo, distinct_at}
 use Rattle.story_steps.specs.call_stories.specs.Below.outcome_stories.specs.Stories.{In}
-use Rattle.sock_words.specs.Words.{call_id}
+use Rattle.sock_words.specs.Words.{call_id, bit}
 
 -- ## Counting
 
@@ -97,7 +97,7 @@ module _ (p : Plan) (q : IdPlan) (clients : List (List Task)) (gives : ℕ → L
   touched_tag (MakeId i range) found b knows k here some_ = inl (word_tag i k (packed (made_word (parts found).first range)) here knows.0.0 b.words some_)
   touched_tag (LockId i from) found b knows k here some_ = inl (word_tag i k (cond (eqb found from) (packed (posted_word (parts from) 0)) found) here knows.0.0 b.words some_)
   touched_tag (PostId i from e) found b knows k here some_ = inl (word_tag i k (cond (eqb found from) (packed (posted_word (parts from) e)) found) here knows.0.0 b.words some_)
-  touched_tag (UnlockId i from advance) found b knows k here some_ = inl (word_tag i k (cond (eqb found from) (packed (unlocked_word (parts from) (advance_of advance))) found) here knows.0.0 b.words some_)
+  touched_tag (UnlockId i from advance) found b knows k here some_ = inl (word_tag i k (cond (eqb found from) (packed (unlocked_word (parts from) (bit advance))) found) here knows.0.0 b.words some_)
   touched_tag (EndId i) found b knows k here some_ = inl (word_tag i k (packed (free_word ((parts found).first + (parts found).range))) here knows.0 b.words some_)
   touched_tag (FreeId i) found b knows k here some_ = absurd (some_ (subst (λ n. tag_at w' n ≡ 0) here (tag_is p q clients gives w w' m plan i knows sized 0 b.words)))
   touched_tag (TakeCall i) found b knows k here some_ = inl (words_tag k b.words some_)

@@ -21,7 +21,7 @@ use Rattle.story_steps.specs.Below.id_runs.specs.Goes.{IdGoesOn}
 use Rattle.story_steps.specs.Below.id_runs.proofs.Opening.{all_go}
 use Rattle.story_steps.specs.Below.joint_runs.proofs.Runs.{AreMade}
 use Rattle.story_steps.specs.Below.joint_runs.proofs.Starts.{narrow}
-use Rattle.story_steps.specs.call_stories.specs.Lists.{given}
+use Rattle.story_steps.specs.call_stories.specs.Lists.{gave_in}
 use Rattle.story_steps.specs.call_stories.specs.Scenes.{LeadsTo}
 use Rattle.story_steps.specs.call_stories.proofs.Leading.{run_leads}
 use Rattle.story_ticks.proofs.Chains.{KeepsFew}
@@ -126,5 +126,5 @@ module _ (script : List Item) (turns : List Turn) (core : Core) (is : IsRunWithC
   pub leadings : Leadings
   leadings = record { ended_leads = ended_leads; told_leads = told_leads; closed_leads = closed_leads; ending_leads = ending_leads; played_leads = played_leads; set_up_leads = set_up_leads; opened_leads = opened_leads }
 
-pub own_leads : (script : List Item) (core : Core) → LeadsTo (plan_of script) (id_plan_of script) (all_tasks script) (given core) core
-own_leads script core k = ([], append-nil (given core k))
+pub own_leads : (script : List Item) (core : Core) → LeadsTo (plan_of script) (id_plan_of script) (all_tasks script) (gave_in core) core
+own_leads script core k = ([], append-nil (gave_in core k))

@@ -12,7 +12,7 @@ use Rattle.seat_programs.specs.declared.task.Op.TheVariants as ops
 use Rattle.seat_programs.specs.declared.task.Task.{Task}
 use Rattle.seat_programs.specs.Asides.{Step, ClaimId, PutCall, MakeId, StoreCall, LoadCall, StoreAt, LoadAt, LoadIdWord, LockId, PostId, UnlockId, EndId, FreeId, TakeCall, TakeBytes, Bytes, Found}
 use Rattle.seat_programs.specs.Asides as asides
-use Rattle.seat_programs.specs.Posts.{packed, advance_of}
+use Rattle.seat_programs.specs.Posts.{packed}
 use Rattle.story_steps.specs.call_stories.specs.Scenes.{Birth, Saying, Scene, AreTold, was_begun, Later}
 use Rattle.story_steps.specs.call_stories.specs.Says.{shape_of, with_attempt, unlocked_by, Slot, NoSlot, Claims, Locked, Holds, Leaves, Mark, with_slot, with_owed, with_made, with_done, MayAside}
 use Rattle.story_steps.specs.call_stories.specs.Stories.{At, word_at, SlotFits, HasPassed, IsCurrent, BirthsLaw, undo, ahead, tasks_behind, IsUntold, AreQuiet, TasksLaw, IsBehind, KnowsStep, put_of, born_by, ended_of, stored_by, mark_after}
@@ -24,7 +24,7 @@ use Rattle.story_steps.proofs.Numbered.{AreNumbered}
 use Rattle.story_ticks.proofs.Sayings.{in_ahead}
 use Rattle.story_ticks.proofs.TaskTicks.{IsNew, Change, quiet_on}
 use Rattle.story_steps.specs.call_stories.specs.Below.outcome_stories.specs.Stories.{In}
-use Rattle.sock_words.specs.Words.{call_id, id_slot, id_first}
+use Rattle.sock_words.specs.Words.{call_id, id_slot, id_first, bit}
 
 -- a step stores the word of this call
 abbrev IsStore : Step → ℕ → Type 0
@@ -65,7 +65,7 @@ module _ (p : Plan) (q : IdPlan) (clients : List (List Task)) (gives : ℕ → L
   calls_same (StoreAt u x) found b knows o inside none_ = one_word (at_index q u) x o (b.words ∙ ap (λ (r : IdPlan). set w.core.calls.words (at_index r u) x) plan) (λ e. omega (arith, e))
   calls_same (LockId i from) found b knows o inside none_ = one_word (id_index i) (cond (eqb found from) (packed (posted_word (parts from) 0)) found) o b.words (λ e. omega (arith, e))
   calls_same (PostId i from e) found b knows o inside none_ = one_word (id_index i) (cond (eqb found from) (packed (posted_word (parts from) e)) found) o b.words (λ z. omega (arith, z))
-  calls_same (UnlockId i from advance) found b knows o inside none_ = one_word (id_index i) (cond (eqb found from) (packed (unlocked_word (parts from) (advance_of advance))) found) o b.words (λ e. omega (arith, e))
+  calls_same (UnlockId i from advance) found b knows o inside none_ = one_word (id_index i) (cond (eqb found from) (packed (unlocked_word (parts from) (bit advance))) found) o b.words (λ e. omega (arith, e))
   calls_same (EndId i) found b knows o inside none_ = one_word (id_index i) (packed (free_word ((parts found).first + (parts found).range))) o b.words (λ e. omega (arith, e))
   calls_same (FreeId i) found b knows o inside none_ = one_word (tag_index i) 0 o b.words (λ e. omega (arith, knows, e))
   calls_same (TakeBytes k room) (Bytes bytes) b knows o inside none_ = no_word o b.words

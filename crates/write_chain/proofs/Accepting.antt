@@ -14,7 +14,7 @@ use Rattle.sock_model.specs.declared.marks.Mark.TheVariants.{Saw, Met}
 use Rattle.sock_model.specs.declared.view.View.{View}
 use Rattle.sock_model.specs.Entries.{ticket_of}
 use Rattle.sock_model.specs.Layout.{request_index}
-use Rattle.sock_model.specs.Weights.{total, is_hold, is_met}
+use Rattle.sock_model.specs.Weights.{is_hold, is_met}
 use Rattle.sock_model.specs.SlotRows.{marks_of, met_link}
 use Rattle.sock_model.specs.ChainRows.{with_claim, ready_claim, queued, righted, new_right, without_loose, more, entry_of}
 use Rattle.sock_open.specs.slot_steps.proofs.Numbers.{pair-same}
@@ -25,6 +25,7 @@ use Rattle.sock_rule.proofs.Becoming.{adds_mark, becomes}
 use Rattle.sock_table.specs.Named.{HasSeen}
 use Rattle.sock_table.specs.Answers.{Holds}
 use Rattle.write_chain.specs.Sending.{HasRoom, MaySend, Accepted, IsFirst, FoundTaken}
+use Rattle.sock_words.specs.Totals.{total}
 
 -- a seat that held the life of the id claims request `at`, and comes by the views a and b to the exchange
 module _ (p : Plan) (v a b : View) (id slot h k at own : ℕ) (c : Claim) (heading : Heading) (bytes : List ℕ)

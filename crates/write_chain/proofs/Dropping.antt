@@ -9,7 +9,7 @@ use Rattle.sock_words.specs.Words.{socket_id_version, socket_id_slot}
 use Rattle.sock_model.specs.declared.marks.Mark.TheVariants.{Saw, Told}
 use Rattle.sock_model.specs.declared.view.View.{View}
 use Rattle.sock_model.specs.Marks.{about}
-use Rattle.sock_model.specs.Weights.{total, is_saw, is_told}
+use Rattle.sock_model.specs.Weights.{is_saw, is_told}
 use Rattle.sock_model.specs.SlotRows.{marks_of}
 use Rattle.sock_open.specs.slot_steps.proofs.Numbers.{pair-same}
 use Rattle.sock_rule.specs.Becoming.{Became}
@@ -24,6 +24,7 @@ use Rattle.write_chain.proofs.Looking.{Fails}
 use Rattle.sock_io.specs.declared.link.Out.{Ghosts}
 use Rattle.write_chain.specs.declared.keep.Went.{Went}
 use Rattle.write_chain.specs.declared.keep.Went.TheVariants as went
+use Rattle.sock_words.specs.Totals.{total}
 
 pub code_noted : {O : Type 0} {state : O → OutState} (c id : ℕ) (v w : View) → CodeOf c id v w → Fails state id v w
 code_noted c id v w k = dite (ℕ_discrete c 0)

@@ -10,12 +10,12 @@ use Rattle.sock_model.specs.declared.marks.Mark.{Mark}
 use Rattle.sock_model.specs.declared.marks.SlotMark.{SlotMark}
 use Rattle.sock_model.specs.declared.view.View.{View}
 use Rattle.sock_model.specs.Marks.{about}
-use Rattle.sock_model.specs.Weights.{total}
 use Rattle.sock_rule.specs.Becoming.{Became}
 use Rattle.sock_rule.specs.Faults.{fault, is_fault, faults_link, faults_of, noting_fault, fault_found}
 use Rattle.sock_rule.proofs.Becoming.{stays, adds_mark}
 use Rattle.sock_table.specs.Answers.{CodeOf}
 use Rattle.write_chain.specs.Noting.{faulted, Noted, nothing, finding}
+use Rattle.sock_words.specs.Totals.{total}
 
 -- a note of a fault is one of some slot
 fault_slot : (k : ℕ) (es : List SlotMark) → 0 < total (faults_link k) es → (j : ℕ) × (0 < total (is_fault k) (about j es))

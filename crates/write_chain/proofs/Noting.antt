@@ -8,7 +8,7 @@ use Rattle.sock_model.specs.declared.marks.Mark.{Mark}
 use Rattle.sock_model.specs.declared.chain.Heading.{Heading}
 use Rattle.sock_model.specs.declared.view.View.{View}
 use Rattle.write_chain.specs.declared.right.Undelivered.{Undelivered}
-use Rattle.sock_model.specs.Weights.{total, is_ref, is_met}
+use Rattle.sock_model.specs.Weights.{is_ref, is_met}
 use Rattle.sock_model.specs.declared.view.StoredWord.{StoredWord}
 use Rattle.sock_model.specs.ChainRows.{with_right}
 use Rattle.sock_model.specs.Layout.{place_index}
@@ -19,6 +19,7 @@ use Rattle.sock_rule.specs.Becoming.{Became}
 use Rattle.sock_rule.proofs.Becoming.{then_, stays}
 use Rattle.sock_table.proofs.Quiet.{IsQuiet}
 use Rattle.write_chain.specs.Noting.{IsFinding, saw, met, told, faulted, Noted, nothing, finding, failing, Met_by, Wrote, WroteDrop}
+use Rattle.sock_words.specs.Totals.{total}
 
 finding_quiet : {h : ℕ} (m : Mark) → IsFinding h m → IsQuiet (m ∷ []) × (is_ref m ≡ 0)
 finding_quiet _ (saw w) = (record { claimed = refl; probe = refl; coding = refl; zeros = λ x. refl }, refl)

@@ -16,7 +16,7 @@ use Rattle.sock_model.specs.declared.marks.Mark.{Mark}
 use Rattle.sock_model.specs.declared.marks.Mark.TheVariants.{Hold, Saw}
 use Rattle.sock_model.specs.declared.view.View.{View}
 use Rattle.sock_model.specs.SlotRows.{marks_of}
-use Rattle.sock_model.specs.Weights.{total, only, is_ref, is_hold, is_known}
+use Rattle.sock_model.specs.Weights.{only, is_ref, is_hold, is_known}
 use Rattle.sock_open.specs.slot_steps.proofs.Numbers.{only-at, only-else, only-same}
 use Rattle.sock_rule.specs.Becoming.{Became}
 use Rattle.sock_rule.specs.Seated.{IsSeat}
@@ -43,6 +43,7 @@ use Rattle.sock_io.specs.declared.link.Out.{Ghosts}
 use Rattle.sock_rule.specs.declared.homes.Letter.{Letter}
 use Rattle.sock_table.specs.declared.refs.SockRef.{SockRef}
 use Rattle.write_chain.proofs.Noting.{noted_quiet}
+use Rattle.sock_words.specs.Totals.{total}
 
 -- marks of one slot come and go; no known life is forgotten
 known_on : (p : Plan) (id i : ℕ) (v w : View) (adds drops : List Mark) → Became i v w adds drops → total (is_known (socket_id_version id)) drops ≡ 0 → Knows p v id → Knows p w id

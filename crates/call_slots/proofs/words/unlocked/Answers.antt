@@ -1,8 +1,8 @@
 use Rattle.corr_core.specs.Word.{parts, unlocked_word}
-use Rattle.seat_programs.specs.Posts.{advance_of}
 use Rattle.call_slots.proofs.Packing.{left_is}
 use Rattle.call_slots.proofs.words.unlocked.Goals as goal
+use Rattle.sock_words.specs.Words.{bit}
 
 pub returns : goal.returns
 returns c =
-    left_is c.args.found c.args.from.0 c.unlock_id.result.next (unlocked_word (parts c.args.from.0) (advance_of c.args.advance)) (λ e. (c.unlock_id.ensures.won e).0) (λ n. (c.unlock_id.ensures.lost n).0)
+    left_is c.args.found c.args.from.0 c.unlock_id.result.next (unlocked_word (parts c.args.from.0) (bit c.args.advance)) (λ e. (c.unlock_id.ensures.won e).0) (λ n. (c.unlock_id.ensures.lost n).0)

@@ -1,7 +1,7 @@
 use Rattle.std.proofs.Common.{arith, ap}
-use Rattle.sock_model.specs.Weights.{total}
 use Rattle.chain_bench.proofs.Sends.{five_done}
 use Rattle.chain_bench.proofs.crew.end.Goals as goal
+use Rattle.sock_words.specs.Totals.{total}
 
 pub close-requires-clause-seats : goal.close-requires-clause-seats
 close-requires-clause-seats c = let s = c.requires.sent in five_done _ _ c.args.main c.args.sent.one.seat c.args.sent.two.seat c.args.sent.three.seat c.args.sent.four.seat c.in-Ok.seats.items c.in-Ok.ensures.items c.requires.main.0 s.one.0 s.two.0 s.three.0 s.four.0

@@ -1,9 +1,9 @@
 use Rattle.std.proofs.Common.{◌≡◌, ◌+◌, ◌-◌, suc, ℕ, [], ◌∷◌, length, length-append, reverse, arith, refl, sym, ap, ◌∙◌, subst}
 use Rattle.std.proofs.lemmas.List.{length-reverse}
-use Rattle.sock_model.specs.Weights.{total}
 use Rattle.sock_open.specs.Made.{AreNewSeats, PassesFrom}
 use Rattle.sock_open.proofs.Making.{First, one_passed, one_given, new_seat, last_seat, seats_snoc, total_snoc, passes_more, pass_ok}
 use Rattle.sock_open.proofs.opening.deal.Goals as goal
+use Rattle.sock_words.specs.Totals.{total}
 
 pub loop-k-preserved : goal.loop-k-preserved
 loop-k-preserved g c = let z = c.args.rule.now.table.shared.table_id in let p = c.args.rule.now.plan in let inv = c.loop-k.invariant in let n = inv.0 in let sp = inv.1 in let e = inv.2 in let s = inv.3 in let lt = c.loop-k-test.true in

@@ -1,10 +1,10 @@
 use Rattle.std.proofs.Common.{◌≡◌, ◌+◌, ◌≤◌, ℕ, length, reverse}
 use Rattle.std.specs.Vec.{vec_len, vec_capacity}
-use Rattle.sock_model.specs.Weights.{total}
 use Rattle.sock_open.specs.Opening.{MayBegin}
 use Rattle.sock_open.specs.Made.{AreNewSeats, PassesFrom}
 use Rattle.sock_open.proofs.Making.{First}
 use Rattle.sock_open.proofs.opening.deal.Given as goal
+use Rattle.sock_words.specs.Totals.{total}
 
 abbrev pub invariant-loop-k : goal.invariant-loop-k
 invariant-loop-k g l = let z = l.rule.table.shared.table_id in let p = l.rule.plan in

@@ -1,8 +1,9 @@
 use Rattle.std.proofs.Common.{◌≡◌, ◌-◌, ◌<◌, ℕ}
-use Rattle.corr_core.specs.Law.{total, is_tried}
+use Rattle.corr_core.specs.Law.{is_tried}
 use Rattle.id_rule.specs.Lawful.{notes_of}
 use Rattle.corr_id.specs.Calls.{Quiet}
 use Rattle.corr_id.proofs.table.IdTable.create.Given as goal
+use Rattle.sock_words.specs.Totals.{total}
 
 abbrev pub invariant-loop-at : goal.invariant-loop-at
 invariant-loop-at g l = record {

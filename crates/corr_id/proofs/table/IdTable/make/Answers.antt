@@ -3,13 +3,14 @@ use Rattle.corr_core.specs.Word.{parts}
 use Rattle.corr_core.specs.declared.marks.Hand.TheVariants.{Empty, Full}
 use Rattle.corr_core.specs.declared.marks.Token.TheVariants.{Claimed}
 use Rattle.corr_core.specs.declared.marks.Note.TheVariants.{Made}
-use Rattle.corr_core.specs.Law.{total, is_made}
+use Rattle.corr_core.specs.Law.{is_made}
 use Rattle.id_rule.specs.Lawful.{notes_of}
 use Rattle.corr_id.specs.Calls.{is_at, Became, one}
 use Rattle.corr_id.proofs.Doing.{made_noted}
 use Rattle.corr_id.proofs.Becoming.{became_both}
 use Rattle.corr_id.proofs.table.IdTable.make.Goals as goal
 use Rattle.sock_words.specs.Words.{id_first}
+use Rattle.sock_words.specs.Totals.{total}
 
 pub unreachable-requires : goal.unreachable-requires
 unreachable-requires g c = c.in_default.not-None (c.move_call-found.ensures.moved (Claimed (parts c.read_first.result).first Empty) c.read_first.ensures.read.tokens).0

@@ -1,5 +1,5 @@
 use Rattle.std.proofs.Common.{arith, refl, ap, ◌∙◌, ℕ}
-use Rattle.corr_core.specs.Word.{parts, tick}
+use Rattle.corr_core.specs.Word.{parts}
 use Rattle.corr_core.specs.declared.marks.Note.TheVariants.{Saw}
 use Rattle.id_rule.specs.Lawful.{with_note}
 use Rattle.id_rule.specs.Plays.{advanced_view, popped_view}
@@ -7,12 +7,13 @@ use Rattle.corr_id.proofs.Steps.{unlocking}
 use Rattle.corr_id.proofs.Seats.{exchange_stays}
 use Rattle.corr_id.proofs.Becoming.{ticks, unlocked_became, relocked_became}
 use Rattle.corr_id.proofs.table.IdTable.unlock_id.Goals as goal
+use Rattle.sock_words.specs.Words.{bit}
 
 pub compare_exchange-requires : goal.compare_exchange-requires
 compare_exchange-requires g c = let w = parts c.args.from in (
   c.requires.seat.0,
   omega (arith, c.args.self.now.sized),
-  unlocking c.args.self.now.table.shared.key c.args.self.now.table.shared.table_id.slots c.args.seat.now.id c.args.seat.now.me c.args.at c.requires.slot c.requires.seat.1 w.first w.range w.attempt w.oldest w.second c.requires.lock.0 c.requires.lock.1 c.args.from c.args.next (tick c.requires.next.0) c.requires.next.1
+  unlocking c.args.self.now.table.shared.key c.args.self.now.table.shared.table_id.slots c.args.seat.now.id c.args.seat.now.me c.args.at c.requires.slot c.requires.seat.1 w.first w.range w.attempt w.oldest w.second c.requires.lock.0 c.requires.lock.1 c.args.from c.args.next (bit c.requires.next.0) c.requires.next.1
       (ticks c.requires.next.0 w.attempt w.range c.requires.next.2),
 )
 
@@ -21,7 +22,7 @@ returns-clause-seat g c = let w = parts c.args.from in let t = c.compare_exchang
 
 pub returns-clause-won : goal.returns-clause-won
 returns-clause-won g c = λ hit x has. let w = parts c.args.from in let t = (c.compare_exchange.ensures.2 c.args.at w.first w.range w.attempt w.oldest w.second x refl has).0 hit in let noted = with_note c.args.at (Saw c.args.from) c.args.seat.now.me.0 in
-    unlocked_became c.args.at noted c.compare_exchange.new.seat.me.0 w (parts c.args.next) (tick c.requires.next.0) x c.requires.next.1 (ap (λ m. m.0) t ∙ ap (λ (y : ℕ). advanced_view c.args.at w.first w.attempt (parts c.args.next).attempt (popped_view c.args.at w.first w.range (parts c.args.next).attempt x (parts y).oldest (parts y).second (with_note c.args.at (Saw y) c.args.seat.now.me.0))) hit)
+    unlocked_became c.args.at noted c.compare_exchange.new.seat.me.0 w (parts c.args.next) (bit c.requires.next.0) x c.requires.next.1 (ap (λ m. m.0) t ∙ ap (λ (y : ℕ). advanced_view c.args.at w.first w.attempt (parts c.args.next).attempt (popped_view c.args.at w.first w.range (parts c.args.next).attempt x (parts y).oldest (parts y).second (with_note c.args.at (Saw y) c.args.seat.now.me.0))) hit)
 
 pub returns-clause-lost : goal.returns-clause-lost
 returns-clause-lost g c = λ miss x has. let w = parts c.args.from in let t = (c.compare_exchange.ensures.2 c.args.at w.first w.range w.attempt w.oldest w.second x refl has).1 miss in

@@ -1,6 +1,5 @@
 use Rattle.std.proofs.Common.{◌+◌, ◌<◌, arith, refl, ◌∙◌, sym, ap, subst}
 use Rattle.sock_model.specs.Reads.{carries}
-use Rattle.sock_model.specs.Weights.{total}
 use Rattle.sock_model.specs.ChainRows.{with_hand}
 use Rattle.sock_rule.specs.Hands.{hand_of}
 use Rattle.sock_rule.specs.OnKey.{shows_by}
@@ -11,6 +10,7 @@ use Rattle.sock_rule.proofs.Handing.{link_came, came_home, came_out, came_after}
 use Rattle.sock_rule.proofs.Seating.{still_seat}
 use Rattle.sock_rule.proofs.Ways.{lasts_said}
 use Rattle.sock_rule.proofs.table.RuleTable.take_last_link.Goals as goal
+use Rattle.sock_words.specs.Totals.{total}
 
 pub compare_exchange_with-requires : goal.compare_exchange_with-requires
 compare_exchange_with-requires g c = let a = c.requires.seat in let r = c.requires.recycled in (

@@ -6,7 +6,7 @@ use Rattle.sock_model.specs.declared.view.View.{View}
 use Rattle.sock_model.specs.ChainRows.{dropped_right}
 use Rattle.sock_model.specs.Layout.{place_index}
 use Rattle.sock_model.specs.Marks.{about, noted}
-use Rattle.sock_model.specs.Weights.{total, is_met}
+use Rattle.sock_model.specs.Weights.{is_met}
 use Rattle.sock_model.specs.Links.{HoldsLink}
 use Rattle.sock_rule.specs.declared.homes.SockHome.TheVariants.{Empty}
 use Rattle.write_chain.proofs.Noting.{wrote_notes, wrote_rights, drop_then, rights_but_store}
@@ -14,6 +14,7 @@ use Rattle.write_chain.proofs.Stepping.{part_noted, part_of, part_dropped}
 use Rattle.write_chain.proofs.Faulting.{code_faults}
 use Rattle.write_chain.proofs.Dropping.{code_noted, is_code, still_dead, dead_dropped}
 use Rattle.write_chain.proofs.right.HeldChain.drop_one.Goals as goal
+use Rattle.sock_words.specs.Totals.{total}
 
 pub code-told-requires-clause-held : goal.code-told-requires-clause-held
 code-told-requires-clause-held g c = let w = c.requires.may.0.0.writer in record { inside = w.holds.inside; held = w.holds.held }
