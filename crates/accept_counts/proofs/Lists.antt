@@ -13,7 +13,7 @@ use Rattle.seat_programs.specs.brpc_model.specs.Items.{Item}
 use Rattle.seat_programs.specs.brpc_model.specs.Operations.{Turn}
 use Rattle.seat_programs.specs.brpc_model.specs.Script.{script_of}
 use Rattle.seat_programs.specs.brpc_model.specs.Frame.{FrameFault}
-use Rattle.seat_programs.specs.brpc_model.specs.Stream.{Ending, Rest, Fault, stream}
+use Rattle.seat_programs.specs.brpc_model.specs.Stream.{Ending, Rest, Fault, stream, is_fault}
 use Rattle.seat_programs.specs.Asides.{Taking, Nothing, AtEnd, Closed, Broken}
 use Rattle.seat_programs.specs.Beside.{at_last, taking_in}
 use Rattle.seat_programs.specs.Readers.{LIMIT}
@@ -28,7 +28,7 @@ use Rattle.call_causes.specs.Below.outcome_stories.proofs.Members.{in_contains, 
 use Rattle.run_theorems.specs.Heard.{as_taken, taken_link, taken_at, taken_in, heard_takes, given_by}
 use Rattle.run_theorems.proofs.Gave.{gave_heard}
 use Rattle.run_theorems.proofs.HeardRuns.{taken_append}
-use Rattle.call_causes.specs.call_stories.specs.Lists.{Take, takes_by, takes_at, gave_in, is_last, is_closed, found_so, is_fault, early_of_run, closed_of_run}
+use Rattle.call_causes.specs.call_stories.specs.Lists.{Take, takes_by, takes_at, gave_in, is_last, is_closed, found_so, early_of_run, closed_of_run}
 use Rattle.accept_counts.proofs.Early.{EndedBy}
 use Rattle.accept_counts.proofs.Readings.{takes_or_not}
 use Rattle.call_causes.specs.Below.outcome_stories.specs.Facts.{shown_in}
@@ -158,7 +158,7 @@ module _ (script : List Item) (turns : List Turn) (core : Core) (is : IsRunWithC
   Gone k = found_so script turns core is (is_last script turns core is) k
 
   abbrev Spoilt : ℕ → Bool
-  Spoilt k = is_fault script turns core is (stream (gave_in core k)).ending || nat_le LIMIT (length (gave_in core k))
+  Spoilt k = is_fault (stream (gave_in core k)).ending || nat_le LIMIT (length (gave_in core k))
 
   module _ (bytes : List ℕ) (reads : script_of bytes ≡ Ok script) where
     -- the reading of a link ended so: it is in the list
@@ -175,19 +175,19 @@ module _ (script : List Item) (turns : List Turn) (core : Core) (is : IsRunWithC
         either true b e = refl
         either false b e = e
 
-        faulty : (e : Ending) (s : ℕ) (f : FrameFault) → e ≡ Fault s f → is_fault script turns core is e ≡ true
-        faulty e s f is' = ap (is_fault script turns core is) is'
+        faulty : (e : Ending) (s : ℕ) (f : FrameFault) → e ≡ Fault s f → is_fault e ≡ true
+        faulty e s f is' = ap (is_fault) is'
 
         test : EndedBy (heard_takes is k) → (Gone k || Spoilt k) ≡ true
         test (inl m) = gone (any_in (is_last script turns core is) (heard_takes is k) AtEnd m refl)
         test (inr (inl f)) = either (Gone k) (Spoilt k) (ap (λ b. b || nat_le LIMIT (length (gave_in core k))) (faulty (stream (gave_in core k)).ending f.0 f.1 (ap (λ l. (stream l).ending) same ∙ f.2)))
-        test (inr (inr (inl l))) = either (Gone k) (Spoilt k) (either (is_fault script turns core is (stream (gave_in core k)).ending) (nat_le LIMIT (length (gave_in core k))) (le-leb LIMIT (length (gave_in core k)) (let e = ap length same in omega (arith, e, l))))
+        test (inr (inr (inl l))) = either (Gone k) (Spoilt k) (either (is_fault (stream (gave_in core k)).ending) (nat_le LIMIT (length (gave_in core k))) (le-leb LIMIT (length (gave_in core k)) (let e = ap length same in omega (arith, e, l))))
         test (inr (inr (inr m))) = gone (any_in (is_last script turns core is) (heard_takes is k) Broken m refl)
 
     -- and each link in the list is one of the run's, and its reading ended so
     pub early_shown : (k : ℕ) → Contains (early_of_run script turns core is) k
         → (k < (plan_of script).links) × (Contains (heard_takes is k) AtEnd ⊎ (HasFault (given_by (heard_takes is k)) ⊎ ((reading_limit ≤ length (given_by (heard_takes is k))) ⊎ Contains (heard_takes is k) Broken)))
-    early_shown k m = (low, by (Gone k) (is_fault script turns core is (stream (gave_in core k)).ending) (nat_le LIMIT (length (gave_in core k))) refl refl refl f.1)
+    early_shown k m = (low, by (Gone k) (is_fault (stream (gave_in core k)).ending) (nat_le LIMIT (length (gave_in core k))) refl refl refl f.1)
       where
         f : In k (from_to 0 (plan_of script).links) × ((Gone k || Spoilt k) ≡ true)
         f = in_filtered (λ n. Gone n || Spoilt n) (from_to 0 (plan_of script).links) k (contains_in (early_of_run script turns core is) k m)
@@ -198,7 +198,7 @@ module _ (script : List Item) (turns : List Turn) (core : Core) (is : IsRunWithC
         same : gave_in core k ≡ given_by (heard_takes is k)
         same = gave_heard bytes script reads turns core is k low
 
-        fault_in : (e : Ending) → (stream (gave_in core k)).ending ≡ e → is_fault script turns core is e ≡ true → HasFault (given_by (heard_takes is k))
+        fault_in : (e : Ending) → (stream (gave_in core k)).ending ≡ e → is_fault e ≡ true → HasFault (given_by (heard_takes is k))
         fault_in (Rest n) e is' = absurd (true≢false (sym is'))
         fault_in (Fault s x) e is' = (s, x, sym (ap (λ l. (stream l).ending) same) ∙ e)
 
@@ -207,7 +207,7 @@ module _ (script : List Item) (turns : List Turn) (core : Core) (is : IsRunWithC
         which Broken m is' = inr (inr (inr (in_contains (heard_takes is k) Broken m)))
         which _ m is' = absurd (true≢false (sym is'))
 
-        by : (a b c : Bool) → Gone k ≡ a → is_fault script turns core is (stream (gave_in core k)).ending ≡ b → nat_le LIMIT (length (gave_in core k)) ≡ c → (a || (b || c)) ≡ true
+        by : (a b c : Bool) → Gone k ≡ a → is_fault (stream (gave_in core k)).ending ≡ b → nat_le LIMIT (length (gave_in core k)) ≡ c → (a || (b || c)) ≡ true
             → Contains (heard_takes is k) AtEnd ⊎ (HasFault (given_by (heard_takes is k)) ⊎ ((reading_limit ≤ length (given_by (heard_takes is k))) ⊎ Contains (heard_takes is k) Broken))
         by true b c ea eb ec e = let t = any_some (is_last script turns core is) (heard_takes is k) (sym (run_shows (is_last script turns core is) last_told k script turns core is) ∙ ea) in which t.0 t.1 t.2
         by false true c ea eb ec e = inr (inl (fault_in (stream (gave_in core k)).ending refl eb))

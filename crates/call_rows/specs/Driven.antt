@@ -26,6 +26,7 @@ use Rattle.seat_programs.specs.Ticks.{Answer, Unasked, OfPut, OfReady, OfTake, M
 use Rattle.seat_programs.specs.Runs.{from_to, next_kind}
 use Rattle.seat_programs.specs.Tasks.{plan_of}
 use Rattle.seat_programs.specs.Scripts.{opened, ending, is_ending}
+use Rattle.brpc_model.specs.Stream.{is_fault}
 
 -- how often each link was put to, and whether it answered the last time that it takes no more yet
 pub record Puts : Type 0 where
@@ -63,10 +64,6 @@ at_home other = []
 
 abbrev pub link_of : Plan → Core → ℕ → List Home
 link_of p c k = link_in k (at_home (get_elem? c.homes (link_place p k)) ++ flat_map (λ (s : SeatState). s.hand) c.seats)
-
-abbrev pub is_fault : streams.Ending → Bool
-is_fault (streams.Fault at fault) = true
-is_fault other = false
 
 abbrev pub reached : std.Option ℕ → ℕ → Bool
 reached std.None n = false

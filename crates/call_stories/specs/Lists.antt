@@ -7,7 +7,7 @@ use Rattle.sock_words.specs.declared.plain.Plan.{Plan}
 use Rattle.seat_programs.specs.brpc_model.specs.Items.{Item}
 use Rattle.seat_programs.specs.brpc_model.specs.Operations.{Turn}
 use Rattle.seat_programs.specs.brpc_model.specs.Frame.{Frame}
-use Rattle.seat_programs.specs.brpc_model.specs.Stream.{Ending, Rest, Fault, stream}
+use Rattle.seat_programs.specs.brpc_model.specs.Stream.{stream, is_fault}
 use Rattle.seat_programs.specs.id_rule.specs.Lawful.{id_index}
 use Rattle.seat_programs.specs.Asides.{Step, Found, UnlockId, Taking, NoMore, AtEnd, Closed, Broken}
 use Rattle.seat_programs.specs.Programs.{Program, Aside}
@@ -102,10 +102,6 @@ module _ (script : List Item) (turns : List Turn) (end_ : Core) (is : IsRunWithC
   -- a take of link k found this
   abbrev pub found_so : (Taking → Bool) → ℕ → Bool
   found_so holds k = list_any (λ (t : Take). (t.link == k) && holds t.found) takes_of_run
-
-  abbrev pub is_fault : Ending → Bool
-  is_fault (Rest n) = false
-  is_fault (Fault at fault) = true
 
   -- the links whose reading ended early: a take found their end, or that they failed, or their bytes have a frame fault, or are the most
   abbrev pub early_of_run : List ℕ

@@ -9,7 +9,7 @@ use Rattle.sock_model.specs.declared.view.View.{View}
 use Rattle.seat_programs.specs.brpc_model.specs.Items.{Item}
 use Rattle.seat_programs.specs.brpc_model.specs.Operations.{Turn}
 use Rattle.seat_programs.specs.brpc_model.specs.Script.{script_of}
-use Rattle.seat_programs.specs.brpc_model.specs.Stream.{stream}
+use Rattle.seat_programs.specs.brpc_model.specs.Stream.{stream, is_fault}
 use Rattle.seat_programs.specs.Asides.{Taking, NoMore, AtEnd, Closed, Broken}
 use Rattle.seat_programs.specs.Clients.{ending_of}
 use Rattle.seat_programs.specs.Cores.{Core, SeatState}
@@ -31,7 +31,7 @@ use Rattle.attempted_calls.specs.Below.owed_calls.proofs.Owed.{opened_seats}
 use Rattle.attempted_calls.specs.Below.run_theorems.specs.Heard.{as_taken, bytes_found, taken_in, heard_takes, given_by}
 use Rattle.attempted_calls.specs.Below.run_theorems.proofs.Gave.{gave_heard}
 use Rattle.attempted_calls.specs.Below.run_theorems.proofs.HeardRuns.{taken_append}
-use Rattle.attempted_calls.specs.Below.call_stories.specs.Lists.{Take, takes_at, gave_in, takes_of_run, is_last, is_closed, is_no_more, found_so, is_fault, early_of_run}
+use Rattle.attempted_calls.specs.Below.call_stories.specs.Lists.{Take, takes_at, gave_in, takes_of_run, is_last, is_closed, is_no_more, found_so, early_of_run}
 use Rattle.attempted_calls.specs.Below.call_stories.specs.Posts.{Post, posted_at, posts_of_run}
 use Rattle.attempted_calls.specs.Below.programs_allowed.proofs.Fresh.{opening_rights}
 use Rattle.attempted_calls.specs.accept_counts.specs.EndedCalls.{loaded_at, reader_posts_at, client_posts_at, loads_of_run, reader_posts_of_run, client_posts_of_run, EndedSo, IsEndPost}
@@ -209,19 +209,19 @@ module _ (script : List Item) (made : AreMade script) (turns : List Turn) (core 
     either true b e = refl
     either false b e = e
 
-    early : (found_so script turns core is (is_last script turns core is) k || (is_fault script turns core is (stream (gave_in core k)).ending || nat_le LIMIT (length (gave_in core k)))) ≡ true → Contains (early_of_run script turns core is) k
-    early e = listed (λ n. found_so script turns core is (is_last script turns core is) n || (is_fault script turns core is (stream (gave_in core n)).ending || nat_le LIMIT (length (gave_in core n)))) k low e
+    early : (found_so script turns core is (is_last script turns core is) k || (is_fault (stream (gave_in core k)).ending || nat_le LIMIT (length (gave_in core k)))) ≡ true → Contains (early_of_run script turns core is) k
+    early e = listed (λ n. found_so script turns core is (is_last script turns core is) n || (is_fault (stream (gave_in core n)).ending || nat_le LIMIT (length (gave_in core n)))) k low e
 
     by_take : (t : Taking) → In t (h₄ k) → is_last script turns core is t ≡ true → Contains (early_of_run script turns core is) k
-    by_take t there good = early (ap (λ b. b || (is_fault script turns core is (stream (gave_in core k)).ending || nat_le LIMIT (length (gave_in core k)))) (found_here (is_last script turns core is) k t there good))
+    by_take t there good = early (ap (λ b. b || (is_fault (stream (gave_in core k)).ending || nat_le LIMIT (length (gave_in core k)))) (found_here (is_last script turns core is) k t there good))
 
-    spoilt : (is_fault script turns core is (stream (gave_in core k)).ending || nat_le LIMIT (length (gave_in core k))) ≡ true → Contains (early_of_run script turns core is) k
-    spoilt e = early (either (found_so script turns core is (is_last script turns core is) k) (is_fault script turns core is (stream (gave_in core k)).ending || nat_le LIMIT (length (gave_in core k))) e)
+    spoilt : (is_fault (stream (gave_in core k)).ending || nat_le LIMIT (length (gave_in core k))) ≡ true → Contains (early_of_run script turns core is) k
+    spoilt e = early (either (found_so script turns core is (is_last script turns core is) k) (is_fault (stream (gave_in core k)).ending || nat_le LIMIT (length (gave_in core k))) e)
 
     ended_early : EndedBy (h₄ k) → Contains (early_of_run script turns core is) k
     ended_early (inl m) = by_take AtEnd m refl
-    ended_early (inr (inl f)) = spoilt (ap (λ b. b || nat_le LIMIT (length (gave_in core k))) (ap (is_fault script turns core is) (ap (λ l. (stream l).ending) same ∙ f.2)))
-    ended_early (inr (inr (inl l))) = spoilt (either (is_fault script turns core is (stream (gave_in core k)).ending) (nat_le LIMIT (length (gave_in core k))) (le-leb LIMIT (length (gave_in core k)) (let e = ap length same in omega (arith, e, l))))
+    ended_early (inr (inl f)) = spoilt (ap (λ b. b || nat_le LIMIT (length (gave_in core k))) (ap (is_fault) (ap (λ l. (stream l).ending) same ∙ f.2)))
+    ended_early (inr (inr (inl l))) = spoilt (either (is_fault (stream (gave_in core k)).ending) (nat_le LIMIT (length (gave_in core k))) (le-leb LIMIT (length (gave_in core k)) (let e = ap length same in omega (arith, e, l))))
     ended_early (inr (inr (inr m))) = by_take Broken m refl
 
     pub ended_so : (code : ℕ) → WasOver code (h₄ k) → EndedSo script turns core is k code

@@ -5,12 +5,12 @@ use Rattle.std.proofs.lemmas.Bool.{ltb-true, ltb-false}
 use Rattle.std.proofs.lemmas.List.{drop-append-le}
 use Rattle.std.proofs.lemmas.List.Elements.{filter_map-append}
 use Rattle.brpc_model.specs.Frame.{Frame, Judged, NoneYet, Faulty, Begins, judged}
-use Rattle.brpc_model.specs.Stream.{Stream, with_frame, goes_on, stream_up_to, stream_from, stream}
+use Rattle.brpc_model.specs.Stream.{Stream, with_frame, goes_on, stream_up_to, stream_from, stream, is_fault}
 use Rattle.brpc_model.specs.Reply.{reply, reply_frames, replies}
 use Rattle.brpc_model.proofs.Streams.{stream_goes_on}
 use Rattle.prpc_frame.proofs.Lasting.{stays, faulty}
 use Rattle.rpc_server.specs.Held.{Held}
-use Rattle.rpc_server.specs.Feeding.{is_fault, has_fault, Replied, Feeds}
+use Rattle.rpc_server.specs.Feeding.{has_fault, Replied, Feeds}
 use Rattle.rpc_server.specs.declared.conn.ConnFault.TheVariants as fault_
 use Rattle.loop_link.specs.Serving.{Follows, Goes, NewReplies}
 

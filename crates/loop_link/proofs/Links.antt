@@ -5,7 +5,7 @@ use Rattle.std.proofs.Math.Seq.{take-append_seam, drop-append_seam}
 use Rattle.std.proofs.lemmas.Bool.{leb-true, le-leb}
 use Rattle.std.proofs.lemmas.List.{append_cancel_left, take-append-le}
 use Rattle.brpc_model.specs.Frame.{Frame, frame_bytes}
-use Rattle.brpc_model.specs.Stream.{Stream, stream}
+use Rattle.brpc_model.specs.Stream.{Stream, stream, is_fault}
 use Rattle.brpc_model.specs.Reply.{reply_frames}
 use Rattle.brpc_model.specs.Served.{first_of, given_for}
 use Rattle.sock_io.specs.declared.ending.Ending.{Ending}
@@ -18,7 +18,7 @@ use Rattle.sock_io.specs.Shape.{ShapedState, shaped_out}
 use Rattle.brpc_model.specs.Items.{Shape}
 use Rattle.sock_io.specs.Memory.{MemInState, closing, empty_in, is_closing, is_open, mem_in, take_answer}
 use Rattle.sock_io.proofs.Offers.{gave_to_end, gave_to_closing}
-use Rattle.rpc_server.specs.Feeding.{is_fault, has_fault}
+use Rattle.rpc_server.specs.Feeding.{has_fault}
 use Rattle.loop_link.specs.Serving.{LoopPeerState, LoopInState, offer_of, loop_in, first_ending, new_in, is_reached, replies_for, ends_for, offered_for, gives_end, is_ended, IsOver, IsSteady, HasTold, IsTold, ending_for, IsOffered, Answers, Settled, NewReplies, first_left}
 use Rattle.loop_link.proofs.Following.{fault_stays_whole, replies_begin}
 use Rattle.loop_link.proofs.Fronts.{offered_more}

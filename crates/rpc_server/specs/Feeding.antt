@@ -1,7 +1,7 @@
 -- What feeding a connection appends and leaves.
 use Rattle.std.specs.Prelude.{◌≡◌, ℕ, ◌+◌, Bool, false, true, List, [], ◌∷◌, ◌++◌, length, take, flat_map, filter_map, Some, Result, Ok, Err}
 use Rattle.brpc_model.specs.Frame.{Frame, FrameFault, NoneYet, judged, frame_bytes}
-use Rattle.brpc_model.specs.Stream.{Ending, Rest, Fault, stream}
+use Rattle.brpc_model.specs.Stream.{Ending, Rest, Fault, stream, is_fault}
 use Rattle.brpc_model.specs.Reply.{reply, reply_frames, replies}
 use Rattle.prpc_frame.specs.Cuts.{Cut}
 use Rattle.prpc_frame.specs.Meaning.{fault_of, IsFault}
@@ -15,11 +15,6 @@ replies_to f = filter_map reply (f ∷ [])
 
 abbrev pub reply_bytes : Frame → List ℕ
 reply_bytes f = flat_map frame_bytes (replies_to f)
-
--- these bytes have a frame fault
-abbrev pub is_fault : Ending → Bool
-is_fault (Rest n) = false
-is_fault (Fault at fault) = true
 
 abbrev pub has_fault : List ℕ → Bool
 has_fault bytes = is_fault (stream bytes).ending

@@ -5,14 +5,14 @@ use Rattle.std.specs.List.{filter, list_any}
 use Rattle.seat_programs.specs.brpc_model.specs.Items.{Item}
 use Rattle.seat_programs.specs.brpc_model.specs.Operations.{Turn}
 use Rattle.seat_programs.specs.brpc_model.specs.Causes.{HasFault}
-use Rattle.seat_programs.specs.brpc_model.specs.Stream.{Ending, Rest, Fault, stream}
+use Rattle.seat_programs.specs.brpc_model.specs.Stream.{Ending, Rest, Fault, stream, is_fault}
 use Rattle.seat_programs.specs.Asides.{Taking}
 use Rattle.seat_programs.specs.Readers.{LIMIT}
 use Rattle.seat_programs.specs.Cores.{Core}
 use Rattle.seat_programs.specs.Runs.{from_to}
 use Rattle.seat_programs.specs.Tasks.{plan_of}
 use Rattle.seat_programs.specs.Scripts.{IsRunWithCalls}
-use Rattle.call_stories.specs.Lists.{Take, gave_in, takes_of_run, is_last, is_closed, found_so, is_fault, early_of_run, closed_of_run}
+use Rattle.call_stories.specs.Lists.{Take, gave_in, takes_of_run, is_last, is_closed, found_so, early_of_run, closed_of_run}
 use Rattle.call_stories.proofs.Posts.{and_left, and_right, or_cases}
 use Rattle.story_steps.proofs.End.{contains_in}
 use Rattle.call_stories.specs.Below.outcome_stories.specs.Stories.{In}
@@ -42,16 +42,16 @@ module _ (script : List Item) (turns : List Turn) (end_ : Core) (r : IsRunWithCa
   was_found : (holds : Taking → Bool) (k : ℕ) → found_so script turns end_ r holds k ≡ true → WasFound holds k
   was_found holds k is = let x = some_take holds k (takes_of_run script turns end_ r) is in record { take = x.0; there = x.1; link = x.2; so = x.3 }
 
-  fault_there : (e : Ending) (bytes : List ℕ) → (stream bytes).ending ≡ e → is_fault script turns end_ r e ≡ true → HasFault bytes
+  fault_there : (e : Ending) (bytes : List ℕ) → (stream bytes).ending ≡ e → is_fault e ≡ true → HasFault bytes
   fault_there (Rest n) bytes same is = absurd (let z : false ≡ true = is in cc)
   fault_there (Fault at fault) bytes same is = (at, fault, same)
 
   pub shows_early : (k : ℕ) → Contains (early_of_run script turns end_ r) k → WasFound (is_last script turns end_ r) k ⊎ (HasFault (gave_in end_ k) ⊎ (LIMIT ≤ length (gave_in end_ k)))
   shows_early k c =
-      let is = kept_passes (λ n. found_so script turns end_ r (is_last script turns end_ r) n || (is_fault script turns end_ r (stream (gave_in end_ n)).ending || nat_le LIMIT (length (gave_in end_ n)))) (from_to 0 (plan_of script).links) k (contains_in (early_of_run script turns end_ r) k c.0 c.1 c.2) in
+      let is = kept_passes (λ n. found_so script turns end_ r (is_last script turns end_ r) n || (is_fault (stream (gave_in end_ n)).ending || nat_le LIMIT (length (gave_in end_ n)))) (from_to 0 (plan_of script).links) k (contains_in (early_of_run script turns end_ r) k c.0 c.1 c.2) in
       ⊎_elim (λ x. inl (was_found (is_last script turns end_ r) k x))
-      (λ x. inr (⊎_elim (λ y. inl (fault_there (stream (gave_in end_ k)).ending (gave_in end_ k) refl y)) (λ y. inr (leb-true LIMIT (length (gave_in end_ k)) y)) (or_cases (is_fault script turns end_ r (stream (gave_in end_ k)).ending) (nat_le LIMIT (length (gave_in end_ k))) x)))
-      (or_cases (found_so script turns end_ r (is_last script turns end_ r) k) (is_fault script turns end_ r (stream (gave_in end_ k)).ending || nat_le LIMIT (length (gave_in end_ k))) is)
+      (λ x. inr (⊎_elim (λ y. inl (fault_there (stream (gave_in end_ k)).ending (gave_in end_ k) refl y)) (λ y. inr (leb-true LIMIT (length (gave_in end_ k)) y)) (or_cases (is_fault (stream (gave_in end_ k)).ending) (nat_le LIMIT (length (gave_in end_ k))) x)))
+      (or_cases (found_so script turns end_ r (is_last script turns end_ r) k) (is_fault (stream (gave_in end_ k)).ending || nat_le LIMIT (length (gave_in end_ k))) is)
 
   pub shows_closed : (k : ℕ) → Contains (closed_of_run script turns end_ r) k → WasFound (is_closed script turns end_ r) k
   shows_closed k c = was_found (is_closed script turns end_ r) k (kept_passes (found_so script turns end_ r (is_closed script turns end_ r)) (from_to 0 (plan_of script).links) k (contains_in (closed_of_run script turns end_ r) k c.0 c.1 c.2))
