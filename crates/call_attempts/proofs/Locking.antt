@@ -1,6 +1,6 @@
 -- Ids that are made, locked and let go.
-use Rattle.std.proofs.Common.{◌≡◌, ◌≢◌, ℕ, ◌+◌, ◌^◌, ◌<◌, ◌≤◌, List, [], ap, ◌∙◌, subst, sym, arith}
-use Rattle.std.specs.Prelude.{Option as Maybe, true, false}
+use Rattle.std.proofs.Common.{◌≡◌, ◌≢◌, ℕ, ◌+◌, ◌^◌, ◌<◌, ◌≤◌, ap, ◌∙◌, subst, sym, arith}
+use Rattle.std.specs.Prelude.{Option as Maybe, true}
 use mathlib.Core.Logic.{dite}
 use native.Mathlib.Decide.{ℕ_discrete}
 use Rattle.atomic_table.specs.Seated.{TableId}
@@ -10,7 +10,6 @@ use Rattle.corr_core.specs.declared.marks.Hand.TheVariants.{Empty}
 use Rattle.corr_core.specs.Law.{LAST}
 use Rattle.corr_core.specs.declared.marks.View.{View}
 use Rattle.id_rule.specs.Lawful.{tokens_in, with_kept}
-use Rattle.id_rule.specs.Plays.{LockFits}
 use Rattle.corr_id.specs.Seats.{Sits, Stays, IsFree}
 use Rattle.corr_id.specs.Calls.{GotLock, MadeAs, Locks, Did, advance_note}
 use Rattle.corr_id.proofs.Testing.{FreeBut, did_free, did_but, sits_on}

@@ -1,5 +1,5 @@
 -- What becomes of an attempt of a call.
-use Rattle.std.specs.Prelude.{◌≡◌, ℕ, List, [], ◌∷◌, true}
+use Rattle.std.specs.Prelude.{◌≡◌, ℕ, [], ◌∷◌, true}
 use Rattle.sock_io.specs.Link.{OutState}
 use Rattle.sock_words.specs.Codes.{EFAILEDSOCKET, EREQUESTS}
 use Rattle.sock_words.specs.Words.{socket_id_version, at_word as packed_at, id_slot, id_first}
@@ -11,7 +11,6 @@ use Rattle.sock_model.specs.declared.view.View.{View}
 use Rattle.sock_rule.specs.Shows.{heading_of}
 use Rattle.sock_rule.specs.declared.homes.Letter.{Letter}
 use Rattle.sock_table.specs.Answers.{Held, GoneFrom, NoneLater, LinkOf}
-use Rattle.sock_table.specs.declared.refs.SockRef.{SockRef}
 use Rattle.write_chain.specs.declared.entry.Refused.{Refused}
 use Rattle.write_chain.specs.declared.entry.Refused.TheVariants as refused
 use Rattle.write_chain.specs.Sending.{Accepted, RefusedBy}

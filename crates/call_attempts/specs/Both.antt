@@ -1,6 +1,5 @@
 -- What a client has at both tables.
-use Rattle.std.specs.Prelude.{◌≡◌, ℕ, ◌<◌, ◌≤◌, Some}
-use Rattle.corr_core.specs.Law.{LAST}
+use Rattle.std.specs.Prelude.{ℕ, ◌<◌, Some}
 use Rattle.corr_core.specs.declared.marks.Plan.{Plan}
 use Rattle.sock_model.specs.declared.view.View.{View}
 use Rattle.call_errors.specs.declared.seats.CallSeat.{CallSeat}

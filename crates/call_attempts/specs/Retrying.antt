@@ -14,11 +14,11 @@ use Rattle.corr_id.specs.declared.unlocks.Unlocked.TheVariants.{Open, Next}
 use Rattle.corr_id.specs.Unlocks.{UnlockOk}
 use Rattle.sock_message.specs.Asked.{Asked, name_of}
 use Rattle.call_errors.specs.declared.retries.Retry.{Retry}
-use Rattle.call_errors.specs.Books.{Books, CallStand}
+use Rattle.call_errors.specs.Books.{Books}
 use Rattle.call_errors.specs.Locking.{GotBy, GoneBy}
 use Rattle.call_errors.specs.Ending.{EndedWith}
 use Rattle.call_errors.specs.Handling.{Decided}
-use Rattle.call_attempts.specs.Both.{Both, PostedFor, wanting}
+use Rattle.call_attempts.specs.Both.{Both, wanting}
 use Rattle.call_attempts.specs.Letters.{letter_for}
 use Rattle.call_attempts.specs.Attempting.{PostedOf, AttemptedBy}
 

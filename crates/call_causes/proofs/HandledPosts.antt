@@ -14,7 +14,7 @@ use Rattle.seat_programs.specs.Asides.{Step, Found, PostId, Taking}
 use Rattle.seat_programs.specs.Heads.{Retry, Decides, Locks}
 use Rattle.seat_programs.specs.Programs.{Program, Do, Aside, Round}
 use Rattle.seat_programs.specs.Beside.{found_in}
-use Rattle.seat_programs.specs.Readers.{slot_in, version_in, kept_for, reader}
+use Rattle.seat_programs.specs.Readers.{slot_in, version_in, kept_for}
 use Rattle.seat_programs.specs.Cores.{Core, SeatState}
 use Rattle.seat_programs.specs.Ticks.{Moment, taken}
 use Rattle.story_ticks.specs.Below.owing_ticks.proofs.OwingRuns.{same_first}

@@ -1,5 +1,5 @@
 -- What a lock by a version came to.
-use Rattle.std.specs.Prelude.{◌≡◌, ℕ, ◌+◌, ◌*◌, ◌<◌, ◌≤◌, ◌⊎◌}
+use Rattle.std.specs.Prelude.{◌≡◌, ℕ, ◌+◌, ◌<◌, ◌≤◌, ◌⊎◌}
 use Rattle.corr_core.specs.Word.{parts}
 use Rattle.corr_core.specs.Law.{is_advance}
 use Rattle.corr_core.specs.declared.marks.View.{View}

@@ -9,7 +9,6 @@ use Rattle.sock_model.specs.declared.chain.Entry.{Entry}
 use Rattle.sock_model.specs.Authors.{pick}
 use Rattle.chain_steps.proofs.Lists.{at_some, at_length}
 use Rattle.call_run.specs.sock_rule.specs.Closing.{Ordered, PlacesDiffer}
-use Rattle.corr_core.specs.Law.{only}
 use Rattle.corr_core.proofs.Notes.{only-at}
 use Rattle.sock_deeds.proofs.Entries.{before, pick_at, before_rises}
 use Rattle.call_places.proofs.Weights.{term, two_terms}

@@ -1,14 +1,13 @@
 -- What a seat has still to do with a call id, by where it stands; k is what follows.
-use Rattle.std.specs.Prelude.{ℕ, ◌≡◌, ◌<◌, Bool, true, false, not, IsTrue, nat_le, if◌then◌else◌, Option, Some, None}
+use Rattle.std.specs.Prelude.{ℕ, ◌≡◌, ◌<◌, IsTrue, Option, Some, None}
 use Rattle.corr_core.specs.Word.{parts, code_of}
-use Rattle.corr_core.specs.Law.{LAST}
-use Rattle.seat_programs.specs.Asides.{Step, FreeId, EndId}
-use Rattle.seat_programs.specs.Heads.{Retry, Sought, Posts, Unlocks, Decides, Locks, Posting, Unlocking, Deciding, HasEnded, GoesOn, Locking}
+use Rattle.seat_programs.specs.Asides.{Step, FreeId}
+use Rattle.seat_programs.specs.Heads.{Retry, Posts, Unlocks, Decides, Locks, Posting, Deciding, HasEnded, GoesOn, Locking}
 use Rattle.seat_programs.specs.Posts.{decide, end_id, post_with, unlocked}
 use Rattle.seat_programs.specs.Programs.{Program, Aside, Round, Keep}
 use Rattle.seat_programs.specs.sock_message.specs.Asked.{Asked}
 use Rattle.id_points.specs.Ids.{id_of, number_of}
-use Rattle.id_points.specs.Turns.{sought_as, word_of}
+use Rattle.id_points.specs.Turns.{sought_as}
 use Rattle.call_points.specs.declared.deciding.OnCall.{OnCall}
 use Rattle.call_points.specs.declared.deciding.DecideStep.{DecideStep}
 use Rattle.call_points.specs.declared.deciding.DecideStep.TheVariants as decides

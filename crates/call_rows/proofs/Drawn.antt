@@ -1,12 +1,11 @@
 -- Drawn scripts and schedules, against a plain program: the kind of each tick's step, and the outcomes, place words and bytes taken at the end.
-use Rattle.std.specs.Prelude.{◌≡◌, ℕ, ◌*◌, List, [], ◌∷◌, refl, codes, Some, None, Result, Ok, Err, map, filter, not, ◌==◌, slice_index, Option, pos}
+use Rattle.std.specs.Prelude.{◌≡◌, ℕ, List, [], ◌∷◌, refl, codes, Some, None, Result, Ok, Err, Option, pos}
 use Rattle.hex.specs.Hex.{decode_pairs, encode_with}
 use Rattle.std.specs.Fmt.{digits}
 use Rattle.sock_words.specs.declared.outcome.Outcome.{Outcome}
-use Rattle.sock_words.specs.declared.outcome.Outcome.TheVariants.{Opened, SlotsFull, Unopened, Gone, Full, Placed, Answered, Peer, CallFailed, Held, Freed, Kept, NotHeld, Failed, Already, Expired, Queued, Late, Crowded, Joined, NotBegun}
+use Rattle.sock_words.specs.declared.outcome.Outcome.TheVariants.{Opened, SlotsFull, Unopened, Gone, Full, Answered, Peer, CallFailed, Held, Kept, Failed, Expired, Late, Joined, NotBegun}
 use Rattle.brpc_model.specs.Items.{Item}
 use Rattle.brpc_model.specs.Script.{script_of}
-use Rattle.seat_programs.specs.Cores.{Core}
 use Rattle.call_rows.specs.Driven.{trace_of, final_from, told_of}
 
 abbrev got : {A B : Type 0} → A → Result A B → A

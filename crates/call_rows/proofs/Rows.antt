@@ -1,15 +1,11 @@
 -- Rows of scripts with calls, computed: the outcomes, and the place words by which the orders are told.
-use Rattle.std.specs.Prelude.{◌≡◌, ℕ, ◌*◌, List, [], ◌∷◌, refl, codes, Some, None, Result, Ok, Err, map, filter, not, ◌==◌, slice_index, pos, Option}
+use Rattle.std.specs.Prelude.{◌≡◌, ℕ, List, [], ◌∷◌, refl, codes, Some, None, Result, Ok, Err, pos, Option}
 use Rattle.hex.specs.Hex.{decode_pairs, encode_with}
 use Rattle.std.specs.Fmt.{digits}
 use Rattle.sock_words.specs.declared.outcome.Outcome.{Outcome}
-use Rattle.sock_words.specs.declared.outcome.Outcome.TheVariants.{Opened, Placed, Answered, CallFailed, Expired, Queued, Crowded, Joined, Peer, Failed, Full}
+use Rattle.sock_words.specs.declared.outcome.Outcome.TheVariants.{Opened, Answered, CallFailed, Expired, Queued, Crowded, Joined, Peer, Failed, Full}
 use Rattle.brpc_model.specs.Items.{Item}
 use Rattle.brpc_model.specs.Script.{script_of}
-use Rattle.sock_model.specs.Layout.{place_index}
-use Rattle.seat_programs.specs.Tasks.{plan_of}
-use Rattle.seat_programs.specs.Runs.{from_to}
-use Rattle.seat_programs.specs.Cores.{Core}
 use Rattle.call_rows.specs.Driven.{final}
 
 abbrev got : {A B : Type 0} → A → Result A B → A

@@ -27,7 +27,7 @@ use Rattle.call_run.specs.Readers.{LinkReader, AreReaders, AllServed, AreLeftBy}
 use Rattle.call_run.specs.Crew.{IsLeft, AreLeft, CrewRan, HasEnded}
 use Rattle.call_run.specs.Links.{LinksRan, BothEnded}
 use Rattle.call_run.proofs.Whole.{ran_with}
-use Rattle.sock_words.specs.Totals.{total, total as id_total}
+use Rattle.sock_words.specs.Totals.{total as id_total}
 
 -- ## The seats
 

@@ -1,5 +1,5 @@
 -- How the readings of a run's links ended, and which responses came before their call began.
-use Rattle.std.specs.Prelude.{ℕ, ◌+◌, ◌==◌, ◌&&◌, ◌||◌, Bool, true, false, if◌then◌else◌, nat_le, nat_lt, List, [], ◌∷◌, ◌++◌, length, replicate, flat_map, drop, slice_index, slice_index_or}
+use Rattle.std.specs.Prelude.{ℕ, ◌+◌, ◌==◌, ◌&&◌, ◌||◌, Bool, true, false, if◌then◌else◌, nat_le, nat_lt, List, [], ◌∷◌, length, flat_map, drop, slice_index, slice_index_or}
 use Rattle.std.specs.List.{filter, list_any}
 use mathlib.Core.Option.{Option, none, some}
 use lib.ListN.{get_elem?}
@@ -14,12 +14,12 @@ use Rattle.seat_programs.specs.Programs.{Program, Aside}
 use Rattle.corr_core.specs.Word.{parts}
 use Rattle.corr_core.specs.Versions.{is_early}
 use Rattle.seat_programs.specs.Readers.{LIMIT, has_response, slot_in, version_in}
-use Rattle.seat_programs.specs.Beside.{call_at, found_in, taking_in}
+use Rattle.seat_programs.specs.Beside.{found_in, taking_in}
 use Rattle.seat_programs.specs.Cores.{Calls, Core}
 use Rattle.seat_programs.specs.Runs.{from_to}
-use Rattle.seat_programs.specs.Ticks.{Moment, quiet, taken, ticked}
+use Rattle.seat_programs.specs.Ticks.{Moment, taken, ticked}
 use Rattle.seat_programs.specs.Tasks.{plan_of}
-use Rattle.seat_programs.specs.Scripts.{opened, ending, set_up, played, IsRunWithCalls}
+use Rattle.seat_programs.specs.Scripts.{ending, IsRunWithCalls}
 pub use Rattle.owed_calls.specs.call_owing.specs.Takes.{taken_link}
 use Rattle.seat_programs.specs.Rounds.{first_step}
 use Rattle.outcome_stories.specs.Facts.{called_at, shown_in_run}

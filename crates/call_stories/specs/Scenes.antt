@@ -1,10 +1,9 @@
 -- What has happened so far that lasts, and what it tells of calls.
-use Rattle.std.specs.Prelude.{ℕ, ◌≡◌, ◌≢◌, ◌+◌, ◌<◌, ◌≤◌, ◌⊎◌, true, false, ◌∷◌, ◌++◌, List, [], slice_get, slice_index, Some, IsSome, ℤ, pos}
+use Rattle.std.specs.Prelude.{ℕ, ◌≡◌, ◌≢◌, ◌+◌, ◌<◌, ◌≤◌, ◌⊎◌, true, false, ◌∷◌, ◌++◌, List, [], slice_get, slice_index, Some, IsSome, pos}
 use Rattle.sock_words.specs.Codes.{EEOF, EFAILEDSOCKET, EREQUESTS, ERESPONSE, ERPCTIMEDOUT, is_final}
 use Rattle.sock_words.specs.declared.plain.Plan.{Plan}
 use Rattle.sock_words.specs.declared.outcome.Outcome.{Outcome}
 use Rattle.sock_words.specs.declared.outcome.Outcome.TheVariants.{Opened, SlotsFull, Unopened, Answered, Peer, CallFailed, Expired, Queued, Late, Crowded, Joined, NotBegun}
-use Rattle.seat_programs.specs.brpc_model.specs.Meta.{ResponseMeta}
 use Rattle.seat_programs.specs.brpc_model.specs.Frame.{Frame}
 use Rattle.seat_programs.specs.brpc_model.specs.Stream.{stream}
 use Rattle.seat_programs.specs.brpc_model.specs.Causes.{HasFault}

@@ -1,5 +1,5 @@
 -- A call whose id is open as the ending begins, in a run in which nothing went wrong: the link of its attempt took the request, and the link's reader waits for bytes.
-use Rattle.std.specs.Prelude.{ℕ, ◌≡◌, ◌+◌, ◌<◌, ◌≤◌, ◌++◌, List, slice_get, Some, IsTrue}
+use Rattle.std.specs.Prelude.{ℕ, ◌≡◌, ◌+◌, ◌<◌, ◌≤◌, List, slice_get, Some, IsTrue}
 use mathlib.Core.Option.{some}
 use lib.ListN.{get_elem?}
 use Rattle.brpc_model.specs.Items.{Item, Shape}
@@ -10,7 +10,7 @@ use Rattle.corr_core.specs.Word.{Parts}
 use Rattle.seat_programs.specs.Cores.{Core, SeatState}
 use Rattle.seat_programs.specs.Heads.{Exit, Reading, Reads}
 use Rattle.seat_programs.specs.Programs.{Program, Round}
-use Rattle.seat_programs.specs.Scripts.{played, IsRunWithCalls}
+use Rattle.seat_programs.specs.Scripts.{IsRunWithCalls}
 use Rattle.seat_programs.specs.Tasks.{opens, plan_of, id_plan_of}
 use Rattle.served_fits.specs.Below.script_facts.proofs.Lists.{Has}
 use Rattle.served_fits.specs.Below.call_owing.specs.Sound.{id_word_of}

@@ -1,5 +1,5 @@
 -- The rule of the table, and what an unlocking exchange tells.
-use Rattle.std.specs.Prelude.{◌≡◌, ◌≢◌, ℕ, ◌+◌, ◌*◌, ◌%◌, List, ◌<◌, ◌≤◌, ◌⊎◌}
+use Rattle.std.specs.Prelude.{◌≡◌, ◌≢◌, ℕ, ◌%◌, List, ◌<◌, ◌≤◌, ◌⊎◌}
 use Rattle.std.specs.Prelude.{Option as Maybe}
 use Rattle.atomic_table.specs.Table.{State, Me, Step}
 use Rattle.corr_core.specs.Word.{Parts, parts, attempt_of}

@@ -1,5 +1,5 @@
 -- How a loop on a call id goes on behind a step, as the programs have it: it has ended, or makes one more round.
-use Rattle.std.specs.Prelude.{ℕ, Bool, Option, Some, None, option_map}
+use Rattle.std.specs.Prelude.{ℕ, Option, option_map}
 use Rattle.seat_programs.specs.Heads.{Sought, First, Version, Posts, Unlocks, Locks, Posting, WasGone, WasStale, WasCrowded, WasQueued, HasLocked, Unlocking, IsOpen, HasNext, Locking, NotThere, Has}
 use Rattle.seat_programs.specs.Programs.{Program, Round}
 use Rattle.sock_words.specs.declared.id_word.IdWord.{IdWord}

@@ -21,8 +21,7 @@ use Rattle.seat_programs.specs.Programs.{Program, Do, Say, Sent, Rest, TakeMessa
 use Rattle.std.specs.List.{AllByRecursion}
 use Rattle.seat_programs.specs.Cores.{Core, SeatState, found_at, waiting_at}
 use Rattle.seat_programs.specs.StepTables.{word_of}
-use Rattle.seat_programs.specs.Sends.{block}
-use Rattle.seat_programs.specs.Rounds.{round, first_step}
+use Rattle.seat_programs.specs.Rounds.{first_step}
 use Rattle.seat_programs.specs.Ticks.{Moment}
 use Rattle.seat_programs.specs.sock_model.specs.declared.home.Home.{Home}
 use Rattle.seat_programs.specs.sock_model.specs.declared.home.Home.TheVariants.{Message}

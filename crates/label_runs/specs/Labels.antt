@@ -1,5 +1,5 @@
 -- Which attempts of calls a seat may still have accepted: each is made by one exchange, and its message is put into a request once at most.
-use Rattle.std.specs.Prelude.{ℕ, ◌≡◌, ◌≢◌, ◌+◌, ◌<◌, ◌≤◌, ◌⊎◌, ◌==◌, Bool, true, false, if◌then◌else◌, List, [], Option, Some, None}
+use Rattle.std.specs.Prelude.{ℕ, ◌≡◌, ◌≢◌, ◌+◌, ◌<◌, ◌≤◌, ◌⊎◌, ◌==◌, Bool, true, false, if◌then◌else◌, List, []}
 use Rattle.sock_io.specs.declared.link.Put.{Put}
 use Rattle.sock_io.specs.declared.link.Ready.{Ready}
 use Rattle.sock_model.specs.declared.chain.Heading.{Heading}
@@ -11,7 +11,7 @@ use Rattle.seat_programs.specs.Asides.{Step, Found, PutCall, MakeId, StoreAt, Un
 use Rattle.seat_programs.specs.Attempts.{heading_for}
 use Rattle.seat_programs.specs.Calls.{Call, PutMessage}
 use Rattle.seat_programs.specs.Heads.{Head, Exit, Sought, First, Posts, Unlocks, Decides, Locks, Posting, HasLocked, Unlocking, HasNext, Locking, NotThere, Has}
-use Rattle.seat_programs.specs.Posts.{is_sought, IsSoughtWord}
+use Rattle.seat_programs.specs.Posts.{IsSoughtWord}
 use Rattle.seat_programs.specs.Programs.{Program, Do, Say, Sent, Rest, TakeMessage, TakeHome, PutHome, PutBytes, AskReady, Write, Aside, Round, Keep, Retries}
 
 -- a seat tries attempt n of the call with this id; and has stored its at word, the call being this operation

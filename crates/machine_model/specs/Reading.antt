@@ -1,5 +1,5 @@
 -- What one step of a reader makes of a machine, by its kind.
-use Rattle.std.specs.Prelude.{ℕ, ◌≡◌, ◌≢◌, ◌+◌, ◌<◌, ◌≤◌, ◌⊎◌, Bool, true, false, List, [], ◌++◌, length, slice_get, slice_set, option_map, Some, None}
+use Rattle.std.specs.Prelude.{ℕ, ◌≡◌, ◌≢◌, ◌+◌, ◌<◌, ◌≤◌, ◌⊎◌, Bool, true, false, List, ◌++◌, length, slice_get, slice_set, option_map, Some, None}
 use Rattle.std.specs.Io.KnownBytes.{append_known}
 use mathlib.Core.Option as core
 use lib.ListN.{get_elem?}
@@ -8,7 +8,7 @@ use Rattle.sock_io.specs.Link.{OutState, InState, Offer, IsServed, more_told}
 use Rattle.run_theorems.specs.Heard.{answer_of, bytes_found}
 use Rattle.run_theorems.specs.Offered.{GaveSo}
 use Rattle.seat_programs.specs.Asides as asides
-use Rattle.seat_programs.specs.Asides.{Found, Taking, Bytes, Closed}
+use Rattle.seat_programs.specs.Asides.{Found, Taking, Closed}
 use Rattle.seat_programs.specs.Beside.{found_in, at_last}
 use Rattle.seat_programs.specs.Calls as calls
 use Rattle.seat_programs.specs.Programs.{Program}

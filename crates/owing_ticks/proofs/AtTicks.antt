@@ -10,7 +10,7 @@ use Rattle.seat_programs.specs.Asides.{Step, Found, StoreAt, LoadAt}
 use Rattle.seat_programs.specs.Programs.{Program, Aside}
 use Rattle.seat_programs.specs.Cores.{Core, SeatState, waiting_at, with_seat}
 use Rattle.seat_programs.specs.Beside.{calls_after}
-use Rattle.call_owing.specs.Owing.{Owing, InList, Linked, loaded}
+use Rattle.call_owing.specs.Owing.{Owing, InList, Linked}
 use Rattle.call_owing.specs.Owes.{OwesOn}
 use Rattle.call_owing.specs.Sound.{id_word_of, at_of, OwingLaw, SoundOwing}
 use Rattle.owing_ticks.proofs.Beside.{Behind, still_keeps}

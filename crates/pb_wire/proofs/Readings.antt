@@ -2,7 +2,7 @@
 use Rattle.std.proofs.Common.{◌≡◌, ℕ, zero, suc, ◌<◌, ◌≤◌, ◌+◌, ◌-◌, List, [], ◌∷◌, length, take, drop, slice_range, Option, Some, None, Ok, Err, refl, ap, sym, ◌∙◌, arith, length-drop}
 use Rattle.std.proofs.lemmas.List.{take-take, drop-drop, length-take}
 use Rattle.brpc_model.specs.Wire as wire
-use Rattle.brpc_model.specs.Wire.{WireFault, Wire, ◌>>=◌, Front, field, fields, fields_with, fields_up_to}
+use Rattle.brpc_model.specs.Wire.{WireFault, Wire, ◌>>=◌, Front, field, fields_with, fields_up_to}
 use Rattle.brpc_model.proofs.Fields.{enough, field_takes}
 use Rattle.pb_wire.specs.declared.values.Value.{Value}
 use Rattle.pb_wire.specs.declared.values.Value.TheVariants.{Varint, Eight, Span, Four}

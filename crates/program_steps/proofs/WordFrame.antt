@@ -4,7 +4,6 @@ use Rattle.std.specs.Prelude.{nat_lt}
 use mathlib.Core.Option.{Option, some, none, some-injective, some-ne-none}
 use lib.Seq.{set-get_or}
 use Rattle.sock_words.specs.declared.plain.Plan.{Plan}
-use Rattle.sock_words.specs.Words.{socket_id_slot}
 use Rattle.sock_model.specs.declared.view.View.{View}
 use Rattle.sock_model.specs.Layout.{all_words}
 use Rattle.seat_programs.specs.Calls.{Call, ClaimSlot, CreateLife, AddRef, SubRef, SetOdd, Recycle, FreeSlot, LookWord, StoreLink, LoadLink, FindLink, ResetHead, ClearCode, StoreCode, LoadCode, StoreName, LoadName, StoreOpen, LoadOpen, SwapHead, EmptyHead}

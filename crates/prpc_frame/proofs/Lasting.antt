@@ -5,7 +5,7 @@ use Rattle.std.proofs.lemmas.Bool.{ltb-true, ltb-false}
 use Rattle.std.proofs.lemmas.List.{drop-append-le}
 use Rattle.rpc_meta.specs.brpc_model.specs.Meta.{read_meta}
 use Rattle.rpc_meta.specs.brpc_model.specs.Frame as model
-use Rattle.rpc_meta.specs.brpc_model.specs.Frame.{Judged, NoneYet, Faulty, Begins, BadMagic, TooBig, MetaOver, judged, body_judged, high_first, matching, body_limit}
+use Rattle.rpc_meta.specs.brpc_model.specs.Frame.{Judged, NoneYet, Faulty, Begins, BadMagic, TooBig, MetaOver, judged, body_judged, high_first, body_limit}
 use Rattle.rpc_meta.specs.brpc_model.specs.Stream.{Stream, Rest, Fault, goes_on, with_frame, stream_from}
 use Rattle.rpc_meta.specs.brpc_model.proofs.Streams.{stream_goes_on}
 use Rattle.prpc_frame.specs.Header.{magic_wrong, body_size, meta_size, inside_of}

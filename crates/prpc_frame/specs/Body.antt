@@ -1,7 +1,7 @@
 -- What the body of a frame tells.
 use Rattle.std.specs.Prelude.{◌≡◌, ℕ, ◌≤◌, ◌<◌, ℤ, pos, List, take, drop, Result, Ok, Err}
 use Rattle.rpc_meta.specs.brpc_model.specs.Frame as model
-use Rattle.rpc_meta.specs.brpc_model.specs.Frame.{Judged, body_judged}
+use Rattle.rpc_meta.specs.brpc_model.specs.Frame.{body_judged}
 use Rattle.rpc_meta.specs.brpc_model.specs.Meta.{read_meta}
 use Rattle.rpc_meta.specs.Meaning.{meaning}
 use Rattle.rpc_meta.specs.declared.meta.RpcMeta.{RpcMeta}

@@ -3,7 +3,7 @@ use Rattle.std.proofs.Common.{◌≡◌, ℕ, List, [], Option, Some, refl, sym,
 use Rattle.std.specs.Prelude.{slice_set}
 use Rattle.sock_words.specs.declared.outcome.Outcome.{Outcome}
 use Rattle.seat_programs.specs.Cores.{resolved, still_waiting, said, next_step}
-use Rattle.seat_programs.specs.Programs.{Program, Do, Say, Sent, Rest, TakeMessage, TakeHome, PutHome, PutBytes, AskReady, Write, Aside, Round, Keep, Retries}
+use Rattle.seat_programs.specs.Programs.{Program, Say, Sent, Keep, Retries}
 use Rattle.call_points.specs.declared.ending.EndStep.TheVariants as ends
 use Rattle.call_points.specs.declared.word_step.WordStep.TheVariants as id_steps
 use Rattle.seat_states.specs.declared.point.ReleaseStep.TheVariants as releases

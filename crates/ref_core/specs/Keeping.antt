@@ -1,12 +1,9 @@
 -- What is asked of a step on a word of a slot, and what a seat's view must say before it.
-use Rattle.std.specs.Prelude.{◌≡◌, ℕ, ◌<◌, ◌≤◌, ◌⊎◌, Bool, true, []}
-use mathlib.Core.Option.{some}
-use lib.ListN.{get_elem?}
+use Rattle.std.specs.Prelude.{◌≡◌, ℕ, ◌<◌, ◌≤◌, Bool, true, []}
 use Rattle.sock_words.specs.declared.plain.Plan.{Plan}
 use Rattle.sock_words.specs.Words.{vref_version}
-use Rattle.sock_model.specs.declared.chain.Right.{Right}
 use Rattle.sock_model.specs.declared.view.View.{View}
-use Rattle.sock_model.specs.Weights.{is_ref, is_probe, is_any_coding, is_hold, is_known, is_zero, is_stage, is_recycled, is_met}
+use Rattle.sock_model.specs.Weights.{is_ref, is_any_coding, is_hold, is_known, is_zero, is_stage, is_recycled}
 use Rattle.sock_model.specs.SlotRows.{marks_of}
 use Rattle.sock_model.specs.Keeping.{KeepsRule}
 use Rattle.sock_model.specs.Conditions.{KeepsRights}

@@ -1,7 +1,7 @@
 -- What feeding a connection appends and leaves.
-use Rattle.std.specs.Prelude.{◌≡◌, ℕ, ◌+◌, Bool, false, true, List, [], ◌∷◌, ◌++◌, length, take, flat_map, filter_map, Some, Result, Ok, Err}
+use Rattle.std.specs.Prelude.{◌≡◌, ℕ, ◌+◌, Bool, List, [], ◌∷◌, ◌++◌, length, take, flat_map, filter_map, Some, Result, Ok, Err}
 use Rattle.brpc_model.specs.Frame.{Frame, FrameFault, NoneYet, judged, frame_bytes}
-use Rattle.brpc_model.specs.Stream.{Ending, Rest, Fault, stream, is_fault}
+use Rattle.brpc_model.specs.Stream.{Rest, Fault, stream, is_fault}
 use Rattle.brpc_model.specs.Reply.{reply, reply_frames, replies}
 use Rattle.prpc_frame.specs.Cuts.{Cut}
 use Rattle.prpc_frame.specs.Meaning.{fault_of, IsFault}

@@ -34,7 +34,7 @@ use Rattle.seat_programs.specs.Asides.{PutCall}
 use Rattle.seat_programs.specs.Heads.{HasEnded, Posts, Unlocks, Decides, Locks, Joins, Opens, Reads, Discards}
 use Rattle.seat_programs.specs.Posts.{end_id, unlocked}
 use Rattle.seat_programs.specs.Beside.{calls_after}
-use Rattle.std.specs.Prelude.{if◌then◌else◌, Bool, true, false, ◌+◌, Some, None}
+use Rattle.std.specs.Prelude.{if◌then◌else◌, ◌+◌, Some, None}
 use Rattle.seat_programs.specs.Cores.{Calls, Core, SeatState, resolved, waiting_at, words_after, homes_after, hand_after, found_at, next_step, with_seat, stepped, lies_at, first_of, others_of, link_place}
 use Rattle.seat_programs.specs.StepTables.{word_of, word_after}
 use Rattle.seat_programs.specs.Ticks.{Moment, fed, with_places, onto_first, ticked}

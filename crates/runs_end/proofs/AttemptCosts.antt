@@ -8,7 +8,7 @@ use Rattle.sock_model.specs.Entries.{ticket_of}
 use Rattle.seat_programs.specs.sock_message.specs.Asked.{Asked, name_of, frame_of}
 use Rattle.seat_programs.specs.Calls.{AddRef, SubRef, Recycle, FreeSlot, LoadLink, LoadName, TakeLink, FinishLink, PutLink, LookWord, FindLink, ClaimRequest, PutMessage, Unconnect, SwapHead, Connect}
 use Rattle.seat_programs.specs.Asides.{StoreAt}
-use Rattle.seat_programs.specs.Heads.{Unlocks, Unlocking, IsOpen, HasNext, Deciding, HasEnded, Locking, NotThere, Has}
+use Rattle.seat_programs.specs.Heads.{Unlocking, IsOpen, HasNext, Deciding, HasEnded, Locking, NotThere, Has}
 use Rattle.seat_programs.specs.Heads as heads
 use Rattle.seat_programs.specs.Programs.{Program, Do, Aside, LAST_VERSION, recycle, release, address}
 use Rattle.seat_programs.specs.Posts.{post, decided}

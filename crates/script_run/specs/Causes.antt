@@ -1,5 +1,5 @@
 -- Why each outcome of a run came, and what its links answered besides.
-use Rattle.std.specs.Prelude.{ℕ, ◌≡◌, ◌<◌, ◌≤◌, ◌⊎◌, ◌++◌, List, [], length, replicate, slice_index_or, Contains, true}
+use Rattle.std.specs.Prelude.{ℕ, ◌≡◌, ◌<◌, ◌≤◌, ◌⊎◌, ◌++◌, List, length, replicate, Contains, true}
 use Rattle.brpc_model.specs.Items.{Item}
 use Rattle.brpc_model.specs.Operations.{Turn, link_names}
 use Rattle.brpc_model.specs.Causes.{HasFault, reading_limit}

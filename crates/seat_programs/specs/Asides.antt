@@ -1,5 +1,5 @@
 -- Steps that the table of the sockets doesn't see: on the table of the call ids, and on the reading halves of links.
-use Rattle.std.specs.Prelude.{ℕ, ◌+◌, ◌*◌, ◌/◌, ◌%◌, Bool, List}
+use Rattle.std.specs.Prelude.{ℕ, Bool, List}
 use Rattle.sock_model.specs.sock_words.specs.declared.kind.Kind.{Kind}
 use Rattle.sock_model.specs.sock_words.specs.declared.kind.Kind.TheVariants.{I1, I2, I3, I4, I5, I6, I7, I8, T1, T2, K1, K2, R1}
 use Rattle.sock_message.specs.Asked.{Asked}

@@ -1,6 +1,6 @@
 -- Errors of calls: posted to an id, decided on, and the loops that give a lock back or get one (bRPC's bthread_id.md: `bthread_id_error`,
 -- `bthread_id_lock`, `bthread_id_unlock`, `bthread_id_unlock_and_destroy`).
-use Rattle.std.specs.Prelude.{ℕ, ◌≡◌, ◌+◌, ◌-◌, ◌*◌, ◌==◌, ◌&&◌, not, Bool, true, false, nat_le, if◌then◌else◌, Option, Some, None}
+use Rattle.std.specs.Prelude.{ℕ, ◌≡◌, ◌+◌, ◌==◌, ◌&&◌, not, Bool, true, false, nat_le, if◌then◌else◌, Option, Some, None}
 use Rattle.sock_model.specs.sock_words.specs.declared.outcome.Outcome.TheVariants.{CallFailed}
 use Rattle.corr_core.specs.Word.{Parts, parts, error_of, code_of, attempt_of, posted_word, unlocked_word}
 use Rattle.corr_core.specs.Law.{LAST}

@@ -1,5 +1,5 @@
 -- The program of each operation: a tree of steps, which goes on by the word that each step found.
-use Rattle.std.specs.Prelude.{ℕ, zero, suc, ◌+◌, ◌-◌, ◌%◌, ◌^◌, ◌==◌, ◌&&◌, Bool, true, false, List, nat_le, if◌then◌else◌}
+use Rattle.std.specs.Prelude.{ℕ, zero, suc, ◌+◌, ◌-◌, ◌%◌, ◌==◌, ◌&&◌, Bool, true, false, List, nat_le, if◌then◌else◌}
 use Rattle.sock_model.specs.sock_words.specs.Codes.{EEOF}
 use Rattle.sock_model.specs.sock_words.specs.Words.{socket_id, socket_id_version, socket_id_slot, vref_version, vref_nref, NO_SOCKET}
 use Rattle.sock_model.specs.sock_words.specs.declared.outcome.Outcome.{Outcome}

@@ -1,7 +1,6 @@
 -- The moves of messages into their homes and out of them, M1 and M2: what the view of the seat says before each, and the view behind it.
-use Rattle.std.specs.Prelude.{ℕ, ◌≢◌, ◌*◌, ◌<◌, true, List, []}
+use Rattle.std.specs.Prelude.{ℕ, ◌≢◌, ◌*◌, ◌<◌, List, []}
 use Rattle.sock_model.specs.sock_words.specs.declared.plain.Plan.{Plan}
-use Rattle.sock_model.specs.declared.chain.Claim.{Claim}
 use Rattle.sock_model.specs.declared.chain.Heading.{Heading}
 use Rattle.sock_model.specs.declared.view.View.{View}
 use Rattle.sock_model.specs.declared.view.Hand.{Hand}

@@ -1,14 +1,13 @@
 -- The steps on the words of a slot, A1 to A8 and S1 to S5: the word of each, what it stores, what the view of the seat says before it, what it may
 -- find, and the view behind it.
-use Rattle.std.specs.Prelude.{ℕ, ◌≡◌, ◌≢◌, ◌+◌, ◌-◌, ◌*◌, ◌%◌, ◌<◌, ◌≤◌, ◌⊎◌, ◌==◌, true, [], ◌∷◌, if◌then◌else◌, bit_or}
-use lib.ListN.{get_elem?}
+use Rattle.std.specs.Prelude.{ℕ, ◌≡◌, ◌≢◌, ◌+◌, ◌-◌, ◌%◌, ◌<◌, ◌≤◌, ◌⊎◌, ◌==◌, true, [], ◌∷◌, if◌then◌else◌, bit_or}
 use mathlib.Core.Option.{Option, none, some}
 use Rattle.sock_model.specs.sock_words.specs.declared.plain.Plan.{Plan}
 use Rattle.sock_model.specs.sock_words.specs.Words.{socket_id_version, socket_id_slot, vref_version, vref_nref, IDLE, vref_unused}
 use Rattle.sock_model.specs.declared.chain.Right.{Right}
 use Rattle.sock_model.specs.declared.view.View.{View}
 use Rattle.sock_model.specs.declared.view.Hand.{Hand}
-use Rattle.sock_model.specs.Weights.{only, is_ref, is_hold, is_zero, is_recycled, is_stage, is_coding, is_any_coding, is_busy, is_met, is_probe, is_saw}
+use Rattle.sock_model.specs.Weights.{only, is_ref, is_hold, is_zero, is_recycled, is_stage, is_coding, is_any_coding, is_busy, is_saw}
 use Rattle.sock_model.specs.SlotRows.{marks_of, claimed, gave_birth, added, back, subbed, failed, recycled, freed, linked, staged, coded, met_link, looked, told_code}
 use Rattle.sock_model.specs.ChainRows.{with_right}
 use Rattle.sock_model.specs.Links.{HoldsLink}

@@ -1,5 +1,5 @@
 -- The words of the table of the sockets, by what they are, and where each stands in the list of words.
-use Rattle.std.specs.Prelude.{ℕ, ◌*◌, ◌<◌, nat_lt, if◌then◌else◌}
+use Rattle.std.specs.Prelude.{ℕ, ◌*◌, ◌<◌}
 use mathlib.Core.Option.{Option, none, some}
 use Rattle.sock_model.specs.sock_words.specs.declared.plain.Plan.{Plan}
 use Rattle.sock_model.specs.Layout.{tag_index, ref_index, link_index, head_index, code_index, name_index, open_index, request_index, next_index, place_index}

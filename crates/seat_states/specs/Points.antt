@@ -5,7 +5,7 @@ use Rattle.sock_words.specs.Words.{socket_id, socket_id_version, socket_id_slot,
 use Rattle.sock_words.specs.declared.socket_id.SocketId.{SocketId}
 use Rattle.sock_words.specs.declared.ticket.Ticket.{Ticket}
 use Rattle.sock_words.specs.declared.outcome.Outcome.{Outcome}
-use Rattle.sock_words.specs.declared.outcome.Outcome.TheVariants.{Opened, SlotsFull, Unopened, Gone, Full, Held, Freed, Kept, CallFailed, Expired, NotBegun, Joined}
+use Rattle.sock_words.specs.declared.outcome.Outcome.TheVariants.{Opened, SlotsFull, Unopened, Gone, Full, Held, Freed, Kept, CallFailed, Expired, Joined}
 use Rattle.sock_io.specs.declared.link.Put.{Put}
 use Rattle.sock_io.specs.declared.link.Put.TheVariants as puts
 use Rattle.sock_io.specs.declared.link.Ready.{Ready}
@@ -13,14 +13,14 @@ use Rattle.sock_model.specs.declared.chain.Heading.{Heading}
 use Rattle.seat_programs.specs.Parts.{part}
 use Rattle.seat_programs.specs.sock_message.specs.Asked.{Asked, name_of, frame_of, parts_of}
 use Rattle.seat_programs.specs.Asides as asides
-use Rattle.seat_programs.specs.Heads.{Posting, HasLocked, Deciding, Unlocking, IsOpen, HasNext, Has, Joins, Unlocks}
+use Rattle.seat_programs.specs.Heads.{Posting, HasLocked, IsOpen, Has, Joins, Unlocks}
 use Rattle.seat_programs.specs.Posts.{post, posted, decide, decided}
 use Rattle.seat_programs.specs.Attempts.{claims_from, attempt, begin_call, claim_id, call, retry_locked, tried_again, expire_outcome, expire, join}
 use Rattle.seat_programs.specs.declared.task.Sizes.{Sizes}
 use Rattle.seat_programs.specs.Calls as calls
 use Rattle.seat_programs.specs.Writings as heads
 use Rattle.seat_programs.specs.Programs.{Program, Do, Say, Sent, Rest, Aside, Round, Keep, TakeMessage, TakeHome, PutHome, PutBytes, AskReady, Write, LAST_VERSION, recycle, release, address, set_failed, no_socket, make_socket, open_from, fail_outcome, fail, hold, end_open}
-use Rattle.seat_programs.specs.Sends.{block, one_more, freed, passed, passed_telling, tell_drop, put_answered, first_put, write_link, heading_of, accept, start, send}
+use Rattle.seat_programs.specs.Sends.{block, one_more, freed, passed, passed_telling, tell_drop, put_answered, first_put, write_link, accept, start, send}
 use Rattle.seat_programs.specs.Clients.{HeldLife}
 use Rattle.seat_states.specs.declared.point.Opening.{Opening}
 use Rattle.seat_states.specs.declared.point.OpenStep.{OpenStep}

@@ -1,5 +1,5 @@
 -- The steps of the machine as the steps of the programs.
-use Rattle.std.specs.Prelude.{ℕ, ◌*◌, Bool, List, Option, Some, None}
+use Rattle.std.specs.Prelude.{ℕ, Bool, List, Option, Some, None}
 use Rattle.sock_words.specs.declared.kind.Kind.{Kind}
 use Rattle.sock_words.specs.declared.kind.Kind.TheVariants.{L1, L2, M2, W1, W2}
 use Rattle.sock_words.specs.Words.{socket_id_version, socket_id_slot}

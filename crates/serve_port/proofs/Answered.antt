@@ -1,5 +1,5 @@
 -- What holds while a connection is served, and what that says of it in the end.
-use Rattle.std.proofs.Common.{◌≡◌, ◌≢◌, ℕ, ◌+◌, ◌-◌, ◌<◌, ◌≤◌, true, false, List, [], ◌∷◌, ◌++◌, length, take, Option, Some, None, Result, Ok, Err, refl, sym, ap, ◌∙◌, subst, arith, append_assoc, append-nil, length-append, length-take}
+use Rattle.std.proofs.Common.{◌≡◌, ◌≢◌, ℕ, ◌+◌, ◌-◌, ◌≤◌, false, List, [], ◌++◌, length, take, Option, Some, None, Result, Ok, Err, refl, sym, ap, ◌∙◌, subst, arith, append_assoc, append-nil, length-append, length-take}
 use Rattle.std.specs.Prelude.{IfSome, flat_map}
 use Rattle.std.specs.Io.KnownBytes.{append_known}
 use Rattle.std.proofs.lemmas.Grind.{flat_map-append}
@@ -17,7 +17,7 @@ use Rattle.loop_link.specs.Serving.{Follows}
 use Rattle.loop_link.proofs.Following.{follows_next}
 use Rattle.serve_port.specs.declared.service.ServiceEnd.{ServiceEnd}
 use Rattle.serve_port.specs.declared.service.ServiceEnd.TheVariants as end_
-use Rattle.serve_port.specs.Serving.{AllAnswered, NoneFailed, EndsBy, Serves}
+use Rattle.serve_port.specs.Serving.{AllAnswered, EndsBy, Serves}
 use Rattle.serve_port.specs.Steps.{GoesOn, AnswersPiece}
 
 -- ## Bytes that are told

@@ -12,7 +12,7 @@ use Rattle.sock_io.specs.Causes.{Rose}
 use Rattle.serve_port.specs.declared.service.ServeFault.{ServeFault}
 use Rattle.serve_port.specs.declared.service.ServeFault.TheVariants as fault_
 use Rattle.serve_port.specs.declared.tally.Tally.{Tally}
-use Rattle.serve_port.specs.Serving.{ServedConnection, is_failing, is_faulty, is_whole, any_failing, any_faulty, all_whole, frames_of, AnswersBy}
+use Rattle.serve_port.specs.Serving.{ServedConnection, is_failing, is_faulty, is_whole, frames_of, AnswersBy}
 use Rattle.serve_port.specs.Steps.{AcceptedBy, IsTally}
 
 or_false : (b : Bool) → (b || false) ≡ b

@@ -1,5 +1,5 @@
 -- Which links of a run gave the replies to all that they took.
-use Rattle.std.specs.Prelude.{ℕ, ◌≡◌, ◌<◌, ◌≤◌, ◌+◌, false, List, [], ◌++◌, length, slice_get, slice_index_or, Some, IsTrue, Contains}
+use Rattle.std.specs.Prelude.{ℕ, ◌≡◌, ◌<◌, ◌≤◌, ◌+◌, List, [], ◌++◌, length, slice_get, slice_index_or, Some, IsTrue, Contains}
 use Rattle.brpc_model.specs.Causes.{HasFault}
 use Rattle.brpc_model.specs.Frame.{Frame}
 use Rattle.brpc_model.specs.Items.{Item, Shape}

@@ -1,5 +1,5 @@
 -- The replies to some bytes are at most 41 / 12 times as long: each is to a frame of at least 12 bytes, and has what that carries or a few bytes.
-use Rattle.std.proofs.Common.{◌≡◌, ℕ, zero, suc, ◌+◌, ◌-◌, ◌*◌, ◌/◌, ◌≤◌, nat_lt, not, ◌&&◌, ltb-false, eqb, Bool, true, false, cond, List, [], ◌∷◌, ◌++◌, length, take, drop, flat_map, filter_map, sum, Option, Some, None, Result, Ok, Err, ℤ, pos, negsuc, length-append, length-drop, refl, arith}
+use Rattle.std.proofs.Common.{◌≡◌, ℕ, zero, suc, ◌+◌, ◌-◌, ◌*◌, ◌≤◌, nat_lt, not, ◌&&◌, ltb-false, eqb, Bool, true, false, cond, List, [], ◌∷◌, ◌++◌, length, take, drop, flat_map, filter_map, sum, Option, Some, None, Result, Ok, Err, ℤ, pos, negsuc, length-append, length-drop, refl, arith}
 use Rattle.std.proofs.lemmas.List.{length-reverse}
 use Rattle.std.specs.Prelude.{codes, bytes_eq, reverse, option_map}
 use Rattle.std.specs.List.{cons_option}

@@ -19,7 +19,7 @@ use Rattle.rpc_client.specs.sock_table.specs.Named.{NotedAs}
 use Rattle.rpc_client.specs.sock_table.specs.declared.finding.Noted.{Noted}
 use Rattle.rpc_client.specs.sock_table.specs.declared.finding.Noted.TheVariants as noteds
 use Rattle.rpc_client.proofs.Finding.{set_others}
-use Rattle.sock_deeds.specs.Deeds.{Hand, Did, sends, fails, looks, takes, misses, sets, returns, DoneBy, Deed, Chain}
+use Rattle.sock_deeds.specs.Deeds.{Hand, Did, looks, takes, misses, sets, returns, DoneBy, Deed, Chain}
 use Rattle.sock_deeds.specs.Broken.{faults_by}
 use Rattle.sock_deeds.specs.Runs.{IsById}
 use Rattle.sock_deeds.proofs.Sources.{IsOfLife, Source, by_open, by_fail, by_set, by_write, done_source}

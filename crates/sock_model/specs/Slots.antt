@@ -1,6 +1,6 @@
 -- The law of one slot: its tag, its reference word, its link and its code, beside what all seats have and noted of it (bRPC's
 -- versioned_ref_with_id.h; memory_management.md).
-use Rattle.std.specs.Prelude.{◌≡◌, ◌≢◌, ℕ, ◌+◌, ◌-◌, ◌/◌, ◌%◌, ◌<◌, ◌≤◌, List, cond, ◌==◌, nat_le, ◌&&◌}
+use Rattle.std.specs.Prelude.{◌≡◌, ◌≢◌, ℕ, ◌+◌, ◌-◌, ◌%◌, ◌<◌, ◌≤◌, List, cond, ◌==◌, nat_le, ◌&&◌}
 use mathlib.Core.Option.{some}
 use lib.ListN.{get_elem?}
 use Rattle.sock_model.specs.declared.marks.Mark.{Mark}

@@ -7,7 +7,7 @@ use lib.ListN.{get_elem?}
 use Rattle.sock_model.specs.declared.chain.Entry.{Entry}
 use Rattle.sock_model.specs.Entries.{on}
 use Rattle.sock_model.specs.Authors.{pick, Authored}
-use Rattle.chain_core.specs.slot_steps.proofs.Sums.{term_le, total_parts}
+use Rattle.chain_core.specs.slot_steps.proofs.Sums.{total_parts}
 use Rattle.chain_core.specs.sock_steps.proofs.Positions.{spread, spread_parts, spread_has}
 use Rattle.sock_rule.proofs.Closes.{none_of}
 use Rattle.sock_words.specs.Totals.{total}

@@ -13,13 +13,13 @@ use Rattle.sock_model.specs.declared.chain.Claim.{Claim}
 use Rattle.sock_model.specs.declared.chain.Loose.{Loose}
 use Rattle.sock_model.specs.declared.view.View.{View}
 use Rattle.sock_model.specs.declared.home.Home.{Home}
-use Rattle.sock_model.specs.Layout.{request_index, next_index, place_index}
+use Rattle.sock_model.specs.Layout.{request_index, next_index}
 use Rattle.sock_model.specs.Rule.{noting}
 use Rattle.sock_model.specs.ChainRows.{with_claim}
 use Rattle.sock_rule.specs.OnTable.{OnTable}
 use Rattle.sock_rule.specs.Seated.{IsSeat}
 use Rattle.sock_rule.specs.Sending.{Asked, Swapped}
-use Rattle.sock_rule.specs.ChainPlays.{blank, request_told, ready_told, connect_told}
+use Rattle.sock_rule.specs.ChainPlays.{request_told, ready_told, connect_told}
 use Rattle.sock_rule.proofs.Chaining.{asks, readies, connects}
 use Rattle.sock_rule.proofs.Seating.{still_seat}
 use Rattle.sock_words.specs.Words.{UNCONNECTED, IDLE}

@@ -11,7 +11,7 @@ use Rattle.sock_model.specs.declared.view.View.{View}
 use Rattle.sock_model.specs.Weights.{is_ref}
 use Rattle.sock_model.specs.Layout.{request_index, place_index}
 use Rattle.sock_model.specs.SlotRows.{marks_of}
-use Rattle.sock_model.specs.Seats.{newcomer, carrier, earliest, later, IsBare, Unused}
+use Rattle.sock_model.specs.Seats.{newcomer, carrier, earliest, IsBare, Unused}
 use Rattle.sock_model.specs.Lawful.{PlanFits}
 use Rattle.sock_model.specs.Rule.{lists_of}
 

@@ -10,7 +10,7 @@ use Rattle.seat_programs.specs.id_rule.specs.Lawful.{tag_index, id_index, call_i
 use Rattle.sock_message.specs.Asked.{Asked}
 use Rattle.seat_programs.specs.declared.task.Op.TheVariants as ops
 use Rattle.seat_programs.specs.declared.task.Task.{Task}
-use Rattle.seat_programs.specs.Asides.{Step, ClaimId, PutCall, MakeId, StoreCall, LoadCall, StoreAt, LoadAt, LoadIdWord, LockId, PostId, UnlockId, EndId, FreeId, TakeCall, TakeBytes, Bytes, Found}
+use Rattle.seat_programs.specs.Asides.{Step, ClaimId, PutCall, MakeId, StoreCall, StoreAt, LockId, PostId, UnlockId, EndId, FreeId, TakeCall, TakeBytes, Bytes, Found}
 use Rattle.seat_programs.specs.Asides as asides
 use Rattle.seat_programs.specs.Posts.{packed}
 use Rattle.story_steps.specs.call_stories.specs.Scenes.{Birth, Saying, Scene, AreTold, was_begun, Later}

@@ -24,7 +24,7 @@ use Rattle.sock_rule.specs.Sending.{MaySwap, filled_for}
 use Rattle.sock_rule.proofs.Becoming.{adds_mark, becomes}
 use Rattle.sock_table.specs.Named.{HasSeen}
 use Rattle.sock_table.specs.Answers.{Holds}
-use Rattle.write_chain.specs.Sending.{HasRoom, MaySend, Accepted, IsFirst, FoundTaken}
+use Rattle.write_chain.specs.Sending.{HasRoom, Accepted, IsFirst, FoundTaken}
 use Rattle.sock_words.specs.Totals.{total}
 
 -- a seat that held the life of the id claims request `at`, and comes by the views a and b to the exchange

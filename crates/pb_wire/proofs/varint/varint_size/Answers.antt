@@ -1,4 +1,4 @@
-use Rattle.std.proofs.Common.{◌∙◌, ◌+◌, refl, arith, rules}
+use Rattle.std.proofs.Common.{refl, arith, rules}
 use Rattle.pb_wire.proofs.Groups.{counted_more, counted_last, ten_are_enough}
 use Rattle.pb_wire.proofs.varint.varint_size.Goals as goal
 

@@ -1,4 +1,4 @@
-use Rattle.std.proofs.Common.{ℕ, ◌<◌, refl, subst, arith}
+use Rattle.std.proofs.Common.{ℕ, refl, subst, arith}
 use Rattle.std.specs.Prelude.{Option}
 use Rattle.corr_id.specs.declared.posts.Posted.TheVariants as posted
 use Rattle.corr_id.specs.Calls.{Found, is_saw}

@@ -1,4 +1,4 @@
-use Rattle.std.proofs.Common.{◌≡◌, replicate, subst, refl, ◌∙◌, arith}
+use Rattle.std.proofs.Common.{◌≡◌, replicate, subst, refl, arith}
 use Rattle.seat_programs.specs.Ticks.{seats_of}
 use Rattle.sock_core.proofs.Linkers.{says_same, says_still}
 use Rattle.script_run.specs.Played.{HasPlayed}

@@ -1,4 +1,4 @@
-use Rattle.std.proofs.Common.{◌≡◌, sym, subst, rules}
+use Rattle.std.proofs.Common.{◌≡◌, sym, subst}
 use Rattle.sock_io.specs.Link.{LinkerState}
 use Rattle.serve_port.specs.Serving.{ServesConnections}
 use Rattle.serve_port.specs.Steps.{HasServed, as_served}

@@ -1,4 +1,4 @@
-use Rattle.std.proofs.Common.{◌++◌, take, sym, ap, ◌∙◌, subst}
+use Rattle.std.proofs.Common.{◌++◌, take, ap, ◌∙◌, subst}
 use Rattle.sock_io.specs.Link.{IsPutCount, taken_of}
 use Rattle.std.specs.Io.KnownBytes.{append_known}
 use Rattle.serve_port.proofs.Pieces.{known_more, put_more}

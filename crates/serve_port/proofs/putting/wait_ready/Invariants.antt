@@ -1,4 +1,4 @@
-use Rattle.std.proofs.Common.{◌≡◌, false}
+use Rattle.std.proofs.Common.{◌≡◌}
 use Rattle.serve_port.proofs.putting.wait_ready.Given as goal
 
 abbrev pub invariant-asks : goal.invariant-asks

@@ -1,4 +1,3 @@
-use Rattle.std.proofs.Common.{◌≡◌, length}
 use Rattle.serve_port.proofs.Answered.{Talks}
 use Rattle.serve_port.proofs.talking.talk.Given as goal
 

@@ -1,4 +1,4 @@
-use Rattle.std.proofs.Common.{◌≡◌, ◌∙◌, ap, sym, refl, subst, arith}
+use Rattle.std.proofs.Common.{refl, arith}
 use Rattle.call_errors.specs.rpc_client.proofs.Finding.{rest_same, may_still}
 use Rattle.call_errors.specs.rpc_client.proofs.Delivering.{room_still}
 use Rattle.call_errors.proofs.Keeping.{keeps_none}

@@ -1,4 +1,4 @@
-use Rattle.std.proofs.Common.{◌≡◌, ℕ, ◌+◌, ◌*◌, ◌≤◌, ◌∙◌, ap, sym, refl, subst, arith}
+use Rattle.std.proofs.Common.{◌≡◌, ℕ, ◌+◌, ◌*◌, sym, refl, subst, arith}
 use Rattle.sock_words.specs.declared.plain.Label.{Label}
 use Rattle.sock_rule.specs.declared.homes.Letter.{Letter}
 use Rattle.corr_core.specs.Word.{parts}

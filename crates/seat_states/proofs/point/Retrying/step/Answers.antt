@@ -1,4 +1,4 @@
-use Rattle.std.proofs.Common.{Some, sym}
+use Rattle.std.proofs.Common.{sym}
 use Rattle.seat_programs.specs.Attempts.{retry_locked}
 use Rattle.id_points.specs.Ids.{id_of, number_of}
 use Rattle.call_points.specs.Points.{lock_program}

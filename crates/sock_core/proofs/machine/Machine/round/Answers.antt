@@ -1,4 +1,4 @@
-use Rattle.std.proofs.Common.{◌≡◌, ℕ, true, List, refl, sym, ap, subst, append-nil, arith, ◌+◌, ◌-◌, ◌++◌, ◌∙◌}
+use Rattle.std.proofs.Common.{◌≡◌, ℕ, true, List, sym, ap, subst, append-nil, arith, ◌+◌, ◌-◌, ◌++◌, ◌∙◌}
 use Rattle.sock_words.specs.declared.plain.Plan.{Plan}
 use Rattle.seat_programs.specs.Runs.{from_to}
 use Rattle.machine_model.specs.Machines.{READERS}

@@ -1,4 +1,4 @@
-use Rattle.std.proofs.Common.{arith, refl}
+use Rattle.std.proofs.Common.{arith}
 use Rattle.sock_rule.specs.OnKey.{shows_by}
 use Rattle.sock_rule.specs.Shows.{rose}
 use Rattle.sock_rule.proofs.Sending.{asks_on, asked, asked_seat}

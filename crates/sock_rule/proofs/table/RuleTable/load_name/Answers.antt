@@ -1,4 +1,4 @@
-use Rattle.std.proofs.Common.{ℕ, ◌≡◌, ◌-◌, ◌%◌, ◌<◌, ◌≢◌, arith, ap, sym, ◌∙◌, subst}
+use Rattle.std.proofs.Common.{ℕ, ◌-◌, ◌%◌, ◌<◌, ◌≢◌, arith, ap, sym, ◌∙◌, subst}
 use Rattle.sock_rule.specs.Rows.{FoundAt}
 use mathlib.Core.Option.{some}
 use Rattle.sock_rule.specs.OnKey.{shows_by}

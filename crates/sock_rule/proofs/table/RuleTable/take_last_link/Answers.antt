@@ -1,4 +1,4 @@
-use Rattle.std.proofs.Common.{◌+◌, ◌<◌, arith, refl, ◌∙◌, sym, ap, subst}
+use Rattle.std.proofs.Common.{◌+◌, ◌<◌, arith, ◌∙◌, sym, ap, subst}
 use Rattle.sock_model.specs.Reads.{carries}
 use Rattle.sock_model.specs.ChainRows.{with_hand}
 use Rattle.sock_rule.specs.Hands.{hand_of}

@@ -1,4 +1,4 @@
-use Rattle.std.proofs.Common.{ℕ, ◌+◌, ◌<◌, ◌∷◌, false, arith, refl, ◌∙◌, sym, ap, subst}
+use Rattle.std.proofs.Common.{ℕ, ◌+◌, ◌∷◌, false, arith, ◌∙◌, sym, ap, subst}
 use Rattle.sock_rule.specs.Faults.{fault_found, CameOut}
 use Rattle.sock_model.specs.ChainRows.{with_right}
 use Rattle.sock_rule.specs.declared.homes.SockHome.TheVariants.{Empty}
