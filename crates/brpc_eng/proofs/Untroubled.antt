@@ -1,5 +1,5 @@
 -- The report of a run of which all is told fits. Where nothing went wrong, that of a script without calls is complete, whatever servers its links have: a `send` goes to a link without one.
-use Rattle.std.proofs.Common.{◌≡◌, ℕ, zero, suc, ◌*◌, ◌<◌, ◌⊎◌, inl, inr, Bool, true, false, if◌then◌else◌, List, [], ◌∷◌, length, slice_get, nat_lt, nat_le, option_and_then, Option, Some, Ok, Contains, refl, ap, sym, ◌∙◌, subst, arith}
+use Rattle.std.proofs.Common.{◌≡◌, ℕ, ◌*◌, ◌<◌, ◌⊎◌, inl, inr, Bool, true, false, if◌then◌else◌, List, length, slice_get, nat_lt, nat_le, option_and_then, Option, Some, Ok, Contains, refl, ap, sym, ◌∙◌, subst, arith}
 use Rattle.std.proofs.lemmas.Bool.Decides.{nat_tests}
 use Rattle.std.proofs.lemmas.Option.{slice_get_within}
 use Rattle.sock_words.specs.declared.outcome.Outcome.{Outcome}
@@ -21,7 +21,7 @@ use Rattle.seat_programs.specs.Tasks.{name_number, numbered, op_of, plan_of}
 use Rattle.seat_programs.specs.Scripts.{Reports, all_tasks, is_callless}
 use Rattle.seat_programs.specs.ToldCalls.{Fixed, Order, ToldCalls}
 use Rattle.script_threads.specs.script_parts.specs.report_fits.specs.Ends.{AreEndsOf}
-use Rattle.script_threads.specs.script_parts.specs.script_facts.proofs.Lists.{Has, has_later, has_from, contains_from, all_at, some_is}
+use Rattle.script_threads.specs.script_parts.specs.script_facts.proofs.Lists.{Has, has_from, contains_from, all_at, some_is}
 use Rattle.script_threads.specs.script_parts.specs.report_fits.proofs.Callless.{not_later}
 use Rattle.script_threads.specs.script_parts.specs.script_facts.proofs.TaskLemmas.{numbers_at, asks_at, mentions_send}
 use Rattle.script_threads.specs.script_parts.specs.report_fits.proofs.Reported.{SaidOrPlaced}
@@ -33,16 +33,9 @@ use Rattle.script_threads.specs.script_parts.specs.report_fits.proofs.Fitting.{f
 use Rattle.script_threads.specs.script_parts.specs.report_fits.proofs.Places.{lateness, known_of}
 use Rattle.calls_over.specs.Below.run_theorems.specs.Unserved.{IsInTime}
 use Rattle.calls_over.specs.Below.run_theorems.proofs.Runs.{not_early}
+use Rattle.script_threads.specs.script_parts.specs.calls_done.proofs.Links.{shape_at}
 
 -- ## Links without a server
-
--- each link was opened under its name, with a shape
-opened_with : (items : List Item) (k : ℕ) (name : List ℕ) → slice_get (link_names items) k ≡ Some name → (shape : Shape) × (slice_get (link_shapes items) k ≡ Some shape) × Has items (Open name shape)
-opened_with [] k name e = absurd (cc)
-opened_with (Open n shape ∷ items) zero name e =
-    let same = some_is n name e in (shape, refl, (zero, ap (λ (x : List ℕ). Some (Open x shape)) same))
-opened_with (Open n shape ∷ items) (suc k) name e = let x = opened_with items k name e in (x.0, x.1, has_later (Open n shape) items (Open name x.0) x.2)
-opened_with (item ∷ items) k name e = let x = opened_with items k name e in (x.0, x.1, has_later item items (Open name x.0) x.2)
 
 module _ (g : Given) (in_time : IsInTime g.run.script g.run.fixed) (untroubled : IsUntroubled g.run.script g.ends) where
   abbrev run : Run
@@ -62,7 +55,7 @@ module _ (g : Given) (in_time : IsInTime g.run.script g.run.fixed) (untroubled :
 
   none_early : (k : ℕ) (name : List ℕ) → k < Links → IsLinkOf run k name → IsSentTo name → Contains g.run.fixed.early k → ⊥
   none_early k name low named sent early =
-      let o = opened_with g.run.script k name named in
+      let o = shape_at g.run.script k name named in
       let e = lives.end_at g k low in
       let there = has_from g.ends e.end e.there in
       let quiet = all_at (IsSilentUnserved g.run.script) g.ends e.end untroubled.unserved there o.0 (ap (slice_get (link_shapes g.run.script)) e.is.numbered ∙ o.1) (no_server name o.0 sent o.2 o.0.serve refl) in

@@ -17,6 +17,7 @@ use Rattle.call_run.specs.call_client.specs.Running.{MayMakeAll, left_by}
 use Rattle.call_places.proofs.Counts.{call_in}
 use Rattle.call_places.proofs.Labels.{label_in, labels}
 use Rattle.sock_words.specs.Totals.{total}
+use Rattle.sock_deeds.specs.script_facts.proofs.Lists.{all_map}
 
 -- the task of this number
 abbrev pub numbered : ℕ → Task → ℕ
@@ -28,15 +29,11 @@ none_numbered : (o : ℕ) (ts : List Task) → AllByRecursion (λ (t : Task). t.
 none_numbered o [] a = refl
 none_numbered o (t ∷ ts) a = let x = only-else o t.number a.0 in let y = none_numbered o ts a.1 in omega arith
 
-all_weaker : {A : Type 0} (P Q : A → Type 0) → ((x : A) → P x → Q x) → (xs : List A) → AllByRecursion P xs → AllByRecursion Q xs
-all_weaker P Q f [] a = tt
-all_weaker P Q f (x ∷ xs) a = (f x a.0, all_weaker P Q f xs a.1)
-
 -- those of a client rise
 once_in : (o : ℕ) (ts : List Task) → EachBefore (λ (a b : Task). (a.number < b.number) × HaveOwnLinks a.op b.op) ts → total (numbered o) ts ≤ 1
 once_in o [] h = omega arith
 once_in o (t ∷ ts) h = dite (ℕ_discrete t.number o)
-    (λ e. let x = only_le o t.number in let y = none_numbered o ts (all_weaker (λ (u : Task). (t.number < u.number) × HaveOwnLinks t.op u.op) (λ (u : Task). u.number ≢ o) (λ u r q. (let less = r.0 in omega (arith, less, e, q))) ts h.0) in omega arith)
+    (λ e. let x = only_le o t.number in let y = none_numbered o ts (all_map (λ (u : Task). (t.number < u.number) × HaveOwnLinks t.op u.op) (λ (u : Task). u.number ≢ o) (λ u r q. (let less = r.0 in omega (arith, less, e, q))) ts h.0) in omega arith)
     (λ n. let x = only-else o t.number n in let y = once_in o ts h.1 in omega arith)
 
 abbrev numbered_each : ℕ → List Task → ℕ
@@ -46,7 +43,7 @@ numbered_each o ts = total (numbered o) ts
 none_else : (o : ℕ) (ts us : List Task) → AllByRecursion (λ (t : Task). AllByRecursion (Differ t) us) ts → 0 < total (numbered o) ts → total (numbered o) us ≡ 0
 none_else o [] us d some_ = absurd (omega arith)
 none_else o (t ∷ ts) us d some_ = dite (ℕ_discrete t.number o)
-    (λ e. none_numbered o us (all_weaker (Differ t) (λ (u : Task). u.number ≢ o) (λ u r q. r.0 (e ∙ sym q)) us d.0))
+    (λ e. none_numbered o us (all_map (Differ t) (λ (u : Task). u.number ≢ o) (λ u r q. r.0 (e ∙ sym q)) us d.0))
     (λ n. let x = only-else o t.number n in none_else o ts us d.1 (omega arith))
 
 none_behind : (o : ℕ) (ts : List Task) (tss : List (List Task)) → AllByRecursion (λ (us : List Task). AllByRecursion (λ (t : Task). AllByRecursion (Differ t) us) ts) tss → 0 < total (numbered o) ts → total (numbered_each o) tss ≡ 0

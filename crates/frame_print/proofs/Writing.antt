@@ -1,15 +1,10 @@
 -- Texts that are written one behind another.
-use Rattle.std.proofs.Common.{◌≡◌, ℕ, List, [], ◌++◌, take, drop, Option, Some, None, Result, Ok, Err, refl, ap, sym, ◌∙◌, subst, append_assoc, append-nil}
+use Rattle.std.proofs.Common.{◌≡◌, ℕ, List, [], ◌++◌, Option, Some, None, Result, Ok, Err, refl, ap, sym, ◌∙◌, subst, append_assoc, append-nil}
 use Rattle.std.specs.Io.KnownBytes.{Appends, Keeps}
-use Rattle.std.proofs.lemmas.List.{take-append-drop}
 use Rattle.sock_io.specs.Causes.{Rose}
 use Rattle.sock_io.specs.declared.stream.Failed.{Failed}
 use Rattle.frame_print.specs.Written.{Writes}
 use Rattle.sock_io.specs.Writing.{WrotePart}
-
--- one more piece of a list that is taken from its front
-pub front_grows : (done rest all : List ℕ) (n : ℕ) → done ++ rest ≡ all → (done ++ take n rest) ++ drop n rest ≡ all
-front_grows done rest all n e = append_assoc done (take n rest) (drop n rest) ∙ ap (λ x. done ++ x) (take-append-drop n rest) ∙ e
 
 pub Appends-nil : (o : Option (List ℕ)) → Appends o o []
 Appends-nil None = tt

@@ -1,5 +1,5 @@
 -- The tables before their first step.
-use Rattle.std.proofs.Common.{append-nil, append_assoc, ◌≡◌, refl, ℕ, zero, suc, ◌+◌, false, List, [], ◌∷◌, ◌++◌, map, fold, length, take, drop, replicate, Option, None, ap, ap₂, sym, ◌∙◌, arith, subst}
+use Rattle.std.proofs.Common.{append-nil, append_assoc, ◌≡◌, refl, ℕ, zero, suc, ◌+◌, false, List, [], ◌∷◌, ◌++◌, map, length, take, drop, replicate, Option, None, ap, ap₂, sym, ◌∙◌, arith, subst}
 use Rattle.std.specs.List.{AllByRecursion}
 use Rattle.sock_words.specs.declared.outcome.Outcome.{Outcome}
 use Rattle.seat_programs.specs.declared.task.Task.{Task}
@@ -21,6 +21,7 @@ use Rattle.machine_model.specs.Parts.{AreBegun, AreReading, said_first}
 use Rattle.machine_model.specs.Letters.{letters_in}
 use Rattle.machine_model.proofs.Lengths.{length_said}
 use Rattle.machine_steps.proofs.Stepping.{written}
+use Rattle.brpc_model.proofs.Growing.{fold_more}
 
 replicate_more : {A : Type 0} (n : ℕ) (x : A) → replicate n x ++ x ∷ [] ≡ replicate (n + 1) x
 replicate_more zero x = refl
@@ -38,10 +39,6 @@ slots_more xs ys first n e = ap (λ (l : List ℕ). l ++ free_slot first) e ∙ 
 pub map_last : {A B : Type 0} (f : A → B) (xs : List A) (x : A) → map f (xs ++ x ∷ []) ≡ map f xs ++ f x ∷ []
 map_last f [] x = refl
 map_last f (y ∷ xs) x = ap (λ (l : List _). f y ∷ l) (map_last f xs x)
-
-fold_last : {A B : Type 0} (f : B → A → B) (b : B) (xs : List A) (x : A) → fold f b (xs ++ x ∷ []) ≡ f (fold f b xs) x
-fold_last f b [] x = refl
-fold_last f b (y ∷ xs) x = fold_last f (f b y) xs x
 
 all_last : {A : Type 0} (P : A → Type 0) (xs : List A) (x : A) → AllByRecursion P xs → P x → AllByRecursion P (xs ++ x ∷ [])
 all_last P [] x all here = (here, tt)
@@ -62,7 +59,7 @@ begun_more sizes seats clients seat tasks h e none_ = (
 
 pub told_more : (sizes : Sizes) (os : List (Option Outcome)) (clients : List (List Task)) (tasks : List Task) → said_first os (programs sizes (clients ++ tasks ∷ [])) ≡ said (resolved [] (client_from sizes [] tasks)) (said_first os (programs sizes clients))
 told_more sizes os clients tasks = ap (said_first os) (map_last (client_from sizes []) clients tasks)
-    ∙ fold_last (λ (us : List (Option Outcome)) (program : Program). said (resolved [] program) us) os (programs sizes clients) (client_from sizes [] tasks)
+    ∙ fold_more (λ (us : List (Option Outcome)) (program : Program). said (resolved [] program) us) os (programs sizes clients) (client_from sizes [] tasks)
 
 -- a seat that has begun held nothing and kept no retry
 pub begun_seat : (sizes : Sizes) (seat : SeatData) (held : List HeldLife) (waiting : List Retry) (tasks : List Task) → seat_program sizes seat ≡ next_step (resolved waiting (client_from sizes held tasks)) → held ≡ [] → waiting ≡ [] →

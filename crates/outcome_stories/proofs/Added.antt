@@ -10,7 +10,7 @@ use Rattle.sock_model.specs.declared.view.Hand.{Hand}
 use Rattle.sock_model.specs.Weights.{is_probe, is_hold, is_stage, is_recycling, is_zero, is_coding, is_born, is_failer, is_linked, is_tried}
 use Rattle.sock_model.specs.Marks.{about, at, without_at}
 use Rattle.sock_model.specs.SlotRows.{marks_of, back, subbed, recycled}
-use Rattle.program_walks.specs.slot_steps.proofs.Slots.{zero_is, hold_is, probe_is, stage_is}
+use Rattle.program_walks.specs.slot_steps.proofs.Slots.{zero_is, hold_is, probe_is, stage_is, any_recycled}
 use Rattle.program_walks.specs.sock_steps.proofs.Quiet.{less_without, more_without}
 use Rattle.seat_programs.specs.Calls.{Call, ClaimSlot, CreateLife, AddRef, SubRef, SetOdd, Recycle, FreeSlot, StoreLink, ResetHead, ClearCode, StoreCode}
 use Rattle.seat_programs.specs.StepTables.{row}
@@ -49,10 +49,6 @@ tried_note = record { claimed = λ a k. refl; recycling = λ w. refl; hold = λ 
 pub coding_is : (h : ℕ) (x : Mark) → 0 < is_coding h x → (g : ℕ) × (x ≡ Coding g)
 coding_is h (Coding k) p = (k, refl)
 coding_is h _ p = absurd (omega arith)
-
-pub recycling_is : (x : Mark) → 0 < is_recycling x → (w : ℕ) × (x ≡ Recycling w)
-recycling_is (Recycling w) p = (w, refl)
-recycling_is _ p = absurd (omega arith)
 
 more_or_not : (f : Mark → ℕ) (m : Mark) (xs : List Mark) (b : Bool) → total f (cond b (m ∷ xs) xs) ≡ cond b (f m) 0 + total f xs
 more_or_not f m xs true = refl
@@ -126,7 +122,7 @@ module _ (f : Mark → ℕ) (note : IsNote f) (j : ℕ) where
       either_way P true x y = x
       either_way P false x y = y
   row_adds p (Recycle i from) found hand v = let a = recycled_same i from found v in omega arith
-  row_adds p (FreeSlot i) found hand v = let a = gone i is_recycling v.marks (λ x q. let r = recycling_is x q in ap f r.1 ∙ note.recycling r.0) in omega arith
+  row_adds p (FreeSlot i) found hand v = let a = gone i is_recycling v.marks (λ x q. let r = any_recycled x q in ap f r.1 ∙ note.recycling r.0) in omega arith
   row_adds p (StoreLink i k) found hand v = let a = quiet i (Claimed 1 k) (without_at i (is_stage 0 0) v.marks) (note.claimed 1 k) in let b = gone i (is_stage 0 0) v.marks (stage_none 0 0) in omega arith
   row_adds p (ResetHead i k) found hand v = let a = quiet i (Claimed 2 k) (without_at i (is_stage 1 k) v.marks) (note.claimed 2 k) in let b = gone i (is_stage 1 k) v.marks (stage_none 1 k) in omega arith
   row_adds p (ClearCode i k) found hand v = let a = quiet i (Claimed 3 k) (without_at i (is_stage 2 k) v.marks) (note.claimed 3 k) in let b = gone i (is_stage 2 k) v.marks (stage_none 2 k) in omega arith

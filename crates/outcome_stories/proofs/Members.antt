@@ -6,6 +6,7 @@ use mathlib.Core.Logic.{dite}
 use native.Mathlib.Decide.{ℕ_discrete}
 use Rattle.brpc_model.specs.Order.{EachBefore}
 use Rattle.outcome_stories.specs.Stories.{Entry, Event, In, trace_of}
+use Rattle.program_walks.proofs.Opening.{both_true}
 
 module _ {A : Type 0} where
   pub in_left : (xs ys : List A) (x : A) → In x xs → In x (xs ++ ys)
@@ -89,9 +90,6 @@ module _ {A : Type 0} where
 
 -- ## Steps of one operation
 
-yes_yes : (a b : Bool) → a ≡ true → b ≡ true → (a && b) ≡ true
-yes_yes a b p q = ap (λ z. z && b) p ∙ q
-
 no_left : (a b : Bool) → a ≡ false → (a && b) ≡ false
 no_left a b p = ap (λ z. z && b) p
 
@@ -101,7 +99,7 @@ no_right false b p = refl
 
 module _ (c o : ℕ) (e : Event) (es : List Event) where
   pub trace_here : e.client ≡ c → e.number ≡ o → trace_of c o (e ∷ es) ≡ e.entry ∷ trace_of c o es
-  trace_here p q = ap (λ z. cond z (e.entry ∷ trace_of c o es) (trace_of c o es)) (yes_yes (eqb e.client c) (eqb e.number o) (eq-eqb e.client c p) (eq-eqb e.number o q))
+  trace_here p q = ap (λ z. cond z (e.entry ∷ trace_of c o es) (trace_of c o es)) (both_true (eqb e.client c) (eqb e.number o) (eq-eqb e.client c p) (eq-eqb e.number o q))
 
   pub trace_client : e.client ≢ c → trace_of c o (e ∷ es) ≡ trace_of c o es
   trace_client n = ap (λ z. cond z (e.entry ∷ trace_of c o es) (trace_of c o es)) (no_left (eqb e.client c) (eqb e.number o) (ne_eqb e.client c n))

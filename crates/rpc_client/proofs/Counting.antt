@@ -1,5 +1,5 @@
 -- References, as they are counted behind each call.
-use Rattle.std.proofs.Common.{◌≡◌, ℕ, zero, suc, ◌+◌, ◌<◌, ◌≤◌, Bool, true, false, List, [], ◌∷◌, ◌++◌, length, get_or, take, drop, refl, sym, ap, ◌∙◌, subst, arith}
+use Rattle.std.proofs.Common.{◌≡◌, ℕ, zero, suc, ◌+◌, ◌<◌, Bool, true, false, List, [], ◌∷◌, ◌++◌, length, get_or, take, drop, refl, sym, ap, ◌∙◌, subst, arith}
 use mathlib.Core.Logic.{dite}
 use mathlib.Core.Option.{some}
 use lib.ListN.{get_elem?}
@@ -15,7 +15,7 @@ use Rattle.sock_model.specs.Weights.{only, pair, is_ref, is_hold}
 use Rattle.sock_model.specs.Marks.{about}
 use Rattle.sock_model.specs.SlotRows.{marks_of, met}
 use Rattle.write_chain.specs.slot_steps.proofs.Sums.{total_mono, total-append}
-use Rattle.write_chain.specs.slot_steps.proofs.Numbers.{only-at, only-else, only_le, pair_only, pair-same}
+use Rattle.write_chain.specs.slot_steps.proofs.Numbers.{only-at, only-else, pair_only, pair-same}
 use Rattle.std.proofs.lemmas.Bool.Decides.{nat_tests}
 use Rattle.sock_rule.specs.Becoming.{Became}
 use Rattle.sock_rule.proofs.Becoming.{adds_mark}
@@ -30,10 +30,7 @@ use Rattle.sock_table.specs.Named.{FindsId}
 use Rattle.write_chain.specs.sock_open.proofs.Testing.{ended_refs}
 use Rattle.rpc_client.specs.Seats.{SameRefs, OneMore}
 use Rattle.sock_words.specs.Totals.{total}
-
-hold_ref : (h : ℕ) (m : Mark) → is_hold h m ≤ is_ref m
-hold_ref h (Hold k) = only_le h k
-hold_ref h _ = omega arith
+use Rattle.write_chain.specs.slot_steps.proofs.Slots.{hold_ref}
 
 -- marks among which is no reference are none to a life
 pub no_lives : (h : ℕ) (l : List Mark) → total is_ref l ≡ 0 → total (is_hold h) l ≡ 0

@@ -8,6 +8,7 @@ use Rattle.brpc_model.specs.Items.{Item, Shape, Open, Join}
 use Rattle.brpc_model.specs.Script.{Faulty, script_of, with_line, items, whole, fault_at, says, is_lost, may_hang, is_unserved}
 use Rattle.owed_calls.specs.Below.script_facts.proofs.Lists.{Has, has_from, has_first, has_later, has_cases, has_none}
 use Rattle.owed_calls.specs.Below.script_facts.proofs.Reading.{two_faults}
+use Rattle.outcome_causes.specs.program_walks.proofs.Opening.{or_second}
 
 -- where no element is found that passes a test, none passes it
 none_passes : {A : Type 0} (test : A → Bool) (n : ℕ) (xs : List A) → position_from test n xs ≡ None → (x : A) → Has xs x → test x ≡ false
@@ -17,10 +18,6 @@ none_passes {A} test n (y ∷ ys) e x h = by_first (test y) refl e (λ f later. 
     by_first : (b : Bool) → test y ≡ b → cond b (Some n) (position_from test (n + 1) ys) ≡ None → (position_from test (n + 1) ys ≡ None → Has ys x → test x ≡ false) → test x ≡ false
     by_first true is f others = absurd (cc)
     by_first false is f others = ⊎_elim (λ same. ap test (sym same) ∙ is) (λ later. others f later) (has_cases y ys x h)
-
-or_second : (a b : Bool) → b ≡ true → (a || b) ≡ true
-or_second true b e = refl
-or_second false b e = e
 
 any_of : {A : Type 0} (test : A → Bool) (xs : List A) (x : A) → Has xs x → test x ≡ true → list_any test xs ≡ true
 any_of test [] x h e = absurd (has_none x h)

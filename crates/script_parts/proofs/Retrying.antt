@@ -40,15 +40,13 @@ use Rattle.calls_done.specs.call_whys.specs.call_deeds.specs.Retried.{Again, ask
 use Rattle.calls_done.specs.call_whys.specs.call_deeds.proofs.Told.{came, made}
 use Rattle.script_parts.proofs.Began.{only_is}
 use Rattle.sock_words.specs.Totals.{total}
+use Rattle.callless_fits.specs.sock_deeds.specs.outcome_stories.specs.program_walks.proofs.Opening.{both_true as true_both}
 
 -- ## The same call
 
 both_true : (a b : Bool) → (a && b) ≡ true → (a ≡ true) × (b ≡ true)
 both_true true b h = (refl, h)
 both_true false b h = let k : false ≡ true = h in absurd (cc)
-
-true_both : (a b : Bool) → a ≡ true → b ≡ true → (a && b) ≡ true
-true_both a b h k = ap (λ x. x && b) h ∙ k
 
 same_bytes : (a : List ℕ) → bytes_eq a a ≡ true
 same_bytes a = (bytes_eq-Decides a a).1 refl

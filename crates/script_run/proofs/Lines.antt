@@ -1,6 +1,6 @@
 -- The lines of a schedule, one after another.
-use Rattle.std.proofs.Common.{◌≡◌, ℕ, zero, suc, ◌+◌, ◌-◌, ◌*◌, ◌%◌, ◌≤◌, ◌<◌, List, [], ◌∷◌, ◌++◌, map, take, get_or, length, replicate, Option, Some, None, ap, sym, subst, refl, ◌∙◌, append_assoc, append-nil, add-one, arith, min, leb, true, false}
-use Rattle.std.proofs.lemmas.List.{take_all, take_more, map-append, replicate-append-replicate}
+use Rattle.std.proofs.Common.{◌≡◌, ℕ, zero, suc, ◌+◌, ◌-◌, ◌*◌, ◌%◌, ◌≤◌, ◌<◌, List, [], ◌∷◌, ◌++◌, map, take, get_or, length, replicate, Option, Some, None, ap, sym, subst, refl, ◌∙◌, append_assoc, append-nil, arith, min, leb, true, false}
+use Rattle.std.proofs.lemmas.List.{take_all, take_more, replicate-append-replicate}
 use Rattle.std.proofs.lemmas.Bool.{leb-false, leb-true}
 use Rattle.std.specs.List.{cons_option}
 use Rattle.std.proofs.lemmas.List.Elements.{filter_map-append}
@@ -26,15 +26,14 @@ use Rattle.script_run.specs.declared.mark.Mark.{Mark}
 use Rattle.script_run.specs.declared.mark.Mark.TheVariants as marks
 use Rattle.script_run.specs.Outlines.{meant, outlined}
 use Rattle.script_run.specs.Played.{IsPlayable, HasPlayed, HasTurns}
-use Rattle.sock_core.specs.machine_ticks.proofs.Joining.{ran_rest, ran_join, run_append}
+use Rattle.sock_core.specs.machine_ticks.proofs.Joining.{ran_rest, ran_join, run_append, seats_append}
 use Rattle.sock_core.specs.machine_ticks.proofs.Resting.{none_follows}
 use Rattle.script_run.proofs.Outlined.{schedule_same}
 use Rattle.script_run.proofs.Playing.{as_played, then_played, none_played}
+use Rattle.script_links.proofs.Numbering.{map_more}
+use Rattle.script_draw.proofs.DrawLemmas.{behind_more}
 
 -- ## Ticks of one seat
-
-seats_append : (xs ys : List Moment) → seats_of (xs ++ ys) ≡ seats_of xs ++ seats_of ys
-seats_append xs ys = map-append (λ (m : Moment). m.seat) xs ys
 
 -- one tick more
 pub one_more_tick : (i n : ℕ) (a b c : MachineState) → HasPlayed (λ d moments. seats_of moments ≡ replicate n i) a b → HasPlayed (λ d moments. seats_of moments ≡ i ∷ []) b c
@@ -137,10 +136,6 @@ played_more turns turn a b c h k =
     then_played (λ d. Scheduled a.plan d turns) (HasTurns a.plan turn) (λ d. Scheduled a.plan d (turns ++ cons_option turn [])) a b c h (subst (λ q. HasPlayed (HasTurns q turn) b c) h.0.plan k)
     (λ d xs ys hx hy. scheduled_line a.plan turns turn d xs ys hx hy)
 
-pub map_more : {A B : Type 0} (f : A → B) (xs : List A) (x : A) → map f (xs ++ x ∷ []) ≡ map f xs ++ f x ∷ []
-map_more f [] x = refl
-map_more f (y ∷ ys) x = ap (λ l. f y ∷ l) (map_more f ys x)
-
 schedule_more : (ms : List Mark) (i : ℕ) (mark : Mark) → i < length ms → mark ≡ get_or ms i mark → schedule (map meant (take (i + 1) ms)) ≡ schedule (map meant (take i ms)) ++ cons_option (turn_of (meant mark)) []
 schedule_more ms i mark within at =
     ap (λ ls. schedule (map meant ls)) (take_more ms i mark within ∙ ap (λ l. take i ms ++ l ∷ []) (sym at))
@@ -202,13 +197,10 @@ state_after : (n x : ℕ) → state_behind (suc n) x ≡ drawn_state (state_behi
 state_after zero x = refl
 state_after (suc n) x = state_after n (drawn_state x)
 
-state_more : (n x : ℕ) → state_behind (n + 1) x ≡ drawn_state (state_behind n x)
-state_more n x = ap (λ k. state_behind k x) (add-one n) ∙ state_after n x
-
 pub draws_on : (script : List Item) (n seed : ℕ) (old new : SeatDraws) → old ≡ draws_of script n seed → new ≡ record { clients = old.clients; links = old.links; state = drawn_state old.state } → new ≡ draws_of script (n + 1) seed
 draws_on script n seed old new e f =
     f ∙ ap (λ (s : SeatDraws). record { clients = s.clients; links = s.links; state = drawn_state s.state }) e
-    ∙ ap (λ x. record { clients = clients script; links = length (link_names script); state = x }) (sym (state_more n seed))
+    ∙ ap (λ x. record { clients = clients script; links = length (link_names script); state = x }) (sym (behind_more n seed))
 
 pub seat_drawn : (script : List Item) (n seed seat : ℕ) (old : SeatDraws) → old ≡ draws_of script n seed → seat ≡ seat_of old.clients (drawn old.state % (old.clients + old.links)) → seat ≡ seat_of (clients script) (drawn (state_behind n seed) % seats_in script)
 seat_drawn script n seed seat old e f = f ∙ ap (λ (s : SeatDraws). seat_of s.clients (drawn s.state % (s.clients + s.links))) e

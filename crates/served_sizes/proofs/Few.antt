@@ -1,12 +1,12 @@
 -- A link with the built-in server gives less than the most that is read: what it took is no more than the script's calls and sends, and the replies are little longer.
-use Rattle.std.proofs.Common.{◌≡◌, ℕ, suc, ◌+◌, ◌*◌, ◌<◌, ◌≤◌, List, [], ◌∷◌, ◌++◌, length, take, drop, flat_map, filter_map, slice_get, slice_index_or, Option, Some, Ok, length-append, append-nil, append_assoc, refl, sym, ap, ◌∙◌, subst, arith}
+use Rattle.std.proofs.Common.{◌≡◌, ℕ, ◌+◌, ◌*◌, ◌<◌, ◌≤◌, List, [], ◌++◌, length, take, drop, flat_map, slice_get, slice_index_or, Option, Some, Ok, length-append, append-nil, append_assoc, refl, sym, ap, ◌∙◌, subst, arith}
 use Rattle.std.proofs.lemmas.Grind.{flat_map-append}
 use Rattle.std.proofs.lemmas.List.{take-append-drop}
 use Rattle.std.proofs.lemmas.Option.{slice_get_within}
 use Rattle.std.specs.Prelude.{IsTrue}
 use Rattle.std.specs.List.{AllByRecursion}
 use Rattle.seat_programs.specs.sock_model.specs.sock_words.specs.declared.outcome.Outcome.{Outcome}
-use Rattle.brpc_model.specs.Items.{Item, Shape, Open, Send, Call, attempts_of, opened_name, opened_shape}
+use Rattle.brpc_model.specs.Items.{Item, Shape, Send, Call, attempts_of}
 use Rattle.brpc_model.specs.Operations.{Operation, Turn, operations, link_names, link_shapes, attempts, requests}
 use Rattle.brpc_model.specs.Order.{EachBefore}
 use Rattle.brpc_model.specs.Places.{names}
@@ -35,7 +35,7 @@ use Rattle.served_runs.specs.Below.run_theorems.proofs.Starts.{made}
 use Rattle.served_runs.specs.Below.call_stories.specs.Lists.{gave_in}
 use Rattle.served_runs.specs.Offered.{OffersInRun}
 use Rattle.served_runs.specs.Served.{took_in_all}
-use Rattle.served_runs.proofs.Served.{gives_front}
+use Rattle.served_runs.proofs.Served.{gives_front, shapes_many}
 use Rattle.served_runs.specs.Below.script_facts.proofs.Frames.{meta_short}
 use Rattle.served_runs.proofs.Frames.{framed_length}
 use Rattle.served_runs.proofs.Own.{cut_more}
@@ -59,11 +59,6 @@ attempts_low : (item : Item) → InRange item → attempts_of item ≤ 7
 attempts_low (Send name bytes) range = omega arith
 attempts_low (Call call) range = let few = range.retry in omega (arith, few)
 attempts_low other range = omega arith
-
-shapes_many : (items : List Item) → length (filter_map opened_shape items) ≡ length (filter_map opened_name items)
-shapes_many [] = refl
-shapes_many (Open name shape ∷ items) = ap suc (shapes_many items)
-shapes_many (item ∷ items) = shapes_many items
 
 -- the messages of a link, of which it took some whole and then a cut
 taken_few : (o : Order) (took : List ℕ) → IsTaken o took → length took ≤ length (flat_map bytes_of o.accepted)

@@ -34,6 +34,7 @@ use Rattle.sock_deeds.proofs.Numbered.{IsOnSockets, tasks_of}
 use Rattle.sock_deeds.proofs.Places.{to_slice, place_low, place_there}
 use Rattle.sock_deeds.proofs.Tasks.{Does, is_for, act_of, act_does, earlier, rises}
 use Rattle.sock_words.specs.Totals.{total}
+use Rattle.outcome_ticks.specs.program_walks.proofs.Opening.{both_true}
 
 -- ## References by a name
 
@@ -98,10 +99,6 @@ alike clients outcomes n number (ops.Call asked) d b e = (ap (λ x. does_well n 
 alike clients outcomes n number (ops.Expire o) d b e = elim e [ ]
 alike clients outcomes n number (ops.Join o) d b e = elim e [ ]
 alike clients outcomes n number _ d b e = (ap (λ x. does_well n x b) e.1, ap (λ x. hand_behind n x b) e.1)
-
-both_true : (a b : Bool) → a ≡ true → b ≡ true → (a && b) ≡ true
-both_true true b e f = f
-both_true false b e f = absurd (cc)
 
 cons_first : {A : Type 0} {x y : A} {s t : List A} → x ∷ s ≡ y ∷ t → x ≡ y
 cons_first e = cc

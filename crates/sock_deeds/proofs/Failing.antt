@@ -36,6 +36,7 @@ use Rattle.sock_deeds.proofs.Places.{to_slice}
 use Rattle.sock_deeds.proofs.Readers.{read_sets, early_there}
 use Rattle.sock_deeds.proofs.Sources.{Source, by_open, by_fail, by_set, by_write, done_source}
 use Rattle.sock_deeds.proofs.Tasks.{is_for, same_task, one_outcome, task_does}
+use Rattle.report_fits.specs.script_facts.proofs.Flat.{from_to_at}
 
 -- ## A value for each number below a bound
 
@@ -58,11 +59,6 @@ range_get : (a n i x : ℕ) → slice_get (from_to a n) i ≡ Some x → (i < n)
 range_get a zero i x e = absurd (none-some x e)
 range_get a (suc n) zero x e = let q = same_Some a x e in (omega arith, omega arith)
 range_get a (suc n) (suc i) x e = let r = range_get (a + 1) n i x e in let low = r.0 in let is = r.1 in (omega arith, omega arith)
-
-range_there : (a n i : ℕ) → i < n → slice_get (from_to a n) i ≡ Some (a + i)
-range_there a zero i low = absurd (omega arith)
-range_there a (suc n) zero low = ap Some (omega arith)
-range_there a (suc n) (suc i) low = range_there (a + 1) n i (omega arith) ∙ ap Some (omega arith)
 
 paired : (o : ℕ) (x : Option ℕ) (y : ℕ × ℕ) → option_map (λ (k : ℕ). (o, k)) x ≡ Some y → (o ≡ y.0) × (x ≡ Some y.1)
 paired o None y e = absurd (none-some y e)
@@ -157,7 +153,7 @@ module _ {O : Type 0} {g : Ghosts O} {state : O → OutState} {p : Plan} {client
       let long = run.long in
       let low : o < p.operations = omega arith in
       elim (links.1 o low) as (λ w. (k : ℕ) × Contains all_fails (o, k) × FailsLink o k) [
-        | inl w ↦ (w.0, contains_from all_fails (o, w.0) (has_filter_map pair_of (from_to 0 p.operations) o (o, w.0) (o, range_there 0 p.operations o low ∙ ap Some (omega arith)) (ap (option_map (λ (k : ℕ). (o, k))) w.1)), w.2)
+        | inl w ↦ (w.0, contains_from all_fails (o, w.0) (has_filter_map pair_of (from_to 0 p.operations) o (o, w.0) (o, from_to_at 0 p.operations o low ∙ ap Some (omega arith)) (ap (option_map (λ (k : ℕ). (o, k))) w.1)), w.2)
         | inr w ↦ absurd (w.1 e)
       ]
 

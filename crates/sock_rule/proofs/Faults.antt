@@ -1,5 +1,5 @@
 -- What steps leave of the notes of faults, and of where each link is.
-use Rattle.std.proofs.Common.{◌≡◌, ◌≢◌, ℕ, zero, suc, ◌+◌, ◌-◌, ◌%◌, ◌<◌, ◌≤◌, Bool, true, false, cond, eqb, eq-eqb, ne_eqb, nat_lt, List, [], ◌∷◌, ◌++◌, length, set, refl, sym, ap, ◌∙◌, subst, arith}
+use Rattle.std.proofs.Common.{◌≡◌, ◌≢◌, ℕ, zero, suc, ◌+◌, ◌-◌, ◌%◌, ◌<◌, ◌≤◌, Bool, cond, eqb, eq-eqb, ne_eqb, nat_lt, List, [], ◌∷◌, ◌++◌, length, set, refl, sym, ap, ◌∙◌, subst, arith}
 use mathlib.Core.Logic.{dite}
 use mathlib.Core.Option.{Option, none, some}
 use native.Mathlib.Decide.{ℕ_discrete}
@@ -22,16 +22,13 @@ use Rattle.sock_rule.specs.Faults.{fault, is_fault, faults_link, faults_of, noti
 use Rattle.sock_rule.proofs.Light.{Light, Alike}
 use Rattle.sock_words.specs.Words.{vref_version, vref_nref}
 use Rattle.sock_words.specs.Totals.{total}
+use Rattle.chain_core.specs.sock_steps.proofs.Quiet.{either_way}
 
 -- ## Marks that come and go in steps
 
 -- no such note
 abbrev Other : Mark → Type 0
 Other m = (k : ℕ) → is_fault k m ≡ 0
-
-either_way : {A : Type 0} (b : Bool) (x y : A) (P : A → Type 0) → P x → P y → P (cond b x y)
-either_way true x y P p q = p
-either_way false x y P p q = q
 
 -- a mark goes that is no such note
 stay_without : (k i : ℕ) (g : Mark → ℕ) (es : List SlotMark) → ((x : Mark) → 0 < g x → is_fault k x ≡ 0) → total (faults_link k) (without_at i g es) ≡ total (faults_link k) es
