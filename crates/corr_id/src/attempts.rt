@@ -11,7 +11,7 @@ ghost use Rattle.sock_words.specs.Totals.{total};
 
 use crate::calls::{IdGone, Locking, is_out_of};
 use crate::table::{IdSeat, IdTable};
-use sock_words::{CorrelationId, IdWord};
+use sock_words::IdWord;
 use std::sync::Wait;
 
 impl<C> IdTable<C> {
@@ -45,12 +45,12 @@ impl<C> IdTable<C> {
         ensures gone { IfErr result (λ e. Quiet seat.old.me.0 seat.new.me.0 × (((self.now.plan.slots ≤ id_slot version) × (e.found ≡ 0)) ⊎ (Found (id_slot version) e.found seat.new.me.0 × IsOutside attempt (parts e.found) (id_first version)))) }
         ensures ended { attempt ≡ false → IfErr result (λ e. id_slot version < self.now.plan.slots → IsKnown (id_slot version) (id_first version) seat.old.me.0 → id_first version < (parts e.found).first) }
     {
-        let slot = CorrelationId(version).slot();
-        if slot >= u32::from(self.plan.slots) {
+        let slot = version / 4_294_967_296;
+        if slot >= self.plan.slots as u64 {
             return Err(IdGone { found: 0 });
         }
         let at = slot as u16;
-        let own = u64::from(CorrelationId(version).version());
+        let own = version % 4_294_967_296;
         'looks: for _ in rt.forever() {
             let found = self.load_id_word(seat, at);
             let word = IdWord(found);

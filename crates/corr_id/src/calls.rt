@@ -93,7 +93,7 @@ impl<C> IdTable<C> {
         };
         let word = IdWord::pack(first, IdWord::OPEN, range, 0, 0, 0);
         self.make_id(seat, at, word.0);
-        CorrelationId::pack(at, first).0
+        at as u64 * 4_294_967_296 + first as u64
     }
 
     /// A new id of 2 to 8 versions, open and at attempt 0 (`bthread_id_create_ranged`). There is no room only where each slot was
@@ -206,12 +206,12 @@ impl<C> IdTable<C> {
         ensures quiet { Quiet seat.old.me.0 seat.new.me.0 }
         ensures gone { (self.now.plan.slots ≤ id_slot id) ⊎ ((word : ℕ) × Found (id_slot id) word seat.new.me.0 × LacksId (parts word) (id_first id)) }
     {
-        let slot = CorrelationId(id).slot();
-        if slot >= u32::from(self.plan.slots) {
+        let slot = id / 4_294_967_296;
+        if slot >= self.plan.slots as u64 {
             return;
         }
         let at = slot as u16;
-        let own = u64::from(CorrelationId(id).version());
+        let own = id % 4_294_967_296;
         'looks: for _ in rt.forever() {
             if lacks_id(IdWord(self.load_id_word(seat, at)), own) {
                 return;

@@ -1,5 +1,6 @@
 // A call for each kind of step.
 ghost use Rattle.std.specs.Prelude.{◌≡◌, ◌≢◌, ◌+◌, ◌*◌, ◌%◌, ◌<◌, ◌≤◌, ℕ, Bool, [], ◌∷◌, IsTrue, MatchOption};
+ghost use Rattle.sock_words.specs.Words.{call_id};
 ghost use Rattle.corr_core.specs.Word.{parts, made_word, locked_word, posted_word, unlocked_word, free_word};
 ghost use Rattle.corr_core.specs.Law.{LAST, is_made, is_advance};
 ghost use Rattle.corr_core.specs.declared.marks.Hand.TheVariants.{Empty, Full};

@@ -82,8 +82,8 @@ impl<C> IdTable<C> {
         ensures found { id_slot version < self.now.plan.slots → Found (id_slot version) result seat.new.me.0 × (0 < result) }
         ensures no_slot { self.now.plan.slots ≤ id_slot version → result ≡ 0 }
     {
-        let slot = CorrelationId(version).slot();
-        if slot >= u32::from(self.plan.slots) {
+        let slot = version / 4_294_967_296;
+        if slot >= self.plan.slots as u64 {
             return 0;
         }
         self.load_id_word(seat, slot as u16)
