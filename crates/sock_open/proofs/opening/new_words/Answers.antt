@@ -1,4 +1,4 @@
-use Rattle.std.proofs.Common.{◌*◌, arith, refl}
+use Rattle.std.proofs.Common.{arith, refl}
 use Rattle.sock_open.proofs.Words.{none_begun, one_begun, all_begun}
 use Rattle.sock_open.proofs.opening.new_words.Goals as goal
 
