@@ -3,11 +3,13 @@ use Rattle.std.proofs.Common.{◌≡◌, ℕ, ◌≤◌, ◌+◌, List, ◌++◌
 use Rattle.std.specs.Io.KnownBytes.{append_known, Consumes}
 use Rattle.std.proofs.Math.Seq.{take-add}
 use Rattle.std.proofs.lemmas.List.{take-take}
-use Rattle.serve_port.proofs.Pieces.{known_more}
 
 pub append_known-append : (o : Option (List ℕ)) (a b : List ℕ) → append_known (append_known o a) b ≡ append_known o (a ++ b)
 append_known-append None a b = refl
 append_known-append (Some xs) a b = ap Some (append_assoc xs a b)
+
+pub took_grows : (o p q : Option (List ℕ)) (done piece : List ℕ) → p ≡ append_known o done → q ≡ append_known p piece → q ≡ append_known o (done ++ piece)
+took_grows o p q done piece e f = f ∙ ap (λ x. append_known x piece) e ∙ append_known-append o done piece
 
 pub Consumes-append : (o p q : Option (List ℕ)) (a b : List ℕ) → Consumes o p a → Consumes p q b → Consumes o q (a ++ b)
 Consumes-append None p q a b e f = tt
@@ -34,7 +36,7 @@ pub front_more : (o p q : Option (List ℕ)) (bytes piece : List ℕ) (at n most
 front_more o p q bytes piece at n most e cut within f =
     let few : n ≤ most = omega (arith, within, ap length cut ∙ length-take most (drop at bytes)) in
     let first : take n piece ≡ take n (drop at bytes) = ap (take n) cut ∙ take-take n most (drop at bytes) few in
-    known_more o p q (take at bytes) (take n (drop at bytes)) e (f ∙ ap (append_known p) first) ∙ ap (append_known o) (sym (take-add at n bytes))
+    took_grows o p q (take at bytes) (take n (drop at bytes)) e (f ∙ ap (append_known p) first) ∙ ap (append_known o) (sym (take-add at n bytes))
 
 -- a piece of what stands behind a place ends within the whole
 pub within_piece : (bytes piece : List ℕ) (at n most : ℕ) → piece ≡ take most (drop at bytes) → n ≤ length piece → at ≤ length bytes → at + n ≤ length bytes
