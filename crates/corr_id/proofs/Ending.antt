@@ -1,5 +1,6 @@
 -- The loops of the close, and its lists.
 use Rattle.std.proofs.Common.{◌≡◌, ◌≢◌, ℕ, zero, suc, ◌+◌, ◌<◌, ◌≤◌, Bool, true, false, List, [], ◌∷◌, map, length, get_or, set, get_or-set_other, get_or-set_same, sym, refl, ap, ◌∙◌, subst, arith}
+use Rattle.std.proofs.lemmas.List.{length-map}
 use Rattle.std.specs.Prelude.{Option as Maybe}
 use mathlib.Core.Logic.{dite}
 use mathlib.Core.Option.{some, some-injective, some-ne-none}
@@ -47,19 +48,15 @@ map_set [] i w = refl
 map_set (x ∷ xs) zero w = refl
 map_set (x ∷ xs) (suc i) w = ap (λ l. x.0 ∷ l) (map_set xs i w)
 
-map_length : (xs : List IdWord) → length (map (λ (x : IdWord). x.0) xs) ≡ length xs
-map_length [] = refl
-map_length (x ∷ xs) = ap suc (map_length xs)
-
 pub one_more : (xs : List IdWord) (ys : List ℕ) (i x n : ℕ) (w : IdWord) → length xs ≡ n → i < n → get_elem? ys (id_index i) ≡ some x → w.0 ≡ x → AreIdWords i xs ys → AreIdWords (i + 1) (set xs i w) ys
-one_more xs ys i x n w long lt e same h j jl = let long' = map_length xs in ap (λ l. get_or l j 0) (map_set xs i w) ∙ dite (ℕ_discrete j i)
+one_more xs ys i x n w long lt e same h j jl = let long' = length-map xs (λ (x : IdWord). x.0) in ap (λ l. get_or l j 0) (map_set xs i w) ∙ dite (ℕ_discrete j i)
     (λ q. ap (λ y. get_or (set (map (λ (x : IdWord). x.0) xs) i w.0) y 0) q ∙ (get_or-set_same (map (λ (x : IdWord). x.0) xs) i w.0 0 (omega arith) ∙ (same ∙ (sym (index_of ys (id_index i) x e) ∙ ap (λ y. get_or ys (id_index y) 0) (sym q)))))
     (λ n'. get_or-set_other (map (λ (x : IdWord). x.0) xs) i j w.0 0 n' ∙ h j (omega arith))
 
 -- words of 64 bits, one more of which is stored
 pub low_more : (xs : List IdWord) (i n : ℕ) (w : IdWord) → length xs ≡ n → i < n → w.0 < 18446744073709551616 → ((j : ℕ) → j < i → get_or (map (λ (x : IdWord). x.0) xs) j 0 < 18446744073709551616)
     → (j : ℕ) → j < i + 1 → get_or (map (λ (x : IdWord). x.0) (set xs i w)) j 0 < 18446744073709551616
-low_more xs i n w long lt low h j jl = let long' = map_length xs in let is = ap (λ l. get_or l j 0) (map_set xs i w) in dite (ℕ_discrete j i)
+low_more xs i n w long lt low h j jl = let long' = length-map xs (λ (x : IdWord). x.0) in let is = ap (λ l. get_or l j 0) (map_set xs i w) in dite (ℕ_discrete j i)
     (λ q. let a = ap (λ y. get_or (set (map (λ (x : IdWord). x.0) xs) i w.0) y 0) q in let b = get_or-set_same (map (λ (x : IdWord). x.0) xs) i w.0 0 (omega arith) in omega (arith, is, a, b, low))
     (λ n'. let b = get_or-set_other (map (λ (x : IdWord). x.0) xs) i j w.0 0 n' in let c = h j (omega arith) in omega (arith, is, b, c))
 
@@ -70,7 +67,7 @@ past_all (x ∷ xs) (suc j) le = past_all xs j (omega arith)
 
 -- and that are all that there are
 pub low_all : (xs : List IdWord) (n : ℕ) → length xs ≤ n → ((j : ℕ) → j < n → get_or (map (λ (x : IdWord). x.0) xs) j 0 < 18446744073709551616) → (j : ℕ) → get_or (map (λ (x : IdWord). x.0) xs) j 0 < 18446744073709551616
-low_all xs n long h j = dite (dec_lt j n) (h j) (λ nl. let a = past_all (map (λ (x : IdWord). x.0) xs) j (let b = map_length xs in omega (arith, nl, b, long)) in omega (arith, a))
+low_all xs n long h j = dite (dec_lt j n) (h j) (λ nl. let a = past_all (map (λ (x : IdWord). x.0) xs) j (let b = length-map xs (λ (x : IdWord). x.0) in omega (arith, nl, b, long)) in omega (arith, a))
 
 pub closes : {C : Type 0} (p : Plan) (id : ℕ) (v : View C) (ws : List ℕ) (xs : List (Maybe C)) (words : List IdWord) (notes : List (Noted C)) (kept : List Kept) → Final (Seen (Ruled p) id v) ws xs → v.share ≡ p.seats → v.tokens ≡ [] → v.notes ≡ notes → v.kept ≡ kept → AreIdWords p.slots words ws
     → Closing p notes kept (map (λ (w : IdWord). w.0) words)

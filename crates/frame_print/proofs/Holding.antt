@@ -1,7 +1,7 @@
 -- How many bytes a cutter holds that has answered no fault.
 use Rattle.std.proofs.Common.{◌≡◌, ℕ, false, List, length, Result, Ok, Err, OnOk, ap, ◌∙◌}
 use Rattle.std.specs.Prelude.{if◌then◌else◌, ◌++◌, is_err}
-use Rattle.io_block.specs.declared.memory.NoMemory.{NoMemory}
+use Rattle.sock_words.specs.declared.memory.NoMemory.{NoMemory}
 use Rattle.prpc_frame.specs.Held.{Held, held_count, with_piece}
 
 pub held_untold : (h : Held) → h.told ≡ false → held_count h ≡ length h.bytes

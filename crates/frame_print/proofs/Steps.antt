@@ -8,7 +8,7 @@ use Rattle.brpc_model.specs.Stream.{stream_from}
 use Rattle.brpc_model.specs.FramesText.{frame_line}
 use Rattle.sock_io.specs.Causes.{Rose}
 use Rattle.sock_io.specs.declared.stream.Failed.{Failed}
-use Rattle.io_block.specs.declared.memory.NoMemory.{NoMemory}
+use Rattle.sock_words.specs.declared.memory.NoMemory.{NoMemory}
 use Rattle.prpc_frame.specs.Answers.{Fed, Answers}
 use Rattle.prpc_frame.specs.declared.fault.NextFault.{NextFault}
 use Rattle.prpc_frame.specs.declared.fault.NextFault.TheVariants as next

@@ -2,9 +2,8 @@
 #![tactic(auto)]
 
 mod kept;
-mod memory;
 mod pool;
 mod room;
 
-pub use memory::NoMemory;
 pub use pool::{BLOCK_BYTES, BlockPool, KEPT_BLOCKS};
+pub use sock_words::NoMemory;

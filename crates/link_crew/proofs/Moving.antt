@@ -6,7 +6,7 @@ use Rattle.sock_io.specs.declared.ending.Ending.{Ending}
 use Rattle.sock_io.specs.declared.ending.Ending.TheVariants as ending
 use Rattle.sock_io.specs.declared.link.Served.{Served}
 use Rattle.sock_io.specs.declared.link.Served.TheVariants as served
-use Rattle.sock_io.specs.declared.stream.NoMemory.{NoMemory}
+use Rattle.sock_words.specs.declared.memory.NoMemory.{NoMemory}
 use Rattle.sock_io.specs.Peer.{PeerState, Grew, Moves, Moved, ServeStep}
 use Rattle.link_crew.specs.Serving.{IsStarved, Serves, ServedOn, ServedToEnd, lacks}
 

@@ -2,7 +2,7 @@
 use Rattle.std.specs.Prelude.{◌≡◌, ◌⊎◌, Bool, true, false, List, [], ◌∷◌, Result, Ok, Err}
 use Rattle.sock_io.specs.declared.ending.Ending.TheVariants as ending
 use Rattle.sock_io.specs.declared.link.Served.{Served}
-use Rattle.sock_io.specs.declared.stream.NoMemory.{NoMemory}
+use Rattle.sock_words.specs.declared.memory.NoMemory.{NoMemory}
 use Rattle.sock_io.specs.Peer.{PeerState, Moved, ServeStep, is_done}
 
 -- calls that served it, one behind the other, by what each answered

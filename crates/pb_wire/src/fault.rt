@@ -1,5 +1,3 @@
-use std::alloc::AllocError;
-
 /// What is wrong with the wire form, and the place where the varint, the key or the value begins.
 ///
 /// Places are counted from the start of the bytes that were handed in.
@@ -13,14 +11,4 @@ pub enum WireFault {
     BadKey { at: usize },
     /// A key with wire type 3 or 4, the ends of a group.
     Group { at: usize },
-}
-
-/// An allocation failed.
-#[derive(Clone, Copy, PartialEq, Eq, Debug)]
-pub struct NoMemory;
-
-impl From<AllocError> for NoMemory {
-    fn from(_error: AllocError) -> NoMemory {
-        NoMemory
-    }
 }

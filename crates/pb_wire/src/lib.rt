@@ -9,7 +9,8 @@ mod message;
 mod values;
 mod varint;
 
-pub use fault::{NoMemory, WireFault};
+pub use fault::WireFault;
 pub use message::Fields;
+pub use sock_words::NoMemory;
 pub use values::{Field, Value};
 pub use varint::{read_varint, varint_size, write_varint};

@@ -4,7 +4,8 @@ ghost use Rattle.brpc_model.specs.Wire.{varint, goes_on, low_first, varint_bytes
 ghost use Rattle.pb_wire.specs.Told.{varint_front};
 ghost use Rattle.pb_wire.specs.Form.{IsVarint};
 
-use crate::fault::{NoMemory, WireFault};
+use crate::fault::WireFault;
+use sock_words::NoMemory;
 
 /// The most bytes that a varint has.
 const MOST_BYTES: usize = 10;

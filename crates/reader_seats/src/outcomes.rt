@@ -8,7 +8,7 @@ ghost use Rattle.reader_points.specs.Points.{code_by};
 use io_buf::{IoBuf, NoMemory};
 use prpc_frame::Frame;
 use reader_points::Lost;
-use sock_words::{ERESPONSE, OutBytes, Outcome};
+use sock_words::{ERESPONSE, Outcome, OwnedBytes};
 use std::alloc::Global;
 
 /// The operation of this number has this outcome.
@@ -22,12 +22,12 @@ pub fn tell(outcomes: &mut [Option<Outcome>], operation: u16, outcome: Outcome)
 }
 
 /// A copy of these bytes.
-fn copied(alloc: Global, bytes: &IoBuf) -> Result<OutBytes, NoMemory>
+fn copied(alloc: Global, bytes: &IoBuf) -> Result<OwnedBytes, NoMemory>
     ensures { IfOk result (λ out. out ≡ bytes.now.items) }
 {
     let mut copy = vec![in alloc; 0; bytes.len()]?;
     bytes.copy_to(&mut copy);
-    Ok(OutBytes::new(copy))
+    Ok(OwnedBytes::new(copy))
 }
 
 /// Whether a number of a meta is 0.

@@ -1,6 +1,6 @@
 -- A script without calls: what is told of its run is what is told of a run with calls, in which none comes. So its report fits.
 use Rattle.std.proofs.Common.{◌≡◌, ℕ, ◌*◌, ◌<◌, ◌⊎◌, inl, inr, true, false, nat_le, List, [], ◌∷◌, ◌++◌, length, map, flat_map, take, drop, sum_by, slice_get, slice_index, Some, Ok, Contains, refl, ap, sym, ◌∙◌, subst, arith}
-use Rattle.std.proofs.lemmas.List.{take-map, drop-map}
+use Rattle.std.proofs.lemmas.List.{take-map, drop-map, length-map}
 use Rattle.std.proofs.lemmas.List.Sums.{sum_by-cons}
 use Rattle.std.specs.List.{AllByRecursion}
 use Rattle.sock_words.specs.Words.{place_word}
@@ -32,7 +32,7 @@ use Rattle.seat_programs.specs.ToldCalls as told
 use Rattle.report_fits.specs.Calm.{IsCalm}
 use Rattle.report_fits.specs.Ends.{AreEnds, AreEndsOf}
 use Rattle.script_facts.proofs.Lists.{has_from, has_none, all_from, all_at, before_from, before_at}
-use Rattle.script_facts.proofs.Flat.{map_at, at_map, map_length, map_map}
+use Rattle.script_facts.proofs.Flat.{map_at, at_map, map_map}
 use Rattle.script_facts.proofs.Numbering.{are_from}
 use Rattle.script_facts.proofs.TaskLemmas.{IsTaskOf, numbers_at, task_is, call_asks, expire_asks}
 use Rattle.report_fits.proofs.Callless.{not_later}
@@ -125,13 +125,13 @@ module _ (script : List Item) (core : Core) (broken : List ℕ) (callless : is_c
   are_orders = record {
     written = written;
     alone = λ l low. alone l (tells.are_orders.alone l low);
-    within = λ k low. let h = tells.are_orders.within k low in omega (arith, h, map_length first_attempt (tells.orders k).accepted);
+    within = λ k low. let h = tells.are_orders.within k low in omega (arith, h, length-map (tells.orders k).accepted first_attempt);
     taken = λ k low. is_taken k _ (tells.are_orders.taken k low);
     apart = apart;
   }
 
   as_many : all_accepted (length (link_names script)) orders_of ≡ sends.all_accepted (length (link_names script)) tells.orders
-  as_many = sum_same (λ k. length (map first_attempt (tells.orders k).accepted)) (λ k. length (tells.orders k).accepted) (λ k. map_length first_attempt (tells.orders k).accepted) (from_to 0 (length (link_names script)))
+  as_many = sum_same (λ k. length (map first_attempt (tells.orders k).accepted)) (λ k. length (tells.orders k).accepted) (λ k. length-map (tells.orders k).accepted first_attempt) (from_to 0 (length (link_names script)))
 
   -- ## Causes
 
@@ -236,7 +236,7 @@ module _ (script : List Item) (core : Core) (broken : List ℕ) (callless : is_c
     again = λ client t asked is op. absurd (no_call client t asked is op);
     sent = sent;
     own_order = own_order;
-    dropped = λ k low fewer. let n = map_length first_attempt (tells.orders k).accepted in dropped_by k (tells.dropped k low (omega (arith, fewer, n)));
+    dropped = λ k low fewer. let n = length-map (tells.orders k).accepted first_attempt in dropped_by k (tells.dropped k low (omega (arith, fewer, n)));
     expired_once = λ c d t u o is_t is_u op_t op_u x y. absurd (no_expire c t o is_t op_t);
     versions = λ c d t u a b x y i j is_t is_u op_t op_u bx by sx sy other. absurd (no_call c t a is_t op_t);
   }

@@ -1,6 +1,6 @@
 -- The lines of a report are those of the orders of the links.
 use Rattle.std.proofs.Common.{◌≡◌, ℕ, ◌+◌, ◌<◌, ◌≤◌, Bool, if◌then◌else◌, nat_le, List, [], ◌++◌, length, take, drop, map, flat_map, sum_by, slice_get, slice_index_or, unwrap_or, option_map, option_and_then, inl, inr, Option, Some, ap, sym, ◌∙◌, subst, arith}
-use Rattle.std.proofs.lemmas.List.{take-map, drop-map}
+use Rattle.std.proofs.lemmas.List.{take-map, drop-map, length-map}
 use Rattle.std.proofs.lemmas.Option.{slice_get_within}
 use Rattle.sock_words.specs.declared.outcome.Outcome.{Outcome}
 use Rattle.sock_words.specs.declared.outcome.Outcome.TheVariants.{Placed, Dropped}
@@ -18,7 +18,7 @@ use Rattle.seat_programs.specs.Scripts.{place_words, took_at_home, Reports}
 use Rattle.seat_programs.specs.ToldCalls.{Accepted, bytes_of, all_accepted, label as number_of}
 use Rattle.report_fits.specs.Ends.{AreEndsOf}
 use Rattle.script_facts.proofs.Lists.{within}
-use Rattle.script_facts.proofs.Flat.{map_at, at_map, map_length, map_same, map_map, flat_of_map, sum_places}
+use Rattle.script_facts.proofs.Flat.{map_at, at_map, map_same, map_map, flat_of_map, sum_places}
 use Rattle.report_fits.proofs.Reported.{told_outcome}
 use Rattle.report_fits.proofs.Orders as orders
 use Rattle.script_facts.proofs.Known.{Known}
@@ -72,7 +72,7 @@ module _ (g : Given) where
   placed_is k line e = orders.placed_is (plan_of g.run.script) g.run.core g.run.orders g.run.tells.are_orders few_links (known.inside g.run) k (took_at g.took k) line (line_low k line e) (g.reports.links k line e)
 
   pub line_length : (k : ℕ) (line : LinkLine) → slice_get g.report.links k ≡ Some line → length line.order ≡ length (accepted_of k)
-  line_length k line e = ap length (order_is k line e) ∙ map_length orders.label_of (accepted_of k)
+  line_length k line e = ap length (order_is k line e) ∙ length-map (accepted_of k) orders.label_of
 
   pub lines_sum : sum_by (λ (line : LinkLine). length line.order) g.report.links ≡ all_accepted links g.run.orders
   lines_sum = sum_places (λ (line : LinkLine). length line.order) (λ k. length (accepted_of k)) g.report.links 0 links g.reports.line_each

@@ -1,5 +1,6 @@
 -- The orders of the links are those that the place words tell.
 use Rattle.std.proofs.Common.{◌≡◌, ℕ, ◌+◌, ◌*◌, ◌<◌, ◌≤◌, ◌⊎◌, inl, inr, true, false, not, nat_le, List, length, map, count_by, slice_get, slice_index, unwrap_or, option_map, Option, Some, refl, ap, sym, ◌∙◌, subst, arith}
+use Rattle.std.proofs.lemmas.List.{length-map}
 use Rattle.std.proofs.lemmas.Bool.Decides.{nat_tests}
 use Rattle.std.proofs.lemmas.Option.{slice_get_within, slice_get_past}
 use Rattle.sock_words.specs.declared.plain.Plan.{Plan}
@@ -14,7 +15,7 @@ use Rattle.seat_programs.specs.Runs.{from_to}
 use Rattle.seat_programs.specs.Scripts.{place_words}
 use Rattle.seat_programs.specs.ToldCalls.{Accepted, Order, AreOrders, StandsAt, label as number_of}
 use Rattle.script_facts.proofs.Lists.{within, some_is}
-use Rattle.script_facts.proofs.Flat.{same_places, map_at, at_map, map_length, from_to_at, from_to_length, count_first}
+use Rattle.script_facts.proofs.Flat.{same_places, map_at, at_map, from_to_at, from_to_length, count_first}
 use Rattle.report_fits.proofs.PlaceValues.{is_place}
 
 -- ## The word of a number
@@ -28,7 +29,7 @@ word_here p ws n low =
 word_beyond : (p : Plan) (ws : List ℕ) (n : ℕ) → 8 * p.operations ≤ n → word_at (place_words p ws) n ≡ no_place
 word_beyond p ws n high =
     let f : ℕ → PlaceWord = λ l. record { 0 = slice_index ws (place_index p l) } in
-    let long : length (map f (from_to 0 (8 * p.operations))) ≤ n = omega (arith, high, map_length f (from_to 0 (8 * p.operations)), from_to_length 0 (8 * p.operations)) in
+    let long : length (map f (from_to 0 (8 * p.operations))) ≤ n = omega (arith, high, length-map (from_to 0 (8 * p.operations)) f, from_to_length 0 (8 * p.operations)) in
     ap (λ (o : Option PlaceWord). unwrap_or (option_map (λ (word : PlaceWord). word.0) o) no_place) (slice_get_past (map f (from_to 0 (8 * p.operations))) n long)
 
 -- ## Labels
@@ -134,7 +135,7 @@ module _ (p : Plan) (c : Core) (orders : ℕ → Order) (are : AreOrders p c ord
   pub placed_is : (k : ℕ) (bytes : List ℕ) (line : LinkLine) → k < p.links → IsLineOf Words k bytes line → line.placed ≡ (orders k).placed
   placed_is k bytes line low h =
       h.placed ∙ ap (count_by (is_placed Words)) (order_is k bytes line low h)
-      ∙ count_first (is_placed Words) (map label_of (orders k).accepted) (orders k).placed (omega (arith, are.within k low, map_length label_of (orders k).accepted)) (placed_at k low)
+      ∙ count_first (is_placed Words) (map label_of (orders k).accepted) (orders k).placed (omega (arith, are.within k low, length-map (orders k).accepted label_of)) (placed_at k low)
 
   -- ## The words as they are printed
 

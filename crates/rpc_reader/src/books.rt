@@ -10,7 +10,7 @@ use call_table::{Call, Ending, on_response};
 use corr_id::IdSeat;
 use prpc_frame::{Frame, IoBuf, NoMemory};
 use rpc_client::Told;
-use sock_words::{ERESPONSE, OutBytes, Outcome};
+use sock_words::{ERESPONSE, Outcome, OwnedBytes};
 use std::alloc::Global;
 
 /// A reader's part for calls: its seat of the ids, the responses that came before their ranges were made, the oldest first, what it
@@ -25,12 +25,12 @@ pub struct AnswerSeat {
 }
 
 // A copy of these bytes.
-fn copied(alloc: Global, bytes: &IoBuf) -> Result<OutBytes, NoMemory>
+fn copied(alloc: Global, bytes: &IoBuf) -> Result<OwnedBytes, NoMemory>
     ensures { IfOk result (λ out. out ≡ bytes.now.items) }
 {
     let mut copy = vec![in alloc; 0; bytes.len()]?;
     bytes.copy_to(&mut copy);
-    Ok(OutBytes::new(copy))
+    Ok(OwnedBytes::new(copy))
 }
 
 // The outcome of the call with this id that ends so.

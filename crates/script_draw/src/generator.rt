@@ -6,9 +6,9 @@ ghost use Rattle.brpc_model.specs.ScriptText.{script_text};
 ghost use Rattle.script_items.specs.Meaning.{item};
 
 use crate::draws::Draws;
-use script_items::{Bytes, CallLine, Line, Name, Names, OpenLine, SendLine};
+use script_items::{CallLine, Line, Name, Names, OpenLine, SendLine};
 use sock_io::NoMemory;
-use sock_words::Shape;
+use sock_words::{OwnedBytes, Shape};
 use std::alloc::{AllocError, Global};
 
 /// A name.
@@ -19,10 +19,10 @@ fn make_name(alloc: Global, text: &[u8]) -> Result<Name, AllocError>
 }
 
 /// Bytes of a line.
-fn make_bytes(alloc: Global, text: &[u8]) -> Result<Bytes, AllocError>
+fn make_bytes(alloc: Global, text: &[u8]) -> Result<OwnedBytes, AllocError>
     ensures { IfOk result (λ b. b ≡ text.now) }
 {
-    Ok(Bytes::new(Vec::from_slice(alloc, text)?))
+    Ok(OwnedBytes::new(Vec::from_slice(alloc, text)?))
 }
 
 /// An `open`.
@@ -79,7 +79,7 @@ fn send_line(alloc: Global, name: &[u8], bytes: Vec<u8>) -> Result<Line, AllocEr
     ensures { IfOk result (λ l. item l ≡ model.Send name.now bytes.items) }
 {
     let name = make_name(alloc, name)?;
-    let bytes = Bytes::new(bytes);
+    let bytes = OwnedBytes::new(bytes);
     Ok(Line::Send(SendLine { name, bytes }))
 }
 
@@ -100,8 +100,8 @@ fn call_line(
         names,
         service,
         method,
-        payload: Bytes::new(payload),
-        attachment: Bytes::new(Vec::new(alloc)),
+        payload: OwnedBytes::new(payload),
+        attachment: OwnedBytes::new(Vec::new(alloc)),
         retry,
     }))
 }

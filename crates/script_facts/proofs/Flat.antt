@@ -29,10 +29,6 @@ at_map f [] i y e = absurd (cc)
 at_map f (x ∷ xs) zero y e = (x, refl, some_is (f x) y e)
 at_map f (x ∷ xs) (suc i) y e = at_map f xs i y e
 
-pub map_length : {A B : Type 0} (f : A → B) (xs : List A) → length (map f xs) ≡ length xs
-map_length f [] = refl
-map_length f (x ∷ xs) = ap suc (map_length f xs)
-
 -- functions that agree on the elements
 pub map_same : {A B : Type 0} (f g : A → B) (xs : List A) → ((x : A) → Has xs x → f x ≡ g x) → map f xs ≡ map g xs
 map_same f g [] h = refl

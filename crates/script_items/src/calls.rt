@@ -7,7 +7,6 @@ ghost use Rattle.script_items.specs.Answers.{Answers};
 ghost use Rattle.script_items.specs.Meaning.{call_of};
 ghost use Rattle.script_items.specs.Calls.{bodies_of};
 
-use crate::bytes::Bytes;
 use crate::fault::{BAD_LENGTH, BAD_NAME, BAD_NUMBER, BAD_WORDS, LineFault, both};
 use crate::line::{CallLine, Target};
 use crate::names::Names;
@@ -15,6 +14,7 @@ use crate::numbers::read_wide;
 use crate::options::{Command, read_attachment, read_retry};
 use crate::parts::{read_hex, read_method, read_name, read_service};
 use crate::words::{split_last, split_once};
+use sock_words::OwnedBytes;
 use std::alloc::Global;
 
 /// One name, or two parted by a comma.
@@ -32,7 +32,11 @@ fn read_names(alloc: Global, word: &[u8]) -> Result<Names, LineFault>
 }
 
 /// The payload and the attachment of a call, of at most 65,280 bytes together.
-fn read_bodies(alloc: Global, payload: &[u8], options: &[u8]) -> Result<(Bytes, Bytes), LineFault>
+fn read_bodies(
+    alloc: Global,
+    payload: &[u8],
+    options: &[u8],
+) -> Result<(OwnedBytes, OwnedBytes), LineFault>
     ensures { Answers (λ p. p) result (bodies_of payload.now (words options.now)) }
 {
     let (payload, attachment) = both(read_hex(alloc, payload), read_attachment(alloc, options))?;

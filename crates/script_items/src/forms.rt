@@ -5,10 +5,9 @@ ghost use Rattle.brpc_model.specs.Lines.{shape_in, of_name, of_number, first_ite
 ghost use Rattle.script_items.specs.Answers.{Answers, Behind};
 ghost use Rattle.script_items.specs.Meaning.{item};
 
-use crate::bytes::Name;
 use crate::calls::{read_call, read_target};
 use crate::fault::{BAD_NUMBER, BAD_WORDS, LineFault, both};
-use crate::line::{Line, OpenLine, SendLine, Target};
+use crate::line::{Line, Name, OpenLine, SendLine, Target};
 use crate::numbers::read_number;
 use crate::options::{Command, read_end, read_number_option, read_serve};
 use crate::parts::{read_kind, read_message, read_name, read_seat};

@@ -1,7 +1,6 @@
 //! What one line of a script says, how a line is read by itself, and how its words are written.
 #![tactic(auto)]
 
-mod bytes;
 mod calls;
 mod fault;
 mod forms;
@@ -15,9 +14,8 @@ mod sizes;
 mod words;
 mod writing;
 
-pub use bytes::{Bytes, Name};
 pub use fault::LineFault;
-pub use line::{CallLine, Line, OpenLine, Seat, SendLine, Target};
+pub use line::{CallLine, Line, Name, OpenLine, Seat, SendLine, Target};
 pub use names::Names;
 pub use numbers::number;
 pub use read::read_line;
@@ -25,5 +23,5 @@ pub use sizes::{
     DEFAULT_FIRST, DEFAULT_REQUESTS, DEFAULT_SLOTS, first_version, is_call, is_client, is_open,
     is_operation, request_count, slot_count,
 };
-pub use sock_words::Shape;
+pub use sock_words::{OwnedBytes, Shape};
 pub use writing::{push_hex, push_hex_word, push_number, push_number_word, push_word};

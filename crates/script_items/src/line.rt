@@ -1,6 +1,8 @@
-use crate::bytes::{Bytes, Name};
 use crate::names::Names;
-use sock_words::{Kind, Shape};
+use sock_words::{Kind, OwnedBytes, Shape};
+
+/// The name of a socket: in a script that was read, 1 to 16 letters, digits or `_`.
+pub type Name = OwnedBytes;
 
 /// Whose steps a line of the schedule asks for: a client by its number, from 1, or the reader of a
 /// link by the link's number, from 0.
@@ -21,18 +23,18 @@ pub struct OpenLine {
 #[derive(Debug, Drop)]
 pub struct SendLine {
     pub name: Name,
-    pub bytes: Bytes,
+    pub bytes: OwnedBytes,
 }
 
 /// `call NAME[,NAME] SERVICE.METHOD HEX [att=HEX] [retry=N]`: a call.
 #[derive(Debug, Drop)]
 pub struct CallLine {
     pub names: Names,
-    pub service: Bytes,
-    pub method: Bytes,
+    pub service: OwnedBytes,
+    pub method: OwnedBytes,
     /// The payload, of at most 65,280 bytes together with the attachment.
-    pub payload: Bytes,
-    pub attachment: Bytes,
+    pub payload: OwnedBytes,
+    pub attachment: OwnedBytes,
     /// How often the call is tried again, 0 to 6.
     pub retry: u8,
 }

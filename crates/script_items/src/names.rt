@@ -1,7 +1,7 @@
 ghost use Rattle.std.specs.Prelude.{◌≡◌, ℕ, List, Option, Some, None, [], ◌∷◌};
 ghost use Rattle.script_items.specs.NameList.{name_list};
 
-use crate::bytes::Name;
+use crate::line::Name;
 use std::marker::Model;
 
 /// The one or two names of a call. Contracts see the list of them.

@@ -6,11 +6,11 @@ ghost use Rattle.script_items.specs.declared.fault.LineFault.TheVariants as faul
 ghost use Rattle.script_items.specs.Answers.{Answers};
 ghost use Rattle.script_items.specs.Options.{keys_of, plain_of, IsRepeated, end_in};
 
-use crate::bytes::Bytes;
 use crate::fault::{BAD_WORDS, LineFault};
 use crate::numbers::read_number;
 use crate::parts::read_hex;
 use crate::words::{behind, first_word};
+use sock_words::OwnedBytes;
 use std::alloc::Global;
 
 /// A line that has options.
@@ -152,11 +152,11 @@ pub fn read_serve(options: &[u8]) -> Result<bool, LineFault>
 
 /// The attachment of a call, `att=HEX`; none where the option is missing. `BAD_HEX` where its value spells no bytes,
 /// `BAD_WORDS` where it is given twice. How long it may be is judged with the call.
-pub fn read_attachment(alloc: Global, options: &[u8]) -> Result<Bytes, LineFault>
+pub fn read_attachment(alloc: Global, options: &[u8]) -> Result<OwnedBytes, LineFault>
     ensures { Answers (λ b. b) result (option_in hex_in [] (values_of (codes "att=") (words options.now))) }
 {
     match value_of(options, b"att=")? {
-        None => Ok(Bytes::new(Vec::new(alloc))),
+        None => Ok(OwnedBytes::new(Vec::new(alloc))),
         Some(value) => read_hex(alloc, value),
     }
 }

@@ -7,12 +7,11 @@ ghost use Rattle.script_items.specs.Answers.{Answers, Behind};
 ghost use Rattle.script_items.specs.Meaning.{seat_of};
 ghost use Rattle.script_items.specs.Parts.{message_in, reader_in, client_in};
 
-use crate::bytes::{Bytes, Name};
 use crate::fault::{BAD_HEX, BAD_LENGTH, BAD_NAME, BAD_NUMBER, LineFault};
-use crate::line::Seat;
+use crate::line::{Name, Seat};
 use crate::numbers::read_number;
 use hex::FromHexError;
-use sock_words::Kind;
+use sock_words::{Kind, OwnedBytes};
 use std::alloc::Global;
 
 /// A letter, a digit or `_`.
@@ -49,14 +48,14 @@ fn read_spelled(
     word: &[u8],
     most: usize,
     are_all_allowed: bool,
-) -> Result<Bytes, LineFault>
+) -> Result<OwnedBytes, LineFault>
     ensures { Answers (λ n. n) result (
         if has_bytes word.now && nat_le (length word.now) most && are_all_allowed then Ok word.now else Err 7) }
 {
     if !(is_sized(word, most) && are_all_allowed) {
         return Err(BAD_NAME);
     }
-    Ok(Bytes::new(Vec::from_slice(alloc, word)?))
+    Ok(OwnedBytes::new(Vec::from_slice(alloc, word)?))
 }
 
 /// A name: 1 to 16 letters, digits or `_`.
@@ -67,38 +66,38 @@ pub fn read_name(alloc: Global, word: &[u8]) -> Result<Name, LineFault>
 }
 
 /// A method: 1 to 64 letters, digits or `_`.
-pub fn read_method(alloc: Global, word: &[u8]) -> Result<Bytes, LineFault>
+pub fn read_method(alloc: Global, word: &[u8]) -> Result<OwnedBytes, LineFault>
     ensures { Answers (λ n. n) result (method_in word.now) }
 {
     read_spelled(alloc, word, 64, has_name_bytes(word))
 }
 
 /// A service: 1 to 64 letters, digits, `_` or dots.
-pub fn read_service(alloc: Global, word: &[u8]) -> Result<Bytes, LineFault>
+pub fn read_service(alloc: Global, word: &[u8]) -> Result<OwnedBytes, LineFault>
     ensures { Answers (λ n. n) result (service_in word.now) }
 {
     read_spelled(alloc, word, 64, has_service_bytes(word))
 }
 
 /// The bytes that pairs of hexadecimal digits spell, of either case; `-` spells none.
-pub fn read_hex(alloc: Global, word: &[u8]) -> Result<Bytes, LineFault>
+pub fn read_hex(alloc: Global, word: &[u8]) -> Result<OwnedBytes, LineFault>
     ensures { Answers (λ b. b) result (hex_in word.now) }
 {
     if word.is_empty() {
         return Err(BAD_HEX);
     }
     if word == b"-".as_slice() {
-        return Ok(Bytes::new(Vec::new(alloc)));
+        return Ok(OwnedBytes::new(Vec::new(alloc)));
     }
     match hex::decode(alloc, word) {
-        Ok(bytes) => Ok(Bytes::new(bytes)),
+        Ok(bytes) => Ok(OwnedBytes::new(bytes)),
         Err(FromHexError::OutOfMemory) => Err(LineFault::NoMemory),
         Err(_) => Err(BAD_HEX),
     }
 }
 
 /// The bytes of a message, 1 to 65,536 in hexadecimal.
-pub fn read_message(alloc: Global, word: &[u8]) -> Result<Bytes, LineFault>
+pub fn read_message(alloc: Global, word: &[u8]) -> Result<OwnedBytes, LineFault>
     ensures { Answers (λ b. b) result (message_in word.now) }
 {
     let bytes = read_hex(alloc, word)?;

@@ -18,6 +18,6 @@ pub use error::ScriptError;
 pub use read::read_script;
 pub use script::Script;
 pub use script_items::{
-    Bytes, CallLine, Line, Name, Names, OpenLine, Seat, SendLine, Shape, Target,
+    CallLine, Line, Name, Names, OpenLine, OwnedBytes, Seat, SendLine, Shape, Target,
 };
 pub use sock_message::{BlockPool, NoMemory};

@@ -4,8 +4,8 @@ ghost use Rattle.script_items.specs.Meaning.{item};
 ghost use Rattle.script_run.specs.Outlines.{outlined, meant, bare_shape, bare_call};
 
 use crate::mark::Mark;
-use script_items::{Bytes, CallLine, Line, Name, Names, OpenLine, SendLine, Target};
-use sock_words::Shape;
+use script_items::{CallLine, Line, Name, Names, OpenLine, SendLine, Target};
+use sock_words::{OwnedBytes, Shape};
 use std::alloc::{AllocError, Global};
 
 /// What is wanted of a line.
@@ -56,10 +56,10 @@ fn bare_call(alloc: Global) -> Line
 {
     Line::Call(CallLine {
         names: Names::new(Name::new(Vec::new(alloc)), None),
-        service: Bytes::new(Vec::new(alloc)),
-        method: Bytes::new(Vec::new(alloc)),
-        payload: Bytes::new(Vec::new(alloc)),
-        attachment: Bytes::new(Vec::new(alloc)),
+        service: OwnedBytes::new(Vec::new(alloc)),
+        method: OwnedBytes::new(Vec::new(alloc)),
+        payload: OwnedBytes::new(Vec::new(alloc)),
+        attachment: OwnedBytes::new(Vec::new(alloc)),
         retry: 0,
     })
 }
@@ -72,7 +72,7 @@ fn line_of(alloc: Global, mark: Mark) -> Result<Line, AllocError>
         Mark::Open(name) => Ok(bare_open(Box::into_inner(name))),
         Mark::Client => Ok(Line::Client),
         Mark::Send(count) => {
-            let bytes = Bytes::new(vec![in alloc; 0u8; count]?);
+            let bytes = OwnedBytes::new(vec![in alloc; 0u8; count]?);
             let name = Name::new(Vec::new(alloc));
             Ok(Line::Send(SendLine { name, bytes }))
         }

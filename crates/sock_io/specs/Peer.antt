@@ -5,7 +5,7 @@ use Rattle.sock_io.specs.declared.ending.Ending.{Ending}
 use Rattle.sock_io.specs.declared.ending.Ending.TheVariants as ending
 use Rattle.sock_io.specs.declared.link.Served.{Served}
 use Rattle.sock_io.specs.declared.link.Served.TheVariants as served
-use Rattle.sock_io.specs.declared.stream.NoMemory.{NoMemory}
+use Rattle.sock_words.specs.declared.memory.NoMemory.{NoMemory}
 
 -- the other end of a link inside this process
 pub record PeerState : Type 0 where

@@ -5,7 +5,7 @@ ghost use Rattle.sock_io.specs.Memory.{TakesWaiting};
 use crate::ending::Ending;
 use crate::link::{In, Take};
 use crate::mem_link::MemIn;
-use crate::stream::NoMemory;
+use sock_words::NoMemory;
 use std::alloc::Global;
 
 /// A reading half in memory that gives stated bytes: at once, or when it is told that they are due. What it offers it

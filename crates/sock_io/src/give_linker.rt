@@ -11,8 +11,7 @@ use crate::link::{Ends, LinkSpec, Linker, LinkerTells, OpenFault, Out};
 use crate::mem_link::{MemOut, NoPeer};
 use crate::mem_links::MemLinks;
 use crate::shaped::Shaped;
-use crate::stream::NoMemory;
-use sock_words::Shape;
+use sock_words::{NoMemory, Shape};
 use std::alloc::Global;
 use std::marker::Model;
 

@@ -7,8 +7,7 @@ ghost use Rattle.sock_io.specs.Meeting.{AreEnds, IsAskedPeer, MeetOut, MeetStep}
 ghost use Rattle.sock_io.specs.Peer.{PeerState, ServeStep, IsNewPeer};
 ghost use Rattle.sock_io.specs.Told.{KeepsOthers, SaysAsBefore};
 
-use crate::stream::NoMemory;
-use sock_words::Shape;
+use sock_words::{NoMemory, Shape};
 use std::sync::Wait;
 
 /// What a put answers.

@@ -7,8 +7,8 @@ use crate::ending::Ending;
 use crate::link::{In, Out, Peer, Put, Ready, Served, Take};
 use crate::mem_source::{copy_front, from_place};
 use crate::noted_links::noted;
-use crate::stream::NoMemory;
 use ghosts::Ghosts;
+use sock_words::NoMemory;
 use std::alloc::Global;
 use std::marker::Model;
 

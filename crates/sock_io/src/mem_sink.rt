@@ -4,7 +4,8 @@ ghost use Rattle.sock_io.specs.Causes.{HasCause, next_number};
 
 use crate::counts::{is_listed, next_call, risen};
 use crate::room::with_room;
-use crate::stream::{Failed, NoMemory, Sink};
+use crate::stream::{Failed, Sink};
+use sock_words::NoMemory;
 use std::alloc::Global;
 use std::marker::Model;
 

@@ -1,6 +1,6 @@
 ghost use Rattle.std.specs.Prelude.{◌≡◌, ◌≤◌, [], IfOk, vec_capacity};
 
-use crate::stream::NoMemory;
+use sock_words::NoMemory;
 use std::alloc::Global;
 
 /// No bytes, with the room for so many.

@@ -11,9 +11,8 @@ use crate::link::{Out, Put, Ready};
 use crate::noted_links::noted;
 use crate::room::with_room;
 use crate::shape::{does_fail, does_pause};
-use crate::stream::NoMemory;
 use ghosts::Ghosts;
-use sock_words::Shape;
+use sock_words::{NoMemory, Shape};
 use std::alloc::Global;
 use std::marker::Model;
 

@@ -7,10 +7,6 @@ ghost use Rattle.sock_io.specs.Causes.{HasCause};
 #[derive(Clone, Copy, Debug, PartialEq, Eq)]
 pub struct Failed;
 
-/// Memory ran out.
-#[derive(Clone, Copy, Debug, PartialEq, Eq)]
-pub struct NoMemory;
-
 /// Where bytes come from.
 ///
 /// It has a count of faults that never falls: it rises where a call answers `Failed`, and stands still otherwise. A

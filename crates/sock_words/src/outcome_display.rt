@@ -3,10 +3,11 @@ ghost use Rattle.sock_words.specs.OutcomeText.{outcome_text};
 ghost use Rattle.sock_words.specs.Printed.{hex_text};
 
 use crate::hex_digits::HexDigits;
-use crate::outcome::{OutBytes, Outcome};
+use crate::outcome::Outcome;
+use crate::owned_bytes::OwnedBytes;
 use std::fmt;
 
-impl fmt::Display for OutBytes {
+impl fmt::Display for OwnedBytes {
     ghost output = { λ bytes. Some (hex_text bytes) };
 
     fn fmt<W: fmt::Write>(&self, f: &mut fmt::Formatter<W>) -> fmt::Result {

@@ -2,25 +2,25 @@ ghost use Rattle.std.specs.Prelude.{◌≡◌, ℕ, List};
 
 use std::marker::Model;
 
-/// Bytes that a line carries: a message, a payload, an attachment, or the name of a socket, a
-/// service or a method. Contracts see the list of them.
+/// Bytes that a value owns: a message, a payload, an attachment or a name of a line of a script, or
+/// what a call's response brought. Contracts see the list of them.
 #[derive(Debug, Drop)]
-pub struct Bytes {
+pub struct OwnedBytes {
     bytes: Vec<u8>,
 }
 
-impl Model for Bytes {
+impl Model for OwnedBytes {
     ghost Value = { List ℕ };
 
     ghost view = { λ b. b.bytes.items };
 }
 
-impl Bytes {
+impl OwnedBytes {
     /// These bytes.
     pub fn new(bytes: Vec<u8>) -> Self
         ensures { result ≡ bytes.items }
     {
-        Bytes { bytes }
+        OwnedBytes { bytes }
     }
 
     /// The bytes as a slice.
@@ -30,6 +30,3 @@ impl Bytes {
         self.bytes.as_slice()
     }
 }
-
-/// The name of a socket: in a script that was read, 1 to 16 letters, digits or `_`.
-pub type Name = Bytes;
