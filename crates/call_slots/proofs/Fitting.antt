@@ -10,7 +10,8 @@ use Rattle.corr_core.specs.declared.marks.Plan.{Plan as IdPlan}
 use Rattle.corr_core.specs.declared.marks.Hand.TheVariants.{Empty}
 use Rattle.corr_core.specs.declared.marks.Token.TheVariants.{Locked}
 use Rattle.corr_core.proofs.Slots.{is_lock}
-use Rattle.id_rule.specs.Lawful.{id_index, local}
+use Rattle.corr_core.specs.Layout.{id_index}
+use Rattle.id_rule.specs.Lawful.{local}
 use Rattle.id_rule.proofs.Allowed as allowed
 use Rattle.sock_message.specs.Asked.{Asked}
 use Rattle.seat_programs.specs.Asides.{Step, PutCall, TakeCall}
@@ -25,7 +26,7 @@ use Rattle.call_points.specs.Steps.{step_of, aside_of, aside_in}
 use Rattle.call_points.specs.declared.aside.Aside as code
 use Rattle.call_points.specs.declared.aside.Aside.TheVariants as steps
 use Rattle.call_slots.specs.Slots.{SlotState, calls_with}
-use Rattle.call_slots.specs.Words.{place_of, IsWithin, WordFits}
+use Rattle.call_slots.specs.Words.{index_of, IsWithin, WordFits}
 use Rattle.call_slots.specs.Steps.{StepFits}
 use Rattle.sock_words.specs.Words.{bit}
 
@@ -85,7 +86,7 @@ module _ (p : Plan) (q : IdPlan) (c : Core) (us : List IdView) (sound : SoundIds
   within asked (steps.TakeBytes l room) on may = on
   within asked _ on may = may.0
 
-  room : (asked : Asked) (step : code.Aside) → MayId p q u (step_of asked step) → WordFits step (get_or c.calls.words (place_of q step) 0)
+  room : (asked : Asked) (step : code.Aside) → MayId p q u (step_of asked step) → WordFits step (get_or c.calls.words (index_of q step) 0)
   room asked (steps.MakeId i range) may = let low = may.2 in (omega (arith, low), may.3)
   room asked (steps.LockId i from) may = may.1
   room asked (steps.PostId i from e) may = may.3
@@ -108,7 +109,7 @@ module _ (p : Plan) (q : IdPlan) (c : Core) (us : List IdView) (sound : SoundIds
     pub may_fits : (asked : Asked) (step : code.Aside) → IsOnWord step → MayId p q u (step_of asked step) → StepFits s step
     may_fits asked step on may = (
       subst (λ (r : IdPlan). IsWithin r step) plan_is (within asked step on may),
-      subst (λ (r : IdPlan). WordFits step (get_or s.words (place_of r step) 0)) plan_is (subst (λ ws. WordFits step (get_or ws (place_of q step) 0)) words_are (room asked step may)),
+      subst (λ (r : IdPlan). WordFits step (get_or s.words (index_of r step) 0)) plan_is (subst (λ ws. WordFits step (get_or ws (index_of q step) 0)) words_are (room asked step may)),
     )
 
     -- the slot of a call that is put or taken is one of the table

@@ -4,7 +4,7 @@ use mathlib.Core.Option as core
 use lib.ListN.{get_elem?}
 use Rattle.std.proofs.lemmas.List.{set-get_or}
 use Rattle.corr_core.specs.declared.marks.Plan.{Plan}
-use Rattle.id_rule.specs.Lawful.{tag_index, all_words}
+use Rattle.corr_core.specs.Layout.{tag_index, all_words}
 use Rattle.sock_message.specs.Asked.{Asked}
 use Rattle.seat_programs.specs.Asides as asides
 use Rattle.seat_programs.specs.Beside.{call_at}
@@ -13,16 +13,16 @@ use Rattle.call_points.specs.declared.aside.Aside as code
 use Rattle.call_points.specs.declared.aside.Aside.TheVariants.{PutCall, LoadCall, LoadAt, LoadIdWord, TakeCall, TakeBytes}
 use Rattle.call_points.specs.Steps.{step_of}
 use Rattle.call_slots.specs.Slots.{SlotState, calls_with, as_found}
-use Rattle.call_slots.specs.Words.{place_of, next_of, IsWithin}
+use Rattle.call_slots.specs.Words.{index_of, next_of, IsWithin}
 use Rattle.call_slots.specs.Steps.{word_found, calls_behind, Makes}
 
 module _ (s : SlotState) where
   -- the word that a step finds, and the table behind it
   abbrev pub found_of : code.Aside → ℕ
-  found_of step = get_or s.words (place_of s.plan step) 0
+  found_of step = get_or s.words (index_of s.plan step) 0
 
   abbrev pub stepped : code.Aside → SlotState
-  stepped step = record { plan = s.plan; words = set s.words (place_of s.plan step) (next_of step (found_of step)); homes = s.homes }
+  stepped step = record { plan = s.plan; words = set s.words (index_of s.plan step) (next_of step (found_of step)); homes = s.homes }
 
   abbrev With : List ℕ → SlotState
   With words = record { plan = s.plan; words = words; homes = s.homes }
@@ -33,15 +33,15 @@ module _ (s : SlotState) where
 
   pub makes : (asked : Asked) (step : code.Aside) → IsWithin s.plan step → Makes s (step_of asked step) (word_found (step_of asked step) (found_of step)) (stepped step)
   makes asked (PutCall i) h = absurd h
-  makes asked (LoadCall o) h = record { finds = λ w g e t. refl; changes = λ w g e. ap (λ ws. calls_with (With ws) w g e) (loads (place_of s.plan (LoadCall o))) }
-  makes asked (LoadAt o) h = record { finds = λ w g e t. refl; changes = λ w g e. ap (λ ws. calls_with (With ws) w g e) (loads (place_of s.plan (LoadAt o))) }
-  makes asked (LoadIdWord i) h = record { finds = λ w g e t. refl; changes = λ w g e. ap (λ ws. calls_with (With ws) w g e) (loads (place_of s.plan (LoadIdWord i))) }
+  makes asked (LoadCall o) h = record { finds = λ w g e t. refl; changes = λ w g e. ap (λ ws. calls_with (With ws) w g e) (loads (index_of s.plan (LoadCall o))) }
+  makes asked (LoadAt o) h = record { finds = λ w g e t. refl; changes = λ w g e. ap (λ ws. calls_with (With ws) w g e) (loads (index_of s.plan (LoadAt o))) }
+  makes asked (LoadIdWord i) h = record { finds = λ w g e t. refl; changes = λ w g e. ap (λ ws. calls_with (With ws) w g e) (loads (index_of s.plan (LoadIdWord i))) }
   makes asked (TakeCall i) h = absurd h
   makes asked (TakeBytes k room) h = absurd h
   makes asked _ h = record { finds = λ w g e t. refl; changes = λ w g e. refl }
 
 -- the word of a step is one of the table
-pub is_inside : (p : Plan) (step : code.Aside) → IsWithin p step → place_of p step < all_words p
+pub is_inside : (p : Plan) (step : code.Aside) → IsWithin p step → index_of p step < all_words p
 is_inside p (PutCall i) h = absurd h
 is_inside p (TakeCall i) h = absurd h
 is_inside p (TakeBytes k room) h = absurd h

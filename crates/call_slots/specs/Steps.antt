@@ -8,7 +8,7 @@ use Rattle.seat_programs.specs.Asides.{Step, Found, Taking}
 use Rattle.seat_programs.specs.Beside.{found_in, calls_after}
 use Rattle.call_points.specs.declared.aside.Aside.{Aside}
 use Rattle.call_slots.specs.Slots.{SlotState, calls_with}
-use Rattle.call_slots.specs.Words.{place_of, IsWithin, WordFits}
+use Rattle.call_slots.specs.Words.{index_of, IsWithin, WordFits}
 
 -- a word that a step found, as the programs have it; a call and bytes of a link are none
 abbrev pub word_found : (step : Step) → ℕ → Option (Found step)
@@ -40,4 +40,4 @@ pub record Makes (old : SlotState) (step : Step) (found : Option (Found step)) (
 
 -- the step is one on a word of the table, and the word that it stores has room for its parts
 abbrev pub StepFits : SlotState → Aside → Type 0
-StepFits s step = IsWithin s.plan step × WordFits step (slice_index s.words (place_of s.plan step))
+StepFits s step = IsWithin s.plan step × WordFits step (slice_index s.words (index_of s.plan step))

@@ -2,29 +2,29 @@
 use Rattle.std.specs.Prelude.{ℕ, ◌≡◌, ◌+◌, ◌<◌, ◌≤◌, ◌==◌, if◌then◌else◌, IsTrue}
 use Rattle.corr_core.specs.declared.marks.Plan.{Plan}
 use Rattle.corr_core.specs.Word.{parts, made_word, posted_word, unlocked_word, free_word}
-use Rattle.id_rule.specs.Lawful.{tag_index, id_index, call_index, at_index}
+use Rattle.corr_core.specs.Layout.{tag_index, id_index, call_index, at_index}
 use Rattle.seat_programs.specs.Posts.{packed}
 use Rattle.id_points.specs.Ids.{id_of}
 use Rattle.call_points.specs.declared.aside.Aside.{Aside}
 use Rattle.call_points.specs.declared.aside.Aside.TheVariants.{ClaimId, PutCall, MakeId, StoreCall, LoadCall, StoreAt, LoadAt, LoadIdWord, LockId, PostId, UnlockId, EndId, FreeId, TakeCall, TakeBytes}
 use Rattle.sock_words.specs.Words.{bit}
 
-abbrev pub place_of : Plan → Aside → ℕ
-place_of p (ClaimId i) = tag_index i
-place_of p (PutCall i) = tag_index i
-place_of p (MakeId i range) = id_index i
-place_of p (StoreCall o id) = call_index p o
-place_of p (LoadCall o) = call_index p o
-place_of p (StoreAt o w) = at_index p o
-place_of p (LoadAt o) = at_index p o
-place_of p (LoadIdWord i) = id_index i
-place_of p (LockId i from) = id_index i
-place_of p (PostId i from e) = id_index i
-place_of p (UnlockId i from advance) = id_index i
-place_of p (EndId i) = id_index i
-place_of p (FreeId i) = tag_index i
-place_of p (TakeCall i) = 0
-place_of p (TakeBytes k room) = 0
+abbrev pub index_of : Plan → Aside → ℕ
+index_of p (ClaimId i) = tag_index i
+index_of p (PutCall i) = tag_index i
+index_of p (MakeId i range) = id_index i
+index_of p (StoreCall o id) = call_index p o
+index_of p (LoadCall o) = call_index p o
+index_of p (StoreAt o w) = at_index p o
+index_of p (LoadAt o) = at_index p o
+index_of p (LoadIdWord i) = id_index i
+index_of p (LockId i from) = id_index i
+index_of p (PostId i from e) = id_index i
+index_of p (UnlockId i from advance) = id_index i
+index_of p (EndId i) = id_index i
+index_of p (FreeId i) = tag_index i
+index_of p (TakeCall i) = 0
+index_of p (TakeBytes k room) = 0
 
 -- what an exchange from this word to that one leaves
 abbrev pub left_by : ℕ → ℕ → ℕ → ℕ

@@ -1,7 +1,7 @@
 use crate::opening::{empty_homes, opening_words};
-use crate::words::{step_word, tag_place};
+use crate::words::step_word;
 use call_points::Aside;
-use corr_core::Plan;
+use corr_core::{Plan, tag_index};
 use sock_message::{Call, NoMemory};
 use std::alloc::Global;
 use std::marker::Model;
@@ -63,8 +63,8 @@ impl CallSlots {
     pub fn is_claimed(&self, slot: u16) -> bool
         ensures { result ≡ true → Makes self.now (ClaimId slot) (some 1) self.now }
     {
-        let place = tag_place(slot);
-        place < self.words.len() && self.words[place] == 1
+        let index = tag_index(slot);
+        index < self.words.len() && self.words[index] == 1
     }
 
     /// The call goes into the home of a slot, and the slot's tag is answered.
@@ -73,7 +73,7 @@ impl CallSlots {
         ensures { Makes self.old (PutCall slot call) (some result) self.new }
     {
         self.homes[usize::from(slot)] = Some(call);
-        self.words[tag_place(slot)]
+        self.words[tag_index(slot)]
     }
 
     /// The call is taken out of its home, where it is there.

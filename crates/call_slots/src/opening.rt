@@ -1,7 +1,7 @@
 ghost use Rattle.std.specs.Prelude.{◌≡◌, ◌*◌, ◌++◌, replicate, None, IfOk, OnOk};
 ghost use Rattle.seat_programs.specs.Scripts.{opening_ids};
 
-use corr_core::Plan;
+use corr_core::{Plan, call_index, word_count};
 use sock_message::Call;
 use sock_words::IdWord;
 use std::alloc::{AllocError, Global};
@@ -40,7 +40,7 @@ pub fn opening_words(alloc: Global, plan: Plan) -> Result<Vec<u64>, AllocError>
 {
     let mut words = Vec::new(alloc);
     push_slots(&mut words, plan.slots)?;
-    push_zeros(&mut words, 2 * usize::from(plan.operations))?;
+    push_zeros(&mut words, word_count(&plan) - call_index(&plan, 0))?;
     Ok(words)
 }
 

@@ -1,39 +1,27 @@
 ghost use Rattle.std.specs.Prelude.{◌≡◌, ◌≢◌, ◌+◌, ◌<◌, ◌≤◌, IsTrue, length, slice_index, slice_set};
 ghost use Rattle.corr_core.specs.Word.{parts, made_word, posted_word, unlocked_word, free_word};
 ghost use Rattle.seat_programs.specs.Posts.{packed};
-ghost use Rattle.id_rule.specs.Lawful.{tag_index, call_index};
-ghost use Rattle.call_slots.specs.Words.{place_of, next_of, left_by, IsWithin, WordFits};
+ghost use Rattle.call_slots.specs.Words.{index_of, next_of, left_by, IsWithin, WordFits};
 ghost use Rattle.sock_words.specs.Words.{bit};
 
 use call_points::Aside;
-use corr_core::{Plan, claim_id, destroy_id, free_id, lock_id, make_id, unlock_id};
+use corr_core::{
+    Plan, at_index, call_index, claim_id, destroy_id, free_id, id_index, load_id_word, lock_id,
+    make_id, tag_index, unlock_id,
+};
 use sock_words::IdWord;
 
-/// The place of the tag of a slot.
-pub fn tag_place(slot: u16) -> usize
-    ensures { result ≡ tag_index slot }
-{
-    2 * usize::from(slot)
-}
-
-/// The place of the word of an operation's call.
-fn call_place(plan: Plan, operation: u16) -> usize
-    ensures { result ≡ call_index plan operation }
-{
-    2 * usize::from(plan.slots) + 2 * usize::from(operation)
-}
-
-/// The place of the word of a step.
-fn place_of(plan: Plan, step: Aside) -> usize
-    ensures { result ≡ place_of plan step }
+/// The index of the word of a step.
+fn index_of(plan: Plan, step: Aside) -> usize
+    ensures { result ≡ index_of plan step }
 {
     match step {
-        Aside::ClaimId(slot) | Aside::PutCall(slot) | Aside::FreeId(slot) => tag_place(slot),
-        Aside::MakeId(slot, _) | Aside::LoadIdWord(slot) => tag_place(slot) + 1,
-        Aside::LockId(slot, _) | Aside::PostId(slot, _, _) => tag_place(slot) + 1,
-        Aside::UnlockId(slot, _, _) | Aside::EndId(slot) => tag_place(slot) + 1,
-        Aside::StoreCall(operation, _) | Aside::LoadCall(operation) => call_place(plan, operation),
-        Aside::StoreAt(operation, _) | Aside::LoadAt(operation) => call_place(plan, operation) + 1,
+        Aside::ClaimId(slot) | Aside::PutCall(slot) | Aside::FreeId(slot) => tag_index(slot),
+        Aside::MakeId(slot, _) | Aside::LoadIdWord(slot) => id_index(slot),
+        Aside::LockId(slot, _) | Aside::PostId(slot, _, _) => id_index(slot),
+        Aside::UnlockId(slot, _, _) | Aside::EndId(slot) => id_index(slot),
+        Aside::StoreCall(operation, _) | Aside::LoadCall(operation) => call_index(&plan, operation),
+        Aside::StoreAt(operation, _) | Aside::LoadAt(operation) => at_index(&plan, operation),
         Aside::TakeCall(_) | Aside::TakeBytes(_, _) => 0,
     }
 }
@@ -124,20 +112,21 @@ fn next_word(step: Aside, found: u64) -> u64
         Aside::UnlockId(_, from, advance) => unlocked(found, from, advance),
         Aside::EndId(_) => ended(found),
         Aside::FreeId(_) => free_id(found).next,
-        Aside::LoadCall(_) | Aside::LoadAt(_) | Aside::LoadIdWord(_) => found,
+        Aside::LoadIdWord(_) => load_id_word(found).next,
+        Aside::LoadCall(_) | Aside::LoadAt(_) => found,
         Aside::PutCall(_) | Aside::TakeCall(_) | Aside::TakeBytes(_, _) => found,
     }
 }
 
 /// Makes a step on its word, and answers the word found.
 pub fn step_word(plan: Plan, words: &mut [u64], step: Aside) -> u64
-    requires there { place_of plan step < length words.old }
-    requires fits { WordFits step (slice_index words.old (place_of plan step)) }
-    ensures found { result ≡ slice_index words.old (place_of plan step) }
-    ensures words { words.new ≡ slice_set words.old (place_of plan step) (next_of step (slice_index words.old (place_of plan step))) }
+    requires there { index_of plan step < length words.old }
+    requires fits { WordFits step (slice_index words.old (index_of plan step)) }
+    ensures found { result ≡ slice_index words.old (index_of plan step) }
+    ensures words { words.new ≡ slice_set words.old (index_of plan step) (next_of step (slice_index words.old (index_of plan step))) }
 {
-    let place = place_of(plan, step);
-    let found = words[place];
-    words[place] = next_word(step, found);
+    let index = index_of(plan, step);
+    let found = words[index];
+    words[index] = next_word(step, found);
     found
 }

@@ -1,5 +1,5 @@
 ghost use Rattle.std.specs.Prelude.{◌≡◌};
-ghost use Rattle.corr_core.specs.Layout.{tag_index, id_index, call_index, at_index};
+ghost use Rattle.corr_core.specs.Layout.{tag_index, id_index, call_index, at_index, all_words};
 
 use crate::marks::Plan;
 
@@ -33,4 +33,11 @@ pub fn at_index(plan: &Plan, operation: u16) -> usize
     ensures { result ≡ at_index plan.now operation }
 {
     2 * plan.slots as usize + 2 * operation as usize + 1
+}
+
+/// How many words a table has.
+pub fn word_count(plan: &Plan) -> usize
+    ensures { result ≡ all_words plan.now }
+{
+    2 * plan.slots as usize + 2 * plan.operations as usize
 }

@@ -9,7 +9,8 @@ use Rattle.corr_core.specs.Word.{parts, free_word}
 use Rattle.corr_core.specs.declared.marks.Plan.{Plan}
 use Rattle.corr_core.specs.declared.marks.View.{View}
 use Rattle.sock_words.specs.Words.{IsIdWord}
-use Rattle.id_rule.specs.Lawful.{tag_index, id_index, all_words, Unused, newcomer}
+use Rattle.corr_core.specs.Layout.{tag_index, id_index, all_words}
+use Rattle.id_rule.specs.Lawful.{Unused, newcomer}
 use Rattle.corr_id.specs.Opening.{AreNew}
 
 -- the first n slots have their words

@@ -16,7 +16,8 @@ use Rattle.corr_core.specs.declared.marks.Kept.{Kept}
 use Rattle.corr_core.specs.declared.marks.View.{View}
 use Rattle.corr_core.proofs.Notes.{each_at, total_some, only-else, pair-else, pair-else_first}
 use Rattle.corr_core.proofs.Stories.{born_le}
-use Rattle.id_rule.specs.Lawful.{id_index, KeptFits, kept_in, is_stored, tokens_of, notes_of, tokens_in, notes_in, share_of, local, IsBare, Lawful}
+use Rattle.corr_core.specs.Layout.{id_index}
+use Rattle.id_rule.specs.Lawful.{KeptFits, kept_in, is_stored, tokens_of, notes_of, tokens_in, notes_in, share_of, local, IsBare, Lawful}
 use Rattle.corr_id.specs.Calls.{is_saw}
 use Rattle.corr_id.specs.Ruled.{Known}
 use Rattle.corr_id.specs.Closing.{Closing}

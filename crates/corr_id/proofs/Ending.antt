@@ -12,7 +12,7 @@ use Rattle.corr_core.specs.declared.marks.View.{View}
 use Rattle.corr_core.specs.declared.marks.Noted.{Noted}
 use Rattle.corr_core.specs.declared.marks.Kept.{Kept}
 use Rattle.sock_words.specs.declared.id_word.IdWord.{IdWord}
-use Rattle.id_rule.specs.Lawful.{id_index}
+use Rattle.corr_core.specs.Layout.{id_index}
 use Rattle.corr_id.specs.Ruled.{Ruled}
 use Rattle.corr_id.specs.Closing.{Closing}
 use Rattle.corr_id.specs.Closed.{AreIdWords}

@@ -16,7 +16,8 @@ use Rattle.corr_core.specs.declared.marks.Token.TheVariants.{Claimed, Locked, Le
 use Rattle.corr_core.specs.declared.marks.View.{View}
 use Rattle.corr_core.proofs.Gather.{gather_same}
 use Rattle.corr_core.proofs.Slots.{queued_word}
-use Rattle.id_rule.specs.Lawful.{tag_index, id_index, tokens_of, tokens_in, local, Lawful}
+use Rattle.corr_core.specs.Layout.{tag_index, id_index}
+use Rattle.id_rule.specs.Lawful.{tokens_of, tokens_in, local, Lawful}
 use Rattle.id_rule.specs.Plays.{with_hand}
 use Rattle.corr_id.specs.Ruled.{IsFresh, FreshBehind}
 

@@ -21,7 +21,8 @@ use Rattle.corr_core.specs.declared.marks.View.{View}
 use Rattle.corr_core.proofs.Notes.{each_map, each_at, total_some, at_length}
 use Rattle.corr_core.proofs.Shuffles.{each_of}
 use Rattle.corr_core.proofs.Slots.{queued_word, open_word, popped_word, no_tokens}
-use Rattle.id_rule.specs.Lawful.{tag_index, id_index, all_words, tokens_of, notes_of, tokens_in, local, kept_in, KeptFits, Lawful, with_token, no_token, with_note, with_kept}
+use Rattle.corr_core.specs.Layout.{tag_index, id_index, all_words}
+use Rattle.id_rule.specs.Lawful.{tokens_of, notes_of, tokens_in, local, kept_in, KeptFits, Lawful, with_token, no_token, with_note, with_kept}
 use Rattle.id_rule.specs.Plays.{IsHome, NotLeaving, Fitting, hand_of, with_hand, value_of, hand_by, claimed_view, locked_view, popped_view, ended_view, found_view, LockFits}
 use Rattle.id_rule.proofs.Frames.{token_here, drop_here, aside_token, aside_drop, own_tokens, first_tokens, same_tokens}
 use Rattle.id_rule.proofs.Allowed.{own, claims_law, reads_law, sees_law, makes_law, locks_law, queues_law, relocks_law, unlocks_law, advances_law, ends_law, frees_law, takes_law, gives_law, o}

@@ -22,7 +22,8 @@ use Rattle.corr_core.proofs.Shuffles.{shuffled, total_flat, each_of, each_in, ea
 use Rattle.corr_id.specs.Calls.{is_saw}
 use Rattle.corr_id.specs.Seats.{Stays}
 use Rattle.corr_id.specs.Ruled.{FreshBehind, Known, Ruled}
-use Rattle.id_rule.specs.Lawful.{tag_index, id_index, KeptFits, kept_in, is_stored, tokens_of, notes_of, tokens_in, notes_in, share_of, local, IsBare, Lawful, Unused, first_view, spent, newcomer, lighter, joined}
+use Rattle.corr_core.specs.Layout.{tag_index, id_index}
+use Rattle.id_rule.specs.Lawful.{KeptFits, kept_in, is_stored, tokens_of, notes_of, tokens_in, notes_in, share_of, local, IsBare, Lawful, Unused, first_view, spent, newcomer, lighter, joined}
 use Rattle.sock_words.specs.Words.{id_slot, id_first}
 use Rattle.sock_words.specs.Totals.{total}
 

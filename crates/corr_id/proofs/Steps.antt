@@ -26,7 +26,8 @@ use Rattle.corr_core.proofs.Shuffles.{each_of}
 use Rattle.corr_core.specs.declared.marks.Kept.{Kept}
 use Rattle.corr_id.specs.Calls.{is_saw, is_at, FoundUpTo, ReachedUpTo}
 use Rattle.corr_id.proofs.Closes.{saw_of}
-use Rattle.id_rule.specs.Lawful.{tag_index, id_index, all_words, is_stored, kept_in, KeptFits, notes_of, tokens_in, notes_in, local, with_token, no_token, with_note, with_kept}
+use Rattle.corr_core.specs.Layout.{tag_index, id_index, all_words}
+use Rattle.id_rule.specs.Lawful.{is_stored, kept_in, KeptFits, notes_of, tokens_in, notes_in, local, with_token, no_token, with_note, with_kept}
 use Rattle.id_rule.specs.Plays.{IsHome, NotLeaving, Fitting, hand_of, with_hand, value_of, hand_by, claimed_view, locked_view, claim_told, take_told, give_told, make_told, end_told, free_told, store_told, found_view, put_error, popped_view, advanced_view, ended_view}
 use Rattle.id_rule.proofs.Allowed.{own, known, o}
 use Rattle.corr_id.specs.Ruled.{IsFresh, FreshBehind, IsBehind, Ruled, read_told, see_told, lock_told, queue_told, unlock_told, load_told}

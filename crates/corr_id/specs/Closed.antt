@@ -5,7 +5,7 @@ use Rattle.atomic_table.specs.Seated.{TableId}
 use Rattle.atomic_table.specs.declared.shared.Seat.{Seat}
 use Rattle.sock_words.specs.declared.id_word.IdWord.{IdWord}
 use Rattle.corr_core.specs.declared.marks.View.{View}
-use Rattle.id_rule.specs.Lawful.{id_index}
+use Rattle.corr_core.specs.Layout.{id_index}
 use Rattle.corr_id.specs.Seats.{IsFree}
 
 -- each is of this table, and holds no slot and no lock

@@ -11,7 +11,7 @@ ghost use Rattle.sock_words.specs.Totals.{total};
 
 use crate::calls::{IdGone, Locking, is_out_of};
 use crate::table::{IdSeat, IdTable};
-use sock_words::IdWord;
+use sock_words::{CorrelationId, IdWord};
 use std::sync::Wait;
 
 impl<C> IdTable<C> {
@@ -45,12 +45,13 @@ impl<C> IdTable<C> {
         ensures gone { IfErr result (λ e. Quiet seat.old.me.0 seat.new.me.0 × (((self.now.plan.slots ≤ id_slot version) × (e.found ≡ 0)) ⊎ (Found (id_slot version) e.found seat.new.me.0 × IsOutside attempt (parts e.found) (id_first version)))) }
         ensures ended { attempt ≡ false → IfErr result (λ e. id_slot version < self.now.plan.slots → IsKnown (id_slot version) (id_first version) seat.old.me.0 → id_first version < (parts e.found).first) }
     {
-        let slot = version / 4_294_967_296;
-        if slot >= self.plan.slots as u64 {
+        let id = CorrelationId(version);
+        let slot = id.slot();
+        if slot >= u32::from(self.plan.slots) {
             return Err(IdGone { found: 0 });
         }
         let at = slot as u16;
-        let own = version % 4_294_967_296;
+        let own = id.version();
         'looks: for _ in rt.forever() {
             let found = self.load_id_word(seat, at);
             let word = IdWord(found);
@@ -69,16 +70,16 @@ impl<C> IdTable<C> {
 }
 
 // Whether the word is free, or its range doesn't have the version behind its first one.
-fn lacks_attempt(word: IdWord, version: u64) -> bool
+fn lacks_attempt(word: IdWord, version: u32) -> bool
     ensures lacks { result ≡ true → LacksAttempt (parts word.0) version }
     ensures has { result ≡ false → ((parts word.0).first < version) × (version < (parts word.0).first + (parts word.0).range) }
 {
-    let first = u64::from(word.first());
-    word.state() == IdWord::FREE || version <= first || version >= first + u64::from(word.range())
+    let first = word.first();
+    word.state() == IdWord::FREE || version <= first || version >= first + u32::from(word.range())
 }
 
 // Whether the word is free, or its range lacks the version; an attempt's is in a range only behind the first one.
-fn is_outside(word: IdWord, version: u64, attempt: bool) -> bool
+fn is_outside(word: IdWord, version: u32, attempt: bool) -> bool
     ensures out { result ≡ true → IsOutside attempt (parts word.0) version }
     ensures within { result ≡ false → IsWithin attempt (parts word.0) version }
 {

@@ -93,7 +93,7 @@ impl<C> IdTable<C> {
         };
         let word = IdWord::pack(first, IdWord::OPEN, range, 0, 0, 0);
         self.make_id(seat, at, word.0);
-        at as u64 * 4_294_967_296 + first as u64
+        CorrelationId::pack(at, first).0
     }
 
     /// A new id of 2 to 8 versions, open and at attempt 0 (`bthread_id_create_ranged`). There is no room only where each slot was
@@ -206,12 +206,13 @@ impl<C> IdTable<C> {
         ensures quiet { Quiet seat.old.me.0 seat.new.me.0 }
         ensures gone { (self.now.plan.slots ≤ id_slot id) ⊎ ((word : ℕ) × Found (id_slot id) word seat.new.me.0 × LacksId (parts word) (id_first id)) }
     {
-        let slot = id / 4_294_967_296;
-        if slot >= self.plan.slots as u64 {
+        let id = CorrelationId(id);
+        let slot = id.slot();
+        if slot >= u32::from(self.plan.slots) {
             return;
         }
         let at = slot as u16;
-        let own = id % 4_294_967_296;
+        let own = id.version();
         'looks: for _ in rt.forever() {
             if lacks_id(IdWord(self.load_id_word(seat, at)), own) {
                 return;
@@ -221,19 +222,19 @@ impl<C> IdTable<C> {
 }
 
 // Whether the word is free, or has another range than the version's.
-pub(crate) fn is_out_of(word: IdWord, version: u64) -> bool
+pub(crate) fn is_out_of(word: IdWord, version: u32) -> bool
     ensures out { result ≡ true → OutOf (parts word.0) version }
     ensures within { result ≡ false → ((parts word.0).first ≤ version) × (version < (parts word.0).first + (parts word.0).range) }
 {
-    let first = u64::from(word.first());
-    word.state() == IdWord::FREE || version < first || version >= first + u64::from(word.range())
+    let first = word.first();
+    word.state() == IdWord::FREE || version < first || version >= first + u32::from(word.range())
 }
 
 // Whether the word doesn't have the range of this first version.
-pub(crate) fn lacks_id(word: IdWord, first: u64) -> bool
+pub(crate) fn lacks_id(word: IdWord, first: u32) -> bool
     ensures lacks { result ≡ true → LacksId (parts word.0) first }
     ensures has { result ≡ false → ((parts word.0).first ≡ first) × (((parts word.0).state ≡ 1) ⊎ ((parts word.0).state ≡ 2)) }
 {
     let state = word.state();
-    u64::from(word.first()) != first || (state != IdWord::OPEN && state != IdWord::LOCKED)
+    word.first() != first || (state != IdWord::OPEN && state != IdWord::LOCKED)
 }

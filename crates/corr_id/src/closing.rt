@@ -2,7 +2,7 @@
 ghost use Rattle.std.specs.Prelude.{◌≡◌, ◌≤◌, ◌<◌, ◌*◌, ℕ, [], map, length, IfOk, IfErr, slice_index, slice_index_or, false};
 ghost use Rattle.std.specs.List.{flat_map};
 ghost use Rattle.std.specs.Mem.Slots.{slots_items, slots_len, slots_filled, IsFull};
-ghost use Rattle.id_rule.specs.Lawful.{all_words};
+ghost use Rattle.corr_core.specs.Layout.{all_words};
 ghost use Rattle.corr_id.specs.Closed.{AllOf, AreIdWords};
 ghost use Rattle.corr_id.specs.Closing.{Closing};
 ghost use Rattle.corr_id.specs.Seats.{IsFree};
@@ -10,6 +10,7 @@ ghost use Rattle.sock_words.specs.Totals.{total};
 
 use crate::table::{IdSeat, IdTable};
 use atomic_table::Closed;
+use corr_core::id_index;
 use sock_words::IdWord;
 use std::alloc::Global;
 
@@ -45,11 +46,8 @@ fn read_words<S>(table: &Closed<S, Global>, slots: u16, words: &mut Vec<IdWord>)
     ensures words { AreIdWords slots words.new.items (slots_items table.now.words) }
     ensures low { (i : ℕ) → slice_index (map (λ w. w.0) words.new.items) i < 18446744073709551616 }
 {
-    let slots = slots as usize;
-    let mut i = 0;
-    while i < slots {
-        words[i] = IdWord(table.word(2 * i + 1));
-        i += 1;
+    for slot in 0..slots {
+        words[usize::from(slot)] = IdWord(table.word(id_index(slot)));
     }
 }
 

@@ -16,6 +16,7 @@ ghost use Rattle.sock_words.specs.Totals.{total};
 
 use crate::plays::{Claim, End, Free, Give, Lock, Make, Queue, Read, See, Take, Unlock};
 use crate::table::{IdSeat, IdTable};
+use corr_core::{id_index, tag_index};
 use sock_words::IdWord;
 
 impl<C> IdTable<C> {
@@ -28,7 +29,7 @@ impl<C> IdTable<C> {
         ensures none { result ≡ 0 → tokens_in at seat.old.me.0 ≡ [] }
         ensures tried { result ≢ 0 → Became at seat.old.me.0 seat.new.me.0 (tokens_in at seat.old.me.0) (one at Tried) }
     {
-        let index = 2 * at as usize;
+        let index = tag_index(at);
         self.table.shared.swap::<Claim>(seat, index, 1)
     }
 
@@ -43,7 +44,7 @@ impl<C> IdTable<C> {
         ensures before { (w : ℕ) → 0 < total (is_saw w) (notes_in at seat.old.me.0) → 0 < (parts w).state → (parts w).first < (parts result).first }
         ensures unnoted { (x : ℕ) → x % 2 ≡ 0 → total (is_at x (call_id at (parts result).first)) seat.old.me.0.kept ≡ 0 }
     {
-        let index = 2 * at as usize + 1;
+        let index = id_index(at);
         self.table.shared.load::<Read>(seat, index)
     }
 
@@ -57,7 +58,7 @@ impl<C> IdTable<C> {
         ensures behind { (f : ℕ) → 0 < total (is_made f) (notes_in at seat.old.me.0) → IsBehind f (parts result) }
         ensures advanced { (f : ℕ) → 0 < total (is_advance f) (notes_in at seat.old.me.0) → IsBehind f (parts result) }
     {
-        let index = 2 * at as usize + 1;
+        let index = id_index(at);
         self.table.shared.load::<See>(seat, index)
     }
 
@@ -69,7 +70,7 @@ impl<C> IdTable<C> {
         ensures seat { Stays seat.old seat.new }
         ensures moved { Moved at seat.old.me.0 seat.new.me.0 value result }
     {
-        let index = 2 * at as usize;
+        let index = tag_index(at);
         self.table.shared.load::<Take>(seat, index);
         let found = self.table.shared.exchange(seat, at as usize, value);
         self.table.shared.load::<Give>(seat, index);
@@ -85,7 +86,7 @@ impl<C> IdTable<C> {
         ensures seat { Stays seat.old seat.new }
         ensures made { (c : C) → Claims at seat.old.me.0 (parts value).first (Full c) → Became at seat.old.me.0 seat.new.me.0 [] (one at (Made (parts value).first (parts value).range c)) }
     {
-        let index = 2 * at as usize + 1;
+        let index = id_index(at);
         self.table.shared.store::<Make>(seat, index, value);
     }
 
@@ -101,7 +102,7 @@ impl<C> IdTable<C> {
         ensures reached { result ≡ from → ReachedUpTo at (parts from).first (parts from).attempt seat.old.me.0 }
         ensures lost { result ≢ from → Became at seat.old.me.0 seat.new.me.0 (tokens_in at seat.old.me.0) (one at (Saw result)) }
     {
-        let index = 2 * at as usize + 1;
+        let index = id_index(at);
         self.table
             .shared
             .compare_exchange::<Lock>(seat, index, from, next)
@@ -126,7 +127,7 @@ impl<C> IdTable<C> {
         ensures latest { result ≡ from → FoundUpTo at (parts from).first seat.old.me.0 }
         ensures lost { result ≢ from → Became at seat.old.me.0 seat.new.me.0 (tokens_in at seat.old.me.0) (one at (Saw result)) }
     {
-        let index = 2 * at as usize + 1;
+        let index = id_index(at);
         self.table
             .shared
             .compare_exchange::<Queue>(seat, index, from, next)
@@ -144,7 +145,7 @@ impl<C> IdTable<C> {
         ensures longer { result ≢ from → Longer (parts from).first (parts from).range (parts from).attempt (parts from).oldest (parts from).second (parts result) }
         ensures fresh { result ≢ from → ((parts from).oldest ≡ 0 → (parts result).oldest ≢ 0 → IsFresh (parts result).attempt (parts result).oldest) × ((parts from).second ≡ 0 → (parts result).second ≢ 0 → IsFresh (parts result).attempt (parts result).second) }
     {
-        let index = 2 * at as usize + 1;
+        let index = id_index(at);
         self.table
             .shared
             .compare_exchange::<Unlock>(seat, index, from, next)
@@ -160,7 +161,7 @@ impl<C> IdTable<C> {
         ensures freed { (parts next).first ≤ LAST → Became at seat.old.me.0 seat.new.me.0 (Leaving ∷ []) (one at (Ended (parts from.0).first (parts from.0).attempt)) }
         ensures retired { LAST < (parts next).first → Became at seat.old.me.0 seat.new.me.0 [] (one at (Ended (parts from.0).first (parts from.0).attempt)) }
     {
-        let index = 2 * at as usize + 1;
+        let index = id_index(at);
         let _ = from;
         self.table.shared.swap::<End>(seat, index, next);
     }
@@ -173,7 +174,7 @@ impl<C> IdTable<C> {
         ensures seat { Stays seat.old seat.new }
         ensures freed { Became at seat.old.me.0 seat.new.me.0 [] [] }
     {
-        let index = 2 * at as usize;
+        let index = tag_index(at);
         self.table.shared.store::<Free>(seat, index, 0);
     }
 }

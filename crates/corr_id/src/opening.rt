@@ -4,7 +4,7 @@ ghost use Rattle.id_rule.specs.Lawful.{first_view, Unused};
 ghost use Rattle.corr_id.specs.Opening.{AreNew};
 
 use crate::table::{IdSeat, IdTable};
-use corr_core::Plan;
+use corr_core::{Plan, id_index, word_count};
 use sock_words::IdWord;
 use std::alloc::{AllocError, Global};
 
@@ -56,12 +56,11 @@ impl<C> IdTable<C> {
 fn new_words(alloc: Global, plan: Plan) -> Result<Vec<u64>, AllocError>
     ensures { IfOk result (λ words. Unused plan words.items) }
 {
-    let slots = plan.slots as usize;
-    let count = 2 * slots + 2 * plan.operations as usize;
+    let count = word_count(&plan);
     let mut words = vec![in alloc; 0u64; count]?;
     let free = IdWord::pack(1, IdWord::FREE, 1, 0, 0, 0);
-    for i in 0..slots {
-        words[2 * i + 1] = free.0;
+    for slot in 0..plan.slots {
+        words[id_index(slot)] = free.0;
     }
     Ok(words)
 }

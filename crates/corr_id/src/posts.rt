@@ -7,7 +7,7 @@ ghost use Rattle.corr_id.specs.Posts.{PostOk, IsStale, IsTimely};
 
 use crate::calls::{IdLock, lacks_id};
 use crate::table::{IdSeat, IdTable};
-use sock_words::IdWord;
+use sock_words::{CorrelationId, IdWord};
 use std::sync::Wait;
 
 /// What became of an error.
@@ -42,12 +42,13 @@ impl<C> IdTable<C> {
         ensures seat { Stays seat.old seat.new }
         ensures posted { PostOk self.now.plan.slots seat.old.me.0 seat.new.me.0 id code attempt result }
     {
-        let slot = id / 4_294_967_296;
-        if slot >= self.plan.slots as u64 {
+        let id = CorrelationId(id);
+        let slot = id.slot();
+        if slot >= u32::from(self.plan.slots) {
             return Posted::Gone { found: 0 };
         }
         let at = slot as u16;
-        let own = id % 4_294_967_296;
+        let own = id.version();
         let error = corr_core::error_bits(code, attempt);
         let mut found = self.load_id_word(seat, at);
         'tries: for _ in rt.forever() {

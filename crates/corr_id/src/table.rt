@@ -1,6 +1,7 @@
 // The table of words and homes, and its seats.
 ghost use Rattle.std.specs.Prelude.{◌≡◌, ◌<◌, ◌≤◌, [], IfOk};
-ghost use Rattle.id_rule.specs.Lawful.{all_words, first_view, Unused, joined, lighter, newcomer};
+ghost use Rattle.corr_core.specs.Layout.{all_words};
+ghost use Rattle.id_rule.specs.Lawful.{first_view, Unused, joined, lighter, newcomer};
 ghost use Rattle.corr_id.specs.Seats.{IsFree};
 
 use crate::plays::{Rule, SeatOut, TakeIn};

@@ -2,7 +2,8 @@
 ghost use Rattle.std.specs.Prelude.{◌≡◌, ◌≢◌, ◌+◌, ◌*◌, ◌%◌, ◌<◌, ◌≤◌, false, true, IfNone, IfSome, IsSome};
 ghost use Rattle.sock_words.specs.Words.{at_word as packed_at, id_slot, id_first};
 ghost use Rattle.corr_core.specs.Law.{is_made};
-ghost use Rattle.id_rule.specs.Lawful.{call_index, at_index, notes_of, with_kept};
+ghost use Rattle.corr_core.specs.Layout.{call_index, at_index};
+ghost use Rattle.id_rule.specs.Lawful.{notes_of, with_kept};
 ghost use Rattle.corr_id.specs.Ruled.{is_place};
 ghost use Rattle.corr_id.specs.Seats.{Sits, Stays};
 ghost use Rattle.corr_id.specs.Calls.{Quiet, Found};
@@ -22,7 +23,7 @@ impl<C> IdTable<C> {
         ensures seat { Stays seat.old seat.new }
         ensures stored { seat.new.me.0 ≡ with_kept (call_index self.now.plan operation) true id seat.old.me.0 }
     {
-        let index = 2 * self.plan.slots as usize + 2 * operation as usize;
+        let index = corr_core::call_index(&self.plan, operation);
         self.store_word(seat, index, id);
     }
 
@@ -36,7 +37,7 @@ impl<C> IdTable<C> {
         ensures none { IfNone result (seat.new.me.0 ≡ seat.old.me.0) }
         ensures never_none { 0 < total (is_place (call_index self.now.plan operation)) seat.old.me.0.kept → IsSome result }
     {
-        let index = 2 * self.plan.slots as usize + 2 * operation as usize;
+        let index = corr_core::call_index(&self.plan, operation);
         self.load_word(seat, index)
     }
 
@@ -51,7 +52,7 @@ impl<C> IdTable<C> {
         ensures seat { Stays seat.old seat.new }
         ensures stored { seat.new.me.0 ≡ with_kept (at_index self.now.plan operation) true (packed_at (id_first id) (id_slot id) link attempt) seat.old.me.0 }
     {
-        let index = 2 * self.plan.slots as usize + 2 * operation as usize + 1;
+        let index = corr_core::at_index(&self.plan, operation);
         let id = CorrelationId(id);
         let at = AtWord::pack(id.version(), id.slot() as u16, link, attempt);
         self.store_word(seat, index, at.0);
@@ -67,7 +68,7 @@ impl<C> IdTable<C> {
         ensures none { IfNone result (seat.new.me.0 ≡ seat.old.me.0) }
         ensures never_none { 0 < total (is_place (at_index self.now.plan operation)) seat.old.me.0.kept → IsSome result }
     {
-        let index = 2 * self.plan.slots as usize + 2 * operation as usize + 1;
+        let index = corr_core::at_index(&self.plan, operation);
         match self.load_word(seat, index) {
             Some(found) => Some(AtWord(found)),
             None => None,
@@ -82,8 +83,8 @@ impl<C> IdTable<C> {
         ensures found { id_slot version < self.now.plan.slots → Found (id_slot version) result seat.new.me.0 × (0 < result) }
         ensures no_slot { self.now.plan.slots ≤ id_slot version → result ≡ 0 }
     {
-        let slot = version / 4_294_967_296;
-        if slot >= self.plan.slots as u64 {
+        let slot = CorrelationId(version).slot();
+        if slot >= u32::from(self.plan.slots) {
             return 0;
         }
         self.load_id_word(seat, slot as u16)

@@ -21,7 +21,8 @@ use Rattle.corr_core.specs.declared.marks.Note.TheVariants.{Tried, Made, Ended, 
 use Rattle.corr_core.specs.declared.marks.View.{View}
 use Rattle.corr_core.proofs.Notes.{Inserted, at_length}
 use Rattle.corr_core.proofs.Slots.{queued_word, open_word, popped_word, IsLock, is_lock, claim_home, no_tokens, tries, claims, sees, reclaims, makes, locks, queues, relocks, stays, advances, opens, pops, ends, frees}
-use Rattle.id_rule.specs.Lawful.{tag_index, id_index, tokens_in, notes_in, local, Lawful, with_token, no_token, with_note}
+use Rattle.corr_core.specs.Layout.{tag_index, id_index}
+use Rattle.id_rule.specs.Lawful.{tokens_in, notes_in, local, Lawful, with_token, no_token, with_note}
 use Rattle.id_rule.specs.Plays.{hand_of, with_hand, value_of, hand_by, claimed_view, locked_view, popped_view, ended_view, IsHome, NotLeaving, Fitting, LockFits}
 use Rattle.id_rule.proofs.Frames.{Aside, token_here, drop_here, note_here, aside_token, aside_drop, aside_note, aside_both, mine, own_tokens, first_tokens, same_tokens, same_notes, more_notes, on_tag, on_id}
 

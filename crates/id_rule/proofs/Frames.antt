@@ -18,7 +18,8 @@ use Rattle.corr_core.specs.declared.marks.Kept.{Kept}
 use Rattle.corr_core.specs.declared.marks.View.{View}
 use Rattle.corr_core.proofs.Notes.{Inserted, each_map, gather_more, total_set}
 use Rattle.corr_core.proofs.Gather.{gather_all, gather_none, gather_own, gather_same}
-use Rattle.id_rule.specs.Lawful.{tag_index, id_index, KeptFits, kept_in, is_stored, tokens_of, notes_of, tokens_in, notes_in, share_of, local, Lawful, without, with_token, no_token, with_note}
+use Rattle.corr_core.specs.Layout.{tag_index, id_index}
+use Rattle.id_rule.specs.Lawful.{KeptFits, kept_in, is_stored, tokens_of, notes_of, tokens_in, notes_in, share_of, local, Lawful, without, with_token, no_token, with_note}
 use Rattle.sock_words.specs.Totals.{total}
 
 module _ {C : Type 0} where

@@ -15,7 +15,8 @@ use Rattle.corr_core.specs.declared.marks.Kept.{Kept}
 use Rattle.corr_core.specs.declared.marks.View.{View}
 use Rattle.corr_core.proofs.Notes.{Inserted, total_insert, each_insert, each_map, gather_more, total_set, pair-same}
 use Rattle.corr_core.proofs.Gather.{gather_same}
-use Rattle.id_rule.specs.Lawful.{tag_index, id_index, all_words, KeptFits, kept_in, is_stored, tokens_of, notes_of, tokens_in, notes_in, share_of, local, Lawful, with_kept}
+use Rattle.corr_core.specs.Layout.{tag_index, id_index, all_words}
+use Rattle.id_rule.specs.Lawful.{KeptFits, kept_in, is_stored, tokens_of, notes_of, tokens_in, notes_in, share_of, local, Lawful, with_kept}
 use Rattle.id_rule.specs.Plays.{store_told, load_told, found_view}
 use Rattle.sock_words.specs.Totals.{total}
 

@@ -10,7 +10,8 @@ use Rattle.corr_core.specs.declared.marks.Token.{Token}
 use Rattle.corr_core.specs.declared.marks.Token.TheVariants.{Claimed, Locked, Leaving}
 use Rattle.corr_core.specs.declared.marks.Note.TheVariants.{Tried, Made, Ended, Locker, Attempt}
 use Rattle.corr_core.specs.declared.marks.View.{View}
-use Rattle.id_rule.specs.Lawful.{tag_index, id_index, tokens_in, with_token, no_token, with_note, with_kept}
+use Rattle.corr_core.specs.Layout.{tag_index, id_index}
+use Rattle.id_rule.specs.Lawful.{tokens_in, with_token, no_token, with_note, with_kept}
 
 -- the error by which the queue of the second word is longer
 abbrev pub put_error : Parts → Parts → ℕ

@@ -11,6 +11,7 @@ use machine_model::Letter;
 use reader_seats::ReaderSeat;
 use seat_programs::{Sizes, Task};
 use sock_message::NoMemory;
+use sock_model::{name_index, word_count};
 use sock_words::{Outcome, PlaceWord, Plan, Vref};
 use std::alloc::{AllocError, Global};
 use std::collections::VecDeque;
@@ -36,11 +37,10 @@ fn push_slots(words: &mut Vec<u64>, slots: u16, first: u32) -> Result<(), AllocE
 fn opening_words(alloc: Global, plan: &Plan) -> Result<Vec<u64>, AllocError>
     ensures { IfOk result (λ words. words.items ≡ opening_words plan.now) }
 {
-    let requests = 2 * usize::from(plan.requests);
-    let others = usize::from(plan.names) + 9 * usize::from(plan.operations) + requests;
-    let mut words = Vec::with_capacity(alloc, 6 * usize::from(plan.slots) + others)?;
+    let count = word_count(plan);
+    let mut words = Vec::with_capacity(alloc, count)?;
     push_slots(&mut words, plan.slots, plan.first)?;
-    push_zeros(&mut words, others)?;
+    push_zeros(&mut words, count - name_index(plan, 0))?;
     Ok(words)
 }
 

@@ -1,5 +1,5 @@
 ghost use Rattle.std.specs.Prelude.{◌≡◌};
-ghost use Rattle.sock_model.specs.Layout.{tag_index, ref_index, link_index, head_index, code_index, name_index, open_index, request_index, next_index, place_index};
+ghost use Rattle.sock_model.specs.Layout.{tag_index, ref_index, link_index, head_index, code_index, name_index, open_index, request_index, next_index, place_index, all_words};
 
 use sock_words::Plan;
 
@@ -84,4 +84,11 @@ pub fn place_index(plan: &Plan, place: u32) -> usize
     let open = 6 * plan.slots as usize + plan.names as usize;
     let next = open + plan.operations as usize + plan.requests as usize;
     next + plan.requests as usize + place as usize
+}
+
+/// How many words a table has.
+pub fn word_count(plan: &Plan) -> usize
+    ensures { result ≡ all_words plan.now }
+{
+    place_index(plan, 8 * u32::from(plan.operations))
 }

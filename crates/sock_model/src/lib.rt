@@ -11,7 +11,7 @@ pub use chain::{Claim, Entry, Heading, Loose, Right, Stage};
 pub use home::Home;
 pub use layout::{
     code_index, head_index, link_index, name_index, next_index, open_index, place_index, ref_index,
-    request_index, tag_index,
+    request_index, tag_index, word_count,
 };
 pub use marks::{Mark, SlotMark};
 pub use sock_words::Plan;

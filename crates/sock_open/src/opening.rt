@@ -7,6 +7,7 @@ ghost use Rattle.sock_open.specs.Made.{AreMade};
 
 use atomic_table::Refused;
 use sock_io::Out;
+use sock_model::{ref_index, word_count};
 use sock_rule::{LinkHome, RuleTable, SockHome, SockSeat, Ways};
 use sock_table::{LinkPass, SockTable};
 use sock_words::{Plan, Vref};
@@ -31,15 +32,11 @@ pub struct NoTable<O: Out> {
 fn new_words(alloc: Global, plan: &Plan) -> Result<Vec<u64>, AllocError>
     ensures { IfOk result (λ words. AreNewWords plan.now words.items) }
 {
-    let slots = plan.slots as usize;
-    let count = 6 * slots
-        + plan.names as usize
-        + 9 * plan.operations as usize
-        + 2 * plan.requests as usize;
+    let count = word_count(plan);
     let mut words = vec![in alloc; 0u64; count]?;
     let first = Vref::pack(plan.first, 0).0;
-    for i in 0..slots {
-        words[6 * i + 1] = first;
+    for slot in 0..u32::from(plan.slots) {
+        words[ref_index(slot)] = first;
     }
     Ok(words)
 }

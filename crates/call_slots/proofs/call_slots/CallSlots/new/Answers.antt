@@ -1,7 +1,7 @@
 use Rattle.std.proofs.Common.{◌≡◌, ℕ, ◌*◌, ◌++◌, false, List, [], None, length, replicate, ap, ◌∙◌, arith}
 use Rattle.std.proofs.lemmas.List.{length-append, length-replicate}
 use mathlib.Core.Option.{some}
-use Rattle.id_rule.specs.Lawful.{all_words}
+use Rattle.corr_core.specs.Layout.{all_words}
 use Rattle.seat_programs.specs.Scripts.{opening_ids}
 use Rattle.call_slots.specs.Slots.{calls_with}
 use Rattle.call_slots.proofs.Openings.{ids_length, map_replicate}

@@ -4,7 +4,7 @@ use Rattle.std.specs.Vec.{with_items}
 use Rattle.std.specs.Prelude.{slice_index, slice_set}
 use Rattle.call_points.specs.Steps.{step_of}
 use Rattle.call_slots.specs.Slots.{SlotState}
-use Rattle.call_slots.specs.Words.{place_of, next_of, IsWithin}
+use Rattle.call_slots.specs.Words.{index_of, next_of, IsWithin}
 use Rattle.call_slots.specs.Steps.{Makes, word_found}
 use Rattle.call_slots.proofs.Making.{slots_of, makes}
 use Rattle.call_slots.proofs.call_slots.CallSlots.step.Goals as goal
@@ -13,7 +13,7 @@ pub returns : goal.returns
 returns c =
     let step = c.args.step in
     let p = c.self.inside.plan in
-    let here = place_of p step in
+    let here = index_of p step in
     let homes = c.self.inside.homes.items in
     let old : SlotState = slots_of p c.self.inside.words.items homes in
     let within : IsWithin p step = subst (λ (s : SlotState). IsWithin s.plan step) (sym c.self.view_is) c.requires.0 in
