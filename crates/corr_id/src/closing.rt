@@ -47,7 +47,7 @@ fn read_words<S>(table: &Closed<S, Global>, slots: u16, words: &mut Vec<IdWord>)
     ensures low { (i : ℕ) → slice_index (map (λ w. w.0) words.new.items) i < 18446744073709551616 }
 {
     for slot in 0..slots {
-        words[usize::from(slot)] = IdWord(table.word(id_index(slot)));
+        words[slot as usize] = IdWord(table.word(id_index(slot)));
     }
 }
 

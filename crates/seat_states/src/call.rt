@@ -7,9 +7,9 @@ ghost use Rattle.program_steps.specs.Sound.{AllowsWord};
 ghost use Rattle.seat_states.specs.Steps.{step_of};
 
 use chain_core::{
-    claim_request, connect, empty_head, free_request, swap_head, turn_next, unconnect,
+    claim_request, connect, empty_head, free_request, read_next, swap_head, turn_next, unconnect,
 };
-use ref_core::{add_ref, birth, claim_slot, free_slot, recycle, set_odd, sub_ref};
+use ref_core::{add_ref, birth, claim_slot, free_slot, look_word, recycle, set_odd, sub_ref};
 use sock_model::{
     code_index, head_index, link_index, name_index, next_index, open_index, place_index, ref_index,
     request_index, tag_index,
@@ -178,10 +178,10 @@ impl Call {
             | Call::TakeLink(_)
             | Call::FinishLink(_)
             | Call::PutLink(_)
-            | Call::LookWord(_)
             | Call::FindLink(_)
-            | Call::LoadCode(_)
-            | Call::ReadNext(_) => found,
+            | Call::LoadCode(_) => found,
+            Call::LookWord(_) => look_word(found).next,
+            Call::ReadNext(_) => read_next(found).next,
             Call::ClaimRequest(_, _) => claim_request(found).next,
             Call::Unconnect(_) => unconnect(found).next,
             Call::SwapHead(_, own) => swap_head(found, own).next,

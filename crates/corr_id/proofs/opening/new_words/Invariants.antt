@@ -1,5 +1,5 @@
 use Rattle.corr_id.proofs.Beginning.{Begun}
 use Rattle.corr_id.proofs.opening.new_words.Given as goal
 
-abbrev pub invariant-loop-i : goal.invariant-loop-i
-invariant-loop-i l = Begun l.fn.plan l.i l.words.items
+abbrev pub invariant-loop-slot : goal.invariant-loop-slot
+invariant-loop-slot l = Begun l.fn.plan l.slot l.words.items

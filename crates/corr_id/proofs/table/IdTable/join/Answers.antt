@@ -1,10 +1,10 @@
-use Rattle.std.proofs.Common.{inr, ◌/◌}
+use Rattle.std.proofs.Common.{inr}
 use Rattle.corr_id.proofs.Doing.{found_noted}
 use Rattle.corr_id.proofs.table.IdTable.join.Goals as goal
 
 pub returns-then-lacks_id-clause-gone : goal.returns-then-lacks_id-clause-gone
-returns-then-lacks_id-clause-gone g c = inr (
+returns-then-lacks_id-clause-gone g c = rw (← c.slot-slot.ensures, ← c.version-own.ensures) (inr (
   c.load_id_word.result,
-  found_noted (c.args.id / 4294967296) c.load_id_word.result c.looks.seat.me.0 c.load_id_word.new.seat.me.0 c.load_id_word.ensures.saw,
+  found_noted c.slot-slot.result c.load_id_word.result c.looks.seat.me.0 c.load_id_word.new.seat.me.0 c.load_id_word.ensures.saw,
   c.lacks_id.ensures.lacks c.if-lacks_id.true,
-)
+))

@@ -1,4 +1,4 @@
-use Rattle.std.proofs.Common.{arith, refl, ap, sym, subst, ℕ, ◌≡◌, [], ◌∷◌}
+use Rattle.std.proofs.Common.{arith, ap, sym, subst, ℕ, ◌≡◌, [], ◌∷◌}
 use Rattle.corr_core.specs.Word.{parts}
 use Rattle.corr_core.specs.declared.marks.Hand.TheVariants.{Full}
 use Rattle.corr_core.specs.declared.marks.Token.TheVariants.{Locked}
@@ -13,15 +13,15 @@ use Rattle.corr_id.proofs.table.IdTable.lock_id.Goals as goal
 pub compare_exchange-requires : goal.compare_exchange-requires
 compare_exchange-requires g c = (
   c.requires.seat.0,
-  omega (arith, c.args.self.now.sized),
-  locking c.args.self.now.table.shared.key c.args.self.now.table.shared.table_id.slots c.args.seat.now.id c.args.seat.now.me c.args.at c.requires.slot c.requires.seat.1 c.args.from c.args.next c.requires.from.0 c.requires.from.1,
+  omega (arith, c.args.self.now.sized, c.id_index-index.ensures),
+  rw (c.id_index-index.ensures) (locking c.args.self.now.table.shared.key c.args.self.now.table.shared.table_id.slots c.args.seat.now.id c.args.seat.now.me c.args.at c.requires.slot c.requires.seat.1 c.args.from c.args.next c.requires.from.0 c.requires.from.1),
 )
 
 pub returns-clause-seat : goal.returns-clause-seat
-returns-clause-seat g c = let t = c.compare_exchange.ensures.2 c.args.at refl in exchange_stays c.args.seat.now c.compare_exchange.new.seat c.compare_exchange.result c.args.from c.compare_exchange.ensures.0 c.compare_exchange.ensures.1 (λ z. ap (λ m. m.1) (t.0 z).1) (λ n. ap (λ m. m.1) (t.1 n))
+returns-clause-seat g c = let t = c.compare_exchange.ensures.2 c.args.at c.id_index-index.ensures in exchange_stays c.args.seat.now c.compare_exchange.new.seat c.compare_exchange.result c.args.from c.compare_exchange.ensures.0 c.compare_exchange.ensures.1 (λ z. ap (λ m. m.1) (t.0 z).1) (λ n. ap (λ m. m.1) (t.1 n))
 
 pub returns-clause-won : goal.returns-clause-won
-returns-clause-won g c = λ hit. let t = (c.compare_exchange.ensures.2 c.args.at refl).0 hit in (
+returns-clause-won g c = λ hit. let t = (c.compare_exchange.ensures.2 c.args.at c.id_index-index.ensures).0 hit in (
   subst (λ (y : ℕ). LockFits (parts y)) hit t.2,
   (
     t.0,
@@ -32,13 +32,13 @@ returns-clause-won g c = λ hit. let t = (c.compare_exchange.ensures.2 c.args.at
 )
 
 pub returns-clause-lost : goal.returns-clause-lost
-returns-clause-lost g c = λ miss. became_as c.args.at (ap (λ m. m.0) ((c.compare_exchange.ensures.2 c.args.at refl).1 miss)) (became_note c.args.at c.args.seat.now.me.0 (Saw c.compare_exchange.result))
+returns-clause-lost g c = λ miss. became_as c.args.at (ap (λ m. m.0) ((c.compare_exchange.ensures.2 c.args.at c.id_index-index.ensures).1 miss)) (became_note c.args.at c.args.seat.now.me.0 (Saw c.compare_exchange.result))
 
 pub returns-clause-none_queued : goal.returns-clause-none_queued
-returns-clause-none_queued g c = λ hit. subst (λ (y : ℕ). ((parts y).oldest ≡ 0) × ((parts y).second ≡ 0)) hit ((c.compare_exchange.ensures.2 c.args.at refl).0 hit).3
+returns-clause-none_queued g c = λ hit. subst (λ (y : ℕ). ((parts y).oldest ≡ 0) × ((parts y).second ≡ 0)) hit ((c.compare_exchange.ensures.2 c.args.at c.id_index-index.ensures).0 hit).3
 
 pub returns-clause-latest : goal.returns-clause-latest
-returns-clause-latest g c = λ hit. subst (λ (y : ℕ). FoundUpTo c.args.at (parts y).first c.args.seat.now.me.0) hit ((c.compare_exchange.ensures.2 c.args.at refl).0 hit).4
+returns-clause-latest g c = λ hit. subst (λ (y : ℕ). FoundUpTo c.args.at (parts y).first c.args.seat.now.me.0) hit ((c.compare_exchange.ensures.2 c.args.at c.id_index-index.ensures).0 hit).4
 
 pub returns-clause-reached : goal.returns-clause-reached
-returns-clause-reached g c = λ hit. subst (λ (y : ℕ). ReachedUpTo c.args.at (parts y).first (parts y).attempt c.args.seat.now.me.0) hit ((c.compare_exchange.ensures.2 c.args.at refl).0 hit).5
+returns-clause-reached g c = λ hit. subst (λ (y : ℕ). ReachedUpTo c.args.at (parts y).first (parts y).attempt c.args.seat.now.me.0) hit ((c.compare_exchange.ensures.2 c.args.at c.id_index-index.ensures).0 hit).5

@@ -1,4 +1,4 @@
-use Rattle.std.proofs.Common.{◌≤◌, ℕ, Bool, true, false, ap, sym, refl, ◌∙◌, inr, ⊎_elim, subst, ◌/◌, ◌%◌, arith}
+use Rattle.std.proofs.Common.{◌≤◌, ℕ, Bool, true, false, ap, sym, refl, ◌∙◌, inr, ⊎_elim, subst, arith}
 use Rattle.corr_core.specs.Word.{Parts, parts, locked_word}
 use Rattle.corr_id.specs.Calls.{GotLock}
 use Rattle.corr_id.specs.Attempts.{IsOutside, IsWithin}
@@ -15,39 +15,39 @@ from_first true w v within = let past = within.0 in omega arith
 from_first false w v within = within.0
 
 pub returns-then-is_outside-clause-gone : goal.returns-then-is_outside-clause-gone
-returns-then-is_outside-clause-gone g c = let at = c.args.version / 4294967296 in let v = c.looks.seat.me.0 in let w = c.load_id_word-found.new.seat.me.0 in let saw = c.load_id_word-found.ensures.saw in (
+returns-then-is_outside-clause-gone g c = rw (← c.slot-slot.ensures, ← c.version-own.ensures) (let at = c.slot-slot.result in let v = c.looks.seat.me.0 in let w = c.load_id_word-found.new.seat.me.0 in let saw = c.load_id_word-found.ensures.saw in (
   quiet_more at c.args.seat.now.me.0 v w _ c.looks.invariant.quiet saw refl,
   inr (found_noted at c.load_id_word-found.result v w saw, c.is_outside.ensures.out c.if-is_outside.true),
-)
+))
 
 pub try_lock-requires-clause-from : goal.try_lock-requires-clause-from
 try_lock-requires-clause-from g c = (
   sym c.state.ensures ∙ c.if-state-ne-OPEN.false,
-  found_noted (c.args.version / 4294967296) c.load_id_word-found.result c.looks.seat.me.0 c.load_id_word-found.new.seat.me.0 c.load_id_word-found.ensures.saw,
+  found_noted c.slot-slot.result c.load_id_word-found.result c.looks.seat.me.0 c.load_id_word-found.new.seat.me.0 c.load_id_word-found.ensures.saw,
 )
 
 pub returns-then-is_outside-clause-ended : goal.returns-then-is_outside-clause-ended
-returns-then-is_outside-clause-ended g c own inside known = let at = c.args.version / 4294967296 in let v = c.args.version % 4294967296 in let u = c.args.seat.now.me.0 in let q = c.looks.invariant.quiet in let found = c.load_id_word-found.ensures in
+returns-then-is_outside-clause-ended g c = rw (← c.slot-slot.ensures, ← c.version-own.ensures) (λ own inside known. let at = c.slot-slot.result in let v = c.version-own.result in let u = c.args.seat.now.me.0 in let q = c.looks.invariant.quiet in let found = c.load_id_word-found.ensures in
     gone_behind v (parts c.load_id_word-found.result) (⊎_elim (λ made. found.behind v (made_still at v u c.looks.seat.me.0 q made)) (λ more. found.advanced v (advanced_still at v u c.looks.seat.me.0 q more)) known)
-    (subst (λ (b : Bool). IsOutside b (parts c.load_id_word-found.result) v) own (c.is_outside.ensures.out c.if-is_outside.true))
+    (subst (λ (b : Bool). IsOutside b (parts c.load_id_word-found.result) v) own (c.is_outside.ensures.out c.if-is_outside.true)))
 
 pub returns-in-Ok-clause-of_range : goal.returns-in-Ok-clause-of_range
-returns-in-Ok-clause-of_range g c = let v = c.args.version % 4294967296 in
-    subst (λ (w : Parts). IsWithin c.args.attempt w v) (sym c.in-Ok.ensures.locked.1.word_is) (within_locked c.args.attempt (parts c.load_id_word-found.result) v (c.is_outside.ensures.within c.if-is_outside.false))
+returns-in-Ok-clause-of_range g c = rw (← c.version-own.ensures) (let v = c.version-own.result in
+    subst (λ (w : Parts). IsWithin c.args.attempt w v) (sym c.in-Ok.ensures.locked.1.word_is) (within_locked c.args.attempt (parts c.load_id_word-found.result) v (c.is_outside.ensures.within c.if-is_outside.false)))
 
 pub returns-in-Ok-clause-own : goal.returns-in-Ok-clause-own
-returns-in-Ok-clause-own g c known = let v = c.args.version % 4294967296 in
+returns-in-Ok-clause-own g c = rw (← c.slot-slot.ensures, ← c.version-own.ensures) (λ known. let v = c.version-own.result in
     ap (λ (w : Parts). w.first) c.in-Ok.ensures.locked.1.word_is
     ∙ own_behind v (parts c.load_id_word-found.result)
-    (c.load_id_word-found.ensures.behind v (made_still (c.args.version / 4294967296) v c.args.seat.now.me.0 c.looks.seat.me.0 c.looks.invariant.quiet known))
-    (from_first c.args.attempt (parts c.load_id_word-found.result) v (c.is_outside.ensures.within c.if-is_outside.false))
+    (c.load_id_word-found.ensures.behind v (made_still c.slot-slot.result v c.args.seat.now.me.0 c.looks.seat.me.0 c.looks.invariant.quiet known))
+    (from_first c.args.attempt (parts c.load_id_word-found.result) v (c.is_outside.ensures.within c.if-is_outside.false)))
 
 pub returns-in-Ok-clause-locked : goal.returns-in-Ok-clause-locked
-returns-in-Ok-clause-locked g c = let at = c.args.version / 4294967296 in let u = c.args.seat.now.me.0 in let v = c.load_id_word-found.new.seat.me.0 in let n = c.load_id_word-found.result in let h = c.in-Ok.ensures.locked in (
+returns-in-Ok-clause-locked g c = rw (← c.slot-slot.ensures) (let at = c.slot-slot.result in let u = c.args.seat.now.me.0 in let v = c.load_id_word-found.new.seat.me.0 in let n = c.load_id_word-found.result in let h = c.in-Ok.ensures.locked in (
   h.0,
   (
     n,
     subst (λ (z : ℕ). GotLock z u c.try_lock.new.seat.me.0 n (parts c.in-Ok.lock.word.0) c.in-Ok.lock.content) (sym h.0)
         (got_after at u v c.try_lock.new.seat.me.0 n (parts c.in-Ok.lock.word.0) c.in-Ok.lock.content (quiet_more at u c.looks.seat.me.0 v _ c.looks.invariant.quiet c.load_id_word-found.ensures.saw refl) h.1),
   ),
-)
+))

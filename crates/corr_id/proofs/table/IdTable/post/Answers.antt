@@ -5,10 +5,9 @@ use Rattle.corr_id.specs.Calls.{FoundUpTo, GotLock}
 use Rattle.corr_id.specs.Posts.{IsTimely}
 use Rattle.corr_id.proofs.Doing.{found_noted, found_grows, up_to_more, became_grows, quiet_none, quiet_more, queued_did, error_is, was_two, got_after}
 use Rattle.corr_id.proofs.table.IdTable.post.Goals as goal
-use Rattle.sock_words.specs.Words.{id_slot, id_first}
 
 pub tries-init : goal.tries-init
-tries-init g c = let at = id_slot c.args.id in let u = c.args.seat.now.me.0 in let w = c.load_id_word-found.new.seat.me.0 in let saw = c.load_id_word-found.ensures.saw in record {
+tries-init g c = let at = c.slot-slot.result in let u = c.args.seat.now.me.0 in let w = c.load_id_word-found.new.seat.me.0 in let saw = c.load_id_word-found.ensures.saw in record {
   can_go = tt;
   is_finite = tt;
   same_table = c.load_id_word-found.ensures.seat.0;
@@ -19,13 +18,12 @@ tries-init g c = let at = id_slot c.args.id in let u = c.args.seat.now.me.0 in l
 }
 
 pub returns-then-now-found-clause-posted : goal.returns-then-now-found-clause-posted
-returns-then-now-found-clause-posted g c =
-    let at = id_slot c.args.id in let u = c.args.seat.now.me.0 in let v = c.tries.seat.me.0 in let w = c.queue_id-now.new.seat.me.0 in let n = c.tries.found in
+returns-then-now-found-clause-posted g c = rw (← c.slot-slot.ensures, ← c.version-own.ensures) (let at = c.slot-slot.result in let u = c.args.seat.now.me.0 in let v = c.tries.seat.me.0 in let w = c.queue_id-now.new.seat.me.0 in let n = c.tries.found in
     let b = c.queue_id-now.ensures.won c.if-now-found.true in let has = c.lacks_id.ensures.has c.if-lacks_id.false in
-    let first : (parts n).first ≡ id_first c.args.id = has.0 in
+    let first : (parts n).first ≡ c.version-own.result = has.0 in
     let two : (parts n).state ≡ 2 = was_two (parts n).state has.1 (λ e. c.if-state-eq-OPEN.false (c.state.ensures ∙ e)) in
     let room : (parts n).second ≡ 0 = sym c.second.ensures ∙ c.if-second-ne0.false in (
-      queued_did at u v w (parts n).first (id_first c.args.id) c.error_bits-error.result _ c.tries.invariant.quiet b first (error_is c.args.attempt c.error_bits-error.result c.args.code c.error_bits-error.ensures.2),
+      queued_did at u v w (parts n).first c.version-own.result c.error_bits-error.result _ c.tries.invariant.quiet b first (error_is c.args.attempt c.error_bits-error.result c.args.code c.error_bits-error.ensures.2),
       (
         n,
         (
@@ -37,10 +35,10 @@ returns-then-now-found-clause-posted g c =
           subst (λ (y : ℕ). FoundUpTo at y w) first (up_to_more at (parts n).first v w _ (Queued (parts n).first c.error_bits-error.result) b (λ z. refl) (c.queue_id-now.ensures.latest c.if-now-found.true)),
         ),
       ),
-    )
+    ))
 
 pub tries-preserved : goal.tries-preserved
-tries-preserved g c = let at = id_slot c.args.id in let u = c.args.seat.now.me.0 in let v = c.tries.seat.me.0 in let w = c.queue_id-now.new.seat.me.0 in let b = c.queue_id-now.ensures.lost c.if-now-found.false in record {
+tries-preserved g c = let at = c.slot-slot.result in let u = c.args.seat.now.me.0 in let v = c.tries.seat.me.0 in let w = c.queue_id-now.new.seat.me.0 in let b = c.queue_id-now.ensures.lost c.if-now-found.false in record {
   can_go = tt;
   is_finite = tt;
   same_table = c.queue_id-now.ensures.seat.0 ∙ c.tries.invariant.same_table;
@@ -51,12 +49,11 @@ tries-preserved g c = let at = id_slot c.args.id in let u = c.args.seat.now.me.0
 }
 
 pub returns-in-Ok-clause-posted : goal.returns-in-Ok-clause-posted
-returns-in-Ok-clause-posted g c =
-    let at = id_slot c.args.id in let u = c.args.seat.now.me.0 in let v = c.tries.seat.me.0 in let w = c.try_lock.new.seat.me.0 in let n = c.tries.found in
+returns-in-Ok-clause-posted g c = rw (← c.slot-slot.ensures, ← c.version-own.ensures) (let at = c.slot-slot.result in let u = c.args.seat.now.me.0 in let v = c.tries.seat.me.0 in let w = c.try_lock.new.seat.me.0 in let n = c.tries.found in
     let has = c.lacks_id.ensures.has c.if-lacks_id.false in let h = c.in-Ok.ensures.locked in let k = c.in-Ok.lock in (
       h.0,
-      omega (arith, h.0, c.if-slot-self.false),
+      omega (arith, h.0, c.if-slot-from.false),
       ap (λ (y : Parts). y.first) h.1.word_is ∙ has.0,
       subst (λ (y : ℕ). IsTimely c.args.attempt y) (sym (ap (λ (y : Parts). y.attempt) h.1.word_is)) (c.is_stale.ensures.timely c.if-is_stale.false),
       (n, subst (λ (z : ℕ). GotLock z u w n (parts k.word.0) k.content) (sym h.0) (got_after at u v w n (parts k.word.0) k.content c.tries.invariant.quiet h.1)),
-    )
+    ))
