@@ -35,7 +35,7 @@ fn new_words(alloc: Global, plan: &Plan) -> Result<Vec<u64>, AllocError>
     let count = word_count(plan);
     let mut words = vec![in alloc; 0u64; count]?;
     let first = Vref::pack(plan.first, 0).0;
-    for slot in 0..u32::from(plan.slots) {
+    for slot in 0..plan.slots as u32 {
         words[ref_index(slot)] = first;
     }
     Ok(words)

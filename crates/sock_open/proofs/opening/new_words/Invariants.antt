@@ -1,5 +1,5 @@
 use Rattle.sock_open.proofs.Words.{Begun}
 use Rattle.sock_open.proofs.opening.new_words.Given as goal
 
-abbrev pub invariant-loop-i : goal.invariant-loop-i
-invariant-loop-i l = Begun l.plan l.i l.words.items
+abbrev pub invariant-loop-slot : goal.invariant-loop-slot
+invariant-loop-slot l = Begun l.plan l.slot l.words.items
