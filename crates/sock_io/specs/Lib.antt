@@ -8,6 +8,6 @@ pub mod Meeting
 pub mod Memory
 pub mod Peer
 pub mod Shape
-pub mod Told
+pub mod Stream
 pub mod Writing
 pub use Rattle.sock_words

@@ -8,7 +8,7 @@ use Rattle.brpc_model.specs.Link.{TakeAnswer}
 use Rattle.sock_io.specs.Link.{InState, TakeStep}
 
 -- what a source will give, the numbers of its calls that fail, how many calls were made, and its count of faults
-pub record SourceState : Type 0 where
+pub record MemSourceState : Type 0 where
   pub left : List ℕ
   pub fail : List ℕ
   pub calls : ℕ
@@ -16,7 +16,7 @@ pub record SourceState : Type 0 where
 
 -- what a sink took, how much it takes in all, the numbers of its calls that fail, how many calls were made, and its
 -- count of faults
-pub record SinkState : Type 0 where
+pub record MemSinkState : Type 0 where
   pub contents : List ℕ
   pub room : ℕ
   pub fail : List ℕ

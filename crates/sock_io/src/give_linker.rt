@@ -7,7 +7,7 @@ ghost use Rattle.sock_io.specs.Shape.{shaped_out};
 ghost use Rattle.sock_words.specs.Shape.{plain_shape};
 
 use crate::give_in::GiveIn;
-use crate::link::{Ends, LinkSpec, Linker, LinkerTells, OpenFault, Out};
+use crate::link::{Ends, LinkSpec, Linker, OpenFault, Out};
 use crate::mem_link::{MemOut, NoPeer};
 use crate::mem_links::MemLinks;
 use crate::shaped::Shaped;
@@ -70,11 +70,9 @@ impl GiveLinker {
     }
 }
 
-impl LinkerTells for GiveLinker {
-    ghost state = { λ l. record { asked = l.links.asked; accepted = l.links.accepted; back = l.links.back; done = l.links.done; faults = l.links.faults; always_ready = true } };
-}
-
 impl Linker for GiveLinker {
+    ghost state = { λ l. record { asked = l.links.asked; accepted = l.links.accepted; back = l.links.back; done = l.links.done; faults = l.links.faults; always_ready = true } };
+
     type O = Shaped<MemOut>;
 
     type I = GiveIn;

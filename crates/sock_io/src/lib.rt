@@ -25,8 +25,8 @@ pub use ending::Ending;
 pub use give_in::GiveIn;
 pub use give_linker::GiveLinker;
 pub use link::{
-    Ends, Gate, In, LinkSpec, Linker, LinkerTells, LinkerTold, Mode, OpenFault, OpenGate, Out,
-    Peer, Put, Ready, Served, Take,
+    Ends, Gate, In, LinkSpec, Linker, Mode, OpenFault, OpenGate, Out, Peer, Put, Ready, Served,
+    Take,
 };
 pub use mem_link::{MemIn, MemOut, NoPeer};
 pub use mem_links::MemLinks;

@@ -5,7 +5,6 @@ ghost use Rattle.sock_io.specs.Causes.{OpenCause};
 ghost use Rattle.sock_io.specs.Link.{OutState, InState, PutStep, ReadyStep, FinishStep, TakeStep, SettleStep, IsSettled, IsNewOffer, IsFresh, IsUnused, LinkerState, MayOpen, end_of};
 ghost use Rattle.sock_io.specs.Meeting.{AreEnds, IsAskedPeer, MeetOut, MeetStep};
 ghost use Rattle.sock_io.specs.Peer.{PeerState, ServeStep, IsNewPeer};
-ghost use Rattle.sock_io.specs.Told.{KeepsOthers, SaysAsBefore};
 
 use sock_words::{NoMemory, Shape};
 use std::sync::Wait;
@@ -151,52 +150,15 @@ pub enum OpenFault {
     NoMemory,
 }
 
-/// Whoever makes a linker says here all that it tells, for the proofs.
-pub trait LinkerTells {
-    ghost state: { Self → LinkerState };
-}
-
-/// The same by its parts, which contracts name: for every linker.
-pub trait LinkerTold {
-    ghost use Rattle.sock_io.specs.declared.link.LinkSpec.{LinkSpec};
-
-    /// What was asked of each link that was opened, in order.
-    ghost asked: { Self → List LinkSpec };
-
-    /// How many connections were accepted.
-    ghost accepted: { Self → ℕ };
-
-    /// The links given back, in order.
-    ghost back: { Self → List LinkEnd };
-
-    /// The connections given back, in order.
-    ghost done: { Self → List LinkEnd };
-
-    ghost faults: { Self → ℕ };
-
-    /// Whether `ready` never answers `NotYet` on its links in mode `Loop`.
-    ghost always_ready: { Self → Bool };
-}
-
-impl<L: LinkerTells> LinkerTold for L {
-    ghost asked = { λ l. (L.state l).asked };
-
-    ghost accepted = { λ l. (L.state l).accepted };
-
-    ghost back = { λ l. (L.state l).back };
-
-    ghost done = { λ l. (L.state l).done };
-
-    ghost faults = { λ l. (L.state l).faults };
-
-    ghost always_ready = { λ l. (L.state l).always_ready };
-}
-
 /// Opens links, numbered from 0, and accepts connections; and takes both back. At most 256 of each.
 ///
 /// Its count of faults never falls: it rises where a call answers `Failed`, and stands still otherwise.
-pub trait Linker: LinkerTold {
+pub trait Linker {
     ghost use Rattle.sock_io.specs.declared.link.Mode.{Mode};
+
+    /// What was asked of each link that it opened, how many connections it accepted, the links and the connections given back,
+    /// its count of faults, and whether its links are always ready.
+    ghost state: { Self → LinkerState };
 
     type O: Out + Send;
 
@@ -210,18 +172,18 @@ pub trait Linker: LinkerTold {
 
     /// Opens the next link, and reserves the room for its `back`.
     fn open(&mut self, spec: &LinkSpec) -> Result<Ends<Self::O, Self::I, Self::P>, OpenFault>
-        requires { MayOpen (Self.asked self.old) spec.now }
-        ensures fresh { IfOk result (λ ends. IsFresh (Self.O.state ends.out) (Self.I.state ends.inn) (length (Self.asked self.old))) }
+        requires { MayOpen (Self.state self.old).asked spec.now }
+        ensures fresh { IfOk result (λ ends. IsFresh (Self.O.state ends.out) (Self.I.state ends.inn) (length (Self.state self.old).asked)) }
         ensures peer { IfOk result (λ ends. IsNewPeer (Self.P.state ends.peer)) }
         ensures offer { IfOk result (λ ends. IfSome (Self.I.state ends.inn).offer (λ o. IsNewOffer spec.now o)) }
         ensures one { IfOk result (λ ends. AreEnds (Self.O.state ends.out) (Self.P.state ends.peer) (Self.I.state ends.inn)) }
         ensures other { IfOk result (λ ends. IsAskedPeer spec.now (Self.P.state ends.peer)) }
         ensures tells { IfOk result (λ ends. tells_in spec.now.mode ≡ true → ((Self.I.state ends.inn).way ≢ []) × ((Self.I.state ends.inn).offer ≡ None) × ((Self.P.state ends.peer).present ≡ true)) }
-        ensures always_ready { IfOk result (λ ends. Self.always_ready self.old ≡ true → spec.now.mode ≡ Mode.Loop → (Self.O.state ends.out).always_ready ≡ true) }
-        ensures asked { IfOk result (λ _. Self.asked self.new ≡ Self.asked self.old ++ spec.now ∷ []) }
-        ensures refused { OnErr result (Self.asked self.new ≡ Self.asked self.old) }
-        ensures others { KeepsOthers Self.accepted Self.back Self.done Self.always_ready self.old self.new }
-        ensures cause { OpenCause (Self.faults self.old) (Self.faults self.new) result };
+        ensures always_ready { IfOk result (λ ends. (Self.state self.old).always_ready ≡ true → spec.now.mode ≡ Mode.Loop → (Self.O.state ends.out).always_ready ≡ true) }
+        ensures asked { IfOk result (λ _. (Self.state self.new).asked ≡ (Self.state self.old).asked ++ spec.now ∷ []) }
+        ensures refused { OnErr result ((Self.state self.new).asked ≡ (Self.state self.old).asked) }
+        ensures others { Self.state self.new ≡ record (Self.state self.old) { asked = (Self.state self.new).asked; faults = (Self.state self.new).faults } }
+        ensures cause { OpenCause (Self.state self.old).faults (Self.state self.new).faults result };
 
     /// Has a link's other end in memory answer what the link took since the last call, and close its half once the
     /// link was finished. Behind it the link is offered what belongs to all that it took. Other kinds of link do nothing
@@ -232,7 +194,7 @@ pub trait Linker: LinkerTold {
         ensures inn { SettleStep (Self.O.state ends.old.out) (Self.I.state ends.old.inn) (Self.I.state ends.new.inn) }
         ensures settled { OnOk result (IsSettled (Self.O.state ends.old.out) (Self.I.state ends.old.inn) (Self.I.state ends.new.inn)) }
         ensures err { OnErr result ((self.new ≡ self.old) × (ends.new ≡ ends.old)) }
-        ensures says { SaysAsBefore Self.asked Self.accepted Self.back Self.done Self.faults Self.always_ready self.old self.new };
+        ensures says { Self.state self.new ≡ Self.state self.old };
 
     /// Compares the ends of a link, once nobody else moves them: what its other end offers may become known by that.
     /// Besides that, what is told of the halves stays as it is. Most kinds of link do
@@ -242,40 +204,30 @@ pub trait Linker: LinkerTold {
         ensures out { MeetOut (Self.O.state ends.old.out) (Self.O.state ends.new.out) }
         ensures peer { Self.P.state ends.new.peer ≡ Self.P.state ends.old.peer }
         ensures inn { MeetStep (Self.O.state ends.old.out) (Self.P.state ends.old.peer) (Self.I.state ends.old.inn) (Self.I.state ends.new.inn) }
-        ensures says { SaysAsBefore Self.asked Self.accepted Self.back Self.done Self.faults Self.always_ready self.old self.new };
+        ensures says { Self.state self.new ≡ Self.state self.old };
 
     /// Accepts the next connection, and reserves the room for its `done`. The first call listens on 127.0.0.1 at the
     /// port.
     fn accept(&mut self, port: u16) -> Result<(Self::O, Self::I), OpenFault>
-        requires { Self.accepted self.old < 256 }
+        requires { (Self.state self.old).accepted < 256 }
         ensures fresh { IfOk result (λ halves. IsUnused (Self.O.state halves.0) (Self.I.state halves.1)) }
-        ensures accepted { IfOk result (λ _. Self.accepted self.new ≡ Self.accepted self.old + 1) }
-        ensures refused { OnErr result (Self.accepted self.new ≡ Self.accepted self.old) }
-        ensures others { KeepsOthers Self.asked Self.back Self.done Self.always_ready self.old self.new }
-        ensures cause { OpenCause (Self.faults self.old) (Self.faults self.new) result };
+        ensures accepted { IfOk result (λ _. (Self.state self.new).accepted ≡ (Self.state self.old).accepted + 1) }
+        ensures refused { OnErr result ((Self.state self.new).accepted ≡ (Self.state self.old).accepted) }
+        ensures others { Self.state self.new ≡ record (Self.state self.old) { accepted = (Self.state self.new).accepted; faults = (Self.state self.new).faults } }
+        ensures cause { OpenCause (Self.state self.old).faults (Self.state self.new).faults result };
 
     /// Takes a connection back.
     fn done(&mut self, out: Self::O, inn: Self::I)
-        requires { length (Self.done self.old) < Self.accepted self.old }
-        ensures done { Self.done self.new ≡ Self.done self.old ++ end_of (Self.O.state out) (Self.I.state inn) ∷ [] }
-        ensures asked { Self.asked self.new ≡ Self.asked self.old }
-        ensures accepted { Self.accepted self.new ≡ Self.accepted self.old }
-        ensures back { Self.back self.new ≡ Self.back self.old }
-        ensures stays_prompt { Self.always_ready self.new ≡ Self.always_ready self.old }
-        ensures faults { Self.faults self.new ≡ Self.faults self.old };
+        requires { length (Self.state self.old).done < (Self.state self.old).accepted }
+        ensures { Self.state self.new ≡ record (Self.state self.old) { done = (Self.state self.old).done ++ end_of (Self.O.state out) (Self.I.state inn) ∷ [] } };
 
     /// Takes a link back, which was opened and not given back before.
     fn back(&mut self, link: u16, ends: Ends<Self::O, Self::I, Self::P>)
-        requires opened { link < length (Self.asked self.old) }
+        requires opened { link < length (Self.state self.old).asked }
         requires own { (Self.O.state ends.out).link ≡ link }
-        requires once { AllByRecursion (λ (e : LinkEnd). e.link ≢ link) (Self.back self.old) }
-        requires fewer { length (Self.back self.old) < length (Self.asked self.old) }
-        ensures back { Self.back self.new ≡ Self.back self.old ++ end_of (Self.O.state ends.out) (Self.I.state ends.inn) ∷ [] }
-        ensures done { Self.done self.new ≡ Self.done self.old }
-        ensures asked { Self.asked self.new ≡ Self.asked self.old }
-        ensures accepted { Self.accepted self.new ≡ Self.accepted self.old }
-        ensures stays_prompt { Self.always_ready self.new ≡ Self.always_ready self.old }
-        ensures faults { Self.faults self.new ≡ Self.faults self.old };
+        requires once { AllByRecursion (λ (e : LinkEnd). e.link ≢ link) (Self.state self.old).back }
+        requires fewer { length (Self.state self.old).back < length (Self.state self.old).asked }
+        ensures { Self.state self.new ≡ record (Self.state self.old) { back = (Self.state self.old).back ++ end_of (Self.O.state ends.out) (Self.I.state ends.inn) ∷ [] } };
 }
 
 /// Where a client may be made to wait before an operation.

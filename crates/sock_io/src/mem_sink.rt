@@ -22,9 +22,9 @@ pub struct MemSink {
 
 impl Model for MemSink {
     ghost use Rattle.std.specs.Prelude.{◌≤◌, vec_capacity, vec_len};
-    ghost use Rattle.sock_io.specs.Memory.{SinkState};
+    ghost use Rattle.sock_io.specs.Memory.{MemSinkState};
 
-    ghost Value = { SinkState };
+    ghost Value = { MemSinkState };
 
     ghost view = { λ s. record { contents = s.bytes.items; room = s.room; fail = s.fail.items; calls = s.calls; faults = s.faults } };
 
@@ -55,9 +55,7 @@ impl MemSink {
 }
 
 impl Sink for MemSink {
-    ghost contents = { λ s. Some s.contents };
-
-    ghost faults = { λ s. s.faults };
+    ghost state = { λ s. record { contents = Some s.contents; faults = s.faults } };
 
     fn write(&mut self, piece: &[u8]) -> Result<usize, Failed>
         requires { 0 < length piece.now }

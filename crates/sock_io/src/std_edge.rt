@@ -30,9 +30,7 @@ impl<T: Drop> StdEdge<T> {
 }
 
 impl<R: Read + Drop> Source for StdEdge<R> {
-    ghost left = { λ e. R.remaining e.inner };
-
-    ghost faults = { λ e. e.faults };
+    ghost state = { λ e. record { left = R.remaining e.inner; faults = e.faults } };
 
     fn read(&mut self, room: &mut [u8]) -> Result<usize, Failed> {
         match self.inner.read(room) {
@@ -46,9 +44,7 @@ impl<R: Read + Drop> Source for StdEdge<R> {
 }
 
 impl<W: Write + Drop> Sink for StdEdge<W> {
-    ghost contents = { λ e. W.contents e.inner };
-
-    ghost faults = { λ e. e.faults };
+    ghost state = { λ e. record { contents = W.contents e.inner; faults = e.faults } };
 
     fn write(&mut self, piece: &[u8]) -> Result<usize, Failed> {
         match self.inner.write(piece) {

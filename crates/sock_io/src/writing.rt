@@ -8,10 +8,10 @@ use crate::stream::{Failed, Sink};
 
 /// Writes a text whole. Where the sink fails, it has taken a beginning of the text.
 pub fn write_all<K: Sink>(out: &mut K, text: &[u8]) -> Result<(), Failed>
-    ensures whole { OnOk result (Appends (K.contents out.old) (K.contents out.new) text.now) }
-    ensures kept { OnOk result (K.faults out.new ≡ K.faults out.old) }
-    ensures part { OnErr result (WrotePart (K.contents out.old) (K.contents out.new) text.now) }
-    ensures failed { OnErr result (Rose (K.faults out.old) (K.faults out.new)) }
+    ensures whole { OnOk result (Appends (K.state out.old).contents (K.state out.new).contents text.now) }
+    ensures kept { OnOk result ((K.state out.new).faults ≡ (K.state out.old).faults) }
+    ensures part { OnErr result (WrotePart (K.state out.old).contents (K.state out.new).contents text.now) }
+    ensures failed { OnErr result (Rose (K.state out.old).faults (K.state out.new).faults) }
 {
     let mut rest = text;
     while !rest.is_empty() {
