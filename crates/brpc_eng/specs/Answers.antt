@@ -17,6 +17,8 @@ use Rattle.brpc_model.specs.Complete.{FitsWhole}
 use Rattle.brpc_model.specs.Served.{FitsServed}
 use Rattle.script_report.specs.Sums.{told_of, sums_of, summary_text}
 use Rattle.sock_io.specs.Causes.{Rose}
+use Rattle.sock_io.specs.Link.{LinkerState}
+use Rattle.sock_io.specs.Stream.{SourceState, SinkState}
 use Rattle.sock_io.specs.Writing.{WrotePart}
 use Rattle.frame_print.specs.Printed.{Edges, PrintsFrames}
 use Rattle.frame_print.specs.declared.print.StreamEnd.{StreamEnd}
@@ -81,17 +83,17 @@ pub record Links : Type 1 where
 -- ## These over a call, by what they tell before and behind it: of a linker, whether its links are always ready is read
 -- before, and what was asked, given back and accepted behind it
 
-abbrev pub faults_over : {T : Type 0} → (T → ℕ) → T → T → Faults
-faults_over faults_of old new = record { before = faults_of old; now = faults_of new }
+abbrev pub faults_over : ℕ → ℕ → Faults
+faults_over old new = record { before = old; now = new }
 
-abbrev pub source_over : {S : Type 0} → (S → Option (List ℕ)) → (S → ℕ) → S → S → Input
-source_over left_of faults_of old new = record { given = left_of old; left = left_of new; faults = faults_over faults_of old new }
+abbrev pub source_over : SourceState → SourceState → Input
+source_over old new = record { given = old.left; left = new.left; faults = faults_over old.faults new.faults }
 
-abbrev pub sink_over : {K : Type 0} → (K → Option (List ℕ)) → (K → ℕ) → K → K → Output
-sink_over contents_of faults_of old new = record { before = contents_of old; now = contents_of new; faults = faults_over faults_of old new }
+abbrev pub sink_over : SinkState → SinkState → Output
+sink_over old new = record { before = old.contents; now = new.contents; faults = faults_over old.faults new.faults }
 
-abbrev pub linker_over : {L : Type 0} → (L → Bool) → (tells offering : Type 0) → (Mode → Bool) → (L → List LinkSpec) → (L → List LinkEnd) → (L → ℕ) → (L → List LinkEnd) → (L → ℕ) → L → L → Links
-linker_over ready_of tells offering tells_in asked_of back_of accepted_of done_of faults_of old new = record { always_ready = ready_of old; tells = tells; offering = offering; tells_in = tells_in; asked = asked_of new; ends = back_of new; accepted = accepted_of new; done = done_of new; faults = faults_over faults_of old new }
+abbrev pub linker_over : (tells offering : Type 0) → (Mode → Bool) → LinkerState → LinkerState → Links
+linker_over tells offering tells_in old new = record { always_ready = old.always_ready; tells = tells; offering = offering; tells_in = tells_in; asked = new.asked; ends = new.back; accepted = new.accepted; done = new.done; faults = faults_over old.faults new.faults }
 
 -- no link was opened, and none was given back
 abbrev pub OpenedNothing : List LinkSpec → List LinkEnd → Type 0
@@ -102,8 +104,8 @@ abbrev pub OpenedNone : Links → Type 0
 OpenedNone links = OpenedNothing links.asked links.ends
 
 -- no link was opened, no connection accepted, and none given back
-abbrev pub UnusedLinker : List LinkSpec → List LinkEnd → ℕ → List LinkEnd → Type 0
-UnusedLinker asked ends accepted done = OpenedNothing asked ends × (accepted ≡ 0) × (done ≡ [])
+abbrev pub UnusedLinker : LinkerState → Type 0
+UnusedLinker links = OpenedNothing links.asked links.back × (links.accepted ≡ 0) × (links.done ≡ [])
 
 -- the links that the lines of a script ask for were opened as they ask, in this mode, all of them where a report was written or begun, else the
 -- first of them; and each is given back, in order

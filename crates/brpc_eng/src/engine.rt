@@ -50,11 +50,11 @@ pub fn brpc<R: Threads + Wait + Sync, S: Source, K: Sink, L: Linker, G: Gate + S
     links: &mut L,
     gate: &G,
 ) -> u8
-    requires unused { UnusedLinker (L.asked links.old) (L.back links.old) (L.accepted links.old) (L.done links.old) }
+    requires unused { UnusedLinker (L.state links.old) }
     // `TellClosed`: a reading half of this type tells whether it is found closed. Links in memory do. `TellOffers`: its links tell what
     // they took, gave and are offered, as those whose other end is the built-in server do.
-    ensures answers { Answers (map string_bytes words.now) (source_over S.left S.faults source.old source.new) (sink_over K.contents K.faults out.old out.new) (linker_over L.always_ready (TellClosed L.I.state) (TellOffers L.O.state L.I.state) L.tells_in L.asked L.back L.accepted L.done L.faults links.old links.new) result }
-    ensures counts { CountsStand (faults_over S.faults source.old source.new) (faults_over L.faults links.old links.new) result }
+    ensures answers { Answers (map string_bytes words.now) (source_over (S.state source.old) (S.state source.new)) (sink_over (K.state out.old) (K.state out.new)) (linker_over (TellClosed L.I.state) (TellOffers L.O.state L.I.state) L.tells_in (L.state links.old) (L.state links.new)) result }
+    ensures counts { CountsStand (faults_over (S.state source.old).faults (S.state source.new).faults) (faults_over (L.state links.old).faults (L.state links.new).faults) result }
 {
     answer(rt, alloc, words, source, out, links, gate).number()
 }
@@ -69,9 +69,9 @@ fn answer<R: Threads + Wait + Sync, S: Source, K: Sink, L: Linker, G: Gate + Syn
     links: &mut L,
     gate: &G,
 ) -> Status
-    requires unused { UnusedLinker (L.asked links.old) (L.back links.old) (L.accepted links.old) (L.done links.old) }
-    ensures answers { Answers (map string_bytes words.now) (source_over S.left S.faults source.old source.new) (sink_over K.contents K.faults out.old out.new) (linker_over L.always_ready (TellClosed L.I.state) (TellOffers L.O.state L.I.state) L.tells_in L.asked L.back L.accepted L.done L.faults links.old links.new) (number_of result) }
-    ensures counts { CountsStand (faults_over S.faults source.old source.new) (faults_over L.faults links.old links.new) (number_of result) }
+    requires unused { UnusedLinker (L.state links.old) }
+    ensures answers { Answers (map string_bytes words.now) (source_over (S.state source.old) (S.state source.new)) (sink_over (K.state out.old) (K.state out.new)) (linker_over (TellClosed L.I.state) (TellOffers L.O.state L.I.state) L.tells_in (L.state links.old) (L.state links.new)) (number_of result) }
+    ensures counts { CountsStand (faults_over (S.state source.old).faults (S.state source.new).faults) (faults_over (L.state links.old).faults (L.state links.new).faults) (number_of result) }
 {
     match read_command(words) {
         None => {

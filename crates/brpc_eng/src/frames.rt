@@ -9,8 +9,8 @@ use std::alloc::Global;
 
 /// Prints the frames of the input.
 pub fn frames<S: Source, K: Sink>(alloc: Global, source: &mut S, out: &mut K) -> Status
-    ensures printed { FramesPrinted (source_over S.left S.faults source.old source.new) (sink_over K.contents K.faults out.old out.new) (number_of result) }
-    ensures source { number_of result ≢ 4 → S.faults source.new ≡ S.faults source.old }
+    ensures printed { FramesPrinted (source_over (S.state source.old) (S.state source.new)) (sink_over (K.state out.old) (K.state out.new)) (number_of result) }
+    ensures source { number_of result ≢ 4 → (S.state source.new).faults ≡ (S.state source.old).faults }
 {
     status_of(print_frames(alloc, source, out))
 }

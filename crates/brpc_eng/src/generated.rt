@@ -11,7 +11,7 @@ use std::alloc::Global;
 
 /// Draws a script and prints it.
 pub fn print_generated<K: Sink>(alloc: Global, draw: &Draw, out: &mut K) -> Status
-    ensures { Generated draw.now.seed draw.now.clients draw.now.operations (sink_over K.contents K.faults out.old out.new) (number_of result) }
+    ensures { Generated draw.now.seed draw.now.clients draw.now.operations (sink_over (K.state out.old) (K.state out.new)) (number_of result) }
 {
     let seed = u64::from(draw.seed);
     let Ok(lines) = generate(alloc, seed, draw.clients as u16, draw.operations as u16) else {

@@ -25,12 +25,12 @@ pub enum NoScript {
 
 /// Reads the input as a script, and keeps nothing of its text.
 pub fn read_input<S: Source>(alloc: Global, source: &mut S) -> Result<Script, NoScript>
-    ensures came { CameAs (S.left source.old) (S.left source.new) result }
+    ensures came { CameAs (S.state source.old).left (S.state source.new).left result }
     ensures short { IfOk result (λ script. IsShort script) }
     ensures pieces { IfOk result (λ script. list_all has_piece script ≡ true) }
-    ensures failed { IsErrOf result (NoScript.Unread InputFault.Failed) → Rose (S.faults source.old) (S.faults source.new) }
-    ensures kept { OnOk result (S.faults source.new ≡ S.faults source.old) }
-    ensures unfailed { IfErr result (λ fault. fault ≢ NoScript.Unread InputFault.Failed → S.faults source.new ≡ S.faults source.old) }
+    ensures failed { IsErrOf result (NoScript.Unread InputFault.Failed) → Rose (S.state source.old).faults (S.state source.new).faults }
+    ensures kept { OnOk result ((S.state source.new).faults ≡ (S.state source.old).faults) }
+    ensures unfailed { IfErr result (λ fault. fault ≢ NoScript.Unread InputFault.Failed → (S.state source.new).faults ≡ (S.state source.old).faults) }
 {
     let bytes = match read_all(alloc, source) {
         Ok(bytes) => bytes,
@@ -45,7 +45,7 @@ pub fn read_input<S: Source>(alloc: Global, source: &mut S) -> Result<Script, No
 
 /// Writes where a script is faulty, and nothing where the input wasn't read whole.
 pub fn tell_fault<K: Sink>(alloc: Global, fault: NoScript, out: &mut K) -> Status
-    ensures told { NoScriptTold fault (sink_over K.contents K.faults out.old out.new) (number_of result) }
+    ensures told { NoScriptTold fault (sink_over (K.state out.old) (K.state out.new)) (number_of result) }
     ensures unfailed { number_of result ≢ 4 → fault ≢ NoScript.Unread InputFault.Failed }
 {
     match fault {

@@ -33,9 +33,9 @@ fn drawn_script(alloc: Global, seed: u64, draw: &Draw) -> Result<Script, NoMemor
 
 /// Draws a script, runs it by the schedule that its seed draws, and writes the summary of that run.
 pub fn load<K: Sink, L: Linker>(alloc: Global, draw: &Draw, out: &mut K, links: &mut L) -> Status
-    requires unopened { OpenedNothing (L.asked links.old) (L.back links.old) }
-    ensures loaded { Loaded draw.now.seed draw.now.clients draw.now.operations (sink_over K.contents K.faults out.old out.new) (linker_over L.always_ready (TellClosed L.I.state) (TellOffers L.O.state L.I.state) L.tells_in L.asked L.back L.accepted L.done L.faults links.old links.new) (number_of result) }
-    ensures linker { number_of result ≢ 8 → L.faults links.new ≡ L.faults links.old }
+    requires unopened { OpenedNothing (L.state links.old).asked (L.state links.old).back }
+    ensures loaded { Loaded draw.now.seed draw.now.clients draw.now.operations (sink_over (K.state out.old) (K.state out.new)) (linker_over (TellClosed L.I.state) (TellOffers L.O.state L.I.state) L.tells_in (L.state links.old) (L.state links.new)) (number_of result) }
+    ensures linker { number_of result ≢ 8 → (L.state links.new).faults ≡ (L.state links.old).faults }
 {
     let seed = u64::from(draw.seed);
     let Ok(script) = drawn_script(alloc, seed, draw) else {

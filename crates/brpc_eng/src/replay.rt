@@ -18,9 +18,9 @@ pub fn replay<S: Source, K: Sink, L: Linker>(
     links: &mut L,
     schedule: Schedule,
 ) -> Status
-    requires unopened { OpenedNothing (L.asked links.old) (L.back links.old) }
-    ensures replayed { ReplayedInput in_memory (by_turns (λ script. turns_of script schedule)) (source_over S.left S.faults source.old source.new) (sink_over K.contents K.faults out.old out.new) (linker_over L.always_ready (TellClosed L.I.state) (TellOffers L.O.state L.I.state) L.tells_in L.asked L.back L.accepted L.done L.faults links.old links.new) (number_of result) }
-    ensures counts { CountsStand (faults_over S.faults source.old source.new) (faults_over L.faults links.old links.new) (number_of result) }
+    requires unopened { OpenedNothing (L.state links.old).asked (L.state links.old).back }
+    ensures replayed { ReplayedInput in_memory (by_turns (λ script. turns_of script schedule)) (source_over (S.state source.old) (S.state source.new)) (sink_over (K.state out.old) (K.state out.new)) (linker_over (TellClosed L.I.state) (TellOffers L.O.state L.I.state) L.tells_in (L.state links.old) (L.state links.new)) (number_of result) }
+    ensures counts { CountsStand (faults_over (S.state source.old).faults (S.state source.new).faults) (faults_over (L.state links.old).faults (L.state links.new).faults) (number_of result) }
 {
     match read_input(alloc, source) {
         Ok(script) => run_and_report(alloc, script, schedule, out, links),
@@ -30,7 +30,7 @@ pub fn replay<S: Source, K: Sink, L: Linker>(
 
 /// Writes where a script is faulty.
 pub fn write_fault<K: Sink>(alloc: Global, line: u32, kind: u8, out: &mut K) -> Status
-    ensures { FaultWritten (sink_over K.contents K.faults out.old out.new) line kind (number_of result) }
+    ensures { FaultWritten (sink_over (K.state out.old) (K.state out.new)) line kind (number_of result) }
 {
     match format!(in alloc; "script fault line {line} kind {kind}\n") {
         Ok(text) => {
@@ -43,7 +43,7 @@ pub fn write_fault<K: Sink>(alloc: Global, line: u32, kind: u8, out: &mut K) -> 
 
 /// Writes the text of an answer, which stands whatever becomes of the writing.
 pub fn write_answer<K: Sink>(out: &mut K, text: &[u8])
-    ensures { Wrote (sink_over K.contents K.faults out.old out.new) text.now }
+    ensures { Wrote (sink_over (K.state out.old) (K.state out.new)) text.now }
 {
     let _ = write_all(out, text);
 }

@@ -22,12 +22,12 @@ pub fn run_and_report<K: Sink, L: Linker>(
     out: &mut K,
     links: &mut L,
 ) -> Status
-    requires unopened { OpenedNothing (L.asked links.old) (L.back links.old) }
+    requires unopened { OpenedNothing (L.state links.old).asked (L.state links.old).back }
     requires short { IsShort script }
     requires pieces { list_all has_piece script ≡ true }
-    ensures ran { Ran (turns_of script schedule) script (sink_over K.contents K.faults out.old out.new) (linker_over L.always_ready (TellClosed L.I.state) (TellOffers L.O.state L.I.state) L.tells_in L.asked L.back L.accepted L.done L.faults links.old links.new) (number_of result) }
-    ensures opened { OpenedBy modes.Loop script (linker_over L.always_ready (TellClosed L.I.state) (TellOffers L.O.state L.I.state) L.tells_in L.asked L.back L.accepted L.done L.faults links.old links.new) (number_of result) }
-    ensures linker { number_of result ≢ 8 → L.faults links.new ≡ L.faults links.old }
+    ensures ran { Ran (turns_of script schedule) script (sink_over (K.state out.old) (K.state out.new)) (linker_over (TellClosed L.I.state) (TellOffers L.O.state L.I.state) L.tells_in (L.state links.old) (L.state links.new)) (number_of result) }
+    ensures opened { OpenedBy modes.Loop script (linker_over (TellClosed L.I.state) (TellOffers L.O.state L.I.state) L.tells_in (L.state links.old) (L.state links.new)) (number_of result) }
+    ensures linker { number_of result ≢ 8 → (L.state links.new).faults ≡ (L.state links.old).faults }
 {
     match run_script(alloc, script, schedule, Print::Report, links) {
         Ok(text) => write_report(out, &text),
@@ -38,7 +38,7 @@ pub fn run_and_report<K: Sink, L: Linker>(
 
 /// Writes a report, or a summary.
 pub fn write_report<K: Sink>(out: &mut K, text: &[u8]) -> Status
-    ensures { TextWritten (sink_over K.contents K.faults out.old out.new) text.now (number_of result) }
+    ensures { TextWritten (sink_over (K.state out.old) (K.state out.new)) text.now (number_of result) }
 {
     match write_all(out, text) {
         Ok(()) => Status::Done,

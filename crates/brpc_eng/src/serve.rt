@@ -21,9 +21,9 @@ pub fn serve<R: Threads + Wait + Sync, K: Sink, L: Linker>(
     out: &mut K,
     links: &mut L,
 ) -> Status
-    requires unused { UnusedLinker (L.asked links.old) (L.back links.old) (L.accepted links.old) (L.done links.old) }
-    ensures served { ServedPort doors.now.connections (sink_over K.contents K.faults out.old out.new) (linker_over L.always_ready (TellClosed L.I.state) (TellOffers L.O.state L.I.state) L.tells_in L.asked L.back L.accepted L.done L.faults links.old links.new) (number_of result) }
-    ensures linker { number_of result ≢ 8 → L.faults links.new ≡ L.faults links.old }
+    requires unused { UnusedLinker (L.state links.old) }
+    ensures served { ServedPort doors.now.connections (sink_over (K.state out.old) (K.state out.new)) (linker_over (TellClosed L.I.state) (TellOffers L.O.state L.I.state) L.tells_in (L.state links.old) (L.state links.new)) (number_of result) }
+    ensures linker { number_of result ≢ 8 → (L.state links.new).faults ≡ (L.state links.old).faults }
 {
     match serve_all(
         rt,
@@ -42,8 +42,8 @@ pub fn serve<R: Threads + Wait + Sync, K: Sink, L: Linker>(
 
 /// Writes how many connections were served, and how many frames had replies.
 fn write_served<K: Sink>(alloc: Global, connections: u32, frames: u64, out: &mut K) -> Status
-    ensures { TextWritten (sink_over K.contents K.faults out.old out.new) (served_text connections frames) (number_of result)
-        ⊎ ((number_of result ≡ 7) × WroteNothing (sink_over K.contents K.faults out.old out.new)) }
+    ensures { TextWritten (sink_over (K.state out.old) (K.state out.new)) (served_text connections frames) (number_of result)
+        ⊎ ((number_of result ≡ 7) × WroteNothing (sink_over (K.state out.old) (K.state out.new))) }
 {
     match format!(in alloc; "served {connections} frames {frames}\n") {
         Ok(text) => write_report(out, text.as_bytes()),

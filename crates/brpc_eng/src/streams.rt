@@ -21,9 +21,9 @@ pub enum InputFault {
 
 /// Reads all that a source gives, and at most one byte more than a script may have.
 pub fn read_all<S: Source>(alloc: Global, source: &mut S) -> Result<Vec<u8>, InputFault>
-    ensures came { (bytes : List ℕ) × ReadWhole (S.left source.old) (S.left source.new) bytes result }
-    ensures failed { IsErrOf result InputFault.Failed → Rose (S.faults source.old) (S.faults source.new) }
-    ensures kept { (¬ IsErrOf result InputFault.Failed) → S.faults source.new ≡ S.faults source.old }
+    ensures came { (bytes : List ℕ) × ReadWhole (S.state source.old).left (S.state source.new).left bytes result }
+    ensures failed { IsErrOf result InputFault.Failed → Rose (S.state source.old).faults (S.state source.new).faults }
+    ensures kept { (¬ IsErrOf result InputFault.Failed) → (S.state source.new).faults ≡ (S.state source.old).faults }
 {
     let mut bytes = Vec::new(alloc);
     let mut room = [0u8; 4096];

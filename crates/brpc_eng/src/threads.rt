@@ -37,9 +37,9 @@ pub fn run_threads<R: Threads + Wait + Sync, S: Source, K: Sink, L: Linker, G: G
     links: &mut L,
     gate: &G,
 ) -> Status
-    requires unopened { OpenedNothing (L.asked links.old) (L.back links.old) }
-    ensures replayed { ReplayedInput (run_mode port) (RanOnThreads (run_mode port)) (source_over S.left S.faults source.old source.new) (sink_over K.contents K.faults out.old out.new) (linker_over L.always_ready (TellClosed L.I.state) (TellOffers L.O.state L.I.state) L.tells_in L.asked L.back L.accepted L.done L.faults links.old links.new) (number_of result) }
-    ensures counts { CountsStand (faults_over S.faults source.old source.new) (faults_over L.faults links.old links.new) (number_of result) }
+    requires unopened { OpenedNothing (L.state links.old).asked (L.state links.old).back }
+    ensures replayed { ReplayedInput (run_mode port) (RanOnThreads (run_mode port)) (source_over (S.state source.old) (S.state source.new)) (sink_over (K.state out.old) (K.state out.new)) (linker_over (TellClosed L.I.state) (TellOffers L.O.state L.I.state) L.tells_in (L.state links.old) (L.state links.new)) (number_of result) }
+    ensures counts { CountsStand (faults_over (S.state source.old).faults (S.state source.new).faults) (faults_over (L.state links.old).faults (L.state links.new).faults) (number_of result) }
 {
     match read_input(alloc, source) {
         Ok(script) => threads_and_report(rt, alloc, port, &script, out, links, gate),
@@ -57,12 +57,12 @@ fn threads_and_report<R: Threads + Wait + Sync, K: Sink, L: Linker, G: Gate + Sy
     links: &mut L,
     gate: &G,
 ) -> Status
-    requires unopened { OpenedNothing (L.asked links.old) (L.back links.old) }
+    requires unopened { OpenedNothing (L.state links.old).asked (L.state links.old).back }
     requires short { IsShort script.now }
     requires pieces { list_all has_piece script.now ≡ true }
-    ensures ran { RanOnThreads (run_mode port) script.now (sink_over K.contents K.faults out.old out.new) (linker_over L.always_ready (TellClosed L.I.state) (TellOffers L.O.state L.I.state) L.tells_in L.asked L.back L.accepted L.done L.faults links.old links.new) (number_of result) }
-    ensures opened { OpenedBy (run_mode port) script.now (linker_over L.always_ready (TellClosed L.I.state) (TellOffers L.O.state L.I.state) L.tells_in L.asked L.back L.accepted L.done L.faults links.old links.new) (number_of result) }
-    ensures linker { number_of result ≢ 8 → L.faults links.new ≡ L.faults links.old }
+    ensures ran { RanOnThreads (run_mode port) script.now (sink_over (K.state out.old) (K.state out.new)) (linker_over (TellClosed L.I.state) (TellOffers L.O.state L.I.state) L.tells_in (L.state links.old) (L.state links.new)) (number_of result) }
+    ensures opened { OpenedBy (run_mode port) script.now (linker_over (TellClosed L.I.state) (TellOffers L.O.state L.I.state) L.tells_in (L.state links.old) (L.state links.new)) (number_of result) }
+    ensures linker { number_of result ≢ 8 → (L.state links.new).faults ≡ (L.state links.old).faults }
 {
     let mode = run_mode(port);
     let ran = run_on_threads(rt, alloc, mode, script, links, gate);
@@ -71,7 +71,7 @@ fn threads_and_report<R: Threads + Wait + Sync, K: Sink, L: Linker, G: Gate + Sy
 
 /// Writes the report of a run, or tells what stood in its way.
 fn tell_run<K: Sink>(ran: Result<Vec<u8>, OpenFault>, out: &mut K) -> Status
-    ensures { RunTold ran (sink_over K.contents K.faults out.old out.new) (number_of result) }
+    ensures { RunTold ran (sink_over (K.state out.old) (K.state out.new)) (number_of result) }
 {
     match ran {
         Ok(text) => write_report(out, &text),

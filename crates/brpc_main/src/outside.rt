@@ -40,7 +40,7 @@ fn run_over<
     E: Print,
     L: Linker,
 >(rt: &R, errors: &E, links: &mut L) -> ExitCode
-    requires unused { UnusedLinker (L.asked links.old) (L.back links.old) (L.accepted links.old) (L.done links.old) }
+    requires unused { UnusedLinker (L.state links.old) }
 {
     let mut source = StdEdge::new(rt.reader());
     let mut out = StdEdge::new(io::writer(rt));

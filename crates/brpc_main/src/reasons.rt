@@ -21,7 +21,7 @@ fn reason(status: u8) -> &'static [u8]
 
 /// Writes that line: whole, or a beginning of it where the count of faults rose.
 pub fn explain<E: Sink>(errors: &mut E, status: u8)
-    ensures { Wrote (sink_over E.contents E.faults errors.old errors.new) (reason_text status) }
+    ensures { Wrote (sink_over (E.state errors.old) (E.state errors.new)) (reason_text status) }
 {
     let _ = write_all(errors, reason(status));
 }

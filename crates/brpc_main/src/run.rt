@@ -34,10 +34,10 @@ pub fn run_with<R: Threads + Wait + Sync, S: Source, K: Sink, L: Linker, G: Gate
     gate: &G,
     errors: &mut E,
 ) -> ExitCode
-    requires unused { UnusedLinker (L.asked links.old) (L.back links.old) (L.accepted links.old) (L.done links.old) }
-    ensures answers { Answers (words_behind args) (source_over S.left S.faults source.old source.new) (sink_over K.contents K.faults out.old out.new) (linker_over L.always_ready (TellClosed L.I.state) (TellOffers L.O.state L.I.state) L.tells_in L.asked L.back L.accepted L.done L.faults links.old links.new) (exit_status result)
+    requires unused { UnusedLinker (L.state links.old) }
+    ensures answers { Answers (words_behind args) (source_over (S.state source.old) (S.state source.new)) (sink_over (K.state out.old) (K.state out.new)) (linker_over (TellClosed L.I.state) (TellOffers L.O.state L.I.state) L.tells_in (L.state links.old) (L.state links.new)) (exit_status result)
         ⊎ ((exit_status result ≡ 7) × (source.new ≡ source.old) × (out.new ≡ out.old) × (links.new ≡ links.old)) }
-    ensures explained { Wrote (sink_over E.contents E.faults errors.old errors.new) (reason_text (exit_status result)) }
+    ensures explained { Wrote (sink_over (E.state errors.old) (E.state errors.new)) (reason_text (exit_status result)) }
 {
     match all_of(alloc, args) {
         Ok(args) => {
@@ -51,7 +51,7 @@ pub fn run_with<R: Threads + Wait + Sync, S: Source, K: Sink, L: Linker, G: Gate
 /// Says why the program ends with this number, and ends with it.
 fn ended<E: Sink>(status: u8, errors: &mut E) -> ExitCode
     ensures code { exit_status result ≡ status }
-    ensures explained { Wrote (sink_over E.contents E.faults errors.old errors.new) (reason_text (exit_status result)) }
+    ensures explained { Wrote (sink_over (E.state errors.old) (E.state errors.new)) (reason_text (exit_status result)) }
 {
     explain(errors, status);
     ExitCode::from(status)

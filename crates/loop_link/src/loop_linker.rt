@@ -11,9 +11,7 @@ ghost use Rattle.loop_link.specs.Serving.{Settled, loop_in, new_in, offer_of};
 
 use crate::loop_in::LoopIn;
 use io_buf::BlockPool;
-use sock_io::{
-    Ends, LinkSpec, Linker, LinkerTells, MemLinks, MemOut, NoMemory, NoPeer, OpenFault, Out, Shaped,
-};
+use sock_io::{Ends, LinkSpec, Linker, MemLinks, MemOut, NoMemory, NoPeer, OpenFault, Out, Shaped};
 use std::alloc::Global;
 use std::marker::Model;
 
@@ -53,11 +51,9 @@ impl LoopLinker {
     }
 }
 
-impl LinkerTells for LoopLinker {
-    ghost state = { λ l. record { asked = l.asked; accepted = l.accepted; back = l.back; done = l.done; faults = l.faults; always_ready = true } };
-}
-
 impl Linker for LoopLinker {
+    ghost state = { λ l. record { asked = l.asked; accepted = l.accepted; back = l.back; done = l.done; faults = l.faults; always_ready = true } };
+
     type O = Shaped<MemOut>;
 
     type I = LoopIn;

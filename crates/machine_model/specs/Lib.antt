@@ -7,7 +7,6 @@ pub mod Telling
 pub mod Reading
 pub mod Passing
 pub mod Driving
-pub mod Linkers
 pub mod Parts
 pub use Rattle.run_theorems
 pub use Rattle.id_runs

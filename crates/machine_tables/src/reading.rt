@@ -2,7 +2,6 @@ ghost use Rattle.std.specs.Prelude.{◌≡◌, ◌≤◌, ◌<◌, ℕ, true, fa
 ghost use Rattle.sock_io.specs.Link.{TakeStep};
 ghost use Rattle.seat_programs.specs.Ticks.{OfTake, is_nothing};
 ghost use Rattle.reader_seats.specs.GoesOn.{taking_of};
-ghost use Rattle.machine_model.specs.Linkers.{SaysAsBefore};
 ghost use Rattle.machine_model.specs.Machines.{IsSized};
 ghost use Rattle.machine_model.specs.Steps.{IsOnWord};
 ghost use Rattle.machine_model.specs.Reading.{IsFitRead, ReadTold, IsCutTable};
@@ -100,7 +99,7 @@ impl<O: Out, I: In, P: Peer> Table<O, I, P> {
         requires sized { IsSized self.old }
         ensures ok { IfOk result (λ tick. (seat : ℕ) → ReadTold self.old self.new seat reader.old reader.new (ReadStep.Aside (Aside.TakeBytes link count)) tick) }
         ensures err { OnErr result (IsCutTable self.old self.new) }
-        ensures says { SaysAsBefore L.asked L.accepted L.back L.done L.faults L.always_ready links.old links.new }
+        ensures says { L.state links.new ≡ L.state links.old }
     {
         // A reader takes some bytes of a link that there is.
         if usize::from(link) >= self.ends.len() || count == 0 {
@@ -139,7 +138,7 @@ impl<O: Out, I: In, P: Peer> Table<O, I, P> {
         requires sized { IsSized self.old }
         ensures ok { IfOk result (λ tick. ReadTold self.old self.new seat reader.old reader.new step tick) }
         ensures err { OnErr result (IsCutTable self.old self.new) }
-        ensures says { SaysAsBefore L.asked L.accepted L.back L.done L.faults L.always_ready links.old links.new }
+        ensures says { L.state links.new ≡ L.state links.old }
     {
         match step {
             ReadStep::Call(call) => self.read_call(reader, seat, call),

@@ -1,5 +1,4 @@
 ghost use Rattle.std.specs.Prelude.{◌≡◌, ◌+◌, ◌<◌, ℕ, true, Some, None, IfSome, IfNone, IfOk, OnOk, OnErr, length};
-ghost use Rattle.machine_model.specs.Linkers.{SaysAsBefore};
 ghost use Rattle.machine_model.specs.Machines.{MachineState, table_of, IsSized};
 ghost use Rattle.client_seats.specs.Seats.{seat_data};
 ghost use Rattle.client_seats.specs.Following.{IsPrepared};
@@ -227,7 +226,7 @@ impl<O: Out, I: In, P: Peer> Tables<O, I, P> {
         requires sized { IsSized (table_of self.old) }
         ensures ok { IfOk result (λ tick. TickRead self.old self.new (32 + link) link step tick) }
         ensures err { OnErr result (IsCutShort self.old self.new) }
-        ensures says { SaysAsBefore L.asked L.accepted L.back L.done L.faults L.always_ready links.old links.new }
+        ensures says { L.state links.new ≡ L.state links.old }
     {
         if !has_reader(link) {
             self.short = true;

@@ -9,8 +9,7 @@ use crate::streams::{accept, connect};
 use crate::tcp_half::TcpHalf;
 use crate::tcp_in::TcpIn;
 use sock_io::{
-    Ends, LinkSpec, Linker, LinkerTells, Mode, NoMemory, NoPeer, NotedLinks, OpenFault, Shaped,
-    risen,
+    Ends, LinkSpec, Linker, Mode, NoMemory, NoPeer, NotedLinks, OpenFault, Shaped, risen,
 };
 use std::alloc::Global;
 use std::marker::Model;
@@ -87,12 +86,10 @@ impl<N: Net<Stream = TcpStream, Listener = TcpListener> + Drop> TcpLinker<N> {
     }
 }
 
-impl<N: Net<Stream = TcpStream, Listener = TcpListener> + Drop> LinkerTells for TcpLinker<N> {
+impl<N: Net<Stream = TcpStream, Listener = TcpListener> + Drop> Linker for TcpLinker<N> {
     // A value of `LinkerState` by itself may say otherwise.
     ghost state = { λ l. record l { always_ready = true } };
-}
 
-impl<N: Net<Stream = TcpStream, Listener = TcpListener> + Drop> Linker for TcpLinker<N> {
     type O = TcpHalf;
 
     type I = TcpIn;

@@ -35,7 +35,7 @@ pub fn answered<R: Threads + Wait + Sync + Alloc<A = Global>, L: Linker, G: Gate
     links: &mut L,
     gate: &G,
 ) -> Result<Answer, AllocError>
-    requires unused { UnusedLinker (L.asked links.old) (L.back links.old) (L.accepted links.old) (L.done links.old) }
+    requires unused { UnusedLinker (L.state links.old) }
 {
     let alloc = rt.alloc();
     let reads = vec![in alloc; asked.read]?;

@@ -6,9 +6,7 @@ ghost use Rattle.ring_link.specs.Halves.{ring_in};
 
 use crossbeam_utils::Backoff;
 use ring_link::{RingIn, RingLinker, RingOut, RingPeer};
-use sock_io::{
-    Ends, Gate, LinkSpec, Linker, LinkerTells, NoMemory, OpenFault, Out, Put, Ready, Shaped,
-};
+use sock_io::{Ends, Gate, LinkSpec, Linker, NoMemory, OpenFault, Out, Put, Ready, Shaped};
 use std::alloc::{AllocError, Global};
 use std::sync::atomic::{AtomicU64, Ordering};
 use std::sync::{Arc, Wait};
@@ -125,11 +123,9 @@ impl<R: AllocGlobal + Drop> HeldLinker<R> {
     }
 }
 
-impl<R: AllocGlobal + Drop> LinkerTells for HeldLinker<R> {
-    ghost state = { λ l. record { asked = l.inner.asked; accepted = l.inner.accepted; back = l.inner.back; done = l.inner.done; faults = 0; always_ready = false } };
-}
-
 impl<R: AllocGlobal + Drop> Linker for HeldLinker<R> {
+    ghost state = { λ l. record { asked = l.inner.asked; accepted = l.inner.accepted; back = l.inner.back; done = l.inner.done; faults = 0; always_ready = false } };
+
     type O = HeldOut;
 
     type I = RingIn;

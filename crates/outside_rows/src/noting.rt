@@ -3,7 +3,7 @@ ghost use Rattle.std.specs.List.{AllByRecursion};
 ghost use Rattle.brpc_model.specs.Link.{LinkEnd};
 ghost use Rattle.sock_io.specs.Link.{end_of};
 
-use sock_io::{Ends, LinkSpec, Linker, LinkerTells, NoMemory, OpenFault, Out};
+use sock_io::{Ends, LinkSpec, Linker, NoMemory, OpenFault, Out};
 use std::alloc::Global;
 
 /// A linker that notes each link that is given back, and how many bytes it took; and what links and connections took that are
@@ -48,11 +48,9 @@ impl<L: Linker + Drop> Noting<L> {
     }
 }
 
-impl<L: Linker + Drop> LinkerTells for Noting<L> {
-    ghost state = { λ l. record { asked = L.asked l.inner; accepted = L.accepted l.inner; back = L.back l.inner; done = L.done l.inner; faults = L.faults l.inner + l.failed; always_ready = L.always_ready l.inner } };
-}
-
 impl<L: Linker + Drop> Linker for Noting<L> {
+    ghost state = { λ l. record (L.state l.inner) { faults = (L.state l.inner).faults + l.failed } };
+
     type O = L::O;
 
     type I = L::I;
@@ -88,16 +86,11 @@ impl<L: Linker + Drop> Linker for Noting<L> {
     }
 
     fn back(&mut self, link: u16, ends: Ends<L::O, L::I, L::P>)
-        requires opened { link < length (L.asked self.old.inner) }
+        requires opened { link < length (L.state self.old.inner).asked }
         requires own { (L.O.state ends.out).link ≡ link }
-        requires once { AllByRecursion (λ (e : LinkEnd). e.link ≢ link) (L.back self.old.inner) }
-        requires fewer { length (L.back self.old.inner) < length (L.asked self.old.inner) }
-        ensures back { L.back self.new.inner ≡ L.back self.old.inner ++ end_of (L.O.state ends.out) (L.I.state ends.inn) ∷ [] }
-        ensures done { L.done self.new.inner ≡ L.done self.old.inner }
-        ensures asked { L.asked self.new.inner ≡ L.asked self.old.inner }
-        ensures accepted { L.accepted self.new.inner ≡ L.accepted self.old.inner }
-        ensures stays_prompt { L.always_ready self.new.inner ≡ L.always_ready self.old.inner }
-        ensures faults { L.faults self.new.inner ≡ L.faults self.old.inner }
+        requires once { AllByRecursion (λ (e : LinkEnd). e.link ≢ link) (L.state self.old.inner).back }
+        requires fewer { length (L.state self.old.inner).back < length (L.state self.old.inner).asked }
+        ensures back { L.state self.new.inner ≡ record (L.state self.old.inner) { back = (L.state self.old.inner).back ++ end_of (L.O.state ends.out) (L.I.state ends.inn) ∷ [] } }
         ensures failed { self.new.failed ≡ self.old.failed }
     {
         let _ = self.noted.push((link, ends.out.taken().len()));

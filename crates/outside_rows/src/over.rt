@@ -18,7 +18,7 @@ fn answer_over<R: Threads + Wait + Sync + Alloc<A = Global>, L: Linker + Drop>(
     asked: Asked,
     links: L,
 ) -> Result<Answer, AllocError>
-    requires unused { UnusedLinker (L.asked links) (L.back links) (L.accepted links) (L.done links) }
+    requires unused { UnusedLinker (L.state links) }
 {
     let mut links = links;
     answered(rt, asked, &mut links, &OpenGate)
@@ -133,7 +133,7 @@ fn over_noted<R: Threads + Wait + Sync + Alloc<A = Global>, L: Linker + Drop>(
     links: Noting<L>,
     telling: Telling,
 ) -> Result<String, AllocError>
-    requires unused { UnusedLinker (L.asked links.inner) (L.back links.inner) (L.accepted links.inner) (L.done links.inner) }
+    requires unused { UnusedLinker (L.state links.inner) }
 {
     let mut links = links;
     let answer = answered(rt, asked, &mut links, &OpenGate)?;

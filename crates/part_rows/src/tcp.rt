@@ -56,7 +56,7 @@ fn hear_over<O: Out, I: In>(out: &mut O, inn: &mut I) -> Heard {
 
 // Accepts a connection and hears what comes over it.
 fn hear<L: Linker>(links: &mut L, port: u16) -> Option<Heard>
-    requires { (L.accepted links.old ≡ 0) × (L.done links.old ≡ []) }
+    requires { ((L.state links.old).accepted ≡ 0) × ((L.state links.old).done ≡ []) }
 {
     let Ok((mut out, mut inn)) = links.accept(port) else {
         return None;
@@ -85,7 +85,7 @@ fn take_reply<I: In>(inn: &mut I) -> (bool, Take, Take) {
 
 // Opens a link, puts a message and ends it, and then takes the reply; nothing where nobody listens yet.
 fn say<L: Linker>(links: &mut L, port: u16) -> Option<Said>
-    requires { (L.asked links.old ≡ []) × (L.back links.old ≡ []) }
+    requires { ((L.state links.old).asked ≡ []) × ((L.state links.old).back ≡ []) }
 {
     let Ok(mut ends) = links.open(&asked(Mode::Tcp(port))) else {
         return None;
@@ -133,7 +133,7 @@ fn message_and_its_end_come_over(rt: HostRuntime) -> Result<(), Fail> {
 
 // Whether the first link of a linker isn't opened, in this mode.
 fn is_refused<L: Linker>(links: &mut L, mode: Mode) -> bool
-    requires { L.asked links.old ≡ [] }
+    requires { (L.state links.old).asked ≡ [] }
 {
     matches!(links.open(&asked(mode)), Err(OpenFault::Failed))
 }
@@ -188,7 +188,7 @@ fn lost_connection_fails(rt: HostRuntime) -> Result<(), Fail> {
 
 // Whether it opens no link that isn't to go over TCP.
 fn opens_no_loop<L: Linker>(links: &mut L) -> bool
-    requires { length (L.asked links.old) < 256 }
+    requires { length (L.state links.old).asked < 256 }
 {
     links.open(&asked(Mode::Loop)).is_err()
 }
@@ -294,7 +294,7 @@ fn drain<I: In>(inn: &mut I) -> usize {
 
 // Accepts a connection and floods it.
 fn flood_next<L: Linker>(links: &mut L, port: u16) -> usize
-    requires { (L.accepted links.old ≡ 0) × (L.done links.old ≡ []) }
+    requires { ((L.state links.old).accepted ≡ 0) × ((L.state links.old).done ≡ []) }
 {
     let Ok((mut out, inn)) = links.accept(port) else {
         return 0;
@@ -307,7 +307,7 @@ fn flood_next<L: Linker>(links: &mut L, port: u16) -> usize
 
 // Opens a link and takes all that comes; nothing where nobody listens yet.
 fn drain_one<L: Linker>(links: &mut L, port: u16) -> Option<usize>
-    requires { (L.asked links.old ≡ []) × (L.back links.old ≡ []) }
+    requires { ((L.state links.old).asked ≡ []) × ((L.state links.old).back ≡ []) }
 {
     let Ok(mut ends) = links.open(&asked(Mode::Tcp(port))) else {
         return None;

@@ -11,9 +11,7 @@ use io_buf::BlockPool;
 use loop_link::LoopLinker;
 use net_link::TcpLinker;
 use ring_link::open_ring;
-use sock_io::{
-    Ends, LinkSpec, Linker, LinkerTells, Mode, NoMemory, NotedLinks, OpenFault, Out, Shaped, risen,
-};
+use sock_io::{Ends, LinkSpec, Linker, Mode, NoMemory, NotedLinks, OpenFault, Out, Shaped, risen};
 use std::alloc::Global;
 use std::marker::Model;
 use std::net::{Net, TcpListener, TcpStream};
@@ -205,12 +203,10 @@ impl<N: Net<Stream = TcpStream, Listener = TcpListener> + Drop> ProgLinker<N> {
     }
 }
 
-impl<N: Net<Stream = TcpStream, Listener = TcpListener> + Drop> LinkerTells for ProgLinker<N> {
+impl<N: Net<Stream = TcpStream, Listener = TcpListener> + Drop> Linker for ProgLinker<N> {
     // A value of `LinkerState` by itself may say otherwise.
     ghost state = { λ l. record l { always_ready = true } };
-}
 
-impl<N: Net<Stream = TcpStream, Listener = TcpListener> + Drop> Linker for ProgLinker<N> {
     type O = ProgOut;
 
     type I = ProgIn;

@@ -9,9 +9,7 @@ use crate::open::{open_connection, open_ring};
 use crate::ring_in::RingIn;
 use crate::ring_out::RingOut;
 use crate::ring_peer::RingPeer;
-use sock_io::{
-    Ends, LinkSpec, Linker, LinkerTells, NoMemory, NotedLinks, OpenFault, Shape, Shaped,
-};
+use sock_io::{Ends, LinkSpec, Linker, NoMemory, NotedLinks, OpenFault, Shape, Shaped};
 use std::marker::Model;
 
 type Link = Ends<Shaped<RingOut>, RingIn, RingPeer>;
@@ -65,11 +63,9 @@ impl<R: AllocGlobal + Drop> RingLinker<R> {
     }
 }
 
-impl<R: AllocGlobal + Drop> LinkerTells for RingLinker<R> {
-    ghost state = { λ l. record { asked = l.asked; accepted = l.accepted; back = l.back; done = l.done; faults = 0; always_ready = false } };
-}
-
 impl<R: AllocGlobal + Drop> Linker for RingLinker<R> {
+    ghost state = { λ l. record { asked = l.asked; accepted = l.accepted; back = l.back; done = l.done; faults = 0; always_ready = false } };
+
     type O = Shaped<RingOut>;
 
     type I = RingIn;

@@ -31,22 +31,22 @@ fn open_line<L: Linker>(
     ends: &mut Vec<Ends<L::O, L::I, L::P>>,
 ) -> Result<(), OpenFault>
     requires piece { has_piece (item line.now) ≡ true }
-    requires opened { length (L.asked links.old) ≡ length ends.old.items }
+    requires opened { length (L.state links.old).asked ≡ length ends.old.items }
     requires few { is_open (item line.now) ≡ true → length ends.old.items < 256 }
     ensures fresh { AreUntouched 0 (map (λ e. end_of (L.O.state e.out) (L.I.state e.inn)) ends.old.items) → AreUntouched 0 (map (λ e. end_of (L.O.state e.out) (L.I.state e.inn)) ends.new.items) }
     ensures unfinished { AllByRecursion (λ (e : Ends L.O L.I L.P). (L.O.state e.out).finished ≡ false) ends.old.items → AllByRecursion (λ (e : Ends L.O L.I L.P). (L.O.state e.out).finished ≡ false) ends.new.items }
     ensures unclosed { AllByRecursion (λ (e : Ends L.O L.I L.P). IfSome (L.I.state e.inn).closing (λ closing. closing ≡ false)) ends.old.items → AllByRecursion (λ (e : Ends L.O L.I L.P). IfSome (L.I.state e.inn).closing (λ closing. closing ≡ false)) ends.new.items }
-    ensures prompt_each { L.always_ready links.old ≡ true → mode ≡ Mode.Loop → AllByRecursion (λ (e : Ends L.O L.I L.P). (L.O.state e.out).always_ready ≡ true) ends.old.items → AllByRecursion (λ (e : Ends L.O L.I L.P). (L.O.state e.out).always_ready ≡ true) ends.new.items }
+    ensures prompt_each { (L.state links.old).always_ready ≡ true → mode ≡ Mode.Loop → AllByRecursion (λ (e : Ends L.O L.I L.P). (L.O.state e.out).always_ready ≡ true) ends.old.items → AllByRecursion (λ (e : Ends L.O L.I L.P). (L.O.state e.out).always_ready ≡ true) ends.new.items }
     ensures count { OnOk result (length ends.new.items ≡ length ends.old.items + (if is_open (item line.now) then 1 else 0)) }
     ensures err { OnErr result (length ends.new.items ≡ length ends.old.items) }
-    ensures asked { OnOk result (L.asked links.new ≡ L.asked links.old ++ specs_of mode (item line.now ∷ [])) }
-    ensures refused { OnErr result (L.asked links.new ≡ L.asked links.old) }
-    ensures offers { OnOk result (TellOffers L.O.state L.I.state → AreAsked (L.asked links.old) (map (λ e. L.O.state e.out) ends.old.items) (map (λ e. L.I.state e.inn) ends.old.items) → AreAsked (L.asked links.new) (map (λ e. L.O.state e.out) ends.new.items) (map (λ e. L.I.state e.inn) ends.new.items)) }
-    ensures ends { OnOk result (AreOpened L.tells_in L.O.state L.P.state L.I.state (L.asked links.old) ends.old.items → AreOpened L.tells_in L.O.state L.P.state L.I.state (L.asked links.new) ends.new.items) }
-    ensures opened { length (L.asked links.new) ≡ length ends.new.items }
-    ensures back { L.back links.new ≡ L.back links.old }
-    ensures always_ready { L.always_ready links.new ≡ L.always_ready links.old }
-    ensures cause { OpenCause (L.faults links.old) (L.faults links.new) result }
+    ensures asked { OnOk result ((L.state links.new).asked ≡ (L.state links.old).asked ++ specs_of mode (item line.now ∷ [])) }
+    ensures refused { OnErr result ((L.state links.new).asked ≡ (L.state links.old).asked) }
+    ensures offers { OnOk result (TellOffers L.O.state L.I.state → AreAsked (L.state links.old).asked (map (λ e. L.O.state e.out) ends.old.items) (map (λ e. L.I.state e.inn) ends.old.items) → AreAsked (L.state links.new).asked (map (λ e. L.O.state e.out) ends.new.items) (map (λ e. L.I.state e.inn) ends.new.items)) }
+    ensures ends { OnOk result (AreOpened L.tells_in L.O.state L.P.state L.I.state (L.state links.old).asked ends.old.items → AreOpened L.tells_in L.O.state L.P.state L.I.state (L.state links.new).asked ends.new.items) }
+    ensures opened { length (L.state links.new).asked ≡ length ends.new.items }
+    ensures back { (L.state links.new).back ≡ (L.state links.old).back }
+    ensures always_ready { (L.state links.new).always_ready ≡ (L.state links.old).always_ready }
+    ensures cause { OpenCause (L.state links.old).faults (L.state links.new).faults result }
 {
     let Line::Open(open) = line else {
         return Ok(());
@@ -68,26 +68,26 @@ pub fn open_links<L: Linker>(
     links: &mut L,
     ends: &mut Vec<Ends<L::O, L::I, L::P>>,
 ) -> Result<(), OpenFault>
-    requires asked { L.asked links.old ≡ [] }
+    requires asked { (L.state links.old).asked ≡ [] }
     requires ends { ends.old.items ≡ [] }
     requires few { count_by is_open_line lines.now ≤ 256 }
     requires pieces { list_all has_piece_line lines.now ≡ true }
     ensures fresh { AreUntouched 0 (map (λ e. end_of (L.O.state e.out) (L.I.state e.inn)) ends.new.items) }
     ensures unfinished { AllByRecursion (λ (e : Ends L.O L.I L.P). (L.O.state e.out).finished ≡ false) ends.new.items }
     ensures unclosed { AllByRecursion (λ (e : Ends L.O L.I L.P). IfSome (L.I.state e.inn).closing (λ closing. closing ≡ false)) ends.new.items }
-    ensures prompt_each { L.always_ready links.old ≡ true → mode ≡ Mode.Loop → AllByRecursion (λ (e : Ends L.O L.I L.P). (L.O.state e.out).always_ready ≡ true) ends.new.items }
+    ensures prompt_each { (L.state links.old).always_ready ≡ true → mode ≡ Mode.Loop → AllByRecursion (λ (e : Ends L.O L.I L.P). (L.O.state e.out).always_ready ≡ true) ends.new.items }
     ensures whole { OnOk result (length ends.new.items ≡ count_by is_open_line lines.now) }
     ensures most { length ends.new.items ≤ count_by is_open_line lines.now }
-    ensures asked { OnOk result (L.asked links.new ≡ specs_of mode (map item lines.now)) }
-    ensures front { IsBeginning (L.asked links.new) (specs_of mode (map item lines.now)) }
-    ensures offers { OnOk result (TellOffers L.O.state L.I.state → AreAsked (L.asked links.new) (map (λ e. L.O.state e.out) ends.new.items) (map (λ e. L.I.state e.inn) ends.new.items)) }
-    ensures ends { OnOk result (AreOpened L.tells_in L.O.state L.P.state L.I.state (L.asked links.new) ends.new.items) }
-    ensures opened { length (L.asked links.new) ≡ length ends.new.items }
-    ensures back { L.back links.new ≡ L.back links.old }
-    ensures always_ready { L.always_ready links.new ≡ L.always_ready links.old }
-    ensures later { L.faults links.old ≤ L.faults links.new }
-    ensures failed { IsErrOf result OpenFault.Failed → Rose (L.faults links.old) (L.faults links.new) }
-    ensures kept { (¬ IsErrOf result OpenFault.Failed) → L.faults links.new ≡ L.faults links.old }
+    ensures asked { OnOk result ((L.state links.new).asked ≡ specs_of mode (map item lines.now)) }
+    ensures front { IsBeginning (L.state links.new).asked (specs_of mode (map item lines.now)) }
+    ensures offers { OnOk result (TellOffers L.O.state L.I.state → AreAsked (L.state links.new).asked (map (λ e. L.O.state e.out) ends.new.items) (map (λ e. L.I.state e.inn) ends.new.items)) }
+    ensures ends { OnOk result (AreOpened L.tells_in L.O.state L.P.state L.I.state (L.state links.new).asked ends.new.items) }
+    ensures opened { length (L.state links.new).asked ≡ length ends.new.items }
+    ensures back { (L.state links.new).back ≡ (L.state links.old).back }
+    ensures always_ready { (L.state links.new).always_ready ≡ (L.state links.old).always_ready }
+    ensures later { (L.state links.old).faults ≤ (L.state links.new).faults }
+    ensures failed { IsErrOf result OpenFault.Failed → Rose (L.state links.old).faults (L.state links.new).faults }
+    ensures kept { (¬ IsErrOf result OpenFault.Failed) → (L.state links.new).faults ≡ (L.state links.old).faults }
 {
     for line in lines {
         open_line(mode, line, links, ends)?;
@@ -98,15 +98,15 @@ pub fn open_links<L: Linker>(
 /// Gives one link back.
 fn give_one<L: Linker>(links: &mut L, link: u16, ends: Ends<L::O, L::I, L::P>)
     requires own { (L.O.state ends.out).link ≡ link }
-    requires opened { link < length (L.asked links.old) }
-    requires next { link ≡ length (L.back links.old) }
-    requires lower { AllByRecursion (λ (e : LinkEnd). e.link < link) (L.back links.old) }
-    ensures back { L.back links.new ≡ L.back links.old ++ end_of (L.O.state ends.out) (L.I.state ends.inn) ∷ [] }
-    ensures lower { AllByRecursion (λ (e : LinkEnd). e.link < link + 1) (L.back links.new) }
-    ensures next { link + 1 ≡ length (L.back links.new) }
-    ensures asked { L.asked links.new ≡ L.asked links.old }
-    ensures faults { L.faults links.new ≡ L.faults links.old }
-    ensures always_ready { L.always_ready links.new ≡ L.always_ready links.old }
+    requires opened { link < length (L.state links.old).asked }
+    requires next { link ≡ length (L.state links.old).back }
+    requires lower { AllByRecursion (λ (e : LinkEnd). e.link < link) (L.state links.old).back }
+    ensures back { (L.state links.new).back ≡ (L.state links.old).back ++ end_of (L.O.state ends.out) (L.I.state ends.inn) ∷ [] }
+    ensures lower { AllByRecursion (λ (e : LinkEnd). e.link < link + 1) (L.state links.new).back }
+    ensures next { link + 1 ≡ length (L.state links.new).back }
+    ensures asked { (L.state links.new).asked ≡ (L.state links.old).asked }
+    ensures faults { (L.state links.new).faults ≡ (L.state links.old).faults }
+    ensures always_ready { (L.state links.new).always_ready ≡ (L.state links.old).always_ready }
 {
     links.back(link, ends);
 }
@@ -114,14 +114,14 @@ fn give_one<L: Linker>(links: &mut L, link: u16, ends: Ends<L::O, L::I, L::P>)
 /// Gives the links back, in order.
 pub fn give_back<L: Linker>(links: &mut L, ends: Vec<Ends<L::O, L::I, L::P>>)
     requires numbered { AreNumbered 0 (map (λ e. end_of (L.O.state e.out) (L.I.state e.inn)) ends.items) }
-    requires opened { length (L.asked links.old) ≡ length ends.items }
-    requires back { L.back links.old ≡ [] }
+    requires opened { length (L.state links.old).asked ≡ length ends.items }
+    requires back { (L.state links.old).back ≡ [] }
     requires few { length ends.items ≤ 256 }
-    ensures back { L.back links.new ≡ map (λ e. end_of (L.O.state e.out) (L.I.state e.inn)) ends.items }
-    ensures numbered { AreNumbered 0 (L.back links.new) }
-    ensures asked { L.asked links.new ≡ L.asked links.old }
-    ensures faults { L.faults links.new ≡ L.faults links.old }
-    ensures always_ready { L.always_ready links.new ≡ L.always_ready links.old }
+    ensures back { (L.state links.new).back ≡ map (λ e. end_of (L.O.state e.out) (L.I.state e.inn)) ends.items }
+    ensures numbered { AreNumbered 0 (L.state links.new).back }
+    ensures asked { (L.state links.new).asked ≡ (L.state links.old).asked }
+    ensures faults { (L.state links.new).faults ≡ (L.state links.old).faults }
+    ensures always_ready { (L.state links.new).always_ready ≡ (L.state links.old).always_ready }
 {
     let mut link = 0u16;
     for ends in ends {

@@ -33,18 +33,18 @@ pub fn run_script<L: Linker>(
 ) -> Result<Vec<u8>, OpenFault>
     requires script { (bytes : List ℕ) × (script_of bytes ≡ Ok script) }
     requires pieces { list_all has_piece script ≡ true }
-    requires asked { L.asked links.old ≡ [] }
-    requires back { L.back links.old ≡ [] }
-    ensures text { IfOk result (λ text. L.always_ready links.old ≡ true → TellClosed L.I.state → IsPrinted (TellOffers L.O.state L.I.state) print script (turns_of script schedule) text.items (L.back links.new)) }
-    ensures unopened { IsErrOf result OpenFault.Failed → AreUntouched 0 (L.back links.new) }
-    ensures all { OnOk result (length (L.back links.new) ≡ length (link_names script)) }
+    requires asked { (L.state links.old).asked ≡ [] }
+    requires back { (L.state links.old).back ≡ [] }
+    ensures text { IfOk result (λ text. (L.state links.old).always_ready ≡ true → TellClosed L.I.state → IsPrinted (TellOffers L.O.state L.I.state) print script (turns_of script schedule) text.items (L.state links.new).back) }
+    ensures unopened { IsErrOf result OpenFault.Failed → AreUntouched 0 (L.state links.new).back }
+    ensures all { OnOk result (length (L.state links.new).back ≡ length (link_names script)) }
     // What is asked of the links is what the lines of the script ask, all of it unless one could not be opened.
-    ensures asked { OnOk result (L.asked links.new ≡ specs_of Mode.Loop script) }
-    ensures front { IsBeginning (L.asked links.new) (specs_of Mode.Loop script) }
-    ensures given_back { length (L.back links.new) ≡ length (L.asked links.new) }
-    ensures numbered { AreNumbered 0 (L.back links.new) }
-    ensures always_ready { L.always_ready links.new ≡ L.always_ready links.old }
-    ensures cause { OpenCause (L.faults links.old) (L.faults links.new) result }
+    ensures asked { OnOk result ((L.state links.new).asked ≡ specs_of Mode.Loop script) }
+    ensures front { IsBeginning (L.state links.new).asked (specs_of Mode.Loop script) }
+    ensures given_back { length (L.state links.new).back ≡ length (L.state links.new).asked }
+    ensures numbered { AreNumbered 0 (L.state links.new).back }
+    ensures always_ready { (L.state links.new).always_ready ≡ (L.state links.old).always_ready }
+    ensures cause { OpenCause (L.state links.old).faults (L.state links.new).faults result }
 {
     let mut ends = Vec::new(alloc);
     let opened = open_links(Mode::Loop, script.lines(), links, &mut ends);
@@ -87,18 +87,18 @@ fn run_over<L: Linker>(
     requires untouched { AreUntouched 0 (map (λ e. end_of (L.O.state e.out) (L.I.state e.inn)) ends.items) }
     requires unfinished { AllByRecursion (λ (e : Ends L.O L.I L.P). (L.O.state e.out).finished ≡ false) ends.items }
     requires unclosed { AllByRecursion (λ (e : Ends L.O L.I L.P). IfSome (L.I.state e.inn).closing (λ closing. closing ≡ false)) ends.items }
-    requires always_ready { L.always_ready links.old ≡ true → AllByRecursion (λ (e : Ends L.O L.I L.P). (L.O.state e.out).always_ready ≡ true) ends.items }
+    requires always_ready { (L.state links.old).always_ready ≡ true → AllByRecursion (λ (e : Ends L.O L.I L.P). (L.O.state e.out).always_ready ≡ true) ends.items }
     requires offers { TellOffers L.O.state L.I.state → AreAsked (specs_of Mode.Loop script) (map (λ e. L.O.state e.out) ends.items) (map (λ e. L.I.state e.inn) ends.items) }
     requires all { length ends.items ≡ length (link_names script) }
     requires few { length ends.items ≤ 256 }
-    requires opened { length (L.asked links.old) ≡ length ends.items }
-    requires back { L.back links.old ≡ [] }
-    ensures text { IfOk result (λ text. L.always_ready links.old ≡ true → TellClosed L.I.state → IsPrinted (TellOffers L.O.state L.I.state) print script (turns_of script schedule) text.items (L.back links.new)) }
-    ensures back { length (L.back links.new) ≡ length ends.items }
-    ensures numbered { AreNumbered 0 (L.back links.new) }
-    ensures asked { L.asked links.new ≡ L.asked links.old }
-    ensures faults { L.faults links.new ≡ L.faults links.old }
-    ensures always_ready { L.always_ready links.new ≡ L.always_ready links.old }
+    requires opened { length (L.state links.old).asked ≡ length ends.items }
+    requires back { (L.state links.old).back ≡ [] }
+    ensures text { IfOk result (λ text. (L.state links.old).always_ready ≡ true → TellClosed L.I.state → IsPrinted (TellOffers L.O.state L.I.state) print script (turns_of script schedule) text.items (L.state links.new).back) }
+    ensures back { length (L.state links.new).back ≡ length ends.items }
+    ensures numbered { AreNumbered 0 (L.state links.new).back }
+    ensures asked { (L.state links.new).asked ≡ (L.state links.old).asked }
+    ensures faults { (L.state links.new).faults ≡ (L.state links.old).faults }
+    ensures always_ready { (L.state links.new).always_ready ≡ (L.state links.old).always_ready }
 {
     // Behind this its lines aren't there any more.
     let Ok((prepared, outline)) = prepare(alloc, script) else {

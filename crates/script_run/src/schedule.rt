@@ -6,7 +6,6 @@ ghost use Rattle.seat_programs.specs.Runs.{Scheduled};
 ghost use Rattle.brpc_model.specs.Operations.{seat_number, turn_of, schedule};
 ghost use Rattle.script_items.specs.Meaning.{seat_of};
 ghost use Rattle.sock_core.specs.Beginnings.{IsMade};
-ghost use Rattle.machine_model.specs.Linkers.{SaysAsBefore};
 ghost use Rattle.machine_model.specs.Links.{AreAlwaysReady};
 ghost use Rattle.machine_model.specs.Runs.{SameLinks};
 ghost use Rattle.script_run.specs.Outlines.{meant};
@@ -49,7 +48,7 @@ fn tick_seat<L: Linker>(
     ensures idle { result ≡ Ok false → (n : ℕ) → HasPlayed (λ c moments. seats_of moments ≡ replicate n seat) machine.old machine.new }
     ensures playable { OnOk result (IsPlayable machine.new) }
     ensures ends { SameLinks machine.old machine.new }
-    ensures says { SaysAsBefore L.asked L.accepted L.back L.done L.faults L.always_ready links.old links.new }
+    ensures says { L.state links.new ≡ L.state links.old }
 {
     match machine.tick(links, seat)? {
         Tick::Moved(_) | Tick::Waits(_) => Ok(true),
@@ -68,7 +67,7 @@ fn play_ticks<L: Linker>(
     ensures played { OnOk result (HasPlayed (λ c moments. seats_of moments ≡ replicate ticks seat) machine.old machine.new) }
     ensures playable { OnOk result (IsPlayable machine.new) }
     ensures ends { SameLinks machine.old machine.new }
-    ensures says { SaysAsBefore L.asked L.accepted L.back L.done L.faults L.always_ready links.old links.new }
+    ensures says { L.state links.new ≡ L.state links.old }
 {
     for _ in 0..ticks {
         if !tick_seat(machine, links, seat)? {
@@ -88,7 +87,7 @@ fn play_mark<L: Linker>(
     ensures played { OnOk result (HasPlayed (HasTurns machine.old.plan (turn_of (meant mark.now))) machine.old machine.new) }
     ensures playable { OnOk result (IsPlayable machine.new) }
     ensures ends { SameLinks machine.old machine.new }
-    ensures says { SaysAsBefore L.asked L.accepted L.back L.done L.faults L.always_ready links.old links.new }
+    ensures says { L.state links.new ≡ L.state links.old }
 {
     match mark {
         Mark::Tick { seat, ticks } => play_ticks(machine, links, seat_number(*seat), *ticks),
@@ -107,7 +106,7 @@ fn play_marks<L: Linker>(
     ensures played { OnOk result (HasPlayed (λ c. Scheduled machine.old.plan c (schedule (map meant marks.now))) machine.old machine.new) }
     ensures playable { OnOk result (IsPlayable machine.new) }
     ensures ends { SameLinks machine.old machine.new }
-    ensures says { SaysAsBefore L.asked L.accepted L.back L.done L.faults L.always_ready links.old links.new }
+    ensures says { L.state links.new ≡ L.state links.old }
 {
     for mark in marks {
         play_mark(machine, links, mark)?;
@@ -127,7 +126,7 @@ pub fn play<L: Linker>(
     ensures run { OnOk result (AreAlwaysReady machine.old.links → HasRun script.now (turns_of script.now schedule) machine.old machine.new) }
     ensures plan { OnOk result ((machine.new.plan ≡ machine.old.plan) × (machine.new.ids.plan ≡ machine.old.ids.plan)) }
     ensures ends { SameLinks machine.old machine.new }
-    ensures says { SaysAsBefore L.asked L.accepted L.back L.done L.faults L.always_ready links.old links.new }
+    ensures says { L.state links.new ≡ L.state links.old }
 {
     match schedule {
         Schedule::Own => play_marks(machine, links, script.marks())?,

@@ -100,15 +100,15 @@ fn finish<O: Out, I: In, P: Peer, R: Wait>(
 fn meet_and_give_back<L: Linker>(links: &mut L, mut ends: Vec<Ends<L::O, L::I, L::P>>)
     requires ends { All (λ e. AreEnds (L.O.state e.out) (L.P.state e.peer) (L.I.state e.inn)) ends.items }
     requires numbered { AreNumbered 0 (map (λ e. end_of (L.O.state e.out) (L.I.state e.inn)) ends.items) }
-    requires opened { length (L.asked links.old) ≡ length ends.items }
-    requires back { L.back links.old ≡ [] }
+    requires opened { length (L.state links.old).asked ≡ length ends.items }
+    requires back { (L.state links.old).back ≡ [] }
     requires few { length ends.items ≤ 256 }
-    ensures back { L.back links.new ≡ map (λ e. end_of (L.O.state e.out) (L.I.state e.inn)) ends.items }
-    ensures numbered { AreNumbered 0 (L.back links.new) }
-    ensures met { (met : List (Ends L.O L.I L.P)) × (length met ≡ length ends.items) × MetBelow L.O.state L.P.state L.I.state (length ends.items) ends.items met × (L.back links.new ≡ map (λ e. end_of (L.O.state e.out) (L.I.state e.inn)) met) }
-    ensures asked { L.asked links.new ≡ L.asked links.old }
-    ensures faults { L.faults links.new ≡ L.faults links.old }
-    ensures always_ready { L.always_ready links.new ≡ L.always_ready links.old }
+    ensures back { (L.state links.new).back ≡ map (λ e. end_of (L.O.state e.out) (L.I.state e.inn)) ends.items }
+    ensures numbered { AreNumbered 0 (L.state links.new).back }
+    ensures met { (met : List (Ends L.O L.I L.P)) × (length met ≡ length ends.items) × MetBelow L.O.state L.P.state L.I.state (length ends.items) ends.items met × ((L.state links.new).back ≡ map (λ e. end_of (L.O.state e.out) (L.I.state e.inn)) met) }
+    ensures asked { (L.state links.new).asked ≡ (L.state links.old).asked }
+    ensures faults { (L.state links.new).faults ≡ (L.state links.old).faults }
+    ensures always_ready { (L.state links.new).always_ready ≡ (L.state links.old).always_ready }
 {
     meet_all(links, &mut ends);
     give_back(links, ends);
@@ -126,18 +126,18 @@ fn run_over<L: Linker, G: Gate + Sync, R: Threads + Wait + Sync>(
     requires script { (bytes : List ℕ) × (script_of bytes ≡ Ok script.now) }
     requires untouched { AreUntouched 0 (map (λ e. end_of (L.O.state e.out) (L.I.state e.inn)) ends.items) }
     requires unfinished { AllByRecursion (λ (e : Ends L.O L.I L.P). (L.O.state e.out).finished ≡ false) ends.items }
-    requires ends { AreOpened L.tells_in L.O.state L.P.state L.I.state (L.asked links.old) ends.items }
+    requires ends { AreOpened L.tells_in L.O.state L.P.state L.I.state (L.state links.old).asked ends.items }
     requires all { length ends.items ≡ length (link_names script.now) }
     requires few { length ends.items ≤ 256 }
-    requires opened { length (L.asked links.old) ≡ length ends.items }
-    requires back { L.back links.old ≡ [] }
-    ensures ran { IfOk result (λ text. IsThreadsRun L.P L.O.Out L.O.state L.I.state script.now text.items (L.back links.new)) }
-    ensures gave { OnOk result (GaveOffers L.tells_in (L.asked links.old) (L.back links.new)) }
-    ensures back { length (L.back links.new) ≡ length ends.items }
-    ensures numbered { AreNumbered 0 (L.back links.new) }
-    ensures asked { L.asked links.new ≡ L.asked links.old }
-    ensures faults { L.faults links.new ≡ L.faults links.old }
-    ensures always_ready { L.always_ready links.new ≡ L.always_ready links.old }
+    requires opened { length (L.state links.old).asked ≡ length ends.items }
+    requires back { (L.state links.old).back ≡ [] }
+    ensures ran { IfOk result (λ text. IsThreadsRun L.P L.O.Out L.O.state L.I.state script.now text.items (L.state links.new).back) }
+    ensures gave { OnOk result (GaveOffers L.tells_in (L.state links.old).asked (L.state links.new).back) }
+    ensures back { length (L.state links.new).back ≡ length ends.items }
+    ensures numbered { AreNumbered 0 (L.state links.new).back }
+    ensures asked { (L.state links.new).asked ≡ (L.state links.old).asked }
+    ensures faults { (L.state links.new).faults ≡ (L.state links.old).faults }
+    ensures always_ready { (L.state links.new).always_ready ≡ (L.state links.old).always_ready }
     ensures known { IsErrOf result OpenFault.Failed → ⊥ }
 {
     let count = ends.len();
@@ -220,22 +220,22 @@ pub fn run_on_threads<L: Linker, G: Gate + Sync, R: Threads + Wait + Sync>(
 ) -> Result<Vec<u8>, OpenFault>
     requires script { (bytes : List ℕ) × (script_of bytes ≡ Ok script.now) }
     requires pieces { list_all has_piece script.now ≡ true }
-    requires asked { L.asked links.old ≡ [] }
-    requires back { L.back links.old ≡ [] }
-    ensures ran { IfOk result (λ text. IsThreadsRun L.P L.O.Out L.O.state L.I.state script.now text.items (L.back links.new)) }
-    ensures text { IfOk result (λ text. IsThreadsText script.now text.items (L.back links.new)) }
-    ensures gave { OnOk result (GaveOffers L.tells_in (specs_of mode script.now) (L.back links.new)) }
-    ensures served { IfOk result (λ text. IsServedText (L.tells_in mode ≡ true) script.now text.items (L.back links.new)) }
-    ensures unopened { IsErrOf result OpenFault.Failed → AreUntouched 0 (L.back links.new) }
-    ensures all { OnOk result (length (L.back links.new) ≡ length (link_names script.now)) }
-    ensures asked { OnOk result (L.asked links.new ≡ specs_of mode script.now) }
-    ensures front { IsBeginning (L.asked links.new) (specs_of mode script.now) }
-    ensures given_back { length (L.back links.new) ≡ length (L.asked links.new) }
-    ensures numbered { AreNumbered 0 (L.back links.new) }
-    ensures always_ready { L.always_ready links.new ≡ L.always_ready links.old }
-    ensures later { L.faults links.old ≤ L.faults links.new }
-    ensures failed { IsErrOf result OpenFault.Failed → Rose (L.faults links.old) (L.faults links.new) }
-    ensures kept { (¬ IsErrOf result OpenFault.Failed) → L.faults links.new ≡ L.faults links.old }
+    requires asked { (L.state links.old).asked ≡ [] }
+    requires back { (L.state links.old).back ≡ [] }
+    ensures ran { IfOk result (λ text. IsThreadsRun L.P L.O.Out L.O.state L.I.state script.now text.items (L.state links.new).back) }
+    ensures text { IfOk result (λ text. IsThreadsText script.now text.items (L.state links.new).back) }
+    ensures gave { OnOk result (GaveOffers L.tells_in (specs_of mode script.now) (L.state links.new).back) }
+    ensures served { IfOk result (λ text. IsServedText (L.tells_in mode ≡ true) script.now text.items (L.state links.new).back) }
+    ensures unopened { IsErrOf result OpenFault.Failed → AreUntouched 0 (L.state links.new).back }
+    ensures all { OnOk result (length (L.state links.new).back ≡ length (link_names script.now)) }
+    ensures asked { OnOk result ((L.state links.new).asked ≡ specs_of mode script.now) }
+    ensures front { IsBeginning (L.state links.new).asked (specs_of mode script.now) }
+    ensures given_back { length (L.state links.new).back ≡ length (L.state links.new).asked }
+    ensures numbered { AreNumbered 0 (L.state links.new).back }
+    ensures always_ready { (L.state links.new).always_ready ≡ (L.state links.old).always_ready }
+    ensures later { (L.state links.old).faults ≤ (L.state links.new).faults }
+    ensures failed { IsErrOf result OpenFault.Failed → Rose (L.state links.old).faults (L.state links.new).faults }
+    ensures kept { (¬ IsErrOf result OpenFault.Failed) → (L.state links.new).faults ≡ (L.state links.old).faults }
 {
     let mut ends = Vec::new(alloc);
     match open_links(mode, script.lines(), links, &mut ends) {

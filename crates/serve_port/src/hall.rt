@@ -57,7 +57,7 @@ impl<'a, L: Linker> Door for Hall<'a, L> {
 
     type G = Connection<L::O, L::I>;
 
-    ghost links = { λ h. record { asked = L.asked h.links.now; accepted = L.accepted h.links.now; back = L.back h.links.now; done = L.done h.links.now; faults = L.faults h.links.now; always_ready = L.always_ready h.links.now } };
+    ghost links = { λ h. L.state h.links.now };
 
     ghost kept = { λ h. h.kept.items };
 
@@ -66,12 +66,12 @@ impl<'a, L: Linker> Door for Hall<'a, L> {
     ghost name = { λ h. h.links.ghost_name };
 
     fn accept(&mut self, port: u16) -> Result<Connection<L::O, L::I>, OpenFault>
-        requires { L.accepted self.old.links.now < 256 }
+        requires { (L.state self.old.links.now).accepted < 256 }
         ensures waits { IfOk result (λ c. IsUnused (L.O.state c.out) (L.I.state c.inn)) }
-        ensures accepted { IfOk result (λ _. ◌≡◌ {A = LinkerState} (record { asked = L.asked self.new.links.now; accepted = L.accepted self.new.links.now; back = L.back self.new.links.now; done = L.done self.new.links.now; faults = L.faults self.new.links.now; always_ready = L.always_ready self.new.links.now }) (record { asked = L.asked self.old.links.now; accepted = L.accepted self.old.links.now + 1; back = L.back self.old.links.now; done = L.done self.old.links.now; faults = L.faults self.old.links.now; always_ready = L.always_ready self.old.links.now })) }
-        ensures refused { OnErr result (◌≡◌ {A = LinkerState} (record { asked = L.asked self.new.links.now; accepted = L.accepted self.new.links.now; back = L.back self.new.links.now; done = L.done self.new.links.now; faults = L.faults self.new.links.now; always_ready = L.always_ready self.new.links.now }) (record { asked = L.asked self.old.links.now; accepted = L.accepted self.old.links.now; back = L.back self.old.links.now; done = L.done self.old.links.now; faults = L.faults self.new.links.now; always_ready = L.always_ready self.old.links.now })) }
-        ensures failed { IsErrOf result OpenFault.Failed → Rose (L.faults self.old.links.now) (L.faults self.new.links.now) }
-        ensures short { IsErrOf result OpenFault.NoMemory → L.faults self.new.links.now ≡ L.faults self.old.links.now }
+        ensures accepted { IfOk result (λ _. L.state self.new.links.now ≡ record (L.state self.old.links.now) { accepted = (L.state self.old.links.now).accepted + 1 }) }
+        ensures refused { OnErr result (L.state self.new.links.now ≡ record (L.state self.old.links.now) { faults = (L.state self.new.links.now).faults }) }
+        ensures failed { IsErrOf result OpenFault.Failed → Rose (L.state self.old.links.now).faults (L.state self.new.links.now).faults }
+        ensures short { IsErrOf result OpenFault.NoMemory → (L.state self.new.links.now).faults ≡ (L.state self.old.links.now).faults }
         ensures kept { self.new.kept ≡ self.old.kept }
         ensures name { self.new.links.ghost_name ≡ self.old.links.ghost_name }
     {

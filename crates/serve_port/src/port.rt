@@ -15,13 +15,8 @@ use std::thread::Threads;
 
 /// Gives the connections back, in order.
 fn give_back<L: Linker>(links: &mut L, kept: Vec<Connection<L::O, L::I>>) -> Tally
-    requires { length (L.done links.old) + length kept.items ≤ L.accepted links.old }
-    ensures done { L.done links.new ≡ L.done links.old ++ map (λ s. s.connection) (map (λ c. as_served L.O.state L.I.state c) kept.items) }
-    ensures asked { L.asked links.new ≡ L.asked links.old }
-    ensures accepted { L.accepted links.new ≡ L.accepted links.old }
-    ensures back { L.back links.new ≡ L.back links.old }
-    ensures faults { L.faults links.new ≡ L.faults links.old }
-    ensures always_ready { L.always_ready links.new ≡ L.always_ready links.old }
+    requires { length (L.state links.old).done + length kept.items ≤ (L.state links.old).accepted }
+    ensures links { L.state links.new ≡ record (L.state links.old) { done = (L.state links.old).done ++ map (λ s. s.connection) (map (λ c. as_served L.O.state L.I.state c) kept.items) } }
     ensures tally { IsTally (map (λ c. as_served L.O.state L.I.state c) kept.items) result }
 {
     let mut tally = Tally::new();
@@ -43,12 +38,9 @@ pub fn serve_all<R: Threads + Wait + Sync, L: Linker>(
     port: u16,
     count: u16,
 ) -> Result<u64, ServeFault>
-    requires few { L.accepted links.old + count ≤ 256 }
-    requires done { length (L.done links.old) ≤ L.accepted links.old }
-    ensures { ServesConnections count
-        (record { asked = L.asked links.old; accepted = L.accepted links.old; back = L.back links.old; done = L.done links.old; faults = L.faults links.old; always_ready = L.always_ready links.old })
-        (record { asked = L.asked links.new; accepted = L.accepted links.new; back = L.back links.new; done = L.done links.new; faults = L.faults links.new; always_ready = L.always_ready links.new })
-        result }
+    requires few { (L.state links.old).accepted + count ≤ 256 }
+    requires done { length (L.state links.old).done ≤ (L.state links.old).accepted }
+    ensures { ServesConnections count (L.state links.old) (L.state links.new) result }
 {
     let count = usize::from(count);
     let Ok(kept) = Vec::with_capacity(alloc, count) else {

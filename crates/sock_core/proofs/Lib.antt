@@ -1,7 +1,6 @@
 pub mod Leading
 pub mod Settling
 pub mod Rounding
-pub mod Linkers
 pub mod Endings
 pub mod Gathering
 pub mod Starting

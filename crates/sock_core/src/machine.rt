@@ -6,7 +6,6 @@ ghost use Rattle.sock_io.specs.Link.{OutState, InState, end_of};
 ghost use Rattle.seat_programs.specs.Scripts.{beginning, programs, readers_from, all_programs, sizes_of, place_words};
 ghost use Rattle.machine_model.specs.run_theorems.specs.Below.joint_runs.proofs.Starts.{AreFor};
 ghost use Rattle.sock_core.specs.Beginnings.{AreUnused, IsMade, TellsLinks};
-ghost use Rattle.machine_model.specs.Linkers.{SaysAsBefore};
 ghost use Rattle.machine_model.specs.Links.{Taken, Given, Agrees, AgreesGave};
 ghost use Rattle.machine_model.specs.Machines.{MOST_LEFT as most_left, HasSizes, core_with, ending_by};
 ghost use Rattle.machine_model.specs.Runs.{SameLinks, SameTable, Ticked, Led, Still, HasMoved, PlayedOn, RanFirst, Settled};
@@ -96,7 +95,7 @@ impl<O: Out, I: In, P: Peer> Machine<O, I, P> {
         requires { self.old.short ≡ false }
         ensures went { WentOn self.old self.new (32 + link) result }
         ensures rest { OnOk result (FirstRests self.old → FirstRests self.new) }
-        ensures says { SaysAsBefore L.asked L.accepted L.back L.done L.faults L.always_ready links.old links.new }
+        ensures says { L.state links.new ≡ L.state links.old }
     {
         let Some(step) = self.tables.next_read(link) else {
             return Ok(Tick::Idle);
@@ -117,7 +116,7 @@ impl<O: Out, I: In, P: Peer> Machine<O, I, P> {
         ensures same { SameTable self.old self.new × SameLinks self.old self.new }
         ensures rest { OnOk result (seat ≢ 0 → FirstRests self.old → FirstRests self.new) }
         ensures sizes { ∥ HasSizes self.new ∥₁ }
-        ensures says { SaysAsBefore L.asked L.accepted L.back L.done L.faults L.always_ready links.old links.new }
+        ensures says { L.state links.new ≡ L.state links.old }
     {
         if self.tables.short {
             return Err(NoMemory);
@@ -215,7 +214,7 @@ impl<O: Out, I: In, P: Peer> Machine<O, I, P> {
         ensures rest { OnOk result (FirstRests self.new) }
         ensures same { SameTable self.old self.new × SameLinks self.old self.new }
         ensures sizes { ∥ HasSizes self.new ∥₁ }
-        ensures says { SaysAsBefore L.asked L.accepted L.back L.done L.faults L.always_ready links.old links.new }
+        ensures says { L.state links.new ≡ L.state links.old }
     {
         if seat == 0 {
             if self.tables.short {
@@ -238,7 +237,7 @@ impl<O: Out, I: In, P: Peer> Machine<O, I, P> {
         ensures rest { OnOk result (FirstRests self.new) }
         ensures same { SameTable self.old self.new × SameLinks self.old self.new }
         ensures sizes { ∥ HasSizes self.new ∥₁ }
-        ensures says { SaysAsBefore L.asked L.accepted L.back L.done L.faults L.always_ready links.old links.new }
+        ensures says { L.state links.new ≡ L.state links.old }
     {
         for _ in 0..self.most_left()? {
             if self.tick(links, seat)?.is_last(kind) {
@@ -256,7 +255,7 @@ impl<O: Out, I: In, P: Peer> Machine<O, I, P> {
         ensures still { result ≡ Ok false → Still self.old self.new × (self.new.short ≡ false) }
         ensures rest { OnOk result (FirstRests self.new) }
         ensures same { SameTable self.old self.new × SameLinks self.old self.new }
-        ensures says { SaysAsBefore L.asked L.accepted L.back L.done L.faults L.always_ready links.old links.new }
+        ensures says { L.state links.new ≡ L.state links.old }
     {
         let mut moved = false;
         for seat in 1..self.clients() {
@@ -278,7 +277,7 @@ impl<O: Out, I: In, P: Peer> Machine<O, I, P> {
         ensures ok { OnOk result (PlayedOn self.old self.new × (self.new.short ≡ false)) }
         ensures rest { OnOk result (FirstRests self.new) }
         ensures same { SameTable self.old self.new × SameLinks self.old self.new }
-        ensures says { SaysAsBefore L.asked L.accepted L.back L.done L.faults L.always_ready links.old links.new }
+        ensures says { L.state links.new ≡ L.state links.old }
     {
         for _ in 0..self.most_left()? {
             if !self.round(links)? {
@@ -314,7 +313,7 @@ impl<O: Out, I: In, P: Peer> Machine<O, I, P> {
         ensures settled { OnOk result (Settled self.old self.new) }
         ensures plan { (self.new.plan ≡ self.old.plan) × (self.new.ids.plan ≡ self.old.ids.plan) }
         ensures ends { SameLinks self.old self.new }
-        ensures says { SaysAsBefore L.asked L.accepted L.back L.done L.faults L.always_ready links.old links.new }
+        ensures says { L.state links.new ≡ L.state links.old }
     {
         self.play_on(links)?;
         self.begin_ending();

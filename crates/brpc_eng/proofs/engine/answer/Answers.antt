@@ -28,25 +28,25 @@ returns-in-Frames-clause-counts g c = record { source_still = c.frames.ensures.s
 pub returns-in-Sim-clause-answers : goal.returns-in-Sim-clause-answers
 returns-in-Sim-clause-answers g c =
     let input : answer.Input = record {
-      given = g.S.Source.left c.args.source.now;
-      left = g.S.Source.left c.replay-in-Sim.new.source;
-      faults = record { before = g.S.Source.faults c.args.source.now; now = g.S.Source.faults c.replay-in-Sim.new.source };
+      given = (g.S.Source.state c.args.source.now).left;
+      left = (g.S.Source.state c.replay-in-Sim.new.source).left;
+      faults = record { before = (g.S.Source.state c.args.source.now).faults; now = (g.S.Source.state c.replay-in-Sim.new.source).faults };
     } in
     let out : answer.Output = record {
-      before = g.K.Sink.contents c.args.out.now;
-      now = g.K.Sink.contents c.replay-in-Sim.new.out;
-      faults = record { before = g.K.Sink.faults c.args.out.now; now = g.K.Sink.faults c.replay-in-Sim.new.out };
+      before = (g.K.Sink.state c.args.out.now).contents;
+      now = (g.K.Sink.state c.replay-in-Sim.new.out).contents;
+      faults = record { before = (g.K.Sink.state c.args.out.now).faults; now = (g.K.Sink.state c.replay-in-Sim.new.out).faults };
     } in
     let links : answer.Links = record {
-      always_ready = g.L.LinkerTold.always_ready c.args.links.now;
+      always_ready = (g.L.Linker.state c.args.links.now).always_ready;
       tells = TellClosed g.L.I.In.state;
       offering = TellOffers g.L.O.Out.state g.L.I.In.state;
       tells_in = g.L.Linker.tells_in;
-      asked = g.L.LinkerTold.asked c.replay-in-Sim.new.links;
-      ends = g.L.LinkerTold.back c.replay-in-Sim.new.links;
-      accepted = g.L.LinkerTold.accepted c.replay-in-Sim.new.links;
-      done = g.L.LinkerTold.done c.replay-in-Sim.new.links;
-      faults = record { before = g.L.LinkerTold.faults c.args.links.now; now = g.L.LinkerTold.faults c.replay-in-Sim.new.links };
+      asked = (g.L.Linker.state c.replay-in-Sim.new.links).asked;
+      ends = (g.L.Linker.state c.replay-in-Sim.new.links).back;
+      accepted = (g.L.Linker.state c.replay-in-Sim.new.links).accepted;
+      done = (g.L.Linker.state c.replay-in-Sim.new.links).done;
+      faults = record { before = (g.L.Linker.state c.args.links.now).faults; now = (g.L.Linker.state c.replay-in-Sim.new.links).faults };
     } in
     simulated _ input out links (number_of c.replay-in-Sim.result) c.in-Some.command c.in-Sim.seed c.from.result c.in-Some.ensures c.in-Sim.is c.from.ensures c.replay-in-Sim.ensures.replayed
 

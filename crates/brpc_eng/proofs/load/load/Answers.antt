@@ -21,6 +21,6 @@ pub returns-in-Ok-run_script-clause-loaded : goal.returns-in-Ok-run_script-claus
 returns-in-Ok-run_script-clause-loaded g c =
     let drawn = c.args.draw.now in let done = c.in-Ok-run_script.ensures in
     let made = c.in-Ok.ensures.exact ∙ ap (λ x. generated x drawn.clients drawn.operations) c.from-seed.ensures in record {
-      opened = record { front = subst (λ s. IsBeginning (g.L.LinkerTold.asked c.run_script.new.links) (specs_of mode.Loop s)) made done.front; whole = λ written. done.asked ∙ ap (specs_of mode.Loop) made; given_back = done.given_back; numbered = done.numbered };
+      opened = record { front = subst (λ s. IsBeginning (g.L.Linker.state c.run_script.new.links).asked (specs_of mode.Loop s)) made done.front; whole = λ written. done.asked ∙ ap (specs_of mode.Loop) made; given_back = done.given_back; numbered = done.numbered };
       ran = load_ran drawn.seed drawn.clients drawn.operations c.from-seed.result c.in-Ok.script c.in-Ok-run_script.text.items c.deref.result.now _ _ _ made c.from-seed.ensures drawn.clients_in drawn.all_in c.in-Ok.ensures.again done.text c.deref.ensures.value c.write_report.ensures;
     }

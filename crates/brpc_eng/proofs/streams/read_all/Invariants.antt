@@ -4,9 +4,9 @@ use Rattle.brpc_eng.proofs.streams.read_all.Given as goal
 
 abbrev pub invariant-loop-room : goal.invariant-loop-room
 invariant-loop-room g l = record {
-  came : Consumes (g.S.Source.left l.initial.source) (g.S.Source.left l.source) l.bytes.items;
+  came : Consumes (g.S.Source.state l.initial.source).left (g.S.Source.state l.source).left l.bytes.items;
   few : vec_len l.bytes ≤ 1048577;
-  kept : g.S.Source.faults l.source ≡ g.S.Source.faults l.initial.source;
+  kept : (g.S.Source.state l.source).faults ≡ (g.S.Source.state l.initial.source).faults;
 }
 
 abbrev pub decreases-loop-room : goal.decreases-loop-room

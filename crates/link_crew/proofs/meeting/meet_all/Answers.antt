@@ -9,10 +9,5 @@ meets-preserved g c =
     let lt : i < length c.args.ends.now = (let long : length c.meets.ends ≡ length c.args.ends.now = on.stand.sized in omega arith) in record {
       stand = stand_next i c.args.ends.now c.meets.ends v on.stand (search rules);
       met = met_next g.L.O.Out.state g.L.P.Peer.state g.L.I.In.state i c.args.ends.now c.meets.ends c.one-item.result v on.stand lt on.met (record { out = e.out; peer = e.peer; inn = e.inn });
-      asked = e.says.asked ∙ on.asked;
-      accepted = e.says.accepted ∙ on.accepted;
-      back = e.says.back ∙ on.back;
-      done = e.says.done ∙ on.done;
-      always_ready = e.says.always_ready ∙ on.always_ready;
-      faults = e.says.faults ∙ on.faults;
+      says = e.says ∙ on.says;
     }

@@ -14,7 +14,7 @@ loop-ends-preserved g c =
       record {
         link = next ∙ c.give_one.ensures.next;
         numbered = numbered_rest _ _ _ _ _ _ i.numbered one next;
-        lower = subst (λ (k : ℕ). AllByRecursion (λ (e : LinkEnd). e.link < k) (g.L.LinkerTold.back c.give_one.new.links)) (sym next) c.give_one.ensures.lower;
+        lower = subst (λ (k : ℕ). AllByRecursion (λ (e : LinkEnd). e.link < k) (g.L.Linker.state c.give_one.new.links).back) (sym next) c.give_one.ensures.lower;
         whole = given_more _ _ _ _ _ _ _ i.whole one c.give_one.ensures.back;
         asked = c.give_one.ensures.asked ∙ i.asked;
         faults = c.give_one.ensures.faults ∙ i.faults;

@@ -10,11 +10,11 @@ abbrev pub invariant-loop-ends : goal.invariant-loop-ends
 invariant-loop-ends g l =
     (goal.iterator-loop-ends g).can_next l.ends-iterator ×
     (goal.iterator-loop-ends g).is_finite l.ends-iterator × record {
-      link : l.link ≡ length (g.L.LinkerTold.back l.links);
+      link : l.link ≡ length (g.L.Linker.state l.links).back;
       numbered : AreNumbered l.link (map (λ e. end_of (g.L.O.Out.state e.out) (g.L.I.In.state e.inn)) (into_iter_items l.ends-iterator));
-      lower : AllByRecursion (λ (e : LinkEnd). e.link < l.link) (g.L.LinkerTold.back l.links);
-      whole : g.L.LinkerTold.back l.links ++ map (λ e. end_of (g.L.O.Out.state e.out) (g.L.I.In.state e.inn)) (into_iter_items l.ends-iterator) ≡ map (λ e. end_of (g.L.O.Out.state e.out) (g.L.I.In.state e.inn)) l.fn.ends.items;
-      asked : g.L.LinkerTold.asked l.links ≡ g.L.LinkerTold.asked l.initial.links;
-      faults : g.L.LinkerTold.faults l.links ≡ g.L.LinkerTold.faults l.initial.links;
-      always_ready : g.L.LinkerTold.always_ready l.links ≡ g.L.LinkerTold.always_ready l.initial.links;
+      lower : AllByRecursion (λ (e : LinkEnd). e.link < l.link) (g.L.Linker.state l.links).back;
+      whole : (g.L.Linker.state l.links).back ++ map (λ e. end_of (g.L.O.Out.state e.out) (g.L.I.In.state e.inn)) (into_iter_items l.ends-iterator) ≡ map (λ e. end_of (g.L.O.Out.state e.out) (g.L.I.In.state e.inn)) l.fn.ends.items;
+      asked : (g.L.Linker.state l.links).asked ≡ (g.L.Linker.state l.initial.links).asked;
+      faults : (g.L.Linker.state l.links).faults ≡ (g.L.Linker.state l.initial.links).faults;
+      always_ready : (g.L.Linker.state l.links).always_ready ≡ (g.L.Linker.state l.initial.links).always_ready;
     }

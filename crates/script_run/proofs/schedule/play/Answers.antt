@@ -1,11 +1,10 @@
-use Rattle.std.proofs.Common.{◌<◌, ◌+◌, ap, sym, subst, arith}
+use Rattle.std.proofs.Common.{◌<◌, ◌+◌, ap, sym, subst, arith, ◌∙◌, refl}
 use Rattle.brpc_model.specs.Operations.{clients}
 use Rattle.calm_runs.specs.Below.script_facts.proofs.Sizes.{keeps_limits}
 use Rattle.script_draw.specs.Seats.{SeatDraws}
 use Rattle.seat_programs.specs.Scripts.{drawn_turns}
 use Rattle.sock_words.specs.declared.plain.Plan.{Plan}
 use Rattle.machine_model.specs.Driving.{FirstRests}
-use Rattle.sock_core.proofs.Linkers.{says_same, says_still}
 use Rattle.machine_model.proofs.Same.{same_links_none, same_links_join}
 use Rattle.script_run.specs.Played.{turns_of}
 use Rattle.script_run.proofs.Lines.{seats_in, none_drawn, begins_drawing, count_is, seats_there, draws_on, seat_drawn, drawn_more, drawn_played, by_marks, by_draws}
@@ -32,7 +31,7 @@ loop-init g c =
       played = none_drawn (seats_in c.args.script.now) (clients c.args.script.now) c.in-Drawn.seed c.args.machine.now;
       playable = playable_of c.requires.script.0 c.args.script.now c.args.machine.now c.requires.script.1 c.requires.made;
       ends = same_links_none c.args.machine.now;
-      says = says_same;
+      says = refl;
     }
 
 pub next_seat-seat-requires : goal.next_seat-seat-requires
@@ -47,7 +46,7 @@ pub returns-in_err-tick_seat-in-Drawn-clause-ends : goal.returns-in_err-tick_sea
 returns-in_err-tick_seat-in-Drawn-clause-ends g c = same_links_join c.args.machine.now c.loop.machine c.tick_seat.new.machine c.loop.invariant.ends c.tick_seat.ensures.ends
 
 pub returns-in_err-tick_seat-in-Drawn-clause-says : goal.returns-in_err-tick_seat-in-Drawn-clause-says
-returns-in_err-tick_seat-in-Drawn-clause-says g c = says_still c.loop.invariant.says c.tick_seat.ensures.says
+returns-in_err-tick_seat-in-Drawn-clause-says g c = c.tick_seat.ensures.says ∙ c.loop.invariant.says
 
 pub loop-preserved : goal.loop-preserved
 loop-preserved g c =
@@ -60,7 +59,7 @@ loop-preserved g c =
           (seats_there script c.loop.counter c.count-end.result c.loop-test.true i.count) (seat_drawn script c.loop.counter c.in-Drawn.seed c.next_seat-seat.result c.loop.seats i.draws c.next_seat-seat.ensures.seat) i.played step.ticked;
       playable = step.playable;
       ends = same_links_join c.args.machine.now c.loop.machine c.tick_seat.new.machine i.ends step.ends;
-      says = says_still i.says step.says;
+      says = step.says ∙ i.says;
     }
 
 -- ## Behind the schedule
@@ -80,7 +79,7 @@ returns g c =
             run = run_answered script turns start c.match-schedule.machine c.settle.new.self c.settle.result c.requires.made (rw w.machine-is played) settled.settled;
             plan = plan_answered start c.match-schedule.machine c.settle.new.self c.settle.result (rw w.machine-is played.0.plan) (rw w.machine-is played.0.id_plan) settled.settled;
             ends = same_links_join start c.match-schedule.machine c.settle.new.self (rw w.machine-is step.ends) settled.ends;
-            says = says_still (rw w.links-is step.says) settled.says;
+            says = settled.says ∙ (rw w.links-is step.says);
           }
       | in-Drawn+else-loop-test w ↦ let i = w.loop.invariant in
           let most = w.loop.auto.counter-end in
@@ -89,6 +88,6 @@ returns g c =
             run = run_answered script turns start c.match-schedule.machine c.settle.new.self c.settle.result c.requires.made (rw w.machine-is played) settled.settled;
             plan = plan_answered start c.match-schedule.machine c.settle.new.self c.settle.result (rw w.machine-is played.0.plan) (rw w.machine-is played.0.id_plan) settled.settled;
             ends = same_links_join start c.match-schedule.machine c.settle.new.self (rw w.machine-is i.ends) settled.ends;
-            says = says_still (rw w.links-is i.says) settled.says;
+            says = settled.says ∙ (rw w.links-is i.says);
           }
     ]

@@ -3,7 +3,6 @@ use Rattle.brpc_model.specs.Operations.{clients, operations}
 use Rattle.script_draw.specs.Seats.{seat_count}
 use Rattle.seat_programs.specs.Runs.{Scheduled}
 use Rattle.machine_model.specs.Runs.{SameLinks}
-use Rattle.machine_model.specs.Linkers.{SaysAsBefore}
 use Rattle.script_run.specs.Played.{IsPlayable, HasPlayed}
 use Rattle.script_run.proofs.Lines.{drawn_so_far, draws_of, seats_in}
 use Rattle.script_run.proofs.schedule.play.Given as goal
@@ -15,5 +14,5 @@ invariant-loop g l = record {
   played : HasPlayed (λ c. Scheduled l.initial.machine.plan c (drawn_so_far (seats_in l.script) (clients l.script) l.counter l.seed)) l.initial.machine l.machine;
   playable : IsPlayable l.machine;
   ends : SameLinks l.initial.machine l.machine;
-  says : SaysAsBefore g.L.LinkerTold.asked g.L.LinkerTold.accepted g.L.LinkerTold.back g.L.LinkerTold.done g.L.LinkerTold.faults g.L.LinkerTold.always_ready l.initial.links l.links;
+  says : g.L.Linker.state l.links ≡ g.L.Linker.state l.initial.links;
 }

@@ -1,4 +1,4 @@
-use Rattle.sock_core.proofs.Linkers.{says_same}
+use Rattle.std.proofs.Common.{refl}
 use Rattle.machine_model.proofs.Same.{same_links_none}
 use Rattle.sock_core.proofs.Endings.{on_ok}
 use Rattle.script_run.proofs.Playing.{playable_by, led_played}
@@ -22,5 +22,5 @@ returns-in_default g c = record {
   played = unscheduled_mark c.args.machine.now c.args.mark.now c.in_default.not-Tick c.in_default.not-To;
   playable = c.requires.playable;
   ends = same_links_none c.args.machine.now;
-  says = says_same;
+  says = refl;
 }

@@ -1,8 +1,7 @@
-use Rattle.std.proofs.Common.{refl, map, take}
+use Rattle.std.proofs.Common.{refl, map, take, ◌∙◌}
 use Rattle.brpc_model.specs.Operations.{schedule}
 use Rattle.script_run.specs.Outlines.{meant}
 use Rattle.seat_programs.specs.Runs.{Scheduled}
-use Rattle.sock_core.proofs.Linkers.{says_same, says_still}
 use Rattle.machine_model.proofs.Same.{same_links_none, same_links_join}
 use Rattle.script_run.proofs.Playing.{none_played}
 use Rattle.script_run.proofs.Lines.{mark_played, whole_played}
@@ -13,14 +12,14 @@ loop-mark-init g c = record {
   played = none_played (λ d. Scheduled c.args.machine.now.plan d (schedule (map meant (take 0 c.args.marks.now)))) c.args.machine.now (λ d. refl);
   playable = c.requires.playable;
   ends = same_links_none c.args.machine.now;
-  says = says_same;
+  says = refl;
 }
 
 pub returns-in_err-play_mark-clause-ends : goal.returns-in_err-play_mark-clause-ends
 returns-in_err-play_mark-clause-ends g c = same_links_join c.args.machine.now c.loop-mark.machine c.play_mark.new.machine c.loop-mark.invariant.ends c.play_mark.ensures.ends
 
 pub returns-in_err-play_mark-clause-says : goal.returns-in_err-play_mark-clause-says
-returns-in_err-play_mark-clause-says g c = says_still c.loop-mark.invariant.says c.play_mark.ensures.says
+returns-in_err-play_mark-clause-says g c = c.play_mark.ensures.says ∙ c.loop-mark.invariant.says
 
 pub loop-mark-preserved : goal.loop-mark-preserved
 loop-mark-preserved g c =
@@ -29,7 +28,7 @@ loop-mark-preserved g c =
       played = mark_played c.args.marks.now c.loop-mark.mark-index c.mark-item.result c.args.machine.now c.loop-mark.machine c.play_mark.new.machine c.loop-mark-test.true c.mark-item.is i.played step.played;
       playable = step.playable;
       ends = same_links_join c.args.machine.now c.loop-mark.machine c.play_mark.new.machine i.ends step.ends;
-      says = says_still i.says step.says;
+      says = step.says ∙ i.says;
     }
 
 pub returns-clause-played : goal.returns-clause-played

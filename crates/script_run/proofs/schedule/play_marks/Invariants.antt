@@ -1,9 +1,8 @@
-use Rattle.std.proofs.Common.{map, take}
+use Rattle.std.proofs.Common.{map, take, ◌≡◌}
 use Rattle.brpc_model.specs.Operations.{schedule}
 use Rattle.script_run.specs.Outlines.{meant}
 use Rattle.seat_programs.specs.Runs.{Scheduled}
 use Rattle.machine_model.specs.Runs.{SameLinks}
-use Rattle.machine_model.specs.Linkers.{SaysAsBefore}
 use Rattle.script_run.specs.Played.{IsPlayable, HasPlayed}
 use Rattle.script_run.proofs.schedule.play_marks.Given as goal
 
@@ -12,5 +11,5 @@ invariant-loop-mark g l = record {
   played : HasPlayed (λ c. Scheduled l.initial.machine.plan c (schedule (map meant (take l.mark-index l.marks)))) l.initial.machine l.machine;
   playable : IsPlayable l.machine;
   ends : SameLinks l.initial.machine l.machine;
-  says : SaysAsBefore g.L.LinkerTold.asked g.L.LinkerTold.accepted g.L.LinkerTold.back g.L.LinkerTold.done g.L.LinkerTold.faults g.L.LinkerTold.always_ready l.initial.links l.links;
+  says : g.L.Linker.state l.links ≡ g.L.Linker.state l.initial.links;
 }

@@ -1,6 +1,5 @@
-use Rattle.std.proofs.Common.{◌≡◌, replicate, subst, refl, arith}
+use Rattle.std.proofs.Common.{◌≡◌, replicate, subst, refl, arith, ◌∙◌}
 use Rattle.seat_programs.specs.Ticks.{seats_of}
-use Rattle.sock_core.proofs.Linkers.{says_same, says_still}
 use Rattle.script_run.specs.Played.{HasPlayed}
 use Rattle.machine_model.proofs.Same.{same_links_none, same_links_join}
 use Rattle.script_run.proofs.Playing.{none_played}
@@ -12,14 +11,14 @@ loop-init g c = record {
   played = none_played (λ d moments. seats_of moments ≡ replicate 0 c.args.seat) c.args.machine.now (λ d. refl);
   playable = c.requires.playable;
   ends = same_links_none c.args.machine.now;
-  says = says_same;
+  says = refl;
 }
 
 pub returns-in_err-tick_seat-clause-ends : goal.returns-in_err-tick_seat-clause-ends
 returns-in_err-tick_seat-clause-ends g c = same_links_join c.args.machine.now c.loop.machine c.tick_seat.new.machine c.loop.invariant.ends c.tick_seat.ensures.ends
 
 pub returns-in_err-tick_seat-clause-says : goal.returns-in_err-tick_seat-clause-says
-returns-in_err-tick_seat-clause-says g c = says_still c.loop.invariant.says c.tick_seat.ensures.says
+returns-in_err-tick_seat-clause-says g c = c.tick_seat.ensures.says ∙ c.loop.invariant.says
 
 pub returns-then-not-branch-clause-played : goal.returns-then-not-branch-clause-played
 returns-then-not-branch-clause-played g c =
@@ -32,7 +31,7 @@ pub returns-then-not-branch-clause-ends : goal.returns-then-not-branch-clause-en
 returns-then-not-branch-clause-ends g c = same_links_join c.args.machine.now c.loop.machine c.tick_seat.new.machine c.loop.invariant.ends c.in_ok-tick_seat.ensures.ends
 
 pub returns-then-not-branch-clause-says : goal.returns-then-not-branch-clause-says
-returns-then-not-branch-clause-says g c = says_still c.loop.invariant.says c.tick_seat.ensures.says
+returns-then-not-branch-clause-says g c = c.tick_seat.ensures.says ∙ c.loop.invariant.says
 
 pub loop-preserved : goal.loop-preserved
 loop-preserved g c =
@@ -41,7 +40,7 @@ loop-preserved g c =
       played = one_more_tick c.args.seat c.loop.counter c.args.machine.now c.loop.machine c.tick_seat.new.machine i.played step.ticked;
       playable = step.playable;
       ends = same_links_join c.args.machine.now c.loop.machine c.tick_seat.new.machine i.ends step.ends;
-      says = says_still i.says step.says;
+      says = step.says ∙ i.says;
     }
 
 pub returns-clause-played : goal.returns-clause-played

@@ -1,7 +1,6 @@
 use Rattle.std.proofs.Common.{◌≡◌, replicate}
 use Rattle.seat_programs.specs.Ticks.{seats_of}
 use Rattle.machine_model.specs.Runs.{SameLinks}
-use Rattle.machine_model.specs.Linkers.{SaysAsBefore}
 use Rattle.script_run.specs.Played.{IsPlayable, HasPlayed}
 use Rattle.script_run.proofs.schedule.play_ticks.Given as goal
 
@@ -10,5 +9,5 @@ invariant-loop g l = record {
   played : HasPlayed (λ c moments. seats_of moments ≡ replicate l.counter l.seat) l.initial.machine l.machine;
   playable : IsPlayable l.machine;
   ends : SameLinks l.initial.machine l.machine;
-  says : SaysAsBefore g.L.LinkerTold.asked g.L.LinkerTold.accepted g.L.LinkerTold.back g.L.LinkerTold.done g.L.LinkerTold.faults g.L.LinkerTold.always_ready l.initial.links l.links;
+  says : g.L.Linker.state l.links ≡ g.L.Linker.state l.initial.links;
 }

@@ -39,8 +39,8 @@ pub returns-in-Ok-clause-all : goal.returns-in-Ok-clause-all
 returns-in-Ok-clause-all g c = on_ok c.run_over.result _ (c.run_over.ensures.back ∙ (c.in-Ok.ensures.whole ∙ links_of c.args.script.now c.lines.result.now c.lines.ensures))
 
 pub returns-in-Ok-clause-gave : goal.returns-in-Ok-clause-gave
-returns-in-Ok-clause-gave g c = subst (λ specs. OnOk c.run_over.result (GaveOffers g.L.Linker.tells_in specs (g.L.LinkerTold.back c.run_over.new.links))) (c.in-Ok.ensures.asked ∙ ap (specs_of c.args.mode) c.lines.ensures) c.run_over.ensures.gave
+returns-in-Ok-clause-gave g c = subst (λ specs. OnOk c.run_over.result (GaveOffers g.L.Linker.tells_in specs (g.L.Linker.state c.run_over.new.links).back)) (c.in-Ok.ensures.asked ∙ ap (specs_of c.args.mode) c.lines.ensures) c.run_over.ensures.gave
 
 pub returns-in-Ok-clause-served : goal.returns-in-Ok-clause-served
 returns-in-Ok-clause-served g c = served_if g.row.L-P.Denot g.L.O.Out.state g.L.I.In.state g.L.O.Out c.requires.script.0 c.args.script.now c.requires.script.1 _ g.L.Linker.tells_in c.args.mode (λ text. text.items) c.run_over.result c.run_over.ensures.ran
-    (subst (λ specs. OnOk c.run_over.result (GaveOffers g.L.Linker.tells_in specs (g.L.LinkerTold.back c.run_over.new.links))) (c.in-Ok.ensures.asked ∙ ap (specs_of c.args.mode) c.lines.ensures) c.run_over.ensures.gave)
+    (subst (λ specs. OnOk c.run_over.result (GaveOffers g.L.Linker.tells_in specs (g.L.Linker.state c.run_over.new.links).back)) (c.in-Ok.ensures.asked ∙ ap (specs_of c.args.mode) c.lines.ensures) c.run_over.ensures.gave)

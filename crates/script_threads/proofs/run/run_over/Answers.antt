@@ -108,18 +108,18 @@ returns-in-Ok-run_beside-clause-back g c = ap length c.meet_and_give_back.ensure
 pub meet_and_give_back-requires-clause-ends : goal.meet_and_give_back-requires-clause-ends
 meet_and_give_back-requires-clause-ends g c κs within =
     let r = c.in-Ok-run_beside.field-0 in let ran = c.in-Ok-run_beside.ensures.ran in
-    let kept = run_kept g.L.Linker.tells_in g.L.O.Out.state g.L.P.Peer.state g.L.I.In.state c.seated-plan.result (ids_of c.seated-plan.result c.in-Ok.ready.slots) c.deref-2.result.now (g.L.LinkerTold.asked c.args.links.now) c.args.ends.items c.part.new.halves.outs.items r.ran.outs.items c.part.new.halves.rests.items r.rests.items c.deref.result.now ran.0
+    let kept = run_kept g.L.Linker.tells_in g.L.O.Out.state g.L.P.Peer.state g.L.I.In.state c.seated-plan.result (ids_of c.seated-plan.result c.in-Ok.ready.slots) c.deref-2.result.now (g.L.Linker.state c.args.links.now).asked c.args.ends.items c.part.new.halves.outs.items r.ran.outs.items c.part.new.halves.rests.items r.rests.items c.deref.result.now ran.0
     c.requires.ends c.in-Ok-run_beside.ensures.ways c.part.ensures.outs c.part.ensures.rests ran.2 ran.3.before ran.3.behind ran.3.served in
-    kept_ends g.L.Linker.tells_in g.L.O.Out.state g.L.P.Peer.state g.L.I.In.state (g.L.LinkerTold.asked c.args.links.now) c.join.new.back.items (subst (AreKept g.L.Linker.tells_in g.L.O.Out.state g.L.P.Peer.state g.L.I.In.state (g.L.LinkerTold.asked c.args.links.now)) (sym c.join.ensures) kept)
+    kept_ends g.L.Linker.tells_in g.L.O.Out.state g.L.P.Peer.state g.L.I.In.state (g.L.Linker.state c.args.links.now).asked c.join.new.back.items (subst (AreKept g.L.Linker.tells_in g.L.O.Out.state g.L.P.Peer.state g.L.I.In.state (g.L.Linker.state c.args.links.now).asked) (sym c.join.ensures) kept)
 
 pub returns-in-Ok-run_beside-clause-gave : goal.returns-in-Ok-run_beside-clause-gave
 returns-in-Ok-run_beside-clause-gave g c =
     let r = c.in-Ok-run_beside.field-0 in let ran = c.in-Ok-run_beside.ensures.ran in
-    let kept = run_kept g.L.Linker.tells_in g.L.O.Out.state g.L.P.Peer.state g.L.I.In.state c.seated-plan.result (ids_of c.seated-plan.result c.in-Ok.ready.slots) c.deref-2.result.now (g.L.LinkerTold.asked c.args.links.now) c.args.ends.items c.part.new.halves.outs.items r.ran.outs.items c.part.new.halves.rests.items r.rests.items c.deref.result.now ran.0
+    let kept = run_kept g.L.Linker.tells_in g.L.O.Out.state g.L.P.Peer.state g.L.I.In.state c.seated-plan.result (ids_of c.seated-plan.result c.in-Ok.ready.slots) c.deref-2.result.now (g.L.Linker.state c.args.links.now).asked c.args.ends.items c.part.new.halves.outs.items r.ran.outs.items c.part.new.halves.rests.items r.rests.items c.deref.result.now ran.0
     c.requires.ends c.in-Ok-run_beside.ensures.ways c.part.ensures.outs c.part.ensures.rests ran.2 ran.3.before ran.3.behind ran.3.served in
     let met = c.meet_and_give_back.ensures.met in
-    on_ok c.or_no_memory.result _ (subst (GaveOffers g.L.Linker.tells_in (g.L.LinkerTold.asked c.args.links.now)) (sym met.3)
-    (all_gave g.L.Linker.tells_in g.L.O.Out.state g.L.P.Peer.state g.L.I.In.state (g.L.LinkerTold.asked c.args.links.now) c.join.new.back.items met.0 (subst (AreKept g.L.Linker.tells_in g.L.O.Out.state g.L.P.Peer.state g.L.I.In.state (g.L.LinkerTold.asked c.args.links.now)) (sym c.join.ensures) kept) met.1 met.2))
+    on_ok c.or_no_memory.result _ (subst (GaveOffers g.L.Linker.tells_in (g.L.Linker.state c.args.links.now).asked) (sym met.3)
+    (all_gave g.L.Linker.tells_in g.L.O.Out.state g.L.P.Peer.state g.L.I.In.state (g.L.Linker.state c.args.links.now).asked c.join.new.back.items met.0 (subst (AreKept g.L.Linker.tells_in g.L.O.Out.state g.L.P.Peer.state g.L.I.In.state (g.L.Linker.state c.args.links.now).asked) (sym c.join.ensures) kept) met.1 met.2))
 
 -- ## Where memory was wanting
 

@@ -1,4 +1,6 @@
-use Rattle.std.proofs.Common.{◌++◌, ◌∷◌, [], ◌∙◌}
+use Rattle.std.proofs.Common.{List, ◌++◌, ◌∷◌, [], refl, ap, ◌∙◌}
+use Rattle.brpc_model.specs.Link.{LinkEnd}
+use Rattle.sock_io.specs.Link.{LinkerState}
 use Rattle.serve_port.specs.Steps.{as_served}
 use Rattle.serve_port.proofs.Tallying.{done_more, more_given}
 use Rattle.serve_port.proofs.port.give_back.Goals as goal
@@ -10,12 +12,7 @@ gives-preserved g c = let i = c.gives.invariant.2 in let x = as_served g.L.O.Out
   record {
     given = i.given ++ x ∷ [];
     parts = more_given (λ y. as_served g.L.O.Out.state g.L.I.In.state y) i.given _ _ c.in-Some.connection _ i.parts c.in-Some.ensures.steps.0;
-    done = done_more _ _ _ i.given x i.done e.done;
+    links = e ∙ (ap (λ (s : LinkerState). record s { done = s.done ++ x.connection ∷ [] }) i.links ∙ ap (λ (d : List LinkEnd). record (g.L.Linker.state c.args.links.now) { done = d }) (done_more _ _ _ i.given x refl refl));
     tally = c.with-tally.ensures i.given x.connection i.tally;
-    asked = e.asked ∙ i.asked;
-    accepted = e.accepted ∙ i.accepted;
-    back = e.back ∙ i.back;
-    faults = e.faults ∙ i.faults;
-    always_ready = e.stays_prompt ∙ i.always_ready;
   },
 )

@@ -1,5 +1,4 @@
-use Rattle.std.proofs.Common.{Ok, ap}
-use Rattle.sock_core.proofs.Linkers.{says_same, says_still}
+use Rattle.std.proofs.Common.{Ok, ap, ◌∙◌, refl}
 use Rattle.machine_model.proofs.Same.{both_join}
 use Rattle.sock_core.proofs.Rounding.{played_none, played_more, played_last}
 use Rattle.sock_core.proofs.machine.Machine.play_on.Goals as goal
@@ -7,7 +6,7 @@ use Rattle.sock_core.proofs.machine.Machine.play_on.Goals as goal
 pub loop-init : goal.loop-init
 loop-init g c = record {
   so_far = played_none c.args.self.now c.requires.rest c.in_ok-end.ensures.left;
-  says = says_same;
+  says = refl;
 }
 
 pub round-requires-clause-enough : goal.round-requires-clause-enough
@@ -20,10 +19,10 @@ pub returns-in_err-round-clause-same : goal.returns-in_err-round-clause-same
 returns-in_err-round-clause-same g c = let i = c.loop.invariant.so_far in both_join c.args.self.now c.loop.self c.round.new.self (i.ran.0, i.ran.1) c.round.ensures.same
 
 pub returns-in_err-round-clause-says : goal.returns-in_err-round-clause-says
-returns-in_err-round-clause-says g c = says_still c.loop.invariant.says c.round.ensures.says
+returns-in_err-round-clause-says g c = c.round.ensures.says ∙ c.loop.invariant.says
 
 pub returns-then-not-branch-clause-says : goal.returns-then-not-branch-clause-says
-returns-then-not-branch-clause-says g c = says_still c.loop.invariant.says c.round.ensures.says
+returns-then-not-branch-clause-says g c = c.round.ensures.says ∙ c.loop.invariant.says
 
 pub returns-then-not-branch-clause-ok : goal.returns-then-not-branch-clause-ok
 returns-then-not-branch-clause-ok g c = let still = c.in_ok-round.ensures.still (ap Ok c.if-not-branch.true) in (played_last c.args.self.now c.loop.self c.round.new.self c.loop.counter c.loop.invariant.so_far still.0, still.1)
@@ -34,5 +33,5 @@ returns-then-not-branch-clause-same g c = let i = c.loop.invariant.so_far in bot
 pub loop-preserved : goal.loop-preserved
 loop-preserved g c = let moved = c.in_ok-round.ensures.moved (ap Ok c.if-not-branch.false) in record {
   so_far = played_more c.args.self.now c.loop.self c.round.new.self c.loop.counter c.loop.invariant.so_far moved.0 c.in_ok-round.ensures.rest moved.1;
-  says = says_still c.loop.invariant.says c.round.ensures.says;
+  says = c.round.ensures.says ∙ c.loop.invariant.says;
 }

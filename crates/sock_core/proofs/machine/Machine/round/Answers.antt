@@ -1,8 +1,7 @@
-use Rattle.std.proofs.Common.{◌≡◌, ℕ, true, List, sym, ap, subst, append-nil, arith, ◌+◌, ◌-◌, ◌++◌, ◌∙◌}
+use Rattle.std.proofs.Common.{◌≡◌, ℕ, true, List, sym, ap, subst, append-nil, arith, ◌+◌, ◌-◌, ◌++◌, ◌∙◌, refl}
 use Rattle.sock_words.specs.declared.plain.Plan.{Plan}
 use Rattle.seat_programs.specs.Runs.{from_to}
 use Rattle.machine_model.specs.Machines.{READERS}
-use Rattle.sock_core.proofs.Linkers.{says_same, says_still}
 use Rattle.sock_core.proofs.Endings.{in_ok}
 use Rattle.machine_model.proofs.Same.{both_join}
 use Rattle.sock_core.proofs.Rounding.{RoundSoFar, round_begins, round_moved, round_still, round_went, round_stood, client_more, reader_more}
@@ -12,7 +11,7 @@ pub loop-seat-init : goal.loop-seat-init
 loop-seat-init g c = record {
   so_far = round_begins c.args.self.now c.requires.enough c.requires.rest;
   inside = let some_ = c.clients-seat-end.ensures.some in let is = c.clients-seat-end.ensures.count in omega (arith, some_, is);
-  says = says_same;
+  says = refl;
 }
 
 pub loop-seat-preserved : goal.loop-seat-preserved
@@ -26,13 +25,13 @@ loop-seat-preserved g c =
         so_far = subst (RoundSoFar c.args.self.now c.advance.new.self (from_to 1 ((c.loop-seat.seat + 1) - 1))) (sym w.moved-is) (subst (λ (l : List ℕ). RoundSoFar c.args.self.now c.advance.new.self l true) more
             (round_moved c.args.self.now c.loop-seat.self c.advance.new.self (from_to 1 (c.loop-seat.seat - 1)) c.loop-seat.seat c.loop-seat.moved c.in_ok-advance.field-0 i.so_far t.tick t.left t.enough.1 rest moved.0 moved.1));
         inside = omega arith;
-        says = says_still c.loop-seat.invariant.says c.advance.ensures.says;
+        says = c.advance.ensures.says ∙ c.loop-seat.invariant.says;
       }
       | goal.else-is_moved w ↦ record {
         so_far = subst (RoundSoFar c.args.self.now c.advance.new.self (from_to 1 ((c.loop-seat.seat + 1) - 1))) (sym w.moved-is) (subst (λ (l : List ℕ). RoundSoFar c.args.self.now c.advance.new.self l c.loop-seat.moved) more
             (round_still c.args.self.now c.loop-seat.self c.advance.new.self (from_to 1 (c.loop-seat.seat - 1)) c.loop-seat.seat c.loop-seat.moved c.in_ok-advance.field-0 i.so_far t.tick t.left t.enough.1 rest (c.is_moved.ensures.still w.if-is_moved.false)));
         inside = omega arith;
-        says = says_still c.loop-seat.invariant.says c.advance.ensures.says;
+        says = c.advance.ensures.says ∙ c.loop-seat.invariant.says;
       }
     ]
 
@@ -61,13 +60,13 @@ loop-link-preserved g c =
         so_far = subst (RoundSoFar c.args.self.now c.advance-in-loop-link.new.self (clients ++ from_to READERS (c.loop-link.link + 1))) (sym w.moved-is) (subst (λ (l : List ℕ). RoundSoFar c.args.self.now c.advance-in-loop-link.new.self l true) more
             (round_moved c.args.self.now c.loop-link.self c.advance-in-loop-link.new.self (clients ++ from_to READERS c.loop-link.link) (READERS + c.loop-link.link) c.loop-link.moved c.in_ok-advance-2.field-0 i.so_far t.tick t.left t.enough.1 rest moved.0 moved.1));
         inside = omega (arith, is, same);
-        says = says_still c.loop-link.invariant.says c.advance-in-loop-link.ensures.says;
+        says = c.advance-in-loop-link.ensures.says ∙ c.loop-link.invariant.says;
       }
       | goal.else-is_moved-2 w ↦ record {
         so_far = subst (RoundSoFar c.args.self.now c.advance-in-loop-link.new.self (clients ++ from_to READERS (c.loop-link.link + 1))) (sym w.moved-is) (subst (λ (l : List ℕ). RoundSoFar c.args.self.now c.advance-in-loop-link.new.self l c.loop-link.moved) more
             (round_still c.args.self.now c.loop-link.self c.advance-in-loop-link.new.self (clients ++ from_to READERS c.loop-link.link) (READERS + c.loop-link.link) c.loop-link.moved c.in_ok-advance-2.field-0 i.so_far t.tick t.left t.enough.1 rest (c.is_moved-in-loop-link.ensures.still w.if-is_moved-2.false)));
         inside = omega (arith, is, same);
-        says = says_still c.loop-link.invariant.says c.advance-in-loop-link.ensures.says;
+        says = c.advance-in-loop-link.ensures.says ∙ c.loop-link.invariant.says;
       }
     ]
 
@@ -86,7 +85,7 @@ pub returns-in_err-advance-2-clause-same : goal.returns-in_err-advance-2-clause-
 returns-in_err-advance-2-clause-same g c = let i = c.loop-link.invariant.so_far in both_join c.args.self.now c.loop-link.self c.advance-in-loop-link.new.self (i.ran.0, i.ran.1) c.advance-in-loop-link.ensures.same
 
 pub returns-in_err-advance-clause-says : goal.returns-in_err-advance-clause-says
-returns-in_err-advance-clause-says g c = says_still c.loop-seat.invariant.says c.advance.ensures.says
+returns-in_err-advance-clause-says g c = c.advance.ensures.says ∙ c.loop-seat.invariant.says
 
 pub returns-in_err-advance-2-clause-says : goal.returns-in_err-advance-2-clause-says
-returns-in_err-advance-2-clause-says g c = says_still c.loop-link.invariant.says c.advance-in-loop-link.ensures.says
+returns-in_err-advance-2-clause-says g c = c.advance-in-loop-link.ensures.says ∙ c.loop-link.invariant.says

@@ -1,7 +1,6 @@
-use Rattle.std.proofs.Common.{subst}
+use Rattle.std.proofs.Common.{subst, ◌∙◌}
 use Rattle.machine_model.specs.Machines.{MachineState}
 use Rattle.machine_model.specs.Runs.{SameLinks, PlayedOn}
-use Rattle.sock_core.proofs.Linkers.{says_still}
 use Rattle.sock_core.proofs.Endings.{on_ok}
 use Rattle.sock_core.proofs.Settling.{settles, settled_links}
 use Rattle.sock_core.proofs.machine.Machine.settle.Goals as goal
@@ -16,4 +15,4 @@ returns-clause-ends g c = settled_links c.args.self.now c.play_on.new.self c.beg
     (subst (λ (m : MachineState). SameLinks m c.play_on-2.new.self) c.tell_ending.ensures c.play_on-2.ensures.same.1)
 
 pub returns-clause-says : goal.returns-clause-says
-returns-clause-says g c = says_still c.play_on.ensures.says c.play_on-2.ensures.says
+returns-clause-says g c = c.play_on-2.ensures.says ∙ c.play_on.ensures.says
