@@ -4,7 +4,7 @@
 mod links;
 mod operations;
 mod orders;
-mod said;
+mod outcomes;
 mod summary;
 mod sums;
 mod told;
@@ -12,6 +12,6 @@ mod words;
 mod writing;
 
 pub use links::Accepted;
-pub use said::{say, untold};
+pub use outcomes::{say, untold};
 pub use summary::{Load, print_summary};
 pub use told::print_report;

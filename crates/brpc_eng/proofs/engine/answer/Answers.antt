@@ -27,27 +27,9 @@ returns-in-Frames-clause-counts g c = record { source_still = c.frames.ensures.s
 
 pub returns-in-Sim-clause-answers : goal.returns-in-Sim-clause-answers
 returns-in-Sim-clause-answers g c =
-    let input : answer.Input = record {
-      given = (g.S.Source.state c.args.source.now).left;
-      left = (g.S.Source.state c.replay-in-Sim.new.source).left;
-      faults = record { before = (g.S.Source.state c.args.source.now).faults; now = (g.S.Source.state c.replay-in-Sim.new.source).faults };
-    } in
-    let out : answer.Output = record {
-      before = (g.K.Sink.state c.args.out.now).contents;
-      now = (g.K.Sink.state c.replay-in-Sim.new.out).contents;
-      faults = record { before = (g.K.Sink.state c.args.out.now).faults; now = (g.K.Sink.state c.replay-in-Sim.new.out).faults };
-    } in
-    let links : answer.Links = record {
-      always_ready = (g.L.Linker.state c.args.links.now).always_ready;
-      tells = TellClosed g.L.I.In.state;
-      offering = TellOffers g.L.O.Out.state g.L.I.In.state;
-      tells_in = g.L.Linker.tells_in;
-      asked = (g.L.Linker.state c.replay-in-Sim.new.links).asked;
-      ends = (g.L.Linker.state c.replay-in-Sim.new.links).back;
-      accepted = (g.L.Linker.state c.replay-in-Sim.new.links).accepted;
-      done = (g.L.Linker.state c.replay-in-Sim.new.links).done;
-      faults = record { before = (g.L.Linker.state c.args.links.now).faults; now = (g.L.Linker.state c.replay-in-Sim.new.links).faults };
-    } in
+    let input = answer.source_over (g.S.Source.state c.args.source.now) (g.S.Source.state c.replay-in-Sim.new.source) in
+    let out = answer.sink_over (g.K.Sink.state c.args.out.now) (g.K.Sink.state c.replay-in-Sim.new.out) in
+    let links = answer.linker_over (TellClosed g.L.I.In.state) (TellOffers g.L.O.Out.state g.L.I.In.state) g.L.Linker.tells_in (g.L.Linker.state c.args.links.now) (g.L.Linker.state c.replay-in-Sim.new.links) in
     simulated _ input out links (number_of c.replay-in-Sim.result) c.in-Some.command c.in-Sim.seed c.from.result c.in-Some.ensures c.in-Sim.is c.from.ensures c.replay-in-Sim.ensures.replayed
 
 pub returns-in-Run-clause-answers : goal.returns-in-Run-clause-answers
