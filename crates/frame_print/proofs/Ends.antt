@@ -9,6 +9,7 @@ use Rattle.brpc_model.specs.Frame.{Frame, FrameFault, NoneYet, Faulty, judged}
 use Rattle.brpc_model.specs.Stream.{Stream, Rest, Fault, stream, stream_from}
 use Rattle.brpc_model.specs.FramesText.{frame_line, ending_line}
 use Rattle.sock_io.specs.Causes.{Rose}
+use Rattle.sock_io.specs.Stream.{SourceState, SinkState}
 use Rattle.sock_io.specs.declared.stream.Failed.{Failed}
 use Rattle.frame_print.specs.Written.{Writes}
 use Rattle.sock_io.specs.Writing.{WrotePart}
@@ -16,7 +17,7 @@ use Rattle.frame_print.specs.declared.print.StreamEnd.{StreamEnd}
 use Rattle.frame_print.specs.declared.print.StreamEnd.TheVariants as end_
 use Rattle.frame_print.specs.declared.print.PrintFault.{PrintFault}
 use Rattle.frame_print.specs.declared.print.PrintFault.TheVariants as fault_
-use Rattle.frame_print.specs.Printed.{frames_limit, Edges, frame_lines, first_lines, IsRest, IsFaulty, PrintedRest, PrintedFault, SourceFailed, SinkFailed, TooLong, NoMemory, WroteSome, EndsAs}
+use Rattle.frame_print.specs.Printed.{frames_limit, Edges, edges_over, frame_lines, first_lines, IsRest, IsFaulty, PrintedRest, PrintedFault, SourceFailed, SinkFailed, TooLong, NoMemory, WroteSome, EndsAs}
 use Rattle.frame_print.specs.Cutting.{CutPrinted, CutStopped, CutsWhole, RestPrinted, JudgesAs, EndsStopped}
 use Rattle.prpc_frame.specs.Cuts.{behind, Cut}
 use Rattle.frame_print.proofs.Writing.{Appends-append, front_behind, front_before, rose_from}
@@ -61,23 +62,23 @@ ends_unwritten e bytes held p faults few end x waiting w kept rose = record {
       );
 }
 
-fault_written : (e : Edges) (p : Option (List ℕ)) (faults : ℕ) (s : Stream) (r : Result (Unit {0}) Failed) → Appends e.sink.before p (lines_of s) → faults ≡ e.sink.faults →
-    Writes p e.sink.now faults e.sink.faults_now (ending_line s.ending) r → Appends e.sink.before e.sink.now (text_of s) ⊎ (WrotePart e.sink.before e.sink.now (text_of s) × Rose e.sink.faults e.sink.faults_now)
-fault_written e p faults s (Ok done) w kept f = inl (Appends-append e.sink.before p e.sink.now (lines_of s) (ending_line s.ending) w f.whole)
-fault_written e p faults s (Err fault) w kept f = inr (front_behind e.sink.before p e.sink.now (lines_of s) (ending_line s.ending) w f.front, rose_from e.sink.faults faults e.sink.faults_now kept f.failed)
+fault_written : (o p q : SinkState) (s : Stream) (r : Result (Unit {0}) Failed) → Appends o.contents p.contents (lines_of s) → p.faults ≡ o.faults →
+    Writes p q (ending_line s.ending) r → Appends o.contents q.contents (text_of s) ⊎ (WrotePart o.contents q.contents (text_of s) × Rose o.faults q.faults)
+fault_written o p q s (Ok done) w kept f = inl (Appends-append o.contents p.contents q.contents (lines_of s) (ending_line s.ending) w f.whole)
+fault_written o p q s (Err fault) w kept f = inr (front_behind o.contents p.contents q.contents (lines_of s) (ending_line s.ending) w f.front, rose_from o.faults p.faults q.faults kept f.failed)
 
-pub ends_fault : (e : Edges) (bytes held : List ℕ) (p : Option (List ℕ)) (faults start : ℕ) (f : FrameFault) (r : Result (Unit {0}) Failed) → length bytes ≤ frames_limit → CutPrinted bytes e.sink.before held p →
-    judged held ≡ Faulty f → start ≡ length bytes - length held → faults ≡ e.sink.faults → Writes p e.sink.now faults e.sink.faults_now (ending_line (Fault start f)) r → PrintedFault e bytes
-ends_fault e bytes held p faults start f r few x fault begins kept w =
+pub ends_fault : (a b : SourceState) (o p q : SinkState) (bytes held : List ℕ) (start : ℕ) (f : FrameFault) (r : Result (Unit {0}) Failed) → length bytes ≤ frames_limit → CutPrinted bytes o.contents held p.contents →
+    judged held ≡ Faulty f → start ≡ length bytes - length held → p.faults ≡ o.faults → Writes p q (ending_line (Fault start f)) r → PrintedFault (edges_over a b o q) bytes
+ends_fault a b o p q bytes held start f r few x fault begins kept w =
     let e1 : start ≡ x.cut.size = omega (arith, begins, x.cut.sized) in
-    let P : ℕ → Type 0 = λ n. Writes p e.sink.now faults e.sink.faults_now (ending_line (Fault n f)) r in
+    let P : ℕ → Type 0 = λ n. Writes p q (ending_line (Fault n f)) r in
     let is = stream_fault bytes held x.frames x.cut f fault in
     let Q : Stream → Type 0 = λ s. IsFaulty s.ending in
-    let R : Stream → Type 0 = λ s. Appends e.sink.before e.sink.now (text_of s) ⊎ (WrotePart e.sink.before e.sink.now (text_of s) × Rose e.sink.faults e.sink.faults_now) in
+    let R : Stream → Type 0 = λ s. Appends o.contents q.contents (text_of s) ⊎ (WrotePart o.contents q.contents (text_of s) × Rose o.faults q.faults) in
     record {
       few = few;
       ending = subst Q (sym is) tt;
-      wrote = subst R (sym is) (fault_written e p faults (frames_then x.frames (Fault x.cut.size f)) r x.wrote kept (subst P e1 w));
+      wrote = subst R (sym is) (fault_written o p q (frames_then x.frames (Fault x.cut.size f)) r x.wrote kept (subst P e1 w));
     }
 
 pub ends_source : (e : Edges) (bytes held : List ℕ) → length bytes ≤ frames_limit → CutPrinted bytes e.sink.before held e.sink.now → judged held ≡ NoneYet → (faults : ℕ) → faults ≡ e.source.faults →
@@ -126,25 +127,25 @@ ends_memory e bytes held few x =
     }
 
 -- the sink failed in the line of a frame
-lines_lost : (e : Edges) (bytes held mid : List ℕ) (p : Option (List ℕ)) (faults : ℕ) → CutPrinted bytes e.sink.before held p → faults ≡ e.sink.faults → CutStopped held p mid e.sink.now faults e.sink.faults_now →
-    WroteSome e (frame_lines bytes)
-lines_lost e bytes held mid p faults x kept y =
+lines_lost : (a b : SourceState) (o p q : SinkState) (bytes held mid : List ℕ) → CutPrinted bytes o.contents held p.contents → p.faults ≡ o.faults → CutStopped held p mid q →
+    WroteSome (edges_over a b o q) (frame_lines bytes)
+lines_lost a b o p q bytes held mid x kept y =
     let fs = x.frames ++ y.frames in
     let cut : Cut bytes fs mid = cut_more bytes held mid x.frames y.frames x.cut y.cut in
     let more = stream_from cut.size mid in
-    let P : List ℕ → Type 0 = λ l. WrotePart e.sink.before e.sink.now l in
-    let front : WrotePart e.sink.before e.sink.now (flat_map frame_line fs) =
-    subst P (sym (flat_map-append frame_line x.frames y.frames)) (front_behind e.sink.before p e.sink.now (flat_map frame_line x.frames) (flat_map frame_line y.frames) x.wrote y.front)
+    let P : List ℕ → Type 0 = λ l. WrotePart o.contents q.contents l in
+    let front : WrotePart o.contents q.contents (flat_map frame_line fs) =
+    subst P (sym (flat_map-append frame_line x.frames y.frames)) (front_behind o.contents p.contents q.contents (flat_map frame_line x.frames) (flat_map frame_line y.frames) x.wrote y.front)
     in
     let all : frame_lines bytes ≡ flat_map frame_line fs ++ flat_map frame_line more.frames =
     ap (λ (s : Stream). flat_map frame_line s.frames) (stream_whole bytes mid fs cut) ∙ flat_map-append frame_line fs more.frames
     in
-    (subst P (sym all) (front_before e.sink.before e.sink.now (flat_map frame_line fs) (flat_map frame_line more.frames) front), rose_from e.sink.faults faults e.sink.faults_now kept y.rose)
+    (subst P (sym all) (front_before o.contents q.contents (flat_map frame_line fs) (flat_map frame_line more.frames) front), rose_from o.faults p.faults q.faults kept y.rose)
 
 -- the frames that were cut before and after it
-cut_behind : (o : Option (List ℕ)) (bytes held mid new : List ℕ) (p q : Option (List ℕ)) (faults faults_now : ℕ) → (x : CutPrinted bytes o held p) → (y : CutStopped held p mid q faults faults_now) → (gs : List Frame) → Cut mid gs new →
+cut_behind : (o p q : SinkState) (bytes held mid new : List ℕ) → (x : CutPrinted bytes o.contents held p.contents) → (y : CutStopped held p mid q) → (gs : List Frame) → Cut mid gs new →
     Cut bytes ((x.frames ++ y.frames) ++ gs) new
-cut_behind o bytes held mid new p q faults faults_now x y gs z = cut_more bytes mid new (x.frames ++ y.frames) gs (cut_more bytes held mid x.frames y.frames x.cut y.cut) z
+cut_behind o p q bytes held mid new x y gs z = cut_more bytes mid new (x.frames ++ y.frames) gs (cut_more bytes held mid x.frames y.frames x.cut y.cut) z
 
 -- by how the bytes are judged then
 judged_ends : (e : Edges) (bytes new : List ℕ) (fs : List Frame) (r : Result StreamEnd PrintFault) → length bytes ≤ frames_limit → WroteSome e (frame_lines bytes) → Cut bytes fs new → JudgesAs (judged new) r → EndsAs e bytes r
@@ -161,29 +162,29 @@ judged_ends e bytes new fs (Err fault_.Sink) few lost x j = record { few = few; 
 judged_ends e bytes new fs (Err fault_.TooLong) few lost x j = absurd j
 judged_ends e bytes new fs (Err fault_.NoMemory) few lost x j = record { few = few; wrote = inr lost }
 
-at_rest : (e : Edges) (bytes held : List ℕ) (p : Option (List ℕ)) (faults : ℕ) (r : Result StreamEnd PrintFault) → length bytes ≤ frames_limit → IsAtEnd e.source.now → CutPrinted bytes e.sink.before held p →
-    judged held ≡ NoneYet → faults ≡ e.sink.faults → RestPrinted p e.sink.now faults e.sink.faults_now (length held) r → EndsAs e bytes r
-at_rest e bytes held p faults (Ok end_.Rest) few end x waiting kept w = ends_rest e bytes held p few end x waiting w.0 (w.1 ∙ kept)
-at_rest e bytes held p faults (Ok end_.Fault) few end x waiting kept w = absurd w
-at_rest e bytes held p faults (Err fault_.Source) few end x waiting kept w = absurd w
-at_rest e bytes held p faults (Err fault_.Sink) few end x waiting kept w = ends_unwritten e bytes held p faults few end x waiting w.0 kept w.1
-at_rest e bytes held p faults (Err fault_.TooLong) few end x waiting kept w = absurd w
-at_rest e bytes held p faults (Err fault_.NoMemory) few end x waiting kept w = absurd w
+at_rest : (a b : SourceState) (o p q : SinkState) (bytes held : List ℕ) (r : Result StreamEnd PrintFault) → length bytes ≤ frames_limit → IsAtEnd b.left → CutPrinted bytes o.contents held p.contents →
+    judged held ≡ NoneYet → p.faults ≡ o.faults → RestPrinted p q (length held) r → EndsAs (edges_over a b o q) bytes r
+at_rest a b o p q bytes held (Ok end_.Rest) few end x waiting kept w = ends_rest (edges_over a b o q) bytes held p.contents few end x waiting w.0 (w.1 ∙ kept)
+at_rest a b o p q bytes held (Ok end_.Fault) few end x waiting kept w = absurd w
+at_rest a b o p q bytes held (Err fault_.Source) few end x waiting kept w = absurd w
+at_rest a b o p q bytes held (Err fault_.Sink) few end x waiting kept w = ends_unwritten (edges_over a b o q) bytes held p.contents p.faults few end x waiting w.0 kept w.1
+at_rest a b o p q bytes held (Err fault_.TooLong) few end x waiting kept w = absurd w
+at_rest a b o p q bytes held (Err fault_.NoMemory) few end x waiting kept w = absurd w
 
 -- at the end of the source
-pub ends_at_rest : (e : Edges) (bytes held : List ℕ) (p : Option (List ℕ)) (faults len : ℕ) (r : Result StreamEnd PrintFault) → length bytes ≤ frames_limit → IsAtEnd e.source.now → CutPrinted bytes e.sink.before held p →
-    judged held ≡ NoneYet → len ≡ length held → faults ≡ e.sink.faults → RestPrinted p e.sink.now faults e.sink.faults_now len r → EndsAs e bytes r
-ends_at_rest e bytes held p faults len r few end x waiting is kept w =
-    let P : ℕ → Type 0 = λ n. RestPrinted p e.sink.now faults e.sink.faults_now n r in
-    at_rest e bytes held p faults r few end x waiting kept (subst P is w)
+pub ends_at_rest : (a b : SourceState) (o p q : SinkState) (bytes held : List ℕ) (len : ℕ) (r : Result StreamEnd PrintFault) → length bytes ≤ frames_limit → IsAtEnd b.left → CutPrinted bytes o.contents held p.contents →
+    judged held ≡ NoneYet → len ≡ length held → p.faults ≡ o.faults → RestPrinted p q len r → EndsAs (edges_over a b o q) bytes r
+ends_at_rest a b o p q bytes held len r few end x waiting is kept w =
+    let P : ℕ → Type 0 = λ n. RestPrinted p q n r in
+    at_rest a b o p q bytes held r few end x waiting kept (subst P is w)
 
 -- where printing the whole frames stopped
-pub ends_in_cut : (e : Edges) (bytes held mid new : List ℕ) (p : Option (List ℕ)) (faults : ℕ) (x : PrintFault) (r : Result StreamEnd PrintFault) → length bytes ≤ frames_limit → CutPrinted bytes e.sink.before held p →
-    faults ≡ e.sink.faults → CutsWhole held p faults mid e.sink.now e.sink.faults_now (Err x) → EndsStopped mid new x r → EndsAs e bytes r
-ends_in_cut e bytes held mid new p faults fault_.Source r few x kept w stopped = absurd w
-ends_in_cut e bytes held mid new p faults fault_.Sink r few x kept w stopped =
-    judged_ends e bytes new _ r few (lines_lost e bytes held mid p faults x kept w) (cut_behind e.sink.before bytes held mid new p e.sink.now faults e.sink.faults_now x w stopped.frames stopped.cut) stopped.judges
-ends_in_cut e bytes held mid new p faults fault_.TooLong r few x kept w stopped = absurd w
-ends_in_cut e bytes held mid new p faults fault_.NoMemory r few x kept w stopped =
-    let P : Result StreamEnd PrintFault → Type 0 = λ q. EndsAs e bytes q in
-    subst P (sym stopped) (ends_memory e bytes mid few (printed_more bytes held mid e.sink.before p e.sink.now x w))
+pub ends_in_cut : (a b : SourceState) (o p q : SinkState) (bytes held mid new : List ℕ) (x : PrintFault) (r : Result StreamEnd PrintFault) → length bytes ≤ frames_limit → CutPrinted bytes o.contents held p.contents →
+    p.faults ≡ o.faults → CutsWhole held p mid q (Err x) → EndsStopped mid new x r → EndsAs (edges_over a b o q) bytes r
+ends_in_cut a b o p q bytes held mid new fault_.Source r few x kept w stopped = absurd w
+ends_in_cut a b o p q bytes held mid new fault_.Sink r few x kept w stopped =
+    judged_ends (edges_over a b o q) bytes new _ r few (lines_lost a b o p q bytes held mid x kept w) (cut_behind o p q bytes held mid new x w stopped.frames stopped.cut) stopped.judges
+ends_in_cut a b o p q bytes held mid new fault_.TooLong r few x kept w stopped = absurd w
+ends_in_cut a b o p q bytes held mid new fault_.NoMemory r few x kept w stopped =
+    let P : Result StreamEnd PrintFault → Type 0 = λ s. EndsAs (edges_over a b o q) bytes s in
+    subst P (sym stopped) (ends_memory (edges_over a b o q) bytes mid few (printed_more bytes held mid o.contents p.contents q.contents x w))

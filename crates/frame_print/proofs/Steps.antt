@@ -7,6 +7,7 @@ use Rattle.brpc_model.specs.Frame.{Frame, Judged, NoneYet, judged}
 use Rattle.brpc_model.specs.Stream.{stream_from}
 use Rattle.brpc_model.specs.FramesText.{frame_line}
 use Rattle.sock_io.specs.Causes.{Rose}
+use Rattle.sock_io.specs.Stream.{SinkState}
 use Rattle.sock_io.specs.declared.stream.Failed.{Failed}
 use Rattle.sock_words.specs.declared.memory.NoMemory.{NoMemory}
 use Rattle.prpc_frame.specs.Answers.{Fed, Answers}
@@ -79,13 +80,13 @@ fed_printed r whole held piece new o p x waiting ok fed goes =
 
 -- ## Cutting
 
-ok_wrote : (a b : Option (List ℕ)) (x y : ℕ) (t : List ℕ) (r : Result (Unit {0}) Failed) → is_err r ≡ false → Writes a b x y t r → Appends a b t × (y ≡ x)
-ok_wrote a b x y t (Ok u) e w = (w.whole, w.kept)
-ok_wrote a b x y t (Err f) e w = absurd (cc)
+ok_wrote : (a b : SinkState) (t : List ℕ) (r : Result (Unit {0}) Failed) → is_err r ≡ false → Writes a b t r → Appends a.contents b.contents t × (b.faults ≡ a.faults)
+ok_wrote a b t (Ok u) e w = (w.whole, w.kept)
+ok_wrote a b t (Err f) e w = absurd (cc)
 
-err_wrote : (a b : Option (List ℕ)) (x y : ℕ) (t : List ℕ) (r : Result (Unit {0}) Failed) → is_err r ≡ true → Writes a b x y t r → WrotePart a b t × Rose x y
-err_wrote a b x y t (Ok u) e w = absurd (cc)
-err_wrote a b x y t (Err f) e w = (w.front, w.failed)
+err_wrote : (a b : SinkState) (t : List ℕ) (r : Result (Unit {0}) Failed) → is_err r ≡ true → Writes a b t r → WrotePart a.contents b.contents t × Rose a.faults b.faults
+err_wrote a b t (Ok u) e w = absurd (cc)
+err_wrote a b t (Err f) e w = (w.front, w.failed)
 
 -- nothing waits yet
 pub gathered_none : (bytes held : List ℕ) (o : Option (List ℕ)) → held ≡ [] → CutGathered bytes o bytes o held
@@ -99,31 +100,31 @@ line_behind fs v f done held same split =
     ap (λ v. done ++ (held ++ frame_line v)) same ∙ sym (append_assoc done held (frame_line f)) ∙ ap (λ l. l ++ frame_line f) split ∙ sym (lines_next fs f)
 
 -- the line of the frame at the front waits
-pub gathered_next : (old cutter new : List ℕ) (o p q : Option (List ℕ)) (held now : List ℕ) (x y z : ℕ) (v f : Frame) (r : Result (Unit {0}) Failed) → CutGathered old o cutter p held → y ≡ x → Cut cutter (f ∷ []) new → v ≡ f →
-    is_err r ≡ false → Gathers p q y z held now (frame_line v) r → CutGathered old o new q now × (z ≡ x)
-gathered_next old cutter new o p q held now x y z v f (Err e) g kept one same ok w = absurd (cc)
-gathered_next old cutter new o p q held now x y z v f (Ok u) g kept one same ok w = (
+pub gathered_next : (old cutter new : List ℕ) (o p q : SinkState) (held now : List ℕ) (v f : Frame) (r : Result (Unit {0}) Failed) → CutGathered old o.contents cutter p.contents held → p.faults ≡ o.faults → Cut cutter (f ∷ []) new → v ≡ f →
+    is_err r ≡ false → Gathers p q held now (frame_line v) r → CutGathered old o.contents new q.contents now × (q.faults ≡ o.faults)
+gathered_next old cutter new o p q held now v f (Err e) g kept one same ok w = absurd (cc)
+gathered_next old cutter new o p q held now v f (Ok u) g kept one same ok w = (
   record {
     frames = g.frames ++ f ∷ [];
     cut = cut_more old cutter new g.frames (f ∷ []) g.cut one;
     done = g.done ++ w.0;
-    wrote = Appends-append o p q g.done w.0 g.wrote w.1;
+    wrote = Appends-append o.contents p.contents q.contents g.done w.0 g.wrote w.1;
     split = append_assoc g.done w.0 now ∙ ap (λ l. g.done ++ l) w.2 ∙ line_behind g.frames v f g.done held same g.split;
   },
   w.3 ∙ kept,
 )
 
 -- the sink failed in the lines that waited, or in that line
-pub gather_stopped : (old cutter new : List ℕ) (o p q : Option (List ℕ)) (held now : List ℕ) (x y z : ℕ) (v f : Frame) (r : Result (Unit {0}) Failed) → CutGathered old o cutter p held → y ≡ x → Cut cutter (f ∷ []) new → v ≡ f →
-    is_err r ≡ true → Gathers p q y z held now (frame_line v) r → CutStopped old o new q x z
-gather_stopped old cutter new o p q held now x y z v f (Ok u) g kept one same err w = absurd (cc)
-gather_stopped old cutter new o p q held now x y z v f (Err e) g kept one same err w =
-    let Q : List ℕ → Type 0 = λ l. WrotePart o q l in
+pub gather_stopped : (old cutter new : List ℕ) (o p q : SinkState) (held now : List ℕ) (v f : Frame) (r : Result (Unit {0}) Failed) → CutGathered old o.contents cutter p.contents held → p.faults ≡ o.faults → Cut cutter (f ∷ []) new → v ≡ f →
+    is_err r ≡ true → Gathers p q held now (frame_line v) r → CutStopped old o new q
+gather_stopped old cutter new o p q held now v f (Ok u) g kept one same err w = absurd (cc)
+gather_stopped old cutter new o p q held now v f (Err e) g kept one same err w =
+    let Q : List ℕ → Type 0 = λ l. WrotePart o.contents q.contents l in
     record {
       frames = g.frames ++ f ∷ [];
       cut = cut_more old cutter new g.frames (f ∷ []) g.cut one;
-      front = subst Q (line_behind g.frames v f g.done held same g.split) (front_behind o p q g.done (held ++ frame_line v) g.wrote w.0);
-      rose = rose_from x y z kept w.1;
+      front = subst Q (line_behind g.frames v f g.done held same g.split) (front_behind o.contents p.contents q.contents g.done (held ++ frame_line v) g.wrote w.0);
+      rose = rose_from o.faults p.faults q.faults kept w.1;
     }
 
 -- all lines were written
@@ -133,20 +134,20 @@ gathered_written old new o p q held g w =
     record { frames = g.frames; cut = g.cut; wrote = subst P g.split (Appends-append o p q g.done held g.wrote w) }
 
 -- the sink failed in the lines that waited
-pub gathered_lost : (old new : List ℕ) (o p q : Option (List ℕ)) (held : List ℕ) (x y z : ℕ) → CutGathered old o new p held → y ≡ x → WrotePart p q held → Rose y z → CutStopped old o new q x z
-gathered_lost old new o p q held x y z g kept front rose =
-    let Q : List ℕ → Type 0 = λ l. WrotePart o q l in
-    record { frames = g.frames; cut = g.cut; front = subst Q g.split (front_behind o p q g.done held g.wrote front); rose = rose_from x y z kept rose }
+pub gathered_lost : (old new : List ℕ) (o p q : SinkState) (held : List ℕ) → CutGathered old o.contents new p.contents held → p.faults ≡ o.faults → WrotePart p.contents q.contents held → Rose p.faults q.faults → CutStopped old o new q
+gathered_lost old new o p q held g kept front rose =
+    let Q : List ℕ → Type 0 = λ l. WrotePart o.contents q.contents l in
+    record { frames = g.frames; cut = g.cut; front = subst Q g.split (front_behind o.contents p.contents q.contents g.done held g.wrote front); rose = rose_from o.faults p.faults q.faults kept rose }
 
 -- a line that was written behind the lines that waited
-pub gathers_written : (o p q : Option (List ℕ)) (x y z : ℕ) (held text now : List ℕ) (r : Result (Unit {0}) Failed) → Appends o p held → y ≡ x → now ≡ [] → Writes p q y z text r → Gathers o q x z held now text r
-gathers_written o p q x y z held text now (Ok u) wrote kept none w =
-    (held ++ text, Appends-append o p q held text wrote w.whole, ap (λ l. (held ++ text) ++ l) none ∙ append-nil (held ++ text), w.kept ∙ kept)
-gathers_written o p q x y z held text now (Err e) wrote kept none w = (front_behind o p q held text wrote w.front, rose_from x y z kept w.failed)
+pub gathers_written : (o p q : SinkState) (held text now : List ℕ) (r : Result (Unit {0}) Failed) → Appends o.contents p.contents held → p.faults ≡ o.faults → now ≡ [] → Writes p q text r → Gathers o q held now text r
+gathers_written o p q held text now (Ok u) wrote kept none w =
+    (held ++ text, Appends-append o.contents p.contents q.contents held text wrote w.whole, ap (λ l. (held ++ text) ++ l) none ∙ append-nil (held ++ text), w.kept ∙ kept)
+gathers_written o p q held text now (Err e) wrote kept none w = (front_behind o.contents p.contents q.contents held text wrote w.front, rose_from o.faults p.faults q.faults kept w.failed)
 
 -- the lines that waited were written, and that line waits in their place
-pub gathers_waits : (o p : Option (List ℕ)) (x y : ℕ) (held mid now text : List ℕ) → Appends o p held → y ≡ x → mid ≡ [] → now ≡ mid ++ text → Gathers o p x y held now text (Ok tt)
-gathers_waits o p x y held mid now text wrote kept none is = (held, wrote, ap (λ l. held ++ l) (is ∙ ap (λ l. l ++ text) none), kept)
+pub gathers_waits : (o p : SinkState) (held mid now text : List ℕ) → Appends o.contents p.contents held → p.faults ≡ o.faults → mid ≡ [] → now ≡ mid ++ text → Gathers o p held now text (Ok tt)
+gathers_waits o p held mid now text wrote kept none is = (held, wrote, ap (λ l. held ++ l) (is ∙ ap (λ l. l ++ text) none), kept)
 
 pub kept_true : (b : Bool) (P Q : Type 0) → b ≡ true → MatchBool b P Q → P
 kept_true true P Q e h = h
@@ -167,51 +168,51 @@ pub same_memory : (j : Judged) (old new : List ℕ) (n : NextFault) → n ≡ ne
 same_memory j old new n is h = let P : NextFault → Type 0 = λ o. Answers j old (Err o) new in let k : Answers j old (Err next.NoMemory) new = subst P is h in k
 
 -- the sink failed in the lines that waited, and no frame was cut meanwhile
-pub gathered_lost_at : (old held new : List ℕ) (o p q : Option (List ℕ)) (lines : List ℕ) (x y z : ℕ) (e : Failed) → new ≡ held → CutGathered old o held p lines → y ≡ x → Writes p q y z lines (Err e) → CutStopped old o new q x z
-gathered_lost_at old held new o p q lines x y z e same g kept w =
-    let P : List ℕ → Type 0 = λ l. CutStopped old o l q x z in subst P (sym same) (gathered_lost old held o p q lines x y z g kept w.front w.failed)
+pub gathered_lost_at : (old held new : List ℕ) (o p q : SinkState) (lines : List ℕ) (e : Failed) → new ≡ held → CutGathered old o.contents held p.contents lines → p.faults ≡ o.faults → Writes p q lines (Err e) → CutStopped old o new q
+gathered_lost_at old held new o p q lines e same g kept w =
+    let P : List ℕ → Type 0 = λ l. CutStopped old o l q in subst P (sym same) (gathered_lost old held o p q lines g kept w.front w.failed)
 
 -- the lines that waited were written, and no frame is whole
-pub cut_none_more : (old held new : List ℕ) (o p q : Option (List ℕ)) (lines : List ℕ) (x y z : ℕ) (t : Option code.Frame) → t ≡ None → Answers (judged held) held (Ok t) new → CutGathered old o held p lines → y ≡ x → Writes p q y z lines (Ok tt) →
-    CutsWhole old o x new q z (Ok None)
-cut_none_more old held new o p q lines x y z t is h g kept w =
+pub cut_none_more : (old held new : List ℕ) (o p q : SinkState) (lines : List ℕ) (t : Option code.Frame) → t ≡ None → Answers (judged held) held (Ok t) new → CutGathered old o.contents held p.contents lines → p.faults ≡ o.faults → Writes p q lines (Ok tt) →
+    CutsWhole old o new q (Ok None)
+cut_none_more old held new o p q lines t is h g kept w =
     let P : Option code.Frame → Type 0 = λ s. Answers (judged held) held (Ok s) new in
     let k : Answers (judged held) held (Ok None) new = subst P is h in
-    let Q : List ℕ → Type 0 = λ l. CutPrinted old o l q × (judged l ≡ NoneYet) × (z ≡ x) in
-    let there : Q held = (gathered_written old held o p q lines g w.whole, k.0, w.kept ∙ kept) in
+    let Q : List ℕ → Type 0 = λ l. CutPrinted old o.contents l q.contents × (judged l ≡ NoneYet) × (q.faults ≡ o.faults) in
+    let there : Q held = (gathered_written old held o.contents p.contents q.contents lines g w.whole, k.0, w.kept ∙ kept) in
     subst Q (sym k.1) there
 
 -- they were written, and there is a fault
-pub cut_to_fault : (old held new : List ℕ) (o p q : Option (List ℕ)) (lines : List ℕ) (x y z : ℕ) (n : NextFault) (met : Met) → n ≡ next.Frame met.fault → met.len ≡ length held → Answers (judged held) held (Err n) new → CutGathered old o held p lines → y ≡ x → Writes p q y z lines (Ok tt) →
-    CutsWhole old o x new q z (Ok (Some met))
-cut_to_fault old held new o p q lines x y z n met is len h g kept w =
+pub cut_to_fault : (old held new : List ℕ) (o p q : SinkState) (lines : List ℕ) (n : NextFault) (met : Met) → n ≡ next.Frame met.fault → met.len ≡ length held → Answers (judged held) held (Err n) new → CutGathered old o.contents held p.contents lines → p.faults ≡ o.faults → Writes p q lines (Ok tt) →
+    CutsWhole old o new q (Ok (Some met))
+cut_to_fault old held new o p q lines n met is len h g kept w =
     let P : NextFault → Type 0 = λ f. Answers (judged held) held (Err f) new in
     let k : Answers (judged held) held (Err (next.Frame met.fault)) new = subst P is h in
-    let Q : List ℕ → Type 0 = λ l. CutPrinted old o l q × IsFault (judged l) met.fault × (z ≡ x) × (met.len ≡ length l) in
-    let there : Q held = (gathered_written old held o p q lines g w.whole, k.0, w.kept ∙ kept, len) in
+    let Q : List ℕ → Type 0 = λ l. CutPrinted old o.contents l q.contents × IsFault (judged l) met.fault × (q.faults ≡ o.faults) × (met.len ≡ length l) in
+    let there : Q held = (gathered_written old held o.contents p.contents q.contents lines g w.whole, k.0, w.kept ∙ kept, len) in
     subst Q (sym k.1) there
 
 -- they were written, and memory ran out
-pub cut_to_memory : (old held new : List ℕ) (o p q : Option (List ℕ)) (lines : List ℕ) (y z : ℕ) (n : NextFault) → n ≡ next.NoMemory → Answers (judged held) held (Err n) new → CutGathered old o held p lines → Writes p q y z lines (Ok tt) → CutPrinted old o new q
-cut_to_memory old held new o p q lines y z n is h g w =
-    let Q : List ℕ → Type 0 = λ l. CutPrinted old o l q in
-    subst Q (sym (same_memory (judged held) held new n is h)) (gathered_written old held o p q lines g w.whole)
+pub cut_to_memory : (old held new : List ℕ) (o : Option (List ℕ)) (p q : SinkState) (lines : List ℕ) (n : NextFault) → n ≡ next.NoMemory → Answers (judged held) held (Err n) new → CutGathered old o held p.contents lines → Writes p q lines (Ok tt) → CutPrinted old o new q.contents
+cut_to_memory old held new o p q lines n is h g w =
+    let Q : List ℕ → Type 0 = λ l. CutPrinted old o l q.contents in
+    subst Q (sym (same_memory (judged held) held new n is h)) (gathered_written old held o p.contents q.contents lines g w.whole)
 
 -- the sink failed in the lines that waited
-pub gathers_lost : (o p : Option (List ℕ)) (x y : ℕ) (held now text : List ℕ) (e f : Failed) (r : Result (Unit {0}) Failed) → r ≡ Err f → Writes o p x y held (Err e) → Gathers o p x y held now text r
-gathers_lost o p x y held now text e f r is w =
-    let P : Result (Unit {0}) Failed → Type 0 = λ q. Gathers o p x y held now text q in
-    let lost : Gathers o p x y held now text (Err f) = (front_before o p held text w.front, w.failed) in
+pub gathers_lost : (o p : SinkState) (held now text : List ℕ) (e f : Failed) (r : Result (Unit {0}) Failed) → r ≡ Err f → Writes o p held (Err e) → Gathers o p held now text r
+gathers_lost o p held now text e f r is w =
+    let P : Result (Unit {0}) Failed → Type 0 = λ q. Gathers o p held now text q in
+    let lost : Gathers o p held now text (Err f) = (front_before o.contents p.contents held text w.front, w.failed) in
     subst P (sym is) lost
 
 -- no frame is whole
-pub cut_waits : (held new : List ℕ) (p q : Option (List ℕ)) (x y : ℕ) (o : Option Met) → o ≡ None → CutsWhole held p x new q y (Ok o) → CutPrinted held p new q × (judged new ≡ NoneYet) × (y ≡ x)
-cut_waits held new p q x y o is h = let P : Option Met → Type 0 = λ t. CutsWhole held p x new q y (Ok t) in subst P is h
+pub cut_waits : (held new : List ℕ) (p q : SinkState) (o : Option Met) → o ≡ None → CutsWhole held p new q (Ok o) → CutPrinted held p.contents new q.contents × (judged new ≡ NoneYet) × (q.faults ≡ p.faults)
+cut_waits held new p q o is h = let P : Option Met → Type 0 = λ t. CutsWhole held p new q (Ok t) in subst P is h
 
 -- there is a fault
-pub cut_faulty : (held new : List ℕ) (p q : Option (List ℕ)) (x y : ℕ) (met : Met) (o : Option Met) → o ≡ Some met → CutsWhole held p x new q y (Ok o) →
-    CutPrinted held p new q × IsFault (judged new) met.fault × (y ≡ x) × (met.len ≡ length new)
-cut_faulty held new p q x y met o is h = let P : Option Met → Type 0 = λ t. CutsWhole held p x new q y (Ok t) in subst P is h
+pub cut_faulty : (held new : List ℕ) (p q : SinkState) (met : Met) (o : Option Met) → o ≡ Some met → CutsWhole held p new q (Ok o) →
+    CutPrinted held p.contents new q.contents × IsFault (judged new) met.fault × (q.faults ≡ p.faults) × (met.len ≡ length new)
+cut_faulty held new p q met o is h = let P : Option Met → Type 0 = λ t. CutsWhole held p new q (Ok t) in subst P is h
 
 -- ## Where the sink failed
 

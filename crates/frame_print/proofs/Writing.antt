@@ -2,6 +2,7 @@
 use Rattle.std.proofs.Common.{◌≡◌, ℕ, List, [], ◌++◌, Option, Some, None, Result, Ok, Err, refl, ap, sym, ◌∙◌, subst, append_assoc, append-nil}
 use Rattle.std.specs.Io.KnownBytes.{Appends, Keeps}
 use Rattle.sock_io.specs.Causes.{Rose}
+use Rattle.sock_io.specs.Stream.{SinkState}
 use Rattle.sock_io.specs.declared.stream.Failed.{Failed}
 use Rattle.frame_print.specs.Written.{Writes}
 use Rattle.sock_io.specs.Writing.{WrotePart}
@@ -29,21 +30,21 @@ pub rose_from : (x y z : ℕ) → y ≡ x → Rose y z → Rose x z
 rose_from x y z e h = let P : ℕ → Type 0 = λ n. Rose n z in subst P e h
 
 -- a text behind one that was written
-pub then_wrote : (a b d : Option (List ℕ)) (x y z : ℕ) (s t : List ℕ) (r : Result (Unit {0}) Failed) → Writes a b x y s (Ok tt) → Writes b d y z t r → Writes a d x z (s ++ t) r
-then_wrote a b d x y z s t (Ok u) f g = record { whole = Appends-append a b d s t f.whole g.whole; kept = g.kept ∙ f.kept; front = tt; failed = tt }
-then_wrote a b d x y z s t (Err e) f g = record { whole = tt; kept = tt; front = front_behind a b d s t f.whole g.front; failed = rose_from x y z f.kept g.failed }
+pub then_wrote : (a b d : SinkState) (s t : List ℕ) (r : Result (Unit {0}) Failed) → Writes a b s (Ok tt) → Writes b d t r → Writes a d (s ++ t) r
+then_wrote a b d s t (Ok u) f g = record { whole = Appends-append a.contents b.contents d.contents s t f.whole g.whole; kept = g.kept ∙ f.kept; front = tt; failed = tt }
+then_wrote a b d s t (Err e) f g = record { whole = tt; kept = tt; front = front_behind a.contents b.contents d.contents s t f.whole g.front; failed = rose_from a.faults b.faults d.faults f.kept g.failed }
 
 -- what would have come behind wasn't written
-pub stopped : (a b : Option (List ℕ)) (x y : ℕ) (s t : List ℕ) (e : Failed) → Writes a b x y s (Err e) → Writes a b x y (s ++ t) (Err e)
-stopped a b x y s t e f = record { whole = tt; kept = tt; front = front_before a b s t f.front; failed = f.failed }
+pub stopped : (a b : SinkState) (s t : List ℕ) (e : Failed) → Writes a b s (Err e) → Writes a b (s ++ t) (Err e)
+stopped a b s t e f = record { whole = tt; kept = tt; front = front_before a.contents b.contents s t f.front; failed = f.failed }
 
 -- nothing is written
-pub wrote_none : (a : Option (List ℕ)) (x : ℕ) → Writes a a x x [] (Ok tt)
-wrote_none a x = record { whole = Appends-nil a; kept = refl; front = tt; failed = tt }
+pub wrote_none : (a : SinkState) → Writes a a [] (Ok tt)
+wrote_none a = record { whole = Appends-nil a.contents; kept = refl; front = tt; failed = tt }
 
 -- the same text
-pub as_text : (a b : Option (List ℕ)) (x y : ℕ) (s t : List ℕ) (r : Result (Unit {0}) Failed) → Writes a b x y s r → s ≡ t → Writes a b x y t r
-as_text a b x y s t r f e = let P : List ℕ → Type 0 = λ l. Writes a b x y l r in subst P e f
+pub as_text : (a b : SinkState) (s t : List ℕ) (r : Result (Unit {0}) Failed) → Writes a b s r → s ≡ t → Writes a b t r
+as_text a b s t r f e = let P : List ℕ → Type 0 = λ l. Writes a b l r in subst P e f
 
 pub kept_behind : (o p q : Option (List ℕ)) (s : List ℕ) → Appends o p s → Keeps p q → Appends o q s
 kept_behind None p q s e f = tt
@@ -52,21 +53,21 @@ kept_behind (Some xs) (Some ys) None s e f = absurd f
 kept_behind (Some xs) (Some ys) (Some zs) s e f = f ∙ e
 
 -- a write failed behind a beginning of the text
-pub failed_write : (a b d : Option (List ℕ)) (x y z : ℕ) (done rest all : List ℕ) (e : Failed) → Writes a b x y done (Ok tt) → done ++ rest ≡ all → Keeps b d → Rose y z → Writes a d x z all (Err e)
-failed_write a b d x y z done rest all e f split same rose =
-    record { whole = tt; kept = tt; front = (done, rest, split, kept_behind a b d done f.whole same); failed = rose_from x y z f.kept rose }
+pub failed_write : (a b d : SinkState) (done rest all : List ℕ) (e : Failed) → Writes a b done (Ok tt) → done ++ rest ≡ all → Keeps b.contents d.contents → Rose b.faults d.faults → Writes a d all (Err e)
+failed_write a b d done rest all e f split same rose =
+    record { whole = tt; kept = tt; front = (done, rest, split, kept_behind a.contents b.contents d.contents done f.whole same); failed = rose_from a.faults b.faults d.faults f.kept rose }
 
 -- a write that failed behind what was written
-pub stopped_in : (a b d : Option (List ℕ)) (x y z : ℕ) (done piece rest all : List ℕ) (e s : Failed) (r : Result (Unit {0}) Failed) → Writes a b x y done (Ok tt) → Writes b d y z piece (Err e) →
-    done ++ (piece ++ rest) ≡ all → r ≡ Err s → Writes a d x z all r
-stopped_in a b d x y z done piece rest all e s r f g split is =
-    let P : Result (Unit {0}) Failed → Type 0 = λ q. Writes a d x z all q in
-    let failed : Writes a d x z all (Err s) = record { whole = tt; kept = tt; front = let front = front_behind a b d done (piece ++ rest) f.whole (front_before b d piece rest g.front) in (front.0, front.1, front.2 ∙ split, front.3); failed = rose_from x y z f.kept g.failed } in
+pub stopped_in : (a b d : SinkState) (done piece rest all : List ℕ) (e s : Failed) (r : Result (Unit {0}) Failed) → Writes a b done (Ok tt) → Writes b d piece (Err e) →
+    done ++ (piece ++ rest) ≡ all → r ≡ Err s → Writes a d all r
+stopped_in a b d done piece rest all e s r f g split is =
+    let P : Result (Unit {0}) Failed → Type 0 = λ q. Writes a d all q in
+    let failed : Writes a d all (Err s) = record { whole = tt; kept = tt; front = let front = front_behind a.contents b.contents d.contents done (piece ++ rest) f.whole (front_before b.contents d.contents piece rest g.front) in (front.0, front.1, front.2 ∙ split, front.3); failed = rose_from a.faults b.faults d.faults f.kept g.failed } in
     subst P (sym is) failed
 
 -- a write that failed first
-pub stopped_at : (a b : Option (List ℕ)) (x y : ℕ) (piece rest all : List ℕ) (e s : Failed) (r : Result (Unit {0}) Failed) → Writes a b x y piece (Err e) → piece ++ rest ≡ all → r ≡ Err s → Writes a b x y all r
-stopped_at a b x y piece rest all e s r g split is =
-    let P : Result (Unit {0}) Failed → Type 0 = λ q. Writes a b x y all q in
-    let failed : Writes a b x y all (Err s) = record { whole = tt; kept = tt; front = let front = front_before a b piece rest g.front in (front.0, front.1, front.2 ∙ split, front.3); failed = g.failed } in
+pub stopped_at : (a b : SinkState) (piece rest all : List ℕ) (e s : Failed) (r : Result (Unit {0}) Failed) → Writes a b piece (Err e) → piece ++ rest ≡ all → r ≡ Err s → Writes a b all r
+stopped_at a b piece rest all e s r g split is =
+    let P : Result (Unit {0}) Failed → Type 0 = λ q. Writes a b all q in
+    let failed : Writes a b all (Err s) = record { whole = tt; kept = tt; front = let front = front_before a.contents b.contents piece rest g.front in (front.0, front.1, front.2 ∙ split, front.3); failed = g.failed } in
     subst P (sym is) failed

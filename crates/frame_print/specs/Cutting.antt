@@ -6,6 +6,7 @@ use Rattle.brpc_model.specs.Frame as model
 use Rattle.brpc_model.specs.Stream.{Rest}
 use Rattle.brpc_model.specs.FramesText.{frame_line, ending_line}
 use Rattle.sock_io.specs.Causes.{Rose}
+use Rattle.sock_io.specs.Stream.{SinkState}
 use Rattle.prpc_frame.specs.Cuts.{Cut}
 use Rattle.prpc_frame.specs.Meaning.{IsFault}
 use Rattle.sock_io.specs.Writing.{WrotePart}
@@ -30,19 +31,19 @@ pub record CutGathered (old : List ℕ) (before : Option (List ℕ)) (new : List
   pub split : done ++ held ≡ flat_map frame_line frames
 
 -- the sink failed in the line of one of the frames
-pub record CutStopped (old : List ℕ) (before : Option (List ℕ)) (new : List ℕ) (now : Option (List ℕ)) (faults faults_now : ℕ) : Type 0 where
+pub record CutStopped (old : List ℕ) (before : SinkState) (new : List ℕ) (now : SinkState) : Type 0 where
   pub frames : List Frame
   pub cut : Cut old frames new
-  pub front : WrotePart before now (flat_map frame_line frames)
-  pub rose : Rose faults faults_now
+  pub front : WrotePart before.contents now.contents (flat_map frame_line frames)
+  pub rose : Rose before.faults now.faults
 
 -- the frames that are whole were printed; then no frame is whole, or there is a fault, or printing stopped
-abbrev pub CutsWhole : List ℕ → Option (List ℕ) → ℕ → List ℕ → Option (List ℕ) → ℕ → Result (Option Met) PrintFault → Type 0
-CutsWhole old before faults new now faults_now (Ok None) = CutPrinted old before new now × (judged new ≡ NoneYet) × (faults_now ≡ faults)
-CutsWhole old before faults new now faults_now (Ok (Some met)) = CutPrinted old before new now × IsFault (judged new) met.fault × (faults_now ≡ faults) × (met.len ≡ length new)
-CutsWhole old before faults new now faults_now (Err fault_.Sink) = CutStopped old before new now faults faults_now
-CutsWhole old before faults new now faults_now (Err fault_.NoMemory) = CutPrinted old before new now
-CutsWhole old before faults new now faults_now (Err other) = ⊥
+abbrev pub CutsWhole : List ℕ → SinkState → List ℕ → SinkState → Result (Option Met) PrintFault → Type 0
+CutsWhole old before new now (Ok None) = CutPrinted old before.contents new now.contents × (judged new ≡ NoneYet) × (now.faults ≡ before.faults)
+CutsWhole old before new now (Ok (Some met)) = CutPrinted old before.contents new now.contents × IsFault (judged new) met.fault × (now.faults ≡ before.faults) × (met.len ≡ length new)
+CutsWhole old before new now (Err fault_.Sink) = CutStopped old before new now
+CutsWhole old before new now (Err fault_.NoMemory) = CutPrinted old before.contents new now.contents
+CutsWhole old before new now (Err other) = ⊥
 
 -- the sink failed, and so the bytes end that came
 abbrev pub JudgesAs : Judged → Result StreamEnd PrintFault → Type 0
@@ -64,8 +65,8 @@ EndsStopped old new fault_.Sink result = Judges old new result
 EndsStopped old new other result = result ≡ Err other
 
 -- the line of a rest of so many bytes was written, or the sink failed behind a beginning of it
-abbrev pub RestPrinted : Option (List ℕ) → Option (List ℕ) → ℕ → ℕ → ℕ → Result StreamEnd PrintFault → Type 0
-RestPrinted before now faults faults_now len (Ok end_.Rest) = Appends before now (ending_line (Rest len)) × (faults_now ≡ faults)
-RestPrinted before now faults faults_now len (Ok end_.Fault) = ⊥
-RestPrinted before now faults faults_now len (Err fault_.Sink) = WrotePart before now (ending_line (Rest len)) × Rose faults faults_now
-RestPrinted before now faults faults_now len (Err other) = ⊥
+abbrev pub RestPrinted : SinkState → SinkState → ℕ → Result StreamEnd PrintFault → Type 0
+RestPrinted before now len (Ok end_.Rest) = Appends before.contents now.contents (ending_line (Rest len)) × (now.faults ≡ before.faults)
+RestPrinted before now len (Ok end_.Fault) = ⊥
+RestPrinted before now len (Err fault_.Sink) = WrotePart before.contents now.contents (ending_line (Rest len)) × Rose before.faults now.faults
+RestPrinted before now len (Err other) = ⊥

@@ -4,6 +4,7 @@ use Rattle.std.specs.Io.KnownBytes.{Appends, Consumes, IsAtEnd}
 use Rattle.brpc_model.specs.Stream.{Ending, Rest, Fault, stream}
 use Rattle.brpc_model.specs.FramesText.{frame_line, frames_text}
 use Rattle.sock_io.specs.Causes.{Rose}
+use Rattle.sock_io.specs.Stream.{SourceState, SinkState}
 use Rattle.sock_io.specs.Writing.{WrotePart}
 use Rattle.frame_print.specs.declared.print.StreamEnd.{StreamEnd}
 use Rattle.frame_print.specs.declared.print.StreamEnd.TheVariants as end_
@@ -29,14 +30,11 @@ pub record Edges : Type 0 where
   pub source : Side
   pub sink : Side
 
--- by what it tells of itself
-abbrev pub side_over : {S : Type 0} → (S → Option (List ℕ)) → (S → ℕ) → S → S → Side
-side_over told_of faults_of side side_now = record { before = told_of side; now = told_of side_now; faults = faults_of side; faults_now = faults_of side_now }
-
-abbrev pub edges_over : {S K : Type 0} → (S → Option (List ℕ)) → (S → ℕ) → S → S → (K → Option (List ℕ)) → (K → ℕ) → K → K → Edges
-edges_over left_of read_faults_of source source_now contents_of write_faults_of sink sink_now = record {
-  source = side_over left_of read_faults_of source source_now;
-  sink = side_over contents_of write_faults_of sink sink_now;
+-- by what they tell of themselves
+abbrev pub edges_over : SourceState → SourceState → SinkState → SinkState → Edges
+edges_over source source_now sink sink_now = record {
+  source = record { before = source.left; now = source_now.left; faults = source.faults; faults_now = source_now.faults };
+  sink = record { before = sink.contents; now = sink_now.contents; faults = sink.faults; faults_now = sink_now.faults };
 }
 
 abbrev pub WroteAll : Edges → List ℕ → Type 0

@@ -13,7 +13,7 @@ use sock_io::{Failed, Sink};
 
 /// Writes the line of a rest of so many bytes. It takes no memory.
 pub fn print_rest<K: Sink>(out: &mut K, len: usize) -> Result<(), Failed>
-    ensures { Writes (K.contents out.old) (K.contents out.new) (K.faults out.old) (K.faults out.new) (ending_line (Rest len)) result }
+    ensures { Writes (K.state out.old) (K.state out.new) (ending_line (Rest len)) result }
 {
     print_pieces(
         out,
@@ -28,7 +28,7 @@ pub fn print_rest<K: Sink>(out: &mut K, len: usize) -> Result<(), Failed>
 /// Writes the line of the fault of the frame that begins at a place. It takes no memory.
 pub fn print_fault<K: Sink>(out: &mut K, start: usize, fault: FrameFault) -> Result<(), Failed>
     ensures { (f : model.FrameFault) → fault_of fault ≡ Some f →
-        Writes (K.contents out.old) (K.contents out.new) (K.faults out.old) (K.faults out.new) (ending_line (Fault start f)) result }
+        Writes (K.state out.old) (K.state out.new) (ending_line (Fault start f)) result }
 {
     print_pieces(out, &[Piece::Text(b"fault "), Piece::Number(start as u64)])?;
     print_fault_words(out, fault)?;
@@ -38,7 +38,7 @@ pub fn print_fault<K: Sink>(out: &mut K, start: usize, fault: FrameFault) -> Res
 // ` KIND A` or ` KIND A B`.
 fn print_fault_words<K: Sink>(out: &mut K, fault: FrameFault) -> Result<(), Failed>
     ensures { (f : model.FrameFault) → fault_of fault ≡ Some f →
-        Writes (K.contents out.old) (K.contents out.new) (K.faults out.old) (K.faults out.new) (fault_words f) result }
+        Writes (K.state out.old) (K.state out.new) (fault_words f) result }
 {
     match fault {
         FrameFault::BadMagic { at } => {

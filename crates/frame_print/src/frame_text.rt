@@ -14,7 +14,7 @@ use sock_io::{Failed, Sink};
 /// Writes the line of a frame. It takes no memory.
 #[inline(always)]
 pub fn print_frame<K: Sink>(out: &mut K, frame: &FrameView) -> Result<(), Failed>
-    ensures { Writes (K.contents out.old) (K.contents out.new) (K.faults out.old) (K.faults out.new) (frame_line (frame_viewed frame.now)) result }
+    ensures { Writes (K.state out.old) (K.state out.new) (frame_line (frame_viewed frame.now)) result }
 {
     print_pieces(out, &[Piece::Text(b"frame")])?;
     print_request(out, &frame.meta.request)?;
@@ -25,7 +25,7 @@ pub fn print_frame<K: Sink>(out: &mut K, frame: &FrameView) -> Result<(), Failed
 // ` request SERVICE METHOD`, where there is one.
 #[inline(always)]
 fn print_request<K: Sink>(out: &mut K, request: &Option<RequestView>) -> Result<(), Failed>
-    ensures { Writes (K.contents out.old) (K.contents out.new) (K.faults out.old) (K.faults out.new) (where_some request_text (option_map request_viewed request.now)) result }
+    ensures { Writes (K.state out.old) (K.state out.new) (where_some request_text (option_map request_viewed request.now)) result }
 {
     let Some(request) = request else {
         return Ok(());
@@ -46,7 +46,7 @@ fn print_request<K: Sink>(out: &mut K, request: &Option<RequestView>) -> Result<
 // ` response CODE TEXT`, where there is one.
 #[inline(always)]
 fn print_response<K: Sink>(out: &mut K, response: &Option<ResponseView>) -> Result<(), Failed>
-    ensures { Writes (K.contents out.old) (K.contents out.new) (K.faults out.old) (K.faults out.new) (where_some response_text (option_map response_viewed response.now)) result }
+    ensures { Writes (K.state out.old) (K.state out.new) (where_some response_text (option_map response_viewed response.now)) result }
 {
     let Some(response) = response else {
         return Ok(());
@@ -62,7 +62,7 @@ fn print_response<K: Sink>(out: &mut K, response: &Option<ResponseView>) -> Resu
 // What stands behind them.
 #[inline(always)]
 fn print_end<K: Sink>(out: &mut K, frame: &FrameView) -> Result<(), Failed>
-    ensures { Writes (K.contents out.old) (K.contents out.new) (K.faults out.old) (K.faults out.new) (end_text (frame_viewed frame.now)) result }
+    ensures { Writes (K.state out.old) (K.state out.new) (end_text (frame_viewed frame.now)) result }
 {
     print_numbers(out, frame.meta.correlation_id, frame.meta.compress_type)?;
     print_bodies(out, frame.payload, frame.attachment)
@@ -71,7 +71,7 @@ fn print_end<K: Sink>(out: &mut K, frame: &FrameView) -> Result<(), Failed>
 // ` id N compress Z`.
 #[inline(always)]
 fn print_numbers<K: Sink>(out: &mut K, id: u64, compress: i32) -> Result<(), Failed>
-    ensures { Writes (K.contents out.old) (K.contents out.new) (K.faults out.old) (K.faults out.new) (numbers_text id compress) result }
+    ensures { Writes (K.state out.old) (K.state out.new) (numbers_text id compress) result }
 {
     let (id, compress) = (Piece::Number(id), Piece::Signed(compress));
     print_pieces(
@@ -92,7 +92,7 @@ fn print_bodies<'a, K: Sink>(
     payload: BytesView<'a>,
     attachment: BytesView<'a>,
 ) -> Result<(), Failed>
-    ensures { Writes (K.contents out.old) (K.contents out.new) (K.faults out.old) (K.faults out.new) (bytes_text (bytes_viewed payload.entry) (bytes_viewed attachment.entry)) result }
+    ensures { Writes (K.state out.old) (K.state out.new) (bytes_text (bytes_viewed payload.entry) (bytes_viewed attachment.entry)) result }
 {
     print_pieces(
         out,

@@ -17,7 +17,7 @@ const SHORT: usize = 32;
 
 /// Writes bytes in hexadecimal, `-` for none.
 pub fn print_hex<K: Sink>(out: &mut K, bytes: &[u8]) -> Result<(), Failed>
-    ensures { Writes (K.contents out.old) (K.contents out.new) (K.faults out.old) (K.faults out.new) (hex_text bytes.now) result }
+    ensures { Writes (K.state out.old) (K.state out.new) (hex_text bytes.now) result }
 {
     if bytes.is_empty() {
         return write_all(out, b"-");
@@ -28,7 +28,7 @@ pub fn print_hex<K: Sink>(out: &mut K, bytes: &[u8]) -> Result<(), Failed>
 /// Writes bytes in hexadecimal wherever they lie, `-` for none.
 #[inline(always)]
 pub fn print_bytes<K: Sink>(out: &mut K, bytes: BytesView) -> Result<(), Failed>
-    ensures { Writes (K.contents out.old) (K.contents out.new) (K.faults out.old) (K.faults out.new) (hex_text (bytes_viewed bytes.entry)) result }
+    ensures { Writes (K.state out.old) (K.state out.new) (hex_text (bytes_viewed bytes.entry)) result }
 {
     match bytes {
         BytesView::Slice(bytes) => print_hex(out, bytes),
@@ -38,7 +38,7 @@ pub fn print_bytes<K: Sink>(out: &mut K, bytes: BytesView) -> Result<(), Failed>
 
 // Writes the bytes of a buffer in hexadecimal, `-` for none.
 fn print_buffer<K: Sink>(out: &mut K, buf: &IoBuf) -> Result<(), Failed>
-    ensures { Writes (K.contents out.old) (K.contents out.new) (K.faults out.old) (K.faults out.new) (hex_text buf.now.items) result }
+    ensures { Writes (K.state out.old) (K.state out.new) (hex_text buf.now.items) result }
 {
     if buf.is_empty() {
         return write_all(out, b"-");
@@ -48,7 +48,7 @@ fn print_buffer<K: Sink>(out: &mut K, buf: &IoBuf) -> Result<(), Failed>
 
 // Writes two digits a byte, block by block.
 fn print_blocks<K: Sink>(out: &mut K, buf: &IoBuf) -> Result<(), Failed>
-    ensures { Writes (K.contents out.old) (K.contents out.new) (K.faults out.old) (K.faults out.new) (encode_lower buf.now.items) result }
+    ensures { Writes (K.state out.old) (K.state out.new) (encode_lower buf.now.items) result }
 {
     for place in 0..buf.refs() {
         print_digits(out, buf.piece(place))?;
@@ -58,7 +58,7 @@ fn print_blocks<K: Sink>(out: &mut K, buf: &IoBuf) -> Result<(), Failed>
 
 // Writes two digits a byte.
 fn print_digits<K: Sink>(out: &mut K, bytes: &[u8]) -> Result<(), Failed>
-    ensures { Writes (K.contents out.old) (K.contents out.new) (K.faults out.old) (K.faults out.new) (encode_lower bytes.now) result }
+    ensures { Writes (K.state out.old) (K.state out.new) (encode_lower bytes.now) result }
 {
     if bytes.len() <= SHORT {
         return print_short(out, bytes);
@@ -69,7 +69,7 @@ fn print_digits<K: Sink>(out: &mut K, bytes: &[u8]) -> Result<(), Failed>
 // The same, chunk by chunk. It stands apart for the size of its room.
 #[inline(never)]
 fn print_chunks<K: Sink>(out: &mut K, bytes: &[u8]) -> Result<(), Failed>
-    ensures { Writes (K.contents out.old) (K.contents out.new) (K.faults out.old) (K.faults out.new) (encode_lower bytes.now) result }
+    ensures { Writes (K.state out.old) (K.state out.new) (encode_lower bytes.now) result }
 {
     let mut rest = bytes;
     while !rest.is_empty() {
@@ -83,7 +83,7 @@ fn print_chunks<K: Sink>(out: &mut K, bytes: &[u8]) -> Result<(), Failed>
 // Writes two digits a byte of at most a chunk.
 fn print_chunk<K: Sink>(out: &mut K, bytes: &[u8]) -> Result<(), Failed>
     requires { length bytes.now ≤ CHUNK }
-    ensures { Writes (K.contents out.old) (K.contents out.new) (K.faults out.old) (K.faults out.new) (encode_lower bytes.now) result }
+    ensures { Writes (K.state out.old) (K.state out.new) (encode_lower bytes.now) result }
 {
     if bytes.len() <= SHORT {
         return print_short(out, bytes);
@@ -97,7 +97,7 @@ fn print_chunk<K: Sink>(out: &mut K, bytes: &[u8]) -> Result<(), Failed>
 // The same of a few bytes.
 fn print_short<K: Sink>(out: &mut K, bytes: &[u8]) -> Result<(), Failed>
     requires { length bytes.now ≤ SHORT }
-    ensures { Writes (K.contents out.old) (K.contents out.new) (K.faults out.old) (K.faults out.new) (encode_lower bytes.now) result }
+    ensures { Writes (K.state out.old) (K.state out.new) (encode_lower bytes.now) result }
 {
     let mut room = [0; 2 * SHORT];
     let digits = &mut room[..2 * bytes.len()];

@@ -55,7 +55,7 @@ impl Lines {
 
     /// Writes them. Where the sink fails the rest of them is lost.
     pub fn flush<K: Sink>(&mut self, out: &mut K) -> Result<(), Failed>
-        ensures writes { Writes (K.contents out.old) (K.contents out.new) (K.faults out.old) (K.faults out.new) self.old.bytes result }
+        ensures writes { Writes (K.state out.old) (K.state out.new) self.old.bytes result }
         ensures none { self.new.bytes ≡ [] }
     {
         let written = write_all(out, self.bytes.as_slice());
@@ -83,7 +83,7 @@ impl Lines {
     /// The line of a frame. It waits where it finds room; otherwise those before it are written, and
     /// then it waits, or is written too where it is long.
     pub fn print<K: Sink>(&mut self, out: &mut K, frame: &FrameView) -> Result<(), Failed>
-        ensures { Gathers (K.contents out.old) (K.contents out.new) (K.faults out.old) (K.faults out.new) self.old.bytes self.new.bytes (frame_line (frame_viewed frame.now)) result }
+        ensures { Gathers (K.state out.old) (K.state out.new) self.old.bytes self.new.bytes (frame_line (frame_viewed frame.now)) result }
     {
         if self.gather(frame) {
             return Ok(());
@@ -97,9 +97,7 @@ impl Lines {
 }
 
 impl Sink for Lines {
-    ghost contents = { λ l. Some l.bytes };
-
-    ghost faults = { λ l. l.faults };
+    ghost state = { λ l. record { contents = Some l.bytes; faults = l.faults } };
 
     fn write(&mut self, piece: &[u8]) -> Result<usize, Failed> {
         if piece.len() > self.bytes.capacity() - self.bytes.len() {

@@ -13,7 +13,7 @@ pub fn from_place(bytes: &[u8], at: usize) -> &[u8]
 
 /// Writes a text whole.
 pub fn write_all<K: Sink>(out: &mut K, text: &[u8]) -> Result<(), Failed>
-    ensures { Writes (K.contents out.old) (K.contents out.new) (K.faults out.old) (K.faults out.new) text.now result }
+    ensures { Writes (K.state out.old) (K.state out.new) text.now result }
 {
     sock_io::write_all(out, text)
 }

@@ -27,7 +27,7 @@ pub enum Piece<'a> {
 /// Writes pieces one after another. It takes no memory.
 #[inline(always)]
 pub fn print_pieces<K: Sink>(out: &mut K, pieces: &[Piece]) -> Result<(), Failed>
-    ensures { Writes (K.contents out.old) (K.contents out.new) (K.faults out.old) (K.faults out.new) (pieces_text pieces.now) result }
+    ensures { Writes (K.state out.old) (K.state out.new) (pieces_text pieces.now) result }
 {
     for piece in pieces {
         print_piece(out, *piece)?;
@@ -37,7 +37,7 @@ pub fn print_pieces<K: Sink>(out: &mut K, pieces: &[Piece]) -> Result<(), Failed
 
 #[inline(always)]
 fn print_piece<K: Sink>(out: &mut K, piece: Piece) -> Result<(), Failed>
-    ensures { Writes (K.contents out.old) (K.contents out.new) (K.faults out.old) (K.faults out.new) (piece_text piece.entry) result }
+    ensures { Writes (K.state out.old) (K.state out.new) (piece_text piece.entry) result }
 {
     match piece {
         Piece::Text(text) => write_all(out, text),
@@ -49,14 +49,14 @@ fn print_piece<K: Sink>(out: &mut K, piece: Piece) -> Result<(), Failed>
 }
 
 fn print_number<K: Sink>(out: &mut K, number: u64) -> Result<(), Failed>
-    ensures { Writes (K.contents out.old) (K.contents out.new) (K.faults out.old) (K.faults out.new) (decimal number) result }
+    ensures { Writes (K.state out.old) (K.state out.new) (decimal number) result }
 {
     let mut buffer = Buffer::new();
     write_all(out, buffer.format(number).as_bytes())
 }
 
 fn print_signed<K: Sink>(out: &mut K, number: i32) -> Result<(), Failed>
-    ensures { Writes (K.contents out.old) (K.contents out.new) (K.faults out.old) (K.faults out.new) (signed_decimal number) result }
+    ensures { Writes (K.state out.old) (K.state out.new) (signed_decimal number) result }
 {
     let mut buffer = Buffer::new();
     write_all(out, buffer.format(number).as_bytes())

@@ -49,7 +49,7 @@ pub fn print_frames<S: Source, K: Sink>(
     source: &mut S,
     out: &mut K,
 ) -> Result<StreamEnd, PrintFault>
-    ensures { PrintsFrames (edges_over S.left S.faults source.old source.new K.contents K.faults out.old out.new) result }
+    ensures { PrintsFrames (edges_over (S.state source.old) (S.state source.new) (K.state out.old) (K.state out.new)) result }
 {
     match Lines::new(alloc) {
         Ok(mut lines) => print_all(alloc, source, out, &mut lines),
@@ -65,7 +65,7 @@ fn print_all<S: Source, K: Sink>(
     lines: &mut Lines,
 ) -> Result<StreamEnd, PrintFault>
     requires { lines.old.bytes ≡ [] }
-    ensures { PrintsFrames (edges_over S.left S.faults source.old source.new K.contents K.faults out.old out.new) result }
+    ensures { PrintsFrames (edges_over (S.state source.old) (S.state source.new) (K.state out.old) (K.state out.new)) result }
 {
     let mut pool = BlockPool::new(alloc);
     let mut cutter = Cutter::new(alloc);
@@ -83,7 +83,7 @@ fn print_each<S: Source, K: Sink>(
     requires gathered { lines.old.bytes ≡ [] }
     requires held { cutter.old.bytes ≡ [] }
     requires untold { cutter.old.told ≡ false }
-    ensures { PrintsFrames (edges_over S.left S.faults source.old source.new K.contents K.faults out.old out.new) result }
+    ensures { PrintsFrames (edges_over (S.state source.old) (S.state source.new) (K.state out.old) (K.state out.new)) result }
 {
     let mut room = [0; ROOM];
     let mut read = 0;
@@ -130,7 +130,7 @@ fn print_whole<K: Sink>(
 ) -> Result<Option<Met>, PrintFault>
     requires none { lines.old.bytes ≡ [] }
     requires untold { cutter.old.told ≡ false }
-    ensures cuts { CutsWhole cutter.old.bytes (K.contents out.old) (K.faults out.old) cutter.new.bytes (K.contents out.new) (K.faults out.new) result }
+    ensures cuts { CutsWhole cutter.old.bytes (K.state out.old) cutter.new.bytes (K.state out.new) result }
     ensures none { OnOk result (lines.new.bytes ≡ []) }
     ensures untold { IfOk result (λ met. met ≡ None → cutter.new.told ≡ false) }
 {
@@ -201,7 +201,7 @@ fn judge_whole(cutter: &mut Cutter) -> Result<StreamEnd, PrintFault>
 
 // Prints the line of the rest.
 fn end_in_rest<K: Sink>(out: &mut K, len: usize) -> Result<StreamEnd, PrintFault>
-    ensures { RestPrinted (K.contents out.old) (K.contents out.new) (K.faults out.old) (K.faults out.new) len result }
+    ensures { RestPrinted (K.state out.old) (K.state out.new) len result }
 {
     match print_rest(out, len) {
         Ok(()) => Ok(StreamEnd::Rest),

@@ -30,12 +30,12 @@ pub enum PrintFault {
 /// are this project's own.
 pub fn print_script<K: Sink>(alloc: Global, lines: &[Line], out: &mut K) -> Result<(), PrintFault>
     ensures whole { OnOk result (
-        Appends (K.contents out.old) (K.contents out.new) (script_text (map item lines.now))) }
-    ensures kept { OnOk result (K.faults out.new ≡ K.faults out.old) }
+        Appends (K.state out.old).contents (K.state out.new).contents (script_text (map item lines.now))) }
+    ensures kept { OnOk result ((K.state out.new).faults ≡ (K.state out.old).faults) }
     ensures failed { IsErrOf result PrintFault.Sink →
-        Rose (K.faults out.old) (K.faults out.new) }
+        Rose (K.state out.old).faults (K.state out.new).faults }
     ensures front { IsErrOf result PrintFault.Sink →
-        WrotePart (K.contents out.old) (K.contents out.new) (script_text (map item lines.now)) }
+        WrotePart (K.state out.old).contents (K.state out.new).contents (script_text (map item lines.now)) }
     ensures untouched { IsErrOf result PrintFault.NoMemory → out.new ≡ out.old }
     ensures again { IsScript (map item lines.now) → IsReadBack (map item lines.now) }
 {

@@ -11,7 +11,7 @@ returns-in_err-print_numbers g c =
     let m = c.args.frame.now.meta in
     let f = frame_viewed c.args.frame.now in
     let same : to_z w32 (of_z w32 m.compress_type) ≡ m.compress_type = search rules in
-    stopped_at _ _ _ _ _ (bytes_text f.payload f.attachment) _ _ _ _ c.in_err-print_numbers.ensures
+    stopped_at _ _ _ (bytes_text f.payload f.attachment) _ _ _ _ c.in_err-print_numbers.ensures
     (ap (λ z. numbers_text m.correlation_id z ++ bytes_text f.payload f.attachment) same) p.1
 
 pub returns : goal.returns
@@ -19,5 +19,5 @@ returns g c =
     let m = c.args.frame.now.meta in
     let f = frame_viewed c.args.frame.now in
     let same : to_z w32 (of_z w32 m.compress_type) ≡ m.compress_type = search rules in
-    as_text _ _ _ _ _ _ _ (then_wrote _ _ _ _ _ _ _ (bytes_text f.payload f.attachment) _ c.in_ok-print_numbers.ensures c.print_bodies.ensures)
+    as_text _ _ _ _ _ (then_wrote _ _ _ _ (bytes_text f.payload f.attachment) _ c.in_ok-print_numbers.ensures c.print_bodies.ensures)
     (ap (λ z. numbers_text m.correlation_id z ++ bytes_text f.payload f.attachment) same)

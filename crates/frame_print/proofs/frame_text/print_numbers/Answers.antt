@@ -8,6 +8,6 @@ use Rattle.frame_print.proofs.frame_text.print_numbers.Goals as goal
 
 pub returns : goal.returns
 returns g c =
-    as_text _ _ _ _ _ _ _ c.print_pieces.ensures
+    as_text _ _ _ _ _ c.print_pieces.ensures
     (numbers_parts (decimal c.args.id) (signed_decimal (to_z w32 (of_z w32 c.args.compress)))
     ∙ ap (λ z. codes " id" ++ word (decimal c.args.id) ++ codes " compress" ++ word (signed_decimal z)) (to_z-of_z w32 c.args.compress c.ranges.compress))

@@ -4,5 +4,5 @@ use Rattle.frame_print.specs.Written.{Writes}
 use Rattle.frame_print.proofs.hexadecimal.print_blocks.Given as goal
 
 abbrev pub invariant-loop-place : goal.invariant-loop-place
-invariant-loop-place g l = Writes (g.K.Sink.contents l.initial.out) (g.K.Sink.contents l.out) (g.K.Sink.faults l.initial.out) (g.K.Sink.faults l.out)
+invariant-loop-place g l = Writes (g.K.Sink.state l.initial.out) (g.K.Sink.state l.out)
     (encode_lower (take (sum (take l.place l.buf.sizes)) l.buf.items)) (Ok tt)

@@ -7,7 +7,7 @@ abbrev pub invariant-loop-rest : goal.invariant-loop-rest
 invariant-loop-rest g l = record {
   written : List ℕ;
   split : written ++ encode_lower l.rest ≡ encode_lower l.bytes;
-  wrote : Writes (g.K.Sink.contents l.initial.out) (g.K.Sink.contents l.out) (g.K.Sink.faults l.initial.out) (g.K.Sink.faults l.out) written (Ok tt);
+  wrote : Writes (g.K.Sink.state l.initial.out) (g.K.Sink.state l.out) written (Ok tt);
 }
 
 abbrev pub decreases-loop-rest : goal.decreases-loop-rest

@@ -10,5 +10,5 @@ returns-in_err-print_piece g c =
     let p = err_from_is_err_and c.from_residual.result c.from_residual.ensures.1 in
     let ps = c.args.pieces.now in
     let i = c.loop-piece.piece-index in
-    stopped_in _ _ _ _ _ _ (pieces_text (take i ps)) _ (pieces_text (drop (i + 1) ps)) _ _ _ _ c.loop-piece.invariant c.in_err-print_piece.ensures
+    stopped_in _ _ _ (pieces_text (take i ps)) _ (pieces_text (drop (i + 1) ps)) _ _ _ _ c.loop-piece.invariant c.in_err-print_piece.ensures
     (pieces_rest ps i c.piece-item.result c.loop-piece-test.true c.piece-item.is) p.1

@@ -4,5 +4,5 @@ use Rattle.frame_print.specs.Pieces.{pieces_text}
 use Rattle.frame_print.proofs.piece.print_pieces.Given as goal
 
 abbrev pub invariant-loop-piece : goal.invariant-loop-piece
-invariant-loop-piece g l = Writes (g.K.Sink.contents l.initial.out) (g.K.Sink.contents l.out) (g.K.Sink.faults l.initial.out) (g.K.Sink.faults l.out)
+invariant-loop-piece g l = Writes (g.K.Sink.state l.initial.out) (g.K.Sink.state l.out)
     (pieces_text (take l.piece-index l.pieces)) (Ok tt)

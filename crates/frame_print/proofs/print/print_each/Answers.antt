@@ -19,14 +19,14 @@ ended_behind e mid whole piece r came more reads ended = record { bytes = whole 
 
 pub loop-read-init : goal.loop-read-init
 loop-read-init g c =
-    let P : List ℕ → Type 0 = λ l. CutPrinted [] (g.K.Sink.contents c.args.out.now) l (g.K.Sink.contents c.args.out.now) in
+    let P : List ℕ → Type 0 = λ l. CutPrinted [] (g.K.Sink.state c.args.out.now).contents l (g.K.Sink.state c.args.out.now).contents in
     let Q : List ℕ → Type 0 = λ l. judged l ≡ NoneYet in
     record {
       whole = [];
-      came = consumes_none (g.S.Source.left c.args.source.now);
+      came = consumes_none (g.S.Source.state c.args.source.now).left;
       counted = refl;
       few = omega arith;
-      printed = subst P (sym c.requires.held) (printed_none [] (g.K.Sink.contents c.args.out.now));
+      printed = subst P (sym c.requires.held) (printed_none [] (g.K.Sink.state c.args.out.now).contents);
       waiting = subst Q (sym c.requires.held) refl;
       untold = c.requires.untold;
       gathered = c.requires.gathered;
@@ -53,7 +53,7 @@ returns-then-count-eq0 g c =
     record {
       bytes = i.whole;
       came = consumes_end _ _ _ i.whole c.read.new.room c.in-Ok.count i.came c.in-Ok.ensures.bytes.0 c.if-count-eq0.true;
-      ended = ends_at_rest _ i.whole c.loop-read.cutter.bytes _ _ c.held.result _ few (c.in-Ok.ensures.bytes.1 c.if-count-eq0.true room) i.printed i.waiting (c.held.ensures ∙ held_untold c.loop-read.cutter i.untold) i.writes c.end_in_rest.ensures;
+      ended = ends_at_rest _ _ _ _ _ i.whole c.loop-read.cutter.bytes c.held.result _ few (c.in-Ok.ensures.bytes.1 c.if-count-eq0.true room) i.printed i.waiting (c.held.ensures ∙ held_untold c.loop-read.cutter i.untold) i.writes c.end_in_rest.ensures;
       reads = λ other. c.in-Ok.ensures.cause.kept ∙ i.reads;
     }
 
@@ -79,7 +79,7 @@ returns-in-Err-print_whole g c =
     let few = few_left i.whole c.read.new.room c.loop-read.room c.loop-read.read c.in-Ok.count c.min.result c.max-most.result i.counted i.few c.if-read-eq-FRAMES_LIMIT.false c.min.ensures c.max-most.ensures c.read.auto.room in
     let fed = fed_printed c.feed.result i.whole c.loop-read.cutter.bytes _ c.feed.new.self.bytes _ _ i.printed i.waiting (sym c.is_err.ensures.value ∙ c.if-is_err.false) c.feed.ensures.ok c.feed.ensures.stream in
     ended_behind _ _ i.whole _ _ i.came c.in-Ok.ensures.bytes.0 (c.in-Ok.ensures.cause.kept ∙ i.reads)
-    (ends_in_cut _ _ c.feed.new.self.bytes c.print_whole.new.cutter.bytes c.end_stopped.new.cutter.bytes _ _ c.in-Err-print_whole.stopped c.end_stopped.result few fed i.writes c.in-Err-print_whole.ensures.cuts c.end_stopped.ensures)
+    (ends_in_cut _ _ _ _ _ _ c.feed.new.self.bytes c.print_whole.new.cutter.bytes c.end_stopped.new.cutter.bytes c.in-Err-print_whole.stopped c.end_stopped.result few fed i.writes c.in-Err-print_whole.ensures.cuts c.end_stopped.ensures)
 
 pub print_whole-requires-clause-untold : goal.print_whole-requires-clause-untold
 print_whole-requires-clause-untold g c = fed_untold c.feed.result c.loop-read.cutter c.feed.new.self _ (sym c.is_err.ensures.value ∙ c.if-is_err.false) c.loop-read.invariant.untold c.feed.ensures.kept
@@ -89,7 +89,7 @@ overflow_sub-read-in-Some g c =
     let i = c.loop-read.invariant in
     let piece = take c.in-Ok.count c.read.new.room in
     let fed = fed_printed c.feed.result i.whole c.loop-read.cutter.bytes piece c.feed.new.self.bytes _ _ i.printed i.waiting (sym c.is_err.ensures.value ∙ c.if-is_err.false) c.feed.ensures.ok c.feed.ensures.stream in
-    let cut = cut_faulty c.feed.new.self.bytes c.print_whole.new.cutter.bytes _ _ _ _ c.in-Some.met c.in-Ok-print_whole.whole c.in-Some.is c.in-Ok-print_whole.ensures.cuts in
+    let cut = cut_faulty c.feed.new.self.bytes c.print_whole.new.cutter.bytes _ _ c.in-Some.met c.in-Ok-print_whole.whole c.in-Some.is c.in-Ok-print_whole.ensures.cuts in
     let printed = printed_more (i.whole ++ piece) c.feed.new.self.bytes c.print_whole.new.cutter.bytes _ _ _ fed cut.0 in
     let counted : c.loop-read.read + c.in-Ok.count ≡ length (i.whole ++ piece) = counted_more i.whole c.read.new.room c.loop-read.read c.in-Ok.count i.counted c.in-Ok.ensures.bound.0 in
     omega (arith, counted, printed.cut.sized, cut.3)
@@ -100,20 +100,20 @@ returns-in-Some g c =
     let piece = take c.in-Ok.count c.read.new.room in
     let few = few_left i.whole c.read.new.room c.loop-read.room c.loop-read.read c.in-Ok.count c.min.result c.max-most.result i.counted i.few c.if-read-eq-FRAMES_LIMIT.false c.min.ensures c.max-most.ensures c.read.auto.room in
     let fed = fed_printed c.feed.result i.whole c.loop-read.cutter.bytes piece c.feed.new.self.bytes _ _ i.printed i.waiting (sym c.is_err.ensures.value ∙ c.if-is_err.false) c.feed.ensures.ok c.feed.ensures.stream in
-    let cut = cut_faulty c.feed.new.self.bytes c.print_whole.new.cutter.bytes _ _ _ _ c.in-Some.met c.in-Ok-print_whole.whole c.in-Some.is c.in-Ok-print_whole.ensures.cuts in
+    let cut = cut_faulty c.feed.new.self.bytes c.print_whole.new.cutter.bytes _ _ c.in-Some.met c.in-Ok-print_whole.whole c.in-Some.is c.in-Ok-print_whole.ensures.cuts in
     let printed = printed_more (i.whole ++ piece) c.feed.new.self.bytes c.print_whole.new.cutter.bytes _ _ _ fed cut.0 in
     let counted : c.loop-read.read + c.in-Ok.count ≡ length (i.whole ++ piece) = counted_more i.whole c.read.new.room c.loop-read.read c.in-Ok.count i.counted c.in-Ok.ensures.bound.0 in
     let meant = fault_meant (fault_of c.in-Some.met.fault) (judged c.print_whole.new.cutter.bytes) cut.1 in
     let start : (c.loop-read.read + c.in-Ok.count) - c.in-Some.met.len ≡ length (i.whole ++ piece) - length c.print_whole.new.cutter.bytes = omega (arith, counted, cut.3) in
     ended_behind _ _ i.whole _ _ i.came c.in-Ok.ensures.bytes.0 (c.in-Ok.ensures.cause.kept ∙ i.reads)
-    (ends_fault _ (i.whole ++ piece) c.print_whole.new.cutter.bytes _ _ _ meant.0 c.print_fault.result few printed meant.2 start (cut.2 ∙ i.writes) (c.print_fault.ensures meant.0 meant.1))
+    (ends_fault _ _ _ _ _ (i.whole ++ piece) c.print_whole.new.cutter.bytes _ meant.0 c.print_fault.result few printed meant.2 start (cut.2 ∙ i.writes) (c.print_fault.ensures meant.0 meant.1))
 
 pub loop-read-preserved : goal.loop-read-preserved
 loop-read-preserved g c =
     let i = c.loop-read.invariant in
     let few = few_left i.whole c.read.new.room c.loop-read.room c.loop-read.read c.in-Ok.count c.min.result c.max-most.result i.counted i.few c.if-read-eq-FRAMES_LIMIT.false c.min.ensures c.max-most.ensures c.read.auto.room in
     let fed = fed_printed c.feed.result i.whole c.loop-read.cutter.bytes _ c.feed.new.self.bytes _ _ i.printed i.waiting (sym c.is_err.ensures.value ∙ c.if-is_err.false) c.feed.ensures.ok c.feed.ensures.stream in
-    let cut = cut_waits c.feed.new.self.bytes c.print_whole.new.cutter.bytes _ _ _ _ c.in-Ok-print_whole.whole c.in_default.is c.in-Ok-print_whole.ensures.cuts in
+    let cut = cut_waits c.feed.new.self.bytes c.print_whole.new.cutter.bytes _ _ c.in-Ok-print_whole.whole c.in_default.is c.in-Ok-print_whole.ensures.cuts in
     let counted = counted_more i.whole c.read.new.room c.loop-read.read c.in-Ok.count i.counted c.in-Ok.ensures.bound.0 in
     record {
       whole = i.whole ++ take c.in-Ok.count c.read.new.room;

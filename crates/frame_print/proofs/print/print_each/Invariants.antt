@@ -7,15 +7,15 @@ use Rattle.frame_print.proofs.print.print_each.Given as goal
 abbrev pub invariant-loop-read : goal.invariant-loop-read
 invariant-loop-read g l = record {
   whole : List ℕ;
-  came : Consumes (g.S.Source.left l.initial.source) (g.S.Source.left l.source) whole;
+  came : Consumes (g.S.Source.state l.initial.source).left (g.S.Source.state l.source).left whole;
   counted : l.read ≡ length whole;
   few : l.read ≤ 268435456;
-  printed : CutPrinted whole (g.K.Sink.contents l.initial.out) l.cutter.bytes (g.K.Sink.contents l.out);
+  printed : CutPrinted whole (g.K.Sink.state l.initial.out).contents l.cutter.bytes (g.K.Sink.state l.out).contents;
   waiting : judged l.cutter.bytes ≡ NoneYet;
   untold : l.cutter.told ≡ false;
   gathered : l.lines.bytes ≡ [];
-  reads : g.S.Source.faults l.source ≡ g.S.Source.faults l.initial.source;
-  writes : g.K.Sink.faults l.out ≡ g.K.Sink.faults l.initial.out;
+  reads : (g.S.Source.state l.source).faults ≡ (g.S.Source.state l.initial.source).faults;
+  writes : (g.K.Sink.state l.out).faults ≡ (g.K.Sink.state l.initial.out).faults;
 }
 
 abbrev pub decreases-loop-read : goal.decreases-loop-read

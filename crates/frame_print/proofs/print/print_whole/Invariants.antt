@@ -4,9 +4,9 @@ use Rattle.frame_print.proofs.print.print_whole.Given as goal
 
 abbrev pub invariant-loop-frame : goal.invariant-loop-frame
 invariant-loop-frame g l = record {
-  gathered : CutGathered l.initial.cutter.bytes (g.K.Sink.contents l.initial.out) l.cutter.bytes (g.K.Sink.contents l.out) l.lines.bytes;
+  gathered : CutGathered l.initial.cutter.bytes (g.K.Sink.state l.initial.out).contents l.cutter.bytes (g.K.Sink.state l.out).contents l.lines.bytes;
   untold : l.cutter.told ≡ false;
-  kept : g.K.Sink.faults l.out ≡ g.K.Sink.faults l.initial.out;
+  kept : (g.K.Sink.state l.out).faults ≡ (g.K.Sink.state l.initial.out).faults;
 }
 
 abbrev pub decreases-loop-frame : goal.decreases-loop-frame
