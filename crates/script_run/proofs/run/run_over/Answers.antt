@@ -10,6 +10,7 @@ use Rattle.sock_io.specs.declared.link.Mode.TheVariants as mode
 use Rattle.script_links.specs.Given.{AreUntouched, specs_of}
 use Rattle.script_links.specs.Offered.{TellOffers}
 use Rattle.sock_core.specs.Beginnings.{IsMade}
+use Rattle.sock_io.specs.Link.{LinkerState}
 use Rattle.script_run.specs.Played.{IsPrinted, TellClosed, turns_of}
 use Rattle.script_links.proofs.Numbering.{numbered_of, unused_of, silent_of, all_so, all_mapped}
 use Rattle.script_run.proofs.Playing.{numbered_later, count_later}
@@ -43,7 +44,7 @@ give_back-requires-2-clause-numbered g c κs within =
 
 pub give_back-requires-2-clause-opened : goal.give_back-requires-2-clause-opened
 give_back-requires-2-clause-opened g c κs within =
-    ap length c.play-played.ensures.says.asked ∙ c.requires.opened
+    ap (λ (s : LinkerState). length s.asked) c.play-played.ensures.says ∙ c.requires.opened
     ∙ sym (count_later (λ e. end_of (g.L.O.Out.state e.out) (g.L.I.In.state e.inn)) c.in-Ok-of.machine c.play-played.new.machine c.finish-outcomes.result.ends.items c.play-played.ensures.ends c.finish-outcomes.ensures.ends ∙ ap length c.in-Ok-of.ensures.over.ends ∙ length-map c.args.ends.items (λ e. end_of (g.L.O.Out.state e.out) (g.L.I.In.state e.inn)))
 
 pub give_back-requires-2-clause-few : goal.give_back-requires-2-clause-few
