@@ -20,9 +20,7 @@ struct Counter {
 }
 
 impl Sink for Counter {
-    ghost contents = { λ s. None };
-
-    ghost faults = { λ s. 0 };
+    ghost state = { λ s. record { contents = None; faults = 0 } };
 
     fn write(&mut self, piece: &[u8]) -> Result<usize, Failed> {
         self.taken.set(self.taken.get().saturating_add(piece.len()));
@@ -40,9 +38,7 @@ struct Watcher {
 }
 
 impl Source for Watcher {
-    ghost left = { λ s. Some s.inner.left };
-
-    ghost faults = { λ s. s.inner.faults };
+    ghost state = { λ s. record { left = Some s.inner.left; faults = s.inner.faults } };
 
     fn read(&mut self, room: &mut [u8]) -> Result<usize, Failed> {
         if let Some(seen) = self.seen.get_mut(self.reads) {
