@@ -1,6 +1,6 @@
 -- The seats as they lie in memory.
 use Rattle.std.proofs.Common.{◌≡◌, refl, ℕ, ◌<◌, ◌≤◌, Bool, List, [], ◌∷◌, map, length, slice_set, slice_index_or, Option, Some, None, option_map, IfSome, IfNone, ap, sym, ◌∙◌, arith, subst}
-use Rattle.std.proofs.lemmas.List.{map-set}
+use Rattle.std.proofs.lemmas.List.{map-set, length-map}
 use Rattle.std.proofs.Math.Seq.{map-set_same}
 use Rattle.atomic_table.proofs.Lists.{at_map, at_index}
 use mathlib.Core.Option as core
@@ -18,10 +18,6 @@ use Rattle.machine_model.specs.Telling.{StepTold, TickTold}
 use Rattle.machine_model.specs.Driving.{AsksNone, IsPlain, BeganEnding}
 use Rattle.corr_core.proofs.Notes.{at_length}
 
-length_map : {A B : Type 0} (f : A → B) (xs : List A) → length (map f xs) ≡ length xs
-length_map f [] = refl
-length_map f (x ∷ xs) = let h = length_map f xs in omega arith
-
 same_some : {A : Type 0} {a b : A} → core.some a ≡ core.some b → a ≡ b
 same_some e = cc
 
@@ -34,7 +30,7 @@ module _ (t : TableState) (items : List Seat) (readers : List ReaderData) (opens
   seat_there x h e = subst (λ (k : ℕ). get_elem? (map seat_data items) k ≡ core.some (seat_data x)) there (at_map seat_data items j x (at_index items j x h e))
 
   pub seat_within : (s : SeatData) → get_elem? (map seat_data items) i ≡ core.some s → j < length items
-  seat_within s e = let h = at_length (map seat_data items) i s e in omega (arith, length_map seat_data items)
+  seat_within s e = let h = at_length (map seat_data items) i s e in omega (arith, length-map items seat_data)
 
   -- the next step of the seat that lies there
   pub named : (x : Seat) (o : Option Step) → j < length items → x ≡ slice_index_or items j x → (option_map (step_as (around (table_sizes t) (seat_data x))) o ≡ first_in (point_program (around (table_sizes t) (seat_data x)) x.point)) → IfSome o (λ step. NextIs (view_of t items readers opens short) i step)

@@ -1,5 +1,6 @@
 -- At the beginning the story is empty.
 use Rattle.std.proofs.Common.{◌≡◌, ◌≢◌, ℕ, zero, suc, false, inl, inr, ◌+◌, ◌-◌, ◌*◌, ◌<◌, ◌≤◌, List, [], ◌∷◌, ◌++◌, map, length, get_or, replicate, sym, refl, ap, ◌∙◌, subst, arith}
+use Rattle.std.proofs.lemmas.List.{length-map}
 use Rattle.std.specs.Prelude.{Option, Some, None, fold, slice_get}
 use Rattle.std.specs.List.{AllByRecursion}
 use mathlib.Core.Option.{some, some-injective, some-ne-none}
@@ -190,10 +191,6 @@ program_at [] i seat e = absurd (some-ne-none seat (sym e))
 program_at (q ∷ qs) zero seat e = (q, refl, ap (λ (s : SeatState). s.program) (some-injective (record { program = next_step (resolved [] q); hand = [] }) seat e))
 program_at (q ∷ qs) (suc i) seat e = program_at qs i seat e
 
-each_mapped : {A B : Type 0} (f : A → B) (xs : List A) → length (map f xs) ≡ length xs
-each_mapped f [] = refl
-each_mapped f (x ∷ xs) = ap suc (each_mapped f xs)
-
 as_many : (p : Plan) (calls : ℕ → Type 0) (seat : ℕ) (cs : List (List Task)) (qs : List Program) → AreExplained p calls seat cs qs → length qs ≡ length cs
 as_many p calls seat [] [] x = refl
 as_many p calls seat [] (q ∷ qs) x = absurd x
@@ -239,7 +236,7 @@ module _ (p : Plan) (q : IdPlan) (clients : List (List Task)) (are : AreTasks p 
   pub start_story : Sound p start vs → Story p clients false start vs [] []
   start_story sound = record {
     sized = length_all qs none_ ∙ length_same p.operations no_outcome;
-    each = each_mapped _ qs ∙ as_many p (IsSpoken clients) 0 clients qs explained;
+    each = length-map qs _ ∙ as_many p (IsSpoken clients) 0 clients qs explained;
     ready = λ i seat e. let x = program_at qs i seat e in subst IsReady x.2 (come_ready [] x.0);
     good = tt;
     births = λ j l h. unborn p.first (slot_facts (state start vs) j) (sound.lawful.references.slots j l) (tag_at p.first p.slots j _ l) (version j l) h;

@@ -1,5 +1,6 @@
 -- The orders of the links are those that place words and links show; each accepted message is one that was sent, in its client's order.
 use Rattle.std.proofs.Common.{◌≡◌, ◌≢◌, ℕ, zero, suc, ◌+◌, ◌*◌, ◌/◌, ◌%◌, ◌<◌, ◌≤◌, inl, inr, ⊎_elim, true, false, eqb, nat_le, List, [], ◌∷◌, ◌++◌, length, flat_map, map, get_or, replicate, append-nil, slice_get, Option, Some, None, refl, sym, ap, ◌∙◌, subst, arith}
+use Rattle.std.proofs.lemmas.List.{length-map}
 use Rattle.std.specs.Prelude.{slice_index}
 use Rattle.std.specs.Option.{ForSome}
 use Rattle.std.proofs.lemmas.Bool.Decides.{nat_tests}
@@ -148,7 +149,7 @@ module _ {O : Type 0} {g : Ghosts O} {state : O → OutState} {p : Plan} {client
   are_orders c left = record {
     written = λ k i a low at. (let w = entry_on k i a at in ap (λ l. slice_index l (place_index p (label a))) left.words ∙ (ap (λ l. slice_index run.closed.words (place_index p l)) (ap label (sym w.2) ∙ label_is w.0) ∙ word_at k i w.0 low w.1));
     alone = λ l low. ⊎_elim (λ none_. inl (ap (λ ws. slice_index ws (place_index p l)) left.words ∙ none_)) (λ w. inr (w.link, w.position, accepted_of w.entry, w.inside, accepted_there (on w.link (log run)) w.position w.entry w.there, sym w.own ∙ sym (label_is w.entry))) (run.closed.shown l low);
-    within = λ k low. (let c_ = (ends.1 k low).fifo.count in let n = map_long accepted_of (on k (log run)) in omega arith);
+    within = λ k low. (let c_ = (ends.1 k low).fifo.count in let n = length-map (on k (log run)) accepted_of in omega arith);
     taken = λ k low. subst (λ hs. IsTaken (orders k) (get_or (took_at_home p hs) k [])) (sym left.homes) (subst (IsTaken (orders k)) (sym (took_home p took k low)) (accepted.taken_of (λ e. e.heading.place / 8) (λ e. e.heading.place % 8) (on k (log run)) (kept k) (took k) (λ i e at. (let w = from_on k (log run) i e at in has_bytes w.0 e w.1)) (ends.1 k low).fifo.took_is));
     apart = λ k l i j a b low_k low_l at bt same. (
         let v = entry_on k i a at in
@@ -159,10 +160,6 @@ module _ {O : Type 0} {g : Ghosts O} {state : O → OutState} {p : Plan} {client
         let links : k ≡ l = sym v.5 ∙ (ap (λ (x : Entry). x.link) e ∙ w.5) in
         (links, distinct_filter (λ (x : Entry). x.heading.place) (λ (x : Entry). eqb x.link l) (log run) differ i j v.0 w.0 (subst (λ m. get_elem? (on m (log run)) i ≡ some v.0) links v.1) w.1 place));
   }
-    where
-      map_long : {A B : Type 0} (f : A → B) (xs : List A) → length (map f xs) ≡ length xs
-      map_long f [] = refl
-      map_long f (x ∷ xs) = ap suc (map_long f xs)
 
   -- ## Told
 
