@@ -96,16 +96,16 @@ abbrev pub linker_over : (tells offering : Type 0) → (Mode → Bool) → Linke
 linker_over tells offering tells_in old new = record { always_ready = old.always_ready; tells = tells; offering = offering; tells_in = tells_in; asked = new.asked; ends = new.back; accepted = new.accepted; done = new.done; faults = faults_over old.faults new.faults }
 
 -- no link was opened, and none was given back
-abbrev pub OpenedNothing : List LinkSpec → List LinkEnd → Type 0
-OpenedNothing asked ends = (asked ≡ []) × (ends ≡ [])
+abbrev pub OpenedNothing : LinkerState → Type 0
+OpenedNothing links = (links.asked ≡ []) × (links.back ≡ [])
 
--- the same of what is told of links
+-- the same over a call
 abbrev pub OpenedNone : Links → Type 0
-OpenedNone links = OpenedNothing links.asked links.ends
+OpenedNone links = (links.asked ≡ []) × (links.ends ≡ [])
 
 -- no link was opened, no connection accepted, and none given back
 abbrev pub UnusedLinker : LinkerState → Type 0
-UnusedLinker links = OpenedNothing links.asked links.back × (links.accepted ≡ 0) × (links.done ≡ [])
+UnusedLinker links = OpenedNothing links × (links.accepted ≡ 0) × (links.done ≡ [])
 
 -- the links that the lines of a script ask for were opened as they ask, in this mode, all of them where a report was written or begun, else the
 -- first of them; and each is given back, in order

@@ -22,7 +22,7 @@ pub fn run_and_report<K: Sink, L: Linker>(
     out: &mut K,
     links: &mut L,
 ) -> Status
-    requires unopened { OpenedNothing (L.state links.old).asked (L.state links.old).back }
+    requires unopened { OpenedNothing (L.state links.old) }
     requires short { IsShort script }
     requires pieces { list_all has_piece script ≡ true }
     ensures ran { Ran (turns_of script schedule) script (sink_over (K.state out.old) (K.state out.new)) (linker_over (TellClosed L.I.state) (TellOffers L.O.state L.I.state) L.tells_in (L.state links.old) (L.state links.new)) (number_of result) }

@@ -37,7 +37,7 @@ pub fn run_threads<R: Threads + Wait + Sync, S: Source, K: Sink, L: Linker, G: G
     links: &mut L,
     gate: &G,
 ) -> Status
-    requires unopened { OpenedNothing (L.state links.old).asked (L.state links.old).back }
+    requires unopened { OpenedNothing (L.state links.old) }
     ensures replayed { ReplayedInput (run_mode port) (RanOnThreads (run_mode port)) (source_over (S.state source.old) (S.state source.new)) (sink_over (K.state out.old) (K.state out.new)) (linker_over (TellClosed L.I.state) (TellOffers L.O.state L.I.state) L.tells_in (L.state links.old) (L.state links.new)) (number_of result) }
     ensures counts { CountsStand (faults_over (S.state source.old).faults (S.state source.new).faults) (faults_over (L.state links.old).faults (L.state links.new).faults) (number_of result) }
 {
@@ -57,7 +57,7 @@ fn threads_and_report<R: Threads + Wait + Sync, K: Sink, L: Linker, G: Gate + Sy
     links: &mut L,
     gate: &G,
 ) -> Status
-    requires unopened { OpenedNothing (L.state links.old).asked (L.state links.old).back }
+    requires unopened { OpenedNothing (L.state links.old) }
     requires short { IsShort script.now }
     requires pieces { list_all has_piece script.now ≡ true }
     ensures ran { RanOnThreads (run_mode port) script.now (sink_over (K.state out.old) (K.state out.new)) (linker_over (TellClosed L.I.state) (TellOffers L.O.state L.I.state) L.tells_in (L.state links.old) (L.state links.new)) (number_of result) }

@@ -184,8 +184,6 @@ pub fn generate(alloc: Global, seed: u64, clients: u16, ops: u16) -> Result<Vec<
     ensures exact { IfOk result (λ lines. map item lines.items ≡ generated seed clients ops) }
     ensures again { IfOk result (λ lines. script_of (script_text (map item lines.items)) ≡ Ok (map item lines.items)) }
 {
-    match generated_lines(alloc, seed, u32::from(clients), u32::from(ops)) {
-        Ok(lines) => Ok(lines),
-        Err(_) => Err(NoMemory),
-    }
+    let lines = generated_lines(alloc, seed, u32::from(clients), u32::from(ops))?;
+    Ok(lines)
 }

@@ -65,13 +65,9 @@ fn prepare(alloc: Global, script: Script) -> Result<(Prepared, Outline), NoMemor
     requires { (bytes : List ℕ) × (script_of bytes ≡ Ok script) }
     ensures { IfOk result (λ both. (both.0 ≡ script) × (both.1 ≡ script)) }
 {
-    let Ok(prepared) = Prepared::of(alloc, &script) else {
-        return Err(NoMemory);
-    };
-    match Outline::of(alloc, script, prepared.plan()) {
-        Ok(outline) => Ok((prepared, outline)),
-        Err(_) => Err(NoMemory),
-    }
+    let prepared = Prepared::of(alloc, &script)?;
+    let outline = Outline::of(alloc, script, prepared.plan())?;
+    Ok((prepared, outline))
 }
 
 /// Runs a script over its links, and gives them back.
@@ -141,8 +137,6 @@ fn report_played<O: Out, I: In, P: Peer>(
     if played.is_err() {
         return Err(NoMemory);
     }
-    match report(alloc, script, print, outcomes, places, ends) {
-        Ok(text) => Ok(text),
-        Err(_) => Err(NoMemory),
-    }
+    let text = report(alloc, script, print, outcomes, places, ends)?;
+    Ok(text)
 }

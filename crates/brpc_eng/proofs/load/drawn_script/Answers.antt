@@ -6,9 +6,9 @@ use Rattle.script_items.specs.Meaning.{item}
 use Rattle.brpc_eng.proofs.load.drawn_script.Goals as goal
 
 pub of-requires : goal.of-requires
-of-requires c = (script_text (map item c.in-Ok.lines.items), c.in-Ok.ensures.again)
+of-requires c = (script_text (map item c.in_ok-lines.lines.items), c.in_ok-lines.ensures.again)
 
-pub returns-in-Ok-of-clause-again : goal.returns-in-Ok-of-clause-again
-returns-in-Ok-of-clause-again c =
+pub returns-clause-again : goal.returns-clause-again
+returns-clause-again c =
     let reads : List Item → Type 0 = λ s. script_of (script_text s) ≡ Ok s in
-    subst reads (sym c.in-Ok-of.ensures) c.in-Ok.ensures.again
+    subst reads (sym c.in_ok-script.ensures) c.in_ok-lines.ensures.again
