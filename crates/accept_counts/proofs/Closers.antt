@@ -9,7 +9,7 @@ use Rattle.corr_core.specs.Word.{parts, code_of}
 use Rattle.corr_core.specs.Decisions.{ends_call}
 use Rattle.seat_programs.specs.brpc_model.specs.Frame.{Frame}
 use Rattle.seat_programs.specs.brpc_model.specs.Stream as streams
-use Rattle.seat_programs.specs.Calls.{Call, SetOdd, StoreCode, AddRef, SwapHead, CreateLife, StoreOpen}
+use Rattle.seat_programs.specs.Calls.{TableStep, SetOdd, StoreCode, AddRef, SwapHead, CreateLife, StoreOpen}
 use Rattle.seat_programs.specs.Asides.{Step, Found, TakeBytes, Taking, Bytes, Nothing, NoMore, AtEnd, Closed, Broken}
 use Rattle.seat_programs.specs.Heads.{Head, Exit, Retry, Reading, Posts, Unlocks, Decides, Locks, Joins, Opens, Reads, Discards, HasEnded, Ended}
 use Rattle.seat_programs.specs.Programs.{Program, Do, Say, Sent, Rest, Write, Aside, Round, Keep, Retries, release, address, set_failed}
@@ -99,7 +99,7 @@ module _ (k id : ℕ) (Odd : List Taking → Type 0) (Lasts : Type 0) where
     abbrev C : Program → Type 0
     C = Calm false h
 
-    frees : (call : Call) (next : ℕ → Program) → is_freeing call ≡ true → ((found : ℕ) → C (next found)) → C (Do call next)
+    frees : (call : TableStep) (next : ℕ → Program) → is_freeing call ≡ true → ((found : ℕ) → C (next found)) → C (Do call next)
     frees (SetOdd i) next is x = absurd (true≢false (sym is))
     frees (StoreCode i v code) next is x = absurd (true≢false (sym is))
     frees (AddRef y) next is x = absurd (true≢false (sym is))
@@ -238,19 +238,19 @@ module _ (k id : ℕ) (Odd : List Taking → Type 0) (Lasts : Type 0) where
   -- ## Steps
 
   -- the step exchanges no head, and stores in the word of no `open`
-  abbrev pub IsCalmCall : Call → Type 0
+  abbrev pub IsCalmCall : TableStep → Type 0
   IsCalmCall (SwapHead i own) = ⊥
   IsCalmCall (CreateLife i l) = ⊥
   IsCalmCall (StoreOpen o w) = ⊥
   IsCalmCall other = Unit {0}
 
   -- behind it the seat has just got a reference to the life, or not
-  pub record Behind (h : List Taking) (call : Call) (program : Program) (found : ℕ) : Type 0 where
+  pub record Behind (h : List Taking) (call : TableStep) (program : Program) (found : ℕ) : Type 0 where
     pub held : Bool
     pub calm : Calm held h program
     pub got : held ≡ true → (call ≡ AddRef id) × ((vref_version found == socket_id_version id) ≡ true)
 
-  pub calm_step : (held : Bool) (h : List Taking) (call : Call) (next : ℕ → Program) → Calm held h (Do call next) → IsCalmCall call × ((found : ℕ) → Behind h call (next found) found)
+  pub calm_step : (held : Bool) (h : List Taking) (call : TableStep) (next : ℕ → Program) → Calm held h (Do call next) → IsCalmCall call × ((found : ℕ) → Behind h call (next found) found)
   calm_step held h (SetOdd i) next x = (tt, λ found. record { held = false; calm = x.3 found; got = λ e. absurd (true≢false (sym e)) })
   calm_step held h (StoreCode i v code) next x = (tt, λ found. record { held = false; calm = x.3 found; got = λ e. absurd (true≢false (sym e)) })
   calm_step held h (AddRef y) next x = (tt, λ found. record { held = vref_version found == socket_id_version id; calm = x.1 found; got = λ e. (ap AddRef x.0, e) })

@@ -21,7 +21,7 @@ use Rattle.seat_programs.specs.declared.task.Task.{Task}
 use Rattle.seat_programs.specs.declared.task.Sizes.{Sizes}
 use Rattle.seat_programs.specs.Asides.{Taking, AtEnd, Broken}
 use Rattle.seat_programs.specs.Beside.{at_last}
-use Rattle.seat_programs.specs.Calls.{Call, SetOdd}
+use Rattle.seat_programs.specs.Calls.{TableStep, SetOdd}
 use Rattle.seat_programs.specs.Drops.{call_in}
 use Rattle.seat_programs.specs.Programs.{Program, Do, Say, Sent, Rest, Write, Retries, open_from, make_socket}
 use Rattle.seat_programs.specs.Readers.{LIMIT, reader}
@@ -135,7 +135,7 @@ odd_next Rest x = (x, refl)
 odd_next (Do call next) x = (x, refl)
 odd_next _ x = absurd x
 
-odd_found : (call : Call) (next : ℕ → Program) → NoOdd (Do call next) → (found : ℕ) → NoOdd (next found)
+odd_found : (call : TableStep) (next : ℕ → Program) → NoOdd (Do call next) → (found : ℕ) → NoOdd (next found)
 odd_found (SetOdd i) next x found = absurd x
 odd_found call next x found = x found
 

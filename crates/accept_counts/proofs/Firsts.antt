@@ -14,7 +14,7 @@ use Rattle.outcome_causes.specs.outcome_ticks.proofs.Seats.{Less}
 use Rattle.seat_programs.specs.declared.task.Op.{Op}
 use Rattle.seat_programs.specs.declared.task.Task.{Task}
 use Rattle.seat_programs.specs.declared.task.Sizes.{Sizes}
-use Rattle.seat_programs.specs.Calls.{Call, PutMessage}
+use Rattle.seat_programs.specs.Calls.{TableStep, PutMessage}
 use Rattle.seat_programs.specs.Heads.{Head, Exit, Retry, Opens}
 use Rattle.seat_programs.specs.Programs.{Program, Do, Say, Sent, Write, Round, Keep, Retries, release}
 use Rattle.seat_programs.specs.Posts.{post}
@@ -38,7 +38,7 @@ behind h low = cond (eqb h.attempt 0) (h.operation + 1) low
 
 -- of these operations, from this number on, the program has first messages accepted in their order
 module _ (mine : ℕ → Type 0) where
-  abbrev FirstsAt : ℕ → Call → (ℕ → Program) → (ℕ → ℕ → Type 0) → Type 0
+  abbrev FirstsAt : ℕ → TableStep → (ℕ → Program) → (ℕ → ℕ → Type 0) → Type 0
   FirstsAt low (PutMessage q heading bytes) next then_ = (heading.attempt ≡ 0 → (low ≤ heading.operation) × mine heading.operation) × ((found : ℕ) → then_ (behind heading low) found)
   FirstsAt low call next then_ = (found : ℕ) → then_ low found
 
@@ -54,7 +54,7 @@ module _ (mine : ℕ → Type 0) where
     abbrev G : Program → Type 0
     G = Firsts low
 
-    firsts_others : (call : Call) (next : ℕ → Program) → is_of_message call ≡ false → ((found : ℕ) → G (next found)) → G (Do call next)
+    firsts_others : (call : TableStep) (next : ℕ → Program) → is_of_message call ≡ false → ((found : ℕ) → G (next found)) → G (Do call next)
     firsts_others (PutMessage q heading bytes) next is r = absurd (true≢false is)
     firsts_others call next is r = r
 

@@ -22,7 +22,7 @@ use Rattle.call_causes.specs.Below.programs_allowed.specs.slot_steps.proofs.Sums
 use Rattle.run_theorems.specs.Below.sock_steps.proofs.Quiet.{either_way}
 use Rattle.seat_programs.specs.Asides.{Step, Found, TakeBytes, Taking, Bytes, Nothing, NoMore, AtEnd, Closed, Broken}
 use Rattle.seat_programs.specs.Beside.{at_last, found_in, calls_after}
-use Rattle.seat_programs.specs.Calls.{Call, AddRef, LoadOpen, LookWord, SwapHead, EmptyHead, ReadNext, ReverseNext, FreeRequest, StorePlace, DropPlace}
+use Rattle.seat_programs.specs.Calls.{TableStep, AddRef, LoadOpen, LookWord, SwapHead, EmptyHead, ReadNext, ReverseNext, FreeRequest, StorePlace, DropPlace}
 use Rattle.seat_programs.specs.Heads.{Retry, Decides, Locks, Reads, Discards}
 use Rattle.seat_programs.specs.Programs.{Program, Do, Say, Sent, Rest, TakeMessage, TakeHome, PutHome, PutBytes, AskReady, Write, Aside, Round, Keep, Retries}
 use Rattle.seat_programs.specs.Readers.{room_of, took, discarded, read, reader}
@@ -47,7 +47,7 @@ use Rattle.sock_words.specs.Totals.{total}
 -- ## Rights
 
 -- no step but an exchange gives a seat without a right one
-pub rights_none : (p : Plan) (v : View) (found : ℕ) (hand : Hand) (call : Call) → ((i own : ℕ) → call ≡ SwapHead i own → ⊥) → v.rights ≡ [] → (row p call found hand v).rights ≡ []
+pub rights_none : (p : Plan) (v : View) (found : ℕ) (hand : Hand) (call : TableStep) → ((i own : ℕ) → call ≡ SwapHead i own → ⊥) → v.rights ≡ [] → (row p call found hand v).rights ≡ []
 rights_none p v found hand (LookWord id) no_ e = subst (λ l. (by_right l (looked_clean (socket_id_slot id) found v) (looked (socket_id_slot id) found v)).rights ≡ []) (sym e) e
 rights_none p v found hand (SwapHead i own) no_ e = absurd (no_ i own refl)
 rights_none p v found hand (EmptyHead i last) no_ e = subst (λ l. (by_right l (Rattle.seat_programs.specs.StepsOfChain.emptied last found v) v).rights ≡ []) (sym e) e
@@ -139,7 +139,7 @@ module _ (p : Plan) (calls : List ℕ) (n o : ℕ) (inside : o < p.operations) (
   abbrev first : ℕ → Program
   first word = cond (word == 0) (reader calls n o) (behind word)
 
-  load_is : (call : Call) (next : ℕ → Program) → first_step (reader calls n o) ≡ Do call next → (call ≡ LoadOpen o) × (next ≡ first)
+  load_is : (call : TableStep) (next : ℕ → Program) → first_step (reader calls n o) ≡ Do call next → (call ≡ LoadOpen o) × (next ≡ first)
   load_is call next is = let x : Do (LoadOpen o) first ≡ Do call next = is in (cc, cc)
 
   -- a reader is at no other steps
@@ -171,7 +171,7 @@ module _ (p : Plan) (calls : List ℕ) (n o : ℕ) (inside : o < p.operations) (
   -- ## Its own steps
 
   -- on a word
-  own_call : (h : List Taking) (c : Core) (program : Program) (v : View) (ws : List Retry) (hand : Hand) → State (Word c) h program v → (call : Call) (next : ℕ → Program) → first_step program ≡ Do call next
+  own_call : (h : List Taking) (c : Core) (program : Program) (v : View) (ws : List Retry) (hand : Hand) → State (Word c) h program v → (call : TableStep) (next : ℕ → Program) → first_step program ≡ Do call next
       → State (Word c) h (next_step (resolved ws (next (found_at c.words (word_of p call))))) (row p call (found_at c.words (word_of p call)) hand v)
   own_call h c program v ws hand (r, inl x) call next is = let y = load_is call next (sym (ap first_step x.0) ∙ is) in
       subst (λ d. State (Word c) h (next_step (resolved ws (next (found_at c.words (word_of p d))))) (row p d (found_at c.words (word_of p d)) hand v)) (sym y.0)
@@ -213,7 +213,7 @@ module _ (p : Plan) (calls : List ℕ) (n o : ℕ) (inside : o < p.operations) (
         }),
       )
     where
-      got : (d : Call) → d ≡ AddRef x.id → ((vref_version (found_at c.words (word_of p d)) == socket_id_version x.id) ≡ true) → 0 < marks_of (is_hold (socket_id_version x.id)) (socket_id_slot x.id) (row p d (found_at c.words (word_of p d)) hand v)
+      got : (d : TableStep) → d ≡ AddRef x.id → ((vref_version (found_at c.words (word_of p d)) == socket_id_version x.id) ≡ true) → 0 < marks_of (is_hold (socket_id_version x.id)) (socket_id_slot x.id) (row p d (found_at c.words (word_of p d)) hand v)
       got d e z = subst (λ d. 0 < marks_of (is_hold (socket_id_version x.id)) (socket_id_slot x.id) (row p d (found_at c.words (word_of p d)) hand v)) (sym e)
           (let z' = subst (λ d. (vref_version (found_at c.words (word_of p d)) == socket_id_version x.id) ≡ true) e z in
           holds_added (socket_id_slot x.id) (socket_id_version x.id) (found_at c.words (word_of p (AddRef x.id))) v (eqb-true (vref_version (found_at c.words (word_of p (AddRef x.id)))) (socket_id_version x.id) z')

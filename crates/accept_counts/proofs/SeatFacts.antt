@@ -14,7 +14,7 @@ use Rattle.sock_model.specs.declared.view.View.{View}
 use Rattle.sock_model.specs.ChainRows.{taken_right}
 use Rattle.seat_programs.specs.Asides.{Step, Found}
 use Rattle.seat_programs.specs.Beside.{found_in, calls_after}
-use Rattle.seat_programs.specs.Calls.{Call}
+use Rattle.seat_programs.specs.Calls.{TableStep}
 use Rattle.seat_programs.specs.Programs.{Program, Do, TakeMessage, TakeHome, PutHome, PutBytes, AskReady, Write, Aside, Round}
 use Rattle.seat_programs.specs.Cores.{Core, SeatState, found_at, lies_at, first_of, others_of, link_place, with_seat, stepped}
 use Rattle.seat_programs.specs.StepTables.{word_of}
@@ -73,7 +73,7 @@ module _ {T : Type 0} (L : T → Program → Type 0) (rest : T) (rests : ComesTo
     (first : (seat : SeatState) (v : View) (at : get_elem? c.seats m.seat ≡ some seat) (here : get_elem? vs m.seat ≡ some v) (x : Program) (is : first_step seat.program ≡ x) → L (state seat v at here x is) x)
     (moves : (seat : SeatState) (v : View) → get_elem? c.seats m.seat ≡ some seat → get_elem? vs m.seat ≡ some v → (x : Program) (hand : List Home) (hs : List (Option Home)) (w : View) (rights : List Right) → w ≡ with_rights v rights → L rest x
     → P (with_seat m.seat x hand c.words hs c) (set vs m.seat w))
-    (step : (seat : SeatState) (v : View) (call : Call) (next : ℕ → Program) → get_elem? c.seats m.seat ≡ some seat → get_elem? vs m.seat ≡ some v → first_step seat.program ≡ Do call next → GoesOn p v (Do call next)
+    (step : (seat : SeatState) (v : View) (call : TableStep) (next : ℕ → Program) → get_elem? c.seats m.seat ≡ some seat → get_elem? vs m.seat ≡ some v → first_step seat.program ≡ Do call next → GoesOn p v (Do call next)
     → P (stepped p m.seat seat call next c) (set vs m.seat (row p call (found_at c.words (word_of p call)) (hand_at p c.words c.homes call) v)))
     (aside : (seat : SeatState) (v : View) (s : Step) (next : Found s → Program) (found : Found s) → get_elem? c.seats m.seat ≡ some seat → get_elem? vs m.seat ≡ some v → first_step seat.program ≡ Aside s next → GoesOn p v (Aside s next)
     → found_in s c.calls (taken m.answer) ≡ some found → P (with_seat m.seat (next found) seat.hand c.words c.homes (record c { calls = calls_after s found c.calls })) vs) where

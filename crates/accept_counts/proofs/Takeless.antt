@@ -12,7 +12,7 @@ use Rattle.seat_programs.specs.declared.task.Op.{Op}
 use Rattle.seat_programs.specs.declared.task.Op.TheVariants as ops
 use Rattle.seat_programs.specs.declared.task.Task.{Task}
 use Rattle.seat_programs.specs.declared.task.Sizes.{Sizes}
-use Rattle.seat_programs.specs.Calls.{Call}
+use Rattle.seat_programs.specs.Calls.{TableStep}
 use Rattle.seat_programs.specs.Asides.{Step, Found, TakeBytes}
 use Rattle.seat_programs.specs.Heads.{Head, Exit, Retry, Posts, Unlocks, Decides, Locks, Joins, Opens, Reads, Discards}
 use Rattle.seat_programs.specs.Programs.{Program, Say, Sent, TakeMessage, TakeHome, PutHome, PutBytes, AskReady, Write, Aside, Round, Keep, Retries}
@@ -35,7 +35,7 @@ use Rattle.run_theorems.specs.Heard.{taken_link}
 
 module _ (J : Type 0) where
   -- the program takes no bytes, and waits for no word of an `open`; for the end of a range it waits only where J is so
-  abbrev any_word : Unit {0} → Call → (ℕ → Program) → (Unit {0} → ℕ → Type 0) → Type 0
+  abbrev any_word : Unit {0} → TableStep → (ℕ → Program) → (Unit {0} → ℕ → Type 0) → Type 0
   any_word s call next behind = (found : ℕ) → behind s found
 
   abbrev TakesBeside : Unit {0} → (step : Step) → (Found step → Program) → (Unit {0} → Found step → Type 0) → Type 0

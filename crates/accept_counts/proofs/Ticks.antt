@@ -22,7 +22,7 @@ use Rattle.call_causes.specs.Below.id_runs.proofs.Steps.{finds_ids}
 use Rattle.seat_programs.specs.Asides.{Step, Found, PutCall, MakeId, StoreAt, UnlockId, TakeCall, Taking}
 use Rattle.sock_message.specs.Asked.{Asked, frame_of}
 use Rattle.seat_programs.specs.Beside.{found_in, calls_after}
-use Rattle.seat_programs.specs.Calls.{Call, PutMessage}
+use Rattle.seat_programs.specs.Calls.{TableStep, PutMessage}
 use Rattle.seat_programs.specs.Heads.{Retry}
 use Rattle.seat_programs.specs.Programs.{Program, Do, Say, Sent, Rest, TakeMessage, TakeHome, PutHome, PutBytes, AskReady, Write, Aside, Round, Keep, Retries}
 use Rattle.seat_programs.specs.Cores.{Calls, Core, SeatState, found_at, words_after, homes_after, hand_after, resolved, still_waiting, waiting_at, next_step, with_seat, stepped}
@@ -154,7 +154,7 @@ labels_first is_call t (Round head next) g = labels_round is_call t head next g
 labels_first is_call t _ g = g
 
 -- what is found of a step on the sockets
-pub fits_as : (p : Plan) (c : Core) (program : Program) (call : Call) (next : ℕ → Program) → first_step program ≡ Do call next → FitsFirst p c (first_step program) → FitsSock call (found_at c.words (word_of p call))
+pub fits_as : (p : Plan) (c : Core) (program : Program) (call : TableStep) (next : ℕ → Program) → first_step program ≡ Do call next → FitsFirst p c (first_step program) → FitsSock call (found_at c.words (word_of p call))
 fits_as p c program call next e f = by program e f
   where
     by : (program : Program) → first_step program ≡ Do call next → FitsFirst p c (first_step program) → FitsSock call (found_at c.words (word_of p call))
@@ -172,7 +172,7 @@ kept_fits ids t u (inl e) f = subst (TrialFits ids) (sym e) f
 kept_fits ids t u (inr e) f = subst (TrialFits ids) (sym e) tt
 
 -- a message of a call takes the attempt with it
-pub put_count : (is_call : Asked → Type 0) (v : View) (id n : ℕ) (t : Trial) (call : Call) → MayPut is_call t call → of_trial id n (put_behind t call) + put_of v id n call ≤ of_trial id n t
+pub put_count : (is_call : Asked → Type 0) (v : View) (id n : ℕ) (t : Trial) (call : TableStep) → MayPut is_call t call → of_trial id n (put_behind t call) + put_of v id n call ≤ of_trial id n t
 put_count is_call v id n t (PutMessage r heading bytes) may = ⊎_elim
     (λ none_. (let z : cond (eqb heading.owner 0) 0 (pair_of id n heading.owner heading.attempt) ≡ 0 = ap (λ b. cond b 0 (pair_of id n heading.owner heading.attempt)) (eq-eqb heading.owner 0 none_.0) in omega (arith, z)))
     (λ h. by (eqb heading.owner 0) (as_trial t h)) may
@@ -256,7 +256,7 @@ module _ (p : Plan) (q : IdPlan) (narrow : q.slots ≤ 65536) (is_call : Asked �
       fresh = λ id n z. absurd (omega (arith, z));
     }
 
-    put_fits : (call : Call) → MayPut is_call t call → PutsFit v is_call ids p fits_view call
+    put_fits : (call : TableStep) → MayPut is_call t call → PutsFit v is_call ids p fits_view call
     put_fits (PutMessage r heading bytes) may = ⊎_elim (λ none_. inl none_) (λ h. inr (of_t t h fits_trial)) may
       where
         of_t : (t : Trial) → IsOfTrial is_call t heading bytes → TrialFits ids t → IsOfCall is_call ids heading bytes
@@ -275,12 +275,12 @@ module _ (p : Plan) (q : IdPlan) (narrow : q.slots ≤ 65536) (is_call : Asked �
         of_t (Tries j m) h f = absurd h
     put_fits _ may = tt
 
-    behind_fits : (call : Call) → TrialFits ids (put_behind t call)
+    behind_fits : (call : TableStep) → TrialFits ids (put_behind t call)
     behind_fits (PutMessage r heading bytes) = tt
     behind_fits _ = fits_trial
 
     -- a step on the sockets
-    steps : (call : Call) (next : ℕ → Program) → May p v call → Labels is_call t (Do call next) → FitsSock call (found_at c.words (word_of p call)) → After (stepped p i seat call next c) (set vs i (row p call (found_at c.words (word_of p call)) (hand_at p c.words c.homes call) v))
+    steps : (call : TableStep) (next : ℕ → Program) → May p v call → Labels is_call t (Do call next) → FitsSock call (found_at c.words (word_of p call)) → After (stepped p i seat call next c) (set vs i (row p call (found_at c.words (word_of p call)) (hand_at p c.words c.homes call) v))
     steps call next may g fits = let found : ℕ = found_at c.words (word_of p call) in let u = g.1 (found_at c.words (word_of p call)) fits in
         goes_on c.calls (next (found_at c.words (word_of p call))) (hand_after p call c.homes seat.hand) (words_after c.words (word_of p call) (word_after call (found_at c.words (word_of p call)))) (homes_after p call seat.hand c.homes) u.0
         (row p call (found_at c.words (word_of p call)) (hand_at p c.words c.homes call) v) record {

@@ -12,7 +12,7 @@ use Rattle.seat_programs.specs.brpc_model.specs.Operations.{Turn}
 use Rattle.corr_core.specs.Word.{parts, error_of}
 use Rattle.sock_message.specs.Asked.{Asked, name_of}
 use Rattle.seat_programs.specs.Asides.{Step, Found, PutCall, StoreAt, PostId}
-use Rattle.seat_programs.specs.Calls.{Call, AddRef, LoadName, LookWord, LoadCode, ClaimRequest, DropPlace}
+use Rattle.seat_programs.specs.Calls.{TableStep, AddRef, LoadName, LookWord, LoadCode, ClaimRequest, DropPlace}
 use Rattle.seat_programs.specs.Heads.{Head, Exit, Retry, Posts, Unlocks, Locks, Reads}
 use Rattle.seat_programs.specs.Writings.{Holder, Writing, Puts}
 use Rattle.seat_programs.specs.Programs.{Program, Do, Write, Aside}
@@ -37,7 +37,7 @@ use Rattle.seat_programs.specs.Rounds.{first_step}
 -- a step on the table of the sockets with the word that it found, a call that was put into its home, or a round that was begun from the head of a loop of writing; or it
 -- found no socket under this name as it tried an attempt of a call: the name, the operation, its id, and the attempt
 pub data Deed : Type 0 where
-  DidStep : Call → ℕ → Deed
+  DidStep : TableStep → ℕ → Deed
   DidPut : Asked → Deed
   DidRound : Writing → Deed
   DidMiss : ℕ → ℕ → ℕ → ℕ → Deed
@@ -88,13 +88,13 @@ abbrev pub IsTrying : Trial → ℕ → ℕ → ℕ → Program → Type 0
 IsTrying t o id n program = (t ≡ Sends o id n) ⊎ ((t ≡ Tries id n) × WouldStore o id n program)
 
 -- what the seat did with the last step of attempt n of the call with this id, which is operation o
-abbrev pub IsLast : Call → (ℕ → Program) → ℕ → ℕ → ℕ → ℕ → Deed → Type 0
+abbrev pub IsLast : TableStep → (ℕ → Program) → ℕ → ℕ → ℕ → ℕ → Deed → Type 0
 IsLast call next found o id n deed = (deed ≡ DidStep call found) ⊎ ((name : ℕ) × (call ≡ LoadName name) × (found ≡ 0) × (deed ≡ DidMiss name o id n) × WouldStore o id n (Do call next))
 
 -- of so many requests; these are the calls; and a seat reads a link, or is a client's
 module _ (requests : ℕ) (is_call : Asked → Type 0) (reads : Bool) where
   -- the step is the last of a refused attempt
-  pub record Refuses (call : Call) (next : ℕ → Program) (found : ℕ) (s u : Doing) : Type 0 where
+  pub record Refuses (call : TableStep) (next : ℕ → Program) (found : ℕ) (s u : Doing) : Type 0 where
     pub id : ℕ
     pub attempt : ℕ
     pub code : ℕ
@@ -112,7 +112,7 @@ module _ (requests : ℕ) (is_call : Asked → Type 0) (reads : Bool) where
     pub deeds : u.deeds ≡ deed ∷ s.deeds
 
   -- the step drops a message, behind a look at the code of the socket
-  pub record Drops (call : Call) (found : ℕ) (s u : Doing) : Type 0 where
+  pub record Drops (call : TableStep) (found : ℕ) (s u : Doing) : Type 0 where
     pub holder : Holder
     pub now : ℕ
     pub heading : Heading
@@ -131,7 +131,7 @@ module _ (requests : ℕ) (is_call : Asked → Type 0) (reads : Bool) where
   abbrev pub Remembers : List Deed → Doing → Doing → Type 0
   Remembers deeds s u = ((u.charge ≡ s.charge) × (u.deeds ≡ deeds)) ⊎ ((u.charge ≡ NoCharge) × (u.deeds ≡ []))
 
-  abbrev pub Moves : Call → (ℕ → Program) → ℕ → Doing → Doing → Type 0
+  abbrev pub Moves : TableStep → (ℕ → Program) → ℕ → Doing → Doing → Type 0
   Moves call next found s u = (Kept (put_behind s.trial call) u.trial × Remembers (DidStep call found ∷ s.deeds) s u) ⊎ (Refuses call next found s u ⊎ Drops call found s u)
 
   -- ## Posts

@@ -15,7 +15,7 @@ use Rattle.seat_programs.specs.id_rule.specs.Lawful.{call_index}
 use Rattle.own_decisions.specs.Below.id_runs.proofs.Opening.{unused}
 use Rattle.sock_message.specs.Asked.{Asked}
 use Rattle.seat_programs.specs.Asides.{StoreCall, StoreAt}
-use Rattle.seat_programs.specs.Calls.{Call, LoadName, FindLink, ClaimRequest}
+use Rattle.seat_programs.specs.Calls.{TableStep, LoadName, FindLink, ClaimRequest}
 use Rattle.seat_programs.specs.Clients.{ending_of}
 use Rattle.seat_programs.specs.Cores.{Core, with_seat}
 use Rattle.seat_programs.specs.declared.task.Task.{Task}
@@ -71,7 +71,7 @@ stays_of : (t u : Trail) → Stays t u → (u.of ≡ t.of) ⊎ (u.of ≡ NoCall)
 stays_of t u (inl same) = inl (ap (λ (x : Trail). x.of) same)
 stays_of t u (inr none_) = inr (ap (λ (x : Trail). x.of) none_)
 
-goes_of : (t u : Trail) (call : Call) (found : ℕ) → GoesDo t call found u → (u.of ≡ t.of) ⊎ (u.of ≡ NoCall)
+goes_of : (t u : Trail) (call : TableStep) (found : ℕ) → GoesDo t call found u → (u.of ≡ t.of) ⊎ (u.of ≡ NoCall)
 goes_of t u (LoadName m) found g = ⊎_elim (λ same. inl (ap (λ (x : Trail). x.of) same)) (λ rest. ⊎_elim (λ none_. inr (ap (λ (x : Trail). x.of) none_)) (λ a. inl (ap (λ (x : Trail). x.of) a.1)) rest) g
 goes_of t u (ClaimRequest s q) found g = ⊎_elim (λ same. inl (ap (λ (x : Trail). x.of) same)) (λ rest. ⊎_elim (λ none_. inr (ap (λ (x : Trail). x.of) none_)) (λ a. inl (ap (λ (x : Trail). x.of) a.3)) rest) g
 goes_of t u (FindLink i h) found g = ⊎_elim (λ same. inl (ap (λ (x : Trail). x.of) same)) (λ rest. ⊎_elim (λ none_. inr (ap (λ (x : Trail). x.of) none_)) (λ a. inl (ap (λ (x : Trail). x.of) a.5)) rest) g

@@ -27,7 +27,7 @@ use Rattle.own_decisions.specs.Below.id_runs.proofs.Steps.{finds_ids}
 use Rattle.seat_programs.specs.Asides.{Step, Found, ClaimId, PutCall, MakeId, StoreCall, StoreAt, LoadAt, LockId, PostId, UnlockId, EndId, FreeId, TakeCall, TakeBytes, Taking, Bytes}
 use Rattle.sock_message.specs.Asked.{Asked, name_of}
 use Rattle.seat_programs.specs.Beside.{found_in, calls_after, more_given}
-use Rattle.seat_programs.specs.Calls.{Call, StoreName, LoadName, FindLink, ClaimRequest, PutMessage, Unconnect, SwapHead}
+use Rattle.seat_programs.specs.Calls.{TableStep, StoreName, LoadName, FindLink, ClaimRequest, PutMessage, Unconnect, SwapHead}
 use Rattle.seat_programs.specs.Heads.{Retry}
 use Rattle.seat_programs.specs.Programs.{Program, Do, Say, Sent, Write, Aside, Round, Keep, Retries}
 use Rattle.seat_programs.specs.Cores.{Calls, Core, SeatState, found_at, words_after, homes_after, hand_after, resolved, waiting_at, next_step, with_seat, stepped}
@@ -185,7 +185,7 @@ module _ (is_call : Asked → Type 0) (seen : List Store) (es : List Event) wher
       over.1,
     )
 
-    pub row_over : (p : Plan) (found : ℕ) (hand : Hand) (call : Call) → MayAttempt is_call t call → ViewOver (row p call found hand v)
+    pub row_over : (p : Plan) (found : ℕ) (hand : Hand) (call : TableStep) → MayAttempt is_call t call → ViewOver (row p call found hand v)
     row_over p found hand (ClaimRequest i q) may = split (found % 2 == 0) _ v ViewOver (((λ some_. absurd (some_ refl)), tt), over.1) over
     row_over p found hand (PutMessage q heading bytes) may = put_over q heading bytes may v.claims refl
     row_over p found hand (Unconnect q) may = ready_over v.claims refl
@@ -205,7 +205,7 @@ module _ (is_call : Asked → Type 0) (seen : List Store) (es : List Event) wher
     swap_true found hand (x ∷ cs) e = split (nat_lt found IDLE) (queued v x found) (righted v x found hand.took hand.next) (λ w. IsTrue w t) (true_.0, λ b m s is. tt, true_.2, true_.3, true_.4) (true_.0, λ b m s is. tt, true_.2, true_.3, true_.4)
 
     -- what is known stays so, where the step claims no request
-    row_true : (p : Plan) (found : ℕ) (hand : Hand) (call : Call) → ((i q : ℕ) → call ≡ ClaimRequest i q → ⊥) → IsTrue (row p call found hand v) t
+    row_true : (p : Plan) (found : ℕ) (hand : Hand) (call : TableStep) → ((i q : ℕ) → call ≡ ClaimRequest i q → ⊥) → IsTrue (row p call found hand v) t
     row_true p found hand (ClaimRequest i q) others = absurd (others i q refl)
     row_true p found hand (PutMessage q heading bytes) others = put_true heading bytes v.claims refl
     row_true p found hand (Unconnect q) others = ready_true v.claims refl
@@ -287,11 +287,11 @@ module _ (p : Plan) (q : IdPlan) (narrow : q.slots ≤ 65536) (is_call : Asked �
     pub moves : (x : Program) (hand : List Home) (hs : List (Option Home)) (w : View) (rights : List Right) → w ≡ with_rights v rights → Follows is_call lost x → After (with_seat i x hand c.words hs (record c { calls = c.calls })) (set vs i w)
     moves x hand hs w rights e g = goes_on c.calls x hand c.words hs lost w refl law.calls ats_here g (lost_true is_call seen fs w) (subst (ViewOver is_call seen fs) (sym e) (view_up is_call seen es fs up v (law.views i v at_view)))
 
-    abbrev Row : Call → View
+    abbrev Row : TableStep → View
     Row call = row p call (found_at c.words (word_of p call)) (hand_at p c.words c.homes call) v
 
     -- what is known behind a step on the sockets
-    true_behind : (call : Call) → May p v call → (u : Trail) → GoesDo t call (found_at c.words (word_of p call)) u → IsTrue is_call seen es (Row call) u
+    true_behind : (call : TableStep) → May p v call → (u : Trail) → GoesDo t call (found_at c.words (word_of p call)) u → IsTrue is_call seen es (Row call) u
     true_behind (LoadName m) may u g = ⊎_elim
         (λ e. subst (IsTrue is_call seen es (Row (LoadName m))) (sym e) kept)
         (λ x. ⊎_elim (λ e. subst (IsTrue is_call seen es (Row (LoadName m))) (sym e) (lost_true is_call seen es (Row (LoadName m))))
@@ -320,7 +320,7 @@ module _ (p : Plan) (q : IdPlan) (narrow : q.slots ≤ 65536) (is_call : Asked �
     true_behind call may u g = stays_true is_call seen es (Row call) t u g (row_true is_call seen es v t true_here (law.views i v at_view) p (found_at c.words (word_of p call)) (hand_at p c.words c.homes call) call (λ a b e. absurd cc))
 
     -- a step on the sockets
-    steps : (call : Call) (next : ℕ → Program) → May p v call → Follows is_call t (Do call next) → FitsSock call (found_at c.words (word_of p call)) → After (stepped p i seat call next c) (set vs i (row p call (found_at c.words (word_of p call)) (hand_at p c.words c.homes call) v))
+    steps : (call : TableStep) (next : ℕ → Program) → May p v call → Follows is_call t (Do call next) → FitsSock call (found_at c.words (word_of p call)) → After (stepped p i seat call next c) (set vs i (row p call (found_at c.words (word_of p call)) (hand_at p c.words c.homes call) v))
     steps call next may g fits = let u = g.1 (found_at c.words (word_of p call)) fits in
         goes_on c.calls (next (found_at c.words (word_of p call))) (hand_after p call c.homes seat.hand) (words_after c.words (word_of p call) (word_after call (found_at c.words (word_of p call)))) (homes_after p call seat.hand c.homes) u.0 (Row call) refl law.calls ats_here u.2
         (true_up is_call seen es fs up (Row call) u.0 (true_behind call may u.0 u.1)) (view_up is_call seen es fs up (Row call) (row_over is_call seen es v t true_here (law.views i v at_view) p (found_at c.words (word_of p call)) (hand_at p c.words c.homes call) call g.0))

@@ -10,7 +10,7 @@ use Rattle.seat_programs.specs.declared.task.Sizes.{Sizes}
 use Rattle.seat_programs.specs.declared.task.Task.{Task}
 use Rattle.seat_programs.specs.Asides.{Step, Found, PutCall, MakeId, StoreCall, StoreAt}
 use Rattle.seat_programs.specs.Attempts.{claims_from, heading_for, attempt, begin_call, claim_id, call, tried_again, retry_locked, retry}
-use Rattle.seat_programs.specs.Calls.{Call, PutMessage, ClaimRequest, LoadName, FindLink, LookWord}
+use Rattle.seat_programs.specs.Calls.{TableStep, PutMessage, ClaimRequest, LoadName, FindLink, LookWord}
 use Rattle.seat_programs.specs.Clients.{HeldLife, client_from, ending_of}
 use Rattle.seat_programs.specs.Heads.{Head, Exit, Posts, First, Unlocking, IsOpen, HasNext, Locking, NotThere, Has}
 use Rattle.seat_programs.specs.Posts.{post, decided}
@@ -26,15 +26,15 @@ use Rattle.own_decisions.specs.Below.label_runs.proofs.Operations.{OpCalls, rele
 use Rattle.attempted_calls.proofs.EndedTrails.{Trail, lost, Stays, NoCall, Makes, Knows, with_link, GoesDo, GoesAside, MayAttempt, Follows}
 
 module _ (is_call : Asked → Type 0) where
-  may_plain : (t : Trail) (call : Call) → is_plain call ≡ true → MayAttempt is_call t call
+  may_plain : (t : Trail) (call : TableStep) → is_plain call ≡ true → MayAttempt is_call t call
   may_plain t (PutMessage q heading bytes) plain = absurd (let e = plain in cc)
   may_plain t call plain = tt
 
-  stays_plain : (t : Trail) (call : Call) (found : ℕ) → is_plain call ≡ true → GoesDo t call found t
+  stays_plain : (t : Trail) (call : TableStep) (found : ℕ) → is_plain call ≡ true → GoesDo t call found t
   stays_plain t (ClaimRequest s q) found plain = absurd (let e = plain in cc)
   stays_plain t call found plain = inl refl
 
-  lost_by : (t : Trail) (call : Call) (found : ℕ) → GoesDo t call found lost
+  lost_by : (t : Trail) (call : TableStep) (found : ℕ) → GoesDo t call found lost
   lost_by t (LoadName m) found = inr (inl refl)
   lost_by t (ClaimRequest s q) found = inr (inl refl)
   lost_by t (FindLink i h) found = inr (inl refl)

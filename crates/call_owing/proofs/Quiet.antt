@@ -13,7 +13,7 @@ use Rattle.sock_model.specs.declared.home.Home.{Home}
 use Rattle.sock_model.specs.declared.home.Home.TheVariants.{Message}
 use Rattle.corr_core.specs.Word.{attempt_of}
 use Rattle.corr_core.specs.declared.marks.Plan.{Plan as IdPlan}
-use Rattle.seat_programs.specs.Calls.{Call, AddRef, SetOdd, LookWord}
+use Rattle.seat_programs.specs.Calls.{TableStep, AddRef, SetOdd, LookWord}
 use Rattle.seat_programs.specs.Cores.{Core, SeatState, waiting_at}
 use Rattle.call_owing.specs.Owing.{Duty, Free, Trying, Linked, Looking, Telling, Owing, Among, InList, DutyTo, duty_tokens, with_duty, freed, with_known, with_left, with_dead, CallMove, stays, tells, tells_late, links, looks, fails, gone, unused}
 use Rattle.call_owing.specs.Sound.{id_word_of, at_of, retry_tokens, Owed, by_seat, by_retry, by_reader, Past, Distinct, IsOpen, ErrorPast, Failed, Stored, OwingLaw}
@@ -100,7 +100,7 @@ module _ (q : IdPlan) (life : ℕ → Option ℕ) (calls : List ℕ) (c : Core) 
 
   -- what the table of the sockets says of a step: a life whose version is past stays so, and a reader that sets its life odd, or finds a word of another version, finds it past;
   -- a life that the seat looks at is held, so that an even version is its own; and messages at home are those of before, or the one that is put there
-  pub record SockFits (call : Call) (found : ℕ) : Type 0 where
+  pub record SockFits (call : TableStep) (found : ℕ) : Type 0 where
     pub failed : (k : ℕ) → Failed life c k → Failed life (record { words = ws; homes = hs; seats = ss; outcomes = os; calls = c.calls }) k
     pub odd : (k s : ℕ) → call ≡ SetOdd (socket_id_slot s) → u.link ≡ k ∷ [] → life k ≡ Some s → Failed life (record { words = ws; homes = hs; seats = ss; outcomes = os; calls = c.calls }) k
     pub other : (k s : ℕ) → call ≡ AddRef s → u.link ≡ k ∷ [] → life k ≡ Some s → vref_version found ≢ socket_id_version s → Failed life (record { words = ws; homes = hs; seats = ss; outcomes = os; calls = c.calls }) k
@@ -214,7 +214,7 @@ module _ (q : IdPlan) (life : ℕ → Option ℕ) (calls : List ℕ) (c : Core) 
             (λ ne. by_reader o k s j w st.0 lives word (set_beside us i j (freed u) w ne e) l left)
 
   -- what a step on the sockets makes of the marks keeps the law
-  pub call_moves : (call : Call) (found : ℕ) (v : Owing) → SockFits call found → CallMove life call found u v → OwingLaw q life calls (record { words = ws; homes = hs; seats = ss; outcomes = os; calls = c.calls }) (set us i v)
+  pub call_moves : (call : TableStep) (found : ℕ) (v : Owing) → SockFits call found → CallMove life call found u v → OwingLaw q life calls (record { words = ws; homes = hs; seats = ss; outcomes = os; calls = c.calls }) (set us i v)
   call_moves call found v fits (stays e) = by e (marked u (same_marks fits.failed fits.letters))
     where
       by : v ≡ u → OwingLaw q life calls (record { words = ws; homes = hs; seats = ss; outcomes = os; calls = c.calls }) (set us i u) → OwingLaw q life calls (record { words = ws; homes = hs; seats = ss; outcomes = os; calls = c.calls }) (set us i v)

@@ -8,7 +8,7 @@ use Rattle.sock_model.specs.declared.chain.Heading.{Heading}
 use Rattle.sock_model.specs.declared.home.Home.{Home}
 use Rattle.sock_model.specs.declared.home.Home.TheVariants.{Message}
 use Rattle.corr_core.specs.declared.marks.Plan.{Plan as IdPlan}
-use Rattle.seat_programs.specs.Calls.{Call, AddRef, SetOdd, LookWord}
+use Rattle.seat_programs.specs.Calls.{TableStep, AddRef, SetOdd, LookWord}
 use Rattle.seat_programs.specs.Asides.{StoreAt, TakeBytes, Closed}
 use Rattle.seat_programs.specs.Programs.{Program, Do, PutHome, Aside}
 use Rattle.seat_programs.specs.Cores.{Core, SeatState, found_at, words_after, first_of}
@@ -18,7 +18,7 @@ use Rattle.call_owing.specs.Owing.{Linked, Owing, InList, FindsCall}
 use Rattle.call_owing.specs.Sound.{at_of, FailedIn}
 use Rattle.seat_programs.specs.Rounds.{first_step}
 
-module _ (p : Plan) (life : ℕ → Option ℕ) (c : Core) (u : Owing) (call : Call) where
+module _ (p : Plan) (life : ℕ → Option ℕ) (c : Core) (u : Owing) (call : TableStep) where
   abbrev pub found : ℕ
   found = found_at c.words (word_of p call)
 

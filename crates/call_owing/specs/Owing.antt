@@ -2,7 +2,7 @@
 use Rattle.std.specs.Prelude.{ℕ, ◌≡◌, ◌≢◌, ◌+◌, ◌-◌, ◌%◌, ◌<◌, ◌≤◌, ◌⊎◌, ◌==◌, Bool, true, false, if◌then◌else◌, List, [], ◌∷◌, Option, Some, None}
 use Rattle.sock_words.specs.Words.{socket_id_version, socket_id_slot, vref_version, at_word, at_word_first, at_word_slot, at_word_link, at_word_attempt, call_id, id_slot, id_first, NO_SOCKET, bit}
 use Rattle.corr_core.specs.Word.{Parts, parts, attempt_of}
-use Rattle.seat_programs.specs.Calls.{Call, AddRef, SetOdd, LookWord, FindLink, LoadOpen, PutMessage}
+use Rattle.seat_programs.specs.Calls.{TableStep, AddRef, SetOdd, LookWord, FindLink, LoadOpen, PutMessage}
 use Rattle.seat_programs.specs.Asides.{Step, MakeId, StoreAt, LoadAt, LoadIdWord, LockId, PostId, UnlockId, EndId, TakeBytes, Taking, Closed, Found}
 use Rattle.seat_programs.specs.Posts.{is_first}
 use Rattle.sock_model.specs.declared.chain.Heading.{Heading}
@@ -84,7 +84,7 @@ IsOpenAt id n w = (w.first ≡ id_first id) × (w.state ≡ 1) × (w.attempt ≡
 
 -- `life k` is the id of the socket that gets link k, if one ever does
 module _ (life : ℕ → Option ℕ) where
-  pub data CallMove (call : Call) (found : ℕ) (u v : Owing) : Type 0 where
+  pub data CallMove (call : TableStep) (found : ℕ) (u v : Owing) : Type 0 where
     stays : v ≡ u → CallMove call found u v
     -- the seat gives the attempt up: an error follows
     tells : (id n : ℕ) → u.duty ≡ Trying id n → v ≡ with_known id n (with_duty (Telling id n) u) → CallMove call found u v
@@ -105,7 +105,7 @@ module _ (life : ℕ → Option ℕ) where
   IsLifeOf [] found = Unit {0}
   IsLifeOf (k ∷ ks) found = life k ≡ (if found == NO_SOCKET then None else Some (found - 1))
 
-  abbrev pub FindsCall : Owing → Call → ℕ → Type 0
+  abbrev pub FindsCall : Owing → TableStep → ℕ → Type 0
   FindsCall u (FindLink i h) found = (found < 65535) × HasLink u.duty i h found
   FindsCall u (LoadOpen o) found = found ≢ 0 → IsLifeOf u.link found
   FindsCall u other found = Unit {0}
@@ -114,7 +114,7 @@ module _ (life : ℕ → Option ℕ) where
 abbrev pub KnowsOwner : Owing → Heading → Type 0
 KnowsOwner u heading = heading.owner ≢ 0 → Among heading.owner heading.attempt u.knows × (heading.attempt ≤ 6)
 
-abbrev pub MayCall : Owing → Call → Type 0
+abbrev pub MayCall : Owing → TableStep → Type 0
 MayCall u (PutMessage q heading bytes) = KnowsOwner u heading
 MayCall u other = Unit {0}
 

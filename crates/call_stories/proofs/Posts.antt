@@ -9,7 +9,7 @@ use Rattle.corr_core.specs.Decisions.{ends_call}
 use Rattle.sock_message.specs.Asked.{Asked}
 use Rattle.seat_programs.specs.declared.task.Task.{Task}
 use Rattle.seat_programs.specs.Asides.{PutCall, LockId, PostId, UnlockId, FreeId}
-use Rattle.seat_programs.specs.Calls.{Call}
+use Rattle.seat_programs.specs.Calls.{TableStep}
 use Rattle.seat_programs.specs.Heads.{Retry, Sought, First, Version, Posts, Unlocks, Decides, Locks, Joins, Posting, WasGone, WasStale, WasCrowded, WasQueued, HasLocked, Unlocking, IsOpen, HasNext, Deciding, HasEnded, GoesOn, Locking, NotThere, Has}
 use Rattle.seat_programs.specs.Programs.{Program, Do, Aside, Round}
 use Rattle.seat_programs.specs.Posts.{packed, is_first, is_sought, is_stale, is_full, judged, posts_round, post_with, posted, post, popped, unlocks_round, end_id, decide, unlocked, decides_round, decided, locking, locks_round, joins_round, IsSoughtWord}
@@ -105,7 +105,7 @@ module _ (p : Plan) (q : IdPlan) (clients : List (List Task)) (gives : ℕ → L
   then_on w v m x l goes = λ w' l' s. goes w' (far p q clients gives w v w' l l') s
 
   -- a step of whose word nothing is used
-  pub then_does : (w : Scene) (m : Mark) (call : Call) (next : ℕ → Program) → MayDo p q clients gives call → ((found : ℕ) → Then w m (next found)) → Then w m (Do call next)
+  pub then_does : (w : Scene) (m : Mark) (call : TableStep) (next : ℕ → Program) → MayDo p q clients gives call → ((found : ℕ) → Then w m (next found)) → Then w m (Do call next)
   then_does w m call next may goes = λ v l _. (may, λ found v2 l2 s2 _. goes found v2 (far p q clients gives w v v2 l l2) s2)
 
   pub then_way : (w : Scene) (m : Mark) (b : Bool) (x y : Program) → (b ≡ true → Then w m x) → (b ≡ false → Then w m y) → Then w m (cond b x y)

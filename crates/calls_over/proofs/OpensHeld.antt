@@ -12,7 +12,7 @@ use Rattle.sock_model.specs.declared.view.Hand.{Hand}
 use Rattle.sock_model.specs.declared.view.View.{View}
 use Rattle.sock_model.specs.ChainRows.{with_claim, entry_of, more, queued, righted, taken_right, ready_claim, filled_claim}
 use Rattle.sock_steps.proofs.Quiet.{either_way}
-use Rattle.seat_programs.specs.Calls.{Call, ClaimRequest, PutMessage, Unconnect, SwapHead}
+use Rattle.seat_programs.specs.Calls.{TableStep, ClaimRequest, PutMessage, Unconnect, SwapHead}
 use Rattle.seat_programs.specs.Cores.{Core, found_at}
 use Rattle.seat_programs.specs.StepTables.{word_of}
 use Rattle.seat_programs.specs.Ticks.{Moment, IsAnswered, AreAnswered, ticked}
@@ -45,7 +45,7 @@ module _ (e : Entry) where
   more_there (y ∷ ls) x (l, inr far, at) = (l, inr far, at)
 
   -- a step keeps it
-  row_there : (p : Plan) (v : View) (found : ℕ) (hand : Hand) (call : Call) → IsThere v.lists → IsThere (row p call found hand v).lists
+  row_there : (p : Plan) (v : View) (found : ℕ) (hand : Hand) (call : TableStep) → IsThere v.lists → IsThere (row p call found hand v).lists
   row_there p v found hand (ClaimRequest id q) h = either_way (found % 2 == 0) _ v (λ (w : View). IsThere w.lists) h h
   row_there p v found hand (PutMessage q heading bytes) h = claim_way (λ (w : View). IsThere w.lists) v.claims (λ c. with_claim v (filled_claim c heading bytes)) v h (λ c. h)
   row_there p v found hand (Unconnect q) h = claim_way (λ (w : View). IsThere w.lists) v.claims (λ c. with_claim v (ready_claim c)) v h (λ c. h)

@@ -15,7 +15,7 @@ use Rattle.corr_core.specs.Word.{parts, posted_word, code_of}
 use Rattle.sock_message.specs.Asked.{Asked}
 use Rattle.seat_programs.specs.Asides.{Step, Found, PutCall, TakeCall, Taking}
 use Rattle.seat_programs.specs.Beside.{call_at, found_in}
-use Rattle.seat_programs.specs.Calls.{Call, CreateLife}
+use Rattle.seat_programs.specs.Calls.{TableStep, CreateLife}
 use Rattle.seat_programs.specs.Cores.{Calls, Core, SeatState, resolved, said, next_step}
 use Rattle.seat_programs.specs.Drops.{call_in}
 use Rattle.seat_programs.specs.Heads.{Retry, Posts, Unlocks, Decides, Locks, Opens, Reads, Discards, HasEnded, Has}
@@ -79,7 +79,7 @@ module _ (S : ℕ → Type 0) where
   unsaid n none_ ws Rest x os = refl
   unsaid n none_ ws _ x os = absurd x
 
-  calm_found : (call : Call) (next : ℕ → Program) → C (Do call next) → (found : ℕ) → C (next found)
+  calm_found : (call : TableStep) (next : ℕ → Program) → C (Do call next) → (found : ℕ) → C (next found)
   calm_found (CreateLife i k) next x = absurd x
   calm_found call next x = x
 
@@ -95,7 +95,7 @@ module _ (S : ℕ → Type 0) where
   no_birth : (program : Program) → C program → born_of (call_in program) ≡ []
   no_birth (Do call next) x = none_born call next x
     where
-      none_born : (call : Call) (next : ℕ → Program) → C (Do call next) → born_of (std.Some call) ≡ []
+      none_born : (call : TableStep) (next : ℕ → Program) → C (Do call next) → born_of (std.Some call) ≡ []
       none_born (CreateLife i k) next x = absurd x
       none_born _ next x = refl
   no_birth (Say o outcome next) x = refl

@@ -14,7 +14,7 @@ use Rattle.sock_model.specs.References.{slot_facts}
 use Rattle.sock_model.specs.Slots.{live}
 use Rattle.seat_programs.specs.Asides.{Taking}
 use Rattle.seat_programs.specs.Beside.{calls_after}
-use Rattle.seat_programs.specs.Calls.{Call, StoreCode, LoadCode}
+use Rattle.seat_programs.specs.Calls.{TableStep, StoreCode, LoadCode}
 use Rattle.seat_programs.specs.Cores.{Calls, Core, SeatState, found_at, words_after, homes_after, hand_after, lies_at, first_of, others_of, link_place, resolved, waiting_at, next_step, with_seat}
 use Rattle.seat_programs.specs.StepTables.{word_of, word_after}
 use Rattle.seat_programs.specs.Programs.{Program, Do, Rest, TakeMessage, TakeHome, PutHome, PutBytes, AskReady, Aside}
@@ -85,7 +85,7 @@ module _ (P : ℕ → Type 0) (gone : P 1009) where
     program_of seat at x is own = let f = codes_first (λ o code. P code) P gone law.failing seat.program (law.program seat (ap (get_elem? c.seats) own ∙ at)) in
         (f.0, same_has law.failing f.0 f.1 law.has, subst (Stores (λ o code. P code) P f.0) is f.2)
 
-    behind_step : (call : Call) (next : ℕ → Program) (found : ℕ) → Some_ (Do call next) → Some_ (next found)
+    behind_step : (call : TableStep) (next : ℕ → Program) (found : ℕ) → Some_ (Do call next) → Some_ (next found)
     behind_step call next found s = by (behind s.0 (λ o code. P code) P call next found s.2)
       where
         by : Behind s.0 (λ o code. P code) P call next found → Some_ (next found)

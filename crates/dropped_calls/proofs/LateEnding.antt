@@ -18,7 +18,7 @@ use Rattle.refused_attempts.specs.Below.sock_steps.proofs.Places.{counts}
 use Rattle.refused_attempts.specs.Below.sock_steps.proofs.Quiet.{either_way}
 use Rattle.seat_programs.specs.brpc_model.specs.Items.{Item}
 use Rattle.seat_programs.specs.brpc_model.specs.Operations.{Turn}
-use Rattle.seat_programs.specs.Calls.{Call, SetOdd}
+use Rattle.seat_programs.specs.Calls.{TableStep, SetOdd}
 use Rattle.seat_programs.specs.Heads.{Retry}
 use Rattle.seat_programs.specs.Programs.{Program, Do, Rest, LAST_VERSION, recycle, release}
 use Rattle.seat_programs.specs.Clients.{ending_of}
@@ -151,7 +151,7 @@ module _ (p : Plan) (retries : RetriesGo p) where
       makes : MakesEnding c
       fails : (seat : SeatState) → get_elem? c.seats 0 ≡ some seat → IsPast c i h ⊎ Fails o (socket_id h i + 1) seat.program
 
-    passing_step : (c : Core) (vs : List View) (j : ℕ) (v : View) (call : Call) (next : ℕ → Program) → Sound p c vs → get_elem? vs j ≡ some v → Rattle.seat_programs.specs.StepTables.May p v call → IsGiven c vs i h k → get_or c.words (open_index p o) 0 ≡ socket_id h i + 1
+    passing_step : (c : Core) (vs : List View) (j : ℕ) (v : View) (call : TableStep) (next : ℕ → Program) → Sound p c vs → get_elem? vs j ≡ some v → Rattle.seat_programs.specs.StepTables.May p v call → IsGiven c vs i h k → get_or c.words (open_index p o) 0 ≡ socket_id h i + 1
         → IsPast c i h ⊎ Fails o (socket_id h i + 1) (Do call next)
         → (h < vref_version (get_or (words_after c.words (word_of p call) (word_after call (found_at c.words (word_of p call)))) (ref_index i) 0)) ⊎ Fails o (socket_id h i + 1) (next (found_at c.words (word_of p call)))
     passing_step c vs j v call next sound at may given word x = ⊎_elim (λ past. gone past)

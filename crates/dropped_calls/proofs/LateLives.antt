@@ -14,7 +14,7 @@ use Rattle.refused_attempts.specs.Below.sock_steps.proofs.Places.{counts}
 use Rattle.refused_attempts.specs.Below.sock_steps.proofs.Quiet.{either_way}
 use Rattle.corr_core.specs.Word.{parts}
 use Rattle.corr_core.specs.Decisions.{ends_call}
-use Rattle.seat_programs.specs.Calls.{Call, CreateLife}
+use Rattle.seat_programs.specs.Calls.{TableStep, CreateLife}
 use Rattle.seat_programs.specs.Drops.{call_in}
 use Rattle.seat_programs.specs.Heads.{Head, Exit, Decides, Locks}
 use Rattle.seat_programs.specs.Programs.{Program, Do, Write, Round}
@@ -78,7 +78,7 @@ module _ (p : Plan) (base : Core) (L : ℕ → Type 0) where
   }
 
   -- a step notes a link of no other life than the one that it makes
-  links_after : (v : View) (found : ℕ) (hand : Hand) (h k j : ℕ) (call : Call) → ((i l : ℕ) → call ≡ CreateLife i l → L l) → L k ⊎ (marks_of (is_linked h k) j (row p call found hand v) ≤ marks_of (is_linked h k) j v)
+  links_after : (v : View) (found : ℕ) (hand : Hand) (h k j : ℕ) (call : TableStep) → ((i l : ℕ) → call ≡ CreateLife i l → L l) → L k ⊎ (marks_of (is_linked h k) j (row p call found hand v) ≤ marks_of (is_linked h k) j v)
   links_after v found hand h k j (CreateLife i l) born = ⊎_elim (λ a. inl (subst L (sym a.2) (born i l refl))) (λ less. inr less) (birth_links p v found hand h k i l j)
   links_after v found hand h k j call born = inr (links_only p v found hand h k call refl j)
 

@@ -12,7 +12,7 @@ use Rattle.sock_message.specs.Asked.{Asked, frame_of}
 use Rattle.seat_programs.specs.declared.task.Op.{Op}
 use Rattle.seat_programs.specs.declared.task.Task.{Task}
 use Rattle.seat_programs.specs.declared.task.Sizes.{Sizes}
-use Rattle.seat_programs.specs.Calls.{Call, LookWord, FindLink, ClaimRequest, SwapHead, EmptyHead}
+use Rattle.seat_programs.specs.Calls.{TableStep, LookWord, FindLink, ClaimRequest, SwapHead, EmptyHead}
 use Rattle.seat_programs.specs.Asides.{StoreAt}
 use Rattle.seat_programs.specs.Heads.{Head, Exit, Retry, Posts, Unlocks, Decides, Opens, Posting, Unlocking, Deciding}
 use Rattle.seat_programs.specs.Programs.{Program, Do, Say, Sent, Write, Aside, Round, Keep, Retries, release, address}
@@ -53,7 +53,7 @@ seen id found Claims = Claims
 seen id found Writes = Writes
 seen id found other = if vref_version found % 2 == 0 then Saw id else Idle
 
-abbrev LooksAt : Mode → Call → (ℕ → Program) → (Mode → ℕ → Type 0) → Type 0
+abbrev LooksAt : Mode → TableStep → (ℕ → Program) → (Mode → ℕ → Type 0) → Type 0
 LooksAt m (LookWord id) next behind = (found : ℕ) → behind (seen id found m) found
 LooksAt m (ClaimRequest id q) next behind = (m ≡ Saw id) × ((found : ℕ) → behind (if found % 2 == 0 then Claims else Saw id) found)
 LooksAt m (SwapHead i own) next behind = (m ≡ Claims) × ((found : ℕ) → behind (if nat_lt found IDLE then Idle else Writes) found)
@@ -87,7 +87,7 @@ module _ (m : Mode) where
   abbrev G : Program → Type 0
   G program = Looks m program
 
-  looks_others : (call : Call) (next : ℕ → Program) → is_of_message call ≡ false → ((found : ℕ) → G (next found)) → G (Do call next)
+  looks_others : (call : TableStep) (next : ℕ → Program) → is_of_message call ≡ false → ((found : ℕ) → G (next found)) → G (Do call next)
   looks_others (LookWord id) next is r = absurd (true≢false is)
   looks_others (ClaimRequest id q) next is r = absurd (true≢false is)
   looks_others (SwapHead i own) next is r = absurd (true≢false is)

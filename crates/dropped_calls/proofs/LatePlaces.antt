@@ -8,7 +8,7 @@ use Rattle.sock_words.specs.declared.plain.Plan.{Plan}
 use Rattle.sock_model.specs.declared.chain.Right.{Right}
 use Rattle.sock_model.specs.declared.view.View.{View}
 use Rattle.sock_model.specs.Layout.{place_index}
-use Rattle.seat_programs.specs.Calls.{Call, StorePlace, DropPlace}
+use Rattle.seat_programs.specs.Calls.{TableStep, StorePlace, DropPlace}
 use Rattle.seat_programs.specs.Cores.{Core, found_at, words_after}
 use Rattle.seat_programs.specs.TableWords.{PlaceOf}
 use Rattle.seat_programs.specs.StepTables.{May, table_word, word_of, word_after}
@@ -47,7 +47,7 @@ module _ (p : Plan) (base : Core) (L : ℕ → Type 0) where
   -- ## A step
 
   module _ (c : Core) (vs : List View) (sound : Sound p c vs) (few : AreFew vs) (i : ℕ) (v : View) (at : get_elem? vs i ≡ some v) (m : Mode) (stands : Stands p L (WasPast p base L) m v) (l : ℕ) (low : l < 8 * p.operations) where
-    abbrev After : Call → Type 0
+    abbrev After : TableStep → Type 0
     After call = (get_or (words_after c.words (word_of p call) (word_after call (found_at c.words (word_of p call)))) (place_index p l) 0 ≡ get_or c.words (place_index p l) 0)
         ⊎ IsOfLate (get_or (words_after c.words (word_of p call) (word_after call (found_at c.words (word_of p call)))) (place_index p l) 0)
 
@@ -62,7 +62,7 @@ module _ (p : Plan) (base : Core) (L : ℕ → Type 0) where
         (λ e. inr record { dropped = dropped; link = k; position = position; late = late; inside = inside; small = small; is = ap (λ x. get_or (Rattle.std.proofs.Common.set c.words (place_index p n) (place_word dropped k position)) (place_index p x) 0) e ∙ get_or-set_same c.words (place_index p n) (place_word dropped k position) 0 (let sized = sound.lawful.references.sized in omega (arith, sized, low, e)) })
         (λ far. inl (get_or-set_other c.words (place_index p n) (place_index p l) (place_word dropped k position) 0 (λ e. far (omega (arith, e)))))
 
-    place_after : (call : Call) → May p v call → After call
+    place_after : (call : TableStep) → May p v call → After call
     place_after (StorePlace n k position) may = let x = may.0 in let y = late_one x.mine.right may.1 in place_stored false n k position (subst L (sym may.3) y.0) (subst (λ z. z < p.links) (sym may.3) y.1)
         (subst (λ z. z < MOST_PLACES) (sym may.4) (places_small p (state c vs) sound.lawful i v at x.mine.place x.mine.right x.mine.has few x.now x.stage))
     place_after (DropPlace n k position) may = let x = may.0 in let y = late_one x.mine.right may.1 in place_stored true n k position (subst L (sym may.3) y.0) (subst (λ z. z < p.links) (sym may.3) y.1)

@@ -19,7 +19,7 @@ use Rattle.sock_model.specs.ChainRows.{with_claim, with_right, without_right, qu
 use Rattle.sock_model.specs.Layout.{ref_index}
 use Rattle.sock_model.specs.SlotRows.{looked, met_link}
 use Rattle.refused_attempts.specs.Below.sock_steps.proofs.Quiet.{either_way}
-use Rattle.seat_programs.specs.Calls.{Call, LookWord, ClaimRequest, PutMessage, Unconnect, SwapHead, EmptyHead, ReadNext, ReverseNext, FreeRequest, StorePlace, DropPlace}
+use Rattle.seat_programs.specs.Calls.{TableStep, LookWord, ClaimRequest, PutMessage, Unconnect, SwapHead, EmptyHead, ReadNext, ReverseNext, FreeRequest, StorePlace, DropPlace}
 use Rattle.seat_programs.specs.Heads.{Retry}
 use Rattle.seat_programs.specs.Programs.{Program, Do}
 use Rattle.seat_programs.specs.Cores.{Core, SeatState, resolved, next_step, found_at, waiting_at, hand_after, lies_at, others_of, link_place}
@@ -86,7 +86,7 @@ module _ (P : View → Type 0) (v : View) (same : P v) (r : Right) (rights : (s 
   drops (stages.Writes now) = rights (settled (dropped_right r now _)) refl
   drops _ = same
 
-abbrev IsNoClaim : Call → Type 0
+abbrev IsNoClaim : TableStep → Type 0
 IsNoClaim (ClaimRequest id q) = ⊥
 IsNoClaim other = Unit {0}
 
@@ -96,7 +96,7 @@ module _ (p : Plan) (v : View) (found : ℕ) (hand : Hand) where
     abbrev P : View → Type 0
     P u = Claiming C u.claims
 
-    claims_keep : (call : Call) → IsNoClaim call → Claiming C (row p call found hand v).claims
+    claims_keep : (call : TableStep) → IsNoClaim call → Claiming C (row p call found hand v).claims
     claims_keep (ClaimRequest id q) no_ = absurd no_
     claims_keep (PutMessage q heading bytes) no_ = claimed C v (λ c. filled_claim c heading bytes) (λ c. refl) v.claims e e
     claims_keep (Unconnect q) no_ = claimed C v ready_claim (λ c. refl) v.claims e e
@@ -112,7 +112,7 @@ module _ (p : Plan) (v : View) (found : ℕ) (hand : Hand) where
     kept : (r : Right) → R r.link → (s : Right) → s.link ≡ r.link → Righted R (s ∷ filter (λ (x : Right). not (x.link == s.link)) v.rights)
     kept r own s same = (subst R (sym same) own, filtered R (λ (x : Right). not (x.link == s.link)) v.rights e)
 
-    rights_keep : (call : Call) → IsNoSwap call → Righted R (row p call found hand v).rights
+    rights_keep : (call : TableStep) → IsNoSwap call → Righted R (row p call found hand v).rights
     rights_keep (LookWord id) no_ = by_rights Q R (looked (socket_id_slot id) found v) v.rights (looked_clean (socket_id_slot id) found v) e e
         (λ r own. either_way (vref_version found % 2 == 0) (with_right (looked (socket_id_slot id) found v) (record r { clean = true })) (looked (socket_id_slot id) found v) Q (kept r own (record r { clean = true }) refl) e)
     rights_keep (SwapHead i own) no_ = absurd no_
@@ -210,7 +210,7 @@ module _ (p : Plan) (L : ℕ → Type 0) (Old : ℕ → ℕ → Type 0) where
         by_hit true = record { claims = s.claims; rights = subst (λ rs. Righted Never (filter (λ (x : Right). not (x.link == r.link)) rs)) (sym may.1.1) (single r); new = tt }
         by_hit false = record { claims = s.claims; rights = (own.0, filtered L (λ (x : Right). not (x.link == r.link)) v.rights s.rights); new = tt }
 
-    pub step_stands : (call : Call) (next : ℕ → Program) (m : Mode) → Looks m (Do call next) → May p v call
+    pub step_stands : (call : TableStep) (next : ℕ → Program) (m : Mode) → Looks m (Do call next) → May p v call
         → ((id : ℕ) → call ≡ LookWord id → vref_version found % 2 ≡ 0 → Old (socket_id_slot id) (socket_id_version id) → ⊥)
         → ((id q : ℕ) → call ≡ ClaimRequest id q → (Old (socket_id_slot id) (socket_id_version id) → ⊥) → L hand.link)
         → Stands m v → (n : Mode) × Looks n (next found) × Stands n (row p call found hand v)

@@ -9,7 +9,7 @@ use Rattle.seat_programs.specs.sock_io.specs.declared.link.Put.TheVariants as pu
 use Rattle.seat_programs.specs.sock_model.specs.declared.chain.Heading.{Heading}
 use Rattle.seat_programs.specs.sock_model.specs.declared.home.Home.{Home}
 use Rattle.seat_programs.specs.sock_model.specs.declared.home.Home.TheVariants.{Empty, Link, Message}
-use Rattle.seat_programs.specs.Calls.{Call, TakeLink, FinishLink, PutLink, PutMessage}
+use Rattle.seat_programs.specs.Calls.{TableStep, TakeLink, FinishLink, PutLink, PutMessage}
 use Rattle.seat_programs.specs.Cores.{homes_after, hand_after, lies_at, first_of, others_of, finished, link_place}
 use Rattle.seat_programs.specs.Ticks.{fed, with_places, onto_first}
 use Rattle.id_runs.specs.Goes.{FitsHome, HandFits, HomesFit}
@@ -81,17 +81,17 @@ module _ (F : Heading → Type 0) where
   -- ## A step
 
   -- what is put has such a heading
-  abbrev pub PutFits : Call → Type 0
+  abbrev pub PutFits : TableStep → Type 0
   PutFits (PutMessage r heading bytes) = F heading
   PutFits other = Unit {0}
 
-  pub hand_fits : (p : Plan) (call : Call) (hs : List (Option Home)) (hand : List Home) → HomesFit F hs → HandFits F hand → HandFits F (hand_after p call hs hand)
+  pub hand_fits : (p : Plan) (call : TableStep) (hs : List (Option Home)) (hand : List Home) → HomesFit F hs → HandFits F hand → HandFits F (hand_after p call hs hand)
   hand_fits p (TakeLink k) hs hand homes fit = lies_fit hs (link_place p k) hand homes fit
   hand_fits p (PutLink k) hs hand homes fit = others_fit hand fit
   hand_fits p (FinishLink k) hs hand homes fit = finishes hs p k hand fit
   hand_fits p _ hs hand homes fit = fit
 
-  pub homes_fit : (p : Plan) (call : Call) → PutFits call → (hs : List (Option Home)) (hand : List Home) → HomesFit F hs → HandFits F hand → HomesFit F (homes_after p call hand hs)
+  pub homes_fit : (p : Plan) (call : TableStep) → PutFits call → (hs : List (Option Home)) (hand : List Home) → HomesFit F hs → HandFits F hand → HomesFit F (homes_after p call hand hs)
   homes_fit p (TakeLink k) may hs hand homes fit = home_away hs (link_place p k) homes
   homes_fit p (PutLink k) may hs hand homes fit = home_set hs (link_place p k) (first_of hand) (first_fits hand fit) homes
   homes_fit p (PutMessage r heading bytes) may hs hand homes fit = home_set hs r (some (Message heading bytes)) (λ y e. subst (FitsHome F) (some-injective (Message heading bytes) y e) may) homes

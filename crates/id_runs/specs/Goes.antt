@@ -13,7 +13,7 @@ use Rattle.corr_core.specs.declared.marks.Token.TheVariants.{Locked}
 use Rattle.id_rule.specs.Lawful.{Lawful, call_index, at_index}
 use Rattle.id_rule.specs.Plays.{Longer}
 use Rattle.seat_programs.specs.sock_message.specs.Asked.{Asked}
-use Rattle.seat_programs.specs.Calls.{Call, FindLink, LoadCode, StoreCode, PutMessage}
+use Rattle.seat_programs.specs.Calls.{TableStep, FindLink, LoadCode, StoreCode, PutMessage}
 use Rattle.seat_programs.specs.Writings.{Writing, Puts, Waits}
 use Rattle.seat_programs.specs.Asides.{Step, LoadCall, LoadAt, MakeId, LoadIdWord, LockId, PostId, UnlockId, TakeCall, Found}
 use Rattle.seat_programs.specs.Heads.{Head, Exit, Retry, Posts, Unlocks, Decides, Locks, Joins, Opens, Reads, Discards, Posting, HasLocked, Unlocking, IsOpen, HasNext, Locking, NotThere, Has, Ended}
@@ -33,7 +33,7 @@ use Rattle.sock_words.specs.Words.{id_slot, bit}
 -- ## What the table of the sockets says
 
 -- a link's number fits an at word, and a code an error
-abbrev pub FitsSock : Call → ℕ → Type 0
+abbrev pub FitsSock : TableStep → ℕ → Type 0
 FitsSock (FindLink i h) found = found < 65535
 FitsSock (LoadCode i h) found = found < 4096
 FitsSock other found = Unit {0}

@@ -14,7 +14,7 @@ use Rattle.corr_core.specs.Versions.{is_early}
 use Rattle.id_runs.proofs.Keeps.{parts_packed}
 use Rattle.seat_programs.specs.sock_message.specs.Asked.{Asked}
 use Rattle.seat_programs.specs.Asides.{Step, Found, MakeId, StoreCall, StoreAt, UnlockId, PutCall, LoadIdWord, PostId, LockId, EndId, FreeId, TakeCall, TakeBytes, Taking, Bytes, Nothing, Closed}
-use Rattle.seat_programs.specs.Calls.{Call, ClaimRequest, PutMessage, LoadOpen}
+use Rattle.seat_programs.specs.Calls.{TableStep, ClaimRequest, PutMessage, LoadOpen}
 use Rattle.seat_programs.specs.Heads.{Head, Exit, Sought, First, Version, Reading, Posts, Unlocks, Decides, Locks, Joins, Opens, Reads, Discards, Posting, WasGone, WasStale, WasCrowded, WasQueued, HasLocked, Unlocking, IsOpen, HasNext, Deciding, HasEnded, GoesOn, Locking, NotThere, Has, Ended}
 use Rattle.seat_programs.specs.Posts.{packed, is_first, is_sought, is_stale, is_full, judged, posted, post_with, post, popped, end_id, decide, decided, unlocked, locking, IsSoughtWord}
 use Rattle.seat_programs.specs.Programs.{Program, Do, Say, Sent, Rest, TakeMessage, TakeHome, PutHome, PutBytes, AskReady, Write, Aside, Round, Keep, Retries}
@@ -38,7 +38,7 @@ locked_parts w e one = ap (λ x. parts (packed x)) (ap (λ b. cond b (locked_wor
 -- ## What is known of a seat
 
 -- a step on the sockets that leaves what is known as it is
-abbrev pub is_plain : Call → Bool
+abbrev pub is_plain : TableStep → Bool
 is_plain (PutMessage q heading bytes) = false
 is_plain (ClaimRequest s q) = false
 is_plain call = true
@@ -81,8 +81,8 @@ module _ {K : Type 0} (lost : K) (G : K → Program → Type 0) where
 module _ {K : Type 0} (lost : K) (unlocked_behind : ℕ → ℕ → Bool → K → K) (locked_behind : Locking → K → K) (is_call : Asked → Type 0) (G : K → Program → Type 0) where
   -- each step keeps G
   pub record Tracks : Type 0 where
-    pub step : (t : K) (call : Call) (next : ℕ → Program) → is_plain call ≡ true → ((found : ℕ) → G t (next found)) → G t (Do call next)
-    pub looks : (t : K) (call : Call) (next : ℕ → Program) → is_plain call ≡ true → ((found : ℕ) → G lost (next found)) → G t (Do call next)
+    pub step : (t : K) (call : TableStep) (next : ℕ → Program) → is_plain call ≡ true → ((found : ℕ) → G t (next found)) → G t (Do call next)
+    pub looks : (t : K) (call : TableStep) (next : ℕ → Program) → is_plain call ≡ true → ((found : ℕ) → G lost (next found)) → G t (Do call next)
     pub claim : (s q : ℕ) (next : ℕ → Program) → ((found : ℕ) → G lost (next found)) → G lost (Do (ClaimRequest s q) next)
     pub send : (q o : ℕ) (bytes : List ℕ) (next : ℕ → Program) → ((found : ℕ) → G lost (next found)) → G lost (Do (PutMessage q (heading_of o) bytes) next)
     pub passes : (t : K) (program : Program) → HoldsBehind lost G t program → G t program

@@ -10,7 +10,7 @@ use Rattle.seat_programs.specs.declared.task.Sizes.{Sizes}
 use Rattle.seat_programs.specs.declared.task.Task.{Task}
 use Rattle.seat_programs.specs.Asides.{Step, Found, PutCall, MakeId, StoreAt, UnlockId}
 use Rattle.seat_programs.specs.Attempts.{claims_from, heading_for, attempt, begin_call, claim_id, call, tried_again, retry_locked, retry}
-use Rattle.seat_programs.specs.Calls.{Call, PutMessage, FindLink, LookWord}
+use Rattle.seat_programs.specs.Calls.{TableStep, PutMessage, FindLink, LookWord}
 use Rattle.seat_programs.specs.Clients.{HeldLife, client_from, ending_of}
 use Rattle.seat_programs.specs.Heads.{Head, Exit, Posts, Decides, Opens, First, Unlocks, Locks, Joins, Reads, Discards, Unlocking, IsOpen, HasNext, Locking, NotThere, Has}
 use Rattle.seat_programs.specs.Posts.{post, decided}
@@ -39,11 +39,11 @@ found_is t i from found true f a = ap (λ x. Tries (call_id i x) ((parts from).a
 found_is t i from found false f a = refl
 
 module _ (is_call : Asked → Type 0) where
-  may_plain : (t : Trial) (call : Call) → is_plain call ≡ true → MayPut is_call t call
+  may_plain : (t : Trial) (call : TableStep) → is_plain call ≡ true → MayPut is_call t call
   may_plain t (PutMessage q heading bytes) plain = absurd (let e = plain in cc)
   may_plain t call plain = tt
 
-  stays_plain : (t : Trial) (call : Call) → is_plain call ≡ true → Kept (put_behind t call) t
+  stays_plain : (t : Trial) (call : TableStep) → is_plain call ≡ true → Kept (put_behind t call) t
   stays_plain t (PutMessage q heading bytes) plain = absurd (let e = plain in cc)
   stays_plain t call plain = inl refl
 

@@ -9,7 +9,7 @@ use Rattle.id_runs.specs.Goes.{FitsSock}
 use Rattle.seat_programs.specs.sock_message.specs.Asked.{Asked, frame_of}
 use Rattle.seat_programs.specs.Asides.{Step, Found, PutCall, MakeId, StoreAt, UnlockId, TakeCall}
 use Rattle.seat_programs.specs.Attempts.{heading_for}
-use Rattle.seat_programs.specs.Calls.{Call, PutMessage}
+use Rattle.seat_programs.specs.Calls.{TableStep, PutMessage}
 use Rattle.seat_programs.specs.Heads.{Head, Exit, Sought, First, Posts, Unlocks, Decides, Locks, Posting, HasLocked, Unlocking, HasNext, Locking, NotThere, Has}
 use Rattle.seat_programs.specs.Posts.{IsSoughtWord}
 use Rattle.seat_programs.specs.Programs.{Program, Do, Say, Sent, Rest, TakeMessage, TakeHome, PutHome, PutBytes, AskReady, Write, Aside, Round, Keep, Retries}
@@ -21,7 +21,7 @@ pub data Trial : Type 0 where
   Sends : ℕ → ℕ → ℕ → Trial
 
 -- behind it the claim has the attempt
-abbrev pub put_behind : Trial → Call → Trial
+abbrev pub put_behind : Trial → TableStep → Trial
 put_behind t (PutMessage q heading bytes) = Idle
 put_behind t other = t
 
@@ -91,7 +91,7 @@ module _ (is_call : Asked → Type 0) where
   IsOfTrial (Sends o id n) heading bytes = (asked : Asked) × is_call asked × (asked.operation ≡ o) × (heading ≡ heading_for asked id n) × (bytes ≡ frame_of asked id n)
   IsOfTrial other heading bytes = ⊥
 
-  abbrev pub MayPut : Trial → Call → Type 0
+  abbrev pub MayPut : Trial → TableStep → Type 0
   MayPut t (PutMessage q heading bytes) = ((heading.owner ≡ 0) × (heading.parts ≡ [])) ⊎ IsOfTrial t heading bytes
   MayPut t other = Unit {0}
 

@@ -14,7 +14,7 @@ use Rattle.sock_model.specs.Messages.{Letter}
 use Rattle.sock_model.specs.Reads.{message, link_home}
 use Rattle.sock_model.specs.Lawful.{Lawful}
 use Rattle.sock_model.specs.Plain.{Event, Nothing, Becomes, Leads, plain}
-use Rattle.seat_programs.specs.Calls.{Call, ClaimSlot, CreateLife, AddRef, SubRef, SetOdd, Recycle, FreeSlot, StoreLink, ResetHead, ClearCode, StoreCode}
+use Rattle.seat_programs.specs.Calls.{TableStep, ClaimSlot, CreateLife, AddRef, SubRef, SetOdd, Recycle, FreeSlot, StoreLink, ResetHead, ClearCode, StoreCode}
 use Rattle.seat_programs.specs.Programs.{Program, Do, TakeMessage, TakeHome, PutHome, PutBytes, Write, Round}
 use Rattle.seat_programs.specs.Rounds.{round, first_step}
 use Rattle.seat_programs.specs.Cores.{Core, SeatState, found_at}
@@ -40,7 +40,7 @@ use Rattle.life_events.proofs.Grown.{Same, same_marks, silent_more}
 use Rattle.life_events.proofs.Steps.{nothing, marks_event, claim_event, birth_event, add_event, sub_event, fail_event, recycle_event, free_event, stage_event, code_event}
 
 -- each step is its event
-pub each_step : {S : Type 0} (shows : S → Home) (p : Plan) (s : State S View) → Lawful shows p s → (id : ℕ) (v : View) → get_elem? s.views id ≡ some v → (call : Call) (hand : Hand) → May p v call
+pub each_step : {S : Type 0} (shows : S → Home) (p : Plan) (s : State S View) → Lawful shows p s → (id : ℕ) (v : View) → get_elem? s.views id ≡ some v → (call : TableStep) (hand : Hand) → May p v call
     → Becomes (plain s.views) (event_of id call (found_at s.words (word_of p call)) v) (plain (set s.views id (row p call (found_at s.words (word_of p call)) hand v)))
 each_step shows p s o id v here (ClaimSlot i) hand may = claim_event shows p s o id v here i (found_at s.words (word_of p (ClaimSlot i)))
 each_step shows p s o id v here (CreateLife i k) hand may = birth_event shows p s o id v here i may.0 k may.1

@@ -18,7 +18,7 @@ use Rattle.sock_model.specs.Messages.{Letter}
 use Rattle.sock_model.specs.Reads.{message, link_home}
 use Rattle.sock_model.specs.Lawful.{Lawful}
 use Rattle.sock_model.specs.Rule.{Lasting, of_name, of_open, of_request, Rule}
-use Rattle.seat_programs.specs.Calls.{Call, StoreName, LoadName, StoreOpen, LoadOpen, ClaimRequest, SwapHead, FreeRequest}
+use Rattle.seat_programs.specs.Calls.{TableStep, StoreName, LoadName, StoreOpen, LoadOpen, ClaimRequest, SwapHead, FreeRequest}
 use Rattle.seat_programs.specs.Programs.{Program, Do, TakeMessage, TakeHome, PutHome, PutBytes, AskReady, Write, Aside, Round}
 use Rattle.seat_programs.specs.Asides.{Step, Found}
 use Rattle.seat_programs.specs.Beside.{found_in}
@@ -56,12 +56,12 @@ module _ (p : Plan) (ws : List ℕ) (sized : length ws ≡ all_words p) where
   same_lasts vs x y e same some_ z = some_ (sym (subst (λ n. get_or vs n 0 ≡ get_or ws n 0) (sym e) same) ∙ z)
 
   -- a step on no word of a name, an operation or a request
-  lasts_left : (v : View) (call : Call) → May p v call → (stored : ℕ) → eqb (sort_in (table_word call)) 5 ≡ false → eqb (sort_in (table_word call)) 6 ≡ false → eqb (sort_in (table_word call)) 7 ≡ false → Lasts p ws (words_after ws (word_of p call) stored)
+  lasts_left : (v : View) (call : TableStep) → May p v call → (stored : ℕ) → eqb (sort_in (table_word call)) 5 ≡ false → eqb (sort_in (table_word call)) 6 ≡ false → eqb (sort_in (table_word call)) 7 ≡ false → Lasts p ws (words_after ws (word_of p call) stored)
   lasts_left v call may stored name open_ request x (of_name n l e) = same_lasts (words_after ws (word_of p call) stored) x (name_index p n) e (word_stays p ws v call may stored (NameOf n) l (omega arith) name)
   lasts_left v call may stored name open_ request x (of_open o l e) = same_lasts (words_after ws (word_of p call) stored) x (open_index p o) e (word_stays p ws v call may stored (OpenOf o) l (omega arith) open_)
   lasts_left v call may stored name open_ request x (of_request q l e) = same_lasts (words_after ws (word_of p call) stored) x (request_index p q) e (word_stays p ws v call may stored (RequestOf q) l (omega arith) request)
 
-  pub call_lasts : (v : View) (call : Call) → May p v call → Lasts p ws (words_after ws (word_of p call) (word_after call (found_at ws (word_of p call))))
+  pub call_lasts : (v : View) (call : TableStep) → May p v call → Lasts p ws (words_after ws (word_of p call) (word_after call (found_at ws (word_of p call))))
   call_lasts v (StoreName n w) may = lasts_set p ws sized (name_index p n) w (λ l. positive w may.1)
   call_lasts v (LoadName n) may = load_lasts (some (NameOf n))
   call_lasts v (StoreOpen o w) may = lasts_set p ws sized (open_index p o) w (λ l. ⊎_elim (λ e z. absurd (omega arith)) (λ a. positive w a.0) may.1)
@@ -137,7 +137,7 @@ module _ (p : Plan) (c : Core) (views : List View) (sound : Sound p c views) (al
   abbrev Kept : Core → List View → Type 0
   Kept c' views' = Lawful (λ (home : Home). home) p (state c' views') → Rule (λ (home : Home). home) p (state c' views') × OfTable p views'
 
-  row_rule : (v : View) → get_elem? views i ≡ some v → (hand : List Home) (call : Call) → May p v call
+  row_rule : (v : View) → get_elem? views i ≡ some v → (hand : List Home) (call : TableStep) → May p v call
       → Lawful (λ (home : Home). home) p record { words = words_after c.words (word_of p call) (word_after call (found_at c.words (word_of p call))); homes = homes_after p call hand c.homes; views = set views i (row p call (found_at c.words (word_of p call)) (hand_at p c.words c.homes call) v) }
       → Rule (λ (home : Home). home) p record { words = words_after c.words (word_of p call) (word_after call (found_at c.words (word_of p call))); homes = homes_after p call hand c.homes; views = set views i (row p call (found_at c.words (word_of p call)) (hand_at p c.words c.homes call) v) }
   row_rule v here hand (SwapHead j own) may law = let x = may.1 in let found : ℕ = get_or c.words (head_index j) 0 in let took : Hand = hand_at p c.words c.homes (SwapHead j own) in

@@ -8,7 +8,7 @@ use Rattle.sock_model.specs.declared.chain.Heading.{Heading}
 use Rattle.sock_model.specs.declared.home.Home.{Home}
 use Rattle.sock_model.specs.Messages.{Letter}
 use Rattle.sock_model.specs.Reads.{message, link_home}
-use Rattle.seat_programs.specs.Calls.{Call}
+use Rattle.seat_programs.specs.Calls.{TableStep}
 use Rattle.seat_programs.specs.Asides as asides
 use Rattle.seat_programs.specs.Asides.{Found}
 use Rattle.seat_programs.specs.Beside.{found_in, calls_after}
@@ -27,7 +27,7 @@ use Rattle.seat_states.specs.declared.point.SendStep.TheVariants as sends
 use Rattle.seat_states.specs.declared.point.WriteStep.TheVariants as writes
 use Rattle.seat_states.specs.declared.point.Author.{Author}
 use Rattle.seat_states.specs.Points.{Context, point_program, heading_by, TakesMessage, TakesLink, PutsHome, PutsPiece, Asks, after_message, after_link, after_home, after_put, after_ready, ready_behind}
-use Rattle.seat_states.specs.Steps.{First, OfCall, OfAside, OfMessage, OfLink, OfHome, first_in}
+use Rattle.seat_states.specs.Steps.{First, OfTable, OfAside, OfMessage, OfLink, OfHome, first_in}
 use Rattle.seat_states.specs.Steps as kinds
 use Rattle.machine_model.specs.Links.{IsClear, IsPaced}
 use Rattle.seat_programs.specs.Rounds.{first_step}
@@ -50,7 +50,7 @@ after_first _ found = refl
 
 -- the program of a first step
 abbrev pub IsStep : Program → First → Type 0
-IsStep x (OfCall call) = (next : ℕ → Program) × (x ≡ Do call next)
+IsStep x (OfTable call) = (next : ℕ → Program) × (x ≡ Do call next)
 IsStep x (OfAside step) = (next : Found step → Program) × (x ≡ Aside step next)
 IsStep x (OfMessage q) = (next : Heading → List ℕ → Program) × (x ≡ TakeMessage q next)
 IsStep x (OfLink k) = (next : ℕ → Program) × (x ≡ TakeHome k next)
@@ -135,9 +135,9 @@ module _ (p : Plan) (i : ℕ) (s : SeatState) (c : Core) (program : Program) whe
   by_step : (answer : Answer) (x : Program) (d : Core) → first_step program ≡ x → step_with p i s c answer x ≡ d → Ticks answer d
   by_step answer x d e f = ticks_first p i s c answer program ∙ ap (step_with p i s c answer) e ∙ f
 
-  pub word_tick : (answer : Answer) (call : Call) → first_in program ≡ Some (OfCall call) → let found = found_at c.words (word_of p call) in
+  pub word_tick : (answer : Answer) (call : TableStep) → first_in program ≡ Some (OfTable call) → let found = found_at c.words (word_of p call) in
       Ticks answer (with_seat i (after_word program found) (hand_after p call c.homes s.hand) (words_after c.words (word_of p call) (word_after call found)) (homes_after p call s.hand c.homes) c)
-  word_tick answer call e = let x = step_is program (OfCall call) e in let found = found_at c.words (word_of p call) in by_step answer (Do call x.0) _ x.1
+  word_tick answer call e = let x = step_is program (OfTable call) e in let found = found_at c.words (word_of p call) in by_step answer (Do call x.0) _ x.1
       (ap (λ (q : Program). with_seat i q (hand_after p call c.homes s.hand) (words_after c.words (word_of p call) (word_after call found)) (homes_after p call s.hand c.homes) c)
       (sym (after_first program found ∙ ap (λ (y : Program). word_behind y found) x.1)))
 

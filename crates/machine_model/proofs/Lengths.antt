@@ -14,7 +14,7 @@ use Rattle.seat_programs.specs.Cores.{resolved, said}
 use Rattle.seat_programs.specs.Ticks.{Answer}
 use Rattle.seat_states.specs.declared.point.Step.{Step}
 use Rattle.seat_states.specs.declared.point.Step.TheVariants as firsts
-use Rattle.seat_states.specs.Steps.{First, OfCall, OfAside, OfMessage, OfLink, OfHome}
+use Rattle.seat_states.specs.Steps.{First, OfTable, OfAside, OfMessage, OfLink, OfHome}
 use Rattle.seat_states.specs.Steps as kinds
 use Rattle.client_seats.specs.Seats.{SeatData}
 use Rattle.machine_model.specs.declared.letter.Letter.{Letter}
@@ -27,7 +27,7 @@ length_said (Say o outcome next) os = length_said next (slice_set os o (Some out
 length_said (Sent o next) os = length_said next os
 length_said _ os = refl
 
-pub length_holders : (i : ℕ) (call : calls.Call) (holders : List (Option ℕ)) → length (holders_after i call holders) ≡ length holders
+pub length_holders : (i : ℕ) (call : calls.TableStep) (holders : List (Option ℕ)) → length (holders_after i call holders) ≡ length holders
 length_holders i (calls.TakeLink k) holders = length-set holders k (Some i)
 length_holders i (calls.PutLink k) holders = length-set holders k None
 length_holders i _ holders = refl
@@ -36,7 +36,7 @@ length_letters : (seat : SeatData) (step : Step) (old fresh : List (Option Lette
 length_letters seat (firsts.PutMessage q author) old fresh h = ap length h.fresh_are ∙ length-set old q (Some h.letter)
 length_letters seat _ old fresh h = ap length h
 
-pub length_outs : (call : calls.Call) (old fresh : List OutState) → OutsAfter call old fresh → length fresh ≡ length old
+pub length_outs : (call : calls.TableStep) (old fresh : List OutState) → OutsAfter call old fresh → length fresh ≡ length old
 length_outs (calls.FinishLink k) old fresh o = ap length o.3 ∙ length-set old k o.1
 length_outs _ old fresh o = ap length o
 
@@ -66,7 +66,7 @@ module _ (old fresh : MachineState) (i : ℕ) (place seat' : SeatData) (step : S
   }
 
   pub as_many : (first : First) (answer : Answer) → MadeFirst (table_of old) (table_of fresh) i place seat' step first answer → AsMany (table_of old) (table_of fresh)
-  as_many (OfCall call) answer w = record {
+  as_many (OfTable call) answer w = record {
     letters = length_letters place step old.letters fresh.letters w.1.letters;
     holders = ap length w.1.holders ∙ length_holders i call old.links.holders;
     nexts = ap length w.1.nexts;

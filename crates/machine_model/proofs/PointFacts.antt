@@ -37,7 +37,7 @@ use Rattle.seat_states.specs.declared.point.Author.TheVariants as authors
 use Rattle.seat_states.specs.declared.point.Point.{Point}
 use Rattle.seat_states.specs.declared.point.Point.TheVariants as points
 use Rattle.seat_states.specs.Points.{Context, point_program, look_program, after_program, IsWithin, IsWithinIds, MayFind, MayFindAside, MayFindId, GoesByWord, TakesCall}
-use Rattle.seat_states.specs.Steps.{First, OfCall, OfAside, first_of, first_in}
+use Rattle.seat_states.specs.Steps.{First, OfTable, OfAside, first_of, first_in}
 use Rattle.reader_points.specs.Points as reading
 use Rattle.reader_points.specs.declared.point.Closing.{Closing}
 use Rattle.reader_points.specs.declared.point.ReadPoint.{ReadPoint}
@@ -64,7 +64,7 @@ no_take (asides.TakeBytes k room) p goes = absurd goes
 no_take _ p goes = tt
 
 abbrev Beside : Option First → Point → Type 0
-Beside (Some (OfCall call)) p = (found : ℕ) → FitsSock call found → MayFindAside p found
+Beside (Some (OfTable call)) p = (found : ℕ) → FitsSock call found → MayFindAside p found
 Beside (Some (OfAside step)) p = GoesAside step p × ((sizes : Sizes) → IsWithin sizes p) × ((found : ℕ) → MayFind p found) × ((found : ℕ) → ((o : ℕ) → step ≡ asides.LoadCall o → MayFindId found) → MayFindAside p found)
 Beside other p = Unit {0}
 
@@ -119,8 +119,8 @@ module _ (a : Context) (p : Point) where
   beside_at first e = subst (λ (o : Option First). Beside o p) e (beside_facts a p)
 
   -- what a step on a word finds is as the ids need it
-  pub finds_beside : (call : calls.Call) (found : ℕ) → first_in (point_program a p) ≡ Some (OfCall call) → FitsSock call found → MayFindAside p found
-  finds_beside call found e fits = beside_at (OfCall call) e found fits
+  pub finds_beside : (call : calls.TableStep) (found : ℕ) → first_in (point_program a p) ≡ Some (OfTable call) → FitsSock call found → MayFindAside p found
+  finds_beside call found e fits = beside_at (OfTable call) e found fits
 
   -- and of a step aside
   pub takes_none : (step : asides.Step) → first_in (point_program a p) ≡ Some (OfAside step) → NoTake step
@@ -176,7 +176,7 @@ module _ (p : Plan) (q : IdPlan) (few : q.slots ≤ 4096) where
 -- ## Of a reader
 
 abbrev OnWord : Option First → (ℕ → Type 0) → Type 0
-OnWord (Some (OfCall call)) Finds = (found : ℕ) → AllowsWord call found → Finds found
+OnWord (Some (OfTable call)) Finds = (found : ℕ) → AllowsWord call found → Finds found
 OnWord (Some (OfAside step)) Finds = (found : ℕ) → Finds found
 OnWord other Finds = Unit {0}
 
@@ -192,10 +192,10 @@ closes_finds a c _ = (λ found h. tt)
 
 module _ (a : reading.Context) (x : ReadPoint) where
   -- what a reader finds
-  pub reads_word : (call : calls.Call) (found : ℕ) → first_in (reading.point_program a x) ≡ Some (OfCall call) → AllowsWord call found → reading.MayFind x found
+  pub reads_word : (call : calls.TableStep) (found : ℕ) → first_in (reading.point_program a x) ≡ Some (OfTable call) → AllowsWord call found → reading.MayFind x found
   reads_word call found e allowed = by_point x e
     where
-      by_point : (y : ReadPoint) → first_in (reading.point_program a y) ≡ Some (OfCall call) → reading.MayFind y found
+      by_point : (y : ReadPoint) → first_in (reading.point_program a y) ≡ Some (OfTable call) → reading.MayFind y found
       by_point (reads.Close c at) e = (subst (λ (o : Option First). OnWord o (reading.MayFindClosing at)) e (closes_finds a c at)) found allowed
       by_point _ e = tt
 

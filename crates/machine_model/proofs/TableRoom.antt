@@ -1,14 +1,14 @@
 -- A seat that asks no link, makes no step aside of the sockets and holds no life wants no room.
 use Rattle.std.proofs.Common.{◌≡◌, refl, ℕ, ◌<◌, ◌⊎◌, inl, inr, ⊎_elim, Some, vec_len, vec_capacity, sym, subst}
 use Rattle.sock_words.specs.declared.socket_id.SocketId.{SocketId}
-use Rattle.seat_programs.specs.Calls.{Call}
+use Rattle.seat_programs.specs.Calls.{TableStep}
 use Rattle.seat_programs.specs.Programs.{Program, Do, Say, Sent, Rest, Retries}
 use Rattle.call_points.specs.Steps.{after_word}
 use Rattle.seat_states.specs.declared.point.Step.{Step}
 use Rattle.seat_states.specs.declared.point.Next.{Next}
 use Rattle.seat_states.specs.declared.point.Next.TheVariants as nexts
 use Rattle.seat_states.specs.Points.{Context, next_program}
-use Rattle.seat_states.specs.Steps.{First, OfCall, step_as, first_in}
+use Rattle.seat_states.specs.Steps.{First, OfTable, step_as, first_in}
 use Rattle.client_seats.specs.declared.seat.Seat.{Seat}
 use Rattle.client_seats.specs.Seats.{SeatData, seat_data, around, seat_program}
 use Rattle.client_seats.specs.Following.{HasRoom}
@@ -27,7 +27,7 @@ after_none _ found x = absurd x
 
 -- a step on a word, or a message that goes home
 abbrev pub IsCall : First → Type 0
-IsCall (OfCall call) = Unit {0}
+IsCall (OfTable call) = Unit {0}
 IsCall other = ⊥
 
 -- it makes no other
@@ -45,7 +45,7 @@ needs {R} t seat {step} is other e next = ⊎_elim (λ room. room)
     (λ plain. absurd (other (only_calls (seat_program (table_sizes t) seat) (step_as (around (table_sizes t) seat) is) (subst (λ (x : Step). IsNext t seat x) e next) plain)))
 
 -- and that is none of a message
-pub puts_none : (program : Program) (call : Call) → first_in program ≡ Some (OfCall call) → AsksNone program → PutsNone call
+pub puts_none : (program : Program) (call : TableStep) → first_in program ≡ Some (OfTable call) → AsksNone program → PutsNone call
 puts_none (Do own next) call e x = let same : own ≡ call = cc in subst PutsNone same x.0
 puts_none (Say o outcome next) call e x = cc
 puts_none (Sent o next) call e x = cc

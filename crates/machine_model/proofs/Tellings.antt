@@ -30,10 +30,10 @@ use Rattle.seat_states.specs.declared.point.Author.{Author}
 use Rattle.seat_states.specs.declared.point.Point.{Point}
 use Rattle.seat_states.specs.declared.point.Point.TheVariants as points
 use Rattle.seat_states.specs.Points.{Context, point_program, heading_by, parts_by, Asks}
-use Rattle.seat_states.specs.Steps.{First, OfCall, OfAside, OfMessage, OfLink, OfHome, first_of, first_in, kind_of_first}
+use Rattle.seat_states.specs.Steps.{First, OfTable, OfAside, OfMessage, OfLink, OfHome, first_of, first_in, kind_of_first}
 use Rattle.seat_states.specs.Steps as kinds
 use Rattle.seat_states.specs.Steps.{step_of, step_as}
-use Rattle.seat_states.specs.declared.call.Call.{Call}
+use Rattle.seat_states.specs.declared.table_step.TableStep.{TableStep}
 use Rattle.seat_states.specs.declared.point.Step.{Step}
 use Rattle.seat_states.specs.declared.point.Step.TheVariants as firsts
 use Rattle.sock_model.specs.declared.chain.Heading.{Heading}
@@ -63,7 +63,7 @@ kind_first program first kind e f = rw f (kind_is program ∙ ap (option_map kin
 -- ## Waiting
 
 -- a message goes home
-abbrev PutsMessage : calls.Call → Type 0
+abbrev PutsMessage : calls.TableStep → Type 0
 PutsMessage (calls.PutMessage q heading bytes) = Unit {0}
 PutsMessage other = ⊥
 
@@ -71,7 +71,7 @@ module _ (p : Plan) (c : Core) where
   -- a step on a word waits by the word that it finds
   abbrev WaitsIs : Option First → Program → Type 0
   WaitsIs None program = Unit {0}
-  WaitsIs (Some (OfCall call)) program = (waits_at p c Unasked program ≡ waits_by program (found_at c.words (word_of p call))) × (PutsMessage call → waits_at p c Unasked program ≡ false)
+  WaitsIs (Some (OfTable call)) program = (waits_at p c Unasked program ≡ waits_by program (found_at c.words (word_of p call))) × (PutsMessage call → waits_at p c Unasked program ≡ false)
   WaitsIs (Some (OfAside step)) program = (found : ℕ) → found_in step c.calls core.none ≡ word_found step found → waits_at p c Unasked program ≡ waits_by program found
   WaitsIs (Some (OfMessage q)) program = waits_at p c Unasked program ≡ false
   WaitsIs (Some (OfLink k)) program = waits_at p c Unasked program ≡ false
@@ -104,14 +104,14 @@ module _ (p : Plan) (c : Core) where
   waits_first : (program : Program) (first : First) → first_in program ≡ Some first → WaitsIs (Some first) program
   waits_first program first e = subst (λ (o : Option First). WaitsIs o program) e (waits_is program)
 
-  pub call_waits : (program : Program) (call : calls.Call) → first_in program ≡ Some (OfCall call) → waits_at p c Unasked program ≡ waits_by program (found_at c.words (word_of p call))
-  call_waits program call e = (waits_first program (OfCall call) e).0
+  pub call_waits : (program : Program) (call : calls.TableStep) → first_in program ≡ Some (OfTable call) → waits_at p c Unasked program ≡ waits_by program (found_at c.words (word_of p call))
+  call_waits program call e = (waits_first program (OfTable call) e).0
 
   pub aside_waits : (program : Program) (step : asides.Step) (found : ℕ) → first_in program ≡ Some (OfAside step) → found_in step c.calls core.none ≡ word_found step found → waits_at p c Unasked program ≡ waits_by program found
   aside_waits program step found e h = waits_first program (OfAside step) e found h
 
-  pub letter_waits : (program : Program) (q : ℕ) (heading : Heading) (bytes : List ℕ) → first_in program ≡ Some (OfCall (calls.PutMessage q heading bytes)) → waits_at p c Unasked program ≡ false
-  letter_waits program q heading bytes e = (waits_first program (OfCall (calls.PutMessage q heading bytes)) e).1 tt
+  pub letter_waits : (program : Program) (q : ℕ) (heading : Heading) (bytes : List ℕ) → first_in program ≡ Some (OfTable (calls.PutMessage q heading bytes)) → waits_at p c Unasked program ≡ false
+  letter_waits program q heading bytes e = (waits_first program (OfTable (calls.PutMessage q heading bytes)) e).1 tt
 
   pub message_waits : (program : Program) (q : ℕ) → first_in program ≡ Some (OfMessage q) → waits_at p c Unasked program ≡ false
   message_waits program q e = waits_first program (OfMessage q) e
@@ -148,7 +148,7 @@ next_is old seat step step' e next = subst (λ (x : Step). IsNext old seat x) e 
 pub waits_for : (program : Program) (o : Option On) (on_ : On) → o ≡ Some on_ → IfSome o (IsWaitingFor program) → IsWaitingFor program on_
 waits_for program o on_ some is = subst (λ (x : Option On). IfSome x (IsWaitingFor program)) some is
 
-call_waiting : (old : TableState) (seat : SeatData) (call : Call) (found : ℕ) (o : Option On) → IsNext old seat (firsts.Call call) → found ≡ found_at old.words (word_of old.plan (step_of call)) → is_some o ≡ waits_by (seat_program (table_sizes old) seat) found → is_waiting old Unasked (seat_program (table_sizes old) seat) ≡ is_some o
+call_waiting : (old : TableState) (seat : SeatData) (call : TableStep) (found : ℕ) (o : Option On) → IsNext old seat (firsts.Table call) → found ≡ found_at old.words (word_of old.plan (step_of call)) → is_some o ≡ waits_by (seat_program (table_sizes old) seat) found → is_waiting old Unasked (seat_program (table_sizes old) seat) ≡ is_some o
 call_waiting old seat call found o next f awaited = call_waits old.plan (words_of old) (seat_program (table_sizes old) seat) (step_of call) next ∙ ap (waits_by (seat_program (table_sizes old) seat)) (sym f) ∙ sym awaited
 
 aside_waiting : (old : TableState) (seat : SeatData) (aside : code.Aside) (found : ℕ) (o : Option On) → IsNext old seat (firsts.Aside aside) → FoundBeside old seat aside found → is_some o ≡ waits_by (seat_program (table_sizes old) seat) found → is_waiting old Unasked (seat_program (table_sizes old) seat) ≡ is_some o
@@ -172,13 +172,13 @@ module _ {old fresh : TableState} {i : ℕ} {seat seat' : SeatData} {step : Step
   waited on_ step' answer e makes waits is = record { answer = answer; makes = makes_is step' answer e makes; tells = (waits, is) }
 
   module _ (kind : Kind) (next : IsNext old seat step) (is : kind ≡ kind_of_first (step_as (around (table_sizes old) seat) step)) where
-    pub call_moved : (call : Call) (found : ℕ) (o : Option On) → step ≡ firsts.Call call → Makes old fresh i seat seat' (firsts.Call call) Unasked → found ≡ found_at old.words (word_of old.plan (step_of call)) →
+    pub call_moved : (call : TableStep) (found : ℕ) (o : Option On) → step ≡ firsts.Table call → Makes old fresh i seat seat' (firsts.Table call) Unasked → found ≡ found_at old.words (word_of old.plan (step_of call)) →
         is_some o ≡ waits_by (seat_program (table_sizes old) seat) found → o ≡ None → StepTold old fresh i seat seat' step (Moved kind)
-    call_moved call found o e makes f awaited none = moved kind (firsts.Call call) Unasked e next is makes (call_waiting old seat call found o (next_is old seat step (firsts.Call call) e next) f awaited ∙ ap is_some none)
+    call_moved call found o e makes f awaited none = moved kind (firsts.Table call) Unasked e next is makes (call_waiting old seat call found o (next_is old seat step (firsts.Table call) e next) f awaited ∙ ap is_some none)
 
-    pub call_waited : (call : Call) (found : ℕ) (o : Option On) (on_ : On) → step ≡ firsts.Call call → Makes old fresh i seat seat' (firsts.Call call) Unasked → found ≡ found_at old.words (word_of old.plan (step_of call)) →
+    pub call_waited : (call : TableStep) (found : ℕ) (o : Option On) (on_ : On) → step ≡ firsts.Table call → Makes old fresh i seat seat' (firsts.Table call) Unasked → found ≡ found_at old.words (word_of old.plan (step_of call)) →
         is_some o ≡ waits_by (seat_program (table_sizes old) seat) found → IfSome o (IsWaitingFor (seat_program (table_sizes old) seat)) → o ≡ Some on_ → StepTold old fresh i seat seat' step (Waits on_)
-    call_waited call found o on_ e makes f awaited for some = waited on_ (firsts.Call call) Unasked e makes (call_waiting old seat call found o (next_is old seat step (firsts.Call call) e next) f awaited ∙ ap is_some some) (waits_for (seat_program (table_sizes old) seat) o on_ some for)
+    call_waited call found o on_ e makes f awaited for some = waited on_ (firsts.Table call) Unasked e makes (call_waiting old seat call found o (next_is old seat step (firsts.Table call) e next) f awaited ∙ ap is_some some) (waits_for (seat_program (table_sizes old) seat) o on_ some for)
 
     pub aside_moved : (aside : code.Aside) (found : ℕ) (o : Option On) → step ≡ firsts.Aside aside → Makes old fresh i seat seat' (firsts.Aside aside) Unasked → FoundBeside old seat aside found →
         is_some o ≡ waits_by (seat_program (table_sizes old) seat) found → o ≡ None → StepTold old fresh i seat seat' step (Moved kind)

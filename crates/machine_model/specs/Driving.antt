@@ -2,7 +2,7 @@
 use Rattle.std.specs.Prelude.{ℕ, ◌≡◌, ◌≢◌, ◌-◌, ◌<◌, ◌≤◌, true, false, [], Result, IfOk, OnOk, slice_set}
 use mathlib.Core.Option as core
 use lib.ListN.{get_elem?}
-use Rattle.seat_programs.specs.Calls.{Call, PutMessage}
+use Rattle.seat_programs.specs.Calls.{TableStep, PutMessage}
 use Rattle.seat_programs.specs.Programs.{Program, Do, Say, Sent, Rest, Retries}
 use Rattle.seat_programs.specs.Clients.{ending_of}
 use Rattle.seat_programs.specs.Cores.{next_step}
@@ -56,7 +56,7 @@ IsOther other kind = ⊥
 -- ## Seat 0, which asks no link, holds no life and calls nothing
 
 -- a step that puts no message into its home
-abbrev pub PutsNone : Call → Type 0
+abbrev pub PutsNone : TableStep → Type 0
 PutsNone (PutMessage request heading bytes) = ⊥
 PutsNone other = Unit {0}
 

@@ -21,7 +21,7 @@ use Rattle.call_points.specs.Steps.{after_word}
 use Rattle.call_slots.specs.Steps as slots
 use Rattle.call_slots.specs.Steps.{word_found}
 use Rattle.call_points.specs.Steps as aside_steps
-use Rattle.seat_states.specs.Steps.{First, OfCall, OfAside, first_in, step_of}
+use Rattle.seat_states.specs.Steps.{First, OfTable, OfAside, first_in, step_of}
 use Rattle.reader_points.specs.declared.point.ReadStep.{ReadStep}
 use Rattle.reader_points.specs.declared.point.ReadStep.TheVariants as steps
 use Rattle.reader_points.specs.Points.{IsWithin, MayFind}
@@ -56,7 +56,7 @@ pub record MayRead (reader : ReaderData) (found : ℕ) : Type 0 where
   pub word : MayFind reader.point found
 
 abbrev pub FitsRead : TableState → ReaderData → ReadStep → Type 0
-FitsRead t reader (steps.Call call) = let found = found_at t.words (word_of t.plan (step_of call)) in
+FitsRead t reader (steps.Table call) = let found = found_at t.words (word_of t.plan (step_of call)) in
     ((x : ℕ) → word_of t.plan (step_of call) ≡ core.some x → x < length t.words) × AllowsWord (step_of call) found × IsOfLinks t.plan.links (step_of call) × MayRead reader found
 FitsRead t reader (steps.Aside step) = let aside = aside_steps.step_of reader.asked step in FitsSlots t step × ((word : ℕ) → found_in aside (beside t) core.none ≡ word_found aside word → MayRead reader word)
 
@@ -120,7 +120,7 @@ module _ (old fresh : TableState) (i : ℕ) (reader reader' : ReaderData) where
   ReadsOn next = GoesOn old.calls next reader' old.outcomes fresh.outcomes
 
   -- a step on a word, or a move of a link
-  pub record CallRead (call : calls.Call) : Type 0 where
+  pub record CallRead (call : calls.TableStep) : Type 0 where
     pub same : SameTables old fresh
     pub goes : ReadsOn (after_word read_program (found_at old.words (word_of old.plan call)))
     pub words : fresh.words ≡ words_after old.words (word_of old.plan call) (word_after call (found_at old.words (word_of old.plan call)))
@@ -155,7 +155,7 @@ module _ (old fresh : TableState) (i : ℕ) (reader reader' : ReaderData) where
     pub outs : fresh.links.outs ≡ old.links.outs
 
   abbrev pub MadeRead : First → Answer → Type 0
-  MadeRead (OfCall call) answer = (answer ≡ Unasked) × CallRead call
+  MadeRead (OfTable call) answer = (answer ≡ Unasked) × CallRead call
   MadeRead (OfAside (asides.TakeBytes k room)) answer = (taking : Taking) × (answer ≡ OfTake taking) × TakeRead k room taking
   MadeRead (OfAside step) answer = (answer ≡ Unasked) × AsideRead step
   MadeRead other answer = ⊥

@@ -31,7 +31,7 @@ use Rattle.seat_states.specs.declared.point.Author.{Author}
 use Rattle.seat_states.specs.declared.point.Step.{Step}
 use Rattle.seat_states.specs.declared.point.Step.TheVariants as firsts
 use Rattle.seat_states.specs.Points.{IsWithin, IsWithinIds, MayFind, MayFindAside, HasLinkAt, TellsCodeAt, HasInHand, after_message, after_link, after_home, after_put, after_ready, parts_by}
-use Rattle.seat_states.specs.Steps.{First, OfCall, OfAside, OfMessage, OfLink, OfHome, step_of, step_as, first_in}
+use Rattle.seat_states.specs.Steps.{First, OfTable, OfAside, OfMessage, OfLink, OfHome, step_of, step_as, first_in}
 use Rattle.seat_states.specs.Steps as kinds
 use Rattle.machine_model.specs.declared.letter.Letter.{Letter}
 use Rattle.client_seats.specs.Following.{IsWithFrame, IsPrepared}
@@ -85,7 +85,7 @@ abbrev pub HasNoStep : MachineState → ℕ → Type 0
 HasNoStep m i = (seat : SeatData) → get_elem? m.seats i ≡ core.some seat → first_in (seat_program (machine_sizes m) seat) ≡ None
 
 -- the step is of one of so many links, if it is of a link
-abbrev pub IsOfLinks : ℕ → calls.Call → Type 0
+abbrev pub IsOfLinks : ℕ → calls.TableStep → Type 0
 IsOfLinks links (calls.TakeLink k) = k < links
 IsOfLinks links (calls.FinishLink k) = k < links
 IsOfLinks links (calls.PutLink k) = k < links
@@ -150,7 +150,7 @@ FitsSlots t other = slots.StepFits t.ids other
 -- the word of the step is there, and is one that it may find; it is of one of the table's links, requests, id slots and operations; a message
 -- that is taken lies there, one that is put home has some byte, and so has what is put into a link
 abbrev pub Fits : TableState → SeatData → Step → Type 0
-Fits t seat (firsts.Call call) = let found = found_at t.words (word_of t.plan (step_of call)) in
+Fits t seat (firsts.Table call) = let found = found_at t.words (word_of t.plan (step_of call)) in
     ((x : ℕ) → word_of t.plan (step_of call) ≡ core.some x → x < length t.words) × AllowsWord (step_of call) found × IsOfLinks t.plan.links (step_of call) × MayGoOn t seat found
 Fits t seat (firsts.Aside step) = let aside = aside_steps.step_of (asked_or_nothing seat.call) step in
     FitsSlots t step × FindsFitting t seat aside
@@ -186,7 +186,7 @@ pub record AsMany (old fresh : TableState) : Type 0 where
 -- ## What a step makes
 
 -- who has each link in hand, after a step that tells nothing
-abbrev pub holders_after : ℕ → calls.Call → List (Option ℕ) → List (Option ℕ)
+abbrev pub holders_after : ℕ → calls.TableStep → List (Option ℕ) → List (Option ℕ)
 holders_after i (calls.TakeLink k) holders = slice_set holders k (Some i)
 holders_after i (calls.PutLink k) holders = slice_set holders k None
 holders_after i other holders = holders
@@ -205,7 +205,7 @@ LettersAfter seat (firsts.PutMessage q author) old fresh = SentHome seat q autho
 LettersAfter seat other old fresh = fresh ≡ old
 
 -- the writing halves after it
-abbrev pub OutsAfter : calls.Call → List OutState → List OutState → Type 0
+abbrev pub OutsAfter : calls.TableStep → List OutState → List OutState → Type 0
 OutsAfter (calls.FinishLink k) old fresh = (out out' : OutState) × (get_elem? old k ≡ core.some out) × (fresh ≡ slice_set old k out') × FinishStep out out'
 OutsAfter other old fresh = fresh ≡ old
 
@@ -226,7 +226,7 @@ module _ (old fresh : TableState) (i : ℕ) (seat seat' : SeatData) where
   abbrev pub program_of : Program
   program_of = seat_program (table_sizes old) seat
 
-  pub record CallMade (call : calls.Call) (step : Step) : Type 0 where
+  pub record CallMade (call : calls.TableStep) (step : Step) : Type 0 where
     pub goes : Goes old fresh seat seat' (after_word program_of (found_at old.words (word_of old.plan call)))
     pub words : fresh.words ≡ words_after old.words (word_of old.plan call) (word_after call (found_at old.words (word_of old.plan call)))
     pub letters : LettersAfter seat step old.letters fresh.letters
@@ -286,7 +286,7 @@ module _ (old fresh : TableState) (i : ℕ) (seat seat' : SeatData) where
 
   -- a step, in which the link in hand answered this
   abbrev pub MadeFirst : Step → First → Answer → Type 0
-  MadeFirst step (OfCall call) answer = (answer ≡ Unasked) × CallMade call step
+  MadeFirst step (OfTable call) answer = (answer ≡ Unasked) × CallMade call step
   MadeFirst step (OfAside aside) answer = (answer ≡ Unasked) × AsideMade aside
   MadeFirst step (OfMessage q) answer = (answer ≡ Unasked) × MessageTaken q
   MadeFirst step (OfLink k) answer = (answer ≡ Unasked) × LinkTaken k

@@ -39,7 +39,7 @@ use Rattle.machine_model.specs.id_runs.specs.Goes.{SoundIds}
 use Rattle.machine_model.specs.run_theorems.specs.Below.joint_runs.proofs.Both.{BothSound, FitsBoth, fits_both, joint_ticks}
 use Rattle.call_points.specs.Steps.{after_word}
 use Rattle.seat_states.specs.Points.{Context, after_put, after_ready}
-use Rattle.seat_states.specs.Steps.{First, OfCall, OfAside, OfMessage, OfLink, OfHome, first_in}
+use Rattle.seat_states.specs.Steps.{First, OfTable, OfAside, OfMessage, OfLink, OfHome, first_in}
 use Rattle.seat_states.specs.Steps as kinds
 use Rattle.seat_states.proofs.StepFacts as facts
 use Rattle.client_seats.specs.Seats.{SeatData, around, seat_program}
@@ -116,12 +116,12 @@ abbrev pub OutsKept : LinksData → ℕ → List OutState → Type 0
 OutsKept l i outs = (outs ≡ l.outs) ⊎ ((k : ℕ) × (out' : OutState) × (holder_of l k ≡ Some i) × (outs ≡ slice_set l.outs k out'))
 
 -- what a step on a word makes of the writing halves
-pub kept_by : (p : Plan) (l : LinksData) (i : ℕ) (outs : List OutState) (call : calls.Call) → MayCall p l i call → OutsAfter call l.outs outs → OutsKept l i outs
+pub kept_by : (p : Plan) (l : LinksData) (i : ℕ) (outs : List OutState) (call : calls.TableStep) → MayCall p l i call → OutsAfter call l.outs outs → OutsKept l i outs
 kept_by p l i outs (calls.FinishLink k) may after = inr (k, after.1, may.1.0, after.3)
 kept_by p l i outs _ may after = inl after
 
-looked : (l : LinksData) (outs : List OutState) (call : calls.Call) (id : ℕ) → call ≡ calls.LookWord id → OutsAfter call l.outs outs → outs ≡ l.outs
-looked l outs call id e after = subst (λ (x : calls.Call). OutsAfter x l.outs outs) e after
+looked : (l : LinksData) (outs : List OutState) (call : calls.TableStep) (id : ℕ) → call ≡ calls.LookWord id → OutsAfter call l.outs outs → outs ≡ l.outs
+looked l outs call id e after = subst (λ (x : calls.TableStep). OutsAfter x l.outs outs) e after
 
 module _ (old : MachineState) (sized : IsSized (table_of old)) (paced : ArePaced (machine_sizes old) old.links old.seats) (sound : ∥ IsSoundMachine old ∥₁) where
   -- whoever isn't the seat of the step stays paced
@@ -157,7 +157,7 @@ module _ (old : MachineState) (sized : IsSized (table_of old)) (paced : ArePaced
         same_sizes : SameBase (table_of old) (table_of fresh) → machine_sizes fresh ≡ machine_sizes old
         same_sizes base = ap₂ (λ p q. (record { slots = p.slots; requests = p.requests; ids = q.slots })) base.plan base.id_plan
 
-    same_call : {x y : calls.Call} → OfCall x ≡ OfCall y → x ≡ y
+    same_call : {x y : calls.TableStep} → OfTable x ≡ OfTable y → x ≡ y
     same_call e = cc
 
     going : (hs : List HeldLife) (w : List Retry) → IsCalm (next_step (resolved w (a.goes_on hs)))
@@ -171,7 +171,7 @@ module _ (old : MachineState) (sized : IsSized (table_of old)) (paced : ArePaced
     out_is k o o' before are out there = core.some-injective o' out (sym (set_here old.links.outs k o' (at_length old.links.outs k o before)) ∙ sym (ap (λ (os : List OutState). get_elem? os k) are) ∙ there)
 
     pub made_paced : (step : Step) (first : First) (answer : Answer) → first_in program ≡ Some first → MayMake old.plan old.links i first → MadeFirst (table_of old) (table_of fresh) i seat seat' step first answer → ArePaced (machine_sizes fresh) fresh.links fresh.seats
-    made_paced step (OfCall call) answer next may made = let w = made.1 in let found : ℕ = found_at old.words (word_of old.plan call) in
+    made_paced step (OfTable call) answer next may made = let w = made.1 in let found : ℕ = found_at old.words (word_of old.plan call) in
         all_paced (after_word program found) w.goes (kept_by old.plan old.links i fresh.links.outs call may w.outs) (⊎_elim
         (λ calm. calm_paced fresh.links.outs (come (after_word program found)) calm)
         (λ t. let e : call ≡ calls.LookWord t.1.0 = same_call (same_some (sym next ∙ t.1.1)) in subst (λ os. IsPaced os (come (after_word program found))) (sym (looked old.links fresh.links.outs call t.1.0 e w.outs)) (t.0 old.links.outs (paced i seat at)))

@@ -60,7 +60,7 @@ use Rattle.seat_states.specs.declared.point.JoinStep.TheVariants as joins
 use Rattle.seat_states.specs.declared.point.Point.{Point}
 use Rattle.seat_states.specs.declared.point.Point.TheVariants as points
 use Rattle.seat_states.specs.Points.{Context, heading_by, locker_of, client_on, then_program, point_program, reached_program, full_program, freed_program, after_program, posted_program, look_program, told, tell, GoesByWord, TakesCall, TakesMessage, TakesLink, PutsHome, PutsPiece, Asks, after_message, after_link, after_home, after_put, after_ready}
-use Rattle.seat_states.specs.Steps.{OfCall, first_of, first_in}
+use Rattle.seat_states.specs.Steps.{OfTable, first_of, first_in}
 use Rattle.seat_states.specs.Steps as kinds
 use Rattle.client_seats.specs.Seats.{SeatData, around}
 use Rattle.machine_model.specs.Links.{IsClear, WasRefused, IsPaced}
@@ -196,10 +196,10 @@ Looks other = ⊥
 
 -- it is calm there; or a look was made, and the put that follows is paced as the look was
 abbrev pub Behind : Context → List Retry → Point → Program → Type 0
-Behind a w p next = IsCalm (next_step (resolved w next)) ⊎ (((outs : List OutState) → IsPaced outs (point_program a p) → IsPaced outs (next_step (resolved w next))) × ((id : ℕ) × (first_in (point_program a p) ≡ Some (OfCall (calls.LookWord id)))))
+Behind a w p next = IsCalm (next_step (resolved w next)) ⊎ (((outs : List OutState) → IsPaced outs (point_program a p) → IsPaced outs (next_step (resolved w next))) × ((id : ℕ) × (first_in (point_program a p) ≡ Some (OfTable (calls.LookWord id)))))
 
 -- a look is no step on the ids
-not_aside : {call : calls.Call} {k : ℕ → Program} {step : Step} {next : Found step → Program} → Do call k ≡ Aside step next → ⊥
+not_aside : {call : calls.TableStep} {k : ℕ → Program} {step : Step} {next : Found step → Program} → Do call k ≡ Aside step next → ⊥
 not_aside {call} {k} {step} {next} e = let f : first_of (Do call k) ≡ first_of (Aside step next) = ap first_of e in cc
 
 no_look : (a : Context) (p : Point) (step : Step) (next : Found step → Program) → Looks p → first_step (point_program a p) ≡ Aside step next → ⊥
@@ -325,7 +325,7 @@ module _ (a : Context) (on : (hs : List HeldLife) → Calm (a.goes_on hs)) (ends
   step_word p (Aside step next) found goes calm = aside_calm step next found calm
   step_word p _ found goes calm = absurd (calm goes)
 
-  looks_behind : (w : List Retry) (p : Point) (found : ℕ) → Looks p → ((outs : List OutState) → IsPaced outs (point_program a p) → IsPaced outs (next_step (resolved w (after_word (point_program a p) found)))) × ((id : ℕ) × (first_in (point_program a p) ≡ Some (OfCall (calls.LookWord id))))
+  looks_behind : (w : List Retry) (p : Point) (found : ℕ) → Looks p → ((outs : List OutState) → IsPaced outs (point_program a p) → IsPaced outs (next_step (resolved w (after_word (point_program a p) found)))) × ((id : ℕ) × (first_in (point_program a p) ≡ Some (OfTable (calls.LookWord id))))
   looks_behind w (points.Write x (writes.Look c asked)) found looks = ((λ outs paced. either_way (vref_version found % 2 == 0) _ _ (λ y. IsPaced outs (next_step (resolved w y))) paced tt), (x.holder.id.0, refl))
   looks_behind w _ found looks = absurd looks
 

@@ -17,7 +17,7 @@ use Rattle.seat_programs.specs.StepTables.{word_of, word_after}
 use Rattle.seat_programs.specs.Ticks.{Answer, Unasked, OfTake, IsAnswer, IsAnswered, tick_with, ticked}
 use Rattle.call_points.specs.Steps as aside_steps
 use Rattle.call_slots.specs.Slots.{calls_with}
-use Rattle.seat_states.specs.Steps.{First, OfCall, OfAside, step_of, first_in}
+use Rattle.seat_states.specs.Steps.{First, OfTable, OfAside, step_of, first_in}
 use Rattle.reader_points.specs.declared.point.ReadStep.{ReadStep}
 use Rattle.reader_points.specs.declared.point.ReadStep.TheVariants as steps
 use Rattle.reader_points.specs.Steps.{step_as}
@@ -123,7 +123,7 @@ module _ (old fresh : MachineState) (k : ℕ) (reader reader' : ReaderData) (at 
   stays : SameTables (table_of old) (table_of fresh) → Stays old fresh
   stays same = record { plans = same.plans; seats = seats }
 
-  call_steps : (call : calls.Call) → first_in program ≡ Some (OfCall call) → MayCall old.plan old.links i call → LettersBy call old.letters fresh.letters → CallRead (table_of old) (table_of fresh) i reader reader' call → SteppedWith old fresh i Unasked took gave
+  call_steps : (call : calls.TableStep) → first_in program ≡ Some (OfTable call) → MayCall old.plan old.links i call → LettersBy call old.letters fresh.letters → CallRead (table_of old) (table_of fresh) i reader reader' call → SteppedWith old fresh i Unasked took gave
   call_steps call next may lettered w = record {
     so_far = record {
       took = took;
@@ -135,7 +135,7 @@ module _ (old fresh : MachineState) (k : ℕ) (reader reader' : ReaderData) (at 
         (call_changes old.plan i old.letters sized.letters_are old.links fresh.links took sized.holders_are call fresh.letters may lettered w.holders w.same.nexts w.outs w.inns)
         ∙ ap (λ ids. with_seat i (aside_steps.after_word program (found_at old.words (word_of old.plan call))) (hand_after old.plan call before.homes own.hand) (words_after before.words (word_of old.plan call) (word_after call (found_at before.words (word_of old.plan call)))) (homes_after old.plan call own.hand before.homes) (record before { calls = calls_with ids (waiting_of old.seats old.readers) (given_by old.plan.links gave) old.ending })) w.ids
         ∙ sym (ticks Unasked ∙ word_tick old.plan i own before program Unasked call next);
-    answered = answers (OfCall call) Unasked next tt;
+    answered = answers (OfTable call) Unasked next tt;
   }
 
   aside_reads : (step : asides.Step) → first_in program ≡ Some (OfAside step) → AnswersFirst (OfAside step) Unasked → AsideRead (table_of old) (table_of fresh) i reader reader' step → SteppedWith old fresh i Unasked took gave
@@ -178,7 +178,7 @@ module _ (old fresh : MachineState) (k : ℕ) (reader reader' : ReaderData) (at 
 
   -- what the next step of a reader may do
   abbrev pub MayRead : First → Type 0
-  MayRead (OfCall call) = MayCall old.plan old.links i call
+  MayRead (OfTable call) = MayCall old.plan old.links i call
   MayRead (OfAside (asides.TakeBytes j room)) = j < old.plan.links
   MayRead other = Unit {0}
 
@@ -187,5 +187,5 @@ module _ (old fresh : MachineState) (k : ℕ) (reader reader' : ReaderData) (at 
   asides_by _ answer next may w = along answer Unasked w.0 (aside_reads _ next tt w.1)
 
   pub reads_by : (step : ReadStep) (answer : Answer) → first_in program ≡ Some (step_as reader.asked step) → MayRead (step_as reader.asked step) → MadeRead (table_of old) (table_of fresh) i reader reader' (step_as reader.asked step) answer → SteppedWith old fresh i answer took gave
-  reads_by (steps.Call call) answer next may w = along answer Unasked w.0 (call_steps (step_of call) next may (letters_by call old.letters fresh.letters w.1.same.letters) w.1)
+  reads_by (steps.Table call) answer next may w = along answer Unasked w.0 (call_steps (step_of call) next may (letters_by call old.letters fresh.letters w.1.same.letters) w.1)
   reads_by (steps.Aside step) answer next may w = asides_by (aside_steps.step_of reader.asked step) answer next may w

@@ -34,7 +34,7 @@ use Rattle.machine_model.specs.id_runs.specs.Goes as goes
 use Rattle.machine_model.specs.run_theorems.specs.Below.joint_runs.proofs.Joint.{is_fitting_ids}
 use Rattle.call_points.specs.Steps.{aside_of, aside_in}
 use Rattle.call_slots.proofs.Fitting.{may_next}
-use Rattle.seat_states.specs.Steps.{First, OfCall, OfAside, OfMessage, first_of, first_in}
+use Rattle.seat_states.specs.Steps.{First, OfTable, OfAside, OfMessage, first_of, first_in}
 use Rattle.seat_states.specs.Steps as kinds
 use Rattle.seat_states.proofs.StepFacts.{FitsSizes}
 use Rattle.machine_model.specs.declared.letter.Letter.{Letter}
@@ -64,13 +64,13 @@ one_held (x ∷ y ∷ xs) (h ∷ g ∷ hs) k e are = cc
 at_home_held : (hand : List Home) (r : Right) (hands : List Hand) → r.at_home ≡ true → AreHeld hand (r ∷ []) hands → AreInHand hand hands
 at_home_held hand r hands e held = subst (λ b. elim b as (λ b. Type 0) [ true ↦ AreInHand hand hands | false ↦ (x : Home) × (others : List Home) × (hand ≡ x ∷ others) × IsOfRight r x × AreInHand others hands ]) e held
 
-abbrev pub HasBytes : calls.Call → Type 0
+abbrev pub HasBytes : calls.TableStep → Type 0
 HasBytes (calls.PutMessage q heading bytes) = bytes ≢ []
 HasBytes other = Unit {0}
 
 -- what is known of a step besides what is asked of it
 abbrev pub Known : Plan → Sizes → LinksData → Core → First → Type 0
-Known p sizes l c (OfCall call) = Allows p c call × FitsSizes sizes call × HasBytes call
+Known p sizes l c (OfTable call) = Allows p c call × FitsSizes sizes call × HasBytes call
 Known p sizes l c (OfMessage q) = (q < p.requests) × ((heading : Heading) × (bytes : List ℕ) × (get_elem? c.homes q ≡ core.some (core.some (Message heading bytes))))
 Known p sizes l c (kinds.OfPut k asked bytes) = (bytes ≢ []) × (is_done l k ≡ false)
 Known p sizes l c (kinds.OfReady k) = is_done l k ≡ false
@@ -96,21 +96,21 @@ module _ (p : Plan) (q : IdPlan) (letters : List (Option Letter)) (sized : lengt
       done_is : (k : ℕ) (ts : List ℕ) (m : ℕ) (d : Bool) (us : List ℕ) (n : ℕ) → Link k ts m d ≡ Link k us n false → d ≡ false
       done_is k ts m d us n e = cc
 
-  may_call : (call : calls.Call) → May p v call → Allows p c call → MayCall p l i call
+  may_call : (call : calls.TableStep) → May p v call → Allows p c call → MayCall p l i call
   may_call (calls.TakeLink k) may allows = (may.0, (let a = allows.2 in free_link k _ may.0 a.1.3), quiet_hand may.3 may.1)
   may_call (calls.FinishLink k) may allows = own_hand k may.2 may.1
   may_call (calls.PutLink k) may allows = own_hand k may.2 may.1
   may_call (calls.PutMessage r heading bytes) may allows = may.0
   may_call _ may allows = tt
 
-  fits_sizes : (call : calls.Call) → May p v call → Allows p c call → FitsSizes (sizes_of p q) call
+  fits_sizes : (call : calls.TableStep) → May p v call → Allows p c call → FitsSizes (sizes_of p q) call
   fits_sizes (calls.ClaimSlot j) may allows = may
   fits_sizes (calls.ClaimRequest id r) may allows = may.0
   fits_sizes (calls.StorePlace a k n) may allows = allows.1
   fits_sizes (calls.DropPlace a k n) may allows = allows.1
   fits_sizes _ may allows = tt
 
-  has_bytes : (call : calls.Call) → May p v call → HasBytes call
+  has_bytes : (call : calls.TableStep) → May p v call → HasBytes call
   has_bytes (calls.PutMessage r heading bytes) may = may.3
   has_bytes _ may = tt
 
@@ -153,10 +153,10 @@ aside_next _ step e = absurd (cc)
 
 -- what a step on a word finds is as the ids rely on
 abbrev FindsFor : Plan → Core → First → Type 0
-FindsFor p c (OfCall call) = FitsSock call (found_at c.words (word_of p call))
+FindsFor p c (OfTable call) = FitsSock call (found_at c.words (word_of p call))
 FindsFor p c other = Unit {0}
 
-fits_word : (p : Plan) (c : Core) (program : Program) (call : calls.Call) → first_of program ≡ Some (OfCall call) → FitsFirst p c program → FitsSock call (found_at c.words (word_of p call))
+fits_word : (p : Plan) (c : Core) (program : Program) (call : calls.TableStep) → first_of program ≡ Some (OfTable call) → FitsFirst p c program → FitsSock call (found_at c.words (word_of p call))
 fits_word p c (Do own next) call e fits = subst (FindsFor p c) (same_some e) fits
 fits_word p c _ call e fits = absurd (cc)
 
@@ -188,7 +188,7 @@ module _ (m : MachineState) (sized : IsSized (table_of m)) (s : IsSoundMachine m
       by_program m.plan m.ids.plan m.letters sized.letters_are m.links s.took sized.holders_are i c refl own refl v.0 old.hand (first_step program) first
       (sym (first_is program) ∙ next) (goes_first m.plan v.0 program old.goes_on) (sound_allows m.plan (retries_go m.plan s.sound.limits.requests) c s.views i own v.0 s.sound s.few own_at v.1)
 
-  pub finds_word : (call : calls.Call) → first_in program ≡ Some (OfCall call) → FitsSock call (found_at m.words (word_of m.plan call))
+  pub finds_word : (call : calls.TableStep) → first_in program ≡ Some (OfTable call) → FitsSock call (found_at m.words (word_of m.plan call))
   finds_word call next = fits_word m.plan c (first_step program) call (sym (first_is program) ∙ next)
       (is_first program (is_fitting_ids m.plan m.ids.plan c s.views s.id_views s.sound s.ids (quiet i) own own_at))
     where

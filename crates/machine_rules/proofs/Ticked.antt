@@ -27,10 +27,10 @@ use Rattle.message_parts.specs.Parcels.{parcel_of}
 use Rattle.seat_states.specs.declared.point.Step.{Step}
 use Rattle.seat_states.specs.declared.point.Step.TheVariants as firsts
 use Rattle.seat_states.specs.declared.point.Author.{Author}
-use Rattle.seat_states.specs.declared.call.Call.{Call}
-use Rattle.seat_states.specs.declared.call.Call.TheVariants as steps
+use Rattle.seat_states.specs.declared.table_step.TableStep.{TableStep}
+use Rattle.seat_states.specs.declared.table_step.TableStep.TheVariants as steps
 use Rattle.seat_states.specs.Points.{heading_by, after_link, after_home, after_put, after_ready}
-use Rattle.seat_states.specs.Steps.{First, OfCall, OfAside, OfMessage, OfLink, OfHome, step_of, step_as, first_in}
+use Rattle.seat_states.specs.Steps.{First, OfTable, OfAside, OfMessage, OfLink, OfHome, step_of, step_as, first_in}
 use Rattle.seat_states.specs.Steps as kinds
 use Rattle.machine_model.proofs.TableRoom.{IsCall}
 use Rattle.seat_states.proofs.StepFacts as facts
@@ -54,7 +54,7 @@ MayTake p l i k = (k < p.links) × (holder_of l k ≡ None) × HasNone l i
 abbrev pub MayAsk : Plan → LinksData → ℕ → ℕ → Type 0
 MayAsk p l i k = (k < p.links) × HasOnly l i k
 
-abbrev pub MayCall : Plan → LinksData → ℕ → calls.Call → Type 0
+abbrev pub MayCall : Plan → LinksData → ℕ → calls.TableStep → Type 0
 MayCall p l i (calls.TakeLink k) = MayTake p l i k
 MayCall p l i (calls.FinishLink k) = MayAsk p l i k
 MayCall p l i (calls.PutLink k) = MayAsk p l i k
@@ -62,7 +62,7 @@ MayCall p l i (calls.PutMessage q heading bytes) = q < p.requests
 MayCall p l i other = Unit {0}
 
 abbrev pub MayMake : Plan → LinksData → ℕ → First → Type 0
-MayMake p l i (OfCall call) = MayCall p l i call
+MayMake p l i (OfTable call) = MayCall p l i call
 MayMake p l i (OfAside step) = Unit {0}
 MayMake p l i (OfMessage q) = Unit {0}
 MayMake p l i (OfLink k) = MayTake p l i k
@@ -117,7 +117,7 @@ pub links_are : (l l' : LinksData) → l'.holders ≡ l.holders → l'.nexts ≡
 links_are l l' e f g h = λ k. record { holders = e k; nexts = f k; outs = g k; inns = h k }
 
 -- the message that goes home lies there
-abbrev pub LettersBy : calls.Call → List (Option Letter) → List (Option Letter) → Type 0
+abbrev pub LettersBy : calls.TableStep → List (Option Letter) → List (Option Letter) → Type 0
 LettersBy (calls.PutMessage q heading bytes) old fresh = (letter : Letter) × (fresh ≡ slice_set old q (Some letter)) × (letter_home (Some letter) ≡ core.some (Message heading bytes))
 LettersBy other old fresh = fresh ≡ old
 
@@ -135,7 +135,7 @@ module _ (p : Plan) (i : ℕ) (letters : List (Option Letter)) (sized : length l
   linked k ts us m n d e f g h = λ x. Link k (f x) (g x) (h x)
 
   -- a step on a word, or a move without a right
-  pub call_changes : (call : calls.Call) (letters' : List (Option Letter)) → MayCall p l i call → LettersBy call letters letters' → l'.holders ≡ holders_after i call l.holders → l'.nexts ≡ l.nexts → OutsAfter call l.outs l'.outs → l'.inns ≡ l.inns →
+  pub call_changes : (call : calls.TableStep) (letters' : List (Option Letter)) → MayCall p l i call → LettersBy call letters letters' → l'.holders ≡ holders_after i call l.holders → l'.nexts ≡ l.nexts → OutsAfter call l.outs l'.outs → l'.inns ≡ l.inns →
       Changed p i l l' letters letters' took took (hand_after p call homes hand) (homes_after p call hand homes)
   call_changes (calls.TakeLink k) letters' may lettered holders nexts outs inns =
       letters_along lettered (take_changes p i k letters sized l l' took many may.0 may.1 may.2 holders nexts outs)
@@ -155,7 +155,7 @@ module _ (p : Plan) (i : ℕ) (letters : List (Option Letter)) (sized : length l
       (ap (λ ls. homes_of l p ls took) lettered.1 ∙ sym (letters_set p letters sized l took q (Some lettered.0) may) ∙ ap (slice_set homes q) lettered.2)
   call_changes _ letters' may lettered holders nexts outs inns = none_changes p i l l' letters letters' took homes (links_are l l' holders nexts outs inns) (ap (λ ls. homes_of l p ls took) lettered)
 
-  pub call_agrees : (call : calls.Call) → OutsAfter call l.outs l'.outs → Agrees l took → Agrees l' took
+  pub call_agrees : (call : calls.TableStep) → OutsAfter call l.outs l'.outs → Agrees l took → Agrees l' took
   call_agrees (calls.FinishLink k) outs agrees = let out' = outs.1 in let step = outs.4 in
       agrees_set l l' took took k out' outs.3 (subst (λ o. IfSome o (λ bytes. bytes ≡ took k)) (sym step.took) (agrees k outs.0 outs.2)) (λ j differ. refl) agrees
   call_agrees _ outs agrees = agrees_same l l' took outs agrees
@@ -199,7 +199,7 @@ fits_put true bytes puts.Again out out' step paced = absurd (true≢false (sym (
 fits_put false bytes puts.Again out out' step paced = refl
 fits_put asked bytes puts.Failed out out' step paced = tt
 
-pub letters_by : (call : Call) (old fresh : List (Option Letter)) → fresh ≡ old → LettersBy (step_of call) old fresh
+pub letters_by : (call : TableStep) (old fresh : List (Option Letter)) → fresh ≡ old → LettersBy (step_of call) old fresh
 letters_by (steps.ClaimSlot i) old fresh same = same
 letters_by _ old fresh same = same
 
@@ -242,7 +242,7 @@ module _ (old fresh : MachineState) (i : ℕ) (seat seat' : SeatData) (at : get_
       core_with fresh later gave ≡ with_seat i next hand words homes before
   moved next later hand homes words goes words_are changed same = client_set old fresh i seat seat' next took later gave hand homes words at seats readers few goes words_are changed ∙ same_calls next later hand homes words same
 
-  call_core : (call : calls.Call) (step : Step) → first_in program ≡ Some (OfCall call) → MayCall old.plan old.links i call → LettersBy call old.letters fresh.letters → CallMade (table_of old) (table_of fresh) i seat seat' call step →
+  call_core : (call : calls.TableStep) (step : Step) → first_in program ≡ Some (OfTable call) → MayCall old.plan old.links i call → LettersBy call old.letters fresh.letters → CallMade (table_of old) (table_of fresh) i seat seat' call step →
       Agrees fresh.links took × (core_with fresh took gave ≡ ticked old.plan before (record { seat = i; answer = Unasked }))
   call_core call step next may lettered w = (
     call_agrees old.plan i old.letters sized.letters_are old.links fresh.links took sized.holders_are call w.outs agrees,
@@ -251,7 +251,7 @@ module _ (old fresh : MachineState) (i : ℕ) (seat seat' : SeatData) (at : get_
         ∙ sym (ticks Unasked ∙ word_tick old.plan i own before program Unasked call next),
   )
 
-  call_steps : (call : calls.Call) (step : Step) → first_in program ≡ Some (OfCall call) → MayCall old.plan old.links i call → LettersBy call old.letters fresh.letters → CallMade (table_of old) (table_of fresh) i seat seat' call step → SteppedWith old fresh i Unasked took gave
+  call_steps : (call : calls.TableStep) (step : Step) → first_in program ≡ Some (OfTable call) → MayCall old.plan old.links i call → LettersBy call old.letters fresh.letters → CallMade (table_of old) (table_of fresh) i seat seat' call step → SteppedWith old fresh i Unasked took gave
   call_steps call step next may lettered w = let core = call_core call step next may lettered w in record {
     so_far = record {
       took = took;
@@ -260,7 +260,7 @@ module _ (old fresh : MachineState) (i : ℕ) (seat seat' : SeatData) (at : get_
       agrees_gave = gives_same old.links fresh.links gave w.goes.base.inns agrees_gave;
     };
     core = core.1;
-    answered = answers (OfCall call) Unasked next tt;
+    answered = answers (OfTable call) Unasked next tt;
   }
 
   aside_steps' : (step : asides.Step) → first_in program ≡ Some (OfAside step) → AnswersFirst (OfAside step) Unasked → AsideMade (table_of old) (table_of fresh) i seat seat' step → SteppedWith old fresh i Unasked took gave
@@ -359,7 +359,7 @@ module _ (old fresh : MachineState) (i : ℕ) (seat seat' : SeatData) (at : get_
 
   pub steps_by : (step : Step) (answer : Answer) → first_in program ≡ Some (step_as (around (machine_sizes old) seat) step) → MayMake old.plan old.links i (step_as (around (machine_sizes old) seat) step)
       → ((aside : asides.Step) → step_as (around (machine_sizes old) seat) step ≡ OfAside aside → TakesNone aside) → MadeFirst (table_of old) (table_of fresh) i seat seat' step (step_as (around (machine_sizes old) seat) step) answer → SteppedWith old fresh i answer took gave
-  steps_by (firsts.Call call) answer next may none_ w = along answer Unasked w.0 (call_steps (step_of call) (firsts.Call call) next may (letters_by call old.letters fresh.letters w.1.letters) w.1)
+  steps_by (firsts.Table call) answer next may none_ w = along answer Unasked w.0 (call_steps (step_of call) (firsts.Table call) next may (letters_by call old.letters fresh.letters w.1.letters) w.1)
   steps_by (firsts.Aside step) answer next may none_ w = along answer Unasked w.0 (aside_steps' (aside_steps.step_of _ step) next (unasked (aside_steps.step_of _ step) (none_ (aside_steps.step_of _ step) refl)) w.1)
   steps_by (firsts.PutMessage q author) answer next may none_ w = let l = w.1.letters in along answer Unasked w.0 (call_steps _ (firsts.PutMessage q author) next may (l.letter, l.fresh_are, same_home q author seat l.letter l.author_is l.bytes l.parts) w.1)
   steps_by (firsts.TakeMessage q) answer next may none_ w = along answer Unasked w.0 (message_steps q next w.1)
@@ -371,6 +371,6 @@ module _ (old fresh : MachineState) (i : ℕ) (seat seat' : SeatData) (at : get_
   -- a step on a word takes and gives nothing
   pub quiet_by : (step : Step) (answer : Answer) → IsCall (step_as (around (machine_sizes old) seat) step) → first_in program ≡ Some (step_as (around (machine_sizes old) seat) step) → MayMake old.plan old.links i (step_as (around (machine_sizes old) seat) step)
       → MadeFirst (table_of old) (table_of fresh) i seat seat' step (step_as (around (machine_sizes old) seat) step) answer → Agrees fresh.links took × (core_with fresh took gave ≡ ticked old.plan before (record { seat = i; answer = Unasked }))
-  quiet_by (firsts.Call call) answer is next may w = call_core (step_of call) (firsts.Call call) next may (letters_by call old.letters fresh.letters w.1.letters) w.1
+  quiet_by (firsts.Table call) answer is next may w = call_core (step_of call) (firsts.Table call) next may (letters_by call old.letters fresh.letters w.1.letters) w.1
   quiet_by (firsts.PutMessage q author) answer is next may w = let l = w.1.letters in call_core _ (firsts.PutMessage q author) next may (l.letter, l.fresh_are, same_home q author seat l.letter l.author_is l.bytes l.parts) w.1
   quiet_by _ answer is next may w = absurd is

@@ -33,7 +33,7 @@ use Rattle.seat_states.specs.declared.point.RetryStep.TheVariants as retries
 use Rattle.seat_states.specs.declared.point.JoinStep.TheVariants as joins
 use Rattle.seat_states.specs.declared.point.Point.{Point}
 use Rattle.seat_states.specs.declared.point.Point.TheVariants as points
-use Rattle.seat_states.specs.Steps.{First, OfCall, step_as, first_of, first_in}
+use Rattle.seat_states.specs.Steps.{First, OfTable, step_as, first_of, first_in}
 use Rattle.seat_states.specs.declared.point.Next.{Next}
 use Rattle.seat_states.specs.declared.point.Step.{Step}
 use Rattle.seat_states.specs.Points.{Context, point_program, look_program, after_program, next_program, with_message, with_put, is_whole, parts_by, after_message, after_put}
@@ -90,12 +90,12 @@ pub asked_in : {A : Type 0} (f : A → OutState) (e : A → LinkEnd) {items befo
 asked_in f e was is h = rw (← was, is) h
 
 -- what a step leaves of their halves
-pub record HalvesAfter {A : Type 0} (f : A → OutState) (n : A → InState) (e : A → LinkEnd) (call : calls.Call) (items wrote : List A) : Type 0 where
+pub record HalvesAfter {A : Type 0} (f : A → OutState) (n : A → InState) (e : A → LinkEnd) (call : calls.TableStep) (items wrote : List A) : Type 0 where
   pub outs : OutsAfter call (map f items) (map f wrote)
   pub inns : map n wrote ≡ map n items
   pub ends : map e wrote ≡ map e items
 
-pub halves_in : {A : Type 0} (f : A → OutState) (n : A → InState) (e : A → LinkEnd) (call : calls.Call) {items before wrote news : List A} → before ≡ items → wrote ≡ news → OutsAfter call (map f before) (map f news) → map n news ≡ map n before → map e news ≡ map e before → HalvesAfter f n e call items wrote
+pub halves_in : {A : Type 0} (f : A → OutState) (n : A → InState) (e : A → LinkEnd) (call : calls.TableStep) {items before wrote news : List A} → before ≡ items → wrote ≡ news → OutsAfter call (map f before) (map f news) → map n news ≡ map n before → map e news ≡ map e before → HalvesAfter f n e call items wrote
 halves_in f n e call was is outs inns ends = rw (← was, is) (record { outs = outs; inns = inns; ends = ends })
 
 -- with a message in hand
@@ -121,7 +121,7 @@ asked_bytes {outs} {outs'} {ends} {ends'} {k} {bytes} {piece} {put} e h = subst 
 
 -- what follows doesn't depend on the message
 abbrev BehindPut : Option First → Context → List ℕ → List ℕ → Point → Type 0
-BehindPut (Some (OfCall (calls.PutMessage q heading bytes))) a other others p = after_word (point_program (record a { message = other; parts = others }) p) 0 ≡ after_word (point_program a p) 0
+BehindPut (Some (OfTable (calls.PutMessage q heading bytes))) a other others p = after_word (point_program (record a { message = other; parts = others }) p) 0 ≡ after_word (point_program a p) 0
 BehindPut first a other others p = Unit {0}
 
 behind_look : (a : Context) (other others : List ℕ) (author : Author) (id : ℕ) (p : Point) → BehindPut (first_in (look_program a author id)) a other others p
@@ -145,7 +145,7 @@ behind_put a other others (points.Retry r (retries.Lock id_steps.Read)) = tt
 behind_put a other others (points.Join o (joins.Wait id)) = tt
 behind_put a other others _ = tt
 
-pub message_put : (s sizes : Sizes) (seat : SeatData) (message' : Option ParcelData) (n : Next) (q : ℕ) (heading : Heading) (bytes : List ℕ) → s ≡ sizes → first_in (seat_program sizes seat) ≡ Some (OfCall (calls.PutMessage q heading bytes)) →
+pub message_put : (s sizes : Sizes) (seat : SeatData) (message' : Option ParcelData) (n : Next) (q : ℕ) (heading : Heading) (bytes : List ℕ) → s ≡ sizes → first_in (seat_program sizes seat) ≡ Some (OfTable (calls.PutMessage q heading bytes)) →
     next_program (around s (record seat { message = message' })) n ≡ after_word (point_program (around s (record seat { message = message' })) seat.point) 0 → next_program (around s (record seat { message = message' })) n ≡ after_word (seat_program sizes seat) 0
 message_put s sizes seat message' n q heading bytes e first h =
     let is : after_word (point_program (record (around sizes seat) { message = bytes_of message'; parts = parts_of message' }) seat.point) 0 ≡ after_word (seat_program sizes seat) 0 = subst (λ (o : Option First). BehindPut o (around sizes seat) (bytes_of message') (parts_of message') seat.point) first (behind_put (around sizes seat) (bytes_of message') (parts_of message') seat.point) in

@@ -48,7 +48,7 @@ use Rattle.sock_words.specs.declared.ticket.Ticket.{Ticket}
 use Rattle.seat_states.specs.declared.calling.Calling.{Calling}
 use Rattle.seat_states.specs.declared.point.Attempt.{Attempt}
 use Rattle.seat_states.specs.Points.{Context, IsCalling, HasInHand, IsFramed, framed, point_program, next_program, then_program, gone_then, holder_of, heading_by, has_life, reached_program, unopened_program, seek_program, failed_program, fail_program, release_on, free_on, sent_program, full_program, claims_program, connect_program, look_program, failed_look, write_program, written_program, puts_program, put_piece, next_message, freed_program, told, tell, taken_again, walk_program, first_of_walk, find_program, after_program}
-use Rattle.seat_states.specs.Steps.{First, OfCall, first_of, first_in}
+use Rattle.seat_states.specs.Steps.{First, OfTable, first_of, first_in}
 use Rattle.seat_states.proofs.Behind.{seeks_life, seeks_none}
 use Rattle.client_seats.specs.Following.{IsFlat}
 
@@ -171,7 +171,7 @@ module _ (a : Context) where
 
 -- behind a first step on a word
 abbrev EndsNone : Option First → Context → Point → ℕ → Type 0
-EndsNone (Some (OfCall call)) a p found = NoEnd (after_word (point_program (bare a) p) found)
+EndsNone (Some (OfTable call)) a p found = NoEnd (after_word (point_program (bare a) p) found)
 EndsNone other a p found = Unit {0}
 
 look_ends : (a : Context) (p : Point) (author : Author) (id found : ℕ) → NoEnd (after_word (point_program (bare a) p) found) → EndsNone (first_in (look_program a author id)) a p found
@@ -232,11 +232,11 @@ bare_hand a (points.Retry r retries.LoadName) h = (bare_framed a r.attempt h.0, 
 bare_hand a _ h = tt
 
 -- a step on a word makes no frame
-pub no_frame : (a : Context) (p : Point) (call : calls.Call) → first_in (point_program a p) ≡ Some (OfCall call) → (other : Context) → framed p other ≡ other
+pub no_frame : (a : Context) (p : Point) (call : calls.TableStep) → first_in (point_program a p) ≡ Some (OfTable call) → (other : Context) → framed p other ≡ other
 no_frame a (points.Call (begins.StoreCall id socket)) call e other = cc
 no_frame a _ call e other = refl
 
-pub flat_behind : (a : Context) (p : Point) (call : calls.Call) (found : ℕ) (n : Next) (calling : Calling) → first_in (point_program a p) ≡ Some (OfCall call) → IsCalling a calling → HasInHand a p →
+pub flat_behind : (a : Context) (p : Point) (call : calls.TableStep) (found : ℕ) (n : Next) (calling : Calling) → first_in (point_program a p) ≡ Some (OfTable call) → IsCalling a calling → HasInHand a p →
     ((other : Context) → other.sizes ≡ a.sizes → IsCalling other calling → HasInHand other p → next_program (framed p other) n ≡ after_word (point_program other p) found) → IsFlat n
 flat_behind a p call found n calling e asks hand behind =
     let is : next_program (framed p (bare a)) n ≡ after_word (point_program (bare a) p) found = behind (bare a) refl (bare_calling a calling asks) (bare_hand a p hand) in

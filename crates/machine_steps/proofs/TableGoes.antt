@@ -11,7 +11,7 @@ use Rattle.seat_states.specs.declared.point.Next.{Next}
 use Rattle.seat_states.specs.declared.point.Point.{Point}
 use Rattle.seat_states.specs.declared.point.Point.TheVariants as points
 use Rattle.seat_states.specs.Points.{Context, point_program, next_program, framed, IsCalling, HasInHand, IsWithin, IsWithinIds, GoesByWord, MayNext}
-use Rattle.seat_states.specs.Steps.{OfCall, first_in}
+use Rattle.seat_states.specs.Steps.{OfTable, first_in}
 use Rattle.message_parts.specs.Frames.{ParcelData}
 use Rattle.client_seats.specs.declared.hand.InHand.{InHand}
 use Rattle.client_seats.specs.declared.seat.Seat.{Seat}
@@ -43,14 +43,14 @@ next_is {t} s seat n found calling sizes ready asks behind =
     ∙ behind (around (table_sizes t) seat) (sym sizes) (asks (table_sizes t)) ready.hand
 
 -- it keeps no retry where it stood before a step on a word
-pub flat_next : (t : TableState) (s : Sizes) (seat : SeatData) (n : Next) (call : calls.Call) (found : ℕ) (calling : Calling) → s ≡ table_sizes t → first_in (seat_program (table_sizes t) seat) ≡ Some (OfCall call) → HasInHand (around (table_sizes t) seat) seat.point →
+pub flat_next : (t : TableState) (s : Sizes) (seat : SeatData) (n : Next) (call : calls.TableStep) (found : ℕ) (calling : Calling) → s ≡ table_sizes t → first_in (seat_program (table_sizes t) seat) ≡ Some (OfTable call) → HasInHand (around (table_sizes t) seat) seat.point →
     ((sizes : Sizes) → IsCalling (around sizes seat) calling) → ((a : Context) → a.sizes ≡ s → IsCalling a calling → HasInHand a seat.point → next_program (framed seat.point a) n ≡ after_word (point_program a seat.point) found) → IsFlat n
 flat_next t s seat n call found calling sizes first hand asks behind = flat_behind (around (table_sizes t) seat) seat.point call found n calling first (asks (table_sizes t)) hand (λ a is. behind a (is ∙ sym sizes))
 
 -- ## A message that goes home
 
 -- its seat needs no call in hand for it, and makes no frame
-pub put_stands : (a : Context) (p : Point) (q : ℕ) (heading : Heading) (bytes : List ℕ) → first_in (point_program a p) ≡ Some (OfCall (calls.PutMessage q heading bytes)) → (b : Context) → HasInHand b p × (framed p b ≡ b)
+pub put_stands : (a : Context) (p : Point) (q : ℕ) (heading : Heading) (bytes : List ℕ) → first_in (point_program a p) ≡ Some (OfTable (calls.PutMessage q heading bytes)) → (b : Context) → HasInHand b p × (framed p b ≡ b)
 put_stands a (points.Call begins.LoadName) q heading bytes e b = (tt, refl)
 put_stands a (points.Call (begins.ClaimId i socket)) q heading bytes e b = (tt, refl)
 put_stands a (points.Call (begins.PutCall i socket)) q heading bytes e b = (tt, refl)
@@ -67,7 +67,7 @@ put_stands a _ q heading bytes e b = (tt, refl)
 pub hand_put : (place : Seat) (hand' : InHand) → call_in hand' ≡ call_in place.hand → seat_data (record place { hand = hand' }) ≡ record (seat_data place) { message = message_in hand' }
 hand_put place hand' e = λ k. record (seat_data place) { message = message_in hand'; call = e k }
 
-module _ (s sizes : Sizes) (seat mid : SeatData) (message' : Option ParcelData) (n : Next) (calling : Calling) (q : ℕ) (heading : Heading) (bytes : List ℕ) (same : s ≡ sizes) (is : mid ≡ record seat { message = message' }) (first : first_in (seat_program sizes seat) ≡ Some (OfCall (calls.PutMessage q heading bytes)))
+module _ (s sizes : Sizes) (seat mid : SeatData) (message' : Option ParcelData) (n : Next) (calling : Calling) (q : ℕ) (heading : Heading) (bytes : List ℕ) (same : s ≡ sizes) (is : mid ≡ record seat { message = message' }) (first : first_in (seat_program sizes seat) ≡ Some (OfTable (calls.PutMessage q heading bytes)))
     (asks : (x : Sizes) → IsCalling (around x mid) calling) (behind : (a : Context) → a.sizes ≡ s → IsCalling a calling → HasInHand a seat.point → next_program (framed seat.point a) n ≡ after_word (point_program a seat.point) 0) where
   stands : (b : Context) → HasInHand b seat.point × (framed seat.point b ≡ b)
   stands b = put_stands (around sizes seat) seat.point q heading bytes first b

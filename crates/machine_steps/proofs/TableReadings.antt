@@ -18,8 +18,8 @@ use Rattle.call_points.specs.Steps as aside_steps
 use Rattle.call_points.specs.Steps.{after_word, after_call}
 use Rattle.call_slots.specs.Steps as slots
 use Rattle.call_slots.specs.Steps.{word_found}
-use Rattle.seat_states.specs.declared.call.Call.{Call}
-use Rattle.seat_states.specs.Steps.{OfCall, OfAside, step_of, kind_of_first}
+use Rattle.seat_states.specs.declared.table_step.TableStep.{TableStep}
+use Rattle.seat_states.specs.Steps.{OfTable, OfAside, step_of, kind_of_first}
 use Rattle.reader_points.specs.declared.point.ReadPoint.{ReadPoint}
 use Rattle.reader_points.specs.declared.point.ReadStep.{ReadStep}
 use Rattle.reader_points.specs.declared.point.ReadStep.TheVariants as steps
@@ -68,11 +68,11 @@ module _ (t : TableState) (reader : ReaderData) (word : ℕ) (o : Option On) (aw
   abbrev program : Program
   program = reader_program t.calls reader
 
-  call_waits : (call : Call) (on_ : On) → IsNextRead t reader (steps.Call call) → word ≡ found_at t.words (word_of t.plan (step_of call)) → o ≡ Some on_ → Tells t program Unasked (Waits on_)
+  call_waits : (call : TableStep) (on_ : On) → IsNextRead t reader (steps.Table call) → word ≡ found_at t.words (word_of t.plan (step_of call)) → o ≡ Some on_ → Tells t program Unasked (Waits on_)
   call_waits call on_ next f e = word_waits t program o on_ word (waits_call t program (step_of call) word next f) awaited.waits awaited.for_ e
 
-  call_moves' : (call : Call) (kind : Kind) → IsNextRead t reader (steps.Call call) → word ≡ found_at t.words (word_of t.plan (step_of call)) → kind ≡ kind_of_first (OfCall (step_of call)) → o ≡ None → Tells t program Unasked (Moved kind)
-  call_moves' call kind next f is e = word_moves t program o (OfCall (step_of call)) kind word (waits_call t program (step_of call) word next f) awaited.waits next is e
+  call_moves' : (call : TableStep) (kind : Kind) → IsNextRead t reader (steps.Table call) → word ≡ found_at t.words (word_of t.plan (step_of call)) → kind ≡ kind_of_first (OfTable (step_of call)) → o ≡ None → Tells t program Unasked (Moved kind)
+  call_moves' call kind next f is e = word_moves t program o (OfTable (step_of call)) kind word (waits_call t program (step_of call) word next f) awaited.waits next is e
 
   aside_waits : (step : code.Aside) (on_ : On) → IsNextRead t reader (steps.Aside step) → found_in (aside_steps.step_of reader.asked step) (beside t) core.none ≡ word_found (aside_steps.step_of reader.asked step) word → o ≡ Some on_ → Tells t program Unasked (Waits on_)
   aside_waits step on_ next f e = word_waits t program o on_ word (waits_aside t program (aside_steps.step_of reader.asked step) word next f) awaited.waits awaited.for_ e
@@ -83,9 +83,9 @@ module _ (t : TableState) (reader : ReaderData) (word : ℕ) (o : Option On) (aw
 -- ## What a step makes
 
 -- one on a word, or a move of a link
-call_told : {old fresh : TableState} (i : ℕ) (reader reader' : ReaderData) (call : Call) (word : ℕ) (tick : Tick) → SameTables old fresh → word ≡ found_at old.words (word_of old.plan (step_of call)) → GoesOn old.calls (after_word (reader_program old.calls reader) word) reader' old.outcomes fresh.outcomes →
+call_told : {old fresh : TableState} (i : ℕ) (reader reader' : ReaderData) (call : TableStep) (word : ℕ) (tick : Tick) → SameTables old fresh → word ≡ found_at old.words (word_of old.plan (step_of call)) → GoesOn old.calls (after_word (reader_program old.calls reader) word) reader' old.outcomes fresh.outcomes →
     fresh.words ≡ words_after old.words (word_of old.plan (step_of call)) (word_after (step_of call) (found_at old.words (word_of old.plan (step_of call)))) → fresh.links.holders ≡ holders_after i (step_of call) old.links.holders → OutsAfter (step_of call) old.links.outs fresh.links.outs → fresh.links.inns ≡ old.links.inns →
-    fresh.ids ≡ old.ids → fresh.ends ≡ old.ends → Tells old (reader_program old.calls reader) Unasked tick → ReadTold old fresh i reader reader' (steps.Call call) tick
+    fresh.ids ≡ old.ids → fresh.ends ≡ old.ends → Tells old (reader_program old.calls reader) Unasked tick → ReadTold old fresh i reader reader' (steps.Table call) tick
 call_told {old} {fresh} i reader reader' call word tick same f goes words holders outs inns ids ends tells = record {
   answer = Unasked;
   made = (
@@ -104,13 +104,13 @@ call_told {old} {fresh} i reader reader' call word tick same f goes words holder
   tells = tells;
 }
 
-module _ {old fresh : TableState} (i : ℕ) (reader reader' : ReaderData) (call : Call) (word : ℕ) (o : Option On) (awaited : Awaited (reader_program old.calls reader) word o) (next : IsNextRead old reader (steps.Call call)) (same : SameTables old fresh) (f : word ≡ found_at old.words (word_of old.plan (step_of call)))
+module _ {old fresh : TableState} (i : ℕ) (reader reader' : ReaderData) (call : TableStep) (word : ℕ) (o : Option On) (awaited : Awaited (reader_program old.calls reader) word o) (next : IsNextRead old reader (steps.Table call)) (same : SameTables old fresh) (f : word ≡ found_at old.words (word_of old.plan (step_of call)))
     (goes : GoesOn old.calls (after_word (reader_program old.calls reader) word) reader' old.outcomes fresh.outcomes) (words : fresh.words ≡ words_after old.words (word_of old.plan (step_of call)) (word_after (step_of call) (found_at old.words (word_of old.plan (step_of call))))) (holders : fresh.links.holders ≡ holders_after i (step_of call) old.links.holders)
     (outs : OutsAfter (step_of call) old.links.outs fresh.links.outs) (inns : fresh.links.inns ≡ old.links.inns) (ids : fresh.ids ≡ old.ids) (ends : fresh.ends ≡ old.ends) where
-  pub call_waited : (on_ : On) → o ≡ Some on_ → ReadTold old fresh i reader reader' (steps.Call call) (Waits on_)
+  pub call_waited : (on_ : On) → o ≡ Some on_ → ReadTold old fresh i reader reader' (steps.Table call) (Waits on_)
   call_waited on_ e = call_told i reader reader' call word (Waits on_) same f goes words holders outs inns ids ends (call_waits old reader word o awaited call on_ next f e)
 
-  pub call_moved : (kind : Kind) → kind ≡ kind_of_first (OfCall (step_of call)) → o ≡ None → ReadTold old fresh i reader reader' (steps.Call call) (Moved kind)
+  pub call_moved : (kind : Kind) → kind ≡ kind_of_first (OfTable (step_of call)) → o ≡ None → ReadTold old fresh i reader reader' (steps.Table call) (Moved kind)
   call_moved kind is e = call_told i reader reader' call word (Moved kind) same f goes words holders outs inns ids ends (call_moves' old reader word o awaited call kind next f is e)
 
 made_word : (old fresh : TableState) (i : ℕ) (reader reader' : ReaderData) (step : asides.Step) → FindsWord step → AsideRead old fresh i reader reader' step → MadeRead old fresh i reader reader' (OfAside step) Unasked

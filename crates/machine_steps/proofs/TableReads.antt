@@ -27,7 +27,7 @@ use Rattle.reader_points.specs.Points.{Context, point_program, error_in, ended_c
 use Rattle.reader_points.specs.Steps.{after_taking, taken_behind}
 use Rattle.reader_seats.specs.GoesOn.{GoesOn}
 use Rattle.reader_seats.specs.Readers.{ReaderData, around, reader_program}
-use Rattle.seat_states.specs.Steps.{First, OfCall, OfAside, first_of, first_in}
+use Rattle.seat_states.specs.Steps.{First, OfTable, OfAside, first_of, first_in}
 use Rattle.machine_model.proofs.FirstSteps.{IsBare, bare_first, step_is}
 use Rattle.machine_steps.proofs.TableAsides.{FindsWord}
 use Rattle.seat_programs.specs.Rounds.{first_step}
@@ -41,7 +41,7 @@ AsideFacts (asides.TakeBytes k n) p = TakesBytes p × (n ≡ room_at p)
 AsideFacts other p = GoesByWord p
 
 abbrev Facts : Option First → ReadPoint → Type 0
-Facts (Some (OfCall call)) p = GoesByWord p
+Facts (Some (OfTable call)) p = GoesByWord p
 Facts (Some (OfAside step)) p = AsideFacts step p
 Facts other p = Unit {0}
 
@@ -86,8 +86,8 @@ module _ (a : Context) (p : ReadPoint) where
   facts_at : (first : First) → first_in (point_program a p) ≡ Some first → Facts (Some first) p
   facts_at first e = subst (λ (o : Option First). Facts o p) e (facts a p)
 
-  pub reads_by_call : (call : calls.Call) → first_in (point_program a p) ≡ Some (OfCall call) → GoesByWord p
-  reads_by_call call e = facts_at (OfCall call) e
+  pub reads_by_call : (call : calls.TableStep) → first_in (point_program a p) ≡ Some (OfTable call) → GoesByWord p
+  reads_by_call call e = facts_at (OfTable call) e
 
   pub reads_by_word : (step : Step) → first_in (point_program a p) ≡ Some (OfAside step) → FindsWord step → GoesByWord p
   reads_by_word step e h = by_word step p h (facts_at (OfAside step) e)

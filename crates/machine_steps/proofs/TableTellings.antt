@@ -14,7 +14,7 @@ use Rattle.seat_programs.specs.Writings as heads
 use Rattle.seat_programs.specs.Programs.{Program, Write, Round}
 use Rattle.seat_programs.specs.Ticks.{Unasked, OfTake, is_nothing}
 use Rattle.call_slots.specs.Steps.{word_found}
-use Rattle.seat_states.specs.Steps.{First, OfCall, OfAside, first_in, step_as, kind_of_first}
+use Rattle.seat_states.specs.Steps.{First, OfTable, OfAside, first_in, step_as, kind_of_first}
 use Rattle.reader_points.specs.declared.point.ReadPoint.{ReadPoint}
 use Rattle.reader_points.specs.declared.point.ReadPoint.TheVariants as points
 use Rattle.reader_points.specs.Points.{Context, point_program, TakesBytes}
@@ -37,7 +37,7 @@ use Rattle.machine_steps.proofs.TableReads.{reads_bytes}
 
 module _ (t : TableState) (program : Program) where
   -- whether a step waits that found this word
-  pub waits_call : (call : calls.Call) (found : ℕ) → first_in program ≡ Some (OfCall call) → found ≡ found_at t.words (word_of t.plan call) → is_waiting t Unasked program ≡ waits_by program found
+  pub waits_call : (call : calls.TableStep) (found : ℕ) → first_in program ≡ Some (OfTable call) → found ≡ found_at t.words (word_of t.plan call) → is_waiting t Unasked program ≡ waits_by program found
   waits_call call found first f = call_waits t.plan (words_of t) program call first ∙ ap (waits_by program) (sym f)
 
   pub waits_aside : (step : asides.Step) (found : ℕ) → first_in program ≡ Some (OfAside step) → found_in step (beside t) core.none ≡ word_found step found → is_waiting t Unasked program ≡ waits_by program found

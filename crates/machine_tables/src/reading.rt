@@ -13,7 +13,7 @@ use call_points::Aside;
 use machine_model::{On, Tick};
 use reader_points::ReadStep;
 use reader_seats::ReaderSeat;
-use seat_states::Call;
+use seat_states::TableStep;
 use sock_io::{In, Linker, NoMemory, Out, Peer, Take};
 use sock_words::Kind;
 
@@ -49,11 +49,11 @@ impl<O: Out, I: In, P: Peer> Table<O, I, P> {
         &mut self,
         reader: &mut ReaderSeat,
         seat: u16,
-        call: Call,
+        call: TableStep,
     ) -> Result<Tick, NoMemory>
-        requires may { IsFitRead self.old reader.old (ReadStep.Call call) }
+        requires may { IsFitRead self.old reader.old (ReadStep.Table call) }
         requires sized { IsSized self.old }
-        ensures ok { IfOk result (λ tick. ReadTold self.old self.new seat reader.old reader.new (ReadStep.Call call) tick) }
+        ensures ok { IfOk result (λ tick. ReadTold self.old self.new seat reader.old reader.new (ReadStep.Table call) tick) }
         ensures err { OnErr result (IsCutTable self.old self.new) }
     {
         let point = reader.point();
@@ -141,7 +141,7 @@ impl<O: Out, I: In, P: Peer> Table<O, I, P> {
         ensures says { L.state links.new ≡ L.state links.old }
     {
         match step {
-            ReadStep::Call(call) => self.read_call(reader, seat, call),
+            ReadStep::Table(call) => self.read_call(reader, seat, call),
             ReadStep::Aside(Aside::TakeBytes(link, count)) => {
                 self.read_bytes(links, reader, link, count)
             }

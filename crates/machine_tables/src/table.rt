@@ -22,7 +22,7 @@ use call_slots::CallSlots;
 use client_seats::Seat;
 use machine_model::{Letter, On, Tick};
 use seat_programs::Sizes;
-use seat_states::{Author, Call, Step};
+use seat_states::{Author, TableStep, Step};
 use sock_io::{Ends, In, NoMemory, Out, Peer, Put, Ready};
 use sock_message::BlockPool;
 use sock_words::{Outcome, Plan};
@@ -121,11 +121,11 @@ impl<O: Out, I: In, P: Peer> Table<O, I, P> {
 
     /// A step on a word, or a move that tells nothing; for what its seat waits, if it does. Only a seat that comes to hold a life or to keep a retry
     /// wants room for it.
-    pub(crate) fn make_call(&mut self, place: &mut Seat, seat: u16, call: Call) -> Option<On>
-        requires may { IsFitStep self.old (seat_data place.old) (Step.Call call) }
+    pub(crate) fn make_call(&mut self, place: &mut Seat, seat: u16, call: TableStep) -> Option<On>
+        requires may { IsFitStep self.old (seat_data place.old) (Step.Table call) }
         requires sized { IsSized self.old }
         requires room { HasRoom place.old ⊎ AsksNone (seat_program (table_sizes self.old) (seat_data place.old)) }
-        ensures made { Makes self.old self.new seat (seat_data place.old) (seat_data place.new) (Step.Call call) Unasked }
+        ensures made { Makes self.old self.new seat (seat_data place.old) (seat_data place.new) (Step.Table call) Unasked }
         ensures waits { is_some result ≡ waits_by (seat_program (table_sizes self.old) (seat_data place.old)) (found_at self.old.words (word_of self.old.plan (step_of call))) }
         ensures on { IfSome result (IsWaitingFor (seat_program (table_sizes self.old) (seat_data place.old))) }
     {
@@ -342,7 +342,7 @@ impl<O: Out, I: In, P: Peer> Table<O, I, P> {
     {
         let kind = step.kind();
         match *step {
-            Step::Call(call) => match self.make_call(place, seat, call) {
+            Step::Table(call) => match self.make_call(place, seat, call) {
                 Some(on) => Ok(Tick::Waits(on)),
                 None => Ok(Tick::Moved(kind)),
             },

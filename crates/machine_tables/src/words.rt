@@ -8,13 +8,13 @@ ghost use Rattle.seat_states.specs.program_steps.specs.Sound.{AllowsWord};
 ghost use Rattle.seat_states.specs.Steps.{step_of};
 ghost use Rattle.machine_model.specs.Steps.{IsOfLinks, OutsAfter, holders_after};
 
-use seat_states::Call;
+use seat_states::TableStep;
 use sock_io::{Ends, In, Out, Peer};
 use sock_model::request_index;
 use sock_words::Plan;
 
 /// Makes a step on its word, and answers the word found; 0 where the step is none on a word.
-pub fn step_word(plan: &Plan, words: &mut [u64], call: Call) -> u64
+pub fn step_word(plan: &Plan, words: &mut [u64], call: TableStep) -> u64
     requires there { (x : ℕ) → word_of plan.now (step_of call) ≡ some x → x < length words.old }
     requires allowed { AllowsWord (step_of call) (found_at words.old (word_of plan.now (step_of call))) }
     ensures found { result ≡ found_at words.old (word_of plan.now (step_of call)) }
@@ -39,25 +39,25 @@ pub fn is_taken(plan: &Plan, words: &[u64], request: u16) -> bool
 }
 
 /// A seat takes a link or puts it back: who has each link in hand.
-pub fn pass_link(holders: &mut [Option<u16>], seat: u16, call: Call)
+pub fn pass_link(holders: &mut [Option<u16>], seat: u16, call: TableStep)
     requires { IsOfLinks (length holders.old) (step_of call) }
     ensures { holders.new ≡ holders_after seat (step_of call) holders.old }
 {
     match call {
-        Call::TakeLink(link) => holders[usize::from(link)] = Some(seat),
-        Call::PutLink(link) => holders[usize::from(link)] = None,
+        TableStep::TakeLink(link) => holders[usize::from(link)] = Some(seat),
+        TableStep::PutLink(link) => holders[usize::from(link)] = None,
         _ => {}
     }
 }
 
 /// Ends the writing half of a link, if this is the step.
-pub fn end_link<O: Out, I: In, P: Peer>(ends: &mut [Ends<O, I, P>], call: Call)
+pub fn end_link<O: Out, I: In, P: Peer>(ends: &mut [Ends<O, I, P>], call: TableStep)
     requires { IsOfLinks (length ends.old) (step_of call) }
     ensures outs { OutsAfter (step_of call) (map (λ (e : _). O.state e.out) ends.old) (map (λ (e : _). O.state e.out) ends.new) }
     ensures inns { map (λ (e : _). I.state e.inn) ends.new ≡ map (λ (e : _). I.state e.inn) ends.old }
     ensures ends { map (λ (e : _). end_of (O.state e.out) (I.state e.inn)) ends.new ≡ map (λ (e : _). end_of (O.state e.out) (I.state e.inn)) ends.old }
 {
-    if let Call::FinishLink(link) = call {
+    if let TableStep::FinishLink(link) = call {
         ends[usize::from(link)].out.finish();
     }
 }

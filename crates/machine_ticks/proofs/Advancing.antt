@@ -23,7 +23,7 @@ use Rattle.call_points.specs.declared.aside.Aside.TheVariants as code
 use Rattle.call_points.specs.Steps as aside_steps
 use Rattle.seat_states.specs.declared.point.Step.{Step}
 use Rattle.seat_states.specs.declared.point.Step.TheVariants as firsts
-use Rattle.seat_states.specs.Steps.{First, OfCall, OfAside, step_as, first_in}
+use Rattle.seat_states.specs.Steps.{First, OfTable, OfAside, step_as, first_in}
 use Rattle.seat_states.specs.Steps as kinds
 use Rattle.client_seats.specs.Seats.{around, seat_program, asked_or_nothing}
 use Rattle.reader_points.specs.declared.point.ReadStep.{ReadStep}
@@ -286,7 +286,7 @@ module _ (m fresh : MachineState) (room k : ℕ) (step : ReadStep) (tick : Tick)
   read_stepped took gave agrees agrees_gave = reads_by m fresh k w.one w.one' w.at w.seats w.all read_few read_sized took agrees gave agrees_gave step given_answer read_next (by_first begins read_next read_made) read_made
     where
       by_first : (f : First) → first_in reading ≡ Some f → MadeRead (table_of m) (table_of fresh) i w.one w.one' f given_answer → MayRead m fresh k w.one w.one' w.at w.seats w.all read_few read_sized took agrees gave agrees_gave f
-      by_first (OfCall call) at x = read_may (OfCall call) at
+      by_first (OfTable call) at x = read_may (OfTable call) at
       by_first (OfAside (asides.TakeBytes j count)) at x = let f = x.2.from in let low = at_length m.links.inns j f.inn f.at in let many = read_sized.inns_are in omega (arith, low, many)
       by_first _ at x = tt
 
@@ -328,7 +328,7 @@ module _ (m fresh : MachineState) (room k : ℕ) (step : ReadStep) (tick : Tick)
       (λ e. absurd (read_prompt m fresh i w.one w.one' begins given_answer read_made e))
 
   outs_by : (f : First) → first_in reading ≡ Some f → MadeRead (table_of m) (table_of fresh) i w.one w.one' f given_answer → OutsKept m.links i fresh.links.outs
-  outs_by (OfCall call) at x = kept_by m.plan m.links i fresh.links.outs call (read_may (OfCall call) at) x.1.outs
+  outs_by (OfTable call) at x = kept_by m.plan m.links i fresh.links.outs call (read_may (OfTable call) at) x.1.outs
   outs_by (OfAside aside) at x = by_step aside x
     where
       by_step : (aside : asides.Step) → MadeRead (table_of m) (table_of fresh) i w.one w.one' (OfAside aside) given_answer → OutsKept m.links i fresh.links.outs
@@ -337,7 +337,7 @@ module _ (m fresh : MachineState) (room k : ℕ) (step : ReadStep) (tick : Tick)
   outs_by _ at x = absurd x
 
   read_called : (x : ReadStep) → first_in reading ≡ Some (reader_steps.step_as w.one.asked x) → MadeRead (table_of m) (table_of fresh) i w.one w.one' (reader_steps.step_as w.one.asked x) given_answer → AreCalled fresh.ids
-  read_called (steps.Call call) at x = subst AreCalled (sym x.1.ids) (is.called enough)
+  read_called (steps.Table call) at x = subst AreCalled (sym x.1.ids) (is.called enough)
   read_called (steps.Aside aside) at x = by_step aside at x
     where
       fits : (aside : AsideStep) → first_in reading ≡ Some (OfAside (aside_steps.step_of w.one.asked aside)) → FitsSlots (table_of m) aside

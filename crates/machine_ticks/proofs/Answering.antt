@@ -30,7 +30,7 @@ use Rattle.seat_programs.specs.Posts.{end_id, unlocked}
 use Rattle.seat_states.specs.declared.point.Step.{Step}
 use Rattle.seat_programs.specs.Cores.{Core, SeatState}
 use Rattle.seat_programs.specs.Ticks.{Answer, Unasked, OfPut, OfReady, asked_link, broken_at}
-use Rattle.seat_states.specs.Steps.{First, OfCall, OfAside, OfMessage, OfLink, OfHome, first_of, first_in}
+use Rattle.seat_states.specs.Steps.{First, OfTable, OfAside, OfMessage, OfLink, OfHome, first_of, first_in}
 use Rattle.seat_states.specs.Steps as kinds
 use Rattle.client_seats.specs.Seats.{SeatData}
 use Rattle.machine_model.specs.Links.{LinksData, AreAlwaysReady, TellClosing, is_done}
@@ -59,7 +59,7 @@ prompt_set l l' k out out' at outs same always_ready j other there = ⊎_elim
     (λ a. always_ready j other a.1)
     (at_set l.outs k j out' other (sym (ap (λ (os : List OutState). get_elem? os j) outs) ∙ there))
 
-pub prompt_call : (call : calls.Call) (l l' : LinksData) → OutsAfter call l.outs l'.outs → AreAlwaysReady l → AreAlwaysReady l'
+pub prompt_call : (call : calls.TableStep) (l l' : LinksData) → OutsAfter call l.outs l'.outs → AreAlwaysReady l → AreAlwaysReady l'
 prompt_call (calls.FinishLink k) l l' o = prompt_set l l' k o.0 o.1 o.2 o.3 o.4.same.always_ready
 prompt_call _ l l' o = prompt_same l l' o
 
@@ -117,7 +117,7 @@ module _ (old fresh : MachineState) (i : ℕ) (place seat' : SeatData) (step : S
 
   -- the links stay those that they were
   pub made_links : (first : First) (answer : Answer) → MadeFirst (table_of old) (table_of fresh) i place seat' step first answer → SameLinks old fresh
-  made_links (OfCall call) answer w = links_kept old fresh w.1.ends (prompt_call call old.links fresh.links w.1.outs) (tell_same old.links fresh.links w.1.goes.base.inns)
+  made_links (OfTable call) answer w = links_kept old fresh w.1.ends (prompt_call call old.links fresh.links w.1.outs) (tell_same old.links fresh.links w.1.goes.base.inns)
   made_links (kinds.OfPut k asked bytes) answer w = asked_links w.2 (λ out out' step. step.same.always_ready)
   made_links (kinds.OfReady k) answer w = asked_links w.2 (λ out out' step. step.same.always_ready)
   made_links _ answer w = links_kept old fresh w.1.ends (prompt_same old.links fresh.links (ap (λ (l : LinksData). l.outs) w.1.links)) (tell_same old.links fresh.links w.1.goes.base.inns)
@@ -241,7 +241,7 @@ module _ (old fresh : MachineState) (i : ℕ) (c : Core) (seat : SeatState) (the
 
   -- the links tell what they answered
   pub made_told : (first : First) (answer : Answer) → MadeFirst (table_of old) (table_of fresh) i place seat' step first answer → first_in seat.program ≡ Some first → LinksTell old fresh (heard_at c (record { seat = i; answer = answer }))
-  made_told (OfCall call) answer w first = told_none answer (asks_first seat.program (OfCall call) first) w.1.ends
+  made_told (OfTable call) answer w first = told_none answer (asks_first seat.program (OfTable call) first) w.1.ends
   made_told (OfAside aside) answer w first = told_none answer (asks_first seat.program (OfAside aside) first) w.1.ends
   made_told (OfMessage q) answer w first = told_none answer (asks_first seat.program (OfMessage q) first) w.1.ends
   made_told (OfLink k) answer w first = told_none answer (asks_first seat.program (OfLink k) first) w.1.ends

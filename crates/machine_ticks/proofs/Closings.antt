@@ -23,7 +23,7 @@ use Rattle.seat_programs.specs.Runs.{from_to}
 use Rattle.machine_model.specs.run_theorems.specs.Offered.{HasTaken}
 use Rattle.machine_model.specs.run_theorems.specs.call_owing.specs.Lives.{InHand, IsFinished, ClosesAt, ClosesInTime}
 use Rattle.seat_states.specs.declared.point.Step.{Step}
-use Rattle.seat_states.specs.Steps.{First, OfCall, OfAside, OfMessage, OfLink, OfHome}
+use Rattle.seat_states.specs.Steps.{First, OfTable, OfAside, OfMessage, OfLink, OfHome}
 use Rattle.seat_states.specs.Steps as kinds
 use Rattle.reader_seats.specs.Readers.{ReaderData, reader_program}
 use Rattle.client_seats.specs.Seats.{SeatData, seat_program}
@@ -171,7 +171,7 @@ done_set l l' k j out out' at outs stays done = ap (λ (os : List OutState). don
     ∙ stays (sym (ap done_in at) ∙ ap (λ n. done_in (get_elem? l.outs n)) (sym e) ∙ done))
     (λ differ. ap done_in (set_else l.outs k j out' differ) ∙ done)
 
-done_call : (call : calls.Call) (l l' : LinksData) (j : ℕ) → OutsAfter call l.outs l'.outs → is_done l j ≡ true → is_done l' j ≡ true
+done_call : (call : calls.TableStep) (l l' : LinksData) (j : ℕ) → OutsAfter call l.outs l'.outs → is_done l j ≡ true → is_done l' j ≡ true
 done_call (calls.FinishLink k) l l' j o = done_set l l' k j o.0 o.1 o.2 o.3 (λ e. o.4.finished)
 done_call _ l l' j o = done_same l l' j o
 
@@ -202,7 +202,7 @@ module _ (l l' : LinksData) (i k j : ℕ) (own : holder_of l' k ≡ Some j) wher
   held_given : (x : ℕ) → l'.holders ≡ slice_set l.holders x None → HeldBefore l i k j
   held_given x set = held_set x None set (λ e. absurd (none-some j e))
 
-  held_call : (call : calls.Call) → l'.holders ≡ holders_after i call l.holders → HeldBefore l i k j
+  held_call : (call : calls.TableStep) → l'.holders ≡ holders_after i call l.holders → HeldBefore l i k j
   held_call (calls.TakeLink x) set = held_taken x set
   held_call (calls.PutLink x) set = held_given x set
   held_call _ same = held_same same
@@ -223,7 +223,7 @@ module _ (old fresh : MachineState) (i : ℕ) (place seat' : SeatData) (step : S
   }
 
   pub made_closed : (first : First) (answer : Answer) → MadeFirst (table_of old) (table_of fresh) i place seat' step first answer → KeepsClosed fresh
-  made_closed (OfCall call) answer w = client_closed w.1.goes.base.inns (λ j. done_call call old.links fresh.links j w.1.outs) (λ k j own. held_call old.links fresh.links i k j own call w.1.holders)
+  made_closed (OfTable call) answer w = client_closed w.1.goes.base.inns (λ j. done_call call old.links fresh.links j w.1.outs) (λ k j own. held_call old.links fresh.links i k j own call w.1.holders)
   made_closed (OfAside aside) answer w = client_closed w.1.goes.base.inns (λ j. done_same old.links fresh.links j (ap (λ (l : LinksData). l.outs) w.1.links)) (λ k j own. held_same old.links fresh.links i k j own (ap (λ (l : LinksData). l.holders) w.1.links))
   made_closed (OfMessage q) answer w = client_closed w.1.goes.base.inns (λ j. done_same old.links fresh.links j (ap (λ (l : LinksData). l.outs) w.1.links)) (λ k j own. held_same old.links fresh.links i k j own (ap (λ (l : LinksData). l.holders) w.1.links))
   made_closed (OfLink x) answer w = client_closed w.1.goes.base.inns (λ j. done_same old.links fresh.links j (ap (λ (l : LinksData). l.outs) w.1.links)) (λ k j own. held_taken old.links fresh.links i k j own x (ap (λ (l : LinksData). l.holders) w.1.links))
@@ -245,7 +245,7 @@ module _ (old fresh : MachineState) (n : ℕ) (reader reader' : ReaderData) wher
   read_asides _ answer w = links_kept old fresh w.1.ends (prompt_same old.links fresh.links (ap (λ (l : LinksData). l.outs) w.1.links)) (tell_same old.links fresh.links (ap (λ (l : LinksData). l.inns) w.1.links))
 
   pub read_links : (first : First) (answer : Answer) → MadeRead (table_of old) (table_of fresh) i reader reader' first answer → SameLinks old fresh
-  read_links (OfCall call) answer w = links_kept old fresh w.1.ends (prompt_call call old.links fresh.links w.1.outs) (tell_same old.links fresh.links w.1.inns)
+  read_links (OfTable call) answer w = links_kept old fresh w.1.ends (prompt_call call old.links fresh.links w.1.outs) (tell_same old.links fresh.links w.1.inns)
   read_links (OfAside step) answer w = read_asides step answer w
   read_links _ answer w = absurd w
 
@@ -268,7 +268,7 @@ module _ (old fresh : MachineState) (n : ℕ) (reader reader' : ReaderData) wher
       closes_asides _ answer w = one_closes old.plan before (record { seat = i; answer = answer }) (asks_none answer Unasked w.0 refl)
 
       pub read_closes : (first : First) (answer : Answer) → MadeRead (table_of old) (table_of fresh) i reader reader' first answer → ClosesInTime old.plan before (record { seat = i; answer = answer } ∷ [])
-      read_closes (OfCall call) answer w = one_closes old.plan before (record { seat = i; answer = answer }) (asks_none answer Unasked w.0 refl)
+      read_closes (OfTable call) answer w = one_closes old.plan before (record { seat = i; answer = answer }) (asks_none answer Unasked w.0 refl)
       read_closes (OfAside step) answer w = closes_asides step answer w
       read_closes _ answer w = absurd w
 
@@ -290,7 +290,7 @@ module _ (old fresh : MachineState) (n : ℕ) (reader reader' : ReaderData) wher
           (λ x j own. held_same old.links fresh.links i x j own (ap (λ (l : LinksData). l.holders) w.1.links))
 
       pub read_closed : (first : First) (answer : Answer) → MadeRead (table_of old) (table_of fresh) i reader reader' first answer → KeepsClosed fresh
-      read_closed (OfCall call) answer w = reader_closed
+      read_closed (OfTable call) answer w = reader_closed
           (λ k x there closing. done_call call old.links fresh.links k w.1.outs (kept.done k x (sym (ap (λ (is : List InState). get_elem? is k) w.1.inns) ∙ there) closing))
           (λ x j own. held_call old.links fresh.links i x j own call w.1.holders)
       read_closed (OfAside step) answer w = closed_asides step answer w

@@ -33,7 +33,7 @@ use Rattle.call_slots.proofs.Fitting.{IsOnWord, fits_prop, may_fits}
 use Rattle.seat_states.specs.declared.point.Step.{Step}
 use Rattle.seat_states.specs.declared.point.Step.TheVariants as firsts
 use Rattle.seat_states.specs.Points.{Context, MayFindId}
-use Rattle.seat_states.specs.Steps.{First, OfCall, OfAside, OfMessage, OfLink, OfHome, step_of, step_as, first_in}
+use Rattle.seat_states.specs.Steps.{First, OfTable, OfAside, OfMessage, OfLink, OfHome, step_of, step_as, first_in}
 use Rattle.seat_states.specs.Steps as kinds
 use Rattle.seat_states.proofs.StepFacts.{FitsSizes, may_find, is_within}
 use Rattle.client_seats.specs.Seats.{SeatData, around, seat_program, asked_or_nothing}
@@ -58,7 +58,7 @@ use Rattle.sock_words.specs.Words.{id_slot, id_first}
 
 -- ## Facts that have one proof at most
 
-word_prop : (call : calls.Call) (found : ℕ) → IsProp (AllowsWord call found)
+word_prop : (call : calls.TableStep) (found : ℕ) → IsProp (AllowsWord call found)
 word_prop (calls.CreateLife i k) found = hlevel props
 word_prop (calls.AddRef id) found = hlevel props
 word_prop (calls.SubRef i) found = hlevel props
@@ -73,25 +73,25 @@ word_prop (calls.StorePlace l k n) found = hlevel props
 word_prop (calls.DropPlace l k n) found = hlevel props
 word_prop _ found = hlevel props
 
-links_prop : (links : ℕ) (call : calls.Call) → IsProp (IsOfLinks links call)
+links_prop : (links : ℕ) (call : calls.TableStep) → IsProp (IsOfLinks links call)
 links_prop links (calls.TakeLink k) = hlevel props
 links_prop links (calls.FinishLink k) = hlevel props
 links_prop links (calls.PutLink k) = hlevel props
 links_prop links _ = hlevel props
 
-sizes_prop : (sizes : Sizes) (call : calls.Call) → IsProp (FitsSizes sizes call)
+sizes_prop : (sizes : Sizes) (call : calls.TableStep) → IsProp (FitsSizes sizes call)
 sizes_prop sizes (calls.ClaimSlot i) = hlevel props
 sizes_prop sizes (calls.ClaimRequest id q) = hlevel props
 sizes_prop sizes (calls.StorePlace l k n) = hlevel props
 sizes_prop sizes (calls.DropPlace l k n) = hlevel props
 sizes_prop sizes _ = hlevel props
 
-sock_prop : (call : calls.Call) (found : ℕ) → IsProp (FitsSock call found)
+sock_prop : (call : calls.TableStep) (found : ℕ) → IsProp (FitsSock call found)
 sock_prop (calls.FindLink i h) found = hlevel props
 sock_prop (calls.LoadCode i h) found = hlevel props
 sock_prop _ found = hlevel props
 
-call_prop : (p : Plan) (l : LinksData) (i : ℕ) (call : calls.Call) → IsProp (MayCall p l i call)
+call_prop : (p : Plan) (l : LinksData) (i : ℕ) (call : calls.TableStep) → IsProp (MayCall p l i call)
 call_prop p l i (calls.TakeLink k) = hlevel props
 call_prop p l i (calls.FinishLink k) = hlevel props
 call_prop p l i (calls.PutLink k) = hlevel props
@@ -99,7 +99,7 @@ call_prop p l i (calls.PutMessage q heading bytes) = hlevel props
 call_prop p l i _ = hlevel props
 
 may_prop : (p : Plan) (l : LinksData) (i : ℕ) (first : First) → IsProp (MayMake p l i first)
-may_prop p l i (OfCall call) = call_prop p l i call
+may_prop p l i (OfTable call) = call_prop p l i call
 may_prop p l i _ = hlevel props
 
 unfinished_prop : (l : LinksData) (first : First) → IsProp (AsksUnfinished l first)
@@ -119,7 +119,7 @@ is_paced_prop outs _ = hlevel props
 pub paced_prop : (sizes : Sizes) (l : LinksData) (seats : List SeatData) → IsProp (ArePaced sizes l seats)
 paced_prop sizes l seats = hlevel (props, is_paced_prop)
 
-of_links : (p : Plan) (l : LinksData) (i : ℕ) (call : calls.Call) → MayCall p l i call → IsOfLinks p.links call
+of_links : (p : Plan) (l : LinksData) (i : ℕ) (call : calls.TableStep) → MayCall p l i call → IsOfLinks p.links call
 of_links p l i (calls.TakeLink k) may = may.0
 of_links p l i (calls.FinishLink k) may = may.0
 of_links p l i (calls.PutLink k) may = may.0
@@ -161,18 +161,18 @@ module _ (m : MachineState) (room : ℕ) (is : IsMachine m room) (enough : m.sho
 
     -- ### A step on a word
 
-    module _ (call : calls.Call) (next : first_in program ≡ Some (OfCall call)) where
+    module _ (call : calls.TableStep) (next : first_in program ≡ Some (OfTable call)) where
       word_there : (x : ℕ) → word_of m.plan call ≡ core.some x → x < length m.words
-      word_there = ∥∥₁_elim sound (hlevel props) (λ s. (says s (OfCall call) next).1.0.0)
+      word_there = ∥∥₁_elim sound (hlevel props) (λ s. (says s (OfTable call) next).1.0.0)
 
       word_allowed : AllowsWord call (found_at m.words (word_of m.plan call))
-      word_allowed = ∥∥₁_elim sound (word_prop call (found_at m.words (word_of m.plan call))) (λ s. (says s (OfCall call) next).1.0.1)
+      word_allowed = ∥∥₁_elim sound (word_prop call (found_at m.words (word_of m.plan call))) (λ s. (says s (OfTable call) next).1.0.1)
 
       word_links : IsOfLinks m.plan.links call
-      word_links = ∥∥₁_elim sound (links_prop m.plan.links call) (λ s. of_links m.plan m.links i call (says s (OfCall call) next).0)
+      word_links = ∥∥₁_elim sound (links_prop m.plan.links call) (λ s. of_links m.plan m.links i call (says s (OfTable call) next).0)
 
       word_sizes : FitsSizes (machine_sizes m) call
-      word_sizes = ∥∥₁_elim sound (sizes_prop (machine_sizes m) call) (λ s. (says s (OfCall call) next).1.1)
+      word_sizes = ∥∥₁_elim sound (sizes_prop (machine_sizes m) call) (λ s. (says s (OfTable call) next).1.1)
 
       word_sock : FitsSock call (found_at m.words (word_of m.plan call))
       word_sock = ∥∥₁_elim sound (sock_prop call (found_at m.words (word_of m.plan call))) (λ s. finds_word m sized s i program (own_at s) call next)
@@ -231,7 +231,7 @@ module _ (m : MachineState) (room : ℕ) (is : IsMachine m room) (enough : m.sho
         core.some-ne-none _ (core.some-injective _ _ (sym h.2 ∙ at_longer (map letter_home m.letters) _ q (letter_home None) (at_map letter_home m.letters q None e)))))
     lettered q next (Some letter) e = (letter, e)
 
-    goes_word : (call : calls.Call) → first_in client ≡ Some (OfCall call) → MayGoOn (table_of m) seat (found_at m.words (word_of m.plan call))
+    goes_word : (call : calls.TableStep) → first_in client ≡ Some (OfTable call) → MayGoOn (table_of m) seat (found_at m.words (word_of m.plan call))
     goes_word call next = record {
       within = is_within a seat.point call (machine_sizes m) next few_requests (word_sizes i client client_at call next);
       ids = within_ids m.plan m.ids.plan few a seat.point refl (goes_ids i client client_at);
@@ -248,7 +248,7 @@ module _ (m : MachineState) (room : ℕ) (is : IsMachine m room) (enough : m.sho
     }
 
     by_step : (step : Step) → first_in client ≡ Some (step_as a step) → Fits (table_of m) seat step
-    by_step (firsts.Call call) next = (word_there i client client_at (step_of call) next, word_allowed i client client_at (step_of call) next, word_links i client client_at (step_of call) next, goes_word (step_of call) next)
+    by_step (firsts.Table call) next = (word_there i client client_at (step_of call) next, word_allowed i client client_at (step_of call) next, word_links i client client_at (step_of call) next, goes_word (step_of call) next)
     by_step (firsts.Aside step) next = (id_slots i client client_at (asked_or_nothing seat.call) step next, λ word found. goes_aside (aside_steps.step_of (asked_or_nothing seat.call) step) word next found)
     by_step (firsts.PutMessage q author) next = let inside : q < m.plan.requests = ∥∥₁_elim sound (hlevel props) (λ s. (says i client client_at s (step_as a (firsts.PutMessage q author)) next).0) in (
       (let b = sized.letters_are in omega (arith, inside, b)),
@@ -301,7 +301,7 @@ module _ (m : MachineState) (room : ℕ) (is : IsMachine m room) (enough : m.sho
     reads_on found finds = record { within = reads_within m.plan m.ids.plan few (readers.around m.calls reader) reader.point (goes_ids (READERS + k) own reader_at); word = finds }
 
     by_read : (step : ReadStep) → first_in own ≡ Some (reader_steps.step_as reader.asked step) → FitsRead (table_of m) reader step
-    by_read (steps.Call call) next = (
+    by_read (steps.Table call) next = (
       word_there (READERS + k) own reader_at (step_of call) next,
       word_allowed (READERS + k) own reader_at (step_of call) next,
       word_links (READERS + k) own reader_at (step_of call) next,

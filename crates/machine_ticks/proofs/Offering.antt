@@ -19,7 +19,7 @@ use Rattle.seat_programs.specs.Cores.{Core, SeatState}
 use Rattle.seat_programs.specs.Ticks.{Answer, Unasked, OfPut, OfReady, Moment, taken}
 use Rattle.machine_model.specs.run_theorems.specs.Offered.{GaveSo, OffersAt, AreOffered}
 use Rattle.seat_states.specs.declared.point.Step.{Step}
-use Rattle.seat_states.specs.Steps.{First, OfCall, OfAside, OfMessage, OfLink, OfHome}
+use Rattle.seat_states.specs.Steps.{First, OfTable, OfAside, OfMessage, OfLink, OfHome}
 use Rattle.seat_states.specs.Steps as kinds
 use Rattle.reader_seats.specs.Readers.{ReaderData, reader_program}
 use Rattle.client_seats.specs.Seats.{SeatData}
@@ -84,7 +84,7 @@ module _ (l l' : LinksData) (k : ℕ) (serve : Bool) (end : Option ℕ) (h : IsO
     offering_set : IsOffering l' k serve end
     offering_set = dite (ℕ_discrete k x) offering_here offering_else
 
-  offering_call : (call : calls.Call) → OutsAfter call l.outs l'.outs → l'.inns ≡ l.inns → IsOffering l' k serve end
+  offering_call : (call : calls.TableStep) → OutsAfter call l.outs l'.outs → l'.inns ≡ l.inns → IsOffering l' k serve end
   offering_call (calls.FinishLink x) o inns = offering_set x o.0 o.1 o.2 o.3 inns (serves_finish o.0 o.1 o.4)
   offering_call _ o inns = offering_same o inns
 
@@ -106,7 +106,7 @@ module _ (old fresh : MachineState) (i : ℕ) (place seat' : SeatData) (step : S
     all_same same = subst (λ (l : LinksData). IsOffering l k serve end) (sym same) h
 
     pub made_offering : (first : First) (answer : Answer) → MadeFirst (table_of old) (table_of fresh) i place seat' step first answer → IsOffering fresh.links k serve end
-    made_offering (OfCall call) answer w = offering_call old.links fresh.links k serve end h call w.1.outs w.1.goes.base.inns
+    made_offering (OfTable call) answer w = offering_call old.links fresh.links k serve end h call w.1.outs w.1.goes.base.inns
     made_offering (OfAside aside) answer w = all_same w.1.links
     made_offering (OfMessage q) answer w = all_same w.1.links
     made_offering (OfLink x) answer w = offering_same old.links fresh.links k serve end h (ap (λ (l : LinksData). l.outs) w.1.links) (ap (λ (l : LinksData). l.inns) w.1.links)
@@ -153,7 +153,7 @@ module _ (old fresh : MachineState) (n : ℕ) (reader reader' : ReaderData) (k :
   offering_asides _ answer w = subst (λ (l : LinksData). IsOffering l k serve end) (sym w.1.links) h
 
   pub read_offering : (first : First) (answer : Answer) → MadeRead (table_of old) (table_of fresh) i reader reader' first answer → IsOffering fresh.links k serve end
-  read_offering (OfCall call) answer w = offering_call old.links fresh.links k serve end h call w.1.outs w.1.inns
+  read_offering (OfTable call) answer w = offering_call old.links fresh.links k serve end h call w.1.outs w.1.inns
   read_offering (OfAside step) answer w = offering_asides step answer w
   read_offering _ answer w = absurd w
 
@@ -196,6 +196,6 @@ module _ (old fresh : MachineState) (n : ℕ) (reader reader' : ReaderData) (k :
     offers_asides _ answer w = one_offers old.plan k serve end before (record { seat = i; answer = answer }) Unasked w.0 refl
 
     pub read_offers : (first : First) (answer : Answer) → MadeRead (table_of old) (table_of fresh) i reader reader' first answer → AreOffered old.plan k serve end before (record { seat = i; answer = answer } ∷ [])
-    read_offers (OfCall call) answer w = one_offers old.plan k serve end before (record { seat = i; answer = answer }) Unasked w.0 refl
+    read_offers (OfTable call) answer w = one_offers old.plan k serve end before (record { seat = i; answer = answer }) Unasked w.0 refl
     read_offers (OfAside step) answer w = offers_asides step answer w
     read_offers _ answer w = absurd w

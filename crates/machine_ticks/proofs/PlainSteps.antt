@@ -24,7 +24,7 @@ use Rattle.seat_states.specs.declared.point.Author.{Author}
 use Rattle.seat_states.specs.declared.point.Point.{Point}
 use Rattle.seat_states.specs.declared.point.Point.TheVariants as points
 use Rattle.seat_states.specs.Points.{Context, point_program, heading_by, holder_of, tell, written_program, HasInHand, HasLinkAt, TellsCodeAt, framed}
-use Rattle.seat_states.specs.Steps.{First, OfCall, step_as, first_in, kind_of_first}
+use Rattle.seat_states.specs.Steps.{First, OfTable, step_as, first_in, kind_of_first}
 use Rattle.client_seats.specs.Seats.{SeatData, around, seat_program}
 use Rattle.reader_seats.specs.Readers.{ReaderData, reader_program}
 use Rattle.machine_model.specs.declared.tick.Tick.{Tick}
@@ -142,7 +142,7 @@ module _ (m fresh : MachineState) (room : ℕ) (step : Step) (tick : Tick) (is :
   StaysPlain seat = AsksNone (seat_program (machine_sizes m) seat) × (seat.waiting ≡ [])
 
   by_first : (f : First) → IsCall f → MadeFirst (table_of m) (table_of fresh) 0 w.one w.one' step f w.told.answer → StaysPlain w.one' × (fresh.ends ≡ m.ends) × ((gave : Given) → AgreesGave m.links gave → AgreesGave fresh.links gave)
-  by_first (OfCall call) c x =
+  by_first (OfTable call) c x =
       let goes = x.1.goes in let found : ℕ = found_at m.words (word_of m.plan call) in let none_ = (plain w.one w.at).1 in
       let r = resolved_none (after_word program found) (after_none program found (plain w.one w.at).0) in (
         (

@@ -7,7 +7,7 @@ use Rattle.seat_programs.specs.Asides.{TakeBytes}
 use Rattle.seat_programs.specs.Programs.{Program}
 use Rattle.seat_programs.specs.Cores.{resolved}
 use Rattle.seat_programs.specs.Ticks.{Answer, OfReady}
-use Rattle.seat_states.specs.Steps.{First, OfCall, OfAside}
+use Rattle.seat_states.specs.Steps.{First, OfTable, OfAside}
 use Rattle.reader_seats.specs.Readers.{ReaderData}
 use Rattle.reader_seats.specs.GoesOn.{GoesOn}
 use Rattle.machine_model.specs.Machines.{MachineState, HasSizes, table_of}
@@ -17,7 +17,7 @@ use Rattle.machine_model.proofs.Lengths.{length_said, length_holders, length_out
 
 -- no link is asked to take more
 pub read_prompt : (old fresh : MachineState) (i : ℕ) (reader reader' : ReaderData) (first : First) (answer : Answer) → MadeRead (table_of old) (table_of fresh) i reader reader' first answer → answer ≢ OfReady ready.NotYet
-read_prompt old fresh i reader reader' (OfCall call) answer w yet = let e = w.0 in cc
+read_prompt old fresh i reader reader' (OfTable call) answer w yet = let e = w.0 in cc
 read_prompt old fresh i reader reader' (OfAside step) answer w yet = by_step step w yet
   where
     by_step : (step : asides.Step) → MadeRead (table_of old) (table_of fresh) i reader reader' (OfAside step) answer → answer ≢ OfReady ready.NotYet
@@ -32,7 +32,7 @@ module _ (old fresh : MachineState) (i : ℕ) (reader reader' : ReaderData) wher
   said_many next goes = ap length goes.told ∙ length_said (resolved [] next) old.outcomes
 
   pub read_many : (first : First) (answer : Answer) → MadeRead (table_of old) (table_of fresh) i reader reader' first answer → AsMany (table_of old) (table_of fresh)
-  read_many (OfCall call) answer w = record {
+  read_many (OfTable call) answer w = record {
     letters = ap length w.1.same.letters;
     holders = ap length w.1.holders ∙ length_holders i call old.links.holders;
     nexts = ap length w.1.same.nexts;
@@ -55,7 +55,7 @@ module _ (old fresh : MachineState) (i : ℕ) (reader reader' : ReaderData) wher
   read_many _ answer w = absurd w
 
   pub read_same : (first : First) (answer : Answer) → MadeRead (table_of old) (table_of fresh) i reader reader' first answer → SameTables (table_of old) (table_of fresh)
-  read_same (OfCall call) answer w = w.1.same
+  read_same (OfTable call) answer w = w.1.same
   read_same (OfAside step) answer w = by_step step w
     where
       by_step : (step : asides.Step) → MadeRead (table_of old) (table_of fresh) i reader reader' (OfAside step) answer → SameTables (table_of old) (table_of fresh)

@@ -23,7 +23,7 @@ use Rattle.seat_programs.specs.Programs.{Program, Write, Aside, Round}
 use Rattle.seat_programs.specs.Cores.{Core, SeatState}
 use Rattle.seat_programs.specs.Ticks.{Answer, Unasked, OfPut, OfReady, OfTake, Moment, taken, IsAnswer, IsAnswered, asked_link, is_refusal, broken_at, broken_in}
 use Rattle.seat_states.specs.declared.point.Step.{Step}
-use Rattle.seat_states.specs.Steps.{First, OfCall, OfAside, first_of, first_in}
+use Rattle.seat_states.specs.Steps.{First, OfTable, OfAside, first_of, first_in}
 use Rattle.seat_states.specs.Steps as kinds
 use Rattle.reader_seats.specs.Readers.{ReaderData}
 use Rattle.client_seats.specs.Seats.{SeatData}
@@ -149,7 +149,7 @@ module _ (old fresh : MachineState) (i : ℕ) (reader reader' : ReaderData) (p :
   broken_asides _ answer w = quiet_broken p c i answer Unasked w.0 refl
 
   read_quiet : (first : First) (answer : Answer) → MadeRead (table_of old) (table_of fresh) i reader reader' first answer → broken_in p c (record { seat = i; answer = answer } ∷ []) ≡ []
-  read_quiet (OfCall call) answer w = quiet_broken p c i answer Unasked w.0 refl
+  read_quiet (OfTable call) answer w = quiet_broken p c i answer Unasked w.0 refl
   read_quiet (OfAside step) answer w = broken_asides step answer w
   read_quiet _ answer w = absurd w
 
@@ -168,7 +168,7 @@ module _ (old fresh : MachineState) (i : ℕ) (reader reader' : ReaderData) (p :
   told_asides step answer next w = tells_none old fresh w.1.ends (heard_in p c (record { seat = i; answer = answer } ∷ [])) (heard_none answer (asks_first seat.program (OfAside step) next))
 
   pub read_told : (first : First) (answer : Answer) → first_in seat.program ≡ Some first → MadeRead (table_of old) (table_of fresh) i reader reader' first answer → LinksTell old fresh (heard_in p c (record { seat = i; answer = answer } ∷ []))
-  read_told (OfCall call) answer next w = tells_none old fresh w.1.ends (heard_in p c (record { seat = i; answer = answer } ∷ [])) (heard_none answer (asks_first seat.program (OfCall call) next))
+  read_told (OfTable call) answer next w = tells_none old fresh w.1.ends (heard_in p c (record { seat = i; answer = answer } ∷ [])) (heard_none answer (asks_first seat.program (OfTable call) next))
   read_told (OfAside step) answer next w = told_asides step answer next w
   read_told _ answer next w = absurd w
 
@@ -201,7 +201,7 @@ module _ (old fresh : MachineState) (i : ℕ) (reader reader' : ReaderData) (p :
 
   -- each reading half shows what it answered
   pub read_taken : (first : First) (answer : Answer) → first_in seat.program ≡ Some first → MadeRead (table_of old) (table_of fresh) i reader reader' first answer → ShowTakings fresh (taken_in p c (record { seat = i; answer = answer } ∷ []))
-  read_taken (OfCall call) answer next w = takings_none fresh (taken_in p c (record { seat = i; answer = answer } ∷ [])) (taken_none answer (takes_first seat.program (OfCall call) next))
+  read_taken (OfTable call) answer next w = takings_none fresh (taken_in p c (record { seat = i; answer = answer } ∷ [])) (taken_none answer (takes_first seat.program (OfTable call) next))
   read_taken (OfAside step) answer next w = taken_asides step answer next w
   read_taken _ answer next w = absurd w
 
@@ -213,6 +213,6 @@ module _ (old fresh : MachineState) (i : ℕ) (reader reader' : ReaderData) (p :
 
   -- and tells it
   pub read_takes : (first : First) (answer : Answer) → first_in seat.program ≡ Some first → MadeRead (table_of old) (table_of fresh) i reader reader' first answer → TakesTell old fresh (taken_in p c (record { seat = i; answer = answer } ∷ []))
-  read_takes (OfCall call) answer next w = takes_none old fresh w.1.ends (taken_in p c (record { seat = i; answer = answer } ∷ [])) (taken_none answer (takes_first seat.program (OfCall call) next))
+  read_takes (OfTable call) answer next w = takes_none old fresh w.1.ends (taken_in p c (record { seat = i; answer = answer } ∷ [])) (taken_none answer (takes_first seat.program (OfTable call) next))
   read_takes (OfAside step) answer next w = takes_asides step answer next w
   read_takes _ answer next w = absurd w

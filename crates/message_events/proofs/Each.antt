@@ -20,7 +20,7 @@ use Rattle.sock_model.specs.ChainRows.{with_right, without_right, walking_right,
 use Rattle.sock_model.specs.Lawful.{Lawful}
 use Rattle.sock_model.specs.Layout.{head_index, request_index}
 use Rattle.sock_steps.proofs.WriteSteps.{writes_in}
-use Rattle.seat_programs.specs.Calls.{Call, TakeLink, PutLink, LookWord, ClaimRequest, SwapHead, EmptyHead, ReadNext, ReverseNext, FreeRequest, StorePlace, DropPlace}
+use Rattle.seat_programs.specs.Calls.{TableStep, TakeLink, PutLink, LookWord, ClaimRequest, SwapHead, EmptyHead, ReadNext, ReverseNext, FreeRequest, StorePlace, DropPlace}
 use Rattle.seat_programs.specs.Cores.{Core, found_at, words_after, homes_after, link_place}
 use Rattle.seat_programs.specs.StepTables.{word_of, word_after}
 use Rattle.seat_programs.specs.Ticks.{FitsPut}
@@ -70,28 +70,28 @@ module _ (p : Plan) (c : Core) (views : List View) (o : Lawful (λ (home : Home)
   -- ## Steps on words
 
   module _ (c' : Core) (in_hand : List Home) where
-    abbrev found : Call → ℕ
+    abbrev found : TableStep → ℕ
     found call = found_at c.words (word_of p call)
 
-    abbrev hand : Call → Hand
+    abbrev hand : TableStep → Hand
     hand call = hand_at p c.words c.homes call
 
-    abbrev Behind : Call → Type 0
+    abbrev Behind : TableStep → Type 0
     Behind call = (c'.words ≡ words_after c.words (word_of p call) (word_after call (found call))) × (c'.homes ≡ homes_after p call in_hand c.homes)
 
-    abbrev IsStep : Call → Type 0
+    abbrev IsStep : TableStep → Type 0
     IsStep call = IsEvent p c views (event_of call (found call) v) c' (set views i (row p call (found call) (hand call) v))
 
-    requests_of : (call : Call) → Behind call → May p v call → on_request call ≡ false → (r : ℕ) → r < p.requests → slice_index c'.words (request_index p r) ≡ slice_index c.words (request_index p r)
+    requests_of : (call : TableStep) → Behind call → May p v call → on_request call ≡ false → (r : ℕ) → r < p.requests → slice_index c'.words (request_index p r) ≡ slice_index c.words (request_index p r)
     requests_of call b may is r rl = ap (λ l. slice_index l (request_index p r)) b.0 ∙ requests_after p c.words r rl v call (found call) may is
 
     -- a step that leaves each link
-    leaves : (call : Call) → event_of call (found call) v ≡ Nothing → Behind call → May p v call → leaves_links call ≡ true → on_request call ≡ false → is_exchange call ≡ false → IsStep call
+    leaves : (call : TableStep) → event_of call (found call) v ≡ Nothing → Behind call → May p v call → leaves_links call ≡ true → on_request call ≡ false → is_exchange call ≡ false → IsStep call
     leaves call none_ b may links word other = subst (λ e. IsEvent p c views e c' (set views i (row p call (found call) (hand call) v))) (sym none_) (nothing c' (row p call (found call) (hand call) v) (lists_stay p v (found call) (hand call) call other)
         (stand_stays p c c' views i v at call (found call) (hand call) in_hand may links b.1) (requests_of call b may word))
 
     claims : (id q : ℕ) → Behind (ClaimRequest id q) → May p v (ClaimRequest id q) → IsStep (ClaimRequest id q)
-    claims id q b may = let call : Call = ClaimRequest id q in let lists = lists_stay p v (found (ClaimRequest id q)) (hand (ClaimRequest id q)) (ClaimRequest id q) refl in
+    claims id q b may = let call : TableStep = ClaimRequest id q in let lists = lists_stay p v (found (ClaimRequest id q)) (hand (ClaimRequest id q)) (ClaimRequest id q) refl in
         let stands = stand_stays p c c' views i v at (ClaimRequest id q) (found (ClaimRequest id q)) (hand (ClaimRequest id q)) in_hand may refl b.1 in dite (ℕ_discrete (slice_index c.words (request_index p q) % 2) 0)
         (λ even. subst (λ (e : Event). IsEvent p c views e c' (set views i (row p (ClaimRequest id q) (found (ClaimRequest id q)) (hand (ClaimRequest id q)) v))) (sym (ap (λ b. cond b (Claim q) Nothing) (eq-eqb (slice_index c.words (request_index p q) % 2) 0 even))) record {
           may = claim_may p c views q even;
@@ -115,7 +115,7 @@ module _ (p : Plan) (c : Core) (views : List View) (o : Lawful (λ (home : Home)
         })
 
     looks : (id : ℕ) → Behind (LookWord id) → May p v (LookWord id) → IsStep (LookWord id)
-    looks id b may = let call : Call = LookWord id in let lists = lists_stay p v (found (LookWord id)) (hand (LookWord id)) (LookWord id) refl in
+    looks id b may = let call : TableStep = LookWord id in let lists = lists_stay p v (found (LookWord id)) (hand (LookWord id)) (LookWord id) refl in
         let requests = requests_of (LookWord id) b may refl in let w : View = row p (LookWord id) (found (LookWord id)) (hand (LookWord id)) v in ⊎_elim
         (λ idle. nothing c' w lists (λ k. same_stand p c views o i v at c' w
         (ap (λ rs. (by_right rs (looked_clean (socket_id_slot id) (found (LookWord id)) v) (looked (socket_id_slot id) (found (LookWord id)) v)).rights) idle)
@@ -124,11 +124,11 @@ module _ (p : Plan) (c : Core) (views : List View) (o : Lawful (λ (home : Home)
         (λ mine. nothing c' w lists (kept p c views o i v at mine.0 mine.1 c' w (looks_keeps p c views o i v at mine.0 mine.1 id (found (LookWord id)) (hand (LookWord id))) (same_homes p c c' mine.0.link b.1)) requests)
         may.1
 
-    other_step : (call : Call) → is_exchange call ≡ false → (row p call (found call) (hand call) v).lists ≡ v.lists
+    other_step : (call : TableStep) → is_exchange call ≡ false → (row p call (found call) (hand call) v).lists ≡ v.lists
     other_step call other = lists_stay p v (found call) (hand call) call other
 
     -- a step that leaves what the right tells
-    keeps_right : (call : Call) → event_of call (found call) v ≡ Nothing → Behind call → May p v call → on_request call ≡ false → homes_after p call in_hand c.homes ≡ c.homes → is_exchange call ≡ false → (r : Right) (one : v.rights ≡ r ∷ [])
+    keeps_right : (call : TableStep) → event_of call (found call) v ≡ Nothing → Behind call → May p v call → on_request call ≡ false → homes_after p call in_hand c.homes ≡ c.homes → is_exchange call ≡ false → (r : Right) (one : v.rights ≡ r ∷ [])
         → Keeps p c views o i v at r one (row p call (found call) (hand call) v) (of_right r) → IsStep call
     keeps_right call none_ b may word homes other r one k = subst (λ e. IsEvent p c views e c' (set views i (row p call (found call) (hand call) v))) (sym none_) (nothing c' (row p call (found call) (hand call) v) (other_step call other)
         (kept p c views o i v at r one c' (row p call (found call) (hand call) v) k (same_homes p c c' r.link (b.1 ∙ homes))) (requests_of call b may word))
@@ -223,7 +223,7 @@ module _ (p : Plan) (c : Core) (views : List View) (o : Lawful (λ (home : Home)
         (stand_puts p c views o i v at k in_hand are may.1 c' b.1 (omega (arith, sized, k_in))) (requests_of (PutLink k) b may refl)
 
     -- each step is one event or none
-    pub each_call : (call : Call) → AreHeld in_hand v.rights v.hands → length c.homes ≡ p.requests + p.links → Behind call → May p v call → IsStep call
+    pub each_call : (call : TableStep) → AreHeld in_hand v.rights v.hands → length c.homes ≡ p.requests + p.links → Behind call → May p v call → IsStep call
     each_call (TakeLink k) held sized b may = takes_link k b may
     each_call (PutLink k) held sized b may = puts_link k (held_in_hand in_hand v.rights v.hands may.2 held) sized b may
     each_call (LookWord id) held sized b may = looks id b may

@@ -25,7 +25,7 @@ use Rattle.chain_steps.proofs.Heads.{held_of, slot_is}
 use Rattle.chain_steps.proofs.Frees.{generation_is}
 use Rattle.atomic_table.proofs.Lists.{set_else}
 use Rattle.sock_steps.proofs.RightSteps.{right_in, right_alone}
-use Rattle.seat_programs.specs.Calls.{Call, TakeLink, PutLink, PutMessage, FreeRequest}
+use Rattle.seat_programs.specs.Calls.{TableStep, TakeLink, PutLink, PutMessage, FreeRequest}
 use Rattle.seat_programs.specs.Cores.{Core, homes_after}
 use Rattle.seat_programs.specs.StepTables.{row}
 use Rattle.seat_programs.specs.StepTables.{May}
@@ -63,7 +63,7 @@ module _ (p : Plan) (c c' : Core) (views : List View) (i : ℕ) (v : View) (at :
   stand_same w k same home = stand_on w k (ap (filter (λ (x : Right). eqb x.link k)) same.0) (ap (filter (λ (x : Hand). eqb x.link k)) same.1) home
 
 -- whether a step leaves rights, hands and links
-abbrev pub leaves_links : Call → Bool
+abbrev pub leaves_links : TableStep → Bool
 leaves_links call = not (moves_hand call || moves_right call)
 
 neither : (a b : Bool) → not (a || b) ≡ true → (a ≡ false) × (b ≡ false)
@@ -71,21 +71,21 @@ neither false false is = (refl, refl)
 neither false true is = absurd (true≢false (sym is))
 neither true b is = absurd (true≢false (sym is))
 
-pub row_same : (p : Plan) (v : View) (found : ℕ) (hand : Hand) (call : Call) → leaves_links call ≡ true → SameStand v (row p call found hand v)
+pub row_same : (p : Plan) (v : View) (found : ℕ) (hand : Hand) (call : TableStep) → leaves_links call ≡ true → SameStand v (row p call found hand v)
 row_same p v found hand call is = let still = neither (moves_hand call) (moves_right call) is in (rights_stay p v found hand call still.1, hands_stay p v found hand call still.0)
 
 -- the home of a request is none of a link
 pub home_else : (p : Plan) (homes : List (Option Home)) (q k : ℕ) (x : Option Home) → q ≢ p.requests + k → link_home (λ home. home) p (set homes q x) k ≡ link_home (λ home. home) p homes k
 home_else p homes q k x ne = ap (λ y. took_of (as_link (shown (λ (home : Home). home) y))) (set_else homes q (p.requests + k) x (λ e. ne (sym e)))
 
-pub homes_same : (p : Plan) (v : View) (homes : List (Option Home)) (hand : List Home) (call : Call) → May p v call → leaves_links call ≡ true → (k : ℕ) → link_home (λ home. home) p (homes_after p call hand homes) k ≡ link_home (λ home. home) p homes k
+pub homes_same : (p : Plan) (v : View) (homes : List (Option Home)) (hand : List Home) (call : TableStep) → May p v call → leaves_links call ≡ true → (k : ℕ) → link_home (λ home. home) p (homes_after p call hand homes) k ≡ link_home (λ home. home) p homes k
 homes_same p v homes hand (PutMessage q heading bytes) may is k = let low = may.0 in home_else p homes q k (some (Message heading bytes)) (λ e. omega (arith, low, e))
 homes_same p v homes hand (TakeLink k) may is j = absurd (true≢false (sym is))
 homes_same p v homes hand (PutLink k) may is j = absurd (true≢false (sym is))
 homes_same p v homes hand _ may is k = refl
 
 -- each such step leaves how each link stands
-pub stand_stays : (p : Plan) (c c' : Core) (views : List View) (i : ℕ) (v : View) → get_elem? views i ≡ some v → (call : Call) (found : ℕ) (hand : Hand) (in_hand : List Home) → May p v call → leaves_links call ≡ true
+pub stand_stays : (p : Plan) (c c' : Core) (views : List View) (i : ℕ) (v : View) → get_elem? views i ≡ some v → (call : TableStep) (found : ℕ) (hand : Hand) (in_hand : List Home) → May p v call → leaves_links call ≡ true
     → c'.homes ≡ homes_after p call in_hand c.homes → (k : ℕ) → stand p c' (set views i (row p call found hand v)) k ≡ stand p c views k
 stand_stays p c c' views i v at call found hand in_hand may is homes k = stand_same p c c' views i v at (row p call found hand v) k (row_same p v found hand call is)
     (ap (λ hs. link_home (λ home. home) p hs k) homes ∙ homes_same p v c.homes in_hand call may is k)

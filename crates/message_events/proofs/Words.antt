@@ -8,20 +8,20 @@ use lib.Seq.{set-get_or}
 use Rattle.sock_words.specs.declared.plain.Plan.{Plan}
 use Rattle.sock_model.specs.declared.view.View.{View}
 use Rattle.sock_model.specs.Layout.{request_index, all_words}
-use Rattle.seat_programs.specs.Calls.{Call, ClaimRequest, FreeRequest}
+use Rattle.seat_programs.specs.Calls.{TableStep, ClaimRequest, FreeRequest}
 use Rattle.seat_programs.specs.TableWords.{RequestOf}
 use Rattle.seat_programs.specs.StepTables.{May, word_of, word_after}
 use Rattle.seat_programs.specs.Cores.{words_after}
 use Rattle.sock_runs.specs.program_steps.proofs.WordFrame.{word_stays}
 
 -- whether a step changes the word of a request
-abbrev pub on_request : Call → Bool
+abbrev pub on_request : TableStep → Bool
 on_request (ClaimRequest id q) = true
 on_request (FreeRequest q g) = true
 on_request other = false
 
 -- each other step leaves it
-pub requests_after : (p : Plan) (ws : List ℕ) (r : ℕ) → r < p.requests → (v : View) (call : Call) (found : ℕ) → May p v call → on_request call ≡ false
+pub requests_after : (p : Plan) (ws : List ℕ) (r : ℕ) → r < p.requests → (v : View) (call : TableStep) (found : ℕ) → May p v call → on_request call ≡ false
     → slice_index (words_after ws (word_of p call) (word_after call found)) (request_index p r) ≡ slice_index ws (request_index p r)
 requests_after p ws r inside v (ClaimRequest id q) found may is = absurd (true≢false is)
 requests_after p ws r inside v (FreeRequest q g) found may is = absurd (true≢false is)

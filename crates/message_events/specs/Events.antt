@@ -5,7 +5,7 @@ use Rattle.sock_io.specs.declared.link.Put.TheVariants.{Took}
 use Rattle.sock_model.specs.declared.chain.Claim.{Claim}
 use Rattle.sock_model.specs.declared.view.View.{View}
 use Rattle.sock_model.specs.ChainRows.{entry_of}
-use Rattle.seat_programs.specs.Calls.{Call, ClaimRequest, SwapHead, FreeRequest, StorePlace, DropPlace}
+use Rattle.seat_programs.specs.Calls.{TableStep, ClaimRequest, SwapHead, FreeRequest, StorePlace, DropPlace}
 use Rattle.message_events.specs.Messages.{Event, Nothing, Accept, Take, Place, Dropped, Free}
 use Rattle.message_events.specs.Messages as messages
 use Rattle.sock_words.specs.Words.{IDLE}
@@ -15,7 +15,7 @@ abbrev pub accept_event : ℕ → List Claim → Event
 accept_event found [] = Nothing
 accept_event found (c ∷ cs) = Accept (entry_of c (if nat_lt found IDLE then found else found - IDLE))
 
-abbrev pub event_of : Call → ℕ → View → Event
+abbrev pub event_of : TableStep → ℕ → View → Event
 event_of (ClaimRequest id q) found v = if found % 2 == 0 then messages.Claim q else Nothing
 event_of (SwapHead i own) found v = accept_event found v.claims
 event_of (StorePlace l k n) found v = Place k

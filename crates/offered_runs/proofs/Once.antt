@@ -15,7 +15,7 @@ use Rattle.slot_steps.proofs.Sums.{total-append, total-set, term_le}
 use Rattle.sock_steps.proofs.Places.{two_seats}
 use Rattle.brpc_model.specs.Items.{Item}
 use Rattle.seat_programs.specs.Beside.{calls_after}
-use Rattle.seat_programs.specs.Calls.{Call, TakeLink, FinishLink, PutLink, PutMessage}
+use Rattle.seat_programs.specs.Calls.{TableStep, TakeLink, FinishLink, PutLink, PutMessage}
 use Rattle.seat_programs.specs.Clients.{ending_of}
 use Rattle.seat_programs.specs.Cores.{Calls, Core, SeatState, found_at, words_after, with_seat, homes_after, hand_after, lies_at, first_of, others_of, finished, link_place, resolved, next_step, waiting_at}
 use Rattle.seat_programs.specs.StepTables.{word_of, word_after}
@@ -174,7 +174,7 @@ module _ (p : Plan) (k : ℕ) where
           → links_of (with_seat m.seat program hand ws hs (record c { calls = a })) ≤ links_of c
       by_parts program hand ws hs a few = let t = total-set (in_hand k) c.seats m.seat seat (record { program = next_step (resolved (waiting_at a.waiting m.seat) program); hand = hand }) at_seat in omega (arith, few, t)
 
-      by_call : (v : View) → get_elem? vs m.seat ≡ some v → (call : Call) → May p v call → at_home (homes_after p call seat.hand c.homes) + total (is_link k) (hand_after p call c.homes seat.hand) ≤ at_home c.homes + total (is_link k) seat.hand
+      by_call : (v : View) → get_elem? vs m.seat ≡ some v → (call : TableStep) → May p v call → at_home (homes_after p call seat.hand c.homes) + total (is_link k) (hand_after p call c.homes seat.hand) ≤ at_home c.homes + total (is_link k) seat.hand
       by_call v at_view (TakeLink n) may = let h = (taking p (state c vs) sound.lawful m.seat v at_view n may).0 in taken_out n c.homes seat.hand h.took h.next h.done h.is
       by_call v at_view (FinishLink n) may = let s = finish_same p k n c.homes seat.hand in omega (arith, s)
       by_call v at_view (PutLink n) may = put_back n c.homes seat.hand (first_of seat.hand) (split_same k seat.hand)

@@ -9,7 +9,7 @@ use Rattle.sock_words.specs.declared.plain.Plan.{Plan}
 use Rattle.sock_words.specs.declared.outcome.Outcome.{Outcome}
 use Rattle.seat_programs.specs.declared.task.Op.TheVariants as ops
 use Rattle.seat_programs.specs.declared.task.Task.{Task}
-use Rattle.seat_programs.specs.Calls.{Call, SetOdd}
+use Rattle.seat_programs.specs.Calls.{TableStep, SetOdd}
 use Rattle.seat_programs.specs.Told.{Made}
 use Rattle.seat_programs.specs.ToldCalls.{Order}
 use Rattle.outcome_ticks.specs.outcome_stories.specs.Stories.{Event, In, trace_of}
@@ -101,7 +101,7 @@ module _ (p : Plan) (clients : List (List Task)) (outcomes : List (Option Outcom
   fits_odd : (c o i found : ℕ) (xs : List Event) → (cause : Cause p clients broken xs (event c o (SetOdd i) found)) → ((x : Event) → In x (event c o (SetOdd i) found ∷ xs) → In x es) → vref_version found % 2 ≡ 0 → Gathered xs → Gathered (event c o (SetOdd i) found ∷ xs)
   fits_odd c o i found xs cause part even g = ⊎_elim (λ f. added c o i found xs cause f part even g) (λ f. refused c o i found xs cause f part even g) cause.fits
 
-  grow : (e : Event) (xs : List Event) → Cause p clients broken xs e → ((x : Event) → In x (e ∷ xs) → In x es) → Gathered xs → (call : Call) → e.entry.call ≡ call → Gathered (e ∷ xs)
+  grow : (e : Event) (xs : List Event) → Cause p clients broken xs e → ((x : Event) → In x (e ∷ xs) → In x es) → Gathered xs → (call : TableStep) → e.entry.call ≡ call → Gathered (e ∷ xs)
   grow e xs cause part g (SetOdd i) q = dite (ℕ_discrete (vref_version e.entry.found % 2) 0)
       (λ even. let same : event e.client e.number (SetOdd i) e.entry.found ≡ e = ap (λ z. event e.client e.number z e.entry.found) (sym q) in
       subst (λ x. Gathered (x ∷ xs)) same (fits_odd e.client e.number i e.entry.found xs (subst (Cause p clients broken xs) (sym same) cause) (subst (λ y. (x : Event) → In x (y ∷ xs) → In x es) (sym same) part) even g))

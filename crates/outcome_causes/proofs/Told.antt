@@ -14,7 +14,7 @@ use Rattle.sock_model.specs.declared.view.View.{View}
 use Rattle.sock_model.specs.Entries.{on}
 use Rattle.sock_model.specs.Links.{Failed}
 use Rattle.seat_programs.specs.declared.task.Task.{Task}
-use Rattle.seat_programs.specs.Calls.{Call, SubRef, Recycle, SetOdd, LoadName}
+use Rattle.seat_programs.specs.Calls.{TableStep, SubRef, Recycle, SetOdd, LoadName}
 use Rattle.seat_programs.specs.Cores.{Core}
 use Rattle.seat_programs.specs.declared.task.Op.{Op}
 use Rattle.seat_programs.specs.declared.task.Op.TheVariants as ops
@@ -202,8 +202,8 @@ module _ (p : Plan) (clients : List (List Task)) (are : AreTasks p clients) (ove
   -- ## Drops
 
   -- where of each step of the story but the setup's this holds
-  module _ (Shown : ℕ → ℕ → Call → ℕ → Type 0) (steps : (e : Event) → In e es → (e.client ≡ 0) ⊎ Shown e.client e.number e.entry.call e.entry.found) where
-    made_step : (i o : ℕ) → (i ≡ 0 → ⊥) → (call : Call) (found : ℕ) → In (step call found) (trace_of i o es) → Shown i o call found
+  module _ (Shown : ℕ → ℕ → TableStep → ℕ → Type 0) (steps : (e : Event) → In e es → (e.client ≡ 0) ⊎ Shown e.client e.number e.entry.call e.entry.found) where
+    made_step : (i o : ℕ) → (i ≡ 0 → ⊥) → (call : TableStep) (found : ℕ) → In (step call found) (trace_of i o es) → Shown i o call found
     made_step i o later call found m = ⊎_elim (λ z. absurd (later z)) (λ x. x) (steps (event i o call found) (from_trace i o es (step call found) m))
 
     -- the setup has no drops

@@ -12,7 +12,7 @@ use Rattle.sock_model.specs.Weights.{is_tried}
 use Rattle.seat_programs.specs.declared.task.Op.{Op}
 use Rattle.seat_programs.specs.declared.task.Op.TheVariants as ops
 use Rattle.seat_programs.specs.declared.task.Task.{Task}
-use Rattle.seat_programs.specs.Calls.{Call, ClaimSlot, CreateLife, AddRef, SetOdd, StoreName, LoadName, LookWord, ClaimRequest, SwapHead}
+use Rattle.seat_programs.specs.Calls.{TableStep, ClaimSlot, CreateLife, AddRef, SetOdd, StoreName, LoadName, LookWord, ClaimRequest, SwapHead}
 use Rattle.seat_programs.specs.Told as Told
 use Rattle.seat_programs.specs.Told.{IsOpen, IsTask, Became, Made, SeeksInVain, OpensNone, FoundNone, AfterHold, HasLife, EachOpened}
 use Rattle.seat_programs.specs.ToldCalls.{Order}
@@ -68,7 +68,7 @@ Sought n tr outcome = (outcome ≡ Some Unopened) ⊎ (((id : ℕ) × In (step (
 abbrev HasSwap : List Entry → Type 0
 HasSwap tr = (i own found : ℕ) × In (step (SwapHead i own) found) tr
 
-swap_here : (x : Entry) (xs : List Entry) (call : Call) → x.call ≡ call → (swapped xs ≡ true → HasSwap xs) → swaps call (swapped xs) ≡ true → HasSwap (x ∷ xs)
+swap_here : (x : Entry) (xs : List Entry) (call : TableStep) → x.call ≡ call → (swapped xs ≡ true → HasSwap xs) → swaps call (swapped xs) ≡ true → HasSwap (x ∷ xs)
 swap_here x xs (SwapHead i own) is ih e = (i, own, x.found, inl (ap (λ z. step z x.found) (sym is)))
 swap_here x xs call is ih e = let t = ih (sym (no_swap call (swapped xs) tt) ∙ e) in (t.0, t.1, t.2, inr t.3)
 
@@ -103,7 +103,7 @@ pub record Timely (p : Plan) (clients : List (List Task)) (outcomes : List (Opti
   pub story : List Event
   pub good : Good p clients few story
   pub part : (x : Event) → In x story → In x es
-  pub either : (c : ℕ) (t : Task) → Asks clients c t → (o : Outcome) → Became clients outcomes t.number o → (call : Call) (found : ℕ) → In (event c t.number call found) es → In (event c t.number call found) story ⊎ late t.number
+  pub either : (c : ℕ) (t : Task) → Asks clients c t → (o : Outcome) → Became clients outcomes t.number o → (call : TableStep) (found : ℕ) → In (event c t.number call found) es → In (event c t.number call found) story ⊎ late t.number
 
 module _ (p : Plan) (clients : List (List Task)) (outcomes : List (Option Outcome)) (broken : List ℕ) (orders : ℕ → Order) (es : List Event) (world : World p clients outcomes broken orders es) (g : Gathered p clients outcomes broken orders es world es)
     (few : List ℕ) (late : ℕ → Type 0) (timely : Timely p clients outcomes es few late) where
@@ -140,7 +140,7 @@ module _ (p : Plan) (clients : List (List Task)) (outcomes : List (Option Outcom
       loaded : (name id : ℕ) → name_of u.op ≡ name → In (event c u.number (LoadName name) (id + 1)) es → ⊥
       loaded name id is m = let same : name ≡ n = sym is ∙ named in unfound u less id (subst (λ z. In (event c u.number (LoadName z) (id + 1)) es) same m)
 
-      task_is : (call : Call) (found : ℕ) (q : BeforeIn p clients broken es (event c u.number call found)) → q.cause.task ≡ u
+      task_is : (call : TableStep) (found : ℕ) (q : BeforeIn p clients broken es (event c u.number call found)) → q.cause.task ≡ u
       task_is call found q = (one_task p clients world.are c c q.cause.task u q.cause.is b q.cause.numbered).1
 
       name_is : (v : Task) (op : Op) → v ≡ u → v.op ≡ op → name_of u.op ≡ name_of op
@@ -182,7 +182,7 @@ module _ (p : Plan) (clients : List (List Task)) (outcomes : List (Option Outcom
   -- ## A life that was failed
 
   -- who failed a life before a step of a task that failed none
-  failed_by : (c : ℕ) (t : Task) (a : Asks clients c t) (call : Call) (found : ℕ) (b : BeforeIn p clients few timely.story (event c t.number call found)) → (i h n k : ℕ) → WasFailed few b.story i h → Made clients outcomes n k i h → (world.final c t a).outcome ≢ Some Failed
+  failed_by : (c : ℕ) (t : Task) (a : Asks clients c t) (call : TableStep) (found : ℕ) (b : BeforeIn p clients few timely.story (event c t.number call found)) → (i h n k : ℕ) → WasFailed few b.story i h → Made clients outcomes n k i h → (world.final c t a).outcome ≢ Some Failed
       → Told.WasFailed clients outcomes g.fails few c t.number k
   failed_by c t a call found b i h n k (inr lost) made ne = let g = given_made p clients outcomes broken orders es world i h lost.0 (given_later p clients outcomes broken orders es world b.story es (λ x m. timely.part x (b.part x m)) i h lost.0 lost.2) in
       let same : k ≡ lost.0 = (one_life p clients outcomes broken orders es world n g.0 k lost.0 i h made g.1).1 in inr (in_contains few k (subst (λ z. In z few) (sym same) lost.1))
@@ -213,7 +213,7 @@ module _ (p : Plan) (clients : List (List Task)) (outcomes : List (Option Outcom
           x.cause.fits
 
   -- so a step of the task that was made in time tells why, or the task is late
-  found_by : (c : ℕ) (t : Task) (a : Asks clients c t) (o : Outcome) → (world.final c t a).outcome ≡ Some o → (call : Call) (found : ℕ) → In (event c t.number call found) es → (i h n k : ℕ)
+  found_by : (c : ℕ) (t : Task) (a : Asks clients c t) (o : Outcome) → (world.final c t a).outcome ≡ Some o → (call : TableStep) (found : ℕ) → In (event c t.number call found) es → (i h n k : ℕ)
       → ((lost : List ℕ) (xs : List Event) → Cause p clients lost xs (event c t.number call found) → WasFailed lost xs i h) → Made clients outcomes n k i h → (world.final c t a).outcome ≢ Some Failed
       → Told.WasFailed clients outcomes g.fails few c t.number k ⊎ late t.number
   found_by c t a o is call found m i h n k why made ne = ⊎_elim
@@ -253,7 +253,7 @@ module _ (p : Plan) (clients : List (List Task)) (outcomes : List (Option Outcom
         failed = found_by c t a o is (LookWord id) found (from_trace c t.number es (step (LookWord id) found) x.2) (socket_id_slot id) (socket_id_version id) n life.0 (λ lost xs cause. cause.means cause.fits x.3) life.1 nf;
       }
 
-  own_task : (c : ℕ) (t : Task) (a : Asks clients c t) (call : Call) (found : ℕ) (lost : List ℕ) (xs : List Event) (cause : Cause p clients lost xs (event c t.number call found)) → cause.task ≡ t
+  own_task : (c : ℕ) (t : Task) (a : Asks clients c t) (call : TableStep) (found : ℕ) (lost : List ℕ) (xs : List Event) (cause : Cause p clients lost xs (event c t.number call found)) → cause.task ≡ t
   own_task c t a call found lost xs cause = (one_task p clients world.are c c cause.task t cause.is a cause.numbered).1
 
   -- a `fail` sets a life failed as such

@@ -12,7 +12,7 @@ use Rattle.sock_model.specs.Marks.{about, at, without_at}
 use Rattle.sock_model.specs.SlotRows.{marks_of, back, subbed, recycled}
 use Rattle.program_walks.specs.slot_steps.proofs.Slots.{zero_is, hold_is, probe_is, stage_is, any_recycled}
 use Rattle.program_walks.specs.sock_steps.proofs.Quiet.{less_without, more_without}
-use Rattle.seat_programs.specs.Calls.{Call, ClaimSlot, CreateLife, AddRef, SubRef, SetOdd, Recycle, FreeSlot, StoreLink, ResetHead, ClearCode, StoreCode}
+use Rattle.seat_programs.specs.Calls.{TableStep, ClaimSlot, CreateLife, AddRef, SubRef, SetOdd, Recycle, FreeSlot, StoreLink, ResetHead, ClearCode, StoreCode}
 use Rattle.seat_programs.specs.StepTables.{row}
 use Rattle.program_walks.specs.program_steps.proofs.Leaves.{is_noting, noting_marks}
 use Rattle.outcome_stories.specs.Stories.{adds}
@@ -88,11 +88,11 @@ module _ (f : Mark → ℕ) (note : IsNote f) (j : ℕ) where
       split (eqb found from) (at i (Recycling (w + 1)) ∷ at i (Freer (w - 1)) ∷ less) less (λ es. sum es ≡ sum v.marks)
       (quiet i (Recycling (w + 1)) (at i (Freer (w - 1)) ∷ less) (note.recycling (w + 1)) ∙ (quiet i (Freer (w - 1)) less (note.freer (w - 1)) ∙ same)) same
 
-  noting_same : (p : Plan) (call : Call) (found : ℕ) (hand : Hand) (v : View) → is_noting call ≡ true → marks_of f j (row p call found hand v) ≡ marks_of f j v
+  noting_same : (p : Plan) (call : TableStep) (found : ℕ) (hand : Hand) (v : View) → is_noting call ≡ true → marks_of f j (row p call found hand v) ≡ marks_of f j v
   noting_same p call found hand v = noting_marks p v found hand (λ es. sum es ≡ sum v.marks) refl (λ i w. quiet i (Saw w) v.marks (note.saw w)) (λ i h k. quiet i (Met h k) v.marks (note.met h k))
       (λ i h c w. quiet i (Told h c) (at i (Saw w) ∷ v.marks) (note.told h c) ∙ quiet i (Saw w) v.marks (note.saw w)) (λ i h. quiet i (Known h) v.marks (note.known h)) call
 
-  pub row_adds : (p : Plan) (call : Call) (found : ℕ) (hand : Hand) (v : View) → marks_of f j (row p call found hand v) ≡ marks_of f j v + adds f j call found
+  pub row_adds : (p : Plan) (call : TableStep) (found : ℕ) (hand : Hand) (v : View) → marks_of f j (row p call found hand v) ≡ marks_of f j v + adds f j call found
   row_adds p (ClaimSlot i) found hand v = let a = put i (cond (eqb found 0) (Claimed 0 0) Tried) v.marks in
       let b : f (cond (eqb found 0) (Claimed 0 0) Tried) ≡ cond (eqb found 0) 0 (f Tried) = tried_or (eqb found 0) in
       let c = ap (λ n. cond (eqb i j) n 0) b in omega arith

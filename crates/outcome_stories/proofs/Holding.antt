@@ -17,7 +17,7 @@ use Rattle.program_walks.specs.slot_steps.proofs.Numbers.{only-at, only-else}
 use Rattle.program_walks.specs.slot_steps.proofs.Frame.{about-without, about-without_else}
 use Rattle.program_walks.specs.slot_steps.proofs.Slots.{stage_is}
 use Rattle.program_walks.specs.sock_steps.proofs.Quiet.{More, more_all, more_add, more_without}
-use Rattle.seat_programs.specs.Calls.{Call, ClaimSlot, CreateLife, AddRef, SubRef, SetOdd, Recycle, FreeSlot, StoreLink, LoadLink}
+use Rattle.seat_programs.specs.Calls.{TableStep, ClaimSlot, CreateLife, AddRef, SubRef, SetOdd, Recycle, FreeSlot, StoreLink, LoadLink}
 use Rattle.seat_programs.specs.StepTables.{row}
 use Rattle.program_walks.specs.program_steps.proofs.Marking.{is_taken, marks_way}
 use Rattle.outcome_stories.specs.Explains.{holds_behind}
@@ -59,13 +59,13 @@ module _ (h : ℕ) where
     kept_without i g z = more_without f v.marks i g z
 
     -- steps that take no reference and give none back
-    abbrev IsStill : Call → Type 0
+    abbrev IsStill : TableStep → Type 0
     IsStill (AddRef id) = ⊥
     IsStill (SubRef i) = ⊥
     IsStill (SetOdd i) = ⊥
     IsStill other = Unit {0}
 
-    row_keeps : (p : Plan) (call : Call) (found : ℕ) (hand : Hand) → IsStill call → Kept (row p call found hand v).marks
+    row_keeps : (p : Plan) (call : TableStep) (found : ℕ) (hand : Hand) → IsStill call → Kept (row p call found hand v).marks
     row_keeps p (AddRef id) found hand still = absurd still
     row_keeps p (SubRef i) found hand still = absurd still
     row_keeps p (SetOdd i) found hand still = absurd still
@@ -127,7 +127,7 @@ module _ (h : ℕ) where
         either false w = refl
 
     -- the seat holds as many references behind a step as the operation has then
-    pub holds_row : (p : Plan) (call : Call) (found n : ℕ) (hand : Hand) → n ≤ marks_of f i v → (call ≡ SetOdd i → 0 < n → vref_version found % 2 ≡ 0 → vref_version found ≡ h)
+    pub holds_row : (p : Plan) (call : TableStep) (found n : ℕ) (hand : Hand) → n ≤ marks_of f i v → (call ≡ SetOdd i → 0 < n → vref_version found % 2 ≡ 0 → vref_version found ≡ h)
         → holds_behind i h call found n ≤ marks_of f i (row p call found hand v)
     holds_row p (AddRef id) found n hand le odd = add_row p id found n hand le
     holds_row p (SetOdd j) found n hand le odd = odd_row p j found n hand le (λ e. odd (ap SetOdd e))

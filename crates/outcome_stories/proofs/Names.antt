@@ -6,7 +6,7 @@ use native.Mathlib.Decide.{ℕ_discrete}
 use Rattle.sock_words.specs.declared.plain.Plan.{Plan}
 use Rattle.sock_model.specs.declared.view.View.{View}
 use Rattle.sock_model.specs.Layout.{name_index, all_words}
-use Rattle.seat_programs.specs.Calls.{Call, StoreName, LoadName}
+use Rattle.seat_programs.specs.Calls.{TableStep, StoreName, LoadName}
 use Rattle.seat_programs.specs.StepTables.{word_of, word_after}
 use Rattle.seat_programs.specs.Cores.{found_at, words_after}
 use Rattle.seat_programs.specs.StepTables.{May}
@@ -22,11 +22,11 @@ word_beside ws all x none w ne = refl
 word_beside ws all x (some y) w ne = get_or-set_other ws y x w 0 ne
 
 module _ (p : Plan) (v : View) (ws : List ℕ) (sized : length ws ≡ all_words p) (n : ℕ) (inside : n < p.names) where
-  abbrev Stays : Call → Type 0
+  abbrev Stays : TableStep → Type 0
   Stays call = get_or (words_after ws (word_of p call) (word_after call (found_at ws (word_of p call)))) (name_index p n) 0 ≡ stored_by n call (get_or ws (name_index p n) 0)
 
   -- the word of a name is what was stored for it, and else as it was
-  pub name_stays : (call : Call) → May p v call → Stays call
+  pub name_stays : (call : TableStep) → May p v call → Stays call
   name_stays (StoreName m w) may = dite (ℕ_discrete m n)
       (λ same. let q = eq-eqb m n same in let here : get_or (set ws (name_index p n) w) (name_index p n) 0 ≡ w = get_or-set_same ws (name_index p n) w 0 (omega (arith, sized)) in
       subst (λ z. get_or (set ws (name_index p z) w) (name_index p n) 0 ≡ cond (eqb m n) w (get_or ws (name_index p n) 0)) (sym same) (here ∙ sym (ap (λ z. cond z w (get_or ws (name_index p n) 0)) q)))

@@ -15,7 +15,7 @@ use Rattle.sock_model.specs.Reads.{message, link_home}
 use Rattle.seat_programs.specs.declared.task.Task.{Task}
 use Rattle.seat_programs.specs.Asides.{Step, Found}
 use Rattle.seat_programs.specs.Beside.{found_in, calls_after}
-use Rattle.seat_programs.specs.Calls.{Call}
+use Rattle.seat_programs.specs.Calls.{TableStep}
 use Rattle.seat_programs.specs.Cores.{Core, SeatState, resolved, said, waiting_at, found_at}
 use Rattle.seat_programs.specs.StepTables.{word_of}
 use Rattle.seat_programs.specs.Drops.{MadeIn}
@@ -90,7 +90,7 @@ unsaid_none : (x : Option (Option Outcome)) (y : Outcome) → x ≡ Some None �
 unsaid_none x y e f = cc
 
 -- no step is made for it then
-pub made_unsaid : (p : Plan) (clients : List (List Task)) (c : Core) (ms : List Moment) (i o : ℕ) (call : Call) (found : ℕ) → MadeIn p clients c ms i o call found → IsSaidOf c.outcomes o → ⊥
+pub made_unsaid : (p : Plan) (clients : List (List Task)) (c : Core) (ms : List Moment) (i o : ℕ) (call : TableStep) (found : ℕ) → MadeIn p clients c ms i o call found → IsSaidOf c.outcomes o → ⊥
 made_unsaid p clients c [] i o call found made t = made
 made_unsaid p clients c (m ∷ ms) i o call found (inl made) t = unsaid_none (slice_get c.outcomes o) t.0 made.at.unsaid t.1
 made_unsaid p clients c (m ∷ ms) i o call found (inr made) t = made_unsaid p clients (ticked p c m) ms i o call found made (ticked_said p c m o t)

@@ -5,7 +5,7 @@ use Rattle.std.specs.Prelude.{nat_le, if◌then◌else◌}
 use Rattle.sock_words.specs.Words.{socket_id_version, socket_id_slot, vref_version, vref_nref}
 use Rattle.seat_programs.specs.declared.task.Op.{Op}
 use Rattle.seat_programs.specs.declared.task.Task.{Task}
-use Rattle.seat_programs.specs.Calls.{Call, SubRef, Recycle, FreeSlot, LoadLink, TakeLink, FinishLink, PutLink, AddRef, LoadName, CreateLife, SetOdd, SwapHead}
+use Rattle.seat_programs.specs.Calls.{TableStep, SubRef, Recycle, FreeSlot, LoadLink, TakeLink, FinishLink, PutLink, AddRef, LoadName, CreateLife, SetOdd, SwapHead}
 use Rattle.seat_programs.specs.Programs.{Program, Do, LAST_VERSION, recycle, release, address, reach}
 use Rattle.outcome_stories.specs.Stories.{Entry, In}
 use Rattle.outcome_stories.specs.Explains.{Done, Explains, Grew, step, WonRecycling, GaveBackOnly, RecycledNone}
@@ -20,13 +20,13 @@ pub grew_on : (op : Op) (a b c : List Entry) → Grew op a b → Grew op b c →
 grew_on op a b c g h = record { has = λ x m. h.has x (g.has x m); swap = h.swap ∙ g.swap; tells = λ o t. h.tells o (g.tells o t) }
 
 -- a step that makes no life, fails none and exchanges no head
-abbrev pub IsMute : Call → Type 0
+abbrev pub IsMute : TableStep → Type 0
 IsMute (CreateLife i k) = ⊥
 IsMute (SetOdd i) = ⊥
 IsMute (SwapHead i own) = ⊥
 IsMute other = Unit {0}
 
-pub mute_grew : (op : Op) (trace : List Entry) (call : Call) (found : ℕ) → IsMute call → Grew op trace (step call found ∷ trace)
+pub mute_grew : (op : Op) (trace : List Entry) (call : TableStep) (found : ℕ) → IsMute call → Grew op trace (step call found ∷ trace)
 mute_grew op trace (CreateLife i k) found mute = absurd mute
 mute_grew op trace (SetOdd i) found mute = absurd mute
 mute_grew op trace (SwapHead i own) found mute = absurd mute

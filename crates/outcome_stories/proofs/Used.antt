@@ -5,7 +5,7 @@ use native.Mathlib.Decide.{ℕ_discrete}
 use Rattle.sock_words.specs.declared.plain.Plan.{Plan}
 use Rattle.sock_model.specs.declared.view.View.{View}
 use Rattle.sock_model.specs.Layout.{request_index, all_words}
-use Rattle.seat_programs.specs.Calls.{Call, ClaimRequest, FreeRequest}
+use Rattle.seat_programs.specs.Calls.{TableStep, ClaimRequest, FreeRequest}
 use Rattle.seat_programs.specs.StepTables.{word_of, word_after}
 use Rattle.seat_programs.specs.Cores.{found_at, words_after}
 use Rattle.seat_programs.specs.StepTables.{May}
@@ -13,7 +13,7 @@ use Rattle.outcome_stories.proofs.Tests.{split}
 use Rattle.outcome_stories.proofs.Names.{word_beside}
 
 module _ (p : Plan) (v : View) (ws : List ℕ) (sized : length ws ≡ all_words p) (q : ℕ) (inside : q < p.requests) (used : 0 < get_or ws (request_index p q) 0) where
-  abbrev Stays : Call → Type 0
+  abbrev Stays : TableStep → Type 0
   Stays call = 0 < get_or (words_after ws (word_of p call) (word_after call (found_at ws (word_of p call)))) (request_index p q) 0
 
   else_ : (x w : ℕ) → request_index p q ≢ x → 0 < get_or (set ws x w) (request_index p q) 0
@@ -22,7 +22,7 @@ module _ (p : Plan) (v : View) (ws : List ℕ) (sized : length ws ≡ all_words 
   here : (w : ℕ) → 0 < w → 0 < get_or (set ws (request_index p q) w) (request_index p q) 0
   here w some_ = let a : get_or (set ws (request_index p q) w) (request_index p q) 0 ≡ w = get_or-set_same ws (request_index p q) w 0 (omega (arith, sized)) in omega (arith, some_, a)
 
-  pub word_stays : (call : Call) → May p v call → Stays call
+  pub word_stays : (call : TableStep) → May p v call → Stays call
   word_stays (ClaimRequest id r) may = dite (ℕ_discrete r q)
       (λ same. subst (λ z. 0 < get_or (set ws (request_index p z) (word_after (ClaimRequest id z) (get_or ws (request_index p z) 0))) (request_index p q) 0) (sym same)
       (here (word_after (ClaimRequest id q) (get_or ws (request_index p q) 0)) (split (eqb (get_or ws (request_index p q) 0 % 2) 0) (get_or ws (request_index p q) 0 + 1) (get_or ws (request_index p q) 0) (λ n. 0 < n) (omega arith) used)))

@@ -3,7 +3,7 @@ use Rattle.std.specs.Prelude.{ℕ, ◌%◌, ◌≡◌, ◌≢◌, ◌<◌, ◌�
 use Rattle.sock_words.specs.declared.plain.Plan.{Plan}
 use Rattle.sock_words.specs.Words.{socket_id_version, socket_id_slot, vref_version}
 use Rattle.sock_model.specs.Weights.{is_failer, is_linked}
-use Rattle.seat_programs.specs.Calls.{Call, CreateLife, AddRef, SetOdd, LoadName, LookWord, FindLink}
+use Rattle.seat_programs.specs.Calls.{TableStep, CreateLife, AddRef, SetOdd, LoadName, LookWord, FindLink}
 use Rattle.seat_programs.specs.declared.task.Task.{Task}
 use Rattle.outcome_stories.specs.Stories.{Entry, Event, In, trace_of, last_name, marked}
 use Rattle.outcome_stories.specs.Explains.{Fits, holds}
@@ -29,7 +29,7 @@ abbrev pub OddAt : List ℕ → List Event → ℕ → ℕ → ℕ → Type 0
 OddAt broken es i h found = (vref_version found % 2 ≡ 0 → vref_version found ≡ h) × (vref_version found % 2 ≡ 1 → WasFailed broken es i h)
 
 -- what a step found, behind this story and these steps of its operation
-abbrev pub Means : Plan → List ℕ → List Event → List Entry → Call → ℕ → Type 0
+abbrev pub Means : Plan → List ℕ → List Event → List Entry → TableStep → ℕ → Type 0
 -- the word of a name is what was stored there last
 Means p broken es trace (LoadName n) found = found ≡ last_name n es
 -- a life is made in a slot of the table, with an even version that isn't below the first

@@ -14,7 +14,7 @@ use Rattle.sock_model.specs.Weights.{is_hold}
 use Rattle.seat_programs.specs.declared.task.Op.{Op}
 use Rattle.seat_programs.specs.declared.task.Op.TheVariants as ops
 use Rattle.seat_programs.specs.declared.task.Task.{Task}
-use Rattle.seat_programs.specs.Calls.{Call, ClaimSlot, CreateLife, AddRef, SubRef, SetOdd, Recycle, StoreName, LoadName, LookWord, FindLink, ClaimRequest, PutMessage, Unconnect, SwapHead}
+use Rattle.seat_programs.specs.Calls.{TableStep, ClaimSlot, CreateLife, AddRef, SubRef, SetOdd, Recycle, StoreName, LoadName, LookWord, FindLink, ClaimRequest, PutMessage, Unconnect, SwapHead}
 use Rattle.seat_programs.specs.Programs.{Program, Do, Say, Sent, Rest, fail_outcome, TakeMessage, TakeHome, PutHome, PutBytes, AskReady, Write, Aside, Round, Keep, Retries}
 use Rattle.seat_programs.specs.Asides.{Step, Found, PutCall, TakeCall}
 use Rattle.seat_programs.specs.Heads.{Head, Exit, Opens, Decides, Deciding, HasEnded}
@@ -22,7 +22,7 @@ use Rattle.seat_programs.specs.Sends.{heading_of}
 use Rattle.program_walks.specs.program_steps.specs.Writes.{holder_of}
 use Rattle.outcome_stories.specs.Stories.{Entry, In}
 
-abbrev pub step : Call → ℕ → Entry
+abbrev pub step : TableStep → ℕ → Entry
 step call found = record { call = call; found = found }
 
 -- a task that is done, with its outcome, or none where its message was accepted
@@ -38,7 +38,7 @@ LastHold n P (d ∷ ds) = ((d.task.op ≡ ops.Hold n) × (outcome : Outcome) × 
 -- ## What the steps of an operation come to
 
 -- the references to the life h of slot i that an operation has, which had so many before this step
-abbrev pub holds_behind : ℕ → ℕ → Call → ℕ → ℕ → ℕ
+abbrev pub holds_behind : ℕ → ℕ → TableStep → ℕ → ℕ → ℕ
 holds_behind i h (AddRef id) found n = (if socket_id_slot id == i then (if vref_version found == socket_id_version id then is_hold h (Hold (vref_version found)) else 0) else 0) + n
 holds_behind i h (SetOdd j) found n = if j == i then (if vref_version found % 2 == 0 then (if n == 0 then 0 else n + 1) else n) else n
 holds_behind i h (SubRef j) found n = if j == i then n - 1 else n
@@ -49,7 +49,7 @@ holds i h [] = 0
 holds i h (e ∷ es) = holds_behind i h e.call e.found (holds i h es)
 
 -- it exchanged a head with its ticket
-abbrev pub swaps : Call → Bool → Bool
+abbrev pub swaps : TableStep → Bool → Bool
 swaps (SwapHead i own) before = true
 swaps other before = before
 
@@ -60,7 +60,7 @@ swapped (e ∷ es) = swaps e.call (swapped es)
 -- ## Steps
 
 -- a step that adds no mark that stays, stores no name, and accepts no message
-abbrev pub IsPlain : Call → Type 0
+abbrev pub IsPlain : TableStep → Type 0
 IsPlain (ClaimSlot i) = ⊥
 IsPlain (CreateLife i k) = ⊥
 IsPlain (SetOdd i) = ⊥
@@ -102,7 +102,7 @@ pub record IsReadied (t : Task) (trace : List Entry) : Type 0 where
   pub first : swapped before ≡ false
 
 -- the task's operation, which made these steps, may make this one, where these links answered that they failed
-abbrev pub Fits : Task → List ℕ → List Entry → Call → Type 0
+abbrev pub Fits : Task → List ℕ → List Entry → TableStep → Type 0
 Fits t broken trace (CreateLife i k) = (n : ℕ) × (t.op ≡ ops.Open n k)
 Fits t broken trace (SetOdd i) = FailsLife t.op trace i ⊎ FailsLink t broken trace i
 Fits t broken trace (StoreName n w) = (k i found : ℕ) × (t.op ≡ ops.Open n k) × In (step (CreateLife i k) found) trace × (w ≡ socket_id (vref_version found) i + 1)
@@ -220,7 +220,7 @@ abbrev pub FailsAttempt : List ℕ → List Entry → ℕ → Type 0
 FailsAttempt broken trace i = (id k : ℕ) × IsAttemptOn trace id k × (i ≡ socket_id_slot id) × In k broken
 
 -- a seat that gives back what it holds, or closes sockets, makes no life, stores no name and accepts no message
-abbrev pub FitsClosing : Call → Type 0
+abbrev pub FitsClosing : TableStep → Type 0
 FitsClosing (ClaimSlot i) = ⊥
 FitsClosing (CreateLife i k) = ⊥
 FitsClosing (StoreName n w) = ⊥
@@ -262,7 +262,7 @@ module _ (calls : ℕ → Type 0) where
     pub parts : heading.parts ≢ []
     pub of_call : calls heading.operation
 
-  abbrev pub FitsBeside : List ℕ → List Entry → Call → Type 0
+  abbrev pub FitsBeside : List ℕ → List Entry → TableStep → Type 0
   FitsBeside broken trace (ClaimSlot i) = ⊥
   FitsBeside broken trace (CreateLife i k) = ⊥
   FitsBeside broken trace (StoreName n w) = ⊥

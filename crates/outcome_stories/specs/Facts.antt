@@ -18,7 +18,7 @@ use Rattle.seat_programs.specs.declared.task.Op.TheVariants as ops
 use Rattle.seat_programs.specs.declared.task.Task.{Task}
 use Rattle.seat_programs.specs.Asides.{PutCall}
 use Rattle.seat_programs.specs.Beside.{call_at}
-use Rattle.seat_programs.specs.Calls.{Call, CreateLife}
+use Rattle.seat_programs.specs.Calls.{TableStep, CreateLife}
 use Rattle.seat_programs.specs.Drops.{call_in}
 use Rattle.seat_programs.specs.Heads.{Decides, Unlocks}
 use Rattle.seat_programs.specs.Programs.{Program, Aside, Round}
@@ -34,7 +34,7 @@ use Rattle.outcome_stories.specs.Losses.{closed_at}
 -- ## What a tick shows
 
 -- the link of the life that a step makes
-abbrev pub born_of : Option Call → List ℕ
+abbrev pub born_of : Option TableStep → List ℕ
 born_of (Some (CreateLife i k)) = k ∷ []
 born_of other = []
 

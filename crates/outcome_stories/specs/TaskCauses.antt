@@ -7,7 +7,7 @@ use Rattle.sock_words.specs.declared.outcome.Outcome.{Outcome}
 use Rattle.sock_words.specs.declared.outcome.Outcome.TheVariants.{Freed, Kept}
 use Rattle.seat_programs.specs.declared.task.Op.{Op}
 use Rattle.seat_programs.specs.declared.task.Op.TheVariants as ops
-use Rattle.seat_programs.specs.Calls.{Call, SubRef, Recycle}
+use Rattle.seat_programs.specs.Calls.{TableStep, SubRef, Recycle}
 use Rattle.brpc_model.specs.Order.{EachBefore}
 use Rattle.seat_programs.specs.declared.task.Task.{Task}
 use Rattle.seat_programs.specs.Told.{IsTask, Became, Made, IsFail, FoundNone, WasFailed, HasLife, OnSockets, WhyOnSockets}
@@ -78,7 +78,7 @@ pub record ToldTasks (clients : List (List Task)) (outcomes : List (Option Outco
   pub dropped : (k : ℕ) → k < p.links → (orders k).placed < length (orders k).accepted → Contains lost k ⊎ ((fail : ℕ) × Contains fails (fail, k))
 
 -- each `drop` that was answered `freed` recycled its slot, and each that was answered `kept` gave its reference back and recycled none, in steps of which this holds
-pub record DropsMade (clients : List (List Task)) (outcomes : List (Option Outcome)) (Made : ℕ → ℕ → Call → ℕ → Type 0) : Type 0 where
+pub record DropsMade (clients : List (List Task)) (outcomes : List (Option Outcome)) (Made : ℕ → ℕ → TableStep → ℕ → Type 0) : Type 0 where
   pub freed : (i : ℕ) (t : Task) (n : ℕ) → IsTask clients outcomes i t → t.op ≡ ops.Drop n → Became clients outcomes t.number Freed → (slot from : ℕ) × Made i t.number (Recycle slot from) from
   pub kept : (i : ℕ) (t : Task) (n : ℕ) → IsTask clients outcomes i t → t.op ≡ ops.Drop n → Became clients outcomes t.number Kept → (slot found : ℕ) × Made i t.number (SubRef slot) found
       × ((((vref_version found % 2 ≡ 1) × (vref_nref found ≡ 1)) → ⊥) ⊎ ((other : ℕ) × Made i t.number (Recycle slot (found - 1)) other × (other ≢ found - 1)))

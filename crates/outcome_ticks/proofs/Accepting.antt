@@ -13,7 +13,7 @@ use Rattle.sock_model.specs.ChainRows.{with_claim, entry_of, more, queued, right
 use Rattle.sock_model.specs.SlotRows.{met_link}
 use Rattle.seat_programs.specs.declared.task.Op.TheVariants as ops
 use Rattle.seat_programs.specs.declared.task.Task.{Task}
-use Rattle.seat_programs.specs.Calls.{Call, LoadName, ClaimRequest, PutMessage, Unconnect, SwapHead}
+use Rattle.seat_programs.specs.Calls.{TableStep, LoadName, ClaimRequest, PutMessage, Unconnect, SwapHead}
 use Rattle.seat_programs.specs.Sends.{heading_of}
 use Rattle.seat_programs.specs.StepTables.{row}
 use Rattle.seat_programs.specs.StepViews.{by_claim}
@@ -27,15 +27,15 @@ use Rattle.outcome_stories.specs.Kept.{is_of_send, of_sends, EndsIn, IsFor, AreC
 
 -- ## Steps but the exchange of a head
 
-abbrev pub IsNoSwap : Call → Type 0
+abbrev pub IsNoSwap : TableStep → Type 0
 IsNoSwap (SwapHead i own) = ⊥
 IsNoSwap other = Unit {0}
 
-pub no_swap : (call : Call) (b : Bool) → IsNoSwap call → swaps call b ≡ b
+pub no_swap : (call : TableStep) (b : Bool) → IsNoSwap call → swaps call b ≡ b
 no_swap (SwapHead i own) b n = absurd n
 no_swap _ b n = refl
 
-pub row_lists : (p : Plan) (v : View) (found : ℕ) (hand : Hand) (call : Call) → IsNoSwap call → (row p call found hand v).lists ≡ v.lists
+pub row_lists : (p : Plan) (v : View) (found : ℕ) (hand : Hand) (call : TableStep) → IsNoSwap call → (row p call found hand v).lists ≡ v.lists
 row_lists p v found hand (SwapHead i own) n = absurd n
 row_lists p v found hand call n = lists_stay p v found hand call refl
 
@@ -50,7 +50,7 @@ top_found a b xs ys e = let q : a ≡ b = cc in ap (λ (x : Entry). x.found) q
 top_rest : (a b : Entry) (xs ys : List Entry) → a ∷ xs ≡ b ∷ ys → xs ≡ ys
 top_rest a b xs ys e = cc
 
-abbrev is_claiming : Call → Bool
+abbrev is_claiming : TableStep → Bool
 is_claiming (ClaimRequest id q) = true
 is_claiming (PutMessage q heading bytes) = true
 is_claiming (Unconnect q) = true
@@ -60,7 +60,7 @@ one_of : (x y : Claim) (xs ys : List Claim) → x ∷ xs ≡ y ∷ ys → x ≡ 
 one_of x y xs ys e = cc
 
 module _ (p : Plan) (old fresh : List Event) (given : (i h k : ℕ) → WasGiven old i h k → WasGiven fresh i h k) (trace : List Entry) (v : View) (found : ℕ) (hand : Hand) where
-  other_claims : (call : Call) (claims : List Claim) → is_claiming call ≡ false → AreClaims fresh (step call found ∷ trace) claims
+  other_claims : (call : TableStep) (claims : List Claim) → is_claiming call ≡ false → AreClaims fresh (step call found ∷ trace) claims
   other_claims call claims else_ = record {
     new = λ x id q word before e f even. absurd (true≢false (ap is_claiming (sym (top_call (step call found) (step (ClaimRequest id q) word) trace before f)) ∙ else_));
     filled = λ x id q word put heading bytes before e f even. absurd (true≢false (ap is_claiming (sym (top_call (step call found) (step (PutMessage q heading bytes) put) trace (step (ClaimRequest id q) word ∷ before) f)) ∙ else_));
@@ -115,7 +115,7 @@ module _ (p : Plan) (old fresh : List Event) (given : (i h k : ℕ) → WasGiven
   }
 
   -- the seat's claim has what the steps before gave it
-  pub claims_row : (call : Call) → May p v call → ((id q : ℕ) → call ≡ ClaimRequest id q → WasGiven fresh (socket_id_slot id) (socket_id_version id) hand.link) → AreClaims old trace v.claims
+  pub claims_row : (call : TableStep) → May p v call → ((id q : ℕ) → call ≡ ClaimRequest id q → WasGiven fresh (socket_id_slot id) (socket_id_version id) hand.link) → AreClaims old trace v.claims
       → AreClaims fresh (step call found ∷ trace) (row p call found hand v).claims
   claims_row (ClaimRequest id q) may link was = claims_new id q (link id q refl)
   claims_row (PutMessage q heading bytes) may link was = claims_filled q heading bytes may.1.0 may.1.1 was
@@ -179,7 +179,7 @@ module _ (old fresh : List Event) (c : ℕ) (t : Task) (given : (i h k : ℕ) �
   ends_more before made false x = x
 
   -- all but the exchange leave the accepted messages
-  pub ends_still : (call : Call) (before made : List chain.Entry) (b : Bool) → IsNoSwap call → EndsIn old c t before made b → EndsIn fresh c t before made (swaps call b)
+  pub ends_still : (call : TableStep) (before made : List chain.Entry) (b : Bool) → IsNoSwap call → EndsIn old c t before made b → EndsIn fresh c t before made (swaps call b)
   ends_still call before made b still x = subst (EndsIn fresh c t before made) (sym (no_swap call b still)) (ends_more before made b x)
 
   -- the exchange appends the message of the claim

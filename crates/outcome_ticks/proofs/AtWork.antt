@@ -10,7 +10,7 @@ use Rattle.brpc_model.specs.Order.{EachBefore}
 use Rattle.seat_programs.specs.declared.task.Op.{Op}
 use Rattle.seat_programs.specs.declared.task.Op.TheVariants as ops
 use Rattle.seat_programs.specs.declared.task.Task.{Task}
-use Rattle.seat_programs.specs.Calls.{Call, LookWord, ReadNext}
+use Rattle.seat_programs.specs.Calls.{TableStep, LookWord, ReadNext}
 use Rattle.seat_programs.specs.Writings.{Puts, Waits, Empties, Walks}
 use Rattle.seat_programs.specs.Programs.{Program, Do, Write, Aside, Round}
 use Rattle.seat_programs.specs.corr_core.specs.Word.{parts, code_of}
@@ -57,7 +57,7 @@ aside_begins (Locks i sought (Some w)) next is = tt
 aside_begins (Opens o) next is = absurd is
 aside_begins _ next is = tt
 
-call_is : (program : Program) (call : Call) (next : ℕ → Program) → IsOwnLoop program → first_step program ≡ Do call next → call_in program ≡ Some call
+call_is : (program : Program) (call : TableStep) (next : ℕ → Program) → IsOwnLoop program → first_step program ≡ Do call next → call_in program ≡ Some call
 call_is (Do c n) call next is e = let q : c ≡ call = cc in ap (λ x. Some x) q
 call_is (Write (Puts h now heading left taken asked) after) call next is e = let q : LookWord h.id ≡ call = cc in ap (λ x. Some x) q
 call_is (Write (Waits h now heading left taken) after) call next is e = absurd (cc)
@@ -66,9 +66,9 @@ call_is (Write (Walks h top at after) then_) call next is e = let q : ReadNext (
 call_is (Round head n) call next is e = absurd (subst IsAside e (aside_begins head n is))
 call_is _ call next is e = absurd (cc)
 
-pub next_is : (slots requests : ℕ) (calls : ℕ → Type 0) (broken : List ℕ) (done : List Done) (trace : List Entry) (todo : List Task) (c : Core) (i : ℕ) (seat : SeatState) (call : Call) (next : ℕ → Program) → Explains slots requests calls broken done trace todo seat.program
+pub next_is : (slots requests : ℕ) (calls : ℕ → Type 0) (broken : List ℕ) (done : List Done) (trace : List Entry) (todo : List Task) (c : Core) (i : ℕ) (seat : SeatState) (call : TableStep) (next : ℕ → Program) → Explains slots requests calls broken done trace todo seat.program
     → get_elem? c.seats i ≡ core.some seat → first_step seat.program ≡ Do call next → next_call c i ≡ Some call
-next_is slots requests calls broken done trace todo c i seat call next x at does = ap (λ o. elim o as (λ o. Option Call) [ core.none ↦ None | core.some x ↦ call_in x.program ]) at ∙ call_is seat.program call next (own_loop slots requests calls broken done trace todo seat.program x) does
+next_is slots requests calls broken done trace todo c i seat call next x at does = ap (λ o. elim o as (λ o. Option TableStep) [ core.none ↦ None | core.some x ↦ call_in x.program ]) at ∙ call_is seat.program call next (own_loop slots requests calls broken done trace todo seat.program x) does
 
 -- of a task that is done something was said, or it is a `send`
 none_send : (slots requests : ℕ) (ds : List Done) (trace : List Entry) (op : Op) (o : Option Outcome) → o ≡ None → Explained slots requests ds trace op o → IsSend op

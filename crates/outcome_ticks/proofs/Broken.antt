@@ -8,14 +8,14 @@ use Rattle.seat_programs.specs.sock_io.specs.declared.link.Ready.TheVariants as 
 use Rattle.sock_words.specs.declared.plain.Plan.{Plan}
 use Rattle.seat_programs.specs.declared.task.Task.{Task}
 use Rattle.sock_words.specs.Words.{socket_id_version, socket_id_slot}
-use Rattle.seat_programs.specs.Calls.{Call, AddRef, SetOdd, LookWord}
+use Rattle.seat_programs.specs.Calls.{TableStep, AddRef, SetOdd, LookWord}
 use Rattle.seat_programs.specs.Programs.{Program, Do, Say, Sent, Rest, TakeMessage, TakeHome, PutHome, PutBytes, AskReady, Write, Aside, Round, Keep, Retries}
 use Rattle.outcome_stories.specs.Stories.{Entry, Event, trace_of}
 use Rattle.outcome_stories.specs.Explains.{Way, Own, Beside, Closing, Done, Fits, FitsBeside, ExplainsBy, step, broken_put, broken_ready}
 use Rattle.outcome_stories.specs.Causes.{WasFailed, Means, Good}
 use Rattle.outcome_ticks.proofs.Sending.{Within}
 
-pub fits_more : (t : Task) (bs more : List ℕ) (trace : List Entry) → Within bs more → (call : Call) → Fits t bs trace call → Fits t more trace call
+pub fits_more : (t : Task) (bs more : List ℕ) (trace : List Entry) → Within bs more → (call : TableStep) → Fits t bs trace call → Fits t more trace call
 fits_more t bs more trace w (SetOdd i) (inl f) = inl f
 fits_more t bs more trace w (SetOdd i) (inr f) = inr (f.0, f.1, f.2, f.3, w f.1 f.4)
 fits_more t bs more trace w _ f = f
@@ -32,7 +32,7 @@ pub ready_within : (k : ℕ) (answer : Ready) (bs more : List ℕ) → Within bs
 ready_within k asks.Failed bs more w = within_on k bs more w
 ready_within k _ bs more w = w
 
-pub beside_more : (calls : ℕ → Type 0) (bs more : List ℕ) (trace : List Entry) → Within bs more → (call : Call) → FitsBeside calls bs trace call → FitsBeside calls more trace call
+pub beside_more : (calls : ℕ → Type 0) (bs more : List ℕ) (trace : List Entry) → Within bs more → (call : TableStep) → FitsBeside calls bs trace call → FitsBeside calls more trace call
 beside_more calls bs more trace w (SetOdd i) f = (f.0, f.1, f.2, f.3, w f.1 f.4)
 beside_more calls bs more trace w _ f = f
 
@@ -71,7 +71,7 @@ module _ (p : Plan) (clients : List (List Task)) (bs more : List ℕ) (w : Withi
   failed_more es i h (inl f) = inl f
   failed_more es i h (inr f) = inr (f.0, w f.0 f.1, f.2)
 
-  pub means_more : (es : List Event) (trace : List Entry) (call : Call) (found : ℕ) → Means p bs es trace call found → Means p more es trace call found
+  pub means_more : (es : List Event) (trace : List Entry) (call : TableStep) (found : ℕ) → Means p bs es trace call found → Means p more es trace call found
   means_more es trace (AddRef id) found m = λ ne. failed_more es (socket_id_slot id) (socket_id_version id) (m ne)
   means_more es trace (SetOdd i) found m = λ h held. ((m h held).0, λ odd. failed_more es i h ((m h held).1 odd))
   means_more es trace (LookWord id) found m = λ held odd. failed_more es (socket_id_slot id) (socket_id_version id) (m held odd)

@@ -10,7 +10,7 @@ use Rattle.sock_model.specs.declared.chain.Heading.{Heading}
 use Rattle.sock_model.specs.Entries.{ticket_of}
 use Rattle.seat_programs.specs.sock_message.specs.Asked.{Asked, name_of, frame_of}
 use Rattle.seat_programs.specs.declared.task.Task.{Task}
-use Rattle.seat_programs.specs.Calls.{Call, LoadName, AddRef, SubRef, SetOdd, LookWord, FindLink, LoadLink, TakeLink, FinishLink, PutLink, FreeSlot, ClaimRequest, PutMessage, Unconnect, SwapHead, Connect, ClaimSlot, CreateLife, StoreName}
+use Rattle.seat_programs.specs.Calls.{TableStep, LoadName, AddRef, SubRef, SetOdd, LookWord, FindLink, LoadLink, TakeLink, FinishLink, PutLink, FreeSlot, ClaimRequest, PutMessage, Unconnect, SwapHead, Connect, ClaimSlot, CreateLife, StoreName}
 use Rattle.seat_programs.specs.Asides.{StoreAt}
 use Rattle.seat_programs.specs.Heads.{Joins, Posting, Unlocking, IsOpen, HasNext, Locking, NotThere}
 use Rattle.seat_programs.specs.Heads.{Has as HasLock}
@@ -73,10 +73,10 @@ module _ (slots requests : ℕ) (calls : ℕ → Type 0) (done : List Done) (tod
       pub within : Within broken bs
       pub on : IsAttemptOn tr id k
 
-    does : (id k : ℕ) (bs : List ℕ) (tr : List Entry) (call : Call) (next : ℕ → Program) → IsStep id k bs call → IsOn id k bs tr → ((found : ℕ) → Goes bs (step call found ∷ tr) (next found)) → Goes bs tr (Do call next)
+    does : (id k : ℕ) (bs : List ℕ) (tr : List Entry) (call : TableStep) (next : ℕ → Program) → IsStep id k bs call → IsOn id k bs tr → ((found : ℕ) → Goes bs (step call found ∷ tr) (next found)) → Goes bs tr (Do call next)
     does id k bs tr call next its a goes = (fits call its, goes)
       where
-        fits : (c : Call) → IsStep id k bs c → FitsBeside calls bs tr c
+        fits : (c : TableStep) → IsStep id k bs c → FitsBeside calls bs tr c
         fits (ClaimSlot i) its = absurd its
         fits (CreateLife i l) its = absurd its
         fits (StoreName n w) its = absurd its

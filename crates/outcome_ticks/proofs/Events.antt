@@ -9,13 +9,13 @@ use Rattle.sock_model.specs.declared.marks.Mark.TheVariants.{Born, Failer, Linke
 use Rattle.sock_model.specs.Weights.{is_born, is_failer, is_linked, is_tried}
 use Rattle.outcome_stories.specs.program_steps.specs.slot_steps.proofs.Numbers.{only_is, only-at, pair_is, pair-at}
 use Rattle.seat_programs.specs.declared.task.Task.{Task}
-use Rattle.seat_programs.specs.Calls.{Call, ClaimSlot, CreateLife, SetOdd, StoreName}
+use Rattle.seat_programs.specs.Calls.{TableStep, ClaimSlot, CreateLife, SetOdd, StoreName}
 use Rattle.outcome_stories.specs.Stories.{Entry, Event, In, trace_of, stored_by, last_name, adds, added_by, marked}
 use Rattle.outcome_stories.specs.Explains.{Fits, step}
 use Rattle.outcome_stories.specs.Causes.{Cause, Good}
 use Rattle.sock_words.specs.Totals.{total}
 
-abbrev pub event : ℕ → ℕ → Call → ℕ → Event
+abbrev pub event : ℕ → ℕ → TableStep → ℕ → Event
 event c o call found = record { client = c; number = o; entry = step call found }
 
 -- ## Sums over events
@@ -87,21 +87,21 @@ neither true true = refl
 neither true false = refl
 neither false d = refl
 
-birth_added : (c o : ℕ) (call : Call) (found j h : ℕ) → 0 < adds (is_born h) j call found → (k : ℕ) × (call ≡ CreateLife j k) × (vref_version found ≡ h)
+birth_added : (c o : ℕ) (call : TableStep) (found j h : ℕ) → 0 < adds (is_born h) j call found → (k : ℕ) × (call ≡ CreateLife j k) × (vref_version found ≡ h)
 birth_added c o (CreateLife i k) found j h p = let t = test_of i j (is_born h (Born (vref_version found)) + is_born h (Linked (vref_version found) k)) p in
     (k, ap (λ z. CreateLife z k) t.0, only_is h (vref_version found) (let a = t.1 in omega (arith, a)))
 birth_added c o (ClaimSlot i) found j h p = let a = neither (eqb i j) (eqb found 0) in absurd (omega arith)
 birth_added c o (SetOdd i) found j h p = let a = neither (eqb i j) (eqb (vref_version found % 2) 0) in absurd (omega arith)
 birth_added c o _ found j h p = absurd (omega arith)
 
-pub fail_added : (c o : ℕ) (call : Call) (found j h : ℕ) → 0 < adds (is_failer h) j call found → (call ≡ SetOdd j) × (vref_version found ≡ h) × (vref_version found % 2 ≡ 0)
+pub fail_added : (c o : ℕ) (call : TableStep) (found j h : ℕ) → 0 < adds (is_failer h) j call found → (call ≡ SetOdd j) × (vref_version found ≡ h) × (vref_version found % 2 ≡ 0)
 fail_added c o (SetOdd i) found j h p = let t = test_of i j (cond (eqb (vref_version found % 2) 0) (is_failer h (Failer (vref_version found))) 0) p in let u = test_of (vref_version found % 2) 0 (is_failer h (Failer (vref_version found))) t.1 in
     (ap SetOdd t.0, only_is h (vref_version found) u.1, u.0)
 fail_added c o (ClaimSlot i) found j h p = let a = neither (eqb i j) (eqb found 0) in absurd (omega arith)
 fail_added c o (CreateLife i k) found j h p = let a = none_added i j in absurd (omega arith)
 fail_added c o _ found j h p = absurd (omega arith)
 
-given_added : (call : Call) (found j h k : ℕ) → 0 < adds (is_linked h k) j call found → (call ≡ CreateLife j k) × (vref_version found ≡ h)
+given_added : (call : TableStep) (found j h k : ℕ) → 0 < adds (is_linked h k) j call found → (call ≡ CreateLife j k) × (vref_version found ≡ h)
 given_added (CreateLife i l) found j h k p = let t = test_of i j (is_linked h k (Born (vref_version found)) + is_linked h k (Linked (vref_version found) l)) p in
     let q = pair_is h k (vref_version found) l (let a = t.1 in omega (arith, a)) in ((λ n. CreateLife (t.0 n) (q.1 n)), q.0)
 given_added (ClaimSlot i) found j h k p = let a = neither (eqb i j) (eqb found 0) in absurd (omega arith)
@@ -161,7 +161,7 @@ module _ (p : Plan) (clients : List (List Task)) (broken : List ℕ) where
   stores_some : (t : Task) (trace : List Entry) (n w : ℕ) → Fits t broken trace (StoreName n w) → w ≢ 0
   stores_some t trace n w f = λ z. let e = f.5 in omega arith
 
-  stored_zero : (n : ℕ) (call : Call) (before : ℕ) (t : Task) (trace : List Entry) → Fits t broken trace call → stored_by n call before ≡ 0 → before ≡ 0
+  stored_zero : (n : ℕ) (call : TableStep) (before : ℕ) (t : Task) (trace : List Entry) → Fits t broken trace call → stored_by n call before ≡ 0 → before ≡ 0
   stored_zero n (StoreName m w) before t trace f z = dite (ℕ_discrete m n)
       (λ e. absurd (stores_some t trace m w f (sym (ap (λ b. cond b w before) (eq-eqb m n e)) ∙ z)))
       (λ ne. sym (ap (λ b. cond b w before) (ne_eqb m n ne)) ∙ z)
@@ -176,7 +176,7 @@ module _ (p : Plan) (clients : List (List Task)) (broken : List ℕ) where
       stores_some g.0.task (trace_of e.client e.number es) n w f (sym (ap (λ b. cond b w (last_name n es)) (eq-eqb n n refl)) ∙ a)
   last_zero (e ∷ es) g n z c o w found (inr m) = last_zero es g.1 n (stored_zero n e.entry.call (last_name n es) g.0.task (trace_of e.client e.number es) g.0.fits z) c o w found m
 
-stored_from : (n : ℕ) (call : Call) (before : ℕ) → (call ≡ StoreName n (stored_by n call before)) ⊎ (stored_by n call before ≡ before)
+stored_from : (n : ℕ) (call : TableStep) (before : ℕ) → (call ≡ StoreName n (stored_by n call before)) ⊎ (stored_by n call before ≡ before)
 stored_from n (StoreName m w) before = dite (ℕ_discrete m n)
     (λ e. inl (let q : cond (eqb m n) w before ≡ w = ap (λ b. cond b w before) (eq-eqb m n e) in ap (λ z. StoreName z w) e ∙ ap (StoreName n) (sym q)))
     (λ ne. inr (ap (λ b. cond b w before) (ne_eqb m n ne)))

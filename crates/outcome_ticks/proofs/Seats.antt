@@ -12,7 +12,7 @@ use Rattle.sock_model.specs.declared.view.View.{View}
 use Rattle.sock_model.specs.Weights.{is_hold, is_linked}
 use Rattle.sock_model.specs.SlotRows.{marks_of}
 use Rattle.seat_programs.specs.declared.task.Task.{Task}
-use Rattle.seat_programs.specs.Calls.{Call, FindLink}
+use Rattle.seat_programs.specs.Calls.{TableStep, FindLink}
 use Rattle.seat_programs.specs.Programs.{Program, Do, Say, Sent, Rest, TakeMessage, TakeHome, PutHome, PutBytes, AskReady, Write, Aside, Round, Keep, Retries}
 use Rattle.seat_programs.specs.Heads.{Retry}
 use Rattle.seat_programs.specs.Attempts.{retry}
@@ -309,7 +309,7 @@ module _ (p : Plan) (calls : ℕ → Type 0) (over : Bool) (es : List Event) (br
       (subst (AreClaims es trace) (sym claims) s.claims) lists s
 
 -- a step of this client
-module _ (p : Plan) (calls : ℕ → Type 0) (over : Bool) (es : List Event) (broken more : List ℕ) (within : Within broken more) (os : List (Option Outcome)) (c : ℕ) (tasks : List Task) (order : EachBefore Less tasks) (trace : List Entry) (done : List Done) (call : Call) (next : ℕ → Program) (v w : View) (found : ℕ) where
+module _ (p : Plan) (calls : ℕ → Type 0) (over : Bool) (es : List Event) (broken more : List ℕ) (within : Within broken more) (os : List (Option Outcome)) (c : ℕ) (tasks : List Task) (order : EachBefore Less tasks) (trace : List Entry) (done : List Done) (call : TableStep) (next : ℕ → Program) (v w : View) (found : ℕ) where
   nothing_held : trace ≡ [] → (i h : ℕ) → holds i h trace ≤ marks_of (is_hold h) i w
   nothing_held none_ i h = subst (λ z. holds i h z ≤ marks_of (is_hold h) i w) (sym none_) (omega arith)
 

@@ -11,7 +11,7 @@ use Rattle.sock_model.specs.declared.chain.Heading.{Heading}
 use Rattle.sock_model.specs.Entries.{ticket_of}
 use Rattle.seat_programs.specs.declared.task.Op.TheVariants as ops
 use Rattle.seat_programs.specs.declared.task.Task.{Task}
-use Rattle.seat_programs.specs.Calls.{Call, AddRef, SetOdd, LoadName, LookWord, FindLink, ClaimRequest, PutMessage, Unconnect, SwapHead, Connect, CreateLife, StoreName}
+use Rattle.seat_programs.specs.Calls.{TableStep, AddRef, SetOdd, LoadName, LookWord, FindLink, ClaimRequest, PutMessage, Unconnect, SwapHead, Connect, CreateLife, StoreName}
 use Rattle.seat_programs.specs.Writings.{Holder, Writing, Puts}
 use Rattle.seat_programs.specs.Programs.{Program, Do, Say, Sent, Write, release}
 use Rattle.seat_programs.specs.Sends.{block, first_put, write_link, heading_of, accept, claim_from, start, send}
@@ -39,24 +39,24 @@ module _ (slots requests : ℕ) (calls : ℕ → Type 0) (done : List Done) (t :
       pub writer : IsWriterOf t tr id k
 
     -- one step more, which tells nothing
-    on : (id k : ℕ) (bs : List ℕ) (tr : List Entry) (call : Call) (found : ℕ) → IsStep id k bs call → 0 < holds (socket_id_slot id) (socket_id_version id) (step call found ∷ tr) → IsAt id k bs tr → IsAt id k bs (step call found ∷ tr)
+    on : (id k : ℕ) (bs : List ℕ) (tr : List Entry) (call : TableStep) (found : ℕ) → IsStep id k bs call → 0 < holds (socket_id_slot id) (socket_id_version id) (step call found ∷ tr) → IsAt id k bs tr → IsAt id k bs (step call found ∷ tr)
     on id k bs tr call found its held a = record {
       grew = grew_on t.op trace tr (step call found ∷ tr) a.grew (mute call its);
       within = a.within;
       writer = record { name = a.writer.name; bytes = a.writer.bytes; op = a.writer.op; load = inr a.writer.load; link = inr a.writer.link; holds = held };
     }
       where
-        mute : (c : Call) → IsStep id k bs c → Grew t.op tr (step c found ∷ tr)
+        mute : (c : TableStep) → IsStep id k bs c → Grew t.op tr (step c found ∷ tr)
         mute (CreateLife i l) its = absurd its
         mute (SwapHead i own) its = absurd its
         -- a step that sets the life failed tells nothing of a `send`
         mute (SetOdd i) its = record { has = λ x m. inr m; swap = refl; tells = λ o all. (subst (λ z. TellsFail z o found) (sym a.writer.op) tt, all) }
         mute c its = mute_grew t.op tr c found tt
 
-    does : (id k : ℕ) (bs : List ℕ) (tr : List Entry) (call : Call) (next : ℕ → Program) → IsStep id k bs call → IsAt id k bs tr → ((found : ℕ) → Goes bs (step call found ∷ tr) (next found)) → Goes bs tr (Do call next)
+    does : (id k : ℕ) (bs : List ℕ) (tr : List Entry) (call : TableStep) (next : ℕ → Program) → IsStep id k bs call → IsAt id k bs tr → ((found : ℕ) → Goes bs (step call found ∷ tr) (next found)) → Goes bs tr (Do call next)
     does id k bs tr call next its a goes = (fits call its, goes)
       where
-        fits : (c : Call) → IsStep id k bs c → Fits t bs tr c
+        fits : (c : TableStep) → IsStep id k bs c → Fits t bs tr c
         fits (CreateLife i l) its = absurd its
         fits (StoreName n w) its = absurd its
         fits (SwapHead i own) its = absurd its
@@ -133,7 +133,7 @@ module _ (slots requests : ℕ) (calls : ℕ → Type 0) (done : List Done) (t :
     )
 
     -- a step that tells nothing and takes no reference
-    mute_here : (id : ℕ) (tr : List Entry) (call : Call) (found : ℕ) → IsMute call → holds (socket_id_slot id) (socket_id_version id) (step call found ∷ tr) ≡ holds (socket_id_slot id) (socket_id_version id) tr → IsHere id tr → IsHere id (step call found ∷ tr)
+    mute_here : (id : ℕ) (tr : List Entry) (call : TableStep) (found : ℕ) → IsMute call → holds (socket_id_slot id) (socket_id_version id) (step call found ∷ tr) ≡ holds (socket_id_slot id) (socket_id_version id) tr → IsHere id tr → IsHere id (step call found ∷ tr)
     mute_here id tr call found mute same a = let g = mute_grew t.op tr call found mute in
         record { load = inr a.load; held = subst (λ n. 0 < n) (sym same) a.held; first = g.swap ∙ a.first; tells = λ o. g.tells o (a.tells o) }
 

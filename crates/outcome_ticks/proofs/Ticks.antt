@@ -30,7 +30,7 @@ use Rattle.sock_model.specs.ChainRows.{taken_right}
 use Rattle.outcome_stories.specs.program_steps.specs.sock_steps.proofs.Places.{counts}
 use Rattle.seat_programs.specs.declared.task.Task.{Task}
 use Rattle.seat_programs.specs.Writings.{Puts, Waits, Empties, Walks}
-use Rattle.seat_programs.specs.Calls.{Call, ClaimSlot, CreateLife, SetOdd, StoreName, LoadOpen, FindLink, ClaimRequest, SwapHead}
+use Rattle.seat_programs.specs.Calls.{TableStep, ClaimSlot, CreateLife, SetOdd, StoreName, LoadOpen, FindLink, ClaimRequest, SwapHead}
 use Rattle.seat_programs.specs.Programs.{Program, Do, Say, Sent, TakeMessage, TakeHome, PutHome, PutBytes, AskReady, Write, Aside, Round, Keep, Retries}
 use Rattle.seat_programs.specs.Asides.{Step, Found, PutCall, TakeCall, Taking}
 use Rattle.seat_programs.specs.Heads.{Retry}
@@ -79,56 +79,56 @@ use Rattle.seat_programs.specs.Rounds.{first_step}
 
 -- ## Steps that leave the story as it is
 
-plain_adds : (f : Mark → ℕ) (j : ℕ) (call : Call) (found : ℕ) → IsPlain call → adds f j call found ≡ 0
+plain_adds : (f : Mark → ℕ) (j : ℕ) (call : TableStep) (found : ℕ) → IsPlain call → adds f j call found ≡ 0
 plain_adds f j (ClaimSlot i) found h = absurd h
 plain_adds f j (CreateLife i k) found h = absurd h
 plain_adds f j (SetOdd i) found h = absurd h
 plain_adds f j _ found h = refl
 
-plain_stores : (n : ℕ) (call : Call) (w : ℕ) → IsPlain call → stored_by n call w ≡ w
+plain_stores : (n : ℕ) (call : TableStep) (w : ℕ) → IsPlain call → stored_by n call w ≡ w
 plain_stores n (StoreName m x) w h = absurd h
 plain_stores n _ w h = refl
 
-plain_swaps : (call : Call) → IsPlain call → IsNoSwap call
+plain_swaps : (call : TableStep) → IsPlain call → IsNoSwap call
 plain_swaps (SwapHead i own) h = absurd h
 plain_swaps _ h = tt
 
 -- a step beside the tasks, or of whoever closes sockets, makes no life, stores no name, and finds no slot taken
-abbrev IsLater : Call → Type 0
+abbrev IsLater : TableStep → Type 0
 IsLater (ClaimSlot i) = ⊥
 IsLater (CreateLife i k) = ⊥
 IsLater (StoreName n w) = ⊥
 IsLater other = Unit {0}
 
-beside_later : (calls : ℕ → Type 0) (broken : List ℕ) (trace : List Entry) (call : Call) → FitsBeside calls broken trace call → IsLater call
+beside_later : (calls : ℕ → Type 0) (broken : List ℕ) (trace : List Entry) (call : TableStep) → FitsBeside calls broken trace call → IsLater call
 beside_later calls broken trace (ClaimSlot i) f = f
 beside_later calls broken trace (CreateLife i k) f = f
 beside_later calls broken trace (StoreName n w) f = f
 beside_later calls broken trace _ f = tt
 
-closing_later : (call : Call) → FitsClosing call → IsLater call
+closing_later : (call : TableStep) → FitsClosing call → IsLater call
 closing_later (ClaimSlot i) f = f
 closing_later (CreateLife i k) f = f
 closing_later (StoreName n w) f = f
 closing_later _ f = tt
 
-closing_swaps : (call : Call) → FitsClosing call → IsNoSwap call
+closing_swaps : (call : TableStep) → FitsClosing call → IsNoSwap call
 closing_swaps (SwapHead i own) f = f
 closing_swaps _ f = tt
 
 -- so it adds no mark that stays but that of a life that was failed
-later_adds : (f : Mark → ℕ) → ((n : ℕ) → f (Failer n) ≡ 0) → (j : ℕ) (call : Call) (found : ℕ) → IsLater call → adds f j call found ≡ 0
+later_adds : (f : Mark → ℕ) → ((n : ℕ) → f (Failer n) ≡ 0) → (j : ℕ) (call : TableStep) (found : ℕ) → IsLater call → adds f j call found ≡ 0
 later_adds f none_ j (ClaimSlot i) found l = absurd l
 later_adds f none_ j (CreateLife i k) found l = absurd l
 later_adds f none_ j (SetOdd i) found l = split (eqb i j) (cond (eqb (vref_version found % 2) 0) (f (Failer (vref_version found))) 0) 0 (λ n. n ≡ 0)
     (split (eqb (vref_version found % 2) 0) (f (Failer (vref_version found))) 0 (λ n. n ≡ 0) (none_ (vref_version found)) refl) refl
 later_adds f none_ j _ found l = refl
 
-later_stores : (n : ℕ) (call : Call) (w : ℕ) → IsLater call → stored_by n call w ≡ w
+later_stores : (n : ℕ) (call : TableStep) (w : ℕ) → IsLater call → stored_by n call w ≡ w
 later_stores n (StoreName m x) w l = absurd l
 later_stores n _ w l = refl
 
-module _ (slots requests : ℕ) (calls : ℕ → Type 0) (broken : List ℕ) (i : ℕ) (done : List Done) (trace : List Entry) (call : Call) (next : ℕ → Program) (found : ℕ) (es : List Event) where
+module _ (slots requests : ℕ) (calls : ℕ → Type 0) (broken : List ℕ) (i : ℕ) (done : List Done) (trace : List Entry) (call : TableStep) (next : ℕ → Program) (found : ℕ) (es : List Event) where
   marked_told : (f : Mark → ℕ) (j : ℕ) (todo : List Task) → Explains slots requests calls broken done trace todo (Do call next) → marked f j (told_of i todo (step call found) es) ≡ marked f j es + adds f j call found
   marked_told f j [] x = let z = plain_adds f j call found x.0 in omega arith
   marked_told f j (t ∷ ts) x = omega arith
@@ -165,7 +165,7 @@ first_explains slots requests calls w broken done trace todo _ x = x
 
 -- whoever closes sockets sets one failed in a step of its own
 odd_here : (slots requests : ℕ) (calls : ℕ → Type 0) (broken : List ℕ) (done : List Done) (trace : List Entry) (todo : List Task) (program : Program) (j : ℕ) (next : ℕ → Program) → ExplainsBy slots requests calls Closing broken done trace todo program → first_step program ≡ Do (SetOdd j) next → call_in program ≡ Some (SetOdd j)
-odd_here slots requests calls broken done trace todo (Do c n) j next x e = let q : c ≡ SetOdd j = cc in ap (λ (y : Call). Some y) q
+odd_here slots requests calls broken done trace todo (Do c n) j next x e = let q : c ≡ SetOdd j = cc in ap (λ (y : TableStep). Some y) q
 odd_here slots requests calls broken done trace todo (Write v after) j next x e = absurd x
 odd_here slots requests calls broken done trace todo (Round head n) j next x e = let o = subst IsOfLoop e (loop_begins head n) in let q : SetOdd j ≡ LoadOpen o.0 = o.1 in absurd (cc)
 odd_here slots requests calls broken done trace todo _ j next x e = absurd (cc)
@@ -290,7 +290,7 @@ module _ (p : Plan) (clients : List (List Task)) (are : AreTasks p clients) (ove
         story.named story.used spoken
 
     -- a step of seat i
-    module _ (call : Call) (next : ℕ → Program) (may : May p v call) (trace : List Entry) (done : List Done) where
+    module _ (call : TableStep) (next : ℕ → Program) (may : May p v call) (trace : List Entry) (done : List Done) where
       abbrev found : ℕ
       found = found_at c.words (word_of p call)
 
@@ -309,14 +309,14 @@ module _ (p : Plan) (clients : List (List Task)) (are : AreTasks p clients) (ove
       added : (f : Mark → ℕ) → IsNote f → (j : ℕ) → count f (slot_facts (state (stepped p i seat call next c) (set vs i w)) j) ≡ count f (slot_facts (state c vs) j) + adds f j call found
       added f note j = let a = counts (state c vs) i v w here ws hs f j in let b = row_adds f note j p call found hand v in omega (arith, a, b)
 
-      used_here : (call : Call) → May p v call → StaysUsed p (words_after c.words (word_of p call) (word_after call (found_at c.words (word_of p call)))) (step call (found_at c.words (word_of p call)))
+      used_here : (call : TableStep) → May p v call → StaysUsed p (words_after c.words (word_of p call) (word_after call (found_at c.words (word_of p call)))) (step call (found_at c.words (word_of p call)))
       used_here (ClaimRequest id q) may = λ odd. (may.0, word_stays p v c.words sound.lawful.references.sized q may.0 (omega (arith, odd)) (ClaimRequest id q) may)
       used_here _ may = tt
 
       used_then : (e : Entry) → StaysUsed p c.words e → StaysUsed p ws e
       used_then e u = go e.call u
         where
-          go : (d : Call) → (elim d as (λ d. Type 0) [ ClaimRequest id q ↦ e.found % 2 ≡ 1 → (q < p.requests) × (0 < std.slice_index c.words (request_index p q)) | _ ↦ Unit {0} ])
+          go : (d : TableStep) → (elim d as (λ d. Type 0) [ ClaimRequest id q ↦ e.found % 2 ≡ 1 → (q < p.requests) × (0 < std.slice_index c.words (request_index p q)) | _ ↦ Unit {0} ])
               → (elim d as (λ d. Type 0) [ ClaimRequest id q ↦ e.found % 2 ≡ 1 → (q < p.requests) × (0 < std.slice_index ws (request_index p q)) | _ ↦ Unit {0} ])
           go (ClaimRequest id q) u = λ odd. let a = u odd in (a.0, word_stays p v c.words sound.lawful.references.sized q a.0 a.1 call may)
           go _ u = tt
@@ -364,7 +364,7 @@ module _ (p : Plan) (clients : List (List Task)) (are : AreTasks p clients) (ove
       )
 
       -- the accepted messages behind the step
-      record Lists (t : Task) (fresh : List Event) (act : Call) : Type 0 where
+      record Lists (t : Task) (fresh : List Event) (act : TableStep) : Type 0 where
         pub made : List chain.Entry
         pub lists : (row p act (found_at c.words (word_of p act)) (hand_at p c.words c.homes act) v).lists ≡ made ∷ []
         pub before : List chain.Entry
@@ -373,7 +373,7 @@ module _ (p : Plan) (clients : List (List Task)) (are : AreTasks p clients) (ove
         pub of_calls : AllByRecursion (IsOfCall (IsSpoken clients)) made
 
       lists_own : (t : Task) (ts : List Task) (fresh : List Event) → ((j h k : ℕ) → WasGiven es j h k → WasGiven fresh j h k) → ((x : Entry) → In x (trace_of i t.number es) → In x (trace_of i t.number fresh))
-          → (call : Call) (next : ℕ → Program) → May p v call → At es broken Own trace done (t ∷ ts) (Do call next) v → Lists t fresh call
+          → (call : TableStep) (next : ℕ → Program) → May p v call → At es broken Own trace done (t ∷ ts) (Do call next) v → Lists t fresh call
       lists_own t ts fresh given has (SwapHead j own) next may s = let x = ends_swap es fresh i t given has p v j own (found_at c.words (word_of p (SwapHead j own))) (hand_at p c.words c.homes (SwapHead j own)) trace
           s.explains.0 may s.claims (sym s.traced) s.are_made.0 s.made s.lists (subst (λ z. EndsIn es i t s.are_made.0 (of_sends s.made) (swapped z)) (sym s.traced) s.are_made.1) in record { made = x.0; lists = x.1; before = s.are_made.0; ends = x.2; others_ = s.are_made.2; of_calls = x.3 (IsOfCall (IsSpoken clients)) (λ e is no_. absurd (true≢false (sym is ∙ no_))) s.of_calls }
       lists_own t ts fresh given has call next may s = record {
@@ -428,13 +428,13 @@ module _ (p : Plan) (clients : List (List Task)) (are : AreTasks p clients) (ove
           (λ m l. name_stays p v c.words sound.lawful.references.sized m l call may ∙ (ap (stored_by m call) (story.named m l) ∙ later_stores m call (last_name m es) later))
           (used_now []) story.spoken
 
-      record Made (todo : List Task) (act : Call) : Type 0 where
+      record Made (todo : List Task) (act : TableStep) : Type 0 where
         pub made : List chain.Entry
         pub lists : (row p act (found_at c.words (word_of p act)) (hand_at p c.words c.homes act) v).lists ≡ made ∷ []
         pub made_now : AreMadeNow es i done todo (of_sends made)
         pub of_calls : AllByRecursion (IsOfCall (IsSpoken clients)) made
 
-      made_beside : (todo : List Task) (call : Call) (next : ℕ → Program) → May p v call → At es broken Beside trace done todo (Do call next) v → Made todo call
+      made_beside : (todo : List Task) (call : TableStep) (next : ℕ → Program) → May p v call → At es broken Beside trace done todo (Do call next) v → Made todo call
       made_beside todo (SwapHead j own) next may s = let x = beside_swap p (IsSpoken clients) es v j own (found_at c.words (word_of p (SwapHead j own))) (hand_at p c.words c.homes (SwapHead j own)) trace s.explains.0 may s.claims s.made s.lists in
           record { made = x.0; lists = x.1; made_now = subst (AreMadeNow es i done todo) (sym x.2) s.are_made; of_calls = x.3 (IsOfCall (IsSpoken clients)) (λ e same no_. subst (λ (h : Heading). IsSpoken clients h.operation) (sym same) s.explains.0.of_call) s.of_calls }
       made_beside todo call next may s = record { made = s.made; lists = row_lists p v (found_at c.words (word_of p call)) (hand_at p c.words c.homes call) call tt ∙ s.lists; made_now = s.are_made; of_calls = s.of_calls }
@@ -497,7 +497,7 @@ module _ (p : Plan) (clients : List (List Task)) (are : AreTasks p clients) (ove
     pub kept : (e : Event) → In e es → In e events
     pub losses : (k : ℕ) → In k lost → In k broken ⊎ In k (lost_at c m)
 
-  new_step : (seat : SeatState) (v : View) (call : Call) (next : ℕ → Program) → get_elem? c.seats m.seat ≡ some seat → first_step seat.program ≡ Do call next → (tasks : List Task) → slice_get clients m.seat ≡ Some tasks
+  new_step : (seat : SeatState) (v : View) (call : TableStep) (next : ℕ → Program) → get_elem? c.seats m.seat ≡ some seat → first_step seat.program ≡ Do call next → (tasks : List Task) → slice_get clients m.seat ≡ Some tasks
       → (trace : List Entry) (done : List Done) (todo : List Task) → SeatAt p (IsSpoken clients) over es broken c.outcomes m.seat tasks Own trace done todo seat.program v → (e : Event) → In e (told_of m.seat todo (step call (found_at c.words (word_of p call))) es) → In e es ⊎ IsNew e
   new_step seat v call next at does tasks asks trace done [] s e n = inl n
   new_step seat v call next at does tasks asks trace done (t ∷ ts) s e (inl same) = inr (subst IsNew (sym same) (
@@ -540,7 +540,7 @@ module _ (p : Plan) (clients : List (List Task)) (are : AreTasks p clients) (ove
   ready_within k asks.NotYet x n = n
 
   -- a socket that is closed loses its link in the tick
-  closed_here : (seat : SeatState) (call : Call) (next : ℕ → Program) → get_elem? c.seats m.seat ≡ some seat → may_close m.seat ≡ true → (call_in seat.program ≡ Some call) ⊎ (lost_of c.words call ≡ []) → (k : ℕ) → In k (lost_of c.words call) → In k (lost_at c m)
+  closed_here : (seat : SeatState) (call : TableStep) (next : ℕ → Program) → get_elem? c.seats m.seat ≡ some seat → may_close m.seat ≡ true → (call_in seat.program ≡ Some call) ⊎ (lost_of c.words call ≡ []) → (k : ℕ) → In k (lost_of c.words call) → In k (lost_at c m)
   closed_here seat call next at closes is k n = in_right (broken_at c m) (closed_at c m) k (subst (In k) (sym (ap (λ b. cond b (elim (get_elem? c.seats m.seat) as (λ o. List ℕ) [ none ↦ [] | some seat ↦ lost_by c.words (call_in seat.program) ]) []) closes
       ∙ ap (λ o. elim o as (λ o. List ℕ) [ none ↦ [] | some seat ↦ lost_by c.words (call_in seat.program) ]) at)) (⊎_elim (λ e. subst (λ o. In k (lost_by c.words o)) (sym e) n) (λ e. absurd (subst (In k) e n)) is))
 
@@ -552,7 +552,7 @@ module _ (p : Plan) (clients : List (List Task)) (are : AreTasks p clients) (ove
       by_test true = refl
       by_test false = le-leb 32 n late
 
-  none_or_odd : (slots requests : ℕ) (calls : ℕ → Type 0) (done : List Done) (trace : List Entry) (todo : List Task) (program : Program) (call : Call) (next : ℕ → Program) → ExplainsBy slots requests calls Closing broken done trace todo program → first_step program ≡ Do call next
+  none_or_odd : (slots requests : ℕ) (calls : ℕ → Type 0) (done : List Done) (trace : List Entry) (todo : List Task) (program : Program) (call : TableStep) (next : ℕ → Program) → ExplainsBy slots requests calls Closing broken done trace todo program → first_step program ≡ Do call next
       → (call_in program ≡ Some call) ⊎ (lost_of c.words call ≡ [])
   none_or_odd slots requests calls done trace todo program (SetOdd j) next x e = inl (odd_here slots requests calls broken done trace todo program j next x e)
   none_or_odd slots requests calls done trace todo program _ next x e = inr refl
@@ -600,7 +600,7 @@ module _ (p : Plan) (clients : List (List Task)) (are : AreTasks p clients) (ove
   same_story = record { events = es; lost = broken; told = story; fresh = λ e n. inl n; kept = λ e n. n; losses = λ k n. inl n }
 
   -- a step on a word
-  goes_step : (seat : SeatState) (v : View) (call : Call) (next : ℕ → Program) → get_elem? c.seats m.seat ≡ some seat → get_elem? vs m.seat ≡ some v → first_step seat.program ≡ Do call next → May p v call → (tasks : List Task) → slice_get clients m.seat ≡ Some tasks
+  goes_step : (seat : SeatState) (v : View) (call : TableStep) (next : ℕ → Program) → get_elem? c.seats m.seat ≡ some seat → get_elem? vs m.seat ≡ some v → first_step seat.program ≡ Do call next → May p v call → (tasks : List Task) → slice_get clients m.seat ≡ Some tasks
       → (way : Way) (trace : List Entry) (done : List Done) (todo : List Task) → SeatAt p (IsSpoken clients) over es broken c.outcomes m.seat tasks way trace done todo seat.program v
       → ExplainsBy p.slots p.requests (IsSpoken clients) way broken done trace todo (Do call next) → Goes (stepped p m.seat seat call next c) (set vs m.seat (row p call (found_at c.words (word_of p call)) (hand_at p c.words c.homes call) v))
   goes_step seat v call next at here is may tasks asks_ way trace done todo told first = by_way way told

@@ -11,7 +11,7 @@ use Rattle.sock_model.specs.declared.marks.Mark.TheVariants.{Hold}
 use Rattle.sock_model.specs.Weights.{is_hold}
 use Rattle.outcome_stories.specs.program_steps.specs.slot_steps.proofs.Numbers.{only-at}
 use Rattle.seat_programs.specs.declared.task.Task.{Task}
-use Rattle.seat_programs.specs.Calls.{Call, AddRef, SubRef, SetOdd, StoreCode, LookWord, LoadCode, EmptyHead, ReadNext, ReverseNext, FreeRequest, StorePlace, DropPlace}
+use Rattle.seat_programs.specs.Calls.{TableStep, AddRef, SubRef, SetOdd, StoreCode, LookWord, LoadCode, EmptyHead, ReadNext, ReverseNext, FreeRequest, StorePlace, DropPlace}
 use Rattle.seat_programs.specs.Parts.{part}
 use Rattle.seat_programs.specs.Writings.{Holder, Writing, Puts, Waits, Empties, Walks}
 use Rattle.seat_programs.specs.Programs.{Program, Do, TakeMessage, TakeHome, PutBytes, Write, LAST_GENERATION}
@@ -50,7 +50,7 @@ add_holds id found n e = let h : ℕ = socket_id_version id in let weight : ℕ 
 -- ## Steps
 
 -- the steps of whoever holds the life of this id and writes link k, where these links failed
-abbrev pub IsStep : ℕ → ℕ → List ℕ → Call → Type 0
+abbrev pub IsStep : ℕ → ℕ → List ℕ → TableStep → Type 0
 IsStep id k bs (LookWord x) = x ≡ id
 IsStep id k bs (SetOdd i) = (i ≡ socket_id_slot id) × In k bs
 IsStep id k bs (StoreCode i h c) = Unit {0}
@@ -74,8 +74,8 @@ module _ (slots requests : ℕ) (calls : ℕ → Type 0) (way : Way) (done : Lis
 
   -- what is known of whoever is at work: its steps leave it there while it holds the life, and it may make them; it writes on, and goes on behind the loops
   pub record Writes : Type 0 where
-    pub on : (id k : ℕ) (bs : List ℕ) (tr : List Entry) (call : Call) (found : ℕ) → IsStep id k bs call → 0 < holds (socket_id_slot id) (socket_id_version id) (step call found ∷ tr) → IsOn id k bs tr → IsOn id k bs (step call found ∷ tr)
-    pub does : (id k : ℕ) (bs : List ℕ) (tr : List Entry) (call : Call) (next : ℕ → Program) → IsStep id k bs call → IsOn id k bs tr → ((found : ℕ) → Goes bs (step call found ∷ tr) (next found)) → Goes bs tr (Do call next)
+    pub on : (id k : ℕ) (bs : List ℕ) (tr : List Entry) (call : TableStep) (found : ℕ) → IsStep id k bs call → 0 < holds (socket_id_slot id) (socket_id_version id) (step call found ∷ tr) → IsOn id k bs tr → IsOn id k bs (step call found ∷ tr)
+    pub does : (id k : ℕ) (bs : List ℕ) (tr : List Entry) (call : TableStep) (next : ℕ → Program) → IsStep id k bs call → IsOn id k bs tr → ((found : ℕ) → Goes bs (step call found ∷ tr) (next found)) → Goes bs tr (Do call next)
     pub held : (id k : ℕ) (bs : List ℕ) (tr : List Entry) → IsOn id k bs tr → 0 < holds (socket_id_slot id) (socket_id_version id) tr
     pub broke : (id k : ℕ) (bs : List ℕ) (tr : List Entry) → IsOn id k bs tr → IsOn id k (k ∷ bs) tr
     pub again : (w : Writing) (bs : List ℕ) → Once (holder_of w) bs (Write w after)
@@ -83,7 +83,7 @@ module _ (slots requests : ℕ) (calls : ℕ → Type 0) (way : Way) (done : Lis
 
   module _ (its : Writes) where
     -- a step that takes and gives back no reference
-    quiet : (h : Holder) (bs : List ℕ) (call : Call) (next : ℕ → Program) → IsStep h.id h.link bs call → ((found n : ℕ) → holds_behind (socket_id_slot h.id) (socket_id_version h.id) call found n ≡ n) → ((found : ℕ) → Once h bs (next found)) → Once h bs (Do call next)
+    quiet : (h : Holder) (bs : List ℕ) (call : TableStep) (next : ℕ → Program) → IsStep h.id h.link bs call → ((found n : ℕ) → holds_behind (socket_id_slot h.id) (socket_id_version h.id) call found n ≡ n) → ((found : ℕ) → Once h bs (next found)) → Once h bs (Do call next)
     quiet h bs call next may same k tr a = its.does h.id h.link bs tr call next may a (λ found. k found (step call found ∷ tr)
         (its.on h.id h.link bs tr call found may (subst (λ n. 0 < n) (sym (same found (holds (socket_id_slot h.id) (socket_id_version h.id) tr))) (its.held h.id h.link bs tr a)) a))
 

@@ -13,7 +13,7 @@ use Rattle.sock_model.specs.Layout.{ref_index}
 use Rattle.sock_model.specs.Weights.{is_born}
 use Rattle.sock_model.specs.Slots.{count}
 use Rattle.sock_model.specs.References.{slot_facts}
-use Rattle.seat_programs.specs.Calls.{Call, SetOdd}
+use Rattle.seat_programs.specs.Calls.{TableStep, SetOdd}
 use Rattle.seat_programs.specs.Cores.{Core, found_at, words_after, first_of}
 use Rattle.seat_programs.specs.StepTables.{word_of, word_after}
 use Rattle.seat_programs.specs.StepTables.{May}
@@ -40,7 +40,7 @@ holds_links hand (r ∷ rs) hands are = by_home r.at_home (λ other. holds_links
     by_home false later are = λ heading bytes e. let x = are.0 in let first : first_of hand ≡ some are.0 = ap first_of are.2 in
         let z : Link r.link (r.sent ++ take r.put r.bytes) are.3.0 false ≡ Message heading bytes = sym are.3.1 ∙ some-injective are.0 (Message heading bytes) (sym first ∙ e) in cc
 
-module _ (p : Plan) (life : ℕ → Option ℕ) (inside : (k s : ℕ) → life k ≡ Some s → socket_id_slot s < p.slots) (c : Core) (vs : List View) (sound : Sound p c vs) (i : ℕ) (v : View) (at : get_elem? vs i ≡ some v) (u : Owing) (call : Call) (may : May p v call) where
+module _ (p : Plan) (life : ℕ → Option ℕ) (inside : (k s : ℕ) → life k ≡ Some s → socket_id_slot s < p.slots) (c : Core) (vs : List View) (sound : Sound p c vs) (i : ℕ) (v : View) (at : get_elem? vs i ≡ some v) (u : Owing) (call : TableStep) (may : May p v call) where
   -- of the lives of links it has to be known what is found of them, and that a reader sets none odd that wasn't made
   pub lives_fit : FindsCall life u call (found_at c.words (word_of p call))
       → ((k s : ℕ) → call ≡ SetOdd (socket_id_slot s) → u.link ≡ k ∷ [] → life k ≡ Some s → 0 < count (is_born (socket_id_version s)) (slot_facts (state c vs) (socket_id_slot s)))

@@ -18,7 +18,7 @@ use Rattle.sock_model.specs.Reads.{message, link_home}
 use Rattle.corr_core.specs.Word.{parts}
 use Rattle.corr_core.specs.declared.marks.Plan.{Plan as IdPlan}
 use Rattle.seat_programs.specs.id_rule.specs.Lawful as ids
-use Rattle.seat_programs.specs.Calls.{Call, TakeLink, PutLink, PutMessage}
+use Rattle.seat_programs.specs.Calls.{TableStep, TakeLink, PutLink, PutMessage}
 use Rattle.seat_programs.specs.Asides.{Step, Found, ClaimId, PutCall, MakeId, StoreCall, LoadCall, StoreAt, LoadAt, LoadIdWord, LockId, PostId, UnlockId, EndId, FreeId, TakeCall, TakeBytes, Taking, Bytes, Nothing, NoMore, AtEnd, Closed, Broken}
 use Rattle.seat_programs.specs.Programs.{Program, Do, TakeMessage, TakeHome, PutHome, PutBytes, AskReady, Write, Aside, Round}
 use Rattle.seat_programs.specs.Sends.{block}
@@ -66,7 +66,7 @@ module _ (p : Plan) (q : IdPlan) (narrow : q.slots ≤ 65536) (same : q.operatio
 
     -- ## Steps on the sockets
 
-    letters_after : (call : Call) → MayCall u call → HoldsNoMessage seat.hand → (r : ℕ) (heading : Heading) (bytes : List ℕ) → get_elem? (homes_after p call seat.hand c.homes) r ≡ some (some (Message heading bytes)) → heading.owner ≢ 0
+    letters_after : (call : TableStep) → MayCall u call → HoldsNoMessage seat.hand → (r : ℕ) (heading : Heading) (bytes : List ℕ) → get_elem? (homes_after p call seat.hand c.homes) r ≡ some (some (Message heading bytes)) → heading.owner ≢ 0
         → Past us heading.owner heading.attempt × (heading.attempt ≤ 6)
     letters_after (TakeLink k) may links r heading bytes e some_ = ⊎_elim (λ b. absurd (some-ne-none (Message heading bytes) (sym b.1))) (λ b. sound.law.letters r heading bytes b.1 some_) (at_set c.homes (link_place p k) r none (some (Message heading bytes)) e)
     letters_after (PutLink k) may links r heading bytes e some_ = ⊎_elim (λ b. absurd (links heading bytes b.1)) (λ b. sound.law.letters r heading bytes b.1 some_) (at_set c.homes (link_place p k) r (first_of seat.hand) (some (Message heading bytes)) e)
@@ -75,7 +75,7 @@ module _ (p : Plan) (q : IdPlan) (narrow : q.slots ≤ 65536) (same : q.operatio
         (λ b. sound.law.letters r heading bytes b.1 some_) (at_set c.homes t r (some (Message l cs)) (some (Message heading bytes)) e)
     letters_after _ may links r heading bytes e some_ = sound.law.letters r heading bytes e some_
 
-    on_call : (call : Call) (next : ℕ → Program) → OwesOn life u (Do call next) → CallFits p life c u call → HoldsNoMessage seat.hand → Owed' (stepped p i seat call next c)
+    on_call : (call : TableStep) (next : ℕ → Program) → OwesOn life u (Do call next) → CallFits p life c u call → HoldsNoMessage seat.hand → Owed' (stepped p i seat call next c)
     on_call call next g fits links = call_ticks q life calls c us sound i seat u at_seat at p call next g fits.finds few record {
       failed = fits.failed;
       odd = fits.odd;

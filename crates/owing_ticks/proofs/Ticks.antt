@@ -11,7 +11,7 @@ use Rattle.sock_words.specs.declared.plain.Plan.{Plan}
 use Rattle.sock_words.specs.declared.outcome.Outcome.{Outcome}
 use Rattle.sock_model.specs.declared.home.Home.{Home}
 use Rattle.corr_core.specs.declared.marks.Plan.{Plan as IdPlan}
-use Rattle.seat_programs.specs.Calls.{Call}
+use Rattle.seat_programs.specs.Calls.{TableStep}
 use Rattle.seat_programs.specs.Programs.{Program, Do}
 use Rattle.seat_programs.specs.Cores.{Core, SeatState, Calls, waiting_at, resolved, next_step, said, with_seat, stepped, found_at, words_after, homes_after, hand_after}
 use Rattle.seat_programs.specs.StepTables.{word_of, word_after}
@@ -59,7 +59,7 @@ module _ (q : IdPlan) (life : ℕ → Option ℕ) (calls : List ℕ) (c : Core) 
       )
 
   -- a tick in which the seat makes a step on the sockets
-  pub call_ticks : (p : Plan) (call : Call) (next : ℕ → Program) → OwesOn life u (Do call next) → FindsCall life u call (found_at c.words (word_of p call)) → AllByRecursion Few (waiting_at c.calls.waiting i)
+  pub call_ticks : (p : Plan) (call : TableStep) (next : ℕ → Program) → OwesOn life u (Do call next) → FindsCall life u call (found_at c.words (word_of p call)) → AllByRecursion Few (waiting_at c.calls.waiting i)
       → SockFits q life calls c us i u sound.law at (words_after c.words (word_of p call) (word_after call (found_at c.words (word_of p call)))) (homes_after p call seat.hand c.homes) c.seats c.outcomes call (found_at c.words (word_of p call)) → After (stepped p i seat call next c)
   call_ticks p call next g finds few fits = let s = g.1 (found_at c.words (word_of p call)) finds in
       follows (next (found_at c.words (word_of p call))) (hand_after p call c.homes seat.hand) (words_after c.words (word_of p call) (word_after call (found_at c.words (word_of p call)))) (homes_after p call seat.hand c.homes) c.calls s.0

@@ -19,7 +19,7 @@ use Rattle.sent_once.specs.Below.id_runs.proofs.Steps.{finds_ids}
 use Rattle.seat_programs.specs.Asides.{Step, Found, PutCall, MakeId, StoreCall, StoreAt, UnlockId, TakeCall, Taking}
 use Rattle.sock_message.specs.Asked.{Asked}
 use Rattle.seat_programs.specs.Beside.{found_in, calls_after}
-use Rattle.seat_programs.specs.Calls.{Call, PutMessage}
+use Rattle.seat_programs.specs.Calls.{TableStep, PutMessage}
 use Rattle.seat_programs.specs.Heads.{Retry}
 use Rattle.seat_programs.specs.Programs.{Program, Do, Say, Sent, Rest, TakeMessage, TakeHome, PutHome, PutBytes, AskReady, Aside, Keep, Retries}
 use Rattle.seat_programs.specs.Cores.{Calls, Core, SeatState, found_at, words_after, homes_after, hand_after, lies_at, first_of, others_of, link_place, resolved, still_waiting, waiting_at, next_step, with_seat}
@@ -103,7 +103,7 @@ kept_count : (id n : ℕ) (t u : Trial) → Kept t u → of_try id n u ≤ of_tr
 kept_count id n t u (inl e) = let z : of_try id n u ≡ of_try id n t = ap (of_try id n) e in omega (arith, z)
 kept_count id n t u (inr e) = let z : of_try id n u ≡ 0 = ap (of_try id n) e in omega (arith, z)
 
-put_count : (id n : ℕ) (t : Trial) (call : Call) → of_try id n (put_behind t call) ≤ of_try id n t
+put_count : (id n : ℕ) (t : Trial) (call : TableStep) → of_try id n (put_behind t call) ≤ of_try id n t
 put_count id n t (PutMessage r heading bytes) = omega arith
 put_count id n t _ = omega arith
 

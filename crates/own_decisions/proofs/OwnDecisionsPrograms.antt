@@ -19,7 +19,7 @@ use Rattle.seat_programs.specs.declared.task.Sizes.{Sizes}
 use Rattle.seat_programs.specs.declared.task.Task.{Task}
 use Rattle.seat_programs.specs.Asides.{StoreAt}
 use Rattle.seat_programs.specs.Attempts.{claims_from, heading_for, attempt, begin_call, claim_id, call, tried_again, retry_locked, retry, expire_outcome, expire, join}
-use Rattle.seat_programs.specs.Calls.{Call, PutMessage, FreeRequest, ReadNext, FindLink, LookWord, ReverseNext, Connect}
+use Rattle.seat_programs.specs.Calls.{TableStep, PutMessage, FreeRequest, ReadNext, FindLink, LookWord, ReverseNext, Connect}
 use Rattle.seat_programs.specs.Clients.{HeldLife, held_under, without_name, operation, client_from, ending_of}
 use Rattle.seat_programs.specs.Heads.{First, Posts, Joins, Reads, Discards, Posting, HasLocked, Unlocking, IsOpen, HasNext, Locking, NotThere, Has, Ended}
 use Rattle.seat_programs.specs.Parts.{part}
@@ -41,7 +41,7 @@ use Rattle.own_decisions.proofs.OwnDecisionsLoops.{way, next_is, post_with_goes,
 
 -- where no message is put, steps on words leave it
 module _ (t : Stand) where
-  others : (call : Call) (next : ℕ → Program) → is_of_message call ≡ false → ((found : ℕ) → Aims t (next found)) → Aims t (Do call next)
+  others : (call : TableStep) (next : ℕ → Program) → is_of_message call ≡ false → ((found : ℕ) → Aims t (next found)) → Aims t (Do call next)
   others (PutMessage q heading bytes) next is r = absurd (true≢false is)
   others call next is r = (tt, λ found _. (t, inl refl, r found))
 

@@ -8,7 +8,7 @@ use Rattle.corr_core.specs.Word.{parts, error_of, attempt_of, unlocked_word}
 use Rattle.corr_core.specs.Decisions.{WHOLE}
 use Rattle.sent_once.specs.Below.id_runs.specs.Goes.{FitsSock}
 use Rattle.seat_programs.specs.Asides.{Step, Found, MakeId, StoreAt, LoadAt, PostId, UnlockId}
-use Rattle.seat_programs.specs.Calls.{Call, PutMessage}
+use Rattle.seat_programs.specs.Calls.{TableStep, PutMessage}
 use Rattle.seat_programs.specs.Heads.{Head, Exit, Posts, Unlocks, Decides, Locks, Posting, HasLocked, Unlocking, Locking, NotThere, Has}
 use Rattle.seat_programs.specs.Posts.{is_stale, IsSoughtWord}
 use Rattle.seat_programs.specs.Writings.{Writing, Puts, Waits}
@@ -32,7 +32,7 @@ behind_message heading = if heading.owner == 0 then Calm else Past heading.owner
 
 -- ## Steps
 
-abbrev pub MayPut : Stand → Call → Type 0
+abbrev pub MayPut : Stand → TableStep → Type 0
 MayPut s (PutMessage q heading bytes) = (heading.owner ≡ 0) ⊎ (s ≡ Past heading.owner heading.attempt)
 MayPut s other = Unit {0}
 

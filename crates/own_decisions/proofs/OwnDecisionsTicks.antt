@@ -27,7 +27,7 @@ use Rattle.sent_once.specs.Below.id_runs.specs.Goes.{FitsFirst, FindsId, FitsRet
 use Rattle.sent_once.specs.Below.id_runs.proofs.Steps.{finds_ids}
 use Rattle.seat_programs.specs.Asides.{Step, Found, ClaimId, PutCall, MakeId, StoreCall, LoadCall, StoreAt, LoadAt, LoadIdWord, LockId, PostId, UnlockId, EndId, FreeId, TakeCall, TakeBytes, Taking, Bytes}
 use Rattle.seat_programs.specs.Beside.{found_in, calls_after}
-use Rattle.seat_programs.specs.Calls.{Call, PutMessage}
+use Rattle.seat_programs.specs.Calls.{TableStep, PutMessage}
 use Rattle.seat_programs.specs.Heads.{Retry, Decides}
 use Rattle.seat_programs.specs.Posts.{packed, is_stale}
 use Rattle.seat_programs.specs.Programs.{Program, Do, Say, Sent, TakeMessage, TakeHome, PutHome, PutBytes, AskReady, Write, Aside, Round, Keep, Retries}
@@ -349,7 +349,7 @@ module _ (p : Plan) (q : IdPlan) (narrow : q.slots ≤ 65536) (Taken : Post → 
     same : (x : Program) (hand : List Home) (ws : List ℕ) (hs : List (Option Home)) → HomesFit (HeadFits (Behind s)) hs → HandFits (HeadFits (Behind s)) hand → Aims s x → Result [] (with_seat i x hand ws hs (record c { calls = c.calls }))
     same x hand ws hs homes hands g = on_sockets x hand ws hs s (λ id n. omega arith) (eased_stand [] s (inl refl)) homes hands g
 
-    put_fits : (call : Call) (u : Stand) → MayPut s call → PutFits (HeadFits (Behind u)) call
+    put_fits : (call : TableStep) (u : Stand) → MayPut s call → PutFits (HeadFits (Behind u)) call
     put_fits (PutMessage r heading bytes) u (inl none_) = λ some_. absurd (some_ none_)
     put_fits (PutMessage r heading bytes) u (inr is) = λ _. inl (subst (StandFits (IsPast q c ss) (Mine i)) is (law.stands i s at_stand))
     put_fits _ u may = tt

@@ -17,7 +17,7 @@ use Rattle.seat_programs.specs.declared.task.Op.{Op}
 use Rattle.seat_programs.specs.declared.task.Op.TheVariants as ops
 use Rattle.seat_programs.specs.declared.task.Task.{Task}
 use Rattle.seat_programs.specs.declared.task.Sizes.{Sizes}
-use Rattle.seat_programs.specs.Calls.{Call, ClaimSlot, CreateLife, StoreLink, ResetHead, ClearCode, StoreName, StoreOpen, TakeLink, FinishLink, PutLink, LookWord, FindLink, ClaimRequest, LoadName}
+use Rattle.seat_programs.specs.Calls.{TableStep, ClaimSlot, CreateLife, StoreLink, ResetHead, ClearCode, StoreName, StoreOpen, TakeLink, FinishLink, PutLink, LookWord, FindLink, ClaimRequest, LoadName}
 use Rattle.seat_programs.specs.Asides.{PutCall, LoadCall, StoreAt, LoadAt}
 use Rattle.seat_programs.specs.Heads.{First, Unlocks, Posting, WasGone, WasStale, WasCrowded, WasQueued, HasLocked, Unlocking, IsOpen, HasNext, Locking, NotThere, Has, Ended}
 use Rattle.seat_programs.specs.Programs.{Program, Do, Say, Rest, Aside, Round, release, address, open_from, make_socket}
@@ -43,7 +43,7 @@ module _ (has : ℕ → ℕ) (mine : ℕ → Bool) where
 
   -- ## Attempts
 
-  step_fits : (c : Call) (next : ℕ → Program) → ((found : ℕ) → FitsSock c found → G (next found)) → G (Do c next)
+  step_fits : (c : TableStep) (next : ℕ → Program) → ((found : ℕ) → FitsSock c found → G (next found)) → G (Do c next)
   step_fits c next r = record { goes = λ more g b found fits most h. (r found fits).goes most (grows_on has more most g h) Other }
 
   stores : (o w : ℕ) (next : ℕ → Program) → IsOwnAt has o w → ((found : ℕ) → G (next found)) → G (Aside (StoreAt o w) next)

@@ -15,7 +15,7 @@ use Rattle.seat_programs.specs.brpc_model.specs.Frame.{Frame}
 use Rattle.seat_programs.specs.brpc_model.specs.Stream as streams
 use Rattle.seat_programs.specs.brpc_model.specs.ResponseOutcome.{ending_of}
 use Rattle.seat_programs.specs.sock_message.specs.Asked.{Asked}
-use Rattle.seat_programs.specs.Calls.{Call, LoadOpen}
+use Rattle.seat_programs.specs.Calls.{TableStep, LoadOpen}
 use Rattle.seat_programs.specs.Asides.{Step, Found, ClaimId, PutCall, MakeId, StoreCall, LoadCall, StoreAt, LoadAt, LoadIdWord, LockId, PostId, UnlockId, EndId, FreeId, TakeCall, TakeBytes, Taking, Bytes, Nothing, Closed}
 use Rattle.seat_programs.specs.Heads.{Head, Exit, Retry, Sought, First, Version, Reading, Posts, Unlocks, Decides, Locks, Joins, Opens, Reads, Discards, Posting, WasGone, WasStale, WasCrowded, WasQueued, HasLocked, Unlocking, IsOpen, HasNext, Deciding, HasEnded, GoesOn, Locking, NotThere, Has, Ended}
 use Rattle.seat_programs.specs.Programs.{Program, Do, Say, Sent, Rest, TakeMessage, TakeHome, PutHome, PutBytes, AskReady, Write, Aside, Round, Keep, Retries}
@@ -112,7 +112,7 @@ module _ (has : ℕ → ℕ) (left : ℕ → Bool) where
 
   -- ## Steps
 
-  pub step : (call : Call) (next : ℕ → Program) → ((found : ℕ) → Later (next found)) → Later (Do call next)
+  pub step : (call : TableStep) (next : ℕ → Program) → ((found : ℕ) → Later (next found)) → Later (Do call next)
   step call next r = record { goes = λ more g b found fits most h. (r found).goes most (grows_on has more most g h) Other }
 
   pub say : (o : ℕ) (outcome : Outcome) (next : Program) → Later next → Later (Say o outcome next)

@@ -24,7 +24,7 @@ use Rattle.call_owing.specs.Below.sock_steps.proofs.Places.{counts, own_count}
 use Rattle.call_owing.specs.Below.sock_steps.proofs.Quiet.{either_way}
 use Rattle.seat_programs.specs.declared.task.Task.{Task}
 use Rattle.seat_programs.specs.declared.task.Sizes.{Sizes}
-use Rattle.seat_programs.specs.Calls.{Call, CreateLife, StoreOpen}
+use Rattle.seat_programs.specs.Calls.{TableStep, CreateLife, StoreOpen}
 use Rattle.seat_programs.specs.Programs.{Program, Do, Rest, open_from, make_socket}
 use Rattle.seat_programs.specs.Clients.{HeldLife, operation, client_from, ending_of}
 use Rattle.seat_programs.specs.Cores.{Calls, Core, SeatState, found_at, words_after, homes_after, hand_after, resolved, next_step, waiting_at, with_seat, stepped}
@@ -60,7 +60,7 @@ IsStore (Do (StoreOpen o w) next) = Unit {0}
 IsStore other = ⊥
 
 -- in the word of an `open` the program stores each life that it makes, at once, and else only that there is none; here it has just made this life of this link
-abbrev pub NamesAt : (ℕ → ℕ → Type 0) → Option (ℕ × ℕ) → Call → (ℕ → Program) → (Option (ℕ × ℕ) → ℕ → Type 0) → Type 0
+abbrev pub NamesAt : (ℕ → ℕ → Type 0) → Option (ℕ × ℕ) → TableStep → (ℕ → Program) → (Option (ℕ × ℕ) → ℕ → Type 0) → Type 0
 NamesAt own none (CreateLife i k) next behind = (found : ℕ) → IsStore (next found) × behind (some (k, socket_id (vref_version found) i)) found
 NamesAt own none (StoreOpen o w) next behind = (w ≡ NO_SOCKET) × ((found : ℕ) → behind none found)
 NamesAt own none call next behind = (found : ℕ) → behind none found
@@ -92,7 +92,7 @@ module _ (own : ℕ → ℕ → Type 0) where
   names_passes : Passes (Names own)
   names_passes = at_calls_passes (Unit {0}) (NamesAt own) every_exit none (λ call next s b l r. plain call next s b r) (λ head l next r. r)
     where
-      plain : (call : Call) (next : ℕ → Program) → stores call ≡ none → bears call ≡ none → ((found : ℕ) → Names own (next found)) → Names own (Do call next)
+      plain : (call : TableStep) (next : ℕ → Program) → stores call ≡ none → bears call ≡ none → ((found : ℕ) → Names own (next found)) → Names own (Do call next)
       plain (CreateLife i k) next s b r = absurd (some-ne-none i b)
       plain (StoreOpen o w) next s b r = absurd (some-ne-none (o, w) s)
       plain call next s b r = r
@@ -155,7 +155,7 @@ same_store : (o w o' w' : ℕ) (f g : ℕ → Program) → Do (StoreOpen o w) f 
 same_store o w o' w' f g e = (cc, cc, cc)
 
 module _ (p : Plan) (own : ℕ → ℕ → Type 0) (c : Core) (vs : List View) (i : ℕ) (sized : length c.words ≡ all_words p) (n : Named p own c vs) (seat : SeatState) (v : View) (at_seat : get_elem? c.seats i ≡ some seat) (at_view : get_elem? vs i ≡ some v) where
-  module _ (call : Call) (next : ℕ → Program) (is : first_step seat.program ≡ Do call next) (may : May p v call) where
+  module _ (call : TableStep) (next : ℕ → Program) (is : first_step seat.program ≡ Do call next) (may : May p v call) where
     abbrev after : Core
     after = stepped p i seat call next c
 
@@ -208,7 +208,7 @@ module _ (p : Plan) (own : ℕ → ℕ → Type 0) (c : Core) (vs : List View) (
     pub plain_step : stores call ≡ none → bears call ≡ none → Named p own after (set vs i w)
     plain_step none_ no_birth = with_next (inl (behind call next none_ no_birth (mine (not_new none_ (n.programs i seat at_seat))) found)) (old_words none_)
       where
-        behind : (call : Call) (next : ℕ → Program) → stores call ≡ none → bears call ≡ none → Names own (Do call next) → (found : ℕ) → Names own (next found)
+        behind : (call : TableStep) (next : ℕ → Program) → stores call ≡ none → bears call ≡ none → Names own (Do call next) → (found : ℕ) → Names own (next found)
         behind (CreateLife a b) next s e r n = absurd (some-ne-none a e)
         behind (StoreOpen o x) next s e r n = absurd (some-ne-none (o, x) s)
         behind call next s e r n = r n
@@ -230,7 +230,7 @@ module _ (p : Plan) (own : ℕ → ℕ → Type 0) (c : Core) (vs : List View) (
       where
         -- the new life's link is noted
         noted : 0 < marks_of (is_linked (vref_version found) k) a w
-        noted = subst (λ (x : Call). 0 < marks_of (is_linked (vref_version found) k) a (row p x found (hand_at p c.words c.homes call) v)) (sym made)
+        noted = subst (λ (x : TableStep). 0 < marks_of (is_linked (vref_version found) k) a (row p x found (hand_at p c.words c.homes call) v)) (sym made)
             (let h : ℕ = vref_version found in let left = without_at a (is_stage 3 k) v.marks in
             omega (
               arith,
@@ -299,7 +299,7 @@ named_ticks p own c vs m sound answered fitting n = tick_keeps_marks p c vs m so
     (λ seat v call next at_seat at_view is goes. by_call seat v call next at_seat at_view is goes.0)
     (λ seat v program rights hand hs a at_seat at_view comes. named_still p own c vs m.seat sound.lawful.references.sized n seat v at_seat at_view program rights hand hs a comes)
   where
-    by_call : (seat : SeatState) (v : View) (call : Call) (next : ℕ → Program) → get_elem? c.seats m.seat ≡ some seat → get_elem? vs m.seat ≡ some v → first_step seat.program ≡ Do call next → May p v call
+    by_call : (seat : SeatState) (v : View) (call : TableStep) (next : ℕ → Program) → get_elem? c.seats m.seat ≡ some seat → get_elem? vs m.seat ≡ some v → first_step seat.program ≡ Do call next → May p v call
         → Named p own (stepped p m.seat seat call next c) (set vs m.seat (row p call (found_at c.words (word_of p call)) (hand_at p c.words c.homes call) v))
     by_call seat v (CreateLife a k) next at_seat at_view is may = birth_step p own c vs m.seat sound.lawful.references.sized n seat v at_seat at_view (CreateLife a k) next is may a k refl
     by_call seat v (StoreOpen o x) next at_seat at_view is may = store_step p own c vs m.seat sound.lawful.references.sized n seat v at_seat at_view (StoreOpen o x) next is may o x refl

@@ -16,7 +16,7 @@ use Rattle.sock_model.specs.ChainRows.{with_right, taken_right, put_right}
 use Rattle.sock_model.specs.Messages.{Letter}
 use Rattle.sock_model.specs.Reads.{letter_of, shown, message, link_home}
 use Rattle.seat_programs.specs.Writings.{Puts, Waits, Empties, Walks}
-use Rattle.seat_programs.specs.Calls.{Call, LoadOpen}
+use Rattle.seat_programs.specs.Calls.{TableStep, LoadOpen}
 use Rattle.seat_programs.specs.Programs.{Program, Do, Say, Sent, Rest, TakeMessage, TakeHome, PutHome, PutBytes, AskReady, Write, Aside, Round, Keep, Retries}
 use Rattle.seat_programs.specs.Asides.{Step, Found}
 use Rattle.seat_programs.specs.Heads.{Head, Exit, Posts, Unlocks, Decides, Locks, Joins, Opens, Reads, Discards}
@@ -170,7 +170,7 @@ module _ {E : Type 0} (event : View → Answer → Program → E) (nothing : E) 
 -- that P holds behind each kind of step. Of a message and of a link it is known that they lay at home, and of a step aside of the sockets what it found.
 module _ (p : Plan) (c : Core) (vs : List View) (m : Moment) {E : Type 0} (event : View → Answer → Program → E) (P : E → Core → List View → Type 0) where
   abbrev pub OnStep : Type 0
-  OnStep = (seat : SeatState) (v : View) (call : Call) (next : ℕ → Program) → get_elem? c.seats m.seat ≡ some seat → get_elem? vs m.seat ≡ some v → first_step seat.program ≡ Do call next → GoesOn p v (Do call next)
+  OnStep = (seat : SeatState) (v : View) (call : TableStep) (next : ℕ → Program) → get_elem? c.seats m.seat ≡ some seat → get_elem? vs m.seat ≡ some v → first_step seat.program ≡ Do call next → GoesOn p v (Do call next)
       → P (event v m.answer (Do call next)) (stepped p m.seat seat call next c) (set vs m.seat (row p call (found_at c.words (word_of p call)) (hand_at p c.words c.homes call) v))
 
   abbrev pub OnMessage : Type 0

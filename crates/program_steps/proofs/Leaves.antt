@@ -15,7 +15,7 @@ use Rattle.sock_model.specs.Weights.{only}
 use Rattle.sock_model.specs.SlotRows.{met, looked, told_code, met_link}
 use Rattle.sock_model.specs.ChainRows.{with_hand, spent_hand, with_claim, queued, righted, with_right, without_right, turned_right, placed_right, dropped_right, ready_claim, filled_claim}
 use Rattle.sock_steps.proofs.Quiet.{either_way}
-use Rattle.seat_programs.specs.Calls.{Call, Family, Slots, family_of, LoadName, LoadOpen, TakeLink, PutLink, LookWord, LoadLink, FindLink, LoadCode, ClaimRequest, PutMessage, Unconnect, SwapHead, EmptyHead, ReadNext, ReverseNext, FreeRequest, StorePlace, DropPlace}
+use Rattle.seat_programs.specs.Calls.{TableStep, Family, Slots, family_of, LoadName, LoadOpen, TakeLink, PutLink, LookWord, LoadLink, FindLink, LoadCode, ClaimRequest, PutMessage, Unconnect, SwapHead, EmptyHead, ReadNext, ReverseNext, FreeRequest, StorePlace, DropPlace}
 use Rattle.seat_programs.specs.StepTables.{row}
 use Rattle.seat_programs.specs.StepViews.{by_claim, by_right, settled}
 use Rattle.seat_programs.specs.StepsOfNames.{is_id, found_id}
@@ -25,7 +25,7 @@ use Rattle.seat_programs.specs.StepsOfPlaces.{placed_next, dropped_next}
 use Rattle.sock_words.specs.Totals.{total}
 
 -- whether a step is one on whose word the right of whoever writes goes on
-abbrev pub moves_right : Call → Bool
+abbrev pub moves_right : TableStep → Bool
 moves_right (LookWord id) = true
 moves_right (StorePlace l k n) = true
 moves_right (DropPlace l k n) = true
@@ -71,19 +71,19 @@ module _ (P : View → Type 0) (v : View) (same : P v) where
   exchanges_way busy idle found hand c = either_way (nat_lt found IDLE) (queued v c found) (righted v c found hand.took hand.next) P (busy c found) (idle c found hand.took hand.next)
 
 -- whether it is the exchange of a head
-abbrev pub is_exchange : Call → Bool
+abbrev pub is_exchange : TableStep → Bool
 is_exchange (SwapHead i own) = true
 is_exchange other = false
 
 -- whether it is one on the claims, and whether it moves a link into or out of a hand
-abbrev pub is_claiming : Call → Bool
+abbrev pub is_claiming : TableStep → Bool
 is_claiming (ClaimRequest id q) = true
 is_claiming (PutMessage q heading bytes) = true
 is_claiming (Unconnect q) = true
 is_claiming (SwapHead i own) = true
 is_claiming other = false
 
-abbrev pub moves_hand : Call → Bool
+abbrev pub moves_hand : TableStep → Bool
 moves_hand (TakeLink k) = true
 moves_hand (PutLink k) = true
 moves_hand other = false
@@ -93,7 +93,7 @@ is_of_slots Slots = true
 is_of_slots other = false
 
 -- whether it changes what the seat has and noted of slots: beside the steps on slots only those do that find an id or a link
-abbrev pub moves_marks : Call → Bool
+abbrev pub moves_marks : TableStep → Bool
 moves_marks (LoadName n) = true
 moves_marks (LoadOpen o) = true
 moves_marks (ClaimRequest id q) = true
@@ -101,12 +101,12 @@ moves_marks other = is_of_slots (family_of other)
 
 -- all of a view but its passes, stores, drops and entries not connected is as it was, but for the marks, claims, rights, hands and lists of accepted
 -- messages where the step is on these
-abbrev pub SameSeat : Call → View → View → Type 0
+abbrev pub SameSeat : TableStep → View → View → Type 0
 SameSeat call v w = let u : View = record v { marks = cond (moves_marks call) w.marks v.marks; passes = w.passes; stores = w.stores; drops = w.drops; loose = w.loose; claims = cond (is_claiming call) w.claims v.claims; rights = cond (moves_right call) w.rights v.rights; hands = cond (moves_hand call) w.hands v.hands; lists = cond (is_exchange call) w.lists v.lists } in w ≡ u
 
 -- each step leaves it
 module _ (p : Plan) (v : View) (found : ℕ) (hand : Hand) where
-  pub row_leaves : (call : Call) → SameSeat call v (row p call found hand v)
+  pub row_leaves : (call : TableStep) → SameSeat call v (row p call found hand v)
   row_leaves (LoadName n) = either_way (is_id found) (met (socket_id_slot (found - 1)) (socket_id_version (found - 1)) v) v (SameSeat (LoadName n) v) refl refl
   row_leaves (LoadOpen o) = either_way (is_id found) (met (socket_id_slot (found - 1)) (socket_id_version (found - 1)) v) v (SameSeat (LoadOpen o) v) refl refl
   row_leaves (TakeLink k) = either_way (nat_lt 0 (total (only hand.link) v.passes)) (spent_hand v hand) (with_hand v hand) (SameSeat (TakeLink k) v) refl refl
@@ -126,27 +126,27 @@ module _ (p : Plan) (v : View) (found : ℕ) (hand : Hand) where
   row_leaves (DropPlace l k n) = right_way (SameSeat (DropPlace l k n) v) v.rights (λ r. dropped_next v r r.stage) v refl (λ r. drops_way (SameSeat (DropPlace l k n) v) v refl (λ r. refl) (λ k. refl) r r.stage)
   row_leaves _ = refl
 
-  pub plan_stays : (call : Call) → (row p call found hand v).plan ≡ v.plan
+  pub plan_stays : (call : TableStep) → (row p call found hand v).plan ≡ v.plan
   plan_stays call = ap (λ (w : View). w.plan) (row_leaves call)
 
-  pub marks_stay : (call : Call) → moves_marks call ≡ false → (row p call found hand v).marks ≡ v.marks
+  pub marks_stay : (call : TableStep) → moves_marks call ≡ false → (row p call found hand v).marks ≡ v.marks
   marks_stay call other_ = ap (λ (w : View). w.marks) (row_leaves call) ∙ ap (λ b. cond b (row p call found hand v).marks v.marks) other_
 
-  pub claims_stay : (call : Call) → is_claiming call ≡ false → (row p call found hand v).claims ≡ v.claims
+  pub claims_stay : (call : TableStep) → is_claiming call ≡ false → (row p call found hand v).claims ≡ v.claims
   claims_stay call other_ = ap (λ (w : View). w.claims) (row_leaves call) ∙ ap (λ b. cond b (row p call found hand v).claims v.claims) other_
 
-  pub rights_stay : (call : Call) → moves_right call ≡ false → (row p call found hand v).rights ≡ v.rights
+  pub rights_stay : (call : TableStep) → moves_right call ≡ false → (row p call found hand v).rights ≡ v.rights
   rights_stay call other_ = ap (λ (w : View). w.rights) (row_leaves call) ∙ ap (λ b. cond b (row p call found hand v).rights v.rights) other_
 
-  pub hands_stay : (call : Call) → moves_hand call ≡ false → (row p call found hand v).hands ≡ v.hands
+  pub hands_stay : (call : TableStep) → moves_hand call ≡ false → (row p call found hand v).hands ≡ v.hands
   hands_stay call other_ = ap (λ (w : View). w.hands) (row_leaves call) ∙ ap (λ b. cond b (row p call found hand v).hands v.hands) other_
 
   -- all but the exchange leave the lists of accepted messages
-  pub lists_stay : (call : Call) → is_exchange call ≡ false → (row p call found hand v).lists ≡ v.lists
+  pub lists_stay : (call : TableStep) → is_exchange call ≡ false → (row p call found hand v).lists ≡ v.lists
   lists_stay call other_ = ap (λ (w : View). w.lists) (row_leaves call) ∙ ap (λ b. cond b (row p call found hand v).lists v.lists) other_
 
 -- whether a step leaves the marks, and adds notes at most
-abbrev pub is_noting : Call → Bool
+abbrev pub is_noting : TableStep → Bool
 is_noting (LookWord id) = true
 is_noting (LoadLink i w) = true
 is_noting (FindLink i h) = true
@@ -166,7 +166,7 @@ module _ (p : Plan) (v : View) (found : ℕ) (hand : Hand) (Q : List SlotMark �
   found_marks : P (found_id found v)
   found_marks = let i : ℕ = socket_id_slot (found - 1) in let h : ℕ = socket_id_version (found - 1) in either_way (is_id found) (met i h v) v P (known i h) same
 
-  pub noting_marks : (call : Call) → is_noting call ≡ true → Q (row p call found hand v).marks
+  pub noting_marks : (call : TableStep) → is_noting call ≡ true → Q (row p call found hand v).marks
   noting_marks (LookWord id) is = right_way P v.rights (looked_clean (socket_id_slot id) found v) (looked (socket_id_slot id) found v) (saw (socket_id_slot id) (vref_version found))
       (λ r. either_way (vref_version found % 2 == 0) (with_right (looked (socket_id_slot id) found v) (record r { clean = true })) (looked (socket_id_slot id) found v) P (saw (socket_id_slot id) (vref_version found)) (saw (socket_id_slot id) (vref_version found)))
   noting_marks (LoadLink i w) is = met_ i (w - 2) found

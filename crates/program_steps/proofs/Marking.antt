@@ -12,7 +12,7 @@ use Rattle.sock_model.specs.Weights.{is_stage, is_recycling, is_zero, is_coding}
 use Rattle.sock_model.specs.Marks.{at, without_at}
 use Rattle.sock_steps.specs.slot_steps.proofs.Slots.{stage_is, any_recycled, zero_is}
 use Rattle.sock_steps.proofs.Quiet.{either_way}
-use Rattle.seat_programs.specs.Calls.{Call, ClaimSlot, CreateLife, AddRef, SubRef, SetOdd, Recycle, FreeSlot, StoreLink, ResetHead, ClearCode, StoreCode}
+use Rattle.seat_programs.specs.Calls.{TableStep, ClaimSlot, CreateLife, AddRef, SubRef, SetOdd, Recycle, FreeSlot, StoreLink, ResetHead, ClearCode, StoreCode}
 use Rattle.seat_programs.specs.StepTables.{row}
 use Rattle.program_steps.proofs.Leaves.{noting_marks}
 
@@ -31,7 +31,7 @@ is_of_birth (Linked h k) = true
 is_of_birth other = false
 
 -- whether a step makes a life, or gives a reference back
-abbrev pub bears_or_gives : Call → Bool
+abbrev pub bears_or_gives : TableStep → Bool
 bears_or_gives (CreateLife i k) = true
 bears_or_gives (SubRef i) = true
 bears_or_gives other = false
@@ -46,7 +46,7 @@ module _ (p : Plan) (v : View) (found : ℕ) (hand : Hand) (Q : List SlotMark �
   out i n k = take_ i (is_stage n k) (λ x some_. ap is_taken (stage_is n k x some_))
 
   -- behind all others
-  pub marks_way : (call : Call) → bears_or_gives call ≡ false → Q (row p call found hand v).marks
+  pub marks_way : (call : TableStep) → bears_or_gives call ≡ false → Q (row p call found hand v).marks
   marks_way (CreateLife i k) other = absurd (true≢false other)
   marks_way (SubRef i) other = absurd (true≢false other)
   marks_way (ClaimSlot i) other = put i (cond (found == 0) (Claimed 0 0) Tried) v.marks (either_way (found == 0) (Claimed 0 0) Tried (λ m. is_of_birth m ≡ false) refl refl) same

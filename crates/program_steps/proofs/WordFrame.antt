@@ -6,7 +6,7 @@ use lib.Seq.{set-get_or}
 use Rattle.sock_words.specs.declared.plain.Plan.{Plan}
 use Rattle.sock_model.specs.declared.view.View.{View}
 use Rattle.sock_model.specs.Layout.{all_words}
-use Rattle.seat_programs.specs.Calls.{Call, ClaimSlot, CreateLife, AddRef, SubRef, SetOdd, Recycle, FreeSlot, LookWord, StoreLink, LoadLink, FindLink, ResetHead, ClearCode, StoreCode, LoadCode, StoreName, LoadName, StoreOpen, LoadOpen, SwapHead, EmptyHead}
+use Rattle.seat_programs.specs.Calls.{TableStep, ClaimSlot, CreateLife, AddRef, SubRef, SetOdd, Recycle, FreeSlot, LookWord, StoreLink, LoadLink, FindLink, ResetHead, ClearCode, StoreCode, LoadCode, StoreName, LoadName, StoreOpen, LoadOpen, SwapHead, EmptyHead}
 use Rattle.seat_programs.specs.TableWords.{TableWord, TagOf, RefOf, LinkOf, HeadOf, CodeOf, NameOf, OpenOf, RequestOf, NextOf, PlaceOf, index_in, index_of, IsIn}
 use Rattle.seat_programs.specs.StepTables.{May, table_word, word_of}
 use Rattle.seat_programs.specs.Cores.{found_at, words_after}
@@ -89,7 +89,7 @@ abbrev pub AreLow : Plan → Option TableWord → Type 0
 AreLow p none = Unit {0}
 AreLow p (some w) = IsBelow p 3 w
 
-pub low_word : (p : Plan) (v : View) (call : Call) → May p v call → AreLow p (table_word call)
+pub low_word : (p : Plan) (v : View) (call : TableStep) → May p v call → AreLow p (table_word call)
 low_word p v (ClaimSlot i) may = may
 low_word p v (AddRef id) may = may.0.0
 low_word p v (LoadName n) may = may
@@ -134,7 +134,7 @@ low_in p n few none low x e = absurd (some-ne-none x (sym e))
 low_in p n few (some w) low x e = subst (λ y. IsBelow p n y) (some-injective w x e) (lower p n few w low)
 
 -- a step that the view allows leaves it, where its own word is of another sort
-pub word_stays : (p : Plan) (ws : List ℕ) (v : View) (call : Call) → May p v call → (stored : ℕ) (w : TableWord) → IsIn p w → level_of w ≤ 3 → eqb (sort_in (table_word call)) (sort_of w) ≡ false
+pub word_stays : (p : Plan) (ws : List ℕ) (v : View) (call : TableStep) → May p v call → (stored : ℕ) (w : TableWord) → IsIn p w → level_of w ≤ 3 → eqb (sort_in (table_word call)) (sort_of w) ≡ false
     → get_or (words_after ws (word_of p call) stored) (index_in p w) 0 ≡ get_or ws (index_in p w) 0
 word_stays p ws v call may stored w inside few other = leaves p ws (table_word call) stored w inside (low_in p (level_of w) few (table_word call) (low_word p v call may)) other
 

@@ -3,7 +3,7 @@ use Rattle.std.specs.Prelude.{ℕ, List}
 use Rattle.seat_programs.specs.sock_io.specs.declared.link.Put.{Put}
 use Rattle.seat_programs.specs.sock_io.specs.declared.link.Ready.{Ready}
 use Rattle.sock_model.specs.declared.chain.Heading.{Heading}
-use Rattle.seat_programs.specs.Calls.{Call}
+use Rattle.seat_programs.specs.Calls.{TableStep}
 use Rattle.seat_programs.specs.Asides.{Step, Found}
 use Rattle.seat_programs.specs.Heads.{Head, Exit, Retry}
 use Rattle.seat_programs.specs.Programs.{Program, Do, Say, Sent, Rest, TakeMessage, TakeHome, PutHome, PutBytes, AskReady, Write, Aside, Round, Keep, Retries}
@@ -12,7 +12,7 @@ use Rattle.seat_programs.specs.Programs.{Program, Do, Say, Sent, Rest, TakeMessa
 -- message or a link, or a question to a link; of a loop of writing; of a step aside; of another loop; of a retry that is kept; and where the retries are tried.
 pub record Asks (S : Type 0) : Type 1 where
   pub rest : S → Type 0
-  pub word : S → Call → (ℕ → Program) → (S → ℕ → Type 0) → Type 0
+  pub word : S → TableStep → (ℕ → Program) → (S → ℕ → Type 0) → Type 0
   pub said : S → (S → Type 0) → Type 0
   pub moved : S → (S → Type 0) → Type 0
   pub written : S → (S → Type 0) → Type 0
@@ -39,7 +39,7 @@ module _ {S : Type 0} (asks : Asks S) where
   AtSteps s (Retries requests after) = asks.tried s requests (λ t. AtSteps t after)
 
 -- Nothing is asked but of a program's end, of steps on words and of loops; and this is known behind the other steps.
-abbrev pub asks_words : {S : Type 0} → (S → S) → Type 0 → (S → Call → (ℕ → Program) → (S → ℕ → Type 0) → Type 0) → ((head : Head) → (Exit head → Type 0) → Type 0) → Asks S
+abbrev pub asks_words : {S : Type 0} → (S → S) → Type 0 → (S → TableStep → (ℕ → Program) → (S → ℕ → Type 0) → Type 0) → ((head : Head) → (Exit head → Type 0) → Type 0) → Asks S
 asks_words stays rest words loops = record {
   rest = λ s. rest;
   word = words;

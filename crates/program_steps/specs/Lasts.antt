@@ -20,7 +20,7 @@ use Rattle.sock_model.specs.declared.view.Hand.{Hand}
 use Rattle.sock_model.specs.Entries.{on}
 use Rattle.sock_model.specs.SlotRows.{marks_of}
 use Rattle.sock_model.specs.Weights.{is_saw}
-use Rattle.seat_programs.specs.Calls.{Call, PutMessage, SwapHead, ReverseNext}
+use Rattle.seat_programs.specs.Calls.{TableStep, PutMessage, SwapHead, ReverseNext}
 use Rattle.seat_programs.specs.Cores.{Core, SeatState}
 use Rattle.seat_programs.specs.Writings.{Holder, Writing, Puts, Waits, Empties, Walks}
 use Rattle.seat_programs.specs.Programs.{Program, Do, Say, Sent, Rest, TakeMessage, TakeHome, PutHome, PutBytes, AskReady, Write, Aside, Round, Keep, Retries}
@@ -100,7 +100,7 @@ walks_left views = total (λ (v : View). total (walk_left (accepted views)) v.ri
 
 -- who puts a message into its home is charged for whoever writes it, and who has it accepted for whoever walks to it; a turn of a next word
 -- is paid by what is left of the walk
-abbrev pub cost : Call → ℕ
+abbrev pub cost : TableStep → ℕ
 cost (PutMessage q heading bytes) = 1 + weight (length bytes)
 cost (SwapHead i own) = 3 + ACCEPT
 cost (ReverseNext q value) = 0

@@ -20,7 +20,7 @@ use Rattle.sock_model.specs.Weights.{is_born, is_failer, is_freer}
 use Rattle.sock_model.specs.References.{slot_facts}
 use Rattle.sock_model.specs.Messages.{Letter}
 use Rattle.sock_model.specs.Reads.{message, link_home}
-use Rattle.seat_programs.specs.Calls.{Call, CreateLife, AddRef, SubRef, Recycle, LoadLink, LoadName, TakeLink, FinishLink, PutLink, FindLink, ClaimRequest, PutMessage, EmptyHead, FreeRequest, StorePlace, DropPlace}
+use Rattle.seat_programs.specs.Calls.{TableStep, CreateLife, AddRef, SubRef, Recycle, LoadLink, LoadName, TakeLink, FinishLink, PutLink, FindLink, ClaimRequest, PutMessage, EmptyHead, FreeRequest, StorePlace, DropPlace}
 use Rattle.seat_programs.specs.Programs.{Program, Do, TakeMessage, TakeHome, PutHome, PutBytes, Say, Sent, Keep, Retries, AskReady, Write, Aside, Round, Rest, LAST_VERSION, LAST_GENERATION}
 use Rattle.seat_programs.specs.Sends.{block}
 use Rattle.seat_programs.specs.Rounds.{round, first_step}
@@ -141,7 +141,7 @@ views_along p c views (m ∷ ms) = views_along p (ticked p c m) (views_after p c
 abbrev pub MOST_PLACES : ℕ
 MOST_PLACES = 4294967295
 
-abbrev pub AllowsWord : Call → ℕ → Type 0
+abbrev pub AllowsWord : TableStep → ℕ → Type 0
 AllowsWord (CreateLife i k) found = vref_nref found < 4294967295
 AllowsWord (AddRef id) found = vref_nref found < 4294967295
 AllowsWord (SubRef i) found = 0 < vref_nref found
@@ -156,7 +156,7 @@ AllowsWord (StorePlace l k n) found = n < MOST_PLACES
 AllowsWord (DropPlace l k n) found = n < MOST_PLACES
 AllowsWord other found = Unit {0}
 
-abbrev pub AllowsMove : Plan → Core → Call → Type 0
+abbrev pub AllowsMove : Plan → Core → TableStep → Type 0
 AllowsMove p c (TakeLink k) = (k < p.links) × ((took : List ℕ) × (next : ℕ) × (done : Bool) × (get_elem? c.homes (link_place p k) ≡ some (some (Link k took next done))))
 AllowsMove p c (FinishLink k) = k < p.links
 AllowsMove p c (PutLink k) = k < p.links
@@ -165,7 +165,7 @@ AllowsMove p c other = Unit {0}
 
 -- the word of the step is there, its count of references neither overflows nor falls below 0, an exchange is tried from a
 -- word without references, and a link is taken from its home
-abbrev pub Allows : Plan → Core → Call → Type 0
+abbrev pub Allows : Plan → Core → TableStep → Type 0
 Allows p c call = ((x : ℕ) → word_of p call ≡ some x → x < length c.words) × AllowsWord call (found_at c.words (word_of p call)) × AllowsMove p c call
 
 -- whoever puts a link home, or asks it, has it in hand

@@ -17,7 +17,7 @@ use Rattle.sock_model.specs.SlotRows.{marks_of}
 use Rattle.sock_model.specs.Slots.{count}
 use Rattle.sock_model.specs.References.{slot_facts}
 use Rattle.sock_steps.proofs.Places.{counts}
-use Rattle.seat_programs.specs.Calls.{Call, CreateLife, StoreOpen}
+use Rattle.seat_programs.specs.Calls.{TableStep, CreateLife, StoreOpen}
 use Rattle.seat_programs.specs.Programs.{Program, Do}
 use Rattle.seat_programs.specs.Cores.{Calls, Core, SeatState, found_at, words_after, homes_after, hand_after, resolved, next_step, waiting_at, with_seat, stepped}
 use Rattle.seat_programs.specs.StepTables.{word_of, word_after}
@@ -39,7 +39,7 @@ use Rattle.seat_programs.specs.corr_core.proofs.Notes.{at_length}
 use Rattle.seat_programs.specs.Rounds.{first_step}
 
 -- each life that the program makes it stores next, at an operation that is its link's own
-abbrev pub GivesAt : (ℕ → ℕ → Type 0) → Unit {0} → Call → (ℕ → Program) → (Unit {0} → ℕ → Type 0) → Type 0
+abbrev pub GivesAt : (ℕ → ℕ → Type 0) → Unit {0} → TableStep → (ℕ → Program) → (Unit {0} → ℕ → Type 0) → Type 0
 GivesAt own s (CreateLife i k) next behind = (found : ℕ) → ((o : ℕ) × own k o × (next_stores (next found) ≡ some (o, socket_id (vref_version found) i + 1))) × behind tt found
 GivesAt own s call next behind = (found : ℕ) → behind tt found
 
@@ -49,7 +49,7 @@ Gives own program = AtCalls (Unit {0}) (GivesAt own) every_exit tt program
 pub gives_passes : (own : ℕ → ℕ → Type 0) → Passes (Gives own)
 gives_passes own = at_calls_passes (Unit {0}) (GivesAt own) every_exit tt (plain own) (λ head l next r. r)
   where
-    plain : (own : ℕ → ℕ → Type 0) (call : Call) (next : ℕ → Program) → stores call ≡ none → bears call ≡ none → loads call ≡ none → ((found : ℕ) → Gives own (next found)) → Gives own (Do call next)
+    plain : (own : ℕ → ℕ → Type 0) (call : TableStep) (next : ℕ → Program) → stores call ≡ none → bears call ≡ none → loads call ≡ none → ((found : ℕ) → Gives own (next found)) → Gives own (Do call next)
     plain own (CreateLife i k) next s b l r = absurd (some-ne-none i b)
     plain own call next s b l r = r
 
@@ -59,7 +59,7 @@ gives_opens own = record { load = λ o next r. r; wait = λ o next r. r }
 pub gives_follow : (own : ℕ → ℕ → Type 0) → Follows (Gives own)
 gives_follow own = at_calls_follow (Unit {0}) (GivesAt own) every_exit tt (λ head next r. r)
 
-behind_gives : (own : ℕ → ℕ → Type 0) (call : Call) (next : ℕ → Program) → Gives own (Do call next) → (found : ℕ) → Gives own (next found)
+behind_gives : (own : ℕ → ℕ → Type 0) (call : TableStep) (next : ℕ → Program) → Gives own (Do call next) → (found : ℕ) → Gives own (next found)
 behind_gives own (CreateLife i k) next r found = (r found).1
 behind_gives own call next r found = r found
 
@@ -84,7 +84,7 @@ pub record Linked (p : Plan) (own : ℕ → ℕ → Type 0) (c : Core) (vs : Lis
 
 module _ (p : Plan) (own : ℕ → ℕ → Type 0) (Q : ℕ → ℕ → Type 0) (c : Core) (vs : List View) (i : ℕ) (sized : length c.words ≡ all_words p) (r : Recorded p Q c vs) (l : Linked p own c vs) (seat : SeatState) (v : View)
     (at_seat : get_elem? c.seats i ≡ some seat) (at_view : get_elem? vs i ≡ some v) where
-  module _ (call : Call) (next : ℕ → Program) (is : first_step seat.program ≡ Do call next) (may : May p v call) where
+  module _ (call : TableStep) (next : ℕ → Program) (is : first_step seat.program ≡ Do call next) (may : May p v call) where
     abbrev seat' : SeatState
     seat' = record { program = next_step (resolved (waiting_at c.calls.waiting i) (next (found_at c.words (word_of p call)))); hand = hand_after p call c.homes seat.hand }
 
@@ -147,7 +147,7 @@ module _ (p : Plan) (own : ℕ → ℕ → Type 0) (Q : ℕ → ℕ → Type 0) 
         left : r.left i o ≡ true
         left = (subst (λ y. Records (r.left i) (Do y next)) made (subst (Records (r.left i)) is (through_first (Records (r.left i)) (records_passes (r.left i)) (records_opens (r.left i)) (records_follow (r.left i)) seat.program (r.records i seat at_seat)))).0
 
-        word : Call → ℕ → ℕ
+        word : TableStep → ℕ → ℕ
         word y n = get_or (words_after c.words (word_of p y) (word_after y (found_at c.words (word_of p y)))) (open_index p n) 0
 
         fits : o < p.operations
@@ -205,7 +205,7 @@ linked_ticks p own Q c vs m sound answered fitting r l = tick_keeps_marks p c vs
     (λ seat v call next at_seat at_view is goes. by_call seat v call next at_seat at_view is goes.0)
     (λ seat v program rights hand hs a at_seat at_view comes. linked_still p own Q c vs m.seat sound.lawful.references.sized r l seat v at_seat at_view program rights hand hs a comes)
   where
-    by_call : (seat : SeatState) (v : View) (call : Call) (next : ℕ → Program) → get_elem? c.seats m.seat ≡ some seat → get_elem? vs m.seat ≡ some v → first_step seat.program ≡ Do call next → May p v call
+    by_call : (seat : SeatState) (v : View) (call : TableStep) (next : ℕ → Program) → get_elem? c.seats m.seat ≡ some seat → get_elem? vs m.seat ≡ some v → first_step seat.program ≡ Do call next → May p v call
         → Linked p own (stepped p m.seat seat call next c) (set vs m.seat (row p call (found_at c.words (word_of p call)) (hand_at p c.words c.homes call) v))
     by_call seat v (CreateLife n k) next at_seat at_view is may = birth_step p own Q c vs m.seat sound.lawful.references.sized r l seat v at_seat at_view (CreateLife n k) next is may n k refl
     by_call seat v (StoreOpen o x) next at_seat at_view is may = store_step p own Q c vs m.seat sound.lawful.references.sized r l seat v at_seat at_view (StoreOpen o x) next is may o x refl

@@ -11,7 +11,7 @@ use Rattle.sock_words.specs.declared.plain.Plan.{Plan}
 use Rattle.sock_model.specs.declared.home.Home.{Home}
 use Rattle.sock_model.specs.declared.view.View.{View}
 use Rattle.sock_model.specs.Layout.{open_index}
-use Rattle.seat_programs.specs.Calls.{Call, LoadOpen, StoreOpen}
+use Rattle.seat_programs.specs.Calls.{TableStep, LoadOpen, StoreOpen}
 use Rattle.seat_programs.specs.Heads.{Head, Exit, Opens, Reads}
 use Rattle.seat_programs.specs.Programs.{Program, Do, Rest, Round}
 use Rattle.seat_programs.specs.Readers.{read, reader}
@@ -34,7 +34,7 @@ use Rattle.sock_words.specs.Words.{NO_SOCKET}
 
 -- ## Programs that load no word of an `open`
 
-abbrev pub NoLoad : Unit {0} → Call → (ℕ → Program) → (Unit {0} → ℕ → Type 0) → Type 0
+abbrev pub NoLoad : Unit {0} → TableStep → (ℕ → Program) → (Unit {0} → ℕ → Type 0) → Type 0
 NoLoad s (LoadOpen o) next behind = ⊥
 NoLoad s call next behind = (found : ℕ) → behind tt found
 
@@ -48,7 +48,7 @@ NoOpens program = AtCalls (Unit {0}) NoLoad NoWait tt program
 no_opens_passes : Passes NoOpens
 no_opens_passes = at_calls_passes (Unit {0}) NoLoad NoWait tt plain looped
   where
-    plain : (call : Call) (next : ℕ → Program) → stores call ≡ none → bears call ≡ none → loads call ≡ none → ((found : ℕ) → NoOpens (next found)) → NoOpens (Do call next)
+    plain : (call : TableStep) (next : ℕ → Program) → stores call ≡ none → bears call ≡ none → loads call ≡ none → ((found : ℕ) → NoOpens (next found)) → NoOpens (Do call next)
     plain (LoadOpen o) next s b l r = absurd (some-ne-none o l)
     plain call next s b l r = r
 
@@ -69,7 +69,7 @@ first_none program x = through_head NoOpens no_opens_passes (λ o exits y. absur
 next_none : (ws : List Rattle.seat_programs.specs.Heads.Retry) (program : Program) → NoOpens program → NoOpens (next_step (resolved ws program))
 next_none ws program x = through_next NoOpens no_opens_passes no_opens_follow ws program x
 
-behind_none : (call : Call) (next : ℕ → Program) → NoOpens (Do call next) → (found : ℕ) → NoOpens (next found)
+behind_none : (call : TableStep) (next : ℕ → Program) → NoOpens (Do call next) → (found : ℕ) → NoOpens (next found)
 behind_none (LoadOpen o) next x found = absurd x
 behind_none call next x found = x found
 
@@ -81,7 +81,7 @@ stored_some p v w (inl e) z = let y : 18446744073709551615 ≡ 0 = sym e ∙ z i
 stored_some p v w (inr k) z = let y : IsTrue (nat_lt 0 0) = subst (λ x. IsTrue (nat_lt 0 x)) z k.0 in true≢false (sym y)
 
 -- a word that was stored isn't 0 again
-pub stays_stored : (p : Plan) (c : Core) (v : View) (o : ℕ) → o < p.operations → length c.words ≡ Rattle.sock_model.specs.Layout.all_words p → (call : Call) → May p v call → get_or c.words (open_index p o) 0 ≢ 0
+pub stays_stored : (p : Plan) (c : Core) (v : View) (o : ℕ) → o < p.operations → length c.words ≡ Rattle.sock_model.specs.Layout.all_words p → (call : TableStep) → May p v call → get_or c.words (open_index p o) 0 ≢ 0
     → get_or (words_after c.words (word_of p call) (word_after call (found_at c.words (word_of p call)))) (open_index p o) 0 ≢ 0
 stays_stored p c v o inside sized (StoreOpen n w) may some_ = dite (ℕ_discrete n o)
     (λ e. λ z. let same : get_or (set c.words (open_index p n) w) (open_index p o) 0 ≡ w = ap (λ k. get_or (set c.words (open_index p n) w) (open_index p k) 0) (sym e) ∙ get_or-set_same c.words (open_index p n) w 0 (omega (arith, inside, e, sized)) in
@@ -89,7 +89,7 @@ stays_stored p c v o inside sized (StoreOpen n w) may some_ = dite (ℕ_discrete
     (λ far. λ z. some_ (sym (get_or-set_other c.words (open_index p n) (open_index p o) w 0 (λ e. far (omega (arith, e)))) ∙ z))
 stays_stored p c v o inside sized call may some_ = by_none call may refl
   where
-    by_none : (call : Call) → May p v call → stores call ≡ none → get_or (words_after c.words (word_of p call) (word_after call (found_at c.words (word_of p call)))) (open_index p o) 0 ≢ 0
+    by_none : (call : TableStep) → May p v call → stores call ≡ none → get_or (words_after c.words (word_of p call) (word_after call (found_at c.words (word_of p call)))) (open_index p o) 0 ≢ 0
     by_none call may none_ = λ z. some_ (sym (opens_same p c.words v o inside call may none_) ∙ z)
 
 -- ## The seat of a reader
@@ -105,17 +105,17 @@ module _ (p : Plan) (calls : List ℕ) (j n o : ℕ) (inside : o < p.operations)
   abbrev first : ℕ → Program
   first word = cond (word == 0) (reader calls n o) (behind word)
 
-  load_is : (call : Call) (next : ℕ → Program) (program : Program) → program ≡ reader calls n o → first_step program ≡ Do call next → (call ≡ LoadOpen o) × (next ≡ first)
+  load_is : (call : TableStep) (next : ℕ → Program) (program : Program) → program ≡ reader calls n o → first_step program ≡ Do call next → (call ≡ LoadOpen o) × (next ≡ first)
   load_is call next program e is = let x : Do (LoadOpen o) first ≡ Do call next = sym (ap first_step e) ∙ is in (cc, cc)
 
   module _ (c : Core) (vs : List View) (m : Moment) (sound : Sound p c vs) (answered : IsAnswered c m) (fitting : IsFitting p c m) (before : AtReader p calls j n o c) where
-    abbrev word' : Call → ℕ
+    abbrev word' : TableStep → ℕ
     word' x = get_or (words_after c.words (word_of p x) (word_after x (found_at c.words (word_of p x)))) (open_index p o) 0
 
-    abbrev G : Call → (ℕ → Program) → Type 0
+    abbrev G : TableStep → (ℕ → Program) → Type 0
     G x f = (next_step (resolved (waiting_at c.calls.waiting m.seat) (f (found_at c.words (word_of p x)))) ≡ reader calls n o) ⊎ ((word' x ≢ 0) × NoOpens (next_step (resolved (waiting_at c.calls.waiting m.seat) (f (found_at c.words (word_of p x))))))
 
-    on_call : (seat : SeatState) (v : View) (call : Call) (next : ℕ → Program) → get_elem? c.seats m.seat ≡ some seat → first_step seat.program ≡ Do call next → May p v call → AtReader p calls j n o (stepped p m.seat seat call next c)
+    on_call : (seat : SeatState) (v : View) (call : TableStep) (next : ℕ → Program) → get_elem? c.seats m.seat ≡ some seat → first_step seat.program ≡ Do call next → May p v call → AtReader p calls j n o (stepped p m.seat seat call next c)
     on_call seat v call next at_seat is may s at = ⊎_elim
         (λ a. subst (λ (x : SeatState). (x.program ≡ reader calls n o) ⊎ ((word' call ≢ 0) × NoOpens x.program)) a.1 (own (before seat (ap (get_elem? c.seats) a.0 ∙ at_seat))))
         (λ a. ⊎_elim (λ e. inl e) (λ x. inr (stays_stored p c v o inside sound.lawful.references.sized call may x.0, x.1)) (before s a.1))
@@ -178,5 +178,5 @@ module _ (p : Plan) (calls : List ℕ) (j n o : ℕ) (inside : o < p.operations)
         opened e = let y : Round (Opens o) behind ≡ Round (Opens x) next = e in cc
 
     -- another step comes behind it
-    pub steps_behind : (call : Call) (next : ℕ → Program) → first_step seat.program ≡ Do call next → loads call ≡ none → get_or c.words (open_index p o) 0 ≢ 0
+    pub steps_behind : (call : TableStep) (next : ℕ → Program) → first_step seat.program ≡ Do call next → loads call ≡ none → get_or c.words (open_index p o) 0 ≢ 0
     steps_behind call next is none_ = ⊎_elim (λ e. let y = load_is call next seat.program e is in absurd (some-ne-none o (sym (ap loads y.0) ∙ none_))) (λ y. y.0) (r seat at)

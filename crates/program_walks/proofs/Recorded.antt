@@ -17,7 +17,7 @@ use Rattle.sock_model.specs.SlotRows.{marks_of}
 use Rattle.sock_model.specs.Slots.{count}
 use Rattle.sock_model.specs.References.{slot_facts}
 use Rattle.sock_steps.proofs.Places.{counts}
-use Rattle.seat_programs.specs.Calls.{Call, CreateLife, StoreOpen}
+use Rattle.seat_programs.specs.Calls.{TableStep, CreateLife, StoreOpen}
 use Rattle.seat_programs.specs.Programs.{Program, Do, Say, Sent, Rest, TakeMessage, TakeHome, PutHome, PutBytes, AskReady, Write, Aside, Round, Keep, Retries}
 use Rattle.seat_programs.specs.Cores.{Calls, Core, SeatState, found_at, words_after, homes_after, hand_after, resolved, next_step, waiting_at, with_seat, stepped}
 use Rattle.seat_programs.specs.StepTables.{word_of, word_after}
@@ -108,12 +108,12 @@ abbrev pub nothing : ℕ → Bool
 nothing _ = false
 
 -- a step that stores nothing and makes no life goes on as it may
-pub plain_next : (left : ℕ → Bool) (call : Call) (next : ℕ → Program) → stores call ≡ none → bears call ≡ none → Records left (Do call next) → (found : ℕ) → Records left (next found)
+pub plain_next : (left : ℕ → Bool) (call : TableStep) (next : ℕ → Program) → stores call ≡ none → bears call ≡ none → Records left (Do call next) → (found : ℕ) → Records left (next found)
 plain_next left (CreateLife i k) next s b r found = absurd (some-ne-none i b)
 plain_next left (StoreOpen o w) next s b r found = absurd (some-ne-none (o, w) s)
 plain_next left call next s b r found = r found
 
-module _ (p : Plan) (Q : ℕ → ℕ → Type 0) (c : Core) (vs : List View) (i : ℕ) (r : Recorded p Q c vs) (seat : SeatState) (v : View) (call : Call) (next : ℕ → Program)
+module _ (p : Plan) (Q : ℕ → ℕ → Type 0) (c : Core) (vs : List View) (i : ℕ) (r : Recorded p Q c vs) (seat : SeatState) (v : View) (call : TableStep) (next : ℕ → Program)
     (at_seat : get_elem? c.seats i ≡ some seat) (at_view : get_elem? vs i ≡ some v) (is : first_step seat.program ≡ Do call next) (may : May p v call) where
   abbrev found : ℕ
   found = found_at c.words (word_of p call)
@@ -196,7 +196,7 @@ module _ (p : Plan) (Q : ℕ → ℕ → Type 0) (c : Core) (vs : List View) (i 
     fits : o < p.operations
     fits = (subst (May p v) made may).0
 
-    abbrev word : Call → ℕ → ℕ
+    abbrev word : TableStep → ℕ → ℕ
     word y n = get_or (words_after c.words (word_of p y) (word_after y (found_at c.words (word_of p y)))) (open_index p n) 0
 
     word_here : word call o ≡ x
@@ -278,7 +278,7 @@ recorded_ticks p Q c vs m sound answered fitting r = tick_keeps_marks p c vs m s
     (λ seat v call next at_seat at_view is goes. by_call seat v call next at_seat at_view is goes.0)
     (λ seat v program rights hand hs a at_seat at_view comes. still_recorded p Q c vs m.seat r seat v program rights hand hs a at_seat at_view comes)
   where
-    by_call : (seat : SeatState) (v : View) (call : Call) (next : ℕ → Program) → get_elem? c.seats m.seat ≡ some seat → get_elem? vs m.seat ≡ some v → first_step seat.program ≡ Do call next → May p v call
+    by_call : (seat : SeatState) (v : View) (call : TableStep) (next : ℕ → Program) → get_elem? c.seats m.seat ≡ some seat → get_elem? vs m.seat ≡ some v → first_step seat.program ≡ Do call next → May p v call
         → Recorded p Q (stepped p m.seat seat call next c) (set vs m.seat (row p call (found_at c.words (word_of p call)) (hand_at p c.words c.homes call) v))
     by_call seat v (CreateLife n k) next at_seat at_view is may = birth_step p Q c vs m.seat r seat v (CreateLife n k) next at_seat at_view is may refl n k refl
     by_call seat v (StoreOpen o x) next at_seat at_view is may = store_step p Q c vs m.seat r seat v (StoreOpen o x) next at_seat at_view is may sound o x refl

@@ -5,7 +5,7 @@ use Rattle.sock_words.specs.Words.{socket_id, vref_version}
 use Rattle.sock_words.specs.declared.plain.Plan.{Plan}
 use Rattle.sock_model.specs.declared.view.View.{View}
 use Rattle.sock_model.specs.Layout.{open_index}
-use Rattle.seat_programs.specs.Calls.{Call, CreateLife, StoreOpen, LoadOpen}
+use Rattle.seat_programs.specs.Calls.{TableStep, CreateLife, StoreOpen, LoadOpen}
 use Rattle.seat_programs.specs.Heads.{Head, Retry, Opens}
 use Rattle.seat_programs.specs.Programs.{Program, Do, Say, Sent, Write, Round, Keep, Retries}
 use Rattle.seat_programs.specs.TableWords.{OpenOf}
@@ -19,7 +19,7 @@ use Rattle.seat_programs.specs.Rounds.{first_step}
 -- ## What a program stores in the words of operations
 
 -- the operation, and the word
-abbrev pub stores : Call → Option (ℕ × ℕ)
+abbrev pub stores : TableStep → Option (ℕ × ℕ)
 stores (StoreOpen o w) = some (o, w)
 stores _ = none
 
@@ -28,7 +28,7 @@ next_stores (Do call next) = stores call
 next_stores _ = none
 
 -- the `open` whose word a step loads, and for which a loop waits
-abbrev pub loads : Call → Option ℕ
+abbrev pub loads : TableStep → Option ℕ
 loads (LoadOpen o) = some o
 loads _ = none
 
@@ -41,7 +41,7 @@ abbrev pub but : ℕ → (ℕ → Bool) → ℕ → Bool
 but o left x = left x && not (x == o)
 
 -- it stores only words of the operations of `left`, each at most once, and of each life that it makes at once
-abbrev pub RecordsAt : (ℕ → Bool) → Call → (ℕ → Program) → ((ℕ → Bool) → ℕ → Type 0) → Type 0
+abbrev pub RecordsAt : (ℕ → Bool) → TableStep → (ℕ → Program) → ((ℕ → Bool) → ℕ → Type 0) → Type 0
 RecordsAt left (CreateLife i k) next behind = (found : ℕ) → ((o : ℕ) × (next_stores (next found) ≡ some (o, socket_id (vref_version found) i + 1))) × behind left found
 RecordsAt left (StoreOpen o w) next behind = (left o ≡ true) × ((found : ℕ) → behind (but o left) found)
 RecordsAt left call next behind = (found : ℕ) → behind left found
@@ -66,7 +66,7 @@ first_stored _ x e = e
 -- ## Words of operations
 
 -- a step that stores in none leaves them all
-pub opens_same : (p : Plan) (ws : List ℕ) (v : View) (o : ℕ) → o < p.operations → (call : Call) → May p v call → stores call ≡ none
+pub opens_same : (p : Plan) (ws : List ℕ) (v : View) (o : ℕ) → o < p.operations → (call : TableStep) → May p v call → stores call ≡ none
     → get_or (words_after ws (word_of p call) (word_after call (found_at ws (word_of p call)))) (open_index p o) 0 ≡ get_or ws (open_index p o) 0
 opens_same p ws v o inside (StoreOpen n w) may none_ = absurd (some-ne-none (n, w) none_)
 opens_same p ws v o inside (LoadOpen n) may none_ = ap (λ l. get_or l (open_index p o) 0) (load_leaves p ws (some (OpenOf n)))

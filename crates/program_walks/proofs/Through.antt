@@ -14,7 +14,7 @@ use Rattle.sock_model.specs.declared.chain.Heading.{Heading}
 use Rattle.sock_steps.proofs.Quiet.{either_way}
 use Rattle.seat_programs.specs.corr_core.specs.Word.{parts}
 use Rattle.seat_programs.specs.sock_message.specs.Asked.{Asked}
-use Rattle.seat_programs.specs.Calls.{Call, CreateLife, StoreOpen, AddRef, SubRef, SetOdd, Recycle, FreeSlot, LoadLink, StoreCode, LoadName, LoadOpen, TakeLink, FinishLink, PutLink, LookWord, ClaimRequest, PutMessage, SwapHead, EmptyHead}
+use Rattle.seat_programs.specs.Calls.{TableStep, CreateLife, StoreOpen, AddRef, SubRef, SetOdd, Recycle, FreeSlot, LoadLink, StoreCode, LoadName, LoadOpen, TakeLink, FinishLink, PutLink, LookWord, ClaimRequest, PutMessage, SwapHead, EmptyHead}
 use Rattle.seat_programs.specs.Writings.{Writing}
 use Rattle.seat_programs.specs.Asides.{Step, Found, PutCall, StoreAt, LoadIdWord, LockId, UnlockId, EndId, FreeId, TakeCall, TakeBytes, Taking}
 use Rattle.seat_programs.specs.Heads.{Head, Exit, Retry, Sought, Reading, Ended, Posts, Unlocks, Decides, Locks, Joins, Opens, Reads, Discards, Posting, Unlocking, Deciding, Locking}
@@ -30,17 +30,17 @@ use Rattle.program_walks.proofs.Records.{stores, loads, awaits, RecordsAt, Recor
 -- ## Kinds of steps
 
 -- a step by which a life is set failed, one by which one is made, and one that a message makes
-abbrev pub sets_failed : Call → Bool
+abbrev pub sets_failed : TableStep → Bool
 sets_failed (SetOdd i) = true
 sets_failed (StoreCode i h c) = true
 sets_failed other = false
 
-abbrev pub makes_life : Call → Bool
+abbrev pub makes_life : TableStep → Bool
 makes_life (CreateLife i k) = true
 makes_life (StoreOpen o w) = true
 makes_life other = false
 
-abbrev pub is_of_message : Call → Bool
+abbrev pub is_of_message : TableStep → Bool
 is_of_message (LookWord id) = true
 is_of_message (ClaimRequest id q) = true
 is_of_message (PutMessage q heading bytes) = true
@@ -49,12 +49,12 @@ is_of_message (EmptyHead i last) = true
 is_of_message other = false
 
 -- a step of which no property along steps asks anything
-abbrev pub is_plain : Call → Bool
+abbrev pub is_plain : TableStep → Bool
 is_plain (LoadOpen o) = false
 is_plain call = not (sets_failed call || makes_life call || is_of_message call)
 
 -- of these, one by which a reference is given back, or a slot is freed
-abbrev pub is_freeing : Call → Bool
+abbrev pub is_freeing : TableStep → Bool
 is_freeing (SubRef i) = true
 is_freeing (Recycle i from) = true
 is_freeing (LoadLink i v) = true
@@ -95,8 +95,8 @@ is_of_lock head = is_of_errors head
 -- ## What a property along steps asks
 
 -- each of these steps keeps it
-abbrev pub PassesSteps : (Call → Bool) → (Program → Type 0) → Type 0
-PassesSteps these G = (call : Call) (next : ℕ → Program) → these call ≡ true → ((found : ℕ) → G (next found)) → G (Do call next)
+abbrev pub PassesSteps : (TableStep → Bool) → (Program → Type 0) → Type 0
+PassesSteps these G = (call : TableStep) (next : ℕ → Program) → these call ≡ true → ((found : ℕ) → G (next found)) → G (Do call next)
 
 -- what is asked beside the steps on words: these steps aside keep it, and so do what is said, these loops, and the retry that is kept behind an exchange that advanced an attempt
 pub record PassesBeside (these : Step → Bool) (loops : Head → Bool) (G : Program → Type 0) : Type 0 where
@@ -234,7 +234,7 @@ module _ (G : Program → Type 0) (g : PassesWords G) where
   frees : PassesSteps is_freeing G
   frees call next is r = g.step call next (plain call is) r
     where
-      plain : (call : Call) → is_freeing call ≡ true → is_plain call ≡ true
+      plain : (call : TableStep) → is_freeing call ≡ true → is_plain call ≡ true
       plain (SubRef i) is = refl
       plain (Recycle i from) is = refl
       plain (LoadLink i v) is = refl
@@ -268,7 +268,7 @@ module _ (G : Program → Type 0) (g : PassesWords G) where
   through_drop o id next after = through_release (socket_id_slot id) _ (λ freed. g.say o (cond freed Freed Kept) next after)
 
 -- where nothing is asked of a step that no message makes
-module _ (G : Program → Type 0) (others : (call : Call) (next : ℕ → Program) → is_of_message call ≡ false → ((found : ℕ) → G (next found)) → G (Do call next)) where
+module _ (G : Program → Type 0) (others : (call : TableStep) (next : ℕ → Program) → is_of_message call ≡ false → ((found : ℕ) → G (next found)) → G (Do call next)) where
   pub others_plain : PassesSteps is_plain G
   others_plain (LookWord id) next is r = absurd (true≢false (sym is))
   others_plain (ClaimRequest id q) next is r = absurd (true≢false (sym is))
@@ -352,20 +352,20 @@ module _ {S : Type 0} (asks : Asks S) (s : S) where
   }
 
 -- what asks something of steps on words and of loops alone is kept where it asks nothing of these steps and loops
-module _ {S : Type 0} (rest : Type 0) (calls : S → Call → (ℕ → Program) → (S → ℕ → Type 0) → Type 0) (loops : (head : Head) → (Exit head → Type 0) → Type 0) (s : S) where
+module _ {S : Type 0} (rest : Type 0) (calls : S → TableStep → (ℕ → Program) → (S → ℕ → Type 0) → Type 0) (loops : (head : Head) → (Exit head → Type 0) → Type 0) (s : S) where
   abbrev asked : Asks S
   asked = asks_calls rest calls loops
 
   abbrev A : Program → Type 0
   A = AtCalls rest calls loops s
 
-  three_none : (call : Call) → is_plain call ≡ true → (stores call ≡ none) × (bears call ≡ none) × (loads call ≡ none)
+  three_none : (call : TableStep) → is_plain call ≡ true → (stores call ≡ none) × (bears call ≡ none) × (loads call ≡ none)
   three_none (CreateLife i k) is = absurd (true≢false (sym is))
   three_none (StoreOpen o w) is = absurd (true≢false (sym is))
   three_none (LoadOpen o) is = absurd (true≢false (sym is))
   three_none call is = (refl, refl, refl)
 
-  pub at_calls_passes : ((call : Call) (next : ℕ → Program) → stores call ≡ none → bears call ≡ none → loads call ≡ none → ((found : ℕ) → A (next found)) → A (Do call next))
+  pub at_calls_passes : ((call : TableStep) (next : ℕ → Program) → stores call ≡ none → bears call ≡ none → loads call ≡ none → ((found : ℕ) → A (next found)) → A (Do call next))
       → ((head : Head) → awaits head ≡ none → (next : Exit head → Program) → ((exit : Exit head) → A (next exit)) → A (Round head next)) → Passes A
   at_calls_passes plain looped = record {
     sends = at_steps_sends asked s bare sending (λ behind r. r) (λ behind r. r) (λ behind r. r) (fails 1009);
@@ -405,7 +405,7 @@ module _ {S : Type 0} (rest : Type 0) (calls : S → Call → (ℕ → Program) 
 pub records_passes : (left : ℕ → Bool) → Passes (Records left)
 records_passes left = at_calls_passes (Unit {0}) RecordsAt every_exit left (plain left) (λ head l next r. r)
   where
-    plain : (left : ℕ → Bool) (call : Call) (next : ℕ → Program) → stores call ≡ none → bears call ≡ none → loads call ≡ none → ((found : ℕ) → Records left (next found)) → Records left (Do call next)
+    plain : (left : ℕ → Bool) (call : TableStep) (next : ℕ → Program) → stores call ≡ none → bears call ≡ none → loads call ≡ none → ((found : ℕ) → Records left (next found)) → Records left (Do call next)
     plain left (CreateLife i k) next s b l r = absurd (some-ne-none i b)
     plain left (StoreOpen o w) next s b l r = absurd (some-ne-none (o, w) s)
     plain left call next s b l r = r

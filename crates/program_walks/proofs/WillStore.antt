@@ -13,7 +13,7 @@ use Rattle.seat_programs.specs.declared.task.Op.{Op}
 use Rattle.seat_programs.specs.declared.task.Op.TheVariants as ops
 use Rattle.seat_programs.specs.declared.task.Task.{Task}
 use Rattle.seat_programs.specs.declared.task.Sizes.{Sizes}
-use Rattle.seat_programs.specs.Calls.{Call, StoreOpen}
+use Rattle.seat_programs.specs.Calls.{TableStep, StoreOpen}
 use Rattle.seat_programs.specs.Programs.{Program, Do, Rest, open_from, make_socket}
 use Rattle.seat_programs.specs.Clients.{HeldLife, operation, client_from}
 use Rattle.seat_programs.specs.Cores.{Calls, Core, SeatState, found_at, hand_after, resolved, next_step, waiting_at, with_seat, stepped}
@@ -32,14 +32,14 @@ use Rattle.program_walks.proofs.Opening.{is_opening, opens_in, or_cases, second_
 use Rattle.program_walks.proofs.ReaderSeats.{stays_stored, stored_some}
 use Rattle.seat_programs.specs.Rounds.{first_step}
 
-abbrev pub WillStoreAt : ℕ → Unit {0} → Call → (ℕ → Program) → (Unit {0} → ℕ → Type 0) → Type 0
+abbrev pub WillStoreAt : ℕ → Unit {0} → TableStep → (ℕ → Program) → (Unit {0} → ℕ → Type 0) → Type 0
 WillStoreAt o s (StoreOpen n w) next behind = (n ≡ o) ⊎ ((found : ℕ) → behind tt found)
 WillStoreAt o s call next behind = (found : ℕ) → behind tt found
 
 abbrev pub WillStore : ℕ → Program → Type 0
 WillStore o program = AtCalls ⊥ (WillStoreAt o) every_exit tt program
 
-any_call : (o : ℕ) (call : Call) (next : ℕ → Program) → ((found : ℕ) → WillStore o (next found)) → WillStore o (Do call next)
+any_call : (o : ℕ) (call : TableStep) (next : ℕ → Program) → ((found : ℕ) → WillStore o (next found)) → WillStore o (Do call next)
 any_call o (StoreOpen n w) next r = inr r
 any_call o call next r = r
 
@@ -91,19 +91,19 @@ IsToStore p j o c = (get_or c.words (open_index p o) 0 ≢ 0) ⊎ ((seat : SeatS
 
 module _ (p : Plan) (j o : ℕ) (inside : o < p.operations) where
   module _ (c : Core) (vs : List View) (m : Moment) (sound : Sound p c vs) (answered : IsAnswered c m) (fitting : IsFitting p c m) where
-    on_call : (seat : SeatState) (v : View) (call : Call) (next : ℕ → Program) → get_elem? c.seats m.seat ≡ some seat → first_step seat.program ≡ Do call next → May p v call → IsToStore p j o c → IsToStore p j o (stepped p m.seat seat call next c)
+    on_call : (seat : SeatState) (v : View) (call : TableStep) (next : ℕ → Program) → get_elem? c.seats m.seat ≡ some seat → first_step seat.program ≡ Do call next → May p v call → IsToStore p j o c → IsToStore p j o (stepped p m.seat seat call next c)
     on_call seat v call next at_seat is may (inl some_) = inl (stays_stored p c v o inside sound.lawful.references.sized call may some_)
     on_call seat v call next at_seat is may (inr will) = by_call call may is
       where
-        others : (call : Call) (next : ℕ → Program) → ((found : ℕ) → j ≡ m.seat → WillStore o (next found)) → (s : SeatState) → get_elem? (stepped p m.seat seat call next c).seats j ≡ some s → WillStore o s.program
+        others : (call : TableStep) (next : ℕ → Program) → ((found : ℕ) → j ≡ m.seat → WillStore o (next found)) → (s : SeatState) → get_elem? (stepped p m.seat seat call next c).seats j ≡ some s → WillStore o s.program
         others call next goes s at = ⊎_elim
             (λ a. subst (λ (x : SeatState). WillStore o x.program) a.1 (through_next (WillStore o) (will_passes o) (will_follow o) (waiting_at c.calls.waiting m.seat) (next (found_at c.words (word_of p call))) (goes (found_at c.words (word_of p call)) a.0)))
             (λ a. will s a.1) (at_set c.seats m.seat j (record { program = next_step (resolved (waiting_at c.calls.waiting m.seat) (next (found_at c.words (word_of p call)))); hand = hand_after p call c.homes seat.hand }) s at)
 
-        mine : (call : Call) → first_step seat.program ≡ Do call next → j ≡ m.seat → WillStore o (Do call next)
+        mine : (call : TableStep) → first_step seat.program ≡ Do call next → j ≡ m.seat → WillStore o (Do call next)
         mine call is e = subst (WillStore o) is (through_first (WillStore o) (will_passes o) (will_opens o) (will_follow o) seat.program (will seat (ap (get_elem? c.seats) e ∙ at_seat)))
 
-        by_call : (call : Call) → May p v call → first_step seat.program ≡ Do call next → IsToStore p j o (stepped p m.seat seat call next c)
+        by_call : (call : TableStep) → May p v call → first_step seat.program ≡ Do call next → IsToStore p j o (stepped p m.seat seat call next c)
         by_call (StoreOpen n w) may is = by_own (eqb n o) refl
           where
             by_own : (b : Bool) → (n == o) ≡ b → IsToStore p j o (stepped p m.seat seat (StoreOpen n w) next c)

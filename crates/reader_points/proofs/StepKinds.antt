@@ -10,7 +10,7 @@ use Rattle.seat_programs.specs.Posts.{end_id, unlocked}
 use Rattle.seat_programs.specs.Programs.{Program, Round}
 use Rattle.seat_programs.specs.Programs as programs
 use Rattle.seat_states.specs.declared.point.ReleaseStep.TheVariants as releases
-use Rattle.seat_states.specs.Steps.{First, OfCall, OfAside, first_of, first_in}
+use Rattle.seat_states.specs.Steps.{First, OfTable, OfAside, first_of, first_in}
 use Rattle.reader_points.specs.declared.point.Closing.{Closing}
 use Rattle.reader_points.specs.declared.point.CloseStep.{CloseStep}
 use Rattle.reader_points.specs.declared.point.CloseStep.TheVariants as closes
@@ -77,7 +77,7 @@ answers_by a b id (answers.End o ends.Free) x e = goes_by (points.Answer b id (a
 -- ## From the first step of the program
 
 abbrev FirstFinds : First → Type 0
-FirstFinds (OfCall call) = Unit {0}
+FirstFinds (OfTable call) = Unit {0}
 FirstFinds (OfAside step) = FindsWord step
 FirstFinds other = ⊥
 
@@ -87,11 +87,11 @@ FirstFindsIn (Some first) = FirstFinds first
 
 module _ (point : ReadPoint) (asked : Asked) where
   on_word : (step : ReadStep) → FirstFinds (step_as asked step) → GoesByWord point → GoesBy point (Some step)
-  on_word (steps.Call call) h g = g
+  on_word (steps.Table call) h g = g
   on_word (steps.Aside x) h g = goes_by point asked x h g
 
   on_call_home : (step : ReadStep) (slot : ℕ) → Some (OfAside (steps_aside.TakeCall slot)) ≡ Some (step_as asked step) → TakesCall point → GoesBy point (Some step)
-  on_call_home (steps.Call call) slot e t = absurd (cc)
+  on_call_home (steps.Table call) slot e t = absurd (cc)
   on_call_home (steps.Aside x) slot e t = let same : Some (step_of asked x) ≡ Some (steps_aside.TakeCall slot) = cc in takes_call point asked x slot same t
 
   takes_bytes : (x : Aside) (link n : ℕ) → Some (step_of asked x) ≡ Some (steps_aside.TakeBytes link n) → n ≡ room_at point → TakesBytes point → GoesBy point (Some (steps.Aside x))
@@ -99,7 +99,7 @@ module _ (point : ReadPoint) (asked : Asked) where
   takes_bytes _ link n e is t = absurd (cc)
 
   on_bytes : (step : ReadStep) (link n : ℕ) → Some (OfAside (steps_aside.TakeBytes link n)) ≡ Some (step_as asked step) → n ≡ room_at point → TakesBytes point → GoesBy point (Some step)
-  on_bytes (steps.Call call) link n e is t = absurd (cc)
+  on_bytes (steps.Table call) link n e is t = absurd (cc)
   on_bytes (steps.Aside x) link n e is t = let same : Some (step_of asked x) ≡ Some (steps_aside.TakeBytes link n) = cc in takes_bytes x link n same is t
 
 closes_by : (a : Context) (c : Closing) (at : CloseStep) → FirstFindsIn (first_in (close_program a c at))

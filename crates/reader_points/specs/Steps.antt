@@ -5,13 +5,13 @@ use Rattle.seat_programs.specs.Programs.{Program, Aside, Round, Rest}
 use Rattle.seat_programs.specs.Rounds.{round}
 use Rattle.sock_message.specs.Asked.{Asked}
 use Rattle.call_points.specs.Steps as aside_steps
-use Rattle.seat_states.specs.Steps.{First, OfCall, OfAside, step_of}
+use Rattle.seat_states.specs.Steps.{First, OfTable, OfAside, step_of}
 use Rattle.reader_points.specs.declared.point.ReadStep.{ReadStep}
 use Rattle.reader_points.specs.declared.point.ReadStep.TheVariants as steps
 
 -- with this call in hand
 abbrev pub step_as : Asked → ReadStep → First
-step_as asked (steps.Call call) = OfCall (step_of call)
+step_as asked (steps.Table call) = OfTable (step_of call)
 step_as asked (steps.Aside step) = OfAside (aside_steps.step_of asked step)
 
 -- behind a take

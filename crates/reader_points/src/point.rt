@@ -3,7 +3,7 @@ ghost use Rattle.reader_points.specs.Points.{count_of, room};
 
 use call_points::{Aside, EndStep, Locker, WordStep};
 use id_points::{AttemptNumber, CallId};
-use seat_states::{Call, ReleaseStep};
+use seat_states::{TableStep, ReleaseStep};
 use sock_words::{IdWord, SocketId};
 
 /// How many bytes of a link are read at most, 2^24.
@@ -149,7 +149,7 @@ pub enum ReadPoint {
 #[derive(Clone, Copy)]
 pub enum ReadStep {
     /// One on a word.
-    Call(Call),
+    Table(TableStep),
     /// One aside of the table of the sockets.
     Aside(Aside),
 }

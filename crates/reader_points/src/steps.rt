@@ -10,7 +10,7 @@ ghost use Rattle.reader_points.specs.Steps.{step_as};
 use crate::point::{AnswerStep, Behind, ByteCount, CloseStep, Closing, ReadPoint, ReadStep};
 use call_points::Aside;
 use id_points::CallId;
-use seat_states::Call;
+use seat_states::TableStep;
 use sock_words::{EEOF, ERESPONSE};
 
 impl Closing {
@@ -24,15 +24,15 @@ impl Closing {
 
 impl CloseStep {
     /// The next step of the failing of a reader's socket.
-    fn call(self, closing: Closing) -> Call
+    fn call(self, closing: Closing) -> TableStep
         ensures { (a : Context) → first_in (close_program a closing self) ≡ Some (OfCall (step_of result)) }
     {
         let id = closing.reader.socket;
         match self {
-            CloseStep::AddRef => Call::AddRef(id),
-            CloseStep::SetOdd => Call::SetOdd(id.slot()),
-            CloseStep::StoreCode => Call::StoreCode(id.slot(), id.version(), closing.code()),
-            CloseStep::ReleaseFirst => Call::SubRef(id.slot()),
+            CloseStep::AddRef => TableStep::AddRef(id),
+            CloseStep::SetOdd => TableStep::SetOdd(id.slot()),
+            CloseStep::StoreCode => TableStep::StoreCode(id.slot(), id.version(), closing.code()),
+            CloseStep::ReleaseFirst => TableStep::SubRef(id.slot()),
             CloseStep::Release(step) => step.call(id.slot()),
         }
     }
@@ -58,11 +58,11 @@ impl ReadPoint {
     {
         match self {
             ReadPoint::Rest => None,
-            ReadPoint::Open(_, operation) => Some(ReadStep::Call(Call::LoadOpen(operation))),
+            ReadPoint::Open(_, operation) => Some(ReadStep::Table(TableStep::LoadOpen(operation))),
             ReadPoint::Take(reader) => taking(reader.link, reader.total),
             ReadPoint::Lock(_, locker, step) => Some(ReadStep::Aside(locker.step(step))),
             ReadPoint::Answer(_, id, step) => Some(ReadStep::Aside(step.aside(id))),
-            ReadPoint::Close(closing, step) => Some(ReadStep::Call(step.call(closing))),
+            ReadPoint::Close(closing, step) => Some(ReadStep::Table(step.call(closing))),
             ReadPoint::Load(_, operation) => Some(ReadStep::Aside(Aside::LoadAt(operation))),
             ReadPoint::Post(lost, step) => Some(ReadStep::Aside(lost.error().post_step(step))),
             ReadPoint::Fail(lost, step) => Some(ReadStep::Aside(lost.fail_step(step))),

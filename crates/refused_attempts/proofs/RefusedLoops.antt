@@ -7,7 +7,7 @@ use Rattle.corr_core.specs.Law.{LAST}
 use Rattle.corr_core.specs.Decisions.{ends_call}
 use Rattle.sock_message.specs.Asked.{Asked}
 use Rattle.seat_programs.specs.Asides.{UnlockId, FreeId, Taking, PutCall}
-use Rattle.seat_programs.specs.Calls.{Call}
+use Rattle.seat_programs.specs.Calls.{TableStep}
 use Rattle.seat_programs.specs.Heads.{Head, Exit, Sought, Version, Reading, Posts, Unlocks, Decides, Locks, Joins, Opens, Reads, Discards, Retry, Posting, WasGone, WasStale, WasCrowded, WasQueued, HasLocked, Unlocking, IsOpen, HasNext, Deciding, HasEnded, GoesOn, Locking, NotThere, Has, Ended}
 use Rattle.seat_programs.specs.Posts.{packed, is_first, is_sought, is_stale, is_full, judged, posted, post_with, popped, end_id, decide, decided, unlocked, locking, IsSoughtWord}
 use Rattle.seat_programs.specs.Programs.{Program, Say, Aside, Round}
@@ -34,13 +34,13 @@ module _ (requests : ℕ) (is_call : Asked → Type 0) (reads : Bool) where
   way s false x y f g = g refl
 
   -- behind a step on the sockets, and behind one aside that leaves the attempt
-  abbrev pub Steps : Call → (ℕ → Program) → ℕ → Doing → Program → Type 0
+  abbrev pub Steps : TableStep → (ℕ → Program) → ℕ → Doing → Program → Type 0
   Steps call next found s x = (u : Doing) × Moves requests is_call reads call next found s u × Goes u x
 
   abbrev pub Asides : List Deed → Doing → Program → Type 0
   Asides deeds s x = (u : Doing) × (Kept s.trial u.trial × Remembers requests is_call reads deeds s u) × Goes u x
 
-  pub step_way : (call : Call) (next : ℕ → Program) (found : ℕ) (s : Doing) (b : Bool) (x y : Program) → (b ≡ true → Steps call next found s x) → (b ≡ false → Steps call next found s y) → Steps call next found s (cond b x y)
+  pub step_way : (call : TableStep) (next : ℕ → Program) (found : ℕ) (s : Doing) (b : Bool) (x y : Program) → (b ≡ true → Steps call next found s x) → (b ≡ false → Steps call next found s y) → Steps call next found s (cond b x y)
   step_way call next found s true x y f g = f refl
   step_way call next found s false x y f g = g refl
 
@@ -49,7 +49,7 @@ module _ (requests : ℕ) (is_call : Asked → Type 0) (reads : Bool) where
   aside_way deeds s false x y f g = g refl
 
   -- the seat forgets what it did, or remembers
-  pub forgets : (call : Call) (next : ℕ → Program) (found : ℕ) (s : Doing) (x : Program) → Goes idle x → Steps call next found s x
+  pub forgets : (call : TableStep) (next : ℕ → Program) (found : ℕ) (s : Doing) (x : Program) → Goes idle x → Steps call next found s x
   forgets call next found s x g = (idle, inl (inr refl, inr (refl, refl)), g)
 
   pub let_go : (deeds : List Deed) (s : Doing) (x : Program) → Goes idle x → Asides deeds s x

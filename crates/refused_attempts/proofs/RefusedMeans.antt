@@ -18,7 +18,7 @@ use Rattle.sock_model.specs.ChainRows.{taken_right}
 use Rattle.attempted_calls.specs.Below.slot_steps.proofs.Numbers.{live_le, life_is, life-in}
 use Rattle.attempted_calls.specs.Below.sock_steps.proofs.Places.{own_count, counts}
 use Rattle.seat_programs.specs.Beside.{calls_after}
-use Rattle.seat_programs.specs.Calls.{Call, AddRef, LookWord, ClaimRequest}
+use Rattle.seat_programs.specs.Calls.{TableStep, AddRef, LookWord, ClaimRequest}
 use Rattle.seat_programs.specs.Programs.{Program, Do}
 use Rattle.seat_programs.specs.Cores.{Calls, Core, SeatState, words_after, found_at, homes_after, with_seat, stepped, link_place, first_of, others_of, lies_at}
 use Rattle.seat_programs.specs.StepTables.{word_of, word_after}
@@ -41,7 +41,7 @@ module _ (p : Plan) where
   abbrev pub IsFailed : Core → List View → ℕ → ℕ → Type 0
   IsFailed c vs j h = (j < p.slots) × (0 < count (is_failer h) (slot_facts (state c vs) j))
 
-  abbrev pub Says : Core → List View → Call → ℕ → Type 0
+  abbrev pub Says : Core → List View → TableStep → ℕ → Type 0
   Says c vs (ClaimRequest id r) found = found % 2 ≡ 1 → (r < p.requests) × (0 < slice_index c.words (request_index p r))
   Says c vs (AddRef id) found = vref_version found ≢ socket_id_version id → IsFailed c vs (socket_id_slot id) (socket_id_version id)
   Says c vs (LookWord id) found = vref_version found % 2 ≡ 1 → IsFailed c vs (socket_id_slot id) (socket_id_version id)
@@ -72,7 +72,7 @@ module _ (p : Plan) where
           let begun = o.begun in let even = sound.lawful.fits.even in
           let a = life-in p.first h (slot_facts (state c vs) j).version (omega arith) (omega arith) t₁ in omega (arith, o.failed h, a)
 
-      says_of : (call : Call) → May p v call → Says c vs call (found_at c.words (word_of p call))
+      says_of : (call : TableStep) → May p v call → Says c vs call (found_at c.words (word_of p call))
       says_of (ClaimRequest id r) may = λ odd. (may.0, omega (arith, odd))
       says_of (AddRef id) may = λ ne. (may.0.0, known_failed (socket_id_slot id) (socket_id_version id) may.0.0 may.0.1 ne)
       says_of (LookWord id) may = λ odd. (may.0, odd_failed (socket_id_slot id) (socket_id_version id) may.0 may.2 odd)
@@ -96,7 +96,7 @@ module _ (p : Plan) where
         → ((j h : ℕ) → 0 < count (is_failer h) (slot_facts (state c vs) j) → 0 < count (is_failer h) (slot_facts (state c' vs') j)) → Keeps c' vs'
     by_parts c' vs' used failed (DidStep call found) so = by call so
       where
-        by : (call : Call) → Says c vs call found → Says c' vs' call found
+        by : (call : TableStep) → Says c vs call found → Says c' vs' call found
         by (ClaimRequest id r) s = λ odd. let x = s odd in (x.0, used r x.0 x.1)
         by (AddRef id) s = λ ne. let x = s ne in (x.0, failed (socket_id_slot id) (socket_id_version id) x.1)
         by (LookWord id) s = λ odd. let x = s odd in (x.0, failed (socket_id_slot id) (socket_id_version id) x.1)
@@ -109,7 +109,7 @@ module _ (p : Plan) where
       moved program hand hs a w rights is = by_parts (with_seat m.seat program hand c.words hs (record c { calls = a })) (set vs m.seat w) (λ r low x. x)
           (λ j h x. let b = counts (state c vs) m.seat v w here c.words hs (is_failer h) j in let e : marks_of (is_failer h) j w ≡ marks_of (is_failer h) j v = ap (marks_of (is_failer h) j) is in omega (arith, b, e, x))
 
-      stepped_so : (seat : SeatState) (call : Call) (next : ℕ → Program) → May p v call → Keeps (stepped p m.seat seat call next c) (set vs m.seat (row p call (found_at c.words (word_of p call)) (hand_at p c.words c.homes call) v))
+      stepped_so : (seat : SeatState) (call : TableStep) (next : ℕ → Program) → May p v call → Keeps (stepped p m.seat seat call next c) (set vs m.seat (row p call (found_at c.words (word_of p call)) (hand_at p c.words c.homes call) v))
       stepped_so seat call next may = let found : ℕ = found_at c.words (word_of p call) in let hand = hand_at p c.words c.homes call in
           by_parts (stepped p m.seat seat call next c) (set vs m.seat (row p call (found_at c.words (word_of p call)) (hand_at p c.words c.homes call) v))
           (λ r low x. word_stays p v c.words sound.lawful.references.sized r low x call may)

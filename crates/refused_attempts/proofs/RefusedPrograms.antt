@@ -21,7 +21,7 @@ use Rattle.seat_programs.specs.declared.task.Sizes.{Sizes}
 use Rattle.seat_programs.specs.declared.task.Task.{Task}
 use Rattle.seat_programs.specs.Asides.{StoreAt}
 use Rattle.seat_programs.specs.Attempts.{claims_from, heading_for, attempt, begin_call, claim_id, call, tried_again, retry_locked, retry, expire_outcome, expire, join}
-use Rattle.seat_programs.specs.Calls.{Call, LoadOpen, SubRef, AddRef, LoadLink, TakeLink, FinishLink, PutLink, FreeSlot, LoadName, FreeRequest, ReadNext, FindLink, LookWord, ReverseNext, Connect, ClaimRequest, PutMessage, Recycle, LoadCode, DropPlace}
+use Rattle.seat_programs.specs.Calls.{TableStep, LoadOpen, SubRef, AddRef, LoadLink, TakeLink, FinishLink, PutLink, FreeSlot, LoadName, FreeRequest, ReadNext, FindLink, LookWord, ReverseNext, Connect, ClaimRequest, PutMessage, Recycle, LoadCode, DropPlace}
 use Rattle.seat_programs.specs.Clients.{HeldLife, held_under, without_name, operation, client_from, ending_of}
 use Rattle.seat_programs.specs.Heads.{First, Joins, Reads, Discards, Posting, HasLocked, Unlocking, IsOpen, HasNext, Locking, NotThere, Has, Ended}
 use Rattle.seat_programs.specs.Parts.{part}
@@ -46,7 +46,7 @@ module _ (requests : ℕ) (is_call : Asked → Type 0) (reads : Bool) where
   G s x = Goes requests is_call reads s x
 
   -- what is done next in a state that is forgotten
-  abbrev then_ : (call : Call) (next : ℕ → Program) (found : ℕ) (s : Doing) → G idle (next found) → Steps requests is_call reads call next found s (next found)
+  abbrev then_ : (call : TableStep) (next : ℕ → Program) (found : ℕ) (s : Doing) → G idle (next found) → Steps requests is_call reads call next found s (next found)
   then_ call next found s g = forgets requests is_call reads call next found s (next found) g
 
   abbrev split : (b : Bool) (x y : Program) → (b ≡ true → G idle x) → (b ≡ false → G idle y) → G idle (cond b x y)
@@ -55,7 +55,7 @@ module _ (requests : ℕ) (is_call : Asked → Type 0) (reads : Bool) where
   -- ## Parts on sockets, which are forgotten
 
   -- steps on words that put no message leave nothing
-  others_go : (call : Call) (next : ℕ → Program) → is_of_message call ≡ false → ((found : ℕ) → G idle (next found)) → G idle (Do call next)
+  others_go : (call : TableStep) (next : ℕ → Program) → is_of_message call ≡ false → ((found : ℕ) → G idle (next found)) → G idle (Do call next)
   others_go (PutMessage q heading bytes) next is r = absurd (true≢false is)
   others_go call next is r = (tt, λ found _. then_ call next found idle (r found))
 
@@ -261,7 +261,7 @@ module _ (requests : ℕ) (is_call : Asked → Type 0) (reads : Bool) where
       (λ far. let t = taken r (omega (arith, low, far)) in (t.0, t.1, inr t.2, t.3))
 
   -- the step was the last of a refused attempt, so that its error is due
-  refuses : (asked : Asked) → is_call asked → (id n code : ℕ) → n ≤ 6 → (t : Trial) (ds : List Deed) → In (DidPut asked) ds → (made : Call) (then : ℕ → Program) (found : ℕ) → IsTrying t asked.operation id n (Do made then) → Rattle.attempted_calls.specs.Below.label_runs.specs.Labels.put_behind t made ≡ t
+  refuses : (asked : Asked) → is_call asked → (id n code : ℕ) → n ≤ 6 → (t : Trial) (ds : List Deed) → In (DidPut asked) ds → (made : TableStep) (then : ℕ → Program) (found : ℕ) → IsTrying t asked.operation id n (Do made then) → Rattle.attempted_calls.specs.Below.label_runs.specs.Labels.put_behind t made ≡ t
       → (deed : Deed) → IsLast made then found asked.operation id n deed → WhyRefused requests asked n code (deed ∷ ds) → (x : Program) → G (due (IsRefused id n code) (deed ∷ ds)) x → Steps requests is_call reads made then found (bare t ds) x
   refuses asked called id n code few t ds put made then found trying same deed last why x goes = (
     due (IsRefused id n code) (deed ∷ ds),
@@ -299,11 +299,11 @@ module _ (requests : ℕ) (is_call : Asked → Type 0) (reads : Bool) where
     accepts ds q found = accept_goes mine (sending ds) socket q (found / 2) (heading_for asked id n) (frame_of asked id n) (release (socket_id_slot socket) (λ _. next)) (inr (asked, called, refl, refl, refl)) gives_back
 
     -- the last of the requests was found taken
-    fulls : (made : Call) (then : ℕ → Program) (found : ℕ) (ds : List Deed) → Rattle.attempted_calls.specs.Below.label_runs.specs.Labels.put_behind (Sends asked.operation id n) made ≡ Sends asked.operation id n → FoundTaken requests (DidStep made found ∷ ds) → In (DidPut asked) ds → Steps requests is_call reads made then found (sending ds) full
+    fulls : (made : TableStep) (then : ℕ → Program) (found : ℕ) (ds : List Deed) → Rattle.attempted_calls.specs.Below.label_runs.specs.Labels.put_behind (Sends asked.operation id n) made ≡ Sends asked.operation id n → FoundTaken requests (DidStep made found ∷ ds) → In (DidPut asked) ds → Steps requests is_call reads made then found (sending ds) full
     fulls made then found ds same taken put = refuses asked called id n 3001 few (Sends asked.operation id n) ds put made then found (inl refl) same (DidStep made found) (inl refl) (inl (refl, taken)) full
         (posts 3001 (DidStep made found ∷ ds) (release (socket_id_slot socket) (λ _. next)) gives_back)
 
-    grows : (made : Call) (then : ℕ → Program) (found : ℕ) (ds : List Deed) (x : Program) → Kept (Rattle.attempted_calls.specs.Below.label_runs.specs.Labels.put_behind (Sends asked.operation id n) made) (Sends asked.operation id n) → G (sending (DidStep made found ∷ ds)) x → Steps requests is_call reads made then found (sending ds) x
+    grows : (made : TableStep) (then : ℕ → Program) (found : ℕ) (ds : List Deed) (x : Program) → Kept (Rattle.attempted_calls.specs.Below.label_runs.specs.Labels.put_behind (Sends asked.operation id n) made) (Sends asked.operation id n) → G (sending (DidStep made found ∷ ds)) x → Steps requests is_call reads made then found (sending ds) x
     grows made then found ds x k g = (sending (DidStep made found ∷ ds), inl (k, inl (refl, refl)), g)
 
     claims_goes : (more q : ℕ) (ds : List Deed) → q + suc more ≡ requests → FoundTaken q ds → In (DidPut asked) ds → G (sending ds) (others (suc more) q)

@@ -23,7 +23,7 @@ use Rattle.seat_programs.specs.Asides.{Step, Found, PutCall, MakeId, StoreAt, Un
 use Rattle.sock_message.specs.Asked.{Asked}
 use Rattle.seat_programs.specs.Beside.{found_in, calls_after}
 use Rattle.seat_programs.specs.Attempts.{retry}
-use Rattle.seat_programs.specs.Calls.{Call, PutMessage}
+use Rattle.seat_programs.specs.Calls.{TableStep, PutMessage}
 use Rattle.seat_programs.specs.Heads.{Retry}
 use Rattle.seat_programs.specs.Programs.{Program, Do, Say, Sent, Rest, TakeMessage, TakeHome, PutHome, PutBytes, AskReady, Write, Aside, Round, Keep, Retries}
 use Rattle.seat_programs.specs.Cores.{Calls, Core, SeatState, found_at, words_after, homes_after, hand_after, resolved, still_waiting, waiting_at, next_step, with_seat, stepped}
@@ -334,7 +334,7 @@ module _ (p : Plan) (q : IdPlan) (narrow : q.slots ≤ 65536) (is_call : Asked �
 
     -- ## Steps on the sockets
 
-    behind_fits : (t : Trial) (call : Call) → TrialFits ids t → TrialFits ids (put_behind t call)
+    behind_fits : (t : Trial) (call : TableStep) → TrialFits ids t → TrialFits ids (put_behind t call)
     behind_fits t (PutMessage r heading bytes) f = tt
     behind_fits t _ f = f
 
@@ -342,7 +342,7 @@ module _ (p : Plan) (q : IdPlan) (narrow : q.slots ≤ 65536) (is_call : Asked �
     abbrev pub WouldOwnBy : Program → Type 0
     WouldOwnBy program = (o id n : ℕ) → n ≤ 6 → id_slot id < 65536 → WouldStore o id n program → ids o ≡ id
 
-    module _ (call : Call) (next : ℕ → Program) (is : first_step seat.program ≡ Do call next) (f : First (Do call next)) (would : WouldOwnBy (Do call next)) (found : ℕ) (found_is : found ≡ found_at c.words (word_of p call)) where
+    module _ (call : TableStep) (next : ℕ → Program) (is : first_step seat.program ≡ Do call next) (f : First (Do call next)) (would : WouldOwnBy (Do call next)) (found : ℕ) (found_is : found ≡ found_at c.words (word_of p call)) where
       abbrev d : Doing
       d = f.doing
 
@@ -382,7 +382,7 @@ module _ (p : Plan) (q : IdPlan) (narrow : q.slots ≤ 65536) (is_call : Asked �
 
         last_now : (o id n : ℕ) (deed : Deed) → IsLast call next found o id n deed → Then m.seat deed
         last_now o id n deed (inl e) = subst (Then m.seat) (sym e) made_now
-        last_now o id n deed (inr x) = subst (Then m.seat) (sym x.3) (inr (refl, seat, next, at_seat, is ∙ ap (λ (y : Call). Do y next) x.1, ap (λ (y : Call). found_at c.words (word_of p y)) (sym x.1) ∙ (sym found_is ∙ x.2), subst (WouldStore o id n) (sym is) x.4))
+        last_now o id n deed (inr x) = subst (Then m.seat) (sym x.3) (inr (refl, seat, next, at_seat, is ∙ ap (λ (y : TableStep). Do y next) x.1, ap (λ (y : TableStep). found_at c.words (word_of p y)) (sym x.1) ∙ (sym found_is ∙ x.2), subst (WouldStore o id n) (sym is) x.4))
 
         no_less : (id n : ℕ) (u : Doing) → u.trial ≡ Idle → of_trial id n u.trial + of_view id n w ≤ of_trial id n s.trial + of_view id n v + 0
         no_less id n u e = let z : of_trial id n u.trial ≡ 0 = ap (of_trial id n) e in let a = row_count v id n p found hand call in let b = put_count is_call v id n d.trial call f.goes.0 in let x = f.fewer id n in omega (arith, z, a, b, x)
@@ -429,10 +429,10 @@ module _ (p : Plan) (q : IdPlan) (narrow : q.slots ≤ 65536) (is_call : Asked �
           fewer = λ id n. no_less id n u x.gives_up;
           fresh = λ id n z. absurd (omega (arith, z));
           due = inl (subst (λ y. CF y u.deeds) (sym x.charge) (subst (IsDrop x.heading x.code) (sym x.deeds)
-              record { holder = x.holder; now = x.now; left = x.left; taken = x.taken; asked = x.asked; found = found; round = inr x.round; load = inr x.load; drop = inl (ap (λ (y : Call). DidStep y found) (sym x.is)) }));
+              record { holder = x.holder; now = x.now; left = x.left; taken = x.taken; asked = x.asked; found = found; round = inr x.round; load = inr x.load; drop = inl (ap (λ (y : TableStep). DidStep y found) (sym x.is)) }));
         }
 
-    pub steps : (call : Call) (next : ℕ → Program) → first_step seat.program ≡ Do call next → First (Do call next) → WouldOwnBy (Do call next) → FitsSock call (found_at c.words (word_of p call))
+    pub steps : (call : TableStep) (next : ℕ → Program) → first_step seat.program ≡ Do call next → First (Do call next) → WouldOwnBy (Do call next) → FitsSock call (found_at c.words (word_of p call))
         → After (stepped p m.seat seat call next c) (set vs m.seat (row p call (found_at c.words (word_of p call)) (hand_at p c.words c.homes call) v))
     steps call next is f would fits = let u = f.goes.1 (found_at c.words (word_of p call)) fits in
         goes_on c.calls (next (found_at c.words (word_of p call))) (hand_after p call c.homes seat.hand) (words_after c.words (word_of p call) (word_after call (found_at c.words (word_of p call)))) (homes_after p call seat.hand c.homes) u.0

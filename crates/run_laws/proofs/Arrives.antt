@@ -25,7 +25,7 @@ use Rattle.sock_model.specs.References.{slot_facts}
 use Rattle.sock_model.specs.Slots.{count}
 use Rattle.slot_steps.proofs.Numbers.{live_le}
 use Rattle.sock_steps.proofs.Places.{own_count}
-use Rattle.seat_programs.specs.Calls.{Call, SetOdd, LookWord, LoadCode}
+use Rattle.seat_programs.specs.Calls.{TableStep, SetOdd, LookWord, LoadCode}
 use Rattle.seat_programs.specs.Writings.{Puts, Waits, Empties, Walks}
 use Rattle.seat_programs.specs.Programs.{Program, Do, Rest, TakeMessage, TakeHome, PutHome, PutBytes, AskReady, Write, Aside, Round}
 use Rattle.corr_core.specs.Word.{parts, code_of}
@@ -119,7 +119,7 @@ pub unknown_live : (j : ℕ) → Unknown ≡ Live j → ⊥
 unknown_live j e = cc
 
 -- only a look that found the version even leaves a seat free to put
-live_look : (m : Mode) (call : Call) (found j : ℕ) → mode_behind m call found ≡ Live j → (id : ℕ) × (call ≡ LookWord id) × (vref_version found % 2 ≡ 0)
+live_look : (m : Mode) (call : TableStep) (found j : ℕ) → mode_behind m call found ≡ Live j → (id : ℕ) × (call ≡ LookWord id) × (vref_version found % 2 ≡ 0)
 live_look m (LookWord id) found j e = (id, refl, dite (ℕ_discrete (vref_version found % 2) 0) (λ y. y) (λ n. absurd (dead (sym (ap (λ b. cond b (Live (socket_id_slot id)) Dead) (ne_eqb (vref_version found % 2) 0 n)) ∙ e))))
   where
     dead : Dead ≡ Live j → ⊥
@@ -191,7 +191,7 @@ module _ (p : Plan) (c : Core) (views : List View) (stopped : ℕ → Bool) (m :
           may.1
 
   -- a step on a word
-  comes_step : (seat : SeatState) (v : View) (call : Call) (next : ℕ → Program) (at_seat : get_elem? c.seats m.seat ≡ some seat) (here : get_elem? views m.seat ≡ some v) (is : first_step seat.program ≡ Do call next) → May p v call
+  comes_step : (seat : SeatState) (v : View) (call : TableStep) (next : ℕ → Program) (at_seat : get_elem? c.seats m.seat ≡ some seat) (here : get_elem? views m.seat ≡ some v) (is : first_step seat.program ≡ Do call next) → May p v call
       → (sound : Sound p (stepped p m.seat seat call next c) (set views m.seat (row p call (found_at c.words (word_of p call)) (hand_at p c.words c.homes call) v)))
       → ((k : ℕ) → PutsInto k (come c.calls (next (found_at c.words (word_of p call)))) → (q : Right) × ((row p call (found_at c.words (word_of p call)) (hand_at p c.words c.homes call) v).rights ≡ q ∷ []) × (q.link ≡ k))
       → (k : ℕ) → PutsInto k (come c.calls (next (found_at c.words (word_of p call)))) → Arrived p c views stopped m k m.seat
@@ -201,10 +201,10 @@ module _ (p : Plan) (c : Core) (views : List View) (stopped : ℕ → Bool) (m :
       let x = guarded_put n k (come c.calls (next found)) (come_guarded n (waiting_at c.calls.waiting m.seat) (next found) g) puts in let y = live_look (mode p c views stopped kept m.seat seat v at_seat here) call found x.0 x.1 in
       by_look call y.0 y.1 is may sound y.2 (right k puts)
     where
-      by_look : (call : Call) (id : ℕ) → call ≡ LookWord id → (is : first_step seat.program ≡ Do call next) → May p v call
+      by_look : (call : TableStep) (id : ℕ) → call ≡ LookWord id → (is : first_step seat.program ≡ Do call next) → May p v call
           → Sound p (stepped p m.seat seat call next c) (set views m.seat (row p call (found_at c.words (word_of p call)) (hand_at p c.words c.homes call) v))
           → vref_version (found_at c.words (word_of p call)) % 2 ≡ 0 → (q : Right) × ((row p call (found_at c.words (word_of p call)) (hand_at p c.words c.homes call) v).rights ≡ q ∷ []) × (q.link ≡ k) → Arrived p c views stopped m k m.seat
-      by_look call id e = subst (λ (z : Call). (is : first_step seat.program ≡ Do z next) → May p v z → Sound p (stepped p m.seat seat z next c) (set views m.seat (row p z (found_at c.words (word_of p z)) (hand_at p c.words c.homes z) v))
+      by_look call id e = subst (λ (z : TableStep). (is : first_step seat.program ≡ Do z next) → May p v z → Sound p (stepped p m.seat seat z next c) (set views m.seat (row p z (found_at c.words (word_of p z)) (hand_at p c.words c.homes z) v))
           → vref_version (found_at c.words (word_of p z)) % 2 ≡ 0 → (q : Right) × ((row p z (found_at c.words (word_of p z)) (hand_at p c.words c.homes z) v).rights ≡ q ∷ []) × (q.link ≡ k) → Arrived p c views stopped m k m.seat) (sym e)
           (λ is may sound even mine. looks_arrived seat v at_seat here id next is may sound even k mine)
 
@@ -275,7 +275,7 @@ module _ (p : Plan) (c : Core) (views : List View) (stopped : ℕ → Bool) (m :
     still_fails (Do call next) still fails = still
     still_fails _ still fails = fails
 
-    odd_step : (seat : SeatState) (v : View) (call : Call) (next : ℕ → Program) (at_seat : get_elem? c.seats m.seat ≡ some seat) (here : get_elem? views m.seat ≡ some v) (is : first_step seat.program ≡ Do call next) → May p v call
+    odd_step : (seat : SeatState) (v : View) (call : TableStep) (next : ℕ → Program) (at_seat : get_elem? c.seats m.seat ≡ some seat) (here : get_elem? views m.seat ≡ some v) (is : first_step seat.program ≡ Do call next) → May p v call
         → Sound p (stepped p m.seat seat call next c) (set views m.seat (row p call (found_at c.words (word_of p call)) (hand_at p c.words c.homes call) v)) → FailsSocket c.words k (Do call next)
         → Failed p (state (stepped p m.seat seat call next c) (set views m.seat (row p call (found_at c.words (word_of p call)) (hand_at p c.words c.homes call) v))) k
     odd_step seat v (SetOdd j) next at_seat here is may sound fails =

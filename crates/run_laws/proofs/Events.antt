@@ -27,7 +27,7 @@ use Rattle.sock_model.specs.Slots.{count}
 use Rattle.sock_model.specs.SlotRows.{marks_of}
 use Rattle.slot_steps.proofs.Sums.{total-set}
 use Rattle.sock_steps.proofs.Places.{holder_lives, claimed_unborn, own_count}
-use Rattle.seat_programs.specs.Calls.{Call, CreateLife, ClaimSlot, AddRef, SubRef, SetOdd, Recycle, LookWord, ClaimRequest, SwapHead, StorePlace, DropPlace}
+use Rattle.seat_programs.specs.Calls.{TableStep, CreateLife, ClaimSlot, AddRef, SubRef, SetOdd, Recycle, LookWord, ClaimRequest, SwapHead, StorePlace, DropPlace}
 use Rattle.seat_programs.specs.Programs.{Program, Do, PutBytes, AskReady}
 use Rattle.seat_programs.specs.Cores.{Core, SeatState, found_at, with_seat, stepped, lies_at, first_of, others_of, link_place}
 use Rattle.seat_programs.specs.StepTables.{word_of}
@@ -91,7 +91,7 @@ rights_messages : (rs : List Right) → of_messages (stop_event rs) ≡ messages
 rights_messages [] = refl
 rights_messages (r ∷ rs) = refl
 
-step_lives : (i : ℕ) (call : Call) (found : ℕ) (v : View) → of_lives (step_event i call found v) ≡ lives_seen.event_of i call found v
+step_lives : (i : ℕ) (call : TableStep) (found : ℕ) (v : View) → of_lives (step_event i call found v) ≡ lives_seen.event_of i call found v
 step_lives i (AddRef id) found v = lives_if (eqb (vref_version found) (socket_id_version id)) (Hold (life_of id) i) Nothing
 step_lives i (SubRef j) found v = lives_if (nat_lt 0 (marks_of is_probe j v)) Nothing (Drop (life_at j (even_version found)) i)
 step_lives i (SetOdd j) found v = lives_if (eqb (vref_version found % 2) 0) (Fail (life_at j (vref_version found)) i) Nothing
@@ -105,7 +105,7 @@ claims_messages : (i found : ℕ) (cs : List Claim) → of_messages (accept_even
 claims_messages i found [] = refl
 claims_messages i found (c ∷ cs) = refl
 
-step_messages : (i : ℕ) (call : Call) (found : ℕ) (v : View) → of_messages (step_event i call found v) ≡ messages_seen.event_of call found v
+step_messages : (i : ℕ) (call : TableStep) (found : ℕ) (v : View) → of_messages (step_event i call found v) ≡ messages_seen.event_of call found v
 step_messages i (AddRef id) found v = messages_if (eqb (vref_version found) (socket_id_version id)) (Hold (life_of id) i) Nothing ∙ none_if (eqb (vref_version found) (socket_id_version id)) messages.Nothing
 step_messages i (SubRef j) found v = messages_if (nat_lt 0 (marks_of is_probe j v)) Nothing (Drop (life_at j (even_version found)) i) ∙ none_if (nat_lt 0 (marks_of is_probe j v)) messages.Nothing
 step_messages i (SetOdd j) found v = messages_if (eqb (vref_version found % 2) 0) (Fail (life_at j (vref_version found)) i) Nothing ∙ none_if (eqb (vref_version found % 2) 0) messages.Nothing
@@ -151,7 +151,7 @@ pair_swap : (h k w b i j : ℕ) → cond (eqb i j) (0 + pair h k w b) 0 ≡ cond
 unfolding pair
 pair_swap h k w b i j = grind (arith, nat_tests)
 
-step_links : (i : ℕ) (call : Call) (found : ℕ) (v : View) (links : world.Links) (l : Life) (k : ℕ) → links_after (step_event i call found v) links l k ≡ links l k + adds (is_linked l.version k) l.slot call found
+step_links : (i : ℕ) (call : TableStep) (found : ℕ) (v : View) (links : world.Links) (l : Life) (k : ℕ) → links_after (step_event i call found v) links l k ≡ links l k + adds (is_linked l.version k) l.slot call found
 step_links i (CreateLife j b) found v links l k = ap (λ n. links l k + n) (sym (pair_swap l.version k (vref_version found) b j l.slot))
 step_links i (ClaimSlot j) found v links l k = let z = ap (λ n. cond (eqb j l.slot) n 0) (zero_if (eqb found 0)) in let y = zero_if (eqb j l.slot) in omega arith
 step_links i (AddRef id) found v links l k = let e = ap (λ (x : world.Links). x l k) (links_if links (eqb (vref_version found) (socket_id_version id)) (Hold (life_of id) i) Nothing refl refl) in omega arith
@@ -203,17 +203,17 @@ module _ (p : Plan) (c : Core) (views : List View) (stopped : ℕ → Bool) (m :
     abbrev own_mode : Mode
     own_mode = mode p c views stopped kept m.seat seat v at_seat here
 
-    abbrev found : Call → ℕ
+    abbrev found : TableStep → ℕ
     found call = found_at c.words (word_of p call)
 
-    abbrev Both : Call → Type 0
+    abbrev Both : TableStep → Type 0
     Both call = NeedsBoth p (broken_at c m) (world_of p c views stopped) (step_event m.seat call (found call) v)
 
     both_if : (b : Bool) (x y : Event) → NeedsBoth p (broken_at c m) (world_of p c views stopped) x → NeedsBoth p (broken_at c m) (world_of p c views stopped) y → NeedsBoth p (broken_at c m) (world_of p c views stopped) (cond b x y)
     both_if true x y a b = a
     both_if false x y a b = b
 
-    comes : (call : Call) (next : ℕ → Program) → first_step seat.program ≡ Do call next → Comes own_mode call
+    comes : (call : TableStep) (next : ℕ → Program) → first_step seat.program ≡ Do call next → Comes own_mode call
     comes call next is = (mode_guarded p c views stopped kept m.seat seat v at_seat here (Do call next) is).0
 
     stop_both : (id : ℕ) → May p v (LookWord id) → vref_version (found (LookWord id)) % 2 ≢ 0 → NeedsBoth p (broken_at c m) (world_of p c views stopped) (stop_event v.rights)
@@ -245,7 +245,7 @@ module _ (p : Plan) (c : Core) (views : List View) (stopped : ℕ → Bool) (m :
         let x = cut_off es (λ i e at. some_bytes e (order.each i e at).0) may.1 ((standing.messages p c views).placed k) may.4 may.3 part t.of_next in
         (es, x.0, order, x.1 ∙ ap (λ z. z ++ x.0) (sym t.took_is), x.2)
 
-    step_both : (call : Call) (next : ℕ → Program) → first_step seat.program ≡ Do call next → May p v call → lives.MayCome (plain views) (lives_seen.event_of m.seat call (found call) v)
+    step_both : (call : TableStep) (next : ℕ → Program) → first_step seat.program ≡ Do call next → May p v call → lives.MayCome (plain views) (lives_seen.event_of m.seat call (found call) v)
         → messages.MayCome (standing.messages p c views) (messages_seen.event_of call (found call) v) → Both call
     step_both (CreateLife j k) next is may b q = (link_unborn j k may, given_unheld p.slots (plain views) (plain_law (λ (home : Home). home) p (state c views) kept.sound.lawful) (life_at j (vref_version (found (CreateLife j k)))) may.0 b)
     step_both (AddRef id) next is may b q = both_if (eqb (vref_version (found (AddRef id))) (socket_id_version id)) (Hold (life_of id) m.seat) Nothing tt tt
@@ -261,7 +261,7 @@ module _ (p : Plan) (c : Core) (views : List View) (stopped : ℕ → Bool) (m :
     step_both (DropPlace l k n) next is may b q = (drop_both l k n (comes (DropPlace l k n) next is) may, cut k q)
     step_both call next is may b q = tt
 
-    step_tick : (call : Call) (next : ℕ → Program) → first_step seat.program ≡ Do call next → May p v call
+    step_tick : (call : TableStep) (next : ℕ → Program) → first_step seat.program ≡ Do call next → May p v call
         → IsTick (step_event m.seat call (found call) v) (stepped p m.seat seat call next c) (set views m.seat (row p call (found call) (hand_at p c.words c.homes call) v))
     step_tick call next is may =
         let w : View = row p call (found call) (hand_at p c.words c.homes call) v in

@@ -16,7 +16,7 @@ use Rattle.sock_model.specs.declared.view.Hand.{Hand}
 use Rattle.sock_model.specs.ChainRows.{with_claim, queued, righted, taken_right}
 use Rattle.sock_model.specs.Deliveries.{whole}
 use Rattle.sock_model.specs.SlotRows.{met_link}
-use Rattle.seat_programs.specs.Calls.{Call, ClaimRequest, PutMessage, Unconnect, SwapHead}
+use Rattle.seat_programs.specs.Calls.{TableStep, ClaimRequest, PutMessage, Unconnect, SwapHead}
 use Rattle.seat_programs.specs.Cores.{Core, found_at}
 use Rattle.seat_programs.specs.StepTables.{word_of}
 use Rattle.seat_programs.specs.Ticks.{Moment, IsAnswered}
@@ -54,7 +54,7 @@ by_claim_full v f (c ∷ cs) e then_ each = each c cs e
 pub none_full : (v : View) → v.claims ≡ [] → IsFull v
 none_full v none_ c cs e = absurd (cons-ne-nil c cs (sym e ∙ none_))
 
-row_full : (p : Plan) (call : Call) (found : ℕ) (hand : Hand) (v : View) → May p v call → IsFull v → IsFull (row p call found hand v)
+row_full : (p : Plan) (call : TableStep) (found : ℕ) (hand : Hand) (v : View) → May p v call → IsFull v → IsFull (row p call found hand v)
 row_full p (ClaimRequest id q) found hand v may f = either (eqb (found % 2) 0) (with_claim (met_link (socket_id_slot id) (socket_id_version id) hand.link v) (new_claim hand.link q found)) v
     (full_with (met_link (socket_id_slot id) (socket_id_version id) hand.link v) (new_claim hand.link q found) (λ e. absurd (true≢false (sym e)))) f
 row_full p (PutMessage q heading bytes) found hand v may f = by_claim_full v f v.claims refl (λ c. with_claim v (record c { filled = true; heading = heading; bytes = bytes }))

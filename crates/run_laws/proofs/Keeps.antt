@@ -14,7 +14,7 @@ use Rattle.sock_model.specs.declared.view.View.{View}
 use Rattle.sock_model.specs.SlotRows.{marks_of}
 use Rattle.sock_model.specs.Plain.{life_at, PlainLaw, plain}
 use Rattle.sock_model.specs.Weights.{is_probe}
-use Rattle.seat_programs.specs.Calls.{Call, AddRef, SubRef, SetOdd, Recycle, LookWord, ClaimRequest, SwapHead}
+use Rattle.seat_programs.specs.Calls.{TableStep, AddRef, SubRef, SetOdd, Recycle, LookWord, ClaimRequest, SwapHead}
 use Rattle.seat_programs.specs.Cores.{Core, found_at}
 use Rattle.seat_programs.specs.StepTables.{word_of}
 use Rattle.seat_programs.specs.Ticks.{Moment, ticked, run}
@@ -56,7 +56,7 @@ some_stop : (rs : List Right) → IsSome (stop_event rs)
 some_stop [] = tt
 some_stop (r ∷ rs) = tt
 
-some_step : (p : Plan) (v : View) → ((c : Claim) (cs : List Claim) → v.claims ≡ c ∷ cs → c.filled ≡ true → c.bytes ≢ []) → (i : ℕ) (call : Call) (found : ℕ) → May p v call → IsSome (step_event i call found v)
+some_step : (p : Plan) (v : View) → ((c : Claim) (cs : List Claim) → v.claims ≡ c ∷ cs → c.filled ≡ true → c.bytes ≢ []) → (i : ℕ) (call : TableStep) (found : ℕ) → May p v call → IsSome (step_event i call found v)
 some_step p v full i (AddRef id) found may = some_if (eqb (vref_version found) (socket_id_version id)) (Hold (life_of id) i) Nothing tt tt
 some_step p v full i (SubRef j) found may = some_if (nat_lt 0 (marks_of is_probe j v)) Nothing (Drop (life_at j (even_version found)) i) tt tt
 some_step p v full i (SetOdd j) found may = some_if (eqb (vref_version found % 2) 0) (Fail (life_at j (vref_version found)) i) Nothing tt tt

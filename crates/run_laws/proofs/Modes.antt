@@ -15,7 +15,7 @@ use Rattle.seat_programs.specs.declared.task.Op.{Op}
 use Rattle.seat_programs.specs.declared.task.Op.TheVariants as ops
 use Rattle.seat_programs.specs.declared.task.Task.{Task}
 use Rattle.seat_programs.specs.declared.task.Sizes.{Sizes}
-use Rattle.seat_programs.specs.Calls.{Call, FindLink, SetOdd, StoreCode, SubRef, LookWord, LoadCode, StorePlace, DropPlace, LoadLink, TakeLink, FinishLink, PutLink, FreeSlot, FreeRequest, ReadNext, ReverseNext, Connect}
+use Rattle.seat_programs.specs.Calls.{TableStep, FindLink, SetOdd, StoreCode, SubRef, LookWord, LoadCode, StorePlace, DropPlace, LoadLink, TakeLink, FinishLink, PutLink, FreeSlot, FreeRequest, ReadNext, ReverseNext, Connect}
 use Rattle.seat_programs.specs.Writings.{Holder, Writing, Puts, Waits, Empties, Walks}
 use Rattle.seat_programs.specs.Programs.{Program, Do, Say, Sent, Rest, TakeMessage, TakeHome, PutHome, PutBytes, AskReady, Write, Aside, Round, Keep, Retries, LAST_VERSION, LAST_GENERATION, recycle, release, address, reach, set_failed, no_socket, make_socket, open_from, fail_outcome, fail}
 use Rattle.seat_programs.specs.Sends.{freed, one_more, passed_telling, tell_drop, placed, dropped, put_answered, ready_answered, block, first_put, write_link, heading_of, accept, claim_from, start}
@@ -64,7 +64,7 @@ IsOfSlot j (Broken i) = i ≡ j
 IsOfSlot j other = Unit {0}
 
 -- which step may come in a mode
-abbrev pub Comes : Mode → Call → Type 0
+abbrev pub Comes : Mode → TableStep → Type 0
 Comes m (SetOdd i) = IsOfSlot i m
 Comes m (StorePlace l k n) = m ≡ Fed
 Comes m (DropPlace l k n) = m ≡ Dead
@@ -78,7 +78,7 @@ abbrev pub code_mode : Mode → Mode
 code_mode Dead = Dead
 code_mode other = Unknown
 
-abbrev pub mode_behind : Mode → Call → ℕ → Mode
+abbrev pub mode_behind : Mode → TableStep → ℕ → Mode
 mode_behind m (LookWord id) found = looked_mode (socket_id_slot id) found
 mode_behind m (LoadCode i h) found = code_mode m
 mode_behind m other found = Unknown

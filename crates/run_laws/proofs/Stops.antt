@@ -31,7 +31,7 @@ use Rattle.sock_model.specs.SlotRows.{marks_of, looked, told_code}
 use Rattle.slot_steps.proofs.Numbers.{only-same}
 use Rattle.chain_steps.proofs.Lists.{at_length}
 use Rattle.sock_steps.proofs.Places.{own_count, holder_lives}
-use Rattle.seat_programs.specs.Calls.{Call, AddRef, SubRef, SetOdd, Recycle, LookWord, LoadCode, ClaimRequest, SwapHead, StorePlace, DropPlace}
+use Rattle.seat_programs.specs.Calls.{TableStep, AddRef, SubRef, SetOdd, Recycle, LookWord, LoadCode, ClaimRequest, SwapHead, StorePlace, DropPlace}
 use Rattle.seat_programs.specs.Programs.{Program, Do, TakeMessage, TakeHome, PutHome, PutBytes, AskReady, Aside}
 use Rattle.seat_programs.specs.Beside.{calls_after}
 use Rattle.seat_programs.specs.Cores.{Calls, Core, SeatState, words_after, homes_after, hand_after, found_at, lies_at, first_of, others_of, link_place, with_seat, stepped}
@@ -70,20 +70,20 @@ if_stops : (stopped : ℕ → Bool) (b : Bool) (x y : Event) → stopped_after x
 if_stops stopped true x y p q = p
 if_stops stopped false x y p q = q
 
-abbrev is_look : Call → Bool
+abbrev is_look : TableStep → Bool
 is_look (LookWord id) = true
 is_look other = false
 
-abbrev is_odd : Call → Bool
+abbrev is_odd : TableStep → Bool
 is_odd (SetOdd i) = true
 is_odd other = false
 
-abbrev is_code : Call → Bool
+abbrev is_code : TableStep → Bool
 is_code (LoadCode i h) = true
 is_code other = false
 
 -- only a look stops a link
-stops_none : (stopped : ℕ → Bool) (i : ℕ) (call : Call) (found : ℕ) (v : View) → is_look call ≡ false → stopped_after (step_event i call found v) stopped ≡ stopped
+stops_none : (stopped : ℕ → Bool) (i : ℕ) (call : TableStep) (found : ℕ) (v : View) → is_look call ≡ false → stopped_after (step_event i call found v) stopped ≡ stopped
 stops_none stopped i (LookWord id) found v e = absurd (true≢false e)
 stops_none stopped i (AddRef id) found v e = if_stops stopped (eqb (vref_version found) (socket_id_version id)) (Hold (life_of id) i) Nothing refl refl
 stops_none stopped i (SubRef j) found v e = if_stops stopped (nat_lt 0 (marks_of is_probe j v)) Nothing (Drop (life_at j (even_version found)) i) refl refl
@@ -97,12 +97,12 @@ stops_none stopped i (SwapHead j own) found v e = by_claims v.claims
     by_claims (c ∷ cs) = refl
 stops_none stopped i _ found v e = refl
 
-behind_unknown : (m : Mode) (call : Call) (found : ℕ) → is_look call ≡ false → is_code call ≡ false → mode_behind m call found ≡ Unknown
+behind_unknown : (m : Mode) (call : TableStep) (found : ℕ) → is_look call ≡ false → is_code call ≡ false → mode_behind m call found ≡ Unknown
 behind_unknown m (LookWord id) found e d = absurd (true≢false e)
 behind_unknown m (LoadCode i h) found e d = absurd (true≢false d)
 behind_unknown m _ found e d = refl
 
-comes_whole : (m : Mode) (call : Call) → is_odd call ≡ false → Comes m call → IsWhole m
+comes_whole : (m : Mode) (call : TableStep) → is_odd call ≡ false → Comes m call → IsWhole m
 comes_whole m (SetOdd i) e comes = absurd (true≢false e)
 comes_whole m (StorePlace l k n) e comes = subst IsWhole (sym comes) tt
 comes_whole m (DropPlace l k n) e comes = subst IsWhole (sym comes) tt
@@ -173,13 +173,13 @@ module _ (p : Plan) (c : Core) (views : List View) (stopped : ℕ → Bool) (kep
 
   -- ## Steps on words
 
-  abbrev found : Call → ℕ
+  abbrev found : TableStep → ℕ
   found call = found_at c.words (word_of p call)
 
-  abbrev row_of : Call → View
+  abbrev row_of : TableStep → View
   row_of call = row p call (found call) (hand_at p c.words c.homes call) v
 
-  module _ (call : Call) (next : ℕ → Program) (is : first_step seat.program ≡ Do call next) (may : May p v call) (sound : Sound p (stepped p i seat call next c) (set views i (row_of call))) where
+  module _ (call : TableStep) (next : ℕ → Program) (is : first_step seat.program ≡ Do call next) (may : May p v call) (sound : Sound p (stepped p i seat call next c) (set views i (row_of call))) where
     pub fails_more : (j h : ℕ) → marks_of (is_failer h) j v ≤ marks_of (is_failer h) j (row_of call)
     fails_more j h = omega (arith, row_adds (is_failer h) (failer_note h) j p call (found call) (hand_at p c.words c.homes call) v)
 
@@ -351,7 +351,7 @@ module _ (p : Plan) (c : Core) (views : List View) (stopped : ℕ → Bool) (kep
       by_mode r Dead f = f
       by_mode r _ f = tt
 
-  step_kept : (call : Call) (next : ℕ → Program) (is : first_step seat.program ≡ Do call next) (may : May p v call) (sound : Sound p (stepped p i seat call next c) (set views i (row_of call)))
+  step_kept : (call : TableStep) (next : ℕ → Program) (is : first_step seat.program ≡ Do call next) (may : May p v call) (sound : Sound p (stepped p i seat call next c) (set views i (row_of call)))
       → Kept p (stepped p i seat call next c) (set views i (row_of call)) (stopped_after (step_event i call (found call) v) stopped)
   step_kept (LookWord id) next is may sound = look_kept id next is may sound
   step_kept (SetOdd j) next is may sound = odd_kept j next is may sound

@@ -15,7 +15,7 @@ use Rattle.sock_model.specs.ChainRows.{entry_of}
 use Rattle.sock_model.specs.Plain.{life_at, plain}
 use Rattle.sock_model.specs.SlotRows.{marks_of}
 use Rattle.sock_model.specs.Weights.{is_probe, is_linked}
-use Rattle.seat_programs.specs.Calls.{Call, CreateLife, AddRef, SubRef, SetOdd, Recycle, LookWord, ClaimRequest, SwapHead, FreeRequest, StorePlace, DropPlace}
+use Rattle.seat_programs.specs.Calls.{TableStep, CreateLife, AddRef, SubRef, SetOdd, Recycle, LookWord, ClaimRequest, SwapHead, FreeRequest, StorePlace, DropPlace}
 use Rattle.seat_programs.specs.Programs.{Program, Do, PutBytes, AskReady}
 use Rattle.seat_programs.specs.Cores.{Core, found_at}
 use Rattle.seat_programs.specs.StepTables.{word_of}
@@ -42,7 +42,7 @@ stop_event [] = Nothing
 stop_event (r ∷ rs) = Stop r.link
 
 -- the event of a step of this seat that found this word
-abbrev pub step_event : ℕ → Call → ℕ → View → Event
+abbrev pub step_event : ℕ → TableStep → ℕ → View → Event
 step_event seat (CreateLife i k) found v = Birth (life_at i (vref_version found)) k
 step_event seat (AddRef id) found v = if vref_version found == socket_id_version id then Hold (life_of id) seat else Nothing
 step_event seat (SubRef i) found v = if nat_lt 0 (marks_of is_probe i v) then Nothing else Drop (life_at i (even_version found)) seat

@@ -16,7 +16,7 @@ use Rattle.sock_model.specs.Weights.{is_probe, is_hold, is_coding, is_saw}
 use Rattle.sock_model.specs.Marks.{about, at, without_at}
 use Rattle.sock_model.specs.SlotRows.{marks_of, back, looked}
 use Rattle.sock_model.specs.ChainRows.{with_right}
-use Rattle.seat_programs.specs.Calls.{Call, LookWord, LoadCode, SetOdd, SubRef, StoreCode, StorePlace, DropPlace, EmptyHead, ReadNext, ReverseNext, FreeRequest}
+use Rattle.seat_programs.specs.Calls.{TableStep, LookWord, LoadCode, SetOdd, SubRef, StoreCode, StorePlace, DropPlace, EmptyHead, ReadNext, ReverseNext, FreeRequest}
 use Rattle.seat_programs.specs.Writings.{Holder, Writing, Puts, Waits, Empties, Walks}
 use Rattle.seat_programs.specs.Programs.{Program, Do, TakeMessage, TakeHome, PutBytes, Write, LAST_GENERATION, set_failed}
 use Rattle.seat_programs.specs.Sends.{freed, one_more, passed, passed_telling, tell_drop, placed, dropped, put_answered, block, first_put}
@@ -53,7 +53,7 @@ either_lasts p a b n true k l = k
 either_lasts p a b n false k l = l
 
 -- a step, whatever it finds
-pub does : (p : Plan) (call : Call) (next : ℕ → Program) (n m : ℕ) → n + cost call ≤ m → ((found : ℕ) → Lasting p (next found) n) → Lasting p (Do call next) m
+pub does : (p : Plan) (call : TableStep) (next : ℕ → Program) (n m : ℕ) → n + cost call ≤ m → ((found : ℕ) → Lasting p (next found) n) → Lasting p (Do call next) m
 does p call next n m le l v = (n, le, λ found hand f. l found (row p call found hand v))
 
 -- a life is set failed, by whoever holds it or not

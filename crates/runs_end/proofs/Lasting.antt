@@ -33,7 +33,7 @@ use Rattle.sock_steps.proofs.Maps.{set_at}
 use Rattle.sock_steps.proofs.AcceptSteps.{link_in, idle_home}
 use Rattle.sock_steps.proofs.Walked.{walk_less, turn_less, accepted_count}
 use Rattle.seat_programs.specs.Writings.{Holder, Writing, Puts, Waits, Empties, Walks}
-use Rattle.seat_programs.specs.Calls.{Call, SwapHead, PutMessage, ReadNext, ReverseNext}
+use Rattle.seat_programs.specs.Calls.{TableStep, SwapHead, PutMessage, ReadNext, ReverseNext}
 use Rattle.seat_programs.specs.Programs.{Program, Do, Say, Sent, Rest, TakeMessage, TakeHome, PutHome, PutBytes, AskReady, Write, Aside, Round, Keep, Retries}
 use Rattle.seat_programs.specs.Heads.{Retry}
 use Rattle.seat_programs.specs.Sends.{block}
@@ -234,11 +234,11 @@ module _ (p : Plan) (c : Core) (vs : List View) (n : ℕ) (lasts : Lasts p c vs 
   seat_steps program hand ws hs w m goes l lists less = plain_moves program hand ws hs w m goes l (omega (arith, less, walks_with vs i v w at_view lists))
 
   -- what a step of the seat's law is told
-  allowed : (sound : Sound p c vs) → (call : Call) → May p v call → Finds p v call (found_at c.words (word_of p call)) (hand_at p c.words c.homes call)
+  allowed : (sound : Sound p c vs) → (call : TableStep) → May p v call → Finds p v call (found_at c.words (word_of p call)) (hand_at p c.words c.homes call)
   allowed sound call may = finds p (state c vs) sound.lawful i v at_view sound.limits.slots call may
 
   -- a step that takes some of the seat's number, or some of its walk, by what it found
-  pub found_steps : (sound : Sound p c vs) (call : Call) (next : ℕ → Program) (d m : ℕ) → is_exchange call ≡ false → May p v call → GoesOn p v (Do call next)
+  pub found_steps : (sound : Sound p c vs) (call : TableStep) (next : ℕ → Program) (d m : ℕ) → is_exchange call ≡ false → May p v call → GoesOn p v (Do call next)
       → LastsFor p (row p call (found_at c.words (word_of p call)) (hand_at p c.words c.homes call) v) (next (found_at c.words (word_of p call))) m → m + home_cost call + d ≤ k
       → total (walk_left (accepted vs)) (row p call (found_at c.words (word_of p call)) (hand_at p c.words c.homes call) v).rights < total (walk_left (accepted vs)) v.rights + d
       → Fewer p n (stepped p i seat call next c) (set vs i (row p call (found_at c.words (word_of p call)) (hand_at p c.words c.homes call) v))
@@ -247,7 +247,7 @@ module _ (p : Plan) (c : Core) (vs : List View) (n : ℕ) (lasts : Lasts p c vs 
       (goes.1 found hand (allowed sound call may)) l (lists_stay p v found hand call other)
       (omega (arith, few, less, homes_few p call seat.hand c.homes (held_light seat.hand v.rights v.hands (sound.seats i seat v at_seat at_view).hand)))
 
-  call_steps : (sound : Sound p c vs) (call : Call) (next : ℕ → Program) (d : ℕ) → is_exchange call ≡ false → May p v call → GoesOn p v (Do call next)
+  call_steps : (sound : Sound p c vs) (call : TableStep) (next : ℕ → Program) (d : ℕ) → is_exchange call ≡ false → May p v call → GoesOn p v (Do call next)
       → (l : LastsFor p v (Do call next) k) → l.0 + home_cost call + d ≤ k
       → total (walk_left (accepted vs)) (row p call (found_at c.words (word_of p call)) (hand_at p c.words c.homes call) v).rights < total (walk_left (accepted vs)) v.rights + d
       → Fewer p n (stepped p i seat call next c) (set vs i (row p call (found_at c.words (word_of p call)) (hand_at p c.words c.homes call) v))
@@ -337,7 +337,7 @@ module _ (p : Plan) (c : Core) (vs : List View) (n : ℕ) (lasts : Lasts p c vs 
   -- ## Any step
 
   module _ (go : RetriesGo p) (sound : Sound p c vs) where
-    pub call_moves : (call : Call) (next : ℕ → Program) → GoesOn p v (Do call next) → LastsFor p v (Do call next) k
+    pub call_moves : (call : TableStep) (next : ℕ → Program) → GoesOn p v (Do call next) → LastsFor p v (Do call next) k
         → Fewer p n (stepped p i seat call next c) (set vs i (row p call (found_at c.words (word_of p call)) (hand_at p c.words c.homes call) v))
     call_moves (SwapHead j own) next goes l = exchange_steps sound j own goes.0 next goes l
     call_moves (ReverseNext q value) next goes l = let may = goes.0 in let x = may.0 in let r : Right = x.mine.right in let o = sound.lawful in let few = l.1 in
@@ -346,7 +346,7 @@ module _ (p : Plan) (c : Core) (vs : List View) (n : ℕ) (lasts : Lasts p c vs 
         (omega (arith, turn_less o i x.mine.place v r at_view x.mine.has x.top x.at value x.before x.stage, accepted_count (λ (u : View). u.lists) vs o.log o.authors r.link)) in omega (arith, z))
     call_moves (PutMessage q heading bytes) next goes l = let few = l.1 in call_steps sound (PutMessage q heading bytes) next 1 refl goes.0 goes l (omega (arith, few)) (stays (PutMessage q heading bytes) goes.0 refl)
       where
-        stays : (call : Call) → May p v call → is_exchange call ≡ false
+        stays : (call : TableStep) → May p v call → is_exchange call ≡ false
             → total (walk_left (accepted vs)) (row p call (found_at c.words (word_of p call)) (hand_at p c.words c.homes call) v).rights < total (walk_left (accepted vs)) v.rights + 1
         stays call may other = let z = rights_few (accepted vs) p v (found_at c.words (word_of p call)) (hand_at p c.words c.homes call) call may other in omega (arith, z)
     call_moves call next goes l = let few = l.1 in call_steps sound call next 1 refl goes.0 goes l (omega (arith, few))
@@ -413,7 +413,7 @@ module _ (p : Plan) (c : Core) (vs : List View) (n : ℕ) (lasts : Lasts p c vs 
         where
           by_found : (b : Bool) → eqb (slice_index c.words (next_index p (ticket_request place))) UNCONNECTED ≡ b → Moves (Write (Walks h top place successor) then_)
           by_found true is = inl (inr is)
-          by_found false is = let found : ℕ = slice_index c.words (next_index p (ticket_request place)) in let r : Right = goes.0.0 in let o = sound.lawful in let call : Call = ReadNext (ticket_request place) in
+          by_found false is = let found : ℕ = slice_index c.words (next_index p (ticket_request place)) in let r : Right = goes.0.0 in let o = sound.lawful in let call : TableStep = ReadNext (ticket_request place) in
               let w : View = row p call found (hand_at p c.words c.homes call) v in
               let turns : Program = Do (ReverseNext (ticket_request place) successor) (λ _. cond (eqb found h.last) (TakeMessage (ticket_request place) (λ heading bytes. Write (Puts (record h { last = top }) place heading bytes 0 false) then_)) (Write (Walks h top found place) then_)) in
               let begins = begins_round p v (Walks h top place successor) then_ goes in

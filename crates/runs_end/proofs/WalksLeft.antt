@@ -26,7 +26,7 @@ use Rattle.sock_model.specs.Reads.{rights_on}
 use Rattle.sock_steps.specs.slot_steps.proofs.Numbers.{only-at, only-else}
 use Rattle.sock_steps.specs.chain_steps.proofs.Lists.{on_hit, on_miss}
 use Rattle.sock_steps.proofs.Quiet.{either_way}
-use Rattle.seat_programs.specs.Calls.{Call, TakeLink, PutLink, LookWord, PutMessage, SwapHead, EmptyHead, ReadNext, ReverseNext, FreeRequest, StorePlace, DropPlace}
+use Rattle.seat_programs.specs.Calls.{TableStep, TakeLink, PutLink, LookWord, PutMessage, SwapHead, EmptyHead, ReadNext, ReverseNext, FreeRequest, StorePlace, DropPlace}
 use Rattle.seat_programs.specs.Programs.{LAST_GENERATION}
 use Rattle.seat_programs.specs.Cores.{first_of, link_place, homes_after}
 use Rattle.seat_programs.specs.StepTables.{row}
@@ -128,7 +128,7 @@ module _ (counts : ℕ → ℕ) where
     abbrev Few_left : View → Type 0
     Few_left w = total left w.rights ≤ total left v.rights
 
-    stays_few : (call : Call) → moves_right call ≡ false → Few_left (row p call found hand v)
+    stays_few : (call : TableStep) → moves_right call ≡ false → Few_left (row p call found hand v)
     stays_few call other = omega (arith, ap (total left) (rights_stay p v found hand call other))
 
     looks_few : (i : ℕ) → Few_left (by_right v.rights (looked_clean i found v) (looked i found v))
@@ -137,7 +137,7 @@ module _ (counts : ℕ → ℕ) where
         (let z = with_right_few left (looked i found v) r (record r { clean = true }) others 0 is refl (omega arith) in omega (arith, z)) (omega (arith, ap (total left) is)))
 
     -- no step but the exchange leaves more of the seat's walks
-    pub rights_few : (call : Call) → May p v call → is_exchange call ≡ false → Few_left (row p call found hand v)
+    pub rights_few : (call : TableStep) → May p v call → is_exchange call ≡ false → Few_left (row p call found hand v)
     rights_few (LookWord id) may other = looks_few (socket_id_slot id)
     rights_few (SwapHead i own) may other = absurd (true≢false other)
     rights_few (EmptyHead i last) may other = let x = may.1.0 in let r : Right = x.mine.right in
@@ -260,11 +260,11 @@ held_light xs (r ∷ rs) hs are = by_home (held_light xs rs hs) r.at_home are
     by_home ih false are = ap (λ (l : List Home). home_weight (first_of l)) are.2 ∙ ap (λ (y : Home). home_weight (some y)) are.3.1
 
 -- what a step brings home
-abbrev pub home_cost : Call → ℕ
+abbrev pub home_cost : TableStep → ℕ
 home_cost (PutMessage q heading bytes) = weight (length bytes)
 home_cost other = 0
 
-pub homes_few : (p : Plan) (call : Call) (hand : List Home) (hs : List (Option Home)) → home_weight (first_of hand) ≡ 0 → total home_weight (homes_after p call hand hs) ≤ total home_weight hs + home_cost call
+pub homes_few : (p : Plan) (call : TableStep) (hand : List Home) (hs : List (Option Home)) → home_weight (first_of hand) ≡ 0 → total home_weight (homes_after p call hand hs) ≤ total home_weight hs + home_cost call
 homes_few p (TakeLink k) hand hs light = let z = set_few home_weight hs (link_place p k) none in omega (arith, z)
 homes_few p (PutLink k) hand hs light = let z = set_few home_weight hs (link_place p k) (first_of hand) in omega (arith, z, light)
 homes_few p (PutMessage q heading bytes) hand hs light = let z = set_few home_weight hs q (some (Message heading bytes)) in omega (arith, z)

@@ -6,70 +6,70 @@ use Rattle.sock_model.specs.declared.chain.Heading.{Heading}
 
 -- a step: the number of the slot, name, operation or link of which it is, and what it is to store; behind these, where the
 -- word alone doesn't tell it, the link or the life for which it is made
-pub data Call : Type 0 where
+pub data TableStep : Type 0 where
   -- swap of the slot's tag with 1
-  ClaimSlot : ℕ → Call
+  ClaimSlot : ℕ → TableStep
   -- one more reference on the slot's word, which makes the life: slot, link
-  CreateLife : ℕ → ℕ → Call
+  CreateLife : ℕ → ℕ → TableStep
   -- one more reference, for the life of this id
-  AddRef : ℕ → Call
+  AddRef : ℕ → TableStep
   -- one reference less
-  SubRef : ℕ → Call
+  SubRef : ℕ → TableStep
   -- the version is made odd
-  SetOdd : ℕ → Call
+  SetOdd : ℕ → TableStep
   -- the slot's word becomes the next version without references, where it is this word
-  Recycle : ℕ → ℕ → Call
+  Recycle : ℕ → ℕ → TableStep
   -- the slot's tag becomes 0
-  FreeSlot : ℕ → Call
+  FreeSlot : ℕ → TableStep
   -- the slot's link is stored: slot, link
-  StoreLink : ℕ → ℕ → Call
+  StoreLink : ℕ → ℕ → TableStep
   -- the link of a slot that was recycled is loaded: slot, the version to which it was recycled
-  LoadLink : ℕ → ℕ → Call
+  LoadLink : ℕ → ℕ → TableStep
   -- the slot's head becomes idle, without any ticket: slot, link
-  ResetHead : ℕ → ℕ → Call
+  ResetHead : ℕ → ℕ → TableStep
   -- the slot's error code becomes 0: slot, link
-  ClearCode : ℕ → ℕ → Call
+  ClearCode : ℕ → ℕ → TableStep
   -- the slot's error code is stored: slot, the version of the life that failed, code
-  StoreCode : ℕ → ℕ → ℕ → Call
+  StoreCode : ℕ → ℕ → ℕ → TableStep
   -- the word of a name, and of an `open`
-  StoreName : ℕ → ℕ → Call
-  LoadName : ℕ → Call
-  StoreOpen : ℕ → ℕ → Call
-  LoadOpen : ℕ → Call
+  StoreName : ℕ → ℕ → TableStep
+  LoadName : ℕ → TableStep
+  StoreOpen : ℕ → ℕ → TableStep
+  LoadOpen : ℕ → TableStep
   -- a link out of its home, its writing half ended, and into its home
-  TakeLink : ℕ → Call
-  FinishLink : ℕ → Call
-  PutLink : ℕ → Call
+  TakeLink : ℕ → TableStep
+  FinishLink : ℕ → TableStep
+  PutLink : ℕ → TableStep
   -- the slot's word is loaded, for the life of this id
-  LookWord : ℕ → Call
+  LookWord : ℕ → TableStep
   -- the link of a life that the seat holds is loaded, and the error code of one: slot, the version of the life
-  FindLink : ℕ → ℕ → Call
-  LoadCode : ℕ → ℕ → Call
+  FindLink : ℕ → ℕ → TableStep
+  LoadCode : ℕ → ℕ → TableStep
   -- bit 0 of a request's word is set: the id of the life for whose link the request is to be used, request
-  ClaimRequest : ℕ → ℕ → Call
+  ClaimRequest : ℕ → ℕ → TableStep
   -- a message into its home: request, heading, bytes
-  PutMessage : ℕ → Heading → List ℕ → Call
+  PutMessage : ℕ → Heading → List ℕ → TableStep
   -- a request's next word is marked as not connected
-  Unconnect : ℕ → Call
+  Unconnect : ℕ → TableStep
   -- the slot's head is exchanged with a ticket: slot, ticket
-  SwapHead : ℕ → ℕ → Call
+  SwapHead : ℕ → ℕ → TableStep
   -- a request's next word becomes the ticket that the exchange found: request, ticket
-  Connect : ℕ → ℕ → Call
+  Connect : ℕ → ℕ → TableStep
   -- the slot's head becomes idle behind this ticket, where it is this ticket: slot, ticket
-  EmptyHead : ℕ → ℕ → Call
+  EmptyHead : ℕ → ℕ → TableStep
   -- a request's next word is loaded
-  ReadNext : ℕ → Call
+  ReadNext : ℕ → TableStep
   -- on a walk a request's next word becomes the ticket of its successor, or 0: request, ticket
-  ReverseNext : ℕ → ℕ → Call
+  ReverseNext : ℕ → ℕ → TableStep
   -- a request's word becomes the generation after this one, not taken: request, generation
-  FreeRequest : ℕ → ℕ → Call
+  FreeRequest : ℕ → ℕ → TableStep
   -- the place word of a message that the link took whole: its number, link, position
-  StorePlace : ℕ → ℕ → ℕ → Call
+  StorePlace : ℕ → ℕ → ℕ → TableStep
   -- and of one that was dropped: its number, link, position
-  DropPlace : ℕ → ℕ → ℕ → Call
+  DropPlace : ℕ → ℕ → ℕ → TableStep
 
 -- the kind of a step, as the schedule of a script names it
-abbrev pub kind_of : Call → Kind
+abbrev pub kind_of : TableStep → Kind
 kind_of (ClaimSlot i) = A1
 kind_of (CreateLife i k) = A2
 kind_of (AddRef id) = A3
@@ -115,7 +115,7 @@ pub data Family : Type 0 where
   Links : Family
   Messages : Family
 
-abbrev pub family_of : Call → Family
+abbrev pub family_of : TableStep → Family
 family_of (StoreName n w) = Names
 family_of (LoadName n) = Names
 family_of (StoreOpen o w) = Names

@@ -7,7 +7,7 @@ use Rattle.sock_model.specs.sock_words.specs.declared.outcome.Outcome.{Outcome}
 use Rattle.sock_model.specs.sock_words.specs.declared.plain.Plan.{Plan}
 use Rattle.sock_model.specs.declared.home.Home.{Home}
 use Rattle.sock_model.specs.declared.home.Home.TheVariants.{Link, Message}
-use Rattle.seat_programs.specs.Calls.{Call, TakeLink, FinishLink, PutLink, PutMessage}
+use Rattle.seat_programs.specs.Calls.{TableStep, TakeLink, FinishLink, PutLink, PutMessage}
 use Rattle.seat_programs.specs.StepTables.{word_of, word_after}
 use Rattle.seat_programs.specs.Programs.{Program, Say, Sent, Keep, Retries}
 use Rattle.seat_programs.specs.Heads.{Retry}
@@ -75,14 +75,14 @@ module _ (p : Plan) where
   link_place k = p.requests + k
 
   -- the homes after a move
-  abbrev pub homes_after : Call → List Home → List (Option Home) → List (Option Home)
+  abbrev pub homes_after : TableStep → List Home → List (Option Home) → List (Option Home)
   homes_after (TakeLink k) hand hs = slice_set hs (link_place k) none
   homes_after (PutLink k) hand hs = slice_set hs (link_place k) (first_of hand)
   homes_after (PutMessage q heading bytes) hand hs = slice_set hs q (some (Message heading bytes))
   homes_after other hand hs = hs
 
   -- what is in hand after a move, or after the link in hand is ended
-  abbrev pub hand_after : Call → List (Option Home) → List Home → List Home
+  abbrev pub hand_after : TableStep → List (Option Home) → List Home → List Home
   hand_after (TakeLink k) hs hand = lies_at hs (link_place k) ++ hand
   hand_after (PutLink k) hs hand = others_of hand
   hand_after (FinishLink k) hs [] = []
@@ -135,7 +135,7 @@ with_seat i program hand ws hs c = record {
 }
 
 -- a step of seat i, which goes on by what it found
-abbrev pub stepped : Plan → ℕ → SeatState → Call → (ℕ → Program) → Core → Core
+abbrev pub stepped : Plan → ℕ → SeatState → TableStep → (ℕ → Program) → Core → Core
 stepped p i seat call next c =
     let found = found_at c.words (word_of p call) in
     with_seat i (next found) (hand_after p call c.homes seat.hand) (words_after c.words (word_of p call) (word_after call found)) (homes_after p call seat.hand c.homes) c

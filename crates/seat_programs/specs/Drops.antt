@@ -10,7 +10,7 @@ use Rattle.sock_message.specs.brpc_model.specs.Items.{Item}
 use Rattle.sock_message.specs.brpc_model.specs.Operations.{Turn}
 use Rattle.seat_programs.specs.declared.task.Op.TheVariants as ops
 use Rattle.seat_programs.specs.declared.task.Task.{Task}
-use Rattle.seat_programs.specs.Calls.{Call, SubRef, Recycle, LookWord, ReadNext}
+use Rattle.seat_programs.specs.Calls.{TableStep, SubRef, Recycle, LookWord, ReadNext}
 use Rattle.seat_programs.specs.Writings.{Writing, Puts, Walks}
 use Rattle.seat_programs.specs.Programs.{Program, Do, Write}
 use Rattle.seat_programs.specs.Cores.{Core, found_at}
@@ -23,19 +23,19 @@ use Rattle.seat_programs.specs.Told.{IsTask, Became}
 -- ## The steps of a run
 
 -- the step on a word from the head of a loop
-abbrev pub head_call : Writing → Option Call
+abbrev pub head_call : Writing → Option TableStep
 head_call (Puts h now heading left taken asked) = Some (LookWord h.id)
 head_call (Walks h top at after) = Some (ReadNext (ticket_request at))
 head_call other = None
 
 -- the step on a word that comes next, where one does
-abbrev pub call_in : Program → Option Call
+abbrev pub call_in : Program → Option TableStep
 call_in (Do call next) = Some call
 call_in (Write w after) = head_call w
 call_in other = None
 
-abbrev pub next_call : Core → ℕ → Option Call
-next_call c i = elim (get_elem? c.seats i) as (λ o. Option Call) [ none ↦ None | some seat ↦ call_in seat.program ]
+abbrev pub next_call : Core → ℕ → Option TableStep
+next_call c i = elim (get_elem? c.seats i) as (λ o. Option TableStep) [ none ↦ None | some seat ↦ call_in seat.program ]
 
 module _ (p : Plan) (clients : List (List Task)) where
   -- client i is at operation o: nothing is said of it yet, and each operation of the client before it has its outcome or is a `send`,
@@ -46,14 +46,14 @@ module _ (p : Plan) (clients : List (List Task)) where
         → ((outcome : Outcome) × (slice_get c.outcomes t.number ≡ Some (Some outcome))) ⊎ ((n : ℕ) × (bytes : List ℕ) × (t.op ≡ ops.Send n bytes))
 
   -- in this tick client i makes this step for operation o, and finds this word
-  pub record Makes (c : Core) (m : Moment) (i o : ℕ) (call : Call) (found : ℕ) : Type 0 where
+  pub record Makes (c : Core) (m : Moment) (i o : ℕ) (call : TableStep) (found : ℕ) : Type 0 where
     pub seat : m.seat ≡ i
     pub at : IsAt c i o
     pub next : next_call c i ≡ Some call
     pub word : found_at c.words (word_of p call) ≡ found
 
   -- in one of these ticks, of which the first is in this core
-  abbrev pub MadeIn : Core → List Moment → ℕ → ℕ → Call → ℕ → Type 0
+  abbrev pub MadeIn : Core → List Moment → ℕ → ℕ → TableStep → ℕ → Type 0
   MadeIn c [] i o call found = ⊥
   MadeIn c (m ∷ ms) i o call found = Makes c m i o call found ⊎ MadeIn (ticked p c m) ms i o call found
 

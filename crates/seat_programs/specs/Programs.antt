@@ -10,7 +10,7 @@ use Rattle.sock_model.specs.declared.chain.Heading.{Heading}
 use Rattle.seat_programs.specs.Writings.{Writing}
 use Rattle.seat_programs.specs.Asides.{Step, Found}
 use Rattle.seat_programs.specs.Heads.{Head, Exit, Retry}
-use Rattle.seat_programs.specs.Calls.{Call, ClaimSlot, CreateLife, AddRef, SubRef, SetOdd, Recycle, FreeSlot, StoreLink, LoadLink, ResetHead, ClearCode, StoreCode, StoreName, LoadName, StoreOpen, LoadOpen, TakeLink, FinishLink, PutLink}
+use Rattle.seat_programs.specs.Calls.{TableStep, ClaimSlot, CreateLife, AddRef, SubRef, SetOdd, Recycle, FreeSlot, StoreLink, LoadLink, ResetHead, ClearCode, StoreCode, StoreName, LoadName, StoreOpen, LoadOpen, TakeLink, FinishLink, PutLink}
 
 -- what a seat has still to do: a step, and what follows by the word found; an operation's outcome, which takes no step; or nothing.
 -- Whoever writes a link also makes steps that find more than a word: a message out of its home, which is that of the request; the link out
@@ -20,7 +20,7 @@ use Rattle.seat_programs.specs.Calls.{Call, ClaimSlot, CreateLife, AddRef, SubRe
 -- Steps on ids and at reading halves stand aside of the table of the sockets, as do the loops made of them. A retry is kept, which takes no
 -- step; and where the retries that the seat keeps are to be tried, over a table of so many requests, the oldest goes first.
 pub data Program : Type 0 where
-  Do : Call → (ℕ → Program) → Program
+  Do : TableStep → (ℕ → Program) → Program
   Say : ℕ → Outcome → Program → Program
   Sent : ℕ → Program → Program
   Rest : Program

@@ -19,14 +19,14 @@ use Rattle.sock_model.specs.Reads.{link_home}
 use Rattle.sock_model.specs.Conditions.{MayExchange, MayEmpty, MayTurn}
 use Rattle.seat_programs.specs.Programs.{LAST_GENERATION}
 use Rattle.seat_programs.specs.TableWords.{TableWord, HeadOf, RequestOf, NextOf}
-use Rattle.seat_programs.specs.Calls.{Call, ClaimRequest, SwapHead, Connect, EmptyHead, ReadNext, ReverseNext, Unconnect, FreeRequest}
+use Rattle.seat_programs.specs.Calls.{TableStep, ClaimRequest, SwapHead, Connect, EmptyHead, ReadNext, ReverseNext, Unconnect, FreeRequest}
 use Rattle.seat_programs.specs.StepViews.{HoldsLife, Claims, FindsLink, by_claim, by_right, settled}
 use Rattle.seat_programs.specs.StepsOfLinks.{as_hand}
 
 -- ## The word
 
 -- the word that a step reads or changes
-abbrev pub word_of_chain : Call → Option TableWord
+abbrev pub word_of_chain : TableStep → Option TableWord
 word_of_chain (ClaimRequest id q) = some (RequestOf q)
 word_of_chain (SwapHead i own) = some (HeadOf i)
 word_of_chain (Connect q before) = some (NextOf q)
@@ -38,7 +38,7 @@ word_of_chain (FreeRequest q g) = some (RequestOf q)
 word_of_chain other = none
 
 -- the word behind a step that found this one
-abbrev pub chain_after : Call → ℕ → ℕ
+abbrev pub chain_after : TableStep → ℕ → ℕ
 chain_after (ClaimRequest id q) found = if found % 2 == 0 then found + 1 else found
 chain_after (SwapHead i own) found = own
 chain_after (Connect q before) found = before
@@ -63,7 +63,7 @@ abbrev pub MayFree : View → ℕ → Type 0
 MayFree v now = (r : Right) × (v.rights ≡ r ∷ []) × (((r.stage ≡ Placed now) × (now ≡ r.last)) ⊎ ((next : ℕ) × (r.stage ≡ Passes now next)))
 
 -- what the view of the seat says before a step, so that the rule allows it
-abbrev pub ChainMay : Plan → View → Call → Type 0
+abbrev pub ChainMay : Plan → View → TableStep → Type 0
 ChainMay p v (ClaimRequest id q) = (q < p.requests) × HoldsLife p v (socket_id_slot id) (socket_id_version id) × (v.claims ≡ [])
 ChainMay p v (SwapHead i own) = (i < p.slots) × MayExchange p v i own
 ChainMay p v (Connect q before) = (q < p.requests) × IsLoose v q before
@@ -81,13 +81,13 @@ abbrev pub link_in : List ℕ → ℕ → ℕ
 link_in ws i = slice_index ws (link_index i)
 
 -- the link that is to take the message for which a request is claimed or the head is exchanged
-abbrev pub chain_hand : Plan → List ℕ → List (Option Home) → Call → Hand
+abbrev pub chain_hand : Plan → List ℕ → List (Option Home) → TableStep → Hand
 chain_hand p ws hs (ClaimRequest id q) = as_hand (link_in ws (socket_id_slot id)) none
 chain_hand p ws hs (SwapHead i own) = as_hand (link_in ws i) (link_home (λ home. home) p hs (link_in ws i))
 chain_hand p ws hs other = as_hand 0 none
 
 -- what a step may find
-abbrev pub ChainFinds : Plan → View → Call → ℕ → Hand → Type 0
+abbrev pub ChainFinds : Plan → View → TableStep → ℕ → Hand → Type 0
 ChainFinds p v (ClaimRequest id q) found hand = FindsLink p v (socket_id_slot id) (socket_id_version id) hand.link × (found < 281474976710656)
 ChainFinds p v other found hand = Unit {0}
 
@@ -129,7 +129,7 @@ abbrev pub freed_next : View → Right → View
 freed_next v r = with_right v (record r { stage = freed_stage r.stage })
 
 -- the view behind a step that found this word, and this link at home
-abbrev pub chain_row : Plan → Call → ℕ → Hand → View → View
+abbrev pub chain_row : Plan → TableStep → ℕ → Hand → View → View
 chain_row p (ClaimRequest id q) found hand v = claimed_request id q found hand.link v
 chain_row p (SwapHead i own) found hand v = by_claim v.claims (exchanged found hand v) v
 chain_row p (Connect q before) found hand v = without_loose v q

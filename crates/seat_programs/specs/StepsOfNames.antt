@@ -9,13 +9,13 @@ use Rattle.sock_model.specs.declared.view.Hand.{Hand}
 use Rattle.sock_model.specs.Layout.{name_index, open_index}
 use Rattle.sock_model.specs.SlotRows.{met, wrote}
 use Rattle.seat_programs.specs.TableWords.{TableWord, NameOf, OpenOf}
-use Rattle.seat_programs.specs.Calls.{Call, StoreName, LoadName, StoreOpen, LoadOpen}
+use Rattle.seat_programs.specs.Calls.{TableStep, StoreName, LoadName, StoreOpen, LoadOpen}
 use Rattle.seat_programs.specs.StepViews.{Knows}
 
 -- ## The word
 
 -- the word that a step reads or changes
-abbrev pub word_of_name : Call → Option TableWord
+abbrev pub word_of_name : TableStep → Option TableWord
 word_of_name (StoreName n w) = some (NameOf n)
 word_of_name (LoadName n) = some (NameOf n)
 word_of_name (StoreOpen o w) = some (OpenOf o)
@@ -23,7 +23,7 @@ word_of_name (LoadOpen o) = some (OpenOf o)
 word_of_name other = none
 
 -- the word behind a step that found this one
-abbrev pub name_after : Call → ℕ → ℕ
+abbrev pub name_after : TableStep → ℕ → ℕ
 name_after (StoreName n w) found = w
 name_after (StoreOpen o w) found = w
 name_after other found = found
@@ -31,7 +31,7 @@ name_after other found = found
 -- ## Before a step
 
 -- what the view of the seat says before a step, so that the rule allows it
-abbrev pub NameMay : Plan → View → Call → Type 0
+abbrev pub NameMay : Plan → View → TableStep → Type 0
 NameMay p v (StoreName n w) = (n < p.names) × IsTrue (nat_lt 0 w) × Knows p v (w - 1)
 NameMay p v (LoadName n) = n < p.names
 NameMay p v (StoreOpen o w) = (o < p.operations) × ((w ≡ NO_SOCKET) ⊎ (IsTrue (nat_lt 0 w) × Knows p v (w - 1)))
@@ -48,7 +48,7 @@ abbrev pub FindsId : Plan → ℕ → Type 0
 FindsId p found = IsTrue (is_id found) → socket_id_slot (found - 1) < p.slots
 
 -- what a step may find
-abbrev pub NameFinds : Plan → View → Call → ℕ → Hand → Type 0
+abbrev pub NameFinds : Plan → View → TableStep → ℕ → Hand → Type 0
 NameFinds p v (LoadName n) found hand = FindsId p found × (found ≢ NO_SOCKET)
 NameFinds p v (LoadOpen o) found hand = FindsId p found
 NameFinds p v other found hand = Unit {0}
@@ -60,7 +60,7 @@ abbrev pub found_id : ℕ → View → View
 found_id word v = if is_id word then met (socket_id_slot (word - 1)) (socket_id_version (word - 1)) v else v
 
 -- the view behind a step that found this word, and this link at home
-abbrev pub name_row : Plan → Call → ℕ → Hand → View → View
+abbrev pub name_row : Plan → TableStep → ℕ → Hand → View → View
 name_row p (StoreName n w) found hand v = wrote (name_index p n) w v
 name_row p (LoadName n) found hand v = found_id found v
 name_row p (StoreOpen o w) found hand v = wrote (open_index p o) w v

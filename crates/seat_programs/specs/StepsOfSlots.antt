@@ -13,7 +13,7 @@ use Rattle.sock_model.specs.ChainRows.{with_right}
 use Rattle.sock_model.specs.Links.{HoldsLink}
 use Rattle.seat_programs.specs.Programs.{LAST_VERSION}
 use Rattle.seat_programs.specs.TableWords.{TableWord, TagOf, RefOf, LinkOf, HeadOf, CodeOf}
-use Rattle.seat_programs.specs.Calls.{Call, ClaimSlot, CreateLife, AddRef, SubRef, SetOdd, Recycle, FreeSlot, LookWord, StoreLink, LoadLink, FindLink, ResetHead, ClearCode, StoreCode, LoadCode}
+use Rattle.seat_programs.specs.Calls.{TableStep, ClaimSlot, CreateLife, AddRef, SubRef, SetOdd, Recycle, FreeSlot, LookWord, StoreLink, LoadLink, FindLink, ResetHead, ClearCode, StoreCode, LoadCode}
 use Rattle.seat_programs.specs.StepViews.{Knows, HasRoom, HoldsLife, FindsLink, by_right}
 use Rattle.sock_model.specs.Conditions.{KeepsRights}
 use Rattle.sock_model.specs.sock_words.specs.Totals.{total}
@@ -21,7 +21,7 @@ use Rattle.sock_model.specs.sock_words.specs.Totals.{total}
 -- ## The word
 
 -- the word that a step reads or changes
-abbrev pub word_of_slot : Call → Option TableWord
+abbrev pub word_of_slot : TableStep → Option TableWord
 word_of_slot (ClaimSlot i) = some (TagOf i)
 word_of_slot (CreateLife i k) = some (RefOf i)
 word_of_slot (AddRef id) = some (RefOf (socket_id_slot id))
@@ -40,7 +40,7 @@ word_of_slot (LoadCode i h) = some (CodeOf i)
 word_of_slot other = none
 
 -- the word behind a step that found this one
-abbrev pub slot_after : Call → ℕ → ℕ
+abbrev pub slot_after : TableStep → ℕ → ℕ
 slot_after (ClaimSlot i) found = 1
 slot_after (CreateLife i k) found = found + 1
 slot_after (AddRef id) found = found + 1
@@ -61,7 +61,7 @@ abbrev pub MayLook : Plan → View → ℕ → Type 0
 MayLook p v id = (v.rights ≡ []) ⊎ ((r : Right) × (v.rights ≡ r ∷ []) × HoldsLink p v (socket_id_slot id) (socket_id_version id) r.link)
 
 -- what the view of the seat says before a step, so that the rule allows it
-abbrev pub SlotMay : Plan → View → Call → Type 0
+abbrev pub SlotMay : Plan → View → TableStep → Type 0
 SlotMay p v (ClaimSlot i) = i < p.slots
 SlotMay p v (CreateLife i k) = (i < p.slots) × (0 < marks_of (is_stage 3 k) i v)
 SlotMay p v (AddRef id) = Knows p v id × HasRoom v (socket_id_slot id)
@@ -94,7 +94,7 @@ abbrev pub FindsFailed : View → ℕ → ℕ → Type 0
 FindsFailed v i found = (h : ℕ) → 0 < marks_of (is_hold h) i v → 0 < marks_of (is_saw (h + 1)) i v → vref_version found ≡ h + 1
 
 -- what a step may find
-abbrev pub SlotFinds : Plan → View → Call → ℕ → Hand → Type 0
+abbrev pub SlotFinds : Plan → View → TableStep → ℕ → Hand → Type 0
 SlotFinds p v (CreateLife i k) found hand = (vref_nref found < 4294967295) × (vref_version found % 2 ≡ 0) × (vref_version found ≤ LAST_VERSION)
 SlotFinds p v (AddRef id) found hand = vref_nref found < 4294967295
 SlotFinds p v (SubRef i) found hand = (marks_of is_ref i v ≤ vref_nref found) × IsOfHeld v i found × (vref_version found < 4294967295)
@@ -112,7 +112,7 @@ abbrev pub looked_clean : ℕ → ℕ → View → Right → View
 looked_clean i found v r = if vref_version found % 2 == 0 then with_right (looked i found v) (record r { clean = true }) else looked i found v
 
 -- the view behind a step that found this word, and this link at home
-abbrev pub slot_row : Plan → Call → ℕ → Hand → View → View
+abbrev pub slot_row : Plan → TableStep → ℕ → Hand → View → View
 slot_row p (ClaimSlot i) found hand v = claimed i found v
 slot_row p (CreateLife i k) found hand v = gave_birth i found k v
 slot_row p (AddRef id) found hand v = added (socket_id_slot id) found (vref_version found == socket_id_version id) v

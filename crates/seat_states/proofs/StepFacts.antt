@@ -35,18 +35,18 @@ use Rattle.seat_states.specs.declared.point.JoinStep.TheVariants as joins
 use Rattle.seat_states.specs.declared.point.Point.{Point}
 use Rattle.seat_states.specs.declared.point.Point.TheVariants as points
 use Rattle.seat_states.specs.Points.{Context, point_program, look_program, after_program, link_at, link_left, MayFind, IsWithin, GoesByWord, TakesCall, TakesMessage, TakesLink, PutsHome, PutsPiece, Asks}
-use Rattle.seat_states.specs.Steps.{First, OfCall, OfAside, OfMessage, OfLink, OfHome, OfPut, OfReady, first_of, first_in}
+use Rattle.seat_states.specs.Steps.{First, OfTable, OfAside, OfMessage, OfLink, OfHome, OfPut, OfReady, first_of, first_in}
 use Rattle.sock_words.specs.Words.{id_slot}
 
 -- the link in hand without a right before and behind a step
-abbrev pub HandOver : calls.Call → Option ℕ → Option ℕ → Type 0
+abbrev pub HandOver : calls.TableStep → Option ℕ → Option ℕ → Type 0
 HandOver (calls.TakeLink k) before behind = (before ≡ None) × (behind ≡ Some k)
 HandOver (calls.FinishLink k) before behind = (before ≡ Some k) × (behind ≡ Some k)
 HandOver (calls.PutLink k) before behind = (before ≡ Some k) × (behind ≡ None)
 HandOver other before behind = (before ≡ None) × (behind ≡ None)
 
 -- a slot or request that is tried is one of the table's, and a place word has room for the place
-abbrev pub FitsSizes : Sizes → calls.Call → Type 0
+abbrev pub FitsSizes : Sizes → calls.TableStep → Type 0
 FitsSizes sizes (calls.ClaimSlot i) = i < sizes.slots
 FitsSizes sizes (calls.ClaimRequest id q) = q < sizes.requests
 FitsSizes sizes (calls.StorePlace l k n) = n < 4294967295
@@ -62,7 +62,7 @@ AsideFacts other p = GoesByWord p × HasNone p
 
 abbrev Facts : Option First → Point → Type 0
 Facts None p = Unit {0}
-Facts (Some (OfCall call)) p = GoesByWord p × HandOver call (link_at p) (link_left p) × ((found : ℕ) → AllowsWord call found → MayFind p found)
+Facts (Some (OfTable call)) p = GoesByWord p × HandOver call (link_at p) (link_left p) × ((found : ℕ) → AllowsWord call found → MayFind p found)
     × ((sizes : Sizes) → sizes.requests ≤ 4096 → FitsSizes sizes call → IsWithin sizes p)
 Facts (Some (OfAside step)) p = AsideFacts step p
 Facts (Some (OfMessage q)) p = TakesMessage p × HasNone p
@@ -130,17 +130,17 @@ module _ (a : Context) (p : Point) where
 
   -- ## Of a step on a word, or into the home of a message
 
-  pub goes_by_word : (call : calls.Call) → first_in (point_program a p) ≡ Some (OfCall call) → GoesByWord p
-  goes_by_word call e = (facts_at (OfCall call) e).0
+  pub goes_by_word : (call : calls.TableStep) → first_in (point_program a p) ≡ Some (OfTable call) → GoesByWord p
+  goes_by_word call e = (facts_at (OfTable call) e).0
 
-  pub hand_over : (call : calls.Call) → first_in (point_program a p) ≡ Some (OfCall call) → HandOver call (link_at p) (link_left p)
-  hand_over call e = (facts_at (OfCall call) e).1
+  pub hand_over : (call : calls.TableStep) → first_in (point_program a p) ≡ Some (OfTable call) → HandOver call (link_at p) (link_left p)
+  hand_over call e = (facts_at (OfTable call) e).1
 
-  pub may_find : (call : calls.Call) (found : ℕ) → first_in (point_program a p) ≡ Some (OfCall call) → AllowsWord call found → MayFind p found
-  may_find call found e h = (facts_at (OfCall call) e).2 found h
+  pub may_find : (call : calls.TableStep) (found : ℕ) → first_in (point_program a p) ≡ Some (OfTable call) → AllowsWord call found → MayFind p found
+  may_find call found e h = (facts_at (OfTable call) e).2 found h
 
-  pub is_within : (call : calls.Call) (sizes : Sizes) → first_in (point_program a p) ≡ Some (OfCall call) → sizes.requests ≤ 4096 → FitsSizes sizes call → IsWithin sizes p
-  is_within call sizes e few fits = (facts_at (OfCall call) e).3 sizes few fits
+  pub is_within : (call : calls.TableStep) (sizes : Sizes) → first_in (point_program a p) ≡ Some (OfTable call) → sizes.requests ≤ 4096 → FitsSizes sizes call → IsWithin sizes p
+  is_within call sizes e few fits = (facts_at (OfTable call) e).3 sizes few fits
 
   -- ## Of the others: which one it is, and that no link is in hand without a right
 

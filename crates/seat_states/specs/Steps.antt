@@ -10,14 +10,14 @@ use Rattle.call_points.specs.Steps as aside_steps
 use Rattle.seat_programs.specs.Calls as calls
 use Rattle.seat_programs.specs.Programs.{Program, Do, TakeMessage, TakeHome, PutHome, PutBytes, AskReady, Write, Aside, Round}
 use Rattle.seat_programs.specs.Sends.{block}
-use Rattle.seat_states.specs.declared.call.Call.{Call}
-use Rattle.seat_states.specs.declared.call.Call.TheVariants as steps
+use Rattle.seat_states.specs.declared.table_step.TableStep.{TableStep}
+use Rattle.seat_states.specs.declared.table_step.TableStep.TheVariants as steps
 use Rattle.seat_states.specs.declared.point.Step.{Step}
 use Rattle.seat_states.specs.declared.point.Step.TheVariants as firsts
 use Rattle.seat_states.specs.Points.{Context, heading_by, parts_by}
 
 -- the step that this step of the machine is, by families
-abbrev pub step_of : Call → calls.Call
+abbrev pub step_of : TableStep → calls.TableStep
 step_of (steps.ClaimSlot i) = calls.ClaimSlot i
 step_of (steps.CreateLife i k) = calls.CreateLife i k
 step_of (steps.AddRef id) = calls.AddRef id.0
@@ -53,7 +53,7 @@ step_of (steps.FinishLink k) = calls.FinishLink k
 
 -- the first step of a program: one on a word, one aside of the sockets, or one of whoever writes a link
 pub data First : Type 0 where
-  OfCall : calls.Call → First
+  OfTable : calls.TableStep → First
   OfAside : asides.Step → First
   OfMessage : ℕ → First
   OfLink : ℕ → First
@@ -62,7 +62,7 @@ pub data First : Type 0 where
   OfReady : ℕ → First
 
 abbrev pub first_of : Program → Option First
-first_of (Do call next) = Some (OfCall call)
+first_of (Do call next) = Some (OfTable call)
 first_of (Aside step next) = Some (OfAside step)
 first_of (TakeMessage q next) = Some (OfMessage q)
 first_of (TakeHome k next) = Some (OfLink k)
@@ -79,9 +79,9 @@ first_in other = first_of other
 
 -- a step of the machine as that
 abbrev pub step_as : Context → Step → First
-step_as a (firsts.Call call) = OfCall (step_of call)
+step_as a (firsts.Table call) = OfTable (step_of call)
 step_as a (firsts.Aside step) = OfAside (aside_steps.step_of a.asked step)
-step_as a (firsts.PutMessage q author) = OfCall (calls.PutMessage q (heading_by author a.parts) a.message)
+step_as a (firsts.PutMessage q author) = OfTable (calls.PutMessage q (heading_by author a.parts) a.message)
 step_as a (firsts.TakeMessage q) = OfMessage q
 step_as a (firsts.TakeHome k) = OfLink k
 step_as a (firsts.PutHome k n) = OfHome k n
@@ -90,7 +90,7 @@ step_as a (firsts.AskReady k) = OfReady k
 
 -- its kind
 abbrev pub kind_of_first : First → Kind
-kind_of_first (OfCall call) = calls.kind_of call
+kind_of_first (OfTable call) = calls.kind_of call
 kind_of_first (OfAside step) = asides.kind_aside step
 kind_of_first (OfMessage q) = M2
 kind_of_first (OfLink k) = L1

@@ -4,7 +4,7 @@ ghost use Rattle.call_points.specs.Steps.{after_word};
 ghost use Rattle.seat_states.specs.Points.{Context, client_on, call_program, attempt_program, next_program, framed, IsOneOfIds, IsCalling, HasLink, MayFindAt, link_behind};
 ghost use Rattle.seat_states.specs.Steps.{first_in, step_as};
 
-use crate::call::Call;
+use crate::table_step::TableStep;
 use crate::point::{
     Attempt, AttemptStep, Author, CallStep, Continuation, Next, Point, ReleaseStep, SendStep,
     Sending, Step,
@@ -41,7 +41,7 @@ impl CallStep {
         ensures { (a : Context) → IsCalling a calling → first_in (call_program a self) ≡ Some (step_as a result) }
     {
         match self {
-            CallStep::LoadName => Step::Call(Call::LoadName(calling.name)),
+            CallStep::LoadName => Step::Table(TableStep::LoadName(calling.name)),
             CallStep::ClaimId(slot, _) => Step::Aside(Aside::ClaimId(slot)),
             CallStep::PutCall(slot, _) => Step::Aside(Aside::PutCall(slot)),
             CallStep::MakeId(slot, _) => Step::Aside(Aside::MakeId(slot, calling.range)),
@@ -117,8 +117,8 @@ impl AttemptStep {
         ensures { (a : Context) → first_in (attempt_program a attempt socket self) ≡ Some (step_as a result) }
     {
         match self {
-            AttemptStep::AddRef => Step::Call(Call::AddRef(socket)),
-            AttemptStep::FindLink => Step::Call(Call::FindLink(socket)),
+            AttemptStep::AddRef => Step::Table(TableStep::AddRef(socket)),
+            AttemptStep::FindLink => Step::Table(TableStep::FindLink(socket)),
             AttemptStep::StoreAt(link) => {
                 let id = attempt.id;
                 let word = AtWord::pack(id.first(), id.slot(), link, attempt.number.get());

@@ -2,7 +2,7 @@
 #![tactic(auto)]
 
 pub mod asking;
-pub mod call;
+pub mod table_step;
 pub mod calling;
 pub mod follows;
 pub mod opening;
@@ -14,7 +14,7 @@ pub mod sending;
 pub mod steps;
 pub mod writing;
 
-pub use call::Call;
+pub use table_step::TableStep;
 pub use calling::Calling;
 pub use point::{
     AfterStep, Aim, Attempt, AttemptStep, Author, CallStep, Continuation, Current, FailStep,

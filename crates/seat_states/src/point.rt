@@ -1,4 +1,4 @@
-use crate::call::Call;
+use crate::table_step::TableStep;
 use call_points::{Aside, DecideStep, OnCall, WordStep};
 use id_points::{AttemptNumber, CallId};
 use sock_words::{IdWord, Outcome, SocketId, Ticket, Vref};
@@ -344,7 +344,7 @@ pub enum Point {
 #[derive(Clone, Copy)]
 pub enum Step {
     /// One on a word, or a move that tells nothing.
-    Call(Call),
+    Table(TableStep),
     /// One aside of the table of the sockets.
     Aside(Aside),
     /// The message of the seat into the home of this request, for its author.

@@ -9,7 +9,7 @@ ghost use Rattle.seat_states.specs.Steps.{first_in, step_as};
 ghost use Rattle.sock_words.specs.Words.{id_slot};
 
 use crate::asking::posting;
-use crate::call::Call;
+use crate::table_step::TableStep;
 use crate::point::{
     AfterStep, Attempt, AttemptStep, JoinStep, Next, Point, RetryStep, Retrying, Step,
 };
@@ -48,7 +48,7 @@ impl Retrying {
             RetryStep::Unlock(from, advance) => {
                 Step::Aside(Aside::UnlockId(slot, from, advance))
             }
-            RetryStep::LoadName => Step::Call(Call::LoadName(self.name)),
+            RetryStep::LoadName => Step::Table(TableStep::LoadName(self.name)),
         }
     }
 

@@ -5,7 +5,7 @@ ghost use Rattle.seat_states.specs.Points.{Context, client_on, place_by, claims_
 ghost use Rattle.seat_states.specs.Steps.{first_in, step_as};
 
 use crate::asking::posting;
-use crate::call::Call;
+use crate::table_step::TableStep;
 use crate::point::{
     AfterStep, Author, Continuation, Current, Holder, Next, Point, ReleaseStep, SendStep, Sending,
     Step, WriteStep, Writer,
@@ -51,13 +51,13 @@ impl Sending {
     {
         let slot = self.id.slot();
         match step {
-            SendStep::Look => Step::Call(Call::LookWord(self.id)),
-            SendStep::Claim(request) => Step::Call(Call::ClaimRequest(self.id, request)),
+            SendStep::Look => Step::Table(TableStep::LookWord(self.id)),
+            SendStep::Claim(request) => Step::Table(TableStep::ClaimRequest(self.id, request)),
             SendStep::PutMessage(request, _) => Step::PutMessage(request, self.author),
-            SendStep::Unconnect(request, _) => Step::Call(Call::Unconnect(request)),
-            SendStep::SwapHead(_, own) => Step::Call(Call::SwapHead(slot, own)),
-            SendStep::Connect(request, before) => Step::Call(Call::Connect(request, before)),
-            SendStep::FindLink(_, _) => Step::Call(Call::FindLink(self.id)),
+            SendStep::Unconnect(request, _) => Step::Table(TableStep::Unconnect(request)),
+            SendStep::SwapHead(_, own) => Step::Table(TableStep::SwapHead(slot, own)),
+            SendStep::Connect(request, before) => Step::Table(TableStep::Connect(request, before)),
+            SendStep::FindLink(_, _) => Step::Table(TableStep::FindLink(self.id)),
             SendStep::TakeHome(_, _, link) => Step::TakeHome(link),
             SendStep::TakeMessage(request, _, _, _) => Step::TakeMessage(request),
         }

@@ -4,7 +4,7 @@ ghost use Rattle.seat_programs.specs.Programs.{Program};
 ghost use Rattle.seat_states.specs.Points.{Context, open_program, seek_program, fail_program, release_on, point_program, IsCalling, HasInHand, HasLinkAt};
 ghost use Rattle.seat_states.specs.Steps.{OfCall, step_of, first_in, step_as, kind_of_first};
 
-use crate::call::Call;
+use crate::table_step::TableStep;
 use crate::calling::Calling;
 use crate::point::{Aim, FailStep, Failing, OpenStep, Opening, Point, ReleaseStep, SeekStep, Step};
 use call_points::Aside;
@@ -19,41 +19,41 @@ fn socket_word(version: u32, slot: u16) -> u64
 
 impl Opening {
     /// The next step of an `open`.
-    fn call(self, step: OpenStep) -> Call
+    fn call(self, step: OpenStep) -> TableStep
         ensures { (a : Context) → first_in (open_program a self step) ≡ Some (OfCall (step_of result)) }
     {
         match step {
-            OpenStep::Claim(slot) => Call::ClaimSlot(u32::from(slot)),
-            OpenStep::StoreLink(slot) => Call::StoreLink(u32::from(slot), self.link),
-            OpenStep::ResetHead(slot) => Call::ResetHead(u32::from(slot), self.link),
-            OpenStep::ClearCode(slot) => Call::ClearCode(u32::from(slot), self.link),
-            OpenStep::CreateLife(slot) => Call::CreateLife(u32::from(slot), self.link),
+            OpenStep::Claim(slot) => TableStep::ClaimSlot(u32::from(slot)),
+            OpenStep::StoreLink(slot) => TableStep::StoreLink(u32::from(slot), self.link),
+            OpenStep::ResetHead(slot) => TableStep::ResetHead(u32::from(slot), self.link),
+            OpenStep::ClearCode(slot) => TableStep::ClearCode(u32::from(slot), self.link),
+            OpenStep::CreateLife(slot) => TableStep::CreateLife(u32::from(slot), self.link),
             OpenStep::StoreOpen(slot, version) => {
-                Call::StoreOpen(self.operation, socket_word(version, slot))
+                TableStep::StoreOpen(self.operation, socket_word(version, slot))
             }
             OpenStep::StoreName(slot, version) => {
-                Call::StoreName(self.name, socket_word(version, slot))
+                TableStep::StoreName(self.name, socket_word(version, slot))
             }
-            OpenStep::TakeLink => Call::TakeLink(self.link),
-            OpenStep::FinishLink => Call::FinishLink(self.link),
-            OpenStep::PutLink => Call::PutLink(self.link),
-            OpenStep::StoreNone => Call::StoreOpen(self.operation, NO_SOCKET),
+            OpenStep::TakeLink => TableStep::TakeLink(self.link),
+            OpenStep::FinishLink => TableStep::FinishLink(self.link),
+            OpenStep::PutLink => TableStep::PutLink(self.link),
+            OpenStep::StoreNone => TableStep::StoreOpen(self.operation, NO_SOCKET),
         }
     }
 }
 
 impl Aim {
     /// The next step of the way to a life.
-    fn call(self, step: SeekStep) -> Call
+    fn call(self, step: SeekStep) -> TableStep
         ensures { (a : Context) → first_in (seek_program a self step) ≡ Some (OfCall (step_of result)) }
     {
         match step {
-            SeekStep::AddRef(id) => Call::AddRef(id),
+            SeekStep::AddRef(id) => TableStep::AddRef(id),
             SeekStep::Load => match self {
                 Aim::Hold { name, .. } | Aim::Send { name, .. } | Aim::Fail { name, .. } => {
-                    Call::LoadName(name)
+                    TableStep::LoadName(name)
                 }
-                Aim::End { operation } => Call::LoadOpen(operation),
+                Aim::End { operation } => TableStep::LoadOpen(operation),
             },
         }
     }
@@ -61,32 +61,32 @@ impl Aim {
 
 impl Failing {
     /// The next step of a failing.
-    fn call(self, step: FailStep) -> Call
+    fn call(self, step: FailStep) -> TableStep
         ensures { (a : Context) → first_in (fail_program a self step) ≡ Some (OfCall (step_of result)) }
     {
         match step {
-            FailStep::SetOdd => Call::SetOdd(self.id.slot()),
+            FailStep::SetOdd => TableStep::SetOdd(self.id.slot()),
             FailStep::StoreCode(_) => {
-                Call::StoreCode(self.id.slot(), self.id.version(), self.code)
+                TableStep::StoreCode(self.id.slot(), self.id.version(), self.code)
             }
-            FailStep::ReleaseFirst(_) => Call::SubRef(self.id.slot()),
+            FailStep::ReleaseFirst(_) => TableStep::SubRef(self.id.slot()),
         }
     }
 }
 
 impl ReleaseStep {
     /// The next step of a release.
-    pub fn call(self, slot: u32) -> Call
+    pub fn call(self, slot: u32) -> TableStep
         ensures { (k : Bool → Program) → first_in (release_on slot k self) ≡ Some (OfCall (step_of result)) }
     {
         match self {
-            ReleaseStep::SubRef => Call::SubRef(slot),
-            ReleaseStep::Recycle(from) => Call::Recycle(slot, from),
-            ReleaseStep::LoadLink(version) => Call::LoadLink(slot, version),
-            ReleaseStep::TakeLink(_, link) => Call::TakeLink(link),
-            ReleaseStep::FinishLink(_, link) => Call::FinishLink(link),
-            ReleaseStep::PutLink(_, link) => Call::PutLink(link),
-            ReleaseStep::FreeSlot => Call::FreeSlot(slot),
+            ReleaseStep::SubRef => TableStep::SubRef(slot),
+            ReleaseStep::Recycle(from) => TableStep::Recycle(slot, from),
+            ReleaseStep::LoadLink(version) => TableStep::LoadLink(slot, version),
+            ReleaseStep::TakeLink(_, link) => TableStep::TakeLink(link),
+            ReleaseStep::FinishLink(_, link) => TableStep::FinishLink(link),
+            ReleaseStep::PutLink(_, link) => TableStep::PutLink(link),
+            ReleaseStep::FreeSlot => TableStep::FreeSlot(slot),
         }
     }
 }
@@ -99,10 +99,10 @@ impl Point {
     {
         match *self {
             Point::Rest => None,
-            Point::Open(opening, step) => Some(Step::Call(opening.call(step))),
-            Point::Seek(aim, step) => Some(Step::Call(aim.call(step))),
-            Point::Fail(failing, step) => Some(Step::Call(failing.call(step))),
-            Point::Release(slot, _, step) => Some(Step::Call(step.call(slot))),
+            Point::Open(opening, step) => Some(Step::Table(opening.call(step))),
+            Point::Seek(aim, step) => Some(Step::Table(aim.call(step))),
+            Point::Fail(failing, step) => Some(Step::Table(failing.call(step))),
+            Point::Release(slot, _, step) => Some(Step::Table(step.call(slot))),
             Point::Send(sending, step) => Some(sending.step(step)),
             Point::Write(writer, step) => Some(writer.step(step)),
             Point::Call(step) => Some(step.step(calling)),
@@ -122,7 +122,7 @@ impl Step {
         ensures { (a : Context) → result ≡ kind_of_first (step_as a self.now) }
     {
         match *self {
-            Step::Call(call) => call.kind(),
+            Step::Table(call) => call.kind(),
             Step::Aside(aside) => aside.kind(),
             Step::PutMessage(_, _) => Kind::M1,
             Step::TakeMessage(_) => Kind::M2,

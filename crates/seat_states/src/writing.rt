@@ -7,7 +7,7 @@ ghost use Rattle.seat_states.specs.Points.{Context, point_program, write_program
 ghost use Rattle.seat_states.specs.Steps.{first_in, step_as};
 
 use crate::asking::posting;
-use crate::call::Call;
+use crate::table_step::TableStep;
 use crate::point::{
     AfterStep, Author, Current, Holder, Next, Point, ReleaseStep, Step, WriteStep, Writer,
 };
@@ -120,31 +120,31 @@ impl Writer {
             places,
         } = self.holder;
         match step {
-            WriteStep::FirstLook(_) | WriteStep::Look(_, _) => Step::Call(Call::LookWord(id)),
+            WriteStep::FirstLook(_) | WriteStep::Look(_, _) => Step::Table(TableStep::LookWord(id)),
             WriteStep::Put(current, asked) => Step::PutBytes(link, asked, current.author),
             WriteStep::Ask(_) => Step::AskReady(link),
-            WriteStep::SetOdd(_) => Step::Call(Call::SetOdd(id.slot())),
+            WriteStep::SetOdd(_) => Step::Table(TableStep::SetOdd(id.slot())),
             WriteStep::StoreCode(_) => {
-                Step::Call(Call::StoreCode(id.slot(), id.version(), EFAILEDSOCKET))
+                Step::Table(TableStep::StoreCode(id.slot(), id.version(), EFAILEDSOCKET))
             }
-            WriteStep::ReleaseFirst(_) => Step::Call(Call::SubRef(id.slot())),
+            WriteStep::ReleaseFirst(_) => Step::Table(TableStep::SubRef(id.slot())),
             WriteStep::StorePlace(current) => {
-                Step::Call(Call::StorePlace(current.author.place(), link, places))
+                Step::Table(TableStep::StorePlace(current.author.place(), link, places))
             }
-            WriteStep::LoadCode(_) => Step::Call(Call::LoadCode(id)),
+            WriteStep::LoadCode(_) => Step::Table(TableStep::LoadCode(id)),
             WriteStep::DropPlace(current, _) => {
-                Step::Call(Call::DropPlace(current.author.place(), link, places))
+                Step::Table(TableStep::DropPlace(current.author.place(), link, places))
             }
-            WriteStep::ReadNext(now, _) => Step::Call(Call::ReadNext(now.request())),
+            WriteStep::ReadNext(now, _) => Step::Table(TableStep::ReadNext(now.request())),
             WriteStep::Free(now, _, _) => {
-                Step::Call(Call::FreeRequest(now.request(), now.generation()))
+                Step::Table(TableStep::FreeRequest(now.request(), now.generation()))
             }
             WriteStep::TakeMessage(next) => Step::TakeMessage(next.request()),
             WriteStep::PutHome => Step::PutHome(link, places),
-            WriteStep::EmptyHead => Step::Call(Call::EmptyHead(id.slot(), last)),
+            WriteStep::EmptyHead => Step::Table(TableStep::EmptyHead(id.slot(), last)),
             WriteStep::TakeHome(_) => Step::TakeHome(link),
-            WriteStep::Walk(_, at, _) => Step::Call(Call::ReadNext(at.request())),
-            WriteStep::Turn(_, at, after, _) => Step::Call(Call::ReverseNext(at.request(), after)),
+            WriteStep::Walk(_, at, _) => Step::Table(TableStep::ReadNext(at.request())),
+            WriteStep::Turn(_, at, after, _) => Step::Table(TableStep::ReverseNext(at.request(), after)),
             WriteStep::TakeFirst(_, at) => Step::TakeMessage(at.request()),
         }
     }

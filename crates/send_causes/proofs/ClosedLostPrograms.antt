@@ -13,7 +13,7 @@ use Rattle.sock_message.specs.Asked.{Asked, frame_of}
 use Rattle.seat_programs.specs.declared.task.Op.{Op}
 use Rattle.seat_programs.specs.declared.task.Task.{Task}
 use Rattle.seat_programs.specs.declared.task.Sizes.{Sizes}
-use Rattle.seat_programs.specs.Calls.{Call, AddRef, LookWord, FindLink, ClaimRequest, PutMessage, Unconnect, SwapHead}
+use Rattle.seat_programs.specs.Calls.{TableStep, AddRef, LookWord, FindLink, ClaimRequest, PutMessage, Unconnect, SwapHead}
 use Rattle.seat_programs.specs.Clients.{HeldLife, operation, client_from}
 use Rattle.seat_programs.specs.Asides.{Step, Found, StoreAt}
 use Rattle.seat_programs.specs.Heads.{Head, Exit, Retry, Unlocks, Opens, Unlocking}
@@ -60,7 +60,7 @@ module _ (requests : ℕ) where
   AtFree Free X = X
   AtFree other X = ⊥
 
-  abbrev GoesAt : Mode → Call → (ℕ → Program) → (Mode → ℕ → Type 0) → Type 0
+  abbrev GoesAt : Mode → TableStep → (ℕ → Program) → (Mode → ℕ → Type 0) → Type 0
   GoesAt Free (AddRef id) next behind = (found : ℕ) → behind Free found ⊎ ((t : Try) × (t.socket ≡ id) × (vref_version found ≡ socket_id_version id) × (t.heading.attempt ≤ 6) × behind (Held t) found)
   GoesAt Free call next behind = (found : ℕ) → behind Free found
   GoesAt (Held t) (FindLink i h) next behind = (i ≡ socket_id_slot t.socket) × (h ≡ socket_id_version t.socket) × ((k : ℕ) → behind (Linked t k) k)
@@ -108,7 +108,7 @@ module _ (requests : ℕ) where
 
   -- ## Parts that are no attempt
 
-  goes_call : (call : Call) (next : ℕ → Program) → ((found : ℕ) → G (next found)) → G (Do call next)
+  goes_call : (call : TableStep) (next : ℕ → Program) → ((found : ℕ) → G (next found)) → G (Do call next)
   goes_call (AddRef id) next r = λ found. inl (r found)
   goes_call call next r = r
 

@@ -21,7 +21,7 @@ use Rattle.dropped_calls.specs.Below.sock_steps.proofs.Quiet.{either_way}
 use Rattle.seat_programs.specs.id_rule.specs.Lawful as ids
 use Rattle.seat_programs.specs.Asides.{Step, Found, StoreAt}
 use Rattle.seat_programs.specs.Beside.{calls_after}
-use Rattle.seat_programs.specs.Calls.{Call, AddRef, LookWord, FindLink, ClaimRequest, PutMessage, Unconnect, SwapHead}
+use Rattle.seat_programs.specs.Calls.{TableStep, AddRef, LookWord, FindLink, ClaimRequest, PutMessage, Unconnect, SwapHead}
 use Rattle.seat_programs.specs.Heads.{Retry}
 use Rattle.seat_programs.specs.Programs.{Program, Do, TakeMessage, TakeHome, PutHome, PutBytes, AskReady, Aside}
 use Rattle.seat_programs.specs.Cores.{Core, SeatState, found_at, resolved, next_step, waiting_at, hand_after, link_place, lies_at, others_of}
@@ -71,7 +71,7 @@ module _ (o n : ℕ) where
   new_there y ls x own is = (y ++ x ∷ [], x, inl refl, in_right y (x ∷ []) x (inl refl), own, is)
 
   -- a step keeps it
-  row_entry : (p : Plan) (v : View) (found : ℕ) (hand : Hand) (call : Call) → HasEntry o n v → HasEntry o n (row p call found hand v)
+  row_entry : (p : Plan) (v : View) (found : ℕ) (hand : Hand) (call : TableStep) → HasEntry o n v → HasEntry o n (row p call found hand v)
   row_entry p v found hand (ClaimRequest id q) h = either_way (found % 2 == 0) _ v (HasEntry o n) h h
   row_entry p v found hand (PutMessage q heading bytes) h = claim_way (HasEntry o n) v.claims (λ c. with_claim v (filled_claim c heading bytes)) v h (λ c. h)
   row_entry p v found hand (Unconnect q) h = claim_way (HasEntry o n) v.claims (λ c. with_claim v (ready_claim c)) v h (λ c. h)
@@ -199,10 +199,10 @@ module _ (p : Plan) (Old : ℕ → ℕ → Type 0) where
       -- a step on a word
       module _ (sound : Sound p c vs) (mo : Moment) (v : View) (here : get_elem? vs mo.seat ≡ some v)
           (fresh : (id : ℕ) → socket_id_slot id < p.slots → vref_version (std.slice_index c.words (ref_index (socket_id_slot id))) ≡ socket_id_version id → Old (socket_id_slot id) (socket_id_version id) → ⊥) where
-        abbrev after : Call → View
+        abbrev after : TableStep → View
         after call = row p call (found_at c.words (word_of p call)) (hand_at p c.words c.homes call) v
 
-        abbrev found : Call → ℕ
+        abbrev found : TableStep → ℕ
         found call = found_at c.words (word_of p call)
 
         adds : (id : ℕ) (next : ℕ → Program) → Goes p.requests Free (Do (AddRef id) next) → May p v (AddRef id) → Next (after (AddRef id)) Free (next (found (AddRef id)))
@@ -258,7 +258,7 @@ module _ (p : Plan) (Old : ℕ → ℕ → Type 0) where
             by_odd odd (inl x) = (Claims t k (q + 1), x, (on_stays t k on, one_more odd), λ o n l w. inl w)
             by_odd odd (inr x) = (Free, x.1, tt, λ o n l w. inr (inr (inr (subst (AreTaken d ws) x.0 (one_more odd)))))
 
-        step_next : (call : Call) (next : ℕ → Program) (m : Mode) → Goes p.requests m (Do call next) → Knows c vs v m → May p v call → DidAt p c mo mo.seat (DidStep call (found call)) → get_elem? ws mo.seat ≡ some (after call) → Next (after call) m (next (found call))
+        step_next : (call : TableStep) (next : ℕ → Program) (m : Mode) → Goes p.requests m (Do call next) → Knows c vs v m → May p v call → DidAt p c mo mo.seat (DidStep call (found call)) → get_elem? ws mo.seat ≡ some (after call) → Next (after call) m (next (found call))
         step_next (AddRef id) next Free g knows may did now = adds id next g may
         step_next call next Free g knows may did now = (Free, g (found call), tt, λ o n k z. absurd z)
         step_next (FindLink i h) next (Held t) g knows may did now = links t i h next g knows may

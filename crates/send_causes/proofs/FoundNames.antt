@@ -10,7 +10,7 @@ use Rattle.sock_words.specs.declared.outcome.Outcome.TheVariants as outcomes
 use Rattle.seat_programs.specs.declared.task.Op.TheVariants as ops
 use Rattle.seat_programs.specs.declared.task.Task.{Task}
 use Rattle.seat_programs.specs.Asides.{StoreCall}
-use Rattle.seat_programs.specs.Calls.{Call}
+use Rattle.seat_programs.specs.Calls.{TableStep}
 use Rattle.seat_programs.specs.Cores.{SeatState}
 use Rattle.seat_programs.specs.Programs.{Program, Do, Aside}
 use Rattle.dropped_calls.specs.Below.programs_allowed.specs.program_steps.proofs.Cases.{elem_there}
@@ -87,7 +87,7 @@ module _ (p : Plan) (q : IdPlan) (clients : List (List Task)) (gives : ℕ → L
         by_told before (was_begun id asked call own born begun named) k op = absurd (let z : ops.Call asked ≡ ops.Open n k = sym call ∙ op in cc)
 
     -- seat j, which goes on with a step on the sockets, found no socket under the name; and operation o has an id
-    module _ (over : IsSetUp w.core) (first : Mark) (at_first : At ms 0 first) (j : ℕ) (m : Mark) (at : At ms j m) (seat : SeatState) (at_seat : get_elem? w.core.seats j ≡ some seat) (call : Call) (next : ℕ → Program) (is : first_step seat.program ≡ Do call next)
+    module _ (over : IsSetUp w.core) (first : Mark) (at_first : At ms 0 first) (j : ℕ) (m : Mark) (at : At ms j m) (seat : SeatState) (at_seat : get_elem? w.core.seats j ≡ some seat) (call : TableStep) (next : ℕ → Program) (is : first_step seat.program ≡ Do call next)
         (name o id : ℕ) (unnamed : Named p q clients gives w name → ⊥) (own : IsOwn q w.core o id) where
       -- where the call is the seat's own it has begun it
       begun : (t : Task) → IsOf j t → t.number ≡ o → In t m.done

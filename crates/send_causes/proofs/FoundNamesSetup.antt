@@ -8,7 +8,7 @@ use lib.ListN.{get_elem?}
 use Rattle.sock_words.specs.declared.plain.Plan.{Plan}
 use Rattle.corr_core.specs.declared.marks.Plan.{Plan as IdPlan}
 use Rattle.sock_words.specs.declared.kind.Kind.{Kind}
-use Rattle.seat_programs.specs.Calls.{Call, LoadName}
+use Rattle.seat_programs.specs.Calls.{TableStep, LoadName}
 use Rattle.seat_programs.specs.Clients.{operation, client_from}
 use Rattle.seat_programs.specs.declared.task.Op.{Op}
 use Rattle.seat_programs.specs.declared.task.Op.TheVariants as ops
@@ -31,7 +31,7 @@ use Rattle.seat_programs.specs.Rounds.{first_step}
 
 -- ## Programs that open sockets
 
-abbrev IsOther : Call → Type 0
+abbrev IsOther : TableStep → Type 0
 IsOther (LoadName n) = ⊥
 IsOther call = Unit {0}
 

@@ -10,7 +10,7 @@ use Rattle.seat_programs.specs.declared.task.Op.{Op}
 use Rattle.seat_programs.specs.declared.task.Op.TheVariants as ops
 use Rattle.seat_programs.specs.declared.task.Task.{Task}
 use Rattle.seat_programs.specs.declared.task.Sizes.{Sizes}
-use Rattle.seat_programs.specs.Calls.{Call, SubRef, SetOdd, StoreCode}
+use Rattle.seat_programs.specs.Calls.{TableStep, SubRef, SetOdd, StoreCode}
 use Rattle.seat_programs.specs.Heads.{Head, Exit, Retry, Ended, Opens, Reads}
 use Rattle.seat_programs.specs.Programs.{Program, Do, Say, Sent, Write, Round, Keep, Retries, release, set_failed, fail, fail_outcome}
 use Rattle.seat_programs.specs.Attempts.{attempt}
@@ -43,7 +43,7 @@ SaysFailed o other = ⊥
 
 -- these are the `fail` operations of the seat, with their codes, and the other codes that it may store
 module _ (mine : ℕ → ℕ → Type 0) (Other : ℕ → Type 0) where
-  abbrev StoresAt : Failing → Call → (ℕ → Program) → (Failing → ℕ → Type 0) → Type 0
+  abbrev StoresAt : Failing → TableStep → (ℕ → Program) → (Failing → ℕ → Type 0) → Type 0
   StoresAt f (SetOdd i) next behind = ((found : ℕ) → behind NoFail found)
       ⊎ ((o code : ℕ) × mine o code × ((found : ℕ) → ((vref_version found % 2 ≡ 0) × SaysFailed o (next found) × behind (Fails o code i) found) ⊎ behind NoFail found))
   StoresAt f (StoreCode i h code) next behind = (Other code ⊎ ((o : ℕ) × (f ≡ Fails o code i))) × ((found : ℕ) → behind NoFail found)
@@ -67,7 +67,7 @@ module _ (mine : ℕ → ℕ → Type 0) (Other : ℕ → Type 0) (gone : Other 
   abbrev G : Program → Type 0
   G program = Stores mine Other NoFail program
 
-  codes_these : (these : Call → Bool) → ((i : ℕ) → these (SetOdd i) ≡ false) → ((i h c : ℕ) → these (StoreCode i h c) ≡ false) → PassesSteps these G
+  codes_these : (these : TableStep → Bool) → ((i : ℕ) → these (SetOdd i) ≡ false) → ((i h c : ℕ) → these (StoreCode i h c) ≡ false) → PassesSteps these G
   codes_these these odd code (SetOdd i) next is r = absurd (true≢false (sym is ∙ odd i))
   codes_these these odd code (StoreCode i h c) next is r = absurd (true≢false (sym is ∙ code i h c))
   codes_these these odd code call next is r = r

@@ -18,7 +18,7 @@ use Rattle.corr_core.specs.declared.marks.Plan.{Plan as IdPlan}
 use Rattle.corr_core.proofs.Notes.{at_length}
 use Rattle.sock_message.specs.Asked.{Asked}
 use Rattle.seat_programs.specs.declared.task.Task.{Task}
-use Rattle.seat_programs.specs.Calls.{Call, CreateLife, LoadCode, DropPlace}
+use Rattle.seat_programs.specs.Calls.{TableStep, CreateLife, LoadCode, DropPlace}
 use Rattle.seat_programs.specs.Cores.{Core, SeatState, stepped}
 use Rattle.seat_programs.specs.Programs.{Program, Do, Write}
 use Rattle.seat_programs.specs.Ticks.{Moment, IsAnswered, AreAnswered, quiet, step_with, tick_with, ticked, run}
@@ -49,7 +49,7 @@ use Rattle.accept_counts.proofs.Ticks.{label_ticks}
 use Rattle.seat_programs.specs.Rounds.{first_step}
 
 -- a tick of a seat is its first step
-tick_steps : (p : Plan) (c : Core) (m : Moment) (seat : SeatState) (call : Call) (next : ℕ → Program) → get_elem? c.seats m.seat ≡ some seat → first_step seat.program ≡ Do call next → ticked p c m ≡ stepped p m.seat seat call next c
+tick_steps : (p : Plan) (c : Core) (m : Moment) (seat : SeatState) (call : TableStep) (next : ℕ → Program) → get_elem? c.seats m.seat ≡ some seat → first_step seat.program ≡ Do call next → ticked p c m ≡ stepped p m.seat seat call next c
 tick_steps p c m seat call next at is = ap (λ o. elim o as (λ o. Core) [ none ↦ c | some seat ↦ tick_with p m.seat seat c m.answer seat.program ]) at ∙ (ticks_first p m.seat seat c m.answer seat.program ∙ ap (step_with p m.seat seat c m.answer) is)
 
 module _ (p : Plan) (q : IdPlan) (is_call : Asked → Type 0) (ids : ℕ → ℕ) (clients : List (List Task)) where

@@ -6,7 +6,7 @@ use Rattle.sock_words.specs.declared.outcome.Outcome.{Outcome}
 use Rattle.sock_words.specs.declared.outcome.Outcome.TheVariants.{Failed}
 use Rattle.seat_programs.specs.declared.task.Op.TheVariants as ops
 use Rattle.seat_programs.specs.declared.task.Task.{Task}
-use Rattle.seat_programs.specs.Calls.{Call, SetOdd, LoadOpen}
+use Rattle.seat_programs.specs.Calls.{TableStep, SetOdd, LoadOpen}
 use Rattle.seat_programs.specs.Writings.{Puts, Waits, Empties, Walks}
 use Rattle.seat_programs.specs.Programs.{Program, Do, Say, Write, Round}
 use Rattle.accept_counts.specs.Below.programs_allowed.specs.program_steps.proofs.Cases.{IsOfLoop, loop_begins}
@@ -15,7 +15,7 @@ use Rattle.accept_counts.specs.Below.outcome_stories.specs.Stories.{Entry, In}
 use Rattle.sent_once.proofs.DropCodes.{SaysFailed}
 use Rattle.seat_programs.specs.Rounds.{first_step}
 
-says_on : (o : ℕ) (call : Call) (next : ℕ → Program) → SaysFailed o (Do call next) → ((i : ℕ) → call ≡ SetOdd i → ⊥) × SaysFailed o (next 0)
+says_on : (o : ℕ) (call : TableStep) (next : ℕ → Program) → SaysFailed o (Do call next) → ((i : ℕ) → call ≡ SetOdd i → ⊥) × SaysFailed o (next 0)
 says_on o (SetOdd i) next s = absurd s
 says_on o call next s = (λ i e. absurd (cc), s)
 
@@ -36,7 +36,7 @@ first_numbered o w trace t ts h = let same : t ≡ h.task = first_is h.is in ap 
     first_is e = cc
 
 module _ (slots requests : ℕ) (calls : ℕ → Type 0) (o : ℕ) (no_call : calls o → ⊥) where
-  shorter : (w : Way) (call : Call) (found : ℕ) (trace : List Entry) (todo : List Task) → ((i : ℕ) → call ≡ SetOdd i → ⊥) → IsInHand o w (step call found ∷ trace) todo → IsInHand o w trace todo
+  shorter : (w : Way) (call : TableStep) (found : ℕ) (trace : List Entry) (todo : List Task) → ((i : ℕ) → call ≡ SetOdd i → ⊥) → IsInHand o w (step call found ∷ trace) todo → IsInHand o w trace todo
   shorter w call found trace todo other h = record { own = h.own; task = h.task; others = h.others; is = h.is; numbered = h.numbered; failed = λ name code op. let x = h.failed name code op in (x.0, x.1, ⊎_elim (λ e. absurd (other x.0 (sym (ap (λ (y : Entry). y.call) e)))) (λ m. m) x.2, x.3) }
 
   here : (done : List Done) (trace : List Entry) (t : Task) (ts : List Task) (x : ℕ) (outcome : Outcome) → x ≡ t.number → x ≡ o → outcome ≡ Failed → Explained slots requests done trace t.op (Some outcome) → IsInHand o Own trace (t ∷ ts)

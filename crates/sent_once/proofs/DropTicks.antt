@@ -21,7 +21,7 @@ use Rattle.accept_counts.specs.Below.slot_steps.proofs.Sums.{about-here}
 use Rattle.seat_programs.specs.declared.task.Op.TheVariants as ops
 use Rattle.seat_programs.specs.declared.task.Task.{Task}
 use Rattle.seat_programs.specs.Beside.{calls_after}
-use Rattle.seat_programs.specs.Calls.{Call, AddRef, LoadName, SetOdd, StoreCode}
+use Rattle.seat_programs.specs.Calls.{TableStep, AddRef, LoadName, SetOdd, StoreCode}
 use Rattle.seat_programs.specs.Cores.{Calls, Core, SeatState, found_at, words_after, homes_after, hand_after, lies_at, first_of, others_of, link_place, resolved, waiting_at, next_step, with_seat}
 use Rattle.seat_programs.specs.StepTables.{word_of, word_after}
 use Rattle.seat_programs.specs.Drops.{call_in}
@@ -93,11 +93,11 @@ module _ (clients : List (List Task)) where
 
 module _ (f : Failing) (mine : ℕ → ℕ → Type 0) (Other : ℕ → Type 0) where
   -- what the seat is to store behind a step
-  pub data Behind (call : Call) (next : ℕ → Program) (found : ℕ) : Type 0 where
+  pub data Behind (call : TableStep) (next : ℕ → Program) (found : ℕ) : Type 0 where
     stores_none : Stores mine Other NoFail (next found) → Behind call next found
     stores_own : (i o code : ℕ) → call ≡ SetOdd i → mine o code → vref_version found % 2 ≡ 0 → SaysFailed o (next found) → Stores mine Other (Fails o code i) (next found) → Behind call next found
 
-  pub behind : (call : Call) (next : ℕ → Program) (found : ℕ) → Stores mine Other f (Do call next) → Behind call next found
+  pub behind : (call : TableStep) (next : ℕ → Program) (found : ℕ) → Stores mine Other f (Do call next) → Behind call next found
   behind (SetOdd i) next found (inl x) = stores_none (x found)
   behind (SetOdd i) next found (inr x) = ⊎_elim (λ y. stores_own i x.0 x.1 refl x.2 y.0 y.1 y.2) (λ y. stores_none y) (x.3 found)
   behind (StoreCode i h code) next found x = stores_none (x.1 found)
@@ -212,7 +212,7 @@ module _ (p : Plan) (clients : List (List Task)) (are : AreTasks p clients) (ove
         stands = ⊎_elim (λ old. absurd (none_before before.way before.done before.trace before.todo j next found failed_one.0 failed_one.1
             (subst (ExplainsBy p.slots p.requests (IsSpoken clients) before.way lost before.done before.trace before.todo) (sets_here seat.program j next is) before.at.explains)
             (λ t n. subst (In t) (sym before.at.all) (undo_in before.done before.todo t n)) (its_trace before.way before.trace before.todo es before.at.traced) says_ old))
-            (λ n. let calls : std.Some (SetOdd j) ≡ std.Some (SetOdd failed_one.0) = sym (ap (λ o. elim o as (λ o. std.Option Call) [ none ↦ std.None | some x ↦ call_in x.program ]) at ∙ ap call_in (sets_here seat.program j next is)) ∙ n.1.next in
+            (λ n. let calls : std.Some (SetOdd j) ≡ std.Some (SetOdd failed_one.0) = sym (ap (λ o. elim o as (λ o. std.Option TableStep) [ none ↦ std.None | some x ↦ call_in x.program ]) at ∙ ap call_in (sets_here seat.program j next is)) ∙ n.1.next in
             let same : failed_one.0 ≡ j = cc in let word : failed_one.1 ≡ found = sym n.1.word ∙ (ap (λ z. found_at c.words (word_of p (SetOdd z))) same ∙ sym found_is) in
             subst (λ z. In (event m.seat o (SetOdd j) z) fresh) word (subst (λ z. In (event m.seat o (SetOdd z) failed_one.1) fresh) same failed_one.2)) (new (event m.seat o (SetOdd failed_one.0) failed_one.1) failed_one.2)
 
@@ -229,7 +229,7 @@ module _ (p : Plan) (clients : List (List Task)) (are : AreTasks p clients) (ove
   moved : (a : Calls) (x : Program) (hand : List Home) (hs : List (Option Home)) (us : List View) → ((j : ℕ) → j ≢ m.seat → (v : View) → get_elem? us j ≡ some v → get_elem? vs j ≡ some v) → Stores (IsFailOf clients m.seat) IsOtherCode NoFail x → After (with_seat m.seat x hand c.words hs (record c { calls = a })) us
   moved a x hand hs us views stores fresh more told kept new = reseated fresh kept a x hand c.words hs us NoFail stores views (λ _. tt) (λ j h inside even version some_. known_later clients es fresh kept j h (code_in c.words j) (law.known j h inside even version some_))
 
-  module _ (seat : SeatState) (v : View) (at : get_elem? c.seats m.seat ≡ some seat) (here : get_elem? vs m.seat ≡ some v) (call : Call) (next : ℕ → Program) (is : first_step seat.program ≡ Do call next) (may : May p v call) where
+  module _ (seat : SeatState) (v : View) (at : get_elem? c.seats m.seat ≡ some seat) (here : get_elem? vs m.seat ≡ some v) (call : TableStep) (next : ℕ → Program) (is : first_step seat.program ≡ Do call next) (may : May p v call) where
     abbrev found : ℕ
     found = found_at c.words (word_of p call)
 
@@ -275,7 +275,7 @@ module _ (p : Plan) (clients : List (List Task)) (are : AreTasks p clients) (ove
             (λ same. (
               found,
               own,
-              stands seat v at here o code own j next (is ∙ ap (λ (z : Call). Do z next) call_is) fresh more kept new found (ap (λ z. found_at c.words (word_of p z)) call_is) says_ stepped_ (set vs m.seat w) told
+              stands seat v at here o code own j next (is ∙ ap (λ (z : TableStep). Do z next) call_is) fresh more kept new found (ap (λ z. found_at c.words (word_of p z)) call_is) says_ stepped_ (set vs m.seat w) told
                   (record { program = next_step (resolved (waiting_at c.calls.waiting m.seat) (next found)); hand = hand_after p call c.homes seat.hand }) w (set_at c.seats m.seat _ seat_there) (set_at vs m.seat w view_there) same,
               even,
               λ u at_u. subst (λ (z : View). 0 < marks_of (is_coding (vref_version found)) j z) (⊎_elim (λ b. b.1) (λ b. absurd (b.0 refl)) (at_set vs m.seat m.seat w u at_u))

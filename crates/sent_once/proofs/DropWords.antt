@@ -19,7 +19,7 @@ use Rattle.sock_model.specs.Weights.{is_hold, is_coding, is_any_coding}
 use Rattle.accept_counts.specs.Below.slot_steps.proofs.Numbers.{or-odd, only_le}
 use Rattle.accept_counts.specs.Below.slot_steps.proofs.Sums.{total_mono}
 use Rattle.accept_counts.specs.Below.sock_steps.proofs.Places.{own_count}
-use Rattle.seat_programs.specs.Calls.{Call, CreateLife, AddRef, SubRef, SetOdd, Recycle, ClearCode, StoreCode, LookWord, LoadCode}
+use Rattle.seat_programs.specs.Calls.{TableStep, CreateLife, AddRef, SubRef, SetOdd, Recycle, ClearCode, StoreCode, LookWord, LoadCode}
 use Rattle.seat_programs.specs.Cores.{Core, found_at, words_after}
 use Rattle.seat_programs.specs.TableWords.{TableWord, RefOf, CodeOf, index_of}
 use Rattle.seat_programs.specs.StepTables.{word_of, word_after, hand_at, May, Finds}
@@ -61,34 +61,34 @@ module _ (p : Plan) (c : Core) (vs : List View) (sound : Sound p c vs) (i : ℕ)
     abbrev WasSo : List ℕ → Type 0
     WasSo ws = (version_in c.words j ≡ h + 1) × (code_in ws j ≡ code_in c.words j)
 
-    abbrev IsNew : Call → List ℕ → Type 0
+    abbrev IsNew : TableStep → List ℕ → Type 0
     IsNew call ws = (g d : ℕ) × (call ≡ StoreCode j g d) × (version_in c.words j ≡ h + 1) × (code_in ws j ≡ d)
 
     -- behind the step the slot's life of version h has failed, with a code
-    abbrev Kept : Call → List ℕ → Type 0
+    abbrev Kept : TableStep → List ℕ → Type 0
     Kept call ws = version_in ws j ≡ h + 1 → code_in ws j ≢ 0 → WasSo ws ⊎ IsNew call ws
 
-    left : (call : Call) (ws : List ℕ) → get_or ws (ref_index j) 0 ≡ get_or c.words (ref_index j) 0 → code_in ws j ≡ code_in c.words j → Kept call ws
+    left : (call : TableStep) (ws : List ℕ) → get_or ws (ref_index j) 0 ≡ get_or c.words (ref_index j) 0 → code_in ws j ≡ code_in c.words j → Kept call ws
     left call ws ref code version some_ = inl (sym (ap vref_version ref) ∙ version, code)
 
-    loaded : (call : Call) (o : Option TableWord) → Kept call (words_after c.words (index_of p o) (found_at c.words (index_of p o)))
+    loaded : (call : TableStep) (o : Option TableWord) → Kept call (words_after c.words (index_of p o) (found_at c.words (index_of p o)))
     loaded call o = let e = load_leaves p c.words o in left call (words_after c.words (index_of p o) (found_at c.words (index_of p o))) (ap (λ ws. get_or ws (ref_index j) 0) e) (ap (λ ws. code_in ws j) e)
 
     -- the reference word of a slot, where the step makes no slot with a code fail
-    on_ref : (call : Call) (n w : ℕ) → (n ≡ j → vref_version w ≡ h + 1 → code_in c.words j ≢ 0 → version_in c.words n ≡ h + 1) → Kept call (set c.words (ref_index n) w)
+    on_ref : (call : TableStep) (n w : ℕ) → (n ≡ j → vref_version w ≡ h + 1 → code_in c.words j ≢ 0 → version_in c.words n ≡ h + 1) → Kept call (set c.words (ref_index n) w)
     on_ref call n w before version some_ = let code : code_in (set c.words (ref_index n) w) j ≡ code_in c.words j = get_or-set_other c.words (ref_index n) (code_index j) w 0 (λ e. omega (arith, e)) in
         dite (ℕ_discrete n j)
         (λ same. let here : get_or (set c.words (ref_index n) w) (ref_index j) 0 ≡ w = ap (λ k. get_or (set c.words (ref_index n) w) (ref_index k) 0) (sym same) ∙ get_or-set_same c.words (ref_index n) w 0 (omega (arith, inside, same, sound.lawful.references.sized)) in
         inl (ap (version_in c.words) (sym same) ∙ before same (sym (ap vref_version here) ∙ version) (λ z. some_ (code ∙ z)), code))
         (λ far. left call (set c.words (ref_index n) w) (get_or-set_other c.words (ref_index n) (ref_index j) w 0 (λ e. far (omega (arith, e)))) code version some_)
 
-    on_code : (call : Call) (n w : ℕ) → (n ≡ j → w ≢ 0 → version_in c.words j ≡ h + 1 → IsNew call (set c.words (code_index n) w)) → Kept call (set c.words (code_index n) w)
+    on_code : (call : TableStep) (n w : ℕ) → (n ≡ j → w ≢ 0 → version_in c.words j ≡ h + 1 → IsNew call (set c.words (code_index n) w)) → Kept call (set c.words (code_index n) w)
     on_code call n w new version some_ = dite (ℕ_discrete n j)
         (λ same. let here : code_in (set c.words (code_index n) w) j ≡ w = ap (λ k. code_in (set c.words (code_index n) w) k) (sym same) ∙ get_or-set_same c.words (code_index n) w 0 (omega (arith, inside, same, sound.lawful.references.sized)) in
         inr (new same (λ z. some_ (here ∙ z)) (sym (ap vref_version (get_or-set_other c.words (code_index n) (ref_index j) w 0 (λ e. omega (arith, e)))) ∙ version)))
         (λ far. left call (set c.words (code_index n) w) (get_or-set_other c.words (code_index n) (ref_index j) w 0 (λ e. omega (arith, e))) (get_or-set_other c.words (code_index n) (code_index j) w 0 (λ e. far (omega (arith, e)))) version some_)
 
-    found : (call : Call) → May p v call → Finds p v call (found_at c.words (word_of p call)) (hand_at p c.words c.homes call)
+    found : (call : TableStep) → May p v call → Finds p v call (found_at c.words (word_of p call)) (hand_at p c.words c.homes call)
     found call may = finds p (state c vs) sound.lawful i v at sound.limits.slots call may
 
     -- a slot that fails is live before, and has no code then
@@ -105,7 +105,7 @@ module _ (p : Plan) (c : Core) (vs : List View) (sound : Sound p c vs) (i : ℕ)
         by true e = absurd (omega (arith, e, odd, even))
         by false e = e
 
-    pub code_stays : (call : Call) → May p v call → version_in (words_after c.words (word_of p call) (word_after call (found_at c.words (word_of p call)))) j ≡ h + 1 → code_in (words_after c.words (word_of p call) (word_after call (found_at c.words (word_of p call)))) j ≢ 0
+    pub code_stays : (call : TableStep) → May p v call → version_in (words_after c.words (word_of p call) (word_after call (found_at c.words (word_of p call)))) j ≡ h + 1 → code_in (words_after c.words (word_of p call) (word_after call (found_at c.words (word_of p call)))) j ≢ 0
         → ((version_in c.words j ≡ h + 1) × (code_in (words_after c.words (word_of p call) (word_after call (found_at c.words (word_of p call)))) j ≡ code_in c.words j))
         ⊎ ((g d : ℕ) × (call ≡ StoreCode j g d) × (version_in c.words j ≡ h + 1) × (code_in (words_after c.words (word_of p call) (word_after call (found_at c.words (word_of p call)))) j ≡ d))
     code_stays (CreateLife n k) may = on_ref (CreateLife n k) n _ (λ same version some_. let f = (found (CreateLife n k) may).0 in omega (arith, f, version))

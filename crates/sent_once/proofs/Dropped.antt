@@ -24,7 +24,7 @@ use Rattle.seat_programs.specs.Asides.{Taking}
 use Rattle.accept_counts.proofs.Closers.{Ends as ReadingEnds}
 use Rattle.accept_counts.proofs.ReaderRuns.{Keeps, reader_rights, keeps_along}
 use Rattle.std.specs.Prelude.{slice_get, Some}
-use Rattle.seat_programs.specs.Calls.{Call, SwapHead}
+use Rattle.seat_programs.specs.Calls.{TableStep, SwapHead}
 use Rattle.seat_programs.specs.Programs.{Program, Do, Rest, TakeMessage, TakeHome, PutHome, PutBytes, AskReady, Aside, LAST_VERSION, recycle, release}
 use Rattle.seat_programs.specs.Heads.{Retry}
 use Rattle.seat_programs.specs.Clients.{ending_of}
@@ -78,7 +78,7 @@ swap_first (Do call next) x = x
 swap_first Rest x = x
 swap_first _ x = absurd x
 
-swap_call : (call : Call) (next : ℕ → Program) → NoSwap (Do call next) → IsNoSwap call × ((found : ℕ) → NoSwap (next found))
+swap_call : (call : TableStep) (next : ℕ → Program) → NoSwap (Do call next) → IsNoSwap call × ((found : ℕ) → NoSwap (next found))
 swap_call (SwapHead i own) next x = absurd x
 swap_call call next x = (tt, x)
 

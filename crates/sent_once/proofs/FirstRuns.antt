@@ -22,7 +22,7 @@ use Rattle.sock_model.specs.ChainRows.{with_claim, entry_of, more, queued, right
 use Rattle.seat_programs.specs.declared.task.Sizes.{Sizes}
 use Rattle.seat_programs.specs.declared.task.Task.{Task}
 use Rattle.seat_programs.specs.Beside.{calls_after}
-use Rattle.seat_programs.specs.Calls.{Call, ClaimRequest, PutMessage, Unconnect, SwapHead}
+use Rattle.seat_programs.specs.Calls.{TableStep, ClaimRequest, PutMessage, Unconnect, SwapHead}
 use Rattle.seat_programs.specs.Clients.{client_from, ending_of}
 use Rattle.seat_programs.specs.Cores.{Calls, Core, SeatState, found_at, words_after, homes_after, hand_after, lies_at, first_of, others_of, link_place, resolved, still_waiting, waiting_at, next_step, with_seat}
 use Rattle.seat_programs.specs.StepTables.{word_of, word_after}
@@ -106,15 +106,15 @@ module _ (mine : ℕ → Type 0) where
   same_goes : (low : ℕ) (v u : View) → Same v u → ViewGoes low v → ViewGoes low u
   same_goes low v u s g = record { made = g.made; lists = s.1 ∙ g.lists; ordered = g.ordered; old = g.old; claims = subst (AllByRecursion (ClaimGoes low g.made)) (sym s.0) g.claims }
 
-  abbrev low_behind : Call → ℕ → ℕ
+  abbrev low_behind : TableStep → ℕ → ℕ
   low_behind (PutMessage q heading bytes) low = behind heading low
   low_behind other low = low
 
-  abbrev Puts : ℕ → Call → Type 0
+  abbrev Puts : ℕ → TableStep → Type 0
   Puts low (PutMessage q heading bytes) = heading.attempt ≡ 0 → (low ≤ heading.operation) × mine heading.operation
   Puts low other = Unit {0}
 
-  goes_do : (low : ℕ) (call : Call) (next : ℕ → Program) → Firsts mine low (Do call next) → Puts low call × ((found : ℕ) → Firsts mine (low_behind call low) (next found))
+  goes_do : (low : ℕ) (call : TableStep) (next : ℕ → Program) → Firsts mine low (Do call next) → Puts low call × ((found : ℕ) → Firsts mine (low_behind call low) (next found))
   goes_do low (PutMessage q heading bytes) next x = x
   goes_do low _ next x = (tt, x)
 
@@ -175,7 +175,7 @@ module _ (mine : ℕ → Type 0) where
         let filled : c.filled ≡ true = ap (λ (x : Claim). x.filled) (sym one) ∙ m.is_filled in let o = (subst (AllByRecursion (ClaimGoes low g.made)) e g.claims).0 filled in
         split (nat_lt found IDLE) (queued v c found) (righted v c found hand.took hand.next) (ViewGoes low) (more_goes c found o (queued v c found) refl refl) (more_goes c (found - IDLE) o (righted v c found hand.took hand.next) refl refl)
 
-    row_goes : (call : Call) → May p v call → Puts low call → ViewGoes (low_behind call low) (row p call found hand v)
+    row_goes : (call : TableStep) → May p v call → Puts low call → ViewGoes (low_behind call low) (row p call found hand v)
     row_goes (ClaimRequest id q) may puts = claimed_goes id q
     row_goes (PutMessage q heading bytes) may puts = put_goes heading puts q bytes
     row_goes (Unconnect q) may puts = ready_goes v.claims refl

@@ -14,7 +14,7 @@ use Rattle.brpc_model.specs.Items.{Item}
 use Rattle.seat_programs.specs.Clients.{ending_of}
 use Rattle.seat_programs.specs.Scripts.{ending}
 use Rattle.seat_programs.specs.Tasks.{opens, plan_of}
-use Rattle.seat_programs.specs.Calls.{Call, TakeLink, FinishLink, PutLink, PutMessage}
+use Rattle.seat_programs.specs.Calls.{TableStep, TakeLink, FinishLink, PutLink, PutMessage}
 use Rattle.seat_programs.specs.Programs.{Program, PutBytes}
 use Rattle.seat_programs.specs.Beside.{calls_after}
 use Rattle.seat_programs.specs.Cores.{Calls, Core, SeatState, found_at, words_after, with_seat, homes_after, hand_after, lies_at, first_of, others_of, finished, link_place, resolved, next_step, waiting_at}
@@ -111,7 +111,7 @@ module _ (p : Plan) (k : ℕ) where
           → get_elem? (set c.homes i x) (link_place p k) ≡ some (some (Link k took next done)) → Lay c m took done
       home_set i x took next done own e = ⊎_elim (λ a. own a.0 a.1) (λ a. at_home took next done a.1) (at_set c.homes i (link_place p k) x (some (Link k took next done)) e)
 
-      home_after : (call : Call) (took : List ℕ) (next : ℕ) (done : Bool) → get_elem? (homes_after p call seat.hand c.homes) (link_place p k) ≡ some (some (Link k took next done)) → Lay c m took done
+      home_after : (call : TableStep) (took : List ℕ) (next : ℕ) (done : Bool) → get_elem? (homes_after p call seat.hand c.homes) (link_place p k) ≡ some (some (Link k took next done)) → Lay c m took done
       home_after (TakeLink n) took next done e = home_set (link_place p n) none took next done (λ i x. absurd (some-ne-none (Link k took next done) (sym x))) e
       home_after (PutLink n) took next done e = home_set (link_place p n) (first_of seat.hand) took next done (λ i x. in_hand took next done (in_first (Link k took next done) seat.hand x)) e
       home_after (PutMessage q heading bytes) took next done e = home_set q (some (Message heading bytes)) took next done (λ i x. absurd (no_message (some-injective (Message heading bytes) (Link k took next done) x))) e
@@ -120,7 +120,7 @@ module _ (p : Plan) (k : ℕ) where
           no_message x = cc
       home_after _ took next done e = at_home took next done e
 
-      held_after : (v : View) → get_elem? vs m.seat ≡ some v → (call : Call) → May p v call → (took : List ℕ) (next : ℕ) (done : Bool) → InHand (Link k took next done) (hand_after p call c.homes seat.hand) → Lay c m took done
+      held_after : (v : View) → get_elem? vs m.seat ≡ some v → (call : TableStep) → May p v call → (took : List ℕ) (next : ℕ) (done : Bool) → InHand (Link k took next done) (hand_after p call c.homes seat.hand) → Lay c m took done
       held_after v at_view (TakeLink n) may took next done has = ⊎_elim
           (λ a. let e = at_its_place c.homes (link_place p n) (Link k took next done) a in let h = (taking p (state c vs) sound.lawful m.seat v at_view n may).0 in
           let x : Link n h.took h.next h.done ≡ Link k took next done = some-injective _ _ (some-injective _ _ (sym h.is ∙ e)) in let same : n ≡ k = cc in

@@ -4,7 +4,7 @@ use mathlib.Core.Option.{Option, some, none}
 use lib.ListN.{get_elem?}
 use Rattle.sock_words.specs.declared.plain.Plan.{Plan}
 use Rattle.sock_model.specs.declared.view.View.{View}
-use Rattle.seat_programs.specs.Calls.{Call, CreateLife, AddRef, SubRef, Recycle, LoadLink, LoadName, TakeLink, FinishLink, PutLink, FindLink, ClaimRequest, PutMessage, EmptyHead, FreeRequest, StorePlace, DropPlace}
+use Rattle.seat_programs.specs.Calls.{TableStep, CreateLife, AddRef, SubRef, Recycle, LoadLink, LoadName, TakeLink, FinishLink, PutLink, FindLink, ClaimRequest, PutMessage, EmptyHead, FreeRequest, StorePlace, DropPlace}
 use Rattle.seat_programs.specs.Programs.{Program, Do, TakeMessage, TakeHome, PutHome, PutBytes, AskReady}
 use Rattle.seat_programs.specs.Cores.{Core, SeatState, found_at}
 use Rattle.seat_programs.specs.StepTables.{table_word, word_of, hand_at, May, Finds}
@@ -21,13 +21,13 @@ use Rattle.seat_programs.specs.Rounds.{first_step}
 use Rattle.sock_words.specs.Words.{IDLE}
 
 module _ (p : Plan) (c : Core) (vs : List View) (sound : Sound p c vs) (few : AreFew vs) (i : ℕ) (v : View) (at : get_elem? vs i ≡ some v) where
-  abbrev found : Call → ℕ
+  abbrev found : TableStep → ℕ
   found call = found_at c.words (word_of p call)
 
-  word_there : (call : Call) → May p v call → (x : ℕ) → word_of p call ≡ some x → x < length c.words
+  word_there : (call : TableStep) → May p v call → (x : ℕ) → word_of p call ≡ some x → x < length c.words
   word_there call may x e = subst (λ n. x < n) (sym sound.lawful.references.sized) (in_table p (table_word call) (word_inside p (state c vs) sound.lawful i v at call may) x e)
 
-  allows_word : (call : Call) → May p v call → Finds p v call (found call) (hand_at p c.words c.homes call) → AllowsWord call (found call)
+  allows_word : (call : TableStep) → May p v call → Finds p v call (found call) (hand_at p c.words c.homes call) → AllowsWord call (found call)
   allows_word (CreateLife j k) may f = f.0
   allows_word (AddRef id) may f = f
   allows_word (SubRef j) may f = omega (arith, f.0, may.1)
@@ -45,14 +45,14 @@ module _ (p : Plan) (c : Core) (vs : List View) (sound : Sound p c vs) (few : Ar
   allows_word (FreeRequest q g) may f = free_small p (state c vs) sound.lawful i v at q g may
   allows_word _ may f = tt
 
-  allows_move : (call : Call) → May p v call → AllowsMove p c call
+  allows_move : (call : TableStep) → May p v call → AllowsMove p c call
   allows_move (TakeLink k) may = let h = (taking p (state c vs) sound.lawful i v at k may).0 in (may.0, (h.took, h.next, h.done, h.is))
   allows_move (FinishLink k) may = may.0
   allows_move (PutLink k) may = may.0
   allows_move (PutMessage q heading bytes) may = may.0
   allows_move _ may = tt
 
-  allows : (call : Call) → May p v call → Allows p c call
+  allows : (call : TableStep) → May p v call → Allows p c call
   allows call may = let f = finds p (state c vs) sound.lawful i v at sound.limits.slots call may in (word_there call may, allows_word call may f, allows_move call may)
 
 -- the view of a seat

@@ -45,7 +45,7 @@ use Rattle.sock_steps.proofs.AcceptSteps.{queued_law, righted_law}
 use Rattle.sock_steps.proofs.WalkSteps.{passing_law, reading_law, emptied_law, walking_law, turning_law}
 use Rattle.sock_steps.proofs.WriteSteps.{freeing_law, retiring_law, placing_law, dropping_law}
 use Rattle.sock_steps.proofs.RightSteps.{right_in, right_alone}
-use Rattle.seat_programs.specs.Calls.{Call, LookWord, FindLink, LoadCode, ClaimRequest, PutMessage, Unconnect, SwapHead, Connect, EmptyHead, ReadNext, ReverseNext, FreeRequest, StorePlace, DropPlace}
+use Rattle.seat_programs.specs.Calls.{TableStep, LookWord, FindLink, LoadCode, ClaimRequest, PutMessage, Unconnect, SwapHead, Connect, EmptyHead, ReadNext, ReverseNext, FreeRequest, StorePlace, DropPlace}
 use Rattle.seat_programs.specs.StepTables.{table_word, word_after}
 use Rattle.program_steps.proofs.WordFrame.{AreIn, low_word}
 use Rattle.seat_programs.specs.Cores.{homes_after}
@@ -339,7 +339,7 @@ module _ (p : Plan) (s : State Home View) (o : Lawful (λ home. home) p s) (i : 
   free_inside q g may = subst (λ z. z < p.requests) may.1 (⊎_elim (λ x. placed_inside may.4.0 may.4.1 may.0 x.0) (λ x. passed_inside may.4.0 may.4.1 may.0 x.0 x.1) may.4.2)
 
   -- the word of a step is one of the table
-  pub word_inside : (call : Call) → May p v call → AreIn p (table_word call)
+  pub word_inside : (call : TableStep) → May p v call → AreIn p (table_word call)
   word_inside (ReadNext q) may = read_inside q may
   word_inside (ReverseNext q value) may = turn_inside q value may
   word_inside (FreeRequest q g) may = free_inside q g may

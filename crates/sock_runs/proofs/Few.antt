@@ -26,7 +26,7 @@ use Rattle.sock_steps.proofs.RightSteps.{right_in, right_alone}
 use Rattle.sock_steps.proofs.RuleFrame.{SameNotes, accept_short}
 use Rattle.sock_steps.proofs.Positions.{few_log, on_shorter}
 use Rattle.sock_steps.proofs.Walked.{writes_left}
-use Rattle.seat_programs.specs.Calls.{Call, SwapHead}
+use Rattle.seat_programs.specs.Calls.{TableStep, SwapHead}
 use Rattle.seat_programs.specs.Cores.{Core, found_at}
 use Rattle.seat_programs.specs.StepTables.{word_of}
 use Rattle.seat_programs.specs.Ticks.{Moment, IsAnswered}
@@ -44,7 +44,7 @@ use Rattle.sock_words.specs.Totals.{total}
 -- ## What each step leaves
 
 -- each step but the exchange leaves the plan, the words that were found, and the accepted messages
-pub row_same : (p : Plan) (call : Call) (found : ℕ) (hand : Hand) (v : View) → is_exchange call ≡ false → SameNotes v (row p call found hand v)
+pub row_same : (p : Plan) (call : TableStep) (found : ℕ) (hand : Hand) (v : View) → is_exchange call ≡ false → SameNotes v (row p call found hand v)
 row_same p call found hand v other_ = record { plan = plan_stays p v found hand call; found = ap (λ (w : View). w.found) (row_leaves p v found hand call); lists = lists_stay p v found hand call other_ }
 
 -- ## A tick
@@ -66,7 +66,7 @@ few_lists v w same is = subst (λ (ls : List (List Entry)). (length ls ≤ 1) ×
 abbrev pub IsShorter : View → Type 0
 IsShorter v = (made : List Entry) (taken_in : List (List Entry)) → v.lists ≡ made ∷ taken_in → length made < MOST_ACCEPTED
 
-few_row : (p : Plan) (v : View) (call : Call) (found : ℕ) (hand : Hand) → May p v call → IsShorter v → IsFew v → IsFew (row p call found hand v)
+few_row : (p : Plan) (v : View) (call : TableStep) (found : ℕ) (hand : Hand) → May p v call → IsShorter v → IsFew v → IsFew (row p call found hand v)
 few_row p v (SwapHead i own) found hand may short is = let x = may.1 in
     subst (λ cs. IsFew (by_claim cs (exchanged found hand v) v)) (sym x.claims)
     (either_way (nat_lt found IDLE) (queued v x.claim found) (righted v x.claim found hand.took hand.next) IsFew

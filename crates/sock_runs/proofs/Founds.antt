@@ -24,7 +24,7 @@ use Rattle.sock_steps.specs.slot_steps.proofs.Numbers.{pair_le}
 use Rattle.sock_steps.specs.slot_steps.proofs.Slots.{recycled_le}
 use Rattle.sock_steps.specs.slot_steps.proofs.Kept.{life_found}
 use Rattle.sock_steps.proofs.Places.{own_count, given_unwaited}
-use Rattle.seat_programs.specs.Calls.{Call, CreateLife, AddRef, SubRef, SetOdd, FreeSlot, LoadLink, LoadName, LoadOpen, TakeLink, LookWord, FindLink, ClaimRequest}
+use Rattle.seat_programs.specs.Calls.{TableStep, CreateLife, AddRef, SubRef, SetOdd, FreeSlot, LoadLink, LoadName, LoadOpen, TakeLink, LookWord, FindLink, ClaimRequest}
 use Rattle.seat_programs.specs.StepTables.{word_of}
 use Rattle.seat_programs.specs.Cores.{found_at}
 use Rattle.seat_programs.specs.StepTables.{hand_at}
@@ -100,7 +100,7 @@ module _ (p : Plan) (s : State Home View) (o : Lawful (λ home. home) p s) (i : 
           let is : get_or s.words (request_index p x.entry.request) 0 ≡ get_or s.words (request_index p q) 0 = ap (λ z. get_or s.words (request_index p z) 0) x.request_is in omega (arith, small, a, is, x.generation_is)
       by_phase g n small (retired_phase x) = omega (arith, small, x.word)
 
-  pub finds : p.slots ≤ 256 → (call : Call) → May p v call → Finds p v call (found_at s.words (word_of p call)) (hand_at p s.words s.homes call)
+  pub finds : p.slots ≤ 256 → (call : TableStep) → May p v call → Finds p v call (found_at s.words (word_of p call)) (hand_at p s.words s.homes call)
   finds few (CreateLife j k) may = let b = births j k may in (has_room p s o.references j may.0, b.0, b.1)
   finds few (AddRef id) may = has_room p s o.references (socket_id_slot id) may.0.0
   finds few (SubRef j) may = (refs_counted j may.0, of_held j may.0, next_version p s o.references j may.0)

@@ -17,7 +17,7 @@ use Rattle.sock_model.specs.Reads.{took_of, as_link, shown}
 use Rattle.sock_model.specs.ChainRows.{with_hand, without_hand, spent_hand}
 use Rattle.sock_model.specs.Lawful.{Lawful}
 use Rattle.sock_steps.proofs.HandSteps.{take_last_law, spend_law, put_hand_law}
-use Rattle.seat_programs.specs.Calls.{Call, TakeLink, FinishLink, PutLink}
+use Rattle.seat_programs.specs.Calls.{TableStep, TakeLink, FinishLink, PutLink}
 use Rattle.seat_programs.specs.Cores.{homes_after, hand_after, lies_at, first_of, others_of, finished}
 use Rattle.seat_programs.specs.StepTables.{row, hand_at}
 use Rattle.seat_programs.specs.StepsOfLinks.{as_hand, taken}
@@ -27,7 +27,7 @@ use Rattle.program_steps.specs.Sound.{AreInHand}
 use Rattle.sock_words.specs.Totals.{total}
 
 -- the rule holds behind a move of seat i, which has this view and these links in hand
-abbrev pub KeepsHome : Plan → State Home View → ℕ → View → List Home → Call → Type 0
+abbrev pub KeepsHome : Plan → State Home View → ℕ → View → List Home → TableStep → Type 0
 KeepsHome p s i v hand call = Lawful (λ home. home) p record { words = s.words; homes = homes_after p call hand s.homes; views = set s.views i (row p call 0 (hand_at p s.words s.homes call) v) }
 
 -- the one link in hand, as the home and as the view has it

@@ -17,7 +17,7 @@ use Rattle.sock_model.specs.SlotRows.{looked}
 use Rattle.sock_model.specs.ChainRows.{with_hand, spent_hand, without_hand, with_right, without_right, turned_right, placed_right, dropped_right}
 use Rattle.sock_model.specs.Lawful.{Lawful}
 use Rattle.sock_steps.proofs.Quiet.{either_way}
-use Rattle.seat_programs.specs.Calls.{Call, TakeLink, FinishLink, PutLink, LookWord, SwapHead, EmptyHead, ReadNext, ReverseNext, FreeRequest, StorePlace, DropPlace}
+use Rattle.seat_programs.specs.Calls.{TableStep, TakeLink, FinishLink, PutLink, LookWord, SwapHead, EmptyHead, ReadNext, ReverseNext, FreeRequest, StorePlace, DropPlace}
 use Rattle.seat_programs.specs.Cores.{Core, found_at, hand_after}
 use Rattle.seat_programs.specs.StepTables.{word_of}
 use Rattle.seat_programs.specs.StepTables.{row, hand_at}
@@ -114,10 +114,10 @@ module _ (p : Plan) (v : View) (hand : List Home) (held : AreHeld hand v.rights 
 -- ## All steps
 
 module _ (p : Plan) (c : Core) (vs : List View) (o : Lawful (λ home. home) p (state c vs)) (i : ℕ) (v : View) (at : get_elem? vs i ≡ some v) (hand : List Home) (held : AreHeld hand v.rights v.hands) where
-  abbrev found : Call → ℕ
+  abbrev found : TableStep → ℕ
   found call = found_at c.words (word_of p call)
 
-  abbrev after : Call → View
+  abbrev after : TableStep → View
   after call = row p call (found_at c.words (word_of p call)) (hand_at p c.words c.homes call) v
 
   -- of a seat without rights
@@ -125,11 +125,11 @@ module _ (p : Plan) (c : Core) (vs : List View) (o : Lawful (λ home. home) p (s
   in_hand none_ = held_in_hand hand v.rights v.hands none_ held
 
   -- behind a step that leaves rights and hands
-  still : (call : Call) → moves_right call ≡ false → moves_hand call ≡ false → AreHeld hand (after call).rights (after call).hands
+  still : (call : TableStep) → moves_right call ≡ false → moves_hand call ≡ false → AreHeld hand (after call).rights (after call).hands
   still call rights hands = let n : ℕ = found call in let g : Hand = hand_at p c.words c.homes call in
       subst (λ rs. AreHeld hand rs (after call).hands) (sym (rights_stay p v n g call rights)) (subst (λ hs. AreHeld hand v.rights hs) (sym (hands_stay p v n g call hands)) held)
 
-  pub keeps_held : (call : Call) → May p v call → AreHeld (hand_after p call c.homes hand) (after call).rights (after call).hands
+  pub keeps_held : (call : TableStep) → May p v call → AreHeld (hand_after p call c.homes hand) (after call).rights (after call).hands
   keeps_held (TakeLink k) may = let home = (taking p (state c vs) o i v at k may).0 in let h : Hand = record { link = k; took = home.took; next = home.next } in
       let now = in_hand_held (hand_after p (TakeLink k) c.homes hand) v.rights (h ∷ v.hands) may.3 (take_in_hand p c.homes k home hand v.hands (in_hand may.3)) in
       subst (λ g. AreHeld (hand_after p (TakeLink k) c.homes hand) (taken g v).rights (taken g v).hands) (sym (found_hand p (state c vs) o i v at k may))

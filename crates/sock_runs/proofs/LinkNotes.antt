@@ -15,7 +15,7 @@ use Rattle.sock_model.specs.SlotRows.{marks_of}
 use Rattle.sock_steps.specs.slot_steps.proofs.Sums.{about-other}
 use Rattle.sock_steps.specs.slot_steps.proofs.Numbers.{pair_is}
 use Rattle.sock_steps.proofs.Quiet.{Less, More, less_add, less_without}
-use Rattle.seat_programs.specs.Calls.{Call, CreateLife}
+use Rattle.seat_programs.specs.Calls.{TableStep, CreateLife}
 use Rattle.seat_programs.specs.StepTables.{row}
 use Rattle.sock_runs.proofs.Notes.{bears, IsKept, IsOfBirth, notes_stay, births_note}
 use Rattle.sock_words.specs.Words.{vref_version}
@@ -32,7 +32,7 @@ module _ (p : Plan) (v : View) (found : ℕ) (hand : Hand) where
     link_kept _ goes = refl
 
     -- which link a life was given stays noted
-    pub links_stay : (call : Call) → More (is_linked h l) v.marks (row p call found hand v).marks
+    pub links_stay : (call : TableStep) → More (is_linked h l) v.marks (row p call found hand v).marks
     links_stay call = notes_stay p v found hand (is_linked h l) link_kept call
 
     of_birth : IsOfBirth (is_linked h l)
@@ -40,7 +40,7 @@ module _ (p : Plan) (v : View) (found : ℕ) (hand : Hand) where
     of_birth _ other = refl
 
     -- a step that makes no life notes none
-    pub links_only : (call : Call) → bears call ≡ none → Less (is_linked h l) v.marks (row p call found hand v).marks
+    pub links_only : (call : TableStep) → bears call ≡ none → Less (is_linked h l) v.marks (row p call found hand v).marks
     links_only call no_birth = births_note p v found hand (is_linked h l) of_birth call no_birth
 
     -- and a birth notes one

@@ -17,14 +17,14 @@ use Rattle.sock_steps.specs.slot_steps.proofs.Sums.{about-other}
 use Rattle.sock_steps.specs.slot_steps.proofs.Numbers.{only-else}
 use Rattle.sock_steps.specs.slot_steps.proofs.Slots.{stage_is, hold_is, probe_is}
 use Rattle.sock_steps.proofs.Quiet.{either_way, Less, More, less_add, less_all, less_without, more_add, more_all, more_without}
-use Rattle.seat_programs.specs.Calls.{Call, CreateLife, SubRef}
+use Rattle.seat_programs.specs.Calls.{TableStep, CreateLife, SubRef}
 use Rattle.seat_programs.specs.StepTables.{row}
 use Rattle.program_steps.proofs.Marking.{is_taken, is_of_birth, marks_way}
 use Rattle.sock_words.specs.Words.{vref_version, vref_nref}
 use Rattle.sock_words.specs.Totals.{total}
 
 -- the slot in which a step makes a life
-abbrev pub bears : Call → Option ℕ
+abbrev pub bears : TableStep → Option ℕ
 bears (CreateLife i k) = some i
 bears _ = none
 
@@ -66,7 +66,7 @@ module _ (p : Plan) (v : View) (found : ℕ) (hand : Hand) where
         (drop i is_probe (λ x q. none_ x (ap may_go (probe_is x q)))) (drop i (is_hold (w - w % 2)) (λ x q. none_ x (ap may_go (hold_is (w - w % 2) x q))))
 
     -- what was noted stays
-    pub notes_stay : (call : Call) → More f v.marks (row p call found hand v).marks
+    pub notes_stay : (call : TableStep) → More f v.marks (row p call found hand v).marks
     notes_stay (CreateLife i k) = let g : ℕ = vref_version found in let left : List SlotMark = without_at i (is_stage 3 k) v.marks in
         add i (Known g) (at i (Born g) ∷ at i (Linked g k) ∷ left) (add i (Born g) (at i (Linked g k) ∷ left) (add i (Linked g k) left (drop i (is_stage 3 k) (λ x q. none_ x (ap may_go (stage_is 3 k x q))))))
     notes_stay (SubRef i) = let w : ℕ = vref_version found in let left : List SlotMark = without_at i (back i found v) v.marks in
@@ -81,7 +81,7 @@ module _ (p : Plan) (v : View) (found : ℕ) (hand : Hand) where
     as_many = less_all f v.marks
 
     -- a step that makes no life notes none
-    pub births_note : (call : Call) → bears call ≡ none → Less f v.marks (row p call found hand v).marks
+    pub births_note : (call : TableStep) → bears call ≡ none → Less f v.marks (row p call found hand v).marks
     births_note (CreateLife i k) no_birth = absurd (some-ne-none i no_birth)
     births_note (SubRef i) no_birth = let w : ℕ = vref_version found in let left : List SlotMark = without_at i (back i found v) v.marks in let fewer = less_without f v.marks i (back i found v) in
         either_way (w % 2 == 1) (cond (vref_nref found == 1) (at i (Zero w) ∷ left) left) left Fewer
@@ -94,7 +94,7 @@ module _ (p : Plan) (v : View) (found : ℕ) (hand : Hand) where
     failer_kept _ goes_ = refl
 
     -- who failed a life stays noted
-    pub failers_stay : (call : Call) → More (is_failer h) v.marks (row p call found hand v).marks
+    pub failers_stay : (call : TableStep) → More (is_failer h) v.marks (row p call found hand v).marks
     failers_stay call = notes_stay (is_failer h) failer_kept call
 
     of_birth : IsOfBirth (is_born h)
@@ -102,7 +102,7 @@ module _ (p : Plan) (v : View) (found : ℕ) (hand : Hand) where
     of_birth _ other = refl
 
     -- a step that makes no life notes none
-    pub births_only : (call : Call) → bears call ≡ none → Less (is_born h) v.marks (row p call found hand v).marks
+    pub births_only : (call : TableStep) → bears call ≡ none → Less (is_born h) v.marks (row p call found hand v).marks
     births_only call no_birth = births_note (is_born h) of_birth call no_birth
 
     -- and a birth notes one life

@@ -17,7 +17,7 @@ use Rattle.sock_steps.proofs.SlotSteps.{claim_law, add_law, sub_law, set_odd_law
 use Rattle.sock_steps.proofs.Places.{own_count}
 use Rattle.sock_steps.proofs.Birth.{birth_law, reset_law}
 use Rattle.sock_steps.proofs.End.{recycle_law}
-use Rattle.seat_programs.specs.Calls.{Call, ClaimSlot, CreateLife, AddRef, SubRef, SetOdd, Recycle, FreeSlot, StoreLink, LoadLink, ResetHead, ClearCode, StoreCode}
+use Rattle.seat_programs.specs.Calls.{TableStep, ClaimSlot, CreateLife, AddRef, SubRef, SetOdd, Recycle, FreeSlot, StoreLink, LoadLink, ResetHead, ClearCode, StoreCode}
 use Rattle.seat_programs.specs.StepTables.{word_of, word_after}
 use Rattle.seat_programs.specs.Cores.{found_at, words_after}
 use Rattle.seat_programs.specs.StepTables.{row, hand_at}
@@ -25,7 +25,7 @@ use Rattle.seat_programs.specs.StepTables.{May}
 use Rattle.program_steps.proofs.Bounds.{fits, has_room, law}
 
 -- the rule holds behind a step of seat i, which has this view, on one word
-abbrev pub KeepsWord : Plan → State Home View → ℕ → View → Call → Type 0
+abbrev pub KeepsWord : Plan → State Home View → ℕ → View → TableStep → Type 0
 KeepsWord p s i v call = let found = found_at s.words (word_of p call) in
     Lawful (λ home. home) p record { words = words_after s.words (word_of p call) (word_after call found); homes = s.homes; views = set s.views i (row p call found (hand_at p s.words s.homes call) v) }
 

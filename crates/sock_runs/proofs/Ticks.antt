@@ -10,7 +10,7 @@ use Rattle.sock_model.specs.declared.home.Home.TheVariants.{Link, Message}
 use Rattle.sock_model.specs.declared.view.View.{View}
 use Rattle.sock_model.specs.declared.view.Hand.{Hand}
 use Rattle.sock_model.specs.Lawful.{Lawful}
-use Rattle.seat_programs.specs.Calls.{Call, ClaimSlot, CreateLife, AddRef, SubRef, SetOdd, Recycle, FreeSlot, StoreLink, LoadLink, ResetHead, ClearCode, StoreCode, StoreName, LoadName, StoreOpen, LoadOpen, TakeLink, FinishLink, PutLink, LookWord, FindLink, LoadCode, ClaimRequest, PutMessage, Unconnect, SwapHead, Connect, EmptyHead, ReadNext, ReverseNext, FreeRequest, StorePlace, DropPlace}
+use Rattle.seat_programs.specs.Calls.{TableStep, ClaimSlot, CreateLife, AddRef, SubRef, SetOdd, Recycle, FreeSlot, StoreLink, LoadLink, ResetHead, ClearCode, StoreCode, StoreName, LoadName, StoreOpen, LoadOpen, TakeLink, FinishLink, PutLink, LookWord, FindLink, LoadCode, ClaimRequest, PutMessage, Unconnect, SwapHead, Connect, EmptyHead, ReadNext, ReverseNext, FreeRequest, StorePlace, DropPlace}
 use Rattle.seat_programs.specs.Programs.{Program, Do}
 use Rattle.seat_programs.specs.Cores.{Core, SeatState, found_at, words_after, homes_after, hand_after, first_of, stepped}
 use Rattle.seat_programs.specs.StepTables.{word_of, word_after}
@@ -31,14 +31,14 @@ use Rattle.program_steps.proofs.Cases.{found_fits, tick_cases}
 -- ## The view after a step
 
 module _ (p : Plan) (c : Core) (vs : List View) (o : Lawful (λ home. home) p (state c vs)) (i : ℕ) (v : View) (at : get_elem? vs i ≡ some v) (hand : List Home) (held : AreHeld hand v.rights v.hands) (sized : length c.homes ≡ p.requests + p.links) where
-  abbrev found : Call → ℕ
+  abbrev found : TableStep → ℕ
   found call = found_at c.words (word_of p call)
 
-  abbrev after : Call → View
+  abbrev after : TableStep → View
   after call = row p call (found_at c.words (word_of p call)) (hand_at p c.words c.homes call) v
 
   -- the rule holds behind the step
-  keeps_rule : (call : Call) → May p v call → Lawful (λ home. home) p record { words = words_after c.words (word_of p call) (word_after call (found call)); homes = homes_after p call hand c.homes; views = set vs i (after call) }
+  keeps_rule : (call : TableStep) → May p v call → Lawful (λ home. home) p record { words = words_after c.words (word_of p call) (word_after call (found call)); homes = homes_after p call hand c.homes; views = set vs i (after call) }
   keeps_rule (ClaimSlot j) may = slots.claims p (state c vs) o i v at j may
   keeps_rule (CreateLife j k) may = slots.bears p (state c vs) o i v at j k may
   keeps_rule (AddRef id) may = slots.adds p (state c vs) o i v at id may
@@ -75,7 +75,7 @@ module _ (p : Plan) (c : Core) (vs : List View) (o : Lawful (λ home. home) p (s
 
 -- ## All seats
 
-pub homes_sized : (p : Plan) (call : Call) (hand : List Home) (hs : List (Option Home)) → length (homes_after p call hand hs) ≡ length hs
+pub homes_sized : (p : Plan) (call : TableStep) (hand : List Home) (hs : List (Option Home)) → length (homes_after p call hand hs) ≡ length hs
 homes_sized p (TakeLink k) hand hs = length-set hs (p.requests + k) none
 homes_sized p (PutLink k) hand hs = length-set hs (p.requests + k) (first_of hand)
 homes_sized p (PutMessage q heading bytes) hand hs = length-set hs q (some (Message heading bytes))
@@ -87,7 +87,7 @@ first_link [] hands are heading bytes e = some-ne-none (Message heading bytes) (
 first_link (x ∷ xs) [] are heading bytes e = are
 first_link (x ∷ xs) (h ∷ hs) are heading bytes e = let q : Link h.link h.took h.next are.0.0 ≡ Message heading bytes = sym are.0.1 ∙ some-injective x (Message heading bytes) e in cc
 
-labels_stay : (p : Plan) (v : View) (call : Call) → May p v call → (hand : List Home) → AreHeld hand v.rights v.hands → (hs : List (Option Home)) → AreLabelled p hs → AreLabelled p (homes_after p call hand hs)
+labels_stay : (p : Plan) (v : View) (call : TableStep) → May p v call → (hand : List Home) → AreHeld hand v.rights v.hands → (hs : List (Option Home)) → AreLabelled p hs → AreLabelled p (homes_after p call hand hs)
 labels_stay p v (TakeLink k) may hand held hs labels i heading bytes at = ⊎_elim (λ a. absurd (some-ne-none (Message heading bytes) (sym a.1))) (λ a. labels i heading bytes a.1) (at_set hs (p.requests + k) i none (some (Message heading bytes)) at)
 labels_stay p v (PutLink k) may hand held hs labels i heading bytes at = ⊎_elim (λ a. absurd (first_link hand v.hands (held_in_hand hand v.rights v.hands may.2 held) heading bytes a.1)) (λ a. labels i heading bytes a.1) (at_set hs (p.requests + k) i (first_of hand) (some (Message heading bytes)) at)
 labels_stay p v (PutMessage q l cs) may hand held hs labels i heading bytes at = ⊎_elim
@@ -97,7 +97,7 @@ labels_stay p v _ may hand held hs labels i heading bytes at = labels i heading 
 
 module _ (p : Plan) (retries_go : RetriesGo p) (c : Core) (vs : List View) (i : ℕ) (sound : Sound p c vs) where
   -- a step of the seat i
-  pub step_sound : (seat : SeatState) (v : View) (call : Call) (next : ℕ → Program) → get_elem? c.seats i ≡ some seat → get_elem? vs i ≡ some v → GoesOn p v (Do call next)
+  pub step_sound : (seat : SeatState) (v : View) (call : TableStep) (next : ℕ → Program) → get_elem? c.seats i ≡ some seat → get_elem? vs i ≡ some v → GoesOn p v (Do call next)
       → Sound p (stepped p i seat call next c) (set vs i (row p call (found_at c.words (word_of p call)) (hand_at p c.words c.homes call) v))
   step_sound seat v call next at_seat at_view goes = let may = goes.0 in let old = sound.seats i seat v at_seat at_view in let found : ℕ = found_at c.words (word_of p call) in let hand : Hand = hand_at p c.words c.homes call in let w : View = row p call found hand v in
       reseats p retries_go c vs sound i seat v at_seat at_view (next found) (hand_after p call c.homes seat.hand) (words_after c.words (word_of p call) (word_after call found)) (homes_after p call seat.hand c.homes) w

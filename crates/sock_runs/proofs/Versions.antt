@@ -13,7 +13,7 @@ use Rattle.sock_model.specs.Slots.{count, live}
 use Rattle.sock_model.specs.References.{slot_facts}
 use Rattle.sock_steps.specs.slot_steps.proofs.Numbers.{life_is, or-even, or-odd}
 use Rattle.sock_steps.proofs.Places.{own_count}
-use Rattle.seat_programs.specs.Calls.{Call, CreateLife, AddRef, SubRef, SetOdd, Recycle, LookWord}
+use Rattle.seat_programs.specs.Calls.{TableStep, CreateLife, AddRef, SubRef, SetOdd, Recycle, LookWord}
 use Rattle.seat_programs.specs.Cores.{Core, found_at, words_after}
 use Rattle.seat_programs.specs.TableWords.{RefOf}
 use Rattle.seat_programs.specs.StepTables.{word_of, word_after, hand_at, May, Finds}
@@ -26,16 +26,16 @@ module _ (p : Plan) (c : Core) (vs : List View) (sound : Sound p c vs) (i : ℕ)
   abbrev pub version : ℕ → ℕ
   version j = vref_version (get_or c.words (ref_index j) 0)
 
-  abbrev pub after : Call → List ℕ
+  abbrev pub after : TableStep → List ℕ
   after call = words_after c.words (word_of p call) (word_after call (found_at c.words (word_of p call)))
 
-  abbrev pub version_after : Call → ℕ → ℕ
+  abbrev pub version_after : TableStep → ℕ → ℕ
   version_after call j = vref_version (get_or (after call) (ref_index j) 0)
 
-  abbrev GoesOn : Call → ℕ → Type 0
+  abbrev GoesOn : TableStep → ℕ → Type 0
   GoesOn call j = version j ≤ version_after call j
 
-  found : (call : Call) → May p v call → Finds p v call (found_at c.words (word_of p call)) (hand_at p c.words c.homes call)
+  found : (call : TableStep) → May p v call → Finds p v call (found_at c.words (word_of p call)) (hand_at p c.words c.homes call)
   found call may = finds p (state c vs) sound.lawful i v at sound.limits.slots call may
 
   -- another word
@@ -60,7 +60,7 @@ module _ (p : Plan) (c : Core) (vs : List View) (sound : Sound p c vs) (i : ℕ)
       by_hit false e = omega arith
 
   -- a version never goes back
-  pub versions_on : (call : Call) → May p v call → (j : ℕ) → j < p.slots → GoesOn call j
+  pub versions_on : (call : TableStep) → May p v call → (j : ℕ) → j < p.slots → GoesOn call j
   versions_on (CreateLife n k) may j inside = let f = (found (CreateLife n k) may).0 in own j n (get_or c.words (ref_index n) 0 + 1) inside (omega (arith, f))
   versions_on (AddRef id) may j inside = let f = found (AddRef id) may in own j (socket_id_slot id) (get_or c.words (ref_index (socket_id_slot id)) 0 + 1) inside (omega (arith, f))
   versions_on (SubRef n) may j inside = let f = (found (SubRef n) may).0 in let m = may.1 in own j n (get_or c.words (ref_index n) 0 - 1) inside (omega (arith, f, m))

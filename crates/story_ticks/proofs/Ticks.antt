@@ -17,7 +17,7 @@ use Rattle.sock_model.specs.Reads.{message, link_home}
 use Rattle.corr_core.specs.declared.marks.Plan.{Plan as IdPlan}
 use Rattle.seat_programs.specs.declared.task.Op.TheVariants as ops
 use Rattle.seat_programs.specs.declared.task.Task.{Task}
-use Rattle.seat_programs.specs.Calls.{Call, StoreName, LoadName, LoadCode}
+use Rattle.seat_programs.specs.Calls.{TableStep, StoreName, LoadName, LoadCode}
 use Rattle.seat_programs.specs.Asides.{Step, Taking, Found}
 use Rattle.seat_programs.specs.Heads.{Retry}
 use Rattle.seat_programs.specs.Programs.{Program, Do, Say, Sent, Rest, TakeMessage, TakeHome, PutHome, PutBytes, AskReady, Write, Aside, Round, Keep, Retries}
@@ -221,7 +221,7 @@ module _ (p : Plan) (q : IdPlan) (clients : List (List Task)) (gives : ℕ → L
     client_is : m.client ≡ i
     client_is = story.tasks.client i m at
 
-    finds_do : (x : View) (call : Call) → May p x call → MayDo p q clients gives call → (v : Scene) → v.core.words ≡ words_after w.core.words (word_of p call) (word_after call (found_at w.core.words (word_of p call))) → Later p q clients gives w v → FindsDo p q clients gives v m call (found_at w.core.words (word_of p call))
+    finds_do : (x : View) (call : TableStep) → May p x call → MayDo p q clients gives call → (v : Scene) → v.core.words ≡ words_after w.core.words (word_of p call) (word_after call (found_at w.core.words (word_of p call))) → Later p q clients gives w v → FindsDo p q clients gives v m call (found_at w.core.words (word_of p call))
     finds_do x (StoreName n word) in_ may v words l = (in_.0, (λ e. may (sym (ap (λ ws. get_or ws (name_index p n) 0) words ∙ get_or-set_same w.core.words (name_index p n) word 0 (omega (arith, sized, in_.0))) ∙ e)))
     finds_do x (LoadName n) in_ may v words l = (
       (λ none_. (

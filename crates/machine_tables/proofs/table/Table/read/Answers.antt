@@ -28,7 +28,7 @@ returns-in-Some-clause-ok g c =
     (c.follow_call.ensures c.self.inside.calls.items c.self.inside.outcomes.items) refl refl refl))
 
 pub read_call-requires-clause-may : goal.read_call-requires-clause-may
-read_call-requires-clause-may g c = subst (λ (s : ReadStep). IsFitRead c.args.self.now c.args.reader.now s) c.in-Call.is c.requires.may
+read_call-requires-clause-may g c = subst (λ (s : ReadStep). IsFitRead c.args.self.now c.args.reader.now s) c.in-Table.is c.requires.may
 
 pub read_bytes-requires-clause-may : goal.read_bytes-requires-clause-may
 read_bytes-requires-clause-may g c κs within =

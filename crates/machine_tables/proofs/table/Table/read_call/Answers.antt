@@ -27,7 +27,7 @@ returns-clause-ok g c =
     let holders = written c.self.inside.holders.len c.pass_link.new.holders _ (omega (arith, c.self.inside.holders.ok)) ∙ (rw c.deref_mut-2.ensures.value at c.pass_link.ensures) in
     let halves = halves_in (λ e. g.O.Out.state e.out) (λ e. g.I.In.state e.inn) (λ e. end_of (g.O.Out.state e.out) (g.I.In.state e.inn)) (step_of c.args.call) c.deref_mut-3.ensures.value (written c.self.inside.ends.len c.end_link.new.ends _ (omega (arith, c.self.inside.ends.ok))) c.end_link.ensures.outs c.end_link.ensures.inns c.end_link.ensures.ends in
     let words = written c.self.inside.words.len c.step_word-found.new.words _ (omega (arith, c.self.inside.words.ok)) ∙ (rw c.deref_mut.ensures.value at c.step_word-found.ensures.words) in
-    let next = next_along reader (steps.Call c.args.call) c.self.view_is c.requires.may.next in
+    let next = next_along reader (steps.Table c.args.call) c.self.view_is c.requires.may.next in
     let goes = goes_as (λ (cs : List ℕ). after_word (reader_program cs reader) c.step_word-found.result) c.follow_word.new.self c.deref.ensures.value c.deref_mut-4.ensures.value outcomes c.in-Ok.ensures in
     let awaited = awaited_at (around c.self.inside.calls.items reader) c.point-point.result reader.point c.step_word-found.result c.awaited_by_reader.result c.point-point.ensures c.awaited_by_reader.ensures.waits c.awaited_by_reader.ensures.on in
     elim c.match-awaited_by_reader.branch [
