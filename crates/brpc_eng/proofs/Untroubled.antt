@@ -19,7 +19,7 @@ use Rattle.seat_programs.specs.declared.task.Op.TheVariants as ops
 use Rattle.seat_programs.specs.Cores.{Core}
 use Rattle.seat_programs.specs.Tasks.{name_number, numbered, op_of, plan_of}
 use Rattle.seat_programs.specs.Scripts.{Reports, all_tasks, is_callless}
-use Rattle.seat_programs.specs.ToldCalls.{Fixed, Order, ToldCalls}
+use Rattle.seat_programs.specs.ToldCalls.{Fixed, Order, ExplainedCalls}
 use Rattle.script_threads.specs.script_parts.specs.report_fits.specs.Ends.{AreEndsOf}
 use Rattle.script_threads.specs.script_parts.specs.script_facts.proofs.Lists.{Has, has_from, contains_from, all_at, some_is}
 use Rattle.script_threads.specs.script_parts.specs.report_fits.proofs.Callless.{not_later}
@@ -150,7 +150,7 @@ complete g callless in_time untroubled = record {
 }
 
 module _ (bytes : List ℕ) (script : List Item) (reads : script_of bytes ≡ Ok script) (core : Core) (fixed : Fixed) (gave : ℕ → List ℕ) (orders : ℕ → Order) (long : length core.outcomes ≡ length (operations script))
-    (tells : ToldCalls (plan_of script) (all_tasks script) core.outcomes fixed gave orders core) (report : Report) (took : List (List ℕ)) (ends : List LinkEnd) (reports : Reports script core took report) (told : AreTold ends took) (given : AreEndsOf script core fixed gave ends) where
+    (tells : ExplainedCalls (plan_of script) (all_tasks script) core.outcomes fixed gave orders core) (report : Report) (took : List (List ℕ)) (ends : List LinkEnd) (reports : Reports script core took report) (told : AreTold ends took) (given : AreEndsOf script core fixed gave ends) where
   abbrev all_given : Given
   all_given = record { run = known_of bytes script reads core fixed gave orders long tells; report = report; took = took; ends = ends; reports = reports; told = told; given = given }
 

@@ -53,7 +53,7 @@ module _ (p : Plan) (clients : List (List Task)) (outcomes : List (Option Outcom
   WhyInPart last c o (ops.Join t) outcome = WhyJoin p clients outcomes fixed gave orders last c o t outcome
   WhyInPart last c o op outcome = ⊥
 
-  -- the fields of `ToldCalls` that speak of these tasks, but that `why` tells so much only of a call that failed; last o is the last attempt of operation o
+  -- the fields of `ExplainedCalls` that speak of these tasks, but that `why` tells so much only of a call that failed; last o is the last attempt of operation o
   pub record ToldOnCallsInPart (last : ℕ → ℕ) : Type 0 where
     pub told : (client : ℕ) (t : Task) → IsTask clients outcomes client t → IsOnCalls t.op → (outcome : Outcome) × Became clients outcomes t.number outcome
     pub why : (client : ℕ) (t : Task) (outcome : Outcome) → IsTask clients outcomes client t → IsOnCalls t.op → Became clients outcomes t.number outcome → WhyInPart last client t.number t.op outcome

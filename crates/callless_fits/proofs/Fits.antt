@@ -10,7 +10,7 @@ use Rattle.brpc_model.specs.Complete.{Completeness}
 use Rattle.seat_programs.specs.Cores.{Core}
 use Rattle.seat_programs.specs.Scripts.{all_tasks, is_callless, is_later, place_words}
 use Rattle.seat_programs.specs.Tasks.{plan_of}
-use Rattle.seat_programs.specs.ToldCalls.{Fixed, ToldCalls}
+use Rattle.seat_programs.specs.ToldCalls.{Fixed, ExplainedCalls}
 use Rattle.sock_deeds.specs.report_fits.specs.Ends.{IsEndOf, AreEndsOf}
 use Rattle.sock_deeds.specs.report_fits.proofs.Callless.{not_later}
 use Rattle.sock_deeds.specs.report_fits.proofs.Fitting.{fits_run}
@@ -33,7 +33,7 @@ module _ (s : SocketRun) (callless : is_callless s.script ≡ true) (places : Li
   abbrev last_core : Core
   last_core = core_with core outcomes
 
-  told_of_sockets : ToldCalls (plan_of script) (all_tasks script) outcomes fixed gave orders last_core
+  told_of_sockets : ExplainedCalls (plan_of script) (all_tasks script) outcomes fixed gave orders last_core
   told_of_sockets = told_callless script callless outcomes fixed gave orders core tells long (subst (λ (l : List PlaceWord). HasEachOutcome l outcomes) (sym words) each)
 
   end_still : (k : ℕ) (e : LinkEnd) → IsEndOf (plan_of script) core fixed gave k e → IsEndOf (plan_of script) last_core fixed gave k e

@@ -24,7 +24,7 @@ use Rattle.seat_programs.specs.Cores.{Core}
 use Rattle.seat_programs.specs.Scripts.{all_tasks, place_words}
 use Rattle.seat_programs.specs.Tasks.{Numbered, name_number, numbered, asked_of, op_of, plan_of}
 use Rattle.seat_programs.specs.Told.{IsTask, Became, Made, OpensNone, IsNoLater, IsFail}
-use Rattle.seat_programs.specs.ToldCalls.{Accepted, Order, Fixed, StandsAt, StandsOn, FoundNone, FailingBy, Seeks, IsSent, OfSend, OfCall, Why, all_accepted, label}
+use Rattle.seat_programs.specs.ToldCalls.{Accepted, Order, Fixed, StandsAt, StandsOn, FoundNone, FailingBy, Seeks, IsSent, OfSend, OfCall, OutcomeCause, all_accepted, label}
 use Rattle.sock_deeds.specs.report_fits.specs.Ends.{AreEndsOf}
 use Rattle.sock_deeds.specs.script_facts.proofs.Lists.{Has, has_from, contains_from, within, some_is, all_at}
 use Rattle.sock_deeds.specs.script_facts.proofs.Labels as labels
@@ -68,7 +68,7 @@ pub record ToldRun : Type 0 where
   pub ends : List LinkEnd
   pub given : AreEndsOf script core (fixed_by broken early fails) gave ends
 
-opened_is : (p : _) (clients : List (List Task)) (outcomes : List (Option Outcome)) (fixed : Fixed) (gave : ℕ → List ℕ) (orders : ℕ → Order) (last : ℕ → ℕ) (c o : ℕ) (op : Op) (slot version l : ℕ) → IsOfSockets op → Why p clients outcomes fixed gave orders last c o op (Opened slot version l) → (n : ℕ) × (op ≡ ops.Open n l)
+opened_is : (p : _) (clients : List (List Task)) (outcomes : List (Option Outcome)) (fixed : Fixed) (gave : ℕ → List ℕ) (orders : ℕ → Order) (last : ℕ → ℕ) (c o : ℕ) (op : Op) (slot version l : ℕ) → IsOfSockets op → OutcomeCause p clients outcomes fixed gave orders last c o op (Opened slot version l) → (n : ℕ) × (op ≡ ops.Open n l)
 opened_is p clients outcomes fixed gave orders last c o (ops.Open n k) slot version l on w = (n, ap (ops.Open n) (sym w.0))
 opened_is p clients outcomes fixed gave orders last c o (ops.Call asked) slot version l on w = absurd on
 opened_is p clients outcomes fixed gave orders last c o (ops.Expire t) slot version l on w = absurd on
@@ -105,7 +105,7 @@ module _ (r : ToldRun) where
   Stands k i a = StandsAt r.orders k i a
 
   abbrev pub WhyAt : ℕ → ℕ → Op → Outcome → Type 0
-  WhyAt c i op o = Why (plan_of r.script) Tasks r.outcomes fixed r.gave r.orders r.last c i op o
+  WhyAt c i op o = OutcomeCause (plan_of r.script) Tasks r.outcomes fixed r.gave r.orders r.last c i op o
 
   abbrev pub Words : List PlaceWord
   Words = place_words (plan_of r.script) r.core.words

@@ -13,7 +13,7 @@ use Rattle.seat_programs.specs.Cores.{Core}
 use Rattle.seat_programs.specs.Scripts.{all_tasks, is_callless, place_words}
 use Rattle.seat_programs.specs.Tasks.{plan_of}
 use Rattle.seat_programs.specs.Told.{IsTask}
-use Rattle.seat_programs.specs.ToldCalls.{Accepted, Order, Fixed, AreOrders, ToldCalls}
+use Rattle.seat_programs.specs.ToldCalls.{Accepted, Order, Fixed, AreOrders, ExplainedCalls}
 use Rattle.sock_deeds.specs.script_facts.proofs.Lists.{all_map}
 use Rattle.sock_deeds.specs.Told.{IsOfSockets, IsAttempt, ToldSockets}
 use Rattle.callless_fits.proofs.Each.{IsSentHere, none_tried, told_each}
@@ -48,7 +48,7 @@ module _ (script : List Item) (callless : is_callless script ≡ true) (outcomes
     orders_still = let o = tells.are_orders in record { written = o.written; alone = o.alone; within = o.within; taken = o.taken; apart = o.apart }
 
     -- all that is told of the run
-    pub told_callless : ToldCalls (plan_of script) (all_tasks script) outcomes fixed gave orders (core_with core outcomes)
+    pub told_callless : ExplainedCalls (plan_of script) (all_tasks script) outcomes fixed gave orders (core_with core outcomes)
     told_callless = record {
       last = none_tried;
       are_orders = orders_still;

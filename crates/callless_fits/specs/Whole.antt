@@ -11,7 +11,7 @@ use Rattle.brpc_model.specs.Complete.{Completeness}
 use Rattle.seat_programs.specs.Cores.{Core}
 use Rattle.seat_programs.specs.Scripts.{all_tasks, place_words}
 use Rattle.seat_programs.specs.Tasks.{plan_of}
-use Rattle.seat_programs.specs.ToldCalls.{Fixed, Order, ToldCalls}
+use Rattle.seat_programs.specs.ToldCalls.{Fixed, Order, ExplainedCalls}
 use Rattle.sock_deeds.specs.report_fits.specs.Ends.{AreEndsOf}
 
 -- where the link of this end was opened with `serve`, its other end gave nothing, and no end: so does a server that is asked nothing
@@ -29,7 +29,7 @@ pub record IsWholeText (script : List Item) (text : List ℕ) (gave : ℕ → Li
   pub fixed : Fixed
   -- what each link accepted, and how many messages it took whole
   pub orders : ℕ → Order
-  pub tells : ToldCalls (plan_of script) (all_tasks script) core.outcomes fixed gave orders core
+  pub tells : ExplainedCalls (plan_of script) (all_tasks script) core.outcomes fixed gave orders core
   -- the links are those of this run: they took what is at home, gave what is said of them, and show where they failed
   pub ends_told : AreEndsOf script core fixed gave ends
   -- its outcomes and place words are reported, and with them what the links are said to have taken

@@ -26,7 +26,7 @@ use Rattle.served_fits.specs.Below.script_facts.proofs.Labels.{range_small, lack
 use Rattle.seat_programs.specs.Cores.{Core}
 use Rattle.seat_programs.specs.Scripts.{all_tasks, played, IsRunWithCalls}
 use Rattle.seat_programs.specs.Tasks.{plan_of}
-use Rattle.seat_programs.specs.ToldCalls.{Accepted, Fixed, ToldCalls, label}
+use Rattle.seat_programs.specs.ToldCalls.{Accepted, Fixed, ExplainedCalls, label}
 use Rattle.served_fits.specs.Below.programs_allowed.specs.program_walks.proofs.Whole.{views_played}
 use Rattle.served_fits.specs.Below.outcome_stories.proofs.Delivered.{accepted_of, accepted_at, used_once}
 use Rattle.served_fits.specs.Below.joint_runs.proofs.Runs.{AreMade, first_views}
@@ -56,7 +56,7 @@ module _ (o n : ℕ) where
       by (inr none_) other = inr (none_here other none_)
 
 module _ (bytes : List ℕ) (script : List Item) (reads : script_of bytes ≡ Ok script) (made : AreMade script) (turns : List Turn) (core : Core) (is : IsRunWithCalls script turns core) (closes : ClosesInRun script turns core is) (fixed : Fixed) (gave : ℕ → List ℕ)
-    (tells : ToldCalls (plan_of script) (all_tasks script) core.outcomes fixed gave (orders_of_run script made turns core is closes) core) (long : length core.outcomes ≡ length (operations script)) where
+    (tells : ExplainedCalls (plan_of script) (all_tasks script) core.outcomes fixed gave (orders_of_run script made turns core is closes) core) (long : length core.outcomes ≡ length (operations script)) where
   abbrev rested : Core
   rested = played script is.setup (is.scheduled ++ is.later)
 

@@ -16,7 +16,7 @@ use Rattle.served_fits.specs.Below.script_facts.proofs.Targets.{AreThere, are_th
 use Rattle.seat_programs.specs.Cores.{Core}
 use Rattle.seat_programs.specs.Scripts.{Reports, all_tasks, IsRunWithCalls}
 use Rattle.seat_programs.specs.Tasks.{plan_of}
-use Rattle.seat_programs.specs.ToldCalls.{Order, Fixed, ToldCalls}
+use Rattle.seat_programs.specs.ToldCalls.{Order, Fixed, ExplainedCalls}
 use Rattle.served_fits.specs.Below.outcome_stories.specs.Facts.{broken_of_run}
 use Rattle.served_fits.specs.Below.joint_runs.proofs.Runs.{AreMade}
 use Rattle.served_fits.specs.Below.call_owing.specs.Lives.{ClosesInRun}
@@ -37,7 +37,7 @@ pub record CalmRun : Type 0 where
   pub offers : OffersInRun script turns core is
   pub fixed : Fixed
   pub orders : ℕ → Order
-  pub tells : ToldCalls (plan_of script) (all_tasks script) core.outcomes fixed (gave_in core) orders core
+  pub tells : ExplainedCalls (plan_of script) (all_tasks script) core.outcomes fixed (gave_in core) orders core
   pub report : Report
   pub took : List (List ℕ)
   pub ends : List LinkEnd

@@ -17,7 +17,7 @@ use Rattle.seat_programs.specs.Cores.{Core}
 use Rattle.seat_programs.specs.Scripts.{all_tasks, played}
 use Rattle.seat_programs.specs.Tasks.{plan_of}
 use Rattle.seat_programs.specs.Told.{Became}
-use Rattle.seat_programs.specs.ToldCalls.{Order, Fixed, ToldCalls, IsSent, OfSend, OfCall}
+use Rattle.seat_programs.specs.ToldCalls.{Order, Fixed, ExplainedCalls, IsSent, OfSend, OfCall}
 use Rattle.served_fits.specs.Below.programs_allowed.specs.program_steps.specs.Sound.{state}
 use Rattle.served_fits.specs.Below.programs_allowed.specs.program_walks.proofs.Whole.{views_played}
 use Rattle.served_fits.specs.Below.outcome_stories.proofs.Delivered.{accepted_of}
@@ -52,7 +52,7 @@ module _ (calm : CalmRun) where
   abbrev own_orders : ℕ → Order
   own_orders = orders_of_run script (made bytes script reads) turns core is closes
 
-  pub own_told : ToldCalls (plan_of script) (all_tasks script) core.outcomes own_fixed (gave_in core) own_orders core
+  pub own_told : ExplainedCalls (plan_of script) (all_tasks script) core.outcomes own_fixed (gave_in core) own_orders core
   own_told = told_of_run script (are_made calm) (targets calm) (range calm) turns core is closes bytes reads
 
   -- ## A message

@@ -12,7 +12,7 @@ use Rattle.served_fits.specs.Below.report_fits.specs.Ends.{AreEndsOf}
 use Rattle.served_fits.specs.Below.report_fits.proofs.Places.{lateness}
 use Rattle.seat_programs.specs.Cores.{Core}
 use Rattle.seat_programs.specs.Tasks.{plan_of}
-use Rattle.seat_programs.specs.ToldCalls.{Order, Fixed, ToldCalls}
+use Rattle.seat_programs.specs.ToldCalls.{Order, Fixed, ExplainedCalls}
 use Rattle.seat_programs.specs.Scripts.{Reports, all_tasks, IsRunWithCalls}
 use Rattle.served_fits.specs.Below.outcome_stories.specs.Facts.{broken_of_run}
 use Rattle.served_fits.specs.Below.call_owing.specs.Lives.{ClosesInRun}
@@ -28,7 +28,7 @@ use Rattle.served_fits.specs.Below.accept_counts.proofs.Standing.{unlocked}
 use Rattle.calls_over.proofs.Soon.{no_open_call}
 
 module _ (bytes : List ℕ) (script : List Item) (reads : script_of bytes ≡ Ok script) (short : length bytes ≤ 1048576) (turns : List Turn) (core : Core) (is : IsRunWithCalls script turns core) (closes : ClosesInRun script turns core is) (offers : OffersInRun script turns core is) (fixed : Fixed)
-    (orders : ℕ → Order) (tells : ToldCalls (plan_of script) (all_tasks script) core.outcomes fixed (gave_in core) orders core) (so : AreSo script turns core is fixed tells.last) (report : Report) (took : List (List ℕ)) (ends : List LinkEnd)
+    (orders : ℕ → Order) (tells : ExplainedCalls (plan_of script) (all_tasks script) core.outcomes fixed (gave_in core) orders core) (so : AreSo script turns core is fixed tells.last) (report : Report) (took : List (List ℕ)) (ends : List LinkEnd)
     (reports : Reports script core took report) (told : AreTold ends took) (given_back : AreEndsOf script core fixed (gave_in core) ends) (shown : AreShown script turns core is fixed ends) (breaks : (k : ℕ) → Contains (broken_of_run script turns core is) k → Contains fixed.broken k) where
   pub calls_over : fits.CallsAreOver bytes script reads short turns core is closes offers fixed orders tells so report took ends reports told given_back shown
   calls_over client number joins served untroubled i inside = let calm : CalmRun = record { bytes = bytes; script = script; reads = reads; short = short; turns = turns; core = core; is = is; closes = closes; offers = offers; fixed = fixed; orders = orders; tells = tells; report = report; took = took; ends = ends; reports = reports; told = told; given_back = given_back; shown = shown; breaks = breaks; served = served; untroubled = untroubled } in ⊎_elim (λ ended. ended)

@@ -23,7 +23,7 @@ use Rattle.seat_programs.specs.Told.{AreTasks}
 use Rattle.outcome_ticks.specs.program_steps.specs.GoesOn.{GoesOn, HasNothing}
 use Rattle.outcome_ticks.specs.program_steps.specs.Sound.{state, Sound, AllRest}
 use Rattle.outcome_ticks.specs.outcome_stories.specs.Stories.{Entry, Event, In, trace_of}
-use Rattle.outcome_ticks.specs.outcome_stories.specs.Explains.{Way, Done, Explained, Tells, swapped}
+use Rattle.outcome_ticks.specs.outcome_stories.specs.Explains.{Way, Done, IsExplainedBy, Tells, swapped}
 use Rattle.outcome_ticks.specs.outcome_stories.specs.Causes.{Asks}
 use Rattle.outcome_ticks.specs.outcome_stories.specs.Kept.{IsOfCall, of_sends, IsSpoken, undo, AreKept, IsOfTask, EndsIn, AreMade, AreMadeNow, SeatAt, Story}
 use Rattle.outcome_ticks.specs.outcome_stories.proofs.Members.{all_in, all_of, get_within}
@@ -44,7 +44,7 @@ pub record Final (slots requests : ℕ) (clients : List (List Task)) (es : List 
   pub became : slice_get outcomes t.number ≡ Some outcome
   -- the tasks of the client before it
   pub before : List Done
-  pub explained : Explained slots requests before (trace_of c t.number es) t.op outcome
+  pub explained : IsExplainedBy slots requests before (trace_of c t.number es) t.op outcome
   pub tells : AllByRecursion (Tells t.op outcome) (trace_of c t.number es)
   pub falls : Falls before
   pub are : (x : Done) → In x before → Asks clients c x.task × (slice_get outcomes x.task.number ≡ Some x.outcome) × (x.task.number < t.number)
@@ -104,7 +104,7 @@ module _ (slots requests : ℕ) (es : List Event) (outcomes : List (Option Outco
     pub untold : member.outcome ≡ None
     pub of_task : IsOfTask es c member.task e
 
-  none_of : (ds : List Done) (d : Done) (outcome : Option Outcome) → d.outcome ≡ outcome → Explained slots requests ds (trace_of c d.task.number es) d.task.op outcome → swapped (trace_of c d.task.number es) ≡ true → outcome ≡ None
+  none_of : (ds : List Done) (d : Done) (outcome : Option Outcome) → d.outcome ≡ outcome → IsExplainedBy slots requests ds (trace_of c d.task.number es) d.task.op outcome → swapped (trace_of c d.task.number es) ≡ true → outcome ≡ None
   none_of ds d None is x e = refl
   none_of ds d (Some o) is x e = absurd (true≢false (sym e ∙ x.1))
 
@@ -130,7 +130,7 @@ module _ (slots requests : ℕ) (es : List Event) (outcomes : List (Option Outco
   done_made : (done : List Done) (made : List chain.Entry) → AreKept slots requests es c done → AreMade es c done made → (d : Done) → In d done → d.outcome ≡ None → (e : chain.Entry) × In e made × IsOfTask es c d.task e
   done_made [] made k m d n none_ = absurd n
   done_made (x ∷ xs) made k m d (inl same) none_ = let o : x.outcome ≡ None = sym (ap (λ (y : Done). y.outcome) same) ∙ none_ in
-      let swap : swapped (trace_of c x.task.number es) ≡ true = (subst (Explained slots requests xs (trace_of c x.task.number es) x.task.op) o k.0).1 in
+      let swap : swapped (trace_of c x.task.number es) ≡ true = (subst (IsExplainedBy slots requests xs (trace_of c x.task.number es) x.task.op) o k.0).1 in
       let y : EndsIn es c x.task m.0 made true = subst (EndsIn es c x.task m.0 made) swap m.1 in
       (y.0, subst (In y.0) (sym y.1) (in_append m.0 y.0 y.0 (inr refl)), subst (λ (z : Done). IsOfTask es c z.task y.0) (sym same) y.2)
   done_made (x ∷ xs) made k m d (inr n) none_ = let y = done_made xs m.0 k.2 m.2 d n none_ in (y.0, by (swapped (trace_of c x.task.number es)) m.1 y.0 y.1, y.2)

@@ -13,7 +13,7 @@ use Rattle.seat_programs.specs.Programs.{fail_outcome}
 use Rattle.seat_programs.specs.Told.{AreTasks, IsTask, Made, IsFail}
 use Rattle.seat_programs.specs.ToldCalls.{Order, all_accepted}
 use Rattle.outcome_ticks.specs.outcome_stories.specs.Stories.{Entry, Event, In, trace_of, last_name, added_by, marked}
-use Rattle.outcome_ticks.specs.outcome_stories.specs.Explains.{Because, Explained, Tells, TellsFail, FailsLife, FailsLink, holds, step}
+use Rattle.outcome_ticks.specs.outcome_stories.specs.Explains.{Because, IsExplainedBy, Tells, TellsFail, FailsLife, FailsLink, holds, step}
 use Rattle.outcome_ticks.specs.outcome_stories.specs.Causes.{Asks, OddAt, WasGiven, Cause, Good}
 use Rattle.outcome_ticks.specs.outcome_stories.proofs.Members.{all_in, in_contains, contains_in, from_trace, to_trace}
 use Rattle.outcome_ticks.proofs.Events.{event, once, birth_adds, fail_adds, marked_given, given_by, BeforeIn, cause_of, last_some}
@@ -81,7 +81,7 @@ module _ (p : Plan) (clients : List (List Task)) (outcomes : List (Option Outcom
       × In (event a.client a.task.number (StoreName n (socket_id version slot + 1)) x) es
   made_event n k slot version a = let asks = asks_of a.client a.task a.is in let f = world.final a.client a.task asks in
       let q : f.outcome ≡ Some (Opened slot version k) = one_said (slice_get outcomes a.task.number) f.outcome (Some (Opened slot version k)) f.became a.became in
-      let x : Explained p.slots p.requests f.before (trace_of a.client a.task.number es) a.task.op (Some (Opened slot version k)) = subst (Explained p.slots p.requests f.before (trace_of a.client a.task.number es) a.task.op) q f.explained in
+      let x : IsExplainedBy p.slots p.requests f.before (trace_of a.client a.task.number es) a.task.op (Some (Opened slot version k)) = subst (IsExplainedBy p.slots p.requests f.before (trace_of a.client a.task.number es) a.task.op) q f.explained in
       let b : Because p.slots p.requests f.before (trace_of a.client a.task.number es) (ops.Open n k) (Opened slot version k) = subst (λ z. Because p.slots p.requests f.before (trace_of a.client a.task.number es) z (Opened slot version k)) a.op x.0 in
       (b.1, b.2, from_trace a.client a.task.number es (step (CreateLife slot k) b.1) b.3, sym b.4, from_trace a.client a.task.number es (step (StoreName n (socket_id version slot + 1)) b.2) b.5)
 

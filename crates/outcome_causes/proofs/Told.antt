@@ -22,7 +22,7 @@ use Rattle.seat_programs.specs.Told.{AreTasks, IsOpen, IsTask, Became, Made, IsF
 use Rattle.seat_programs.specs.ToldCalls.{Accepted, Order, StandsAt}
 use Rattle.outcome_ticks.specs.program_steps.specs.Sound.{state, Sound, AllRest}
 use Rattle.outcome_ticks.specs.outcome_stories.specs.Stories.{Event, In, trace_of}
-use Rattle.outcome_ticks.specs.outcome_stories.specs.Explains.{step, Because, Explained, WonRecycling, GaveBackOnly}
+use Rattle.outcome_ticks.specs.outcome_stories.specs.Explains.{step, Because, IsExplainedBy, WonRecycling, GaveBackOnly}
 use Rattle.outcome_ticks.specs.outcome_stories.specs.Causes.{Asks, WasGiven, WasFailed}
 use Rattle.outcome_ticks.specs.outcome_stories.specs.Kept.{is_of_send, IsSpoken, Story}
 use Rattle.outcome_ticks.specs.outcome_stories.specs.TaskCauses.{ToldTasks, DropsMade, IsSent, InOwnOrder}
@@ -212,7 +212,7 @@ module _ (p : Plan) (clients : List (List Task)) (are : AreTasks p clients) (ove
 
     because : (i : ℕ) (t : Task) (asks : Asks clients i t) (op : Op) (o : Outcome) → t.op ≡ op → Became clients c.outcomes t.number o → Because p.slots p.requests (each_final i t asks).before (trace_of i t.number es) op o
     because i t asks op o is became = let fin = each_final i t asks in let q : fin.outcome ≡ Some o = same_some (slice_get c.outcomes t.number) fin.outcome (Some o) fin.became became in
-        subst (λ (z : Op). Because p.slots p.requests fin.before (trace_of i t.number es) z o) is (subst (Explained p.slots p.requests fin.before (trace_of i t.number es) t.op) q fin.explained).0
+        subst (λ (z : Op). Because p.slots p.requests fin.before (trace_of i t.number es) z o) is (subst (IsExplainedBy p.slots p.requests fin.before (trace_of i t.number es) t.op) q fin.explained).0
 
     -- each drop was answered by what its own steps did
     pub drops_told : DropsMade clients c.outcomes Shown

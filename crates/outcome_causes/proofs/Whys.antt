@@ -17,9 +17,9 @@ use Rattle.seat_programs.specs.Told as Told
 use Rattle.seat_programs.specs.Told.{IsOpen, IsTask, Became, Made, SeeksInVain, OpensNone, FoundNone, AfterHold, HasLife, EachOpened}
 use Rattle.seat_programs.specs.ToldCalls.{Order}
 use Rattle.outcome_ticks.specs.outcome_stories.specs.Stories.{Entry, Event, In, trace_of, last_name}
-use Rattle.outcome_ticks.specs.outcome_stories.specs.Explains.{Done, LastHold, Because, Explained, WasGone, WasOdd, IsReadied, FailsLife, swaps, swapped, step}
+use Rattle.outcome_ticks.specs.outcome_stories.specs.Explains.{Done, LastHold, Because, IsExplainedBy, WasGone, WasOdd, IsReadied, FailsLife, swaps, swapped, step}
 use Rattle.outcome_ticks.specs.outcome_stories.specs.Causes.{Asks, WasFailed, Cause, Good}
-use Rattle.outcome_ticks.specs.outcome_stories.specs.TaskCauses.{FoundFailed, Why}
+use Rattle.outcome_ticks.specs.outcome_stories.specs.TaskCauses.{FoundFailed, OutcomeCause}
 use Rattle.outcome_ticks.specs.outcome_stories.proofs.Members.{all_in, in_contains, from_trace}
 use Rattle.outcome_ticks.proofs.Events.{event, in_marked, try_adds, marked_birth, marked_fail, BeforeIn, cause_of, Comes, compare, last_zero, last_some}
 use Rattle.outcome_ticks.proofs.Accepting.{no_swap}
@@ -76,14 +76,14 @@ swapped_in : (tr : List Entry) → swapped tr ≡ true → HasSwap tr
 swapped_in [] e = absurd (true≢false (sym e))
 swapped_in (x ∷ xs) e = swap_here x xs x.call refl (λ q. swapped_in xs q) e
 
-seeks_hold : (slots requests : ℕ) (done : List Done) (tr : List Entry) (n : ℕ) (outcome : Option Outcome) → Explained slots requests done tr (ops.Hold n) outcome → Sought n tr outcome
+seeks_hold : (slots requests : ℕ) (done : List Done) (tr : List Entry) (n : ℕ) (outcome : Option Outcome) → IsExplainedBy slots requests done tr (ops.Hold n) outcome → Sought n tr outcome
 seeks_hold slots requests done tr n None b = absurd b.0
 seeks_hold slots requests done tr n (Some Unopened) b = inl refl
 seeks_hold slots requests done tr n (Some (Gone found)) b = inr (inl (b.0.0, b.0.1))
 seeks_hold slots requests done tr n (Some Held) b = inr (inl (b.0.0, b.0.1))
 seeks_hold slots requests done tr n (Some _) b = absurd b.0
 
-seeks_fail : (slots requests : ℕ) (done : List Done) (tr : List Entry) (n code : ℕ) (outcome : Option Outcome) → Explained slots requests done tr (ops.Fail n code) outcome → Sought n tr outcome
+seeks_fail : (slots requests : ℕ) (done : List Done) (tr : List Entry) (n code : ℕ) (outcome : Option Outcome) → IsExplainedBy slots requests done tr (ops.Fail n code) outcome → Sought n tr outcome
 seeks_fail slots requests done tr n code None b = absurd b.0
 seeks_fail slots requests done tr n code (Some Unopened) b = inl refl
 seeks_fail slots requests done tr n code (Some (Gone found)) b = inr (inl (b.0.0, b.0.1))
@@ -91,7 +91,7 @@ seeks_fail slots requests done tr n code (Some (Already found)) b = inr (inr (in
 seeks_fail slots requests done tr n code (Some Failed) b = inr (inr (inl (b.0.0, b.0.1, b.0.2)))
 seeks_fail slots requests done tr n code (Some _) b = absurd b.0
 
-seeks_send : (slots requests : ℕ) (done : List Done) (tr : List Entry) (n : ℕ) (bytes : List ℕ) (outcome : Option Outcome) → Explained slots requests done tr (ops.Send n bytes) outcome → Sought n tr outcome
+seeks_send : (slots requests : ℕ) (done : List Done) (tr : List Entry) (n : ℕ) (bytes : List ℕ) (outcome : Option Outcome) → IsExplainedBy slots requests done tr (ops.Send n bytes) outcome → Sought n tr outcome
 seeks_send slots requests done tr n bytes None b = inr (inr (inr (swapped_in tr b.1)))
 seeks_send slots requests done tr n bytes (Some Unopened) b = inl refl
 seeks_send slots requests done tr n bytes (Some (Gone found)) b = ⊎_elim (λ x. inr (inl (x.0, x.1))) (λ x. inr (inl (x.0, x.1))) b.0
@@ -166,7 +166,7 @@ module _ (p : Plan) (clients : List (List Task)) (outcomes : List (Option Outcom
 
     in_vain : (u : Task) → Asks clients c u → u.number < t.number → SeeksInVain clients outcomes n u
     in_vain u b less = λ how. let fin = world.final c u b in let tr : List Entry = trace_of c u.number es in
-        let as_op : (op : Op) → u.op ≡ op → Explained p.slots p.requests fin.before tr op fin.outcome = λ op is. subst (λ z. Explained p.slots p.requests fin.before tr z fin.outcome) is fin.explained in
+        let as_op : (op : Op) → u.op ≡ op → IsExplainedBy p.slots p.requests fin.before tr op fin.outcome = λ op is. subst (λ z. IsExplainedBy p.slots p.requests fin.before tr z fin.outcome) is fin.explained in
         ⊎_elim
         (λ h. sought_in_vain u b less (ap name_of h.1) (seeks_fail p.slots p.requests fin.before tr n h.0 fin.outcome (as_op (ops.Fail n h.0) h.1)))
         (λ h. ⊎_elim
@@ -305,7 +305,7 @@ module _ (p : Plan) (clients : List (List Task)) (outcomes : List (Option Outcom
     outcome = (world.final c t a).outcome
 
     abbrev Holds : Op → Outcome → Type 0
-    Holds op o = t.op ≡ op → outcome ≡ Some o → Because p.slots p.requests (world.final c t a).before (trace_of c t.number es) op o → Why clients outcomes p g.fails few late orders c t.number op o
+    Holds op o = t.op ≡ op → outcome ≡ Some o → Because p.slots p.requests (world.final c t a).before (trace_of c t.number es) op o → OutcomeCause clients outcomes p g.fails few late orders c t.number op o
 
     no_setup : (op : Op) → t.op ≡ op → (IsOpen op → ⊥) → c ≡ 0 → ⊥
     no_setup op e no_open z = no_open (subst IsOpen e (setup_opens p clients world.are t (subst (λ n. Asks clients n t) z a)))
@@ -360,6 +360,6 @@ module _ (p : Plan) (clients : List (List Task)) (outcomes : List (Option Outcom
     why_each _ o = λ op e b. absurd b
 
     -- the outcome of a task has its cause
-    pub why_told : (o : Outcome) → Became clients outcomes t.number o → Why clients outcomes p g.fails few late orders c t.number t.op o
+    pub why_told : (o : Outcome) → Became clients outcomes t.number o → OutcomeCause clients outcomes p g.fails few late orders c t.number t.op o
     why_told o became = let fin = world.final c t a in let q : fin.outcome ≡ Some o = one_said (slice_get outcomes t.number) fin.outcome (Some o) fin.became became in
-        why_each t.op o refl q (subst (Explained p.slots p.requests fin.before (trace_of c t.number es) t.op) q fin.explained).0
+        why_each t.op o refl q (subst (IsExplainedBy p.slots p.requests fin.before (trace_of c t.number es) t.op) q fin.explained).0

@@ -29,20 +29,20 @@ abbrev pub OddAt : List ℕ → List Event → ℕ → ℕ → ℕ → Type 0
 OddAt broken es i h found = (vref_version found % 2 ≡ 0 → vref_version found ≡ h) × (vref_version found % 2 ≡ 1 → WasFailed broken es i h)
 
 -- what a step found, behind this story and these steps of its operation
-abbrev pub Means : Plan → List ℕ → List Event → List Entry → TableStep → ℕ → Type 0
+abbrev pub FoundCause : Plan → List ℕ → List Event → List Entry → TableStep → ℕ → Type 0
 -- the word of a name is what was stored there last
-Means p broken es trace (LoadName n) found = found ≡ last_name n es
+FoundCause p broken es trace (LoadName n) found = found ≡ last_name n es
 -- a life is made in a slot of the table, with an even version that isn't below the first
-Means p broken es trace (CreateLife i k) found = (i < p.slots) × (vref_version found % 2 ≡ 0) × (p.first ≤ vref_version found)
+FoundCause p broken es trace (CreateLife i k) found = (i < p.slots) × (vref_version found % 2 ≡ 0) × (p.first ≤ vref_version found)
 -- where the slot has another version, the life was failed
-Means p broken es trace (AddRef id) found = vref_version found ≢ socket_id_version id → WasFailed broken es (socket_id_slot id) (socket_id_version id)
+FoundCause p broken es trace (AddRef id) found = vref_version found ≢ socket_id_version id → WasFailed broken es (socket_id_slot id) (socket_id_version id)
 -- the life that is held is set failed, or was failed before
-Means p broken es trace (SetOdd i) found = (h : ℕ) → 0 < holds i h trace → OddAt broken es i h found
+FoundCause p broken es trace (SetOdd i) found = (h : ℕ) → 0 < holds i h trace → OddAt broken es i h found
 -- it is seen live, or was failed before
-Means p broken es trace (LookWord id) found = 0 < holds (socket_id_slot id) (socket_id_version id) trace → vref_version found % 2 ≡ 1 → WasFailed broken es (socket_id_slot id) (socket_id_version id)
+FoundCause p broken es trace (LookWord id) found = 0 < holds (socket_id_slot id) (socket_id_version id) trace → vref_version found % 2 ≡ 1 → WasFailed broken es (socket_id_slot id) (socket_id_version id)
 -- its link is the one with which it was made
-Means p broken es trace (FindLink i h) found = WasGiven es i h found
-Means p broken es trace other found = Unit {0}
+FoundCause p broken es trace (FindLink i h) found = WasGiven es i h found
+FoundCause p broken es trace other found = Unit {0}
 
 pub record Cause (p : Plan) (clients : List (List Task)) (broken : List ℕ) (es : List Event) (e : Event) : Type 0 where
   -- a client's steps are for its operations in order
@@ -54,7 +54,7 @@ pub record Cause (p : Plan) (clients : List (List Task)) (broken : List ℕ) (es
   pub is : Asks clients e.client task
   pub numbered : task.number ≡ e.number
   pub fits : Fits task broken (trace_of e.client e.number es) e.entry.call
-  pub means : Means p broken es (trace_of e.client e.number es) e.entry.call e.entry.found
+  pub means : FoundCause p broken es (trace_of e.client e.number es) e.entry.call e.entry.found
 
 -- each step has its cause in what was done before it, and in links that failed
 abbrev pub Good : Plan → List (List Task) → List ℕ → List Event → Type 0

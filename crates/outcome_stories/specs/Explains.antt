@@ -157,9 +157,9 @@ IsSend (ops.Send n bytes) = Unit {0}
 IsSend other = ⊥
 
 -- the same, of an operation whose message was accepted too; it exchanged a head just then
-abbrev pub Explained : ℕ → ℕ → List Done → List Entry → Op → Option Outcome → Type 0
-Explained slots requests done trace op None = IsSend op × (swapped trace ≡ true)
-Explained slots requests done trace op (Some outcome) = Because slots requests done trace op outcome × (swapped trace ≡ false)
+abbrev pub IsExplainedBy : ℕ → ℕ → List Done → List Entry → Op → Option Outcome → Type 0
+IsExplainedBy slots requests done trace op None = IsSend op × (swapped trace ≡ true)
+IsExplainedBy slots requests done trace op (Some outcome) = Because slots requests done trace op outcome × (swapped trace ≡ false)
 
 -- where a `fail` found this word as it set a life failed, its outcome is this one
 abbrev pub TellsFail : Op → Option Outcome → ℕ → Type 0
@@ -299,12 +299,12 @@ module _ (slots requests : ℕ) (calls : ℕ → Type 0) where
   ExplainsBy Beside broken done trace todo (Do call next) = FitsBeside calls broken trace call × ((found : ℕ) → ExplainsBy Beside broken done (step call found ∷ trace) todo (next found))
   ExplainsBy Closing broken done trace todo (Do call next) = FitsClosing call × ((found : ℕ) → ExplainsBy Closing broken done trace todo (next found))
   ExplainsBy Own broken done trace [] (Say o outcome more) = calls o × ExplainsBy Own broken done trace [] more
-  ExplainsBy Own broken done trace (t ∷ ts) (Say o outcome more) = ((o ≡ t.number) × Explained slots requests done trace t.op (Some outcome) × AllByRecursion (Tells t.op (Some outcome)) trace
+  ExplainsBy Own broken done trace (t ∷ ts) (Say o outcome more) = ((o ≡ t.number) × IsExplainedBy slots requests done trace t.op (Some outcome) × AllByRecursion (Tells t.op (Some outcome)) trace
       × ExplainsBy Own broken (record { task = t; outcome = Some outcome } ∷ done) [] ts more) ⊎ (calls o × ExplainsBy Own broken done trace (t ∷ ts) more)
   ExplainsBy Beside broken done trace todo (Say o outcome more) = calls o × ExplainsBy Beside broken done trace todo more
   ExplainsBy Closing broken done trace todo (Say o outcome more) = calls o × ExplainsBy Closing broken done trace todo more
   ExplainsBy Own broken done trace [] (Sent o more) = ⊥
-  ExplainsBy Own broken done trace (t ∷ ts) (Sent o more) = (o ≡ t.number) × Explained slots requests done trace t.op None × AllByRecursion (Tells t.op None) trace
+  ExplainsBy Own broken done trace (t ∷ ts) (Sent o more) = (o ≡ t.number) × IsExplainedBy slots requests done trace t.op None × AllByRecursion (Tells t.op None) trace
       × ExplainsBy Own broken (record { task = t; outcome = None } ∷ done) [] ts more
   ExplainsBy Beside broken done trace todo (Sent o more) = ⊥
   ExplainsBy Closing broken done trace todo (Sent o more) = ⊥

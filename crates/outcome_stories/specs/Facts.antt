@@ -27,7 +27,7 @@ use Rattle.seat_programs.specs.Ticks.{Moment, quiet, ticked, broken_in}
 use Rattle.seat_programs.specs.Tasks.{plan_of}
 use Rattle.seat_programs.specs.Told.{IsTask, Became, Made, IsFail}
 use Rattle.seat_programs.specs.Scripts.{all_tasks, opened, ending, set_up, played, IsRunWithCalls}
-use Rattle.seat_programs.specs.ToldCalls.{Order, Fixed, SeeksName, AreOrders, StandsOn, Why, WhyAgain, IsSent, InOwnOrder, IsFailing}
+use Rattle.seat_programs.specs.ToldCalls.{Order, Fixed, SeeksName, AreOrders, StandsOn, OutcomeCause, WhyAgain, IsSent, InOwnOrder, IsFailing}
 use Rattle.outcome_stories.specs.Explains.{is_plain, plain_tasks}
 use Rattle.outcome_stories.specs.Losses.{closed_at}
 
@@ -139,7 +139,7 @@ pub record ToldSends (p : Plan) (clients : List (List Task)) (outcomes : List (O
   pub are : AllByRecursion (IsFail clients outcomes) fixed.fails
   pub once : EachBefore (λ (f g : ℕ × ℕ). (f.0 ≢ g.0) × (f.1 ≢ g.1)) fixed.fails
   pub lives : (n k m l slot version : ℕ) (a : Made clients outcomes n k slot version) (b : Made clients outcomes m l slot version) → a.task.number ≡ b.task.number
-  pub why : (client : ℕ) (t : Task) (outcome : Outcome) → IsTask clients outcomes client t → is_plain t.op ≡ true → Became clients outcomes t.number outcome → Why p clients outcomes fixed gave orders last client t.number t.op outcome
+  pub why : (client : ℕ) (t : Task) (outcome : Outcome) → IsTask clients outcomes client t → is_plain t.op ≡ true → Became clients outcomes t.number outcome → OutcomeCause p clients outcomes fixed gave orders last client t.number t.op outcome
   pub again : (client : ℕ) (t : Task) (asked : Asked) → IsTask clients outcomes client t → t.op ≡ ops.Call asked
       → (last t.number + 2 ≤ asked.range) × ((n : ℕ) → n < last t.number → WhyAgain p clients outcomes fixed gave orders client t.number n (name_of asked n))
   pub sent : (k : ℕ) → k < p.links → AllByRecursion (IsSent p clients outcomes fixed gave orders last k) (orders k).accepted
@@ -152,4 +152,4 @@ pub record ToldPlain (p : Plan) (clients : List (List Task)) (outcomes : List (O
   pub are : AllByRecursion (IsFail clients outcomes) fixed.fails
   pub once : EachBefore (λ (f g : ℕ × ℕ). (f.0 ≢ g.0) × (f.1 ≢ g.1)) fixed.fails
   pub lives : (n k m l slot version : ℕ) (a : Made clients outcomes n k slot version) (b : Made clients outcomes m l slot version) → a.task.number ≡ b.task.number
-  pub why : (client : ℕ) (t : Task) (outcome : Outcome) → IsTask clients outcomes client t → is_plain t.op ≡ true → Became clients outcomes t.number outcome → Why p clients outcomes fixed gave orders last client t.number t.op outcome
+  pub why : (client : ℕ) (t : Task) (outcome : Outcome) → IsTask clients outcomes client t → is_plain t.op ≡ true → Became clients outcomes t.number outcome → OutcomeCause p clients outcomes fixed gave orders last client t.number t.op outcome

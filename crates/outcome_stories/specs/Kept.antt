@@ -25,7 +25,7 @@ use Rattle.seat_programs.specs.Sends.{heading_of}
 use Rattle.seat_programs.specs.Cores.{Core, SeatState}
 use Rattle.program_walks.specs.program_steps.specs.Sound.{state}
 use Rattle.outcome_stories.specs.Stories.{Entry, Event, In, trace_of, trace_now, last_name, marked}
-use Rattle.outcome_stories.specs.Explains.{Way, Own, Beside, Closing, Done, Explained, Tells, ExplainsBy, holds, swapped, step}
+use Rattle.outcome_stories.specs.Explains.{Way, Own, Beside, Closing, Done, IsExplainedBy, Tells, ExplainsBy, holds, swapped, step}
 use Rattle.outcome_stories.specs.Causes.{Asks, Good, WasGiven, WasFailed}
 
 -- the tasks done, the latest first, before those still to do
@@ -36,7 +36,7 @@ undo (d ∷ ds) todo = undo ds (d.task ∷ todo)
 -- each task done is explained by its steps
 abbrev pub AreKept : ℕ → ℕ → List Event → ℕ → List Done → Type 0
 AreKept slots requests es c [] = Unit {0}
-AreKept slots requests es c (d ∷ ds) = Explained slots requests ds (trace_of c d.task.number es) d.task.op d.outcome × AllByRecursion (Tells d.task.op d.outcome) (trace_of c d.task.number es)
+AreKept slots requests es c (d ∷ ds) = IsExplainedBy slots requests ds (trace_of c d.task.number es) d.task.op d.outcome × AllByRecursion (Tells d.task.op d.outcome) (trace_of c d.task.number es)
     × AreKept slots requests es c ds
 
 -- ## Messages

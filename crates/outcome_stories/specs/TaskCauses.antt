@@ -34,8 +34,8 @@ module _ (clients : List (List Task)) (outcomes : List (Option Outcome)) where
     }
 
     -- why it has its outcome
-    abbrev pub Why : ℕ → ℕ → Op → Outcome → Type 0
-    Why c o op outcome = WhyOnSockets clients outcomes p (on_sockets c o) c o op outcome
+    abbrev pub OutcomeCause : ℕ → ℕ → Op → Outcome → Type 0
+    OutcomeCause c o op outcome = WhyOnSockets clients outcomes p (on_sockets c o) c o op outcome
 
   -- message a, which link k accepted, is that of a `send` to a name of the link's socket, of which nothing is said
   pub record IsSent (k : ℕ) (a : Accepted) : Type 0 where
@@ -70,7 +70,7 @@ pub record ToldTasks (clients : List (List Task)) (outcomes : List (Option Outco
   -- no two opens made the same life
   pub lives : (n k m l slot version : ℕ) (a : Made clients outcomes n k slot version) (b : Made clients outcomes m l slot version) → a.task.number ≡ b.task.number
   -- each outcome has its cause
-  pub why : (client : ℕ) (t : Task) (outcome : Outcome) → IsTask clients outcomes client t → Became clients outcomes t.number outcome → Why clients outcomes p fails broken late orders client t.number t.op outcome
+  pub why : (client : ℕ) (t : Task) (outcome : Outcome) → IsTask clients outcomes client t → Became clients outcomes t.number outcome → OutcomeCause clients outcomes p fails broken late orders client t.number t.op outcome
   -- what a link accepted was sent to its socket, by each client in the order of its operations, or is of a call
   pub sent : (k : ℕ) → k < p.links → AllByRecursion (λ (a : Accepted). IsSent clients outcomes k a ⊎ IsSpoken clients a.operation) (orders k).accepted
   pub own_order : (k : ℕ) → k < p.links → EachBefore (InOwnOrder clients outcomes) (orders k).accepted

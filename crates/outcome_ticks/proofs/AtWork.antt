@@ -24,7 +24,7 @@ use Rattle.seat_programs.specs.Cores.{Core, SeatState}
 use Rattle.seat_programs.specs.Drops.{call_in, next_call, IsAt}
 use Rattle.seat_programs.specs.Told.{AreTasks}
 use Rattle.outcome_stories.specs.Stories.{Entry, Event, In, trace_of}
-use Rattle.outcome_stories.specs.Explains.{Way, Own, IsLoopOf, Explains, Done, Explained, IsSend}
+use Rattle.outcome_stories.specs.Explains.{Way, Own, IsLoopOf, Explains, Done, IsExplainedBy, IsSend}
 use Rattle.outcome_stories.specs.Kept.{AreKept, SeatAt, undo}
 use Rattle.outcome_stories.proofs.Members.{all_in, contains_in}
 use Rattle.outcome_ticks.proofs.Seats.{Less, undo_todo, from_undo}
@@ -71,7 +71,7 @@ pub next_is : (slots requests : ℕ) (calls : ℕ → Type 0) (broken : List ℕ
 next_is slots requests calls broken done trace todo c i seat call next x at does = ap (λ o. elim o as (λ o. Option TableStep) [ core.none ↦ None | core.some x ↦ call_in x.program ]) at ∙ call_is seat.program call next (own_loop slots requests calls broken done trace todo seat.program x) does
 
 -- of a task that is done something was said, or it is a `send`
-none_send : (slots requests : ℕ) (ds : List Done) (trace : List Entry) (op : Op) (o : Option Outcome) → o ≡ None → Explained slots requests ds trace op o → IsSend op
+none_send : (slots requests : ℕ) (ds : List Done) (trace : List Entry) (op : Op) (o : Option Outcome) → o ≡ None → IsExplainedBy slots requests ds trace op o → IsSend op
 none_send slots requests ds trace op None q k = k.0
 none_send slots requests ds trace op (Some _) q k = absurd (cc)
 

@@ -12,7 +12,7 @@ use Rattle.seat_programs.specs.Calls.{TableStep, AddRef, SetOdd, LookWord}
 use Rattle.seat_programs.specs.Programs.{Program, Do, Say, Sent, Rest, TakeMessage, TakeHome, PutHome, PutBytes, AskReady, Write, Aside, Round, Keep, Retries}
 use Rattle.outcome_stories.specs.Stories.{Entry, Event, trace_of}
 use Rattle.outcome_stories.specs.Explains.{Way, Own, Beside, Closing, Done, Fits, FitsBeside, ExplainsBy, step, broken_put, broken_ready}
-use Rattle.outcome_stories.specs.Causes.{WasFailed, Means, Good}
+use Rattle.outcome_stories.specs.Causes.{WasFailed, FoundCause, Good}
 use Rattle.outcome_ticks.proofs.Sending.{Within}
 
 pub fits_more : (t : Task) (bs more : List ℕ) (trace : List Entry) → Within bs more → (call : TableStep) → Fits t bs trace call → Fits t more trace call
@@ -71,7 +71,7 @@ module _ (p : Plan) (clients : List (List Task)) (bs more : List ℕ) (w : Withi
   failed_more es i h (inl f) = inl f
   failed_more es i h (inr f) = inr (f.0, w f.0 f.1, f.2)
 
-  pub means_more : (es : List Event) (trace : List Entry) (call : TableStep) (found : ℕ) → Means p bs es trace call found → Means p more es trace call found
+  pub means_more : (es : List Event) (trace : List Entry) (call : TableStep) (found : ℕ) → FoundCause p bs es trace call found → FoundCause p more es trace call found
   means_more es trace (AddRef id) found m = λ ne. failed_more es (socket_id_slot id) (socket_id_version id) (m ne)
   means_more es trace (SetOdd i) found m = λ h held. ((m h held).0, λ odd. failed_more es i h ((m h held).1 odd))
   means_more es trace (LookWord id) found m = λ held odd. failed_more es (socket_id_slot id) (socket_id_version id) (m held odd)

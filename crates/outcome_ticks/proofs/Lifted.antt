@@ -14,7 +14,7 @@ use Rattle.seat_programs.specs.declared.task.Op.TheVariants as ops
 use Rattle.seat_programs.specs.declared.task.Task.{Task}
 use Rattle.seat_programs.specs.Told.{AreTasks, IsTask, Became, Made, OpensNone, IsNoLater, AfterHold, HasLife, IsFail}
 use Rattle.seat_programs.specs.Told as plain
-use Rattle.seat_programs.specs.ToldCalls.{Order, Fixed, StandsOn, Seeks, FoundNone, FoundFailed, MayFail, Why}
+use Rattle.seat_programs.specs.ToldCalls.{Order, Fixed, StandsOn, Seeks, FoundNone, FoundFailed, MayFail, OutcomeCause}
 use Rattle.outcome_stories.specs.Causes.{Asks}
 use Rattle.outcome_stories.specs.Explains.{is_plain, plain_tasks}
 use Rattle.outcome_stories.specs.Facts.{CallsFoundNone}
@@ -187,7 +187,7 @@ module _ (clients : List (List Task)) (readers : ℕ) where
 
       module _ (c : ℕ) (t : Task) (is : IsTask clients outcomes c t) where
         abbrev Lifts : Op → Outcome → Type 0
-        Lifts op o = t.op ≡ op → Became clients outcomes t.number o → causes.Why cs outcomes p tells.fails few late orders c t.number op o → Why p clients outcomes fixed gave orders last c t.number op o
+        Lifts op o = t.op ≡ op → Became clients outcomes t.number o → causes.OutcomeCause cs outcomes p tells.fails few late orders c t.number op o → OutcomeCause p clients outcomes fixed gave orders last c t.number op o
 
         seeks_it : (n : ℕ) (op : Op) → t.op ≡ op → Seeks p clients outcomes fixed gave orders n op → Seeks p clients outcomes fixed gave orders n t.op
         seeks_it n op e s = subst (Seeks p clients outcomes fixed gave orders n) (sym e) s
@@ -231,7 +231,7 @@ module _ (clients : List (List Task)) (readers : ℕ) where
         lifts _ o plain_ = absurd (true≢false (sym plain_))
 
       -- each outcome of a task that isn't on calls has its cause
-      pub why_lifted : (c : ℕ) (t : Task) (o : Outcome) → IsTask clients outcomes c t → is_plain t.op ≡ true → Became clients outcomes t.number o → Why p clients outcomes fixed gave orders last c t.number t.op o
+      pub why_lifted : (c : ℕ) (t : Task) (o : Outcome) → IsTask clients outcomes c t → is_plain t.op ≡ true → Became clients outcomes t.number o → OutcomeCause p clients outcomes fixed gave orders last c t.number t.op o
       why_lifted c t o is plain_ became = lifts c t is t.op o plain_ refl became (tells.why c t o (task_down c t is plain_) became)
 
       pub told_lifted : (c : ℕ) (t : Task) → IsTask clients outcomes c t → is_plain t.op ≡ true → ((o : Outcome) × Became clients outcomes t.number o) ⊎ ((k : ℕ) × StandsOn p clients outcomes fixed gave orders t.number 0 k)

@@ -28,7 +28,7 @@ use Rattle.seat_programs.specs.StepTables.{May}
 use Rattle.outcome_stories.specs.program_steps.specs.Sound.{state}
 use Rattle.outcome_stories.specs.Stories.{Entry, Event}
 use Rattle.outcome_stories.specs.Explains.{holds}
-use Rattle.outcome_stories.specs.Causes.{OddAt, WasFailed, WasGiven, Means}
+use Rattle.outcome_stories.specs.Causes.{OddAt, WasFailed, WasGiven, FoundCause}
 use Rattle.outcome_stories.specs.Kept.{Story}
 
 stage_busy : (a k : ℕ) (x : Mark) → is_stage a k x ≤ is_busy x
@@ -65,7 +65,7 @@ module _ (p : Plan) (clients : List (List Task)) (c : Core) (vs : List View) (la
       let g : 0 < count (is_linked h link) (slot_facts (state c vs) j) = subst (λ z. 0 < count (is_linked z link) (slot_facts (state c vs) j)) e (o.link_odd (omega (arith, t₀, t₁, far, le))) in omega (arith, tie, g))
 
   -- a step of seat i means what it found
-  pub means_of : (trace : List Entry) → ((j h : ℕ) → holds j h trace ≤ marks_of (is_hold h) j v) → (call : TableStep) → May p v call → Means p broken es trace call (found_at c.words (word_of p call))
+  pub means_of : (trace : List Entry) → ((j h : ℕ) → holds j h trace ≤ marks_of (is_hold h) j v) → (call : TableStep) → May p v call → FoundCause p broken es trace call (found_at c.words (word_of p call))
   means_of trace hold (LoadName n) may = story.named n may
   means_of trace hold (CreateLife j k) may = let o = law j may.0 in let a = own_count (state c vs) i v here is_busy j in let b : marks_of (is_stage 3 k) j v ≤ marks_of is_busy j v = total_mono (is_stage 3 k) is_busy (stage_busy 3 k) (about j v.marks) in
       let s = may.1 in (may.0, o.busy_even (omega arith), o.begun)

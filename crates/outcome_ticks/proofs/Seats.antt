@@ -18,7 +18,7 @@ use Rattle.seat_programs.specs.Heads.{Retry}
 use Rattle.seat_programs.specs.Attempts.{retry}
 use Rattle.seat_programs.specs.Cores.{resolved, said, next_step}
 use Rattle.outcome_stories.specs.Stories.{Entry, Event, In, trace_of, trace_now, told_of, added_by, marked}
-use Rattle.outcome_stories.specs.Explains.{Way, Own, Beside, Closing, IsTasked, IsBare, Done, Explained, Tells, Explains, ExplainsBy, holds, swapped, step}
+use Rattle.outcome_stories.specs.Explains.{Way, Own, Beside, Closing, IsTasked, IsBare, Done, IsExplainedBy, Tells, Explains, ExplainsBy, holds, swapped, step}
 use Rattle.outcome_stories.specs.Causes.{WasGiven}
 use Rattle.outcome_stories.specs.Kept.{IsOfCall, of_sends, IsTraced, undo, AreKept, IsOfTask, EndsIn, AreMade, AreMadeNow, AreClaims, SeatAt, SeatStory}
 use Rattle.outcome_stories.proofs.Members.{all_in, all_of, get_set_here, get_set_else, trace_here, trace_client, trace_number, trace_none}
@@ -116,7 +116,7 @@ module _ (p : Plan) (calls : ℕ → Type 0) (over : Bool) (es : List Event) (br
 
   -- the task at hand is done, with this outcome or none
   module _ (outcome : Option Outcome) (os os' : List (Option Outcome)) (trace : List Entry) (done : List Done) (t : Task) (ts : List Task) (program more : Program) (s : SeatAt p calls over es broken os c tasks Own trace done (t ∷ ts) program v)
-      (explained : Explained p.slots p.requests done trace t.op outcome × AllByRecursion (Tells t.op outcome) trace)
+      (explained : IsExplainedBy p.slots p.requests done trace t.op outcome × AllByRecursion (Tells t.op outcome) trace)
       (here : slice_get os' t.number ≡ Some outcome) (others : (j : ℕ) → t.number ≢ j → slice_get os' j ≡ slice_get os j)
       (explains : Explains p.slots p.requests calls broken (record { task = t; outcome = outcome } ∷ done) [] ts more) where
     abbrev d : Done
@@ -136,7 +136,7 @@ module _ (p : Plan) (calls : ℕ → Type 0) (over : Bool) (es : List Event) (br
                 ∙ all_in (λ (y : Done). slice_get os y.task.number ≡ Some y.outcome) done y s.became m),
           );
           unsaid = all_of (λ (u : Task). slice_get os' u.number ≡ Some None) ts (λ u m. others u.number (λ e. let a = all_in (Less t) ts u later m in omega (arith, e, a)) ∙ all_in (λ (u : Task). slice_get os u.number ≡ Some None) ts u s.unsaid.1 m);
-          kept = (subst (λ z. Explained p.slots p.requests done z t.op outcome) s.traced explained.0, subst (AllByRecursion (Tells t.op outcome)) s.traced explained.1, s.kept);
+          kept = (subst (λ z. IsExplainedBy p.slots p.requests done z t.op outcome) s.traced explained.0, subst (AllByRecursion (Tells t.op outcome)) s.traced explained.1, s.kept);
           past = λ e m p. (s.past e m p).1;
           explains = explains;
           holding = λ i h. omega arith;
@@ -252,7 +252,7 @@ module _ (old fresh : List Event) (c : ℕ) (given : (i h k : ℕ) → WasGiven 
 kept_same : (slots requests : ℕ) (old fresh : List Event) (c : ℕ) (done : List Done) → AllByRecursion (λ (d : Done). trace_of c d.task.number fresh ≡ trace_of c d.task.number old) done → AreKept slots requests old c done → AreKept slots requests fresh c done
 kept_same slots requests old fresh c [] same k = tt
 kept_same slots requests old fresh c (d ∷ ds) same k = (
-  subst (λ z. Explained slots requests ds z d.task.op d.outcome) (sym same.0) k.0,
+  subst (λ z. IsExplainedBy slots requests ds z d.task.op d.outcome) (sym same.0) k.0,
   subst (AllByRecursion (Tells d.task.op d.outcome)) (sym same.0) k.1,
   kept_same slots requests old fresh c ds same.1 k.2,
 )

@@ -17,7 +17,7 @@ use Rattle.seat_programs.specs.Programs.{Program, Do, Say, Sent, Write, release}
 use Rattle.seat_programs.specs.Sends.{block, first_put, write_link, heading_of, accept, claim_from, start, send}
 use Rattle.outcome_stories.specs.program_steps.specs.Writes.{holder_of}
 use Rattle.outcome_stories.specs.Stories.{Entry, In}
-use Rattle.outcome_stories.specs.Explains.{Own, Done, Explains, Explained, Fits, Tells, TellsFail, Grew, IsWriterOf, holds, swapped, step}
+use Rattle.outcome_stories.specs.Explains.{Own, Done, Explains, IsExplainedBy, Fits, Tells, TellsFail, Grew, IsWriterOf, holds, swapped, step}
 use Rattle.outcome_stories.proofs.Tests.{split, split_eq}
 use Rattle.outcome_stories.proofs.Pieces.{IsMute, grew_same, grew_on, mute_grew, release_goes, reach_goes}
 use Rattle.outcome_ticks.proofs.Writers.{IsStep, Writes, block_goes, first_goes, add_holds}
@@ -96,13 +96,13 @@ module _ (slots requests : ℕ) (calls : ℕ → Type 0) (done : List Done) (t :
     abbrev pub Follows : Type 0
     Follows = (outcome : Option Outcome) (broken : List ℕ) → Explains slots requests calls broken (done_with outcome) [] ts next
 
-    says : Follows → (broken : List ℕ) (tr : List Entry) (outcome : Outcome) → Explained slots requests done tr (ops.Send name bytes) (Some outcome) → AllByRecursion (Tells t.op (Some outcome)) tr → Goes broken tr (Say t.number outcome next)
-    says follows broken tr outcome why tells = inl (refl, subst (λ z. Explained slots requests done tr z (Some outcome)) (sym op) why, tells, follows (Some outcome) broken)
+    says : Follows → (broken : List ℕ) (tr : List Entry) (outcome : Outcome) → IsExplainedBy slots requests done tr (ops.Send name bytes) (Some outcome) → AllByRecursion (Tells t.op (Some outcome)) tr → Goes broken tr (Say t.number outcome next)
+    says follows broken tr outcome why tells = inl (refl, subst (λ z. IsExplainedBy slots requests done tr z (Some outcome)) (sym op) why, tells, follows (Some outcome) broken)
 
     -- behind the exchange the reference is given back
     accepted_goes : Follows → (id : ℕ) (broken : List ℕ) (tr : List Entry) → swapped tr ≡ true → AllByRecursion (Tells t.op None) tr → Goes broken tr (release (socket_id_slot id) (λ _. Sent t.number next))
     accepted_goes follows id broken tr swap tells = release_goes slots requests calls broken done t ts tr (λ _. Sent t.number next)
-        (λ b longer g. (refl, subst (λ z. Explained slots requests done longer z None) (sym op) (tt, g.swap ∙ swap), g.tells None tells, follows None broken)) (socket_id_slot id)
+        (λ b longer g. (refl, subst (λ z. IsExplainedBy slots requests done longer z None) (sym op) (tt, g.swap ∙ swap), g.tells None tells, follows None broken)) (socket_id_slot id)
 
     -- the operation holds the life of the id that it found, and sent nothing yet
     record IsHere (id : ℕ) (tr : List Entry) : Type 0 where

@@ -56,7 +56,7 @@ use Rattle.outcome_stories.specs.program_steps.proofs.Cases.{with_rights, right_
 use Rattle.outcome_stories.specs.Stories.{Entry, Event, In, trace_of, told_of, stored_by, last_name, adds, marked}
 use Rattle.outcome_stories.proofs.HomeCalls.{AreCalls, PutsAsked, calls_behind}
 use Rattle.outcome_stories.specs.Explains.{Way, Own, Beside, Closing, FitsBeside, FitsClosing, FailsAttempt, PutsCall, TakesCall, ExplainsBy, Fits, Done, IsPlain, Explains, swapped, holds, step, broken_put, broken_ready}
-use Rattle.outcome_stories.specs.Causes.{Means, Good, WasGiven, IsLost, WasFailed, OddAt}
+use Rattle.outcome_stories.specs.Causes.{FoundCause, Good, WasGiven, IsLost, WasFailed, OddAt}
 use Rattle.outcome_stories.specs.Losses.{lost_of, lost_by, may_close, closed_at, lost_at}
 use Rattle.outcome_stories.specs.Kept.{IsOfCall, of_sends, MayClose, IsSpoken, EndsIn, AreMade, AreMadeNow, SeatAt, SeatStory, StaysUsed, Story, IsReady}
 use Rattle.outcome_stories.proofs.Added.{IsNote, born_note, failer_note, linked_note, tried_note, row_adds}
@@ -358,7 +358,7 @@ module _ (p : Plan) (clients : List (List Task)) (are : AreTasks p clients) (ove
           is = (tasks, asks, subst (In t) (sym s.all) (undo_in done (t ∷ ts) t (inl refl)));
           numbered = refl;
           fits = subst (λ z. Fits t broken z call) s.traced s.explains.0;
-          means = subst (λ z. Means p broken es z call found) s.traced (means_of p clients c vs sound.lawful es broken over story i v here trace s.holding call may);
+          means = subst (λ z. FoundCause p broken es z call found) s.traced (means_of p clients c vs sound.lawful es broken over story i v here trace s.holding call may);
         },
         story.good,
       )

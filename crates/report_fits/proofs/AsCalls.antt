@@ -25,9 +25,9 @@ use Rattle.seat_programs.specs.Cores.{Core}
 use Rattle.seat_programs.specs.Runs.{from_to}
 use Rattle.seat_programs.specs.Tasks.{numbered, plan_of}
 use Rattle.seat_programs.specs.Scripts.{all_tasks, is_callless, is_later, place_words, Reports}
-use Rattle.seat_programs.specs.Told.{Told, IsTask, IsSent, OnSockets}
+use Rattle.seat_programs.specs.Told.{Explained, IsTask, IsSent, OnSockets}
 use Rattle.seat_programs.specs.Told as sends
-use Rattle.seat_programs.specs.ToldCalls.{Accepted, Order, Fixed, ToldCalls, AreOrders, IsTaken, StandsAt, OfSend, StandsOn, all_accepted, label, bytes_of}
+use Rattle.seat_programs.specs.ToldCalls.{Accepted, Order, Fixed, ExplainedCalls, AreOrders, IsTaken, StandsAt, OfSend, StandsOn, all_accepted, label, bytes_of}
 use Rattle.seat_programs.specs.ToldCalls as told
 use Rattle.report_fits.specs.Calm.{IsCalm}
 use Rattle.report_fits.specs.Ends.{AreEnds, AreEndsOf}
@@ -56,7 +56,7 @@ sum_same : (f g : ℕ → ℕ) → ((k : ℕ) → f k ≡ g k) → (ks : List �
 sum_same f g h [] = refl
 sum_same f g h (k ∷ ks) = omega (arith, h k, sum_same f g h ks, sum_by-cons f k ks, sum_by-cons g k ks)
 
-module _ (script : List Item) (core : Core) (broken : List ℕ) (callless : is_callless script ≡ true) (tells : Told (all_tasks script) core.outcomes (plan_of script) core broken) where
+module _ (script : List Item) (core : Core) (broken : List ℕ) (callless : is_callless script ≡ true) (tells : Explained (all_tasks script) core.outcomes (plan_of script) core broken) where
   abbrev pub fixed_of : Fixed
   fixed_of = record { broken = broken; early = []; closed = []; silent = []; late = []; late_links = []; soon = []; fails = tells.fails }
 
@@ -135,11 +135,11 @@ module _ (script : List Item) (core : Core) (broken : List ℕ) (callless : is_c
 
   -- ## Causes
 
-  abbrev Why : ℕ → ℕ → Op → Outcome → Type 0
-  Why c o op outcome = told.Why (plan_of script) (all_tasks script) core.outcomes fixed_of gave_of orders_of (λ i. 0) c o op outcome
+  abbrev OutcomeCause : ℕ → ℕ → Op → Outcome → Type 0
+  OutcomeCause c o op outcome = told.OutcomeCause (plan_of script) (all_tasks script) core.outcomes fixed_of gave_of orders_of (λ i. 0) c o op outcome
 
   abbrev Before : ℕ → ℕ → Op → Outcome → Type 0
-  Before c o op outcome = sends.Why (all_tasks script) core.outcomes (plan_of script) tells.fails broken tells.orders c o op outcome
+  Before c o op outcome = sends.OutcomeCause (all_tasks script) core.outcomes (plan_of script) tells.fails broken tells.orders c o op outcome
 
   abbrev TSeeks : ℕ → Op → Type 0
   TSeeks n op = told.Seeks (plan_of script) (all_tasks script) core.outcomes fixed_of gave_of orders_of n op
@@ -176,7 +176,7 @@ module _ (script : List Item) (core : Core) (broken : List ℕ) (callless : is_c
   finding : (c o n : ℕ) → FindingLeads ((Sockets c o).find n) ((SocketsNow c o).find n)
   finding c o n = record { none_ = found_none c o n; failed = found_failed c o n; socket = λ w. w }
 
-  why : (c o : ℕ) (op : Op) (outcome : Outcome) → Before c o op outcome → Why c o op outcome
+  why : (c o : ℕ) (op : Op) (outcome : Outcome) → Before c o op outcome → OutcomeCause c o op outcome
   why c o (ops.Open n k) outcome w = w
   why c o (ops.Send n bytes) outcome w = send_leads (sends.sending_of (Sockets c o) n) (sends.sending_of (SocketsNow c o) n)
       (record { find = finding c o n; full = λ many. omega (arith, many, as_many); placed = λ k i x. x; dropped = λ k i x. x }) outcome w
@@ -224,7 +224,7 @@ module _ (script : List Item) (core : Core) (broken : List ℕ) (callless : is_c
   dropped_by k (inl b) = inr (inl b)
   dropped_by k (inr f) = inl (f.0, f.1, tt)
 
-  pub as_calls : ToldCalls (plan_of script) (all_tasks script) core.outcomes fixed_of gave_of orders_of core
+  pub as_calls : ExplainedCalls (plan_of script) (all_tasks script) core.outcomes fixed_of gave_of orders_of core
   as_calls = record {
     last = λ o. 0;
     are_orders = are_orders;
@@ -264,14 +264,14 @@ module _ (script : List Item) (core : Core) (broken : List ℕ) (callless : is_c
   }
 
 -- the report of a run of which this is told fits the script and the links, and is complete
-pub fits : (bytes : List ℕ) (script : List Item) → script_of bytes ≡ Ok script → (core : Core) (broken : List ℕ) (report : Report) (took : List (List ℕ)) (ends : List LinkEnd) → is_callless script ≡ true → Told (all_tasks script) core.outcomes (plan_of script) core broken →
+pub fits : (bytes : List ℕ) (script : List Item) → script_of bytes ≡ Ok script → (core : Core) (broken : List ℕ) (report : Report) (took : List (List ℕ)) (ends : List LinkEnd) → is_callless script ≡ true → Explained (all_tasks script) core.outcomes (plan_of script) core broken →
     length core.outcomes ≡ length (operations script) → Reports script core took report → AreTold ends took → AreEnds script core broken ends → FitsWhole script (report_text script report) ends nothing_late
 fits bytes script reads core broken report took ends callless tells long reports are_told given =
     script_fits bytes script reads core (fixed_of script core broken callless tells) (gave_of script core broken callless tells) (orders_of script core broken callless tells) long (as_calls script core broken callless tells) report took ends reports are_told
     (ends_as_calls script core broken callless tells ends given) (λ calm. is_calm script core broken callless tells)
 
 -- what the place words tell are places, and each operation has an outcome that was said, or one of these
-pub places : (bytes : List ℕ) (script : List Item) → script_of bytes ≡ Ok script → (core : Core) (broken : List ℕ) → is_callless script ≡ true → Told (all_tasks script) core.outcomes (plan_of script) core broken →
+pub places : (bytes : List ℕ) (script : List Item) → script_of bytes ≡ Ok script → (core : Core) (broken : List ℕ) → is_callless script ≡ true → Explained (all_tasks script) core.outcomes (plan_of script) core broken →
     length core.outcomes ≡ length (operations script) → ArePlaces (place_words (plan_of script) core.words) × HasEachOutcome (place_words (plan_of script) core.words) core.outcomes
 places bytes script reads core broken callless tells long =
     script_places bytes script reads core (fixed_of script core broken callless tells) (gave_of script core broken callless tells) (orders_of script core broken callless tells) long (as_calls script core broken callless tells)

@@ -108,7 +108,7 @@ module _ (g : Given) where
   TMayBeOn o n name k = told.MayBeOn (plan_of g.run.script) (all_tasks g.run.script) g.run.core.outcomes g.run.fixed g.run.gave g.run.orders o n name k
 
   abbrev pub WhyAt : ℕ → ℕ → Op → Outcome → Type 0
-  WhyAt c i op o = told.Why (plan_of g.run.script) (all_tasks g.run.script) g.run.core.outcomes g.run.fixed g.run.gave g.run.orders g.run.tells.last c i op o
+  WhyAt c i op o = told.OutcomeCause (plan_of g.run.script) (all_tasks g.run.script) g.run.core.outcomes g.run.fixed g.run.gave g.run.orders g.run.tells.last c i op o
 
   abbrev pub link : ℕ → ℕ
   link i = link_at (operations g.run.script) i

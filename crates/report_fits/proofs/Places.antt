@@ -14,7 +14,7 @@ use Rattle.brpc_model.specs.Complete.{FitsWhole, IsUntroubled}
 use Rattle.seat_programs.specs.Cores.{Core}
 use Rattle.seat_programs.specs.Tasks.{plan_of}
 use Rattle.seat_programs.specs.Scripts.{all_tasks, place_words, Reports}
-use Rattle.seat_programs.specs.ToldCalls.{Fixed, Order, ToldCalls, StandsOn, label}
+use Rattle.seat_programs.specs.ToldCalls.{Fixed, Order, ExplainedCalls, StandsOn, label}
 use Rattle.report_fits.specs.Calm.{IsCalm}
 use Rattle.report_fits.specs.Ends.{AreEndsOf}
 use Rattle.script_facts.proofs.Lists.{within, some_is}
@@ -56,7 +56,7 @@ abbrev pub lateness : Fixed → Lateness
 lateness fixed = record { links = fixed.late_links; operations = fixed.late; silent = fixed.silent; early = fixed.soon }
 
 module _ (bytes : List ℕ) (script : List Item) (reads : script_of bytes ≡ Ok script) (core : Core) (fixed : Fixed) (gave : ℕ → List ℕ) (orders : ℕ → Order) (long : length core.outcomes ≡ length (operations script))
-    (tells : ToldCalls (plan_of script) (all_tasks script) core.outcomes fixed gave orders core) where
+    (tells : ExplainedCalls (plan_of script) (all_tasks script) core.outcomes fixed gave orders core) where
   abbrev pub known_of : Known
   known_of = record {
     script = script;

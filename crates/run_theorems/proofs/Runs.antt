@@ -12,7 +12,7 @@ use Rattle.brpc_model.specs.Complete.{FitsWhole, IsUntroubled, IsSilentUnserved,
 use Rattle.seat_programs.specs.Tasks.{opens, calls, plan_of, id_plan_of}
 use Rattle.seat_programs.specs.Cores.{Core}
 use Rattle.seat_programs.specs.Scripts.{IsRunWithCalls, Reports, all_tasks, place_words}
-use Rattle.seat_programs.specs.ToldCalls.{Fixed, Order, ToldCalls}
+use Rattle.seat_programs.specs.ToldCalls.{Fixed, Order, ExplainedCalls}
 use Rattle.outcome_causes.specs.sock_runs.proofs.LinkTicks.{RetriesGo}
 use Rattle.outcome_causes.specs.program_walks.proofs.Whole.{IsOwed, end_over, all_homes, end_rests}
 use Rattle.outcome_causes.specs.outcome_stories.specs.PlainTasks.{told_tasks_of}
@@ -82,7 +82,7 @@ module _ (script : List Item) (core : Core) (fixed : Fixed) (gave : ℕ → List
 module _ (bytes : List ℕ) (script : List Item) (reads : script_of bytes ≡ Ok script) (turns : List Turn) (core : Core) (run : IsRunWithCalls script turns core) where
   -- ## The report
 
-  module _ (fixed : Fixed) (gave : ℕ → List ℕ) (orders : ℕ → Order) (tells : ToldCalls (plan_of script) (all_tasks script) core.outcomes fixed gave orders core) where
+  module _ (fixed : Fixed) (gave : ℕ → List ℕ) (orders : ℕ → Order) (tells : ExplainedCalls (plan_of script) (all_tasks script) core.outcomes fixed gave orders core) where
     -- each outcome of the report has its cause, and each link that tells what it took took what its lines say
     pub run_fits : (report : Report) (took : List (List ℕ)) (ends : List LinkEnd) → Reports script core took report → AreTold ends took → AreEndsOf script core fixed gave ends → (IsUntroubled script ends → IsCalm script core.outcomes fixed) →
         FitsWhole script (report_text script report) ends (lateness fixed)

@@ -17,7 +17,7 @@ use Rattle.seat_programs.specs.Cores.{Core}
 use Rattle.seat_programs.specs.Tasks.{name_number, numbered, asked_of, op_of, plan_of}
 use Rattle.seat_programs.specs.Scripts.{all_tasks}
 use Rattle.seat_programs.specs.Told.{IsTask, Made}
-use Rattle.seat_programs.specs.ToldCalls.{Accepted, Order, StandsAt, Fixed, ToldCalls, IsSent, OfSend, OfCall, StandsOn, all_accepted}
+use Rattle.seat_programs.specs.ToldCalls.{Accepted, Order, StandsAt, Fixed, ExplainedCalls, IsSent, OfSend, OfCall, StandsOn, all_accepted}
 use Rattle.brpc_model.specs.Limits.{KeepsLimits}
 use Rattle.script_facts.proofs.Lists.{Has, within, some_is, all_at}
 use Rattle.script_facts.proofs.Names.{mentioned_has}
@@ -40,7 +40,7 @@ pub record Known : Type 0 where
   pub range : AllByRecursion InRange script
   pub targets : AreThere script
   pub long : length core.outcomes ≡ length (operations script)
-  pub tells : ToldCalls (plan_of script) (all_tasks script) core.outcomes fixed gave orders core
+  pub tells : ExplainedCalls (plan_of script) (all_tasks script) core.outcomes fixed gave orders core
 
 -- ## The names of attempts
 

@@ -11,7 +11,7 @@ use Rattle.seat_programs.specs.Cores.{Core}
 use Rattle.seat_programs.specs.Tasks.{numbered, plan_of}
 use Rattle.seat_programs.specs.Scripts.{all_tasks, is_callless, is_later}
 use Rattle.seat_programs.specs.Told.{IsTask}
-use Rattle.seat_programs.specs.ToldCalls.{Fixed, Order, ToldCalls}
+use Rattle.seat_programs.specs.ToldCalls.{Fixed, Order, ExplainedCalls}
 use Rattle.calm_runs.specs.Below.outcome_stories.specs.Explains.{is_plain}
 use Rattle.calm_runs.specs.Below.outcome_stories.specs.Facts.{ToldSends}
 use Rattle.calm_runs.specs.Below.report_fits.proofs.Callless.{not_later}
@@ -50,7 +50,7 @@ module _ (script : List Item) (outcomes : List (Option Outcome)) (callless : is_
       by _ e = refl
 
   -- so nothing more is told of it
-  pub all_told : (fixed : Fixed) (gave : ℕ → List ℕ) (orders : ℕ → Order) (last : ℕ → ℕ) (core : Core) → ToldSends (plan_of script) (all_tasks script) outcomes fixed gave orders last core → ToldCalls (plan_of script) (all_tasks script) outcomes fixed gave orders core
+  pub all_told : (fixed : Fixed) (gave : ℕ → List ℕ) (orders : ℕ → Order) (last : ℕ → ℕ) (core : Core) → ToldSends (plan_of script) (all_tasks script) outcomes fixed gave orders last core → ExplainedCalls (plan_of script) (all_tasks script) outcomes fixed gave orders core
   all_told fixed gave orders last core h = record {
     last = last;
     are_orders = h.are_orders;

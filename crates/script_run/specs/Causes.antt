@@ -13,7 +13,7 @@ use Rattle.seat_programs.specs.Ticks.{quiet, broken_in}
 use Rattle.seat_programs.specs.Tasks.{plan_of}
 use Rattle.seat_programs.specs.Scripts.{IsRunWithCalls, all_tasks, is_callless, opened, set_up}
 use Rattle.seat_programs.specs.Told.{IsTask}
-use Rattle.seat_programs.specs.ToldCalls.{Fixed, Order, ToldCalls}
+use Rattle.seat_programs.specs.ToldCalls.{Fixed, Order, ExplainedCalls}
 use Rattle.calm_runs.specs.Below.report_fits.proofs.Places.{lateness}
 use Rattle.calm_runs.specs.Below.outcome_stories.specs.PlainTasks.{told_tasks_of}
 use Rattle.calm_runs.specs.Below.outcome_stories.specs.Facts.{broken_of_run, is_said_late, late_of_run, late_links_of_run}
@@ -62,7 +62,7 @@ pub record HasCauses (script : List Item) (turns : List Turn) (core : Core) (run
   pub fixed : Fixed
   -- what each link accepted, and how many messages it took whole
   pub orders : ℕ → Order
-  pub tells : ToldCalls (plan_of script) (all_tasks script) core.outcomes fixed (gave_in core) orders core
+  pub tells : ExplainedCalls (plan_of script) (all_tasks script) core.outcomes fixed (gave_in core) orders core
   -- the last attempt of a call is that to which the run advanced
   pub last : (client : ℕ) (t : Task) (asked : Asked) → IsTask (all_tasks script) core.outcomes client t → t.op ≡ ops.Call asked → tells.last t.number ≡ attempts_of_run script turns core run t.number
   pub broken : (k : ℕ) → Contains fixed.broken k → Contains (broken_of run) k

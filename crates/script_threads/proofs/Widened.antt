@@ -7,7 +7,7 @@ use Rattle.seat_programs.specs.declared.task.Op.{Op}
 use Rattle.seat_programs.specs.declared.task.Op.TheVariants as ops
 use Rattle.seat_programs.specs.declared.task.Task.{Task}
 use Rattle.seat_programs.specs.Cores.{Core}
-use Rattle.seat_programs.specs.ToldCalls.{Accepted, Order, Fixed, AreOrders, FoundNone, FoundFailed, IsSent, OfSend, OfCall, Why}
+use Rattle.seat_programs.specs.ToldCalls.{Accepted, Order, Fixed, AreOrders, FoundNone, FoundFailed, IsSent, OfSend, OfCall, OutcomeCause}
 use Rattle.script_parts.specs.script_facts.proofs.Lists.{all_map}
 use Rattle.script_parts.specs.attempts_told.specs.Attempts.{AreAttemptsTold}
 use Rattle.script_parts.specs.callless_fits.specs.sock_deeds.specs.Told.{IsOfSockets, IsAttempt, ToldSockets}
@@ -34,7 +34,7 @@ module _ (p : Plan) (n : ℕ) (clients : List (List Task)) (outcomes : List (Opt
   sent_still last k a (inl h) = inl (one_still last k a h)
   sent_still last k a (inr h) = inr h
 
-  why_still : (last : ℕ → ℕ) (c o : ℕ) (op : Op) (by : Outcome) → IsOfSockets op → Why wide clients outcomes fixed gave orders last c o op by → Why p clients outcomes fixed gave orders last c o op by
+  why_still : (last : ℕ → ℕ) (c o : ℕ) (op : Op) (by : Outcome) → IsOfSockets op → OutcomeCause wide clients outcomes fixed gave orders last c o op by → OutcomeCause p clients outcomes fixed gave orders last c o op by
   why_still last c o (ops.Call asked) by of h = absurd of
   why_still last c o (ops.Expire t) by of h = absurd of
   why_still last c o (ops.Join t) by of h = absurd of

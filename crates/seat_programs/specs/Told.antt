@@ -261,11 +261,11 @@ module _ (clients : List (List Task)) (outcomes : List (Option Outcome)) where
     }
 
     -- why it has its outcome
-    abbrev pub Why : ℕ → ℕ → Op → Outcome → Type 0
-    Why c o op outcome = WhyOnSockets p (on_sockets c o) c o op outcome
+    abbrev pub OutcomeCause : ℕ → ℕ → Op → Outcome → Type 0
+    OutcomeCause c o op outcome = WhyOnSockets p (on_sockets c o) c o op outcome
 
   -- why each task has its outcome, and each link took what it took; these links answered that they failed
-  pub record Told (p : Plan) (c : Core) (broken : List ℕ) : Type 0 where
+  pub record Explained (p : Plan) (c : Core) (broken : List ℕ) : Type 0 where
     pub orders : ℕ → Order
     pub are_orders : AreOrders p c orders
     -- each task has an outcome, or is a `send` whose message was accepted
@@ -279,7 +279,7 @@ module _ (clients : List (List Task)) (outcomes : List (Option Outcome)) where
     -- no two opens made the same life
     pub lives : (n k m l slot version : ℕ) (a : Made n k slot version) (b : Made m l slot version) → a.task.number ≡ b.task.number
     -- each outcome has its cause
-    pub why : (client : ℕ) (t : Task) (outcome : Outcome) → IsTask client t → Became t.number outcome → Why p fails broken orders client t.number t.op outcome
+    pub why : (client : ℕ) (t : Task) (outcome : Outcome) → IsTask client t → Became t.number outcome → OutcomeCause p fails broken orders client t.number t.op outcome
     -- what a link accepted was sent to its socket, by each client in the order of its operations
     pub sent : (k : ℕ) → k < p.links → AllByRecursion (IsSent k) (orders k).accepted
     pub own_order : (k : ℕ) → k < p.links → EachBefore InOwnOrder (orders k).accepted

@@ -284,11 +284,11 @@ module _ (p : Plan) (clients : List (List Task)) (outcomes : List (Option Outcom
     WhyJoin c o t outcome = causes.JoinCause (target_told c o t) outcome
 
     -- why operation o of client c has its outcome
-    abbrev pub Why : ℕ → ℕ → Op → Outcome → Type 0
-    Why c o (ops.Call asked) outcome = WhyCall c o asked outcome
-    Why c o (ops.Expire t) outcome = WhyExpire c o t outcome
-    Why c o (ops.Join t) outcome = WhyJoin c o t outcome
-    Why c o op outcome = WhyOnSockets clients outcomes p (sockets_told c o) c o op outcome
+    abbrev pub OutcomeCause : ℕ → ℕ → Op → Outcome → Type 0
+    OutcomeCause c o (ops.Call asked) outcome = WhyCall c o asked outcome
+    OutcomeCause c o (ops.Expire t) outcome = WhyExpire c o t outcome
+    OutcomeCause c o (ops.Join t) outcome = WhyJoin c o t outcome
+    OutcomeCause c o op outcome = WhyOnSockets clients outcomes p (sockets_told c o) c o op outcome
 
     -- message a, which link k accepted, is that of a `send` of which nothing is said, or of an attempt that was made of a call with an id,
     -- to a name of the link's socket
@@ -303,7 +303,7 @@ module _ (p : Plan) (clients : List (List Task)) (outcomes : List (Option Outcom
   InOwnOrder a b = (c : ℕ) (t u : Task) → IsTask clients outcomes c t → IsTask clients outcomes c u → t.number ≡ a.operation → u.number ≡ b.operation → a.attempt ≡ 0 → b.attempt ≡ 0 → t.number < u.number
 
   -- why each task has its outcome, and each link took what it took
-  pub record ToldCalls (c : Core) : Type 0 where
+  pub record ExplainedCalls (c : Core) : Type 0 where
     pub last : ℕ → ℕ
     pub are_orders : AreOrders p c orders
     -- each task has an outcome, or is a `send` whose message was accepted
@@ -313,7 +313,7 @@ module _ (p : Plan) (clients : List (List Task)) (outcomes : List (Option Outcom
     pub once : EachBefore (λ (f g : ℕ × ℕ). (f.0 ≢ g.0) × (f.1 ≢ g.1)) fixed.fails
     -- no two opens made the same life
     pub lives : (n k m l slot version : ℕ) (a : Made clients outcomes n k slot version) (b : Made clients outcomes m l slot version) → a.task.number ≡ b.task.number
-    pub why : (client : ℕ) (t : Task) (outcome : Outcome) → IsTask clients outcomes client t → Became clients outcomes t.number outcome → Why last client t.number t.op outcome
+    pub why : (client : ℕ) (t : Task) (outcome : Outcome) → IsTask clients outcomes client t → Became clients outcomes t.number outcome → OutcomeCause last client t.number t.op outcome
     -- each attempt of a call but the last had to be followed by another, and there are no more than it may have
     pub again : (client : ℕ) (t : Task) (asked : Asked) → IsTask clients outcomes client t → t.op ≡ ops.Call asked → (last t.number + 2 ≤ asked.range) × ((n : ℕ) → n < last t.number → WhyAgain client t.number n (name_of asked n))
     pub sent : (k : ℕ) → k < p.links → AllByRecursion (IsSent last k) (orders k).accepted

@@ -7,7 +7,7 @@ use Rattle.seat_programs.specs.brpc_model.specs.Script.{script_of}
 use Rattle.seat_programs.specs.Cores.{Core}
 use Rattle.seat_programs.specs.Tasks.{plan_of}
 use Rattle.seat_programs.specs.Scripts.{all_tasks, IsRunWithCalls}
-use Rattle.seat_programs.specs.ToldCalls.{ToldCalls}
+use Rattle.seat_programs.specs.ToldCalls.{ExplainedCalls}
 use Rattle.dropped_calls.specs.Below.joint_runs.proofs.Runs.{AreMade}
 use Rattle.dropped_calls.specs.Below.script_facts.proofs.Reading.{InRange}
 use Rattle.dropped_calls.specs.Below.script_facts.proofs.Targets.{AreThere}
@@ -20,7 +20,7 @@ use Rattle.send_causes.proofs.CausedPosts.{caused_of_run}
 
 module _ (script : List Item) (made : AreMade script) (there : AreThere script) (range : AllByRecursion InRange script) (turns : List Turn) (core : Core) (is : IsRunWithCalls script turns core) (closes : ClosesInRun script turns core is) (bytes : List ℕ) (reads : script_of bytes ≡ Ok script) where
   -- why each task has its outcome, and each link took what it took
-  pub told_of_run : ToldCalls (plan_of script) (all_tasks script) core.outcomes (fixed_in_run script made there range bytes reads turns core is closes) (gave_in core) (orders_in_run script made there range bytes reads turns core is closes) core
+  pub told_of_run : ExplainedCalls (plan_of script) (all_tasks script) core.outcomes (fixed_in_run script made there range bytes reads turns core is closes) (gave_in core) (orders_in_run script made there range bytes reads turns core is closes) core
   told_of_run = told_calls script made there range bytes reads turns core is closes (caused_of_run script made there range turns core is closes bytes reads) (ended_of_run script made there range turns core is closes bytes reads)
 
   -- its last attempts are those to which the run came

@@ -21,7 +21,7 @@ use Rattle.seat_programs.specs.declared.task.Task.{Task}
 use Rattle.seat_programs.specs.Tasks.{plan_of}
 use Rattle.seat_programs.specs.Scripts.{all_tasks, IsRunWithCalls}
 use Rattle.seat_programs.specs.Told.{IsTask, Became, Made}
-use Rattle.seat_programs.specs.ToldCalls.{Fixed, Order, IsSent, OfSend, OfCall, InOwnOrder, IsDropped, IsFailing, WhyLost, WasFailing, WhyAgain, FailedBy, ByExpiry, ByCompression, ByEnd, EndedWith, Why, WhyCall, ToldCalls}
+use Rattle.seat_programs.specs.ToldCalls.{Fixed, Order, IsSent, OfSend, OfCall, InOwnOrder, IsDropped, IsFailing, WhyLost, WasFailing, WhyAgain, FailedBy, ByExpiry, ByCompression, ByEnd, EndedWith, OutcomeCause, WhyCall, ExplainedCalls}
 use Rattle.dropped_calls.specs.Below.outcome_stories.specs.Explains.{is_plain}
 use Rattle.dropped_calls.specs.Below.outcome_stories.specs.Facts.{ToldPlain}
 use Rattle.dropped_calls.specs.Below.outcome_stories.proofs.Members.{contains_in}
@@ -135,14 +135,14 @@ module _ (script : List Item) (made : AreMade script) (there : AreThere script) 
     why_call client t asked other it op became w = absurd w
 
     why_of : (op : Op) (client : ℕ) (t : Task) (outcome : Outcome) → t.op ≡ op → IsTask (all_tasks script) core.outcomes client t → Became (all_tasks script) core.outcomes t.number outcome
-        → WhyInPart (plan_of script) (all_tasks script) core.outcomes fixed_in_run (gave_in core) orders_in_run last_in_run client t.number op outcome → Why (plan_of script) (all_tasks script) core.outcomes fixed_in_run (gave_in core) orders_in_run last_in_run client t.number op outcome
+        → WhyInPart (plan_of script) (all_tasks script) core.outcomes fixed_in_run (gave_in core) orders_in_run last_in_run client t.number op outcome → OutcomeCause (plan_of script) (all_tasks script) core.outcomes fixed_in_run (gave_in core) orders_in_run last_in_run client t.number op outcome
     why_of (ops.Call asked) client t outcome op it became w = why_call client t asked outcome it op became w
     why_of (ops.Expire o) client t outcome op it became w = w
     why_of (ops.Join o) client t outcome op it became w = w
     why_of other client t outcome op it became w = absurd w
 
     -- why each task has its outcome, and each link took what it took
-    pub told_calls : ToldCalls (plan_of script) (all_tasks script) core.outcomes fixed_in_run (gave_in core) orders_in_run core
+    pub told_calls : ExplainedCalls (plan_of script) (all_tasks script) core.outcomes fixed_in_run (gave_in core) orders_in_run core
     told_calls = record {
       last = last_in_run;
       are_orders = orders_are script made turns core is closes;

@@ -10,7 +10,7 @@ use Rattle.seat_programs.specs.Calls.{TableStep, SetOdd, LoadOpen}
 use Rattle.seat_programs.specs.Writings.{Puts, Waits, Empties, Walks}
 use Rattle.seat_programs.specs.Programs.{Program, Do, Say, Write, Round}
 use Rattle.accept_counts.specs.Below.programs_allowed.specs.program_steps.proofs.Cases.{IsOfLoop, loop_begins}
-use Rattle.accept_counts.specs.Below.outcome_stories.specs.Explains.{Way, Own, Beside, Closing, Done, Because, Explained, ExplainsBy, step}
+use Rattle.accept_counts.specs.Below.outcome_stories.specs.Explains.{Way, Own, Beside, Closing, Done, Because, IsExplainedBy, ExplainsBy, step}
 use Rattle.accept_counts.specs.Below.outcome_stories.specs.Stories.{Entry, In}
 use Rattle.sent_once.proofs.DropCodes.{SaysFailed}
 use Rattle.seat_programs.specs.Rounds.{first_step}
@@ -39,7 +39,7 @@ module _ (slots requests : ℕ) (calls : ℕ → Type 0) (o : ℕ) (no_call : ca
   shorter : (w : Way) (call : TableStep) (found : ℕ) (trace : List Entry) (todo : List Task) → ((i : ℕ) → call ≡ SetOdd i → ⊥) → IsInHand o w (step call found ∷ trace) todo → IsInHand o w trace todo
   shorter w call found trace todo other h = record { own = h.own; task = h.task; others = h.others; is = h.is; numbered = h.numbered; failed = λ name code op. let x = h.failed name code op in (x.0, x.1, ⊎_elim (λ e. absurd (other x.0 (sym (ap (λ (y : Entry). y.call) e)))) (λ m. m) x.2, x.3) }
 
-  here : (done : List Done) (trace : List Entry) (t : Task) (ts : List Task) (x : ℕ) (outcome : Outcome) → x ≡ t.number → x ≡ o → outcome ≡ Failed → Explained slots requests done trace t.op (Some outcome) → IsInHand o Own trace (t ∷ ts)
+  here : (done : List Done) (trace : List Entry) (t : Task) (ts : List Task) (x : ℕ) (outcome : Outcome) → x ≡ t.number → x ≡ o → outcome ≡ Failed → IsExplainedBy slots requests done trace t.op (Some outcome) → IsInHand o Own trace (t ∷ ts)
   here done trace t ts x outcome own is failed e = record {
     own = refl;
     task = t;

@@ -24,7 +24,7 @@ use Rattle.seat_programs.specs.Cores.{Core}
 use Rattle.seat_programs.specs.Tasks.{plan_of}
 use Rattle.seat_programs.specs.Told.{IsTask, Became, Made, IsFail}
 use Rattle.seat_programs.specs.ToldCalls as told
-use Rattle.seat_programs.specs.ToldCalls.{Accepted, Order, Fixed, ToldCalls, OfSend, OfCall}
+use Rattle.seat_programs.specs.ToldCalls.{Accepted, Order, Fixed, ExplainedCalls, OfSend, OfCall}
 use Rattle.seat_programs.specs.Scripts.{all_tasks, IsRunWithCalls}
 use Rattle.served_runs.specs.Below.joint_runs.proofs.Runs.{AreMade}
 use Rattle.served_runs.specs.Below.run_theorems.specs.Heard.{heard_takes}
@@ -53,7 +53,7 @@ gives_peer id (pos zero) frame other = absurd (other refl)
 gives_peer id (pos (suc n)) frame other = refl
 gives_peer id (negsuc n) frame other = refl
 
-module _ (script : List Item) (made : AreMade script) (turns : List Turn) (core : Core) (is : IsRunWithCalls script turns core) (fixed : Fixed) (orders : ℕ → Order) (tells : ToldCalls (plan_of script) (all_tasks script) core.outcomes fixed (gave_in core) orders core) (ids : AreIdsSmall script core)
+module _ (script : List Item) (made : AreMade script) (turns : List Turn) (core : Core) (is : IsRunWithCalls script turns core) (fixed : Fixed) (orders : ℕ → Order) (tells : ExplainedCalls (plan_of script) (all_tasks script) core.outcomes fixed (gave_in core) orders core) (ids : AreIdsSmall script core)
     (last_is : (client : ℕ) (t : Task) (asked : Asked) → IsTask (all_tasks script) core.outcomes client t → t.op ≡ ops.Call asked → tells.last t.number ≡ attempts_of_run script turns core is t.number)
     (replies : GivesReplies script turns core is) (call_replies : GivesCallReplies script turns core is) (no_fault : GivesNoFault script turns core is) (lasts : GivesLast script turns core is) (shows_early : AreEarly script turns core is fixed orders) (quiet : IsQuiet script turns core is fixed orders) where
   abbrev Task_ : ℕ → Task → Type 0
@@ -265,4 +265,4 @@ module _ (script : List Item) (made : AreMade script) (turns : List Turn) (core 
   pub served_call_done : (client : ℕ) (t : Task) (asked : Asked) (outcome : Outcome) → Task_ client t → t.op ≡ ops.Call asked → Became_ t.number outcome → IsForServers script turns core is fixed orders asked → IsUnexpired script turns core is fixed orders t.number
       → CallIsDone script turns core is fixed orders client t.number asked outcome
   served_call_done client t asked outcome it op became servers unexpired = by_why asked client t it op servers unexpired outcome became
-      (subst (λ z. told.Why (plan_of script) (all_tasks script) core.outcomes fixed (gave_in core) orders tells.last client t.number z outcome) op (tells.why client t outcome it became))
+      (subst (λ z. told.OutcomeCause (plan_of script) (all_tasks script) core.outcomes fixed (gave_in core) orders tells.last client t.number z outcome) op (tells.why client t outcome it became))

@@ -34,7 +34,7 @@ use Rattle.seat_programs.specs.Readers.{LIMIT}
 use Rattle.seat_programs.specs.Cores.{Core}
 use Rattle.seat_programs.specs.Tasks.{numbered, asked_of, plan_of}
 use Rattle.seat_programs.specs.Told.{IsTask, Made}
-use Rattle.seat_programs.specs.ToldCalls.{Order, Fixed, ToldCalls, IsUnordered, WasFull}
+use Rattle.seat_programs.specs.ToldCalls.{Order, Fixed, ExplainedCalls, IsUnordered, WasFull}
 use Rattle.seat_programs.specs.Scripts.{Reports, all_tasks, IsRunWithCalls}
 use Rattle.served_runs.specs.Below.run_theorems.specs.Heard.{heard_takes, given_by}
 use Rattle.served_runs.specs.Below.run_theorems.proofs.Gave.{gave_heard}
@@ -63,7 +63,7 @@ not_true true f = absurd (f refl)
 not_true false f = refl
 
 module _ (bytes : List ℕ) (script : List Item) (reads : script_of bytes ≡ Ok script) (turns : List Turn) (core : Core) (is : IsRunWithCalls script turns core) (fixed : Fixed) (orders : ℕ → Order) (long : length core.outcomes ≡ length (operations script))
-    (tells : ToldCalls (plan_of script) (all_tasks script) core.outcomes fixed (gave_in core) orders core) (report : Report) (took : List (List ℕ)) (ends : List LinkEnd) (reports : Reports script core took report) (told : AreTold ends took)
+    (tells : ExplainedCalls (plan_of script) (all_tasks script) core.outcomes fixed (gave_in core) orders core) (report : Report) (took : List (List ℕ)) (ends : List LinkEnd) (reports : Reports script core took report) (told : AreTold ends took)
     (given_back : AreEndsOf script core fixed (gave_in core) ends) where
   abbrev pub all_given : Given
   all_given = record { run = known_of bytes script reads core fixed (gave_in core) orders long tells; report = report; took = took; ends = ends; reports = reports; told = told; given = given_back }

@@ -18,7 +18,7 @@ use Rattle.seat_programs.specs.declared.task.Task.{Task}
 use Rattle.seat_programs.specs.Cores.{Core}
 use Rattle.seat_programs.specs.Tasks.{plan_of}
 use Rattle.seat_programs.specs.Told.{AskedFits, OpFits, TaskFits, IsTask, Became, Made}
-use Rattle.seat_programs.specs.ToldCalls.{Accepted, Order, Fixed, ToldCalls, IsTaken, IsSent, OfSend, OfCall, StandsAt, bytes_of}
+use Rattle.seat_programs.specs.ToldCalls.{Accepted, Order, Fixed, ExplainedCalls, IsTaken, IsSent, OfSend, OfCall, StandsAt, bytes_of}
 use Rattle.seat_programs.specs.Scripts.{all_tasks, IsRunWithCalls}
 use Rattle.served_runs.specs.Below.outcome_stories.proofs.Members.{contains_in}
 use Rattle.served_runs.specs.Below.outcome_ticks.proofs.Tasks.{one_task}
@@ -57,7 +57,7 @@ tiny_small = record { short = omega arith; low = omega arith }
 abbrev pub AreIdsSmall : List Item → Core → Type 0
 AreIdsSmall script core = (client : ℕ) (t : Task) (asked : Asked) (x : Outcome) (id : ℕ) → IsTask (all_tasks script) core.outcomes client t → t.op ≡ ops.Call asked → Became (all_tasks script) core.outcomes t.number x → shown_id x ≡ Some id → id < 281474976710656
 
-module _ (script : List Item) (made : AreMade script) (turns : List Turn) (core : Core) (is : IsRunWithCalls script turns core) (fixed : Fixed) (orders : ℕ → Order) (tells : ToldCalls (plan_of script) (all_tasks script) core.outcomes fixed (gave_in core) orders core) (ids : AreIdsSmall script core) where
+module _ (script : List Item) (made : AreMade script) (turns : List Turn) (core : Core) (is : IsRunWithCalls script turns core) (fixed : Fixed) (orders : ℕ → Order) (tells : ExplainedCalls (plan_of script) (all_tasks script) core.outcomes fixed (gave_in core) orders core) (ids : AreIdsSmall script core) where
   abbrev Task_ : ℕ → Task → Type 0
   Task_ client t = IsTask (all_tasks script) core.outcomes client t
 

@@ -21,7 +21,7 @@ use Rattle.seat_programs.specs.declared.task.Task.{Task}
 use Rattle.seat_programs.specs.Cores.{Core}
 use Rattle.seat_programs.specs.Tasks.{plan_of}
 use Rattle.seat_programs.specs.Told.{IsTask}
-use Rattle.seat_programs.specs.ToldCalls.{Order, Fixed, ToldCalls}
+use Rattle.seat_programs.specs.ToldCalls.{Order, Fixed, ExplainedCalls}
 use Rattle.seat_programs.specs.Scripts.{Reports, all_tasks, IsRunWithCalls}
 use Rattle.served_runs.specs.Below.call_owing.specs.Lives.{ClosesInRun}
 use Rattle.served_runs.specs.Below.run_theorems.proofs.Starts.{made}
@@ -33,7 +33,7 @@ use Rattle.served_calls.specs.Quiet.{AreShown, GivesFew, IsTimely}
 use Rattle.served_calls.proofs.Calm.{all_given, served_run}
 
 module _ (bytes : List ℕ) (script : List Item) (reads : script_of bytes ≡ Ok script) (turns : List Turn) (core : Core) (is : IsRunWithCalls script turns core) (closes : ClosesInRun script turns core is) (offers : OffersInRun script turns core is) (fixed : Fixed) (orders : ℕ → Order)
-    (long : length core.outcomes ≡ length (operations script)) (tells : ToldCalls (plan_of script) (all_tasks script) core.outcomes fixed (gave_in core) orders core)
+    (long : length core.outcomes ≡ length (operations script)) (tells : ExplainedCalls (plan_of script) (all_tasks script) core.outcomes fixed (gave_in core) orders core)
     (last_is : (client : ℕ) (t : Task) (asked : Asked) → IsTask (all_tasks script) core.outcomes client t → t.op ≡ ops.Call asked → tells.last t.number ≡ attempts_of_run script turns core is t.number) where
   there : AreThere script
   there = are_there bytes script reads

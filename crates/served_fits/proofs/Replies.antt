@@ -26,7 +26,7 @@ use Rattle.seat_programs.specs.declared.task.Op.TheVariants as ops
 use Rattle.seat_programs.specs.Cores.{Core}
 use Rattle.seat_programs.specs.Tasks.{name_number, plan_of}
 use Rattle.seat_programs.specs.Told.{Made}
-use Rattle.seat_programs.specs.ToldCalls.{Order, Fixed, ToldCalls}
+use Rattle.seat_programs.specs.ToldCalls.{Order, Fixed, ExplainedCalls}
 use Rattle.seat_programs.specs.Scripts.{Reports, all_tasks, IsRunWithCalls}
 use Rattle.served_calls.specs.Below.outcome_stories.specs.Facts.{late_links_of_run}
 use Rattle.served_calls.specs.Below.call_owing.specs.Lives.{ClosesInRun}
@@ -42,7 +42,7 @@ use Rattle.served_calls.proofs.Shown.{outcome_there, both_told}
 use Rattle.served_fits.specs.Shown.{TellTook}
 
 module _ (bytes : List ℕ) (script : List Item) (reads : script_of bytes ≡ Ok script) (turns : List Turn) (core : Core) (is : IsRunWithCalls script turns core) (closes : ClosesInRun script turns core is) (offers : OffersInRun script turns core is) (fixed : Fixed)
-    (orders : ℕ → Order) (tells : ToldCalls (plan_of script) (all_tasks script) core.outcomes fixed (gave_in core) orders core) (report : Report) (took : List (List ℕ)) (ends : List LinkEnd)
+    (orders : ℕ → Order) (tells : ExplainedCalls (plan_of script) (all_tasks script) core.outcomes fixed (gave_in core) orders core) (report : Report) (took : List (List ℕ)) (ends : List LinkEnd)
     (reports : Reports script core took report) (told : AreTold ends took) (given_back : AreEndsOf script core fixed (gave_in core) ends) where
   there : AreThere script
   there = are_there bytes script reads

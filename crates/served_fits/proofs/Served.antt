@@ -17,7 +17,7 @@ use Rattle.served_calls.specs.Below.report_fits.proofs.Fitting.{fits_run}
 use Rattle.served_calls.specs.Below.report_fits.proofs.Places.{lateness}
 use Rattle.seat_programs.specs.Cores.{Core}
 use Rattle.seat_programs.specs.Tasks.{plan_of}
-use Rattle.seat_programs.specs.ToldCalls.{Order, Fixed, ToldCalls}
+use Rattle.seat_programs.specs.ToldCalls.{Order, Fixed, ExplainedCalls}
 use Rattle.seat_programs.specs.Scripts.{Reports, all_tasks, IsRunWithCalls}
 use Rattle.served_calls.specs.Below.outcome_stories.specs.Facts.{late_links_of_run}
 use Rattle.served_calls.specs.Below.call_owing.specs.Lives.{ClosesInRun}
@@ -29,7 +29,7 @@ use Rattle.served_fits.proofs.Replies.{all_given, reported, run_gives_replies, r
 use Rattle.served_fits.proofs.Whole.{CallsAreOver, timely_run, joinless_in_time, over_in_time}
 
 module _ (bytes : List ℕ) (script : List Item) (reads : script_of bytes ≡ Ok script) (short : length bytes ≤ 1048576) (turns : List Turn) (core : Core) (is : IsRunWithCalls script turns core) (closes : ClosesInRun script turns core is) (offers : OffersInRun script turns core is) (fixed : Fixed)
-    (orders : ℕ → Order) (tells : ToldCalls (plan_of script) (all_tasks script) core.outcomes fixed (gave_in core) orders core) (so : AreSo script turns core is fixed tells.last) (report : Report) (took : List (List ℕ)) (ends : List LinkEnd)
+    (orders : ℕ → Order) (tells : ExplainedCalls (plan_of script) (all_tasks script) core.outcomes fixed (gave_in core) orders core) (so : AreSo script turns core is fixed tells.last) (report : Report) (took : List (List ℕ)) (ends : List LinkEnd)
     (reports : Reports script core took report) (told : AreTold ends took) (given_back : AreEndsOf script core fixed (gave_in core) ends) (shown : AreShown script turns core is fixed ends)
     (late : (k : ℕ) → Contains (late_links_of_run script turns core is) k → Contains fixed.late_links k) (tell : TellTook script ends) where
   -- the run that is reported

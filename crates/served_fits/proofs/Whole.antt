@@ -15,7 +15,7 @@ use Rattle.served_calls.specs.Below.script_facts.proofs.Lists.{Has, has_from, co
 use Rattle.served_calls.specs.Below.report_fits.proofs.Places.{lateness}
 use Rattle.seat_programs.specs.Cores.{Core}
 use Rattle.seat_programs.specs.Tasks.{plan_of}
-use Rattle.seat_programs.specs.ToldCalls.{Order, Fixed, ToldCalls}
+use Rattle.seat_programs.specs.ToldCalls.{Order, Fixed, ExplainedCalls}
 use Rattle.seat_programs.specs.Scripts.{Reports, all_tasks, IsRunWithCalls}
 use Rattle.served_calls.specs.Below.outcome_stories.specs.Facts.{late_of_run, late_links_of_run}
 use Rattle.served_calls.specs.Below.call_owing.specs.Lives.{ClosesInRun}
@@ -50,7 +50,7 @@ nothing_there : (x : ℕ) (l : List ℕ) → l ≡ [] → Contains l x → ⊥
 nothing_there x l none_ there = has_none x (subst (λ (m : List ℕ). Has m x) none_ (has_from l x there))
 
 module _ (bytes : List ℕ) (script : List Item) (reads : script_of bytes ≡ Ok script) (short : length bytes ≤ 1048576) (turns : List Turn) (core : Core) (is : IsRunWithCalls script turns core) (closes : ClosesInRun script turns core is) (offers : OffersInRun script turns core is) (fixed : Fixed)
-    (orders : ℕ → Order) (tells : ToldCalls (plan_of script) (all_tasks script) core.outcomes fixed (gave_in core) orders core) (so : AreSo script turns core is fixed tells.last) (report : Report) (took : List (List ℕ)) (ends : List LinkEnd)
+    (orders : ℕ → Order) (tells : ExplainedCalls (plan_of script) (all_tasks script) core.outcomes fixed (gave_in core) orders core) (so : AreSo script turns core is fixed tells.last) (report : Report) (took : List (List ℕ)) (ends : List LinkEnd)
     (reports : Reports script core took report) (told : AreTold ends took) (given_back : AreEndsOf script core fixed (gave_in core) ends) (shown : AreShown script turns core is fixed ends) where
   timely : IsInTime script turns core is → IsTimely script turns core is fixed orders
   timely none_ = record {

@@ -19,7 +19,7 @@ use Rattle.seat_programs.specs.Told.{Made}
 use Rattle.seat_programs.specs.Scripts.{all_tasks, IsRunWithCalls}
 use Rattle.send_causes.specs.Below.programs_allowed.specs.program_walks.proofs.Whole.{views_ended, ended_sound}
 use Rattle.send_causes.specs.Below.outcome_stories.specs.Causes.{Asks, WasGiven}
-use Rattle.send_causes.specs.Below.outcome_stories.specs.Explains.{step, Because, Explained}
+use Rattle.send_causes.specs.Below.outcome_stories.specs.Explains.{step, Because, IsExplainedBy}
 use Rattle.send_causes.specs.Below.outcome_stories.specs.PlainTasks.{told_tasks_of}
 use Rattle.send_causes.specs.Below.outcome_stories.specs.Stories.{trace_of}
 use Rattle.send_causes.specs.Below.outcome_ticks.proofs.Events.{given_by}
@@ -58,8 +58,8 @@ module _ (script : List Item) (made : AreMade script) (there : AreThere script) 
         same : f.outcome ≡ Some (Opened slot version k)
         same = let z : Some f.outcome ≡ Some (Some (Opened slot version k)) = sym f.became ∙ told.became in cc
 
-        x : Explained (plan_of script).slots (plan_of script).requests f.before (trace_of told.client told.task.number story.events) told.task.op (Some (Opened slot version k))
-        x = subst (Explained (plan_of script).slots (plan_of script).requests f.before (trace_of told.client told.task.number story.events) told.task.op) same f.explained
+        x : IsExplainedBy (plan_of script).slots (plan_of script).requests f.before (trace_of told.client told.task.number story.events) told.task.op (Some (Opened slot version k))
+        x = subst (IsExplainedBy (plan_of script).slots (plan_of script).requests f.before (trace_of told.client told.task.number story.events) told.task.op) same f.explained
 
         b : Because (plan_of script).slots (plan_of script).requests f.before (trace_of told.client told.task.number story.events) (ops.Open n k) (Opened slot version k)
         b = subst (λ z. Because (plan_of script).slots (plan_of script).requests f.before (trace_of told.client told.task.number story.events) z (Opened slot version k)) told.op x.0

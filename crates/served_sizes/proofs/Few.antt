@@ -28,7 +28,7 @@ use Rattle.seat_programs.specs.declared.task.Task.{Task}
 use Rattle.seat_programs.specs.Cores.{Core}
 use Rattle.seat_programs.specs.Tasks.{numbered, plan_of}
 use Rattle.seat_programs.specs.Told.{IsTask}
-use Rattle.seat_programs.specs.ToldCalls.{Accepted, Order, Fixed, AreOrders, ToldCalls, IsTaken, IsSent, OfSend, OfCall, label, bytes_of}
+use Rattle.seat_programs.specs.ToldCalls.{Accepted, Order, Fixed, AreOrders, ExplainedCalls, IsTaken, IsSent, OfSend, OfCall, label, bytes_of}
 use Rattle.seat_programs.specs.Scripts.{all_tasks, took_at_home, IsRunWithCalls}
 use Rattle.served_runs.specs.Below.call_owing.specs.Lives.{ClosesInRun}
 use Rattle.served_runs.specs.Below.run_theorems.proofs.Starts.{made}
@@ -138,7 +138,7 @@ module _ (bytes : List ℕ) (script : List Item) (reads : script_of bytes ≡ Ok
 -- ## A run that was replayed
 
 module _ (bytes : List ℕ) (script : List Item) (reads : script_of bytes ≡ Ok script) (short : length bytes ≤ 1048576) (turns : List Turn) (core : Core) (is : IsRunWithCalls script turns core) (closes : ClosesInRun script turns core is) (offers : OffersInRun script turns core is)
-    (fixed : Fixed) (orders : ℕ → Order) (tells : ToldCalls (plan_of script) (all_tasks script) core.outcomes fixed (gave_in core) orders core) where
+    (fixed : Fixed) (orders : ℕ → Order) (tells : ExplainedCalls (plan_of script) (all_tasks script) core.outcomes fixed (gave_in core) orders core) where
   in_range : AllByRecursion InRange script
   in_range = let counted = is_counted bytes script reads in counted.in_range
 

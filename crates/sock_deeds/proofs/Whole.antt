@@ -24,7 +24,7 @@ use Rattle.seat_programs.specs.declared.task.Op.TheVariants as ops
 use Rattle.seat_programs.specs.declared.task.Task.{Task}
 use Rattle.seat_programs.specs.Cores.{Core}
 use Rattle.seat_programs.specs.Told.{IsTask, Became, IsOpen}
-use Rattle.seat_programs.specs.ToldCalls.{Fixed, Order, StandsOn, FoundNone, FoundFailed, MayFail, IsFailing, Why, all_accepted}
+use Rattle.seat_programs.specs.ToldCalls.{Fixed, Order, StandsOn, FoundNone, FoundFailed, MayFail, IsFailing, OutcomeCause, all_accepted}
 use Rattle.outcome_ticks.specs.outcome_stories.proofs.Accepted as accepted
 use Rattle.outcome_ticks.proofs.Tasks.{setup_opens}
 use Rattle.rpc_client.specs.Failing.{FailedBy as FailedAs}
@@ -109,7 +109,7 @@ module _ {O : Type 0} {g : Ghosts O} {state : O → OutState} {p : Plan} {client
 
   module _ (last : ℕ → ℕ) where
     abbrev WhyHere : ℕ → ℕ → Op → Outcome → Type 0
-    WhyHere c number op o = Why p clients outcomes fixed gave (orders run differ) last c number op o
+    WhyHere c number op o = OutcomeCause p clients outcomes fixed gave (orders run differ) last c number op o
 
     why_open : (a : Act run) (number n k : ℕ) (o : Outcome) → did_of run a ≡ opens n number k o → OpenedOn g p n number k o (before run a) (after run a) → WhyHere a.c number (ops.Open n k) o
     why_open a number n k (outcome.Opened slot version l) is b = let same : l ≡ k = b.2.3 in let w = opened_cause run a n number k slot version (is ∙ ap (λ x. opens n number k (outcome.Opened slot version x)) same) in (same, w.0, w.1, w.2)

@@ -11,7 +11,7 @@ use Rattle.seat_programs.specs.declared.task.Op.TheVariants as ops
 use Rattle.seat_programs.specs.declared.task.Task.{Task}
 use Rattle.seat_programs.specs.Cores.{Core}
 use Rattle.seat_programs.specs.Told.{IsTask, Became, Made, IsFail}
-use Rattle.seat_programs.specs.ToldCalls.{Accepted, Order, Fixed, AreOrders, StandsOn, InOwnOrder, FoundNone, IsFailing, IsSent, Why}
+use Rattle.seat_programs.specs.ToldCalls.{Accepted, Order, Fixed, AreOrders, StandsOn, InOwnOrder, FoundNone, IsFailing, IsSent, OutcomeCause}
 
 -- what the table of sockets fixes besides: the links that failed, those whose reading beside the clients ended early, and the lives that were failed
 abbrev pub fixed_by : List ℕ → List ℕ → List (ℕ × ℕ) → Fixed
@@ -46,7 +46,7 @@ module _ (p : Plan) (clients : List (List Task)) (outcomes : List (Option Outcom
     pub once : EachBefore (λ (f g : ℕ × ℕ). (f.0 ≡ g.0 → ⊥) × (f.1 ≡ g.1 → ⊥)) fixed.fails
     -- no two opens made the same life
     pub lives : (n k m l slot version : ℕ) (a : Made clients outcomes n k slot version) (b : Made clients outcomes m l slot version) → a.task.number ≡ b.task.number
-    pub why : (last : ℕ → ℕ) (client : ℕ) (t : Task) (outcome : Outcome) → IsTask clients outcomes client t → Became clients outcomes t.number outcome → IsOfSockets t.op → Why p clients outcomes fixed gave orders last client t.number t.op outcome
+    pub why : (last : ℕ → ℕ) (client : ℕ) (t : Task) (outcome : Outcome) → IsTask clients outcomes client t → Became clients outcomes t.number outcome → IsOfSockets t.op → OutcomeCause p clients outcomes fixed gave orders last client t.number t.op outcome
     -- a call that became unopened found no socket under the name of its first attempt
     pub unopened : (client number : ℕ) (asked : Asked) → IsTask clients outcomes client record { number = number; op = ops.Call asked } → Became clients outcomes number outcome.Unopened → FoundNone p clients outcomes fixed gave orders client number (name_of asked 0)
     -- each message that a link accepted is that of a `send` of which nothing is said, or an attempt of a call, to a name of the link's socket
