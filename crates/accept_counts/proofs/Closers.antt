@@ -12,7 +12,7 @@ use Rattle.seat_programs.specs.brpc_model.specs.Stream as streams
 use Rattle.seat_programs.specs.Calls.{TableStep, SetOdd, StoreCode, AddRef, SwapHead, CreateLife, StoreOpen}
 use Rattle.seat_programs.specs.Asides.{Step, Found, TakeBytes, Taking, Bytes, Nothing, NoMore, AtEnd, Closed, Broken}
 use Rattle.seat_programs.specs.Heads.{Head, Exit, Retry, Reading, Posts, Unlocks, Decides, Locks, Joins, Opens, Reads, Discards, HasEnded, Ended}
-use Rattle.seat_programs.specs.Programs.{Program, Do, Say, Sent, Rest, Write, Aside, Round, Keep, Retries, release, address, set_failed}
+use Rattle.seat_programs.specs.Programs.{Program, Do, Say, Sent, Rest, Write, Aside, Round, Keep, Retries, release, add_reference, set_failed}
 use Rattle.seat_programs.specs.Readers.{LIMIT, last_of, ended_by, read_on, took, discarded, post_each, thrown_away, read}
 use Rattle.seat_programs.specs.Rounds.{round, first_step}
 use Rattle.seat_programs.specs.Cores.{resolved, next_step}
@@ -115,7 +115,7 @@ module _ (k id : ℕ) (Odd : List Taking → Type 0) (Lasts : Type 0) where
     calm_errors : PassesErrors C
     calm_errors = record { say = λ o outcome next x. x; aside = asides; round = by_errors C (λ id e w next r. r) (λ i w advance next r. r) (λ id asked w e next r. r); again = λ i w next kept is x exit. subst C (sym (is exit)) (x exit) }
 
-    address_calm : (held : Program) (gone : ℕ → Program) → Calm true h held → ((found : ℕ) → C (gone found)) → C (address id held gone)
+    address_calm : (held : Program) (gone : ℕ → Program) → Calm true h held → ((found : ℕ) → C (gone found)) → C (add_reference id held gone)
     address_calm held gone goes after = (refl, λ found. by found (vref_version found == socket_id_version id))
       where
         by : (found : ℕ) (b : Bool) → Calm b h (cond b held (release (socket_id_slot id) (λ _. gone found)))
@@ -138,9 +138,9 @@ module _ (k id : ℕ) (Odd : List Taking → Type 0) (Lasts : Type 0) where
         lasts : C (last_posts calls how)
         lasts = through_post_each C calm_errors calls how.reading.link how.code how.reading.kept (thrown_away how) (thrown_calm how e.1 e.3)
 
-        by : (b : Bool) → how.closed ≡ b → C (cond b (last_posts calls how) (address how.reading.id (set_failed how.reading.id how.code (λ _. release (socket_id_slot how.reading.id) (λ _. (last_posts calls how)))) (λ _. (last_posts calls how))))
+        by : (b : Bool) → how.closed ≡ b → C (cond b (last_posts calls how) (add_reference how.reading.id (set_failed how.reading.id how.code (λ _. release (socket_id_slot how.reading.id) (λ _. (last_posts calls how)))) (λ _. (last_posts calls how))))
         by true is = lasts
-        by false is = subst (λ x. C (address x (set_failed x how.code (λ _. release (socket_id_slot x) (λ _. (last_posts calls how)))) (λ _. (last_posts calls how)))) (sym e.2)
+        by false is = subst (λ x. C (add_reference x (set_failed x how.code (λ _. release (socket_id_slot x) (λ _. (last_posts calls how)))) (λ _. (last_posts calls how)))) (sym e.2)
             (address_calm (set_failed id how.code (λ _. release (socket_id_slot id) (λ _. (last_posts calls how)))) (λ _. (last_posts calls how))
             (set_failed_calm how.code (λ _. release (socket_id_slot id) (λ _. (last_posts calls how))) (e.0 is) (λ _. given_release C frees (socket_id_slot id) (λ _. (last_posts calls how)) (λ _. lasts))) (λ _. lasts))
 

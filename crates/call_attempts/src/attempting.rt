@@ -105,7 +105,7 @@ impl<O: Out, R: Wait> CallTables<'_, O, R> {
         ensures by { AttemptedBy O.state self.now.tables.now.socks.rule.plan self.now.tables.now.ids.plan to msg (both seat.old.me.0 calls.old) (both seat.new.me.0 calls.new) }
         ensures own { (n : ℕ) → OwnList n seat.old.me.0 → OwnList (n + 1) seat.new.me.0 }
     {
-        match self.tables.socks.address(seat, to) {
+        match self.tables.socks.add_reference(seat, to) {
             Ok(sock) => {
                 let slots = self.tables.ids.plan.slots;
                 prove!(msg.owner / 4_294_967_296 < slots as u64);

@@ -11,7 +11,7 @@ use Rattle.seat_programs.specs.brpc_model.specs.ResponseOutcome.{ending_of}
 use Rattle.sock_message.specs.Asked.{Asked}
 use Rattle.seat_programs.specs.Asides.{Step, Found, PostId, FreeId, TakeBytes, Taking, Bytes, Nothing}
 use Rattle.seat_programs.specs.Heads.{Head, Exit, Retry, Sought, Posts, Unlocks, Decides, Locks, Joins, Opens, Reads, Discards, Posting, WasGone, WasStale, WasCrowded, WasQueued, HasLocked, Unlocking, IsOpen, HasNext, Deciding, HasEnded, GoesOn, Locking, NotThere, Has, Ended}
-use Rattle.seat_programs.specs.Programs.{Program, Do, Say, Sent, Rest, TakeMessage, TakeHome, PutHome, PutBytes, AskReady, Write, Aside, Round, Keep, Retries, LAST_VERSION, recycle, release, address, set_failed}
+use Rattle.seat_programs.specs.Programs.{Program, Do, Say, Sent, Rest, TakeMessage, TakeHome, PutHome, PutBytes, AskReady, Write, Aside, Round, Keep, Retries, LAST_VERSION, recycle, release, add_reference, set_failed}
 use Rattle.seat_programs.specs.Posts.{packed, is_first, is_sought, is_stale, is_full, judged, posts_round, post_with, popped, unlocks_round, end_id, decided, unlocked, locking}
 use Rattle.seat_programs.specs.Readers.{LIMIT, slot_in, answer, discarded, kept_for, ends_with, posted_last, post_each, thrown_away, read}
 use Rattle.seat_programs.specs.Rounds.{round, first_step}
@@ -78,7 +78,7 @@ module _ (F : Type 0) (kept : List Frame) where
   after_release : (i : ℕ) (next : Bool → Program) → ((b : Bool) → After (next b)) → After (release i next)
   after_release i next a = λ found. both ((vref_version found % 2 == 1) && (vref_nref found == 1)) (recycle i (found - 1) next) (next false) (after_recycle i (found - 1) next a) (a false)
 
-  after_address : (id : ℕ) (held : Program) (gone : ℕ → Program) → After held → ((found : ℕ) → After (gone found)) → After (address id held gone)
+  after_address : (id : ℕ) (held : Program) (gone : ℕ → Program) → After held → ((found : ℕ) → After (gone found)) → After (add_reference id held gone)
   after_address id held gone a b = λ found. both (vref_version found == socket_id_version id) held (release (socket_id_slot id) (λ _. gone found)) a (after_release (socket_id_slot id) (λ _. gone found) (λ _. b found))
 
   after_failed : (id code : ℕ) (next : ℕ → Program) → ((found : ℕ) → After (next found)) → After (set_failed id code next)
@@ -148,7 +148,7 @@ pub after_read : (F : Type 0) (calls : List ℕ) (how : Ended) → is_final how.
 after_read F calls how final faulty =
     let last : Program = post_each calls how.reading.link how.code how.reading.kept (thrown_away how) in
     let a : After F how.reading.kept last = after_each F how.reading.kept calls how.reading.link how.code (thrown_away how) final (by_fault how.fault refl) in
-    both F how.reading.kept how.closed last (address how.reading.id (set_failed how.reading.id how.code (λ _. release (socket_id_slot how.reading.id) (λ _. last))) (λ _. last)) a
+    both F how.reading.kept how.closed last (add_reference how.reading.id (set_failed how.reading.id how.code (λ _. release (socket_id_slot how.reading.id) (λ _. last))) (λ _. last)) a
     (after_address F how.reading.kept how.reading.id (set_failed how.reading.id how.code (λ _. release (socket_id_slot how.reading.id) (λ _. last))) (λ _. last)
     (after_failed F how.reading.kept how.reading.id how.code (λ _. release (socket_id_slot how.reading.id) (λ _. last)) (λ _. after_release F how.reading.kept (socket_id_slot how.reading.id) (λ _. last) (λ _. a))) (λ _. a))
   where

@@ -15,6 +15,6 @@ pub use ending::end_call;
 pub use handling::handle;
 pub use posting::post_error;
 pub use retries::Retry;
-pub use rpc_client::{Reached, reach, refuse};
+pub use rpc_client::{Reached, find_socket, refuse};
 pub use seats::CallSeat;
 pub use starving::{give_up, starve};

@@ -6,7 +6,7 @@ use Rattle.seat_programs.specs.declared.task.Op.{Op}
 use Rattle.seat_programs.specs.declared.task.Op.TheVariants as ops
 use Rattle.seat_programs.specs.declared.task.Task.{Task}
 use Rattle.seat_programs.specs.declared.task.Sizes.{Sizes}
-use Rattle.seat_programs.specs.Programs.{Program, Say, Sent, Retries, release, address, reach, set_failed, make_socket, open_from, fail_outcome, fail}
+use Rattle.seat_programs.specs.Programs.{Program, Say, Sent, Retries, release, add_reference, find_socket, set_failed, make_socket, open_from, fail_outcome, fail}
 use Rattle.seat_programs.specs.Sends.{accept, heading_of, claim_from, start, send}
 use Rattle.seat_programs.specs.Clients.{HeldLife, held_under, without_name, give_back, drop_of, operation, client_from, ending_of}
 use Rattle.call_owing.specs.Owing.{Owing, Free, with_keeps, stays}
@@ -62,8 +62,8 @@ module _ (life : ℕ → Option ℕ) where
     ),
   )
 
-  reach_goes : (u : Owing) (name : ℕ) (unopened : Program) (held : ℕ → Program) (gone : ℕ → Program) → Goes u unopened → ((id : ℕ) → Goes u (held id)) → ((found : ℕ) → Goes u (gone found)) → Goes u (reach name unopened held gone)
-  reach_goes u name unopened held gone none_ one others = (tt, λ word _. (u, stays refl, way life u (word == 0) unopened (address (word - 1) (held (word - 1)) gone) (λ _. none_) (λ _. address_goes life u (word - 1) (held (word - 1)) gone (one (word - 1)) others)))
+  reach_goes : (u : Owing) (name : ℕ) (unopened : Program) (held : ℕ → Program) (gone : ℕ → Program) → Goes u unopened → ((id : ℕ) → Goes u (held id)) → ((found : ℕ) → Goes u (gone found)) → Goes u (find_socket name unopened held gone)
+  reach_goes u name unopened held gone none_ one others = (tt, λ word _. (u, stays refl, way life u (word == 0) unopened (add_reference (word - 1) (held (word - 1)) gone) (λ _. none_) (λ _. address_goes life u (word - 1) (held (word - 1)) gone (one (word - 1)) others)))
 
   claim_goes : (u : Owing) (more r o id : ℕ) (bytes : List ℕ) (next : Program) → IsClient u → Clearly next → Goes u (claim_from more r o id bytes next)
   claim_goes u zero r o id bytes next c goes = release_goes life u (socket_id_slot id) (λ _. Say o outcomes.Full next) (λ _. goes u c)
@@ -149,9 +149,9 @@ module _ (life : ℕ → Option ℕ) where
       u,
       stays refl,
       way life u (word == 0) (ending_of os) (cond (word == NO_SOCKET) (ending_of os)
-          (address (word - 1) (set_failed (word - 1) 1014 (λ _. release (socket_id_slot (word - 1)) (λ _. ending_of os))) (λ _. ending_of os)))
+          (add_reference (word - 1) (set_failed (word - 1) 1014 (λ _. release (socket_id_slot (word - 1)) (λ _. ending_of os))) (λ _. ending_of os)))
           (λ _. goes)
-          (λ _. way life u (word == NO_SOCKET) (ending_of os) (address (word - 1) (set_failed (word - 1) 1014 (λ _. release (socket_id_slot (word - 1)) (λ _. ending_of os))) (λ _. ending_of os))
+          (λ _. way life u (word == NO_SOCKET) (ending_of os) (add_reference (word - 1) (set_failed (word - 1) 1014 (λ _. release (socket_id_slot (word - 1)) (λ _. ending_of os))) (λ _. ending_of os))
           (λ _. goes) (λ _. address_goes life u (word - 1) (set_failed (word - 1) 1014 (λ _. release (socket_id_slot (word - 1)) (λ _. ending_of os))) (λ _. ending_of os)
           (set_failed_goes life u (word - 1) 1014 (λ _. release (socket_id_slot (word - 1)) (λ _. ending_of os)) (λ _. release_goes life u (socket_id_slot (word - 1)) (λ _. ending_of os) (λ _. goes))) (λ _. goes))),
     ),

@@ -14,7 +14,7 @@ use Rattle.seat_programs.specs.sock_message.specs.Asked.{Asked, name_of, frame_o
 use Rattle.seat_programs.specs.Calls.{SubRef, AddRef, StoreCode, LoadLink, TakeLink, FinishLink, PutLink, FreeSlot, LoadName, FreeRequest, ReadNext, FindLink, LookWord, ReverseNext, Connect}
 use Rattle.seat_programs.specs.Asides.{PutCall, StoreAt, TakeCall}
 use Rattle.seat_programs.specs.Heads.{First, Unlocks, Joins, Unlocking, IsOpen, HasNext, Locking, NotThere, Has}
-use Rattle.seat_programs.specs.Programs.{Program, Do, Say, TakeMessage, TakeHome, PutBytes, Write, Aside, Round, LAST_VERSION, LAST_GENERATION, recycle, release, address, set_failed}
+use Rattle.seat_programs.specs.Programs.{Program, Do, Say, TakeMessage, TakeHome, PutBytes, Write, Aside, Round, LAST_VERSION, LAST_GENERATION, recycle, release, add_reference, set_failed}
 use Rattle.seat_programs.specs.Posts.{post, post_with, posted}
 use Rattle.seat_programs.specs.Writings.{Holder, Writing, Puts, Waits, Empties, Walks}
 use Rattle.seat_programs.specs.Sends.{freed as given_back, one_more, passed_telling, tell_drop, placed, dropped, put_answered, ready_answered, block, accept, write_link}
@@ -65,7 +65,7 @@ module _ (life : ℕ → Option ℕ) where
   pub release_goes : (u : Owing) (i : ℕ) (next : Bool → Program) → ((b : Bool) → Goes u (next b)) → Goes u (release i next)
   release_goes u i next goes = (tt, λ found _. (u, stays refl, way life u ((vref_version found % 2 == 1) && (vref_nref found == 1)) (recycle i (found - 1) next) (next false) (λ _. recycle_goes u i (found - 1) next goes) (λ _. goes false)))
 
-  pub address_goes : (u : Owing) (id : ℕ) (held : Program) (gone : ℕ → Program) → Goes u held → ((found : ℕ) → Goes u (gone found)) → Goes u (address id held gone)
+  pub address_goes : (u : Owing) (id : ℕ) (held : Program) (gone : ℕ → Program) → Goes u held → ((found : ℕ) → Goes u (gone found)) → Goes u (add_reference id held gone)
   address_goes u id held gone goes others = (tt, λ found _. (u, stays refl, way life u (vref_version found == socket_id_version id) held (release (socket_id_slot id) (λ _. gone found)) (λ _. goes) (λ _. release_goes u (socket_id_slot id) (λ _. gone found) (λ _. others found))))
 
   pub set_failed_goes : (u : Owing) (id code : ℕ) (next : ℕ → Program) → ((found : ℕ) → Goes u (next found)) → Goes u (set_failed id code next)

@@ -6,7 +6,7 @@ use Rattle.corr_core.specs.Word.{parts, error_of, code_of, attempt_of}
 use Rattle.seat_programs.specs.brpc_model.specs.Frame.{Frame}
 use Rattle.seat_programs.specs.Calls.{AddRef, StoreCode, SubRef}
 use Rattle.seat_programs.specs.Heads.{Reads, Discards, Posting, HasLocked, Ended}
-use Rattle.seat_programs.specs.Programs.{Program, Do, Rest, Round, address, release, set_failed}
+use Rattle.seat_programs.specs.Programs.{Program, Do, Rest, Round, add_reference, release, set_failed}
 use Rattle.seat_programs.specs.Posts.{post_with, decide, decided, is_stale}
 use Rattle.seat_programs.specs.Readers.{LIMIT, slot_in, kept_for, ends_with, posted_last, post_each, thrown_away, read, reader}
 use Rattle.call_owing.specs.Owing.{Free, Telling, Owing, freed, with_duty, with_known, with_left, with_dead, loaded, KnowsError, CallMove, stays, fails, gone}
@@ -98,7 +98,7 @@ module _ (life : ℕ → Option ℕ) where
   dead_past k os u r = record { duty = r.duty; keeps = r.keeps; link = r.link; left = r.left; dead = refl }
 
   -- the life of its link is set failed, or isn't there any more
-  fails_goes : (k s code : ℕ) (os : List ℕ) (u : Owing) (last : Program) → life k ≡ Some s → IsReading k os u → Later k os last → Goes u (address s (set_failed s code (λ _. release (socket_id_slot s) (λ _. last))) (λ _. last))
+  fails_goes : (k s code : ℕ) (os : List ℕ) (u : Owing) (last : Program) → life k ≡ Some s → IsReading k os u → Later k os last → Goes u (add_reference s (set_failed s code (λ _. release (socket_id_slot s) (λ _. last))) (λ _. last))
   fails_goes k s code os u last has r goes = (
     tt,
     λ found _. pick life (CallMove life (AddRef s) found u) (eqb (vref_version found) (socket_id_version s)) (set_failed s code (λ _. release (socket_id_slot s) (λ _. last))) (release (socket_id_slot s) (λ _. last))
@@ -127,13 +127,13 @@ module _ (life : ℕ → Option ℕ) where
 
   -- a reading that ended, with the marks that it leaves
   read_goes : (k s : ℕ) (calls : List ℕ) (how : Ended) (u v : Owing) → life k ≡ Some s → IsReading k calls u → Further (cond how.closed (with_dead u) u) v → how.reading.link ≡ k → how.reading.id ≡ s → is_final how.code ≡ true → Goes v (read calls how)
-  read_goes k s calls how u v has r f link id final = subst (λ (x : ℕ). Goes v (cond how.closed (last_posts calls how how.reading.link) (address x (set_failed x how.code (λ _. release (socket_id_slot x) (λ _. last_posts calls how how.reading.link))) (λ _. last_posts calls how how.reading.link)))) (sym id)
-      (subst (λ (l : ℕ). Goes v (cond how.closed (last_posts calls how l) (address s (set_failed s how.code (λ _. release (socket_id_slot s) (λ _. last_posts calls how l))) (λ _. last_posts calls how l)))) (sym link) (by_closed how.closed f))
+  read_goes k s calls how u v has r f link id final = subst (λ (x : ℕ). Goes v (cond how.closed (last_posts calls how how.reading.link) (add_reference x (set_failed x how.code (λ _. release (socket_id_slot x) (λ _. last_posts calls how how.reading.link))) (λ _. last_posts calls how how.reading.link)))) (sym id)
+      (subst (λ (l : ℕ). Goes v (cond how.closed (last_posts calls how l) (add_reference s (set_failed s how.code (λ _. release (socket_id_slot s) (λ _. last_posts calls how l))) (λ _. last_posts calls how l)))) (sym link) (by_closed how.closed f))
     where
       posts : Later k calls (post_each calls k how.code how.reading.kept (thrown_away how))
       posts = each_goes k how.code final how.reading.kept (thrown_away how) (thrown_goes how k) calls
 
-      by_closed : (b : Bool) → Further (cond b (with_dead u) u) v → Goes v (cond b (last_posts calls how k) (address s (set_failed s how.code (λ _. release (socket_id_slot s) (λ _. last_posts calls how k))) (λ _. last_posts calls how k)))
+      by_closed : (b : Bool) → Further (cond b (with_dead u) u) v → Goes v (cond b (last_posts calls how k) (add_reference s (set_failed s how.code (λ _. release (socket_id_slot s) (λ _. last_posts calls how k))) (λ _. last_posts calls how k)))
       by_closed true f = posts v (past_on k calls (with_dead u) v (dead_past k calls u r) f)
       by_closed false f = fails_goes k s how.code calls v (last_posts calls how k) has (record { duty = f.duty ∙ r.duty; keeps = f.keeps ∙ r.keeps; link = f.link ∙ r.link; left = f.left ∙ r.left }) posts
 

@@ -14,7 +14,7 @@ use Rattle.seat_programs.specs.declared.task.Task.{Task}
 use Rattle.seat_programs.specs.Parts.{part}
 use Rattle.seat_programs.specs.Calls.{SubRef, Recycle, StoreCode, LoadLink, TakeLink, FinishLink, PutLink, FreeSlot, FreeRequest, ReadNext, ReverseNext, Connect, FindLink, LookWord}
 use Rattle.seat_programs.specs.Asides.{StoreAt}
-use Rattle.seat_programs.specs.Programs.{Program, Do, TakeMessage, TakeHome, PutBytes, Write, Aside, LAST_VERSION, LAST_GENERATION, recycle, release, address, set_failed}
+use Rattle.seat_programs.specs.Programs.{Program, Do, TakeMessage, TakeHome, PutBytes, Write, Aside, LAST_VERSION, LAST_GENERATION, recycle, release, add_reference, set_failed}
 use Rattle.seat_programs.specs.Posts.{post}
 use Rattle.seat_programs.specs.Writings.{Holder, Writing, Puts, Waits, Empties, Walks}
 use Rattle.seat_programs.specs.Sends.{freed, one_more, passed_telling, tell_drop, placed, dropped, put_answered, ready_answered, block, accept, write_link}
@@ -54,7 +54,7 @@ module _ (p : Plan) (q : IdPlan) (clients : List (List Task)) (gives : ℕ → L
         (λ _ s'. recycle_then w m i (found - 1) next goes v l s') (λ _ s'. goes false v l s'),
   )
 
-  pub address_says : (w : Scene) (m : Mark) (id : ℕ) (held : Program) (gone : ℕ → Program) → Next w m held → ((found : ℕ) → Next w m (gone found)) → Tells w m (address id held gone)
+  pub address_says : (w : Scene) (m : Mark) (id : ℕ) (held : Program) (gone : ℕ → Program) → Next w m held → ((found : ℕ) → Next w m (gone found)) → Tells w m (add_reference id held gone)
   address_says w m id held gone goes others = (
     tt,
     λ found v l s _. way p q clients gives v m (vref_version found == socket_id_version id) held (release (socket_id_slot id) (λ _. gone found)) s

@@ -10,7 +10,7 @@ ghost use Rattle.call_writes.specs.Sending.{SeenCalling, SentCalling, Rested};
 ghost use Rattle.write_chain.specs.Ready.{sock_of};
 
 use crate::shared_tables::SharedTables;
-use call_errors::{CallSeat, Reached, reach, refuse};
+use call_errors::{CallSeat, Reached, find_socket, refuse};
 use sock_io::Out;
 use sock_rule::{Letter, SockSeat};
 use sock_table::SockRef;
@@ -72,7 +72,7 @@ impl<O: Out, R: Wait> SharedTables<'_, O, R> {
         ensures rested { Rested self.now.socks.now.rule.table.shared.table_id self.now.socks.now.rule.plan self.now.ids.now.table.shared.table_id seat.old seat.new calls.old calls.new }
         ensures by { SentCalling O.state self.now.socks.now.rule.plan self.now.ids.now.plan.slots name msg result seat.old.me.0 (stand_of calls.old) seat.new.me.0 (stand_of calls.new) }
     {
-        match reach(self.socks, seat, name) {
+        match find_socket(self.socks, seat, name) {
             Reached::Unopened => Some(Outcome::Unopened),
             Reached::Gone(found) => Some(Outcome::Gone { found }),
             Reached::Here(sock) => match start(self.socks, seat, sock, msg) {

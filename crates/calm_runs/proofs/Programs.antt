@@ -13,7 +13,7 @@ use Rattle.seat_programs.specs.Asides.{Taking, Bytes, Nothing, Closed}
 use Rattle.seat_programs.specs.Clients.{ending_of}
 use Rattle.seat_programs.specs.Heads.{Reading, Sought, Posting, WasGone, WasStale, WasCrowded, WasQueued, HasLocked, Locking, NotThere, Has, Ended}
 use Rattle.seat_programs.specs.Posts.{packed, is_first, is_stale, is_full, is_sought, judged, posts_round, post_with, end_id, locking}
-use Rattle.seat_programs.specs.Programs.{Program, Say, LAST_VERSION, recycle, release, address, set_failed}
+use Rattle.seat_programs.specs.Programs.{Program, Say, LAST_VERSION, recycle, release, add_reference, set_failed}
 use Rattle.seat_programs.specs.Readers.{LIMIT, has_response, slot_in, version_in, answer, answered, responses, read_on, took, discarded, kept_for, ends_with, posted_last, post_each, thrown_away, read, reader}
 use Rattle.send_causes.specs.Below.call_causes.proofs.HandledStates.{ends_final}
 use Rattle.calm_runs.specs.Calm.{IsCalm}
@@ -32,13 +32,13 @@ module _ (S : ℕ → Type 0) where
   calm_release : (i : ℕ) (next : Bool → Program) → ((b : Bool) → C (next b)) → C (release i next)
   calm_release i next after = λ found. either_way ((vref_version found % 2 == 1) && (vref_nref found == 1)) _ _ C (calm_recycle i (found - 1) next after) (after false)
 
-  calm_address : (id : ℕ) (held : Program) (gone : ℕ → Program) → C held → ((found : ℕ) → C (gone found)) → C (address id held gone)
+  calm_address : (id : ℕ) (held : Program) (gone : ℕ → Program) → C held → ((found : ℕ) → C (gone found)) → C (add_reference id held gone)
   calm_address id held gone h after = λ found. either_way (vref_version found == socket_id_version id) _ _ C h (calm_release (socket_id_slot id) (λ _. gone found) (λ _. after found))
 
   calm_set_failed : (id code : ℕ) (next : ℕ → Program) → ((found : ℕ) → C (next found)) → C (set_failed id code next)
   calm_set_failed id code next after = λ found. either_way (vref_version found % 2 == 0) _ _ C (λ _. λ _. after found) (after found)
 
-  calm_failing : (id code : ℕ) (next : Program) → C next → C (address id (set_failed id code (λ _. release (socket_id_slot id) (λ _. next))) (λ _. next))
+  calm_failing : (id code : ℕ) (next : Program) → C next → C (add_reference id (set_failed id code (λ _. release (socket_id_slot id) (λ _. next))) (λ _. next))
   calm_failing id code next after = calm_address id _ _ (calm_set_failed id code _ (λ _. calm_release (socket_id_slot id) _ (λ _. after))) (λ _. after)
 
   pub ending_calm : (os : List ℕ) → C (ending_of os)

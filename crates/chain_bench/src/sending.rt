@@ -234,7 +234,7 @@ pub fn send_all<R: Wait + Clock>(
         number,
     } = sender;
     let mut times = Vec::new(alloc);
-    let Ok(sock) = table.address(&mut seat, id) else {
+    let Ok(sock) = table.add_reference(&mut seat, id) else {
         return Sent { seat, times };
     };
     let sock = send_each(rt, alloc, table, &mut seat, sock, number, load, &mut times);

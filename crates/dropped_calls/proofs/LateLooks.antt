@@ -15,7 +15,7 @@ use Rattle.seat_programs.specs.declared.task.Sizes.{Sizes}
 use Rattle.seat_programs.specs.Calls.{TableStep, LookWord, FindLink, ClaimRequest, SwapHead, EmptyHead}
 use Rattle.seat_programs.specs.Asides.{StoreAt}
 use Rattle.seat_programs.specs.Heads.{Head, Exit, Retry, Posts, Unlocks, Decides, Opens, Posting, Unlocking, Deciding}
-use Rattle.seat_programs.specs.Programs.{Program, Do, Say, Sent, Write, Aside, Round, Keep, Retries, release, address}
+use Rattle.seat_programs.specs.Programs.{Program, Do, Say, Sent, Write, Aside, Round, Keep, Retries, release, add_reference}
 use Rattle.seat_programs.specs.Posts.{post}
 use Rattle.seat_programs.specs.Readers.{opens_round, reader}
 use Rattle.seat_programs.specs.Sends.{block, heading_of, accept, claim_from, start, send}
@@ -145,7 +145,7 @@ looks_claims (suc more) q id heading bytes full accepted none_ after = (
 )
 
 looks_tries : (requests o socket id n : ℕ) (heading : Heading) (bytes : List ℕ) (next : Program) → LooksOn next
-    → Looks Idle (address socket (Do (FindLink (socket_id_slot socket) (socket_id_version socket)) (λ k. Aside (StoreAt o (at_word (id_first id) (id_slot id) k n)) (λ _. Do (LookWord socket) (λ found.
+    → Looks Idle (add_reference socket (Do (FindLink (socket_id_slot socket) (socket_id_version socket)) (λ k. Aside (StoreAt o (at_word (id_first id) (id_slot id) k n)) (λ _. Do (LookWord socket) (λ found.
     cond (vref_version found % 2 == 0) (claims_from requests 0 socket heading bytes (post id 3001 n (release (socket_id_slot socket) (λ _. next))) (release (socket_id_slot socket) (λ _. next)))
     (post id 1009 n (release (socket_id_slot socket) (λ _. next))))))) (λ _. post id 1009 n next))
 looks_tries requests o socket id n heading bytes next after = let rest : Program = release (socket_id_slot socket) (λ _. next) in

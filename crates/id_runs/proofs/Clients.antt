@@ -8,7 +8,7 @@ use Rattle.corr_core.specs.declared.marks.Plan.{Plan as IdPlan}
 use Rattle.seat_programs.specs.declared.task.Op.{Op}
 use Rattle.seat_programs.specs.declared.task.Op.TheVariants as ops
 use Rattle.seat_programs.specs.declared.task.Task.{Task}
-use Rattle.seat_programs.specs.Programs.{Program, Say, Sent, release, address, reach, set_failed, make_socket, open_from, fail_outcome, fail}
+use Rattle.seat_programs.specs.Programs.{Program, Say, Sent, release, add_reference, find_socket, set_failed, make_socket, open_from, fail_outcome, fail}
 use Rattle.seat_programs.specs.Sends.{accept, heading_of, claim_from, start, send}
 use Rattle.seat_programs.specs.Clients.{HeldLife, held_under, without_name, give_back, drop_of, operation, client_from, ending_of}
 use Rattle.seat_programs.specs.Scripts.{sizes_of}
@@ -29,8 +29,8 @@ module _ (p : Plan) (q : IdPlan) (narrow : q.slots ≤ 65536) (same : q.operatio
   open_goes u zero i o name k next goes = λ _ _ _ _ _ _ _ _. goes
   open_goes u (suc more) i o name k next goes = λ found _. way p q u (found == 0) (make_socket o name k i next) (open_from more (i + 1) o name k next) (λ _. λ _ _ _ _ _ _ _ _ _ _ _ _. goes) (λ _. open_goes u more (i + 1) o name k next goes)
 
-  reach_goes : (u : IdView) (name : ℕ) (unopened : Program) (held : ℕ → Program) (gone : ℕ → Program) → Goes u unopened → ((id : ℕ) → Goes u (held id)) → ((found : ℕ) → Goes u (gone found)) → Goes u (reach name unopened held gone)
-  reach_goes u name unopened held gone none_ one others = λ word _. way p q u (word == 0) unopened (address (word - 1) (held (word - 1)) gone) (λ _. none_) (λ _. address_goes p q narrow u (word - 1) (held (word - 1)) gone (one (word - 1)) others)
+  reach_goes : (u : IdView) (name : ℕ) (unopened : Program) (held : ℕ → Program) (gone : ℕ → Program) → Goes u unopened → ((id : ℕ) → Goes u (held id)) → ((found : ℕ) → Goes u (gone found)) → Goes u (find_socket name unopened held gone)
+  reach_goes u name unopened held gone none_ one others = λ word _. way p q u (word == 0) unopened (add_reference (word - 1) (held (word - 1)) gone) (λ _. none_) (λ _. address_goes p q narrow u (word - 1) (held (word - 1)) gone (one (word - 1)) others)
 
   claim_goes : (u : IdView) (more r o id : ℕ) (bytes : List ℕ) (next : Program) → IsFree u → Follows next → Goes u (claim_from more r o id bytes next)
   claim_goes u zero r o id bytes next free goes = release_goes p q narrow u (socket_id_slot id) (λ _. Say o outcomes.Full next) (λ _. goes u free)
@@ -74,9 +74,9 @@ module _ (p : Plan) (q : IdPlan) (narrow : q.slots ≤ 65536) (same : q.operatio
 
   pub ending_goes : (os : List ℕ) → Follows (ending_of os)
   ending_goes [] u free = free
-  ending_goes (o ∷ os) u free = λ word _. way p q u (word == 0) (ending_of os) (cond (word == NO_SOCKET) (ending_of os) (address (word - 1) (set_failed (word - 1) 1014 (λ _. release (socket_id_slot (word - 1)) (λ _. ending_of os))) (λ _. ending_of os)))
+  ending_goes (o ∷ os) u free = λ word _. way p q u (word == 0) (ending_of os) (cond (word == NO_SOCKET) (ending_of os) (add_reference (word - 1) (set_failed (word - 1) 1014 (λ _. release (socket_id_slot (word - 1)) (λ _. ending_of os))) (λ _. ending_of os)))
       (λ _. ending_goes os u free)
-      (λ _. way p q u (word == NO_SOCKET) (ending_of os) (address (word - 1) (set_failed (word - 1) 1014 (λ _. release (socket_id_slot (word - 1)) (λ _. ending_of os))) (λ _. ending_of os))
+      (λ _. way p q u (word == NO_SOCKET) (ending_of os) (add_reference (word - 1) (set_failed (word - 1) 1014 (λ _. release (socket_id_slot (word - 1)) (λ _. ending_of os))) (λ _. ending_of os))
       (λ _. ending_goes os u free)
       (λ _. address_goes p q narrow u (word - 1) (set_failed (word - 1) 1014 (λ _. release (socket_id_slot (word - 1)) (λ _. ending_of os))) (λ _. ending_of os)
       (set_failed_goes p q narrow u (word - 1) 1014 (omega arith) (λ _. release (socket_id_slot (word - 1)) (λ _. ending_of os)) (λ _. release_goes p q narrow u (socket_id_slot (word - 1)) (λ _. ending_of os) (λ _. ending_goes os u free)))

@@ -22,7 +22,7 @@ use Rattle.seat_programs.specs.sock_message.specs.Asked.{Asked, frame_of}
 use Rattle.seat_programs.specs.Calls.{SubRef, StoreCode, LoadLink, TakeLink, FinishLink, PutLink, FreeSlot, FreeRequest, ReadNext}
 use Rattle.seat_programs.specs.Asides.{PutCall, MakeId, StoreCall, StoreAt}
 use Rattle.seat_programs.specs.Heads.{Retry, Unlocks, Joins, Unlocking, IsOpen, HasNext, Deciding, HasEnded, GoesOn, Locking, NotThere, Has}
-use Rattle.seat_programs.specs.Programs.{Program, Do, Say, TakeMessage, TakeHome, PutBytes, Write, Aside, Round, LAST_VERSION, LAST_GENERATION, recycle, release, address, set_failed}
+use Rattle.seat_programs.specs.Programs.{Program, Do, Say, TakeMessage, TakeHome, PutBytes, Write, Aside, Round, LAST_VERSION, LAST_GENERATION, recycle, release, add_reference, set_failed}
 use Rattle.seat_programs.specs.Posts.{post, post_with, posted, decided}
 use Rattle.seat_programs.specs.Writings.{Holder, Writing, Puts, Waits, Empties, Walks}
 use Rattle.seat_programs.specs.Sends.{freed, one_more, passed_telling, tell_drop, placed, dropped, put_answered, ready_answered, block, accept, write_link}
@@ -48,7 +48,7 @@ module _ (p : Plan) (q : IdPlan) (narrow : q.slots ≤ 65536) where
   pub release_goes : (u : IdView) (i : ℕ) (next : Bool → Program) → ((b : Bool) → Goes u (next b)) → Goes u (release i next)
   release_goes u i next goes = λ found _. way p q u ((vref_version found % 2 == 1) && (vref_nref found == 1)) (recycle i (found - 1) next) (next false) (λ _. recycle_goes u i (found - 1) next goes) (λ _. goes false)
 
-  pub address_goes : (u : IdView) (id : ℕ) (held : Program) (gone : ℕ → Program) → Goes u held → ((found : ℕ) → Goes u (gone found)) → Goes u (address id held gone)
+  pub address_goes : (u : IdView) (id : ℕ) (held : Program) (gone : ℕ → Program) → Goes u held → ((found : ℕ) → Goes u (gone found)) → Goes u (add_reference id held gone)
   address_goes u id held gone goes others = λ found _. way p q u (vref_version found == socket_id_version id) held (release (socket_id_slot id) (λ _. gone found)) (λ _. goes) (λ _. release_goes u (socket_id_slot id) (λ _. gone found) (λ _. others found))
 
   pub set_failed_goes : (u : IdView) (id code : ℕ) → code < 4096 → (next : ℕ → Program) → ((found : ℕ) → Goes u (next found)) → Goes u (set_failed id code next)

@@ -8,7 +8,7 @@ use Rattle.corr_core.specs.declared.marks.Plan.{Plan as IdPlan}
 use Rattle.seat_programs.specs.brpc_model.specs.Frame.{Frame}
 use Rattle.id_rule.specs.Lawful.{at_index as at_place, with_kept}
 use Rattle.seat_programs.specs.Heads.{Reads, Discards, Posting, HasLocked, Deciding, HasEnded, GoesOn, Ended}
-use Rattle.seat_programs.specs.Programs.{Program, Rest, Round, address, release, set_failed}
+use Rattle.seat_programs.specs.Programs.{Program, Rest, Round, add_reference, release, set_failed}
 use Rattle.seat_programs.specs.Posts.{post_with, decided}
 use Rattle.seat_programs.specs.Readers.{LIMIT, slot_in, kept_for, ends_with, posted_last, post_each, thrown_away, read, reader}
 use Rattle.id_runs.specs.Held.{IdView}
@@ -66,7 +66,7 @@ module _ (p : Plan) (q : IdPlan) (narrow : q.slots ≤ 65536) where
   read_goes : (calls : List ℕ) → AllByRecursion (λ o. o < q.operations) calls → (how : Ended) (u : IdView) → EndsReading how u → Goes u (read calls how)
   read_goes calls all how u ends = let last : Program = post_each calls how.reading.link how.code how.reading.kept (thrown_away how) in let goes = post_each_goes calls all how.reading.link how.code ends.1 how.reading.kept (thrown_away how) (thrown_goes how) in
       way p q u how.closed (post_each calls how.reading.link how.code how.reading.kept (thrown_away how))
-      (address how.reading.id (set_failed how.reading.id how.code (λ _. release (socket_id_slot how.reading.id) (λ _. post_each calls how.reading.link how.code how.reading.kept (thrown_away how)))) (λ _. post_each calls how.reading.link how.code how.reading.kept (thrown_away how)))
+      (add_reference how.reading.id (set_failed how.reading.id how.code (λ _. release (socket_id_slot how.reading.id) (λ _. post_each calls how.reading.link how.code how.reading.kept (thrown_away how)))) (λ _. post_each calls how.reading.link how.code how.reading.kept (thrown_away how)))
       (λ _. goes u ends.0)
       (λ _. address_goes p q narrow u how.reading.id (set_failed how.reading.id how.code (λ _. release (socket_id_slot how.reading.id) (λ _. post_each calls how.reading.link how.code how.reading.kept (thrown_away how)))) (λ _. post_each calls how.reading.link how.code how.reading.kept (thrown_away how))
       (set_failed_goes p q narrow u how.reading.id how.code ends.1.1 (λ _. release (socket_id_slot how.reading.id) (λ _. post_each calls how.reading.link how.code how.reading.kept (thrown_away how)))

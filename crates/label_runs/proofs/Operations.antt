@@ -23,7 +23,7 @@ use Rattle.seat_programs.specs.Clients.{HeldLife, held_under, without_name, give
 use Rattle.seat_programs.specs.Heads.{Posts, Joins, Opens, Reads, Discards, Posting, HasLocked, Locking, Ended}
 use Rattle.seat_programs.specs.Parts.{part}
 use Rattle.seat_programs.specs.Posts.{post_with, posted, post, decided}
-use Rattle.seat_programs.specs.Programs.{Program, Do, Say, Sent, Rest, TakeMessage, TakeHome, PutHome, PutBytes, AskReady, Write, Round, Retries, LAST_VERSION, LAST_GENERATION, recycle, release, address, reach, set_failed, make_socket, open_from, fail_outcome, fail}
+use Rattle.seat_programs.specs.Programs.{Program, Do, Say, Sent, Rest, TakeMessage, TakeHome, PutHome, PutBytes, AskReady, Write, Round, Retries, LAST_VERSION, LAST_GENERATION, recycle, release, add_reference, find_socket, set_failed, make_socket, open_from, fail_outcome, fail}
 use Rattle.seat_programs.specs.Readers.{kept_for, ends_with, posted_last, post_each, thrown_away, read, reader, LIMIT}
 use Rattle.seat_programs.specs.Sends.{freed as given_back, one_more, passed_telling, tell_drop, placed, dropped, put_answered, ready_answered, block, first_put, accept, write_link, heading_of, claim_from, start, send}
 use Rattle.seat_programs.specs.Writings.{Holder, Writing, Puts, Waits, Empties, Walks}
@@ -51,7 +51,7 @@ module _ {K : Type 0} {lost : K} {unlocked_behind : ℕ → ℕ → Bool → K �
     pub release_goes : (i : ℕ) (next : Bool → Program) → ((b : Bool) → G t (next b)) → G t (release i next)
     release_goes i next goes = g.step t (SubRef i) _ refl (λ found. way g t ((vref_version found % 2 == 1) && (vref_nref found == 1)) (recycle i (found - 1) next) (next false) (λ _. recycle_goes i (found - 1) next goes) (λ _. goes false))
 
-    pub address_goes : (id : ℕ) (held : Program) (gone : ℕ → Program) → G t held → ((found : ℕ) → G t (gone found)) → G t (address id held gone)
+    pub address_goes : (id : ℕ) (held : Program) (gone : ℕ → Program) → G t held → ((found : ℕ) → G t (gone found)) → G t (add_reference id held gone)
     address_goes id held gone goes others = g.step t (AddRef id) _ refl (λ found. way g t (vref_version found == socket_id_version id) held (release (socket_id_slot id) (λ _. gone found)) (λ _. goes) (λ _. release_goes (socket_id_slot id) (λ _. gone found) (λ _. others found)))
 
     set_failed_goes : (id code : ℕ) (next : ℕ → Program) → ((found : ℕ) → G t (next found)) → G t (set_failed id code next)
@@ -133,8 +133,8 @@ module _ {K : Type 0} {lost : K} {unlocked_behind : ℕ → ℕ → Bool → K �
       (λ _. g.step lost (StoreLink i k) _ refl (λ _. g.step lost (ResetHead i k) _ refl (λ _. g.step lost (ClearCode i k) _ refl (λ _. g.step lost (CreateLife i k) _ refl (λ found. g.step lost (StoreOpen o _) _ refl (λ _. g.step lost (StoreName name _) _ refl (λ _. g.passes lost (Say o _ next) goes)))))))
       (λ _. open_goes more (i + 1) o name k next goes))
 
-  reach_goes : (name : ℕ) (unopened : Program) (held gone : ℕ → Program) → G lost unopened → ((id : ℕ) → G lost (held id)) → ((found : ℕ) → G lost (gone found)) → G lost (reach name unopened held gone)
-  reach_goes name unopened held gone none_ one others = g.step lost (LoadName name) _ refl (λ word. way g lost (word == 0) unopened (address (word - 1) (held (word - 1)) gone) (λ _. none_) (λ _. address_goes lost (word - 1) (held (word - 1)) gone (one (word - 1)) others))
+  reach_goes : (name : ℕ) (unopened : Program) (held gone : ℕ → Program) → G lost unopened → ((id : ℕ) → G lost (held id)) → ((found : ℕ) → G lost (gone found)) → G lost (find_socket name unopened held gone)
+  reach_goes name unopened held gone none_ one others = g.step lost (LoadName name) _ refl (λ word. way g lost (word == 0) unopened (add_reference (word - 1) (held (word - 1)) gone) (λ _. none_) (λ _. address_goes lost (word - 1) (held (word - 1)) gone (one (word - 1)) others))
 
   claim_from_goes : (more q o id : ℕ) (bytes : List ℕ) (next : Program) → G lost next → G lost (claim_from more q o id bytes next)
   claim_from_goes zero q o id bytes next goes = release_goes lost (socket_id_slot id) (λ _. Say o outcomes.Full next) (λ _. g.passes lost (Say o outcomes.Full next) goes)
@@ -188,9 +188,9 @@ module _ {K : Type 0} {lost : K} {unlocked_behind : ℕ → ℕ → Bool → K �
   pub ending_goes : (os : List ℕ) → G lost (ending_of os)
   ending_goes [] = g.passes lost Rest tt
   ending_goes (o ∷ os) = g.step lost (LoadOpen o) _ refl (λ word.
-      way g lost (word == 0) (ending_of os) (cond (word == NO_SOCKET) (ending_of os) (address (word - 1) (set_failed (word - 1) 1014 (λ _. release (socket_id_slot (word - 1)) (λ _. ending_of os))) (λ _. ending_of os)))
+      way g lost (word == 0) (ending_of os) (cond (word == NO_SOCKET) (ending_of os) (add_reference (word - 1) (set_failed (word - 1) 1014 (λ _. release (socket_id_slot (word - 1)) (λ _. ending_of os))) (λ _. ending_of os)))
       (λ _. ending_goes os)
-      (λ _. way g lost (word == NO_SOCKET) (ending_of os) (address (word - 1) (set_failed (word - 1) 1014 (λ _. release (socket_id_slot (word - 1)) (λ _. ending_of os))) (λ _. ending_of os)) (λ _. ending_goes os)
+      (λ _. way g lost (word == NO_SOCKET) (ending_of os) (add_reference (word - 1) (set_failed (word - 1) 1014 (λ _. release (socket_id_slot (word - 1)) (λ _. ending_of os))) (λ _. ending_of os)) (λ _. ending_goes os)
       (λ _. address_goes lost (word - 1) (set_failed (word - 1) 1014 (λ _. release (socket_id_slot (word - 1)) (λ _. ending_of os))) (λ _. ending_of os)
       (set_failed_goes lost (word - 1) 1014 (λ _. release (socket_id_slot (word - 1)) (λ _. ending_of os)) (λ _. release_goes lost (socket_id_slot (word - 1)) (λ _. ending_of os) (λ _. ending_goes os))) (λ _. ending_goes os))))
 
@@ -220,7 +220,7 @@ module _ {K : Type 0} {lost : K} {unlocked_behind : ℕ → ℕ → Bool → K �
 
   read_goes : (calls : List ℕ) (how : Ended) → G lost (read calls how)
   read_goes calls how = let last : Program = post_each calls how.reading.link how.code how.reading.kept (thrown_away how) in let goes : G lost last = each_goes calls how.reading.link how.code how.reading.kept (thrown_away how) (thrown_goes how) in
-      way g lost how.closed last (address how.reading.id (set_failed how.reading.id how.code (λ _. release (socket_id_slot how.reading.id) (λ _. last))) (λ _. last)) (λ _. goes)
+      way g lost how.closed last (add_reference how.reading.id (set_failed how.reading.id how.code (λ _. release (socket_id_slot how.reading.id) (λ _. last))) (λ _. last)) (λ _. goes)
       (λ _. address_goes lost how.reading.id (set_failed how.reading.id how.code (λ _. release (socket_id_slot how.reading.id) (λ _. last))) (λ _. last)
       (set_failed_goes lost how.reading.id how.code (λ _. release (socket_id_slot how.reading.id) (λ _. last)) (λ _. release_goes lost (socket_id_slot how.reading.id) (λ _. last) (λ _. goes))) (λ _. goes))
 

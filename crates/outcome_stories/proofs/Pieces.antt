@@ -6,7 +6,7 @@ use Rattle.sock_words.specs.Words.{socket_id_version, socket_id_slot, vref_versi
 use Rattle.seat_programs.specs.declared.task.Op.{Op}
 use Rattle.seat_programs.specs.declared.task.Task.{Task}
 use Rattle.seat_programs.specs.Calls.{TableStep, SubRef, Recycle, FreeSlot, LoadLink, TakeLink, FinishLink, PutLink, AddRef, LoadName, CreateLife, SetOdd, SwapHead}
-use Rattle.seat_programs.specs.Programs.{Program, Do, LAST_VERSION, recycle, release, address, reach}
+use Rattle.seat_programs.specs.Programs.{Program, Do, LAST_VERSION, recycle, release, add_reference, find_socket}
 use Rattle.outcome_stories.specs.Stories.{Entry, In}
 use Rattle.outcome_stories.specs.Explains.{Done, Explains, Grew, step, WonRecycling, GaveBackOnly, RecycledNone}
 use Rattle.outcome_stories.proofs.Tests.{split, split_is, split_eq}
@@ -113,15 +113,15 @@ module _ (slots requests : ℕ) (calls : ℕ → Type 0) (broken : List ℕ) (do
         → Goes (step (LoadName name) 0 ∷ []) unopened
         → ((id found : ℕ) → vref_version found ≡ socket_id_version id → Goes (step (AddRef id) found ∷ step (LoadName name) (id + 1) ∷ []) (held id))
         → ((id found : ℕ) (tr : List Entry) → vref_version found ≢ socket_id_version id → Grew t.op (step (AddRef id) found ∷ step (LoadName name) (id + 1) ∷ []) tr → Goes tr (gone found))
-        → Goes [] (reach name unopened held gone)
+        → Goes [] (find_socket name unopened held gone)
     reach_goes name unopened held gone u h g = (
       tt,
-      λ word. split_eq word 0 unopened (address (word - 1) (held (word - 1)) gone) (Goes (step (LoadName name) word ∷ []))
+      λ word. split_eq word 0 unopened (add_reference (word - 1) (held (word - 1)) gone) (Goes (step (LoadName name) word ∷ []))
           (λ e. subst (λ w. Goes (step (LoadName name) w ∷ []) unopened) (sym e) u)
-          (λ n. let s : word - 1 + 1 ≡ word = omega arith in subst (λ w. Goes (step (LoadName name) w ∷ []) (address (word - 1) (held (word - 1)) gone)) s (addressed (word - 1))),
+          (λ n. let s : word - 1 + 1 ≡ word = omega arith in subst (λ w. Goes (step (LoadName name) w ∷ []) (add_reference (word - 1) (held (word - 1)) gone)) s (addressed (word - 1))),
     )
       where
-        addressed : (id : ℕ) → Goes (step (LoadName name) (id + 1) ∷ []) (address id (held id) gone)
+        addressed : (id : ℕ) → Goes (step (LoadName name) (id + 1) ∷ []) (add_reference id (held id) gone)
         addressed id = (
           tt,
           λ found. split_eq (vref_version found) (socket_id_version id) (held id) (release (socket_id_slot id) (λ _. gone found)) (Goes (step (AddRef id) found ∷ step (LoadName name) (id + 1) ∷ []))

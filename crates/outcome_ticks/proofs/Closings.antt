@@ -7,7 +7,7 @@ use Rattle.sock_words.specs.Words.{socket_id_version, socket_id_slot, vref_versi
 use Rattle.seat_programs.specs.declared.task.Task.{Task}
 use Rattle.seat_programs.specs.Calls.{SubRef, StoreCode, LoadLink, TakeLink, FinishLink, PutLink, FreeSlot}
 use Rattle.seat_programs.specs.Heads.{Ended, Reads, Discards, Posting, HasLocked}
-use Rattle.seat_programs.specs.Programs.{Program, Do, Rest, Round, LAST_VERSION, recycle, release, address, set_failed}
+use Rattle.seat_programs.specs.Programs.{Program, Do, Rest, Round, LAST_VERSION, recycle, release, add_reference, set_failed}
 use Rattle.seat_programs.specs.Posts.{post_with, decided}
 use Rattle.seat_programs.specs.Readers.{LIMIT, kept_for, ends_with, posted_last, post_each, thrown_away, read, reader}
 use Rattle.seat_programs.specs.Clients.{ending_of}
@@ -33,11 +33,11 @@ module _ (slots requests : ℕ) (calls : ℕ → Type 0) (broken : List ℕ) (do
   set_failed_goes : (id c : ℕ) (next : ℕ → Program) → ((found : ℕ) → Goes (next found)) → Goes (set_failed id c next)
   set_failed_goes id c next k = (tt, λ found. split (eqb (vref_version found % 2) 0) (Do (StoreCode (socket_id_slot id) (socket_id_version id) c) (λ _. Do (SubRef (socket_id_slot id)) (λ _. next found))) (next found) Goes (tt, λ a. (tt, λ b. k found)) (k found))
 
-  address_goes : (id : ℕ) (held : Program) (gone : ℕ → Program) → Goes held → ((found : ℕ) → Goes (gone found)) → Goes (address id held gone)
+  address_goes : (id : ℕ) (held : Program) (gone : ℕ → Program) → Goes held → ((found : ℕ) → Goes (gone found)) → Goes (add_reference id held gone)
   address_goes id held gone h k = (tt, λ found. split (eqb (vref_version found) (socket_id_version id)) held (release (socket_id_slot id) (λ _. gone found)) Goes h (release_goes (socket_id_slot id) (λ _. gone found) (λ b. k found)))
 
   -- a life is set failed where it is reached
-  closes_goes : (id c : ℕ) (next : Program) → Goes next → Goes (address id (set_failed id c (λ _. release (socket_id_slot id) (λ _. next))) (λ _. next))
+  closes_goes : (id c : ℕ) (next : Program) → Goes next → Goes (add_reference id (set_failed id c (λ _. release (socket_id_slot id) (λ _. next))) (λ _. next))
   closes_goes id c next k = address_goes id (set_failed id c (λ _. release (socket_id_slot id) (λ _. next))) (λ _. next)
       (set_failed_goes id c (λ _. release (socket_id_slot id) (λ _. next)) (λ found. release_goes (socket_id_slot id) (λ _. next) (λ b. k))) (λ found. k)
 
@@ -71,7 +71,7 @@ module _ (slots requests : ℕ) (calls : ℕ → Type 0) (broken : List ℕ) (do
   read_goes : (os : List ℕ) (how : Ended) → Ends (read os how)
   read_goes os how = let id : ℕ = how.reading.id in let last : Program = post_each os how.reading.link how.code how.reading.kept (thrown_away how) in
       let last_is = each_goes slots requests calls broken done trace [] os how.reading.link how.code how.reading.kept (thrown_away how) (thrown_goes how) in
-      split how.closed last (address id (set_failed id how.code (λ _. release (socket_id_slot id) (λ _. last))) (λ _. last)) Ends last_is (closes_goes slots requests calls broken done trace [] id how.code last last_is)
+      split how.closed last (add_reference id (set_failed id how.code (λ _. release (socket_id_slot id) (λ _. last))) (λ _. last)) Ends last_is (closes_goes slots requests calls broken done trace [] id how.code last last_is)
 
   -- each reader, and the ending, only close sockets and speak of calls
   pub reader_explains : (os : List ℕ) (k o : ℕ) → Ends (reader os k o)
@@ -84,7 +84,7 @@ module _ (slots requests : ℕ) (calls : ℕ → Type 0) (broken : List ℕ) (do
   ending_explains [] = refl
   ending_explains (o ∷ os) = (
     tt,
-    λ word. let next : Program = ending_of os in let there : Program = address (word - 1) (set_failed (word - 1) 1014 (λ _. release (socket_id_slot (word - 1)) (λ _. next))) (λ _. next) in
+    λ word. let next : Program = ending_of os in let there : Program = add_reference (word - 1) (set_failed (word - 1) 1014 (λ _. release (socket_id_slot (word - 1)) (λ _. next))) (λ _. next) in
         split (eqb word 0) next (if eqb word NO_SOCKET then next else there) Ends (ending_explains os)
         (split (eqb word NO_SOCKET) next there Ends (ending_explains os) (closes_goes slots requests calls broken done trace [] (word - 1) 1014 next (ending_explains os))),
   )

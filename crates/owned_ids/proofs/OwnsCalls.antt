@@ -20,7 +20,7 @@ use Rattle.seat_programs.specs.declared.task.Sizes.{Sizes}
 use Rattle.seat_programs.specs.Calls.{TableStep, ClaimSlot, CreateLife, StoreLink, ResetHead, ClearCode, StoreName, StoreOpen, TakeLink, FinishLink, PutLink, LookWord, FindLink, ClaimRequest, LoadName}
 use Rattle.seat_programs.specs.Asides.{PutCall, LoadCall, StoreAt, LoadAt}
 use Rattle.seat_programs.specs.Heads.{First, Unlocks, Posting, WasGone, WasStale, WasCrowded, WasQueued, HasLocked, Unlocking, IsOpen, HasNext, Locking, NotThere, Has, Ended}
-use Rattle.seat_programs.specs.Programs.{Program, Do, Say, Rest, Aside, Round, release, address, open_from, make_socket}
+use Rattle.seat_programs.specs.Programs.{Program, Do, Say, Rest, Aside, Round, release, add_reference, open_from, make_socket}
 use Rattle.seat_programs.specs.Posts.{post, posted, decided}
 use Rattle.seat_programs.specs.Attempts.{claims_from, heading_for, attempt, begin_call, claim_id, call, tried_again, retry_locked, retry, expire_outcome, expire, join}
 use Rattle.seat_programs.specs.Readers.{LIMIT, kept_for, ends_with, posted_last, post_each, thrown_away, read, reader}
@@ -56,7 +56,7 @@ module _ (has : ℕ → ℕ) (mine : ℕ → Bool) where
 
   -- the bytes of the frame play no part
   tries_goes : (requests o socket id n : ℕ) (heading : Heading) (bytes : List ℕ) (next : Program) → n < 64 → IsIdOf has o id → G next
-      → G (address socket (Do (FindLink (socket_id_slot socket) (socket_id_version socket)) (λ k. Aside (StoreAt o (at_word (id_first id) (id_slot id) k n)) (λ _. Do (LookWord socket) (λ found.
+      → G (add_reference socket (Do (FindLink (socket_id_slot socket) (socket_id_version socket)) (λ k. Aside (StoreAt o (at_word (id_first id) (id_slot id) k n)) (λ _. Do (LookWord socket) (λ found.
       cond (vref_version found % 2 == 0) (claims_from requests 0 socket heading bytes (post id 3001 n (release (socket_id_slot socket) (λ _. next))) (release (socket_id_slot socket) (λ _. next)))
       (post id 1009 n (release (socket_id_slot socket) (λ _. next))))))) (λ _. post id 1009 n next))
   tries_goes requests o socket id n heading bytes next few own after = let goes : G (release (socket_id_slot socket) (λ _. next)) = release_goes has mine (socket_id_slot socket) (λ _. next) (λ _. after) in

@@ -11,7 +11,7 @@ use Rattle.sock_model.specs.Entries.{ticket_of}
 use Rattle.call_owing.specs.Below.sock_steps.proofs.Quiet.{either_way}
 use Rattle.seat_programs.specs.Calls.{AddRef, SubRef, SetOdd, Recycle, FreeSlot, LoadLink, StoreCode, LoadName, LoadOpen, TakeLink, FinishLink, PutLink, LookWord, FindLink, LoadCode, ClaimRequest, PutMessage, Unconnect, SwapHead, Connect, EmptyHead, ReadNext, ReverseNext, FreeRequest, StorePlace, DropPlace}
 use Rattle.seat_programs.specs.Writings.{Holder, Writing, Puts, Waits, Empties, Walks}
-use Rattle.seat_programs.specs.Programs.{Program, Sent, TakeMessage, Write, LAST_VERSION, LAST_GENERATION, recycle, release, address, reach, set_failed, fail, fail_outcome, hold, drop_held, end_open}
+use Rattle.seat_programs.specs.Programs.{Program, Sent, TakeMessage, Write, LAST_VERSION, LAST_GENERATION, recycle, release, add_reference, find_socket, set_failed, fail, fail_outcome, hold, drop_held, end_open}
 use Rattle.seat_programs.specs.Sends.{freed, one_more, passed_telling, tell_drop, placed, dropped, link_failed, put_answered, ready_answered, block, first_put, write_link, heading_of, accept, claim_from, start, send}
 use Rattle.owned_ids.proofs.OwnsLoops.{Later, step, say, sent, message, home, puts_home, put, ask, write, post_goes}
 
@@ -28,10 +28,10 @@ module _ (has : ℕ → ℕ) (mine : ℕ → Bool) where
   pub release_goes : (i : ℕ) (next : Bool → Program) → ((b : Bool) → G (next b)) → G (release i next)
   release_goes i next after = step has mine (SubRef i) _ (λ found. either_way ((vref_version found % 2 == 1) && (vref_nref found == 1)) _ _ G (recycle_goes i (found - 1) next after) (after false))
 
-  pub address_goes : (id : ℕ) (held : Program) (gone : ℕ → Program) → G held → ((found : ℕ) → G (gone found)) → G (address id held gone)
+  pub address_goes : (id : ℕ) (held : Program) (gone : ℕ → Program) → G held → ((found : ℕ) → G (gone found)) → G (add_reference id held gone)
   address_goes id held gone h after = step has mine (AddRef id) _ (λ found. either_way (vref_version found == socket_id_version id) _ _ G h (release_goes (socket_id_slot id) (λ _. gone found) (λ _. after found)))
 
-  pub reach_goes : (name : ℕ) (unopened : Program) (held gone : ℕ → Program) → G unopened → ((id : ℕ) → G (held id)) → ((found : ℕ) → G (gone found)) → G (reach name unopened held gone)
+  pub reach_goes : (name : ℕ) (unopened : Program) (held gone : ℕ → Program) → G unopened → ((id : ℕ) → G (held id)) → ((found : ℕ) → G (gone found)) → G (find_socket name unopened held gone)
   reach_goes name unopened held gone u h after = step has mine (LoadName name) _ (λ word. either_way (word == 0) _ _ G u (address_goes (word - 1) (held (word - 1)) gone (h (word - 1)) after))
 
   pub set_failed_goes : (id code : ℕ) (next : ℕ → Program) → ((found : ℕ) → G (next found)) → G (set_failed id code next)
@@ -115,7 +115,7 @@ module _ (has : ℕ → ℕ) (mine : ℕ → Bool) where
   send_goes requests o name bytes next after = reach_goes name _ _ _ (say has mine o Unopened next after) (λ id. start_goes requests o id bytes next after) (λ found. say has mine o (Gone (record { 0 = found })) next after)
 
   -- of an ending, what follows the load of the word
-  pub ended_goes : (word : ℕ) (next : Program) → G next → G (cond (word == 0) next (cond (word == NO_SOCKET) next (address (word - 1) (set_failed (word - 1) 1014 (λ _. release (socket_id_slot (word - 1)) (λ _. next))) (λ _. next))))
+  pub ended_goes : (word : ℕ) (next : Program) → G next → G (cond (word == 0) next (cond (word == NO_SOCKET) next (add_reference (word - 1) (set_failed (word - 1) 1014 (λ _. release (socket_id_slot (word - 1)) (λ _. next))) (λ _. next))))
   ended_goes word next after = either_way (word == 0) _ _ G after (either_way (word == NO_SOCKET) _ _ G after
       (address_goes (word - 1) _ _ (set_failed_goes (word - 1) 1014 _ (λ _. release_goes (socket_id_slot (word - 1)) _ (λ _. after))) (λ _. after)))
 

@@ -134,7 +134,7 @@ fn poke(table: &Table, mut seat: Seat, id: SocketId, link: u16) -> (Seat, u32)
 {
     let mut strays = 0u32;
     for _ in 0..1000u32 {
-        let Ok(sock) = table.address(&mut seat, id) else {
+        let Ok(sock) = table.add_reference(&mut seat, id) else {
             continue;
         };
         let found = table.link_of(&mut seat, &sock);
@@ -169,7 +169,7 @@ fn end(table: &Table, mut seat: Seat, id: SocketId) -> (Seat, Option<u16>)
     ensures seat { IsDoneSeat table.now.rule.table.shared.table_id table.now.rule.plan result.0 }
     ensures share { result.0.me.0.share ≡ seat.me.0.share }
 {
-    let Ok(sock) = table.address(&mut seat, id) else {
+    let Ok(sock) = table.add_reference(&mut seat, id) else {
         return (seat, None);
     };
     let link = table.link_of(&mut seat, &sock);

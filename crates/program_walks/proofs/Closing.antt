@@ -8,7 +8,7 @@ use Rattle.sock_words.specs.Words.{socket_id_version, socket_id_slot, vref_versi
 use Rattle.sock_words.specs.declared.plain.Plan.{Plan}
 use Rattle.sock_model.specs.Layout.{ref_index, open_index}
 use Rattle.seat_programs.specs.Calls.{TableStep, AddRef, SetOdd, LoadOpen}
-use Rattle.seat_programs.specs.Programs.{Program, Do, address, set_failed, release}
+use Rattle.seat_programs.specs.Programs.{Program, Do, add_reference, set_failed, release}
 use Rattle.seat_programs.specs.Clients.{ending_of}
 use Rattle.seat_programs.specs.StepTables.{word_of}
 use Rattle.seat_programs.specs.Cores.{found_at}
@@ -51,10 +51,10 @@ fails_held o w id held gone is f found = dite (ℕ_discrete (vref_version found)
 
 -- an ending that has the operation among its own
 fails_ended : (o w : ℕ) → 0 < w → w ≢ NO_SOCKET → (next : Program) → (word : ℕ) → word ≡ w
-    → Fails o w (cond (word == 0) next (cond (word == NO_SOCKET) next (address (word - 1) (set_failed (word - 1) 1014 (λ _. release (socket_id_slot (word - 1)) (λ _. next))) (λ _. next))))
+    → Fails o w (cond (word == 0) next (cond (word == NO_SOCKET) next (add_reference (word - 1) (set_failed (word - 1) 1014 (λ _. release (socket_id_slot (word - 1)) (λ _. next))) (λ _. next))))
 fails_ended o w some_ socket next word is = let id : ℕ = word - 1 in let held : Program = set_failed (word - 1) 1014 (λ _. release (socket_id_slot (word - 1)) (λ _. next)) in
-    subst (λ b. Fails o w (cond b next (cond (word == NO_SOCKET) next (address id held (λ _. next))))) (sym (ne_eqb word 0 (λ e. omega arith)))
-    (subst (λ b. Fails o w (cond b next (address id held (λ _. next)))) (sym (ne_eqb word NO_SOCKET (λ e. socket (sym is ∙ e))))
+    subst (λ b. Fails o w (cond b next (cond (word == NO_SOCKET) next (add_reference id held (λ _. next))))) (sym (ne_eqb word 0 (λ e. omega arith)))
+    (subst (λ b. Fails o w (cond b next (add_reference id held (λ _. next)))) (sym (ne_eqb word NO_SOCKET (λ e. socket (sym is ∙ e))))
     (fails_held o w (word - 1) (set_failed (word - 1) 1014 (λ _. release (socket_id_slot (word - 1)) (λ _. next))) (release (socket_id_slot (word - 1)) (λ _. next)) (omega arith) (inl (ap (λ z. socket_id_slot (z - 1)) (sym is)))))
 
 pub fails_ending : (o w : ℕ) → 0 < w → w ≢ NO_SOCKET → (os : List ℕ) (n : ℕ) → get_elem? os n ≡ some o → Fails o w (ending_of os)

@@ -18,7 +18,7 @@ use Rattle.seat_programs.specs.Calls.{TableStep, CreateLife, StoreOpen, AddRef, 
 use Rattle.seat_programs.specs.Writings.{Writing}
 use Rattle.seat_programs.specs.Asides.{Step, Found, PutCall, StoreAt, LoadIdWord, LockId, UnlockId, EndId, FreeId, TakeCall, TakeBytes, Taking}
 use Rattle.seat_programs.specs.Heads.{Head, Exit, Retry, Sought, Reading, Ended, Posts, Unlocks, Decides, Locks, Joins, Opens, Reads, Discards, Posting, Unlocking, Deciding, Locking}
-use Rattle.seat_programs.specs.Programs.{Program, Do, Say, Sent, TakeMessage, TakeHome, PutHome, PutBytes, AskReady, Write, Aside, Round, Keep, Retries, LAST_VERSION, recycle, release, address, reach, set_failed, fail, fail_outcome, hold, drop_held}
+use Rattle.seat_programs.specs.Programs.{Program, Do, Say, Sent, TakeMessage, TakeHome, PutHome, PutBytes, AskReady, Write, Aside, Round, Keep, Retries, LAST_VERSION, recycle, release, add_reference, find_socket, set_failed, fail, fail_outcome, hold, drop_held}
 use Rattle.seat_programs.specs.Readers.{ended_by}
 use Rattle.seat_programs.specs.Cores.{next_step}
 use Rattle.sock_runs.specs.program_steps.specs.AtSteps.{Asks, AtSteps}
@@ -247,10 +247,10 @@ module _ (G : Program → Type 0) (g : PassesWords G) where
   pub through_release : (i : ℕ) (next : Bool → Program) → ((b : Bool) → G (next b)) → G (release i next)
   through_release = given_release G frees
 
-  pub through_address : (id : ℕ) (held : Program) (gone : ℕ → Program) → G held → ((found : ℕ) → G (gone found)) → G (address id held gone)
+  pub through_address : (id : ℕ) (held : Program) (gone : ℕ → Program) → G held → ((found : ℕ) → G (gone found)) → G (add_reference id held gone)
   through_address id held gone h after = g.step (AddRef id) _ refl (λ found. either_way (vref_version found == socket_id_version id) _ _ G h (through_release (socket_id_slot id) (λ _. gone found) (λ _. after found)))
 
-  pub through_reach : (name : ℕ) (unopened : Program) (held gone : ℕ → Program) → G unopened → ((id : ℕ) → G (held id)) → ((found : ℕ) → G (gone found)) → G (reach name unopened held gone)
+  pub through_reach : (name : ℕ) (unopened : Program) (held gone : ℕ → Program) → G unopened → ((id : ℕ) → G (held id)) → ((found : ℕ) → G (gone found)) → G (find_socket name unopened held gone)
   through_reach name unopened held gone u h after = g.step (LoadName name) _ refl (λ word. either_way (word == 0) _ _ G u (through_address (word - 1) (held (word - 1)) gone (h (word - 1)) after))
 
   pub through_set_failed : PassesSteps sets_failed G → (code : ℕ) → PassesFails G code

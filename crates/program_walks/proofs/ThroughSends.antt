@@ -11,7 +11,7 @@ use Rattle.sock_model.specs.Entries.{ticket_of}
 use Rattle.sock_steps.proofs.Quiet.{either_way}
 use Rattle.seat_programs.specs.Calls.{LookWord, FindLink, LoadCode, ClaimRequest, PutMessage, Unconnect, SwapHead, Connect, ReadNext, ReverseNext, FreeRequest, StorePlace, DropPlace}
 use Rattle.seat_programs.specs.Writings.{Holder, Writing, Puts, Waits, Empties, Walks}
-use Rattle.seat_programs.specs.Programs.{Program, Sent, Rest, TakeMessage, TakeHome, Write, LAST_GENERATION, release, address, set_failed, end_open}
+use Rattle.seat_programs.specs.Programs.{Program, Sent, Rest, TakeMessage, TakeHome, Write, LAST_GENERATION, release, add_reference, set_failed, end_open}
 use Rattle.seat_programs.specs.Sends.{freed, one_more, passed_telling, tell_drop, placed, dropped, link_failed, put_answered, ready_answered, block, first_put, write_link, heading_of, accept, claim_from, start, send}
 use Rattle.seat_programs.specs.Clients.{ending_of}
 use Rattle.program_walks.proofs.Through.{PassesWords, PassesPlain, PassesFails, PassesLinks, PassesSends, PassesOpens, through_release, through_address, through_reach}
@@ -90,7 +90,7 @@ module _ (G : Program → Type 0) (s : PassesSends G) where
 -- of an ending
 module _ (G : Program → Type 0) (g : PassesWords G) (fails : PassesFails G 1014) where
   -- what follows the load of the word
-  pub through_ended : (word : ℕ) (next : Program) → G next → G (cond (word == 0) next (cond (word == NO_SOCKET) next (address (word - 1) (set_failed (word - 1) 1014 (λ _. release (socket_id_slot (word - 1)) (λ _. next))) (λ _. next))))
+  pub through_ended : (word : ℕ) (next : Program) → G next → G (cond (word == 0) next (cond (word == NO_SOCKET) next (add_reference (word - 1) (set_failed (word - 1) 1014 (λ _. release (socket_id_slot (word - 1)) (λ _. next))) (λ _. next))))
   through_ended word next after = either_way (word == 0) _ _ G after (either_way (word == NO_SOCKET) _ _ G after
       (through_address G g (word - 1) _ _ (fails (word - 1) _ (λ _. through_release G g (socket_id_slot (word - 1)) _ (λ _. after))) (λ _. after)))
 

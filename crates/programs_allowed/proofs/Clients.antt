@@ -13,7 +13,7 @@ use Rattle.sock_model.specs.declared.view.View.{View}
 use Rattle.seat_programs.specs.declared.task.Op.{Op}
 use Rattle.seat_programs.specs.declared.task.Op.TheVariants as ops
 use Rattle.seat_programs.specs.declared.task.Task.{Task}
-use Rattle.seat_programs.specs.Programs.{Program, Say, Round, release, address, set_failed, fail, fail_outcome, hold, drop_held, end_open}
+use Rattle.seat_programs.specs.Programs.{Program, Say, Round, release, add_reference, set_failed, fail, fail_outcome, hold, drop_held, end_open}
 use Rattle.seat_programs.specs.Clients.{HeldLife, held_under, without_name, give_back, drop_of, operation, client_from, ending_of}
 use Rattle.seat_programs.specs.Scripts.{sizes_of}
 use Rattle.seat_programs.specs.Told.{OpFits, TaskFits, in_hand_behind, goes_well, alternate}
@@ -58,7 +58,7 @@ module _ (p : Plan) {lists : List (List Entry)} {held : List HeldLife} {passes :
       (λ id u slot b. let h : HeldLife = record { name = name; id = id } in holds_ id u slot (at_slot (holding (socket_id_version id) (held ++ h ∷ []) b (more_here held h) (more_else held h)) 0)) (λ u found. goes u)
 
   pub end_goes : (o : ℕ) {v : View} → o < p.operations → Ready lists held passes v → (next : Program) → ((u : View) → Ready lists held passes u → GoesOn p u next) → GoesOn p v (end_open o next)
-  end_goes o {v} inside a next goes = loads_open p a o inside next (λ word. address (word - 1) (set_failed (word - 1) 1014 (λ _. release (socket_id_slot (word - 1)) (λ _. next))) (λ _. next)) (goes v a)
+  end_goes o {v} inside a next goes = loads_open p a o inside next (λ word. add_reference (word - 1) (set_failed (word - 1) 1014 (λ _. release (socket_id_slot (word - 1)) (λ _. next))) (λ _. next)) (goes v a)
       (λ word u knows b. address_goes p (word - 1) b knows few (set_failed (word - 1) 1014 (λ _. release (socket_id_slot (word - 1)) (λ _. next))) (λ _. next)
       (λ w c. fails_held (word - 1) 1014 (λ e. absurd (omega (arith, e))) knows.0 c (λ _. next) (λ found. goes)) (λ w found. goes w))
 

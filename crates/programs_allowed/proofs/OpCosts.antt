@@ -14,7 +14,7 @@ use Rattle.seat_programs.specs.declared.task.Task.{Task}
 use Rattle.seat_programs.specs.sock_message.specs.Asked.{Asked, name_of}
 use Rattle.seat_programs.specs.Calls.{ClaimSlot, CreateLife, StoreLink, ResetHead, ClearCode, StoreName, LoadName, StoreOpen, LoadOpen, LookWord, ClaimRequest}
 use Rattle.seat_programs.specs.Heads.{Joins}
-use Rattle.seat_programs.specs.Programs.{Program, Do, Say, Sent, Round, release, address, reach, set_failed, no_socket, make_socket, open_from, fail_outcome, fail, hold, end_open}
+use Rattle.seat_programs.specs.Programs.{Program, Do, Say, Sent, Round, release, add_reference, find_socket, set_failed, no_socket, make_socket, open_from, fail_outcome, fail, hold, end_open}
 use Rattle.seat_programs.specs.Posts.{post_with, posted}
 use Rattle.seat_programs.specs.Sends.{heading_of, accept, claim_from, start, send}
 use Rattle.seat_programs.specs.Attempts.{begin_call, claim_id, call, expire_outcome, expire, join}
@@ -36,11 +36,11 @@ abbrev pub begin_cost : Plan → Asked → ℕ
 begin_cost p asked = CHANGE + (asked.range - 2) * attempt_cost p.requests + 2 + (p.requests + weight 131072 + POST + CHANGE + 23 + ACCEPT)
 
 module _ (p : Plan) where
-  reach_lasts : (name : ℕ) (unopened : Program) (held gone : ℕ → Program) (n m : ℕ) → 7 + m ≤ n → Lasting p unopened n → ((id : ℕ) → Lasting p (held id) n) → ((found : ℕ) → Lasting p (gone found) m) → Lasting p (reach name unopened held gone) (2 + n)
+  reach_lasts : (name : ℕ) (unopened : Program) (held gone : ℕ → Program) (n m : ℕ) → 7 + m ≤ n → Lasting p unopened n → ((id : ℕ) → Lasting p (held id) n) → ((found : ℕ) → Lasting p (gone found) m) → Lasting p (find_socket name unopened held gone) (2 + n)
   reach_lasts name unopened held gone n m le u l k v = (
     1 + n,
     omega arith,
-    λ word hand f. either_lasts p unopened (address (word - 1) (held (word - 1)) gone) (1 + n) (word == 0) (lasting_more p unopened n (1 + n) (omega arith) u) (address_lasts p (word - 1) (held (word - 1)) gone n m le (l (word - 1)) k)
+    λ word hand f. either_lasts p unopened (add_reference (word - 1) (held (word - 1)) gone) (1 + n) (word == 0) (lasting_more p unopened n (1 + n) (omega arith) u) (address_lasts p (word - 1) (held (word - 1)) gone n m le (l (word - 1)) k)
         (row p (LoadName name) word hand v),
   )
 
@@ -160,7 +160,7 @@ module _ (p : Plan) where
     -- ## The ending
 
     end_lasts : Lasting p (end_open o next) (12 + n)
-    end_lasts v = let fails : ℕ → Program = λ word. set_failed (word - 1) 1014 (λ _. release (socket_id_slot (word - 1)) (λ _. next)) in let ends : ℕ → Program = λ word. address (word - 1) (fails word) (λ _. next) in (
+    end_lasts v = let fails : ℕ → Program = λ word. set_failed (word - 1) 1014 (λ _. release (socket_id_slot (word - 1)) (λ _. next)) in let ends : ℕ → Program = λ word. add_reference (word - 1) (fails word) (λ _. next) in (
       11 + n,
       omega arith,
       λ word hand f. either_lasts p next (cond (word == NO_SOCKET) next (ends word)) (11 + n) (word == 0) (lasting_more p next n (11 + n) (omega arith) l)

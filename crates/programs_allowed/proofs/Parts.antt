@@ -11,7 +11,7 @@ use Rattle.sock_model.specs.declared.view.View.{View}
 use Rattle.sock_model.specs.Weights.{is_known}
 use Rattle.sock_model.specs.SlotRows.{marks_of}
 use Rattle.seat_programs.specs.Calls.{CreateLife, SubRef, FreeSlot, LoadLink, ResetHead, ClearCode, StoreCode, StoreName, StoreOpen, TakeLink, FinishLink, PutLink}
-use Rattle.seat_programs.specs.Programs.{Program, Do, Say, LAST_VERSION, recycle, release, address, reach, set_failed, no_socket, make_socket, open_from}
+use Rattle.seat_programs.specs.Programs.{Program, Do, Say, LAST_VERSION, recycle, release, add_reference, find_socket, set_failed, no_socket, make_socket, open_from}
 use Rattle.seat_programs.specs.Clients.{HeldLife}
 use Rattle.seat_programs.specs.StepViews.{Knows}
 use Rattle.program_walks.specs.program_steps.specs.GoesOn.{GoesOn}
@@ -50,14 +50,14 @@ module _ (p : Plan) {lists : List (List Entry)} {held : List HeldLife} {passes :
 
   pub address_goes : (id : ℕ) {v : View} → Has lists (socket_id_slot id) [] held passes [] v → Knows p v id → length held ≤ 4096 → (x : Program) (y : ℕ → Program)
       → ((u : View) → Has lists (socket_id_slot id) (Hold (socket_id_version id) ∷ []) held passes [] u → GoesOn p u x) → ((u : View) (found : ℕ) → Ready lists held passes u → GoesOn p u (y found))
-      → GoesOn p v (address id x y)
+      → GoesOn p v (add_reference id x y)
   address_goes id a knows few x y holds_ gone_ = adds p a id refl knows (omega (arith, few)) x (λ found. release (socket_id_slot id) (λ _. y found)) holds_
       (λ u found b. release_goes (socket_id_slot id) Probe b (inl refl) knows.0 (λ _. y found) (λ c w. gone_ w found))
 
   pub reach_goes : (name : ℕ) {v : View} → name < p.names → Ready lists held passes v → length held ≤ 4096 → (x : Program) (y z : ℕ → Program) → GoesOn p v x
       → ((id : ℕ) (u : View) → socket_id_slot id < p.slots → Has lists (socket_id_slot id) (Hold (socket_id_version id) ∷ []) held passes [] u → GoesOn p u (y id)) → ((u : View) (found : ℕ) → Ready lists held passes u → GoesOn p u (z found))
-      → GoesOn p v (reach name x y z)
-  reach_goes name inside a few x y z none_ holds_ gone_ = loads_name p a name inside x (λ word. address (word - 1) (y (word - 1)) z) none_
+      → GoesOn p v (find_socket name x y z)
+  reach_goes name inside a few x y z none_ holds_ gone_ = loads_name p a name inside x (λ word. add_reference (word - 1) (y (word - 1)) z) none_
       (λ word u knows b. address_goes (word - 1) b knows few (y (word - 1)) z (λ w. holds_ (word - 1) w knows.0) gone_)
 
   -- ## A held life failed

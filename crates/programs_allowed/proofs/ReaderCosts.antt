@@ -7,7 +7,7 @@ use Rattle.corr_core.specs.Word.{parts, error_of}
 use Rattle.program_walks.specs.brpc_model.specs.Frame.{Frame}
 use Rattle.seat_programs.specs.Asides.{LoadAt}
 use Rattle.seat_programs.specs.Heads.{Reads, Discards, Posting, HasLocked, Deciding, HasEnded, GoesOn, Ended}
-use Rattle.seat_programs.specs.Programs.{Program, Rest, Aside, Round, address, release, set_failed}
+use Rattle.seat_programs.specs.Programs.{Program, Rest, Aside, Round, add_reference, release, set_failed}
 use Rattle.seat_programs.specs.Posts.{post_with, decided}
 use Rattle.seat_programs.specs.Readers.{LIMIT, kept_for, ends_with, posted_last, post_each, thrown_away, read, reader}
 use Rattle.program_walks.specs.program_steps.specs.Fits.{FitsPosting}
@@ -66,9 +66,9 @@ module _ (p : Plan) where
   thrown_lasts how = either_lasts p (Round (Discards how.reading.link how.reading.total) (λ _. Rest)) Rest (LIMIT + 1) (how.fault && nat_lt how.reading.total LIMIT) (λ v. (0, omega arith, λ _ _. tt)) (λ v. tt)
 
   read_lasts : (calls : List ℕ) (how : Ended) → Lasting p (read calls how) (11 + posts_cost (length calls))
-  read_lasts calls how = either_lasts p last (address how.reading.id (set_failed how.reading.id how.code (λ _. release (socket_id_slot how.reading.id) (λ _. last))) (λ _. last)) (11 + posts_cost (length calls)) how.closed
+  read_lasts calls how = either_lasts p last (add_reference how.reading.id (set_failed how.reading.id how.code (λ _. release (socket_id_slot how.reading.id) (λ _. last))) (λ _. last)) (11 + posts_cost (length calls)) how.closed
       (lasting_more p last (posts_cost (length calls)) (11 + posts_cost (length calls)) (omega arith) lasts)
-      (lasting_more p (address how.reading.id (set_failed how.reading.id how.code (λ _. release (socket_id_slot how.reading.id) (λ _. last))) (λ _. last)) (1 + (10 + posts_cost (length calls))) (11 + posts_cost (length calls)) (omega arith)
+      (lasting_more p (add_reference how.reading.id (set_failed how.reading.id how.code (λ _. release (socket_id_slot how.reading.id) (λ _. last))) (λ _. last)) (1 + (10 + posts_cost (length calls))) (11 + posts_cost (length calls)) (omega arith)
       (address_lasts p how.reading.id (set_failed how.reading.id how.code (λ _. release (socket_id_slot how.reading.id) (λ _. last))) (λ _. last) (10 + posts_cost (length calls)) (posts_cost (length calls)) (omega arith)
       (lasting_more p (set_failed how.reading.id how.code (λ _. release (socket_id_slot how.reading.id) (λ _. last))) (3 + (7 + posts_cost (length calls))) (10 + posts_cost (length calls)) (omega arith)
       (set_failed_lasts p how.reading.id how.code (λ _. release (socket_id_slot how.reading.id) (λ _. last)) (7 + posts_cost (length calls)) (λ found. release_lasts p (socket_id_slot how.reading.id) (λ _. last) (posts_cost (length calls)) (λ b. lasts))))

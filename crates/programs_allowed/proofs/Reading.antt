@@ -7,7 +7,7 @@ use Rattle.sock_model.specs.declared.view.View.{View}
 use Rattle.corr_core.specs.Word.{parts, error_of}
 use Rattle.program_walks.specs.brpc_model.specs.Frame.{Frame}
 use Rattle.seat_programs.specs.Heads.{Reads, Discards, Posting, HasLocked, Ended}
-use Rattle.seat_programs.specs.Programs.{Program, Rest, Round, address, release, set_failed}
+use Rattle.seat_programs.specs.Programs.{Program, Rest, Round, add_reference, release, set_failed}
 use Rattle.seat_programs.specs.Posts.{post_with, decided}
 use Rattle.seat_programs.specs.Readers.{LIMIT, kept_for, ends_with, posted_last, post_each, thrown_away, read, reader}
 use Rattle.seat_programs.specs.StepViews.{Knows}
@@ -50,9 +50,9 @@ module _ (p : Plan) {lists : List (List Entry)} where
   read_goes : (calls : List ℕ) (id : ℕ) (v : View) → Knows p v id → Has lists (socket_id_slot id) [] [] [] [] v → (how : Ended) → FitsEnded id how → GoesOn p v (read calls how)
   read_goes calls id v knows a how f = let last : Program = post_each calls how.reading.link how.code how.reading.kept (thrown_away how) in
       way p v how.closed (post_each calls how.reading.link how.code how.reading.kept (thrown_away how))
-      (address how.reading.id (set_failed how.reading.id how.code (λ _. release (socket_id_slot how.reading.id) (λ _. post_each calls how.reading.link how.code how.reading.kept (thrown_away how)))) (λ _. post_each calls how.reading.link how.code how.reading.kept (thrown_away how)))
+      (add_reference how.reading.id (set_failed how.reading.id how.code (λ _. release (socket_id_slot how.reading.id) (λ _. post_each calls how.reading.link how.code how.reading.kept (thrown_away how)))) (λ _. post_each calls how.reading.link how.code how.reading.kept (thrown_away how)))
       (λ _. last_goes calls how v (at_slot a 0))
-      (λ _. subst (λ i. GoesOn p v (address i (set_failed i how.code (λ _. release (socket_id_slot i) (λ _. post_each calls how.reading.link how.code how.reading.kept (thrown_away how)))) (λ _. post_each calls how.reading.link how.code how.reading.kept (thrown_away how)))) (sym f.0)
+      (λ _. subst (λ i. GoesOn p v (add_reference i (set_failed i how.code (λ _. release (socket_id_slot i) (λ _. post_each calls how.reading.link how.code how.reading.kept (thrown_away how)))) (λ _. post_each calls how.reading.link how.code how.reading.kept (thrown_away how)))) (sym f.0)
       (address_goes p id a knows (omega arith) (set_failed id how.code (λ _. release (socket_id_slot id) (λ _. post_each calls how.reading.link how.code how.reading.kept (thrown_away how)))) (λ _. post_each calls how.reading.link how.code how.reading.kept (thrown_away how))
       (λ w c. fails_held p (omega arith) id how.code f.1 knows.0 c (λ _. post_each calls how.reading.link how.code how.reading.kept (thrown_away how)) (λ found u b. last_goes calls how u b))
       (λ w found b. last_goes calls how w b)))

@@ -11,7 +11,7 @@ use Rattle.sock_message.specs.Asked.{Asked}
 use Rattle.seat_programs.specs.Asides.{Taking, Bytes, Nothing, NoMore, AtEnd, Closed, Broken, LoadAt, TakeCall, FreeId}
 use Rattle.seat_programs.specs.Calls as calls
 use Rattle.seat_programs.specs.Heads.{Reading, Ended, Opens, Reads, Discards, Deciding, Decides}
-use Rattle.seat_programs.specs.Programs.{Program, Do, Say, Rest, Aside, Round, address, release, set_failed}
+use Rattle.seat_programs.specs.Programs.{Program, Do, Say, Rest, Aside, Round, add_reference, release, set_failed}
 use Rattle.seat_programs.specs.Posts.{post_with, decide, decided, end_id}
 use Rattle.seat_programs.specs.Readers.{LIMIT, slot_in, version_in, answered, responses, ended_by, read_on, read, kept_for, ends_with, posted_last, post_each, thrown_away, room_of}
 use Rattle.call_points.specs.Points.{end_program, post_program, lock_program, IsOpen}
@@ -93,7 +93,7 @@ module _ (a : Context) where
   posts_program c = post_each (drop c.next a.calls) c.reader.link (code_by c.fault) a.kept (thrown_away (ended_of c))
 
   abbrev pub close_program : Closing → CloseStep → Program
-  close_program c closes.AddRef = address c.reader.socket.0 (set_failed c.reader.socket.0 (code_by c.fault) (λ _. release (socket_id_slot c.reader.socket.0) (λ _. posts_program c))) (λ _. posts_program c)
+  close_program c closes.AddRef = add_reference c.reader.socket.0 (set_failed c.reader.socket.0 (code_by c.fault) (λ _. release (socket_id_slot c.reader.socket.0) (λ _. posts_program c))) (λ _. posts_program c)
   close_program c closes.SetOdd = set_failed c.reader.socket.0 (code_by c.fault) (λ _. release (socket_id_slot c.reader.socket.0) (λ _. posts_program c))
   close_program c closes.StoreCode = Do (calls.StoreCode (socket_id_slot c.reader.socket.0) (socket_id_version c.reader.socket.0) (code_by c.fault)) (λ _. Do (calls.SubRef (socket_id_slot c.reader.socket.0)) (λ _. release (socket_id_slot c.reader.socket.0) (λ _. posts_program c)))
   close_program c closes.ReleaseFirst = Do (calls.SubRef (socket_id_slot c.reader.socket.0)) (λ _. release (socket_id_slot c.reader.socket.0) (λ _. posts_program c))

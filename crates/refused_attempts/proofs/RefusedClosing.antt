@@ -7,7 +7,7 @@ use Rattle.sock_words.specs.declared.plain.Plan.{Plan}
 use Rattle.seat_programs.specs.Calls.{SubRef, StoreCode, LoadLink, TakeLink, FinishLink, PutLink, FreeSlot}
 use Rattle.seat_programs.specs.Clients.{ending_of}
 use Rattle.seat_programs.specs.Heads.{Retry}
-use Rattle.seat_programs.specs.Programs.{Program, Do, Rest, LAST_VERSION, recycle, release, address, set_failed}
+use Rattle.seat_programs.specs.Programs.{Program, Do, Rest, LAST_VERSION, recycle, release, add_reference, set_failed}
 use Rattle.seat_programs.specs.Cores.{Core, SeatState, resolved, next_step, waiting_at, found_at}
 use Rattle.seat_programs.specs.StepTables.{word_of}
 use Rattle.seat_programs.specs.Ticks.{quiet, ticked, tick_with}
@@ -35,7 +35,7 @@ recycle_goes i from next goes found = way (eqb found from)
 release_goes : (i : ℕ) (next : Bool → Program) → ((b : Bool) → OnSockets (next b)) → OnSockets (release i next)
 release_goes i next goes found = way ((vref_version found % 2 == 1) && (vref_nref found == 1)) (recycle i (found - 1) next) (next false) (recycle_goes i (found - 1) next goes) (goes false)
 
-address_goes : (id : ℕ) (held : Program) (gone : ℕ → Program) → OnSockets held → ((found : ℕ) → OnSockets (gone found)) → OnSockets (address id held gone)
+address_goes : (id : ℕ) (held : Program) (gone : ℕ → Program) → OnSockets held → ((found : ℕ) → OnSockets (gone found)) → OnSockets (add_reference id held gone)
 address_goes id held gone goes others found = way (vref_version found == socket_id_version id) held (release (socket_id_slot id) (λ _. gone found)) goes (release_goes (socket_id_slot id) (λ _. gone found) (λ _. others found))
 
 set_failed_goes : (id code : ℕ) (next : ℕ → Program) → ((found : ℕ) → OnSockets (next found)) → OnSockets (set_failed id code next)
@@ -43,8 +43,8 @@ set_failed_goes id code next goes found = way (vref_version found % 2 == 0) (Do 
 
 pub ending_goes : (os : List ℕ) → OnSockets (ending_of os)
 ending_goes [] = tt
-ending_goes (o ∷ os) = λ word. way (word == 0) (ending_of os) (cond (word == NO_SOCKET) (ending_of os) (address (word - 1) (set_failed (word - 1) 1014 (λ _. release (socket_id_slot (word - 1)) (λ _. ending_of os))) (λ _. ending_of os))) (ending_goes os)
-    (way (word == NO_SOCKET) (ending_of os) (address (word - 1) (set_failed (word - 1) 1014 (λ _. release (socket_id_slot (word - 1)) (λ _. ending_of os))) (λ _. ending_of os)) (ending_goes os)
+ending_goes (o ∷ os) = λ word. way (word == 0) (ending_of os) (cond (word == NO_SOCKET) (ending_of os) (add_reference (word - 1) (set_failed (word - 1) 1014 (λ _. release (socket_id_slot (word - 1)) (λ _. ending_of os))) (λ _. ending_of os))) (ending_goes os)
+    (way (word == NO_SOCKET) (ending_of os) (add_reference (word - 1) (set_failed (word - 1) 1014 (λ _. release (socket_id_slot (word - 1)) (λ _. ending_of os))) (λ _. ending_of os)) (ending_goes os)
     (address_goes (word - 1) (set_failed (word - 1) 1014 (λ _. release (socket_id_slot (word - 1)) (λ _. ending_of os))) (λ _. ending_of os)
     (set_failed_goes (word - 1) 1014 (λ _. release (socket_id_slot (word - 1)) (λ _. ending_of os)) (λ _. release_goes (socket_id_slot (word - 1)) (λ _. ending_of os) (λ _. ending_goes os))) (λ _. ending_goes os)))
 

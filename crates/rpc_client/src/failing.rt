@@ -7,7 +7,7 @@ ghost use Rattle.sock_table.specs.Answers.{Holds};
 ghost use Rattle.rpc_client.specs.Seats.{Idle, MayAct, AtRest, StaysSeen, SameRefs};
 ghost use Rattle.rpc_client.specs.Failing.{SetBy, FailedBy};
 
-use crate::reaching::{Reached, reach};
+use crate::reaching::{Reached, find_socket};
 use sock_io::Out;
 use sock_rule::SockSeat;
 use sock_table::{SockRef, SockTable};
@@ -54,7 +54,7 @@ pub fn fail_one<O: Out>(
     ensures lists { seat.new.me.0.lists ≡ seat.old.me.0.lists }
     ensures seen { StaysSeen seat.old.me.0 seat.new.me.0 }
 {
-    match reach(table, seat, name) {
+    match find_socket(table, seat, name) {
         Reached::Unopened => Outcome::Unopened,
         Reached::Gone(found) => Outcome::Gone { found },
         Reached::Here(sock) => {

@@ -4,7 +4,7 @@ ghost use Rattle.sock_table.specs.Answers.{is_freed};
 ghost use Rattle.rpc_client.specs.Seats.{Idle, MayAct, AtRest, StaysSeen};
 ghost use Rattle.rpc_client.specs.Holding.{IsHolder, HeldBy, given_as, GivenBy, DroppedBy};
 
-use crate::reaching::{Reached, reach};
+use crate::reaching::{Reached, find_socket};
 use sock_io::Out;
 use sock_rule::SockSeat;
 use sock_table::{Released, SockRef, SockTable};
@@ -35,7 +35,7 @@ pub fn hold_one<O: Out>(
     ensures seen { StaysSeen seat.old.me.0 seat.new.me.0 }
     ensures capacity { vec_capacity held.new ≡ vec_capacity held.old }
 {
-    match reach(table, seat, name) {
+    match find_socket(table, seat, name) {
         Reached::Unopened => Outcome::Unopened,
         Reached::Gone(found) => Outcome::Gone { found },
         Reached::Here(sock) => {

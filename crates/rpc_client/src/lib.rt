@@ -13,6 +13,6 @@ pub use acting::Told;
 pub use failing::{fail_one, fail_socket};
 pub use holding::{Held, drop_one, give_back, hold_one};
 pub use opening::{open_none, open_one};
-pub use reaching::{Reached, reach};
+pub use reaching::{Reached, find_socket};
 pub use running::give_all;
 pub use sending::refuse;

@@ -17,7 +17,7 @@ pub enum Reached {
 
 /// The name is read, and its id is addressed.
 /// bRPC's `Address` (versioned_ref_with_id.h): a stale id reaches nothing.
-pub fn reach<O: Out>(table: &SockTable<O>, seat: &mut SockSeat<O>, name: u16) -> Reached
+pub fn find_socket<O: Out>(table: &SockTable<O>, seat: &mut SockSeat<O>, name: u16) -> Reached
     requires may { MayAct table.now.rule.table.shared.table_id table.now.rule.plan seat.old }
     requires name { name < table.now.rule.plan.names }
     ensures rest { AtRest table.now.rule.table.shared.table_id table.now.rule.plan seat.old seat.new }
@@ -29,7 +29,7 @@ pub fn reach<O: Out>(table: &SockTable<O>, seat: &mut SockSeat<O>, name: u16) ->
     let Some(id) = table.find(seat, name) else {
         return Reached::Unopened;
     };
-    match table.address(seat, id) {
+    match table.add_reference(seat, id) {
         Ok(sock) => Reached::Here(sock),
         Err(gone) => Reached::Gone(gone.found),
     }

@@ -22,7 +22,7 @@ pub fn fail_id<O: Out>(table: &SockTable<O>, seat: &mut SockSeat<O>, id: SocketI
     ensures lists { seat.new.me.0.lists ≡ seat.old.me.0.lists }
     ensures seen { StaysSeen seat.old.me.0 seat.new.me.0 }
 {
-    match table.address(seat, id) {
+    match table.add_reference(seat, id) {
         Err(_) => {}
         Ok(sock) => {
             fail_socket(table, seat, &sock, code);

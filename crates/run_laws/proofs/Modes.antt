@@ -17,7 +17,7 @@ use Rattle.seat_programs.specs.declared.task.Task.{Task}
 use Rattle.seat_programs.specs.declared.task.Sizes.{Sizes}
 use Rattle.seat_programs.specs.Calls.{TableStep, FindLink, SetOdd, StoreCode, SubRef, LookWord, LoadCode, StorePlace, DropPlace, LoadLink, TakeLink, FinishLink, PutLink, FreeSlot, FreeRequest, ReadNext, ReverseNext, Connect}
 use Rattle.seat_programs.specs.Writings.{Holder, Writing, Puts, Waits, Empties, Walks}
-use Rattle.seat_programs.specs.Programs.{Program, Do, Say, Sent, Rest, TakeMessage, TakeHome, PutHome, PutBytes, AskReady, Write, Aside, Round, Keep, Retries, LAST_VERSION, LAST_GENERATION, recycle, release, address, reach, set_failed, no_socket, make_socket, open_from, fail_outcome, fail}
+use Rattle.seat_programs.specs.Programs.{Program, Do, Say, Sent, Rest, TakeMessage, TakeHome, PutHome, PutBytes, AskReady, Write, Aside, Round, Keep, Retries, LAST_VERSION, LAST_GENERATION, recycle, release, add_reference, find_socket, set_failed, no_socket, make_socket, open_from, fail_outcome, fail}
 use Rattle.seat_programs.specs.Sends.{freed, one_more, passed_telling, tell_drop, placed, dropped, put_answered, ready_answered, block, first_put, write_link, heading_of, accept, claim_from, start}
 use Rattle.seat_programs.specs.Clients.{HeldLife, held_under, without_name, give_back, drop_of, operation, client_from, ending_of}
 use Rattle.seat_programs.specs.Cores.{next_step, resolved}
@@ -153,16 +153,16 @@ release_guarded m whole i next k = (
   λ found. sides ((vref_version found % 2 == 1) && (vref_nref found == 1)) (recycle i (found - 1) next) (next false) Unknown (recycle_guarded i (found - 1) next k) (k false),
 )
 
-address_guarded : (id : ℕ) (held : Program) (gone : ℕ → Program) → Guarded Unknown held → ((found : ℕ) → Guarded Unknown (gone found)) → Guarded Unknown (address id held gone)
+address_guarded : (id : ℕ) (held : Program) (gone : ℕ → Program) → Guarded Unknown held → ((found : ℕ) → Guarded Unknown (gone found)) → Guarded Unknown (add_reference id held gone)
 address_guarded id held gone h k = (
   tt,
   λ found. sides (vref_version found == socket_id_version id) held (release (socket_id_slot id) (λ _. gone found)) Unknown h (release_guarded Unknown tt (socket_id_slot id) (λ _. gone found) (λ b. k found)),
 )
 
-reach_guarded : (name : ℕ) (unopened : Program) (held gone : ℕ → Program) → Guarded Unknown unopened → ((id : ℕ) → Guarded Unknown (held id)) → ((found : ℕ) → Guarded Unknown (gone found)) → Guarded Unknown (reach name unopened held gone)
+reach_guarded : (name : ℕ) (unopened : Program) (held gone : ℕ → Program) → Guarded Unknown unopened → ((id : ℕ) → Guarded Unknown (held id)) → ((found : ℕ) → Guarded Unknown (gone found)) → Guarded Unknown (find_socket name unopened held gone)
 reach_guarded name unopened held gone u h k = (
   tt,
-  λ word. sides (word == 0) unopened (address (word - 1) (held (word - 1)) gone) Unknown u (address_guarded (word - 1) (held (word - 1)) gone (h (word - 1)) k),
+  λ word. sides (word == 0) unopened (add_reference (word - 1) (held (word - 1)) gone) Unknown u (address_guarded (word - 1) (held (word - 1)) gone (h (word - 1)) k),
 )
 
 -- whoever was answered that its link failed begins with this
@@ -467,7 +467,7 @@ read_guarded : (calls : List ℕ) → Goes (read calls)
 read_guarded calls how = let id : ℕ = how.reading.id in let last : Program = post_each calls how.reading.link how.code how.reading.kept (thrown_away how) in
     let last_goes = each_guarded calls how.reading.link how.code how.reading.kept (thrown_away how) (thrown_guarded how) in
     let fails : Program = set_failed id how.code (λ _. release (socket_id_slot id) (λ _. last)) in
-    sides how.closed last (address id fails (λ _. last)) Unknown last_goes
+    sides how.closed last (add_reference id fails (λ _. last)) Unknown last_goes
     (address_guarded id fails (λ _. last) (set_failed_guarded Unknown id how.code (λ _. release (socket_id_slot id) (λ _. last)) tt (λ found. release_guarded Unknown tt (socket_id_slot id) (λ _. last) (λ b. last_goes))) (λ found. last_goes))
 
 -- each reader keeps to it
@@ -535,7 +535,7 @@ pub ending_guarded : (os : List ℕ) → Guarded Unknown (ending_of os)
 ending_guarded [] = tt
 ending_guarded (o ∷ os) = (
   tt,
-  λ word. let next : Program = ending_of os in let live : Program = set_failed (word - 1) 1014 (λ _. release (socket_id_slot (word - 1)) (λ _. next)) in let there : Program = address (word - 1) live (λ _. next) in
+  λ word. let next : Program = ending_of os in let live : Program = set_failed (word - 1) 1014 (λ _. release (socket_id_slot (word - 1)) (λ _. next)) in let there : Program = add_reference (word - 1) live (λ _. next) in
       sides (word == 0) next (if word == NO_SOCKET then next else there) Unknown (ending_guarded os)
       (sides (word == NO_SOCKET) next there Unknown (ending_guarded os)
       (address_guarded (word - 1) live (λ _. next) (set_failed_guarded Unknown (word - 1) 1014 (λ _. release (socket_id_slot (word - 1)) (λ _. next)) tt (λ found. release_guarded Unknown tt (socket_id_slot (word - 1)) (λ _. next) (λ b. ending_guarded os))) (λ found. ending_guarded os))),

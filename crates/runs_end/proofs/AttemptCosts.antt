@@ -10,7 +10,7 @@ use Rattle.seat_programs.specs.Calls.{AddRef, SubRef, Recycle, FreeSlot, LoadLin
 use Rattle.seat_programs.specs.Asides.{StoreAt}
 use Rattle.seat_programs.specs.Heads.{Unlocking, IsOpen, HasNext, Deciding, HasEnded, Locking, NotThere, Has}
 use Rattle.seat_programs.specs.Heads as heads
-use Rattle.seat_programs.specs.Programs.{Program, Do, Aside, LAST_VERSION, recycle, release, address}
+use Rattle.seat_programs.specs.Programs.{Program, Do, Aside, LAST_VERSION, recycle, release, add_reference}
 use Rattle.seat_programs.specs.Posts.{post, decided}
 use Rattle.seat_programs.specs.Sends.{write_link, accept}
 use Rattle.seat_programs.specs.Attempts.{claims_from, heading_for, attempt, tried_again, retry_locked, retry}
@@ -51,7 +51,7 @@ module _ (p : Plan) where
   )
 
   -- a reference, where what follows the word of another version has the release beside
-  pub address_lasts : (id : ℕ) (held : Program) (gone : ℕ → Program) (n m : ℕ) → 7 + m ≤ n → Lasting p held n → ((found : ℕ) → Lasting p (gone found) m) → Lasting p (address id held gone) (1 + n)
+  pub address_lasts : (id : ℕ) (held : Program) (gone : ℕ → Program) (n m : ℕ) → 7 + m ≤ n → Lasting p held n → ((found : ℕ) → Lasting p (gone found) m) → Lasting p (add_reference id held gone) (1 + n)
   address_lasts id held gone n m le l k v = (
     n,
     omega arith,
@@ -123,11 +123,11 @@ module _ (p : Plan) where
               looked_lasts u,
         ))
 
-    over_lasts : Lasting p (address socket (Do (FindLink (socket_id_slot socket) (socket_id_version socket)) (λ k. Aside (StoreAt o (at_word first slot k n)) (λ _. Do (LookWord socket) (λ found.
+    over_lasts : Lasting p (add_reference socket (Do (FindLink (socket_id_slot socket) (socket_id_version socket)) (λ k. Aside (StoreAt o (at_word first slot k n)) (λ _. Do (LookWord socket) (λ found.
         cond (vref_version found % 2 == 0) (claims_from requests 0 socket heading bytes (refused 3001) lets_go) (refused 1009))))) (λ _. post id 1009 n next)) (requests + weight 131072 + POST + CHANGE + 23 + ACCEPT + m)
     over_lasts = let held : Program = Do (FindLink (socket_id_slot socket) (socket_id_version socket)) (λ k. Aside (StoreAt o (at_word first slot k n)) (λ _. Do (LookWord socket) (λ found.
         cond (vref_version found % 2 == 0) (claims_from requests 0 socket heading bytes (refused 3001) lets_go) (refused 1009)))) in
-        lasting_more p (address socket held (λ _. post id 1009 n next)) (1 + (requests + (weight 131072 + (POST + (CHANGE + (22 + ACCEPT + m)))))) (requests + weight 131072 + POST + CHANGE + 23 + ACCEPT + m) (omega arith)
+        lasting_more p (add_reference socket held (λ _. post id 1009 n next)) (1 + (requests + (weight 131072 + (POST + (CHANGE + (22 + ACCEPT + m)))))) (requests + weight 131072 + POST + CHANGE + 23 + ACCEPT + m) (omega arith)
         (address_lasts socket held (λ _. post id 1009 n next) (requests + (weight 131072 + (POST + (CHANGE + (22 + ACCEPT + m))))) (POST + m) (omega arith) held_lasts (λ found v. post_lasts p v id 1009 n next m (POST + m) (l v) (omega arith)))
 
   pub attempt_lasts : (asked : Asked) (id n socket : ℕ) (next : Program) (m : ℕ) → length (frame_of asked id n) ≤ 131072 → Lasting p next m → Lasting p (attempt p.requests asked id n socket next) (p.requests + weight 131072 + POST + CHANGE + 23 + ACCEPT + m)

@@ -12,7 +12,7 @@ use Rattle.sock_message.specs.Asked.{Asked, name_of, frame_of, parts_of}
 use Rattle.seat_programs.specs.Calls.{LookWord, FindLink, ClaimRequest, LoadName}
 use Rattle.seat_programs.specs.Asides.{ClaimId, PutCall, MakeId, StoreCall, LoadCall, StoreAt, TakeCall}
 use Rattle.seat_programs.specs.Heads.{First, Unlocks, Locks, Joins, Posting, WasGone, WasStale, WasCrowded, WasQueued, HasLocked, Unlocking, IsOpen, HasNext, Locking, NotThere, Has}
-use Rattle.seat_programs.specs.Programs.{Program, Do, Say, Aside, Round, address, release}
+use Rattle.seat_programs.specs.Programs.{Program, Do, Say, Aside, Round, add_reference, release}
 use Rattle.seat_programs.specs.Posts.{post, post_with, posted, decide, decided}
 use Rattle.seat_programs.specs.Sends.{accept}
 
@@ -33,7 +33,7 @@ heading_for asked id n = record { client = 0; operation = asked.operation; attem
 -- an attempt over the socket with this id
 abbrev pub attempt : ℕ → Asked → ℕ → ℕ → ℕ → Program → Program
 attempt requests asked id n socket next = let i = socket_id_slot socket in
-    address socket (Do (FindLink i (socket_id_version socket)) (λ k. Aside (StoreAt asked.operation (at_word (id_first id) (id_slot id) k n)) (λ _. Do (LookWord socket) (λ found.
+    add_reference socket (Do (FindLink i (socket_id_version socket)) (λ k. Aside (StoreAt asked.operation (at_word (id_first id) (id_slot id) k n)) (λ _. Do (LookWord socket) (λ found.
     if vref_version found % 2 == 0
     then claims_from requests 0 socket (heading_for asked id n) (frame_of asked id n) (post id EREQUESTS n (release i (λ _. next))) (release i (λ _. next))
     else post id EFAILEDSOCKET n (release i (λ _. next))))))

@@ -64,14 +64,14 @@ release i next = Do (SubRef i) (λ found.
     else next false)
 
 -- a reference to the life of this id, or what follows by the word of another version, which got its 1 back (versioned_ref_with_id.h, `Address`)
-abbrev pub address : ℕ → Program → (ℕ → Program) → Program
-address id held gone = Do (AddRef id) (λ found.
+abbrev pub add_reference : ℕ → Program → (ℕ → Program) → Program
+add_reference id held gone = Do (AddRef id) (λ found.
     if vref_version found == socket_id_version id then held else release (socket_id_slot id) (λ _. gone found))
 
 -- the id under a name, and a reference to its life
-abbrev pub reach : ℕ → Program → (ℕ → Program) → (ℕ → Program) → Program
-reach name unopened held gone = Do (LoadName name) (λ word.
-    if word == 0 then unopened else address (word - 1) (held (word - 1)) gone)
+abbrev pub find_socket : ℕ → Program → (ℕ → Program) → (ℕ → Program) → Program
+find_socket name unopened held gone = Do (LoadName name) (λ word.
+    if word == 0 then unopened else add_reference (word - 1) (held (word - 1)) gone)
 
 -- a held life is set failed with a code: the first one that does so stores the code and takes back the reference that
 -- creation made. What follows is told the word that was found (socket.cpp, `SetFailed`; versioned_ref_with_id.h).
@@ -101,13 +101,13 @@ abbrev pub fail_outcome : ℕ → Outcome
 fail_outcome found = if vref_version found % 2 == 0 then Failed else Already (record { 0 = found })
 
 abbrev pub fail : ℕ → ℕ → ℕ → Program → Program
-fail o name code next = reach name (Say o Unopened next)
+fail o name code next = find_socket name (Say o Unopened next)
     (λ id. set_failed id code (λ found. release (socket_id_slot id) (λ _. Say o (fail_outcome found) next)))
     (λ found. Say o (Gone (record { 0 = found })) next)
 
 -- `hold NAME`: what follows is told the id of the life that is held, where one is
 abbrev pub hold : ℕ → ℕ → (ℕ → Program) → Program → Program
-hold o name held next = reach name (Say o Unopened next) (λ id. Say o Held (held id)) (λ found. Say o (Gone (record { 0 = found })) next)
+hold o name held next = find_socket name (Say o Unopened next) (λ id. Say o Held (held id)) (λ found. Say o (Gone (record { 0 = found })) next)
 
 -- `drop NAME` of a life that is held
 abbrev pub drop_held : ℕ → ℕ → Program → Program
@@ -119,4 +119,4 @@ drop_held o id next = release (socket_id_slot id) (λ freed. Say o (if freed the
 abbrev pub end_open : ℕ → Program → Program
 end_open o next = Do (LoadOpen o) (λ word.
     if (word == 0) then next else if word == NO_SOCKET then next else
-    address (word - 1) (set_failed (word - 1) EEOF (λ _. release (socket_id_slot (word - 1)) (λ _. next))) (λ _. next))
+    add_reference (word - 1) (set_failed (word - 1) EEOF (λ _. release (socket_id_slot (word - 1)) (λ _. next))) (λ _. next))

@@ -11,7 +11,7 @@ use Rattle.sock_message.specs.brpc_model.specs.Stream as streams
 use Rattle.seat_programs.specs.Calls.{LoadOpen}
 use Rattle.seat_programs.specs.Asides.{LoadAt, TakeCall, TakeBytes, Taking, Bytes, Nothing, Closed}
 use Rattle.seat_programs.specs.Heads.{Version, Reading, Locks, Opens, Reads, Discards, Posting, HasLocked, Locking, NotThere, Has, Ended}
-use Rattle.seat_programs.specs.Programs.{Program, Do, Say, Rest, Aside, Round, address, release, set_failed}
+use Rattle.seat_programs.specs.Programs.{Program, Do, Say, Rest, Aside, Round, add_reference, release, set_failed}
 use Rattle.seat_programs.specs.Posts.{post_with, decided, decide, end_id}
 
 -- ## Responses
@@ -118,7 +118,7 @@ thrown_away how = if how.fault && nat_lt how.reading.total LIMIT then Round (Dis
 abbrev pub read : List ℕ → Ended → Program
 read calls how = let last = post_each calls how.reading.link how.code how.reading.kept (thrown_away how) in
     if how.closed then last
-    else address how.reading.id (set_failed how.reading.id how.code (λ _. release (socket_id_slot how.reading.id) (λ _. last))) (λ _. last)
+    else add_reference how.reading.id (set_failed how.reading.id how.code (λ _. release (socket_id_slot how.reading.id) (λ _. last))) (λ _. last)
 
 -- ## The reader of link k, whose `open` is operation o
 

@@ -12,7 +12,7 @@ use Rattle.sock_model.specs.Entries.{ticket_of}
 use Rattle.seat_programs.specs.Calls.{LookWord, FindLink, LoadCode, ClaimRequest, PutMessage, Unconnect, SwapHead, Connect, EmptyHead, ReadNext, ReverseNext, FreeRequest, StorePlace, DropPlace}
 use Rattle.seat_programs.specs.Writings.{Holder, Writing, Puts, Waits, Empties, Walks}
 use Rattle.seat_programs.specs.Parts.{part}
-use Rattle.seat_programs.specs.Programs.{Program, Do, Say, Sent, TakeMessage, TakeHome, PutHome, PutBytes, AskReady, Write, LAST_GENERATION, reach, release, set_failed}
+use Rattle.seat_programs.specs.Programs.{Program, Do, Say, Sent, TakeMessage, TakeHome, PutHome, PutBytes, AskReady, Write, LAST_GENERATION, find_socket, release, set_failed}
 use Rattle.seat_programs.specs.Posts.{post}
 
 -- ## Writing
@@ -112,4 +112,4 @@ start requests o id bytes next = Do (LookWord id) (λ found.
 
 -- `send NAME BYTES`, of a table of so many requests
 abbrev pub send : ℕ → ℕ → ℕ → List ℕ → Program → Program
-send requests o name bytes next = reach name (Say o Unopened next) (λ id. start requests o id bytes next) (λ found. Say o (Gone (record { 0 = found })) next)
+send requests o name bytes next = find_socket name (Say o Unopened next) (λ id. start requests o id bytes next) (λ found. Say o (Gone (record { 0 = found })) next)

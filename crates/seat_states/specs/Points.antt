@@ -19,7 +19,7 @@ use Rattle.seat_programs.specs.Attempts.{claims_from, attempt, begin_call, claim
 use Rattle.seat_programs.specs.declared.task.Sizes.{Sizes}
 use Rattle.seat_programs.specs.Calls as calls
 use Rattle.seat_programs.specs.Writings as heads
-use Rattle.seat_programs.specs.Programs.{Program, Do, Say, Sent, Rest, Aside, Round, Keep, TakeMessage, TakeHome, PutHome, PutBytes, AskReady, Write, LAST_VERSION, recycle, release, address, set_failed, no_socket, make_socket, open_from, fail_outcome, fail, hold, end_open}
+use Rattle.seat_programs.specs.Programs.{Program, Do, Say, Sent, Rest, Aside, Round, Keep, TakeMessage, TakeHome, PutHome, PutBytes, AskReady, Write, LAST_VERSION, recycle, release, add_reference, set_failed, no_socket, make_socket, open_from, fail_outcome, fail, hold, end_open}
 use Rattle.seat_programs.specs.Sends.{block, one_more, freed, passed, passed_telling, tell_drop, put_answered, first_put, write_link, accept, start, send}
 use Rattle.seat_programs.specs.Clients.{HeldLife}
 use Rattle.seat_states.specs.declared.point.Opening.{Opening}
@@ -359,7 +359,7 @@ module _ (a : Context) where
   seek_program (aims.Send o name) seeks.Load = send a.sizes.requests o name a.message client_on
   seek_program (aims.Fail o name code) seeks.Load = fail o name code client_on
   seek_program (aims.End o) seeks.Load = end_open o a.ends
-  seek_program aim (seeks.AddRef id) = address id.0 (reached_program aim id) (λ found. then_program (gone_then aim found) false)
+  seek_program aim (seeks.AddRef id) = add_reference id.0 (reached_program aim id) (λ found. then_program (gone_then aim found) false)
 
   -- ## Opening
 
@@ -425,7 +425,7 @@ module _ (a : Context) where
   find_program t socket = Do (calls.FindLink (socket_id_slot socket.0) (socket_id_version socket.0)) (λ k. at_program t socket k)
 
   abbrev pub attempt_program : Attempt → SocketId → AttemptStep → Program
-  attempt_program t socket attempts.AddRef = address socket.0 (find_program t socket) (λ found. then_program (thens.Unreached t) false)
+  attempt_program t socket attempts.AddRef = add_reference socket.0 (find_program t socket) (λ found. then_program (thens.Unreached t) false)
   attempt_program t socket attempts.FindLink = find_program t socket
   attempt_program t socket (attempts.StoreAt k) = at_program t socket k
 

@@ -17,7 +17,7 @@ use Rattle.seat_programs.specs.Calls.{TableStep, AddRef, LookWord, FindLink, Cla
 use Rattle.seat_programs.specs.Clients.{HeldLife, operation, client_from}
 use Rattle.seat_programs.specs.Asides.{Step, Found, StoreAt}
 use Rattle.seat_programs.specs.Heads.{Head, Exit, Retry, Unlocks, Opens, Unlocking}
-use Rattle.seat_programs.specs.Programs.{Program, Do, Say, Sent, Write, Aside, Round, Keep, Retries, release, address}
+use Rattle.seat_programs.specs.Programs.{Program, Do, Say, Sent, Write, Aside, Round, Keep, Retries, release, add_reference}
 use Rattle.seat_programs.specs.Posts.{post, unlocks_round}
 use Rattle.seat_programs.specs.Readers.{reader}
 use Rattle.seat_programs.specs.Sends.{accept}
@@ -182,7 +182,7 @@ module _ (requests : ℕ) where
     ways found true is = inr (t, refl, eqb-true (vref_version found) (socket_id_version t.socket) is, few, (refl, refl, λ k. (refl, refl, λ _. (refl, λ word. looks k word (vref_version word % 2 == 0) refl))))
     ways found false is = inl (through_release G goes_plain.words (socket_id_slot t.socket) (λ _. post t.id 1009 t.heading.attempt next) (λ _. through_post G goes_plain.errors t.id 1009 t.heading.attempt next after))
 
-    goes_tries : G (address t.socket linking (λ _. post t.id 1009 t.heading.attempt next))
+    goes_tries : G (add_reference t.socket linking (λ _. post t.id 1009 t.heading.attempt next))
     goes_tries = λ found. ways found (vref_version found == socket_id_version t.socket) refl
 
   goes_attempt : (asked : Asked) (id n socket : ℕ) (next : Program) → n ≤ 6 → G next → G (attempt requests asked id n socket next)

@@ -16,7 +16,7 @@ use Rattle.corr_core.specs.declared.marks.Plan.{Plan as IdPlan}
 use Rattle.corr_core.proofs.Notes.{at_length}
 use Rattle.sock_model.specs.declared.home.Home.{Home}
 use Rattle.seat_programs.specs.Heads.{Retry}
-use Rattle.seat_programs.specs.Programs.{Program, Do, Say, Sent, Rest, Retries, LAST_VERSION, recycle, release, address, set_failed, end_open}
+use Rattle.seat_programs.specs.Programs.{Program, Do, Say, Sent, Rest, Retries, LAST_VERSION, recycle, release, add_reference, set_failed, end_open}
 use Rattle.seat_programs.specs.Clients.{ending_of}
 use Rattle.seat_programs.specs.Cores.{Core, SeatState, resolved, said, next_step, with_seat}
 use Rattle.seat_programs.specs.Ticks.{Answer, waits_at, waits}
@@ -66,7 +66,7 @@ recycle_none i from next after = (
 release_none : (i : ℕ) (next : Bool → Program) → ((b : Bool) → AsksNone (next b)) → AsksNone (release i next)
 release_none i next after = (tt, λ found. either ((vref_version found % 2 == 1) && (vref_nref found == 1)) _ _ (recycle_none i (found - 1) next after) (after false))
 
-address_none : (id : ℕ) (held : Program) (gone : ℕ → Program) → AsksNone held → ((found : ℕ) → AsksNone (gone found)) → AsksNone (address id held gone)
+address_none : (id : ℕ) (held : Program) (gone : ℕ → Program) → AsksNone held → ((found : ℕ) → AsksNone (gone found)) → AsksNone (add_reference id held gone)
 address_none id held gone h after = (tt, λ found. either (vref_version found == socket_id_version id) _ _ h (release_none (socket_id_slot id) (λ b. gone found) (λ b. after found)))
 
 set_failed_none : (id code : ℕ) (next : ℕ → Program) → ((found : ℕ) → AsksNone (next found)) → AsksNone (set_failed id code next)

@@ -119,7 +119,7 @@ impl<O: Out> SockTable<O> {
 
     /// A reference to the socket of this id, where it is the slot's still.
     /// bRPC's `Address` (versioned_ref_with_id.h, memory_management.md).
-    pub fn address(&self, seat: &mut SockSeat<O>, id: SocketId) -> Result<SockRef, Gone>
+    pub fn add_reference(&self, seat: &mut SockSeat<O>, id: SocketId) -> Result<SockRef, Gone>
         requires seat { IsSeat self.now.rule.table.shared.table_id self.now.rule.plan seat.old }
         requires may { MayAddress self.now.rule.plan seat.old.me.0 id.0 }
         requires between { IsBetween self.now.rule.plan seat.old.me.0 }

@@ -10,7 +10,7 @@ use Rattle.seat_programs.specs.declared.task.Op.{Op}
 use Rattle.seat_programs.specs.declared.task.Op.TheVariants as ops
 use Rattle.seat_programs.specs.declared.task.Task.{Task}
 use Rattle.seat_programs.specs.Calls.{ClaimSlot, StoreLink, ResetHead, ClearCode, CreateLife, StoreOpen, StoreName, TakeLink, FinishLink, PutLink}
-use Rattle.seat_programs.specs.Programs.{Program, Do, Say, Sent, release, address, reach, set_failed, open_from, fail_outcome, fail}
+use Rattle.seat_programs.specs.Programs.{Program, Do, Say, Sent, release, add_reference, find_socket, set_failed, open_from, fail_outcome, fail}
 use Rattle.seat_programs.specs.Sends.{accept, heading_of, claim_from, start, send}
 use Rattle.seat_programs.specs.Clients.{HeldLife, held_under, without_name, give_back, drop_of, operation, client_from, ending_of}
 use Rattle.seat_programs.specs.Scripts.{sizes_of}
@@ -51,10 +51,10 @@ module _ (p : Plan) (q : IdPlan) (clients : List (List Task)) (gives : ℕ → L
     self = again_same p q clients gives m m free refl
 
     reach_says : m.client ≢ 0 → (name : ℕ) (unopened : Program) (held gone : ℕ → Program) → ((v : Scene) → Later' w v → SaidBy v unopened → NoneFound p q clients gives v m.done name → Tells v m unopened)
-        → ((id : ℕ) (v : Scene) → Later' w v → SaidBy v (held id) → Named p q clients gives v name → Tells v m (held id)) → ((found : ℕ) (v : Scene) → Later' w v → SaidBy v (gone found) → Named p q clients gives v name → Tells v m (gone found)) → Tells w m (reach name unopened held gone)
+        → ((id : ℕ) (v : Scene) → Later' w v → SaidBy v (held id) → Named p q clients gives v name → Tells v m (held id)) → ((found : ℕ) (v : Scene) → Later' w v → SaidBy v (gone found) → Named p q clients gives v name → Tells v m (gone found)) → Tells w m (find_socket name unopened held gone)
     reach_says client name unopened held gone none_ one others = (
       tt,
-      λ word v l s f. way p q clients gives v m (word == 0) unopened (address (word - 1) (held (word - 1)) gone) s (λ nothing s'. let y = f.0 (eqb-true word 0 nothing) in none_ v l s' (none_found p q clients gives v m name y.0 (y.1 client) y.2))
+      λ word v l s f. way p q clients gives v m (word == 0) unopened (add_reference (word - 1) (held (word - 1)) gone) s (λ nothing s'. let y = f.0 (eqb-true word 0 nothing) in none_ v l s' (none_found p q clients gives v m name y.0 (y.1 client) y.2))
           (λ some_ _. let named = f.1 (not_equal word 0 some_) in address_says p q clients gives v m (word - 1) (held (word - 1)) gone
           (λ v2 l2 s2. one (word - 1) v2 (far p q clients gives w v v2 l l2) s2 (l2.named name named)) (λ found v2 l2 s2. others found v2 (far p q clients gives w v v2 l l2) s2 (l2.named name named))),
     )
@@ -218,7 +218,7 @@ module _ (p : Plan) (q : IdPlan) (clients : List (List Task)) (gives : ℕ → L
   ending_says [] w m free none_ = (free, none_)
   ending_says (o ∷ os) w m free none_ = (
     tt,
-    λ word v l s _. let closes : Program = address (word - 1) (set_failed (word - 1) 1014 (λ _. release (socket_id_slot (word - 1)) (λ _. ending_of os))) (λ _. ending_of os) in
+    λ word v l s _. let closes : Program = add_reference (word - 1) (set_failed (word - 1) 1014 (λ _. release (socket_id_slot (word - 1)) (λ _. ending_of os))) (λ _. ending_of os) in
         way p q clients gives v m (word == 0) (ending_of os) (cond (word == NO_SOCKET) (ending_of os) closes) s (λ _ _. ending_says os v m free none_)
         (λ _ s'. way p q clients gives v m (word == NO_SOCKET) (ending_of os) closes s' (λ _ _. ending_says os v m free none_)
         (λ _ _. address_says p q clients gives v m (word - 1) (set_failed (word - 1) 1014 (λ _. release (socket_id_slot (word - 1)) (λ _. ending_of os))) (λ _. ending_of os)

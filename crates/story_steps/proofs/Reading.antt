@@ -15,7 +15,7 @@ use Rattle.sock_message.specs.Asked.{Asked}
 use Rattle.seat_programs.specs.declared.task.Task.{Task}
 use Rattle.seat_programs.specs.Asides.{Taking, Bytes, Nothing, Closed}
 use Rattle.seat_programs.specs.Heads.{Version, Reading, Locks, Opens, Reads, Discards, WasGone, WasStale, WasCrowded, WasQueued, HasLocked, Locking, NotThere, Has, Ended}
-use Rattle.seat_programs.specs.Programs.{Program, Rest, Say, Round, address, release, set_failed}
+use Rattle.seat_programs.specs.Programs.{Program, Rest, Say, Round, add_reference, release, set_failed}
 use Rattle.seat_programs.specs.Posts.{is_stale, post_with, decided}
 use Rattle.seat_programs.specs.Readers.{LIMIT, has_response, slot_in, version_in, answer, answered, responses, last_of, ended_by, read_on, took_bytes, took, reads_round, discarded, discards_round, opens_round, kept_for, ends_with, posted_last, post_each, thrown_away, read, reader}
 use Rattle.call_stories.specs.Lists.{gave_in}
@@ -308,7 +308,7 @@ module _ (p : Plan) (q : IdPlan) (clients : List (List Task)) (gives : ℕ → L
       let other = other_code how.code o.code in
       let posts : (u : Scene) → Later' w u → AreKept u how.reading.link how.reading.kept → SaidBy u last → Tells u m last = λ u l' all s'. post_each_at how.reading.link how.code o.inside other w how.reading.kept (thrown_away how) calls m o.free (over_ends w m how o.free o.none_ o.own) u l' all s' in
       let later : (u : Scene) → Later' v u → SaidBy u last → Tells u m last = λ u l' s'. posts u (far p q clients gives w v u l l') (kept_on p q clients gives v u l' how.reading.link how.reading.kept o.kept) s' in
-      way p q clients gives v m how.closed last (address how.reading.id (set_failed how.reading.id how.code (λ _. release (socket_id_slot how.reading.id) (λ _. last))) (λ _. last)) s
+      way p q clients gives v m how.closed last (add_reference how.reading.id (set_failed how.reading.id how.code (λ _. release (socket_id_slot how.reading.id) (λ _. last))) (λ _. last)) s
       (λ _ s'. posts v l o.kept s')
       (λ _ _. address_says p q clients gives v m how.reading.id (set_failed how.reading.id how.code (λ _. release (socket_id_slot how.reading.id) (λ _. last))) (λ _. last)
       (λ v2 l2 _. set_failed_says p q clients gives v2 m how.reading.id how.code other (λ _. release (socket_id_slot how.reading.id) (λ _. last))

@@ -1,4 +1,4 @@
-//! `address` with `release` of one id, by 1, 2 or 4 threads that share a table: so many pairs by each. It prints how many
+//! `add_reference` with `release` of one id, by 1, 2 or 4 threads that share a table: so many pairs by each. It prints how many
 //! references were got.
 #![tactic(auto)]
 

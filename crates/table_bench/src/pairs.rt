@@ -68,7 +68,7 @@ fn poke(table: &Table, mut seat: Seat, id: SocketId, count: u32) -> u64
 {
     let mut got = 0u64;
     for _ in 0..count {
-        let Ok(sock) = table.address(&mut seat, id) else {
+        let Ok(sock) = table.add_reference(&mut seat, id) else {
             continue;
         };
         table.release(&mut seat, sock);

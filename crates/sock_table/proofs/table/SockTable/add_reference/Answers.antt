@@ -5,7 +5,7 @@ use Rattle.sock_words.specs.Words.{socket_id_version}
 use Rattle.sock_table.proofs.Addressing.{is_held, may_go, is_gone, none_later}
 use Rattle.sock_table.proofs.Giving.{no_rights}
 use Rattle.sock_table.proofs.Quiet.{held_between, gone_between}
-use Rattle.sock_table.proofs.table.SockTable.address.Goals as goal
+use Rattle.sock_table.proofs.table.SockTable.add_reference.Goals as goal
 
 pub returns-then-version-clause-held : goal.returns-then-version-clause-held
 returns-then-version-clause-held g c = let e = c.slot-slot.ensures in (
