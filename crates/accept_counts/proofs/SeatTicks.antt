@@ -8,7 +8,7 @@ use Rattle.sock_words.specs.declared.plain.Plan.{Plan}
 use Rattle.sock_words.specs.declared.outcome.Outcome.{Outcome}
 use Rattle.sock_io.specs.declared.link.Put.{Put}
 use Rattle.sock_io.specs.declared.link.Ready.{Ready}
-use Rattle.sock_model.specs.Messages.{Letter}
+use Rattle.sock_model.specs.Messages.{HeadedBytes}
 use Rattle.sock_model.specs.Reads.{message, link_home}
 use Rattle.seat_programs.specs.Asides.{Step, Found}
 use Rattle.seat_programs.specs.Beside.{found_in}
@@ -23,7 +23,7 @@ module _ (p : Plan) (i : ℕ) (seat : SeatState) (c : Core) where
   abbrev pub Own : Core → Type 0
   Own d = (d.seats ≡ c.seats) ⊎ ((s : SeatState) × (d.seats ≡ slice_set c.seats i s))
 
-  own_message : (q : ℕ) (o : Option Letter) (next : Letter → Program) → Own (with_message p i seat c q o next)
+  own_message : (q : ℕ) (o : Option HeadedBytes) (next : HeadedBytes → Program) → Own (with_message p i seat c q o next)
   own_message q none next = inl refl
   own_message q (some letter) next = inr (_, refl)
 

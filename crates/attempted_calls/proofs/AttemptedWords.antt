@@ -8,7 +8,7 @@ use lib.ListN.{get_elem?}
 use Rattle.sock_words.specs.declared.plain.Plan.{Plan}
 use Rattle.sock_io.specs.declared.link.Put.{Put}
 use Rattle.sock_io.specs.declared.link.Ready.{Ready}
-use Rattle.sock_model.specs.Messages.{Letter}
+use Rattle.sock_model.specs.Messages.{HeadedBytes}
 use Rattle.sock_model.specs.declared.home.Home.{Home}
 use Rattle.sock_model.specs.Reads.{message, link_home}
 use Rattle.corr_core.specs.Word.{Parts, parts, made_word, locked_word, posted_word, unlocked_word, free_word}
@@ -160,7 +160,7 @@ data Effect (p : Plan) (q : IdPlan) (c : Core) (u : IdView) (d : Core) (shown : 
       → d.calls.words ≡ (calls_after step found c.calls).words → d.calls.homes ≡ (calls_after step found c.calls).homes → shown ≡ advances_by step found c.calls → Effect p q c u d shown
 
 module _ (p : Plan) (q : IdPlan) (narrow : q.slots ≤ 65536) (c : Core) (j : ℕ) (seat : SeatState) (u : IdView) where
-  by_letter : (r : ℕ) (x : Option Letter) (next : Letter → Program) → Effect p q c u (with_message p j seat c r x next) []
+  by_letter : (r : ℕ) (x : Option HeadedBytes) (next : HeadedBytes → Program) → Effect p q c u (with_message p j seat c r x next) []
   by_letter r none next = none_aside refl refl refl
   by_letter r (some letter) next = none_aside refl refl refl
 

@@ -10,7 +10,7 @@ use Rattle.sock_words.specs.declared.plain.Plan.{Plan}
 use Rattle.sock_io.specs.declared.link.Put.{Put}
 use Rattle.sock_io.specs.declared.link.Ready.{Ready}
 use Rattle.sock_model.specs.declared.home.Home.{Home}
-use Rattle.sock_model.specs.Messages.{Letter}
+use Rattle.sock_model.specs.Messages.{HeadedBytes}
 use Rattle.sock_model.specs.Reads.{message, link_home}
 use Rattle.seat_programs.specs.brpc_model.specs.Frame.{Frame}
 use Rattle.corr_core.specs.Word.{parts}
@@ -200,7 +200,7 @@ module _ (p : Plan) (q : IdPlan) (k : ℕ) (St : Sit → Program → Type 0) (st
 
       -- ## The others
 
-      letter_tick : (r : ℕ) (x : Option Letter) (next : Letter → Program) → (m.seat ≡ 32 + k → ⊥) → Goal (with_message p m.seat seat c r x next)
+      letter_tick : (r : ℕ) (x : Option HeadedBytes) (next : HeadedBytes → Program) → (m.seat ≡ 32 + k → ⊥) → Goal (with_message p m.seat seat c r x next)
       letter_tick r none next no_ = stays
       letter_tick r (some letter) next no_ = moved (next letter) seat.hand c.words (set c.homes r none) (λ here. absurd (no_ here))
 

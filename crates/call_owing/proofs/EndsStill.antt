@@ -8,7 +8,7 @@ use lib.ListN.{get_elem?}
 use Rattle.sock_words.specs.declared.kind.Kind.{Kind}
 use Rattle.sock_words.specs.declared.plain.Plan.{Plan}
 use Rattle.sock_model.specs.declared.home.Home.{Home}
-use Rattle.sock_model.specs.Messages.{Letter}
+use Rattle.sock_model.specs.Messages.{HeadedBytes}
 use Rattle.sock_model.specs.Reads.{message, link_home}
 use Rattle.seat_programs.specs.Asides.{Step, Found, TakeBytes, Bytes}
 use Rattle.seat_programs.specs.Beside.{found_in, calls_after}
@@ -33,7 +33,7 @@ module _ (p : Plan) (c : Core) (i : ℕ) (seat : SeatState) where
   abbrev Same : Core → Type 0
   Same d = d.calls.ending ≡ c.calls.ending
 
-  message_keeps : (q : ℕ) (x : Option Letter) (next : Letter → Program) → Same (with_message p i seat c q x next)
+  message_keeps : (q : ℕ) (x : Option HeadedBytes) (next : HeadedBytes → Program) → Same (with_message p i seat c q x next)
   message_keeps q none next = refl
   message_keeps q (some letter) next = refl
 

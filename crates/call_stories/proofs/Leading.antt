@@ -8,7 +8,7 @@ use lib.ListN.{get_elem?}
 use Rattle.sock_words.specs.declared.plain.Plan.{Plan}
 use Rattle.sock_io.specs.declared.link.Put.{Put}
 use Rattle.sock_io.specs.declared.link.Ready.{Ready}
-use Rattle.sock_model.specs.Messages.{Letter}
+use Rattle.sock_model.specs.Messages.{HeadedBytes}
 use Rattle.sock_model.specs.Reads.{message, link_home}
 use Rattle.sock_model.specs.declared.home.Home.{Home}
 use Rattle.corr_core.specs.declared.marks.Plan.{Plan as IdPlan}
@@ -52,7 +52,7 @@ module _ (p : Plan) (i : ℕ) (seat : SeatState) (c : Core) where
   found_grows step none next = same_grows c.calls.gave
   found_grows step (some found) next = step_grows step found c.calls
 
-  letter_grows : (r : ℕ) (x : Option Letter) (next : Letter → Program) → Grows c.calls.gave (with_message p i seat c r x next).calls.gave
+  letter_grows : (r : ℕ) (x : Option HeadedBytes) (next : HeadedBytes → Program) → Grows c.calls.gave (with_message p i seat c r x next).calls.gave
   letter_grows r none next = same_grows c.calls.gave
   letter_grows r (some letter) next = same_grows c.calls.gave
 

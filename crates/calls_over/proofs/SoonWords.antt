@@ -11,7 +11,7 @@ use Rattle.id_rule.specs.Lawful.{local}
 use Rattle.id_runs.specs.Held.{IdView, id_state}
 use Rattle.id_runs.specs.Goes.{SoundIds}
 use Rattle.id_runs.proofs.Steps.{live_room}
-use Rattle.sock_model.specs.Messages.{Letter}
+use Rattle.sock_model.specs.Messages.{HeadedBytes}
 use Rattle.sock_model.specs.Reads.{message, link_home}
 use Rattle.seat_programs.specs.Asides.{Step, Found}
 use Rattle.seat_programs.specs.Beside.{found_in}
@@ -54,7 +54,7 @@ module _ (p : Plan) (q : IdPlan) (c : Core) (m : Moment) (known : Known q c m) (
   stays = goes_same (id_word_of c i)
 
   module _ (seat : SeatState) (at : get_elem? c.seats m.seat ≡ some seat) where
-    by_letter : (r : ℕ) (x : Option Letter) (next : Letter → Program) → On (with_message p m.seat seat c r x next)
+    by_letter : (r : ℕ) (x : Option HeadedBytes) (next : HeadedBytes → Program) → On (with_message p m.seat seat c r x next)
     by_letter r none next = stays
     by_letter r (some letter) next = stays
 

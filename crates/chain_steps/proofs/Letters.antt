@@ -14,7 +14,7 @@ use Rattle.sock_model.specs.Tokens.{Tokens}
 use Rattle.sock_model.specs.Memory.{Memory}
 use Rattle.sock_model.specs.Writing.{Counts, InStage, absent, idle, busy}
 use Rattle.sock_model.specs.Chains.{Chains}
-use Rattle.sock_model.specs.Messages.{Letter, InHand, Messages}
+use Rattle.sock_model.specs.Messages.{HeadedBytes, InHand, Messages}
 use Rattle.chain_steps.proofs.Lists.{at_length, ticket_at_is, nth_same}
 use Rattle.chain_steps.proofs.Frames.{Same, Changed, one_token, no_token, in_size, on_distinct, live_same}
 use Rattle.chain_steps.proofs.Claims.{claim_other}
@@ -60,9 +60,9 @@ module _ {links requests : ℕ} {m : Memory} {t : Tokens} {log : List Entry} {fr
       let st : InStage m t (on k log) h.counts (freed k) (places k) (Writes now) = subst (InStage m t (on k log) h.counts (freed k) (places k)) stage h.stage_is in
       let a = st.1 in let b = st.2 in omega arith
 
-  module _ {message : ℕ → Option Letter} (d : Messages links requests message t log places) where
+  module _ {message : ℕ → Option HeadedBytes} (d : Messages links requests message t log places) where
     -- M1
-    pub fills : (t' : Tokens) (message' : ℕ → Option Letter) (r : ℕ) (c c' : Claim) → r < requests → t.claims r ≡ c ∷ []
+    pub fills : (t' : Tokens) (message' : ℕ → Option HeadedBytes) (r : ℕ) (c c' : Claim) → r < requests → t.claims r ≡ c ∷ []
         → Changed requests message message' r (some (c'.heading, c'.bytes)) → Changed requests t.claims t'.claims r (c' ∷ []) → ((k : ℕ) → k < links → t'.rights k ≡ t.rights k)
         → Messages links requests message' t' log places
     fills t' message' r c c' rl was ms cl rt = record {
@@ -90,7 +90,7 @@ module _ {links requests : ℕ} {m : Memory} {t : Tokens} {log : List Entry} {fr
     }
 
     -- a step that leaves the claims, the messages and the places, and of a right with a message in hand what it has
-    pub messages_frame : (t' : Tokens) (message' : ℕ → Option Letter) → Same requests message message' → Same requests t.claims t'.claims
+    pub messages_frame : (t' : Tokens) (message' : ℕ → Option HeadedBytes) → Same requests message message' → Same requests t.claims t'.claims
         → ((k : ℕ) (e : Entry) → k < links → InHand t k e → InHand t' k e) → SameHand links t t' → Messages links requests message' t' log places
     messages_frame t' message' ms cl hand same = record {
       claimed = λ q c ql h f. ms q ql ∙ d.claimed q c ql (sym (cl q ql) ∙ h) f;
@@ -113,7 +113,7 @@ module _ {links requests : ℕ} {m : Memory} {t : Tokens} {log : List Entry} {fr
           ];
       waiting = λ j i a late g. elim (comes s k c e x j i a g) [
         | earlier o ↦ ⊎_elim (λ u. inl u) (λ (u : InHand t j a). inr record { right = u.right; has = rt j u.right (in_size s j i a o).0 u.has; stage = u.stage; taken = u.taken }) (d.waiting j i a late o)
-        | latest same o z ↦ inl (subst (λ (y : Entry). message y.request ≡ some (y.heading, y.bytes)) z (d.claimed e.request c x.request_in x.claimed full ∙ ap (λ (y : Letter). some y) (λ w. (sym lb w, sym by w))))
+        | latest same o z ↦ inl (subst (λ (y : Entry). message y.request ≡ some (y.heading, y.bytes)) z (d.claimed e.request c x.request_in x.claimed full ∙ ap (λ (y : HeadedBytes). some y) (λ w. (sym lb w, sym by w))))
       ];
     }
 
@@ -133,7 +133,7 @@ module _ {links requests : ℕ} {m : Memory} {t : Tokens} {log : List Entry} {fr
       hand_else j i e ne g u = record { right = u.right; has = has'.else j (in_size s j i e g).0 ne ∙ u.has; stage = u.stage; taken = u.taken }
 
       -- M2
-      pub takes_letter : (message' : ℕ → Option Letter) (e : Entry) → get_elem? (on k log) (places k) ≡ some e → ticket e ≡ now → r'.stage ≡ Writes now → r'.taken ≡ true → r'.heading ≡ e.heading → r'.bytes ≡ e.bytes → Changed requests message message' e.request none
+      pub takes_letter : (message' : ℕ → Option HeadedBytes) (e : Entry) → get_elem? (on k log) (places k) ≡ some e → ticket e ≡ now → r'.stage ≡ Writes now → r'.taken ≡ true → r'.heading ≡ e.heading → r'.bytes ≡ e.bytes → Changed requests message message' e.request none
           → Messages links requests message' t' log places
       takes_letter message' e at is stage' taken' label' bytes' ms = record {
         claimed = λ q c ql h f. let w = s.live k (places k) e (unplaced_live k (places k) e (omega arith) at) at in

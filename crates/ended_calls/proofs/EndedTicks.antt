@@ -8,7 +8,7 @@ use lib.ListN.{get_elem?}
 use Rattle.atomic_table.proofs.Lists.{at_set, set_else}
 use Rattle.sock_words.specs.declared.plain.Plan.{Plan}
 use Rattle.sock_model.specs.Reads.{message, link_home}
-use Rattle.sock_model.specs.Messages.{Letter}
+use Rattle.sock_model.specs.Messages.{HeadedBytes}
 use Rattle.sock_io.specs.declared.link.Put.{Put}
 use Rattle.sock_io.specs.declared.link.Ready.{Ready}
 use Rattle.corr_core.specs.Word.{parts}
@@ -37,7 +37,7 @@ module _ (p : Plan) (c : Core) (m : Moment) (j : ℕ) (far : j ≢ m.seat) where
   moved x = set_else c.seats m.seat j x far
 
   module _ (seat : SeatState) where
-    letter : (q : ℕ) (o : Option Letter) (next : Letter → Program) → get_elem? (with_message p m.seat seat c q o next).seats j ≡ get_elem? c.seats j
+    letter : (q : ℕ) (o : Option HeadedBytes) (next : HeadedBytes → Program) → get_elem? (with_message p m.seat seat c q o next).seats j ≡ get_elem? c.seats j
     letter q none next = refl
     letter q (some x) next = moved _
 

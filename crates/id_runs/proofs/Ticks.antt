@@ -12,7 +12,7 @@ use Rattle.seat_programs.specs.sock_io.specs.declared.link.Ready.{Ready}
 use Rattle.seat_programs.specs.sock_model.specs.declared.chain.Heading.{Heading}
 use Rattle.seat_programs.specs.sock_model.specs.declared.home.Home.{Home}
 use Rattle.seat_programs.specs.sock_model.specs.declared.home.Home.TheVariants.{Empty, Link, Message}
-use Rattle.seat_programs.specs.sock_model.specs.Messages.{Letter}
+use Rattle.seat_programs.specs.sock_model.specs.Messages.{HeadedBytes}
 use Rattle.seat_programs.specs.sock_model.specs.Reads.{letter_of, shown, message, link_home}
 use Rattle.corr_core.specs.Word.{parts, made_word, posted_word, unlocked_word, free_word}
 use Rattle.corr_core.specs.Law.{LAST}
@@ -89,12 +89,12 @@ row_share q (TakeCall i) found c u = by_token_share (tokens_in i u) (λ t. with_
 row_share q _ found c u = refl
 
 -- a home that shows a message has it
-pub message_there : (x : Option (Option Home)) (letter : Letter) → letter_of (shown (λ (home : Home). home) x) ≡ some letter → x ≡ some (some (Message letter.0 letter.1))
+pub message_there : (x : Option (Option Home)) (letter : HeadedBytes) → letter_of (shown (λ (home : Home). home) x) ≡ some letter → x ≡ some (some (Message letter.0 letter.1))
 message_there none letter e = absurd (some-ne-none letter (sym e))
 message_there (some none) letter e = absurd (some-ne-none letter (sym e))
 message_there (some (some Empty)) letter e = absurd (some-ne-none letter (sym e))
 message_there (some (some (Link k took next done))) letter e = absurd (some-ne-none letter (sym e))
-message_there (some (some (Message l cs))) letter e = ap (λ (z : Letter). some (some (Message z.0 z.1))) (some-injective (l, cs) letter e)
+message_there (some (some (Message l cs))) letter e = ap (λ (z : HeadedBytes). some (some (Message z.0 z.1))) (some-injective (l, cs) letter e)
 
 -- ## Retries that wait
 
@@ -227,7 +227,7 @@ module _ (p : Plan) (q : IdPlan) (narrow : q.slots ≤ 65536) (same : q.operatio
           (go.1 found r.0 (finds_ids p q c.calls sound.plan us sound.rule i u at_view (sound.real i u at_view) (sound.called, sound.placed) sound.homes step t found is go.0)),
     )
 
-    by_letter : (r : ℕ) (next : Heading → List ℕ → Program) → IdGoesOn p q u (TakeMessage r next) → (x : Option Letter) → message (λ (h : Home). h) c.homes r ≡ x → After (with_message p i seat c r x (λ letter. next letter.0 letter.1))
+    by_letter : (r : ℕ) (next : Heading → List ℕ → Program) → IdGoesOn p q u (TakeMessage r next) → (x : Option HeadedBytes) → message (λ (h : Home). h) c.homes r ≡ x → After (with_message p i seat c r x (λ letter. next letter.0 letter.1))
     by_letter r next go none is = before
     by_letter r next go (some letter) is = on_sockets (next letter.0 letter.1) seat.hand c.words (set c.homes r none) held sound.codes (home_set (FitsOwner q) c.homes r none (λ y e. absurd (some-ne-none y (sym e))) sound.owners)
         (go letter.0 letter.1 (sound.owners r (Message letter.0 letter.1) (message_there (get_elem? c.homes r) letter is)))

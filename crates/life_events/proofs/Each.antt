@@ -10,7 +10,7 @@ use Rattle.sock_model.specs.declared.home.Home.{Home}
 use Rattle.sock_model.specs.declared.view.View.{View}
 use Rattle.sock_model.specs.declared.view.Hand.{Hand}
 use Rattle.sock_model.specs.ChainRows.{taken_right}
-use Rattle.sock_model.specs.Messages.{Letter}
+use Rattle.sock_model.specs.Messages.{HeadedBytes}
 use Rattle.sock_model.specs.Reads.{message, link_home}
 use Rattle.sock_model.specs.Lawful.{Lawful}
 use Rattle.sock_model.specs.Plain.{Event, Nothing, Becomes, Leads, plain}
@@ -63,7 +63,7 @@ module _ (p : Plan) (c : Core) (views : List View) (sound : Sound p c views) (m 
   moved : (v w : View) → get_elem? views m.seat ≡ some v → (rights : List Right) × (w ≡ with_rights v rights) → Becomes (plain views) Nothing (plain (set views m.seat w))
   moved v w here x = marks_event (λ (home : Home). home) p (state c views) sound.lawful m.seat v here w (ap (λ (u : View). u.marks) x.1)
 
-  of_letter : (v : View) → get_elem? views m.seat ≡ some v → (x : Option Letter) → Becomes (plain views) Nothing (plain (views_with_message p m.seat c views v x))
+  of_letter : (v : View) → get_elem? views m.seat ≡ some v → (x : Option HeadedBytes) → Becomes (plain views) Nothing (plain (views_with_message p m.seat c views v x))
   of_letter v here none = (tt, refl)
   of_letter v here (some letter) = moved v (took_message letter.0 letter.1 v) here (right_rights v v.rights (λ r. taken_right r letter.0 letter.1))
 

@@ -14,7 +14,7 @@ use Rattle.sock_model.specs.declared.view.View.{View}
 use Rattle.sock_model.specs.declared.view.Hand.{Hand}
 use Rattle.sock_model.specs.Layout.{head_index, name_index, open_index, request_index, all_words}
 use Rattle.sock_model.specs.ChainRows.{entry_of, queued, righted, taken_right}
-use Rattle.sock_model.specs.Messages.{Letter}
+use Rattle.sock_model.specs.Messages.{HeadedBytes}
 use Rattle.sock_model.specs.Reads.{message, link_home}
 use Rattle.sock_model.specs.Lawful.{Lawful}
 use Rattle.sock_model.specs.Rule.{Lasting, of_name, of_open, of_request, Rule}
@@ -79,7 +79,7 @@ module _ (p : Plan) (c : Core) (views : List View) (sound : Sound p c views) (m 
   no_view : (seat : SeatState) → get_elem? c.seats m.seat ≡ some seat → get_elem? views m.seat ≡ none → ⊥
   no_view seat at gone = beside c.seats views m.seat seat sound.each at gone
 
-  letter_lasts : (seat : SeatState) (q : ℕ) (x : Option Letter) (next : Letter → Program) → Lasts p c.words (with_message p m.seat seat c q x next).words
+  letter_lasts : (seat : SeatState) (q : ℕ) (x : Option HeadedBytes) (next : HeadedBytes → Program) → Lasts p c.words (with_message p m.seat seat c q x next).words
   letter_lasts seat q none next = lasts_all p c.words
   letter_lasts seat q (some letter) next = lasts_all p c.words
 
@@ -161,7 +161,7 @@ module _ (p : Plan) (c : Core) (views : List View) (sound : Sound p c views) (al
     table_set v w here (ap (λ (u : View). u.plan) x.1),
   )
 
-  of_letter : (seat : SeatState) (v : View) → get_elem? views i ≡ some v → (q : ℕ) (x : Option Letter) (next : Letter → Program) → Kept (with_message p i seat c q x next) (views_with_message p i c views v x)
+  of_letter : (seat : SeatState) (v : View) → get_elem? views i ≡ some v → (q : ℕ) (x : Option HeadedBytes) (next : HeadedBytes → Program) → Kept (with_message p i seat c q x next) (views_with_message p i c views v x)
   of_letter seat v here q none next law = (r, all)
   of_letter seat v here q (some letter) next law = moved v (took_message letter.0 letter.1 v) (next letter) seat.hand (set c.homes q none) here (right_rights v v.rights (λ r. taken_right r letter.0 letter.1)) law
 

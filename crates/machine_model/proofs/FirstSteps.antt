@@ -6,7 +6,7 @@ use Rattle.sock_io.specs.declared.link.Put.{Put}
 use Rattle.sock_io.specs.declared.link.Ready.{Ready}
 use Rattle.sock_model.specs.declared.chain.Heading.{Heading}
 use Rattle.sock_model.specs.declared.home.Home.{Home}
-use Rattle.sock_model.specs.Messages.{Letter}
+use Rattle.sock_model.specs.Messages.{HeadedBytes}
 use Rattle.sock_model.specs.Reads.{message, link_home}
 use Rattle.seat_programs.specs.Calls.{TableStep}
 use Rattle.seat_programs.specs.Asides as asides
@@ -148,7 +148,7 @@ module _ (p : Plan) (i : ℕ) (s : SeatState) (c : Core) (program : Program) whe
   pub message_tick : (answer : Answer) (q : ℕ) (author : Author) (parts bytes : List ℕ) → first_in program ≡ Some (OfMessage q) → IsBare program → message (λ (home : Home). home) c.homes q ≡ core.some (heading_by author parts, bytes) →
       Ticks answer (with_seat i (after_message program author parts bytes) s.hand c.words (slice_set c.homes q core.none) c)
   message_tick answer q author parts bytes e bare at = let x = step_is program (OfMessage q) e in by_step answer (TakeMessage q x.0) _ x.1
-      (ap (λ (o : core.Option Letter). with_message p i s c q o (λ letter. x.0 letter.0 letter.1)) at
+      (ap (λ (o : core.Option HeadedBytes). with_message p i s c q o (λ letter. x.0 letter.0 letter.1)) at
       ∙ ap (λ (y : Program). with_seat i y s.hand c.words (slice_set c.homes q core.none) c) (sym (ap (λ (y : Program). after_message y author parts bytes) (sym (bare_first program bare) ∙ x.1))))
 
   pub link_tick : (answer : Answer) (k n : ℕ) (took : List ℕ) → first_in program ≡ Some (OfLink k) → IsBare program → link_home (λ (home : Home). home) p c.homes k ≡ core.some (took, n) →

@@ -17,7 +17,7 @@ use Rattle.seat_states.specs.declared.point.Step.TheVariants as firsts
 use Rattle.seat_states.specs.Steps.{First, OfTable, OfAside, OfMessage, OfLink, OfHome}
 use Rattle.seat_states.specs.Steps as kinds
 use Rattle.client_seats.specs.Seats.{SeatData}
-use Rattle.machine_model.specs.declared.letter.Letter.{Letter}
+use Rattle.machine_model.specs.declared.home_message.HomeMessage.{HomeMessage}
 use Rattle.machine_model.specs.Links.{LinksData}
 use Rattle.machine_model.specs.Machines.{MachineState, TableState, READERS, HasSizes, table_of, IsSized}
 use Rattle.machine_model.specs.Steps.{AsMany, LinkAsked, OutsAfter, LettersAfter, SameBase, Goes, MadeFirst, holders_after}
@@ -32,7 +32,7 @@ length_holders i (calls.TakeLink k) holders = length-set holders k (Some i)
 length_holders i (calls.PutLink k) holders = length-set holders k None
 length_holders i _ holders = refl
 
-length_letters : (seat : SeatData) (step : Step) (old fresh : List (Option Letter)) → LettersAfter seat step old fresh → length fresh ≡ length old
+length_letters : (seat : SeatData) (step : Step) (old fresh : List (Option HomeMessage)) → LettersAfter seat step old fresh → length fresh ≡ length old
 length_letters seat (firsts.PutMessage q author) old fresh h = ap length h.fresh_are ∙ length-set old q (Some h.letter)
 length_letters seat _ old fresh h = ap length h
 

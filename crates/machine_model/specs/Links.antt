@@ -12,10 +12,10 @@ use Rattle.seat_programs.specs.Runs.{from_to}
 use Rattle.message_parts.specs.Parcels.{parcel_of}
 use Rattle.seat_states.specs.Points.{heading_by}
 use Rattle.script_links.specs.Offered.{IsOffered}
-use Rattle.machine_model.specs.declared.letter.Letter.{Letter}
+use Rattle.machine_model.specs.declared.home_message.HomeMessage.{HomeMessage}
 
 -- the message that lies at the home of a request
-abbrev pub letter_home : Option Letter → core.Option Home
+abbrev pub letter_home : Option HomeMessage → core.Option Home
 letter_home None = core.none
 letter_home (Some letter) = core.some (Message (heading_by letter.author (parcel_of letter.message).parts) (parcel_of letter.message).bytes)
 
@@ -48,7 +48,7 @@ module _ (l : LinksData) where
   abbrev pub link_home : Taken → ℕ → core.Option Home
   link_home took k = if is_some (holder_of k) then core.none else core.some (link_with took k)
 
-  abbrev pub homes_of : Plan → List (Option Letter) → Taken → List (core.Option Home)
+  abbrev pub homes_of : Plan → List (Option HomeMessage) → Taken → List (core.Option Home)
   homes_of p letters took = map letter_home letters ++ map (link_home took) (from_to 0 p.links)
 
   -- a link that a seat has in hand

@@ -21,7 +21,7 @@ use Rattle.id_runs.specs.Held.{IdView}
 use Rattle.id_runs.specs.Goes.{SoundIds}
 use Rattle.call_slots.specs.Slots.{SlotState, calls_with}
 use Rattle.reader_seats.specs.Readers.{ReaderData, reader_program}
-use Rattle.machine_model.specs.declared.letter.Letter.{Letter}
+use Rattle.machine_model.specs.declared.home_message.HomeMessage.{HomeMessage}
 use Rattle.client_seats.specs.Seats.{SeatData, seat_program}
 use Rattle.machine_model.specs.Links.{LinksData, Taken, Given, Agrees, AgreesGave, IsPaced, ClosedAreDone, holder_of, homes_of, hand_of}
 use Rattle.sock_words.specs.Words.{id_first}
@@ -31,7 +31,7 @@ use Rattle.sock_words.specs.Words.{id_first}
 pub record TableState : Type 0 where
   pub plan : Plan
   pub words : List ℕ
-  pub letters : List (Option Letter)
+  pub letters : List (Option HomeMessage)
   pub links : LinksData
   pub ids : SlotState
   pub calls : List ℕ

@@ -11,7 +11,7 @@ use Rattle.seat_programs.specs.Cores.{said, next_step, resolved}
 use Rattle.seat_programs.specs.Scripts.{opening_words, opening_calls, programs, readers_from, sizes_of}
 use Rattle.call_slots.specs.Slots.{SlotState, calls_with}
 use Rattle.reader_seats.specs.Readers.{ReaderData, reader_program}
-use Rattle.machine_model.specs.declared.letter.Letter.{Letter}
+use Rattle.machine_model.specs.declared.home_message.HomeMessage.{HomeMessage}
 use Rattle.client_seats.specs.Seats.{SeatData, seat_program}
 
 -- each seat is before the first step of its client, and keeps no retry
@@ -28,7 +28,7 @@ said_first os programs = fold (λ (us : List (Option Outcome)) (program : Progra
 
 -- the parts of a machine of these clients, and of the readers of links with these `open`s: no message and no link is away from home, no
 -- message has a place, and no id was made
-pub record AreParts (p : Plan) (q : IdPlan) (clients : List (List Task)) (calls opens : List ℕ) (ws : List ℕ) (letters : List (Option Letter)) (hs : List (Option ℕ)) (ns : List ℕ) (ids : SlotState) (ss : List SeatData) (rs : List ReaderData) (os : List (Option Outcome)) : Type 0 where
+pub record AreParts (p : Plan) (q : IdPlan) (clients : List (List Task)) (calls opens : List ℕ) (ws : List ℕ) (letters : List (Option HomeMessage)) (hs : List (Option ℕ)) (ns : List ℕ) (ids : SlotState) (ss : List SeatData) (rs : List ReaderData) (os : List (Option Outcome)) : Type 0 where
   pub words_are : ws ≡ opening_words p
   pub letters_are : letters ≡ replicate p.requests None
   pub holders_are : hs ≡ replicate p.links None

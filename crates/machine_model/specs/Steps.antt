@@ -33,7 +33,7 @@ use Rattle.seat_states.specs.declared.point.Step.TheVariants as firsts
 use Rattle.seat_states.specs.Points.{IsWithin, IsWithinIds, MayFind, MayFindAside, HasLinkAt, TellsCodeAt, HasInHand, after_message, after_link, after_home, after_put, after_ready, parts_by}
 use Rattle.seat_states.specs.Steps.{First, OfTable, OfAside, OfMessage, OfLink, OfHome, step_of, step_as, first_in}
 use Rattle.seat_states.specs.Steps as kinds
-use Rattle.machine_model.specs.declared.letter.Letter.{Letter}
+use Rattle.machine_model.specs.declared.home_message.HomeMessage.{HomeMessage}
 use Rattle.client_seats.specs.Following.{IsWithFrame, IsPrepared}
 use Rattle.client_seats.specs.Seats.{SeatData, around, seat_program, bytes_of, parts_of, left_of, taken_of, left_parts_of, asked_or_nothing}
 use Rattle.machine_model.specs.Runs.{SameLink}
@@ -155,7 +155,7 @@ Fits t seat (firsts.Table call) = let found = found_at t.words (word_of t.plan (
 Fits t seat (firsts.Aside step) = let aside = aside_steps.step_of (asked_or_nothing seat.call) step in
     FitsSlots t step × FindsFitting t seat aside
 Fits t seat (firsts.PutMessage q author) = (q < length t.letters) × (bytes_of seat.message ≢ []) × MayGoOn t seat 0
-Fits t seat (firsts.TakeMessage q) = (letter : Letter) × (get_elem? t.letters q ≡ core.some (Some letter))
+Fits t seat (firsts.TakeMessage q) = (letter : HomeMessage) × (get_elem? t.letters q ≡ core.some (Some letter))
 Fits t seat (firsts.TakeHome k) = k < t.plan.links
 Fits t seat (firsts.PutHome k n) = k < t.plan.links
 Fits t seat (firsts.PutBytes k asked author) = (k < t.plan.links) × (part (parts_by author (left_parts_of seat.out)) (left_of seat.out) (taken_of seat.out) ≢ [])
@@ -192,15 +192,15 @@ holders_after i (calls.PutLink k) holders = slice_set holders k None
 holders_after i other holders = holders
 
 -- the message of the seat goes home, for this author
-pub record SentHome (seat : SeatData) (q : ℕ) (author : Author) (old fresh : List (Option Letter)) : Type 0 where
-  pub letter : Letter
+pub record SentHome (seat : SeatData) (q : ℕ) (author : Author) (old fresh : List (Option HomeMessage)) : Type 0 where
+  pub letter : HomeMessage
   pub author_is : letter.author ≡ author
   pub bytes : (parcel_of letter.message).bytes ≡ bytes_of seat.message
   pub parts : (parcel_of letter.message).parts ≡ parts_of seat.message
   pub fresh_are : fresh ≡ slice_set old q (Some letter)
 
 -- the messages at home after a step
-abbrev pub LettersAfter : SeatData → Step → List (Option Letter) → List (Option Letter) → Type 0
+abbrev pub LettersAfter : SeatData → Step → List (Option HomeMessage) → List (Option HomeMessage) → Type 0
 LettersAfter seat (firsts.PutMessage q author) old fresh = SentHome seat q author old fresh
 LettersAfter seat other old fresh = fresh ≡ old
 
@@ -249,7 +249,7 @@ module _ (old fresh : TableState) (i : ℕ) (seat seat' : SeatData) where
     pub ends : fresh.ends ≡ old.ends
 
   pub record MessageTaken (q : ℕ) : Type 0 where
-    pub letter : Letter
+    pub letter : HomeMessage
     pub at : get_elem? old.letters q ≡ core.some (Some letter)
     pub goes : Goes old fresh seat seat' (after_message program_of letter.author (parcel_of letter.message).parts (parcel_of letter.message).bytes)
     pub words : fresh.words ≡ old.words

@@ -10,14 +10,14 @@ use Rattle.sock_io.specs.Link.{OutState}
 use Rattle.sock_model.specs.declared.home.Home.{Home}
 use Rattle.sock_model.specs.declared.home.Home.TheVariants.{Link}
 use Rattle.seat_programs.specs.Cores.{lies_at, link_place}
-use Rattle.machine_model.specs.declared.letter.Letter.{Letter}
+use Rattle.machine_model.specs.declared.home_message.HomeMessage.{HomeMessage}
 use Rattle.machine_model.specs.Links.{LinksData, Taken, holder_of, is_done, link_with, homes_of, hand_of}
 use Rattle.machine_rules.proofs.Hands.{HasNone, HasOnly, IsKept, lies_home, is_away, hand_none, hand_only, home_at, homes_set, kept_home, others_hand, has_only, has_none, homes_kept}
 use Rattle.corr_core.proofs.Notes.{at_length}
 
 -- ## The homes and the hands
 
-pub record Changed (p : Plan) (i : ℕ) (l l' : LinksData) (letters letters' : List (Option Letter)) (took later : Taken) (hand : List Home) (homes : List (core.Option Home)) : Type 0 where
+pub record Changed (p : Plan) (i : ℕ) (l l' : LinksData) (letters letters' : List (Option HomeMessage)) (took later : Taken) (hand : List Home) (homes : List (core.Option Home)) : Type 0 where
   pub own : hand_of l' p.links later i ≡ hand
   pub others : (j : ℕ) → j ≢ i → hand_of l' p.links later j ≡ hand_of l p.links took j
   pub homes_are : homes_of l' p letters' later ≡ homes
@@ -47,7 +47,7 @@ holder_here l l' k o e inside = ap (λ (hs : List (Option ℕ)). slice_index_or 
 differ_some : (i j : ℕ) → j ≢ i → Some i ≢ Some j
 differ_some i j differ e = differ cc
 
-module _ (p : Plan) (i k : ℕ) (letters : List (Option Letter)) (sized : length letters ≡ p.requests) (l l' : LinksData) (took : Taken) (many : length l.holders ≡ p.links) (inside : k < p.links) where
+module _ (p : Plan) (i k : ℕ) (letters : List (Option HomeMessage)) (sized : length letters ≡ p.requests) (l l' : LinksData) (took : Taken) (many : length l.holders ≡ p.links) (inside : k < p.links) where
   -- a link is taken from its home
   pub take_changes : holder_of l k ≡ None → HasNone l i → l'.holders ≡ slice_set l.holders k (Some i) → l'.nexts ≡ l.nexts → l'.outs ≡ l.outs →
       Changed p i l l' letters letters took took (lies_at (homes_of l p letters took) (link_place p k) ++ hand_of l p.links took i) (slice_set (homes_of l p letters took) (link_place p k) core.none)
@@ -104,7 +104,7 @@ module _ (p : Plan) (i k : ℕ) (letters : List (Option Letter)) (sized : length
       kept j differ = record { holder = held j; with_ = link_is j _ _ _ _ _ _ (fed j differ) (same_next l l' j nexts) (ap (λ (os : List OutState). done_by (get_elem? os j)) outs ∙ ap done_by (set_else l.outs k j out' differ)) }
 
 -- no link changes
-pub none_changes : (p : Plan) (i : ℕ) (l l' : LinksData) (letters letters' : List (Option Letter)) (took : Taken) (hs : List (core.Option Home)) → l' ≡ l → homes_of l p letters' took ≡ hs → Changed p i l l' letters letters' took took (hand_of l p.links took i) hs
+pub none_changes : (p : Plan) (i : ℕ) (l l' : LinksData) (letters letters' : List (Option HomeMessage)) (took : Taken) (hs : List (core.Option Home)) → l' ≡ l → homes_of l p letters' took ≡ hs → Changed p i l l' letters letters' took took (hand_of l p.links took i) hs
 none_changes p i l l' letters letters' took hs same homes = record {
   own = ap (λ (x : LinksData). hand_of x p.links took i) same;
   others = λ j differ. ap (λ (x : LinksData). hand_of x p.links took j) same;

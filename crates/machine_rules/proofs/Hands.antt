@@ -10,7 +10,7 @@ use Rattle.sock_model.specs.declared.home.Home.{Home}
 use Rattle.seat_programs.specs.Cores.{link_place}
 use Rattle.seat_programs.specs.Runs.{from_to}
 use Rattle.std.proofs.Math.ListN.{length-map}
-use Rattle.machine_model.specs.declared.letter.Letter.{Letter}
+use Rattle.machine_model.specs.declared.home_message.HomeMessage.{HomeMessage}
 use Rattle.machine_model.specs.Links.{LinksData, Taken, holder_of, link_with, link_home, homes_of, in_hand, hand_of, letter_home}
 use Rattle.machine_rules.proofs.Ranges.{get-range, set-range, map-range_same, get-behind, set-behind, flat-none, flat-one, flat-same}
 
@@ -62,7 +62,7 @@ module _ (l : LinksData) (took : Taken) (count i : ℕ) where
 
 -- ## Homes
 
-module _ (p : Plan) (letters : List (Option Letter)) (sized : length letters ≡ p.requests) (l : LinksData) (took : Taken) where
+module _ (p : Plan) (letters : List (Option HomeMessage)) (sized : length letters ≡ p.requests) (l : LinksData) (took : Taken) where
   place_is : (k : ℕ) → link_place p k ≡ length (map letter_home letters) + k
   place_is k = let e = length-map letters letter_home in omega arith
 
@@ -77,11 +77,11 @@ module _ (p : Plan) (letters : List (Option Letter)) (sized : length letters ≡
       ∙ ap (λ (hs : List (core.Option Home)). map letter_home letters ++ hs)
       (set-range (link_home l took) (link_home l' later) 0 p.links k y inside (ap (link_home l' later) (omega arith) ∙ here) (λ j a q. other j (λ e. q (omega (arith, e)))))
 
-  pub letters_set : (q : ℕ) (x : Option Letter) → q < p.requests → slice_set (homes_of l p letters took) q (letter_home x) ≡ homes_of l p (slice_set letters q x) took
+  pub letters_set : (q : ℕ) (x : Option HomeMessage) → q < p.requests → slice_set (homes_of l p letters took) q (letter_home x) ≡ homes_of l p (slice_set letters q x) took
   letters_set q x inside = set-append_left (map letter_home letters) (map (link_home l took) (from_to 0 p.links)) q (letter_home x) (let e = length-map letters letter_home in omega arith)
       ∙ ap (λ (hs : List (core.Option Home)). hs ++ map (link_home l took) (from_to 0 p.links)) (sym (map-set letter_home letters q x))
 
-pub homes_same : (p : Plan) (letters : List (Option Letter)) (l l' : LinksData) (took later : Taken) → ((j : ℕ) → link_home l took j ≡ link_home l' later j) → homes_of l p letters took ≡ homes_of l' p letters later
+pub homes_same : (p : Plan) (letters : List (Option HomeMessage)) (l l' : LinksData) (took later : Taken) → ((j : ℕ) → link_home l took j ≡ link_home l' later j) → homes_of l p letters took ≡ homes_of l' p letters later
 homes_same p letters l l' took later same = ap (λ (hs : List (core.Option Home)). map letter_home letters ++ hs) (map-range_same (link_home l took) (link_home l' later) 0 p.links (λ j a. same j))
 
 -- ## What a change of link k leaves
@@ -112,6 +112,6 @@ module _ (l l' : LinksData) (took later : Taken) where
     pub has_none : (i : ℕ) → holder_of l' k ≢ Some i → ((j : ℕ) → j ≢ k → holder_of l j ≢ Some i) → HasNone l' i
     has_none i own other j = dite (ℕ_discrete j k) (λ same e. own (ap (holder_of l') (sym same) ∙ e)) (λ differ e. other j differ (sym (kept j differ).holder ∙ e))
 
-    pub homes_kept : (p : Plan) (letters : List (Option Letter)) → link_home l took k ≡ link_home l' later k → homes_of l p letters took ≡ homes_of l' p letters later
+    pub homes_kept : (p : Plan) (letters : List (Option HomeMessage)) → link_home l took k ≡ link_home l' later k → homes_of l p letters took ≡ homes_of l' p letters later
     homes_kept p letters here = homes_same p letters l l' took later (λ j. dite (ℕ_discrete j k)
         (λ e. subst (λ x. link_home l took x ≡ link_home l' later x) (sym e) here) (λ differ. kept_home j (kept j differ)))

@@ -37,7 +37,7 @@ use Rattle.call_slots.proofs.Fitting.{may_next}
 use Rattle.seat_states.specs.Steps.{First, OfTable, OfAside, OfMessage, first_of, first_in}
 use Rattle.seat_states.specs.Steps as kinds
 use Rattle.seat_states.proofs.StepFacts.{FitsSizes}
-use Rattle.machine_model.specs.declared.letter.Letter.{Letter}
+use Rattle.machine_model.specs.declared.home_message.HomeMessage.{HomeMessage}
 use Rattle.machine_model.specs.Links.{LinksData, Taken, holder_of, is_done, link_home, homes_of, hand_of}
 use Rattle.machine_model.specs.Machines.{MachineState, IsSoundMachine, table_of, machine_sizes, state_of, core_with, IsSized}
 use Rattle.machine_rules.proofs.Hands.{HasNone, home_at}
@@ -76,7 +76,7 @@ Known p sizes l c (kinds.OfPut k asked bytes) = (bytes ≢ []) × (is_done l k �
 Known p sizes l c (kinds.OfReady k) = is_done l k ≡ false
 Known p sizes l c other = Unit {0}
 
-module _ (p : Plan) (q : IdPlan) (letters : List (Option Letter)) (sized : length letters ≡ p.requests) (l : LinksData) (took : Taken) (many : length l.holders ≡ p.links) (i : ℕ) (c : Core) (homes : c.homes ≡ homes_of l p letters took)
+module _ (p : Plan) (q : IdPlan) (letters : List (Option HomeMessage)) (sized : length letters ≡ p.requests) (l : LinksData) (took : Taken) (many : length l.holders ≡ p.links) (i : ℕ) (c : Core) (homes : c.homes ≡ homes_of l p letters took)
     (seat : SeatState) (hand : seat.hand ≡ hand_of l p.links took i) (v : View) (held : AreHeld seat.hand v.rights v.hands) where
   free_link : (k : ℕ) (y : Home) → k < p.links → get_elem? c.homes (link_place p k) ≡ core.some (core.some y) → holder_of l k ≡ None
   free_link k y inside at = home_free l took k (holder_of l k) y refl (core.some-injective (link_home l took k) (core.some y) (sym (home_at p letters sized l took k inside) ∙ sym (ap (λ hs. get_elem? hs (link_place p k)) homes) ∙ at))

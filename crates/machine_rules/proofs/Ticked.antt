@@ -35,7 +35,7 @@ use Rattle.seat_states.specs.Steps as kinds
 use Rattle.machine_model.proofs.TableRoom.{IsCall}
 use Rattle.seat_states.proofs.StepFacts as facts
 use Rattle.client_seats.specs.Seats.{SeatData, around, seat_program, bytes_of, parts_of}
-use Rattle.machine_model.specs.declared.letter.Letter.{Letter}
+use Rattle.machine_model.specs.declared.home_message.HomeMessage.{HomeMessage}
 use Rattle.machine_model.specs.Links.{LinksData, Taken, Given, Agrees, AgreesGave, SoFar, IsPaced, holder_of, is_done, link_with, homes_of, hand_of, letter_home}
 use Rattle.machine_model.specs.Machines.{MachineState, READERS, table_of, machine_sizes, state_of, waiting_of, given_by, core_with, IsSized}
 use Rattle.machine_model.specs.Steps.{OutsAfter, Goes, CallMade, AsideMade, MessageTaken, LinkTaken, LinkPut, LinkAsked, MadeFirst, holders_after}
@@ -107,21 +107,21 @@ gives_same l l' gave same agrees k inn at = agrees k inn (sym (ap (λ (is : List
 
 -- ## What each kind of step changes
 
-changed_is : {p : Plan} {i : ℕ} {l l' : LinksData} {ls ms : List (Option Letter)} {took later : Taken} {hand hand' : List Home} {hs gs : List (core.Option Home)} → Changed p i l l' ls ms took later hand hs → hand ≡ hand' → hs ≡ gs → Changed p i l l' ls ms took later hand' gs
+changed_is : {p : Plan} {i : ℕ} {l l' : LinksData} {ls ms : List (Option HomeMessage)} {took later : Taken} {hand hand' : List Home} {hs gs : List (core.Option Home)} → Changed p i l l' ls ms took later hand hs → hand ≡ hand' → hs ≡ gs → Changed p i l l' ls ms took later hand' gs
 changed_is c e f = record { own = c.own ∙ e; others = c.others; homes_are = c.homes_are ∙ f }
 
-letters_along : {p : Plan} {i : ℕ} {l l' : LinksData} {ls ms : List (Option Letter)} {took later : Taken} {hand : List Home} {hs : List (core.Option Home)} → ms ≡ ls → Changed p i l l' ls ls took later hand hs → Changed p i l l' ls ms took later hand hs
+letters_along : {p : Plan} {i : ℕ} {l l' : LinksData} {ls ms : List (Option HomeMessage)} {took later : Taken} {hand : List Home} {hs : List (core.Option Home)} → ms ≡ ls → Changed p i l l' ls ls took later hand hs → Changed p i l l' ls ms took later hand hs
 letters_along {p} {i} {l} {l'} {ls} {ms} {took} {later} {hand} {hs} e c = subst (λ xs. Changed p i l l' ls xs took later hand hs) (sym e) c
 
 pub links_are : (l l' : LinksData) → l'.holders ≡ l.holders → l'.nexts ≡ l.nexts → l'.outs ≡ l.outs → l'.inns ≡ l.inns → l' ≡ l
 links_are l l' e f g h = λ k. record { holders = e k; nexts = f k; outs = g k; inns = h k }
 
 -- the message that goes home lies there
-abbrev pub LettersBy : calls.TableStep → List (Option Letter) → List (Option Letter) → Type 0
-LettersBy (calls.PutMessage q heading bytes) old fresh = (letter : Letter) × (fresh ≡ slice_set old q (Some letter)) × (letter_home (Some letter) ≡ core.some (Message heading bytes))
+abbrev pub LettersBy : calls.TableStep → List (Option HomeMessage) → List (Option HomeMessage) → Type 0
+LettersBy (calls.PutMessage q heading bytes) old fresh = (letter : HomeMessage) × (fresh ≡ slice_set old q (Some letter)) × (letter_home (Some letter) ≡ core.some (Message heading bytes))
 LettersBy other old fresh = fresh ≡ old
 
-module _ (p : Plan) (i : ℕ) (letters : List (Option Letter)) (sized : length letters ≡ p.requests) (l l' : LinksData) (took : Taken) (many : length l.holders ≡ p.links) where
+module _ (p : Plan) (i : ℕ) (letters : List (Option HomeMessage)) (sized : length letters ≡ p.requests) (l l' : LinksData) (took : Taken) (many : length l.holders ≡ p.links) where
   abbrev homes : List (core.Option Home)
   homes = homes_of l p letters took
 
@@ -135,7 +135,7 @@ module _ (p : Plan) (i : ℕ) (letters : List (Option Letter)) (sized : length l
   linked k ts us m n d e f g h = λ x. Link k (f x) (g x) (h x)
 
   -- a step on a word, or a move without a right
-  pub call_changes : (call : calls.TableStep) (letters' : List (Option Letter)) → MayCall p l i call → LettersBy call letters letters' → l'.holders ≡ holders_after i call l.holders → l'.nexts ≡ l.nexts → OutsAfter call l.outs l'.outs → l'.inns ≡ l.inns →
+  pub call_changes : (call : calls.TableStep) (letters' : List (Option HomeMessage)) → MayCall p l i call → LettersBy call letters letters' → l'.holders ≡ holders_after i call l.holders → l'.nexts ≡ l.nexts → OutsAfter call l.outs l'.outs → l'.inns ≡ l.inns →
       Changed p i l l' letters letters' took took (hand_after p call homes hand) (homes_after p call hand homes)
   call_changes (calls.TakeLink k) letters' may lettered holders nexts outs inns =
       letters_along lettered (take_changes p i k letters sized l l' took many may.0 may.1 may.2 holders nexts outs)
@@ -199,12 +199,12 @@ fits_put true bytes puts.Again out out' step paced = absurd (true≢false (sym (
 fits_put false bytes puts.Again out out' step paced = refl
 fits_put asked bytes puts.Failed out out' step paced = tt
 
-pub letters_by : (call : TableStep) (old fresh : List (Option Letter)) → fresh ≡ old → LettersBy (step_of call) old fresh
+pub letters_by : (call : TableStep) (old fresh : List (Option HomeMessage)) → fresh ≡ old → LettersBy (step_of call) old fresh
 letters_by (steps.ClaimSlot i) old fresh same = same
 letters_by _ old fresh same = same
 
 -- what stands with a message that went home
-same_home : (q : ℕ) (author : Author) (seat : SeatData) (letter : Letter) → letter.author ≡ author → (parcel_of letter.message).bytes ≡ bytes_of seat.message → (parcel_of letter.message).parts ≡ parts_of seat.message →
+same_home : (q : ℕ) (author : Author) (seat : SeatData) (letter : HomeMessage) → letter.author ≡ author → (parcel_of letter.message).bytes ≡ bytes_of seat.message → (parcel_of letter.message).parts ≡ parts_of seat.message →
     letter_home (Some letter) ≡ core.some (Message (heading_by author (parts_of seat.message)) (bytes_of seat.message))
 same_home q author seat letter e f g = ap core.some (λ k. Message (heading_by (e k) (g k)) (f k))
 

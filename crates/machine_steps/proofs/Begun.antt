@@ -16,7 +16,7 @@ use Rattle.seat_states.specs.declared.point.Point.TheVariants as point
 use Rattle.reader_seats.specs.Readers.{ReaderData, reader_program}
 use Rattle.client_seats.specs.Following.{FollowsOn}
 use Rattle.client_seats.specs.Seats.{SeatData, seat_program, client_of}
-use Rattle.machine_model.specs.declared.letter.Letter.{Letter}
+use Rattle.machine_model.specs.declared.home_message.HomeMessage.{HomeMessage}
 use Rattle.machine_model.specs.Parts.{AreBegun, AreReading, said_first}
 use Rattle.machine_model.specs.Letters.{letters_in}
 use Rattle.machine_model.proofs.Lengths.{length_said}
@@ -122,4 +122,4 @@ written_over n xs ys e = written n xs (drop (length xs) ys) e
 -- homes without a message
 pub none_in : (n : ℕ) → letters_in (replicate n None) ≡ replicate n None
 none_in zero = refl
-none_in (suc n) = ap (λ (l : List (Option Letter)). None ∷ l) (none_in n)
+none_in (suc n) = ap (λ (l : List (Option HomeMessage)). None ∷ l) (none_in n)

@@ -1,13 +1,13 @@
 ghost use Rattle.std.specs.Prelude.{◌≡◌, ◌≢◌, ◌<◌, ℕ, [], Some, None, OnOk, OnErr, option_map, length, slice_set, slice_index_or};
 ghost use mathlib.Core.Option.{some};
 ghost use lib.ListN.{get_elem?};
-ghost use Rattle.machine_model.specs.declared.letter.Letter.{Letter};
+ghost use Rattle.machine_model.specs.declared.home_message.HomeMessage.{HomeMessage};
 ghost use Rattle.message_parts.specs.Parcels.{parcel_of, outgoing_of};
 ghost use Rattle.client_seats.specs.Seats.{bytes_of, message_in, call_in};
 ghost use Rattle.machine_model.specs.Letters.{letters_in};
 
 use client_seats::InHand;
-use machine_model::Letter;
+use machine_model::HomeMessage;
 use message_parts::OutgoingParcel;
 use seat_states::Author;
 use sock_io::NoMemory;
@@ -16,19 +16,19 @@ use std::alloc::Global;
 /// The message that a seat has in hand goes to the home of a request, for its author. The memory is for the message there.
 pub fn put_message(
     alloc: Global,
-    letters: &mut [Option<Box<Letter>>],
+    letters: &mut [Option<Box<HomeMessage>>],
     request: u16,
     author: Author,
     hand: &mut InHand,
 ) -> Result<(), NoMemory>
     requires there { request < length letters.old }
     requires some { bytes_of (message_in hand.old) ≢ [] }
-    ensures letters { OnOk result ((letter : Letter) × (letter.author ≡ author) × (Some (parcel_of letter.message) ≡ message_in hand.old) × (letters_in letters.new ≡ slice_set (letters_in letters.old) request (Some letter))) }
+    ensures letters { OnOk result ((letter : HomeMessage) × (letter.author ≡ author) × (Some (parcel_of letter.message) ≡ message_in hand.old) × (letters_in letters.new ≡ slice_set (letters_in letters.old) request (Some letter))) }
     ensures rest { OnOk result ((message_in hand.new ≡ None) × (call_in hand.new ≡ call_in hand.old)) }
     ensures err { OnErr result (letters.new ≡ letters.old) }
 {
     if let Some(message) = hand.take_message() {
-        let Ok(letter) = Box::new(alloc, Letter { author, message }) else {
+        let Ok(letter) = Box::new(alloc, HomeMessage { author, message }) else {
             return Err(NoMemory);
         };
         letters[usize::from(request)] = Some(letter);
@@ -38,12 +38,12 @@ pub fn put_message(
 
 /// The message of a request is taken out of its home; who sent it.
 pub fn take_message(
-    letters: &mut [Option<Box<Letter>>],
+    letters: &mut [Option<Box<HomeMessage>>],
     request: u16,
     out: &mut Option<OutgoingParcel>,
 ) -> Author
-    requires there { (letter : Letter) × (get_elem? (letters_in letters.old) request ≡ some (Some letter)) }
-    ensures taken { (letter : Letter) × (get_elem? (letters_in letters.old) request ≡ some (Some letter)) × (result ≡ letter.author) × (option_map outgoing_of out.new ≡ Some (record { left = (parcel_of letter.message).bytes; taken = 0; parts = (parcel_of letter.message).parts })) }
+    requires there { (letter : HomeMessage) × (get_elem? (letters_in letters.old) request ≡ some (Some letter)) }
+    ensures taken { (letter : HomeMessage) × (get_elem? (letters_in letters.old) request ≡ some (Some letter)) × (result ≡ letter.author) × (option_map outgoing_of out.new ≡ Some (record { left = (parcel_of letter.message).bytes; taken = 0; parts = (parcel_of letter.message).parts })) }
     ensures letters { letters_in letters.new ≡ slice_set (letters_in letters.old) request None }
 {
     match letters[usize::from(request)].take() {

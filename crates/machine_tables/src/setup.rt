@@ -7,7 +7,7 @@ ghost use Rattle.machine_model.specs.Parts.{AreBegun, AreReading, AreParts, said
 use call_slots::{CallSlots, push_zeros};
 use client_seats::Seat;
 use corr_core::Plan as IdPlan;
-use machine_model::Letter;
+use machine_model::HomeMessage;
 use reader_seats::ReaderSeat;
 use seat_programs::{Sizes, Task};
 use sock_message::NoMemory;
@@ -104,7 +104,7 @@ fn readers_of(alloc: Global, opens: &VecDeque<u16>) -> Result<Vec<ReaderSeat>, A
 pub struct Parts {
     pub words: Vec<u64>,
     /// The home of each request.
-    pub letters: Vec<Option<Box<Letter>>>,
+    pub letters: Vec<Option<Box<HomeMessage>>>,
     /// Who has each link in hand.
     pub holders: Vec<Option<u16>>,
     /// How many messages of each link have places.

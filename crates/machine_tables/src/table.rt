@@ -20,7 +20,7 @@ use crate::words::{end_link, is_taken, pass_link, step_word};
 use call_points::Aside;
 use call_slots::CallSlots;
 use client_seats::Seat;
-use machine_model::{Letter, On, Tick};
+use machine_model::{HomeMessage, On, Tick};
 use seat_programs::Sizes;
 use seat_states::{Author, TableStep, Step};
 use sock_io::{Ends, In, NoMemory, Out, Peer, Put, Ready};
@@ -43,7 +43,7 @@ pub struct Table<O: Out, I: In, P: Peer> {
     pub plan: Plan,
     pub words: Vec<u64>,
     /// The message at the home of each request, in memory of its own.
-    pub letters: Vec<Option<Box<Letter>>>,
+    pub letters: Vec<Option<Box<HomeMessage>>>,
     pub ends: Vec<Ends<O, I, P>>,
     /// Which seat has each link in hand.
     pub holders: Vec<Option<u16>>,

@@ -43,7 +43,7 @@ use Rattle.reader_points.specs.Points as reading
 use Rattle.reader_points.specs.Steps as reader_steps
 use Rattle.reader_seats.specs.Readers.{ReaderData, reader_program}
 use Rattle.reader_seats.specs.Readers as readers
-use Rattle.machine_model.specs.declared.letter.Letter.{Letter}
+use Rattle.machine_model.specs.declared.home_message.HomeMessage.{HomeMessage}
 use Rattle.machine_model.specs.Links.{LinksData, IsPaced, letter_home}
 use Rattle.machine_model.specs.Machines.{MachineState, READERS, IsMachine, IsSoundMachine, ArePaced, table_of, machine_sizes, state_of, waiting_of, given_by, core_with, IsSized}
 use Rattle.machine_model.specs.Steps.{IsOfLinks, NextIs, MayGoOn, StandsAt, FitsSlots, Fits, StepFits, beside}
@@ -226,7 +226,7 @@ module _ (m : MachineState) (room : ℕ) (is : IsMachine m room) (enough : m.sho
     client_at : (s : IsSoundMachine m) → get_elem? (core_with m s.took s.gave).seats i ≡ core.some (state_of m.plan m.links s.took client i)
     client_at s = seat_at m s.took i seat at
 
-    lettered : (q : ℕ) → first_in client ≡ Some (OfMessage q) → (o : Option Letter) → get_elem? m.letters q ≡ core.some o → (letter : Letter) × (get_elem? m.letters q ≡ core.some (Some letter))
+    lettered : (q : ℕ) → first_in client ≡ Some (OfMessage q) → (o : Option HomeMessage) → get_elem? m.letters q ≡ core.some o → (letter : HomeMessage) × (get_elem? m.letters q ≡ core.some (Some letter))
     lettered q next None e = absurd (∥∥₁_elim sound (hlevel props) (λ s. let h = (says i client client_at s (OfMessage q) next).1.1 in
         core.some-ne-none _ (core.some-injective _ _ (sym h.2 ∙ at_longer (map letter_home m.letters) _ q (letter_home None) (at_map letter_home m.letters q None e)))))
     lettered q next (Some letter) e = (letter, e)

@@ -10,7 +10,7 @@ use Rattle.sock_words.specs.declared.outcome.Outcome.{Outcome}
 use Rattle.seat_programs.specs.sock_io.specs.declared.link.Put.{Put}
 use Rattle.seat_programs.specs.sock_io.specs.declared.link.Ready.{Ready}
 use Rattle.sock_model.specs.declared.home.Home.{Home}
-use Rattle.sock_model.specs.Messages.{Letter}
+use Rattle.sock_model.specs.Messages.{HeadedBytes}
 use Rattle.sock_model.specs.Reads.{message, link_home}
 use Rattle.seat_programs.specs.declared.task.Task.{Task}
 use Rattle.seat_programs.specs.Asides.{Step, Found}
@@ -40,7 +40,7 @@ said_keeps (Sent n next) os o t = said_keeps next os o t
 said_keeps _ os o t = t
 
 module _ (p : Plan) (i : ℕ) (seat : SeatState) (c : Core) (o : ℕ) (t : IsSaidOf c.outcomes o) where
-  message_said : (q : ℕ) (x : core.Option Letter) (next : Letter → Program) → IsSaidOf (with_message p i seat c q x next).outcomes o
+  message_said : (q : ℕ) (x : core.Option HeadedBytes) (next : HeadedBytes → Program) → IsSaidOf (with_message p i seat c q x next).outcomes o
   message_said q core.none next = t
   message_said q (core.some letter) next = said_keeps (resolved (waiting_at c.calls.waiting i) (next letter)) c.outcomes o t
 

@@ -13,7 +13,7 @@ use Rattle.sock_io.specs.declared.link.Ready.{Ready}
 use Rattle.sock_model.specs.declared.chain.Heading.{Heading}
 use Rattle.sock_model.specs.declared.home.Home.{Home}
 use Rattle.sock_model.specs.declared.home.Home.TheVariants.{Empty, Link, Message}
-use Rattle.sock_model.specs.Messages.{Letter}
+use Rattle.sock_model.specs.Messages.{HeadedBytes}
 use Rattle.sock_model.specs.Reads.{message, link_home}
 use Rattle.corr_core.specs.Word.{parts}
 use Rattle.corr_core.specs.declared.marks.Plan.{Plan as IdPlan}
@@ -200,7 +200,7 @@ module _ (p : Plan) (q : IdPlan) (narrow : q.slots ≤ 65536) (same : q.operatio
     on_aside step next answer g may fits (some found) is = on_ids step next answer g may fits found is
         (finds_ids p q c.calls known.plan vs known.rule i w at_view real (known.called, known.placed) known.homes step (taken answer) found is may)
 
-    by_letter : (r : ℕ) (next : Heading → List ℕ → Program) → OwesOn life u (TakeMessage r next) → (x : Option Letter) → message (λ (h : Home). h) c.homes r ≡ x → Owed' (with_message p i seat c r x (λ letter. next letter.0 letter.1))
+    by_letter : (r : ℕ) (next : Heading → List ℕ → Program) → OwesOn life u (TakeMessage r next) → (x : Option HeadedBytes) → message (λ (h : Home). h) c.homes r ≡ x → Owed' (with_message p i seat c r x (λ letter. next letter.0 letter.1))
     by_letter r next g none is = before
     by_letter r next g (some letter) is = message_ticks q life calls c us sound i seat u at_seat at few r next letter.0 letter.1 g (message_there (get_elem? c.homes r) letter is)
 

@@ -15,7 +15,7 @@ use Rattle.sock_io.specs.declared.link.Ready.{Ready}
 use Rattle.sock_model.specs.declared.chain.Heading.{Heading}
 use Rattle.sock_model.specs.declared.home.Home.{Home}
 use Rattle.sock_model.specs.declared.home.Home.TheVariants.{Message}
-use Rattle.sock_model.specs.Messages.{Letter}
+use Rattle.sock_model.specs.Messages.{HeadedBytes}
 use Rattle.sock_model.specs.Reads.{message, link_home}
 use Rattle.sent_once.specs.Below.slot_steps.proofs.Sums.{term_le, total-append}
 use Rattle.corr_core.specs.Word.{Parts, parts, error_of, attempt_of, made_word, posted_word, unlocked_word, free_word}
@@ -354,7 +354,7 @@ module _ (p : Plan) (q : IdPlan) (narrow : q.slots ≤ 65536) (Taken : Post → 
     put_fits (PutMessage r heading bytes) u (inr is) = λ _. inl (subst (StandFits (IsPast q c ss) (Mine i)) is (law.stands i s at_stand))
     put_fits _ u may = tt
 
-    by_letter : (r : ℕ) (next : Heading → List ℕ → Program) → Aims s (TakeMessage r next) → (x : Option Letter) → message (λ (h : Home). h) c.homes r ≡ x → Result [] (with_message p i seat c r x (λ letter. next letter.0 letter.1))
+    by_letter : (r : ℕ) (next : Heading → List ℕ → Program) → Aims s (TakeMessage r next) → (x : Option HeadedBytes) → message (λ (h : Home). h) c.homes r ≡ x → Result [] (with_message p i seat c r x (λ letter. next letter.0 letter.1))
     by_letter r next go none is = before
     by_letter r next go (some letter) is = by (eqb letter.0.owner 0) refl
       where

@@ -13,7 +13,7 @@ use Rattle.sock_words.specs.declared.plain.Plan.{Plan}
 use Rattle.sock_io.specs.declared.link.Put.{Put}
 use Rattle.sock_io.specs.declared.link.Ready.{Ready}
 use Rattle.sock_model.specs.declared.home.Home.{Home}
-use Rattle.sock_model.specs.Messages.{Letter}
+use Rattle.sock_model.specs.Messages.{HeadedBytes}
 use Rattle.sock_model.specs.Reads.{message, link_home}
 use Rattle.corr_core.specs.Word.{Parts, parts, made_word, posted_word, unlocked_word, free_word}
 use Rattle.corr_core.specs.declared.marks.Plan.{Plan as IdPlan}
@@ -442,7 +442,7 @@ module _ (p : Plan) (q : IdPlan) (narrow : q.slots ≤ 65536) (calls : List ℕ)
   on_aside step next t go b g true_ none is = before
   on_aside step next t go b g true_ (some found) is = on_ids step next found t is go.0 b g true_
 
-  by_letter : (r : ℕ) (next : Letter → Program) → ((letter : Letter) → Owns has (left i) Other (next letter)) → (x : Option Letter) → After (with_message p i seat c r x next)
+  by_letter : (r : ℕ) (next : HeadedBytes → Program) → ((letter : HeadedBytes) → Owns has (left i) Other (next letter)) → (x : Option HeadedBytes) → After (with_message p i seat c r x next)
   by_letter r next g none = before
   by_letter r next g (some letter) = on_sockets Other (next letter) seat.hand c.words (set c.homes r none) (g letter) tt
 

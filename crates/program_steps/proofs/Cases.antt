@@ -13,7 +13,7 @@ use Rattle.sock_model.specs.declared.home.Home.{Home}
 use Rattle.sock_model.specs.declared.home.Home.TheVariants.{Empty, Link, Message}
 use Rattle.sock_model.specs.declared.view.View.{View}
 use Rattle.sock_model.specs.ChainRows.{with_right, taken_right, put_right}
-use Rattle.sock_model.specs.Messages.{Letter}
+use Rattle.sock_model.specs.Messages.{HeadedBytes}
 use Rattle.sock_model.specs.Reads.{letter_of, shown, message, link_home}
 use Rattle.seat_programs.specs.Writings.{Puts, Waits, Empties, Walks}
 use Rattle.seat_programs.specs.Calls.{TableStep, LoadOpen}
@@ -78,7 +78,7 @@ lies_there none heading bytes e = absurd (some-ne-none (heading, bytes) (sym e))
 lies_there (some none) heading bytes e = absurd (some-ne-none (heading, bytes) (sym e))
 lies_there (some (some Empty)) heading bytes e = absurd (some-ne-none (heading, bytes) (sym e))
 lies_there (some (some (Link k took next done))) heading bytes e = absurd (some-ne-none (heading, bytes) (sym e))
-lies_there (some (some (Message l cs))) heading bytes e = let q : (l, cs) ≡ (heading, bytes) = some-injective (l, cs) (heading, bytes) e in ap (λ (z : Letter). some (some (Message z.0 z.1))) q
+lies_there (some (some (Message l cs))) heading bytes e = let q : (l, cs) ≡ (heading, bytes) = some-injective (l, cs) (heading, bytes) e in ap (λ (z : HeadedBytes). some (some (Message z.0 z.1))) q
 
 -- whoever is asked at the head of a loop is asked by the first step of the round
 pub answer_begins : (program : Program) (answer : Answer) → IsAnswer program answer → IsAnswer (first_step program) answer
@@ -246,7 +246,7 @@ module _ (p : Plan) (c : Core) (vs : List View) (m : Moment) (sound : Sound p c 
     by_first seat v at_seat at_view (Do call next) e g a = step seat v call next at_seat at_view e g
     by_first seat v at_seat at_view (TakeMessage q next) e g a = by_letter (message (λ (h : Home). h) c.homes q) refl
       where
-        by_letter : (x : Option Letter) → message (λ (h : Home). h) c.homes q ≡ x
+        by_letter : (x : Option HeadedBytes) → message (λ (h : Home). h) c.homes q ≡ x
             → P (event v m.answer (TakeMessage q next)) (with_message p m.seat seat c q x (λ letter. next letter.0 letter.1)) (views_with_message p m.seat c vs v x)
         by_letter none is = stays seat v (TakeMessage q next) at_seat e tt
         by_letter (some letter) is = message_ seat v q next letter.0 letter.1 at_seat at_view e g (lies_there (get_elem? c.homes q) letter.0 letter.1 is)

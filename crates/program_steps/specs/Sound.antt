@@ -18,7 +18,7 @@ use Rattle.sock_model.specs.Rule.{AreShort, lists_of}
 use Rattle.sock_model.specs.Slots.{count}
 use Rattle.sock_model.specs.Weights.{is_born, is_failer, is_freer}
 use Rattle.sock_model.specs.References.{slot_facts}
-use Rattle.sock_model.specs.Messages.{Letter}
+use Rattle.sock_model.specs.Messages.{HeadedBytes}
 use Rattle.sock_model.specs.Reads.{message, link_home}
 use Rattle.seat_programs.specs.Calls.{TableStep, CreateLife, AddRef, SubRef, Recycle, LoadLink, LoadName, TakeLink, FinishLink, PutLink, FindLink, ClaimRequest, PutMessage, EmptyHead, FreeRequest, StorePlace, DropPlace}
 use Rattle.seat_programs.specs.Programs.{Program, Do, TakeMessage, TakeHome, PutHome, PutBytes, Say, Sent, Keep, Retries, AskReady, Write, Aside, Round, Rest, LAST_VERSION, LAST_GENERATION}
@@ -97,7 +97,7 @@ pub record AreFew (views : List View) : Type 0 where
 
 module _ (p : Plan) (i : ℕ) (c : Core) (views : List View) (v : View) where
   -- the message taken out of its home, where it was there
-  abbrev pub views_with_message : Option Letter → List View
+  abbrev pub views_with_message : Option HeadedBytes → List View
   views_with_message none = views
   views_with_message (some letter) = set views i (took_message letter.0 letter.1 v)
 

@@ -12,7 +12,7 @@ use Rattle.sock_words.specs.declared.plain.Plan.{Plan}
 use Rattle.sock_io.specs.declared.link.Put.{Put}
 use Rattle.sock_model.specs.declared.view.View.{View}
 use Rattle.sock_model.specs.declared.home.Home.{Home}
-use Rattle.sock_model.specs.Messages.{Letter}
+use Rattle.sock_model.specs.Messages.{HeadedBytes}
 use Rattle.sock_model.specs.Reads.{message, link_home}
 use Rattle.seat_programs.specs.brpc_model.specs.Items.{Item}
 use Rattle.seat_programs.specs.brpc_model.specs.Operations.{Turn}
@@ -118,7 +118,7 @@ module _ (p : Plan) (c : Core) (m : Moment) (j : ℕ) (other : j ≢ m.seat) (se
   else_ : (new : SeatState) → get_elem? (std.slice_set c.seats m.seat new) j ≡ get_elem? c.seats j
   else_ new = set_else c.seats m.seat j new other
 
-  by_letter : (r : ℕ) (x : Option Letter) (next : Letter → Program) → Same (with_message p m.seat seat c r x next)
+  by_letter : (r : ℕ) (x : Option HeadedBytes) (next : HeadedBytes → Program) → Same (with_message p m.seat seat c r x next)
   by_letter r none next = refl
   by_letter r (some letter) next = else_ _
 

@@ -15,7 +15,7 @@ use Rattle.corr_core.specs.Decisions.{ends_call}
 use Rattle.brpc_model.specs.Items.{Item}
 use Rattle.brpc_model.specs.Operations.{Turn}
 use Rattle.brpc_model.specs.Script.{script_of}
-use Rattle.sock_model.specs.Messages.{Letter}
+use Rattle.sock_model.specs.Messages.{HeadedBytes}
 use Rattle.sock_model.specs.Reads.{message, link_home}
 use Rattle.seat_programs.specs.Asides.{Step, ClaimId, PutCall, MakeId, StoreCall, LoadCall, StoreAt, LoadAt, LoadIdWord, LockId, PostId, UnlockId, EndId, FreeId, TakeCall, TakeBytes, Found, Taking, Bytes, Nothing, NoMore, AtEnd, Closed, Broken}
 use Rattle.seat_programs.specs.Beside.{at_last, found_in, calls_after, more_given}
@@ -82,7 +82,7 @@ module _ (k : ℕ) where
   answered a program = map (λ (j : ℕ). a) (filter (λ (j : ℕ). j == k) (taken_link program))
 
   module _ (p : Plan) (i : ℕ) (seat : SeatState) (c : Core) where
-    message_gave : (q : ℕ) (o : Option Letter) (next : Letter → Program) → gave (with_message p i seat c q o next) ≡ gave c
+    message_gave : (q : ℕ) (o : Option HeadedBytes) (next : HeadedBytes → Program) → gave (with_message p i seat c q o next) ≡ gave c
     message_gave q none next = refl
     message_gave q (some letter) next = refl
 

@@ -16,7 +16,7 @@ use Rattle.brpc_model.specs.Script.{script_of}
 use Rattle.corr_core.specs.declared.marks.Plan.{Plan as IdPlan}
 use Rattle.seat_programs.specs.sock_message.specs.Asked.{Asked}
 use Rattle.sock_model.specs.declared.home.Home.{Home}
-use Rattle.sock_model.specs.Messages.{Letter}
+use Rattle.sock_model.specs.Messages.{HeadedBytes}
 use Rattle.sock_model.specs.Reads.{message, link_home}
 use Rattle.seat_programs.specs.Asides.{Step, ClaimId, PutCall, MakeId, StoreCall, LoadCall, StoreAt, LoadAt, LoadIdWord, LockId, PostId, UnlockId, EndId, FreeId, TakeCall, TakeBytes, Found, Taking, Bytes}
 use Rattle.seat_programs.specs.Beside.{found_in, calls_after, with_word, more_given}
@@ -126,7 +126,7 @@ beside_long : (c : Core) (a : Calls) → AsideLong c.calls a → AsLong c (recor
 beside_long c a h = record { words = refl; homes = refl; seats = refl; outcomes = refl; plan = h.plan; id_words = h.words; id_homes = h.homes; waiting = ap length h.waiting; gave = h.gave }
 
 module _ (p : Plan) (i : ℕ) (seat : SeatState) (c : Core) where
-  message_long : (q : ℕ) (o : Option Letter) (next : Letter → Program) → AsLong c (with_message p i seat c q o next)
+  message_long : (q : ℕ) (o : Option HeadedBytes) (next : HeadedBytes → Program) → AsLong c (with_message p i seat c q o next)
   message_long q none next = same_long c
   message_long q (some letter) next = seat_long i (next letter) seat.hand c.words (std.slice_set c.homes q none) c refl (length-set c.homes q none)
 

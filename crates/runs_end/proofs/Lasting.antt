@@ -23,7 +23,7 @@ use Rattle.sock_model.specs.declared.view.Hand.{Hand}
 use Rattle.sock_model.specs.Entries.{on}
 use Rattle.sock_model.specs.Layout.{head_index, link_index, next_index}
 use Rattle.sock_model.specs.Weights.{only}
-use Rattle.sock_model.specs.Messages.{Letter}
+use Rattle.sock_model.specs.Messages.{HeadedBytes}
 use Rattle.sock_model.specs.ChainRows.{entry_of, more, new_right, queued, righted}
 use Rattle.sock_model.specs.Reads.{letter_of, took_of, as_link, shown, message, link_home}
 use Rattle.sock_steps.specs.slot_steps.proofs.Sums.{total-set}
@@ -357,7 +357,7 @@ module _ (p : Plan) (c : Core) (vs : List View) (n : ℕ) (lasts : Lasts p c vs 
         → Fewer p n (with_message p i seat c q (message (λ home. home) c.homes q) (λ letter. next letter.0 letter.1)) (views_with_message p i c vs v (message (λ home. home) c.homes q))
     message_moves q next goes l = let a = message_there p go c vs sound i seat v at_seat at_view q next goes in let heading : Heading = a.1.0 in let bytes : List ℕ = a.1.1 in let m = l heading bytes a.1.4 in
         let few = m.1 in
-        subst (λ (x : Option Letter). Fewer p n (with_message p i seat c q x (λ letter. next letter.0 letter.1)) (views_with_message p i c vs v x)) (sym (ap (λ (h : Option (Option Home)). letter_of (shown (λ home. home) h)) a.1.2))
+        subst (λ (x : Option HeadedBytes). Fewer p n (with_message p i seat c q x (λ letter. next letter.0 letter.1)) (views_with_message p i c vs v x)) (sym (ap (λ (h : Option (Option Home)). letter_of (shown (λ home. home) h)) a.1.2))
         (seat_steps (next heading bytes) seat.hand c.words (set c.homes q none) (took_message heading bytes v) m.0 (goes.1 heading bytes a.1.3 a.1.4) m.2 (message_lists v heading bytes)
         (omega (arith, few, message_few (accepted vs) v heading bytes, total-set home_weight c.homes q (some (Message heading bytes)) none a.1.2)))
 

@@ -12,7 +12,7 @@ use Rattle.sock_model.specs.declared.home.Home.TheVariants.{Link}
 use Rattle.seat_programs.specs.Cores.{lies_at, link_place}
 use Rattle.seat_programs.specs.Runs.{from_to}
 use Rattle.seat_programs.specs.Scripts.{taken_by, took_at_home}
-use Rattle.machine_model.specs.declared.letter.Letter.{Letter}
+use Rattle.machine_model.specs.declared.home_message.HomeMessage.{HomeMessage}
 use Rattle.machine_model.specs.Links.{LinksData, Taken, Agrees, letter_home, holder_of, link_with, link_home, homes_of}
 
 -- ## Places in lists
@@ -44,7 +44,7 @@ home_took l took k true t next done e = absurd (cc)
 home_took l took k false t next done e = ap took_of e
 
 -- what a link at home took is what its number has
-pub took_is : (l : LinksData) (p : Plan) (letters : List (Option Letter)) (took : Taken) (k : ℕ) (t : List ℕ) (next : ℕ) (done : Bool) → length letters ≡ p.requests → k < p.links →
+pub took_is : (l : LinksData) (p : Plan) (letters : List (Option HomeMessage)) (took : Taken) (k : ℕ) (t : List ℕ) (next : ℕ) (done : Bool) → length letters ≡ p.requests → k < p.links →
     get_elem? (homes_of l p letters took) (link_place p k) ≡ core.some (core.some (Link k t next done)) → took k ≡ t
 took_is l p letters took k t next done many inside at =
     let place : p.requests + k ≡ length (map letter_home letters) + k = ap (λ n. n + k) (sym many ∙ sym (length-map letters letter_home)) in

@@ -12,7 +12,7 @@ use Rattle.sock_io.specs.declared.link.Ready.TheVariants as ready
 use Rattle.sock_model.specs.declared.home.Home.{Home}
 use Rattle.sock_model.specs.declared.home.Home.TheVariants.{Link}
 use Rattle.sock_model.specs.Layout.{next_index}
-use Rattle.sock_model.specs.Messages.{Letter}
+use Rattle.sock_model.specs.Messages.{HeadedBytes}
 use Rattle.sock_model.specs.Reads.{message, link_home}
 use Rattle.seat_programs.specs.Writings as heads
 use Rattle.seat_programs.specs.Programs.{Program, Do, TakeMessage, TakeHome, PutHome, PutBytes, AskReady, Write, Aside, Round}
@@ -74,7 +74,7 @@ taken other = none
 
 module _ (p : Plan) (i : ℕ) (seat : SeatState) (c : Core) where
   -- the message of request q, where it is at home
-  abbrev pub with_message : ℕ → Option Letter → (Letter → Program) → Core
+  abbrev pub with_message : ℕ → Option HeadedBytes → (HeadedBytes → Program) → Core
   with_message q none next = c
   with_message q (some letter) next = with_seat i (next letter) seat.hand c.words (slice_set c.homes q none) c
 

@@ -7,7 +7,7 @@ use Rattle.sock_words.specs.declared.plain.Plan.{Plan}
 use Rattle.sock_io.specs.declared.link.Put.{Put}
 use Rattle.sock_io.specs.declared.link.Ready.{Ready}
 use Rattle.sock_model.specs.Layout.{open_index}
-use Rattle.sock_model.specs.Messages.{Letter}
+use Rattle.sock_model.specs.Messages.{HeadedBytes}
 use Rattle.sock_model.specs.Reads.{message, link_home}
 use Rattle.seat_programs.specs.Asides.{Step, Found, TakeBytes, Taking, Bytes}
 use Rattle.seat_programs.specs.Beside.{at_last, found_in, calls_after, more_given}
@@ -47,7 +47,7 @@ module _ (p : Plan) (k : ℕ) (c : Core) (m : Moment) where
   -- ## Where no bytes of the link are taken
 
   module _ (seat : SeatState) where
-    letter_gave : (q : ℕ) (o : Option Letter) (next : Letter → Program) → gave_in (with_message p m.seat seat c q o next) k ≡ gave_in c k
+    letter_gave : (q : ℕ) (o : Option HeadedBytes) (next : HeadedBytes → Program) → gave_in (with_message p m.seat seat c q o next) k ≡ gave_in c k
     letter_gave q none next = refl
     letter_gave q (some letter) next = refl
 

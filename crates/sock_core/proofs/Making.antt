@@ -32,7 +32,7 @@ use Rattle.client_seats.specs.Seats.{SeatData, seat_program}
 use Rattle.machine_model.specs.Links.{LinksData, Agrees, AgreesGave, AreAlwaysReady, TellClosing, ClosedAreDone}
 use Rattle.machine_model.specs.Machines.{MachineState, core_with}
 use Rattle.machine_model.specs.Runs.{RanFirst}
-use Rattle.machine_model.specs.declared.letter.Letter.{Letter}
+use Rattle.machine_model.specs.declared.home_message.HomeMessage.{HomeMessage}
 use Rattle.machine_model.specs.Parts.{AreBegun, AreParts}
 use Rattle.sock_core.specs.Beginnings.{IsMade}
 use Rattle.machine_model.specs.Driving.{AsksNone, IsPlain, FirstRests}
@@ -96,10 +96,10 @@ module _ {E : Type 0} (inn : E → InState) (es : List E) (l : LinksData) (inns 
   all_tell all k i at = all_at (λ (i : InState). i.closing ≢ None) inn es all k i (inn_at k i at)
 
 -- the machine that begins with these parts
-abbrev pub machine_of_parts : (p : Plan) (ws : List ℕ) (letters : List (Option Letter)) (l : LinksData) (ids : SlotState) (cs : List ℕ) (ss : List SeatData) (rs : List ReaderData) (os : List ℕ) (outcomes : List (Option Outcome)) (ends : List LinkEnd) → MachineState
+abbrev pub machine_of_parts : (p : Plan) (ws : List ℕ) (letters : List (Option HomeMessage)) (l : LinksData) (ids : SlotState) (cs : List ℕ) (ss : List SeatData) (rs : List ReaderData) (os : List ℕ) (outcomes : List (Option Outcome)) (ends : List LinkEnd) → MachineState
 machine_of_parts p ws letters l ids cs ss rs os outcomes ends = record { table = record { plan = p; words = ws; letters = letters; links = l; ids = ids; calls = cs; ending = false; outcomes = outcomes; ends = ends }; seats = ss; readers = rs; opens = os; short = false }
 
-pub parts_new : (p : Plan) (q : IdPlan) (clients : List (List Task)) (cs opens : List ℕ) (l : LinksData) (ws : List ℕ) (letters : List (Option Letter)) (ids : SlotState) (ss : List SeatData) (rs : List ReaderData) (os : List (Option Outcome)) →
+pub parts_new : (p : Plan) (q : IdPlan) (clients : List (List Task)) (cs opens : List ℕ) (l : LinksData) (ws : List ℕ) (letters : List (Option HomeMessage)) (ids : SlotState) (ss : List SeatData) (rs : List ReaderData) (os : List (Option Outcome)) →
     AreParts p q clients cs opens ws letters l.holders l.nexts ids ss rs os → ((k : ℕ) (out : OutState) → get_elem? l.outs k ≡ core.some out → out.finished ≡ false) → AreNew p l letters
 parts_new p q clients cs opens l ws letters ids ss rs os parts open_ = record { letters_are = parts.letters_are; holders_are = parts.holders_are; nexts_are = parts.nexts_are; open_ = open_ }
 

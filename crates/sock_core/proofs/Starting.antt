@@ -31,7 +31,7 @@ use Rattle.machine_model.specs.id_runs.specs.Goes.{SoundIds}
 use Rattle.machine_model.specs.run_theorems.specs.Below.joint_runs.proofs.Starts.{AreFor, opens_both, opens_bounded}
 use Rattle.call_slots.specs.Slots.{calls_with}
 use Rattle.reader_seats.specs.Readers.{ReaderData, reader_program}
-use Rattle.machine_model.specs.declared.letter.Letter.{Letter}
+use Rattle.machine_model.specs.declared.home_message.HomeMessage.{HomeMessage}
 use Rattle.client_seats.specs.Seats.{SeatData, seat_program}
 use Rattle.machine_model.specs.Parts.{AreBegun, AreReading, said_first}
 use Rattle.machine_model.specs.Links.{LinksData, Taken, Agrees, AgreesGave, ClosedAreDone, IsPaced, holder_of, link_home, homes_of, letter_home}
@@ -67,7 +67,7 @@ links_are f a zero h = refl
 links_are f a (suc n) h = ap₂ (λ (x : core.Option Home) xs. x ∷ xs) (h a) (links_are f (a + 1) n h)
 
 -- the links and the messages of a table that is new
-pub record AreNew (p : Plan) (l : LinksData) (letters : List (Option Letter)) : Type 0 where
+pub record AreNew (p : Plan) (l : LinksData) (letters : List (Option HomeMessage)) : Type 0 where
   pub letters_are : letters ≡ replicate p.requests None
   pub holders_are : l.holders ≡ replicate p.links None
   pub nexts_are : l.nexts ≡ replicate p.links 0
@@ -77,7 +77,7 @@ pub record AreNew (p : Plan) (l : LinksData) (letters : List (Option Letter)) : 
 abbrev seat_begun : Program → SeatState
 seat_begun program = record { program = next_step (resolved [] program); hand = [] }
 
-module _ (p : Plan) (l : LinksData) (letters : List (Option Letter)) (new : AreNew p l letters) where
+module _ (p : Plan) (l : LinksData) (letters : List (Option HomeMessage)) (new : AreNew p l letters) where
   nobody : (k : ℕ) → holder_of l k ≡ None
   nobody k = ap (λ (hs : List (Option ℕ)). slice_index_or hs k None) new.holders_are ∙ free p.links k
 

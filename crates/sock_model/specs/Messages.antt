@@ -10,8 +10,8 @@ use Rattle.sock_model.specs.declared.chain.Claim.{Claim}
 use Rattle.sock_model.specs.Entries.{ticket, on}
 use Rattle.sock_model.specs.Tokens.{Tokens}
 
-abbrev pub Letter : Type 0
-Letter = Heading × List ℕ
+abbrev pub HeadedBytes : Type 0
+HeadedBytes = Heading × List ℕ
 
 -- the holder of the right to write link k has the message of e in hand
 pub record InHand (t : Tokens) (k : ℕ) (e : Entry) : Type 0 where
@@ -25,7 +25,7 @@ pub record InHand (t : Tokens) (k : ℕ) (e : Entry) : Type 0 where
   pub taken : right.taken ≡ true
 
 -- message has what the home of a request holds
-pub record Messages (links requests : ℕ) (message : ℕ → Option Letter) (t : Tokens) (log : List Entry) (places : ℕ → ℕ) : Type 0 where
+pub record Messages (links requests : ℕ) (message : ℕ → Option HeadedBytes) (t : Tokens) (log : List Entry) (places : ℕ → ℕ) : Type 0 where
   -- a filled claim's message is at home
   pub claimed : (r : ℕ) (c : Claim) → r < requests → t.claims r ≡ c ∷ [] → c.filled ≡ true → message r ≡ some (c.heading, c.bytes)
   -- what is in hand is the message of the first entry without a place

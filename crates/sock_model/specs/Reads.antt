@@ -16,7 +16,7 @@ use Rattle.sock_model.specs.Weights.{only, is_waiting}
 use Rattle.sock_model.specs.Layout.{head_index, request_index, next_index}
 use Rattle.sock_model.specs.Tokens.{Tokens}
 use Rattle.sock_model.specs.Memory.{Memory}
-use Rattle.sock_model.specs.Messages.{Letter}
+use Rattle.sock_model.specs.Messages.{HeadedBytes}
 use Rattle.sock_words.specs.Totals.{total}
 
 abbrev pub head_at : List ℕ → Option ℕ → Option ℕ
@@ -41,7 +41,7 @@ abbrev pub tokens : List View → Tokens
 tokens views = record { rights = λ k. flat_map (rights_on k) views; claims = λ r. flat_map (claims_of r) views; loose = λ r. flat_map (loose_at r) views }
 
 -- what a message's home or a link's home holds
-abbrev pub letter_of : Option Home → Option Letter
+abbrev pub letter_of : Option Home → Option HeadedBytes
 letter_of (some (Message l bytes)) = some (l, bytes)
 letter_of _ = none
 
@@ -63,7 +63,7 @@ module _ {S : Type 0} (shows : S → Home) where
   abbrev pub home_at : List (Option S) → ℕ → Option Home
   home_at hs i = shown (get_elem? hs i)
 
-  abbrev pub message : List (Option S) → ℕ → Option Letter
+  abbrev pub message : List (Option S) → ℕ → Option HeadedBytes
   message hs r = letter_of (home_at hs r)
 
   -- the links' homes stand behind those of the requests

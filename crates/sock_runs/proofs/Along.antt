@@ -12,7 +12,7 @@ use Rattle.sock_words.specs.declared.plain.Plan.{Plan}
 use Rattle.seat_programs.specs.sock_io.specs.declared.link.Put.{Put}
 use Rattle.seat_programs.specs.sock_io.specs.declared.link.Ready.{Ready}
 use Rattle.sock_model.specs.declared.home.Home.{Home}
-use Rattle.sock_model.specs.Messages.{Letter}
+use Rattle.sock_model.specs.Messages.{HeadedBytes}
 use Rattle.sock_model.specs.Reads.{message, link_home}
 use Rattle.sock_model.specs.declared.view.View.{View}
 use Rattle.seat_programs.specs.Calls.{kind_of}
@@ -54,7 +54,7 @@ seat_ahead c i program hand ws hs ahead j seat at = ⊎_elim (λ a. subst (λ (x
     (at_set c.seats i j (record { program = next_step (resolved (waiting_at c.calls.waiting i) program); hand = hand }) seat at)
 
 module _ (p : Plan) (c : Core) (i : ℕ) (seat : SeatState) (ahead : IsAhead c) where
-  message_ahead : (q : ℕ) (x : Option Letter) (next : Letter → Program) → IsAhead (with_message p i seat c q x next)
+  message_ahead : (q : ℕ) (x : Option HeadedBytes) (next : HeadedBytes → Program) → IsAhead (with_message p i seat c q x next)
   message_ahead q none next = ahead
   message_ahead q (some letter) next = seat_ahead c i (next letter) seat.hand c.words (set c.homes q none) ahead
 

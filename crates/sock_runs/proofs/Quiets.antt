@@ -13,7 +13,7 @@ use Rattle.sock_words.specs.declared.plain.Plan.{Plan}
 use Rattle.seat_programs.specs.sock_io.specs.declared.link.Put.{Put}
 use Rattle.seat_programs.specs.sock_io.specs.declared.link.Ready.{Ready}
 use Rattle.sock_model.specs.declared.home.Home.{Home}
-use Rattle.sock_model.specs.Messages.{Letter}
+use Rattle.sock_model.specs.Messages.{HeadedBytes}
 use Rattle.sock_model.specs.Reads.{message, link_home}
 use Rattle.seat_programs.specs.Calls.{kind_of}
 use Rattle.seat_programs.specs.Programs.{Program, Do, TakeMessage, TakeHome, PutHome, PutBytes, AskReady, Write, Aside, Round}
@@ -30,7 +30,7 @@ module _ (p : Plan) (c : Core) (i : ℕ) (seat : SeatState) (P : List SeatState 
   abbrev Changes : Type 0
   Changes = (new : SeatState) → P (set c.seats i new)
 
-  message_keeps : Changes → (q : ℕ) (x : Option Letter) (next : Letter → Program) → P (with_message p i seat c q x next).seats
+  message_keeps : Changes → (q : ℕ) (x : Option HeadedBytes) (next : HeadedBytes → Program) → P (with_message p i seat c q x next).seats
   message_keeps change q none next = same
   message_keeps change q (some letter) next = change _
 

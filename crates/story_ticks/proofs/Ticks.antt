@@ -12,7 +12,7 @@ use Rattle.sock_model.specs.declared.home.Home.{Home}
 use Rattle.sock_model.specs.declared.home.Home.TheVariants.{Message}
 use Rattle.sock_model.specs.declared.view.View.{View}
 use Rattle.sock_model.specs.Layout.{name_index, all_words}
-use Rattle.sock_model.specs.Messages.{Letter}
+use Rattle.sock_model.specs.Messages.{HeadedBytes}
 use Rattle.sock_model.specs.Reads.{message, link_home}
 use Rattle.corr_core.specs.declared.marks.Plan.{Plan as IdPlan}
 use Rattle.seat_programs.specs.declared.task.Op.TheVariants as ops
@@ -285,7 +285,7 @@ module _ (p : Plan) (q : IdPlan) (clients : List (List Task)) (gives : ℕ → L
 
     -- ## Each step
 
-    by_letter : (r : ℕ) (next : Heading → List ℕ → Program) → SaysOn p q clients gives w m (TakeMessage r next) → IdGoesOn p q u (TakeMessage r next) → (x : Option Letter) → message (λ (h : Home). h) w.core.homes r ≡ x → Leads (with_message p i seat w.core r x (λ letter. next letter.0 letter.1)) → Goes w.posts w.advances (with_message p i seat w.core r x (λ letter. next letter.0 letter.1))
+    by_letter : (r : ℕ) (next : Heading → List ℕ → Program) → SaysOn p q clients gives w m (TakeMessage r next) → IdGoesOn p q u (TakeMessage r next) → (x : Option HeadedBytes) → message (λ (h : Home). h) w.core.homes r ≡ x → Leads (with_message p i seat w.core r x (λ letter. next letter.0 letter.1)) → Goes w.posts w.advances (with_message p i seat w.core r x (λ letter. next letter.0 letter.1))
     by_letter r next says go none is lead = before lead
     by_letter r next says go (some letter) is lead = let owner = ids.owners r (Message letter.0 letter.1) (message_there (get_elem? w.core.homes r) letter is) in
         on_homes (next letter.0 letter.1) seat.hand (set w.core.homes r none) (keeps_few p q u (next letter.0 letter.1) (go letter.0 letter.1 owner)) lead (λ v l s. says letter.0 letter.1 v owner l s)

@@ -3,7 +3,7 @@ use seat_states::Author;
 
 /// A message at the home of a request, and who sent it.
 #[derive(Drop)]
-pub struct Letter {
+pub struct HomeMessage {
     pub author: Author,
     pub message: Parcel,
 }
