@@ -10,28 +10,28 @@ use Rattle.sock_words.specs.declared.plain.Plan.{Plan}
 use Rattle.sock_model.specs.declared.chain.Entry.{Entry}
 use Rattle.sock_model.specs.declared.chain.Heading.{Heading}
 use Rattle.sock_model.specs.declared.view.View.{View}
-use Rattle.run_theorems.specs.Below.chain_steps.proofs.Lists.{Distinct}
-use Rattle.call_causes.specs.Below.programs_allowed.specs.slot_steps.proofs.Sums.{term_le}
+use Rattle.run_theorems.specs.Below.chain_steps.proofs.TicketLists.{Distinct}
+use Rattle.call_causes.specs.Below.programs_allowed.specs.slot_steps.proofs.SlotWeightSums.{term_le}
 use Rattle.corr_core.specs.declared.marks.Plan.{Plan as IdPlan}
 use Rattle.sock_message.specs.Asked.{Asked, frame_of}
 use Rattle.seat_programs.specs.declared.task.Task.{Task}
 use Rattle.seat_programs.specs.Cores.{Core}
-use Rattle.seat_programs.specs.Told.{AreTasks}
-use Rattle.seat_programs.specs.ToldCalls.{Accepted, AreOrders}
-use Rattle.outcome_causes.specs.program_steps.specs.Sound.{Sound, AllRest}
+use Rattle.seat_programs.specs.Explained.{AreTasks}
+use Rattle.seat_programs.specs.ExplainedCalls.{Accepted, AreOrders}
+use Rattle.outcome_causes.specs.program_steps.specs.SoundSeats.{Sound, AllRest}
 use Rattle.outcome_causes.specs.sock_runs.proofs.HandTicks.{AtHome}
-use Rattle.call_causes.specs.Below.outcome_stories.specs.Causes.{Asks}
-use Rattle.call_causes.specs.Below.outcome_stories.specs.Kept.{is_of_send, IsSpoken, Story}
-use Rattle.call_causes.specs.Below.outcome_stories.specs.Stories.{Event}
+use Rattle.call_causes.specs.Below.outcome_stories.specs.StoryStepCauses.{Asks}
+use Rattle.call_causes.specs.Below.outcome_stories.specs.KeptStory.{is_of_send, IsSpoken, Story}
+use Rattle.call_causes.specs.Below.outcome_stories.specs.OperationStories.{Event}
 use Rattle.call_causes.specs.Below.outcome_stories.proofs.Delivered.{orders_of, AreQuiet}
 use Rattle.outcome_causes.proofs.Final.{IsMessage}
 use Rattle.call_causes.specs.Below.outcome_stories.proofs.Members.{all_in}
-use Rattle.outcome_causes.proofs.Messages.{in_of_at, number_of, each_made, message_of, call_of, sooner}
+use Rattle.outcome_causes.proofs.MessagesOfTasks.{in_of_at, number_of, each_made, message_of, call_of, sooner}
 use Rattle.call_causes.specs.Below.outcome_stories.proofs.Ordered.{IsLabelled, delivered}
-use Rattle.call_causes.specs.Below.outcome_stories.proofs.Senders.{HasSent, sent_in, each_of, apart_by, all_sent}
-use Rattle.outcome_causes.specs.outcome_ticks.proofs.Tasks.{one_task}
-use Rattle.label_runs.specs.Labels.{Trial}
-use Rattle.accept_counts.specs.Counts.{pair_of, of_heading, of_entry, of_view, IsOfCall, EntryFits, LabelLaw}
+use Rattle.call_causes.specs.Below.outcome_stories.proofs.SendersOfLogEntries.{HasSent, sent_in, each_of, apart_by, all_sent}
+use Rattle.outcome_causes.specs.outcome_ticks.proofs.TableTasksDistinct.{one_task}
+use Rattle.label_runs.specs.AttemptLabelsLeft.{Trial}
+use Rattle.accept_counts.specs.AttemptCounts.{pair_of, of_heading, of_entry, of_view, IsOfCall, EntryFits, LabelLaw}
 use Rattle.outcome_causes.specs.program_walks.proofs.Recorded.{either_bool}
 use Rattle.sock_words.specs.Totals.{total}
 

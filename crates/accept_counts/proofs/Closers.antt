@@ -3,27 +3,27 @@ use Rattle.std.proofs.Common.{◌≡◌, ℕ, ◌+◌, ◌%◌, ◌≤◌, ◌==
 use Rattle.std.proofs.lemmas.Bool.{true≢false}
 use Rattle.std.proofs.lemmas.List.Concat.{flat_map-append}
 use Rattle.std.specs.Prelude.{Some, None}
-use Rattle.sock_words.specs.Words.{socket_id_version, socket_id_slot, vref_version, id_slot}
-use Rattle.run_theorems.specs.Below.sock_steps.proofs.Quiet.{either_way}
+use Rattle.sock_words.specs.PackedWords.{socket_id_version, socket_id_slot, vref_version, id_slot}
+use Rattle.run_theorems.specs.Below.sock_steps.proofs.SumsAsMarksChange.{either_way}
 use Rattle.corr_core.specs.Word.{parts, code_of}
-use Rattle.corr_core.specs.Decisions.{ends_call}
+use Rattle.corr_core.specs.ErrorsThatEndCalls.{ends_call}
 use Rattle.seat_programs.specs.brpc_model.specs.Frame.{Frame}
-use Rattle.seat_programs.specs.brpc_model.specs.Stream as streams
-use Rattle.seat_programs.specs.Calls.{TableStep, SetOdd, StoreCode, AddRef, SwapHead, CreateLife, StoreOpen}
+use Rattle.seat_programs.specs.brpc_model.specs.FrameStream as streams
+use Rattle.seat_programs.specs.TableSteps.{TableStep, SetOdd, StoreCode, AddRef, SwapHead, CreateLife, StoreOpen}
 use Rattle.seat_programs.specs.Asides.{Step, Found, TakeBytes, Taking, Bytes, Nothing, NoMore, AtEnd, Closed, Broken}
-use Rattle.seat_programs.specs.Heads.{Head, Exit, Retry, Reading, Posts, Unlocks, Decides, Locks, Joins, Opens, Reads, Discards, HasEnded, Ended}
+use Rattle.seat_programs.specs.LoopHeads.{Head, Exit, Retry, Reading, Posts, Unlocks, Decides, Locks, Joins, Opens, Reads, Discards, HasEnded, Ended}
 use Rattle.seat_programs.specs.Programs.{Program, Do, Say, Sent, Rest, Write, Aside, Round, Keep, Retries, release, add_reference, set_failed}
-use Rattle.seat_programs.specs.Readers.{LIMIT, last_of, ended_by, read_on, took, discarded, post_each, thrown_away, read}
-use Rattle.seat_programs.specs.Rounds.{round, first_step}
+use Rattle.seat_programs.specs.ReaderProgram.{LIMIT, last_of, ended_by, read_on, took, discarded, post_each, thrown_away, read}
+use Rattle.seat_programs.specs.LoopRounds.{round, first_step}
 use Rattle.seat_programs.specs.Cores.{resolved, next_step}
-use Rattle.call_causes.specs.Below.outcome_stories.specs.Stories.{In}
-use Rattle.outcome_causes.proofs.Plain.{in_left, in_right}
+use Rattle.call_causes.specs.Below.outcome_stories.specs.OperationStories.{In}
+use Rattle.outcome_causes.proofs.PlainOutcomeCauses.{in_left, in_right}
 use Rattle.run_theorems.specs.Heard.{bytes_found, given_by}
 use Rattle.outcome_causes.specs.program_walks.proofs.Through.{PassesErrors, is_freeing, is_plain_aside, by_errors, locked, given_release}
 use Rattle.outcome_causes.specs.program_walks.proofs.ThroughLoops.{through_errors, through_end_id, through_advance, through_locks, through_joins, through_answer, through_responses}
 use Rattle.outcome_causes.specs.program_walks.proofs.ThroughCalls.{through_post_each}
-use Rattle.seat_programs.specs.brpc_model.specs.Causes.{HasFault}
-use Rattle.call_causes.specs.call_stories.proofs.Streams.{faults_more, faults_follow, tied_more}
+use Rattle.seat_programs.specs.brpc_model.specs.LinkFailureCauses.{HasFault}
+use Rattle.call_causes.specs.call_stories.proofs.StreamFramesStay.{faults_more, faults_follow, tied_more}
 
 -- ## What takes gave
 

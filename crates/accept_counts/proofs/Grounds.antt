@@ -8,12 +8,12 @@ use Rattle.seat_programs.specs.brpc_model.specs.Operations.{Turn}
 use Rattle.seat_programs.specs.Cores.{Core}
 use Rattle.seat_programs.specs.Tasks.{opens, plan_of, id_plan_of}
 use Rattle.seat_programs.specs.Ticks.{quiet}
-use Rattle.seat_programs.specs.Scripts.{opened, played, IsRunWithCalls}
-use Rattle.outcome_causes.specs.program_steps.specs.Sound.{views_along}
+use Rattle.seat_programs.specs.ScriptSetupToEnding.{opened, played, IsRunWithCalls}
+use Rattle.outcome_causes.specs.program_steps.specs.SoundSeats.{views_along}
 use Rattle.outcome_causes.specs.sock_runs.proofs.LinkTicks.{RetriesGo}
-use Rattle.outcome_causes.specs.program_walks.proofs.Whole.{AreFittingIn, Begins, views_played, views_closed, views_ended}
-use Rattle.call_causes.specs.Below.joint_runs.proofs.Runs.{AreMade, first_views}
-use Rattle.accept_counts.proofs.Early.{start, go, fitting}
+use Rattle.outcome_causes.specs.program_walks.proofs.WholeScriptSound.{AreFittingIn, Begins, views_played, views_closed, views_ended}
+use Rattle.call_causes.specs.Below.joint_runs.proofs.RunsOfBothTables.{AreMade, first_views}
+use Rattle.accept_counts.proofs.EarlyClosedSockets.{start, go, fitting}
 
 -- its plans, its `open`s, and the views that seats begin with
 pub record Setting : Type 0 where

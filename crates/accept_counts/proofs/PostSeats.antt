@@ -6,11 +6,11 @@ use Rattle.seat_programs.specs.brpc_model.specs.Operations.{Turn}
 use Rattle.seat_programs.specs.Cores.{Core}
 use Rattle.seat_programs.specs.Tasks.{plan_of}
 use Rattle.seat_programs.specs.Ticks.{Moment, quiet, ticked}
-use Rattle.seat_programs.specs.Scripts.{opened, ending, set_up, played, IsRunWithCalls}
-use Rattle.call_causes.specs.Below.outcome_stories.specs.Stories.{In}
-use Rattle.outcome_causes.proofs.Plain.{in_both, in_left, in_right}
+use Rattle.seat_programs.specs.ScriptSetupToEnding.{opened, ending, set_up, played, IsRunWithCalls}
+use Rattle.call_causes.specs.Below.outcome_stories.specs.OperationStories.{In}
+use Rattle.outcome_causes.proofs.PlainOutcomeCauses.{in_both, in_left, in_right}
 use Rattle.call_causes.specs.call_stories.specs.Decided.{posted_by}
-use Rattle.call_causes.specs.call_stories.specs.Posts.{Post, posted_at, posts_of_run}
+use Rattle.call_causes.specs.call_stories.specs.PostsOfRun.{Post, posted_at, posts_of_run}
 use Rattle.accept_counts.specs.EndedCalls.{reader_posts_at, reader_posts_of_run}
 use Rattle.call_causes.specs.Below.outcome_stories.specs.Facts.{shown_in, shown_in_run}
 

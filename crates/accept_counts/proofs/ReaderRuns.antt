@@ -5,40 +5,40 @@ use mathlib.Core.Logic.{dite}
 use mathlib.Core.Option.{Option, none, some}
 use native.Mathlib.Decide.{ℕ_discrete, dec_le}
 use lib.ListN.{get_elem?}
-use Rattle.sock_words.specs.Words.{socket_id_version, socket_id_slot, vref_version, NO_SOCKET}
+use Rattle.sock_words.specs.PackedWords.{socket_id_version, socket_id_slot, vref_version, NO_SOCKET}
 use Rattle.sock_words.specs.declared.plain.Plan.{Plan}
 use Rattle.sock_model.specs.declared.view.View.{View}
-use Rattle.sock_model.specs.Layout.{open_index, link_index, ref_index}
+use Rattle.sock_model.specs.SocketTableLayout.{open_index, link_index, ref_index}
 use Rattle.sock_model.specs.SlotRows.{marks_of}
-use Rattle.sock_model.specs.Weights.{is_hold}
-use Rattle.run_theorems.specs.Below.chain_steps.proofs.Lists.{at_some}
-use Rattle.run_theorems.specs.Below.sock_steps.proofs.Places.{own_count}
+use Rattle.sock_model.specs.MarkWeights.{is_hold}
+use Rattle.run_theorems.specs.Below.chain_steps.proofs.TicketLists.{at_some}
+use Rattle.run_theorems.specs.Below.sock_steps.proofs.LifeLinkSlotPlaces.{own_count}
 use Rattle.seat_programs.specs.Asides.{Taking}
-use Rattle.seat_programs.specs.Calls.{SetOdd}
-use Rattle.seat_programs.specs.Drops.{call_in}
+use Rattle.seat_programs.specs.TableSteps.{SetOdd}
+use Rattle.seat_programs.specs.SlotFreedByDrop.{call_in}
 use Rattle.seat_programs.specs.Programs.{Program, Do, Rest, Write}
 use Rattle.seat_programs.specs.Cores.{Core, SeatState}
-use Rattle.seat_programs.specs.Runs.{IsAtRest}
+use Rattle.seat_programs.specs.ScheduledRuns.{IsAtRest}
 use Rattle.seat_programs.specs.Ticks.{Moment, IsAnswered, AreAnswered, ticked, run}
-use Rattle.outcome_causes.specs.program_steps.specs.Sound.{state, Sound, IsAhead, IsFitting, AreFitting, views_after, views_along}
-use Rattle.outcome_causes.specs.sock_runs.proofs.Along.{seat_rests, ticked_ahead}
-use Rattle.outcome_causes.specs.program_steps.proofs.Bounds.{law, lives_le}
-use Rattle.outcome_causes.specs.program_steps.proofs.Cases.{elem_there}
+use Rattle.outcome_causes.specs.program_steps.specs.SoundSeats.{state, Sound, IsAhead, IsFitting, AreFitting, views_after, views_along}
+use Rattle.outcome_causes.specs.sock_runs.proofs.SoundAlongRuns.{seat_rests, ticked_ahead}
+use Rattle.outcome_causes.specs.program_steps.proofs.SlotWordBounds.{law, lives_le}
+use Rattle.outcome_causes.specs.program_steps.proofs.TickCases.{elem_there}
 use Rattle.outcome_causes.specs.program_walks.proofs.LinksOpening.{OpensLink}
 use Rattle.outcome_causes.specs.sock_runs.proofs.LinkTicks.{RetriesGo}
 use Rattle.outcome_causes.specs.sock_runs.proofs.Quiets.{ticked_seats, ticked_rests}
 use Rattle.outcome_causes.specs.program_walks.proofs.Recorded.{Recorded, recorded_ticks}
-use Rattle.outcome_causes.specs.sock_runs.proofs.Ticks.{sound_ticks}
+use Rattle.outcome_causes.specs.sock_runs.proofs.TicksKeepSeatsSound.{sound_ticks}
 use Rattle.call_causes.specs.Below.outcome_stories.specs.Facts.{shown_in}
-use Rattle.call_causes.specs.Below.outcome_stories.specs.Losses.{lost_by, may_close, closed_at}
-use Rattle.call_causes.specs.Below.outcome_stories.specs.Stories.{In}
-use Rattle.outcome_causes.proofs.Plain.{in_both}
+use Rattle.call_causes.specs.Below.outcome_stories.specs.LinkLosses.{lost_by, may_close, closed_at}
+use Rattle.call_causes.specs.Below.outcome_stories.specs.OperationStories.{In}
+use Rattle.outcome_causes.proofs.PlainOutcomeCauses.{in_both}
 use Rattle.call_causes.specs.Below.owned_ids.proofs.WordsGiven.{Named, run_named}
 use Rattle.run_theorems.specs.Heard.{taken_link}
 use Rattle.accept_counts.proofs.Closers.{Ends, Calm, sets_odd}
-use Rattle.accept_counts.proofs.Readings.{found_by, State, HasReader, takes_own, reader_ticks}
+use Rattle.accept_counts.proofs.ReadingsAtTicks.{found_by, State, HasReader, takes_own, reader_ticks}
 use Rattle.accept_counts.proofs.Takeless.{TakesNone, none_taken, run_takes}
-use Rattle.corr_core.proofs.Notes.{at_length}
+use Rattle.corr_core.proofs.NoteSums.{at_length}
 
 -- the link of the life that a seat holds is the one to which the word of its `open` belongs
 pub link_of : (p : Plan) (os : List ℕ) (c : Core) (vs : List View) → Sound p c vs → Named p (OpensLink os) c vs → (o id : ℕ) → o < p.operations → get_or c.words (open_index p o) 0 ≡ id + 1 → get_or c.words (open_index p o) 0 ≢ NO_SOCKET

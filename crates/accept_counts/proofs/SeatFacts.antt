@@ -13,23 +13,23 @@ use Rattle.sock_model.specs.declared.home.Home.{Home}
 use Rattle.sock_model.specs.declared.view.View.{View}
 use Rattle.sock_model.specs.ChainRows.{taken_right}
 use Rattle.seat_programs.specs.Asides.{Step, Found}
-use Rattle.seat_programs.specs.Beside.{found_in, calls_after}
-use Rattle.seat_programs.specs.Calls.{TableStep}
+use Rattle.seat_programs.specs.FoundAndChangedAside.{found_in, calls_after}
+use Rattle.seat_programs.specs.TableSteps.{TableStep}
 use Rattle.seat_programs.specs.Programs.{Program, Do, TakeMessage, TakeHome, PutHome, PutBytes, AskReady, Write, Aside, Round}
 use Rattle.seat_programs.specs.Cores.{Core, SeatState, found_at, lies_at, first_of, others_of, link_place, with_seat, stepped}
 use Rattle.seat_programs.specs.StepTables.{word_of}
 use Rattle.seat_programs.specs.Ticks.{Moment, IsAnswered, fed, with_places, onto_first, taken, ticked}
-use Rattle.call_causes.specs.Below.id_runs.specs.Held.{IdView}
+use Rattle.call_causes.specs.Below.id_runs.specs.HeldIdTokens.{IdView}
 use Rattle.call_causes.specs.Below.id_runs.specs.Goes.{IdGoesOn, SoundIds}
-use Rattle.call_causes.specs.Below.id_runs.proofs.Loops.{ids_round}
-use Rattle.call_causes.specs.Below.id_runs.proofs.Programs as id_programs
+use Rattle.call_causes.specs.Below.id_runs.proofs.IdLoopRounds.{ids_round}
+use Rattle.call_causes.specs.Below.id_runs.proofs.IdPrograms as id_programs
 use Rattle.seat_programs.specs.StepTables.{row, hand_at}
 use Rattle.seat_programs.specs.StepsOfMessages.{took_message}
 use Rattle.seat_programs.specs.StepsOfLinks.{link_away, link_home_again, took_bytes}
-use Rattle.outcome_causes.specs.program_steps.specs.GoesOn.{GoesOn}
-use Rattle.outcome_causes.specs.program_steps.specs.Sound.{Sound, views_after}
-use Rattle.outcome_causes.specs.program_steps.proofs.Cases.{with_rights, right_rights, put_rights, tick_cases, elem_there}
-use Rattle.seat_programs.specs.Rounds.{first_step}
+use Rattle.outcome_causes.specs.program_steps.specs.ProgramGoesOn.{GoesOn}
+use Rattle.outcome_causes.specs.program_steps.specs.SoundSeats.{Sound, views_after}
+use Rattle.outcome_causes.specs.program_steps.proofs.TickCases.{with_rights, right_rights, put_rights, tick_cases, elem_there}
+use Rattle.seat_programs.specs.LoopRounds.{first_step}
 
 pub ids_first : (p : Plan) (q : IdPlan) → q.slots ≤ 65536 → (u : IdView) (program : Program) → IdGoesOn p q u program → IdGoesOn p q u (first_step program)
 ids_first p q narrow u (Write w after) g = id_programs.block_goes p q narrow u w after g

@@ -8,15 +8,15 @@ use Rattle.sock_words.specs.declared.plain.Plan.{Plan}
 use Rattle.sock_words.specs.declared.outcome.Outcome.{Outcome}
 use Rattle.sock_io.specs.declared.link.Put.{Put}
 use Rattle.sock_io.specs.declared.link.Ready.{Ready}
-use Rattle.sock_model.specs.Messages.{HeadedBytes}
-use Rattle.sock_model.specs.Reads.{message, link_home}
+use Rattle.sock_model.specs.UnplacedMessages.{HeadedBytes}
+use Rattle.sock_model.specs.ChainLawReads.{message, link_home}
 use Rattle.seat_programs.specs.Asides.{Step, Found}
-use Rattle.seat_programs.specs.Beside.{found_in}
+use Rattle.seat_programs.specs.FoundAndChangedAside.{found_in}
 use Rattle.seat_programs.specs.Cores.{Core, SeatState}
 use Rattle.seat_programs.specs.Programs.{Program, Do, TakeMessage, TakeHome, PutHome, PutBytes, AskReady, Aside}
 use Rattle.seat_programs.specs.Ticks.{Answer, OfPut, OfReady, Moment, taken, ticked, step_with, tick_with, with_message, with_link, with_put, with_ready, with_found}
-use Rattle.outcome_causes.specs.program_steps.proofs.Cases.{ticks_first}
-use Rattle.seat_programs.specs.Rounds.{first_step}
+use Rattle.outcome_causes.specs.program_steps.proofs.TickCases.{ticks_first}
+use Rattle.seat_programs.specs.LoopRounds.{first_step}
 
 module _ (p : Plan) (i : ℕ) (seat : SeatState) (c : Core) where
   -- a tick of seat i changes no other seat

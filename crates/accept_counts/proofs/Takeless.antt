@@ -7,25 +7,25 @@ use Rattle.atomic_table.proofs.Lists.{at_set}
 use Rattle.sock_words.specs.declared.plain.Plan.{Plan}
 use Rattle.sock_model.specs.declared.view.View.{View}
 use Rattle.sock_message.specs.Asked.{Asked}
-use Rattle.run_theorems.specs.Below.script_facts.proofs.Lists as lists
+use Rattle.run_theorems.specs.Below.script_facts.proofs.FilteredLists as lists
 use Rattle.seat_programs.specs.declared.task.Op.{Op}
 use Rattle.seat_programs.specs.declared.task.Op.TheVariants as ops
 use Rattle.seat_programs.specs.declared.task.Task.{Task}
 use Rattle.seat_programs.specs.declared.task.Sizes.{Sizes}
-use Rattle.seat_programs.specs.Calls.{TableStep}
+use Rattle.seat_programs.specs.TableSteps.{TableStep}
 use Rattle.seat_programs.specs.Asides.{Step, Found, TakeBytes}
-use Rattle.seat_programs.specs.Heads.{Head, Exit, Retry, Posts, Unlocks, Decides, Locks, Joins, Opens, Reads, Discards}
+use Rattle.seat_programs.specs.LoopHeads.{Head, Exit, Retry, Posts, Unlocks, Decides, Locks, Joins, Opens, Reads, Discards}
 use Rattle.seat_programs.specs.Programs.{Program, Say, Sent, TakeMessage, TakeHome, PutHome, PutBytes, AskReady, Write, Aside, Round, Keep, Retries}
-use Rattle.seat_programs.specs.Attempts.{attempt}
-use Rattle.seat_programs.specs.Rounds.{round, first_step}
-use Rattle.seat_programs.specs.Clients.{HeldLife, operation, client_from, ending_of}
+use Rattle.seat_programs.specs.CallAndRetryPrograms.{attempt}
+use Rattle.seat_programs.specs.LoopRounds.{round, first_step}
+use Rattle.seat_programs.specs.ClientProgram.{HeldLife, operation, client_from, ending_of}
 use Rattle.seat_programs.specs.Cores.{Core, SeatState, resolved, next_step}
 use Rattle.seat_programs.specs.Ticks.{Moment, IsAnswered, AreAnswered, ticked, run}
 use Rattle.outcome_causes.specs.program_steps.specs.AtSteps.{Asks, AtSteps, asks_words}
-use Rattle.outcome_causes.specs.program_steps.specs.Sound.{Sound, IsFitting, AreFitting, views_after}
+use Rattle.outcome_causes.specs.program_steps.specs.SoundSeats.{Sound, IsFitting, AreFitting, views_after}
 use Rattle.outcome_causes.specs.sock_runs.proofs.LinkTicks.{RetriesGo}
-use Rattle.outcome_causes.specs.program_steps.proofs.Cases.{ComesNext, tick_keeps_marks}
-use Rattle.outcome_causes.specs.sock_runs.proofs.Ticks.{sound_ticks}
+use Rattle.outcome_causes.specs.program_steps.proofs.TickCases.{ComesNext, tick_keeps_marks}
+use Rattle.outcome_causes.specs.sock_runs.proofs.TicksKeepSeatsSound.{sound_ticks}
 use Rattle.outcome_causes.specs.program_walks.proofs.Through.{PassesPlain, PassesFails, PassesSends, is_plain_aside, by_errors, locked, at_steps_plain, at_steps_sends, through_set_failed, through_fail}
 use Rattle.outcome_causes.specs.program_walks.proofs.ThroughLoops.{through_errors, through_locks, through_joins}
 use Rattle.outcome_causes.specs.program_walks.proofs.ThroughSends.{through_block, through_send, through_ended}

@@ -1,22 +1,22 @@
 -- Why readers post errors: the reading of their link ended, and they loaded the word that tells where an attempt of a call went.
 use Rattle.std.specs.Prelude.{ℕ, ◌≡◌, ◌≢◌, ◌+◌, ◌⊎◌, if◌then◌else◌, nat_le, List, [], ◌∷◌, Contains}
-use Rattle.sock_words.specs.Codes.{EEOF, ERESPONSE}
+use Rattle.sock_words.specs.ErrorCodes.{EEOF, ERESPONSE}
 use mathlib.Core.Option.{Option, none, some}
 use lib.ListN.{get_elem?}
-use Rattle.sock_words.specs.Words.{at_word_first, at_word_slot, at_word_link, at_word_attempt, call_id}
-use Rattle.seat_programs.specs.brpc_model.specs.Causes.{HasFault}
+use Rattle.sock_words.specs.PackedWords.{at_word_first, at_word_slot, at_word_link, at_word_attempt, call_id}
+use Rattle.seat_programs.specs.brpc_model.specs.LinkFailureCauses.{HasFault}
 use Rattle.seat_programs.specs.brpc_model.specs.Items.{Item}
 use Rattle.seat_programs.specs.brpc_model.specs.Operations.{Turn}
 use Rattle.corr_core.specs.Word.{error_of}
 use Rattle.seat_programs.specs.Asides.{Step, Found, StoreAt, LoadAt, Taking}
-use Rattle.seat_programs.specs.Beside.{found_in}
+use Rattle.seat_programs.specs.FoundAndChangedAside.{found_in}
 use Rattle.seat_programs.specs.Programs.{Program, Aside}
 use Rattle.seat_programs.specs.Cores.{Calls, Core}
 use Rattle.seat_programs.specs.Ticks.{Moment, taken}
-use Rattle.seat_programs.specs.Scripts.{IsRunWithCalls}
-use Rattle.call_causes.specs.call_stories.specs.Lists.{gave_in, early_of_run, closed_of_run, silent_of_run}
-use Rattle.call_causes.specs.call_stories.specs.Posts.{Post, posted_at}
-use Rattle.seat_programs.specs.Rounds.{first_step}
+use Rattle.seat_programs.specs.ScriptSetupToEnding.{IsRunWithCalls}
+use Rattle.call_causes.specs.call_stories.specs.LinkReadingLists.{gave_in, early_of_run, closed_of_run, silent_of_run}
+use Rattle.call_causes.specs.call_stories.specs.PostsOfRun.{Post, posted_at}
+use Rattle.seat_programs.specs.LoopRounds.{first_step}
 use Rattle.call_causes.specs.Below.outcome_stories.specs.Facts.{shown_in_run}
 
 -- ## At words that were loaded

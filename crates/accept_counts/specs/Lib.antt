@@ -1,6 +1,6 @@
-pub mod Counts
-pub mod Sent
+pub mod AttemptCounts
+pub mod SentFrameOfAttempt
 pub mod PostCauses
-pub mod Refused
+pub mod RefusedOrDropped
 pub mod EndedCalls
 pub mod Below

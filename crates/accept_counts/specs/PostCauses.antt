@@ -1,11 +1,11 @@
 -- Why an error was posted to the id of a call for one of its attempts.
 use Rattle.std.specs.Prelude.{ℕ, ◌≡◌, ◌≤◌, List, Option}
-use Rattle.sock_words.specs.Codes.{EEOF, EFAILEDSOCKET, EREQUESTS, ERESPONSE}
+use Rattle.sock_words.specs.ErrorCodes.{EEOF, EFAILEDSOCKET, EREQUESTS, ERESPONSE}
 use Rattle.sock_words.specs.declared.plain.Plan.{Plan}
 use Rattle.sock_words.specs.declared.outcome.Outcome.{Outcome}
 use Rattle.sock_message.specs.Asked.{Asked, name_of}
 use Rattle.seat_programs.specs.declared.task.Task.{Task}
-use Rattle.seat_programs.specs.ToldCalls.{Fixed, Order, IsUnordered, IsDropped, WhyLost, WasFull, IsFailedWith, MayBeOn, GaveFault, EndedWith}
+use Rattle.seat_programs.specs.ExplainedCalls.{Fixed, Order, IsUnordered, IsDropped, WhyLost, WasFull, IsFailedWith, MayBeOn, GaveFault, EndedWith}
 
 module _ (p : Plan) (clients : List (List Task)) (outcomes : List (Option Outcome)) (fixed : Fixed) (gave : ℕ → List ℕ) (orders : ℕ → Order) where
   -- why this code was posted for attempt n of the call with this id, which is operation o of client c

@@ -6,23 +6,23 @@ use Rattle.sock_words.specs.declared.outcome.Outcome.{Outcome}
 use Rattle.sock_words.specs.declared.outcome.Outcome.TheVariants as outcomes
 use Rattle.seat_programs.specs.brpc_model.specs.Items.{Item}
 use Rattle.seat_programs.specs.brpc_model.specs.Operations.{Turn}
-use Rattle.seat_programs.specs.brpc_model.specs.Messages.{shown_id}
-use Rattle.seat_programs.specs.id_rule.specs.Lawful.{call_index}
+use Rattle.seat_programs.specs.brpc_model.specs.MessageOfLabel.{shown_id}
+use Rattle.seat_programs.specs.id_rule.specs.LawfulIdTable.{call_index}
 use Rattle.sock_message.specs.Asked.{Asked}
 use Rattle.seat_programs.specs.Cores.{Core}
 use Rattle.seat_programs.specs.Tasks.{plan_of, id_plan_of}
-use Rattle.seat_programs.specs.Scripts.{all_tasks, IsRunWithCalls}
-use Rattle.seat_programs.specs.Told.{Became}
-use Rattle.own_decisions.specs.Below.joint_runs.proofs.Runs.{AreMade}
-use Rattle.own_decisions.specs.Below.script_facts.proofs.Reading.{InRange}
+use Rattle.seat_programs.specs.ScriptSetupToEnding.{all_tasks, IsRunWithCalls}
+use Rattle.seat_programs.specs.Explained.{Became}
+use Rattle.own_decisions.specs.Below.joint_runs.proofs.RunsOfBothTables.{AreMade}
+use Rattle.own_decisions.specs.Below.script_facts.proofs.ReadScriptFacts.{InRange}
 use Rattle.own_decisions.specs.Below.script_facts.proofs.Targets.{AreThere}
-use Rattle.own_decisions.specs.Below.call_owing.specs.Lives.{ClosesInRun}
-use Rattle.own_decisions.specs.Below.call_stories.specs.Lists.{gave_in}
+use Rattle.own_decisions.specs.Below.call_owing.specs.LivesOfLinks.{ClosesInRun}
+use Rattle.own_decisions.specs.Below.call_stories.specs.LinkReadingLists.{gave_in}
 use Rattle.own_decisions.specs.Below.call_stories.specs.Scenes.{Birth, WhyEnded}
 use Rattle.own_decisions.specs.Below.story_steps.proofs.BirthTicks.{one_call}
-use Rattle.own_decisions.specs.Below.story_steps.proofs.End.{ended_call}
-use Rattle.own_decisions.specs.Below.call_causes.proofs.Whole.{run_has_story, run_has_ended}
-use Rattle.own_decisions.specs.Below.outcome_stories.specs.Stories.{In}
+use Rattle.own_decisions.specs.Below.story_steps.proofs.StoryAtRunEnd.{ended_call}
+use Rattle.own_decisions.specs.Below.call_causes.proofs.WholeCallStory.{run_has_story, run_has_ended}
+use Rattle.own_decisions.specs.Below.outcome_stories.specs.OperationStories.{In}
 
 -- as the run ends the word of a call is its id
 abbrev pub AreStored : (ℕ → ℕ) → (script : List Item) → Core → Type 0

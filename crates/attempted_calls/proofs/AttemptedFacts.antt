@@ -5,23 +5,23 @@ use mathlib.Core.Option.{some}
 use lib.ListN.{get_elem?}
 use Rattle.sock_words.specs.declared.plain.Plan.{Plan}
 use Rattle.corr_core.specs.declared.marks.Plan.{Plan as IdPlan}
-use Rattle.seat_programs.specs.id_rule.specs.Lawful.{call_index}
+use Rattle.seat_programs.specs.id_rule.specs.LawfulIdTable.{call_index}
 use Rattle.sock_message.specs.Asked.{Asked}
 use Rattle.seat_programs.specs.Asides.{PutCall, StoreCall, Found}
 use Rattle.seat_programs.specs.Cores.{Core, SeatState}
 use Rattle.seat_programs.specs.Programs.{Program, Aside}
-use Rattle.own_decisions.specs.Below.programs_allowed.specs.program_steps.proofs.Cases.{elem_there}
+use Rattle.own_decisions.specs.Below.programs_allowed.specs.program_steps.proofs.TickCases.{elem_there}
 use Rattle.seat_programs.specs.declared.task.Task.{Task}
-use Rattle.own_decisions.specs.Below.call_stories.specs.Posts.{Post}
+use Rattle.own_decisions.specs.Below.call_stories.specs.PostsOfRun.{Post}
 use Rattle.own_decisions.specs.Below.call_stories.specs.Scenes.{Birth, Scene, IsBorn}
 use Rattle.own_decisions.specs.Below.call_stories.specs.Says.{Mark, Claims, Holds}
-use Rattle.own_decisions.specs.Below.call_stories.specs.Stories.{SlotFits, CallStory, HasStory}
+use Rattle.own_decisions.specs.Below.call_stories.specs.CallStories.{SlotFits, CallStory, HasStory}
 use Rattle.own_decisions.specs.Below.story_steps.proofs.BirthTicks.{two_of, one_call}
-use Rattle.own_decisions.specs.Below.story_steps.proofs.Firsts.{MayFirst, may_first}
-use Rattle.own_decisions.specs.accept_counts.specs.Counts.{word_of_id}
-use Rattle.seat_programs.specs.Rounds.{first_step}
-use Rattle.own_decisions.specs.Below.outcome_stories.specs.Stories.{In}
-use Rattle.sock_words.specs.Words.{call_id, id_slot}
+use Rattle.own_decisions.specs.Below.story_steps.proofs.FirstStepAllowed.{MayFirst, may_first}
+use Rattle.own_decisions.specs.accept_counts.specs.AttemptCounts.{word_of_id}
+use Rattle.seat_programs.specs.LoopRounds.{first_step}
+use Rattle.own_decisions.specs.Below.outcome_stories.specs.OperationStories.{In}
+use Rattle.sock_words.specs.PackedWords.{call_id, id_slot}
 
 module _ (q : IdPlan) where
   -- the word of the call has the id

@@ -7,12 +7,12 @@ use Rattle.seat_programs.specs.brpc_model.specs.Operations.{Turn}
 use Rattle.seat_programs.specs.Cores.{Core}
 use Rattle.seat_programs.specs.Ticks.{Moment, quiet, ticked}
 use Rattle.seat_programs.specs.Tasks.{plan_of, id_plan_of}
-use Rattle.seat_programs.specs.Scripts.{opened, set_up, IsRunWithCalls}
-use Rattle.own_decisions.specs.Below.programs_allowed.specs.program_walks.proofs.Whole.{closing_of}
-use Rattle.own_decisions.specs.Below.call_stories.specs.Lists.{advanced_at}
-use Rattle.own_decisions.specs.accept_counts.specs.Counts.{word_of_id}
+use Rattle.seat_programs.specs.ScriptSetupToEnding.{opened, set_up, IsRunWithCalls}
+use Rattle.own_decisions.specs.Below.programs_allowed.specs.program_walks.proofs.WholeScriptSound.{closing_of}
+use Rattle.own_decisions.specs.Below.call_stories.specs.LinkReadingLists.{advanced_at}
+use Rattle.own_decisions.specs.accept_counts.specs.AttemptCounts.{word_of_id}
 use Rattle.attempted_calls.proofs.AttemptedWords.{Rise}
-use Rattle.sock_words.specs.Words.{call_id}
+use Rattle.sock_words.specs.PackedWords.{call_id}
 
 -- the tick advances the call of this id alone
 abbrev pub AdvancesId : (ℕ → ℕ) → Core → Moment → ℕ → Type 0

@@ -7,7 +7,7 @@ use native.Mathlib.Decide.{ℕ_discrete}
 use mathlib.Core.Option.{Option, some, none, some-injective}
 use lib.ListN.{get_elem?}
 use Rattle.atomic_table.proofs.Lists.{at_set, set_else, set_here}
-use Rattle.own_decisions.specs.Below.chain_steps.proofs.Lists.{at_length}
+use Rattle.own_decisions.specs.Below.chain_steps.proofs.TicketLists.{at_length}
 use Rattle.sock_words.specs.declared.plain.Plan.{Plan}
 use Rattle.sock_model.specs.declared.home.Home.{Home}
 use Rattle.sock_model.specs.declared.view.View.{View}
@@ -18,37 +18,37 @@ use Rattle.corr_core.specs.declared.marks.Hand.{Hand}
 use Rattle.corr_core.specs.declared.marks.Hand.TheVariants.{Full, Empty}
 use Rattle.corr_core.specs.declared.marks.Token.{Token}
 use Rattle.corr_core.specs.declared.marks.Token.TheVariants.{Claimed, Locked, Leaving}
-use Rattle.seat_programs.specs.id_rule.specs.Lawful.{id_index, tag_index, call_index, at_index, all_words, local, tokens_of, tokens_in, with_token}
-use Rattle.seat_programs.specs.id_rule.specs.Plays.{with_hand}
-use Rattle.seat_programs.specs.id_rule.proofs.Allowed as allowed
-use Rattle.seat_programs.specs.id_rule.proofs.Frames.{token_here}
-use Rattle.own_decisions.specs.Below.id_runs.specs.Held.{IdView, MayId, HasOne, id_state, id_row, one, by_token}
+use Rattle.seat_programs.specs.id_rule.specs.LawfulIdTable.{id_index, tag_index, call_index, at_index, all_words, local, tokens_of, tokens_in, with_token}
+use Rattle.seat_programs.specs.id_rule.specs.IdPlays.{with_hand}
+use Rattle.seat_programs.specs.id_rule.proofs.AllowedIdSteps as allowed
+use Rattle.seat_programs.specs.id_rule.proofs.OtherIdsUntouched.{token_here}
+use Rattle.own_decisions.specs.Below.id_runs.specs.HeldIdTokens.{IdView, MayId, HasOne, id_state, id_row, one, by_token}
 use Rattle.own_decisions.specs.Below.id_runs.specs.Goes.{FitsRetryId, IdGoesOn, SoundIds, IsFittingIds}
-use Rattle.own_decisions.specs.Below.id_runs.proofs.Steps.{finds_ids, no_call}
+use Rattle.own_decisions.specs.Below.id_runs.proofs.AsideStepsKeepRule.{finds_ids, no_call}
 use Rattle.seat_programs.specs.Asides.{Step, Found, ClaimId, PutCall, MakeId, StoreCall, StoreAt, LockId, PostId, UnlockId, EndId, FreeId, TakeCall, TakeBytes, Taking, Bytes}
-use Rattle.seat_programs.specs.Heads.{Exit, Unlocks}
+use Rattle.seat_programs.specs.LoopHeads.{Exit, Unlocks}
 use Rattle.sock_message.specs.Asked.{Asked}
-use Rattle.seat_programs.specs.Beside.{found_in, calls_after}
-use Rattle.seat_programs.specs.Calls.{TableStep, LoadName, FindLink, ClaimRequest}
-use Rattle.seat_programs.specs.Heads.{Retry}
+use Rattle.seat_programs.specs.FoundAndChangedAside.{found_in, calls_after}
+use Rattle.seat_programs.specs.TableSteps.{TableStep, LoadName, FindLink, ClaimRequest}
+use Rattle.seat_programs.specs.LoopHeads.{Retry}
 use Rattle.seat_programs.specs.Programs.{Program, Do, TakeMessage, TakeHome, PutHome, PutBytes, AskReady, Aside, Round}
 use Rattle.seat_programs.specs.Cores.{Calls, Core, SeatState, found_at, words_after, homes_after, hand_after, lies_at, first_of, others_of, link_place, resolved, waiting_at, next_step, with_seat}
 use Rattle.seat_programs.specs.StepTables.{word_of, word_after}
 use Rattle.seat_programs.specs.Ticks.{Moment, IsAnswered, fed, with_places, onto_first, taken, ticked}
-use Rattle.own_decisions.specs.Below.programs_allowed.specs.program_steps.specs.Sound.{Sound}
-use Rattle.own_decisions.specs.Below.programs_allowed.specs.program_steps.proofs.Cases.{tick_cases, calls_waiting}
-use Rattle.own_decisions.specs.Below.label_runs.specs.Labels.{FindsLabel}
-use Rattle.own_decisions.specs.accept_counts.specs.Counts.{word_of_id}
-use Rattle.own_decisions.specs.accept_counts.proofs.Words.{finds_label}
+use Rattle.own_decisions.specs.Below.programs_allowed.specs.program_steps.specs.SoundSeats.{Sound}
+use Rattle.own_decisions.specs.Below.programs_allowed.specs.program_steps.proofs.TickCases.{tick_cases, calls_waiting}
+use Rattle.own_decisions.specs.Below.label_runs.specs.AttemptLabelsLeft.{FindsLabel}
+use Rattle.own_decisions.specs.accept_counts.specs.AttemptCounts.{word_of_id}
+use Rattle.own_decisions.specs.accept_counts.proofs.IdWordsGoForward.{finds_label}
 use Rattle.own_decisions.specs.Below.outcome_stories.proofs.HomeCalls.{AreCalls, PutsAsked, calls_behind}
-use Rattle.own_decisions.specs.accept_counts.proofs.Ticks.{few_of, fits_as, pairs_set}
+use Rattle.own_decisions.specs.accept_counts.proofs.TicksKeepAttemptLaw.{few_of, fits_as, pairs_set}
 use Rattle.attempted_calls.proofs.AttemptedWords.{Rise, is_new, is_same, is_more, IsMakeAt, risen, Advances}
 use Rattle.attempted_calls.proofs.EndedTrails.{StoresNext, Of, NoCall, Makes, Knows, Trail, lost, Stays, GoesDo, GoesAside, Follows}
 use Rattle.attempted_calls.proofs.EndedNames.{follows_first, resolves}
 use Rattle.own_decisions.specs.accept_counts.proofs.SeatFacts.{seat_facts}
 use Rattle.attempted_calls.proofs.AttemptedFacts.{IsStored, IsStoring, IsOwn, Facts}
-use Rattle.seat_programs.specs.Rounds.{first_step}
-use Rattle.sock_words.specs.Words.{call_id}
+use Rattle.seat_programs.specs.LoopRounds.{first_step}
+use Rattle.sock_words.specs.PackedWords.{call_id}
 
 -- what is known of a call
 abbrev pub IsTrueOf : IdPlan → Core → Of → Type 0

@@ -8,26 +8,26 @@ use Rattle.seat_programs.specs.declared.task.Op.TheVariants as ops
 use Rattle.seat_programs.specs.declared.task.Task.{Task}
 use Rattle.seat_programs.specs.Cores.{Core}
 use Rattle.seat_programs.specs.Tasks.{opens, plan_of, id_plan_of}
-use Rattle.seat_programs.specs.Scripts.{all_tasks, IsRunWithCalls}
-use Rattle.seat_programs.specs.Told.{IsTask, Made}
-use Rattle.seat_programs.specs.ToldCalls.{Accepted, Fixed, IsSent}
-use Rattle.own_decisions.specs.Below.programs_allowed.specs.program_walks.proofs.Whole.{views_ended, ended_sound, end_rests}
-use Rattle.own_decisions.specs.Below.outcome_stories.specs.Causes.{Asks}
-use Rattle.own_decisions.specs.Below.outcome_stories.specs.Kept.{IsSpoken}
+use Rattle.seat_programs.specs.ScriptSetupToEnding.{all_tasks, IsRunWithCalls}
+use Rattle.seat_programs.specs.Explained.{IsTask, Made}
+use Rattle.seat_programs.specs.ExplainedCalls.{Accepted, Fixed, IsSent}
+use Rattle.own_decisions.specs.Below.programs_allowed.specs.program_walks.proofs.WholeScriptSound.{views_ended, ended_sound, end_rests}
+use Rattle.own_decisions.specs.Below.outcome_stories.specs.StoryStepCauses.{Asks}
+use Rattle.own_decisions.specs.Below.outcome_stories.specs.KeptStory.{IsSpoken}
 use Rattle.own_decisions.specs.Below.outcome_stories.specs.PlainTasks.{told_tasks_of}
 use Rattle.own_decisions.specs.Below.outcome_ticks.proofs.Lifted.{made_up}
 use Rattle.own_decisions.specs.Below.outcome_stories.proofs.Members.{contains_in}
-use Rattle.own_decisions.specs.Below.outcome_ticks.proofs.Tasks.{one_task}
-use Rattle.own_decisions.specs.Below.joint_runs.proofs.Runs.{AreMade}
-use Rattle.own_decisions.specs.Below.script_facts.proofs.Reading.{InRange}
+use Rattle.own_decisions.specs.Below.outcome_ticks.proofs.TableTasksDistinct.{one_task}
+use Rattle.own_decisions.specs.Below.joint_runs.proofs.RunsOfBothTables.{AreMade}
+use Rattle.own_decisions.specs.Below.script_facts.proofs.ReadScriptFacts.{InRange}
 use Rattle.own_decisions.specs.Below.script_facts.proofs.Targets.{AreThere}
-use Rattle.own_decisions.specs.Below.call_owing.specs.Lives.{ClosesInRun}
-use Rattle.own_decisions.specs.Below.owed_calls.proofs.Known.{run_all_rest}
-use Rattle.own_decisions.specs.Below.call_stories.specs.Lists.{attempts_of_run}
+use Rattle.own_decisions.specs.Below.call_owing.specs.LivesOfLinks.{ClosesInRun}
+use Rattle.own_decisions.specs.Below.owed_calls.proofs.OwedCallsAreEnded.{run_all_rest}
+use Rattle.own_decisions.specs.Below.call_stories.specs.LinkReadingLists.{attempts_of_run}
 use Rattle.own_decisions.specs.accept_counts.proofs.Apart as apart
 use Rattle.own_decisions.specs.accept_counts.specs.EndedCalls.{stores_of_run}
-use Rattle.own_decisions.specs.accept_counts.proofs.Runs.{AreLabelledIn, IsCallOf, end_law}
-use Rattle.own_decisions.specs.sent_once.proofs.Sends.{owed, orders_of_run, narrow, opening_bare}
+use Rattle.own_decisions.specs.accept_counts.proofs.RunsKeepAttemptLaw.{AreLabelledIn, IsCallOf, end_law}
+use Rattle.own_decisions.specs.sent_once.proofs.SocketOperationsTold.{owed, orders_of_run, narrow, opening_bare}
 use Rattle.attempted_calls.proofs.AttemptedIds.{AreRisingIn}
 use Rattle.attempted_calls.proofs.AttemptedCalls.{AreStored}
 use Rattle.attempted_calls.proofs.AttemptedSent.{IsNamedOn, run_attempted}
@@ -35,7 +35,7 @@ use Rattle.attempted_calls.proofs.EndedNamed.{tasks_are, end_named}
 use Rattle.attempted_calls.proofs.EndedLives.{all_named}
 use Rattle.attempted_calls.proofs.AttemptedStored.{ids_at, stored_run, words_stored}
 use Rattle.own_decisions.specs.accept_counts.proofs.Grounds.{setting, grounds}
-use Rattle.own_decisions.specs.Below.script_facts.proofs.Lists.{all_map}
+use Rattle.own_decisions.specs.Below.script_facts.proofs.FilteredLists.{all_map}
 use Rattle.own_decisions.specs.Below.owned_ids.proofs.OpensStored.{place_at}
 
 module _ (script : List Item) (made : AreMade script) (there : AreThere script) (range : AllByRecursion InRange script) (turns : List Turn) (core : Core) (is : IsRunWithCalls script turns core) (closes : ClosesInRun script turns core is)

@@ -9,34 +9,34 @@ use Rattle.seat_programs.specs.brpc_model.specs.Items.{Item}
 use Rattle.seat_programs.specs.brpc_model.specs.Operations.{Turn}
 use Rattle.corr_core.specs.Word.{Parts}
 use Rattle.corr_core.specs.declared.marks.Plan.{Plan as IdPlan}
-use Rattle.own_decisions.specs.Below.id_runs.specs.Held.{IdView}
+use Rattle.own_decisions.specs.Below.id_runs.specs.HeldIdTokens.{IdView}
 use Rattle.own_decisions.specs.Below.id_runs.specs.Goes.{SoundIds, IsFittingIds}
-use Rattle.own_decisions.specs.Below.id_runs.proofs.Opening.{unused}
+use Rattle.own_decisions.specs.Below.id_runs.proofs.IdRuleOpening.{unused}
 use Rattle.sock_message.specs.Asked.{Asked}
-use Rattle.seat_programs.specs.Clients.{ending_of}
+use Rattle.seat_programs.specs.ClientProgram.{ending_of}
 use Rattle.seat_programs.specs.Cores.{Core}
 use Rattle.seat_programs.specs.Ticks.{Moment, IsAnswered, AreAnswered, quiet, ticked, run}
 use Rattle.seat_programs.specs.Tasks.{opens, calls, plan_of, id_plan_of}
-use Rattle.seat_programs.specs.Scripts.{sizes_of, programs, readers_from, all_programs, all_tasks, opened, set_up, is_ending, IsRunWithCalls}
-use Rattle.seat_programs.specs.Told.{AreTasks}
-use Rattle.own_decisions.specs.Below.programs_allowed.specs.program_steps.specs.Sound.{Sound, AreFitting, views_after, views_along}
-use Rattle.own_decisions.specs.Below.programs_allowed.specs.program_steps.proofs.Cases.{elem_there}
+use Rattle.seat_programs.specs.ScriptSetupToEnding.{sizes_of, programs, readers_from, all_programs, all_tasks, opened, set_up, is_ending, IsRunWithCalls}
+use Rattle.seat_programs.specs.Explained.{AreTasks}
+use Rattle.own_decisions.specs.Below.programs_allowed.specs.program_steps.specs.SoundSeats.{Sound, AreFitting, views_after, views_along}
+use Rattle.own_decisions.specs.Below.programs_allowed.specs.program_steps.proofs.TickCases.{elem_there}
 use Rattle.own_decisions.specs.Below.programs_allowed.specs.sock_runs.proofs.LinkTicks.{RetriesGo}
-use Rattle.own_decisions.specs.Below.programs_allowed.specs.sock_runs.proofs.Ticks.{sound_ticks}
-use Rattle.own_decisions.specs.Below.programs_allowed.specs.program_walks.proofs.Whole.{Begins, AreFittingIn, closing_of, rested_of, views_played, views_closed, views_ended, set_up_answered, end_answered, set_up_sound, closing_sound, closed_sound}
+use Rattle.own_decisions.specs.Below.programs_allowed.specs.sock_runs.proofs.TicksKeepSeatsSound.{sound_ticks}
+use Rattle.own_decisions.specs.Below.programs_allowed.specs.program_walks.proofs.WholeScriptSound.{Begins, AreFittingIn, closing_of, rested_of, views_played, views_closed, views_ended, set_up_answered, end_answered, set_up_sound, closing_sound, closed_sound}
 use Rattle.own_decisions.specs.Below.outcome_stories.specs.PlainTasks.{told_tasks_of}
 use Rattle.own_decisions.specs.Below.outcome_causes.proofs.Final.{at_there}
-use Rattle.own_decisions.specs.Below.outcome_causes.proofs.Scripts.{seats, closing_told}
-use Rattle.own_decisions.specs.Below.call_stories.specs.Lists.{times, advanced_at, attempts_of_run}
-use Rattle.own_decisions.specs.Below.label_runs.specs.Labels.{Trial}
-use Rattle.own_decisions.specs.Below.label_runs.proofs.Programs.{ending_goes}
-use Rattle.own_decisions.specs.accept_counts.specs.Counts.{times_of, word_of_id, WasNow, LabelLaw, StoresOwn, AreLabelled}
-use Rattle.own_decisions.specs.accept_counts.proofs.Ticks.{moves, label_ticks}
-use Rattle.own_decisions.specs.accept_counts.proofs.Runs.{AreLabelledIn, IsCallOf, behind_ids, programs_go, begins_labels, asked_by}
+use Rattle.own_decisions.specs.Below.outcome_causes.proofs.SocketCausesOfScripts.{seats, closing_told}
+use Rattle.own_decisions.specs.Below.call_stories.specs.LinkReadingLists.{times, advanced_at, attempts_of_run}
+use Rattle.own_decisions.specs.Below.label_runs.specs.AttemptLabelsLeft.{Trial}
+use Rattle.own_decisions.specs.Below.label_runs.proofs.ProgramsKeepAttempts.{ending_goes}
+use Rattle.own_decisions.specs.accept_counts.specs.AttemptCounts.{times_of, word_of_id, WasNow, LabelLaw, StoresOwn, AreLabelled}
+use Rattle.own_decisions.specs.accept_counts.proofs.TicksKeepAttemptLaw.{moves, label_ticks}
+use Rattle.own_decisions.specs.accept_counts.proofs.RunsKeepAttemptLaw.{AreLabelledIn, IsCallOf, behind_ids, programs_go, begins_labels, asked_by}
 use Rattle.attempted_calls.proofs.AttemptedWords.{Rise, is_new, is_same, is_more}
 use Rattle.attempted_calls.proofs.AttemptedIds.{AdvancesId, AreRising, AreRisingIn}
-use Rattle.own_decisions.specs.Below.call_causes.proofs.Run.{times_append}
-use Rattle.sock_words.specs.Words.{call_id, id_slot, id_first}
+use Rattle.own_decisions.specs.Below.call_causes.proofs.RunOfCallStory.{times_append}
+use Rattle.sock_words.specs.PackedWords.{call_id, id_slot, id_first}
 use Rattle.own_decisions.specs.Below.outcome_stories.specs.Facts.{shown_in}
 
 times_one : (o : ℕ) (ns : List ℕ) → ns ≡ o ∷ [] → times o ns ≡ 1

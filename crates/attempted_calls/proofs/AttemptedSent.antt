@@ -5,7 +5,7 @@ use Rattle.sock_words.specs.declared.plain.Plan.{Plan}
 use Rattle.sock_model.specs.declared.chain.Entry.{Entry}
 use Rattle.sock_model.specs.declared.chain.Heading.{Heading}
 use Rattle.sock_model.specs.declared.view.View.{View}
-use Rattle.own_decisions.specs.Below.slot_steps.proofs.Sums.{term_le}
+use Rattle.own_decisions.specs.Below.slot_steps.proofs.SlotWeightSums.{term_le}
 use Rattle.seat_programs.specs.brpc_model.specs.Items.{Item}
 use Rattle.seat_programs.specs.brpc_model.specs.Operations.{Turn}
 use Rattle.corr_core.specs.declared.marks.Plan.{Plan as IdPlan}
@@ -14,33 +14,33 @@ use Rattle.seat_programs.specs.declared.task.Op.TheVariants as ops
 use Rattle.seat_programs.specs.declared.task.Task.{Task}
 use Rattle.seat_programs.specs.Cores.{Core}
 use Rattle.seat_programs.specs.Tasks.{opens, plan_of, id_plan_of}
-use Rattle.seat_programs.specs.Scripts.{all_tasks, IsRunWithCalls}
-use Rattle.seat_programs.specs.Told.{AreTasks, IsTask, Made}
-use Rattle.seat_programs.specs.ToldCalls.{Accepted, Fixed, IsSent, OfSend, OfCall}
-use Rattle.own_decisions.specs.Below.programs_allowed.specs.program_steps.specs.Sound.{Sound, AllRest}
-use Rattle.own_decisions.specs.Below.programs_allowed.specs.program_walks.proofs.Whole.{views_ended, ended_sound, end_rests, IsOwed}
-use Rattle.own_decisions.specs.Below.outcome_stories.specs.Causes.{Asks}
-use Rattle.own_decisions.specs.Below.outcome_stories.specs.Kept.{is_of_send, IsSpoken, Story}
+use Rattle.seat_programs.specs.ScriptSetupToEnding.{all_tasks, IsRunWithCalls}
+use Rattle.seat_programs.specs.Explained.{AreTasks, IsTask, Made}
+use Rattle.seat_programs.specs.ExplainedCalls.{Accepted, Fixed, IsSent, OfSend, OfCall}
+use Rattle.own_decisions.specs.Below.programs_allowed.specs.program_steps.specs.SoundSeats.{Sound, AllRest}
+use Rattle.own_decisions.specs.Below.programs_allowed.specs.program_walks.proofs.WholeScriptSound.{views_ended, ended_sound, end_rests, IsOwed}
+use Rattle.own_decisions.specs.Below.outcome_stories.specs.StoryStepCauses.{Asks}
+use Rattle.own_decisions.specs.Below.outcome_stories.specs.KeptStory.{is_of_send, IsSpoken, Story}
 use Rattle.own_decisions.specs.Below.outcome_stories.specs.PlainTasks.{told_tasks_of}
-use Rattle.own_decisions.specs.Below.outcome_stories.specs.Stories.{Event}
+use Rattle.own_decisions.specs.Below.outcome_stories.specs.OperationStories.{Event}
 use Rattle.own_decisions.specs.Below.outcome_stories.specs.TaskCauses as causes
 use Rattle.own_decisions.specs.Below.outcome_stories.proofs.Delivered.{orders_of}
 use Rattle.own_decisions.specs.Below.outcome_ticks.proofs.Lifted.{task_up, made_up}
 use Rattle.own_decisions.specs.Below.outcome_stories.proofs.Members.{in_contains}
-use Rattle.own_decisions.specs.Below.outcome_causes.proofs.Messages.{each_made, message_of, number_of}
-use Rattle.own_decisions.specs.Below.outcome_causes.proofs.Scripts.{seats, final_told, story_end, run_told}
-use Rattle.own_decisions.specs.Below.outcome_stories.proofs.Senders.{HasSent, all_sent}
-use Rattle.own_decisions.specs.Below.joint_runs.proofs.Runs.{AreMade}
-use Rattle.own_decisions.specs.Below.script_facts.proofs.Reading.{InRange}
+use Rattle.own_decisions.specs.Below.outcome_causes.proofs.MessagesOfTasks.{each_made, message_of, number_of}
+use Rattle.own_decisions.specs.Below.outcome_causes.proofs.SocketCausesOfScripts.{seats, final_told, story_end, run_told}
+use Rattle.own_decisions.specs.Below.outcome_stories.proofs.SendersOfLogEntries.{HasSent, all_sent}
+use Rattle.own_decisions.specs.Below.joint_runs.proofs.RunsOfBothTables.{AreMade}
+use Rattle.own_decisions.specs.Below.script_facts.proofs.ReadScriptFacts.{InRange}
 use Rattle.own_decisions.specs.Below.script_facts.proofs.Targets.{AreThere}
-use Rattle.own_decisions.specs.Below.call_owing.specs.Lives.{ClosesInRun}
-use Rattle.own_decisions.specs.Below.call_stories.specs.Lists.{attempts_of_run}
-use Rattle.own_decisions.specs.Below.label_runs.specs.Labels.{Trial}
-use Rattle.own_decisions.specs.accept_counts.specs.Counts.{pair_of, of_heading, of_entry, of_view, times_of, LabelLaw}
+use Rattle.own_decisions.specs.Below.call_owing.specs.LivesOfLinks.{ClosesInRun}
+use Rattle.own_decisions.specs.Below.call_stories.specs.LinkReadingLists.{attempts_of_run}
+use Rattle.own_decisions.specs.Below.label_runs.specs.AttemptLabelsLeft.{Trial}
+use Rattle.own_decisions.specs.accept_counts.specs.AttemptCounts.{pair_of, of_heading, of_entry, of_view, times_of, LabelLaw}
 use Rattle.own_decisions.specs.accept_counts.proofs.Apart as apart
-use Rattle.own_decisions.specs.accept_counts.proofs.Early.{first_fresh}
-use Rattle.own_decisions.specs.accept_counts.proofs.Runs.{AreLabelledIn, IsCallOf}
-use Rattle.own_decisions.specs.sent_once.proofs.Sends.{owed, orders_of_run, narrow, opening_bare}
+use Rattle.own_decisions.specs.accept_counts.proofs.EarlyClosedSockets.{first_fresh}
+use Rattle.own_decisions.specs.accept_counts.proofs.RunsKeepAttemptLaw.{AreLabelledIn, IsCallOf}
+use Rattle.own_decisions.specs.sent_once.proofs.SocketOperationsTold.{owed, orders_of_run, narrow, opening_bare}
 use Rattle.attempted_calls.proofs.AttemptedIds.{AreRisingIn}
 use Rattle.attempted_calls.proofs.AttemptedRuns.{IsWithin, end_counted}
 use Rattle.attempted_calls.proofs.AttemptedCalls.{AreStored, single, shows}

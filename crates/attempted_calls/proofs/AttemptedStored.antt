@@ -5,56 +5,56 @@ use Rattle.std.proofs.lemmas.List.{get_or_past}
 use mathlib.Core.Logic.{dite}
 use native.Mathlib.Decide.{dec_le}
 use Rattle.sock_words.specs.declared.plain.Plan.{Plan}
-use Rattle.sock_words.specs.Words.{at_word, call_id, id_slot, id_first}
+use Rattle.sock_words.specs.PackedWords.{at_word, call_id, id_slot, id_first}
 use Rattle.sock_model.specs.declared.view.View.{View}
 use Rattle.seat_programs.specs.brpc_model.specs.Items.{Item}
 use Rattle.seat_programs.specs.brpc_model.specs.Operations.{Turn}
 use Rattle.corr_core.specs.Word.{Parts}
 use Rattle.corr_core.specs.declared.marks.Plan.{Plan as IdPlan}
-use Rattle.seat_programs.specs.id_rule.specs.Lawful.{call_index}
-use Rattle.own_decisions.specs.Below.id_runs.proofs.Opening.{unused}
+use Rattle.seat_programs.specs.id_rule.specs.LawfulIdTable.{call_index}
+use Rattle.own_decisions.specs.Below.id_runs.proofs.IdRuleOpening.{unused}
 use Rattle.sock_message.specs.Asked.{Asked}
 use Rattle.seat_programs.specs.Asides.{StoreCall, StoreAt}
-use Rattle.seat_programs.specs.Calls.{TableStep, LoadName, FindLink, ClaimRequest}
-use Rattle.seat_programs.specs.Clients.{ending_of}
+use Rattle.seat_programs.specs.TableSteps.{TableStep, LoadName, FindLink, ClaimRequest}
+use Rattle.seat_programs.specs.ClientProgram.{ending_of}
 use Rattle.seat_programs.specs.Cores.{Core, with_seat}
 use Rattle.seat_programs.specs.declared.task.Task.{Task}
 use Rattle.seat_programs.specs.Programs.{Program, Rest, Do, Aside}
-use Rattle.seat_programs.specs.Runs.{IsAtRest}
+use Rattle.seat_programs.specs.ScheduledRuns.{IsAtRest}
 use Rattle.seat_programs.specs.Ticks.{Moment, AreAnswered, quiet, ticked, run}
 use Rattle.seat_programs.specs.Tasks.{opens, calls, plan_of, id_plan_of}
-use Rattle.seat_programs.specs.Scripts.{sizes_of, programs, readers_from, all_programs, all_tasks, opened, ending, set_up, played, is_ending, IsRunWithCalls}
-use Rattle.own_decisions.specs.Below.programs_allowed.specs.program_steps.specs.Sound.{IsAhead, AllRest, views_after, views_along}
-use Rattle.own_decisions.specs.Below.programs_allowed.specs.program_steps.proofs.Cases.{elem_there}
-use Rattle.own_decisions.specs.Below.programs_allowed.specs.sock_runs.proofs.Along.{seat_rests, ticked_ahead}
+use Rattle.seat_programs.specs.ScriptSetupToEnding.{sizes_of, programs, readers_from, all_programs, all_tasks, opened, ending, set_up, played, is_ending, IsRunWithCalls}
+use Rattle.own_decisions.specs.Below.programs_allowed.specs.program_steps.specs.SoundSeats.{IsAhead, AllRest, views_after, views_along}
+use Rattle.own_decisions.specs.Below.programs_allowed.specs.program_steps.proofs.TickCases.{elem_there}
+use Rattle.own_decisions.specs.Below.programs_allowed.specs.sock_runs.proofs.SoundAlongRuns.{seat_rests, ticked_ahead}
 use Rattle.own_decisions.specs.Below.programs_allowed.specs.sock_runs.proofs.Quiets.{ticked_rests, run_rests}
-use Rattle.own_decisions.specs.Below.programs_allowed.specs.program_walks.proofs.Whole.{views_played, views_closed, set_up_answered, end_answered}
+use Rattle.own_decisions.specs.Below.programs_allowed.specs.program_walks.proofs.WholeScriptSound.{views_played, views_closed, set_up_answered, end_answered}
 use Rattle.own_decisions.specs.Below.outcome_causes.proofs.Final.{at_there}
-use Rattle.own_decisions.specs.Below.joint_runs.proofs.Both.{BothSound, AreBoth, behind_both}
-use Rattle.own_decisions.specs.Below.joint_runs.proofs.Runs.{AreMade, first_views, joint_runs}
-use Rattle.own_decisions.specs.Below.script_facts.proofs.Reading.{InRange}
+use Rattle.own_decisions.specs.Below.joint_runs.proofs.BothTablesSound.{BothSound, AreBoth, behind_both}
+use Rattle.own_decisions.specs.Below.joint_runs.proofs.RunsOfBothTables.{AreMade, first_views, joint_runs}
+use Rattle.own_decisions.specs.Below.script_facts.proofs.ReadScriptFacts.{InRange}
 use Rattle.own_decisions.specs.Below.script_facts.proofs.Targets.{AreThere}
-use Rattle.own_decisions.specs.Below.call_stories.specs.Lists.{gave_in, advanced_at}
+use Rattle.own_decisions.specs.Below.call_stories.specs.LinkReadingLists.{gave_in, advanced_at}
 use Rattle.own_decisions.specs.Below.call_stories.specs.Scenes.{LeadsTo}
-use Rattle.own_decisions.specs.Below.call_stories.specs.Posts.{Post, posted_at}
-use Rattle.own_decisions.specs.Below.call_stories.specs.Stories.{HasStory}
+use Rattle.own_decisions.specs.Below.call_stories.specs.PostsOfRun.{Post, posted_at}
+use Rattle.own_decisions.specs.Below.call_stories.specs.CallStories.{HasStory}
 use Rattle.own_decisions.specs.Below.story_ticks.proofs.Allowing.{allows}
 use Rattle.own_decisions.specs.Below.story_ticks.proofs.Claiming.{HaveSlots}
-use Rattle.own_decisions.specs.Below.call_stories.proofs.Leading.{run_leads}
-use Rattle.own_decisions.specs.Below.story_steps.proofs.Numbered.{AreNumbered}
-use Rattle.own_decisions.specs.Below.story_ticks.proofs.Opening.{first_story}
-use Rattle.own_decisions.specs.Below.call_causes.proofs.Run.{ending_story, told_on}
+use Rattle.own_decisions.specs.Below.call_stories.proofs.LeadingBytesGiven.{run_leads}
+use Rattle.own_decisions.specs.Below.story_steps.proofs.NumberedTasks.{AreNumbered}
+use Rattle.own_decisions.specs.Below.story_ticks.proofs.StoryOpening.{first_story}
+use Rattle.own_decisions.specs.Below.call_causes.proofs.RunOfCallStory.{ending_story, told_on}
 use Rattle.own_decisions.specs.Below.story_ticks.proofs.RunFacts.{own_leads, run_facts, leadings}
-use Rattle.own_decisions.specs.Below.story_ticks.proofs.Scripts as scripts
-use Rattle.own_decisions.specs.Below.story_ticks.proofs.Ticks.{IsSetUp, story_ticks}
-use Rattle.own_decisions.specs.accept_counts.specs.Counts.{word_of_id, StoresOwn, AreLabelled}
-use Rattle.own_decisions.specs.accept_counts.proofs.Early.{start, go, fitting}
-use Rattle.own_decisions.specs.accept_counts.proofs.Runs.{AreLabelledIn, IsCallOf, asked_by}
-use Rattle.own_decisions.specs.sent_once.proofs.Sends.{opening_bare}
+use Rattle.own_decisions.specs.Below.story_ticks.proofs.ScriptTasksFitStory as scripts
+use Rattle.own_decisions.specs.Below.story_ticks.proofs.TicksKeepCallStory.{IsSetUp, story_ticks}
+use Rattle.own_decisions.specs.accept_counts.specs.AttemptCounts.{word_of_id, StoresOwn, AreLabelled}
+use Rattle.own_decisions.specs.accept_counts.proofs.EarlyClosedSockets.{start, go, fitting}
+use Rattle.own_decisions.specs.accept_counts.proofs.RunsKeepAttemptLaw.{AreLabelledIn, IsCallOf, asked_by}
+use Rattle.own_decisions.specs.sent_once.proofs.SocketOperationsTold.{opening_bare}
 use Rattle.own_decisions.specs.sent_once.proofs.Labelled.{named_id}
 use Rattle.attempted_calls.proofs.AttemptedWords.{Rise, AdvancesAt, is_new, is_same, is_more, tick_rises}
 use Rattle.attempted_calls.proofs.AttemptedIds.{AdvancesId, AreRising, AreRisingIn}
-use Rattle.own_decisions.specs.accept_counts.specs.Refused.{WouldStore, WouldOwn, AllWouldOwn, RunWouldOwn}
+use Rattle.own_decisions.specs.accept_counts.specs.RefusedOrDropped.{WouldStore, WouldOwn, AllWouldOwn, RunWouldOwn}
 use Rattle.attempted_calls.proofs.EndedTrails.{Trail, Knows, lost, Follows, GoesDo, Stays, NoCall, Makes, Of}
 use Rattle.attempted_calls.proofs.EndedPrograms.{ending_goes}
 use Rattle.attempted_calls.proofs.EndedNames.{follows_first}
@@ -62,9 +62,9 @@ use Rattle.attempted_calls.proofs.EndedNamed.{all_follow, begins_named}
 use Rattle.attempted_calls.proofs.AttemptedCalls.{AreStored}
 use Rattle.attempted_calls.proofs.AttemptedFacts.{IsStoring, IsOwn, facts}
 use Rattle.attempted_calls.proofs.AttemptedOwn.{IsTrueOf, CallLaw, beside, own_ticks}
-use Rattle.own_decisions.specs.Below.programs_allowed.specs.program_walks.proofs.Opening.{mapped}
-use Rattle.own_decisions.specs.Below.joint_runs.proofs.Starts.{narrow}
-use Rattle.seat_programs.specs.Rounds.{first_step}
+use Rattle.own_decisions.specs.Below.programs_allowed.specs.program_walks.proofs.OpenedLivesRecorded.{mapped}
+use Rattle.own_decisions.specs.Below.joint_runs.proofs.StartsWithBothRules.{narrow}
+use Rattle.seat_programs.specs.LoopRounds.{first_step}
 
 -- a step on the sockets leaves which call is known, or forgets it
 stays_of : (t u : Trail) → Stays t u → (u.of ≡ t.of) ⊎ (u.of ≡ NoCall)

@@ -8,34 +8,34 @@ use lib.ListN.{get_elem?}
 use Rattle.sock_words.specs.declared.plain.Plan.{Plan}
 use Rattle.sock_io.specs.declared.link.Put.{Put}
 use Rattle.sock_io.specs.declared.link.Ready.{Ready}
-use Rattle.sock_model.specs.Messages.{HeadedBytes}
+use Rattle.sock_model.specs.UnplacedMessages.{HeadedBytes}
 use Rattle.sock_model.specs.declared.home.Home.{Home}
-use Rattle.sock_model.specs.Reads.{message, link_home}
+use Rattle.sock_model.specs.ChainLawReads.{message, link_home}
 use Rattle.corr_core.specs.Word.{Parts, parts, made_word, locked_word, posted_word, unlocked_word, free_word}
 use Rattle.corr_core.specs.declared.marks.Plan.{Plan as IdPlan}
 use Rattle.corr_core.specs.declared.marks.Hand.TheVariants.{Full}
 use Rattle.corr_core.specs.declared.marks.Token.TheVariants.{Locked}
-use Rattle.seat_programs.specs.id_rule.specs.Lawful.{id_index, tag_index, call_index, at_index, all_words}
-use Rattle.own_decisions.specs.Below.id_runs.specs.Held.{IdView, MayId}
+use Rattle.seat_programs.specs.id_rule.specs.LawfulIdTable.{id_index, tag_index, call_index, at_index, all_words}
+use Rattle.own_decisions.specs.Below.id_runs.specs.HeldIdTokens.{IdView, MayId}
 use Rattle.own_decisions.specs.Below.id_runs.specs.Goes.{SoundIds, FindsId, IdGoesOn}
-use Rattle.own_decisions.specs.Below.id_runs.proofs.Keeps.{parts_packed}
-use Rattle.own_decisions.specs.Below.id_runs.proofs.Loops.{ids_round}
-use Rattle.own_decisions.specs.Below.id_runs.proofs.Programs.{block_goes}
-use Rattle.own_decisions.specs.Below.id_runs.proofs.Steps.{finds_ids, call_there}
+use Rattle.own_decisions.specs.Below.id_runs.proofs.AsidesKeepingIdRule.{parts_packed}
+use Rattle.own_decisions.specs.Below.id_runs.proofs.IdLoopRounds.{ids_round}
+use Rattle.own_decisions.specs.Below.id_runs.proofs.IdPrograms.{block_goes}
+use Rattle.own_decisions.specs.Below.id_runs.proofs.AsideStepsKeepRule.{finds_ids, call_there}
 use Rattle.sock_message.specs.Asked.{Asked}
 use Rattle.seat_programs.specs.Asides.{Step, Found, ClaimId, PutCall, MakeId, StoreCall, LoadCall, StoreAt, LoadAt, LoadIdWord, LockId, PostId, UnlockId, EndId, FreeId, TakeCall, TakeBytes, Taking, Bytes}
-use Rattle.seat_programs.specs.Beside.{found_in, calls_after, call_at}
+use Rattle.seat_programs.specs.FoundAndChangedAside.{found_in, calls_after, call_at}
 use Rattle.seat_programs.specs.Cores.{Core, SeatState}
-use Rattle.seat_programs.specs.Posts.{packed}
+use Rattle.seat_programs.specs.PostPrograms.{packed}
 use Rattle.seat_programs.specs.Programs.{Program, TakeMessage, TakeHome, PutBytes, AskReady, Write, Aside, Round}
-use Rattle.seat_programs.specs.Rounds.{round, first_step}
-use Rattle.seat_programs.specs.Sends.{block}
+use Rattle.seat_programs.specs.LoopRounds.{round, first_step}
+use Rattle.seat_programs.specs.SendAndWritePrograms.{block}
 use Rattle.seat_programs.specs.Ticks.{Answer, OfPut, OfReady, Moment, taken, with_message, with_link, with_put, with_ready, with_found, step_with, tick_with, ticked}
 use Rattle.own_decisions.specs.Below.call_owing.proofs.EndsStill.{view_of}
-use Rattle.own_decisions.specs.Below.call_stories.specs.Lists.{advances_by, advanced_with, advanced_at}
-use Rattle.own_decisions.specs.accept_counts.specs.Counts.{word_of_id}
-use Rattle.own_decisions.specs.accept_counts.proofs.Words.{state_fits, small_first}
-use Rattle.sock_words.specs.Words.{bit}
+use Rattle.own_decisions.specs.Below.call_stories.specs.LinkReadingLists.{advances_by, advanced_with, advanced_at}
+use Rattle.own_decisions.specs.accept_counts.specs.AttemptCounts.{word_of_id}
+use Rattle.own_decisions.specs.accept_counts.proofs.IdWordsGoForward.{state_fits, small_first}
+use Rattle.sock_words.specs.PackedWords.{bit}
 use Rattle.own_decisions.specs.Below.outcome_stories.specs.Facts.{called_at}
 
 -- the word of an id that lives, and what it was: its range is new, or its attempt is as it was, or one more; and what holds of a new one, and of one more

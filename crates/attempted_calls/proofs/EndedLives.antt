@@ -2,24 +2,24 @@
 use Rattle.std.proofs.Common.{◌≡◌, ◌≢◌, ℕ, ⊎_elim, true, false, List, [], ◌∷◌, sym, subst}
 use Rattle.std.specs.List.{AllByRecursion}
 use Rattle.sock_words.specs.declared.plain.Plan.{Plan}
-use Rattle.sock_words.specs.Words.{socket_id_slot, socket_id_version, at_word, id_slot, id_first}
+use Rattle.sock_words.specs.PackedWords.{socket_id_slot, socket_id_version, at_word, id_slot, id_first}
 use Rattle.sock_model.specs.declared.chain.Entry.{Entry}
 use Rattle.sock_model.specs.declared.chain.Heading.{Heading}
 use Rattle.sock_model.specs.declared.view.View.{View}
 use Rattle.sock_message.specs.Asked.{Asked, name_of}
 use Rattle.seat_programs.specs.Cores.{Core}
 use Rattle.seat_programs.specs.declared.task.Task.{Task}
-use Rattle.seat_programs.specs.Told.{AreTasks, Made}
-use Rattle.seat_programs.specs.ToldCalls.{Accepted}
-use Rattle.own_decisions.specs.Below.programs_allowed.specs.program_steps.specs.Sound.{Sound, AllRest}
-use Rattle.own_decisions.specs.Below.outcome_stories.specs.Causes.{WasGiven}
-use Rattle.own_decisions.specs.Below.outcome_stories.specs.Kept.{is_of_send, IsSpoken, Story}
-use Rattle.own_decisions.specs.Below.outcome_stories.specs.Stories.{Event, In}
+use Rattle.seat_programs.specs.Explained.{AreTasks, Made}
+use Rattle.seat_programs.specs.ExplainedCalls.{Accepted}
+use Rattle.own_decisions.specs.Below.programs_allowed.specs.program_steps.specs.SoundSeats.{Sound, AllRest}
+use Rattle.own_decisions.specs.Below.outcome_stories.specs.StoryStepCauses.{WasGiven}
+use Rattle.own_decisions.specs.Below.outcome_stories.specs.KeptStory.{is_of_send, IsSpoken, Story}
+use Rattle.own_decisions.specs.Below.outcome_stories.specs.OperationStories.{Event, In}
 use Rattle.own_decisions.specs.Below.outcome_stories.proofs.Delivered.{orders_of}
-use Rattle.own_decisions.specs.Below.outcome_causes.proofs.Lives.{World, one_life, given_made}
+use Rattle.own_decisions.specs.Below.outcome_causes.proofs.LivesByTask.{World, one_life, given_made}
 use Rattle.own_decisions.specs.Below.outcome_stories.proofs.Members.{all_in}
-use Rattle.own_decisions.specs.Below.outcome_causes.proofs.Messages.{in_of_at, each_made, message_of, number_of}
-use Rattle.own_decisions.specs.Below.outcome_stories.proofs.Senders.{HasSent, all_sent}
+use Rattle.own_decisions.specs.Below.outcome_causes.proofs.MessagesOfTasks.{in_of_at, each_made, message_of, number_of}
+use Rattle.own_decisions.specs.Below.outcome_stories.proofs.SendersOfLogEntries.{HasSent, all_sent}
 use Rattle.own_decisions.specs.accept_counts.specs.EndedCalls.{Store}
 use Rattle.attempted_calls.proofs.EndedTrails.{Trail}
 use Rattle.attempted_calls.proofs.RefusedNames as lives

@@ -12,39 +12,39 @@ use Rattle.seat_programs.specs.brpc_model.specs.Items.{Item}
 use Rattle.seat_programs.specs.brpc_model.specs.Operations.{Turn, clients}
 use Rattle.corr_core.specs.declared.marks.Plan.{Plan as IdPlan}
 use Rattle.sock_message.specs.Asked.{Asked}
-use Rattle.seat_programs.specs.Clients.{client_from, ending_of}
+use Rattle.seat_programs.specs.ClientProgram.{client_from, ending_of}
 use Rattle.seat_programs.specs.Cores.{Core, SeatState, resolved, next_step}
 use Rattle.seat_programs.specs.declared.task.Sizes.{Sizes}
 use Rattle.seat_programs.specs.declared.task.Task.{Task}
 use Rattle.seat_programs.specs.Programs.{Program}
 use Rattle.seat_programs.specs.Ticks.{Moment, AreAnswered, quiet, ticked, run}
 use Rattle.seat_programs.specs.Tasks.{opens, calls, plan_of, id_plan_of}
-use Rattle.seat_programs.specs.Scripts.{sizes_of, programs, readers_from, all_programs, all_tasks, beginning, opened, set_up, IsRunWithCalls}
-use Rattle.seat_programs.specs.Told.{AreTasks}
-use Rattle.own_decisions.specs.Below.programs_allowed.specs.program_steps.specs.Sound.{Sound, AreFitting, views_after, views_along}
-use Rattle.own_decisions.specs.Below.programs_allowed.specs.program_steps.proofs.Cases.{elem_there}
+use Rattle.seat_programs.specs.ScriptSetupToEnding.{sizes_of, programs, readers_from, all_programs, all_tasks, beginning, opened, set_up, IsRunWithCalls}
+use Rattle.seat_programs.specs.Explained.{AreTasks}
+use Rattle.own_decisions.specs.Below.programs_allowed.specs.program_steps.specs.SoundSeats.{Sound, AreFitting, views_after, views_along}
+use Rattle.own_decisions.specs.Below.programs_allowed.specs.program_steps.proofs.TickCases.{elem_there}
 use Rattle.own_decisions.specs.Below.programs_allowed.specs.sock_runs.proofs.LinkTicks.{RetriesGo}
-use Rattle.own_decisions.specs.Below.programs_allowed.specs.program_walks.proofs.Opening.{mapped}
-use Rattle.own_decisions.specs.Below.programs_allowed.specs.sock_runs.proofs.Ticks.{sound_ticks}
-use Rattle.own_decisions.specs.Below.programs_allowed.specs.program_walks.proofs.Whole.{Begins, AreFittingIn, closing_of, rested_of, views_played, views_closed, views_ended, set_up_answered, end_answered, set_up_sound, played_sound, closing_sound, closed_sound}
-use Rattle.own_decisions.specs.Below.outcome_stories.specs.Kept.{Story}
+use Rattle.own_decisions.specs.Below.programs_allowed.specs.program_walks.proofs.OpenedLivesRecorded.{mapped}
+use Rattle.own_decisions.specs.Below.programs_allowed.specs.sock_runs.proofs.TicksKeepSeatsSound.{sound_ticks}
+use Rattle.own_decisions.specs.Below.programs_allowed.specs.program_walks.proofs.WholeScriptSound.{Begins, AreFittingIn, closing_of, rested_of, views_played, views_closed, views_ended, set_up_answered, end_answered, set_up_sound, played_sound, closing_sound, closed_sound}
+use Rattle.own_decisions.specs.Below.outcome_stories.specs.KeptStory.{Story}
 use Rattle.own_decisions.specs.Below.outcome_stories.specs.PlainTasks.{told_tasks_of}
-use Rattle.own_decisions.specs.Below.outcome_stories.specs.Stories.{Event, In}
+use Rattle.own_decisions.specs.Below.outcome_stories.specs.OperationStories.{Event, In}
 use Rattle.own_decisions.specs.Below.outcome_causes.proofs.Final.{at_there}
-use Rattle.own_decisions.specs.Below.outcome_causes.proofs.Plain.{in_left, in_right, in_both}
-use Rattle.own_decisions.specs.Below.outcome_causes.proofs.Openings.{are_seats}
-use Rattle.own_decisions.specs.Below.outcome_causes.proofs.Runs.{IsStoried, set_up_over, is_ending_story}
-use Rattle.own_decisions.specs.Below.outcome_causes.proofs.Scripts.{story_opened, story_closing}
+use Rattle.own_decisions.specs.Below.outcome_causes.proofs.PlainOutcomeCauses.{in_left, in_right, in_both}
+use Rattle.own_decisions.specs.Below.outcome_causes.proofs.ExplainedOpenings.{are_seats}
+use Rattle.own_decisions.specs.Below.outcome_causes.proofs.RunsKeepStory.{IsStoried, set_up_over, is_ending_story}
+use Rattle.own_decisions.specs.Below.outcome_causes.proofs.SocketCausesOfScripts.{story_opened, story_closing}
 use Rattle.own_decisions.specs.Below.outcome_causes.proofs.Begin.{no_call}
-use Rattle.own_decisions.specs.Below.outcome_ticks.proofs.Ticks.{tick_story}
-use Rattle.own_decisions.specs.Below.label_runs.proofs.Operations.{OpCalls}
-use Rattle.seat_programs.specs.id_rule.specs.Lawful.{at_index}
-use Rattle.own_decisions.specs.Below.id_runs.proofs.Opening.{unused}
-use Rattle.own_decisions.specs.accept_counts.proofs.Beginnings.{all_begin}
-use Rattle.own_decisions.specs.accept_counts.specs.Counts.{AreLabelled}
+use Rattle.own_decisions.specs.Below.outcome_ticks.proofs.TicksKeepStory.{tick_story}
+use Rattle.own_decisions.specs.Below.label_runs.proofs.OperationsKeepKnown.{OpCalls}
+use Rattle.seat_programs.specs.id_rule.specs.LawfulIdTable.{at_index}
+use Rattle.own_decisions.specs.Below.id_runs.proofs.IdRuleOpening.{unused}
+use Rattle.own_decisions.specs.accept_counts.proofs.ProgramsAtBeginning.{all_begin}
+use Rattle.own_decisions.specs.accept_counts.specs.AttemptCounts.{AreLabelled}
 use Rattle.own_decisions.specs.accept_counts.specs.EndedCalls.{Load, loaded_at, loads_of_run, Store, stored_at, stores_of_run}
 use Rattle.own_decisions.specs.Below.call_stories.proofs.RunTicks.{in_setup, in_clients, in_closing, parts}
-use Rattle.own_decisions.specs.accept_counts.proofs.Runs.{AreLabelledIn, IsCallOf, behind_ids, asked_by}
+use Rattle.own_decisions.specs.accept_counts.proofs.RunsKeepAttemptLaw.{AreLabelledIn, IsCallOf, behind_ids, asked_by}
 use Rattle.attempted_calls.proofs.EndedTrails.{Trail, lost, Follows}
 use Rattle.attempted_calls.proofs.EndedPrograms.{client_goes, ending_goes, reader_goes}
 use Rattle.attempted_calls.proofs.EndedNames.{NameLaw, StoredFor, for_up, lost_true, resolves, moves, name_ticks, tick_loads}

@@ -9,7 +9,7 @@ use mathlib.Core.Option.{Option, some, none, some-injective}
 use lib.ListN.{get_elem?}
 use Rattle.atomic_table.proofs.Lists.{at_set, set_again}
 use Rattle.sock_words.specs.declared.plain.Plan.{Plan}
-use Rattle.sock_words.specs.Words.{socket_id_slot, socket_id_version, at_word, IDLE, id_slot, id_first}
+use Rattle.sock_words.specs.PackedWords.{socket_id_slot, socket_id_version, at_word, IDLE, id_slot, id_first}
 use Rattle.sock_model.specs.declared.chain.Right.{Right}
 use Rattle.sock_model.specs.declared.chain.Heading.{Heading}
 use Rattle.sock_model.specs.declared.chain.Claim.{Claim}
@@ -20,15 +20,15 @@ use Rattle.sock_model.specs.declared.view.Hand.{Hand}
 use Rattle.sock_model.specs.ChainRows.{with_claim, entry_of, more, queued, righted, ready_claim, filled_claim}
 use Rattle.sock_model.specs.SlotRows.{met_link}
 use Rattle.corr_core.specs.declared.marks.Plan.{Plan as IdPlan}
-use Rattle.seat_programs.specs.id_rule.specs.Lawful as ids
-use Rattle.own_decisions.specs.Below.id_runs.specs.Held.{IdView, MayId}
+use Rattle.seat_programs.specs.id_rule.specs.LawfulIdTable as ids
+use Rattle.own_decisions.specs.Below.id_runs.specs.HeldIdTokens.{IdView, MayId}
 use Rattle.own_decisions.specs.Below.id_runs.specs.Goes.{FitsRetryId, FitsSock, SoundIds, IsFittingIds}
-use Rattle.own_decisions.specs.Below.id_runs.proofs.Steps.{finds_ids}
+use Rattle.own_decisions.specs.Below.id_runs.proofs.AsideStepsKeepRule.{finds_ids}
 use Rattle.seat_programs.specs.Asides.{Step, Found, ClaimId, PutCall, MakeId, StoreCall, StoreAt, LoadAt, LockId, PostId, UnlockId, EndId, FreeId, TakeCall, TakeBytes, Taking, Bytes}
 use Rattle.sock_message.specs.Asked.{Asked, name_of}
-use Rattle.seat_programs.specs.Beside.{found_in, calls_after, more_given}
-use Rattle.seat_programs.specs.Calls.{TableStep, StoreName, LoadName, FindLink, ClaimRequest, PutMessage, Unconnect, SwapHead}
-use Rattle.seat_programs.specs.Heads.{Retry}
+use Rattle.seat_programs.specs.FoundAndChangedAside.{found_in, calls_after, more_given}
+use Rattle.seat_programs.specs.TableSteps.{TableStep, StoreName, LoadName, FindLink, ClaimRequest, PutMessage, Unconnect, SwapHead}
+use Rattle.seat_programs.specs.LoopHeads.{Retry}
 use Rattle.seat_programs.specs.Programs.{Program, Do, Say, Sent, Write, Aside, Round, Keep, Retries}
 use Rattle.seat_programs.specs.Cores.{Calls, Core, SeatState, found_at, words_after, homes_after, hand_after, resolved, waiting_at, next_step, with_seat, stepped}
 use Rattle.seat_programs.specs.StepTables.{word_of, word_after}
@@ -38,26 +38,26 @@ use Rattle.seat_programs.specs.StepTables.{May}
 use Rattle.seat_programs.specs.StepTables.{row, hand_at}
 use Rattle.seat_programs.specs.StepsOfChain.{new_claim, exchanged}
 use Rattle.seat_programs.specs.StepViews.{by_claim}
-use Rattle.own_decisions.specs.Below.programs_allowed.specs.program_steps.specs.Sound.{Sound, views_after}
-use Rattle.own_decisions.specs.Below.programs_allowed.specs.program_steps.proofs.Cases.{with_rights, calls_waiting}
-use Rattle.own_decisions.specs.Below.outcome_stories.specs.Causes.{WasGiven}
-use Rattle.own_decisions.specs.Below.outcome_stories.specs.Kept.{Story}
-use Rattle.own_decisions.specs.Below.outcome_stories.specs.Stories.{Event, In, last_name}
-use Rattle.own_decisions.specs.Below.outcome_ticks.proofs.Events.{event, marked_given, given_by, last_some}
+use Rattle.own_decisions.specs.Below.programs_allowed.specs.program_steps.specs.SoundSeats.{Sound, views_after}
+use Rattle.own_decisions.specs.Below.programs_allowed.specs.program_steps.proofs.TickCases.{with_rights, calls_waiting}
+use Rattle.own_decisions.specs.Below.outcome_stories.specs.StoryStepCauses.{WasGiven}
+use Rattle.own_decisions.specs.Below.outcome_stories.specs.KeptStory.{Story}
+use Rattle.own_decisions.specs.Below.outcome_stories.specs.OperationStories.{Event, In, last_name}
+use Rattle.own_decisions.specs.Below.outcome_ticks.proofs.EventsOfGoodStory.{event, marked_given, given_by, last_some}
 use Rattle.own_decisions.specs.Below.outcome_ticks.proofs.Means.{held_given}
 use Rattle.own_decisions.specs.Below.outcome_stories.proofs.Tests.{split}
-use Rattle.own_decisions.specs.Below.label_runs.specs.Labels.{FindsLabel}
+use Rattle.own_decisions.specs.Below.label_runs.specs.AttemptLabelsLeft.{FindsLabel}
 use Rattle.own_decisions.specs.accept_counts.specs.EndedCalls.{Load, loads_by, loaded_with, loaded_at, Store, stores_by, stored_at}
-use Rattle.own_decisions.specs.accept_counts.proofs.Words.{finds_label, makes_new}
+use Rattle.own_decisions.specs.accept_counts.proofs.IdWordsGoForward.{finds_label, makes_new}
 use Rattle.own_decisions.specs.Below.outcome_stories.proofs.HomeCalls.{AreCalls, PutsAsked, calls_behind}
-use Rattle.own_decisions.specs.accept_counts.proofs.Ticks.{few_more, few_of, fits_as, pairs_set}
-use Rattle.own_decisions.specs.Below.story_ticks.proofs.Chains.{AreFewTries as AreTries}
-use Rattle.own_decisions.specs.accept_counts.proofs.Views.{row_same}
+use Rattle.own_decisions.specs.accept_counts.proofs.TicksKeepAttemptLaw.{few_more, few_of, fits_as, pairs_set}
+use Rattle.own_decisions.specs.Below.story_ticks.proofs.SaidBeforeNextStep.{AreFewTries as AreTries}
+use Rattle.own_decisions.specs.accept_counts.proofs.ClaimViewsBehindSteps.{row_same}
 use Rattle.attempted_calls.proofs.EndedTrails.{Of, NoCall, Makes, Knows, Trail, lost, Stays, IsAtOf, IsOwnStore, MayAttempt, GoesDo, GoesAside, Follows}
 use Rattle.own_decisions.specs.accept_counts.proofs.SeatFacts.{seat_facts, tick_moves}
 use Rattle.attempted_calls.proofs.EndedPrograms.{follows_round, block_goes, retry_goes}
-use Rattle.own_decisions.specs.Below.script_facts.proofs.Lists.{all_map}
-use Rattle.seat_programs.specs.Rounds.{first_step}
+use Rattle.own_decisions.specs.Below.script_facts.proofs.FilteredLists.{all_map}
+use Rattle.seat_programs.specs.LoopRounds.{first_step}
 
 -- ## First steps
 

@@ -1,7 +1,7 @@
 -- The programs of clients, readers and the ending follow what leads to attempts, and so does one round of each loop. (As Programs of label_runs has it for the attempts.)
 use Rattle.std.proofs.Common.{◌≡◌, ℕ, zero, suc, ◌+◌, ◌-◌, ◌/◌, ◌%◌, ◌≤◌, ◌==◌, inl, inr, Bool, true, false, cond, eqb, eqb-true, sym, ap, ⊎_elim, List, [], ◌∷◌, refl, ◌∙◌, subst, arith}
 use Rattle.std.specs.List.{AllByRecursion}
-use Rattle.sock_words.specs.Words.{socket_id_slot, socket_id_version, vref_version, at_word, call_id, id_slot, id_first}
+use Rattle.sock_words.specs.PackedWords.{socket_id_slot, socket_id_version, vref_version, at_word, call_id, id_slot, id_first}
 use Rattle.sock_words.specs.declared.outcome.Outcome.TheVariants as outcomes
 use Rattle.sock_message.specs.Asked.{Asked, name_of, frame_of}
 use Rattle.sock_model.specs.declared.chain.Heading.{Heading}
@@ -9,20 +9,20 @@ use Rattle.corr_core.specs.Word.{parts}
 use Rattle.seat_programs.specs.declared.task.Sizes.{Sizes}
 use Rattle.seat_programs.specs.declared.task.Task.{Task}
 use Rattle.seat_programs.specs.Asides.{Step, Found, PutCall, MakeId, StoreCall, StoreAt}
-use Rattle.seat_programs.specs.Attempts.{claims_from, heading_for, attempt, begin_call, claim_id, call, tried_again, retry_locked, retry}
-use Rattle.seat_programs.specs.Calls.{TableStep, PutMessage, ClaimRequest, LoadName, FindLink, LookWord}
-use Rattle.seat_programs.specs.Clients.{HeldLife, client_from, ending_of}
-use Rattle.seat_programs.specs.Heads.{Head, Exit, Posts, First, Unlocking, IsOpen, HasNext, Locking, NotThere, Has}
-use Rattle.seat_programs.specs.Posts.{post, decided}
+use Rattle.seat_programs.specs.CallAndRetryPrograms.{claims_from, heading_for, attempt, begin_call, claim_id, call, tried_again, retry_locked, retry}
+use Rattle.seat_programs.specs.TableSteps.{TableStep, PutMessage, ClaimRequest, LoadName, FindLink, LookWord}
+use Rattle.seat_programs.specs.ClientProgram.{HeldLife, client_from, ending_of}
+use Rattle.seat_programs.specs.LoopHeads.{Head, Exit, Posts, First, Unlocking, IsOpen, HasNext, Locking, NotThere, Has}
+use Rattle.seat_programs.specs.PostPrograms.{post, decided}
 use Rattle.seat_programs.specs.Programs.{Program, Do, Say, Rest, Write, Aside, Round, release}
-use Rattle.seat_programs.specs.Readers.{reader}
-use Rattle.seat_programs.specs.Rounds.{round}
-use Rattle.seat_programs.specs.Sends.{block, accept}
+use Rattle.seat_programs.specs.ReaderProgram.{reader}
+use Rattle.seat_programs.specs.LoopRounds.{round}
+use Rattle.seat_programs.specs.SendAndWritePrograms.{block, accept}
 use Rattle.seat_programs.specs.Writings.{Writing}
-use Rattle.own_decisions.specs.Below.label_runs.specs.Labels.{AtLabel, LeavesLabel, LeavesLock, LeavesUnlock}
-use Rattle.own_decisions.specs.Below.label_runs.proofs.Loops.{id_back, not_equal, is_plain, is_plain_aside, HoldsBehind, Tracks, behind, way, post_goes, decide_goes, decided_goes, round_goes}
-use Rattle.own_decisions.specs.Below.label_runs.proofs.Operations as kept
-use Rattle.own_decisions.specs.Below.label_runs.proofs.Operations.{OpCalls, release_goes, address_goes, accept_goes}
+use Rattle.own_decisions.specs.Below.label_runs.specs.AttemptLabelsLeft.{AtLabel, LeavesLabel, LeavesLock, LeavesUnlock}
+use Rattle.own_decisions.specs.Below.label_runs.proofs.LoopsOfKnownSeats.{id_back, not_equal, is_plain, is_plain_aside, HoldsBehind, Tracks, behind, way, post_goes, decide_goes, decided_goes, round_goes}
+use Rattle.own_decisions.specs.Below.label_runs.proofs.OperationsKeepKnown as kept
+use Rattle.own_decisions.specs.Below.label_runs.proofs.OperationsKeepKnown.{OpCalls, release_goes, address_goes, accept_goes}
 use Rattle.attempted_calls.proofs.EndedTrails.{Trail, lost, Stays, NoCall, Makes, Knows, with_link, GoesDo, GoesAside, MayAttempt, Follows}
 
 module _ (is_call : Asked → Type 0) where

@@ -1,15 +1,15 @@
 -- What leads a seat to an attempt of a call: the name under which it found the socket, the operation whose call has the id, the link of the socket, and the at word that it stored for it.
 use Rattle.std.specs.Prelude.{ℕ, ◌≡◌, ◌≢◌, ◌-◌, ◌%◌, ◌<◌, ◌≤◌, ◌⊎◌, Bool, true, false, List, [], ◌∷◌}
-use Rattle.sock_words.specs.Words.{at_word, socket_id_slot, socket_id_version, call_id, id_slot, id_first}
+use Rattle.sock_words.specs.PackedWords.{at_word, socket_id_slot, socket_id_version, call_id, id_slot, id_first}
 use Rattle.corr_core.specs.Word.{parts}
 use Rattle.own_decisions.specs.Below.id_runs.specs.Goes.{FitsSock}
 use Rattle.sock_message.specs.Asked.{Asked, name_of}
 use Rattle.seat_programs.specs.Asides.{Step, Found, PutCall, MakeId, StoreCall, StoreAt}
-use Rattle.seat_programs.specs.Calls.{TableStep, LoadName, FindLink, ClaimRequest, PutMessage}
-use Rattle.seat_programs.specs.Heads.{Head, Exit, Unlocks}
+use Rattle.seat_programs.specs.TableSteps.{TableStep, LoadName, FindLink, ClaimRequest, PutMessage}
+use Rattle.seat_programs.specs.LoopHeads.{Head, Exit, Unlocks}
 use Rattle.seat_programs.specs.Programs.{Program, Aside, Round}
 use Rattle.own_decisions.specs.Below.programs_allowed.specs.program_steps.specs.AtSteps.{Asks, AtSteps}
-use Rattle.own_decisions.specs.Below.label_runs.specs.Labels.{FindsLabel, AtLabel, LeavesLabel}
+use Rattle.own_decisions.specs.Below.label_runs.specs.AttemptLabelsLeft.{FindsLabel, AtLabel, LeavesLabel}
 
 -- of which call the seat knows the id: none; it made this id, and stores the word of its call next; or that of this operation
 pub data Of : Type 0 where

@@ -3,32 +3,32 @@ use Rattle.std.proofs.Common.{◌≡◌, ◌≢◌, ℕ, zero, suc, ◌+◌, ◌
 use Rattle.std.specs.Prelude.{Option, Some}
 use Rattle.sock_words.specs.declared.plain.Plan.{Plan}
 use Rattle.sock_words.specs.declared.outcome.Outcome.{Outcome}
-use Rattle.sock_words.specs.Words.{socket_id, socket_id_slot, socket_id_version, vref_version}
+use Rattle.sock_words.specs.PackedWords.{socket_id, socket_id_slot, socket_id_version, vref_version}
 use Rattle.sock_model.specs.declared.view.View.{View}
 use Rattle.sock_model.specs.References.{slot_facts}
-use Rattle.seat_programs.specs.Calls.{CreateLife, StoreName, LoadName}
+use Rattle.seat_programs.specs.TableSteps.{CreateLife, StoreName, LoadName}
 use Rattle.seat_programs.specs.Cores.{Core}
 use Rattle.seat_programs.specs.declared.task.Task.{Task}
 use Rattle.seat_programs.specs.Programs.{Do}
 use Rattle.seat_programs.specs.Ticks.{Moment, AreAnswered, quiet, ticked, run}
-use Rattle.seat_programs.specs.Told.{AreTasks, Made}
-use Rattle.own_decisions.specs.Below.programs_allowed.specs.program_steps.specs.GoesOn.{GoesOn}
-use Rattle.own_decisions.specs.Below.programs_allowed.specs.program_steps.specs.Sound.{Sound, AllRest, AreFitting, state, views_after, views_along}
-use Rattle.own_decisions.specs.Below.programs_allowed.specs.program_steps.proofs.Cases.{goes_first, elem_there}
+use Rattle.seat_programs.specs.Explained.{AreTasks, Made}
+use Rattle.own_decisions.specs.Below.programs_allowed.specs.program_steps.specs.ProgramGoesOn.{GoesOn}
+use Rattle.own_decisions.specs.Below.programs_allowed.specs.program_steps.specs.SoundSeats.{Sound, AllRest, AreFitting, state, views_after, views_along}
+use Rattle.own_decisions.specs.Below.programs_allowed.specs.program_steps.proofs.TickCases.{goes_first, elem_there}
 use Rattle.own_decisions.specs.Below.programs_allowed.specs.sock_runs.proofs.LinkTicks.{RetriesGo}
-use Rattle.own_decisions.specs.Below.programs_allowed.specs.sock_runs.proofs.Ticks.{sound_ticks}
-use Rattle.own_decisions.specs.Below.outcome_stories.specs.Causes.{Asks}
+use Rattle.own_decisions.specs.Below.programs_allowed.specs.sock_runs.proofs.TicksKeepSeatsSound.{sound_ticks}
+use Rattle.own_decisions.specs.Below.outcome_stories.specs.StoryStepCauses.{Asks}
 use Rattle.own_decisions.specs.Below.outcome_stories.specs.Explains.{step}
-use Rattle.own_decisions.specs.Below.outcome_stories.specs.Kept.{Story}
-use Rattle.own_decisions.specs.Below.outcome_stories.specs.Stories.{Event, In, trace_of}
+use Rattle.own_decisions.specs.Below.outcome_stories.specs.KeptStory.{Story}
+use Rattle.own_decisions.specs.Below.outcome_stories.specs.OperationStories.{Event, In, trace_of}
 use Rattle.own_decisions.specs.Below.outcome_stories.proofs.Delivered.{orders_of}
-use Rattle.own_decisions.specs.Below.outcome_ticks.proofs.Events.{event, cause_of, given_by, last_some}
+use Rattle.own_decisions.specs.Below.outcome_ticks.proofs.EventsOfGoodStory.{event, cause_of, given_by, last_some}
 use Rattle.own_decisions.specs.Below.outcome_causes.proofs.Final.{final}
-use Rattle.own_decisions.specs.Below.outcome_causes.proofs.Lives.{World, task_of, tells_of}
+use Rattle.own_decisions.specs.Below.outcome_causes.proofs.LivesByTask.{World, task_of, tells_of}
 use Rattle.own_decisions.specs.Below.outcome_stories.proofs.Members.{from_trace, to_trace}
-use Rattle.own_decisions.specs.Below.outcome_ticks.proofs.Ticks.{tick_story}
+use Rattle.own_decisions.specs.Below.outcome_ticks.proofs.TicksKeepStory.{tick_story}
 use Rattle.own_decisions.specs.Below.outcome_causes.proofs.Worlds.{world_of}
-use Rattle.own_decisions.specs.accept_counts.specs.Refused.{Deed, DidStep, DidAt, DidIn}
+use Rattle.own_decisions.specs.accept_counts.specs.RefusedOrDropped.{Deed, DidStep, DidAt, DidIn}
 
 -- ## What was found under names
 
@@ -92,7 +92,7 @@ module _ (p : Plan) (clients : List (List Task)) (are : AreTasks p clients) (c :
   -- of an earlier core of the run, and its story
   module _ (before : Core) (views : List View) (fs : List Event) (losses : List ℕ) (told : Story p clients true before views fs losses) (part : (e : Event) → In e fs → In e es) where
     -- a socket that was stored under a name by then is that of a life that was made under it, and had its link by then
-    pub named_life : (n s : ℕ) → (client o found : ℕ) × In (event client o (StoreName n (s + 1)) found) fs → (k : ℕ) × Made clients c.outcomes n k (socket_id_slot s) (socket_id_version s) × (socket_id_slot s < p.slots) × (0 < Rattle.sock_model.specs.Slots.count (Rattle.sock_model.specs.Weights.is_linked (socket_id_version s) k) (slot_facts (state before views) (socket_id_slot s)))
+    pub named_life : (n s : ℕ) → (client o found : ℕ) × In (event client o (StoreName n (s + 1)) found) fs → (k : ℕ) × Made clients c.outcomes n k (socket_id_slot s) (socket_id_version s) × (socket_id_slot s < p.slots) × (0 < Rattle.sock_model.specs.SocketSlotLaw.count (Rattle.sock_model.specs.MarkWeights.is_linked (socket_id_version s) k) (slot_facts (state before views) (socket_id_slot s)))
     named_life n s (client, o, found, m) = let b = cause_of p clients losses fs told.good (event client o (StoreName n (s + 1)) found) m in let f = b.cause.fits in let k : ℕ = f.0 in let i : ℕ = f.1 in let word : ℕ = f.2 in
         let birth : In (event client o (CreateLife i k) word) fs = b.part (event client o (CreateLife i k) word) (from_trace client o b.story (step (CreateLife i k) word) f.4) in
         let means = (cause_of p clients losses fs told.good (event client o (CreateLife i k) word) birth).cause.means in
@@ -103,5 +103,5 @@ module _ (p : Plan) (clients : List (List Task)) (are : AreTasks p clients) (c :
           k,
           subst (λ z. Made clients c.outcomes n k (socket_id_slot s) z) parts.1 (subst (λ z. Made clients c.outcomes n k z (vref_version word)) parts.0 made),
           subst (λ z. z < p.slots) parts.0 means.0,
-          subst (λ z. 0 < Rattle.sock_model.specs.Slots.count (Rattle.sock_model.specs.Weights.is_linked (socket_id_version s) k) (slot_facts (state before views) z)) parts.0 (omega (arith, given, tie)),
+          subst (λ z. 0 < Rattle.sock_model.specs.SocketSlotLaw.count (Rattle.sock_model.specs.MarkWeights.is_linked (socket_id_version s) k) (slot_facts (state before views) z)) parts.0 (omega (arith, given, tie)),
         )

@@ -7,12 +7,12 @@ use Rattle.corr_core.specs.Law.{pair, is_advance, is_attempt}
 use Rattle.corr_core.specs.declared.marks.Note.{Note}
 use Rattle.corr_core.specs.declared.marks.Note.TheVariants.{Attempt}
 use Rattle.corr_core.specs.declared.marks.Noted.{Noted}
-use Rattle.corr_core.proofs.Notes.{only_le, only-else, pair-same, pair-at, pair-else, pair-else_first}
-use Rattle.id_rule.specs.Lawful.{notes_of}
+use Rattle.corr_core.proofs.NoteSums.{only_le, only-else, pair-same, pair-at, pair-else, pair-else_first}
+use Rattle.id_rule.specs.LawfulIdTable.{notes_of}
 use Rattle.sock_message.specs.Asked.{Asked}
 use Rattle.call_whys.specs.call_told.specs.Least.{is_made_for}
-use Rattle.call_whys.specs.call_places.proofs.Weights.{term, each_less, all_zero, total_sum}
-use Rattle.attempts_told.specs.Attempts.{advanced_to, last_among}
+use Rattle.call_whys.specs.call_places.proofs.NoteWeights.{term, each_less, all_zero, total_sum}
+use Rattle.attempts_told.specs.CountedAttempts.{advanced_to, last_among}
 use Rattle.sock_words.specs.Totals.{total}
 
 attempt_is : (f n : ℕ) (y : Note Asked) → 0 < is_attempt f n y → y ≡ Attempt f n

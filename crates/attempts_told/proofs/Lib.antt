@@ -1,7 +1,7 @@
-pub mod Bounds
-pub mod Senders
+pub mod BoundsOfAttempts
+pub mod SendersWithCalls
 pub mod Last
-pub mod Reading
-pub mod Retried
+pub mod ReadingKeepsAttempts
+pub mod RetriedAdvances
 pub mod RetriedLast
-pub mod Told
+pub mod AttemptsOfCallsTold

@@ -5,7 +5,7 @@ use mathlib.Core.Option.{some}
 use native.Mathlib.Decide.{ℕ_discrete, dec_lt}
 use lib.ListN.{get_elem?}
 use Rattle.sock_io.specs.declared.link.Out.{Ghosts}
-use Rattle.sock_io.specs.Link.{OutState}
+use Rattle.sock_io.specs.LinkHalves.{OutState}
 use Rattle.sock_words.specs.declared.plain.Plan.{Plan}
 use Rattle.sock_words.specs.declared.place_word.PlaceWord.{PlaceWord}
 use Rattle.sock_words.specs.declared.vref.Vref.{Vref}
@@ -17,29 +17,29 @@ use Rattle.corr_core.specs.declared.marks.Note.TheVariants.{Made, Attempt}
 use Rattle.corr_core.specs.declared.marks.Noted.{Noted}
 use Rattle.corr_core.specs.declared.marks.Plan as id_plan
 use Rattle.corr_core.specs.declared.marks.View.{View}
-use Rattle.corr_core.proofs.Notes.{only-at, pair-at, pair-else, pair-else_first, total_some}
-use Rattle.id_rule.specs.Lawful.{notes_of}
+use Rattle.corr_core.proofs.NoteSums.{only-at, pair-at, pair-else, pair-else_first, total_some}
+use Rattle.id_rule.specs.LawfulIdTable.{notes_of}
 use Rattle.sock_message.specs.Asked.{Asked}
 use Rattle.corr_id.specs.declared.calls.IdLock.{IdLock}
-use Rattle.corr_id.specs.Calls.{Found, FoundUpTo, OutOf, is_saw}
+use Rattle.corr_id.specs.SeatBehindIdCalls.{Found, FoundUpTo, OutOf, is_saw}
 use Rattle.call_whys.specs.Below.RpcClient.Told.{Told}
 use Rattle.call_whys.specs.Below.CallErrors.Retry.{Retry}
-use Rattle.call_whys.specs.Below.CallAttempts.Both.{Both}
-use Rattle.call_whys.specs.Below.CallAttempts.Retrying.{Locked, Overtaken, WentAgain, had_ended, overtaken, went_again}
-use Rattle.call_whys.specs.Below.CallRun.Readers.{LinkReader}
+use Rattle.call_whys.specs.Below.CallAttempts.ClientAtBothTables.{Both}
+use Rattle.call_whys.specs.Below.CallAttempts.WaitingRetries.{Locked, Overtaken, WentAgain, had_ended, overtaken, went_again}
+use Rattle.call_whys.specs.Below.CallRun.ReadersOfLinks.{LinkReader}
 use Rattle.call_whys.specs.Below.CallRun.Threads.{RanWith, ids_of}
-use Rattle.call_whys.specs.call_told.proofs.Lists.{all_at}
-use Rattle.call_whys.specs.call_places.specs.Counted.{HaveNotesOf}
-use Rattle.call_whys.specs.call_places.specs.Deeds.{Deed, operates, retries}
-use Rattle.call_whys.specs.call_places.proofs.Weights.{each_less}
+use Rattle.call_whys.specs.call_told.proofs.ListElementsByPlace.{all_at}
+use Rattle.call_whys.specs.call_places.specs.ClientNotesCounted.{HaveNotesOf}
+use Rattle.call_whys.specs.call_places.specs.DeedsOfCallClient.{Deed, operates, retries}
+use Rattle.call_whys.specs.call_places.proofs.NoteWeights.{each_less}
 use Rattle.call_whys.specs.call_places.proofs.Still.{is_retry, advances, decided_still}
-use Rattle.call_whys.specs.call_places.proofs.Counts.{by_retry, Grows}
-use Rattle.call_whys.specs.call_places.proofs.Ids.{IdLaws, id_parts}
-use Rattle.call_whys.specs.call_places.proofs.Clients.{Client, view_of, deeds_of}
-use Rattle.call_whys.specs.call_places.proofs.Places.{all, noted_among, views_are}
-use Rattle.call_whys.specs.call_places.specs.sock_deeds.proofs.Places.{map_back}
-use Rattle.attempts_told.proofs.Retried.{Moves, decided_moves, Founded, taken_out, all_founded}
-use Rattle.sock_words.specs.Words.{id_slot, id_first}
+use Rattle.call_whys.specs.call_places.proofs.RetryAndIdCounts.{by_retry, Grows}
+use Rattle.call_whys.specs.call_places.proofs.IdsOfRetries.{IdLaws, id_parts}
+use Rattle.call_whys.specs.call_places.proofs.ClientPlaces.{Client, view_of, deeds_of}
+use Rattle.call_whys.specs.call_places.proofs.CallPlaceOrders.{all, noted_among, views_are}
+use Rattle.call_whys.specs.call_places.specs.sock_deeds.proofs.ListPlaces.{map_back}
+use Rattle.attempts_told.proofs.RetriedAdvances.{Moves, decided_moves, Founded, taken_out, all_founded}
+use Rattle.sock_words.specs.PackedWords.{id_slot, id_first}
 use Rattle.sock_words.specs.Totals.{total}
 
 -- a retry that counts as one of this attempt of the call with this id

@@ -1,3 +1,3 @@
-pub mod Attempts
+pub mod CountedAttempts
 pub use Rattle.call_whys
 pub use Rattle.call_whys.specs.Below

@@ -1,8 +1,8 @@
 ghost use Rattle.std.specs.Prelude.{◌≡◌, ◌+◌, ◌≤◌, pos, [], length, IfOk};
 ghost use Rattle.brpc_model.specs.Frame.{body_limit};
 ghost use Rattle.brpc_model.specs.Spelling.{meta_bytes};
-ghost use Rattle.rpc_meta.specs.Meaning.{meaning};
-ghost use Rattle.rpc_meta.specs.Writing.{HasPart};
+ghost use Rattle.rpc_meta.specs.MetaMeaning.{meaning};
+ghost use Rattle.rpc_meta.specs.MetaWriting.{HasPart};
 
 use io_buf::{BlockPool, IoBuf, NoMemory};
 use prpc_frame::{Cutter, RpcMeta, encode};

@@ -6,22 +6,22 @@ use Rattle.brpc_model.specs.Commands.{Command, Replay, Sim, Run, Gen, Load, Fram
 use Rattle.brpc_model.specs.Items.{Item}
 use Rattle.brpc_model.specs.Operations.{Turn}
 use Rattle.brpc_model.specs.Script.{script_of}
-use Rattle.brpc_model.specs.Stream.{Ending, Rest, Fault, stream}
-use Rattle.frame_print.specs.Printed.{frames_limit, Edges, IsRest, IsFaulty, EndsAs}
+use Rattle.brpc_model.specs.FrameStream.{Ending, Rest, Fault, stream}
+use Rattle.frame_print.specs.PrintedFrames.{frames_limit, Edges, IsRest, IsFaulty, EndsAs}
 use Rattle.frame_print.specs.declared.print.StreamEnd.{StreamEnd}
 use Rattle.frame_print.specs.declared.print.StreamEnd.TheVariants as end_
 use Rattle.frame_print.specs.declared.print.PrintFault.{PrintFault}
 use Rattle.frame_print.specs.declared.print.PrintFault.TheVariants as fault_
-use Rattle.sock_io.specs.Link.{end_of}
+use Rattle.sock_io.specs.LinkHalves.{end_of}
 use Rattle.sock_io.specs.declared.link.Mode.{Mode}
-use Rattle.sock_io.specs.Shape.{ShapedState, shaped_out}
-use Rattle.sock_io.specs.Memory.{MemInState, mem_in}
-use Rattle.loop_link.specs.Serving.{LoopInState, loop_in}
-use Rattle.script_links.specs.Offered.{TellOffers}
+use Rattle.sock_io.specs.ShapeOfPuts.{ShapedState, shaped_out}
+use Rattle.sock_io.specs.LinksInMemory.{MemInState, mem_in}
+use Rattle.loop_link.specs.ServingFedBytes.{LoopInState, loop_in}
+use Rattle.script_links.specs.OfferedLinks.{TellOffers}
 use Rattle.script_run.specs.Played.{TellClosed}
-use Rattle.serve_port.specs.Serving.{ServedConnection}
-use Rattle.brpc_eng.specs.Streams.{script_limit, IsAtEnd}
-use Rattle.brpc_eng.specs.Answers.{HaveRisen, StandStill, AllTell, edges_of, Input, Output, Links, TextWritten, Ran, Reported, MemoryRanOut, OpenFailed, RanOnThreads, ThreadsReported, ThreadsRanOut, ThreadsNotOpened, ScriptEnd, FaultWritten, Replayed, RanScript, FaultyScript, SourceFailed, TooLong, NoMemory, Answers, NoCommand, Generated, Generates, LoadRan, LoadSummed, LoadRanOut, LoadNotOpened, Loads, PrintsInput, Replays, Simulates, RunsOnThreads, ServeEnds, ServedWhole, NotAccepted, ConnectionFailed, MetFault, ServeRanOut, ServesPort, frames_status, FramesPrinted}
+use Rattle.serve_port.specs.ServingConnections.{ServedConnection}
+use Rattle.brpc_eng.specs.WholeSourceRead.{script_limit, IsAtEnd}
+use Rattle.brpc_eng.specs.ProgramAnswers.{HaveRisen, StandStill, AllTell, edges_of, Input, Output, Links, TextWritten, Ran, Reported, MemoryRanOut, OpenFailed, RanOnThreads, ThreadsReported, ThreadsRanOut, ThreadsNotOpened, ScriptEnd, FaultWritten, Replayed, RanScript, FaultyScript, SourceFailed, TooLong, NoMemory, Answers, NoCommand, Generated, Generates, LoadRan, LoadSummed, LoadRanOut, LoadNotOpened, Loads, PrintsInput, Replays, Simulates, RunsOnThreads, ServeEnds, ServedWhole, NotAccepted, ConnectionFailed, MetFault, ServeRanOut, ServesPort, frames_status, FramesPrinted}
 
 -- ## Status 2
 

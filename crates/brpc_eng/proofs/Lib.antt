@@ -1,11 +1,11 @@
-pub mod Known
-pub mod Pieces
+pub mod KnownBytes
+pub mod PiecesTakeBytes
 pub mod Untroubled
 pub mod Short
-pub mod Reported
+pub mod OneFittingReport
 pub mod Replays
 pub mod GeneratedLemmas
 pub mod Exactly
 pub mod Statuses
 pub mod OnThreads
-pub mod Serving
+pub mod ServeCommandEnding

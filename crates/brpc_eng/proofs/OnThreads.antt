@@ -2,13 +2,13 @@
 use Rattle.std.proofs.Common.{◌≡◌, ◌≢◌, ℕ, ◌⊎◌, inl, inr, true, List, length, Vec, Result, Ok, Err, IfOk, OnOk, IsErrOf, refl, subst, arith}
 use Rattle.std.specs.declared.alloc.Global.{Global}
 use Rattle.brpc_model.specs.Items.{Item}
-use Rattle.brpc_model.specs.Link.{LinkEnd}
+use Rattle.brpc_model.specs.ReturnedLink.{LinkEnd}
 use Rattle.sock_io.specs.declared.link.Mode.{Mode}
 use Rattle.sock_io.specs.declared.link.OpenFault.{OpenFault}
 use Rattle.sock_io.specs.declared.link.OpenFault.TheVariants as opening
-use Rattle.script_links.specs.Given.{AreNumbered, AreUntouched, IsBeginning, specs_of}
-use Rattle.script_threads.specs.Served.{IsShort, IsServedText, IsCompleteText}
-use Rattle.brpc_eng.specs.Answers as answer
+use Rattle.script_links.specs.LinksGivenBack.{AreNumbered, AreUntouched, IsBeginning, specs_of}
+use Rattle.script_threads.specs.ServedLinksOfReport.{IsShort, IsServedText, IsCompleteText}
+use Rattle.brpc_eng.specs.ProgramAnswers as answer
 
 -- what a run leaves where a link couldn't be opened
 abbrev LeftUnopened : Result (Vec ℕ Global) OpenFault → answer.Links → Type 0

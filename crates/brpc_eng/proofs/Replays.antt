@@ -8,16 +8,16 @@ use Rattle.brpc_eng.specs.declared.commands.Command.{Command}
 use Rattle.brpc_eng.specs.declared.draw.Draw.{Draw}
 use Rattle.brpc_eng.specs.declared.commands.Command.TheVariants.{Sim, Run, Gen, Load, Frames}
 use Rattle.sock_io.specs.declared.link.Mode.{Mode}
-use Rattle.seat_programs.specs.Scripts.{drawn_turns}
+use Rattle.seat_programs.specs.ScriptSetupToEnding.{drawn_turns}
 use Rattle.brpc_eng.specs.Command.{meaning}
-use Rattle.brpc_eng.specs.Streams.{script_limit, IsAtEnd, ReadWhole}
+use Rattle.brpc_eng.specs.WholeSourceRead.{script_limit, IsAtEnd, ReadWhole}
 use Rattle.brpc_eng.specs.declared.input.NoScript.{NoScript}
 use Rattle.brpc_eng.specs.declared.input.NoScript.TheVariants.{Unread, Faulty}
 use Rattle.brpc_eng.specs.declared.streams.InputFault.{InputFault}
 use Rattle.brpc_eng.specs.declared.streams.InputFault.TheVariants as unread
 use Rattle.brpc_eng.specs.Input.{CameAs, NoScriptTold}
-use Rattle.brpc_eng.specs.Answers as answer
-use Rattle.frame_print.specs.Printed.{Edges, PrintsFrames}
+use Rattle.brpc_eng.specs.ProgramAnswers as answer
+use Rattle.frame_print.specs.PrintedFrames.{Edges, PrintsFrames}
 use Rattle.frame_print.specs.declared.print.StreamEnd.{StreamEnd}
 use Rattle.frame_print.specs.declared.print.StreamEnd.TheVariants as end_
 use Rattle.frame_print.specs.declared.print.PrintFault.{PrintFault}

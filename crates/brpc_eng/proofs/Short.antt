@@ -5,13 +5,13 @@ use Rattle.std.proofs.lemmas.Fmt.{length-decimal-le}
 use Rattle.std.proofs.lemmas.Grind.{flat_map-append}
 use Rattle.hex.specs.Hex.{lower_digits}
 use Rattle.hex.proofs.HexLemmas.{length-encode_with}
-use Rattle.sock_words.specs.Printed.{word, hex_text}
-use Rattle.brpc_model.specs.Drawn.{draws, state_behind, shaped, setup, call_of, gen_item, gen_size, gen_operations, gen_draws, gen_clients, generated}
+use Rattle.sock_words.specs.PrintedWords.{word, hex_text}
+use Rattle.brpc_model.specs.DrawnSeatsAndScripts.{draws, state_behind, shaped, setup, call_of, gen_item, gen_size, gen_operations, gen_draws, gen_clients, generated}
 use Rattle.brpc_model.specs.Items.{Item, Open, Client, Send}
 use Rattle.brpc_model.specs.ScriptText.{option_text, item_text, printed_items, script_text}
-use Rattle.script_print.proofs.Again.{read_back}
+use Rattle.script_print.proofs.PrintedScriptReadAgain.{read_back}
 use Rattle.script_draw.proofs.Generated.{generated_back}
-use Rattle.brpc_eng.specs.Streams.{script_limit}
+use Rattle.brpc_eng.specs.WholeSourceRead.{script_limit}
 
 -- ## Parts of a line
 

@@ -7,33 +7,33 @@ use Rattle.sock_words.specs.declared.outcome.Outcome.TheVariants.{Unopened, Gone
 use Rattle.brpc_model.specs.Items.{Item, Shape, Open, Send, Call, Fail, CallLine, name_at}
 use Rattle.brpc_model.specs.Operations.{Operation, link_names, link_shapes, operations, name_of}
 use Rattle.brpc_model.specs.Script.{script_of}
-use Rattle.brpc_model.specs.Places.{names}
-use Rattle.brpc_model.specs.Link.{LinkEnd}
+use Rattle.brpc_model.specs.LinePlaceFaults.{names}
+use Rattle.brpc_model.specs.ReturnedLink.{LinkEnd}
 use Rattle.brpc_model.specs.Report.{Report, report_text}
 use Rattle.brpc_model.specs.PlaceWords.{word_at, outcome_by_word, AreTold}
 use Rattle.brpc_model.specs.Run.{Run, IsOperation, HasOutcome, IsLinkOf}
-use Rattle.brpc_model.specs.Outcomes.{SendCause, Cause}
-use Rattle.brpc_model.specs.Fits.{Fits}
+use Rattle.brpc_model.specs.OutcomeCauses.{SendCause, Cause}
+use Rattle.brpc_model.specs.ReportFits.{Fits}
 use Rattle.brpc_model.specs.Complete.{Completeness, FitsWhole, IsUntroubled, IsSilentUnserved, SendDone}
 use Rattle.seat_programs.specs.declared.task.Op.TheVariants as ops
 use Rattle.seat_programs.specs.Cores.{Core}
 use Rattle.seat_programs.specs.Tasks.{name_number, numbered, op_of, plan_of}
-use Rattle.seat_programs.specs.Scripts.{Reports, all_tasks, is_callless}
-use Rattle.seat_programs.specs.ToldCalls.{Fixed, Order, ExplainedCalls}
-use Rattle.script_threads.specs.script_parts.specs.report_fits.specs.Ends.{AreEndsOf}
-use Rattle.script_threads.specs.script_parts.specs.script_facts.proofs.Lists.{Has, has_from, contains_from, all_at, some_is}
-use Rattle.script_threads.specs.script_parts.specs.report_fits.proofs.Callless.{not_later}
+use Rattle.seat_programs.specs.ScriptSetupToEnding.{Reports, all_tasks, is_callless}
+use Rattle.seat_programs.specs.ExplainedCalls.{Fixed, Order, ExplainedCalls}
+use Rattle.script_threads.specs.script_parts.specs.report_fits.specs.ScriptLinkEnds.{AreEndsOf}
+use Rattle.script_threads.specs.script_parts.specs.script_facts.proofs.FilteredLists.{Has, has_from, contains_from, all_at, some_is}
+use Rattle.script_threads.specs.script_parts.specs.report_fits.proofs.CalllessScript.{not_later}
 use Rattle.script_threads.specs.script_parts.specs.script_facts.proofs.TaskLemmas.{numbers_at, asks_at, mentions_send}
-use Rattle.script_threads.specs.script_parts.specs.report_fits.proofs.Reported.{SaidOrPlaced}
-use Rattle.script_threads.specs.script_parts.specs.script_facts.proofs.Known as known
-use Rattle.script_threads.specs.script_parts.specs.report_fits.proofs.Lines.{Given}
-use Rattle.script_threads.specs.script_parts.specs.report_fits.proofs.Lives as lives
-use Rattle.script_threads.specs.script_parts.specs.report_fits.proofs.Causes as causes
-use Rattle.script_threads.specs.script_parts.specs.report_fits.proofs.Fitting.{fits_run}
-use Rattle.script_threads.specs.script_parts.specs.report_fits.proofs.Places.{lateness, known_of}
+use Rattle.script_threads.specs.script_parts.specs.report_fits.proofs.ReportedOutcomes.{SaidOrPlaced}
+use Rattle.script_threads.specs.script_parts.specs.script_facts.proofs.KnownScript as known
+use Rattle.script_threads.specs.script_parts.specs.report_fits.proofs.LinkOrderLines.{Given}
+use Rattle.script_threads.specs.script_parts.specs.report_fits.proofs.LivesInReport as lives
+use Rattle.script_threads.specs.script_parts.specs.report_fits.proofs.OperationCauses as causes
+use Rattle.script_threads.specs.script_parts.specs.report_fits.proofs.ReportedRunFitting.{fits_run}
+use Rattle.script_threads.specs.script_parts.specs.report_fits.proofs.PrintableCallRun.{lateness, known_of}
 use Rattle.calls_over.specs.Below.run_theorems.specs.Unserved.{IsInTime}
-use Rattle.calls_over.specs.Below.run_theorems.proofs.Runs.{not_early}
-use Rattle.script_threads.specs.script_parts.specs.calls_done.proofs.Links.{shape_at}
+use Rattle.calls_over.specs.Below.run_theorems.proofs.RunReportFits.{not_early}
+use Rattle.script_threads.specs.script_parts.specs.calls_done.proofs.FaultlessLinks.{shape_at}
 
 -- ## Links without a server
 

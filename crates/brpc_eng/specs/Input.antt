@@ -6,8 +6,8 @@ use Rattle.brpc_model.specs.Script.{script_of}
 use Rattle.brpc_eng.specs.declared.input.NoScript.{NoScript}
 use Rattle.brpc_eng.specs.declared.input.NoScript.TheVariants.{Unread, Faulty}
 use Rattle.brpc_eng.specs.declared.streams.InputFault.TheVariants as unread
-use Rattle.brpc_eng.specs.Streams.{script_limit, IsAtEnd}
-use Rattle.brpc_eng.specs.Answers.{Output, WroteNothing, FaultWritten}
+use Rattle.brpc_eng.specs.WholeSourceRead.{script_limit, IsAtEnd}
+use Rattle.brpc_eng.specs.ProgramAnswers.{Output, WroteNothing, FaultWritten}
 
 -- the bytes that came are a script, or they are none, and why
 abbrev pub IsRead : Option (List ℕ) → List ℕ → Result (List Item) NoScript → Type 0

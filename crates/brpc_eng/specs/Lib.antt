@@ -1,5 +1,5 @@
-pub mod Streams
-pub mod Answers
+pub mod WholeSourceRead
+pub mod ProgramAnswers
 pub mod Input
 pub mod Status
 pub mod Command

@@ -1,7 +1,7 @@
 ghost use Rattle.std.specs.Prelude.{map, string_bytes};
-ghost use Rattle.script_links.specs.Offered.{TellOffers};
+ghost use Rattle.script_links.specs.OfferedLinks.{TellOffers};
 ghost use Rattle.script_run.specs.Played.{TellClosed};
-ghost use Rattle.brpc_eng.specs.Answers.{UnusedLinker, Answers, CountsStand, faults_over, linker_over, sink_over, source_over};
+ghost use Rattle.brpc_eng.specs.ProgramAnswers.{UnusedLinker, Answers, CountsStand, faults_over, linker_over, sink_over, source_over};
 ghost use Rattle.brpc_eng.specs.Status.{number_of};
 
 use crate::commands::{Command, read_command};

@@ -1,6 +1,6 @@
 ghost use Rattle.std.specs.Prelude.{◌≡◌, ◌≢◌};
 ghost use Rattle.brpc_eng.specs.Status.{number_of};
-ghost use Rattle.brpc_eng.specs.Answers.{FramesPrinted, frames_status, sink_over, source_over};
+ghost use Rattle.brpc_eng.specs.ProgramAnswers.{FramesPrinted, frames_status, sink_over, source_over};
 
 use crate::status::Status;
 use frame_print::{PrintFault, StreamEnd, print_frames};

@@ -1,6 +1,6 @@
 ghost use Rattle.std.specs.Prelude.{◌≡◌};
 ghost use Rattle.brpc_eng.specs.Status.{number_of};
-ghost use Rattle.brpc_eng.specs.Answers.{Generated, sink_over};
+ghost use Rattle.brpc_eng.specs.ProgramAnswers.{Generated, sink_over};
 
 use crate::draw::Draw;
 use crate::status::Status;

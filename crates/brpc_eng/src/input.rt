@@ -1,11 +1,11 @@
 ghost use Rattle.std.specs.Prelude.{◌≡◌, ◌≢◌, true, IfErr, IfOk, IsErrOf, OnOk};
 ghost use Rattle.std.specs.List.{list_all};
-ghost use Rattle.sock_io.specs.Causes.{Rose};
-ghost use Rattle.script_links.specs.Given.{has_piece};
-ghost use Rattle.script_threads.specs.Served.{IsShort};
+ghost use Rattle.sock_io.specs.FaultCauses.{Rose};
+ghost use Rattle.script_links.specs.LinksGivenBack.{has_piece};
+ghost use Rattle.script_threads.specs.ServedLinksOfReport.{IsShort};
 ghost use Rattle.brpc_eng.specs.Input.{CameAs, NoScriptTold};
 ghost use Rattle.brpc_eng.specs.Status.{number_of};
-ghost use Rattle.brpc_eng.specs.Answers.{sink_over};
+ghost use Rattle.brpc_eng.specs.ProgramAnswers.{sink_over};
 
 use crate::replay::write_fault;
 use crate::status::Status;

@@ -1,11 +1,11 @@
 ghost use Rattle.std.specs.Prelude.{◌≡◌, ◌≢◌, ◌<◌, ◌^◌, Ok, IfOk};
-ghost use Rattle.brpc_model.specs.Drawn.{generated};
+ghost use Rattle.brpc_model.specs.DrawnSeatsAndScripts.{generated};
 ghost use Rattle.brpc_model.specs.Script.{script_of};
 ghost use Rattle.brpc_model.specs.ScriptText.{script_text};
-ghost use Rattle.script_links.specs.Offered.{TellOffers};
+ghost use Rattle.script_links.specs.OfferedLinks.{TellOffers};
 ghost use Rattle.script_run.specs.Played.{TellClosed};
 ghost use Rattle.brpc_eng.specs.Status.{number_of};
-ghost use Rattle.brpc_eng.specs.Answers.{OpenedNothing, Loaded, linker_over, sink_over};
+ghost use Rattle.brpc_eng.specs.ProgramAnswers.{OpenedNothing, Loaded, linker_over, sink_over};
 
 use crate::draw::Draw;
 use crate::run::write_report;

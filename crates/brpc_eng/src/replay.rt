@@ -1,7 +1,7 @@
-ghost use Rattle.script_links.specs.Offered.{TellOffers};
+ghost use Rattle.script_links.specs.OfferedLinks.{TellOffers};
 ghost use Rattle.script_run.specs.Played.{TellClosed, turns_of};
 ghost use Rattle.brpc_eng.specs.Status.{number_of};
-ghost use Rattle.brpc_eng.specs.Answers.{OpenedNothing, Wrote, FaultWritten, ReplayedInput, by_turns, in_memory, CountsStand, faults_over, linker_over, sink_over, source_over};
+ghost use Rattle.brpc_eng.specs.ProgramAnswers.{OpenedNothing, Wrote, FaultWritten, ReplayedInput, by_turns, in_memory, CountsStand, faults_over, linker_over, sink_over, source_over};
 
 use crate::input::{read_input, tell_fault};
 use crate::run::run_and_report;

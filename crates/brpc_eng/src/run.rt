@@ -1,12 +1,12 @@
 ghost use Rattle.std.specs.Prelude.{◌≡◌, ◌≢◌, true};
 ghost use Rattle.std.specs.List.{list_all};
 ghost use Rattle.sock_io.specs.declared.link.Mode.TheVariants as modes;
-ghost use Rattle.script_links.specs.Given.{has_piece};
-ghost use Rattle.script_links.specs.Offered.{TellOffers};
-ghost use Rattle.script_threads.specs.Served.{IsShort};
+ghost use Rattle.script_links.specs.LinksGivenBack.{has_piece};
+ghost use Rattle.script_links.specs.OfferedLinks.{TellOffers};
+ghost use Rattle.script_threads.specs.ServedLinksOfReport.{IsShort};
 ghost use Rattle.script_run.specs.Played.{TellClosed, turns_of};
 ghost use Rattle.brpc_eng.specs.Status.{number_of};
-ghost use Rattle.brpc_eng.specs.Answers.{OpenedNothing, OpenedBy, Ran, TextWritten, linker_over, sink_over};
+ghost use Rattle.brpc_eng.specs.ProgramAnswers.{OpenedNothing, OpenedBy, Ran, TextWritten, linker_over, sink_over};
 
 use crate::status::Status;
 use script_lang::Script;

@@ -1,7 +1,7 @@
 ghost use Rattle.std.specs.Prelude.{◌≡◌, ℕ, ◌<◌, ◌≤◌, ◌++◌, List, length, vec_len, IfOk, IsErrOf, OnErr, OnOk};
 ghost use Rattle.std.specs.Io.KnownBytes.{Consumes};
-ghost use Rattle.sock_io.specs.Causes.{Rose};
-ghost use Rattle.brpc_eng.specs.Streams.{ReadWhole};
+ghost use Rattle.sock_io.specs.FaultCauses.{Rose};
+ghost use Rattle.brpc_eng.specs.WholeSourceRead.{ReadWhole};
 
 use sock_io::{Failed, Source};
 use std::alloc::Global;

@@ -1,11 +1,11 @@
 ghost use Rattle.std.specs.Prelude.{◌≡◌, ◌≢◌, true};
 ghost use Rattle.std.specs.List.{list_all};
-ghost use Rattle.script_links.specs.Given.{has_piece};
-ghost use Rattle.script_links.specs.Offered.{TellOffers};
-ghost use Rattle.script_threads.specs.Served.{IsShort};
+ghost use Rattle.script_links.specs.LinksGivenBack.{has_piece};
+ghost use Rattle.script_links.specs.OfferedLinks.{TellOffers};
+ghost use Rattle.script_threads.specs.ServedLinksOfReport.{IsShort};
 ghost use Rattle.script_run.specs.Played.{TellClosed};
 ghost use Rattle.brpc_eng.specs.Status.{number_of};
-ghost use Rattle.brpc_eng.specs.Answers.{OpenedNothing, OpenedBy, RanOnThreads, ReplayedInput, RunTold, CountsStand, run_mode, faults_over, linker_over, sink_over, source_over};
+ghost use Rattle.brpc_eng.specs.ProgramAnswers.{OpenedNothing, OpenedBy, RanOnThreads, ReplayedInput, RunTold, CountsStand, run_mode, faults_over, linker_over, sink_over, source_over};
 
 use crate::input::{read_input, tell_fault};
 use crate::run::write_report;

@@ -1,2 +1,2 @@
-mod Answered
-mod Taken
+mod AnswersOfSameWords
+mod VectorIteratorTaken

@@ -1,4 +1,4 @@
-ghost use Rattle.brpc_eng.specs.Answers.{UnusedLinker};
+ghost use Rattle.brpc_eng.specs.ProgramAnswers.{UnusedLinker};
 
 use crate::run::run_with;
 use loop_link::LoopLinker;

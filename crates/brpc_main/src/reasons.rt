@@ -1,6 +1,6 @@
 ghost use Rattle.std.specs.Prelude.{◌≡◌};
-ghost use Rattle.brpc_eng.specs.Answers.{Wrote, sink_over};
-ghost use Rattle.brpc_main.specs.Reasons.{reason_text};
+ghost use Rattle.brpc_eng.specs.ProgramAnswers.{Wrote, sink_over};
+ghost use Rattle.brpc_main.specs.EarlyEndReasons.{reason_text};
 
 use sock_io::{Sink, write_all};
 

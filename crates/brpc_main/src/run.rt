@@ -1,11 +1,11 @@
 ghost use Rattle.std.specs.Prelude.{◌≡◌, ◌⊎◌, IfOk, drop};
 ghost use Rattle.std.specs.Process.{exit_status};
 ghost use Rattle.std.specs.Vec.Iter.{into_iter_items};
-ghost use Rattle.script_links.specs.Offered.{TellOffers};
+ghost use Rattle.script_links.specs.OfferedLinks.{TellOffers};
 ghost use Rattle.brpc_eng.specs.script_run.specs.Played.{TellClosed};
-ghost use Rattle.brpc_eng.specs.Answers.{UnusedLinker, Answers, Wrote, linker_over, sink_over, source_over};
-ghost use Rattle.brpc_main.specs.Reasons.{reason_text};
-ghost use Rattle.brpc_main.specs.Words.{arguments, words_behind};
+ghost use Rattle.brpc_eng.specs.ProgramAnswers.{UnusedLinker, Answers, Wrote, linker_over, sink_over, source_over};
+ghost use Rattle.brpc_main.specs.EarlyEndReasons.{reason_text};
+ghost use Rattle.brpc_main.specs.CommandLineWords.{arguments, words_behind};
 
 use crate::reasons::explain;
 use brpc_eng::brpc;

@@ -1,6 +1,6 @@
 -- The words of the command line: which of the commands they ask for.
 use Rattle.std.specs.Prelude.{ℕ, ◌*◌, nat_le, if◌then◌else◌, List, [], ◌∷◌, codes, bytes_eq, Option, Some, None, Ok, Err, option_map, option_and_then}
-use Rattle.brpc_model.specs.Reads.{Reads}
+use Rattle.brpc_model.specs.LinePartReads.{Reads}
 use Rattle.brpc_model.specs.Text.{number_in}
 
 -- what the program is asked to do

@@ -1,12 +1,12 @@
 -- What `frames` prints of a stream.
 use Rattle.std.specs.Prelude.{ℕ, List, [], ◌∷◌, ◌++◌, flat_map, codes, decimal}
 use Rattle.std.specs.Fmt.{signed_decimal}
-use Rattle.sock_words.specs.Printed.{word, hex_text}
+use Rattle.sock_words.specs.PrintedWords.{word, hex_text}
 use Rattle.brpc_model.specs.Wire.{WireFault, Truncated, LongVarint, BadKey, Group}
 use Rattle.brpc_model.specs.Meta.{RequestMeta, ResponseMeta, MetaFault, Wrong, NoService, NoMethod, Neither}
 use Rattle.brpc_model.specs.Spelling.{where_some}
 use Rattle.brpc_model.specs.Frame.{Frame, FrameFault, BadMagic, TooBig, MetaOver, BadMeta, AttachOver}
-use Rattle.brpc_model.specs.Stream.{Ending, Rest, Fault, stream}
+use Rattle.brpc_model.specs.FrameStream.{Ending, Rest, Fault, stream}
 
 -- ` request SERVICE METHOD`
 abbrev pub request_text : RequestMeta → List ℕ

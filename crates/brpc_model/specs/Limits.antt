@@ -2,7 +2,7 @@
 use Rattle.std.specs.Prelude.{◌≡◌, ◌%◌, ◌≤◌, List, length}
 use Rattle.brpc_model.specs.Items.{Item}
 use Rattle.brpc_model.specs.Operations.{operations, clients, link_names, slots, requests, first_version}
-use Rattle.brpc_model.specs.Places.{names}
+use Rattle.brpc_model.specs.LinePlaceFaults.{names}
 
 -- what is within them; the first version is even, as that of each life is
 pub record KeepsLimits (script : List Item) : Type 0 where

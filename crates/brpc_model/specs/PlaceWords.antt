@@ -3,9 +3,9 @@ use Rattle.std.specs.Prelude.{ℕ, ◌≡◌, ◌<◌, ◌+◌, ◌*◌, ◌⊎�
 use Rattle.sock_words.specs.declared.outcome.Outcome.{Outcome}
 use Rattle.sock_words.specs.declared.outcome.Outcome.TheVariants.{Placed, Dropped}
 use Rattle.sock_words.specs.declared.place_word.PlaceWord.{PlaceWord}
-use Rattle.sock_words.specs.Words.{no_place, HasPosition, place_word_dropped, place_word_link, place_word_position}
+use Rattle.sock_words.specs.PackedWords.{no_place, HasPosition, place_word_dropped, place_word_link, place_word_position}
 use Rattle.brpc_model.specs.Items.{Item}
-use Rattle.brpc_model.specs.Link.{LinkEnd}
+use Rattle.brpc_model.specs.ReturnedLink.{LinkEnd}
 use Rattle.brpc_model.specs.Operations.{Label, link_names}
 use Rattle.brpc_model.specs.Report.{LinkLine, Report, report_text}
 

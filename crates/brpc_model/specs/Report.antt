@@ -1,7 +1,7 @@
 -- The report of a run, as data and as text.
 use Rattle.std.specs.Prelude.{ℕ, ◌+◌, List, [], ◌∷◌, ◌++◌, length, take, flat_map, slice_get, decimal, codes, unwrap_or, option_map}
 use Rattle.sock_words.specs.declared.outcome.Outcome.{Outcome}
-use Rattle.sock_words.specs.Printed.{word, hex_text}
+use Rattle.sock_words.specs.PrintedWords.{word, hex_text}
 use Rattle.sock_words.specs.OutcomeText.{outcome_text}
 use Rattle.brpc_model.specs.Items.{Item}
 use Rattle.brpc_model.specs.Operations.{Operation, Label, operations, link_names}

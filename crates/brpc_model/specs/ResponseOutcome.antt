@@ -1,6 +1,6 @@
 -- The outcome that a response gives its call: by the response's error code, unless the frame is compressed.
 use Rattle.std.specs.Prelude.{ℕ, ℤ, pos, zero, Option, Some, None}
-use Rattle.sock_words.specs.Codes.{ERESPONSE}
+use Rattle.sock_words.specs.ErrorCodes.{ERESPONSE}
 use Rattle.sock_words.specs.declared.outcome.Outcome.{Outcome}
 use Rattle.sock_words.specs.declared.outcome.Outcome.TheVariants.{Answered, Peer, CallFailed}
 use Rattle.brpc_model.specs.Meta.{ResponseMeta}

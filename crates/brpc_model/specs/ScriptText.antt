@@ -1,7 +1,7 @@
 -- A script as it is printed.
 use Rattle.std.specs.Prelude.{ℕ, ◌==◌, ◌||◌, not, if◌then◌else◌, List, [], ◌∷◌, ◌++◌, flat_map, filter, codes, decimal, Option, Some, None}
 use Rattle.std.specs.List.{join_with_byte}
-use Rattle.sock_words.specs.Printed.{word, hex_text}
+use Rattle.sock_words.specs.PrintedWords.{word, hex_text}
 use Rattle.brpc_model.specs.Items.{Item, Shape, CallLine, Seat, ClientSeat, ReaderSeat, Slots, Requests, First, Open, Client, Send, Call, Expire, Join, Fail, Hold, Drop, Sched, Tick, To, is_size, is_sched, is_turn}
 use Rattle.brpc_model.specs.Operations.{slots, requests, first_version}
 

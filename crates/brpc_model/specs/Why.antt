@@ -1,8 +1,8 @@
 -- Why an operation has its outcome, said once, over what may be told of a run: a report tells it by the names of its script, a program of seats by numbers.
 -- Each of them gives its own meaning to the words of the records here, and reads the causes from the tables below.
 use Rattle.std.specs.Prelude.{ℕ, ◌≡◌, ◌≢◌, ◌%◌, ◌<◌, ◌≤◌, ◌⊎◌, [], ◌∷◌, ℤ, pos, Some, Contains}
-use Rattle.sock_words.specs.Codes.{EEOF, EFAILEDSOCKET, EREQUESTS, ERESPONSE, ERPCTIMEDOUT}
-use Rattle.sock_words.specs.Words.{vref_version}
+use Rattle.sock_words.specs.ErrorCodes.{EEOF, EFAILEDSOCKET, EREQUESTS, ERESPONSE, ERPCTIMEDOUT}
+use Rattle.sock_words.specs.PackedWords.{vref_version}
 use Rattle.sock_words.specs.declared.outcome.Outcome.{Outcome}
 use Rattle.sock_words.specs.declared.outcome.Outcome.TheVariants.{Opened, SlotsFull, Unopened, Gone, Placed, Dropped, Full, Answered, Peer, CallFailed, Held, Freed, Kept, NotHeld, Failed, Already, Expired, Queued, Late, Crowded, Joined, NotBegun}
 use Rattle.brpc_model.specs.Meta.{ResponseMeta}

@@ -1,13 +1,13 @@
 -- The letter of an attempt is that of its frame.
 use Rattle.std.proofs.Common.{◌≡◌, ℕ, ◌≤◌, ap, ◌∙◌, subst}
 use native.Mathlib.Bridge.{le_prop}
-use Rattle.message_parts.specs.Frames.{ParcelData}
+use Rattle.message_parts.specs.FramesByParts.{ParcelData}
 use Rattle.message_parts.specs.declared.parcel.Parcel.{Parcel}
 use Rattle.message_parts.specs.declared.parcel.Parcel.TheVariants.{Frame}
 use Rattle.sock_message.specs.Asked.{Asked, frame_of, parts_of}
 use Rattle.sock_words.specs.declared.plain.Label.{Label}
 use Rattle.sock_rule.specs.declared.homes.Letter.{Letter}
-use Rattle.call_attempts.specs.Letters.{attempt_label, letter_for}
+use Rattle.call_attempts.specs.AttemptLetters.{attempt_label, letter_for}
 
 -- letters are the same by their bytes, label and owner
 abbrev letter_with : (bytes : Parcel) (label : Label) (owner : ℕ) → label.attempt ≤ 6 → Letter

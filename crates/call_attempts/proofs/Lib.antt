@@ -1,3 +1,3 @@
-pub mod Leaving
-pub mod Locking
+pub mod LeftByAttempt
+pub mod LockingIds
 pub mod Framing

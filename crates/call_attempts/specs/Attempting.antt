@@ -1,8 +1,8 @@
 -- What becomes of an attempt of a call.
 use Rattle.std.specs.Prelude.{◌≡◌, ℕ, [], ◌∷◌, true}
-use Rattle.sock_io.specs.Link.{OutState}
-use Rattle.sock_words.specs.Codes.{EFAILEDSOCKET, EREQUESTS}
-use Rattle.sock_words.specs.Words.{socket_id_version, at_word as packed_at, id_slot, id_first}
+use Rattle.sock_io.specs.LinkHalves.{OutState}
+use Rattle.sock_words.specs.ErrorCodes.{EFAILEDSOCKET, EREQUESTS}
+use Rattle.sock_words.specs.PackedWords.{socket_id_version, at_word as packed_at, id_slot, id_first}
 use Rattle.sock_words.specs.declared.plain.Plan.{Plan}
 use Rattle.sock_words.specs.declared.socket_id.SocketId.{SocketId}
 use Rattle.sock_words.specs.declared.vref.Vref.{Vref}
@@ -10,17 +10,17 @@ use Rattle.sock_model.specs.declared.marks.Mark.TheVariants.{Saw}
 use Rattle.sock_model.specs.declared.view.View.{View}
 use Rattle.sock_rule.specs.Shows.{heading_of}
 use Rattle.sock_rule.specs.declared.homes.Letter.{Letter}
-use Rattle.sock_table.specs.Answers.{Held, GoneFrom, NoneLater, LinkOf}
+use Rattle.sock_table.specs.ReferenceAnswers.{Held, GoneFrom, NoneLater, LinkOf}
 use Rattle.write_chain.specs.declared.entry.Refused.{Refused}
 use Rattle.write_chain.specs.declared.entry.Refused.TheVariants as refused
-use Rattle.write_chain.specs.Sending.{Accepted, RefusedBy}
+use Rattle.write_chain.specs.SendingIntoChain.{Accepted, RefusedBy}
 use Rattle.corr_core.specs.declared.marks.Plan as id_plan
-use Rattle.id_rule.specs.Lawful.{at_index, with_kept}
+use Rattle.id_rule.specs.LawfulIdTable.{at_index, with_kept}
 use Rattle.message_parts.specs.Parcels.{parcel_of}
-use Rattle.call_errors.specs.rpc_client.specs.Sending.{Returned}
-use Rattle.call_writes.specs.Sending.{SeenCalling}
-use Rattle.call_attempts.specs.Both.{Both, PostedFor}
-use Rattle.write_chain.specs.Ready.{refused_of}
+use Rattle.call_errors.specs.rpc_client.specs.SendingOutcomes.{Returned}
+use Rattle.call_writes.specs.MessageFateBesideCalls.{SeenCalling}
+use Rattle.call_attempts.specs.ClientAtBothTables.{Both, PostedFor}
+use Rattle.write_chain.specs.ReadyToSend.{refused_of}
 
 -- the message of a refusal
 abbrev pub message_of : Refused → Letter

@@ -1,8 +1,8 @@
-pub mod Both
-pub mod Letters
+pub mod ClientAtBothTables
+pub mod AttemptLetters
 pub mod Attempting
-pub mod Calling
-pub mod Retrying
+pub mod CallBeginning
+pub mod WaitingRetries
 pub use Rattle.call_writes
 pub use Rattle.write_chain.specs.sock_open
 pub use Rattle.write_chain

@@ -1,18 +1,18 @@
 // An attempt of a call.
 ghost use Rattle.std.specs.Prelude.{◌≡◌, ◌+◌, ◌*◌, ◌<◌, ◌≤◌, ℕ};
-ghost use Rattle.sock_words.specs.Words.{socket_id_slot};
-ghost use Rattle.sock_model.specs.Weights.{is_ref};
+ghost use Rattle.sock_words.specs.PackedWords.{socket_id_slot};
+ghost use Rattle.sock_model.specs.MarkWeights.{is_ref};
 ghost use Rattle.sock_model.specs.SlotRows.{marks_of};
-ghost use Rattle.sock_table.specs.Answers.{Holds};
-ghost use Rattle.sock_table.specs.Refs.{Knows};
-ghost use Rattle.write_chain.specs.Sending.{HasRoom};
-ghost use Rattle.call_errors.specs.rpc_client.specs.Seats.{Idle, MayAct, AtRest};
-ghost use Rattle.call_errors.specs.rpc_client.specs.Acting.{OwnList};
-ghost use Rattle.call_errors.specs.rpc_client.specs.Sending.{RefusedHolds};
-ghost use Rattle.call_errors.specs.Books.{stand_of, HasNoLock, KeepsSeat};
-ghost use Rattle.call_errors.specs.Posting.{PostedBy};
-ghost use Rattle.call_writes.specs.Sending.{Rested};
-ghost use Rattle.call_attempts.specs.Both.{both, IsCallId};
+ghost use Rattle.sock_table.specs.ReferenceAnswers.{Holds};
+ghost use Rattle.sock_table.specs.ReferenceCalls.{Knows};
+ghost use Rattle.write_chain.specs.SendingIntoChain.{HasRoom};
+ghost use Rattle.call_errors.specs.rpc_client.specs.SeatBetweenOperations.{Idle, MayAct, AtRest};
+ghost use Rattle.call_errors.specs.rpc_client.specs.AcceptedClientMessages.{OwnList};
+ghost use Rattle.call_errors.specs.rpc_client.specs.SendingOutcomes.{RefusedHolds};
+ghost use Rattle.call_errors.specs.ClientBooks.{stand_of, HasNoLock, KeepsSeat};
+ghost use Rattle.call_errors.specs.PostedErrors.{PostedBy};
+ghost use Rattle.call_writes.specs.MessageFateBesideCalls.{Rested};
+ghost use Rattle.call_attempts.specs.ClientAtBothTables.{both, IsCallId};
 ghost use Rattle.call_attempts.specs.Attempting.{RefusedFor, DeliveredBy, AttemptedBy};
 
 use crate::call_tables::CallTables;

@@ -1,13 +1,13 @@
 // A call begins.
 ghost use Rattle.std.specs.Prelude.{◌≡◌, ◌+◌, ◌<◌, ℕ, IfOk, IfErr};
 ghost use Rattle.sock_message.specs.Asked.{name_of};
-ghost use Rattle.write_chain.specs.Sending.{HasRoom};
-ghost use Rattle.call_errors.specs.rpc_client.specs.Seats.{MayAct};
-ghost use Rattle.call_errors.specs.rpc_client.specs.Acting.{OwnList};
-ghost use Rattle.call_errors.specs.Books.{HasNoLock};
-ghost use Rattle.call_writes.specs.Sending.{Rested};
-ghost use Rattle.call_attempts.specs.Both.{both};
-ghost use Rattle.call_attempts.specs.Calling.{CalledBy, WantedBy};
+ghost use Rattle.write_chain.specs.SendingIntoChain.{HasRoom};
+ghost use Rattle.call_errors.specs.rpc_client.specs.SeatBetweenOperations.{MayAct};
+ghost use Rattle.call_errors.specs.rpc_client.specs.AcceptedClientMessages.{OwnList};
+ghost use Rattle.call_errors.specs.ClientBooks.{HasNoLock};
+ghost use Rattle.call_writes.specs.MessageFateBesideCalls.{Rested};
+ghost use Rattle.call_attempts.specs.ClientAtBothTables.{both};
+ghost use Rattle.call_attempts.specs.CallBeginning.{CalledBy, WantedBy};
 
 use crate::call_tables::CallTables;
 use crate::letters::letter_of;

@@ -1,12 +1,12 @@
 // Retries that a client keeps.
 ghost use Rattle.std.specs.Prelude.{◌≡◌, ◌+◌, ◌*◌, ◌<◌, ◌≤◌, ◌⊎◌, ℕ, true, false, IfOk, IfErr};
-ghost use Rattle.write_chain.specs.Sending.{HasRoom};
-ghost use Rattle.call_errors.specs.rpc_client.specs.Seats.{MayAct};
-ghost use Rattle.call_errors.specs.rpc_client.specs.Acting.{OwnList};
-ghost use Rattle.call_errors.specs.Books.{books_of, starving, HasNoLock};
-ghost use Rattle.call_writes.specs.Sending.{Rested};
-ghost use Rattle.call_attempts.specs.Both.{both, IsCallId};
-ghost use Rattle.call_attempts.specs.Retrying.{IsStray, IsAtHome, TookNext, WentTo, RetriedBy, GaveUp, RetriedAll, RanOut};
+ghost use Rattle.write_chain.specs.SendingIntoChain.{HasRoom};
+ghost use Rattle.call_errors.specs.rpc_client.specs.SeatBetweenOperations.{MayAct};
+ghost use Rattle.call_errors.specs.rpc_client.specs.AcceptedClientMessages.{OwnList};
+ghost use Rattle.call_errors.specs.ClientBooks.{books_of, starving, HasNoLock};
+ghost use Rattle.call_writes.specs.MessageFateBesideCalls.{Rested};
+ghost use Rattle.call_attempts.specs.ClientAtBothTables.{both, IsCallId};
+ghost use Rattle.call_attempts.specs.WaitingRetries.{IsStray, IsAtHome, TookNext, WentTo, RetriedBy, GaveUp, RetriedAll, RanOut};
 
 use crate::call_tables::CallTables;
 use crate::letters::letter_of;

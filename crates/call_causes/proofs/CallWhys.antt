@@ -4,25 +4,25 @@ use Rattle.std.specs.Prelude.{pos}
 use Rattle.sock_words.specs.declared.plain.Plan.{Plan}
 use Rattle.sock_words.specs.declared.outcome.Outcome.{Outcome}
 use Rattle.sock_words.specs.declared.outcome.Outcome.TheVariants as outcomes
-use Rattle.sock_words.specs.Codes.{is_final}
+use Rattle.sock_words.specs.ErrorCodes.{is_final}
 use Rattle.seat_programs.specs.brpc_model.specs.Frame.{Frame}
-use Rattle.seat_programs.specs.brpc_model.specs.Causes.{HasFault}
+use Rattle.seat_programs.specs.brpc_model.specs.LinkFailureCauses.{HasFault}
 use Rattle.corr_core.specs.declared.marks.Plan.{Plan as IdPlan}
 use Rattle.sock_message.specs.Asked.{Asked, name_of}
 use Rattle.seat_programs.specs.declared.task.Op.{Op}
 use Rattle.seat_programs.specs.declared.task.Op.TheVariants as ops
 use Rattle.seat_programs.specs.declared.task.Task.{Task}
-use Rattle.seat_programs.specs.Told.{IsTask, Became, OpensNone}
-use Rattle.seat_programs.specs.ToldCalls.{Fixed, Order, FoundNone, Seeks, IsExpiredWith}
-use Rattle.story_ticks.specs.call_stories.specs.Lists.{gave_in, times}
+use Rattle.seat_programs.specs.Explained.{IsTask, Became, OpensNone}
+use Rattle.seat_programs.specs.ExplainedCalls.{Fixed, Order, FoundNone, Seeks, IsExpiredWith}
+use Rattle.story_ticks.specs.call_stories.specs.LinkReadingLists.{gave_in, times}
 use Rattle.story_ticks.specs.call_stories.specs.Target.{IsOnCalls, FailedInPart, ByExpiry, ByCompression, ByFrameFault, ByFail, ByReading, BySocketOrRequests, WhyCallInPart, WhyInPart}
 use Rattle.story_ticks.specs.call_stories.specs.Scenes.{Scene, IsOther, IsOpened, SeeksName, IsTaskOf, HasNoneOf, NoneFound, FailedIn, by_expiry, by_compression, by_other, WhyEnded, WhyOwn, ToldOf, was_said, was_sent, was_begun}
 use Rattle.story_ticks.specs.call_stories.specs.Says.{Mark}
-use Rattle.story_ticks.specs.call_stories.proofs.Posts.{or_cases}
-use Rattle.story_ticks.specs.story_steps.proofs.End.{HasEnded, ended_call, one_outcome, call_of, answered, contains_in}
-use Rattle.story_ticks.specs.story_steps.proofs.Whys.{AreAscending, IsDone, is_done, in_contains, why_expire, why_join}
+use Rattle.story_ticks.specs.call_stories.proofs.PostLoopCauses.{or_cases}
+use Rattle.story_ticks.specs.story_steps.proofs.StoryAtRunEnd.{HasEnded, ended_call, one_outcome, call_of, answered, contains_in}
+use Rattle.story_ticks.specs.story_steps.proofs.ExpireAndJoinWhys.{AreAscending, IsDone, is_done, in_contains, why_expire, why_join}
 use Rattle.seat_programs.specs.brpc_model.specs.Why.{HasCode}
-use Rattle.story_ticks.specs.Below.outcome_stories.specs.Stories.{In}
+use Rattle.story_ticks.specs.Below.outcome_stories.specs.OperationStories.{In}
 
 module _ (p : Plan) (q : IdPlan) (clients : List (List Task)) (gives : ℕ → List ℕ) (ascending : (c : ℕ) → AreAscending (get_or clients c [])) (w : Scene) (ms : List Mark) (e : HasEnded p q clients gives w ms) where
   -- where an operation found a name without a socket, those of its client before it found so too
@@ -125,7 +125,7 @@ module _ (p : Plan) (q : IdPlan) (clients : List (List Task)) (gives : ℕ → L
           own_call before why = by_outcome x why has
             where
               ends : (y : Outcome) × Became clients w.core.outcomes a.operation y × WhyEnded p q clients gives w (record { id = id; asked = a }) y
-              ends = Rattle.story_ticks.specs.story_steps.proofs.End.ended_call p q clients gives w ms e (record { id = id; asked = a }) born
+              ends = Rattle.story_ticks.specs.story_steps.proofs.StoryAtRunEnd.ended_call p q clients gives w ms e (record { id = id; asked = a }) born
 
               by_outcome : (y : Outcome) → WhyOwn p q clients gives w c before (ops.Call asked) y → Became clients w.core.outcomes t.number y → WhyCallInPart p clients w.core.outcomes fixed (gave_in w.core) orders last c t.number asked x
               by_outcome outcomes.Unopened why has = absurd (subst (WhyEnded p q clients gives w (record { id = id; asked = a })) (one_outcome p q clients gives w ms e a.operation ends.0 outcomes.Unopened ends.1 (subst (λ o. Became clients w.core.outcomes o outcomes.Unopened) own has)) ends.2)

@@ -6,20 +6,20 @@ use lib.ListN.{get_elem?}
 use Rattle.sock_words.specs.declared.plain.Plan.{Plan}
 use Rattle.corr_core.specs.declared.marks.Plan.{Plan as IdPlan}
 use Rattle.seat_programs.specs.Asides.{PostId}
-use Rattle.seat_programs.specs.Calls.{LoadOpen}
+use Rattle.seat_programs.specs.TableSteps.{LoadOpen}
 use Rattle.seat_programs.specs.Programs.{Program, Do, Aside}
 use Rattle.seat_programs.specs.Cores.{Core, SeatState}
 use Rattle.seat_programs.specs.Ticks.{Moment, ticked, run}
-use Rattle.story_ticks.specs.call_stories.specs.Lists.{soon_at}
-use Rattle.story_ticks.specs.call_stories.specs.Posts.{Post, posted_at}
+use Rattle.story_ticks.specs.call_stories.specs.LinkReadingLists.{soon_at}
+use Rattle.story_ticks.specs.call_stories.specs.PostsOfRun.{Post, posted_at}
 use Rattle.story_ticks.specs.call_stories.specs.Decided.{is_late_step, late_at, late_in, posted_behind}
-use Rattle.call_causes.proofs.Handled.{Sit}
+use Rattle.call_causes.proofs.HandledResponses.{Sit}
 use Rattle.call_causes.proofs.HandledSteps.{State, state_on, onward}
 use Rattle.call_causes.proofs.HandledTicks.{sit, Known, HasReader, reader_ticks}
 use Rattle.call_causes.proofs.HandledPosts.{IsLate, late_over, With, with_on, with_onward, HasClaims, claims_at}
 use Rattle.call_causes.proofs.HandledRuns.{AreKnown, along, Reads', claims_along}
-use Rattle.seat_programs.specs.Rounds.{first_step}
-use Rattle.story_ticks.specs.Below.outcome_stories.specs.Stories.{In}
+use Rattle.seat_programs.specs.LoopRounds.{first_step}
+use Rattle.story_ticks.specs.Below.outcome_stories.specs.OperationStories.{In}
 use Rattle.story_ticks.specs.Below.outcome_stories.specs.Facts.{shown_in}
 
 -- a step that is late
@@ -34,7 +34,7 @@ module _ (p : Plan) (q : IdPlan) (k : ℕ) (calls : List ℕ) (o : ℕ) (many : 
   abbrev None' : Sit → Type 0
   None' s = Unit {0}
 
-  abbrev none_on : (s t : Sit) → Rattle.call_causes.proofs.Handled.frames_in t.bytes ≡ Rattle.call_causes.proofs.Handled.frames_in s.bytes → ((x : ℕ × ℕ) → In x s.soon → In x t.soon) → None' s → None' t
+  abbrev none_on : (s t : Sit) → Rattle.call_causes.proofs.HandledResponses.frames_in t.bytes ≡ Rattle.call_causes.proofs.HandledResponses.frames_in s.bytes → ((x : ℕ × ℕ) → In x s.soon → In x t.soon) → None' s → None' t
   none_on s t same soon x = tt
 
   abbrev pub IsBehind : List (ℕ × ℕ) → Core → Type 0

@@ -6,25 +6,25 @@ use lib.ListN.{get_elem?}
 use Rattle.sock_words.specs.declared.plain.Plan.{Plan}
 use Rattle.corr_core.specs.Word.{Parts, parts, free_word}
 use Rattle.corr_core.specs.declared.marks.Plan.{Plan as IdPlan}
-use Rattle.seat_programs.specs.id_rule.specs.Lawful.{id_index, all_words}
+use Rattle.seat_programs.specs.id_rule.specs.LawfulIdTable.{id_index, all_words}
 use Rattle.seat_programs.specs.declared.task.Task.{Task}
 use Rattle.seat_programs.specs.Asides.{Step, Found, LoadIdWord, LockId, PostId, EndId, TakeBytes, Taking}
-use Rattle.seat_programs.specs.Beside.{found_in, calls_after}
-use Rattle.seat_programs.specs.Posts.{packed}
+use Rattle.seat_programs.specs.FoundAndChangedAside.{found_in, calls_after}
+use Rattle.seat_programs.specs.PostPrograms.{packed}
 use Rattle.seat_programs.specs.Programs.{Program, Aside}
 use Rattle.seat_programs.specs.Cores.{Core}
-use Rattle.story_ticks.specs.Below.id_runs.specs.Held.{IdView}
+use Rattle.story_ticks.specs.Below.id_runs.specs.HeldIdTokens.{IdView}
 use Rattle.story_ticks.specs.Below.id_runs.specs.Goes.{IdGoesOn, SoundIds}
-use Rattle.story_ticks.specs.Below.id_runs.proofs.Keeps.{parts_packed}
-use Rattle.story_ticks.specs.call_stories.specs.Lists.{advances_by}
-use Rattle.story_ticks.specs.call_stories.specs.Posts.{posts_by}
+use Rattle.story_ticks.specs.Below.id_runs.proofs.AsidesKeepingIdRule.{parts_packed}
+use Rattle.story_ticks.specs.call_stories.specs.LinkReadingLists.{advances_by}
+use Rattle.story_ticks.specs.call_stories.specs.PostsOfRun.{posts_by}
 use Rattle.story_ticks.specs.call_stories.specs.Scenes.{Scene}
 use Rattle.story_ticks.specs.call_stories.specs.Says.{Mark, MayAside}
-use Rattle.story_ticks.specs.call_stories.specs.Stories.{At, word_at, IsBehind, KnowsStep, births_after, claims_after, ReadsLaw, CallStory}
+use Rattle.story_ticks.specs.call_stories.specs.CallStories.{At, word_at, IsBehind, KnowsStep, births_after, claims_after, ReadsLaw, CallStory}
 use Rattle.story_ticks.specs.story_steps.proofs.Births.{Turn, keeps, ends, makes, IsMake, IsEnd, turn}
 use Rattle.story_ticks.specs.call_stories.proofs.Effects.{word_is}
-use Rattle.story_ticks.specs.call_stories.proofs.Knowing.{is_sized, are_low, knows}
-use Rattle.call_causes.proofs.Handled.{bound, Goes}
+use Rattle.story_ticks.specs.call_stories.proofs.KnowingBeforeAsides.{is_sized, are_low, knows}
+use Rattle.call_causes.proofs.HandledResponses.{bound, Goes}
 
 bound_free : (w : Parts) → w.state ≡ 0 → bound w ≡ w.first
 bound_free w e = ap (λ n. cond (eqb n 0) w.first (w.first + w.range)) e

@@ -7,25 +7,25 @@ use lib.ListN.{get_elem?}
 use Rattle.sock_words.specs.declared.plain.Plan.{Plan}
 use Rattle.seat_programs.specs.brpc_model.specs.Frame.{Frame}
 use Rattle.corr_core.specs.Word.{Parts, parts}
-use Rattle.seat_programs.specs.id_rule.specs.Lawful.{id_index}
+use Rattle.seat_programs.specs.id_rule.specs.LawfulIdTable.{id_index}
 use Rattle.corr_core.specs.declared.marks.Plan.{Plan as IdPlan}
-use Rattle.seat_programs.specs.Calls.{LoadOpen}
+use Rattle.seat_programs.specs.TableSteps.{LoadOpen}
 use Rattle.seat_programs.specs.Asides.{Step, Found, PostId, Taking}
-use Rattle.seat_programs.specs.Heads.{Retry, Decides, Locks}
+use Rattle.seat_programs.specs.LoopHeads.{Retry, Decides, Locks}
 use Rattle.seat_programs.specs.Programs.{Program, Do, Aside, Round}
-use Rattle.seat_programs.specs.Beside.{found_in}
-use Rattle.seat_programs.specs.Readers.{slot_in, version_in, kept_for}
+use Rattle.seat_programs.specs.FoundAndChangedAside.{found_in}
+use Rattle.seat_programs.specs.ReaderProgram.{slot_in, version_in, kept_for}
 use Rattle.seat_programs.specs.Cores.{Core, SeatState}
 use Rattle.seat_programs.specs.Ticks.{Moment, taken}
 use Rattle.story_ticks.specs.Below.owing_ticks.proofs.OwingRuns.{same_first}
-use Rattle.story_ticks.specs.call_stories.specs.Posts.{Post, posts_by, posted_with, posted_at}
-use Rattle.call_causes.proofs.Handled.{Sit, word_of, frames_in, IsResp, Done, Later, Over, Frozen, all_at, over_on, frozen_on}
+use Rattle.story_ticks.specs.call_stories.specs.PostsOfRun.{Post, posts_by, posted_with, posted_at}
+use Rattle.call_causes.proofs.HandledResponses.{Sit, word_of, frames_in, IsResp, Done, Later, Over, Frozen, all_at, over_on, frozen_on}
 use Rattle.call_causes.proofs.HandledStates.{after_first, after_map}
 use Rattle.call_causes.proofs.HandledSteps.{IsOver, over_onward, Onward, State, waiting, reading, seeking, taking, ending_, freeing, over, state_on, onward}
 use Rattle.call_causes.proofs.HandledTicks.{sit, Known, HasReader}
-use Rattle.seat_programs.specs.Rounds.{first_step}
-use Rattle.story_ticks.specs.Below.outcome_stories.specs.Stories.{In}
-use Rattle.sock_words.specs.Words.{call_id, id_slot, id_first}
+use Rattle.seat_programs.specs.LoopRounds.{first_step}
+use Rattle.story_ticks.specs.Below.outcome_stories.specs.OperationStories.{In}
+use Rattle.sock_words.specs.PackedWords.{call_id, id_slot, id_first}
 
 -- ## A reader behind the end of its reading
 
@@ -141,7 +141,7 @@ module _ (k ids : ℕ) where
     late_over s x (reading r is at) late = absurd (subst (λ y. IsLate (first_step y)) is late)
     late_over s x (seeking r bytes before f fs kept w is resp sought m) late = absurd (by_word w (subst (λ y. IsLate (first_step y)) is late))
       where
-        by_word : (w : Rattle.std.specs.Prelude.Option ℕ) → IsLate (first_step (Round (Locks (slot_in f) (Rattle.seat_programs.specs.Heads.Version (version_in f)) w) (Rattle.seat_programs.specs.Readers.answered f kept (λ kept'. Rattle.seat_programs.specs.Readers.responses r.ids fs kept' (Rattle.call_causes.proofs.HandledSteps.behind k ids calls o many r bytes))))) → ⊥
+        by_word : (w : Rattle.std.specs.Prelude.Option ℕ) → IsLate (first_step (Round (Locks (slot_in f) (Rattle.seat_programs.specs.LoopHeads.Version (version_in f)) w) (Rattle.seat_programs.specs.ReaderProgram.answered f kept (λ kept'. Rattle.seat_programs.specs.ReaderProgram.responses r.ids fs kept' (Rattle.call_causes.proofs.HandledSteps.behind k ids calls o many r bytes))))) → ⊥
         by_word Rattle.std.specs.Prelude.None x = x
         by_word (Some from) x = x
     late_over s x (taking r bytes before f fs kept first is resp b m) late = absurd (subst (λ y. IsLate (first_step y)) is late)
@@ -190,7 +190,7 @@ module _ (p : Plan) (q : IdPlan) (k : ℕ) where
     by_whom : (seat : SeatState) × (get_elem? c.seats m.seat ≡ some seat) × PostedBy q (taken m.answer) c (first_step seat.program) x
     by_whom = by_seat (get_elem? c.seats m.seat) refl there
       where
-        by_seat : (y : Option SeatState) → get_elem? c.seats m.seat ≡ y → In x (elim y as (λ o. List Post) [ none ↦ [] | some seat ↦ posted_with c.calls (taken m.answer) (Rattle.seat_programs.specs.Rounds.first_step seat.program) ])
+        by_seat : (y : Option SeatState) → get_elem? c.seats m.seat ≡ y → In x (elim y as (λ o. List Post) [ none ↦ [] | some seat ↦ posted_with c.calls (taken m.answer) (Rattle.seat_programs.specs.LoopRounds.first_step seat.program) ])
             → (seat : SeatState) × (get_elem? c.seats m.seat ≡ some seat) × PostedBy q (taken m.answer) c (first_step seat.program) x
         by_seat none e z = absurd z
         by_seat (some seat) e z = (seat, e, posted_is q (taken m.answer) c (first_step seat.program) x (subst (λ y. In x (posted_with c.calls (taken m.answer) y)) (same_first seat.program) z))

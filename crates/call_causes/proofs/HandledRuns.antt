@@ -7,40 +7,40 @@ use Rattle.sock_words.specs.declared.plain.Plan.{Plan}
 use Rattle.sock_model.specs.declared.view.View.{View}
 use Rattle.corr_core.specs.declared.marks.Plan.{Plan as IdPlan}
 use Rattle.seat_programs.specs.declared.task.Task.{Task}
-use Rattle.seat_programs.specs.Heads.{Exit, Retry, Decides}
+use Rattle.seat_programs.specs.LoopHeads.{Exit, Retry, Decides}
 use Rattle.seat_programs.specs.Programs.{Program, Write, Round}
 use Rattle.seat_programs.specs.Cores.{Core, SeatState}
 use Rattle.seat_programs.specs.Ticks.{Moment, quiet, ticked, run}
-use Rattle.seat_programs.specs.Runs.{IsAtRest}
-use Rattle.story_ticks.specs.Below.programs_allowed.specs.program_steps.specs.Sound.{IsAhead, views_after}
-use Rattle.story_ticks.specs.Below.programs_allowed.specs.program_steps.proofs.Cases.{elem_there}
-use Rattle.story_ticks.specs.Below.programs_allowed.specs.sock_runs.proofs.Along.{seat_rests, ticked_ahead}
+use Rattle.seat_programs.specs.ScheduledRuns.{IsAtRest}
+use Rattle.story_ticks.specs.Below.programs_allowed.specs.program_steps.specs.SoundSeats.{IsAhead, views_after}
+use Rattle.story_ticks.specs.Below.programs_allowed.specs.program_steps.proofs.TickCases.{elem_there}
+use Rattle.story_ticks.specs.Below.programs_allowed.specs.sock_runs.proofs.SoundAlongRuns.{seat_rests, ticked_ahead}
 use Rattle.story_ticks.specs.Below.programs_allowed.specs.sock_runs.proofs.Quiets.{ticked_rests}
-use Rattle.story_ticks.specs.Below.joint_runs.proofs.Both.{BothSound, AreBoth}
-use Rattle.story_ticks.specs.Below.id_runs.specs.Held.{IdView}
+use Rattle.story_ticks.specs.Below.joint_runs.proofs.BothTablesSound.{BothSound, AreBoth}
+use Rattle.story_ticks.specs.Below.id_runs.specs.HeldIdTokens.{IdView}
 use Rattle.story_ticks.specs.Below.id_runs.specs.Goes.{IdGoesOn, SoundIds}
-use Rattle.story_ticks.specs.Below.id_runs.proofs.Loops.{ids_round}
-use Rattle.story_ticks.specs.Below.id_runs.proofs.Programs.{block_goes}
-use Rattle.story_ticks.specs.call_stories.specs.Lists.{soon_at, advanced_at}
-use Rattle.story_ticks.specs.call_stories.specs.Posts.{Post, posted_at}
+use Rattle.story_ticks.specs.Below.id_runs.proofs.IdLoopRounds.{ids_round}
+use Rattle.story_ticks.specs.Below.id_runs.proofs.IdPrograms.{block_goes}
+use Rattle.story_ticks.specs.call_stories.specs.LinkReadingLists.{soon_at, advanced_at}
+use Rattle.story_ticks.specs.call_stories.specs.PostsOfRun.{Post, posted_at}
 use Rattle.story_ticks.specs.call_stories.specs.Decided.{posted_by, Decision, decision_in, decided_at, decided_by}
 use Rattle.story_ticks.specs.call_stories.specs.Scenes.{Scene, LeadsTo}
 use Rattle.story_ticks.specs.call_stories.specs.Says.{Mark, SaysOn}
-use Rattle.story_ticks.specs.call_stories.specs.Stories.{SlotFits, CallStory}
-use Rattle.story_ticks.specs.call_stories.proofs.Leading.{run_leads}
-use Rattle.story_ticks.specs.story_steps.proofs.Numbered.{AreNumbered}
+use Rattle.story_ticks.specs.call_stories.specs.CallStories.{SlotFits, CallStory}
+use Rattle.story_ticks.specs.call_stories.proofs.LeadingBytesGiven.{run_leads}
+use Rattle.story_ticks.specs.story_steps.proofs.NumberedTasks.{AreNumbered}
 use Rattle.story_ticks.proofs.Claiming.{HaveSlots}
-use Rattle.story_ticks.specs.story_steps.proofs.Firsts.{MayFirst, may_first}
-use Rattle.call_causes.proofs.Run.{Story, one_tick, in_either}
-use Rattle.call_causes.proofs.Handled.{Sit, Later}
+use Rattle.story_ticks.specs.story_steps.proofs.FirstStepAllowed.{MayFirst, may_first}
+use Rattle.call_causes.proofs.RunOfCallStory.{Story, one_tick, in_either}
+use Rattle.call_causes.proofs.HandledResponses.{Sit, Later}
 use Rattle.call_causes.proofs.HandledFacts.{facts}
 use Rattle.call_causes.proofs.HandledSteps.{Onward, State, state_on, onward}
 use Rattle.call_causes.proofs.HandledStates.{After}
 use Rattle.call_causes.proofs.HandledTicks.{sit, Known, HasReader, reader_ticks}
 use Rattle.call_causes.proofs.HandledPosts.{Claims, claims_on, claims_onward, Silence, silence_on, silence_onward, silent_here, deciding_over, IsDecision, HasClaims, claims_at, over_at}
-use Rattle.seat_programs.specs.Rounds.{first_step}
-use Rattle.story_ticks.specs.Below.outcome_stories.specs.Stories.{In}
-use Rattle.sock_words.specs.Words.{id_slot, id_first}
+use Rattle.seat_programs.specs.LoopRounds.{first_step}
+use Rattle.story_ticks.specs.Below.outcome_stories.specs.OperationStories.{In}
+use Rattle.sock_words.specs.PackedWords.{id_slot, id_first}
 use Rattle.story_ticks.specs.Below.outcome_stories.specs.Facts.{shown_in}
 
 -- ## What is known of ticks
@@ -147,9 +147,9 @@ module _ (p : Plan) (q : IdPlan) (k : ℕ) (calls : List ℕ) (o : ℕ) (many : 
       by_whom own (some s) e z = let here : get_elem? c.seats m.seat ≡ some seat = ap (get_elem? c.seats) own ∙ at in let same : s ≡ seat = some-injective s seat (sym e ∙ here) in
           let is = decision_is d seat.program (subst (λ (t : SeatState). In d (decision_in t.program)) same z) in
           let ov = deciding_over k q.slots calls o many (sit k c soon) seat.program (h seat at) (subst (λ x. IsDecision k q.slots calls o many x) (sym is.2) tt) in
-          let a = subst (λ x. After (Rattle.call_causes.proofs.Handled.Frozen k q.slots (sit k c soon)) ov.0 x) is.2 ov.2 in
+          let a = subst (λ x. After (Rattle.call_causes.proofs.HandledResponses.Frozen k q.slots (sit k c soon)) ov.0 x) is.2 ov.2 in
           let locked = known.decides seat here d.id d.asked is.0 d.error is.1 is.2 in
-          (ov, silent_here k q.slots (sit k c soon) ov.0 d.id d.asked.range ov.1 locked.0 (ap (λ n. Rattle.seat_programs.specs.Readers.kept_for d.id n ov.0) (sym locked.1) ∙ a.0.0))
+          (ov, silent_here k q.slots (sit k c soon) ov.0 d.id d.asked.range ov.1 locked.0 (ap (λ n. Rattle.seat_programs.specs.ReaderProgram.kept_for d.id n ov.0) (sym locked.1) ∙ a.0.0))
 
   pub silence_along : (d : Decision) (ms : List Moment) (soon : List (ℕ × ℕ)) (c : Core) → AreKnown p q c ms → IsSilent d soon c → IsSilent d (soon ++ shown_in (soon_at p) p c ms) (run p c ms)
   silence_along d ms soon c known h = along p q k (Silence k q.slots (id_slot d.id) (id_first d.id) d.asked.range) (silence_on k q.slots (id_slot d.id) (id_first d.id) d.asked.range) (silence_onward k q.slots (id_slot d.id) (id_first d.id) d.asked.range) ms soon c known h

@@ -1,20 +1,20 @@
 -- Where the reader of a link stands in its program, and what it has handled there.
 use Rattle.std.proofs.Common.{◌≡◌, ℕ, ◌+◌, ◌-◌, ◌%◌, ◌<◌, ◌==◌, ◌&&◌, ◌||◌, not, Bool, true, false, cond, nat_le, nat_lt, List, [], ◌∷◌, ◌++◌, length, None, Some, refl, sym, ap, ◌∙◌, subst, arith}
 use Rattle.std.proofs.lemmas.Bool.{true≢false}
-use Rattle.sock_words.specs.Words.{socket_id_version, socket_id_slot, vref_version, vref_nref, at_word_first, at_word_slot, at_word_link, at_word_attempt, call_id, id_slot, id_first, bit}
-use Rattle.sock_words.specs.Codes.{is_final}
+use Rattle.sock_words.specs.PackedWords.{socket_id_version, socket_id_slot, vref_version, vref_nref, at_word_first, at_word_slot, at_word_link, at_word_attempt, call_id, id_slot, id_first, bit}
+use Rattle.sock_words.specs.ErrorCodes.{is_final}
 use Rattle.corr_core.specs.Word.{Parts, parts, posted_word, unlocked_word, code_of, attempt_of, error_of}
 use Rattle.corr_core.specs.Law.{LAST}
-use Rattle.corr_core.specs.Decisions.{WHOLE, ends_call}
+use Rattle.corr_core.specs.ErrorsThatEndCalls.{WHOLE, ends_call}
 use Rattle.seat_programs.specs.brpc_model.specs.Frame.{Frame}
 use Rattle.seat_programs.specs.brpc_model.specs.ResponseOutcome.{ending_of}
 use Rattle.sock_message.specs.Asked.{Asked}
 use Rattle.seat_programs.specs.Asides.{Step, Found, PostId, FreeId, TakeBytes, Taking, Bytes, Nothing}
-use Rattle.seat_programs.specs.Heads.{Head, Exit, Retry, Sought, Posts, Unlocks, Decides, Locks, Joins, Opens, Reads, Discards, Posting, WasGone, WasStale, WasCrowded, WasQueued, HasLocked, Unlocking, IsOpen, HasNext, Deciding, HasEnded, GoesOn, Locking, NotThere, Has, Ended}
+use Rattle.seat_programs.specs.LoopHeads.{Head, Exit, Retry, Sought, Posts, Unlocks, Decides, Locks, Joins, Opens, Reads, Discards, Posting, WasGone, WasStale, WasCrowded, WasQueued, HasLocked, Unlocking, IsOpen, HasNext, Deciding, HasEnded, GoesOn, Locking, NotThere, Has, Ended}
 use Rattle.seat_programs.specs.Programs.{Program, Do, Say, Sent, Rest, TakeMessage, TakeHome, PutHome, PutBytes, AskReady, Write, Aside, Round, Keep, Retries, LAST_VERSION, recycle, release, add_reference, set_failed}
-use Rattle.seat_programs.specs.Posts.{packed, is_first, is_sought, is_stale, is_full, judged, posts_round, post_with, popped, unlocks_round, end_id, decided, unlocked, locking}
-use Rattle.seat_programs.specs.Readers.{LIMIT, slot_in, answer, discarded, kept_for, ends_with, posted_last, post_each, thrown_away, read}
-use Rattle.seat_programs.specs.Rounds.{round, first_step}
+use Rattle.seat_programs.specs.PostPrograms.{packed, is_first, is_sought, is_stale, is_full, judged, posts_round, post_with, popped, unlocks_round, end_id, decided, unlocked, locking}
+use Rattle.seat_programs.specs.ReaderProgram.{LIMIT, slot_in, answer, discarded, kept_for, ends_with, posted_last, post_each, thrown_away, read}
+use Rattle.seat_programs.specs.LoopRounds.{round, first_step}
 use Rattle.seat_programs.specs.Cores.{resolved, next_step}
 
 -- ## Behind the end of a reading
@@ -71,9 +71,9 @@ module _ (F : Type 0) (kept : List Frame) where
   both false x y f g = g
 
   after_recycle : (i from : ℕ) (next : Bool → Program) → ((b : Bool) → After (next b)) → After (recycle i from next)
-  after_recycle i from next a = λ found. both (found == from) (Do (Rattle.seat_programs.specs.Calls.LoadLink i (vref_version from + 1)) (λ k. Do (Rattle.seat_programs.specs.Calls.TakeLink k) (λ _. Do (Rattle.seat_programs.specs.Calls.FinishLink k) (λ _. Do (Rattle.seat_programs.specs.Calls.PutLink k) (λ _.
-      cond (nat_le (vref_version from + 1) LAST_VERSION) (Do (Rattle.seat_programs.specs.Calls.FreeSlot i) (λ _. next true)) (next true)))))) (next false)
-      (λ k _ _ _. both (nat_le (vref_version from + 1) LAST_VERSION) (Do (Rattle.seat_programs.specs.Calls.FreeSlot i) (λ _. next true)) (next true) (λ _. a true) (a true)) (a false)
+  after_recycle i from next a = λ found. both (found == from) (Do (Rattle.seat_programs.specs.TableSteps.LoadLink i (vref_version from + 1)) (λ k. Do (Rattle.seat_programs.specs.TableSteps.TakeLink k) (λ _. Do (Rattle.seat_programs.specs.TableSteps.FinishLink k) (λ _. Do (Rattle.seat_programs.specs.TableSteps.PutLink k) (λ _.
+      cond (nat_le (vref_version from + 1) LAST_VERSION) (Do (Rattle.seat_programs.specs.TableSteps.FreeSlot i) (λ _. next true)) (next true)))))) (next false)
+      (λ k _ _ _. both (nat_le (vref_version from + 1) LAST_VERSION) (Do (Rattle.seat_programs.specs.TableSteps.FreeSlot i) (λ _. next true)) (next true) (λ _. a true) (a true)) (a false)
 
   after_release : (i : ℕ) (next : Bool → Program) → ((b : Bool) → After (next b)) → After (release i next)
   after_release i next a = λ found. both ((vref_version found % 2 == 1) && (vref_nref found == 1)) (recycle i (found - 1) next) (next false) (after_recycle i (found - 1) next a) (a false)
@@ -82,7 +82,7 @@ module _ (F : Type 0) (kept : List Frame) where
   after_address id held gone a b = λ found. both (vref_version found == socket_id_version id) held (release (socket_id_slot id) (λ _. gone found)) a (after_release (socket_id_slot id) (λ _. gone found) (λ _. b found))
 
   after_failed : (id code : ℕ) (next : ℕ → Program) → ((found : ℕ) → After (next found)) → After (set_failed id code next)
-  after_failed id code next a = λ found. both (vref_version found % 2 == 0) (Do (Rattle.seat_programs.specs.Calls.StoreCode (socket_id_slot id) (socket_id_version id) code) (λ _. Do (Rattle.seat_programs.specs.Calls.SubRef (socket_id_slot id)) (λ _. next found))) (next found) (λ _ _. a found) (a found)
+  after_failed id code next a = λ found. both (vref_version found % 2 == 0) (Do (Rattle.seat_programs.specs.TableSteps.StoreCode (socket_id_slot id) (socket_id_version id) code) (λ _. Do (Rattle.seat_programs.specs.TableSteps.SubRef (socket_id_slot id)) (λ _. next found))) (next found) (λ _ _. a found) (a found)
 
   after_judged : (id e found : ℕ) (rest : Program) → is_final (code_of e) ≡ true → ((x : Posting) → After (posted_last id e kept rest x)) → After (judged id e found (posted_last id e kept rest))
   after_judged id e found rest final a = let k : Posting → Program = posted_last id e kept rest in

@@ -2,26 +2,26 @@
 use Rattle.std.proofs.Common.{◌≡◌, ℕ, ◌+◌, ◌-◌, ◌<◌, ◌≤◌, ◌==◌, inl, ◌&&◌, not, Bool, true, false, cond, eqb-true, nat_le, nat_lt, List, [], ◌∷◌, ◌++◌, length, append_assoc, append-nil, Option, None, Some, refl, sym, ap, ◌∙◌, subst}
 use Rattle.std.proofs.lemmas.Bool.{true≢false}
 use Rattle.sock_words.specs.declared.outcome.Outcome.{Outcome}
-use Rattle.sock_words.specs.Codes.{is_final}
+use Rattle.sock_words.specs.ErrorCodes.{is_final}
 use Rattle.corr_core.specs.Word.{parts, posted_word}
 use Rattle.corr_core.specs.Law.{LAST}
-use Rattle.corr_core.specs.Versions.{has_version, is_early}
+use Rattle.corr_core.specs.IdRangeVersions.{has_version, is_early}
 use Rattle.seat_programs.specs.brpc_model.specs.Frame.{Frame}
-use Rattle.seat_programs.specs.brpc_model.specs.Stream as streams
-use Rattle.seat_programs.specs.brpc_model.specs.Causes.{HasFault}
+use Rattle.seat_programs.specs.brpc_model.specs.FrameStream as streams
+use Rattle.seat_programs.specs.brpc_model.specs.LinkFailureCauses.{HasFault}
 use Rattle.seat_programs.specs.brpc_model.specs.ResponseOutcome.{ending_of}
 use Rattle.seat_programs.specs.Asides.{Step, Found, LoadIdWord, LockId, PostId, EndId, FreeId, TakeBytes, Taking, Bytes, Nothing, NoMore, AtEnd, Closed, Broken}
-use Rattle.seat_programs.specs.Heads.{Retry, Version, Reading, Locks, Reads, Locking, NotThere, Has, Ended}
+use Rattle.seat_programs.specs.LoopHeads.{Retry, Version, Reading, Locks, Reads, Locking, NotThere, Has, Ended}
 use Rattle.seat_programs.specs.Programs.{Program, Do, Say, Rest, TakeMessage, TakeHome, PutHome, PutBytes, AskReady, Aside, Round}
-use Rattle.seat_programs.specs.Posts.{packed, end_id, locking}
-use Rattle.seat_programs.specs.Readers.{LIMIT, slot_in, version_in, has_response, answer, answered, responses, last_of, ended_by, read_on, took, read, reader}
+use Rattle.seat_programs.specs.PostPrograms.{packed, end_id, locking}
+use Rattle.seat_programs.specs.ReaderProgram.{LIMIT, slot_in, version_in, has_response, answer, answered, responses, last_of, ended_by, read_on, took, read, reader}
 use Rattle.seat_programs.specs.Cores.{resolved, next_step}
-use Rattle.story_ticks.specs.call_stories.proofs.Streams.{frames_behind_rest, frames_before_fault, faults_follow}
-use Rattle.call_causes.proofs.Handled.{Goes, AllFrom, all_on, Sit, word_of, frames_in, IsResp, Bounded, Done, Waits, Later, Over, Frozen, IsAt, Mid, mid_on, at_on, over_on, frozen_on, mid_next, mid_same, mid_over, early_done, done_on, gone_by, bounded_by, gone_behind, bounded_on}
+use Rattle.story_ticks.specs.call_stories.proofs.StreamFramesStay.{frames_behind_rest, frames_before_fault, faults_follow}
+use Rattle.call_causes.proofs.HandledResponses.{Goes, AllFrom, all_on, Sit, word_of, frames_in, IsResp, Bounded, Done, Waits, Later, Over, Frozen, IsAt, Mid, mid_on, at_on, over_on, frozen_on, mid_next, mid_same, mid_over, early_done, done_on, gone_by, bounded_by, gone_behind, bounded_on}
 use Rattle.call_causes.proofs.HandledStates.{After, after_read, after_first, after_next, after_map}
-use Rattle.seat_programs.specs.Rounds.{first_step}
-use Rattle.story_ticks.specs.Below.outcome_stories.specs.Stories.{In}
-use Rattle.sock_words.specs.Words.{call_id, NO_SOCKET}
+use Rattle.seat_programs.specs.LoopRounds.{first_step}
+use Rattle.story_ticks.specs.Below.outcome_stories.specs.OperationStories.{In}
+use Rattle.sock_words.specs.PackedWords.{call_id, NO_SOCKET}
 
 abbrev pub bytes_in : Taking → List ℕ
 bytes_in (Bytes bytes) = bytes

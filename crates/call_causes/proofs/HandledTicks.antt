@@ -10,35 +10,35 @@ use Rattle.sock_words.specs.declared.plain.Plan.{Plan}
 use Rattle.sock_io.specs.declared.link.Put.{Put}
 use Rattle.sock_io.specs.declared.link.Ready.{Ready}
 use Rattle.sock_model.specs.declared.home.Home.{Home}
-use Rattle.sock_model.specs.Messages.{HeadedBytes}
-use Rattle.sock_model.specs.Reads.{message, link_home}
+use Rattle.sock_model.specs.UnplacedMessages.{HeadedBytes}
+use Rattle.sock_model.specs.ChainLawReads.{message, link_home}
 use Rattle.seat_programs.specs.brpc_model.specs.Frame.{Frame}
 use Rattle.corr_core.specs.Word.{parts}
 use Rattle.corr_core.specs.declared.marks.Plan.{Plan as IdPlan}
-use Rattle.corr_core.specs.Versions.{is_early}
-use Rattle.corr_core.specs.Decisions.{ends_call}
-use Rattle.seat_programs.specs.id_rule.specs.Lawful.{id_index}
-use Rattle.story_ticks.specs.Below.joint_runs.specs.Below.sock_steps.proofs.Quiet.{either_way}
+use Rattle.corr_core.specs.IdRangeVersions.{is_early}
+use Rattle.corr_core.specs.ErrorsThatEndCalls.{ends_call}
+use Rattle.seat_programs.specs.id_rule.specs.LawfulIdTable.{id_index}
+use Rattle.story_ticks.specs.Below.joint_runs.specs.Below.sock_steps.proofs.SumsAsMarksChange.{either_way}
 use Rattle.seat_programs.specs.Asides.{Step, TakeBytes, Taking, Bytes, Nothing, NoMore, AtEnd, Closed, Broken, Found}
-use Rattle.seat_programs.specs.Heads.{Exit, Retry, Decides, Locks}
+use Rattle.seat_programs.specs.LoopHeads.{Exit, Retry, Decides, Locks}
 use Rattle.seat_programs.specs.Programs.{Program, Do, TakeMessage, TakeHome, PutHome, PutBytes, AskReady, Write, Aside, Round}
 use Rattle.sock_message.specs.Asked.{Asked}
 use Rattle.seat_programs.specs.Writings.{Puts, Waits, Empties, Walks}
-use Rattle.seat_programs.specs.Sends.{block}
-use Rattle.seat_programs.specs.Rounds.{round, first_step}
-use Rattle.seat_programs.specs.Beside.{found_in, calls_after}
-use Rattle.seat_programs.specs.Readers.{has_response, slot_in, version_in}
+use Rattle.seat_programs.specs.SendAndWritePrograms.{block}
+use Rattle.seat_programs.specs.LoopRounds.{round, first_step}
+use Rattle.seat_programs.specs.FoundAndChangedAside.{found_in, calls_after}
+use Rattle.seat_programs.specs.ReaderProgram.{has_response, slot_in, version_in}
 use Rattle.seat_programs.specs.Cores.{Core, SeatState, found_at, words_after, homes_after, hand_after, lies_at, first_of, others_of, link_place, resolved, waiting_at, next_step, with_seat}
 use Rattle.seat_programs.specs.StepTables.{word_of, word_after}
 use Rattle.seat_programs.specs.Ticks.{Answer, OfPut, OfReady, Moment, fed, with_places, onto_first, taken, with_message, with_link, with_put, with_ready, with_found, step_with, tick_with, ticked}
-use Rattle.story_ticks.specs.call_stories.specs.Lists.{Take, taken_link, takes_by, takes_at, gave_in, is_soon, soon_from, soon_by, soon_at}
-use Rattle.story_ticks.specs.story_steps.proofs.Attempts.{in_behind}
-use Rattle.call_causes.proofs.Handled as handled
-use Rattle.call_causes.proofs.Handled.{bound, early_is, goes_same, AllFrom, Sit, frames_in, IsResp, Later, in_more}
+use Rattle.story_ticks.specs.call_stories.specs.LinkReadingLists.{Take, taken_link, takes_by, takes_at, gave_in, is_soon, soon_from, soon_by, soon_at}
+use Rattle.story_ticks.specs.story_steps.proofs.AttemptsBehindAsides.{in_behind}
+use Rattle.call_causes.proofs.HandledResponses as handled
+use Rattle.call_causes.proofs.HandledResponses.{bound, early_is, goes_same, AllFrom, Sit, frames_in, IsResp, Later, in_more}
 use Rattle.call_causes.proofs.HandledFacts.{Facts, Tied}
 use Rattle.call_causes.proofs.HandledSteps.{Took, Onward, bytes_in}
-use Rattle.story_ticks.specs.Below.outcome_stories.specs.Stories.{In}
-use Rattle.sock_words.specs.Words.{id_slot, id_first}
+use Rattle.story_ticks.specs.Below.outcome_stories.specs.OperationStories.{In}
+use Rattle.sock_words.specs.PackedWords.{id_slot, id_first}
 
 -- ## What a program takes
 

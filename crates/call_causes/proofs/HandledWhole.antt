@@ -8,51 +8,51 @@ use Rattle.atomic_table.proofs.Lists.{at_set}
 use Rattle.seat_programs.specs.brpc_model.specs.Items.{Item}
 use Rattle.seat_programs.specs.brpc_model.specs.Operations.{Turn}
 use Rattle.seat_programs.specs.brpc_model.specs.Frame.{Frame}
-use Rattle.story_ticks.specs.Below.joint_runs.specs.Below.chain_steps.proofs.Lists.{at_some}
+use Rattle.story_ticks.specs.Below.joint_runs.specs.Below.chain_steps.proofs.TicketLists.{at_some}
 use Rattle.sock_words.specs.declared.outcome.Outcome.TheVariants as outcomes
 use Rattle.sock_message.specs.Asked.{Asked}
 use Rattle.seat_programs.specs.declared.task.Op.TheVariants as ops
 use Rattle.seat_programs.specs.declared.task.Task.{Task}
-use Rattle.seat_programs.specs.Told.{IsTask, Became}
-use Rattle.story_ticks.specs.Below.call_owing.specs.Lives.{ClosesInRun}
-use Rattle.seat_programs.specs.Clients.{ending_of, client_from}
+use Rattle.seat_programs.specs.Explained.{IsTask, Became}
+use Rattle.story_ticks.specs.Below.call_owing.specs.LivesOfLinks.{ClosesInRun}
+use Rattle.seat_programs.specs.ClientProgram.{ending_of, client_from}
 use Rattle.seat_programs.specs.Programs.{Program}
-use Rattle.seat_programs.specs.Readers.{slot_in, version_in}
+use Rattle.seat_programs.specs.ReaderProgram.{slot_in, version_in}
 use Rattle.seat_programs.specs.Cores.{Core, SeatState, resolved, waiting_at, next_step}
 use Rattle.seat_programs.specs.Ticks.{Moment, run}
 use Rattle.seat_programs.specs.Tasks.{opens, calls, plan_of, id_plan_of}
-use Rattle.seat_programs.specs.Scripts.{sizes_of, programs, all_tasks, opened, ending, set_up, played, is_ending, IsRunWithCalls}
+use Rattle.seat_programs.specs.ScriptSetupToEnding.{sizes_of, programs, all_tasks, opened, ending, set_up, played, is_ending, IsRunWithCalls}
 use Rattle.story_ticks.specs.Below.programs_allowed.specs.program_walks.proofs.OpensStay.{readers_begin}
-use Rattle.story_ticks.specs.Below.programs_allowed.specs.program_walks.proofs.Whole.{views_played, views_closed, views_ended}
-use Rattle.story_ticks.specs.Below.programs_allowed.proofs.Beginning as clients_begin
-use Rattle.story_ticks.specs.Below.id_runs.specs.Held.{IdView}
+use Rattle.story_ticks.specs.Below.programs_allowed.specs.program_walks.proofs.WholeScriptSound.{views_played, views_closed, views_ended}
+use Rattle.story_ticks.specs.Below.programs_allowed.proofs.WordsAtBeginning as clients_begin
+use Rattle.story_ticks.specs.Below.id_runs.specs.HeldIdTokens.{IdView}
 use Rattle.story_ticks.specs.Below.id_runs.specs.Goes.{SoundIds}
-use Rattle.story_ticks.specs.Below.joint_runs.proofs.Both.{BothSound}
-use Rattle.story_ticks.specs.Below.joint_runs.proofs.Runs.{AreMade, first_views, joint_runs}
-use Rattle.story_ticks.specs.Below.call_owing.specs.Below.script_facts.proofs.Reading.{InRange}
+use Rattle.story_ticks.specs.Below.joint_runs.proofs.BothTablesSound.{BothSound}
+use Rattle.story_ticks.specs.Below.joint_runs.proofs.RunsOfBothTables.{AreMade, first_views, joint_runs}
+use Rattle.story_ticks.specs.Below.call_owing.specs.Below.script_facts.proofs.ReadScriptFacts.{InRange}
 use Rattle.story_ticks.specs.Below.call_owing.specs.Below.script_facts.proofs.Targets.{AreThere}
-use Rattle.story_ticks.specs.call_stories.specs.Lists.{advanced_at, gave_in, soon_at, soon_of_run}
-use Rattle.story_ticks.specs.call_stories.specs.Posts.{Post, posted_at}
+use Rattle.story_ticks.specs.call_stories.specs.LinkReadingLists.{advanced_at, gave_in, soon_at, soon_of_run}
+use Rattle.story_ticks.specs.call_stories.specs.PostsOfRun.{Post, posted_at}
 use Rattle.story_ticks.specs.call_stories.specs.Decided.{posted_by, Decision, decided_by, posted_behind, late_in}
 use Rattle.story_ticks.specs.call_stories.specs.Scenes.{Scene, LeadsTo}
 use Rattle.story_ticks.specs.call_stories.specs.Says.{Mark}
-use Rattle.story_ticks.specs.story_steps.proofs.Numbered.{AreNumbered}
+use Rattle.story_ticks.specs.story_steps.proofs.NumberedTasks.{AreNumbered}
 use Rattle.story_ticks.proofs.Claiming.{HaveSlots}
-use Rattle.story_ticks.proofs.Scripts.{are_numbered, have_slots, begins}
-use Rattle.story_ticks.specs.story_steps.proofs.End.{HasEnded, call_of}
-use Rattle.story_ticks.specs.call_stories.proofs.Knowing.{are_low}
-use Rattle.call_causes.proofs.Whole.{run_has_story, run_has_ended}
-use Rattle.call_causes.proofs.Run as runs
+use Rattle.story_ticks.proofs.ScriptTasksFitStory.{are_numbered, have_slots, begins}
+use Rattle.story_ticks.specs.story_steps.proofs.StoryAtRunEnd.{HasEnded, call_of}
+use Rattle.story_ticks.specs.call_stories.proofs.KnowingBeforeAsides.{are_low}
+use Rattle.call_causes.proofs.WholeCallStory.{run_has_story, run_has_ended}
+use Rattle.call_causes.proofs.RunOfCallStory as runs
 use Rattle.story_ticks.proofs.RunFacts.{own_leads, run_facts, leadings}
 use Rattle.story_ticks.specs.call_stories.proofs.RunTicks.{in_setup, in_clients, in_closing, parts}
-use Rattle.call_causes.proofs.Handled.{Sit, frames_in, IsResp}
+use Rattle.call_causes.proofs.HandledResponses.{Sit, frames_in, IsResp}
 use Rattle.call_causes.proofs.HandledSteps.{State, waiting}
 use Rattle.call_causes.proofs.HandledTicks.{sit}
 use Rattle.call_causes.proofs.HandledPosts.{Claims, Silence}
 use Rattle.call_causes.proofs.HandledBehind.{IsBehind, behind_along, behind_claims, late_claims, late_behind}
 use Rattle.call_causes.proofs.HandledRuns.{AreKnown, setup_known, played_known, Reads', reads_along, claims_along, posts_claim, silence_along, decides_silent}
-use Rattle.story_ticks.specs.Below.outcome_stories.specs.Stories.{In}
-use Rattle.sock_words.specs.Words.{id_slot, id_first}
+use Rattle.story_ticks.specs.Below.outcome_stories.specs.OperationStories.{In}
+use Rattle.sock_words.specs.PackedWords.{id_slot, id_first}
 use Rattle.story_ticks.specs.Below.outcome_stories.specs.Facts.{shown_in, shown_in_run}
 
 each_at : {A : Type 0} (P : A → Type 0) (xs : List A) → AllByRecursion P xs → (i : ℕ) (x : A) → get_elem? xs i ≡ some x → P x

@@ -1,10 +1,10 @@
-pub mod Run
+pub mod RunOfCallStory
 pub mod CallWhys
-pub mod Once
-pub mod Whole
-pub mod Decisions
+pub mod ExpiredOnce
+pub mod WholeCallStory
+pub mod DecisionsEndCalls
 pub mod Posted
-pub mod Handled
+pub mod HandledResponses
 pub mod HandledStates
 pub mod HandledSteps
 pub mod HandledFacts

@@ -15,29 +15,29 @@ use Rattle.seat_programs.specs.declared.task.Op.TheVariants as ops
 use Rattle.seat_programs.specs.declared.task.Task.{Task}
 use Rattle.seat_programs.specs.Cores.{Core}
 use Rattle.seat_programs.specs.Tasks.{plan_of, id_plan_of}
-use Rattle.seat_programs.specs.Told.{TaskFits, OpFits, IsTask, Became}
-use Rattle.seat_programs.specs.ToldCalls.{Fixed, Order, ShowsId}
-use Rattle.seat_programs.specs.Scripts.{all_tasks, IsRunWithCalls}
-use Rattle.story_ticks.specs.Below.joint_runs.proofs.Runs.{AreMade}
-use Rattle.story_ticks.specs.Below.call_owing.specs.Below.script_facts.proofs.Reading.{InRange}
+use Rattle.seat_programs.specs.Explained.{TaskFits, OpFits, IsTask, Became}
+use Rattle.seat_programs.specs.ExplainedCalls.{Fixed, Order, ShowsId}
+use Rattle.seat_programs.specs.ScriptSetupToEnding.{all_tasks, IsRunWithCalls}
+use Rattle.story_ticks.specs.Below.joint_runs.proofs.RunsOfBothTables.{AreMade}
+use Rattle.story_ticks.specs.Below.call_owing.specs.Below.script_facts.proofs.ReadScriptFacts.{InRange}
 use Rattle.story_ticks.specs.Below.call_owing.specs.Below.script_facts.proofs.Targets.{AreThere}
-use Rattle.story_ticks.specs.Below.call_owing.specs.Lives.{ClosesInRun}
-use Rattle.story_ticks.specs.call_stories.specs.Lists.{gave_in, times, attempts_of_run}
-use Rattle.story_ticks.specs.call_stories.specs.Posts.{Post, posts_of_run}
+use Rattle.story_ticks.specs.Below.call_owing.specs.LivesOfLinks.{ClosesInRun}
+use Rattle.story_ticks.specs.call_stories.specs.LinkReadingLists.{gave_in, times, attempts_of_run}
+use Rattle.story_ticks.specs.call_stories.specs.PostsOfRun.{Post, posts_of_run}
 use Rattle.story_ticks.specs.call_stories.specs.Decided.{Decision, decided_by}
 use Rattle.story_ticks.specs.call_stories.specs.Target.{FailedByPost, FailedByDecision, AdvancedByPost}
 use Rattle.story_ticks.specs.call_stories.specs.Scenes.{Birth, Scene, WasPosted, IsTaskOf, WhyEnded}
 use Rattle.story_ticks.specs.call_stories.specs.Says.{Mark}
-use Rattle.story_ticks.specs.call_stories.specs.Stories.{BirthsLaw, TasksLaw}
-use Rattle.story_ticks.specs.story_steps.proofs.Moving.{in_todo, in_done, listed}
-use Rattle.story_ticks.specs.story_steps.proofs.Numbered.{AreNumbered, one_task, listed_or}
+use Rattle.story_ticks.specs.call_stories.specs.CallStories.{BirthsLaw, TasksLaw}
+use Rattle.story_ticks.specs.story_steps.proofs.MarkMoves.{in_todo, in_done, listed}
+use Rattle.story_ticks.specs.story_steps.proofs.NumberedTasks.{AreNumbered, one_task, listed_or}
 use Rattle.story_ticks.specs.story_steps.proofs.BirthTicks.{in_all}
-use Rattle.story_ticks.specs.story_steps.proofs.End.{HasEnded, one_outcome, ended_call, shows_own, contains_in}
-use Rattle.story_ticks.specs.story_steps.proofs.Whys.{in_contains}
-use Rattle.story_ticks.proofs.Scripts.{are_numbered}
-use Rattle.call_causes.proofs.Whole.{run_has_story, run_attempts, run_posted, run_has_ended}
-use Rattle.call_causes.proofs.Decisions.{run_failed_decided}
-use Rattle.story_ticks.specs.Below.outcome_stories.specs.Stories.{In}
+use Rattle.story_ticks.specs.story_steps.proofs.StoryAtRunEnd.{HasEnded, one_outcome, ended_call, shows_own, contains_in}
+use Rattle.story_ticks.specs.story_steps.proofs.ExpireAndJoinWhys.{in_contains}
+use Rattle.story_ticks.proofs.ScriptTasksFitStory.{are_numbered}
+use Rattle.call_causes.proofs.WholeCallStory.{run_has_story, run_attempts, run_posted, run_has_ended}
+use Rattle.call_causes.proofs.DecisionsEndCalls.{run_failed_decided}
+use Rattle.story_ticks.specs.Below.outcome_stories.specs.OperationStories.{In}
 use Rattle.story_ticks.specs.Below.outcome_stories.specs.Facts.{shown_in_run}
 
 -- each task of each client

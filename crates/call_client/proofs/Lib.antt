@@ -1,8 +1,8 @@
-pub mod Knowing
-pub mod Coursing
-pub mod Leaving
-pub mod Going
-pub mod Changes
+pub mod KnowingOperationNames
+pub mod RunBehindOperation
+pub mod StarvedCallsNotRetried
+pub mod ClientAfterOperations
+pub mod ClientCallChanges
 pub mod Shares
-pub mod Telling
-pub mod Testing
+pub mod EndedCallsTelling
+pub mod TestingTables

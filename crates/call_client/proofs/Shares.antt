@@ -1,18 +1,18 @@
 -- A client's seat of the ids stands for as many seats after its run as before it.
 use Rattle.std.proofs.Common.{◌≡◌, Bool, List, ap, ◌∙◌}
 use Rattle.sock_io.specs.declared.link.Out.{Ghosts}
-use Rattle.sock_io.specs.Link.{OutState}
+use Rattle.sock_io.specs.LinkHalves.{OutState}
 use Rattle.sock_words.specs.declared.plain.Plan.{Plan}
 use Rattle.seat_programs.specs.declared.task.Task.{Task}
 use Rattle.corr_core.specs.declared.marks.Plan as id_plan
 use Rattle.corr_core.specs.declared.marks.View.{View}
 use Rattle.sock_message.specs.Asked.{Asked}
 use Rattle.corr_id.specs.declared.unlocks.Unlocked.TheVariants.{Open, Next}
-use Rattle.call_errors.specs.Books.{CallStand}
-use Rattle.call_errors.proofs.Keeping.{decided_behind, posted_behind}
+use Rattle.call_errors.specs.ClientBooks.{CallStand}
+use Rattle.call_errors.proofs.KeepingThroughErrors.{decided_behind, posted_behind}
 use Rattle.call_client.specs.declared.caller.Caller.{Caller}
-use Rattle.call_client.specs.Running.{RunBy}
-use Rattle.call_client.proofs.Changes.{Sees, keeps, finds, makes, locks, unlocks, Changes, same, in_turn, sees, ends, decides, posts, wants, shelves, run_changes}
+use Rattle.call_client.specs.ClientRun.{RunBy}
+use Rattle.call_client.proofs.ClientCallChanges.{Sees, keeps, finds, makes, locks, unlocks, Changes, same, in_turn, sees, ends, decides, posts, wants, shelves, run_changes}
 
 sees_share : {xs : List Task} {v w : View Asked} → Sees xs v w → w.share ≡ v.share
 sees_share (keeps v w place own word e) = ap (λ (y : View Asked). y.share) e

@@ -1,6 +1,6 @@
-pub mod Acting
-pub mod Running
-pub mod Making
+pub mod ClientBetweenOperations
+pub mod ClientRun
+pub mod ClientStopsMaking
 pub use Rattle.call_attempts
 pub use Rattle.call_errors
 pub use Rattle.call_attempts.specs.call_writes

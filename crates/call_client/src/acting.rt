@@ -1,15 +1,15 @@
 // One operation of a client with calls.
 ghost use Rattle.std.specs.Prelude.{◌≡◌, ◌+◌, ◌*◌, ◌<◌, ℕ, IfOk, IfErr, All, length, vec_capacity};
-ghost use Rattle.sock_table.specs.Passes.{IsPass};
+ghost use Rattle.sock_table.specs.LinkPasses.{IsPass};
 ghost use Rattle.sock_message.specs.Asked.{name_of};
-ghost use Rattle.corr_id.specs.Seats.{Stays};
-ghost use Rattle.rpc_client.specs.Seats.{MayAct, AtRest, StaysSeen, SameRefs};
-ghost use Rattle.rpc_client.specs.Acting.{OwnList};
-ghost use Rattle.call_errors.specs.Books.{stand_of, HasNoLock};
-ghost use Rattle.call_attempts.specs.call_writes.specs.Sending.{SentCalling, Rested};
-ghost use Rattle.call_client.specs.Acting.{letter_of, stand, OpenedNext, MayGo, Needs, Acted};
-ghost use Rattle.call_client.specs.Running.{NotCalled};
-ghost use Rattle.call_client.specs.Making.{NotMade};
+ghost use Rattle.corr_id.specs.IdTableSeat.{Stays};
+ghost use Rattle.rpc_client.specs.SeatBetweenOperations.{MayAct, AtRest, StaysSeen, SameRefs};
+ghost use Rattle.rpc_client.specs.AcceptedClientMessages.{OwnList};
+ghost use Rattle.call_errors.specs.ClientBooks.{stand_of, HasNoLock};
+ghost use Rattle.call_attempts.specs.call_writes.specs.MessageFateBesideCalls.{SentCalling, Rested};
+ghost use Rattle.call_client.specs.ClientBetweenOperations.{letter_of, stand, OpenedNext, MayGo, Needs, Acted};
+ghost use Rattle.call_client.specs.ClientRun.{NotCalled};
+ghost use Rattle.call_client.specs.ClientStopsMaking.{NotMade};
 
 use crate::caller::Caller;
 use call_attempts::{CallTables, Called, SharedTables, Tables};

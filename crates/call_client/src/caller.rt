@@ -3,13 +3,13 @@ ghost use Rattle.std.specs.Prelude.{◌≡◌, ◌≤◌, ℕ, [], false, All, I
 ghost use Rattle.std.specs.Result.{is_err};
 ghost use Rattle.atomic_table.specs.Seated.{TableId};
 ghost use Rattle.sock_words.specs.declared.plain.Plan.{Plan};
-ghost use Rattle.sock_table.specs.Passes.{IsPass};
-ghost use Rattle.sock_table.specs.Closed.{IsDoneSeat};
-ghost use Rattle.call_attempts.specs.sock_open.specs.Made.{IsNewSeat};
-ghost use Rattle.corr_id.specs.Seats.{Sits, Stays, IsFree};
-ghost use Rattle.call_errors.specs.Books.{books_of, HasNoLock};
-ghost use Rattle.call_client.specs.Acting.{MayGo};
-ghost use Rattle.call_client.specs.Running.{MayMakeAll, RunBy};
+ghost use Rattle.sock_table.specs.LinkPasses.{IsPass};
+ghost use Rattle.sock_table.specs.ClosedSocketTable.{IsDoneSeat};
+ghost use Rattle.call_attempts.specs.sock_open.specs.NewTableContents.{IsNewSeat};
+ghost use Rattle.corr_id.specs.IdTableSeat.{Sits, Stays, IsFree};
+ghost use Rattle.call_errors.specs.ClientBooks.{books_of, HasNoLock};
+ghost use Rattle.call_client.specs.ClientBetweenOperations.{MayGo};
+ghost use Rattle.call_client.specs.ClientRun.{MayMakeAll, RunBy};
 
 use crate::running::{end_retries, leave_all, make_all};
 use call_attempts::{CallTables, Tables};

@@ -1,16 +1,16 @@
 // A client's run with calls.
 ghost use Rattle.std.specs.Prelude.{◌≡◌, ◌+◌, ◌<◌, ◌≤◌, ◌++◌, ◌∷◌, ℕ, [], true, false, Option, IfOk, IfErr, All, length, vec_capacity};
 ghost use Rattle.sock_words.specs.declared.outcome.Outcome.{Outcome as AnOutcome};
-ghost use Rattle.sock_table.specs.Passes.{IsPass};
-ghost use Rattle.corr_id.specs.Seats.{Stays};
-ghost use Rattle.rpc_client.specs.Seats.{Idle, AtRest, StaysSeen, SameRefs};
-ghost use Rattle.rpc_client.specs.Running.{telling};
-ghost use Rattle.call_errors.specs.Books.{stand_of, HasNoLock, KeepsSeat};
+ghost use Rattle.sock_table.specs.LinkPasses.{IsPass};
+ghost use Rattle.corr_id.specs.IdTableSeat.{Stays};
+ghost use Rattle.rpc_client.specs.SeatBetweenOperations.{Idle, AtRest, StaysSeen, SameRefs};
+ghost use Rattle.rpc_client.specs.ToldOfOperation.{telling};
+ghost use Rattle.call_errors.specs.ClientBooks.{stand_of, HasNoLock, KeepsSeat};
 ghost use Rattle.call_errors.specs.Starving.{StarvedBy};
-ghost use Rattle.call_attempts.specs.Retrying.{RanOut};
-ghost use Rattle.call_client.specs.Acting.{both_of, stand, MayGo, MayMake, Acted};
-ghost use Rattle.call_client.specs.Running.{RetriedHere, MayMakeAll, LeftBy, LeftAll};
-ghost use Rattle.call_client.specs.Making.{NotMade, ComesTo, CameBy};
+ghost use Rattle.call_attempts.specs.WaitingRetries.{RanOut};
+ghost use Rattle.call_client.specs.ClientBetweenOperations.{both_of, stand, MayGo, MayMake, Acted};
+ghost use Rattle.call_client.specs.ClientRun.{RetriedHere, MayMakeAll, LeftBy, LeftAll};
+ghost use Rattle.call_client.specs.ClientStopsMaking.{NotMade, ComesTo, CameBy};
 
 use crate::acting::act;
 use crate::caller::Caller;

@@ -3,28 +3,28 @@ use Rattle.std.proofs.Common.{◌≡◌, ℕ, zero, suc, ◌+◌, Option, List, 
 use mathlib.Core.Option.{some, some-ne-none}
 use lib.ListN.{get_elem?}
 use Rattle.sock_io.specs.declared.link.Out.{Ghosts}
-use Rattle.sock_io.specs.Link.{OutState}
+use Rattle.sock_io.specs.LinkHalves.{OutState}
 use Rattle.sock_words.specs.declared.outcome.Outcome.{Outcome}
 use Rattle.sock_words.specs.declared.plain.Plan.{Plan}
-use Rattle.chain_steps.proofs.Lists.{old, new, at_snoc}
+use Rattle.chain_steps.proofs.TicketLists.{old, new, at_snoc}
 use Rattle.seat_programs.specs.declared.task.Task.{Task}
 use Rattle.corr_core.specs.declared.marks.Plan as id_plan
 use Rattle.call_places.specs.Below.RpcClient.Told.{Told}
 use Rattle.call_places.specs.Below.RpcClient.Held.{Held}
-use Rattle.call_places.specs.Below.RpcClient.Running.{telling}
-use Rattle.call_places.specs.Below.CallAttempts.Both.{Both}
-use Rattle.call_places.specs.Below.CallAttempts.Retrying.{without_oldest, Retried, none_yet, one_more}
-use Rattle.call_places.specs.Below.CallClient.Acting.{Stand, both_of}
-use Rattle.call_places.specs.Below.CallClient.Running.{Course, Ran, RetriedHere}
+use Rattle.call_places.specs.Below.RpcClient.ToldOfOperation.{telling}
+use Rattle.call_places.specs.Below.CallAttempts.ClientAtBothTables.{Both}
+use Rattle.call_places.specs.Below.CallAttempts.WaitingRetries.{without_oldest, Retried, none_yet, one_more}
+use Rattle.call_places.specs.Below.CallClient.ClientBetweenOperations.{Stand, both_of}
+use Rattle.call_places.specs.Below.CallClient.ClientRun.{Course, Ran, RetriedHere}
 use Rattle.call_places.specs.Below.CallRun.Threads.{opens_of, LinksDown}
 use Rattle.call_places.specs.sock_deeds.specs.Deeds.{Hand}
-use Rattle.call_places.specs.sock_deeds.specs.Runs.{IsOperation, numbers_at}
+use Rattle.call_places.specs.sock_deeds.specs.SocketTableRun.{IsOperation, numbers_at}
 use Rattle.call_places.specs.sock_deeds.proofs.Flats.{append_first, append_later, flat-append}
-use Rattle.call_places.specs.sock_deeds.proofs.Steps.{no_step, then_steps, steps_as}
-use Rattle.call_deeds.specs.Retried.{Again, asked_by, asked_in, asked_before}
-use Rattle.call_deeds.specs.Scripts.{IsLater, HaveLinks}
-use Rattle.call_deeds.proofs.Acts.{hand_of, socks_in, IsSaid, StepsFor, retry_steps, acted_steps}
-use Rattle.call_deeds.proofs.Links.{take_next, link_at, IsOwnCall, right_by, links_after}
+use Rattle.call_places.specs.sock_deeds.proofs.StepsOfDeeds.{no_step, then_steps, steps_as}
+use Rattle.call_deeds.specs.RetriedCalls.{Again, asked_by, asked_in, asked_before}
+use Rattle.call_deeds.specs.ScriptsWithCalls.{IsLater, HaveLinks}
+use Rattle.call_deeds.proofs.OperationsAsDeeds.{hand_of, socks_in, IsSaid, StepsFor, retry_steps, acted_steps}
+use Rattle.call_deeds.proofs.LinksOfTasks.{take_next, link_at, IsOwnCall, right_by, links_after}
 
 -- an operation that was made, and what its client told of it at once
 pub record Result : Type 0 where

@@ -1,4 +1,4 @@
-pub mod Retried
-pub mod Scripts
+pub mod RetriedCalls
+pub mod ScriptsWithCalls
 pub use Rattle.call_places
 pub use Rattle.call_places.specs.Below

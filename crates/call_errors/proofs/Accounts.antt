@@ -12,9 +12,9 @@ use Rattle.corr_core.specs.declared.marks.Noted.{Noted}
 use Rattle.corr_core.specs.declared.marks.Token.{Token}
 use Rattle.corr_core.specs.declared.marks.View.{View}
 use Rattle.corr_core.specs.declared.marks.Plan.{Plan}
-use Rattle.corr_core.proofs.Notes.{only-at, only-else}
-use Rattle.corr_id.specs.id_rule.specs.Lawful.{notes_of}
-use Rattle.sock_words.specs.Codes.{EINTERNAL, ERPCTIMEDOUT}
+use Rattle.corr_core.proofs.NoteSums.{only-at, only-else}
+use Rattle.corr_id.specs.id_rule.specs.LawfulIdTable.{notes_of}
+use Rattle.sock_words.specs.ErrorCodes.{EINTERNAL, ERPCTIMEDOUT}
 use Rattle.sock_words.specs.declared.outcome.Outcome.{Outcome}
 use Rattle.sock_words.specs.declared.outcome.Outcome.TheVariants.{CallFailed}
 use Rattle.sock_message.specs.Asked.{Asked}
@@ -23,16 +23,16 @@ use Rattle.corr_id.specs.declared.posts.Posted.{Posted}
 use Rattle.corr_id.specs.declared.posts.Posted.TheVariants.{Locked as HasLock, Queued as IsQueued, Gone, Stale, Crowded}
 use Rattle.corr_id.specs.declared.unlocks.Unlocked.{Unlocked}
 use Rattle.corr_id.specs.declared.unlocks.Unlocked.TheVariants.{Open, Next}
-use Rattle.corr_id.specs.Calls.{Did, Quiet, is_event, events, one, advance_note, error_in}
-use Rattle.corr_id.specs.Posts.{PostOk}
-use Rattle.corr_id.proofs.Seats.{total_append, notes_append}
+use Rattle.corr_id.specs.SeatBehindIdCalls.{Did, Quiet, is_event, events, one, advance_note, error_in}
+use Rattle.corr_id.specs.PostAnswers.{PostOk}
+use Rattle.corr_id.proofs.IdSeatSplits.{total_append, notes_append}
 use Rattle.rpc_client.specs.declared.acting.Told.{Told}
-use Rattle.call_errors.specs.Books.{Books, CallStand, starving, Tells, told, lost}
-use Rattle.call_errors.specs.Ending.{EndedWith, failed}
+use Rattle.call_errors.specs.ClientBooks.{Books, CallStand, starving, Tells, told, lost}
+use Rattle.call_errors.specs.CallEndsWithCode.{EndedWith, failed}
 use Rattle.call_errors.specs.Handling.{Advanced, Decided, ends, starves, waits, goes_on}
-use Rattle.call_errors.specs.Posting.{Handled, PostedBy}
-use Rattle.call_errors.specs.Asking.{found_id, TimedOut, SawEnd}
-use Rattle.sock_words.specs.Words.{id_slot, id_first}
+use Rattle.call_errors.specs.PostedErrors.{Handled, PostedBy}
+use Rattle.call_errors.specs.ExpireAndJoinOutcomes.{found_id, TimedOut, SawEnd}
+use Rattle.sock_words.specs.PackedWords.{id_slot, id_first}
 use Rattle.sock_words.specs.Totals.{total}
 
 -- the outcome is that of the call with this id, which failed

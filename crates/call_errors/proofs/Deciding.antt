@@ -1,7 +1,7 @@
 -- Ways in which an error is decided on.
 use Rattle.std.proofs.Common.{◌≡◌, ℕ, ◌+◌, inl, inr, true, List, [], ◌∷◌, ◌++◌, ◌∙◌, subst}
 use Rattle.std.specs.Prelude.{Option as Maybe}
-use Rattle.sock_words.specs.Codes.{EINTERNAL}
+use Rattle.sock_words.specs.ErrorCodes.{EINTERNAL}
 use Rattle.corr_core.specs.Word.{parts}
 use Rattle.corr_core.specs.declared.marks.Token.{Token}
 use Rattle.corr_core.specs.declared.marks.Noted.{Noted}
@@ -9,13 +9,13 @@ use Rattle.corr_core.specs.declared.marks.View.{View}
 use Rattle.sock_message.specs.Asked.{Asked}
 use Rattle.corr_id.specs.declared.calls.IdLock.{IdLock}
 use Rattle.corr_id.specs.declared.unlocks.Unlocked.{Unlocked}
-use Rattle.corr_id.specs.Calls.{Did}
+use Rattle.corr_id.specs.SeatBehindIdCalls.{Did}
 use Rattle.corr_id.specs.Unlocks.{UnlockOk}
 use Rattle.call_table.specs.declared.errors.Decision.TheVariants as decisions
 use Rattle.call_errors.specs.declared.retries.Retry.{Retry}
-use Rattle.call_errors.specs.Books.{Books, CallStand, starving, LetGo}
-use Rattle.call_errors.specs.Locking.{id_in}
-use Rattle.call_errors.specs.Ending.{EndedWith}
+use Rattle.call_errors.specs.ClientBooks.{Books, CallStand, starving, LetGo}
+use Rattle.call_errors.specs.LockingByVersion.{id_in}
+use Rattle.call_errors.specs.CallEndsWithCode.{EndedWith}
 use Rattle.call_errors.specs.Handling.{decision, Advanced, Decided, starves}
 
 module _ (k : IdLock Asked) (s t : CallStand) where

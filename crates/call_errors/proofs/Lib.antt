@@ -1,3 +1,3 @@
 pub mod Deciding
-pub mod Keeping
+pub mod KeepingThroughErrors
 pub mod Accounts

@@ -1,7 +1,7 @@
 -- What becomes of an error for which a seat has the lock.
 use Rattle.std.specs.Prelude.{◌≡◌, ℕ, ◌+◌, ◌⊎◌, Bool, true, false, Some, None}
 use Rattle.std.specs.Prelude.{Option as Maybe}
-use Rattle.sock_words.specs.Codes.{EINTERNAL}
+use Rattle.sock_words.specs.ErrorCodes.{EINTERNAL}
 use Rattle.corr_core.specs.Word.{parts}
 use Rattle.sock_message.specs.Asked.{Asked}
 use Rattle.corr_id.specs.declared.calls.IdLock.{IdLock}
@@ -10,11 +10,11 @@ use Rattle.corr_id.specs.declared.unlocks.Unlocked.TheVariants.{Open, Next}
 use Rattle.corr_id.specs.Unlocks.{UnlockOk}
 use Rattle.call_table.specs.declared.errors.Decision.{Decision}
 use Rattle.call_table.specs.declared.errors.Decision.TheVariants as decisions
-use Rattle.call_table.specs.Errors.{decision_of}
+use Rattle.call_table.specs.DecisionOnError.{decision_of}
 use Rattle.call_errors.specs.declared.retries.Retry.{Retry}
-use Rattle.call_errors.specs.Books.{CallStand, starving, keeping}
-use Rattle.call_errors.specs.Locking.{id_in}
-use Rattle.call_errors.specs.Ending.{EndedWith}
+use Rattle.call_errors.specs.ClientBooks.{CallStand, starving, keeping}
+use Rattle.call_errors.specs.LockingByVersion.{id_in}
+use Rattle.call_errors.specs.CallEndsWithCode.{EndedWith}
 
 -- the error is for the whole call
 abbrev pub is_whole : Maybe ℕ → Bool

@@ -1,8 +1,8 @@
-pub mod Books
-pub mod Locking
-pub mod Ending
+pub mod ClientBooks
+pub mod LockingByVersion
+pub mod CallEndsWithCode
 pub mod Handling
-pub mod Posting
-pub mod Asking
+pub mod PostedErrors
+pub mod ExpireAndJoinOutcomes
 pub mod Starving
 pub use Rattle.rpc_client

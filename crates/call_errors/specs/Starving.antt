@@ -1,13 +1,13 @@
 -- The retries that wait are given up for want of memory.
 use Rattle.std.specs.Prelude.{◌≡◌, ℕ, true, List, [], ◌∷◌}
-use Rattle.sock_words.specs.Codes.{EINTERNAL}
+use Rattle.sock_words.specs.ErrorCodes.{EINTERNAL}
 use Rattle.corr_core.specs.declared.marks.View.{View}
 use Rattle.sock_message.specs.Asked.{Asked}
 use Rattle.corr_id.specs.declared.calls.IdLock.{IdLock}
 use Rattle.call_errors.specs.declared.retries.Retry.{Retry}
-use Rattle.call_errors.specs.Books.{CallStand}
-use Rattle.call_errors.specs.Locking.{GotBy, GoneBy}
-use Rattle.call_errors.specs.Ending.{EndedWith}
+use Rattle.call_errors.specs.ClientBooks.{CallStand}
+use Rattle.call_errors.specs.LockingByVersion.{GotBy, GoneBy}
+use Rattle.call_errors.specs.CallEndsWithCode.{EndedWith}
 
 -- the call with this id ends, unless it has ended
 pub data GivenUp (slots id : ℕ) (s t : CallStand) : Type 0 where

@@ -1,7 +1,7 @@
 // What a client asks of a call, by its operation.
 ghost use Rattle.std.specs.Prelude.{◌<◌};
-ghost use Rattle.call_errors.specs.Books.{stand_of, HasNoLock, KeepsSeat};
-ghost use Rattle.call_errors.specs.Asking.{AskedBy};
+ghost use Rattle.call_errors.specs.ClientBooks.{stand_of, HasNoLock, KeepsSeat};
+ghost use Rattle.call_errors.specs.ExpireAndJoinOutcomes.{AskedBy};
 
 use crate::handling::handle;
 use crate::seats::CallSeat;

@@ -2,10 +2,10 @@
 ghost use Rattle.std.specs.Prelude.{◌≡◌, ◌<◌};
 ghost use Rattle.corr_core.specs.Word.{parts};
 ghost use Rattle.corr_core.specs.declared.marks.Hand.TheVariants.{Empty};
-ghost use Rattle.corr_id.specs.Seats.{Sits, Stays};
-ghost use Rattle.corr_id.specs.Calls.{Locks};
-ghost use Rattle.call_errors.specs.Books.{stand_of, books_of, Tells, LetGo};
-ghost use Rattle.call_errors.specs.Ending.{EndedWith, failed};
+ghost use Rattle.corr_id.specs.IdTableSeat.{Sits, Stays};
+ghost use Rattle.corr_id.specs.SeatBehindIdCalls.{Locks};
+ghost use Rattle.call_errors.specs.ClientBooks.{stand_of, books_of, Tells, LetGo};
+ghost use Rattle.call_errors.specs.CallEndsWithCode.{EndedWith, failed};
 
 use crate::seats::CallSeat;
 use corr_id::{IdLock, IdTable};

@@ -3,9 +3,9 @@ ghost use Rattle.std.specs.Prelude.{◌≡◌, ◌+◌, ◌<◌};
 ghost use Rattle.std.specs.VecDeque.{deque_len, deque_capacity};
 ghost use Rattle.corr_core.specs.Word.{parts};
 ghost use Rattle.corr_core.specs.declared.marks.Hand.TheVariants.{Empty};
-ghost use Rattle.corr_id.specs.Seats.{Sits, Stays};
-ghost use Rattle.corr_id.specs.Calls.{Locks};
-ghost use Rattle.call_errors.specs.Books.{stand_of, LetGo};
+ghost use Rattle.corr_id.specs.IdTableSeat.{Sits, Stays};
+ghost use Rattle.corr_id.specs.SeatBehindIdCalls.{Locks};
+ghost use Rattle.call_errors.specs.ClientBooks.{stand_of, LetGo};
 ghost use Rattle.call_errors.specs.Handling.{is_whole as concerns_all, decision, Advanced, Decided};
 
 use crate::ending::end_call;

@@ -1,7 +1,7 @@
 // An error that is posted to the id of a call.
 ghost use Rattle.std.specs.Prelude.{◌≤◌, MatchOption};
-ghost use Rattle.call_errors.specs.Books.{stand_of, HasNoLock, KeepsSeat};
-ghost use Rattle.call_errors.specs.Posting.{PostedBy};
+ghost use Rattle.call_errors.specs.ClientBooks.{stand_of, HasNoLock, KeepsSeat};
+ghost use Rattle.call_errors.specs.PostedErrors.{PostedBy};
 
 use crate::handling::handle;
 use crate::seats::CallSeat;

@@ -1,6 +1,6 @@
 // What a client has for its calls.
 ghost use Rattle.std.specs.Prelude.{◌≡◌, [], false};
-ghost use Rattle.call_errors.specs.Books.{books_of};
+ghost use Rattle.call_errors.specs.ClientBooks.{books_of};
 
 use crate::retries::Retry;
 use corr_id::IdSeat;

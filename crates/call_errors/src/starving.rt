@@ -1,6 +1,6 @@
 // The retries that wait are given up for want of memory.
 ghost use Rattle.std.specs.Prelude.{◌≡◌};
-ghost use Rattle.call_errors.specs.Books.{stand_of, HasNoLock, KeepsSeat};
+ghost use Rattle.call_errors.specs.ClientBooks.{stand_of, HasNoLock, KeepsSeat};
 ghost use Rattle.call_errors.specs.Starving.{GivenUp, StarvedBy};
 
 use crate::ending::end_call;

@@ -8,20 +8,20 @@ use lib.ListN.{get_elem?}
 use Rattle.sock_words.specs.declared.kind.Kind.{Kind}
 use Rattle.sock_words.specs.declared.plain.Plan.{Plan}
 use Rattle.sock_model.specs.declared.home.Home.{Home}
-use Rattle.sock_model.specs.Messages.{HeadedBytes}
-use Rattle.sock_model.specs.Reads.{message, link_home}
+use Rattle.sock_model.specs.UnplacedMessages.{HeadedBytes}
+use Rattle.sock_model.specs.ChainLawReads.{message, link_home}
 use Rattle.seat_programs.specs.Asides.{Step, Found, TakeBytes, Bytes}
-use Rattle.seat_programs.specs.Beside.{found_in, calls_after}
-use Rattle.seat_programs.specs.Calls.{kind_of}
+use Rattle.seat_programs.specs.FoundAndChangedAside.{found_in, calls_after}
+use Rattle.seat_programs.specs.TableSteps.{kind_of}
 use Rattle.seat_programs.specs.Asides.{kind_aside}
 use Rattle.seat_programs.specs.Programs.{Program, Do, Say, Sent, Rest, TakeMessage, TakeHome, PutBytes, AskReady, Aside, Round, Keep, Retries}
-use Rattle.seat_programs.specs.Rounds.{kind_of_round, first_step}
+use Rattle.seat_programs.specs.LoopRounds.{kind_of_round, first_step}
 use Rattle.seat_programs.specs.Cores.{Calls, Core, SeatState}
 use Rattle.seat_programs.specs.Ticks.{Answer, Unasked, Moment, seats_of, taken, with_message, with_link, with_found, step_with, tick_with, ticked, run, waits, IsAlwaysReady}
-use Rattle.seat_programs.specs.Runs.{kind_in, IsAtRest, from_to}
-use Rattle.seat_programs.specs.Scripts.{AreStill}
-use Rattle.joint_runs.specs.Below.program_steps.proofs.Cases.{ticks_first}
-use Rattle.joint_runs.specs.Below.sock_runs.proofs.Waiting.{still}
+use Rattle.seat_programs.specs.ScheduledRuns.{kind_in, IsAtRest, from_to}
+use Rattle.seat_programs.specs.ScriptSetupToEnding.{AreStill}
+use Rattle.joint_runs.specs.Below.program_steps.proofs.TickCases.{ticks_first}
+use Rattle.joint_runs.specs.Below.sock_runs.proofs.TicksOfWaitingSeats.{still}
 
 -- ## The run stays one that is ending
 

@@ -8,12 +8,12 @@ use lib.ListN.{get_elem?}
 use Rattle.atomic_table.proofs.Lists.{at_set}
 use Rattle.sock_words.specs.declared.outcome.Outcome.{Outcome}
 use Rattle.corr_core.specs.declared.marks.Plan.{Plan as IdPlan}
-use Rattle.corr_core.proofs.Notes.{at_length}
-use Rattle.seat_programs.specs.Heads.{Retry}
+use Rattle.corr_core.proofs.NoteSums.{at_length}
+use Rattle.seat_programs.specs.LoopHeads.{Retry}
 use Rattle.seat_programs.specs.Cores.{Core, SeatState, waiting_at}
 use Rattle.call_owing.specs.Owing.{Duty, Looking, Owing, Among, InList, DutyTo, duty_tokens}
-use Rattle.call_owing.specs.Sound.{id_word_of, at_of, retry_tokens, Owed, by_seat, by_retry, by_reader, Past, tokens_at, Token, Distinct, ErrorPast, Stored, OwingLaw}
-use Rattle.call_owing.proofs.Changes.{set_at, set_beside}
+use Rattle.call_owing.specs.SoundOwing.{id_word_of, at_of, retry_tokens, Owed, by_seat, by_retry, by_reader, Past, tokens_at, Token, Distinct, ErrorPast, Stored, OwingLaw}
+use Rattle.call_owing.proofs.OwedMarkChanges.{set_at, set_beside}
 
 -- a seat knows what it knew, and reads on as it did
 pub record SameBut (u v : Owing) : Type 0 where
@@ -86,9 +86,9 @@ module _ (q : IdPlan) (life : ℕ → Option ℕ) (calls : List ℕ) (c : Core) 
       distinct = λ j x e. ⊎_elim (λ b. subst (λ (y : Owing). Distinct (duty_tokens y.duty ++ retry_tokens (waiting_at (set c.calls.waiting i ws) j))) b.1 (subst (λ y. Distinct (duty_tokens v.duty ++ retry_tokens y)) (sym (ap (waiting_at (set c.calls.waiting i ws)) b.0 ∙ here)) m.distinct))
           (λ b. subst (λ y. Distinct (duty_tokens x.duty ++ retry_tokens y)) (sym (else_ j b.0)) (law.distinct j x b.1)) (at_set us i j v x e);
       past = λ id n p. law.past id n (past_from id n p);
-      errors = λ id l f x. let e = law.errors id l f x in (error_to id (id_word_of c (Rattle.sock_words.specs.Words.id_slot id)).oldest e.0, error_to id (id_word_of c (Rattle.sock_words.specs.Words.id_slot id)).second e.1);
+      errors = λ id l f x. let e = law.errors id l f x in (error_to id (id_word_of c (Rattle.sock_words.specs.PackedWords.id_slot id)).oldest e.0, error_to id (id_word_of c (Rattle.sock_words.specs.PackedWords.id_slot id)).second e.1);
       letters = λ r heading bytes e some_. let l = law.letters r heading bytes e some_ in (past_to heading.owner heading.attempt l.0, l.1);
-      ats = λ o l some_. past_to (Rattle.sock_words.specs.Words.call_id (Rattle.sock_words.specs.Words.at_word_slot (at_of q c o)) (Rattle.sock_words.specs.Words.at_word_first (at_of q c o))) (Rattle.sock_words.specs.Words.at_word_attempt (at_of q c o)) (law.ats o l some_);
+      ats = λ o l some_. past_to (Rattle.sock_words.specs.PackedWords.call_id (Rattle.sock_words.specs.PackedWords.at_word_slot (at_of q c o)) (Rattle.sock_words.specs.PackedWords.at_word_first (at_of q c o))) (Rattle.sock_words.specs.PackedWords.at_word_attempt (at_of q c o)) (law.ats o l some_);
       readers = λ k s e. let r = law.readers k s e in dite (ℕ_discrete r.0 i)
           (λ h. let same : r.1 ≡ u = some-injective r.1 u (sym r.2 ∙ ap (get_elem? us) h ∙ at) in (i, v, set_at us i u v at, m.same.link ∙ subst (λ (w : Owing). w.link ≡ k ∷ []) same r.3, ⊎_elim (λ d. inl (m.same.dead ∙ d)) (λ d. inr (m.same.left ∙ d)) (subst (λ (w : Owing). (w.dead ≡ true) ⊎ (w.left ≡ calls)) same r.4)))
           (λ ne. (r.0, r.1, set_beside us i r.0 v r.1 ne r.2, r.3, r.4));

@@ -1,9 +1,9 @@
 pub mod Owing
 pub mod Owes
-pub mod Sound
-pub mod Fits
-pub mod Settled
-pub mod Lives
+pub mod SoundOwing
+pub mod OwingStepFits
+pub mod SettledSeats
+pub mod LivesOfLinks
 pub mod Owns
-pub mod Takes
+pub mod LinkTakenBySeat
 pub mod Below

@@ -4,15 +4,15 @@ use Rattle.sock_io.specs.declared.link.Put.{Put}
 use Rattle.sock_io.specs.declared.link.Ready.{Ready}
 use Rattle.sock_model.specs.declared.chain.Heading.{Heading}
 use Rattle.corr_core.specs.Word.{parts, attempt_of}
-use Rattle.corr_core.specs.Decisions.{ends_call}
+use Rattle.corr_core.specs.ErrorsThatEndCalls.{ends_call}
 use Rattle.seat_programs.specs.Asides.{Found}
-use Rattle.seat_programs.specs.Heads.{Head, Exit, Sought, First, Posts, Unlocks, Decides, Locks, Joins, Opens, Reads, Posting, HasLocked, Unlocking, IsOpen, HasNext, Locking, NotThere, Has}
+use Rattle.seat_programs.specs.LoopHeads.{Head, Exit, Sought, First, Posts, Unlocks, Decides, Locks, Joins, Opens, Reads, Posting, HasLocked, Unlocking, IsOpen, HasNext, Locking, NotThere, Has}
 use Rattle.seat_programs.specs.Programs.{Program, Do, Say, Sent, Rest, TakeMessage, TakeHome, PutHome, PutBytes, AskReady, Write, Aside, Round, Keep, Retries}
-use Rattle.sock_words.specs.Codes.{is_final}
-use Rattle.seat_programs.specs.Posts.{is_stale, IsSoughtWord}
+use Rattle.sock_words.specs.ErrorCodes.{is_final}
+use Rattle.seat_programs.specs.PostPrograms.{is_stale, IsSoughtWord}
 use Rattle.seat_programs.specs.Writings.{Writing, Puts, Waits}
 use Rattle.call_owing.specs.Owing.{Duty, Free, Trying, Telling, Owing, Among, with_duty, freed, with_left, with_keeps, with_dead, KnowsError, KnowsOwner, MayCall, CallMove, FindsCall, AsideMove, MayOwe, FindsOwe}
-use Rattle.sock_words.specs.Words.{call_id, id_slot, id_first, NO_SOCKET, bit}
+use Rattle.sock_words.specs.PackedWords.{call_id, id_slot, id_first, NO_SOCKET, bit}
 
 -- v is u, but for more that it knows
 pub record Further (u v : Owing) : Type 0 where

@@ -7,13 +7,13 @@ use lib.ListN.{get_elem?}
 use Rattle.sock_words.specs.declared.plain.Plan.{Plan}
 use Rattle.sock_model.specs.declared.chain.Entry.{Entry}
 use Rattle.sock_model.specs.Authors.{pick}
-use Rattle.chain_steps.proofs.Lists.{at_some, at_length}
-use Rattle.call_run.specs.sock_rule.specs.Closing.{Ordered, PlacesDiffer}
-use Rattle.corr_core.proofs.Notes.{only-at}
-use Rattle.sock_deeds.proofs.Entries.{before, pick_at, before_rises}
-use Rattle.call_places.proofs.Weights.{term, two_terms}
-use Rattle.call_places.proofs.Labels.{at_place}
-use Rattle.sock_deeds.proofs.Places.{map_there}
+use Rattle.chain_steps.proofs.TicketLists.{at_some, at_length}
+use Rattle.call_run.specs.sock_rule.specs.ClosingWordsAndNotes.{Ordered, PlacesDiffer}
+use Rattle.corr_core.proofs.NoteSums.{only-at}
+use Rattle.sock_deeds.proofs.PlacesOfEntries.{before, pick_at, before_rises}
+use Rattle.call_places.proofs.NoteWeights.{term, two_terms}
+use Rattle.call_places.proofs.LabelPlaceIndices.{at_place}
+use Rattle.sock_deeds.proofs.ListPlaces.{map_there}
 use Rattle.sock_words.specs.Totals.{total}
 
 module _ (p : Plan) (found : List ℕ) (lists : List (List Entry)) (o : Ordered p found lists) where

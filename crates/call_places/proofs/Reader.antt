@@ -7,18 +7,18 @@ use Rattle.corr_core.specs.declared.marks.Note.TheVariants.{Ended, Locker, Queue
 use Rattle.corr_core.specs.declared.marks.Token.{Token}
 use Rattle.corr_core.specs.declared.marks.Noted.{Noted}
 use Rattle.corr_core.specs.declared.marks.View.{View}
-use Rattle.id_rule.specs.Lawful.{notes_of}
+use Rattle.id_rule.specs.LawfulIdTable.{notes_of}
 use Rattle.sock_message.specs.Asked.{Asked}
 use Rattle.corr_id.specs.declared.posts.Posted.{Posted}
 use Rattle.corr_id.specs.declared.posts.Posted.TheVariants.{Locked as HasLock, Queued as IsQueued}
-use Rattle.corr_id.specs.Calls.{error_in, one, Quiet, Did, GotLock, Became}
-use Rattle.corr_id.specs.Posts.{PostOk}
-use Rattle.corr_id.proofs.Doing.{became_grows}
-use Rattle.call_places.specs.Counted.{makes}
+use Rattle.corr_id.specs.SeatBehindIdCalls.{error_in, one, Quiet, Did, GotLock, Became}
+use Rattle.corr_id.specs.PostAnswers.{PostOk}
+use Rattle.corr_id.proofs.TokensOfIdCalls.{became_grows}
+use Rattle.call_places.specs.ClientNotesCounted.{makes}
 use Rattle.call_places.proofs.Spans.{Spans}
-use Rattle.call_places.proofs.Weights.{quiet_all, did_all, became_all}
+use Rattle.call_places.proofs.NoteWeights.{quiet_all, did_all, became_all}
 use Rattle.call_places.proofs.Still.{makes_silent, NoneMade}
-use Rattle.sock_words.specs.Words.{id_slot, id_first}
+use Rattle.sock_words.specs.PackedWords.{id_slot, id_first}
 use Rattle.sock_words.specs.Totals.{total}
 
 -- a later view of the same seat, which made no id between

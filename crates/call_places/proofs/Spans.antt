@@ -2,30 +2,30 @@
 use Rattle.std.proofs.Common.{◌≡◌, ℕ, ◌⊎◌, inl, inr, Bool, true, false, List, [], ◌∷◌, Some, None, refl, ap}
 use Rattle.std.specs.Prelude.{Option, position, ◌==◌}
 use Rattle.std.specs.List.{remove}
-use Rattle.sock_words.specs.Words.{at_word_link, id_slot}
+use Rattle.sock_words.specs.PackedWords.{at_word_link, id_slot}
 use Rattle.sock_words.specs.declared.at_word.AtWord.{AtWord}
 use Rattle.sock_words.specs.declared.outcome.Outcome.{Outcome}
 use Rattle.sock_words.specs.declared.outcome.Outcome.TheVariants.{CallFailed}
-use Rattle.sock_io.specs.Link.{InState}
+use Rattle.sock_io.specs.LinkHalves.{InState}
 use Rattle.corr_core.specs.Word.{Parts, parts}
 use Rattle.corr_core.specs.declared.marks.Note.TheVariants.{Ended}
 use Rattle.corr_core.specs.declared.marks.Plan.{Plan}
 use Rattle.corr_core.specs.declared.marks.View.{View}
-use Rattle.id_rule.specs.Lawful.{at_index, with_kept}
+use Rattle.id_rule.specs.LawfulIdTable.{at_index, with_kept}
 use Rattle.sock_message.specs.Asked.{Asked}
 use Rattle.corr_id.specs.declared.posts.Posted.{Posted}
 use Rattle.corr_id.specs.declared.posts.Posted.TheVariants.{Locked as HasLock}
-use Rattle.corr_id.specs.Calls.{one, Quiet, GotLock, Became}
-use Rattle.corr_id.specs.Posts.{PostOk}
-use Rattle.call_run.specs.rpc_reader.specs.prpc_frame.specs.Meaning.{frame_of}
+use Rattle.corr_id.specs.SeatBehindIdCalls.{one, Quiet, GotLock, Became}
+use Rattle.corr_id.specs.PostAnswers.{PostOk}
+use Rattle.call_run.specs.rpc_reader.specs.prpc_frame.specs.FrameMeaning.{frame_of}
 use Rattle.call_run.specs.rpc_reader.specs.prpc_frame.specs.declared.frame.Frame.{Frame}
 use Rattle.brpc_model.specs.ResponseOutcome.{ending_of}
-use Rattle.call_run.specs.rpc_reader.specs.Books.{Books, EndedAs, id_of}
+use Rattle.call_run.specs.rpc_reader.specs.ReaderBooks.{Books, EndedAs, id_of}
 use Rattle.call_run.specs.rpc_reader.specs.Met.{slot_in, is_asked, is_for, MetIf, FramesMet}
-use Rattle.call_run.specs.rpc_reader.specs.Posting.{LostBy, LockLost, PostedTo, PostedIf, PostedAt, PostedAll, call_at, attempt_at}
-use Rattle.call_run.specs.rpc_reader.specs.Reading.{code_of}
-use Rattle.call_run.specs.rpc_reader.specs.Resting.{HadEnded, EndedLast, OneEnded, RestEnded}
-use Rattle.call_run.specs.rpc_reader.specs.Running.{ReadLink}
+use Rattle.call_run.specs.rpc_reader.specs.PostingAtReadingEnd.{LostBy, LockLost, PostedTo, PostedIf, PostedAt, PostedAll, call_at, attempt_at}
+use Rattle.call_run.specs.rpc_reader.specs.LinkReading.{code_of}
+use Rattle.call_run.specs.rpc_reader.specs.CallsLeftAfterReading.{HadEnded, EndedLast, OneEnded, RestEnded}
+use Rattle.call_run.specs.rpc_reader.specs.ReaderRunFromOpen.{ReadLink}
 
 -- it holds over two changes in turn, and where nothing was noted; where the table was looked at, where a lock was got, where a post was answered, and where a call ended
 pub record Spans (R : View Asked → View Asked → Type 0) : Type 0 where

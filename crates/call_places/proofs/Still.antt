@@ -3,8 +3,8 @@ use Rattle.std.proofs.Common.{◌≡◌, ℕ, ◌+◌, ◌*◌, ◌<◌, ◌≤�
 use Rattle.std.specs.Prelude.{Option as Maybe}
 use mathlib.Core.Logic.{dite}
 use native.Mathlib.Decide.{ℕ_discrete}
-use Rattle.sock_io.specs.Link.{OutState}
-use Rattle.sock_words.specs.Codes.{EINTERNAL}
+use Rattle.sock_io.specs.LinkHalves.{OutState}
+use Rattle.sock_words.specs.ErrorCodes.{EINTERNAL}
 use Rattle.sock_words.specs.declared.plain.Plan.{Plan}
 use Rattle.sock_words.specs.declared.socket_id.SocketId.{SocketId}
 use Rattle.call_run.specs.sock_rule.specs.declared.homes.Letter.{Letter}
@@ -16,33 +16,33 @@ use Rattle.corr_core.specs.declared.marks.Noted.{Noted}
 use Rattle.corr_core.specs.declared.marks.Plan as id_plan
 use Rattle.corr_core.specs.declared.marks.Token.{Token}
 use Rattle.corr_core.specs.declared.marks.View.{View}
-use Rattle.corr_core.proofs.Notes.{only-else, pair-at, pair-else, pair-else_first}
-use Rattle.id_rule.specs.Lawful.{notes_of, with_kept}
+use Rattle.corr_core.proofs.NoteSums.{only-else, pair-at, pair-else, pair-else_first}
+use Rattle.id_rule.specs.LawfulIdTable.{notes_of, with_kept}
 use Rattle.sock_message.specs.Asked.{Asked}
 use Rattle.corr_id.specs.declared.calls.IdLock.{IdLock}
 use Rattle.corr_id.specs.declared.posts.Posted.{Posted}
 use Rattle.corr_id.specs.declared.posts.Posted.TheVariants.{Locked as HasLock, Queued as IsQueued}
 use Rattle.corr_id.specs.declared.unlocks.Unlocked.{Unlocked}
 use Rattle.corr_id.specs.declared.unlocks.Unlocked.TheVariants.{Open, Next}
-use Rattle.corr_id.specs.Calls.{Did, Quiet, GotLock, one, is_event, advance_note, error_in}
-use Rattle.corr_id.specs.Posts.{PostOk}
+use Rattle.corr_id.specs.SeatBehindIdCalls.{Did, Quiet, GotLock, one, is_event, advance_note, error_in}
+use Rattle.corr_id.specs.PostAnswers.{PostOk}
 use Rattle.corr_id.specs.Unlocks.{UnlockOk}
-use Rattle.corr_id.proofs.Seats.{total_append}
-use Rattle.corr_id.proofs.Doing.{became_grows}
+use Rattle.corr_id.proofs.IdSeatSplits.{total_append}
+use Rattle.corr_id.proofs.TokensOfIdCalls.{became_grows}
 use Rattle.call_run.specs.call_client.specs.call_errors.specs.declared.retries.Retry.{Retry}
-use Rattle.call_run.specs.call_client.specs.call_errors.specs.Books.{Books, CallStand, starving, keeping, Tells, told, lost}
-use Rattle.call_run.specs.call_client.specs.call_errors.specs.Locking.{GotBy}
-use Rattle.call_run.specs.call_client.specs.call_errors.specs.Ending.{EndedWith, failed}
+use Rattle.call_run.specs.call_client.specs.call_errors.specs.ClientBooks.{Books, CallStand, starving, keeping, Tells, told, lost}
+use Rattle.call_run.specs.call_client.specs.call_errors.specs.LockingByVersion.{GotBy}
+use Rattle.call_run.specs.call_client.specs.call_errors.specs.CallEndsWithCode.{EndedWith, failed}
 use Rattle.call_run.specs.call_client.specs.call_errors.specs.Handling.{Advanced, IsNext, Decided, ends, starves, waits, goes_on}
-use Rattle.call_run.specs.call_client.specs.call_errors.specs.Posting.{Handled, PostedBy}
-use Rattle.call_run.specs.call_client.specs.call_attempts.specs.Both.{Both}
+use Rattle.call_run.specs.call_client.specs.call_errors.specs.PostedErrors.{Handled, PostedBy}
+use Rattle.call_run.specs.call_client.specs.call_attempts.specs.ClientAtBothTables.{Both}
 use Rattle.call_run.specs.call_client.specs.call_attempts.specs.Attempting.{AttemptedBy}
-use Rattle.call_run.specs.call_client.specs.call_attempts.specs.Retrying.{RetriedBy, had_ended, overtaken, went_again}
-use Rattle.call_run.specs.call_client.proofs.Telling.{did_total}
-use Rattle.call_places.specs.Counted.{makes_for, makes}
-use Rattle.call_places.proofs.Follows.{Follows, attempted_by, went_to}
-use Rattle.call_places.proofs.Weights.{quiet_all, did_all, became_all}
-use Rattle.sock_words.specs.Words.{id_slot, id_first}
+use Rattle.call_run.specs.call_client.specs.call_attempts.specs.WaitingRetries.{RetriedBy, had_ended, overtaken, went_again}
+use Rattle.call_run.specs.call_client.proofs.EndedCallsTelling.{did_total}
+use Rattle.call_places.specs.ClientNotesCounted.{makes_for, makes}
+use Rattle.call_places.proofs.CallStandFollows.{Follows, attempted_by, went_to}
+use Rattle.call_places.proofs.NoteWeights.{quiet_all, did_all, became_all}
+use Rattle.sock_words.specs.PackedWords.{id_slot, id_first}
 use Rattle.sock_words.specs.Totals.{total}
 
 -- ## Counts
@@ -244,7 +244,7 @@ module _ {O : Type 0} (state : O → OutState) (p : Plan) (q : id_plan.Plan) whe
   lock_still version k s t e g = got_still s t (ap (λ (b : Books). b.retries) e) k.slot g.word (parts k.word.0) k.content g.got
 
   -- behind the lock of a retry
-  pub again_still : (r : Retry) (k : IdLock Asked) (u t : Both) → Rattle.call_run.specs.call_client.specs.call_attempts.specs.Retrying.WentAgain state p q r k u t → Still u.calls t.calls
+  pub again_still : (r : Retry) (k : IdLock Asked) (u t : Both) → Rattle.call_run.specs.call_client.specs.call_attempts.specs.WaitingRetries.WentAgain state p q r k u t → Still u.calls t.calls
   again_still r k u t w = let x : CallStand = record { view = w.view; books = u.calls.books } in
       still_then u.calls x t.calls (unlocked_still k Open u.calls x refl w.unlocked) (went_to q (still_follows q) state p (kept_still true) _ _ (record { socks = u.socks; calls = x }) t w.went)
 

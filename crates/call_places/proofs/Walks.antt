@@ -4,18 +4,18 @@ use Rattle.std.specs.Prelude.{Option}
 use mathlib.Core.Option.{some}
 use lib.ListN.{get_elem?}
 use Rattle.sock_io.specs.declared.link.Out.{Ghosts}
-use Rattle.sock_io.specs.Link.{OutState}
+use Rattle.sock_io.specs.LinkHalves.{OutState}
 use Rattle.sock_words.specs.declared.outcome.Outcome.{Outcome}
 use Rattle.sock_words.specs.declared.plain.Plan.{Plan}
 use Rattle.seat_programs.specs.declared.task.Task.{Task}
 use Rattle.corr_core.specs.declared.marks.Plan as id_plan
 use Rattle.call_run.specs.call_client.specs.call_errors.specs.declared.retries.Retry.{Retry}
-use Rattle.call_run.specs.call_client.specs.call_attempts.specs.Both.{Both}
-use Rattle.call_run.specs.call_client.specs.call_attempts.specs.Retrying.{without_oldest, RetriedBy, Retried, none_yet, one_more}
-use Rattle.call_run.specs.call_client.specs.Acting.{Stand, stand, both_of, Acted}
-use Rattle.call_run.specs.call_client.specs.Running.{Course, Ran, begins}
+use Rattle.call_run.specs.call_client.specs.call_attempts.specs.ClientAtBothTables.{Both}
+use Rattle.call_run.specs.call_client.specs.call_attempts.specs.WaitingRetries.{without_oldest, RetriedBy, Retried, none_yet, one_more}
+use Rattle.call_run.specs.call_client.specs.ClientBetweenOperations.{Stand, stand, both_of, Acted}
+use Rattle.call_run.specs.call_client.specs.ClientRun.{Course, Ran, begins}
 use Rattle.call_run.specs.Threads.{Thread, IsThread}
-use Rattle.call_places.specs.Deeds.{Deed, operates, retries, retries_of, ran_deeds, deeds}
+use Rattle.call_places.specs.DeedsOfCallClient.{Deed, operates, retries, retries_of, ran_deeds, deeds}
 
 module _ {O : Type 0} {g : Ghosts O} (state : O → OutState) (p : Plan) (q : id_plan.Plan) where
   -- by these deeds the client came from what it had to what it has: by none, by those of two such in turn, by a retry that was taken out, and by an operation, which is one of these

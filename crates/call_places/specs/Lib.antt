@@ -1,5 +1,5 @@
-pub mod Deeds
-pub mod Counted
+pub mod DeedsOfCallClient
+pub mod ClientNotesCounted
 pub mod CallAttempts
 pub mod CallClient
 pub mod CallErrors

@@ -1,2 +1,2 @@
-pub mod Steps
-pub mod Points
+pub mod AsideCodeSteps
+pub mod CallIdPoints

@@ -1,7 +1,7 @@
 ghost use Rattle.std.specs.Prelude.{◌≡◌};
 ghost use Rattle.seat_programs.specs.Asides.{kind_aside};
 ghost use Rattle.seat_programs.specs.sock_message.specs.Asked.{Asked};
-ghost use Rattle.call_points.specs.Steps.{step_of};
+ghost use Rattle.call_points.specs.AsideCodeSteps.{step_of};
 
 use id_points::{CallId, IdError};
 use sock_words::{AtWord, IdWord, Kind};

@@ -1,10 +1,10 @@
 ghost use Rattle.std.specs.Prelude.{◌≡◌, ◌<◌, ◌≤◌, ◌+◌, ℕ, Some, IsTrue};
 ghost use Rattle.corr_core.specs.Word.{parts};
-ghost use Rattle.seat_programs.specs.Heads.{Deciding};
+ghost use Rattle.seat_programs.specs.LoopHeads.{Deciding};
 ghost use Rattle.seat_programs.specs.Programs.{Program};
 ghost use Rattle.seat_programs.specs.sock_message.specs.Asked.{Asked};
-ghost use Rattle.call_points.specs.Steps.{step_of, aside_in, after_word, after_call};
-ghost use Rattle.call_points.specs.Points.{decide_program, decide_on, MayStand, GoesByWord};
+ghost use Rattle.call_points.specs.AsideCodeSteps.{step_of, aside_in, after_word, after_call};
+ghost use Rattle.call_points.specs.CallIdPoints.{decide_program, decide_on, MayStand, GoesByWord};
 
 use crate::aside::Aside;
 use id_points::{AttemptNumber, CallId, IdError, UnlockTurn, ends_call, is_reused, unlock_behind};

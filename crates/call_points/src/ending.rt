@@ -1,8 +1,8 @@
 ghost use Rattle.std.specs.Prelude.{◌≡◌, ℕ, Some};
 ghost use Rattle.seat_programs.specs.Programs.{Program};
 ghost use Rattle.seat_programs.specs.sock_message.specs.Asked.{Asked};
-ghost use Rattle.call_points.specs.Steps.{step_of, aside_in, after_word};
-ghost use Rattle.call_points.specs.Points.{end_program, end_on};
+ghost use Rattle.call_points.specs.AsideCodeSteps.{step_of, aside_in, after_word};
+ghost use Rattle.call_points.specs.CallIdPoints.{end_program, end_on};
 
 use crate::aside::Aside;
 use id_points::is_reused;

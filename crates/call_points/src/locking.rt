@@ -1,11 +1,11 @@
 ghost use Rattle.std.specs.Prelude.{◌≡◌, ℕ, Some};
 ghost use Rattle.corr_core.specs.Word.{parts};
-ghost use Rattle.seat_programs.specs.Heads.{Locking};
+ghost use Rattle.seat_programs.specs.LoopHeads.{Locking};
 ghost use Rattle.seat_programs.specs.Programs.{Program};
 ghost use Rattle.seat_programs.specs.sock_message.specs.Asked.{Asked};
-ghost use Rattle.id_points.specs.Turns.{lock_on, sought_as};
-ghost use Rattle.call_points.specs.Steps.{step_of, aside_in, after_word};
-ghost use Rattle.call_points.specs.Points.{lock_program, IsOpen};
+ghost use Rattle.id_points.specs.CallIdLoopTurns.{lock_on, sought_as};
+ghost use Rattle.call_points.specs.AsideCodeSteps.{step_of, aside_in, after_word};
+ghost use Rattle.call_points.specs.CallIdPoints.{lock_program, IsOpen};
 
 use crate::aside::Aside;
 use crate::word_step::WordStep;

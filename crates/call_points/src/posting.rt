@@ -1,11 +1,11 @@
 ghost use Rattle.std.specs.Prelude.{◌≡◌, ℕ, Some};
-ghost use Rattle.seat_programs.specs.Heads.{Posting};
+ghost use Rattle.seat_programs.specs.LoopHeads.{Posting};
 ghost use Rattle.seat_programs.specs.Programs.{Program};
 ghost use Rattle.seat_programs.specs.sock_message.specs.Asked.{Asked};
-ghost use Rattle.id_points.specs.Ids.{id_of};
-ghost use Rattle.id_points.specs.Turns.{post_on};
-ghost use Rattle.call_points.specs.Steps.{step_of, aside_in, after_word};
-ghost use Rattle.call_points.specs.Points.{post_program};
+ghost use Rattle.id_points.specs.IdsAndAttemptNumbers.{id_of};
+ghost use Rattle.id_points.specs.CallIdLoopTurns.{post_on};
+ghost use Rattle.call_points.specs.AsideCodeSteps.{step_of, aside_in, after_word};
+ghost use Rattle.call_points.specs.CallIdPoints.{post_program};
 
 use crate::aside::Aside;
 use crate::deciding::OnCall;

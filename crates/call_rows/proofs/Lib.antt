@@ -1,2 +1,2 @@
-mod Rows
-mod Drawn
+mod CallScriptRows
+mod DrawnSchedules

@@ -12,21 +12,21 @@ use Rattle.sock_io.specs.declared.link.Ready.TheVariants as ready
 use Rattle.sock_model.specs.declared.home.Home.{Home}
 use Rattle.sock_model.specs.declared.home.Home.TheVariants.{Link}
 use Rattle.brpc_model.specs.Items.{Item, Shape}
-use Rattle.brpc_model.specs.Stream as streams
+use Rattle.brpc_model.specs.FrameStream as streams
 use Rattle.brpc_model.specs.Reply.{reply_frames}
-use Rattle.brpc_model.specs.Served.{given_for}
+use Rattle.brpc_model.specs.ServedForTakenBytes.{given_for}
 use Rattle.brpc_model.specs.Operations.{Turn, Ticks, Until, clients, schedule, link_names, link_shapes}
 use Rattle.seat_programs.specs.Writings as heads
 use Rattle.seat_programs.specs.Asides.{Taking, Bytes, Nothing, AtEnd, Closed}
-use Rattle.seat_programs.specs.Heads.{Reads, Discards}
-use Rattle.seat_programs.specs.Readers.{room_of}
+use Rattle.seat_programs.specs.LoopHeads.{Reads, Discards}
+use Rattle.seat_programs.specs.ReaderProgram.{room_of}
 use Rattle.seat_programs.specs.Programs.{Program, PutBytes, AskReady, Write, Round}
 use Rattle.seat_programs.specs.Cores.{Core, SeatState, link_place}
 use Rattle.seat_programs.specs.Ticks.{Answer, Unasked, OfPut, OfReady, OfTake, Moment, ticked, waits}
-use Rattle.seat_programs.specs.Runs.{from_to, next_kind}
+use Rattle.seat_programs.specs.ScheduledRuns.{from_to, next_kind}
 use Rattle.seat_programs.specs.Tasks.{plan_of}
-use Rattle.seat_programs.specs.Scripts.{opened, ending, is_ending}
-use Rattle.brpc_model.specs.Stream.{is_fault}
+use Rattle.seat_programs.specs.ScriptSetupToEnding.{opened, ending, is_ending}
+use Rattle.brpc_model.specs.FrameStream.{is_fault}
 
 -- how often each link was put to, and whether it answered the last time that it takes no more yet
 pub record Puts : Type 0 where

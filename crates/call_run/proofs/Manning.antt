@@ -10,21 +10,21 @@ use Rattle.sock_words.specs.declared.plain.Plan.{Plan}
 use Rattle.sock_model.specs.declared.view.View.{View}
 use Rattle.sock_rule.specs.declared.homes.SockHome.{SockHome}
 use Rattle.sock_table.specs.declared.passes.LinkPass.{LinkPass}
-use Rattle.sock_table.specs.Passes.{IsPass}
-use Rattle.sock_open.specs.Made.{IsNewSeat, AreNewSeats, PassesFrom}
+use Rattle.sock_table.specs.LinkPasses.{IsPass}
+use Rattle.sock_open.specs.NewTableContents.{IsNewSeat, AreNewSeats, PassesFrom}
 use Rattle.corr_core.specs.declared.marks.Plan as id_plan
 use Rattle.corr_core.specs.declared.marks.View as id_view
-use Rattle.corr_id.specs.Opening.{AreNew}
+use Rattle.corr_id.specs.IdTableOpening.{AreNew}
 use Rattle.sock_message.specs.Asked.{Asked}
 use Rattle.seat_programs.specs.declared.task.Task.{Task}
 use Rattle.call_client.specs.rpc_client.specs.declared.acting.Told.{Told}
-use Rattle.call_client.specs.Running.{MayMakeAll}
+use Rattle.call_client.specs.ClientRun.{MayMakeAll}
 use Rattle.call_run.specs.declared.opened.Opening.{Opening}
 use Rattle.call_run.specs.declared.hiring.Room.{Room}
 use Rattle.call_run.specs.Threads.{opens_of, opens_of_each, LinksDown, openings, opened_names, MayRunAll}
 use Rattle.call_run.specs.Hired.{opens_of_all, HasRoom, IsNewId, MayHire}
 use Rattle.call_run.proofs.Dealing.{all_split, down_split, down_of, seats_last, ids_last}
-use Rattle.call_run.proofs.Naming.{names_fit}
+use Rattle.call_run.proofs.SetupNames.{names_fit}
 
 module _ {O : Type 0} {g : Ghosts O} where
   opens_each : (rooms : List (Room O g)) → opens_of_each (map (λ (r : Room O g). r.tasks.items) rooms) ≡ opens_of_all rooms

@@ -6,16 +6,16 @@ use Rattle.std.specs.declared.result.Result.TheVariants.{Ok, Err}
 use Rattle.atomic_table.specs.Seated.{TableId}
 use Rattle.atomic_table.specs.declared.shared.Seat.{Seat}
 use Rattle.sock_io.specs.declared.link.Out.{Ghosts}
-use Rattle.sock_io.specs.Link.{OutState, InState}
+use Rattle.sock_io.specs.LinkHalves.{OutState, InState}
 use Rattle.sock_io.specs.Peer.{PeerState}
 use Rattle.sock_words.specs.declared.plain.Plan.{Plan}
 use Rattle.sock_model.specs.declared.view.View.{View}
-use Rattle.sock_table.specs.Closed.{AllDone}
-use Rattle.sock_open.specs.slot_steps.proofs.Sums.{total-append}
+use Rattle.sock_table.specs.ClosedSocketTable.{AllDone}
+use Rattle.sock_open.specs.slot_steps.proofs.SlotWeightSums.{total-append}
 use Rattle.corr_core.specs.declared.marks.Plan as id_plan
 use Rattle.corr_core.specs.declared.marks.View as id_view
 use Rattle.corr_id.specs.declared.table.IdTable.{IdTable}
-use Rattle.corr_id.proofs.Seats.{total_append}
+use Rattle.corr_id.proofs.IdSeatSplits.{total_append}
 use Rattle.sock_message.specs.Asked.{Asked}
 use Rattle.seat_programs.specs.declared.task.Task.{Task}
 use Rattle.link_crew.specs.declared.beside.Rest.{Rest}
@@ -23,10 +23,10 @@ use Rattle.call_run.specs.declared.leaving.Left.{Left}
 use Rattle.call_run.specs.declared.links.LinksLeft.{LinksLeft}
 use Rattle.call_run.specs.declared.beside.RanBeside.{RanBeside}
 use Rattle.call_run.specs.Threads.{ids_of, RanWith}
-use Rattle.call_run.specs.Readers.{LinkReader, AreReaders, AllServed, AreLeftBy}
-use Rattle.call_run.specs.Crew.{IsLeft, AreLeft, CrewRan, HasEnded}
-use Rattle.call_run.specs.Links.{LinksRan, BothEnded}
-use Rattle.call_run.proofs.Whole.{ran_with}
+use Rattle.call_run.specs.ReadersOfLinks.{LinkReader, AreReaders, AllServed, AreLeftBy}
+use Rattle.call_run.specs.CrewOfRun.{IsLeft, AreLeft, CrewRan, HasEnded}
+use Rattle.call_run.specs.LinksBesideClients.{LinksRan, BothEnded}
+use Rattle.call_run.proofs.WholeRunOverTables.{ran_with}
 use Rattle.sock_words.specs.Totals.{total as id_total}
 
 -- ## The seats

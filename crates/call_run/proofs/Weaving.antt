@@ -6,21 +6,21 @@ use Rattle.std.proofs.lemmas.List.Elements.{All-nil, All-cons}
 use Rattle.atomic_table.specs.Seated.{TableId}
 use Rattle.atomic_table.specs.declared.shared.Seat.{Seat}
 use Rattle.sock_io.specs.declared.link.Out.{Ghosts}
-use Rattle.sock_io.specs.Link.{OutState}
+use Rattle.sock_io.specs.LinkHalves.{OutState}
 use Rattle.sock_words.specs.declared.plain.Plan.{Plan}
 use Rattle.sock_model.specs.declared.view.View.{View}
 use Rattle.sock_rule.specs.declared.homes.SockHome.{SockHome}
-use Rattle.sock_table.specs.Closed.{AllDone}
-use Rattle.sock_open.proofs.Making.{new_view}
+use Rattle.sock_table.specs.ClosedSocketTable.{AllDone}
+use Rattle.sock_open.proofs.SeatsOfNewTable.{new_view}
 use Rattle.corr_core.specs.declared.marks.Plan as id_plan
 use Rattle.corr_core.specs.declared.marks.View as id_view
 use Rattle.sock_message.specs.Asked.{Asked}
-use Rattle.call_client.specs.Running.{MayMakeAll, RunBy}
+use Rattle.call_client.specs.ClientRun.{MayMakeAll, RunBy}
 use Rattle.call_run.specs.declared.worker.Worker.{Worker}
 use Rattle.call_run.specs.Threads.{opens_of, LinksDown, FoundEach, DidNothing, Thread, IsThread, AreThreads, MayRun, AllMayRun}
 use Rattle.call_run.specs.Hired.{IsHired, AreHired}
 use Rattle.call_run.specs.Working.{IsReady, HasWorked}
-use Rattle.call_run.specs.Crew.{AreLeft}
+use Rattle.call_run.specs.CrewOfRun.{AreLeft}
 use Rattle.sock_words.specs.Totals.{total, total as id_total}
 
 pub none_short : (a b : Bool) → (a || b) ≡ false → (a ≡ false) × (b ≡ false)

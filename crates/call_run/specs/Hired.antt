@@ -7,14 +7,14 @@ use Rattle.sock_words.specs.declared.plain.Plan.{Plan}
 use Rattle.sock_model.specs.declared.view.View.{View}
 use Rattle.sock_rule.specs.declared.homes.SockHome.{SockHome}
 use Rattle.sock_table.specs.declared.passes.LinkPass.{LinkPass}
-use Rattle.sock_table.specs.Passes.{IsPass}
-use Rattle.sock_open.specs.Made.{IsNewSeat, AreNewSeats}
-use Rattle.sock_open.specs.Opening.{IsRoom}
+use Rattle.sock_table.specs.LinkPasses.{IsPass}
+use Rattle.sock_open.specs.NewTableContents.{IsNewSeat, AreNewSeats}
+use Rattle.sock_open.specs.SocketTableOpening.{IsRoom}
 use Rattle.corr_core.specs.declared.marks.View as id_view
-use Rattle.id_rule.specs.Lawful.{newcomer as id_newcomer}
-use Rattle.corr_id.specs.Opening.{AreNew}
+use Rattle.id_rule.specs.LawfulIdTable.{newcomer as id_newcomer}
+use Rattle.corr_id.specs.IdTableOpening.{AreNew}
 use Rattle.sock_message.specs.Asked.{Asked}
-use Rattle.call_client.specs.Acting.{MayGo}
+use Rattle.call_client.specs.ClientBetweenOperations.{MayGo}
 use Rattle.call_run.specs.Threads.{opens_of, LinksDown, DidNothing}
 use Rattle.call_run.specs.declared.hiring.Room.{Room}
 use Rattle.call_run.specs.declared.worker.Worker.{Worker}

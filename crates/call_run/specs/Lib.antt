@@ -1,10 +1,10 @@
-pub mod Ending
-pub mod Readers
+pub mod EndingOfSockets
+pub mod ReadersOfLinks
 pub mod Threads
 pub mod Working
 pub mod Hired
-pub mod Crew
-pub mod Links
+pub mod CrewOfRun
+pub mod LinksBesideClients
 pub use Rattle.call_client
 pub use Rattle.rpc_reader
 pub use Rattle.sock_open

@@ -3,7 +3,7 @@ use Rattle.std.specs.Prelude.{◌≡◌, ℕ, ◌+◌, ◌≤◌, ◌==◌, ◌&
 use Rattle.std.specs.List.{AllByRecursion}
 use Rattle.atomic_table.specs.declared.shared.Seat.{Seat}
 use Rattle.sock_io.specs.declared.link.Out.{Ghosts}
-use Rattle.sock_io.specs.Link.{OutState}
+use Rattle.sock_io.specs.LinkHalves.{OutState}
 use Rattle.sock_words.specs.declared.outcome.Outcome.{Outcome}
 use Rattle.sock_words.specs.declared.outcome.Outcome.TheVariants as outcome
 use Rattle.sock_words.specs.declared.plain.Plan.{Plan}
@@ -11,25 +11,25 @@ use Rattle.sock_words.specs.declared.place_word.PlaceWord.{PlaceWord}
 use Rattle.sock_words.specs.declared.socket_id.SocketId.{SocketId}
 use Rattle.sock_words.specs.declared.vref.Vref.{Vref}
 use Rattle.sock_model.specs.declared.view.View.{View}
-use Rattle.sock_model.specs.Seats.{newcomer}
+use Rattle.sock_model.specs.ViewsOfSplitSeats.{newcomer}
 use Rattle.corr_core.specs.declared.marks.Plan as id_plan
 use Rattle.corr_core.specs.declared.marks.View as id_view
-use Rattle.id_rule.specs.Lawful.{newcomer as id_newcomer}
+use Rattle.id_rule.specs.LawfulIdTable.{newcomer as id_newcomer}
 use Rattle.sock_message.specs.Asked.{Asked}
 use Rattle.seat_programs.specs.declared.task.Op.{Op}
 use Rattle.seat_programs.specs.declared.task.Op.TheVariants as ops
 use Rattle.seat_programs.specs.declared.task.Task.{Task}
 use Rattle.sock_rule.specs.declared.homes.SockHome.{SockHome}
 use Rattle.sock_table.specs.declared.passes.LinkPass.{LinkPass}
-use Rattle.sock_table.specs.Closed.{ClosedBy}
-use Rattle.sock_table.specs.Named.{Found}
+use Rattle.sock_table.specs.ClosedSocketTable.{ClosedBy}
+use Rattle.sock_table.specs.NamesStoredAndFound.{Found}
 use Rattle.call_client.specs.rpc_client.specs.declared.acting.Told.{Told}
-use Rattle.call_client.specs.call_errors.specs.Books.{books_of}
+use Rattle.call_client.specs.call_errors.specs.ClientBooks.{books_of}
 use Rattle.call_client.specs.declared.caller.Caller.{Caller}
-use Rattle.call_client.specs.Running.{MayMakeAll, RunBy}
+use Rattle.call_client.specs.ClientRun.{MayMakeAll, RunBy}
 use Rattle.call_run.specs.declared.opened.Opening.{Opening}
-use Rattle.call_run.specs.Ending.{EndedBehind}
-use Rattle.call_run.specs.Readers.{LinkReader}
+use Rattle.call_run.specs.EndingOfSockets.{EndedBehind}
+use Rattle.call_run.specs.ReadersOfLinks.{LinkReader}
 
 -- ## What clients open
 

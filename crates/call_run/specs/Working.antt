@@ -2,15 +2,15 @@
 use Rattle.std.specs.Prelude.{◌≡◌, ℕ, ◌<◌, ◌≤◌, false, List, All, length}
 use Rattle.atomic_table.specs.Seated.{TableId}
 use Rattle.sock_io.specs.declared.link.Out.{Ghosts}
-use Rattle.sock_io.specs.Link.{OutState}
+use Rattle.sock_io.specs.LinkHalves.{OutState}
 use Rattle.sock_words.specs.declared.plain.Plan.{Plan}
-use Rattle.sock_table.specs.Closed.{IsDoneSeat}
+use Rattle.sock_table.specs.ClosedSocketTable.{IsDoneSeat}
 use Rattle.corr_core.specs.declared.marks.Plan as id_plan
-use Rattle.corr_id.specs.Seats.{Stays}
-use Rattle.call_client.specs.call_errors.specs.Books.{HasNoLock}
+use Rattle.corr_id.specs.IdTableSeat.{Stays}
+use Rattle.call_client.specs.call_errors.specs.ClientBooks.{HasNoLock}
 use Rattle.call_client.specs.declared.caller.Caller.{Caller}
-use Rattle.call_client.specs.Acting.{MayGo}
-use Rattle.call_client.specs.Running.{MayMakeAll, RunBy}
+use Rattle.call_client.specs.ClientBetweenOperations.{MayGo}
+use Rattle.call_client.specs.ClientRun.{MayMakeAll, RunBy}
 use Rattle.call_run.specs.declared.worker.Worker.{Worker}
 use Rattle.call_run.specs.Threads.{FoundEach}
 

@@ -1,13 +1,13 @@
 // The clients of a script with calls on threads, and beside them links that are served and read.
 ghost use Rattle.std.specs.Prelude.{◌≡◌, ◌+◌, ◌++◌, ◌<◌, ◌≤◌, ◌||◌, List, All, IfOk, IfErr, length, map, vec_capacity};
 ghost use Rattle.std.specs.Thread.{IsSync};
-ghost use Rattle.sock_open.specs.Opening.{MayBegin, AreFresh};
-ghost use Rattle.sock_table.specs.Closed.{IsRoomOf, ways_of};
-ghost use Rattle.link_crew.specs.Beside.{IsReady};
+ghost use Rattle.sock_open.specs.SocketTableOpening.{MayBegin, AreFresh};
+ghost use Rattle.sock_table.specs.ClosedSocketTable.{IsRoomOf, ways_of};
+ghost use Rattle.link_crew.specs.LinkThreadsBesideClients.{IsReady};
 ghost use Rattle.call_run.specs.Threads.{ids_of, MayRunAll, RanWith};
-ghost use Rattle.call_run.specs.Readers.{LinkReader, AreReaders, AreLeftBy};
-ghost use Rattle.call_run.specs.Crew.{IsLeft, AreLeft, IsCrew, CrewRan, AreBack};
-ghost use Rattle.call_run.specs.Links.{AreSeated, rest_of, HaveWorked, IsLinksRoom, LinksRan, IsStage, BothEnded};
+ghost use Rattle.call_run.specs.ReadersOfLinks.{LinkReader, AreReaders, AreLeftBy};
+ghost use Rattle.call_run.specs.CrewOfRun.{IsLeft, AreLeft, IsCrew, CrewRan, AreBack};
+ghost use Rattle.call_run.specs.LinksBesideClients.{AreSeated, rest_of, HaveWorked, IsLinksRoom, LinksRan, IsStage, BothEnded};
 ghost use Rattle.sock_words.specs.Totals.{total};
 
 use crate::leaving::{Left, either};

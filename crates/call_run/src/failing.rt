@@ -1,9 +1,9 @@
 // The sockets of a run end once all clients have ended.
 ghost use Rattle.std.specs.Prelude.{◌≡◌, ◌<◌, ◌≤◌, All};
-ghost use Rattle.sock_open.specs.Opening.{IsRoom};
-ghost use Rattle.sock_table.specs.Closed.{IsDoneSeat, AllDone};
-ghost use Rattle.call_run.specs.Crew.{IsLeft};
-ghost use Rattle.call_run.specs.Ending.{EndedOne, EndedEach, EndedBehind};
+ghost use Rattle.sock_open.specs.SocketTableOpening.{IsRoom};
+ghost use Rattle.sock_table.specs.ClosedSocketTable.{IsDoneSeat, AllDone};
+ghost use Rattle.call_run.specs.CrewOfRun.{IsLeft};
+ghost use Rattle.call_run.specs.EndingOfSockets.{EndedOne, EndedEach, EndedBehind};
 ghost use Rattle.sock_words.specs.Totals.{total};
 
 use rpc_reader::{fail_id, wait_open};

@@ -2,11 +2,11 @@
 ghost use Rattle.std.specs.Prelude.{◌≡◌, ◌-◌, ◌<◌, ◌≤◌, ◌++◌, ◌∷◌, [], All, IfOk, length, map};
 ghost use Rattle.atomic_table.specs.Seated.{TableId};
 ghost use Rattle.sock_words.specs.declared.plain.Plan.{Plan};
-ghost use Rattle.sock_table.specs.Passes.{IsPass};
-ghost use Rattle.sock_open.specs.Made.{IsNewSeat};
-ghost use Rattle.sock_open.specs.Opening.{IsRoom};
-ghost use Rattle.corr_id.specs.Seats.{Sits, IsFree};
-ghost use Rattle.call_client.specs.Acting.{MayGo};
+ghost use Rattle.sock_table.specs.LinkPasses.{IsPass};
+ghost use Rattle.sock_open.specs.NewTableContents.{IsNewSeat};
+ghost use Rattle.sock_open.specs.SocketTableOpening.{IsRoom};
+ghost use Rattle.corr_id.specs.IdTableSeat.{Sits, IsFree};
+ghost use Rattle.call_client.specs.ClientBetweenOperations.{MayGo};
 ghost use Rattle.call_run.specs.Threads.{opens_of, DidNothing};
 ghost use Rattle.call_run.specs.Hired.{HasRoom, MayHire, AreHired};
 

@@ -1,6 +1,6 @@
 // What clients leave is handed in.
 ghost use Rattle.std.specs.Prelude.{◌≡◌, ◌∷◌, ◌||◌, [], IfOk, length};
-ghost use Rattle.call_run.specs.Crew.{IsRoomFor, HasMore, HandedIn};
+ghost use Rattle.call_run.specs.CrewOfRun.{IsRoomFor, HasMore, HandedIn};
 
 use crate::worker::Worker;
 use call_client::{CallSeat, Caller, Told};

@@ -1,10 +1,10 @@
 // Links that are read beside the clients get their readers, and what these leave is handed in.
 ghost use Rattle.std.specs.Prelude.{◌≡◌, ◌+◌, ◌<◌, ◌≤◌, All, IfOk, length, map};
-ghost use Rattle.sock_open.specs.Made.{AreNewSeats};
-ghost use Rattle.sock_open.specs.Opening.{IsRoom};
-ghost use Rattle.corr_id.specs.Opening.{AreNew};
-ghost use Rattle.link_crew.specs.Beside.{IsReady};
-ghost use Rattle.call_run.specs.Links.{AreSeated, rest_of, HaveWorked, IsLinksRoom, HasMoreLinks, PartedOne, AreParted};
+ghost use Rattle.sock_open.specs.NewTableContents.{AreNewSeats};
+ghost use Rattle.sock_open.specs.SocketTableOpening.{IsRoom};
+ghost use Rattle.corr_id.specs.IdTableOpening.{AreNew};
+ghost use Rattle.link_crew.specs.LinkThreadsBesideClients.{IsReady};
+ghost use Rattle.call_run.specs.LinksBesideClients.{AreSeated, rest_of, HaveWorked, IsLinksRoom, HasMoreLinks, PartedOne, AreParted};
 
 use crate::hiring::next_seats;
 use crate::leaving::either;

@@ -1,6 +1,6 @@
 // What clients open, and the names that the setup opened.
 ghost use Rattle.std.specs.Prelude.{◌≡◌, ◌<◌, ◌≤◌, ◌==◌, ◌&&◌, ◌++◌, OnOk, IfOk, length, vec_capacity};
-ghost use Rattle.sock_open.specs.Opening.{IsRoom};
+ghost use Rattle.sock_open.specs.SocketTableOpening.{IsRoom};
 ghost use Rattle.call_run.specs.Threads.{opens_in, opens_of, is_opened, opened_in, opening_in, openings, name_if, opened_names};
 
 use call_client::Told;

@@ -1,11 +1,11 @@
 // The clients of a script with calls on threads, over tables of their own.
 ghost use Rattle.std.specs.Prelude.{◌≡◌, ◌+◌, ◌<◌, ◌≤◌, All, IfOk, IfErr, length, map};
-ghost use Rattle.corr_id.specs.Opening.{AreNew};
-ghost use Rattle.sock_open.specs.Made.{AreNewSeats, PassesFrom};
-ghost use Rattle.sock_open.specs.Opening.{MayBegin};
-ghost use Rattle.sock_table.specs.Closed.{IsRoomOf, ways_of};
+ghost use Rattle.corr_id.specs.IdTableOpening.{AreNew};
+ghost use Rattle.sock_open.specs.NewTableContents.{AreNewSeats, PassesFrom};
+ghost use Rattle.sock_open.specs.SocketTableOpening.{MayBegin};
+ghost use Rattle.sock_table.specs.ClosedSocketTable.{IsRoomOf, ways_of};
 ghost use Rattle.call_run.specs.Threads.{MayRunAll};
-ghost use Rattle.call_run.specs.Crew.{IsLeft, IsCast, IsCrew, CrewRan, HasEnded, AreBack};
+ghost use Rattle.call_run.specs.CrewOfRun.{IsLeft, IsCast, IsCrew, CrewRan, HasEnded, AreBack};
 
 use crate::failing::end_sockets;
 use crate::hiring::{Room, hire, hire_all, next_seats, room_for, rooms_for};

@@ -1,4 +1,4 @@
 pub mod Packing
-pub mod Making
-pub mod Openings
-pub mod Fitting
+pub mod TableMadeBySteps
+pub mod OpeningSlotWords
+pub mod IdTableFitting

@@ -1,3 +1,3 @@
-pub mod Slots
-pub mod Steps
-pub mod Words
+pub mod CallSlotState
+pub mod CallSlotSteps
+pub mod WordOfStep

@@ -19,8 +19,8 @@ pub struct CallSlots {
 impl Model for CallSlots {
     ghost use Rattle.std.specs.Prelude.{◌≡◌, length, map};
     ghost use mathlib.Core.Option.{some};
-    ghost use Rattle.id_rule.specs.Lawful.{all_words};
-    ghost use Rattle.call_slots.specs.Slots.{SlotState};
+    ghost use Rattle.id_rule.specs.LawfulIdTable.{all_words};
+    ghost use Rattle.call_slots.specs.CallSlotState.{SlotState};
 
     ghost Value = { SlotState };
 
@@ -36,11 +36,11 @@ impl CallSlots {
     ghost use lib.ListN.{get_elem?};
     ghost use Rattle.sock_message.specs.Asked.{Asked};
     ghost use Rattle.seat_programs.specs.Asides.{ClaimId, PutCall, TakeCall};
-    ghost use Rattle.seat_programs.specs.Beside.{call_at};
-    ghost use Rattle.seat_programs.specs.Scripts.{opening_calls};
-    ghost use Rattle.call_points.specs.Steps.{step_of};
-    ghost use Rattle.call_slots.specs.Slots.{calls_with, as_found};
-    ghost use Rattle.call_slots.specs.Steps.{Makes, StepFits, word_found};
+    ghost use Rattle.seat_programs.specs.FoundAndChangedAside.{call_at};
+    ghost use Rattle.seat_programs.specs.ScriptSetupToEnding.{opening_calls};
+    ghost use Rattle.call_points.specs.AsideCodeSteps.{step_of};
+    ghost use Rattle.call_slots.specs.CallSlotState.{calls_with, as_found};
+    ghost use Rattle.call_slots.specs.CallSlotSteps.{Makes, StepFits, word_found};
 
     /// A table of these sizes before its first step.
     pub fn new(alloc: Global, plan: Plan) -> Result<CallSlots, NoMemory>

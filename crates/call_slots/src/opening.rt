@@ -1,5 +1,5 @@
 ghost use Rattle.std.specs.Prelude.{◌≡◌, ◌*◌, ◌++◌, replicate, None, IfOk, OnOk};
-ghost use Rattle.seat_programs.specs.Scripts.{opening_ids};
+ghost use Rattle.seat_programs.specs.ScriptSetupToEnding.{opening_ids};
 
 use corr_core::{Plan, call_index, word_count};
 use sock_message::Call;

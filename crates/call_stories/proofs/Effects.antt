@@ -7,15 +7,15 @@ use Rattle.std.proofs.Common.{⊎_elim}
 use Rattle.sock_words.specs.declared.plain.Plan.{Plan}
 use Rattle.corr_core.specs.Word.{parts, made_word, posted_word, unlocked_word, free_word}
 use Rattle.corr_core.specs.declared.marks.Plan.{Plan as IdPlan}
-use Rattle.seat_programs.specs.id_rule.specs.Lawful.{tag_index, id_index, call_index, at_index, all_words}
+use Rattle.seat_programs.specs.id_rule.specs.LawfulIdTable.{tag_index, id_index, call_index, at_index, all_words}
 use Rattle.sock_message.specs.Asked.{Asked}
 use Rattle.seat_programs.specs.declared.task.Task.{Task}
 use Rattle.seat_programs.specs.Asides.{Step, ClaimId, PutCall, MakeId, StoreCall, StoreAt, LockId, PostId, UnlockId, EndId, FreeId, TakeCall, TakeBytes, Bytes, Found}
-use Rattle.seat_programs.specs.Posts.{packed}
+use Rattle.seat_programs.specs.PostPrograms.{packed}
 use Rattle.call_stories.specs.Scenes.{Scene}
 use Rattle.call_stories.specs.Says.{Mark}
-use Rattle.call_stories.specs.Stories.{word_at, tag_at, LiesAt, IsBehind}
-use Rattle.sock_words.specs.Words.{bit}
+use Rattle.call_stories.specs.CallStories.{word_at, tag_at, LiesAt, IsBehind}
+use Rattle.sock_words.specs.PackedWords.{bit}
 
 -- the slot whose words or home a step changes
 abbrev pub Touches : Step → ℕ → Type 0

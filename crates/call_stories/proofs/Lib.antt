@@ -1,10 +1,10 @@
-pub mod Lasting
-pub mod Posts
-pub mod Programs
-pub mod Streams
+pub mod LastingCallStories
+pub mod PostLoopCauses
+pub mod CausedCallPrograms
+pub mod StreamFramesStay
 pub mod Effects
-pub mod Knowing
+pub mod KnowingBeforeAsides
 pub mod SockWords
-pub mod Links
-pub mod Leading
+pub mod LinksOfReaders
+pub mod LeadingBytesGiven
 pub mod RunTicks

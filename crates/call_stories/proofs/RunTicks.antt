@@ -3,7 +3,7 @@ use Rattle.std.proofs.Common.{List, ◌++◌, replicate}
 use Rattle.seat_programs.specs.brpc_model.specs.Items.{Item}
 use Rattle.seat_programs.specs.brpc_model.specs.Operations.{Turn}
 use Rattle.seat_programs.specs.Cores.{Core}
-use Rattle.seat_programs.specs.Scripts.{opened, set_up, played, ending, IsRunWithCalls}
+use Rattle.seat_programs.specs.ScriptSetupToEnding.{opened, set_up, played, ending, IsRunWithCalls}
 use Rattle.seat_programs.specs.Tasks.{plan_of}
 use Rattle.seat_programs.specs.Ticks.{Moment, quiet}
 use Rattle.outcome_stories.specs.Facts.{shown_in}

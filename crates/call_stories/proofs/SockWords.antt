@@ -5,15 +5,15 @@ use mathlib.Core.Option.{some}
 use native.Mathlib.Decide.{ℕ_discrete}
 use Rattle.sock_words.specs.declared.plain.Plan.{Plan}
 use Rattle.sock_model.specs.declared.view.View.{View}
-use Rattle.sock_model.specs.Layout.{code_index, name_index, all_words}
+use Rattle.sock_model.specs.SocketTableLayout.{code_index, name_index, all_words}
 use Rattle.corr_core.specs.declared.marks.Plan.{Plan as IdPlan}
 use Rattle.seat_programs.specs.declared.task.Task.{Task}
-use Rattle.seat_programs.specs.Calls.{TableStep, StoreCode, StoreName, LoadName}
+use Rattle.seat_programs.specs.TableSteps.{TableStep, StoreCode, StoreName, LoadName}
 use Rattle.seat_programs.specs.TableWords.{NameOf}
 use Rattle.seat_programs.specs.StepTables.{May, word_of, word_after}
 use Rattle.seat_programs.specs.Cores.{found_at, words_after}
 use Rattle.outcome_stories.specs.program_steps.proofs.WordFrame.{load_leaves, word_stays}
-use Rattle.owed_calls.specs.Below.id_runs.proofs.Owners.{FitsStore, each_code}
+use Rattle.owed_calls.specs.Below.id_runs.proofs.OwnersStayIds.{FitsStore, each_code}
 use Rattle.call_stories.specs.Scenes.{IsOther}
 use Rattle.call_stories.specs.Says.{MayDo}
 

@@ -4,14 +4,14 @@ use mathlib.Core.Option.{none, some}
 use lib.ListN.{get_elem?}
 use Rattle.sock_message.specs.Asked.{Asked}
 use Rattle.sock_words.specs.declared.plain.Plan.{Plan}
-use Rattle.seat_programs.specs.Calls.{LoadOpen}
+use Rattle.seat_programs.specs.TableSteps.{LoadOpen}
 use Rattle.seat_programs.specs.Asides.{PostId}
-use Rattle.seat_programs.specs.Heads.{Decides}
+use Rattle.seat_programs.specs.LoopHeads.{Decides}
 use Rattle.seat_programs.specs.Programs.{Program, Do, Aside, Round}
 use Rattle.seat_programs.specs.Cores.{Core}
 use Rattle.seat_programs.specs.Ticks.{Moment, ticked}
-use Rattle.call_stories.specs.Posts.{Post, posted_at}
-use Rattle.seat_programs.specs.Rounds.{first_step}
+use Rattle.call_stories.specs.PostsOfRun.{Post, posted_at}
+use Rattle.seat_programs.specs.LoopRounds.{first_step}
 use Rattle.outcome_stories.specs.Facts.{shown_in}
 
 -- the errors that ids take from this seat

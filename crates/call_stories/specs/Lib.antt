@@ -1,8 +1,8 @@
-pub mod Lists
+pub mod LinkReadingLists
 pub mod Target
 pub mod Scenes
 pub mod Says
-pub mod Stories
-pub mod Posts
+pub mod CallStories
+pub mod PostsOfRun
 pub mod Decided
 pub mod Below

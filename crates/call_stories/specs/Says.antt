@@ -1,29 +1,29 @@
 -- Programs that say of calls only what has its cause in what happened so far.
 use Rattle.std.specs.Prelude.{ℕ, ◌≡◌, ◌≢◌, ◌+◌, ◌<◌, ◌≤◌, ◌⊎◌, Bool, true, false, List, [], ◌∷◌, ◌++◌, slice_get, Option, Some, None}
 use Rattle.std.specs.List.{AllByRecursion}
-use Rattle.sock_words.specs.Codes.{EEOF, ERESPONSE, is_final}
-use Rattle.sock_words.specs.Words.{at_word_attempt, call_id, id_slot, id_first, bit}
+use Rattle.sock_words.specs.ErrorCodes.{EEOF, ERESPONSE, is_final}
+use Rattle.sock_words.specs.PackedWords.{at_word_attempt, call_id, id_slot, id_first, bit}
 use Rattle.sock_words.specs.declared.plain.Plan.{Plan}
 use Rattle.sock_io.specs.declared.link.Put.{Put}
 use Rattle.sock_io.specs.declared.link.Ready.{Ready}
 use Rattle.sock_model.specs.declared.chain.Heading.{Heading}
 use Rattle.seat_programs.specs.brpc_model.specs.Frame.{Frame}
-use Rattle.seat_programs.specs.brpc_model.specs.Stream.{stream}
-use Rattle.seat_programs.specs.brpc_model.specs.Causes.{HasFault}
+use Rattle.seat_programs.specs.brpc_model.specs.FrameStream.{stream}
+use Rattle.seat_programs.specs.brpc_model.specs.LinkFailureCauses.{HasFault}
 use Rattle.corr_core.specs.Word.{Parts, parts, code_of, attempt_of, unlocked_word}
 use Rattle.corr_core.specs.declared.marks.Plan.{Plan as IdPlan}
-use Rattle.corr_core.specs.Decisions.{WHOLE}
+use Rattle.corr_core.specs.ErrorsThatEndCalls.{WHOLE}
 use Rattle.sock_message.specs.Asked.{Asked, name_of}
 use Rattle.seat_programs.specs.declared.task.Op.TheVariants as ops
 use Rattle.seat_programs.specs.declared.task.Task.{Task}
-use Rattle.seat_programs.specs.Calls.{TableStep, StoreName, LoadName, StoreCode, LoadCode}
+use Rattle.seat_programs.specs.TableSteps.{TableStep, StoreName, LoadName, StoreCode, LoadCode}
 use Rattle.seat_programs.specs.Asides.{Step, ClaimId, PutCall, MakeId, StoreCall, LoadCall, StoreAt, LoadAt, LoadIdWord, LockId, PostId, UnlockId, EndId, FreeId, TakeCall, TakeBytes, Taking, Bytes, Found}
-use Rattle.seat_programs.specs.Heads.{Head, Exit, Sought, First, Version, Posts, Unlocks, Decides, Locks, Joins, Opens, Reads, Discards, Posting, WasCrowded, WasQueued, HasLocked, Unlocking, IsOpen, HasNext, Deciding, HasEnded, GoesOn, Locking, NotThere, Has, Reading}
-use Rattle.seat_programs.specs.Posts.{is_first, is_stale, packed, IsSoughtWord}
+use Rattle.seat_programs.specs.LoopHeads.{Head, Exit, Sought, First, Version, Posts, Unlocks, Decides, Locks, Joins, Opens, Reads, Discards, Posting, WasCrowded, WasQueued, HasLocked, Unlocking, IsOpen, HasNext, Deciding, HasEnded, GoesOn, Locking, NotThere, Has, Reading}
+use Rattle.seat_programs.specs.PostPrograms.{is_first, is_stale, packed, IsSoughtWord}
 use Rattle.seat_programs.specs.Programs.{Program, Do, Say, Sent, Rest, TakeMessage, TakeHome, PutHome, PutBytes, AskReady, Write, Aside, Round, Keep, Retries}
-use Rattle.seat_programs.specs.Readers.{has_response}
+use Rattle.seat_programs.specs.ReaderProgram.{has_response}
 use Rattle.owed_calls.specs.Below.id_runs.specs.Goes.{FitsOwner, FitsWriting}
-use Rattle.call_stories.specs.Lists.{gave_in}
+use Rattle.call_stories.specs.LinkReadingLists.{gave_in}
 use Rattle.sock_words.specs.declared.outcome.Outcome.{Outcome}
 use Rattle.call_stories.specs.Scenes.{Birth, Scene, Said, IsOver, IsJust, IsBorn, IsClaimed, Came, HasFaulted, IsOther, IsErrorCode, Named, Begun, WasPosted, WasDecided, EndedAt, MayAdvance, HasBegunIn, CauseOf, WhyEnded, WhyOwn, AreTold, HasNoneOf, IsTaskOf, Later}
 

@@ -1,29 +1,29 @@
 -- What has happened so far that lasts, and what it tells of calls.
 use Rattle.std.specs.Prelude.{ℕ, ◌≡◌, ◌≢◌, ◌+◌, ◌<◌, ◌≤◌, ◌⊎◌, true, false, ◌∷◌, ◌++◌, List, [], slice_get, slice_index, Some, IsSome, pos}
-use Rattle.sock_words.specs.Codes.{EEOF, EFAILEDSOCKET, EREQUESTS, ERESPONSE, ERPCTIMEDOUT, is_final}
+use Rattle.sock_words.specs.ErrorCodes.{EEOF, EFAILEDSOCKET, EREQUESTS, ERESPONSE, ERPCTIMEDOUT, is_final}
 use Rattle.sock_words.specs.declared.plain.Plan.{Plan}
 use Rattle.sock_words.specs.declared.outcome.Outcome.{Outcome}
 use Rattle.sock_words.specs.declared.outcome.Outcome.TheVariants.{Opened, SlotsFull, Unopened, Answered, Peer, CallFailed, Expired, Queued, Late, Crowded, Joined, NotBegun}
 use Rattle.seat_programs.specs.brpc_model.specs.Frame.{Frame}
-use Rattle.seat_programs.specs.brpc_model.specs.Stream.{stream}
-use Rattle.seat_programs.specs.brpc_model.specs.Causes.{HasFault}
+use Rattle.seat_programs.specs.brpc_model.specs.FrameStream.{stream}
+use Rattle.seat_programs.specs.brpc_model.specs.LinkFailureCauses.{HasFault}
 use Rattle.corr_core.specs.Word.{parts, error_of, code_of, attempt_of}
 use Rattle.corr_core.specs.declared.marks.Plan.{Plan as IdPlan}
-use Rattle.corr_core.specs.Decisions.{WHOLE}
-use Rattle.seat_programs.specs.id_rule.specs.Lawful.{id_index, call_index}
-use Rattle.sock_model.specs.Layout.{name_index}
+use Rattle.corr_core.specs.ErrorsThatEndCalls.{WHOLE}
+use Rattle.seat_programs.specs.id_rule.specs.LawfulIdTable.{id_index, call_index}
+use Rattle.sock_model.specs.SocketTableLayout.{name_index}
 use Rattle.sock_message.specs.Asked.{Asked, name_of}
 use Rattle.seat_programs.specs.declared.task.Op.{Op}
 use Rattle.seat_programs.specs.declared.task.Op.TheVariants as ops
 use Rattle.seat_programs.specs.declared.task.Task.{Task}
-pub use Rattle.seat_programs.specs.ToldCalls.{SeeksName}
+pub use Rattle.seat_programs.specs.ExplainedCalls.{SeeksName}
 use Rattle.seat_programs.specs.Cores.{Core}
-use Rattle.call_stories.specs.Lists.{gave_in, times}
-use Rattle.call_stories.specs.Posts.{Post}
+use Rattle.call_stories.specs.LinkReadingLists.{gave_in, times}
+use Rattle.call_stories.specs.PostsOfRun.{Post}
 use Rattle.call_stories.specs.Decided.{Decision}
-use Rattle.outcome_stories.specs.Stories.{In}
+use Rattle.outcome_stories.specs.OperationStories.{In}
 use Rattle.seat_programs.specs.brpc_model.specs.Why.{HasCode}
-use Rattle.sock_words.specs.Words.{id_slot, id_first}
+use Rattle.sock_words.specs.PackedWords.{id_slot, id_first}
 
 -- the id of a call, which has the versions behind it, as many as the call's range less one
 pub record Birth : Type 0 where

@@ -1,6 +1,6 @@
 -- Why each `call`, `expire` and `join` has its outcome: what a run with calls tells of them.
 use Rattle.std.specs.Prelude.{ℕ, ◌≡◌, ◌≢◌, ◌+◌, ◌<◌, ◌≤◌, ◌⊎◌, true, false, List, [], ◌∷◌, Option, Contains, pos}
-use Rattle.sock_words.specs.Codes.{EEOF, EFAILEDSOCKET, EREQUESTS, ERESPONSE, ERPCTIMEDOUT, is_final}
+use Rattle.sock_words.specs.ErrorCodes.{EEOF, EFAILEDSOCKET, EREQUESTS, ERESPONSE, ERPCTIMEDOUT, is_final}
 use Rattle.sock_words.specs.declared.plain.Plan.{Plan}
 use Rattle.sock_words.specs.declared.outcome.Outcome.{Outcome}
 use Rattle.sock_words.specs.declared.outcome.Outcome.TheVariants.{Expired, Queued}
@@ -9,13 +9,13 @@ use Rattle.seat_programs.specs.declared.task.Op.{Op}
 use Rattle.seat_programs.specs.declared.task.Op.TheVariants as ops
 use Rattle.seat_programs.specs.declared.task.Task.{Task}
 use Rattle.corr_core.specs.Word.{error_of}
-use Rattle.seat_programs.specs.Told.{IsTask, Became}
-use Rattle.seat_programs.specs.ToldCalls.{Fixed, Order, FoundNone, IsAnsweredBy, IsExpiredWith, GaveFault, ShowsId, WhyExpire, WhyJoin}
-use Rattle.call_stories.specs.Posts.{Post}
+use Rattle.seat_programs.specs.Explained.{IsTask, Became}
+use Rattle.seat_programs.specs.ExplainedCalls.{Fixed, Order, FoundNone, IsAnsweredBy, IsExpiredWith, GaveFault, ShowsId, WhyExpire, WhyJoin}
+use Rattle.call_stories.specs.PostsOfRun.{Post}
 use Rattle.call_stories.specs.Decided.{Decision}
 use Rattle.seat_programs.specs.brpc_model.specs.Why.{Calling}
 use Rattle.seat_programs.specs.brpc_model.specs.Why as causes
-use Rattle.outcome_stories.specs.Stories.{In}
+use Rattle.outcome_stories.specs.OperationStories.{In}
 
 abbrev pub IsOnCalls : Op → Type 0
 IsOnCalls (ops.Call asked) = Unit {0}

@@ -1,3 +1,3 @@
-pub mod Sizes
-pub mod Endings
-pub mod Pieces
+pub mod CallMetaSize
+pub mod EndingsByResponse
+pub mod FramePieces

@@ -1,2 +1,2 @@
-pub mod Errors
-pub mod Responses
+pub mod DecisionOnError
+pub mod ResponseEndsCall

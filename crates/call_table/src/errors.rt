@@ -1,5 +1,5 @@
 ghost use Rattle.std.specs.Prelude.{◌≡◌};
-ghost use Rattle.call_table.specs.Errors.{decision_of};
+ghost use Rattle.call_table.specs.DecisionOnError.{decision_of};
 
 use corr_core::ends_call;
 

@@ -1,10 +1,10 @@
 ghost use Rattle.std.specs.Prelude.{◌≡◌, ◌+◌, ◌-◌, ◌^◌, ◌<◌, ◌≤◌, ℕ, List, pos, ◌∷◌, ◌++◌, length, IfOk};
 ghost use Rattle.sock_message.specs.brpc_model.specs.Frame.{IsFrame, Begins, judged};
 ghost use Rattle.sock_message.specs.brpc_model.specs.Spelling.{meta_bytes};
-ghost use Rattle.rpc_meta.specs.Meaning.{meaning};
-ghost use Rattle.rpc_meta.specs.Writing.{HasPart};
+ghost use Rattle.rpc_meta.specs.MetaMeaning.{meaning};
+ghost use Rattle.rpc_meta.specs.MetaWriting.{HasPart};
 ghost use Rattle.sock_message.specs.io_buf.specs.Buffer.{block_sizes};
-ghost use Rattle.sock_message.specs.Inside.{KeepsLimits};
+ghost use Rattle.sock_message.specs.InsideMessages.{KeepsLimits};
 ghost use Rattle.sock_message.specs.Asked.{meta_with, request_of, frame_of, head_of};
 
 use prpc_frame::{BlockPool, IoBuf, NoMemory, RpcMeta, encode};

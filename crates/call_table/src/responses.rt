@@ -1,7 +1,7 @@
 ghost use Rattle.std.specs.Prelude.{◌≡◌, ◌↔◌, ℕ, pos, IsTrue, IsSome, IfSome};
-ghost use Rattle.prpc_frame.specs.Meaning.{frame_of};
+ghost use Rattle.prpc_frame.specs.FrameMeaning.{frame_of};
 ghost use Rattle.sock_message.specs.brpc_model.specs.ResponseOutcome.{ending_of};
-ghost use Rattle.call_table.specs.Responses.{response_ending, outcome_of};
+ghost use Rattle.call_table.specs.ResponseEndsCall.{response_ending, outcome_of};
 
 use prpc_frame::{Frame, IoBuf, RpcMeta};
 

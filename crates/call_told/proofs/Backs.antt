@@ -2,10 +2,10 @@
 use Rattle.std.proofs.Common.{◌≡◌, ℕ, List, [], map, Some, None, refl, sym, ◌∙◌}
 use Rattle.std.specs.Prelude.{Option, option_map, slice_get, IfSome}
 use Rattle.std.proofs.lemmas.Option.{slice_get-map}
-use Rattle.brpc_model.specs.Link.{LinkEnd}
+use Rattle.brpc_model.specs.ReturnedLink.{LinkEnd}
 use Rattle.sock_io.specs.declared.link.Ends.{Ends}
-use Rattle.sock_io.specs.Link.{OutState, InState, end_of}
-use Rattle.call_told.proofs.Lists.{some_same}
+use Rattle.sock_io.specs.LinkHalves.{OutState, InState, end_of}
+use Rattle.call_told.proofs.ListElementsByPlace.{some_same}
 
 -- an element of a list that was mapped
 pub mapped : {A B : Type 0} (f : A → B) (xs : List A) (k : ℕ) (y : B) → slice_get (map f xs) k ≡ Some y → (x : A) × (slice_get xs k ≡ Some x) × (f x ≡ y)

@@ -5,13 +5,13 @@ use Rattle.corr_core.specs.Law.{only, is_ended}
 use Rattle.corr_core.specs.declared.marks.Note.TheVariants.{Ended}
 use Rattle.corr_core.specs.declared.marks.Noted.{Noted}
 use Rattle.corr_core.specs.declared.marks.View.{View}
-use Rattle.id_rule.specs.Lawful.{notes_of}
+use Rattle.id_rule.specs.LawfulIdTable.{notes_of}
 use Rattle.sock_message.specs.Asked.{Asked}
-use Rattle.corr_id.specs.Calls.{one}
-use Rattle.corr_id.proofs.Seats.{total_append, notes_append}
+use Rattle.corr_id.specs.SeatBehindIdCalls.{one}
+use Rattle.corr_id.proofs.IdSeatSplits.{total_append, notes_append}
 use Rattle.call_deeds.specs.Below.RpcClient.Told.{Told}
 use Rattle.call_deeds.specs.Below.CallErrors.Accounts.{same_id}
-use Rattle.call_told.specs.Once.{ends_of, told_ends}
+use Rattle.call_told.specs.ToldOnce.{ends_of, told_ends}
 use Rattle.sock_words.specs.Totals.{total}
 
 -- how often it was noted that the range of this slot with this first version ended

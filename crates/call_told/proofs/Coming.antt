@@ -7,7 +7,7 @@ use mathlib.Core.Option.{some, some-injective}
 use native.Mathlib.Decide.{ℕ_discrete}
 use lib.ListN.{get_elem?}
 use Rattle.sock_io.specs.declared.link.Out.{Ghosts}
-use Rattle.sock_io.specs.Link.{OutState}
+use Rattle.sock_io.specs.LinkHalves.{OutState}
 use Rattle.sock_words.specs.declared.plain.Plan.{Plan}
 use Rattle.sock_words.specs.declared.outcome.Outcome.{Outcome}
 use Rattle.seat_programs.specs.declared.task.Op.{Op}
@@ -16,26 +16,26 @@ use Rattle.seat_programs.specs.declared.task.Task.{Task}
 use Rattle.corr_core.specs.declared.marks.Note.TheVariants.{Made as made_note}
 use Rattle.corr_core.specs.declared.marks.Plan as id_plan
 use Rattle.corr_core.specs.declared.marks.View.{View}
-use Rattle.corr_core.proofs.Notes.{pair-same, at_length}
-use Rattle.id_rule.specs.Lawful.{call_index, notes_of, is_stored}
+use Rattle.corr_core.proofs.NoteSums.{pair-same, at_length}
+use Rattle.id_rule.specs.LawfulIdTable.{call_index, notes_of, is_stored}
 use Rattle.sock_message.specs.Asked.{Asked}
-use Rattle.corr_id.specs.Calls.{one}
+use Rattle.corr_id.specs.SeatBehindIdCalls.{one}
 use Rattle.call_deeds.specs.Below.RpcClient.Told.{Told}
-use Rattle.call_deeds.specs.Below.RpcClient.Running.{telling}
-use Rattle.call_deeds.specs.Below.CallAttempts.Both.{Both}
+use Rattle.call_deeds.specs.Below.RpcClient.ToldOfOperation.{telling}
+use Rattle.call_deeds.specs.Below.CallAttempts.ClientAtBothTables.{Both}
 use Rattle.call_deeds.specs.Below.CallAttempts.CalledVariants as called
-use Rattle.call_deeds.specs.Below.CallAttempts.Calling.{CalledBy}
+use Rattle.call_deeds.specs.Below.CallAttempts.CallBeginning.{CalledBy}
 use Rattle.call_deeds.specs.Below.CallClient.Caller.{Caller}
-use Rattle.call_deeds.specs.Below.CallClient.Acting.{Stand, stand, both_of, Acted}
-use Rattle.call_deeds.specs.Below.CallClient.Running.{Course, Made, Ran, begins, RunBy}
-use Rattle.call_deeds.specs.Below.CallClient.Telling.{did_total}
+use Rattle.call_deeds.specs.Below.CallClient.ClientBetweenOperations.{Stand, stand, both_of, Acted}
+use Rattle.call_deeds.specs.Below.CallClient.ClientRun.{Course, Made, Ran, begins, RunBy}
+use Rattle.call_deeds.specs.Below.CallClient.EndedCallsTelling.{did_total}
 use Rattle.call_deeds.specs.call_places.specs.sock_deeds.proofs.Flats.{append_first}
 use Rattle.call_told.specs.Least.{is_made_for, HasBegun}
-use Rattle.call_told.proofs.Ends.{made_silent, counted_here}
-use Rattle.call_told.proofs.Growing.{Grows}
-use Rattle.call_told.proofs.Lists.{all_at, last_there}
-use Rattle.call_told.proofs.Moves.{attempted_by, Fits, made_moves, end_moves}
-use Rattle.sock_words.specs.Words.{id_slot, id_first}
+use Rattle.call_told.proofs.ToldCallEnds.{made_silent, counted_here}
+use Rattle.call_told.proofs.GrowingCallNotes.{Grows}
+use Rattle.call_told.proofs.ListElementsByPlace.{all_at, last_there}
+use Rattle.call_told.proofs.ClientTellingMoves.{attempted_by, Fits, made_moves, end_moves}
+use Rattle.sock_words.specs.PackedWords.{id_slot, id_first}
 use Rattle.sock_words.specs.Totals.{total}
 
 -- of an operation, by what the client told of its own and what its seat of the ids knows

@@ -4,13 +4,13 @@ use Rattle.std.specs.Prelude.{Option, IfSome}
 use Rattle.std.specs.Io.KnownBytes.{append_known}
 use Rattle.std.proofs.lemmas.List.{length-take-le}
 use Rattle.corr_core.specs.declared.marks.Plan as ids
-use Rattle.sock_io.specs.Link.{InState, TakeStep, IsTakeCount, taken_count, given_of}
+use Rattle.sock_io.specs.LinkHalves.{InState, TakeStep, IsTakeCount, taken_count, given_of}
 use Rattle.sock_io.specs.declared.link.Take.{Take}
 use Rattle.sock_io.specs.declared.link.Take.TheVariants as take_
-use Rattle.call_deeds.specs.Below.RpcReader.Books.{Books}
-use Rattle.call_deeds.specs.Below.RpcReader.Taking.{Took, Takes, piece_of, bytes_of}
+use Rattle.call_deeds.specs.Below.RpcReader.ReaderBooks.{Books}
+use Rattle.call_deeds.specs.Below.RpcReader.ReadingTakeByTake.{Took, Takes, piece_of, bytes_of}
 use Rattle.call_deeds.specs.Below.RpcReader.Throwing.{ThrewAway}
-use Rattle.call_deeds.specs.Below.RpcReader.Running.{ThrownIf, throws, ReadLink}
+use Rattle.call_deeds.specs.Below.RpcReader.ReaderRunFromOpen.{ThrownIf, throws, ReadLink}
 
 -- between these states a reading half gave these bytes
 pub record Gains (s t : InState) (bytes : List ℕ) : Type 0 where

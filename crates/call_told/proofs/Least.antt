@@ -14,26 +14,26 @@ use Rattle.corr_core.specs.declared.marks.Note.TheVariants.{Made, Locker}
 use Rattle.corr_core.specs.declared.marks.Noted.{Noted}
 use Rattle.corr_core.specs.declared.marks.Plan.{Plan}
 use Rattle.corr_core.specs.declared.marks.View.{View}
-use Rattle.corr_core.proofs.Notes.{only-else, only_le, pair-at, pair-else, pair-else_first, pair_le, total_some, total_mono}
-use Rattle.id_rule.specs.Lawful.{call_index, notes_of, is_stored}
+use Rattle.corr_core.proofs.NoteSums.{only-else, only_le, pair-at, pair-else, pair-else_first, pair_le, total_some, total_mono}
+use Rattle.id_rule.specs.LawfulIdTable.{call_index, notes_of, is_stored}
 use Rattle.sock_message.specs.Asked.{Asked}
-use Rattle.corr_id.specs.Closing.{Closing}
+use Rattle.corr_id.specs.ClosingIdLists.{Closing}
 use Rattle.corr_id.specs.Ruled.{is_place}
-use Rattle.corr_id.proofs.Seats.{notes_append, total_append}
+use Rattle.corr_id.proofs.IdSeatSplits.{notes_append, total_append}
 use Rattle.call_deeds.specs.Below.RpcClient.Told.{Told}
-use Rattle.call_deeds.specs.Below.RpcReader.Books.{Books}
-use Rattle.call_deeds.specs.Below.RpcReader.Resting.{RestEnded}
-use Rattle.call_deeds.specs.call_places.proofs.Weights.{term}
-use Rattle.call_told.specs.Once.{ends_of, told_ends}
+use Rattle.call_deeds.specs.Below.RpcReader.ReaderBooks.{Books}
+use Rattle.call_deeds.specs.Below.RpcReader.CallsLeftAfterReading.{RestEnded}
+use Rattle.call_deeds.specs.call_places.proofs.NoteWeights.{term}
+use Rattle.call_told.specs.ToldOnce.{ends_of, told_ends}
 use Rattle.call_told.specs.Least.{is_made_for, is_locked_for, HasBegun, IsEndTold, ToldLeast}
 use Rattle.call_told.proofs.Balance.{noted_ends, AreBalanced}
-use Rattle.call_told.proofs.Ends.{IsEndOf, AreEnds}
-use Rattle.call_told.proofs.Growing.{own_at}
-use Rattle.call_told.proofs.Lists.{all_at}
-use Rattle.call_told.proofs.Once.{told_noted}
-use Rattle.call_told.proofs.Resting.{is_word, IsSeen, rest_seen, seen_ended}
+use Rattle.call_told.proofs.ToldCallEnds.{IsEndOf, AreEnds}
+use Rattle.call_told.proofs.GrowingCallNotes.{own_at}
+use Rattle.call_told.proofs.ListElementsByPlace.{all_at}
+use Rattle.call_told.proofs.ToldOnce.{told_noted}
+use Rattle.call_told.proofs.RestingCallsEnded.{is_word, IsSeen, rest_seen, seen_ended}
 use Rattle.call_told.proofs.Tallies.{Tally, rest_accounts, version_low}
-use Rattle.sock_words.specs.Words.{id_slot, id_first}
+use Rattle.sock_words.specs.PackedWords.{id_slot, id_first}
 use Rattle.sock_words.specs.Totals.{total}
 
 -- ## One of a list

@@ -4,24 +4,24 @@ use Rattle.std.specs.Prelude.{Option, IsSome, option_map, slice_get, not, â—Œ&&â
 use Rattle.std.proofs.lemmas.Nat.{div-add-mod'}
 use mathlib.Core.Option.{some}
 use lib.ListN.{get_elem?}
-use Rattle.sock_words.specs.Codes.{EEOF}
+use Rattle.sock_words.specs.ErrorCodes.{EEOF}
 use Rattle.brpc_model.specs.Frame as model
 use Rattle.brpc_model.specs.Frame.{NoneYet, judged}
-use Rattle.brpc_model.specs.Stream.{Stream, stream}
-use Rattle.sock_io.specs.Link.{InState}
+use Rattle.brpc_model.specs.FrameStream.{Stream, stream}
+use Rattle.sock_io.specs.LinkHalves.{InState}
 use Rattle.sock_io.specs.declared.link.Take.{Take}
 use Rattle.corr_core.specs.Word.{Parts}
 use Rattle.corr_core.specs.declared.marks.Plan.{Plan}
-use Rattle.prpc_frame.specs.Meaning.{frame_of}
+use Rattle.prpc_frame.specs.FrameMeaning.{frame_of}
 use Rattle.prpc_frame.specs.declared.frame.Frame.{Frame}
-use Rattle.rpc_meta.specs.Meaning.{response_of}
+use Rattle.rpc_meta.specs.MetaMeaning.{response_of}
 use Rattle.rpc_meta.specs.declared.meta.ResponseMeta.{ResponseMeta}
-use Rattle.prpc_frame.proofs.Cuts.{stream_rest}
-use Rattle.call_deeds.specs.Below.RpcReader.Books.{Books}
+use Rattle.prpc_frame.proofs.StreamCuts.{stream_rest}
+use Rattle.call_deeds.specs.Below.RpcReader.ReaderBooks.{Books}
 use Rattle.call_deeds.specs.Below.RpcReader.Met.{has_response, slot_in, version_in, is_asked, is_for}
-use Rattle.call_deeds.specs.Below.RpcReader.Reading.{code_of, EndsBy}
-use Rattle.call_deeds.specs.Below.RpcReader.Taking.{bytes_of}
-use Rattle.call_deeds.specs.Below.RpcReader.Running.{throws, ReadLink}
+use Rattle.call_deeds.specs.Below.RpcReader.LinkReading.{code_of, EndsBy}
+use Rattle.call_deeds.specs.Below.RpcReader.ReadingTakeByTake.{bytes_of}
+use Rattle.call_deeds.specs.Below.RpcReader.ReaderRunFromOpen.{throws, ReadLink}
 use Rattle.call_deeds.specs.Below.RpcReader.How.{How}
 use Rattle.call_deeds.specs.Below.RpcReader.HowVariants as how
 use Rattle.corr_core.specs.Word.{parts}
@@ -30,15 +30,15 @@ use Rattle.corr_core.specs.declared.marks.Note.{Note}
 use Rattle.corr_core.specs.declared.marks.Noted.{Noted}
 use Rattle.corr_core.specs.declared.marks.Kept.{Kept}
 use Rattle.corr_core.specs.declared.marks.View.{View}
-use Rattle.corr_id.specs.Closing.{Closing}
-use Rattle.corr_id.specs.Calls.{Found, HasId}
-use Rattle.id_rule.specs.Lawful.{notes_of}
+use Rattle.corr_id.specs.ClosingIdLists.{Closing}
+use Rattle.corr_id.specs.SeatBehindIdCalls.{Found, HasId}
+use Rattle.id_rule.specs.LawfulIdTable.{notes_of}
 use Rattle.sock_message.specs.Asked.{Asked}
 use Rattle.call_told.proofs.Gains.{thrown_none}
-use Rattle.call_told.proofs.Given.{for_is}
-use Rattle.call_told.proofs.Linked.{read_bytes}
-use Rattle.call_told.proofs.Responses.{HasEnded}
-use Rattle.call_told.proofs.Unanswered.{EndOf, WasMet, twice_never, ended_never}
+use Rattle.call_told.proofs.GivenResponseFrames.{for_is}
+use Rattle.call_told.proofs.CallsEndedBehindLinks.{read_bytes}
+use Rattle.call_told.proofs.MetResponses.{HasEnded}
+use Rattle.call_told.proofs.EndedCallsUnanswered.{EndOf, WasMet, twice_never, ended_never}
 use Rattle.sock_words.specs.Totals.{total}
 
 -- ## Each frame

@@ -2,7 +2,7 @@
 use Rattle.std.proofs.Common.{◌≡◌, true, false, List, [], ◌∷◌, ◌++◌, sym, ap, ◌∙◌}
 use Rattle.std.proofs.lemmas.List.{append_assoc, append-nil}
 use Rattle.call_deeds.specs.Below.RpcClient.Told.{Told}
-use Rattle.call_deeds.specs.Below.CallErrors.Books.{Books, starving, Tells, told, lost}
+use Rattle.call_deeds.specs.Below.CallErrors.ClientBooks.{Books, starving, Tells, told, lost}
 
 -- there was told no less, and memory that is there was there before
 pub record Onward (b c : Books) : Type 0 where

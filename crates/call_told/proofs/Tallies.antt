@@ -3,14 +3,14 @@ use Rattle.std.proofs.Common.{◌≡◌, ℕ, zero, suc, ◌+◌, ◌*◌, ◌<�
 use Rattle.std.specs.Prelude.{ℤ, Option, position, ◌==◌}
 use Rattle.std.specs.List.{remove}
 use Rattle.std.proofs.Math.Nat.{mod-lt}
-use Rattle.sock_words.specs.Words.{at_word_link, id_slot, id_first}
+use Rattle.sock_words.specs.PackedWords.{at_word_link, id_slot, id_first}
 use Rattle.sock_words.specs.declared.at_word.AtWord.{AtWord}
 use Rattle.sock_words.specs.declared.outcome.Outcome.{Outcome}
 use Rattle.sock_words.specs.declared.outcome.Outcome.TheVariants.{CallFailed}
 use Rattle.brpc_model.specs.Frame as model
 use Rattle.brpc_model.specs.Meta.{ResponseMeta}
 use Rattle.brpc_model.specs.ResponseOutcome.{by_code, outcome_by, ending_of}
-use Rattle.sock_io.specs.Link.{InState}
+use Rattle.sock_io.specs.LinkHalves.{InState}
 use Rattle.corr_core.specs.Word.{Parts, parts}
 use Rattle.corr_core.specs.Law.{only, is_ended}
 use Rattle.corr_core.specs.declared.marks.Note.{Note}
@@ -19,29 +19,29 @@ use Rattle.corr_core.specs.declared.marks.Noted.{Noted}
 use Rattle.corr_core.specs.declared.marks.Plan.{Plan}
 use Rattle.corr_core.specs.declared.marks.Token.{Token}
 use Rattle.corr_core.specs.declared.marks.View.{View}
-use Rattle.corr_core.specs.Versions.{is_early}
-use Rattle.id_rule.specs.Lawful.{at_index, call_index, with_kept}
+use Rattle.corr_core.specs.IdRangeVersions.{is_early}
+use Rattle.id_rule.specs.LawfulIdTable.{at_index, call_index, with_kept}
 use Rattle.corr_id.specs.declared.posts.Posted.{Posted}
 use Rattle.corr_id.specs.declared.posts.Posted.TheVariants.{Locked as HasLock, Queued as IsQueued}
-use Rattle.corr_id.specs.Calls.{error_in, is_event, one, Quiet, Did, GotLock}
-use Rattle.corr_id.specs.Posts.{PostOk}
+use Rattle.corr_id.specs.SeatBehindIdCalls.{error_in, is_event, one, Quiet, Did, GotLock}
+use Rattle.corr_id.specs.PostAnswers.{PostOk}
 use Rattle.sock_message.specs.Asked.{Asked}
-use Rattle.prpc_frame.specs.Meaning.{frame_of}
+use Rattle.prpc_frame.specs.FrameMeaning.{frame_of}
 use Rattle.prpc_frame.specs.declared.frame.Frame.{Frame}
 use Rattle.call_deeds.specs.Below.RpcClient.Told.{Told}
-use Rattle.call_deeds.specs.Below.RpcReader.Books.{Books, EndedAs, ToldBy, id_of}
+use Rattle.call_deeds.specs.Below.RpcReader.ReaderBooks.{Books, EndedAs, ToldBy, id_of}
 use Rattle.call_deeds.specs.Below.RpcReader.Met.{slot_in, version_in, is_asked, is_for, AnsweredBy, LackedBy, KeptIf, MetIf, FramesMet}
-use Rattle.call_deeds.specs.Below.RpcReader.Posting.{LostBy, LockLost, PostedTo, PostedIf, PostedAt, PostedAll, call_at, attempt_at}
-use Rattle.call_deeds.specs.Below.RpcReader.Reading.{code_of}
-use Rattle.call_deeds.specs.Below.RpcReader.Running.{ReadLink}
-use Rattle.call_deeds.specs.Below.RpcReader.Resting.{HadEnded, EndedLast, OneEnded, RestEnded}
-use Rattle.call_deeds.specs.Below.CallClient.Telling.{quiet_total, did_total, none_of_one}
-use Rattle.call_told.specs.Once.{ends_of, told_ends}
+use Rattle.call_deeds.specs.Below.RpcReader.PostingAtReadingEnd.{LostBy, LockLost, PostedTo, PostedIf, PostedAt, PostedAll, call_at, attempt_at}
+use Rattle.call_deeds.specs.Below.RpcReader.LinkReading.{code_of}
+use Rattle.call_deeds.specs.Below.RpcReader.ReaderRunFromOpen.{ReadLink}
+use Rattle.call_deeds.specs.Below.RpcReader.CallsLeftAfterReading.{HadEnded, EndedLast, OneEnded, RestEnded}
+use Rattle.call_deeds.specs.Below.CallClient.EndedCallsTelling.{quiet_total, did_total, none_of_one}
+use Rattle.call_told.specs.ToldOnce.{ends_of, told_ends}
 use Rattle.call_told.proofs.Balance.{noted_ends, Accounted, told_more, noted_more, one_end}
 use Rattle.call_told.specs.Least.{is_locked_for}
-use Rattle.call_told.proofs.Ends.{HasLocked, got_locked, IsEndOf, AreEnds, ends_later}
-use Rattle.call_told.proofs.Lists.{all_both}
-use Rattle.call_told.proofs.Growing.{Grows, grows_same, grows_then, quiet_grows, did_grows, ended_grows, post_grows, kept_grows}
+use Rattle.call_told.proofs.ToldCallEnds.{HasLocked, got_locked, IsEndOf, AreEnds, ends_later}
+use Rattle.call_told.proofs.ListElementsByPlace.{all_both}
+use Rattle.call_told.proofs.GrowingCallNotes.{Grows, grows_same, grows_then, quiet_grows, did_grows, ended_grows, post_grows, kept_grows}
 
 abbrev pub Accounts : Books → Books → Type 0
 Accounts b b' = (b'.starved ≡ true) ⊎ Accounted b.told b.view.notes b'.told b'.view.notes

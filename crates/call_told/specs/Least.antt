@@ -7,11 +7,11 @@ use Rattle.corr_core.specs.declared.marks.Note.{Note}
 use Rattle.corr_core.specs.declared.marks.Note.TheVariants.{Made, Locker}
 use Rattle.corr_core.specs.declared.marks.Plan.{Plan}
 use Rattle.corr_core.specs.declared.marks.View.{View}
-use Rattle.id_rule.specs.Lawful.{call_index, notes_of, is_stored}
+use Rattle.id_rule.specs.LawfulIdTable.{call_index, notes_of, is_stored}
 use Rattle.sock_message.specs.Asked.{Asked}
 use Rattle.call_deeds.specs.Below.RpcClient.Told.{Told}
-use Rattle.call_told.specs.Once.{ends_of, told_ends}
-use Rattle.sock_words.specs.Words.{id_slot, id_first}
+use Rattle.call_told.specs.ToldOnce.{ends_of, told_ends}
+use Rattle.sock_words.specs.PackedWords.{id_slot, id_first}
 use Rattle.sock_words.specs.Totals.{total}
 
 -- 1 where the range with this first version was made for the call that is this operation

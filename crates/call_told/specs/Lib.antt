@@ -1,5 +1,5 @@
-pub mod Answers
-pub mod Once
+pub mod TellersOfCallEnds
+pub mod ToldOnce
 pub mod Least
 pub use Rattle.call_deeds
 pub use Rattle.call_deeds.specs.call_places

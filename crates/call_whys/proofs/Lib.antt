@@ -1,3 +1,3 @@
-pub mod Answers
-pub mod Scripts
-pub mod Versions
+pub mod AnswersByWholeResponses
+pub mod AnsweredCallsOfScripts
+pub mod CallVersionsDistinct

@@ -1,15 +1,15 @@
 -- A seat that writes until the head is empty, with calls.
 use Rattle.std.proofs.Common.{◌≡◌, ◌⊎◌, ℕ, inl, inr, refl, sym, ap, subst}
-use Rattle.sock_io.specs.Link.{OutState}
+use Rattle.sock_io.specs.LinkHalves.{OutState}
 use Rattle.sock_words.specs.declared.plain.Plan.{Plan}
 use Rattle.sock_model.specs.declared.view.View.{View}
-use Rattle.write_chain.specs.Noting.{Wrote}
-use Rattle.write_chain.proofs.Noting.{wrote_rights, wrote_then, drop_then}
+use Rattle.write_chain.specs.NotingWhileWriting.{Wrote}
+use Rattle.write_chain.proofs.NotingWhileWriting.{wrote_rights, wrote_then, drop_then}
 use Rattle.write_chain.proofs.Dropping.{code_before}
-use Rattle.call_errors.specs.rpc_client.specs.Seats.{SameRefs}
-use Rattle.call_errors.specs.rpc_client.specs.Sending.{WroteAll}
-use Rattle.call_errors.specs.rpc_client.proofs.Writing.{all_none, all_wrote, all_dropped, all_then, all_refs}
-use Rattle.call_errors.specs.Books.{CallStand}
+use Rattle.call_errors.specs.rpc_client.specs.SeatBetweenOperations.{SameRefs}
+use Rattle.call_errors.specs.rpc_client.specs.SendingOutcomes.{WroteAll}
+use Rattle.call_errors.specs.rpc_client.proofs.WritingUntilHeadEmpty.{all_none, all_wrote, all_dropped, all_then, all_refs}
+use Rattle.call_errors.specs.ClientBooks.{CallStand}
 use Rattle.call_writes.specs.Draining.{DroppedOne, DroppedAll, none, one_more, Drained}
 
 module _ {O : Type 0} {state : O → OutState} (p : Plan) (slots id : ℕ) where

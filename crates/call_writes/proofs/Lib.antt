@@ -1,3 +1,3 @@
 pub mod Drains
-pub mod Delivering
-pub mod Testing
+pub mod DeliveringWithCalls
+pub mod TestSeat

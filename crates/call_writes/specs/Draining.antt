@@ -1,14 +1,14 @@
 -- What a seat does that writes a link until its head is empty, and tells the calls whose messages it drops.
 use Rattle.std.specs.Prelude.{◌≡◌, ◌≢◌, ℕ, Some}
-use Rattle.sock_io.specs.Link.{OutState}
+use Rattle.sock_io.specs.LinkHalves.{OutState}
 use Rattle.sock_words.specs.declared.plain.Plan.{Plan}
 use Rattle.sock_model.specs.declared.view.View.{View}
 use Rattle.write_chain.specs.declared.right.Undelivered.{Undelivered}
-use Rattle.write_chain.specs.Noting.{Wrote, WroteDrop}
-use Rattle.write_chain.specs.Writing.{FoundDead}
-use Rattle.write_chain.specs.Keeping.{IsCode}
-use Rattle.call_errors.specs.Books.{CallStand}
-use Rattle.call_errors.specs.Posting.{PostedBy}
+use Rattle.write_chain.specs.NotingWhileWriting.{Wrote, WroteDrop}
+use Rattle.write_chain.specs.WritingRightInHand.{FoundDead}
+use Rattle.write_chain.specs.KeepingOnWriting.{IsCode}
+use Rattle.call_errors.specs.ClientBooks.{CallStand}
+use Rattle.call_errors.specs.PostedErrors.{PostedBy}
 
 -- nobody is told of a send; to the id of a call the code is posted, for the attempt whose frame it was
 pub data ToldDrop (slots : ℕ) (msg : Undelivered) (code : ℕ) (s t : CallStand) : Type 0 where

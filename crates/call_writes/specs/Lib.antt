@@ -1,2 +1,2 @@
 pub mod Draining
-pub mod Sending
+pub mod MessageFateBesideCalls

@@ -1,8 +1,8 @@
 // A link is written until its head is empty, and calls are told what was dropped.
 ghost use Rattle.std.specs.Prelude.{◌≡◌, ◌≤◌};
-ghost use Rattle.sock_rule.specs.Seated.{IsSeat};
-ghost use Rattle.write_chain.specs.Writing.{MayGoOn, GaveUp};
-ghost use Rattle.call_errors.specs.Books.{stand_of, HasNoLock, KeepsSeat};
+ghost use Rattle.sock_rule.specs.SocketSeatSplits.{IsSeat};
+ghost use Rattle.write_chain.specs.WritingRightInHand.{MayGoOn, GaveUp};
+ghost use Rattle.call_errors.specs.ClientBooks.{stand_of, HasNoLock, KeepsSeat};
 ghost use Rattle.call_writes.specs.Draining.{ToldDrop, Drained};
 
 use crate::shared_tables::SharedTables;

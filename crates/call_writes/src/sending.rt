@@ -1,13 +1,13 @@
 // Messages of clients that have calls.
 ghost use Rattle.std.specs.Prelude.{◌≡◌, ◌*◌, ◌<◌, []};
-ghost use Rattle.sock_rule.specs.Seated.{IsSeat};
-ghost use Rattle.write_chain.specs.Sending.{HasRoom};
-ghost use Rattle.write_chain.specs.Writing.{GaveUp, Begins};
-ghost use Rattle.call_errors.specs.rpc_client.specs.Seats.{Idle, MayAct};
-ghost use Rattle.call_errors.specs.Books.{stand_of, HasNoLock, KeepsSeat};
+ghost use Rattle.sock_rule.specs.SocketSeatSplits.{IsSeat};
+ghost use Rattle.write_chain.specs.SendingIntoChain.{HasRoom};
+ghost use Rattle.write_chain.specs.WritingRightInHand.{GaveUp, Begins};
+ghost use Rattle.call_errors.specs.rpc_client.specs.SeatBetweenOperations.{Idle, MayAct};
+ghost use Rattle.call_errors.specs.ClientBooks.{stand_of, HasNoLock, KeepsSeat};
 ghost use Rattle.call_writes.specs.Draining.{Drained};
-ghost use Rattle.call_writes.specs.Sending.{SeenCalling, SentCalling, Rested};
-ghost use Rattle.write_chain.specs.Ready.{sock_of};
+ghost use Rattle.call_writes.specs.MessageFateBesideCalls.{SeenCalling, SentCalling, Rested};
+ghost use Rattle.write_chain.specs.ReadyToSend.{sock_of};
 
 use crate::shared_tables::SharedTables;
 use call_errors::{CallSeat, Reached, find_socket, refuse};

@@ -1,7 +1,7 @@
 pub mod Socketed
-pub mod Words
-pub mod Each
-pub mod Telling
-pub mod Sends
-pub mod Silent
-pub mod Fits
+pub mod AcceptedPlaceWords
+pub mod EachTaskHasOutcome
+pub mod CalllessSocketsTelling
+pub mod EverySendPlaced
+pub mod SilentLinksReadWhole
+pub mod CalllessReportFits

@@ -3,17 +3,17 @@ use Rattle.std.proofs.Common.{◌≡◌, ℕ, true, false, List, slice_get, Opti
 use Rattle.sock_words.specs.declared.outcome.Outcome.{Outcome}
 use Rattle.brpc_model.specs.Items.{Item, Call, Expire, Join}
 use Rattle.brpc_model.specs.Operations.{Operation, operations}
-use Rattle.brpc_model.specs.Places.{names}
+use Rattle.brpc_model.specs.LinePlaceFaults.{names}
 use Rattle.seat_programs.specs.declared.task.Op.{Op}
 use Rattle.seat_programs.specs.declared.task.Op.TheVariants as ops
 use Rattle.seat_programs.specs.declared.task.Task.{Task}
-use Rattle.seat_programs.specs.Scripts.{all_tasks, is_callless, is_later}
+use Rattle.seat_programs.specs.ScriptSetupToEnding.{all_tasks, is_callless, is_later}
 use Rattle.seat_programs.specs.Tasks.{numbered}
-use Rattle.seat_programs.specs.Told.{IsTask}
-use Rattle.sock_deeds.specs.report_fits.proofs.Callless.{not_later}
-use Rattle.sock_deeds.specs.script_facts.proofs.Numbering.{are_from}
+use Rattle.seat_programs.specs.Explained.{IsTask}
+use Rattle.sock_deeds.specs.report_fits.proofs.CalllessScript.{not_later}
+use Rattle.sock_deeds.specs.script_facts.proofs.OperationNumbering.{are_from}
 use Rattle.sock_deeds.specs.script_facts.proofs.TaskLemmas.{numbers_at, asks_at, task_is, call_asks, expire_asks, join_asks}
-use Rattle.sock_deeds.specs.Told.{IsOfSockets}
+use Rattle.sock_deeds.specs.SocketsTold.{IsOfSockets}
 
 module _ (script : List Item) (callless : is_callless script ≡ true) where
   none_later : (i : ℕ) (q : Operation) → slice_get (operations script) i ≡ Some q → (item : Item) → q.item ≡ item → is_later item ≡ true → ⊥

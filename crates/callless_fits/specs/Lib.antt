@@ -1,2 +1,2 @@
-pub mod Whole
+pub mod WholeCalllessReport
 pub use Rattle.sock_deeds

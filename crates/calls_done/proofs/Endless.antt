@@ -8,23 +8,23 @@ use Rattle.brpc_model.specs.Items.{Item, Shape, Send}
 use Rattle.brpc_model.specs.Operations.{link_names}
 use Rattle.brpc_model.specs.Reply.{reply, reply_frames}
 use Rattle.brpc_model.specs.Script.{script_of}
-use Rattle.brpc_model.specs.Served.{first_of, given_for}
-use Rattle.brpc_model.specs.Stream.{stream}
-use Rattle.callless_fits.specs.sock_deeds.specs.script_facts.proofs.Lists.{Has}
-use Rattle.callless_fits.specs.sock_deeds.specs.script_facts.proofs.Tasks.{tasks_of_script}
+use Rattle.brpc_model.specs.ServedForTakenBytes.{first_of, given_for}
+use Rattle.brpc_model.specs.FrameStream.{stream}
+use Rattle.callless_fits.specs.sock_deeds.specs.script_facts.proofs.FilteredLists.{Has}
+use Rattle.callless_fits.specs.sock_deeds.specs.script_facts.proofs.ReadScriptTasks.{tasks_of_script}
 use Rattle.sock_message.specs.Asked.{Asked, request_of, frame_of}
 use Rattle.seat_programs.specs.declared.task.Op.TheVariants as ops
 use Rattle.seat_programs.specs.declared.task.Task.{Task}
 use Rattle.seat_programs.specs.Cores.{Core}
-use Rattle.seat_programs.specs.Scripts.{all_tasks, took_at_home}
+use Rattle.seat_programs.specs.ScriptSetupToEnding.{all_tasks, took_at_home}
 use Rattle.seat_programs.specs.Tasks.{plan_of}
-use Rattle.seat_programs.specs.Told.{AreTasks, IsTask, Made}
-use Rattle.seat_programs.specs.ToldCalls.{Accepted, Order, Fixed, AreOrders, bytes_of}
-use Rattle.failed_told.specs.attempts_told.specs.Attempts.{AreAttemptsTold}
-use Rattle.served_told.specs.Telling.{ShowSmallIds}
-use Rattle.served_told.proofs.Requests.{IsRequest, pieces, whole}
-use Rattle.served_told.specs.served_calls.proofs.Frames.{frames_then, first_has, reply_more, reply_to}
-use Rattle.served_told.specs.served_calls.specs.served_runs.proofs.Frames.{IsPiece, pieces_end, IsSmall, request_is}
+use Rattle.seat_programs.specs.Explained.{AreTasks, IsTask, Made}
+use Rattle.seat_programs.specs.ExplainedCalls.{Accepted, Order, Fixed, AreOrders, bytes_of}
+use Rattle.failed_told.specs.attempts_told.specs.CountedAttempts.{AreAttemptsTold}
+use Rattle.served_told.specs.ServedLinksTelling.{ShowSmallIds}
+use Rattle.served_told.proofs.RequestsWithoutSends.{IsRequest, pieces, whole}
+use Rattle.served_told.specs.served_calls.proofs.ReplyFrames.{frames_then, first_has, reply_more, reply_to}
+use Rattle.served_told.specs.served_calls.specs.served_runs.proofs.WholeFrameStreams.{IsPiece, pieces_end, IsSmall, request_is}
 use Rattle.served_told.specs.served_calls.specs.served_runs.proofs.Model.{unsent_of}
 
 -- ## One request more

@@ -1,9 +1,9 @@
-pub mod Begun
-pub mod Known
-pub mod Links
-pub mod Calm
+pub mod FirstAttempts
+pub mod KnownCallRun
+pub mod FaultlessLinks
+pub mod CalmSingleAttempts
 pub mod Endless
-pub mod Causes
-pub mod Answered
-pub mod Ended
-pub mod Done
+pub mod ServedCallCauses
+pub mod FirstAttemptAnswered
+pub mod FirstAttemptUnanswered
+pub mod SendsAndCallsDone

@@ -1,5 +1,5 @@
-pub mod Owed
-pub mod Begun
+pub mod OwedToCalls
+pub mod FirstAttempts
 pub use Rattle.failed_told.specs.attempts_told
 pub use Rattle.failed_told.specs.call_whys
 pub use Rattle.failed_told.specs.failed_ends

@@ -11,13 +11,13 @@ pub mod SoonPieces
 pub mod SoonReplies
 pub mod SoonTicks
 pub mod SoonUnsent
-pub mod Handled
-pub mod Given
+pub mod AllHandledAtEnding
+pub mod AllGivenAtEnding
 pub mod SoonRuns
 pub mod Soon
 pub mod OpensFull
 pub mod OpensGiven
 pub mod OpensQuiet
 pub mod OpensRequest
-pub mod Opens
-pub mod Over
+pub mod IdsOpenAtEnding
+pub mod CallsOver

@@ -2,42 +2,42 @@
 use Rattle.std.proofs.Common.{◌≡◌, ℕ, ◌<◌, ◌⊎◌, inl, inr, ⊎_elim, List, ◌++◌, replicate, sym, ap, ◌∙◌, subst, arith}
 use mathlib.Core.Option.{some}
 use lib.ListN.{get_elem?}
-use Rattle.sock_words.specs.Words.{at_word, at_word_link, at_word_attempt, socket_id_slot, socket_id_version, id_slot, id_first}
+use Rattle.sock_words.specs.PackedWords.{at_word, at_word_link, at_word_attempt, socket_id_slot, socket_id_version, id_slot, id_first}
 use Rattle.sock_model.specs.declared.chain.Entry.{Entry}
 use Rattle.sock_model.specs.declared.view.View.{View}
 use Rattle.sock_model.specs.Entries.{on}
-use Rattle.sock_model.specs.Links.{Failed}
+use Rattle.sock_model.specs.LinksInSlots.{Failed}
 use Rattle.brpc_model.specs.Items.{Item}
 use Rattle.brpc_model.specs.Operations.{Turn}
 use Rattle.seat_programs.specs.Cores.{Core}
-use Rattle.seat_programs.specs.Scripts.{all_tasks, opened, set_up, played, IsRunWithCalls}
+use Rattle.seat_programs.specs.ScriptSetupToEnding.{all_tasks, opened, set_up, played, IsRunWithCalls}
 use Rattle.seat_programs.specs.Tasks.{plan_of}
 use Rattle.seat_programs.specs.Ticks.{quiet}
-use Rattle.seat_programs.specs.ToldCalls.{Accepted, Fixed, StandsAt, StandsOn}
-use Rattle.served_fits.specs.Below.programs_allowed.specs.program_steps.specs.Sound.{state, Sound}
-use Rattle.served_fits.specs.Below.programs_allowed.specs.program_walks.proofs.Whole.{closing_of, views_played, views_closed, views_ended, end_answered, played_sound, closing_sound, closed_sound, ended_sound}
-use Rattle.served_fits.specs.Below.outcome_stories.specs.Kept.{IsSpoken}
+use Rattle.seat_programs.specs.ExplainedCalls.{Accepted, Fixed, StandsAt, StandsOn}
+use Rattle.served_fits.specs.Below.programs_allowed.specs.program_steps.specs.SoundSeats.{state, Sound}
+use Rattle.served_fits.specs.Below.programs_allowed.specs.program_walks.proofs.WholeScriptSound.{closing_of, views_played, views_closed, views_ended, end_answered, played_sound, closing_sound, closed_sound, ended_sound}
+use Rattle.served_fits.specs.Below.outcome_stories.specs.KeptStory.{IsSpoken}
 use Rattle.served_fits.specs.Below.outcome_stories.specs.PlainTasks.{told_tasks_of}
-use Rattle.served_fits.specs.Below.outcome_stories.specs.Stories.{In}
+use Rattle.served_fits.specs.Below.outcome_stories.specs.OperationStories.{In}
 use Rattle.served_fits.specs.Below.outcome_stories.proofs.Delivered.{accepted_of, accepted_there}
 use Rattle.served_fits.specs.Below.outcome_causes.proofs.Final.{at_there}
 use Rattle.served_fits.specs.Below.outcome_stories.proofs.Members.{in_contains}
-use Rattle.served_fits.specs.Below.outcome_causes.proofs.Plain.{in_both, in_left, in_right}
-use Rattle.served_fits.specs.Below.joint_runs.proofs.Runs.{AreMade, first_views}
-use Rattle.served_fits.specs.Below.call_owing.specs.Lives.{ClosesInRun}
+use Rattle.served_fits.specs.Below.outcome_causes.proofs.PlainOutcomeCauses.{in_both, in_left, in_right}
+use Rattle.served_fits.specs.Below.joint_runs.proofs.RunsOfBothTables.{AreMade, first_views}
+use Rattle.served_fits.specs.Below.call_owing.specs.LivesOfLinks.{ClosesInRun}
 use Rattle.served_fits.specs.Below.accept_counts.specs.EndedCalls.{Store, stored_at, stores_of_run}
 use Rattle.served_fits.specs.send_causes.proofs.ClosedLost.{setup_fates, played_fates, early_ended}
 use Rattle.served_fits.specs.send_causes.proofs.ClosedLostTicks.{AreTaken, Ended, word_link, word_attempt}
-use Rattle.served_fits.specs.Below.accept_counts.proofs.Early.{start, go, fitting}
+use Rattle.served_fits.specs.Below.accept_counts.proofs.EarlyClosedSockets.{start, go, fitting}
 use Rattle.served_fits.specs.Below.ended_calls.proofs.EndedAttempts.{all_stored, at_place, spoken_call, own_store}
 use Rattle.served_fits.specs.Below.ended_calls.proofs.EndedOnce.{run_stored_once}
 use Rattle.served_fits.specs.Below.dropped_calls.proofs.LateRests.{HasNone, played_idle, NoOld}
-use Rattle.served_fits.specs.Below.accept_counts.proofs.Runs.{AreLabelledIn}
-use Rattle.served_fits.specs.Below.sent_once.proofs.Sends.{orders_of_run}
+use Rattle.served_fits.specs.Below.accept_counts.proofs.RunsKeepAttemptLaw.{AreLabelledIn}
+use Rattle.served_fits.specs.Below.sent_once.proofs.SocketOperationsTold.{orders_of_run}
 use Rattle.calls_over.proofs.OpensHeld.{IsHeld, run_held}
 use Rattle.calls_over.proofs.OpensLog.{log, held_logged, logged_held, logged_on}
 use Rattle.calls_over.proofs.OpensNamed.{IsEarly}
-use Rattle.corr_core.proofs.Notes.{at_length}
+use Rattle.corr_core.proofs.NoteSums.{at_length}
 use Rattle.served_fits.specs.Below.outcome_stories.specs.Facts.{shown_in}
 
 module _ (script : List Item) (made : AreMade script) (turns : List Turn) (core : Core) (is : IsRunWithCalls script turns core) where

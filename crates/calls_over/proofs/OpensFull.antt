@@ -9,30 +9,30 @@ use lib.ListN.{get_elem?}
 use Rattle.sock_model.specs.declared.chain.Claim.{Claim}
 use Rattle.sock_model.specs.declared.chain.Entry.{Entry}
 use Rattle.sock_model.specs.Entries.{on, ticket}
-use Rattle.sock_model.specs.Reads.{tokens, claims_of}
-use Rattle.chain_steps.proofs.Totals.{log_full}
+use Rattle.sock_model.specs.ChainLawReads.{tokens, claims_of}
+use Rattle.chain_steps.proofs.LogTotals.{log_full}
 use Rattle.sock_steps.proofs.Maps.{gather_nil}
 use Rattle.brpc_model.specs.Items.{Item, attempts_of}
 use Rattle.brpc_model.specs.Operations.{Operation, Turn, operations, attempts, requests}
 use Rattle.brpc_model.specs.Order.{EachBefore}
 use Rattle.brpc_model.specs.Script.{script_of}
-use Rattle.served_fits.specs.Below.script_facts.proofs.Known.{Known, sent_at, inside}
+use Rattle.served_fits.specs.Below.script_facts.proofs.KnownScript.{Known, sent_at, inside}
 use Rattle.served_fits.specs.Below.script_facts.proofs.LabelCounts.{is_attempt, attempt_there, Differ}
-use Rattle.served_fits.specs.Below.script_facts.proofs.Lists.{Has, all_from, all_at, before_from}
-use Rattle.served_fits.specs.Below.script_facts.proofs.Numbering.{are_from}
-use Rattle.served_fits.specs.Below.report_fits.proofs.Places.{known_of}
-use Rattle.served_fits.specs.Below.script_facts.proofs.Reading.{InRange}
-use Rattle.served_fits.specs.Below.script_facts.proofs.Labels.{range_small, lacking}
+use Rattle.served_fits.specs.Below.script_facts.proofs.FilteredLists.{Has, all_from, all_at, before_from}
+use Rattle.served_fits.specs.Below.script_facts.proofs.OperationNumbering.{are_from}
+use Rattle.served_fits.specs.Below.report_fits.proofs.PrintableCallRun.{known_of}
+use Rattle.served_fits.specs.Below.script_facts.proofs.ReadScriptFacts.{InRange}
+use Rattle.served_fits.specs.Below.script_facts.proofs.AcceptedMessageLabels.{range_small, lacking}
 use Rattle.seat_programs.specs.Cores.{Core}
-use Rattle.seat_programs.specs.Scripts.{all_tasks, played, IsRunWithCalls}
+use Rattle.seat_programs.specs.ScriptSetupToEnding.{all_tasks, played, IsRunWithCalls}
 use Rattle.seat_programs.specs.Tasks.{plan_of}
-use Rattle.seat_programs.specs.ToldCalls.{Accepted, Fixed, ExplainedCalls, label}
-use Rattle.served_fits.specs.Below.programs_allowed.specs.program_walks.proofs.Whole.{views_played}
+use Rattle.seat_programs.specs.ExplainedCalls.{Accepted, Fixed, ExplainedCalls, label}
+use Rattle.served_fits.specs.Below.programs_allowed.specs.program_walks.proofs.WholeScriptSound.{views_played}
 use Rattle.served_fits.specs.Below.outcome_stories.proofs.Delivered.{accepted_of, accepted_at, used_once}
-use Rattle.served_fits.specs.Below.joint_runs.proofs.Runs.{AreMade, first_views}
-use Rattle.served_fits.specs.Below.call_owing.specs.Lives.{ClosesInRun}
+use Rattle.served_fits.specs.Below.joint_runs.proofs.RunsOfBothTables.{AreMade, first_views}
+use Rattle.served_fits.specs.Below.call_owing.specs.LivesOfLinks.{ClosesInRun}
 use Rattle.served_fits.specs.send_causes.proofs.ClosedLostTicks.{AreTaken}
-use Rattle.served_fits.specs.Below.sent_once.proofs.Sends.{orders_of_run}
+use Rattle.served_fits.specs.Below.sent_once.proofs.SocketOperationsTold.{orders_of_run}
 use Rattle.calls_over.proofs.OpensEntered.{early_log, late_log, rested_sound, idle_there, StandsLater, stands_later}
 use Rattle.served_fits.specs.Below.dropped_calls.proofs.LateRests.{NoOld}
 

@@ -4,26 +4,26 @@ use Rattle.std.specs.List.{AllByRecursion}
 use Rattle.std.specs.Prelude.{IsTrue, Contains}
 use Rattle.brpc_model.specs.Complete.{IsUntroubled}
 use Rattle.brpc_model.specs.Items.{Item, Shape, Open}
-use Rattle.brpc_model.specs.Link.{LinkEnd}
+use Rattle.brpc_model.specs.ReturnedLink.{LinkEnd}
 use Rattle.brpc_model.specs.Operations.{Turn}
 use Rattle.brpc_model.specs.Report.{Report}
 use Rattle.brpc_model.specs.Script.{script_of}
 use Rattle.brpc_model.specs.PlaceWords.{AreTold}
-use Rattle.served_fits.specs.Below.report_fits.specs.Ends.{AreEndsOf}
-use Rattle.served_fits.specs.Below.script_facts.proofs.Reading.{InRange}
-use Rattle.served_fits.specs.Below.script_facts.proofs.Sizes.{is_counted}
+use Rattle.served_fits.specs.Below.report_fits.specs.ScriptLinkEnds.{AreEndsOf}
+use Rattle.served_fits.specs.Below.script_facts.proofs.ReadScriptFacts.{InRange}
+use Rattle.served_fits.specs.Below.script_facts.proofs.ScriptSizes.{is_counted}
 use Rattle.served_fits.specs.Below.script_facts.proofs.Targets.{AreThere, are_there}
 use Rattle.seat_programs.specs.Cores.{Core}
-use Rattle.seat_programs.specs.Scripts.{Reports, all_tasks, IsRunWithCalls}
+use Rattle.seat_programs.specs.ScriptSetupToEnding.{Reports, all_tasks, IsRunWithCalls}
 use Rattle.seat_programs.specs.Tasks.{plan_of}
-use Rattle.seat_programs.specs.ToldCalls.{Order, Fixed, ExplainedCalls}
+use Rattle.seat_programs.specs.ExplainedCalls.{Order, Fixed, ExplainedCalls}
 use Rattle.served_fits.specs.Below.outcome_stories.specs.Facts.{broken_of_run}
-use Rattle.served_fits.specs.Below.joint_runs.proofs.Runs.{AreMade}
-use Rattle.served_fits.specs.Below.call_owing.specs.Lives.{ClosesInRun}
-use Rattle.served_fits.specs.Below.run_theorems.proofs.Starts.{made}
-use Rattle.served_fits.specs.Below.call_stories.specs.Lists.{gave_in}
-use Rattle.served_fits.specs.served_runs.specs.Offered.{OffersInRun}
-use Rattle.served_fits.specs.served_calls.specs.Quiet.{AreShown}
+use Rattle.served_fits.specs.Below.joint_runs.proofs.RunsOfBothTables.{AreMade}
+use Rattle.served_fits.specs.Below.call_owing.specs.LivesOfLinks.{ClosesInRun}
+use Rattle.served_fits.specs.Below.run_theorems.proofs.ScriptStartsSoundly.{made}
+use Rattle.served_fits.specs.Below.call_stories.specs.LinkReadingLists.{gave_in}
+use Rattle.served_fits.specs.served_runs.specs.OfferedReplies.{OffersInRun}
+use Rattle.served_fits.specs.served_calls.specs.QuietRuns.{AreShown}
 
 pub record CalmRun : Type 0 where
   pub bytes : List ℕ

@@ -11,8 +11,8 @@ use Rattle.sock_model.specs.declared.chain.Right.{Right}
 use Rattle.sock_model.specs.declared.view.Hand.{Hand}
 use Rattle.sock_model.specs.declared.view.View.{View}
 use Rattle.sock_model.specs.ChainRows.{with_claim, entry_of, more, queued, righted, taken_right, ready_claim, filled_claim}
-use Rattle.sock_steps.proofs.Quiet.{either_way}
-use Rattle.seat_programs.specs.Calls.{TableStep, ClaimRequest, PutMessage, Unconnect, SwapHead}
+use Rattle.sock_steps.proofs.SumsAsMarksChange.{either_way}
+use Rattle.seat_programs.specs.TableSteps.{TableStep, ClaimRequest, PutMessage, Unconnect, SwapHead}
 use Rattle.seat_programs.specs.Cores.{Core, found_at}
 use Rattle.seat_programs.specs.StepTables.{word_of}
 use Rattle.seat_programs.specs.Ticks.{Moment, IsAnswered, AreAnswered, ticked}
@@ -20,16 +20,16 @@ use Rattle.seat_programs.specs.StepTables.{row, hand_at}
 use Rattle.seat_programs.specs.StepsOfChain.{exchanged}
 use Rattle.seat_programs.specs.StepsOfMessages.{took_message}
 use Rattle.seat_programs.specs.StepsOfLinks.{link_away, link_home_again, took_bytes}
-use Rattle.served_fits.specs.Below.programs_allowed.specs.program_steps.specs.Sound.{Sound, AreFitting, views_after, views_along}
-use Rattle.served_fits.specs.Below.programs_allowed.specs.program_steps.proofs.Cases.{with_rights, right_rights, put_rights, tick_cases}
+use Rattle.served_fits.specs.Below.programs_allowed.specs.program_steps.specs.SoundSeats.{Sound, AreFitting, views_after, views_along}
+use Rattle.served_fits.specs.Below.programs_allowed.specs.program_steps.proofs.TickCases.{with_rights, right_rights, put_rights, tick_cases}
 use Rattle.served_fits.specs.Below.programs_allowed.specs.program_steps.proofs.Leaves.{claim_way}
 use Rattle.served_fits.specs.Below.programs_allowed.specs.sock_runs.proofs.LinkTicks.{RetriesGo}
-use Rattle.served_fits.specs.Below.programs_allowed.specs.sock_runs.proofs.Ticks.{sound_ticks}
-use Rattle.served_fits.specs.Below.outcome_stories.specs.Stories.{In}
-use Rattle.served_fits.specs.Below.outcome_causes.proofs.Plain.{in_left}
-use Rattle.served_fits.specs.Below.accept_counts.proofs.Views.{row_same}
-use Rattle.corr_core.proofs.Notes.{at_length}
-use Rattle.sock_words.specs.Words.{IDLE}
+use Rattle.served_fits.specs.Below.programs_allowed.specs.sock_runs.proofs.TicksKeepSeatsSound.{sound_ticks}
+use Rattle.served_fits.specs.Below.outcome_stories.specs.OperationStories.{In}
+use Rattle.served_fits.specs.Below.outcome_causes.proofs.PlainOutcomeCauses.{in_left}
+use Rattle.served_fits.specs.Below.accept_counts.proofs.ClaimViewsBehindSteps.{row_same}
+use Rattle.corr_core.proofs.NoteSums.{at_length}
+use Rattle.sock_words.specs.PackedWords.{IDLE}
 
 module _ (e : Entry) where
   abbrev pub IsThere : List (List Entry) → Type 0

@@ -2,16 +2,16 @@
 use Rattle.std.proofs.Common.{◌≡◌, ℕ, zero, suc, ◌<◌, inl, inr, Bool, true, false, cond, eqb, eq-eqb, List, [], ◌∷◌, map, refl, sym, ap, subst, arith}
 use mathlib.Core.Option.{some, some-injective, some-ne-none}
 use lib.ListN.{get_elem?}
-use Rattle.chain_steps.proofs.Lists.{at_length, at_some, filter_in}
+use Rattle.chain_steps.proofs.TicketLists.{at_length, at_some, filter_in}
 use Rattle.sock_words.specs.declared.plain.Plan.{Plan}
 use Rattle.sock_model.specs.declared.chain.Entry.{Entry}
 use Rattle.sock_model.specs.declared.view.View.{View}
 use Rattle.sock_model.specs.Authors.{pick}
 use Rattle.sock_model.specs.Entries.{on}
 use Rattle.seat_programs.specs.Cores.{Core}
-use Rattle.seat_programs.specs.ToldCalls.{StandsAt}
-use Rattle.served_fits.specs.Below.programs_allowed.specs.program_steps.specs.Sound.{Sound}
-use Rattle.served_fits.specs.Below.outcome_stories.specs.Stories.{In}
+use Rattle.seat_programs.specs.ExplainedCalls.{StandsAt}
+use Rattle.served_fits.specs.Below.programs_allowed.specs.program_steps.specs.SoundSeats.{Sound}
+use Rattle.served_fits.specs.Below.outcome_stories.specs.OperationStories.{In}
 use Rattle.served_fits.specs.Below.outcome_stories.proofs.Delivered.{accepted_of, accepted_there, orders_of}
 use Rattle.calls_over.proofs.OpensHeld.{IsHeld}
 

@@ -10,32 +10,32 @@ use Rattle.seat_programs.specs.Cores.{Core}
 use Rattle.seat_programs.specs.Programs.{Program}
 use Rattle.seat_programs.specs.Ticks.{Moment, quiet}
 use Rattle.seat_programs.specs.Tasks.{opens, calls, plan_of, id_plan_of}
-use Rattle.seat_programs.specs.Scripts.{sizes_of, programs, readers_from, all_programs, all_tasks, opened, set_up, played, IsRunWithCalls}
-use Rattle.seat_programs.specs.Told.{AreTasks}
-use Rattle.served_fits.specs.Below.programs_allowed.specs.program_steps.specs.Sound.{views_along}
-use Rattle.served_fits.specs.Below.programs_allowed.specs.program_walks.proofs.Whole.{set_up_answered, set_up_sound}
+use Rattle.seat_programs.specs.ScriptSetupToEnding.{sizes_of, programs, readers_from, all_programs, all_tasks, opened, set_up, played, IsRunWithCalls}
+use Rattle.seat_programs.specs.Explained.{AreTasks}
+use Rattle.served_fits.specs.Below.programs_allowed.specs.program_steps.specs.SoundSeats.{views_along}
+use Rattle.served_fits.specs.Below.programs_allowed.specs.program_walks.proofs.WholeScriptSound.{set_up_answered, set_up_sound}
 use Rattle.served_fits.specs.Below.outcome_stories.specs.PlainTasks.{told_tasks_of}
-use Rattle.served_fits.specs.Below.outcome_stories.specs.Stories.{Event, In}
+use Rattle.served_fits.specs.Below.outcome_stories.specs.OperationStories.{Event, In}
 use Rattle.served_fits.specs.Below.outcome_causes.proofs.Begin.{start_story}
-use Rattle.served_fits.specs.Below.outcome_causes.proofs.Plain.{in_left, in_right}
-use Rattle.served_fits.specs.Below.outcome_causes.proofs.Openings.{are_seats, all_explained}
-use Rattle.served_fits.specs.Below.outcome_causes.proofs.Runs.{IsStoried, set_up_over}
-use Rattle.served_fits.specs.Below.outcome_causes.proofs.Scripts.{own_from}
-use Rattle.id_rule.specs.Lawful.{at_index}
+use Rattle.served_fits.specs.Below.outcome_causes.proofs.PlainOutcomeCauses.{in_left, in_right}
+use Rattle.served_fits.specs.Below.outcome_causes.proofs.ExplainedOpenings.{are_seats, all_explained}
+use Rattle.served_fits.specs.Below.outcome_causes.proofs.RunsKeepStory.{IsStoried, set_up_over}
+use Rattle.served_fits.specs.Below.outcome_causes.proofs.SocketCausesOfScripts.{own_from}
+use Rattle.id_rule.specs.LawfulIdTable.{at_index}
 use Rattle.served_fits.specs.Below.accept_counts.specs.EndedCalls.{Store, stored_at}
-use Rattle.served_fits.specs.Below.accept_counts.proofs.Runs.{AreLabelledIn, IsCallOf, asked_by}
+use Rattle.served_fits.specs.Below.accept_counts.proofs.RunsKeepAttemptLaw.{AreLabelledIn, IsCallOf, asked_by}
 use Rattle.served_fits.specs.Below.attempted_calls.proofs.EndedTrails.{lost}
 use Rattle.served_fits.specs.Below.attempted_calls.proofs.EndedNamed.{all_follow, begins_named, Named, Behind, seats_named, setup_named}
 use Rattle.served_fits.specs.Below.attempted_calls.proofs.EndedNames.{NameLaw, StoredFor}
-use Rattle.sock_words.specs.Words as sockets
-use Rattle.served_fits.specs.Below.joint_runs.proofs.Runs.{AreMade}
-use Rattle.served_fits.specs.Below.call_owing.specs.Lives.{ClosesInRun}
-use Rattle.served_fits.specs.Below.call_owing.specs.Sound.{at_of}
-use Rattle.served_fits.specs.Below.accept_counts.proofs.Early.{start, go, fitting, first_fresh}
-use Rattle.served_fits.specs.Below.sent_once.proofs.Sends.{narrow, opening_bare}
-use Rattle.served_fits.specs.Below.accept_counts.proofs.Standing.{both}
+use Rattle.sock_words.specs.PackedWords as sockets
+use Rattle.served_fits.specs.Below.joint_runs.proofs.RunsOfBothTables.{AreMade}
+use Rattle.served_fits.specs.Below.call_owing.specs.LivesOfLinks.{ClosesInRun}
+use Rattle.served_fits.specs.Below.call_owing.specs.SoundOwing.{at_of}
+use Rattle.served_fits.specs.Below.accept_counts.proofs.EarlyClosedSockets.{start, go, fitting, first_fresh}
+use Rattle.served_fits.specs.Below.sent_once.proofs.SocketOperationsTold.{narrow, opening_bare}
+use Rattle.served_fits.specs.Below.accept_counts.proofs.SeatsStandingAtEnding.{both}
 use Rattle.served_fits.specs.Below.accept_counts.proofs.Grounds.{setting}
-use Rattle.sock_words.specs.Words.{id_slot, id_first}
+use Rattle.sock_words.specs.PackedWords.{id_slot, id_first}
 use Rattle.served_fits.specs.Below.outcome_stories.specs.Facts.{shown_in}
 
 -- what is known of an at word that was stored before the ending

@@ -8,24 +8,24 @@ use native.Mathlib.Decide.{dec_le}
 use mathlib.Core.Option.{Option as Maybe}
 use mathlib.Core.Option.{none, some}
 use lib.ListN.{get_elem?}
-use Rattle.chain_steps.proofs.Lists.{at_some}
-use Rattle.sock_words.specs.Words.{at_word, socket_id, socket_id_slot, id_slot, id_first}
+use Rattle.chain_steps.proofs.TicketLists.{at_some}
+use Rattle.sock_words.specs.PackedWords.{at_word, socket_id, socket_id_slot, id_slot, id_first}
 use Rattle.sock_model.specs.declared.view.View.{View}
-use Rattle.sock_model.specs.Layout.{open_index}
+use Rattle.sock_model.specs.SocketTableLayout.{open_index}
 use Rattle.brpc_model.specs.Items.{Item}
 use Rattle.brpc_model.specs.Frame.{Frame}
 use Rattle.brpc_model.specs.Operations.{Turn, clients}
-use Rattle.served_fits.specs.Below.script_facts.proofs.Reading.{InRange}
+use Rattle.served_fits.specs.Below.script_facts.proofs.ReadScriptFacts.{InRange}
 use Rattle.served_fits.specs.Below.script_facts.proofs.Targets.{AreThere}
-use Rattle.seat_programs.specs.Clients.{client_from}
-use Rattle.seat_programs.specs.Heads.{Exit, Reading, Joins, Opens, Reads, Discards}
+use Rattle.seat_programs.specs.ClientProgram.{client_from}
+use Rattle.seat_programs.specs.LoopHeads.{Exit, Reading, Joins, Opens, Reads, Discards}
 use Rattle.seat_programs.specs.Programs.{Program, Rest, Round}
-use Rattle.seat_programs.specs.Readers.{post_each, read, reader}
+use Rattle.seat_programs.specs.ReaderProgram.{post_each, read, reader}
 use Rattle.seat_programs.specs.Cores.{Core, SeatState}
 use Rattle.seat_programs.specs.Ticks.{Moment, quiet}
 use Rattle.seat_programs.specs.Tasks.{opens, calls, plan_of, id_plan_of}
-use Rattle.seat_programs.specs.Scripts.{sizes_of, programs, readers_from, all_tasks, opened, set_up, played, IsRunWithCalls}
-use Rattle.served_fits.specs.Below.programs_allowed.specs.program_steps.specs.Sound.{Sound, views_along}
+use Rattle.seat_programs.specs.ScriptSetupToEnding.{sizes_of, programs, readers_from, all_tasks, opened, set_up, played, IsRunWithCalls}
+use Rattle.served_fits.specs.Below.programs_allowed.specs.program_steps.specs.SoundSeats.{Sound, views_along}
 use Rattle.served_fits.specs.Below.programs_allowed.specs.program_walks.proofs.LinksRecorded.{Linked, run_linked}
 use Rattle.served_fits.specs.Below.programs_allowed.specs.sock_runs.proofs.LinksStay.{IsGiven}
 use Rattle.served_fits.specs.Below.programs_allowed.specs.program_walks.proofs.LinksOpening.{OpensLink, others_give, beginning_linked}
@@ -33,31 +33,31 @@ use Rattle.served_fits.specs.Below.programs_allowed.specs.program_walks.proofs.O
 use Rattle.served_fits.specs.Below.programs_allowed.specs.sock_runs.proofs.Quiets.{run_seats}
 use Rattle.served_fits.specs.Below.programs_allowed.specs.program_walks.proofs.ReaderSeats.{AtReader, run_reader, waits_own}
 use Rattle.served_fits.specs.Below.programs_allowed.specs.program_walks.proofs.Records.{next_stores}
-use Rattle.served_fits.specs.Below.programs_allowed.specs.program_walks.proofs.Whole.{IsListed, views_played, set_up_answered, set_up_sound, played_sound, recorded_opened, recorded_set_up}
-use Rattle.served_fits.specs.Below.programs_allowed.proofs.Beginning as clients_begin
-use Rattle.served_fits.specs.Below.joint_runs.proofs.Runs.{AreMade, first_views, joint_runs}
-use Rattle.served_fits.specs.Below.call_owing.specs.Lives.{id_of, life_of, AreSaying, ClosesInRun}
+use Rattle.served_fits.specs.Below.programs_allowed.specs.program_walks.proofs.WholeScriptSound.{IsListed, views_played, set_up_answered, set_up_sound, played_sound, recorded_opened, recorded_set_up}
+use Rattle.served_fits.specs.Below.programs_allowed.proofs.WordsAtBeginning as clients_begin
+use Rattle.served_fits.specs.Below.joint_runs.proofs.RunsOfBothTables.{AreMade, first_views, joint_runs}
+use Rattle.served_fits.specs.Below.call_owing.specs.LivesOfLinks.{id_of, life_of, AreSaying, ClosesInRun}
 use Rattle.served_fits.specs.Below.call_owing.specs.Owes.{OwesOn}
 use Rattle.served_fits.specs.Below.call_owing.specs.Owing.{Free, Owing, InList, Among, DutyTo, with_dead}
-use Rattle.served_fits.specs.Below.call_owing.specs.Sound.{at_of, IsOpen, Owed, by_seat, by_retry, by_reader, retry_tokens, SoundOwing}
-use Rattle.served_fits.specs.Below.owing_ticks.proofs.Beginning.{owing_begins}
+use Rattle.served_fits.specs.Below.call_owing.specs.SoundOwing.{at_of, IsOpen, Owed, by_seat, by_retry, by_reader, retry_tokens, SoundOwing}
+use Rattle.served_fits.specs.Below.owing_ticks.proofs.OwedAtBeginning.{owing_begins}
 use Rattle.served_fits.specs.Below.call_owing.proofs.EndsStill.{view_of}
-use Rattle.served_fits.specs.Below.owed_calls.proofs.Known.{run_keeps, opens_apart, quiet_closes}
-use Rattle.served_fits.specs.Below.owed_calls.proofs.Owed.{tasks_own, opened_seats}
+use Rattle.served_fits.specs.Below.owed_calls.proofs.OwedCallsAreEnded.{run_keeps, opens_apart, quiet_closes}
+use Rattle.served_fits.specs.Below.owed_calls.proofs.NothingOwedAtEnd.{tasks_own, opened_seats}
 use Rattle.served_fits.specs.Below.owing_ticks.proofs.OwingRuns.{Reaches, id_is, run_owing, reach_back}
-use Rattle.served_fits.specs.Below.owed_calls.proofs.Saying.{says_along}
+use Rattle.served_fits.specs.Below.owed_calls.proofs.OwedPremisesAtTicks.{says_along}
 use Rattle.served_fits.specs.Below.owed_calls.proofs.WholeOwing.{links_stand}
 use Rattle.served_fits.specs.Below.owned_ids.proofs.WordsGiven.{Named, names_others, beginning_named, run_named}
-use Rattle.served_fits.specs.Below.call_causes.proofs.Handled.{Sit}
+use Rattle.served_fits.specs.Below.call_causes.proofs.HandledResponses.{Sit}
 use Rattle.served_fits.specs.Below.call_causes.proofs.HandledSteps.{State, waiting, reading, seeking, taking, ending_, freeing, over}
 use Rattle.served_fits.specs.Below.call_causes.proofs.HandledStates.{After}
-use Rattle.served_fits.specs.Below.accept_counts.proofs.Early.{start, go, fitting, known, clients_take_none}
+use Rattle.served_fits.specs.Below.accept_counts.proofs.EarlyClosedSockets.{start, go, fitting, known, clients_take_none}
 use Rattle.served_fits.specs.Below.accept_counts.proofs.Takeless.{NoTakes}
-use Rattle.calls_over.proofs.Handled.{reads_before}
-use Rattle.served_fits.specs.Below.accept_counts.proofs.Standing.{Stands, resting, joining, opening, discarding, stands}
-use Rattle.served_fits.specs.Below.accept_counts.proofs.Standing as still
+use Rattle.calls_over.proofs.AllHandledAtEnding.{reads_before}
+use Rattle.served_fits.specs.Below.accept_counts.proofs.SeatsStandingAtEnding.{Stands, resting, joining, opening, discarding, stands}
+use Rattle.served_fits.specs.Below.accept_counts.proofs.SeatsStandingAtEnding as still
 use Rattle.served_fits.specs.Below.accept_counts.proofs.Grounds.{setting, stages}
-use Rattle.corr_core.proofs.Notes.{at_length}
+use Rattle.corr_core.proofs.NoteSums.{at_length}
 
 -- ## A reader keeps no retry
 

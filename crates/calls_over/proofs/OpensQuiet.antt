@@ -1,64 +1,64 @@
 -- Where each link has the server and nothing went wrong, no link failed before the ending, no reader throws bytes away, and each message that a link accepted is the request of a call.
 use Rattle.std.proofs.Common.{◌≡◌, ℕ, ◌<◌, ◌≤◌, ◌⊎◌, inl, inr, ⊎_elim, List, ◌++◌, length, replicate, Some, None, sym, ap, ◌∙◌, subst, arith}
 use Rattle.std.specs.Prelude.{Contains}
-use Rattle.sock_model.specs.Links.{Failed}
-use Rattle.brpc_model.specs.Causes.{HasFault, reading_limit}
+use Rattle.sock_model.specs.LinksInSlots.{Failed}
+use Rattle.brpc_model.specs.LinkFailureCauses.{HasFault, reading_limit}
 use Rattle.brpc_model.specs.Items.{Open, Fail}
-use Rattle.brpc_model.specs.Link.{LinkEnd}
+use Rattle.brpc_model.specs.ReturnedLink.{LinkEnd}
 use Rattle.brpc_model.specs.Operations.{link_names, link_shapes}
-use Rattle.brpc_model.specs.Places.{names}
-use Rattle.served_fits.specs.Below.script_facts.proofs.Known as known
-use Rattle.served_fits.specs.Below.report_fits.proofs.Lines.{Given}
-use Rattle.served_fits.specs.Below.script_facts.proofs.Lists.{all_at, has_from, contains_from, within}
-use Rattle.served_fits.specs.Below.report_fits.proofs.Lives as lives
-use Rattle.served_fits.specs.Below.report_fits.proofs.Places.{known_of}
+use Rattle.brpc_model.specs.LinePlaceFaults.{names}
+use Rattle.served_fits.specs.Below.script_facts.proofs.KnownScript as known
+use Rattle.served_fits.specs.Below.report_fits.proofs.LinkOrderLines.{Given}
+use Rattle.served_fits.specs.Below.script_facts.proofs.FilteredLists.{all_at, has_from, contains_from, within}
+use Rattle.served_fits.specs.Below.report_fits.proofs.LivesInReport as lives
+use Rattle.served_fits.specs.Below.report_fits.proofs.PrintableCallRun.{known_of}
 use Rattle.served_fits.specs.Below.script_facts.proofs.TaskLemmas.{numbers_at, task_is, fail_asks}
 use Rattle.seat_programs.specs.declared.task.Op.TheVariants as ops
 use Rattle.seat_programs.specs.declared.task.Task.{Task}
 use Rattle.seat_programs.specs.Asides.{AtEnd, Broken}
 use Rattle.seat_programs.specs.Cores.{Core}
-use Rattle.seat_programs.specs.Heads.{Discards}
+use Rattle.seat_programs.specs.LoopHeads.{Discards}
 use Rattle.seat_programs.specs.Programs.{Rest, Round}
-use Rattle.seat_programs.specs.Readers.{LIMIT, reader}
-use Rattle.seat_programs.specs.Scripts.{all_tasks, opened, set_up, played}
+use Rattle.seat_programs.specs.ReaderProgram.{LIMIT, reader}
+use Rattle.seat_programs.specs.ScriptSetupToEnding.{all_tasks, opened, set_up, played}
 use Rattle.seat_programs.specs.Tasks.{opens, calls, numbered, plan_of, id_plan_of}
 use Rattle.seat_programs.specs.Ticks.{Moment, quiet, broken_in}
-use Rattle.seat_programs.specs.Told.{IsTask, IsFail, Made}
-use Rattle.served_fits.specs.Below.programs_allowed.specs.program_steps.specs.Sound.{state}
-use Rattle.served_fits.specs.Below.programs_allowed.specs.program_walks.proofs.Whole.{views_played}
+use Rattle.seat_programs.specs.Explained.{IsTask, IsFail, Made}
+use Rattle.served_fits.specs.Below.programs_allowed.specs.program_steps.specs.SoundSeats.{state}
+use Rattle.served_fits.specs.Below.programs_allowed.specs.program_walks.proofs.WholeScriptSound.{views_played}
 use Rattle.served_fits.specs.Below.outcome_stories.specs.Facts.{shown_in, broken_of_run, closed_before_ending}
-use Rattle.served_fits.specs.Below.outcome_stories.specs.Losses.{closed_at, lost_in}
+use Rattle.served_fits.specs.Below.outcome_stories.specs.LinkLosses.{closed_at, lost_in}
 use Rattle.served_fits.specs.Below.outcome_stories.specs.PlainTasks.{told_tasks_of}
-use Rattle.served_fits.specs.Below.outcome_stories.specs.Stories.{In}
+use Rattle.served_fits.specs.Below.outcome_stories.specs.OperationStories.{In}
 use Rattle.served_fits.specs.Below.outcome_ticks.proofs.Lifted.{task_up}
 use Rattle.served_fits.specs.Below.outcome_stories.proofs.Members.{in_contains, contains_in}
-use Rattle.served_fits.specs.Below.outcome_causes.proofs.Plain.{in_left, in_right, in_both}
-use Rattle.served_fits.specs.Below.joint_runs.proofs.Runs.{first_views}
+use Rattle.served_fits.specs.Below.outcome_causes.proofs.PlainOutcomeCauses.{in_left, in_right, in_both}
+use Rattle.served_fits.specs.Below.joint_runs.proofs.RunsOfBothTables.{first_views}
 use Rattle.served_fits.specs.Below.run_theorems.specs.Heard.{heard_takes, given_by}
-use Rattle.served_fits.specs.Below.run_theorems.proofs.Gave.{gave_heard}
-use Rattle.served_fits.specs.Below.run_theorems.proofs.Lengths.{ended_length}
-use Rattle.served_fits.specs.Below.call_stories.specs.Lists.{gave_in}
+use Rattle.served_fits.specs.Below.run_theorems.proofs.GaveTakeByTake.{gave_heard}
+use Rattle.served_fits.specs.Below.run_theorems.proofs.RunLengths.{ended_length}
+use Rattle.served_fits.specs.Below.call_stories.specs.LinkReadingLists.{gave_in}
 use Rattle.served_fits.specs.Below.call_stories.specs.Scenes.{LeadsTo}
 use Rattle.served_fits.specs.Below.story_ticks.proofs.RunFacts.{own_leads, leadings}
-use Rattle.served_fits.specs.Below.accept_counts.proofs.Early.{start, go, fitting, closed_early, first_fresh}
-use Rattle.served_fits.specs.Below.call_stories.proofs.Streams.{faults_more}
-use Rattle.served_fits.specs.Below.sent_once.proofs.Sends.{owed, lost_so}
-use Rattle.served_fits.specs.Below.outcome_causes.proofs.Scripts.{run_tells, failed_early}
-use Rattle.served_fits.specs.served_runs.specs.Served.{IsForCalls}
-use Rattle.served_fits.specs.served_runs.proofs.Ends.{Holds}
-use Rattle.served_fits.specs.served_runs.proofs.Own.{id_small}
-use Rattle.served_fits.specs.served_runs.proofs.Readings.{Goes}
-use Rattle.served_fits.specs.served_runs.proofs.Replies.{played_holds}
-use Rattle.served_fits.specs.served_runs.proofs.Served.{shapes_many, gives_last, gives_no_fault}
-use Rattle.served_fits.specs.served_calls.specs.Quiet.{HasServer}
-use Rattle.served_fits.specs.served_calls.proofs.Requests.{never_last}
-use Rattle.served_fits.specs.served_calls.proofs.Calm.{named_shape}
-use Rattle.served_fits.specs.served_sizes.proofs.Few as sizes
+use Rattle.served_fits.specs.Below.accept_counts.proofs.EarlyClosedSockets.{start, go, fitting, closed_early, first_fresh}
+use Rattle.served_fits.specs.Below.call_stories.proofs.StreamFramesStay.{faults_more}
+use Rattle.served_fits.specs.Below.sent_once.proofs.SocketOperationsTold.{owed, lost_so}
+use Rattle.served_fits.specs.Below.outcome_causes.proofs.SocketCausesOfScripts.{run_tells, failed_early}
+use Rattle.served_fits.specs.served_runs.specs.ServedLinks.{IsForCalls}
+use Rattle.served_fits.specs.served_runs.proofs.GivenByReadingEnd.{Holds}
+use Rattle.served_fits.specs.served_runs.proofs.OwnReplies.{id_small}
+use Rattle.served_fits.specs.served_runs.proofs.ReadingsOver.{Goes}
+use Rattle.served_fits.specs.served_runs.proofs.RepliesOfWholeRun.{played_holds}
+use Rattle.served_fits.specs.served_runs.proofs.ServedLinks.{shapes_many, gives_last, gives_no_fault}
+use Rattle.served_fits.specs.served_calls.specs.QuietRuns.{HasServer}
+use Rattle.served_fits.specs.served_calls.proofs.RequestsTakenByLinks.{never_last}
+use Rattle.served_fits.specs.served_calls.proofs.CalmServedRuns.{named_shape}
+use Rattle.served_fits.specs.served_sizes.proofs.FewBytesFromServer as sizes
 use Rattle.calls_over.proofs.OpensEntered.{rested_sound}
 use Rattle.calls_over.proofs.OpensOwed.{NoneThrown}
 use Rattle.calls_over.proofs.Soon.{no_end, no_stray}
 use Rattle.calls_over.proofs.OpensGiven.{CalmRun, are_made, targets, range}
-use Rattle.corr_core.proofs.Notes.{at_length}
+use Rattle.corr_core.proofs.NoteSums.{at_length}
 
 module _ (calm : CalmRun) where
   open calm use {bytes, script, reads, short, turns, core, is, closes, offers, fixed, orders, tells, report, took, ends, reports, told, given_back, shown, breaks, served, untroubled}
@@ -160,7 +160,7 @@ module _ (calm : CalmRun) where
       (held.reader seat there)
     where
       low : k < length (link_names script)
-      low = let i = at_length (opens script) k o at in let many = (let x = Rattle.served_fits.specs.Below.accept_counts.proofs.Early.known script (are_made calm) turns core is in x.as_many) in omega (arith, i, many)
+      low = let i = at_length (opens script) k o at in let many = (let x = Rattle.served_fits.specs.Below.accept_counts.proofs.EarlyClosedSockets.known script (are_made calm) turns core is in x.as_many) in omega (arith, i, many)
 
       server : HasServer script turns core is k
       server = has_server k low

@@ -3,38 +3,38 @@ use Rattle.std.proofs.Common.{◌≡◌, ℕ, ◌<◌, inl, eqb, eq-eqb, List, [
 use Rattle.std.specs.List.{AllByRecursion}
 use mathlib.Core.Option.{some}
 use lib.ListN.{get_elem?}
-use Rattle.chain_steps.proofs.Lists.{filter_in}
+use Rattle.chain_steps.proofs.TicketLists.{filter_in}
 use Rattle.sock_model.specs.declared.chain.Entry.{Entry}
 use Rattle.sock_model.specs.Entries.{on}
-use Rattle.sock_model.specs.Links.{Given}
+use Rattle.sock_model.specs.LinksInSlots.{Given}
 use Rattle.brpc_model.specs.Frame.{IsFrame}
-use Rattle.brpc_model.specs.Stream.{stream}
-use Rattle.served_fits.specs.Below.script_facts.proofs.Lists.{Has, all_at, all_from, filter_has}
-use Rattle.served_fits.specs.Below.script_facts.proofs.Sizes.{is_counted}
+use Rattle.brpc_model.specs.FrameStream.{stream}
+use Rattle.served_fits.specs.Below.script_facts.proofs.FilteredLists.{Has, all_at, all_from, filter_has}
+use Rattle.served_fits.specs.Below.script_facts.proofs.ScriptSizes.{is_counted}
 use Rattle.served_fits.specs.Below.script_facts.proofs.Targets.{are_there}
 use Rattle.sock_message.specs.Asked.{Asked, request_of, frame_of}
 use Rattle.seat_programs.specs.Cores.{Core}
-use Rattle.seat_programs.specs.Scripts.{all_tasks, played}
+use Rattle.seat_programs.specs.ScriptSetupToEnding.{all_tasks, played}
 use Rattle.seat_programs.specs.Tasks.{plan_of}
-use Rattle.seat_programs.specs.Told.{Became}
-use Rattle.seat_programs.specs.ToldCalls.{Order, Fixed, ExplainedCalls, IsSent, OfSend, OfCall}
-use Rattle.served_fits.specs.Below.programs_allowed.specs.program_steps.specs.Sound.{state}
-use Rattle.served_fits.specs.Below.programs_allowed.specs.program_walks.proofs.Whole.{views_played}
+use Rattle.seat_programs.specs.Explained.{Became}
+use Rattle.seat_programs.specs.ExplainedCalls.{Order, Fixed, ExplainedCalls, IsSent, OfSend, OfCall}
+use Rattle.served_fits.specs.Below.programs_allowed.specs.program_steps.specs.SoundSeats.{state}
+use Rattle.served_fits.specs.Below.programs_allowed.specs.program_walks.proofs.WholeScriptSound.{views_played}
 use Rattle.served_fits.specs.Below.outcome_stories.proofs.Delivered.{accepted_of}
-use Rattle.served_fits.specs.Below.joint_runs.proofs.Runs.{first_views}
+use Rattle.served_fits.specs.Below.joint_runs.proofs.RunsOfBothTables.{first_views}
 use Rattle.served_fits.specs.Below.owned_ids.proofs.OpensStored.{at_place, place_at}
-use Rattle.served_fits.specs.Below.run_theorems.proofs.Starts.{made}
-use Rattle.served_fits.specs.Below.call_stories.specs.Lists.{gave_in}
+use Rattle.served_fits.specs.Below.run_theorems.proofs.ScriptStartsSoundly.{made}
+use Rattle.served_fits.specs.Below.call_stories.specs.LinkReadingLists.{gave_in}
 use Rattle.served_fits.specs.send_causes.proofs.AllTold.{told_of_run}
 use Rattle.served_fits.specs.send_causes.proofs.Assembled.{fixed_in_run}
 use Rattle.served_fits.specs.Below.attempted_calls.proofs.AttemptedStored.{ids_at}
 use Rattle.served_fits.specs.send_causes.proofs.OwnIds.{own_id}
-use Rattle.served_fits.specs.Below.sent_once.proofs.Sends.{orders_of_run}
-use Rattle.served_fits.specs.served_runs.specs.Offered.{TookSoFar}
-use Rattle.served_fits.specs.served_runs.proofs.Frames.{IsPiece, IsSmall, request_is}
-use Rattle.served_fits.specs.served_runs.proofs.Own.{id_small}
-use Rattle.served_fits.specs.served_calls.proofs.Frames.{piece_has}
-use Rattle.served_fits.specs.served_calls.proofs.Requests.{IsCalled, small_call}
+use Rattle.served_fits.specs.Below.sent_once.proofs.SocketOperationsTold.{orders_of_run}
+use Rattle.served_fits.specs.served_runs.specs.OfferedReplies.{TookSoFar}
+use Rattle.served_fits.specs.served_runs.proofs.WholeFrameStreams.{IsPiece, IsSmall, request_is}
+use Rattle.served_fits.specs.served_runs.proofs.OwnReplies.{id_small}
+use Rattle.served_fits.specs.served_calls.proofs.ReplyFrames.{piece_has}
+use Rattle.served_fits.specs.served_calls.proofs.RequestsTakenByLinks.{IsCalled, small_call}
 use Rattle.calls_over.proofs.OpensEntered.{early_log, rested_sound, idle_there, StandsLater, stands_later}
 use Rattle.calls_over.proofs.OpensGiven.{CalmRun, are_made, targets, range}
 use Rattle.calls_over.proofs.OpensQuiet.{unsent, unfailed}

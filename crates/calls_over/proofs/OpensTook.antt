@@ -12,18 +12,18 @@ use Rattle.sock_model.specs.declared.home.Home.TheVariants.{Link}
 use Rattle.sock_model.specs.declared.view.View.{View}
 use Rattle.sock_model.specs.Deliveries.{whole}
 use Rattle.sock_model.specs.Entries.{on}
-use Rattle.sock_model.specs.Links.{Given, Failed}
-use Rattle.sock_model.specs.Reads.{took_of, link_at, rights_on, tokens}
+use Rattle.sock_model.specs.LinksInSlots.{Given, Failed}
+use Rattle.sock_model.specs.ChainLawReads.{took_of, link_at, rights_on, tokens}
 use Rattle.sock_model.specs.References.{slot_facts}
-use Rattle.sock_model.specs.Slots.{SlotLaw, count, live}
-use Rattle.sock_model.specs.Weights.{is_failer, is_freer}
-use Rattle.slot_steps.proofs.Numbers.{life_is, life-in}
+use Rattle.sock_model.specs.SocketSlotLaw.{SlotLaw, count, live}
+use Rattle.sock_model.specs.MarkWeights.{is_failer, is_freer}
+use Rattle.slot_steps.proofs.RuleNumbers.{life_is, life-in}
 use Rattle.chain_steps.proofs.Settles.{all_placed}
 use Rattle.sock_steps.proofs.HandSteps.{link_value}
 use Rattle.sock_steps.proofs.Maps.{took_some, gather_nil}
 use Rattle.seat_programs.specs.Cores.{Core}
-use Rattle.served_fits.specs.Below.programs_allowed.specs.program_steps.specs.Sound.{state, Sound}
-use Rattle.served_fits.specs.Below.programs_allowed.specs.program_steps.proofs.Bounds.{law}
+use Rattle.served_fits.specs.Below.programs_allowed.specs.program_steps.specs.SoundSeats.{state, Sound}
+use Rattle.served_fits.specs.Below.programs_allowed.specs.program_steps.proofs.SlotWordBounds.{law}
 use Rattle.calls_over.proofs.OpensLog.{log}
 
 whole_is : (es : List Entry) → whole es (length es) ≡ flat_map (λ (e : Entry). e.bytes) es

@@ -5,23 +5,23 @@ use Rattle.std.specs.Prelude.{IsTrue}
 use Rattle.brpc_model.specs.Complete.{IsUntroubled}
 use Rattle.brpc_model.specs.Frame.{Frame, frame_bytes}
 use Rattle.brpc_model.specs.Items.{Item, Shape, Open, Send}
-use Rattle.brpc_model.specs.Link.{LinkEnd}
+use Rattle.brpc_model.specs.ReturnedLink.{LinkEnd}
 use Rattle.brpc_model.specs.Operations.{Turn, link_shapes}
-use Rattle.brpc_model.specs.Places.{names}
+use Rattle.brpc_model.specs.LinePlaceFaults.{names}
 use Rattle.brpc_model.specs.Reply.{reply, reply_frames}
 use Rattle.brpc_model.specs.Report.{Report}
 use Rattle.brpc_model.specs.Script.{script_of}
-use Rattle.brpc_model.specs.Served.{first_of, given_for}
-use Rattle.brpc_model.specs.Stream.{stream}
+use Rattle.brpc_model.specs.ServedForTakenBytes.{first_of, given_for}
+use Rattle.brpc_model.specs.FrameStream.{stream}
 use Rattle.brpc_model.specs.PlaceWords.{AreTold}
-use Rattle.served_fits.specs.Below.report_fits.specs.Ends.{AreEndsOf}
-use Rattle.served_fits.specs.Below.script_facts.proofs.Known as known
-use Rattle.served_fits.specs.Below.report_fits.proofs.Lines.{Given}
-use Rattle.served_fits.specs.Below.script_facts.proofs.Lists.{Has, has_filter_map, contains_from, some_is, all_at, all_from, filter_map_has}
-use Rattle.served_fits.specs.Below.report_fits.proofs.Lives as lives
-use Rattle.served_fits.specs.Below.report_fits.proofs.Places.{known_of}
-use Rattle.served_fits.specs.Below.script_facts.proofs.Reading.{InRange}
-use Rattle.served_fits.specs.Below.script_facts.proofs.Sizes.{is_counted}
+use Rattle.served_fits.specs.Below.report_fits.specs.ScriptLinkEnds.{AreEndsOf}
+use Rattle.served_fits.specs.Below.script_facts.proofs.KnownScript as known
+use Rattle.served_fits.specs.Below.report_fits.proofs.LinkOrderLines.{Given}
+use Rattle.served_fits.specs.Below.script_facts.proofs.FilteredLists.{Has, has_filter_map, contains_from, some_is, all_at, all_from, filter_map_has}
+use Rattle.served_fits.specs.Below.report_fits.proofs.LivesInReport as lives
+use Rattle.served_fits.specs.Below.report_fits.proofs.PrintableCallRun.{known_of}
+use Rattle.served_fits.specs.Below.script_facts.proofs.ReadScriptFacts.{InRange}
+use Rattle.served_fits.specs.Below.script_facts.proofs.ScriptSizes.{is_counted}
 use Rattle.served_fits.specs.Below.script_facts.proofs.Targets.{AreThere, are_there}
 use Rattle.served_fits.specs.Below.script_facts.proofs.TaskLemmas.{numbers_at, task_is, send_asks, mentions_send}
 use Rattle.corr_core.specs.declared.marks.Plan.{Plan as IdPlan}
@@ -29,29 +29,29 @@ use Rattle.sock_message.specs.Asked.{request_of}
 use Rattle.seat_programs.specs.declared.task.Op.TheVariants as ops
 use Rattle.seat_programs.specs.declared.task.Task.{Task}
 use Rattle.corr_core.specs.Word.{Parts}
-use Rattle.seat_programs.specs.Readers.{has_response, slot_in, version_in}
+use Rattle.seat_programs.specs.ReaderProgram.{has_response, slot_in, version_in}
 use Rattle.seat_programs.specs.Cores.{Core}
 use Rattle.seat_programs.specs.Tasks.{numbered, plan_of, id_plan_of}
-use Rattle.seat_programs.specs.Told.{IsTask, Made}
-use Rattle.seat_programs.specs.ToldCalls.{Order, Fixed, ExplainedCalls}
-use Rattle.seat_programs.specs.Scripts.{Reports, all_tasks, IsRunWithCalls}
-use Rattle.served_fits.specs.Below.call_owing.specs.Lives.{ClosesInRun}
-use Rattle.served_fits.specs.Below.call_owing.specs.Sound.{id_word_of}
-use Rattle.served_fits.specs.Below.run_theorems.proofs.Lengths.{ended_length}
-use Rattle.served_fits.specs.Below.run_theorems.proofs.Starts.{made}
-use Rattle.served_fits.specs.Below.call_stories.specs.Lists.{gave_in}
-use Rattle.served_fits.specs.Below.call_causes.proofs.Handled.{IsResp}
-use Rattle.served_fits.specs.served_runs.specs.Offered.{OffersInRun}
-use Rattle.served_fits.specs.served_runs.proofs.Frames.{IsPiece, reply_is}
-use Rattle.served_fits.specs.served_calls.proofs.Frames.{SaysReply, piece_has, reply_to, reply_says}
-use Rattle.served_fits.specs.served_calls.proofs.Calm.{named_shape}
+use Rattle.seat_programs.specs.Explained.{IsTask, Made}
+use Rattle.seat_programs.specs.ExplainedCalls.{Order, Fixed, ExplainedCalls}
+use Rattle.seat_programs.specs.ScriptSetupToEnding.{Reports, all_tasks, IsRunWithCalls}
+use Rattle.served_fits.specs.Below.call_owing.specs.LivesOfLinks.{ClosesInRun}
+use Rattle.served_fits.specs.Below.call_owing.specs.SoundOwing.{id_word_of}
+use Rattle.served_fits.specs.Below.run_theorems.proofs.RunLengths.{ended_length}
+use Rattle.served_fits.specs.Below.run_theorems.proofs.ScriptStartsSoundly.{made}
+use Rattle.served_fits.specs.Below.call_stories.specs.LinkReadingLists.{gave_in}
+use Rattle.served_fits.specs.Below.call_causes.proofs.HandledResponses.{IsResp}
+use Rattle.served_fits.specs.served_runs.specs.OfferedReplies.{OffersInRun}
+use Rattle.served_fits.specs.served_runs.proofs.WholeFrameStreams.{IsPiece, reply_is}
+use Rattle.served_fits.specs.served_calls.proofs.ReplyFrames.{SaysReply, piece_has, reply_to, reply_says}
+use Rattle.served_fits.specs.served_calls.proofs.CalmServedRuns.{named_shape}
 use Rattle.calls_over.specs.Open.{slot_word, slot_id, OpenCall}
-use Rattle.calls_over.proofs.Given.{gave_before}
-use Rattle.calls_over.proofs.Handled.{in_soon}
+use Rattle.calls_over.proofs.AllGivenAtEnding.{gave_before}
+use Rattle.calls_over.proofs.AllHandledAtEnding.{in_soon}
 use Rattle.calls_over.proofs.SoonPieces.{IsLow}
 use Rattle.calls_over.proofs.SoonRuns.{stands_before, never_soon}
-use Rattle.served_fits.specs.Below.ended_calls.proofs.Unanswered.{some_response}
-use Rattle.sock_words.specs.Words.{id_slot, id_first}
+use Rattle.served_fits.specs.Below.ended_calls.proofs.FailedCallsUnanswered.{some_response}
+use Rattle.sock_words.specs.PackedWords.{id_slot, id_first}
 use Rattle.served_fits.specs.Below.outcome_stories.specs.Facts.{before_ending}
 
 -- ## Replies

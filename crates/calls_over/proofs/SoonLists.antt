@@ -5,7 +5,7 @@ use mathlib.Core.Option.{some, some-injective, some-ne-none}
 use native.Mathlib.Decide.{ℕ_discrete}
 use lib.ListN.{get_elem?}
 use Rattle.atomic_table.proofs.Lists.{set_here, set_else}
-use Rattle.chain_steps.proofs.Lists.{at_length, at_some}
+use Rattle.chain_steps.proofs.TicketLists.{at_length, at_some}
 use Rattle.sock_words.specs.declared.plain.Plan.{Plan}
 use Rattle.sock_model.specs.declared.chain.Claim.{Claim}
 use Rattle.sock_model.specs.declared.chain.Entry.{Entry}
@@ -13,8 +13,8 @@ use Rattle.sock_model.specs.declared.view.Hand.{Hand}
 use Rattle.sock_model.specs.declared.view.View.{View}
 use Rattle.sock_model.specs.Authors.{pick}
 use Rattle.sock_model.specs.ChainRows.{more, entry_of, queued, righted}
-use Rattle.sock_model.specs.Lawful.{Lawful}
-use Rattle.seat_programs.specs.Calls.{TableStep, SwapHead}
+use Rattle.sock_model.specs.LawfulSockets.{Lawful}
+use Rattle.seat_programs.specs.TableSteps.{TableStep, SwapHead}
 use Rattle.seat_programs.specs.Cores.{Core, found_at}
 use Rattle.seat_programs.specs.StepTables.{word_of}
 use Rattle.seat_programs.specs.Ticks.{Moment, IsAnswered, AreAnswered, ticked}
@@ -23,13 +23,13 @@ use Rattle.seat_programs.specs.StepViews.{by_claim}
 use Rattle.seat_programs.specs.StepsOfChain.{exchanged}
 use Rattle.seat_programs.specs.StepsOfMessages.{took_message}
 use Rattle.seat_programs.specs.StepsOfLinks.{link_away, link_home_again, took_bytes}
-use Rattle.served_fits.specs.Below.programs_allowed.specs.program_steps.specs.Sound.{state, Sound, AreFitting, views_after, views_along}
-use Rattle.served_fits.specs.Below.programs_allowed.specs.program_steps.proofs.Cases.{tick_cases}
+use Rattle.served_fits.specs.Below.programs_allowed.specs.program_steps.specs.SoundSeats.{state, Sound, AreFitting, views_after, views_along}
+use Rattle.served_fits.specs.Below.programs_allowed.specs.program_steps.proofs.TickCases.{tick_cases}
 use Rattle.served_fits.specs.Below.programs_allowed.specs.sock_runs.proofs.LinkTicks.{RetriesGo}
-use Rattle.served_fits.specs.Below.programs_allowed.specs.sock_runs.proofs.Ticks.{sound_ticks}
+use Rattle.served_fits.specs.Below.programs_allowed.specs.sock_runs.proofs.TicksKeepSeatsSound.{sound_ticks}
 use Rattle.served_fits.specs.Below.programs_allowed.specs.runs_end.proofs.WalksLeft.{message_lists, away_lists, home_lists, put_lists}
-use Rattle.served_fits.specs.Below.outcome_ticks.proofs.Accepting.{row_lists}
-use Rattle.sock_words.specs.Words.{IDLE}
+use Rattle.served_fits.specs.Below.outcome_ticks.proofs.ClaimAndAcceptedMessages.{row_lists}
+use Rattle.sock_words.specs.PackedWords.{IDLE}
 
 -- ## Lists of one seat
 

@@ -3,8 +3,8 @@ use Rattle.std.proofs.Common.{◌≡◌, ◌≢◌, ℕ, zero, suc, ◌+◌, ◌
 use Rattle.std.specs.List.{AllByRecursion}
 use mathlib.Core.Option.{some}
 use lib.ListN.{get_elem?}
-use Rattle.chain_steps.proofs.Frames.{in_log}
-use Rattle.slot_steps.proofs.Sums.{term_le}
+use Rattle.chain_steps.proofs.UntouchedByChainSteps.{in_log}
+use Rattle.slot_steps.proofs.SlotWeightSums.{term_le}
 use Rattle.sock_words.specs.declared.plain.Plan.{Plan}
 use Rattle.sock_model.specs.declared.chain.Entry.{Entry}
 use Rattle.sock_model.specs.declared.chain.Heading.{Heading}
@@ -12,25 +12,25 @@ use Rattle.sock_model.specs.declared.view.View.{View}
 use Rattle.sock_model.specs.Deliveries.{whole}
 use Rattle.sock_model.specs.Entries.{on}
 use Rattle.brpc_model.specs.Frame.{Frame, IsFrame}
-use Rattle.brpc_model.specs.Stream.{stream, stream_from}
-use Rattle.served_fits.specs.Below.script_facts.proofs.Lists.{all_at, all_from}
+use Rattle.brpc_model.specs.FrameStream.{stream, stream_from}
+use Rattle.served_fits.specs.Below.script_facts.proofs.FilteredLists.{all_at, all_from}
 use Rattle.corr_core.specs.declared.marks.Plan.{Plan as IdPlan}
 use Rattle.sock_message.specs.Asked.{Asked, request_of, frame_of}
 use Rattle.seat_programs.specs.Cores.{Core}
-use Rattle.served_fits.specs.Below.programs_allowed.specs.program_steps.specs.Sound.{Sound}
-use Rattle.id_runs.specs.Held.{IdView}
+use Rattle.served_fits.specs.Below.programs_allowed.specs.program_steps.specs.SoundSeats.{Sound}
+use Rattle.id_runs.specs.HeldIdTokens.{IdView}
 use Rattle.id_runs.specs.Goes.{SoundIds}
-use Rattle.served_fits.specs.Below.label_runs.specs.Labels.{Trial}
-use Rattle.served_fits.specs.Below.call_owing.specs.Sound.{id_word_of}
+use Rattle.served_fits.specs.Below.label_runs.specs.AttemptLabelsLeft.{Trial}
+use Rattle.served_fits.specs.Below.call_owing.specs.SoundOwing.{id_word_of}
 use Rattle.served_fits.specs.Below.call_owing.proofs.EndsStill as still
-use Rattle.served_fits.specs.Below.call_causes.proofs.Handled.{bound}
-use Rattle.served_fits.specs.Below.call_stories.proofs.Streams.{frames_stay}
-use Rattle.served_fits.specs.Below.accept_counts.specs.Counts.{pair_of, of_heading, of_entry, of_view, times_of, IsOfCall, EntryFits, LabelLaw}
-use Rattle.served_fits.specs.served_runs.proofs.Frames.{IsPiece, piece_frames, IsSmall, request_is}
+use Rattle.served_fits.specs.Below.call_causes.proofs.HandledResponses.{bound}
+use Rattle.served_fits.specs.Below.call_stories.proofs.StreamFramesStay.{frames_stay}
+use Rattle.served_fits.specs.Below.accept_counts.specs.AttemptCounts.{pair_of, of_heading, of_entry, of_view, times_of, IsOfCall, EntryFits, LabelLaw}
+use Rattle.served_fits.specs.served_runs.proofs.WholeFrameStreams.{IsPiece, piece_frames, IsSmall, request_is}
 use Rattle.calls_over.proofs.SoonLists.{Stood, log_stood}
 use Rattle.calls_over.proofs.SoonWords.{bound_low}
 use Rattle.served_fits.specs.Below.own_decisions.proofs.OwnDecisionsTicks.{pair_self}
-use Rattle.sock_words.specs.Words.{id_slot, id_first}
+use Rattle.sock_words.specs.PackedWords.{id_slot, id_first}
 use Rattle.sock_words.specs.Totals.{total}
 
 -- ## Requests of ranges that have begun

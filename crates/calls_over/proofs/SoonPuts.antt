@@ -5,8 +5,8 @@ use mathlib.Core.Option.{some, some-injective}
 use lib.ListN.{get_elem?}
 use Rattle.atomic_table.proofs.Lists.{at_set}
 use Rattle.chain_steps.proofs.Delivers.{whole_suc}
-use Rattle.chain_steps.proofs.Letters.{writes_room}
-use Rattle.chain_steps.proofs.Lists.{at_some}
+use Rattle.chain_steps.proofs.ChainLettersStay.{writes_room}
+use Rattle.chain_steps.proofs.TicketLists.{at_some}
 use Rattle.sock_words.specs.declared.plain.Plan.{Plan}
 use Rattle.sock_io.specs.declared.link.Put.{Put}
 use Rattle.sock_io.specs.declared.link.Put.TheVariants.{Took, Again, Failed}
@@ -17,19 +17,19 @@ use Rattle.sock_model.specs.declared.home.Home.TheVariants.{Link}
 use Rattle.sock_model.specs.declared.view.View.{View}
 use Rattle.sock_model.specs.Deliveries.{whole}
 use Rattle.sock_model.specs.Entries.{on}
-use Rattle.sock_model.specs.Reads.{tokens}
+use Rattle.sock_model.specs.ChainLawReads.{tokens}
 use Rattle.sock_steps.proofs.RightSteps.{right_in, right_alone}
 use Rattle.seat_programs.specs.Programs.{Program, Do, TakeMessage, TakeHome, PutHome, PutBytes, AskReady, Aside}
 use Rattle.seat_programs.specs.Cores.{Core, SeatState, with_seat}
 use Rattle.seat_programs.specs.Ticks.{Moment, IsAnswered, fed, onto_first, ticked}
 use Rattle.served_fits.specs.Below.programs_allowed.specs.program_steps.specs.Writes.{MayPut}
-use Rattle.served_fits.specs.Below.programs_allowed.specs.program_steps.specs.Sound.{Sound, IsFitting, IsOfRight, AreHeld}
-use Rattle.served_fits.specs.Below.programs_allowed.specs.program_steps.proofs.Cases.{tick_cases}
+use Rattle.served_fits.specs.Below.programs_allowed.specs.program_steps.specs.SoundSeats.{Sound, IsFitting, IsOfRight, AreHeld}
+use Rattle.served_fits.specs.Below.programs_allowed.specs.program_steps.proofs.TickCases.{tick_cases}
 use Rattle.served_fits.specs.Below.programs_allowed.specs.sock_runs.proofs.LinkTicks.{RetriesGo}
-use Rattle.served_fits.specs.Below.call_owing.specs.Lives.{InHand}
-use Rattle.served_fits.specs.served_runs.specs.Offered.{Lies, TookSoFar}
-use Rattle.served_fits.specs.served_runs.proofs.Places.{IsPut, all_lay}
-use Rattle.seat_programs.specs.Rounds.{first_step}
+use Rattle.served_fits.specs.Below.call_owing.specs.LivesOfLinks.{InHand}
+use Rattle.served_fits.specs.served_runs.specs.OfferedReplies.{Lies, TookSoFar}
+use Rattle.served_fits.specs.served_runs.proofs.LinkPlacesAtTicks.{IsPut, all_lay}
+use Rattle.seat_programs.specs.LoopRounds.{first_step}
 
 module _ (p : Plan) (k : ℕ) (retries : RetriesGo p) (c : Core) (vs : List View) (m : Moment) (sound : Sound p c vs) where
   -- the front of the messages that it accepted

@@ -4,25 +4,25 @@ use Rattle.std.specs.List.{AllByRecursion}
 use Rattle.std.specs.Prelude.{slice_index}
 use Rattle.brpc_model.specs.Frame.{Frame, frame_bytes}
 use Rattle.brpc_model.specs.Reply.{reply, reply_frames}
-use Rattle.brpc_model.specs.Served.{first_of}
-use Rattle.brpc_model.specs.Stream.{stream, stream_from}
-use Rattle.served_fits.specs.Below.script_facts.proofs.Lists.{Has, has_later, all_at, all_from, filter_map_has}
+use Rattle.brpc_model.specs.ServedForTakenBytes.{first_of}
+use Rattle.brpc_model.specs.FrameStream.{stream, stream_from}
+use Rattle.served_fits.specs.Below.script_facts.proofs.FilteredLists.{Has, has_later, all_at, all_from, filter_map_has}
 use Rattle.corr_core.specs.Word.{parts}
 use Rattle.corr_core.specs.declared.marks.Plan.{Plan as IdPlan}
-use Rattle.corr_core.specs.Versions.{is_early}
-use Rattle.id_rule.specs.Lawful.{id_index}
+use Rattle.corr_core.specs.IdRangeVersions.{is_early}
+use Rattle.id_rule.specs.LawfulIdTable.{id_index}
 use Rattle.seat_programs.specs.Cores.{Core}
-use Rattle.seat_programs.specs.Readers.{has_response, slot_in, version_in}
-use Rattle.served_fits.specs.Below.call_owing.specs.Sound.{id_word_of}
-use Rattle.served_fits.specs.Below.call_stories.specs.Lists.{Take, gave_in, is_soon, soon_from, soon_by}
-use Rattle.served_fits.specs.Below.call_causes.proofs.Handled.{bound, early_is}
-use Rattle.served_fits.specs.Below.call_stories.proofs.Streams.{frames_stay}
-use Rattle.served_fits.specs.served_runs.proofs.Frames.{IsPiece, piece_frames, reply_is}
+use Rattle.seat_programs.specs.ReaderProgram.{has_response, slot_in, version_in}
+use Rattle.served_fits.specs.Below.call_owing.specs.SoundOwing.{id_word_of}
+use Rattle.served_fits.specs.Below.call_stories.specs.LinkReadingLists.{Take, gave_in, is_soon, soon_from, soon_by}
+use Rattle.served_fits.specs.Below.call_causes.proofs.HandledResponses.{bound, early_is}
+use Rattle.served_fits.specs.Below.call_stories.proofs.StreamFramesStay.{frames_stay}
+use Rattle.served_fits.specs.served_runs.proofs.WholeFrameStreams.{IsPiece, piece_frames, reply_is}
 use Rattle.calls_over.proofs.SoonPieces.{IsLow}
-use Rattle.served_fits.specs.Below.call_causes.proofs.Run.{in_either}
-use Rattle.served_fits.specs.Below.call_stories.proofs.Posts.{and_right}
-use Rattle.served_fits.specs.Below.outcome_stories.specs.Stories.{In}
-use Rattle.sock_words.specs.Words.{id_slot, id_first}
+use Rattle.served_fits.specs.Below.call_causes.proofs.RunOfCallStory.{in_either}
+use Rattle.served_fits.specs.Below.call_stories.proofs.PostLoopCauses.{and_right}
+use Rattle.served_fits.specs.Below.outcome_stories.specs.OperationStories.{In}
+use Rattle.sock_words.specs.PackedWords.{id_slot, id_first}
 
 -- ## One reply
 

@@ -9,8 +9,8 @@ use Rattle.sock_model.specs.declared.home.Home.TheVariants.{Link}
 use Rattle.sock_model.specs.declared.view.View.{View}
 use Rattle.brpc_model.specs.Items.{Item, Shape}
 use Rattle.brpc_model.specs.Operations.{Turn, link_shapes}
-use Rattle.brpc_model.specs.Stream.{stream}
-use Rattle.served_fits.specs.Below.script_facts.proofs.Reading.{InRange}
+use Rattle.brpc_model.specs.FrameStream.{stream}
+use Rattle.served_fits.specs.Below.script_facts.proofs.ReadScriptFacts.{InRange}
 use Rattle.served_fits.specs.Below.script_facts.proofs.Targets.{AreThere}
 use Rattle.sock_message.specs.Asked.{Asked, frame_of}
 use Rattle.seat_programs.specs.declared.task.Op.TheVariants as ops
@@ -19,33 +19,33 @@ use Rattle.seat_programs.specs.Programs.{Program}
 use Rattle.seat_programs.specs.Cores.{Core, SeatState, resolved, next_step}
 use Rattle.seat_programs.specs.Tasks.{opens, calls, plan_of, id_plan_of}
 use Rattle.seat_programs.specs.Ticks.{Moment, AreAnswered, quiet}
-use Rattle.seat_programs.specs.Told.{OpFits, TaskFits, IsTask, Made}
-use Rattle.seat_programs.specs.Scripts.{sizes_of, programs, readers_from, all_programs, all_tasks, new_links, opened, set_up, played, IsRunWithCalls}
-use Rattle.served_fits.specs.Below.programs_allowed.specs.program_steps.specs.Sound.{views_along}
+use Rattle.seat_programs.specs.Explained.{OpFits, TaskFits, IsTask, Made}
+use Rattle.seat_programs.specs.ScriptSetupToEnding.{sizes_of, programs, readers_from, all_programs, all_tasks, new_links, opened, set_up, played, IsRunWithCalls}
+use Rattle.served_fits.specs.Below.programs_allowed.specs.program_steps.specs.SoundSeats.{views_along}
 use Rattle.served_fits.specs.Below.programs_allowed.specs.sock_runs.proofs.LinkTicks.{RetriesGo}
-use Rattle.served_fits.specs.Below.programs_allowed.specs.program_walks.proofs.Opening.{mapped}
-use Rattle.served_fits.specs.Below.programs_allowed.specs.program_walks.proofs.Whole.{views_played, set_up_answered}
+use Rattle.served_fits.specs.Below.programs_allowed.specs.program_walks.proofs.OpenedLivesRecorded.{mapped}
+use Rattle.served_fits.specs.Below.programs_allowed.specs.program_walks.proofs.WholeScriptSound.{views_played, set_up_answered}
 use Rattle.served_fits.specs.Below.outcome_stories.proofs.Members.{all_in}
-use Rattle.served_fits.specs.Below.outcome_ticks.proofs.Tasks.{fits_of}
-use Rattle.served_fits.specs.Below.joint_runs.proofs.Runs.{AreMade, first_views, joint_runs}
-use Rattle.served_fits.specs.Below.call_owing.specs.Lives.{ClosesInRun, InHand}
-use Rattle.served_fits.specs.Below.accept_counts.proofs.Early.{start, go, fitting}
+use Rattle.served_fits.specs.Below.outcome_ticks.proofs.TableTasksDistinct.{fits_of}
+use Rattle.served_fits.specs.Below.joint_runs.proofs.RunsOfBothTables.{AreMade, first_views, joint_runs}
+use Rattle.served_fits.specs.Below.call_owing.specs.LivesOfLinks.{ClosesInRun, InHand}
+use Rattle.served_fits.specs.Below.accept_counts.proofs.EarlyClosedSockets.{start, go, fitting}
 use Rattle.served_fits.specs.Below.sent_once.proofs.Labelled.{ids_of_run}
-use Rattle.served_fits.specs.Below.accept_counts.proofs.Runs.{IsCallOf, programs_go, begins_labels, asked_by}
-use Rattle.served_fits.specs.Below.sent_once.proofs.Sends.{narrow, few_clients, labelled, opening_bare}
-use Rattle.served_fits.specs.served_runs.specs.Offered.{TookSoFar, offered_by, OffersInRun}
-use Rattle.served_fits.specs.served_runs.proofs.Parts.{IsPart, part_along}
-use Rattle.served_fits.specs.served_runs.proofs.Runs.{quiet_offered}
-use Rattle.served_fits.specs.served_runs.proofs.Served.{shapes_many}
+use Rattle.served_fits.specs.Below.accept_counts.proofs.RunsKeepAttemptLaw.{IsCallOf, programs_go, begins_labels, asked_by}
+use Rattle.served_fits.specs.Below.sent_once.proofs.SocketOperationsTold.{narrow, few_clients, labelled, opening_bare}
+use Rattle.served_fits.specs.served_runs.specs.OfferedReplies.{TookSoFar, offered_by, OffersInRun}
+use Rattle.served_fits.specs.served_runs.proofs.RepliesGivenInPart.{IsPart, part_along}
+use Rattle.served_fits.specs.served_runs.proofs.RunsKeepReaderPlace.{quiet_offered}
+use Rattle.served_fits.specs.served_runs.proofs.ServedLinks.{shapes_many}
 use Rattle.served_fits.specs.Below.call_causes.proofs.HandledWhole.{known_setup, known_clients, empty_at}
-use Rattle.calls_over.proofs.Handled.{soon_setup, soon_clients}
+use Rattle.calls_over.proofs.AllHandledAtEnding.{soon_setup, soon_clients}
 use Rattle.calls_over.proofs.SoonPieces.{IsLow, NonePlain}
-use Rattle.served_fits.specs.Below.call_causes.proofs.Run.{in_either as in_two}
+use Rattle.served_fits.specs.Below.call_causes.proofs.RunOfCallStory.{in_either as in_two}
 use Rattle.calls_over.proofs.SoonTicks.{Stands', plain_before, run_stands, quiet_soon, none_soon}
 use Rattle.calls_over.proofs.SoonUnsent.{plain_played}
-use Rattle.served_fits.specs.served_runs.proofs.Replies.{gave_long, empty_long}
+use Rattle.served_fits.specs.served_runs.proofs.RepliesOfWholeRun.{gave_long, empty_long}
 use Rattle.served_fits.specs.Below.owned_ids.proofs.OpensStored.{place_at}
-use Rattle.served_fits.specs.Below.outcome_stories.specs.Stories.{In}
+use Rattle.served_fits.specs.Below.outcome_stories.specs.OperationStories.{In}
 
 -- ## How a run begins
 

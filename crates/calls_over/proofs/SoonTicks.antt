@@ -8,36 +8,36 @@ use Rattle.sock_words.specs.declared.plain.Plan.{Plan}
 use Rattle.sock_model.specs.declared.view.View.{View}
 use Rattle.brpc_model.specs.Items.{Item, Shape}
 use Rattle.brpc_model.specs.Operations.{link_shapes}
-use Rattle.brpc_model.specs.Served.{given_for}
-use Rattle.brpc_model.specs.Stream.{stream}
+use Rattle.brpc_model.specs.ServedForTakenBytes.{given_for}
+use Rattle.brpc_model.specs.FrameStream.{stream}
 use Rattle.corr_core.specs.declared.marks.Plan.{Plan as IdPlan}
 use Rattle.sock_message.specs.Asked.{Asked, frame_of}
 use Rattle.seat_programs.specs.Cores.{Core, SeatState}
 use Rattle.seat_programs.specs.Tasks.{plan_of, id_plan_of}
 use Rattle.seat_programs.specs.Ticks.{Moment, IsAnswered, AreAnswered, quiet, ticked, run}
-use Rattle.served_fits.specs.Below.programs_allowed.specs.program_steps.specs.Sound.{views_after, views_along}
+use Rattle.served_fits.specs.Below.programs_allowed.specs.program_steps.specs.SoundSeats.{views_after, views_along}
 use Rattle.served_fits.specs.Below.programs_allowed.specs.sock_runs.proofs.LinkTicks.{RetriesGo}
-use Rattle.served_fits.specs.Below.joint_runs.proofs.Both.{BothSound, FitsBoth, AreBoth, are_fitting}
-use Rattle.served_fits.specs.Below.label_runs.specs.Labels.{Trial}
-use Rattle.served_fits.specs.Below.call_owing.specs.Sound.{id_word_of}
-use Rattle.served_fits.specs.Below.run_theorems.proofs.Lengths.{tick_long}
-use Rattle.served_fits.specs.Below.call_stories.specs.Lists.{Take, taken_link, takes_by, takes_at, gave_in, soon_by, soon_at}
-use Rattle.served_fits.specs.Below.call_causes.proofs.Handled.{bound}
+use Rattle.served_fits.specs.Below.joint_runs.proofs.BothTablesSound.{BothSound, FitsBoth, AreBoth, are_fitting}
+use Rattle.served_fits.specs.Below.label_runs.specs.AttemptLabelsLeft.{Trial}
+use Rattle.served_fits.specs.Below.call_owing.specs.SoundOwing.{id_word_of}
+use Rattle.served_fits.specs.Below.run_theorems.proofs.RunLengths.{tick_long}
+use Rattle.served_fits.specs.Below.call_stories.specs.LinkReadingLists.{Take, taken_link, takes_by, takes_at, gave_in, soon_by, soon_at}
+use Rattle.served_fits.specs.Below.call_causes.proofs.HandledResponses.{bound}
 use Rattle.served_fits.specs.Below.call_causes.proofs.HandledTicks.{Known}
 use Rattle.served_fits.specs.Below.call_causes.proofs.HandledRuns.{AreKnown}
-use Rattle.served_fits.specs.Below.accept_counts.specs.Counts.{times_of, LabelLaw, StoresOwn, AreLabelled}
-use Rattle.served_fits.specs.Below.accept_counts.proofs.Ticks.{label_ticks}
-use Rattle.served_fits.specs.served_runs.specs.Offered.{TookSoFar, AreOffered}
-use Rattle.served_fits.specs.served_runs.proofs.Parts.{IsPart, part_along}
+use Rattle.served_fits.specs.Below.accept_counts.specs.AttemptCounts.{times_of, LabelLaw, StoresOwn, AreLabelled}
+use Rattle.served_fits.specs.Below.accept_counts.proofs.TicksKeepAttemptLaw.{label_ticks}
+use Rattle.served_fits.specs.served_runs.specs.OfferedReplies.{TookSoFar, AreOffered}
+use Rattle.served_fits.specs.served_runs.proofs.RepliesGivenInPart.{IsPart, part_along}
 use Rattle.calls_over.proofs.SoonLists.{run_stay}
 use Rattle.calls_over.proofs.SoonPieces.{IsLow, low_on, NonePlain, front_low}
-use Rattle.served_fits.specs.Below.script_facts.proofs.Lists.{all_map}
+use Rattle.served_fits.specs.Below.script_facts.proofs.FilteredLists.{all_map}
 use Rattle.calls_over.proofs.SoonPuts.{took_behind, took_before}
 use Rattle.calls_over.proofs.SoonReplies.{soon_of, given_late}
-use Rattle.served_fits.specs.Below.call_causes.proofs.Run.{in_either as in_two}
+use Rattle.served_fits.specs.Below.call_causes.proofs.RunOfCallStory.{in_either as in_two}
 use Rattle.calls_over.proofs.SoonWords.{begun_below, words_go}
-use Rattle.served_fits.specs.Below.outcome_stories.specs.Stories.{In}
-use Rattle.sock_words.specs.Words.{id_slot, id_first}
+use Rattle.served_fits.specs.Below.outcome_stories.specs.OperationStories.{In}
+use Rattle.sock_words.specs.PackedWords.{id_slot, id_first}
 use Rattle.served_fits.specs.Below.outcome_stories.specs.Facts.{shown_in}
 
 module _ (p : Plan) (q : IdPlan) (narrow : q.slots ≤ 65536) (is_call : Asked → Type 0) (short : (asked : Asked) → is_call asked → (id n : ℕ) → length (frame_of asked id n) ≤ 131072) (ids : ℕ → ℕ) (go : RetriesGo p) (k : ℕ) where

@@ -7,32 +7,32 @@ use Rattle.sock_model.specs.declared.chain.Entry.{Entry}
 use Rattle.sock_model.specs.declared.view.View.{View}
 use Rattle.brpc_model.specs.Items.{Item}
 use Rattle.brpc_model.specs.Operations.{Turn}
-use Rattle.served_fits.specs.Below.script_facts.proofs.Lists.{all_at}
+use Rattle.served_fits.specs.Below.script_facts.proofs.FilteredLists.{all_at}
 use Rattle.seat_programs.specs.declared.task.Op.TheVariants as ops
 use Rattle.seat_programs.specs.declared.task.Task.{Task}
 use Rattle.seat_programs.specs.Cores.{Core}
 use Rattle.seat_programs.specs.Tasks.{opens, plan_of}
 use Rattle.seat_programs.specs.Ticks.{quiet}
-use Rattle.seat_programs.specs.Told.{IsTask, Made}
-use Rattle.seat_programs.specs.ToldCalls.{Accepted}
-use Rattle.seat_programs.specs.Scripts.{all_tasks, IsRunWithCalls}
-use Rattle.served_fits.specs.Below.programs_allowed.specs.program_steps.specs.Sound.{Sound, AllRest}
-use Rattle.served_fits.specs.Below.programs_allowed.specs.program_walks.proofs.Whole.{IsOwed, closing_of, views_played, views_closed, views_ended, end_answered, closing_sound, closed_sound, ended_sound, end_rests}
-use Rattle.served_fits.specs.Below.outcome_stories.specs.Kept.{is_of_send, IsSpoken}
+use Rattle.seat_programs.specs.Explained.{IsTask, Made}
+use Rattle.seat_programs.specs.ExplainedCalls.{Accepted}
+use Rattle.seat_programs.specs.ScriptSetupToEnding.{all_tasks, IsRunWithCalls}
+use Rattle.served_fits.specs.Below.programs_allowed.specs.program_steps.specs.SoundSeats.{Sound, AllRest}
+use Rattle.served_fits.specs.Below.programs_allowed.specs.program_walks.proofs.WholeScriptSound.{IsOwed, closing_of, views_played, views_closed, views_ended, end_answered, closing_sound, closed_sound, ended_sound, end_rests}
+use Rattle.served_fits.specs.Below.outcome_stories.specs.KeptStory.{is_of_send, IsSpoken}
 use Rattle.served_fits.specs.Below.outcome_stories.specs.PlainTasks.{told_tasks_of}
 use Rattle.served_fits.specs.Below.outcome_stories.specs.TaskCauses as causes
 use Rattle.served_fits.specs.Below.outcome_stories.proofs.Delivered.{accepted_of}
 use Rattle.served_fits.specs.Below.outcome_ticks.proofs.Lifted.{task_up, made_up}
-use Rattle.served_fits.specs.Below.outcome_causes.proofs.Messages.{each_made, message_of, number_of}
-use Rattle.served_fits.specs.Below.outcome_causes.proofs.Scripts.{seats, final_told, story_end, orders, run_told}
-use Rattle.served_fits.specs.Below.outcome_stories.proofs.Senders.{HasSent, sent_stands}
-use Rattle.served_fits.specs.Below.joint_runs.proofs.Runs.{AreMade, first_views}
-use Rattle.served_fits.specs.Below.call_owing.specs.Lives.{ClosesInRun}
+use Rattle.served_fits.specs.Below.outcome_causes.proofs.MessagesOfTasks.{each_made, message_of, number_of}
+use Rattle.served_fits.specs.Below.outcome_causes.proofs.SocketCausesOfScripts.{seats, final_told, story_end, orders, run_told}
+use Rattle.served_fits.specs.Below.outcome_stories.proofs.SendersOfLogEntries.{HasSent, sent_stands}
+use Rattle.served_fits.specs.Below.joint_runs.proofs.RunsOfBothTables.{AreMade, first_views}
+use Rattle.served_fits.specs.Below.call_owing.specs.LivesOfLinks.{ClosesInRun}
 use Rattle.served_fits.specs.Below.call_owing.proofs.EndsStill as still
-use Rattle.served_fits.specs.Below.accept_counts.specs.Counts.{EntryFits}
-use Rattle.served_fits.specs.Below.accept_counts.proofs.Early.{first_fresh}
-use Rattle.served_fits.specs.Below.accept_counts.proofs.Runs.{IsCallOf, end_law}
-use Rattle.served_fits.specs.Below.sent_once.proofs.Sends.{owed, narrow, few_clients, labelled, opening_bare}
+use Rattle.served_fits.specs.Below.accept_counts.specs.AttemptCounts.{EntryFits}
+use Rattle.served_fits.specs.Below.accept_counts.proofs.EarlyClosedSockets.{first_fresh}
+use Rattle.served_fits.specs.Below.accept_counts.proofs.RunsKeepAttemptLaw.{IsCallOf, end_law}
+use Rattle.served_fits.specs.Below.sent_once.proofs.SocketOperationsTold.{owed, narrow, few_clients, labelled, opening_bare}
 use Rattle.served_fits.specs.Below.sent_once.proofs.Labelled.{ids_of_run}
 use Rattle.served_fits.specs.Below.accept_counts.proofs.Grounds.{setting, grounds}
 use Rattle.calls_over.proofs.SoonLists.{Stood, run_stay}

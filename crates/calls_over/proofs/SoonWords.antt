@@ -7,23 +7,23 @@ use Rattle.sock_io.specs.declared.link.Put.{Put}
 use Rattle.sock_io.specs.declared.link.Ready.{Ready}
 use Rattle.corr_core.specs.Word.{Parts}
 use Rattle.corr_core.specs.declared.marks.Plan.{Plan as IdPlan}
-use Rattle.id_rule.specs.Lawful.{local}
-use Rattle.id_runs.specs.Held.{IdView, id_state}
+use Rattle.id_rule.specs.LawfulIdTable.{local}
+use Rattle.id_runs.specs.HeldIdTokens.{IdView, id_state}
 use Rattle.id_runs.specs.Goes.{SoundIds}
-use Rattle.id_runs.proofs.Steps.{live_room}
-use Rattle.sock_model.specs.Messages.{HeadedBytes}
-use Rattle.sock_model.specs.Reads.{message, link_home}
+use Rattle.id_runs.proofs.AsideStepsKeepRule.{live_room}
+use Rattle.sock_model.specs.UnplacedMessages.{HeadedBytes}
+use Rattle.sock_model.specs.ChainLawReads.{message, link_home}
 use Rattle.seat_programs.specs.Asides.{Step, Found}
-use Rattle.seat_programs.specs.Beside.{found_in}
+use Rattle.seat_programs.specs.FoundAndChangedAside.{found_in}
 use Rattle.seat_programs.specs.Programs.{Program, TakeMessage, TakeHome, PutBytes, AskReady, Aside}
 use Rattle.seat_programs.specs.Cores.{Core, SeatState}
 use Rattle.seat_programs.specs.Ticks.{Answer, OfPut, OfReady, Moment, taken, with_message, with_link, with_put, with_ready, with_found, step_with, tick_with, ticked}
-use Rattle.served_fits.specs.Below.programs_allowed.specs.program_steps.proofs.Cases.{ticks_first}
-use Rattle.served_fits.specs.Below.call_owing.specs.Sound.{id_word_of}
-use Rattle.served_fits.specs.Below.call_causes.proofs.Handled.{bound, Goes, goes_same}
+use Rattle.served_fits.specs.Below.programs_allowed.specs.program_steps.proofs.TickCases.{ticks_first}
+use Rattle.served_fits.specs.Below.call_owing.specs.SoundOwing.{id_word_of}
+use Rattle.served_fits.specs.Below.call_causes.proofs.HandledResponses.{bound, Goes, goes_same}
 use Rattle.served_fits.specs.Below.call_causes.proofs.HandledTicks.{Known}
-use Rattle.seat_programs.specs.Rounds.{first_step}
-use Rattle.sock_words.specs.Words.{id_slot, id_first}
+use Rattle.seat_programs.specs.LoopRounds.{first_step}
+use Rattle.sock_words.specs.PackedWords.{id_slot, id_first}
 
 -- ## One range
 

@@ -4,19 +4,19 @@ use mathlib.Core.Option.{some}
 use lib.ListN.{get_elem?}
 use Rattle.brpc_model.specs.Items.{Item, Shape}
 use Rattle.brpc_model.specs.Operations.{Turn, link_shapes}
-use Rattle.brpc_model.specs.Stream.{stream}
+use Rattle.brpc_model.specs.FrameStream.{stream}
 use Rattle.sock_message.specs.Asked.{Asked, request_of}
 use Rattle.corr_core.specs.Word.{Parts}
 use Rattle.seat_programs.specs.Cores.{Core, SeatState}
-use Rattle.seat_programs.specs.Heads.{Exit, Reading, Reads}
+use Rattle.seat_programs.specs.LoopHeads.{Exit, Reading, Reads}
 use Rattle.seat_programs.specs.Programs.{Program, Round}
-use Rattle.seat_programs.specs.Scripts.{IsRunWithCalls}
+use Rattle.seat_programs.specs.ScriptSetupToEnding.{IsRunWithCalls}
 use Rattle.seat_programs.specs.Tasks.{opens, plan_of, id_plan_of}
-use Rattle.served_fits.specs.Below.script_facts.proofs.Lists.{Has}
-use Rattle.served_fits.specs.Below.call_owing.specs.Sound.{id_word_of}
+use Rattle.served_fits.specs.Below.script_facts.proofs.FilteredLists.{Has}
+use Rattle.served_fits.specs.Below.call_owing.specs.SoundOwing.{id_word_of}
 use Rattle.served_fits.specs.Below.outcome_stories.specs.Facts.{before_ending}
-use Rattle.served_fits.specs.served_runs.specs.Offered.{TookSoFar}
-use Rattle.sock_words.specs.Words.{call_id}
+use Rattle.served_fits.specs.served_runs.specs.OfferedReplies.{TookSoFar}
+use Rattle.sock_words.specs.PackedWords.{call_id}
 
 module _ (script : List Item) (turns : List Turn) (core : Core) (is : IsRunWithCalls script turns core) where
   -- the word of id slot i there, and its id

@@ -1,5 +1,5 @@
-pub mod Programs
-pub mod Ticks
-pub mod Resting
-pub mod Along
+pub mod CalmReaderPrograms
+pub mod TicksOfCalmSeats
+pub mod RestingWithoutJoin
+pub mod CalmAlongTicks
 pub mod Nothing

@@ -11,32 +11,32 @@ use Rattle.sock_words.specs.declared.outcome.Outcome.{Outcome}
 use Rattle.brpc_model.specs.Items.{Item, Join}
 use Rattle.brpc_model.specs.Operations.{Turn}
 use Rattle.seat_programs.specs.declared.task.Task.{Task}
-use Rattle.seat_programs.specs.Clients.{client_from, ending_of}
+use Rattle.seat_programs.specs.ClientProgram.{client_from, ending_of}
 use Rattle.seat_programs.specs.Cores.{Core, SeatState, resolved, next_step, waiting_at}
 use Rattle.seat_programs.specs.Programs.{Program, Rest}
-use Rattle.seat_programs.specs.Scripts.{sizes_of, programs, readers_from, all_programs, all_tasks, opened, set_up, played, IsRunWithCalls}
+use Rattle.seat_programs.specs.ScriptSetupToEnding.{sizes_of, programs, readers_from, all_programs, all_tasks, opened, set_up, played, IsRunWithCalls}
 use Rattle.seat_programs.specs.Tasks.{opens, calls, plan_of, id_plan_of}
 use Rattle.seat_programs.specs.Ticks.{quiet}
-use Rattle.send_causes.specs.Below.programs_allowed.specs.program_walks.proofs.Opening.{mapped}
-use Rattle.send_causes.specs.Below.programs_allowed.specs.program_walks.proofs.Whole.{closing_of, views_played, views_closed, end_answered}
-use Rattle.send_causes.specs.Below.outcome_stories.specs.Causes.{Asks}
+use Rattle.send_causes.specs.Below.programs_allowed.specs.program_walks.proofs.OpenedLivesRecorded.{mapped}
+use Rattle.send_causes.specs.Below.programs_allowed.specs.program_walks.proofs.WholeScriptSound.{closing_of, views_played, views_closed, end_answered}
+use Rattle.send_causes.specs.Below.outcome_stories.specs.StoryStepCauses.{Asks}
 use Rattle.send_causes.specs.Below.outcome_stories.specs.Explains.{plain_tasks}
 use Rattle.send_causes.specs.Below.outcome_stories.specs.Facts.{put_at, shown_in, numbers_of, is_said_late, late_of_run, late_links_of_run}
-use Rattle.send_causes.specs.Below.outcome_stories.specs.Kept.{IsSpoken}
+use Rattle.send_causes.specs.Below.outcome_stories.specs.KeptStory.{IsSpoken}
 use Rattle.send_causes.specs.Below.outcome_stories.specs.PlainTasks.{told_tasks_of}
-use Rattle.send_causes.specs.Below.outcome_stories.specs.Stories.{In}
-use Rattle.send_causes.specs.Below.outcome_causes.proofs.Plain.{in_both}
-use Rattle.send_causes.specs.Below.joint_runs.proofs.Runs.{AreMade, first_views}
-use Rattle.send_causes.specs.Below.accept_counts.proofs.Beginnings.{others_begin}
-use Rattle.send_causes.specs.Below.accept_counts.proofs.Early.{start, go, fitting, known, first_fresh}
+use Rattle.send_causes.specs.Below.outcome_stories.specs.OperationStories.{In}
+use Rattle.send_causes.specs.Below.outcome_causes.proofs.PlainOutcomeCauses.{in_both}
+use Rattle.send_causes.specs.Below.joint_runs.proofs.RunsOfBothTables.{AreMade, first_views}
+use Rattle.send_causes.specs.Below.accept_counts.proofs.ProgramsAtBeginning.{others_begin}
+use Rattle.send_causes.specs.Below.accept_counts.proofs.EarlyClosedSockets.{start, go, fitting, known, first_fresh}
 use Rattle.send_causes.specs.Below.accept_counts.proofs.SeatTicks.{never_later}
-use Rattle.send_causes.specs.Below.outcome_causes.proofs.Scripts as stories
-use Rattle.send_causes.specs.Below.call_owing.specs.Settled.{IsAtRest}
-use Rattle.calm_runs.specs.Calm.{IsCalm}
-use Rattle.calm_runs.proofs.Along.{calm_setup, calm_along, StaysQuiet, quiet_along}
-use Rattle.calm_runs.proofs.Programs.{ending_calm, reader_calm}
-use Rattle.calm_runs.proofs.Resting.{clients_rest}
-use Rattle.calm_runs.proofs.Ticks.{CalmAt, AllCalm, calm_next, calm_set, unsaid}
+use Rattle.send_causes.specs.Below.outcome_causes.proofs.SocketCausesOfScripts as stories
+use Rattle.send_causes.specs.Below.call_owing.specs.SettledSeats.{IsAtRest}
+use Rattle.calm_runs.specs.CalmPrograms.{IsCalm}
+use Rattle.calm_runs.proofs.CalmAlongTicks.{calm_setup, calm_along, StaysQuiet, quiet_along}
+use Rattle.calm_runs.proofs.CalmReaderPrograms.{ending_calm, reader_calm}
+use Rattle.calm_runs.proofs.RestingWithoutJoin.{clients_rest}
+use Rattle.calm_runs.proofs.TicksOfCalmSeats.{CalmAt, AllCalm, calm_next, calm_set, unsaid}
 
 back_at : {A : Type 0} (xs ys : List A) (i : ℕ) (x : A) → length xs ≤ i → get_elem? (xs ++ ys) i ≡ some x → (k : ℕ) × (get_elem? ys k ≡ some x)
 back_at [] ys i x past at = (i, at)

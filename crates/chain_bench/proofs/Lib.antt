@@ -1,2 +1,2 @@
-pub mod Sends
+pub mod AcceptedSendsOfSeat
 pub mod Refusing

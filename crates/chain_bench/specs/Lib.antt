@@ -1,2 +1,2 @@
-pub mod Senders
-pub mod Crew
+pub mod SenderWithOneReference
+pub mod BenchThreads

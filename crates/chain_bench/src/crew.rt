@@ -2,10 +2,10 @@
 ghost use Rattle.std.specs.Prelude.{◌≡◌, ◌*◌, ◌<◌, ◌≤◌, IfSome};
 ghost use Rattle.std.specs.Thread.{IsSync};
 ghost use Rattle.sock_model.specs.Rule.{MOST_ACCEPTED};
-ghost use Rattle.sock_open.specs.Made.{AreMade, AreNewSeats, PassesFrom};
-ghost use Rattle.write_chain.specs.Ready.{IsSpent, IsFree};
-ghost use Rattle.chain_bench.specs.Senders.{HasRoomFor, IsLoad, MaySend};
-ghost use Rattle.chain_bench.specs.Crew.{AreSenders, AreSpent};
+ghost use Rattle.sock_open.specs.NewTableContents.{AreMade, AreNewSeats, PassesFrom};
+ghost use Rattle.write_chain.specs.ReadyToSend.{IsSpent, IsFree};
+ghost use Rattle.chain_bench.specs.SenderWithOneReference.{HasRoomFor, IsLoad, MaySend};
+ghost use Rattle.chain_bench.specs.BenchThreads.{AreSenders, AreSpent};
 
 use crate::out::SlowOut;
 use crate::sending::{Load, Seat, Sender, Sent, Table, send_all};

@@ -1,10 +1,10 @@
 // A thread that sends messages through one socket, one after another.
 ghost use Rattle.std.specs.Prelude.{◌≡◌, ◌*◌, ◌<◌, IfSome, IfOk, IfErr};
-ghost use Rattle.sock_rule.specs.Seated.{IsSeat};
-ghost use Rattle.write_chain.specs.Sending.{HasRoom};
-ghost use Rattle.write_chain.specs.Writing.{MayBegin, MayGoOn, Begins};
-ghost use Rattle.write_chain.specs.Ready.{IsSpent, HoldsOne, sock_of};
-ghost use Rattle.chain_bench.specs.Senders.{HasRoomFor, IsHolding, IsLoad, MaySend, OneMore};
+ghost use Rattle.sock_rule.specs.SocketSeatSplits.{IsSeat};
+ghost use Rattle.write_chain.specs.SendingIntoChain.{HasRoom};
+ghost use Rattle.write_chain.specs.WritingRightInHand.{MayBegin, MayGoOn, Begins};
+ghost use Rattle.write_chain.specs.ReadyToSend.{IsSpent, HoldsOne, sock_of};
+ghost use Rattle.chain_bench.specs.SenderWithOneReference.{HasRoomFor, IsHolding, IsLoad, MaySend, OneMore};
 
 use crate::out::SlowOut;
 use crossbeam_utils::Backoff;

@@ -1,6 +1,6 @@
-pub mod Conditions
-pub mod Rights
-pub mod Taken
+pub mod RequestStepConditions
+pub mod RightsOfIdleHead
+pub mod TakenRequestNote
 pub use Rattle.sock_steps.specs.chain_steps
 pub use Rattle.sock_steps.specs.slot_steps
 pub use Rattle.sock_steps

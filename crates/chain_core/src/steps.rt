@@ -1,13 +1,13 @@
 ghost use Rattle.std.specs.Prelude.{◌≡◌, ◌≢◌, ℕ, ◌+◌, ◌*◌, ◌%◌, ◌<◌, ◌≤◌, List, true, false, bit_or};
-ghost use Rattle.sock_words.specs.Words.{IDLE, UNCONNECTED};
+ghost use Rattle.sock_words.specs.PackedWords.{IDLE, UNCONNECTED};
 ghost use Rattle.sock_model.specs.declared.chain.Heading.{Heading};
-ghost use Rattle.sock_model.specs.Layout.{head_index, next_index, request_index};
+ghost use Rattle.sock_model.specs.SocketTableLayout.{head_index, next_index, request_index};
 ghost use Rattle.sock_model.specs.ChainRows.{with_claim, fresh_claim, ready_claim, queued, without_loose, with_right, without_right, walking_right, passing_right, reading_right, turned_right, freed_right};
-ghost use Rattle.sock_model.specs.Conditions.{HasClaim};
-ghost use Rattle.sock_model.specs.Keeping.{KeepsRule};
-ghost use Rattle.chain_core.specs.Conditions.{MayLook, MayClaim, MaySwap, MayConnect, MayTry, MayPass, MayRead, MayRetire, MayTurnTo, MayFree};
-ghost use Rattle.chain_core.specs.Rights.{TakesRight};
-ghost use Rattle.chain_core.specs.Taken.{NotesTaken};
+ghost use Rattle.sock_model.specs.ChainStepConditions.{HasClaim};
+ghost use Rattle.sock_model.specs.KeepingSocketRule.{KeepsRule};
+ghost use Rattle.chain_core.specs.RequestStepConditions.{MayLook, MayClaim, MaySwap, MayConnect, MayTry, MayPass, MayRead, MayRetire, MayTurnTo, MayFree};
+ghost use Rattle.chain_core.specs.RightsOfIdleHead.{TakesRight};
+ghost use Rattle.chain_core.specs.TakenRequestNote.{NotesTaken};
 
 use sock_words::{Step, Ticket, UNCONNECTED};
 

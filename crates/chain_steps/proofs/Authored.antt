@@ -7,7 +7,7 @@ use native.Mathlib.Decide.{ℕ_discrete}
 use lib.ListN.{get_elem?}
 use Rattle.sock_model.specs.declared.chain.Entry.{Entry}
 use Rattle.sock_model.specs.Authors.{pick, Authored}
-use Rattle.chain_steps.proofs.Lists.{at_set, at_snoc, old, new, at_longer, at_length}
+use Rattle.chain_steps.proofs.TicketLists.{at_set, at_snoc, old, new, at_longer, at_length}
 
 pub pick_hit : (a : ℕ) (by : List ℕ) (log : List Entry) (e : Entry) → length by ≡ length log → pick a (by ++ a ∷ []) (log ++ e ∷ []) ≡ pick a by log ++ e ∷ []
 pick_hit a [] [] e h = ap (λ b. cond b (e ∷ []) []) (eq-eqb a a refl)

@@ -7,12 +7,12 @@ use lib.ListN.{get_elem?}
 use Rattle.sock_model.specs.declared.chain.Entry.{Entry}
 use Rattle.sock_model.specs.Entries.{on}
 use Rattle.sock_model.specs.declared.chain.Claim.{Claim}
-use Rattle.sock_model.specs.Tokens.{Tokens}
-use Rattle.sock_model.specs.Memory.{Memory}
-use Rattle.sock_model.specs.Requests.{FreeRequest, ClaimedRequest, UsedRequest, free_phase, claimed_phase, used_phase, retired_phase, InUse}
+use Rattle.sock_model.specs.ChainTokens.{Tokens}
+use Rattle.sock_model.specs.ChainMemory.{Memory}
+use Rattle.sock_model.specs.RequestStates.{FreeRequest, ClaimedRequest, UsedRequest, free_phase, claimed_phase, used_phase, retired_phase, InUse}
 use Rattle.sock_model.specs.Chains.{Chains}
-use Rattle.chain_steps.proofs.Frames.{Same, Changed, one_token, no_token, in_size, standing_frame, in_use_frame}
-use Rattle.sock_model.specs.sock_words.specs.Words.{UNCONNECTED}
+use Rattle.chain_steps.proofs.UntouchedByChainSteps.{Same, Changed, one_token, no_token, in_size, standing_frame, in_use_frame}
+use Rattle.sock_model.specs.sock_words.specs.PackedWords.{UNCONNECTED}
 
 module _ {links requests : ℕ} {m : Memory} {t : Tokens} {log : List Entry} {freed places : ℕ → ℕ} (s : Chains links requests m t log freed places) where
   -- a request that an entry uses is taken

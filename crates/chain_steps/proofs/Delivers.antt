@@ -7,11 +7,11 @@ use lib.ListN.{get_elem?}
 use Rattle.sock_model.specs.declared.chain.Entry.{Entry}
 use Rattle.sock_model.specs.declared.chain.Right.{Right}
 use Rattle.sock_model.specs.Entries.{on}
-use Rattle.sock_model.specs.Tokens.{Tokens}
+use Rattle.sock_model.specs.ChainTokens.{Tokens}
 use Rattle.sock_model.specs.Deliveries.{HasTaken, whole, Taken, ShownAt, no_place, one_place, Delivered}
-use Rattle.chain_steps.proofs.Lists.{at_longer, at_snoc, old, new, on_hit, on_miss}
-use Rattle.chain_steps.proofs.Frames.{Same, Changed, one_token}
-use Rattle.sock_model.specs.sock_words.specs.Words.{place_word}
+use Rattle.chain_steps.proofs.TicketLists.{at_longer, at_snoc, old, new, on_hit, on_miss}
+use Rattle.chain_steps.proofs.UntouchedByChainSteps.{Same, Changed, one_token}
+use Rattle.sock_model.specs.sock_words.specs.PackedWords.{place_word}
 
 bool_cases : {P : Type 0} (b : Bool) → (b ≡ true → P) → (b ≡ false → P) → P
 bool_cases true f g = f refl

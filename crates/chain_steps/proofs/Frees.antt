@@ -9,16 +9,16 @@ use Rattle.sock_model.specs.Entries.{ticket, on, nth}
 use Rattle.sock_model.specs.declared.chain.Stage.{Stage}
 use Rattle.sock_model.specs.declared.chain.Right.{Right}
 use Rattle.sock_model.specs.declared.chain.Stage.TheVariants.{Writes, Placed, Passes, Empties}
-use Rattle.sock_model.specs.Tokens.{Tokens}
-use Rattle.sock_model.specs.Memory.{Memory}
-use Rattle.sock_model.specs.Writing.{Counts, InStage, Held, Standing, busy}
-use Rattle.sock_model.specs.Requests.{UsedRequest, free_phase, claimed_phase, used_phase, retired_phase, InUse}
+use Rattle.sock_model.specs.ChainTokens.{Tokens}
+use Rattle.sock_model.specs.ChainMemory.{Memory}
+use Rattle.sock_model.specs.LinkWritingState.{Counts, InStage, Held, Standing, busy}
+use Rattle.sock_model.specs.RequestStates.{UsedRequest, free_phase, claimed_phase, used_phase, retired_phase, InUse}
 use Rattle.sock_model.specs.Chains.{Chains}
-use Rattle.chain_steps.proofs.Lists.{nth_some, nth_same, Distinct}
-use Rattle.chain_steps.proofs.Frames.{Same, Changed, no_token, in_size, on_distinct, points_frame, live_same, standing_frame, in_use_frame}
+use Rattle.chain_steps.proofs.TicketLists.{nth_some, nth_same, Distinct}
+use Rattle.chain_steps.proofs.UntouchedByChainSteps.{Same, Changed, no_token, in_size, on_distinct, points_frame, live_same, standing_frame, in_use_frame}
 use Rattle.chain_steps.proofs.Claims.{used_word}
-use Rattle.chain_steps.proofs.Heads.{slot_is, held_of}
-use Rattle.sock_model.specs.sock_words.specs.Words.{ticket_request, ticket_generation}
+use Rattle.chain_steps.proofs.ChainHeadSteps.{slot_is, held_of}
+use Rattle.sock_model.specs.sock_words.specs.PackedWords.{ticket_request, ticket_generation}
 
 pub generation_is : (e : Entry) → e.request < 65535 → e.generation < 140737488355328 → ticket_generation (ticket e) ≡ e.generation
 generation_is e h small = omega arith

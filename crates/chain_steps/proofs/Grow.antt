@@ -12,15 +12,15 @@ use Rattle.sock_model.specs.declared.chain.Right.{Right}
 use Rattle.sock_model.specs.declared.chain.Claim.{Claim}
 use Rattle.sock_model.specs.declared.chain.Loose.{Loose}
 use Rattle.sock_model.specs.declared.chain.Stage.TheVariants.{Writes, Placed, Passes, Empties, Walks, Turns}
-use Rattle.sock_model.specs.Tokens.{Tokens}
-use Rattle.sock_model.specs.Memory.{Memory}
-use Rattle.sock_model.specs.Writing.{Counts, loose_of, Waits, Points, OnWalk, InStage, Held, Standing, absent, idle, busy}
-use Rattle.sock_model.specs.Requests.{ClaimedRequest, InUse, used_phase}
+use Rattle.sock_model.specs.ChainTokens.{Tokens}
+use Rattle.sock_model.specs.ChainMemory.{Memory}
+use Rattle.sock_model.specs.LinkWritingState.{Counts, loose_of, Waits, Points, OnWalk, InStage, Held, Standing, absent, idle, busy}
+use Rattle.sock_model.specs.RequestStates.{ClaimedRequest, InUse, used_phase}
 use Rattle.sock_model.specs.Chains.{Chains}
-use Rattle.chain_steps.proofs.Lists.{at_snoc, old, new, at_last, at_longer, at_length, on_hit, on_miss, uses_hit, uses_miss, nth_snoc, nth_new, nth_some, filter_in, each_below}
-use Rattle.chain_steps.proofs.Frames.{Same, Changed, one_token, Agree, in_size, held_frame, standing_frame, in_use_frame}
+use Rattle.chain_steps.proofs.TicketLists.{at_snoc, old, new, at_last, at_longer, at_length, on_hit, on_miss, uses_hit, uses_miss, nth_snoc, nth_new, nth_some, filter_in, each_below}
+use Rattle.chain_steps.proofs.UntouchedByChainSteps.{Same, Changed, one_token, Agree, in_size, held_frame, standing_frame, in_use_frame}
 use Rattle.chain_steps.proofs.Claims.{claim_of, claim_other}
-use Rattle.sock_model.specs.sock_words.specs.Words.{IDLE}
+use Rattle.sock_model.specs.sock_words.specs.PackedWords.{IDLE}
 
 -- a held chain with one entry more, which waits
 walk_grow : (c : List Entry) (x : Entry) (n : Counts) (freed places top at after : ℕ) → freed ≤ n.noted → n.noted ≤ n.left → n.left ≤ n.top → n.top ≤ length c → OnWalk c n freed places top at after → OnWalk (c ++ x ∷ []) n freed places top at after

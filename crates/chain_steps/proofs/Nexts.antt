@@ -9,16 +9,16 @@ use Rattle.sock_model.specs.Entries.{ticket, on, nth}
 use Rattle.sock_model.specs.declared.chain.Right.{Right}
 use Rattle.sock_model.specs.declared.chain.Loose.{Loose}
 use Rattle.sock_model.specs.declared.chain.Stage.TheVariants.{Writes, Walks, Turns}
-use Rattle.sock_model.specs.Tokens.{Tokens}
-use Rattle.sock_model.specs.Memory.{Memory}
-use Rattle.sock_model.specs.Writing.{Counts, Connected, loose_of, Waits, Points, OnWalk, InStage, Held, Standing, absent, idle, busy}
-use Rattle.sock_model.specs.Requests.{UsedRequest, free_phase, claimed_phase, used_phase, retired_phase, InUse}
+use Rattle.sock_model.specs.ChainTokens.{Tokens}
+use Rattle.sock_model.specs.ChainMemory.{Memory}
+use Rattle.sock_model.specs.LinkWritingState.{Counts, Connected, loose_of, Waits, Points, OnWalk, InStage, Held, Standing, absent, idle, busy}
+use Rattle.sock_model.specs.RequestStates.{UsedRequest, free_phase, claimed_phase, used_phase, retired_phase, InUse}
 use Rattle.sock_model.specs.Chains.{Chains}
-use Rattle.chain_steps.proofs.Lists.{nth_some, nth_same}
-use Rattle.chain_steps.proofs.Frames.{Same, Changed, one_token, no_token, in_size, on_distinct, live_same, stage_frame, standing_frame, in_use_frame, points_frame, held_again}
+use Rattle.chain_steps.proofs.TicketLists.{nth_some, nth_same}
+use Rattle.chain_steps.proofs.UntouchedByChainSteps.{Same, Changed, one_token, no_token, in_size, on_distinct, live_same, stage_frame, standing_frame, in_use_frame, points_frame, held_again}
 use Rattle.chain_steps.proofs.Claims.{used_word}
-use Rattle.chain_steps.proofs.Heads.{slot_is, held_of}
-use Rattle.sock_model.specs.sock_words.specs.Words.{ticket_request}
+use Rattle.chain_steps.proofs.ChainHeadSteps.{slot_is, held_of}
+use Rattle.sock_model.specs.sock_words.specs.PackedWords.{ticket_request}
 
 -- a loose entry is connected
 points_connect : (c : List Entry) (n : Counts) (i : ℕ) (e : Entry) (x x' : ℕ) (l l' : List Loose) (y : Loose) → l ≡ y ∷ [] → x' ≡ y.before → l' ≡ [] → Points c n i e x l → Points c n i e x' l'

@@ -4,18 +4,18 @@ use mathlib.Core.Option.{Option, none, some, some-injective, some-ne-none}
 use lib.ListN.{get_elem?}
 use Rattle.sock_model.specs.declared.chain.Entry.{Entry}
 use Rattle.sock_model.specs.Entries.{on, nth}
-use Rattle.sock_model.specs.Tokens.{Tokens}
-use Rattle.sock_model.specs.Requests.{free_phase}
-use Rattle.sock_model.specs.Memory.{Memory}
-use Rattle.sock_model.specs.Writing.{Standing, absent, idle, busy}
+use Rattle.sock_model.specs.ChainTokens.{Tokens}
+use Rattle.sock_model.specs.RequestStates.{free_phase}
+use Rattle.sock_model.specs.ChainMemory.{Memory}
+use Rattle.sock_model.specs.LinkWritingState.{Standing, absent, idle, busy}
 use Rattle.sock_model.specs.Chains.{Chains}
 use Rattle.sock_model.specs.Deliveries.{no_place, one_place, Delivered}
 use Rattle.sock_model.specs.Fifo.{IsFifo}
-use Rattle.chain_steps.proofs.Lists.{Distinct, distinct_filter, at_length}
-use Rattle.chain_steps.proofs.Frames.{Same, Changed, no_token, in_log}
-use Rattle.chain_steps.proofs.Heads.{relinks}
+use Rattle.chain_steps.proofs.TicketLists.{Distinct, distinct_filter, at_length}
+use Rattle.chain_steps.proofs.UntouchedByChainSteps.{Same, Changed, no_token, in_log}
+use Rattle.chain_steps.proofs.ChainHeadSteps.{relinks}
 use Rattle.chain_steps.proofs.Delivers.{le-leb-false}
-use Rattle.sock_model.specs.sock_words.specs.Words.{place_word, IDLE}
+use Rattle.sock_model.specs.sock_words.specs.PackedWords.{place_word, IDLE}
 
 module _ {links requests labels : ℕ} {m : Memory} {t : Tokens} {log : List Entry} {freed places kept : ℕ → ℕ} {place : ℕ → ℕ} {home : ℕ → Option (List ℕ × ℕ)} {Failed : ℕ → Type 0}
     (s : Chains links requests m t log freed places) (d : Delivered links labels place home Failed t log places kept) where

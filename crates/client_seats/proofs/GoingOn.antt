@@ -4,17 +4,17 @@ use Rattle.sock_words.specs.declared.outcome.Outcome.{Outcome}
 use Rattle.sock_words.specs.declared.outcome.Outcome.TheVariants.{NotHeld}
 use Rattle.seat_programs.specs.declared.task.Task.{Task}
 use Rattle.seat_programs.specs.declared.task.Sizes.{Sizes}
-use Rattle.seat_programs.specs.Heads.{Retry}
+use Rattle.seat_programs.specs.LoopHeads.{Retry}
 use Rattle.seat_programs.specs.Programs.{Program, Say}
-use Rattle.seat_programs.specs.Attempts.{retry}
-use Rattle.seat_programs.specs.Clients.{HeldLife, operation, client_from, give_back}
+use Rattle.seat_programs.specs.CallAndRetryPrograms.{retry}
+use Rattle.seat_programs.specs.ClientProgram.{HeldLife, operation, client_from, give_back}
 use Rattle.seat_programs.specs.Cores.{resolved, still_waiting, said, next_step}
 use Rattle.seat_states.specs.declared.point.Point.{Point}
-use Rattle.seat_states.specs.Points.{Context, point_program}
+use Rattle.seat_states.specs.SeatPoints.{Context, point_program}
 use Rattle.client_seats.specs.declared.seat.Kept.{Kept}
-use Rattle.client_seats.specs.Seats.{SeatData, retries, client_of, seat_program}
-use Rattle.client_seats.specs.Following.{FollowsOn}
-use Rattle.client_seats.proofs.Begun.{begun, at_step}
+use Rattle.client_seats.specs.ClientSeatState.{SeatData, retries, client_of, seat_program}
+use Rattle.client_seats.specs.ClientSeatFollowing.{FollowsOn}
+use Rattle.client_seats.proofs.PointsAtSteps.{begun, at_step}
 
 -- a program that comes to this next step with these retries, and says nothing before it
 pub record Comes (w : List Retry) (program next : Program) : Type 0 where

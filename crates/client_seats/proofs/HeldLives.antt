@@ -1,19 +1,19 @@
 -- What is held, and what follows when some of it is given back.
 use Rattle.std.proofs.Common.{◌≡◌, refl, ℕ, ◌<◌, ◌==◌, Bool, true, false, not, if◌then◌else◌, ap, ◌∙◌, arith, List, [], ◌∷◌, length, filter, Some, remove, slice_index_or}
-use Rattle.sock_words.specs.Words.{socket_id_slot}
+use Rattle.sock_words.specs.PackedWords.{socket_id_slot}
 use Rattle.seat_programs.specs.Programs.{release}
-use Rattle.seat_programs.specs.Clients.{HeldLife, without_name, held_under, give_back, operation}
+use Rattle.seat_programs.specs.ClientProgram.{HeldLife, without_name, held_under, give_back, operation}
 use Rattle.seat_programs.specs.declared.task.Op.{Op}
 use Rattle.seat_programs.specs.declared.task.Op.TheVariants as ops
 use Rattle.sock_message.specs.Asked.{Asked}
-use Rattle.seat_programs.specs.Attempts.{call}
-use Rattle.seat_programs.specs.Sends.{send}
+use Rattle.seat_programs.specs.CallAndRetryPrograms.{call}
+use Rattle.seat_programs.specs.SendAndWritePrograms.{send}
 use Rattle.seat_programs.specs.declared.task.Sizes.{Sizes}
 use Rattle.sock_words.specs.declared.socket_id.SocketId.{SocketId}
 use Rattle.client_seats.specs.declared.seat.Held.{Held}
 use Rattle.seat_states.specs.declared.point.Continuation.TheVariants as thens
-use Rattle.seat_states.specs.Points.{Context, client_on, then_program}
-use Rattle.client_seats.specs.Seats.{lives}
+use Rattle.seat_states.specs.SeatPoints.{Context, client_on, then_program}
+use Rattle.client_seats.specs.ClientSeatState.{lives}
 
 -- nothing is held under the name any more
 pub lives_without : (name : ℕ) (hs : List Held) → lives (filter (λ (h : Held). not (h.name == name)) hs) ≡ without_name name (lives hs)

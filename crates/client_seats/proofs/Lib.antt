@@ -1,5 +1,5 @@
-pub mod Begun
+pub mod PointsAtSteps
 pub mod HeldLives
 pub mod GoingOn
-pub mod Follows
+pub mod FollowsByStepKind
 pub mod Prepared

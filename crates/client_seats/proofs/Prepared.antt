@@ -4,11 +4,11 @@ use Rattle.sock_message.specs.Asked.{Asked, frame_of, parts_of, name_of}
 use Rattle.sock_words.specs.declared.socket_id.SocketId.{SocketId}
 use Rattle.seat_programs.specs.declared.task.Sizes.{Sizes}
 use Rattle.seat_programs.specs.Programs.{Program}
-use Rattle.seat_programs.specs.Posts.{decide, decided}
+use Rattle.seat_programs.specs.PostPrograms.{decide, decided}
 use Rattle.id_points.specs.declared.call_id.CallId.{CallId}
 use Rattle.id_points.specs.declared.call_id.AttemptNumber.{AttemptNumber}
-use Rattle.id_points.specs.Ids.{id_of, number_of}
-use Rattle.call_points.specs.Steps.{after_call}
+use Rattle.id_points.specs.IdsAndAttemptNumbers.{id_of, number_of}
+use Rattle.call_points.specs.AsideCodeSteps.{after_call}
 use Rattle.call_points.specs.declared.deciding.DecideStep.TheVariants as decides
 use Rattle.call_points.specs.declared.word_step.WordStep.TheVariants as id_steps
 use Rattle.seat_states.specs.declared.point.AfterStep.{AfterStep}
@@ -20,9 +20,9 @@ use Rattle.seat_states.specs.declared.point.RetryStep.TheVariants as retries
 use Rattle.seat_states.specs.declared.point.Next.{Next}
 use Rattle.seat_states.specs.declared.point.Point.{Point}
 use Rattle.seat_states.specs.declared.point.Point.TheVariants as points
-use Rattle.seat_states.specs.Points.{Context, point_program, next_program, after_program, taken_with, IsNextName, TakesCall, HasInHand, HasRetry, IsFramed}
-use Rattle.client_seats.specs.Seats.{SeatData, around, asked_or_nothing, seat_program}
-use Rattle.client_seats.specs.Following.{IsFramedAs, IsPrepared, IsWithFrame}
+use Rattle.seat_states.specs.SeatPoints.{Context, point_program, next_program, after_program, taken_with, IsNextName, TakesCall, HasInHand, HasRetry, IsFramed}
+use Rattle.client_seats.specs.ClientSeatState.{SeatData, around, asked_or_nothing, seat_program}
+use Rattle.client_seats.specs.ClientSeatFollowing.{IsFramedAs, IsPrepared, IsWithFrame}
 
 -- what follows where there was memory
 pub on_ok : {A E : Type 0} (P : A → Type 0) (Q : Type 0) (r : Result A E) → IfOk r P → ((a : A) → P a → Q) → OnOk r Q

@@ -1,3 +1,3 @@
-pub mod Hands
-pub mod Seats
-pub mod Following
+pub mod FramedCall
+pub mod ClientSeatState
+pub mod ClientSeatFollowing

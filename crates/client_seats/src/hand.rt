@@ -1,8 +1,8 @@
 ghost use Rattle.std.specs.Prelude.{◌≡◌, ◌==◌, ◌&&◌, Option, option_map, Some, None, IfOk};
 ghost use Rattle.sock_message.specs.Asked.{frame_of, parts_of};
-ghost use Rattle.id_points.specs.Ids.{id_of, number_of};
+ghost use Rattle.id_points.specs.IdsAndAttemptNumbers.{id_of, number_of};
 ghost use Rattle.message_parts.specs.Parcels.{parcel_of};
-ghost use Rattle.client_seats.specs.Seats.{message_in, call_in};
+ghost use Rattle.client_seats.specs.ClientSeatState.{message_in, call_in};
 
 use id_points::{AttemptNumber, CallId};
 use message_parts::{CallFrame, Parcel};
@@ -22,8 +22,8 @@ pub struct Framed {
 impl Model for Framed {
     ghost use Rattle.std.specs.Prelude.{◌≡◌};
     ghost use Rattle.sock_message.specs.Asked.{frame_of, parts_of};
-    ghost use Rattle.id_points.specs.Ids.{id_of, number_of};
-    ghost use Rattle.client_seats.specs.Hands.{FramedData};
+    ghost use Rattle.id_points.specs.IdsAndAttemptNumbers.{id_of, number_of};
+    ghost use Rattle.client_seats.specs.FramedCall.{FramedData};
 
     ghost Value = { FramedData };
 

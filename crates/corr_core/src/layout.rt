@@ -1,5 +1,5 @@
 ghost use Rattle.std.specs.Prelude.{◌≡◌};
-ghost use Rattle.corr_core.specs.Layout.{tag_index, id_index, call_index, at_index, all_words};
+ghost use Rattle.corr_core.specs.IdTableLayout.{tag_index, id_index, call_index, at_index, all_words};
 
 use crate::marks::Plan;
 

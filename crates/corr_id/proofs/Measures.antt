@@ -4,12 +4,12 @@ use Rattle.std.specs.Prelude.{Option as Maybe, IfSome, not, ◌&&◌}
 use mathlib.Core.Logic.{dite}
 use native.Mathlib.Decide.{ℕ_discrete}
 use Rattle.corr_core.specs.Word.{Parts, parts, unlocked_word, code_of, attempt_of}
-use Rattle.id_rule.specs.Plays.{Longer}
+use Rattle.id_rule.specs.IdPlays.{Longer}
 use Rattle.corr_id.specs.Ruled.{IsFresh}
-use Rattle.corr_id.specs.Calls.{error_in}
-use Rattle.corr_id.specs.Posts.{IsTimely}
+use Rattle.corr_id.specs.SeatBehindIdCalls.{error_in}
+use Rattle.corr_id.specs.PostAnswers.{IsTimely}
 use Rattle.corr_id.specs.Unlocks.{stale, some_error, exchanges_left}
-use Rattle.sock_words.specs.Words.{bit}
+use Rattle.sock_words.specs.PackedWords.{bit}
 
 -- a word is made of its parts
 low_is : (x : ℕ) → x ≡ x / 32768 * 32768 + x % 32768

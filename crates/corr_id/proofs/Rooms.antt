@@ -7,8 +7,8 @@ use Rattle.corr_core.specs.Law.{is_tried, is_any_made}
 use Rattle.corr_core.specs.declared.marks.Plan.{Plan}
 use Rattle.corr_core.specs.declared.marks.Noted.{Noted}
 use Rattle.corr_core.specs.declared.marks.Kept.{Kept}
-use Rattle.id_rule.specs.Lawful.{notes_of}
-use Rattle.corr_id.specs.Closing.{Closing, is_making}
+use Rattle.id_rule.specs.LawfulIdTable.{notes_of}
+use Rattle.corr_id.specs.ClosingIdLists.{Closing, is_making}
 use Rattle.sock_words.specs.Totals.{total}
 
 module _ {C : Type 0} where

@@ -18,19 +18,19 @@ use Rattle.corr_core.specs.declared.marks.Token.{Token}
 use Rattle.corr_core.specs.declared.marks.Token.TheVariants.{Claimed, Locked, Leaving}
 use Rattle.corr_core.specs.declared.marks.Note.TheVariants.{Tried, Made, Ended, Locker, Queued, Attempt, Saw}
 use Rattle.corr_core.specs.declared.marks.View.{View}
-use Rattle.corr_core.proofs.Notes.{each_map, each_at, total_some, at_length}
+use Rattle.corr_core.proofs.NoteSums.{each_map, each_at, total_some, at_length}
 use Rattle.corr_core.proofs.Shuffles.{each_of}
-use Rattle.corr_core.proofs.Slots.{queued_word, open_word, popped_word, no_tokens}
-use Rattle.corr_core.specs.Layout.{tag_index, id_index, all_words}
-use Rattle.id_rule.specs.Lawful.{tokens_of, notes_of, tokens_in, local, kept_in, KeptFits, Lawful, with_token, no_token, with_note, with_kept}
-use Rattle.id_rule.specs.Plays.{IsHome, NotLeaving, Fitting, hand_of, with_hand, value_of, hand_by, claimed_view, locked_view, popped_view, ended_view, found_view, LockFits}
-use Rattle.id_rule.proofs.Frames.{token_here, drop_here, aside_token, aside_drop, own_tokens, first_tokens, same_tokens}
-use Rattle.id_rule.proofs.Allowed.{own, claims_law, reads_law, sees_law, makes_law, locks_law, queues_law, relocks_law, unlocks_law, advances_law, ends_law, frees_law, takes_law, gives_law, o}
-use Rattle.id_rule.proofs.Kept.{stores_law, finds_law}
+use Rattle.corr_core.proofs.IdStepsKeepSlot.{queued_word, open_word, popped_word, no_tokens}
+use Rattle.corr_core.specs.IdTableLayout.{tag_index, id_index, all_words}
+use Rattle.id_rule.specs.LawfulIdTable.{tokens_of, notes_of, tokens_in, local, kept_in, KeptFits, Lawful, with_token, no_token, with_note, with_kept}
+use Rattle.id_rule.specs.IdPlays.{IsHome, NotLeaving, Fitting, hand_of, with_hand, value_of, hand_by, claimed_view, locked_view, popped_view, ended_view, found_view, LockFits}
+use Rattle.id_rule.proofs.OtherIdsUntouched.{token_here, drop_here, aside_token, aside_drop, own_tokens, first_tokens, same_tokens}
+use Rattle.id_rule.proofs.AllowedIdSteps.{own, claims_law, reads_law, sees_law, makes_law, locks_law, queues_law, relocks_law, unlocks_law, advances_law, ends_law, frees_law, takes_law, gives_law, o}
+use Rattle.id_rule.proofs.KeptOperationWords.{stores_law, finds_law}
 use Rattle.corr_id.specs.Ruled.{IsFresh, FreshBehind, Known, Ruled, is_place}
-use Rattle.corr_id.proofs.Knowing.{turn_of, Adds, adds_then, adds_none, adds_note, adds_saw, adds_either, adds_stored, adds_found, adds_later}
-use Rattle.corr_id.proofs.Fresh.{AllFresh, noted_all, none_queued, other_hand, one_queued, fresh_tag, fresh_id, own_fresh, fresh_high}
-use Rattle.sock_words.specs.Words.{id_slot, id_first}
+use Rattle.corr_id.proofs.KnowingTogether.{turn_of, Adds, adds_then, adds_none, adds_note, adds_saw, adds_either, adds_stored, adds_found, adds_later}
+use Rattle.corr_id.proofs.FreshQueuedErrors.{AllFresh, noted_all, none_queued, other_hand, one_queued, fresh_tag, fresh_id, own_fresh, fresh_high}
+use Rattle.sock_words.specs.PackedWords.{id_slot, id_first}
 use Rattle.sock_words.specs.Totals.{total}
 
 set_self : (l : List ℕ) (k : ℕ) → set l k (get_or l k 0) ≡ l
@@ -89,7 +89,7 @@ module _ {C : Type 0} (p : Plan) (id : ℕ) (me : Me (Maybe C) (View C)) (i : �
     k.2,
     record {
       lawful = k.3;
-      fresh = fresh_id p s r.lawful r.fresh id me.0 here i inside w (aside_token i t me.0).tokens n s.homes (t ∷ []) (first_tokens p s r.lawful id me.0 here real i inside w (Rattle.corr_core.proofs.Slots.locks (local s i) (o p id me i inside real s r.lawful here) one).1 ∙ token_here i t me.0)
+      fresh = fresh_id p s r.lawful r.fresh id me.0 here i inside w (aside_token i t me.0).tokens n s.homes (t ∷ []) (first_tokens p s r.lawful id me.0 here real i inside w (Rattle.corr_core.proofs.IdStepsKeepSlot.locks (local s i) (o p id me i inside real s r.lawful here) one).1 ∙ token_here i t me.0)
           (none_queued (parts n) t (ap (λ (y : Parts). y.oldest) is ∙ k.2.0) (ap (λ (y : Parts). y.second) is ∙ k.2.1), tt);
       known = adds_later s.views id me.0 w here (adds_then me.0 (with_token i t me.0) w (adds_none me.0 (with_token i t me.0) refl refl) (adds_note i (Locker w₀.first k.0) (with_token i t me.0) (λ x. refl))) r.known;
     },
@@ -218,5 +218,5 @@ module _ {C : Type 0} (p : Plan) (id : ℕ) (me : Me (Maybe C) (View C)) (x : �
   pub kept_stays : 0 < total (is_place x) me.0.kept → get_or s.words x 0 ≢ 0
   kept_stays some_kept = let k = total_some (is_place x) me.0.kept some_kept in
       let fits : KeptFits (2 * p.slots) s.words (flat_map kept_in s.views) k.1 = each_at (KeptFits (2 * p.slots) s.words (flat_map kept_in s.views)) me.0.kept k.0 k.1 (each_of kept_in (KeptFits (2 * p.slots) s.words (flat_map kept_in s.views)) s.views id me.0 r.lawful.kept_fits here) k.2 in
-      let place : k.1.place ≡ x = dite (ℕ_discrete k.1.place x) (λ e. e) (λ n. let z = Rattle.corr_core.proofs.Notes.only-else x k.1.place n in let y = k.3 in absurd (omega arith)) in
+      let place : k.1.place ≡ x = dite (ℕ_discrete k.1.place x) (λ e. e) (λ n. let z = Rattle.corr_core.proofs.NoteSums.only-else x k.1.place n in let y = k.3 in absurd (omega arith)) in
       subst (λ (y : ℕ). get_or s.words y 0 ≢ 0) place fits.2

@@ -1,10 +1,10 @@
 pub mod Ruled
-pub mod Seats
-pub mod Calls
-pub mod Closing
-pub mod Closed
-pub mod Opening
-pub mod Posts
+pub mod IdTableSeat
+pub mod SeatBehindIdCalls
+pub mod ClosingIdLists
+pub mod ClosedIdTable
+pub mod IdTableOpening
+pub mod PostAnswers
 pub mod Unlocks
-pub mod Attempts
+pub mod LocksByAttempt
 pub use Rattle.id_rule

@@ -13,11 +13,11 @@ use Rattle.corr_core.specs.declared.marks.Note.TheVariants.{Queued, Saw}
 use Rattle.corr_core.specs.declared.marks.Kept.{Kept}
 use Rattle.corr_core.specs.declared.marks.View.{View}
 use Rattle.std.specs.List.{flat_map}
-use Rattle.corr_core.specs.Layout.{id_index}
-use Rattle.id_rule.specs.Lawful.{is_stored, kept_in, notes_in, local, Lawful, with_token, with_note}
-use Rattle.corr_id.specs.Calls.{is_saw, is_at, FoundUpTo, ReachedUpTo}
-use Rattle.id_rule.specs.Plays.{Becomes, has_token, LockFits, Longer, locked_view, put_error, popped_view, advanced_view, found_view}
-use Rattle.sock_words.specs.Words.{id_slot, id_first, call_id}
+use Rattle.corr_core.specs.IdTableLayout.{id_index}
+use Rattle.id_rule.specs.LawfulIdTable.{is_stored, kept_in, notes_in, local, Lawful, with_token, with_note}
+use Rattle.corr_id.specs.SeatBehindIdCalls.{is_saw, is_at, FoundUpTo, ReachedUpTo}
+use Rattle.id_rule.specs.IdPlays.{Becomes, has_token, LockFits, Longer, locked_view, put_error, popped_view, advanced_view, found_view}
+use Rattle.sock_words.specs.PackedWords.{id_slot, id_first, call_id}
 use Rattle.sock_words.specs.Totals.{total}
 
 -- a word of this place

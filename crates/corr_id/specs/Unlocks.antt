@@ -6,11 +6,11 @@ use Rattle.corr_core.specs.declared.marks.Token.TheVariants.{Locked}
 use Rattle.corr_core.specs.declared.marks.View.{View}
 use Rattle.corr_id.specs.declared.unlocks.Unlocked.{Unlocked}
 use Rattle.corr_id.specs.declared.unlocks.Unlocked.TheVariants.{Open, Next}
-use Rattle.id_rule.specs.Lawful.{tokens_in}
-use Rattle.id_rule.specs.Plays.{LockFits}
-use Rattle.corr_id.specs.Calls.{Locks, Did, Found, advance_note, error_in}
-use Rattle.corr_id.specs.Posts.{IsTimely}
-use Rattle.sock_words.specs.Words.{bit}
+use Rattle.id_rule.specs.LawfulIdTable.{tokens_in}
+use Rattle.id_rule.specs.IdPlays.{LockFits}
+use Rattle.corr_id.specs.SeatBehindIdCalls.{Locks, Did, Found, advance_note, error_in}
+use Rattle.corr_id.specs.PostAnswers.{IsTimely}
+use Rattle.sock_words.specs.PackedWords.{bit}
 
 -- 1 where there is such an error and it is for another attempt
 abbrev pub stale : ℕ → ℕ → ℕ

@@ -2,11 +2,11 @@
 ghost use Rattle.std.specs.Prelude.{◌≡◌, ◌+◌, ◌*◌, ◌<◌, ◌≤◌, ◌⊎◌, ℕ, true, false, IfOk, IfErr};
 ghost use Rattle.corr_core.specs.Word.{parts};
 ghost use Rattle.corr_core.specs.Law.{is_made};
-ghost use Rattle.id_rule.specs.Lawful.{notes_of};
-ghost use Rattle.corr_id.specs.Seats.{Sits, Stays};
-ghost use Rattle.corr_id.specs.Calls.{GotLock, Quiet, Found};
-ghost use Rattle.corr_id.specs.Attempts.{LacksAttempt, IsOutside, IsWithin, IsKnown};
-ghost use Rattle.sock_words.specs.Words.{id_slot, id_first};
+ghost use Rattle.id_rule.specs.LawfulIdTable.{notes_of};
+ghost use Rattle.corr_id.specs.IdTableSeat.{Sits, Stays};
+ghost use Rattle.corr_id.specs.SeatBehindIdCalls.{GotLock, Quiet, Found};
+ghost use Rattle.corr_id.specs.LocksByAttempt.{LacksAttempt, IsOutside, IsWithin, IsKnown};
+ghost use Rattle.sock_words.specs.PackedWords.{id_slot, id_first};
 ghost use Rattle.sock_words.specs.Totals.{total};
 
 use crate::calls::{IdGone, Locking, is_out_of};

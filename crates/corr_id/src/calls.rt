@@ -5,11 +5,11 @@ ghost use Rattle.corr_core.specs.Law.{LAST, is_made, is_advance, is_tried};
 ghost use Rattle.corr_core.specs.declared.marks.Hand.TheVariants.{Empty, Full};
 ghost use Rattle.corr_core.specs.declared.marks.Token.TheVariants.{Locked};
 ghost use Rattle.corr_core.specs.declared.marks.Note.TheVariants.{Made, Ended};
-ghost use Rattle.id_rule.specs.Lawful.{notes_of};
-ghost use Rattle.id_rule.specs.Plays.{LockFits};
-ghost use Rattle.corr_id.specs.Seats.{Sits, Stays};
-ghost use Rattle.corr_id.specs.Calls.{is_saw, is_at, Became, one, Claims, Locks, GotLock, Quiet, Did, MadeAs, OutOf, LacksId, Found};
-ghost use Rattle.sock_words.specs.Words.{call_id, id_slot, id_first};
+ghost use Rattle.id_rule.specs.LawfulIdTable.{notes_of};
+ghost use Rattle.id_rule.specs.IdPlays.{LockFits};
+ghost use Rattle.corr_id.specs.IdTableSeat.{Sits, Stays};
+ghost use Rattle.corr_id.specs.SeatBehindIdCalls.{is_saw, is_at, Became, one, Claims, Locks, GotLock, Quiet, Did, MadeAs, OutOf, LacksId, Found};
+ghost use Rattle.sock_words.specs.PackedWords.{call_id, id_slot, id_first};
 ghost use Rattle.sock_words.specs.Totals.{total};
 
 use crate::table::{IdSeat, IdTable};

@@ -1,17 +1,17 @@
 // A call for each kind of step.
 ghost use Rattle.std.specs.Prelude.{◌≡◌, ◌≢◌, ◌+◌, ◌*◌, ◌%◌, ◌<◌, ◌≤◌, ℕ, Bool, [], ◌∷◌, IsTrue, MatchOption};
-ghost use Rattle.sock_words.specs.Words.{call_id};
+ghost use Rattle.sock_words.specs.PackedWords.{call_id};
 ghost use Rattle.corr_core.specs.Word.{parts, made_word, locked_word, posted_word, unlocked_word, free_word};
 ghost use Rattle.corr_core.specs.Law.{LAST, is_made, is_advance};
 ghost use Rattle.corr_core.specs.declared.marks.Hand.TheVariants.{Empty, Full};
 ghost use Rattle.corr_core.specs.declared.marks.Token.TheVariants.{Claimed, Locked, Leaving};
 ghost use Rattle.corr_core.specs.declared.marks.Note.TheVariants.{Tried, Made, Ended, Locker, Queued, Saw};
-ghost use Rattle.id_rule.specs.Lawful.{tokens_in, notes_in, with_note};
-ghost use Rattle.id_rule.specs.Plays.{LockFits, Longer};
+ghost use Rattle.id_rule.specs.LawfulIdTable.{tokens_in, notes_in, with_note};
+ghost use Rattle.id_rule.specs.IdPlays.{LockFits, Longer};
 ghost use Rattle.corr_id.specs.Ruled.{FreshBehind, IsBehind, IsFresh};
-ghost use Rattle.corr_id.specs.Seats.{Sits, Stays};
-ghost use Rattle.corr_id.specs.Calls.{is_saw, is_at, Became, one, MayMove, Moved, Claims, Locks, FoundUpTo, ReachedUpTo, tokens_left, advance_note};
-ghost use Rattle.sock_words.specs.Words.{bit};
+ghost use Rattle.corr_id.specs.IdTableSeat.{Sits, Stays};
+ghost use Rattle.corr_id.specs.SeatBehindIdCalls.{is_saw, is_at, Became, one, MayMove, Moved, Claims, Locks, FoundUpTo, ReachedUpTo, tokens_left, advance_note};
+ghost use Rattle.sock_words.specs.PackedWords.{bit};
 ghost use Rattle.sock_words.specs.Totals.{total};
 
 use crate::plays::{Claim, End, Free, Give, Lock, Make, Queue, Read, See, Take, Unlock};

@@ -1,7 +1,7 @@
 // A new table with its seats.
 ghost use Rattle.std.specs.Prelude.{◌≡◌, ◌+◌, ◌<◌, ◌≤◌, [], length, vec_len, vec_capacity, IfOk};
-ghost use Rattle.id_rule.specs.Lawful.{first_view, Unused};
-ghost use Rattle.corr_id.specs.Opening.{AreNew};
+ghost use Rattle.id_rule.specs.LawfulIdTable.{first_view, Unused};
+ghost use Rattle.corr_id.specs.IdTableOpening.{AreNew};
 
 use crate::table::{IdSeat, IdTable};
 use corr_core::{Plan, id_index, word_count};

@@ -1,6 +1,6 @@
 // The rule of the table, and the names of its steps.
-ghost use Rattle.id_rule.specs.Lawful.{first_view, joined, spent, lighter, newcomer};
-ghost use Rattle.id_rule.specs.Plays.{claim_told, take_told, give_told, make_told, end_told, free_told, store_told};
+ghost use Rattle.id_rule.specs.LawfulIdTable.{first_view, joined, spent, lighter, newcomer};
+ghost use Rattle.id_rule.specs.IdPlays.{claim_told, take_told, give_told, make_told, end_told, free_told, store_told};
 ghost use Rattle.corr_id.specs.Ruled.{Ruled, read_told, see_told, lock_told, queue_told, unlock_told, load_told};
 
 use atomic_table::{Join, Play, Split, TableRule};

@@ -1,9 +1,9 @@
 // An error for an id.
 ghost use Rattle.std.specs.Prelude.{◌≡◌, ◌≢◌, ◌<◌, ◌≤◌, ◌⊎◌, ◌↔◌, ℕ, MatchOption, IsTrue, false};
 ghost use Rattle.corr_core.specs.Word.{parts, posted_word};
-ghost use Rattle.corr_id.specs.Seats.{Sits, Stays};
-ghost use Rattle.corr_id.specs.Calls.{error_in};
-ghost use Rattle.corr_id.specs.Posts.{PostOk, IsStale, IsTimely};
+ghost use Rattle.corr_id.specs.IdTableSeat.{Sits, Stays};
+ghost use Rattle.corr_id.specs.SeatBehindIdCalls.{error_in};
+ghost use Rattle.corr_id.specs.PostAnswers.{PostOk, IsStale, IsTimely};
 
 use crate::calls::{IdLock, lacks_id};
 use crate::table::{IdSeat, IdTable};

@@ -1,8 +1,8 @@
 // The table of words and homes, and its seats.
 ghost use Rattle.std.specs.Prelude.{◌≡◌, ◌<◌, ◌≤◌, [], IfOk};
-ghost use Rattle.corr_core.specs.Layout.{all_words};
-ghost use Rattle.id_rule.specs.Lawful.{first_view, Unused, joined, lighter, newcomer};
-ghost use Rattle.corr_id.specs.Seats.{IsFree};
+ghost use Rattle.corr_core.specs.IdTableLayout.{all_words};
+ghost use Rattle.id_rule.specs.LawfulIdTable.{first_view, Unused, joined, lighter, newcomer};
+ghost use Rattle.corr_id.specs.IdTableSeat.{IsFree};
 
 use crate::plays::{Rule, SeatOut, TakeIn};
 use atomic_table::{Seat, Table};

@@ -2,10 +2,10 @@
 ghost use Rattle.std.specs.Prelude.{◌≡◌, ◌≢◌, ◌+◌, ◌<◌, IsTrue, true, false, IfSome};
 ghost use Rattle.corr_core.specs.Word.{parts, unlocked_word, code_of};
 ghost use Rattle.corr_core.specs.declared.marks.Hand.TheVariants.{Empty};
-ghost use Rattle.corr_id.specs.Seats.{Sits, Stays};
-ghost use Rattle.corr_id.specs.Calls.{Locks, error_in};
+ghost use Rattle.corr_id.specs.IdTableSeat.{Sits, Stays};
+ghost use Rattle.corr_id.specs.SeatBehindIdCalls.{Locks, error_in};
 ghost use Rattle.corr_id.specs.Unlocks.{UnlockOk, stale};
-ghost use Rattle.sock_words.specs.Words.{bit};
+ghost use Rattle.sock_words.specs.PackedWords.{bit};
 
 use crate::calls::IdLock;
 use crate::table::{IdSeat, IdTable};

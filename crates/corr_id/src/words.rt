@@ -1,12 +1,12 @@
 // The words of the calls among the operations.
 ghost use Rattle.std.specs.Prelude.{◌≡◌, ◌≢◌, ◌+◌, ◌*◌, ◌%◌, ◌<◌, ◌≤◌, false, true, IfNone, IfSome, IsSome};
-ghost use Rattle.sock_words.specs.Words.{at_word as packed_at, id_slot, id_first};
+ghost use Rattle.sock_words.specs.PackedWords.{at_word as packed_at, id_slot, id_first};
 ghost use Rattle.corr_core.specs.Law.{is_made};
-ghost use Rattle.corr_core.specs.Layout.{call_index, at_index};
-ghost use Rattle.id_rule.specs.Lawful.{notes_of, with_kept};
+ghost use Rattle.corr_core.specs.IdTableLayout.{call_index, at_index};
+ghost use Rattle.id_rule.specs.LawfulIdTable.{notes_of, with_kept};
 ghost use Rattle.corr_id.specs.Ruled.{is_place};
-ghost use Rattle.corr_id.specs.Seats.{Sits, Stays};
-ghost use Rattle.corr_id.specs.Calls.{Quiet, Found};
+ghost use Rattle.corr_id.specs.IdTableSeat.{Sits, Stays};
+ghost use Rattle.corr_id.specs.SeatBehindIdCalls.{Quiet, Found};
 ghost use Rattle.sock_words.specs.Totals.{total};
 
 use crate::plays::{Load, Store};

@@ -5,37 +5,37 @@ use mathlib.Core.Option.{Option, none, some}
 use native.Mathlib.Decide.{ℕ_discrete, dec_le}
 use lib.ListN.{get_elem?}
 use Rattle.atomic_table.proofs.Lists.{at_set}
-use Rattle.sock_words.specs.Words.{socket_id_version, socket_id_slot, NO_SOCKET}
+use Rattle.sock_words.specs.PackedWords.{socket_id_version, socket_id_slot, NO_SOCKET}
 use Rattle.sock_words.specs.declared.plain.Plan.{Plan}
 use Rattle.sock_model.specs.declared.home.Home.{Home}
 use Rattle.sock_model.specs.declared.view.View.{View}
-use Rattle.sock_model.specs.Layout.{open_index}
+use Rattle.sock_model.specs.SocketTableLayout.{open_index}
 use Rattle.sock_model.specs.References.{slot_facts}
-use Rattle.sock_model.specs.Slots.{live}
+use Rattle.sock_model.specs.SocketSlotLaw.{live}
 use Rattle.seat_programs.specs.Asides.{Taking}
-use Rattle.seat_programs.specs.Beside.{calls_after}
-use Rattle.seat_programs.specs.Calls.{TableStep, StoreCode, LoadCode}
+use Rattle.seat_programs.specs.FoundAndChangedAside.{calls_after}
+use Rattle.seat_programs.specs.TableSteps.{TableStep, StoreCode, LoadCode}
 use Rattle.seat_programs.specs.Cores.{Calls, Core, SeatState, found_at, words_after, homes_after, hand_after, lies_at, first_of, others_of, link_place, resolved, waiting_at, next_step, with_seat}
 use Rattle.seat_programs.specs.StepTables.{word_of, word_after}
 use Rattle.seat_programs.specs.Programs.{Program, Do, Rest, TakeMessage, TakeHome, PutHome, PutBytes, AskReady, Aside}
-use Rattle.seat_programs.specs.Readers.{reader}
+use Rattle.seat_programs.specs.ReaderProgram.{reader}
 use Rattle.seat_programs.specs.Ticks.{Moment, IsAnswered, AreAnswered, fed, with_places, onto_first, ticked, run}
-use Rattle.refused_attempts.specs.Below.programs_allowed.specs.program_steps.specs.GoesOn.{GoesOn}
+use Rattle.refused_attempts.specs.Below.programs_allowed.specs.program_steps.specs.ProgramGoesOn.{GoesOn}
 use Rattle.seat_programs.specs.StepTables.{May}
-use Rattle.refused_attempts.specs.Below.programs_allowed.specs.program_steps.specs.Sound.{state, Sound, IsFitting, AreFitting, views_after, views_along}
-use Rattle.refused_attempts.specs.Below.programs_allowed.specs.program_steps.proofs.Cases.{goes_first, tick_cases}
+use Rattle.refused_attempts.specs.Below.programs_allowed.specs.program_steps.specs.SoundSeats.{state, Sound, IsFitting, AreFitting, views_after, views_along}
+use Rattle.refused_attempts.specs.Below.programs_allowed.specs.program_steps.proofs.TickCases.{goes_first, tick_cases}
 use Rattle.refused_attempts.specs.Below.programs_allowed.specs.sock_runs.proofs.LinkTicks.{RetriesGo}
 use Rattle.refused_attempts.specs.Below.programs_allowed.specs.program_walks.proofs.OpensStay.{run_word}
 use Rattle.refused_attempts.specs.Below.programs_allowed.specs.program_walks.proofs.Recorded.{Recorded, recorded_ticks}
-use Rattle.refused_attempts.specs.Below.programs_allowed.specs.sock_runs.proofs.Ticks.{sound_ticks}
-use Rattle.refused_attempts.specs.accept_counts.specs.Refused.{DidStep, DidAt, DidIn}
+use Rattle.refused_attempts.specs.Below.programs_allowed.specs.sock_runs.proofs.TicksKeepSeatsSound.{sound_ticks}
+use Rattle.refused_attempts.specs.accept_counts.specs.RefusedOrDropped.{DidStep, DidAt, DidIn}
 use Rattle.refused_attempts.specs.accept_counts.proofs.Closers.{Ends, Calm, Codes, codes_more, calm_first, stores_code}
-use Rattle.refused_attempts.specs.sent_once.proofs.DropCodes.{Failing, NoFail, Fails, Stores, codes_first, codes_next}
+use Rattle.refused_attempts.specs.sent_once.proofs.SourcesOfSocketCodes.{Failing, NoFail, Fails, Stores, codes_first, codes_next}
 use Rattle.refused_attempts.specs.sent_once.proofs.DropTicks.{Behind, stores_none, stores_own, behind}
 use Rattle.refused_attempts.specs.sent_once.proofs.DropWords.{version_in, code_in, held_version, coding_version, live_none, code_stays}
-use Rattle.refused_attempts.specs.accept_counts.proofs.Readings.{State, found_by}
+use Rattle.refused_attempts.specs.accept_counts.proofs.ReadingsAtTicks.{State, found_by}
 use Rattle.refused_attempts.specs.accept_counts.proofs.ReaderRuns.{Keeps, founds, keeps_ticks, keeps_same, reader_of, view_at, state_at}
-use Rattle.seat_programs.specs.Rounds.{first_step}
+use Rattle.seat_programs.specs.LoopRounds.{first_step}
 
 -- ## What clients and the ending store
 
@@ -65,7 +65,7 @@ module _ (P : ℕ → Type 0) (gone : P 1009) where
     same_has f g (inl e) has = subst Has (sym e) has
     same_has f g (inr e) has = subst Has (sym e) tt
 
-    next_has : (f : Failing) → Has f → (ws : List Rattle.seat_programs.specs.Heads.Retry) (x : Program) → Stores (λ o code. P code) P f x → Some_ (next_step (resolved ws x))
+    next_has : (f : Failing) → Has f → (ws : List Rattle.seat_programs.specs.LoopHeads.Retry) (x : Program) → Stores (λ o code. P code) P f x → Some_ (next_step (resolved ws x))
     next_has f has ws x stores = let r = codes_next (λ o code. P code) P gone f ws x stores in (r.0, same_has f r.0 (⊎_elim (λ e. inl e.0) (λ e. inr e) r.1) has, r.2)
 
     reseated : (a : Calls) (x : Program) (hand : List Home) (ws : List ℕ) (hs : List (Option Home)) → (j ≡ m.seat → Some_ x) → StoresThose j (with_seat m.seat x hand ws hs (record c { calls = a }))

@@ -10,30 +10,30 @@ use Rattle.atomic_table.proofs.Lists.{at_set}
 use Rattle.seat_programs.specs.brpc_model.specs.Items.{Item}
 use Rattle.seat_programs.specs.brpc_model.specs.Operations.{Turn}
 use Rattle.sock_model.specs.declared.view.View.{View}
-use Rattle.sock_model.specs.Layout.{open_index}
+use Rattle.sock_model.specs.SocketTableLayout.{open_index}
 use Rattle.seat_programs.specs.declared.task.Op.{Op}
 use Rattle.seat_programs.specs.declared.task.Op.TheVariants as ops
 use Rattle.seat_programs.specs.declared.task.Task.{Task}
 use Rattle.seat_programs.specs.declared.task.Sizes.{Sizes}
 use Rattle.seat_programs.specs.Asides.{Taking}
-use Rattle.seat_programs.specs.Calls.{LoadCode}
-use Rattle.seat_programs.specs.Clients.{client_from, ending_of}
+use Rattle.seat_programs.specs.TableSteps.{LoadCode}
+use Rattle.seat_programs.specs.ClientProgram.{client_from, ending_of}
 use Rattle.seat_programs.specs.Cores.{Core, SeatState, resolved, waiting_at, next_step}
-use Rattle.seat_programs.specs.Heads.{Retry}
+use Rattle.seat_programs.specs.LoopHeads.{Retry}
 use Rattle.seat_programs.specs.Programs.{Program}
 use Rattle.seat_programs.specs.Tasks.{opens, calls, plan_of, id_plan_of}
 use Rattle.seat_programs.specs.Ticks.{Moment, run}
-use Rattle.seat_programs.specs.Scripts.{sizes_of, programs, readers_from, all_programs, all_tasks, opened, set_up, played, is_ending, IsRunWithCalls}
-use Rattle.refused_attempts.specs.Below.programs_allowed.specs.program_steps.specs.Sound.{views_along}
-use Rattle.refused_attempts.specs.Below.programs_allowed.specs.program_walks.proofs.Opening.{mapped}
-use Rattle.refused_attempts.specs.Below.programs_allowed.specs.program_walks.proofs.Whole.{IsListed, closing_of, rested_of, views_played, views_closed, set_up_answered, end_answered, set_up_sound, closing_sound, closed_sound, recorded_opened, recorded_set_up, recorded_closing, recorded_closed}
-use Rattle.refused_attempts.specs.Below.outcome_stories.specs.Stories.{In}
-use Rattle.refused_attempts.specs.Below.programs_allowed.proofs.Beginning as clients_begin
-use Rattle.refused_attempts.specs.Below.joint_runs.proofs.Runs.{AreMade, first_views}
-use Rattle.refused_attempts.specs.accept_counts.specs.Refused.{DidStep, DidEarly, DidInRun}
-use Rattle.refused_attempts.specs.sent_once.proofs.DropCodes.{NoFail, Stores, OwnsFail, client_codes, ending_codes, codes_next}
+use Rattle.seat_programs.specs.ScriptSetupToEnding.{sizes_of, programs, readers_from, all_programs, all_tasks, opened, set_up, played, is_ending, IsRunWithCalls}
+use Rattle.refused_attempts.specs.Below.programs_allowed.specs.program_steps.specs.SoundSeats.{views_along}
+use Rattle.refused_attempts.specs.Below.programs_allowed.specs.program_walks.proofs.OpenedLivesRecorded.{mapped}
+use Rattle.refused_attempts.specs.Below.programs_allowed.specs.program_walks.proofs.WholeScriptSound.{IsListed, closing_of, rested_of, views_played, views_closed, set_up_answered, end_answered, set_up_sound, closing_sound, closed_sound, recorded_opened, recorded_set_up, recorded_closing, recorded_closed}
+use Rattle.refused_attempts.specs.Below.outcome_stories.specs.OperationStories.{In}
+use Rattle.refused_attempts.specs.Below.programs_allowed.proofs.WordsAtBeginning as clients_begin
+use Rattle.refused_attempts.specs.Below.joint_runs.proofs.RunsOfBothTables.{AreMade, first_views}
+use Rattle.refused_attempts.specs.accept_counts.specs.RefusedOrDropped.{DidStep, DidEarly, DidInRun}
+use Rattle.refused_attempts.specs.sent_once.proofs.SourcesOfSocketCodes.{NoFail, Stores, OwnsFail, client_codes, ending_codes, codes_next}
 use Rattle.dropped_calls.proofs.DropEnds.{StoresThose, EndsLaw, EndsAlong, Whose, ends_along}
-use Rattle.refused_attempts.specs.accept_counts.proofs.Early.{Any, ends_anyhow, start, go, fitting, known, before_readers}
+use Rattle.refused_attempts.specs.accept_counts.proofs.EarlyClosedSockets.{Any, ends_anyhow, start, go, fitting, known, before_readers}
 use Rattle.refused_attempts.specs.Below.call_stories.proofs.RunTicks.{in_setup, in_clients, in_closing}
 use Rattle.ended_calls.proofs.EndedWhole.{opened_keeps, closing_keeps, h₁, h₂, h₃, h₄}
 use Rattle.refused_attempts.specs.Below.owned_ids.proofs.OpensStored.{place_at}

@@ -9,7 +9,7 @@ use native.Mathlib.Decide.{ℕ_discrete}
 use lib.ListN.{get_elem?}
 use Rattle.seat_programs.specs.brpc_model.specs.Items.{Item}
 use Rattle.seat_programs.specs.brpc_model.specs.Operations.{Turn}
-use Rattle.sock_words.specs.Words.{socket_id, socket_id_slot, socket_id_version, vref_version, place_word}
+use Rattle.sock_words.specs.PackedWords.{socket_id, socket_id_slot, socket_id_version, vref_version, place_word}
 use Rattle.sock_words.specs.declared.outcome.Outcome.{Outcome}
 use Rattle.sock_words.specs.declared.outcome.Outcome.TheVariants.{Failed}
 use Rattle.sock_model.specs.declared.chain.Entry.{Entry}
@@ -17,59 +17,59 @@ use Rattle.sock_model.specs.declared.chain.Heading.{Heading}
 use Rattle.sock_words.specs.declared.plain.Plan.{Plan}
 use Rattle.sock_model.specs.declared.view.View.{View}
 use Rattle.sock_model.specs.Entries.{on}
-use Rattle.sock_model.specs.Layout.{open_index, place_index, request_index}
+use Rattle.sock_model.specs.SocketTableLayout.{open_index, place_index, request_index}
 use Rattle.sock_model.specs.Rule.{lists_of}
 use Rattle.refused_attempts.specs.Below.sock_steps.proofs.Positions.{few_log, on_shorter}
-use Rattle.refused_attempts.specs.Below.slot_steps.proofs.Numbers.{life_le, life_is}
-use Rattle.refused_attempts.specs.Below.slot_steps.proofs.Sums.{total_bound}
-use Rattle.refused_attempts.specs.Below.chain_steps.proofs.Frames.{in_log}
+use Rattle.refused_attempts.specs.Below.slot_steps.proofs.RuleNumbers.{life_le, life_is}
+use Rattle.refused_attempts.specs.Below.slot_steps.proofs.SlotWeightSums.{total_bound}
+use Rattle.refused_attempts.specs.Below.chain_steps.proofs.UntouchedByChainSteps.{in_log}
 use Rattle.corr_core.specs.Word.{error_of, code_of, attempt_of}
-use Rattle.corr_core.proofs.Notes.{at_length}
+use Rattle.corr_core.proofs.NoteSums.{at_length}
 use Rattle.sock_message.specs.Asked.{Asked}
 use Rattle.seat_programs.specs.declared.task.Op.TheVariants as ops
 use Rattle.seat_programs.specs.declared.task.Task.{Task}
-use Rattle.seat_programs.specs.Calls.{CreateLife, SetOdd, ClaimRequest, LoadCode, DropPlace}
+use Rattle.seat_programs.specs.TableSteps.{CreateLife, SetOdd, ClaimRequest, LoadCode, DropPlace}
 use Rattle.seat_programs.specs.Cores.{Core}
 use Rattle.seat_programs.specs.Tasks.{opens, plan_of, id_plan_of}
-use Rattle.seat_programs.specs.Scripts.{all_tasks, IsRunWithCalls}
-use Rattle.seat_programs.specs.Told.{AreTasks, IsTask, Became, Made}
-use Rattle.seat_programs.specs.ToldCalls.{Accepted, Order, IsAt}
+use Rattle.seat_programs.specs.ScriptSetupToEnding.{all_tasks, IsRunWithCalls}
+use Rattle.seat_programs.specs.Explained.{AreTasks, IsTask, Became, Made}
+use Rattle.seat_programs.specs.ExplainedCalls.{Accepted, Order, IsAt}
 use Rattle.seat_programs.specs.Writings.{Puts}
-use Rattle.refused_attempts.specs.Below.programs_allowed.specs.program_steps.specs.Sound.{state, Sound, AllRest, MOST_PLACES}
-use Rattle.refused_attempts.specs.Below.programs_allowed.specs.program_steps.specs.GoesOn.{GoesOn, HasNothing}
+use Rattle.refused_attempts.specs.Below.programs_allowed.specs.program_steps.specs.SoundSeats.{state, Sound, AllRest, MOST_PLACES}
+use Rattle.refused_attempts.specs.Below.programs_allowed.specs.program_steps.specs.ProgramGoesOn.{GoesOn, HasNothing}
 use Rattle.sock_model.specs.References.{slot_facts}
-use Rattle.sock_model.specs.Slots.{SlotLaw, live, count}
-use Rattle.sock_model.specs.Weights.{is_born}
-use Rattle.refused_attempts.specs.Below.slot_steps.proofs.Clauses.{taken_for}
+use Rattle.sock_model.specs.SocketSlotLaw.{SlotLaw, live, count}
+use Rattle.sock_model.specs.MarkWeights.{is_born}
+use Rattle.refused_attempts.specs.Below.slot_steps.proofs.SlotLawClauses.{taken_for}
 use Rattle.refused_attempts.specs.Below.programs_allowed.specs.sock_runs.proofs.LinksStay.{IsGiven}
-use Rattle.refused_attempts.specs.Below.programs_allowed.specs.program_steps.proofs.Bounds.{lives_le}
+use Rattle.refused_attempts.specs.Below.programs_allowed.specs.program_steps.proofs.SlotWordBounds.{lives_le}
 use Rattle.refused_attempts.specs.Below.programs_allowed.specs.program_walks.proofs.Recorded.{Recorded, Stands, run_recorded}
 use Rattle.refused_attempts.specs.Below.programs_allowed.specs.program_walks.proofs.Records.{next_stores}
-use Rattle.refused_attempts.specs.Below.programs_allowed.specs.program_walks.proofs.Whole.{IsListed, views_closed, views_ended, closed_sound, recorded_closed, ended_sound, end_rests}
-use Rattle.refused_attempts.specs.Below.outcome_stories.specs.Causes.{WasGiven, Cause}
+use Rattle.refused_attempts.specs.Below.programs_allowed.specs.program_walks.proofs.WholeScriptSound.{IsListed, views_closed, views_ended, closed_sound, recorded_closed, ended_sound, end_rests}
+use Rattle.refused_attempts.specs.Below.outcome_stories.specs.StoryStepCauses.{WasGiven, Cause}
 use Rattle.refused_attempts.specs.Below.outcome_stories.specs.Explains.{FailsLife, FailsLink, is_plain, step}
-use Rattle.refused_attempts.specs.Below.outcome_stories.specs.Kept.{IsSpoken, StaysUsed, Story}
+use Rattle.refused_attempts.specs.Below.outcome_stories.specs.KeptStory.{IsSpoken, StaysUsed, Story}
 use Rattle.refused_attempts.specs.Below.outcome_stories.specs.PlainTasks.{told_tasks_of}
-use Rattle.refused_attempts.specs.Below.outcome_stories.specs.Stories.{Event, In, trace_of}
+use Rattle.refused_attempts.specs.Below.outcome_stories.specs.OperationStories.{Event, In, trace_of}
 use Rattle.refused_attempts.specs.Below.outcome_stories.proofs.Delivered.{accepted_at, AreQuiet, requests_used}
-use Rattle.refused_attempts.specs.Below.outcome_causes.proofs.Openings.{are_seats}
-use Rattle.refused_attempts.specs.Below.outcome_ticks.proofs.Events.{event, BeforeIn, cause_of, in_marked, birth_adds, marked_given}
+use Rattle.refused_attempts.specs.Below.outcome_causes.proofs.ExplainedOpenings.{are_seats}
+use Rattle.refused_attempts.specs.Below.outcome_ticks.proofs.EventsOfGoodStory.{event, BeforeIn, cause_of, in_marked, birth_adds, marked_given}
 use Rattle.refused_attempts.specs.Below.outcome_causes.proofs.Final.{at_there, idle, final}
 use Rattle.refused_attempts.specs.Below.outcome_ticks.proofs.Lifted.{up, task_up, made_up, made_down}
-use Rattle.refused_attempts.specs.Below.outcome_causes.proofs.Lives.{World, birth_means, task_of, given_made, one_life, odd_means, odd_life, fail_says}
+use Rattle.refused_attempts.specs.Below.outcome_causes.proofs.LivesByTask.{World, birth_means, task_of, given_made, one_life, odd_means, odd_life, fail_says}
 use Rattle.refused_attempts.specs.Below.outcome_stories.proofs.Members.{all_in, contains_in, in_contains}
-use Rattle.refused_attempts.specs.Below.outcome_ticks.proofs.Tasks.{one_task}
-use Rattle.refused_attempts.specs.Below.programs_allowed.specs.Openings.{all_seats}
-use Rattle.refused_attempts.specs.Below.programs_allowed.proofs.Fresh.{opening_fresh, opening_claims}
-use Rattle.refused_attempts.specs.Below.joint_runs.proofs.Runs.{AreMade, first_views, joint_runs, joint_bounded}
-use Rattle.refused_attempts.specs.Below.call_owing.specs.Lives.{ClosesInRun}
-use Rattle.refused_attempts.specs.Below.call_stories.specs.Posts.{Post}
-use Rattle.refused_attempts.specs.accept_counts.specs.Refused.{Deed, DidStep, DidRound, DidInRun, IsDrop}
-use Rattle.refused_attempts.specs.sent_once.proofs.Beside.{gave_of_run, fixed_of_run, orders_here}
-use Rattle.refused_attempts.specs.accept_counts.proofs.Early.{start, go, fitting}
-use Rattle.refused_attempts.specs.accept_counts.proofs.Runs.{AreLabelledIn, IsCallOf, end_law}
-use Rattle.refused_attempts.specs.sent_once.proofs.Sends.{owed, narrow, orders_are}
-use Rattle.refused_attempts.specs.sent_once.proofs.DropCodes.{IsOtherCode}
+use Rattle.refused_attempts.specs.Below.outcome_ticks.proofs.TableTasksDistinct.{one_task}
+use Rattle.refused_attempts.specs.Below.programs_allowed.specs.SeatOpenings.{all_seats}
+use Rattle.refused_attempts.specs.Below.programs_allowed.proofs.FreshSeatsAtStart.{opening_fresh, opening_claims}
+use Rattle.refused_attempts.specs.Below.joint_runs.proofs.RunsOfBothTables.{AreMade, first_views, joint_runs, joint_bounded}
+use Rattle.refused_attempts.specs.Below.call_owing.specs.LivesOfLinks.{ClosesInRun}
+use Rattle.refused_attempts.specs.Below.call_stories.specs.PostsOfRun.{Post}
+use Rattle.refused_attempts.specs.accept_counts.specs.RefusedOrDropped.{Deed, DidStep, DidRound, DidInRun, IsDrop}
+use Rattle.refused_attempts.specs.sent_once.proofs.OtherTasksBesideCalls.{gave_of_run, fixed_of_run, orders_here}
+use Rattle.refused_attempts.specs.accept_counts.proofs.EarlyClosedSockets.{start, go, fitting}
+use Rattle.refused_attempts.specs.accept_counts.proofs.RunsKeepAttemptLaw.{AreLabelledIn, IsCallOf, end_law}
+use Rattle.refused_attempts.specs.sent_once.proofs.SocketOperationsTold.{owed, narrow, orders_are}
+use Rattle.refused_attempts.specs.sent_once.proofs.SourcesOfSocketCodes.{IsOtherCode}
 use Rattle.refused_attempts.specs.sent_once.proofs.DropPlaces.{log_few}
 use Rattle.refused_attempts.specs.sent_once.proofs.DropRuns.{IsCalls, IsDropAt, Tells}
 use Rattle.refused_attempts.specs.sent_once.proofs.DropTicks.{FailedWith}

@@ -8,8 +8,8 @@ use Rattle.sock_words.specs.declared.plain.Plan.{Plan}
 use Rattle.sock_model.specs.declared.view.View.{View}
 use Rattle.sock_model.specs.Deliveries.{ShownAt, no_place, one_place}
 use Rattle.sock_model.specs.Entries.{on}
-use Rattle.sock_model.specs.Layout.{place_index}
-use Rattle.sock_model.specs.Links.{Failed}
+use Rattle.sock_model.specs.SocketTableLayout.{place_index}
+use Rattle.sock_model.specs.LinksInSlots.{Failed}
 use Rattle.seat_programs.specs.brpc_model.specs.Items.{Item}
 use Rattle.seat_programs.specs.brpc_model.specs.Operations.{Turn}
 use Rattle.seat_programs.specs.brpc_model.specs.Script.{script_of}
@@ -17,30 +17,30 @@ use Rattle.std.proofs.Common.{Ok}
 use Rattle.seat_programs.specs.Cores.{Core}
 use Rattle.seat_programs.specs.Tasks.{opens, plan_of}
 use Rattle.seat_programs.specs.Ticks.{Moment, quiet}
-use Rattle.seat_programs.specs.Scripts.{all_tasks, played, IsRunWithCalls}
-use Rattle.seat_programs.specs.ToldCalls.{Accepted, label, IsFailing}
-use Rattle.refused_attempts.specs.Below.programs_allowed.specs.program_steps.specs.Sound.{state, Sound, AreFew}
-use Rattle.refused_attempts.specs.Below.programs_allowed.specs.sock_runs.proofs.Along.{seat_rests}
-use Rattle.refused_attempts.specs.Below.programs_allowed.specs.program_walks.proofs.Whole.{closing_of, views_played, views_closed, views_ended, end_answered, played_sound, closing_sound, closed_sound, ended_sound, rested_ahead, rested_idle}
+use Rattle.seat_programs.specs.ScriptSetupToEnding.{all_tasks, played, IsRunWithCalls}
+use Rattle.seat_programs.specs.ExplainedCalls.{Accepted, label, IsFailing}
+use Rattle.refused_attempts.specs.Below.programs_allowed.specs.program_steps.specs.SoundSeats.{state, Sound, AreFew}
+use Rattle.refused_attempts.specs.Below.programs_allowed.specs.sock_runs.proofs.SoundAlongRuns.{seat_rests}
+use Rattle.refused_attempts.specs.Below.programs_allowed.specs.program_walks.proofs.WholeScriptSound.{closing_of, views_played, views_closed, views_ended, end_answered, played_sound, closing_sound, closed_sound, ended_sound, rested_ahead, rested_idle}
 use Rattle.refused_attempts.specs.Below.outcome_stories.specs.Facts.{late_links_of_run}
-use Rattle.refused_attempts.specs.Below.outcome_stories.specs.Stories.{In}
+use Rattle.refused_attempts.specs.Below.outcome_stories.specs.OperationStories.{In}
 use Rattle.refused_attempts.specs.Below.outcome_stories.proofs.Members.{get_there, in_contains}
-use Rattle.refused_attempts.specs.Below.joint_runs.proofs.Both.{AreBounded}
-use Rattle.refused_attempts.specs.Below.joint_runs.proofs.Runs.{AreMade, first_views, joint_runs, joint_bounded}
-use Rattle.refused_attempts.specs.Below.call_owing.specs.Lives.{ClosesInRun}
-use Rattle.refused_attempts.specs.sent_once.proofs.Beside.{gave_of_run, fixed_of_run, orders_here, failing_of_run}
+use Rattle.refused_attempts.specs.Below.joint_runs.proofs.BothTablesSound.{AreBounded}
+use Rattle.refused_attempts.specs.Below.joint_runs.proofs.RunsOfBothTables.{AreMade, first_views, joint_runs, joint_bounded}
+use Rattle.refused_attempts.specs.Below.call_owing.specs.LivesOfLinks.{ClosesInRun}
+use Rattle.refused_attempts.specs.sent_once.proofs.OtherTasksBesideCalls.{gave_of_run, fixed_of_run, orders_here, failing_of_run}
 use Rattle.refused_attempts.specs.sent_once.proofs.Dropped.{ending_begins, ending_places, log_small}
-use Rattle.refused_attempts.specs.accept_counts.proofs.Early.{start, go, fitting}
+use Rattle.refused_attempts.specs.accept_counts.proofs.EarlyClosedSockets.{start, go, fitting}
 use Rattle.dropped_calls.proofs.LateEnding.{ended_past}
 use Rattle.dropped_calls.proofs.LateLooks.{Idle}
 use Rattle.dropped_calls.proofs.LatePlaces.{IsEnding, ending_along}
 use Rattle.dropped_calls.proofs.LateRests.{none_stands, ended_idle}
 use Rattle.dropped_calls.proofs.LateLives.{WasPast}
-use Rattle.refused_attempts.specs.sent_once.proofs.Sends.{orders_are}
+use Rattle.refused_attempts.specs.sent_once.proofs.SocketOperationsTold.{orders_are}
 use Rattle.refused_attempts.specs.Below.sock_steps.proofs.Positions.{on_shorter}
-use Rattle.refused_attempts.specs.Below.programs_allowed.specs.program_steps.specs.Lasts.{MOST_TICKS}
-use Rattle.corr_core.proofs.Notes.{at_length}
-use Rattle.sock_words.specs.Words.{place_word}
+use Rattle.refused_attempts.specs.Below.programs_allowed.specs.program_steps.specs.TicksLeftAtMost.{MOST_TICKS}
+use Rattle.corr_core.proofs.NoteSums.{at_length}
+use Rattle.sock_words.specs.PackedWords.{place_word}
 
 -- a place word tells that the message at this position of the link was dropped: then the link had failed
 failed_here : (p : Plan) (c : Core) (vs : List View) (sound : Sound p c vs) → AreFew vs → (l k position : ℕ) → l < 8 * p.operations → k < p.links → position < 2147483648 → get_or c.words (place_index p l) 0 ≡ place_word true k position → Failed p (state c vs) k

@@ -5,33 +5,33 @@ use mathlib.Core.Logic.{dite}
 use mathlib.Core.Option.{Option, none, some}
 use native.Mathlib.Decide.{ℕ_discrete, dec_le}
 use lib.ListN.{get_elem?}
-use Rattle.sock_words.specs.Words.{socket_id_version, socket_id_slot, NO_SOCKET}
+use Rattle.sock_words.specs.PackedWords.{socket_id_version, socket_id_slot, NO_SOCKET}
 use Rattle.sock_words.specs.declared.plain.Plan.{Plan}
 use Rattle.sock_model.specs.declared.view.View.{View}
-use Rattle.sock_model.specs.Layout.{open_index}
+use Rattle.sock_model.specs.SocketTableLayout.{open_index}
 use Rattle.sock_model.specs.References.{slot_facts}
-use Rattle.sock_model.specs.Slots.{live}
+use Rattle.sock_model.specs.SocketSlotLaw.{live}
 use Rattle.seat_programs.specs.Asides.{Taking}
-use Rattle.seat_programs.specs.Calls.{StoreCode, LoadCode}
+use Rattle.seat_programs.specs.TableSteps.{StoreCode, LoadCode}
 use Rattle.seat_programs.specs.Cores.{Core, SeatState, found_at}
 use Rattle.seat_programs.specs.StepTables.{word_of}
 use Rattle.seat_programs.specs.Programs.{Program, Do, Rest}
-use Rattle.seat_programs.specs.Readers.{reader}
+use Rattle.seat_programs.specs.ReaderProgram.{reader}
 use Rattle.seat_programs.specs.Ticks.{Moment, IsAnswered, ticked}
-use Rattle.refused_attempts.specs.Below.programs_allowed.specs.program_steps.specs.GoesOn.{GoesOn}
+use Rattle.refused_attempts.specs.Below.programs_allowed.specs.program_steps.specs.ProgramGoesOn.{GoesOn}
 use Rattle.seat_programs.specs.StepTables.{May}
-use Rattle.refused_attempts.specs.Below.programs_allowed.specs.program_steps.specs.Sound.{state, Sound, IsFitting, views_after}
-use Rattle.refused_attempts.specs.Below.programs_allowed.specs.program_steps.proofs.Cases.{goes_first, tick_cases}
+use Rattle.refused_attempts.specs.Below.programs_allowed.specs.program_steps.specs.SoundSeats.{state, Sound, IsFitting, views_after}
+use Rattle.refused_attempts.specs.Below.programs_allowed.specs.program_steps.proofs.TickCases.{goes_first, tick_cases}
 use Rattle.refused_attempts.specs.Below.programs_allowed.specs.sock_runs.proofs.LinkTicks.{RetriesGo}
 use Rattle.refused_attempts.specs.Below.programs_allowed.specs.program_walks.proofs.Recorded.{Recorded}
 use Rattle.refused_attempts.specs.Below.call_stories.specs.Decided.{is_late_step, late_at}
-use Rattle.refused_attempts.specs.accept_counts.specs.Refused.{DidStep, DidAt}
+use Rattle.refused_attempts.specs.accept_counts.specs.RefusedOrDropped.{DidStep, DidAt}
 use Rattle.refused_attempts.specs.accept_counts.proofs.Closers.{Ends, Calm, calm_first, stores_code}
 use Rattle.dropped_calls.proofs.DropEnds.{StoresThose, those, program_of, those_ticks}
 use Rattle.refused_attempts.specs.sent_once.proofs.DropWords.{version_in, code_in, held_version, coding_version, live_none, code_stays}
-use Rattle.refused_attempts.specs.accept_counts.proofs.Readings.{State, found_by}
+use Rattle.refused_attempts.specs.accept_counts.proofs.ReadingsAtTicks.{State, found_by}
 use Rattle.refused_attempts.specs.accept_counts.proofs.ReaderRuns.{Keeps, keeps_ticks, reader_of, view_at, state_at}
-use Rattle.seat_programs.specs.Rounds.{first_step}
+use Rattle.seat_programs.specs.LoopRounds.{first_step}
 
 -- P tells which codes clients store, W are the words of the table in the end, and New tells of which lives something is said
 module _ (p : Plan) (calls os : List ℕ) (in_os : (k o : ℕ) → get_elem? os k ≡ some o → o < p.operations) (Odd : List Taking → Type 0) (Lasts : Type 0) (ends : (n id : ℕ) → Ends n id Odd Lasts) (P : ℕ → Type 0) (gone : P 1009) (W : List ℕ) (New : ℕ → ℕ → Type 0) where

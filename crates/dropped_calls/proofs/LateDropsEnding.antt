@@ -6,34 +6,34 @@ use native.Mathlib.Decide.{dec_le}
 use lib.ListN.{get_elem?}
 use Rattle.seat_programs.specs.brpc_model.specs.Items.{Item}
 use Rattle.seat_programs.specs.brpc_model.specs.Operations.{Turn}
-use Rattle.sock_words.specs.Words.{vref_version}
+use Rattle.sock_words.specs.PackedWords.{vref_version}
 use Rattle.sock_words.specs.declared.plain.Plan.{Plan}
 use Rattle.sock_model.specs.declared.view.View.{View}
-use Rattle.sock_model.specs.Layout.{ref_index}
-use Rattle.refused_attempts.specs.Below.chain_steps.proofs.Lists.{at_some}
-use Rattle.seat_programs.specs.Calls.{DropPlace}
+use Rattle.sock_model.specs.SocketTableLayout.{ref_index}
+use Rattle.refused_attempts.specs.Below.chain_steps.proofs.TicketLists.{at_some}
+use Rattle.seat_programs.specs.TableSteps.{DropPlace}
 use Rattle.seat_programs.specs.Cores.{Core, SeatState}
 use Rattle.seat_programs.specs.Programs.{Program, Do}
 use Rattle.seat_programs.specs.Tasks.{plan_of}
 use Rattle.seat_programs.specs.Ticks.{Moment, AreAnswered, ticked, run}
-use Rattle.seat_programs.specs.Scripts.{IsRunWithCalls}
-use Rattle.refused_attempts.specs.Below.programs_allowed.specs.program_steps.specs.GoesOn.{GoesOn}
+use Rattle.seat_programs.specs.ScriptSetupToEnding.{IsRunWithCalls}
+use Rattle.refused_attempts.specs.Below.programs_allowed.specs.program_steps.specs.ProgramGoesOn.{GoesOn}
 use Rattle.seat_programs.specs.StepTables.{May}
-use Rattle.refused_attempts.specs.Below.programs_allowed.specs.program_steps.specs.Sound.{Sound, AreFitting, views_after, views_along}
-use Rattle.refused_attempts.specs.Below.programs_allowed.specs.program_steps.proofs.Cases.{goes_first}
+use Rattle.refused_attempts.specs.Below.programs_allowed.specs.program_steps.specs.SoundSeats.{Sound, AreFitting, views_after, views_along}
+use Rattle.refused_attempts.specs.Below.programs_allowed.specs.program_steps.proofs.TickCases.{goes_first}
 use Rattle.refused_attempts.specs.Below.programs_allowed.specs.sock_runs.proofs.LinksStay.{IsGiven, run_given}
 use Rattle.refused_attempts.specs.Below.programs_allowed.specs.sock_runs.proofs.LinkTicks.{RetriesGo}
-use Rattle.refused_attempts.specs.Below.programs_allowed.specs.sock_runs.proofs.Ticks.{sound_ticks}
-use Rattle.refused_attempts.specs.Below.programs_allowed.specs.program_walks.proofs.Whole.{views_closed, views_ended, closed_sound}
-use Rattle.refused_attempts.specs.Below.joint_runs.proofs.Runs.{AreMade, first_views}
-use Rattle.refused_attempts.specs.accept_counts.specs.Refused.{DidStep, DidAt, DidIn}
-use Rattle.refused_attempts.specs.accept_counts.proofs.Early.{start, go, fitting}
+use Rattle.refused_attempts.specs.Below.programs_allowed.specs.sock_runs.proofs.TicksKeepSeatsSound.{sound_ticks}
+use Rattle.refused_attempts.specs.Below.programs_allowed.specs.program_walks.proofs.WholeScriptSound.{views_closed, views_ended, closed_sound}
+use Rattle.refused_attempts.specs.Below.joint_runs.proofs.RunsOfBothTables.{AreMade, first_views}
+use Rattle.refused_attempts.specs.accept_counts.specs.RefusedOrDropped.{DidStep, DidAt, DidIn}
+use Rattle.refused_attempts.specs.accept_counts.proofs.EarlyClosedSockets.{start, go, fitting}
 use Rattle.dropped_calls.proofs.LateLives.{WasPast, Lives, lives_tell, lives_ticks}
 use Rattle.dropped_calls.proofs.LateLooks.{Mode, Idle, Writes}
 use Rattle.dropped_calls.proofs.LateRests.{none_stands, ended_idle, Any}
 use Rattle.dropped_calls.proofs.LateSeats.{Righted, rights_of, Stands, AllStand, Tells, stand_ticks}
-use Rattle.corr_core.proofs.Notes.{at_length}
-use Rattle.seat_programs.specs.Rounds.{first_step}
+use Rattle.corr_core.proofs.NoteSums.{at_length}
+use Rattle.seat_programs.specs.LoopRounds.{first_step}
 
 module _ (p : Plan) (base : Core) (L : ℕ → Type 0) where
   -- a life of before

@@ -6,16 +6,16 @@ use Rattle.sock_model.specs.declared.chain.Heading.{Heading}
 use Rattle.sock_model.specs.declared.view.View.{View}
 use Rattle.corr_core.specs.Word.{error_of, code_of}
 use Rattle.corr_core.specs.declared.marks.Plan.{Plan as IdPlan}
-use Rattle.corr_core.specs.Decisions.{WHOLE}
-use Rattle.refused_attempts.specs.Below.id_runs.specs.Held.{IdView}
+use Rattle.corr_core.specs.ErrorsThatEndCalls.{WHOLE}
+use Rattle.refused_attempts.specs.Below.id_runs.specs.HeldIdTokens.{IdView}
 use Rattle.refused_attempts.specs.Below.id_runs.specs.Goes.{SoundIds}
 use Rattle.sock_message.specs.Asked.{Asked}
 use Rattle.seat_programs.specs.Cores.{Core}
 use Rattle.seat_programs.specs.Ticks.{Moment}
-use Rattle.refused_attempts.specs.Below.programs_allowed.specs.program_steps.specs.Sound.{Sound}
-use Rattle.refused_attempts.specs.Below.outcome_stories.specs.Stories.{In}
-use Rattle.refused_attempts.specs.Below.call_stories.specs.Posts.{Post, posted_at}
-use Rattle.refused_attempts.specs.accept_counts.specs.Refused.{Deed, Charge, NoCharge, IsRefused, HasDropped, Doing, IsChargeOf, IsPostOf, IsDrop, ChargeFits, ChargeLaw}
+use Rattle.refused_attempts.specs.Below.programs_allowed.specs.program_steps.specs.SoundSeats.{Sound}
+use Rattle.refused_attempts.specs.Below.outcome_stories.specs.OperationStories.{In}
+use Rattle.refused_attempts.specs.Below.call_stories.specs.PostsOfRun.{Post, posted_at}
+use Rattle.refused_attempts.specs.accept_counts.specs.RefusedOrDropped.{Deed, Charge, NoCharge, IsRefused, HasDropped, Doing, IsChargeOf, IsPostOf, IsDrop, ChargeFits, ChargeLaw}
 use Rattle.refused_attempts.specs.Below.outcome_stories.proofs.HomeCalls.{AreCalls}
 use Rattle.refused_attempts.proofs.RefusedTicks.{Then}
 use Rattle.refused_attempts.proofs.RefusedPosts.{tick_posts}

@@ -4,40 +4,40 @@ use Rattle.std.specs.Prelude.{◌||◌, ◌&&◌}
 use Rattle.std.proofs.lemmas.Bool.{true≢false}
 use mathlib.Core.Option.{Option, none, some}
 use lib.ListN.{get_elem?}
-use Rattle.sock_words.specs.Words.{socket_id_version, socket_id_slot}
+use Rattle.sock_words.specs.PackedWords.{socket_id_version, socket_id_slot}
 use Rattle.sock_words.specs.declared.plain.Plan.{Plan}
 use Rattle.sock_model.specs.declared.view.View.{View}
-use Rattle.sock_model.specs.Layout.{open_index}
+use Rattle.sock_model.specs.SocketTableLayout.{open_index}
 use Rattle.corr_core.specs.Word.{code_of}
 use Rattle.corr_core.specs.declared.marks.Plan.{Plan as IdPlan}
 use Rattle.sock_message.specs.Asked.{Asked}
 use Rattle.seat_programs.specs.Asides.{Taking}
-use Rattle.seat_programs.specs.Calls.{LoadCode}
+use Rattle.seat_programs.specs.TableSteps.{LoadCode}
 use Rattle.seat_programs.specs.Cores.{Core, SeatState}
 use Rattle.seat_programs.specs.Ticks.{Moment, AreAnswered, IsAnswered, quiet, ticked, run}
-use Rattle.refused_attempts.specs.Below.programs_allowed.specs.program_steps.specs.Sound.{Sound, AreFitting, IsFitting, views_after, views_along}
+use Rattle.refused_attempts.specs.Below.programs_allowed.specs.program_steps.specs.SoundSeats.{Sound, AreFitting, IsFitting, views_after, views_along}
 use Rattle.refused_attempts.specs.Below.programs_allowed.specs.sock_runs.proofs.LinkTicks.{RetriesGo}
 use Rattle.refused_attempts.specs.Below.programs_allowed.specs.program_walks.proofs.OpensStay.{run_word}
 use Rattle.refused_attempts.specs.Below.programs_allowed.specs.program_walks.proofs.Recorded.{Recorded, recorded_ticks}
-use Rattle.refused_attempts.specs.Below.programs_allowed.specs.sock_runs.proofs.Ticks.{sound_ticks}
-use Rattle.refused_attempts.specs.Below.outcome_stories.specs.Stories.{In}
+use Rattle.refused_attempts.specs.Below.programs_allowed.specs.sock_runs.proofs.TicksKeepSeatsSound.{sound_ticks}
+use Rattle.refused_attempts.specs.Below.outcome_stories.specs.OperationStories.{In}
 use Rattle.refused_attempts.specs.Below.outcome_stories.proofs.Members.{all_in}
-use Rattle.refused_attempts.specs.Below.outcome_causes.proofs.Plain.{in_left, in_right, in_both}
+use Rattle.refused_attempts.specs.Below.outcome_causes.proofs.PlainOutcomeCauses.{in_left, in_right, in_both}
 use Rattle.refused_attempts.specs.Below.call_stories.specs.Decided.{posted_by, is_late_step, late_at, late_in, posted_behind}
-use Rattle.refused_attempts.specs.Below.call_stories.specs.Posts.{Post, posted_at}
-use Rattle.refused_attempts.specs.accept_counts.specs.Counts.{AreLabelled}
-use Rattle.refused_attempts.specs.accept_counts.specs.Refused.{Deed, DidStep, Doing, DidAt, DidIn, ChargeLaw, AllWouldOwn}
+use Rattle.refused_attempts.specs.Below.call_stories.specs.PostsOfRun.{Post, posted_at}
+use Rattle.refused_attempts.specs.accept_counts.specs.AttemptCounts.{AreLabelled}
+use Rattle.refused_attempts.specs.accept_counts.specs.RefusedOrDropped.{Deed, DidStep, Doing, DidAt, DidIn, ChargeLaw, AllWouldOwn}
 use Rattle.refused_attempts.specs.accept_counts.proofs.Closers.{Ends}
 use Rattle.dropped_calls.proofs.LateDropsCodes.{Stored, stored_more, LateLaw, late_more, late_ticks, found_stored}
 use Rattle.refused_attempts.proofs.RefusedPosts.{all_done}
 use Rattle.dropped_calls.proofs.LateDropsPosts.{DropPost, tick_drop}
-use Rattle.refused_attempts.specs.accept_counts.proofs.Readings.{found_by}
+use Rattle.refused_attempts.specs.accept_counts.proofs.ReadingsAtTicks.{found_by}
 use Rattle.refused_attempts.proofs.RefusedRuns.{law_more}
 use Rattle.refused_attempts.proofs.RefusedTicks.{charge_ticks}
-use Rattle.refused_attempts.specs.accept_counts.proofs.Runs.{Lawful_}
-use Rattle.refused_attempts.specs.accept_counts.proofs.Ticks.{label_ticks}
+use Rattle.refused_attempts.specs.accept_counts.proofs.RunsKeepAttemptLaw.{Lawful_}
+use Rattle.refused_attempts.specs.accept_counts.proofs.TicksKeepAttemptLaw.{label_ticks}
 use Rattle.refused_attempts.specs.accept_counts.proofs.PostSeats.{of_tick}
-use Rattle.seat_programs.specs.Rounds.{first_step}
+use Rattle.seat_programs.specs.LoopRounds.{first_step}
 use Rattle.refused_attempts.specs.Below.outcome_stories.specs.Facts.{shown_in}
 
 -- ## Lists of posts

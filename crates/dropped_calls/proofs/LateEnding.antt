@@ -5,49 +5,49 @@ use mathlib.Core.Option.{none, some, some-injective, some-ne-none}
 use native.Mathlib.Decide.{ℕ_discrete}
 use lib.ListN.{get_elem?}
 use Rattle.atomic_table.proofs.Lists.{at_set, set_else}
-use Rattle.sock_words.specs.Words.{socket_id, socket_id_version, socket_id_slot, vref_version, vref_nref, NO_SOCKET}
+use Rattle.sock_words.specs.PackedWords.{socket_id, socket_id_version, socket_id_slot, vref_version, vref_nref, NO_SOCKET}
 use Rattle.sock_words.specs.declared.plain.Plan.{Plan}
 use Rattle.sock_model.specs.declared.view.View.{View}
-use Rattle.sock_model.specs.Layout.{ref_index, open_index}
-use Rattle.sock_model.specs.Slots.{count, live}
+use Rattle.sock_model.specs.SocketTableLayout.{ref_index, open_index}
+use Rattle.sock_model.specs.SocketSlotLaw.{count, live}
 use Rattle.sock_model.specs.References.{slot_facts}
-use Rattle.sock_model.specs.Weights.{is_born, is_linked}
-use Rattle.refused_attempts.specs.Below.slot_steps.proofs.Numbers.{life-in, life_is}
-use Rattle.refused_attempts.specs.Below.chain_steps.proofs.Lists.{at_some}
-use Rattle.refused_attempts.specs.Below.sock_steps.proofs.Places.{counts}
-use Rattle.refused_attempts.specs.Below.sock_steps.proofs.Quiet.{either_way}
+use Rattle.sock_model.specs.MarkWeights.{is_born, is_linked}
+use Rattle.refused_attempts.specs.Below.slot_steps.proofs.RuleNumbers.{life-in, life_is}
+use Rattle.refused_attempts.specs.Below.chain_steps.proofs.TicketLists.{at_some}
+use Rattle.refused_attempts.specs.Below.sock_steps.proofs.LifeLinkSlotPlaces.{counts}
+use Rattle.refused_attempts.specs.Below.sock_steps.proofs.SumsAsMarksChange.{either_way}
 use Rattle.seat_programs.specs.brpc_model.specs.Items.{Item}
 use Rattle.seat_programs.specs.brpc_model.specs.Operations.{Turn}
-use Rattle.seat_programs.specs.Calls.{TableStep, SetOdd}
-use Rattle.seat_programs.specs.Heads.{Retry}
+use Rattle.seat_programs.specs.TableSteps.{TableStep, SetOdd}
+use Rattle.seat_programs.specs.LoopHeads.{Retry}
 use Rattle.seat_programs.specs.Programs.{Program, Do, Rest, LAST_VERSION, recycle, release}
-use Rattle.seat_programs.specs.Clients.{ending_of}
+use Rattle.seat_programs.specs.ClientProgram.{ending_of}
 use Rattle.seat_programs.specs.Cores.{Core, SeatState, found_at, words_after, homes_after, resolved, next_step, waiting_at}
 use Rattle.seat_programs.specs.StepTables.{word_of, word_after}
 use Rattle.seat_programs.specs.Tasks.{opens, plan_of}
 use Rattle.seat_programs.specs.Ticks.{Moment, IsAnswered, AreAnswered, quiet, ticked, run}
-use Rattle.seat_programs.specs.Scripts.{played, IsRunWithCalls}
+use Rattle.seat_programs.specs.ScriptSetupToEnding.{played, IsRunWithCalls}
 use Rattle.seat_programs.specs.StepTables.{row, hand_at}
-use Rattle.refused_attempts.specs.Below.programs_allowed.specs.program_steps.specs.Sound.{state, Sound, IsFitting, AreFitting, views_after, views_along}
-use Rattle.refused_attempts.specs.Below.programs_allowed.specs.sock_runs.proofs.Along.{seat_rests}
-use Rattle.refused_attempts.specs.Below.programs_allowed.specs.program_steps.proofs.Bounds.{law, lives_le}
-use Rattle.refused_attempts.specs.Below.programs_allowed.specs.program_steps.proofs.Cases.{ComesNext, with_rights, tick_keeps_marks}
-use Rattle.refused_attempts.specs.Below.programs_allowed.specs.program_walks.proofs.Closing.{Fails, fails_ending, what_fails}
+use Rattle.refused_attempts.specs.Below.programs_allowed.specs.program_steps.specs.SoundSeats.{state, Sound, IsFitting, AreFitting, views_after, views_along}
+use Rattle.refused_attempts.specs.Below.programs_allowed.specs.sock_runs.proofs.SoundAlongRuns.{seat_rests}
+use Rattle.refused_attempts.specs.Below.programs_allowed.specs.program_steps.proofs.SlotWordBounds.{law, lives_le}
+use Rattle.refused_attempts.specs.Below.programs_allowed.specs.program_steps.proofs.TickCases.{ComesNext, with_rights, tick_keeps_marks}
+use Rattle.refused_attempts.specs.Below.programs_allowed.specs.program_walks.proofs.LivesFailedByEnding.{Fails, fails_ending, what_fails}
 use Rattle.refused_attempts.specs.Below.programs_allowed.specs.sock_runs.proofs.LinkNotes.{links_only}
 use Rattle.refused_attempts.specs.Below.programs_allowed.specs.sock_runs.proofs.LinksStay.{IsGiven, run_given}
 use Rattle.refused_attempts.specs.Below.programs_allowed.specs.sock_runs.proofs.LinkTicks.{RetriesGo}
-use Rattle.refused_attempts.specs.Below.programs_allowed.specs.sock_runs.proofs.Notes.{bears}
+use Rattle.refused_attempts.specs.Below.programs_allowed.specs.sock_runs.proofs.NotesOfSteps.{bears}
 use Rattle.refused_attempts.specs.Below.programs_allowed.specs.sock_runs.proofs.Quiets.{run_seats}
 use Rattle.refused_attempts.specs.Below.programs_allowed.specs.program_walks.proofs.Records.{stores, next_stores, opens_same}
 use Rattle.refused_attempts.specs.Below.programs_allowed.specs.program_walks.proofs.Recorded.{Recorded, IsPending}
-use Rattle.refused_attempts.specs.Below.programs_allowed.specs.sock_runs.proofs.Ticks.{sound_ticks}
-use Rattle.refused_attempts.specs.Below.programs_allowed.specs.sock_runs.proofs.Versions.{versions_on, odd_past}
-use Rattle.refused_attempts.specs.Below.programs_allowed.specs.program_walks.proofs.Whole.{closing_of, views_played, views_closed, end_answered, closing_sound, rested_ahead, recorded_closing, closed_ahead}
-use Rattle.refused_attempts.specs.Below.joint_runs.proofs.Runs.{AreMade, first_views}
-use Rattle.refused_attempts.specs.accept_counts.proofs.Early.{start, go, fitting}
-use Rattle.refused_attempts.specs.accept_counts.proofs.Rests.{many, aside}
-use Rattle.corr_core.proofs.Notes.{at_length}
-use Rattle.seat_programs.specs.Rounds.{first_step}
+use Rattle.refused_attempts.specs.Below.programs_allowed.specs.sock_runs.proofs.TicksKeepSeatsSound.{sound_ticks}
+use Rattle.refused_attempts.specs.Below.programs_allowed.specs.sock_runs.proofs.SlotVersionsRise.{versions_on, odd_past}
+use Rattle.refused_attempts.specs.Below.programs_allowed.specs.program_walks.proofs.WholeScriptSound.{closing_of, views_played, views_closed, end_answered, closing_sound, rested_ahead, recorded_closing, closed_ahead}
+use Rattle.refused_attempts.specs.Below.joint_runs.proofs.RunsOfBothTables.{AreMade, first_views}
+use Rattle.refused_attempts.specs.accept_counts.proofs.EarlyClosedSockets.{start, go, fitting}
+use Rattle.refused_attempts.specs.accept_counts.proofs.RestsWithoutCalls.{many, aside}
+use Rattle.corr_core.proofs.NoteSums.{at_length}
+use Rattle.seat_programs.specs.LoopRounds.{first_step}
 
 -- a life that was given a link was born
 pub given_born : (p : Plan) (c : Core) (vs : List View) → Sound p c vs → (i h k : ℕ) → i < p.slots → IsGiven c vs i h k → 0 < count (is_born h) (slot_facts (state c vs) i)
@@ -207,7 +207,7 @@ module _ (script : List Item) (made : AreMade script) (turns : List Turn) (core 
   answered : AreAnswered (plan_of script) (closing_of script turns core is) (replicate is.last (quiet 0))
   answered = end_answered script made.are (first_views script) (start script made turns core is) (go script made turns core is) turns core is (fitting script made turns core is)
 
-  recorded : Recorded (plan_of script) (Rattle.refused_attempts.specs.Below.programs_allowed.specs.program_walks.proofs.Whole.IsListed script) (closing_of script turns core is) (views_played script turns core is (first_views script))
+  recorded : Recorded (plan_of script) (Rattle.refused_attempts.specs.Below.programs_allowed.specs.program_walks.proofs.WholeScriptSound.IsListed script) (closing_of script turns core is) (views_played script turns core is (first_views script))
   recorded = recorded_closing script made.are (first_views script) (start script made turns core is) (go script made turns core is) turns core is (fitting script made turns core is)
 
   -- seat 0 as it begins the ending

@@ -3,35 +3,35 @@ use Rattle.std.proofs.Common.{◌≡◌, ℕ, ◌<◌, ◌≤◌, ◌⊎◌, Lis
 use Rattle.std.specs.Prelude as std
 use mathlib.Core.Option.{Option, none, some}
 use lib.ListN.{get_elem?}
-use Rattle.sock_words.specs.Words.{socket_id_version, socket_id_slot, vref_version}
+use Rattle.sock_words.specs.PackedWords.{socket_id_version, socket_id_slot, vref_version}
 use Rattle.sock_words.specs.declared.plain.Plan.{Plan}
 use Rattle.sock_model.specs.declared.view.Hand.{Hand}
 use Rattle.sock_model.specs.declared.view.View.{View}
-use Rattle.sock_model.specs.Layout.{ref_index, link_index}
-use Rattle.sock_model.specs.Weights.{is_linked}
+use Rattle.sock_model.specs.SocketTableLayout.{ref_index, link_index}
+use Rattle.sock_model.specs.MarkWeights.{is_linked}
 use Rattle.sock_model.specs.SlotRows.{marks_of}
-use Rattle.refused_attempts.specs.Below.sock_steps.proofs.Places.{counts}
-use Rattle.refused_attempts.specs.Below.sock_steps.proofs.Quiet.{either_way}
+use Rattle.refused_attempts.specs.Below.sock_steps.proofs.LifeLinkSlotPlaces.{counts}
+use Rattle.refused_attempts.specs.Below.sock_steps.proofs.SumsAsMarksChange.{either_way}
 use Rattle.corr_core.specs.Word.{parts}
-use Rattle.corr_core.specs.Decisions.{ends_call}
-use Rattle.seat_programs.specs.Calls.{TableStep, CreateLife}
-use Rattle.seat_programs.specs.Drops.{call_in}
-use Rattle.seat_programs.specs.Heads.{Head, Exit, Decides, Locks}
+use Rattle.corr_core.specs.ErrorsThatEndCalls.{ends_call}
+use Rattle.seat_programs.specs.TableSteps.{TableStep, CreateLife}
+use Rattle.seat_programs.specs.SlotFreedByDrop.{call_in}
+use Rattle.seat_programs.specs.LoopHeads.{Head, Exit, Decides, Locks}
 use Rattle.seat_programs.specs.Programs.{Program, Do, Write, Round}
-use Rattle.seat_programs.specs.Rounds.{round, first_step}
-use Rattle.seat_programs.specs.Sends.{block}
+use Rattle.seat_programs.specs.LoopRounds.{round, first_step}
+use Rattle.seat_programs.specs.SendAndWritePrograms.{block}
 use Rattle.seat_programs.specs.Writings.{Writing, Puts}
 use Rattle.seat_programs.specs.Cores.{Core, SeatState, found_at, words_after, homes_after}
 use Rattle.seat_programs.specs.StepTables.{word_of, word_after}
 use Rattle.seat_programs.specs.Ticks.{Moment, IsAnswered, ticked}
 use Rattle.seat_programs.specs.StepTables.{row, hand_at}
-use Rattle.refused_attempts.specs.Below.programs_allowed.specs.program_steps.specs.Sound.{state, Sound, IsFitting, views_after}
-use Rattle.refused_attempts.specs.Below.programs_allowed.specs.program_steps.proofs.Cases.{with_rights, tick_keeps_marks}
+use Rattle.refused_attempts.specs.Below.programs_allowed.specs.program_steps.specs.SoundSeats.{state, Sound, IsFitting, views_after}
+use Rattle.refused_attempts.specs.Below.programs_allowed.specs.program_steps.proofs.TickCases.{with_rights, tick_keeps_marks}
 use Rattle.refused_attempts.specs.Below.programs_allowed.specs.sock_runs.proofs.LinkNotes.{links_only, birth_links}
 use Rattle.refused_attempts.specs.Below.programs_allowed.specs.sock_runs.proofs.LinksStay.{IsGiven, finds_given}
-use Rattle.refused_attempts.specs.Below.programs_allowed.specs.sock_runs.proofs.Versions.{versions_on, look_holds}
+use Rattle.refused_attempts.specs.Below.programs_allowed.specs.sock_runs.proofs.SlotVersionsRise.{versions_on, look_holds}
 use Rattle.refused_attempts.specs.Below.outcome_stories.specs.Facts.{born_of, born_at}
-use Rattle.refused_attempts.specs.Below.outcome_stories.specs.Stories.{In}
+use Rattle.refused_attempts.specs.Below.outcome_stories.specs.OperationStories.{In}
 use Rattle.dropped_calls.proofs.LateSeats.{Tells}
 
 -- ## Births

@@ -3,25 +3,25 @@ use Rattle.std.proofs.Common.{◌≡◌, ℕ, zero, suc, ◌+◌, ◌/◌, ◌%�
 use Rattle.std.proofs.lemmas.Bool.{true≢false}
 use Rattle.std.specs.Prelude.{if◌then◌else◌}
 use mathlib.Core.Option.{none}
-use Rattle.sock_words.specs.Words.{socket_id_version, socket_id_slot, vref_version, at_word, IDLE, id_slot, id_first}
+use Rattle.sock_words.specs.PackedWords.{socket_id_version, socket_id_slot, vref_version, at_word, IDLE, id_slot, id_first}
 use Rattle.sock_words.specs.declared.outcome.Outcome.TheVariants.{Unopened, Gone, Full}
 use Rattle.sock_model.specs.declared.chain.Heading.{Heading}
 use Rattle.sock_model.specs.Entries.{ticket_of}
-use Rattle.refused_attempts.specs.Below.sock_steps.proofs.Quiet.{either_way}
+use Rattle.refused_attempts.specs.Below.sock_steps.proofs.SumsAsMarksChange.{either_way}
 use Rattle.sock_message.specs.Asked.{Asked, frame_of}
 use Rattle.seat_programs.specs.declared.task.Op.{Op}
 use Rattle.seat_programs.specs.declared.task.Task.{Task}
 use Rattle.seat_programs.specs.declared.task.Sizes.{Sizes}
-use Rattle.seat_programs.specs.Calls.{TableStep, LookWord, FindLink, ClaimRequest, SwapHead, EmptyHead}
+use Rattle.seat_programs.specs.TableSteps.{TableStep, LookWord, FindLink, ClaimRequest, SwapHead, EmptyHead}
 use Rattle.seat_programs.specs.Asides.{StoreAt}
-use Rattle.seat_programs.specs.Heads.{Head, Exit, Retry, Posts, Unlocks, Decides, Opens, Posting, Unlocking, Deciding}
+use Rattle.seat_programs.specs.LoopHeads.{Head, Exit, Retry, Posts, Unlocks, Decides, Opens, Posting, Unlocking, Deciding}
 use Rattle.seat_programs.specs.Programs.{Program, Do, Say, Sent, Write, Aside, Round, Keep, Retries, release, add_reference}
-use Rattle.seat_programs.specs.Posts.{post}
-use Rattle.seat_programs.specs.Readers.{opens_round, reader}
-use Rattle.seat_programs.specs.Sends.{block, heading_of, accept, claim_from, start, send}
-use Rattle.seat_programs.specs.Attempts.{claims_from, heading_for, attempt, retry}
-use Rattle.seat_programs.specs.Rounds.{round, first_step}
-use Rattle.seat_programs.specs.Clients.{HeldLife, operation, client_from}
+use Rattle.seat_programs.specs.PostPrograms.{post}
+use Rattle.seat_programs.specs.ReaderProgram.{opens_round, reader}
+use Rattle.seat_programs.specs.SendAndWritePrograms.{block, heading_of, accept, claim_from, start, send}
+use Rattle.seat_programs.specs.CallAndRetryPrograms.{claims_from, heading_for, attempt, retry}
+use Rattle.seat_programs.specs.LoopRounds.{round, first_step}
+use Rattle.seat_programs.specs.ClientProgram.{HeldLife, operation, client_from}
 use Rattle.seat_programs.specs.Cores.{resolved, next_step}
 use Rattle.refused_attempts.specs.Below.programs_allowed.specs.program_steps.specs.AtSteps.{Asks, AtSteps, asks_words}
 use Rattle.refused_attempts.specs.Below.programs_allowed.specs.program_steps.proofs.AtCalls.{every_exit}

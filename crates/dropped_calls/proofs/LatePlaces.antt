@@ -7,27 +7,27 @@ use lib.ListN.{get_elem?}
 use Rattle.sock_words.specs.declared.plain.Plan.{Plan}
 use Rattle.sock_model.specs.declared.chain.Right.{Right}
 use Rattle.sock_model.specs.declared.view.View.{View}
-use Rattle.sock_model.specs.Layout.{place_index}
-use Rattle.seat_programs.specs.Calls.{TableStep, StorePlace, DropPlace}
+use Rattle.sock_model.specs.SocketTableLayout.{place_index}
+use Rattle.seat_programs.specs.TableSteps.{TableStep, StorePlace, DropPlace}
 use Rattle.seat_programs.specs.Cores.{Core, found_at, words_after}
 use Rattle.seat_programs.specs.TableWords.{PlaceOf}
 use Rattle.seat_programs.specs.StepTables.{May, table_word, word_of, word_after}
 use Rattle.seat_programs.specs.Ticks.{Moment, IsAnswered, AreAnswered, ticked, run}
-use Rattle.refused_attempts.specs.Below.programs_allowed.specs.program_steps.specs.Sound.{state, Sound, AreFew, MOST_PLACES, IsFitting, AreFitting, views_after, views_along}
-use Rattle.refused_attempts.specs.Below.programs_allowed.specs.program_steps.proofs.Cases.{tick_keeps_marks}
+use Rattle.refused_attempts.specs.Below.programs_allowed.specs.program_steps.specs.SoundSeats.{state, Sound, AreFew, MOST_PLACES, IsFitting, AreFitting, views_after, views_along}
+use Rattle.refused_attempts.specs.Below.programs_allowed.specs.program_steps.proofs.TickCases.{tick_keeps_marks}
 use Rattle.refused_attempts.specs.Below.programs_allowed.specs.program_steps.proofs.WordFrame.{word_left}
 use Rattle.refused_attempts.specs.Below.programs_allowed.specs.sock_runs.proofs.ChainTicks.{word_inside}
-use Rattle.refused_attempts.specs.Below.programs_allowed.specs.sock_runs.proofs.Few.{places_small}
+use Rattle.refused_attempts.specs.Below.programs_allowed.specs.sock_runs.proofs.FewAcceptedMessages.{places_small}
 use Rattle.refused_attempts.specs.Below.programs_allowed.specs.sock_runs.proofs.LinkTicks.{RetriesGo}
-use Rattle.refused_attempts.specs.Below.programs_allowed.specs.sock_runs.proofs.Ticks.{sound_ticks}
-use Rattle.refused_attempts.specs.Below.joint_runs.proofs.Both.{AreBounded}
+use Rattle.refused_attempts.specs.Below.programs_allowed.specs.sock_runs.proofs.TicksKeepSeatsSound.{sound_ticks}
+use Rattle.refused_attempts.specs.Below.joint_runs.proofs.BothTablesSound.{AreBounded}
 use Rattle.refused_attempts.specs.Below.outcome_stories.specs.Facts.{born_at, shown_in}
-use Rattle.refused_attempts.specs.Below.outcome_stories.specs.Stories.{In}
-use Rattle.refused_attempts.specs.Below.outcome_causes.proofs.Plain.{in_left, in_right}
+use Rattle.refused_attempts.specs.Below.outcome_stories.specs.OperationStories.{In}
+use Rattle.refused_attempts.specs.Below.outcome_causes.proofs.PlainOutcomeCauses.{in_left, in_right}
 use Rattle.dropped_calls.proofs.LateLooks.{Mode, Writes}
 use Rattle.dropped_calls.proofs.LateSeats.{Righted, rights_of, Stands, AllStand, stand_ticks}
 use Rattle.dropped_calls.proofs.LateLives.{WasPast, Lives, lives_tell, lives_ticks}
-use Rattle.sock_words.specs.Words.{place_word}
+use Rattle.sock_words.specs.PackedWords.{place_word}
 
 module _ (p : Plan) (base : Core) (L : ℕ → Type 0) where
   -- a place word tells of a message of such a link

@@ -4,7 +4,7 @@ use Rattle.std.specs.List.{AllByRecursion}
 use mathlib.Core.Option.{some}
 use lib.ListN.{get_elem?}
 use Rattle.atomic_table.proofs.Lists.{at_set, set_again}
-use Rattle.sock_words.specs.Words.{socket_id_version, socket_id_slot, vref_version, IDLE, UNCONNECTED}
+use Rattle.sock_words.specs.PackedWords.{socket_id_version, socket_id_slot, vref_version, IDLE, UNCONNECTED}
 use Rattle.sock_words.specs.declared.plain.Plan.{Plan}
 use Rattle.sock_io.specs.declared.link.Put.{Put}
 use Rattle.sock_io.specs.declared.link.Put.TheVariants.{Took, Again, Failed}
@@ -16,11 +16,11 @@ use Rattle.sock_model.specs.declared.home.Home.{Home}
 use Rattle.sock_model.specs.declared.view.Hand.{Hand}
 use Rattle.sock_model.specs.declared.view.View.{View}
 use Rattle.sock_model.specs.ChainRows.{with_claim, with_right, without_right, queued, righted, turned_right, placed_right, dropped_right, taken_right, put_right, ready_claim, filled_claim}
-use Rattle.sock_model.specs.Layout.{ref_index}
+use Rattle.sock_model.specs.SocketTableLayout.{ref_index}
 use Rattle.sock_model.specs.SlotRows.{looked, met_link}
-use Rattle.refused_attempts.specs.Below.sock_steps.proofs.Quiet.{either_way}
-use Rattle.seat_programs.specs.Calls.{TableStep, LookWord, ClaimRequest, PutMessage, Unconnect, SwapHead, EmptyHead, ReadNext, ReverseNext, FreeRequest, StorePlace, DropPlace}
-use Rattle.seat_programs.specs.Heads.{Retry}
+use Rattle.refused_attempts.specs.Below.sock_steps.proofs.SumsAsMarksChange.{either_way}
+use Rattle.seat_programs.specs.TableSteps.{TableStep, LookWord, ClaimRequest, PutMessage, Unconnect, SwapHead, EmptyHead, ReadNext, ReverseNext, FreeRequest, StorePlace, DropPlace}
+use Rattle.seat_programs.specs.LoopHeads.{Retry}
 use Rattle.seat_programs.specs.Programs.{Program, Do}
 use Rattle.seat_programs.specs.Cores.{Core, SeatState, resolved, next_step, found_at, waiting_at, hand_after, lies_at, others_of, link_place}
 use Rattle.seat_programs.specs.StepTables.{word_of}
@@ -33,11 +33,11 @@ use Rattle.seat_programs.specs.StepsOfSlots.{looked_clean}
 use Rattle.seat_programs.specs.StepsOfPlaces.{placed_next, dropped_next}
 use Rattle.seat_programs.specs.StepsOfLinks.{link_away, link_home_again, took_bytes}
 use Rattle.seat_programs.specs.StepTables.{May}
-use Rattle.refused_attempts.specs.Below.programs_allowed.specs.program_steps.specs.Sound.{Sound, IsFitting, views_after}
+use Rattle.refused_attempts.specs.Below.programs_allowed.specs.program_steps.specs.SoundSeats.{Sound, IsFitting, views_after}
 use Rattle.refused_attempts.specs.Below.programs_allowed.specs.program_steps.proofs.Leaves.{claim_way, right_way, claims_stay, rights_stay}
-use Rattle.refused_attempts.specs.Below.programs_allowed.specs.program_steps.proofs.Cases.{tick_cases}
+use Rattle.refused_attempts.specs.Below.programs_allowed.specs.program_steps.proofs.TickCases.{tick_cases}
 use Rattle.dropped_calls.proofs.LateLooks.{Mode, Idle, Saw, Claims, Writes, IsCalm, seen, Looks, looks_first, looks_next}
-use Rattle.refused_attempts.specs.Below.outcome_ticks.proofs.Accepting.{IsNoSwap}
+use Rattle.refused_attempts.specs.Below.outcome_ticks.proofs.ClaimAndAcceptedMessages.{IsNoSwap}
 
 -- ## Claims and rights
 

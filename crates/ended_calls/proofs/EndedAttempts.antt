@@ -6,13 +6,13 @@ use Rattle.std.specs.List.{AllByRecursion}
 use mathlib.Core.Option.{Option, none, some}
 use lib.ListN.{get_elem?}
 use Rattle.sock_words.specs.declared.plain.Plan.{Plan}
-use Rattle.sock_words.specs.Words.{at_word, at_word_first, at_word_slot, at_word_link, at_word_attempt, call_id, id_slot, id_first}
+use Rattle.sock_words.specs.PackedWords.{at_word, at_word_first, at_word_slot, at_word_link, at_word_attempt, call_id, id_slot, id_first}
 use Rattle.corr_core.specs.Word.{error_of}
 use Rattle.corr_core.specs.declared.marks.Plan.{Plan as IdPlan}
 use Rattle.seat_programs.specs.brpc_model.specs.Items.{Item}
 use Rattle.seat_programs.specs.brpc_model.specs.Operations.{Turn}
 use Rattle.seat_programs.specs.brpc_model.specs.Script.{script_of}
-use Rattle.seat_programs.specs.brpc_model.specs.Stream.{stream}
+use Rattle.seat_programs.specs.brpc_model.specs.FrameStream.{stream}
 use Rattle.sock_message.specs.Asked.{Asked, name_of}
 use Rattle.seat_programs.specs.declared.task.Task.{Task}
 use Rattle.seat_programs.specs.Asides.{StoreAt}
@@ -20,36 +20,36 @@ use Rattle.seat_programs.specs.Programs.{Program, Aside}
 use Rattle.seat_programs.specs.Cores.{Core, SeatState}
 use Rattle.seat_programs.specs.Ticks.{Moment, quiet, ticked}
 use Rattle.seat_programs.specs.Tasks.{opens, plan_of, id_plan_of}
-use Rattle.seat_programs.specs.Scripts.{all_tasks, opened, set_up, IsRunWithCalls}
-use Rattle.seat_programs.specs.Told.{AreTasks, Made}
-use Rattle.seat_programs.specs.ToldCalls.{Accepted, Fixed, StandsOn, MayBeOn, GaveFault}
-use Rattle.attempted_calls.specs.Below.programs_allowed.specs.program_walks.proofs.Whole.{closing_of, views_ended, ended_sound, end_rests}
+use Rattle.seat_programs.specs.ScriptSetupToEnding.{all_tasks, opened, set_up, IsRunWithCalls}
+use Rattle.seat_programs.specs.Explained.{AreTasks, Made}
+use Rattle.seat_programs.specs.ExplainedCalls.{Accepted, Fixed, StandsOn, MayBeOn, GaveFault}
+use Rattle.attempted_calls.specs.Below.programs_allowed.specs.program_walks.proofs.WholeScriptSound.{closing_of, views_ended, ended_sound, end_rests}
 use Rattle.attempted_calls.specs.Below.outcome_stories.specs.Explains.{is_plain}
-use Rattle.attempted_calls.specs.Below.outcome_stories.specs.Kept.{IsSpoken}
+use Rattle.attempted_calls.specs.Below.outcome_stories.specs.KeptStory.{IsSpoken}
 use Rattle.attempted_calls.specs.Below.outcome_stories.specs.PlainTasks.{told_tasks_of}
-use Rattle.attempted_calls.specs.Below.outcome_stories.specs.Stories.{In}
+use Rattle.attempted_calls.specs.Below.outcome_stories.specs.OperationStories.{In}
 use Rattle.attempted_calls.specs.Below.outcome_ticks.proofs.Lifted.{up, made_up}
 use Rattle.attempted_calls.specs.Below.outcome_stories.proofs.Members.{in_contains, contains_in}
-use Rattle.attempted_calls.specs.Below.outcome_causes.proofs.Plain.{in_both}
-use Rattle.attempted_calls.specs.Below.outcome_ticks.proofs.Tasks.{one_task}
-use Rattle.attempted_calls.specs.Below.joint_runs.proofs.Runs.{AreMade}
-use Rattle.attempted_calls.specs.Below.call_owing.specs.Lives.{ClosesInRun}
-use Rattle.attempted_calls.specs.Below.run_theorems.proofs.Gave.{gave_heard}
-use Rattle.attempted_calls.specs.Below.call_stories.specs.Posts.{Post}
-use Rattle.attempted_calls.specs.accept_counts.specs.Counts.{AreLabelled}
+use Rattle.attempted_calls.specs.Below.outcome_causes.proofs.PlainOutcomeCauses.{in_both}
+use Rattle.attempted_calls.specs.Below.outcome_ticks.proofs.TableTasksDistinct.{one_task}
+use Rattle.attempted_calls.specs.Below.joint_runs.proofs.RunsOfBothTables.{AreMade}
+use Rattle.attempted_calls.specs.Below.call_owing.specs.LivesOfLinks.{ClosesInRun}
+use Rattle.attempted_calls.specs.Below.run_theorems.proofs.GaveTakeByTake.{gave_heard}
+use Rattle.attempted_calls.specs.Below.call_stories.specs.PostsOfRun.{Post}
+use Rattle.attempted_calls.specs.accept_counts.specs.AttemptCounts.{AreLabelled}
 use Rattle.attempted_calls.specs.accept_counts.specs.EndedCalls.{Store, stores_by, stored_at, stores_of_run, reader_posts_of_run, AreStoredOnce, EndedSo, IsEndPost}
 use Rattle.attempted_calls.specs.accept_counts.proofs.Apart as apart
-use Rattle.attempted_calls.specs.sent_once.proofs.Beside.{gave_of_run}
-use Rattle.attempted_calls.specs.accept_counts.proofs.Runs.{AreLabelledIn, IsCallOf, end_law}
-use Rattle.attempted_calls.specs.sent_once.proofs.Sends.{owed, orders_of_run, narrow, opening_bare}
+use Rattle.attempted_calls.specs.sent_once.proofs.OtherTasksBesideCalls.{gave_of_run}
+use Rattle.attempted_calls.specs.accept_counts.proofs.RunsKeepAttemptLaw.{AreLabelledIn, IsCallOf, end_law}
+use Rattle.attempted_calls.specs.sent_once.proofs.SocketOperationsTold.{owed, orders_of_run, narrow, opening_bare}
 use Rattle.attempted_calls.proofs.EndedLives.{at_made, all_over}
 use Rattle.attempted_calls.proofs.EndedNamed.{tasks_are, EndNamed, end_named}
 use Rattle.attempted_calls.proofs.EndedNames.{StoredFor}
 use Rattle.ended_calls.proofs.EndedWhole.{run_end_posts}
-use Rattle.attempted_calls.specs.Below.call_stories.proofs.Posts.{id_back}
+use Rattle.attempted_calls.specs.Below.call_stories.proofs.PostLoopCauses.{id_back}
 use Rattle.attempted_calls.specs.accept_counts.proofs.Grounds.{setting, grounds}
 use Rattle.attempted_calls.specs.Below.owned_ids.proofs.OpensStored.{place_at}
-use Rattle.seat_programs.specs.Rounds.{first_step}
+use Rattle.seat_programs.specs.LoopRounds.{first_step}
 use Rattle.attempted_calls.specs.Below.outcome_stories.specs.Facts.{shown_in}
 
 -- ## Numbers

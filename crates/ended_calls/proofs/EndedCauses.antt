@@ -10,19 +10,19 @@ use Rattle.seat_programs.specs.declared.task.Op.TheVariants as ops
 use Rattle.seat_programs.specs.declared.task.Task.{Task}
 use Rattle.seat_programs.specs.Cores.{Core}
 use Rattle.seat_programs.specs.Tasks.{plan_of}
-use Rattle.seat_programs.specs.Scripts.{all_tasks, IsRunWithCalls}
-use Rattle.seat_programs.specs.Told.{IsTask}
-use Rattle.seat_programs.specs.ToldCalls.{MayBeOn, IsFailing}
-use Rattle.attempted_calls.specs.Below.outcome_stories.specs.Stories.{In}
+use Rattle.seat_programs.specs.ScriptSetupToEnding.{all_tasks, IsRunWithCalls}
+use Rattle.seat_programs.specs.Explained.{IsTask}
+use Rattle.seat_programs.specs.ExplainedCalls.{MayBeOn, IsFailing}
+use Rattle.attempted_calls.specs.Below.outcome_stories.specs.OperationStories.{In}
 use Rattle.attempted_calls.specs.Below.outcome_stories.proofs.Members.{contains_in}
-use Rattle.attempted_calls.specs.Below.outcome_ticks.proofs.Tasks.{one_task}
-use Rattle.attempted_calls.specs.Below.joint_runs.proofs.Runs.{AreMade}
-use Rattle.attempted_calls.specs.Below.call_owing.specs.Lives.{ClosesInRun}
-use Rattle.attempted_calls.specs.Below.call_stories.specs.Lists.{early_of_run, closed_of_run, silent_of_run}
-use Rattle.attempted_calls.specs.Below.call_stories.specs.Posts.{Post}
+use Rattle.attempted_calls.specs.Below.outcome_ticks.proofs.TableTasksDistinct.{one_task}
+use Rattle.attempted_calls.specs.Below.joint_runs.proofs.RunsOfBothTables.{AreMade}
+use Rattle.attempted_calls.specs.Below.call_owing.specs.LivesOfLinks.{ClosesInRun}
+use Rattle.attempted_calls.specs.Below.call_stories.specs.LinkReadingLists.{early_of_run, closed_of_run, silent_of_run}
+use Rattle.attempted_calls.specs.Below.call_stories.specs.PostsOfRun.{Post}
 use Rattle.attempted_calls.specs.accept_counts.specs.EndedCalls.{reader_posts_of_run, EndedSo}
-use Rattle.attempted_calls.specs.sent_once.proofs.Beside.{gave_of_run, fixed_of_run, orders_here}
-use Rattle.attempted_calls.specs.accept_counts.proofs.Runs.{AreLabelledIn, IsCallOf}
+use Rattle.attempted_calls.specs.sent_once.proofs.OtherTasksBesideCalls.{gave_of_run, fixed_of_run, orders_here}
+use Rattle.attempted_calls.specs.accept_counts.proofs.RunsKeepAttemptLaw.{AreLabelledIn, IsCallOf}
 use Rattle.ended_calls.proofs.EndedAttempts.{IsReaderPost, run_reader_post}
 use Rattle.ended_calls.proofs.EndedOnce.{run_stored_once}
 use Rattle.attempted_calls.specs.Below.owned_ids.proofs.OpensStored.{place_at}

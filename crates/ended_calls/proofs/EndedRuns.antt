@@ -6,26 +6,26 @@ use lib.ListN.{get_elem?}
 use Rattle.sock_words.specs.declared.plain.Plan.{Plan}
 use Rattle.sock_model.specs.declared.view.View.{View}
 use Rattle.seat_programs.specs.Asides.{Taking, Bytes}
-use Rattle.seat_programs.specs.Beside.{at_last, taking_in}
+use Rattle.seat_programs.specs.FoundAndChangedAside.{at_last, taking_in}
 use Rattle.seat_programs.specs.Cores.{Core, SeatState}
 use Rattle.seat_programs.specs.Ticks.{Answer, Unasked, OfPut, OfReady, OfTake, Moment, AreAnswered, taken, ticked, run}
-use Rattle.attempted_calls.specs.Below.programs_allowed.specs.program_steps.specs.Sound.{Sound, AreFitting, views_after}
+use Rattle.attempted_calls.specs.Below.programs_allowed.specs.program_steps.specs.SoundSeats.{Sound, AreFitting, views_after}
 use Rattle.attempted_calls.specs.Below.programs_allowed.specs.sock_runs.proofs.LinkTicks.{RetriesGo}
 use Rattle.attempted_calls.specs.Below.programs_allowed.specs.program_walks.proofs.Recorded.{Recorded, recorded_ticks}
-use Rattle.attempted_calls.specs.Below.programs_allowed.specs.sock_runs.proofs.Ticks.{sound_ticks}
-use Rattle.attempted_calls.specs.Below.outcome_stories.specs.Stories.{In}
-use Rattle.attempted_calls.specs.Below.outcome_causes.proofs.Plain.{in_left, in_right, in_both}
+use Rattle.attempted_calls.specs.Below.programs_allowed.specs.sock_runs.proofs.TicksKeepSeatsSound.{sound_ticks}
+use Rattle.attempted_calls.specs.Below.outcome_stories.specs.OperationStories.{In}
+use Rattle.attempted_calls.specs.Below.outcome_causes.proofs.PlainOutcomeCauses.{in_left, in_right, in_both}
 use Rattle.attempted_calls.specs.Below.run_theorems.specs.Heard.{as_taken, bytes_found, taken_link, taken_at, taken_in, given_by}
 use Rattle.attempted_calls.specs.Below.run_theorems.proofs.HeardRuns.{taken_append}
-use Rattle.attempted_calls.specs.Below.call_stories.specs.Lists.{Take, takes_by, takes_at}
-use Rattle.attempted_calls.specs.Below.call_stories.specs.Posts.{Post, posted_with, posted_at}
+use Rattle.attempted_calls.specs.Below.call_stories.specs.LinkReadingLists.{Take, takes_by, takes_at}
+use Rattle.attempted_calls.specs.Below.call_stories.specs.PostsOfRun.{Post, posted_with, posted_at}
 use Rattle.attempted_calls.specs.accept_counts.specs.EndedCalls.{Load, loaded_at, reader_posts_at}
-use Rattle.attempted_calls.specs.accept_counts.proofs.Early.{Any, ends_anyhow}
+use Rattle.attempted_calls.specs.accept_counts.proofs.EarlyClosedSockets.{Any, ends_anyhow}
 use Rattle.ended_calls.proofs.EndedReads.{MayPost, post_more}
 use Rattle.ended_calls.proofs.EndedTicks.{HasTold, LoadsSo, told_ticks, told_posts}
 use Rattle.attempted_calls.specs.accept_counts.proofs.ReaderRuns.{Keeps, founds, keeps_ticks, reader_of, others_none}
-use Rattle.attempted_calls.specs.accept_counts.proofs.Readings.{found_by, takes_or_not}
-use Rattle.corr_core.proofs.Notes.{at_length}
+use Rattle.attempted_calls.specs.accept_counts.proofs.ReadingsAtTicks.{found_by, takes_or_not}
+use Rattle.corr_core.proofs.NoteSums.{at_length}
 use Rattle.attempted_calls.specs.Below.outcome_stories.specs.Facts.{shown_in}
 
 module _ (p : Plan) (calls os : List ℕ) (in_os : (k o : ℕ) → get_elem? os k ≡ some o → o < p.operations) where
@@ -56,7 +56,7 @@ module _ (p : Plan) (calls os : List ℕ) (in_os : (k o : ℕ) → get_elem? os 
     tick_posts c vs m h k told x there = by_seat (nat_le 32 m.seat) refl there
       where
         by_state : 32 ≤ m.seat → In x (posted_at c m) → (o : Option SeatState) → get_elem? c.seats m.seat ≡ o → IsPostOf h x
-        by_state high there none e = absurd (subst (λ o. In x (elim o as (λ o. List Post) [ none ↦ [] | some seat ↦ posted_with c.calls (taken m.answer) (Rattle.seat_programs.specs.Rounds.first_step seat.program) ])) e there)
+        by_state high there none e = absurd (subst (λ o. In x (elim o as (λ o. List Post) [ none ↦ [] | some seat ↦ posted_with c.calls (taken m.answer) (Rattle.seat_programs.specs.LoopRounds.first_step seat.program) ])) e there)
         by_state high there (some seat) e = let r = reader_of p calls os in_os Any (Unit {0}) ends_anyhow c vs h k m.seat seat e high in record { link = r.0; inside = at_length os r.0 r.1 r.3; may = told_posts p r.0 (Seen r.0) (h r.0) c m (told r.0) r.2 x there }
 
         by_seat : (b : Bool) → nat_le 32 m.seat ≡ b → In x (cond b (posted_at c m) []) → IsPostOf h x

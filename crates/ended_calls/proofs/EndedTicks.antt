@@ -7,29 +7,29 @@ use native.Mathlib.Decide.{ℕ_discrete}
 use lib.ListN.{get_elem?}
 use Rattle.atomic_table.proofs.Lists.{at_set, set_else}
 use Rattle.sock_words.specs.declared.plain.Plan.{Plan}
-use Rattle.sock_model.specs.Reads.{message, link_home}
-use Rattle.sock_model.specs.Messages.{HeadedBytes}
+use Rattle.sock_model.specs.ChainLawReads.{message, link_home}
+use Rattle.sock_model.specs.UnplacedMessages.{HeadedBytes}
 use Rattle.sock_io.specs.declared.link.Put.{Put}
 use Rattle.sock_io.specs.declared.link.Ready.{Ready}
 use Rattle.corr_core.specs.Word.{parts}
-use Rattle.seat_programs.specs.id_rule.specs.Lawful.{at_index}
+use Rattle.seat_programs.specs.id_rule.specs.LawfulIdTable.{at_index}
 use Rattle.seat_programs.specs.Asides.{Step, Found, LoadAt, PostId, TakeBytes, Taking}
-use Rattle.seat_programs.specs.Beside.{at_last, taking_in, found_in}
+use Rattle.seat_programs.specs.FoundAndChangedAside.{at_last, taking_in, found_in}
 use Rattle.seat_programs.specs.Programs.{Program, Do, TakeMessage, TakeHome, PutHome, PutBytes, AskReady, Aside, Round, Say, Sent, Rest, Keep}
 use Rattle.seat_programs.specs.Cores.{Core, SeatState, found_at, waiting_at}
 use Rattle.seat_programs.specs.StepTables.{word_of}
 use Rattle.seat_programs.specs.Ticks.{Answer, OfPut, OfReady, OfTake, Moment, taken, with_message, with_link, with_put, with_ready, with_found, step_with, tick_with, ticked}
-use Rattle.attempted_calls.specs.Below.programs_allowed.specs.program_steps.proofs.Cases.{ticks_first}
-use Rattle.attempted_calls.specs.Below.outcome_stories.specs.Stories.{In}
+use Rattle.attempted_calls.specs.Below.programs_allowed.specs.program_steps.proofs.TickCases.{ticks_first}
+use Rattle.attempted_calls.specs.Below.outcome_stories.specs.OperationStories.{In}
 use Rattle.attempted_calls.specs.Below.owing_ticks.proofs.OwingRuns.{same_first}
 use Rattle.attempted_calls.specs.Below.run_theorems.specs.Heard.{as_taken, taken_link}
-use Rattle.attempted_calls.specs.Below.call_stories.specs.Posts.{Post, posts_by, posted_with, posted_at}
+use Rattle.attempted_calls.specs.Below.call_stories.specs.PostsOfRun.{Post, posts_by, posted_with, posted_at}
 use Rattle.attempted_calls.specs.Below.call_causes.proofs.HandledTicks.{take_of, taken_first}
 use Rattle.attempted_calls.specs.accept_counts.specs.EndedCalls.{Load, loaded_with, loaded_at}
 use Rattle.ended_calls.proofs.EndedReads.{Tells, MayPost, tell_first, tell_next}
-use Rattle.attempted_calls.specs.accept_counts.proofs.Readings.{found_by}
-use Rattle.seat_programs.specs.Rounds.{first_step}
-use Rattle.sock_words.specs.Words.{call_id}
+use Rattle.attempted_calls.specs.accept_counts.proofs.ReadingsAtTicks.{found_by}
+use Rattle.seat_programs.specs.LoopRounds.{first_step}
+use Rattle.sock_words.specs.PackedWords.{call_id}
 
 -- a tick leaves the other seats as they are
 module _ (p : Plan) (c : Core) (m : Moment) (j : ℕ) (far : j ≢ m.seat) where

@@ -5,5 +5,5 @@ pub mod EndedWhole
 pub mod EndedAttempts
 pub mod EndedOnce
 pub mod EndedCauses
-pub mod Unanswered
+pub mod FailedCallsUnanswered
 pub mod CausedReaders

@@ -1,7 +1,7 @@
-pub mod Doing
-pub mod Begun
-pub mod Expiring
-pub mod Making
-pub mod Expires
-pub mod Whole
-pub mod Joins
+pub mod ClientAtOperation
+pub mod StoredIdsOfCalls
+pub mod ExpireEndedCall
+pub mod OperationWordStorers
+pub mod ExpireOutcomeCauses
+pub mod WholeExpireReasons
+pub mod JoinOutcomesWithCalls

@@ -1,5 +1,5 @@
-pub mod Said
-pub mod Joined
+pub mod ExpireOutcomesSaid
+pub mod AskedByJoins
 pub use Rattle.call_told.specs.call_deeds
 pub use Rattle.call_told.specs.call_places
 pub use Rattle.call_told

@@ -5,38 +5,38 @@ use Rattle.std.proofs.lemmas.Option.{none-some, same_Some}
 use mathlib.Core.Option.{some}
 use lib.ListN.{get_elem?}
 use Rattle.sock_io.specs.declared.link.Out.{Ghosts}
-use Rattle.sock_io.specs.Link.{OutState}
+use Rattle.sock_io.specs.LinkHalves.{OutState}
 use Rattle.sock_words.specs.declared.outcome.Outcome.{Outcome}
 use Rattle.sock_words.specs.declared.plain.Plan.{Plan}
 use Rattle.sock_words.specs.declared.place_word.PlaceWord.{PlaceWord}
 use Rattle.sock_words.specs.declared.vref.Vref.{Vref}
-use Rattle.sock_words.specs.Codes.{is_final}
+use Rattle.sock_words.specs.ErrorCodes.{is_final}
 use Rattle.seat_programs.specs.declared.task.Task.{Task}
 use Rattle.corr_core.specs.Word.{Parts, parts}
 use Rattle.corr_core.specs.declared.marks.Kept.{Kept}
 use Rattle.corr_core.specs.declared.marks.Noted.{Noted}
 use Rattle.corr_core.specs.declared.marks.View.{View}
 use Rattle.sock_message.specs.Asked.{Asked}
-use Rattle.corr_id.specs.Closing.{Closing}
-use Rattle.corr_id.specs.Posts.{IsTimely}
+use Rattle.corr_id.specs.ClosingIdLists.{Closing}
+use Rattle.corr_id.specs.PostAnswers.{IsTimely}
 use Rattle.corr_id.specs.declared.calls.IdLock.{IdLock}
 use Rattle.call_table.specs.declared.errors.Decision.TheVariants as decisions
 use Rattle.failed_reasons.specs.Below.RpcClient.Told.{Told}
-use Rattle.failed_reasons.specs.Below.CallErrors.Locking.{id_in}
+use Rattle.failed_reasons.specs.Below.CallErrors.LockingByVersion.{id_in}
 use Rattle.failed_reasons.specs.Below.CallErrors.Handling.{is_whole, decision}
-use Rattle.failed_reasons.specs.Below.CallRun.Readers.{LinkReader}
+use Rattle.failed_reasons.specs.Below.CallRun.ReadersOfLinks.{LinkReader}
 use Rattle.failed_reasons.specs.Below.CallRun.Threads.{RanWith, ids_of}
-use Rattle.failed_reasons.specs.call_whys.specs.call_places.specs.Counted.{HaveNotesOf}
-use Rattle.failed_reasons.specs.call_whys.specs.call_places.proofs.Clients.{Client, view_of, tasks_of, deeds_of}
-use Rattle.failed_reasons.specs.call_whys.specs.call_places.proofs.Places.{crew_of}
-use Rattle.failed_reasons.specs.call_whys.specs.expire_told.specs.Said.{AreSaid}
+use Rattle.failed_reasons.specs.call_whys.specs.call_places.specs.ClientNotesCounted.{HaveNotesOf}
+use Rattle.failed_reasons.specs.call_whys.specs.call_places.proofs.ClientPlaces.{Client, view_of, tasks_of, deeds_of}
+use Rattle.failed_reasons.specs.call_whys.specs.call_places.proofs.CallPlaceOrders.{crew_of}
+use Rattle.failed_reasons.specs.call_whys.specs.expire_told.specs.ExpireOutcomesSaid.{AreSaid}
 use Rattle.failed_reasons.specs.Missed.{attempt_of}
-use Rattle.failed_reasons.specs.Reasons.{WasDropped, Reason, timed_out, missed, dropped, AdvancedFor}
-use Rattle.failed_ends.proofs.Clients.{Says, advanced_caused}
-use Rattle.failed_reasons.proofs.Codes.{IsReadCode}
+use Rattle.failed_reasons.specs.ErrorReasons.{WasDropped, Reason, timed_out, missed, dropped, AdvancedFor}
+use Rattle.failed_ends.proofs.ClientEndsByErrors.{Says, advanced_caused}
+use Rattle.failed_reasons.proofs.FailedAttemptCodes.{IsReadCode}
 use Rattle.failed_ends.proofs.Posters.{Poster, posted_by}
-use Rattle.failed_reasons.proofs.Views.{advanced_in}
-use Rattle.failed_reasons.proofs.Taken.{OthersRead, MissedBy, DroppedBy}
+use Rattle.failed_reasons.proofs.NotedErrorsInViews.{advanced_in}
+use Rattle.failed_reasons.proofs.FailedRunPremises.{OthersRead, MissedBy, DroppedBy}
 
 -- ## Errors that leave retries
 

@@ -4,7 +4,7 @@ use mathlib.Core.Logic.{dite}
 use mathlib.Core.Option.{some, some-injective}
 use native.Mathlib.Decide.{ℕ_discrete}
 use lib.ListN.{get_elem?}
-use Rattle.sock_words.specs.Codes.{EEOF}
+use Rattle.sock_words.specs.ErrorCodes.{EEOF}
 use Rattle.sock_words.specs.declared.plain.Plan as sizes
 use Rattle.sock_io.specs.declared.link.Out.{Ghosts}
 use Rattle.corr_core.specs.Law.{is_made, is_ended}
@@ -14,21 +14,21 @@ use Rattle.corr_core.specs.declared.marks.Note.TheVariants.{Made}
 use Rattle.corr_core.specs.declared.marks.Noted.{Noted}
 use Rattle.corr_core.specs.declared.marks.Plan.{Plan}
 use Rattle.corr_core.specs.declared.marks.View.{View}
-use Rattle.corr_core.proofs.Notes.{only-same}
-use Rattle.corr_id.specs.id_rule.specs.Lawful.{notes_of}
-use Rattle.corr_id.specs.Calls.{is_saw}
-use Rattle.corr_id.specs.Closing.{Closing}
+use Rattle.corr_core.proofs.NoteSums.{only-same}
+use Rattle.corr_id.specs.id_rule.specs.LawfulIdTable.{notes_of}
+use Rattle.corr_id.specs.SeatBehindIdCalls.{is_saw}
+use Rattle.corr_id.specs.ClosingIdLists.{Closing}
 use Rattle.sock_message.specs.Asked.{Asked}
 use Rattle.failed_reasons.specs.Below.PrpcFrame.Frame.{Frame}
 use Rattle.failed_reasons.specs.Below.RpcReader.Met.{is_asked}
-use Rattle.failed_reasons.specs.Below.CallRun.Readers.{LinkReader, IsReader}
+use Rattle.failed_reasons.specs.Below.CallRun.ReadersOfLinks.{LinkReader, IsReader}
 use Rattle.failed_reasons.specs.call_whys.specs.call_told.proofs.MetFrames.{Responds}
-use Rattle.failed_reasons.specs.call_whys.specs.call_told.proofs.Readers.{reader_gave}
-use Rattle.failed_reasons.specs.call_whys.specs.call_told.proofs.Unanswered.{EndOf}
-use Rattle.failed_reasons.proofs.Ends.{ReadEnded}
+use Rattle.failed_reasons.specs.call_whys.specs.call_told.proofs.ToldByReaders.{reader_gave}
+use Rattle.failed_reasons.specs.call_whys.specs.call_told.proofs.EndedCallsUnanswered.{EndOf}
+use Rattle.failed_reasons.proofs.CodesOfReadingEnds.{ReadEnded}
 use Rattle.failed_ends.proofs.Unmet.{NotesIn, HasMet, has_asked, reader_unanswered, reader_unwaited}
 use Rattle.failed_reasons.proofs.Waits.{WaitsAt}
-use Rattle.failed_reasons.specs.call_whys.specs.call_places.proofs.Weights.{two_terms}
+use Rattle.failed_reasons.specs.call_whys.specs.call_places.proofs.NoteWeights.{two_terms}
 use Rattle.sock_words.specs.Totals.{total}
 
 module _ (q : Plan) (notes : List (Noted Asked)) (kept : List Kept) (words : List ℕ) (closed : Closing q notes kept words) where

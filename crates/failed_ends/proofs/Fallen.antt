@@ -7,59 +7,59 @@ use native.Mathlib.Decide.{ℕ_discrete}
 use lib.ListN.{get_elem?}
 use Rattle.atomic_table.specs.declared.shared.Seat.{Seat}
 use Rattle.sock_io.specs.declared.link.Out.{Ghosts}
-use Rattle.sock_io.specs.Link.{OutState}
-use Rattle.sock_words.specs.Codes.{EFAILEDSOCKET, EREQUESTS}
-use Rattle.sock_words.specs.Words.{socket_id_slot, socket_id_version, id_slot}
+use Rattle.sock_io.specs.LinkHalves.{OutState}
+use Rattle.sock_words.specs.ErrorCodes.{EFAILEDSOCKET, EREQUESTS}
+use Rattle.sock_words.specs.PackedWords.{socket_id_slot, socket_id_version, id_slot}
 use Rattle.sock_words.specs.declared.outcome.Outcome.{Outcome}
 use Rattle.sock_words.specs.declared.plain.Plan.{Plan}
 use Rattle.sock_words.specs.declared.place_word.PlaceWord.{PlaceWord}
 use Rattle.sock_words.specs.declared.vref.Vref.{Vref}
 use Rattle.sock_model.specs.declared.view.View as sock_view
-use Rattle.sock_model.specs.Layout.{request_index}
-use Rattle.sock_model.specs.Weights.{is_known, is_saw}
-use Rattle.failed_reasons.specs.Below.SockRule.Closing.{PlacesDiffer}
+use Rattle.sock_model.specs.SocketTableLayout.{request_index}
+use Rattle.sock_model.specs.MarkWeights.{is_known, is_saw}
+use Rattle.failed_reasons.specs.Below.SockRule.ClosingWordsAndNotes.{PlacesDiffer}
 use Rattle.failed_reasons.specs.Below.SockRule.SockHome.{SockHome}
-use Rattle.failed_reasons.specs.Below.SockTable.Named.{HasSeen, Found}
+use Rattle.failed_reasons.specs.Below.SockTable.NamesStoredAndFound.{HasSeen, Found}
 use Rattle.seat_programs.specs.declared.task.Op.{Op}
 use Rattle.seat_programs.specs.declared.task.Op.TheVariants as ops
 use Rattle.seat_programs.specs.declared.task.Task.{Task}
-use Rattle.seat_programs.specs.Told.{AreTasks}
-use Rattle.seat_programs.specs.ToldCalls.{Accepted, IsFailing, IsUnordered, WasFull, WhyLost, WasFailing, FailedBy, BySocket, ByRequests, all_accepted}
+use Rattle.seat_programs.specs.Explained.{AreTasks}
+use Rattle.seat_programs.specs.ExplainedCalls.{Accepted, IsFailing, IsUnordered, WasFull, WhyLost, WasFailing, FailedBy, BySocket, ByRequests, all_accepted}
 use Rattle.corr_core.specs.Law.{is_made}
 use Rattle.corr_core.specs.declared.marks.Kept.{Kept}
 use Rattle.corr_core.specs.declared.marks.Note.{Note}
 use Rattle.corr_core.specs.declared.marks.Note.TheVariants.{Made}
 use Rattle.corr_core.specs.declared.marks.Noted.{Noted}
 use Rattle.corr_core.specs.declared.marks.View.{View}
-use Rattle.corr_core.proofs.Notes.{only-at}
-use Rattle.corr_id.specs.id_rule.specs.Lawful.{notes_of}
+use Rattle.corr_core.proofs.NoteSums.{only-at}
+use Rattle.corr_id.specs.id_rule.specs.LawfulIdTable.{notes_of}
 use Rattle.sock_message.specs.Asked.{Asked, name_of}
-use Rattle.corr_id.specs.Closing.{Closing}
+use Rattle.corr_id.specs.ClosingIdLists.{Closing}
 use Rattle.failed_reasons.specs.Below.RpcClient.Told.{Told}
-use Rattle.failed_reasons.specs.Below.CallAttempts.Retrying.{IsStray}
-use Rattle.failed_reasons.specs.Below.CallRun.Readers.{LinkReader}
+use Rattle.failed_reasons.specs.Below.CallAttempts.WaitingRetries.{IsStray}
+use Rattle.failed_reasons.specs.Below.CallRun.ReadersOfLinks.{LinkReader}
 use Rattle.failed_reasons.specs.Below.CallRun.Threads.{Thread, RanWith, MayRunAll, ids_of}
-use Rattle.failed_reasons.specs.call_whys.specs.call_places.specs.Counted.{HaveNotesOf}
-use Rattle.failed_reasons.specs.call_whys.specs.call_places.specs.Deeds.{Deed}
-use Rattle.failed_reasons.specs.call_whys.specs.call_places.proofs.Weights.{two_terms}
-use Rattle.failed_reasons.specs.call_whys.specs.call_places.proofs.Ids.{IsIdOf}
-use Rattle.failed_reasons.specs.call_whys.specs.call_places.proofs.Clients.{Client, view_of, deeds_of}
-use Rattle.failed_reasons.specs.call_whys.specs.call_places.proofs.Places.{all_are, crew_of}
-use Rattle.failed_reasons.specs.call_whys.specs.call_told.proofs.Lists.{all_at}
+use Rattle.failed_reasons.specs.call_whys.specs.call_places.specs.ClientNotesCounted.{HaveNotesOf}
+use Rattle.failed_reasons.specs.call_whys.specs.call_places.specs.DeedsOfCallClient.{Deed}
+use Rattle.failed_reasons.specs.call_whys.specs.call_places.proofs.NoteWeights.{two_terms}
+use Rattle.failed_reasons.specs.call_whys.specs.call_places.proofs.IdsOfRetries.{IsIdOf}
+use Rattle.failed_reasons.specs.call_whys.specs.call_places.proofs.ClientPlaces.{Client, view_of, deeds_of}
+use Rattle.failed_reasons.specs.call_whys.specs.call_places.proofs.CallPlaceOrders.{all_are, crew_of}
+use Rattle.failed_reasons.specs.call_whys.specs.call_told.proofs.ListElementsByPlace.{all_at}
 use Rattle.failed_reasons.specs.call_whys.specs.call_places.specs.sock_deeds.specs.Deeds as socks
-use Rattle.failed_reasons.specs.call_whys.specs.call_places.specs.sock_deeds.specs.Runs.{IsOperation, Seated, seat_of, DeedRun}
-use Rattle.failed_reasons.specs.call_whys.specs.call_places.specs.sock_deeds.proofs.Accepting.{log}
-use Rattle.failed_reasons.specs.call_whys.specs.call_places.specs.sock_deeds.proofs.Acts.{Act, after, has_marks, has_seen}
-use Rattle.failed_reasons.specs.call_whys.specs.call_places.specs.sock_deeds.proofs.Failing.{WhyFailed, by_name, by_link, by_reader, life_failed}
-use Rattle.failed_reasons.specs.call_whys.specs.call_places.specs.sock_deeds.proofs.Lives.{MadeHere, found_made}
-use Rattle.failed_reasons.specs.call_whys.specs.call_places.specs.sock_deeds.proofs.Orders.{orders, entry_on}
-use Rattle.failed_reasons.specs.call_whys.specs.call_places.specs.sock_deeds.proofs.Tasks.{fits}
-use Rattle.failed_reasons.specs.call_whys.specs.call_places.specs.sock_deeds.proofs.Whole.{laws_of}
+use Rattle.failed_reasons.specs.call_whys.specs.call_places.specs.sock_deeds.specs.SocketTableRun.{IsOperation, Seated, seat_of, DeedRun}
+use Rattle.failed_reasons.specs.call_whys.specs.call_places.specs.sock_deeds.proofs.MessagesAcceptedByDeeds.{log}
+use Rattle.failed_reasons.specs.call_whys.specs.call_places.specs.sock_deeds.proofs.DeedsOfAllSeats.{Act, after, has_marks, has_seen}
+use Rattle.failed_reasons.specs.call_whys.specs.call_places.specs.sock_deeds.proofs.WhyLivesFailed.{WhyFailed, by_name, by_link, by_reader, life_failed}
+use Rattle.failed_reasons.specs.call_whys.specs.call_places.specs.sock_deeds.proofs.LivesOfDeeds.{MadeHere, found_made}
+use Rattle.failed_reasons.specs.call_whys.specs.call_places.specs.sock_deeds.proofs.OrdersOfDeeds.{orders, entry_on}
+use Rattle.failed_reasons.specs.call_whys.specs.call_places.specs.sock_deeds.proofs.DeedsForTasks.{fits}
+use Rattle.failed_reasons.specs.call_whys.specs.call_places.specs.sock_deeds.proofs.WholeSocketDeeds.{laws_of}
 use Rattle.failed_reasons.specs.Missed.{missed_in, id_of, IsBacked, attempt_of, socks_behind}
-use Rattle.failed_reasons.proofs.Losses.{SawDead, SawFull, dead_later, full_later, WhyMissed, was_dead, was_full, was_unopened, was_stray}
-use Rattle.failed_reasons.proofs.Reaching.{Reaches, deeds_reach}
+use Rattle.failed_reasons.proofs.AttemptLosses.{SawDead, SawFull, dead_later, full_later, WhyMissed, was_dead, was_full, was_unopened, was_stray}
+use Rattle.failed_reasons.proofs.SeenReachesEnd.{Reaches, deeds_reach}
 use Rattle.failed_ends.proofs.Single.{IsNothing, not_accepted}
-use Rattle.failed_reasons.specs.call_whys.specs.call_places.specs.sock_deeds.proofs.Places.{map_back, map_there}
+use Rattle.failed_reasons.specs.call_whys.specs.call_places.specs.sock_deeds.proofs.ListPlaces.{map_back, map_there}
 
 -- ## Of notes and operations
 

@@ -1,13 +1,13 @@
 pub mod Origins
-pub mod Clients
+pub mod ClientEndsByErrors
 pub mod Posters
 pub mod Queued
 pub mod Verdicts
 pub mod Single
 pub mod Fallen
-pub mod Owners
+pub mod MessageOwners
 pub mod Advances
 pub mod ReaderStores
 pub mod Unmet
 pub mod Alone
-pub mod Lasts
+pub mod EndedAtLastAttempt

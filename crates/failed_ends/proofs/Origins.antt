@@ -9,9 +9,9 @@ use mathlib.Core.Option.{some}
 use native.Mathlib.Decide.{ℕ_discrete}
 use lib.ListN.{get_elem?}
 use Rattle.sock_io.specs.declared.link.Out.{Ghosts}
-use Rattle.sock_io.specs.Link.{OutState}
-use Rattle.sock_words.specs.Codes.{EFAILEDSOCKET, EINTERNAL, ERPCTIMEDOUT}
-use Rattle.sock_words.specs.Words.{socket_id_slot, id_slot, id_first}
+use Rattle.sock_io.specs.LinkHalves.{OutState}
+use Rattle.sock_words.specs.ErrorCodes.{EFAILEDSOCKET, EINTERNAL, ERPCTIMEDOUT}
+use Rattle.sock_words.specs.PackedWords.{socket_id_slot, id_slot, id_first}
 use Rattle.sock_words.specs.declared.plain.Plan.{Plan}
 use Rattle.sock_words.specs.declared.socket_id.SocketId.{SocketId}
 use Rattle.sock_words.specs.declared.outcome.Outcome.{Outcome}
@@ -30,52 +30,52 @@ use Rattle.corr_core.specs.declared.marks.Noted.{Noted}
 use Rattle.corr_core.specs.declared.marks.Token.{Token}
 use Rattle.corr_core.specs.declared.marks.Plan as id_plan
 use Rattle.corr_core.specs.declared.marks.View.{View}
-use Rattle.corr_core.proofs.Notes.{pair-same}
-use Rattle.corr_id.specs.id_rule.specs.Lawful.{call_index, notes_of}
+use Rattle.corr_core.proofs.NoteSums.{pair-same}
+use Rattle.corr_id.specs.id_rule.specs.LawfulIdTable.{call_index, notes_of}
 use Rattle.sock_message.specs.Asked.{Asked}
 use Rattle.corr_id.specs.declared.calls.IdLock.{IdLock}
 use Rattle.corr_id.specs.declared.posts.Posted.{Posted}
 use Rattle.corr_id.specs.declared.posts.Posted.TheVariants.{Locked as HasLock, Queued as IsQueued, Gone, Crowded}
-use Rattle.corr_id.specs.Calls.{is_saw, error_in, one, Did, Quiet, Found, GotLock}
-use Rattle.corr_id.specs.Posts.{PostOk}
+use Rattle.corr_id.specs.SeatBehindIdCalls.{is_saw, error_in, one, Did, Quiet, Found, GotLock}
+use Rattle.corr_id.specs.PostAnswers.{PostOk}
 use Rattle.corr_id.specs.Unlocks.{UnlockOk}
 use Rattle.corr_id.specs.declared.unlocks.Unlocked.TheVariants as unlocked
 use Rattle.failed_reasons.specs.Below.CallErrors.Retry.{Retry}
-use Rattle.failed_reasons.specs.Below.CallErrors.Books.{Books, CallStand, stand_of, starving, keeping, Tells, told, lost}
-use Rattle.failed_reasons.specs.Below.CallErrors.Ending.{EndedWith, failed}
+use Rattle.failed_reasons.specs.Below.CallErrors.ClientBooks.{Books, CallStand, stand_of, starving, keeping, Tells, told, lost}
+use Rattle.failed_reasons.specs.Below.CallErrors.CallEndsWithCode.{EndedWith, failed}
 use Rattle.failed_reasons.specs.Below.CallErrors.Handling.{Decided, decision}
 use Rattle.failed_reasons.specs.Below.CallErrors.Handling as handling
-use Rattle.failed_reasons.specs.Below.CallErrors.Posting.{Handled, PostedBy}
-use Rattle.failed_reasons.specs.Below.CallErrors.Asking.{found_id, outcome_by, TimedOut, ExpiredBy, JoinedBy}
+use Rattle.failed_reasons.specs.Below.CallErrors.PostedErrors.{Handled, PostedBy}
+use Rattle.failed_reasons.specs.Below.CallErrors.ExpireAndJoinOutcomes.{found_id, outcome_by, TimedOut, ExpiredBy, JoinedBy}
 use Rattle.failed_reasons.specs.Below.CallWrites.Draining.{ToldDrop, of_send, of_call, DroppedOne, DroppedAll, Drained}
 use Rattle.failed_reasons.specs.Below.CallWrites.Draining as draining
-use Rattle.failed_reasons.specs.Below.CallWrites.Sending.{DeliveredCalling, SentCalling}
+use Rattle.failed_reasons.specs.Below.CallWrites.MessageFateBesideCalls.{DeliveredCalling, SentCalling}
 use Rattle.failed_reasons.specs.Below.CallAttempts.CalledVariants as called
-use Rattle.failed_reasons.specs.Below.CallAttempts.Both.{Both}
+use Rattle.failed_reasons.specs.Below.CallAttempts.ClientAtBothTables.{Both}
 use Rattle.failed_reasons.specs.Below.CallAttempts.Attempting.{code_for, DeliveredBy, went_out, came_back, AttemptedBy, nowhere, over_link}
-use Rattle.failed_reasons.specs.Below.CallAttempts.Calling.{CalledBy}
-use Rattle.failed_reasons.specs.Below.CallAttempts.Retrying.{without_oldest, WentTo, stray, unopened, to_socket, Locked, RetriedBy, had_ended, overtaken, went_again, Retried, none_yet, one_more}
+use Rattle.failed_reasons.specs.Below.CallAttempts.CallBeginning.{CalledBy}
+use Rattle.failed_reasons.specs.Below.CallAttempts.WaitingRetries.{without_oldest, WentTo, stray, unopened, to_socket, Locked, RetriedBy, had_ended, overtaken, went_again, Retried, none_yet, one_more}
 use Rattle.failed_reasons.specs.Below.CallClient.Caller.{Caller}
-use Rattle.failed_reasons.specs.Below.CallClient.Acting.{Stand, stand, both_of, letter_of, Acted}
-use Rattle.failed_reasons.specs.Below.CallClient.Running.{Course, Ran, begins, RunBy}
+use Rattle.failed_reasons.specs.Below.CallClient.ClientBetweenOperations.{Stand, stand, both_of, letter_of, Acted}
+use Rattle.failed_reasons.specs.Below.CallClient.ClientRun.{Course, Ran, begins, RunBy}
 use Rattle.failed_reasons.specs.Below.RpcClient.Told.{Told}
-use Rattle.failed_reasons.specs.call_whys.specs.call_places.specs.Deeds.{Deed, operates, retries, retries_of, ran_deeds}
+use Rattle.failed_reasons.specs.call_whys.specs.call_places.specs.DeedsOfCallClient.{Deed, operates, retries, retries_of, ran_deeds}
 use Rattle.failed_reasons.specs.call_whys.specs.call_places.proofs.Still.{attempt_silent}
-use Rattle.failed_reasons.specs.Below.CallClient.Telling.{did_total, none_of_one}
+use Rattle.failed_reasons.specs.Below.CallClient.EndedCallsTelling.{did_total, none_of_one}
 use Rattle.failed_reasons.specs.call_whys.specs.call_told.specs.Least.{is_made_for, is_locked_for}
-use Rattle.failed_reasons.specs.call_whys.specs.call_told.proofs.Ends.{made_silent, counted_here, HasLocked, got_locked}
-use Rattle.failed_reasons.specs.call_whys.specs.call_told.proofs.Lists.{all_both, all_then}
-use Rattle.failed_reasons.specs.call_whys.specs.call_told.proofs.Resting.{is_word}
-use Rattle.failed_reasons.specs.call_whys.specs.call_told.proofs.Runs.{none_left}
+use Rattle.failed_reasons.specs.call_whys.specs.call_told.proofs.ToldCallEnds.{made_silent, counted_here, HasLocked, got_locked}
+use Rattle.failed_reasons.specs.call_whys.specs.call_told.proofs.ListElementsByPlace.{all_both, all_then}
+use Rattle.failed_reasons.specs.call_whys.specs.call_told.proofs.RestingCallsEnded.{is_word}
+use Rattle.failed_reasons.specs.call_whys.specs.call_told.proofs.RunsTellNotedEnds.{none_left}
 use Rattle.failed_reasons.specs.call_whys.specs.call_places.specs.sock_deeds.proofs.Flats.{append_first, append_later}
-use Rattle.failed_reasons.specs.call_whys.specs.call_places.specs.sock_deeds.proofs.Growing.{stays, returned_grew}
-use Rattle.failed_reasons.specs.Below.RpcClient.Running.{telling}
+use Rattle.failed_reasons.specs.call_whys.specs.call_places.specs.sock_deeds.proofs.GrowingSocketNotes.{stays, returned_grew}
+use Rattle.failed_reasons.specs.Below.RpcClient.ToldOfOperation.{telling}
 use Rattle.call_table.specs.declared.errors.Decision.TheVariants as decisions
-use Rattle.failed_reasons.specs.Below.CallErrors.Locking.{id_in}
-use Rattle.failed_reasons.specs.Reasons.{Counts, StillHas, IsBehind, WasDropped, Reason, timed_out, missed, dropped, QueuedFor, AdvancedFor, Origin, posted_so, handed_out, IsSeen, Cause, IsCaused}
+use Rattle.failed_reasons.specs.Below.CallErrors.LockingByVersion.{id_in}
+use Rattle.failed_reasons.specs.ErrorReasons.{Counts, StillHas, IsBehind, WasDropped, Reason, timed_out, missed, dropped, QueuedFor, AdvancedFor, Origin, posted_so, handed_out, IsSeen, Cause, IsCaused}
 use Rattle.failed_reasons.specs.Missed.{delivery_missed, attempt_missed, went_missed, retry_missed, acted_missed, acted_id, IsMadeBy, IsBacked, socks_behind}
-use Rattle.failed_reasons.proofs.Keeping.{still_as, still_then, wrote_still, drop_still}
-use Rattle.failed_reasons.proofs.Views.{queued_silent, queued_in, advanced_in, Later, later_then, Stays, Steps, one_silent, queued_one, same_stays, then_stays, did_later, did_stays, quiet_stays, kept_stays, ended_stays, ended_over, got_stays, opened_stays, handed_stays, handed_later, opened_steps, handed_steps}
+use Rattle.failed_reasons.proofs.NotesKeptWhileWriting.{still_as, still_then, wrote_still, drop_still}
+use Rattle.failed_reasons.proofs.NotedErrorsInViews.{queued_silent, queued_in, advanced_in, Later, later_then, Stays, Steps, one_silent, queued_one, same_stays, then_stays, did_later, did_stays, quiet_stays, kept_stays, ended_stays, ended_over, got_stays, opened_stays, handed_stays, handed_later, opened_steps, handed_steps}
 use Rattle.sock_words.specs.Totals.{total}
 
 -- the lock that was got has the word that was found

@@ -5,7 +5,7 @@ use Rattle.std.proofs.lemmas.Nat.{div-add-mod'}
 use mathlib.Core.Option.{some}
 use lib.ListN.{get_elem?}
 use Rattle.sock_io.specs.declared.link.Out.{Ghosts}
-use Rattle.sock_io.specs.Link.{OutState}
+use Rattle.sock_io.specs.LinkHalves.{OutState}
 use Rattle.sock_words.specs.declared.outcome.Outcome.{Outcome}
 use Rattle.sock_words.specs.declared.plain.Plan.{Plan}
 use Rattle.sock_words.specs.declared.place_word.PlaceWord.{PlaceWord}
@@ -16,28 +16,28 @@ use Rattle.corr_core.specs.declared.marks.Kept.{Kept}
 use Rattle.corr_core.specs.declared.marks.Noted.{Noted}
 use Rattle.corr_core.specs.declared.marks.Plan as id_plan
 use Rattle.corr_core.specs.declared.marks.View.{View}
-use Rattle.corr_core.proofs.Notes.{total_some}
+use Rattle.corr_core.proofs.NoteSums.{total_some}
 use Rattle.sock_message.specs.Asked.{Asked}
-use Rattle.corr_id.specs.Calls.{is_saw, error_in}
-use Rattle.corr_id.specs.Closing.{Closing}
-use Rattle.corr_id.specs.Posts.{IsTimely}
+use Rattle.corr_id.specs.SeatBehindIdCalls.{is_saw, error_in}
+use Rattle.corr_id.specs.ClosingIdLists.{Closing}
+use Rattle.corr_id.specs.PostAnswers.{IsTimely}
 use Rattle.corr_id.specs.declared.calls.IdLock.{IdLock}
 use Rattle.failed_reasons.specs.Below.RpcClient.Told.{Told}
-use Rattle.failed_reasons.specs.Below.CallErrors.Locking.{id_in}
-use Rattle.failed_reasons.specs.Below.CallRun.Readers.{LinkReader}
+use Rattle.failed_reasons.specs.Below.CallErrors.LockingByVersion.{id_in}
+use Rattle.failed_reasons.specs.Below.CallRun.ReadersOfLinks.{LinkReader}
 use Rattle.failed_reasons.specs.Below.CallRun.Threads.{RanWith, ids_of}
-use Rattle.failed_reasons.specs.call_whys.specs.call_places.specs.Counted.{HaveNotesOf}
-use Rattle.failed_reasons.specs.call_whys.specs.call_places.specs.Deeds.{Deed, operates, retries}
-use Rattle.failed_reasons.specs.call_whys.specs.call_places.proofs.Clients.{Client, total_map, view_of, tasks_of, deeds_of}
-use Rattle.failed_reasons.specs.call_whys.specs.call_places.proofs.Places.{views_are, noted_among, crew_of}
-use Rattle.failed_reasons.specs.call_whys.specs.expire_told.specs.Said.{AreSaid}
+use Rattle.failed_reasons.specs.call_whys.specs.call_places.specs.ClientNotesCounted.{HaveNotesOf}
+use Rattle.failed_reasons.specs.call_whys.specs.call_places.specs.DeedsOfCallClient.{Deed, operates, retries}
+use Rattle.failed_reasons.specs.call_whys.specs.call_places.proofs.ClientPlaces.{Client, total_map, view_of, tasks_of, deeds_of}
+use Rattle.failed_reasons.specs.call_whys.specs.call_places.proofs.CallPlaceOrders.{views_are, noted_among, crew_of}
+use Rattle.failed_reasons.specs.call_whys.specs.expire_told.specs.ExpireOutcomesSaid.{AreSaid}
 use Rattle.failed_reasons.specs.Missed.{attempt_of}
-use Rattle.failed_reasons.specs.Reasons.{Reason, timed_out, missed, dropped, posted_so, handed_out, Cause}
-use Rattle.failed_ends.proofs.Clients.{Says, queued_caused}
-use Rattle.failed_reasons.proofs.Codes.{IsReadCode}
-use Rattle.failed_reasons.proofs.Views.{queued_in}
-use Rattle.failed_reasons.proofs.Taken.{OthersRead}
-use Rattle.sock_words.specs.Words.{id_slot, id_first}
+use Rattle.failed_reasons.specs.ErrorReasons.{Reason, timed_out, missed, dropped, posted_so, handed_out, Cause}
+use Rattle.failed_ends.proofs.ClientEndsByErrors.{Says, queued_caused}
+use Rattle.failed_reasons.proofs.FailedAttemptCodes.{IsReadCode}
+use Rattle.failed_reasons.proofs.NotedErrorsInViews.{queued_in}
+use Rattle.failed_reasons.proofs.FailedRunPremises.{OthersRead}
+use Rattle.sock_words.specs.PackedWords.{id_slot, id_first}
 use Rattle.sock_words.specs.Totals.{total}
 
 -- ## Errors in words

@@ -3,35 +3,35 @@ use Rattle.std.proofs.Common.{◌≡◌, ℕ, ◌<◌, ◌⊎◌, inl, inr, List
 use Rattle.std.specs.Prelude.{Option, Contains, slice_get}
 use mathlib.Core.Option.{some}
 use lib.ListN.{get_elem?}
-use Rattle.failed_reasons.specs.call_whys.specs.call_places.specs.script_facts.proofs.Lists.{contains_from}
+use Rattle.failed_reasons.specs.call_whys.specs.call_places.specs.script_facts.proofs.FilteredLists.{contains_from}
 use Rattle.sock_io.specs.declared.link.Out.{Ghosts}
-use Rattle.sock_io.specs.Link.{OutState}
-use Rattle.sock_words.specs.Codes.{EEOF, EFAILEDSOCKET, EREQUESTS, ERESPONSE, ERPCTIMEDOUT}
+use Rattle.sock_io.specs.LinkHalves.{OutState}
+use Rattle.sock_words.specs.ErrorCodes.{EEOF, EFAILEDSOCKET, EREQUESTS, ERESPONSE, ERPCTIMEDOUT}
 use Rattle.sock_words.specs.declared.outcome.Outcome.{Outcome}
 use Rattle.sock_words.specs.declared.plain.Plan.{Plan}
 use Rattle.sock_words.specs.declared.place_word.PlaceWord.{PlaceWord}
 use Rattle.sock_words.specs.declared.vref.Vref.{Vref}
 use Rattle.seat_programs.specs.declared.task.Task.{Task}
-use Rattle.seat_programs.specs.ToldCalls.{Fixed, Order}
+use Rattle.seat_programs.specs.ExplainedCalls.{Fixed, Order}
 use Rattle.corr_core.specs.Word.{code_of}
 use Rattle.corr_core.specs.declared.marks.Noted.{Noted}
 use Rattle.corr_core.specs.declared.marks.Plan as id_plan
 use Rattle.corr_core.specs.declared.marks.View.{View}
-use Rattle.corr_core.proofs.Notes.{total_some}
+use Rattle.corr_core.proofs.NoteSums.{total_some}
 use Rattle.sock_message.specs.Asked.{Asked}
 use Rattle.failed_reasons.specs.Below.RpcClient.Told.{Told}
-use Rattle.failed_reasons.specs.Below.CallRun.Readers.{LinkReader}
+use Rattle.failed_reasons.specs.Below.CallRun.ReadersOfLinks.{LinkReader}
 use Rattle.failed_reasons.specs.Below.CallRun.Threads.{RanWith, ids_of}
-use Rattle.failed_reasons.specs.call_whys.specs.call_places.specs.Deeds.{Deed}
-use Rattle.failed_reasons.specs.call_whys.specs.call_places.proofs.Clients.{Client, total_map, view_of, deeds_of}
-use Rattle.failed_reasons.specs.call_whys.specs.call_places.proofs.Places.{all as all_clients, views_are}
-use Rattle.failed_reasons.specs.call_whys.specs.expire_told.specs.Said.{AreSaid}
-use Rattle.failed_reasons.specs.Reasons.{WasDropped, Reason, timed_out, missed, dropped}
-use Rattle.failed_ends.proofs.Clients.{queued_caused}
-use Rattle.failed_reasons.proofs.Codes.{IsMissCode, IsReadCode, deed_code}
+use Rattle.failed_reasons.specs.call_whys.specs.call_places.specs.DeedsOfCallClient.{Deed}
+use Rattle.failed_reasons.specs.call_whys.specs.call_places.proofs.ClientPlaces.{Client, total_map, view_of, deeds_of}
+use Rattle.failed_reasons.specs.call_whys.specs.call_places.proofs.CallPlaceOrders.{all as all_clients, views_are}
+use Rattle.failed_reasons.specs.call_whys.specs.expire_told.specs.ExpireOutcomesSaid.{AreSaid}
+use Rattle.failed_reasons.specs.ErrorReasons.{WasDropped, Reason, timed_out, missed, dropped}
+use Rattle.failed_ends.proofs.ClientEndsByErrors.{queued_caused}
+use Rattle.failed_reasons.proofs.FailedAttemptCodes.{IsMissCode, IsReadCode, deed_code}
 use Rattle.failed_ends.proofs.Posters.{reason_low, code_is}
-use Rattle.failed_reasons.proofs.Views.{queued_in}
-use Rattle.failed_reasons.proofs.Taken.{OthersRead}
+use Rattle.failed_reasons.proofs.NotedErrorsInViews.{queued_in}
+use Rattle.failed_reasons.proofs.FailedRunPremises.{OthersRead}
 use Rattle.seat_programs.specs.brpc_model.specs.Why.{IsPosted}
 use Rattle.sock_words.specs.Totals.{total}
 

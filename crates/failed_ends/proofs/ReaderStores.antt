@@ -7,8 +7,8 @@ use native.Mathlib.Decide.{ℕ_discrete}
 use lib.ListN.{get_elem?}
 use Rattle.atomic_table.specs.declared.shared.Seat.{Seat}
 use Rattle.sock_io.specs.declared.link.Out.{Ghosts}
-use Rattle.sock_io.specs.Link.{OutState, InState}
-use Rattle.sock_words.specs.Words.{socket_id_slot, socket_id_version}
+use Rattle.sock_io.specs.LinkHalves.{OutState, InState}
+use Rattle.sock_words.specs.PackedWords.{socket_id_slot, socket_id_version}
 use Rattle.sock_words.specs.declared.outcome.Outcome.{Outcome}
 use Rattle.sock_words.specs.declared.outcome.Outcome.TheVariants as outcome
 use Rattle.sock_words.specs.declared.plain.Plan as sizes
@@ -20,33 +20,33 @@ use Rattle.sock_model.specs.declared.marks.Mark.TheVariants.{Hold, Known, Recycl
 use Rattle.sock_model.specs.declared.marks.SlotMark.{SlotMark}
 use Rattle.sock_model.specs.declared.view.StoredWord.{StoredWord}
 use Rattle.sock_model.specs.declared.view.View.{View}
-use Rattle.sock_model.specs.Layout.{open_index}
+use Rattle.sock_model.specs.SocketTableLayout.{open_index}
 use Rattle.sock_model.specs.Marks.{about, at}
-use Rattle.sock_model.specs.Seats.{newcomer}
+use Rattle.sock_model.specs.ViewsOfSplitSeats.{newcomer}
 use Rattle.sock_model.specs.SlotRows.{marks_of}
-use Rattle.sock_model.specs.Weights.{is_stored, pair}
-use Rattle.failed_reasons.specs.call_whys.specs.call_places.specs.outcome_stories.specs.program_walks.specs.slot_steps.proofs.Numbers.{pair_is}
-use Rattle.failed_reasons.specs.call_whys.specs.call_places.specs.outcome_stories.specs.program_walks.specs.slot_steps.proofs.Sums.{about-here, about-other}
-use Rattle.failed_reasons.specs.Below.SockRule.Becoming.{Became}
+use Rattle.sock_model.specs.MarkWeights.{is_stored, pair}
+use Rattle.failed_reasons.specs.call_whys.specs.call_places.specs.outcome_stories.specs.program_walks.specs.slot_steps.proofs.RuleNumbers.{pair_is}
+use Rattle.failed_reasons.specs.call_whys.specs.call_places.specs.outcome_stories.specs.program_walks.specs.slot_steps.proofs.SlotWeightSums.{about-here, about-other}
+use Rattle.failed_reasons.specs.Below.SockRule.MarksComeAndGo.{Became}
 use Rattle.failed_reasons.specs.Below.SockRule.SockHome.{SockHome}
 use Rattle.seat_programs.specs.declared.task.Op.TheVariants as ops
 use Rattle.seat_programs.specs.declared.task.Task.{Task}
-use Rattle.failed_reasons.specs.Below.SockTable.Answers.{Held, GoneFrom}
-use Rattle.failed_reasons.specs.Below.SockTable.Refs.{EndedBy, retired}
+use Rattle.failed_reasons.specs.Below.SockTable.ReferenceAnswers.{Held, GoneFrom}
+use Rattle.failed_reasons.specs.Below.SockTable.ReferenceCalls.{EndedBy, retired}
 use Rattle.corr_core.specs.declared.marks.Plan.{Plan}
-use Rattle.failed_reasons.specs.Below.RpcClient.Failing.{SetBy}
-use Rattle.failed_reasons.specs.Below.RpcClient.Sending.{Returned}
-use Rattle.failed_reasons.specs.Below.RpcReader.Books.{Books}
-use Rattle.failed_reasons.specs.Below.RpcReader.Failing.{OpenedBy, SetOnce}
-use Rattle.failed_reasons.specs.Below.RpcReader.Reading as reading
-use Rattle.failed_reasons.specs.Below.RpcReader.Running.{fails, FailedIf, ReadIf}
-use Rattle.failed_reasons.specs.Below.CallRun.Readers.{LinkReader, nothing_read, IsReader}
-use Rattle.failed_reasons.specs.call_whys.specs.call_places.specs.sock_deeds.specs.Runs.{IsOperation, seat_of, sits_of, DeedRun}
-use Rattle.failed_reasons.specs.call_whys.specs.call_places.specs.sock_deeds.proofs.Growing.{HasFound}
-use Rattle.failed_reasons.specs.call_whys.specs.call_places.specs.sock_deeds.proofs.Tasks.{same_task}
-use Rattle.failed_reasons.specs.call_whys.specs.call_places.specs.sock_deeds.proofs.DropCodes.{StoredByReader, first_found}
-use Rattle.failed_reasons.proofs.Ends.{EndedIf, ReadEnded}
-use Rattle.failed_reasons.specs.call_whys.specs.call_places.specs.sock_deeds.proofs.Places.{map_back, map_there}
+use Rattle.failed_reasons.specs.Below.RpcClient.FailOutcomes.{SetBy}
+use Rattle.failed_reasons.specs.Below.RpcClient.SendingOutcomes.{Returned}
+use Rattle.failed_reasons.specs.Below.RpcReader.ReaderBooks.{Books}
+use Rattle.failed_reasons.specs.Below.RpcReader.ReaderSocketFailing.{OpenedBy, SetOnce}
+use Rattle.failed_reasons.specs.Below.RpcReader.LinkReading as reading
+use Rattle.failed_reasons.specs.Below.RpcReader.ReaderRunFromOpen.{fails, FailedIf, ReadIf}
+use Rattle.failed_reasons.specs.Below.CallRun.ReadersOfLinks.{LinkReader, nothing_read, IsReader}
+use Rattle.failed_reasons.specs.call_whys.specs.call_places.specs.sock_deeds.specs.SocketTableRun.{IsOperation, seat_of, sits_of, DeedRun}
+use Rattle.failed_reasons.specs.call_whys.specs.call_places.specs.sock_deeds.proofs.GrowingSocketNotes.{HasFound}
+use Rattle.failed_reasons.specs.call_whys.specs.call_places.specs.sock_deeds.proofs.DeedsForTasks.{same_task}
+use Rattle.failed_reasons.specs.call_whys.specs.call_places.specs.sock_deeds.proofs.FailedLifeCodes.{StoredByReader, first_found}
+use Rattle.failed_reasons.proofs.CodesOfReadingEnds.{EndedIf, ReadEnded}
+use Rattle.failed_reasons.specs.call_whys.specs.call_places.specs.sock_deeds.proofs.ListPlaces.{map_back, map_there}
 use Rattle.sock_words.specs.Totals.{total}
 
 -- ## Notes that are no codes

@@ -8,7 +8,7 @@ use mathlib.Core.Option.{some, some-injective, some-ne-none}
 use native.Mathlib.Decide.{ℕ_discrete}
 use lib.ListN.{get_elem?}
 use Rattle.sock_io.specs.declared.link.Out.{Ghosts}
-use Rattle.sock_io.specs.Link.{OutState}
+use Rattle.sock_io.specs.LinkHalves.{OutState}
 use Rattle.sock_words.specs.declared.outcome.Outcome.{Outcome}
 use Rattle.sock_words.specs.declared.plain.Plan.{Plan}
 use Rattle.sock_words.specs.declared.place_word.PlaceWord.{PlaceWord}
@@ -20,7 +20,7 @@ use Rattle.failed_reasons.specs.Below.SockRule.Letter.{Letter}
 use Rattle.seat_programs.specs.declared.task.Op.{Op}
 use Rattle.seat_programs.specs.declared.task.Op.TheVariants as ops
 use Rattle.seat_programs.specs.declared.task.Task.{Task}
-use Rattle.seat_programs.specs.Told.{AreTasks}
+use Rattle.seat_programs.specs.Explained.{AreTasks}
 use Rattle.corr_core.specs.Law.{is_attempt}
 use Rattle.corr_core.specs.declared.marks.Kept.{Kept}
 use Rattle.corr_core.specs.declared.marks.Note.{Note}
@@ -28,41 +28,41 @@ use Rattle.corr_core.specs.declared.marks.Note.TheVariants.{Made}
 use Rattle.corr_core.specs.declared.marks.Noted.{Noted}
 use Rattle.corr_core.specs.declared.marks.Plan as id_plan
 use Rattle.corr_core.specs.declared.marks.View.{View}
-use Rattle.corr_core.proofs.Notes.{only-at, only-else, pair-at, pair-else, pair-else_first, total_some}
-use Rattle.corr_id.specs.id_rule.specs.Lawful.{notes_of}
+use Rattle.corr_core.proofs.NoteSums.{only-at, only-else, pair-at, pair-else, pair-else_first, total_some}
+use Rattle.corr_id.specs.id_rule.specs.LawfulIdTable.{notes_of}
 use Rattle.sock_message.specs.Asked.{Asked}
 use Rattle.corr_id.specs.declared.calls.IdLock.{IdLock}
-use Rattle.corr_id.specs.Closing.{Closing}
+use Rattle.corr_id.specs.ClosingIdLists.{Closing}
 use Rattle.failed_reasons.specs.Below.RpcClient.Told.{Told}
 use Rattle.failed_reasons.specs.Below.CallErrors.Retry.{Retry}
-use Rattle.failed_reasons.specs.Below.CallAttempts.Both.{Both}
+use Rattle.failed_reasons.specs.Below.CallAttempts.ClientAtBothTables.{Both}
 use Rattle.failed_reasons.specs.Below.CallAttempts.Attempting.{DeliveredBy, went_out, came_back, AttemptedBy, nowhere, over_link}
-use Rattle.failed_reasons.specs.Below.CallAttempts.Retrying.{Locked, WentAgain, WentTo, stray, unopened, to_socket, had_ended, overtaken, went_again}
-use Rattle.failed_reasons.specs.Below.CallClient.Acting.{Stand, both_of, Acted}
-use Rattle.failed_reasons.specs.Below.CallRun.Readers.{LinkReader}
+use Rattle.failed_reasons.specs.Below.CallAttempts.WaitingRetries.{Locked, WentAgain, WentTo, stray, unopened, to_socket, had_ended, overtaken, went_again}
+use Rattle.failed_reasons.specs.Below.CallClient.ClientBetweenOperations.{Stand, both_of, Acted}
+use Rattle.failed_reasons.specs.Below.CallRun.ReadersOfLinks.{LinkReader}
 use Rattle.failed_reasons.specs.Below.CallRun.Threads.{RanWith, MayRunAll, ids_of}
-use Rattle.failed_reasons.specs.call_whys.specs.call_places.specs.Counted.{HaveNotesOf}
-use Rattle.failed_reasons.specs.call_whys.specs.call_places.specs.Deeds.{Deed, operates, retries, delivered_entries, attempt_entries, went_entries, acted_entries, entries_of}
-use Rattle.failed_reasons.specs.call_whys.specs.call_places.proofs.Weights.{term, two_terms, each_less}
+use Rattle.failed_reasons.specs.call_whys.specs.call_places.specs.ClientNotesCounted.{HaveNotesOf}
+use Rattle.failed_reasons.specs.call_whys.specs.call_places.specs.DeedsOfCallClient.{Deed, operates, retries, delivered_entries, attempt_entries, went_entries, acted_entries, entries_of}
+use Rattle.failed_reasons.specs.call_whys.specs.call_places.proofs.NoteWeights.{term, two_terms, each_less}
 use Rattle.failed_reasons.specs.call_whys.specs.call_places.proofs.Still.{is_retry, is_first}
-use Rattle.failed_reasons.specs.call_whys.specs.call_places.proofs.Counts.{by_task, by_retry, tried_few, none_first, task_total}
-use Rattle.failed_reasons.specs.call_whys.specs.call_places.proofs.Labels.{label_in, labels}
-use Rattle.failed_reasons.specs.call_whys.specs.call_places.proofs.Numbers.{numbered, own_labels, no_labels}
-use Rattle.failed_reasons.specs.call_whys.specs.call_places.proofs.Ids.{IdLaws, laws_of, IsIdOf, version_low, one_id}
-use Rattle.failed_reasons.specs.call_whys.specs.call_places.proofs.Clients.{Client, total_map, view_of, tasks_of, deeds_of, own_of, retry_id}
-use Rattle.failed_reasons.specs.call_whys.specs.call_places.proofs.Places.{views_are, lists_are, noted_among, own_behind, may_make, one_number, made_once, crew_of}
+use Rattle.failed_reasons.specs.call_whys.specs.call_places.proofs.RetryAndIdCounts.{by_task, by_retry, tried_few, none_first, task_total}
+use Rattle.failed_reasons.specs.call_whys.specs.call_places.proofs.LabelPlaceIndices.{label_in, labels}
+use Rattle.failed_reasons.specs.call_whys.specs.call_places.proofs.TaskNumbers.{numbered, own_labels, no_labels}
+use Rattle.failed_reasons.specs.call_whys.specs.call_places.proofs.IdsOfRetries.{IdLaws, laws_of, IsIdOf, version_low, one_id}
+use Rattle.failed_reasons.specs.call_whys.specs.call_places.proofs.ClientPlaces.{Client, total_map, view_of, tasks_of, deeds_of, own_of, retry_id}
+use Rattle.failed_reasons.specs.call_whys.specs.call_places.proofs.CallPlaceOrders.{views_are, lists_are, noted_among, own_behind, may_make, one_number, made_once, crew_of}
 use Rattle.failed_reasons.specs.call_whys.specs.call_places.proofs.Log as log
 use Rattle.failed_reasons.specs.call_whys.specs.call_told.specs.Least.{is_made_for}
-use Rattle.failed_reasons.specs.attempts_told.specs.Attempts.{last_attempt}
+use Rattle.failed_reasons.specs.attempts_told.specs.CountedAttempts.{last_attempt}
 use Rattle.failed_reasons.specs.attempts_told.proofs.Last.{none_further}
-use Rattle.failed_reasons.specs.call_whys.specs.call_places.specs.sock_deeds.proofs.Entries.{before}
+use Rattle.failed_reasons.specs.call_whys.specs.call_places.specs.sock_deeds.proofs.PlacesOfEntries.{before}
 use Rattle.failed_reasons.specs.call_whys.specs.call_places.specs.sock_deeds.proofs.Flats.{flat_from}
 use Rattle.failed_reasons.specs.Missed.{delivery_missed, attempt_missed, went_missed, acted_missed, acted_id, IsMadeBy, missed_in, id_of, IsBacked, attempt_of}
-use Rattle.failed_reasons.proofs.Losses.{IsAskedIn}
+use Rattle.failed_reasons.proofs.AttemptLosses.{IsAskedIn}
 use Rattle.failed_ends.proofs.Posters.{attempt_low}
-use Rattle.failed_reasons.specs.call_whys.specs.call_places.specs.sock_deeds.proofs.Places.{map_back}
-use Rattle.failed_reasons.proofs.Taken.{OneDeed}
-use Rattle.sock_words.specs.Words.{id_slot, id_first}
+use Rattle.failed_reasons.specs.call_whys.specs.call_places.specs.sock_deeds.proofs.ListPlaces.{map_back}
+use Rattle.failed_reasons.proofs.FailedRunPremises.{OneDeed}
+use Rattle.sock_words.specs.PackedWords.{id_slot, id_first}
 use Rattle.sock_words.specs.Totals.{total}
 
 -- ## Frames of a deed

@@ -4,12 +4,12 @@ use Rattle.std.specs.Prelude.{Option}
 use Rattle.std.specs.List.{AllByRecursion}
 use mathlib.Core.Option.{some, some-injective, some-ne-none}
 use lib.ListN.{get_elem?}
-use Rattle.sock_words.specs.Codes.{EEOF}
+use Rattle.sock_words.specs.ErrorCodes.{EEOF}
 use Rattle.sock_words.specs.declared.plain.Plan as sizes
 use Rattle.sock_words.specs.declared.socket_id.SocketId.{SocketId}
 use Rattle.sock_model.specs.declared.view.View as sock_view
 use Rattle.sock_io.specs.declared.link.Out.{Ghosts}
-use Rattle.sock_io.specs.Link.{InState}
+use Rattle.sock_io.specs.LinkHalves.{InState}
 use Rattle.corr_core.specs.Law.{is_ended}
 use Rattle.corr_core.specs.Word.{parts}
 use Rattle.corr_core.specs.declared.marks.Kept.{Kept}
@@ -17,24 +17,24 @@ use Rattle.corr_core.specs.declared.marks.Note.{Note}
 use Rattle.corr_core.specs.declared.marks.Noted.{Noted}
 use Rattle.corr_core.specs.declared.marks.Plan.{Plan}
 use Rattle.corr_core.specs.declared.marks.View.{View}
-use Rattle.corr_id.specs.id_rule.specs.Lawful.{notes_of}
-use Rattle.corr_id.specs.Closing.{Closing}
+use Rattle.corr_id.specs.id_rule.specs.LawfulIdTable.{notes_of}
+use Rattle.corr_id.specs.ClosingIdLists.{Closing}
 use Rattle.sock_message.specs.Asked.{Asked}
 use Rattle.failed_reasons.specs.Below.PrpcFrame.Frame.{Frame}
 use Rattle.failed_reasons.specs.Below.RpcClient.Told.{Told}
-use Rattle.failed_reasons.specs.Below.RpcReader.Books.{Books}
+use Rattle.failed_reasons.specs.Below.RpcReader.ReaderBooks.{Books}
 use Rattle.failed_reasons.specs.Below.RpcReader.Met.{is_asked}
-use Rattle.failed_reasons.specs.Below.RpcReader.Reading as reading
-use Rattle.failed_reasons.specs.Below.RpcReader.Running.{ReadLink, ReadIf}
-use Rattle.failed_reasons.specs.Below.CallRun.Readers.{LinkReader, nothing_read, IsReader}
-use Rattle.failed_reasons.specs.Below.RpcReader.Resting.{RestEnded}
+use Rattle.failed_reasons.specs.Below.RpcReader.LinkReading as reading
+use Rattle.failed_reasons.specs.Below.RpcReader.ReaderRunFromOpen.{ReadLink, ReadIf}
+use Rattle.failed_reasons.specs.Below.CallRun.ReadersOfLinks.{LinkReader, nothing_read, IsReader}
+use Rattle.failed_reasons.specs.Below.RpcReader.CallsLeftAfterReading.{RestEnded}
 use Rattle.failed_reasons.specs.call_whys.specs.call_told.proofs.MetFrames.{Responds, end_unanswered, wait_unanswered}
-use Rattle.failed_reasons.specs.call_whys.specs.call_told.proofs.Readers.{AllRead, link_read, if_bytes, reader_gave, readers_gave}
-use Rattle.failed_reasons.specs.call_whys.specs.call_told.proofs.Responses.{NotesGrow, met_in}
-use Rattle.failed_reasons.specs.call_whys.specs.call_told.proofs.Unanswered.{AllMet, CodeEnd, EndOf, TellsEnds, WasMet, was_asked, read_met, read_calm, left_met, read_tells, rest_tells}
-use Rattle.failed_reasons.proofs.Ends.{EndedIf, ReadEnded}
-use Rattle.failed_reasons.proofs.Posts.{frames_stay}
-use Rattle.failed_reasons.proofs.Views.{queued_in}
+use Rattle.failed_reasons.specs.call_whys.specs.call_told.proofs.ToldByReaders.{AllRead, link_read, if_bytes, reader_gave, readers_gave}
+use Rattle.failed_reasons.specs.call_whys.specs.call_told.proofs.MetResponses.{NotesGrow, met_in}
+use Rattle.failed_reasons.specs.call_whys.specs.call_told.proofs.EndedCallsUnanswered.{AllMet, CodeEnd, EndOf, TellsEnds, WasMet, was_asked, read_met, read_calm, left_met, read_tells, rest_tells}
+use Rattle.failed_reasons.proofs.CodesOfReadingEnds.{EndedIf, ReadEnded}
+use Rattle.failed_reasons.proofs.ReaderPosts.{frames_stay}
+use Rattle.failed_reasons.proofs.NotedErrorsInViews.{queued_in}
 use Rattle.failed_reasons.proofs.Waits.{WaitsAt, Waits, waits_none, waits_then, all_waits}
 use Rattle.sock_words.specs.Totals.{total}
 

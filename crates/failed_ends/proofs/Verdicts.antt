@@ -4,10 +4,10 @@ use Rattle.std.specs.Prelude.{Option, ◌==◌, ◌||◌, if◌then◌else◌}
 use Rattle.std.proofs.lemmas.Bool.{eqb-true}
 use mathlib.Core.Option.{some}
 use lib.ListN.{get_elem?}
-use Rattle.failed_reasons.specs.call_whys.specs.call_places.specs.script_facts.proofs.Lists.{contains_from}
+use Rattle.failed_reasons.specs.call_whys.specs.call_places.specs.script_facts.proofs.FilteredLists.{contains_from}
 use Rattle.sock_io.specs.declared.link.Out.{Ghosts}
-use Rattle.sock_io.specs.Link.{OutState}
-use Rattle.sock_words.specs.Codes.{ERPCTIMEDOUT, is_final}
+use Rattle.sock_io.specs.LinkHalves.{OutState}
+use Rattle.sock_words.specs.ErrorCodes.{ERPCTIMEDOUT, is_final}
 use Rattle.sock_words.specs.declared.outcome.Outcome.{Outcome}
 use Rattle.sock_words.specs.declared.outcome.Outcome.TheVariants as outcome
 use Rattle.sock_words.specs.declared.plain.Plan.{Plan}
@@ -15,45 +15,45 @@ use Rattle.sock_words.specs.declared.place_word.PlaceWord.{PlaceWord}
 use Rattle.sock_words.specs.declared.vref.Vref.{Vref}
 use Rattle.seat_programs.specs.declared.task.Op.TheVariants as ops
 use Rattle.seat_programs.specs.declared.task.Task.{Task}
-use Rattle.seat_programs.specs.Told.{AreTasks, IsTask, Became}
-use Rattle.seat_programs.specs.ToldCalls.{Fixed, Order, IsExpiredWith, FailedBy, ByExpiry}
+use Rattle.seat_programs.specs.Explained.{AreTasks, IsTask, Became}
+use Rattle.seat_programs.specs.ExplainedCalls.{Fixed, Order, IsExpiredWith, FailedBy, ByExpiry}
 use Rattle.corr_core.specs.Word.{Parts, parts}
 use Rattle.corr_core.specs.declared.marks.Kept.{Kept}
 use Rattle.corr_core.specs.declared.marks.Note.{Note}
 use Rattle.corr_core.specs.declared.marks.Note.TheVariants.{Made, Locker}
 use Rattle.corr_core.specs.declared.marks.Noted.{Noted}
 use Rattle.corr_core.specs.declared.marks.View.{View}
-use Rattle.corr_core.proofs.Notes.{only-at, total_some}
-use Rattle.corr_id.specs.id_rule.specs.Lawful.{call_index, notes_of}
+use Rattle.corr_core.proofs.NoteSums.{only-at, total_some}
+use Rattle.corr_id.specs.id_rule.specs.LawfulIdTable.{call_index, notes_of}
 use Rattle.sock_message.specs.Asked.{Asked}
-use Rattle.corr_id.specs.Calls.{is_saw}
-use Rattle.corr_id.specs.Closing.{Closing}
-use Rattle.corr_id.specs.Posts.{IsTimely}
+use Rattle.corr_id.specs.SeatBehindIdCalls.{is_saw}
+use Rattle.corr_id.specs.ClosingIdLists.{Closing}
+use Rattle.corr_id.specs.PostAnswers.{IsTimely}
 use Rattle.corr_id.specs.declared.calls.IdLock.{IdLock}
-use Rattle.corr_id.proofs.Ranges.{lock_range}
+use Rattle.corr_id.proofs.LockRangeLengths.{lock_range}
 use Rattle.failed_reasons.specs.Below.RpcClient.Told.{Told}
 use Rattle.call_table.specs.declared.errors.Decision.TheVariants as decisions
-use Rattle.failed_reasons.specs.Below.CallErrors.Locking.{id_in}
-use Rattle.failed_reasons.specs.Below.CallErrors.Ending.{failed}
+use Rattle.failed_reasons.specs.Below.CallErrors.LockingByVersion.{id_in}
+use Rattle.failed_reasons.specs.Below.CallErrors.CallEndsWithCode.{failed}
 use Rattle.failed_reasons.specs.Below.CallErrors.Handling.{decision}
-use Rattle.failed_reasons.specs.Below.CallRun.Readers.{LinkReader}
+use Rattle.failed_reasons.specs.Below.CallRun.ReadersOfLinks.{LinkReader}
 use Rattle.failed_reasons.specs.Below.CallRun.Threads.{RanWith, MayRunAll, ids_of}
-use Rattle.failed_reasons.specs.call_whys.specs.call_places.specs.Counted.{HaveNotesOf}
-use Rattle.failed_reasons.specs.call_whys.specs.call_places.proofs.Clients.{Client, view_of, tasks_of, deeds_of}
-use Rattle.failed_reasons.specs.call_whys.specs.call_places.proofs.Places.{tasks_are, noted_among, crew_of}
+use Rattle.failed_reasons.specs.call_whys.specs.call_places.specs.ClientNotesCounted.{HaveNotesOf}
+use Rattle.failed_reasons.specs.call_whys.specs.call_places.proofs.ClientPlaces.{Client, view_of, tasks_of, deeds_of}
+use Rattle.failed_reasons.specs.call_whys.specs.call_places.proofs.CallPlaceOrders.{tasks_are, noted_among, crew_of}
 use Rattle.failed_reasons.specs.call_whys.specs.call_told.specs.Least.{is_made_for, is_locked_for}
-use Rattle.failed_reasons.specs.call_whys.specs.call_told.proofs.Ends.{IsEndOf}
+use Rattle.failed_reasons.specs.call_whys.specs.call_told.proofs.ToldCallEnds.{IsEndOf}
 use Rattle.failed_reasons.specs.call_whys.specs.call_told.proofs.Least.{lock_of, end_number}
-use Rattle.failed_reasons.specs.call_whys.specs.expire_told.specs.Said.{AreSaid, HaveKeptOf}
-use Rattle.failed_reasons.specs.call_whys.specs.expire_told.proofs.Expires.{found_maker}
+use Rattle.failed_reasons.specs.call_whys.specs.expire_told.specs.ExpireOutcomesSaid.{AreSaid, HaveKeptOf}
+use Rattle.failed_reasons.specs.call_whys.specs.expire_told.proofs.ExpireOutcomeCauses.{found_maker}
 use Rattle.failed_reasons.specs.Missed.{attempt_of}
-use Rattle.failed_reasons.specs.Reasons.{KeepsWord, Reason, timed_out, missed, dropped, IsCaused}
-use Rattle.failed_ends.proofs.Clients.{Says}
-use Rattle.failed_reasons.proofs.Codes.{IsMissCode, IsReadCode, deed_code}
+use Rattle.failed_reasons.specs.ErrorReasons.{KeepsWord, Reason, timed_out, missed, dropped, IsCaused}
+use Rattle.failed_ends.proofs.ClientEndsByErrors.{Says}
+use Rattle.failed_reasons.proofs.FailedAttemptCodes.{IsMissCode, IsReadCode, deed_code}
 use Rattle.failed_ends.proofs.Posters.{Poster, posted_by}
-use Rattle.failed_reasons.specs.call_whys.specs.call_places.specs.sock_deeds.proofs.Places.{to_slice, map_there}
-use Rattle.failed_reasons.proofs.Taken.{OthersRead, MissedBy, DroppedBy}
-use Rattle.sock_words.specs.Words.{id_slot, id_first}
+use Rattle.failed_reasons.specs.call_whys.specs.call_places.specs.sock_deeds.proofs.ListPlaces.{to_slice, map_there}
+use Rattle.failed_reasons.proofs.FailedRunPremises.{OthersRead, MissedBy, DroppedBy}
+use Rattle.sock_words.specs.PackedWords.{id_slot, id_first}
 use Rattle.sock_words.specs.Totals.{total}
 
 -- ## The last attempt

@@ -7,9 +7,9 @@ use native.Mathlib.Decide.{ℕ_discrete}
 use lib.ListN.{get_elem?}
 use Rattle.atomic_table.specs.Table.{Me}
 use Rattle.sock_io.specs.declared.link.Out.{Ghosts}
-use Rattle.sock_io.specs.Link.{OutState}
-use Rattle.sock_words.specs.Codes.{EFAILEDSOCKET}
-use Rattle.sock_words.specs.Words.{at_word, id_slot, id_first}
+use Rattle.sock_io.specs.LinkHalves.{OutState}
+use Rattle.sock_words.specs.ErrorCodes.{EFAILEDSOCKET}
+use Rattle.sock_words.specs.PackedWords.{at_word, id_slot, id_first}
 use Rattle.sock_words.specs.declared.outcome.Outcome.{Outcome}
 use Rattle.sock_words.specs.declared.outcome.Outcome.TheVariants as outcome
 use Rattle.sock_words.specs.declared.plain.Plan.{Plan}
@@ -22,38 +22,38 @@ use Rattle.corr_core.specs.declared.marks.Kept.{Kept}
 use Rattle.corr_core.specs.declared.marks.Note.TheVariants.{Made}
 use Rattle.corr_core.specs.declared.marks.Plan as id_plan
 use Rattle.corr_core.specs.declared.marks.View.{View}
-use Rattle.corr_core.proofs.Notes.{pair-else_first, pair-same}
-use Rattle.corr_id.specs.id_rule.specs.Lawful.{at_index, call_index, is_stored, notes_of, with_kept}
+use Rattle.corr_core.proofs.NoteSums.{pair-else_first, pair-same}
+use Rattle.corr_id.specs.id_rule.specs.LawfulIdTable.{at_index, call_index, is_stored, notes_of, with_kept}
 use Rattle.sock_message.specs.Asked.{Asked}
 use Rattle.corr_id.specs.declared.calls.IdLock.{IdLock}
 use Rattle.corr_id.specs.declared.posts.Posted.{Posted}
 use Rattle.corr_id.specs.declared.posts.Posted.TheVariants.{Locked as HasLock}
-use Rattle.corr_id.specs.Calls.{one}
-use Rattle.corr_id.specs.Posts.{PostOk}
+use Rattle.corr_id.specs.SeatBehindIdCalls.{one}
+use Rattle.corr_id.specs.PostAnswers.{PostOk}
 use Rattle.attempts_told.specs.Below.CallErrors.Retry.{Retry}
-use Rattle.attempts_told.specs.Below.CallErrors.Books.{CallStand, stand_of}
+use Rattle.attempts_told.specs.Below.CallErrors.ClientBooks.{CallStand, stand_of}
 use Rattle.attempts_told.specs.Below.CallErrors.Handling.{Decided}
 use Rattle.attempts_told.specs.Below.CallErrors.Handling as handling
-use Rattle.attempts_told.specs.Below.CallErrors.Posting.{Handled, PostedBy}
-use Rattle.attempts_told.specs.Below.CallAttempts.Both.{Both}
+use Rattle.attempts_told.specs.Below.CallErrors.PostedErrors.{Handled, PostedBy}
+use Rattle.attempts_told.specs.Below.CallAttempts.ClientAtBothTables.{Both}
 use Rattle.attempts_told.specs.Below.CallAttempts.Attempting.{AttemptedBy, nowhere, over_link}
-use Rattle.attempts_told.specs.Below.CallAttempts.Letters.{letter_for}
-use Rattle.attempts_told.specs.Below.CallAttempts.Retrying.{without_oldest, WentTo, stray, unopened, to_socket, RetriedBy, had_ended, overtaken, went_again}
-use Rattle.attempts_told.specs.Below.CallClient.Acting.{Stand, both_of, letter_of, Acted}
+use Rattle.attempts_told.specs.Below.CallAttempts.AttemptLetters.{letter_for}
+use Rattle.attempts_told.specs.Below.CallAttempts.WaitingRetries.{without_oldest, WentTo, stray, unopened, to_socket, RetriedBy, had_ended, overtaken, went_again}
+use Rattle.attempts_told.specs.Below.CallClient.ClientBetweenOperations.{Stand, both_of, letter_of, Acted}
 use Rattle.attempts_told.specs.Below.CallRun.Threads.{Thread, IsThread}
-use Rattle.attempts_told.specs.call_whys.specs.call_places.specs.Deeds.{Deed, operates, retries, deeds}
-use Rattle.attempts_told.specs.call_whys.specs.call_places.proofs.Follows.{Follows, expired_by, joined_by, sent_calling, delivered_by}
+use Rattle.attempts_told.specs.call_whys.specs.call_places.specs.DeedsOfCallClient.{Deed, operates, retries, deeds}
+use Rattle.attempts_told.specs.call_whys.specs.call_places.proofs.CallStandFollows.{Follows, expired_by, joined_by, sent_calling, delivered_by}
 use Rattle.attempts_told.specs.call_whys.specs.call_places.proofs.Walks.{Walks, run_walk}
-use Rattle.attempts_told.specs.call_whys.specs.call_places.proofs.Own.{end_is}
+use Rattle.attempts_told.specs.call_whys.specs.call_places.proofs.OwnAcceptedMessages.{end_is}
 use Rattle.attempts_told.specs.call_whys.specs.call_places.proofs.Still.{attempted_still, retried_still}
-use Rattle.attempts_told.specs.call_whys.specs.call_places.proofs.Counts.{Grows, acted_might}
-use Rattle.attempts_told.specs.Below.CallClient.Telling.{did_total}
+use Rattle.attempts_told.specs.call_whys.specs.call_places.proofs.RetryAndIdCounts.{Grows, acted_might}
+use Rattle.attempts_told.specs.Below.CallClient.EndedCallsTelling.{did_total}
 use Rattle.attempts_told.specs.call_whys.specs.call_told.specs.Least.{is_made_for}
-use Rattle.attempts_told.specs.call_whys.specs.call_told.proofs.Ends.{made_silent, counted_here}
+use Rattle.attempts_told.specs.call_whys.specs.call_told.proofs.ToldCallEnds.{made_silent, counted_here}
 use Rattle.attempts_told.specs.call_whys.specs.call_told.proofs.Least.{word_is as kept_word}
 use Rattle.attempts_told.specs.call_whys.specs.call_places.specs.sock_deeds.proofs.Flats.{append_first, append_later}
 use Rattle.failed_reasons.specs.Missed.{acted_id, id_of, attempt_of}
-use Rattle.failed_reasons.proofs.Losses.{IsAskedIn}
+use Rattle.failed_reasons.proofs.AttemptLosses.{IsAskedIn}
 use Rattle.sock_words.specs.Totals.{total}
 
 -- ## The link of a deed

@@ -7,31 +7,31 @@ use mathlib.Core.Option.{some}
 use native.Mathlib.Decide.{ℕ_discrete}
 use lib.ListN.{get_elem?}
 use Rattle.sock_io.specs.declared.link.Out.{Ghosts}
-use Rattle.sock_io.specs.Link.{OutState}
+use Rattle.sock_io.specs.LinkHalves.{OutState}
 use Rattle.sock_words.specs.declared.outcome.Outcome.{Outcome}
 use Rattle.sock_words.specs.declared.plain.Plan.{Plan}
 use Rattle.seat_programs.specs.declared.task.Op.{Op}
 use Rattle.seat_programs.specs.declared.task.Task.{Task}
 use Rattle.corr_core.specs.declared.marks.Plan as id_plan
-use Rattle.corr_id.specs.id_rule.specs.Lawful.{notes_of}
+use Rattle.corr_id.specs.id_rule.specs.LawfulIdTable.{notes_of}
 use Rattle.attempts_told.specs.Below.CallErrors.Retry.{Retry}
-use Rattle.attempts_told.specs.Below.CallErrors.Books.{CallStand}
-use Rattle.attempts_told.specs.Below.CallAttempts.Both.{Both}
-use Rattle.attempts_told.specs.Below.CallAttempts.Retrying.{without_oldest, RetriedBy, Retried, none_yet, one_more}
-use Rattle.attempts_told.specs.Below.CallClient.Acting.{Stand, stand, both_of, Acted}
-use Rattle.attempts_told.specs.Below.CallClient.Running.{Course, Ran, begins}
+use Rattle.attempts_told.specs.Below.CallErrors.ClientBooks.{CallStand}
+use Rattle.attempts_told.specs.Below.CallAttempts.ClientAtBothTables.{Both}
+use Rattle.attempts_told.specs.Below.CallAttempts.WaitingRetries.{without_oldest, RetriedBy, Retried, none_yet, one_more}
+use Rattle.attempts_told.specs.Below.CallClient.ClientBetweenOperations.{Stand, stand, both_of, Acted}
+use Rattle.attempts_told.specs.Below.CallClient.ClientRun.{Course, Ran, begins}
 use Rattle.attempts_told.specs.Below.CallRun.Threads.{Thread, IsThread}
-use Rattle.attempts_told.specs.call_whys.specs.call_places.specs.Deeds.{Deed, operates, retries, retries_of, ran_deeds, deeds}
-use Rattle.attempts_told.specs.call_whys.specs.call_places.proofs.Counts.{Grows, acted_might}
-use Rattle.attempts_told.specs.call_whys.specs.call_places.proofs.Own.{end_is}
+use Rattle.attempts_told.specs.call_whys.specs.call_places.specs.DeedsOfCallClient.{Deed, operates, retries, retries_of, ran_deeds, deeds}
+use Rattle.attempts_told.specs.call_whys.specs.call_places.proofs.RetryAndIdCounts.{Grows, acted_might}
+use Rattle.attempts_told.specs.call_whys.specs.call_places.proofs.OwnAcceptedMessages.{end_is}
 use Rattle.attempts_told.specs.call_whys.specs.call_places.proofs.Still.{retried_still}
-use Rattle.attempts_told.specs.call_whys.specs.call_told.proofs.Lists.{all_both, all_then}
+use Rattle.attempts_told.specs.call_whys.specs.call_told.proofs.ListElementsByPlace.{all_both, all_then}
 use Rattle.attempts_told.specs.call_whys.specs.call_deeds.proofs.Ran.{Result, results, results_long}
-use Rattle.attempts_told.specs.call_whys.specs.call_deeds.proofs.Told.{came, made, all_results}
+use Rattle.attempts_told.specs.call_whys.specs.call_deeds.proofs.OperationsToldOnce.{came, made, all_results}
 use Rattle.attempts_told.specs.call_whys.specs.call_places.specs.sock_deeds.proofs.Flats.{append_first, append_later}
-use Rattle.attempts_told.specs.call_whys.specs.call_places.specs.sock_deeds.proofs.Growing.{Grew, stays_as, grew_then}
-use Rattle.attempts_told.specs.call_whys.specs.call_places.specs.sock_deeds.proofs.Places.{place_low}
-use Rattle.failed_reasons.proofs.Reaching.{retry_grew, acted_grew}
+use Rattle.attempts_told.specs.call_whys.specs.call_places.specs.sock_deeds.proofs.GrowingSocketNotes.{Grew, stays_as, grew_then}
+use Rattle.attempts_told.specs.call_whys.specs.call_places.specs.sock_deeds.proofs.ListPlaces.{place_low}
+use Rattle.failed_reasons.proofs.SeenReachesEnd.{retry_grew, acted_grew}
 use Rattle.sock_words.specs.Totals.{total}
 
 -- ## From one stand to a later one

@@ -7,14 +7,14 @@ use mathlib.Core.Option.{some}
 use native.Mathlib.Decide.{ℕ_discrete}
 use lib.ListN.{get_elem?}
 use Rattle.sock_io.specs.declared.link.Out.{Ghosts}
-use Rattle.sock_io.specs.Link.{OutState}
+use Rattle.sock_io.specs.LinkHalves.{OutState}
 use Rattle.sock_words.specs.declared.outcome.Outcome.{Outcome}
 use Rattle.sock_words.specs.declared.outcome.Outcome.TheVariants.{CallFailed}
 use Rattle.sock_words.specs.declared.plain.Plan as sizes
 use Rattle.sock_words.specs.declared.place_word.PlaceWord.{PlaceWord}
 use Rattle.sock_words.specs.declared.vref.Vref.{Vref}
 use Rattle.seat_programs.specs.declared.task.Task.{Task}
-use Rattle.seat_programs.specs.Told.{AreTasks}
+use Rattle.seat_programs.specs.Explained.{AreTasks}
 use Rattle.corr_core.specs.Word.{Parts, parts}
 use Rattle.corr_core.specs.Law.{is_ended}
 use Rattle.corr_core.specs.declared.marks.Kept.{Kept}
@@ -23,31 +23,31 @@ use Rattle.corr_core.specs.declared.marks.Note.TheVariants.{Ended}
 use Rattle.corr_core.specs.declared.marks.Noted.{Noted}
 use Rattle.corr_core.specs.declared.marks.Plan.{Plan}
 use Rattle.corr_core.specs.declared.marks.View.{View}
-use Rattle.corr_core.proofs.Notes.{only-at, only-else}
-use Rattle.corr_id.specs.id_rule.specs.Lawful.{notes_of}
+use Rattle.corr_core.proofs.NoteSums.{only-at, only-else}
+use Rattle.corr_id.specs.id_rule.specs.LawfulIdTable.{notes_of}
 use Rattle.sock_message.specs.Asked.{Asked}
-use Rattle.corr_id.specs.Calls.{FoundUpTo, is_saw}
-use Rattle.corr_id.specs.Closing.{Closing}
-use Rattle.attempts_told.specs.Below.PrpcFrame.Meaning.{frame_of}
+use Rattle.corr_id.specs.SeatBehindIdCalls.{FoundUpTo, is_saw}
+use Rattle.corr_id.specs.ClosingIdLists.{Closing}
+use Rattle.attempts_told.specs.Below.PrpcFrame.FrameMeaning.{frame_of}
 use Rattle.sock_message.specs.brpc_model.specs.ResponseOutcome.{ending_of}
 use Rattle.attempts_told.specs.Below.RpcClient.Told.{Told}
-use Rattle.attempts_told.specs.Below.RpcReader.Books.{Books, EndedAs, ToldBy, id_of}
+use Rattle.attempts_told.specs.Below.RpcReader.ReaderBooks.{Books, EndedAs, ToldBy, id_of}
 use Rattle.attempts_told.specs.Below.RpcReader.Met.{is_for}
-use Rattle.attempts_told.specs.Below.RpcReader.Posting.{LostBy}
-use Rattle.attempts_told.specs.Below.RpcReader.Resting.{HadEnded, EndedLast, OneEnded, RestEnded}
-use Rattle.attempts_told.specs.Below.CallRun.Readers.{LinkReader}
+use Rattle.attempts_told.specs.Below.RpcReader.PostingAtReadingEnd.{LostBy}
+use Rattle.attempts_told.specs.Below.RpcReader.CallsLeftAfterReading.{HadEnded, EndedLast, OneEnded, RestEnded}
+use Rattle.attempts_told.specs.Below.CallRun.ReadersOfLinks.{LinkReader}
 use Rattle.attempts_told.specs.Below.CallRun.Threads.{RanWith, MayRunAll, ids_of}
-use Rattle.attempts_told.specs.call_whys.specs.call_places.specs.Counted.{HaveNotesOf}
-use Rattle.attempts_told.specs.call_whys.specs.call_places.proofs.Ids.{IsIdOf, one_id}
-use Rattle.attempts_told.specs.call_whys.specs.call_places.proofs.Clients.{Client, view_of}
-use Rattle.attempts_told.specs.call_whys.specs.call_places.proofs.Places.{all as all_clients, made_once}
+use Rattle.attempts_told.specs.call_whys.specs.call_places.specs.ClientNotesCounted.{HaveNotesOf}
+use Rattle.attempts_told.specs.call_whys.specs.call_places.proofs.IdsOfRetries.{IsIdOf, one_id}
+use Rattle.attempts_told.specs.call_whys.specs.call_places.proofs.ClientPlaces.{Client, view_of}
+use Rattle.attempts_told.specs.call_whys.specs.call_places.proofs.CallPlaceOrders.{all as all_clients, made_once}
 use Rattle.attempts_told.specs.call_whys.specs.call_told.specs.Least.{is_made_for}
-use Rattle.attempts_told.specs.call_whys.specs.call_told.specs.Once.{ends_of}
-use Rattle.attempts_told.specs.call_whys.specs.call_told.proofs.Lists.{all_both, all_then}
-use Rattle.attempts_told.specs.call_whys.specs.call_told.proofs.Responses.{one_goes, rest_goes}
+use Rattle.attempts_told.specs.call_whys.specs.call_told.specs.ToldOnce.{ends_of}
+use Rattle.attempts_told.specs.call_whys.specs.call_told.proofs.ListElementsByPlace.{all_both, all_then}
+use Rattle.attempts_told.specs.call_whys.specs.call_told.proofs.MetResponses.{one_goes, rest_goes}
 use Rattle.attempts_told.specs.call_whys.specs.call_told.proofs.Tallies.{ending_is, version_low}
-use Rattle.attempts_told.proofs.Senders.{made_for_there}
-use Rattle.sock_words.specs.Words.{id_slot}
+use Rattle.attempts_told.proofs.SendersWithCalls.{made_for_there}
+use Rattle.sock_words.specs.PackedWords.{id_slot}
 use Rattle.sock_words.specs.Totals.{total}
 
 -- all notes of the one list are in the other

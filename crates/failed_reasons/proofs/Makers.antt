@@ -5,7 +5,7 @@ use mathlib.Core.Option.{some}
 use native.Mathlib.Decide.{ℕ_discrete}
 use lib.ListN.{get_elem?}
 use Rattle.sock_io.specs.declared.link.Out.{Ghosts}
-use Rattle.sock_io.specs.Link.{OutState}
+use Rattle.sock_io.specs.LinkHalves.{OutState}
 use Rattle.sock_words.specs.declared.outcome.Outcome.{Outcome}
 use Rattle.sock_words.specs.declared.outcome.Outcome.TheVariants as outcome
 use Rattle.sock_words.specs.declared.plain.Plan.{Plan}
@@ -15,21 +15,21 @@ use Rattle.seat_programs.specs.declared.task.Task.{Task}
 use Rattle.atomic_table.specs.Table.{Me}
 use Rattle.corr_core.specs.declared.marks.Plan as id_plan
 use Rattle.corr_core.specs.declared.marks.View.{View}
-use Rattle.corr_core.proofs.Notes.{only-else, total_some}
-use Rattle.corr_id.proofs.Seats.{total_append}
+use Rattle.corr_core.proofs.NoteSums.{only-else, total_some}
+use Rattle.corr_id.proofs.IdSeatSplits.{total_append}
 use Rattle.sock_message.specs.Asked.{Asked}
-use Rattle.attempts_told.specs.Below.CallErrors.Books.{CallStand, stand_of}
-use Rattle.attempts_told.specs.Below.CallAttempts.Both.{Both}
-use Rattle.attempts_told.specs.Below.CallAttempts.Retrying.{without_oldest, Retried, none_yet, one_more}
-use Rattle.attempts_told.specs.Below.CallClient.Acting.{Stand, stand, both_of, Acted}
-use Rattle.attempts_told.specs.Below.CallClient.Running.{Course, Ran, begins}
+use Rattle.attempts_told.specs.Below.CallErrors.ClientBooks.{CallStand, stand_of}
+use Rattle.attempts_told.specs.Below.CallAttempts.ClientAtBothTables.{Both}
+use Rattle.attempts_told.specs.Below.CallAttempts.WaitingRetries.{without_oldest, Retried, none_yet, one_more}
+use Rattle.attempts_told.specs.Below.CallClient.ClientBetweenOperations.{Stand, stand, both_of, Acted}
+use Rattle.attempts_told.specs.Below.CallClient.ClientRun.{Course, Ran, begins}
 use Rattle.attempts_told.specs.Below.CallRun.Threads.{Thread, IsThread}
-use Rattle.attempts_told.specs.call_whys.specs.call_places.specs.Counted.{makes}
+use Rattle.attempts_told.specs.call_whys.specs.call_places.specs.ClientNotesCounted.{makes}
 use Rattle.attempts_told.specs.call_whys.specs.call_places.proofs.Still.{still_same, retried_still}
-use Rattle.attempts_told.specs.call_whys.specs.call_places.proofs.Counts.{call_in, acted_might}
-use Rattle.attempts_told.specs.call_whys.specs.call_places.proofs.Own.{end_is}
+use Rattle.attempts_told.specs.call_whys.specs.call_places.proofs.RetryAndIdCounts.{call_in, acted_might}
+use Rattle.attempts_told.specs.call_whys.specs.call_places.proofs.OwnAcceptedMessages.{end_is}
 use Rattle.attempts_told.specs.call_whys.specs.call_deeds.proofs.Ran.{Result, results}
-use Rattle.attempts_told.specs.call_whys.specs.call_deeds.proofs.Told.{came, made, all_results}
+use Rattle.attempts_told.specs.call_whys.specs.call_deeds.proofs.OperationsToldOnce.{came, made, all_results}
 use Rattle.sock_words.specs.Totals.{total}
 
 -- 1 where it is the call of this operation, and nothing was told of it at once

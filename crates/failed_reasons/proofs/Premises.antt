@@ -5,40 +5,40 @@ use Rattle.std.specs.List.{AllByRecursion}
 use mathlib.Core.Option.{some}
 use lib.ListN.{get_elem?}
 use Rattle.sock_io.specs.declared.link.Out.{Ghosts}
-use Rattle.sock_io.specs.Link.{OutState}
+use Rattle.sock_io.specs.LinkHalves.{OutState}
 use Rattle.sock_words.specs.declared.outcome.Outcome.{Outcome}
 use Rattle.sock_words.specs.declared.plain.Plan.{Plan}
 use Rattle.sock_words.specs.declared.place_word.PlaceWord.{PlaceWord}
 use Rattle.sock_words.specs.declared.vref.Vref.{Vref}
 use Rattle.seat_programs.specs.declared.task.Op.TheVariants as ops
 use Rattle.seat_programs.specs.declared.task.Task.{Task}
-use Rattle.seat_programs.specs.Told.{AreTasks, IsTask, TaskFits, OpFits}
+use Rattle.seat_programs.specs.Explained.{AreTasks, IsTask, TaskFits, OpFits}
 use Rattle.corr_core.specs.Law.{is_attempt}
 use Rattle.corr_core.specs.declared.marks.Kept.{Kept}
 use Rattle.corr_core.specs.declared.marks.Note.TheVariants.{Made}
 use Rattle.corr_core.specs.declared.marks.Noted.{Noted}
 use Rattle.corr_core.specs.declared.marks.View.{View}
-use Rattle.corr_id.specs.id_rule.specs.Lawful.{notes_of}
+use Rattle.corr_id.specs.id_rule.specs.LawfulIdTable.{notes_of}
 use Rattle.sock_message.specs.Asked.{Asked}
-use Rattle.corr_id.specs.Closing.{Closing}
+use Rattle.corr_id.specs.ClosingIdLists.{Closing}
 use Rattle.attempts_told.specs.Below.RpcClient.Told.{Told}
-use Rattle.attempts_told.specs.Below.CallRun.Readers.{LinkReader}
+use Rattle.attempts_told.specs.Below.CallRun.ReadersOfLinks.{LinkReader}
 use Rattle.attempts_told.specs.Below.CallRun.Threads.{RanWith, MayRunAll, ids_of}
-use Rattle.attempts_told.specs.call_whys.specs.call_places.specs.Counted.{HaveNotesOf}
-use Rattle.attempts_told.specs.call_whys.specs.call_places.specs.Deeds.{Deed}
+use Rattle.attempts_told.specs.call_whys.specs.call_places.specs.ClientNotesCounted.{HaveNotesOf}
+use Rattle.attempts_told.specs.call_whys.specs.call_places.specs.DeedsOfCallClient.{Deed}
 use Rattle.attempts_told.specs.call_whys.specs.call_places.proofs.Still.{advances}
-use Rattle.attempts_told.specs.call_whys.specs.call_places.proofs.Clients.{Client, tasks_of, deeds_of}
-use Rattle.attempts_told.specs.call_whys.specs.call_places.proofs.Places.{all as all_clients, may_make, crew_of}
-use Rattle.attempts_told.specs.call_whys.specs.call_deeds.specs.Retried.{all_asked}
+use Rattle.attempts_told.specs.call_whys.specs.call_places.proofs.ClientPlaces.{Client, tasks_of, deeds_of}
+use Rattle.attempts_told.specs.call_whys.specs.call_places.proofs.CallPlaceOrders.{all as all_clients, may_make, crew_of}
+use Rattle.attempts_told.specs.call_whys.specs.call_deeds.specs.RetriedCalls.{all_asked}
 use Rattle.attempts_told.specs.call_whys.specs.call_deeds.proofs.Ran.{AreLater}
-use Rattle.attempts_told.specs.call_whys.specs.call_deeds.proofs.Runs.{same_task}
-use Rattle.attempts_told.specs.call_whys.specs.call_places.specs.script_facts.proofs.Lists.{has_from, all_at as all_there_in}
-use Rattle.attempts_told.specs.call_whys.specs.call_places.specs.sock_deeds.specs.Runs.{IsOperation}
-use Rattle.attempts_told.specs.Attempts.{last_attempt}
-use Rattle.attempts_told.proofs.Told.{few as few_attempts}
-use Rattle.failed_reasons.proofs.Asked.{own_task, asked_task}
-use Rattle.failed_reasons.proofs.Crew.{is_task, own_call}
-use Rattle.failed_reasons.proofs.Losses.{IsAskedIn}
+use Rattle.attempts_told.specs.call_whys.specs.call_deeds.proofs.RunsAsDeeds.{same_task}
+use Rattle.attempts_told.specs.call_whys.specs.call_places.specs.script_facts.proofs.FilteredLists.{has_from, all_at as all_there_in}
+use Rattle.attempts_told.specs.call_whys.specs.call_places.specs.sock_deeds.specs.SocketTableRun.{IsOperation}
+use Rattle.attempts_told.specs.CountedAttempts.{last_attempt}
+use Rattle.attempts_told.proofs.AttemptsOfCallsTold.{few as few_attempts}
+use Rattle.failed_reasons.proofs.AskedCallsAreTasks.{own_task, asked_task}
+use Rattle.failed_reasons.proofs.TasksOfRunClients.{is_task, own_call}
+use Rattle.failed_reasons.proofs.AttemptLosses.{IsAskedIn}
 use Rattle.sock_words.specs.Totals.{total}
 
 module _ {O : Type 0} {g : Ghosts O} {state : O → OutState} {readers : List (LinkReader g)} {p : Plan} {slots : ℕ} {setup : List Task} {clients : List (List Task)} {opens : List ℕ} {told ended : List (List Told)} {places : List PlaceWord} {vrefs : List Vref} {outs : List O} {ids : List (View Asked)}

@@ -2,8 +2,8 @@
 use Rattle.std.proofs.Common.{◌≡◌, ℕ, zero, suc, ◌⊎◌, inl, inr, Bool, true, false, List, [], ◌∷◌, ◌++◌, map, append_assoc, append-nil, Some, None, pos, negsuc, refl, ap, ◌∙◌, subst, sym}
 use Rattle.std.specs.Prelude.{Option, ℤ, position, ◌==◌}
 use Rattle.std.specs.List.{AllByRecursion, remove}
-use Rattle.sock_words.specs.Codes.{ERESPONSE}
-use Rattle.sock_words.specs.Words.{at_word_link, id_slot}
+use Rattle.sock_words.specs.ErrorCodes.{ERESPONSE}
+use Rattle.sock_words.specs.PackedWords.{at_word_link, id_slot}
 use Rattle.sock_words.specs.declared.at_word.AtWord.{AtWord}
 use Rattle.sock_words.specs.declared.outcome.Outcome.{Outcome}
 use Rattle.sock_words.specs.declared.outcome.Outcome.TheVariants.{CallFailed}
@@ -11,31 +11,31 @@ use Rattle.sock_words.specs.declared.plain.Plan as sizes
 use Rattle.sock_words.specs.declared.socket_id.SocketId.{SocketId}
 use Rattle.sock_model.specs.declared.view.View as sock_view
 use Rattle.sock_io.specs.declared.link.Out.{Ghosts}
-use Rattle.sock_io.specs.Link.{InState}
+use Rattle.sock_io.specs.LinkHalves.{InState}
 use Rattle.corr_core.specs.Word.{Parts, parts}
 use Rattle.corr_core.specs.declared.marks.Plan.{Plan}
-use Rattle.corr_id.specs.id_rule.specs.Lawful.{at_index, with_kept}
+use Rattle.corr_id.specs.id_rule.specs.LawfulIdTable.{at_index, with_kept}
 use Rattle.sock_message.specs.Asked.{Asked}
 use Rattle.sock_message.specs.brpc_model.specs.Frame as model
 use Rattle.sock_message.specs.brpc_model.specs.Meta.{ResponseMeta}
 use Rattle.sock_message.specs.brpc_model.specs.ResponseOutcome.{outcome_by, ending_of}
 use Rattle.corr_id.specs.declared.posts.Posted.{Posted}
 use Rattle.corr_id.specs.declared.posts.Posted.TheVariants.{Locked as HasLock}
-use Rattle.attempts_told.specs.Below.PrpcFrame.Meaning.{frame_of}
+use Rattle.attempts_told.specs.Below.PrpcFrame.FrameMeaning.{frame_of}
 use Rattle.attempts_told.specs.Below.PrpcFrame.Frame.{Frame}
 use Rattle.attempts_told.specs.Below.RpcClient.Told.{Told}
-use Rattle.attempts_told.specs.call_whys.specs.call_told.proofs.Lists.{all_both}
-use Rattle.attempts_told.specs.Below.RpcReader.Books.{Books, EndedAs, id_of}
+use Rattle.attempts_told.specs.call_whys.specs.call_told.proofs.ListElementsByPlace.{all_both}
+use Rattle.attempts_told.specs.Below.RpcReader.ReaderBooks.{Books, EndedAs, id_of}
 use Rattle.attempts_told.specs.Below.RpcReader.Met.{slot_in, is_asked, is_for, MetIf, FramesMet}
-use Rattle.attempts_told.specs.Below.RpcReader.Posting.{LostBy, LockLost, PostedTo, PostedIf, PostedAt, PostedAll}
-use Rattle.attempts_told.specs.Below.RpcReader.Reading as reading
-use Rattle.attempts_told.specs.Below.RpcReader.Running.{ReadLink, ReadIf}
-use Rattle.attempts_told.specs.Below.RpcReader.Resting.{HadEnded, EndedLast, OneEnded, RestEnded}
-use Rattle.attempts_told.specs.Below.CallRun.Readers.{LinkReader, nothing_read, IsReader}
-use Rattle.attempts_told.specs.call_whys.specs.call_told.proofs.Readers.{AllRead, link_read}
-use Rattle.failed_reasons.proofs.Behind.{is_no_answer}
-use Rattle.failed_reasons.proofs.Codes.{IsReadCode}
-use Rattle.failed_reasons.proofs.Reading.{loss_code}
+use Rattle.attempts_told.specs.Below.RpcReader.PostingAtReadingEnd.{LostBy, LockLost, PostedTo, PostedIf, PostedAt, PostedAll}
+use Rattle.attempts_told.specs.Below.RpcReader.LinkReading as reading
+use Rattle.attempts_told.specs.Below.RpcReader.ReaderRunFromOpen.{ReadLink, ReadIf}
+use Rattle.attempts_told.specs.Below.RpcReader.CallsLeftAfterReading.{HadEnded, EndedLast, OneEnded, RestEnded}
+use Rattle.attempts_told.specs.Below.CallRun.ReadersOfLinks.{LinkReader, nothing_read, IsReader}
+use Rattle.attempts_told.specs.call_whys.specs.call_told.proofs.ToldByReaders.{AllRead, link_read}
+use Rattle.failed_reasons.proofs.CompressedOrNoResponse.{is_no_answer}
+use Rattle.failed_reasons.proofs.FailedAttemptCodes.{IsReadCode}
+use Rattle.failed_reasons.proofs.ErrorsQueuedByReading.{loss_code}
 
 -- an outcome that is a failure has one of those codes
 abbrev IsRead : Outcome → Type 0

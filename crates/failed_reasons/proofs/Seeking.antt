@@ -6,35 +6,35 @@ use Rattle.std.proofs.lemmas.Option.{none-some}
 use mathlib.Core.Option.{some, some-injective, some-ne-none}
 use lib.ListN.{get_elem?}
 use Rattle.sock_io.specs.declared.link.Out.{Ghosts}
-use Rattle.sock_io.specs.Link.{OutState}
+use Rattle.sock_io.specs.LinkHalves.{OutState}
 use Rattle.sock_words.specs.declared.outcome.Outcome.{Outcome}
 use Rattle.sock_words.specs.declared.outcome.Outcome.TheVariants as outcome
 use Rattle.sock_words.specs.declared.plain.Plan.{Plan}
 use Rattle.sock_model.specs.declared.view.View as sock_view
-use Rattle.sock_model.specs.Layout.{name_index}
+use Rattle.sock_model.specs.SocketTableLayout.{name_index}
 use Rattle.attempts_told.specs.Below.SockRule.Letter.{Letter}
 use Rattle.seat_programs.specs.declared.task.Op.{Op}
 use Rattle.seat_programs.specs.declared.task.Op.TheVariants as ops
 use Rattle.seat_programs.specs.declared.task.Task.{Task}
-use Rattle.seat_programs.specs.Told.{IsOpen}
-use Rattle.seat_programs.specs.ToldCalls.{Fixed, Order, Seeks}
+use Rattle.seat_programs.specs.Explained.{IsOpen}
+use Rattle.seat_programs.specs.ExplainedCalls.{Fixed, Order, Seeks}
 use Rattle.corr_core.specs.declared.marks.Plan as id_plan
 use Rattle.sock_message.specs.Asked.{Asked, name_of}
-use Rattle.attempts_told.specs.Below.CallAttempts.Both.{Both}
-use Rattle.attempts_told.specs.Below.CallAttempts.Calling.{BegunAs}
-use Rattle.attempts_told.specs.Below.CallAttempts.Letters.{letter_for}
-use Rattle.attempts_told.specs.Below.CallAttempts.Retrying.{Retried, none_yet, one_more}
-use Rattle.attempts_told.specs.Below.CallClient.Acting.{Stand, stand, both_of, letter_of, Acted}
-use Rattle.attempts_told.specs.Below.CallClient.Running.{Course, Ran, begins}
-use Rattle.attempts_told.specs.Below.CallErrors.Books.{CallStand, Books}
+use Rattle.attempts_told.specs.Below.CallAttempts.ClientAtBothTables.{Both}
+use Rattle.attempts_told.specs.Below.CallAttempts.CallBeginning.{BegunAs}
+use Rattle.attempts_told.specs.Below.CallAttempts.AttemptLetters.{letter_for}
+use Rattle.attempts_told.specs.Below.CallAttempts.WaitingRetries.{Retried, none_yet, one_more}
+use Rattle.attempts_told.specs.Below.CallClient.ClientBetweenOperations.{Stand, stand, both_of, letter_of, Acted}
+use Rattle.attempts_told.specs.Below.CallClient.ClientRun.{Course, Ran, begins}
+use Rattle.attempts_told.specs.Below.CallErrors.ClientBooks.{CallStand, Books}
 use Rattle.attempts_told.specs.Below.CallRun.Threads.{FoundEach, Thread, IsThread, AreThreads, opens_of}
-use Rattle.attempts_told.specs.call_whys.specs.call_places.specs.Deeds.{Deed, operates, retries_of, ran_deeds, deeds}
-use Rattle.attempts_told.specs.call_whys.specs.call_told.proofs.Lists.{all_both}
-use Rattle.attempts_told.specs.call_whys.specs.call_deeds.proofs.Messages.{send_message, attempt_message}
-use Rattle.attempts_told.specs.call_whys.specs.call_deeds.proofs.Told.{came, made}
-use Rattle.attempts_told.specs.Below.RpcClient.Opening.{OpenedBy}
-use Rattle.attempts_told.specs.call_whys.specs.call_places.specs.sock_deeds.proofs.Growing.{found_grew}
-use Rattle.attempts_told.specs.call_whys.specs.call_places.specs.sock_deeds.proofs.Names.{SeenBy, message_seen, held_seen, failed_seen, opened_seen}
+use Rattle.attempts_told.specs.call_whys.specs.call_places.specs.DeedsOfCallClient.{Deed, operates, retries_of, ran_deeds, deeds}
+use Rattle.attempts_told.specs.call_whys.specs.call_told.proofs.ListElementsByPlace.{all_both}
+use Rattle.attempts_told.specs.call_whys.specs.call_deeds.proofs.MessageDeeds.{send_message, attempt_message}
+use Rattle.attempts_told.specs.call_whys.specs.call_deeds.proofs.OperationsToldOnce.{came, made}
+use Rattle.attempts_told.specs.Below.RpcClient.OpenOutcomes.{OpenedBy}
+use Rattle.attempts_told.specs.call_whys.specs.call_places.specs.sock_deeds.proofs.GrowingSocketNotes.{found_grew}
+use Rattle.attempts_told.specs.call_whys.specs.call_places.specs.sock_deeds.proofs.NamesWithoutSocket.{SeenBy, message_seen, held_seen, failed_seen, opened_seen}
 use Rattle.failed_reasons.specs.Missed.{acted_missed}
 use Rattle.failed_reasons.proofs.Before.{IsRetry}
 

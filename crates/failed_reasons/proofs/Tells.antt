@@ -7,27 +7,27 @@ use Rattle.corr_core.specs.Law.{is_ended_at}
 use Rattle.corr_core.specs.Word.{Parts, parts, locked_word}
 use Rattle.corr_core.specs.declared.marks.Plan.{Plan}
 use Rattle.corr_core.specs.declared.marks.View.{View}
-use Rattle.corr_id.specs.id_rule.specs.Lawful.{notes_of}
+use Rattle.corr_id.specs.id_rule.specs.LawfulIdTable.{notes_of}
 use Rattle.sock_message.specs.Asked.{Asked}
 use Rattle.sock_message.specs.brpc_model.specs.Frame as model
 use Rattle.sock_message.specs.brpc_model.specs.ResponseOutcome.{ending_of}
 use Rattle.corr_id.specs.declared.calls.IdLock.{IdLock}
 use Rattle.corr_id.specs.declared.posts.Posted.{Posted}
 use Rattle.corr_id.specs.declared.posts.Posted.TheVariants.{Locked as HasLock, Queued as IsQueued}
-use Rattle.corr_id.specs.Calls.{is_saw, Found, GotLock}
-use Rattle.corr_id.specs.Posts.{IsTimely, PostOk}
+use Rattle.corr_id.specs.SeatBehindIdCalls.{is_saw, Found, GotLock}
+use Rattle.corr_id.specs.PostAnswers.{IsTimely, PostOk}
 use Rattle.attempts_told.specs.Below.PrpcFrame.Frame.{Frame}
 use Rattle.attempts_told.specs.Below.RpcClient.Told.{Told}
-use Rattle.attempts_told.specs.Below.RpcReader.Books.{Books, id_of}
-use Rattle.attempts_told.specs.Below.RpcReader.Posting.{PostedAll, call_at, attempt_at}
-use Rattle.attempts_told.specs.Below.RpcReader.Resting.{RestEnded}
-use Rattle.attempts_told.specs.call_whys.specs.call_told.specs.Answers.{IsGivenResponse}
+use Rattle.attempts_told.specs.Below.RpcReader.ReaderBooks.{Books, id_of}
+use Rattle.attempts_told.specs.Below.RpcReader.PostingAtReadingEnd.{PostedAll, call_at, attempt_at}
+use Rattle.attempts_told.specs.Below.RpcReader.CallsLeftAfterReading.{RestEnded}
+use Rattle.attempts_told.specs.call_whys.specs.call_told.specs.TellersOfCallEnds.{IsGivenResponse}
 use Rattle.attempts_told.specs.call_whys.specs.call_told.specs.Least.{is_locked_for}
-use Rattle.attempts_told.specs.call_whys.specs.call_told.proofs.Ends.{HasLocked, got_locked}
-use Rattle.attempts_told.specs.call_whys.specs.call_told.proofs.Steps as steps
-use Rattle.failed_reasons.proofs.Posts.{IsPost, post_later, post_found}
-use Rattle.failed_reasons.proofs.Views.{Later, later_then, same_stays, quiet_stays, kept_stays, ended_stays, ended_over, got_stays, did_later}
-use Rattle.sock_words.specs.Words.{id_slot}
+use Rattle.attempts_told.specs.call_whys.specs.call_told.proofs.ToldCallEnds.{HasLocked, got_locked}
+use Rattle.attempts_told.specs.call_whys.specs.call_told.proofs.CallEndsToldStepwise as steps
+use Rattle.failed_reasons.proofs.ReaderPosts.{IsPost, post_later, post_found}
+use Rattle.failed_reasons.proofs.NotedErrorsInViews.{Later, later_then, same_stays, quiet_stays, kept_stays, ended_stays, ended_over, got_stays, did_later}
+use Rattle.sock_words.specs.PackedWords.{id_slot}
 use Rattle.sock_words.specs.Totals.{total}
 
 -- the seat found a word of this slot open and locked it, with this call as its content; w is the word of the lock

@@ -1,25 +1,25 @@
 -- An error that a reader queued when its reading ended waits at an id of which the reader had met no response, unless it had ended a range with the response's version.
 use Rattle.std.proofs.Common.{◌≡◌, ℕ, ◌⊎◌, inl, inr, ⊎_elim, Bool, true, false, List, [], ◌∷◌, Some, None, refl, subst, arith}
 use Rattle.std.specs.Prelude.{Option, ◌==◌}
-use Rattle.sock_words.specs.Words.{at_word_link, id_slot, id_first}
+use Rattle.sock_words.specs.PackedWords.{at_word_link, id_slot, id_first}
 use Rattle.sock_words.specs.declared.at_word.AtWord.{AtWord}
 use Rattle.corr_core.specs.Word.{parts}
 use Rattle.corr_core.specs.declared.marks.Plan.{Plan}
 use Rattle.corr_core.specs.declared.marks.View.{View}
-use Rattle.corr_id.specs.id_rule.specs.Lawful.{at_index, with_kept}
+use Rattle.corr_id.specs.id_rule.specs.LawfulIdTable.{at_index, with_kept}
 use Rattle.sock_message.specs.Asked.{Asked}
 use Rattle.corr_id.specs.declared.posts.Posted.{Posted}
 use Rattle.corr_id.specs.declared.posts.Posted.TheVariants.{Locked as HasLock, Queued as IsQueued}
-use Rattle.corr_id.specs.Calls.{is_saw, error_in, Found, HasId}
-use Rattle.corr_id.specs.Posts.{PostOk}
+use Rattle.corr_id.specs.SeatBehindIdCalls.{is_saw, error_in, Found, HasId}
+use Rattle.corr_id.specs.PostAnswers.{PostOk}
 use Rattle.attempts_told.specs.Below.PrpcFrame.Frame.{Frame}
-use Rattle.attempts_told.specs.Below.RpcReader.Books.{Books}
+use Rattle.attempts_told.specs.Below.RpcReader.ReaderBooks.{Books}
 use Rattle.attempts_told.specs.Below.RpcReader.Met.{is_asked, is_for}
-use Rattle.attempts_told.specs.Below.RpcReader.Posting.{KeptNone, PostedIf, PostedAt, PostedAll, call_at, attempt_at}
-use Rattle.attempts_told.specs.call_whys.specs.call_told.proofs.Responses.{HasEnded, ended_still, goes_view, same_notes, posted_goes, all_goes, queued_met}
-use Rattle.attempts_told.specs.call_whys.specs.call_told.proofs.Unanswered.{AllMet, all_met}
-use Rattle.failed_reasons.proofs.Posts.{Queues, queues_none, queues_then, queues_one, books_stay, again_stays, posted_stays}
-use Rattle.failed_reasons.proofs.Views.{Later, Stays, did_later, quiet_stays, kept_stays, got_stays}
+use Rattle.attempts_told.specs.Below.RpcReader.PostingAtReadingEnd.{KeptNone, PostedIf, PostedAt, PostedAll, call_at, attempt_at}
+use Rattle.attempts_told.specs.call_whys.specs.call_told.proofs.MetResponses.{HasEnded, ended_still, goes_view, same_notes, posted_goes, all_goes, queued_met}
+use Rattle.attempts_told.specs.call_whys.specs.call_told.proofs.EndedCallsUnanswered.{AllMet, all_met}
+use Rattle.failed_reasons.proofs.ReaderPosts.{Queues, queues_none, queues_then, queues_one, books_stay, again_stays, posted_stays}
+use Rattle.failed_reasons.proofs.NotedErrorsInViews.{Later, Stays, did_later, quiet_stays, kept_stays, got_stays}
 
 -- so many slots, and responses that were given
 module _ (slots : ℕ) (Given : Frame → Type 0) (asked : (f : Frame) → Given f → is_asked slots f ≡ true) where

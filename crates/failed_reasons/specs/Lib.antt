@@ -1,6 +1,6 @@
 pub mod Missed
-pub mod Reasons
-pub mod Ends
+pub mod ErrorReasons
+pub mod CallsEndedByReading
 pub use Rattle.attempts_told
 pub use Rattle.attempts_told.specs.call_whys
 pub use Rattle.attempts_told.specs.Below

@@ -5,70 +5,70 @@ use Rattle.std.proofs.lemmas.Nat.{div-add-mod'}
 use mathlib.Core.Option.{some}
 use lib.ListN.{get_elem?}
 use Rattle.sock_io.specs.declared.link.Out.{Ghosts}
-use Rattle.sock_io.specs.Link.{OutState}
-use Rattle.sock_words.specs.Codes.{EEOF, ERPCTIMEDOUT}
-use Rattle.sock_words.specs.Words.{at_word_link, id_slot, id_first}
+use Rattle.sock_io.specs.LinkHalves.{OutState}
+use Rattle.sock_words.specs.ErrorCodes.{EEOF, ERPCTIMEDOUT}
+use Rattle.sock_words.specs.PackedWords.{at_word_link, id_slot, id_first}
 use Rattle.sock_words.specs.declared.outcome.Outcome.{Outcome}
 use Rattle.sock_words.specs.declared.outcome.Outcome.TheVariants.{CallFailed}
 use Rattle.sock_words.specs.declared.plain.Plan.{Plan}
 use Rattle.sock_words.specs.declared.place_word.PlaceWord.{PlaceWord}
 use Rattle.sock_words.specs.declared.vref.Vref.{Vref}
 use Rattle.sock_message.specs.brpc_model.specs.Frame.{Frame}
-use Rattle.failed_ends.specs.Below.SockRule.Closing.{PlacesDiffer}
+use Rattle.failed_ends.specs.Below.SockRule.ClosingWordsAndNotes.{PlacesDiffer}
 use Rattle.seat_programs.specs.declared.task.Op.TheVariants as ops
 use Rattle.seat_programs.specs.declared.task.Task.{Task}
-use Rattle.seat_programs.specs.Told.{AreTasks, IsTask}
-use Rattle.seat_programs.specs.ToldCalls.{IsAnsweredBy, MayBeOn, FailedBy, ByCompression, all_accepted}
+use Rattle.seat_programs.specs.Explained.{AreTasks, IsTask}
+use Rattle.seat_programs.specs.ExplainedCalls.{IsAnsweredBy, MayBeOn, FailedBy, ByCompression, all_accepted}
 use Rattle.corr_core.specs.Law.{is_ended, is_ended_at}
-use Rattle.failed_ends.specs.call_whys.specs.call_places.proofs.Ids.{IsIdOf}
+use Rattle.failed_ends.specs.call_whys.specs.call_places.proofs.IdsOfRetries.{IsIdOf}
 use Rattle.corr_core.specs.Word.{Parts, parts, code_of}
 use Rattle.corr_core.specs.declared.marks.Kept.{Kept}
 use Rattle.corr_core.specs.declared.marks.Note.{Note}
 use Rattle.corr_core.specs.declared.marks.Note.TheVariants.{Made, Locker}
 use Rattle.corr_core.specs.declared.marks.Noted.{Noted}
 use Rattle.corr_core.specs.declared.marks.View.{View}
-use Rattle.corr_core.proofs.Notes.{total_some}
-use Rattle.corr_id.specs.id_rule.specs.Lawful.{at_index, notes_of}
+use Rattle.corr_core.proofs.NoteSums.{total_some}
+use Rattle.corr_id.specs.id_rule.specs.LawfulIdTable.{at_index, notes_of}
 use Rattle.sock_message.specs.Asked.{Asked, name_of}
-use Rattle.corr_id.specs.Calls.{is_saw, error_in}
-use Rattle.corr_id.specs.Closing.{Closing}
-use Rattle.corr_id.specs.Posts.{IsTimely}
-use Rattle.corr_id.proofs.Ranges.{lock_range}
+use Rattle.corr_id.specs.SeatBehindIdCalls.{is_saw, error_in}
+use Rattle.corr_id.specs.ClosingIdLists.{Closing}
+use Rattle.corr_id.specs.PostAnswers.{IsTimely}
+use Rattle.corr_id.proofs.LockRangeLengths.{lock_range}
 use Rattle.failed_ends.specs.Below.RpcClient.Told.{Told}
-use Rattle.failed_ends.specs.Below.CallErrors.Locking.{id_in}
-use Rattle.failed_ends.specs.Below.RpcReader.Books.{id_of}
-use Rattle.failed_ends.specs.Below.RpcReader.Posting.{call_at, attempt_at}
-use Rattle.failed_ends.specs.Below.CallRun.Readers.{LinkReader}
+use Rattle.failed_ends.specs.Below.CallErrors.LockingByVersion.{id_in}
+use Rattle.failed_ends.specs.Below.RpcReader.ReaderBooks.{id_of}
+use Rattle.failed_ends.specs.Below.RpcReader.PostingAtReadingEnd.{call_at, attempt_at}
+use Rattle.failed_ends.specs.Below.CallRun.ReadersOfLinks.{LinkReader}
 use Rattle.failed_ends.specs.Below.CallRun.Threads.{Thread, RanWith, MayRunAll, ids_of}
-use Rattle.failed_ends.specs.call_whys.specs.call_places.specs.Counted.{HaveNotesOf}
-use Rattle.failed_ends.specs.call_whys.specs.call_places.proofs.Clients.{Client, view_of, tasks_of, deeds_of}
-use Rattle.failed_ends.specs.call_whys.specs.call_places.proofs.Places.{all as all_clients, noted_among, made_once, crew_of}
+use Rattle.failed_ends.specs.call_whys.specs.call_places.specs.ClientNotesCounted.{HaveNotesOf}
+use Rattle.failed_ends.specs.call_whys.specs.call_places.proofs.ClientPlaces.{Client, view_of, tasks_of, deeds_of}
+use Rattle.failed_ends.specs.call_whys.specs.call_places.proofs.CallPlaceOrders.{all as all_clients, noted_among, made_once, crew_of}
 use Rattle.failed_ends.specs.call_whys.specs.call_told.specs.Least.{is_locked_for}
 use Rattle.failed_ends.specs.call_whys.specs.call_told.proofs.Least.{lock_of}
-use Rattle.failed_ends.specs.call_whys.specs.call_told.proofs.Resting.{is_word}
-use Rattle.failed_ends.specs.call_whys.specs.expire_told.specs.Said.{AreSaid, HaveKeptOf}
-use Rattle.failed_ends.specs.call_whys.specs.call_places.specs.sock_deeds.specs.Runs.{IsOperation, seat_of, DeedRun}
-use Rattle.failed_ends.specs.call_whys.specs.call_places.specs.sock_deeds.proofs.Accepting.{log}
-use Rattle.failed_ends.specs.call_whys.specs.call_places.specs.sock_deeds.proofs.Orders.{orders}
-use Rattle.failed_ends.specs.call_whys.specs.call_places.specs.sock_deeds.proofs.Tasks.{same_task}
-use Rattle.failed_ends.specs.call_whys.specs.call_places.specs.sock_deeds.proofs.Whole.{laws_of}
-use Rattle.failed_ends.specs.attempts_told.specs.Attempts.{last_attempt}
-use Rattle.failed_ends.specs.attempts_told.proofs.Told.{same_asked}
-use Rattle.failed_ends.specs.failed_reasons.specs.Ends.{LostOn}
-use Rattle.failed_ends.specs.failed_reasons.specs.Reasons.{WasDropped, Reason, timed_out, missed, dropped, Origin, posted_so, handed_out, IsCaused}
-use Rattle.failed_ends.specs.failed_reasons.proofs.Behind.{unread}
-use Rattle.failed_ends.proofs.Clients.{Says}
-use Rattle.failed_ends.specs.failed_reasons.proofs.Codes.{IsReadCode, IsMissCode, deed_code}
+use Rattle.failed_ends.specs.call_whys.specs.call_told.proofs.RestingCallsEnded.{is_word}
+use Rattle.failed_ends.specs.call_whys.specs.expire_told.specs.ExpireOutcomesSaid.{AreSaid, HaveKeptOf}
+use Rattle.failed_ends.specs.call_whys.specs.call_places.specs.sock_deeds.specs.SocketTableRun.{IsOperation, seat_of, DeedRun}
+use Rattle.failed_ends.specs.call_whys.specs.call_places.specs.sock_deeds.proofs.MessagesAcceptedByDeeds.{log}
+use Rattle.failed_ends.specs.call_whys.specs.call_places.specs.sock_deeds.proofs.OrdersOfDeeds.{orders}
+use Rattle.failed_ends.specs.call_whys.specs.call_places.specs.sock_deeds.proofs.DeedsForTasks.{same_task}
+use Rattle.failed_ends.specs.call_whys.specs.call_places.specs.sock_deeds.proofs.WholeSocketDeeds.{laws_of}
+use Rattle.failed_ends.specs.attempts_told.specs.CountedAttempts.{last_attempt}
+use Rattle.failed_ends.specs.attempts_told.proofs.AttemptsOfCallsTold.{same_asked}
+use Rattle.failed_ends.specs.failed_reasons.specs.CallsEndedByReading.{LostOn}
+use Rattle.failed_ends.specs.failed_reasons.specs.ErrorReasons.{WasDropped, Reason, timed_out, missed, dropped, Origin, posted_so, handed_out, IsCaused}
+use Rattle.failed_ends.specs.failed_reasons.proofs.CompressedOrNoResponse.{unread}
+use Rattle.failed_ends.proofs.ClientEndsByErrors.{Says}
+use Rattle.failed_ends.specs.failed_reasons.proofs.FailedAttemptCodes.{IsReadCode, IsMissCode, deed_code}
 use Rattle.failed_ends.proofs.Fallen.{one_operation}
-use Rattle.failed_ends.proofs.Lasts.{ended_last}
-use Rattle.failed_told.proofs.Named.{named}
-use Rattle.failed_ends.specs.failed_reasons.proofs.Posts.{IsPost}
+use Rattle.failed_ends.proofs.EndedAtLastAttempt.{ended_last}
+use Rattle.failed_told.proofs.NamedAttempts.{named}
+use Rattle.failed_ends.specs.failed_reasons.proofs.ReaderPosts.{IsPost}
 use Rattle.failed_ends.proofs.Posters.{IsLow, one_error, timely_low, by_clients}
-use Rattle.failed_ends.specs.failed_reasons.proofs.Reading.{code_at}
+use Rattle.failed_ends.specs.failed_reasons.proofs.ErrorsQueuedByReading.{code_at}
 use Rattle.failed_ends.specs.failed_reasons.proofs.Tells.{HadLock, EndsBy, on_response, on_code, ToldEnd, IsPostFor}
 use Rattle.failed_ends.proofs.Verdicts.{made_so}
-use Rattle.failed_ends.specs.failed_reasons.proofs.Views.{queued_in}
-use Rattle.failed_ends.specs.failed_reasons.proofs.Taken.{AskTasks}
+use Rattle.failed_ends.specs.failed_reasons.proofs.NotedErrorsInViews.{queued_in}
+use Rattle.failed_ends.specs.failed_reasons.proofs.FailedRunPremises.{AskTasks}
 use Rattle.sock_words.specs.Totals.{total}
 
 -- ## Codes

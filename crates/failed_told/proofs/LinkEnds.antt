@@ -4,53 +4,53 @@ use Rattle.std.specs.Prelude.{Option}
 use mathlib.Core.Option.{some}
 use lib.ListN.{get_elem?}
 use Rattle.sock_io.specs.declared.link.Out.{Ghosts}
-use Rattle.sock_io.specs.Link.{OutState}
+use Rattle.sock_io.specs.LinkHalves.{OutState}
 use Rattle.sock_words.specs.declared.outcome.Outcome.{Outcome}
 use Rattle.sock_words.specs.declared.outcome.Outcome.TheVariants.{CallFailed}
 use Rattle.sock_words.specs.declared.plain.Plan.{Plan}
 use Rattle.sock_words.specs.declared.place_word.PlaceWord.{PlaceWord}
 use Rattle.sock_words.specs.declared.vref.Vref.{Vref}
-use Rattle.failed_ends.specs.Below.SockRule.Closing.{PlacesDiffer}
+use Rattle.failed_ends.specs.Below.SockRule.ClosingWordsAndNotes.{PlacesDiffer}
 use Rattle.seat_programs.specs.declared.task.Op.TheVariants as ops
 use Rattle.seat_programs.specs.declared.task.Task.{Task}
-use Rattle.seat_programs.specs.Told.{AreTasks, IsTask}
+use Rattle.seat_programs.specs.Explained.{AreTasks, IsTask}
 use Rattle.corr_core.specs.Word.{parts}
 use Rattle.corr_core.specs.declared.marks.Kept.{Kept}
 use Rattle.corr_core.specs.declared.marks.Note.TheVariants.{Made}
 use Rattle.corr_core.specs.declared.marks.Noted.{Noted}
 use Rattle.corr_core.specs.declared.marks.View.{View}
-use Rattle.corr_id.specs.id_rule.specs.Lawful.{notes_of}
+use Rattle.corr_id.specs.id_rule.specs.LawfulIdTable.{notes_of}
 use Rattle.sock_message.specs.Asked.{Asked}
-use Rattle.corr_id.specs.Closing.{Closing}
-use Rattle.corr_id.specs.Posts.{IsTimely}
+use Rattle.corr_id.specs.ClosingIdLists.{Closing}
+use Rattle.corr_id.specs.PostAnswers.{IsTimely}
 use Rattle.failed_ends.specs.Below.RpcClient.Told.{Told}
-use Rattle.failed_ends.specs.Below.CallErrors.Locking.{id_in}
-use Rattle.failed_ends.specs.Below.CallRun.Readers.{LinkReader}
+use Rattle.failed_ends.specs.Below.CallErrors.LockingByVersion.{id_in}
+use Rattle.failed_ends.specs.Below.CallRun.ReadersOfLinks.{LinkReader}
 use Rattle.failed_ends.specs.Below.CallRun.Threads.{Thread, RanWith, MayRunAll, ids_of}
-use Rattle.failed_ends.specs.call_whys.specs.call_places.specs.Counted.{HaveNotesOf}
-use Rattle.failed_ends.specs.call_whys.specs.call_places.proofs.Clients.{Client, view_of, tasks_of, deeds_of}
-use Rattle.failed_ends.specs.call_whys.specs.call_places.proofs.Ids.{IsIdOf}
-use Rattle.failed_ends.specs.call_whys.specs.call_places.proofs.Places.{all as all_clients, all_are, made_once}
-use Rattle.failed_ends.specs.call_whys.specs.call_told.proofs.Lists.{all_at}
-use Rattle.failed_ends.specs.call_whys.specs.call_deeds.specs.Retried.{all_asked}
+use Rattle.failed_ends.specs.call_whys.specs.call_places.specs.ClientNotesCounted.{HaveNotesOf}
+use Rattle.failed_ends.specs.call_whys.specs.call_places.proofs.ClientPlaces.{Client, view_of, tasks_of, deeds_of}
+use Rattle.failed_ends.specs.call_whys.specs.call_places.proofs.IdsOfRetries.{IsIdOf}
+use Rattle.failed_ends.specs.call_whys.specs.call_places.proofs.CallPlaceOrders.{all as all_clients, all_are, made_once}
+use Rattle.failed_ends.specs.call_whys.specs.call_told.proofs.ListElementsByPlace.{all_at}
+use Rattle.failed_ends.specs.call_whys.specs.call_deeds.specs.RetriedCalls.{all_asked}
 use Rattle.failed_ends.specs.call_whys.specs.call_deeds.proofs.Ran.{AreLater}
-use Rattle.failed_ends.specs.call_whys.specs.expire_told.specs.Said.{AreSaid, HaveKeptOf}
-use Rattle.failed_ends.specs.call_whys.specs.call_places.specs.sock_deeds.specs.Runs.{IsOperation, seat_of, DeedRun}
-use Rattle.failed_ends.specs.call_whys.specs.call_places.specs.sock_deeds.proofs.Accepting.{log}
-use Rattle.failed_ends.specs.call_whys.specs.call_places.specs.sock_deeds.proofs.Tasks.{same_task}
-use Rattle.failed_ends.specs.call_whys.specs.call_places.specs.sock_deeds.proofs.Whole.{log_accepted}
-use Rattle.failed_ends.specs.attempts_told.specs.Attempts.{last_attempt}
-use Rattle.failed_ends.specs.attempts_told.proofs.Told.{same_asked}
-use Rattle.failed_ends.specs.failed_reasons.specs.Reasons.{IsCaused}
+use Rattle.failed_ends.specs.call_whys.specs.expire_told.specs.ExpireOutcomesSaid.{AreSaid, HaveKeptOf}
+use Rattle.failed_ends.specs.call_whys.specs.call_places.specs.sock_deeds.specs.SocketTableRun.{IsOperation, seat_of, DeedRun}
+use Rattle.failed_ends.specs.call_whys.specs.call_places.specs.sock_deeds.proofs.MessagesAcceptedByDeeds.{log}
+use Rattle.failed_ends.specs.call_whys.specs.call_places.specs.sock_deeds.proofs.DeedsForTasks.{same_task}
+use Rattle.failed_ends.specs.call_whys.specs.call_places.specs.sock_deeds.proofs.WholeSocketDeeds.{log_accepted}
+use Rattle.failed_ends.specs.attempts_told.specs.CountedAttempts.{last_attempt}
+use Rattle.failed_ends.specs.attempts_told.proofs.AttemptsOfCallsTold.{same_asked}
+use Rattle.failed_ends.specs.failed_reasons.specs.ErrorReasons.{IsCaused}
 use Rattle.failed_told.proofs.ByLinks.{EndedOn, QueuedSo, WasEnded, weak, DroppedSo, over_here, client_why, same_id, same_end}
-use Rattle.failed_ends.proofs.Clients.{Says, ended_caused}
-use Rattle.failed_ends.specs.failed_reasons.proofs.Codes.{IsReadCode}
-use Rattle.failed_told.proofs.Drops.{DroppedOn, read_dropped}
-use Rattle.failed_ends.proofs.Lasts.{ended_last}
+use Rattle.failed_ends.proofs.ClientEndsByErrors.{Says, ended_caused}
+use Rattle.failed_ends.specs.failed_reasons.proofs.FailedAttemptCodes.{IsReadCode}
+use Rattle.failed_told.proofs.DroppedAttempts.{DroppedOn, read_dropped}
+use Rattle.failed_ends.proofs.EndedAtLastAttempt.{ended_last}
 use Rattle.failed_ends.specs.failed_reasons.proofs.Premises.{asked_so as asked_here}
 use Rattle.failed_ends.proofs.Verdicts.{made_so}
-use Rattle.failed_ends.specs.failed_reasons.proofs.Views.{queued_in}
-use Rattle.failed_ends.specs.call_whys.specs.call_places.specs.sock_deeds.proofs.Places.{map_back}
+use Rattle.failed_ends.specs.failed_reasons.proofs.NotedErrorsInViews.{queued_in}
+use Rattle.failed_ends.specs.call_whys.specs.call_places.specs.sock_deeds.proofs.ListPlaces.{map_back}
 use Rattle.sock_words.specs.Totals.{total}
 
 module _ {O : Type 0} {g : Ghosts O} {state : O → OutState} {readers : List (LinkReader g)} {p : Plan} {slots : ℕ} {setup : List Task} {clients : List (List Task)} {opens : List ℕ} {told ended : List (List Told)} {places : List PlaceWord} {vrefs : List Vref} {outs : List O} {ids : List (View Asked)}

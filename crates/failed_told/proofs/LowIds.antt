@@ -3,7 +3,7 @@ use Rattle.std.proofs.Common.{◌≡◌, ℕ, ◌<◌, ◌≤◌, List, ◌∷�
 use Rattle.std.specs.Prelude.{Option}
 use mathlib.Core.Option.{some-injective}
 use Rattle.sock_io.specs.declared.link.Out.{Ghosts}
-use Rattle.sock_io.specs.Link.{OutState}
+use Rattle.sock_io.specs.LinkHalves.{OutState}
 use Rattle.sock_words.specs.declared.outcome.Outcome.{Outcome}
 use Rattle.sock_words.specs.declared.plain.Plan.{Plan}
 use Rattle.sock_words.specs.declared.place_word.PlaceWord.{PlaceWord}
@@ -11,7 +11,7 @@ use Rattle.sock_words.specs.declared.vref.Vref.{Vref}
 use Rattle.seat_programs.specs.declared.task.Op.{Op}
 use Rattle.seat_programs.specs.declared.task.Op.TheVariants as ops
 use Rattle.seat_programs.specs.declared.task.Task.{Task}
-use Rattle.seat_programs.specs.Told.{AreTasks}
+use Rattle.seat_programs.specs.Explained.{AreTasks}
 use Rattle.corr_core.specs.Law.{LAST}
 use Rattle.corr_core.specs.declared.marks.Kept.{Kept}
 use Rattle.corr_core.specs.declared.marks.Note.{Note}
@@ -19,26 +19,26 @@ use Rattle.corr_core.specs.declared.marks.Note.TheVariants.{Made}
 use Rattle.corr_core.specs.declared.marks.Noted.{Noted}
 use Rattle.corr_core.specs.declared.marks.Plan as id_plan
 use Rattle.corr_core.specs.declared.marks.View.{View}
-use Rattle.corr_core.proofs.Notes.{only-at, total_some}
-use Rattle.corr_id.specs.id_rule.specs.Lawful.{notes_of}
+use Rattle.corr_core.proofs.NoteSums.{only-at, total_some}
+use Rattle.corr_id.specs.id_rule.specs.LawfulIdTable.{notes_of}
 use Rattle.sock_message.specs.Asked.{Asked}
-use Rattle.corr_id.specs.Closing.{Closing}
+use Rattle.corr_id.specs.ClosingIdLists.{Closing}
 use Rattle.failed_ends.specs.Below.RpcClient.Told.{Told}
-use Rattle.failed_ends.specs.Below.CallClient.Acting.{Stand, both_of, Acted}
-use Rattle.failed_ends.specs.Below.CallRun.Readers.{LinkReader}
+use Rattle.failed_ends.specs.Below.CallClient.ClientBetweenOperations.{Stand, both_of, Acted}
+use Rattle.failed_ends.specs.Below.CallRun.ReadersOfLinks.{LinkReader}
 use Rattle.failed_ends.specs.Below.CallRun.Threads.{Thread, IsThread, RanWith, MayRunAll, ids_of}
-use Rattle.failed_ends.specs.call_whys.specs.call_places.specs.Counted.{makes, HaveNotesOf}
-use Rattle.failed_ends.specs.call_whys.specs.call_places.proofs.Clients.{Client, total_map, view_of}
-use Rattle.failed_ends.specs.call_whys.specs.call_places.proofs.Ids.{IsIdOf}
-use Rattle.failed_ends.specs.call_whys.specs.call_places.proofs.Places.{all as all_clients, views_are, noted_among, made_once}
-use Rattle.failed_ends.specs.call_whys.specs.call_places.proofs.Weights.{term, noted_at}
+use Rattle.failed_ends.specs.call_whys.specs.call_places.specs.ClientNotesCounted.{makes, HaveNotesOf}
+use Rattle.failed_ends.specs.call_whys.specs.call_places.proofs.ClientPlaces.{Client, total_map, view_of}
+use Rattle.failed_ends.specs.call_whys.specs.call_places.proofs.IdsOfRetries.{IsIdOf}
+use Rattle.failed_ends.specs.call_whys.specs.call_places.proofs.CallPlaceOrders.{all as all_clients, views_are, noted_among, made_once}
+use Rattle.failed_ends.specs.call_whys.specs.call_places.proofs.NoteWeights.{term, noted_at}
 use Rattle.failed_ends.specs.call_whys.specs.call_told.specs.Least.{is_made_for}
 use Rattle.failed_ends.specs.call_whys.specs.call_deeds.proofs.Ran.{Result}
 use Rattle.failed_ends.specs.call_whys.specs.call_told.proofs.Coming.{made_begun as begun_behind}
 use Rattle.failed_ends.specs.failed_reasons.proofs.Before.{operation_made, noted_last}
-use Rattle.failed_ends.proofs.Lasts.{one_made}
+use Rattle.failed_ends.proofs.EndedAtLastAttempt.{one_made}
 use Rattle.failed_ends.specs.failed_reasons.proofs.Makers.{made_begun}
-use Rattle.sock_words.specs.Words.{id_slot, id_first}
+use Rattle.sock_words.specs.PackedWords.{id_slot, id_first}
 use Rattle.sock_words.specs.Totals.{total}
 
 -- an id with room was made for the operation

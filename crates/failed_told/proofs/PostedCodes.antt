@@ -1,52 +1,52 @@
 -- Whatever is queued in a word of an id has a code that is posted to calls; so have both errors of a crowded id, and an `expire` is told with that.
 use Rattle.std.proofs.Common.{◌≡◌, ℕ, ◌<◌, ◌≤◌, inl, inr, List, [], ◌∷◌, length, map, None, refl, sym, ap, ◌∙◌, subst, arith}
 use Rattle.std.specs.Prelude.{Option, Contains}
-use Rattle.failed_ends.specs.call_whys.specs.call_places.specs.script_facts.proofs.Lists.{contains_from}
+use Rattle.failed_ends.specs.call_whys.specs.call_places.specs.script_facts.proofs.FilteredLists.{contains_from}
 use Rattle.sock_io.specs.declared.link.Out.{Ghosts}
-use Rattle.sock_io.specs.Link.{OutState}
-use Rattle.sock_words.specs.Codes.{EEOF, EFAILEDSOCKET, EREQUESTS, ERESPONSE, ERPCTIMEDOUT}
+use Rattle.sock_io.specs.LinkHalves.{OutState}
+use Rattle.sock_words.specs.ErrorCodes.{EEOF, EFAILEDSOCKET, EREQUESTS, ERESPONSE, ERPCTIMEDOUT}
 use Rattle.sock_words.specs.declared.outcome.Outcome.{Outcome}
 use Rattle.sock_words.specs.declared.outcome.Outcome.TheVariants as outcome
 use Rattle.sock_words.specs.declared.plain.Plan.{Plan}
 use Rattle.sock_words.specs.declared.place_word.PlaceWord.{PlaceWord}
 use Rattle.sock_words.specs.declared.vref.Vref.{Vref}
-use Rattle.failed_ends.specs.Below.SockRule.Closing.{PlacesDiffer}
+use Rattle.failed_ends.specs.Below.SockRule.ClosingWordsAndNotes.{PlacesDiffer}
 use Rattle.seat_programs.specs.declared.task.Op.TheVariants as ops
 use Rattle.seat_programs.specs.declared.task.Task.{Task}
-use Rattle.seat_programs.specs.Told.{AreTasks, IsTask, Became}
-use Rattle.seat_programs.specs.ToldCalls.{WhyExpire, all_accepted}
+use Rattle.seat_programs.specs.Explained.{AreTasks, IsTask, Became}
+use Rattle.seat_programs.specs.ExplainedCalls.{WhyExpire, all_accepted}
 use Rattle.corr_core.specs.Word.{parts, code_of}
 use Rattle.corr_core.specs.declared.marks.Kept.{Kept}
 use Rattle.corr_core.specs.declared.marks.Noted.{Noted}
 use Rattle.corr_core.specs.declared.marks.View.{View}
-use Rattle.corr_id.specs.id_rule.specs.Lawful.{call_index, notes_of}
+use Rattle.corr_id.specs.id_rule.specs.LawfulIdTable.{call_index, notes_of}
 use Rattle.sock_message.specs.Asked.{Asked}
 use Rattle.corr_id.specs.declared.posts.Posted.{Posted}
 use Rattle.corr_id.specs.declared.posts.Posted.TheVariants.{Locked as HasLock, Crowded}
-use Rattle.corr_id.specs.Calls.{is_saw}
-use Rattle.corr_id.specs.Closing.{Closing}
+use Rattle.corr_id.specs.SeatBehindIdCalls.{is_saw}
+use Rattle.corr_id.specs.ClosingIdLists.{Closing}
 use Rattle.failed_ends.specs.Below.RpcClient.Told.{Told}
-use Rattle.failed_ends.specs.Below.CallErrors.Books.{Books, CallStand}
-use Rattle.failed_ends.specs.Below.CallErrors.Posting.{PostedAs}
-use Rattle.failed_ends.specs.Below.CallErrors.Asking.{found_id, outcome_by, TimedOut}
-use Rattle.failed_ends.specs.Below.CallRun.Readers.{LinkReader}
+use Rattle.failed_ends.specs.Below.CallErrors.ClientBooks.{Books, CallStand}
+use Rattle.failed_ends.specs.Below.CallErrors.PostedErrors.{PostedAs}
+use Rattle.failed_ends.specs.Below.CallErrors.ExpireAndJoinOutcomes.{found_id, outcome_by, TimedOut}
+use Rattle.failed_ends.specs.Below.CallRun.ReadersOfLinks.{LinkReader}
 use Rattle.failed_ends.specs.Below.CallRun.Threads.{Thread, RanWith, MayRunAll, ids_of}
-use Rattle.failed_ends.specs.call_whys.specs.call_places.specs.Counted.{HaveNotesOf}
-use Rattle.failed_ends.specs.call_whys.specs.call_told.proofs.Resting.{is_word}
-use Rattle.failed_ends.specs.call_whys.specs.call_places.specs.sock_deeds.specs.Runs.{IsOperation, seat_of, DeedRun}
-use Rattle.failed_ends.specs.call_whys.specs.call_places.specs.sock_deeds.proofs.Accepting.{log}
-use Rattle.failed_ends.specs.call_whys.specs.call_places.specs.sock_deeds.proofs.Orders.{orders}
-use Rattle.failed_ends.specs.call_whys.specs.call_places.specs.sock_deeds.proofs.Whole.{laws_of}
-use Rattle.failed_ends.specs.call_whys.specs.expire_told.specs.Said.{AreSaid, HaveKeptOf, WhyExpired}
-use Rattle.failed_ends.specs.call_whys.specs.expire_told.proofs.Expires.{IsMade, made_of, expire_made, found_maker}
-use Rattle.failed_ends.specs.call_whys.specs.expire_told.proofs.Expiring.{timed_out_word}
-use Rattle.failed_told.proofs.Drops.{drop_code}
+use Rattle.failed_ends.specs.call_whys.specs.call_places.specs.ClientNotesCounted.{HaveNotesOf}
+use Rattle.failed_ends.specs.call_whys.specs.call_told.proofs.RestingCallsEnded.{is_word}
+use Rattle.failed_ends.specs.call_whys.specs.call_places.specs.sock_deeds.specs.SocketTableRun.{IsOperation, seat_of, DeedRun}
+use Rattle.failed_ends.specs.call_whys.specs.call_places.specs.sock_deeds.proofs.MessagesAcceptedByDeeds.{log}
+use Rattle.failed_ends.specs.call_whys.specs.call_places.specs.sock_deeds.proofs.OrdersOfDeeds.{orders}
+use Rattle.failed_ends.specs.call_whys.specs.call_places.specs.sock_deeds.proofs.WholeSocketDeeds.{laws_of}
+use Rattle.failed_ends.specs.call_whys.specs.expire_told.specs.ExpireOutcomesSaid.{AreSaid, HaveKeptOf, WhyExpired}
+use Rattle.failed_ends.specs.call_whys.specs.expire_told.proofs.ExpireOutcomeCauses.{IsMade, made_of, expire_made, found_maker}
+use Rattle.failed_ends.specs.call_whys.specs.expire_told.proofs.ExpireEndedCall.{timed_out_word}
+use Rattle.failed_told.proofs.DroppedAttempts.{drop_code}
 use Rattle.failed_ends.proofs.Queued.{read_posted, WasDropCode, queued_code}
-use Rattle.failed_ends.specs.failed_reasons.proofs.Views.{queued_in}
-use Rattle.failed_ends.specs.call_whys.specs.call_places.proofs.Places.{noted_among, crew_of}
-use Rattle.failed_ends.specs.failed_reasons.proofs.Taken.{OthersRead}
+use Rattle.failed_ends.specs.failed_reasons.proofs.NotedErrorsInViews.{queued_in}
+use Rattle.failed_ends.specs.call_whys.specs.call_places.proofs.CallPlaceOrders.{noted_among, crew_of}
+use Rattle.failed_ends.specs.failed_reasons.proofs.FailedRunPremises.{OthersRead}
 use Rattle.seat_programs.specs.brpc_model.specs.Why.{IsPosted}
-use Rattle.sock_words.specs.Words.{id_slot}
+use Rattle.sock_words.specs.PackedWords.{id_slot}
 use Rattle.sock_words.specs.Totals.{total}
 
 -- the codes of a crowded id

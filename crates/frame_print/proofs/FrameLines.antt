@@ -1,7 +1,7 @@
 -- The parts of a frame's line.
 use Rattle.std.proofs.Common.{◌≡◌, ℕ, List, ◌++◌, codes, decimal}
 use Rattle.std.specs.Fmt.{signed_decimal}
-use Rattle.sock_words.specs.Printed.{hex_text}
+use Rattle.sock_words.specs.PrintedWords.{hex_text}
 use Rattle.brpc_model.specs.Frame.{Frame}
 use Rattle.brpc_model.specs.Spelling.{where_some}
 use Rattle.brpc_model.specs.FramesText.{request_text, response_text, frame_line}

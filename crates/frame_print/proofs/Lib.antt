@@ -1,8 +1,8 @@
-pub mod Writing
+pub mod SuccessiveTextWriting
 pub mod Digits
-pub mod Cuts
-pub mod Ends
+pub mod PrintedFrameCuts
+pub mod PrintingEnds
 pub mod PieceLemmas
 pub mod FrameLines
-pub mod Holding
-pub mod Steps
+pub mod CutterHoldingSize
+pub mod ReadFeedCutSteps

@@ -3,12 +3,12 @@ use Rattle.std.proofs.Common.{◌≡◌, ℕ, ◌+◌, ◌<◌, List, [], ◌∷
 use Rattle.std.proofs.lemmas.List.{take_more, take-append-drop}
 use Rattle.std.proofs.lemmas.Grind.{flat_map-append}
 use Rattle.std.proofs.lemmas.Fmt.{decimal_digit}
-use Rattle.sock_words.specs.Printed.{word}
+use Rattle.sock_words.specs.PrintedWords.{word}
 use Rattle.brpc_model.specs.Meta as metas
 use Rattle.brpc_model.specs.Wire as wire
 use Rattle.brpc_model.specs.Frame as model
 use Rattle.brpc_model.specs.FramesText.{meta_words, fault_words}
-use Rattle.prpc_frame.specs.Meaning.{fault_of}
+use Rattle.prpc_frame.specs.FrameMeaning.{fault_of}
 use Rattle.prpc_frame.specs.declared.fault.FrameFault.{FrameFault}
 use Rattle.prpc_frame.specs.declared.fault.FrameFault.TheVariants as frame_
 use Rattle.pb_wire.specs.declared.fault.WireFault.TheVariants.{Truncated, LongVarint, BadKey, Group}
@@ -16,7 +16,7 @@ use Rattle.rpc_meta.specs.declared.fault.MetaFault.{MetaFault}
 use Rattle.rpc_meta.specs.declared.fault.MetaFault.TheVariants.{Wire, NoService, NoMethod, Neither, NoMemory}
 use Rattle.rpc_meta.specs.Answer.{meta_fault}
 use Rattle.frame_print.specs.FaultParts.{kind_of, place_of}
-use Rattle.frame_print.specs.Pieces.{piece_text, pieces_text}
+use Rattle.frame_print.specs.LinePieceTexts.{piece_text, pieces_text}
 use Rattle.frame_print.specs.declared.piece.Piece.{Piece}
 
 -- a piece behind those that are written, and the others behind it

@@ -3,13 +3,13 @@ use Rattle.std.specs.Prelude.{ℕ, ◌≡◌, List, ◌++◌, length, flat_map, 
 use Rattle.std.specs.Io.KnownBytes.{Appends}
 use Rattle.brpc_model.specs.Frame.{Frame, Judged, NoneYet, Faulty, judged}
 use Rattle.brpc_model.specs.Frame as model
-use Rattle.brpc_model.specs.Stream.{Rest}
+use Rattle.brpc_model.specs.FrameStream.{Rest}
 use Rattle.brpc_model.specs.FramesText.{frame_line, ending_line}
-use Rattle.sock_io.specs.Causes.{Rose}
-use Rattle.sock_io.specs.Stream.{SinkState}
-use Rattle.prpc_frame.specs.Cuts.{Cut}
-use Rattle.prpc_frame.specs.Meaning.{IsFault}
-use Rattle.sock_io.specs.Writing.{WrotePart}
+use Rattle.sock_io.specs.FaultCauses.{Rose}
+use Rattle.sock_io.specs.SourceAndSinkState.{SinkState}
+use Rattle.prpc_frame.specs.StreamCuts.{Cut}
+use Rattle.prpc_frame.specs.FrameMeaning.{IsFault}
+use Rattle.sock_io.specs.PartWrittenToSink.{WrotePart}
 use Rattle.frame_print.specs.declared.print.Met.{Met}
 use Rattle.frame_print.specs.declared.print.StreamEnd.{StreamEnd}
 use Rattle.frame_print.specs.declared.print.StreamEnd.TheVariants as end_

@@ -1,7 +1,7 @@
 -- The end of a frame's line.
 use Rattle.std.specs.Prelude.{ℕ, ℤ, List, [], ◌∷◌, ◌++◌, codes, decimal}
 use Rattle.std.specs.Fmt.{signed_decimal}
-use Rattle.sock_words.specs.Printed.{word, hex_text}
+use Rattle.sock_words.specs.PrintedWords.{word, hex_text}
 use Rattle.brpc_model.specs.Frame.{Frame}
 
 -- ` id N compress Z`

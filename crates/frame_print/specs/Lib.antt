@@ -1,7 +1,7 @@
-pub mod Written
-pub mod View
-pub mod Pieces
-pub mod Printed
+pub mod TextWrittenToSink
+pub mod FrameLineView
+pub mod LinePieceTexts
+pub mod PrintedFrames
 pub mod FrameEnd
 pub mod Cutting
 pub mod FaultParts

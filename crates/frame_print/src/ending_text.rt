@@ -1,9 +1,9 @@
 ghost use Rattle.std.specs.Prelude.{◌≡◌, Some};
 ghost use Rattle.brpc_model.specs.Frame as model;
-ghost use Rattle.brpc_model.specs.Stream.{Rest, Fault};
+ghost use Rattle.brpc_model.specs.FrameStream.{Rest, Fault};
 ghost use Rattle.brpc_model.specs.FramesText.{ending_line, fault_words};
-ghost use Rattle.prpc_frame.specs.Meaning.{fault_of};
-ghost use Rattle.frame_print.specs.Written.{Writes};
+ghost use Rattle.prpc_frame.specs.FrameMeaning.{fault_of};
+ghost use Rattle.frame_print.specs.TextWrittenToSink.{Writes};
 ghost use Rattle.frame_print.specs.FaultParts.{kind_of, place_of};
 
 use crate::piece::{Piece, print_pieces};

@@ -1,9 +1,9 @@
 ghost use Rattle.std.specs.Prelude.{option_map};
 ghost use Rattle.brpc_model.specs.Spelling.{where_some};
 ghost use Rattle.brpc_model.specs.FramesText.{request_text, response_text, frame_line};
-ghost use Rattle.rpc_meta.specs.View.{request_viewed, response_viewed};
-ghost use Rattle.frame_print.specs.Written.{Writes};
-ghost use Rattle.frame_print.specs.View.{bytes_viewed, frame_viewed};
+ghost use Rattle.rpc_meta.specs.ViewedMeta.{request_viewed, response_viewed};
+ghost use Rattle.frame_print.specs.TextWrittenToSink.{Writes};
+ghost use Rattle.frame_print.specs.FrameLineView.{bytes_viewed, frame_viewed};
 ghost use Rattle.frame_print.specs.FrameEnd.{numbers_text, bytes_text, end_text};
 
 use crate::piece::{Piece, print_pieces};

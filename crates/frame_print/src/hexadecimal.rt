@@ -1,8 +1,8 @@
 ghost use Rattle.std.specs.Prelude.{◌≡◌, ◌*◌, ◌<◌, ◌≤◌, length, slice_index};
 ghost use Rattle.hex.specs.Hex.{encode_lower, lower_digits};
-ghost use Rattle.sock_words.specs.Printed.{hex_text};
-ghost use Rattle.frame_print.specs.View.{bytes_viewed};
-ghost use Rattle.frame_print.specs.Written.{Writes};
+ghost use Rattle.sock_words.specs.PrintedWords.{hex_text};
+ghost use Rattle.frame_print.specs.FrameLineView.{bytes_viewed};
+ghost use Rattle.frame_print.specs.TextWrittenToSink.{Writes};
 
 use crate::output::{from_place, write_all};
 use crate::view::BytesView;

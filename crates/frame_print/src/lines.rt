@@ -1,7 +1,7 @@
 ghost use Rattle.std.specs.Prelude.{◌≡◌, ◌≤◌, ◌++◌, ℕ, [], IfOk, OnErr, OnOk, MatchBool, length, take, Some};
 ghost use Rattle.brpc_model.specs.FramesText.{frame_line};
-ghost use Rattle.frame_print.specs.View.{frame_viewed};
-ghost use Rattle.frame_print.specs.Written.{Writes, Gathers};
+ghost use Rattle.frame_print.specs.FrameLineView.{frame_viewed};
+ghost use Rattle.frame_print.specs.TextWrittenToSink.{Writes, Gathers};
 
 use crate::frame_text::print_frame;
 use crate::output::write_all;
@@ -25,7 +25,7 @@ pub struct Lines {
 }
 
 impl Model for Lines {
-    ghost use Rattle.frame_print.specs.Written.{LinesState};
+    ghost use Rattle.frame_print.specs.TextWrittenToSink.{LinesState};
 
     ghost Value = { LinesState };
 

@@ -1,5 +1,5 @@
 ghost use Rattle.std.specs.Prelude.{◌≡◌, ◌≤◌, drop, length};
-ghost use Rattle.frame_print.specs.Written.{Writes};
+ghost use Rattle.frame_print.specs.TextWrittenToSink.{Writes};
 
 use sock_io::{Failed, Sink};
 

@@ -1,7 +1,7 @@
 ghost use Rattle.std.specs.Prelude.{◌≡◌, decimal};
 ghost use Rattle.std.specs.Fmt.{signed_decimal};
-ghost use Rattle.frame_print.specs.Written.{Writes};
-ghost use Rattle.frame_print.specs.Pieces.{piece_text, pieces_text};
+ghost use Rattle.frame_print.specs.TextWrittenToSink.{Writes};
+ghost use Rattle.frame_print.specs.LinePieceTexts.{piece_text, pieces_text};
 
 use crate::hexadecimal::{print_bytes, print_hex};
 use crate::output::write_all;

@@ -1,5 +1,5 @@
 ghost use Rattle.std.specs.Prelude.{◌≡◌, [], false, None, IfOk, OnOk};
-ghost use Rattle.frame_print.specs.Printed.{PrintsFrames, edges_over};
+ghost use Rattle.frame_print.specs.PrintedFrames.{PrintsFrames, edges_over};
 ghost use Rattle.frame_print.specs.Cutting.{CutsWhole, EndsStopped, Judges, RestPrinted};
 
 use crate::ending_text::{print_fault, print_rest};

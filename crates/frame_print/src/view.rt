@@ -1,7 +1,7 @@
 ghost use Rattle.std.specs.Prelude.{◌≡◌, length};
 ghost use Rattle.prpc_frame.specs.Front.{front_of};
-ghost use Rattle.prpc_frame.specs.Meaning.{frame_of};
-ghost use Rattle.frame_print.specs.View.{bytes_viewed, frame_viewed};
+ghost use Rattle.prpc_frame.specs.FrameMeaning.{frame_of};
+ghost use Rattle.frame_print.specs.FrameLineView.{bytes_viewed, frame_viewed};
 
 use io_buf::IoBuf;
 use prpc_frame::{Frame, FrontFrame, MetaView};

@@ -1,6 +1,6 @@
 ghost use Rattle.std.specs.Prelude.{◌≡◌, ◌≤◌, IfSome};
-ghost use Rattle.corr_id.specs.Opening.{AreNew};
-ghost use Rattle.corr_id.specs.Seats.{Sits, IsFree};
+ghost use Rattle.corr_id.specs.IdTableOpening.{AreNew};
+ghost use Rattle.corr_id.specs.IdTableSeat.{Sits, IsFree};
 
 use corr_id::{IdSeat, IdTable};
 use std::alloc::Global;

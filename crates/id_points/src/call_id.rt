@@ -1,6 +1,6 @@
 ghost use Rattle.std.specs.Prelude.{◌≡◌, ◌<◌, ◌≤◌, ◌+◌, ◌*◌, ◌/◌, ◌%◌, ℕ};
-ghost use Rattle.id_points.specs.Ids.{id_of, number_of};
-ghost use Rattle.sock_words.specs.Words.{call_id, id_slot, id_first};
+ghost use Rattle.id_points.specs.IdsAndAttemptNumbers.{id_of, number_of};
+ghost use Rattle.sock_words.specs.PackedWords.{call_id, id_slot, id_first};
 
 use sock_words::CorrelationId;
 

@@ -1,5 +1,5 @@
 ghost use Rattle.std.specs.Prelude.{◌≡◌, ◌≤◌, ◌<◌, ◌+◌, ◌*◌, ◌/◌, ◌%◌, ◌==◌, ℕ};
-ghost use Rattle.id_points.specs.Ids.{number_of};
+ghost use Rattle.id_points.specs.IdsAndAttemptNumbers.{number_of};
 ghost use Rattle.corr_core.specs.Word.{error_of, code_of, attempt_of};
 
 use crate::call_id::AttemptNumber;

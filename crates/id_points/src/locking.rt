@@ -1,9 +1,9 @@
 ghost use Rattle.std.specs.Prelude.{◌≡◌, ◌==◌, ◌+◌, ℕ, None, Some, MatchOption, if◌then◌else◌, not, ◌&&◌};
 ghost use Rattle.corr_core.specs.Word.{parts, posted_word};
-ghost use Rattle.seat_programs.specs.Heads.{Locking, Has};
+ghost use Rattle.seat_programs.specs.LoopHeads.{Locking, Has};
 ghost use Rattle.seat_programs.specs.Programs.{Program};
-ghost use Rattle.seat_programs.specs.Posts.{packed, locking, is_sought, is_first};
-ghost use Rattle.id_points.specs.Turns.{lock_on, sought_as};
+ghost use Rattle.seat_programs.specs.PostPrograms.{packed, locking, is_sought, is_first};
+ghost use Rattle.id_points.specs.CallIdLoopTurns.{lock_on, sought_as};
 
 use crate::posting::{is_there, locked};
 use corr_core::has_version;

@@ -1,10 +1,10 @@
 ghost use Rattle.std.specs.Prelude.{◌≡◌, ◌≤◌, ◌==◌, ℕ, if◌then◌else◌};
 ghost use Rattle.corr_core.specs.Word.{parts, posted_word};
-ghost use Rattle.seat_programs.specs.Heads.{Posting, HasLocked, WasQueued};
+ghost use Rattle.seat_programs.specs.LoopHeads.{Posting, HasLocked, WasQueued};
 ghost use Rattle.seat_programs.specs.Programs.{Program};
-ghost use Rattle.seat_programs.specs.Posts.{judged, packed, is_first, is_stale};
-ghost use Rattle.id_points.specs.Ids.{id_of};
-ghost use Rattle.id_points.specs.Turns.{post_on};
+ghost use Rattle.seat_programs.specs.PostPrograms.{judged, packed, is_first, is_stale};
+ghost use Rattle.id_points.specs.IdsAndAttemptNumbers.{id_of};
+ghost use Rattle.id_points.specs.CallIdLoopTurns.{post_on};
 
 use crate::call_id::CallId;
 use crate::error::IdError;

@@ -1,10 +1,10 @@
 ghost use Rattle.std.specs.Prelude.{◌≡◌, ◌≤◌, ◌<◌, ◌+◌, ◌==◌, ℕ, IsTrue, false, if◌then◌else◌};
 ghost use Rattle.corr_core.specs.Word.{parts, unlocked_word};
-ghost use Rattle.seat_programs.specs.Heads.{Unlocking, Unlocks};
+ghost use Rattle.seat_programs.specs.LoopHeads.{Unlocking, Unlocks};
 ghost use Rattle.seat_programs.specs.Programs.{Program, Round};
-ghost use Rattle.seat_programs.specs.Posts.{packed, popped};
-ghost use Rattle.id_points.specs.Turns.{unlock_on};
-ghost use Rattle.sock_words.specs.Words.{bit};
+ghost use Rattle.seat_programs.specs.PostPrograms.{packed, popped};
+ghost use Rattle.id_points.specs.CallIdLoopTurns.{unlock_on};
+ghost use Rattle.sock_words.specs.PackedWords.{bit};
 
 use crate::error::IdError;
 use crate::posting::is_stale;

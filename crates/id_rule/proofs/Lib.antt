@@ -1,3 +1,3 @@
-pub mod Frames
-pub mod Allowed
-pub mod Kept
+pub mod OtherIdsUntouched
+pub mod AllowedIdSteps
+pub mod KeptOperationWords

@@ -1,2 +1,2 @@
-pub mod Lawful
-pub mod Plays
+pub mod LawfulIdTable
+pub mod IdPlays

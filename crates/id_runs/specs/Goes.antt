@@ -10,25 +10,25 @@ use Rattle.corr_core.specs.Word.{Parts, parts}
 use Rattle.corr_core.specs.declared.marks.Plan.{Plan as IdPlan}
 use Rattle.corr_core.specs.declared.marks.Hand.TheVariants.{Empty, Full}
 use Rattle.corr_core.specs.declared.marks.Token.TheVariants.{Locked}
-use Rattle.id_rule.specs.Lawful.{Lawful, call_index, at_index}
-use Rattle.id_rule.specs.Plays.{Longer}
+use Rattle.id_rule.specs.LawfulIdTable.{Lawful, call_index, at_index}
+use Rattle.id_rule.specs.IdPlays.{Longer}
 use Rattle.seat_programs.specs.sock_message.specs.Asked.{Asked}
-use Rattle.seat_programs.specs.Calls.{TableStep, FindLink, LoadCode, StoreCode, PutMessage}
+use Rattle.seat_programs.specs.TableSteps.{TableStep, FindLink, LoadCode, StoreCode, PutMessage}
 use Rattle.seat_programs.specs.Writings.{Writing, Puts, Waits}
 use Rattle.seat_programs.specs.Asides.{Step, LoadCall, LoadAt, MakeId, LoadIdWord, LockId, PostId, UnlockId, TakeCall, Found}
-use Rattle.seat_programs.specs.Heads.{Head, Exit, Retry, Posts, Unlocks, Decides, Locks, Joins, Opens, Reads, Discards, Posting, HasLocked, Unlocking, IsOpen, HasNext, Locking, NotThere, Has, Ended}
+use Rattle.seat_programs.specs.LoopHeads.{Head, Exit, Retry, Posts, Unlocks, Decides, Locks, Joins, Opens, Reads, Discards, Posting, HasLocked, Unlocking, IsOpen, HasNext, Locking, NotThere, Has, Ended}
 use Rattle.seat_programs.specs.Programs.{Program, Do, Say, Sent, Rest, TakeMessage, TakeHome, PutHome, PutBytes, AskReady, Write, Aside, Round, Keep, Retries}
 use Rattle.std.specs.List.{AllByRecursion}
 use Rattle.seat_programs.specs.Cores.{Core, SeatState, found_at, waiting_at}
 use Rattle.seat_programs.specs.StepTables.{word_of}
-use Rattle.seat_programs.specs.Rounds.{first_step}
+use Rattle.seat_programs.specs.LoopRounds.{first_step}
 use Rattle.seat_programs.specs.Ticks.{Moment}
 use Rattle.seat_programs.specs.sock_model.specs.declared.home.Home.{Home}
 use Rattle.seat_programs.specs.sock_model.specs.declared.home.Home.TheVariants.{Message}
-use Rattle.seat_programs.specs.sock_model.specs.Layout.{code_index}
-use Rattle.seat_programs.specs.Told.{AskedFits}
-use Rattle.id_runs.specs.Held.{IdView, id_state, one, HasOne, CallFits, AtFits, MayId, id_row}
-use Rattle.sock_words.specs.Words.{id_slot, bit}
+use Rattle.seat_programs.specs.sock_model.specs.SocketTableLayout.{code_index}
+use Rattle.seat_programs.specs.Explained.{AskedFits}
+use Rattle.id_runs.specs.HeldIdTokens.{IdView, id_state, one, HasOne, CallFits, AtFits, MayId, id_row}
+use Rattle.sock_words.specs.PackedWords.{id_slot, bit}
 
 -- ## What the table of the sockets says
 

@@ -1,3 +1,3 @@
-pub mod Held
+pub mod HeldIdTokens
 pub mod Goes
 pub use Rattle.id_rule

@@ -1,4 +1,4 @@
-mod Fronts
-pub mod Pieces
-pub mod Sizes
-mod Steps
+mod BufferFronts
+pub mod PieceLists
+pub mod ReferenceSizesAtEnds
+mod PieceLoopSteps

@@ -1,5 +1,5 @@
 pub mod Buffer
 pub mod Fault
-pub mod Refs
-pub mod Inside
+pub mod ReferencesInRow
+pub mod InsideBuffer
 pub use Rattle.io_block

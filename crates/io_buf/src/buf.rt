@@ -35,7 +35,7 @@ impl Model for IoBuf {
 
     ghost coded = { buffer_code };
 
-    ghost use Rattle.io_buf.specs.Inside.{buffer_view, IsBuffer};
+    ghost use Rattle.io_buf.specs.InsideBuffer.{buffer_view, IsBuffer};
 
     ghost view = { buffer_view };
 

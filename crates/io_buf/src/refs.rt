@@ -18,7 +18,7 @@ pub(crate) struct Refs {
 }
 
 impl Model for Refs {
-    ghost use Rattle.io_buf.specs.Refs.{RefsState, refs_view, IsRefs};
+    ghost use Rattle.io_buf.specs.ReferencesInRow.{RefsState, refs_view, IsRefs};
 
     ghost Value = { RefsState };
 

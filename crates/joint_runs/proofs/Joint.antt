@@ -6,27 +6,27 @@ use Rattle.sock_words.specs.declared.plain.Plan.{Plan}
 use Rattle.sock_model.specs.declared.view.View.{View}
 use Rattle.seat_programs.specs.corr_core.specs.declared.marks.Plan.{Plan as IdPlan}
 use Rattle.seat_programs.specs.Asides.{Step, Found, MakeId, LoadIdWord, LockId, PostId, UnlockId, EndId, TakeCall, TakeBytes}
-use Rattle.seat_programs.specs.Calls.{TableStep, FindLink, LoadCode}
+use Rattle.seat_programs.specs.TableSteps.{TableStep, FindLink, LoadCode}
 use Rattle.seat_programs.specs.Programs.{Program, Do, Write, Aside, Round}
 use Rattle.seat_programs.specs.Cores.{Core, found_at}
 use Rattle.seat_programs.specs.StepTables.{word_of}
-use Rattle.seat_programs.specs.Beside.{found_in, call_at, at_last}
-use Rattle.seat_programs.specs.Sends.{block}
-use Rattle.seat_programs.specs.Rounds.{round, first_step}
+use Rattle.seat_programs.specs.FoundAndChangedAside.{found_in, call_at, at_last}
+use Rattle.seat_programs.specs.SendAndWritePrograms.{block}
+use Rattle.seat_programs.specs.LoopRounds.{round, first_step}
 use Rattle.seat_programs.specs.Ticks.{Answer, Moment, IsAnswer, IsAnswered, taken}
-use Rattle.programs_allowed.specs.program_steps.specs.Fits.{FitsFound}
+use Rattle.programs_allowed.specs.program_steps.specs.IdWordFits.{FitsFound}
 use Rattle.seat_programs.specs.StepTables.{May}
-use Rattle.programs_allowed.specs.program_steps.specs.GoesOn.{GoesOn}
-use Rattle.programs_allowed.specs.program_steps.specs.Sound.{state, Sound, FitsBeside, IsFitting}
-use Rattle.programs_allowed.specs.program_steps.specs.Lasts.{IsSlot, IsCountedStep, IsCountedAt, IsCounted}
-use Rattle.programs_allowed.specs.program_steps.proofs.Cases as cases
-use Rattle.programs_allowed.specs.program_steps.proofs.Cases.{elem_there}
+use Rattle.programs_allowed.specs.program_steps.specs.ProgramGoesOn.{GoesOn}
+use Rattle.programs_allowed.specs.program_steps.specs.SoundSeats.{state, Sound, FitsBeside, IsFitting}
+use Rattle.programs_allowed.specs.program_steps.specs.TicksLeftAtMost.{IsSlot, IsCountedStep, IsCountedAt, IsCounted}
+use Rattle.programs_allowed.specs.program_steps.proofs.TickCases as cases
+use Rattle.programs_allowed.specs.program_steps.proofs.TickCases.{elem_there}
 use Rattle.programs_allowed.specs.sock_runs.proofs.Founds.{finds}
-use Rattle.programs_allowed.specs.id_runs.specs.Held.{IdView, MayId}
+use Rattle.programs_allowed.specs.id_runs.specs.HeldIdTokens.{IdView, MayId}
 use Rattle.programs_allowed.specs.id_runs.specs.Goes.{FindsId, IdGoesOn, SoundIds, FitsSock, FitsFirst, IsFittingIds}
-use Rattle.programs_allowed.specs.id_runs.proofs.Steps.{finds_ids, call_there}
-use Rattle.programs_allowed.specs.id_runs.proofs.Loops.{ids_round}
-use Rattle.programs_allowed.specs.id_runs.proofs.Programs.{block_goes}
+use Rattle.programs_allowed.specs.id_runs.proofs.AsideStepsKeepRule.{finds_ids, call_there}
+use Rattle.programs_allowed.specs.id_runs.proofs.IdLoopRounds.{ids_round}
+use Rattle.programs_allowed.specs.id_runs.proofs.IdPrograms.{block_goes}
 
 -- what a step may find by the rule of the ids fits
 fits_found : (p : Plan) (q : IdPlan) (u : IdView) (step : Step) (found : Found step) → MayId p q u step → FindsId p q u step found → FitsFound p step found

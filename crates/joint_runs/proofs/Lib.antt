@@ -1,5 +1,5 @@
 pub mod Joint
-pub mod Both
-pub mod Starts
-pub mod Runs
-pub mod Made
+pub mod BothTablesSound
+pub mod StartsWithBothRules
+pub mod RunsOfBothTables
+pub mod ScriptTablesMade

@@ -1,3 +1,3 @@
-pub mod Loops
-pub mod Operations
-pub mod Programs
+pub mod LoopsOfKnownSeats
+pub mod OperationsKeepKnown
+pub mod ProgramsKeepAttempts

@@ -6,12 +6,12 @@ use native.Mathlib.Decide.{ℕ_discrete}
 use Rattle.sock_model.specs.declared.marks.Mark.{Mark}
 use Rattle.sock_model.specs.declared.marks.Mark.TheVariants as mark
 use Rattle.sock_model.specs.declared.marks.SlotMark.{SlotMark}
-use Rattle.sock_model.specs.Weights.{only, pair, is_hold, is_born, is_failer, is_freer}
+use Rattle.sock_model.specs.MarkWeights.{only, pair, is_hold, is_born, is_failer, is_freer}
 use Rattle.sock_model.specs.Marks.{about, at, without, without_at}
-use Rattle.sock_model.specs.Plain.{Life, life_at, once_more}
-use Rattle.slot_steps.proofs.Sums.{about-here, about-other, taken_as}
-use Rattle.slot_steps.proofs.Frame.{about-without, about-without_else}
-use Rattle.slot_steps.proofs.Slots.{hold_is}
+use Rattle.sock_model.specs.PlainReferences.{Life, life_at, once_more}
+use Rattle.slot_steps.proofs.SlotWeightSums.{about-here, about-other, taken_as}
+use Rattle.slot_steps.proofs.OtherSlotsUntouched.{about-without, about-without_else}
+use Rattle.slot_steps.proofs.ReferenceStepsKeepSlot.{hold_is}
 use Rattle.sock_words.specs.Totals.{total}
 
 -- of each life the new marks have so many more

@@ -2,8 +2,8 @@
 use Rattle.std.proofs.Common.{◌≡◌, ℕ, ◌+◌, ◌<◌, ◌≤◌, ◌⊎◌, true, false, List, [], ◌∷◌, refl, sym, ap, ◌∙◌, subst, inl, inr, ⊎_elim, arith, cond, eqb}
 use mathlib.Core.Logic.{dite}
 use native.Mathlib.Decide.{ℕ_discrete}
-use Rattle.sock_model.specs.Plain.{Life, life_at, Plain, Event, Nothing, Birth, Hold, Drop, Fail, End, MayCome, Becomes, Leads, changed, same_life, IsUnended, IsUnheld, PlainLaw}
-use Rattle.slot_steps.proofs.Numbers.{pair_is, pair_le}
+use Rattle.sock_model.specs.PlainReferences.{Life, life_at, Plain, Event, Nothing, Birth, Hold, Drop, Fail, End, MayCome, Becomes, Leads, changed, same_life, IsUnended, IsUnheld, PlainLaw}
+use Rattle.slot_steps.proofs.RuleNumbers.{pair_is, pair_le}
 
 -- two lives are one, or count as none
 one_or_none : (l x : Life) → (l ≡ x) ⊎ (same_life l x ≡ 0)

@@ -1,9 +1,9 @@
 pub mod Grown
-pub mod Readings
-pub mod Laws
-pub mod Steps
-pub mod Each
+pub mod ReadingsOfViews
+pub mod LifeLaws
+pub mod StepsAsLifeEvents
+pub mod EachLifeEvent
 pub mod Histories
 pub mod Stale
-pub mod Seats
+pub mod SplitSeatsKeepLives
 pub mod TickRule

@@ -2,24 +2,24 @@
 use Rattle.std.proofs.Common.{◌≡◌, ◌≢◌, ℕ, zero, suc, ◌+◌, ◌-◌, ◌<◌, false, [], ◌∷◌, get_or, refl, ap, arith, cond, eqb, ne_eqb}
 use Rattle.atomic_table.specs.Table.{State}
 use Rattle.sock_words.specs.declared.plain.Plan.{Plan}
-use Rattle.sock_words.specs.Words.{socket_id_version, socket_id_slot, vref_version}
+use Rattle.sock_words.specs.PackedWords.{socket_id_version, socket_id_slot, vref_version}
 use Rattle.sock_model.specs.declared.home.Home.{Home}
 use Rattle.sock_model.specs.declared.view.View.{View}
 use Rattle.sock_model.specs.declared.view.Hand.{Hand}
-use Rattle.sock_model.specs.Weights.{is_probe}
+use Rattle.sock_model.specs.MarkWeights.{is_probe}
 use Rattle.sock_model.specs.References.{slot_facts}
 use Rattle.sock_model.specs.SlotRows.{marks_of, added}
-use Rattle.sock_model.specs.Lawful.{Lawful}
-use Rattle.sock_model.specs.Seats.{first_view}
-use Rattle.sock_model.specs.Plain.{no_lives, Nothing, Hold, plain}
+use Rattle.sock_model.specs.LawfulSockets.{Lawful}
+use Rattle.sock_model.specs.ViewsOfSplitSeats.{first_view}
+use Rattle.sock_model.specs.PlainReferences.{no_lives, Nothing, Hold, plain}
 use Rattle.slot_steps.proofs.After.{marks-added}
-use Rattle.slot_steps.proofs.Numbers.{life_is}
-use Rattle.seat_programs.specs.Calls.{AddRef}
+use Rattle.slot_steps.proofs.RuleNumbers.{life_is}
+use Rattle.seat_programs.specs.TableSteps.{AddRef}
 use Rattle.seat_programs.specs.StepTables.{word_of}
 use Rattle.seat_programs.specs.Cores.{found_at}
 use Rattle.seat_programs.specs.StepTables.{row}
-use Rattle.life_events.specs.Events.{life_of, event_of}
-use Rattle.life_events.proofs.Laws.{ends_are}
+use Rattle.life_events.specs.LifeEventOfStep.{life_of, event_of}
+use Rattle.life_events.proofs.LifeLaws.{ends_are}
 
 module _ {S : Type 0} (shows : S → Home) (p : Plan) (s : State S View) (o : Lawful shows p s) (id : ℕ) (inside : socket_id_slot id < p.slots) (over : 0 < (plain s.views).ends (life_of id)) where
   abbrev found : ℕ

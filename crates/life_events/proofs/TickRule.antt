@@ -12,18 +12,18 @@ use Rattle.sock_model.specs.declared.chain.Right.{Right}
 use Rattle.sock_model.specs.declared.home.Home.{Home}
 use Rattle.sock_model.specs.declared.view.View.{View}
 use Rattle.sock_model.specs.declared.view.Hand.{Hand}
-use Rattle.sock_model.specs.Layout.{head_index, name_index, open_index, request_index, all_words}
+use Rattle.sock_model.specs.SocketTableLayout.{head_index, name_index, open_index, request_index, all_words}
 use Rattle.sock_model.specs.ChainRows.{entry_of, queued, righted, taken_right}
-use Rattle.sock_model.specs.Messages.{HeadedBytes}
-use Rattle.sock_model.specs.Reads.{message, link_home}
-use Rattle.sock_model.specs.Lawful.{Lawful}
+use Rattle.sock_model.specs.UnplacedMessages.{HeadedBytes}
+use Rattle.sock_model.specs.ChainLawReads.{message, link_home}
+use Rattle.sock_model.specs.LawfulSockets.{Lawful}
 use Rattle.sock_model.specs.Rule.{Lasting, of_name, of_open, of_request, Rule}
-use Rattle.seat_programs.specs.Calls.{TableStep, StoreName, LoadName, StoreOpen, LoadOpen, ClaimRequest, SwapHead, FreeRequest}
+use Rattle.seat_programs.specs.TableSteps.{TableStep, StoreName, LoadName, StoreOpen, LoadOpen, ClaimRequest, SwapHead, FreeRequest}
 use Rattle.seat_programs.specs.Programs.{Program, Do, TakeMessage, TakeHome, PutHome, PutBytes, AskReady, Write, Aside, Round}
 use Rattle.seat_programs.specs.Asides.{Step, Found}
-use Rattle.seat_programs.specs.Beside.{found_in}
-use Rattle.seat_programs.specs.Rounds.{round}
-use Rattle.seat_programs.specs.Sends.{block}
+use Rattle.seat_programs.specs.FoundAndChangedAside.{found_in}
+use Rattle.seat_programs.specs.LoopRounds.{round}
+use Rattle.seat_programs.specs.SendAndWritePrograms.{block}
 use Rattle.seat_programs.specs.Cores.{Core, SeatState, words_after, homes_after, found_at, lies_at, first_of, others_of, link_place, with_seat}
 use Rattle.seat_programs.specs.TableWords.{TableWord, NameOf, OpenOf, RequestOf, index_of}
 use Rattle.seat_programs.specs.StepTables.{May, table_word, word_of, word_after, row, hand_at}
@@ -33,16 +33,16 @@ use Rattle.seat_programs.specs.StepsOfChain.{exchanged}
 use Rattle.seat_programs.specs.StepsOfMessages.{took_message}
 use Rattle.seat_programs.specs.StepsOfLinks.{link_away, link_home_again, took_bytes}
 use Rattle.sock_runs.specs.program_steps.proofs.WordFrame.{sort_in, load_leaves, word_stays}
-use Rattle.sock_runs.specs.program_steps.specs.GoesOn.{GoesOn}
-use Rattle.sock_runs.specs.program_steps.specs.Sound.{Sound, state, views_with_message, views_with_link, views_with_put, views_with, views_of, views_after}
-use Rattle.sock_steps.proofs.Quiet.{either_way}
+use Rattle.sock_runs.specs.program_steps.specs.ProgramGoesOn.{GoesOn}
+use Rattle.sock_runs.specs.program_steps.specs.SoundSeats.{Sound, state, views_with_message, views_with_link, views_with_put, views_with, views_of, views_after}
+use Rattle.sock_steps.proofs.SumsAsMarksChange.{either_way}
 use Rattle.sock_runs.specs.program_steps.proofs.Leaves.{plan_stays}
-use Rattle.sock_runs.specs.program_steps.proofs.Rounds.{begins_round}
-use Rattle.sock_runs.specs.program_steps.proofs.Passes.{goes_round}
-use Rattle.sock_runs.specs.program_steps.proofs.Cases.{beside, with_rights, right_rights, put_rights}
-use Rattle.sock_runs.proofs.Few.{row_same, IsShorter}
+use Rattle.sock_runs.specs.program_steps.proofs.AllowedRounds.{begins_round}
+use Rattle.sock_runs.specs.program_steps.proofs.AsideStepsPass.{goes_round}
+use Rattle.sock_runs.specs.program_steps.proofs.TickCases.{beside, with_rights, right_rights, put_rights}
+use Rattle.sock_runs.proofs.FewAcceptedMessages.{row_same, IsShorter}
 use Rattle.sock_steps.proofs.RuleFrame.{accept_rule, Lasts, lasts_all, lasts_set, lasting_in, still_rule, same_rule}
-use Rattle.sock_words.specs.Words.{IDLE}
+use Rattle.sock_words.specs.PackedWords.{IDLE}
 
 positive : (w : ℕ) → IsTrue (nat_lt 0 w) → w ≢ 0
 positive w some_ e = let z : false ≡ true = subst (λ (n : ℕ). IsTrue (nat_lt 0 n)) e some_ in cc

@@ -1,4 +1,4 @@
-pub mod Gave
-pub mod Meets
-pub mod Moving
-pub mod Ways
+pub mod WhatComparedLinksGave
+pub mod EndsMeetInTurn
+pub mod OtherEndMoving
+pub mod LinkWaysStay

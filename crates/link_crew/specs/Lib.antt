@@ -1,3 +1,3 @@
-pub mod Beside
-pub mod Meeting
-pub mod Serving
+pub mod LinkThreadsBesideClients
+pub mod ComparedLinkEnds
+pub mod ServingOtherEnd

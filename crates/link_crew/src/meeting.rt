@@ -1,7 +1,7 @@
 // The ends of links are compared, once nobody else moves them.
 ghost use Rattle.std.specs.Prelude.{◌≡◌, All, length};
-ghost use Rattle.sock_io.specs.Meeting.{AreEnds};
-ghost use Rattle.link_crew.specs.Meeting.{MetBelow};
+ghost use Rattle.sock_io.specs.MeetingOnOneThread.{AreEnds};
+ghost use Rattle.link_crew.specs.ComparedLinkEnds.{MetBelow};
 
 use sock_io::{Ends, Linker};
 

@@ -1,6 +1,6 @@
 // The other end of a link, on a thread of its own.
 ghost use Rattle.std.specs.Result.{is_err};
-ghost use Rattle.link_crew.specs.Serving.{ServedToEnd};
+ghost use Rattle.link_crew.specs.ServingOtherEnd.{ServedToEnd};
 
 use crossbeam_utils::Backoff;
 use sock_io::{NoMemory, Peer, Served};

@@ -1,4 +1,4 @@
-pub mod Fronts
-pub mod Following
-pub mod Links
-pub mod Meets
+pub mod FrameFrontsBySize
+pub mod RepliesFollowingPieces
+pub mod LinkOffersStay
+pub mod MemoryLinkMeets

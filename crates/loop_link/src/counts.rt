@@ -1,5 +1,5 @@
 ghost use Rattle.std.specs.Prelude.{◌≡◌, ◌||◌};
-ghost use Rattle.loop_link.specs.Serving.{is_reached};
+ghost use Rattle.loop_link.specs.ServingFedBytes.{is_reached};
 
 /// Whether so many responses are all that are given.
 pub(crate) fn is_reached(end: Option<u32>, made: u64) -> bool

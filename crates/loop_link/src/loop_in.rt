@@ -1,7 +1,7 @@
 ghost use Rattle.std.specs.Prelude.{◌≡◌, ◌⊎◌, ◌<◌, true, false, length, List, ℕ, OnErr, OnOk};
-ghost use Rattle.sock_io.specs.Link.{IsServed, TakeStep};
-ghost use Rattle.sock_io.specs.Memory.{closing, is_closing};
-ghost use Rattle.loop_link.specs.Serving.{Settled, first_ending, loop_in, new_in, offer_of};
+ghost use Rattle.sock_io.specs.LinkHalves.{IsServed, TakeStep};
+ghost use Rattle.sock_io.specs.LinksInMemory.{closing, is_closing};
+ghost use Rattle.loop_link.specs.ServingFedBytes.{Settled, first_ending, loop_in, new_in, offer_of};
 
 use crate::counts::is_reached;
 use crate::loop_peer::LoopPeer;
@@ -20,7 +20,7 @@ pub struct LoopIn {
 
 impl Model for LoopIn {
     ghost use Rattle.std.specs.Prelude.{◌≡◌};
-    ghost use Rattle.loop_link.specs.Serving.{IsSteady, IsTold, LoopInState};
+    ghost use Rattle.loop_link.specs.ServingFedBytes.{IsSteady, IsTold, LoopInState};
 
     ghost Value = { LoopInState };
 

@@ -1,13 +1,13 @@
 ghost use Rattle.std.specs.Prelude.{◌≡◌, ◌≢◌, ◌↔◌, ℕ, ◌+◌, ◌<◌, ◌∷◌, ◌++◌, List, true, false, Some, [], length, Contains, IfOk, IsErrOf, OnErr, OnOk};
 ghost use Rattle.std.specs.List.{AllByRecursion};
-ghost use Rattle.brpc_model.specs.Link.{LinkEnd};
-ghost use Rattle.sock_io.specs.Causes.{OpenCause, next_number};
-ghost use Rattle.sock_io.specs.Link.{IsFresh, IsNewOffer, IsServed, IsSettled, IsUnused, MayOpen, SettleStep, end_of};
-ghost use Rattle.sock_io.specs.Linker.{new_half};
-ghost use Rattle.sock_io.specs.Memory.{closing};
-ghost use Rattle.sock_io.specs.Shape.{shaped_out};
-ghost use Rattle.sock_io.specs.sock_words.specs.Shape.{plain_shape};
-ghost use Rattle.loop_link.specs.Serving.{Settled, loop_in, new_in, offer_of};
+ghost use Rattle.brpc_model.specs.ReturnedLink.{LinkEnd};
+ghost use Rattle.sock_io.specs.FaultCauses.{OpenCause, next_number};
+ghost use Rattle.sock_io.specs.LinkHalves.{IsFresh, IsNewOffer, IsServed, IsSettled, IsUnused, MayOpen, SettleStep, end_of};
+ghost use Rattle.sock_io.specs.MemoryLinker.{new_half};
+ghost use Rattle.sock_io.specs.LinksInMemory.{closing};
+ghost use Rattle.sock_io.specs.ShapeOfPuts.{shaped_out};
+ghost use Rattle.sock_io.specs.sock_words.specs.PlainShape.{plain_shape};
+ghost use Rattle.loop_link.specs.ServingFedBytes.{Settled, loop_in, new_in, offer_of};
 
 use crate::loop_in::LoopIn;
 use io_buf::BlockPool;
@@ -31,7 +31,7 @@ pub struct LoopLinker {
 }
 
 impl Model for LoopLinker {
-    ghost use Rattle.sock_io.specs.Linker.{MemLinksState};
+    ghost use Rattle.sock_io.specs.MemoryLinker.{MemLinksState};
 
     ghost Value = { MemLinksState };
 

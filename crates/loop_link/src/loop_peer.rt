@@ -1,6 +1,6 @@
 ghost use Rattle.std.specs.Prelude.{◌≡◌, ◌<◌, [], true, false, length, IfOk, OnErr, OnOk};
-ghost use Rattle.sock_io.specs.Memory.{is_open};
-ghost use Rattle.loop_link.specs.Serving.{Answers, IsOver, ending_for};
+ghost use Rattle.sock_io.specs.LinksInMemory.{is_open};
+ghost use Rattle.loop_link.specs.ServingFedBytes.{Answers, IsOver, ending_for};
 
 use crate::counts::gives_end;
 use crate::front::{gathered, given_len};
@@ -26,7 +26,7 @@ pub(crate) struct LoopPeer {
 
 impl Model for LoopPeer {
     ghost use Rattle.std.specs.Prelude.{◌≡◌, length, IfSome};
-    ghost use Rattle.loop_link.specs.Serving.{LoopPeerState};
+    ghost use Rattle.loop_link.specs.ServingFedBytes.{LoopPeerState};
 
     ghost Value = { LoopPeerState };
 

@@ -1,6 +1,6 @@
 ghost use Rattle.std.specs.Prelude.{◌≡◌, ◌++◌, [], length, IfOk};
 ghost use Rattle.brpc_model.specs.Reply.{reply_frames};
-ghost use Rattle.loop_link.specs.Serving.{Goes, NewReplies};
+ghost use Rattle.loop_link.specs.ServingFedBytes.{Goes, NewReplies};
 ghost use Rattle.rpc_server.specs.Feeding.{has_fault};
 
 use ghosts::Ghosts;
@@ -19,7 +19,7 @@ pub(crate) struct Server {
 
 impl Model for Server {
     ghost use Rattle.std.specs.Prelude.{ℕ, List};
-    ghost use Rattle.loop_link.specs.Serving.{Follows};
+    ghost use Rattle.loop_link.specs.ServingFedBytes.{Follows};
 
     ghost Value = { List ℕ };
 

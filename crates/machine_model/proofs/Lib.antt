@@ -1,6 +1,6 @@
 pub mod Same
 pub mod FirstSteps
 pub mod PointFacts
-pub mod Lengths
+pub mod MachineLengths
 pub mod TableRoom
 pub mod Tellings

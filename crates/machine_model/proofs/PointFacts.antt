@@ -5,19 +5,19 @@ use Rattle.std.proofs.Math.Logic.{∥∥₁_elim}
 use Rattle.sock_words.specs.declared.plain.Plan.{Plan}
 use Rattle.corr_core.specs.declared.marks.Plan.{Plan as IdPlan}
 use Rattle.corr_core.specs.Word.{parts, code_of}
-use Rattle.corr_core.specs.Decisions.{ends_call}
+use Rattle.corr_core.specs.ErrorsThatEndCalls.{ends_call}
 use Rattle.sock_message.specs.Asked.{Asked}
 use Rattle.seat_programs.specs.declared.task.Sizes.{Sizes}
-use Rattle.seat_programs.specs.Calls as calls
+use Rattle.seat_programs.specs.TableSteps as calls
 use Rattle.seat_programs.specs.Asides as asides
 use Rattle.seat_programs.specs.Asides.{PutCall}
-use Rattle.seat_programs.specs.Heads.{HasEnded, Unlocks}
-use Rattle.seat_programs.specs.Posts.{end_id, unlocked, decided}
+use Rattle.seat_programs.specs.LoopHeads.{HasEnded, Unlocks}
+use Rattle.seat_programs.specs.PostPrograms.{end_id, unlocked, decided}
 use Rattle.seat_programs.specs.Programs.{Program, Aside, Round}
-use Rattle.seat_states.specs.program_steps.specs.Sound.{AllowsWord}
-use Rattle.id_runs.specs.Held.{IdView}
+use Rattle.seat_states.specs.program_steps.specs.SoundSeats.{AllowsWord}
+use Rattle.id_runs.specs.HeldIdTokens.{IdView}
 use Rattle.id_runs.specs.Goes.{FitsSock, IsLocked, IsTaken, IdGoesOn}
-use Rattle.id_points.specs.Ids.{id_of}
+use Rattle.id_points.specs.IdsAndAttemptNumbers.{id_of}
 use Rattle.call_points.specs.declared.deciding.DecideStep.TheVariants as decides
 use Rattle.call_points.specs.declared.word_step.WordStep.TheVariants as id_steps
 use Rattle.seat_states.specs.declared.point.OpenStep.TheVariants as opens
@@ -36,15 +36,15 @@ use Rattle.seat_states.specs.declared.point.Author.{Author}
 use Rattle.seat_states.specs.declared.point.Author.TheVariants as authors
 use Rattle.seat_states.specs.declared.point.Point.{Point}
 use Rattle.seat_states.specs.declared.point.Point.TheVariants as points
-use Rattle.seat_states.specs.Points.{Context, point_program, look_program, after_program, IsWithin, IsWithinIds, MayFind, MayFindAside, MayFindId, GoesByWord, TakesCall}
-use Rattle.seat_states.specs.Steps.{First, OfTable, OfAside, first_of, first_in}
-use Rattle.reader_points.specs.Points as reading
+use Rattle.seat_states.specs.SeatPoints.{Context, point_program, look_program, after_program, IsWithin, IsWithinIds, MayFind, MayFindAside, MayFindId, GoesByWord, TakesCall}
+use Rattle.seat_states.specs.ProgramStepsOfMachine.{First, OfTable, OfAside, first_of, first_in}
+use Rattle.reader_points.specs.ReaderPoints as reading
 use Rattle.reader_points.specs.declared.point.Closing.{Closing}
 use Rattle.reader_points.specs.declared.point.ReadPoint.{ReadPoint}
 use Rattle.reader_points.specs.declared.point.ReadPoint.TheVariants as reads
 use Rattle.reader_points.specs.declared.point.CloseStep.{CloseStep}
 use Rattle.reader_points.specs.declared.point.CloseStep.TheVariants as closes
-use Rattle.sock_words.specs.Words.{id_slot}
+use Rattle.sock_words.specs.PackedWords.{id_slot}
 
 -- ## Of a client
 

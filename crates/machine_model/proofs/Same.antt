@@ -2,9 +2,9 @@
 use Rattle.std.proofs.Common.{◌≡◌, ℕ, inl, inr, Bool, true, List, length, get_or, refl, sym, ap, ◌∙◌, subst, ⊎_elim, arith}
 use Rattle.std.proofs.lemmas.Option.{same_Some, slice_get_within, slice_get-get_or}
 use Rattle.std.specs.Prelude.{Option, slice_get, Some, None, option_map}
-use Rattle.brpc_model.specs.Link.{LinkEnd}
+use Rattle.brpc_model.specs.ReturnedLink.{LinkEnd}
 use Rattle.machine_model.specs.Machines.{MachineState}
-use Rattle.machine_model.specs.Runs.{SameLink, SameTable, SameLinks}
+use Rattle.machine_model.specs.MachineRuns.{SameLink, SameTable, SameLinks}
 
 pub same_table_none : (m : MachineState) → SameTable m m
 same_table_none m = record { plans = record { plan = refl; id_plan = refl; calls = refl; ending = refl }; opens = refl }

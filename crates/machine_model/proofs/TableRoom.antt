@@ -1,19 +1,19 @@
 -- A seat that asks no link, makes no step aside of the sockets and holds no life wants no room.
 use Rattle.std.proofs.Common.{◌≡◌, refl, ℕ, ◌<◌, ◌⊎◌, inl, inr, ⊎_elim, Some, vec_len, vec_capacity, sym, subst}
 use Rattle.sock_words.specs.declared.socket_id.SocketId.{SocketId}
-use Rattle.seat_programs.specs.Calls.{TableStep}
+use Rattle.seat_programs.specs.TableSteps.{TableStep}
 use Rattle.seat_programs.specs.Programs.{Program, Do, Say, Sent, Rest, Retries}
-use Rattle.call_points.specs.Steps.{after_word}
+use Rattle.call_points.specs.AsideCodeSteps.{after_word}
 use Rattle.seat_states.specs.declared.point.Step.{Step}
 use Rattle.seat_states.specs.declared.point.Next.{Next}
 use Rattle.seat_states.specs.declared.point.Next.TheVariants as nexts
-use Rattle.seat_states.specs.Points.{Context, next_program}
-use Rattle.seat_states.specs.Steps.{First, OfTable, step_as, first_in}
+use Rattle.seat_states.specs.SeatPoints.{Context, next_program}
+use Rattle.seat_states.specs.ProgramStepsOfMachine.{First, OfTable, step_as, first_in}
 use Rattle.client_seats.specs.declared.seat.Seat.{Seat}
-use Rattle.client_seats.specs.Seats.{SeatData, seat_data, around, seat_program}
-use Rattle.client_seats.specs.Following.{HasRoom}
+use Rattle.client_seats.specs.ClientSeatState.{SeatData, seat_data, around, seat_program}
+use Rattle.client_seats.specs.ClientSeatFollowing.{HasRoom}
 use Rattle.machine_model.specs.Machines.{TableState, table_sizes}
-use Rattle.machine_model.specs.Steps.{IsNext}
+use Rattle.machine_model.specs.MachineSteps.{IsNext}
 use Rattle.machine_model.specs.Driving.{PutsNone, AsksNone}
 use Rattle.machine_model.proofs.FirstSteps.{same_some}
 

@@ -2,51 +2,51 @@
 use Rattle.std.proofs.Common.{◌≡◌, ◌≢◌, refl, ℕ, ◌+◌, ◌==◌, ◌&&◌, Bool, true, false, not, is_some, if◌then◌else◌, List, [], Option, Some, None, IfSome, option_map, ap, sym, ◌∙◌, subst}
 use mathlib.Core.Option as core
 use Rattle.corr_core.specs.Word.{parts, code_of}
-use Rattle.corr_core.specs.Decisions.{ends_call}
+use Rattle.corr_core.specs.ErrorsThatEndCalls.{ends_call}
 use Rattle.sock_words.specs.declared.kind.Kind.{Kind}
 use Rattle.sock_words.specs.declared.kind.Kind.TheVariants.{I6, K1}
 use Rattle.sock_io.specs.declared.link.Put.{Put}
 use Rattle.sock_io.specs.declared.link.Ready.{Ready}
 use Rattle.sock_io.specs.declared.link.Ready.TheVariants as asks
 use Rattle.sock_words.specs.declared.plain.Plan.{Plan}
-use Rattle.seat_programs.specs.Parts.{part}
+use Rattle.seat_programs.specs.BufferParts.{part}
 use Rattle.seat_programs.specs.Asides.{PutCall}
 use Rattle.seat_programs.specs.Asides as asides
-use Rattle.seat_programs.specs.Beside.{found_in}
-use Rattle.seat_programs.specs.Heads.{Posts, Unlocks, Decides, Locks, Joins, Opens, Reads, Discards, HasEnded}
-use Rattle.seat_programs.specs.Posts.{end_id, unlocked, is_first, is_sought}
-use Rattle.seat_programs.specs.Calls as calls
+use Rattle.seat_programs.specs.FoundAndChangedAside.{found_in}
+use Rattle.seat_programs.specs.LoopHeads.{Posts, Unlocks, Decides, Locks, Joins, Opens, Reads, Discards, HasEnded}
+use Rattle.seat_programs.specs.PostPrograms.{end_id, unlocked, is_first, is_sought}
+use Rattle.seat_programs.specs.TableSteps as calls
 use Rattle.seat_programs.specs.Writings as heads
 use Rattle.seat_programs.specs.Programs.{Program, Do, TakeMessage, TakeHome, PutHome, PutBytes, Write, Aside, Round}
 use Rattle.seat_programs.specs.Cores.{Core, found_at}
 use Rattle.seat_programs.specs.StepTables.{word_of}
 use Rattle.seat_programs.specs.Ticks.{Answer, Unasked, OfPut, OfReady, waits_at}
-use Rattle.seat_programs.specs.Runs.{kind_in}
-use Rattle.call_slots.specs.Steps.{word_found}
+use Rattle.seat_programs.specs.ScheduledRuns.{kind_in}
+use Rattle.call_slots.specs.CallSlotSteps.{word_found}
 use Rattle.call_points.specs.declared.aside.Aside as code
-use Rattle.call_points.specs.Steps as aside_steps
+use Rattle.call_points.specs.AsideCodeSteps as aside_steps
 use Rattle.seat_states.specs.declared.point.WriteStep.TheVariants as writes
 use Rattle.seat_states.specs.declared.point.Author.{Author}
 use Rattle.seat_states.specs.declared.point.Point.{Point}
 use Rattle.seat_states.specs.declared.point.Point.TheVariants as points
-use Rattle.seat_states.specs.Points.{Context, point_program, heading_by, parts_by, Asks}
-use Rattle.seat_states.specs.Steps.{First, OfTable, OfAside, OfMessage, OfLink, OfHome, first_of, first_in, kind_of_first}
-use Rattle.seat_states.specs.Steps as kinds
-use Rattle.seat_states.specs.Steps.{step_of, step_as}
+use Rattle.seat_states.specs.SeatPoints.{Context, point_program, heading_by, parts_by, Asks}
+use Rattle.seat_states.specs.ProgramStepsOfMachine.{First, OfTable, OfAside, OfMessage, OfLink, OfHome, first_of, first_in, kind_of_first}
+use Rattle.seat_states.specs.ProgramStepsOfMachine as kinds
+use Rattle.seat_states.specs.ProgramStepsOfMachine.{step_of, step_as}
 use Rattle.seat_states.specs.declared.table_step.TableStep.{TableStep}
 use Rattle.seat_states.specs.declared.point.Step.{Step}
 use Rattle.seat_states.specs.declared.point.Step.TheVariants as firsts
 use Rattle.sock_model.specs.declared.chain.Heading.{Heading}
 use Rattle.machine_model.specs.declared.tick.On.{On}
 use Rattle.machine_model.specs.declared.tick.On.TheVariants as on
-use Rattle.machine_model.specs.Runs.{IsWaitingFor}
-use Rattle.machine_model.specs.Telling.{is_waiting, waits_by, StepTold}
+use Rattle.machine_model.specs.MachineRuns.{IsWaitingFor}
+use Rattle.machine_model.specs.TickAnswersOfStep.{is_waiting, waits_by, StepTold}
 use Rattle.machine_model.specs.declared.tick.Tick.TheVariants.{Moved, Waits}
-use Rattle.client_seats.specs.Seats.{SeatData, around, seat_program, bytes_of, parts_of, left_of, taken_of, left_parts_of, asked_or_nothing}
+use Rattle.client_seats.specs.ClientSeatState.{SeatData, around, seat_program, bytes_of, parts_of, left_of, taken_of, left_parts_of, asked_or_nothing}
 use Rattle.machine_model.specs.Machines.{TableState, table_sizes}
-use Rattle.machine_model.specs.Steps.{IsNext, Makes, FoundBeside, beside}
+use Rattle.machine_model.specs.MachineSteps.{IsNext, Makes, FoundBeside, beside}
 use Rattle.seat_states.proofs.StepFacts as facts
-use Rattle.sock_words.specs.Words.{id_first, id_slot}
+use Rattle.sock_words.specs.PackedWords.{id_first, id_slot}
 
 -- ## Kinds
 

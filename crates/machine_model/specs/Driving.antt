@@ -2,20 +2,20 @@
 use Rattle.std.specs.Prelude.{ℕ, ◌≡◌, ◌≢◌, ◌-◌, ◌<◌, ◌≤◌, true, false, [], Result, IfOk, OnOk, slice_set}
 use mathlib.Core.Option as core
 use lib.ListN.{get_elem?}
-use Rattle.seat_programs.specs.Calls.{TableStep, PutMessage}
+use Rattle.seat_programs.specs.TableSteps.{TableStep, PutMessage}
 use Rattle.seat_programs.specs.Programs.{Program, Do, Say, Sent, Rest, Retries}
-use Rattle.seat_programs.specs.Clients.{ending_of}
+use Rattle.seat_programs.specs.ClientProgram.{ending_of}
 use Rattle.seat_programs.specs.Cores.{next_step}
 use Rattle.seat_programs.specs.Ticks.{quiet, ticked}
-use Rattle.seat_programs.specs.Runs.{IsAtRest}
+use Rattle.seat_programs.specs.ScheduledRuns.{IsAtRest}
 use Rattle.sock_words.specs.declared.kind.Kind.{Kind}
 use Rattle.sock_words.specs.declared.outcome.Outcome.TheVariants.{Held}
 use Rattle.machine_model.specs.declared.tick.Tick.{Tick}
 use Rattle.machine_model.specs.declared.tick.Tick.TheVariants.{Moved}
-use Rattle.client_seats.specs.Seats.{SeatData, seat_program}
-use Rattle.machine_model.specs.Links.{Taken, Given, Agrees, AgreesGave}
+use Rattle.client_seats.specs.ClientSeatState.{SeatData, seat_program}
+use Rattle.machine_model.specs.MachineLinks.{Taken, Given, Agrees, AgreesGave}
 use Rattle.machine_model.specs.Machines.{MachineState, IsSoundMachine, HasSizes, machine_sizes, core_with}
-use Rattle.machine_model.specs.Runs.{SameTable, SameLinks, Ticked}
+use Rattle.machine_model.specs.MachineRuns.{SameTable, SameLinks, Ticked}
 
 -- ## Ticks that are left
 

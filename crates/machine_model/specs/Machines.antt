@@ -5,26 +5,26 @@ use mathlib.Core.Option as core
 use lib.ListN.{get_elem?}
 use Rattle.sock_words.specs.declared.plain.Plan.{Plan}
 use Rattle.sock_words.specs.declared.outcome.Outcome.{Outcome}
-use Rattle.brpc_model.specs.Link.{LinkEnd}
+use Rattle.brpc_model.specs.ReturnedLink.{LinkEnd}
 use Rattle.sock_model.specs.declared.view.View.{View}
 use Rattle.seat_programs.specs.declared.task.Sizes.{Sizes}
-use Rattle.id_rule.specs.Lawful.{call_index}
-use Rattle.seat_programs.specs.Heads.{Retry}
+use Rattle.id_rule.specs.LawfulIdTable.{call_index}
+use Rattle.seat_programs.specs.LoopHeads.{Retry}
 use Rattle.seat_programs.specs.Programs.{Program, Rest}
-use Rattle.seat_programs.specs.Clients.{ending_of}
+use Rattle.seat_programs.specs.ClientProgram.{ending_of}
 use Rattle.seat_programs.specs.Cores.{Calls, Core, SeatState, with_seat}
-use Rattle.seat_programs.specs.Runs.{from_to}
-use Rattle.seat_programs.specs.Scripts.{sizes_of}
-use Rattle.seat_states.specs.program_steps.specs.Sound.{Sound, AreFew, IsAhead}
-use Rattle.seat_states.specs.program_steps.specs.Lasts.{Lasts, MOST_PAID}
-use Rattle.id_runs.specs.Held.{IdView}
+use Rattle.seat_programs.specs.ScheduledRuns.{from_to}
+use Rattle.seat_programs.specs.ScriptSetupToEnding.{sizes_of}
+use Rattle.seat_states.specs.program_steps.specs.SoundSeats.{Sound, AreFew, IsAhead}
+use Rattle.seat_states.specs.program_steps.specs.TicksLeftAtMost.{Lasts, MOST_PAID}
+use Rattle.id_runs.specs.HeldIdTokens.{IdView}
 use Rattle.id_runs.specs.Goes.{SoundIds}
-use Rattle.call_slots.specs.Slots.{SlotState, calls_with}
-use Rattle.reader_seats.specs.Readers.{ReaderData, reader_program}
+use Rattle.call_slots.specs.CallSlotState.{SlotState, calls_with}
+use Rattle.reader_seats.specs.ReaderState.{ReaderData, reader_program}
 use Rattle.machine_model.specs.declared.home_message.HomeMessage.{HomeMessage}
-use Rattle.client_seats.specs.Seats.{SeatData, seat_program}
-use Rattle.machine_model.specs.Links.{LinksData, Taken, Given, Agrees, AgreesGave, IsPaced, ClosedAreDone, holder_of, homes_of, hand_of}
-use Rattle.sock_words.specs.Words.{id_first}
+use Rattle.client_seats.specs.ClientSeatState.{SeatData, seat_program}
+use Rattle.machine_model.specs.MachineLinks.{LinksData, Taken, Given, Agrees, AgreesGave, IsPaced, ClosedAreDone, holder_of, homes_of, hand_of}
+use Rattle.sock_words.specs.PackedWords.{id_first}
 
 -- the tables on which the seats step: their sizes, the words, the messages at the homes of requests, the links, the table of the ids, the
 -- operations that are calls, whether the run is ending, the outcomes, and the links as they would be given back

@@ -6,21 +6,21 @@ use mathlib.Core.Logic.{dite}
 use native.Mathlib.Decide.{ℕ_discrete, dec_lt}
 use mathlib.Core.Option as core
 use Rattle.corr_core.specs.declared.marks.Plan.{Plan as IdPlan}
-use Rattle.id_rule.specs.Lawful.{tag_index, id_index, call_index, at_index}
+use Rattle.id_rule.specs.LawfulIdTable.{tag_index, id_index, call_index, at_index}
 use Rattle.id_points.specs.declared.call_id.CallId.{CallId}
-use Rattle.id_points.specs.Ids.{id_of}
+use Rattle.id_points.specs.IdsAndAttemptNumbers.{id_of}
 use Rattle.sock_message.specs.Asked.{Asked}
 use Rattle.seat_programs.specs.Asides.{Found, Taking, Bytes}
-use Rattle.seat_programs.specs.Beside.{calls_after, more_given}
+use Rattle.seat_programs.specs.FoundAndChangedAside.{calls_after, more_given}
 use Rattle.seat_programs.specs.Cores.{Calls}
 use Rattle.call_points.specs.declared.aside.Aside.{Aside}
 use Rattle.call_points.specs.declared.aside.Aside.TheVariants as code
-use Rattle.call_points.specs.Steps.{step_of}
-use Rattle.call_slots.specs.Slots.{SlotState, calls_with}
-use Rattle.call_slots.specs.Steps as slots
+use Rattle.call_points.specs.AsideCodeSteps.{step_of}
+use Rattle.call_slots.specs.CallSlotState.{SlotState, calls_with}
+use Rattle.call_slots.specs.CallSlotSteps as slots
 use Rattle.machine_model.specs.Machines.{TableState, AreCalled}
-use Rattle.machine_model.specs.Steps.{FitsSlots}
-use Rattle.sock_words.specs.Words.{id_first}
+use Rattle.machine_model.specs.MachineSteps.{FitsSlots}
+use Rattle.sock_words.specs.PackedWords.{id_first}
 
 abbrev IsBelow : ℕ → Type 0
 IsBelow word = id_first word < 67108864

@@ -1,11 +1,11 @@
-pub mod Ranges
-pub mod Hands
-pub mod Changes
-pub mod Holding
+pub mod RangeLists
+pub mod HandsAndHomes
+pub mod LinkChanges
+pub mod HolderOfLink
 pub mod Seatings
 pub mod Ticked
 pub mod ReadTicks
 pub mod Sounds
 pub mod Paces
-pub mod Keeping
+pub mod MachineKeeping
 pub mod CallWords

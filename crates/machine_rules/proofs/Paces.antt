@@ -1,40 +1,40 @@
 -- Whoever writes a link knows how it answered last, behind each of its steps.
 use Rattle.std.proofs.Common.{◌≡◌, refl, ℕ, zero, suc, ◌+◌, ◌-◌, ◌%◌, ◌==◌, ◌&&◌, ◌⊎◌, inl, inr, ⊎_elim, not, nat_lt, nat_le, if◌then◌else◌, Bool, true, false, List, [], ◌∷◌, ◌++◌, length, Option, Some, None, ap, sym, ◌∙◌, subst}
 use Rattle.std.proofs.lemmas.Bool.{true≢false}
-use Rattle.sock_steps.proofs.Quiet.{either_way}
-use Rattle.sock_words.specs.Words.{socket_id_version, vref_version, vref_nref, ticket_request, ticket_generation, IDLE, UNCONNECTED, id_slot, id_first, NO_SOCKET, bit}
+use Rattle.sock_steps.proofs.SumsAsMarksChange.{either_way}
+use Rattle.sock_words.specs.PackedWords.{socket_id_version, vref_version, vref_nref, ticket_request, ticket_generation, IDLE, UNCONNECTED, id_slot, id_first, NO_SOCKET, bit}
 use Rattle.sock_words.specs.declared.socket_id.SocketId.{SocketId}
 use Rattle.sock_words.specs.declared.ticket.Ticket.{Ticket}
 use Rattle.sock_io.specs.declared.link.Put.{Put}
 use Rattle.sock_io.specs.declared.link.Put.TheVariants as puts
 use Rattle.sock_io.specs.declared.link.Ready.{Ready}
 use Rattle.sock_io.specs.declared.link.Ready.TheVariants as asks
-use Rattle.sock_io.specs.Link.{OutState}
+use Rattle.sock_io.specs.LinkHalves.{OutState}
 use Rattle.sock_message.specs.Asked.{Asked}
 use Rattle.sock_model.specs.declared.chain.Heading.{Heading}
 use Rattle.corr_core.specs.Word.{parts, code_of, posted_word, unlocked_word}
 use Rattle.corr_core.specs.Law.{LAST}
-use Rattle.corr_core.specs.Decisions.{ends_call}
+use Rattle.corr_core.specs.ErrorsThatEndCalls.{ends_call}
 use Rattle.seat_programs.specs.Asides as asides
 use Rattle.seat_programs.specs.Asides.{Step, Found}
-use Rattle.seat_programs.specs.Calls as calls
+use Rattle.seat_programs.specs.TableSteps as calls
 use Rattle.seat_programs.specs.Writings as heads
 use Rattle.seat_programs.specs.Programs.{Program, Do, PutBytes, Write, Aside, Round, Keep, LAST_VERSION, LAST_GENERATION, open_from}
-use Rattle.seat_programs.specs.Sends.{block, freed, passed_telling, tell_drop, claim_from}
-use Rattle.seat_programs.specs.Attempts.{claims_from, claim_id, tried_again, retry_locked}
-use Rattle.seat_programs.specs.Posts.{packed, is_first, is_stale, is_full, is_sought, judged, posted, decided, popped, unlocked, decide, locking}
-use Rattle.seat_programs.specs.Rounds.{round, first_step}
-use Rattle.seat_programs.specs.Clients.{HeldLife, operation, give_back, client_from, ending_of, drop_of, held_under, without_name}
+use Rattle.seat_programs.specs.SendAndWritePrograms.{block, freed, passed_telling, tell_drop, claim_from}
+use Rattle.seat_programs.specs.CallAndRetryPrograms.{claims_from, claim_id, tried_again, retry_locked}
+use Rattle.seat_programs.specs.PostPrograms.{packed, is_first, is_stale, is_full, is_sought, judged, posted, decided, popped, unlocked, decide, locking}
+use Rattle.seat_programs.specs.LoopRounds.{round, first_step}
+use Rattle.seat_programs.specs.ClientProgram.{HeldLife, operation, give_back, client_from, ending_of, drop_of, held_under, without_name}
 use Rattle.seat_programs.specs.Cores.{resolved, next_step}
-use Rattle.seat_programs.specs.Heads.{Retry, Sought, Unlocks, Posting, WasGone, WasStale, WasCrowded, WasQueued, HasLocked, Unlocking, IsOpen, HasNext, Deciding, GoesOn, Locking, NotThere, Has}
+use Rattle.seat_programs.specs.LoopHeads.{Retry, Sought, Unlocks, Posting, WasGone, WasStale, WasCrowded, WasQueued, HasLocked, Unlocking, IsOpen, HasNext, Deciding, GoesOn, Locking, NotThere, Has}
 use Rattle.seat_programs.specs.declared.task.Op.TheVariants as ops
 use Rattle.seat_programs.specs.declared.task.Op.{Op}
 use Rattle.seat_programs.specs.declared.task.Sizes.{Sizes}
 use Rattle.seat_programs.specs.declared.task.Task.{Task}
-use Rattle.id_points.specs.Ids.{id_of, number_of}
-use Rattle.id_points.specs.Turns.{sought_as}
-use Rattle.call_points.specs.Points.{retry_of}
-use Rattle.call_points.specs.Steps.{with_word, word_behind, after_word, after_call}
+use Rattle.id_points.specs.IdsAndAttemptNumbers.{id_of, number_of}
+use Rattle.id_points.specs.CallIdLoopTurns.{sought_as}
+use Rattle.call_points.specs.CallIdPoints.{retry_of}
+use Rattle.call_points.specs.AsideCodeSteps.{with_word, word_behind, after_word, after_call}
 use Rattle.call_points.specs.declared.deciding.OnCall.{OnCall}
 use Rattle.call_points.specs.declared.deciding.DecideStep.TheVariants as decides
 use Rattle.call_points.specs.declared.word_step.WordStep.TheVariants as id_steps
@@ -59,11 +59,11 @@ use Rattle.seat_states.specs.declared.point.RetryStep.TheVariants as retries
 use Rattle.seat_states.specs.declared.point.JoinStep.TheVariants as joins
 use Rattle.seat_states.specs.declared.point.Point.{Point}
 use Rattle.seat_states.specs.declared.point.Point.TheVariants as points
-use Rattle.seat_states.specs.Points.{Context, heading_by, locker_of, client_on, then_program, point_program, reached_program, full_program, freed_program, after_program, posted_program, look_program, told, tell, GoesByWord, TakesCall, TakesMessage, TakesLink, PutsHome, PutsPiece, Asks, after_message, after_link, after_home, after_put, after_ready}
-use Rattle.seat_states.specs.Steps.{OfTable, first_of, first_in}
-use Rattle.seat_states.specs.Steps as kinds
-use Rattle.client_seats.specs.Seats.{SeatData, around}
-use Rattle.machine_model.specs.Links.{IsClear, WasRefused, IsPaced}
+use Rattle.seat_states.specs.SeatPoints.{Context, heading_by, locker_of, client_on, then_program, point_program, reached_program, full_program, freed_program, after_program, posted_program, look_program, told, tell, GoesByWord, TakesCall, TakesMessage, TakesLink, PutsHome, PutsPiece, Asks, after_message, after_link, after_home, after_put, after_ready}
+use Rattle.seat_states.specs.ProgramStepsOfMachine.{OfTable, first_of, first_in}
+use Rattle.seat_states.specs.ProgramStepsOfMachine as kinds
+use Rattle.client_seats.specs.ClientSeatState.{SeatData, around}
+use Rattle.machine_model.specs.MachineLinks.{IsClear, WasRefused, IsPaced}
 
 -- a program before which no link need have answered anything
 abbrev pub IsCalm : Program → Type 0

@@ -5,28 +5,28 @@ use Rattle.std.specs.Io.KnownBytes.{append_known}
 use Rattle.atomic_table.proofs.Lists.{at_set}
 use mathlib.Core.Option as core
 use lib.ListN.{get_elem?}
-use Rattle.sock_io.specs.Link.{InState}
+use Rattle.sock_io.specs.LinkHalves.{InState}
 use Rattle.seat_programs.specs.Asides as asides
 use Rattle.seat_programs.specs.Asides.{Taking, Bytes, Nothing, NoMore, AtEnd, Closed, Broken}
-use Rattle.seat_programs.specs.Beside.{at_last, more_given}
-use Rattle.seat_programs.specs.Calls as calls
+use Rattle.seat_programs.specs.FoundAndChangedAside.{at_last, more_given}
+use Rattle.seat_programs.specs.TableSteps as calls
 use Rattle.seat_programs.specs.Programs.{Program}
-use Rattle.seat_programs.specs.Runs.{from_to}
+use Rattle.seat_programs.specs.ScheduledRuns.{from_to}
 use Rattle.seat_programs.specs.Cores.{Calls, Core, SeatState, found_at, with_seat, hand_after, words_after, homes_after}
 use Rattle.seat_programs.specs.StepTables.{word_of, word_after}
 use Rattle.seat_programs.specs.Ticks.{Answer, Unasked, OfTake, IsAnswer, IsAnswered, tick_with, ticked}
-use Rattle.call_points.specs.Steps as aside_steps
-use Rattle.call_slots.specs.Slots.{calls_with}
-use Rattle.seat_states.specs.Steps.{First, OfTable, OfAside, step_of, first_in}
+use Rattle.call_points.specs.AsideCodeSteps as aside_steps
+use Rattle.call_slots.specs.CallSlotState.{calls_with}
+use Rattle.seat_states.specs.ProgramStepsOfMachine.{First, OfTable, OfAside, step_of, first_in}
 use Rattle.reader_points.specs.declared.point.ReadStep.{ReadStep}
 use Rattle.reader_points.specs.declared.point.ReadStep.TheVariants as steps
-use Rattle.reader_points.specs.Steps.{step_as}
-use Rattle.reader_seats.specs.Readers.{ReaderData, reader_program}
-use Rattle.machine_model.specs.Links.{LinksData, Taken, Given, Agrees, AgreesGave, homes_of, hand_of}
+use Rattle.reader_points.specs.ReaderCodeSteps.{step_as}
+use Rattle.reader_seats.specs.ReaderState.{ReaderData, reader_program}
+use Rattle.machine_model.specs.MachineLinks.{LinksData, Taken, Given, Agrees, AgreesGave, homes_of, hand_of}
 use Rattle.machine_model.specs.Machines.{MachineState, READERS, table_of, state_of, waiting_of, given_by, calls_of, core_with, IsSized}
-use Rattle.machine_model.specs.Reading.{SameTables, CallRead, AsideRead, TakeRead, MadeRead}
-use Rattle.machine_rules.proofs.Changes.{none_changes}
-use Rattle.machine_rules.proofs.Ranges.{get-range, set-range}
+use Rattle.machine_model.specs.ReadingSteps.{SameTables, CallRead, AsideRead, TakeRead, MadeRead}
+use Rattle.machine_rules.proofs.LinkChanges.{none_changes}
+use Rattle.machine_rules.proofs.RangeLists.{get-range, set-range}
 use Rattle.machine_rules.proofs.Seatings.{Stays, reader_set, read_at}
 use Rattle.machine_model.proofs.FirstSteps.{word_tick, aside_tick, AnswersFirst, answers_first}
 use Rattle.machine_rules.proofs.Ticked.{MayCall, LettersBy, SteppedWith, later_at, call_changes, call_agrees, letters_by, gives_same, later_here, later_else, known_more, agrees_same}

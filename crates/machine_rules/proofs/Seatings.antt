@@ -8,19 +8,19 @@ use Rattle.sock_words.specs.declared.plain.Plan.{Plan}
 use Rattle.sock_words.specs.declared.outcome.Outcome.{Outcome}
 use Rattle.sock_model.specs.declared.home.Home.{Home}
 use Rattle.seat_programs.specs.declared.task.Sizes.{Sizes}
-use Rattle.seat_programs.specs.Heads.{Retry}
+use Rattle.seat_programs.specs.LoopHeads.{Retry}
 use Rattle.seat_programs.specs.Programs.{Program}
 use Rattle.seat_programs.specs.Cores.{Calls, Core, SeatState, resolved, still_waiting, said, next_step, waiting_at, with_seat}
-use Rattle.call_slots.specs.Slots.{calls_with}
-use Rattle.client_seats.specs.Seats.{SeatData, seat_program}
-use Rattle.reader_seats.specs.Readers.{ReaderData, reader_program}
-use Rattle.reader_seats.specs.GoesOn.{GoesOn}
-use Rattle.machine_model.specs.Links.{LinksData, Taken, Given, homes_of, hand_of}
+use Rattle.call_slots.specs.CallSlotState.{calls_with}
+use Rattle.client_seats.specs.ClientSeatState.{SeatData, seat_program}
+use Rattle.reader_seats.specs.ReaderState.{ReaderData, reader_program}
+use Rattle.reader_seats.specs.ReaderGoesOn.{GoesOn}
+use Rattle.machine_model.specs.MachineLinks.{LinksData, Taken, Given, homes_of, hand_of}
 use Rattle.machine_model.specs.Machines.{MachineState, SameGivens, READERS, between, state_of, clients_with, readers_with, resting, seats_with, waiting_of, given_by, calls_of, core_with, machine_sizes, table_of}
-use Rattle.machine_model.specs.Steps.{Goes}
-use Rattle.machine_rules.proofs.Changes.{Changed}
-use Rattle.machine_rules.proofs.Ranges.{get-behind, set-behind}
-use Rattle.corr_core.proofs.Notes.{at_length}
+use Rattle.machine_model.specs.MachineSteps.{Goes}
+use Rattle.machine_rules.proofs.LinkChanges.{Changed}
+use Rattle.machine_rules.proofs.RangeLists.{get-behind, set-behind}
+use Rattle.corr_core.proofs.NoteSums.{at_length}
 
 -- ## Records by their fields
 

@@ -12,36 +12,36 @@ use Rattle.sock_model.specs.declared.home.Home.TheVariants.{Link, Message}
 use Rattle.sock_model.specs.declared.view.View.{View}
 use Rattle.sock_model.specs.declared.view.Hand.{Hand}
 use Rattle.seat_programs.specs.declared.task.Sizes.{Sizes}
-use Rattle.seat_programs.specs.Calls as calls
+use Rattle.seat_programs.specs.TableSteps as calls
 use Rattle.seat_programs.specs.Asides as asides
 use Rattle.seat_programs.specs.Programs.{Program, Do, TakeMessage, TakeHome, PutHome, PutBytes, AskReady, Write, Aside, Round}
 use Rattle.seat_programs.specs.Writings as heads
-use Rattle.seat_programs.specs.Rounds.{round, first_step}
+use Rattle.seat_programs.specs.LoopRounds.{round, first_step}
 use Rattle.seat_programs.specs.Ticks.{quiet}
 use Rattle.seat_programs.specs.Cores.{Core, SeatState, link_place, found_at}
 use Rattle.seat_programs.specs.StepTables.{word_of}
-use Rattle.seat_programs.specs.Scripts.{sizes_of}
+use Rattle.seat_programs.specs.ScriptSetupToEnding.{sizes_of}
 use Rattle.seat_programs.specs.StepTables.{May}
-use Rattle.machine_model.specs.program_steps.specs.GoesOn.{GoesOn}
-use Rattle.machine_model.specs.program_steps.specs.Sound.{IsOfRight, AreInHand, AreHeld, Allows, AllowsStep}
-use Rattle.machine_model.specs.sock_runs.proofs.Held.{held_in_hand}
-use Rattle.machine_model.specs.program_steps.proofs.Cases.{goes_first}
-use Rattle.machine_model.specs.sock_runs.proofs.Allowed.{sound_allows, view_there}
-use Rattle.machine_model.specs.run_theorems.specs.Below.programs_allowed.proofs.Retrying.{retries_go}
-use Rattle.machine_model.specs.id_runs.specs.Held.{IdView, MayId}
+use Rattle.machine_model.specs.program_steps.specs.ProgramGoesOn.{GoesOn}
+use Rattle.machine_model.specs.program_steps.specs.SoundSeats.{IsOfRight, AreInHand, AreHeld, Allows, AllowsStep}
+use Rattle.machine_model.specs.sock_runs.proofs.HeldLinksByRights.{held_in_hand}
+use Rattle.machine_model.specs.program_steps.proofs.TickCases.{goes_first}
+use Rattle.machine_model.specs.sock_runs.proofs.AllowedNextSteps.{sound_allows, view_there}
+use Rattle.machine_model.specs.run_theorems.specs.Below.programs_allowed.proofs.RetryAllowed.{retries_go}
+use Rattle.machine_model.specs.id_runs.specs.HeldIdTokens.{IdView, MayId}
 use Rattle.machine_model.specs.id_runs.specs.Goes.{IdGoesOn, FitsSock, FitsFirst}
 use Rattle.machine_model.specs.id_runs.specs.Goes as goes
 use Rattle.machine_model.specs.run_theorems.specs.Below.joint_runs.proofs.Joint.{is_fitting_ids}
-use Rattle.call_points.specs.Steps.{aside_of, aside_in}
-use Rattle.call_slots.proofs.Fitting.{may_next}
-use Rattle.seat_states.specs.Steps.{First, OfTable, OfAside, OfMessage, first_of, first_in}
-use Rattle.seat_states.specs.Steps as kinds
+use Rattle.call_points.specs.AsideCodeSteps.{aside_of, aside_in}
+use Rattle.call_slots.proofs.IdTableFitting.{may_next}
+use Rattle.seat_states.specs.ProgramStepsOfMachine.{First, OfTable, OfAside, OfMessage, first_of, first_in}
+use Rattle.seat_states.specs.ProgramStepsOfMachine as kinds
 use Rattle.seat_states.proofs.StepFacts.{FitsSizes}
 use Rattle.machine_model.specs.declared.home_message.HomeMessage.{HomeMessage}
-use Rattle.machine_model.specs.Links.{LinksData, Taken, holder_of, is_done, link_home, homes_of, hand_of}
+use Rattle.machine_model.specs.MachineLinks.{LinksData, Taken, holder_of, is_done, link_home, homes_of, hand_of}
 use Rattle.machine_model.specs.Machines.{MachineState, IsSoundMachine, table_of, machine_sizes, state_of, core_with, IsSized}
-use Rattle.machine_rules.proofs.Hands.{HasNone, home_at}
-use Rattle.machine_rules.proofs.Holding.{none_of, only_of, nothing_held}
+use Rattle.machine_rules.proofs.HandsAndHomes.{HasNone, home_at}
+use Rattle.machine_rules.proofs.HolderOfLink.{none_of, only_of, nothing_held}
 use Rattle.machine_model.proofs.FirstSteps.{same_some, first_is}
 use Rattle.machine_rules.proofs.Ticked.{MayAsk, MayCall, MayMake}
 

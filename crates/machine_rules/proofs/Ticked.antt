@@ -10,40 +10,40 @@ use Rattle.sock_words.specs.declared.plain.Plan.{Plan}
 use Rattle.sock_io.specs.declared.link.Put.{Put}
 use Rattle.sock_io.specs.declared.link.Put.TheVariants as puts
 use Rattle.sock_io.specs.declared.link.Ready.{Ready}
-use Rattle.sock_io.specs.Link.{OutState, InState, PutStep, ReadyStep, taken_of}
+use Rattle.sock_io.specs.LinkHalves.{OutState, InState, PutStep, ReadyStep, taken_of}
 use Rattle.sock_model.specs.declared.home.Home.{Home}
 use Rattle.sock_model.specs.declared.home.Home.TheVariants.{Link, Message}
-use Rattle.sock_model.specs.Reads.{letter_of, took_of, as_link, shown, message, link_home}
+use Rattle.sock_model.specs.ChainLawReads.{letter_of, took_of, as_link, shown, message, link_home}
 use Rattle.seat_programs.specs.Asides as asides
-use Rattle.seat_programs.specs.Calls as calls
+use Rattle.seat_programs.specs.TableSteps as calls
 use Rattle.seat_programs.specs.Programs.{Program}
 use Rattle.seat_programs.specs.Cores.{Calls, Core, SeatState, found_at, homes_after, hand_after, first_of, others_of, link_place, with_seat}
 use Rattle.seat_programs.specs.StepTables.{word_of}
 use Rattle.seat_programs.specs.Ticks.{Answer, Unasked, OfPut, OfReady, FitsPut, IsAnswer, IsAnswered, fed, with_places, onto_first, tick_with, ticked}
-use Rattle.call_points.specs.Steps.{after_word}
-use Rattle.call_points.specs.Steps as aside_steps
-use Rattle.call_slots.specs.Slots.{SlotState, calls_with}
+use Rattle.call_points.specs.AsideCodeSteps.{after_word}
+use Rattle.call_points.specs.AsideCodeSteps as aside_steps
+use Rattle.call_slots.specs.CallSlotState.{SlotState, calls_with}
 use Rattle.message_parts.specs.Parcels.{parcel_of}
 use Rattle.seat_states.specs.declared.point.Step.{Step}
 use Rattle.seat_states.specs.declared.point.Step.TheVariants as firsts
 use Rattle.seat_states.specs.declared.point.Author.{Author}
 use Rattle.seat_states.specs.declared.table_step.TableStep.{TableStep}
 use Rattle.seat_states.specs.declared.table_step.TableStep.TheVariants as steps
-use Rattle.seat_states.specs.Points.{heading_by, after_link, after_home, after_put, after_ready}
-use Rattle.seat_states.specs.Steps.{First, OfTable, OfAside, OfMessage, OfLink, OfHome, step_of, step_as, first_in}
-use Rattle.seat_states.specs.Steps as kinds
+use Rattle.seat_states.specs.SeatPoints.{heading_by, after_link, after_home, after_put, after_ready}
+use Rattle.seat_states.specs.ProgramStepsOfMachine.{First, OfTable, OfAside, OfMessage, OfLink, OfHome, step_of, step_as, first_in}
+use Rattle.seat_states.specs.ProgramStepsOfMachine as kinds
 use Rattle.machine_model.proofs.TableRoom.{IsCall}
 use Rattle.seat_states.proofs.StepFacts as facts
-use Rattle.client_seats.specs.Seats.{SeatData, around, seat_program, bytes_of, parts_of}
+use Rattle.client_seats.specs.ClientSeatState.{SeatData, around, seat_program, bytes_of, parts_of}
 use Rattle.machine_model.specs.declared.home_message.HomeMessage.{HomeMessage}
-use Rattle.machine_model.specs.Links.{LinksData, Taken, Given, Agrees, AgreesGave, SoFar, IsPaced, holder_of, is_done, link_with, homes_of, hand_of, letter_home}
+use Rattle.machine_model.specs.MachineLinks.{LinksData, Taken, Given, Agrees, AgreesGave, SoFar, IsPaced, holder_of, is_done, link_with, homes_of, hand_of, letter_home}
 use Rattle.machine_model.specs.Machines.{MachineState, READERS, table_of, machine_sizes, state_of, waiting_of, given_by, core_with, IsSized}
-use Rattle.machine_model.specs.Steps.{OutsAfter, Goes, CallMade, AsideMade, MessageTaken, LinkTaken, LinkPut, LinkAsked, MadeFirst, holders_after}
-use Rattle.machine_rules.proofs.Hands.{HasNone, HasOnly, lies_home, hand_only, home_at, letters_set}
-use Rattle.machine_rules.proofs.Changes.{Changed, take_changes, give_changes, out_changes, none_changes}
+use Rattle.machine_model.specs.MachineSteps.{OutsAfter, Goes, CallMade, AsideMade, MessageTaken, LinkTaken, LinkPut, LinkAsked, MadeFirst, holders_after}
+use Rattle.machine_rules.proofs.HandsAndHomes.{HasNone, HasOnly, lies_home, hand_only, home_at, letters_set}
+use Rattle.machine_rules.proofs.LinkChanges.{Changed, take_changes, give_changes, out_changes, none_changes}
 use Rattle.machine_rules.proofs.Seatings.{client_set, calls_by, seat_at}
 use Rattle.machine_model.proofs.FirstSteps.{word_tick, aside_tick, message_tick, link_tick, home_tick, put_tick, ready_tick, bare_message, bare_link, bare_put, head_home, head_asks, AnswersFirst, answers_first, paced_first}
-use Rattle.corr_core.proofs.Notes.{at_length}
+use Rattle.corr_core.proofs.NoteSums.{at_length}
 
 -- ## What is asked of a step, and what it makes
 

@@ -1,8 +1,8 @@
-pub mod Asking
-pub mod Stepping
-pub mod Begun
-pub mod Places
-pub mod Passing
+pub mod AskingLinks
+pub mod SeatBehindEachStep
+pub mod BegunTables
+pub mod SeatMemoryPlaces
+pub mod PassingSteps
 pub mod TableAsides
 pub mod TableFlat
 pub mod TableGoes

@@ -5,31 +5,31 @@ use Rattle.corr_core.specs.declared.marks.Plan.{Plan as IdPlan}
 use Rattle.sock_message.specs.Asked.{Asked}
 use Rattle.seat_programs.specs.Asides as asides
 use Rattle.seat_programs.specs.Asides.{Step, Found, Bytes}
-use Rattle.seat_programs.specs.Beside.{calls_after}
+use Rattle.seat_programs.specs.FoundAndChangedAside.{calls_after}
 use Rattle.seat_programs.specs.Cores.{Calls}
 use Rattle.seat_programs.specs.Programs.{Program, Aside}
 use Rattle.seat_programs.specs.Ticks.{Unasked}
-use Rattle.call_slots.specs.Slots.{SlotState, calls_with}
-use Rattle.call_slots.specs.Steps as slots
-use Rattle.call_slots.specs.Steps.{word_found}
+use Rattle.call_slots.specs.CallSlotState.{SlotState, calls_with}
+use Rattle.call_slots.specs.CallSlotSteps as slots
+use Rattle.call_slots.specs.CallSlotSteps.{word_found}
 use Rattle.call_points.specs.declared.aside.Aside as code
 use Rattle.call_points.specs.declared.aside.Aside.TheVariants as steps
-use Rattle.call_points.specs.Steps as aside_steps
-use Rattle.call_points.specs.Steps.{after_word, after_call, word_behind, with_word}
+use Rattle.call_points.specs.AsideCodeSteps as aside_steps
+use Rattle.call_points.specs.AsideCodeSteps.{after_word, after_call, word_behind, with_word}
 use Rattle.call_points.specs.declared.deciding.DecideStep.TheVariants as decides
 use Rattle.seat_states.specs.declared.point.RetryStep.TheVariants as retries
 use Rattle.seat_states.specs.declared.point.Step.TheVariants as firsts
 use Rattle.seat_states.specs.declared.point.Point.{Point}
 use Rattle.seat_states.specs.declared.point.Point.TheVariants as points
-use Rattle.seat_states.specs.Points.{Context, point_program, GoesByWord, TakesCall}
-use Rattle.seat_states.specs.Steps.{OfAside, first_in}
-use Rattle.client_seats.specs.Seats.{SeatData, seat_program, asked_or_nothing}
-use Rattle.machine_model.specs.Steps.{IsOnWord, FitsSlots, IsNext, Goes, Makes}
+use Rattle.seat_states.specs.SeatPoints.{Context, point_program, GoesByWord, TakesCall}
+use Rattle.seat_states.specs.ProgramStepsOfMachine.{OfAside, first_in}
+use Rattle.client_seats.specs.ClientSeatState.{SeatData, seat_program, asked_or_nothing}
+use Rattle.machine_model.specs.MachineSteps.{IsOnWord, FitsSlots, IsNext, Goes, Makes}
 use Rattle.machine_model.specs.Machines.{TableState, table_sizes}
 use Rattle.machine_model.proofs.FirstSteps.{IsBare, bare_first, after_first, step_is}
 use Rattle.machine_model.proofs.PointFacts.{GoesAside, goes_aside}
-use Rattle.machine_steps.proofs.Stepping.{makes_along, next_along}
-use Rattle.seat_programs.specs.Rounds.{first_step}
+use Rattle.machine_steps.proofs.SeatBehindEachStep.{makes_along, next_along}
+use Rattle.seat_programs.specs.LoopRounds.{first_step}
 
 -- ## A word that is found
 

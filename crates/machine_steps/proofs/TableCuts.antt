@@ -6,17 +6,17 @@ use Rattle.std.specs.Prelude.{slice_get}
 use Rattle.atomic_table.proofs.Lists.{at_set}
 use mathlib.Core.Option as core
 use lib.ListN.{get_elem?}
-use Rattle.brpc_model.specs.Link.{LinkEnd}
-use Rattle.sock_io.specs.Link.{OutState, InState}
+use Rattle.brpc_model.specs.ReturnedLink.{LinkEnd}
+use Rattle.sock_io.specs.LinkHalves.{OutState, InState}
 use Rattle.seat_programs.specs.Asides.{Taking}
-use Rattle.seat_programs.specs.Calls as calls
-use Rattle.machine_model.specs.Links.{LinksData, AreAlwaysReady, TellClosing}
+use Rattle.seat_programs.specs.TableSteps as calls
+use Rattle.machine_model.specs.MachineLinks.{LinksData, AreAlwaysReady, TellClosing}
 use Rattle.machine_model.specs.Machines.{MachineState, TableState, table_of}
-use Rattle.machine_model.specs.Reading.{IsCutTable, IsCutShort, TakenFrom}
-use Rattle.machine_model.specs.Runs.{SameLink}
-use Rattle.machine_model.specs.Steps.{AsMany, OutsAfter, holders_after}
+use Rattle.machine_model.specs.ReadingSteps.{IsCutTable, IsCutShort, TakenFrom}
+use Rattle.machine_model.specs.MachineRuns.{SameLink}
+use Rattle.machine_model.specs.MachineSteps.{AsMany, OutsAfter, holders_after}
 use Rattle.machine_model.proofs.Same.{same_link_none}
-use Rattle.machine_model.proofs.Lengths.{length_holders, length_outs, many_same}
+use Rattle.machine_model.proofs.MachineLengths.{length_holders, length_outs, many_same}
 
 -- a link that is the same
 each_same : (es es' : List LinkEnd) → es' ≡ es → (k : ℕ) (a b : LinkEnd) → slice_get es k ≡ Some a → slice_get es' k ≡ Some b → SameLink a b

@@ -1,24 +1,24 @@
 -- Behind a step on a word no call has ended, and no retry is kept.
 use Rattle.std.proofs.Common.{◌≡◌, refl, ℕ, zero, suc, ◌+◌, ◌-◌, ◌/◌, ◌%◌, ◌==◌, ◌&&◌, Bool, true, false, nat_lt, nat_le, if◌then◌else◌, List, Option, Some, None, sym, subst}
 use Rattle.corr_core.specs.Word.{parts, code_of}
-use Rattle.corr_core.specs.Decisions.{ends_call}
-use Rattle.sock_words.specs.Words.{socket_id_version, socket_id_slot, vref_version, vref_nref, ticket_request, ticket_generation, id_slot, IDLE, UNCONNECTED}
+use Rattle.corr_core.specs.ErrorsThatEndCalls.{ends_call}
+use Rattle.sock_words.specs.PackedWords.{socket_id_version, socket_id_slot, vref_version, vref_nref, ticket_request, ticket_generation, id_slot, IDLE, UNCONNECTED}
 use Rattle.sock_words.specs.declared.socket_id.SocketId.{SocketId}
 use Rattle.sock_words.specs.declared.outcome.Outcome.{Outcome}
 use Rattle.sock_words.specs.declared.outcome.Outcome.TheVariants.{CallFailed, Unopened, Failed, Already}
 use Rattle.sock_message.specs.Asked.{Asked}
 use Rattle.sock_model.specs.declared.chain.Heading.{Heading}
-use Rattle.id_points.specs.Ids.{id_of, number_of}
+use Rattle.id_points.specs.IdsAndAttemptNumbers.{id_of, number_of}
 use Rattle.seat_programs.specs.Asides.{PutCall}
-use Rattle.seat_programs.specs.Heads.{HasEnded, Unlocks}
-use Rattle.seat_programs.specs.Posts.{post, end_id, unlocked, decided}
-use Rattle.seat_programs.specs.Attempts.{claims_from, attempt, claim_id}
-use Rattle.seat_programs.specs.Calls as calls
-use Rattle.seat_programs.specs.Clients.{HeldLife}
+use Rattle.seat_programs.specs.LoopHeads.{HasEnded, Unlocks}
+use Rattle.seat_programs.specs.PostPrograms.{post, end_id, unlocked, decided}
+use Rattle.seat_programs.specs.CallAndRetryPrograms.{claims_from, attempt, claim_id}
+use Rattle.seat_programs.specs.TableSteps as calls
+use Rattle.seat_programs.specs.ClientProgram.{HeldLife}
 use Rattle.seat_programs.specs.Writings as heads
 use Rattle.seat_programs.specs.Programs.{Program, Do, TakeMessage, Say, Rest, Aside, Round, Keep, Write, LAST_VERSION, LAST_GENERATION, recycle, release, make_socket, open_from}
-use Rattle.seat_programs.specs.Sends.{one_more, freed, passed_telling, tell_drop, dropped, write_link, accept, claim_from}
-use Rattle.call_points.specs.Steps.{after_word}
+use Rattle.seat_programs.specs.SendAndWritePrograms.{one_more, freed, passed_telling, tell_drop, dropped, write_link, accept, claim_from}
+use Rattle.call_points.specs.AsideCodeSteps.{after_word}
 use Rattle.call_points.specs.declared.deciding.OnCall.{OnCall}
 use Rattle.call_points.specs.declared.deciding.DecideStep.TheVariants as decides
 use Rattle.call_points.specs.declared.word_step.WordStep.TheVariants as id_steps
@@ -47,10 +47,10 @@ use Rattle.seat_states.specs.declared.point.Next.TheVariants as nexts
 use Rattle.sock_words.specs.declared.ticket.Ticket.{Ticket}
 use Rattle.seat_states.specs.declared.calling.Calling.{Calling}
 use Rattle.seat_states.specs.declared.point.Attempt.{Attempt}
-use Rattle.seat_states.specs.Points.{Context, IsCalling, HasInHand, IsFramed, framed, point_program, next_program, then_program, gone_then, holder_of, heading_by, has_life, reached_program, unopened_program, seek_program, failed_program, fail_program, release_on, free_on, sent_program, full_program, claims_program, connect_program, look_program, failed_look, write_program, written_program, puts_program, put_piece, next_message, freed_program, told, tell, taken_again, walk_program, first_of_walk, find_program, after_program}
-use Rattle.seat_states.specs.Steps.{First, OfTable, first_of, first_in}
-use Rattle.seat_states.proofs.Behind.{seeks_life, seeks_none}
-use Rattle.client_seats.specs.Following.{IsFlat}
+use Rattle.seat_states.specs.SeatPoints.{Context, IsCalling, HasInHand, IsFramed, framed, point_program, next_program, then_program, gone_then, holder_of, heading_by, has_life, reached_program, unopened_program, seek_program, failed_program, fail_program, release_on, free_on, sent_program, full_program, claims_program, connect_program, look_program, failed_look, write_program, written_program, puts_program, put_piece, next_message, freed_program, told, tell, taken_again, walk_program, first_of_walk, find_program, after_program}
+use Rattle.seat_states.specs.ProgramStepsOfMachine.{First, OfTable, first_of, first_in}
+use Rattle.seat_states.proofs.ProgramBehindSteps.{seeks_life, seeks_none}
+use Rattle.client_seats.specs.ClientSeatFollowing.{IsFlat}
 
 -- it doesn't tell that a call ended, and keeps no retry
 abbrev NoEnd : Program → Type 0

@@ -2,24 +2,24 @@
 use Rattle.std.proofs.Common.{◌≡◌, refl, ℕ, List, Option, Some, ap, sym, ◌∙◌, subst}
 use Rattle.sock_model.specs.declared.chain.Heading.{Heading}
 use Rattle.seat_programs.specs.declared.task.Sizes.{Sizes}
-use Rattle.seat_programs.specs.Calls as calls
-use Rattle.call_points.specs.Steps.{after_word}
+use Rattle.seat_programs.specs.TableSteps as calls
+use Rattle.call_points.specs.AsideCodeSteps.{after_word}
 use Rattle.seat_states.specs.declared.calling.Calling.{Calling}
 use Rattle.seat_states.specs.declared.point.CallStep.TheVariants as begins
 use Rattle.seat_states.specs.declared.point.RetryStep.TheVariants as retries
 use Rattle.seat_states.specs.declared.point.Next.{Next}
 use Rattle.seat_states.specs.declared.point.Point.{Point}
 use Rattle.seat_states.specs.declared.point.Point.TheVariants as points
-use Rattle.seat_states.specs.Points.{Context, point_program, next_program, framed, IsCalling, HasInHand, IsWithin, IsWithinIds, GoesByWord, MayNext}
-use Rattle.seat_states.specs.Steps.{OfTable, first_in}
-use Rattle.message_parts.specs.Frames.{ParcelData}
+use Rattle.seat_states.specs.SeatPoints.{Context, point_program, next_program, framed, IsCalling, HasInHand, IsWithin, IsWithinIds, GoesByWord, MayNext}
+use Rattle.seat_states.specs.ProgramStepsOfMachine.{OfTable, first_in}
+use Rattle.message_parts.specs.FramesByParts.{ParcelData}
 use Rattle.client_seats.specs.declared.hand.InHand.{InHand}
 use Rattle.client_seats.specs.declared.seat.Seat.{Seat}
-use Rattle.client_seats.specs.Seats.{SeatData, seat_data, message_in, call_in, around, seat_program}
-use Rattle.client_seats.specs.Following.{IsFlat}
+use Rattle.client_seats.specs.ClientSeatState.{SeatData, seat_data, message_in, call_in, around, seat_program}
+use Rattle.client_seats.specs.ClientSeatFollowing.{IsFlat}
 use Rattle.machine_model.specs.Machines.{TableState, table_sizes}
-use Rattle.machine_model.specs.Steps.{MayGoOn, MayStand, IsReady}
-use Rattle.machine_steps.proofs.Stepping.{message_put}
+use Rattle.machine_model.specs.MachineSteps.{MayGoOn, MayStand, IsReady}
+use Rattle.machine_steps.proofs.SeatBehindEachStep.{message_put}
 use Rattle.machine_steps.proofs.TableFlat.{flat_behind}
 
 -- what a point wants of the rules to go on by a word

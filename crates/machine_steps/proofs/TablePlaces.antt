@@ -4,19 +4,19 @@ use Rattle.std.proofs.Math.ListN.{length-set, length-map}
 use Rattle.atomic_table.proofs.Lists.{at_index}
 use mathlib.Core.Option as core
 use lib.ListN.{get_elem?}
-use Rattle.seat_states.specs.Steps.{first_in}
+use Rattle.seat_states.specs.ProgramStepsOfMachine.{first_in}
 use Rattle.reader_points.specs.declared.point.ReadStep.{ReadStep}
-use Rattle.reader_points.specs.Steps.{step_as}
-use Rattle.reader_seats.specs.Readers.{ReaderData, reader_program}
+use Rattle.reader_points.specs.ReaderCodeSteps.{step_as}
+use Rattle.reader_seats.specs.ReaderState.{ReaderData, reader_program}
 use Rattle.machine_model.specs.declared.tick.Tick.{Tick}
 use Rattle.seat_states.specs.declared.point.Step.{Step}
-use Rattle.client_seats.specs.Following.{IsPrepared}
-use Rattle.client_seats.specs.Seats.{SeatData}
+use Rattle.client_seats.specs.ClientSeatFollowing.{IsPrepared}
+use Rattle.client_seats.specs.ClientSeatState.{SeatData}
 use Rattle.machine_model.specs.Machines.{MachineState, TableState, machine_sizes, table_of}
-use Rattle.machine_model.specs.Steps.{MayStand, PreparedAt}
-use Rattle.machine_model.specs.Telling.{TickTold}
-use Rattle.machine_model.specs.Reading.{NextReadIs, HasNoRead, IsFitRead, ReadFits, ReadTold, TickRead}
-use Rattle.corr_core.proofs.Notes.{at_length}
+use Rattle.machine_model.specs.MachineSteps.{MayStand, PreparedAt}
+use Rattle.machine_model.specs.TickAnswersOfStep.{TickTold}
+use Rattle.machine_model.specs.ReadingSteps.{NextReadIs, HasNoRead, IsFitRead, ReadFits, ReadTold, TickRead}
+use Rattle.corr_core.proofs.NoteSums.{at_length}
 
 module _ (m : MachineState) (k j : ℕ) (there : j ≡ k) where
   pub reader_there : (x : ReaderData) → j < length m.readers → x ≡ slice_index_or m.readers j x → get_elem? m.readers k ≡ core.some x

@@ -7,35 +7,35 @@ use Rattle.sock_words.specs.declared.outcome.Outcome.{Outcome}
 use Rattle.sock_message.specs.Asked.{Asked}
 use Rattle.seat_programs.specs.Asides as asides
 use Rattle.seat_programs.specs.Asides.{Found, Taking}
-use Rattle.seat_programs.specs.Beside.{found_in, at_last}
+use Rattle.seat_programs.specs.FoundAndChangedAside.{found_in, at_last}
 use Rattle.seat_programs.specs.StepTables.{word_of, word_after}
 use Rattle.seat_programs.specs.Cores.{found_at, words_after}
 use Rattle.seat_programs.specs.Programs.{Program}
 use Rattle.seat_programs.specs.Ticks.{Unasked, OfTake, is_nothing}
 use Rattle.call_points.specs.declared.aside.Aside as code
 use Rattle.call_points.specs.declared.aside.Aside.TheVariants as variants
-use Rattle.call_points.specs.Steps as aside_steps
-use Rattle.call_points.specs.Steps.{after_word, after_call}
-use Rattle.call_slots.specs.Steps as slots
-use Rattle.call_slots.specs.Steps.{word_found}
+use Rattle.call_points.specs.AsideCodeSteps as aside_steps
+use Rattle.call_points.specs.AsideCodeSteps.{after_word, after_call}
+use Rattle.call_slots.specs.CallSlotSteps as slots
+use Rattle.call_slots.specs.CallSlotSteps.{word_found}
 use Rattle.seat_states.specs.declared.table_step.TableStep.{TableStep}
-use Rattle.seat_states.specs.Steps.{OfTable, OfAside, step_of, kind_of_first}
+use Rattle.seat_states.specs.ProgramStepsOfMachine.{OfTable, OfAside, step_of, kind_of_first}
 use Rattle.reader_points.specs.declared.point.ReadPoint.{ReadPoint}
 use Rattle.reader_points.specs.declared.point.ReadStep.{ReadStep}
 use Rattle.reader_points.specs.declared.point.ReadStep.TheVariants as steps
-use Rattle.reader_points.specs.Points.{Context, point_program}
-use Rattle.reader_points.specs.Steps.{after_taking}
-use Rattle.reader_seats.specs.Readers.{ReaderData, around, reader_program}
-use Rattle.reader_seats.specs.GoesOn.{GoesOn}
+use Rattle.reader_points.specs.ReaderPoints.{Context, point_program}
+use Rattle.reader_points.specs.ReaderCodeSteps.{after_taking}
+use Rattle.reader_seats.specs.ReaderState.{ReaderData, around, reader_program}
+use Rattle.reader_seats.specs.ReaderGoesOn.{GoesOn}
 use Rattle.machine_model.specs.declared.tick.On.{On}
 use Rattle.machine_model.specs.declared.tick.On.TheVariants as on
 use Rattle.machine_model.specs.declared.tick.Tick.{Tick}
 use Rattle.machine_model.specs.declared.tick.Tick.TheVariants.{Moved, Waits}
 use Rattle.machine_model.specs.Machines.{TableState}
-use Rattle.machine_model.specs.Reading.{IsNextRead, SameTables, TakenFrom, AsideRead, MadeRead, ReadTold}
-use Rattle.machine_model.specs.Runs.{IsWaitingFor}
-use Rattle.machine_model.specs.Steps.{IsOnWord, OutsAfter, holders_after, beside}
-use Rattle.machine_model.specs.Telling.{Tells, waits_by}
+use Rattle.machine_model.specs.ReadingSteps.{IsNextRead, SameTables, TakenFrom, AsideRead, MadeRead, ReadTold}
+use Rattle.machine_model.specs.MachineRuns.{IsWaitingFor}
+use Rattle.machine_model.specs.MachineSteps.{IsOnWord, OutsAfter, holders_after, beside}
+use Rattle.machine_model.specs.TickAnswersOfStep.{Tells, waits_by}
 use Rattle.machine_steps.proofs.TableAsides.{FindsWord, finds_word, behind_aside}
 use Rattle.machine_steps.proofs.TableReads.{reads_call, bare_call, behind_call, behind_take}
 use Rattle.machine_steps.proofs.TableTellings.{waits_call, waits_aside, word_waits, word_moves, call_moves, take_tells}

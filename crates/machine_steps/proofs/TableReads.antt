@@ -3,18 +3,18 @@ use Rattle.std.proofs.Common.{◌≡◌, refl, ℕ, ◌+◌, ◌≤◌, Bool, tr
 use Rattle.std.proofs.lemmas.List.{length-take}
 use Rattle.sock_words.specs.declared.outcome.Outcome.{Outcome}
 use Rattle.corr_core.specs.Word.{parts, code_of}
-use Rattle.corr_core.specs.Decisions.{ends_call}
+use Rattle.corr_core.specs.ErrorsThatEndCalls.{ends_call}
 use Rattle.sock_message.specs.Asked.{Asked}
-use Rattle.id_points.specs.Ids.{id_of}
-use Rattle.seat_programs.specs.Calls as calls
+use Rattle.id_points.specs.IdsAndAttemptNumbers.{id_of}
+use Rattle.seat_programs.specs.TableSteps as calls
 use Rattle.seat_programs.specs.Asides as asides
 use Rattle.seat_programs.specs.Asides.{Step, Taking, Nothing, PutCall}
-use Rattle.seat_programs.specs.Beside.{at_last}
+use Rattle.seat_programs.specs.FoundAndChangedAside.{at_last}
 use Rattle.seat_programs.specs.Cores.{resolved, still_waiting, next_step, said}
-use Rattle.seat_programs.specs.Heads.{HasEnded, Unlocks}
-use Rattle.seat_programs.specs.Posts.{end_id, unlocked}
+use Rattle.seat_programs.specs.LoopHeads.{HasEnded, Unlocks}
+use Rattle.seat_programs.specs.PostPrograms.{end_id, unlocked}
 use Rattle.seat_programs.specs.Programs.{Program, Aside, Round}
-use Rattle.call_points.specs.Steps.{after_call}
+use Rattle.call_points.specs.AsideCodeSteps.{after_call}
 use Rattle.call_points.specs.declared.word_step.WordStep.TheVariants as id_steps
 use Rattle.call_points.specs.declared.ending.EndStep.TheVariants as ends
 use Rattle.seat_states.specs.declared.point.ReleaseStep.TheVariants as releases
@@ -23,15 +23,15 @@ use Rattle.reader_points.specs.declared.point.CloseStep.TheVariants as closes
 use Rattle.reader_points.specs.declared.point.FailStep.TheVariants as lost
 use Rattle.reader_points.specs.declared.point.ReadPoint.{ReadPoint}
 use Rattle.reader_points.specs.declared.point.ReadPoint.TheVariants as points
-use Rattle.reader_points.specs.Points.{Context, point_program, error_in, ended_call, room_at, GoesByWord, TakesBytes, TakesCall}
-use Rattle.reader_points.specs.Steps.{after_taking, taken_behind}
-use Rattle.reader_seats.specs.GoesOn.{GoesOn}
-use Rattle.reader_seats.specs.Readers.{ReaderData, around, reader_program}
-use Rattle.seat_states.specs.Steps.{First, OfTable, OfAside, first_of, first_in}
+use Rattle.reader_points.specs.ReaderPoints.{Context, point_program, error_in, ended_call, room_at, GoesByWord, TakesBytes, TakesCall}
+use Rattle.reader_points.specs.ReaderCodeSteps.{after_taking, taken_behind}
+use Rattle.reader_seats.specs.ReaderGoesOn.{GoesOn}
+use Rattle.reader_seats.specs.ReaderState.{ReaderData, around, reader_program}
+use Rattle.seat_states.specs.ProgramStepsOfMachine.{First, OfTable, OfAside, first_of, first_in}
 use Rattle.machine_model.proofs.FirstSteps.{IsBare, bare_first, step_is}
 use Rattle.machine_steps.proofs.TableAsides.{FindsWord}
-use Rattle.seat_programs.specs.Rounds.{first_step}
-use Rattle.sock_words.specs.Words.{id_slot}
+use Rattle.seat_programs.specs.LoopRounds.{first_step}
+use Rattle.sock_words.specs.PackedWords.{id_slot}
 
 -- ## Which step it is
 

@@ -5,21 +5,21 @@ use Rattle.std.proofs.lemmas.List.{map-set, length-take}
 use Rattle.atomic_table.proofs.Lists.{at_map, at_index}
 use mathlib.Core.Option as core
 use lib.ListN.{get_elem?}
-use Rattle.brpc_model.specs.Link.{LinkEnd, TakeTook}
+use Rattle.brpc_model.specs.ReturnedLink.{LinkEnd, TakeTook}
 use Rattle.sock_io.specs.declared.link.Take.{Take}
 use Rattle.sock_io.specs.declared.link.Take.TheVariants as takes
-use Rattle.sock_io.specs.Causes.{Rose}
-use Rattle.sock_io.specs.Link.{OutState, InState, Offer, IsServed, IsSettled, OfferTaken, OffersKept, OffersTaken, TakeStep, SettleStep, given_of, offered_by, of_take, more_told, end_of}
-use Rattle.sock_io.proofs.Offers.{served_take, gave_offered, gave_to_end}
+use Rattle.sock_io.specs.FaultCauses.{Rose}
+use Rattle.sock_io.specs.LinkHalves.{OutState, InState, Offer, IsServed, IsSettled, OfferTaken, OffersKept, OffersTaken, TakeStep, SettleStep, given_of, offered_by, of_take, more_told, end_of}
+use Rattle.sock_io.proofs.HalvesKeepOffers.{served_take, gave_offered, gave_to_end}
 use Rattle.machine_model.specs.run_theorems.specs.Heard.{answer_of, bytes_found}
-use Rattle.machine_model.specs.run_theorems.specs.Offered.{GaveSo}
+use Rattle.machine_model.specs.run_theorems.specs.OfferedAtTakes.{GaveSo}
 use Rattle.seat_programs.specs.Asides.{Closed}
 use Rattle.seat_programs.specs.Ticks.{FitsTake}
-use Rattle.reader_seats.specs.GoesOn.{taking_of}
-use Rattle.machine_model.specs.Links.{is_done}
+use Rattle.reader_seats.specs.ReaderGoesOn.{taking_of}
+use Rattle.machine_model.specs.MachineLinks.{is_done}
 use Rattle.machine_model.specs.Machines.{TableState}
-use Rattle.machine_model.specs.Reading.{OffersOn, TakenFrom}
-use Rattle.machine_model.specs.Runs.{SameLink, ShowsTaking}
+use Rattle.machine_model.specs.ReadingSteps.{OffersOn, TakenFrom}
+use Rattle.machine_model.specs.MachineRuns.{SameLink, ShowsTaking}
 
 -- ## What a take gave
 

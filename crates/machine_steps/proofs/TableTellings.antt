@@ -5,32 +5,32 @@ use Rattle.sock_words.specs.declared.kind.Kind.{Kind}
 use Rattle.sock_words.specs.declared.kind.Kind.TheVariants.{R1}
 use Rattle.seat_programs.specs.Asides as asides
 use Rattle.seat_programs.specs.Asides.{Taking}
-use Rattle.seat_programs.specs.Beside.{found_in}
-use Rattle.seat_programs.specs.Calls as calls
+use Rattle.seat_programs.specs.FoundAndChangedAside.{found_in}
+use Rattle.seat_programs.specs.TableSteps as calls
 use Rattle.seat_programs.specs.StepTables.{word_of}
 use Rattle.seat_programs.specs.Cores.{found_at}
-use Rattle.seat_programs.specs.Heads.{Locks, Joins, Opens}
+use Rattle.seat_programs.specs.LoopHeads.{Locks, Joins, Opens}
 use Rattle.seat_programs.specs.Writings as heads
 use Rattle.seat_programs.specs.Programs.{Program, Write, Round}
 use Rattle.seat_programs.specs.Ticks.{Unasked, OfTake, is_nothing}
-use Rattle.call_slots.specs.Steps.{word_found}
-use Rattle.seat_states.specs.Steps.{First, OfTable, OfAside, first_in, step_as, kind_of_first}
+use Rattle.call_slots.specs.CallSlotSteps.{word_found}
+use Rattle.seat_states.specs.ProgramStepsOfMachine.{First, OfTable, OfAside, first_in, step_as, kind_of_first}
 use Rattle.reader_points.specs.declared.point.ReadPoint.{ReadPoint}
 use Rattle.reader_points.specs.declared.point.ReadPoint.TheVariants as points
-use Rattle.reader_points.specs.Points.{Context, point_program, TakesBytes}
+use Rattle.reader_points.specs.ReaderPoints.{Context, point_program, TakesBytes}
 use Rattle.call_points.specs.declared.aside.Aside as code
-use Rattle.call_points.specs.Steps as aside_steps
+use Rattle.call_points.specs.AsideCodeSteps as aside_steps
 use Rattle.seat_states.specs.declared.point.Step.{Step}
 use Rattle.seat_states.specs.declared.point.Step.TheVariants as firsts
-use Rattle.client_seats.specs.Seats.{SeatData, around, seat_program, asked_or_nothing}
+use Rattle.client_seats.specs.ClientSeatState.{SeatData, around, seat_program, asked_or_nothing}
 use Rattle.machine_model.specs.declared.tick.On.{On}
 use Rattle.machine_model.specs.declared.tick.On.TheVariants as on
 use Rattle.machine_model.specs.declared.tick.Tick.{Tick}
 use Rattle.machine_model.specs.declared.tick.Tick.TheVariants.{Moved, Waits}
 use Rattle.machine_model.specs.Machines.{TableState, table_sizes}
-use Rattle.machine_model.specs.Runs.{IsWaitingFor}
-use Rattle.machine_model.specs.Steps.{IsNext, Makes, beside}
-use Rattle.machine_model.specs.Telling.{Tells, StepTold, is_waiting, waits_by}
+use Rattle.machine_model.specs.MachineRuns.{IsWaitingFor}
+use Rattle.machine_model.specs.MachineSteps.{IsNext, Makes, beside}
+use Rattle.machine_model.specs.TickAnswersOfStep.{Tells, StepTold, is_waiting, waits_by}
 use Rattle.machine_model.proofs.FirstSteps.{IsBare}
 use Rattle.machine_model.proofs.Tellings.{words_of, waits_for, moved, kind_first, call_waits, aside_waits}
 use Rattle.machine_steps.proofs.TableReads.{reads_bytes}

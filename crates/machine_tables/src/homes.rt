@@ -3,8 +3,8 @@ ghost use mathlib.Core.Option.{some};
 ghost use lib.ListN.{get_elem?};
 ghost use Rattle.machine_model.specs.declared.home_message.HomeMessage.{HomeMessage};
 ghost use Rattle.message_parts.specs.Parcels.{parcel_of, outgoing_of};
-ghost use Rattle.client_seats.specs.Seats.{bytes_of, message_in, call_in};
-ghost use Rattle.machine_model.specs.Letters.{letters_in};
+ghost use Rattle.client_seats.specs.ClientSeatState.{bytes_of, message_in, call_in};
+ghost use Rattle.machine_model.specs.LetterHomes.{letters_in};
 
 use client_seats::InHand;
 use machine_model::HomeMessage;

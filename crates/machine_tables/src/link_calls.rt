@@ -1,11 +1,11 @@
 ghost use Rattle.std.specs.Prelude.{IsTrue, ◌≡◌, ◌≢◌, ◌<◌, ℕ, [], Some, None, length, map, slice_set};
 ghost use mathlib.Core.Option.{some};
 ghost use lib.ListN.{get_elem?};
-ghost use Rattle.sock_io.specs.Link.{OutState, PutStep, ReadyStep, end_of};
-ghost use Rattle.seat_programs.specs.Parts.{part};
-ghost use Rattle.seat_states.specs.Points.{is_whole, parts_by};
+ghost use Rattle.sock_io.specs.LinkHalves.{OutState, PutStep, ReadyStep, end_of};
+ghost use Rattle.seat_programs.specs.BufferParts.{part};
+ghost use Rattle.seat_states.specs.SeatPoints.{is_whole, parts_by};
 ghost use Rattle.message_parts.specs.Parcels.{outgoing_of};
-ghost use Rattle.machine_model.specs.Steps.{AskedAt, left_behind, taken_behind};
+ghost use Rattle.machine_model.specs.MachineSteps.{AskedAt, left_behind, taken_behind};
 
 use message_parts::OutgoingParcel;
 use seat_states::Author;

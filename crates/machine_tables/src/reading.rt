@@ -1,10 +1,10 @@
 ghost use Rattle.std.specs.Prelude.{◌≡◌, ◌≤◌, ◌<◌, ℕ, true, false, List, IfOk, OnErr, length, take};
-ghost use Rattle.sock_io.specs.Link.{TakeStep};
+ghost use Rattle.sock_io.specs.LinkHalves.{TakeStep};
 ghost use Rattle.seat_programs.specs.Ticks.{OfTake, is_nothing};
-ghost use Rattle.reader_seats.specs.GoesOn.{taking_of};
+ghost use Rattle.reader_seats.specs.ReaderGoesOn.{taking_of};
 ghost use Rattle.machine_model.specs.Machines.{IsSized};
-ghost use Rattle.machine_model.specs.Steps.{IsOnWord};
-ghost use Rattle.machine_model.specs.Reading.{IsFitRead, ReadTold, IsCutTable};
+ghost use Rattle.machine_model.specs.MachineSteps.{IsOnWord};
+ghost use Rattle.machine_model.specs.ReadingSteps.{IsFitRead, ReadTold, IsCutTable};
 
 use crate::table::Table;
 use crate::waiting::awaited_by_reader;

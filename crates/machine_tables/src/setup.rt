@@ -1,8 +1,8 @@
 ghost use Rattle.std.specs.Prelude.{◌≡◌, ◌*◌, ◌≤◌, ℕ, List, [], None, IfOk, OnOk, ◌++◌, length, map, replicate, vec_len, vec_capacity};
-ghost use Rattle.seat_programs.specs.Scripts.{free_slot, free_slots, opening_words, programs};
-ghost use Rattle.client_seats.specs.Seats.{seat_data};
-ghost use Rattle.machine_model.specs.Letters.{letters_in};
-ghost use Rattle.machine_model.specs.Parts.{AreBegun, AreReading, AreParts, said_first};
+ghost use Rattle.seat_programs.specs.ScriptSetupToEnding.{free_slot, free_slots, opening_words, programs};
+ghost use Rattle.client_seats.specs.ClientSeatState.{seat_data};
+ghost use Rattle.machine_model.specs.LetterHomes.{letters_in};
+ghost use Rattle.machine_model.specs.MachineParts.{AreBegun, AreReading, AreParts, said_first};
 
 use call_slots::{CallSlots, push_zeros};
 use client_seats::Seat;

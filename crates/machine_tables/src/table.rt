@@ -2,16 +2,16 @@ ghost use Rattle.std.specs.Prelude.{◌≡◌, ◌<◌, ◌⊎◌, ℕ, Bool, tr
 ghost use Rattle.seat_programs.specs.StepTables.{word_of};
 ghost use Rattle.seat_programs.specs.Cores.{found_at};
 ghost use Rattle.seat_programs.specs.Ticks.{Unasked, OfPut, OfReady};
-ghost use Rattle.seat_states.specs.Steps.{step_of};
-ghost use Rattle.client_seats.specs.Seats.{seat_data, seat_program};
-ghost use Rattle.client_seats.specs.Following.{HasRoom};
+ghost use Rattle.seat_states.specs.ProgramStepsOfMachine.{step_of};
+ghost use Rattle.client_seats.specs.ClientSeatState.{seat_data, seat_program};
+ghost use Rattle.client_seats.specs.ClientSeatFollowing.{HasRoom};
 ghost use Rattle.machine_model.specs.Driving.{AsksNone};
 ghost use Rattle.machine_model.specs.Machines.{table_sizes, IsSized};
-ghost use Rattle.machine_model.specs.Passing.{PassesRequest, PassesSlot};
-ghost use Rattle.machine_model.specs.Steps.{IsNext, IsFitStep, IsOnWord, Fits, Makes, FoundBeside};
-ghost use Rattle.machine_model.specs.Runs.{IsWaitingFor};
-ghost use Rattle.machine_model.specs.Telling.{StepTold, waits_by};
-ghost use Rattle.machine_model.specs.Reading.{IsCutTable};
+ghost use Rattle.machine_model.specs.PassingOverTaken.{PassesRequest, PassesSlot};
+ghost use Rattle.machine_model.specs.MachineSteps.{IsNext, IsFitStep, IsOnWord, Fits, Makes, FoundBeside};
+ghost use Rattle.machine_model.specs.MachineRuns.{IsWaitingFor};
+ghost use Rattle.machine_model.specs.TickAnswersOfStep.{StepTold, waits_by};
+ghost use Rattle.machine_model.specs.ReadingSteps.{IsCutTable};
 
 use crate::homes::{put_home, put_message, take_home, take_message};
 use crate::link_calls::{ask_ready, is_of, put_bytes};
@@ -66,8 +66,8 @@ pub struct Table<O: Out, I: In, P: Peer> {
 
 impl<O: Out, I: In, P: Peer> Model for Table<O, I, P> {
     ghost use Rattle.std.specs.Prelude.{◌≡◌, map, vec_len};
-    ghost use Rattle.sock_io.specs.Link.{end_of};
-    ghost use Rattle.machine_model.specs.Letters.{letters_in};
+    ghost use Rattle.sock_io.specs.LinkHalves.{end_of};
+    ghost use Rattle.machine_model.specs.LetterHomes.{letters_in};
     ghost use Rattle.machine_model.specs.Machines.{TableState};
 
     ghost Value = { TableState };

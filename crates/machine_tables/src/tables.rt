@@ -1,11 +1,11 @@
 ghost use Rattle.std.specs.Prelude.{◌≡◌, ◌+◌, ◌<◌, ℕ, true, Some, None, IfSome, IfNone, IfOk, OnOk, OnErr, length};
 ghost use Rattle.machine_model.specs.Machines.{MachineState, table_of, IsSized};
-ghost use Rattle.client_seats.specs.Seats.{seat_data};
-ghost use Rattle.client_seats.specs.Following.{IsPrepared};
-ghost use Rattle.machine_model.specs.Steps.{HasNoStep, NextIs, StepFits, PreparedAt, ReadyAt, StandsAt, MayStand};
-ghost use Rattle.machine_model.specs.Passing.{HasPassed};
-ghost use Rattle.machine_model.specs.Telling.{TickTold};
-ghost use Rattle.machine_model.specs.Reading.{NextReadIs, HasNoRead, ReadFits, TickRead, IsCutShort};
+ghost use Rattle.client_seats.specs.ClientSeatState.{seat_data};
+ghost use Rattle.client_seats.specs.ClientSeatFollowing.{IsPrepared};
+ghost use Rattle.machine_model.specs.MachineSteps.{HasNoStep, NextIs, StepFits, PreparedAt, ReadyAt, StandsAt, MayStand};
+ghost use Rattle.machine_model.specs.PassingOverTaken.{HasPassed};
+ghost use Rattle.machine_model.specs.TickAnswersOfStep.{TickTold};
+ghost use Rattle.machine_model.specs.ReadingSteps.{NextReadIs, HasNoRead, ReadFits, TickRead, IsCutShort};
 ghost use Rattle.machine_model.specs.Driving.{BeganEnding, IsPlain, told_ending};
 
 use crate::table::{Table, has_room};
@@ -41,7 +41,7 @@ pub struct Tables<O: Out, I: In, P: Peer> {
 
 impl<O: Out, I: In, P: Peer> Model for Tables<O, I, P> {
     ghost use Rattle.std.specs.Prelude.{map};
-    ghost use Rattle.client_seats.specs.Seats.{seat_data};
+    ghost use Rattle.client_seats.specs.ClientSeatState.{seat_data};
     ghost use Rattle.machine_model.specs.Machines.{MachineState};
 
     ghost Value = { MachineState };

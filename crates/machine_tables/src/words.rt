@@ -1,12 +1,12 @@
 ghost use Rattle.std.specs.Prelude.{◌≡◌, ◌%◌, ◌<◌, ℕ, true, length, map, slice_index};
 ghost use mathlib.Core.Option.{some};
-ghost use Rattle.sock_io.specs.Link.{end_of};
-ghost use Rattle.sock_model.specs.Layout.{request_index};
+ghost use Rattle.sock_io.specs.LinkHalves.{end_of};
+ghost use Rattle.sock_model.specs.SocketTableLayout.{request_index};
 ghost use Rattle.seat_programs.specs.StepTables.{word_of, word_after};
 ghost use Rattle.seat_programs.specs.Cores.{found_at, words_after};
-ghost use Rattle.seat_states.specs.program_steps.specs.Sound.{AllowsWord};
-ghost use Rattle.seat_states.specs.Steps.{step_of};
-ghost use Rattle.machine_model.specs.Steps.{IsOfLinks, OutsAfter, holders_after};
+ghost use Rattle.seat_states.specs.program_steps.specs.SoundSeats.{AllowsWord};
+ghost use Rattle.seat_states.specs.ProgramStepsOfMachine.{step_of};
+ghost use Rattle.machine_model.specs.MachineSteps.{IsOfLinks, OutsAfter, holders_after};
 
 use seat_states::TableStep;
 use sock_io::{Ends, In, Out, Peer};

@@ -9,44 +9,44 @@ use Rattle.sock_words.specs.declared.kind.Kind.{Kind}
 use Rattle.sock_words.specs.declared.plain.Plan.{Plan}
 use Rattle.sock_io.specs.declared.link.Ready.TheVariants as asks
 use Rattle.seat_programs.specs.Asides as asides
-use Rattle.seat_programs.specs.Heads.{Head, Exit, Locks}
+use Rattle.seat_programs.specs.LoopHeads.{Head, Exit, Locks}
 use Rattle.seat_programs.specs.Writings as heads
 use Rattle.seat_programs.specs.Programs.{Program, Write, Round}
 use Rattle.seat_programs.specs.Cores.{Core, SeatState}
 use Rattle.seat_programs.specs.Ticks.{Answer, Unasked, OfPut, OfReady, OfTake, Moment, waits_at, waits, broken_at}
-use Rattle.seat_programs.specs.Runs.{kind_in, next_kind, IsAtRest}
-use Rattle.machine_model.specs.program_steps.specs.Sound.{IsAhead}
-use Rattle.machine_model.specs.sock_runs.proofs.Along.{seat_rests}
+use Rattle.seat_programs.specs.ScheduledRuns.{kind_in, next_kind, IsAtRest}
+use Rattle.machine_model.specs.program_steps.specs.SoundSeats.{IsAhead}
+use Rattle.machine_model.specs.sock_runs.proofs.SoundAlongRuns.{seat_rests}
 use Rattle.machine_model.specs.run_theorems.specs.Heard.{heard_at}
 use Rattle.call_points.specs.declared.aside.Aside.{Aside as AsideStep}
 use Rattle.call_points.specs.declared.aside.Aside.TheVariants as code
-use Rattle.call_points.specs.Steps as aside_steps
+use Rattle.call_points.specs.AsideCodeSteps as aside_steps
 use Rattle.seat_states.specs.declared.point.Step.{Step}
 use Rattle.seat_states.specs.declared.point.Step.TheVariants as firsts
-use Rattle.seat_states.specs.Steps.{First, OfTable, OfAside, step_as, first_in}
-use Rattle.seat_states.specs.Steps as kinds
-use Rattle.client_seats.specs.Seats.{around, seat_program, asked_or_nothing}
+use Rattle.seat_states.specs.ProgramStepsOfMachine.{First, OfTable, OfAside, step_as, first_in}
+use Rattle.seat_states.specs.ProgramStepsOfMachine as kinds
+use Rattle.client_seats.specs.ClientSeatState.{around, seat_program, asked_or_nothing}
 use Rattle.reader_points.specs.declared.point.ReadStep.{ReadStep}
 use Rattle.reader_points.specs.declared.point.ReadStep.TheVariants as steps
-use Rattle.reader_points.specs.Steps as reader_steps
-use Rattle.reader_seats.specs.Readers.{reader_program}
+use Rattle.reader_points.specs.ReaderCodeSteps as reader_steps
+use Rattle.reader_seats.specs.ReaderState.{reader_program}
 use Rattle.machine_model.specs.declared.tick.Tick.{Tick}
 use Rattle.machine_model.specs.declared.tick.Tick.TheVariants.{Moved, Waits, Idle}
-use Rattle.machine_model.specs.Links.{LinksData, Taken, Given, Agrees, AgreesGave}
+use Rattle.machine_model.specs.MachineLinks.{LinksData, Taken, Given, Agrees, AgreesGave}
 use Rattle.machine_model.specs.Machines.{MachineState, READERS, IsMachine, IsSoundMachine, HasSizes, KeepsClosed, AreCalled, ArePaced, table_of, machine_sizes, state_of, core_with, IsSized}
-use Rattle.machine_model.specs.Steps.{AsMany, NextIs, FitsSlots, SameBase, MadeFirst}
-use Rattle.machine_model.specs.Reading.{SameTables, NextReadIs, MadeRead, TickRead}
-use Rattle.machine_model.specs.Telling.{TickTold, Tells, is_waiting}
-use Rattle.machine_model.specs.Runs.{SameTable, SameLinks, ShowFaults, TickIs, Follows, Ticked}
+use Rattle.machine_model.specs.MachineSteps.{AsMany, NextIs, FitsSlots, SameBase, MadeFirst}
+use Rattle.machine_model.specs.ReadingSteps.{SameTables, NextReadIs, MadeRead, TickRead}
+use Rattle.machine_model.specs.TickAnswersOfStep.{TickTold, Tells, is_waiting}
+use Rattle.machine_model.specs.MachineRuns.{SameTable, SameLinks, ShowFaults, TickIs, Follows, Ticked}
 use Rattle.machine_model.specs.Driving.{Leaves}
-use Rattle.machine_ticks.proofs.Answering.{AsksUnfinished, made_links, made_prompt, made_broken, made_told}
+use Rattle.machine_ticks.proofs.LinksBehindSteps.{AsksUnfinished, made_links, made_prompt, made_broken, made_told}
 use Rattle.machine_rules.proofs.CallWords.{called_behind}
-use Rattle.machine_ticks.proofs.Closings.{made_closes, made_closed, read_links, read_closes, read_closed}
+use Rattle.machine_ticks.proofs.ClosedWhereFinished.{made_closes, made_closed, read_links, read_closes, read_closed}
 use Rattle.machine_ticks.proofs.Offering.{made_offers, made_offering, read_offers, read_offering}
-use Rattle.machine_ticks.proofs.Fitting.{paced_prop, client_next, client_may, client_asks, client_takes, client_slots, reader_next, reader_may, reader_slots}
-use Rattle.machine_ticks.proofs.Joining.{tells_as}
-use Rattle.machine_rules.proofs.Keeping.{OutsKept, Keeps, kept_by, readers_paced, made_paced, step_keeps}
-use Rattle.machine_model.proofs.Lengths.{as_many, sizes_kept, is_sized, few_seats, few_slots, operations_are}
+use Rattle.machine_ticks.proofs.MachineStepFitting.{paced_prop, client_next, client_may, client_asks, client_takes, client_slots, reader_next, reader_may, reader_slots}
+use Rattle.machine_ticks.proofs.JoiningRuns.{tells_as}
+use Rattle.machine_rules.proofs.MachineKeeping.{OutsKept, Keeps, kept_by, readers_paced, made_paced, step_keeps}
+use Rattle.machine_model.proofs.MachineLengths.{as_many, sizes_kept, is_sized, few_seats, few_slots, operations_are}
 use Rattle.machine_model.proofs.PointFacts.{NoTake}
 use Rattle.machine_ticks.proofs.ReadLengths.{read_prompt, read_many, read_same, read_sizes}
 use Rattle.machine_rules.proofs.ReadTicks.{MayRead, reads_by}
@@ -54,7 +54,7 @@ use Rattle.machine_rules.proofs.Seatings.{seat_at, read_at}
 use Rattle.machine_ticks.proofs.Takings.{made_taken, made_takes, read_broken, read_told, read_taken, read_takes}
 use Rattle.machine_model.proofs.Tellings.{ready_waits}
 use Rattle.machine_rules.proofs.Ticked.{MayMake, SteppedWith, steps_by}
-use Rattle.corr_core.proofs.Notes.{at_length}
+use Rattle.corr_core.proofs.NoteSums.{at_length}
 
 pub is_paced : (m : MachineState) (room : ℕ) → IsMachine m room → m.short ≡ false → ArePaced (machine_sizes m) m.links m.seats
 is_paced m room is enough = ∥∥₁_elim (is.paced enough) (paced_prop (machine_sizes m) m.links m.seats) (λ p. p)

@@ -3,25 +3,25 @@ use Rattle.std.proofs.Common.{◌≡◌, ◌≢◌, ℕ, ◌+◌, ◌<◌, false
 use Rattle.std.specs.Prelude.{IfOk, OnOk, OnErr}
 use Rattle.atomic_table.proofs.Lists.{set_else}
 use lib.ListN.{get_elem?}
-use Rattle.client_seats.specs.Seats.{SeatData}
+use Rattle.client_seats.specs.ClientSeatState.{SeatData}
 use Rattle.seat_states.specs.declared.point.Step.{Step}
 use Rattle.reader_points.specs.declared.point.ReadStep.{ReadStep}
 use Rattle.machine_model.specs.declared.tick.Tick.{Tick}
 use Rattle.machine_model.specs.declared.tick.Tick.TheVariants.{Idle}
 use Rattle.machine_model.specs.Machines.{MachineState, READERS, IsMachine, HasSizes, table_of, IsSized}
-use Rattle.machine_model.specs.Reading.{NextReadIs, HasNoRead, ReadFits, TickRead, IsCutShort}
-use Rattle.machine_model.specs.Runs.{SameTable, SameLinks, Ticked}
-use Rattle.machine_model.specs.Steps.{NextIs, HasNoStep, StepFits, PreparedAt}
-use Rattle.machine_model.specs.Passing.{HasPassed}
-use Rattle.machine_model.specs.Telling.{TickTold}
+use Rattle.machine_model.specs.ReadingSteps.{NextReadIs, HasNoRead, ReadFits, TickRead, IsCutShort}
+use Rattle.machine_model.specs.MachineRuns.{SameTable, SameLinks, Ticked}
+use Rattle.machine_model.specs.MachineSteps.{NextIs, HasNoStep, StepFits, PreparedAt}
+use Rattle.machine_model.specs.PassingOverTaken.{HasPassed}
+use Rattle.machine_model.specs.TickAnswersOfStep.{TickTold}
 use Rattle.machine_model.specs.Driving.{Leaves, WentOn, FirstRests}
 use Rattle.machine_ticks.proofs.Advancing.{told_links, told_table, told_ticks, told_keeps, told_leaves, told_enough, read_links_stay, read_table, read_ticks, read_keeps, read_leaves, read_enough}
-use Rattle.machine_ticks.proofs.Fitting.{step_fits, read_fits}
-use Rattle.machine_model.proofs.Lengths.{is_sized, few_seats, some_seat}
+use Rattle.machine_ticks.proofs.MachineStepFitting.{step_fits, read_fits}
+use Rattle.machine_model.proofs.MachineLengths.{is_sized, few_seats, some_seat}
 use Rattle.machine_model.proofs.Same.{same_table_none, same_links_none, both_join}
 use Rattle.machine_ticks.proofs.PlainSteps.{no_step_rests, no_read_rests, idle_leaves}
 use Rattle.machine_ticks.proofs.Preparing.{prepared_ticks, prepared_same, prepared_keeps, prepared_enough, prepared_leaves, prepared_idle, prepared_rests, prepared_stands, prepared_inside, cut_keeps, cut_sizes, cut_same}
-use Rattle.machine_ticks.proofs.Resting.{first_rests, rest_ticks}
+use Rattle.machine_ticks.proofs.RestingTicks.{first_rests, rest_ticks}
 
 -- ## By a result
 

@@ -1,10 +1,10 @@
-pub mod Joining
-pub mod Answering
+pub mod JoiningRuns
+pub mod LinksBehindSteps
 pub mod Takings
-pub mod Closings
+pub mod ClosedWhereFinished
 pub mod Offering
-pub mod Resting
-pub mod Fitting
+pub mod RestingTicks
+pub mod MachineStepFitting
 pub mod ReadLengths
 pub mod Advancing
 pub mod Preparing

@@ -9,30 +9,30 @@ use Rattle.atomic_table.proofs.Lists.{set_here, set_else}
 use Rattle.sock_words.specs.declared.plain.Plan.{Plan}
 use Rattle.sock_io.specs.declared.link.Put.{Put}
 use Rattle.sock_io.specs.declared.link.Ready.{Ready}
-use Rattle.sock_io.specs.Link.{OutState, InState, Offer, IsServed, PutStep, ReadyStep, FinishStep, taken_of}
-use Rattle.sock_io.proofs.Offers.{served_put, served_ready, served_finish}
+use Rattle.sock_io.specs.LinkHalves.{OutState, InState, Offer, IsServed, PutStep, ReadyStep, FinishStep, taken_of}
+use Rattle.sock_io.proofs.HalvesKeepOffers.{served_put, served_ready, served_finish}
 use Rattle.seat_programs.specs.Asides as asides
 use Rattle.seat_programs.specs.Asides.{Taking}
-use Rattle.seat_programs.specs.Calls as calls
+use Rattle.seat_programs.specs.TableSteps as calls
 use Rattle.seat_programs.specs.Programs.{Program}
 use Rattle.seat_programs.specs.Cores.{Core, SeatState}
 use Rattle.seat_programs.specs.Ticks.{Answer, Unasked, OfPut, OfReady, Moment, taken}
-use Rattle.machine_model.specs.run_theorems.specs.Offered.{GaveSo, OffersAt, AreOffered}
+use Rattle.machine_model.specs.run_theorems.specs.OfferedAtTakes.{GaveSo, OffersAt, AreOffered}
 use Rattle.seat_states.specs.declared.point.Step.{Step}
-use Rattle.seat_states.specs.Steps.{First, OfTable, OfAside, OfMessage, OfLink, OfHome}
-use Rattle.seat_states.specs.Steps as kinds
-use Rattle.reader_seats.specs.Readers.{ReaderData, reader_program}
-use Rattle.client_seats.specs.Seats.{SeatData}
-use Rattle.machine_model.specs.Links.{LinksData, Taken, Given, Agrees, AgreesGave, IsOffering}
+use Rattle.seat_states.specs.ProgramStepsOfMachine.{First, OfTable, OfAside, OfMessage, OfLink, OfHome}
+use Rattle.seat_states.specs.ProgramStepsOfMachine as kinds
+use Rattle.reader_seats.specs.ReaderState.{ReaderData, reader_program}
+use Rattle.client_seats.specs.ClientSeatState.{SeatData}
+use Rattle.machine_model.specs.MachineLinks.{LinksData, Taken, Given, Agrees, AgreesGave, IsOffering}
 use Rattle.machine_model.specs.Machines.{MachineState, KeepsClosed, READERS, table_of, core_with}
-use Rattle.machine_model.specs.Steps.{OutsAfter, MadeFirst}
-use Rattle.machine_model.specs.Reading.{OffersOn, TakenFrom, MadeRead}
-use Rattle.machine_ticks.proofs.Closings.{taken_there}
-use Rattle.machine_ticks.proofs.Joining.{not_offered}
+use Rattle.machine_model.specs.MachineSteps.{OutsAfter, MadeFirst}
+use Rattle.machine_model.specs.ReadingSteps.{OffersOn, TakenFrom, MadeRead}
+use Rattle.machine_ticks.proofs.ClosedWhereFinished.{taken_there}
+use Rattle.machine_ticks.proofs.JoiningRuns.{not_offered}
 use Rattle.machine_rules.proofs.ReadTicks.{given_at}
 use Rattle.machine_rules.proofs.Seatings.{read_at}
-use Rattle.corr_core.proofs.Notes.{at_length}
-use Rattle.seat_programs.specs.Rounds.{first_step}
+use Rattle.corr_core.proofs.NoteSums.{at_length}
+use Rattle.seat_programs.specs.LoopRounds.{first_step}
 use Rattle.machine_model.specs.run_theorems.specs.Heard.{bytes_found}
 
 -- ## A call of a writing half

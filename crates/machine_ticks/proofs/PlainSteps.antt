@@ -3,18 +3,18 @@ use Rattle.std.proofs.Common.{◌≡◌, refl, ℕ, zero, suc, ◌+◌, ◌<◌,
 use Rattle.atomic_table.proofs.Lists.{set_here}
 use mathlib.Core.Option as core
 use lib.ListN.{get_elem?}
-use Rattle.chain_steps.proofs.Lists.{at_some}
+use Rattle.chain_steps.proofs.TicketLists.{at_some}
 use Rattle.sock_words.specs.declared.kind.Kind.{Kind}
 use Rattle.seat_programs.specs.declared.task.Sizes.{Sizes}
-use Rattle.seat_programs.specs.Calls as calls
-use Rattle.seat_programs.specs.Heads.{Retry}
+use Rattle.seat_programs.specs.TableSteps as calls
+use Rattle.seat_programs.specs.LoopHeads.{Retry}
 use Rattle.seat_programs.specs.Programs.{Program, Do, Say, Sent, Rest, Retries, LAST_GENERATION}
-use Rattle.seat_programs.specs.Sends.{freed, tell_drop, one_more, passed_telling}
+use Rattle.seat_programs.specs.SendAndWritePrograms.{freed, tell_drop, one_more, passed_telling}
 use Rattle.seat_programs.specs.Cores.{Core, SeatState, found_at, next_step, resolved, still_waiting}
 use Rattle.seat_programs.specs.StepTables.{word_of}
 use Rattle.seat_programs.specs.Ticks.{quiet}
-use Rattle.seat_programs.specs.Runs.{kind_in, IsAtRest}
-use Rattle.call_points.specs.Steps.{after_word}
+use Rattle.seat_programs.specs.ScheduledRuns.{kind_in, IsAtRest}
+use Rattle.call_points.specs.AsideCodeSteps.{after_word}
 use Rattle.seat_states.specs.declared.point.WriteStep.TheVariants as writes
 use Rattle.seat_states.specs.declared.point.CallStep.TheVariants as begins
 use Rattle.seat_states.specs.declared.point.AttemptStep.TheVariants as attempts
@@ -23,29 +23,29 @@ use Rattle.seat_states.specs.declared.point.Step.{Step}
 use Rattle.seat_states.specs.declared.point.Author.{Author}
 use Rattle.seat_states.specs.declared.point.Point.{Point}
 use Rattle.seat_states.specs.declared.point.Point.TheVariants as points
-use Rattle.seat_states.specs.Points.{Context, point_program, heading_by, holder_of, tell, written_program, HasInHand, HasLinkAt, TellsCodeAt, framed}
-use Rattle.seat_states.specs.Steps.{First, OfTable, step_as, first_in, kind_of_first}
-use Rattle.client_seats.specs.Seats.{SeatData, around, seat_program}
-use Rattle.reader_seats.specs.Readers.{ReaderData, reader_program}
+use Rattle.seat_states.specs.SeatPoints.{Context, point_program, heading_by, holder_of, tell, written_program, HasInHand, HasLinkAt, TellsCodeAt, framed}
+use Rattle.seat_states.specs.ProgramStepsOfMachine.{First, OfTable, step_as, first_in, kind_of_first}
+use Rattle.client_seats.specs.ClientSeatState.{SeatData, around, seat_program}
+use Rattle.reader_seats.specs.ReaderState.{ReaderData, reader_program}
 use Rattle.machine_model.specs.declared.tick.Tick.{Tick}
 use Rattle.machine_model.specs.declared.tick.Tick.TheVariants.{Idle}
-use Rattle.machine_model.specs.Links.{Given, AgreesGave}
+use Rattle.machine_model.specs.MachineLinks.{Given, AgreesGave}
 use Rattle.machine_model.specs.Machines.{MachineState, READERS, IsMachine, table_of, machine_sizes, core_with}
-use Rattle.machine_model.specs.Steps.{ReadyAt, StandsAt, NextIs, HasNoStep, SameBase, MadeFirst}
-use Rattle.machine_model.specs.Reading.{HasNoRead}
-use Rattle.machine_model.specs.Telling.{TickTold}
+use Rattle.machine_model.specs.MachineSteps.{ReadyAt, StandsAt, NextIs, HasNoStep, SameBase, MadeFirst}
+use Rattle.machine_model.specs.ReadingSteps.{HasNoRead}
+use Rattle.machine_model.specs.TickAnswersOfStep.{TickTold}
 use Rattle.machine_model.specs.Driving.{AsksNone, IsPlain, TickedFirst, Leaves}
 use Rattle.machine_ticks.proofs.Advancing.{is_paced, base}
-use Rattle.machine_ticks.proofs.Fitting.{client_next, client_may}
-use Rattle.machine_model.proofs.Lengths.{is_sized, few_seats}
-use Rattle.machine_ticks.proofs.Joining.{rests}
-use Rattle.machine_ticks.proofs.Resting.{Rests, beyond_rests}
+use Rattle.machine_ticks.proofs.MachineStepFitting.{client_next, client_may}
+use Rattle.machine_model.proofs.MachineLengths.{is_sized, few_seats}
+use Rattle.machine_ticks.proofs.JoiningRuns.{rests}
+use Rattle.machine_ticks.proofs.RestingTicks.{Rests, beyond_rests}
 use Rattle.machine_rules.proofs.Seatings.{seat_at, read_at}
 use Rattle.machine_model.proofs.TableRoom.{IsCall, after_none, only_calls}
 use Rattle.machine_model.proofs.Tellings.{kind_is}
 use Rattle.machine_rules.proofs.Ticked.{gives_same, quiet_by}
-use Rattle.corr_core.proofs.Notes.{at_length}
-use Rattle.sock_words.specs.Words.{ticket_request, ticket_generation}
+use Rattle.corr_core.proofs.NoteSums.{at_length}
+use Rattle.sock_words.specs.PackedWords.{ticket_request, ticket_generation}
 
 -- ## Without a step left
 

@@ -9,30 +9,30 @@ use mathlib.Core.Option as core
 use lib.ListN.{get_elem?}
 use Rattle.sock_words.specs.declared.plain.Plan.{Plan}
 use Rattle.seat_programs.specs.declared.task.Sizes.{Sizes}
-use Rattle.seat_programs.specs.Heads.{Retry}
+use Rattle.seat_programs.specs.LoopHeads.{Retry}
 use Rattle.seat_programs.specs.Programs.{Program}
 use Rattle.seat_programs.specs.Cores.{Core, SeatState}
 use Rattle.seat_programs.specs.Ticks.{Answer, Moment, AreAnswered, run, broken_in}
-use Rattle.machine_model.specs.run_theorems.specs.call_owing.specs.Lives.{ClosesInTime}
-use Rattle.machine_model.specs.run_theorems.specs.Offered.{AreOffered}
+use Rattle.machine_model.specs.run_theorems.specs.call_owing.specs.LivesOfLinks.{ClosesInTime}
+use Rattle.machine_model.specs.run_theorems.specs.OfferedAtTakes.{AreOffered}
 use Rattle.machine_model.specs.run_theorems.specs.Heard.{heard_in, taken_in}
-use Rattle.call_slots.specs.Slots.{calls_with}
-use Rattle.client_seats.specs.Seats.{SeatData, seat_program}
-use Rattle.reader_seats.specs.Readers.{ReaderData}
+use Rattle.call_slots.specs.CallSlotState.{calls_with}
+use Rattle.client_seats.specs.ClientSeatState.{SeatData, seat_program}
+use Rattle.reader_seats.specs.ReaderState.{ReaderData}
 use Rattle.machine_model.specs.declared.tick.Tick.{Tick}
 use Rattle.machine_model.specs.declared.tick.Tick.TheVariants.{Moved, Waits, Idle}
-use Rattle.machine_model.specs.Links.{LinksData, Taken, Given, IsPaced}
+use Rattle.machine_model.specs.MachineLinks.{LinksData, Taken, Given, IsPaced}
 use Rattle.machine_model.specs.Machines.{MachineState, READERS, IsMachine, IsSoundMachine, HasSizes, KeepsClosed, ArePaced, machine_sizes, table_of, between, resting, clients_with, readers_with, state_of, given_by, core_with}
-use Rattle.machine_model.specs.Reading.{IsCutShort}
-use Rattle.machine_model.specs.Runs.{SameTable, SameLinks, LinksShow, TickIs, Follows, Ticked}
-use Rattle.machine_model.specs.Steps.{PreparedAt, IsReady, MayStand, ReadyAt, StandsAt}
+use Rattle.machine_model.specs.ReadingSteps.{IsCutShort}
+use Rattle.machine_model.specs.MachineRuns.{SameTable, SameLinks, LinksShow, TickIs, Follows, Ticked}
+use Rattle.machine_model.specs.MachineSteps.{PreparedAt, IsReady, MayStand, ReadyAt, StandsAt}
 use Rattle.machine_model.specs.Driving.{LastsAtMost, Leaves, FirstRests}
 use Rattle.machine_model.proofs.Same.{same_table_none, same_links_none}
-use Rattle.machine_rules.proofs.Keeping.{remade}
-use Rattle.machine_model.proofs.Lengths.{sizes_kept, sizes_stay}
-use Rattle.machine_ticks.proofs.Resting.{first_rests}
+use Rattle.machine_rules.proofs.MachineKeeping.{remade}
+use Rattle.machine_model.proofs.MachineLengths.{sizes_kept, sizes_stay}
+use Rattle.machine_ticks.proofs.RestingTicks.{first_rests}
 use Rattle.machine_rules.proofs.Seatings.{core_is}
-use Rattle.corr_core.proofs.Notes.{at_length}
+use Rattle.corr_core.proofs.NoteSums.{at_length}
 
 -- ## One core, by two machines
 

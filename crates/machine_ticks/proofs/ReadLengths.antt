@@ -7,13 +7,13 @@ use Rattle.seat_programs.specs.Asides.{TakeBytes}
 use Rattle.seat_programs.specs.Programs.{Program}
 use Rattle.seat_programs.specs.Cores.{resolved}
 use Rattle.seat_programs.specs.Ticks.{Answer, OfReady}
-use Rattle.seat_states.specs.Steps.{First, OfTable, OfAside}
-use Rattle.reader_seats.specs.Readers.{ReaderData}
-use Rattle.reader_seats.specs.GoesOn.{GoesOn}
+use Rattle.seat_states.specs.ProgramStepsOfMachine.{First, OfTable, OfAside}
+use Rattle.reader_seats.specs.ReaderState.{ReaderData}
+use Rattle.reader_seats.specs.ReaderGoesOn.{GoesOn}
 use Rattle.machine_model.specs.Machines.{MachineState, HasSizes, table_of}
-use Rattle.machine_model.specs.Steps.{AsMany}
-use Rattle.machine_model.specs.Reading.{SameTables, MadeRead}
-use Rattle.machine_model.proofs.Lengths.{length_said, length_holders, length_outs, many_same, sizes_stay}
+use Rattle.machine_model.specs.MachineSteps.{AsMany}
+use Rattle.machine_model.specs.ReadingSteps.{SameTables, MadeRead}
+use Rattle.machine_model.proofs.MachineLengths.{length_said, length_holders, length_outs, many_same, sizes_stay}
 
 -- no link is asked to take more
 pub read_prompt : (old fresh : MachineState) (i : ℕ) (reader reader' : ReaderData) (first : First) (answer : Answer) → MadeRead (table_of old) (table_of fresh) i reader reader' first answer → answer ≢ OfReady ready.NotYet

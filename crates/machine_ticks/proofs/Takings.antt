@@ -8,33 +8,33 @@ use mathlib.Core.Logic.{dite}
 use mathlib.Core.Option as core
 use lib.ListN.{get_elem?}
 use Rattle.corr_core.specs.Word.{parts, code_of}
-use Rattle.corr_core.proofs.Notes.{at_length}
-use Rattle.corr_core.specs.Decisions.{ends_call}
-use Rattle.brpc_model.specs.Link.{LinkEnd, TakeAnswer}
-use Rattle.sock_io.specs.Link.{more_told}
+use Rattle.corr_core.proofs.NoteSums.{at_length}
+use Rattle.corr_core.specs.ErrorsThatEndCalls.{ends_call}
+use Rattle.brpc_model.specs.ReturnedLink.{LinkEnd, TakeAnswer}
+use Rattle.sock_io.specs.LinkHalves.{more_told}
 use Rattle.sock_words.specs.declared.plain.Plan.{Plan}
 use Rattle.machine_model.specs.run_theorems.specs.Heard.{as_told, as_taken, answer_of, take_answers, taken_link, heard_at, heard_in, taken_at, taken_in}
 use Rattle.seat_programs.specs.Asides as asides
 use Rattle.seat_programs.specs.Asides.{Taking, TakeBytes, PutCall}
-use Rattle.seat_programs.specs.Heads.{Unlocks, Decides, Locks, Reads, Discards, HasEnded}
-use Rattle.seat_programs.specs.Posts.{end_id, unlocked}
+use Rattle.seat_programs.specs.LoopHeads.{Unlocks, Decides, Locks, Reads, Discards, HasEnded}
+use Rattle.seat_programs.specs.PostPrograms.{end_id, unlocked}
 use Rattle.seat_programs.specs.Writings as heads
 use Rattle.seat_programs.specs.Programs.{Program, Write, Aside, Round}
 use Rattle.seat_programs.specs.Cores.{Core, SeatState}
 use Rattle.seat_programs.specs.Ticks.{Answer, Unasked, OfPut, OfReady, OfTake, Moment, taken, IsAnswer, IsAnswered, asked_link, is_refusal, broken_at, broken_in}
 use Rattle.seat_states.specs.declared.point.Step.{Step}
-use Rattle.seat_states.specs.Steps.{First, OfTable, OfAside, first_of, first_in}
-use Rattle.seat_states.specs.Steps as kinds
-use Rattle.reader_seats.specs.Readers.{ReaderData}
-use Rattle.client_seats.specs.Seats.{SeatData}
+use Rattle.seat_states.specs.ProgramStepsOfMachine.{First, OfTable, OfAside, first_of, first_in}
+use Rattle.seat_states.specs.ProgramStepsOfMachine as kinds
+use Rattle.reader_seats.specs.ReaderState.{ReaderData}
+use Rattle.client_seats.specs.ClientSeatState.{SeatData}
 use Rattle.machine_model.specs.Machines.{MachineState, table_of}
-use Rattle.machine_model.specs.Steps.{AskedAt, MadeFirst}
-use Rattle.machine_model.specs.Reading.{MadeRead}
-use Rattle.machine_model.specs.Runs.{ShowFaults, LinksTell, TakesTell, ShowsTaking, ShowTakings}
-use Rattle.machine_ticks.proofs.Answering.{behind_is, first_is, get_set_other, asks_first}
+use Rattle.machine_model.specs.MachineSteps.{AskedAt, MadeFirst}
+use Rattle.machine_model.specs.ReadingSteps.{MadeRead}
+use Rattle.machine_model.specs.MachineRuns.{ShowFaults, LinksTell, TakesTell, ShowsTaking, ShowTakings}
+use Rattle.machine_ticks.proofs.LinksBehindSteps.{behind_is, first_is, get_set_other, asks_first}
 use Rattle.machine_model.proofs.FirstSteps.{same_some}
-use Rattle.machine_ticks.proofs.Joining.{show_faults_none, more_none, tells_none, takes_none, takings_none}
-use Rattle.sock_words.specs.Words.{id_slot}
+use Rattle.machine_ticks.proofs.JoiningRuns.{show_faults_none, more_none, tells_none, takes_none, takings_none}
+use Rattle.sock_words.specs.PackedWords.{id_slot}
 
 -- ## A link that was written back
 

@@ -16,30 +16,30 @@ use Rattle.sock_model.specs.declared.view.View.{View}
 use Rattle.sock_model.specs.declared.view.Hand.{Hand}
 use Rattle.sock_model.specs.declared.chain.Right.{Right}
 use Rattle.sock_model.specs.Marks.{about}
-use Rattle.sock_model.specs.Weights.{only, is_recycled, is_recycling, is_busy, is_met}
+use Rattle.sock_model.specs.MarkWeights.{only, is_recycled, is_recycling, is_busy, is_met}
 use Rattle.sock_model.specs.SlotRows.{marks_of}
-use Rattle.sock_model.specs.Links.{Given}
-use Rattle.sock_model.specs.Homes.{Unborn, Recycles}
+use Rattle.sock_model.specs.LinksInSlots.{Given}
+use Rattle.sock_model.specs.LinkHomes.{Unborn, Recycles}
 use Rattle.sock_model.specs.ChainRows.{with_hand, spent_hand}
-use Rattle.sock_model.specs.Reads.{rights_on, link_home, took_of, as_link, shown, waits_of, carries, hands_of}
-use Rattle.sock_model.specs.Lawful.{Lawful}
-use Rattle.slot_steps.proofs.Numbers.{only-same}
-use Rattle.slot_steps.proofs.Sums.{term_le, total_mono, total_some}
-use Rattle.slot_steps.proofs.Slots.{recycled_le}
-use Rattle.chain_steps.proofs.Lists.{at_length}
+use Rattle.sock_model.specs.ChainLawReads.{rights_on, link_home, took_of, as_link, shown, waits_of, carries, hands_of}
+use Rattle.sock_model.specs.LawfulSockets.{Lawful}
+use Rattle.slot_steps.proofs.RuleNumbers.{only-same}
+use Rattle.slot_steps.proofs.SlotWeightSums.{term_le, total_mono, total_some}
+use Rattle.slot_steps.proofs.ReferenceStepsKeepSlot.{recycled_le}
+use Rattle.chain_steps.proofs.TicketLists.{at_length}
 use Rattle.chain_steps.proofs.Gather.{gather_own, gather_none}
 use Rattle.sock_steps.proofs.Maps.{set_at, gather_nil}
-use Rattle.sock_steps.proofs.Quiet.{either_way}
-use Rattle.sock_steps.proofs.Places.{own_count, given_once, two_seats}
-use Rattle.seat_programs.specs.Calls.{TakeLink}
+use Rattle.sock_steps.proofs.SumsAsMarksChange.{either_way}
+use Rattle.sock_steps.proofs.LifeLinkSlotPlaces.{own_count, given_once, two_seats}
+use Rattle.seat_programs.specs.TableSteps.{TakeLink}
 use Rattle.seat_programs.specs.Cores.{Core}
 use Rattle.seat_programs.specs.StepTables.{hand_at}
 use Rattle.seat_programs.specs.StepsOfLinks.{taken}
 use Rattle.seat_programs.specs.StepTables.{May}
-use Rattle.sock_runs.specs.program_steps.specs.Sound.{state}
+use Rattle.sock_runs.specs.program_steps.specs.SoundSeats.{state}
 use Rattle.sock_runs.proofs.HandTicks.{AtHome, taking, found_hand}
-use Rattle.message_events.specs.Standing.{hands_on, by_home, stand}
-use Rattle.message_events.proofs.Others.{stand_of, stand_on}
+use Rattle.message_events.specs.MessageStanding.{hands_on, by_home, stand}
+use Rattle.message_events.proofs.OtherMessageSteps.{stand_of, stand_on}
 use Rattle.sock_words.specs.Totals.{total}
 
 -- none of these has the link

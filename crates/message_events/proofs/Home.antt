@@ -12,25 +12,25 @@ use Rattle.sock_model.specs.declared.view.View.{View}
 use Rattle.sock_model.specs.declared.view.Hand.{Hand}
 use Rattle.sock_model.specs.declared.chain.Entry.{Entry}
 use Rattle.sock_model.specs.Entries.{on}
-use Rattle.sock_model.specs.Weights.{only}
-use Rattle.sock_model.specs.Links.{Given}
-use Rattle.sock_model.specs.Homes.{Unborn, Recycles}
+use Rattle.sock_model.specs.MarkWeights.{only}
+use Rattle.sock_model.specs.LinksInSlots.{Given}
+use Rattle.sock_model.specs.LinkHomes.{Unborn, Recycles}
 use Rattle.sock_model.specs.Deliveries.{Taken}
 use Rattle.sock_model.specs.ChainRows.{without_hand}
-use Rattle.sock_model.specs.Reads.{link_home, took_of, as_link, shown, carries, hands_of}
-use Rattle.sock_model.specs.Lawful.{Lawful}
-use Rattle.slot_steps.proofs.Numbers.{only-same}
-use Rattle.slot_steps.proofs.Sums.{term_le}
-use Rattle.chain_steps.proofs.Lists.{filter_at, filter_in}
+use Rattle.sock_model.specs.ChainLawReads.{link_home, took_of, as_link, shown, carries, hands_of}
+use Rattle.sock_model.specs.LawfulSockets.{Lawful}
+use Rattle.slot_steps.proofs.RuleNumbers.{only-same}
+use Rattle.slot_steps.proofs.SlotWeightSums.{term_le}
+use Rattle.chain_steps.proofs.TicketLists.{filter_at, filter_in}
 use Rattle.atomic_table.proofs.Lists.{at_set}
 use Rattle.sock_steps.proofs.Maps.{set_at, no_members}
 use Rattle.seat_programs.specs.Cores.{Core, first_of}
 use Rattle.seat_programs.specs.StepsOfLinks.{HasInHand}
-use Rattle.sock_runs.specs.program_steps.specs.Sound.{state, AreInHand}
+use Rattle.sock_runs.specs.program_steps.specs.SoundSeats.{state, AreInHand}
 use Rattle.sock_runs.proofs.HandTicks.{TheOne, the_one}
-use Rattle.message_events.specs.Standing.{Stand, hands_on, of_hand, by_home, stand}
-use Rattle.message_events.proofs.Orders.{In, gathered_in, gathered_of}
-use Rattle.message_events.proofs.Others.{stand_of, stand_on}
+use Rattle.message_events.specs.MessageStanding.{Stand, hands_on, of_hand, by_home, stand}
+use Rattle.message_events.proofs.AcceptedOrderSteps.{In, gathered_in, gathered_of}
+use Rattle.message_events.proofs.OtherMessageSteps.{stand_of, stand_on}
 use Rattle.message_events.proofs.Carried.{one_hand}
 
 -- where each hand on the link tells the same, and its home does where there is none, this is how it stands

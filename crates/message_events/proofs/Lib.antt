@@ -1,8 +1,8 @@
-pub mod Orders
-pub mod Words
-pub mod Others
+pub mod AcceptedOrderSteps
+pub mod RequestWordsBehindSteps
+pub mod OtherMessageSteps
 pub mod Carried
 pub mod Home
-pub mod Rights
+pub mod LinkWrittenByRight
 pub mod Swaps
-pub mod Each
+pub mod EachMessageEvent

@@ -12,26 +12,26 @@ use Rattle.sock_model.specs.declared.home.Home.{Home}
 use Rattle.sock_model.specs.declared.view.View.{View}
 use Rattle.sock_model.specs.declared.view.Hand.{Hand}
 use Rattle.sock_model.specs.ChainRows.{entry_of, more, queued, righted, new_right}
-use Rattle.sock_model.specs.Conditions.{MayExchange}
-use Rattle.sock_model.specs.Lawful.{Lawful}
-use Rattle.sock_model.specs.Layout.{head_index, link_index}
-use Rattle.sock_model.specs.Links.{Lives}
-use Rattle.sock_model.specs.Reads.{memory, tokens, link_home, rights_on, head_at}
+use Rattle.sock_model.specs.ChainStepConditions.{MayExchange}
+use Rattle.sock_model.specs.LawfulSockets.{Lawful}
+use Rattle.sock_model.specs.SocketTableLayout.{head_index, link_index}
+use Rattle.sock_model.specs.LinksInSlots.{Lives}
+use Rattle.sock_model.specs.ChainLawReads.{memory, tokens, link_home, rights_on, head_at}
 use Rattle.chain_steps.proofs.Gather.{gather_own, gather_same, gather_none}
 use Rattle.chain_steps.proofs.Grow.{idle_found}
-use Rattle.sock_steps.proofs.Places.{holder_lives}
-use Rattle.seat_programs.specs.Calls.{SwapHead}
+use Rattle.sock_steps.proofs.LifeLinkSlotPlaces.{holder_lives}
+use Rattle.seat_programs.specs.TableSteps.{SwapHead}
 use Rattle.seat_programs.specs.Cores.{Core}
 use Rattle.seat_programs.specs.StepTables.{row, hand_at}
 use Rattle.seat_programs.specs.StepsOfLinks.{as_hand}
 use Rattle.seat_programs.specs.StepViews.{by_claim}
 use Rattle.seat_programs.specs.StepsOfChain.{exchanged}
-use Rattle.sock_runs.specs.program_steps.specs.Sound.{state}
+use Rattle.sock_runs.specs.program_steps.specs.SoundSeats.{state}
 use Rattle.sock_runs.proofs.ChainTicks.{held_link_is}
-use Rattle.message_events.specs.Standing.{hands_on, by_rights, by_home, stand}
+use Rattle.message_events.specs.MessageStanding.{hands_on, by_rights, by_home, stand}
 use Rattle.message_events.proofs.Carried.{no_hand}
-use Rattle.message_events.proofs.Rights.{home_of, same_stand}
-use Rattle.sock_words.specs.Words.{IDLE}
+use Rattle.message_events.proofs.LinkWrittenByRight.{home_of, same_stand}
+use Rattle.sock_words.specs.PackedWords.{IDLE}
 
 module _ (p : Plan) (c : Core) (views : List View) (o : Lawful (λ (home : Home). home) p (state c views)) (i : ℕ) (v : View) (at : get_elem? views i ≡ some v) (j own : ℕ) (x : MayExchange p v j own) where
   abbrev found : ℕ

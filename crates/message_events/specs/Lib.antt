@@ -1,3 +1,3 @@
-pub mod Messages
-pub mod Standing
-pub mod Events
+pub mod MessageModel
+pub mod MessageStanding
+pub mod MessageEventOfStep

@@ -1,6 +1,6 @@
 -- Messages and frames as they are put on a link.
 use Rattle.std.specs.Prelude.{[]}
-use Rattle.message_parts.specs.Frames.{ParcelData, OutgoingData}
+use Rattle.message_parts.specs.FramesByParts.{ParcelData, OutgoingData}
 use Rattle.message_parts.specs.declared.parcel.Parcel.{Parcel}
 use Rattle.message_parts.specs.declared.parcel.Parcel.TheVariants as parcels
 use Rattle.message_parts.specs.declared.parcel.OutgoingParcel.{OutgoingParcel}

@@ -1,7 +1,7 @@
 ghost use Rattle.std.specs.Prelude.{◌≡◌, ◌+◌, ◌<◌, ◌≤◌, ◌==◌, ◌^◌, ◌∷◌, [], IfOk, length, drop};
 ghost use Rattle.sock_message.specs.Asked.{frame_of, parts_of};
-ghost use Rattle.seat_programs.specs.Parts.{part};
-ghost use Rattle.message_parts.specs.Frames.{LiesInParts};
+ghost use Rattle.seat_programs.specs.BufferParts.{part};
+ghost use Rattle.message_parts.specs.FramesByParts.{LiesInParts};
 
 use call_table::issue;
 use io_buf::{BlockPool, IoBuf, NoMemory};
@@ -22,7 +22,7 @@ pub struct CallFrame {
 
 impl Model for CallFrame {
     ghost use Rattle.std.specs.Prelude.{◌∷◌, []};
-    ghost use Rattle.message_parts.specs.Frames.{ParcelData, LiesInParts};
+    ghost use Rattle.message_parts.specs.FramesByParts.{ParcelData, LiesInParts};
 
     ghost Value = { ParcelData };
 
@@ -94,7 +94,7 @@ pub struct OutgoingFrame {
 
 impl Model for OutgoingFrame {
     ghost use Rattle.std.specs.Prelude.{◌∷◌, []};
-    ghost use Rattle.message_parts.specs.Frames.{OutgoingData, LiesBehindIn};
+    ghost use Rattle.message_parts.specs.FramesByParts.{OutgoingData, LiesBehindIn};
 
     ghost Value = { OutgoingData };
 

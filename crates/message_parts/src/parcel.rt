@@ -1,5 +1,5 @@
 ghost use Rattle.std.specs.Prelude.{◌≡◌, ◌+◌, ◌≤◌, ◌==◌, [], length, drop};
-ghost use Rattle.seat_programs.specs.Parts.{part};
+ghost use Rattle.seat_programs.specs.BufferParts.{part};
 ghost use Rattle.message_parts.specs.Parcels.{parcel_of, outgoing_of};
 
 use crate::frame::{CallFrame, OutgoingFrame};

@@ -1,3 +1,3 @@
-pub mod Halves
-pub mod Linker
-pub mod Writing
+pub mod NetworkLinkHalves
+pub mod NetworkLinker
+pub mod NetworkWritingHalf

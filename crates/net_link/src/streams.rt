@@ -1,5 +1,5 @@
 ghost use Rattle.std.specs.Prelude.{◌≡◌, IfOk};
-ghost use Rattle.net_link.specs.Halves.{new_in, new_out};
+ghost use Rattle.net_link.specs.NetworkLinkHalves.{new_in, new_out};
 
 use crate::tcp_in::TcpIn;
 use crate::tcp_out::TcpOut;

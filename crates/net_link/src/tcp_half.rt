@@ -1,6 +1,6 @@
 ghost use Rattle.std.specs.Prelude.{◌≡◌, ◌<◌, length};
-ghost use Rattle.sock_io.specs.Link.{FinishStep, PutStep, ReadyStep};
-ghost use Rattle.net_link.specs.Writing.{tcp_half};
+ghost use Rattle.sock_io.specs.LinkHalves.{FinishStep, PutStep, ReadyStep};
+ghost use Rattle.net_link.specs.NetworkWritingHalf.{tcp_half};
 
 use crate::tcp_out::TcpOut;
 use sock_io::{Out, Put, Ready, Shaped};

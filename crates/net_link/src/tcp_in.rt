@@ -1,6 +1,6 @@
 ghost use Rattle.std.specs.Prelude.{◌≡◌, ◌≢◌, ◌++◌, ◌∷◌, ◌<◌, [], true, length};
-ghost use Rattle.sock_io.specs.Link.{TakeStep, given_of, of_take};
-ghost use Rattle.net_link.specs.Halves.{new_in, tcp_in};
+ghost use Rattle.sock_io.specs.LinkHalves.{TakeStep, given_of, of_take};
+ghost use Rattle.net_link.specs.NetworkLinkHalves.{new_in, tcp_in};
 
 use crate::moving::read_some;
 use ghosts::Ghosts;
@@ -25,8 +25,8 @@ pub struct TcpIn {
 
 impl Model for TcpIn {
     ghost use Rattle.std.specs.Prelude.{map};
-    ghost use Rattle.sock_io.specs.Link.{of_take};
-    ghost use Rattle.net_link.specs.Halves.{TcpInState};
+    ghost use Rattle.sock_io.specs.LinkHalves.{of_take};
+    ghost use Rattle.net_link.specs.NetworkLinkHalves.{TcpInState};
 
     ghost Value = { TcpInState };
 

@@ -1,9 +1,9 @@
 ghost use Rattle.std.specs.Prelude.{◌≡◌, ◌+◌, ◌≤◌, ◌<◌, ◌∷◌, ◌++◌, true, false, [], length, IfOk, IsErrOf, OnErr, Ok};
-ghost use Rattle.sock_io.specs.Causes.{OpenCause, Rose};
-ghost use Rattle.sock_io.specs.Link.{MayOpen, end_of};
-ghost use Rattle.net_link.specs.Halves.{new_in, new_out, tcp_in};
-ghost use Rattle.net_link.specs.Linker.{is_tcp, new_half};
-ghost use Rattle.net_link.specs.Writing.{tcp_half};
+ghost use Rattle.sock_io.specs.FaultCauses.{OpenCause, Rose};
+ghost use Rattle.sock_io.specs.LinkHalves.{MayOpen, end_of};
+ghost use Rattle.net_link.specs.NetworkLinkHalves.{new_in, new_out, tcp_in};
+ghost use Rattle.net_link.specs.NetworkLinker.{is_tcp, new_half};
+ghost use Rattle.net_link.specs.NetworkWritingHalf.{tcp_half};
 
 use crate::streams::{accept, connect};
 use crate::tcp_half::TcpHalf;
@@ -40,7 +40,7 @@ pub struct TcpLinker<N: Net<Stream = TcpStream, Listener = TcpListener> + Drop> 
 
 impl<N: Net<Stream = TcpStream, Listener = TcpListener> + Drop> Model for TcpLinker<N> {
     ghost use Rattle.std.specs.Prelude.{◌≡◌, true, length};
-    ghost use Rattle.sock_io.specs.Link.{LinkerState};
+    ghost use Rattle.sock_io.specs.LinkHalves.{LinkerState};
 
     ghost Value = { LinkerState };
 

@@ -1,6 +1,6 @@
 ghost use Rattle.std.specs.Prelude.{◌≡◌, ◌<◌, true, length};
-ghost use Rattle.sock_io.specs.Link.{FinishStep, PutStep, ReadyStep};
-ghost use Rattle.net_link.specs.Halves.{new_out, tcp_out};
+ghost use Rattle.sock_io.specs.LinkHalves.{FinishStep, PutStep, ReadyStep};
+ghost use Rattle.net_link.specs.NetworkLinkHalves.{new_out, tcp_out};
 
 use crate::moving::write_some;
 use sock_io::{Out, Put, Ready, risen};
@@ -18,7 +18,7 @@ pub struct TcpOut {
 }
 
 impl Model for TcpOut {
-    ghost use Rattle.net_link.specs.Halves.{TcpOutState};
+    ghost use Rattle.net_link.specs.NetworkLinkHalves.{TcpOutState};
 
     ghost Value = { TcpOutState };
 

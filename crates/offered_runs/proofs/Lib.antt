@@ -1,2 +1,2 @@
-pub mod Once
-pub mod Runs
+pub mod WritingHalfOnce
+pub mod OffersAlongRun

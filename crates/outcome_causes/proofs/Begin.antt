@@ -13,28 +13,28 @@ use Rattle.sock_words.specs.declared.outcome.Outcome.{Outcome}
 use Rattle.sock_model.specs.declared.marks.Mark.{Mark}
 use Rattle.sock_model.specs.declared.marks.Mark.TheVariants.{Claimed}
 use Rattle.sock_model.specs.declared.view.View.{View}
-use Rattle.sock_model.specs.Weights.{is_busy, is_claimed, is_born, is_failer, is_linked, is_tried}
-use Rattle.sock_model.specs.Layout.{tag_index, ref_index, all_words}
-use Rattle.sock_model.specs.Slots.{SlotFacts, SlotLaw, live, count}
+use Rattle.sock_model.specs.MarkWeights.{is_busy, is_claimed, is_born, is_failer, is_linked, is_tried}
+use Rattle.sock_model.specs.SocketTableLayout.{tag_index, ref_index, all_words}
+use Rattle.sock_model.specs.SocketSlotLaw.{SlotFacts, SlotLaw, live, count}
 use Rattle.sock_model.specs.References.{slot_facts}
-use Rattle.outcome_ticks.specs.program_steps.specs.slot_steps.proofs.Sums.{tally_mono}
-use Rattle.outcome_ticks.specs.program_steps.specs.slot_steps.proofs.Numbers.{live-free, life-none}
+use Rattle.outcome_ticks.specs.program_steps.specs.slot_steps.proofs.SlotWeightSums.{tally_mono}
+use Rattle.outcome_ticks.specs.program_steps.specs.slot_steps.proofs.RuleNumbers.{live-free, life-none}
 use Rattle.seat_programs.specs.declared.task.Task.{Task}
 use Rattle.seat_programs.specs.sock_message.specs.Asked.{Asked}
 use Rattle.seat_programs.specs.corr_core.specs.declared.marks.Plan.{Plan as IdPlan}
-use Rattle.seat_programs.specs.Beside.{call_at}
+use Rattle.seat_programs.specs.FoundAndChangedAside.{call_at}
 use Rattle.seat_programs.specs.Programs.{Program}
 use Rattle.seat_programs.specs.Cores.{Core, SeatState, resolved, said, next_step}
-use Rattle.seat_programs.specs.Scripts.{free_slots, beginning}
-use Rattle.seat_programs.specs.Told.{AreTasks, TaskFits, Differ}
-use Rattle.outcome_ticks.specs.program_steps.specs.Sound.{state, Sound}
-use Rattle.outcome_ticks.specs.outcome_stories.specs.Stories.{In, trace_now}
+use Rattle.seat_programs.specs.ScriptSetupToEnding.{free_slots, beginning}
+use Rattle.seat_programs.specs.Explained.{AreTasks, TaskFits, Differ}
+use Rattle.outcome_ticks.specs.program_steps.specs.SoundSeats.{state, Sound}
+use Rattle.outcome_ticks.specs.outcome_stories.specs.OperationStories.{In, trace_now}
 use Rattle.outcome_ticks.specs.outcome_stories.specs.Explains.{Way, Own, Beside, Closing, Done, ExplainsBy}
-use Rattle.outcome_ticks.specs.outcome_stories.specs.Kept.{undo, IsTraced, MayClose, IsSpoken, AreMadeNow, SeatStory, Story, IsReady}
+use Rattle.outcome_ticks.specs.outcome_stories.specs.KeptStory.{undo, IsTraced, MayClose, IsSpoken, AreMadeNow, SeatStory, Story, IsReady}
 use Rattle.outcome_ticks.specs.outcome_stories.proofs.Members.{all_in, all_of}
-use Rattle.outcome_ticks.proofs.Seats.{keeps, Less, length_said, said_else, no_claims, after_say, undo_in, undo_done}
-use Rattle.outcome_ticks.proofs.Ticks.{come_ready}
-use Rattle.outcome_ticks.proofs.Tasks.{Apart, InOrder, before_weaker}
+use Rattle.outcome_ticks.proofs.SeatPartOfStory.{keeps, Less, length_said, said_else, no_claims, after_say, undo_in, undo_done}
+use Rattle.outcome_ticks.proofs.TicksKeepStory.{come_ready}
+use Rattle.outcome_ticks.proofs.TableTasksDistinct.{Apart, InOrder, before_weaker}
 
 -- ## The words
 

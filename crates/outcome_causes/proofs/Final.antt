@@ -11,27 +11,27 @@ use Rattle.sock_words.specs.declared.outcome.Outcome.{Outcome}
 use Rattle.sock_model.specs.declared.chain.Heading.{Heading}
 use Rattle.sock_model.specs.declared.chain.Entry as chain
 use Rattle.sock_model.specs.declared.view.View.{View}
-use Rattle.sock_model.specs.Weights.{tally, is_claimed}
+use Rattle.sock_model.specs.MarkWeights.{tally, is_claimed}
 use Rattle.sock_model.specs.Marks.{about}
-use Rattle.sock_model.specs.Slots.{count}
+use Rattle.sock_model.specs.SocketSlotLaw.{count}
 use Rattle.sock_model.specs.References.{slot_facts}
 use Rattle.sock_model.specs.SlotRows.{marks_of}
 use Rattle.seat_programs.specs.declared.task.Task.{Task}
 use Rattle.seat_programs.specs.Programs.{Rest}
 use Rattle.seat_programs.specs.Cores.{Core, SeatState}
-use Rattle.seat_programs.specs.Told.{AreTasks}
-use Rattle.outcome_ticks.specs.program_steps.specs.GoesOn.{GoesOn, HasNothing}
-use Rattle.outcome_ticks.specs.program_steps.specs.Sound.{state, Sound, AllRest}
-use Rattle.outcome_ticks.specs.outcome_stories.specs.Stories.{Entry, Event, In, trace_of}
+use Rattle.seat_programs.specs.Explained.{AreTasks}
+use Rattle.outcome_ticks.specs.program_steps.specs.ProgramGoesOn.{GoesOn, HasNothing}
+use Rattle.outcome_ticks.specs.program_steps.specs.SoundSeats.{state, Sound, AllRest}
+use Rattle.outcome_ticks.specs.outcome_stories.specs.OperationStories.{Entry, Event, In, trace_of}
 use Rattle.outcome_ticks.specs.outcome_stories.specs.Explains.{Way, Done, IsExplainedBy, Tells, swapped}
-use Rattle.outcome_ticks.specs.outcome_stories.specs.Causes.{Asks}
-use Rattle.outcome_ticks.specs.outcome_stories.specs.Kept.{IsOfCall, of_sends, IsSpoken, undo, AreKept, IsOfTask, EndsIn, AreMade, AreMadeNow, SeatAt, Story}
+use Rattle.outcome_ticks.specs.outcome_stories.specs.StoryStepCauses.{Asks}
+use Rattle.outcome_ticks.specs.outcome_stories.specs.KeptStory.{IsOfCall, of_sends, IsSpoken, undo, AreKept, IsOfTask, EndsIn, AreMade, AreMadeNow, SeatAt, Story}
 use Rattle.outcome_ticks.specs.outcome_stories.proofs.Members.{all_in, all_of, get_within}
-use Rattle.outcome_ticks.proofs.Seats.{Less, undo_before, undo_done, from_undo}
-use Rattle.outcome_ticks.proofs.Tasks.{sorted_of, same_some}
-use Rattle.outcome_ticks.proofs.Ticks.{get_of}
-use Rattle.outcome_ticks.proofs.Accepting.{all_append}
-use Rattle.seat_programs.specs.corr_core.proofs.Notes.{at_length}
+use Rattle.outcome_ticks.proofs.SeatPartOfStory.{Less, undo_before, undo_done, from_undo}
+use Rattle.outcome_ticks.proofs.TableTasksDistinct.{sorted_of, same_some}
+use Rattle.outcome_ticks.proofs.TicksKeepStory.{get_of}
+use Rattle.outcome_ticks.proofs.ClaimAndAcceptedMessages.{all_append}
+use Rattle.seat_programs.specs.corr_core.proofs.NoteSums.{at_length}
 
 -- of tasks done, the latest first, each has a higher number than those behind it
 abbrev pub Falls : List Done → Type 0

@@ -3,27 +3,27 @@ use Rattle.std.proofs.Common.{◌≡◌, ◌≢◌, ℕ, ◌+◌, ◌%◌, ◌<�
 use Rattle.std.specs.Prelude.{slice_index}
 use Rattle.sock_words.specs.declared.plain.Plan.{Plan}
 use Rattle.sock_model.specs.declared.view.View.{View}
-use Rattle.sock_model.specs.Layout.{request_index}
-use Rattle.sock_model.specs.Slots.{SlotLaw, live}
+use Rattle.sock_model.specs.SocketTableLayout.{request_index}
+use Rattle.sock_model.specs.SocketSlotLaw.{SlotLaw, live}
 use Rattle.sock_model.specs.References.{slot_facts}
-use Rattle.outcome_ticks.specs.program_steps.specs.slot_steps.proofs.Clauses.{taken_for}
-use Rattle.outcome_ticks.specs.program_steps.specs.slot_steps.proofs.Numbers.{life_le}
+use Rattle.outcome_ticks.specs.program_steps.specs.slot_steps.proofs.SlotLawClauses.{taken_for}
+use Rattle.outcome_ticks.specs.program_steps.specs.slot_steps.proofs.RuleNumbers.{life_le}
 use Rattle.seat_programs.specs.declared.task.Task.{Task}
-use Rattle.seat_programs.specs.Calls.{ClaimRequest}
+use Rattle.seat_programs.specs.TableSteps.{ClaimRequest}
 use Rattle.seat_programs.specs.Cores.{Core}
-use Rattle.seat_programs.specs.Told.{AreTasks}
-use Rattle.outcome_ticks.specs.program_steps.specs.GoesOn.{GoesOn, HasNothing}
-use Rattle.outcome_ticks.specs.program_steps.specs.Sound.{state, Sound, AllRest}
-use Rattle.outcome_ticks.specs.outcome_stories.specs.Stories.{Event, In}
+use Rattle.seat_programs.specs.Explained.{AreTasks}
+use Rattle.outcome_ticks.specs.program_steps.specs.ProgramGoesOn.{GoesOn, HasNothing}
+use Rattle.outcome_ticks.specs.program_steps.specs.SoundSeats.{state, Sound, AllRest}
+use Rattle.outcome_ticks.specs.outcome_stories.specs.OperationStories.{Event, In}
 use Rattle.outcome_ticks.specs.outcome_stories.specs.Explains.{step}
-use Rattle.outcome_ticks.specs.outcome_stories.specs.Kept.{StaysUsed, Story}
-use Rattle.outcome_ticks.proofs.Sending.{Within}
-use Rattle.outcome_ticks.proofs.Broken.{good_more}
-use Rattle.outcome_ticks.proofs.Events.{event}
+use Rattle.outcome_ticks.specs.outcome_stories.specs.KeptStory.{StaysUsed, Story}
+use Rattle.outcome_ticks.proofs.SendingExplained.{Within}
+use Rattle.outcome_ticks.proofs.BrokenLinksAdded.{good_more}
+use Rattle.outcome_ticks.proofs.EventsOfGoodStory.{event}
 use Rattle.outcome_causes.proofs.Final.{at_there, idle, final}
-use Rattle.outcome_causes.proofs.Lives.{World}
+use Rattle.outcome_causes.proofs.LivesByTask.{World}
 use Rattle.outcome_ticks.specs.outcome_stories.proofs.Delivered.{orders_of, AreQuiet, requests_used}
-use Rattle.seat_programs.specs.corr_core.proofs.Notes.{at_length}
+use Rattle.seat_programs.specs.corr_core.proofs.NoteSums.{at_length}
 
 -- no view has anything to do
 pub quiet : (p : Plan) (c : Core) (vs : List View) → Sound p c vs → AllRest c → AreQuiet vs

@@ -11,8 +11,8 @@ use Rattle.brpc_model.specs.Order.{IsCut}
 use Rattle.sock_model.specs.declared.chain.Entry.{Entry}
 use Rattle.sock_model.specs.Entries.{on}
 use Rattle.sock_model.specs.Deliveries.{whole, Taken}
-use Rattle.seat_programs.specs.Runs.{from_to}
-use Rattle.seat_programs.specs.ToldCalls.{Accepted, bytes_of, IsTaken}
+use Rattle.seat_programs.specs.ScheduledRuns.{from_to}
+use Rattle.seat_programs.specs.ExplainedCalls.{Accepted, bytes_of, IsTaken}
 
 module _ (operation attempt : Entry → ℕ) where
   abbrev accepted_of : Entry → Accepted

@@ -1,21 +1,21 @@
 -- What a step adds to the marks of its seat that stay.
 use Rattle.std.proofs.Common.{◌≡◌, ℕ, ◌+◌, ◌-◌, ◌%◌, ◌<◌, Bool, true, false, cond, eqb, List, ◌∷◌, refl, ap, ◌∙◌, arith, nat_lt}
 use Rattle.sock_words.specs.declared.plain.Plan.{Plan}
-use Rattle.sock_words.specs.Words.{socket_id_version, socket_id_slot, vref_version, vref_nref}
+use Rattle.sock_words.specs.PackedWords.{socket_id_version, socket_id_slot, vref_version, vref_nref}
 use Rattle.sock_model.specs.declared.marks.Mark.{Mark}
 use Rattle.sock_model.specs.declared.marks.Mark.TheVariants.{Claimed, Recycling, Hold, Probe, Zero, Coding, Tried, Known, Born, Saw, Failer, Stored, Told, Freer, Linked, Met}
 use Rattle.sock_model.specs.declared.marks.SlotMark.{SlotMark}
 use Rattle.sock_model.specs.declared.view.View.{View}
 use Rattle.sock_model.specs.declared.view.Hand.{Hand}
-use Rattle.sock_model.specs.Weights.{is_probe, is_hold, is_stage, is_recycling, is_zero, is_coding, is_born, is_failer, is_linked, is_tried}
+use Rattle.sock_model.specs.MarkWeights.{is_probe, is_hold, is_stage, is_recycling, is_zero, is_coding, is_born, is_failer, is_linked, is_tried}
 use Rattle.sock_model.specs.Marks.{about, at, without_at}
 use Rattle.sock_model.specs.SlotRows.{marks_of, back, subbed, recycled}
-use Rattle.program_walks.specs.slot_steps.proofs.Slots.{zero_is, hold_is, probe_is, stage_is, any_recycled}
-use Rattle.program_walks.specs.sock_steps.proofs.Quiet.{less_without, more_without}
-use Rattle.seat_programs.specs.Calls.{TableStep, ClaimSlot, CreateLife, AddRef, SubRef, SetOdd, Recycle, FreeSlot, StoreLink, ResetHead, ClearCode, StoreCode}
+use Rattle.program_walks.specs.slot_steps.proofs.ReferenceStepsKeepSlot.{zero_is, hold_is, probe_is, stage_is, any_recycled}
+use Rattle.program_walks.specs.sock_steps.proofs.SumsAsMarksChange.{less_without, more_without}
+use Rattle.seat_programs.specs.TableSteps.{TableStep, ClaimSlot, CreateLife, AddRef, SubRef, SetOdd, Recycle, FreeSlot, StoreLink, ResetHead, ClearCode, StoreCode}
 use Rattle.seat_programs.specs.StepTables.{row}
 use Rattle.program_walks.specs.program_steps.proofs.Leaves.{is_noting, noting_marks}
-use Rattle.outcome_stories.specs.Stories.{adds}
+use Rattle.outcome_stories.specs.OperationStories.{adds}
 use Rattle.outcome_stories.proofs.Tests.{split}
 use Rattle.sock_words.specs.Totals.{total}
 

@@ -11,23 +11,23 @@ use Rattle.sock_model.specs.declared.chain.Claim.{Claim}
 use Rattle.sock_model.specs.declared.chain.Entry.{Entry}
 use Rattle.sock_model.specs.declared.chain.Right.{Right}
 use Rattle.sock_model.specs.declared.view.View.{View}
-use Rattle.sock_model.specs.Memory.{Memory}
-use Rattle.sock_model.specs.Tokens.{Tokens}
+use Rattle.sock_model.specs.ChainMemory.{Memory}
+use Rattle.sock_model.specs.ChainTokens.{Tokens}
 use Rattle.sock_model.specs.Chains.{Chains}
-use Rattle.sock_model.specs.Layout.{request_index}
+use Rattle.sock_model.specs.SocketTableLayout.{request_index}
 use Rattle.sock_model.specs.Entries.{on, uses, count_up}
-use Rattle.sock_model.specs.Reads.{tokens, rights_on, claims_of}
-use Rattle.sock_model.specs.Requests.{free_phase, claimed_phase, used_phase, retired_phase}
-use Rattle.sock_model.specs.Lawful.{Lawful}
-use Rattle.sock_model.specs.Links.{Failed}
-use Rattle.program_walks.specs.chain_steps.proofs.Frames.{no_token}
+use Rattle.sock_model.specs.ChainLawReads.{tokens, rights_on, claims_of}
+use Rattle.sock_model.specs.RequestStates.{free_phase, claimed_phase, used_phase, retired_phase}
+use Rattle.sock_model.specs.LawfulSockets.{Lawful}
+use Rattle.sock_model.specs.LinksInSlots.{Failed}
+use Rattle.program_walks.specs.chain_steps.proofs.UntouchedByChainSteps.{no_token}
 use Rattle.program_walks.specs.chain_steps.proofs.Settles.{all_placed}
-use Rattle.program_walks.specs.chain_steps.proofs.Totals.{log_full}
+use Rattle.program_walks.specs.chain_steps.proofs.LogTotals.{log_full}
 use Rattle.program_walks.specs.sock_steps.proofs.Maps.{gather_nil}
 use Rattle.seat_programs.specs.Cores.{Core}
-use Rattle.seat_programs.specs.ToldCalls.{Accepted, Order, all_accepted}
-use Rattle.program_walks.specs.program_steps.specs.Has.{IsQuiet}
-use Rattle.program_walks.specs.program_steps.specs.Sound.{state}
+use Rattle.seat_programs.specs.ExplainedCalls.{Accepted, Order, all_accepted}
+use Rattle.program_walks.specs.program_steps.specs.WhatSeatHas.{IsQuiet}
+use Rattle.program_walks.specs.program_steps.specs.SoundSeats.{state}
 use Rattle.outcome_stories.proofs.Accepted as accepted
 
 -- ## Messages as a link accepted them

@@ -6,7 +6,7 @@ use lib.ListN.{get_elem?}
 use Rattle.atomic_table.proofs.Lists.{at_set}
 use Rattle.seat_programs.specs.sock_message.specs.Asked.{Asked}
 use Rattle.seat_programs.specs.Asides.{Step, Found, PutCall, TakeCall, TakeBytes, Taking, Bytes}
-use Rattle.seat_programs.specs.Beside.{call_at, more_given, calls_after}
+use Rattle.seat_programs.specs.FoundAndChangedAside.{call_at, more_given, calls_after}
 use Rattle.seat_programs.specs.Cores.{Calls}
 
 abbrev pub AreCalls : (Asked → Type 0) → Calls → Type 0

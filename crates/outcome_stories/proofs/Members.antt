@@ -5,8 +5,8 @@ use Rattle.std.specs.List.{AllByRecursion}
 use mathlib.Core.Logic.{dite}
 use native.Mathlib.Decide.{ℕ_discrete}
 use Rattle.brpc_model.specs.Order.{EachBefore}
-use Rattle.outcome_stories.specs.Stories.{Entry, Event, In, trace_of}
-use Rattle.program_walks.proofs.Opening.{both_true}
+use Rattle.outcome_stories.specs.OperationStories.{Entry, Event, In, trace_of}
+use Rattle.program_walks.proofs.OpenedLivesRecorded.{both_true}
 
 module _ {A : Type 0} where
   pub in_left : (xs ys : List A) (x : A) → In x xs → In x (xs ++ ys)

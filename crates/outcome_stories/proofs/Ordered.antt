@@ -9,22 +9,22 @@ use Rattle.sock_model.specs.declared.chain.Entry.{Entry}
 use Rattle.sock_model.specs.declared.home.Home.{Home}
 use Rattle.sock_model.specs.declared.home.Home.TheVariants.{Link}
 use Rattle.sock_model.specs.declared.view.View.{View}
-use Rattle.sock_model.specs.Memory.{Memory}
-use Rattle.sock_model.specs.Tokens.{Tokens}
+use Rattle.sock_model.specs.ChainMemory.{Memory}
+use Rattle.sock_model.specs.ChainTokens.{Tokens}
 use Rattle.sock_model.specs.Chains.{Chains}
-use Rattle.sock_model.specs.Layout.{place_index}
+use Rattle.sock_model.specs.SocketTableLayout.{place_index}
 use Rattle.sock_model.specs.Entries.{on}
 use Rattle.sock_model.specs.Deliveries.{no_place, one_place}
-use Rattle.sock_model.specs.Reads.{as_link, took_of, shown, link_home}
-use Rattle.sock_model.specs.Lawful.{Lawful}
-use Rattle.program_walks.specs.chain_steps.proofs.Lists.{Distinct, distinct_filter, at_length}
-use Rattle.program_walks.specs.chain_steps.proofs.Frames.{in_log}
+use Rattle.sock_model.specs.ChainLawReads.{as_link, took_of, shown, link_home}
+use Rattle.sock_model.specs.LawfulSockets.{Lawful}
+use Rattle.program_walks.specs.chain_steps.proofs.TicketLists.{Distinct, distinct_filter, at_length}
+use Rattle.program_walks.specs.chain_steps.proofs.UntouchedByChainSteps.{in_log}
 use Rattle.program_walks.specs.chain_steps.proofs.Settles.{shown_as}
 use Rattle.seat_programs.specs.Cores.{Core, link_place, lies_at}
-use Rattle.seat_programs.specs.Runs.{from_to}
-use Rattle.seat_programs.specs.Scripts.{taken_by, took_at_home}
-use Rattle.seat_programs.specs.ToldCalls.{Accepted, label, IsTaken, AreOrders}
-use Rattle.program_walks.specs.program_steps.specs.Sound.{state}
+use Rattle.seat_programs.specs.ScheduledRuns.{from_to}
+use Rattle.seat_programs.specs.ScriptSetupToEnding.{taken_by, took_at_home}
+use Rattle.seat_programs.specs.ExplainedCalls.{Accepted, label, IsTaken, AreOrders}
+use Rattle.program_walks.specs.program_steps.specs.SoundSeats.{state}
 use Rattle.program_walks.specs.sock_runs.proofs.HandTicks.{AtHome}
 use Rattle.outcome_stories.proofs.Accepted as accepted
 use Rattle.outcome_stories.proofs.Delivered.{accepted_of, accepted_at, accepted_there, orders_of, AreQuiet, places_all}

@@ -1,7 +1,7 @@
 -- A program that says an outcome of each task in order, or has its message accepted, each explained by the steps that were made for it.
 use Rattle.std.specs.Prelude.{ℕ, ◌+◌, ◌-◌, ◌%◌, ◌==◌, ◌≡◌, ◌≢◌, ◌<◌, ◌⊎◌, Bool, true, false, if◌then◌else◌, List, [], ◌∷◌, Option, Some, None}
 use Rattle.std.specs.List.{AllByRecursion, filter}
-use Rattle.sock_words.specs.Words.{socket_id, socket_id_version, socket_id_slot, vref_version, vref_nref}
+use Rattle.sock_words.specs.PackedWords.{socket_id, socket_id_version, socket_id_slot, vref_version, vref_nref}
 use Rattle.sock_words.specs.declared.outcome.Outcome.{Outcome}
 use Rattle.sock_words.specs.declared.outcome.Outcome.TheVariants.{Opened, SlotsFull, Unopened, Gone, Full, Held, Freed, Kept, NotHeld, Failed, Already}
 use Rattle.seat_programs.specs.sock_io.specs.declared.link.Put.{Put}
@@ -10,17 +10,17 @@ use Rattle.seat_programs.specs.sock_io.specs.declared.link.Ready.{Ready}
 use Rattle.seat_programs.specs.sock_io.specs.declared.link.Ready.TheVariants as asks
 use Rattle.sock_model.specs.declared.chain.Heading.{Heading}
 use Rattle.sock_model.specs.declared.marks.Mark.TheVariants.{Hold}
-use Rattle.sock_model.specs.Weights.{is_hold}
+use Rattle.sock_model.specs.MarkWeights.{is_hold}
 use Rattle.seat_programs.specs.declared.task.Op.{Op}
 use Rattle.seat_programs.specs.declared.task.Op.TheVariants as ops
 use Rattle.seat_programs.specs.declared.task.Task.{Task}
-use Rattle.seat_programs.specs.Calls.{TableStep, ClaimSlot, CreateLife, AddRef, SubRef, SetOdd, Recycle, StoreName, LoadName, LookWord, FindLink, ClaimRequest, PutMessage, Unconnect, SwapHead}
+use Rattle.seat_programs.specs.TableSteps.{TableStep, ClaimSlot, CreateLife, AddRef, SubRef, SetOdd, Recycle, StoreName, LoadName, LookWord, FindLink, ClaimRequest, PutMessage, Unconnect, SwapHead}
 use Rattle.seat_programs.specs.Programs.{Program, Do, Say, Sent, Rest, fail_outcome, TakeMessage, TakeHome, PutHome, PutBytes, AskReady, Write, Aside, Round, Keep, Retries}
 use Rattle.seat_programs.specs.Asides.{Step, Found, PutCall, TakeCall}
-use Rattle.seat_programs.specs.Heads.{Head, Exit, Opens, Decides, Deciding, HasEnded}
-use Rattle.seat_programs.specs.Sends.{heading_of}
+use Rattle.seat_programs.specs.LoopHeads.{Head, Exit, Opens, Decides, Deciding, HasEnded}
+use Rattle.seat_programs.specs.SendAndWritePrograms.{heading_of}
 use Rattle.program_walks.specs.program_steps.specs.Writes.{holder_of}
-use Rattle.outcome_stories.specs.Stories.{Entry, In}
+use Rattle.outcome_stories.specs.OperationStories.{Entry, In}
 
 abbrev pub step : TableStep → ℕ → Entry
 step call found = record { call = call; found = found }

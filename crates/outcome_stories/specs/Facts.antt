@@ -10,26 +10,26 @@ use Rattle.brpc_model.specs.Items.{Item}
 use Rattle.brpc_model.specs.Operations.{Turn}
 use Rattle.brpc_model.specs.Order.{EachBefore}
 use Rattle.seat_programs.specs.corr_core.specs.Word.{parts}
-use Rattle.seat_programs.specs.corr_core.specs.Decisions.{ends_call}
-use Rattle.seat_programs.specs.id_rule.specs.Lawful.{id_index}
+use Rattle.seat_programs.specs.corr_core.specs.ErrorsThatEndCalls.{ends_call}
+use Rattle.seat_programs.specs.id_rule.specs.LawfulIdTable.{id_index}
 use Rattle.seat_programs.specs.sock_message.specs.Asked.{Asked, name_of}
 use Rattle.seat_programs.specs.declared.task.Op.{Op}
 use Rattle.seat_programs.specs.declared.task.Op.TheVariants as ops
 use Rattle.seat_programs.specs.declared.task.Task.{Task}
 use Rattle.seat_programs.specs.Asides.{PutCall}
-use Rattle.seat_programs.specs.Beside.{call_at}
-use Rattle.seat_programs.specs.Calls.{TableStep, CreateLife}
-use Rattle.seat_programs.specs.Drops.{call_in}
-use Rattle.seat_programs.specs.Heads.{Decides, Unlocks}
+use Rattle.seat_programs.specs.FoundAndChangedAside.{call_at}
+use Rattle.seat_programs.specs.TableSteps.{TableStep, CreateLife}
+use Rattle.seat_programs.specs.SlotFreedByDrop.{call_in}
+use Rattle.seat_programs.specs.LoopHeads.{Decides, Unlocks}
 use Rattle.seat_programs.specs.Programs.{Program, Aside, Round}
 use Rattle.seat_programs.specs.Cores.{Calls, Core}
 use Rattle.seat_programs.specs.Ticks.{Moment, quiet, ticked, broken_in}
 use Rattle.seat_programs.specs.Tasks.{plan_of}
-use Rattle.seat_programs.specs.Told.{IsTask, Became, Made, IsFail}
-use Rattle.seat_programs.specs.Scripts.{all_tasks, opened, ending, set_up, played, IsRunWithCalls}
-use Rattle.seat_programs.specs.ToldCalls.{Order, Fixed, SeeksName, AreOrders, StandsOn, OutcomeCause, WhyAgain, IsSent, InOwnOrder, IsFailing}
+use Rattle.seat_programs.specs.Explained.{IsTask, Became, Made, IsFail}
+use Rattle.seat_programs.specs.ScriptSetupToEnding.{all_tasks, opened, ending, set_up, played, IsRunWithCalls}
+use Rattle.seat_programs.specs.ExplainedCalls.{Order, Fixed, SeeksName, AreOrders, StandsOn, OutcomeCause, WhyAgain, IsSent, InOwnOrder, IsFailing}
 use Rattle.outcome_stories.specs.Explains.{is_plain, plain_tasks}
-use Rattle.outcome_stories.specs.Losses.{closed_at}
+use Rattle.outcome_stories.specs.LinkLosses.{closed_at}
 
 -- ## What a tick shows
 

@@ -1,8 +1,8 @@
-pub mod Stories
+pub mod OperationStories
 pub mod Explains
-pub mod Causes
-pub mod Kept
-pub mod Losses
+pub mod StoryStepCauses
+pub mod KeptStory
+pub mod LinkLosses
 pub mod TaskCauses
 pub mod PlainTasks
 pub mod Facts

@@ -5,7 +5,7 @@ use Rattle.seat_programs.specs.declared.task.Op.{Op}
 use Rattle.seat_programs.specs.declared.task.Op.TheVariants as ops
 use Rattle.seat_programs.specs.declared.task.Task.{Task}
 use Rattle.seat_programs.specs.Tasks.{opens}
-use Rattle.seat_programs.specs.Scripts.{all_tasks}
+use Rattle.seat_programs.specs.ScriptSetupToEnding.{all_tasks}
 use Rattle.outcome_stories.specs.Explains.{plain_tasks}
 
 abbrev pub no_tasks : List Task

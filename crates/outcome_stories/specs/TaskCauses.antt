@@ -2,17 +2,17 @@
 use Rattle.std.specs.Prelude.{ℕ, ◌-◌, ◌%◌, ◌≡◌, ◌≢◌, ◌<◌, ◌≤◌, ◌⊎◌, List, length, slice_get, Option, Some, None, Contains}
 use Rattle.std.specs.List.{AllByRecursion}
 use Rattle.sock_words.specs.declared.plain.Plan.{Plan}
-use Rattle.sock_words.specs.Words.{vref_version, vref_nref}
+use Rattle.sock_words.specs.PackedWords.{vref_version, vref_nref}
 use Rattle.sock_words.specs.declared.outcome.Outcome.{Outcome}
 use Rattle.sock_words.specs.declared.outcome.Outcome.TheVariants.{Freed, Kept}
 use Rattle.seat_programs.specs.declared.task.Op.{Op}
 use Rattle.seat_programs.specs.declared.task.Op.TheVariants as ops
-use Rattle.seat_programs.specs.Calls.{TableStep, SubRef, Recycle}
+use Rattle.seat_programs.specs.TableSteps.{TableStep, SubRef, Recycle}
 use Rattle.brpc_model.specs.Order.{EachBefore}
 use Rattle.seat_programs.specs.declared.task.Task.{Task}
-use Rattle.seat_programs.specs.Told.{IsTask, Became, Made, IsFail, FoundNone, WasFailed, HasLife, OnSockets, WhyOnSockets}
-use Rattle.seat_programs.specs.ToldCalls.{Accepted, Order, StandsAt, all_accepted}
-use Rattle.outcome_stories.specs.Kept.{IsSpoken}
+use Rattle.seat_programs.specs.Explained.{IsTask, Became, Made, IsFail, FoundNone, WasFailed, HasLife, OnSockets, WhyOnSockets}
+use Rattle.seat_programs.specs.ExplainedCalls.{Accepted, Order, StandsAt, all_accepted}
+use Rattle.outcome_stories.specs.KeptStory.{IsSpoken}
 
 module _ (clients : List (List Task)) (outcomes : List (Option Outcome)) where
   -- a life of the name with a version of which this holds was failed by an operation that isn't a later one of client c, or its link was one of these; or the operation is a late one

@@ -10,26 +10,26 @@ use Rattle.brpc_model.specs.Order.{EachBefore}
 use Rattle.seat_programs.specs.declared.task.Op.{Op}
 use Rattle.seat_programs.specs.declared.task.Op.TheVariants as ops
 use Rattle.seat_programs.specs.declared.task.Task.{Task}
-use Rattle.seat_programs.specs.Calls.{TableStep, LookWord, ReadNext}
+use Rattle.seat_programs.specs.TableSteps.{TableStep, LookWord, ReadNext}
 use Rattle.seat_programs.specs.Writings.{Puts, Waits, Empties, Walks}
 use Rattle.seat_programs.specs.Programs.{Program, Do, Write, Aside, Round}
 use Rattle.seat_programs.specs.corr_core.specs.Word.{parts, code_of}
-use Rattle.seat_programs.specs.corr_core.specs.Decisions.{ends_call}
+use Rattle.seat_programs.specs.corr_core.specs.ErrorsThatEndCalls.{ends_call}
 use Rattle.seat_programs.specs.Asides.{PutCall}
-use Rattle.seat_programs.specs.Heads.{Head, Exit, HasEnded, Unlocks, Decides, Locks, Opens}
-use Rattle.seat_programs.specs.Posts.{end_id, unlocked}
-use Rattle.seat_programs.specs.Rounds.{round, first_step}
+use Rattle.seat_programs.specs.LoopHeads.{Head, Exit, HasEnded, Unlocks, Decides, Locks, Opens}
+use Rattle.seat_programs.specs.PostPrograms.{end_id, unlocked}
+use Rattle.seat_programs.specs.LoopRounds.{round, first_step}
 use Rattle.std.specs.Prelude.{Bool, true, false, if◌then◌else◌, ◌+◌}
 use Rattle.seat_programs.specs.Cores.{Core, SeatState}
-use Rattle.seat_programs.specs.Drops.{call_in, next_call, IsAt}
-use Rattle.seat_programs.specs.Told.{AreTasks}
-use Rattle.outcome_stories.specs.Stories.{Entry, Event, In, trace_of}
+use Rattle.seat_programs.specs.SlotFreedByDrop.{call_in, next_call, IsAt}
+use Rattle.seat_programs.specs.Explained.{AreTasks}
+use Rattle.outcome_stories.specs.OperationStories.{Entry, Event, In, trace_of}
 use Rattle.outcome_stories.specs.Explains.{Way, Own, IsLoopOf, Explains, Done, IsExplainedBy, IsSend}
-use Rattle.outcome_stories.specs.Kept.{AreKept, SeatAt, undo}
+use Rattle.outcome_stories.specs.KeptStory.{AreKept, SeatAt, undo}
 use Rattle.outcome_stories.proofs.Members.{all_in, contains_in}
-use Rattle.outcome_ticks.proofs.Seats.{Less, undo_todo, from_undo}
-use Rattle.outcome_ticks.proofs.Tasks.{sorted_of, same_some}
-use Rattle.sock_words.specs.Words.{ticket_request, id_slot}
+use Rattle.outcome_ticks.proofs.SeatPartOfStory.{Less, undo_todo, from_undo}
+use Rattle.outcome_ticks.proofs.TableTasksDistinct.{sorted_of, same_some}
+use Rattle.sock_words.specs.PackedWords.{ticket_request, id_slot}
 
 -- the next step on a word is the first of the next round
 -- a program of the tasks waits for no `open`

@@ -3,28 +3,28 @@ use Rattle.std.proofs.Common.{◌≡◌, ◌≢◌, ℕ, zero, suc, ◌-◌, ◌
 use Rattle.std.proofs.lemmas.Bool.{true≢false}
 use Rattle.std.specs.Prelude.{Option, Some, slice_get, Contains}
 use Rattle.std.specs.List.{AllByRecursion}
-use Rattle.sock_words.specs.Words.{vref_version}
+use Rattle.sock_words.specs.PackedWords.{vref_version}
 use Rattle.sock_words.specs.declared.plain.Plan.{Plan}
 use Rattle.sock_words.specs.declared.outcome.Outcome.{Outcome}
 use Rattle.sock_words.specs.declared.outcome.Outcome.TheVariants.{Opened, SlotsFull, Unopened, Gone, Full, Held, Failed, Already}
-use Rattle.brpc_model.proofs.Leads.{drop_leads}
+use Rattle.brpc_model.proofs.CauseLeads.{drop_leads}
 use Rattle.seat_programs.specs.sock_message.specs.Asked.{Asked, name_of}
 use Rattle.seat_programs.specs.declared.task.Op.{Op}
 use Rattle.seat_programs.specs.declared.task.Op.TheVariants as ops
 use Rattle.seat_programs.specs.declared.task.Task.{Task}
-use Rattle.seat_programs.specs.Told.{AreTasks, IsTask, Became, Made, OpensNone, IsNoLater, AfterHold, HasLife, IsFail}
-use Rattle.seat_programs.specs.Told as plain
-use Rattle.seat_programs.specs.ToldCalls.{Order, Fixed, StandsOn, Seeks, FoundNone, FoundFailed, MayFail, OutcomeCause}
-use Rattle.outcome_stories.specs.Causes.{Asks}
+use Rattle.seat_programs.specs.Explained.{AreTasks, IsTask, Became, Made, OpensNone, IsNoLater, AfterHold, HasLife, IsFail}
+use Rattle.seat_programs.specs.Explained as plain
+use Rattle.seat_programs.specs.ExplainedCalls.{Order, Fixed, StandsOn, Seeks, FoundNone, FoundFailed, MayFail, OutcomeCause}
+use Rattle.outcome_stories.specs.StoryStepCauses.{Asks}
 use Rattle.outcome_stories.specs.Explains.{is_plain, plain_tasks}
 use Rattle.outcome_stories.specs.Facts.{CallsFoundNone}
 use Rattle.outcome_stories.specs.Facts as facts
 use Rattle.outcome_stories.specs.PlainTasks.{no_tasks, seats_tasks}
-use Rattle.outcome_stories.specs.Stories.{In}
+use Rattle.outcome_stories.specs.OperationStories.{In}
 use Rattle.outcome_stories.specs.TaskCauses as causes
 use Rattle.outcome_stories.specs.TaskCauses.{ToldTasks}
 use Rattle.outcome_stories.proofs.Members.{all_in, all_of, in_contains, contains_in}
-use Rattle.outcome_ticks.proofs.Tasks.{one_task}
+use Rattle.outcome_ticks.proofs.TableTasksDistinct.{one_task}
 
 -- ## Tasks of seats and tasks of clients
 

@@ -5,31 +5,31 @@ use mathlib.Core.Option.{some}
 use mathlib.Core.Logic.{dite}
 use native.Mathlib.Decide.{ℕ_discrete}
 use lib.ListN.{get_elem?}
-use Rattle.sock_words.specs.Words.{socket_id_version, socket_id_slot, vref_version}
+use Rattle.sock_words.specs.PackedWords.{socket_id_version, socket_id_slot, vref_version}
 use Rattle.sock_words.specs.declared.plain.Plan.{Plan}
 use Rattle.sock_model.specs.declared.marks.Mark.{Mark}
 use Rattle.sock_model.specs.declared.marks.Mark.TheVariants.{Claimed}
 use Rattle.sock_model.specs.declared.view.View.{View}
-use Rattle.sock_model.specs.Weights.{is_busy, is_stage, is_hold, is_known, is_linked}
-use Rattle.sock_model.specs.Layout.{link_index}
+use Rattle.sock_model.specs.MarkWeights.{is_busy, is_stage, is_hold, is_known, is_linked}
+use Rattle.sock_model.specs.SocketTableLayout.{link_index}
 use Rattle.sock_model.specs.Marks.{about}
-use Rattle.sock_model.specs.Slots.{SlotLaw, live, count}
+use Rattle.sock_model.specs.SocketSlotLaw.{SlotLaw, live, count}
 use Rattle.sock_model.specs.References.{slot_facts}
 use Rattle.sock_model.specs.SlotRows.{marks_of}
-use Rattle.sock_model.specs.Lawful.{Lawful}
-use Rattle.outcome_stories.specs.program_steps.specs.slot_steps.proofs.Sums.{total_mono}
-use Rattle.outcome_stories.specs.program_steps.specs.slot_steps.proofs.Numbers.{live_le, life_is, life-in, pair_le}
-use Rattle.outcome_stories.specs.program_steps.specs.sock_steps.proofs.Places.{own_count}
-use Rattle.seat_programs.specs.Calls.{TableStep, ClaimSlot, CreateLife, AddRef, SetOdd, LoadName, LookWord, FindLink}
+use Rattle.sock_model.specs.LawfulSockets.{Lawful}
+use Rattle.outcome_stories.specs.program_steps.specs.slot_steps.proofs.SlotWeightSums.{total_mono}
+use Rattle.outcome_stories.specs.program_steps.specs.slot_steps.proofs.RuleNumbers.{live_le, life_is, life-in, pair_le}
+use Rattle.outcome_stories.specs.program_steps.specs.sock_steps.proofs.LifeLinkSlotPlaces.{own_count}
+use Rattle.seat_programs.specs.TableSteps.{TableStep, ClaimSlot, CreateLife, AddRef, SetOdd, LoadName, LookWord, FindLink}
 use Rattle.seat_programs.specs.Cores.{Core, found_at}
 use Rattle.seat_programs.specs.StepTables.{word_of}
 use Rattle.seat_programs.specs.declared.task.Task.{Task}
 use Rattle.seat_programs.specs.StepTables.{May}
-use Rattle.outcome_stories.specs.program_steps.specs.Sound.{state}
-use Rattle.outcome_stories.specs.Stories.{Entry, Event}
+use Rattle.outcome_stories.specs.program_steps.specs.SoundSeats.{state}
+use Rattle.outcome_stories.specs.OperationStories.{Entry, Event}
 use Rattle.outcome_stories.specs.Explains.{holds}
-use Rattle.outcome_stories.specs.Causes.{OddAt, WasFailed, WasGiven, FoundCause}
-use Rattle.outcome_stories.specs.Kept.{Story}
+use Rattle.outcome_stories.specs.StoryStepCauses.{OddAt, WasFailed, WasGiven, FoundCause}
+use Rattle.outcome_stories.specs.KeptStory.{Story}
 
 stage_busy : (a k : ℕ) (x : Mark) → is_stage a k x ≤ is_busy x
 stage_busy a k (Claimed n l) = pair_le a k n l

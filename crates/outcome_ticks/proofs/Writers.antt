@@ -1,26 +1,26 @@
 -- Whoever writes a link goes on, whatever its steps find and the link answers: its loops are one, whether a task's operation or an attempt of a call is at work.
 use Rattle.std.proofs.Common.{◌≡◌, ◌≢◌, ℕ, ◌+◌, ◌-◌, ◌%◌, ◌<◌, Bool, true, false, cond, eqb, eq-eqb, ne_eqb, List, ◌∷◌, length, drop, inl, refl, sym, ap, ◌∙◌, subst, arith}
 use Rattle.std.specs.Prelude.{nat_le, if◌then◌else◌}
-use Rattle.sock_words.specs.Words.{socket_id_version, socket_id_slot, vref_version, ticket_request, ticket_generation, UNCONNECTED}
+use Rattle.sock_words.specs.PackedWords.{socket_id_version, socket_id_slot, vref_version, ticket_request, ticket_generation, UNCONNECTED}
 use Rattle.seat_programs.specs.sock_io.specs.declared.link.Put.{Put}
 use Rattle.seat_programs.specs.sock_io.specs.declared.link.Put.TheVariants as puts
 use Rattle.seat_programs.specs.sock_io.specs.declared.link.Ready.{Ready}
 use Rattle.seat_programs.specs.sock_io.specs.declared.link.Ready.TheVariants as asks
 use Rattle.sock_model.specs.declared.chain.Heading.{Heading}
 use Rattle.sock_model.specs.declared.marks.Mark.TheVariants.{Hold}
-use Rattle.sock_model.specs.Weights.{is_hold}
-use Rattle.outcome_stories.specs.program_steps.specs.slot_steps.proofs.Numbers.{only-at}
+use Rattle.sock_model.specs.MarkWeights.{is_hold}
+use Rattle.outcome_stories.specs.program_steps.specs.slot_steps.proofs.RuleNumbers.{only-at}
 use Rattle.seat_programs.specs.declared.task.Task.{Task}
-use Rattle.seat_programs.specs.Calls.{TableStep, AddRef, SubRef, SetOdd, StoreCode, LookWord, LoadCode, EmptyHead, ReadNext, ReverseNext, FreeRequest, StorePlace, DropPlace}
-use Rattle.seat_programs.specs.Parts.{part}
+use Rattle.seat_programs.specs.TableSteps.{TableStep, AddRef, SubRef, SetOdd, StoreCode, LookWord, LoadCode, EmptyHead, ReadNext, ReverseNext, FreeRequest, StorePlace, DropPlace}
+use Rattle.seat_programs.specs.BufferParts.{part}
 use Rattle.seat_programs.specs.Writings.{Holder, Writing, Puts, Waits, Empties, Walks}
 use Rattle.seat_programs.specs.Programs.{Program, Do, TakeMessage, TakeHome, PutBytes, Write, LAST_GENERATION}
-use Rattle.seat_programs.specs.Sends.{freed, one_more, passed_telling, tell_drop, placed, dropped, link_failed, put_answered, ready_answered, block, first_put}
+use Rattle.seat_programs.specs.SendAndWritePrograms.{freed, one_more, passed_telling, tell_drop, placed, dropped, link_failed, put_answered, ready_answered, block, first_put}
 use Rattle.outcome_stories.specs.program_steps.specs.Writes.{holder_of}
-use Rattle.outcome_stories.specs.Stories.{Entry, In}
+use Rattle.outcome_stories.specs.OperationStories.{Entry, In}
 use Rattle.outcome_stories.specs.Explains.{Way, Done, ExplainsBy, holds, holds_behind, step, broken_put, broken_ready}
 use Rattle.outcome_stories.proofs.Tests.{split, split_eq}
-use Rattle.outcome_stories.proofs.Errors.{tell_goes}
+use Rattle.outcome_stories.proofs.SilentErrorSteps.{tell_goes}
 
 -- ## References
 

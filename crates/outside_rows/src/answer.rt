@@ -1,5 +1,5 @@
 //! What a row asks of the top call, and what that answers.
-ghost use Rattle.brpc_eng.specs.Answers.{UnusedLinker};
+ghost use Rattle.brpc_eng.specs.ProgramAnswers.{UnusedLinker};
 
 use brpc_eng::brpc;
 use sock_io::{Gate, Linker, MemSink, MemSource};

@@ -1,8 +1,8 @@
 // A link whose first put waits for a client, and a gate where this client waits for the put.
 ghost use Rattle.std.specs.Prelude.{◌≡◌, ◌<◌, ◌++◌, ◌∷◌, [], false, length};
-ghost use Rattle.sock_io.specs.Link.{end_of};
-ghost use Rattle.sock_io.specs.Shape.{shaped_out};
-ghost use Rattle.ring_link.specs.Halves.{ring_in};
+ghost use Rattle.sock_io.specs.LinkHalves.{end_of};
+ghost use Rattle.sock_io.specs.ShapeOfPuts.{shaped_out};
+ghost use Rattle.ring_link.specs.RingHalves.{ring_in};
 
 use crossbeam_utils::Backoff;
 use ring_link::{RingIn, RingLinker, RingOut, RingPeer};

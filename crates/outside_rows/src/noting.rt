@@ -1,7 +1,7 @@
 ghost use Rattle.std.specs.Prelude.{◌≡◌, ◌≢◌, ◌+◌, ◌<◌, ◌++◌, ◌∷◌, [], length};
 ghost use Rattle.std.specs.List.{AllByRecursion};
-ghost use Rattle.brpc_model.specs.Link.{LinkEnd};
-ghost use Rattle.sock_io.specs.Link.{end_of};
+ghost use Rattle.brpc_model.specs.ReturnedLink.{LinkEnd};
+ghost use Rattle.sock_io.specs.LinkHalves.{end_of};
 
 use sock_io::{Ends, LinkSpec, Linker, NoMemory, OpenFault, Out};
 use std::alloc::Global;

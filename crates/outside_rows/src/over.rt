@@ -1,5 +1,5 @@
 //! The top call over each kind of links.
-ghost use Rattle.brpc_eng.specs.Answers.{UnusedLinker};
+ghost use Rattle.brpc_eng.specs.ProgramAnswers.{UnusedLinker};
 
 use crate::answer::{Answer, Asked, answered, shown};
 use crate::crowd::is_of_crowd;

@@ -5,27 +5,27 @@ use native.Mathlib.Decide.{ℕ_discrete, dec_le}
 use mathlib.Core.Option.{Option as Maybe}
 use mathlib.Core.Option.{none, some, some-ne-none}
 use lib.ListN.{get_elem?}
-use Rattle.sock_words.specs.Words.{socket_id, socket_id_version, socket_id_slot, vref_version}
+use Rattle.sock_words.specs.PackedWords.{socket_id, socket_id_version, socket_id_slot, vref_version}
 use Rattle.sock_words.specs.declared.plain.Plan.{Plan}
 use Rattle.sock_model.specs.declared.chain.Right.{Right}
 use Rattle.sock_model.specs.declared.home.Home.{Home}
 use Rattle.sock_model.specs.declared.home.Home.TheVariants.{Link}
 use Rattle.sock_model.specs.declared.view.View.{View}
 use Rattle.sock_model.specs.declared.view.Hand.{Hand}
-use Rattle.sock_model.specs.Layout.{open_index, ref_index}
-use Rattle.sock_model.specs.Reads.{as_link, shown, carries, hands_of}
-use Rattle.sock_model.specs.Weights.{is_freer, is_linked}
-use Rattle.sock_model.specs.Slots.{count}
+use Rattle.sock_model.specs.SocketTableLayout.{open_index, ref_index}
+use Rattle.sock_model.specs.ChainLawReads.{as_link, shown, carries, hands_of}
+use Rattle.sock_model.specs.MarkWeights.{is_freer, is_linked}
+use Rattle.sock_model.specs.SocketSlotLaw.{count}
 use Rattle.sock_model.specs.References.{slot_facts}
-use Rattle.owned_ids.specs.Below.programs_allowed.specs.slot_steps.proofs.Sums.{term_le}
-use Rattle.owned_ids.specs.Below.programs_allowed.specs.slot_steps.proofs.Numbers.{only-same, life_is}
+use Rattle.owned_ids.specs.Below.programs_allowed.specs.slot_steps.proofs.SlotWeightSums.{term_le}
+use Rattle.owned_ids.specs.Below.programs_allowed.specs.slot_steps.proofs.RuleNumbers.{only-same, life_is}
 use Rattle.owned_ids.specs.Below.sock_steps.proofs.Maps.{is_none}
 use Rattle.seat_programs.specs.Cores.{Core, SeatState, link_place}
-use Rattle.owned_ids.specs.Below.programs_allowed.specs.program_steps.specs.Sound.{state, Sound, AreInHand, AreHeld, IsOfRight}
-use Rattle.owned_ids.specs.Below.programs_allowed.specs.program_steps.proofs.Bounds.{law}
+use Rattle.owned_ids.specs.Below.programs_allowed.specs.program_steps.specs.SoundSeats.{state, Sound, AreInHand, AreHeld, IsOfRight}
+use Rattle.owned_ids.specs.Below.programs_allowed.specs.program_steps.proofs.SlotWordBounds.{law}
 use Rattle.owned_ids.specs.Below.programs_allowed.specs.program_walks.proofs.LinksOpening.{OpensLink}
 use Rattle.owned_ids.specs.call_owing.proofs.EndsStill.{view_of}
-use Rattle.owned_ids.specs.call_owing.specs.Lives.{InHand, IsFinished}
+use Rattle.owned_ids.specs.call_owing.specs.LivesOfLinks.{InHand, IsFinished}
 use Rattle.owned_ids.proofs.WordsGiven.{Named}
 use Rattle.sock_words.specs.Totals.{total}
 

@@ -1,6 +1,6 @@
-pub mod Ended
+pub mod LivesPastAtEnd
 pub mod WholeOwing
-pub mod Owed
+pub mod NothingOwedAtEnd
 pub mod ClosedPast
-pub mod Saying
-pub mod Known
+pub mod OwedPremisesAtTicks
+pub mod OwedCallsAreEnded

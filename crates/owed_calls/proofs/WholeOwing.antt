@@ -5,18 +5,18 @@ use native.Mathlib.Decide.{ℕ_discrete}
 use mathlib.Core.Option.{none, some, some-ne-none}
 use lib.ListN.{get_elem?}
 use Rattle.atomic_table.proofs.Lists.{at_set, set_else}
-use Rattle.sock_words.specs.Words.{socket_id, socket_id_slot, NO_SOCKET}
+use Rattle.sock_words.specs.PackedWords.{socket_id, socket_id_slot, NO_SOCKET}
 use Rattle.sock_words.specs.declared.plain.Plan.{Plan}
 use Rattle.sock_model.specs.declared.view.View.{View}
-use Rattle.sock_model.specs.Layout.{open_index}
+use Rattle.sock_model.specs.SocketTableLayout.{open_index}
 use Rattle.corr_core.specs.declared.marks.Plan.{Plan as IdPlan}
 use Rattle.seat_programs.specs.Programs.{Rest}
-use Rattle.seat_programs.specs.Clients.{ending_of}
+use Rattle.seat_programs.specs.ClientProgram.{ending_of}
 use Rattle.seat_programs.specs.Cores.{Core, SeatState, resolved, next_step, waiting_at, with_seat}
 use Rattle.seat_programs.specs.Ticks.{Moment, run, AreAnswered}
-use Rattle.seat_programs.specs.Scripts.{is_ending}
-use Rattle.owned_ids.specs.Below.programs_allowed.specs.program_steps.specs.Sound.{state, Sound, AreFitting, views_along}
-use Rattle.owned_ids.specs.Below.programs_allowed.specs.program_steps.proofs.Bounds.{law, lives_le}
+use Rattle.seat_programs.specs.ScriptSetupToEnding.{is_ending}
+use Rattle.owned_ids.specs.Below.programs_allowed.specs.program_steps.specs.SoundSeats.{state, Sound, AreFitting, views_along}
+use Rattle.owned_ids.specs.Below.programs_allowed.specs.program_steps.proofs.SlotWordBounds.{law, lives_le}
 use Rattle.owned_ids.specs.Below.programs_allowed.specs.program_walks.proofs.Records.{next_stores}
 use Rattle.owned_ids.specs.Below.programs_allowed.specs.sock_runs.proofs.LinkTicks.{RetriesGo}
 use Rattle.owned_ids.specs.Below.programs_allowed.specs.sock_runs.proofs.Quiets.{run_seats}
@@ -29,8 +29,8 @@ use Rattle.owned_ids.specs.Below.programs_allowed.specs.program_walks.proofs.Lin
 use Rattle.owned_ids.specs.Below.programs_allowed.specs.sock_runs.proofs.LinksStay.{IsGiven}
 use Rattle.owned_ids.specs.Below.programs_allowed.specs.program_walks.proofs.ReaderSeats.{AtReader, run_reader}
 use Rattle.owned_ids.specs.call_owing.specs.Owing.{Owing}
-use Rattle.owned_ids.specs.call_owing.specs.Sound.{SoundOwing}
-use Rattle.owned_ids.specs.call_owing.specs.Lives.{id_of, life_of, AreSaying}
+use Rattle.owned_ids.specs.call_owing.specs.SoundOwing.{SoundOwing}
+use Rattle.owned_ids.specs.call_owing.specs.LivesOfLinks.{id_of, life_of, AreSaying}
 use Rattle.owing_ticks.proofs.OwingRuns.{Reaches, id_by, reach_back, run_owing}
 use Rattle.owing_ticks.proofs.OwingEnding.{owing_ending, owing_on}
 

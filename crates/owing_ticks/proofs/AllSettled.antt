@@ -5,28 +5,28 @@ use Rattle.std.specs.Prelude.{None}
 use mathlib.Core.Option.{some, some-injective}
 use lib.ListN.{get_elem?}
 use Rattle.sock_words.specs.declared.plain.Plan.{Plan}
-use Rattle.sock_model.specs.Layout.{open_index}
+use Rattle.sock_model.specs.SocketTableLayout.{open_index}
 use Rattle.corr_core.specs.Word.{Parts}
 use Rattle.corr_core.specs.Law.{Stands, vacant, retired, claimed, opened, locked, leaving}
 use Rattle.corr_core.specs.declared.marks.Plan.{Plan as IdPlan}
-use Rattle.corr_core.proofs.Notes.{at_length}
-use Rattle.seat_programs.specs.id_rule.specs.Lawful.{local}
+use Rattle.corr_core.proofs.NoteSums.{at_length}
+use Rattle.seat_programs.specs.id_rule.specs.LawfulIdTable.{local}
 use Rattle.seat_programs.specs.Asides.{Nothing, Bytes, NoMore, AtEnd, Closed, Broken}
-use Rattle.seat_programs.specs.Heads.{Head, Exit, Sought, First, Version, Locks, Joins, Opens, Reads, Discards}
+use Rattle.seat_programs.specs.LoopHeads.{Head, Exit, Sought, First, Version, Locks, Joins, Opens, Reads, Discards}
 use Rattle.seat_programs.specs.Programs.{Program, Rest, Round}
-use Rattle.seat_programs.specs.Posts.{is_first, is_sought}
+use Rattle.seat_programs.specs.PostPrograms.{is_first, is_sought}
 use Rattle.seat_programs.specs.Cores.{Core, SeatState}
 use Rattle.seat_programs.specs.Ticks.{Answer, OfTake, waits_in, is_nothing}
-use Rattle.call_owing.specs.Below.id_runs.specs.Held.{IdView, id_state}
+use Rattle.call_owing.specs.Below.id_runs.specs.HeldIdTokens.{IdView, id_state}
 use Rattle.call_owing.specs.Below.id_runs.specs.Goes.{IdGoesOn, SoundIds}
 use Rattle.call_owing.specs.Owing.{Free, Owing, InList, DutyTo, Among}
 use Rattle.call_owing.specs.Owes.{OwesOn}
-use Rattle.call_owing.specs.Sound.{id_word_of, Owed, by_seat, by_retry, by_reader, Failed, SoundOwing, AllRest, retry_tokens}
-use Rattle.call_owing.specs.Settled.{IsAtRest, WaitsAside, WaitsForOpen, OpensKnown}
-use Rattle.call_owing.proofs.End.{none_held}
-use Rattle.call_owing.specs.Below.id_runs.proofs.Loops.{and_left, and_right}
-use Rattle.call_owing.specs.Below.programs_allowed.specs.program_steps.proofs.Cases.{elem_there}
-use Rattle.sock_words.specs.Words.{call_id, id_slot, id_first}
+use Rattle.call_owing.specs.SoundOwing.{id_word_of, Owed, by_seat, by_retry, by_reader, Failed, SoundOwing, AllRest, retry_tokens}
+use Rattle.call_owing.specs.SettledSeats.{IsAtRest, WaitsAside, WaitsForOpen, OpensKnown}
+use Rattle.call_owing.proofs.EndOfRanges.{none_held}
+use Rattle.call_owing.specs.Below.id_runs.proofs.IdLoopRounds.{and_left, and_right}
+use Rattle.call_owing.specs.Below.programs_allowed.specs.program_steps.proofs.TickCases.{elem_there}
+use Rattle.sock_words.specs.PackedWords.{call_id, id_slot, id_first}
 
 not_zero : (n : ℕ) → not (n == 0) ≡ true → n ≢ 0
 not_zero n e z = true≢false (sym e ∙ ap not (eq-eqb n 0 z))

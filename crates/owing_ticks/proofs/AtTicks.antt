@@ -3,20 +3,20 @@ use Rattle.std.proofs.Common.{◌≡◌, ◌≢◌, ℕ, ◌<◌, ◌≤◌, Lis
 use Rattle.std.specs.List.{AllByRecursion}
 use mathlib.Core.Option.{some}
 use lib.ListN.{get_elem?}
-use Rattle.sock_words.specs.Words.{at_word_first, at_word_slot, call_id, id_slot}
+use Rattle.sock_words.specs.PackedWords.{at_word_first, at_word_slot, call_id, id_slot}
 use Rattle.corr_core.specs.declared.marks.Plan.{Plan as IdPlan}
-use Rattle.seat_programs.specs.id_rule.specs.Lawful as ids
+use Rattle.seat_programs.specs.id_rule.specs.LawfulIdTable as ids
 use Rattle.seat_programs.specs.Asides.{Step, Found, StoreAt, LoadAt}
 use Rattle.seat_programs.specs.Programs.{Program, Aside}
 use Rattle.seat_programs.specs.Cores.{Core, SeatState, waiting_at, with_seat}
-use Rattle.seat_programs.specs.Beside.{calls_after}
+use Rattle.seat_programs.specs.FoundAndChangedAside.{calls_after}
 use Rattle.call_owing.specs.Owing.{Owing, InList, Linked}
 use Rattle.call_owing.specs.Owes.{OwesOn}
-use Rattle.call_owing.specs.Sound.{id_word_of, at_of, OwingLaw, SoundOwing}
-use Rattle.owing_ticks.proofs.Beside.{Behind, still_keeps}
-use Rattle.owing_ticks.proofs.Stores.{stores_keep, loads_keep}
-use Rattle.owing_ticks.proofs.Seats.{Few}
-use Rattle.owing_ticks.proofs.Ticks.{After, follows}
+use Rattle.call_owing.specs.SoundOwing.{id_word_of, at_of, OwingLaw, SoundOwing}
+use Rattle.owing_ticks.proofs.OwedBehindIdSteps.{Behind, still_keeps}
+use Rattle.owing_ticks.proofs.AtWordStores.{stores_keep, loads_keep}
+use Rattle.owing_ticks.proofs.SeatRetriesBehindStep.{Few}
+use Rattle.owing_ticks.proofs.TicksKeepOwing.{After, follows}
 
 module _ (q : IdPlan) (narrow : q.slots ≤ 65536) (life : ℕ → Option ℕ) (low_links : (k s : ℕ) → life k ≡ Some s → k < 65535) (calls : List ℕ) (c : Core) (us : List Owing) (sound : SoundOwing q life calls c us) (i : ℕ) (seat : SeatState) (u : Owing) (at_seat : get_elem? c.seats i ≡ some seat) (at : get_elem? us i ≡ some u)
     (plan : c.calls.plan ≡ q) (sized : length c.calls.words ≡ ids.all_words q) (few : AllByRecursion Few (waiting_at c.calls.waiting i)) where
@@ -45,4 +45,4 @@ module _ (q : IdPlan) (narrow : q.slots ≤ 65536) (life : ℕ → Option ℕ) (
       → ((j : ℕ) → j < q.slots → id_word_of (Behind q narrow life calls c us i u sound.law at sized c.seats c.outcomes (calls_after step found c.calls)) j ≡ id_word_of c j)
       → ((o : ℕ) → o < q.operations → at_of q (Behind q narrow life calls c us i u sound.law at sized c.seats c.outcomes (calls_after step found c.calls)) o ≡ at_of q c o) → Goes step found next
   other_ticks step found next g waits words ats = follows q life calls c us sound i seat u at_seat at (next found) seat.hand c.words c.homes (calls_after step found c.calls) u
-      (still_keeps q narrow life calls c us i u sound.law at sized c.seats c.outcomes (calls_after step found c.calls) waits words ats) g (subst (λ (x : List (List Rattle.seat_programs.specs.Heads.Retry)). AllByRecursion Few (waiting_at x i)) (sym waits) few)
+      (still_keeps q narrow life calls c us i u sound.law at sized c.seats c.outcomes (calls_after step found c.calls) waits words ats) g (subst (λ (x : List (List Rattle.seat_programs.specs.LoopHeads.Retry)). AllByRecursion Few (waiting_at x i)) (sym waits) few)

@@ -8,16 +8,16 @@ use lib.ListN.{get_elem?}
 use Rattle.sock_words.specs.declared.outcome.Outcome.{Outcome}
 use Rattle.corr_core.specs.Word.{Parts, parts, attempt_of, locked_word}
 use Rattle.corr_core.specs.declared.marks.Plan.{Plan as IdPlan}
-use Rattle.seat_programs.specs.id_rule.specs.Lawful as ids
-use Rattle.seat_programs.specs.Posts.{is_first}
+use Rattle.seat_programs.specs.id_rule.specs.LawfulIdTable as ids
+use Rattle.seat_programs.specs.PostPrograms.{is_first}
 use Rattle.seat_programs.specs.Cores.{Core, SeatState, Calls, waiting_at}
 use Rattle.call_owing.specs.Owing.{Duty, Free, Looking, Owing, Among, DutyTo, duty_tokens, with_duty, freed, Posting, posts_on, leaves, has_ended}
-use Rattle.call_owing.specs.Sound.{id_word_of, at_of, retry_tokens, Past, Token, Distinct, IsAt, IsOpen, ErrorPast, Stored, OwingLaw}
-use Rattle.call_owing.proofs.Posts.{true_false}
-use Rattle.call_owing.proofs.Changes.{past_on}
-use Rattle.call_owing.proofs.Quiet.{distinct_tail}
-use Rattle.call_owing.proofs.Words.{Forward, WordStep, worded}
-use Rattle.sock_words.specs.Words.{id_slot, id_first}
+use Rattle.call_owing.specs.SoundOwing.{id_word_of, at_of, retry_tokens, Past, Token, Distinct, IsAt, IsOpen, ErrorPast, Stored, OwingLaw}
+use Rattle.call_owing.proofs.PostsAndDecisionsOwed.{true_false}
+use Rattle.call_owing.proofs.OwedMarkChanges.{past_on}
+use Rattle.call_owing.proofs.QuietIdSteps.{distinct_tail}
+use Rattle.call_owing.proofs.OneIdWordChanges.{Forward, WordStep, worded}
+use Rattle.sock_words.specs.PackedWords.{id_slot, id_first}
 
 module _ (q : IdPlan) (life : ℕ → Option ℕ) (calls : List ℕ) (c : Core) (us : List Owing) (i : ℕ) (u : Owing) (law : OwingLaw q life calls c us) (at : get_elem? us i ≡ some u) (sized : length c.calls.words ≡ ids.all_words q)
     (ss : List SeatState) (os : List (std.Option Outcome)) (s : ℕ) (inside : s < q.slots) where
@@ -134,7 +134,7 @@ module _ (q : IdPlan) (life : ℕ → Option ℕ) (calls : List ℕ) (c : Core) 
             let is_c : IsOpen c id m = subst (λ k. IsOpen c k m) (sym t.0) is_open in
             let f : (parts found).first ≡ id_first id = ap (λ (y : Parts). y.first) is ∙ ap (λ k. (id_word_of c k).first) (sym slot) ∙ is_c.0 in
             let st : (parts found).state ≡ 1 = ap (λ (y : Parts). y.state) is ∙ ap (λ k. (id_word_of c k).state) (sym slot) ∙ is_c.1 in
-            true_false (is_first (id_first id) (parts found)) (Rattle.call_owing.proofs.Posts.both_true (eqb (parts found).first (id_first id)) (Rattle.std.proofs.Common.not (eqb (parts found).state 0)) (eq-eqb (parts found).first (id_first id) f) (ap Rattle.std.proofs.Common.not (ne_eqb (parts found).state 0 (λ z. omega (arith, z, st))))) off
+            true_false (is_first (id_first id) (parts found)) (Rattle.call_owing.proofs.PostsAndDecisionsOwed.both_true (eqb (parts found).first (id_first id)) (Rattle.std.proofs.Common.not (eqb (parts found).state 0)) (eq-eqb (parts found).first (id_first id) f) (ap Rattle.std.proofs.Common.not (ne_eqb (parts found).state 0 (λ z. omega (arith, z, st))))) off
 
   -- the word as it was
   pub stays_so : (x : ℕ) → parts x ≡ id_word_of c s → Holds x

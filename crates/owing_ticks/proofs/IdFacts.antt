@@ -9,15 +9,15 @@ use Rattle.corr_core.specs.declared.marks.Plan.{Plan as IdPlan}
 use Rattle.corr_core.specs.declared.marks.Hand.{Hand}
 use Rattle.corr_core.specs.declared.marks.Hand.TheVariants.{Full}
 use Rattle.corr_core.specs.declared.marks.Token.TheVariants.{Claimed, Locked}
-use Rattle.seat_programs.specs.id_rule.specs.Lawful.{id_index, local, Lawful}
-use Rattle.seat_programs.specs.id_rule.specs.Plays.{Longer}
-use Rattle.seat_programs.specs.id_rule.proofs.Allowed as allowed
+use Rattle.seat_programs.specs.id_rule.specs.LawfulIdTable.{id_index, local, Lawful}
+use Rattle.seat_programs.specs.id_rule.specs.IdPlays.{Longer}
+use Rattle.seat_programs.specs.id_rule.proofs.AllowedIdSteps as allowed
 use Rattle.seat_programs.specs.sock_message.specs.Asked.{Asked}
-use Rattle.seat_programs.specs.Heads.{Retry}
+use Rattle.seat_programs.specs.LoopHeads.{Retry}
 use Rattle.seat_programs.specs.Cores.{Calls}
-use Rattle.call_owing.specs.Below.id_runs.specs.Held.{IdView, id_state, HasOne}
+use Rattle.call_owing.specs.Below.id_runs.specs.HeldIdTokens.{IdView, id_state, HasOne}
 use Rattle.call_owing.specs.Below.id_runs.specs.Goes.{FitsRetryId, FindsLonger}
-use Rattle.owing_ticks.proofs.Seats.{Few}
+use Rattle.owing_ticks.proofs.SeatRetriesBehindStep.{Few}
 
 -- retries that wait are of few attempts
 pub few_of : (q : IdPlan) (ws : List Retry) → AllByRecursion (FitsRetryId q) ws → AllByRecursion Few ws

@@ -1,10 +1,10 @@
 pub mod Exchanges
-pub mod Turns
-pub mod Stores
-pub mod Seats
-pub mod Ticks
-pub mod Beside
-pub mod AsideTicks
+pub mod IdTurnsKeepOwing
+pub mod AtWordStores
+pub mod SeatRetriesBehindStep
+pub mod TicksKeepOwing
+pub mod OwedBehindIdSteps
+pub mod OwedAsideTicks
 pub mod AtTicks
 pub mod MoveTicks
 pub mod IdFacts
@@ -13,4 +13,4 @@ pub mod AllSettled
 pub mod LivesFit
 pub mod OwingRuns
 pub mod OwingEnding
-pub mod Beginning
+pub mod OwedAtBeginning

@@ -2,25 +2,25 @@
 use Rattle.std.proofs.Common.{◌≡◌, ◌≢◌, ℕ, ◌%◌, ◌<◌, Bool, true, false, take, get_or, List, [], ◌∷◌, ◌++◌, Option, Some, sym, ap, ◌∙◌, subst, arith}
 use mathlib.Core.Option.{some, some-ne-none, some-injective}
 use lib.ListN.{get_elem?}
-use Rattle.sock_words.specs.Words.{socket_id_version, socket_id_slot, vref_version}
+use Rattle.sock_words.specs.PackedWords.{socket_id_version, socket_id_slot, vref_version}
 use Rattle.sock_words.specs.declared.plain.Plan.{Plan}
 use Rattle.sock_model.specs.declared.chain.Right.{Right}
 use Rattle.sock_model.specs.declared.home.Home.{Home}
 use Rattle.sock_model.specs.declared.home.Home.TheVariants.{Link, Message}
 use Rattle.sock_model.specs.declared.view.View.{View}
 use Rattle.sock_model.specs.declared.view.Hand.{Hand}
-use Rattle.sock_model.specs.Layout.{ref_index}
-use Rattle.sock_model.specs.Weights.{is_born}
-use Rattle.sock_model.specs.Slots.{count}
+use Rattle.sock_model.specs.SocketTableLayout.{ref_index}
+use Rattle.sock_model.specs.MarkWeights.{is_born}
+use Rattle.sock_model.specs.SocketSlotLaw.{count}
 use Rattle.sock_model.specs.References.{slot_facts}
-use Rattle.seat_programs.specs.Calls.{TableStep, SetOdd}
+use Rattle.seat_programs.specs.TableSteps.{TableStep, SetOdd}
 use Rattle.seat_programs.specs.Cores.{Core, found_at, words_after, first_of}
 use Rattle.seat_programs.specs.StepTables.{word_of, word_after}
 use Rattle.seat_programs.specs.StepTables.{May}
-use Rattle.call_owing.specs.Below.programs_allowed.specs.program_steps.specs.Sound.{state, Sound, AreInHand, AreHeld, IsOfRight}
-use Rattle.call_owing.specs.Below.programs_allowed.specs.sock_runs.proofs.Versions.{versions_on, odd_past, other_past, look_holds}
+use Rattle.call_owing.specs.Below.programs_allowed.specs.program_steps.specs.SoundSeats.{state, Sound, AreInHand, AreHeld, IsOfRight}
+use Rattle.call_owing.specs.Below.programs_allowed.specs.sock_runs.proofs.SlotVersionsRise.{versions_on, odd_past, other_past, look_holds}
 use Rattle.call_owing.specs.Owing.{Owing, FindsCall}
-use Rattle.call_owing.specs.Fits.{CallFits, HoldsNoMessage}
+use Rattle.call_owing.specs.OwingStepFits.{CallFits, HoldsNoMessage}
 
 -- what a seat has in hand are links
 in_hand_link : (hand : List Home) (hands : List Hand) → AreInHand hand hands → HoldsNoMessage hand

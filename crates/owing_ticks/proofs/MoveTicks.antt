@@ -15,12 +15,12 @@ use Rattle.seat_programs.specs.Programs.{Program, TakeMessage}
 use Rattle.seat_programs.specs.Cores.{Core, SeatState, waiting_at, with_seat}
 use Rattle.call_owing.specs.Owing.{Owing, with_known}
 use Rattle.call_owing.specs.Owes.{OwesOn}
-use Rattle.call_owing.specs.Sound.{Past, SoundOwing, by_seat, by_reader}
-use Rattle.call_owing.proofs.Posts.{same_further, known_further}
-use Rattle.call_owing.proofs.Changes.{set_at, past_on}
-use Rattle.call_owing.proofs.Quiet.{marked, same_marks, stored_with}
-use Rattle.owing_ticks.proofs.Seats.{Few}
-use Rattle.owing_ticks.proofs.Ticks.{After, follows}
+use Rattle.call_owing.specs.SoundOwing.{Past, SoundOwing, by_seat, by_reader}
+use Rattle.call_owing.proofs.PostsAndDecisionsOwed.{same_further, known_further}
+use Rattle.call_owing.proofs.OwedMarkChanges.{set_at, past_on}
+use Rattle.call_owing.proofs.QuietIdSteps.{marked, same_marks, stored_with}
+use Rattle.owing_ticks.proofs.SeatRetriesBehindStep.{Few}
+use Rattle.owing_ticks.proofs.TicksKeepOwing.{After, follows}
 
 module _ (q : IdPlan) (life : ℕ → Option ℕ) (calls : List ℕ) (c : Core) (us : List Owing) (sound : SoundOwing q life calls c us) (i : ℕ) (seat : SeatState) (u : Owing) (at_seat : get_elem? c.seats i ≡ some seat) (at : get_elem? us i ≡ some u)
     (few : AllByRecursion Few (waiting_at c.calls.waiting i)) where

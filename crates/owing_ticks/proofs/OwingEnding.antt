@@ -5,17 +5,17 @@ use mathlib.Core.Option.{some}
 use lib.ListN.{get_elem?}
 use Rattle.atomic_table.proofs.Lists.{set_again}
 use Rattle.corr_core.specs.declared.marks.Plan.{Plan as IdPlan}
-use Rattle.seat_programs.specs.Heads.{Retry}
+use Rattle.seat_programs.specs.LoopHeads.{Retry}
 use Rattle.seat_programs.specs.Programs.{Rest}
-use Rattle.seat_programs.specs.Clients.{ending_of}
+use Rattle.seat_programs.specs.ClientProgram.{ending_of}
 use Rattle.seat_programs.specs.Cores.{Core, SeatState, with_seat}
-use Rattle.seat_programs.specs.Scripts.{is_ending}
+use Rattle.seat_programs.specs.ScriptSetupToEnding.{is_ending}
 use Rattle.call_owing.specs.Owing.{Duty, Looking, Owing}
 use Rattle.call_owing.specs.Owes.{OwesOn}
-use Rattle.call_owing.specs.Sound.{Owed, by_seat, by_retry, by_reader, Stored, OwingLaw, SoundOwing}
-use Rattle.owing_ticks.proofs.Seats.{Few}
-use Rattle.owing_ticks.proofs.Ticks.{follows}
-use Rattle.call_owing.proofs.Clients.{ending_goes}
+use Rattle.call_owing.specs.SoundOwing.{Owed, by_seat, by_retry, by_reader, Stored, OwingLaw, SoundOwing}
+use Rattle.owing_ticks.proofs.SeatRetriesBehindStep.{Few}
+use Rattle.owing_ticks.proofs.TicksKeepOwing.{follows}
+use Rattle.call_owing.proofs.ClientsOwing.{ending_goes}
 
 module _ (q : IdPlan) (life : ℕ → Option ℕ) (calls : List ℕ) (c : Core) (us : List Owing) (sound : SoundOwing q life calls c us) where
   -- seat 0, which is at rest and no reader's, begins the ending

@@ -3,27 +3,27 @@ use Rattle.std.proofs.Common.{◌≡◌, ◌≢◌, ℕ, zero, suc, ◌+◌, ◌
 use Rattle.std.proofs.lemmas.Bool.{true≢false}
 use mathlib.Core.Option.{none, some}
 use lib.ListN.{get_elem?}
-use Rattle.sock_words.specs.Words.{socket_id, socket_id_version, socket_id_slot, NO_SOCKET}
+use Rattle.sock_words.specs.PackedWords.{socket_id, socket_id_version, socket_id_slot, NO_SOCKET}
 use Rattle.sock_words.specs.declared.plain.Plan.{Plan}
 use Rattle.sock_model.specs.declared.view.View.{View}
-use Rattle.sock_model.specs.Layout.{open_index, link_index}
-use Rattle.sock_model.specs.Weights.{is_born}
-use Rattle.sock_model.specs.Slots.{count}
+use Rattle.sock_model.specs.SocketTableLayout.{open_index, link_index}
+use Rattle.sock_model.specs.MarkWeights.{is_born}
+use Rattle.sock_model.specs.SocketSlotLaw.{count}
 use Rattle.sock_model.specs.References.{slot_facts}
 use Rattle.corr_core.specs.declared.marks.Plan.{Plan as IdPlan}
-use Rattle.corr_core.proofs.Notes.{at_length}
-use Rattle.seat_programs.specs.Calls.{TableStep, SetOdd, FindLink, LoadOpen}
+use Rattle.corr_core.proofs.NoteSums.{at_length}
+use Rattle.seat_programs.specs.TableSteps.{TableStep, SetOdd, FindLink, LoadOpen}
 use Rattle.seat_programs.specs.Asides.{Step, Found, StoreAt, TakeBytes}
 use Rattle.seat_programs.specs.Programs.{Program, Do, PutHome, Write, Aside}
 use Rattle.seat_programs.specs.Cores.{Core, SeatState, found_at}
 use Rattle.seat_programs.specs.StepTables.{word_of}
 use Rattle.seat_programs.specs.Ticks.{Answer, Moment, ticked, run, AreAnswered}
 use Rattle.seat_programs.specs.StepTables.{May}
-use Rattle.call_owing.specs.Below.programs_allowed.specs.program_steps.specs.GoesOn.{GoesOn}
-use Rattle.call_owing.specs.Below.programs_allowed.specs.program_steps.specs.Sound.{state, Sound, AreFitting, views_after, views_along}
-use Rattle.call_owing.specs.Below.programs_allowed.specs.program_steps.proofs.Cases.{goes_first, elem_there}
+use Rattle.call_owing.specs.Below.programs_allowed.specs.program_steps.specs.ProgramGoesOn.{GoesOn}
+use Rattle.call_owing.specs.Below.programs_allowed.specs.program_steps.specs.SoundSeats.{state, Sound, AreFitting, views_after, views_along}
+use Rattle.call_owing.specs.Below.programs_allowed.specs.program_steps.proofs.TickCases.{goes_first, elem_there}
 use Rattle.call_owing.specs.Below.programs_allowed.specs.sock_runs.proofs.LinkTicks.{RetriesGo}
-use Rattle.call_owing.specs.Below.programs_allowed.specs.sock_runs.proofs.Ticks.{sound_ticks}
+use Rattle.call_owing.specs.Below.programs_allowed.specs.sock_runs.proofs.TicksKeepSeatsSound.{sound_ticks}
 use Rattle.call_owing.specs.Below.programs_allowed.specs.sock_runs.proofs.Founds.{finds}
 use Rattle.call_owing.specs.Below.programs_allowed.specs.sock_runs.proofs.Quiets.{run_seats}
 use Rattle.call_owing.specs.Below.programs_allowed.specs.program_walks.proofs.Records.{loads}
@@ -32,14 +32,14 @@ use Rattle.call_owing.specs.Below.programs_allowed.specs.program_walks.proofs.Re
 use Rattle.call_owing.specs.Below.programs_allowed.specs.program_walks.proofs.OpensStay.{run_word}
 use Rattle.call_owing.specs.Below.programs_allowed.specs.sock_runs.proofs.LinksStay.{IsGiven, run_given, finds_given}
 use Rattle.call_owing.specs.Below.id_runs.specs.Goes.{SoundIds}
-use Rattle.call_owing.specs.Below.id_runs.specs.Held.{IdView}
+use Rattle.call_owing.specs.Below.id_runs.specs.HeldIdTokens.{IdView}
 use Rattle.call_owing.specs.Owing.{Owing, FindsCall, IsLifeOf}
-use Rattle.call_owing.specs.Sound.{SoundOwing}
-use Rattle.call_owing.specs.Fits.{StepFits}
-use Rattle.call_owing.specs.Lives.{id_of, life_of, OthersFit, IsSaying, AreSaying}
+use Rattle.call_owing.specs.SoundOwing.{SoundOwing}
+use Rattle.call_owing.specs.OwingStepFits.{StepFits}
+use Rattle.call_owing.specs.LivesOfLinks.{id_of, life_of, OthersFit, IsSaying, AreSaying}
 use Rattle.owing_ticks.proofs.LivesFit.{holds_links, lives_fit}
 use Rattle.owing_ticks.proofs.OwingTicks.{owing_ticks}
-use Rattle.seat_programs.specs.Rounds.{first_step}
+use Rattle.seat_programs.specs.LoopRounds.{first_step}
 
 -- ## Small facts
 

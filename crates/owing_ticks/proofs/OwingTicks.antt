@@ -13,41 +13,41 @@ use Rattle.sock_io.specs.declared.link.Ready.{Ready}
 use Rattle.sock_model.specs.declared.chain.Heading.{Heading}
 use Rattle.sock_model.specs.declared.home.Home.{Home}
 use Rattle.sock_model.specs.declared.home.Home.TheVariants.{Empty, Link, Message}
-use Rattle.sock_model.specs.Messages.{HeadedBytes}
-use Rattle.sock_model.specs.Reads.{message, link_home}
+use Rattle.sock_model.specs.UnplacedMessages.{HeadedBytes}
+use Rattle.sock_model.specs.ChainLawReads.{message, link_home}
 use Rattle.corr_core.specs.Word.{parts}
 use Rattle.corr_core.specs.declared.marks.Plan.{Plan as IdPlan}
-use Rattle.seat_programs.specs.id_rule.specs.Lawful as ids
-use Rattle.seat_programs.specs.Calls.{TableStep, TakeLink, PutLink, PutMessage}
+use Rattle.seat_programs.specs.id_rule.specs.LawfulIdTable as ids
+use Rattle.seat_programs.specs.TableSteps.{TableStep, TakeLink, PutLink, PutMessage}
 use Rattle.seat_programs.specs.Asides.{Step, Found, ClaimId, PutCall, MakeId, StoreCall, LoadCall, StoreAt, LoadAt, LoadIdWord, LockId, PostId, UnlockId, EndId, FreeId, TakeCall, TakeBytes, Taking, Bytes, Nothing, NoMore, AtEnd, Closed, Broken}
 use Rattle.seat_programs.specs.Programs.{Program, Do, TakeMessage, TakeHome, PutHome, PutBytes, AskReady, Write, Aside, Round}
-use Rattle.seat_programs.specs.Sends.{block}
-use Rattle.seat_programs.specs.Rounds.{round, first_step}
+use Rattle.seat_programs.specs.SendAndWritePrograms.{block}
+use Rattle.seat_programs.specs.LoopRounds.{round, first_step}
 use Rattle.seat_programs.specs.Cores.{Calls, Core, SeatState, homes_after, lies_at, first_of, others_of, link_place, waiting_at, with_seat, stepped}
-use Rattle.seat_programs.specs.Beside.{taking_in, at_last, more_given, found_in, calls_after}
+use Rattle.seat_programs.specs.FoundAndChangedAside.{taking_in, at_last, more_given, found_in, calls_after}
 use Rattle.seat_programs.specs.Ticks.{Answer, OfPut, OfReady, Moment, fed, with_places, onto_first, taken, with_message, with_link, with_put, with_ready, with_found, step_with, tick_with, ticked}
-use Rattle.call_owing.specs.Below.id_runs.specs.Held.{IdView, MayId}
+use Rattle.call_owing.specs.Below.id_runs.specs.HeldIdTokens.{IdView, MayId}
 use Rattle.call_owing.specs.Below.id_runs.specs.Goes.{FindsId, IdGoesOn, SoundIds}
-use Rattle.call_owing.specs.Below.id_runs.proofs.Steps.{finds_ids}
-use Rattle.call_owing.specs.Below.id_runs.proofs.Loops.{ids_round}
-use Rattle.call_owing.specs.Below.id_runs.proofs.Programs as idprograms
+use Rattle.call_owing.specs.Below.id_runs.proofs.AsideStepsKeepRule.{finds_ids}
+use Rattle.call_owing.specs.Below.id_runs.proofs.IdLoopRounds.{ids_round}
+use Rattle.call_owing.specs.Below.id_runs.proofs.IdPrograms as idprograms
 use Rattle.call_owing.specs.Owing.{Owing, FindsUnlock, Linked, takes, closes, Taken, MayCall, KnowsOwner}
 use Rattle.call_owing.specs.Owes.{OwesOn}
-use Rattle.call_owing.specs.Sound.{Past, Failed, OwingLaw, SoundOwing}
-use Rattle.call_owing.specs.Fits.{CallFits, HoldsNoMessage, StepFits, IsFittingOwing}
-use Rattle.call_owing.proofs.Quiet.{marked, dead_marks}
-use Rattle.owing_ticks.proofs.Seats.{Few}
-use Rattle.owing_ticks.proofs.Ticks.{follows, call_ticks}
-use Rattle.owing_ticks.proofs.AsideTicks.{look_ticks, lock_ticks, post_ticks, unlock_ticks, end_ticks, make_ticks}
+use Rattle.call_owing.specs.SoundOwing.{Past, Failed, OwingLaw, SoundOwing}
+use Rattle.call_owing.specs.OwingStepFits.{CallFits, HoldsNoMessage, StepFits, IsFittingOwing}
+use Rattle.call_owing.proofs.QuietIdSteps.{marked, dead_marks}
+use Rattle.owing_ticks.proofs.SeatRetriesBehindStep.{Few}
+use Rattle.owing_ticks.proofs.TicksKeepOwing.{follows, call_ticks}
+use Rattle.owing_ticks.proofs.OwedAsideTicks.{look_ticks, lock_ticks, post_ticks, unlock_ticks, end_ticks, make_ticks}
 use Rattle.owing_ticks.proofs.AtTicks.{store_ticks, load_ticks}
 use Rattle.owing_ticks.proofs.MoveTicks.{same_ticks, out_of_home, message_ticks}
-use Rattle.call_owing.proofs.Finds.{lock_finds, unlock_finds}
+use Rattle.call_owing.proofs.RetryFinds.{lock_finds, unlock_finds}
 use Rattle.owing_ticks.proofs.IdFacts.{few_of, free_there, lock_low, lock_few, lock_two, lock_longer}
-use Rattle.call_owing.proofs.Rounds.{owes_round}
-use Rattle.call_owing.proofs.Programs.{block_goes}
-use Rattle.call_owing.specs.Below.programs_allowed.specs.program_steps.proofs.Cases.{elem_there}
-pub use Rattle.call_owing.specs.Below.id_runs.proofs.Ticks.{message_there}
-use Rattle.sock_words.specs.Words.{id_slot, bit}
+use Rattle.call_owing.proofs.OwingRounds.{owes_round}
+use Rattle.call_owing.proofs.OwingPrograms.{block_goes}
+use Rattle.call_owing.specs.Below.programs_allowed.specs.program_steps.proofs.TickCases.{elem_there}
+pub use Rattle.call_owing.specs.Below.id_runs.proofs.TicksKeepIdRule.{message_there}
+use Rattle.sock_words.specs.PackedWords.{id_slot, bit}
 
 module _ (p : Plan) (q : IdPlan) (narrow : q.slots ≤ 65536) (same : q.operations ≡ p.operations) (life : ℕ → Maybe ℕ) (low_links : (k s : ℕ) → life k ≡ Some s → k < 65535) (calls : List ℕ) where
   module _ (c : Core) (us : List Owing) (sound : SoundOwing q life calls c us) (vs : List IdView) (known : SoundIds p q c vs) (i : ℕ) (seat : SeatState) (u : Owing) (at_seat : get_elem? c.seats i ≡ some seat) (at : get_elem? us i ≡ some u)
@@ -93,14 +93,14 @@ module _ (p : Plan) (q : IdPlan) (narrow : q.slots ≤ 65536) (same : q.operatio
     other_word : (x y : ℕ) → ((j : ℕ) → x ≢ ids.id_index j) → ((o : ℕ) → x ≢ ids.at_index q o) → (program : Program) → OwesOn life u program
         → Owed' (with_seat i program seat.hand c.words c.homes (record c { calls = record c.calls { words = set c.calls.words x y } }))
     other_word x y no_id no_at program g = follows q life calls c us sound i seat u at_seat at program seat.hand c.words c.homes (record c.calls { words = set c.calls.words x y }) u
-        (Rattle.owing_ticks.proofs.Beside.still_keeps q narrow life calls c us i u sound.law at sized c.seats c.outcomes (record c.calls { words = set c.calls.words x y }) refl
+        (Rattle.owing_ticks.proofs.OwedBehindIdSteps.still_keeps q narrow life calls c us i u sound.law at sized c.seats c.outcomes (record c.calls { words = set c.calls.words x y }) refl
         (λ j low. ap parts (get_or-set_other c.calls.words x (ids.id_index j) y 0 (λ e. no_id j (sym e)))) (λ o low. get_or-set_other c.calls.words x (ids.at_index q o) y 0 (λ e. no_at o (sym e)))) g few
 
     -- no word changes
     no_word : (a : Calls) → a.words ≡ c.calls.words → a.waiting ≡ c.calls.waiting → (program : Program) → OwesOn life u program → Owed' (with_seat i program seat.hand c.words c.homes (record c { calls = a }))
     no_word a words waits program g = follows q life calls c us sound i seat u at_seat at program seat.hand c.words c.homes a u
-        (Rattle.owing_ticks.proofs.Beside.still_keeps q narrow life calls c us i u sound.law at sized c.seats c.outcomes a waits
-        (λ j low. ap (λ l. parts (get_or l (ids.id_index j) 0)) words) (λ o low. ap (λ l. get_or l (ids.at_index q o) 0) words)) g (subst (λ (x : List (List Rattle.seat_programs.specs.Heads.Retry)). AllByRecursion Few (waiting_at x i)) (sym waits) few)
+        (Rattle.owing_ticks.proofs.OwedBehindIdSteps.still_keeps q narrow life calls c us i u sound.law at sized c.seats c.outcomes a waits
+        (λ j low. ap (λ l. parts (get_or l (ids.id_index j) 0)) words) (λ o low. ap (λ l. get_or l (ids.at_index q o) 0) words)) g (subst (λ (x : List (List Rattle.seat_programs.specs.LoopHeads.Retry)). AllByRecursion Few (waiting_at x i)) (sym waits) few)
 
     same_mark : (step : Step) (found : Found step) (next : Found step → Program) (v : Owing) → v ≡ u → OwesOn life v (next found) → OwesOn life u (next found)
     same_mark step found next v e g = subst (λ x. OwesOn life x (next found)) e g
@@ -120,7 +120,7 @@ module _ (p : Plan) (q : IdPlan) (narrow : q.slots ≤ 65536) (same : q.operatio
     linked_slot id n k is = ⊎_elim (λ e. e.0) (λ a. a.0) (sound.law.current id n i (
       u,
       at,
-      Rattle.call_owing.proofs.Changes.among_left id n (Rattle.call_owing.specs.Owing.duty_tokens u.duty) (Rattle.call_owing.specs.Sound.retry_tokens (waiting_at c.calls.waiting i))
+      Rattle.call_owing.proofs.OwedMarkChanges.among_left id n (Rattle.call_owing.specs.Owing.duty_tokens u.duty) (Rattle.call_owing.specs.SoundOwing.retry_tokens (waiting_at c.calls.waiting i))
           (subst (λ (d : Rattle.call_owing.specs.Owing.Duty). Rattle.call_owing.specs.Owing.Among id n (Rattle.call_owing.specs.Owing.duty_tokens d)) (sym is) (inl (refl, refl))),
     ))
 

@@ -7,38 +7,38 @@ use native.Mathlib.Decide.{ℕ_discrete}
 use mathlib.Core.Option.{Option, some, none}
 use lib.ListN.{get_elem?}
 use Rattle.sock_words.specs.declared.plain.Plan.{Plan}
-use Rattle.sock_words.specs.Words.{at_word, at_word_attempt, call_id, id_slot, id_first}
+use Rattle.sock_words.specs.PackedWords.{at_word, at_word_attempt, call_id, id_slot, id_first}
 use Rattle.sock_model.specs.declared.home.Home.{Home}
 use Rattle.sock_model.specs.declared.view.View.{View}
-use Rattle.sent_once.specs.Below.slot_steps.proofs.Sums.{term_le, total-append}
+use Rattle.sent_once.specs.Below.slot_steps.proofs.SlotWeightSums.{term_le, total-append}
 use Rattle.corr_core.specs.Word.{parts}
 use Rattle.corr_core.specs.declared.marks.Plan.{Plan as IdPlan}
-use Rattle.sent_once.specs.Below.id_runs.specs.Held.{IdView, MayId}
+use Rattle.sent_once.specs.Below.id_runs.specs.HeldIdTokens.{IdView, MayId}
 use Rattle.sent_once.specs.Below.id_runs.specs.Goes.{FindsId, SoundIds, IsFittingIds}
-use Rattle.sent_once.specs.Below.id_runs.proofs.Steps.{finds_ids}
+use Rattle.sent_once.specs.Below.id_runs.proofs.AsideStepsKeepRule.{finds_ids}
 use Rattle.seat_programs.specs.Asides.{Step, Found, PutCall, MakeId, StoreCall, StoreAt, UnlockId, TakeCall, Taking}
 use Rattle.sock_message.specs.Asked.{Asked}
-use Rattle.seat_programs.specs.Beside.{found_in, calls_after}
-use Rattle.seat_programs.specs.Calls.{TableStep, PutMessage}
-use Rattle.seat_programs.specs.Heads.{Retry}
+use Rattle.seat_programs.specs.FoundAndChangedAside.{found_in, calls_after}
+use Rattle.seat_programs.specs.TableSteps.{TableStep, PutMessage}
+use Rattle.seat_programs.specs.LoopHeads.{Retry}
 use Rattle.seat_programs.specs.Programs.{Program, Do, Say, Sent, Rest, TakeMessage, TakeHome, PutHome, PutBytes, AskReady, Aside, Keep, Retries}
 use Rattle.seat_programs.specs.Cores.{Calls, Core, SeatState, found_at, words_after, homes_after, hand_after, lies_at, first_of, others_of, link_place, resolved, still_waiting, waiting_at, next_step, with_seat}
 use Rattle.seat_programs.specs.StepTables.{word_of, word_after}
 use Rattle.seat_programs.specs.Ticks.{Moment, IsAnswered, fed, with_places, onto_first, taken, step_with, tick_with, ticked}
-use Rattle.sent_once.specs.Below.programs_allowed.specs.program_steps.specs.Sound.{Sound}
-use Rattle.sent_once.specs.Below.programs_allowed.specs.program_steps.proofs.Cases.{tick_cases, ticks_first, calls_waiting}
-use Rattle.sent_once.specs.Below.outcome_stories.specs.Stories.{In}
-use Rattle.sent_once.specs.Below.label_runs.specs.Labels.{Trial, Idle, Tries, put_behind, Kept, Storing, unlocked_trial, Labels}
-use Rattle.sent_once.specs.accept_counts.specs.Counts.{pair_of, of_retry, with_waiting, WasMade, WasNow, StoresOwn}
+use Rattle.sent_once.specs.Below.programs_allowed.specs.program_steps.specs.SoundSeats.{Sound}
+use Rattle.sent_once.specs.Below.programs_allowed.specs.program_steps.proofs.TickCases.{tick_cases, ticks_first, calls_waiting}
+use Rattle.sent_once.specs.Below.outcome_stories.specs.OperationStories.{In}
+use Rattle.sent_once.specs.Below.label_runs.specs.AttemptLabelsLeft.{Trial, Idle, Tries, put_behind, Kept, Storing, unlocked_trial, Labels}
+use Rattle.sent_once.specs.accept_counts.specs.AttemptCounts.{pair_of, of_retry, with_waiting, WasMade, WasNow, StoresOwn}
 use Rattle.sent_once.specs.accept_counts.specs.EndedCalls.{Store, stores_by, stored_at}
-use Rattle.sent_once.specs.accept_counts.proofs.Words.{made_on, finds_label, words_forward, makes_new, advances_new}
+use Rattle.sent_once.specs.accept_counts.proofs.IdWordsGoForward.{made_on, finds_label, words_forward, makes_new, advances_new}
 use Rattle.sent_once.specs.Below.outcome_stories.proofs.HomeCalls.{AreCalls, PutsAsked, calls_behind}
-use Rattle.sent_once.specs.accept_counts.proofs.Ticks.{few_more, few_of, fits_as, pair_now, untried, waiting_set, once_more, old_or_new, pairs_set, labels_first}
-use Rattle.sent_once.specs.Below.story_ticks.proofs.Chains.{AreFewTries as AreTries}
-use Rattle.sent_once.specs.Below.label_runs.proofs.Programs.{retry_goes}
+use Rattle.sent_once.specs.accept_counts.proofs.TicksKeepAttemptLaw.{few_more, few_of, fits_as, pair_now, untried, waiting_set, once_more, old_or_new, pairs_set, labels_first}
+use Rattle.sent_once.specs.Below.story_ticks.proofs.SaidBeforeNextStep.{AreFewTries as AreTries}
+use Rattle.sent_once.specs.Below.label_runs.proofs.ProgramsKeepAttempts.{retry_goes}
 use Rattle.sent_once.specs.accept_counts.proofs.SeatFacts.{seat_facts}
 use Rattle.own_decisions.proofs.OwnDecisionsTicks.{pair_self}
-use Rattle.seat_programs.specs.Rounds.{first_step}
+use Rattle.seat_programs.specs.LoopRounds.{first_step}
 use Rattle.sock_words.specs.Totals.{total}
 
 -- ## Attempts that are tried
@@ -330,8 +330,8 @@ module _ (p : Plan) (q : IdPlan) (narrow : q.slots ≤ 65536) (is_call : Asked �
 
     -- where it stores one
     stores : (seat : SeatState) → get_elem? c.seats m.seat ≡ some seat → (o w : ℕ) (next : ℕ → Program) → first_step seat.program ≡ Aside (StoreAt o w) next → Result (ticked p c m)
-    stores seat at o w next is = let t = trial_of seat at in let u = view_of seat at in let found : ℕ = std.slice_index c.calls.words (Rattle.seat_programs.specs.id_rule.specs.Lawful.at_index c.calls.plan o) in
-        subst Result (sym after) (as_stored seat at (Aside (StoreAt o w) next) is _ (asides m.seat seat t.0 at t.1 u.0 u.1 (StoreAt o w) next (std.slice_index c.calls.words (Rattle.seat_programs.specs.id_rule.specs.Lawful.at_index c.calls.plan o)) (taken m.answer) refl (may_as seat at (Aside (StoreAt o w) next) is).0
+    stores seat at o w next is = let t = trial_of seat at in let u = view_of seat at in let found : ℕ = std.slice_index c.calls.words (Rattle.seat_programs.specs.id_rule.specs.LawfulIdTable.at_index c.calls.plan o) in
+        subst Result (sym after) (as_stored seat at (Aside (StoreAt o w) next) is _ (asides m.seat seat t.0 at t.1 u.0 u.1 (StoreAt o w) next (std.slice_index c.calls.words (Rattle.seat_programs.specs.id_rule.specs.LawfulIdTable.at_index c.calls.plan o)) (taken m.answer) refl (may_as seat at (Aside (StoreAt o w) next) is).0
         (first_as seat at (Aside (StoreAt o w) next) is) (λ o' w' e id n k x low few small. own seat o' w' next at (is ∙ ap (λ s. as_store s) e) id n k x low few small)))
       where
         after : ticked p c m ≡ step_with p m.seat seat c m.answer (Aside (StoreAt o w) next)

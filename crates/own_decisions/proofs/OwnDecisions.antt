@@ -5,42 +5,42 @@ use Rattle.std.specs.List.{AllByRecursion}
 use Rattle.seat_programs.specs.brpc_model.specs.Items.{Item}
 use Rattle.seat_programs.specs.brpc_model.specs.Operations.{Turn}
 use Rattle.corr_core.specs.Word.{attempt_of}
-use Rattle.corr_core.specs.Decisions.{WHOLE}
-use Rattle.seat_programs.specs.Clients.{ending_of}
+use Rattle.corr_core.specs.ErrorsThatEndCalls.{WHOLE}
+use Rattle.seat_programs.specs.ClientProgram.{ending_of}
 use Rattle.seat_programs.specs.Cores.{Core}
 use Rattle.seat_programs.specs.Programs.{Program}
 use Rattle.seat_programs.specs.Ticks.{Moment}
 use Rattle.seat_programs.specs.Tasks.{opens, calls, plan_of, id_plan_of}
-use Rattle.seat_programs.specs.Scripts.{sizes_of, programs, readers_from, all_programs, all_tasks, opened, set_up, played, IsRunWithCalls}
-use Rattle.sent_once.specs.Below.programs_allowed.specs.program_steps.specs.Sound.{views_along}
-use Rattle.sent_once.specs.Below.programs_allowed.specs.program_steps.proofs.Cases.{elem_there}
-use Rattle.sent_once.specs.Below.programs_allowed.specs.program_walks.proofs.Whole.{closing_of, views_played, views_closed}
+use Rattle.seat_programs.specs.ScriptSetupToEnding.{sizes_of, programs, readers_from, all_programs, all_tasks, opened, set_up, played, IsRunWithCalls}
+use Rattle.sent_once.specs.Below.programs_allowed.specs.program_steps.specs.SoundSeats.{views_along}
+use Rattle.sent_once.specs.Below.programs_allowed.specs.program_steps.proofs.TickCases.{elem_there}
+use Rattle.sent_once.specs.Below.programs_allowed.specs.program_walks.proofs.WholeScriptSound.{closing_of, views_played, views_closed}
 use Rattle.sent_once.specs.Below.outcome_causes.proofs.Final.{at_there}
-use Rattle.sent_once.specs.Below.joint_runs.proofs.Both.{behind_both}
-use Rattle.sent_once.specs.Below.joint_runs.proofs.Runs.{AreMade, first_views, IsSoundRun, joint_runs}
-use Rattle.sent_once.specs.Below.script_facts.proofs.Reading.{InRange}
+use Rattle.sent_once.specs.Below.joint_runs.proofs.BothTablesSound.{behind_both}
+use Rattle.sent_once.specs.Below.joint_runs.proofs.RunsOfBothTables.{AreMade, first_views, IsSoundRun, joint_runs}
+use Rattle.sent_once.specs.Below.script_facts.proofs.ReadScriptFacts.{InRange}
 use Rattle.sent_once.specs.Below.script_facts.proofs.Targets.{AreThere}
-use Rattle.sent_once.specs.Below.call_owing.specs.Lives.{ClosesInRun}
+use Rattle.sent_once.specs.Below.call_owing.specs.LivesOfLinks.{ClosesInRun}
 use Rattle.sent_once.specs.Below.call_stories.specs.Decided.{posted_by, Decision, decided_by}
-use Rattle.sent_once.specs.Below.call_stories.specs.Lists.{advanced_at, gave_in}
-use Rattle.sent_once.specs.Below.call_stories.specs.Posts.{Post, posted_at}
+use Rattle.sent_once.specs.Below.call_stories.specs.LinkReadingLists.{advanced_at, gave_in}
+use Rattle.sent_once.specs.Below.call_stories.specs.PostsOfRun.{Post, posted_at}
 use Rattle.sent_once.specs.Below.call_stories.specs.Scenes.{LeadsTo}
 use Rattle.sent_once.specs.Below.story_ticks.proofs.Claiming.{HaveSlots}
-use Rattle.sent_once.specs.Below.story_steps.proofs.Numbered.{AreNumbered}
-use Rattle.sent_once.specs.Below.story_ticks.proofs.Opening.{Begins}
-use Rattle.sent_once.specs.Below.call_causes.proofs.Run as runs
-use Rattle.sent_once.specs.Below.story_ticks.proofs.Scripts.{are_numbered, have_slots, begins}
+use Rattle.sent_once.specs.Below.story_steps.proofs.NumberedTasks.{AreNumbered}
+use Rattle.sent_once.specs.Below.story_ticks.proofs.StoryOpening.{Begins}
+use Rattle.sent_once.specs.Below.call_causes.proofs.RunOfCallStory as runs
+use Rattle.sent_once.specs.Below.story_ticks.proofs.ScriptTasksFitStory.{are_numbered, have_slots, begins}
 use Rattle.sent_once.specs.Below.call_stories.proofs.RunTicks.{in_setup, in_clients, in_closing, parts}
 use Rattle.sent_once.specs.Below.story_ticks.proofs.RunFacts.{run_facts, leadings}
-use Rattle.sent_once.specs.accept_counts.proofs.Rests.{many}
-use Rattle.sent_once.proofs.Sends.{narrow}
+use Rattle.sent_once.specs.accept_counts.proofs.RestsWithoutCalls.{many}
+use Rattle.sent_once.proofs.SocketOperationsTold.{narrow}
 use Rattle.own_decisions.proofs.OwnDecisionsPrograms.{ending_goes}
 use Rattle.own_decisions.proofs.OwnDecisionsRuns.{in_right, AllQueued, setup_queued, played_queued, Along, run_aims, all_aim, begins_aims}
-use Rattle.sent_once.specs.Below.story_steps.proofs.Attempts.{in_front as in_left}
-use Rattle.sent_once.specs.Below.call_causes.proofs.Run.{in_either}
+use Rattle.sent_once.specs.Below.story_steps.proofs.AttemptsBehindAsides.{in_front as in_left}
+use Rattle.sent_once.specs.Below.call_causes.proofs.RunOfCallStory.{in_either}
 use Rattle.own_decisions.proofs.OwnDecisionsStands.{Stand, Calm}
 use Rattle.own_decisions.proofs.OwnDecisionsTicks.{AimLaw, law_more, restarts}
-use Rattle.sent_once.specs.Below.outcome_stories.specs.Stories.{In}
+use Rattle.sent_once.specs.Below.outcome_stories.specs.OperationStories.{In}
 use Rattle.sent_once.specs.Below.outcome_stories.specs.Facts.{shown_in, shown_in_run}
 
 module _ (script : List Item) (made : AreMade script) (there : AreThere script) (range : AllByRecursion InRange script) (turns : List Turn) (core : Core) (is : IsRunWithCalls script turns core) (closes : ClosesInRun script turns core is) where

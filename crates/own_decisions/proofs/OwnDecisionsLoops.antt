@@ -4,19 +4,19 @@ use Rattle.seat_programs.specs.brpc_model.specs.Frame.{Frame}
 use Rattle.seat_programs.specs.brpc_model.specs.ResponseOutcome.{ending_of}
 use Rattle.corr_core.specs.Word.{Parts, parts, posted_word, unlocked_word, code_of, attempt_of, error_of}
 use Rattle.corr_core.specs.Law.{LAST}
-use Rattle.corr_core.specs.Decisions.{WHOLE, ends_call}
+use Rattle.corr_core.specs.ErrorsThatEndCalls.{WHOLE, ends_call}
 use Rattle.sock_message.specs.Asked.{Asked}
 use Rattle.seat_programs.specs.Asides.{FreeId, UnlockId, Taking, PutCall}
-use Rattle.seat_programs.specs.Heads.{Head, Exit, Sought, Version, Reading, Posts, Unlocks, Decides, Locks, Joins, Opens, Reads, Discards, Retry, Posting, WasGone, WasStale, WasCrowded, WasQueued, HasLocked, Unlocking, IsOpen, HasNext, Deciding, HasEnded, GoesOn, Locking, NotThere, Has, Ended}
-use Rattle.seat_programs.specs.Posts.{packed, is_first, is_sought, is_stale, is_full, judged, posted, post_with, post, popped, end_id, decide, decided, unlocked, locking, IsSoughtWord}
+use Rattle.seat_programs.specs.LoopHeads.{Head, Exit, Sought, Version, Reading, Posts, Unlocks, Decides, Locks, Joins, Opens, Reads, Discards, Retry, Posting, WasGone, WasStale, WasCrowded, WasQueued, HasLocked, Unlocking, IsOpen, HasNext, Deciding, HasEnded, GoesOn, Locking, NotThere, Has, Ended}
+use Rattle.seat_programs.specs.PostPrograms.{packed, is_first, is_sought, is_stale, is_full, judged, posted, post_with, post, popped, end_id, decide, decided, unlocked, locking, IsSoughtWord}
 use Rattle.seat_programs.specs.Programs.{Program, Say, Aside, Round}
-use Rattle.seat_programs.specs.Readers.{answer, took, discarded, slot_in}
-use Rattle.seat_programs.specs.Rounds.{round}
+use Rattle.seat_programs.specs.ReaderProgram.{answer, took, discarded, slot_in}
+use Rattle.seat_programs.specs.LoopRounds.{round}
 use Rattle.sent_once.specs.Below.programs_allowed.specs.program_walks.proofs.ThroughLoops.{through_took, through_discarded}
-use Rattle.sent_once.specs.Below.label_runs.proofs.Loops.{id_back, not_true, not_equal, and_left, locked_parts, none_left, word_got}
+use Rattle.sent_once.specs.Below.label_runs.proofs.LoopsOfKnownSeats.{id_back, not_true, not_equal, and_left, locked_parts, none_left, word_got}
 use Rattle.own_decisions.proofs.OwnDecisionsStands.{Stand, Calm, Trying, Past, Posted, Eases, MayPost, MayDecide, IsTryingAt, FindsAside, unlocked_stand, unlocks_stand, posted_stand, locked_stand, LeavesUnlock, LeavesStand, Aims}
-use Rattle.sent_once.specs.accept_counts.proofs.Words.{unlocked_is}
-use Rattle.sock_words.specs.Words.{id_slot, id_first, call_id, bit}
+use Rattle.sent_once.specs.accept_counts.proofs.IdWordsGoForward.{unlocked_is}
+use Rattle.sock_words.specs.PackedWords.{id_slot, id_first, call_id, bit}
 
 pub way : (s : Stand) (b : Bool) (x y : Program) → (b ≡ true → Aims s x) → (b ≡ false → Aims s y) → Aims s (cond b x y)
 way s true x y f g = f refl

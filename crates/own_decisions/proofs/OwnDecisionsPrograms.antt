@@ -2,7 +2,7 @@
 use Rattle.std.proofs.Common.{◌≡◌, ◌≢◌, ℕ, zero, suc, ◌+◌, ◌-◌, ◌/◌, ◌%◌, ◌≤◌, ◌⊎◌, ◌==◌, ◌&&◌, inl, inr, Bool, true, false, cond, eqb, nat_lt, nat_le, List, [], ◌∷◌, ◌++◌, length, drop, refl, sym, ap, ◌∙◌, subst, arith}
 use Rattle.std.proofs.lemmas.Bool.{true≢false}
 use Rattle.seat_programs.specs.brpc_model.specs.Frame.{Frame}
-use Rattle.sock_words.specs.Words.{socket_id_slot, socket_id_version, vref_version, at_word, at_word_first, at_word_slot, at_word_link, at_word_attempt, ticket_generation, ticket_request, IDLE, UNCONNECTED, call_id, id_slot, id_first, NO_SOCKET}
+use Rattle.sock_words.specs.PackedWords.{socket_id_slot, socket_id_version, vref_version, at_word, at_word_first, at_word_slot, at_word_link, at_word_attempt, ticket_generation, ticket_request, IDLE, UNCONNECTED, call_id, id_slot, id_first, NO_SOCKET}
 use Rattle.sock_words.specs.declared.outcome.Outcome.TheVariants as outcomes
 use Rattle.sock_io.specs.declared.link.Put.{Put}
 use Rattle.sock_io.specs.declared.link.Put.TheVariants as puts
@@ -12,29 +12,29 @@ use Rattle.sock_message.specs.Asked.{Asked, frame_of}
 use Rattle.sock_model.specs.declared.chain.Heading.{Heading}
 use Rattle.sock_model.specs.Entries.{ticket_of}
 use Rattle.corr_core.specs.Word.{parts, error_of, attempt_of}
-use Rattle.corr_core.specs.Decisions.{WHOLE}
+use Rattle.corr_core.specs.ErrorsThatEndCalls.{WHOLE}
 use Rattle.seat_programs.specs.declared.task.Op.{Op}
 use Rattle.seat_programs.specs.declared.task.Op.TheVariants as ops
 use Rattle.seat_programs.specs.declared.task.Sizes.{Sizes}
 use Rattle.seat_programs.specs.declared.task.Task.{Task}
 use Rattle.seat_programs.specs.Asides.{StoreAt}
-use Rattle.seat_programs.specs.Attempts.{claims_from, heading_for, attempt, begin_call, claim_id, call, tried_again, retry_locked, retry, expire_outcome, expire, join}
-use Rattle.seat_programs.specs.Calls.{TableStep, PutMessage, FreeRequest, ReadNext, FindLink, LookWord, ReverseNext, Connect}
-use Rattle.seat_programs.specs.Clients.{HeldLife, held_under, without_name, operation, client_from, ending_of}
-use Rattle.seat_programs.specs.Heads.{First, Posts, Joins, Reads, Discards, Posting, HasLocked, Unlocking, IsOpen, HasNext, Locking, NotThere, Has, Ended}
-use Rattle.seat_programs.specs.Parts.{part}
-use Rattle.seat_programs.specs.Posts.{post_with, posted, post, decided}
+use Rattle.seat_programs.specs.CallAndRetryPrograms.{claims_from, heading_for, attempt, begin_call, claim_id, call, tried_again, retry_locked, retry, expire_outcome, expire, join}
+use Rattle.seat_programs.specs.TableSteps.{TableStep, PutMessage, FreeRequest, ReadNext, FindLink, LookWord, ReverseNext, Connect}
+use Rattle.seat_programs.specs.ClientProgram.{HeldLife, held_under, without_name, operation, client_from, ending_of}
+use Rattle.seat_programs.specs.LoopHeads.{First, Posts, Joins, Reads, Discards, Posting, HasLocked, Unlocking, IsOpen, HasNext, Locking, NotThere, Has, Ended}
+use Rattle.seat_programs.specs.BufferParts.{part}
+use Rattle.seat_programs.specs.PostPrograms.{post_with, posted, post, decided}
 use Rattle.seat_programs.specs.Programs.{Program, Do, Say, Sent, Rest, TakeMessage, TakeHome, PutBytes, Write, Aside, Round, LAST_GENERATION, release}
-use Rattle.seat_programs.specs.Readers.{kept_for, ends_with, posted_last, post_each, thrown_away, read, reader, LIMIT}
-use Rattle.seat_programs.specs.Sends.{freed as given_back, one_more, passed_telling, tell_drop, placed, dropped, put_answered, ready_answered, block, first_put, accept, write_link, heading_of, claim_from, start, send}
+use Rattle.seat_programs.specs.ReaderProgram.{kept_for, ends_with, posted_last, post_each, thrown_away, read, reader, LIMIT}
+use Rattle.seat_programs.specs.SendAndWritePrograms.{freed as given_back, one_more, passed_telling, tell_drop, placed, dropped, put_answered, ready_answered, block, first_put, accept, write_link, heading_of, claim_from, start, send}
 use Rattle.seat_programs.specs.Writings.{Holder, Writing, Puts, Waits, Empties, Walks}
 use Rattle.sent_once.specs.Below.programs_allowed.specs.program_walks.proofs.Through.{PassesWords, PassesFails, is_of_message, others_plain, others_failing, others_make, through_release, through_address, through_reach, through_set_failed, through_fail, through_hold}
 use Rattle.sent_once.specs.Below.programs_allowed.specs.program_walks.proofs.ThroughSends.{through_ended}
 use Rattle.sent_once.specs.Below.programs_allowed.specs.program_walks.proofs.ThroughCalls.{through_read_end}
 use Rattle.sent_once.specs.Below.programs_allowed.specs.program_walks.proofs.ThroughClients.{through_open, through_back, through_drop_of}
-use Rattle.sent_once.specs.Below.label_runs.specs.Labels.{LeavesLock}
+use Rattle.sent_once.specs.Below.label_runs.specs.AttemptLabelsLeft.{LeavesLock}
 use Rattle.own_decisions.proofs.OwnDecisionsStands.{Stand, Calm, Trying, Past, Posted, Eases, behind_message, MayPut, LeavesStand, locked_stand, posted_stand, Aims}
-use Rattle.sent_once.specs.Below.label_runs.proofs.Loops.{id_back, not_equal}
+use Rattle.sent_once.specs.Below.label_runs.proofs.LoopsOfKnownSeats.{id_back, not_equal}
 use Rattle.own_decisions.proofs.OwnDecisionsLoops.{way, next_is, post_with_goes, posted_goes, post_goes, decide_goes, decided_goes, answer_goes}
 
 -- ## Parts on sockets

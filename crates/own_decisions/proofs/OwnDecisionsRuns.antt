@@ -8,47 +8,47 @@ use Rattle.sock_model.specs.declared.home.Home.TheVariants.{Empty, Link, Message
 use Rattle.sock_model.specs.declared.view.View.{View}
 use Rattle.corr_core.specs.Word.{error_of, attempt_of}
 use Rattle.corr_core.specs.declared.marks.Plan.{Plan as IdPlan}
-use Rattle.corr_core.specs.Decisions.{WHOLE}
-use Rattle.seat_programs.specs.id_rule.specs.Lawful.{at_index}
-use Rattle.sent_once.specs.Below.id_runs.specs.Held.{IdView}
+use Rattle.corr_core.specs.ErrorsThatEndCalls.{WHOLE}
+use Rattle.seat_programs.specs.id_rule.specs.LawfulIdTable.{at_index}
+use Rattle.sent_once.specs.Below.id_runs.specs.HeldIdTokens.{IdView}
 use Rattle.sent_once.specs.Below.id_runs.specs.Goes.{SoundIds}
-use Rattle.sent_once.specs.Below.id_runs.proofs.Opening.{unused}
-use Rattle.sent_once.specs.Below.programs_allowed.proofs.Beginning.{no_message}
+use Rattle.sent_once.specs.Below.id_runs.proofs.IdRuleOpening.{unused}
+use Rattle.sent_once.specs.Below.programs_allowed.proofs.WordsAtBeginning.{no_message}
 use Rattle.sock_message.specs.Asked.{Asked}
 use Rattle.sock_model.specs.declared.chain.Heading.{Heading}
 use Rattle.seat_programs.specs.declared.task.Sizes.{Sizes}
 use Rattle.seat_programs.specs.declared.task.Task.{Task}
-use Rattle.seat_programs.specs.Clients.{client_from}
+use Rattle.seat_programs.specs.ClientProgram.{client_from}
 use Rattle.seat_programs.specs.Cores.{Core, SeatState, resolved, next_step}
 use Rattle.seat_programs.specs.Programs.{Program, Say, Sent, Keep, Retries}
-use Rattle.seat_programs.specs.Runs.{IsAtRest}
-use Rattle.seat_programs.specs.Scripts.{opening_homes, programs, readers_from, all_programs, beginning}
+use Rattle.seat_programs.specs.ScheduledRuns.{IsAtRest}
+use Rattle.seat_programs.specs.ScriptSetupToEnding.{opening_homes, programs, readers_from, all_programs, beginning}
 use Rattle.seat_programs.specs.Ticks.{Moment, quiet, ticked, run}
-use Rattle.sent_once.specs.Below.programs_allowed.specs.program_steps.specs.Sound.{IsAhead, views_after}
-use Rattle.sent_once.specs.Below.programs_allowed.specs.sock_runs.proofs.Along.{seat_rests, ticked_ahead}
-use Rattle.sent_once.specs.Below.programs_allowed.specs.program_walks.proofs.Opening.{mapped}
+use Rattle.sent_once.specs.Below.programs_allowed.specs.program_steps.specs.SoundSeats.{IsAhead, views_after}
+use Rattle.sent_once.specs.Below.programs_allowed.specs.sock_runs.proofs.SoundAlongRuns.{seat_rests, ticked_ahead}
+use Rattle.sent_once.specs.Below.programs_allowed.specs.program_walks.proofs.OpenedLivesRecorded.{mapped}
 use Rattle.sent_once.specs.Below.programs_allowed.specs.sock_runs.proofs.Quiets.{ticked_rests}
-use Rattle.sent_once.specs.Below.joint_runs.proofs.Both.{BothSound, AreBoth}
+use Rattle.sent_once.specs.Below.joint_runs.proofs.BothTablesSound.{BothSound, AreBoth}
 use Rattle.sent_once.specs.Below.call_stories.specs.Decided.{posted_by, Decision, decided_at, decided_by}
-use Rattle.sent_once.specs.Below.call_stories.specs.Lists.{times, advanced_at}
-use Rattle.sent_once.specs.Below.call_stories.specs.Posts.{Post, posted_at}
+use Rattle.sent_once.specs.Below.call_stories.specs.LinkReadingLists.{times, advanced_at}
+use Rattle.sent_once.specs.Below.call_stories.specs.PostsOfRun.{Post, posted_at}
 use Rattle.sent_once.specs.Below.call_stories.specs.Says.{Mark}
 use Rattle.sent_once.specs.Below.call_stories.specs.Scenes.{Birth, Scene, LeadsTo, CauseOf, of_expiry, of_other}
-use Rattle.sent_once.specs.Below.call_stories.specs.Stories.{IsCurrent, CallStory}
+use Rattle.sent_once.specs.Below.call_stories.specs.CallStories.{IsCurrent, CallStory}
 use Rattle.sent_once.specs.Below.story_ticks.proofs.Claiming.{HaveSlots}
-use Rattle.sent_once.specs.Below.call_stories.proofs.Leading.{run_leads}
-use Rattle.sent_once.specs.Below.story_steps.proofs.Numbered.{AreNumbered}
-use Rattle.sent_once.specs.Below.call_causes.proofs.Run.{Story, one_tick, in_either}
-use Rattle.sent_once.specs.accept_counts.proofs.Beginnings.{all_begin}
-use Rattle.sent_once.specs.accept_counts.specs.Counts.{word_of_id}
+use Rattle.sent_once.specs.Below.call_stories.proofs.LeadingBytesGiven.{run_leads}
+use Rattle.sent_once.specs.Below.story_steps.proofs.NumberedTasks.{AreNumbered}
+use Rattle.sent_once.specs.Below.call_causes.proofs.RunOfCallStory.{Story, one_tick, in_either}
+use Rattle.sent_once.specs.accept_counts.proofs.ProgramsAtBeginning.{all_begin}
+use Rattle.sent_once.specs.accept_counts.specs.AttemptCounts.{word_of_id}
 use Rattle.sent_once.specs.Below.id_runs.specs.Goes.{HandFits, HomesFit}
 use Rattle.own_decisions.proofs.OwnDecisionsPrograms.{client_goes, reader_goes}
 use Rattle.own_decisions.proofs.OwnDecisionsStands.{Stand, Calm, Aims}
 use Rattle.own_decisions.proofs.OwnDecisionsTicks.{of_stand, IsPast, StandFits, HeadFits, AimLaw, QueuedAt, AreQueued, law_more, aim_ticks, decided_own}
-use Rattle.sent_once.specs.Below.story_steps.proofs.Attempts.{in_front}
-use Rattle.sent_once.specs.accept_counts.proofs.Runs.{none_waits}
-use Rattle.sent_once.specs.Below.outcome_stories.specs.Stories.{In}
-use Rattle.sock_words.specs.Words.{call_id, id_slot, id_first}
+use Rattle.sent_once.specs.Below.story_steps.proofs.AttemptsBehindAsides.{in_front}
+use Rattle.sent_once.specs.accept_counts.proofs.RunsKeepAttemptLaw.{none_waits}
+use Rattle.sent_once.specs.Below.outcome_stories.specs.OperationStories.{In}
+use Rattle.sock_words.specs.PackedWords.{call_id, id_slot, id_first}
 use Rattle.sock_words.specs.Totals.{total}
 use Rattle.sent_once.specs.Below.outcome_stories.specs.Facts.{shown_in}
 

@@ -3,17 +3,17 @@ use Rattle.std.specs.Prelude.{ℕ, ◌≡◌, ◌≢◌, ◌+◌, ◌<◌, ◌�
 use Rattle.sock_io.specs.declared.link.Put.{Put}
 use Rattle.sock_io.specs.declared.link.Ready.{Ready}
 use Rattle.sock_model.specs.declared.chain.Heading.{Heading}
-use Rattle.sock_words.specs.Words.{at_word, at_word_first, at_word_slot, at_word_attempt, call_id, id_slot, id_first, bit}
+use Rattle.sock_words.specs.PackedWords.{at_word, at_word_first, at_word_slot, at_word_attempt, call_id, id_slot, id_first, bit}
 use Rattle.corr_core.specs.Word.{parts, error_of, attempt_of, unlocked_word}
-use Rattle.corr_core.specs.Decisions.{WHOLE}
+use Rattle.corr_core.specs.ErrorsThatEndCalls.{WHOLE}
 use Rattle.sent_once.specs.Below.id_runs.specs.Goes.{FitsSock}
 use Rattle.seat_programs.specs.Asides.{Step, Found, MakeId, StoreAt, LoadAt, PostId, UnlockId}
-use Rattle.seat_programs.specs.Calls.{TableStep, PutMessage}
-use Rattle.seat_programs.specs.Heads.{Head, Exit, Posts, Unlocks, Decides, Locks, Posting, HasLocked, Unlocking, Locking, NotThere, Has}
-use Rattle.seat_programs.specs.Posts.{is_stale, IsSoughtWord}
+use Rattle.seat_programs.specs.TableSteps.{TableStep, PutMessage}
+use Rattle.seat_programs.specs.LoopHeads.{Head, Exit, Posts, Unlocks, Decides, Locks, Posting, HasLocked, Unlocking, Locking, NotThere, Has}
+use Rattle.seat_programs.specs.PostPrograms.{is_stale, IsSoughtWord}
 use Rattle.seat_programs.specs.Writings.{Writing, Puts, Waits}
 use Rattle.seat_programs.specs.Programs.{Program, Do, Say, Sent, Rest, TakeMessage, TakeHome, PutHome, PutBytes, AskReady, Write, Aside, Round, Keep, Retries}
-use Rattle.sent_once.specs.Below.label_runs.specs.Labels.{LeavesNext, LeavesBy}
+use Rattle.sent_once.specs.Below.label_runs.specs.AttemptLabelsLeft.{LeavesNext, LeavesBy}
 
 -- a seat tries attempt n of the call with this id; nobody tries it any more; or it posted this error to the id, which it locked by that
 pub data Stand : Type 0 where

@@ -8,50 +8,50 @@ use mathlib.Core.Option.{Option, some, none, some-injective}
 use lib.ListN.{get_elem?}
 use Rattle.atomic_table.proofs.Lists.{at_set}
 use Rattle.sock_words.specs.declared.plain.Plan.{Plan}
-use Rattle.sock_words.specs.Words as words
-use Rattle.sock_words.specs.Words.{at_word_first, at_word_slot, at_word_attempt, call_id, id_slot, id_first, bit}
+use Rattle.sock_words.specs.PackedWords as words
+use Rattle.sock_words.specs.PackedWords.{at_word_first, at_word_slot, at_word_attempt, call_id, id_slot, id_first, bit}
 use Rattle.sock_io.specs.declared.link.Put.{Put}
 use Rattle.sock_io.specs.declared.link.Ready.{Ready}
 use Rattle.sock_model.specs.declared.chain.Heading.{Heading}
 use Rattle.sock_model.specs.declared.home.Home.{Home}
 use Rattle.sock_model.specs.declared.home.Home.TheVariants.{Message}
-use Rattle.sock_model.specs.Messages.{HeadedBytes}
-use Rattle.sock_model.specs.Reads.{message, link_home}
-use Rattle.sent_once.specs.Below.slot_steps.proofs.Sums.{term_le, total-append}
+use Rattle.sock_model.specs.UnplacedMessages.{HeadedBytes}
+use Rattle.sock_model.specs.ChainLawReads.{message, link_home}
+use Rattle.sent_once.specs.Below.slot_steps.proofs.SlotWeightSums.{term_le, total-append}
 use Rattle.corr_core.specs.Word.{Parts, parts, error_of, attempt_of, made_word, posted_word, unlocked_word, free_word}
 use Rattle.corr_core.specs.declared.marks.Plan.{Plan as IdPlan}
-use Rattle.corr_core.specs.Decisions.{WHOLE}
-use Rattle.seat_programs.specs.id_rule.specs.Lawful.{all_words, tag_index, id_index, call_index, at_index}
-use Rattle.sent_once.specs.Below.id_runs.specs.Held.{IdView, MayId}
+use Rattle.corr_core.specs.ErrorsThatEndCalls.{WHOLE}
+use Rattle.seat_programs.specs.id_rule.specs.LawfulIdTable.{all_words, tag_index, id_index, call_index, at_index}
+use Rattle.sent_once.specs.Below.id_runs.specs.HeldIdTokens.{IdView, MayId}
 use Rattle.sent_once.specs.Below.id_runs.specs.Goes.{FitsFirst, FindsId, FitsRetryId, IdGoesOn, SoundIds, IsFittingIds}
-use Rattle.sent_once.specs.Below.id_runs.proofs.Steps.{finds_ids}
+use Rattle.sent_once.specs.Below.id_runs.proofs.AsideStepsKeepRule.{finds_ids}
 use Rattle.seat_programs.specs.Asides.{Step, Found, ClaimId, PutCall, MakeId, StoreCall, LoadCall, StoreAt, LoadAt, LoadIdWord, LockId, PostId, UnlockId, EndId, FreeId, TakeCall, TakeBytes, Taking, Bytes}
-use Rattle.seat_programs.specs.Beside.{found_in, calls_after}
-use Rattle.seat_programs.specs.Calls.{TableStep, PutMessage}
-use Rattle.seat_programs.specs.Heads.{Retry, Decides}
-use Rattle.seat_programs.specs.Posts.{packed, is_stale}
+use Rattle.seat_programs.specs.FoundAndChangedAside.{found_in, calls_after}
+use Rattle.seat_programs.specs.TableSteps.{TableStep, PutMessage}
+use Rattle.seat_programs.specs.LoopHeads.{Retry, Decides}
+use Rattle.seat_programs.specs.PostPrograms.{packed, is_stale}
 use Rattle.seat_programs.specs.Programs.{Program, Do, Say, Sent, TakeMessage, TakeHome, PutHome, PutBytes, AskReady, Write, Aside, Round, Keep, Retries}
 use Rattle.seat_programs.specs.Cores.{Calls, Core, SeatState, found_at, words_after, homes_after, hand_after, lies_at, first_of, others_of, link_place, resolved, still_waiting, waiting_at, next_step, with_seat}
 use Rattle.seat_programs.specs.StepTables.{word_of, word_after}
 use Rattle.seat_programs.specs.Ticks.{Answer, OfPut, OfReady, Moment, fed, with_places, onto_first, taken, with_message, with_link, with_put, with_ready, with_found, step_with, tick_with, ticked}
-use Rattle.sent_once.specs.Below.programs_allowed.specs.program_steps.proofs.Cases.{elem_there, ticks_first, calls_waiting}
+use Rattle.sent_once.specs.Below.programs_allowed.specs.program_steps.proofs.TickCases.{elem_there, ticks_first, calls_waiting}
 use Rattle.sent_once.specs.Below.call_stories.specs.Decided.{posted_by, Decision, decision_in, decided_at}
-use Rattle.sent_once.specs.Below.call_stories.specs.Posts.{Post, posts_by, posted_with, posted_at}
+use Rattle.sent_once.specs.Below.call_stories.specs.PostsOfRun.{Post, posts_by, posted_with, posted_at}
 use Rattle.sent_once.specs.Below.owing_ticks.proofs.OwingTicks.{message_there}
-use Rattle.sent_once.specs.accept_counts.specs.Counts.{pair_of, of_retry, with_waiting, word_of_id, WasMade, WasNow}
-use Rattle.sent_once.specs.accept_counts.proofs.Words.{made_on, finds_label, words_forward, makes_new, advances_new}
+use Rattle.sent_once.specs.accept_counts.specs.AttemptCounts.{pair_of, of_retry, with_waiting, word_of_id, WasMade, WasNow}
+use Rattle.sent_once.specs.accept_counts.proofs.IdWordsGoForward.{made_on, finds_label, words_forward, makes_new, advances_new}
 use Rattle.sent_once.specs.accept_counts.proofs.SeatFacts.{ids_first}
-use Rattle.sent_once.specs.accept_counts.proofs.Ticks.{few_more, few_of, pair_now, untried, waiting_set, once_more, old_or_new, pairs_set}
-use Rattle.sent_once.specs.Below.story_ticks.proofs.Chains.{AreFewTries as AreTries}
-use Rattle.sent_once.specs.Below.label_runs.proofs.Loops.{id_back}
+use Rattle.sent_once.specs.accept_counts.proofs.TicksKeepAttemptLaw.{few_more, few_of, pair_now, untried, waiting_set, once_more, old_or_new, pairs_set}
+use Rattle.sent_once.specs.Below.story_ticks.proofs.SaidBeforeNextStep.{AreFewTries as AreTries}
+use Rattle.sent_once.specs.Below.label_runs.proofs.LoopsOfKnownSeats.{id_back}
 use Rattle.sent_once.specs.Below.id_runs.specs.Goes.{HandFits, HomesFit}
-use Rattle.sent_once.specs.Below.id_runs.proofs.Homes.{PutFits, hand_more, home_more, home_set, home_away, first_fits, others_fit, lies_fit, fed_fits, places_fit, hand_fits, homes_fit}
+use Rattle.sent_once.specs.Below.id_runs.proofs.HeadingsAtHomes.{PutFits, hand_more, home_more, home_set, home_away, first_fits, others_fit, lies_fit, fed_fits, places_fit, hand_fits, homes_fit}
 use Rattle.own_decisions.proofs.OwnDecisionsStands.{Stand, Calm, Trying, Past, Posted, Eases, MayPut, MayPost, MayAside, Stowing, unlocked_stand, Aims}
 use Rattle.own_decisions.proofs.OwnDecisionsLoops.{aims_round}
 use Rattle.own_decisions.proofs.OwnDecisionsPrograms.{block_goes, retry_goes}
 use Rattle.sent_once.specs.Below.owing_ticks.proofs.OwingRuns.{same_first}
-use Rattle.seat_programs.specs.Rounds.{first_step}
-use Rattle.sent_once.specs.Below.outcome_stories.specs.Stories.{In}
+use Rattle.seat_programs.specs.LoopRounds.{first_step}
+use Rattle.sent_once.specs.Below.outcome_stories.specs.OperationStories.{In}
 use Rattle.sock_words.specs.Totals.{total}
 
 -- ## Attempts that are tried

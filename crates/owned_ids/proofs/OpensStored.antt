@@ -5,14 +5,14 @@ use mathlib.Core.Option.{some, some-injective, some-ne-none}
 use lib.ListN.{get_elem?}
 use Rattle.seat_programs.specs.brpc_model.specs.Items.{Item, Open, is_open}
 use Rattle.seat_programs.specs.brpc_model.specs.Operations.{operations}
-use Rattle.seat_programs.specs.brpc_model.specs.Places.{names}
+use Rattle.seat_programs.specs.brpc_model.specs.LinePlaceFaults.{names}
 use Rattle.seat_programs.specs.declared.task.Op.{Op}
 use Rattle.seat_programs.specs.declared.task.Task.{Task}
 use Rattle.seat_programs.specs.Tasks.{Numbered, numbered, op_of, opens}
-use Rattle.seat_programs.specs.Scripts.{all_tasks}
-use Rattle.call_owing.specs.Below.programs_allowed.specs.program_walks.proofs.Opening.{is_opening, opens_in}
-use Rattle.call_owing.specs.Below.script_facts.proofs.Lists.{filter_map_has, has_from, some_is}
-use Rattle.call_owing.specs.Below.script_facts.proofs.Numbering.{is_numbered}
+use Rattle.seat_programs.specs.ScriptSetupToEnding.{all_tasks}
+use Rattle.call_owing.specs.Below.programs_allowed.specs.program_walks.proofs.OpenedLivesRecorded.{is_opening, opens_in}
+use Rattle.call_owing.specs.Below.script_facts.proofs.FilteredLists.{filter_map_has, has_from, some_is}
+use Rattle.call_owing.specs.Below.script_facts.proofs.OperationNumbering.{is_numbered}
 use Rattle.call_owing.specs.Below.script_facts.proofs.TaskLemmas.{numbers_at, asked_at, operation_task}
 
 -- the two ways to look up a place

@@ -4,12 +4,12 @@ use Rattle.std.proofs.lemmas.Bool.{true≢false}
 use Rattle.std.specs.Prelude as std
 use Rattle.std.specs.Prelude.{None, Some}
 use Rattle.std.specs.List.{AllByRecursion}
-use Rattle.sock_words.specs.Words.{socket_id_version, socket_id_slot, vref_version, at_word, at_word_first, at_word_slot, at_word_link, at_word_attempt, call_id, id_slot, id_first, NO_SOCKET}
+use Rattle.sock_words.specs.PackedWords.{socket_id_version, socket_id_slot, vref_version, at_word, at_word_first, at_word_slot, at_word_link, at_word_attempt, call_id, id_slot, id_first, NO_SOCKET}
 use Rattle.sock_words.specs.declared.outcome.Outcome.TheVariants.{Unopened, Joined, NotBegun}
 use Rattle.sock_model.specs.declared.chain.Heading.{Heading}
-use Rattle.call_owing.specs.Below.sock_steps.proofs.Quiet.{either_way}
+use Rattle.call_owing.specs.Below.sock_steps.proofs.SumsAsMarksChange.{either_way}
 use Rattle.corr_core.specs.Word.{parts, error_of}
-use Rattle.corr_core.specs.Decisions.{WHOLE}
+use Rattle.corr_core.specs.ErrorsThatEndCalls.{WHOLE}
 use Rattle.seat_programs.specs.brpc_model.specs.Frame.{Frame}
 use Rattle.seat_programs.specs.brpc_model.specs.Order.{EachBefore}
 use Rattle.seat_programs.specs.sock_message.specs.Asked.{Asked, name_of, frame_of}
@@ -17,19 +17,19 @@ use Rattle.seat_programs.specs.declared.task.Op.{Op}
 use Rattle.seat_programs.specs.declared.task.Op.TheVariants as ops
 use Rattle.seat_programs.specs.declared.task.Task.{Task}
 use Rattle.seat_programs.specs.declared.task.Sizes.{Sizes}
-use Rattle.seat_programs.specs.Calls.{TableStep, ClaimSlot, CreateLife, StoreLink, ResetHead, ClearCode, StoreName, StoreOpen, TakeLink, FinishLink, PutLink, LookWord, FindLink, ClaimRequest, LoadName}
+use Rattle.seat_programs.specs.TableSteps.{TableStep, ClaimSlot, CreateLife, StoreLink, ResetHead, ClearCode, StoreName, StoreOpen, TakeLink, FinishLink, PutLink, LookWord, FindLink, ClaimRequest, LoadName}
 use Rattle.seat_programs.specs.Asides.{PutCall, LoadCall, StoreAt, LoadAt}
-use Rattle.seat_programs.specs.Heads.{First, Unlocks, Posting, WasGone, WasStale, WasCrowded, WasQueued, HasLocked, Unlocking, IsOpen, HasNext, Locking, NotThere, Has, Ended}
+use Rattle.seat_programs.specs.LoopHeads.{First, Unlocks, Posting, WasGone, WasStale, WasCrowded, WasQueued, HasLocked, Unlocking, IsOpen, HasNext, Locking, NotThere, Has, Ended}
 use Rattle.seat_programs.specs.Programs.{Program, Do, Say, Rest, Aside, Round, release, add_reference, open_from, make_socket}
-use Rattle.seat_programs.specs.Posts.{post, posted, decided}
-use Rattle.seat_programs.specs.Attempts.{claims_from, heading_for, attempt, begin_call, claim_id, call, tried_again, retry_locked, retry, expire_outcome, expire, join}
-use Rattle.seat_programs.specs.Readers.{LIMIT, kept_for, ends_with, posted_last, post_each, thrown_away, read, reader}
-use Rattle.seat_programs.specs.Clients.{HeldLife, held_under, without_name, give_back, drop_of, operation, client_from, ending_of}
-use Rattle.seat_programs.specs.Told.{HaveOwnLinks}
-use Rattle.call_owing.specs.Below.programs_allowed.specs.program_walks.proofs.Opening.{or_cases, second_true, or_first, or_second, both_true}
+use Rattle.seat_programs.specs.PostPrograms.{post, posted, decided}
+use Rattle.seat_programs.specs.CallAndRetryPrograms.{claims_from, heading_for, attempt, begin_call, claim_id, call, tried_again, retry_locked, retry, expire_outcome, expire, join}
+use Rattle.seat_programs.specs.ReaderProgram.{LIMIT, kept_for, ends_with, posted_last, post_each, thrown_away, read, reader}
+use Rattle.seat_programs.specs.ClientProgram.{HeldLife, held_under, without_name, give_back, drop_of, operation, client_from, ending_of}
+use Rattle.seat_programs.specs.Explained.{HaveOwnLinks}
+use Rattle.call_owing.specs.Below.programs_allowed.specs.program_walks.proofs.OpenedLivesRecorded.{or_cases, second_true, or_first, or_second, both_true}
 use Rattle.call_owing.specs.Below.id_runs.specs.Goes.{FitsSock}
 use Rattle.call_owing.specs.Owns.{Other, HasClaimed, HasLock, HasTaken, Grows, IsIdOf, IsOwnAt, but, Owns}
-use Rattle.call_owing.proofs.Posts.{id_back}
+use Rattle.call_owing.proofs.PostsAndDecisionsOwed.{id_back}
 use Rattle.owned_ids.proofs.OwnsLoops.{Later, Locked, AfterPost, AfterUnlock, AfterLock, grows_on, grows_same, id_grows, step, say, aside, retries, post_with_goes, unlocks_again, decide_goes, decided_goes, posted_goes, post_goes, locks_again, joins_again, opens_again, reads_again, discards_again, answer_goes}
 use Rattle.owned_ids.proofs.OwnsSends.{release_goes, address_goes, set_failed_goes, fail_goes, hold_goes, drop_goes, accept_goes, send_goes, end_goes}
 

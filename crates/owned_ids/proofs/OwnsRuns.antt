@@ -9,7 +9,7 @@ use Rattle.sock_words.specs.declared.plain.Plan.{Plan}
 use Rattle.seat_programs.specs.brpc_model.specs.Items.{Item, is_call}
 use Rattle.seat_programs.specs.brpc_model.specs.Operations.{operations, clients}
 use Rattle.seat_programs.specs.brpc_model.specs.Order.{EachBefore}
-use Rattle.seat_programs.specs.brpc_model.specs.Places.{names}
+use Rattle.seat_programs.specs.brpc_model.specs.LinePlaceFaults.{names}
 use Rattle.sock_model.specs.declared.view.View.{View}
 use Rattle.corr_core.specs.Word.{Parts}
 use Rattle.corr_core.specs.declared.marks.Plan.{Plan as IdPlan}
@@ -19,34 +19,34 @@ use Rattle.seat_programs.specs.declared.task.Task.{Task}
 use Rattle.seat_programs.specs.Asides.{StoreAt}
 use Rattle.seat_programs.specs.Programs.{Program, Rest, Write, Aside, Round}
 use Rattle.seat_programs.specs.Tasks.{Numbered, numbered, calls, opens, tasks, plan_of, id_plan_of}
-use Rattle.seat_programs.specs.Clients.{client_from, ending_of}
-use Rattle.seat_programs.specs.Readers.{reader}
-use Rattle.seat_programs.specs.Told.{HaveOwnLinks}
+use Rattle.seat_programs.specs.ClientProgram.{client_from, ending_of}
+use Rattle.seat_programs.specs.ReaderProgram.{reader}
+use Rattle.seat_programs.specs.Explained.{HaveOwnLinks}
 use Rattle.seat_programs.specs.Cores.{Core, SeatState, resolved, next_step, with_seat}
 use Rattle.seat_programs.specs.Ticks.{Moment, ticked, run}
-use Rattle.seat_programs.specs.Scripts.{sizes_of, programs, readers_from, all_programs, opened, tasks_from, all_tasks, is_ending}
-use Rattle.call_owing.specs.Below.programs_allowed.specs.program_walks.proofs.Opening.{mapped, appended, or_cases, second_true}
-use Rattle.call_owing.specs.Below.id_runs.specs.Held.{IdView}
+use Rattle.seat_programs.specs.ScriptSetupToEnding.{sizes_of, programs, readers_from, all_programs, opened, tasks_from, all_tasks, is_ending}
+use Rattle.call_owing.specs.Below.programs_allowed.specs.program_walks.proofs.OpenedLivesRecorded.{mapped, appended, or_cases, second_true}
+use Rattle.call_owing.specs.Below.id_runs.specs.HeldIdTokens.{IdView}
 use Rattle.call_owing.specs.Below.id_runs.specs.Goes.{IdGoesOn, SoundIds}
-use Rattle.call_owing.specs.Below.id_runs.proofs.Loops.{ids_round}
-use Rattle.call_owing.specs.Below.id_runs.proofs.Programs as idprograms
-use Rattle.call_owing.specs.Below.id_runs.proofs.Opening.{unused}
-use Rattle.call_owing.specs.Below.joint_runs.proofs.Both.{AreBoth}
-use Rattle.call_owing.specs.Below.joint_runs.proofs.Runs.{AreMade}
-use Rattle.call_owing.specs.Below.script_facts.proofs.Lists.{Has, has_later, some_is, all_from, has_filter_map}
-use Rattle.call_owing.specs.Below.script_facts.proofs.Numbering.{link_at, numbered_at}
+use Rattle.call_owing.specs.Below.id_runs.proofs.IdLoopRounds.{ids_round}
+use Rattle.call_owing.specs.Below.id_runs.proofs.IdPrograms as idprograms
+use Rattle.call_owing.specs.Below.id_runs.proofs.IdRuleOpening.{unused}
+use Rattle.call_owing.specs.Below.joint_runs.proofs.BothTablesSound.{AreBoth}
+use Rattle.call_owing.specs.Below.joint_runs.proofs.RunsOfBothTables.{AreMade}
+use Rattle.call_owing.specs.Below.script_facts.proofs.FilteredLists.{Has, has_later, some_is, all_from, has_filter_map}
+use Rattle.call_owing.specs.Below.script_facts.proofs.OperationNumbering.{link_at, numbered_at}
 use Rattle.call_owing.specs.Below.script_facts.proofs.TaskLemmas.{IsTaskOf, has_task, of_tasks, call_asks, numbers_at}
 use Rattle.call_owing.proofs.EndsStill.{all_at, view_of}
 use Rattle.call_owing.specs.Owing.{InList}
-use Rattle.call_owing.specs.Lives.{KeepsAt, AreKept}
+use Rattle.call_owing.specs.LivesOfLinks.{KeepsAt, AreKept}
 use Rattle.call_owing.specs.Owns.{Behind, Other, Owns, IsTrueOf, Owned}
 use Rattle.owned_ids.proofs.OpensStored.{place_at}
 use Rattle.owned_ids.proofs.OwnsLoops.{grows_same, owns_any, owns_round}
 use Rattle.owned_ids.proofs.OwnsSends.{block_goes}
 use Rattle.owned_ids.proofs.OwnsCalls.{CallsOwn, is_calling, calls_in, client_goes, reader_goes, ending_goes}
 use Rattle.owned_ids.proofs.OwnsTicks.{own_at, resolved_owns, true_of, true_on, on_sockets, owns_ticks}
-use Rattle.call_owing.specs.Below.id_runs.proofs.Loops.{and_left}
-use Rattle.seat_programs.specs.Rounds.{first_step}
+use Rattle.call_owing.specs.Below.id_runs.proofs.IdLoopRounds.{and_left}
+use Rattle.seat_programs.specs.LoopRounds.{first_step}
 
 -- ## Along ticks
 
@@ -174,7 +174,7 @@ module _ (script : List Item) where
     inside = λ o some_. absurd (some_ refl);
     once = λ j o there. let x = caller j o there in (refl, subst (λ y. InList y (calls script)) x.number (call_is j x.task x.of x.calling));
     apart = λ j k o a b. one_caller j k o (caller j o a) (caller k o b);
-    ats = λ o inside some_. absurd (some_ ((unused (id_plan_of script)).rest (Rattle.seat_programs.specs.id_rule.specs.Lawful.at_index (id_plan_of script) o) (omega arith)));
+    ats = λ o inside some_. absurd (some_ ((unused (id_plan_of script)).rest (Rattle.seat_programs.specs.id_rule.specs.LawfulIdTable.at_index (id_plan_of script) o) (omega arith)));
     homes = λ i inside x e some_. absurd (some_ (ap (λ (y : Parts). y.state) ((unused (id_plan_of script)).ids i inside)));
     seats = λ j seat at. let x = mapped (λ (program : Program). record { program = next_step (resolved [] program); hand = [] }) (all_programs first (readers_from (calls script) 0 (opens script))) j seat at in
         let r = resolved_owns (opened script) none_yet (first_left j) [] tt Other x.0 (begins j x.0 x.1) tt in

@@ -7,7 +7,7 @@ use native.Mathlib.Decide.{ℕ_discrete}
 use mathlib.Core.Option.{Option, none, some, some-injective, some-ne-none}
 use lib.ListN.{get_elem?}
 use Rattle.atomic_table.proofs.Lists.{set_else}
-use Rattle.call_owing.specs.Below.chain_steps.proofs.Lists.{at_length}
+use Rattle.call_owing.specs.Below.chain_steps.proofs.TicketLists.{at_length}
 use Rattle.sock_words.specs.declared.plain.Plan.{Plan}
 use Rattle.corr_core.specs.Word.{Parts, parts, made_word, locked_word, posted_word, unlocked_word, free_word}
 use Rattle.corr_core.specs.Law.{Stands, HomeIs, vacant, retired, claimed, opened, locked, leaving}
@@ -16,18 +16,18 @@ use Rattle.corr_core.specs.declared.marks.Hand.{Hand}
 use Rattle.corr_core.specs.declared.marks.Hand.TheVariants.{Empty, Out, Full}
 use Rattle.corr_core.specs.declared.marks.Token.{Token}
 use Rattle.corr_core.specs.declared.marks.Token.TheVariants.{Claimed, Locked}
-use Rattle.seat_programs.specs.id_rule.specs.Lawful.{tag_index, id_index, call_index, at_index, local, tokens_in}
-use Rattle.seat_programs.specs.id_rule.proofs.Allowed as allowed
+use Rattle.seat_programs.specs.id_rule.specs.LawfulIdTable.{tag_index, id_index, call_index, at_index, local, tokens_in}
+use Rattle.seat_programs.specs.id_rule.proofs.AllowedIdSteps as allowed
 use Rattle.seat_programs.specs.sock_message.specs.Asked.{Asked}
 use Rattle.seat_programs.specs.Asides.{Step, Found, ClaimId, PutCall, MakeId, StoreCall, StoreAt, LockId, PostId, UnlockId, EndId, FreeId, TakeCall, TakeBytes, Taking, Bytes}
-use Rattle.seat_programs.specs.Posts.{packed}
-use Rattle.seat_programs.specs.Beside.{found_in, calls_after, more_given}
+use Rattle.seat_programs.specs.PostPrograms.{packed}
+use Rattle.seat_programs.specs.FoundAndChangedAside.{found_in, calls_after, more_given}
 use Rattle.seat_programs.specs.Cores.{Calls, Core}
-use Rattle.call_owing.specs.Below.id_runs.specs.Held.{IdView, id_state, HasOne, MayId}
+use Rattle.call_owing.specs.Below.id_runs.specs.HeldIdTokens.{IdView, id_state, HasOne, MayId}
 use Rattle.call_owing.specs.Below.id_runs.specs.Goes.{SoundIds, FindsId}
-use Rattle.call_owing.specs.Below.id_runs.proofs.Keeps.{parts_packed}
-use Rattle.call_owing.specs.Sound.{id_word_of}
-use Rattle.sock_words.specs.Words.{bit}
+use Rattle.call_owing.specs.Below.id_runs.proofs.AsidesKeepingIdRule.{parts_packed}
+use Rattle.call_owing.specs.SoundOwing.{id_word_of}
+use Rattle.sock_words.specs.PackedWords.{bit}
 
 -- ## Words
 

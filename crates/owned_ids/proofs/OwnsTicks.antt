@@ -8,48 +8,48 @@ use native.Mathlib.Decide.{ℕ_discrete}
 use mathlib.Core.Option.{Option, none, some, some-injective, some-ne-none}
 use lib.ListN.{get_elem?}
 use Rattle.atomic_table.proofs.Lists.{at_set, set_here}
-use Rattle.sock_words.specs.Words.{at_word as word_of_at, at_word_first, at_word_slot, call_id, id_slot, id_first, bit}
+use Rattle.sock_words.specs.PackedWords.{at_word as word_of_at, at_word_first, at_word_slot, call_id, id_slot, id_first, bit}
 use Rattle.sock_words.specs.declared.plain.Plan.{Plan}
 use Rattle.sock_io.specs.declared.link.Put.{Put}
 use Rattle.sock_io.specs.declared.link.Ready.{Ready}
 use Rattle.sock_model.specs.declared.home.Home.{Home}
-use Rattle.sock_model.specs.Messages.{HeadedBytes}
-use Rattle.sock_model.specs.Reads.{message, link_home}
+use Rattle.sock_model.specs.UnplacedMessages.{HeadedBytes}
+use Rattle.sock_model.specs.ChainLawReads.{message, link_home}
 use Rattle.corr_core.specs.Word.{Parts, parts, made_word, posted_word, unlocked_word, free_word}
 use Rattle.corr_core.specs.declared.marks.Plan.{Plan as IdPlan}
 use Rattle.corr_core.specs.declared.marks.Token.{Token}
 use Rattle.corr_core.specs.declared.marks.Token.TheVariants.{Locked}
 use Rattle.corr_core.specs.declared.marks.Hand.TheVariants.{Empty}
-use Rattle.corr_core.specs.Decisions.{ends_call}
-use Rattle.seat_programs.specs.id_rule.specs.Lawful.{tag_index, id_index, call_index, at_index, tokens_of}
+use Rattle.corr_core.specs.ErrorsThatEndCalls.{ends_call}
+use Rattle.seat_programs.specs.id_rule.specs.LawfulIdTable.{tag_index, id_index, call_index, at_index, tokens_of}
 use Rattle.seat_programs.specs.sock_message.specs.Asked.{Asked}
 use Rattle.seat_programs.specs.Asides.{Step, Found, ClaimId, PutCall, MakeId, StoreCall, LoadCall, StoreAt, LoadAt, LoadIdWord, LockId, PostId, UnlockId, EndId, FreeId, TakeCall, TakeBytes, Taking, Bytes, Nothing, NoMore, AtEnd, Closed, Broken}
-use Rattle.call_owing.specs.Below.sock_steps.proofs.Quiet.{either_way}
-use Rattle.seat_programs.specs.Heads.{Head, Exit, Retry, Posts, Unlocks, Decides, Locks, Joins, Opens, Reads, Discards}
+use Rattle.call_owing.specs.Below.sock_steps.proofs.SumsAsMarksChange.{either_way}
+use Rattle.seat_programs.specs.LoopHeads.{Head, Exit, Retry, Posts, Unlocks, Decides, Locks, Joins, Opens, Reads, Discards}
 use Rattle.seat_programs.specs.Programs.{Program, Do, Say, Sent, TakeMessage, TakeHome, PutHome, PutBytes, AskReady, Write, Aside, Round, Keep, Retries}
-use Rattle.seat_programs.specs.Posts.{packed}
-use Rattle.seat_programs.specs.Sends.{block}
-use Rattle.seat_programs.specs.Rounds.{round, first_step}
-use Rattle.seat_programs.specs.Beside.{found_in, calls_after, call_at, more_given}
+use Rattle.seat_programs.specs.PostPrograms.{packed}
+use Rattle.seat_programs.specs.SendAndWritePrograms.{block}
+use Rattle.seat_programs.specs.LoopRounds.{round, first_step}
+use Rattle.seat_programs.specs.FoundAndChangedAside.{found_in, calls_after, call_at, more_given}
 use Rattle.seat_programs.specs.Cores.{Calls, Core, SeatState, found_at, resolved, next_step, waiting_at, with_seat}
 use Rattle.seat_programs.specs.StepTables.{word_of}
 use Rattle.seat_programs.specs.Ticks.{Answer, OfPut, OfReady, Moment, taken, with_message, with_link, with_put, with_ready, with_found, step_with, tick_with, ticked}
-use Rattle.call_owing.specs.Below.id_runs.specs.Held.{IdView, one, HasOne, MayId}
+use Rattle.call_owing.specs.Below.id_runs.specs.HeldIdTokens.{IdView, one, HasOne, MayId}
 use Rattle.call_owing.specs.Below.id_runs.specs.Goes.{FitsRetryId, FindsId, IdGoesOn, SoundIds, FitsFirst, IsFittingIds}
-use Rattle.call_owing.specs.Below.id_runs.proofs.Keeps.{parts_packed}
-use Rattle.call_owing.specs.Below.id_runs.proofs.Steps.{finds_ids}
-use Rattle.call_owing.specs.Below.id_runs.proofs.Loops.{ids_round}
-use Rattle.call_owing.specs.Below.id_runs.proofs.Programs as idprograms
+use Rattle.call_owing.specs.Below.id_runs.proofs.AsidesKeepingIdRule.{parts_packed}
+use Rattle.call_owing.specs.Below.id_runs.proofs.AsideStepsKeepRule.{finds_ids}
+use Rattle.call_owing.specs.Below.id_runs.proofs.IdLoopRounds.{ids_round}
+use Rattle.call_owing.specs.Below.id_runs.proofs.IdPrograms as idprograms
 use Rattle.call_owing.proofs.EndsStill.{view_of}
 use Rattle.call_owing.specs.Owing.{InList}
-use Rattle.call_owing.specs.Sound.{id_word_of, at_of}
+use Rattle.call_owing.specs.SoundOwing.{id_word_of, at_of}
 use Rattle.call_owing.specs.Owns.{Behind, Other, HasClaimed, HasPut, HasLock, HasTaken, Grows, IsIdOf, IsOwnAt, but, FindsOwn, left_behind, taken_behind, put_behind, behind, Owns, IsTrue, IsTrueOf, Owned}
-use Rattle.call_owing.proofs.Posts.{id_back}
+use Rattle.call_owing.proofs.PostsAndDecisionsOwed.{id_back}
 use Rattle.owned_ids.proofs.OwnsLoops.{later, grows_same, id_grows, owns_grows, owns_any, owns_round}
 use Rattle.owned_ids.proofs.OwnsSends.{block_goes}
 use Rattle.owned_ids.proofs.OwnsCalls.{retry_goes}
 use Rattle.owned_ids.proofs.OwnsSteps.{one_seat, free_tag, home_inside, word_inside, Then, Keeps, Acts, step_keeps, acts_token}
-use Rattle.call_owing.specs.Below.id_runs.proofs.Loops.{and_left, and_right}
+use Rattle.call_owing.specs.Below.id_runs.proofs.IdLoopRounds.{and_left, and_right}
 
 -- ## Behind what is said
 

@@ -7,49 +7,49 @@ use mathlib.Core.Option.{Option, some, none, some-ne-none}
 use native.Mathlib.Decide.{ℕ_discrete}
 use lib.ListN.{get_elem?}
 use Rattle.atomic_table.proofs.Lists.{at_set}
-use Rattle.sock_words.specs.Words.{socket_id, vref_version, NO_SOCKET}
+use Rattle.sock_words.specs.PackedWords.{socket_id, vref_version, NO_SOCKET}
 use Rattle.sock_words.specs.declared.plain.Plan.{Plan}
 use Rattle.sock_model.specs.declared.chain.Right.{Right}
 use Rattle.sock_model.specs.declared.home.Home.{Home}
 use Rattle.sock_model.specs.declared.marks.Mark.TheVariants.{Known, Born, Linked}
 use Rattle.sock_model.specs.declared.view.View.{View}
 use Rattle.sock_model.specs.Marks.{at, without_at}
-use Rattle.sock_model.specs.Weights.{is_linked, is_stage}
-use Rattle.sock_model.specs.Layout.{all_words, open_index}
+use Rattle.sock_model.specs.MarkWeights.{is_linked, is_stage}
+use Rattle.sock_model.specs.SocketTableLayout.{all_words, open_index}
 use Rattle.sock_model.specs.SlotRows.{marks_of}
 use Rattle.corr_core.specs.declared.marks.Plan.{Plan as IdPlan}
-use Rattle.call_owing.specs.Below.programs_allowed.specs.slot_steps.proofs.Sums.{about-here}
-use Rattle.call_owing.specs.Below.programs_allowed.specs.slot_steps.proofs.Numbers.{pair-same}
-use Rattle.call_owing.specs.Below.sock_steps.proofs.Places.{counts, own_count}
-use Rattle.call_owing.specs.Below.sock_steps.proofs.Quiet.{either_way}
+use Rattle.call_owing.specs.Below.programs_allowed.specs.slot_steps.proofs.SlotWeightSums.{about-here}
+use Rattle.call_owing.specs.Below.programs_allowed.specs.slot_steps.proofs.RuleNumbers.{pair-same}
+use Rattle.call_owing.specs.Below.sock_steps.proofs.LifeLinkSlotPlaces.{counts, own_count}
+use Rattle.call_owing.specs.Below.sock_steps.proofs.SumsAsMarksChange.{either_way}
 use Rattle.seat_programs.specs.declared.task.Task.{Task}
 use Rattle.seat_programs.specs.declared.task.Sizes.{Sizes}
-use Rattle.seat_programs.specs.Calls.{TableStep, CreateLife, StoreOpen}
+use Rattle.seat_programs.specs.TableSteps.{TableStep, CreateLife, StoreOpen}
 use Rattle.seat_programs.specs.Programs.{Program, Do, Rest, open_from, make_socket}
-use Rattle.seat_programs.specs.Clients.{HeldLife, operation, client_from, ending_of}
+use Rattle.seat_programs.specs.ClientProgram.{HeldLife, operation, client_from, ending_of}
 use Rattle.seat_programs.specs.Cores.{Calls, Core, SeatState, found_at, words_after, homes_after, hand_after, resolved, next_step, waiting_at, with_seat, stepped}
 use Rattle.seat_programs.specs.StepTables.{word_of, word_after}
 use Rattle.seat_programs.specs.Ticks.{Moment, ticked, run, IsAnswered, AreAnswered}
-use Rattle.seat_programs.specs.Scripts.{sizes_of, beginning, programs, readers_from, is_ending}
+use Rattle.seat_programs.specs.ScriptSetupToEnding.{sizes_of, beginning, programs, readers_from, is_ending}
 use Rattle.call_owing.proofs.EndsStill.{all_at}
 use Rattle.seat_programs.specs.StepTables.{row, hand_at}
 use Rattle.seat_programs.specs.StepTables.{May}
-use Rattle.call_owing.specs.Below.programs_allowed.specs.program_steps.specs.Sound.{state, Sound, IsFitting, AreFitting, views_after, views_along}
-use Rattle.call_owing.specs.Below.programs_allowed.specs.sock_runs.proofs.Notes.{bears}
+use Rattle.call_owing.specs.Below.programs_allowed.specs.program_steps.specs.SoundSeats.{state, Sound, IsFitting, AreFitting, views_after, views_along}
+use Rattle.call_owing.specs.Below.programs_allowed.specs.sock_runs.proofs.NotesOfSteps.{bears}
 use Rattle.call_owing.specs.Below.programs_allowed.specs.sock_runs.proofs.LinkNotes.{links_stay}
 use Rattle.call_owing.specs.Below.programs_allowed.specs.sock_runs.proofs.LinksStay.{IsGiven}
 use Rattle.call_owing.specs.Below.programs_allowed.specs.program_walks.proofs.Records.{stores, opens_same}
-use Rattle.call_owing.specs.Below.programs_allowed.specs.program_walks.proofs.Opening.{mapped, appended}
+use Rattle.call_owing.specs.Below.programs_allowed.specs.program_walks.proofs.OpenedLivesRecorded.{mapped, appended}
 use Rattle.call_owing.specs.Below.programs_allowed.specs.program_walks.proofs.LinksOpening.{OwnsLink}
 use Rattle.call_owing.specs.Below.programs_allowed.specs.program_walks.proofs.Through.{Passes, PassesOpens, Follows, comes_follows, through_any_failed, at_calls_passes, at_calls_follow}
 use Rattle.call_owing.specs.Below.programs_allowed.specs.program_steps.proofs.AtCalls.{AtCalls, every_exit}
 use Rattle.call_owing.specs.Below.programs_allowed.specs.program_walks.proofs.ThroughSends.{through_ending}
 use Rattle.call_owing.specs.Below.programs_allowed.specs.program_walks.proofs.ThroughCalls.{through_others, through_first, through_next}
 use Rattle.call_owing.specs.Below.programs_allowed.specs.program_walks.proofs.ThroughClients.{through_back, through_any}
-use Rattle.call_owing.specs.Below.programs_allowed.specs.program_steps.proofs.Cases.{ComesNext, with_rights, tick_keeps_marks}
+use Rattle.call_owing.specs.Below.programs_allowed.specs.program_steps.proofs.TickCases.{ComesNext, with_rights, tick_keeps_marks}
 use Rattle.call_owing.specs.Below.programs_allowed.specs.sock_runs.proofs.LinkTicks.{RetriesGo}
-use Rattle.call_owing.specs.Below.programs_allowed.specs.sock_runs.proofs.Ticks.{sound_ticks}
-use Rattle.seat_programs.specs.Rounds.{first_step}
+use Rattle.call_owing.specs.Below.programs_allowed.specs.sock_runs.proofs.TicksKeepSeatsSound.{sound_ticks}
+use Rattle.seat_programs.specs.LoopRounds.{first_step}
 use Rattle.sock_words.specs.Totals.{total}
 
 -- ## Programs

@@ -1,10 +1,10 @@
 ghost use Rattle.std.specs.Prelude.{◌≡◌, ◌≤◌, [], false, IfSome, length};
-ghost use Rattle.sock_open.specs.Made.{AreMade, IsNewSeat, AreNewSeats, PassesFrom};
+ghost use Rattle.sock_open.specs.NewTableContents.{AreMade, IsNewSeat, AreNewSeats, PassesFrom};
 ghost use Rattle.sock_message.specs.Asked.{name_of};
-ghost use Rattle.corr_id.specs.Seats.{Sits, IsFree};
-ghost use Rattle.corr_id.specs.Opening.{AreNew};
-ghost use Rattle.call_client.specs.Acting.{MayGo};
-ghost use Rattle.call_client.specs.Running.{MayMakeAll};
+ghost use Rattle.corr_id.specs.IdTableSeat.{Sits, IsFree};
+ghost use Rattle.corr_id.specs.IdTableOpening.{AreNew};
+ghost use Rattle.call_client.specs.ClientBetweenOperations.{MayGo};
+ghost use Rattle.call_client.specs.ClientRun.{MayMakeAll};
 
 use crate::sockets::ONE;
 use call_attempts::Tables;

@@ -1,10 +1,10 @@
 ghost use Rattle.std.specs.Prelude.{◌≡◌, ◌≢◌, ◌<◌, ◌≤◌, ℕ, [], IfSome};
 ghost use Rattle.corr_core.specs.Word.{parts};
 ghost use Rattle.corr_core.specs.declared.marks.Hand.TheVariants.{Empty};
-ghost use Rattle.id_rule.specs.Lawful.{tokens_in};
-ghost use Rattle.corr_id.specs.Seats.{Sits, IsFree};
-ghost use Rattle.corr_id.specs.Calls.{Locks};
-ghost use Rattle.corr_id.specs.Opening.{AreNew};
+ghost use Rattle.id_rule.specs.LawfulIdTable.{tokens_in};
+ghost use Rattle.corr_id.specs.IdTableSeat.{Sits, IsFree};
+ghost use Rattle.corr_id.specs.SeatBehindIdCalls.{Locks};
+ghost use Rattle.corr_id.specs.IdTableOpening.{AreNew};
 
 use corr_id::{IdGone, IdLock, IdSeat, IdTable, Posted, Unlocked};
 use sock_words::IdWord;

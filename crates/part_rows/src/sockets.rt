@@ -1,8 +1,8 @@
 ghost use Rattle.std.specs.Prelude.{◌≡◌, ◌+◌, ◌<◌, ◌≤◌, IfSome};
-ghost use Rattle.sock_table.specs.Closed.{AllDone, IsDoneSeat};
-ghost use Rattle.sock_table.specs.Passes.{IsPass};
-ghost use Rattle.sock_table.specs.Refs.{Knows};
-ghost use Rattle.sock_open.specs.Made.{AreNewSeats, PassesFrom};
+ghost use Rattle.sock_table.specs.ClosedSocketTable.{AllDone, IsDoneSeat};
+ghost use Rattle.sock_table.specs.LinkPasses.{IsPass};
+ghost use Rattle.sock_table.specs.ReferenceCalls.{Knows};
+ghost use Rattle.sock_open.specs.NewTableContents.{AreNewSeats, PassesFrom};
 ghost use Rattle.sock_words.specs.Totals.{total};
 
 use sock_io::MemOut;

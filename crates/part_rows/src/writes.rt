@@ -1,10 +1,10 @@
 ghost use Rattle.std.specs.Prelude.{◌≡◌, ◌<◌, IfSome};
-ghost use Rattle.sock_table.specs.Passes.{IsPass};
-ghost use Rattle.sock_open.specs.Made.{AreMade, IsNewSeat, AreNewSeats, PassesFrom};
-ghost use Rattle.rpc_client.specs.write_chain.specs.Sending.{HasRoom};
-ghost use Rattle.rpc_client.specs.Seats.{MayAct};
-ghost use Rattle.corr_id.specs.Seats.{Sits, IsFree};
-ghost use Rattle.corr_id.specs.Opening.{AreNew};
+ghost use Rattle.sock_table.specs.LinkPasses.{IsPass};
+ghost use Rattle.sock_open.specs.NewTableContents.{AreMade, IsNewSeat, AreNewSeats, PassesFrom};
+ghost use Rattle.rpc_client.specs.write_chain.specs.SendingIntoChain.{HasRoom};
+ghost use Rattle.rpc_client.specs.SeatBetweenOperations.{MayAct};
+ghost use Rattle.corr_id.specs.IdTableSeat.{Sits, IsFree};
+ghost use Rattle.corr_id.specs.IdTableOpening.{AreNew};
 
 use crate::sockets::ONE;
 use call_errors::CallSeat;

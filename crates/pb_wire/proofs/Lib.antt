@@ -1,8 +1,8 @@
 pub mod Groups
 pub mod Keys
-pub mod Readings
+pub mod FieldReadings
 pub mod Varints
 pub mod FieldForms
 pub mod ReadingForms
 pub mod Shortest
-pub mod Messages
+pub mod MessageFields

@@ -3,7 +3,7 @@ use Rattle.std.proofs.Common.{◌≡◌, ℕ, ◌≤◌, ◌+◌, ◌-◌, List,
 use Rattle.std.proofs.lemmas.List.{length-take, length-drop, take-append-drop, take-take}
 use Rattle.brpc_model.specs.Wire as wire
 use Rattle.brpc_model.specs.Wire.{WireFault, Wire, ◌>>=◌, Front, field}
-use Rattle.pb_wire.specs.Reading.{Reading, rest, first_field, unless_met, ahead}
+use Rattle.pb_wire.specs.FieldReader.{Reading, rest, first_field, unless_met, ahead}
 use Rattle.pb_wire.specs.Form.{IsField}
 use Rattle.pb_wire.proofs.FieldForms.{read_field_form, form_read_field}
 

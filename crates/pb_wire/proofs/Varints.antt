@@ -9,7 +9,7 @@ use Rattle.std.proofs.lemmas.Grind.{common_steps}
 use Rattle.std.specs.List.{All, prefix_len}
 use Rattle.brpc_model.specs.Wire.{WireFault, Truncated, LongVarint, Wire, Front, goes_on, low_first, varint}
 use Rattle.pb_wire.specs.declared.fault.WireFault as declared
-use Rattle.pb_wire.specs.Told.{varint_front}
+use Rattle.pb_wire.specs.WireCallAnswers.{varint_front}
 use Rattle.pb_wire.specs.Form.{IsVarint}
 
 -- the varint, by how many bytes are followed

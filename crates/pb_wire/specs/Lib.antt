@@ -1,5 +1,5 @@
-pub mod Told
+pub mod WireCallAnswers
 pub mod Read
-pub mod Reading
+pub mod FieldReader
 pub mod Form
 pub use Rattle.brpc_model

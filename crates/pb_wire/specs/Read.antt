@@ -7,7 +7,7 @@ use Rattle.pb_wire.specs.declared.values.Value.{Value}
 use Rattle.pb_wire.specs.declared.values.Field.{Field}
 use Rattle.pb_wire.specs.declared.values.WireType.{WireType}
 use Rattle.pb_wire.specs.declared.values.WireType.TheVariants as type_
-use Rattle.pb_wire.specs.Told.{fault_of, value_in, field_in}
+use Rattle.pb_wire.specs.WireCallAnswers.{fault_of, value_in, field_in}
 
 -- the number of a wire type
 abbrev pub type_number : WireType → ℕ

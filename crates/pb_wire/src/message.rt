@@ -1,8 +1,8 @@
 ghost use Rattle.std.specs.Prelude.{◌≡◌, ◌↔◌, ℕ, List, ◌+◌, ◌<◌, ◌≤◌, length, slice_range, Ok, Some, None, IfOk, IfSome};
 ghost use Rattle.brpc_model.specs.Wire.{Field as WireField};
-ghost use Rattle.pb_wire.specs.Told.{field_in, answer_in, IsBefore};
+ghost use Rattle.pb_wire.specs.WireCallAnswers.{field_in, answer_in, IsBefore};
 ghost use Rattle.pb_wire.specs.Form.{IsField, IsMessage};
-ghost use Rattle.pb_wire.specs.Reading.{ahead, behind, sizeless, left, in_front};
+ghost use Rattle.pb_wire.specs.FieldReader.{ahead, behind, sizeless, left, in_front};
 
 use crate::fault::WireFault;
 use crate::values::{Field, read_field};
@@ -21,8 +21,8 @@ pub struct Fields<'a> {
 
 impl<'a> Model for Fields<'a> {
     ghost use Rattle.std.specs.Prelude.{◌≤◌, length, option_map};
-    ghost use Rattle.pb_wire.specs.Told.{fault_of};
-    ghost use Rattle.pb_wire.specs.Reading.{Reading};
+    ghost use Rattle.pb_wire.specs.WireCallAnswers.{fault_of};
+    ghost use Rattle.pb_wire.specs.FieldReader.{Reading};
 
     ghost Value = { Reading };
 

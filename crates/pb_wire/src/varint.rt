@@ -1,7 +1,7 @@
 ghost use Rattle.std.specs.Prelude.{◌≡◌, ℕ, List, ◌+◌, ◌-◌, ◌*◌, ◌%◌, ◌^◌, ◌<◌, ◌≤◌, length, drop, ◌++◌, min, slice_range, Ok, IfOk, is_ok, if◌then◌else◌};
 ghost use Rattle.std.specs.List.{prefix_len};
 ghost use Rattle.brpc_model.specs.Wire.{varint, goes_on, low_first, varint_bytes};
-ghost use Rattle.pb_wire.specs.Told.{varint_front};
+ghost use Rattle.pb_wire.specs.WireCallAnswers.{varint_front};
 ghost use Rattle.pb_wire.specs.Form.{IsVarint};
 
 use crate::fault::WireFault;

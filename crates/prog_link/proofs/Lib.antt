@@ -1,2 +1,2 @@
-mod Alike
-mod Others
+mod LinksOfOneKind
+mod UnsettledLinks

@@ -1,2 +1,2 @@
-pub mod Halves
-pub mod Linker
+pub mod AnyLinkHalves
+pub mod AnyKindLinker

@@ -1,6 +1,6 @@
 ghost use Rattle.std.specs.Prelude.{◌<◌, length};
-ghost use Rattle.sock_io.specs.Link.{TakeStep};
-ghost use Rattle.prog_link.specs.Halves.{prog_in};
+ghost use Rattle.sock_io.specs.LinkHalves.{TakeStep};
+ghost use Rattle.prog_link.specs.AnyLinkHalves.{prog_in};
 
 use loop_link::LoopIn;
 use net_link::TcpIn;

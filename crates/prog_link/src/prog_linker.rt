@@ -1,8 +1,8 @@
 ghost use Rattle.std.specs.Prelude.{◌≡◌, ◌≢◌, ◌+◌, ◌≤◌, ◌<◌, ◌∷◌, ◌++◌, [], true, false, if◌then◌else◌, length, IfOk, IsErrOf, OnErr};
-ghost use Rattle.sock_io.specs.Causes.{OpenCause, Rose};
-ghost use Rattle.sock_io.specs.Link.{MayOpen, end_of};
-ghost use Rattle.prog_link.specs.Halves.{prog_in, prog_out};
-ghost use Rattle.prog_link.specs.Linker.{are_kind, is_kind, IsOpened, InMemory, OverRings, OverTcp, kind_asked, tells_in_mode};
+ghost use Rattle.sock_io.specs.FaultCauses.{OpenCause, Rose};
+ghost use Rattle.sock_io.specs.LinkHalves.{MayOpen, end_of};
+ghost use Rattle.prog_link.specs.AnyLinkHalves.{prog_in, prog_out};
+ghost use Rattle.prog_link.specs.AnyKindLinker.{are_kind, is_kind, IsOpened, InMemory, OverRings, OverTcp, kind_asked, tells_in_mode};
 
 use crate::prog_in::ProgIn;
 use crate::prog_out::ProgOut;
@@ -42,8 +42,8 @@ pub struct ProgLinker<N: Net<Stream = TcpStream, Listener = TcpListener> + Drop>
 
 impl<N: Net<Stream = TcpStream, Listener = TcpListener> + Drop> Model for ProgLinker<N> {
     ghost use Rattle.std.specs.Prelude.{◌≡◌, true, [], length};
-    ghost use Rattle.sock_io.specs.Link.{LinkerState};
-    ghost use Rattle.prog_link.specs.Linker.{InMemory, OverTcp, are_kind, count_kind, kind_asked};
+    ghost use Rattle.sock_io.specs.LinkHalves.{LinkerState};
+    ghost use Rattle.prog_link.specs.AnyKindLinker.{InMemory, OverTcp, are_kind, count_kind, kind_asked};
 
     ghost Value = { LinkerState };
 

@@ -1,7 +1,7 @@
 ghost use Rattle.std.specs.Prelude.{◌≡◌, ◌≢◌, ◌<◌, [], true, length, IfSome};
-ghost use Rattle.sock_io.specs.Link.{FinishStep, PutStep, ReadyStep};
-ghost use Rattle.prog_link.specs.Halves.{prog_out};
-ghost use Rattle.prog_link.specs.Linker.{OverRings, kind_out};
+ghost use Rattle.sock_io.specs.LinkHalves.{FinishStep, PutStep, ReadyStep};
+ghost use Rattle.prog_link.specs.AnyLinkHalves.{prog_out};
+ghost use Rattle.prog_link.specs.AnyKindLinker.{OverRings, kind_out};
 
 use net_link::TcpHalf;
 use ring_link::RingOut;

@@ -1,5 +1,5 @@
 ghost use Rattle.sock_io.specs.Peer.{ServeStep};
-ghost use Rattle.prog_link.specs.Halves.{prog_peer};
+ghost use Rattle.prog_link.specs.AnyLinkHalves.{prog_peer};
 
 use ring_link::RingPeer;
 use sock_io::{NoMemory, NoPeer, Peer, Served};

@@ -1,7 +1,7 @@
 -- Properties of programs that ask something of steps on words and of loops alone, and hold behind each other step.
 use Rattle.std.proofs.Common.{ℕ}
-use Rattle.seat_programs.specs.Calls.{TableStep}
-use Rattle.seat_programs.specs.Heads.{Head, Exit}
+use Rattle.seat_programs.specs.TableSteps.{TableStep}
+use Rattle.seat_programs.specs.LoopHeads.{Head, Exit}
 use Rattle.seat_programs.specs.Programs.{Program}
 use Rattle.program_steps.specs.AtSteps.{Asks, AtSteps, asks_words}
 

@@ -1,6 +1,6 @@
 -- What each step leaves of the view of its seat, and what notes most steps add to its marks.
 use Rattle.std.proofs.Common.{◌≡◌, ℕ, ◌+◌, ◌-◌, ◌%◌, ◌==◌, Bool, true, false, not, cond, nat_lt, List, [], ◌∷◌, refl, sym, ap, ◌∙◌, subst, take, ◌++◌}
-use Rattle.sock_words.specs.Words.{socket_id_version, socket_id_slot, vref_version, IDLE, UNCONNECTED}
+use Rattle.sock_words.specs.PackedWords.{socket_id_version, socket_id_slot, vref_version, IDLE, UNCONNECTED}
 use Rattle.sock_words.specs.declared.plain.Plan.{Plan}
 use Rattle.sock_model.specs.declared.chain.Claim.{Claim}
 use Rattle.sock_model.specs.declared.chain.Right.{Right}
@@ -11,11 +11,11 @@ use Rattle.sock_model.specs.declared.marks.SlotMark.{SlotMark}
 use Rattle.sock_model.specs.declared.view.View.{View}
 use Rattle.sock_model.specs.declared.view.Hand.{Hand}
 use Rattle.sock_model.specs.Marks.{at}
-use Rattle.sock_model.specs.Weights.{only}
+use Rattle.sock_model.specs.MarkWeights.{only}
 use Rattle.sock_model.specs.SlotRows.{met, looked, told_code, met_link}
 use Rattle.sock_model.specs.ChainRows.{with_hand, spent_hand, with_claim, queued, righted, with_right, without_right, turned_right, placed_right, dropped_right, ready_claim, filled_claim}
-use Rattle.sock_steps.proofs.Quiet.{either_way}
-use Rattle.seat_programs.specs.Calls.{TableStep, Family, Slots, family_of, LoadName, LoadOpen, TakeLink, PutLink, LookWord, LoadLink, FindLink, LoadCode, ClaimRequest, PutMessage, Unconnect, SwapHead, EmptyHead, ReadNext, ReverseNext, FreeRequest, StorePlace, DropPlace}
+use Rattle.sock_steps.proofs.SumsAsMarksChange.{either_way}
+use Rattle.seat_programs.specs.TableSteps.{TableStep, Family, Slots, family_of, LoadName, LoadOpen, TakeLink, PutLink, LookWord, LoadLink, FindLink, LoadCode, ClaimRequest, PutMessage, Unconnect, SwapHead, EmptyHead, ReadNext, ReverseNext, FreeRequest, StorePlace, DropPlace}
 use Rattle.seat_programs.specs.StepTables.{row}
 use Rattle.seat_programs.specs.StepViews.{by_claim, by_right, settled}
 use Rattle.seat_programs.specs.StepsOfNames.{is_id, found_id}

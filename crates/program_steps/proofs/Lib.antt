@@ -1,9 +1,9 @@
-pub mod Cases
-pub mod Bounds
-pub mod Ids
+pub mod TickCases
+pub mod SlotWordBounds
+pub mod LifeIdWords
 pub mod Leaves
-pub mod Rounds
-pub mod Passes
+pub mod AllowedRounds
+pub mod AsideStepsPass
 pub mod AtCalls
 pub mod WordFrame
 pub mod Marking

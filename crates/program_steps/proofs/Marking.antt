@@ -1,18 +1,18 @@
 -- What holds of the marks of a view, and with marks more or less that a step puts and takes away, holds behind the step.
 use Rattle.std.proofs.Common.{◌≡◌, ℕ, ◌+◌, ◌-◌, ◌%◌, ◌<◌, ◌==◌, Bool, true, false, cond, List, ◌∷◌, refl, ap, arith}
 use Rattle.std.proofs.lemmas.Bool.{true≢false}
-use Rattle.sock_words.specs.Words.{socket_id_version, socket_id_slot, vref_version}
+use Rattle.sock_words.specs.PackedWords.{socket_id_version, socket_id_slot, vref_version}
 use Rattle.sock_words.specs.declared.plain.Plan.{Plan}
 use Rattle.sock_model.specs.declared.marks.Mark.{Mark}
 use Rattle.sock_model.specs.declared.marks.Mark.TheVariants.{Claimed, Recycling, Hold, Probe, Zero, Coding, Tried, Known, Born, Saw, Failer, Stored, Told, Freer, Linked, Met}
 use Rattle.sock_model.specs.declared.marks.SlotMark.{SlotMark}
 use Rattle.sock_model.specs.declared.view.View.{View}
 use Rattle.sock_model.specs.declared.view.Hand.{Hand}
-use Rattle.sock_model.specs.Weights.{is_stage, is_recycling, is_zero, is_coding}
+use Rattle.sock_model.specs.MarkWeights.{is_stage, is_recycling, is_zero, is_coding}
 use Rattle.sock_model.specs.Marks.{at, without_at}
-use Rattle.sock_steps.specs.slot_steps.proofs.Slots.{stage_is, any_recycled, zero_is}
-use Rattle.sock_steps.proofs.Quiet.{either_way}
-use Rattle.seat_programs.specs.Calls.{TableStep, ClaimSlot, CreateLife, AddRef, SubRef, SetOdd, Recycle, FreeSlot, StoreLink, ResetHead, ClearCode, StoreCode}
+use Rattle.sock_steps.specs.slot_steps.proofs.ReferenceStepsKeepSlot.{stage_is, any_recycled, zero_is}
+use Rattle.sock_steps.proofs.SumsAsMarksChange.{either_way}
+use Rattle.seat_programs.specs.TableSteps.{TableStep, ClaimSlot, CreateLife, AddRef, SubRef, SetOdd, Recycle, FreeSlot, StoreLink, ResetHead, ClearCode, StoreCode}
 use Rattle.seat_programs.specs.StepTables.{row}
 use Rattle.program_steps.proofs.Leaves.{noting_marks}
 

@@ -3,9 +3,9 @@ use Rattle.std.specs.Prelude.{ℕ, List}
 use Rattle.seat_programs.specs.sock_io.specs.declared.link.Put.{Put}
 use Rattle.seat_programs.specs.sock_io.specs.declared.link.Ready.{Ready}
 use Rattle.sock_model.specs.declared.chain.Heading.{Heading}
-use Rattle.seat_programs.specs.Calls.{TableStep}
+use Rattle.seat_programs.specs.TableSteps.{TableStep}
 use Rattle.seat_programs.specs.Asides.{Step, Found}
-use Rattle.seat_programs.specs.Heads.{Head, Exit, Retry}
+use Rattle.seat_programs.specs.LoopHeads.{Head, Exit, Retry}
 use Rattle.seat_programs.specs.Programs.{Program, Do, Say, Sent, Rest, TakeMessage, TakeHome, PutHome, PutBytes, AskReady, Write, Aside, Round, Keep, Retries}
 
 -- What is asked at a program's end; of a step on words, by what is known before it and by what holds behind it; where something is said; of a move of a

@@ -1,10 +1,10 @@
 pub mod AtSteps
 pub mod Writes
-pub mod Has
-pub mod Fits
-pub mod GoesOn
-pub mod Sound
-pub mod Lasts
+pub mod WhatSeatHas
+pub mod IdWordFits
+pub mod ProgramGoesOn
+pub mod SoundSeats
+pub mod TicksLeftAtMost
 pub use Rattle.sock_steps.specs.chain_steps
 pub use Rattle.sock_steps.specs.slot_steps
 pub use Rattle.sock_steps

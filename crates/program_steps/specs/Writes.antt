@@ -1,7 +1,7 @@
 -- What the view of whoever writes a link says before a move or a put, and at the head of each loop.
 use Rattle.std.specs.Prelude.{ℕ, ◌≡◌, ◌≢◌, ◌*◌, ◌<◌, Bool, true, false, List, [], ◌∷◌, ◌++◌, drop}
 use Rattle.std.specs.List.{AllByRecursion}
-use Rattle.sock_words.specs.Words.{socket_id_version, socket_id_slot, ticket_request}
+use Rattle.sock_words.specs.PackedWords.{socket_id_version, socket_id_slot, ticket_request}
 use Rattle.sock_words.specs.declared.plain.Plan.{Plan}
 use Rattle.sock_model.specs.declared.chain.Heading.{Heading}
 use Rattle.sock_model.specs.declared.chain.Right.{Right}
@@ -11,9 +11,9 @@ use Rattle.sock_model.specs.declared.marks.Mark.{Mark}
 use Rattle.sock_model.specs.declared.marks.Mark.TheVariants.{Saw, Failer, Stored, Told, Met}
 use Rattle.sock_model.specs.declared.marks.SlotMark.{SlotMark}
 use Rattle.sock_model.specs.declared.view.View.{View}
-use Rattle.sock_model.specs.Weights.{is_ref, is_probe, is_any_coding}
+use Rattle.sock_model.specs.MarkWeights.{is_ref, is_probe, is_any_coding}
 use Rattle.sock_model.specs.SlotRows.{marks_of}
-use Rattle.sock_model.specs.Links.{HoldsLink}
+use Rattle.sock_model.specs.LinksInSlots.{HoldsLink}
 use Rattle.seat_programs.specs.Writings.{Holder, Writing, Puts, Waits, Empties, Walks}
 
 -- ## Before a move or a put

@@ -5,9 +5,9 @@ pub mod ThroughSends
 pub mod ThroughCalls
 pub mod ThroughClients
 pub mod Recorded
-pub mod Closing
-pub mod Opening
-pub mod Whole
+pub mod LivesFailedByEnding
+pub mod OpenedLivesRecorded
+pub mod WholeScriptSound
 pub mod Rested
 pub mod ReaderSeats
 pub mod OpensStay

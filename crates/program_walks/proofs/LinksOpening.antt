@@ -8,25 +8,25 @@ use lib.ListN.{get_elem?}
 use Rattle.sock_words.specs.declared.plain.Plan.{Plan}
 use Rattle.seat_programs.specs.brpc_model.specs.Items.{Item, Open, Send, Call, Expire, Join, Hold, Drop, Fail, is_open}
 use Rattle.seat_programs.specs.brpc_model.specs.Operations.{Operation, operations}
-use Rattle.seat_programs.specs.brpc_model.specs.Places.{names}
+use Rattle.seat_programs.specs.brpc_model.specs.LinePlaceFaults.{names}
 use Rattle.seat_programs.specs.corr_core.specs.declared.marks.Plan.{Plan as IdPlan}
 use Rattle.sock_model.specs.declared.view.View.{View}
-use Rattle.sock_model.specs.Weights.{is_linked}
+use Rattle.sock_model.specs.MarkWeights.{is_linked}
 use Rattle.sock_model.specs.Marks.{about}
-use Rattle.sock_steps.proofs.Quiet.{either_way}
+use Rattle.sock_steps.proofs.SumsAsMarksChange.{either_way}
 use Rattle.seat_programs.specs.declared.task.Op.{Op}
 use Rattle.seat_programs.specs.declared.task.Op.TheVariants as ops
 use Rattle.seat_programs.specs.declared.task.Task.{Task}
 use Rattle.seat_programs.specs.declared.task.Sizes.{Sizes}
 use Rattle.seat_programs.specs.Programs.{Program, Rest, open_from, make_socket}
 use Rattle.seat_programs.specs.Tasks.{Numbered, numbered_from, numbered, of_client, op_of, task_of, tasks, opens}
-use Rattle.seat_programs.specs.Clients.{HeldLife, client_from}
+use Rattle.seat_programs.specs.ClientProgram.{HeldLife, client_from}
 use Rattle.seat_programs.specs.Cores.{SeatState, resolved, next_step}
-use Rattle.seat_programs.specs.Scripts.{sizes_of, beginning, programs, readers_from}
-use Rattle.sock_runs.proofs.Ends.{none_has}
+use Rattle.seat_programs.specs.ScriptSetupToEnding.{sizes_of, beginning, programs, readers_from}
+use Rattle.sock_runs.proofs.FailedLivesEnded.{none_has}
 use Rattle.program_walks.proofs.ThroughCalls.{through_others, through_next}
 use Rattle.program_walks.proofs.ThroughClients.{through_back, through_any}
-use Rattle.program_walks.proofs.Opening.{mapped, appended, all_at}
+use Rattle.program_walks.proofs.OpenedLivesRecorded.{mapped, appended, all_at}
 use Rattle.program_walks.proofs.LinksRecorded.{Gives, gives_passes, gives_opens, gives_follow, Linked}
 use Rattle.sock_words.specs.Totals.{total}
 

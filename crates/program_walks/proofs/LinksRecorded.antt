@@ -6,37 +6,37 @@ use mathlib.Core.Option.{Option, some, none, some-injective, some-ne-none}
 use native.Mathlib.Decide.{ℕ_discrete}
 use lib.ListN.{get_elem?}
 use Rattle.atomic_table.proofs.Lists.{at_set, set_here, set_else}
-use Rattle.sock_words.specs.Words.{socket_id, vref_version}
+use Rattle.sock_words.specs.PackedWords.{socket_id, vref_version}
 use Rattle.sock_words.specs.declared.plain.Plan.{Plan}
 use Rattle.sock_model.specs.declared.chain.Right.{Right}
 use Rattle.sock_model.specs.declared.home.Home.{Home}
 use Rattle.sock_model.specs.declared.view.View.{View}
-use Rattle.sock_model.specs.Weights.{is_linked}
-use Rattle.sock_model.specs.Layout.{all_words, open_index}
+use Rattle.sock_model.specs.MarkWeights.{is_linked}
+use Rattle.sock_model.specs.SocketTableLayout.{all_words, open_index}
 use Rattle.sock_model.specs.SlotRows.{marks_of}
-use Rattle.sock_model.specs.Slots.{count}
+use Rattle.sock_model.specs.SocketSlotLaw.{count}
 use Rattle.sock_model.specs.References.{slot_facts}
-use Rattle.sock_steps.proofs.Places.{counts}
-use Rattle.seat_programs.specs.Calls.{TableStep, CreateLife, StoreOpen}
+use Rattle.sock_steps.proofs.LifeLinkSlotPlaces.{counts}
+use Rattle.seat_programs.specs.TableSteps.{TableStep, CreateLife, StoreOpen}
 use Rattle.seat_programs.specs.Programs.{Program, Do}
 use Rattle.seat_programs.specs.Cores.{Calls, Core, SeatState, found_at, words_after, homes_after, hand_after, resolved, next_step, waiting_at, with_seat, stepped}
 use Rattle.seat_programs.specs.StepTables.{word_of, word_after}
 use Rattle.seat_programs.specs.Ticks.{Moment, ticked, run, IsAnswered, AreAnswered}
 use Rattle.seat_programs.specs.StepTables.{row, hand_at}
 use Rattle.seat_programs.specs.StepTables.{May}
-use Rattle.sock_runs.specs.program_steps.specs.Sound.{state, Sound, IsFitting, AreFitting, views_after, views_along}
-use Rattle.sock_runs.proofs.Notes.{bears}
+use Rattle.sock_runs.specs.program_steps.specs.SoundSeats.{state, Sound, IsFitting, AreFitting, views_after, views_along}
+use Rattle.sock_runs.proofs.NotesOfSteps.{bears}
 use Rattle.sock_runs.proofs.LinkNotes.{links_only, birth_links}
 use Rattle.sock_runs.specs.program_steps.proofs.AtCalls.{AtCalls, every_exit}
 use Rattle.program_walks.proofs.Records.{stores, loads, next_stores, Records, next_stored, first_stored, opens_same}
 use Rattle.program_walks.proofs.Recorded.{Recorded, recorded_ticks, stores_none}
 use Rattle.program_walks.proofs.Through.{Passes, PassesOpens, Follows, at_calls_passes, at_calls_follow, records_passes, records_opens, records_follow, comes_follows}
 use Rattle.program_walks.proofs.ThroughCalls.{through_first, through_next}
-use Rattle.sock_runs.specs.program_steps.proofs.Cases.{ComesNext, with_rights, tick_keeps_marks}
+use Rattle.sock_runs.specs.program_steps.proofs.TickCases.{ComesNext, with_rights, tick_keeps_marks}
 use Rattle.sock_runs.proofs.LinkTicks.{RetriesGo}
-use Rattle.sock_runs.proofs.Ticks.{sound_ticks}
-use Rattle.seat_programs.specs.corr_core.proofs.Notes.{at_length}
-use Rattle.seat_programs.specs.Rounds.{first_step}
+use Rattle.sock_runs.proofs.TicksKeepSeatsSound.{sound_ticks}
+use Rattle.seat_programs.specs.corr_core.proofs.NoteSums.{at_length}
+use Rattle.seat_programs.specs.LoopRounds.{first_step}
 
 -- each life that the program makes it stores next, at an operation that is its link's own
 abbrev pub GivesAt : (ℕ → ℕ → Type 0) → Unit {0} → TableStep → (ℕ → Program) → (Unit {0} → ℕ → Type 0) → Type 0

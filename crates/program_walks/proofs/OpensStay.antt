@@ -8,26 +8,26 @@ use native.Mathlib.Decide.{ℕ_discrete}
 use lib.ListN.{get_elem?}
 use Rattle.sock_words.specs.declared.plain.Plan.{Plan}
 use Rattle.sock_model.specs.declared.view.View.{View}
-use Rattle.sock_model.specs.Layout.{open_index}
+use Rattle.sock_model.specs.SocketTableLayout.{open_index}
 use Rattle.seat_programs.specs.corr_core.specs.declared.marks.Plan.{Plan as IdPlan}
-use Rattle.seat_programs.specs.Calls.{TableStep, StoreOpen}
+use Rattle.seat_programs.specs.TableSteps.{TableStep, StoreOpen}
 use Rattle.seat_programs.specs.Programs.{Program, Do, Rest}
-use Rattle.seat_programs.specs.Readers.{reader}
+use Rattle.seat_programs.specs.ReaderProgram.{reader}
 use Rattle.seat_programs.specs.Cores.{Core, SeatState, resolved, next_step, stepped}
 use Rattle.seat_programs.specs.Ticks.{Moment, ticked, run, IsAnswered, AreAnswered}
-use Rattle.seat_programs.specs.Scripts.{beginning, readers_from, all_programs}
+use Rattle.seat_programs.specs.ScriptSetupToEnding.{beginning, readers_from, all_programs}
 use Rattle.seat_programs.specs.StepTables.{May}
-use Rattle.sock_runs.specs.program_steps.specs.Sound.{Sound, IsFitting, AreFitting, views_after}
+use Rattle.sock_runs.specs.program_steps.specs.SoundSeats.{Sound, IsFitting, AreFitting, views_after}
 use Rattle.program_walks.proofs.Records.{Records, opens_same}
 use Rattle.program_walks.proofs.Recorded.{Recorded, recorded_ticks}
 use Rattle.program_walks.proofs.Through.{records_passes, records_opens, records_follow}
 use Rattle.program_walks.proofs.ThroughCalls.{through_first}
-use Rattle.sock_runs.specs.program_steps.proofs.Cases.{tick_keeps_marks}
+use Rattle.sock_runs.specs.program_steps.proofs.TickCases.{tick_keeps_marks}
 use Rattle.sock_runs.proofs.LinkTicks.{RetriesGo}
-use Rattle.sock_runs.proofs.Ticks.{sound_ticks}
-use Rattle.program_walks.proofs.Opening.{mapped}
+use Rattle.sock_runs.proofs.TicksKeepSeatsSound.{sound_ticks}
+use Rattle.program_walks.proofs.OpenedLivesRecorded.{mapped}
 use Rattle.program_walks.proofs.ReaderSeats.{AtReader}
-use Rattle.seat_programs.specs.Rounds.{first_step}
+use Rattle.seat_programs.specs.LoopRounds.{first_step}
 
 module _ (p : Plan) (Q : ℕ → ℕ → Type 0) (o : ℕ) (inside : o < p.operations) where
   abbrev pub Word : Core → ℕ

@@ -10,27 +10,27 @@ use Rattle.atomic_table.proofs.Lists.{at_set}
 use Rattle.sock_words.specs.declared.plain.Plan.{Plan}
 use Rattle.sock_model.specs.declared.home.Home.{Home}
 use Rattle.sock_model.specs.declared.view.View.{View}
-use Rattle.sock_model.specs.Layout.{open_index}
-use Rattle.seat_programs.specs.Calls.{TableStep, LoadOpen, StoreOpen}
-use Rattle.seat_programs.specs.Heads.{Head, Exit, Opens, Reads}
+use Rattle.sock_model.specs.SocketTableLayout.{open_index}
+use Rattle.seat_programs.specs.TableSteps.{TableStep, LoadOpen, StoreOpen}
+use Rattle.seat_programs.specs.LoopHeads.{Head, Exit, Opens, Reads}
 use Rattle.seat_programs.specs.Programs.{Program, Do, Rest, Round}
-use Rattle.seat_programs.specs.Readers.{read, reader}
+use Rattle.seat_programs.specs.ReaderProgram.{read, reader}
 use Rattle.seat_programs.specs.Cores.{Calls, Core, SeatState, found_at, words_after, hand_after, resolved, next_step, waiting_at, with_seat, stepped}
 use Rattle.seat_programs.specs.StepTables.{word_of, word_after}
 use Rattle.seat_programs.specs.Ticks.{Moment, ticked, run, IsAnswered, AreAnswered}
 use Rattle.seat_programs.specs.StepTables.{May}
 use Rattle.seat_programs.specs.StepViews.{Knows}
-use Rattle.sock_runs.specs.program_steps.specs.Sound.{Sound, IsFitting, AreFitting, views_after}
+use Rattle.sock_runs.specs.program_steps.specs.SoundSeats.{Sound, IsFitting, AreFitting, views_after}
 use Rattle.sock_runs.specs.program_steps.proofs.AtCalls.{AtCalls, every_exit}
 use Rattle.program_walks.proofs.Records.{stores, loads, awaits, opens_same}
-use Rattle.sock_runs.proofs.Notes.{bears}
+use Rattle.sock_runs.proofs.NotesOfSteps.{bears}
 use Rattle.program_walks.proofs.Through.{Passes, Follows, any_end, through_any_failed, at_calls_passes, at_calls_follow, comes_follows}
 use Rattle.program_walks.proofs.ThroughCalls.{through_reading, through_head, through_next}
-use Rattle.sock_runs.specs.program_steps.proofs.Cases.{ComesNext, tick_keeps_marks}
+use Rattle.sock_runs.specs.program_steps.proofs.TickCases.{ComesNext, tick_keeps_marks}
 use Rattle.sock_runs.proofs.LinkTicks.{RetriesGo}
-use Rattle.sock_runs.proofs.Ticks.{sound_ticks}
-use Rattle.seat_programs.specs.Rounds.{first_step}
-use Rattle.sock_words.specs.Words.{NO_SOCKET}
+use Rattle.sock_runs.proofs.TicksKeepSeatsSound.{sound_ticks}
+use Rattle.seat_programs.specs.LoopRounds.{first_step}
+use Rattle.sock_words.specs.PackedWords.{NO_SOCKET}
 
 -- ## Programs that load no word of an `open`
 
@@ -66,7 +66,7 @@ no_opens_follow = at_calls_follow (Unit {0}) NoLoad NoWait tt left
 first_none : (program : Program) → NoOpens program → NoOpens (first_step program)
 first_none program x = through_head NoOpens no_opens_passes (λ o exits y. absurd y) no_opens_follow program x
 
-next_none : (ws : List Rattle.seat_programs.specs.Heads.Retry) (program : Program) → NoOpens program → NoOpens (next_step (resolved ws program))
+next_none : (ws : List Rattle.seat_programs.specs.LoopHeads.Retry) (program : Program) → NoOpens program → NoOpens (next_step (resolved ws program))
 next_none ws program x = through_next NoOpens no_opens_passes no_opens_follow ws program x
 
 behind_none : (call : TableStep) (next : ℕ → Program) → NoOpens (Do call next) → (found : ℕ) → NoOpens (next found)
@@ -81,7 +81,7 @@ stored_some p v w (inl e) z = let y : 18446744073709551615 ≡ 0 = sym e ∙ z i
 stored_some p v w (inr k) z = let y : IsTrue (nat_lt 0 0) = subst (λ x. IsTrue (nat_lt 0 x)) z k.0 in true≢false (sym y)
 
 -- a word that was stored isn't 0 again
-pub stays_stored : (p : Plan) (c : Core) (v : View) (o : ℕ) → o < p.operations → length c.words ≡ Rattle.sock_model.specs.Layout.all_words p → (call : TableStep) → May p v call → get_or c.words (open_index p o) 0 ≢ 0
+pub stays_stored : (p : Plan) (c : Core) (v : View) (o : ℕ) → o < p.operations → length c.words ≡ Rattle.sock_model.specs.SocketTableLayout.all_words p → (call : TableStep) → May p v call → get_or c.words (open_index p o) 0 ≢ 0
     → get_or (words_after c.words (word_of p call) (word_after call (found_at c.words (word_of p call)))) (open_index p o) 0 ≢ 0
 stays_stored p c v o inside sized (StoreOpen n w) may some_ = dite (ℕ_discrete n o)
     (λ e. λ z. let same : get_or (set c.words (open_index p n) w) (open_index p o) 0 ≡ w = ap (λ k. get_or (set c.words (open_index p n) w) (open_index p k) 0) (sym e) ∙ get_or-set_same c.words (open_index p n) w 0 (omega (arith, inside, e, sized)) in

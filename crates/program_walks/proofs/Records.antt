@@ -1,12 +1,12 @@
 -- Programs that store each life that they make in the word of an operation of their own, and the words that they leave alone.
 use Rattle.std.proofs.Common.{◌≡◌, ℕ, ◌+◌, ◌<◌, ◌==◌, ◌&&◌, not, Bool, true, List, get_or, refl, sym, ap, arith}
 use mathlib.Core.Option.{Option, some, none, some-ne-none}
-use Rattle.sock_words.specs.Words.{socket_id, vref_version}
+use Rattle.sock_words.specs.PackedWords.{socket_id, vref_version}
 use Rattle.sock_words.specs.declared.plain.Plan.{Plan}
 use Rattle.sock_model.specs.declared.view.View.{View}
-use Rattle.sock_model.specs.Layout.{open_index}
-use Rattle.seat_programs.specs.Calls.{TableStep, CreateLife, StoreOpen, LoadOpen}
-use Rattle.seat_programs.specs.Heads.{Head, Retry, Opens}
+use Rattle.sock_model.specs.SocketTableLayout.{open_index}
+use Rattle.seat_programs.specs.TableSteps.{TableStep, CreateLife, StoreOpen, LoadOpen}
+use Rattle.seat_programs.specs.LoopHeads.{Head, Retry, Opens}
 use Rattle.seat_programs.specs.Programs.{Program, Do, Say, Sent, Write, Round, Keep, Retries}
 use Rattle.seat_programs.specs.TableWords.{OpenOf}
 use Rattle.seat_programs.specs.StepTables.{word_of, word_after}
@@ -14,7 +14,7 @@ use Rattle.seat_programs.specs.Cores.{found_at, words_after, next_step, resolved
 use Rattle.seat_programs.specs.StepTables.{May}
 use Rattle.sock_runs.specs.program_steps.proofs.WordFrame.{load_leaves, word_stays}
 use Rattle.sock_runs.specs.program_steps.proofs.AtCalls.{AtCalls, every_exit}
-use Rattle.seat_programs.specs.Rounds.{first_step}
+use Rattle.seat_programs.specs.LoopRounds.{first_step}
 
 -- ## What a program stores in the words of operations
 

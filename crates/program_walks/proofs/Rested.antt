@@ -6,25 +6,25 @@ use mathlib.Core.Option.{some, some-ne-none}
 use native.Mathlib.Decide.{ℕ_discrete}
 use lib.ListN.{get_elem?}
 use Rattle.atomic_table.proofs.Lists.{at_set, set_else}
-use Rattle.sock_words.specs.Words.{socket_id, socket_id_version, socket_id_slot, vref_version, NO_SOCKET}
+use Rattle.sock_words.specs.PackedWords.{socket_id, socket_id_version, socket_id_slot, vref_version, NO_SOCKET}
 use Rattle.sock_words.specs.declared.plain.Plan.{Plan}
 use Rattle.sock_model.specs.declared.view.View.{View}
-use Rattle.sock_model.specs.Layout.{ref_index, open_index}
-use Rattle.sock_model.specs.Weights.{is_failer}
-use Rattle.sock_model.specs.Slots.{count, live}
+use Rattle.sock_model.specs.SocketTableLayout.{ref_index, open_index}
+use Rattle.sock_model.specs.MarkWeights.{is_failer}
+use Rattle.sock_model.specs.SocketSlotLaw.{count, live}
 use Rattle.sock_model.specs.References.{slot_facts}
-use Rattle.sock_steps.specs.slot_steps.proofs.Numbers.{life_is, life-in}
+use Rattle.sock_steps.specs.slot_steps.proofs.RuleNumbers.{life_is, life-in}
 use Rattle.seat_programs.specs.Programs.{Rest}
-use Rattle.seat_programs.specs.Clients.{ending_of}
+use Rattle.seat_programs.specs.ClientProgram.{ending_of}
 use Rattle.seat_programs.specs.Cores.{Core, SeatState, resolved, next_step, waiting_at, with_seat}
-use Rattle.seat_programs.specs.Scripts.{is_ending}
-use Rattle.sock_runs.specs.program_steps.specs.Sound.{state, Sound, AllRest, AllFailed}
-use Rattle.sock_runs.specs.program_steps.proofs.Bounds.{law, lives_le}
+use Rattle.seat_programs.specs.ScriptSetupToEnding.{is_ending}
+use Rattle.sock_runs.specs.program_steps.specs.SoundSeats.{state, Sound, AllRest, AllFailed}
+use Rattle.sock_runs.specs.program_steps.proofs.SlotWordBounds.{law, lives_le}
 use Rattle.program_walks.proofs.Records.{next_stores, Records}
 use Rattle.program_walks.proofs.Recorded.{Recorded, Stands, nothing, records_more}
 use Rattle.program_walks.proofs.Through.{records_passes, records_follow}
 use Rattle.program_walks.proofs.ThroughCalls.{through_next}
-use Rattle.program_walks.proofs.Closing.{records_ending}
+use Rattle.program_walks.proofs.LivesFailedByEnding.{records_ending}
 
 -- the life in the word of an operation isn't live
 abbrev pub IsPast : Plan → Core → ℕ → Type 0

@@ -4,26 +4,26 @@ use Rattle.std.proofs.lemmas.Bool.{true≢false}
 use Rattle.std.proofs.Math.Path.{fun_ext}
 use Rattle.std.specs.Prelude.{Option}
 use mathlib.Core.Option.{none, some-ne-none}
-use Rattle.sock_words.specs.Words.{socket_id_version, socket_id_slot, vref_version, vref_nref, id_slot}
+use Rattle.sock_words.specs.PackedWords.{socket_id_version, socket_id_slot, vref_version, vref_nref, id_slot}
 use Rattle.sock_words.specs.declared.outcome.Outcome.{Outcome}
 use Rattle.sock_words.specs.declared.outcome.Outcome.TheVariants.{Gone, Held, Freed, Kept}
 use Rattle.sock_words.specs.declared.plain.Plan.{Plan}
 use Rattle.seat_programs.specs.sock_io.specs.declared.link.Put.{Put}
 use Rattle.seat_programs.specs.sock_io.specs.declared.link.Ready.{Ready}
 use Rattle.sock_model.specs.declared.chain.Heading.{Heading}
-use Rattle.sock_steps.proofs.Quiet.{either_way}
+use Rattle.sock_steps.proofs.SumsAsMarksChange.{either_way}
 use Rattle.seat_programs.specs.corr_core.specs.Word.{parts}
 use Rattle.seat_programs.specs.sock_message.specs.Asked.{Asked}
-use Rattle.seat_programs.specs.Calls.{TableStep, CreateLife, StoreOpen, AddRef, SubRef, SetOdd, Recycle, FreeSlot, LoadLink, StoreCode, LoadName, LoadOpen, TakeLink, FinishLink, PutLink, LookWord, ClaimRequest, PutMessage, SwapHead, EmptyHead}
+use Rattle.seat_programs.specs.TableSteps.{TableStep, CreateLife, StoreOpen, AddRef, SubRef, SetOdd, Recycle, FreeSlot, LoadLink, StoreCode, LoadName, LoadOpen, TakeLink, FinishLink, PutLink, LookWord, ClaimRequest, PutMessage, SwapHead, EmptyHead}
 use Rattle.seat_programs.specs.Writings.{Writing}
 use Rattle.seat_programs.specs.Asides.{Step, Found, PutCall, StoreAt, LoadIdWord, LockId, UnlockId, EndId, FreeId, TakeCall, TakeBytes, Taking}
-use Rattle.seat_programs.specs.Heads.{Head, Exit, Retry, Sought, Reading, Ended, Posts, Unlocks, Decides, Locks, Joins, Opens, Reads, Discards, Posting, Unlocking, Deciding, Locking}
+use Rattle.seat_programs.specs.LoopHeads.{Head, Exit, Retry, Sought, Reading, Ended, Posts, Unlocks, Decides, Locks, Joins, Opens, Reads, Discards, Posting, Unlocking, Deciding, Locking}
 use Rattle.seat_programs.specs.Programs.{Program, Do, Say, Sent, TakeMessage, TakeHome, PutHome, PutBytes, AskReady, Write, Aside, Round, Keep, Retries, LAST_VERSION, recycle, release, add_reference, find_socket, set_failed, fail, fail_outcome, hold, drop_held}
-use Rattle.seat_programs.specs.Readers.{ended_by}
+use Rattle.seat_programs.specs.ReaderProgram.{ended_by}
 use Rattle.seat_programs.specs.Cores.{next_step}
 use Rattle.sock_runs.specs.program_steps.specs.AtSteps.{Asks, AtSteps}
-use Rattle.sock_runs.specs.program_steps.proofs.Cases.{ComesNext}
-use Rattle.sock_runs.proofs.Notes.{bears}
+use Rattle.sock_runs.specs.program_steps.proofs.TickCases.{ComesNext}
+use Rattle.sock_runs.proofs.NotesOfSteps.{bears}
 use Rattle.sock_runs.specs.program_steps.proofs.AtCalls.{AtCalls, asks_calls, every_exit}
 use Rattle.program_walks.proofs.Records.{stores, loads, awaits, RecordsAt, Records}
 

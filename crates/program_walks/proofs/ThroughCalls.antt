@@ -4,23 +4,23 @@ use Rattle.std.specs.Prelude as std
 use Rattle.std.specs.Prelude.{None}
 use mathlib.Core.Option.{some, some-injective, some-ne-none}
 use lib.ListN.{get_elem?}
-use Rattle.sock_words.specs.Words.{socket_id_version, socket_id_slot, vref_version, at_word, at_word_first, at_word_slot, at_word_link, at_word_attempt, call_id, id_slot, id_first, NO_SOCKET}
+use Rattle.sock_words.specs.PackedWords.{socket_id_version, socket_id_slot, vref_version, at_word, at_word_first, at_word_slot, at_word_link, at_word_attempt, call_id, id_slot, id_first, NO_SOCKET}
 use Rattle.sock_words.specs.declared.outcome.Outcome.TheVariants.{Unopened, Joined, NotBegun}
-use Rattle.sock_steps.proofs.Quiet.{either_way}
+use Rattle.sock_steps.proofs.SumsAsMarksChange.{either_way}
 use Rattle.sock_model.specs.declared.chain.Heading.{Heading}
 use Rattle.seat_programs.specs.corr_core.specs.Word.{parts, error_of}
-use Rattle.seat_programs.specs.corr_core.specs.Decisions.{WHOLE}
+use Rattle.seat_programs.specs.corr_core.specs.ErrorsThatEndCalls.{WHOLE}
 use Rattle.seat_programs.specs.brpc_model.specs.Frame.{Frame}
 use Rattle.seat_programs.specs.sock_message.specs.Asked.{Asked, name_of, frame_of}
-use Rattle.seat_programs.specs.Calls.{LookWord, FindLink, ClaimRequest, LoadName}
+use Rattle.seat_programs.specs.TableSteps.{LookWord, FindLink, ClaimRequest, LoadName}
 use Rattle.seat_programs.specs.Asides.{ClaimId, PutCall, MakeId, StoreCall, LoadCall, StoreAt, LoadAt, TakeCall}
-use Rattle.seat_programs.specs.Heads.{Head, Exit, First, Unlocks, Opens, Reads, Retry, Posting, HasLocked, Unlocking, IsOpen, HasNext, Locking, NotThere, Has, Ended}
+use Rattle.seat_programs.specs.LoopHeads.{Head, Exit, First, Unlocks, Opens, Reads, Retry, Posting, HasLocked, Unlocking, IsOpen, HasNext, Locking, NotThere, Has, Ended}
 use Rattle.seat_programs.specs.Programs.{Program, Do, Say, Sent, Rest, Write, Aside, Round, Keep, Retries, release, add_reference}
-use Rattle.seat_programs.specs.Posts.{post, posted, decided}
-use Rattle.seat_programs.specs.Attempts.{claims_from, heading_for, attempt, begin_call, claim_id, call, tried_again, retry_locked, retry, expire_outcome, expire, join}
-use Rattle.seat_programs.specs.Readers.{LIMIT, kept_for, ends_with, posted_last, post_each, thrown_away, read, reader}
-use Rattle.seat_programs.specs.Scripts.{readers_from}
-use Rattle.seat_programs.specs.Rounds.{round, first_step}
+use Rattle.seat_programs.specs.PostPrograms.{post, posted, decided}
+use Rattle.seat_programs.specs.CallAndRetryPrograms.{claims_from, heading_for, attempt, begin_call, claim_id, call, tried_again, retry_locked, retry, expire_outcome, expire, join}
+use Rattle.seat_programs.specs.ReaderProgram.{LIMIT, kept_for, ends_with, posted_last, post_each, thrown_away, read, reader}
+use Rattle.seat_programs.specs.ScriptSetupToEnding.{readers_from}
+use Rattle.seat_programs.specs.LoopRounds.{round, first_step}
 use Rattle.seat_programs.specs.Cores.{resolved, next_step}
 use Rattle.program_walks.proofs.Through.{PassesErrors, PassesLocked, PassesWords, PassesPlain, PassesFails, PassesSends, PassesStores, PassesLocks, PassesJoins, PassesReads, PassesOpens, Passes, any_end, Follows, next_follows, locked, through_release, through_address, through_any_failed}
 use Rattle.program_walks.proofs.ThroughLoops.{through_post, through_post_with, through_posted, through_decide, through_decided, through_answer, through_opens, through_round}

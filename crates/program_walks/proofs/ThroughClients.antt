@@ -2,17 +2,17 @@
 use Rattle.std.proofs.Common.{◌≡◌, ℕ, zero, suc, ◌+◌, ◌==◌, List, [], ◌∷◌, ◌++◌, refl}
 use Rattle.std.specs.Prelude as std
 use Rattle.std.specs.Prelude.{Some, None}
-use Rattle.sock_words.specs.Words.{socket_id_slot}
-use Rattle.sock_steps.proofs.Quiet.{either_way}
+use Rattle.sock_words.specs.PackedWords.{socket_id_slot}
+use Rattle.sock_steps.proofs.SumsAsMarksChange.{either_way}
 use Rattle.seat_programs.specs.sock_message.specs.Asked.{Asked}
 use Rattle.seat_programs.specs.declared.task.Op.{Op}
 use Rattle.seat_programs.specs.declared.task.Op.TheVariants as ops
 use Rattle.seat_programs.specs.declared.task.Sizes.{Sizes}
-use Rattle.seat_programs.specs.Calls.{ClaimSlot, CreateLife, StoreOpen, StoreLink, ResetHead, ClearCode, StoreName, TakeLink, FinishLink, PutLink}
+use Rattle.seat_programs.specs.TableSteps.{ClaimSlot, CreateLife, StoreOpen, StoreLink, ResetHead, ClearCode, StoreName, TakeLink, FinishLink, PutLink}
 use Rattle.seat_programs.specs.Programs.{Program, Rest, make_socket, open_from, fail}
-use Rattle.seat_programs.specs.Sends.{send}
-use Rattle.seat_programs.specs.Attempts.{call, join}
-use Rattle.seat_programs.specs.Clients.{HeldLife, held_under, without_name, give_back, drop_of, operation}
+use Rattle.seat_programs.specs.SendAndWritePrograms.{send}
+use Rattle.seat_programs.specs.CallAndRetryPrograms.{call, join}
+use Rattle.seat_programs.specs.ClientProgram.{HeldLife, held_under, without_name, give_back, drop_of, operation}
 use Rattle.program_walks.proofs.Through.{PassesSteps, PassesWords, PassesPlain, Passes, makes_life, through_release, through_any_failed, through_fail, through_hold, through_drop}
 use Rattle.program_walks.proofs.ThroughSends.{through_send}
 use Rattle.program_walks.proofs.ThroughCalls.{through_attempt, through_call, through_expire, through_join}

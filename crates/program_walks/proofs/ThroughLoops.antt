@@ -4,24 +4,24 @@ use Rattle.std.proofs.lemmas.Bool.{true≢false}
 use Rattle.std.specs.Prelude.{Option, Some, None}
 use Rattle.sock_words.specs.declared.outcome.Outcome.TheVariants.{CallFailed}
 use mathlib.Core.Option.{none, some-ne-none}
-use Rattle.sock_steps.proofs.Quiet.{either_way}
+use Rattle.sock_steps.proofs.SumsAsMarksChange.{either_way}
 use Rattle.seat_programs.specs.corr_core.specs.Word.{parts, posted_word, unlocked_word, code_of, error_of}
 use Rattle.seat_programs.specs.corr_core.specs.Law.{LAST}
-use Rattle.seat_programs.specs.corr_core.specs.Decisions.{ends_call}
-use Rattle.seat_programs.specs.corr_core.specs.Versions.{is_early}
+use Rattle.seat_programs.specs.corr_core.specs.ErrorsThatEndCalls.{ends_call}
+use Rattle.seat_programs.specs.corr_core.specs.IdRangeVersions.{is_early}
 use Rattle.seat_programs.specs.brpc_model.specs.Frame.{Frame}
-use Rattle.seat_programs.specs.brpc_model.specs.Stream as streams
+use Rattle.seat_programs.specs.brpc_model.specs.FrameStream as streams
 use Rattle.seat_programs.specs.brpc_model.specs.ResponseOutcome.{ending_of}
 use Rattle.seat_programs.specs.sock_message.specs.Asked.{Asked}
 use Rattle.seat_programs.specs.Asides.{PutCall, LoadIdWord, LockId, PostId, UnlockId, EndId, FreeId, TakeCall, Taking, Bytes, Nothing, Closed}
-use Rattle.seat_programs.specs.Heads.{Head, Exit, Sought, Version, Reading, Posts, Unlocks, Decides, Locks, Joins, Opens, Reads, Discards, Posting, WasGone, WasStale, WasCrowded, WasQueued, HasLocked, Unlocking, IsOpen, HasNext, Deciding, HasEnded, GoesOn, Locking, NotThere, Has, Ended}
+use Rattle.seat_programs.specs.LoopHeads.{Head, Exit, Sought, Version, Reading, Posts, Unlocks, Decides, Locks, Joins, Opens, Reads, Discards, Posting, WasGone, WasStale, WasCrowded, WasQueued, HasLocked, Unlocking, IsOpen, HasNext, Deciding, HasEnded, GoesOn, Locking, NotThere, Has, Ended}
 use Rattle.seat_programs.specs.Programs.{Program, Say, Round, Keep}
-use Rattle.seat_programs.specs.Posts.{packed, is_first, is_sought, is_stale, is_full, judged, posts_round, post_with, posted, post, popped, unlocks_round, end_id, decide, decided, unlocked, decides_round, locking, locks_round, joins_round}
-use Rattle.seat_programs.specs.Readers.{LIMIT, slot_in, version_in, has_response, answer, answered, responses, last_of, ended_by, read_on, took, room_of, discarded, opens_round}
-use Rattle.seat_programs.specs.Rounds.{round}
+use Rattle.seat_programs.specs.PostPrograms.{packed, is_first, is_sought, is_stale, is_full, judged, posts_round, post_with, posted, post, popped, unlocks_round, end_id, decide, decided, unlocked, decides_round, locking, locks_round, joins_round}
+use Rattle.seat_programs.specs.ReaderProgram.{LIMIT, slot_in, version_in, has_response, answer, answered, responses, last_of, ended_by, read_on, took, room_of, discarded, opens_round}
+use Rattle.seat_programs.specs.LoopRounds.{round}
 use Rattle.program_walks.proofs.Records.{awaits}
 use Rattle.program_walks.proofs.Through.{PassesErrors, PassesLocked, PassesLocks, PassesJoins, PassesReads, PassesOpens, is_of_errors, locked}
-use Rattle.sock_words.specs.Words.{call_id, id_slot, id_first, bit}
+use Rattle.sock_words.specs.PackedWords.{call_id, id_slot, id_first, bit}
 
 module _ (G : Program → Type 0) (g : PassesLocked G) where
   -- ## Locks given back, and decisions

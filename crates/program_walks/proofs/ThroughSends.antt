@@ -1,6 +1,6 @@
 -- What holds behind a message that is sent, or behind the loops of whoever writes a link, holds before it.
 use Rattle.std.proofs.Common.{ℕ, zero, suc, ◌+◌, ◌-◌, ◌/◌, ◌%◌, ◌==◌, nat_lt, nat_le, true, false, cond, List, [], ◌∷◌, length, drop, refl}
-use Rattle.sock_words.specs.Words.{socket_id_version, socket_id_slot, vref_version, ticket_request, ticket_generation, IDLE, UNCONNECTED, NO_SOCKET}
+use Rattle.sock_words.specs.PackedWords.{socket_id_version, socket_id_slot, vref_version, ticket_request, ticket_generation, IDLE, UNCONNECTED, NO_SOCKET}
 use Rattle.sock_words.specs.declared.outcome.Outcome.TheVariants.{Unopened, Gone, Full}
 use Rattle.seat_programs.specs.sock_io.specs.declared.link.Put.{Put}
 use Rattle.seat_programs.specs.sock_io.specs.declared.link.Put.TheVariants as puts
@@ -8,12 +8,12 @@ use Rattle.seat_programs.specs.sock_io.specs.declared.link.Ready.{Ready}
 use Rattle.seat_programs.specs.sock_io.specs.declared.link.Ready.TheVariants as asks
 use Rattle.sock_model.specs.declared.chain.Heading.{Heading}
 use Rattle.sock_model.specs.Entries.{ticket_of}
-use Rattle.sock_steps.proofs.Quiet.{either_way}
-use Rattle.seat_programs.specs.Calls.{LookWord, FindLink, LoadCode, ClaimRequest, PutMessage, Unconnect, SwapHead, Connect, ReadNext, ReverseNext, FreeRequest, StorePlace, DropPlace}
+use Rattle.sock_steps.proofs.SumsAsMarksChange.{either_way}
+use Rattle.seat_programs.specs.TableSteps.{LookWord, FindLink, LoadCode, ClaimRequest, PutMessage, Unconnect, SwapHead, Connect, ReadNext, ReverseNext, FreeRequest, StorePlace, DropPlace}
 use Rattle.seat_programs.specs.Writings.{Holder, Writing, Puts, Waits, Empties, Walks}
 use Rattle.seat_programs.specs.Programs.{Program, Sent, Rest, TakeMessage, TakeHome, Write, LAST_GENERATION, release, add_reference, set_failed, end_open}
-use Rattle.seat_programs.specs.Sends.{freed, one_more, passed_telling, tell_drop, placed, dropped, link_failed, put_answered, ready_answered, block, first_put, write_link, heading_of, accept, claim_from, start, send}
-use Rattle.seat_programs.specs.Clients.{ending_of}
+use Rattle.seat_programs.specs.SendAndWritePrograms.{freed, one_more, passed_telling, tell_drop, placed, dropped, link_failed, put_answered, ready_answered, block, first_put, write_link, heading_of, accept, claim_from, start, send}
+use Rattle.seat_programs.specs.ClientProgram.{ending_of}
 use Rattle.program_walks.proofs.Through.{PassesWords, PassesPlain, PassesFails, PassesLinks, PassesSends, PassesOpens, through_release, through_address, through_reach}
 use Rattle.program_walks.proofs.ThroughLoops.{through_post}
 

@@ -7,30 +7,30 @@ use Rattle.atomic_table.proofs.Lists.{at_set}
 use Rattle.sock_words.specs.declared.plain.Plan.{Plan}
 use Rattle.sock_model.specs.declared.home.Home.{Home}
 use Rattle.sock_model.specs.declared.view.View.{View}
-use Rattle.sock_model.specs.Layout.{open_index}
-use Rattle.sock_steps.proofs.Quiet.{either_way}
+use Rattle.sock_model.specs.SocketTableLayout.{open_index}
+use Rattle.sock_steps.proofs.SumsAsMarksChange.{either_way}
 use Rattle.seat_programs.specs.declared.task.Op.{Op}
 use Rattle.seat_programs.specs.declared.task.Op.TheVariants as ops
 use Rattle.seat_programs.specs.declared.task.Task.{Task}
 use Rattle.seat_programs.specs.declared.task.Sizes.{Sizes}
-use Rattle.seat_programs.specs.Calls.{TableStep, StoreOpen}
+use Rattle.seat_programs.specs.TableSteps.{TableStep, StoreOpen}
 use Rattle.seat_programs.specs.Programs.{Program, Do, Rest, open_from, make_socket}
-use Rattle.seat_programs.specs.Clients.{HeldLife, operation, client_from}
+use Rattle.seat_programs.specs.ClientProgram.{HeldLife, operation, client_from}
 use Rattle.seat_programs.specs.Cores.{Calls, Core, SeatState, found_at, hand_after, resolved, next_step, waiting_at, with_seat, stepped}
 use Rattle.seat_programs.specs.StepTables.{word_of}
 use Rattle.seat_programs.specs.Ticks.{Moment, ticked, run, IsAnswered, AreAnswered}
 use Rattle.seat_programs.specs.StepTables.{May}
-use Rattle.sock_runs.specs.program_steps.specs.Sound.{Sound, IsFitting, AreFitting, views_after}
+use Rattle.sock_runs.specs.program_steps.specs.SoundSeats.{Sound, IsFitting, AreFitting, views_after}
 use Rattle.sock_runs.specs.program_steps.proofs.AtCalls.{AtCalls, every_exit}
 use Rattle.program_walks.proofs.Through.{Passes, PassesOpens, Follows, at_calls_passes, at_calls_follow, comes_follows}
 use Rattle.program_walks.proofs.ThroughCalls.{through_first, through_next}
 use Rattle.program_walks.proofs.ThroughClients.{through_any}
-use Rattle.sock_runs.specs.program_steps.proofs.Cases.{ComesNext, tick_keeps_marks}
+use Rattle.sock_runs.specs.program_steps.proofs.TickCases.{ComesNext, tick_keeps_marks}
 use Rattle.sock_runs.proofs.LinkTicks.{RetriesGo}
-use Rattle.sock_runs.proofs.Ticks.{sound_ticks}
-use Rattle.program_walks.proofs.Opening.{is_opening, opens_in, or_cases, second_true}
+use Rattle.sock_runs.proofs.TicksKeepSeatsSound.{sound_ticks}
+use Rattle.program_walks.proofs.OpenedLivesRecorded.{is_opening, opens_in, or_cases, second_true}
 use Rattle.program_walks.proofs.ReaderSeats.{stays_stored, stored_some}
-use Rattle.seat_programs.specs.Rounds.{first_step}
+use Rattle.seat_programs.specs.LoopRounds.{first_step}
 
 abbrev pub WillStoreAt : ℕ → Unit {0} → TableStep → (ℕ → Program) → (Unit {0} → ℕ → Type 0) → Type 0
 WillStoreAt o s (StoreOpen n w) next behind = (n ≡ o) ⊎ ((found : ℕ) → behind tt found)

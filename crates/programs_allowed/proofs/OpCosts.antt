@@ -4,29 +4,29 @@ use Rattle.std.specs.Prelude.{Option, Some, None}
 use Rattle.std.specs.List.{AllByRecursion}
 use Rattle.sock_words.specs.declared.plain.Plan.{Plan}
 use Rattle.sock_words.specs.declared.outcome.Outcome.TheVariants.{Opened, SlotsFull, Unopened, Gone, Full, Held, Freed, Kept, NotBegun, Joined}
-use Rattle.sock_words.specs.Words.{socket_id, socket_id_slot, vref_version, call_id, NO_SOCKET}
+use Rattle.sock_words.specs.PackedWords.{socket_id, socket_id_slot, vref_version, call_id, NO_SOCKET}
 use Rattle.corr_core.specs.Word.{parts, error_of}
 use Rattle.corr_core.specs.declared.marks.Plan.{Plan as IdPlan}
-use Rattle.corr_core.specs.Decisions.{WHOLE}
+use Rattle.corr_core.specs.ErrorsThatEndCalls.{WHOLE}
 use Rattle.seat_programs.specs.declared.task.Op.{Op}
 use Rattle.seat_programs.specs.declared.task.Op.TheVariants as ops
 use Rattle.seat_programs.specs.declared.task.Task.{Task}
 use Rattle.seat_programs.specs.sock_message.specs.Asked.{Asked, name_of}
-use Rattle.seat_programs.specs.Calls.{ClaimSlot, CreateLife, StoreLink, ResetHead, ClearCode, StoreName, LoadName, StoreOpen, LoadOpen, LookWord, ClaimRequest}
-use Rattle.seat_programs.specs.Heads.{Joins}
+use Rattle.seat_programs.specs.TableSteps.{ClaimSlot, CreateLife, StoreLink, ResetHead, ClearCode, StoreName, LoadName, StoreOpen, LoadOpen, LookWord, ClaimRequest}
+use Rattle.seat_programs.specs.LoopHeads.{Joins}
 use Rattle.seat_programs.specs.Programs.{Program, Do, Say, Sent, Round, release, add_reference, find_socket, set_failed, no_socket, make_socket, open_from, fail_outcome, fail, hold, end_open}
-use Rattle.seat_programs.specs.Posts.{post_with, posted}
-use Rattle.seat_programs.specs.Sends.{heading_of, accept, claim_from, start, send}
-use Rattle.seat_programs.specs.Attempts.{begin_call, claim_id, call, expire_outcome, expire, join}
-use Rattle.seat_programs.specs.Clients.{HeldLife, held_under, without_name, give_back, drop_of, operation, client_from, ending_of}
-use Rattle.seat_programs.specs.Scripts.{sizes_of}
-use Rattle.seat_programs.specs.Told.{AskedFits, OpFits, TaskFits}
+use Rattle.seat_programs.specs.PostPrograms.{post_with, posted}
+use Rattle.seat_programs.specs.SendAndWritePrograms.{heading_of, accept, claim_from, start, send}
+use Rattle.seat_programs.specs.CallAndRetryPrograms.{begin_call, claim_id, call, expire_outcome, expire, join}
+use Rattle.seat_programs.specs.ClientProgram.{HeldLife, held_under, without_name, give_back, drop_of, operation, client_from, ending_of}
+use Rattle.seat_programs.specs.ScriptSetupToEnding.{sizes_of}
+use Rattle.seat_programs.specs.Explained.{AskedFits, OpFits, TaskFits}
 use Rattle.seat_programs.specs.StepTables.{row}
-use Rattle.program_walks.specs.program_steps.specs.Lasts.{CHANGE, ERROR, POST, ACCEPT, weight, attempt_cost}
+use Rattle.program_walks.specs.program_steps.specs.TicksLeftAtMost.{CHANGE, ERROR, POST, ACCEPT, weight, attempt_cost}
 use Rattle.runs_end.proofs.IdCosts.{lasts_more, judged_lasts, posted_lasts}
 use Rattle.runs_end.proofs.Costs.{Lasting, lasting_more, either_lasts, does, set_failed_lasts}
 use Rattle.runs_end.proofs.AttemptCosts.{release_lasts, address_lasts, ends_link, accept_lasts, attempt_lasts}
-use Rattle.programs_allowed.proofs.Held.{length_without}
+use Rattle.programs_allowed.proofs.ListOfHeldLives.{length_without}
 use Rattle.sock_words.specs.Totals.{total}
 
 -- ## Parts of programs

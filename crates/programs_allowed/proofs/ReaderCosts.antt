@@ -1,17 +1,17 @@
 -- What a reader costs: its reading, the end of its socket, a post for each call, and what it throws away.
 use Rattle.std.proofs.Common.{ℕ, suc, ◌+◌, ◌-◌, ◌*◌, ◌&&◌, cond, eqb, nat_lt, List, [], ◌∷◌, length, arith}
 use Rattle.sock_words.specs.declared.plain.Plan.{Plan}
-use Rattle.sock_words.specs.Words.{socket_id_slot, at_word_first, at_word_slot, at_word_link, at_word_attempt, call_id, id_first, NO_SOCKET}
+use Rattle.sock_words.specs.PackedWords.{socket_id_slot, at_word_first, at_word_slot, at_word_link, at_word_attempt, call_id, id_first, NO_SOCKET}
 use Rattle.sock_model.specs.declared.view.View.{View}
 use Rattle.corr_core.specs.Word.{parts, error_of}
 use Rattle.program_walks.specs.brpc_model.specs.Frame.{Frame}
 use Rattle.seat_programs.specs.Asides.{LoadAt}
-use Rattle.seat_programs.specs.Heads.{Reads, Discards, Posting, HasLocked, Deciding, HasEnded, GoesOn, Ended}
+use Rattle.seat_programs.specs.LoopHeads.{Reads, Discards, Posting, HasLocked, Deciding, HasEnded, GoesOn, Ended}
 use Rattle.seat_programs.specs.Programs.{Program, Rest, Aside, Round, add_reference, release, set_failed}
-use Rattle.seat_programs.specs.Posts.{post_with, decided}
-use Rattle.seat_programs.specs.Readers.{LIMIT, kept_for, ends_with, posted_last, post_each, thrown_away, read, reader}
-use Rattle.program_walks.specs.program_steps.specs.Fits.{FitsPosting}
-use Rattle.program_walks.specs.program_steps.specs.Lasts.{CHANGE, ERROR, POST, FRAME, LastsFor}
+use Rattle.seat_programs.specs.PostPrograms.{post_with, decided}
+use Rattle.seat_programs.specs.ReaderProgram.{LIMIT, kept_for, ends_with, posted_last, post_each, thrown_away, read, reader}
+use Rattle.program_walks.specs.program_steps.specs.IdWordFits.{FitsPosting}
+use Rattle.program_walks.specs.program_steps.specs.TicksLeftAtMost.{CHANGE, ERROR, POST, FRAME, LastsFor}
 use Rattle.runs_end.proofs.IdCosts.{lasts_more, judged_lasts, decide_lasts}
 use Rattle.runs_end.proofs.ReadCosts.{answer_lasts}
 use Rattle.runs_end.proofs.Costs.{Lasting, lasting_more, either_lasts, set_failed_lasts}

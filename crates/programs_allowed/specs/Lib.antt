@@ -1,4 +1,4 @@
-pub mod Openings
+pub mod SeatOpenings
 pub use Rattle.id_runs
 pub use Rattle.slot_steps
 pub use Rattle.program_walks.specs.program_steps

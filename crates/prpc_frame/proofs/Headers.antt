@@ -8,7 +8,7 @@ use Rattle.std.proofs.lemmas.List.Sums.{common_prefix_len-drop_yes, common_prefi
 use Rattle.std.specs.List.{common_prefix_len}
 use Rattle.rpc_meta.specs.brpc_model.specs.Frame.{Judged, NoneYet, Faulty, BadMagic, TooBig, MetaOver, judged, body_judged, matching, magic, high_first, body_limit}
 use Rattle.rpc_meta.specs.brpc_model.specs.Meta.{read_meta}
-use Rattle.prpc_frame.specs.Meaning.{IsFault}
+use Rattle.prpc_frame.specs.FrameMeaning.{IsFault}
 use Rattle.prpc_frame.specs.Header.{magic_wrong, body_size, meta_size, inside_of, IsWhole}
 use Rattle.prpc_frame.specs.declared.fault.FrameFault.TheVariants as frame_
 use Rattle.prpc_frame.proofs.Judging.{told_wrong, told_short, told_big, told_over, told_lacking, told_whole, still_wrong, still_right, same_match, same_word, no_eqb, wrong_when, right_at_4, right_at_end}

@@ -1,9 +1,9 @@
 pub mod Judging
-pub mod Lasting
-pub mod Holding
-pub mod Bodies
+pub mod LastingStreamFacts
+pub mod CutterHoldingByFault
+pub mod BodyPartsOfFrames
 pub mod Headers
 pub mod Encoded
-pub mod Sizes
-pub mod Cuts
-pub mod Fronts
+pub mod RequestMetaSize
+pub mod StreamCuts
+pub mod FrontFramePlace

@@ -3,9 +3,9 @@ use Rattle.std.specs.Prelude.{◌≡◌, ℕ, ◌≤◌, ◌<◌, ℤ, pos, List
 use Rattle.rpc_meta.specs.brpc_model.specs.Frame as model
 use Rattle.rpc_meta.specs.brpc_model.specs.Frame.{body_judged}
 use Rattle.rpc_meta.specs.brpc_model.specs.Meta.{read_meta}
-use Rattle.rpc_meta.specs.Meaning.{meaning}
+use Rattle.rpc_meta.specs.MetaMeaning.{meaning}
 use Rattle.rpc_meta.specs.declared.meta.RpcMeta.{RpcMeta}
-use Rattle.prpc_frame.specs.Meaning.{frame_of, IsFault}
+use Rattle.prpc_frame.specs.FrameMeaning.{frame_of, IsFault}
 use Rattle.prpc_frame.specs.Header.{inside_of}
 use Rattle.prpc_frame.specs.declared.frame.Frame.{Frame}
 use Rattle.prpc_frame.specs.declared.fault.FrameFault.{FrameFault}

@@ -2,9 +2,9 @@
 use Rattle.std.specs.Prelude.{◌≡◌, ℕ, ◌+◌, ◌≤◌, List, ◌++◌, length, drop}
 use Rattle.rpc_meta.specs.brpc_model.specs.Frame as model
 use Rattle.rpc_meta.specs.brpc_model.specs.Frame.{Begins, judged}
-use Rattle.rpc_meta.specs.brpc_model.specs.Stream.{with_frame, stream_from}
-use Rattle.prpc_frame.specs.Held.{Held, held_count}
-use Rattle.rpc_meta.specs.View.{viewed}
+use Rattle.rpc_meta.specs.brpc_model.specs.FrameStream.{with_frame, stream_from}
+use Rattle.prpc_frame.specs.HeldByCutter.{Held, held_count}
+use Rattle.rpc_meta.specs.ViewedMeta.{viewed}
 use Rattle.prpc_frame.specs.declared.front.FrontFrame.{FrontFrame}
 
 -- a frame: the meaning of its meta, and the bytes of its payload and its attachment

@@ -2,7 +2,7 @@
 use Rattle.std.specs.Prelude.{◌≡◌, ℕ, ◌+◌, ◌≤◌, ◌==◌, Bool, not, ◌&&◌, List, length, take, drop, Option, Some, None, Result, Ok, Err}
 use Rattle.rpc_meta.specs.brpc_model.specs.Frame.{NoneYet, judged, body_judged, high_first, matching}
 use Rattle.rpc_meta.specs.brpc_model.specs.Meta.{read_meta}
-use Rattle.prpc_frame.specs.Meaning.{IsFault}
+use Rattle.prpc_frame.specs.FrameMeaning.{IsFault}
 use Rattle.prpc_frame.specs.declared.fault.FrameFault.{FrameFault}
 use Rattle.prpc_frame.specs.declared.header.Sizes.{Sizes}
 

@@ -1,10 +1,10 @@
-pub mod Meaning
+pub mod FrameMeaning
 pub mod Header
 pub mod Body
-pub mod Answers
-pub mod Held
-pub mod Inside
-pub mod Leads
-pub mod Cuts
+pub mod CutterAnswers
+pub mod HeldByCutter
+pub mod InsideCutter
+pub mod CutterAnswerLeads
+pub mod StreamCuts
 pub mod Front
 pub use Rattle.rpc_meta

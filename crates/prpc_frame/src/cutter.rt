@@ -1,11 +1,11 @@
 ghost use Rattle.std.specs.Prelude.{◌≡◌, ◌≤◌, ℕ, List, ◌++◌, drop, true, false, IsOk, OnOk, OnErr, IfSome, MatchOption, Err};
 ghost use Rattle.rpc_meta.specs.brpc_model.specs.Frame.{NoneYet, judged};
-ghost use Rattle.rpc_meta.specs.brpc_model.specs.Stream.{stream_from};
+ghost use Rattle.rpc_meta.specs.brpc_model.specs.FrameStream.{stream_from};
 ghost use Rattle.prpc_frame.specs.declared.fault.NextFault.TheVariants.{Frame as frame_fault};
-ghost use Rattle.prpc_frame.specs.Answers.{Answers, Fed, tells_fault};
+ghost use Rattle.prpc_frame.specs.CutterAnswers.{Answers, Fed, tells_fault};
 ghost use Rattle.prpc_frame.specs.Front.{LiesInFront, LeadsOn};
-ghost use Rattle.prpc_frame.specs.Held.{unfed, held_count, with_piece};
-ghost use Rattle.prpc_frame.specs.Leads.{Leads};
+ghost use Rattle.prpc_frame.specs.HeldByCutter.{unfed, held_count, with_piece};
+ghost use Rattle.prpc_frame.specs.CutterAnswerLeads.{Leads};
 
 use crate::body::read_frame;
 use crate::fault::{FrameFault, NextFault};
@@ -30,13 +30,13 @@ pub struct Cutter {
 
 impl Model for Cutter {
     ghost use Rattle.prpc_frame.specs.Front.{LiesInFront, LeadsOn};
-    ghost use Rattle.prpc_frame.specs.Held.{Held, held_code};
+    ghost use Rattle.prpc_frame.specs.HeldByCutter.{Held, held_code};
 
     ghost Value = { Held };
 
     ghost coded = { held_code };
 
-    ghost use Rattle.prpc_frame.specs.Inside.{held_view, KeepsFault};
+    ghost use Rattle.prpc_frame.specs.InsideCutter.{held_view, KeepsFault};
 
     ghost view = { held_view };
 

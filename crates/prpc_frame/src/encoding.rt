@@ -4,10 +4,10 @@ ghost use Rattle.std.specs.Int.{w32, to_be_bytes};
 ghost use Rattle.rpc_meta.specs.brpc_model.specs.Frame.{Frame as ModelFrame, IsFrame, Begins, magic, body_limit, frame_bytes, judged};
 ghost use Rattle.rpc_meta.specs.brpc_model.specs.Meta.{read_meta};
 ghost use Rattle.rpc_meta.specs.brpc_model.specs.Spelling.{meta_bytes};
-ghost use Rattle.rpc_meta.specs.Meaning.{meaning};
-ghost use Rattle.rpc_meta.specs.Sizes.{AreSizes};
-ghost use Rattle.rpc_meta.specs.Writing.{HasPart};
-ghost use Rattle.prpc_frame.specs.Meaning.{frame_with};
+ghost use Rattle.rpc_meta.specs.MetaMeaning.{meaning};
+ghost use Rattle.rpc_meta.specs.MetaSizes.{AreSizes};
+ghost use Rattle.rpc_meta.specs.MetaWriting.{HasPart};
+ghost use Rattle.prpc_frame.specs.FrameMeaning.{frame_with};
 
 use crate::header::MAGIC;
 use io_buf::{BLOCK_BYTES, BlockPool, IoBuf, NoMemory};

@@ -3,21 +3,21 @@ use Rattle.std.proofs.Common.{◌≡◌, ℕ, ◌+◌, Bool, true, false, nat_lt
 use Rattle.std.specs.List.{AllByRecursion}
 use Rattle.brpc_model.specs.Frame as model
 use Rattle.brpc_model.specs.Frame.{Judged, NoneYet, Faulty, judged}
-use Rattle.prpc_frame.specs.Answers.{Cuts}
-use Rattle.prpc_frame.specs.Cuts.{Cut}
-use Rattle.prpc_frame.specs.Meaning.{frame_of, fault_of, IsFault}
+use Rattle.prpc_frame.specs.CutterAnswers.{Cuts}
+use Rattle.prpc_frame.specs.StreamCuts.{Cut}
+use Rattle.prpc_frame.specs.FrameMeaning.{frame_of, fault_of, IsFault}
 use Rattle.prpc_frame.specs.declared.frame.Frame.{Frame}
 use Rattle.prpc_frame.specs.declared.fault.FrameFault.{FrameFault}
-use Rattle.seat_programs.specs.Readers.{LIMIT}
+use Rattle.seat_programs.specs.ReaderProgram.{LIMIT}
 use Rattle.call_points.specs.declared.locking.Locker.{Locker}
 use Rattle.call_points.specs.declared.word_step.WordStep.TheVariants as id_steps
 use Rattle.reader_points.specs.declared.cutting.Cut as code
 use Rattle.reader_points.specs.declared.point.CloseStep.TheVariants as closes
 use Rattle.reader_points.specs.declared.point.ReadPoint.TheVariants as points
 use Rattle.reader_points.specs.declared.point.Reader.{Reader}
-use Rattle.reader_points.specs.Cuts.{is_asked, GoesOnBehind}
-use Rattle.reader_points.specs.Points.{count_of, IsLocker}
-use Rattle.reader_points.proofs.Frames.{IsSkipped, IsLeft, left_more, takes_more, takes_none, ends_in_fault, locks_next}
+use Rattle.reader_points.specs.CutsInHand.{is_asked, GoesOnBehind}
+use Rattle.reader_points.specs.ReaderPoints.{count_of, IsLocker}
+use Rattle.reader_points.proofs.FramesInHand.{IsSkipped, IsLeft, left_more, takes_more, takes_none, ends_in_fault, locks_next}
 
 -- one more that is no response
 pub more_skipped : (ids : ℕ) (fs : List model.Frame) (f : model.Frame) → AllByRecursion (IsSkipped ids) fs → is_asked ids f ≡ false → AllByRecursion (IsSkipped ids) (fs ++ f ∷ [])

@@ -3,11 +3,11 @@ use Rattle.std.proofs.Common.{◌≡◌, ℕ, suc, ◌+◌, ◌<◌, ◌≤◌, 
 use Rattle.std.proofs.lemmas.Bool.Decides.{nat_tests}
 use Rattle.std.proofs.Math.ListN.{drop_of_length-le}
 use Rattle.brpc_model.specs.Frame as model
-use Rattle.prpc_frame.specs.Meaning.{frame_of}
+use Rattle.prpc_frame.specs.FrameMeaning.{frame_of}
 use Rattle.prpc_frame.specs.declared.frame.Frame.{Frame}
-use Rattle.seat_programs.specs.Readers.{kept_for, slot_in}
-use Rattle.reader_points.specs.Kept.{is_kept_of, IsFirstKept}
-use Rattle.sock_words.specs.Words.{id_slot}
+use Rattle.seat_programs.specs.ReaderProgram.{kept_for, slot_in}
+use Rattle.reader_points.specs.KeptResponses.{is_kept_of, IsFirstKept}
+use Rattle.sock_words.specs.PackedWords.{id_slot}
 
 -- those of a range among these
 abbrev pub kept_of : ℕ → ℕ → List Frame → List model.Frame

@@ -1,6 +1,6 @@
-pub mod Frames
-pub mod Taking
+pub mod FramesInHand
+pub mod ReaderBehindTake
 pub mod CutFrames
-pub mod Going
+pub mod ReaderAfterWordSteps
 pub mod FirstKept
 pub mod StepKinds

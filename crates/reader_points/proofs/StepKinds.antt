@@ -4,21 +4,21 @@ use Rattle.sock_message.specs.Asked.{Asked}
 use Rattle.seat_programs.specs.Asides as steps_aside
 use Rattle.sock_words.specs.declared.id_word.IdWord.{IdWord}
 use Rattle.corr_core.specs.Word.{parts, code_of}
-use Rattle.corr_core.specs.Decisions.{ends_call}
-use Rattle.seat_programs.specs.Heads.{Locking, Posting, HasEnded, Unlocks}
-use Rattle.seat_programs.specs.Posts.{end_id, unlocked}
+use Rattle.corr_core.specs.ErrorsThatEndCalls.{ends_call}
+use Rattle.seat_programs.specs.LoopHeads.{Locking, Posting, HasEnded, Unlocks}
+use Rattle.seat_programs.specs.PostPrograms.{end_id, unlocked}
 use Rattle.seat_programs.specs.Programs.{Program, Round}
 use Rattle.seat_programs.specs.Programs as programs
 use Rattle.seat_states.specs.declared.point.ReleaseStep.TheVariants as releases
-use Rattle.seat_states.specs.Steps.{First, OfTable, OfAside, first_of, first_in}
+use Rattle.seat_states.specs.ProgramStepsOfMachine.{First, OfTable, OfAside, first_of, first_in}
 use Rattle.reader_points.specs.declared.point.Closing.{Closing}
 use Rattle.reader_points.specs.declared.point.CloseStep.{CloseStep}
 use Rattle.reader_points.specs.declared.point.CloseStep.TheVariants as closes
 use Rattle.reader_points.specs.declared.point.FailStep.TheVariants as fails
 use Rattle.reader_points.specs.declared.point.ReadStep.{ReadStep}
-use Rattle.reader_points.specs.Steps.{step_as}
-use Rattle.call_points.specs.Points.{lock_program, post_program}
-use Rattle.call_points.specs.Steps.{step_of, aside_in}
+use Rattle.reader_points.specs.ReaderCodeSteps.{step_as}
+use Rattle.call_points.specs.CallIdPoints.{lock_program, post_program}
+use Rattle.call_points.specs.AsideCodeSteps.{step_of, aside_in}
 use Rattle.call_points.specs.declared.aside.Aside.{Aside}
 use Rattle.call_points.specs.declared.aside.Aside.TheVariants as asides
 use Rattle.call_points.specs.declared.ending.EndStep.TheVariants as ends
@@ -26,7 +26,7 @@ use Rattle.call_points.specs.declared.locking.Locker.{Locker}
 use Rattle.call_points.specs.declared.word_step.WordStep.{WordStep}
 use Rattle.call_points.specs.declared.word_step.WordStep.TheVariants as id_steps
 use Rattle.id_points.specs.declared.call_id.CallId.{CallId}
-use Rattle.id_points.specs.Ids.{id_of}
+use Rattle.id_points.specs.IdsAndAttemptNumbers.{id_of}
 use Rattle.reader_points.specs.declared.point.AnswerStep.{AnswerStep}
 use Rattle.reader_points.specs.declared.point.AnswerStep.TheVariants as answers
 use Rattle.reader_points.specs.declared.point.Behind.{Behind}
@@ -35,8 +35,8 @@ use Rattle.reader_points.specs.declared.point.Reader.{Reader}
 use Rattle.reader_points.specs.declared.point.ReadPoint.{ReadPoint}
 use Rattle.reader_points.specs.declared.point.ReadPoint.TheVariants as points
 use Rattle.reader_points.specs.declared.point.ReadStep.TheVariants as steps
-use Rattle.reader_points.specs.Points.{Context, on_call, error_in, room_at, answer_program, close_program, fail_program, ended_call, point_program, NO_FRAME, GoesBy, GoesByWord, TakesBytes, TakesCall}
-use Rattle.sock_words.specs.Words.{id_slot}
+use Rattle.reader_points.specs.ReaderPoints.{Context, on_call, error_in, room_at, answer_program, close_program, fail_program, ended_call, point_program, NO_FRAME, GoesBy, GoesByWord, TakesBytes, TakesCall}
+use Rattle.sock_words.specs.PackedWords.{id_slot}
 
 -- a reader with nothing in hand
 abbrev pub nowhere : Context

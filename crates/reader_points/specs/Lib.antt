@@ -1,4 +1,4 @@
-pub mod Points
-pub mod Steps
-pub mod Cuts
-pub mod Kept
+pub mod ReaderPoints
+pub mod ReaderCodeSteps
+pub mod CutsInHand
+pub mod KeptResponses

@@ -1,8 +1,8 @@
 ghost use Rattle.std.specs.Prelude.{◌≡◌};
 ghost use Rattle.sock_message.specs.Asked.{Asked};
-ghost use Rattle.call_points.specs.Steps.{after_word, after_call};
-ghost use Rattle.id_points.specs.Ids.{id_of};
-ghost use Rattle.reader_points.specs.Points.{Context, answer_program, next_program, point_program, with_asked, AnswersByWord, HasInHand, HasNext};
+ghost use Rattle.call_points.specs.AsideCodeSteps.{after_word, after_call};
+ghost use Rattle.id_points.specs.IdsAndAttemptNumbers.{id_of};
+ghost use Rattle.reader_points.specs.ReaderPoints.{Context, answer_program, next_program, point_program, with_asked, AnswersByWord, HasInHand, HasNext};
 
 use crate::point::{AnswerStep, Behind, ReadNext, ReadPoint};
 use call_points::EndStep;

@@ -1,6 +1,6 @@
 ghost use Rattle.std.specs.Prelude.{◌≡◌, ◌≤◌, ◌<◌, ◌+◌, length};
-ghost use Rattle.call_points.specs.Steps.{after_word};
-ghost use Rattle.reader_points.specs.Points.{Context, next_program, close_program, posts_program, point_program, MayFindClosing, HasInHand, HasNext};
+ghost use Rattle.call_points.specs.AsideCodeSteps.{after_word};
+ghost use Rattle.reader_points.specs.ReaderPoints.{Context, next_program, close_program, posts_program, point_program, MayFindClosing, HasInHand, HasNext};
 
 use crate::point::{CloseStep, Closing, ReadNext, ReadPoint};
 use seat_states::{ReleaseStep, Released};

@@ -1,7 +1,7 @@
 ghost use Rattle.std.specs.Prelude.{◌≡◌, nat_lt, None, IfOk, IfSome, IfNone, true, false};
-ghost use Rattle.prpc_frame.specs.Meaning.{frame_of};
-ghost use Rattle.reader_points.specs.Points.{count_of, IsLocker};
-ghost use Rattle.reader_points.specs.Cuts.{GoesOnBehind, is_asked};
+ghost use Rattle.prpc_frame.specs.FrameMeaning.{frame_of};
+ghost use Rattle.reader_points.specs.ReaderPoints.{count_of, IsLocker};
+ghost use Rattle.reader_points.specs.CutsInHand.{GoesOnBehind, is_asked};
 
 use crate::point::{CloseStep, ReadPoint, Reader};
 use call_points::{Locker, WordStep};

@@ -1,8 +1,8 @@
 ghost use Rattle.std.specs.Prelude.{◌≡◌, Some};
 ghost use Rattle.sock_message.specs.Asked.{Asked};
-ghost use Rattle.call_points.specs.Steps.{aside_in, after_word, after_call};
-ghost use Rattle.call_points.specs.Steps as asides;
-ghost use Rattle.reader_points.specs.Points.{Context, next_program, point_program, fail_program, with_asked, FailsByWord, HasInHand, HasNext, GoesBy};
+ghost use Rattle.call_points.specs.AsideCodeSteps.{aside_in, after_word, after_call};
+ghost use Rattle.call_points.specs.AsideCodeSteps as asides;
+ghost use Rattle.reader_points.specs.ReaderPoints.{Context, next_program, point_program, fail_program, with_asked, FailsByWord, HasInHand, HasNext, GoesBy};
 
 use crate::point::{FailStep, Lost, ReadNext, ReadPoint, ReadStep};
 use call_points::Aside;

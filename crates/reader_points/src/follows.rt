@@ -1,7 +1,7 @@
 ghost use Rattle.std.specs.Prelude.{◌≡◌};
 ghost use Rattle.sock_message.specs.Asked.{Asked};
-ghost use Rattle.call_points.specs.Steps.{after_word, after_call};
-ghost use Rattle.reader_points.specs.Points.{Context, next_program, point_program, with_asked, HasInHand, HasNext, GoesByWord, TakesCall, MayFind, IsWithin};
+ghost use Rattle.call_points.specs.AsideCodeSteps.{after_word, after_call};
+ghost use Rattle.reader_points.specs.ReaderPoints.{Context, next_program, point_program, with_asked, HasInHand, HasNext, GoesByWord, TakesCall, MayFind, IsWithin};
 
 use crate::point::{AnswerStep, ByteCount, FailStep, ReadNext, ReadPoint, Reader};
 use sock_words::{NO_SOCKET, SocketId};

@@ -1,12 +1,12 @@
 ghost use Rattle.std.specs.Prelude.{◌≡◌, ◌<◌, ◌+◌, ◌∷◌, ◌==◌, ◌&&◌, ℕ, List, [], nat_lt, map, get_or, IfSome, IfNone};
-ghost use Rattle.seat_programs.specs.Readers.{slot_in, kept_for};
+ghost use Rattle.seat_programs.specs.ReaderProgram.{slot_in, kept_for};
 ghost use Rattle.brpc_model.specs.Frame as model;
-ghost use Rattle.prpc_frame.specs.Meaning.{frame_of};
-ghost use Rattle.id_points.specs.Ids.{id_of};
-ghost use Rattle.reader_points.specs.Kept.{IsFirstKept, is_kept_of};
+ghost use Rattle.prpc_frame.specs.FrameMeaning.{frame_of};
+ghost use Rattle.id_points.specs.IdsAndAttemptNumbers.{id_of};
+ghost use Rattle.reader_points.specs.KeptResponses.{IsFirstKept, is_kept_of};
 ghost use Rattle.corr_core.specs.Word.{parts};
-ghost use Rattle.reader_points.specs.Points.{Context, next_program, point_program, with_kept, HasInHand};
-ghost use Rattle.sock_words.specs.Words.{id_slot};
+ghost use Rattle.reader_points.specs.ReaderPoints.{Context, next_program, point_program, with_kept, HasInHand};
+ghost use Rattle.sock_words.specs.PackedWords.{id_slot};
 
 use crate::point::{AnswerStep, Behind, FailStep, Lost, ReadNext, ReadPoint};
 use id_points::CallId;

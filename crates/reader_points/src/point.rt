@@ -1,5 +1,5 @@
 ghost use Rattle.std.specs.Prelude.{◌≡◌, ◌≤◌, ◌+◌, nat_lt};
-ghost use Rattle.reader_points.specs.Points.{count_of, room};
+ghost use Rattle.reader_points.specs.ReaderPoints.{count_of, room};
 
 use call_points::{Aside, EndStep, Locker, WordStep};
 use id_points::{AttemptNumber, CallId};

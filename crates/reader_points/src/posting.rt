@@ -1,10 +1,10 @@
 ghost use Rattle.std.specs.Prelude.{◌==◌, ◌&&◌, not, ◌≡◌, ◌≤◌, ℕ};
-ghost use Rattle.sock_words.specs.Words.{at_word_link, at_word_slot, at_word_first, at_word_attempt, call_id};
-ghost use Rattle.seat_programs.specs.Readers.{posted_last};
-ghost use Rattle.call_points.specs.Steps.{after_word};
-ghost use Rattle.id_points.specs.Ids.{id_of, number_of};
-ghost use Rattle.id_points.specs.Turns.{post_on};
-ghost use Rattle.reader_points.specs.Points.{Context, next_program, load_program, posts_program, on_call, error_in, HasNext};
+ghost use Rattle.sock_words.specs.PackedWords.{at_word_link, at_word_slot, at_word_first, at_word_attempt, call_id};
+ghost use Rattle.seat_programs.specs.ReaderProgram.{posted_last};
+ghost use Rattle.call_points.specs.AsideCodeSteps.{after_word};
+ghost use Rattle.id_points.specs.IdsAndAttemptNumbers.{id_of, number_of};
+ghost use Rattle.id_points.specs.CallIdLoopTurns.{post_on};
+ghost use Rattle.reader_points.specs.ReaderPoints.{Context, next_program, load_program, posts_program, on_call, error_in, HasNext};
 
 use crate::point::{Closing, Lost, ReadNext, ReadPoint};
 use call_points::{OnCall, WordStep};

@@ -1,14 +1,14 @@
 ghost use Rattle.std.specs.Prelude.{◌≡◌, true};
 ghost use Rattle.seat_programs.specs.Asides.{Taking};
 ghost use Rattle.brpc_model.specs.Frame.{Frame};
-ghost use Rattle.seat_programs.specs.Readers.{answered, version_in};
+ghost use Rattle.seat_programs.specs.ReaderProgram.{answered, version_in};
 ghost use Rattle.corr_core.specs.Word.{parts};
-ghost use Rattle.corr_core.specs.Versions.{is_early};
-ghost use Rattle.id_points.specs.Ids.{id_of};
-ghost use Rattle.id_points.specs.Turns.{lock_on, sought_as};
-ghost use Rattle.reader_points.specs.Points.{Context, point_program, next_program, frames_behind, with_taking, room, IsTaken, IsLocker, FitsRoom, HasInHand, HasNext};
-ghost use Rattle.reader_points.specs.Steps.{after_taking};
-ghost use Rattle.sock_words.specs.Words.{call_id, id_slot};
+ghost use Rattle.corr_core.specs.IdRangeVersions.{is_early};
+ghost use Rattle.id_points.specs.IdsAndAttemptNumbers.{id_of};
+ghost use Rattle.id_points.specs.CallIdLoopTurns.{lock_on, sought_as};
+ghost use Rattle.reader_points.specs.ReaderPoints.{Context, point_program, next_program, frames_behind, with_taking, room, IsTaken, IsLocker, FitsRoom, HasInHand, HasNext};
+ghost use Rattle.reader_points.specs.ReaderCodeSteps.{after_taking};
+ghost use Rattle.sock_words.specs.PackedWords.{call_id, id_slot};
 
 use crate::point::{
     AnswerStep, Behind, ByteCount, CloseStep, Closing, ReadNext, ReadPoint, Reader, Taken,

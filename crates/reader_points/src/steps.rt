@@ -1,11 +1,11 @@
 ghost use Rattle.std.specs.Prelude.{◌≡◌, option_map, Some, ℕ};
 ghost use Rattle.sock_message.specs.Asked.{Asked};
-ghost use Rattle.id_points.specs.Ids.{id_of};
-ghost use Rattle.call_points.specs.Steps.{aside_in};
-ghost use Rattle.call_points.specs.Steps as asides;
-ghost use Rattle.seat_states.specs.Steps.{OfCall, step_of, first_in};
-ghost use Rattle.reader_points.specs.Points.{Context, close_program, answer_program, point_program, code_by, room, GoesBy};
-ghost use Rattle.reader_points.specs.Steps.{step_as};
+ghost use Rattle.id_points.specs.IdsAndAttemptNumbers.{id_of};
+ghost use Rattle.call_points.specs.AsideCodeSteps.{aside_in};
+ghost use Rattle.call_points.specs.AsideCodeSteps as asides;
+ghost use Rattle.seat_states.specs.ProgramStepsOfMachine.{OfCall, step_of, first_in};
+ghost use Rattle.reader_points.specs.ReaderPoints.{Context, close_program, answer_program, point_program, code_by, room, GoesBy};
+ghost use Rattle.reader_points.specs.ReaderCodeSteps.{step_as};
 
 use crate::point::{AnswerStep, Behind, ByteCount, CloseStep, Closing, ReadPoint, ReadStep};
 use call_points::Aside;

@@ -1,3 +1,3 @@
-pub mod Settled
-pub mod Follows
-pub mod Behind
+pub mod ProgramAtNextStep
+pub mod ReaderFollows
+pub mod ReaderBehindSteps

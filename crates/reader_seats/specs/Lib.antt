@@ -1,4 +1,4 @@
-pub mod Readers
-pub mod Hands
-pub mod Inside
-pub mod GoesOn
+pub mod ReaderState
+pub mod ResponseInHand
+pub mod InsideReaderSeat
+pub mod ReaderGoesOn

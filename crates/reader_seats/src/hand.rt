@@ -1,7 +1,7 @@
 ghost use Rattle.std.specs.Prelude.{◌≡◌, ◌++◌, ◌∷◌, [], List, true, map, OnOk};
 ghost use Rattle.brpc_model.specs.Frame as model;
-ghost use Rattle.prpc_frame.specs.Meaning.{frame_of};
-ghost use Rattle.reader_seats.specs.Hands.{frame_in, is_fresh, hand_of};
+ghost use Rattle.prpc_frame.specs.FrameMeaning.{frame_of};
+ghost use Rattle.reader_seats.specs.ResponseInHand.{frame_in, is_fresh, hand_of};
 
 use io_buf::NoMemory;
 use prpc_frame::Frame;

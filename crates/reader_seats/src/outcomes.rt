@@ -1,9 +1,9 @@
 ghost use Rattle.std.specs.Prelude.{◌≡◌, ◌↔◌, pos, IsTrue, IfOk, Some, slice_set};
-ghost use Rattle.prpc_frame.specs.Meaning.{frame_of};
-ghost use Rattle.sock_words.specs.Codes.{ERESPONSE};
+ghost use Rattle.prpc_frame.specs.FrameMeaning.{frame_of};
+ghost use Rattle.sock_words.specs.ErrorCodes.{ERESPONSE};
 ghost use Rattle.brpc_model.specs.ResponseOutcome.{by_code, ending_of};
-ghost use Rattle.id_points.specs.Ids.{id_of};
-ghost use Rattle.reader_points.specs.Points.{code_by};
+ghost use Rattle.id_points.specs.IdsAndAttemptNumbers.{id_of};
+ghost use Rattle.reader_points.specs.ReaderPoints.{code_by};
 
 use io_buf::{IoBuf, NoMemory};
 use prpc_frame::Frame;

@@ -1,15 +1,15 @@
 ghost use Rattle.std.specs.Prelude.{◌≡◌, ◌<◌, ◌≤◌, ◌∷◌, ◌++◌, [], ℕ, true, List, Option, Some, IfOk, OnOk, length, option_map};
 ghost use Rattle.brpc_model.specs.Frame.{NoneYet, judged};
 ghost use Rattle.brpc_model.specs.ResponseOutcome.{ending_of};
-ghost use Rattle.sock_io.specs.Link.{IsTakeCount};
-ghost use Rattle.seat_programs.specs.Beside.{at_last};
-ghost use Rattle.seat_programs.specs.Readers.{reader};
-ghost use Rattle.call_points.specs.Steps.{after_word, after_call};
-ghost use Rattle.seat_states.specs.Steps.{first_in};
-ghost use Rattle.reader_points.specs.Points.{room_at, next_program, behind_program, frames_behind, posts_program, with_taking, HasNext, GoesBy, GoesByWord, TakesBytes, TakesCall, MayFind, IsWithin};
-ghost use Rattle.reader_points.specs.Steps.{step_as, after_taking};
-ghost use Rattle.reader_seats.specs.Readers.{around, reader_program};
-ghost use Rattle.reader_seats.specs.GoesOn.{GoesOn, taking_of};
+ghost use Rattle.sock_io.specs.LinkHalves.{IsTakeCount};
+ghost use Rattle.seat_programs.specs.FoundAndChangedAside.{at_last};
+ghost use Rattle.seat_programs.specs.ReaderProgram.{reader};
+ghost use Rattle.call_points.specs.AsideCodeSteps.{after_word, after_call};
+ghost use Rattle.seat_states.specs.ProgramStepsOfMachine.{first_in};
+ghost use Rattle.reader_points.specs.ReaderPoints.{room_at, next_program, behind_program, frames_behind, posts_program, with_taking, HasNext, GoesBy, GoesByWord, TakesBytes, TakesCall, MayFind, IsWithin};
+ghost use Rattle.reader_points.specs.ReaderCodeSteps.{step_as, after_taking};
+ghost use Rattle.reader_seats.specs.ReaderState.{around, reader_program};
+ghost use Rattle.reader_seats.specs.ReaderGoesOn.{GoesOn, taking_of};
 
 use crate::hand::{Hand, hand_with, keep};
 use crate::outcomes::{ending, failed, tell, unread};
@@ -39,11 +39,11 @@ pub struct ReaderSeat {
 }
 
 impl Model for ReaderSeat {
-    ghost use Rattle.reader_seats.specs.Readers.{ReaderData};
+    ghost use Rattle.reader_seats.specs.ReaderState.{ReaderData};
 
     ghost Value = { ReaderData };
 
-    ghost use Rattle.reader_seats.specs.Inside.{data_of, HoldsWhatItNeeds};
+    ghost use Rattle.reader_seats.specs.InsideReaderSeat.{data_of, HoldsWhatItNeeds};
 
     ghost view = { data_of };
 

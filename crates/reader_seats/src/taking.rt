@@ -1,8 +1,8 @@
 ghost use Rattle.std.specs.Prelude.{◌≤◌, ℕ, List};
-ghost use Rattle.sock_io.specs.Link.{IsTakeCount, taken_count};
-ghost use Rattle.seat_programs.specs.Beside.{at_last};
-ghost use Rattle.reader_points.specs.Points.{IsTaken, FitsRoom};
-ghost use Rattle.reader_seats.specs.GoesOn.{taking_of};
+ghost use Rattle.sock_io.specs.LinkHalves.{IsTakeCount, taken_count};
+ghost use Rattle.seat_programs.specs.FoundAndChangedAside.{at_last};
+ghost use Rattle.reader_points.specs.ReaderPoints.{IsTaken, FitsRoom};
+ghost use Rattle.reader_seats.specs.ReaderGoesOn.{taking_of};
 
 use reader_points::Taken;
 use sock_io::Take;

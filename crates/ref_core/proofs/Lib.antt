@@ -1,1 +1,1 @@
-pub mod KeptRules
+pub mod SlotKeptRules

@@ -1,8 +1,8 @@
 ghost use Rattle.std.specs.Prelude.{◌≡◌, ◌≢◌, ℕ, Bool, ◌+◌, ◌-◌, ◌*◌, ◌%◌, ◌<◌, ◌↔◌, IsTrue, true, false, bit_or};
-ghost use Rattle.sock_words.specs.Words.{vref_nref, vref_version, vref_unused};
-ghost use Rattle.sock_model.specs.Layout.{tag_index, ref_index};
+ghost use Rattle.sock_words.specs.PackedWords.{vref_nref, vref_version, vref_unused};
+ghost use Rattle.sock_model.specs.SocketTableLayout.{tag_index, ref_index};
 ghost use Rattle.sock_model.specs.SlotRows.{claimed, gave_birth, added, back, subbed, failed, recycled, freed, looked};
-ghost use Rattle.ref_core.specs.Keeping.{KeepsSlotRule, MayClaim, MayAdd, MaySub, MayFail, MayRecycle, MayFree, MayBear};
+ghost use Rattle.ref_core.specs.KeepingSlotRule.{KeepsSlotRule, MayClaim, MayAdd, MaySub, MayFail, MayRecycle, MayFree, MayBear};
 
 use sock_words::{Step, Vref};
 

@@ -5,34 +5,34 @@ use Rattle.std.specs.Prelude.{Some, slice_get}
 use Rattle.std.specs.List.{AllByRecursion}
 use Rattle.sock_model.specs.declared.chain.Entry.{Entry}
 use Rattle.sock_model.specs.declared.view.View.{View}
-use Rattle.attempted_calls.specs.Below.slot_steps.proofs.Sums.{term_le}
+use Rattle.attempted_calls.specs.Below.slot_steps.proofs.SlotWeightSums.{term_le}
 use Rattle.seat_programs.specs.brpc_model.specs.Items.{Item}
 use Rattle.seat_programs.specs.brpc_model.specs.Operations.{Turn}
 use Rattle.sock_message.specs.Asked.{Asked}
 use Rattle.seat_programs.specs.declared.task.Task.{Task}
 use Rattle.seat_programs.specs.Cores.{Core}
 use Rattle.seat_programs.specs.Tasks.{opens, plan_of, id_plan_of}
-use Rattle.seat_programs.specs.Scripts.{all_tasks, IsRunWithCalls}
-use Rattle.seat_programs.specs.ToldCalls.{Accepted, IsUnordered}
-use Rattle.attempted_calls.specs.Below.programs_allowed.specs.program_walks.proofs.Whole.{views_ended}
-use Rattle.attempted_calls.specs.Below.outcome_stories.specs.Causes.{Asks}
+use Rattle.seat_programs.specs.ScriptSetupToEnding.{all_tasks, IsRunWithCalls}
+use Rattle.seat_programs.specs.ExplainedCalls.{Accepted, IsUnordered}
+use Rattle.attempted_calls.specs.Below.programs_allowed.specs.program_walks.proofs.WholeScriptSound.{views_ended}
+use Rattle.attempted_calls.specs.Below.outcome_stories.specs.StoryStepCauses.{Asks}
 use Rattle.attempted_calls.specs.Below.outcome_stories.specs.Explains.{is_plain}
-use Rattle.attempted_calls.specs.Below.outcome_stories.specs.Kept.{is_of_send}
+use Rattle.attempted_calls.specs.Below.outcome_stories.specs.KeptStory.{is_of_send}
 use Rattle.attempted_calls.specs.Below.outcome_stories.specs.PlainTasks.{told_tasks_of}
 use Rattle.attempted_calls.specs.Below.outcome_ticks.proofs.Lifted.{up}
-use Rattle.attempted_calls.specs.Below.outcome_causes.proofs.Messages.{each_made, message_of, number_of}
-use Rattle.attempted_calls.specs.Below.outcome_stories.proofs.Senders.{HasSent, all_sent}
-use Rattle.attempted_calls.specs.Below.outcome_ticks.proofs.Tasks.{one_task}
-use Rattle.attempted_calls.specs.Below.joint_runs.proofs.Runs.{AreMade, first_views}
-use Rattle.attempted_calls.specs.Below.call_owing.specs.Lives.{ClosesInRun}
-use Rattle.attempted_calls.specs.accept_counts.specs.Counts.{of_entry, of_view}
-use Rattle.attempted_calls.specs.accept_counts.specs.Refused.{RunWouldOwn}
+use Rattle.attempted_calls.specs.Below.outcome_causes.proofs.MessagesOfTasks.{each_made, message_of, number_of}
+use Rattle.attempted_calls.specs.Below.outcome_stories.proofs.SendersOfLogEntries.{HasSent, all_sent}
+use Rattle.attempted_calls.specs.Below.outcome_ticks.proofs.TableTasksDistinct.{one_task}
+use Rattle.attempted_calls.specs.Below.joint_runs.proofs.RunsOfBothTables.{AreMade, first_views}
+use Rattle.attempted_calls.specs.Below.call_owing.specs.LivesOfLinks.{ClosesInRun}
+use Rattle.attempted_calls.specs.accept_counts.specs.AttemptCounts.{of_entry, of_view}
+use Rattle.attempted_calls.specs.accept_counts.specs.RefusedOrDropped.{RunWouldOwn}
 use Rattle.attempted_calls.specs.accept_counts.proofs.Apart.{heading_one, of_call_fits}
-use Rattle.attempted_calls.specs.sent_once.proofs.Beside.{fixed_of_run, gave_of_run, orders_here}
-use Rattle.attempted_calls.specs.accept_counts.proofs.Early.{start, go, fitting}
-use Rattle.attempted_calls.specs.accept_counts.proofs.Runs.{AreLabelledIn, IsCallOf, Lawful_, end_law}
+use Rattle.attempted_calls.specs.sent_once.proofs.OtherTasksBesideCalls.{fixed_of_run, gave_of_run, orders_here}
+use Rattle.attempted_calls.specs.accept_counts.proofs.EarlyClosedSockets.{start, go, fitting}
+use Rattle.attempted_calls.specs.accept_counts.proofs.RunsKeepAttemptLaw.{AreLabelledIn, IsCallOf, Lawful_, end_law}
 use Rattle.attempted_calls.specs.sent_once.proofs.ToldEnd.{told_end}
-use Rattle.attempted_calls.specs.sent_once.proofs.Sends.{narrow, opening_bare}
+use Rattle.attempted_calls.specs.sent_once.proofs.SocketOperationsTold.{narrow, opening_bare}
 use Rattle.refused_attempts.proofs.RefusedWhole.{IsGone}
 use Rattle.attempted_calls.specs.Below.owned_ids.proofs.OpensStored.{place_at}
 use Rattle.sock_words.specs.Totals.{total}

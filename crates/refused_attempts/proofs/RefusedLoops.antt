@@ -4,22 +4,22 @@ use Rattle.seat_programs.specs.brpc_model.specs.Frame.{Frame}
 use Rattle.seat_programs.specs.brpc_model.specs.ResponseOutcome.{ending_of}
 use Rattle.corr_core.specs.Word.{Parts, parts, posted_word, unlocked_word, code_of}
 use Rattle.corr_core.specs.Law.{LAST}
-use Rattle.corr_core.specs.Decisions.{ends_call}
+use Rattle.corr_core.specs.ErrorsThatEndCalls.{ends_call}
 use Rattle.sock_message.specs.Asked.{Asked}
 use Rattle.seat_programs.specs.Asides.{UnlockId, FreeId, Taking, PutCall}
-use Rattle.seat_programs.specs.Calls.{TableStep}
-use Rattle.seat_programs.specs.Heads.{Head, Exit, Sought, Version, Reading, Posts, Unlocks, Decides, Locks, Joins, Opens, Reads, Discards, Retry, Posting, WasGone, WasStale, WasCrowded, WasQueued, HasLocked, Unlocking, IsOpen, HasNext, Deciding, HasEnded, GoesOn, Locking, NotThere, Has, Ended}
-use Rattle.seat_programs.specs.Posts.{packed, is_first, is_sought, is_stale, is_full, judged, posted, post_with, popped, end_id, decide, decided, unlocked, locking, IsSoughtWord}
+use Rattle.seat_programs.specs.TableSteps.{TableStep}
+use Rattle.seat_programs.specs.LoopHeads.{Head, Exit, Sought, Version, Reading, Posts, Unlocks, Decides, Locks, Joins, Opens, Reads, Discards, Retry, Posting, WasGone, WasStale, WasCrowded, WasQueued, HasLocked, Unlocking, IsOpen, HasNext, Deciding, HasEnded, GoesOn, Locking, NotThere, Has, Ended}
+use Rattle.seat_programs.specs.PostPrograms.{packed, is_first, is_sought, is_stale, is_full, judged, posted, post_with, popped, end_id, decide, decided, unlocked, locking, IsSoughtWord}
 use Rattle.seat_programs.specs.Programs.{Program, Say, Aside, Round}
-use Rattle.seat_programs.specs.Readers.{answer, took, discarded, slot_in}
-use Rattle.seat_programs.specs.Rounds.{round}
+use Rattle.seat_programs.specs.ReaderProgram.{answer, took, discarded, slot_in}
+use Rattle.seat_programs.specs.LoopRounds.{round}
 use Rattle.attempted_calls.specs.Below.programs_allowed.specs.program_walks.proofs.ThroughLoops.{through_took, through_discarded}
-use Rattle.attempted_calls.specs.Below.label_runs.specs.Labels.{Trial, Idle, Tries, Kept, LeavesLabel, LeavesLock, LeavesUnlock, unlocks_trial, unlocked_trial, locked_trial, FindsLabel}
-use Rattle.attempted_calls.specs.Below.label_runs.proofs.Programs.{hit_is, miss_is, found_is}
-use Rattle.attempted_calls.specs.Below.label_runs.proofs.Loops.{first_as, id_back, not_true, not_equal, and_left, locked_parts, none_left, word_got}
-use Rattle.attempted_calls.specs.accept_counts.specs.Refused.{Deed, NoCharge, Doing, idle, Moves, Remembers, IsPostOf, Charges, LeavesCode}
-use Rattle.attempted_calls.specs.accept_counts.proofs.Words.{unlocked_is}
-use Rattle.sock_words.specs.Words.{id_slot, id_first, call_id, bit}
+use Rattle.attempted_calls.specs.Below.label_runs.specs.AttemptLabelsLeft.{Trial, Idle, Tries, Kept, LeavesLabel, LeavesLock, LeavesUnlock, unlocks_trial, unlocked_trial, locked_trial, FindsLabel}
+use Rattle.attempted_calls.specs.Below.label_runs.proofs.ProgramsKeepAttempts.{hit_is, miss_is, found_is}
+use Rattle.attempted_calls.specs.Below.label_runs.proofs.LoopsOfKnownSeats.{first_as, id_back, not_true, not_equal, and_left, locked_parts, none_left, word_got}
+use Rattle.attempted_calls.specs.accept_counts.specs.RefusedOrDropped.{Deed, NoCharge, Doing, idle, Moves, Remembers, IsPostOf, Charges, LeavesCode}
+use Rattle.attempted_calls.specs.accept_counts.proofs.IdWordsGoForward.{unlocked_is}
+use Rattle.sock_words.specs.PackedWords.{id_slot, id_first, call_id, bit}
 
 -- a seat that tries, or none, and has nothing to post
 abbrev pub bare : Trial → List Deed → Doing

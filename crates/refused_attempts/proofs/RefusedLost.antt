@@ -3,48 +3,48 @@ use Rattle.std.proofs.Common.{◌≡◌, ℕ, ◌+◌, ◌<◌, ◌⊎◌, inl, 
 use Rattle.std.specs.List.{AllByRecursion}
 use mathlib.Core.Option.{none, some}
 use lib.ListN.{get_elem?}
-use Rattle.sock_words.specs.Words.{socket_id_slot, socket_id_version}
+use Rattle.sock_words.specs.PackedWords.{socket_id_slot, socket_id_version}
 use Rattle.sock_words.specs.declared.plain.Plan.{Plan}
 use Rattle.sock_model.specs.declared.view.View.{View}
 use Rattle.seat_programs.specs.brpc_model.specs.Items.{Item}
 use Rattle.seat_programs.specs.brpc_model.specs.Operations.{Turn}
 use Rattle.seat_programs.specs.brpc_model.specs.Script.{script_of}
 use Rattle.corr_core.specs.Word.{parts}
-use Rattle.corr_core.specs.Decisions.{ends_call}
+use Rattle.corr_core.specs.ErrorsThatEndCalls.{ends_call}
 use Rattle.sock_message.specs.Asked.{Asked}
 use Rattle.seat_programs.specs.Asides.{PutCall}
-use Rattle.seat_programs.specs.Calls.{AddRef, LookWord, LoadName}
-use Rattle.seat_programs.specs.Heads.{Posts, Unlocks, Decides, Locks}
+use Rattle.seat_programs.specs.TableSteps.{AddRef, LookWord, LoadName}
+use Rattle.seat_programs.specs.LoopHeads.{Posts, Unlocks, Decides, Locks}
 use Rattle.seat_programs.specs.Programs.{Program, Write, Aside, Round}
 use Rattle.seat_programs.specs.Writings.{Empties}
 use Rattle.seat_programs.specs.Cores.{Core}
 use Rattle.seat_programs.specs.Tasks.{opens, plan_of}
 use Rattle.seat_programs.specs.Ticks.{Moment, quiet, ticked}
-use Rattle.seat_programs.specs.Scripts.{all_tasks, opened, set_up, IsRunWithCalls}
-use Rattle.seat_programs.specs.Told.{AreTasks}
-use Rattle.seat_programs.specs.ToldCalls.{WhyLost, WasFailing, RunEnding}
-use Rattle.attempted_calls.specs.Below.programs_allowed.specs.program_steps.specs.Sound.{Sound, state}
-use Rattle.attempted_calls.specs.Below.programs_allowed.specs.program_walks.proofs.Whole.{closing_of, set_up_answered, end_answered, set_up_sound, played_sound, closing_sound, closed_sound, ended_sound, end_rests}
+use Rattle.seat_programs.specs.ScriptSetupToEnding.{all_tasks, opened, set_up, IsRunWithCalls}
+use Rattle.seat_programs.specs.Explained.{AreTasks}
+use Rattle.seat_programs.specs.ExplainedCalls.{WhyLost, WasFailing, RunEnding}
+use Rattle.attempted_calls.specs.Below.programs_allowed.specs.program_steps.specs.SoundSeats.{Sound, state}
+use Rattle.attempted_calls.specs.Below.programs_allowed.specs.program_walks.proofs.WholeScriptSound.{closing_of, set_up_answered, end_answered, set_up_sound, played_sound, closing_sound, closed_sound, ended_sound, end_rests}
 use Rattle.attempted_calls.specs.Below.outcome_stories.specs.Facts.{put_by, put_at, shown_in, late_of_run}
-use Rattle.attempted_calls.specs.Below.outcome_stories.specs.Kept.{Story}
+use Rattle.attempted_calls.specs.Below.outcome_stories.specs.KeptStory.{Story}
 use Rattle.attempted_calls.specs.Below.outcome_stories.specs.PlainTasks.{told_tasks_of}
-use Rattle.attempted_calls.specs.Below.outcome_stories.specs.Stories.{In}
+use Rattle.attempted_calls.specs.Below.outcome_stories.specs.OperationStories.{In}
 use Rattle.attempted_calls.specs.Below.outcome_ticks.proofs.Lifted.{made_up}
 use Rattle.attempted_calls.specs.Below.outcome_stories.proofs.Members.{in_contains}
-use Rattle.attempted_calls.specs.Below.outcome_causes.proofs.Openings.{are_seats}
-use Rattle.attempted_calls.specs.Below.outcome_causes.proofs.Plain.{in_left, in_right}
-use Rattle.attempted_calls.specs.Below.outcome_causes.proofs.Runs.{IsStoried, set_up_over}
-use Rattle.attempted_calls.specs.Below.outcome_causes.proofs.Scripts.{story_opened, story_closing, story_ended}
-use Rattle.attempted_calls.specs.Below.joint_runs.proofs.Runs.{AreMade, first_views}
-use Rattle.attempted_calls.specs.Below.call_owing.specs.Lives.{ClosesInRun}
-use Rattle.attempted_calls.specs.accept_counts.specs.Refused.{Deed, DidStep, DidPut, DidMiss, DidIn, DidEarly, DidLate, FoundLost, WasOther, WasOdd, WasNone}
-use Rattle.attempted_calls.specs.sent_once.proofs.Beside.{fixed_of_run, gave_of_run, orders_here, failing_of_run}
-use Rattle.attempted_calls.specs.accept_counts.proofs.Early.{start, go, fitting, first_fresh}
-use Rattle.attempted_calls.specs.sent_once.proofs.Sends.{owed}
+use Rattle.attempted_calls.specs.Below.outcome_causes.proofs.ExplainedOpenings.{are_seats}
+use Rattle.attempted_calls.specs.Below.outcome_causes.proofs.PlainOutcomeCauses.{in_left, in_right}
+use Rattle.attempted_calls.specs.Below.outcome_causes.proofs.RunsKeepStory.{IsStoried, set_up_over}
+use Rattle.attempted_calls.specs.Below.outcome_causes.proofs.SocketCausesOfScripts.{story_opened, story_closing, story_ended}
+use Rattle.attempted_calls.specs.Below.joint_runs.proofs.RunsOfBothTables.{AreMade, first_views}
+use Rattle.attempted_calls.specs.Below.call_owing.specs.LivesOfLinks.{ClosesInRun}
+use Rattle.attempted_calls.specs.accept_counts.specs.RefusedOrDropped.{Deed, DidStep, DidPut, DidMiss, DidIn, DidEarly, DidLate, FoundLost, WasOther, WasOdd, WasNone}
+use Rattle.attempted_calls.specs.sent_once.proofs.OtherTasksBesideCalls.{fixed_of_run, gave_of_run, orders_here, failing_of_run}
+use Rattle.attempted_calls.specs.accept_counts.proofs.EarlyClosedSockets.{start, go, fitting, first_fresh}
+use Rattle.attempted_calls.specs.sent_once.proofs.SocketOperationsTold.{owed}
 use Rattle.attempted_calls.proofs.RefusedNames.{IsNamed, named_more, Named, Then, seats_named, setup_named, named_life}
 use Rattle.refused_attempts.proofs.RefusedWhys.{early_so, all_in}
 use Rattle.attempted_calls.specs.accept_counts.proofs.Grounds.{setting, stages}
-use Rattle.seat_programs.specs.Rounds.{first_step}
+use Rattle.seat_programs.specs.LoopRounds.{first_step}
 
 -- ## Calls that are put into their homes
 
@@ -57,8 +57,8 @@ same_put : (program : Program) → put_first (first_step program) ≡ put_by pro
 same_put (Aside (PutCall i asked) next) = refl
 same_put (Round (Decides id asked w e) next) = by (ends_call (parts w) e)
   where
-    by : (b : Bool) → put_first (cond b (Rattle.seat_programs.specs.Posts.end_id (Rattle.sock_words.specs.Words.id_slot id) (next (Rattle.seat_programs.specs.Heads.HasEnded asked.operation (Rattle.corr_core.specs.Word.code_of e))))
-        (Aside (PutCall (Rattle.sock_words.specs.Words.id_slot id) asked) (λ _. Round (Unlocks (Rattle.sock_words.specs.Words.id_slot id) w true) (Rattle.seat_programs.specs.Posts.unlocked (record { id = id; attempt = (parts w).attempt + 1 }) next)))) ≡ cond b [] (asked.operation ∷ [])
+    by : (b : Bool) → put_first (cond b (Rattle.seat_programs.specs.PostPrograms.end_id (Rattle.sock_words.specs.PackedWords.id_slot id) (next (Rattle.seat_programs.specs.LoopHeads.HasEnded asked.operation (Rattle.corr_core.specs.Word.code_of e))))
+        (Aside (PutCall (Rattle.sock_words.specs.PackedWords.id_slot id) asked) (λ _. Round (Unlocks (Rattle.sock_words.specs.PackedWords.id_slot id) w true) (Rattle.seat_programs.specs.PostPrograms.unlocked (record { id = id; attempt = (parts w).attempt + 1 }) next)))) ≡ cond b [] (asked.operation ∷ [])
     by true = refl
     by false = refl
 same_put (Round (Locks i sought None) next) = refl
@@ -147,7 +147,7 @@ module _ (script : List Item) (made : AreMade script) (turns : List Turn) (core 
     Lost c o n name = WhyLost (plan_of script) (all_tasks script) core.outcomes (fixed_of_run script made turns core is closes) (gave_of_run script made turns core is closes) (orders_here script made turns core is closes) c o n name
 
     -- the name's socket was found failed before the ending: its link was failing
-    failed_early : (c o n name s : ℕ) → IsNamed played_told.after.events (DidStep (LoadName name) (s + 1)) → (0 < Rattle.sock_model.specs.Slots.count (Rattle.sock_model.specs.Weights.is_failer (socket_id_version s)) (Rattle.sock_model.specs.References.slot_facts (state rested rested_views) (socket_id_slot s))) → Lost c o n name
+    failed_early : (c o n name s : ℕ) → IsNamed played_told.after.events (DidStep (LoadName name) (s + 1)) → (0 < Rattle.sock_model.specs.SocketSlotLaw.count (Rattle.sock_model.specs.MarkWeights.is_failer (socket_id_version s)) (Rattle.sock_model.specs.References.slot_facts (state rested rested_views) (socket_id_slot s))) → Lost c o n name
     failed_early c o n name s named failed = let x = named (λ z. omega (arith, z)) in
         let life = named_life (plan_of script) (told_tasks_of script) told_are core end_views final_told.after.events final_told.after.lost
         (ended_sound script made.are (first_views script) (start script made turns core is) (go script made turns core is) turns core is (fitting script made turns core is)) end_story

@@ -4,37 +4,37 @@ use Rattle.std.specs.Prelude.{slice_index}
 use mathlib.Core.Option.{Option, some, none}
 use lib.ListN.{get_elem?}
 use Rattle.atomic_table.proofs.Lists.{set_again}
-use Rattle.sock_words.specs.Words.{socket_id_version, socket_id_slot, vref_version}
+use Rattle.sock_words.specs.PackedWords.{socket_id_version, socket_id_slot, vref_version}
 use Rattle.sock_words.specs.declared.plain.Plan.{Plan}
 use Rattle.sock_model.specs.declared.home.Home.{Home}
 use Rattle.sock_model.specs.declared.chain.Right.{Right}
 use Rattle.sock_model.specs.declared.view.View.{View}
-use Rattle.sock_model.specs.Weights.{is_busy, is_hold, is_known, is_failer}
-use Rattle.sock_model.specs.Layout.{request_index}
-use Rattle.sock_model.specs.Slots.{SlotLaw, live, count}
+use Rattle.sock_model.specs.MarkWeights.{is_busy, is_hold, is_known, is_failer}
+use Rattle.sock_model.specs.SocketTableLayout.{request_index}
+use Rattle.sock_model.specs.SocketSlotLaw.{SlotLaw, live, count}
 use Rattle.sock_model.specs.References.{slot_facts}
 use Rattle.sock_model.specs.SlotRows.{marks_of}
 use Rattle.sock_model.specs.ChainRows.{taken_right}
-use Rattle.attempted_calls.specs.Below.slot_steps.proofs.Numbers.{live_le, life_is, life-in}
-use Rattle.attempted_calls.specs.Below.sock_steps.proofs.Places.{own_count, counts}
-use Rattle.seat_programs.specs.Beside.{calls_after}
-use Rattle.seat_programs.specs.Calls.{TableStep, AddRef, LookWord, ClaimRequest}
+use Rattle.attempted_calls.specs.Below.slot_steps.proofs.RuleNumbers.{live_le, life_is, life-in}
+use Rattle.attempted_calls.specs.Below.sock_steps.proofs.LifeLinkSlotPlaces.{own_count, counts}
+use Rattle.seat_programs.specs.FoundAndChangedAside.{calls_after}
+use Rattle.seat_programs.specs.TableSteps.{TableStep, AddRef, LookWord, ClaimRequest}
 use Rattle.seat_programs.specs.Programs.{Program, Do}
 use Rattle.seat_programs.specs.Cores.{Calls, Core, SeatState, words_after, found_at, homes_after, with_seat, stepped, link_place, first_of, others_of, lies_at}
 use Rattle.seat_programs.specs.StepTables.{word_of, word_after}
 use Rattle.seat_programs.specs.Ticks.{Moment, AreAnswered, IsAnswered, ticked, run, onto_first, with_places, fed}
-use Rattle.attempted_calls.specs.Below.programs_allowed.specs.program_steps.specs.GoesOn.{GoesOn}
+use Rattle.attempted_calls.specs.Below.programs_allowed.specs.program_steps.specs.ProgramGoesOn.{GoesOn}
 use Rattle.seat_programs.specs.StepTables.{May}
 use Rattle.seat_programs.specs.StepTables.{row, hand_at}
 use Rattle.seat_programs.specs.StepsOfMessages.{took_message}
 use Rattle.seat_programs.specs.StepsOfLinks.{link_away, link_home_again, took_bytes}
-use Rattle.attempted_calls.specs.Below.programs_allowed.specs.program_steps.specs.Sound.{Sound, AreFitting, state, views_after, views_along}
-use Rattle.attempted_calls.specs.Below.programs_allowed.specs.program_steps.proofs.Cases.{goes_first, with_rights, right_rights, put_rights, tick_cases, elem_there}
+use Rattle.attempted_calls.specs.Below.programs_allowed.specs.program_steps.specs.SoundSeats.{Sound, AreFitting, state, views_after, views_along}
+use Rattle.attempted_calls.specs.Below.programs_allowed.specs.program_steps.proofs.TickCases.{goes_first, with_rights, right_rights, put_rights, tick_cases, elem_there}
 use Rattle.attempted_calls.specs.Below.programs_allowed.specs.sock_runs.proofs.LinkTicks.{RetriesGo}
-use Rattle.attempted_calls.specs.Below.programs_allowed.specs.sock_runs.proofs.Ticks.{sound_ticks}
+use Rattle.attempted_calls.specs.Below.programs_allowed.specs.sock_runs.proofs.TicksKeepSeatsSound.{sound_ticks}
 use Rattle.attempted_calls.specs.Below.outcome_stories.proofs.Added.{failer_note, row_adds}
-use Rattle.attempted_calls.specs.Below.outcome_stories.proofs.Used.{word_stays}
-use Rattle.attempted_calls.specs.accept_counts.specs.Refused.{Deed, DidStep, DidAt, DidIn}
+use Rattle.attempted_calls.specs.Below.outcome_stories.proofs.UsedRequestStays.{word_stays}
+use Rattle.attempted_calls.specs.accept_counts.specs.RefusedOrDropped.{Deed, DidStep, DidAt, DidIn}
 
 module _ (p : Plan) where
   -- the life of version h of slot j was failed

@@ -7,25 +7,25 @@ use Rattle.sock_words.specs.declared.plain.Plan.{Plan}
 use Rattle.sock_model.specs.declared.view.View.{View}
 use Rattle.corr_core.specs.Word.{parts}
 use Rattle.corr_core.specs.declared.marks.Plan.{Plan as IdPlan}
-use Rattle.attempted_calls.specs.Below.id_runs.specs.Held.{IdView}
+use Rattle.attempted_calls.specs.Below.id_runs.specs.HeldIdTokens.{IdView}
 use Rattle.attempted_calls.specs.Below.id_runs.specs.Goes.{SoundIds}
 use Rattle.attempted_calls.specs.Below.id_runs.specs.Goes as goes
 use Rattle.sock_message.specs.Asked.{Asked}
 use Rattle.seat_programs.specs.Asides.{Step, Found, PostId}
-use Rattle.seat_programs.specs.Beside.{found_in}
+use Rattle.seat_programs.specs.FoundAndChangedAside.{found_in}
 use Rattle.seat_programs.specs.Programs.{Program, Aside}
 use Rattle.seat_programs.specs.Cores.{Core, SeatState}
 use Rattle.seat_programs.specs.Ticks.{Moment, taken}
-use Rattle.attempted_calls.specs.Below.programs_allowed.specs.program_steps.specs.Sound.{Sound}
-use Rattle.attempted_calls.specs.Below.programs_allowed.specs.program_steps.proofs.Cases.{elem_there}
-use Rattle.attempted_calls.specs.Below.outcome_stories.specs.Stories.{In}
-use Rattle.attempted_calls.specs.Below.call_stories.specs.Posts.{Post, posts_by, posted_with, posted_at}
-use Rattle.attempted_calls.specs.accept_counts.specs.Refused.{Deed, Charge, NoCharge, IsRefused, HasDropped, Doing, IsChargeOf, IsPostOf, ChargeFits, ChargeLaw, IsSpent, PostKind, ByReader, ByExpiry, ByRefusal, ByDrop}
+use Rattle.attempted_calls.specs.Below.programs_allowed.specs.program_steps.specs.SoundSeats.{Sound}
+use Rattle.attempted_calls.specs.Below.programs_allowed.specs.program_steps.proofs.TickCases.{elem_there}
+use Rattle.attempted_calls.specs.Below.outcome_stories.specs.OperationStories.{In}
+use Rattle.attempted_calls.specs.Below.call_stories.specs.PostsOfRun.{Post, posts_by, posted_with, posted_at}
+use Rattle.attempted_calls.specs.accept_counts.specs.RefusedOrDropped.{Deed, Charge, NoCharge, IsRefused, HasDropped, Doing, IsChargeOf, IsPostOf, ChargeFits, ChargeLaw, IsSpent, PostKind, ByReader, ByExpiry, ByRefusal, ByDrop}
 use Rattle.attempted_calls.specs.Below.outcome_stories.proofs.HomeCalls.{AreCalls}
 use Rattle.refused_attempts.proofs.RefusedTicks.{Then, First, first_as}
 use Rattle.attempted_calls.specs.Below.owing_ticks.proofs.OwingRuns.{same_first}
-use Rattle.seat_programs.specs.Rounds.{first_step}
-use Rattle.sock_words.specs.Words.{call_id}
+use Rattle.seat_programs.specs.LoopRounds.{first_step}
+use Rattle.sock_words.specs.PackedWords.{call_id}
 
 pub all_done : (Did Done : Deed → Type 0) → ((d : Deed) → Did d → Done d) → (ds : List Deed) → AllByRecursion Did ds → AllByRecursion Done ds
 all_done Did Done f [] a = tt

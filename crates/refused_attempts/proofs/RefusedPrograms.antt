@@ -5,7 +5,7 @@ use Rattle.std.specs.List.{AllByRecursion}
 use mathlib.Core.Logic.{dite}
 use native.Mathlib.Decide.{ℕ_discrete}
 use Rattle.seat_programs.specs.brpc_model.specs.Frame.{Frame}
-use Rattle.sock_words.specs.Words.{socket_id_slot, socket_id_version, vref_version, vref_nref, at_word, at_word_first, at_word_slot, at_word_link, at_word_attempt, ticket_generation, ticket_request, IDLE, UNCONNECTED, call_id, id_slot, id_first, NO_SOCKET}
+use Rattle.sock_words.specs.PackedWords.{socket_id_slot, socket_id_version, vref_version, vref_nref, at_word, at_word_first, at_word_slot, at_word_link, at_word_attempt, ticket_generation, ticket_request, IDLE, UNCONNECTED, call_id, id_slot, id_first, NO_SOCKET}
 use Rattle.sock_words.specs.declared.outcome.Outcome.TheVariants as outcomes
 use Rattle.sock_io.specs.declared.link.Put.{Put}
 use Rattle.sock_io.specs.declared.link.Put.TheVariants as puts
@@ -20,25 +20,25 @@ use Rattle.seat_programs.specs.declared.task.Op.TheVariants as ops
 use Rattle.seat_programs.specs.declared.task.Sizes.{Sizes}
 use Rattle.seat_programs.specs.declared.task.Task.{Task}
 use Rattle.seat_programs.specs.Asides.{StoreAt}
-use Rattle.seat_programs.specs.Attempts.{claims_from, heading_for, attempt, begin_call, claim_id, call, tried_again, retry_locked, retry, expire_outcome, expire, join}
-use Rattle.seat_programs.specs.Calls.{TableStep, LoadOpen, SubRef, AddRef, LoadLink, TakeLink, FinishLink, PutLink, FreeSlot, LoadName, FreeRequest, ReadNext, FindLink, LookWord, ReverseNext, Connect, ClaimRequest, PutMessage, Recycle, LoadCode, DropPlace}
-use Rattle.seat_programs.specs.Clients.{HeldLife, held_under, without_name, operation, client_from, ending_of}
-use Rattle.seat_programs.specs.Heads.{First, Joins, Reads, Discards, Posting, HasLocked, Unlocking, IsOpen, HasNext, Locking, NotThere, Has, Ended}
-use Rattle.seat_programs.specs.Parts.{part}
-use Rattle.seat_programs.specs.Posts.{post_with, posted, post, decided}
+use Rattle.seat_programs.specs.CallAndRetryPrograms.{claims_from, heading_for, attempt, begin_call, claim_id, call, tried_again, retry_locked, retry, expire_outcome, expire, join}
+use Rattle.seat_programs.specs.TableSteps.{TableStep, LoadOpen, SubRef, AddRef, LoadLink, TakeLink, FinishLink, PutLink, FreeSlot, LoadName, FreeRequest, ReadNext, FindLink, LookWord, ReverseNext, Connect, ClaimRequest, PutMessage, Recycle, LoadCode, DropPlace}
+use Rattle.seat_programs.specs.ClientProgram.{HeldLife, held_under, without_name, operation, client_from, ending_of}
+use Rattle.seat_programs.specs.LoopHeads.{First, Joins, Reads, Discards, Posting, HasLocked, Unlocking, IsOpen, HasNext, Locking, NotThere, Has, Ended}
+use Rattle.seat_programs.specs.BufferParts.{part}
+use Rattle.seat_programs.specs.PostPrograms.{post_with, posted, post, decided}
 use Rattle.seat_programs.specs.Programs.{Program, Do, Say, Sent, Rest, TakeMessage, TakeHome, PutBytes, Write, Aside, Round, LAST_VERSION, LAST_GENERATION, recycle, release}
-use Rattle.seat_programs.specs.Readers.{kept_for, ends_with, posted_last, post_each, thrown_away, read, reader, LIMIT}
-use Rattle.seat_programs.specs.Sends.{freed as given_back, one_more, passed_telling, tell_drop, placed, dropped, put_answered, ready_answered, block, first_put, accept, write_link, heading_of, claim_from, start, send}
+use Rattle.seat_programs.specs.ReaderProgram.{kept_for, ends_with, posted_last, post_each, thrown_away, read, reader, LIMIT}
+use Rattle.seat_programs.specs.SendAndWritePrograms.{freed as given_back, one_more, passed_telling, tell_drop, placed, dropped, put_answered, ready_answered, block, first_put, accept, write_link, heading_of, claim_from, start, send}
 use Rattle.seat_programs.specs.Writings.{Holder, Writing, Puts, Waits, Empties, Walks}
-use Rattle.attempted_calls.specs.Below.outcome_stories.specs.Stories.{In}
+use Rattle.attempted_calls.specs.Below.outcome_stories.specs.OperationStories.{In}
 use Rattle.attempted_calls.specs.Below.programs_allowed.specs.program_walks.proofs.Through.{PassesWords, PassesFails, is_of_message, others_plain, others_failing, others_make, through_release, through_reach, through_set_failed, through_fail, through_hold}
 use Rattle.attempted_calls.specs.Below.programs_allowed.specs.program_walks.proofs.ThroughSends.{through_ended}
 use Rattle.attempted_calls.specs.Below.programs_allowed.specs.program_walks.proofs.ThroughCalls.{through_read_end}
 use Rattle.attempted_calls.specs.Below.programs_allowed.specs.program_walks.proofs.ThroughClients.{through_open, through_back, through_drop_of}
-use Rattle.attempted_calls.specs.Below.label_runs.proofs.Loops.{not_equal}
-use Rattle.attempted_calls.specs.Below.label_runs.proofs.Operations.{OpCalls}
-use Rattle.attempted_calls.specs.Below.label_runs.specs.Labels.{Trial, Idle, Tries, Sends, MayPut, Kept, LeavesLabel, LeavesLock, LeavesUnlock, locked_trial}
-use Rattle.attempted_calls.specs.accept_counts.specs.Refused.{Deed, DidStep, DidPut, DidRound, DidMiss, Charge, NoCharge, IsRefused, HasDropped, Doing, idle, begins, FoundTaken, WasOther, WasOdd, WasNone, WhyRefused, WouldStore, IsTrying, IsLast, IsPostOf}
+use Rattle.attempted_calls.specs.Below.label_runs.proofs.LoopsOfKnownSeats.{not_equal}
+use Rattle.attempted_calls.specs.Below.label_runs.proofs.OperationsKeepKnown.{OpCalls}
+use Rattle.attempted_calls.specs.Below.label_runs.specs.AttemptLabelsLeft.{Trial, Idle, Tries, Sends, MayPut, Kept, LeavesLabel, LeavesLock, LeavesUnlock, locked_trial}
+use Rattle.attempted_calls.specs.accept_counts.specs.RefusedOrDropped.{Deed, DidStep, DidPut, DidRound, DidMiss, Charge, NoCharge, IsRefused, HasDropped, Doing, idle, begins, FoundTaken, WasOther, WasOdd, WasNone, WhyRefused, WouldStore, IsTrying, IsLast, IsPostOf}
 use Rattle.refused_attempts.proofs.RefusedLoops.{bare, Goes, way, Steps, step_way, aside_way, forgets, let_go, post_with_goes, posted_goes, decide_goes, decided_goes, answer_goes}
 
 module _ (requests : ℕ) (is_call : Asked → Type 0) (reads : Bool) where
@@ -160,7 +160,7 @@ module _ (requests : ℕ) (is_call : Asked → Type 0) (reads : Bool) where
 
   put_goes : (mine : reads ≡ false) (h : Holder) (now : ℕ) (heading : Heading) (left : List ℕ) (taken : ℕ) (after : Program) → G idle after → (answer : Put) → G idle (put_answered h now heading left taken after answer)
   put_goes mine h now heading left taken after goes (puts.Took n) = split (nat_le (length left) n) (placed h now heading after) (Write (Puts h now heading (drop n left) (taken + n) false) after)
-      (λ _. (tt, λ found _. then_ (Rattle.seat_programs.specs.Calls.StorePlace heading.place h.link h.places) _ found idle (passed_goes mine (one_more h) now (λ x. x) after (λ x g. g) goes))) (λ _. (mine, goes))
+      (λ _. (tt, λ found _. then_ (Rattle.seat_programs.specs.TableSteps.StorePlace heading.place h.link h.places) _ found idle (passed_goes mine (one_more h) now (λ x. x) after (λ x g. g) goes))) (λ _. (mine, goes))
   put_goes mine h now heading left taken after goes puts.Again = (mine, goes)
   put_goes mine h now heading left taken after goes puts.Failed = fails 1009 h.id (λ _. Write (Puts h now heading left taken false) after) (λ _. (mine, goes))
 
@@ -212,7 +212,7 @@ module _ (requests : ℕ) (is_call : Asked → Type 0) (reads : Bool) where
         ready_goes asks.Now = (mine, g)
         ready_goes asks.NotYet = (mine, g)
         ready_goes asks.Failed = fails 1009 h.id (λ _. Write (Puts h now heading left taken false) after) (λ _. (mine, g))
-    block_goes (Empties h) after g = (tt, λ found _. then_ (Rattle.seat_programs.specs.Calls.EmptyHead (socket_id_slot h.id) h.last) _ found idle (split (found == h.last) after (TakeHome h.link (λ places. Write (Walks (record h { places = places }) found found 0) after)) (λ _. g) (λ _. λ places. (mine, g))))
+    block_goes (Empties h) after g = (tt, λ found _. then_ (Rattle.seat_programs.specs.TableSteps.EmptyHead (socket_id_slot h.id) h.last) _ found idle (split (found == h.last) after (TakeHome h.link (λ places. Write (Walks (record h { places = places }) found found 0) after)) (λ _. g) (λ _. λ places. (mine, g))))
     block_goes (Walks h top at after) last g = (
       tt,
       λ found _. then_ (ReadNext (ticket_request at)) _ found (begins (Walks h top at after)) (split (found == UNCONNECTED) (Write (Walks h top at after) last)
@@ -241,9 +241,9 @@ module _ (requests : ℕ) (is_call : Asked → Type 0) (reads : Bool) where
       inl (inl refl, inr (refl, refl)),
       (
         tt,
-        λ b _. then_ (Rattle.seat_programs.specs.Calls.Unconnect q) _ b idle (
+        λ b _. then_ (Rattle.seat_programs.specs.TableSteps.Unconnect q) _ b idle (
           tt,
-          λ found _. then_ (Rattle.seat_programs.specs.Calls.SwapHead (socket_id_slot id) (ticket_of q g)) _ found idle
+          λ found _. then_ (Rattle.seat_programs.specs.TableSteps.SwapHead (socket_id_slot id) (ticket_of q g)) _ found idle
               (split (nat_lt found IDLE) (Do (Connect q found) (λ _. after)) (write_link id q (ticket_of q g) after) (λ _. (tt, λ d _. then_ (Connect q found) _ d idle goes)) (λ _. write_goes mine id q (ticket_of q g) after goes)),
         ),
       ),
@@ -261,7 +261,7 @@ module _ (requests : ℕ) (is_call : Asked → Type 0) (reads : Bool) where
       (λ far. let t = taken r (omega (arith, low, far)) in (t.0, t.1, inr t.2, t.3))
 
   -- the step was the last of a refused attempt, so that its error is due
-  refuses : (asked : Asked) → is_call asked → (id n code : ℕ) → n ≤ 6 → (t : Trial) (ds : List Deed) → In (DidPut asked) ds → (made : TableStep) (then : ℕ → Program) (found : ℕ) → IsTrying t asked.operation id n (Do made then) → Rattle.attempted_calls.specs.Below.label_runs.specs.Labels.put_behind t made ≡ t
+  refuses : (asked : Asked) → is_call asked → (id n code : ℕ) → n ≤ 6 → (t : Trial) (ds : List Deed) → In (DidPut asked) ds → (made : TableStep) (then : ℕ → Program) (found : ℕ) → IsTrying t asked.operation id n (Do made then) → Rattle.attempted_calls.specs.Below.label_runs.specs.AttemptLabelsLeft.put_behind t made ≡ t
       → (deed : Deed) → IsLast made then found asked.operation id n deed → WhyRefused requests asked n code (deed ∷ ds) → (x : Program) → G (due (IsRefused id n code) (deed ∷ ds)) x → Steps requests is_call reads made then found (bare t ds) x
   refuses asked called id n code few t ds put made then found trying same deed last why x goes = (
     due (IsRefused id n code) (deed ∷ ds),
@@ -299,11 +299,11 @@ module _ (requests : ℕ) (is_call : Asked → Type 0) (reads : Bool) where
     accepts ds q found = accept_goes mine (sending ds) socket q (found / 2) (heading_for asked id n) (frame_of asked id n) (release (socket_id_slot socket) (λ _. next)) (inr (asked, called, refl, refl, refl)) gives_back
 
     -- the last of the requests was found taken
-    fulls : (made : TableStep) (then : ℕ → Program) (found : ℕ) (ds : List Deed) → Rattle.attempted_calls.specs.Below.label_runs.specs.Labels.put_behind (Sends asked.operation id n) made ≡ Sends asked.operation id n → FoundTaken requests (DidStep made found ∷ ds) → In (DidPut asked) ds → Steps requests is_call reads made then found (sending ds) full
+    fulls : (made : TableStep) (then : ℕ → Program) (found : ℕ) (ds : List Deed) → Rattle.attempted_calls.specs.Below.label_runs.specs.AttemptLabelsLeft.put_behind (Sends asked.operation id n) made ≡ Sends asked.operation id n → FoundTaken requests (DidStep made found ∷ ds) → In (DidPut asked) ds → Steps requests is_call reads made then found (sending ds) full
     fulls made then found ds same taken put = refuses asked called id n 3001 few (Sends asked.operation id n) ds put made then found (inl refl) same (DidStep made found) (inl refl) (inl (refl, taken)) full
         (posts 3001 (DidStep made found ∷ ds) (release (socket_id_slot socket) (λ _. next)) gives_back)
 
-    grows : (made : TableStep) (then : ℕ → Program) (found : ℕ) (ds : List Deed) (x : Program) → Kept (Rattle.attempted_calls.specs.Below.label_runs.specs.Labels.put_behind (Sends asked.operation id n) made) (Sends asked.operation id n) → G (sending (DidStep made found ∷ ds)) x → Steps requests is_call reads made then found (sending ds) x
+    grows : (made : TableStep) (then : ℕ → Program) (found : ℕ) (ds : List Deed) (x : Program) → Kept (Rattle.attempted_calls.specs.Below.label_runs.specs.AttemptLabelsLeft.put_behind (Sends asked.operation id n) made) (Sends asked.operation id n) → G (sending (DidStep made found ∷ ds)) x → Steps requests is_call reads made then found (sending ds) x
     grows made then found ds x k g = (sending (DidStep made found ∷ ds), inl (k, inl (refl, refl)), g)
 
     claims_goes : (more q : ℕ) (ds : List Deed) → q + suc more ≡ requests → FoundTaken q ds → In (DidPut asked) ds → G (sending ds) (others (suc more) q)
@@ -545,7 +545,7 @@ module _ (requests : ℕ) (is_call : Asked → Type 0) (reads : Bool) where
   ends_goes id e w [] next first goes = decide_goes requests is_call reads idle id w e (decided id next) first (decided_goes requests is_call reads id next goes)
   ends_goes id e w (f ∷ fs) next first goes = answer_goes requests is_call reads idle f (id_first id) next goes
 
-  last_goes : (id e : ℕ) (kept : List Frame) (next : Program) → G idle next → (exit : Posting) → LeavesLabel (Rattle.seat_programs.specs.Heads.Posts id e 0) exit → G idle (posted_last id e kept next exit)
+  last_goes : (id e : ℕ) (kept : List Frame) (next : Program) → G idle next → (exit : Posting) → LeavesLabel (Rattle.seat_programs.specs.LoopHeads.Posts id e 0) exit → G idle (posted_last id e kept next exit)
   last_goes id e kept next goes (HasLocked w) l = ends_goes id e w (kept_for id (parts w).range kept) next l goes
   last_goes id e kept next goes _ l = goes
 

@@ -6,20 +6,20 @@ use Rattle.seat_programs.specs.brpc_model.specs.Items.{Item}
 use Rattle.seat_programs.specs.brpc_model.specs.Operations.{Turn}
 use Rattle.seat_programs.specs.brpc_model.specs.Script.{script_of}
 use Rattle.corr_core.specs.Word.{error_of, code_of, attempt_of}
-use Rattle.corr_core.specs.Decisions.{WHOLE}
+use Rattle.corr_core.specs.ErrorsThatEndCalls.{WHOLE}
 use Rattle.sock_message.specs.Asked.{Asked, name_of}
 use Rattle.seat_programs.specs.Cores.{Core}
 use Rattle.seat_programs.specs.Tasks.{plan_of}
-use Rattle.seat_programs.specs.Scripts.{all_tasks, IsRunWithCalls}
-use Rattle.seat_programs.specs.ToldCalls.{IsUnordered, WhyLost, WasFull}
-use Rattle.attempted_calls.specs.Below.outcome_stories.specs.Stories.{In}
-use Rattle.attempted_calls.specs.Below.joint_runs.proofs.Runs.{AreMade}
-use Rattle.attempted_calls.specs.Below.call_owing.specs.Lives.{ClosesInRun}
+use Rattle.seat_programs.specs.ScriptSetupToEnding.{all_tasks, IsRunWithCalls}
+use Rattle.seat_programs.specs.ExplainedCalls.{IsUnordered, WhyLost, WasFull}
+use Rattle.attempted_calls.specs.Below.outcome_stories.specs.OperationStories.{In}
+use Rattle.attempted_calls.specs.Below.joint_runs.proofs.RunsOfBothTables.{AreMade}
+use Rattle.attempted_calls.specs.Below.call_owing.specs.LivesOfLinks.{ClosesInRun}
 use Rattle.attempted_calls.specs.Below.call_stories.specs.Decided.{posted_by}
-use Rattle.attempted_calls.specs.Below.call_stories.specs.Posts.{Post}
-use Rattle.attempted_calls.specs.accept_counts.specs.Refused.{Deed, DidEarly, DidLate, DidInRun, FoundNothing, IsRefusal, IsDrop, RunWouldOwn, ByReader, ByExpiry, ByRefusal, ByDrop}
-use Rattle.attempted_calls.specs.sent_once.proofs.Beside.{fixed_of_run, gave_of_run, orders_here}
-use Rattle.attempted_calls.specs.accept_counts.proofs.Runs.{AreLabelledIn, IsCallOf}
+use Rattle.attempted_calls.specs.Below.call_stories.specs.PostsOfRun.{Post}
+use Rattle.attempted_calls.specs.accept_counts.specs.RefusedOrDropped.{Deed, DidEarly, DidLate, DidInRun, FoundNothing, IsRefusal, IsDrop, RunWouldOwn, ByReader, ByExpiry, ByRefusal, ByDrop}
+use Rattle.attempted_calls.specs.sent_once.proofs.OtherTasksBesideCalls.{fixed_of_run, gave_of_run, orders_here}
+use Rattle.attempted_calls.specs.accept_counts.proofs.RunsKeepAttemptLaw.{AreLabelledIn, IsCallOf}
 use Rattle.refused_attempts.proofs.RefusedGone.{unordered}
 use Rattle.refused_attempts.proofs.RefusedLost.{early_lost, late_lost}
 use Rattle.refused_attempts.proofs.RefusedMeans.{IsSo}

@@ -7,37 +7,37 @@ use lib.ListN.{get_elem?}
 use Rattle.sock_words.specs.declared.plain.Plan.{Plan}
 use Rattle.sock_model.specs.declared.view.View.{View}
 use Rattle.corr_core.specs.declared.marks.Plan.{Plan as IdPlan}
-use Rattle.corr_core.proofs.Notes.{at_length}
+use Rattle.corr_core.proofs.NoteSums.{at_length}
 use Rattle.sock_message.specs.Asked.{Asked}
-use Rattle.seat_programs.specs.Heads.{Retry}
+use Rattle.seat_programs.specs.LoopHeads.{Retry}
 use Rattle.seat_programs.specs.declared.task.Sizes.{Sizes}
 use Rattle.seat_programs.specs.declared.task.Task.{Task}
 use Rattle.seat_programs.specs.Programs.{Program, Do, Say, Sent, Rest, Write, Aside, Keep, Retries}
-use Rattle.seat_programs.specs.Clients.{client_from}
-use Rattle.seat_programs.specs.Readers.{reader}
+use Rattle.seat_programs.specs.ClientProgram.{client_from}
+use Rattle.seat_programs.specs.ReaderProgram.{reader}
 use Rattle.seat_programs.specs.Cores.{Core, SeatState, resolved, next_step, waiting_at}
 use Rattle.seat_programs.specs.Ticks.{Moment, AreAnswered, ticked, run}
 use Rattle.seat_programs.specs.Tasks.{calls}
-use Rattle.seat_programs.specs.Scripts.{programs, readers_from, all_programs, beginning}
-use Rattle.attempted_calls.specs.Below.programs_allowed.specs.program_steps.specs.Sound.{Sound, AreFitting, views_after, views_along}
+use Rattle.seat_programs.specs.ScriptSetupToEnding.{programs, readers_from, all_programs, beginning}
+use Rattle.attempted_calls.specs.Below.programs_allowed.specs.program_steps.specs.SoundSeats.{Sound, AreFitting, views_after, views_along}
 use Rattle.attempted_calls.specs.Below.programs_allowed.specs.sock_runs.proofs.LinkTicks.{RetriesGo}
-use Rattle.attempted_calls.specs.Below.programs_allowed.specs.sock_runs.proofs.Ticks.{sound_ticks}
-use Rattle.attempted_calls.specs.Below.programs_allowed.specs.program_walks.proofs.Opening.{mapped}
-use Rattle.attempted_calls.specs.Below.outcome_stories.specs.Stories.{In}
-use Rattle.attempted_calls.specs.Below.outcome_causes.proofs.Plain.{in_both}
-use Rattle.attempted_calls.specs.Below.label_runs.specs.Labels.{Trial, Idle}
-use Rattle.attempted_calls.specs.Below.label_runs.proofs.Operations.{OpCalls}
+use Rattle.attempted_calls.specs.Below.programs_allowed.specs.sock_runs.proofs.TicksKeepSeatsSound.{sound_ticks}
+use Rattle.attempted_calls.specs.Below.programs_allowed.specs.program_walks.proofs.OpenedLivesRecorded.{mapped}
+use Rattle.attempted_calls.specs.Below.outcome_stories.specs.OperationStories.{In}
+use Rattle.attempted_calls.specs.Below.outcome_causes.proofs.PlainOutcomeCauses.{in_both}
+use Rattle.attempted_calls.specs.Below.label_runs.specs.AttemptLabelsLeft.{Trial, Idle}
+use Rattle.attempted_calls.specs.Below.label_runs.proofs.OperationsKeepKnown.{OpCalls}
 use Rattle.attempted_calls.specs.Below.call_stories.specs.Decided.{posted_by}
-use Rattle.attempted_calls.specs.Below.call_stories.specs.Posts.{Post}
-use Rattle.attempted_calls.specs.accept_counts.specs.Counts.{of_trial, of_view, times_of, TrialFits, AreLabelled}
-use Rattle.attempted_calls.specs.accept_counts.specs.Refused.{Deed, DidStep, DidPut, DidRound, DidMiss, Doing, idle, trial_in, Charges, DidAt, DidIn, IsSpent, ChargeFits, ChargeLaw, PostKind, AllWouldOwn}
-use Rattle.attempted_calls.specs.accept_counts.proofs.Ticks.{label_ticks}
-use Rattle.attempted_calls.specs.accept_counts.proofs.Runs.{IsBare, Lawful_, total_none, none_waits, bare_count}
+use Rattle.attempted_calls.specs.Below.call_stories.specs.PostsOfRun.{Post}
+use Rattle.attempted_calls.specs.accept_counts.specs.AttemptCounts.{of_trial, of_view, times_of, TrialFits, AreLabelled}
+use Rattle.attempted_calls.specs.accept_counts.specs.RefusedOrDropped.{Deed, DidStep, DidPut, DidRound, DidMiss, Doing, idle, trial_in, Charges, DidAt, DidIn, IsSpent, ChargeFits, ChargeLaw, PostKind, AllWouldOwn}
+use Rattle.attempted_calls.specs.accept_counts.proofs.TicksKeepAttemptLaw.{label_ticks}
+use Rattle.attempted_calls.specs.accept_counts.proofs.RunsKeepAttemptLaw.{IsBare, Lawful_, total_none, none_waits, bare_count}
 use Rattle.refused_attempts.proofs.RefusedTicks.{charge_ticks}
 use Rattle.attempted_calls.specs.accept_counts.proofs.PostSeats.{of_tick}
 use Rattle.refused_attempts.proofs.RefusedPosts.{kind_more, tick_kinds}
 use Rattle.refused_attempts.proofs.RefusedPrograms.{client_goes, reader_goes}
-use Rattle.seat_programs.specs.Rounds.{first_step}
+use Rattle.seat_programs.specs.LoopRounds.{first_step}
 use Rattle.attempted_calls.specs.Below.outcome_stories.specs.Facts.{shown_in}
 
 -- ## Lists

@@ -7,46 +7,46 @@ use mathlib.Core.Option.{Option, some}
 use lib.ListN.{get_elem?}
 use Rattle.atomic_table.proofs.Lists.{at_set, set_again}
 use Rattle.sock_words.specs.declared.plain.Plan.{Plan}
-use Rattle.sock_words.specs.Words.{at_word, call_id, id_slot, id_first}
+use Rattle.sock_words.specs.PackedWords.{at_word, call_id, id_slot, id_first}
 use Rattle.sock_model.specs.declared.chain.Right.{Right}
 use Rattle.sock_model.specs.declared.chain.Heading.{Heading}
 use Rattle.sock_model.specs.declared.home.Home.{Home}
 use Rattle.sock_model.specs.declared.view.Hand.{Hand}
 use Rattle.sock_model.specs.declared.view.View.{View}
-use Rattle.attempted_calls.specs.Below.slot_steps.proofs.Sums.{term_le, total-append, total-set}
+use Rattle.attempted_calls.specs.Below.slot_steps.proofs.SlotWeightSums.{term_le, total-append, total-set}
 use Rattle.corr_core.specs.Word.{parts}
 use Rattle.corr_core.specs.declared.marks.Plan.{Plan as IdPlan}
-use Rattle.attempted_calls.specs.Below.id_runs.specs.Held.{IdView, MayId}
+use Rattle.attempted_calls.specs.Below.id_runs.specs.HeldIdTokens.{IdView, MayId}
 use Rattle.attempted_calls.specs.Below.id_runs.specs.Goes.{FitsRetryId, FitsSock, FindsId, IdGoesOn, SoundIds, IsFittingIds}
-use Rattle.attempted_calls.specs.Below.id_runs.proofs.Steps.{finds_ids}
+use Rattle.attempted_calls.specs.Below.id_runs.proofs.AsideStepsKeepRule.{finds_ids}
 use Rattle.seat_programs.specs.Asides.{Step, Found, PutCall, MakeId, StoreAt, UnlockId, TakeCall, Taking}
 use Rattle.sock_message.specs.Asked.{Asked}
-use Rattle.seat_programs.specs.Beside.{found_in, calls_after}
-use Rattle.seat_programs.specs.Attempts.{retry}
-use Rattle.seat_programs.specs.Calls.{TableStep, PutMessage}
-use Rattle.seat_programs.specs.Heads.{Retry}
+use Rattle.seat_programs.specs.FoundAndChangedAside.{found_in, calls_after}
+use Rattle.seat_programs.specs.CallAndRetryPrograms.{retry}
+use Rattle.seat_programs.specs.TableSteps.{TableStep, PutMessage}
+use Rattle.seat_programs.specs.LoopHeads.{Retry}
 use Rattle.seat_programs.specs.Programs.{Program, Do, Say, Sent, Rest, TakeMessage, TakeHome, PutHome, PutBytes, AskReady, Write, Aside, Round, Keep, Retries}
 use Rattle.seat_programs.specs.Cores.{Calls, Core, SeatState, found_at, words_after, homes_after, hand_after, resolved, still_waiting, waiting_at, next_step, with_seat, stepped}
 use Rattle.seat_programs.specs.StepTables.{word_of, word_after}
 use Rattle.seat_programs.specs.Ticks.{Moment, IsAnswered, taken, ticked}
 use Rattle.seat_programs.specs.StepTables.{row, hand_at}
-use Rattle.attempted_calls.specs.Below.programs_allowed.specs.program_steps.specs.Sound.{Sound, views_after}
-use Rattle.attempted_calls.specs.Below.programs_allowed.specs.program_steps.proofs.Cases.{with_rights, elem_there, calls_waiting}
+use Rattle.attempted_calls.specs.Below.programs_allowed.specs.program_steps.specs.SoundSeats.{Sound, views_after}
+use Rattle.attempted_calls.specs.Below.programs_allowed.specs.program_steps.proofs.TickCases.{with_rights, elem_there, calls_waiting}
 use Rattle.attempted_calls.specs.Below.call_owing.proofs.EndsStill.{mapped_at}
-use Rattle.attempted_calls.specs.Below.label_runs.specs.Labels.{Trial, Idle, Tries, Sends, put_behind, Kept, Storing, unlocked_trial}
-use Rattle.attempted_calls.specs.accept_counts.specs.Counts.{pair_of, of_trial, of_retry, of_view, times_of, WasMade, WasNow, TrialFits, StoresOwn}
-use Rattle.attempted_calls.specs.accept_counts.specs.Refused.{Deed, DidStep, DidPut, Charge, NoCharge, IsRefused, HasDropped, Doing, idle, begins, trial_in, FoundTaken, FoundLost, WasOther, WasOdd, WasNone, WhyRefused, WouldStore, WouldOwn, IsTrying, IsLast, Refuses, Moves, Remembers, Charges, did_aside, DidAt, IsRefusal, IsDrop, IsSpent, ChargeFits, ChargeLaw}
+use Rattle.attempted_calls.specs.Below.label_runs.specs.AttemptLabelsLeft.{Trial, Idle, Tries, Sends, put_behind, Kept, Storing, unlocked_trial}
+use Rattle.attempted_calls.specs.accept_counts.specs.AttemptCounts.{pair_of, of_trial, of_retry, of_view, times_of, WasMade, WasNow, TrialFits, StoresOwn}
+use Rattle.attempted_calls.specs.accept_counts.specs.RefusedOrDropped.{Deed, DidStep, DidPut, Charge, NoCharge, IsRefused, HasDropped, Doing, idle, begins, trial_in, FoundTaken, FoundLost, WasOther, WasOdd, WasNone, WhyRefused, WouldStore, WouldOwn, IsTrying, IsLast, Refuses, Moves, Remembers, Charges, did_aside, DidAt, IsRefusal, IsDrop, IsSpent, ChargeFits, ChargeLaw}
 use Rattle.attempted_calls.specs.accept_counts.proofs.SeatFacts.{ids_first}
 use Rattle.attempted_calls.specs.Below.outcome_stories.proofs.HomeCalls.{AreCalls}
 use Rattle.attempted_calls.specs.accept_counts.proofs.SeatFacts.{tick_moves}
-use Rattle.attempted_calls.specs.accept_counts.proofs.Ticks.{put_count, few_more, few_of, fits_as, kept_count, kept_fits, pair_now, waits_set}
-use Rattle.attempted_calls.specs.accept_counts.proofs.Views.{row_count, rights_count}
-use Rattle.attempted_calls.specs.accept_counts.proofs.Words.{made_on, finds_label, words_forward, makes_new, advances_new}
+use Rattle.attempted_calls.specs.accept_counts.proofs.TicksKeepAttemptLaw.{put_count, few_more, few_of, fits_as, kept_count, kept_fits, pair_now, waits_set}
+use Rattle.attempted_calls.specs.accept_counts.proofs.ClaimViewsBehindSteps.{row_count, rights_count}
+use Rattle.attempted_calls.specs.accept_counts.proofs.IdWordsGoForward.{made_on, finds_label, words_forward, makes_new, advances_new}
 use Rattle.refused_attempts.proofs.RefusedLoops.{bare, charges_round}
 use Rattle.refused_attempts.proofs.RefusedPrograms.{block_goes, retry_goes}
-use Rattle.attempted_calls.specs.Below.script_facts.proofs.Lists.{all_map}
+use Rattle.attempted_calls.specs.Below.script_facts.proofs.FilteredLists.{all_map}
 use Rattle.attempted_calls.specs.own_decisions.proofs.OwnDecisionsTicks.{pair_self}
-use Rattle.seat_programs.specs.Rounds.{first_step}
+use Rattle.seat_programs.specs.LoopRounds.{first_step}
 use Rattle.sock_words.specs.Totals.{total}
 
 -- ## Lists

@@ -12,43 +12,43 @@ use Rattle.sock_words.specs.declared.plain.Plan.{Plan}
 use Rattle.sock_io.specs.declared.link.Put.{Put}
 use Rattle.sock_model.specs.declared.view.View.{View}
 use Rattle.sock_model.specs.declared.home.Home.{Home}
-use Rattle.sock_model.specs.Messages.{HeadedBytes}
-use Rattle.sock_model.specs.Reads.{message, link_home}
+use Rattle.sock_model.specs.UnplacedMessages.{HeadedBytes}
+use Rattle.sock_model.specs.ChainLawReads.{message, link_home}
 use Rattle.seat_programs.specs.brpc_model.specs.Items.{Item}
 use Rattle.seat_programs.specs.brpc_model.specs.Operations.{Turn}
 use Rattle.corr_core.specs.declared.marks.Plan.{Plan as IdPlan}
-use Rattle.corr_core.proofs.Notes.{at_length}
+use Rattle.corr_core.proofs.NoteSums.{at_length}
 use Rattle.sock_message.specs.Asked.{Asked}
 use Rattle.seat_programs.specs.Asides.{Step, Found}
-use Rattle.seat_programs.specs.Beside.{found_in}
-use Rattle.seat_programs.specs.Clients.{ending_of}
-use Rattle.seat_programs.specs.Heads.{Posts, Unlocks, Decides, Locks, Joins, Opens, Reads, Discards}
+use Rattle.seat_programs.specs.FoundAndChangedAside.{found_in}
+use Rattle.seat_programs.specs.ClientProgram.{ending_of}
+use Rattle.seat_programs.specs.LoopHeads.{Posts, Unlocks, Decides, Locks, Joins, Opens, Reads, Discards}
 use Rattle.seat_programs.specs.Programs.{Program, Do, Rest, TakeMessage, TakeHome, PutHome, PutBytes, AskReady, Write, Aside, Round}
-use Rattle.seat_programs.specs.Rounds.{round}
-use Rattle.seat_programs.specs.Runs.{IsAtRest}
-use Rattle.seat_programs.specs.Sends.{block}
+use Rattle.seat_programs.specs.LoopRounds.{round}
+use Rattle.seat_programs.specs.ScheduledRuns.{IsAtRest}
+use Rattle.seat_programs.specs.SendAndWritePrograms.{block}
 use Rattle.seat_programs.specs.Cores.{Core, SeatState, waiting_at}
 use Rattle.seat_programs.specs.Ticks.{Answer, OfPut, OfReady, Moment, IsAlwaysReady, waits, waits_at, quiet, ticked, run, taken, with_message, with_link, with_put, with_ready, with_found, step_with, tick_with}
 use Rattle.seat_programs.specs.Tasks.{opens, calls, plan_of, id_plan_of}
-use Rattle.seat_programs.specs.Scripts.{sizes_of, programs, readers_from, all_programs, all_tasks, opened, set_up, played, is_ending, IsRunWithCalls}
-use Rattle.attempted_calls.specs.Below.programs_allowed.specs.program_steps.specs.Sound.{views_along}
-use Rattle.attempted_calls.specs.Below.programs_allowed.specs.program_steps.proofs.Cases.{elem_there}
-use Rattle.attempted_calls.specs.Below.programs_allowed.specs.sock_runs.proofs.Along.{seat_rests}
-use Rattle.attempted_calls.specs.Below.programs_allowed.specs.program_walks.proofs.Whole.{closing_of, views_played, views_closed, views_ended, set_up_answered, end_answered, rested_ahead, rested_idle, set_up_sound, played_sound, closing_sound, closed_sound, closed_ahead}
-use Rattle.attempted_calls.specs.Below.outcome_stories.specs.Stories.{In}
+use Rattle.seat_programs.specs.ScriptSetupToEnding.{sizes_of, programs, readers_from, all_programs, all_tasks, opened, set_up, played, is_ending, IsRunWithCalls}
+use Rattle.attempted_calls.specs.Below.programs_allowed.specs.program_steps.specs.SoundSeats.{views_along}
+use Rattle.attempted_calls.specs.Below.programs_allowed.specs.program_steps.proofs.TickCases.{elem_there}
+use Rattle.attempted_calls.specs.Below.programs_allowed.specs.sock_runs.proofs.SoundAlongRuns.{seat_rests}
+use Rattle.attempted_calls.specs.Below.programs_allowed.specs.program_walks.proofs.WholeScriptSound.{closing_of, views_played, views_closed, views_ended, set_up_answered, end_answered, rested_ahead, rested_idle, set_up_sound, played_sound, closing_sound, closed_sound, closed_ahead}
+use Rattle.attempted_calls.specs.Below.outcome_stories.specs.OperationStories.{In}
 use Rattle.attempted_calls.specs.Below.outcome_causes.proofs.Final.{at_there}
-use Rattle.attempted_calls.specs.Below.outcome_causes.proofs.Plain.{in_both}
-use Rattle.attempted_calls.specs.Below.joint_runs.proofs.Runs.{AreMade, first_views}
-use Rattle.attempted_calls.specs.Below.call_owing.specs.Lives.{ClosesInRun}
+use Rattle.attempted_calls.specs.Below.outcome_causes.proofs.PlainOutcomeCauses.{in_both}
+use Rattle.attempted_calls.specs.Below.joint_runs.proofs.RunsOfBothTables.{AreMade, first_views}
+use Rattle.attempted_calls.specs.Below.call_owing.specs.LivesOfLinks.{ClosesInRun}
 use Rattle.attempted_calls.specs.Below.call_stories.specs.Decided.{posted_by}
-use Rattle.attempted_calls.specs.Below.call_stories.specs.Posts.{Post, posted_at}
-use Rattle.attempted_calls.specs.accept_counts.specs.Counts.{times_of, TrialFits}
-use Rattle.attempted_calls.specs.accept_counts.specs.Refused.{Deed, Charge, NoCharge, IsRefused, HasDropped, Doing, idle, trial_in, Charges, DidAt, DidIn, DidEarly, DidLate, IsSpent, ChargeFits, ChargeLaw, PostKind, RunWouldOwn}
-use Rattle.attempted_calls.specs.accept_counts.proofs.Early.{start, go, fitting}
-use Rattle.attempted_calls.specs.accept_counts.proofs.Rests.{still}
-use Rattle.attempted_calls.specs.accept_counts.proofs.Runs.{AreLabelledIn, IsCallOf, asked_by, behind_ids}
-use Rattle.attempted_calls.specs.accept_counts.proofs.Runs as labels
-use Rattle.attempted_calls.specs.sent_once.proofs.Sends.{narrow, few_clients, opening_bare}
+use Rattle.attempted_calls.specs.Below.call_stories.specs.PostsOfRun.{Post, posted_at}
+use Rattle.attempted_calls.specs.accept_counts.specs.AttemptCounts.{times_of, TrialFits}
+use Rattle.attempted_calls.specs.accept_counts.specs.RefusedOrDropped.{Deed, Charge, NoCharge, IsRefused, HasDropped, Doing, idle, trial_in, Charges, DidAt, DidIn, DidEarly, DidLate, IsSpent, ChargeFits, ChargeLaw, PostKind, RunWouldOwn}
+use Rattle.attempted_calls.specs.accept_counts.proofs.EarlyClosedSockets.{start, go, fitting}
+use Rattle.attempted_calls.specs.accept_counts.proofs.RestsWithoutCalls.{still}
+use Rattle.attempted_calls.specs.accept_counts.proofs.RunsKeepAttemptLaw.{AreLabelledIn, IsCallOf, asked_by, behind_ids}
+use Rattle.attempted_calls.specs.accept_counts.proofs.RunsKeepAttemptLaw as labels
+use Rattle.attempted_calls.specs.sent_once.proofs.SocketOperationsTold.{narrow, few_clients, opening_bare}
 use Rattle.refused_attempts.proofs.RefusedClosing.{OnSockets, ending_goes as on_sockets, alone, set_first, none_closing}
 use Rattle.refused_attempts.proofs.RefusedLoops.{bare}
 use Rattle.attempted_calls.specs.accept_counts.proofs.PostSeats.{of_all}
@@ -275,7 +275,7 @@ module _ (script : List Item) (made : AreMade script) (turns : List Turn) (core 
       }
     where
       many : 0 < length (played script is.setup (is.scheduled ++ is.later)).seats
-      many = let m = Rattle.attempted_calls.specs.accept_counts.proofs.Rests.many script made turns core is in omega (arith, m)
+      many = let m = Rattle.attempted_calls.specs.accept_counts.proofs.RestsWithoutCalls.many script made turns core is in omega (arith, m)
 
   closing_runs : Runs DidPlay (closing_of script turns core is) rested_views begun.doings (replicate is.last (quiet 0))
   closing_runs = run_charges (plan_of script) (id_plan_of script) few_slots (IsCallOf script) ids (go script made turns core is) (replicate is.last (quiet 0)) DidPlay (closing_of script turns core is) rested_views
@@ -377,7 +377,7 @@ module _ (script : List Item) (made : AreMade script) (turns : List Turn) (core 
       (let seat = at_there rested.seats 0 many in (_, set_first rested.seats seat.0 _ seat.1, subst OnSockets (sym (alone (waiting_at rested.calls.waiting 0) (ending_of (opens script)) (on_sockets (opens script)))) (on_sockets (opens script)))) x at
     where
       many : 0 < length (played script is.setup (is.scheduled ++ is.later)).seats
-      many = let m = Rattle.attempted_calls.specs.accept_counts.proofs.Rests.many script made turns core is in omega (arith, m)
+      many = let m = Rattle.attempted_calls.specs.accept_counts.proofs.RestsWithoutCalls.many script made turns core is in omega (arith, m)
 
   pub kinds_of_seat : (j : ℕ) (x : Post) → In x (shown_in_run script turns core is (posted_by j)) → KindOfPost (DidEarly script turns core is) j x ⊎ KindOfPost (DidLate script turns core is) j x
   unfolding last_doings

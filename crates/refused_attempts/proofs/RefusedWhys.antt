@@ -4,23 +4,23 @@ use Rattle.std.specs.List.{AllByRecursion}
 use Rattle.sock_model.specs.declared.view.View.{View}
 use Rattle.seat_programs.specs.brpc_model.specs.Items.{Item}
 use Rattle.seat_programs.specs.brpc_model.specs.Operations.{Turn}
-use Rattle.seat_programs.specs.Calls.{AddRef, LookWord, ClaimRequest}
+use Rattle.seat_programs.specs.TableSteps.{AddRef, LookWord, ClaimRequest}
 use Rattle.seat_programs.specs.Cores.{Core}
 use Rattle.seat_programs.specs.Tasks.{plan_of}
 use Rattle.seat_programs.specs.Ticks.{quiet, run}
-use Rattle.seat_programs.specs.Scripts.{all_tasks, opened, set_up, is_ending, IsRunWithCalls}
-use Rattle.seat_programs.specs.ToldCalls.{WasFull}
-use Rattle.attempted_calls.specs.Below.programs_allowed.specs.program_steps.specs.Sound.{Sound}
-use Rattle.attempted_calls.specs.Below.programs_allowed.specs.program_walks.proofs.Whole.{closing_of, set_up_answered, end_answered, set_up_sound, closing_sound, closed_sound, ended_sound, end_rests}
-use Rattle.attempted_calls.specs.Below.outcome_stories.specs.Stories.{In}
+use Rattle.seat_programs.specs.ScriptSetupToEnding.{all_tasks, opened, set_up, is_ending, IsRunWithCalls}
+use Rattle.seat_programs.specs.ExplainedCalls.{WasFull}
+use Rattle.attempted_calls.specs.Below.programs_allowed.specs.program_steps.specs.SoundSeats.{Sound}
+use Rattle.attempted_calls.specs.Below.programs_allowed.specs.program_walks.proofs.WholeScriptSound.{closing_of, set_up_answered, end_answered, set_up_sound, closing_sound, closed_sound, ended_sound, end_rests}
+use Rattle.attempted_calls.specs.Below.outcome_stories.specs.OperationStories.{In}
 use Rattle.attempted_calls.specs.Below.outcome_stories.proofs.Delivered.{requests_used}
-use Rattle.attempted_calls.specs.Below.joint_runs.proofs.Runs.{AreMade, first_views}
-use Rattle.attempted_calls.specs.Below.call_owing.specs.Lives.{ClosesInRun}
-use Rattle.attempted_calls.specs.accept_counts.specs.Refused.{Deed, DidStep, DidEarly, DidLate, FoundTaken}
-use Rattle.attempted_calls.specs.sent_once.proofs.Beside.{fixed_of_run, gave_of_run, orders_here}
-use Rattle.attempted_calls.specs.accept_counts.proofs.Early.{start, go, fitting}
-use Rattle.attempted_calls.specs.sent_once.proofs.Sends.{owed}
-use Rattle.attempted_calls.specs.sent_once.proofs.Whole.{quiet_there}
+use Rattle.attempted_calls.specs.Below.joint_runs.proofs.RunsOfBothTables.{AreMade, first_views}
+use Rattle.attempted_calls.specs.Below.call_owing.specs.LivesOfLinks.{ClosesInRun}
+use Rattle.attempted_calls.specs.accept_counts.specs.RefusedOrDropped.{Deed, DidStep, DidEarly, DidLate, FoundTaken}
+use Rattle.attempted_calls.specs.sent_once.proofs.OtherTasksBesideCalls.{fixed_of_run, gave_of_run, orders_here}
+use Rattle.attempted_calls.specs.accept_counts.proofs.EarlyClosedSockets.{start, go, fitting}
+use Rattle.attempted_calls.specs.sent_once.proofs.SocketOperationsTold.{owed}
+use Rattle.attempted_calls.specs.sent_once.proofs.WholeLinkOrders.{quiet_there}
 use Rattle.refused_attempts.proofs.RefusedMeans.{IsSo, run_keeps, run_so}
 use Rattle.refused_attempts.proofs.RefusedWhole.{end_views}
 use Rattle.attempted_calls.specs.accept_counts.proofs.Grounds.{stages}

@@ -3,40 +3,40 @@ use Rattle.std.proofs.Common.{◌≡◌, ℕ, ◌*◌, ◌<◌, ◌⊎◌, inl, 
 use Rattle.std.proofs.lemmas.List.{take-map, drop-map, length-map}
 use Rattle.std.proofs.lemmas.List.Sums.{sum_by-cons}
 use Rattle.std.specs.List.{AllByRecursion}
-use Rattle.sock_words.specs.Words.{place_word}
+use Rattle.sock_words.specs.PackedWords.{place_word}
 use Rattle.sock_words.specs.declared.outcome.Outcome.{Outcome}
 use Rattle.brpc_model.specs.Items.{Item}
 use Rattle.brpc_model.specs.Operations.{operations, link_names}
 use Rattle.brpc_model.specs.Order.{EachBefore, IsCut}
-use Rattle.brpc_model.specs.Places.{names}
-use Rattle.brpc_model.proofs.Leads.{FindingLeads, send_leads, hold_leads, fail_leads}
+use Rattle.brpc_model.specs.LinePlaceFaults.{names}
+use Rattle.brpc_model.proofs.CauseLeads.{FindingLeads, send_leads, hold_leads, fail_leads}
 use Rattle.brpc_model.specs.Script.{script_of}
-use Rattle.brpc_model.specs.Link.{LinkEnd}
+use Rattle.brpc_model.specs.ReturnedLink.{LinkEnd}
 use Rattle.brpc_model.specs.Report.{Report, report_text}
 use Rattle.brpc_model.specs.Run.{nothing_late}
 use Rattle.brpc_model.specs.PlaceWords.{ArePlaces, HasEachOutcome, AreTold}
 use Rattle.brpc_model.specs.Complete.{FitsWhole}
-use Rattle.seat_programs.specs.sock_model.specs.Layout.{place_index}
+use Rattle.seat_programs.specs.sock_model.specs.SocketTableLayout.{place_index}
 use Rattle.seat_programs.specs.sock_message.specs.Asked.{Asked}
 use Rattle.seat_programs.specs.declared.task.Op.{Op}
 use Rattle.seat_programs.specs.declared.task.Op.TheVariants as ops
 use Rattle.seat_programs.specs.declared.task.Task.{Task}
 use Rattle.seat_programs.specs.Cores.{Core}
-use Rattle.seat_programs.specs.Runs.{from_to}
+use Rattle.seat_programs.specs.ScheduledRuns.{from_to}
 use Rattle.seat_programs.specs.Tasks.{numbered, plan_of}
-use Rattle.seat_programs.specs.Scripts.{all_tasks, is_callless, is_later, place_words, Reports}
-use Rattle.seat_programs.specs.Told.{Explained, IsTask, IsSent, OnSockets}
-use Rattle.seat_programs.specs.Told as sends
-use Rattle.seat_programs.specs.ToldCalls.{Accepted, Order, Fixed, ExplainedCalls, AreOrders, IsTaken, StandsAt, OfSend, StandsOn, all_accepted, label, bytes_of}
-use Rattle.seat_programs.specs.ToldCalls as told
-use Rattle.report_fits.specs.Calm.{IsCalm}
-use Rattle.report_fits.specs.Ends.{AreEnds, AreEndsOf}
-use Rattle.script_facts.proofs.Lists.{has_from, has_none, all_from, all_at, before_from, before_at}
+use Rattle.seat_programs.specs.ScriptSetupToEnding.{all_tasks, is_callless, is_later, place_words, Reports}
+use Rattle.seat_programs.specs.Explained.{Explained, IsTask, IsSent, OnSockets}
+use Rattle.seat_programs.specs.Explained as sends
+use Rattle.seat_programs.specs.ExplainedCalls.{Accepted, Order, Fixed, ExplainedCalls, AreOrders, IsTaken, StandsAt, OfSend, StandsOn, all_accepted, label, bytes_of}
+use Rattle.seat_programs.specs.ExplainedCalls as told
+use Rattle.report_fits.specs.OwedInCalmRuns.{IsCalm}
+use Rattle.report_fits.specs.ScriptLinkEnds.{AreEnds, AreEndsOf}
+use Rattle.script_facts.proofs.FilteredLists.{has_from, has_none, all_from, all_at, before_from, before_at}
 use Rattle.script_facts.proofs.Flat.{map_at, at_map, map_map}
-use Rattle.script_facts.proofs.Numbering.{are_from}
+use Rattle.script_facts.proofs.OperationNumbering.{are_from}
 use Rattle.script_facts.proofs.TaskLemmas.{IsTaskOf, numbers_at, task_is, call_asks, expire_asks}
-use Rattle.report_fits.proofs.Callless.{not_later}
-use Rattle.report_fits.proofs.Places.{script_fits, script_places}
+use Rattle.report_fits.proofs.CalllessScript.{not_later}
+use Rattle.report_fits.proofs.PrintableCallRun.{script_fits, script_places}
 
 nothing_there : {A : Type 0} (x : A) → Contains [] x → ⊥
 nothing_there x h = has_none x (has_from [] x h)

@@ -1,7 +1,7 @@
 -- The place word of a message that stands at a place of a link.
 use Rattle.std.proofs.Common.{◌≡◌, ℕ, suc, ◌+◌, ◌*◌, ◌/◌, ◌^◌, ◌<◌, Bool, true, false, arith}
 use Rattle.std.proofs.lemmas.Bool.Decides.{nat_tests}
-use Rattle.sock_words.specs.Words.{IsPlaceWord, place_word}
+use Rattle.sock_words.specs.PackedWords.{IsPlaceWord, place_word}
 
 -- it tells this place
 pub is_place : (dropped : Bool) (k i : ℕ) → k < 65536 → i < 4294967295 → IsPlaceWord (place_word dropped k i) dropped k i

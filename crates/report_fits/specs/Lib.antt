@@ -1,3 +1,3 @@
-pub mod Ends
-pub mod Calm
+pub mod ScriptLinkEnds
+pub mod OwedInCalmRuns
 pub use Rattle.script_facts

@@ -5,7 +5,7 @@ use Rattle.sock_io.specs.declared.ending.Ending.{Ending}
 use Rattle.sock_io.specs.declared.ending.Ending.TheVariants as ending
 use Rattle.ring_link.specs.declared.cell.Cell.{Cell}
 use Rattle.ring_link.specs.declared.cell.Cell.TheVariants as cell
-use Rattle.ring_link.specs.Halves.{IsTakenOf, Ring}
+use Rattle.ring_link.specs.RingHalves.{IsTakenOf, Ring}
 use Rattle.ring_link.specs.Cells.{bytes_of, ending_of, mark_cells, cells_of}
 
 pub bytes-map : (bs : List ℕ) (cells : List Cell) → bytes_of (map cell.Byte bs ++ cells) ≡ bs ++ bytes_of cells

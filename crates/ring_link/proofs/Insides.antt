@@ -1,10 +1,10 @@
 -- What a link in memory offers belongs to what it took and gave, behind a put.
 use Rattle.std.proofs.Common.{◌≡◌, ℕ, List, ◌++◌, Some, sym, subst}
 use Rattle.sock_io.specs.declared.link.Put.{Put}
-use Rattle.sock_io.specs.Link.{IsServed, PutStep, taken_of}
-use Rattle.sock_io.specs.Shape.{ShapedState, shaped_out}
-use Rattle.sock_io.proofs.Offers.{served_put}
-use Rattle.loop_link.specs.Serving.{LoopInState, offer_of}
+use Rattle.sock_io.specs.LinkHalves.{IsServed, PutStep, taken_of}
+use Rattle.sock_io.specs.ShapeOfPuts.{ShapedState, shaped_out}
+use Rattle.sock_io.proofs.HalvesKeepOffers.{served_put}
+use Rattle.loop_link.specs.ServingFedBytes.{LoopInState, offer_of}
 
 some_same : {A : Type 0} (a b : A) → Some a ≡ Some b → a ≡ b
 some_same a b e = cc

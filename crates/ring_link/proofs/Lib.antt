@@ -1,5 +1,5 @@
 pub mod CellLists
-pub mod Finding
+pub mod RingEndFindings
 mod Insides
 pub mod Peers
 mod Repeating

@@ -5,11 +5,11 @@ use Rattle.sock_io.specs.declared.ending.Ending.{Ending}
 use Rattle.sock_io.specs.declared.ending.Ending.TheVariants as ending
 use Rattle.sock_io.specs.declared.link.Take.{Take}
 use Rattle.sock_io.specs.declared.link.Take.TheVariants as take_
-use Rattle.sock_io.specs.Link.{IsTakeCount, given_of}
+use Rattle.sock_io.specs.LinkHalves.{IsTakeCount, given_of}
 use Rattle.sock_io.specs.declared.link.Served.{Served}
 use Rattle.sock_io.specs.declared.link.Served.TheVariants as served
 use Rattle.sock_io.specs.Peer.{PeerState, Moved, HasMoved, Grew, ServeStep, has_ended, is_done}
-use Rattle.ring_link.specs.Halves.{ReaderState, WriterState, RingPeerState, SameRings, mark_at, ring_peer, way_of}
+use Rattle.ring_link.specs.RingHalves.{ReaderState, WriterState, RingPeerState, SameRings, mark_at, ring_peer, way_of}
 
 abbrev pub Told : Served → PeerState → Type 0
 Told result new = ((result ≡ served.Done) × (is_done new ≡ true)) ⊎ ((result ≡ served.Moved) × (is_done new ≡ false))

@@ -3,8 +3,8 @@ use Rattle.std.proofs.Common.{◌≡◌, ◌≢◌, ℕ, Bool, true, false, List
 use Rattle.sock_io.specs.declared.ending.Ending.{Ending}
 use Rattle.sock_io.specs.declared.ending.Ending.TheVariants as ending
 use Rattle.sock_io.specs.Peer.{has_ended}
-use Rattle.ring_link.specs.Inside.{InnerState, IsServing, inner_gave}
-use Rattle.ring_link.specs.Halves.{ReaderState, WriterState, Repeats}
+use Rattle.ring_link.specs.InsideRingLink.{InnerState, IsServing, inner_gave}
+use Rattle.ring_link.specs.RingHalves.{ReaderState, WriterState, Repeats}
 
 open_ended : (e : Ending) → e ≡ ending.Open → e ≡ ending.Ended → ⊥
 open_ended e o n = cc

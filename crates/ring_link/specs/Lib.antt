@@ -1,4 +1,4 @@
 pub mod Cells
-pub mod Halves
-pub mod Inside
-pub mod Linker
+pub mod RingHalves
+pub mod InsideRingLink
+pub mod RingLinker

@@ -1,6 +1,6 @@
 ghost use Rattle.std.specs.Prelude.{◌≡◌, ◌≢◌, ◌<◌, ◌++◌, true, false, length, IfOk, IsTrue, OnOk};
-ghost use Rattle.sock_io.specs.Link.{IsTakeCount, OfferTaken, given_of};
-ghost use Rattle.ring_link.specs.Inside.{IsNewInner, IsServing, SameAsked, inner_gave, inner_offer};
+ghost use Rattle.sock_io.specs.LinkHalves.{IsTakeCount, OfferTaken, given_of};
+ghost use Rattle.ring_link.specs.InsideRingLink.{IsNewInner, IsServing, SameAsked, inner_gave, inner_offer};
 
 use loop_link::{LoopIn, LoopLinker};
 use sock_io::{
@@ -17,9 +17,9 @@ pub(crate) struct Inner {
 }
 
 impl Model for Inner {
-    ghost use Rattle.sock_io.specs.Link.{IsServed};
-    ghost use Rattle.loop_link.specs.Serving.{offer_of};
-    ghost use Rattle.ring_link.specs.Inside.{InnerState};
+    ghost use Rattle.sock_io.specs.LinkHalves.{IsServed};
+    ghost use Rattle.loop_link.specs.ServingFedBytes.{offer_of};
+    ghost use Rattle.ring_link.specs.InsideRingLink.{InnerState};
 
     ghost Value = { InnerState };
 

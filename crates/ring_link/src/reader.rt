@@ -1,9 +1,9 @@
 ghost use Rattle.std.specs.Prelude.{◌≡◌, ◌≢◌, ◌<◌, ◌≤◌, ◌++◌, ◌⊎◌, [], false, length, take, true, IfNone, IfSome};
-ghost use Rattle.sock_io.specs.Link.{IsTakeCount};
+ghost use Rattle.sock_io.specs.LinkHalves.{IsTakeCount};
 ghost use Rattle.sock_io.specs.Peer.{has_ended};
 ghost use Rattle.ring_link.specs.Cells.{IsOpen};
-ghost use Rattle.ring_link.specs.Halves.{IsTakenOf, TakesCells};
-ghost use Rattle.ring_link.specs.Inside.{answer_behind};
+ghost use Rattle.ring_link.specs.RingHalves.{IsTakenOf, TakesCells};
+ghost use Rattle.ring_link.specs.InsideRingLink.{answer_behind};
 
 use crate::cell::{Cell, MarkLast};
 use crate::packing::{CHUNK, unpack};
@@ -24,7 +24,7 @@ impl Model for RingReader {
     ghost use Rattle.std.specs.Prelude.{◌≡◌};
     ghost use Rattle.rtrb.specs.Ring.{received, known_items};
     ghost use Rattle.ring_link.specs.Cells.{bytes_of, ending_of};
-    ghost use Rattle.ring_link.specs.Halves.{ReaderState, ring_of};
+    ghost use Rattle.ring_link.specs.RingHalves.{ReaderState, ring_of};
 
     ghost Value = { ReaderState };
 
@@ -36,7 +36,7 @@ impl Model for RingReader {
 impl RingReader {
     ghost use Rattle.std.specs.Prelude.{◌≡◌, []};
     ghost use Rattle.rtrb.specs.Ring.{received, known_items};
-    ghost use Rattle.ring_link.specs.Halves.{ring_of};
+    ghost use Rattle.ring_link.specs.RingHalves.{ring_of};
 
     /// The end of a ring from which nothing was taken.
     pub(crate) fn new(cells: Consumer<Cell, Global, MarkLast>) -> RingReader

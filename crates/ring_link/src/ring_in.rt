@@ -1,7 +1,7 @@
 ghost use Rattle.std.specs.Prelude.{◌≡◌, ◌++◌, ◌∷◌, ◌<◌, [], false, length};
-ghost use Rattle.sock_io.specs.Link.{TakeStep, of_take};
-ghost use Rattle.ring_link.specs.Halves.{TakesCells, ring_in};
-ghost use Rattle.ring_link.specs.Inside.{met_after};
+ghost use Rattle.sock_io.specs.LinkHalves.{TakeStep, of_take};
+ghost use Rattle.ring_link.specs.RingHalves.{TakesCells, ring_in};
+ghost use Rattle.ring_link.specs.InsideRingLink.{met_after};
 
 use crate::inner::Inner;
 use crate::reader::RingReader;
@@ -26,10 +26,10 @@ pub struct RingIn {
 impl Model for RingIn {
     ghost use Rattle.std.specs.Prelude.{◌≡◌, map, true};
     ghost use Rattle.sock_io.specs.declared.ending.Ending.TheVariants.{Closed, Ended};
-    ghost use Rattle.sock_io.specs.Link.{of_take};
+    ghost use Rattle.sock_io.specs.LinkHalves.{of_take};
     ghost use Rattle.sock_io.specs.Peer.{has_ended};
-    ghost use Rattle.ring_link.specs.Inside.{is_met};
-    ghost use Rattle.ring_link.specs.Halves.{RingInState};
+    ghost use Rattle.ring_link.specs.InsideRingLink.{is_met};
+    ghost use Rattle.ring_link.specs.RingHalves.{RingInState};
 
     ghost Value = { RingInState };
 

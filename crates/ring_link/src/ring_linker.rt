@@ -1,9 +1,9 @@
 ghost use Rattle.std.specs.Prelude.{◌≡◌, ◌≢◌, ◌+◌, ◌<◌, ◌∷◌, ◌++◌, false, true, None, Ok, [], length, IfOk, IsErrOf, OnErr, OnOk};
-ghost use Rattle.sock_io.specs.Link.{IsFresh, IsSettled, IsUnused, MayOpen, end_of};
-ghost use Rattle.sock_io.specs.Meeting.{AreEnds, IsAskedPeer, MeetOut, MeetStep};
+ghost use Rattle.sock_io.specs.LinkHalves.{IsFresh, IsSettled, IsUnused, MayOpen, end_of};
+ghost use Rattle.sock_io.specs.MeetingOnOneThread.{AreEnds, IsAskedPeer, MeetOut, MeetStep};
 ghost use Rattle.sock_io.specs.Peer.{IsNewPeer, has_ended};
-ghost use Rattle.sock_io.specs.Shape.{shaped_out};
-ghost use Rattle.ring_link.specs.Halves.{ring_in, ring_peer};
+ghost use Rattle.sock_io.specs.ShapeOfPuts.{shaped_out};
+ghost use Rattle.ring_link.specs.RingHalves.{ring_in, ring_peer};
 
 use crate::open::{open_connection, open_ring};
 use crate::ring_in::RingIn;
@@ -31,7 +31,7 @@ pub struct RingLinker<R: AllocGlobal + Drop> {
 
 impl<R: AllocGlobal + Drop> Model for RingLinker<R> {
     ghost use Rattle.std.specs.Prelude.{◌≡◌, length};
-    ghost use Rattle.ring_link.specs.Linker.{RingLinkerState};
+    ghost use Rattle.ring_link.specs.RingLinker.{RingLinkerState};
 
     ghost Value = { RingLinkerState };
 

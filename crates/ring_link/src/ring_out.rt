@@ -1,7 +1,7 @@
 ghost use Rattle.std.specs.Prelude.{◌≡◌, ◌++◌, ◌-◌, ◌<◌, [], false, length};
-ghost use Rattle.sock_io.specs.Link.{FinishStep, PutStep, ReadyStep, taken_of};
+ghost use Rattle.sock_io.specs.LinkHalves.{FinishStep, PutStep, ReadyStep, taken_of};
 ghost use Rattle.ring_link.specs.Cells.{IsOpen};
-ghost use Rattle.ring_link.specs.Halves.{ring_out};
+ghost use Rattle.ring_link.specs.RingHalves.{ring_out};
 
 use crate::writer::RingWriter;
 use sock_io::{Out, Put, Ready};
@@ -20,7 +20,7 @@ pub struct RingOut {
 impl Model for RingOut {
     ghost use Rattle.std.specs.Prelude.{◌≡◌};
     ghost use Rattle.sock_io.specs.Peer.{has_ended};
-    ghost use Rattle.ring_link.specs.Halves.{RingOutState};
+    ghost use Rattle.ring_link.specs.RingHalves.{RingOutState};
 
     ghost Value = { RingOutState };
 

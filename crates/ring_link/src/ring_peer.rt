@@ -1,9 +1,9 @@
 ghost use Rattle.std.specs.Prelude.{◌≡◌, ◌≢◌, ◌<◌, ◌≤◌, ◌++◌, ◌⊎◌, true, false, length, None, Ok};
-ghost use Rattle.sock_io.specs.Link.{IsTakeCount, given_of};
+ghost use Rattle.sock_io.specs.LinkHalves.{IsTakeCount, given_of};
 ghost use Rattle.sock_io.specs.Peer.{ServeStep, has_ended, is_done};
 ghost use Rattle.ring_link.specs.Cells.{IsOpen};
-ghost use Rattle.sock_io.specs.Meeting.{MeetStep};
-ghost use Rattle.ring_link.specs.Halves.{IsTakenOf, Repeats, SameRings, mark_at, ring_in, ring_peer, told_out};
+ghost use Rattle.sock_io.specs.MeetingOnOneThread.{MeetStep};
+ghost use Rattle.ring_link.specs.RingHalves.{IsTakenOf, Repeats, SameRings, mark_at, ring_in, ring_peer, told_out};
 ghost use Rattle.ring_link.specs.declared.packing.TheConstants.{CHUNK};
 
 use crate::inner::Inner;
@@ -31,7 +31,7 @@ impl Model for RingPeer {
     ghost use Rattle.std.specs.Prelude.{◌≡◌, false, true};
     ghost use Rattle.sock_io.specs.Peer.{has_ended};
     ghost use Rattle.ring_link.specs.Cells.{IsClosed};
-    ghost use Rattle.ring_link.specs.Halves.{Repeats, RingPeerState};
+    ghost use Rattle.ring_link.specs.RingHalves.{Repeats, RingPeerState};
 
     ghost Value = { RingPeerState };
 

@@ -1,8 +1,8 @@
 ghost use Rattle.std.specs.Prelude.{◌≡◌, ℕ, ◌-◌, ◌<◌, ◌≤◌, ◌↔◌, ◌+◌, ◌∷◌, ◌++◌, [], length, map, take, IsTrue};
-ghost use Rattle.sock_io.specs.Link.{IsTakeCount, given_of};
+ghost use Rattle.sock_io.specs.LinkHalves.{IsTakeCount, given_of};
 ghost use Rattle.sock_io.specs.Peer.{has_ended};
 ghost use Rattle.ring_link.specs.Cells.{IsOpen, ending_of, mark_cells};
-ghost use Rattle.ring_link.specs.Halves.{mark_at};
+ghost use Rattle.ring_link.specs.RingHalves.{mark_at};
 ghost use Rattle.ring_link.specs.declared.cell.Cell.TheVariants.{Byte};
 ghost use Rattle.ring_link.specs.declared.packing.TheConstants.{CHUNK};
 
@@ -24,7 +24,7 @@ impl Model for RingWriter {
     ghost use Rattle.std.specs.Prelude.{◌≡◌, ◌-◌, ◌<◌};
     ghost use Rattle.rtrb.specs.Ring.{sent, known_free};
     ghost use Rattle.ring_link.specs.Cells.{IsOpen, bytes_of, ending_of, cells_of};
-    ghost use Rattle.ring_link.specs.Halves.{WriterState, ring_of};
+    ghost use Rattle.ring_link.specs.RingHalves.{WriterState, ring_of};
 
     ghost Value = { WriterState };
 
@@ -36,7 +36,7 @@ impl Model for RingWriter {
 impl RingWriter {
     ghost use Rattle.std.specs.Prelude.{◌≡◌, ◌<◌, []};
     ghost use Rattle.rtrb.specs.Ring.{sent, known_free};
-    ghost use Rattle.ring_link.specs.Halves.{ring_of};
+    ghost use Rattle.ring_link.specs.RingHalves.{ring_of};
 
     /// The end of a ring to which nothing was put.
     pub(crate) fn new(cells: Producer<Cell, Global, MarkLast>) -> RingWriter

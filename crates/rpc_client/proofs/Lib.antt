@@ -1,6 +1,6 @@
-pub mod Counting
-pub mod Finding
-pub mod Writing
-pub mod Delivering
-pub mod Going
-pub mod Coursing
+pub mod CountedReferences
+pub mod FindingReferences
+pub mod WritingUntilHeadEmpty
+pub mod SeatBehindDelivering
+pub mod NewSeatsOwnList
+pub mod ToldAndGivenBack

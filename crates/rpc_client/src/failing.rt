@@ -1,11 +1,11 @@
 // A socket is set failed.
 ghost use Rattle.std.specs.Prelude.{◌≡◌, ◌≢◌, ◌<◌};
-ghost use Rattle.sock_words.specs.Words.{socket_id_slot};
-ghost use Rattle.sock_model.specs.Weights.{is_ref};
+ghost use Rattle.sock_words.specs.PackedWords.{socket_id_slot};
+ghost use Rattle.sock_model.specs.MarkWeights.{is_ref};
 ghost use Rattle.sock_model.specs.SlotRows.{marks_of};
-ghost use Rattle.sock_table.specs.Answers.{Holds};
-ghost use Rattle.rpc_client.specs.Seats.{Idle, MayAct, AtRest, StaysSeen, SameRefs};
-ghost use Rattle.rpc_client.specs.Failing.{SetBy, FailedBy};
+ghost use Rattle.sock_table.specs.ReferenceAnswers.{Holds};
+ghost use Rattle.rpc_client.specs.SeatBetweenOperations.{Idle, MayAct, AtRest, StaysSeen, SameRefs};
+ghost use Rattle.rpc_client.specs.FailOutcomes.{SetBy, FailedBy};
 
 use crate::reaching::{Reached, find_socket};
 use sock_io::Out;

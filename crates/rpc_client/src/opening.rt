@@ -1,8 +1,8 @@
 // A socket is made and published.
 ghost use Rattle.std.specs.Prelude.{◌≡◌, ◌<◌};
-ghost use Rattle.sock_table.specs.Passes.{IsPass};
-ghost use Rattle.rpc_client.specs.Seats.{Idle, MayAct, AtRest, StaysSeen, SameRefs};
-ghost use Rattle.rpc_client.specs.Opening.{OpenedBy, GotNone};
+ghost use Rattle.sock_table.specs.LinkPasses.{IsPass};
+ghost use Rattle.rpc_client.specs.SeatBetweenOperations.{Idle, MayAct, AtRest, StaysSeen, SameRefs};
+ghost use Rattle.rpc_client.specs.OpenOutcomes.{OpenedBy, GotNone};
 
 use sock_io::Out;
 use sock_rule::SockSeat;

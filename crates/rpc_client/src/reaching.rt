@@ -1,7 +1,7 @@
 // From a name to a reference.
 ghost use Rattle.std.specs.Prelude.{◌≡◌, ◌<◌};
-ghost use Rattle.rpc_client.specs.Seats.{MayAct, AtRest, StaysSeen, SameRefs};
-ghost use Rattle.rpc_client.specs.Reaching.{ReachedBy, RefsBy};
+ghost use Rattle.rpc_client.specs.SeatBetweenOperations.{MayAct, AtRest, StaysSeen, SameRefs};
+ghost use Rattle.rpc_client.specs.ReachingByName.{ReachedBy, RefsBy};
 
 use sock_io::Out;
 use sock_rule::SockSeat;

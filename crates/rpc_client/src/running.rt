@@ -1,8 +1,8 @@
 // What a client does in the end.
 ghost use Rattle.std.specs.Prelude.{◌≡◌, [], length};
-ghost use Rattle.rpc_client.specs.Seats.{Idle, AtRest};
-ghost use Rattle.rpc_client.specs.Holding.{IsHolder};
-ghost use Rattle.rpc_client.specs.Running.{GaveFirst};
+ghost use Rattle.rpc_client.specs.SeatBetweenOperations.{Idle, AtRest};
+ghost use Rattle.rpc_client.specs.ReferencesHeldByClient.{IsHolder};
+ghost use Rattle.rpc_client.specs.ToldOfOperation.{GaveFirst};
 
 use crate::holding::{Held, give_back};
 use sock_io::Out;

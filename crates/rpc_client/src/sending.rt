@@ -1,6 +1,6 @@
 // A message that didn't go out.
-ghost use Rattle.rpc_client.specs.Seats.{Idle};
-ghost use Rattle.rpc_client.specs.Sending.{RefusedHolds, RefusedAs};
+ghost use Rattle.rpc_client.specs.SeatBetweenOperations.{Idle};
+ghost use Rattle.rpc_client.specs.SendingOutcomes.{RefusedHolds, RefusedAs};
 
 use sock_io::Out;
 use sock_rule::SockSeat;

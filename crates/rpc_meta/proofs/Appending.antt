@@ -3,7 +3,7 @@ use Rattle.std.proofs.Common.{◌≡◌, ℕ, ◌+◌, ◌*◌, ◌≤◌, List,
 use Rattle.std.proofs.lemmas.List.{take_at, take-take, length-append}
 use Rattle.pb_wire.specs.brpc_model.specs.Wire.{varint_bytes}
 use Rattle.pb_wire.specs.brpc_model.specs.Spelling.{bytes_field}
-use Rattle.rpc_meta.specs.Writing.{Appends}
+use Rattle.rpc_meta.specs.MetaWriting.{Appends}
 
 -- what stood in front of a piece stays, where all of it stays
 pub kept : (first old new piece : List ℕ) → old ≡ first ++ piece → take (length old) new ≡ old → take (length first) new ≡ first

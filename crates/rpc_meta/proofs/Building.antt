@@ -4,7 +4,7 @@ use Rattle.std.specs.Option.{is_some}
 use Rattle.pb_wire.specs.brpc_model.specs.Meta as meta
 use Rattle.rpc_meta.specs.declared.fault.MetaFault.{MetaFault}
 use Rattle.rpc_meta.specs.declared.fault.MetaFault.TheVariants.{Wire, NoService, NoMethod, Neither, NoMemory}
-use Rattle.rpc_meta.specs.Meaning.{meaning}
+use Rattle.rpc_meta.specs.MetaMeaning.{meaning}
 use Rattle.rpc_meta.specs.Gathered.{Names, Outcome, Gathered}
 use Rattle.rpc_meta.specs.Answer.{meta_fault, answer_as, request_from, response_from, meta_with, meta_from}
 

@@ -1,10 +1,10 @@
-pub mod Gathering
+pub mod MetaFieldGathering
 pub mod Merging
 pub mod Building
 pub mod Appending
-pub mod Pieces
+pub mod MessageReadInPieces
 pub mod RoundTrip
-pub mod Counting
-pub mod Varints
-pub mod Few
+pub mod SummedPieceLengths
+pub mod VarintPutByBytes
+pub mod MetaOfFewBytes
 mod NextFields

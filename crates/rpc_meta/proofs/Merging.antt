@@ -8,7 +8,7 @@ use Rattle.pb_wire.specs.brpc_model.specs.Wire.{WireFault, Wire, ◌>>=◌, Valu
 use Rattle.pb_wire.specs.brpc_model.specs.Meta as meta
 use Rattle.pb_wire.specs.brpc_model.specs.Meta.{MetaFault, Part, Request, Response, Plain, parts, requests_in, responses_in, plain_in, varint_of, span_of, last_of, int32, int32_of, merged, request_of, response_of, meta_of, meta_of_parts, read_meta}
 use Rattle.rpc_meta.specs.Gathered.{Names, Outcome, Gathered, found, latest, no_names, no_outcome, nothing, name_added, outcome_added, part_added}
-use Rattle.rpc_meta.specs.Steps.{gathered_after}
+use Rattle.rpc_meta.specs.MetaGatheringSteps.{gathered_after}
 use Rattle.rpc_meta.specs.Answer.{request_from, response_from, meta_with, meta_from}
 
 -- ## The last one of a list and of what follows it

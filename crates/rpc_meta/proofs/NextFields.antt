@@ -6,14 +6,14 @@ use Rattle.std.proofs.Math.Seq.{take-append-add, drop-length}
 use Rattle.pb_wire.specs.brpc_model.specs.Wire.{Wire, ◌>>=◌, Varint, Span, Field, fields, fields_with}
 use Rattle.pb_wire.specs.brpc_model.specs.Meta.{Part, Request, Plain}
 use Rattle.pb_wire.specs.Form.{IsVarint, IsField}
-use Rattle.pb_wire.proofs.Messages.{form_read_message}
+use Rattle.pb_wire.proofs.MessageFields.{form_read_message}
 use Rattle.pb_wire.proofs.Shortest.{shortest_form}
 use Rattle.rpc_meta.specs.Gathered.{Gathered, Names, nothing, part_added}
-use Rattle.rpc_meta.specs.Steps.{gathered_after}
+use Rattle.rpc_meta.specs.MetaGatheringSteps.{gathered_after}
 use Rattle.rpc_meta.specs.Straight.{SpanNext, NumberNext, NumberOrNone}
-use Rattle.rpc_meta.proofs.Gathering.{folded_front, part}
-use Rattle.rpc_meta.proofs.Pieces.{says_one}
-use Rattle.rpc_meta.proofs.Varints.{put_last}
+use Rattle.rpc_meta.proofs.MetaFieldGathering.{folded_front, part}
+use Rattle.rpc_meta.proofs.MessageReadInPieces.{says_one}
+use Rattle.rpc_meta.proofs.VarintPutByBytes.{put_last}
 
 -- ## What a field is
 

@@ -11,13 +11,13 @@ use Rattle.pb_wire.specs.brpc_model.specs.Meta.{RequestMeta, ResponseMeta, Meta,
 use Rattle.pb_wire.specs.brpc_model.specs.Spelling.{number_field, bytes_field, spelled_int, where_some, where_not_0, where_not_empty, request_bytes, response_bytes, meta_bytes}
 use Rattle.pb_wire.specs.Form.{IsField}
 use Rattle.rpc_meta.specs.Gathered.{Names, Outcome, Gathered, no_names, no_outcome, nothing, name_added, outcome_added, part_added}
-use Rattle.rpc_meta.specs.Steps.{gathered_after}
+use Rattle.rpc_meta.specs.MetaGatheringSteps.{gathered_after}
 use Rattle.rpc_meta.specs.Answer.{request_from, response_from}
-use Rattle.rpc_meta.specs.Writing.{HasPart, RequestFits, ResponseFits, MetaFits}
-use Rattle.rpc_meta.proofs.Gathering.{part}
+use Rattle.rpc_meta.specs.MetaWriting.{HasPart, RequestFits, ResponseFits, MetaFits}
+use Rattle.rpc_meta.proofs.MetaFieldGathering.{part}
 use Rattle.rpc_meta.proofs.Merging.{meta_is_read}
 use Rattle.rpc_meta.proofs.Building.{built}
-use Rattle.rpc_meta.proofs.Pieces.{number_is, bytes_is, inner_place, Says, says_none, says_one, says_both, says_all}
+use Rattle.rpc_meta.proofs.MessageReadInPieces.{number_is, bytes_is, inner_place, Says, says_none, says_one, says_both, says_all}
 
 -- ## An int32
 

@@ -1,10 +1,10 @@
 -- What reading a meta answers, as the definition of a meta says it; want of memory says nothing.
 use Rattle.std.specs.Prelude.{ℕ, ℤ, Option, Some, None, option_map, Result, Ok, Err}
 use Rattle.pb_wire.specs.brpc_model.specs.Meta as meta
-use Rattle.pb_wire.specs.Told.{fault_of}
+use Rattle.pb_wire.specs.WireCallAnswers.{fault_of}
 use Rattle.rpc_meta.specs.declared.fault.MetaFault.{MetaFault}
 use Rattle.rpc_meta.specs.declared.fault.MetaFault.TheVariants.{Wire, NoService, NoMethod, Neither, NoMemory}
-use Rattle.rpc_meta.specs.Meaning.{made_meta}
+use Rattle.rpc_meta.specs.MetaMeaning.{made_meta}
 use Rattle.rpc_meta.specs.Gathered.{Names, Outcome, Gathered}
 
 -- a fault, or nothing for want of memory

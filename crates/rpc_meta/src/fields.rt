@@ -1,7 +1,7 @@
 ghost use Rattle.std.specs.Prelude.{◌≡◌, ℕ, ◌+◌, ◌≤◌, List, ◌++◌, length, Some, IfSome, OnOk};
 ghost use Rattle.pb_wire.specs.brpc_model.specs.Spelling.{request_bytes, response_bytes};
-ghost use Rattle.rpc_meta.specs.Meaning.{request_of, response_of};
-ghost use Rattle.rpc_meta.specs.Writing.{Appends, RequestFits, ResponseFits};
+ghost use Rattle.rpc_meta.specs.MetaMeaning.{request_of, response_of};
+ghost use Rattle.rpc_meta.specs.MetaWriting.{Appends, RequestFits, ResponseFits};
 
 use crate::front::{FRONT_BYTES, Front};
 use crate::meta::{RequestMeta, ResponseMeta};

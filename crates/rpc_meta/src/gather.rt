@@ -1,8 +1,8 @@
 ghost use Rattle.std.specs.Prelude.{◌≡◌, ℕ, ◌≤◌, length, slice_range, option_map};
-ghost use Rattle.pb_wire.specs.Told.{field_in, IsBefore};
+ghost use Rattle.pb_wire.specs.WireCallAnswers.{field_in, IsBefore};
 ghost use Rattle.rpc_meta.specs.Gathered.{nothing};
-ghost use Rattle.rpc_meta.specs.Parts.{gathered_of};
-ghost use Rattle.rpc_meta.specs.Steps.{read_as, message_after, part_after, gathered_after};
+ghost use Rattle.rpc_meta.specs.MetaParts.{gathered_of};
+ghost use Rattle.rpc_meta.specs.MetaGatheringSteps.{read_as, message_after, part_after, gathered_after};
 
 use crate::parts::{Gathering, MetaParts};
 use crate::straight::gather_straight;

@@ -21,7 +21,7 @@ impl Model for MetaBytes {
 
     ghost Value = { List ℕ };
 
-    ghost use Rattle.rpc_meta.specs.Held.{held_bytes, IsHeld};
+    ghost use Rattle.rpc_meta.specs.HeldMetaBytes.{held_bytes, IsHeld};
 
     ghost view = { held_bytes };
 

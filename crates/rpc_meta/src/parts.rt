@@ -1,5 +1,5 @@
 ghost use Rattle.std.specs.Prelude.{◌≡◌, ℕ, ◌≤◌, length};
-ghost use Rattle.pb_wire.specs.Told.{field_in, IsBefore};
+ghost use Rattle.pb_wire.specs.WireCallAnswers.{field_in, IsBefore};
 ghost use Rattle.pb_wire.specs.brpc_model.specs.Wire.{Field as WireField};
 
 use pb_wire::{Field, Value};
@@ -62,7 +62,7 @@ pub trait Gathering<'a>: Copy {
 
 impl<'a> Gathering<'a> for RequestParts<'a> {
     ghost use Rattle.rpc_meta.specs.Gathered.{Names, no_names, name_added};
-    ghost use Rattle.rpc_meta.specs.Parts.{names_of};
+    ghost use Rattle.rpc_meta.specs.MetaParts.{names_of};
 
     ghost Said = { Names };
 
@@ -93,7 +93,7 @@ impl<'a> Gathering<'a> for RequestParts<'a> {
 
 impl<'a> Gathering<'a> for ResponseParts<'a> {
     ghost use Rattle.rpc_meta.specs.Gathered.{Outcome, no_outcome, outcome_added};
-    ghost use Rattle.rpc_meta.specs.Parts.{outcome_of};
+    ghost use Rattle.rpc_meta.specs.MetaParts.{outcome_of};
 
     ghost Said = { Outcome };
 

@@ -1,8 +1,8 @@
 ghost use Rattle.std.specs.Prelude.{◌≡◌, IfOk, IfSome, option_map};
 ghost use Rattle.pb_wire.specs.brpc_model.specs.Meta.{read_meta};
 ghost use Rattle.rpc_meta.specs.Answer.{answer_as};
-ghost use Rattle.rpc_meta.specs.Meaning.{request_of, response_of, meaning};
-ghost use Rattle.rpc_meta.specs.View.{viewed};
+ghost use Rattle.rpc_meta.specs.MetaMeaning.{request_of, response_of, meaning};
+ghost use Rattle.rpc_meta.specs.ViewedMeta.{viewed};
 
 use crate::fault::MetaFault;
 use crate::meta::{MetaBytes, RequestMeta, ResponseMeta, RpcMeta};

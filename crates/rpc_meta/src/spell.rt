@@ -2,9 +2,9 @@ ghost use Rattle.std.specs.Prelude.{◌≡◌, ◌+◌, ◌*◌, ◌≤◌, ◌+
 ghost use Rattle.pb_wire.specs.brpc_model.specs.Wire.{varint_bytes};
 ghost use Rattle.pb_wire.specs.brpc_model.specs.Meta.{read_meta};
 ghost use Rattle.pb_wire.specs.brpc_model.specs.Spelling.{number_field, bytes_field, where_not_0, where_not_empty, meta_bytes};
-ghost use Rattle.rpc_meta.specs.Meaning.{meaning};
-ghost use Rattle.rpc_meta.specs.Sizes.{IsSizeOf, AreSizes};
-ghost use Rattle.rpc_meta.specs.Writing.{part_field, HasPart, MetaFits};
+ghost use Rattle.rpc_meta.specs.MetaMeaning.{meaning};
+ghost use Rattle.rpc_meta.specs.MetaSizes.{IsSizeOf, AreSizes};
+ghost use Rattle.rpc_meta.specs.MetaWriting.{part_field, HasPart, MetaFits};
 
 use crate::fields::MetaPart;
 use crate::front::{FRONT_BYTES, Front};

@@ -1,7 +1,7 @@
 ghost use Rattle.std.specs.Prelude.{◌≡◌, ◌+◌, ◌*◌, ◌<◌, ◌≤◌, length, Ok, IfSome};
 ghost use Rattle.rpc_meta.specs.Gathered.{nothing};
-ghost use Rattle.rpc_meta.specs.Parts.{gathered_of};
-ghost use Rattle.rpc_meta.specs.Steps.{gathered_after};
+ghost use Rattle.rpc_meta.specs.MetaParts.{gathered_of};
+ghost use Rattle.rpc_meta.specs.MetaGatheringSteps.{gathered_after};
 ghost use Rattle.rpc_meta.specs.Straight.{SpanNext, NumberOrNone};
 
 use crate::parts::{MetaParts, RequestParts};

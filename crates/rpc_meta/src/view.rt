@@ -1,9 +1,9 @@
 ghost use Rattle.std.specs.Prelude.{◌≡◌, ℕ, Some, option_map};
 ghost use Rattle.pb_wire.specs.brpc_model.specs.Meta.{int32, read_meta};
 ghost use Rattle.rpc_meta.specs.Answer.{answer_as, request_from, response_from};
-ghost use Rattle.rpc_meta.specs.Meaning.{meaning, request_of, response_of};
-ghost use Rattle.rpc_meta.specs.Parts.{names_of, outcome_of};
-ghost use Rattle.rpc_meta.specs.View.{viewed, request_viewed, response_viewed};
+ghost use Rattle.rpc_meta.specs.MetaMeaning.{meaning, request_of, response_of};
+ghost use Rattle.rpc_meta.specs.MetaParts.{names_of, outcome_of};
+ghost use Rattle.rpc_meta.specs.ViewedMeta.{viewed, request_viewed, response_viewed};
 
 use crate::fault::MetaFault;
 use crate::gather::gather_parts;

@@ -1,8 +1,8 @@
 pub mod Locks
-pub mod Frames
-pub mod Takes
-pub mod Posts
-pub mod Sockets
-pub mod Streams
+pub mod FramesMetInTurn
+pub mod SuccessiveTakes
+pub mod PostsToEachCall
+pub mod ReaderSocket
+pub mod FramesOfTakenStream
 pub mod Series
-pub mod Noting
+pub mod NotedCallEnds

@@ -6,11 +6,11 @@ use Rattle.atomic_table.specs.declared.shared.Seat.{Seat}
 use Rattle.corr_core.specs.Word.{Parts}
 use Rattle.corr_core.specs.declared.marks.Noted.{Noted}
 use Rattle.corr_core.specs.declared.marks.View.{View}
-use Rattle.id_rule.specs.Lawful.{tokens_in}
-use Rattle.corr_id.specs.Seats.{Stays, IsFree}
-use Rattle.corr_id.specs.Calls.{Became, GotLock, Quiet}
-use Rattle.corr_id.proofs.Testing.{sits_on, quiet_free, became_free}
-use Rattle.rpc_reader.specs.Seats.{IsOpen, Rests}
+use Rattle.id_rule.specs.LawfulIdTable.{tokens_in}
+use Rattle.corr_id.specs.IdTableSeat.{Stays, IsFree}
+use Rattle.corr_id.specs.SeatBehindIdCalls.{Became, GotLock, Quiet}
+use Rattle.corr_id.proofs.TestingOneLock.{sits_on, quiet_free, became_free}
+use Rattle.rpc_reader.specs.ReaderIdSeat.{IsOpen, Rests}
 
 module _ {C : Type 0} where
   pub stays_then : (s t u : Seat (Option C) (View C)) → Stays s t → Stays t u → Stays s u

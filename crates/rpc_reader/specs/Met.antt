@@ -2,17 +2,17 @@
 use Rattle.std.specs.Prelude.{◌≡◌, ◌+◌, ◌<◌, ◌==◌, ◌&&◌, ◌⊎◌, ℕ, nat_lt, Bool, true, false, List, [], ◌∷◌, Option, Some, None, map}
 use Rattle.corr_core.specs.Word.{Parts, parts}
 use Rattle.corr_core.specs.declared.marks.View.{View}
-use Rattle.corr_core.specs.Versions.{has_version, is_early}
-use Rattle.corr_id.specs.Calls.{GotLock, Quiet, Found}
-use Rattle.corr_id.specs.Attempts.{LacksAttempt}
+use Rattle.corr_core.specs.IdRangeVersions.{has_version, is_early}
+use Rattle.corr_id.specs.SeatBehindIdCalls.{GotLock, Quiet, Found}
+use Rattle.corr_id.specs.LocksByAttempt.{LacksAttempt}
 use Rattle.sock_message.specs.Asked.{Asked}
 use Rattle.prpc_frame.specs.rpc_meta.specs.declared.meta.ResponseMeta.{ResponseMeta}
-use Rattle.prpc_frame.specs.Cuts.{Cut}
-use Rattle.prpc_frame.specs.Meaning.{frame_of}
+use Rattle.prpc_frame.specs.StreamCuts.{Cut}
+use Rattle.prpc_frame.specs.FrameMeaning.{frame_of}
 use Rattle.prpc_frame.specs.declared.frame.Frame.{Frame}
 use Rattle.brpc_model.specs.ResponseOutcome.{ending_of}
-use Rattle.rpc_reader.specs.Books.{Books, EndedAs, KeptBy, id_of}
-use Rattle.sock_words.specs.Words.{id_slot, id_first}
+use Rattle.rpc_reader.specs.ReaderBooks.{Books, EndedAs, KeptBy, id_of}
+use Rattle.sock_words.specs.PackedWords.{id_slot, id_first}
 
 abbrev pub has_response : Option ResponseMeta → Bool
 has_response None = false

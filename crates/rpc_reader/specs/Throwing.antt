@@ -1,9 +1,9 @@
 -- What comes behind a frame fault is taken on and thrown away.
 use Rattle.std.specs.Prelude.{◌≡◌, ◌+◌, ◌<◌, ◌≤◌, ◌⊎◌, ℕ, Bool, true, false, List, [], ◌∷◌, ◌++◌, length}
-use Rattle.sock_io.specs.Link.{InState, TakeStep}
+use Rattle.sock_io.specs.LinkHalves.{InState, TakeStep}
 use Rattle.sock_io.specs.declared.link.Take.{Take}
-use Rattle.rpc_reader.specs.Reading.{LIMIT}
-use Rattle.rpc_reader.specs.Taking.{Took, Takes, GoOn, goes_on, piece_of, bytes_of}
+use Rattle.rpc_reader.specs.LinkReading.{LIMIT}
+use Rattle.rpc_reader.specs.ReadingTakeByTake.{Took, Takes, GoOn, goes_on, piece_of, bytes_of}
 
 -- by what the take answered and how many bytes came: more is taken below the limit, or it was the last
 abbrev pub ThrewBy : Bool → Bool → Take → ℕ → Type 0

@@ -1,9 +1,9 @@
 // What a reader has for calls, and what it tells of those that it ends.
 ghost use Rattle.std.specs.Prelude.{◌≡◌, IfOk, [], true, false};
-ghost use Rattle.prpc_frame.specs.Meaning.{frame_of};
+ghost use Rattle.prpc_frame.specs.FrameMeaning.{frame_of};
 ghost use Rattle.brpc_model.specs.ResponseOutcome.{ending_of};
-ghost use Rattle.call_table.specs.Responses.{outcome_of};
-ghost use Rattle.rpc_reader.specs.Books.{ToldBy, KeptBy};
+ghost use Rattle.call_table.specs.ResponseEndsCall.{outcome_of};
+ghost use Rattle.rpc_reader.specs.ReaderBooks.{ToldBy, KeptBy};
 ghost use Rattle.rpc_reader.specs.Met.{has_response as responds};
 
 use call_table::{Call, Ending, on_response};

@@ -1,9 +1,9 @@
 // The whole frames of what a link gave.
 ghost use Rattle.std.specs.Prelude.{◌≡◌, List};
-ghost use Rattle.rpc_reader.specs.Seats.{IsOpen, Rests};
-ghost use Rattle.rpc_reader.specs.Books.{books};
+ghost use Rattle.rpc_reader.specs.ReaderIdSeat.{IsOpen, Rests};
+ghost use Rattle.rpc_reader.specs.ReaderBooks.{books};
 ghost use Rattle.rpc_reader.specs.Met.{MetAll};
-ghost use Rattle.rpc_reader.specs.Reading.{StopsAt};
+ghost use Rattle.rpc_reader.specs.LinkReading.{StopsAt};
 
 use crate::books::AnswerSeat;
 use crate::meeting::meet;

@@ -1,15 +1,15 @@
 // The end of a call whose id the reader has locked.
 ghost use Rattle.std.specs.Prelude.{◌≡◌, ◌≢◌, ◌<◌, ℕ, [], true};
 ghost use Rattle.sock_words.specs.declared.outcome.Outcome.TheVariants.{CallFailed};
-ghost use Rattle.prpc_frame.specs.Meaning.{frame_of};
+ghost use Rattle.prpc_frame.specs.FrameMeaning.{frame_of};
 ghost use Rattle.brpc_model.specs.ResponseOutcome.{ending_of};
 ghost use Rattle.corr_core.specs.Word.{parts};
 ghost use Rattle.corr_core.specs.declared.marks.Hand.TheVariants.{Empty};
-ghost use Rattle.id_rule.specs.Lawful.{tokens_in};
-ghost use Rattle.corr_id.specs.Calls.{Locks};
-ghost use Rattle.corr_id.specs.Seats.{Sits};
-ghost use Rattle.rpc_reader.specs.Seats.{Rests};
-ghost use Rattle.rpc_reader.specs.Books.{books, id_of, EndedAs};
+ghost use Rattle.id_rule.specs.LawfulIdTable.{tokens_in};
+ghost use Rattle.corr_id.specs.SeatBehindIdCalls.{Locks};
+ghost use Rattle.corr_id.specs.IdTableSeat.{Sits};
+ghost use Rattle.rpc_reader.specs.ReaderIdSeat.{Rests};
+ghost use Rattle.rpc_reader.specs.ReaderBooks.{books, id_of, EndedAs};
 ghost use Rattle.rpc_reader.specs.Met.{has_response};
 
 use crate::books::AnswerSeat;

@@ -1,8 +1,8 @@
 // The socket of a link whose reading has ended is set failed.
 ghost use Rattle.std.specs.Prelude.{◌≡◌, ◌<◌};
-ghost use Rattle.sock_table.specs.Refs.{Knows};
-ghost use Rattle.rpc_client.specs.Seats.{MayAct, AtRest, StaysSeen, SameRefs};
-ghost use Rattle.rpc_reader.specs.Failing.{FailedBy};
+ghost use Rattle.sock_table.specs.ReferenceCalls.{Knows};
+ghost use Rattle.rpc_client.specs.SeatBetweenOperations.{MayAct, AtRest, StaysSeen, SameRefs};
+ghost use Rattle.rpc_reader.specs.ReaderSocketFailing.{FailedBy};
 
 use rpc_client::fail_socket;
 use sock_io::Out;

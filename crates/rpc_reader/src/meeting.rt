@@ -1,7 +1,7 @@
 // What becomes of a whole frame.
 ghost use Rattle.std.specs.Prelude.{◌≡◌};
-ghost use Rattle.rpc_reader.specs.Seats.{IsOpen, Rests};
-ghost use Rattle.rpc_reader.specs.Books.{books};
+ghost use Rattle.rpc_reader.specs.ReaderIdSeat.{IsOpen, Rests};
+ghost use Rattle.rpc_reader.specs.ReaderBooks.{books};
 ghost use Rattle.rpc_reader.specs.Met.{is_asked as asks, FrameMet};
 
 use crate::books::{AnswerSeat, has_response};

@@ -1,7 +1,7 @@
 // A reader waits for the socket of its link.
 ghost use Rattle.std.specs.Prelude.{◌≡◌, ◌<◌};
-ghost use Rattle.rpc_client.specs.Seats.{Idle, AtRest, StaysSeen, SameRefs};
-ghost use Rattle.rpc_reader.specs.Failing.{OpenedBy};
+ghost use Rattle.rpc_client.specs.SeatBetweenOperations.{Idle, AtRest, StaysSeen, SameRefs};
+ghost use Rattle.rpc_reader.specs.ReaderSocketFailing.{OpenedBy};
 
 use crossbeam_utils::Backoff;
 use sock_io::Out;

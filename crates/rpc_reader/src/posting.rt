@@ -1,15 +1,15 @@
 // The calls that wait for a link whose reading has ended.
 ghost use Rattle.std.specs.Prelude.{◌≡◌, ◌≢◌, ◌==◌, ◌<◌, ◌≤◌, ℕ, [], true, false, None, All, MatchOption, position};
-ghost use Rattle.sock_words.specs.Words.{at_word_link, at_word_slot, at_word_first, id_slot, id_first};
+ghost use Rattle.sock_words.specs.PackedWords.{at_word_link, at_word_slot, at_word_first, id_slot, id_first};
 ghost use Rattle.corr_core.specs.Word.{parts};
 ghost use Rattle.corr_core.specs.declared.marks.Hand.TheVariants.{Empty};
-ghost use Rattle.id_rule.specs.Lawful.{tokens_in};
-ghost use Rattle.corr_id.specs.Calls.{HasId, LacksId, Locks};
-ghost use Rattle.corr_id.specs.Seats.{Sits};
-ghost use Rattle.rpc_reader.specs.Seats.{IsOpen, Rests};
-ghost use Rattle.rpc_reader.specs.Books.{books};
+ghost use Rattle.id_rule.specs.LawfulIdTable.{tokens_in};
+ghost use Rattle.corr_id.specs.SeatBehindIdCalls.{HasId, LacksId, Locks};
+ghost use Rattle.corr_id.specs.IdTableSeat.{Sits};
+ghost use Rattle.rpc_reader.specs.ReaderIdSeat.{IsOpen, Rests};
+ghost use Rattle.rpc_reader.specs.ReaderBooks.{books};
 ghost use Rattle.rpc_reader.specs.Met.{is_for as answers};
-ghost use Rattle.rpc_reader.specs.Posting.{LockLost, attempt_at, call_at, FoundOf, kept_at, PostedLast, MetOrPosted, PostedOne, PostedAll};
+ghost use Rattle.rpc_reader.specs.PostingAtReadingEnd.{LockLost, attempt_at, call_at, FoundOf, kept_at, PostedLast, MetOrPosted, PostedOne, PostedAll};
 
 use crate::books::{AnswerSeat, has_response};
 use crate::ending::{end_answered, end_failed};

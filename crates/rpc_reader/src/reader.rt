@@ -1,14 +1,14 @@
 // A reader from its seats to what it tells.
 ghost use Rattle.std.specs.Prelude.{◌≡◌, ◌<◌, ◌≤◌, [], false, All};
 ghost use Rattle.std.specs.Result.{is_err};
-ghost use Rattle.sock_table.specs.Closed.{IsDoneSeat};
-ghost use Rattle.sock_table.specs.Refs.{Knows};
-ghost use Rattle.rpc_client.specs.Seats.{Idle, MayAct, AtRest, SameRefs};
-ghost use Rattle.rpc_client.specs.Holding.{IsHolder};
-ghost use Rattle.rpc_reader.specs.Seats.{IsOpen, Rests};
-ghost use Rattle.rpc_reader.specs.Books.{books};
-ghost use Rattle.rpc_reader.specs.Reading.{code_of};
-ghost use Rattle.rpc_reader.specs.Running.{fails, throws, is_starved, FailedIf, ThrownIf, RanBy};
+ghost use Rattle.sock_table.specs.ClosedSocketTable.{IsDoneSeat};
+ghost use Rattle.sock_table.specs.ReferenceCalls.{Knows};
+ghost use Rattle.rpc_client.specs.SeatBetweenOperations.{Idle, MayAct, AtRest, SameRefs};
+ghost use Rattle.rpc_client.specs.ReferencesHeldByClient.{IsHolder};
+ghost use Rattle.rpc_reader.specs.ReaderIdSeat.{IsOpen, Rests};
+ghost use Rattle.rpc_reader.specs.ReaderBooks.{books};
+ghost use Rattle.rpc_reader.specs.LinkReading.{code_of};
+ghost use Rattle.rpc_reader.specs.ReaderRunFromOpen.{fails, throws, is_starved, FailedIf, ThrownIf, RanBy};
 
 use crate::books::AnswerSeat;
 use crate::failing::fail_id;

@@ -4,11 +4,11 @@ use Rattle.std.specs.Prelude.{flat_map, filter_map, option_map, Option, Some, No
 use Rattle.std.proofs.lemmas.List.Elements.{filter_map-append}
 use Rattle.std.proofs.Math.Seq.{take-append_seam}
 use Rattle.brpc_model.specs.Frame.{FrameFault, Judged, NoneYet, Faulty, Begins, judged, frame_bytes}
-use Rattle.brpc_model.specs.Stream.{Stream, Ending, Rest, Fault, goes_on, stream, stream_up_to, stream_from, is_fault}
+use Rattle.brpc_model.specs.FrameStream.{Stream, Ending, Rest, Fault, goes_on, stream, stream_up_to, stream_from, is_fault}
 use Rattle.brpc_model.specs.Reply.{reply, reply_frames}
-use Rattle.prpc_frame.specs.Meaning.{fault_of}
-use Rattle.prpc_frame.proofs.Cuts.{stream_begins, stream_whole, frames_then, stream_rest, stream_fault, frames_anywhere}
-use Rattle.rpc_server.specs.Held.{Held}
+use Rattle.prpc_frame.specs.FrameMeaning.{fault_of}
+use Rattle.prpc_frame.proofs.StreamCuts.{stream_begins, stream_whole, frames_then, stream_rest, stream_fault, frames_anywhere}
+use Rattle.rpc_server.specs.HeldByConnection.{Held}
 use Rattle.rpc_server.specs.declared.conn.ConnFault.{ConnFault}
 use Rattle.rpc_server.specs.declared.conn.ConnFault.TheVariants as fault_
 use Rattle.rpc_server.specs.Feeding.{has_fault, Replied, Feeds, Answered, Stopped, AnswersWhole}

@@ -1,3 +1,3 @@
-pub mod Totals
-pub mod Answering
+pub mod ByteTotals
+pub mod AnsweringFrames
 pub mod Fed

@@ -1,11 +1,11 @@
 -- What feeding a connection appends and leaves.
 use Rattle.std.specs.Prelude.{◌≡◌, ℕ, ◌+◌, Bool, List, [], ◌∷◌, ◌++◌, length, take, flat_map, filter_map, Some, Result, Ok, Err}
 use Rattle.brpc_model.specs.Frame.{Frame, FrameFault, NoneYet, judged, frame_bytes}
-use Rattle.brpc_model.specs.Stream.{Rest, Fault, stream, is_fault}
+use Rattle.brpc_model.specs.FrameStream.{Rest, Fault, stream, is_fault}
 use Rattle.brpc_model.specs.Reply.{reply, reply_frames, replies}
-use Rattle.prpc_frame.specs.Cuts.{Cut}
-use Rattle.prpc_frame.specs.Meaning.{fault_of, IsFault}
-use Rattle.rpc_server.specs.Held.{Held}
+use Rattle.prpc_frame.specs.StreamCuts.{Cut}
+use Rattle.prpc_frame.specs.FrameMeaning.{fault_of, IsFault}
+use Rattle.rpc_server.specs.HeldByConnection.{Held}
 use Rattle.rpc_server.specs.declared.conn.ConnFault.{ConnFault}
 use Rattle.rpc_server.specs.declared.conn.ConnFault.TheVariants as fault_
 

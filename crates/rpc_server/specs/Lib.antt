@@ -1,4 +1,4 @@
-pub mod Answers
-pub mod Held
-pub mod Inside
+pub mod ServiceAnswers
+pub mod HeldByConnection
+pub mod InsideConnection
 pub mod Feeding

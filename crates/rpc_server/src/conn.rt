@@ -1,5 +1,5 @@
 ghost use Rattle.std.specs.Prelude.{◌≡◌, ◌+◌, ◌++◌, length, OnOk, OnErr};
-ghost use Rattle.prpc_frame.specs.Meaning.{frame_of};
+ghost use Rattle.prpc_frame.specs.FrameMeaning.{frame_of};
 ghost use Rattle.rpc_server.specs.Feeding.{Feeds, AnswersWhole, replies_to, reply_bytes};
 ghost use Rattle.rpc_server.specs.declared.conn.ConnFault.TheVariants.{NoMemory as no_memory};
 
@@ -37,19 +37,19 @@ pub struct Conn {
 }
 
 impl Model for Conn {
-    ghost use Rattle.rpc_server.specs.Held.{Held, held_code};
+    ghost use Rattle.rpc_server.specs.HeldByConnection.{Held, held_code};
 
     ghost Value = { Held };
 
     ghost coded = { held_code };
 
-    ghost use Rattle.rpc_server.specs.Inside.{held_view};
+    ghost use Rattle.rpc_server.specs.InsideConnection.{held_view};
 
     ghost view = { held_view };
 }
 
 impl Conn {
-    ghost use Rattle.rpc_server.specs.Held.{unused};
+    ghost use Rattle.rpc_server.specs.HeldByConnection.{unused};
 
     /// A connection that was fed nothing. It takes no memory.
     pub fn new(alloc: Global) -> Conn

@@ -2,9 +2,9 @@ ghost use Rattle.std.specs.Prelude.{◌≡◌, ◌+◌, ◌≤◌, true, length,
 ghost use Rattle.brpc_model.specs.Frame.{frame_bytes, body_limit};
 ghost use Rattle.brpc_model.specs.Spelling.{meta_bytes};
 ghost use Rattle.brpc_model.specs.Reply.{reply, answered_by, response_with};
-ghost use Rattle.rpc_meta.specs.Meaning.{meaning};
-ghost use Rattle.prpc_frame.specs.Meaning.{frame_of};
-ghost use Rattle.rpc_server.specs.Answers.{code_of, text_of, meant};
+ghost use Rattle.rpc_meta.specs.MetaMeaning.{meaning};
+ghost use Rattle.prpc_frame.specs.FrameMeaning.{frame_of};
+ghost use Rattle.rpc_server.specs.ServiceAnswers.{code_of, text_of, meant};
 
 use crate::service::{Answer, Refusal, serve};
 use io_buf::{BlockPool, IoBuf, NoMemory};

@@ -8,9 +8,9 @@ use native.Mathlib.Decide.{ℕ_discrete}
 use lib.ListN.{get_elem?}
 use Rattle.atomic_table.proofs.Lists.{at_set, set_here}
 use Rattle.atomic_table.specs.Table.{State}
-use Rattle.chain_steps.proofs.Lists.{at_length}
+use Rattle.chain_steps.proofs.TicketLists.{at_length}
 use Rattle.sock_words.specs.declared.plain.Plan.{Plan}
-use Rattle.sock_words.specs.Words.{socket_id_version, socket_id_slot, vref_version, id_slot}
+use Rattle.sock_words.specs.PackedWords.{socket_id_version, socket_id_slot, vref_version, id_slot}
 use Rattle.sock_io.specs.declared.link.Put.{Put}
 use Rattle.sock_io.specs.declared.link.Put.TheVariants as puts
 use Rattle.sock_io.specs.declared.link.Ready.{Ready}
@@ -19,21 +19,21 @@ use Rattle.sock_model.specs.declared.chain.Right.{Right}
 use Rattle.sock_model.specs.declared.home.Home.{Home}
 use Rattle.sock_model.specs.declared.view.View.{View}
 use Rattle.sock_model.specs.declared.view.Hand.{Hand}
-use Rattle.sock_model.specs.Weights.{is_busy, is_hold, is_failer, is_linked}
-use Rattle.sock_model.specs.Links.{HoldsLink, Failed}
+use Rattle.sock_model.specs.MarkWeights.{is_busy, is_hold, is_failer, is_linked}
+use Rattle.sock_model.specs.LinksInSlots.{HoldsLink, Failed}
 use Rattle.sock_model.specs.References.{slot_facts}
-use Rattle.sock_model.specs.Slots.{count}
-use Rattle.slot_steps.proofs.Numbers.{live_le}
-use Rattle.sock_steps.proofs.Places.{own_count}
-use Rattle.seat_programs.specs.Calls.{TableStep, SetOdd, LookWord, LoadCode}
+use Rattle.sock_model.specs.SocketSlotLaw.{count}
+use Rattle.slot_steps.proofs.RuleNumbers.{live_le}
+use Rattle.sock_steps.proofs.LifeLinkSlotPlaces.{own_count}
+use Rattle.seat_programs.specs.TableSteps.{TableStep, SetOdd, LookWord, LoadCode}
 use Rattle.seat_programs.specs.Writings.{Puts, Waits, Empties, Walks}
 use Rattle.seat_programs.specs.Programs.{Program, Do, Rest, TakeMessage, TakeHome, PutHome, PutBytes, AskReady, Write, Aside, Round}
 use Rattle.corr_core.specs.Word.{parts, code_of}
-use Rattle.corr_core.specs.Decisions.{ends_call}
+use Rattle.corr_core.specs.ErrorsThatEndCalls.{ends_call}
 use Rattle.seat_programs.specs.Asides.{PutCall}
-use Rattle.seat_programs.specs.Heads.{HasEnded, Posts, Unlocks, Decides, Locks, Joins, Opens, Reads, Discards}
-use Rattle.seat_programs.specs.Posts.{end_id, unlocked}
-use Rattle.seat_programs.specs.Beside.{calls_after}
+use Rattle.seat_programs.specs.LoopHeads.{HasEnded, Posts, Unlocks, Decides, Locks, Joins, Opens, Reads, Discards}
+use Rattle.seat_programs.specs.PostPrograms.{end_id, unlocked}
+use Rattle.seat_programs.specs.FoundAndChangedAside.{calls_after}
 use Rattle.std.specs.Prelude.{if◌then◌else◌, ◌+◌, Some, None}
 use Rattle.seat_programs.specs.Cores.{Calls, Core, SeatState, resolved, waiting_at, words_after, homes_after, hand_after, found_at, next_step, with_seat, stepped, lies_at, first_of, others_of, link_place}
 use Rattle.seat_programs.specs.StepTables.{word_of, word_after}
@@ -42,20 +42,20 @@ use Rattle.seat_programs.specs.StepTables.{row, hand_at}
 use Rattle.seat_programs.specs.StepsOfMessages.{took_message}
 use Rattle.seat_programs.specs.StepsOfLinks.{link_away, link_home_again, took_bytes}
 use Rattle.seat_programs.specs.StepTables.{May}
-use Rattle.programs_allowed.specs.program_steps.specs.GoesOn.{GoesOn}
-use Rattle.programs_allowed.specs.program_steps.specs.Sound.{Sound, state, views_after}
-use Rattle.programs_allowed.specs.program_steps.proofs.Cases.{with_rights, right_rights, put_rights, IsStill, untold, tick_does, tick_cases}
-use Rattle.programs_allowed.specs.sock_runs.proofs.Ticks.{sound_ticks}
+use Rattle.programs_allowed.specs.program_steps.specs.ProgramGoesOn.{GoesOn}
+use Rattle.programs_allowed.specs.program_steps.specs.SoundSeats.{Sound, state, views_after}
+use Rattle.programs_allowed.specs.program_steps.proofs.TickCases.{with_rights, right_rights, put_rights, IsStill, untold, tick_does, tick_cases}
+use Rattle.programs_allowed.specs.sock_runs.proofs.TicksKeepSeatsSound.{sound_ticks}
 use Rattle.sock_model.specs.ChainRows.{taken_right}
 use Rattle.outcome_stories.proofs.Added.{failer_note, linked_note, row_adds}
 use Rattle.run_laws.specs.World.{Event, Stop, stopped_after}
 use Rattle.run_laws.specs.Seen.{event_at}
-use Rattle.run_laws.specs.Late.{next_at, PutsInto, LooksLive, Looks, FailsSocket}
+use Rattle.run_laws.specs.LatePuts.{next_at, PutsInto, LooksLive, Looks, FailsSocket}
 use Rattle.run_laws.proofs.Modes.{Mode, Unknown, Live, Dead, mode_behind, put_mode, ready_mode, Guarded, come_guarded}
-use Rattle.run_laws.proofs.Lives.{live_unfailed, even_is, link_is, failed_stays}
-use Rattle.run_laws.proofs.Kept.{IsGiven, Kept, mode, mode_guarded}
+use Rattle.run_laws.proofs.WrittenLinkLives.{live_unfailed, even_is, link_is, failed_stays}
+use Rattle.run_laws.proofs.KeptBySeats.{IsGiven, Kept, mode, mode_guarded}
 use Rattle.run_laws.proofs.Stops.{link_of, no_right, not_stopped, same_more, fails_even}
-use Rattle.seat_programs.specs.Rounds.{first_step}
+use Rattle.seat_programs.specs.LoopRounds.{first_step}
 
 -- seat s is at a put into link k
 abbrev pub AtPut : ℕ → ℕ → Core → Type 0

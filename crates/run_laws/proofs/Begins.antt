@@ -11,27 +11,27 @@ use Rattle.sock_model.specs.declared.chain.Entry.{Entry}
 use Rattle.sock_model.specs.declared.home.Home.{Home}
 use Rattle.sock_model.specs.declared.marks.Mark.{Mark}
 use Rattle.sock_model.specs.declared.view.View.{View}
-use Rattle.sock_model.specs.Layout.{request_index}
+use Rattle.sock_model.specs.SocketTableLayout.{request_index}
 use Rattle.sock_model.specs.Marks.{about}
-use Rattle.sock_model.specs.Reads.{rights_on, link_home, took_of}
-use Rattle.sock_model.specs.Seats.{newcomer}
+use Rattle.sock_model.specs.ChainLawReads.{rights_on, link_home, took_of}
+use Rattle.sock_model.specs.ViewsOfSplitSeats.{newcomer}
 use Rattle.sock_model.specs.SlotRows.{marks_of}
-use Rattle.sock_model.specs.Weights.{is_born, is_failer, is_freer, is_hold, is_linked}
+use Rattle.sock_model.specs.MarkWeights.{is_born, is_failer, is_freer, is_hold, is_linked}
 use Rattle.seat_programs.specs.declared.task.Task.{Task}
 use Rattle.seat_programs.specs.declared.task.Sizes.{Sizes}
 use Rattle.corr_core.specs.declared.marks.Plan.{Plan as IdPlan}
 use Rattle.seat_programs.specs.Programs.{Program, Rest}
 use Rattle.seat_programs.specs.Cores.{Core, SeatState, resolved, next_step}
-use Rattle.seat_programs.specs.Scripts.{beginning, programs, readers_from, all_programs, opening_homes}
-use Rattle.programs_allowed.specs.program_steps.specs.Sound.{Sound}
-use Rattle.programs_allowed.specs.program_walks.proofs.Opening.{mapped, all_at}
-use Rattle.programs_allowed.specs.Openings.{client_view, opening_views}
-use Rattle.programs_allowed.proofs.Beginning.{beyond, at_home}
-use Rattle.message_events.specs.Standing.{Stand, accepted_by, hands_on, by_rights, by_home, stand}
+use Rattle.seat_programs.specs.ScriptSetupToEnding.{beginning, programs, readers_from, all_programs, opening_homes}
+use Rattle.programs_allowed.specs.program_steps.specs.SoundSeats.{Sound}
+use Rattle.programs_allowed.specs.program_walks.proofs.OpenedLivesRecorded.{mapped, all_at}
+use Rattle.programs_allowed.specs.SeatOpenings.{client_view, opening_views}
+use Rattle.programs_allowed.proofs.WordsAtBeginning.{beyond, at_home}
+use Rattle.message_events.specs.MessageStanding.{Stand, accepted_by, hands_on, by_rights, by_home, stand}
 use Rattle.run_laws.specs.World.{IsNew}
 use Rattle.run_laws.specs.Seen.{none_stopped, world_of}
 use Rattle.run_laws.proofs.Modes.{Unknown, Guarded, client_guarded, reader_guarded, come_guarded}
-use Rattle.run_laws.proofs.Kept.{Kept}
+use Rattle.run_laws.proofs.KeptBySeats.{Kept}
 use Rattle.run_laws.proofs.Arrives.{AtPut, guarded_put, unknown_live}
 use Rattle.run_laws.proofs.Full.{AreFull, none_full}
 use Rattle.sock_words.specs.Totals.{total}

@@ -1,10 +1,10 @@
 -- A link that answers that it failed is stopped, and its seat is at no put then.
 use Rattle.std.proofs.Common.{◌≡◌, ℕ, zero, suc, ◌⊎◌, inl, inr, ⊎_elim, Bool, true, false, cond, eq-eqb, List, [], ◌∷◌, refl, sym, ap, ◌∙◌, subst, arith}
 use Rattle.corr_core.specs.Word.{parts, code_of}
-use Rattle.corr_core.specs.Decisions.{ends_call}
+use Rattle.corr_core.specs.ErrorsThatEndCalls.{ends_call}
 use Rattle.seat_programs.specs.Asides.{PutCall}
-use Rattle.seat_programs.specs.Heads.{HasEnded, Unlocks, Decides, Locks}
-use Rattle.seat_programs.specs.Posts.{end_id, unlocked}
+use Rattle.seat_programs.specs.LoopHeads.{HasEnded, Unlocks, Decides, Locks}
+use Rattle.seat_programs.specs.PostPrograms.{end_id, unlocked}
 use Rattle.std.specs.Prelude.{Contains, if◌then◌else◌, ◌+◌, None}
 use mathlib.Core.Option.{Option, none, some}
 use lib.ListN.{get_elem?}
@@ -15,23 +15,23 @@ use Rattle.sock_io.specs.declared.link.Ready.{Ready}
 use Rattle.sock_io.specs.declared.link.Ready.TheVariants as asks
 use Rattle.sock_model.specs.declared.chain.Right.{Right}
 use Rattle.sock_model.specs.declared.view.View.{View}
-use Rattle.seat_programs.specs.Calls.{TableStep, SetOdd}
+use Rattle.seat_programs.specs.TableSteps.{TableStep, SetOdd}
 use Rattle.seat_programs.specs.Writings.{Puts, Waits, Empties, Walks}
 use Rattle.seat_programs.specs.Programs.{Program, Do, Say, Sent, Rest, TakeMessage, TakeHome, PutHome, PutBytes, AskReady, Write, Aside, Round, Keep, Retries}
 use Rattle.seat_programs.specs.Cores.{Core, SeatState}
 use Rattle.seat_programs.specs.Ticks.{OfPut, OfReady, Moment, ticked, asked_link, is_refusal, broken_at}
-use Rattle.programs_allowed.specs.program_steps.specs.Sound.{state, views_after}
-use Rattle.programs_allowed.specs.program_steps.proofs.Cases.{IsStill, tick_does, elem_there}
-use Rattle.programs_allowed.specs.program_steps.specs.GoesOn.{GoesOn}
+use Rattle.programs_allowed.specs.program_steps.specs.SoundSeats.{state, views_after}
+use Rattle.programs_allowed.specs.program_steps.proofs.TickCases.{IsStill, tick_does, elem_there}
+use Rattle.programs_allowed.specs.program_steps.specs.ProgramGoesOn.{GoesOn}
 use Rattle.run_laws.specs.World.{Nothing, Stop, stopped_after}
 use Rattle.run_laws.specs.Seen.{put_event, ready_event, next_event, event_at}
-use Rattle.run_laws.specs.Late.{Looks, LooksLive, Fails, FailsSocket, next_at}
-use Rattle.run_laws.proofs.Lives.{one_writer}
-use Rattle.run_laws.proofs.Cases.{still_nothing}
-use Rattle.run_laws.proofs.Kept.{IsGiven, Kept}
+use Rattle.run_laws.specs.LatePuts.{Looks, LooksLive, Fails, FailsSocket, next_at}
+use Rattle.run_laws.proofs.WrittenLinkLives.{one_writer}
+use Rattle.run_laws.proofs.EventlessTicks.{still_nothing}
+use Rattle.run_laws.proofs.KeptBySeats.{IsGiven, Kept}
 use Rattle.run_laws.proofs.Arrives.{AtPut, IsGone, put_right_of, next_is, odd_tick}
-use Rattle.seat_programs.specs.Rounds.{first_step}
-use Rattle.sock_words.specs.Words.{id_slot}
+use Rattle.seat_programs.specs.LoopRounds.{first_step}
+use Rattle.sock_words.specs.PackedWords.{id_slot}
 
 contains_one : (l k : ℕ) → Contains (l ∷ []) k → l ≡ k
 contains_one l k (zero, low, is) = is

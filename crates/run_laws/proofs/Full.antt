@@ -7,7 +7,7 @@ use mathlib.Core.Option.{some, some-injective}
 use lib.ListN.{get_elem?}
 use Rattle.atomic_table.proofs.Lists.{at_set}
 use Rattle.sock_words.specs.declared.plain.Plan.{Plan}
-use Rattle.sock_words.specs.Words.{socket_id_slot, socket_id_version, IDLE}
+use Rattle.sock_words.specs.PackedWords.{socket_id_slot, socket_id_version, IDLE}
 use Rattle.sock_model.specs.declared.chain.Claim.{Claim}
 use Rattle.sock_model.specs.declared.chain.Entry.{Entry}
 use Rattle.sock_model.specs.declared.chain.Right.{Right}
@@ -16,7 +16,7 @@ use Rattle.sock_model.specs.declared.view.Hand.{Hand}
 use Rattle.sock_model.specs.ChainRows.{with_claim, queued, righted, taken_right}
 use Rattle.sock_model.specs.Deliveries.{whole}
 use Rattle.sock_model.specs.SlotRows.{met_link}
-use Rattle.seat_programs.specs.Calls.{TableStep, ClaimRequest, PutMessage, Unconnect, SwapHead}
+use Rattle.seat_programs.specs.TableSteps.{TableStep, ClaimRequest, PutMessage, Unconnect, SwapHead}
 use Rattle.seat_programs.specs.Cores.{Core, found_at}
 use Rattle.seat_programs.specs.StepTables.{word_of}
 use Rattle.seat_programs.specs.Ticks.{Moment, IsAnswered}
@@ -24,9 +24,9 @@ use Rattle.seat_programs.specs.StepTables.{row, hand_at}
 use Rattle.seat_programs.specs.StepViews.{by_claim}
 use Rattle.seat_programs.specs.StepsOfChain.{new_claim, exchanged}
 use Rattle.seat_programs.specs.StepTables.{May}
-use Rattle.programs_allowed.specs.program_steps.specs.Sound.{Sound, views_after}
+use Rattle.programs_allowed.specs.program_steps.specs.SoundSeats.{Sound, views_after}
 use Rattle.programs_allowed.specs.program_steps.proofs.Leaves.{claims_stay}
-use Rattle.programs_allowed.specs.program_steps.proofs.Cases.{with_rights, right_rights, put_rights, tick_cases}
+use Rattle.programs_allowed.specs.program_steps.proofs.TickCases.{with_rights, right_rights, put_rights, tick_cases}
 
 -- ## Claims
 

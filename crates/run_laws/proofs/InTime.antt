@@ -10,17 +10,17 @@ use Rattle.sock_model.specs.declared.view.View.{View}
 use Rattle.seat_programs.specs.Programs.{Program, Rest}
 use Rattle.seat_programs.specs.Cores.{Core, SeatState}
 use Rattle.seat_programs.specs.Ticks.{Moment, ticked, broken_at}
-use Rattle.programs_allowed.specs.program_steps.specs.Sound.{state, views_after}
-use Rattle.programs_allowed.specs.program_steps.proofs.Cases.{elem_there}
+use Rattle.programs_allowed.specs.program_steps.specs.SoundSeats.{state, views_after}
+use Rattle.programs_allowed.specs.program_steps.proofs.TickCases.{elem_there}
 use Rattle.run_laws.specs.World.{stopped_after}
 use Rattle.run_laws.specs.Seen.{event_at}
-use Rattle.run_laws.specs.Late.{PutsInto, LooksLive, Puts, Looks, Fails, before, PutAt, FailAt, LookBefore, PutsInTime}
-use Rattle.run_laws.proofs.Lives.{one_writer}
-use Rattle.run_laws.proofs.Kept.{AreGiven, Kept}
+use Rattle.run_laws.specs.LatePuts.{PutsInto, LooksLive, Puts, Looks, Fails, before, PutAt, FailAt, LookBefore, PutsInTime}
+use Rattle.run_laws.proofs.WrittenLinkLives.{one_writer}
+use Rattle.run_laws.proofs.KeptBySeats.{AreGiven, Kept}
 use Rattle.run_laws.proofs.Stops.{kept_tick}
 use Rattle.run_laws.proofs.Arrives.{AtPut, IsGone, put_first, put_right_of, comes_tick, gone_tick}
 use Rattle.run_laws.proofs.Breaks.{fails_gone, look_fails_none, break_alone}
-use Rattle.seat_programs.specs.Rounds.{first_step}
+use Rattle.seat_programs.specs.LoopRounds.{first_step}
 
 -- the seat of a tick that puts is at a put
 puts_at : (c : Core) (m : Moment) (k : ℕ) → Puts c m k → AtPut k m.seat c

@@ -3,7 +3,7 @@
 use Rattle.std.proofs.Common.{◌≡◌, ℕ, zero, suc, ◌+◌, ◌-◌, ◌%◌, ◌/◌, Bool, true, false, ◌&&◌, eqb, not, List, [], ◌∷◌, ◌++◌, length, drop, refl, sym, subst, nat_lt}
 use Rattle.std.specs.Prelude.{◌==◌, if◌then◌else◌, nat_le, None, Some}
 use Rattle.std.specs.Prelude as std
-use Rattle.sock_words.specs.Words.{socket_id_version, socket_id_slot, vref_version, vref_nref, ticket_request, ticket_generation, IDLE, UNCONNECTED, NO_SOCKET, id_slot, id_first, call_id, bit}
+use Rattle.sock_words.specs.PackedWords.{socket_id_version, socket_id_slot, vref_version, vref_nref, ticket_request, ticket_generation, IDLE, UNCONNECTED, NO_SOCKET, id_slot, id_first, call_id, bit}
 use Rattle.sock_words.specs.declared.outcome.Outcome.TheVariants.{Unopened, Gone, Held, Freed, Kept, Full}
 use Rattle.sock_io.specs.declared.link.Put.{Put}
 use Rattle.sock_io.specs.declared.link.Put.TheVariants as puts
@@ -15,30 +15,30 @@ use Rattle.seat_programs.specs.declared.task.Op.{Op}
 use Rattle.seat_programs.specs.declared.task.Op.TheVariants as ops
 use Rattle.seat_programs.specs.declared.task.Task.{Task}
 use Rattle.seat_programs.specs.declared.task.Sizes.{Sizes}
-use Rattle.seat_programs.specs.Calls.{TableStep, FindLink, SetOdd, StoreCode, SubRef, LookWord, LoadCode, StorePlace, DropPlace, LoadLink, TakeLink, FinishLink, PutLink, FreeSlot, FreeRequest, ReadNext, ReverseNext, Connect}
+use Rattle.seat_programs.specs.TableSteps.{TableStep, FindLink, SetOdd, StoreCode, SubRef, LookWord, LoadCode, StorePlace, DropPlace, LoadLink, TakeLink, FinishLink, PutLink, FreeSlot, FreeRequest, ReadNext, ReverseNext, Connect}
 use Rattle.seat_programs.specs.Writings.{Holder, Writing, Puts, Waits, Empties, Walks}
 use Rattle.seat_programs.specs.Programs.{Program, Do, Say, Sent, Rest, TakeMessage, TakeHome, PutHome, PutBytes, AskReady, Write, Aside, Round, Keep, Retries, LAST_VERSION, LAST_GENERATION, recycle, release, add_reference, find_socket, set_failed, no_socket, make_socket, open_from, fail_outcome, fail}
-use Rattle.seat_programs.specs.Sends.{freed, one_more, passed_telling, tell_drop, placed, dropped, put_answered, ready_answered, block, first_put, write_link, heading_of, accept, claim_from, start}
-use Rattle.seat_programs.specs.Clients.{HeldLife, held_under, without_name, give_back, drop_of, operation, client_from, ending_of}
+use Rattle.seat_programs.specs.SendAndWritePrograms.{freed, one_more, passed_telling, tell_drop, placed, dropped, put_answered, ready_answered, block, first_put, write_link, heading_of, accept, claim_from, start}
+use Rattle.seat_programs.specs.ClientProgram.{HeldLife, held_under, without_name, give_back, drop_of, operation, client_from, ending_of}
 use Rattle.seat_programs.specs.Cores.{next_step, resolved}
-use Rattle.seat_programs.specs.Parts.{part}
+use Rattle.seat_programs.specs.BufferParts.{part}
 use Rattle.corr_core.specs.Word.{parts, error_of, code_of, posted_word, unlocked_word}
 use Rattle.corr_core.specs.Law.{LAST}
-use Rattle.corr_core.specs.Decisions.{WHOLE, ends_call}
-use Rattle.corr_core.specs.Versions.{is_early}
+use Rattle.corr_core.specs.ErrorsThatEndCalls.{WHOLE, ends_call}
+use Rattle.corr_core.specs.IdRangeVersions.{is_early}
 use Rattle.brpc_model.specs.Frame.{Frame}
-use Rattle.brpc_model.specs.Stream as streams
+use Rattle.brpc_model.specs.FrameStream as streams
 use Rattle.brpc_model.specs.ResponseOutcome.{ending_of as ending_by}
-use Rattle.sock_words.specs.Words.{at_word, at_word_slot, at_word_first, at_word_link, at_word_attempt}
+use Rattle.sock_words.specs.PackedWords.{at_word, at_word_slot, at_word_first, at_word_link, at_word_attempt}
 use Rattle.sock_words.specs.declared.outcome.Outcome.TheVariants.{NotBegun, Joined}
 use Rattle.sock_message.specs.Asked.{Asked, frame_of}
 use Rattle.seat_programs.specs.Asides.{Found, FreeId, PutCall, StoreAt, Taking, Bytes, Nothing, Closed}
-use Rattle.seat_programs.specs.Heads.{Head, Exit, Retry, Sought, Version, Reading, Ended, Posts, Unlocks, Decides, Locks, Joins, Opens, Reads, Discards, Posting, WasGone, WasStale, WasCrowded, WasQueued, HasLocked, Unlocking, IsOpen, HasNext, Deciding, HasEnded, Locking, NotThere}
-use Rattle.seat_programs.specs.Heads.{GoesOn as OpenAgain, Has as HasLock}
-use Rattle.seat_programs.specs.Posts.{packed, is_first, is_stale, is_full, is_sought, judged, post, post_with, posted, popped, end_id, decide, decided, unlocked, locking}
-use Rattle.seat_programs.specs.Attempts.{claims_from, heading_for, attempt, begin_call, claim_id, call, tried_again, retry_locked, retry, expire_outcome, expire, join}
-use Rattle.seat_programs.specs.Readers.{LIMIT, slot_in, version_in, answer, answered, has_response, responses, last_of, ended_by, read_on, took, discarded, kept_for, ends_with, posted_last, post_each, thrown_away, read, reader}
-use Rattle.seat_programs.specs.Rounds.{round, first_step}
+use Rattle.seat_programs.specs.LoopHeads.{Head, Exit, Retry, Sought, Version, Reading, Ended, Posts, Unlocks, Decides, Locks, Joins, Opens, Reads, Discards, Posting, WasGone, WasStale, WasCrowded, WasQueued, HasLocked, Unlocking, IsOpen, HasNext, Deciding, HasEnded, Locking, NotThere}
+use Rattle.seat_programs.specs.LoopHeads.{GoesOn as OpenAgain, Has as HasLock}
+use Rattle.seat_programs.specs.PostPrograms.{packed, is_first, is_stale, is_full, is_sought, judged, post, post_with, posted, popped, end_id, decide, decided, unlocked, locking}
+use Rattle.seat_programs.specs.CallAndRetryPrograms.{claims_from, heading_for, attempt, begin_call, claim_id, call, tried_again, retry_locked, retry, expire_outcome, expire, join}
+use Rattle.seat_programs.specs.ReaderProgram.{LIMIT, slot_in, version_in, answer, answered, has_response, responses, last_of, ended_by, read_on, took, discarded, kept_for, ends_with, posted_last, post_each, thrown_away, read, reader}
+use Rattle.seat_programs.specs.LoopRounds.{round, first_step}
 
 -- ## What a seat found last
 

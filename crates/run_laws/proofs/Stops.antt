@@ -8,7 +8,7 @@ use native.Mathlib.Decide.{ℕ_discrete}
 use lib.ListN.{get_elem?}
 use Rattle.atomic_table.proofs.Lists.{set_again, set_here}
 use Rattle.sock_words.specs.declared.plain.Plan.{Plan}
-use Rattle.sock_words.specs.Words.{socket_id_version, socket_id_slot, vref_version}
+use Rattle.sock_words.specs.PackedWords.{socket_id_version, socket_id_slot, vref_version}
 use Rattle.sock_io.specs.declared.link.Put.{Put}
 use Rattle.sock_io.specs.declared.link.Put.TheVariants as puts
 use Rattle.sock_io.specs.declared.link.Ready.{Ready}
@@ -20,20 +20,20 @@ use Rattle.sock_model.specs.declared.marks.Mark.{Mark}
 use Rattle.sock_model.specs.declared.marks.Mark.TheVariants as mark
 use Rattle.sock_model.specs.declared.marks.SlotMark.{SlotMark}
 use Rattle.sock_model.specs.declared.view.View.{View}
-use Rattle.sock_model.specs.Weights.{only, is_probe, is_hold, is_met, is_failer, is_linked}
+use Rattle.sock_model.specs.MarkWeights.{only, is_probe, is_hold, is_met, is_failer, is_linked}
 use Rattle.sock_model.specs.ChainRows.{with_right, taken_right}
 use Rattle.sock_model.specs.Marks.{about, at}
-use Rattle.sock_model.specs.Plain.{life_at}
-use Rattle.life_events.specs.Events.{life_of}
+use Rattle.sock_model.specs.PlainReferences.{life_at}
+use Rattle.life_events.specs.LifeEventOfStep.{life_of}
 use Rattle.seat_programs.specs.StepsOfSlots.{even_version}
-use Rattle.sock_model.specs.Links.{HoldsLink, Given, Failed}
+use Rattle.sock_model.specs.LinksInSlots.{HoldsLink, Given, Failed}
 use Rattle.sock_model.specs.SlotRows.{marks_of, looked, told_code}
-use Rattle.slot_steps.proofs.Numbers.{only-same}
-use Rattle.chain_steps.proofs.Lists.{at_length}
-use Rattle.sock_steps.proofs.Places.{own_count, holder_lives}
-use Rattle.seat_programs.specs.Calls.{TableStep, AddRef, SubRef, SetOdd, Recycle, LookWord, LoadCode, ClaimRequest, SwapHead, StorePlace, DropPlace}
+use Rattle.slot_steps.proofs.RuleNumbers.{only-same}
+use Rattle.chain_steps.proofs.TicketLists.{at_length}
+use Rattle.sock_steps.proofs.LifeLinkSlotPlaces.{own_count, holder_lives}
+use Rattle.seat_programs.specs.TableSteps.{TableStep, AddRef, SubRef, SetOdd, Recycle, LookWord, LoadCode, ClaimRequest, SwapHead, StorePlace, DropPlace}
 use Rattle.seat_programs.specs.Programs.{Program, Do, TakeMessage, TakeHome, PutHome, PutBytes, AskReady, Aside}
-use Rattle.seat_programs.specs.Beside.{calls_after}
+use Rattle.seat_programs.specs.FoundAndChangedAside.{calls_after}
 use Rattle.seat_programs.specs.Cores.{Calls, Core, SeatState, words_after, homes_after, hand_after, found_at, lies_at, first_of, others_of, link_place, with_seat, stepped}
 use Rattle.seat_programs.specs.StepTables.{word_of, word_after}
 use Rattle.seat_programs.specs.Ticks.{Moment, fed, with_places, onto_first, ticked}
@@ -44,21 +44,21 @@ use Rattle.seat_programs.specs.StepsOfMessages.{took_message}
 use Rattle.seat_programs.specs.StepsOfLinks.{link_away, link_home_again, took_bytes}
 use Rattle.seat_programs.specs.StepTables.{May}
 use Rattle.programs_allowed.specs.program_steps.specs.Writes.{Writes, MayPut}
-use Rattle.programs_allowed.specs.program_steps.specs.Sound.{Sound, state, views_after}
-use Rattle.programs_allowed.specs.program_steps.proofs.Cases.{with_rights, right_rights, put_rights, tick_does}
-use Rattle.programs_allowed.specs.sock_runs.proofs.Ticks.{sound_ticks}
-use Rattle.outcome_stories.specs.Stories.{adds}
+use Rattle.programs_allowed.specs.program_steps.specs.SoundSeats.{Sound, state, views_after}
+use Rattle.programs_allowed.specs.program_steps.proofs.TickCases.{with_rights, right_rights, put_rights, tick_does}
+use Rattle.programs_allowed.specs.sock_runs.proofs.TicksKeepSeatsSound.{sound_ticks}
+use Rattle.outcome_stories.specs.OperationStories.{adds}
 use Rattle.outcome_stories.proofs.Added.{failer_note, linked_note, row_adds}
-use Rattle.message_events.proofs.Rights.{Keeps, looks_keeps, puts_makes}
-use Rattle.message_events.specs.Standing.{of_right}
+use Rattle.message_events.proofs.LinkWrittenByRight.{Keeps, looks_keeps, puts_makes}
+use Rattle.message_events.specs.MessageStanding.{of_right}
 use Rattle.run_laws.specs.World.{Event, Nothing, Hold, Drop, Fail, End, Stop, stopped_after}
 use Rattle.run_laws.specs.World as world
 use Rattle.run_laws.specs.Seen.{accept_event, stop_event, step_event, put_event, ready_event, next_event, event_at}
 use Rattle.run_laws.proofs.Modes.{Mode, Unknown, Live, Fed, Dead, Asks, Broken, IsWhole, IsOfSlot, Comes, looked_mode, mode_behind, put_mode, ready_mode, Guarded}
-use Rattle.run_laws.proofs.Lives.{one_writer, live_unfailed, odd_failed, even_is, more_count, failed_stays}
-use Rattle.run_laws.proofs.Cases.{still_nothing}
-use Rattle.run_laws.proofs.Kept.{HoldsAt, FitsRight, Fits, IsBroken, IsGiven, Kept, first_broken, mode_at, mode_here, mode, mode_guarded, mode_fits, not_broken, broken_else, steps}
-use Rattle.seat_programs.specs.Rounds.{first_step}
+use Rattle.run_laws.proofs.WrittenLinkLives.{one_writer, live_unfailed, odd_failed, even_is, more_count, failed_stays}
+use Rattle.run_laws.proofs.EventlessTicks.{still_nothing}
+use Rattle.run_laws.proofs.KeptBySeats.{HoldsAt, FitsRight, Fits, IsBroken, IsGiven, Kept, first_broken, mode_at, mode_here, mode, mode_guarded, mode_fits, not_broken, broken_else, steps}
+use Rattle.seat_programs.specs.LoopRounds.{first_step}
 use Rattle.sock_words.specs.Totals.{total}
 
 -- ## Small facts

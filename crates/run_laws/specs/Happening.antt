@@ -1,11 +1,11 @@
 -- What holds of ticks one after another: each is an event of the plain model, and before and behind each the laws of lives hold.
 use Rattle.std.specs.Prelude.{ℕ, Bool, List, take}
 use Rattle.sock_words.specs.declared.plain.Plan.{Plan}
-use Rattle.sock_model.specs.Plain.{PlainLaw, plain}
+use Rattle.sock_model.specs.PlainReferences.{PlainLaw, plain}
 use Rattle.sock_model.specs.declared.view.View.{View}
 use Rattle.seat_programs.specs.Cores.{Core}
 use Rattle.seat_programs.specs.Ticks.{Moment}
-use Rattle.programs_allowed.specs.program_steps.specs.Sound.{views_along}
+use Rattle.programs_allowed.specs.program_steps.specs.SoundSeats.{views_along}
 use Rattle.run_laws.specs.Seen.{AreEvents}
 
 -- these ticks, one after another: each is its event of the plain model or none, and before and behind each the laws of lives hold

@@ -1,6 +1,6 @@
-pub mod Late
+pub mod LatePuts
 pub mod World
 pub mod Seen
 pub mod Happening
-pub mod Laws
+pub mod RunLaws
 pub use Rattle.programs_allowed

@@ -3,7 +3,7 @@ use Rattle.std.specs.Prelude.{ℕ, ◌-◌, ◌%◌, ◌==◌, Bool, false, nat_
 use mathlib.Core.Option.{none, some}
 use lib.ListN.{get_elem?}
 use Rattle.sock_words.specs.declared.plain.Plan.{Plan}
-use Rattle.sock_words.specs.Words.{socket_id_version, vref_version, IDLE}
+use Rattle.sock_words.specs.PackedWords.{socket_id_version, vref_version, IDLE}
 use Rattle.sock_io.specs.declared.link.Put.{Put}
 use Rattle.sock_io.specs.declared.link.Put.TheVariants as puts
 use Rattle.sock_io.specs.declared.link.Ready.{Ready}
@@ -12,21 +12,21 @@ use Rattle.sock_model.specs.declared.chain.Claim.{Claim}
 use Rattle.sock_model.specs.declared.chain.Right.{Right}
 use Rattle.sock_model.specs.declared.view.View.{View}
 use Rattle.sock_model.specs.ChainRows.{entry_of}
-use Rattle.sock_model.specs.Plain.{life_at, plain}
+use Rattle.sock_model.specs.PlainReferences.{life_at, plain}
 use Rattle.sock_model.specs.SlotRows.{marks_of}
-use Rattle.sock_model.specs.Weights.{is_probe, is_linked}
-use Rattle.seat_programs.specs.Calls.{TableStep, CreateLife, AddRef, SubRef, SetOdd, Recycle, LookWord, ClaimRequest, SwapHead, FreeRequest, StorePlace, DropPlace}
+use Rattle.sock_model.specs.MarkWeights.{is_probe, is_linked}
+use Rattle.seat_programs.specs.TableSteps.{TableStep, CreateLife, AddRef, SubRef, SetOdd, Recycle, LookWord, ClaimRequest, SwapHead, FreeRequest, StorePlace, DropPlace}
 use Rattle.seat_programs.specs.Programs.{Program, Do, PutBytes, AskReady}
 use Rattle.seat_programs.specs.Cores.{Core, found_at}
 use Rattle.seat_programs.specs.StepTables.{word_of}
 use Rattle.seat_programs.specs.Ticks.{Answer, OfPut, OfReady, Moment, broken_at, ticked}
 use Rattle.seat_programs.specs.StepsOfSlots.{even_version}
-use Rattle.programs_allowed.specs.program_steps.specs.Sound.{views_after}
-use Rattle.message_events.specs.Standing as standing
-use Rattle.life_events.specs.Events.{life_of}
+use Rattle.programs_allowed.specs.program_steps.specs.SoundSeats.{views_after}
+use Rattle.message_events.specs.MessageStanding as standing
+use Rattle.life_events.specs.LifeEventOfStep.{life_of}
 use Rattle.run_laws.specs.World.{World, Event, Nothing, Birth, Hold, Drop, Fail, End, Accept, Take, Stop, Place, Dropped, Free, Becomes, stopped_after}
 use Rattle.run_laws.specs.World as world
-use Rattle.seat_programs.specs.Rounds.{first_step}
+use Rattle.seat_programs.specs.LoopRounds.{first_step}
 use Rattle.sock_words.specs.Totals.{total}
 
 -- ## The event of a tick

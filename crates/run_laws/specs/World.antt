@@ -3,10 +3,10 @@ use Rattle.std.specs.Prelude.{◌≡◌, ◌≢◌, ℕ, suc, ◌+◌, ◌<◌, 
 use Rattle.sock_words.specs.declared.plain.Plan.{Plan}
 use Rattle.sock_model.specs.declared.chain.Entry.{Entry}
 use Rattle.sock_model.specs.Deliveries.{whole}
-use Rattle.sock_model.specs.Plain.{Life, life_at, Plain, same_life, no_lives}
-use Rattle.sock_model.specs.Plain as lives
-use Rattle.message_events.specs.Messages.{Messages, IsOrder}
-use Rattle.message_events.specs.Messages as messages
+use Rattle.sock_model.specs.PlainReferences.{Life, life_at, Plain, same_life, no_lives}
+use Rattle.sock_model.specs.PlainReferences as lives
+use Rattle.message_events.specs.MessageModel.{Messages, IsOrder}
+use Rattle.message_events.specs.MessageModel as messages
 
 -- how often each life was made with each link
 abbrev pub Links : Type 0

@@ -11,24 +11,24 @@ use Rattle.sock_io.specs.declared.link.Put.{Put}
 use Rattle.sock_io.specs.declared.link.Put.TheVariants as puts
 use Rattle.sock_io.specs.declared.link.Ready.{Ready}
 use Rattle.sock_io.specs.declared.link.Ready.TheVariants as asks
-use Rattle.sock_io.specs.Link.{of_put, of_ready}
+use Rattle.sock_io.specs.LinkHalves.{of_put, of_ready}
 use Rattle.brpc_model.specs.Items.{Item}
 use Rattle.brpc_model.specs.Operations.{Turn}
 use Rattle.brpc_model.specs.Report.{Report, report_text}
 use Rattle.brpc_model.proofs.Unique.{only_report}
 use Rattle.seat_programs.specs.Writings.{Puts, Waits, Empties, Walks}
 use Rattle.seat_programs.specs.Asides.{TakeBytes, Taking, Bytes, Nothing, NoMore, AtEnd, Closed, Broken}
-use Rattle.seat_programs.specs.Heads.{Reads, Discards}
-use Rattle.seat_programs.specs.Readers.{room_of}
+use Rattle.seat_programs.specs.LoopHeads.{Reads, Discards}
+use Rattle.seat_programs.specs.ReaderProgram.{room_of}
 use Rattle.seat_programs.specs.Programs.{Program, PutBytes, AskReady, Write, Aside, Round}
 use Rattle.seat_programs.specs.Cores.{Core, SeatState}
 use Rattle.seat_programs.specs.Ticks.{Answer, Unasked, OfPut, OfReady, OfTake, Moment, ticked, run, asked_link, FitsTake, IsAnswer, IsAnswered, AreAnswered}
-use Rattle.seat_programs.specs.Runs.{Scheduled}
+use Rattle.seat_programs.specs.ScheduledRuns.{Scheduled}
 use Rattle.seat_programs.specs.Tasks.{plan_of}
-use Rattle.seat_programs.specs.Scripts.{IsRunWithCalls, Settles, set_up, opened, played, place_words, Reports}
-use Rattle.run_theorems.specs.Answers.{said_at, said_in}
+use Rattle.seat_programs.specs.ScriptSetupToEnding.{IsRunWithCalls, Settles, set_up, opened, played, place_words, Reports}
+use Rattle.run_theorems.specs.LinkAnswers.{said_at, said_in}
 use Rattle.run_theorems.specs.Heard.{half_of, as_told, take_of, as_taken, taken_link, heard_in, taken_in, heard_of, taken_of, heard_takes, answer_of, bytes_found, take_answers, given_by}
-use Rattle.run_theorems.proofs.Alike.{Hears, same_first, same_others, said_on, SaidSame, EndAlike, in_parts, then_alike, one_schedule, one_settling}
+use Rattle.run_theorems.proofs.TicksAlike.{Hears, same_first, same_others, said_on, SaidSame, EndAlike, in_parts, then_alike, one_schedule, one_settling}
 use Rattle.run_theorems.proofs.OneRun.{one_rest, one_ending}
 
 -- ## Halves

@@ -1,9 +1,9 @@
-pub mod Alike
+pub mod TicksAlike
 pub mod OneRun
 pub mod HeardRuns
-pub mod Starts
-pub mod Lengths
-pub mod Gave
-pub mod Runs
-pub mod Ended
+pub mod ScriptStartsSoundly
+pub mod RunLengths
+pub mod GaveTakeByTake
+pub mod RunReportFits
+pub mod WholeRunEnded
 pub mod Unjoined

@@ -7,11 +7,11 @@ use Rattle.brpc_model.specs.Report.{Report, report_text}
 use Rattle.brpc_model.proofs.Unique.{only_report}
 use Rattle.seat_programs.specs.Cores.{Core}
 use Rattle.seat_programs.specs.Ticks.{Moment, quiet, ticked, run}
-use Rattle.seat_programs.specs.Runs.{IsAtRest, Scheduled}
+use Rattle.seat_programs.specs.ScheduledRuns.{IsAtRest, Scheduled}
 use Rattle.seat_programs.specs.Tasks.{plan_of}
-use Rattle.seat_programs.specs.Scripts.{IsRunWithCalls, Settles, set_up, opened, played, ending, is_ending, place_words, Reports}
-use Rattle.run_theorems.specs.Answers.{asked, told_in, before_ending, behind_ending}
-use Rattle.run_theorems.proofs.Alike.{Hears, said_on, EndAlike, one_schedule, one_settling}
+use Rattle.seat_programs.specs.ScriptSetupToEnding.{IsRunWithCalls, Settles, set_up, opened, played, ending, is_ending, place_words, Reports}
+use Rattle.run_theorems.specs.LinkAnswers.{asked, told_in, before_ending, behind_ending}
+use Rattle.run_theorems.proofs.TicksAlike.{Hears, said_on, EndAlike, one_schedule, one_settling}
 use Rattle.owed_calls.specs.call_owing.proofs.EndsStill.{rest_still, run_parts}
 
 -- ## All links as one

@@ -6,9 +6,9 @@ use Rattle.std.specs.List.{list_any, position_from}
 use Rattle.std.specs.Str.Lines.{lines}
 use Rattle.brpc_model.specs.Items.{Item, Shape, Open, Join}
 use Rattle.brpc_model.specs.Script.{Faulty, script_of, with_line, items, whole, fault_at, says, is_lost, may_hang, is_unserved}
-use Rattle.owed_calls.specs.Below.script_facts.proofs.Lists.{Has, has_from, has_first, has_later, has_cases, has_none}
-use Rattle.owed_calls.specs.Below.script_facts.proofs.Reading.{two_faults}
-use Rattle.outcome_causes.specs.program_walks.proofs.Opening.{or_second}
+use Rattle.owed_calls.specs.Below.script_facts.proofs.FilteredLists.{Has, has_from, has_first, has_later, has_cases, has_none}
+use Rattle.owed_calls.specs.Below.script_facts.proofs.ReadScriptFacts.{two_faults}
+use Rattle.outcome_causes.specs.program_walks.proofs.OpenedLivesRecorded.{or_second}
 
 -- where no element is found that passes a test, none passes it
 none_passes : {A : Type 0} (test : A → Bool) (n : ℕ) (xs : List A) → position_from test n xs ≡ None → (x : A) → Has xs x → test x ≡ false

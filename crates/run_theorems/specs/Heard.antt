@@ -2,16 +2,16 @@
 use Rattle.std.specs.Prelude.{ℕ, ◌==◌, List, [], ◌∷◌, ◌++◌, length, filter, flat_map}
 use Rattle.sock_words.specs.declared.plain.Plan.{Plan}
 use Rattle.brpc_model.specs.Items.{Item}
-use Rattle.brpc_model.specs.Link.{HalfAnswer, TakeAnswer, TakeTook, TakeEmpty, TakeEnd, TakeClosed, TakeFailed}
+use Rattle.brpc_model.specs.ReturnedLink.{HalfAnswer, TakeAnswer, TakeTook, TakeEmpty, TakeEnd, TakeClosed, TakeFailed}
 use Rattle.brpc_model.specs.Operations.{Turn}
-use Rattle.sock_io.specs.Link.{of_put, of_ready}
+use Rattle.sock_io.specs.LinkHalves.{of_put, of_ready}
 use Rattle.seat_programs.specs.Asides.{Taking, Bytes, Nothing, NoMore, AtEnd, Closed, Broken}
 use Rattle.seat_programs.specs.Cores.{Core}
 use Rattle.seat_programs.specs.Ticks.{Answer, OfPut, OfReady, OfTake, Moment, asked_link}
 use Rattle.seat_programs.specs.Tasks.{plan_of}
-use Rattle.seat_programs.specs.Scripts.{IsRunWithCalls, set_up}
-use Rattle.run_theorems.specs.Answers.{said_at, said_in}
-pub use Rattle.owed_calls.specs.call_owing.specs.Takes.{taken_link}
+use Rattle.seat_programs.specs.ScriptSetupToEnding.{IsRunWithCalls, set_up}
+use Rattle.run_theorems.specs.LinkAnswers.{said_at, said_in}
+pub use Rattle.owed_calls.specs.call_owing.specs.LinkTakenBySeat.{taken_link}
 
 -- ## Answers
 

@@ -1,9 +1,9 @@
-pub mod Answers
+pub mod LinkAnswers
 pub mod Heard
-pub mod Offered
+pub mod OfferedAtTakes
 pub mod OfferedRuns
-pub mod Sizes
+pub mod CoreListSizes
 pub mod Unserved
-pub mod Over
+pub mod RunIsOver
 pub use Rattle.owed_calls.specs.call_owing
 pub use Rattle.owed_calls.specs.Below

@@ -2,7 +2,7 @@
 use Rattle.std.specs.Prelude.{ℕ, ◌≡◌, false, List, slice_get, Some, None, Contains}
 use Rattle.brpc_model.specs.Items.{Item, Shape, Open, Send}
 use Rattle.brpc_model.specs.Operations.{Operation, operations}
-use Rattle.seat_programs.specs.ToldCalls.{Fixed}
+use Rattle.seat_programs.specs.ExplainedCalls.{Fixed}
 
 -- no `open` of the script has `serve` or `end`
 abbrev pub IsUnserved : List Item → Type 0

@@ -9,22 +9,22 @@ use Rattle.atomic_table.proofs.Lists.{set_again}
 use Rattle.sock_words.specs.declared.plain.Plan.{Plan}
 use Rattle.sock_model.specs.declared.view.View.{View}
 use Rattle.seat_programs.specs.corr_core.specs.Word.{parts, made_word, posted_word, unlocked_word, free_word}
-use Rattle.seat_programs.specs.id_rule.specs.Lawful.{id_index, at_index}
+use Rattle.seat_programs.specs.id_rule.specs.LawfulIdTable.{id_index, at_index}
 use Rattle.seat_programs.specs.Asides.{Step, Found, ClaimId, PutCall, MakeId, StoreCall, LoadCall, StoreAt, LoadAt, LoadIdWord, LockId, PostId, UnlockId, EndId, FreeId, TakeCall, TakeBytes, Taking, Bytes}
-use Rattle.seat_programs.specs.Beside.{found_in, calls_after, with_word, more_given}
-use Rattle.seat_programs.specs.Posts.{packed}
+use Rattle.seat_programs.specs.FoundAndChangedAside.{found_in, calls_after, with_word, more_given}
+use Rattle.seat_programs.specs.PostPrograms.{packed}
 use Rattle.seat_programs.specs.Programs.{Program, Aside}
 use Rattle.seat_programs.specs.Cores.{Calls, Core, SeatState, with_seat}
-use Rattle.sock_runs.specs.program_steps.specs.Fits.{FitsFound}
-use Rattle.sock_runs.specs.program_steps.specs.GoesOn.{GoesOn}
-use Rattle.sock_runs.specs.program_steps.specs.Lasts.{STALE, CHANGE, ERROR, attempt_cost, advance_gain, popped_gain, fresh, expects, stale_cost, ids_left, IsCountedStep, LastsFor, Lasts}
-use Rattle.sock_runs.specs.program_steps.proofs.Cases.{given_waiting}
+use Rattle.sock_runs.specs.program_steps.specs.IdWordFits.{FitsFound}
+use Rattle.sock_runs.specs.program_steps.specs.ProgramGoesOn.{GoesOn}
+use Rattle.sock_runs.specs.program_steps.specs.TicksLeftAtMost.{STALE, CHANGE, ERROR, attempt_cost, advance_gain, popped_gain, fresh, expects, stale_cost, ids_left, IsCountedStep, LastsFor, Lasts}
+use Rattle.sock_runs.specs.program_steps.proofs.TickCases.{given_waiting}
 use Rattle.runs_end.proofs.IdCosts.{Falls}
 use Rattle.runs_end.proofs.SeatCosts.{IsThere}
-use Rattle.runs_end.proofs.AsideTicks.{made_counts, ended_counts, locked_counts, queued_counts, unlocked_counts, tag_same, call_same, at_counts}
-use Rattle.runs_end.proofs.Lasting.{AreSameIds, Fewer, quiet_moves, loud_moves, walks}
+use Rattle.runs_end.proofs.IdWordChangesCounted.{made_counts, ended_counts, locked_counts, queued_counts, unlocked_counts, tag_same, call_same, at_counts}
+use Rattle.runs_end.proofs.StepsLeaveFewer.{AreSameIds, Fewer, quiet_moves, loud_moves, walks}
 use Rattle.sock_words.specs.Totals.{total}
-use Rattle.sock_words.specs.Words.{bit}
+use Rattle.sock_words.specs.PackedWords.{bit}
 
 -- what the seat paid for the word that it expects is at most what it counts for another one, unless its exchange succeeds
 abbrev pub IsLate : (step : Step) → Found step → ℕ → ℕ → Type 0
@@ -52,7 +52,7 @@ module _ (p : Plan) (c : Core) (vs : List View) (n : ℕ) (lasts : Lasts p c vs 
       → Fewer p n (with_seat i program seat.hand c.words c.homes (record c { calls = a })) vs
   quiet_step a left kept plan ids there program m goes l less late = subst (Fewer p n (with_seat i program seat.hand c.words c.homes (record c { calls = a }))) (set_again vs i v at_view)
       (quiet_moves p c vs n lasts i seat v at_seat at_view k at_number a left kept plan ids there program seat.hand c.words c.homes v m goes l
-      (sums (total (stale_cost c.calls.words) (expects seat.program)) (fresh left program) (total Rattle.sock_runs.specs.program_steps.specs.Lasts.home_weight c.homes) (walks vs) (walks (set vs i v)) (ap walks (set_again vs i v at_view)) less late))
+      (sums (total (stale_cost c.calls.words) (expects seat.program)) (fresh left program) (total Rattle.sock_runs.specs.program_steps.specs.TicksLeftAtMost.home_weight c.homes) (walks vs) (walks (set vs i v)) (ap walks (set_again vs i v at_view)) less late))
     where
       sums : (o f h w w' : ℕ) → w' ≡ w → m + 1 ≤ k + paid + 0 + f → paid ≤ o → m + (h + w') < k + o + f + (h + w)
       sums o f h w w' same less late = omega (arith, same, less, late)

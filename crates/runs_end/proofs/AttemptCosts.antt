@@ -1,23 +1,23 @@
 -- What an attempt of a call costs, and a retry that waited.
 use Rattle.std.proofs.Common.{ℕ, zero, suc, ◌+◌, ◌-◌, ◌/◌, ◌≤◌, ◌==◌, ◌%◌, ◌&&◌, Bool, true, false, List, length, arith, cond, nat_le, nat_lt}
 use Rattle.sock_words.specs.declared.plain.Plan.{Plan}
-use Rattle.sock_words.specs.Words.{socket_id_version, socket_id_slot, vref_version, vref_nref, at_word, IDLE, id_slot, id_first}
+use Rattle.sock_words.specs.PackedWords.{socket_id_version, socket_id_slot, vref_version, vref_nref, at_word, IDLE, id_slot, id_first}
 use Rattle.sock_model.specs.declared.chain.Heading.{Heading}
 use Rattle.sock_model.specs.declared.view.View.{View}
 use Rattle.sock_model.specs.Entries.{ticket_of}
 use Rattle.seat_programs.specs.sock_message.specs.Asked.{Asked, name_of, frame_of}
-use Rattle.seat_programs.specs.Calls.{AddRef, SubRef, Recycle, FreeSlot, LoadLink, LoadName, TakeLink, FinishLink, PutLink, LookWord, FindLink, ClaimRequest, PutMessage, Unconnect, SwapHead, Connect}
+use Rattle.seat_programs.specs.TableSteps.{AddRef, SubRef, Recycle, FreeSlot, LoadLink, LoadName, TakeLink, FinishLink, PutLink, LookWord, FindLink, ClaimRequest, PutMessage, Unconnect, SwapHead, Connect}
 use Rattle.seat_programs.specs.Asides.{StoreAt}
-use Rattle.seat_programs.specs.Heads.{Unlocking, IsOpen, HasNext, Deciding, HasEnded, Locking, NotThere, Has}
-use Rattle.seat_programs.specs.Heads as heads
+use Rattle.seat_programs.specs.LoopHeads.{Unlocking, IsOpen, HasNext, Deciding, HasEnded, Locking, NotThere, Has}
+use Rattle.seat_programs.specs.LoopHeads as heads
 use Rattle.seat_programs.specs.Programs.{Program, Do, Aside, LAST_VERSION, recycle, release, add_reference}
-use Rattle.seat_programs.specs.Posts.{post, decided}
-use Rattle.seat_programs.specs.Sends.{write_link, accept}
-use Rattle.seat_programs.specs.Attempts.{claims_from, heading_for, attempt, tried_again, retry_locked, retry}
-use Rattle.seat_programs.specs.Told.{AskedFits}
+use Rattle.seat_programs.specs.PostPrograms.{post, decided}
+use Rattle.seat_programs.specs.SendAndWritePrograms.{write_link, accept}
+use Rattle.seat_programs.specs.CallAndRetryPrograms.{claims_from, heading_for, attempt, tried_again, retry_locked, retry}
+use Rattle.seat_programs.specs.Explained.{AskedFits}
 use Rattle.seat_programs.specs.StepTables.{row}
 use Rattle.seat_programs.specs.StepsOfLinks.{link_away}
-use Rattle.sock_runs.specs.program_steps.specs.Lasts.{LastsFor, STALE, CHANGE, ERROR, POST, ACCEPT, weight, attempt_cost, unlocking_gain}
+use Rattle.sock_runs.specs.program_steps.specs.TicksLeftAtMost.{LastsFor, STALE, CHANGE, ERROR, POST, ACCEPT, weight, attempt_cost, unlocking_gain}
 use Rattle.runs_end.proofs.IdCosts.{lasts_more, post_lasts, decide_lasts}
 use Rattle.runs_end.proofs.Costs.{Lasting, lasting_more, either_lasts, does, takes_first}
 

@@ -6,34 +6,34 @@ use Rattle.std.specs.Prelude as std
 use mathlib.Core.Option.{Option, some, none}
 use lib.ListN.{get_elem?}
 use Rattle.atomic_table.proofs.Lists.{set_again}
-use Rattle.sock_words.specs.Words.{socket_id_version, socket_id_slot, ticket_request, UNCONNECTED, NO_SOCKET}
+use Rattle.sock_words.specs.PackedWords.{socket_id_version, socket_id_slot, ticket_request, UNCONNECTED, NO_SOCKET}
 use Rattle.sock_words.specs.declared.plain.Plan.{Plan}
 use Rattle.seat_programs.specs.sock_io.specs.declared.link.Ready.TheVariants.{NotYet}
 use Rattle.sock_model.specs.declared.chain.Right.{Right}
 use Rattle.sock_model.specs.declared.chain.Stage.{Stage}
 use Rattle.sock_model.specs.declared.chain.Stage.TheVariants as stages
 use Rattle.sock_model.specs.declared.view.View.{View}
-use Rattle.sock_model.specs.Layout.{next_index, open_index}
+use Rattle.sock_model.specs.SocketTableLayout.{next_index, open_index}
 use Rattle.sock_model.specs.ChainRows.{with_right}
 use Rattle.sock_model.specs.SlotRows.{met}
-use Rattle.seat_programs.specs.Calls.{ReadNext}
+use Rattle.seat_programs.specs.TableSteps.{ReadNext}
 use Rattle.seat_programs.specs.Writings as heads
-use Rattle.seat_programs.specs.Heads.{Head, Exit, Locks, Joins, Opens, Reads, Discards}
+use Rattle.seat_programs.specs.LoopHeads.{Head, Exit, Locks, Joins, Opens, Reads, Discards}
 use Rattle.seat_programs.specs.Programs.{Program, Rest, Write, Round}
 use Rattle.seat_programs.specs.Cores.{Core, SeatState}
 use Rattle.seat_programs.specs.Ticks.{Answer, OfReady, Moment, IsAnswered, IsAlwaysReady, ticked, tick_with, waits_at, waits_in, waits}
-use Rattle.seat_programs.specs.Runs.{IsAtRest}
+use Rattle.seat_programs.specs.ScheduledRuns.{IsAtRest}
 use Rattle.seat_programs.specs.StepTables.{row, hand_at}
 use Rattle.seat_programs.specs.StepViews.{by_right}
 use Rattle.seat_programs.specs.StepsOfChain.{read_next}
 use Rattle.seat_programs.specs.StepsOfNames.{found_id}
-use Rattle.sock_runs.specs.program_steps.specs.GoesOn.{GoesOn}
-use Rattle.sock_runs.specs.program_steps.specs.Sound.{Sound, IsAhead, AreFew, IsFitting, views_of, views_after}
-use Rattle.sock_runs.specs.program_steps.specs.Lasts.{Lasts, IsCounted, MOST_PAID}
+use Rattle.sock_runs.specs.program_steps.specs.ProgramGoesOn.{GoesOn}
+use Rattle.sock_runs.specs.program_steps.specs.SoundSeats.{Sound, IsAhead, AreFew, IsFitting, views_of, views_after}
+use Rattle.sock_runs.specs.program_steps.specs.TicksLeftAtMost.{Lasts, IsCounted, MOST_PAID}
 use Rattle.sock_runs.proofs.LinkTicks.{RetriesGo}
-use Rattle.sock_runs.proofs.Along.{seat_rests, ticked_ahead}
-use Rattle.sock_runs.proofs.Waiting.{waits_still}
-use Rattle.sock_runs.proofs.Few.{few_lasts}
+use Rattle.sock_runs.proofs.SoundAlongRuns.{seat_rests, ticked_ahead}
+use Rattle.sock_runs.proofs.TicksOfWaitingSeats.{waits_still}
+use Rattle.sock_runs.proofs.FewAcceptedMessages.{few_lasts}
 use Rattle.runs_end.proofs.HeadMoves.{calls_last}
 use Rattle.sock_runs.proofs.Quiets.{ticked_seats}
 

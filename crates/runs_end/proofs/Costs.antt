@@ -3,7 +3,7 @@ use Rattle.std.proofs.Common.{◌≡◌, ◌≢◌, ℕ, ◌+◌, ◌-◌, ◌*�
 use Rattle.std.proofs.lemmas.Bool.{true≢false}
 use Rattle.std.proofs.lemmas.List.{length-drop}
 use Rattle.sock_words.specs.declared.plain.Plan.{Plan}
-use Rattle.sock_words.specs.Words.{socket_id_version, socket_id_slot, vref_version, vref_nref, ticket_request, ticket_generation}
+use Rattle.sock_words.specs.PackedWords.{socket_id_version, socket_id_slot, vref_version, vref_nref, ticket_request, ticket_generation}
 use Rattle.seat_programs.specs.sock_io.specs.declared.link.Put.{Put}
 use Rattle.seat_programs.specs.sock_io.specs.declared.link.Put.TheVariants as puts
 use Rattle.seat_programs.specs.sock_io.specs.declared.link.Ready.TheVariants as asks
@@ -12,20 +12,20 @@ use Rattle.sock_model.specs.declared.marks.Mark.{Mark}
 use Rattle.sock_model.specs.declared.marks.Mark.TheVariants.{Hold, Coding, Saw, Failer, Stored, Told, Zero}
 use Rattle.sock_model.specs.declared.marks.SlotMark.{SlotMark}
 use Rattle.sock_model.specs.declared.view.View.{View}
-use Rattle.sock_model.specs.Weights.{is_probe, is_hold, is_coding, is_saw}
+use Rattle.sock_model.specs.MarkWeights.{is_probe, is_hold, is_coding, is_saw}
 use Rattle.sock_model.specs.Marks.{about, at, without_at}
 use Rattle.sock_model.specs.SlotRows.{marks_of, back, looked}
 use Rattle.sock_model.specs.ChainRows.{with_right}
-use Rattle.seat_programs.specs.Calls.{TableStep, LookWord, LoadCode, SetOdd, SubRef, StoreCode, StorePlace, DropPlace, EmptyHead, ReadNext, ReverseNext, FreeRequest}
+use Rattle.seat_programs.specs.TableSteps.{TableStep, LookWord, LoadCode, SetOdd, SubRef, StoreCode, StorePlace, DropPlace, EmptyHead, ReadNext, ReverseNext, FreeRequest}
 use Rattle.seat_programs.specs.Writings.{Holder, Writing, Puts, Waits, Empties, Walks}
 use Rattle.seat_programs.specs.Programs.{Program, Do, TakeMessage, TakeHome, PutBytes, Write, LAST_GENERATION, set_failed}
-use Rattle.seat_programs.specs.Sends.{freed, one_more, passed, passed_telling, tell_drop, placed, dropped, put_answered, block, first_put}
-use Rattle.seat_programs.specs.Parts.{part}
-use Rattle.seat_programs.specs.Posts.{post}
+use Rattle.seat_programs.specs.SendAndWritePrograms.{freed, one_more, passed, passed_telling, tell_drop, placed, dropped, put_answered, block, first_put}
+use Rattle.seat_programs.specs.BufferParts.{part}
+use Rattle.seat_programs.specs.PostPrograms.{post}
 use Rattle.seat_programs.specs.Ticks.{FitsPut}
-use Rattle.sock_steps.proofs.Quiet.{either_way}
-use Rattle.sock_steps.specs.slot_steps.proofs.Sums.{about-here}
-use Rattle.sock_steps.specs.slot_steps.proofs.Numbers.{only-same}
+use Rattle.sock_steps.proofs.SumsAsMarksChange.{either_way}
+use Rattle.sock_steps.specs.slot_steps.proofs.SlotWeightSums.{about-here}
+use Rattle.sock_steps.specs.slot_steps.proofs.RuleNumbers.{only-same}
 use Rattle.seat_programs.specs.StepTables.{row}
 use Rattle.seat_programs.specs.StepViews.{by_right}
 use Rattle.seat_programs.specs.StepsOfSlots.{looked_clean}
@@ -33,7 +33,7 @@ use Rattle.seat_programs.specs.StepsOfMessages.{took_message}
 use Rattle.seat_programs.specs.StepsOfLinks.{link_home_again, link_away, took_bytes}
 use Rattle.seat_programs.specs.StepsOfSlots.{IsOfHeld, FindsFailed}
 use Rattle.sock_runs.specs.program_steps.specs.Writes.{At}
-use Rattle.sock_runs.specs.program_steps.specs.Lasts.{POST, weight, cost, saw_failed, asking_cost, failing_cost, waiting_cost, loop_cost, LastsFor}
+use Rattle.sock_runs.specs.program_steps.specs.TicksLeftAtMost.{POST, weight, cost, saw_failed, asking_cost, failing_cost, waiting_cost, loop_cost, LastsFor}
 use Rattle.sock_runs.specs.program_steps.proofs.Leaves.{right_way}
 use Rattle.runs_end.proofs.IdCosts.{lasts_more, post_lasts}
 use Rattle.sock_words.specs.Totals.{total}

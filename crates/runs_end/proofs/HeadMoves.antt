@@ -10,37 +10,37 @@ use Rattle.sock_words.specs.declared.kind.Kind.{Kind}
 use Rattle.seat_programs.specs.sock_io.specs.declared.link.Ready.TheVariants.{NotYet}
 use Rattle.sock_model.specs.declared.view.View.{View}
 use Rattle.sock_model.specs.declared.view.Hand.{Hand}
-use Rattle.sock_model.specs.Layout.{open_index}
+use Rattle.sock_model.specs.SocketTableLayout.{open_index}
 use Rattle.seat_programs.specs.corr_core.specs.Word.{parts, posted_word, unlocked_word, code_of}
 use Rattle.seat_programs.specs.corr_core.specs.Law.{LAST}
-use Rattle.seat_programs.specs.corr_core.specs.Decisions.{ends_call}
-use Rattle.seat_programs.specs.id_rule.specs.Lawful.{id_index}
+use Rattle.seat_programs.specs.corr_core.specs.ErrorsThatEndCalls.{ends_call}
+use Rattle.seat_programs.specs.id_rule.specs.LawfulIdTable.{id_index}
 use Rattle.seat_programs.specs.sock_message.specs.Asked.{Asked}
-use Rattle.seat_programs.specs.Calls.{LoadOpen}
+use Rattle.seat_programs.specs.TableSteps.{LoadOpen}
 use Rattle.seat_programs.specs.Asides.{Step, Found, PutCall, LoadIdWord, LockId, PostId, UnlockId, EndId, FreeId, TakeBytes, Taking, Bytes, Nothing, NoMore}
-use Rattle.seat_programs.specs.Heads.{Head, Exit, Sought, Reading, Posts, Unlocks, Decides, Locks, Joins, Opens, Reads, Discards, Posting, WasQueued, HasLocked, Unlocking, Deciding, HasEnded, Locking, Has, Ended}
-use Rattle.seat_programs.specs.Beside.{found_in, at_last, taking_in}
-use Rattle.seat_programs.specs.Posts.{packed, judged, popped, locking, end_id, unlocked, is_sought, is_first}
-use Rattle.seat_programs.specs.Readers.{took, discarded, room_of}
+use Rattle.seat_programs.specs.LoopHeads.{Head, Exit, Sought, Reading, Posts, Unlocks, Decides, Locks, Joins, Opens, Reads, Discards, Posting, WasQueued, HasLocked, Unlocking, Deciding, HasEnded, Locking, Has, Ended}
+use Rattle.seat_programs.specs.FoundAndChangedAside.{found_in, at_last, taking_in}
+use Rattle.seat_programs.specs.PostPrograms.{packed, judged, popped, locking, end_id, unlocked, is_sought, is_first}
+use Rattle.seat_programs.specs.ReaderProgram.{took, discarded, room_of}
 use Rattle.seat_programs.specs.Programs.{Program, Do, TakeMessage, TakeHome, PutHome, PutBytes, AskReady, Write, Aside, Round}
 use Rattle.seat_programs.specs.Cores.{Core, SeatState}
 use Rattle.seat_programs.specs.Ticks.{Answer, OfReady, OfTake, Moment, FitsTake, IsTaken, IsAnswer, IsAnswered, IsAlwaysReady, taken, with_found, step_with, tick_with, ticked, is_nothing, waits_at, waits}
-use Rattle.seat_programs.specs.Runs.{kind_in, IsAtRest}
+use Rattle.seat_programs.specs.ScheduledRuns.{kind_in, IsAtRest}
 use Rattle.seat_programs.specs.StepTables.{row, hand_at}
-use Rattle.sock_runs.specs.program_steps.specs.GoesOn.{GoesOn}
-use Rattle.sock_runs.specs.program_steps.specs.Sound.{Sound, FitsBeside, IsFitting, views_with, views_of, views_after}
-use Rattle.sock_runs.specs.program_steps.specs.Lasts.{STALE, accepted, expects, arriving, stale_cost, LastsFor, Lasts, IsCountedStep, IsCountedAt, IsCounted}
-use Rattle.sock_runs.proofs.Allowed.{view_there}
-use Rattle.sock_runs.specs.program_steps.proofs.Cases.{beside}
+use Rattle.sock_runs.specs.program_steps.specs.ProgramGoesOn.{GoesOn}
+use Rattle.sock_runs.specs.program_steps.specs.SoundSeats.{Sound, FitsBeside, IsFitting, views_with, views_of, views_after}
+use Rattle.sock_runs.specs.program_steps.specs.TicksLeftAtMost.{STALE, accepted, expects, arriving, stale_cost, LastsFor, Lasts, IsCountedStep, IsCountedAt, IsCounted}
+use Rattle.sock_runs.proofs.AllowedNextSteps.{view_there}
+use Rattle.sock_runs.specs.program_steps.proofs.TickCases.{beside}
 use Rattle.sock_runs.proofs.LinkTicks.{RetriesGo}
-use Rattle.sock_runs.specs.program_steps.proofs.Passes.{goes_round, posted_fits, got_fits, unlocked_fits}
+use Rattle.sock_runs.specs.program_steps.proofs.AsideStepsPass.{goes_round, posted_fits, got_fits, unlocked_fits}
 use Rattle.runs_end.proofs.WalksLeft.{rights_few}
 use Rattle.runs_end.proofs.IdCosts.{lasts_more, Falls, posts_fall, unlocks_fall, decides_lasts, locks_fall, tries_fall, joins_fall}
 use Rattle.runs_end.proofs.ReadCosts.{FitsRoom, reads_fall, discards_fall}
-use Rattle.runs_end.proofs.Lasting.{Fewer, found_steps, tick_moves}
+use Rattle.runs_end.proofs.StepsLeaveFewer.{Fewer, found_steps, tick_moves}
 use Rattle.runs_end.proofs.AsideMoves.{IsLate, any_moves}
-use Rattle.seat_programs.specs.Rounds.{first_step}
-use Rattle.sock_words.specs.Words.{id_slot, id_first, bit}
+use Rattle.seat_programs.specs.LoopRounds.{first_step}
+use Rattle.sock_words.specs.PackedWords.{id_slot, id_first, bit}
 use Rattle.sock_words.specs.Totals.{total}
 
 -- ## Takes

@@ -6,16 +6,16 @@ use Rattle.sock_words.specs.declared.plain.Plan.{Plan}
 use Rattle.sock_model.specs.declared.view.View.{View}
 use Rattle.seat_programs.specs.corr_core.specs.Word.{parts, code_of, error_of, posted_word, unlocked_word}
 use Rattle.seat_programs.specs.corr_core.specs.Law.{LAST}
-use Rattle.seat_programs.specs.corr_core.specs.Decisions.{ends_call}
+use Rattle.seat_programs.specs.corr_core.specs.ErrorsThatEndCalls.{ends_call}
 use Rattle.seat_programs.specs.sock_message.specs.Asked.{Asked}
 use Rattle.seat_programs.specs.Asides.{Step, Found, LoadIdWord, LockId, PostId, UnlockId, FreeId, PutCall}
-use Rattle.seat_programs.specs.Heads.{Retry, Sought, Posts, Unlocks, Decides, Locks, Joins, Opens, Posting, WasGone, WasStale, WasCrowded, WasQueued, HasLocked, Unlocking, IsOpen, HasNext, Deciding, HasEnded, Locking, NotThere, Has}
-use Rattle.seat_programs.specs.Heads as heads
+use Rattle.seat_programs.specs.LoopHeads.{Retry, Sought, Posts, Unlocks, Decides, Locks, Joins, Opens, Posting, WasGone, WasStale, WasCrowded, WasQueued, HasLocked, Unlocking, IsOpen, HasNext, Deciding, HasEnded, Locking, NotThere, Has}
+use Rattle.seat_programs.specs.LoopHeads as heads
 use Rattle.seat_programs.specs.Programs.{Program, Say, Sent, Rest, TakeMessage, PutBytes, AskReady, Aside, Round, Retries}
-use Rattle.seat_programs.specs.Posts.{packed, is_first, is_sought, is_stale, is_full, judged, posted, post, popped, end_id, decide, unlocked, decides_round, decided, locking}
-use Rattle.sock_runs.specs.program_steps.specs.Fits.{FitsWord, FitsPosting, FitsUnlocking, FitsLocking}
-use Rattle.sock_runs.specs.program_steps.specs.Lasts.{LastsFor, fresh, fresh_at, left_word, STALE, CHANGE, DECISION, ERROR, POST, attempt_cost, advance_gain, aside_cost, aside_gain, unlocking_gain}
-use Rattle.sock_words.specs.Words.{id_slot, id_first, bit}
+use Rattle.seat_programs.specs.PostPrograms.{packed, is_first, is_sought, is_stale, is_full, judged, posted, post, popped, end_id, decide, unlocked, decides_round, decided, locking}
+use Rattle.sock_runs.specs.program_steps.specs.IdWordFits.{FitsWord, FitsPosting, FitsUnlocking, FitsLocking}
+use Rattle.sock_runs.specs.program_steps.specs.TicksLeftAtMost.{LastsFor, fresh, fresh_at, left_word, STALE, CHANGE, DECISION, ERROR, POST, attempt_cost, advance_gain, aside_cost, aside_gain, unlocking_gain}
+use Rattle.sock_words.specs.PackedWords.{id_slot, id_first, bit}
 
 -- who has at most so many steps left has at most more
 pub lasts_more : (p : Plan) (v : View) (program : Program) (m n : ℕ) → m ≤ n → LastsFor p v program m → LastsFor p v program n

@@ -4,12 +4,12 @@ use mathlib.Core.Logic.{dite}
 use native.Mathlib.Decide.{ℕ_discrete}
 use Rattle.std.specs.Prelude.{slice_index, Some}
 use Rattle.seat_programs.specs.corr_core.specs.Word.{Parts, parts, made_word, locked_word, posted_word, unlocked_word, free_word}
-use Rattle.seat_programs.specs.id_rule.specs.Lawful.{id_index}
-use Rattle.seat_programs.specs.Heads.{Head, Posts, Unlocks, Locks}
+use Rattle.seat_programs.specs.id_rule.specs.LawfulIdTable.{id_index}
+use Rattle.seat_programs.specs.LoopHeads.{Head, Posts, Unlocks, Locks}
 use Rattle.seat_programs.specs.Programs.{Program, Round}
 use Rattle.seat_programs.specs.Cores.{SeatState}
-use Rattle.sock_runs.specs.program_steps.specs.Lasts.{STALE, ERROR, attempt_cost, expected, expects, stale_cost, queued_errors, id_left, ids_left}
-use Rattle.sock_words.specs.Words.{id_slot}
+use Rattle.sock_runs.specs.program_steps.specs.TicksLeftAtMost.{STALE, ERROR, attempt_cost, expected, expects, stale_cost, queued_errors, id_left, ids_left}
+use Rattle.sock_words.specs.PackedWords.{id_slot}
 use Rattle.sock_words.specs.Totals.{total}
 
 -- ## Stale words

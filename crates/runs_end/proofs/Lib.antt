@@ -4,9 +4,9 @@ pub mod Costs
 pub mod AttemptCosts
 pub mod SeatCosts
 pub mod IdsLeft
-pub mod Lasting
+pub mod StepsLeaveFewer
 pub mod ReadCosts
-pub mod AsideTicks
+pub mod IdWordChangesCounted
 pub mod AsideMoves
 pub mod HeadMoves
 pub mod Bounded

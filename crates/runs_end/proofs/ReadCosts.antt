@@ -3,18 +3,18 @@ use Rattle.std.proofs.Common.{◌≡◌, ◌≢◌, ℕ, zero, suc, ◌+◌, ◌
 use Rattle.sock_words.specs.declared.plain.Plan.{Plan}
 use Rattle.sock_model.specs.declared.view.View.{View}
 use Rattle.seat_programs.specs.brpc_model.specs.Frame.{Frame, Judged, NoneYet, Faulty, Begins, judged}
-use Rattle.seat_programs.specs.brpc_model.specs.Stream as streams
+use Rattle.seat_programs.specs.brpc_model.specs.FrameStream as streams
 use Rattle.seat_programs.specs.brpc_model.specs.ResponseOutcome.{ending_of}
 use Rattle.seat_programs.specs.corr_core.specs.Word.{parts}
-use Rattle.seat_programs.specs.corr_core.specs.Versions.{is_early}
+use Rattle.seat_programs.specs.corr_core.specs.IdRangeVersions.{is_early}
 use Rattle.seat_programs.specs.Asides.{TakeBytes, Taking, Bytes, Nothing, Closed}
-use Rattle.seat_programs.specs.Heads.{Version, Reading, Locks, Reads, Discards, Locking, NotThere, Has, Ended}
+use Rattle.seat_programs.specs.LoopHeads.{Version, Reading, Locks, Reads, Discards, Locking, NotThere, Has, Ended}
 use Rattle.seat_programs.specs.Programs.{Program, Say, Round}
-use Rattle.seat_programs.specs.Readers.{LIMIT, answer, answered, responses, read_on, took, took_bytes, last_of, ended_by, room_of, discarded, slot_in, version_in, has_response}
-use Rattle.sock_runs.specs.program_steps.specs.Fits.{FitsEnded}
-use Rattle.sock_runs.specs.program_steps.specs.Lasts.{LastsFor, CHANGE, FRAME}
+use Rattle.seat_programs.specs.ReaderProgram.{LIMIT, answer, answered, responses, read_on, took, took_bytes, last_of, ended_by, room_of, discarded, slot_in, version_in, has_response}
+use Rattle.sock_runs.specs.program_steps.specs.IdWordFits.{FitsEnded}
+use Rattle.sock_runs.specs.program_steps.specs.TicksLeftAtMost.{LastsFor, CHANGE, FRAME}
 use Rattle.runs_end.proofs.IdCosts.{lasts_more, end_lasts, Falls}
-use Rattle.sock_words.specs.Words.{call_id}
+use Rattle.sock_words.specs.PackedWords.{call_id}
 
 -- ## Takes
 

@@ -5,13 +5,13 @@ use Rattle.std.specs.Prelude.{slice_index, slice_index_or}
 use Rattle.std.specs.Prelude as std
 use Rattle.sock_words.specs.declared.plain.Plan.{Plan}
 use Rattle.sock_model.specs.declared.view.View.{View}
-use Rattle.seat_programs.specs.id_rule.specs.Lawful.{id_index}
-use Rattle.seat_programs.specs.Heads.{Head, Exit, Retry, Posts, Unlocks, Locks}
+use Rattle.seat_programs.specs.id_rule.specs.LawfulIdTable.{id_index}
+use Rattle.seat_programs.specs.LoopHeads.{Head, Exit, Retry, Posts, Unlocks, Locks}
 use Rattle.seat_programs.specs.Programs.{Program, Say, Sent, Round, Keep, Retries}
-use Rattle.seat_programs.specs.Attempts.{retry}
+use Rattle.seat_programs.specs.CallAndRetryPrograms.{retry}
 use Rattle.seat_programs.specs.Cores.{resolved, still_waiting, next_step}
-use Rattle.sock_runs.specs.program_steps.specs.GoesOn.{GoesOn}
-use Rattle.sock_runs.specs.program_steps.specs.Lasts.{LastsFor, STALE, attempt_cost, expects, arriving, stale_cost, fresh, fresh_at}
+use Rattle.sock_runs.specs.program_steps.specs.ProgramGoesOn.{GoesOn}
+use Rattle.sock_runs.specs.program_steps.specs.TicksLeftAtMost.{LastsFor, STALE, attempt_cost, expects, arriving, stale_cost, fresh, fresh_at}
 use Rattle.runs_end.proofs.IdCosts.{lasts_more}
 use Rattle.runs_end.proofs.AttemptCosts.{retry_lasts}
 use Rattle.sock_words.specs.Totals.{total}

@@ -6,7 +6,7 @@ use mathlib.Core.Logic.{dite}
 use mathlib.Core.Option.{Option, some, none}
 use native.Mathlib.Decide.{ℕ_discrete}
 use Rattle.sock_words.specs.declared.plain.Plan.{Plan}
-use Rattle.sock_words.specs.Words.{socket_id_slot, vref_version, ticket_generation, UNCONNECTED}
+use Rattle.sock_words.specs.PackedWords.{socket_id_slot, vref_version, ticket_generation, UNCONNECTED}
 use Rattle.seat_programs.specs.sock_io.specs.declared.link.Put.{Put}
 use Rattle.seat_programs.specs.sock_io.specs.declared.link.Put.TheVariants.{Took, Again, Failed}
 use Rattle.sock_model.specs.declared.chain.Entry.{Entry}
@@ -19,14 +19,14 @@ use Rattle.sock_model.specs.declared.home.Home.TheVariants.{Message}
 use Rattle.sock_model.specs.declared.view.View.{View}
 use Rattle.sock_model.specs.declared.view.Hand.{Hand}
 use Rattle.sock_model.specs.Entries.{on}
-use Rattle.sock_model.specs.Weights.{only}
+use Rattle.sock_model.specs.MarkWeights.{only}
 use Rattle.sock_model.specs.SlotRows.{looked}
 use Rattle.sock_model.specs.ChainRows.{with_right, without_right, more, turned_right, placed_right, dropped_right, taken_right, put_right}
-use Rattle.sock_model.specs.Reads.{rights_on}
-use Rattle.sock_steps.specs.slot_steps.proofs.Numbers.{only-at, only-else}
-use Rattle.sock_steps.specs.chain_steps.proofs.Lists.{on_hit, on_miss}
-use Rattle.sock_steps.proofs.Quiet.{either_way}
-use Rattle.seat_programs.specs.Calls.{TableStep, TakeLink, PutLink, LookWord, PutMessage, SwapHead, EmptyHead, ReadNext, ReverseNext, FreeRequest, StorePlace, DropPlace}
+use Rattle.sock_model.specs.ChainLawReads.{rights_on}
+use Rattle.sock_steps.specs.slot_steps.proofs.RuleNumbers.{only-at, only-else}
+use Rattle.sock_steps.specs.chain_steps.proofs.TicketLists.{on_hit, on_miss}
+use Rattle.sock_steps.proofs.SumsAsMarksChange.{either_way}
+use Rattle.seat_programs.specs.TableSteps.{TableStep, TakeLink, PutLink, LookWord, PutMessage, SwapHead, EmptyHead, ReadNext, ReverseNext, FreeRequest, StorePlace, DropPlace}
 use Rattle.seat_programs.specs.Programs.{LAST_GENERATION}
 use Rattle.seat_programs.specs.Cores.{first_of, link_place, homes_after}
 use Rattle.seat_programs.specs.StepTables.{row}
@@ -37,8 +37,8 @@ use Rattle.seat_programs.specs.StepsOfSlots.{looked_clean}
 use Rattle.seat_programs.specs.StepsOfPlaces.{placed_next, dropped_next}
 use Rattle.seat_programs.specs.StepsOfLinks.{link_away, link_home_again, took_bytes}
 use Rattle.seat_programs.specs.StepTables.{May}
-use Rattle.sock_runs.specs.program_steps.specs.Sound.{AreInHand, IsOfRight, AreHeld}
-use Rattle.sock_runs.specs.program_steps.specs.Lasts.{weight, home_weight, is_turning, walk_left}
+use Rattle.sock_runs.specs.program_steps.specs.SoundSeats.{AreInHand, IsOfRight, AreHeld}
+use Rattle.sock_runs.specs.program_steps.specs.TicksLeftAtMost.{weight, home_weight, is_turning, walk_left}
 use Rattle.sock_runs.specs.program_steps.proofs.Leaves.{is_exchange, moves_right, right_way, rights_stay}
 use Rattle.sock_words.specs.Totals.{total}
 

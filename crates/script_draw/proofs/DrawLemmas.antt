@@ -1,7 +1,7 @@
 -- Draws one after another.
 use Rattle.std.proofs.Common.{◌≡◌, ℕ, zero, suc, ◌+◌, ◌-◌, ◌%◌, ◌<◌, List, [], ◌∷◌, ◌++◌, map, refl, ap, sym, ◌∙◌, arith, append_assoc, add-one}
 use Rattle.brpc_model.specs.Items.{Item, Client}
-use Rattle.brpc_model.specs.Drawn.{drawn, drawn_state, draws, state_behind, gen_item, gen_size, gen_operations, gen_draws, gen_clients}
+use Rattle.brpc_model.specs.DrawnSeatsAndScripts.{drawn, drawn_state, draws, state_behind, gen_item, gen_size, gen_operations, gen_draws, gen_clients}
 
 behind_one : (n x : ℕ) → state_behind (suc n) x ≡ drawn_state (state_behind n x)
 behind_one zero x = refl

@@ -6,20 +6,20 @@ use Rattle.std.proofs.lemmas.List.Folds.{list_any-append, list_all-append}
 use Rattle.hex.specs.Hex.{IsBytes}
 use Rattle.brpc_model.specs.Text.{is_name_byte}
 use Rattle.brpc_model.specs.Items.{Item, Shape, Slots, Requests, First, Open, Client, Send, Call, Expire, Join, Fail, Hold, Drop, Sched, Tick, To, is_client, is_open, is_size, is_sched, is_turn, is_operation, mentioned}
-use Rattle.brpc_model.specs.Places.{names, with_names, is_same_size, is_unpaired}
+use Rattle.brpc_model.specs.LinePlaceFaults.{names, with_names, is_same_size, is_unpaired}
 use Rattle.brpc_model.specs.Operations.{slots, requests, first_version, slots_in, requests_in, first_in}
 use Rattle.brpc_model.specs.Script.{script_of, is_lost, may_hang}
 use Rattle.brpc_model.specs.ScriptText.{script_text, printed_items, unless_default, scheduled}
-use Rattle.brpc_model.specs.Drawn.{drawn_state, draws, state_behind, shaped, setup, call_of, gen_item, gen_size, gen_operations, gen_draws, gen_clients, generated}
-use Rattle.brpc_model.proofs.Growing.{fold_more, names_more}
+use Rattle.brpc_model.specs.DrawnSeatsAndScripts.{drawn_state, draws, state_behind, shaped, setup, call_of, gen_item, gen_size, gen_operations, gen_draws, gen_clients, generated}
+use Rattle.brpc_model.proofs.GrowingLineByLine.{fold_more, names_more}
 use Rattle.script_print.specs.PrintedParts.{is_body}
 use Rattle.script_print.proofs.Spaced.{all_kept, all_implied}
-use Rattle.script_print.proofs.Tokens.{IsSpelled, none_bytes}
+use Rattle.script_print.proofs.TokensReadAgain.{IsSpelled, none_bytes}
 use Rattle.script_print.proofs.PartLemmas.{IsName, IsOption}
 use Rattle.script_print.proofs.Shapes.{IsShape}
 use Rattle.script_print.proofs.Formed.{IsFormed, IsMessage}
-use Rattle.script_print.proofs.Placed.{Stands, Stand, stand_append, of_order}
-use Rattle.script_print.proofs.Again.{AreWhole, IsSound, sound_back}
+use Rattle.script_print.proofs.PlacedItems.{Stands, Stand, stand_append, of_order}
+use Rattle.script_print.proofs.PrintedScriptReadAgain.{AreWhole, IsSound, sound_back}
 
 -- ## Its items
 

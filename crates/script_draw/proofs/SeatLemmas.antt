@@ -2,8 +2,8 @@
 use Rattle.std.proofs.Common.{◌≡◌, ℕ, zero, suc, ◌+◌, ◌*◌, ◌%◌, ◌<◌, ◌==◌, false, cond, [], ◌∷◌, ◌++◌, map, length, refl, ap, sym, ◌∙◌, arith, add-one}
 use Rattle.std.proofs.lemmas.Bool.Decides.{nat_tests}
 use Rattle.std.proofs.lemmas.List.{length-map, map-append}
-use Rattle.brpc_model.specs.Drawn.{drawn, drawn_state, draws, state_behind, seat_of, sim_seats_of}
-use Rattle.script_draw.specs.Seats.{seat_count}
+use Rattle.brpc_model.specs.DrawnSeatsAndScripts.{drawn, drawn_state, draws, state_behind, seat_of, sim_seats_of}
+use Rattle.script_draw.specs.DrawnSeats.{seat_count}
 use Rattle.script_draw.proofs.DrawLemmas.{draws_one}
 
 -- where there are none, none is drawn

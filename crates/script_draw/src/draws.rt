@@ -1,5 +1,5 @@
 ghost use Rattle.std.specs.Prelude.{◌≡◌, ◌+◌, ◌%◌, ◌<◌, map, length, IfOk};
-ghost use Rattle.brpc_model.specs.Drawn.{drawn, drawn_state, draws, state_behind};
+ghost use Rattle.brpc_model.specs.DrawnSeatsAndScripts.{drawn, drawn_state, draws, state_behind};
 
 use std::alloc::{AllocError, Global};
 

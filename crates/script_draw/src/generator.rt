@@ -1,9 +1,9 @@
 ghost use Rattle.std.specs.Prelude.{◌≡◌, ◌++◌, ◌∷◌, [], ◌*◌, ◌^◌, ◌<◌, ◌≤◌, map, IfOk, OnOk};
-ghost use Rattle.brpc_model.specs.Drawn.{call_of, gen_item, gen_size, gen_operations, gen_draws, generated, setup, shaped, state_behind};
+ghost use Rattle.brpc_model.specs.DrawnSeatsAndScripts.{call_of, gen_item, gen_size, gen_operations, gen_draws, generated, setup, shaped, state_behind};
 ghost use Rattle.brpc_model.specs.Items as model;
 ghost use Rattle.brpc_model.specs.Script.{script_of};
 ghost use Rattle.brpc_model.specs.ScriptText.{script_text};
-ghost use Rattle.script_items.specs.Meaning.{item};
+ghost use Rattle.script_items.specs.LineMeaning.{item};
 
 use crate::draws::Draws;
 use script_items::{CallLine, Line, Name, Names, OpenLine, SendLine};

@@ -1,6 +1,6 @@
 ghost use Rattle.std.specs.Prelude.{◌≡◌, ◌+◌, ◌%◌, ◌<◌, ◌≤◌};
-ghost use Rattle.brpc_model.specs.Drawn.{drawn, drawn_state, seat_of};
-ghost use Rattle.script_draw.specs.Seats.{seat_count};
+ghost use Rattle.brpc_model.specs.DrawnSeatsAndScripts.{drawn, drawn_state, seat_of};
+ghost use Rattle.script_draw.specs.DrawnSeats.{seat_count};
 
 use crate::draws::Draws;
 use std::marker::Model;
@@ -20,7 +20,7 @@ pub struct DrawnSeats {
 
 impl Model for DrawnSeats {
     ghost use Rattle.std.specs.Prelude.{◌≤◌};
-    ghost use Rattle.script_draw.specs.Seats.{SeatDraws};
+    ghost use Rattle.script_draw.specs.DrawnSeats.{SeatDraws};
 
     ghost Value = { SeatDraws };
 

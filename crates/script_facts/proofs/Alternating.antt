@@ -6,16 +6,16 @@ use Rattle.std.proofs.lemmas.Slice.Eq.{bytes_eq-Decides}
 use Rattle.std.specs.List.{list_any, cons_option}
 use Rattle.brpc_model.specs.Items.{Item, Open, Client, Send, Call, Expire, Join, Fail, Hold, Drop, is_client, is_open, is_operation, is_size, is_sched, is_turn, mentioned}
 use Rattle.brpc_model.specs.Operations.{Operation, operations_from}
-use Rattle.brpc_model.specs.Places.{is_same_size, is_held, held_behind}
-use Rattle.brpc_model.proofs.Growing.{is_held_more}
+use Rattle.brpc_model.specs.LinePlaceFaults.{is_same_size, is_held, held_behind}
+use Rattle.brpc_model.proofs.GrowingLineByLine.{is_held_more}
 use Rattle.seat_programs.specs.declared.task.Op.{Op}
 use Rattle.seat_programs.specs.declared.task.Op.TheVariants as ops
 use Rattle.seat_programs.specs.declared.task.Task.{Task}
 use Rattle.seat_programs.specs.Tasks.{Numbered, numbered_from, of_client, op_of, task_of, name_number}
-use Rattle.seat_programs.specs.Told.{goes_well, in_hand_behind, alternate}
-use Rattle.script_facts.proofs.Lists.{or_parts, Has, has_first, has_later, some_is}
-use Rattle.script_facts.proofs.Numbering.{behind_item}
-use Rattle.script_facts.proofs.Reading.{IsPlaced, ArePlaced}
+use Rattle.seat_programs.specs.Explained.{goes_well, in_hand_behind, alternate}
+use Rattle.script_facts.proofs.FilteredLists.{or_parts, Has, has_first, has_later, some_is}
+use Rattle.script_facts.proofs.OperationNumbering.{behind_item}
+use Rattle.script_facts.proofs.ReadScriptFacts.{IsPlaced, ArePlaced}
 
 -- ## The setup
 

@@ -2,10 +2,10 @@
 use Rattle.std.proofs.Common.{◌≡◌, ℕ, ◌+◌, ◌≤◌, ◌&&◌, ◌==◌, leb, Bool, true, false, List, [], ◌∷◌, length, Ok, Err, IfOk, if◌then◌else◌, refl, arith, codes}
 use Rattle.std.proofs.lemmas.Grind.{common_steps}
 use Rattle.std.specs.List.{slice_split, before_last, after_last}
-use Rattle.brpc_model.specs.Reads.{Reads, ◌<*>◌, option_in, values_of}
+use Rattle.brpc_model.specs.LinePartReads.{Reads, ◌<*>◌, option_in, values_of}
 use Rattle.brpc_model.specs.Text.{number_in, name_in, method_in, service_in, hex_in}
 use Rattle.brpc_model.specs.Items.{CallLine}
-use Rattle.brpc_model.specs.Lines.{names_in, bodies_in, call_in}
+use Rattle.brpc_model.specs.ScriptLineFaults.{names_in, bodies_in, call_in}
 
 abbrev pub AreNames : List (List ℕ) → Type 0
 AreNames ns = (1 ≤ length ns) × (length ns ≤ 2)

@@ -5,13 +5,13 @@ use Rattle.std.specs.Prelude.{slice_index}
 use Rattle.std.specs.List.{AllByRecursion}
 use Rattle.brpc_model.specs.Items.{Item, CallLine, Call}
 use Rattle.brpc_model.specs.Operations.{operations}
-use Rattle.brpc_model.specs.Places.{names}
+use Rattle.brpc_model.specs.LinePlaceFaults.{names}
 use Rattle.seat_programs.specs.Tasks.{name_number, asked_of, plan_of}
-use Rattle.seat_programs.specs.Told.{AskedFits}
-use Rattle.script_facts.proofs.Lists.{Has, all_at, has_first, has_later}
-use Rattle.script_facts.proofs.Names.{number_within, mentioned_has}
-use Rattle.script_facts.proofs.Frames.{frame_short}
-use Rattle.script_facts.proofs.Reading.{InRange}
+use Rattle.seat_programs.specs.Explained.{AskedFits}
+use Rattle.script_facts.proofs.FilteredLists.{Has, all_at, has_first, has_later}
+use Rattle.script_facts.proofs.NameNumbers.{number_within, mentioned_has}
+use Rattle.script_facts.proofs.CallFrameSizes.{frame_short}
+use Rattle.script_facts.proofs.ReadScriptFacts.{InRange}
 
 -- each of these names is one of those
 mapped_within : (ns xs : List (List ℕ)) → ((x : List ℕ) → Has xs x → Has ns x) → (i : ℕ) → i < length xs → slice_index (map (name_number ns) xs) i < length ns

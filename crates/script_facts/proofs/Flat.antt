@@ -5,8 +5,8 @@ use Rattle.std.proofs.lemmas.List.Sums.{sum_by-cons}
 use Rattle.std.proofs.lemmas.List.{length-append}
 use Rattle.std.specs.List.{AllByRecursion}
 use Rattle.brpc_model.specs.Order.{EachBefore}
-use Rattle.seat_programs.specs.Runs.{from_to}
-use Rattle.script_facts.proofs.Lists.{Has, has_first, has_later, has_none, some_is, all_from}
+use Rattle.seat_programs.specs.ScheduledRuns.{from_to}
+use Rattle.script_facts.proofs.FilteredLists.{Has, has_first, has_later, has_none, some_is, all_from}
 
 -- ## Equal lists
 

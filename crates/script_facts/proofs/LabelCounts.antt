@@ -6,10 +6,10 @@ use Rattle.std.specs.List.{AllByRecursion}
 use Rattle.brpc_model.specs.Items.{Item, attempts_of}
 use Rattle.brpc_model.specs.Operations.{Operation, operations_from, operations, attempts}
 use Rattle.brpc_model.specs.Order.{EachBefore}
-use Rattle.seat_programs.specs.ToldCalls.{Accepted, label}
-use Rattle.script_facts.proofs.Lists.{Has, some_is, all_from}
-use Rattle.script_facts.proofs.Counting.{tally, HasPlace, places}
-use Rattle.script_facts.proofs.Numbering.{behind_item}
+use Rattle.seat_programs.specs.ExplainedCalls.{Accepted, label}
+use Rattle.script_facts.proofs.FilteredLists.{Has, some_is, all_from}
+use Rattle.script_facts.proofs.CountingPlaces.{tally, HasPlace, places}
+use Rattle.script_facts.proofs.OperationNumbering.{behind_item}
 
 -- ## Tallies
 

@@ -7,8 +7,8 @@ use Rattle.brpc_model.specs.Items.{Item, Expire, Join, is_open, is_call}
 use Rattle.brpc_model.specs.Operations.{Operation, operations_from, operations}
 use Rattle.brpc_model.specs.Script.{Faulty, items, with_line, whole, fault_at, says, is_lost, may_hang, is_the_call, script_of}
 use Rattle.seat_programs.specs.Tasks.{numbered, numbered_from, number_of}
-use Rattle.script_facts.proofs.Lists.{Has, has_first, has_later, has_none, some_is, filter_map_has}
-use Rattle.script_facts.proofs.Numbering.{behind_item}
+use Rattle.script_facts.proofs.FilteredLists.{Has, has_first, has_later, has_none, some_is, filter_map_has}
+use Rattle.script_facts.proofs.OperationNumbering.{behind_item}
 
 -- ## By client and number
 

@@ -5,17 +5,17 @@ use Rattle.std.proofs.lemmas.Option.{slice_get_within}
 use Rattle.sock_words.specs.declared.outcome.Outcome.{Outcome}
 use Rattle.brpc_model.specs.Items.{Item, Open, Send, Call, Expire, Join, Fail, Hold, Drop, CallLine, Shape, is_operation, mentioned, opened_name}
 use Rattle.brpc_model.specs.Operations.{Operation, operations, clients, link_names}
-use Rattle.brpc_model.specs.Places.{names}
+use Rattle.brpc_model.specs.LinePlaceFaults.{names}
 use Rattle.seat_programs.specs.declared.task.Op.{Op}
 use Rattle.seat_programs.specs.declared.task.Op.TheVariants as ops
 use Rattle.seat_programs.specs.declared.task.Task.{Task}
 use Rattle.seat_programs.specs.sock_message.specs.Asked.{Asked}
 use Rattle.seat_programs.specs.Tasks.{Numbered, numbered, of_client, op_of, task_of, tasks, name_number, number_of, asked_of}
-use Rattle.seat_programs.specs.Scripts.{tasks_from, all_tasks}
-use Rattle.seat_programs.specs.Told.{IsTask}
-use Rattle.script_facts.proofs.Lists.{Has, has_first, has_later, has_from, contains_from, some_is, filter_has, has_filter, filter_map_has, has_filter_map}
-use Rattle.script_facts.proofs.Names.{mentioned_has}
-use Rattle.script_facts.proofs.Numbering.{link_at, is_numbered, numbered_at, are_from, opened_by, names_of_operations, link_name_at}
+use Rattle.seat_programs.specs.ScriptSetupToEnding.{tasks_from, all_tasks}
+use Rattle.seat_programs.specs.Explained.{IsTask}
+use Rattle.script_facts.proofs.FilteredLists.{Has, has_first, has_later, has_from, contains_from, some_is, filter_has, has_filter, filter_map_has, has_filter_map}
+use Rattle.script_facts.proofs.NameNumbers.{mentioned_has}
+use Rattle.script_facts.proofs.OperationNumbering.{link_at, is_numbered, numbered_at, are_from, opened_by, names_of_operations, link_name_at}
 
 -- ## Which client's tasks
 

@@ -3,12 +3,12 @@ use Rattle.std.proofs.Common.{◌≡◌, ◌∙◌, ap, ℕ, List, [], ◌∷◌
 use Rattle.sock_words.specs.declared.kind.Kind.{Kind}
 use Rattle.sock_words.specs.KindText.{kind_text}
 use Rattle.brpc_model.specs.Items.{Item, To}
-use Rattle.brpc_model.specs.Reads.{◌<*>◌}
-use Rattle.brpc_model.specs.Lines.{seat_in, kind_in, to_item}
+use Rattle.brpc_model.specs.LinePartReads.{◌<*>◌}
+use Rattle.brpc_model.specs.ScriptLineFaults.{seat_in, kind_in, to_item}
 use Rattle.script_items.specs.declared.fault.LineFault.{LineFault}
 use Rattle.script_items.specs.declared.line.Seat.{Seat}
-use Rattle.script_items.specs.Answers.{Answers, both_of}
-use Rattle.script_items.specs.Meaning.{seat_of}
+use Rattle.script_items.specs.PartReaderAnswers.{Answers, both_of}
+use Rattle.script_items.specs.LineMeaning.{seat_of}
 
 -- a seat and a kind of step that were both read
 pub to_read : (before : List Item) (words : List (List ℕ)) (seat kind : List ℕ) (s : Seat) (k : Kind) (one : Result Seat LineFault) (other : Result Kind LineFault) →

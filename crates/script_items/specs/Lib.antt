@@ -1,7 +1,7 @@
 pub mod NameList
-pub mod Meaning
-pub mod Answers
-pub mod Words
-pub mod Parts
+pub mod LineMeaning
+pub mod PartReaderAnswers
+pub mod FollowingLineWords
+pub mod LineParts
 pub mod Options
-pub mod Calls
+pub mod CallBodies

@@ -1,7 +1,7 @@
 -- The options of the lines that have some.
 use Rattle.std.specs.Prelude.{◌≡◌, ℕ, List, [], ◌∷◌, codes, Option, Some, Ok}
 use Rattle.brpc_model.specs.Text.{number_in}
-use Rattle.brpc_model.specs.Reads.{Reads, ◌<*>◌}
+use Rattle.brpc_model.specs.LinePartReads.{Reads, ◌<*>◌}
 use Rattle.script_items.specs.declared.options.Command.{Command}
 use Rattle.script_items.specs.declared.options.Command.TheVariants.{Open, Call}
 

@@ -2,10 +2,10 @@ ghost use Rattle.std.specs.Prelude.{◌≡◌, ◌==◌, ℕ};
 ghost use Rattle.std.specs.List.{slice_split};
 ghost use Rattle.brpc_model.specs.Text.{words};
 ghost use Rattle.brpc_model.specs.Items.{Item};
-ghost use Rattle.brpc_model.specs.Lines.{names_in, call_in, target_in};
-ghost use Rattle.script_items.specs.Answers.{Answers};
-ghost use Rattle.script_items.specs.Meaning.{call_of};
-ghost use Rattle.script_items.specs.Calls.{bodies_of};
+ghost use Rattle.brpc_model.specs.ScriptLineFaults.{names_in, call_in, target_in};
+ghost use Rattle.script_items.specs.PartReaderAnswers.{Answers};
+ghost use Rattle.script_items.specs.LineMeaning.{call_of};
+ghost use Rattle.script_items.specs.CallBodies.{bodies_of};
 
 use crate::fault::{BAD_LENGTH, BAD_NAME, BAD_NUMBER, BAD_WORDS, LineFault, both};
 use crate::line::{CallLine, Target};

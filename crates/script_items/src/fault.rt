@@ -1,5 +1,5 @@
 ghost use Rattle.std.specs.Prelude.{◌≡◌};
-ghost use Rattle.script_items.specs.Answers.{both_of, lower_of};
+ghost use Rattle.script_items.specs.PartReaderAnswers.{both_of, lower_of};
 
 use std::alloc::AllocError;
 

@@ -1,9 +1,9 @@
 ghost use Rattle.std.specs.Prelude.{ℕ, List};
 ghost use Rattle.brpc_model.specs.Text.{words};
 ghost use Rattle.brpc_model.specs.Items.{Item};
-ghost use Rattle.brpc_model.specs.Lines.{shape_in, of_name, of_number, first_item, open_item, send_item, call_item, target_item, fail_item, tick_item, to_item, alone};
-ghost use Rattle.script_items.specs.Answers.{Answers, Behind};
-ghost use Rattle.script_items.specs.Meaning.{item};
+ghost use Rattle.brpc_model.specs.ScriptLineFaults.{shape_in, of_name, of_number, first_item, open_item, send_item, call_item, target_item, fail_item, tick_item, to_item, alone};
+ghost use Rattle.script_items.specs.PartReaderAnswers.{Answers, Behind};
+ghost use Rattle.script_items.specs.LineMeaning.{item};
 
 use crate::calls::{read_call, read_target};
 use crate::fault::{BAD_NUMBER, BAD_WORDS, LineFault, both};

@@ -1,11 +1,11 @@
 ghost use Rattle.std.specs.Prelude.{◌≡◌, ◌≤◌, ◌&&◌, ◌||◌, ◌==◌, if◌then◌else◌, nat_le, length, Ok, Err};
 ghost use Rattle.std.specs.List.{list_all};
 ghost use Rattle.brpc_model.specs.Text.{has_bytes, is_name_byte, name_in, method_in, service_in, hex_in};
-ghost use Rattle.brpc_model.specs.Lines.{kind_in, seat_in};
+ghost use Rattle.brpc_model.specs.ScriptLineFaults.{kind_in, seat_in};
 ghost use Rattle.sock_words.specs.KindText.{kind_text};
-ghost use Rattle.script_items.specs.Answers.{Answers, Behind};
-ghost use Rattle.script_items.specs.Meaning.{seat_of};
-ghost use Rattle.script_items.specs.Parts.{message_in, reader_in, client_in};
+ghost use Rattle.script_items.specs.PartReaderAnswers.{Answers, Behind};
+ghost use Rattle.script_items.specs.LineMeaning.{seat_of};
+ghost use Rattle.script_items.specs.LineParts.{message_in, reader_in, client_in};
 
 use crate::fault::{BAD_HEX, BAD_LENGTH, BAD_NAME, BAD_NUMBER, LineFault};
 use crate::line::{Name, Seat};

@@ -1,10 +1,10 @@
 ghost use Rattle.std.specs.Prelude.{◌≡◌, ◌∷◌, option_map};
 ghost use Rattle.std.specs.List.{list_all};
 ghost use Rattle.brpc_model.specs.Text.{words};
-ghost use Rattle.brpc_model.specs.Lines.{item_of, operation_item, later_item, line_item, is_text_byte};
-ghost use Rattle.script_items.specs.Answers.{Answers, Behind};
-ghost use Rattle.script_items.specs.Meaning.{item};
-ghost use Rattle.script_items.specs.Words.{says_nothing};
+ghost use Rattle.brpc_model.specs.ScriptLineFaults.{item_of, operation_item, later_item, line_item, is_text_byte};
+ghost use Rattle.script_items.specs.PartReaderAnswers.{Answers, Behind};
+ghost use Rattle.script_items.specs.LineMeaning.{item};
+ghost use Rattle.script_items.specs.FollowingLineWords.{says_nothing};
 
 use crate::fault::{BAD_BYTE, LineFault, UNKNOWN_WORD};
 use crate::forms::{

@@ -1,7 +1,7 @@
 ghost use Rattle.std.specs.Prelude.{◌≡◌, map};
 ghost use Rattle.brpc_model.specs.Items.{is_call, is_client, is_open, is_operation};
 ghost use Rattle.brpc_model.specs.Operations.{slots, requests, first_version};
-ghost use Rattle.script_items.specs.Meaning.{item};
+ghost use Rattle.script_items.specs.LineMeaning.{item};
 
 use crate::line::Line;
 

@@ -2,7 +2,7 @@ ghost use Rattle.std.specs.Prelude.{◌≡◌, ◌<◌, ◌≤◌, ◌+◌, ◌-
 ghost use Rattle.std.specs.List.{slice_split, suffix_len, before_last, after_last};
 ghost use Rattle.brpc_model.specs.Text.{words};
 ghost use Rattle.script_items.specs.declared.fault.LineFault.TheVariants as faults;
-ghost use Rattle.script_items.specs.Words.{HasFirst};
+ghost use Rattle.script_items.specs.FollowingLineWords.{HasFirst};
 
 use crate::fault::{BAD_WORDS, LineFault};
 

@@ -1,5 +1,5 @@
 ghost use Rattle.std.specs.Prelude.{◌≡◌, ◌++◌, decimal, OnOk};
-ghost use Rattle.sock_words.specs.Printed.{word, hex_text};
+ghost use Rattle.sock_words.specs.PrintedWords.{word, hex_text};
 
 use itoa::Buffer;
 use std::alloc::{AllocError, Global};

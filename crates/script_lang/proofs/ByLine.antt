@@ -6,11 +6,11 @@ use Rattle.std.specs.Prelude.{option_map}
 use Rattle.std.specs.List.{AllByRecursion, cons_option}
 use Rattle.brpc_model.specs.Items.{Item, Slots, Requests, First, Client, Open, Send, Call, Expire, Join, Fail, Hold, Drop, Sched, Tick, To, is_client, is_operation, is_open, is_call}
 use Rattle.brpc_model.specs.Operations.{Operation, operations_from, clients}
-use Rattle.brpc_model.specs.Places.{names}
+use Rattle.brpc_model.specs.LinePlaceFaults.{names}
 use Rattle.seat_programs.specs.declared.task.Op.{Op}
 use Rattle.seat_programs.specs.declared.task.Task.{Task}
 use Rattle.seat_programs.specs.Tasks.{Numbered, numbered_from, numbered, of_client, op_of, task_of, tasks, opens, calls}
-use Rattle.seat_programs.specs.Scripts.{tasks_from, all_tasks}
+use Rattle.seat_programs.specs.ScriptSetupToEnding.{tasks_from, all_tasks}
 use Rattle.script_lang.specs.TasksByLine.{IsShort, numbered_as, task_at, tasks_along, numbers_along}
 
 -- ## The tasks of clients among numbered operations

@@ -7,11 +7,11 @@ use Rattle.std.specs.List.{list_any, cons_option}
 use Rattle.std.specs.Option.{option_or}
 use Rattle.brpc_model.specs.Items.{Item, Slots, Requests, First, Client, Open, Send, Call, Expire, Join, Fail, Hold, Drop, Sched, Tick, To, is_client, is_open, is_call, is_size, is_sched, is_turn, is_operation, mentioned}
 use Rattle.brpc_model.specs.Operations.{slots_in, requests_in, first_in}
-use Rattle.brpc_model.specs.Places.{is_misplaced, is_too_many, is_same_size, with_names, names}
+use Rattle.brpc_model.specs.LinePlaceFaults.{is_misplaced, is_too_many, is_same_size, with_names, names}
 use Rattle.brpc_model.specs.Script.{is_unserved}
-use Rattle.brpc_model.proofs.Growing.{fold_more, names_more}
+use Rattle.brpc_model.proofs.GrowingLineByLine.{fold_more, names_more}
 use Rattle.script_lang.specs.declared.counts.Counts.{Counts}
-use Rattle.script_lang.specs.Counting.{given, counts_of, counted, or_now, and_one, IsWithinLimits, is_given, stands_wrong, is_one_too_many}
+use Rattle.script_lang.specs.CountedLines.{given, counts_of, counted, or_now, and_one, IsWithinLimits, is_given, stands_wrong, is_one_too_many}
 
 -- ## How the counts grow
 

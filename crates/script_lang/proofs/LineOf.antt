@@ -6,7 +6,7 @@ use Rattle.std.specs.Option.{option_and_then, option_to_list}
 use Rattle.brpc_model.specs.Items.{Item, Expire, Join}
 use Rattle.brpc_model.specs.Script.{says}
 use Rattle.script_lang.specs.declared.uses.CallUse.{CallUse}
-use Rattle.script_lang.specs.Used.{use_of, uses_from}
+use Rattle.script_lang.specs.CallsUsedByLines.{use_of, uses_from}
 
 -- one more line
 pub uses_more : (line : ℕ) (said : List (Option Item)) (one : Option Item) → uses_from line (said ++ one ∷ []) ≡ uses_from line said ++ option_to_list (option_and_then (use_of (line + length said)) one)

@@ -3,7 +3,7 @@ use Rattle.std.proofs.Common.{◌≡◌, ℕ, suc, ◌+◌, ◌<◌, List, [], �
 use Rattle.std.proofs.Math.Seq.{drop-cons}
 use Rattle.std.proofs.lemmas.List.{map_more}
 use Rattle.script_items.specs.declared.line.Line.{Line}
-use Rattle.script_items.specs.Meaning.{item}
+use Rattle.script_items.specs.LineMeaning.{item}
 
 -- what the lines from a place on say
 pub line_step : (lines : List Line) (i : ℕ) (line : Line) → i < length lines → line ≡ get_or lines i line → map item (drop i lines) ≡ item line ∷ map item (drop (i + 1) lines)

@@ -3,12 +3,12 @@ use Rattle.std.proofs.Common.{◌≡◌, ℕ, ◌+◌, Bool, true, false, not, �
 use Rattle.brpc_model.specs.Items.{Item, Client, Open, Call, is_client, is_size, is_sched, is_turn, is_operation, is_open, is_call}
 use Rattle.seat_programs.specs.Tasks.{opens, calls}
 use Rattle.script_lang.specs.declared.counts.Counts.{Counts}
-use Rattle.script_lang.specs.Counting.{and_one}
-use Rattle.script_lang.specs.Numbers.{begins_along, and_number, numbers_of, numbers_behind}
+use Rattle.script_lang.specs.CountedLines.{and_one}
+use Rattle.script_lang.specs.OperationNumbers.{begins_along, and_number, numbers_of, numbers_behind}
 use Rattle.script_lang.specs.TasksByLine.{numbers_along}
 use Rattle.script_lang.proofs.ByLine.{opens_are, calls_are}
 use Rattle.script_lang.proofs.Judged.{counts_more}
-use Rattle.script_lang.proofs.Starts.{total_along, total_is, flags}
+use Rattle.script_lang.proofs.OperationOfClientIndex.{total_along, total_is, flags}
 
 -- ## The numbers behind one more item
 

@@ -6,7 +6,7 @@ use Rattle.sock_words.specs.declared.plain.Plan.{Plan}
 use Rattle.corr_core.specs.declared.marks.Plan.{Plan as IdPlan}
 use Rattle.brpc_model.specs.Items.{Item, is_call, is_operation}
 use Rattle.brpc_model.specs.Operations.{operations, clients, link_names, slots, requests, first_version}
-use Rattle.brpc_model.specs.Places.{names}
+use Rattle.brpc_model.specs.LinePlaceFaults.{names}
 use Rattle.seat_programs.specs.Tasks.{calls, id_plan_of, plan_of}
 use Rattle.script_lang.specs.TasksByLine.{numbers_along}
 use Rattle.script_lang.proofs.ByLine.{calls_are}

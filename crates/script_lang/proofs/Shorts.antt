@@ -4,8 +4,8 @@ use Rattle.std.proofs.lemmas.List.{length-map}
 use Rattle.std.specs.List.{AllByRecursion}
 use Rattle.brpc_model.specs.Items.{Item, Call, CallLine}
 use Rattle.script_facts.proofs.CallLines.{CallInRange}
-use Rattle.script_facts.proofs.Reading.{InRange}
-use Rattle.sock_message.specs.Inside.{KeepsLimits}
+use Rattle.script_facts.proofs.ReadScriptFacts.{InRange}
+use Rattle.sock_message.specs.InsideMessages.{KeepsLimits}
 use Rattle.seat_programs.specs.Tasks.{name_number, asked_of}
 use Rattle.script_lang.specs.TasksByLine.{IsShort}
 

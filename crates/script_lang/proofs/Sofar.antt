@@ -2,14 +2,14 @@
 use Rattle.std.proofs.Common.{◌≡◌, ◌+◌, ◌≤◌, ◌<◌, ℕ, List, Option, [], ◌∷◌, length, fold, Ok, Err, Result, ap, sym, ◌∙◌, subst, arith}
 use Rattle.std.proofs.lemmas.List.{length-append}
 use Rattle.std.specs.Str.Lines.{lines}
-use Rattle.brpc_model.specs.Reads.{Reads}
+use Rattle.brpc_model.specs.LinePartReads.{Reads}
 use Rattle.brpc_model.specs.Items.{Item}
 use Rattle.brpc_model.specs.Script.{Faulty, items, one_more, said_behind, with_line, whole, script_of}
-use Rattle.brpc_model.proofs.Growing.{stays}
+use Rattle.brpc_model.proofs.GrowingLineByLine.{stays}
 use Rattle.script_lang.specs.declared.error.ScriptError.{ScriptError}
 use Rattle.script_lang.specs.declared.error.ScriptError.TheVariants.{Fault}
 use Rattle.script_lang.specs.declared.reader.Reader.{Reader}
-use Rattle.script_lang.specs.Known.{Knows, LineIs}
+use Rattle.script_lang.specs.KnownLines.{Knows, LineIs}
 
 -- the reader read what is before the rest
 pub record Sofar (text rest : List ℕ) (reader : Reader) : Type 0 where

@@ -1,5 +1,5 @@
-pub mod Counting
-pub mod Numbers
-pub mod Used
-pub mod Known
+pub mod CountedLines
+pub mod OperationNumbers
+pub mod CallsUsedByLines
+pub mod KnownLines
 pub mod TasksByLine

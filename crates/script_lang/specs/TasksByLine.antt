@@ -1,11 +1,11 @@
 -- Tasks, `open`s and calls, line by line.
 use Rattle.std.specs.Prelude.{◌≡◌, ℕ, ◌+◌, Bool, if◌then◌else◌, List, [], ◌∷◌, ◌++◌, option_map, option_to_list, unwrap_or}
 use Rattle.brpc_model.specs.Items.{Item, Call, is_client, is_operation, is_open}
-use Rattle.sock_message.specs.Inside.{KeepsLimits}
+use Rattle.sock_message.specs.InsideMessages.{KeepsLimits}
 use Rattle.seat_programs.specs.declared.task.Op.{Op}
 use Rattle.seat_programs.specs.declared.task.Task.{Task}
 use Rattle.seat_programs.specs.Tasks.{Numbered, number_of, asked_of, op_of}
-use Rattle.script_lang.specs.Numbers.{Numbers, operation_in}
+use Rattle.script_lang.specs.OperationNumbers.{Numbers, operation_in}
 
 -- an item as an operation of this number; for an `open` with the number of its link
 abbrev pub numbered_as : ℕ → ℕ → Item → Numbered

@@ -1,6 +1,6 @@
 ghost use Rattle.std.specs.Prelude.{◌≡◌};
-ghost use Rattle.script_items.specs.Meaning.{item};
-ghost use Rattle.script_lang.specs.Counting.{no_counts, counted, stands_wrong, is_one_too_many, IsWithinLimits};
+ghost use Rattle.script_items.specs.LineMeaning.{item};
+ghost use Rattle.script_lang.specs.CountedLines.{no_counts, counted, stands_wrong, is_one_too_many, IsWithinLimits};
 
 use script_items::Line;
 

@@ -1,8 +1,8 @@
 ghost use Rattle.std.specs.Prelude.{◌≡◌, ℕ, List, bytes_eq, OnOk};
 ghost use Rattle.std.specs.List.{list_any};
 ghost use Rattle.brpc_model.specs.Items.{Item};
-ghost use Rattle.brpc_model.specs.Places.{is_held, held_behind, is_unpaired};
-ghost use Rattle.script_items.specs.Meaning.{item};
+ghost use Rattle.brpc_model.specs.LinePlaceFaults.{is_held, held_behind, is_unpaired};
+ghost use Rattle.script_items.specs.LineMeaning.{item};
 
 use crate::names::NameList;
 use script_items::Line;

@@ -1,8 +1,8 @@
 ghost use Rattle.std.specs.Prelude.{◌≡◌, ◌≤◌, not, [], ◌∷◌, filter, length, map, bytes_eq, IfOk, OnOk, OnErr};
 ghost use Rattle.std.specs.List.{list_any};
 ghost use Rattle.brpc_model.specs.Items.{mentioned};
-ghost use Rattle.brpc_model.specs.Places.{with_names};
-ghost use Rattle.script_items.specs.Meaning.{item};
+ghost use Rattle.brpc_model.specs.LinePlaceFaults.{with_names};
+ghost use Rattle.script_items.specs.LineMeaning.{item};
 ghost use Rattle.seat_programs.specs.Tasks.{name_number};
 
 use script_items::{Line, Name, Names};

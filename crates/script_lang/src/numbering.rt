@@ -1,6 +1,6 @@
 ghost use Rattle.std.specs.Prelude.{◌≡◌, ◌+◌, ◌-◌, ◌<◌, ◌∷◌, ◌++◌, [], true, false, unwrap_or, OnOk};
-ghost use Rattle.script_items.specs.Meaning.{item};
-ghost use Rattle.script_lang.specs.Numbers.{no_numbers, numbers_behind, end_of, start_of, operation_in, has_call};
+ghost use Rattle.script_items.specs.LineMeaning.{item};
+ghost use Rattle.script_lang.specs.OperationNumbers.{no_numbers, numbers_behind, end_of, start_of, operation_in, has_call};
 
 use script_items::{Line, Target};
 use std::alloc::{AllocError, Global};
@@ -24,7 +24,7 @@ pub struct Numbering {
 }
 
 impl Model for Numbering {
-    ghost use Rattle.script_lang.specs.Numbers.{Numbers};
+    ghost use Rattle.script_lang.specs.OperationNumbers.{Numbers};
 
     ghost Value = { Numbers };
 

@@ -1,10 +1,10 @@
 ghost use Rattle.std.specs.Prelude.{◌≡◌, ◌+◌, ◌^◌, ◌<◌, ◌||◌, false, nat_lt, List, [], length, Option, OnOk};
 ghost use Rattle.brpc_model.specs.Items.{Item, mentioned};
-ghost use Rattle.brpc_model.specs.Places.{with_names};
+ghost use Rattle.brpc_model.specs.LinePlaceFaults.{with_names};
 ghost use Rattle.brpc_model.specs.Script.{with_line, whole};
-ghost use Rattle.script_items.specs.Meaning.{item};
-ghost use Rattle.script_lang.specs.Counting.{IsWithinLimits, is_one_too_many};
-ghost use Rattle.script_lang.specs.Known.{Knows, Keeps, Notes, HasNames, FaultIs, JudgedIs, PlaceIs, LineIs, WholeIs};
+ghost use Rattle.script_items.specs.LineMeaning.{item};
+ghost use Rattle.script_lang.specs.CountedLines.{IsWithinLimits, is_one_too_many};
+ghost use Rattle.script_lang.specs.KnownLines.{Knows, Keeps, Notes, HasNames, FaultIs, JudgedIs, PlaceIs, LineIs, WholeIs};
 
 use crate::counts::Counts;
 use crate::error::ScriptError;

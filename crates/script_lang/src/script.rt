@@ -1,10 +1,10 @@
 ghost use Rattle.std.specs.Prelude.{◌≡◌, ℕ, List, Ok, map, IfOk};
-ghost use Rattle.brpc_model.specs.Places as model;
+ghost use Rattle.brpc_model.specs.LinePlaceFaults as model;
 ghost use Rattle.brpc_model.specs.Script.{script_of};
 ghost use Rattle.brpc_model.specs.Limits.{KeepsLimits};
-ghost use Rattle.script_items.specs.Meaning.{item};
-ghost use Rattle.script_lang.specs.Counting.{counts_of};
-ghost use Rattle.script_lang.specs.Numbers.{numbers_of};
+ghost use Rattle.script_items.specs.LineMeaning.{item};
+ghost use Rattle.script_lang.specs.CountedLines.{counts_of};
+ghost use Rattle.script_lang.specs.OperationNumbers.{numbers_of};
 ghost use Rattle.seat_programs.specs.Tasks.{calls, id_plan_of, opens, plan_of};
 
 use crate::counts::Counts;
@@ -34,10 +34,10 @@ pub struct Script {
 impl Model for Script {
     ghost use Rattle.std.specs.Prelude.{◌≡◌, List, map};
     ghost use Rattle.brpc_model.specs.Items.{Item};
-    ghost use Rattle.brpc_model.specs.Places as model;
-    ghost use Rattle.script_items.specs.Meaning.{item};
-    ghost use Rattle.script_lang.specs.Counting.{counts_of};
-    ghost use Rattle.script_lang.specs.Numbers.{numbers_of};
+    ghost use Rattle.brpc_model.specs.LinePlaceFaults as model;
+    ghost use Rattle.script_items.specs.LineMeaning.{item};
+    ghost use Rattle.script_lang.specs.CountedLines.{counts_of};
+    ghost use Rattle.script_lang.specs.OperationNumbers.{numbers_of};
 
     ghost Value = { List Item };
 

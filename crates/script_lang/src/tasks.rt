@@ -1,12 +1,12 @@
 ghost use Rattle.std.specs.Prelude.{◌≡◌, ◌≤◌, ◌++◌, [], List, length, map, IfOk, OnOk};
 ghost use Rattle.std.specs.List.{AllByRecursion};
-ghost use Rattle.brpc_model.specs.Places as model;
-ghost use Rattle.script_items.specs.Meaning.{item, call_of};
+ghost use Rattle.brpc_model.specs.LinePlaceFaults as model;
+ghost use Rattle.script_items.specs.LineMeaning.{item, call_of};
 ghost use Rattle.seat_programs.specs.Tasks.{Numbered, asked_of, op_of};
-ghost use Rattle.seat_programs.specs.Scripts.{all_tasks};
-ghost use Rattle.sock_message.specs.Inside.{KeepsLimits as IsWithinLimits};
+ghost use Rattle.seat_programs.specs.ScriptSetupToEnding.{all_tasks};
+ghost use Rattle.sock_message.specs.InsideMessages.{KeepsLimits as IsWithinLimits};
 ghost use Rattle.brpc_model.specs.Limits.{KeepsLimits};
-ghost use Rattle.script_lang.specs.Numbers.{numbers_of};
+ghost use Rattle.script_lang.specs.OperationNumbers.{numbers_of};
 ghost use Rattle.script_lang.specs.TasksByLine.{AreNumbersOf, IsShort, numbered_as, task_at};
 
 use crate::names::NameList;

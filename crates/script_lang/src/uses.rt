@@ -1,8 +1,8 @@
 ghost use Rattle.std.specs.Prelude.{◌≡◌, ◌&&◌, ◌∷◌, ◌++◌, [], not, option_map, option_to_list, OnOk};
 ghost use Rattle.std.specs.List.{find};
-ghost use Rattle.script_items.specs.Meaning.{item};
-ghost use Rattle.script_lang.specs.Numbers.{has_call};
-ghost use Rattle.script_lang.specs.Used.{use_of};
+ghost use Rattle.script_items.specs.LineMeaning.{item};
+ghost use Rattle.script_lang.specs.OperationNumbers.{has_call};
+ghost use Rattle.script_lang.specs.CallsUsedByLines.{use_of};
 
 use crate::numbering::Numbering;
 use script_items::{Line, Target};

@@ -1,3 +1,3 @@
-pub mod Numbering
-pub mod Offers
-pub mod Opening
+pub mod LinkNumbering
+pub mod OffersOfOpenedLinks
+pub mod OpeningLinksInOrder

@@ -1,3 +1,3 @@
-pub mod Given
-pub mod Offered
-pub mod Opened
+pub mod LinksGivenBack
+pub mod OfferedLinks
+pub mod OpenedLinkEnds

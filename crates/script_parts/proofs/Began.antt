@@ -10,28 +10,28 @@ use Rattle.atomic_table.specs.declared.shared.Seat.{Seat}
 use Rattle.std.specs.Prelude.{Option}
 use Rattle.brpc_model.specs.Order.{EachBefore}
 use Rattle.sock_io.specs.declared.link.Out.{Ghosts}
-use Rattle.sock_io.specs.Link.{OutState}
+use Rattle.sock_io.specs.LinkHalves.{OutState}
 use Rattle.sock_words.specs.declared.plain.Plan.{Plan}
 use Rattle.sock_model.specs.declared.view.View.{View}
 use Rattle.call_run.specs.sock_rule.specs.declared.homes.SockHome.{SockHome}
 use Rattle.seat_programs.specs.declared.task.Task.{Task}
-use Rattle.seat_programs.specs.Told.{Differ, HaveOwnLinks}
+use Rattle.seat_programs.specs.Explained.{Differ, HaveOwnLinks}
 use Rattle.corr_core.specs.Law.{only}
 use Rattle.corr_core.specs.declared.marks.Plan as id_plan
 use Rattle.corr_core.specs.declared.marks.View as id_view
-use Rattle.corr_core.proofs.Notes.{only-else, only_le, total_some}
-use Rattle.id_rule.specs.Lawful.{call_index}
+use Rattle.corr_core.proofs.NoteSums.{only-else, only_le, total_some}
+use Rattle.id_rule.specs.LawfulIdTable.{call_index}
 use Rattle.sock_message.specs.Asked.{Asked}
-use Rattle.callless_fits.specs.sock_deeds.specs.script_facts.proofs.Lists.{all_map, all_at as all_there}
+use Rattle.callless_fits.specs.sock_deeds.specs.script_facts.proofs.FilteredLists.{all_map, all_at as all_there}
 use Rattle.rpc_client.specs.declared.acting.Told.{Told}
-use Rattle.calls_done.specs.Below.CallErrors.Books.{Books}
+use Rattle.calls_done.specs.Below.CallErrors.ClientBooks.{Books}
 use Rattle.call_run.specs.Threads.{opens_of, openings, opened_names, Thread, IsThread, AreThreads, AllRan}
 use Rattle.calls_done.specs.call_whys.specs.call_told.proofs.Coming.{HasCome, run_come}
-use Rattle.calls_done.specs.call_whys.specs.call_told.proofs.Ends.{IsEndOf, AreEnds, IsEndIn, AreEndsIn}
-use Rattle.calls_done.specs.call_whys.specs.call_told.proofs.Growing.{own_at}
+use Rattle.calls_done.specs.call_whys.specs.call_told.proofs.ToldCallEnds.{IsEndOf, AreEnds, IsEndIn, AreEndsIn}
+use Rattle.calls_done.specs.call_whys.specs.call_told.proofs.GrowingCallNotes.{own_at}
 use Rattle.calls_done.specs.call_whys.specs.call_told.proofs.Least.{TellEnds}
-use Rattle.calls_done.specs.call_whys.specs.call_told.proofs.Moves.{Fits, is_task, run_moves}
-use Rattle.callless_fits.specs.sock_deeds.proofs.Places.{to_slice}
+use Rattle.calls_done.specs.call_whys.specs.call_told.proofs.ClientTellingMoves.{Fits, is_task, run_moves}
+use Rattle.callless_fits.specs.sock_deeds.proofs.ListPlaces.{to_slice}
 use Rattle.sock_words.specs.Totals.{total}
 
 -- ## Operations by their numbers

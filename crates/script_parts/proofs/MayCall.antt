@@ -1,7 +1,7 @@
 -- What a script asks of clients with calls: each call has its own number, and each socket a link.
 use Rattle.std.proofs.Common.{◌≡◌, ℕ, ◌+◌, ◌<◌, ◌≤◌, List, [], ◌∷◌, length, length-append, Some, Ok, refl, sym, ap, ◌∙◌, subst, arith}
 use Rattle.std.specs.List.{AllByRecursion}
-use Rattle.brpc_model.specs.Places.{names}
+use Rattle.brpc_model.specs.LinePlaceFaults.{names}
 use Rattle.brpc_model.specs.Items.{Item}
 use Rattle.brpc_model.specs.Operations.{clients as clients_of}
 use Rattle.brpc_model.specs.Script.{script_of}
@@ -10,18 +10,18 @@ use Rattle.sock_words.specs.declared.plain.Plan.{Plan}
 use Rattle.seat_programs.specs.declared.task.Op.{Op}
 use Rattle.seat_programs.specs.declared.task.Op.TheVariants as ops
 use Rattle.seat_programs.specs.declared.task.Task.{Task}
-use Rattle.seat_programs.specs.Scripts.{all_tasks}
+use Rattle.seat_programs.specs.ScriptSetupToEnding.{all_tasks}
 use Rattle.seat_programs.specs.Tasks.{numbered, plan_of}
-use Rattle.seat_programs.specs.Told.{AreTasks, OpFits, TaskFits}
-use Rattle.callless_fits.specs.sock_deeds.specs.script_facts.proofs.Lists.{all_from, all_map}
-use Rattle.callless_fits.specs.sock_deeds.specs.script_facts.proofs.Sizes.{keeps_limits}
+use Rattle.seat_programs.specs.Explained.{AreTasks, OpFits, TaskFits}
+use Rattle.callless_fits.specs.sock_deeds.specs.script_facts.proofs.FilteredLists.{all_from, all_map}
+use Rattle.callless_fits.specs.sock_deeds.specs.script_facts.proofs.ScriptSizes.{keeps_limits}
 use Rattle.callless_fits.specs.sock_deeds.specs.script_facts.proofs.TaskLemmas.{IsTaskOf, numbers_at, of_tasks, has_task, call_asks, tasks_length}
-use Rattle.callless_fits.specs.sock_deeds.specs.script_facts.proofs.Tasks.{tasks_of_script}
-use Rattle.call_run.specs.sock_open.specs.Opening.{MayBegin}
-use Rattle.call_run.specs.call_client.specs.Acting.{Needs}
-use Rattle.call_run.specs.call_client.specs.Running.{left_by, MayMakeAll}
+use Rattle.callless_fits.specs.sock_deeds.specs.script_facts.proofs.ReadScriptTasks.{tasks_of_script}
+use Rattle.call_run.specs.sock_open.specs.SocketTableOpening.{MayBegin}
+use Rattle.call_run.specs.call_client.specs.ClientBetweenOperations.{Needs}
+use Rattle.call_run.specs.call_client.specs.ClientRun.{left_by, MayMakeAll}
 use Rattle.call_run.specs.Threads.{opens_in, opens_of, opens_of_each, ids_of, MayRun, AllMayRun, MayRunAll}
-use Rattle.script_parts.proofs.Links.{link_of, links_of, links_in, all_links}
+use Rattle.script_parts.proofs.LinksInClientOrder.{link_of, links_of, links_in, all_links}
 
 -- ## The numbers of calls
 

@@ -5,7 +5,7 @@ use Rattle.std.proofs.lemmas.Option.{none-some, slice_get_within}
 use mathlib.Core.Option.{some, some-injective, some-ne-none}
 use lib.ListN.{get_elem?}
 use Rattle.sock_io.specs.declared.link.Out.{Ghosts}
-use Rattle.sock_io.specs.Link.{OutState}
+use Rattle.sock_io.specs.LinkHalves.{OutState}
 use Rattle.sock_words.specs.declared.outcome.Outcome.{Outcome}
 use Rattle.sock_words.specs.declared.outcome.Outcome.TheVariants as outcome
 use Rattle.sock_words.specs.declared.plain.Plan.{Plan}
@@ -19,50 +19,50 @@ use Rattle.corr_core.specs.declared.marks.Note.TheVariants.{Made, Ended, Locker}
 use Rattle.corr_core.specs.declared.marks.Noted.{Noted}
 use Rattle.corr_core.specs.declared.marks.Plan as id_plan
 use Rattle.corr_core.specs.declared.marks.View.{View}
-use Rattle.corr_core.proofs.Notes.{only-at, total_some}
-use Rattle.corr_id.specs.Closing.{Closing}
-use Rattle.id_rule.specs.Lawful.{notes_of}
+use Rattle.corr_core.proofs.NoteSums.{only-at, total_some}
+use Rattle.corr_id.specs.ClosingIdLists.{Closing}
+use Rattle.id_rule.specs.LawfulIdTable.{notes_of}
 use Rattle.sock_message.specs.Asked.{Asked}
 use Rattle.seat_programs.specs.declared.task.Op.TheVariants as ops
 use Rattle.seat_programs.specs.declared.task.Task.{Task}
-use Rattle.seat_programs.specs.Scripts.{all_tasks}
+use Rattle.seat_programs.specs.ScriptSetupToEnding.{all_tasks}
 use Rattle.seat_programs.specs.Tasks.{plan_of}
-use Rattle.seat_programs.specs.Told.{AreTasks, IsTask, Became}
-use Rattle.callless_fits.specs.sock_deeds.specs.outcome_ticks.proofs.Tasks.{sorted_of}
-use Rattle.callless_fits.specs.sock_deeds.specs.script_facts.proofs.Lists.{some_is, contains_from, within, all_map, all_at as all_there}
+use Rattle.seat_programs.specs.Explained.{AreTasks, IsTask, Became}
+use Rattle.callless_fits.specs.sock_deeds.specs.outcome_ticks.proofs.TableTasksDistinct.{sorted_of}
+use Rattle.callless_fits.specs.sock_deeds.specs.script_facts.proofs.FilteredLists.{some_is, contains_from, within, all_map, all_at as all_there}
 use Rattle.callless_fits.specs.sock_deeds.specs.script_facts.proofs.TaskLemmas.{IsTaskOf, task_is, asks_at, asked_at, operation_task}
 use Rattle.rpc_client.specs.declared.acting.Told.{Told}
-use Rattle.rpc_reader.specs.Books.{id_of}
-use Rattle.call_run.specs.Readers.{LinkReader}
+use Rattle.rpc_reader.specs.ReaderBooks.{id_of}
+use Rattle.call_run.specs.ReadersOfLinks.{LinkReader}
 use Rattle.call_run.specs.Threads.{Thread, RanWith}
-use Rattle.calls_done.specs.call_whys.specs.call_told.specs.Answers.{EndedBy, by_code, by_response, ToldFrom}
+use Rattle.calls_done.specs.call_whys.specs.call_told.specs.TellersOfCallEnds.{EndedBy, by_code, by_response, ToldFrom}
 use Rattle.calls_done.specs.call_whys.specs.call_told.specs.Least.{is_locked_for}
-use Rattle.calls_done.specs.call_whys.specs.call_told.specs.Once.{ends_of, told_ends}
-use Rattle.calls_done.specs.call_whys.specs.call_told.proofs.Answering.{noted_place}
+use Rattle.calls_done.specs.call_whys.specs.call_told.specs.ToldOnce.{ends_of, told_ends}
+use Rattle.calls_done.specs.call_whys.specs.call_told.proofs.ToldAnswers.{noted_place}
 use Rattle.calls_done.specs.call_whys.specs.call_told.proofs.Balance.{balanced_all}
-use Rattle.calls_done.specs.call_whys.specs.call_told.proofs.Ends.{IsEndIn}
+use Rattle.calls_done.specs.call_whys.specs.call_told.proofs.ToldCallEnds.{IsEndIn}
 use Rattle.calls_done.specs.call_whys.specs.call_told.proofs.Least.{lock_of}
-use Rattle.calls_done.specs.call_whys.specs.call_told.proofs.Lists.{all_at}
-use Rattle.calls_done.specs.call_whys.specs.call_told.proofs.Moves.{Fits}
+use Rattle.calls_done.specs.call_whys.specs.call_told.proofs.ListElementsByPlace.{all_at}
+use Rattle.calls_done.specs.call_whys.specs.call_told.proofs.ClientTellingMoves.{Fits}
 use Rattle.calls_done.specs.call_whys.specs.call_told.proofs.Tallies.{ending_is}
-use Rattle.calls_done.specs.call_whys.specs.call_places.specs.Counted.{makes, HaveNotesOf}
-use Rattle.calls_done.specs.call_whys.specs.call_places.proofs.Clients.{Client, tasks_of, view_of as ids_seen}
-use Rattle.calls_done.specs.call_whys.specs.call_places.proofs.Places.{crew_of, all_are, tasks_are, views_are}
-use Rattle.calls_done.specs.call_whys.specs.call_places.proofs.Weights.{term, noted_at}
-use Rattle.calls_done.specs.call_whys.specs.call_deeds.specs.Scripts.{Reports}
+use Rattle.calls_done.specs.call_whys.specs.call_places.specs.ClientNotesCounted.{makes, HaveNotesOf}
+use Rattle.calls_done.specs.call_whys.specs.call_places.proofs.ClientPlaces.{Client, tasks_of, view_of as ids_seen}
+use Rattle.calls_done.specs.call_whys.specs.call_places.proofs.CallPlaceOrders.{crew_of, all_are, tasks_are, views_are}
+use Rattle.calls_done.specs.call_whys.specs.call_places.proofs.NoteWeights.{term, noted_at}
+use Rattle.calls_done.specs.call_whys.specs.call_deeds.specs.ScriptsWithCalls.{Reports}
 use Rattle.calls_done.specs.call_whys.specs.call_deeds.proofs.Ran.{Result}
-use Rattle.calls_done.specs.call_whys.specs.call_deeds.proofs.Told.{all_results, task_at, said_of, one_place}
-use Rattle.callless_fits.specs.sock_deeds.specs.Runs.{IsOperation}
+use Rattle.calls_done.specs.call_whys.specs.call_deeds.proofs.OperationsToldOnce.{all_results, task_at, said_of, one_place}
+use Rattle.callless_fits.specs.sock_deeds.specs.SocketTableRun.{IsOperation}
 use Rattle.calls_done.specs.failed_reasons.proofs.Makers.{made_begun}
-use Rattle.script_parts.specs.Told.{outcomes_of}
-use Rattle.script_parts.proofs.Sayings.{long_each, told_each, none_long, none_told}
+use Rattle.script_parts.specs.ThreadScriptTold.{outcomes_of}
+use Rattle.script_parts.proofs.ClientSayingsByNumber.{long_each, told_each, none_long, none_told}
 use Rattle.script_parts.proofs.Began.{thread_ends_in}
-use Rattle.script_parts.proofs.Clients.{balanced}
-use Rattle.script_parts.proofs.Each.{task_fits}
+use Rattle.script_parts.proofs.ScriptClientsTold.{balanced}
+use Rattle.script_parts.proofs.EachOperationHasOutcome.{task_fits}
 use Rattle.script_parts.proofs.MayCall.{IsOwn, IsOwnTask, all_own}
-use Rattle.script_parts.proofs.Placed.{each_notes}
-use Rattle.script_parts.proofs.Said.{own_said}
-use Rattle.callless_fits.specs.sock_deeds.proofs.Places.{map_back, map_there, to_slice}
+use Rattle.script_parts.proofs.PlacedSends.{each_notes}
+use Rattle.script_parts.proofs.SaidStaysAtNumber.{own_said}
+use Rattle.callless_fits.specs.sock_deeds.proofs.ListPlaces.{map_back, map_there, to_slice}
 use Rattle.sock_words.specs.Totals.{total}
 
 -- what stands in a list of two parts stands in one of them

@@ -1,8 +1,8 @@
-pub mod Halves
-pub mod Saying
-pub mod Ready
-pub mod Seats
-pub mod Told
+pub mod HalvesApartAndTogether
+pub mod OutcomesSaidByNumber
+pub mod ReadyThreadRun
+pub mod SeatsOfIdTable
+pub mod ThreadScriptTold
 pub use Rattle.calls_done.specs.attempts_told
 pub use Rattle.calls_done.specs.call_whys
 pub use Rattle.callless_fits

@@ -1,8 +1,8 @@
 // What a script asks of its clients, and the room that a run needs for its links.
 ghost use Rattle.std.specs.Prelude.{◌≡◌, ℕ, List, Ok, map, IfOk};
 ghost use Rattle.brpc_model.specs.Script.{script_of};
-ghost use Rattle.seat_programs.specs.Scripts.{all_tasks};
-ghost use Rattle.script_parts.specs.Ready.{IsReady};
+ghost use Rattle.seat_programs.specs.ScriptSetupToEnding.{all_tasks};
+ghost use Rattle.script_parts.specs.ReadyThreadRun.{IsReady};
 
 use crate::halves::{Halves, room_for};
 use script_lang::{BlockPool, NoMemory, Script};

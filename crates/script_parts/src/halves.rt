@@ -1,7 +1,7 @@
 // The halves of links: the writing halves go to the threads, and the others wait.
 ghost use Rattle.std.specs.Prelude.{◌≡◌, ◌≤◌, ◌+◌, [], ℕ, List, length, map, IfOk};
-ghost use Rattle.call_run.specs.sock_open.specs.Opening.{IsRoom};
-ghost use Rattle.script_parts.specs.Halves.{rest_of, joined, HasRoomFor};
+ghost use Rattle.call_run.specs.sock_open.specs.SocketTableOpening.{IsRoom};
+ghost use Rattle.script_parts.specs.HalvesApartAndTogether.{rest_of, joined, HasRoomFor};
 
 use call_run::Rest;
 use sock_io::{Ends, In, Out, Peer};

@@ -1,8 +1,8 @@
 // The seats of the table of ids, once all that had one have ended.
 ghost use Rattle.std.specs.Prelude.{◌≡◌, ◌<◌, ◌≤◌, [], ℕ};
-ghost use Rattle.rpc_reader.specs.Seats.{IsOpen};
-ghost use Rattle.call_run.specs.Crew.{AreLeft};
-ghost use Rattle.script_parts.specs.Seats.{TookAll};
+ghost use Rattle.rpc_reader.specs.ReaderIdSeat.{IsOpen};
+ghost use Rattle.call_run.specs.CrewOfRun.{AreLeft};
+ghost use Rattle.script_parts.specs.SeatsOfIdTable.{TookAll};
 ghost use Rattle.sock_words.specs.Totals.{total};
 
 use corr_id::{IdSeat, IdTable};

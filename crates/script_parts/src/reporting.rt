@@ -2,9 +2,9 @@
 ghost use Rattle.std.specs.Prelude.{◌≡◌, Ok, IfOk, IfSome, IsErrOf, map};
 ghost use Rattle.brpc_model.specs.PlaceWords.{ArePlaces, HasEachOutcome};
 ghost use Rattle.sock_io.specs.declared.link.Ends.{Ends};
-ghost use Rattle.sock_io.specs.Link.{end_of};
-ghost use Rattle.script_parts.specs.Halves.{AreTaken};
-ghost use Rattle.script_parts.specs.Told.{IsReported, outcomes_of};
+ghost use Rattle.sock_io.specs.LinkHalves.{end_of};
+ghost use Rattle.script_parts.specs.HalvesApartAndTogether.{AreTaken};
+ghost use Rattle.script_parts.specs.ThreadScriptTold.{IsReported, outcomes_of};
 
 use crate::saying::said_of;
 use rpc_client::Told;

@@ -1,6 +1,6 @@
 // What clients told, by the numbers of their operations.
 ghost use Rattle.std.specs.Prelude.{◌≡◌, None, map, replicate, IfOk};
-ghost use Rattle.script_parts.specs.Saying.{said_by, said_by_each};
+ghost use Rattle.script_parts.specs.OutcomesSaidByNumber.{said_by, said_by_each};
 
 use rpc_client::Told;
 use script_report::{say, untold};

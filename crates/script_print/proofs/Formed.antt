@@ -3,18 +3,18 @@ use Rattle.std.proofs.Common.{◌≡◌, ℕ, ◌%◌, ◌^◌, ◌<◌, Bool, t
 use Rattle.std.specs.List.{list_all, slice_split, join_with_byte}
 use Rattle.std.proofs.lemmas.Bool.{and_from, cond-true, cond-false}
 use Rattle.hex.specs.Hex.{IsBytes}
-use Rattle.sock_words.specs.Printed.{word, hex_text}
+use Rattle.sock_words.specs.PrintedWords.{word, hex_text}
 use Rattle.brpc_model.specs.Text.{words, number_in, name_in, hex_in, sized}
-use Rattle.brpc_model.specs.Reads.{Reads, ◌<*>◌, ◌>>=◌}
+use Rattle.brpc_model.specs.LinePartReads.{Reads, ◌<*>◌, ◌>>=◌}
 use Rattle.brpc_model.specs.Items.{Item, Slots, Requests, First, Open, Client, Send, Call, Expire, Join, Fail, Hold, Drop, Sched, Tick, To}
-use Rattle.brpc_model.specs.Lines.{kind_in, shape_in, call_in, seat_in, alone, of_name, of_number, first_item, open_item, send_item, call_item, target_item, fail_item, tick_item, to_item, item_of, line_item, is_text_byte}
+use Rattle.brpc_model.specs.ScriptLineFaults.{kind_in, shape_in, call_in, seat_in, alone, of_name, of_number, first_item, open_item, send_item, call_item, target_item, fail_item, tick_item, to_item, item_of, line_item, is_text_byte}
 use Rattle.brpc_model.specs.ScriptText.{seat_text, item_text}
 use Rattle.script_print.proofs.Spaced.{is_word, words_spaced, text_spaced}
 use Rattle.script_print.proofs.Gives.{of_part, of_parts, of_next, of_test, of_either}
-use Rattle.script_print.proofs.Tokens.{IsWithin, number_within, number_back, decimal_word, hex_word, hex_back, hex_bytes, sized_reads, sized_same}
+use Rattle.script_print.proofs.TokensReadAgain.{IsWithin, number_within, number_back, decimal_word, hex_word, hex_back, hex_bytes, sized_reads, sized_same}
 use Rattle.script_print.proofs.PartLemmas.{IsName, named, IsTarget, target_of, target_back, target_word, IsSeat, seated, seat_back, seat_word, IsKind, kind_of}
 use Rattle.script_print.proofs.Shapes.{IsShape, shaped, shape_words, shape_back, shape_text_words, shape_words_are}
-use Rattle.script_print.proofs.Calls.{IsCallLine, called, call_options, call_back, call_words_are, call_text_words}
+use Rattle.script_print.proofs.PrintedCalls.{IsCallLine, called, call_options, call_back, call_words_are, call_text_words}
 
 -- bytes of a message
 pub record IsMessage (bytes : List ℕ) : Type 0 where

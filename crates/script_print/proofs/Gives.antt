@@ -1,6 +1,6 @@
 -- What holds of the value of a part, where it was read.
 use Rattle.std.proofs.Common.{◌≡◌, ℕ, Bool, true, false, cond, Ok, Err, IfOk, refl}
-use Rattle.brpc_model.specs.Reads.{Reads, ◌<*>◌, ◌>>=◌}
+use Rattle.brpc_model.specs.LinePartReads.{Reads, ◌<*>◌, ◌>>=◌}
 
 -- one more part
 pub with_part : {A B : Type 0} (f : Reads (A → B)) (a : Reads A) (F : (A → B) → Type 0) (Q : A → Type 0) (P : B → Type 0) → IfOk f F → IfOk a Q → ((g : A → B) (x : A) → F g → Q x → P (g x)) → IfOk (f <*> a) P

@@ -9,13 +9,13 @@ use Rattle.std.proofs.lemmas.Slice.Eq.{bytes_eq-Decides}
 use Rattle.std.proofs.Math.Seq.{take-append_seam, drop-append-add}
 use Rattle.std.specs.Char.{is_ascii_digit}
 use Rattle.brpc_model.specs.Text.{number_in, is_name_byte, name_in}
-use Rattle.brpc_model.specs.Reads.{Reads, ◌<*>◌, ◌>>=◌, option_in}
+use Rattle.brpc_model.specs.LinePartReads.{Reads, ◌<*>◌, ◌>>=◌, option_in}
 use Rattle.brpc_model.specs.Items.{Item, Seat, ClientSeat, ReaderSeat, is_client, is_open}
-use Rattle.brpc_model.specs.Lines.{kind_names, kind_in, names_in, target_in, seat_in}
+use Rattle.brpc_model.specs.ScriptLineFaults.{kind_names, kind_in, names_in, target_in, seat_in}
 use Rattle.brpc_model.specs.ScriptText.{seat_text}
 use Rattle.script_print.proofs.Spaced.{is_word, is_word_byte, none_of, all_append}
 use Rattle.script_print.proofs.Gives.{of_test, of_part, of_parts, of_next, of_either, weaker}
-use Rattle.script_print.proofs.Tokens.{IsWithin, IsSpelled, number_within, number_back, decimal_word, decimal_digits, spelled, name_word_byte}
+use Rattle.script_print.proofs.TokensReadAgain.{IsWithin, IsSpelled, number_within, number_back, decimal_word, decimal_digits, spelled, name_word_byte}
 
 -- ## Options
 

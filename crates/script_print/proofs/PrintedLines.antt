@@ -5,12 +5,12 @@ use Rattle.std.specs.Str.Lines.{lines, lines_of_parts, strip_carriage_return}
 use Rattle.std.proofs.lemmas.Bool.{and_parts, cond-false}
 use Rattle.std.proofs.lemmas.List.Splits.{slice_split_at, length-slice_split}
 use Rattle.brpc_model.specs.Items.{Item}
-use Rattle.brpc_model.specs.Lines.{is_text_byte}
+use Rattle.brpc_model.specs.ScriptLineFaults.{is_text_byte}
 use Rattle.brpc_model.specs.ScriptText.{item_text}
 use Rattle.script_print.specs.PrintedParts.{line}
 use Rattle.script_print.proofs.Spaced.{none_of}
 use Rattle.script_print.proofs.Formed.{line_text}
-use Rattle.script_print.proofs.Placed.{Stand}
+use Rattle.script_print.proofs.PlacedItems.{Stand}
 
 no_end : (b : ℕ) → is_text_byte b ≡ true → (b == 10) ≡ false
 no_end b h =

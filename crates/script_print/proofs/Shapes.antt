@@ -2,15 +2,15 @@
 use Rattle.std.proofs.Common.{◌≡◌, ℕ, Bool, true, false, if◌then◌else◌, ◌||◌, not, nat_eq, ◌==◌, List, [], ◌∷◌, ◌++◌, drop, map, filter, flat_map, decimal, bytes_eq, codes, IfOk, IfSome, Ok, Err, Option, Some, None, refl, ap, sym, ◌∙◌, append-nil, append_assoc, arith}
 use Rattle.std.specs.List.{list_all, list_any, starts_with}
 use Rattle.std.proofs.lemmas.Bool.{and_from, cond-true, cond-false}
-use Rattle.sock_words.specs.Printed.{word}
+use Rattle.sock_words.specs.PrintedWords.{word}
 use Rattle.brpc_model.specs.Text.{number_in}
-use Rattle.brpc_model.specs.Reads.{Reads, ◌<*>◌, values_of, option_in, are_known}
+use Rattle.brpc_model.specs.LinePartReads.{Reads, ◌<*>◌, values_of, option_in, are_known}
 use Rattle.brpc_model.specs.Items.{Shape}
-use Rattle.brpc_model.specs.Lines.{shape_in}
+use Rattle.brpc_model.specs.ScriptLineFaults.{shape_in}
 use Rattle.brpc_model.specs.ScriptText.{option_text, end_text, shape_text}
 use Rattle.script_print.proofs.Spaced.{is_word}
 use Rattle.script_print.proofs.Gives.{with_part, of_part, of_parts, of_part_test}
-use Rattle.script_print.proofs.Tokens.{IsWithin, number_within, number_back, decimal_word}
+use Rattle.script_print.proofs.TokensReadAgain.{IsWithin, number_within, number_back, decimal_word}
 use Rattle.script_print.proofs.PartLemmas.{unless, all_unless, behind_key, of_option, IsOption, number_option, number_option_back, number_option_word, word_parts}
 
 -- ## The shape of a link

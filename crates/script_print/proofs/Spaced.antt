@@ -6,9 +6,9 @@ use Rattle.std.proofs.lemmas.List.Splits.{slice_split_none, slice_split_at}
 use Rattle.std.proofs.lemmas.List.Sums.{AllPass-from_list_all}
 use Rattle.std.proofs.lemmas.List.Folds.{list_all-append}
 use Rattle.std.proofs.lemmas.List.Elements.{All-weaker}
-use Rattle.sock_words.specs.Printed.{word}
+use Rattle.sock_words.specs.PrintedWords.{word}
 use Rattle.brpc_model.specs.Text.{has_bytes, words}
-use Rattle.brpc_model.specs.Lines.{is_text_byte}
+use Rattle.brpc_model.specs.ScriptLineFaults.{is_text_byte}
 
 -- a byte of a word: printable, and no space
 abbrev pub is_word_byte : ℕ → Bool

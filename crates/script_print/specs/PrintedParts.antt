@@ -1,6 +1,6 @@
 -- The parts of a printed script, each as a text of whole lines.
 use Rattle.std.specs.Prelude.{ℕ, ◌==◌, ◌||◌, Bool, not, if◌then◌else◌, List, [], ◌∷◌, ◌++◌, flat_map, filter, decimal}
-use Rattle.sock_words.specs.Printed.{word}
+use Rattle.sock_words.specs.PrintedWords.{word}
 use Rattle.brpc_model.specs.Items.{Item, Slots, Requests, First, is_size, is_sched, is_turn}
 use Rattle.brpc_model.specs.Operations.{slots, requests, first_version}
 use Rattle.brpc_model.specs.ScriptText.{item_text, unless_default, scheduled}

@@ -1,7 +1,7 @@
 -- What is printed is the same script.
 use Rattle.std.specs.Prelude.{◌≡◌, ℕ, List, Ok}
 use Rattle.brpc_model.specs.Items.{Item}
-use Rattle.brpc_model.specs.Places.{names}
+use Rattle.brpc_model.specs.LinePlaceFaults.{names}
 use Rattle.brpc_model.specs.Operations.{operations, link_names, clients, slots, requests, first_version, schedule}
 use Rattle.brpc_model.specs.Script.{script_of}
 use Rattle.brpc_model.specs.ScriptText.{printed_items, script_text}

@@ -1,9 +1,9 @@
 ghost use Rattle.std.specs.Prelude.{◌≡◌, [], ◌∷◌, ◌++◌, codes, decimal, OnOk};
 ghost use Rattle.std.specs.List.{join_with_byte};
-ghost use Rattle.sock_words.specs.Printed.{word};
+ghost use Rattle.sock_words.specs.PrintedWords.{word};
 ghost use Rattle.sock_words.specs.KindText.{kind_text};
 ghost use Rattle.brpc_model.specs.ScriptText.{att_text, call_text, seat_text, target_text, item_text};
-ghost use Rattle.script_items.specs.Meaning.{call_of, seat_of, item};
+ghost use Rattle.script_items.specs.LineMeaning.{call_of, seat_of, item};
 
 use crate::parts::{push_names, push_option, push_seat, push_shape, push_target};
 use script_items::{

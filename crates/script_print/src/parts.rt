@@ -1,8 +1,8 @@
 ghost use Rattle.std.specs.Prelude.{◌≡◌, [], ◌++◌, codes, OnOk, if◌then◌else◌};
-ghost use Rattle.sock_words.specs.Printed.{word};
+ghost use Rattle.sock_words.specs.PrintedWords.{word};
 ghost use Rattle.brpc_model.specs.ScriptText.{option_text, end_text, shape_text, seat_text, target_text};
 ghost use Rattle.std.specs.List.{join_with_byte};
-ghost use Rattle.script_items.specs.Meaning.{seat_of};
+ghost use Rattle.script_items.specs.LineMeaning.{seat_of};
 
 use script_items::{Names, Seat, Target, push_number, push_number_word, push_word};
 use sock_words::Shape;

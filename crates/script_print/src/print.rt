@@ -1,9 +1,9 @@
 ghost use Rattle.std.specs.Prelude.{◌≡◌, IsErrOf, OnOk, map};
 ghost use Rattle.std.specs.Io.KnownBytes.{Appends};
 ghost use Rattle.brpc_model.specs.ScriptText.{script_text};
-ghost use Rattle.script_items.specs.Meaning.{item};
-ghost use Rattle.sock_io.specs.Causes.{Rose};
-ghost use Rattle.sock_io.specs.Writing.{WrotePart};
+ghost use Rattle.script_items.specs.LineMeaning.{item};
+ghost use Rattle.sock_io.specs.FaultCauses.{Rose};
+ghost use Rattle.sock_io.specs.PartWrittenToSink.{WrotePart};
 ghost use Rattle.script_print.specs.ReadBack.{IsScript, IsReadBack};
 
 use crate::script_text::text_of;

@@ -3,7 +3,7 @@ ghost use Rattle.std.specs.List.{list_any};
 ghost use Rattle.brpc_model.specs.Items.{is_turn};
 ghost use Rattle.brpc_model.specs.Operations.{slots, requests, first_version};
 ghost use Rattle.brpc_model.specs.ScriptText.{script_text};
-ghost use Rattle.script_items.specs.Meaning.{item};
+ghost use Rattle.script_items.specs.LineMeaning.{item};
 ghost use Rattle.script_print.specs.PrintedParts.{is_body, line, line_where, size_line, lines_text, size_items, body_items, schedule_items};
 
 use crate::lines::{push_line, push_size};

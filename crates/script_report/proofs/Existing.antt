@@ -5,15 +5,15 @@ use native.Mathlib.Decide.{dec_lt}
 use mathlib.Core.Logic.{dite}
 use Rattle.sock_words.specs.declared.outcome.Outcome.{Outcome}
 use Rattle.sock_words.specs.declared.place_word.PlaceWord.{PlaceWord}
-use Rattle.sock_words.specs.Words.{place_word_link, place_word_position}
+use Rattle.sock_words.specs.PackedWords.{place_word_link, place_word_position}
 use Rattle.brpc_model.specs.Items.{Item}
 use Rattle.brpc_model.specs.Operations.{operations, link_names}
 use Rattle.brpc_model.specs.PlaceWords.{word_at, outcomes_from, ArePlaces, IsReportText}
 use Rattle.script_report.specs.declared.links.Accepted.{Accepted}
-use Rattle.script_report.specs.Lines.{place_of, outcome_text_lines}
-use Rattle.script_report.specs.Rows.{label_at, rows_text, IsPutAt, IsFiled, AreRows}
-use Rattle.script_report.proofs.Reported.{report_of_orders}
-use Rattle.script_report.proofs.Rows.{get_same, get_other, length_set, some_filed, none_told, none_filed, no_rows, length_empty, rows_more}
+use Rattle.script_report.specs.ReportLines.{place_of, outcome_text_lines}
+use Rattle.script_report.specs.OrderRows.{label_at, rows_text, IsPutAt, IsFiled, AreRows}
+use Rattle.script_report.proofs.ReportedOrders.{report_of_orders}
+use Rattle.script_report.proofs.OrderRows.{get_same, get_other, length_set, some_filed, none_told, none_filed, no_rows, length_empty, rows_more}
 
 there : {A : Type 0} (xs : List A) (i : ℕ) → i < length xs → (x : A) × (slice_get xs i ≡ Some x)
 there [] i inside = absurd (omega (arith, inside))

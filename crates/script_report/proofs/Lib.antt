@@ -1,6 +1,6 @@
-pub mod Texts
-pub mod Rows
-pub mod Reported
+pub mod ReportLinesByPlaces
+pub mod OrderRows
+pub mod ReportedOrders
 pub mod Table
 pub mod Summed
 pub mod Existing

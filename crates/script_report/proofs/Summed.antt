@@ -10,9 +10,9 @@ use Rattle.brpc_model.specs.Items.{Item, Client, is_call, is_operation}
 use Rattle.brpc_model.specs.Operations.{Operation, operations_from}
 use Rattle.brpc_model.specs.PlaceWords.{outcome_of, outcomes_from}
 use Rattle.script_items.specs.declared.line.Line.{Line}
-use Rattle.script_items.specs.Meaning.{item}
+use Rattle.script_items.specs.LineMeaning.{item}
 use Rattle.script_report.specs.declared.sums.Sums.{Sums}
-use Rattle.script_report.specs.Sums.{AreFew, one_of, together, told_of, sums_of, is_send, is_placed_send, is_answered_call, is_other, placed_bytes, answered_bytes}
+use Rattle.script_report.specs.RunSummary.{AreFew, one_of, together, told_of, sums_of, is_send, is_placed_send, is_answered_call, is_other, placed_bytes, answered_bytes}
 
 -- those of operations of these lines with these outcomes
 abbrev pub sums_behind : List Item → List Outcome → Sums

@@ -2,11 +2,11 @@
 use Rattle.std.proofs.Common.{◌≡◌, ◌≢◌, ℕ, zero, suc, ◌+◌, ◌*◌, ◌<◌, ◌⊎◌, inl, inr, ⊎_elim, List, replicate, slice_set, Option, refl, ap, sym, ◌∙◌, subst, arith}
 use Rattle.std.specs.Option.{option_map, unwrap_or}
 use Rattle.sock_words.specs.declared.place_word.PlaceWord.{PlaceWord}
-use Rattle.sock_words.specs.Words.{no_place, HasPosition, place_word_link, place_word_position}
-use Rattle.script_report.specs.Lines.{label_of}
+use Rattle.sock_words.specs.PackedWords.{no_place, HasPosition, place_word_link, place_word_position}
+use Rattle.script_report.specs.ReportLines.{label_of}
 use Rattle.brpc_model.specs.PlaceWords.{word_at, Tells, ArePlaces}
-use Rattle.script_report.specs.Rows.{label_at}
-use Rattle.script_report.proofs.Rows.{same_or_not, same_label, get_other}
+use Rattle.script_report.specs.OrderRows.{label_at}
+use Rattle.script_report.proofs.OrderRows.{same_or_not, same_label, get_other}
 
 record IsTable (words : List PlaceWord) : Type 0 where
   pub others : (n : ℕ) → n ≢ 16 → n ≢ 24 → n ≢ 25 → word_at words n ≡ no_place

@@ -1,3 +1,3 @@
-pub mod Lines
-pub mod Rows
-pub mod Sums
+pub mod ReportLines
+pub mod OrderRows
+pub mod RunSummary

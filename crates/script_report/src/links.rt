@@ -1,5 +1,5 @@
 ghost use Rattle.std.specs.Prelude.{◌≡◌, ◌++◌, take, codes, decimal, Some, OnOk};
-ghost use Rattle.script_report.specs.Lines.{label_at, label_words, labels_text, link_text, order_text, link_lines_text};
+ghost use Rattle.script_report.specs.ReportLines.{label_at, label_words, labels_text, link_text, order_text, link_lines_text};
 
 use crate::operations::OperationPlace;
 use crate::writing::push_pair;

@@ -1,9 +1,9 @@
 ghost use Rattle.std.specs.Prelude.{◌≡◌, ◌++◌, map, codes, decimal, IfOk, OnOk};
 ghost use Rattle.sock_words.specs.OutcomeText.{outcome_text};
-ghost use Rattle.sock_words.specs.Printed.{word, hex_text};
+ghost use Rattle.sock_words.specs.PrintedWords.{word, hex_text};
 ghost use Rattle.brpc_model.specs.Operations.{operations};
-ghost use Rattle.script_items.specs.Meaning.{item};
-ghost use Rattle.script_report.specs.Lines.{place_of, outcome_text_line};
+ghost use Rattle.script_items.specs.LineMeaning.{item};
+ghost use Rattle.script_report.specs.ReportLines.{place_of, outcome_text_line};
 
 use crate::writing::push_pair;
 use script_items::{Line, is_operation, push_hex_word, push_number, push_number_word};

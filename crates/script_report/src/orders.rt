@@ -1,8 +1,8 @@
 ghost use Rattle.std.specs.Prelude.{◌≡◌, ◌<◌, ◌^◌, List, [], length, map, IfOk, OnOk};
 ghost use Rattle.brpc_model.specs.Operations.{link_names};
-ghost use Rattle.script_items.specs.Meaning.{item};
+ghost use Rattle.script_items.specs.LineMeaning.{item};
 ghost use Rattle.brpc_model.specs.PlaceWords.{ArePlaces};
-ghost use Rattle.script_report.specs.Rows.{IsPutAt, IsFiled, AreRows};
+ghost use Rattle.script_report.specs.OrderRows.{IsPutAt, IsFiled, AreRows};
 
 use crate::links::Accepted;
 use crate::words::{has_position, label_at};

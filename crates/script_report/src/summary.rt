@@ -1,7 +1,7 @@
 ghost use Rattle.std.specs.Prelude.{◌≡◌, map, IfOk, string_bytes};
 ghost use Rattle.brpc_model.specs.PlaceWords.{HasEachOutcome, outcomes_from};
-ghost use Rattle.script_items.specs.Meaning.{item};
-ghost use Rattle.script_report.specs.Sums.{told_of, sums_of, load_line, sends_line, calls_line, last_lines, summary_text};
+ghost use Rattle.script_items.specs.LineMeaning.{item};
+ghost use Rattle.script_report.specs.RunSummary.{told_of, sums_of, load_line, sends_line, calls_line, last_lines, summary_text};
 
 use crate::sums::{Sums, sums_of};
 use script_items::Line;

@@ -1,9 +1,9 @@
 ghost use Rattle.std.specs.Prelude.{◌≡◌, ◌-◌, ◌^◌, map, unwrap_or, None};
-ghost use Rattle.sock_words.specs.Words.{HasPosition};
+ghost use Rattle.sock_words.specs.PackedWords.{HasPosition};
 ghost use Rattle.brpc_model.specs.Items.{Send, Call};
 ghost use Rattle.brpc_model.specs.PlaceWords.{HasEachOutcome, outcome_by_word, outcomes_from};
-ghost use Rattle.script_items.specs.Meaning.{item, call_of};
-ghost use Rattle.script_report.specs.Sums.{AreFew, one_of, together, told_of, sums_of};
+ghost use Rattle.script_items.specs.LineMeaning.{item, call_of};
+ghost use Rattle.script_report.specs.RunSummary.{AreFew, one_of, together, told_of, sums_of};
 
 use crate::words::{first_word, outcome_by_word};
 use script_items::{CallLine, Line, SendLine, is_operation};

@@ -1,10 +1,10 @@
 ghost use Rattle.std.specs.Prelude.{◌≡◌, ◌*◌, ◌++◌, map, None, IfOk, OnOk};
 ghost use Rattle.brpc_model.specs.Operations.{link_names};
-ghost use Rattle.sock_words.specs.Words.{HasPosition};
-ghost use Rattle.script_items.specs.Meaning.{item};
-ghost use Rattle.script_report.specs.Lines.{outcome_text_line, outcome_text_lines};
+ghost use Rattle.sock_words.specs.PackedWords.{HasPosition};
+ghost use Rattle.script_items.specs.LineMeaning.{item};
+ghost use Rattle.script_report.specs.ReportLines.{outcome_text_line, outcome_text_lines};
 ghost use Rattle.brpc_model.specs.PlaceWords.{word_at, ArePlaces, HasEachOutcome, outcome_of, outcomes_from, took_at, IsReportText};
-ghost use Rattle.script_report.specs.Rows.{row_at, rows_text};
+ghost use Rattle.script_report.specs.OrderRows.{row_at, rows_text};
 
 use crate::links::{Accepted, push_link};
 use crate::operations::{OperationPlace, places_of, push_outcome_line};

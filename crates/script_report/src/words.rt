@@ -1,8 +1,8 @@
 ghost use Rattle.std.specs.Prelude.{◌≡◌, ◌≤◌, ◌+◌, ◌*◌, ◌↔◌, IsTrue, count_by, Some, None};
-ghost use Rattle.sock_words.specs.Words.{HasPosition};
-ghost use Rattle.script_report.specs.Lines.{label_of};
+ghost use Rattle.sock_words.specs.PackedWords.{HasPosition};
+ghost use Rattle.script_report.specs.ReportLines.{label_of};
 ghost use Rattle.brpc_model.specs.PlaceWords.{word_at, is_placed, outcome_by_word};
-ghost use Rattle.script_report.specs.Rows.{label_at, placed_in};
+ghost use Rattle.script_report.specs.OrderRows.{label_at, placed_in};
 
 use crate::links::Accepted;
 use sock_words::{Outcome, PlaceWord};

@@ -7,22 +7,22 @@ use Rattle.brpc_model.specs.Items.{Item, Call, is_call}
 use Rattle.brpc_model.specs.Operations.{Turn, clients}
 use Rattle.brpc_model.specs.Script.{script_of}
 use Rattle.seat_programs.specs.Cores.{Core}
-use Rattle.seat_programs.specs.Runs.{IsAtRest}
-use Rattle.seat_programs.specs.Scripts.{IsRunWithCalls, all_tasks, is_callless, is_later, played}
+use Rattle.seat_programs.specs.ScheduledRuns.{IsAtRest}
+use Rattle.seat_programs.specs.ScriptSetupToEnding.{IsRunWithCalls, all_tasks, is_callless, is_later, played}
 use Rattle.seat_programs.specs.Tasks.{Numbered, calls, id_plan_of, numbered}
 use Rattle.calm_runs.specs.Below.outcome_stories.specs.Facts.{late_of_run, late_links_of_run}
-use Rattle.calm_runs.specs.sock_runs.proofs.Along.{seat_rests}
-use Rattle.calm_runs.specs.program_walks.proofs.Whole.{rested_ahead}
-use Rattle.calm_runs.specs.Below.joint_runs.proofs.Runs.{first_views}
-use Rattle.calm_runs.specs.Below.report_fits.proofs.Callless.{not_later}
-use Rattle.calm_runs.specs.Below.script_facts.proofs.Lists.{Has, has_first, filter_map_has}
-use Rattle.calm_runs.specs.Below.script_facts.proofs.Numbering.{are_from, is_numbered}
+use Rattle.calm_runs.specs.sock_runs.proofs.SoundAlongRuns.{seat_rests}
+use Rattle.calm_runs.specs.program_walks.proofs.WholeScriptSound.{rested_ahead}
+use Rattle.calm_runs.specs.Below.joint_runs.proofs.RunsOfBothTables.{first_views}
+use Rattle.calm_runs.specs.Below.report_fits.proofs.CalllessScript.{not_later}
+use Rattle.calm_runs.specs.Below.script_facts.proofs.FilteredLists.{Has, has_first, filter_map_has}
+use Rattle.calm_runs.specs.Below.script_facts.proofs.OperationNumbering.{are_from, is_numbered}
 use Rattle.calm_runs.specs.Below.script_facts.proofs.TaskLemmas.{tasks_length}
-use Rattle.calm_runs.specs.Below.accept_counts.proofs.Early.{start, go, fitting}
-use Rattle.calm_runs.specs.Below.accept_counts.proofs.Rests as rests
-use Rattle.calm_runs.specs.Below.run_theorems.proofs.Starts.{made}
+use Rattle.calm_runs.specs.Below.accept_counts.proofs.EarlyClosedSockets.{start, go, fitting}
+use Rattle.calm_runs.specs.Below.accept_counts.proofs.RestsWithoutCalls as rests
+use Rattle.calm_runs.specs.Below.run_theorems.proofs.ScriptStartsSoundly.{made}
 use Rattle.calm_runs.proofs.Nothing.{nothing_behind}
-use Rattle.seat_programs.specs.corr_core.proofs.Notes.{at_length}
+use Rattle.seat_programs.specs.corr_core.proofs.NoteSums.{at_length}
 
 -- ## No calls, and no id slot
 

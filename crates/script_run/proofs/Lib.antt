@@ -1,10 +1,10 @@
 pub mod Playing
 pub mod Outlined
-pub mod Lines
-pub mod Telling
-pub mod Homes
-pub mod Running
-pub mod Callless
+pub mod ScheduleLines
+pub mod LinksTellingTaken
+pub mod LinkBytesAtHome
+pub mod RunFromSetup
+pub mod CalllessRuns
 pub mod Idle
-pub mod Told
-pub mod Texts
+pub mod RunCausesTold
+pub mod RunTextAndLinks

@@ -3,7 +3,7 @@ use Rattle.std.proofs.Common.{◌≡◌, ℕ, zero, suc, ◌+◌, List, [], ◌�
 use Rattle.std.specs.Prelude.{Option, zip, filter}
 use Rattle.std.specs.List.{cons_option}
 use Rattle.std.proofs.lemmas.List.{length-replicate}
-use Rattle.sock_words.specs.Printed.{word, hex_text}
+use Rattle.sock_words.specs.PrintedWords.{word, hex_text}
 use Rattle.sock_words.specs.declared.outcome.Outcome.{Outcome}
 use Rattle.sock_words.specs.declared.outcome.Outcome.TheVariants.{Placed}
 use Rattle.sock_words.specs.declared.place_word.PlaceWord.{PlaceWord}
@@ -13,9 +13,9 @@ use Rattle.brpc_model.specs.PlaceWords.{IsReportText}
 use Rattle.brpc_model.specs.Report.{LinkLine, Report, outcome_lines, label_text, link_lines, report_text}
 use Rattle.script_report.specs.declared.operations.OperationPlace.{OperationPlace}
 use Rattle.script_report.specs.declared.sums.Sums.{Sums}
-use Rattle.script_report.specs.Lines.{place_of, outcome_text_lines}
-use Rattle.script_report.specs.Sums.{one_of, together, told_of, sums_of, summary_text}
-use Rattle.script_report.proofs.Texts.{outcomes_are}
+use Rattle.script_report.specs.ReportLines.{place_of, outcome_text_lines}
+use Rattle.script_report.specs.RunSummary.{one_of, together, told_of, sums_of, summary_text}
+use Rattle.script_report.proofs.ReportLinesByPlaces.{outcomes_are}
 use Rattle.script_report.proofs.Summed.{items_are, sums_cons}
 use Rattle.script_run.specs.declared.report.Print.{Print}
 use Rattle.script_run.specs.declared.report.Print.TheVariants as print

@@ -5,22 +5,22 @@ use Rattle.std.proofs.Math.Logic.{∥∥₁_elim}
 use Rattle.std.proofs.lemmas.List.{length-map}
 use Rattle.sock_words.specs.declared.kind.Kind.{Kind}
 use Rattle.sock_words.specs.KindText.{kind_text}
-use Rattle.brpc_model.specs.Link.{LinkEnd}
+use Rattle.brpc_model.specs.ReturnedLink.{LinkEnd}
 use Rattle.seat_programs.specs.Cores.{Core}
 use Rattle.seat_programs.specs.Ticks.{Moment, seats_of, run}
-use Rattle.seat_programs.specs.Runs.{LeadsUpTo}
+use Rattle.seat_programs.specs.ScheduledRuns.{LeadsUpTo}
 use Rattle.machine_model.specs.declared.tick.Tick.{Tick}
 use Rattle.machine_model.specs.declared.tick.Tick.TheVariants.{Idle}
-use Rattle.machine_model.specs.Links.{Taken, Given}
+use Rattle.machine_model.specs.MachineLinks.{Taken, Given}
 use Rattle.machine_model.specs.Machines.{MachineState, HasSizes, core_with}
-use Rattle.machine_model.specs.Runs.{SameLink, SameLinks, Ticked, Led}
-use Rattle.sock_core.specs.machine_ticks.proofs.Joining.{follows_none, follows_join, made_join}
+use Rattle.machine_model.specs.MachineRuns.{SameLink, SameLinks, Ticked, Led}
+use Rattle.sock_core.specs.machine_ticks.proofs.JoiningRuns.{follows_none, follows_join, made_join}
 use Rattle.machine_model.proofs.Same.{same_table_none, same_links_none}
 use Rattle.machine_model.specs.Driving.{FirstRests}
-use Rattle.sock_core.specs.machine_ticks.proofs.Resting.{Rests, idle_ran, beyond_rests}
-use Rattle.script_links.specs.Given.{AreUntouched, AreNumbered}
+use Rattle.sock_core.specs.machine_ticks.proofs.RestingTicks.{Rests, idle_ran, beyond_rests}
+use Rattle.script_links.specs.LinksGivenBack.{AreUntouched, AreNumbered}
 use Rattle.script_run.specs.Played.{IsPlayable, PlayedWith, HasPlayed}
-use Rattle.script_links.proofs.Numbering.{numbered_of}
+use Rattle.script_links.proofs.LinkNumbering.{numbered_of}
 
 -- there are fewer seats than 65,535
 far_seats : (m : MachineState) → ∥ HasSizes m ∥₁ → (i : ℕ) → 65535 ≤ i → Rests m i

@@ -1,3 +1,3 @@
-pub mod Causes
+pub mod RunOutcomeCauses
 pub mod Outlines
 pub mod Played

@@ -2,7 +2,7 @@
 use Rattle.std.specs.Prelude.{[], ◌∷◌, length, replicate, false, None}
 use Rattle.sock_words.specs.KindText.{kind_text}
 use Rattle.brpc_model.specs.Items.{Item, Shape, CallLine, Open, Client, Send, Call, Expire, Join, Fail, Hold, Drop, Sched, Tick, To}
-use Rattle.script_items.specs.Meaning.{seat_of}
+use Rattle.script_items.specs.LineMeaning.{seat_of}
 use Rattle.script_run.specs.declared.mark.Mark.{Mark}
 use Rattle.script_run.specs.declared.mark.Mark.TheVariants as marks
 

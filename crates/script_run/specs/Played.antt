@@ -2,37 +2,37 @@
 use Rattle.std.specs.Prelude.{ℕ, ◌≡◌, ◌≢◌, ◌≤◌, ◌++◌, Bool, true, length, slice_get, slice_index_or, List, [], Option, Some, None, IfSome, IsSome, Contains}
 use Rattle.sock_words.specs.declared.plain.Plan.{Plan}
 use Rattle.brpc_model.specs.Items.{Item, Shape}
-use Rattle.brpc_model.specs.Link.{LinkEnd}
+use Rattle.brpc_model.specs.ReturnedLink.{LinkEnd}
 use Rattle.brpc_model.specs.Operations.{Turn, schedule, clients, link_names, link_shapes}
 use Rattle.brpc_model.specs.Report.{Report, report_text}
 use Rattle.brpc_model.specs.PlaceWords.{IsReportText, AreTold}
 use Rattle.sock_words.specs.declared.outcome.Outcome.{Outcome}
 use Rattle.sock_words.specs.declared.place_word.PlaceWord.{PlaceWord}
 use Rattle.script_report.specs.declared.summary.Load.{Load}
-use Rattle.script_report.specs.Sums.{told_of, sums_of, summary_text}
+use Rattle.script_report.specs.RunSummary.{told_of, sums_of, summary_text}
 use Rattle.seat_programs.specs.Asides.{Taking}
 use Rattle.seat_programs.specs.Cores.{Core}
 use Rattle.seat_programs.specs.Ticks.{Answer, Moment}
-use Rattle.seat_programs.specs.Runs.{IsAtRest, Turns}
-use Rattle.seat_programs.specs.Scripts.{IsRunWithCalls, Reports, is_callless, played, drawn_turns, took_at_home}
+use Rattle.seat_programs.specs.ScheduledRuns.{IsAtRest, Turns}
+use Rattle.seat_programs.specs.ScriptSetupToEnding.{IsRunWithCalls, Reports, is_callless, played, drawn_turns, took_at_home}
 use Rattle.seat_programs.specs.Tasks.{plan_of}
-use Rattle.calm_runs.specs.Below.report_fits.specs.Ends.{AreEndsOf}
-use Rattle.run_laws.specs.Laws.{KeepsLaws}
-use Rattle.sock_io.specs.Link.{InState}
-use Rattle.calm_runs.specs.Below.call_owing.specs.Lives.{ClosesInRun}
-use Rattle.machine_model.specs.Links.{Taken, Given, SoFar, TellClosing, IsOffering}
+use Rattle.calm_runs.specs.Below.report_fits.specs.ScriptLinkEnds.{AreEndsOf}
+use Rattle.run_laws.specs.RunLaws.{KeepsLaws}
+use Rattle.sock_io.specs.LinkHalves.{InState}
+use Rattle.calm_runs.specs.Below.call_owing.specs.LivesOfLinks.{ClosesInRun}
+use Rattle.machine_model.specs.MachineLinks.{Taken, Given, SoFar, TellClosing, IsOffering}
 use Rattle.machine_model.specs.Machines.{MachineState, core_with}
 use Rattle.calm_runs.specs.Below.run_theorems.specs.Heard.{as_told, as_taken, take_answers, heard_of, taken_of, heard_takes}
 use Rattle.calm_runs.specs.Below.run_theorems.specs.OfferedRuns.{OffersInRun}
-use Rattle.calm_runs.specs.Below.run_theorems.specs.Over.{IsAllOver}
-use Rattle.machine_model.specs.Runs.{ShowsTaking, LinksShow, MadeByTicks, Made}
+use Rattle.calm_runs.specs.Below.run_theorems.specs.RunIsOver.{IsAllOver}
+use Rattle.machine_model.specs.MachineRuns.{ShowsTaking, LinksShow, MadeByTicks, Made}
 use Rattle.machine_model.specs.Driving.{FirstRests}
-use Rattle.script_run.specs.Causes.{HasCauses, DropsTold, broken_of}
+use Rattle.script_run.specs.RunOutcomeCauses.{HasCauses, DropsTold, broken_of}
 use Rattle.script_run.specs.declared.report.Print.{Print}
 use Rattle.script_run.specs.declared.report.Print.TheVariants as print
 use Rattle.script_run.specs.declared.schedule.Schedule.{Schedule}
 use Rattle.script_run.specs.declared.schedule.Schedule.TheVariants.{Own, Drawn}
-use Rattle.calm_runs.specs.Below.call_stories.specs.Lists.{gave_in}
+use Rattle.calm_runs.specs.Below.call_stories.specs.LinkReadingLists.{gave_in}
 
 -- the lines of the schedule by which a script is run
 abbrev pub turns_of : List Item → Schedule → List Turn

@@ -1,6 +1,6 @@
 ghost use Rattle.std.specs.Prelude.{◌≡◌, IfOk, map};
 ghost use Rattle.brpc_model.specs.Items.{Open, Call};
-ghost use Rattle.script_items.specs.Meaning.{item};
+ghost use Rattle.script_items.specs.LineMeaning.{item};
 ghost use Rattle.script_run.specs.Outlines.{outlined, meant, bare_shape, bare_call};
 
 use crate::mark::Mark;

@@ -1,6 +1,6 @@
 ghost use Rattle.std.specs.Prelude.{◌≡◌, ℕ, List, Ok, IfOk, map};
 ghost use Rattle.brpc_model.specs.Script.{script_of};
-ghost use Rattle.script_items.specs.Meaning.{item};
+ghost use Rattle.script_items.specs.LineMeaning.{item};
 ghost use Rattle.seat_programs.specs.Tasks.{plan_of};
 ghost use Rattle.script_run.specs.Outlines.{outlined, meant};
 
@@ -23,7 +23,7 @@ pub struct Outline {
 impl Model for Outline {
     ghost use Rattle.std.specs.Prelude.{◌≡◌, List, map};
     ghost use Rattle.brpc_model.specs.Items.{Item};
-    ghost use Rattle.script_items.specs.Meaning.{item};
+    ghost use Rattle.script_items.specs.LineMeaning.{item};
     ghost use Rattle.seat_programs.specs.Tasks.{plan_of};
     ghost use Rattle.script_run.specs.Outlines.{outlined, meant};
 

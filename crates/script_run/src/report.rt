@@ -1,8 +1,8 @@
 ghost use Rattle.std.specs.Prelude.{◌≡◌, ℕ, List, Ok, IfOk, IfSome, map};
 ghost use Rattle.brpc_model.specs.Script.{script_of};
 ghost use Rattle.brpc_model.specs.PlaceWords.{ArePlaces, HasEachOutcome, AreTold};
-ghost use Rattle.script_items.specs.Meaning.{item};
-ghost use Rattle.sock_io.specs.Link.{end_of};
+ghost use Rattle.script_items.specs.LineMeaning.{item};
+ghost use Rattle.sock_io.specs.LinkHalves.{end_of};
 ghost use Rattle.script_run.specs.Played.{IsPrintOf};
 
 use crate::outline::Outline;

@@ -4,10 +4,10 @@ ghost use Rattle.brpc_model.specs.Script.{script_of};
 ghost use Rattle.brpc_model.specs.Operations.{link_names};
 ghost use Rattle.brpc_model.specs.PlaceWords.{ArePlaces, HasEachOutcome, AreTold};
 ghost use Rattle.sock_io.specs.declared.link.Ends.{Ends};
-ghost use Rattle.sock_io.specs.Causes.{OpenCause};
-ghost use Rattle.sock_io.specs.Link.{end_of};
-ghost use Rattle.script_links.specs.Given.{AreNumbered, AreUntouched, IsBeginning, has_piece, specs_of};
-ghost use Rattle.script_links.specs.Offered.{AreAsked, TellOffers};
+ghost use Rattle.sock_io.specs.FaultCauses.{OpenCause};
+ghost use Rattle.sock_io.specs.LinkHalves.{end_of};
+ghost use Rattle.script_links.specs.LinksGivenBack.{AreNumbered, AreUntouched, IsBeginning, has_piece, specs_of};
+ghost use Rattle.script_links.specs.OfferedLinks.{AreAsked, TellOffers};
 ghost use Rattle.script_run.specs.Played.{IsPrintOf, IsPrinted, TellClosed, turns_of};
 
 use crate::outline::Outline;

@@ -2,12 +2,12 @@ ghost use Rattle.std.specs.Prelude.{◌≡◌, ◌∷◌, [], ℕ, List, Ok, fal
 ghost use Rattle.brpc_model.specs.Items.{Item};
 ghost use Rattle.brpc_model.specs.Script.{script_of};
 ghost use Rattle.seat_programs.specs.Ticks.{seats_of};
-ghost use Rattle.seat_programs.specs.Runs.{Scheduled};
+ghost use Rattle.seat_programs.specs.ScheduledRuns.{Scheduled};
 ghost use Rattle.brpc_model.specs.Operations.{seat_number, turn_of, schedule};
-ghost use Rattle.script_items.specs.Meaning.{seat_of};
-ghost use Rattle.sock_core.specs.Beginnings.{IsMade};
-ghost use Rattle.machine_model.specs.Links.{AreAlwaysReady};
-ghost use Rattle.machine_model.specs.Runs.{SameLinks};
+ghost use Rattle.script_items.specs.LineMeaning.{seat_of};
+ghost use Rattle.sock_core.specs.MachineBeginning.{IsMade};
+ghost use Rattle.machine_model.specs.MachineLinks.{AreAlwaysReady};
+ghost use Rattle.machine_model.specs.MachineRuns.{SameLinks};
 ghost use Rattle.script_run.specs.Outlines.{meant};
 ghost use Rattle.script_run.specs.Played.{IsPlayable, HasPlayed, HasRun, HasTurns, turns_of};
 

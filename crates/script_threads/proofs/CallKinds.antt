@@ -2,42 +2,42 @@
 use Rattle.std.proofs.Common.{◌≡◌, ℕ, zero, suc, ◌+◌, ◌*◌, ◌<◌, ◌⊎◌, inl, inr, true, List, [], ◌∷◌, ◌++◌, replicate, Option, Some, None, Ok, refl, sym, ap, ◌∙◌, subst, arith}
 use mathlib.Core.Option.{some, some-ne-none}
 use lib.ListN.{get_elem?}
-use Rattle.script_parts.specs.callless_fits.specs.sock_deeds.specs.outcome_stories.specs.program_walks.specs.chain_steps.proofs.Lists.{old, new, at_snoc}
+use Rattle.script_parts.specs.callless_fits.specs.sock_deeds.specs.outcome_stories.specs.program_walks.specs.chain_steps.proofs.TicketLists.{old, new, at_snoc}
 use Rattle.sock_io.specs.declared.link.Out.{Ghosts}
-use Rattle.sock_io.specs.Link.{OutState, InState}
+use Rattle.sock_io.specs.LinkHalves.{OutState, InState}
 use Rattle.sock_words.specs.declared.outcome.Outcome.{Outcome}
 use Rattle.sock_words.specs.declared.outcome.Outcome.TheVariants.{Unopened, Answered, Peer, CallFailed}
 use Rattle.sock_words.specs.declared.plain.Plan.{Plan}
 use Rattle.brpc_model.specs.Items.{Item}
-use Rattle.brpc_model.specs.Link.{LinkEnd}
+use Rattle.brpc_model.specs.ReturnedLink.{LinkEnd}
 use Rattle.brpc_model.specs.Script.{script_of}
 use Rattle.corr_core.specs.declared.marks.Plan as id_plan
 use Rattle.sock_message.specs.Asked.{Asked}
 use Rattle.seat_programs.specs.declared.task.Op.{Op}
 use Rattle.seat_programs.specs.declared.task.Op.TheVariants as ops
 use Rattle.seat_programs.specs.declared.task.Task.{Task}
-use Rattle.seat_programs.specs.Scripts.{all_tasks}
+use Rattle.seat_programs.specs.ScriptSetupToEnding.{all_tasks}
 use Rattle.seat_programs.specs.Tasks.{plan_of}
-use Rattle.seat_programs.specs.Told.{IsTask, Became}
+use Rattle.seat_programs.specs.Explained.{IsTask, Became}
 use Rattle.rpc_client.specs.declared.acting.Told.{Told}
-use Rattle.call_run.specs.call_client.specs.Acting.{Stand, Acted}
-use Rattle.call_run.specs.call_client.specs.Running.{Course, Ran, begins}
+use Rattle.call_run.specs.call_client.specs.ClientBetweenOperations.{Stand, Acted}
+use Rattle.call_run.specs.call_client.specs.ClientRun.{Course, Ran, begins}
 use Rattle.call_run.specs.Threads.{Thread, IsThread}
 use Rattle.script_parts.specs.call_whys.specs.call_deeds.proofs.Ran.{Result, results}
-use Rattle.script_parts.specs.call_whys.specs.call_deeds.proofs.Told.{all_results, came, made, said_of}
-use Rattle.script_parts.specs.call_whys.specs.call_places.proofs.Clients.{Client}
-use Rattle.script_parts.specs.call_whys.specs.call_places.proofs.Places.{all as all_clients, all_are}
-use Rattle.script_parts.specs.call_whys.specs.call_told.specs.Answers.{is_end_of_call}
-use Rattle.script_parts.specs.call_whys.specs.call_told.specs.Once.{ends_of}
-use Rattle.script_parts.proofs.Sayings.{told_each, none_told}
+use Rattle.script_parts.specs.call_whys.specs.call_deeds.proofs.OperationsToldOnce.{all_results, came, made, said_of}
+use Rattle.script_parts.specs.call_whys.specs.call_places.proofs.ClientPlaces.{Client}
+use Rattle.script_parts.specs.call_whys.specs.call_places.proofs.CallPlaceOrders.{all as all_clients, all_are}
+use Rattle.script_parts.specs.call_whys.specs.call_told.specs.TellersOfCallEnds.{is_end_of_call}
+use Rattle.script_parts.specs.call_whys.specs.call_told.specs.ToldOnce.{ends_of}
+use Rattle.script_parts.proofs.ClientSayingsByNumber.{told_each, none_told}
 use Rattle.script_parts.proofs.Tellers.{HasResult, IsEndTold}
 use Rattle.script_parts.proofs.Tellers as tellers
-use Rattle.script_parts.specs.calls_done.proofs.Known.{IsOfCall}
-use Rattle.script_threads.specs.Told.{IsThreadsRun}
+use Rattle.script_parts.specs.calls_done.proofs.KnownCallRun.{IsOfCall}
+use Rattle.script_threads.specs.ServedScriptTold.{IsThreadsRun}
 use Rattle.script_threads.proofs.Speaking.{parts_of}
-use Rattle.script_threads.proofs.Reports.{text_of, text_outcomes}
-use Rattle.script_threads.proofs.Sockets as sockets
-use Rattle.script_parts.specs.callless_fits.specs.sock_deeds.proofs.Places.{map_back}
+use Rattle.script_threads.proofs.ReportsOfThreads.{text_of, text_outcomes}
+use Rattle.script_threads.proofs.SocketsOfReadLinks as sockets
+use Rattle.script_parts.specs.callless_fits.specs.sock_deeds.proofs.ListPlaces.{map_back}
 
 ends_some : (by : Outcome) (id : ℕ) → 0 < ends_of id by → is_end_of_call by ≡ true
 ends_some (Answered i payload attachment) id h = refl

@@ -8,24 +8,24 @@ use Rattle.sock_words.specs.declared.plain.Plan.{Plan}
 use Rattle.sock_words.specs.declared.socket_id.SocketId.{SocketId}
 use Rattle.sock_io.specs.declared.link.Take.{Take}
 use Rattle.sock_io.specs.declared.link.Take.TheVariants as take_
-use Rattle.sock_io.specs.Link.{InState, TakeStep, IsTakeCount, taken_count, given_of}
-use Rattle.brpc_model.specs.Causes.{reading_limit}
+use Rattle.sock_io.specs.LinkHalves.{InState, TakeStep, IsTakeCount, taken_count, given_of}
+use Rattle.brpc_model.specs.LinkFailureCauses.{reading_limit}
 use Rattle.seat_programs.specs.sock_model.specs.declared.view.View.{View}
-use Rattle.seat_programs.specs.sock_model.specs.Layout.{open_index}
+use Rattle.seat_programs.specs.sock_model.specs.SocketTableLayout.{open_index}
 use Rattle.corr_core.specs.declared.marks.Plan as id_plan
-use Rattle.rpc_reader.specs.Books.{Books}
-use Rattle.rpc_reader.specs.Failing.{OpenedBy}
-use Rattle.rpc_reader.specs.Reading.{EndsBy}
-use Rattle.rpc_reader.specs.Running.{throws, is_starved, ThrownIf, ReadToEnd, ReadIf}
-use Rattle.rpc_reader.specs.Taking.{Took, Takes, goes_on, piece_of, bytes_of}
+use Rattle.rpc_reader.specs.ReaderBooks.{Books}
+use Rattle.rpc_reader.specs.ReaderSocketFailing.{OpenedBy}
+use Rattle.rpc_reader.specs.LinkReading.{EndsBy}
+use Rattle.rpc_reader.specs.ReaderRunFromOpen.{throws, is_starved, ThrownIf, ReadToEnd, ReadIf}
+use Rattle.rpc_reader.specs.ReadingTakeByTake.{Took, Takes, goes_on, piece_of, bytes_of}
 use Rattle.rpc_reader.specs.Throwing.{ThrewAway}
 use Rattle.rpc_reader.specs.declared.reading.How.{How}
 use Rattle.rpc_reader.specs.declared.reading.How.TheVariants as how
 use Rattle.script_parts.specs.call_whys.specs.call_told.proofs.Gains.{Gains, gains_read}
-use Rattle.script_parts.specs.call_whys.specs.call_told.proofs.Linked.{read_bytes}
-use Rattle.script_parts.specs.call_whys.specs.call_told.proofs.Readers.{link_read}
-use Rattle.script_threads.proofs.Early.{last_step, rose_some}
-use Rattle.sock_words.specs.Words.{NO_SOCKET}
+use Rattle.script_parts.specs.call_whys.specs.call_told.proofs.CallsEndedBehindLinks.{read_bytes}
+use Rattle.script_parts.specs.call_whys.specs.call_told.proofs.ToldByReaders.{link_read}
+use Rattle.script_threads.proofs.ReadingEndedEarly.{last_step, rose_some}
+use Rattle.sock_words.specs.PackedWords.{NO_SOCKET}
 
 -- it shows where its reading ended
 pub data ShowsOut (t : InState) : Type 0 where

@@ -4,23 +4,23 @@ use Rattle.std.specs.Prelude.{slice_index}
 use mathlib.Core.Logic.{dite}
 use native.Mathlib.Decide.{dec_lt}
 use Rattle.sock_io.specs.declared.link.Out.{Ghosts}
-use Rattle.sock_io.specs.Link.{OutState, InState}
+use Rattle.sock_io.specs.LinkHalves.{OutState, InState}
 use Rattle.sock_words.specs.declared.outcome.Outcome.{Outcome}
 use Rattle.brpc_model.specs.Items.{Item, is_call}
-use Rattle.brpc_model.specs.Link.{LinkEnd}
-use Rattle.brpc_model.specs.Messages.{shown_id}
+use Rattle.brpc_model.specs.ReturnedLink.{LinkEnd}
+use Rattle.brpc_model.specs.MessageOfLabel.{shown_id}
 use Rattle.brpc_model.specs.Operations.{operations}
 use Rattle.brpc_model.specs.Script.{script_of}
 use Rattle.corr_core.specs.Word.{parts}
 use Rattle.seat_programs.specs.Tasks.{Numbered, calls, numbered}
-use Rattle.script_parts.specs.script_facts.proofs.Lists.{filter_map_short}
-use Rattle.script_parts.specs.script_facts.proofs.Numbering.{numbered_length}
-use Rattle.script_parts.specs.script_facts.proofs.Sizes.{keeps_limits}
-use Rattle.script_parts.specs.call_whys.proofs.Versions.{IsIdFor, shown_end}
-use Rattle.script_threads.specs.Told.{seated_ids, IsThreadsRun}
+use Rattle.script_parts.specs.script_facts.proofs.FilteredLists.{filter_map_short}
+use Rattle.script_parts.specs.script_facts.proofs.OperationNumbering.{numbered_length}
+use Rattle.script_parts.specs.script_facts.proofs.ScriptSizes.{keeps_limits}
+use Rattle.script_parts.specs.call_whys.proofs.CallVersionsDistinct.{IsIdFor, shown_end}
+use Rattle.script_threads.specs.ServedScriptTold.{seated_ids, IsThreadsRun}
 use Rattle.script_threads.proofs.Speaking.{parts_of}
-use Rattle.script_threads.proofs.Attempts.{are_ids}
-use Rattle.script_threads.proofs.Reports.{text_of, text_outcomes}
+use Rattle.script_threads.proofs.AttemptsOnThreads.{are_ids}
+use Rattle.script_threads.proofs.ReportsOfThreads.{text_of, text_outcomes}
 
 module _ (P : Type 0) {O I : Type 0} (g : Ghosts O) (out : O → OutState) (inn : I → InState) (bytes : List ℕ) (script : List Item) (reads : script_of bytes ≡ Ok script) (text : List ℕ) (links : List LinkEnd) (r : IsThreadsRun P g out inn script text links) where
   open parts_of r use {last}

@@ -2,21 +2,21 @@
 use Rattle.std.specs.Prelude.{ℕ, List, ◌∷◌, ◌++◌, Option}
 use Rattle.std.specs.List.{flat_map}
 use Rattle.sock_io.specs.declared.link.Out.{Ghosts}
-use Rattle.sock_io.specs.Link.{OutState, InState}
+use Rattle.sock_io.specs.LinkHalves.{OutState, InState}
 use Rattle.sock_words.specs.declared.outcome.Outcome.{Outcome}
 use Rattle.sock_words.specs.declared.plain.Plan.{Plan}
 use Rattle.brpc_model.specs.Items.{Item}
-use Rattle.brpc_model.specs.Link.{LinkEnd}
+use Rattle.brpc_model.specs.ReturnedLink.{LinkEnd}
 use Rattle.corr_core.specs.declared.marks.Plan as id_plan
 use Rattle.corr_core.specs.declared.marks.View.{View}
 use Rattle.sock_message.specs.Asked.{Asked}
 use Rattle.seat_programs.specs.declared.task.Task.{Task}
 use Rattle.seat_programs.specs.Tasks.{plan_of}
 use Rattle.prpc_frame.specs.declared.frame.Frame.{Frame}
-use Rattle.rpc_reader.specs.Books.{Books}
-use Rattle.call_run.specs.Readers.{LinkReader}
-use Rattle.script_parts.specs.Told.{outcomes_of}
-use Rattle.script_threads.specs.Told.{seated_plan, seated_ids, begins_with, IsThreadsRun}
+use Rattle.rpc_reader.specs.ReaderBooks.{Books}
+use Rattle.call_run.specs.ReadersOfLinks.{LinkReader}
+use Rattle.script_parts.specs.ThreadScriptTold.{outcomes_of}
+use Rattle.script_threads.specs.ServedScriptTold.{seated_plan, seated_ids, begins_with, IsThreadsRun}
 
 module _ {P : Type 0} {O I : Type 0} {g : Ghosts O} {out : O → OutState} {inn : I → InState} {script : List Item} {text : List ℕ} {links : List LinkEnd} (r : IsThreadsRun P g out inn script text links) where
   -- the sizes of its tables, the tasks of its clients with the setup's, and its readers; the seat that took in all, and what it has in the end; and what became of the operations

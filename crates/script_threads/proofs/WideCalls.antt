@@ -5,8 +5,8 @@ use Rattle.sock_words.specs.declared.outcome.Outcome.TheVariants as outcome
 use Rattle.sock_words.specs.declared.plain.Plan.{Plan}
 use Rattle.sock_message.specs.Asked.{Asked}
 use Rattle.seat_programs.specs.declared.task.Task.{Task}
-use Rattle.seat_programs.specs.ToldCalls.{Order, Fixed, WhyLost, WasFailing, RunEnding, WasUnopened, WhyAgain, AfterDrop, AfterLoss, AfterFull, EndedWith, FailedBy, ByExpiry, ByCompression, ByFrameFault, ByEnd, BySocket, ByRequests, ByFail, WhyExpire}
-use Rattle.script_parts.specs.failed_reasons.specs.Ends.{LeftAt, OnLink, NoneOpened}
+use Rattle.seat_programs.specs.ExplainedCalls.{Order, Fixed, WhyLost, WasFailing, RunEnding, WasUnopened, WhyAgain, AfterDrop, AfterLoss, AfterFull, EndedWith, FailedBy, ByExpiry, ByCompression, ByFrameFault, ByEnd, BySocket, ByRequests, ByFail, WhyExpire}
+use Rattle.script_parts.specs.failed_reasons.specs.CallsEndedByReading.{LeftAt, OnLink, NoneOpened}
 use Rattle.script_threads.proofs.Widened.{none_still}
 
 module _ (p : Plan) (n : ℕ) (clients : List (List Task)) (outcomes : List (Option Outcome)) (fixed : Fixed) (gave : ℕ → List ℕ) (orders : ℕ → Order) where

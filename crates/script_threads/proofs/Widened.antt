@@ -7,10 +7,10 @@ use Rattle.seat_programs.specs.declared.task.Op.{Op}
 use Rattle.seat_programs.specs.declared.task.Op.TheVariants as ops
 use Rattle.seat_programs.specs.declared.task.Task.{Task}
 use Rattle.seat_programs.specs.Cores.{Core}
-use Rattle.seat_programs.specs.ToldCalls.{Accepted, Order, Fixed, AreOrders, FoundNone, FoundFailed, IsSent, OfSend, OfCall, OutcomeCause}
-use Rattle.script_parts.specs.script_facts.proofs.Lists.{all_map}
-use Rattle.script_parts.specs.attempts_told.specs.Attempts.{AreAttemptsTold}
-use Rattle.script_parts.specs.callless_fits.specs.sock_deeds.specs.Told.{IsOfSockets, IsAttempt, ToldSockets}
+use Rattle.seat_programs.specs.ExplainedCalls.{Accepted, Order, Fixed, AreOrders, FoundNone, FoundFailed, IsSent, OfSend, OfCall, OutcomeCause}
+use Rattle.script_parts.specs.script_facts.proofs.FilteredLists.{all_map}
+use Rattle.script_parts.specs.attempts_told.specs.CountedAttempts.{AreAttemptsTold}
+use Rattle.script_parts.specs.callless_fits.specs.sock_deeds.specs.SocketsTold.{IsOfSockets, IsAttempt, ToldSockets}
 
 module _ (p : Plan) (n : ℕ) (clients : List (List Task)) (outcomes : List (Option Outcome)) (fixed : Fixed) (gave : ℕ → List ℕ) (orders : ℕ → Order) where
   -- with so many seats

@@ -1,6 +1,6 @@
-pub mod Told
-pub mod Sockets
-pub mod Joins
-pub mod Gave
-pub mod Served
+pub mod ServedScriptTold
+pub mod SocketsOfReadLinks
+pub mod ClientJoins
+pub mod GaveWhatWasOffered
+pub mod ServedLinksOfReport
 pub use Rattle.script_parts

@@ -1,8 +1,8 @@
 // What is left of calls once all clients and readers of a run have ended, and how the table of ids ends.
 ghost use Rattle.std.specs.Prelude.{◌≡◌, ◌<◌, ◌≤◌, All, IfOk};
 ghost use Rattle.std.specs.List.{flat_map};
-ghost use Rattle.call_run.specs.Crew.{AreLeft};
-ghost use Rattle.script_threads.specs.Told.{HasEnded};
+ghost use Rattle.call_run.specs.CrewOfRun.{AreLeft};
+ghost use Rattle.script_threads.specs.ServedScriptTold.{HasEnded};
 ghost use Rattle.sock_words.specs.Totals.{total};
 
 use corr_id::{IdSeat, IdTable};

@@ -7,11 +7,11 @@ use Rattle.sock_model.specs.sock_words.specs.declared.outcome.Outcome.{Outcome}
 use Rattle.sock_model.specs.sock_words.specs.declared.plain.Plan.{Plan}
 use Rattle.sock_model.specs.declared.home.Home.{Home}
 use Rattle.sock_model.specs.declared.home.Home.TheVariants.{Link, Message}
-use Rattle.seat_programs.specs.Calls.{TableStep, TakeLink, FinishLink, PutLink, PutMessage}
+use Rattle.seat_programs.specs.TableSteps.{TableStep, TakeLink, FinishLink, PutLink, PutMessage}
 use Rattle.seat_programs.specs.StepTables.{word_of, word_after}
 use Rattle.seat_programs.specs.Programs.{Program, Say, Sent, Keep, Retries}
-use Rattle.seat_programs.specs.Heads.{Retry}
-use Rattle.seat_programs.specs.Attempts.{retry}
+use Rattle.seat_programs.specs.LoopHeads.{Retry}
+use Rattle.seat_programs.specs.CallAndRetryPrograms.{retry}
 use Rattle.sock_message.specs.Asked.{Asked}
 use Rattle.corr_core.specs.declared.marks.Plan.{Plan as IdPlan}
 

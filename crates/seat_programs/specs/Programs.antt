@@ -1,7 +1,7 @@
 -- The program of each operation: a tree of steps, which goes on by the word that each step found.
 use Rattle.std.specs.Prelude.{ℕ, zero, suc, ◌+◌, ◌-◌, ◌%◌, ◌==◌, ◌&&◌, Bool, true, false, List, nat_le, if◌then◌else◌}
-use Rattle.sock_model.specs.sock_words.specs.Codes.{EEOF}
-use Rattle.sock_model.specs.sock_words.specs.Words.{socket_id, socket_id_version, socket_id_slot, vref_version, vref_nref, NO_SOCKET}
+use Rattle.sock_model.specs.sock_words.specs.ErrorCodes.{EEOF}
+use Rattle.sock_model.specs.sock_words.specs.PackedWords.{socket_id, socket_id_version, socket_id_slot, vref_version, vref_nref, NO_SOCKET}
 use Rattle.sock_model.specs.sock_words.specs.declared.outcome.Outcome.{Outcome}
 use Rattle.sock_model.specs.sock_words.specs.declared.outcome.Outcome.TheVariants.{Opened, SlotsFull, Unopened, Gone, Held, Freed, Kept, Failed, Already}
 use Rattle.sock_io.specs.declared.link.Put.{Put}
@@ -9,8 +9,8 @@ use Rattle.sock_io.specs.declared.link.Ready.{Ready}
 use Rattle.sock_model.specs.declared.chain.Heading.{Heading}
 use Rattle.seat_programs.specs.Writings.{Writing}
 use Rattle.seat_programs.specs.Asides.{Step, Found}
-use Rattle.seat_programs.specs.Heads.{Head, Exit, Retry}
-use Rattle.seat_programs.specs.Calls.{TableStep, ClaimSlot, CreateLife, AddRef, SubRef, SetOdd, Recycle, FreeSlot, StoreLink, LoadLink, ResetHead, ClearCode, StoreCode, StoreName, LoadName, StoreOpen, LoadOpen, TakeLink, FinishLink, PutLink}
+use Rattle.seat_programs.specs.LoopHeads.{Head, Exit, Retry}
+use Rattle.seat_programs.specs.TableSteps.{TableStep, ClaimSlot, CreateLife, AddRef, SubRef, SetOdd, Recycle, FreeSlot, StoreLink, LoadLink, ResetHead, ClearCode, StoreCode, StoreName, LoadName, StoreOpen, LoadOpen, TakeLink, FinishLink, PutLink}
 
 -- what a seat has still to do: a step, and what follows by the word found; an operation's outcome, which takes no step; or nothing.
 -- Whoever writes a link also makes steps that find more than a word: a message out of its home, which is that of the request; the link out

@@ -7,7 +7,7 @@ use Rattle.sock_model.specs.declared.home.Home.{Home}
 use Rattle.sock_model.specs.declared.view.View.{View}
 use Rattle.sock_model.specs.declared.view.Hand.{Hand}
 use Rattle.seat_programs.specs.TableWords.{TableWord, index_of}
-use Rattle.seat_programs.specs.Calls.{TableStep, Family, Slots, Names, Chain, Places, Links, Messages, family_of}
+use Rattle.seat_programs.specs.TableSteps.{TableStep, Family, Slots, Names, Chain, Places, Links, Messages, family_of}
 use Rattle.seat_programs.specs.StepsOfSlots.{word_of_slot, slot_after, SlotMay, SlotFinds, slot_row}
 use Rattle.seat_programs.specs.StepsOfNames.{word_of_name, name_after, NameMay, NameFinds, name_row}
 use Rattle.seat_programs.specs.StepsOfChain.{word_of_chain, chain_after, ChainMay, chain_hand, ChainFinds, chain_row}

@@ -4,7 +4,7 @@ use Rattle.std.specs.Prelude.{ℕ, ◌≡◌, ◌≢◌, ◌+◌, ◌*◌, ◌/�
 use lib.ListN.{get_elem?}
 use mathlib.Core.Option.{Option, none, some}
 use Rattle.sock_model.specs.sock_words.specs.declared.plain.Plan.{Plan}
-use Rattle.sock_model.specs.sock_words.specs.Words.{socket_id_version, socket_id_slot, ticket_request, ticket_generation, IDLE, UNCONNECTED}
+use Rattle.sock_model.specs.sock_words.specs.PackedWords.{socket_id_version, socket_id_slot, ticket_request, ticket_generation, IDLE, UNCONNECTED}
 use Rattle.sock_model.specs.declared.chain.Claim.{Claim}
 use Rattle.sock_model.specs.declared.chain.Right.{Right}
 use Rattle.sock_model.specs.declared.chain.Stage.{Stage}
@@ -12,14 +12,14 @@ use Rattle.sock_model.specs.declared.chain.Stage.TheVariants.{Writes, Placed, Pa
 use Rattle.sock_model.specs.declared.home.Home.{Home}
 use Rattle.sock_model.specs.declared.view.View.{View}
 use Rattle.sock_model.specs.declared.view.Hand.{Hand}
-use Rattle.sock_model.specs.Layout.{link_index}
+use Rattle.sock_model.specs.SocketTableLayout.{link_index}
 use Rattle.sock_model.specs.SlotRows.{met_link}
 use Rattle.sock_model.specs.ChainRows.{with_claim, queued, righted, without_loose, with_right, without_right, turned_right, ready_claim}
-use Rattle.sock_model.specs.Reads.{link_home}
-use Rattle.sock_model.specs.Conditions.{MayExchange, MayEmpty, MayTurn}
+use Rattle.sock_model.specs.ChainLawReads.{link_home}
+use Rattle.sock_model.specs.ChainStepConditions.{MayExchange, MayEmpty, MayTurn}
 use Rattle.seat_programs.specs.Programs.{LAST_GENERATION}
 use Rattle.seat_programs.specs.TableWords.{TableWord, HeadOf, RequestOf, NextOf}
-use Rattle.seat_programs.specs.Calls.{TableStep, ClaimRequest, SwapHead, Connect, EmptyHead, ReadNext, ReverseNext, Unconnect, FreeRequest}
+use Rattle.seat_programs.specs.TableSteps.{TableStep, ClaimRequest, SwapHead, Connect, EmptyHead, ReadNext, ReverseNext, Unconnect, FreeRequest}
 use Rattle.seat_programs.specs.StepViews.{HoldsLife, Claims, FindsLink, by_claim, by_right, settled}
 use Rattle.seat_programs.specs.StepsOfLinks.{as_hand}
 

@@ -6,13 +6,13 @@ use Rattle.sock_model.specs.sock_words.specs.declared.plain.Plan.{Plan}
 use Rattle.sock_model.specs.declared.home.Home.{Home}
 use Rattle.sock_model.specs.declared.view.View.{View}
 use Rattle.sock_model.specs.declared.view.Hand.{Hand}
-use Rattle.sock_model.specs.Weights.{only, is_recycled, is_met}
+use Rattle.sock_model.specs.MarkWeights.{only, is_recycled, is_met}
 use Rattle.sock_model.specs.SlotRows.{marks_of}
 use Rattle.sock_model.specs.ChainRows.{with_hand, without_hand, spent_hand, with_right, put_right}
-use Rattle.sock_model.specs.Reads.{link_home}
+use Rattle.sock_model.specs.ChainLawReads.{link_home}
 use Rattle.sock_io.specs.declared.link.Put.{Put}
 use Rattle.sock_io.specs.declared.link.Put.TheVariants.{Took}
-use Rattle.seat_programs.specs.Calls.{TableStep, TakeLink, PutLink, FinishLink}
+use Rattle.seat_programs.specs.TableSteps.{TableStep, TakeLink, PutLink, FinishLink}
 use Rattle.seat_programs.specs.StepViews.{by_right}
 use Rattle.sock_model.specs.sock_words.specs.Totals.{total}
 

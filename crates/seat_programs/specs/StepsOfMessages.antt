@@ -5,7 +5,7 @@ use Rattle.sock_model.specs.declared.chain.Heading.{Heading}
 use Rattle.sock_model.specs.declared.view.View.{View}
 use Rattle.sock_model.specs.declared.view.Hand.{Hand}
 use Rattle.sock_model.specs.ChainRows.{with_claim, with_right, taken_right, filled_claim}
-use Rattle.seat_programs.specs.Calls.{TableStep, PutMessage}
+use Rattle.seat_programs.specs.TableSteps.{TableStep, PutMessage}
 use Rattle.seat_programs.specs.StepViews.{Claims, by_claim, by_right}
 
 -- ## Before a step

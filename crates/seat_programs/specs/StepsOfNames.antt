@@ -3,13 +3,13 @@
 use Rattle.std.specs.Prelude.{ℕ, ◌≡◌, ◌≢◌, ◌-◌, ◌<◌, ◌⊎◌, ◌==◌, ◌||◌, Bool, not, nat_lt, IsTrue, if◌then◌else◌}
 use mathlib.Core.Option.{Option, none, some}
 use Rattle.sock_model.specs.sock_words.specs.declared.plain.Plan.{Plan}
-use Rattle.sock_model.specs.sock_words.specs.Words.{socket_id_version, socket_id_slot, NO_SOCKET}
+use Rattle.sock_model.specs.sock_words.specs.PackedWords.{socket_id_version, socket_id_slot, NO_SOCKET}
 use Rattle.sock_model.specs.declared.view.View.{View}
 use Rattle.sock_model.specs.declared.view.Hand.{Hand}
-use Rattle.sock_model.specs.Layout.{name_index, open_index}
+use Rattle.sock_model.specs.SocketTableLayout.{name_index, open_index}
 use Rattle.sock_model.specs.SlotRows.{met, wrote}
 use Rattle.seat_programs.specs.TableWords.{TableWord, NameOf, OpenOf}
-use Rattle.seat_programs.specs.Calls.{TableStep, StoreName, LoadName, StoreOpen, LoadOpen}
+use Rattle.seat_programs.specs.TableSteps.{TableStep, StoreName, LoadName, StoreOpen, LoadOpen}
 use Rattle.seat_programs.specs.StepViews.{Knows}
 
 -- ## The word

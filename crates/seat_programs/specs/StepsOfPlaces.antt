@@ -8,15 +8,15 @@ use Rattle.sock_model.specs.declared.chain.Stage.{Stage}
 use Rattle.sock_model.specs.declared.chain.Stage.TheVariants.{Writes}
 use Rattle.sock_model.specs.declared.view.View.{View}
 use Rattle.sock_model.specs.declared.view.Hand.{Hand}
-use Rattle.sock_model.specs.Weights.{is_saw}
+use Rattle.sock_model.specs.MarkWeights.{is_saw}
 use Rattle.sock_model.specs.SlotRows.{marks_of}
 use Rattle.sock_model.specs.ChainRows.{with_right, placed_right, dropped_right}
-use Rattle.sock_model.specs.Links.{HoldsLink}
-use Rattle.sock_model.specs.Conditions.{MayPlace, MayDrop}
+use Rattle.sock_model.specs.LinksInSlots.{HoldsLink}
+use Rattle.sock_model.specs.ChainStepConditions.{MayPlace, MayDrop}
 use Rattle.seat_programs.specs.TableWords.{TableWord, PlaceOf}
-use Rattle.seat_programs.specs.Calls.{TableStep, StorePlace, DropPlace}
+use Rattle.seat_programs.specs.TableSteps.{TableStep, StorePlace, DropPlace}
 use Rattle.seat_programs.specs.StepViews.{by_right, settled}
-use Rattle.sock_model.specs.sock_words.specs.Words.{place_word}
+use Rattle.sock_model.specs.sock_words.specs.PackedWords.{place_word}
 
 -- ## The word
 

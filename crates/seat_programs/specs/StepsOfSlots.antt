@@ -3,19 +3,19 @@
 use Rattle.std.specs.Prelude.{ℕ, ◌≡◌, ◌≢◌, ◌+◌, ◌-◌, ◌%◌, ◌<◌, ◌≤◌, ◌⊎◌, ◌==◌, true, [], ◌∷◌, if◌then◌else◌, bit_or}
 use mathlib.Core.Option.{Option, none, some}
 use Rattle.sock_model.specs.sock_words.specs.declared.plain.Plan.{Plan}
-use Rattle.sock_model.specs.sock_words.specs.Words.{socket_id_version, socket_id_slot, vref_version, vref_nref, IDLE, vref_unused}
+use Rattle.sock_model.specs.sock_words.specs.PackedWords.{socket_id_version, socket_id_slot, vref_version, vref_nref, IDLE, vref_unused}
 use Rattle.sock_model.specs.declared.chain.Right.{Right}
 use Rattle.sock_model.specs.declared.view.View.{View}
 use Rattle.sock_model.specs.declared.view.Hand.{Hand}
-use Rattle.sock_model.specs.Weights.{only, is_ref, is_hold, is_zero, is_recycled, is_stage, is_coding, is_any_coding, is_busy, is_saw}
+use Rattle.sock_model.specs.MarkWeights.{only, is_ref, is_hold, is_zero, is_recycled, is_stage, is_coding, is_any_coding, is_busy, is_saw}
 use Rattle.sock_model.specs.SlotRows.{marks_of, claimed, gave_birth, added, back, subbed, failed, recycled, freed, linked, staged, coded, met_link, looked, told_code}
 use Rattle.sock_model.specs.ChainRows.{with_right}
-use Rattle.sock_model.specs.Links.{HoldsLink}
+use Rattle.sock_model.specs.LinksInSlots.{HoldsLink}
 use Rattle.seat_programs.specs.Programs.{LAST_VERSION}
 use Rattle.seat_programs.specs.TableWords.{TableWord, TagOf, RefOf, LinkOf, HeadOf, CodeOf}
-use Rattle.seat_programs.specs.Calls.{TableStep, ClaimSlot, CreateLife, AddRef, SubRef, SetOdd, Recycle, FreeSlot, LookWord, StoreLink, LoadLink, FindLink, ResetHead, ClearCode, StoreCode, LoadCode}
+use Rattle.seat_programs.specs.TableSteps.{TableStep, ClaimSlot, CreateLife, AddRef, SubRef, SetOdd, Recycle, FreeSlot, LookWord, StoreLink, LoadLink, FindLink, ResetHead, ClearCode, StoreCode, LoadCode}
 use Rattle.seat_programs.specs.StepViews.{Knows, HasRoom, HoldsLife, FindsLink, by_right}
-use Rattle.sock_model.specs.Conditions.{KeepsRights}
+use Rattle.sock_model.specs.ChainStepConditions.{KeepsRights}
 use Rattle.sock_model.specs.sock_words.specs.Totals.{total}
 
 -- ## The word

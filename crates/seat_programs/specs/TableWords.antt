@@ -2,7 +2,7 @@
 use Rattle.std.specs.Prelude.{ℕ, ◌*◌, ◌<◌}
 use mathlib.Core.Option.{Option, none, some}
 use Rattle.sock_model.specs.sock_words.specs.declared.plain.Plan.{Plan}
-use Rattle.sock_model.specs.Layout.{tag_index, ref_index, link_index, head_index, code_index, name_index, open_index, request_index, next_index, place_index}
+use Rattle.sock_model.specs.SocketTableLayout.{tag_index, ref_index, link_index, head_index, code_index, name_index, open_index, request_index, next_index, place_index}
 
 pub data TableWord : Type 0 where
   -- of a slot: its tag, its version and references, its link, its head, its error code

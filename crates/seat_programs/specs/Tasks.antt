@@ -7,7 +7,7 @@ use Rattle.seat_programs.specs.declared.task.Task.{Task}
 use Rattle.sock_message.specs.Asked.{Asked}
 use Rattle.corr_core.specs.declared.marks.Plan.{Plan as IdPlan}
 use Rattle.sock_message.specs.brpc_model.specs.Items.{Item, Open, Send, Call, Expire, Join, Fail, Hold, Drop, CallLine, is_open, is_call}
-use Rattle.sock_message.specs.brpc_model.specs.Places.{names}
+use Rattle.sock_message.specs.brpc_model.specs.LinePlaceFaults.{names}
 use Rattle.sock_message.specs.brpc_model.specs.Operations.{Operation, operations, clients, link_names, slots, requests, first_version}
 
 -- the number of a name, by the order of first mention

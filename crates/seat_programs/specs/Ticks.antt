@@ -11,23 +11,23 @@ use Rattle.sock_io.specs.declared.link.Ready.TheVariants.{NotYet}
 use Rattle.sock_io.specs.declared.link.Ready.TheVariants as ready
 use Rattle.sock_model.specs.declared.home.Home.{Home}
 use Rattle.sock_model.specs.declared.home.Home.TheVariants.{Link}
-use Rattle.sock_model.specs.Layout.{next_index}
-use Rattle.sock_model.specs.Messages.{HeadedBytes}
-use Rattle.sock_model.specs.Reads.{message, link_home}
+use Rattle.sock_model.specs.SocketTableLayout.{next_index}
+use Rattle.sock_model.specs.UnplacedMessages.{HeadedBytes}
+use Rattle.sock_model.specs.ChainLawReads.{message, link_home}
 use Rattle.seat_programs.specs.Writings as heads
 use Rattle.seat_programs.specs.Programs.{Program, Do, TakeMessage, TakeHome, PutHome, PutBytes, AskReady, Write, Aside, Round}
 use Rattle.seat_programs.specs.Asides.{Step, Found, TakeBytes, Taking, Bytes, Nothing, NoMore}
-use Rattle.seat_programs.specs.Heads.{Head, Locks, Joins, Opens, Reads, Discards}
-use Rattle.seat_programs.specs.Posts.{is_first, is_sought}
-use Rattle.seat_programs.specs.Readers.{room_of}
-use Rattle.seat_programs.specs.Rounds.{round}
-use Rattle.seat_programs.specs.Beside.{found_in, calls_after}
-use Rattle.sock_model.specs.Layout.{open_index}
-use Rattle.id_rule.specs.Lawful as ids
+use Rattle.seat_programs.specs.LoopHeads.{Head, Locks, Joins, Opens, Reads, Discards}
+use Rattle.seat_programs.specs.PostPrograms.{is_first, is_sought}
+use Rattle.seat_programs.specs.ReaderProgram.{room_of}
+use Rattle.seat_programs.specs.LoopRounds.{round}
+use Rattle.seat_programs.specs.FoundAndChangedAside.{found_in, calls_after}
+use Rattle.sock_model.specs.SocketTableLayout.{open_index}
+use Rattle.id_rule.specs.LawfulIdTable as ids
 use Rattle.corr_core.specs.Word.{parts}
-use Rattle.seat_programs.specs.Sends.{block}
+use Rattle.seat_programs.specs.SendAndWritePrograms.{block}
 use Rattle.seat_programs.specs.Cores.{Calls, Core, SeatState, lies_at, first_of, others_of, link_place, with_seat, stepped}
-use Rattle.sock_model.specs.sock_words.specs.Words.{ticket_request, UNCONNECTED, id_slot, id_first}
+use Rattle.sock_model.specs.sock_words.specs.PackedWords.{ticket_request, UNCONNECTED, id_slot, id_first}
 
 -- what a link answered in a tick, where it was asked
 pub data Answer : Type 0 where

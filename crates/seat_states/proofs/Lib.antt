@@ -1,3 +1,3 @@
-pub mod Behind
+pub mod ProgramBehindSteps
 pub mod StepFacts
-pub mod Asides
+pub mod AsidesAndAttempts

@@ -2,10 +2,10 @@
 use Rattle.std.proofs.Common.{◌≡◌, refl, ℕ, ◌+◌, ◌<◌, ◌≤◌, Bool, true, false, if◌then◌else◌, List, Option, Some, None, subst}
 use Rattle.sock_words.specs.declared.outcome.Outcome.{Outcome}
 use Rattle.seat_programs.specs.declared.task.Sizes.{Sizes}
-use Rattle.seat_programs.specs.Calls as calls
+use Rattle.seat_programs.specs.TableSteps as calls
 use Rattle.seat_programs.specs.Asides as asides
 use Rattle.seat_programs.specs.Cores.{said, next_step}
-use Rattle.program_steps.specs.Sound.{AllowsWord}
+use Rattle.program_steps.specs.SoundSeats.{AllowsWord}
 use Rattle.seat_states.specs.declared.point.OpenStep.TheVariants as opens
 use Rattle.seat_states.specs.declared.point.SeekStep.TheVariants as seeks
 use Rattle.seat_states.specs.declared.point.Aim.TheVariants as aims
@@ -16,11 +16,11 @@ use Rattle.seat_states.specs.declared.point.WriteStep.TheVariants as writes
 use Rattle.sock_words.specs.declared.id_word.IdWord.{IdWord}
 use Rattle.seat_programs.specs.Programs.{Program, Aside, Round}
 use Rattle.corr_core.specs.Word.{parts, code_of}
-use Rattle.corr_core.specs.Decisions.{ends_call}
-use Rattle.id_points.specs.Ids.{id_of}
+use Rattle.corr_core.specs.ErrorsThatEndCalls.{ends_call}
+use Rattle.id_points.specs.IdsAndAttemptNumbers.{id_of}
 use Rattle.seat_programs.specs.Asides.{PutCall}
-use Rattle.seat_programs.specs.Heads.{HasEnded, Unlocks}
-use Rattle.seat_programs.specs.Posts.{end_id, unlocked, decided}
+use Rattle.seat_programs.specs.LoopHeads.{HasEnded, Unlocks}
+use Rattle.seat_programs.specs.PostPrograms.{end_id, unlocked, decided}
 use Rattle.call_points.specs.declared.deciding.OnCall.{OnCall}
 use Rattle.call_points.specs.declared.deciding.DecideStep.TheVariants as decides
 use Rattle.call_points.specs.declared.word_step.WordStep.TheVariants as id_steps
@@ -34,9 +34,9 @@ use Rattle.seat_states.specs.declared.point.RetryStep.TheVariants as retries
 use Rattle.seat_states.specs.declared.point.JoinStep.TheVariants as joins
 use Rattle.seat_states.specs.declared.point.Point.{Point}
 use Rattle.seat_states.specs.declared.point.Point.TheVariants as points
-use Rattle.seat_states.specs.Points.{Context, point_program, look_program, after_program, link_at, link_left, MayFind, IsWithin, GoesByWord, TakesCall, TakesMessage, TakesLink, PutsHome, PutsPiece, Asks}
-use Rattle.seat_states.specs.Steps.{First, OfTable, OfAside, OfMessage, OfLink, OfHome, OfPut, OfReady, first_of, first_in}
-use Rattle.sock_words.specs.Words.{id_slot}
+use Rattle.seat_states.specs.SeatPoints.{Context, point_program, look_program, after_program, link_at, link_left, MayFind, IsWithin, GoesByWord, TakesCall, TakesMessage, TakesLink, PutsHome, PutsPiece, Asks}
+use Rattle.seat_states.specs.ProgramStepsOfMachine.{First, OfTable, OfAside, OfMessage, OfLink, OfHome, OfPut, OfReady, first_of, first_in}
+use Rattle.sock_words.specs.PackedWords.{id_slot}
 
 -- the link in hand without a right before and behind a step
 abbrev pub HandOver : calls.TableStep → Option ℕ → Option ℕ → Type 0

@@ -1,3 +1,3 @@
-pub mod Points
-pub mod Steps
+pub mod SeatPoints
+pub mod ProgramStepsOfMachine
 pub use Rattle.program_steps

@@ -1,12 +1,12 @@
 ghost use Rattle.std.specs.Prelude.{◌≡◌, ◌≤◌, ℕ, List, None, Some, if◌then◌else◌};
-ghost use Rattle.seat_programs.specs.Heads.{Posting};
-ghost use Rattle.seat_programs.specs.Attempts.{expire_outcome};
-ghost use Rattle.seat_programs.specs.Posts.{posted, decided};
+ghost use Rattle.seat_programs.specs.LoopHeads.{Posting};
+ghost use Rattle.seat_programs.specs.CallAndRetryPrograms.{expire_outcome};
+ghost use Rattle.seat_programs.specs.PostPrograms.{posted, decided};
 ghost use Rattle.seat_programs.specs.Programs.{Program};
-ghost use Rattle.id_points.specs.Turns.{post_on};
-ghost use Rattle.call_points.specs.Points.{decide_on};
-ghost use Rattle.id_points.specs.Ids.{id_of};
-ghost use Rattle.seat_states.specs.Points.{Context, after_program, error_by, refused_program, posted_program, IsRefused, next_program, tell, told, link_behind};
+ghost use Rattle.id_points.specs.CallIdLoopTurns.{post_on};
+ghost use Rattle.call_points.specs.CallIdPoints.{decide_on};
+ghost use Rattle.id_points.specs.IdsAndAttemptNumbers.{id_of};
+ghost use Rattle.seat_states.specs.SeatPoints.{Context, after_program, error_by, refused_program, posted_program, IsRefused, next_program, tell, told, link_behind};
 
 use crate::point::{AfterStep, Attempt, Author, Continuation, Next, Point, ReleaseStep};
 use crate::releasing::releasing;

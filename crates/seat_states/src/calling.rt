@@ -1,8 +1,8 @@
 ghost use Rattle.std.specs.Prelude.{◌≡◌, ◌-◌, ◌≤◌, ◌+◌, None, Some};
-ghost use Rattle.seat_programs.specs.Attempts.{claim_id};
-ghost use Rattle.call_points.specs.Steps.{after_word};
-ghost use Rattle.seat_states.specs.Points.{Context, client_on, call_program, attempt_program, next_program, framed, IsOneOfIds, IsCalling, HasLink, MayFindAt, link_behind};
-ghost use Rattle.seat_states.specs.Steps.{first_in, step_as};
+ghost use Rattle.seat_programs.specs.CallAndRetryPrograms.{claim_id};
+ghost use Rattle.call_points.specs.AsideCodeSteps.{after_word};
+ghost use Rattle.seat_states.specs.SeatPoints.{Context, client_on, call_program, attempt_program, next_program, framed, IsOneOfIds, IsCalling, HasLink, MayFindAt, link_behind};
+ghost use Rattle.seat_states.specs.ProgramStepsOfMachine.{first_in, step_as};
 
 use crate::table_step::TableStep;
 use crate::point::{

@@ -1,12 +1,12 @@
 ghost use Rattle.std.specs.Prelude.{◌≡◌, ℕ, None, Some};
-ghost use Rattle.seat_programs.specs.Attempts.{retry_locked, tried_again, expire};
-ghost use Rattle.id_points.specs.Turns.{lock_on, unlock_on, sought_as};
-ghost use Rattle.call_points.specs.Steps.{after_word, after_call};
+ghost use Rattle.seat_programs.specs.CallAndRetryPrograms.{retry_locked, tried_again, expire};
+ghost use Rattle.id_points.specs.CallIdLoopTurns.{lock_on, unlock_on, sought_as};
+ghost use Rattle.call_points.specs.AsideCodeSteps.{after_word, after_call};
 ghost use Rattle.seat_programs.specs.sock_message.specs.Asked.{Asked};
-ghost use Rattle.id_points.specs.Ids.{id_of, number_of};
-ghost use Rattle.seat_states.specs.Points.{Context, client_on, locker_of, retry_program, join_program, next_program, with_asked, with_frame, HasRetry, MayLock, RetriesByWord, MayFindId, MayFindJoined, link_behind};
-ghost use Rattle.seat_states.specs.Steps.{first_in, step_as};
-ghost use Rattle.sock_words.specs.Words.{id_slot};
+ghost use Rattle.id_points.specs.IdsAndAttemptNumbers.{id_of, number_of};
+ghost use Rattle.seat_states.specs.SeatPoints.{Context, client_on, locker_of, retry_program, join_program, next_program, with_asked, with_frame, HasRetry, MayLock, RetriesByWord, MayFindId, MayFindJoined, link_behind};
+ghost use Rattle.seat_states.specs.ProgramStepsOfMachine.{first_in, step_as};
+ghost use Rattle.sock_words.specs.PackedWords.{id_slot};
 
 use crate::asking::posting;
 use crate::table_step::TableStep;

@@ -1,10 +1,10 @@
 ghost use Rattle.std.specs.Prelude.{◌≡◌, IfSome, IfNone};
 ghost use mathlib.Core.Option.{some, none};
 ghost use Rattle.std.specs.Prelude.{◌*◌};
-ghost use Rattle.seat_programs.specs.Calls.{kind_of};
+ghost use Rattle.seat_programs.specs.TableSteps.{kind_of};
 ghost use Rattle.seat_programs.specs.StepTables.{word_of, word_after};
-ghost use Rattle.program_steps.specs.Sound.{AllowsWord};
-ghost use Rattle.seat_states.specs.Steps.{step_of};
+ghost use Rattle.program_steps.specs.SoundSeats.{AllowsWord};
+ghost use Rattle.seat_states.specs.ProgramStepsOfMachine.{step_of};
 
 use chain_core::{
     claim_request, connect, empty_head, free_request, read_next, swap_head, turn_next, unconnect,

@@ -6,13 +6,13 @@ use Rattle.seat_programs.specs.brpc_model.specs.Operations.{Turn}
 use Rattle.seat_programs.specs.brpc_model.specs.Script.{script_of}
 use Rattle.seat_programs.specs.Cores.{Core}
 use Rattle.seat_programs.specs.Tasks.{plan_of}
-use Rattle.seat_programs.specs.Scripts.{all_tasks, IsRunWithCalls}
-use Rattle.seat_programs.specs.ToldCalls.{ExplainedCalls}
-use Rattle.dropped_calls.specs.Below.joint_runs.proofs.Runs.{AreMade}
-use Rattle.dropped_calls.specs.Below.script_facts.proofs.Reading.{InRange}
+use Rattle.seat_programs.specs.ScriptSetupToEnding.{all_tasks, IsRunWithCalls}
+use Rattle.seat_programs.specs.ExplainedCalls.{ExplainedCalls}
+use Rattle.dropped_calls.specs.Below.joint_runs.proofs.RunsOfBothTables.{AreMade}
+use Rattle.dropped_calls.specs.Below.script_facts.proofs.ReadScriptFacts.{InRange}
 use Rattle.dropped_calls.specs.Below.script_facts.proofs.Targets.{AreThere}
-use Rattle.dropped_calls.specs.Below.call_owing.specs.Lives.{ClosesInRun}
-use Rattle.dropped_calls.specs.Below.call_stories.specs.Lists.{gave_in}
+use Rattle.dropped_calls.specs.Below.call_owing.specs.LivesOfLinks.{ClosesInRun}
+use Rattle.dropped_calls.specs.Below.call_stories.specs.LinkReadingLists.{gave_in}
 use Rattle.send_causes.proofs.Assembled.{last_in_run, fixed_in_run, orders_in_run, told_calls}
 use Rattle.send_causes.proofs.Assembled as assembled
 use Rattle.send_causes.proofs.CausedEnds.{ended_of_run}

@@ -9,7 +9,7 @@ use Rattle.sock_words.specs.declared.outcome.Outcome.{Outcome}
 use Rattle.sock_words.specs.declared.outcome.Outcome.TheVariants.{Unopened, Answered, Peer, CallFailed}
 use Rattle.seat_programs.specs.brpc_model.specs.Items.{Item}
 use Rattle.seat_programs.specs.brpc_model.specs.Operations.{Turn}
-use Rattle.seat_programs.specs.brpc_model.specs.Messages.{shown_id}
+use Rattle.seat_programs.specs.brpc_model.specs.MessageOfLabel.{shown_id}
 use Rattle.seat_programs.specs.brpc_model.specs.Order.{EachBefore}
 use Rattle.seat_programs.specs.brpc_model.specs.Script.{script_of}
 use Rattle.corr_core.specs.Word.{error_of}
@@ -19,32 +19,32 @@ use Rattle.seat_programs.specs.declared.task.Op.{Op}
 use Rattle.seat_programs.specs.declared.task.Op.TheVariants as ops
 use Rattle.seat_programs.specs.declared.task.Task.{Task}
 use Rattle.seat_programs.specs.Tasks.{plan_of}
-use Rattle.seat_programs.specs.Scripts.{all_tasks, IsRunWithCalls}
-use Rattle.seat_programs.specs.Told.{IsTask, Became, Made}
-use Rattle.seat_programs.specs.ToldCalls.{Fixed, Order, IsSent, OfSend, OfCall, InOwnOrder, IsDropped, IsFailing, WhyLost, WasFailing, WhyAgain, FailedBy, ByExpiry, ByCompression, ByEnd, EndedWith, OutcomeCause, WhyCall, ExplainedCalls}
+use Rattle.seat_programs.specs.ScriptSetupToEnding.{all_tasks, IsRunWithCalls}
+use Rattle.seat_programs.specs.Explained.{IsTask, Became, Made}
+use Rattle.seat_programs.specs.ExplainedCalls.{Fixed, Order, IsSent, OfSend, OfCall, InOwnOrder, IsDropped, IsFailing, WhyLost, WasFailing, WhyAgain, FailedBy, ByExpiry, ByCompression, ByEnd, EndedWith, OutcomeCause, WhyCall, ExplainedCalls}
 use Rattle.dropped_calls.specs.Below.outcome_stories.specs.Explains.{is_plain}
 use Rattle.dropped_calls.specs.Below.outcome_stories.specs.Facts.{ToldPlain}
 use Rattle.dropped_calls.specs.Below.outcome_stories.proofs.Members.{contains_in}
-use Rattle.dropped_calls.specs.Below.outcome_ticks.proofs.Tasks.{one_task}
-use Rattle.dropped_calls.specs.Below.joint_runs.proofs.Runs.{AreMade, first_views}
-use Rattle.dropped_calls.specs.Below.script_facts.proofs.Reading.{InRange}
+use Rattle.dropped_calls.specs.Below.outcome_ticks.proofs.TableTasksDistinct.{one_task}
+use Rattle.dropped_calls.specs.Below.joint_runs.proofs.RunsOfBothTables.{AreMade, first_views}
+use Rattle.dropped_calls.specs.Below.script_facts.proofs.ReadScriptFacts.{InRange}
 use Rattle.dropped_calls.specs.Below.script_facts.proofs.Targets.{AreThere}
-use Rattle.dropped_calls.specs.Below.script_facts.proofs.Lists.{all_at}
-use Rattle.dropped_calls.specs.Below.call_owing.specs.Lives.{ClosesInRun}
-use Rattle.dropped_calls.specs.Below.call_stories.specs.Lists.{gave_in, attempts_of_run, early_of_run, closed_of_run, silent_of_run, soon_of_run}
-use Rattle.dropped_calls.specs.Below.call_stories.specs.Posts.{posts_of_run}
+use Rattle.dropped_calls.specs.Below.script_facts.proofs.FilteredLists.{all_at}
+use Rattle.dropped_calls.specs.Below.call_owing.specs.LivesOfLinks.{ClosesInRun}
+use Rattle.dropped_calls.specs.Below.call_stories.specs.LinkReadingLists.{gave_in, attempts_of_run, early_of_run, closed_of_run, silent_of_run, soon_of_run}
+use Rattle.dropped_calls.specs.Below.call_stories.specs.PostsOfRun.{posts_of_run}
 use Rattle.dropped_calls.specs.Below.call_stories.specs.Target.{IsOnCalls, ToldOnCallsInPart, WhyInPart, WhyCallInPart}
-use Rattle.dropped_calls.specs.Below.call_causes.proofs.Whole.{run_told_in_part, run_found_none}
+use Rattle.dropped_calls.specs.Below.call_causes.proofs.WholeCallStory.{run_told_in_part, run_found_none}
 use Rattle.dropped_calls.specs.Below.call_causes.proofs.Posted.{run_few_attempts, run_advanced_by, run_advanced_shown, run_failed_by}
 use Rattle.dropped_calls.specs.accept_counts.specs.PostCauses.{PostCause}
 use Rattle.dropped_calls.specs.attempted_calls.proofs.AttemptedRun.{attempted_of_run}
-use Rattle.dropped_calls.specs.sent_once.proofs.Beside.{ends_listed}
+use Rattle.dropped_calls.specs.sent_once.proofs.OtherTasksBesideCalls.{ends_listed}
 use Rattle.send_causes.proofs.ByPosts.{never_final, failed_by_post, again_by_post}
 use Rattle.send_causes.proofs.CausedRanges.{few_last}
-use Rattle.dropped_calls.specs.accept_counts.proofs.Early.{start, go, fitting}
+use Rattle.dropped_calls.specs.accept_counts.proofs.EarlyClosedSockets.{start, go, fitting}
 use Rattle.dropped_calls.specs.sent_once.proofs.FirstRuns.{run_own_order}
 use Rattle.dropped_calls.proofs.LateDropped.{dropped_of_run}
-use Rattle.dropped_calls.specs.sent_once.proofs.Sends.{fixed, orders_of_run, orders_are, told_plain, opening_bare}
+use Rattle.dropped_calls.specs.sent_once.proofs.SocketOperationsTold.{fixed, orders_of_run, orders_are, told_plain, opening_bare}
 
 -- an operation is on calls, or a plain one
 kind_of : (op : Op) → IsOnCalls op ⊎ (is_plain op ≡ true)

@@ -2,10 +2,10 @@
 use Rattle.std.proofs.Common.{◌≡◌, ℕ, ◌+◌, ◌≤◌, ◌⊎◌, inl, inr, ⊎_elim, true, false, List, Option, arith}
 use Rattle.sock_words.specs.declared.plain.Plan.{Plan}
 use Rattle.sock_words.specs.declared.outcome.Outcome.{Outcome}
-use Rattle.sock_words.specs.Codes.{is_final}
+use Rattle.sock_words.specs.ErrorCodes.{is_final}
 use Rattle.sock_message.specs.Asked.{Asked, name_of}
 use Rattle.seat_programs.specs.declared.task.Task.{Task}
-use Rattle.seat_programs.specs.ToldCalls.{Fixed, Order, IsDropped, WhyLost, WhyAgain, AfterDrop, AfterLoss, AfterFull, FailedBy, ByFrameFault, ByEnd, BySocket, ByRequests, ByFail}
+use Rattle.seat_programs.specs.ExplainedCalls.{Fixed, Order, IsDropped, WhyLost, WhyAgain, AfterDrop, AfterLoss, AfterFull, FailedBy, ByFrameFault, ByEnd, BySocket, ByRequests, ByFail}
 use Rattle.dropped_calls.specs.accept_counts.specs.PostCauses.{PostCause, OfLoss, OfWant, OfDrop, OfFail, OfFault, OfEnd}
 
 -- codes that end no call by themselves

@@ -6,53 +6,53 @@ use mathlib.Core.Logic.{dite}
 use mathlib.Core.Option.{some}
 use native.Mathlib.Decide.{dec_le}
 use lib.ListN.{get_elem?}
-use Rattle.dropped_calls.specs.Below.chain_steps.proofs.Lists.{at_some}
-use Rattle.sock_words.specs.Words.{at_word_attempt}
+use Rattle.dropped_calls.specs.Below.chain_steps.proofs.TicketLists.{at_some}
+use Rattle.sock_words.specs.PackedWords.{at_word_attempt}
 use Rattle.sock_words.specs.declared.outcome.Outcome.TheVariants.{CallFailed}
 use Rattle.seat_programs.specs.brpc_model.specs.Items.{Item}
 use Rattle.seat_programs.specs.brpc_model.specs.Operations.{Turn}
 use Rattle.seat_programs.specs.brpc_model.specs.Frame.{Frame}
 use Rattle.seat_programs.specs.brpc_model.specs.Script.{script_of}
-use Rattle.seat_programs.specs.brpc_model.specs.Stream.{stream}
+use Rattle.seat_programs.specs.brpc_model.specs.FrameStream.{stream}
 use Rattle.corr_core.specs.Word.{error_of, attempt_of}
 use Rattle.sock_message.specs.Asked.{Asked, name_of}
 use Rattle.seat_programs.specs.declared.task.Op.TheVariants as ops
 use Rattle.seat_programs.specs.declared.task.Task.{Task}
 use Rattle.seat_programs.specs.Cores.{Core}
 use Rattle.seat_programs.specs.Tasks.{opens, plan_of}
-use Rattle.seat_programs.specs.Scripts.{all_tasks, IsRunWithCalls}
-use Rattle.seat_programs.specs.Told.{IsTask, Became}
-use Rattle.seat_programs.specs.ToldCalls.{Gave, IsResponse, IsUnordered, StandsOn, WasFull, IsFailing, MayBeOn, EndedWith}
-use Rattle.dropped_calls.specs.Below.outcome_stories.specs.Stories.{In}
-use Rattle.dropped_calls.specs.Below.joint_runs.proofs.Runs.{AreMade}
-use Rattle.dropped_calls.specs.Below.script_facts.proofs.Reading.{InRange}
+use Rattle.seat_programs.specs.ScriptSetupToEnding.{all_tasks, IsRunWithCalls}
+use Rattle.seat_programs.specs.Explained.{IsTask, Became}
+use Rattle.seat_programs.specs.ExplainedCalls.{Gave, IsResponse, IsUnordered, StandsOn, WasFull, IsFailing, MayBeOn, EndedWith}
+use Rattle.dropped_calls.specs.Below.outcome_stories.specs.OperationStories.{In}
+use Rattle.dropped_calls.specs.Below.joint_runs.proofs.RunsOfBothTables.{AreMade}
+use Rattle.dropped_calls.specs.Below.script_facts.proofs.ReadScriptFacts.{InRange}
 use Rattle.dropped_calls.specs.Below.script_facts.proofs.Targets.{AreThere}
-use Rattle.dropped_calls.specs.Below.call_owing.specs.Lives.{ClosesInRun}
-use Rattle.dropped_calls.specs.Below.run_theorems.proofs.Gave.{gave_heard}
+use Rattle.dropped_calls.specs.Below.call_owing.specs.LivesOfLinks.{ClosesInRun}
+use Rattle.dropped_calls.specs.Below.run_theorems.proofs.GaveTakeByTake.{gave_heard}
 use Rattle.dropped_calls.specs.Below.call_stories.specs.Decided.{posted_by, decided_by}
-use Rattle.dropped_calls.specs.Below.call_stories.specs.Lists.{gave_in}
-use Rattle.dropped_calls.specs.Below.call_stories.specs.Posts.{Post}
-use Rattle.dropped_calls.specs.Below.call_causes.proofs.Decisions.{run_failed_decided}
+use Rattle.dropped_calls.specs.Below.call_stories.specs.LinkReadingLists.{gave_in}
+use Rattle.dropped_calls.specs.Below.call_stories.specs.PostsOfRun.{Post}
+use Rattle.dropped_calls.specs.Below.call_causes.proofs.DecisionsEndCalls.{run_failed_decided}
 use Rattle.dropped_calls.specs.Below.call_causes.proofs.HandledWhole.{PostedLate}
 use Rattle.dropped_calls.specs.accept_counts.specs.EndedCalls.{AreStoredOnce, EndedSo, IsEndPost}
 use Rattle.dropped_calls.specs.accept_counts.specs.PostCauses.{PostCause, OfLoss, OfWant, OfDrop, OfFail, OfFault, OfEnd}
 use Rattle.send_causes.proofs.Assembled.{last_in_run}
 use Rattle.dropped_calls.specs.attempted_calls.proofs.AttemptedRun.{one_asked, attempted_of_run}
 use Rattle.dropped_calls.specs.attempted_calls.proofs.AttemptedStored.{ids_at}
-use Rattle.dropped_calls.specs.sent_once.proofs.Beside.{gave_of_run}
+use Rattle.dropped_calls.specs.sent_once.proofs.OtherTasksBesideCalls.{gave_of_run}
 use Rattle.send_causes.proofs.CausedRanges.{few_last}
 use Rattle.dropped_calls.specs.ended_calls.proofs.CausedReaders.{seat_end_posts}
 use Rattle.send_causes.proofs.ClosedLost.{end_lost}
 use Rattle.dropped_calls.proofs.DropCauses.{may_be_on}
-use Rattle.dropped_calls.specs.accept_counts.proofs.Early.{known}
+use Rattle.dropped_calls.specs.accept_counts.proofs.EarlyClosedSockets.{known}
 use Rattle.dropped_calls.specs.ended_calls.proofs.EndedAttempts.{IsReaderPost, of_word, of_word_is}
 use Rattle.dropped_calls.specs.ended_calls.proofs.EndedOnce.{run_stored_once}
 use Rattle.send_causes.proofs.LateDrops.{late_drop_at}
 use Rattle.dropped_calls.specs.own_decisions.proofs.OwnDecisions.{own_decisions}
 use Rattle.send_causes.proofs.OwnIds.{labelled_at, would_at, single_at, some_id, own_id, whys_of_seat, DropAt, drop_post, drop_cause}
 use Rattle.dropped_calls.specs.refused_attempts.proofs.RefusedRun.{WhyPosted, PostedByReader, PostedByExpiry, PostedByRefusal, PostedByDrop}
-use Rattle.dropped_calls.specs.ended_calls.proofs.Unanswered.{soon_where_late, unanswered_where_decided}
-use Rattle.send_causes.proofs.Laws.{laws}
+use Rattle.dropped_calls.specs.ended_calls.proofs.FailedCallsUnanswered.{soon_where_late, unanswered_where_decided}
+use Rattle.send_causes.proofs.LawsOfLinkOrders.{laws}
 use Rattle.dropped_calls.specs.Below.outcome_stories.specs.Facts.{shown_in_run}
 
 module _ (script : List Item) (made : AreMade script) (there : AreThere script) (range : AllByRecursion InRange script) (turns : List Turn) (core : Core) (is : IsRunWithCalls script turns core) (closes : ClosesInRun script turns core is) (bytes : List ℕ) (reads : script_of bytes ≡ Ok script) where

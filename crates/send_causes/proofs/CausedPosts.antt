@@ -8,36 +8,36 @@ use Rattle.sock_words.specs.declared.plain.Plan.{Plan}
 use Rattle.sock_words.specs.declared.outcome.Outcome.{Outcome}
 use Rattle.seat_programs.specs.brpc_model.specs.Items.{Item}
 use Rattle.seat_programs.specs.brpc_model.specs.Operations.{Turn}
-use Rattle.seat_programs.specs.brpc_model.specs.Messages.{shown_id}
+use Rattle.seat_programs.specs.brpc_model.specs.MessageOfLabel.{shown_id}
 use Rattle.seat_programs.specs.brpc_model.specs.Script.{script_of}
 use Rattle.corr_core.specs.Word.{error_of, code_of, attempt_of}
 use Rattle.sock_message.specs.Asked.{Asked, name_of}
 use Rattle.seat_programs.specs.declared.task.Op.TheVariants as ops
 use Rattle.seat_programs.specs.declared.task.Task.{Task}
 use Rattle.seat_programs.specs.Cores.{Core}
-use Rattle.seat_programs.specs.Scripts.{all_tasks, IsRunWithCalls}
-use Rattle.seat_programs.specs.Told.{IsTask, Became}
-use Rattle.seat_programs.specs.ToldCalls.{Fixed, Order, IsUnordered, WhyLost, WasFailing, RunEnding, WasUnopened}
-use Rattle.dropped_calls.specs.Below.outcome_stories.specs.Stories.{In}
+use Rattle.seat_programs.specs.ScriptSetupToEnding.{all_tasks, IsRunWithCalls}
+use Rattle.seat_programs.specs.Explained.{IsTask, Became}
+use Rattle.seat_programs.specs.ExplainedCalls.{Fixed, Order, IsUnordered, WhyLost, WasFailing, RunEnding, WasUnopened}
+use Rattle.dropped_calls.specs.Below.outcome_stories.specs.OperationStories.{In}
 use Rattle.dropped_calls.specs.Below.outcome_stories.proofs.Members.{contains_in}
-use Rattle.dropped_calls.specs.Below.joint_runs.proofs.Runs.{AreMade}
-use Rattle.dropped_calls.specs.Below.script_facts.proofs.Reading.{InRange}
+use Rattle.dropped_calls.specs.Below.joint_runs.proofs.RunsOfBothTables.{AreMade}
+use Rattle.dropped_calls.specs.Below.script_facts.proofs.ReadScriptFacts.{InRange}
 use Rattle.dropped_calls.specs.Below.script_facts.proofs.Targets.{AreThere}
-use Rattle.dropped_calls.specs.Below.call_owing.specs.Lives.{ClosesInRun}
+use Rattle.dropped_calls.specs.Below.call_owing.specs.LivesOfLinks.{ClosesInRun}
 use Rattle.dropped_calls.specs.Below.call_stories.specs.Decided.{posted_by}
-use Rattle.dropped_calls.specs.Below.call_stories.specs.Lists.{gave_in}
-use Rattle.dropped_calls.specs.Below.call_stories.specs.Posts.{Post, posts_of_run}
+use Rattle.dropped_calls.specs.Below.call_stories.specs.LinkReadingLists.{gave_in}
+use Rattle.dropped_calls.specs.Below.call_stories.specs.PostsOfRun.{Post, posts_of_run}
 use Rattle.dropped_calls.specs.accept_counts.specs.EndedCalls.{reader_posts_of_run}
 use Rattle.dropped_calls.specs.accept_counts.specs.PostCauses.{PostCause, OfLoss, OfWant, OfFault}
-use Rattle.dropped_calls.specs.accept_counts.specs.Refused.{FoundNothing}
+use Rattle.dropped_calls.specs.accept_counts.specs.RefusedOrDropped.{FoundNothing}
 use Rattle.dropped_calls.specs.attempted_calls.proofs.AttemptedRun.{one_asked}
 use Rattle.dropped_calls.specs.attempted_calls.proofs.AttemptedStored.{ids_at}
-use Rattle.dropped_calls.specs.sent_once.proofs.Beside.{gave_of_run}
+use Rattle.dropped_calls.specs.sent_once.proofs.OtherTasksBesideCalls.{gave_of_run}
 use Rattle.send_causes.proofs.FoundNamesWhole.{found_lost}
 use Rattle.send_causes.proofs.OwnIds.{labelled_at, would_at, single_at, some_id, own_id, whys_of_seat, drop_post, drop_cause, reader_post}
 use Rattle.dropped_calls.specs.accept_counts.proofs.PostSeats.{seat_of_post, reader_post_of}
 use Rattle.dropped_calls.specs.refused_attempts.proofs.RefusedRun.{IsOfRefusal, WhyPosted, PostedByReader, PostedByExpiry, PostedByRefusal, PostedByDrop}
-use Rattle.send_causes.proofs.Laws.{laws}
+use Rattle.send_causes.proofs.LawsOfLinkOrders.{laws}
 use Rattle.dropped_calls.specs.Below.outcome_stories.specs.Facts.{shown_in_run}
 
 -- an attempt's loss is none of what links gave

@@ -8,13 +8,13 @@ use Rattle.seat_programs.specs.Cores.{Core}
 use Rattle.seat_programs.specs.declared.task.Op.TheVariants as ops
 use Rattle.seat_programs.specs.declared.task.Task.{Task}
 use Rattle.seat_programs.specs.Tasks.{plan_of}
-use Rattle.seat_programs.specs.Scripts.{all_tasks, IsRunWithCalls}
-use Rattle.seat_programs.specs.Told.{AskedFits, OpFits, TaskFits, IsTask}
+use Rattle.seat_programs.specs.ScriptSetupToEnding.{all_tasks, IsRunWithCalls}
+use Rattle.seat_programs.specs.Explained.{AskedFits, OpFits, TaskFits, IsTask}
 use Rattle.dropped_calls.specs.Below.outcome_stories.proofs.Members.{all_in, contains_in, get_all}
-use Rattle.dropped_calls.specs.Below.joint_runs.proofs.Runs.{AreMade}
-use Rattle.dropped_calls.specs.Below.script_facts.proofs.Reading.{InRange}
+use Rattle.dropped_calls.specs.Below.joint_runs.proofs.RunsOfBothTables.{AreMade}
+use Rattle.dropped_calls.specs.Below.script_facts.proofs.ReadScriptFacts.{InRange}
 use Rattle.dropped_calls.specs.Below.script_facts.proofs.Targets.{AreThere}
-use Rattle.dropped_calls.specs.Below.call_stories.specs.Lists.{attempts_of_run}
+use Rattle.dropped_calls.specs.Below.call_stories.specs.LinkReadingLists.{attempts_of_run}
 use Rattle.dropped_calls.specs.Below.call_causes.proofs.Posted.{run_few_attempts}
 
 module _ (script : List Item) (made : AreMade script) (there : AreThere script) (range : AllByRecursion InRange script) (turns : List Turn) (core : Core) (is : IsRunWithCalls script turns core) where

@@ -6,44 +6,44 @@ use mathlib.Core.Option.{none, some}
 use native.Mathlib.Decide.{ℕ_discrete, dec_le}
 use lib.ListN.{get_elem?}
 use Rattle.atomic_table.proofs.Lists.{set_else}
-use Rattle.sock_words.specs.Words.{at_word_link, at_word_attempt, vref_version, socket_id_slot, socket_id_version, id_slot, id_first}
+use Rattle.sock_words.specs.PackedWords.{at_word_link, at_word_attempt, vref_version, socket_id_slot, socket_id_version, id_slot, id_first}
 use Rattle.sock_words.specs.declared.plain.Plan.{Plan}
 use Rattle.sock_model.specs.declared.chain.Entry.{Entry}
 use Rattle.sock_model.specs.declared.view.View.{View}
-use Rattle.sock_model.specs.Layout.{ref_index}
+use Rattle.sock_model.specs.SocketTableLayout.{ref_index}
 use Rattle.seat_programs.specs.brpc_model.specs.Items.{Item}
 use Rattle.seat_programs.specs.brpc_model.specs.Operations.{Turn}
 use Rattle.seat_programs.specs.brpc_model.specs.Script.{script_of}
-use Rattle.seat_programs.specs.Calls.{ClaimRequest}
-use Rattle.seat_programs.specs.Clients.{ending_of}
+use Rattle.seat_programs.specs.TableSteps.{ClaimRequest}
+use Rattle.seat_programs.specs.ClientProgram.{ending_of}
 use Rattle.seat_programs.specs.Cores.{Core, SeatState, waiting_at}
-use Rattle.seat_programs.specs.Runs.{IsAtRest}
+use Rattle.seat_programs.specs.ScheduledRuns.{IsAtRest}
 use Rattle.seat_programs.specs.Tasks.{opens, calls, plan_of, id_plan_of}
 use Rattle.seat_programs.specs.Ticks.{Moment, AreAnswered, IsAlwaysReady, quiet, ticked, run, waits, waits_at}
-use Rattle.seat_programs.specs.Scripts.{sizes_of, all_tasks, opened, set_up, played, IsRunWithCalls}
-use Rattle.seat_programs.specs.ToldCalls.{Accepted, StandsOn, IsUnordered, IsFailing, WasFull}
-use Rattle.dropped_calls.specs.Below.programs_allowed.specs.program_steps.specs.Sound.{Sound, AreFitting, views_after, views_along}
-use Rattle.dropped_calls.specs.Below.programs_allowed.specs.program_steps.proofs.Cases.{elem_there}
-use Rattle.dropped_calls.specs.Below.programs_allowed.specs.sock_runs.proofs.Along.{seat_rests}
+use Rattle.seat_programs.specs.ScriptSetupToEnding.{sizes_of, all_tasks, opened, set_up, played, IsRunWithCalls}
+use Rattle.seat_programs.specs.ExplainedCalls.{Accepted, StandsOn, IsUnordered, IsFailing, WasFull}
+use Rattle.dropped_calls.specs.Below.programs_allowed.specs.program_steps.specs.SoundSeats.{Sound, AreFitting, views_after, views_along}
+use Rattle.dropped_calls.specs.Below.programs_allowed.specs.program_steps.proofs.TickCases.{elem_there}
+use Rattle.dropped_calls.specs.Below.programs_allowed.specs.sock_runs.proofs.SoundAlongRuns.{seat_rests}
 use Rattle.dropped_calls.specs.Below.programs_allowed.specs.sock_runs.proofs.LinkTicks.{RetriesGo}
-use Rattle.dropped_calls.specs.Below.programs_allowed.specs.sock_runs.proofs.Ticks.{sound_ticks}
-use Rattle.dropped_calls.specs.Below.programs_allowed.specs.program_walks.proofs.Whole.{closing_of, views_played, views_closed, set_up_answered, end_answered, rested_ahead, set_up_sound, played_sound, closing_sound, closed_sound, closed_ahead}
+use Rattle.dropped_calls.specs.Below.programs_allowed.specs.sock_runs.proofs.TicksKeepSeatsSound.{sound_ticks}
+use Rattle.dropped_calls.specs.Below.programs_allowed.specs.program_walks.proofs.WholeScriptSound.{closing_of, views_played, views_closed, set_up_answered, end_answered, rested_ahead, set_up_sound, played_sound, closing_sound, closed_sound, closed_ahead}
 use Rattle.dropped_calls.specs.Below.outcome_stories.specs.Facts.{late_links_of_run, born_at, shown_in}
 use Rattle.dropped_calls.specs.Below.outcome_stories.specs.PlainTasks.{told_tasks_of}
-use Rattle.dropped_calls.specs.Below.outcome_stories.specs.Stories.{In}
+use Rattle.dropped_calls.specs.Below.outcome_stories.specs.OperationStories.{In}
 use Rattle.dropped_calls.specs.Below.outcome_stories.proofs.Delivered.{accepted_of, requests_used}
 use Rattle.dropped_calls.specs.Below.outcome_causes.proofs.Final.{at_there}
 use Rattle.dropped_calls.specs.Below.outcome_stories.proofs.Members.{in_contains, contains_in}
-use Rattle.dropped_calls.specs.Below.outcome_causes.proofs.Messages.{each_made}
-use Rattle.dropped_calls.specs.Below.outcome_causes.proofs.Plain.{in_both, in_left, in_right}
-use Rattle.dropped_calls.specs.Below.outcome_stories.proofs.Senders.{sent_stands}
-use Rattle.dropped_calls.specs.Below.joint_runs.proofs.Runs.{AreMade, first_views}
-use Rattle.dropped_calls.specs.Below.call_owing.specs.Lives.{ClosesInRun}
-use Rattle.dropped_calls.specs.Below.call_stories.specs.Posts.{Post}
+use Rattle.dropped_calls.specs.Below.outcome_causes.proofs.MessagesOfTasks.{each_made}
+use Rattle.dropped_calls.specs.Below.outcome_causes.proofs.PlainOutcomeCauses.{in_both, in_left, in_right}
+use Rattle.dropped_calls.specs.Below.outcome_stories.proofs.SendersOfLogEntries.{sent_stands}
+use Rattle.dropped_calls.specs.Below.joint_runs.proofs.RunsOfBothTables.{AreMade, first_views}
+use Rattle.dropped_calls.specs.Below.call_owing.specs.LivesOfLinks.{ClosesInRun}
+use Rattle.dropped_calls.specs.Below.call_stories.specs.PostsOfRun.{Post}
 use Rattle.dropped_calls.specs.accept_counts.specs.EndedCalls.{Store, stored_at, stores_of_run, loads_of_run, IsEndPost}
-use Rattle.dropped_calls.specs.accept_counts.specs.Refused.{DidStep}
-use Rattle.dropped_calls.specs.sent_once.proofs.Beside.{fixed_of_run, gave_of_run, orders_here, failing_of_run}
-use Rattle.dropped_calls.specs.accept_counts.proofs.Early.{start, go, fitting}
+use Rattle.dropped_calls.specs.accept_counts.specs.RefusedOrDropped.{DidStep}
+use Rattle.dropped_calls.specs.sent_once.proofs.OtherTasksBesideCalls.{fixed_of_run, gave_of_run, orders_here, failing_of_run}
+use Rattle.dropped_calls.specs.accept_counts.proofs.EarlyClosedSockets.{start, go, fitting}
 use Rattle.dropped_calls.specs.ended_calls.proofs.EndedAttempts.{IsAttemptOn, ending, of_load, only_link}
 use Rattle.dropped_calls.specs.ended_calls.proofs.EndedOnce.{run_stored_once}
 use Rattle.dropped_calls.proofs.LateEnding.{ended_past}
@@ -52,15 +52,15 @@ use Rattle.dropped_calls.proofs.LateRests.{others_along, Any, NoOld}
 use Rattle.dropped_calls.specs.refused_attempts.proofs.RefusedClosing.{OnSockets, alone, set_first}
 use Rattle.dropped_calls.specs.refused_attempts.proofs.RefusedClosing as closing
 use Rattle.dropped_calls.specs.refused_attempts.proofs.RefusedMeans.{IsSo, run_keeps}
-use Rattle.dropped_calls.specs.accept_counts.proofs.Rests.{many, still}
-use Rattle.dropped_calls.specs.accept_counts.proofs.Runs.{AreLabelledIn}
+use Rattle.dropped_calls.specs.accept_counts.proofs.RestsWithoutCalls.{many, still}
+use Rattle.dropped_calls.specs.accept_counts.proofs.RunsKeepAttemptLaw.{AreLabelledIn}
 use Rattle.dropped_calls.specs.sent_once.proofs.ToldEnd.{told_end}
-use Rattle.dropped_calls.specs.sent_once.proofs.Whole.{quiet_there}
+use Rattle.dropped_calls.specs.sent_once.proofs.WholeLinkOrders.{quiet_there}
 use Rattle.send_causes.proofs.ClosedLostPrograms.{Mode, Free, Goes}
 use Rattle.send_causes.proofs.ClosedLostTicks.{Entered, Works, AreTaken, Ended, Fate, word_link, word_attempt}
 use Rattle.send_causes.proofs.ClosedLostRuns.{Behind, run_fates, run_entered, none_closing, AllFree, begins_free, rests_free, waits_free}
 use Rattle.dropped_calls.specs.accept_counts.proofs.Grounds.{setting, stages}
-use Rattle.corr_core.proofs.Notes.{at_length}
+use Rattle.corr_core.proofs.NoteSums.{at_length}
 
 -- ## Lists
 

@@ -3,36 +3,36 @@ use Rattle.std.proofs.Common.{◌≡◌, ℕ, zero, suc, ◌+◌, ◌/◌, ◌%�
 use Rattle.std.proofs.lemmas.Bool.{true≢false}
 use Rattle.std.specs.List.{AllByRecursion}
 use Rattle.sock_words.specs.declared.plain.Plan.{Plan}
-use Rattle.sock_words.specs.Words.{socket_id_version, socket_id_slot, vref_version, at_word, IDLE, id_slot, id_first, bit}
+use Rattle.sock_words.specs.PackedWords.{socket_id_version, socket_id_slot, vref_version, at_word, IDLE, id_slot, id_first, bit}
 use Rattle.sock_model.specs.declared.chain.Heading.{Heading}
 use Rattle.sock_model.specs.declared.view.View.{View}
 use Rattle.sock_model.specs.Entries.{ticket_of}
-use Rattle.dropped_calls.specs.Below.sock_steps.proofs.Quiet.{either_way}
+use Rattle.dropped_calls.specs.Below.sock_steps.proofs.SumsAsMarksChange.{either_way}
 use Rattle.corr_core.specs.Word.{parts}
 use Rattle.sock_message.specs.Asked.{Asked, frame_of}
 use Rattle.seat_programs.specs.declared.task.Op.{Op}
 use Rattle.seat_programs.specs.declared.task.Task.{Task}
 use Rattle.seat_programs.specs.declared.task.Sizes.{Sizes}
-use Rattle.seat_programs.specs.Calls.{TableStep, AddRef, LookWord, FindLink, ClaimRequest, PutMessage, Unconnect, SwapHead}
-use Rattle.seat_programs.specs.Clients.{HeldLife, operation, client_from}
+use Rattle.seat_programs.specs.TableSteps.{TableStep, AddRef, LookWord, FindLink, ClaimRequest, PutMessage, Unconnect, SwapHead}
+use Rattle.seat_programs.specs.ClientProgram.{HeldLife, operation, client_from}
 use Rattle.seat_programs.specs.Asides.{Step, Found, StoreAt}
-use Rattle.seat_programs.specs.Heads.{Head, Exit, Retry, Unlocks, Opens, Unlocking}
+use Rattle.seat_programs.specs.LoopHeads.{Head, Exit, Retry, Unlocks, Opens, Unlocking}
 use Rattle.seat_programs.specs.Programs.{Program, Do, Say, Sent, Write, Aside, Round, Keep, Retries, release, add_reference}
-use Rattle.seat_programs.specs.Posts.{post, unlocks_round}
-use Rattle.seat_programs.specs.Readers.{reader}
-use Rattle.seat_programs.specs.Sends.{accept}
-use Rattle.seat_programs.specs.Attempts.{claims_from, heading_for, attempt, call, retry}
-use Rattle.seat_programs.specs.Rounds.{round, first_step}
+use Rattle.seat_programs.specs.PostPrograms.{post, unlocks_round}
+use Rattle.seat_programs.specs.ReaderProgram.{reader}
+use Rattle.seat_programs.specs.SendAndWritePrograms.{accept}
+use Rattle.seat_programs.specs.CallAndRetryPrograms.{claims_from, heading_for, attempt, call, retry}
+use Rattle.seat_programs.specs.LoopRounds.{round, first_step}
 use Rattle.seat_programs.specs.Cores.{resolved, next_step}
 use Rattle.dropped_calls.specs.Below.programs_allowed.specs.program_steps.specs.AtSteps.{Asks, AtSteps}
-use Rattle.dropped_calls.specs.Below.programs_allowed.specs.program_steps.specs.Fits.{FitsHead, FitsRetry}
-use Rattle.dropped_calls.specs.Below.programs_allowed.specs.program_steps.specs.GoesOn.{GoesOn}
+use Rattle.dropped_calls.specs.Below.programs_allowed.specs.program_steps.specs.IdWordFits.{FitsHead, FitsRetry}
+use Rattle.dropped_calls.specs.Below.programs_allowed.specs.program_steps.specs.ProgramGoesOn.{GoesOn}
 use Rattle.dropped_calls.specs.Below.programs_allowed.specs.program_walks.proofs.Through.{PassesPlain, PassesFails, PassesSends, PassesReads, any_end, is_plain_aside, reads_any, locked, at_steps_plain, at_steps_sends, through_release, through_set_failed, through_fail}
 use Rattle.dropped_calls.specs.Below.programs_allowed.specs.program_walks.proofs.ThroughLoops.{through_post, through_unlocks, through_round}
 use Rattle.dropped_calls.specs.Below.programs_allowed.specs.program_walks.proofs.ThroughSends.{through_block, through_write_link, through_send}
 use Rattle.dropped_calls.specs.Below.programs_allowed.specs.program_walks.proofs.ThroughCalls.{through_call, through_retry, through_join, through_reading}
 use Rattle.dropped_calls.specs.Below.programs_allowed.specs.program_walks.proofs.ThroughClients.{through_open, through_back, through_operation}
-use Rattle.dropped_calls.specs.Below.label_runs.proofs.Loops.{not_equal}
+use Rattle.dropped_calls.specs.Below.label_runs.proofs.LoopsOfKnownSeats.{not_equal}
 
 -- ## Where a seat stands with an attempt
 

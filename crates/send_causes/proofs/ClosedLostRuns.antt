@@ -3,30 +3,30 @@ use Rattle.std.proofs.Common.{◌≡◌, ℕ, zero, suc, ◌<◌, ⊎_elim, true
 use Rattle.std.specs.Prelude as std
 use mathlib.Core.Option.{none, some}
 use lib.ListN.{get_elem?}
-use Rattle.sock_words.specs.Words.{socket_id_version, socket_id_slot, vref_version, at_word_link, at_word_attempt}
+use Rattle.sock_words.specs.PackedWords.{socket_id_version, socket_id_slot, vref_version, at_word_link, at_word_attempt}
 use Rattle.sock_words.specs.declared.plain.Plan.{Plan}
 use Rattle.sock_model.specs.declared.view.View.{View}
-use Rattle.sock_model.specs.Layout.{ref_index}
+use Rattle.sock_model.specs.SocketTableLayout.{ref_index}
 use Rattle.corr_core.specs.declared.marks.Plan.{Plan as IdPlan}
 use Rattle.seat_programs.specs.Cores.{Core, SeatState, resolved, next_step}
-use Rattle.seat_programs.specs.Clients.{client_from}
+use Rattle.seat_programs.specs.ClientProgram.{client_from}
 use Rattle.seat_programs.specs.Programs.{Program, Do, Rest, Aside}
 use Rattle.seat_programs.specs.declared.task.Sizes.{Sizes}
 use Rattle.seat_programs.specs.declared.task.Task.{Task}
-use Rattle.seat_programs.specs.Scripts.{programs, readers_from, all_programs, beginning}
+use Rattle.seat_programs.specs.ScriptSetupToEnding.{programs, readers_from, all_programs, beginning}
 use Rattle.seat_programs.specs.Ticks.{Answer, Moment, IsAnswered, AreAnswered, quiet, ticked, run, waits_at}
-use Rattle.dropped_calls.specs.Below.programs_allowed.specs.program_steps.specs.Sound.{Sound, IsFitting, AreFitting, views_after, views_along}
+use Rattle.dropped_calls.specs.Below.programs_allowed.specs.program_steps.specs.SoundSeats.{Sound, IsFitting, AreFitting, views_after, views_along}
 use Rattle.dropped_calls.specs.Below.programs_allowed.specs.sock_runs.proofs.LinkTicks.{RetriesGo}
-use Rattle.dropped_calls.specs.Below.programs_allowed.specs.program_walks.proofs.Opening.{mapped}
-use Rattle.dropped_calls.specs.Below.programs_allowed.specs.sock_runs.proofs.Ticks.{sound_ticks}
-use Rattle.dropped_calls.specs.Below.outcome_stories.specs.Stories.{In}
-use Rattle.dropped_calls.specs.Below.outcome_causes.proofs.Plain.{in_both}
+use Rattle.dropped_calls.specs.Below.programs_allowed.specs.program_walks.proofs.OpenedLivesRecorded.{mapped}
+use Rattle.dropped_calls.specs.Below.programs_allowed.specs.sock_runs.proofs.TicksKeepSeatsSound.{sound_ticks}
+use Rattle.dropped_calls.specs.Below.outcome_stories.specs.OperationStories.{In}
+use Rattle.dropped_calls.specs.Below.outcome_causes.proofs.PlainOutcomeCauses.{in_both}
 use Rattle.dropped_calls.specs.accept_counts.specs.EndedCalls.{Store, stores_by, stored_at}
 use Rattle.dropped_calls.specs.refused_attempts.proofs.RefusedClosing.{OnSockets, MakesSteps, tick_steps}
-use Rattle.dropped_calls.specs.accept_counts.proofs.Beginnings.{all_begin}
+use Rattle.dropped_calls.specs.accept_counts.proofs.ProgramsAtBeginning.{all_begin}
 use Rattle.send_causes.proofs.ClosedLostPrograms.{Mode, Free, Goes, client_goes, reader_goes, goes_next}
 use Rattle.send_causes.proofs.ClosedLostTicks.{Entered, AllStand, Fate, keeps_here, tick_stands, tick_stores}
-use Rattle.seat_programs.specs.Rounds.{first_step}
+use Rattle.seat_programs.specs.LoopRounds.{first_step}
 use Rattle.dropped_calls.specs.Below.outcome_stories.specs.Facts.{shown_in}
 
 -- ## Ticks one after another

@@ -8,7 +8,7 @@ use mathlib.Core.Option.{Option, some, none, some-injective}
 use lib.ListN.{get_elem?}
 use Rattle.atomic_table.proofs.Lists.{at_set, set_again, set_else, set_here}
 use Rattle.sock_words.specs.declared.plain.Plan.{Plan}
-use Rattle.sock_words.specs.Words.{socket_id_version, socket_id_slot, vref_version, at_word, at_word_link, at_word_attempt, IDLE, id_slot, id_first}
+use Rattle.sock_words.specs.PackedWords.{socket_id_version, socket_id_slot, vref_version, at_word, at_word_link, at_word_attempt, IDLE, id_slot, id_first}
 use Rattle.sock_model.specs.declared.chain.Claim.{Claim}
 use Rattle.sock_model.specs.declared.chain.Entry.{Entry}
 use Rattle.sock_model.specs.declared.chain.Right.{Right}
@@ -16,38 +16,38 @@ use Rattle.sock_model.specs.declared.home.Home.{Home}
 use Rattle.sock_model.specs.declared.view.Hand.{Hand}
 use Rattle.sock_model.specs.declared.view.View.{View}
 use Rattle.sock_model.specs.ChainRows.{with_claim, entry_of, more, queued, righted, taken_right, ready_claim, filled_claim}
-use Rattle.sock_model.specs.Layout.{ref_index}
-use Rattle.dropped_calls.specs.Below.sock_steps.proofs.Quiet.{either_way}
-use Rattle.seat_programs.specs.id_rule.specs.Lawful as ids
+use Rattle.sock_model.specs.SocketTableLayout.{ref_index}
+use Rattle.dropped_calls.specs.Below.sock_steps.proofs.SumsAsMarksChange.{either_way}
+use Rattle.seat_programs.specs.id_rule.specs.LawfulIdTable as ids
 use Rattle.seat_programs.specs.Asides.{Step, Found, StoreAt}
-use Rattle.seat_programs.specs.Beside.{calls_after}
-use Rattle.seat_programs.specs.Calls.{TableStep, AddRef, LookWord, FindLink, ClaimRequest, PutMessage, Unconnect, SwapHead}
-use Rattle.seat_programs.specs.Heads.{Retry}
+use Rattle.seat_programs.specs.FoundAndChangedAside.{calls_after}
+use Rattle.seat_programs.specs.TableSteps.{TableStep, AddRef, LookWord, FindLink, ClaimRequest, PutMessage, Unconnect, SwapHead}
+use Rattle.seat_programs.specs.LoopHeads.{Retry}
 use Rattle.seat_programs.specs.Programs.{Program, Do, TakeMessage, TakeHome, PutHome, PutBytes, AskReady, Aside}
 use Rattle.seat_programs.specs.Cores.{Core, SeatState, found_at, resolved, next_step, waiting_at, hand_after, link_place, lies_at, others_of}
 use Rattle.seat_programs.specs.StepTables.{word_of}
 use Rattle.seat_programs.specs.Ticks.{Moment, IsAnswered, fed, onto_first, step_with, tick_with, ticked}
-use Rattle.dropped_calls.specs.Below.programs_allowed.specs.program_steps.specs.Fits.{FitsRetry}
+use Rattle.dropped_calls.specs.Below.programs_allowed.specs.program_steps.specs.IdWordFits.{FitsRetry}
 use Rattle.seat_programs.specs.StepTables.{May}
 use Rattle.seat_programs.specs.StepTables.{row, hand_at}
 use Rattle.seat_programs.specs.StepViews.{by_claim}
 use Rattle.seat_programs.specs.StepsOfChain.{exchanged}
 use Rattle.seat_programs.specs.StepsOfMessages.{took_message}
 use Rattle.seat_programs.specs.StepsOfLinks.{link_away, link_home_again, took_bytes}
-use Rattle.dropped_calls.specs.Below.programs_allowed.specs.program_steps.specs.Sound.{Sound, IsFitting, views_with, views_of, views_after}
-use Rattle.dropped_calls.specs.Below.programs_allowed.specs.program_steps.proofs.Cases.{with_rights, right_rights, put_rights, tick_cases, elem_there, ticks_first, views_first, calls_waiting}
+use Rattle.dropped_calls.specs.Below.programs_allowed.specs.program_steps.specs.SoundSeats.{Sound, IsFitting, views_with, views_of, views_after}
+use Rattle.dropped_calls.specs.Below.programs_allowed.specs.program_steps.proofs.TickCases.{with_rights, right_rights, put_rights, tick_cases, elem_there, ticks_first, views_first, calls_waiting}
 use Rattle.dropped_calls.specs.Below.programs_allowed.specs.program_steps.proofs.Leaves.{claim_way}
 use Rattle.dropped_calls.specs.Below.programs_allowed.specs.sock_runs.proofs.LinksStay.{IsGiven, run_given, finds_given}
 use Rattle.dropped_calls.specs.Below.programs_allowed.specs.sock_runs.proofs.LinkTicks.{RetriesGo}
-use Rattle.dropped_calls.specs.Below.outcome_stories.specs.Stories.{In}
-use Rattle.dropped_calls.specs.Below.outcome_causes.proofs.Plain.{in_left, in_right}
+use Rattle.dropped_calls.specs.Below.outcome_stories.specs.OperationStories.{In}
+use Rattle.dropped_calls.specs.Below.outcome_causes.proofs.PlainOutcomeCauses.{in_left, in_right}
 use Rattle.dropped_calls.specs.accept_counts.specs.EndedCalls.{Store, stores_by, stored_at}
-use Rattle.dropped_calls.specs.accept_counts.specs.Refused.{Deed, DidStep, DidAt}
+use Rattle.dropped_calls.specs.accept_counts.specs.RefusedOrDropped.{Deed, DidStep, DidAt}
 use Rattle.dropped_calls.specs.refused_attempts.proofs.RefusedMeans.{IsSo, did_so, tick_keeps}
-use Rattle.dropped_calls.specs.accept_counts.proofs.Views.{row_same}
+use Rattle.dropped_calls.specs.accept_counts.proofs.ClaimViewsBehindSteps.{row_same}
 use Rattle.send_causes.proofs.ClosedLostPrograms.{Try, Mode, Free, Held, Linked, Stored, Claims, Claimed, Filled, Marked, Goes, goes_first, goes_next}
-use Rattle.corr_core.proofs.Notes.{at_length}
-use Rattle.seat_programs.specs.Rounds.{first_step}
+use Rattle.corr_core.proofs.NoteSums.{at_length}
+use Rattle.seat_programs.specs.LoopRounds.{first_step}
 
 -- ## Accepted messages
 

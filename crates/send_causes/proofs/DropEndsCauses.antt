@@ -7,40 +7,40 @@ use lib.ListN.{get_elem?}
 use Rattle.seat_programs.specs.brpc_model.specs.Items.{Item}
 use Rattle.seat_programs.specs.brpc_model.specs.Operations.{Turn}
 use Rattle.seat_programs.specs.brpc_model.specs.Script.{script_of}
-use Rattle.dropped_calls.specs.Below.script_facts.proofs.Reading.{InRange}
+use Rattle.dropped_calls.specs.Below.script_facts.proofs.ReadScriptFacts.{InRange}
 use Rattle.dropped_calls.specs.Below.script_facts.proofs.Targets.{AreThere}
-use Rattle.sock_words.specs.Words.{socket_id_slot, socket_id_version, NO_SOCKET}
+use Rattle.sock_words.specs.PackedWords.{socket_id_slot, socket_id_version, NO_SOCKET}
 use Rattle.sock_words.specs.declared.plain.Plan.{Plan}
-use Rattle.sock_model.specs.Layout.{open_index}
+use Rattle.sock_model.specs.SocketTableLayout.{open_index}
 use Rattle.corr_core.specs.Word.{code_of, attempt_of}
-use Rattle.corr_core.proofs.Notes.{at_length}
+use Rattle.corr_core.proofs.NoteSums.{at_length}
 use Rattle.seat_programs.specs.declared.task.Op.TheVariants as ops
 use Rattle.seat_programs.specs.declared.task.Task.{Task}
 use Rattle.seat_programs.specs.Cores.{Core}
 use Rattle.seat_programs.specs.Tasks.{opens, plan_of}
 use Rattle.seat_programs.specs.Ticks.{run, quiet}
-use Rattle.seat_programs.specs.Scripts.{all_tasks, opened, set_up, played, IsRunWithCalls}
-use Rattle.seat_programs.specs.ToldCalls.{Order, Fixed, IsSent, GaveFault}
-use Rattle.dropped_calls.specs.Below.programs_allowed.specs.program_steps.specs.Sound.{views_along}
+use Rattle.seat_programs.specs.ScriptSetupToEnding.{all_tasks, opened, set_up, played, IsRunWithCalls}
+use Rattle.seat_programs.specs.ExplainedCalls.{Order, Fixed, IsSent, GaveFault}
+use Rattle.dropped_calls.specs.Below.programs_allowed.specs.program_steps.specs.SoundSeats.{views_along}
 use Rattle.dropped_calls.specs.Below.programs_allowed.specs.program_walks.proofs.LinksOpening.{OpensLink}
-use Rattle.dropped_calls.specs.Below.programs_allowed.specs.program_walks.proofs.Whole.{closing_of, views_played, views_closed, views_ended, set_up_sound, closing_sound, closed_sound, end_answered}
-use Rattle.dropped_calls.specs.Below.outcome_stories.specs.Causes.{WasGiven}
-use Rattle.dropped_calls.specs.Below.outcome_stories.specs.Stories.{In}
+use Rattle.dropped_calls.specs.Below.programs_allowed.specs.program_walks.proofs.WholeScriptSound.{closing_of, views_played, views_closed, views_ended, set_up_sound, closing_sound, closed_sound, end_answered}
+use Rattle.dropped_calls.specs.Below.outcome_stories.specs.StoryStepCauses.{WasGiven}
+use Rattle.dropped_calls.specs.Below.outcome_stories.specs.OperationStories.{In}
 use Rattle.dropped_calls.specs.Below.outcome_stories.proofs.Members.{in_contains}
-use Rattle.dropped_calls.specs.Below.joint_runs.proofs.Runs.{AreMade, first_views}
-use Rattle.dropped_calls.specs.Below.call_owing.specs.Lives.{ClosesInRun}
-use Rattle.dropped_calls.specs.Below.owed_calls.proofs.Known.{opens_apart}
+use Rattle.dropped_calls.specs.Below.joint_runs.proofs.RunsOfBothTables.{AreMade, first_views}
+use Rattle.dropped_calls.specs.Below.call_owing.specs.LivesOfLinks.{ClosesInRun}
+use Rattle.dropped_calls.specs.Below.owed_calls.proofs.OwedCallsAreEnded.{opens_apart}
 use Rattle.dropped_calls.specs.Below.owned_ids.proofs.WordsGiven.{Named, IsOfLink, run_named, named_ending, named_on}
-use Rattle.dropped_calls.specs.Below.call_stories.specs.Lists.{gave_in}
-use Rattle.dropped_calls.specs.Below.call_stories.specs.Posts.{Post}
+use Rattle.dropped_calls.specs.Below.call_stories.specs.LinkReadingLists.{gave_in}
+use Rattle.dropped_calls.specs.Below.call_stories.specs.PostsOfRun.{Post}
 use Rattle.dropped_calls.specs.accept_counts.specs.PostCauses.{PostCause, OfFault}
-use Rattle.dropped_calls.specs.sent_once.proofs.Beside.{orders_here}
+use Rattle.dropped_calls.specs.sent_once.proofs.OtherTasksBesideCalls.{orders_here}
 use Rattle.dropped_calls.proofs.DropCauses.{fail_range, may_be_on, caused_by_drop}
 use Rattle.dropped_calls.proofs.DropEndsWhole.{WhoseIn, whose_of_run}
 use Rattle.dropped_calls.proofs.DropOfRun.{DropOf, ends, one_given, story_given}
-use Rattle.dropped_calls.specs.accept_counts.proofs.Early.{start, go, fitting, known, named_set_up}
+use Rattle.dropped_calls.specs.accept_counts.proofs.EarlyClosedSockets.{start, go, fitting, known, named_set_up}
 use Rattle.dropped_calls.specs.ended_calls.proofs.EndedWhole.{h₄, ended_so}
-use Rattle.dropped_calls.specs.accept_counts.proofs.Runs.{AreLabelledIn}
+use Rattle.dropped_calls.specs.accept_counts.proofs.RunsKeepAttemptLaw.{AreLabelledIn}
 
 module _ (script : List Item) (made : AreMade script) (turns : List Turn) (core : Core) (is : IsRunWithCalls script turns core) where
   -- the words of opens at the end of the run

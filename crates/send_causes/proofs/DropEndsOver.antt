@@ -8,46 +8,46 @@ use Rattle.seat_programs.specs.brpc_model.specs.Items.{Item}
 use Rattle.seat_programs.specs.brpc_model.specs.Operations.{Turn}
 use Rattle.seat_programs.specs.brpc_model.specs.Frame.{Frame}
 use Rattle.seat_programs.specs.brpc_model.specs.Script.{script_of}
-use Rattle.dropped_calls.specs.Below.script_facts.proofs.Reading.{InRange}
+use Rattle.dropped_calls.specs.Below.script_facts.proofs.ReadScriptFacts.{InRange}
 use Rattle.dropped_calls.specs.Below.script_facts.proofs.Targets.{AreThere}
-use Rattle.sock_words.specs.Words.{socket_id, socket_id_slot, socket_id_version, NO_SOCKET}
+use Rattle.sock_words.specs.PackedWords.{socket_id, socket_id_slot, socket_id_version, NO_SOCKET}
 use Rattle.sock_model.specs.declared.view.View.{View}
-use Rattle.sock_model.specs.Layout.{open_index}
+use Rattle.sock_model.specs.SocketTableLayout.{open_index}
 use Rattle.corr_core.specs.Word.{error_of, code_of, attempt_of}
-use Rattle.corr_core.proofs.Notes.{at_length}
+use Rattle.corr_core.proofs.NoteSums.{at_length}
 use Rattle.sock_message.specs.Asked.{Asked}
 use Rattle.seat_programs.specs.declared.task.Op.TheVariants as ops
-use Rattle.seat_programs.specs.Told.{IsTask}
+use Rattle.seat_programs.specs.Explained.{IsTask}
 use Rattle.seat_programs.specs.declared.task.Task.{Task}
 use Rattle.seat_programs.specs.Cores.{Core, SeatState}
 use Rattle.seat_programs.specs.Programs.{Rest}
-use Rattle.seat_programs.specs.Readers.{reader}
+use Rattle.seat_programs.specs.ReaderProgram.{reader}
 use Rattle.seat_programs.specs.Tasks.{opens, calls, plan_of}
-use Rattle.seat_programs.specs.Scripts.{IsRunWithCalls}
-use Rattle.seat_programs.specs.ToldCalls.{IsSent, Gave, IsResponse, IsPlaced, StandsOn}
-use Rattle.dropped_calls.specs.Below.programs_allowed.specs.program_walks.proofs.Whole.{IsListed, views_closed, views_ended, closed_sound, recorded_closed}
-use Rattle.dropped_calls.specs.Below.outcome_stories.specs.Causes.{WasGiven}
+use Rattle.seat_programs.specs.ScriptSetupToEnding.{IsRunWithCalls}
+use Rattle.seat_programs.specs.ExplainedCalls.{IsSent, Gave, IsResponse, IsPlaced, StandsOn}
+use Rattle.dropped_calls.specs.Below.programs_allowed.specs.program_walks.proofs.WholeScriptSound.{IsListed, views_closed, views_ended, closed_sound, recorded_closed}
+use Rattle.dropped_calls.specs.Below.outcome_stories.specs.StoryStepCauses.{WasGiven}
 use Rattle.dropped_calls.specs.Below.outcome_causes.proofs.Final.{at_there}
 use Rattle.dropped_calls.specs.Below.outcome_stories.proofs.Members.{contains_in}
-use Rattle.dropped_calls.specs.Below.outcome_ticks.proofs.Tasks.{one_task}
-use Rattle.dropped_calls.specs.Below.joint_runs.proofs.Runs.{AreMade, first_views}
-use Rattle.dropped_calls.specs.Below.call_owing.specs.Lives.{ClosesInRun}
-use Rattle.dropped_calls.specs.Below.call_stories.specs.Lists.{gave_in, early_of_run, closed_of_run, silent_of_run}
-use Rattle.dropped_calls.specs.Below.call_stories.specs.Posts.{Post}
+use Rattle.dropped_calls.specs.Below.outcome_ticks.proofs.TableTasksDistinct.{one_task}
+use Rattle.dropped_calls.specs.Below.joint_runs.proofs.RunsOfBothTables.{AreMade, first_views}
+use Rattle.dropped_calls.specs.Below.call_owing.specs.LivesOfLinks.{ClosesInRun}
+use Rattle.dropped_calls.specs.Below.call_stories.specs.LinkReadingLists.{gave_in, early_of_run, closed_of_run, silent_of_run}
+use Rattle.dropped_calls.specs.Below.call_stories.specs.PostsOfRun.{Post}
 use Rattle.dropped_calls.specs.accept_counts.specs.PostCauses.{PostCause, OfEnd}
 use Rattle.send_causes.proofs.Assembled.{last_in_run}
 use Rattle.dropped_calls.specs.accept_counts.proofs.Closers.{Calm, IsOver}
 use Rattle.dropped_calls.proofs.DropCauses.{may_be_on, stands_on}
 use Rattle.send_causes.proofs.DropEndsCauses.{own_link, cause_of_drop}
 use Rattle.dropped_calls.proofs.DropOfRun.{IsOpened, DropOf, ends, end_sound, settled, given_opened}
-use Rattle.dropped_calls.specs.accept_counts.proofs.Early.{Any, ends_anyhow, start, go, fitting, known}
+use Rattle.dropped_calls.specs.accept_counts.proofs.EarlyClosedSockets.{Any, ends_anyhow, start, go, fitting, known}
 use Rattle.dropped_calls.specs.ended_calls.proofs.EndedWhole.{h₃, h₄, closed_keeps, ended_so}
-use Rattle.dropped_calls.specs.accept_counts.proofs.Readings.{State}
+use Rattle.dropped_calls.specs.accept_counts.proofs.ReadingsAtTicks.{State}
 use Rattle.dropped_calls.specs.accept_counts.proofs.ReaderRuns.{Keeps, keeps_along}
-use Rattle.dropped_calls.specs.accept_counts.proofs.Runs.{AreLabelledIn}
-use Rattle.dropped_calls.specs.sent_once.proofs.Sends.{orders_are}
-use Rattle.send_causes.proofs.Laws.{laws}
-use Rattle.seat_programs.specs.Rounds.{first_step}
+use Rattle.dropped_calls.specs.accept_counts.proofs.RunsKeepAttemptLaw.{AreLabelledIn}
+use Rattle.dropped_calls.specs.sent_once.proofs.SocketOperationsTold.{orders_are}
+use Rattle.send_causes.proofs.LawsOfLinkOrders.{laws}
+use Rattle.seat_programs.specs.LoopRounds.{first_step}
 
 module _ (script : List Item) (made : AreMade script) (turns : List Turn) (core : Core) (is : IsRunWithCalls script turns core) (closes : ClosesInRun script turns core is) (ids : ℕ → ℕ) (labelled : AreLabelledIn ids script turns core is) where
   abbrev views : List View

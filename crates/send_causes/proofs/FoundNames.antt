@@ -10,21 +10,21 @@ use Rattle.sock_words.specs.declared.outcome.Outcome.TheVariants as outcomes
 use Rattle.seat_programs.specs.declared.task.Op.TheVariants as ops
 use Rattle.seat_programs.specs.declared.task.Task.{Task}
 use Rattle.seat_programs.specs.Asides.{StoreCall}
-use Rattle.seat_programs.specs.Calls.{TableStep}
+use Rattle.seat_programs.specs.TableSteps.{TableStep}
 use Rattle.seat_programs.specs.Cores.{SeatState}
 use Rattle.seat_programs.specs.Programs.{Program, Do, Aside}
-use Rattle.dropped_calls.specs.Below.programs_allowed.specs.program_steps.proofs.Cases.{elem_there}
+use Rattle.dropped_calls.specs.Below.programs_allowed.specs.program_steps.proofs.TickCases.{elem_there}
 use Rattle.dropped_calls.specs.Below.call_stories.specs.Scenes.{Scene, Named, IsTaskOf, HasNoneOf, NoneFound, ToldOf, was_said, was_sent, was_begun, AreTold, Later}
 use Rattle.dropped_calls.specs.Below.call_stories.specs.Says.{Mark, NoneOfSetup, SaysOn}
-use Rattle.dropped_calls.specs.Below.call_stories.specs.Stories.{At, undo, CallStory}
-use Rattle.dropped_calls.specs.Below.story_steps.proofs.Calls.{told_at, open_named, none_found}
-use Rattle.dropped_calls.specs.Below.story_steps.proofs.End.{undo_done}
-use Rattle.dropped_calls.specs.Below.call_stories.proofs.Lasting.{own_on}
-use Rattle.dropped_calls.specs.Below.story_steps.proofs.Numbered.{AreNumbered, one_task, listed_or}
-use Rattle.dropped_calls.specs.Below.story_ticks.proofs.Ticks.{IsSetUp}
+use Rattle.dropped_calls.specs.Below.call_stories.specs.CallStories.{At, undo, CallStory}
+use Rattle.dropped_calls.specs.Below.story_steps.proofs.CausesOfCallSayings.{told_at, open_named, none_found}
+use Rattle.dropped_calls.specs.Below.story_steps.proofs.StoryAtRunEnd.{undo_done}
+use Rattle.dropped_calls.specs.Below.call_stories.proofs.LastingCallStories.{own_on}
+use Rattle.dropped_calls.specs.Below.story_steps.proofs.NumberedTasks.{AreNumbered, one_task, listed_or}
+use Rattle.dropped_calls.specs.Below.story_ticks.proofs.TicksKeepCallStory.{IsSetUp}
 use Rattle.dropped_calls.specs.attempted_calls.proofs.AttemptedFacts.{IsOwn, IsStoring}
-use Rattle.seat_programs.specs.Rounds.{first_step}
-use Rattle.dropped_calls.specs.Below.outcome_stories.specs.Stories.{In}
+use Rattle.seat_programs.specs.LoopRounds.{first_step}
+use Rattle.dropped_calls.specs.Below.outcome_stories.specs.OperationStories.{In}
 
 -- a place of a list of clients that has a task is one of the list
 listed : (cs : List (List Task)) (c : ℕ) (t : Task) → In t (slice_index_or cs c []) → (ts : List Task) × (slice_get cs c ≡ Some ts) × In t ts
@@ -93,7 +93,7 @@ module _ (p : Plan) (q : IdPlan) (clients : List (List Task)) (gives : ℕ → L
       begun : (t : Task) → IsOf j t → t.number ≡ o → In t m.done
       begun t mine numbered_ = ⊎_elim stored storing own.either
         where
-          stored : get_or w.core.calls.words (Rattle.seat_programs.specs.id_rule.specs.Lawful.call_index q o) 0 ≡ id → In t m.done
+          stored : get_or w.core.calls.words (Rattle.seat_programs.specs.id_rule.specs.LawfulIdTable.call_index q o) 0 ≡ id → In t m.done
           stored e = let c = story.tasks.called o own.inside (λ z. own.some_ (sym e ∙ z)) in
               -- (birth, born, its id, its operation, seat, mark, task, the mark's place, done, its op, its number)
               let theirs = own_task c.4 c.5 c.7 c.6 (inl c.8) in let both = same_task j c.4 t c.6 mine theirs (numbered_ ∙ sym c.10) in

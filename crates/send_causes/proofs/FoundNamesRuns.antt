@@ -5,32 +5,32 @@ use lib.ListN.{get_elem?}
 use Rattle.sock_words.specs.declared.plain.Plan.{Plan}
 use Rattle.corr_core.specs.declared.marks.Plan.{Plan as IdPlan}
 use Rattle.sock_model.specs.declared.view.View.{View}
-use Rattle.sock_model.specs.Layout.{name_index}
+use Rattle.sock_model.specs.SocketTableLayout.{name_index}
 use Rattle.sock_message.specs.Asked.{Asked}
 use Rattle.seat_programs.specs.declared.task.Task.{Task}
-use Rattle.seat_programs.specs.Calls.{LoadName}
+use Rattle.seat_programs.specs.TableSteps.{LoadName}
 use Rattle.seat_programs.specs.Cores.{Core, SeatState}
 use Rattle.seat_programs.specs.Ticks.{Moment, AreAnswered, ticked, run}
-use Rattle.dropped_calls.specs.Below.programs_allowed.specs.program_steps.specs.Sound.{views_after}
-use Rattle.dropped_calls.specs.Below.programs_allowed.specs.program_steps.proofs.Cases.{elem_there}
-use Rattle.dropped_calls.specs.Below.joint_runs.proofs.Both.{AreBoth}
-use Rattle.dropped_calls.specs.Below.call_stories.specs.Lists.{advanced_at}
-use Rattle.dropped_calls.specs.Below.call_stories.specs.Posts.{Post, posted_at}
+use Rattle.dropped_calls.specs.Below.programs_allowed.specs.program_steps.specs.SoundSeats.{views_after}
+use Rattle.dropped_calls.specs.Below.programs_allowed.specs.program_steps.proofs.TickCases.{elem_there}
+use Rattle.dropped_calls.specs.Below.joint_runs.proofs.BothTablesSound.{AreBoth}
+use Rattle.dropped_calls.specs.Below.call_stories.specs.LinkReadingLists.{advanced_at}
+use Rattle.dropped_calls.specs.Below.call_stories.specs.PostsOfRun.{Post, posted_at}
 use Rattle.dropped_calls.specs.Below.call_stories.specs.Scenes.{Scene, LeadsTo, Later}
 use Rattle.dropped_calls.specs.Below.call_stories.specs.Decided.{Decision}
-use Rattle.dropped_calls.specs.Below.call_stories.specs.Stories.{HasStory, GoesOn}
+use Rattle.dropped_calls.specs.Below.call_stories.specs.CallStories.{HasStory, GoesOn}
 use Rattle.dropped_calls.specs.Below.story_ticks.proofs.Allowing.{allows}
 use Rattle.dropped_calls.specs.Below.story_ticks.proofs.Claiming.{HaveSlots}
-use Rattle.dropped_calls.specs.Below.call_stories.proofs.Leading.{run_leads}
-use Rattle.dropped_calls.specs.Below.story_steps.proofs.Numbered.{AreNumbered}
-use Rattle.dropped_calls.specs.Below.story_ticks.proofs.Ticks.{IsSetUp, story_lasts}
-use Rattle.dropped_calls.specs.accept_counts.specs.Refused.{DidMiss, WouldStore, DidAt, DidIn}
+use Rattle.dropped_calls.specs.Below.call_stories.proofs.LeadingBytesGiven.{run_leads}
+use Rattle.dropped_calls.specs.Below.story_steps.proofs.NumberedTasks.{AreNumbered}
+use Rattle.dropped_calls.specs.Below.story_ticks.proofs.TicksKeepCallStory.{IsSetUp, story_lasts}
+use Rattle.dropped_calls.specs.accept_counts.specs.RefusedOrDropped.{DidMiss, WouldStore, DidAt, DidIn}
 use Rattle.dropped_calls.specs.attempted_calls.proofs.AttemptedFacts.{IsOwn, facts}
 use Rattle.dropped_calls.specs.attempted_calls.proofs.EndedNames.{follows_first}
 use Rattle.dropped_calls.specs.attempted_calls.proofs.AttemptedOwn.{IsTrueOf, own_ticks}
 use Rattle.dropped_calls.specs.attempted_calls.proofs.AttemptedStored.{Owns, AreSetUp, would_of}
 use Rattle.send_causes.proofs.FoundNames.{Missed, missed_on, missed_here}
-use Rattle.seat_programs.specs.Rounds.{first_step}
+use Rattle.seat_programs.specs.LoopRounds.{first_step}
 
 first_there : {A : Type 0} (xs : List A) (i : ℕ) (x : A) → get_elem? xs i ≡ some x → (y : A) × (get_elem? xs 0 ≡ some y)
 first_there [] i x at = absurd (some-ne-none x (sym at))

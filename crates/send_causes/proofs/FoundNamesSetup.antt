@@ -8,8 +8,8 @@ use lib.ListN.{get_elem?}
 use Rattle.sock_words.specs.declared.plain.Plan.{Plan}
 use Rattle.corr_core.specs.declared.marks.Plan.{Plan as IdPlan}
 use Rattle.sock_words.specs.declared.kind.Kind.{Kind}
-use Rattle.seat_programs.specs.Calls.{TableStep, LoadName}
-use Rattle.seat_programs.specs.Clients.{operation, client_from}
+use Rattle.seat_programs.specs.TableSteps.{TableStep, LoadName}
+use Rattle.seat_programs.specs.ClientProgram.{operation, client_from}
 use Rattle.seat_programs.specs.declared.task.Op.{Op}
 use Rattle.seat_programs.specs.declared.task.Op.TheVariants as ops
 use Rattle.seat_programs.specs.declared.task.Sizes.{Sizes}
@@ -17,17 +17,17 @@ use Rattle.seat_programs.specs.declared.task.Task.{Task}
 use Rattle.seat_programs.specs.Programs.{Program, Do, Say, Rest, Retries, make_socket, open_from}
 use Rattle.seat_programs.specs.Cores.{Core, SeatState, resolved, still_waiting, next_step, waiting_at, found_at}
 use Rattle.seat_programs.specs.StepTables.{word_of}
-use Rattle.seat_programs.specs.Runs.{kind_in, next_kind, IsAtRest}
-use Rattle.seat_programs.specs.Scripts.{programs, all_programs, beginning}
+use Rattle.seat_programs.specs.ScheduledRuns.{kind_in, next_kind, IsAtRest}
+use Rattle.seat_programs.specs.ScriptSetupToEnding.{programs, all_programs, beginning}
 use Rattle.seat_programs.specs.Ticks.{Moment, quiet, ticked, tick_with}
-use Rattle.seat_programs.specs.Told.{IsOpen}
-use Rattle.dropped_calls.specs.Below.programs_allowed.specs.program_steps.specs.Sound.{IsAhead}
-use Rattle.dropped_calls.specs.Below.programs_allowed.specs.sock_runs.proofs.Along.{seat_rests, ticked_ahead}
-use Rattle.dropped_calls.specs.Below.programs_allowed.specs.program_walks.proofs.Opening.{mapped}
+use Rattle.seat_programs.specs.Explained.{IsOpen}
+use Rattle.dropped_calls.specs.Below.programs_allowed.specs.program_steps.specs.SoundSeats.{IsAhead}
+use Rattle.dropped_calls.specs.Below.programs_allowed.specs.sock_runs.proofs.SoundAlongRuns.{seat_rests, ticked_ahead}
+use Rattle.dropped_calls.specs.Below.programs_allowed.specs.program_walks.proofs.OpenedLivesRecorded.{mapped}
 use Rattle.dropped_calls.specs.Below.programs_allowed.specs.sock_runs.proofs.Quiets.{ticked_rests}
-use Rattle.dropped_calls.specs.accept_counts.specs.Refused.{DidMiss, DidIn}
+use Rattle.dropped_calls.specs.accept_counts.specs.RefusedOrDropped.{DidMiss, DidIn}
 use Rattle.dropped_calls.specs.refused_attempts.proofs.RefusedClosing.{set_first}
-use Rattle.seat_programs.specs.Rounds.{first_step}
+use Rattle.seat_programs.specs.LoopRounds.{first_step}
 
 -- ## Programs that open sockets
 
@@ -80,7 +80,7 @@ abbrev pub SetsUp : Core → Type 0
 SetsUp c = ((seat : SeatState) → get_elem? c.seats 0 ≡ some seat → LooksForNone seat.program) × (waiting_at c.calls.waiting 0 ≡ [])
 
 module _ (p : Plan) where
-  first_waits : (ws : List (List Rattle.seat_programs.specs.Heads.Retry)) → waiting_at (set ws 0 []) 0 ≡ []
+  first_waits : (ws : List (List Rattle.seat_programs.specs.LoopHeads.Retry)) → waiting_at (set ws 0 []) 0 ≡ []
   first_waits [] = refl
   first_waits (w ∷ ws) = refl
 

@@ -9,43 +9,43 @@ use Rattle.sock_words.specs.declared.outcome.Outcome.TheVariants as outcomes
 use Rattle.seat_programs.specs.brpc_model.specs.Items.{Item}
 use Rattle.seat_programs.specs.brpc_model.specs.Operations.{Turn}
 use Rattle.corr_core.specs.Word.{parts}
-use Rattle.seat_programs.specs.id_rule.specs.Lawful.{id_index}
+use Rattle.seat_programs.specs.id_rule.specs.LawfulIdTable.{id_index}
 use Rattle.seat_programs.specs.declared.task.Op.{Op}
 use Rattle.seat_programs.specs.declared.task.Op.TheVariants as ops
 use Rattle.seat_programs.specs.declared.task.Task.{Task}
 use Rattle.seat_programs.specs.Cores.{Core}
 use Rattle.seat_programs.specs.Ticks.{quiet, run}
 use Rattle.seat_programs.specs.Tasks.{opens, calls, plan_of, id_plan_of}
-use Rattle.seat_programs.specs.Told.{IsTask, OpensNone}
-use Rattle.seat_programs.specs.ToldCalls.{Fixed, Order, Seeks, FoundNone, WhyLost, WasUnopened}
-use Rattle.seat_programs.specs.Scripts.{sizes_of, readers_from, all_tasks, opened, ending, set_up, played, is_ending, IsRunWithCalls}
-use Rattle.dropped_calls.specs.Below.programs_allowed.specs.program_steps.specs.Sound.{AllRest, views_along}
+use Rattle.seat_programs.specs.Explained.{IsTask, OpensNone}
+use Rattle.seat_programs.specs.ExplainedCalls.{Fixed, Order, Seeks, FoundNone, WhyLost, WasUnopened}
+use Rattle.seat_programs.specs.ScriptSetupToEnding.{sizes_of, readers_from, all_tasks, opened, ending, set_up, played, is_ending, IsRunWithCalls}
+use Rattle.dropped_calls.specs.Below.programs_allowed.specs.program_steps.specs.SoundSeats.{AllRest, views_along}
 use Rattle.dropped_calls.specs.Below.programs_allowed.specs.sock_runs.proofs.Quiets.{run_rests}
-use Rattle.dropped_calls.specs.Below.programs_allowed.specs.program_walks.proofs.Whole.{views_played, views_closed}
-use Rattle.dropped_calls.specs.Below.joint_runs.proofs.Both.{behind_both}
-use Rattle.dropped_calls.specs.Below.joint_runs.proofs.Runs.{AreMade, first_views, joint_runs}
-use Rattle.dropped_calls.specs.Below.script_facts.proofs.Reading.{InRange}
+use Rattle.dropped_calls.specs.Below.programs_allowed.specs.program_walks.proofs.WholeScriptSound.{views_played, views_closed}
+use Rattle.dropped_calls.specs.Below.joint_runs.proofs.BothTablesSound.{behind_both}
+use Rattle.dropped_calls.specs.Below.joint_runs.proofs.RunsOfBothTables.{AreMade, first_views, joint_runs}
+use Rattle.dropped_calls.specs.Below.script_facts.proofs.ReadScriptFacts.{InRange}
 use Rattle.dropped_calls.specs.Below.script_facts.proofs.Targets.{AreThere}
-use Rattle.dropped_calls.specs.Below.call_owing.specs.Lives.{ClosesInRun}
-use Rattle.dropped_calls.specs.Below.owed_calls.proofs.Known.{run_all_ended, run_all_rest}
-use Rattle.dropped_calls.specs.Below.call_stories.specs.Lists.{gave_in}
-use Rattle.dropped_calls.specs.Below.call_stories.specs.Posts.{Post}
+use Rattle.dropped_calls.specs.Below.call_owing.specs.LivesOfLinks.{ClosesInRun}
+use Rattle.dropped_calls.specs.Below.owed_calls.proofs.OwedCallsAreEnded.{run_all_ended, run_all_rest}
+use Rattle.dropped_calls.specs.Below.call_stories.specs.LinkReadingLists.{gave_in}
+use Rattle.dropped_calls.specs.Below.call_stories.specs.PostsOfRun.{Post}
 use Rattle.dropped_calls.specs.Below.call_stories.specs.Scenes.{Scene, IsOpened, SeeksName, IsTaskOf, HasNoneOf}
 use Rattle.dropped_calls.specs.Below.call_stories.specs.Says.{Mark}
-use Rattle.dropped_calls.specs.Below.call_stories.specs.Stories.{HasStory}
-use Rattle.dropped_calls.specs.Below.story_steps.proofs.End.{HasEnded, contains_in, listed_or, one_outcome, undo_done}
-use Rattle.dropped_calls.specs.Below.story_ticks.proofs.Over.{has_ended}
-use Rattle.dropped_calls.specs.Below.call_causes.proofs.Run.{ending_lasts, told_lasts}
+use Rattle.dropped_calls.specs.Below.call_stories.specs.CallStories.{HasStory}
+use Rattle.dropped_calls.specs.Below.story_steps.proofs.StoryAtRunEnd.{HasEnded, contains_in, listed_or, one_outcome, undo_done}
+use Rattle.dropped_calls.specs.Below.story_ticks.proofs.StoryOver.{has_ended}
+use Rattle.dropped_calls.specs.Below.call_causes.proofs.RunOfCallStory.{ending_lasts, told_lasts}
 use Rattle.dropped_calls.specs.Below.story_ticks.proofs.RunFacts.{own_leads, run_facts, leadings}
-use Rattle.dropped_calls.specs.Below.story_ticks.proofs.Scripts.{are_ascending}
-use Rattle.dropped_calls.specs.Below.story_steps.proofs.Whys.{AreAscending, ascending_undo}
-use Rattle.dropped_calls.specs.accept_counts.specs.Refused.{DidMiss, DidIn, FoundNothing}
-use Rattle.dropped_calls.specs.accept_counts.proofs.Runs.{IsCallOf}
+use Rattle.dropped_calls.specs.Below.story_ticks.proofs.ScriptTasksFitStory.{are_ascending}
+use Rattle.dropped_calls.specs.Below.story_steps.proofs.ExpireAndJoinWhys.{AreAscending, ascending_undo}
+use Rattle.dropped_calls.specs.accept_counts.specs.RefusedOrDropped.{DidMiss, DidIn, FoundNothing}
+use Rattle.dropped_calls.specs.accept_counts.proofs.RunsKeepAttemptLaw.{IsCallOf}
 use Rattle.dropped_calls.specs.attempted_calls.proofs.AttemptedStored.{alone_set_up, rests_set_up, numbered, slots, small, Leads, setup_goes, played_both, some_seats}
 use Rattle.send_causes.proofs.FoundNamesRuns.{Since, then_since, since_change, since_ticks, Finds, find_along}
 use Rattle.send_causes.proofs.FoundNamesSetup.{none_in_setup, none_beside, none_at_rest, begins_setup, begins_at_rest}
 use Rattle.send_causes.proofs.FoundNames.{Missed}
-use Rattle.dropped_calls.specs.Below.outcome_stories.specs.Stories.{In}
+use Rattle.dropped_calls.specs.Below.outcome_stories.specs.OperationStories.{In}
 
 seeks_name : (p : Plan) (clients : List (List Task)) (os : List _) (fixed : Fixed) (gave : ℕ → List ℕ) (orders : ℕ → Order) (n : ℕ) (op : Op) → Seeks p clients os fixed gave orders n op → SeeksName n op
 seeks_name p clients os fixed gave orders n (ops.Fail m code) s = s

@@ -8,32 +8,32 @@ use native.Mathlib.Decide.{ℕ_discrete}
 use lib.ListN.{get_elem?}
 use Rattle.seat_programs.specs.brpc_model.specs.Items.{Item}
 use Rattle.seat_programs.specs.brpc_model.specs.Operations.{Turn}
-use Rattle.dropped_calls.specs.Below.script_facts.proofs.Reading.{InRange}
+use Rattle.dropped_calls.specs.Below.script_facts.proofs.ReadScriptFacts.{InRange}
 use Rattle.dropped_calls.specs.Below.script_facts.proofs.Targets.{AreThere}
-use Rattle.sock_words.specs.Words.{socket_id, socket_id_slot, socket_id_version}
+use Rattle.sock_words.specs.PackedWords.{socket_id, socket_id_slot, socket_id_version}
 use Rattle.sock_model.specs.declared.chain.Heading.{Heading}
-use Rattle.sock_model.specs.Layout.{open_index}
+use Rattle.sock_model.specs.SocketTableLayout.{open_index}
 use Rattle.corr_core.specs.Word.{error_of, code_of, attempt_of}
 use Rattle.seat_programs.specs.declared.task.Op.TheVariants as ops
 use Rattle.seat_programs.specs.declared.task.Task.{Task}
-use Rattle.seat_programs.specs.Calls.{DropPlace}
+use Rattle.seat_programs.specs.TableSteps.{DropPlace}
 use Rattle.seat_programs.specs.Cores.{Core}
 use Rattle.seat_programs.specs.Tasks.{opens, plan_of, id_plan_of}
-use Rattle.seat_programs.specs.Scripts.{all_tasks, IsRunWithCalls}
+use Rattle.seat_programs.specs.ScriptSetupToEnding.{all_tasks, IsRunWithCalls}
 use Rattle.seat_programs.specs.Writings.{Holder, Puts}
-use Rattle.dropped_calls.specs.Below.outcome_stories.specs.Causes.{WasGiven}
+use Rattle.dropped_calls.specs.Below.outcome_stories.specs.StoryStepCauses.{WasGiven}
 use Rattle.dropped_calls.specs.Below.outcome_stories.specs.PlainTasks.{told_tasks_of}
-use Rattle.dropped_calls.specs.Below.outcome_stories.specs.Stories.{In}
+use Rattle.dropped_calls.specs.Below.outcome_stories.specs.OperationStories.{In}
 use Rattle.dropped_calls.specs.Below.outcome_stories.proofs.Members.{all_in, in_contains}
-use Rattle.dropped_calls.specs.Below.joint_runs.proofs.Runs.{AreMade}
-use Rattle.dropped_calls.specs.Below.call_owing.specs.Lives.{ClosesInRun}
+use Rattle.dropped_calls.specs.Below.joint_runs.proofs.RunsOfBothTables.{AreMade}
+use Rattle.dropped_calls.specs.Below.call_owing.specs.LivesOfLinks.{ClosesInRun}
 use Rattle.dropped_calls.specs.Below.call_stories.specs.Decided.{posted_by}
-use Rattle.dropped_calls.specs.Below.call_stories.specs.Lists.{gave_in}
-use Rattle.dropped_calls.specs.Below.call_stories.specs.Posts.{Post}
+use Rattle.dropped_calls.specs.Below.call_stories.specs.LinkReadingLists.{gave_in}
+use Rattle.dropped_calls.specs.Below.call_stories.specs.PostsOfRun.{Post}
 use Rattle.dropped_calls.specs.Below.call_causes.proofs.HandledWhole.{PostedLate}
-use Rattle.dropped_calls.specs.accept_counts.specs.Refused.{Deed, DidStep, DidRound, DidInRun, DidEarly, DidLate, RunWouldOwn}
+use Rattle.dropped_calls.specs.accept_counts.specs.RefusedOrDropped.{Deed, DidStep, DidRound, DidInRun, DidEarly, DidLate, RunWouldOwn}
 use Rattle.dropped_calls.specs.attempted_calls.proofs.AttemptedStored.{ids_at}
-use Rattle.dropped_calls.specs.sent_once.proofs.Beside.{fixed_of_run}
+use Rattle.dropped_calls.specs.sent_once.proofs.OtherTasksBesideCalls.{fixed_of_run}
 use Rattle.dropped_calls.proofs.DropCauses.{fail_range}
 use Rattle.send_causes.proofs.DropEndsCauses.{own_link}
 use Rattle.send_causes.proofs.DropEndsOver.{opened_link}
@@ -43,8 +43,8 @@ use Rattle.dropped_calls.proofs.LateDropsEnding.{IsNew, IsOfNew, drops_of_new}
 use Rattle.dropped_calls.proofs.LateDropsPosts.{DropPost}
 use Rattle.dropped_calls.proofs.LateDropsWhole.{IsNoEnd, AnyLife, LifeOf, PostOf, BehindClients, BehindEnding, posts_late}
 use Rattle.send_causes.proofs.OwnIds.{labelled_at, would_at, single_at}
-use Rattle.dropped_calls.specs.accept_counts.proofs.Runs.{AreLabelledIn, IsCallOf}
-use Rattle.dropped_calls.specs.sent_once.proofs.Sends.{orders_are}
+use Rattle.dropped_calls.specs.accept_counts.proofs.RunsKeepAttemptLaw.{AreLabelledIn, IsCallOf}
+use Rattle.dropped_calls.specs.sent_once.proofs.SocketOperationsTold.{orders_are}
 use Rattle.dropped_calls.specs.Below.owned_ids.proofs.OpensStored.{place_at}
 use Rattle.dropped_calls.specs.Below.outcome_stories.specs.Facts.{shown_in_run}
 

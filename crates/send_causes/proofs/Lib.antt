@@ -1,6 +1,6 @@
 pub mod ByPosts
 pub mod Assembled
-pub mod Laws
+pub mod LawsOfLinkOrders
 pub mod DropEndsCauses
 pub mod DropEndsOver
 pub mod ClosedLostPrograms

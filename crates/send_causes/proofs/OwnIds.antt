@@ -9,35 +9,35 @@ use Rattle.sock_model.specs.declared.chain.Heading.{Heading}
 use Rattle.seat_programs.specs.brpc_model.specs.Items.{Item}
 use Rattle.seat_programs.specs.brpc_model.specs.Operations.{Turn}
 use Rattle.seat_programs.specs.brpc_model.specs.Frame.{Frame}
-use Rattle.seat_programs.specs.brpc_model.specs.Messages.{shown_id}
+use Rattle.seat_programs.specs.brpc_model.specs.MessageOfLabel.{shown_id}
 use Rattle.seat_programs.specs.brpc_model.specs.Script.{script_of}
 use Rattle.corr_core.specs.Word.{error_of}
 use Rattle.corr_core.specs.declared.marks.Plan.{Plan as IdPlan}
-use Rattle.seat_programs.specs.id_rule.specs.Lawful.{call_index}
+use Rattle.seat_programs.specs.id_rule.specs.LawfulIdTable.{call_index}
 use Rattle.sock_message.specs.Asked.{Asked, name_of}
 use Rattle.seat_programs.specs.declared.task.Op.TheVariants as ops
 use Rattle.seat_programs.specs.declared.task.Task.{Task}
 use Rattle.seat_programs.specs.Cores.{Core}
 use Rattle.seat_programs.specs.Tasks.{plan_of, id_plan_of}
-use Rattle.seat_programs.specs.Scripts.{all_tasks, IsRunWithCalls}
-use Rattle.seat_programs.specs.Told.{IsTask, Became}
-use Rattle.seat_programs.specs.ToldCalls.{Accepted, IsSent, Gave, IsResponse, StandsOn, MayBeOn}
-use Rattle.dropped_calls.specs.Below.outcome_stories.specs.Stories.{In, In as Has}
-use Rattle.dropped_calls.specs.Below.joint_runs.proofs.Runs.{AreMade}
-use Rattle.dropped_calls.specs.Below.script_facts.proofs.Reading.{InRange}
+use Rattle.seat_programs.specs.ScriptSetupToEnding.{all_tasks, IsRunWithCalls}
+use Rattle.seat_programs.specs.Explained.{IsTask, Became}
+use Rattle.seat_programs.specs.ExplainedCalls.{Accepted, IsSent, Gave, IsResponse, StandsOn, MayBeOn}
+use Rattle.dropped_calls.specs.Below.outcome_stories.specs.OperationStories.{In, In as Has}
+use Rattle.dropped_calls.specs.Below.joint_runs.proofs.RunsOfBothTables.{AreMade}
+use Rattle.dropped_calls.specs.Below.script_facts.proofs.ReadScriptFacts.{InRange}
 use Rattle.dropped_calls.specs.Below.script_facts.proofs.Targets.{AreThere}
-use Rattle.dropped_calls.specs.Below.call_owing.specs.Lives.{ClosesInRun}
-use Rattle.dropped_calls.specs.Below.owed_calls.proofs.Known.{run_all_rest}
+use Rattle.dropped_calls.specs.Below.call_owing.specs.LivesOfLinks.{ClosesInRun}
+use Rattle.dropped_calls.specs.Below.owed_calls.proofs.OwedCallsAreEnded.{run_all_rest}
 use Rattle.dropped_calls.specs.Below.call_stories.specs.Decided.{posted_by}
-use Rattle.dropped_calls.specs.Below.call_stories.specs.Lists.{gave_in}
-use Rattle.dropped_calls.specs.Below.call_stories.specs.Posts.{Post}
+use Rattle.dropped_calls.specs.Below.call_stories.specs.LinkReadingLists.{gave_in}
+use Rattle.dropped_calls.specs.Below.call_stories.specs.PostsOfRun.{Post}
 use Rattle.dropped_calls.specs.Below.call_stories.specs.Scenes.{Scene, Begun, WhyOwn, ToldOf, was_said, was_sent, was_begun, AreTold}
 use Rattle.dropped_calls.specs.Below.call_stories.specs.Says.{Mark}
-use Rattle.dropped_calls.specs.Below.story_steps.proofs.End.{HasEnded, one_outcome, call_of}
-use Rattle.dropped_calls.specs.Below.call_causes.proofs.Whole.{run_has_story, run_has_ended}
+use Rattle.dropped_calls.specs.Below.story_steps.proofs.StoryAtRunEnd.{HasEnded, one_outcome, call_of}
+use Rattle.dropped_calls.specs.Below.call_causes.proofs.WholeCallStory.{run_has_story, run_has_ended}
 use Rattle.dropped_calls.specs.accept_counts.specs.EndedCalls.{reader_posts_of_run, EndedSo}
 use Rattle.dropped_calls.specs.accept_counts.specs.PostCauses.{PostCause}
-use Rattle.dropped_calls.specs.accept_counts.specs.Refused.{Deed, DidInRun, IsDrop, RunWouldOwn}
+use Rattle.dropped_calls.specs.accept_counts.specs.RefusedOrDropped.{Deed, DidInRun, IsDrop, RunWouldOwn}
 use Rattle.send_causes.proofs.Assembled.{last_in_run}
 use Rattle.dropped_calls.specs.attempted_calls.proofs.AttemptedCalls.{single, shows}
 use Rattle.dropped_calls.specs.attempted_calls.proofs.AttemptedRun.{attempted_of_run}
@@ -46,8 +46,8 @@ use Rattle.send_causes.proofs.DropEndsOver.{caused_for_call}
 use Rattle.dropped_calls.proofs.DropOfRun.{DropOf, drop_of_run}
 use Rattle.dropped_calls.specs.ended_calls.proofs.EndedCauses.{EndedOn, run_ended_on}
 use Rattle.dropped_calls.specs.refused_attempts.proofs.RefusedRun.{WhyPosted, refused_of_seat}
-use Rattle.dropped_calls.specs.accept_counts.proofs.Runs.{AreLabelledIn}
-use Rattle.send_causes.proofs.Laws.{laws}
+use Rattle.dropped_calls.specs.accept_counts.proofs.RunsKeepAttemptLaw.{AreLabelledIn}
+use Rattle.send_causes.proofs.LawsOfLinkOrders.{laws}
 use Rattle.dropped_calls.specs.Below.outcome_stories.specs.Facts.{shown_in_run}
 
 -- ## Words of calls

@@ -13,37 +13,37 @@ use Rattle.sock_model.specs.declared.chain.Stage.TheVariants.{Writes}
 use Rattle.sock_model.specs.declared.view.View.{View}
 use Rattle.sock_model.specs.Deliveries.{ShownAt, no_place, one_place}
 use Rattle.sock_model.specs.Entries.{ticket, on}
-use Rattle.sock_model.specs.Layout.{place_index}
+use Rattle.sock_model.specs.SocketTableLayout.{place_index}
 use Rattle.accept_counts.specs.Below.sock_steps.proofs.RightSteps.{right_in, right_alone}
-use Rattle.accept_counts.specs.Below.chain_steps.proofs.Frames.{in_log}
-use Rattle.accept_counts.specs.Below.chain_steps.proofs.Letters.{writes_room}
-use Rattle.accept_counts.specs.Below.chain_steps.proofs.Lists.{at_some, distinct_filter}
+use Rattle.accept_counts.specs.Below.chain_steps.proofs.UntouchedByChainSteps.{in_log}
+use Rattle.accept_counts.specs.Below.chain_steps.proofs.ChainLettersStay.{writes_room}
+use Rattle.accept_counts.specs.Below.chain_steps.proofs.TicketLists.{at_some, distinct_filter}
 use Rattle.corr_core.specs.declared.marks.Plan.{Plan as IdPlan}
-use Rattle.corr_core.proofs.Notes.{at_length}
+use Rattle.corr_core.proofs.NoteSums.{at_length}
 use Rattle.sock_message.specs.Asked.{Asked}
 use Rattle.seat_programs.specs.declared.task.Task.{Task}
-use Rattle.seat_programs.specs.Calls.{TableStep, StorePlace, DropPlace}
+use Rattle.seat_programs.specs.TableSteps.{TableStep, StorePlace, DropPlace}
 use Rattle.seat_programs.specs.Cores.{Core, SeatState, found_at, words_after}
 use Rattle.seat_programs.specs.TableWords.{PlaceOf}
 use Rattle.seat_programs.specs.StepTables.{May, table_word, word_of, word_after}
-use Rattle.seat_programs.specs.Sends.{heading_of}
+use Rattle.seat_programs.specs.SendAndWritePrograms.{heading_of}
 use Rattle.seat_programs.specs.Ticks.{Moment, IsAnswered, ticked}
-use Rattle.accept_counts.specs.Below.programs_allowed.specs.program_steps.specs.Sound.{state, Sound, IsFitting}
-use Rattle.accept_counts.specs.Below.programs_allowed.specs.program_steps.proofs.Cases.{tick_keeps_marks}
+use Rattle.accept_counts.specs.Below.programs_allowed.specs.program_steps.specs.SoundSeats.{state, Sound, IsFitting}
+use Rattle.accept_counts.specs.Below.programs_allowed.specs.program_steps.proofs.TickCases.{tick_keeps_marks}
 use Rattle.accept_counts.specs.Below.programs_allowed.specs.program_steps.proofs.WordFrame.{word_left}
 use Rattle.accept_counts.specs.Below.programs_allowed.specs.sock_runs.proofs.ChainTicks.{word_inside}
-use Rattle.accept_counts.specs.Below.outcome_stories.specs.Causes.{Asks}
+use Rattle.accept_counts.specs.Below.outcome_stories.specs.StoryStepCauses.{Asks}
 use Rattle.accept_counts.specs.Below.outcome_stories.specs.Explains.{Done, swapped}
-use Rattle.accept_counts.specs.Below.outcome_stories.specs.Kept.{is_of_send, of_sends, undo, IsOfCall as IsOfSpoken, IsOfTask, EndsIn, AreMade, AreMadeNow, IsSpoken, SeatStory, Story}
-use Rattle.accept_counts.specs.Below.outcome_stories.specs.Stories.{Event, In, trace_of}
+use Rattle.accept_counts.specs.Below.outcome_stories.specs.KeptStory.{is_of_send, of_sends, undo, IsOfCall as IsOfSpoken, IsOfTask, EndsIn, AreMade, AreMadeNow, IsSpoken, SeatStory, Story}
+use Rattle.accept_counts.specs.Below.outcome_stories.specs.OperationStories.{Event, In, trace_of}
 use Rattle.accept_counts.specs.Below.outcome_causes.proofs.Final.{at_there}
 use Rattle.accept_counts.specs.Below.outcome_stories.proofs.Members.{all_in}
-use Rattle.accept_counts.specs.Below.outcome_causes.proofs.Messages.{in_of_at, filter_has}
-use Rattle.accept_counts.specs.Below.outcome_ticks.proofs.Seats.{undo_done, undo_in}
-use Rattle.accept_counts.specs.Below.outcome_stories.proofs.Senders.{HasSent, sent_in, each_of, apart_by}
-use Rattle.accept_counts.specs.Below.outcome_ticks.proofs.Ticks.{get_of}
-use Rattle.accept_counts.specs.Below.label_runs.specs.Labels.{Trial}
-use Rattle.accept_counts.specs.Counts.{IsOfCall, EntryFits, LabelLaw}
+use Rattle.accept_counts.specs.Below.outcome_causes.proofs.MessagesOfTasks.{in_of_at, filter_has}
+use Rattle.accept_counts.specs.Below.outcome_ticks.proofs.SeatPartOfStory.{undo_done, undo_in}
+use Rattle.accept_counts.specs.Below.outcome_stories.proofs.SendersOfLogEntries.{HasSent, sent_in, each_of, apart_by}
+use Rattle.accept_counts.specs.Below.outcome_ticks.proofs.TicksKeepStory.{get_of}
+use Rattle.accept_counts.specs.Below.label_runs.specs.AttemptLabelsLeft.{Trial}
+use Rattle.accept_counts.specs.AttemptCounts.{IsOfCall, EntryFits, LabelLaw}
 use Rattle.accept_counts.proofs.Apart.{calls_apart}
 
 -- ## Messages of tasks

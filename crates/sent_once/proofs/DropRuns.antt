@@ -4,49 +4,49 @@ use mathlib.Core.Logic.{dite}
 use mathlib.Core.Option.{none, some}
 use native.Mathlib.Decide.{ℕ_discrete}
 use lib.ListN.{get_elem?}
-use Rattle.sock_words.specs.Words.{socket_id_version, socket_id_slot, place_word}
+use Rattle.sock_words.specs.PackedWords.{socket_id_version, socket_id_slot, place_word}
 use Rattle.sock_words.specs.declared.plain.Plan.{Plan}
 use Rattle.sock_model.specs.declared.chain.Heading.{Heading}
 use Rattle.sock_model.specs.declared.view.View.{View}
-use Rattle.sock_model.specs.Layout.{place_index}
+use Rattle.sock_model.specs.SocketTableLayout.{place_index}
 use Rattle.sock_model.specs.References.{slot_facts}
-use Rattle.sock_model.specs.Slots.{live}
-use Rattle.sock_model.specs.Weights.{is_met}
-use Rattle.accept_counts.specs.Below.sock_steps.proofs.Places.{own_count}
+use Rattle.sock_model.specs.SocketSlotLaw.{live}
+use Rattle.sock_model.specs.MarkWeights.{is_met}
+use Rattle.accept_counts.specs.Below.sock_steps.proofs.LifeLinkSlotPlaces.{own_count}
 use Rattle.accept_counts.specs.Below.sock_steps.proofs.RightSteps.{right_in}
 use Rattle.corr_core.specs.declared.marks.Plan.{Plan as IdPlan}
-use Rattle.corr_core.proofs.Notes.{at_length}
+use Rattle.corr_core.proofs.NoteSums.{at_length}
 use Rattle.sock_message.specs.Asked.{Asked}
 use Rattle.seat_programs.specs.declared.task.Task.{Task}
-use Rattle.seat_programs.specs.Calls.{TableStep, CreateLife, LoadCode, DropPlace}
+use Rattle.seat_programs.specs.TableSteps.{TableStep, CreateLife, LoadCode, DropPlace}
 use Rattle.seat_programs.specs.Cores.{Core, SeatState, stepped}
 use Rattle.seat_programs.specs.Programs.{Program, Do, Write}
 use Rattle.seat_programs.specs.Ticks.{Moment, IsAnswered, AreAnswered, quiet, step_with, tick_with, ticked, run}
-use Rattle.seat_programs.specs.Told.{AreTasks}
+use Rattle.seat_programs.specs.Explained.{AreTasks}
 use Rattle.seat_programs.specs.Writings.{Holder, Puts}
-use Rattle.accept_counts.specs.Below.programs_allowed.specs.program_steps.specs.GoesOn.{GoesOn}
-use Rattle.accept_counts.specs.Below.programs_allowed.specs.program_steps.specs.Sound.{state, Sound, AreFew, IsFitting, AreFitting, views_after, views_along, MOST_PLACES}
-use Rattle.accept_counts.specs.Below.programs_allowed.specs.program_steps.proofs.Cases.{goes_first, ticks_first}
-use Rattle.accept_counts.specs.Below.programs_allowed.specs.sock_runs.proofs.Few.{places_small}
+use Rattle.accept_counts.specs.Below.programs_allowed.specs.program_steps.specs.ProgramGoesOn.{GoesOn}
+use Rattle.accept_counts.specs.Below.programs_allowed.specs.program_steps.specs.SoundSeats.{state, Sound, AreFew, IsFitting, AreFitting, views_after, views_along, MOST_PLACES}
+use Rattle.accept_counts.specs.Below.programs_allowed.specs.program_steps.proofs.TickCases.{goes_first, ticks_first}
+use Rattle.accept_counts.specs.Below.programs_allowed.specs.sock_runs.proofs.FewAcceptedMessages.{places_small}
 use Rattle.accept_counts.specs.Below.programs_allowed.specs.sock_runs.proofs.LinkTicks.{RetriesGo}
-use Rattle.accept_counts.specs.Below.programs_allowed.specs.sock_runs.proofs.Ticks.{sound_ticks}
-use Rattle.accept_counts.specs.Below.outcome_stories.specs.Causes.{WasGiven}
-use Rattle.accept_counts.specs.Below.outcome_stories.specs.Kept.{IsSpoken, Story}
-use Rattle.accept_counts.specs.Below.outcome_stories.specs.Stories.{Event, In}
+use Rattle.accept_counts.specs.Below.programs_allowed.specs.sock_runs.proofs.TicksKeepSeatsSound.{sound_ticks}
+use Rattle.accept_counts.specs.Below.outcome_stories.specs.StoryStepCauses.{WasGiven}
+use Rattle.accept_counts.specs.Below.outcome_stories.specs.KeptStory.{IsSpoken, Story}
+use Rattle.accept_counts.specs.Below.outcome_stories.specs.OperationStories.{Event, In}
 use Rattle.accept_counts.specs.Below.outcome_causes.proofs.Final.{at_there}
-use Rattle.accept_counts.specs.Below.outcome_ticks.proofs.Events.{event, marked_given, given_by}
-use Rattle.accept_counts.specs.Below.outcome_ticks.proofs.Ticks.{MayMove, IsNew, tick_story}
-use Rattle.accept_counts.specs.Below.label_runs.specs.Labels.{Trial}
-use Rattle.accept_counts.specs.Counts.{LabelLaw, StoresOwn, AreLabelled}
+use Rattle.accept_counts.specs.Below.outcome_ticks.proofs.EventsOfGoodStory.{event, marked_given, given_by}
+use Rattle.accept_counts.specs.Below.outcome_ticks.proofs.TicksKeepStory.{MayMove, IsNew, tick_story}
+use Rattle.accept_counts.specs.Below.label_runs.specs.AttemptLabelsLeft.{Trial}
+use Rattle.accept_counts.specs.AttemptCounts.{LabelLaw, StoresOwn, AreLabelled}
 use Rattle.accept_counts.specs.Below.id_runs.specs.Goes.{SoundIds, IsFittingIds}
-use Rattle.accept_counts.specs.Below.id_runs.specs.Held.{IdView}
-use Rattle.accept_counts.specs.Below.joint_runs.proofs.Both.{AreBounded}
-use Rattle.accept_counts.specs.Refused.{Deed, DidStep, DidRound, DidAt, DidIn}
+use Rattle.accept_counts.specs.Below.id_runs.specs.HeldIdTokens.{IdView}
+use Rattle.accept_counts.specs.Below.joint_runs.proofs.BothTablesSound.{AreBounded}
+use Rattle.accept_counts.specs.RefusedOrDropped.{Deed, DidStep, DidRound, DidAt, DidIn}
 use Rattle.sent_once.proofs.DropPlaces.{log_calls, in_hand, place_stays}
 use Rattle.sent_once.proofs.DropTicks.{IsKnown, CodesLaw, known_later, codes_ticks}
 use Rattle.sent_once.proofs.DropWords.{held_version, live_none, code_in}
-use Rattle.accept_counts.proofs.Ticks.{label_ticks}
-use Rattle.seat_programs.specs.Rounds.{first_step}
+use Rattle.accept_counts.proofs.TicksKeepAttemptLaw.{label_ticks}
+use Rattle.seat_programs.specs.LoopRounds.{first_step}
 
 -- a tick of a seat is its first step
 tick_steps : (p : Plan) (c : Core) (m : Moment) (seat : SeatState) (call : TableStep) (next : ℕ → Program) → get_elem? c.seats m.seat ≡ some seat → first_step seat.program ≡ Do call next → ticked p c m ≡ stepped p m.seat seat call next c

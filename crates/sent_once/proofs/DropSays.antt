@@ -1,19 +1,19 @@
 -- A program that says next that a `fail` failed a life is that of the task in hand.
 use Rattle.std.proofs.Common.{◌≡◌, ℕ, ◌%◌, ⊎_elim, List, [], ◌∷◌, refl, sym, ap, ◌∙◌, subst}
 use Rattle.std.specs.Prelude.{Some}
-use Rattle.sock_words.specs.Words.{vref_version}
+use Rattle.sock_words.specs.PackedWords.{vref_version}
 use Rattle.sock_words.specs.declared.outcome.Outcome.{Outcome}
 use Rattle.sock_words.specs.declared.outcome.Outcome.TheVariants.{Failed}
 use Rattle.seat_programs.specs.declared.task.Op.TheVariants as ops
 use Rattle.seat_programs.specs.declared.task.Task.{Task}
-use Rattle.seat_programs.specs.Calls.{TableStep, SetOdd, LoadOpen}
+use Rattle.seat_programs.specs.TableSteps.{TableStep, SetOdd, LoadOpen}
 use Rattle.seat_programs.specs.Writings.{Puts, Waits, Empties, Walks}
 use Rattle.seat_programs.specs.Programs.{Program, Do, Say, Write, Round}
-use Rattle.accept_counts.specs.Below.programs_allowed.specs.program_steps.proofs.Cases.{IsOfLoop, loop_begins}
+use Rattle.accept_counts.specs.Below.programs_allowed.specs.program_steps.proofs.TickCases.{IsOfLoop, loop_begins}
 use Rattle.accept_counts.specs.Below.outcome_stories.specs.Explains.{Way, Own, Beside, Closing, Done, Because, IsExplainedBy, ExplainsBy, step}
-use Rattle.accept_counts.specs.Below.outcome_stories.specs.Stories.{Entry, In}
-use Rattle.sent_once.proofs.DropCodes.{SaysFailed}
-use Rattle.seat_programs.specs.Rounds.{first_step}
+use Rattle.accept_counts.specs.Below.outcome_stories.specs.OperationStories.{Entry, In}
+use Rattle.sent_once.proofs.SourcesOfSocketCodes.{SaysFailed}
+use Rattle.seat_programs.specs.LoopRounds.{first_step}
 
 says_on : (o : ℕ) (call : TableStep) (next : ℕ → Program) → SaysFailed o (Do call next) → ((i : ℕ) → call ≡ SetOdd i → ⊥) × SaysFailed o (next 0)
 says_on o (SetOdd i) next s = absurd s

@@ -7,7 +7,7 @@ use mathlib.Core.Option.{Option, none, some}
 use native.Mathlib.Decide.{ℕ_discrete}
 use lib.ListN.{get_elem?}
 use Rattle.atomic_table.proofs.Lists.{at_set}
-use Rattle.sock_words.specs.Words.{vref_version}
+use Rattle.sock_words.specs.PackedWords.{vref_version}
 use Rattle.sock_words.specs.declared.plain.Plan.{Plan}
 use Rattle.sock_model.specs.declared.home.Home.{Home}
 use Rattle.sock_model.specs.declared.marks.Mark.TheVariants.{Hold, Coding, Failer, Saw}
@@ -15,40 +15,40 @@ use Rattle.sock_model.specs.declared.marks.SlotMark.{SlotMark}
 use Rattle.sock_model.specs.declared.view.View.{View}
 use Rattle.sock_model.specs.Marks.{about, at}
 use Rattle.sock_model.specs.SlotRows.{marks_of, failed}
-use Rattle.sock_model.specs.Weights.{is_coding}
-use Rattle.accept_counts.specs.Below.slot_steps.proofs.Numbers.{only-at}
-use Rattle.accept_counts.specs.Below.slot_steps.proofs.Sums.{about-here}
+use Rattle.sock_model.specs.MarkWeights.{is_coding}
+use Rattle.accept_counts.specs.Below.slot_steps.proofs.RuleNumbers.{only-at}
+use Rattle.accept_counts.specs.Below.slot_steps.proofs.SlotWeightSums.{about-here}
 use Rattle.seat_programs.specs.declared.task.Op.TheVariants as ops
 use Rattle.seat_programs.specs.declared.task.Task.{Task}
-use Rattle.seat_programs.specs.Beside.{calls_after}
-use Rattle.seat_programs.specs.Calls.{TableStep, AddRef, LoadName, SetOdd, StoreCode}
+use Rattle.seat_programs.specs.FoundAndChangedAside.{calls_after}
+use Rattle.seat_programs.specs.TableSteps.{TableStep, AddRef, LoadName, SetOdd, StoreCode}
 use Rattle.seat_programs.specs.Cores.{Calls, Core, SeatState, found_at, words_after, homes_after, hand_after, lies_at, first_of, others_of, link_place, resolved, waiting_at, next_step, with_seat}
 use Rattle.seat_programs.specs.StepTables.{word_of, word_after}
-use Rattle.seat_programs.specs.Drops.{call_in}
+use Rattle.seat_programs.specs.SlotFreedByDrop.{call_in}
 use Rattle.seat_programs.specs.Programs.{Program, Do, Rest, TakeMessage, TakeHome, PutHome, PutBytes, AskReady, Aside}
 use Rattle.seat_programs.specs.Ticks.{Moment, IsAnswered, fed, with_places, onto_first, ticked}
-use Rattle.seat_programs.specs.Told.{AreTasks}
+use Rattle.seat_programs.specs.Explained.{AreTasks}
 use Rattle.seat_programs.specs.StepTables.{May}
 use Rattle.seat_programs.specs.StepTables.{row, hand_at}
 use Rattle.seat_programs.specs.StepsOfMessages.{took_message}
 use Rattle.seat_programs.specs.StepsOfLinks.{link_away, link_home_again, took_bytes}
-use Rattle.accept_counts.specs.Below.programs_allowed.specs.program_steps.specs.Sound.{Sound, views_after}
-use Rattle.accept_counts.specs.Below.programs_allowed.specs.program_steps.proofs.Cases.{tick_cases}
+use Rattle.accept_counts.specs.Below.programs_allowed.specs.program_steps.specs.SoundSeats.{Sound, views_after}
+use Rattle.accept_counts.specs.Below.programs_allowed.specs.program_steps.proofs.TickCases.{tick_cases}
 use Rattle.accept_counts.specs.Below.sock_steps.proofs.Maps.{set_at}
-use Rattle.accept_counts.specs.Below.outcome_stories.specs.Causes.{Asks}
+use Rattle.accept_counts.specs.Below.outcome_stories.specs.StoryStepCauses.{Asks}
 use Rattle.accept_counts.specs.Below.outcome_stories.specs.Explains.{Way, Own, Beside, Closing, Done, ExplainsBy, step}
-use Rattle.accept_counts.specs.Below.outcome_stories.specs.Kept.{IsSpoken, IsTraced, SeatStory, Story}
-use Rattle.accept_counts.specs.Below.outcome_stories.specs.Stories.{Entry, Event, In, trace_of, trace_now}
-use Rattle.accept_counts.specs.Below.outcome_ticks.proofs.Events.{event}
+use Rattle.accept_counts.specs.Below.outcome_stories.specs.KeptStory.{IsSpoken, IsTraced, SeatStory, Story}
+use Rattle.accept_counts.specs.Below.outcome_stories.specs.OperationStories.{Entry, Event, In, trace_of, trace_now}
+use Rattle.accept_counts.specs.Below.outcome_ticks.proofs.EventsOfGoodStory.{event}
 use Rattle.accept_counts.specs.Below.outcome_stories.proofs.Members.{from_trace, to_trace}
-use Rattle.accept_counts.specs.Below.outcome_ticks.proofs.Seats.{undo_in}
-use Rattle.accept_counts.specs.Below.outcome_ticks.proofs.Tasks.{one_task}
-use Rattle.accept_counts.specs.Below.outcome_ticks.proofs.Ticks.{MayMove, IsNew, get_of}
-use Rattle.sent_once.proofs.DropCodes.{Failing, NoFail, Fails, IsOtherCode, SaysFailed, Stores, codes_first, codes_next}
+use Rattle.accept_counts.specs.Below.outcome_ticks.proofs.SeatPartOfStory.{undo_in}
+use Rattle.accept_counts.specs.Below.outcome_ticks.proofs.TableTasksDistinct.{one_task}
+use Rattle.accept_counts.specs.Below.outcome_ticks.proofs.TicksKeepStory.{MayMove, IsNew, get_of}
+use Rattle.sent_once.proofs.SourcesOfSocketCodes.{Failing, NoFail, Fails, IsOtherCode, SaysFailed, Stores, codes_first, codes_next}
 use Rattle.sent_once.proofs.DropSays.{IsInHand, first_numbered, says, sets_here}
 use Rattle.sent_once.proofs.DropWords.{version_in, code_in, coding_version, code_stays}
-use Rattle.corr_core.proofs.Notes.{at_length}
-use Rattle.seat_programs.specs.Rounds.{first_step}
+use Rattle.corr_core.proofs.NoteSums.{at_length}
+use Rattle.seat_programs.specs.LoopRounds.{first_step}
 use Rattle.sock_words.specs.Totals.{total}
 
 -- ## What is known of codes

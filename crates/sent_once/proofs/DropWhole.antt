@@ -10,41 +10,41 @@ use Rattle.seat_programs.specs.brpc_model.specs.Items.{Item}
 use Rattle.seat_programs.specs.brpc_model.specs.Operations.{Turn}
 use Rattle.sock_model.specs.declared.view.View.{View}
 use Rattle.sock_model.specs.References.{slot_facts}
-use Rattle.sock_model.specs.Slots.{live}
-use Rattle.accept_counts.specs.Below.slot_steps.proofs.Numbers.{life-in}
+use Rattle.sock_model.specs.SocketSlotLaw.{live}
+use Rattle.accept_counts.specs.Below.slot_steps.proofs.RuleNumbers.{life-in}
 use Rattle.seat_programs.specs.declared.task.Op.{Op}
 use Rattle.seat_programs.specs.declared.task.Op.TheVariants as ops
 use Rattle.seat_programs.specs.declared.task.Sizes.{Sizes}
 use Rattle.seat_programs.specs.declared.task.Task.{Task}
-use Rattle.seat_programs.specs.Clients.{client_from, ending_of}
+use Rattle.seat_programs.specs.ClientProgram.{client_from, ending_of}
 use Rattle.seat_programs.specs.Cores.{Core, SeatState, resolved, waiting_at, next_step}
 use Rattle.seat_programs.specs.Programs.{Program}
-use Rattle.seat_programs.specs.Scripts.{sizes_of, programs, readers_from, all_programs, all_tasks, opened, set_up, is_ending, IsRunWithCalls}
+use Rattle.seat_programs.specs.ScriptSetupToEnding.{sizes_of, programs, readers_from, all_programs, all_tasks, opened, set_up, is_ending, IsRunWithCalls}
 use Rattle.seat_programs.specs.Tasks.{opens, calls, plan_of, id_plan_of}
 use Rattle.seat_programs.specs.Ticks.{quiet, run}
-use Rattle.seat_programs.specs.Told.{AreTasks}
-use Rattle.accept_counts.specs.Below.programs_allowed.specs.program_steps.specs.Sound.{state, Sound, views_along}
-use Rattle.accept_counts.specs.Below.programs_allowed.specs.program_steps.proofs.Bounds.{law}
+use Rattle.seat_programs.specs.Explained.{AreTasks}
+use Rattle.accept_counts.specs.Below.programs_allowed.specs.program_steps.specs.SoundSeats.{state, Sound, views_along}
+use Rattle.accept_counts.specs.Below.programs_allowed.specs.program_steps.proofs.SlotWordBounds.{law}
 use Rattle.accept_counts.specs.Below.programs_allowed.specs.sock_runs.proofs.LinkTicks.{RetriesGo}
-use Rattle.accept_counts.specs.Below.programs_allowed.specs.program_walks.proofs.Opening.{mapped}
-use Rattle.accept_counts.specs.Below.programs_allowed.specs.program_walks.proofs.Whole.{Begins, AreFittingIn, closing_of, rested_of, views_played, views_closed, views_ended, set_up_answered, end_answered, closing_sound, closed_sound}
+use Rattle.accept_counts.specs.Below.programs_allowed.specs.program_walks.proofs.OpenedLivesRecorded.{mapped}
+use Rattle.accept_counts.specs.Below.programs_allowed.specs.program_walks.proofs.WholeScriptSound.{Begins, AreFittingIn, closing_of, rested_of, views_played, views_closed, views_ended, set_up_answered, end_answered, closing_sound, closed_sound}
 use Rattle.accept_counts.specs.Below.outcome_stories.specs.Explains.{is_plain}
-use Rattle.accept_counts.specs.Below.outcome_stories.specs.Kept.{Story}
+use Rattle.accept_counts.specs.Below.outcome_stories.specs.KeptStory.{Story}
 use Rattle.accept_counts.specs.Below.outcome_stories.specs.PlainTasks.{told_tasks_of}
-use Rattle.accept_counts.specs.Below.outcome_stories.specs.Stories.{Event, In}
+use Rattle.accept_counts.specs.Below.outcome_stories.specs.OperationStories.{Event, In}
 use Rattle.accept_counts.specs.Below.outcome_ticks.proofs.Lifted.{down}
 use Rattle.accept_counts.specs.Below.outcome_stories.proofs.Members.{all_of}
-use Rattle.accept_counts.specs.Below.outcome_causes.proofs.Openings.{are_seats}
-use Rattle.accept_counts.specs.Below.outcome_causes.proofs.Runs.{set_up_over}
-use Rattle.accept_counts.specs.Below.outcome_causes.proofs.Scripts.{story_opened, story_closing, story_ended}
-use Rattle.accept_counts.specs.Below.joint_runs.proofs.Both.{AreBounded}
-use Rattle.accept_counts.proofs.Beginnings.{all_begin}
-use Rattle.accept_counts.specs.Refused.{Deed, DidInRun}
-use Rattle.sent_once.proofs.DropCodes.{Failing, NoFail, Stores, OwnsFail, IsOtherCode, client_codes, ending_codes, reader_codes, codes_next}
+use Rattle.accept_counts.specs.Below.outcome_causes.proofs.ExplainedOpenings.{are_seats}
+use Rattle.accept_counts.specs.Below.outcome_causes.proofs.RunsKeepStory.{set_up_over}
+use Rattle.accept_counts.specs.Below.outcome_causes.proofs.SocketCausesOfScripts.{story_opened, story_closing, story_ended}
+use Rattle.accept_counts.specs.Below.joint_runs.proofs.BothTablesSound.{AreBounded}
+use Rattle.accept_counts.proofs.ProgramsAtBeginning.{all_begin}
+use Rattle.accept_counts.specs.RefusedOrDropped.{Deed, DidInRun}
+use Rattle.sent_once.proofs.SourcesOfSocketCodes.{Failing, NoFail, Stores, OwnsFail, IsOtherCode, client_codes, ending_codes, reader_codes, codes_next}
 use Rattle.sent_once.proofs.DropRuns.{Tells, tells_on, Scene, Along, seats_along, setup_along}
 use Rattle.sent_once.proofs.DropTicks.{IsFailOf, SeatCodes, CodesLaw}
 use Rattle.sent_once.proofs.DropWords.{version_in}
-use Rattle.accept_counts.proofs.Runs.{AreLabelledIn, IsCallOf, first, closing_law, closed_law}
+use Rattle.accept_counts.proofs.RunsKeepAttemptLaw.{AreLabelledIn, IsCallOf, first, closing_law, closed_law}
 use Rattle.accept_counts.specs.Below.owned_ids.proofs.OpensStored.{place_at}
 
 -- ## How a run begins

@@ -5,26 +5,26 @@ use mathlib.Core.Option.{Option, some}
 use native.Mathlib.Decide.{ℕ_discrete}
 use lib.ListN.{get_elem?}
 use Rattle.atomic_table.proofs.Lists.{at_map}
-use Rattle.sock_words.specs.Words.{socket_id_slot, vref_version}
+use Rattle.sock_words.specs.PackedWords.{socket_id_slot, vref_version}
 use Rattle.sock_words.specs.declared.plain.Plan.{Plan}
 use Rattle.sock_model.specs.declared.marks.Mark.{Mark}
 use Rattle.sock_model.specs.declared.marks.Mark.TheVariants.{Coding}
 use Rattle.sock_model.specs.declared.view.View.{View}
-use Rattle.sock_model.specs.Layout.{ref_index, code_index}
+use Rattle.sock_model.specs.SocketTableLayout.{ref_index, code_index}
 use Rattle.sock_model.specs.Marks.{about}
 use Rattle.sock_model.specs.References.{slot_facts}
 use Rattle.sock_model.specs.SlotRows.{marks_of}
-use Rattle.sock_model.specs.Slots.{KeepsCodes, live}
-use Rattle.sock_model.specs.Weights.{is_hold, is_coding, is_any_coding}
-use Rattle.accept_counts.specs.Below.slot_steps.proofs.Numbers.{or-odd, only_le}
-use Rattle.accept_counts.specs.Below.slot_steps.proofs.Sums.{total_mono}
-use Rattle.accept_counts.specs.Below.sock_steps.proofs.Places.{own_count}
-use Rattle.seat_programs.specs.Calls.{TableStep, CreateLife, AddRef, SubRef, SetOdd, Recycle, ClearCode, StoreCode, LookWord, LoadCode}
+use Rattle.sock_model.specs.SocketSlotLaw.{KeepsCodes, live}
+use Rattle.sock_model.specs.MarkWeights.{is_hold, is_coding, is_any_coding}
+use Rattle.accept_counts.specs.Below.slot_steps.proofs.RuleNumbers.{or-odd, only_le}
+use Rattle.accept_counts.specs.Below.slot_steps.proofs.SlotWeightSums.{total_mono}
+use Rattle.accept_counts.specs.Below.sock_steps.proofs.LifeLinkSlotPlaces.{own_count}
+use Rattle.seat_programs.specs.TableSteps.{TableStep, CreateLife, AddRef, SubRef, SetOdd, Recycle, ClearCode, StoreCode, LookWord, LoadCode}
 use Rattle.seat_programs.specs.Cores.{Core, found_at, words_after}
 use Rattle.seat_programs.specs.TableWords.{TableWord, RefOf, CodeOf, index_of}
 use Rattle.seat_programs.specs.StepTables.{word_of, word_after, hand_at, May, Finds}
-use Rattle.accept_counts.specs.Below.programs_allowed.specs.program_steps.specs.Sound.{state, Sound}
-use Rattle.accept_counts.specs.Below.programs_allowed.specs.program_steps.proofs.Bounds.{law, lives_le}
+use Rattle.accept_counts.specs.Below.programs_allowed.specs.program_steps.specs.SoundSeats.{state, Sound}
+use Rattle.accept_counts.specs.Below.programs_allowed.specs.program_steps.proofs.SlotWordBounds.{law, lives_le}
 use Rattle.accept_counts.specs.Below.programs_allowed.specs.program_steps.proofs.WordFrame.{load_leaves, word_stays}
 use Rattle.accept_counts.specs.Below.programs_allowed.specs.sock_runs.proofs.Founds.{finds}
 

@@ -6,17 +6,17 @@ use mathlib.Core.Option.{some}
 use native.Mathlib.Decide.{dec_le}
 use lib.ListN.{get_elem?}
 use Rattle.atomic_table.proofs.Lists.{at_set}
-use Rattle.sock_words.specs.Words.{socket_id_slot, socket_id_version, vref_version, vref_nref, place_word, NO_SOCKET}
+use Rattle.sock_words.specs.PackedWords.{socket_id_slot, socket_id_version, vref_version, vref_nref, place_word, NO_SOCKET}
 use Rattle.sock_words.specs.declared.plain.Plan.{Plan}
 use Rattle.sock_model.specs.declared.view.View.{View}
 use Rattle.sock_model.specs.Deliveries.{ShownAt, no_place, one_place}
 use Rattle.sock_model.specs.Entries.{on}
-use Rattle.sock_model.specs.Layout.{place_index}
-use Rattle.sock_model.specs.Links.{Failed}
+use Rattle.sock_model.specs.SocketTableLayout.{place_index}
+use Rattle.sock_model.specs.LinksInSlots.{Failed}
 use Rattle.accept_counts.specs.Below.sock_steps.proofs.Positions.{few_log, on_shorter}
-use Rattle.accept_counts.specs.Below.sock_steps.proofs.Quiet.{either_way}
-use Rattle.accept_counts.specs.Below.chain_steps.proofs.Lists.{at_some}
-use Rattle.accept_counts.specs.Below.slot_steps.proofs.Sums.{total_bound}
+use Rattle.accept_counts.specs.Below.sock_steps.proofs.SumsAsMarksChange.{either_way}
+use Rattle.accept_counts.specs.Below.chain_steps.proofs.TicketLists.{at_some}
+use Rattle.accept_counts.specs.Below.slot_steps.proofs.SlotWeightSums.{total_bound}
 use Rattle.sock_model.specs.Rule.{lists_of}
 use Rattle.std.proofs.lemmas.List.{length-map}
 use Rattle.accept_counts.specs.Below.outcome_stories.proofs.Members.{get_there}
@@ -24,28 +24,28 @@ use Rattle.seat_programs.specs.Asides.{Taking}
 use Rattle.accept_counts.proofs.Closers.{Ends as ReadingEnds}
 use Rattle.accept_counts.proofs.ReaderRuns.{Keeps, reader_rights, keeps_along}
 use Rattle.std.specs.Prelude.{slice_get, Some}
-use Rattle.seat_programs.specs.Calls.{TableStep, SwapHead}
+use Rattle.seat_programs.specs.TableSteps.{TableStep, SwapHead}
 use Rattle.seat_programs.specs.Programs.{Program, Do, Rest, TakeMessage, TakeHome, PutHome, PutBytes, AskReady, Aside, LAST_VERSION, recycle, release}
-use Rattle.seat_programs.specs.Heads.{Retry}
-use Rattle.seat_programs.specs.Clients.{ending_of}
+use Rattle.seat_programs.specs.LoopHeads.{Retry}
+use Rattle.seat_programs.specs.ClientProgram.{ending_of}
 use Rattle.seat_programs.specs.Cores.{Core, SeatState, resolved, next_step}
-use Rattle.seat_programs.specs.Runs.{IsAtRest}
+use Rattle.seat_programs.specs.ScheduledRuns.{IsAtRest}
 use Rattle.seat_programs.specs.Ticks.{Moment, AreAnswered, IsAnswered, quiet, ticked, run}
-use Rattle.seat_programs.specs.ToldCalls.{Accepted, label, AreOrders}
-use Rattle.accept_counts.specs.Below.programs_allowed.specs.program_steps.specs.Sound.{state, Sound, IsAhead, IsFitting, AreFitting, AreFew, views_after}
-use Rattle.accept_counts.specs.Below.programs_allowed.specs.program_steps.specs.GoesOn.{GoesOn, HasNothing}
-use Rattle.accept_counts.specs.Below.programs_allowed.specs.sock_runs.proofs.Along.{seat_rests, ticked_ahead}
-use Rattle.accept_counts.specs.Below.programs_allowed.specs.program_steps.proofs.Cases.{ComesNext, tick_keeps_marks}
+use Rattle.seat_programs.specs.ExplainedCalls.{Accepted, label, AreOrders}
+use Rattle.accept_counts.specs.Below.programs_allowed.specs.program_steps.specs.SoundSeats.{state, Sound, IsAhead, IsFitting, AreFitting, AreFew, views_after}
+use Rattle.accept_counts.specs.Below.programs_allowed.specs.program_steps.specs.ProgramGoesOn.{GoesOn, HasNothing}
+use Rattle.accept_counts.specs.Below.programs_allowed.specs.sock_runs.proofs.SoundAlongRuns.{seat_rests, ticked_ahead}
+use Rattle.accept_counts.specs.Below.programs_allowed.specs.program_steps.proofs.TickCases.{ComesNext, tick_keeps_marks}
 use Rattle.accept_counts.specs.Below.programs_allowed.specs.sock_runs.proofs.LinkTicks.{RetriesGo}
 use Rattle.accept_counts.specs.Below.programs_allowed.specs.sock_runs.proofs.Quiets.{ticked_seats, ticked_rests}
 use Rattle.accept_counts.specs.Below.programs_allowed.specs.program_walks.proofs.Recorded.{Recorded, recorded_ticks}
-use Rattle.accept_counts.specs.Below.programs_allowed.specs.sock_runs.proofs.Ticks.{sound_ticks}
+use Rattle.accept_counts.specs.Below.programs_allowed.specs.sock_runs.proofs.TicksKeepSeatsSound.{sound_ticks}
 use Rattle.accept_counts.specs.Below.outcome_stories.proofs.Delivered.{accepted_of, orders_of}
-use Rattle.accept_counts.proofs.Places.{places_ticks}
-use Rattle.accept_counts.proofs.Readings.{rights_none}
-use Rattle.accept_counts.specs.Below.outcome_ticks.proofs.Accepting.{IsNoSwap}
-use Rattle.corr_core.proofs.Notes.{at_length}
-use Rattle.seat_programs.specs.Rounds.{first_step}
+use Rattle.accept_counts.proofs.PlaceWordsWithoutRight.{places_ticks}
+use Rattle.accept_counts.proofs.ReadingsAtTicks.{rights_none}
+use Rattle.accept_counts.specs.Below.outcome_ticks.proofs.ClaimAndAcceptedMessages.{IsNoSwap}
+use Rattle.corr_core.proofs.NoteSums.{at_length}
+use Rattle.seat_programs.specs.LoopRounds.{first_step}
 
 -- ## The ending exchanges no head
 

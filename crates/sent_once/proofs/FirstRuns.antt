@@ -21,48 +21,48 @@ use Rattle.sock_model.specs.declared.view.View.{View}
 use Rattle.sock_model.specs.ChainRows.{with_claim, entry_of, more, queued, righted, taken_right, ready_claim, filled_claim}
 use Rattle.seat_programs.specs.declared.task.Sizes.{Sizes}
 use Rattle.seat_programs.specs.declared.task.Task.{Task}
-use Rattle.seat_programs.specs.Beside.{calls_after}
-use Rattle.seat_programs.specs.Calls.{TableStep, ClaimRequest, PutMessage, Unconnect, SwapHead}
-use Rattle.seat_programs.specs.Clients.{client_from, ending_of}
+use Rattle.seat_programs.specs.FoundAndChangedAside.{calls_after}
+use Rattle.seat_programs.specs.TableSteps.{TableStep, ClaimRequest, PutMessage, Unconnect, SwapHead}
+use Rattle.seat_programs.specs.ClientProgram.{client_from, ending_of}
 use Rattle.seat_programs.specs.Cores.{Calls, Core, SeatState, found_at, words_after, homes_after, hand_after, lies_at, first_of, others_of, link_place, resolved, still_waiting, waiting_at, next_step, with_seat}
 use Rattle.seat_programs.specs.StepTables.{word_of, word_after}
-use Rattle.seat_programs.specs.Heads.{Retry}
+use Rattle.seat_programs.specs.LoopHeads.{Retry}
 use Rattle.seat_programs.specs.Programs.{Program, Do, TakeMessage, TakeHome, PutHome, PutBytes, AskReady, Aside}
-use Rattle.seat_programs.specs.Scripts.{sizes_of, programs, readers_from, all_programs, all_tasks, opened, set_up, is_ending, IsRunWithCalls}
+use Rattle.seat_programs.specs.ScriptSetupToEnding.{sizes_of, programs, readers_from, all_programs, all_tasks, opened, set_up, is_ending, IsRunWithCalls}
 use Rattle.seat_programs.specs.Tasks.{opens, calls, plan_of, id_plan_of}
 use Rattle.seat_programs.specs.Ticks.{Moment, IsAnswered, AreAnswered, fed, with_places, onto_first, quiet, ticked, run}
-use Rattle.seat_programs.specs.Told.{AreTasks, IsTask}
-use Rattle.seat_programs.specs.ToldCalls.{Accepted, Order, Fixed, InOwnOrder}
+use Rattle.seat_programs.specs.Explained.{AreTasks, IsTask}
+use Rattle.seat_programs.specs.ExplainedCalls.{Accepted, Order, Fixed, InOwnOrder}
 use Rattle.seat_programs.specs.StepTables.{May}
 use Rattle.seat_programs.specs.StepTables.{row, hand_at}
 use Rattle.seat_programs.specs.StepViews.{by_claim}
 use Rattle.seat_programs.specs.StepsOfChain.{exchanged}
 use Rattle.seat_programs.specs.StepsOfMessages.{took_message}
 use Rattle.seat_programs.specs.StepsOfLinks.{link_away, link_home_again, took_bytes}
-use Rattle.accept_counts.specs.Below.programs_allowed.specs.program_steps.specs.Sound.{Sound, AreFitting, views_after, views_along}
-use Rattle.accept_counts.specs.Below.programs_allowed.specs.program_steps.proofs.Cases.{with_rights, right_rights, put_rights, tick_cases, calls_waiting}
+use Rattle.accept_counts.specs.Below.programs_allowed.specs.program_steps.specs.SoundSeats.{Sound, AreFitting, views_after, views_along}
+use Rattle.accept_counts.specs.Below.programs_allowed.specs.program_steps.proofs.TickCases.{with_rights, right_rights, put_rights, tick_cases, calls_waiting}
 use Rattle.accept_counts.specs.Below.programs_allowed.specs.program_steps.proofs.Leaves.{claim_way}
 use Rattle.accept_counts.specs.Below.programs_allowed.specs.sock_runs.proofs.LinkTicks.{RetriesGo}
-use Rattle.accept_counts.specs.Below.programs_allowed.specs.program_walks.proofs.Opening.{mapped, all_at}
-use Rattle.accept_counts.specs.Below.programs_allowed.specs.sock_runs.proofs.Ticks.{sound_ticks}
-use Rattle.accept_counts.specs.Below.programs_allowed.specs.program_walks.proofs.Whole.{Begins, AreFittingIn, closing_of, rested_of, views_played, views_closed, views_ended, set_up_answered, end_answered, set_up_sound, closing_sound, closed_sound, ended_sound}
-use Rattle.accept_counts.specs.Below.outcome_stories.specs.Causes.{Asks}
+use Rattle.accept_counts.specs.Below.programs_allowed.specs.program_walks.proofs.OpenedLivesRecorded.{mapped, all_at}
+use Rattle.accept_counts.specs.Below.programs_allowed.specs.sock_runs.proofs.TicksKeepSeatsSound.{sound_ticks}
+use Rattle.accept_counts.specs.Below.programs_allowed.specs.program_walks.proofs.WholeScriptSound.{Begins, AreFittingIn, closing_of, rested_of, views_played, views_closed, views_ended, set_up_answered, end_answered, set_up_sound, closing_sound, closed_sound, ended_sound}
+use Rattle.accept_counts.specs.Below.outcome_stories.specs.StoryStepCauses.{Asks}
 use Rattle.accept_counts.specs.Below.outcome_stories.specs.PlainTasks.{OwnsCall}
 use Rattle.accept_counts.specs.Below.outcome_stories.proofs.Delivered.{accepted_of, orders_of}
 use Rattle.accept_counts.specs.Below.outcome_stories.proofs.Members.{all_in, all_of, contains_in}
-use Rattle.accept_counts.specs.Below.outcome_causes.proofs.Messages.{in_of_at}
-use Rattle.accept_counts.specs.Below.outcome_causes.proofs.Scripts.{own_from}
-use Rattle.accept_counts.specs.Below.outcome_stories.proofs.Senders.{HasSent, sent_in, each_before}
-use Rattle.accept_counts.specs.Below.outcome_ticks.proofs.Tasks.{one_task, sorted_of}
+use Rattle.accept_counts.specs.Below.outcome_causes.proofs.MessagesOfTasks.{in_of_at}
+use Rattle.accept_counts.specs.Below.outcome_causes.proofs.SocketCausesOfScripts.{own_from}
+use Rattle.accept_counts.specs.Below.outcome_stories.proofs.SendersOfLogEntries.{HasSent, sent_in, each_before}
+use Rattle.accept_counts.specs.Below.outcome_ticks.proofs.TableTasksDistinct.{one_task, sorted_of}
 use Rattle.accept_counts.specs.Below.outcome_stories.proofs.Tests.{split}
-use Rattle.accept_counts.proofs.Beginnings.{all_begin}
-use Rattle.accept_counts.proofs.Firsts.{behind, Firsts, AreLater, client_firsts, ending_firsts, reader_firsts, firsts_first, firsts_next}
-use Rattle.accept_counts.proofs.Views.{Same, row_same}
-use Rattle.accept_counts.specs.Below.script_facts.proofs.Lists.{all_map}
-use Rattle.accept_counts.specs.Below.script_facts.proofs.Sizes.{all_more}
+use Rattle.accept_counts.proofs.ProgramsAtBeginning.{all_begin}
+use Rattle.accept_counts.proofs.FirstsAcceptedInOrder.{behind, Firsts, AreLater, client_firsts, ending_firsts, reader_firsts, firsts_first, firsts_next}
+use Rattle.accept_counts.proofs.ClaimViewsBehindSteps.{Same, row_same}
+use Rattle.accept_counts.specs.Below.script_facts.proofs.FilteredLists.{all_map}
+use Rattle.accept_counts.specs.Below.script_facts.proofs.ScriptSizes.{all_more}
 use Rattle.accept_counts.specs.Below.owned_ids.proofs.OpensStored.{place_at}
-use Rattle.seat_programs.specs.Rounds.{first_step}
-use Rattle.sock_words.specs.Words.{IDLE}
+use Rattle.seat_programs.specs.LoopRounds.{first_step}
+use Rattle.sock_words.specs.PackedWords.{IDLE}
 
 -- ## Messages of one seat
 

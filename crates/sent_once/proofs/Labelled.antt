@@ -1,24 +1,24 @@
 -- In a run each operation's call has one id, so whoever stores an at word stores one of its operation's own.
 use Rattle.std.proofs.Common.{Bool, ◌≡◌, ◌≢◌, ℕ, ◌+◌, ◌<◌, ◌≤◌, List, [], ◌∷◌, ◌++◌, length, replicate, sym, ap, ◌∙◌, subst, arith}
 use Rattle.sock_words.specs.declared.plain.Plan.{Plan}
-use Rattle.sock_words.specs.Words.{at_word, at_word_first, at_word_slot, call_id, id_slot, id_first}
+use Rattle.sock_words.specs.PackedWords.{at_word, at_word_first, at_word_slot, call_id, id_slot, id_first}
 use Rattle.sock_model.specs.declared.view.View.{View}
-use Rattle.accept_counts.specs.Below.chain_steps.proofs.Lists.{at_some}
+use Rattle.accept_counts.specs.Below.chain_steps.proofs.TicketLists.{at_some}
 use Rattle.corr_core.specs.declared.marks.Plan.{Plan as IdPlan}
 use Rattle.seat_programs.specs.brpc_model.specs.Items.{Item}
 use Rattle.seat_programs.specs.brpc_model.specs.Operations.{Turn}
 use Rattle.seat_programs.specs.Asides.{StoreAt}
 use Rattle.seat_programs.specs.Programs.{Program, Do, Write, Aside, Round}
-use Rattle.seat_programs.specs.Clients.{ending_of}
+use Rattle.seat_programs.specs.ClientProgram.{ending_of}
 use Rattle.seat_programs.specs.Cores.{Core}
 use Rattle.seat_programs.specs.Ticks.{Moment, quiet, ticked, run}
 use Rattle.seat_programs.specs.Tasks.{opens, calls, plan_of, id_plan_of}
-use Rattle.seat_programs.specs.Scripts.{all_tasks, opened, set_up, played, IsRunWithCalls}
-use Rattle.accept_counts.specs.Below.programs_allowed.specs.program_steps.specs.Sound.{views_along}
+use Rattle.seat_programs.specs.ScriptSetupToEnding.{all_tasks, opened, set_up, played, IsRunWithCalls}
+use Rattle.accept_counts.specs.Below.programs_allowed.specs.program_steps.specs.SoundSeats.{views_along}
 use Rattle.accept_counts.specs.Below.programs_allowed.specs.sock_runs.proofs.Quiets.{run_seats}
-use Rattle.accept_counts.specs.Below.programs_allowed.specs.program_walks.proofs.Whole.{closing_of, views_played, views_closed}
-use Rattle.accept_counts.specs.Below.joint_runs.proofs.Both.{AreBoth, behind_both}
-use Rattle.accept_counts.specs.Below.joint_runs.proofs.Runs.{AreMade, first_views, joint_runs}
+use Rattle.accept_counts.specs.Below.programs_allowed.specs.program_walks.proofs.WholeScriptSound.{closing_of, views_played, views_closed}
+use Rattle.accept_counts.specs.Below.joint_runs.proofs.BothTablesSound.{AreBoth, behind_both}
+use Rattle.accept_counts.specs.Below.joint_runs.proofs.RunsOfBothTables.{AreMade, first_views, joint_runs}
 use Rattle.accept_counts.specs.Below.call_owing.specs.Owns.{Grows, Behind, Other, IsIdOf, Owns, Owned}
 use Rattle.accept_counts.specs.Below.owned_ids.proofs.OwnsLoops.{grows_same, owns_any, owns_round}
 use Rattle.accept_counts.specs.Below.owned_ids.proofs.OwnsSends.{block_goes}
@@ -26,12 +26,12 @@ use Rattle.accept_counts.specs.Below.owned_ids.proofs.OwnsTicks.{own_at, on_sock
 use Rattle.accept_counts.specs.Below.owned_ids.proofs.OwnsCalls.{ending_goes}
 use Rattle.accept_counts.specs.Below.owned_ids.proofs.OwnsRuns.{first_left, none_yet, owned_begins, owned_on}
 use Rattle.accept_counts.specs.Below.call_owing.proofs.EndsStill.{view_of}
-use Rattle.accept_counts.specs.Below.owed_calls.proofs.Owed.{opened_seats}
-use Rattle.accept_counts.specs.Counts.{StoresOwn, AreLabelled}
-use Rattle.accept_counts.specs.Refused.{WouldStore, WouldOwn, AllWouldOwn}
-use Rattle.accept_counts.proofs.Runs.{AreLabelledIn}
+use Rattle.accept_counts.specs.Below.owed_calls.proofs.NothingOwedAtEnd.{opened_seats}
+use Rattle.accept_counts.specs.AttemptCounts.{StoresOwn, AreLabelled}
+use Rattle.accept_counts.specs.RefusedOrDropped.{WouldStore, WouldOwn, AllWouldOwn}
+use Rattle.accept_counts.proofs.RunsKeepAttemptLaw.{AreLabelledIn}
 use Rattle.accept_counts.proofs.Grounds.{setting}
-use Rattle.seat_programs.specs.Rounds.{first_step}
+use Rattle.seat_programs.specs.LoopRounds.{first_step}
 
 -- the first step of a round
 owns_first : (has : ℕ → ℕ) (mine : ℕ → Bool) (b : Behind) (program : Program) → Owns has mine b program → (d : Behind) × Owns has mine d (first_step program)

@@ -1,12 +1,12 @@
-pub mod Whole
+pub mod WholeLinkOrders
 pub mod Labelled
 pub mod Dropped
-pub mod Sends
+pub mod SocketOperationsTold
 pub mod ToldEnd
 pub mod FirstRuns
-pub mod Beside
+pub mod OtherTasksBesideCalls
 pub mod DropPlaces
-pub mod DropCodes
+pub mod SourcesOfSocketCodes
 pub mod DropWords
 pub mod DropSays
 pub mod DropTicks

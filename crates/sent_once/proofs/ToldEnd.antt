@@ -4,18 +4,18 @@ use Rattle.seat_programs.specs.brpc_model.specs.Items.{Item}
 use Rattle.seat_programs.specs.brpc_model.specs.Operations.{Turn}
 use Rattle.seat_programs.specs.Cores.{Core}
 use Rattle.seat_programs.specs.Tasks.{plan_of}
-use Rattle.seat_programs.specs.Scripts.{IsRunWithCalls}
-use Rattle.seat_programs.specs.Told.{AreTasks}
-use Rattle.accept_counts.specs.Below.programs_allowed.specs.program_steps.specs.Sound.{Sound, AllRest}
-use Rattle.accept_counts.specs.Below.programs_allowed.specs.program_walks.proofs.Whole.{views_closed, views_ended, ended_sound, end_rests}
-use Rattle.accept_counts.specs.Below.outcome_stories.specs.Kept.{Story}
+use Rattle.seat_programs.specs.ScriptSetupToEnding.{IsRunWithCalls}
+use Rattle.seat_programs.specs.Explained.{AreTasks}
+use Rattle.accept_counts.specs.Below.programs_allowed.specs.program_steps.specs.SoundSeats.{Sound, AllRest}
+use Rattle.accept_counts.specs.Below.programs_allowed.specs.program_walks.proofs.WholeScriptSound.{views_closed, views_ended, ended_sound, end_rests}
+use Rattle.accept_counts.specs.Below.outcome_stories.specs.KeptStory.{Story}
 use Rattle.accept_counts.specs.Below.outcome_stories.specs.PlainTasks.{told_tasks_of}
-use Rattle.accept_counts.specs.Below.outcome_causes.proofs.Runs.{Goes}
-use Rattle.accept_counts.specs.Below.outcome_causes.proofs.Scripts.{seats, ended_told, final_told, story_end}
-use Rattle.accept_counts.specs.Below.joint_runs.proofs.Runs.{AreMade, first_views}
-use Rattle.accept_counts.specs.Below.call_owing.specs.Lives.{ClosesInRun}
-use Rattle.accept_counts.proofs.Early.{start, go, fitting, first_fresh}
-use Rattle.sent_once.proofs.Sends.{owed}
+use Rattle.accept_counts.specs.Below.outcome_causes.proofs.RunsKeepStory.{Goes}
+use Rattle.accept_counts.specs.Below.outcome_causes.proofs.SocketCausesOfScripts.{seats, ended_told, final_told, story_end}
+use Rattle.accept_counts.specs.Below.joint_runs.proofs.RunsOfBothTables.{AreMade, first_views}
+use Rattle.accept_counts.specs.Below.call_owing.specs.LivesOfLinks.{ClosesInRun}
+use Rattle.accept_counts.proofs.EarlyClosedSockets.{start, go, fitting, first_fresh}
+use Rattle.sent_once.proofs.SocketOperationsTold.{owed}
 
 module _ (script : List Item) (made : AreMade script) (turns : List Turn) (core : Core) (is : IsRunWithCalls script turns core) (closes : ClosesInRun script turns core is) where
   pub record ToldEnd : Type 0 where

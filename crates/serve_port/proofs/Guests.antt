@@ -5,12 +5,12 @@ use Rattle.std.proofs.lemmas.List.{length-reverse, reverse-append, reverse-rever
 use Rattle.std.proofs.lemmas.List.Elements.{All-nil, All-cons, All-map, All-weaker}
 use Rattle.sock_io.specs.declared.link.OpenFault.{OpenFault}
 use Rattle.sock_io.specs.declared.link.OpenFault.TheVariants as open_
-use Rattle.sock_io.specs.Causes.{Rose}
-use Rattle.sock_io.specs.Link.{LinkerState}
+use Rattle.sock_io.specs.FaultCauses.{Rose}
+use Rattle.sock_io.specs.LinkHalves.{LinkerState}
 use Rattle.serve_port.specs.declared.service.ServeFault.{ServeFault}
 use Rattle.serve_port.specs.declared.service.ServeFault.TheVariants as fault_
-use Rattle.serve_port.specs.Serving.{ServedConnection, IsServed, AnswersBy, ServesConnections}
-use Rattle.serve_port.specs.Steps.{AcceptedBy, AcceptsRest, AcceptsBeside}
+use Rattle.serve_port.specs.ServingConnections.{ServedConnection, IsServed, AnswersBy, ServesConnections}
+use Rattle.serve_port.specs.ServiceSteps.{AcceptedBy, AcceptsRest, AcceptsBeside}
 
 module _ {G : Type 0} (served : G → Type 0) where
   -- none

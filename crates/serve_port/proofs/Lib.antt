@@ -1,4 +1,4 @@
-mod Pieces
-mod Answered
+mod PutPieceByPiece
+mod ConnectionServed
 mod Tallying
 mod Guests

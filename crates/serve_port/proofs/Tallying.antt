@@ -5,15 +5,15 @@ use Rattle.std.specs.List.{list_all, list_any}
 use Rattle.std.proofs.lemmas.List.Folds.{list_all-append, list_any-append}
 use Rattle.std.proofs.lemmas.List.Sums.{sum_by-append}
 use Rattle.std.proofs.lemmas.List.{length-map, map-append}
-use Rattle.brpc_model.specs.Link.{LinkEnd}
+use Rattle.brpc_model.specs.ReturnedLink.{LinkEnd}
 use Rattle.sock_io.specs.declared.link.OpenFault.{OpenFault}
 use Rattle.sock_io.specs.declared.link.OpenFault.TheVariants as open_
-use Rattle.sock_io.specs.Causes.{Rose}
+use Rattle.sock_io.specs.FaultCauses.{Rose}
 use Rattle.serve_port.specs.declared.service.ServeFault.{ServeFault}
 use Rattle.serve_port.specs.declared.service.ServeFault.TheVariants as fault_
 use Rattle.serve_port.specs.declared.tally.Tally.{Tally}
-use Rattle.serve_port.specs.Serving.{ServedConnection, is_failing, is_faulty, is_whole, frames_of, AnswersBy}
-use Rattle.serve_port.specs.Steps.{AcceptedBy, IsTally}
+use Rattle.serve_port.specs.ServingConnections.{ServedConnection, is_failing, is_faulty, is_whole, frames_of, AnswersBy}
+use Rattle.serve_port.specs.ServiceSteps.{AcceptedBy, IsTally}
 
 or_false : (b : Bool) → (b || false) ≡ b
 or_false true = refl

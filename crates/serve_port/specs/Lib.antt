@@ -1,2 +1,2 @@
-pub mod Serving
-pub mod Steps
+pub mod ServingConnections
+pub mod ServiceSteps

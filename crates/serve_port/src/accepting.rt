@@ -1,7 +1,7 @@
 // Connections are accepted and served, each on a thread of its own.
 ghost use Rattle.std.specs.Prelude.{◌≡◌, ◌+◌, ◌≤◌, length};
 ghost use Rattle.std.specs.Thread.{IsSync};
-ghost use Rattle.serve_port.specs.Steps.{AcceptsBeside, AcceptsRest};
+ghost use Rattle.serve_port.specs.ServiceSteps.{AcceptsBeside, AcceptsRest};
 
 use crate::guest::Guest;
 use crate::hall::Door;

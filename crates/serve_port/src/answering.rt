@@ -1,6 +1,6 @@
 // A piece that came is answered.
 ghost use Rattle.std.specs.Prelude.{◌≡◌, false};
-ghost use Rattle.serve_port.specs.Steps.{AnswersPiece};
+ghost use Rattle.serve_port.specs.ServiceSteps.{AnswersPiece};
 
 use crate::putting::put_all;
 use crate::service::ServiceEnd;

@@ -1,7 +1,7 @@
 // A connection, with how its service ended.
 ghost use Rattle.std.specs.Prelude.{◌≡◌};
-ghost use Rattle.sock_io.specs.Link.{IsUnused};
-ghost use Rattle.serve_port.specs.Steps.{HasServed};
+ghost use Rattle.sock_io.specs.LinkHalves.{IsUnused};
+ghost use Rattle.serve_port.specs.ServiceSteps.{HasServed};
 
 use crate::guest::Guest;
 use crate::service::{Service, ServiceEnd};
@@ -35,8 +35,8 @@ impl<O: Out, I: In> Connection<O, I> {
 }
 
 impl<O: Out, I: In> Guest for Connection<O, I> {
-    ghost use Rattle.sock_io.specs.Link.{IsUnused};
-    ghost use Rattle.serve_port.specs.Steps.{HasServed};
+    ghost use Rattle.sock_io.specs.LinkHalves.{IsUnused};
+    ghost use Rattle.serve_port.specs.ServiceSteps.{HasServed};
 
     ghost waits = { λ c. IsUnused (O.state c.out) (I.state c.inn) };
 

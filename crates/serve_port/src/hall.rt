@@ -1,7 +1,7 @@
 // Where connections are accepted, and kept once they were served.
 ghost use Rattle.std.specs.Prelude.{◌≡◌, ◌+◌, ◌<◌, ◌++◌, ◌∷◌, [], length, IfOk, OnErr, IsErrOf, vec_capacity};
-ghost use Rattle.sock_io.specs.Causes.{Rose};
-ghost use Rattle.sock_io.specs.Link.{IsUnused, LinkerState};
+ghost use Rattle.sock_io.specs.FaultCauses.{Rose};
+ghost use Rattle.sock_io.specs.LinkHalves.{IsUnused, LinkerState};
 
 use crate::connection::Connection;
 use crate::guest::Guest;
@@ -10,7 +10,7 @@ use sock_io::{Linker, OpenFault};
 /// Where guests come in, and stay once they were served.
 pub trait Door {
     ghost use Rattle.std.specs.Prelude.{ℕ, List};
-    ghost use Rattle.sock_io.specs.Link.{LinkerState};
+    ghost use Rattle.sock_io.specs.LinkHalves.{LinkerState};
 
     type G: Guest + Send;
 

@@ -1,7 +1,7 @@
 // A port at which connections are served.
 ghost use Rattle.std.specs.Prelude.{◌≡◌, ◌+◌, ◌≤◌, ◌++◌, length, map};
-ghost use Rattle.serve_port.specs.Serving.{ServesConnections};
-ghost use Rattle.serve_port.specs.Steps.{IsTally, as_served};
+ghost use Rattle.serve_port.specs.ServingConnections.{ServesConnections};
+ghost use Rattle.serve_port.specs.ServiceSteps.{IsTally, as_served};
 
 use crate::accepting::serve_rest;
 use crate::connection::Connection;

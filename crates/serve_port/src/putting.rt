@@ -1,7 +1,7 @@
 // Replies are put whole.
 ghost use Rattle.std.specs.Prelude.{◌≡◌, false, OnOk, OnErr};
-ghost use Rattle.sock_io.specs.Causes.{Rose};
-ghost use Rattle.serve_port.specs.Steps.{Puts};
+ghost use Rattle.sock_io.specs.FaultCauses.{Rose};
+ghost use Rattle.serve_port.specs.ServiceSteps.{Puts};
 
 use crossbeam_utils::Backoff;
 use io_buf::{BlockPool, IoBuf};

@@ -1,8 +1,8 @@
 // A connection is served to its end.
 ghost use Rattle.std.specs.Prelude.{◌≡◌, true, false};
-ghost use Rattle.sock_io.specs.Link.{IsUnused, end_of};
-ghost use Rattle.rpc_server.specs.Held.{unused};
-ghost use Rattle.serve_port.specs.Serving.{Serves};
+ghost use Rattle.sock_io.specs.LinkHalves.{IsUnused, end_of};
+ghost use Rattle.rpc_server.specs.HeldByConnection.{unused};
+ghost use Rattle.serve_port.specs.ServingConnections.{Serves};
 
 use crate::answering::answer;
 use crate::service::{Service, ServiceEnd};

@@ -1,8 +1,8 @@
 // What the services of all connections come to.
 ghost use Rattle.std.specs.Prelude.{◌≡◌, ◌+◌, ◌∷◌, ◌++◌, ℕ, true, [], List, Some, Err, length, IfOk, IfErr};
-ghost use Rattle.brpc_model.specs.Link.{LinkEnd};
-ghost use Rattle.serve_port.specs.Serving.{AnswersBy, ServedConnection, is_failing, is_faulty, is_whole};
-ghost use Rattle.serve_port.specs.Steps.{AcceptedBy, IsTally};
+ghost use Rattle.brpc_model.specs.ReturnedLink.{LinkEnd};
+ghost use Rattle.serve_port.specs.ServingConnections.{AnswersBy, ServedConnection, is_failing, is_faulty, is_whole};
+ghost use Rattle.serve_port.specs.ServiceSteps.{AcceptedBy, IsTally};
 
 use crate::service::{ServeFault, Service, ServiceEnd};
 use sock_io::OpenFault;

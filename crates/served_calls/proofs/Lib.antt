@@ -1,6 +1,6 @@
-pub mod Frames
-pub mod Requests
-pub mod Shown
-pub mod Calls
-pub mod Calm
-pub mod Whole
+pub mod ReplyFrames
+pub mod RequestsTakenByLinks
+pub mod OutcomeShowingCallId
+pub mod RepliesOfServedCalls
+pub mod CalmServedRuns
+pub mod WholeServedReport

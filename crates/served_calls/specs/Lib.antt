@@ -1,3 +1,3 @@
-pub mod Quiet
+pub mod QuietRuns
 pub use Rattle.served_runs
 pub use Rattle.served_runs.specs.Below

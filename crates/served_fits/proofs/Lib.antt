@@ -1,4 +1,4 @@
-pub mod Rests
-pub mod Replies
-pub mod Whole
-pub mod Served
+pub mod RestsWithoutOpenIds
+pub mod RepliesOfReportedRun
+pub mod WholeCallReport
+pub mod ServedReportFits

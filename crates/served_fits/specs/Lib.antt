@@ -1,4 +1,4 @@
-pub mod Shown
+pub mod LatenessKnownOfRun
 pub use Rattle.calm_runs.specs.send_causes
 pub use Rattle.served_calls
 pub use Rattle.served_calls.specs.served_runs

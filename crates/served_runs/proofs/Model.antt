@@ -6,29 +6,29 @@ use Rattle.sock_words.specs.declared.outcome.Outcome.{Outcome}
 use Rattle.brpc_model.specs.Attempts.{IsResponse}
 use Rattle.brpc_model.specs.Frame.{Frame}
 use Rattle.brpc_model.specs.Items.{Item, Shape, CallLine, Send, Call}
-use Rattle.brpc_model.specs.Messages.{shown_id, request_frame}
+use Rattle.brpc_model.specs.MessageOfLabel.{shown_id, request_frame}
 use Rattle.brpc_model.specs.Operations.{Turn, Operation, operations, link_names, link_shapes}
-use Rattle.brpc_model.specs.Places.{names}
+use Rattle.brpc_model.specs.LinePlaceFaults.{names}
 use Rattle.brpc_model.specs.Reply.{reply}
-use Rattle.brpc_model.specs.Stream.{stream}
-use Rattle.send_causes.specs.Below.script_facts.proofs.Lists.{Has, contains_from}
-use Rattle.send_causes.specs.Below.script_facts.proofs.Names.{same_name}
-use Rattle.send_causes.specs.Below.script_facts.proofs.Numbering.{are_from}
-use Rattle.send_causes.specs.Below.script_facts.proofs.Reading.{InRange}
+use Rattle.brpc_model.specs.FrameStream.{stream}
+use Rattle.send_causes.specs.Below.script_facts.proofs.FilteredLists.{Has, contains_from}
+use Rattle.send_causes.specs.Below.script_facts.proofs.NameNumbers.{same_name}
+use Rattle.send_causes.specs.Below.script_facts.proofs.OperationNumbering.{are_from}
+use Rattle.send_causes.specs.Below.script_facts.proofs.ReadScriptFacts.{InRange}
 use Rattle.send_causes.specs.Below.script_facts.proofs.Targets.{AreThere}
 use Rattle.send_causes.specs.Below.script_facts.proofs.TaskLemmas.{numbers_at, IsTaskOf, task_is, operation_task, open_asks, send_asks, mentions_open, mentions_send, named_at}
 use Rattle.seat_programs.specs.declared.task.Op.TheVariants as ops
 use Rattle.seat_programs.specs.declared.task.Task.{Task}
 use Rattle.seat_programs.specs.Cores.{Core}
 use Rattle.seat_programs.specs.Tasks.{numbered, asked_of, op_of}
-use Rattle.seat_programs.specs.Told.{IsTask, Made}
-use Rattle.seat_programs.specs.Scripts.{all_tasks, IsRunWithCalls}
-use Rattle.send_causes.specs.Below.joint_runs.proofs.Runs.{AreMade}
-use Rattle.send_causes.specs.Below.call_owing.specs.Lives.{ClosesInRun}
-use Rattle.send_causes.specs.Below.call_stories.specs.Lists.{gave_in}
-use Rattle.served_runs.specs.Offered.{OffersInRun}
-use Rattle.served_runs.specs.Served.{IsForCalls}
-use Rattle.served_runs.proofs.Served.{gives_own_replies}
+use Rattle.seat_programs.specs.Explained.{IsTask, Made}
+use Rattle.seat_programs.specs.ScriptSetupToEnding.{all_tasks, IsRunWithCalls}
+use Rattle.send_causes.specs.Below.joint_runs.proofs.RunsOfBothTables.{AreMade}
+use Rattle.send_causes.specs.Below.call_owing.specs.LivesOfLinks.{ClosesInRun}
+use Rattle.send_causes.specs.Below.call_stories.specs.LinkReadingLists.{gave_in}
+use Rattle.served_runs.specs.OfferedReplies.{OffersInRun}
+use Rattle.served_runs.specs.ServedLinks.{IsForCalls}
+use Rattle.served_runs.proofs.ServedLinks.{gives_own_replies}
 
 -- no `send` of the script is to the name of link k
 abbrev pub IsUnnamed : List Item → ℕ → Type 0

@@ -1,3 +1,3 @@
-pub mod Offered
-pub mod Served
+pub mod OfferedReplies
+pub mod ServedLinks
 pub use Rattle.send_causes.specs.Below

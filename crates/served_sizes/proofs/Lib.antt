@@ -1,4 +1,4 @@
-pub mod Texts
-pub mod Replies
-pub mod Weights
-pub mod Few
+pub mod ScriptTextBytes
+pub mod ReplySizeBounds
+pub mod MessageWeightsByLabel
+pub mod FewBytesFromServer

@@ -1,2 +1,2 @@
-pub mod Bodies
+pub mod MessageBodySizes
 pub use Rattle.served_runs.specs.Below

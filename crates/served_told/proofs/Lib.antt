@@ -1,3 +1,3 @@
-pub mod Places
-pub mod Requests
-pub mod Own
+pub mod MessagePlaces
+pub mod RequestsWithoutSends
+pub mod OwnRepliesTold

@@ -1,2 +1,2 @@
-pub mod Telling
+pub mod ServedLinksTelling
 pub use Rattle.served_calls

@@ -5,8 +5,8 @@ use Rattle.sock_model.specs.declared.marks.Mark.TheVariants.{Hold, Probe, Saw}
 use Rattle.sock_model.specs.declared.view.View.{View}
 use Rattle.sock_model.specs.Marks.{about}
 use Rattle.sock_model.specs.SlotRows.{marks_of, added}
-use Rattle.slot_steps.proofs.Sums.{about-here}
-use Rattle.sock_model.specs.sock_words.specs.Words.{vref_version}
+use Rattle.slot_steps.proofs.SlotWeightSums.{about-here}
+use Rattle.sock_model.specs.sock_words.specs.PackedWords.{vref_version}
 use Rattle.sock_model.specs.sock_words.specs.Totals.{total}
 
 pub marks-added : (f : Mark → ℕ) (i found : ℕ) (is_life : Bool) (v : View) → marks_of f i (added i found is_life v) ≡ f (cond is_life (Hold (vref_version found)) Probe) + (f (Saw (vref_version found)) + marks_of f i v)

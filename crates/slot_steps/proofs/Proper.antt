@@ -4,7 +4,7 @@ use Rattle.std.proofs.Props.{props}
 use Rattle.atomic_table.specs.Table.{State}
 use Rattle.sock_model.specs.declared.view.View.{View}
 use Rattle.sock_model.specs.sock_words.specs.declared.plain.Plan.{Plan}
-use Rattle.sock_model.specs.Slots.{SlotFacts, SlotLaw}
+use Rattle.sock_model.specs.SocketSlotLaw.{SlotFacts, SlotLaw}
 use Rattle.sock_model.specs.References.{References}
 
 pub slot_law-prop : (first lives : ℕ) (l : SlotFacts) → IsProp (SlotLaw first lives l)

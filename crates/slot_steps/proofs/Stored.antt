@@ -1,5 +1,5 @@
 -- Each step on a link word, a head word or a code word keeps the rule.
-use Rattle.slot_steps.proofs.Clauses.{link_held}
+use Rattle.slot_steps.proofs.SlotLawClauses.{link_held}
 use Rattle.std.proofs.Common.{◌≡◌, ℕ, ◌+◌, ◌-◌, ◌*◌, ◌/◌, ◌%◌, ◌<◌, ◌≤◌, ◌≢◌, List, [], ◌∷◌, get_or, set, sym, refl, ap, ◌∙◌, subst, ⊎_elim, arith, cond, eq-eqb, ne_eqb, length, length-set, get_or-set_same, get_or-set_other, ◌⊎◌}
 use mathlib.Core.Logic.{dite}
 use mathlib.Core.Option.{some}
@@ -12,20 +12,20 @@ use Rattle.sock_model.specs.declared.marks.Mark.TheVariants.{Claimed, Coding, Kn
 use Rattle.sock_model.specs.declared.marks.SlotMark.{SlotMark}
 use Rattle.sock_model.specs.declared.view.View.{View}
 use Rattle.sock_model.specs.sock_words.specs.declared.plain.Plan.{Plan}
-use Rattle.sock_model.specs.Weights.{life, tally, only, is_busy, is_coding, is_stage, is_hold, is_known, is_born, is_recycled, is_recycling, is_linked}
+use Rattle.sock_model.specs.MarkWeights.{life, tally, only, is_busy, is_coding, is_stage, is_hold, is_known, is_born, is_recycled, is_recycling, is_linked}
 use Rattle.sock_model.specs.Marks.{about, without, without_at, latest, says, noted}
-use Rattle.sock_model.specs.Layout.{link_index, head_index, code_index, name_index, open_index}
-use Rattle.sock_model.specs.Slots.{SlotFacts, live_by, live, count, SlotLaw}
+use Rattle.sock_model.specs.SocketTableLayout.{link_index, head_index, code_index, name_index, open_index}
+use Rattle.sock_model.specs.SocketSlotLaw.{SlotFacts, live_by, live, count, SlotLaw}
 use Rattle.sock_model.specs.References.{OnlyMarks, uses_of, slot_facts, NamedWords, References, Names, Stores, sayers, spare}
 use Rattle.sock_model.specs.SlotRows.{linked, staged, coded, told_code, marks_of, met, wrote, met_link}
-use Rattle.slot_steps.proofs.Sums.{total-set, term_le, taken_as, about-here, about-other, tally_mono}
-use Rattle.slot_steps.proofs.Numbers.{life_le, only-same}
-use Rattle.slot_steps.proofs.Slots.{stage_is, recycled_le}
-use Rattle.slot_steps.proofs.Frame.{about-without, about-without_else, uses-without, uses-taken, at_link, at_code, at_else, passes-without, slot_step, apart}
-use Rattle.slot_steps.proofs.Codes.{keeps_known, coding_as, keeps_stage, keeps_coded, keeps_found_code, keeps_met}
+use Rattle.slot_steps.proofs.SlotWeightSums.{total-set, term_le, taken_as, about-here, about-other, tally_mono}
+use Rattle.slot_steps.proofs.RuleNumbers.{life_le, only-same}
+use Rattle.slot_steps.proofs.ReferenceStepsKeepSlot.{stage_is, recycled_le}
+use Rattle.slot_steps.proofs.OtherSlotsUntouched.{about-without, about-without_else, uses-without, uses-taken, at_link, at_code, at_else, passes-without, slot_step, apart}
+use Rattle.slot_steps.proofs.CodeStepsKeepLaw.{keeps_known, coding_as, keeps_stage, keeps_coded, keeps_found_code, keeps_met}
 use lib.Seq.{set-get_or}
 use Rattle.sock_model.specs.declared.view.StoredWord.{StoredWord}
-use Rattle.slot_steps.proofs.Kept.{settled}
+use Rattle.slot_steps.proofs.KeptByTagSteps.{settled}
 use Rattle.sock_model.specs.sock_words.specs.Totals.{total}
 
 pub noted-else : (x z : ℕ) (n : StoredWord) → n.place ≢ x → (ss : List (List StoredWord)) → total (says x z) ss ≤ total (says x z) (noted n ss)

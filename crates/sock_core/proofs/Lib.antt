@@ -1,7 +1,7 @@
-pub mod Leading
-pub mod Settling
+pub mod LeadingTicks
+pub mod SettlingRounds
 pub mod Rounding
-pub mod Endings
-pub mod Gathering
+pub mod MachineBeforeEnding
+pub mod OnePlaceWordMore
 pub mod Starting
-pub mod Making
+pub mod MachineMaking

@@ -8,17 +8,17 @@ use Rattle.sock_words.specs.declared.kind.Kind.{Kind}
 use Rattle.sock_words.specs.declared.plain.Plan.{Plan}
 use Rattle.seat_programs.specs.Cores.{Core}
 use Rattle.seat_programs.specs.Ticks.{Moment, seats_of, ticked, run, quiet}
-use Rattle.seat_programs.specs.Runs.{from_to}
-use Rattle.seat_programs.specs.Scripts.{AreStill}
+use Rattle.seat_programs.specs.ScheduledRuns.{from_to}
+use Rattle.seat_programs.specs.ScriptSetupToEnding.{AreStill}
 use Rattle.machine_model.specs.declared.tick.Tick.{Tick}
 use Rattle.machine_model.specs.declared.tick.Tick.TheVariants.{Moved, Waits, Idle}
-use Rattle.machine_model.specs.Links.{Taken, Given, Agrees, AgreesGave, StayOffered}
+use Rattle.machine_model.specs.MachineLinks.{Taken, Given, Agrees, AgreesGave, StayOffered}
 use Rattle.machine_model.specs.Machines.{MachineState, HasSizes, MOST_LEFT, READERS, core_with}
-use Rattle.machine_model.specs.Runs.{SameTable, SameLinks, Follows, Made, TickIs, TickedWith, Ticked, round_by, MadeByTicks, RoundWith, Still, HasMoved, SettlesAfter, PlayedWith, PlayedOn, RanFirst}
+use Rattle.machine_model.specs.MachineRuns.{SameTable, SameLinks, Follows, Made, TickIs, TickedWith, Ticked, round_by, MadeByTicks, RoundWith, Still, HasMoved, SettlesAfter, PlayedWith, PlayedOn, RanFirst}
 use Rattle.machine_model.specs.Driving.{LastsAtMost, LeavesFewer, LeavesAsMany, Leaves, IsPlain, FirstRests, TickedFirst}
-use Rattle.machine_ticks.proofs.Joining.{seats_append, run_append, follows_none, follows_join, made_join}
+use Rattle.machine_ticks.proofs.JoiningRuns.{seats_append, run_append, follows_none, follows_join, made_join}
 use Rattle.machine_model.proofs.Same.{same_table_none, same_table_join, same_links_none, same_links_join}
-use Rattle.machine_ticks.proofs.Resting.{Rests}
+use Rattle.machine_ticks.proofs.RestingTicks.{Rests}
 
 -- ## Ticks in which nothing moved
 

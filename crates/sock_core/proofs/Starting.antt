@@ -10,37 +10,37 @@ use lib.ListN.{get_elem?}
 use Rattle.sock_words.specs.declared.plain.Plan.{Plan}
 use Rattle.sock_words.specs.declared.outcome.Outcome.{Outcome}
 use Rattle.corr_core.specs.declared.marks.Plan.{Plan as IdPlan}
-use Rattle.sock_io.specs.Link.{OutState}
+use Rattle.sock_io.specs.LinkHalves.{OutState}
 use Rattle.sock_model.specs.declared.home.Home.{Home}
 use Rattle.sock_model.specs.declared.home.Home.TheVariants.{Link}
 use Rattle.seat_programs.specs.declared.task.Task.{Task}
 use Rattle.seat_programs.specs.declared.task.Sizes.{Sizes}
-use Rattle.seat_programs.specs.Heads.{Retry}
+use Rattle.seat_programs.specs.LoopHeads.{Retry}
 use Rattle.seat_programs.specs.Programs.{Program, Rest}
-use Rattle.seat_programs.specs.Readers.{reader}
-use Rattle.seat_programs.specs.Clients.{client_from}
+use Rattle.seat_programs.specs.ReaderProgram.{reader}
+use Rattle.seat_programs.specs.ClientProgram.{client_from}
 use Rattle.seat_programs.specs.Cores.{Calls, Core, SeatState, said, resolved, next_step}
-use Rattle.seat_programs.specs.Runs.{from_to}
-use Rattle.seat_programs.specs.Scripts.{sizes_of, programs, readers_from, all_programs, beginning, opening_homes, opening_words, opening_calls, new_links}
-use Rattle.machine_model.specs.program_steps.specs.Lasts.{Lasts}
-use Rattle.machine_model.specs.program_steps.specs.Sound.{IsAhead, Sound}
-use Rattle.machine_model.specs.run_theorems.specs.Below.programs_allowed.specs.Openings.{opening_views, all_seats}
-use Rattle.id_rule.specs.Lawful.{call_index}
-use Rattle.machine_model.specs.id_runs.proofs.Opening.{unused}
+use Rattle.seat_programs.specs.ScheduledRuns.{from_to}
+use Rattle.seat_programs.specs.ScriptSetupToEnding.{sizes_of, programs, readers_from, all_programs, beginning, opening_homes, opening_words, opening_calls, new_links}
+use Rattle.machine_model.specs.program_steps.specs.TicksLeftAtMost.{Lasts}
+use Rattle.machine_model.specs.program_steps.specs.SoundSeats.{IsAhead, Sound}
+use Rattle.machine_model.specs.run_theorems.specs.Below.programs_allowed.specs.SeatOpenings.{opening_views, all_seats}
+use Rattle.id_rule.specs.LawfulIdTable.{call_index}
+use Rattle.machine_model.specs.id_runs.proofs.IdRuleOpening.{unused}
 use Rattle.machine_model.specs.id_runs.specs.Goes.{SoundIds}
-use Rattle.machine_model.specs.run_theorems.specs.Below.joint_runs.proofs.Starts.{AreFor, opens_both, opens_bounded}
-use Rattle.call_slots.specs.Slots.{calls_with}
-use Rattle.reader_seats.specs.Readers.{ReaderData, reader_program}
+use Rattle.machine_model.specs.run_theorems.specs.Below.joint_runs.proofs.StartsWithBothRules.{AreFor, opens_both, opens_bounded}
+use Rattle.call_slots.specs.CallSlotState.{calls_with}
+use Rattle.reader_seats.specs.ReaderState.{ReaderData, reader_program}
 use Rattle.machine_model.specs.declared.home_message.HomeMessage.{HomeMessage}
-use Rattle.client_seats.specs.Seats.{SeatData, seat_program}
-use Rattle.machine_model.specs.Parts.{AreBegun, AreReading, said_first}
-use Rattle.machine_model.specs.Links.{LinksData, Taken, Agrees, AgreesGave, ClosedAreDone, IsPaced, holder_of, link_home, homes_of, letter_home}
+use Rattle.client_seats.specs.ClientSeatState.{SeatData, seat_program}
+use Rattle.machine_model.specs.MachineParts.{AreBegun, AreReading, said_first}
+use Rattle.machine_model.specs.MachineLinks.{LinksData, Taken, Agrees, AgreesGave, ClosedAreDone, IsPaced, holder_of, link_home, homes_of, letter_home}
 use Rattle.machine_model.specs.Machines.{MachineState, IsMachine, IsSoundMachine, ArePaced, AreCalled, READERS, between, resting, clients_with, readers_with, seats_with, waiting_of, given_by, machine_sizes, core_with}
-use Rattle.machine_ticks.specs.machine_rules.proofs.Hands.{HasNone, hand_none}
-use Rattle.machine_steps.proofs.Begun.{told_length}
+use Rattle.machine_ticks.specs.machine_rules.proofs.HandsAndHomes.{HasNone, hand_none}
+use Rattle.machine_steps.proofs.BegunTables.{told_length}
 use Rattle.machine_ticks.specs.machine_rules.proofs.Paces.{calm_paced, client_calm}
 use Rattle.machine_ticks.specs.machine_rules.proofs.Seatings.{core_is}
-use Rattle.sock_words.specs.Words.{id_first}
+use Rattle.sock_words.specs.PackedWords.{id_first}
 
 -- nothing was taken, and nothing given
 abbrev pub NOTHING : Taken

@@ -1,2 +1,2 @@
-pub mod Beginnings
+pub mod MachineBeginning
 pub use Rattle.machine_ticks

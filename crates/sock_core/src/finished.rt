@@ -1,6 +1,6 @@
 ghost use Rattle.std.specs.Prelude.{◌≡◌, ◌≤◌, ◌*◌, [], vec_capacity, slice_index};
-ghost use Rattle.sock_model.specs.Layout.{place_index};
-ghost use Rattle.seat_programs.specs.Scripts.{place_words};
+ghost use Rattle.sock_model.specs.SocketTableLayout.{place_index};
+ghost use Rattle.seat_programs.specs.ScriptSetupToEnding.{place_words};
 
 use sock_io::{Ends, In, Out, Peer};
 use sock_model::place_index;

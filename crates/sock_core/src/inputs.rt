@@ -1,6 +1,6 @@
 ghost use Rattle.std.specs.Prelude.{◌≡◌, ℕ, List, Ok, map, IfOk};
 ghost use Rattle.brpc_model.specs.Script.{script_of};
-ghost use Rattle.seat_programs.specs.Scripts.{all_tasks};
+ghost use Rattle.seat_programs.specs.ScriptSetupToEnding.{all_tasks};
 ghost use Rattle.seat_programs.specs.Tasks.{plan_of, id_plan_of, opens, calls};
 
 use corr_core::Plan as IdPlan;

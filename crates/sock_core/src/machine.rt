@@ -1,14 +1,14 @@
 ghost use Rattle.std.specs.Prelude.{◌≡◌, ◌≢◌, ℕ, List, ◌+◌, ◌-◌, true, false, ◌<◌, ◌≤◌, [], Ok, IfOk, OnOk, OnErr, IfErr, length, map, vec_len};
-ghost use Rattle.brpc_model.specs.Link.{LinkEnd};
+ghost use Rattle.brpc_model.specs.ReturnedLink.{LinkEnd};
 ghost use Rattle.brpc_model.specs.Script.{script_of};
 ghost use Rattle.brpc_model.specs.Operations.{link_names};
-ghost use Rattle.sock_io.specs.Link.{OutState, InState, end_of};
-ghost use Rattle.seat_programs.specs.Scripts.{beginning, programs, readers_from, all_programs, sizes_of, place_words};
-ghost use Rattle.machine_model.specs.run_theorems.specs.Below.joint_runs.proofs.Starts.{AreFor};
-ghost use Rattle.sock_core.specs.Beginnings.{AreUnused, IsMade, TellsLinks};
-ghost use Rattle.machine_model.specs.Links.{Taken, Given, Agrees, AgreesGave};
+ghost use Rattle.sock_io.specs.LinkHalves.{OutState, InState, end_of};
+ghost use Rattle.seat_programs.specs.ScriptSetupToEnding.{beginning, programs, readers_from, all_programs, sizes_of, place_words};
+ghost use Rattle.machine_model.specs.run_theorems.specs.Below.joint_runs.proofs.StartsWithBothRules.{AreFor};
+ghost use Rattle.sock_core.specs.MachineBeginning.{AreUnused, IsMade, TellsLinks};
+ghost use Rattle.machine_model.specs.MachineLinks.{Taken, Given, Agrees, AgreesGave};
 ghost use Rattle.machine_model.specs.Machines.{MOST_LEFT as most_left, HasSizes, core_with, ending_by};
-ghost use Rattle.machine_model.specs.Runs.{SameLinks, SameTable, Ticked, Led, Still, HasMoved, PlayedOn, RanFirst, Settled};
+ghost use Rattle.machine_model.specs.MachineRuns.{SameLinks, SameTable, Ticked, Led, Still, HasMoved, PlayedOn, RanFirst, Settled};
 ghost use Rattle.machine_model.specs.Driving.{LastsAtMost, LeavesFewer, Leaves, WentOn, IsPlain, FirstRests, TickedFirst, told_ending};
 
 use crate::finished::{Finished, gather_places};

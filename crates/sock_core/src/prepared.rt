@@ -1,7 +1,7 @@
 ghost use Rattle.std.specs.Prelude.{◌≡◌, ℕ, List, Ok, IfOk, map};
 ghost use Rattle.brpc_model.specs.Script.{script_of};
 ghost use Rattle.seat_programs.specs.Tasks.{plan_of};
-ghost use Rattle.sock_core.specs.Beginnings.{IsWanted};
+ghost use Rattle.sock_core.specs.MachineBeginning.{IsWanted};
 
 use crate::inputs::{Wanted, wanted_of};
 use ghosts::Ghosts;
@@ -20,8 +20,8 @@ pub struct Prepared {
 impl Model for Prepared {
     ghost use Rattle.std.specs.Prelude.{List, map};
     ghost use Rattle.brpc_model.specs.Items.{Item};
-    ghost use Rattle.script_items.specs.Meaning.{item};
-    ghost use Rattle.sock_core.specs.Beginnings.{IsWanted};
+    ghost use Rattle.script_items.specs.LineMeaning.{item};
+    ghost use Rattle.sock_core.specs.MachineBeginning.{IsWanted};
 
     ghost Value = { List Item };
 

@@ -3,29 +3,29 @@ use Rattle.std.proofs.Common.{◌≡◌, ℕ, zero, suc, ◌<◌, List, flat_map
 use mathlib.Core.Option.{some, some-injective, some-ne-none}
 use lib.ListN.{get_elem?}
 use Rattle.sock_io.specs.declared.link.Out.{Ghosts}
-use Rattle.sock_io.specs.Link.{OutState}
+use Rattle.sock_io.specs.LinkHalves.{OutState}
 use Rattle.sock_words.specs.declared.outcome.Outcome.{Outcome}
 use Rattle.sock_words.specs.declared.plain.Plan.{Plan}
 use Rattle.sock_words.specs.declared.place_word.PlaceWord.{PlaceWord}
 use Rattle.sock_words.specs.declared.vref.Vref.{Vref}
-use Rattle.sock_words.specs.Words.{socket_id_version, socket_id_slot}
+use Rattle.sock_words.specs.PackedWords.{socket_id_version, socket_id_slot}
 use Rattle.sock_model.specs.declared.marks.Mark.{Mark}
 use Rattle.sock_model.specs.SlotRows.{marks_of}
-use Rattle.slot_steps.proofs.Numbers.{only-at}
+use Rattle.slot_steps.proofs.RuleNumbers.{only-at}
 use Rattle.seat_programs.specs.declared.task.Task.{Task}
-use Rattle.rpc_client.specs.sock_rule.specs.Faults.{is_fault}
-use Rattle.rpc_client.specs.sock_rule.specs.Faults as faults
-use Rattle.report_fits.specs.script_facts.proofs.Lists.{has_from}
-use Rattle.rpc_client.specs.write_chain.specs.Noting.{Noted, nothing, finding, failing}
+use Rattle.rpc_client.specs.sock_rule.specs.LinkFaultNotes.{is_fault}
+use Rattle.rpc_client.specs.sock_rule.specs.LinkFaultNotes as faults
+use Rattle.report_fits.specs.script_facts.proofs.FilteredLists.{has_from}
+use Rattle.rpc_client.specs.write_chain.specs.NotingWhileWriting.{Noted, nothing, finding, failing}
 use Rattle.rpc_client.specs.write_chain.proofs.Faulting.{slot_fault}
-use Rattle.sock_deeds.specs.Broken.{noted_links, faults_by, faults_of}
+use Rattle.sock_deeds.specs.BrokenLinksNoted.{noted_links, faults_by, faults_of}
 use Rattle.sock_deeds.specs.Deeds.{Hand, Did, sends, DoneBy}
-use Rattle.sock_deeds.specs.Runs.{Seated, DeedRun}
-use Rattle.sock_deeds.proofs.Acts.{Act, All, did_of, done_of, has_marks}
-use Rattle.sock_deeds.proofs.Failing.{broken}
+use Rattle.sock_deeds.specs.SocketTableRun.{Seated, DeedRun}
+use Rattle.sock_deeds.proofs.DeedsOfAllSeats.{Act, All, did_of, done_of, has_marks}
+use Rattle.sock_deeds.proofs.WhyLivesFailed.{broken}
 use Rattle.sock_deeds.proofs.Flats.{flat_from}
-use Rattle.sock_deeds.proofs.Growing.{returned_grew}
-use Rattle.sock_deeds.proofs.Places.{to_elem}
+use Rattle.sock_deeds.proofs.GrowingSocketNotes.{returned_grew}
+use Rattle.sock_deeds.proofs.ListPlaces.{to_elem}
 use Rattle.sock_words.specs.Totals.{total}
 
 -- the fault for which a seat failed a socket is among its notes

@@ -6,46 +6,46 @@ use native.Mathlib.Decide.{ℕ_discrete, dec_lt}
 use lib.ListN.{get_elem?}
 use Rattle.atomic_table.specs.Table.{Me}
 use Rattle.sock_io.specs.declared.link.Out.{Ghosts}
-use Rattle.sock_io.specs.Link.{OutState}
-use Rattle.sock_words.specs.Codes.{EFAILEDSOCKET}
+use Rattle.sock_io.specs.LinkHalves.{OutState}
+use Rattle.sock_words.specs.ErrorCodes.{EFAILEDSOCKET}
 use Rattle.sock_words.specs.declared.outcome.Outcome.{Outcome}
 use Rattle.sock_words.specs.declared.outcome.Outcome.TheVariants as outcome
 use Rattle.sock_words.specs.declared.plain.Plan.{Plan}
-use Rattle.sock_words.specs.Words.{socket_id_version, socket_id_slot, vref_version}
+use Rattle.sock_words.specs.PackedWords.{socket_id_version, socket_id_slot, vref_version}
 use Rattle.sock_model.specs.declared.marks.Mark.{Mark}
 use Rattle.sock_model.specs.declared.marks.Mark.TheVariants.{Hold, Known, Saw, Met, Told, Tried, Freer, Recycling, Stored, Failer, Born, Linked}
 use Rattle.sock_model.specs.declared.marks.SlotMark.{SlotMark}
 use Rattle.sock_model.specs.declared.view.View.{View}
-use Rattle.sock_model.specs.Layout.{name_index, open_index}
+use Rattle.sock_model.specs.SocketTableLayout.{name_index, open_index}
 use Rattle.sock_model.specs.Marks.{about, at}
 use Rattle.sock_model.specs.SlotRows.{marks_of}
-use Rattle.slot_steps.proofs.Sums.{about-here, about-other}
-use Rattle.rpc_client.specs.sock_rule.specs.Becoming.{Became}
-use Rattle.rpc_client.specs.sock_rule.specs.Faults.{fault as fault_mark}
-use Rattle.rpc_client.specs.sock_rule.specs.Rows.{PutAt}
+use Rattle.slot_steps.proofs.SlotWeightSums.{about-here, about-other}
+use Rattle.rpc_client.specs.sock_rule.specs.MarksComeAndGo.{Became}
+use Rattle.rpc_client.specs.sock_rule.specs.LinkFaultNotes.{fault as fault_mark}
+use Rattle.rpc_client.specs.sock_rule.specs.NotesBesideRows.{PutAt}
 use Rattle.rpc_client.specs.sock_rule.specs.declared.homes.Letter.{Letter}
-use Rattle.rpc_client.specs.sock_table.specs.Answers.{Held as HeldOne, GoneFrom, LinkOf}
-use Rattle.rpc_client.specs.sock_table.specs.Named.{FindsId, NotedAs}
-use Rattle.rpc_client.specs.sock_table.specs.Passes.{Created, TriedTo as TriedSlots}
-use Rattle.rpc_client.specs.sock_table.specs.Refs.{SameNotes, GaveBack, EndedBy, retired}
+use Rattle.rpc_client.specs.sock_table.specs.ReferenceAnswers.{Held as HeldOne, GoneFrom, LinkOf}
+use Rattle.rpc_client.specs.sock_table.specs.NamesStoredAndFound.{FindsId, NotedAs}
+use Rattle.rpc_client.specs.sock_table.specs.LinkPasses.{Created, TriedTo as TriedSlots}
+use Rattle.rpc_client.specs.sock_table.specs.ReferenceCalls.{SameNotes, GaveBack, EndedBy, retired}
 use Rattle.rpc_client.specs.sock_table.specs.declared.finding.Noted.{Noted as NotedKind}
 use Rattle.rpc_client.specs.sock_table.specs.declared.finding.Noted.TheVariants as noteds
 use Rattle.rpc_client.specs.sock_table.specs.declared.refs.SockRef.{SockRef}
 use Rattle.rpc_client.specs.write_chain.specs.declared.entry.Refused.{Refused}
 use Rattle.rpc_client.specs.write_chain.specs.declared.entry.Refused.TheVariants as refused
-use Rattle.rpc_client.specs.write_chain.specs.Noting.{Noted, nothing, finding, failing, IsFinding, saw, met, told, faulted, Met_by}
-use Rattle.rpc_client.specs.write_chain.specs.Sending.{RefusedBy}
+use Rattle.rpc_client.specs.write_chain.specs.NotingWhileWriting.{Noted, nothing, finding, failing, IsFinding, saw, met, told, faulted, Met_by}
+use Rattle.rpc_client.specs.write_chain.specs.SendingIntoChain.{RefusedBy}
 use Rattle.rpc_client.specs.declared.holding.Held.{Held}
 use Rattle.rpc_client.specs.declared.reaching.Reached.{Reached}
 use Rattle.rpc_client.specs.declared.reaching.Reached.TheVariants as reached
-use Rattle.rpc_client.specs.Failing.{TriedTo, FailedBy}
-use Rattle.rpc_client.specs.Holding.{HeldBy, DroppedBy, GaveOne}
-use Rattle.rpc_client.specs.Opening.{OpenedBy, GotNone}
-use Rattle.rpc_client.specs.Reaching.{ReachedBy}
-use Rattle.rpc_client.specs.Sending.{WroteAll, Returned, CameBack}
+use Rattle.rpc_client.specs.FailOutcomes.{TriedTo, FailedBy}
+use Rattle.rpc_client.specs.ReferencesHeldByClient.{HeldBy, DroppedBy, GaveOne}
+use Rattle.rpc_client.specs.OpenOutcomes.{OpenedBy, GotNone}
+use Rattle.rpc_client.specs.ReachingByName.{ReachedBy}
+use Rattle.rpc_client.specs.SendingOutcomes.{WroteAll, Returned, CameBack}
 use Rattle.sock_deeds.specs.Deeds.{Hand, SentOver, MessageBy, Did, opens, sends, holds, drops, fails, waits, looks, takes, misses, sets, returns, DoneBy}
-use Rattle.sock_deeds.specs.Broken.{noted_links, faults_by}
-use Rattle.sock_deeds.proofs.Growing.{Grew, returned_grew}
+use Rattle.sock_deeds.specs.BrokenLinksNoted.{noted_links, faults_by}
+use Rattle.sock_deeds.proofs.GrowingSocketNotes.{Grew, returned_grew}
 use Rattle.sock_words.specs.Totals.{total}
 
 -- a life's birth, its link and its failing
@@ -233,7 +233,7 @@ module _ (f : Mark → ℕ) (z : IsOfLife f) where
   abbrev pub FailsLife : Plan → ℕ → ℕ → Outcome → ℕ → View → View → Type 0
   FailsLife p n code by i v w = (t : TriedTo p n code outcome.Failed v w) × (by ≡ outcome.Failed) × (socket_id_slot t.sock.id.0 ≡ i) × (0 < f (Failer (socket_id_version t.sock.id.0)))
 
-  set_failed : (id code i : ℕ) (v w : View) → Rattle.rpc_client.specs.sock_table.specs.Answers.FailedBy id code v w → marks_of f i v < marks_of f i w → (socket_id_slot id ≡ i) × (0 < f (Failer (socket_id_version id)))
+  set_failed : (id code i : ℕ) (v w : View) → Rattle.rpc_client.specs.sock_table.specs.ReferenceAnswers.FailedBy id code v w → marks_of f i v < marks_of f i w → (socket_id_slot id ≡ i) × (0 < f (Failer (socket_id_version id)))
   set_failed id code i v w b less = let s = became_slot f (socket_id_slot id) v w _ [] refl b i less in
       let h = socket_id_version id in let y = z (Saw (h + 1)) refl in let x = z (Stored h code) refl in let t = z (Told h code) refl in let more = s.1 in (s.0, omega arith)
 

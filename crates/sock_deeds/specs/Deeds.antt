@@ -1,29 +1,29 @@
 -- What a seat does at the table of sockets, one deed after the other: whoever sits there, and whatever he does besides.
 use Rattle.std.specs.Prelude.{◌≡◌, ◌⊎◌, ℕ, suc, ◌<◌, true, List, [], ◌∷◌, Option, Some, None}
 use Rattle.sock_io.specs.declared.link.Out.{Ghosts}
-use Rattle.sock_io.specs.Link.{OutState}
+use Rattle.sock_io.specs.LinkHalves.{OutState}
 use Rattle.sock_words.specs.declared.plain.Plan.{Plan}
 use Rattle.sock_words.specs.declared.outcome.Outcome.{Outcome}
 use Rattle.sock_words.specs.declared.socket_id.SocketId.{SocketId}
 use Rattle.sock_model.specs.declared.view.View.{View}
-use Rattle.sock_model.specs.Layout.{place_index}
+use Rattle.sock_model.specs.SocketTableLayout.{place_index}
 use Rattle.rpc_client.specs.sock_rule.specs.OnTable.{put_in}
 use Rattle.rpc_client.specs.sock_rule.specs.declared.homes.Letter.{Letter}
 use Rattle.rpc_client.specs.sock_rule.specs.declared.homes.SockHome.{SockHome}
 use Rattle.rpc_client.specs.sock_table.specs.declared.finding.Noted.{Noted}
 use Rattle.rpc_client.specs.sock_table.specs.declared.refs.SockRef.{SockRef}
-use Rattle.rpc_client.specs.sock_table.specs.Named.{Found, NotedAs}
-use Rattle.rpc_client.specs.sock_table.specs.Answers.{Held as HeldOne, GoneFrom, NoneLater, LinkOf}
-use Rattle.rpc_client.specs.write_chain.specs.Noting.{Met_by}
-use Rattle.rpc_client.specs.write_chain.specs.Writing.{FoundDead}
+use Rattle.rpc_client.specs.sock_table.specs.NamesStoredAndFound.{Found, NotedAs}
+use Rattle.rpc_client.specs.sock_table.specs.ReferenceAnswers.{Held as HeldOne, GoneFrom, NoneLater, LinkOf}
+use Rattle.rpc_client.specs.write_chain.specs.NotingWhileWriting.{Met_by}
+use Rattle.rpc_client.specs.write_chain.specs.WritingRightInHand.{FoundDead}
 use Rattle.rpc_client.specs.declared.holding.Held.{Held}
 use Rattle.rpc_client.specs.declared.reaching.Reached.TheVariants as reached
-use Rattle.rpc_client.specs.Reaching.{ReachedBy}
-use Rattle.rpc_client.specs.Opening.{OpenedBy}
-use Rattle.rpc_client.specs.Holding.{HeldBy, DroppedBy}
-use Rattle.rpc_client.specs.Failing.{SetBy, FailedBy}
-use Rattle.rpc_client.specs.Sending.{Returned, DeliveredBy, ByName}
-use Rattle.sock_words.specs.Words.{place_word}
+use Rattle.rpc_client.specs.ReachingByName.{ReachedBy}
+use Rattle.rpc_client.specs.OpenOutcomes.{OpenedBy}
+use Rattle.rpc_client.specs.ReferencesHeldByClient.{HeldBy, DroppedBy}
+use Rattle.rpc_client.specs.FailOutcomes.{SetBy, FailedBy}
+use Rattle.rpc_client.specs.SendingOutcomes.{Returned, DeliveredBy, ByName}
+use Rattle.sock_words.specs.PackedWords.{place_word}
 
 -- what a seat has between two deeds: its view, and the references that it keeps by their names
 pub record Hand : Type 0 where

@@ -1,8 +1,8 @@
 pub mod Deeds
-pub mod Broken
-pub mod Runs
-pub mod Left
-pub mod Told
+pub mod BrokenLinksNoted
+pub mod SocketTableRun
+pub mod MessagesLeftByRun
+pub mod SocketsTold
 pub use Rattle.report_fits.specs.script_facts
 pub use Rattle.report_fits
 pub use Rattle.outcome_ticks.specs.outcome_stories

@@ -1,4 +1,4 @@
-mod Growing
-pub mod Offers
+mod GrowingBytes
+pub mod HalvesKeepOffers
 mod PeerLaws
 mod PeerRows

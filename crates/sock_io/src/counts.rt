@@ -1,5 +1,5 @@
 ghost use Rattle.std.specs.Prelude.{◌≡◌, ◌↔◌, ℕ, ◌≤◌, Contains, IsTrue};
-ghost use Rattle.sock_io.specs.Causes.{Rose, next_number};
+ghost use Rattle.sock_io.specs.FaultCauses.{Rose, next_number};
 
 /// One more fault, or as many as the count holds.
 pub fn risen(count: u64) -> u64

@@ -1,10 +1,10 @@
 ghost use Rattle.std.specs.Prelude.{◌≡◌, ◌↔◌, ◌+◌, ◌<◌, ◌∷◌, ◌++◌, [], true, Ok, length, Contains, IfOk, IsErrOf, OnErr, OnOk};
-ghost use Rattle.sock_io.specs.Causes.{OpenCause, next_number};
-ghost use Rattle.sock_io.specs.Giving.{before_bytes, bytes_and_end, give_in, settled_in};
-ghost use Rattle.sock_io.specs.Link.{MayOpen, SettleStep, end_of};
-ghost use Rattle.sock_io.specs.Linker.{new_half, shape_of};
-ghost use Rattle.sock_io.specs.Shape.{shaped_out};
-ghost use Rattle.sock_words.specs.Shape.{plain_shape};
+ghost use Rattle.sock_io.specs.FaultCauses.{OpenCause, next_number};
+ghost use Rattle.sock_io.specs.GivingLinker.{before_bytes, bytes_and_end, give_in, settled_in};
+ghost use Rattle.sock_io.specs.LinkHalves.{MayOpen, SettleStep, end_of};
+ghost use Rattle.sock_io.specs.MemoryLinker.{new_half, shape_of};
+ghost use Rattle.sock_io.specs.ShapeOfPuts.{shaped_out};
+ghost use Rattle.sock_words.specs.PlainShape.{plain_shape};
 
 use crate::give_in::GiveIn;
 use crate::link::{Ends, LinkSpec, Linker, OpenFault, Out};
@@ -34,7 +34,7 @@ pub struct GiveLinker {
 }
 
 impl Model for GiveLinker {
-    ghost use Rattle.sock_io.specs.Giving.{GiveLinkerState};
+    ghost use Rattle.sock_io.specs.GivingLinker.{GiveLinkerState};
 
     ghost Value = { GiveLinkerState };
 

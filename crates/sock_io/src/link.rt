@@ -1,9 +1,9 @@
 ghost use Rattle.std.specs.Prelude.{◌≡◌, ◌≢◌, ℕ, ◌+◌, ◌<◌, ◌≤◌, ◌∷◌, ◌++◌, [], Bool, true, false, List, length, IfOk, IfSome, IsErrOf, OnErr, OnOk, IsTrue, None};
 ghost use Rattle.std.specs.List.{AllByRecursion};
-ghost use Rattle.brpc_model.specs.Link.{LinkEnd};
-ghost use Rattle.sock_io.specs.Causes.{OpenCause};
-ghost use Rattle.sock_io.specs.Link.{OutState, InState, PutStep, ReadyStep, FinishStep, TakeStep, SettleStep, IsSettled, IsNewOffer, IsFresh, IsUnused, LinkerState, MayOpen, end_of};
-ghost use Rattle.sock_io.specs.Meeting.{AreEnds, IsAskedPeer, MeetOut, MeetStep};
+ghost use Rattle.brpc_model.specs.ReturnedLink.{LinkEnd};
+ghost use Rattle.sock_io.specs.FaultCauses.{OpenCause};
+ghost use Rattle.sock_io.specs.LinkHalves.{OutState, InState, PutStep, ReadyStep, FinishStep, TakeStep, SettleStep, IsSettled, IsNewOffer, IsFresh, IsUnused, LinkerState, MayOpen, end_of};
+ghost use Rattle.sock_io.specs.MeetingOnOneThread.{AreEnds, IsAskedPeer, MeetOut, MeetStep};
 ghost use Rattle.sock_io.specs.Peer.{PeerState, ServeStep, IsNewPeer};
 
 use sock_words::{NoMemory, Shape};

@@ -1,6 +1,6 @@
 ghost use Rattle.std.specs.Prelude.{◌≡◌, ℕ, ◌<◌, ◌++◌, ◌∷◌, [], Some, Ok, None, false, true, OnErr, OnOk, drop, length, take};
-ghost use Rattle.sock_io.specs.Link.{TakeStep, of_take};
-ghost use Rattle.sock_io.specs.Memory.{TakesWaiting, mem_in, empty_in, take_answer, closing, is_open};
+ghost use Rattle.sock_io.specs.LinkHalves.{TakeStep, of_take};
+ghost use Rattle.sock_io.specs.LinksInMemory.{TakesWaiting, mem_in, empty_in, take_answer, closing, is_open};
 ghost use Rattle.sock_io.specs.Peer.{no_peer};
 
 use crate::ending::Ending;
@@ -73,8 +73,8 @@ pub struct MemIn {
 
 impl Model for MemIn {
     ghost use Rattle.std.specs.Prelude.{◌≤◌, drop, map, take, vec_len};
-    ghost use Rattle.sock_io.specs.Link.{of_take};
-    ghost use Rattle.sock_io.specs.Memory.{MemInState};
+    ghost use Rattle.sock_io.specs.LinkHalves.{of_take};
+    ghost use Rattle.sock_io.specs.LinksInMemory.{MemInState};
 
     ghost Value = { MemInState };
 

@@ -1,9 +1,9 @@
 ghost use Rattle.std.specs.Prelude.{◌≡◌, ◌↔◌, ◌+◌, ◌<◌, ◌∷◌, ◌++◌, [], length, Contains, IfOk, IsErrOf, OnErr};
-ghost use Rattle.sock_io.specs.Causes.{OpenCause, next_number};
-ghost use Rattle.sock_io.specs.Link.{end_of};
-ghost use Rattle.sock_io.specs.Linker.{new_half};
-ghost use Rattle.sock_io.specs.Shape.{shaped_out};
-ghost use Rattle.sock_words.specs.Shape.{plain_shape};
+ghost use Rattle.sock_io.specs.FaultCauses.{OpenCause, next_number};
+ghost use Rattle.sock_io.specs.LinkHalves.{end_of};
+ghost use Rattle.sock_io.specs.MemoryLinker.{new_half};
+ghost use Rattle.sock_io.specs.ShapeOfPuts.{shaped_out};
+ghost use Rattle.sock_words.specs.PlainShape.{plain_shape};
 
 use crate::counts::{is_counted, next_call, risen};
 use crate::link::{Ends, In, LinkSpec, OpenFault};
@@ -38,9 +38,9 @@ pub struct MemLinks<I: In> {
 
 impl<I: In> Model for MemLinks<I> {
     ghost use Rattle.std.specs.Prelude.{◌≤◌, map, vec_len, vec_capacity};
-    ghost use Rattle.sock_io.specs.Link.{end_of};
-    ghost use Rattle.sock_io.specs.Linker.{MemLinksState};
-    ghost use Rattle.sock_io.specs.Shape.{shaped_out};
+    ghost use Rattle.sock_io.specs.LinkHalves.{end_of};
+    ghost use Rattle.sock_io.specs.MemoryLinker.{MemLinksState};
+    ghost use Rattle.sock_io.specs.ShapeOfPuts.{shaped_out};
 
     ghost Value = { MemLinksState };
 

@@ -1,6 +1,6 @@
 ghost use Rattle.std.specs.Prelude.{◌≡◌, ◌↔◌, ◌⊎◌, ℕ, ◌-◌, ◌<◌, ◌≤◌, Contains, IfOk, IsErr, Some, [], length, min};
 ghost use Rattle.std.specs.Io.KnownBytes.{WriteAppends};
-ghost use Rattle.sock_io.specs.Causes.{HasCause, next_number};
+ghost use Rattle.sock_io.specs.FaultCauses.{HasCause, next_number};
 
 use crate::counts::{is_listed, next_call, risen};
 use crate::room::with_room;
@@ -22,7 +22,7 @@ pub struct MemSink {
 
 impl Model for MemSink {
     ghost use Rattle.std.specs.Prelude.{◌≤◌, vec_capacity, vec_len};
-    ghost use Rattle.sock_io.specs.Memory.{MemSinkState};
+    ghost use Rattle.sock_io.specs.LinksInMemory.{MemSinkState};
 
     ghost Value = { MemSinkState };
 

@@ -1,7 +1,7 @@
 ghost use Rattle.std.specs.Prelude.{◌≡◌, ◌↔◌, ℕ, ◌<◌, ◌≤◌, Contains, IfOk, IfSome, IsErr, Some, [], drop, length, min, take};
 ghost use Rattle.std.specs.Io.{ReadsAtMost};
 ghost use Rattle.std.specs.Io.KnownBytes.{ReadConsumes};
-ghost use Rattle.sock_io.specs.Causes.{HasCause, next_number};
+ghost use Rattle.sock_io.specs.FaultCauses.{HasCause, next_number};
 
 use crate::counts::{is_listed, next_call, risen};
 use crate::stream::{Failed, Source};
@@ -38,7 +38,7 @@ pub struct MemSource {
 
 impl Model for MemSource {
     ghost use Rattle.std.specs.Prelude.{◌≤◌, drop, vec_len};
-    ghost use Rattle.sock_io.specs.Memory.{MemSourceState};
+    ghost use Rattle.sock_io.specs.LinksInMemory.{MemSourceState};
 
     ghost Value = { MemSourceState };
 

@@ -1,5 +1,5 @@
 ghost use Rattle.std.specs.Prelude.{◌≡◌, ◌∷◌, ◌++◌, []};
-ghost use Rattle.sock_io.specs.Link.{end_of};
+ghost use Rattle.sock_io.specs.LinkHalves.{end_of};
 
 use crate::link::{Ends, In, LinkSpec, Out, Peer};
 use ghosts::Ghosts;
@@ -31,8 +31,8 @@ pub struct NotedLinks<O: Out, I: In, P: Peer> {
 
 impl<O: Out, I: In, P: Peer> Model for NotedLinks<O, I, P> {
     ghost use Rattle.std.specs.Prelude.{map};
-    ghost use Rattle.sock_io.specs.Link.{end_of};
-    ghost use Rattle.sock_io.specs.Linker.{NotedLinksState};
+    ghost use Rattle.sock_io.specs.LinkHalves.{end_of};
+    ghost use Rattle.sock_io.specs.MemoryLinker.{NotedLinksState};
 
     ghost Value = { NotedLinksState };
 

@@ -1,9 +1,9 @@
 ghost use Rattle.sock_io.specs.declared.shaped.TheConstants.{TAKEN_ROOM};
 ghost use Rattle.std.specs.Prelude.{◌≡◌, ℕ, ◌-◌, ◌<◌, ◌++◌, ◌∷◌, false, true, IfOk, IfSome, [], length};
-ghost use Rattle.sock_io.specs.Causes.{next_number};
-ghost use Rattle.sock_io.specs.Answered.{half_answer};
-ghost use Rattle.sock_io.specs.Link.{PutStep, ReadyStep, FinishStep, SameKind, of_put, of_ready};
-ghost use Rattle.sock_io.specs.Shape.{FollowsShape, answer_at, shaped_out};
+ghost use Rattle.sock_io.specs.FaultCauses.{next_number};
+ghost use Rattle.sock_io.specs.WritingHalfAnswers.{half_answer};
+ghost use Rattle.sock_io.specs.LinkHalves.{PutStep, ReadyStep, FinishStep, SameKind, of_put, of_ready};
+ghost use Rattle.sock_io.specs.ShapeOfPuts.{FollowsShape, answer_at, shaped_out};
 
 use crate::answered::Answered;
 use crate::counts::{next_call, risen};
@@ -41,8 +41,8 @@ pub struct Shaped<O: Out> {
 impl<O: Out> Model for Shaped<O> {
     ghost use Rattle.sock_io.specs.declared.shaped.TheConstants.{TAKEN_ROOM};
     ghost use Rattle.std.specs.Prelude.{◌≡◌, ◌<◌, ◌≤◌, true, map, vec_capacity, vec_len, IfSome};
-    ghost use Rattle.sock_io.specs.Answered.{half_answer};
-    ghost use Rattle.sock_io.specs.Shape.{ShapedState};
+    ghost use Rattle.sock_io.specs.WritingHalfAnswers.{half_answer};
+    ghost use Rattle.sock_io.specs.ShapeOfPuts.{ShapedState};
 
     ghost Value = { ShapedState };
 

@@ -1,8 +1,8 @@
 ghost use Rattle.std.specs.Prelude.{◌≡◌, ◌↔◌, ◌<◌, ◌≤◌, [], length, IfOk, IfSome};
 ghost use Rattle.std.specs.Io.{ReadsAtMost};
 ghost use Rattle.std.specs.Io.KnownBytes.{ReadConsumes, WriteAppends};
-ghost use Rattle.sock_io.specs.Causes.{HasCause};
-ghost use Rattle.sock_io.specs.Stream.{SourceState, SinkState};
+ghost use Rattle.sock_io.specs.FaultCauses.{HasCause};
+ghost use Rattle.sock_io.specs.SourceAndSinkState.{SourceState, SinkState};
 
 /// A read, a write or a link failed.
 #[derive(Clone, Copy, Debug, PartialEq, Eq)]

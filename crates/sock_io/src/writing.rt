@@ -1,7 +1,7 @@
 ghost use Rattle.std.specs.Prelude.{◌≡◌, ◌++◌, ℕ, OnErr, OnOk};
 ghost use Rattle.std.specs.Io.KnownBytes.{Appends};
-ghost use Rattle.sock_io.specs.Causes.{Rose};
-ghost use Rattle.sock_io.specs.Writing.{WrotePart};
+ghost use Rattle.sock_io.specs.FaultCauses.{Rose};
+ghost use Rattle.sock_io.specs.PartWrittenToSink.{WrotePart};
 
 use crate::mem_source::from_place;
 use crate::stream::{Failed, Sink};

@@ -4,9 +4,9 @@ use Rattle.std.proofs.lemmas.Bool.{cases_lt}
 use Rattle.std.proofs.lemmas.List.{take_min}
 use Rattle.io_buf.specs.io_block.specs.declared.pool.TheConstants.{BLOCK_BYTES}
 use Rattle.io_buf.specs.Buffer.{Buffer, block_sizes, rest_sizes}
-use Rattle.io_buf.proofs.Sizes.{rest_sizes-less, rest_sizes-more, rest_sizes-zero, rest_sizes-rest_sizes, block_sizes-step}
-use Rattle.sock_message.specs.Inside.{LiesBehind}
-use Rattle.sock_message.specs.Pieces.{piece}
+use Rattle.io_buf.proofs.ReferenceSizesAtEnds.{rest_sizes-less, rest_sizes-more, rest_sizes-zero, rest_sizes-rest_sizes, block_sizes-step}
+use Rattle.sock_message.specs.InsideMessages.{LiesBehind}
+use Rattle.sock_message.specs.MessagePieces.{piece}
 
 -- the size of the first piece, of what is left
 abbrev size_behind : ℕ → ℕ → ℕ

@@ -1,6 +1,6 @@
-pub mod Pieces
+pub mod MessagePieces
 pub mod Asked
-pub mod Inside
+pub mod InsideMessages
 pub use Rattle.brpc_model
 pub use Rattle.io_buf.specs.io_block
 pub use Rattle.io_buf

@@ -1,5 +1,5 @@
 ghost use Rattle.std.specs.Prelude.{◌≡◌, IfOk};
-ghost use Rattle.sock_message.specs.Inside.{LiesInBlocks};
+ghost use Rattle.sock_message.specs.InsideMessages.{LiesInBlocks};
 
 use io_buf::{BlockPool, IoBuf, NoMemory};
 use std::alloc::Global;
@@ -31,7 +31,7 @@ struct Body {
 
 impl Model for Call {
     ghost use Rattle.sock_message.specs.Asked.{Asked};
-    ghost use Rattle.sock_message.specs.Inside.{KeepsLimits, LiesInBlocks};
+    ghost use Rattle.sock_message.specs.InsideMessages.{KeepsLimits, LiesInBlocks};
 
     ghost Value = { Asked };
 
@@ -50,7 +50,7 @@ impl Model for Call {
 
 impl Call {
     ghost use Rattle.sock_message.specs.Asked.{name_of};
-    ghost use Rattle.sock_message.specs.Inside.{KeepsLimits};
+    ghost use Rattle.sock_message.specs.InsideMessages.{KeepsLimits};
 
     /// The call that asks this. The bytes of its payload and of its attachment are copied once, into blocks of the pool.
     pub fn new(

@@ -15,7 +15,7 @@ pub struct Message {
 
 impl Model for Message {
     ghost use Rattle.std.specs.Prelude.{ℕ, List};
-    ghost use Rattle.sock_message.specs.Inside.{LiesInBlocks};
+    ghost use Rattle.sock_message.specs.InsideMessages.{LiesInBlocks};
 
     ghost Value = { List ℕ };
 

@@ -1,6 +1,6 @@
 ghost use Rattle.std.specs.Prelude.{◌≡◌, ◌+◌, ◌≤◌, ◌==◌, length, drop};
-ghost use Rattle.sock_message.specs.Pieces.{piece};
-ghost use Rattle.sock_message.specs.Inside.{LiesInBlocks};
+ghost use Rattle.sock_message.specs.MessagePieces.{piece};
+ghost use Rattle.sock_message.specs.InsideMessages.{LiesInBlocks};
 
 use io_buf::IoBuf;
 use std::marker::Model;
@@ -14,8 +14,8 @@ pub struct Outgoing {
 }
 
 impl Model for Outgoing {
-    ghost use Rattle.sock_message.specs.Pieces.{OnItsWay};
-    ghost use Rattle.sock_message.specs.Inside.{LiesBehind};
+    ghost use Rattle.sock_message.specs.MessagePieces.{OnItsWay};
+    ghost use Rattle.sock_message.specs.InsideMessages.{LiesBehind};
 
     ghost Value = { OnItsWay };
 

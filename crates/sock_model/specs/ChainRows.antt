@@ -12,8 +12,8 @@ use Rattle.sock_model.specs.declared.view.View.{View}
 use Rattle.sock_model.specs.declared.view.Hand.{Hand}
 use Rattle.sock_model.specs.Marks.{without_pass}
 use Rattle.sock_model.specs.Entries.{ticket}
-use Rattle.sock_model.specs.Writing.{loose_of}
-use Rattle.sock_words.specs.Words.{IDLE}
+use Rattle.sock_model.specs.LinkWritingState.{loose_of}
+use Rattle.sock_words.specs.PackedWords.{IDLE}
 
 -- the claim c is the seat's one
 abbrev pub with_claim : View → Claim → View

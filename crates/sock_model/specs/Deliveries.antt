@@ -5,8 +5,8 @@ use lib.ListN.{get_elem?}
 use Rattle.sock_model.specs.declared.chain.Entry.{Entry}
 use Rattle.sock_model.specs.declared.chain.Right.{Right}
 use Rattle.sock_model.specs.Entries.{on}
-use Rattle.sock_model.specs.Tokens.{Tokens}
-use Rattle.sock_words.specs.Words.{place_word}
+use Rattle.sock_model.specs.ChainTokens.{Tokens}
+use Rattle.sock_words.specs.PackedWords.{place_word}
 
 -- the messages of the first n entries, one after another
 abbrev pub whole : List Entry → ℕ → List ℕ

@@ -4,7 +4,7 @@ use mathlib.Core.Option.{some}
 use lib.ListN.{get_elem?}
 use Rattle.sock_model.specs.declared.chain.Entry.{Entry}
 use Rattle.sock_model.specs.Deliveries.{Taken}
-use Rattle.sock_words.specs.Words.{place_word}
+use Rattle.sock_words.specs.PackedWords.{place_word}
 
 -- the first n messages have places by their order, the later ones are dropped; the link took the first n one after another, and a proper prefix of the next
 pub record IsFifo (place : ℕ → ℕ) (k : ℕ) (order : List Entry) (n : ℕ) (took : List ℕ) : Type 0 where

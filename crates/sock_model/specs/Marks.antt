@@ -4,7 +4,7 @@ use Rattle.sock_model.specs.declared.marks.Mark.{Mark}
 use Rattle.sock_model.specs.declared.marks.Mark.TheVariants.{Zero}
 use Rattle.sock_model.specs.declared.marks.SlotMark.{SlotMark}
 use Rattle.sock_model.specs.declared.view.StoredWord.{StoredWord}
-use Rattle.sock_model.specs.Weights.{only}
+use Rattle.sock_model.specs.MarkWeights.{only}
 
 -- the marks of one slot
 abbrev pub about : ℕ → List SlotMark → List Mark

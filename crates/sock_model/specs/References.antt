@@ -4,11 +4,11 @@ use Rattle.atomic_table.specs.Table.{State}
 use Rattle.sock_model.specs.declared.marks.SlotMark.{SlotMark}
 use Rattle.sock_model.specs.declared.view.View.{View}
 use Rattle.sock_words.specs.declared.plain.Plan.{Plan}
-use Rattle.sock_model.specs.Weights.{only, is_born, uses}
+use Rattle.sock_model.specs.MarkWeights.{only, is_born, uses}
 use Rattle.sock_model.specs.Marks.{about, says}
-use Rattle.sock_model.specs.Layout.{tag_index, ref_index, link_index, code_index, name_index, open_index, all_words}
-use Rattle.sock_model.specs.Slots.{SlotFacts, live, count, SlotLaw}
-use Rattle.sock_words.specs.Words.{vref_version, vref_nref, socket_id_slot, socket_id_version, NO_SOCKET}
+use Rattle.sock_model.specs.SocketTableLayout.{tag_index, ref_index, link_index, code_index, name_index, open_index, all_words}
+use Rattle.sock_model.specs.SocketSlotLaw.{SlotFacts, live, count, SlotLaw}
+use Rattle.sock_words.specs.PackedWords.{vref_version, vref_nref, socket_id_slot, socket_id_version, NO_SOCKET}
 use Rattle.sock_words.specs.Totals.{total}
 
 -- how far the link k is used by this mark

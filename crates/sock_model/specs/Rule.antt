@@ -7,9 +7,9 @@ use Rattle.sock_words.specs.declared.plain.Plan.{Plan}
 use Rattle.sock_model.specs.declared.chain.Entry.{Entry}
 use Rattle.sock_model.specs.declared.home.Home.{Home}
 use Rattle.sock_model.specs.declared.view.View.{View}
-use Rattle.sock_model.specs.Layout.{name_index, open_index, request_index}
-use Rattle.sock_model.specs.Seats.{spent}
-use Rattle.sock_model.specs.Lawful.{Lawful}
+use Rattle.sock_model.specs.SocketTableLayout.{name_index, open_index, request_index}
+use Rattle.sock_model.specs.ViewsOfSplitSeats.{spent}
+use Rattle.sock_model.specs.LawfulSockets.{Lawful}
 use Rattle.sock_words.specs.Totals.{total}
 
 -- ## Words that were found

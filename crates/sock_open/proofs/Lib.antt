@@ -1,4 +1,4 @@
-pub mod Words
-pub mod Making
-pub mod Testing
+pub mod NewTableWords
+pub mod SeatsOfNewTable
+pub mod SeatsHoldingNothing
 pub mod Racing

@@ -6,25 +6,25 @@ use Rattle.atomic_table.specs.declared.shared.Seat.{Seat}
 use Rattle.sock_io.specs.declared.link.Out.{Ghosts}
 use Rattle.sock_words.specs.declared.socket_id.SocketId.{SocketId}
 use Rattle.sock_words.specs.declared.plain.Plan.{Plan}
-use Rattle.sock_words.specs.Words.{socket_id_version, socket_id_slot}
+use Rattle.sock_words.specs.PackedWords.{socket_id_version, socket_id_slot}
 use Rattle.sock_model.specs.declared.marks.Mark.{Mark}
 use Rattle.sock_model.specs.declared.marks.SlotMark.{SlotMark}
 use Rattle.sock_model.specs.declared.view.View.{View}
-use Rattle.sock_model.specs.Weights.{is_ref, is_known}
-use Rattle.sock_table.specs.slot_steps.proofs.Sums.{total-append}
-use Rattle.sock_rule.specs.Becoming.{Became}
-use Rattle.sock_rule.proofs.Becoming.{then_}
-use Rattle.sock_rule.specs.Rows.{PutAt}
-use Rattle.sock_rule.specs.Seated.{IsSeat}
-use Rattle.sock_table.specs.Named.{Found}
+use Rattle.sock_model.specs.MarkWeights.{is_ref, is_known}
+use Rattle.sock_table.specs.slot_steps.proofs.SlotWeightSums.{total-append}
+use Rattle.sock_rule.specs.MarksComeAndGo.{Became}
+use Rattle.sock_rule.proofs.MarksComeAndGo.{then_}
+use Rattle.sock_rule.specs.NotesBesideRows.{PutAt}
+use Rattle.sock_rule.specs.SocketSeatSplits.{IsSeat}
+use Rattle.sock_table.specs.NamesStoredAndFound.{Found}
 use Rattle.sock_table.specs.declared.passes.LinkPass.{LinkPass}
-use Rattle.sock_table.specs.Passes.{IsPass}
-use Rattle.sock_table.specs.Refs.{IsBetween, SameTokens, Knows}
-use Rattle.sock_table.specs.Answers.{LinkOf}
-use Rattle.sock_table.specs.Closed.{AllDone, IsDoneSeat}
-use Rattle.sock_open.specs.Made.{IsNewSeat, AreNewSeats, PassesFrom}
-use Rattle.sock_open.proofs.Testing.{done_between, kept_done}
-use Rattle.sock_open.proofs.Making.{new_view}
+use Rattle.sock_table.specs.LinkPasses.{IsPass}
+use Rattle.sock_table.specs.ReferenceCalls.{IsBetween, SameTokens, Knows}
+use Rattle.sock_table.specs.ReferenceAnswers.{LinkOf}
+use Rattle.sock_table.specs.ClosedSocketTable.{AllDone, IsDoneSeat}
+use Rattle.sock_open.specs.NewTableContents.{IsNewSeat, AreNewSeats, PassesFrom}
+use Rattle.sock_open.proofs.SeatsHoldingNothing.{done_between, kept_done}
+use Rattle.sock_open.proofs.SeatsOfNewTable.{new_view}
 use Rattle.sock_words.specs.Totals.{total}
 
 -- the link that was found is a note, and no reference

@@ -1,3 +1,3 @@
-pub mod Opening
-pub mod Made
+pub mod SocketTableOpening
+pub mod NewTableContents
 pub use Rattle.sock_table.specs.slot_steps

@@ -1,9 +1,9 @@
 // A new table.
 ghost use Rattle.std.specs.Prelude.{◌≡◌, ◌+◌, ◌*◌, ◌%◌, ◌<◌, ◌≤◌, ℕ, [], IfOk, IfErr, length, vec_len};
-ghost use Rattle.sock_open.specs.Opening.{AreNewWords, AreFresh, AreNewHomes, IsRoom, MayBegin};
+ghost use Rattle.sock_open.specs.SocketTableOpening.{AreNewWords, AreFresh, AreNewHomes, IsRoom, MayBegin};
 ghost use Rattle.sock_rule.specs.OnTable.{opener};
-ghost use Rattle.sock_table.specs.Closed.{AreLinks, OutsOf, ways_of};
-ghost use Rattle.sock_open.specs.Made.{AreMade};
+ghost use Rattle.sock_table.specs.ClosedSocketTable.{AreLinks, OutsOf, ways_of};
+ghost use Rattle.sock_open.specs.NewTableContents.{AreMade};
 
 use atomic_table::Refused;
 use sock_io::Out;

@@ -14,29 +14,29 @@ use Rattle.sock_model.specs.declared.chain.Claim.{Claim}
 use Rattle.sock_model.specs.declared.chain.Entry.{Entry}
 use Rattle.sock_model.specs.declared.chain.Heading.{Heading}
 use Rattle.sock_model.specs.declared.chain.Loose.{Loose}
-use Rattle.sock_model.specs.Weights.{is_hold, is_met}
-use Rattle.sock_model.specs.Layout.{request_index, next_index, head_index, link_index}
+use Rattle.sock_model.specs.MarkWeights.{is_hold, is_met}
+use Rattle.sock_model.specs.SocketTableLayout.{request_index, next_index, head_index, link_index}
 use Rattle.sock_model.specs.SlotRows.{marks_of, met_link}
 use Rattle.sock_model.specs.ChainRows.{with_claim, fresh_claim, filled_claim, ready_claim, queued, righted, without_loose, more, entry_of}
-use Rattle.sock_model.specs.Conditions.{MayExchange}
-use Rattle.sock_model.specs.Lawful.{Lawful}
+use Rattle.sock_model.specs.ChainStepConditions.{MayExchange}
+use Rattle.sock_model.specs.LawfulSockets.{Lawful}
 use Rattle.sock_model.specs.Rule.{MOST_ACCEPTED, noting, Rule}
-use Rattle.chain_core.specs.slot_steps.proofs.Sums.{total-append}
+use Rattle.chain_core.specs.slot_steps.proofs.SlotWeightSums.{total-append}
 use Rattle.chain_core.specs.chain_steps.proofs.Bits.{or_one_even, or_one_odd}
-use Rattle.chain_core.specs.chain_steps.proofs.Lists.{at_length, at_snoc, old, new}
+use Rattle.chain_core.specs.chain_steps.proofs.TicketLists.{at_length, at_snoc, old, new}
 use Rattle.chain_core.specs.sock_steps.proofs.Maps.{set_at, set_twice}
 use Rattle.chain_core.specs.sock_steps.proofs.ClaimSteps.{claiming_law, readying_law, filling_law, claim_alone}
-use Rattle.chain_core.specs.sock_steps.proofs.Noting.{tried_rule}
+use Rattle.chain_core.specs.sock_steps.proofs.NotingLastingWords.{tried_rule}
 use Rattle.chain_core.specs.sock_steps.proofs.RuleFrame.{word_rule}
 use Rattle.chain_core.specs.sock_steps.proofs.RuleSteps.{meet_rule}
 use Rattle.chain_core.specs.sock_steps.proofs.RuleChains.{queued_rule, righted_rule, connecting_rule, ready_rule, fill_rule}
 use Rattle.sock_rule.specs.OnTable.{LabelledIn, Labelled, OnTable}
 use Rattle.sock_rule.specs.ChainPlays.{blank, filled_with, request_told, fill_told, ready_told, swap_told, connect_told}
-use Rattle.sock_rule.proofs.Beside.{beside, homes_else}
-use Rattle.sock_rule.proofs.Settling.{slot_settled, next_settled, taken_settled, home_back_settled, load_settled}
+use Rattle.sock_rule.proofs.KeptBesideSocketRule.{beside, homes_else}
+use Rattle.sock_rule.proofs.CodesAndHomesSettling.{slot_settled, next_settled, taken_settled, home_back_settled, load_settled}
 use Rattle.sock_rule.proofs.Reached.{free_generation, free_home_law}
 use Rattle.sock_rule.proofs.Storing.{held_linked, held_is, met_is}
-use Rattle.sock_words.specs.Words.{IDLE, UNCONNECTED}
+use Rattle.sock_words.specs.PackedWords.{IDLE, UNCONNECTED}
 use Rattle.sock_words.specs.Totals.{total}
 
 the_claim : (l : List Claim) (c d : Claim) → l ≡ c ∷ [] → l ≡ d ∷ [] → c ≡ d

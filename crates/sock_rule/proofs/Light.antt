@@ -10,18 +10,18 @@ use Rattle.sock_model.specs.declared.home.Home.{Home}
 use Rattle.sock_model.specs.declared.marks.Mark.{Mark}
 use Rattle.sock_model.specs.declared.marks.Mark.TheVariants.{Handed}
 use Rattle.sock_model.specs.declared.view.View.{View}
-use Rattle.sock_model.specs.Weights.{only, tally, is_claimed, is_recycling, is_busy, is_ref, is_any_coding, is_tried, is_stage, is_recycled, is_hold, is_zero, is_coding, is_known, is_born, is_saw, is_failer, is_freer, is_coded, is_stored, is_told, is_linked, is_met, is_reset}
+use Rattle.sock_model.specs.MarkWeights.{only, tally, is_claimed, is_recycling, is_busy, is_ref, is_any_coding, is_tried, is_stage, is_recycled, is_hold, is_zero, is_coding, is_known, is_born, is_saw, is_failer, is_freer, is_coded, is_stored, is_told, is_linked, is_met, is_reset}
 use Rattle.sock_model.specs.Marks.{about}
-use Rattle.sock_model.specs.Layout.{name_index, open_index}
-use Rattle.sock_model.specs.Slots.{SlotFacts, live_by, live, count, KeepsCodes, SlotLaw}
+use Rattle.sock_model.specs.SocketTableLayout.{name_index, open_index}
+use Rattle.sock_model.specs.SocketSlotLaw.{SlotFacts, live_by, live, count, KeepsCodes, SlotLaw}
 use Rattle.sock_model.specs.SlotRows.{marks_of}
 use Rattle.sock_model.specs.References.{uses_of, uses_link, sayers, spare, slot_facts, Names, Stores, References}
-use Rattle.sock_model.specs.Reads.{waits_link}
-use Rattle.sock_model.specs.Lawful.{Lawful}
+use Rattle.sock_model.specs.ChainLawReads.{waits_link}
+use Rattle.sock_model.specs.LawfulSockets.{Lawful}
 use Rattle.sock_model.specs.Rule.{Rule}
-use Rattle.chain_core.specs.slot_steps.proofs.Slots.{moved, few_with}
-use Rattle.chain_core.specs.slot_steps.proofs.Sums.{total-set, each_set}
-use Rattle.chain_core.specs.sock_steps.proofs.Places.{counts}
+use Rattle.chain_core.specs.slot_steps.proofs.ReferenceStepsKeepSlot.{moved, few_with}
+use Rattle.chain_core.specs.slot_steps.proofs.SlotWeightSums.{total-set, each_set}
+use Rattle.chain_core.specs.sock_steps.proofs.LifeLinkSlotPlaces.{counts}
 use Rattle.chain_core.specs.sock_steps.proofs.RuleFrame.{lasts_all, same_rule}
 use Rattle.chain_core.specs.sock_steps.proofs.SlotFrame.{still_holds, slot_frame}
 use Rattle.sock_words.specs.Totals.{total}

@@ -13,21 +13,21 @@ use Rattle.sock_model.specs.declared.home.Home.TheVariants.{Empty, Link, Message
 use Rattle.sock_model.specs.declared.chain.Entry.{Entry}
 use Rattle.sock_model.specs.declared.chain.Right.{Right}
 use Rattle.sock_model.specs.declared.view.View.{View}
-use Rattle.sock_model.specs.Weights.{is_linked, is_failer, is_freer}
+use Rattle.sock_model.specs.MarkWeights.{is_linked, is_failer, is_freer}
 use Rattle.sock_model.specs.SlotRows.{marks_of}
-use Rattle.sock_model.specs.Reads.{took_of, link_at, rights_on, hands_of, carries, tokens}
-use Rattle.sock_model.specs.Seats.{IsBare}
-use Rattle.sock_model.specs.Layout.{place_index}
-use Rattle.sock_model.specs.Links.{Failed}
+use Rattle.sock_model.specs.ChainLawReads.{took_of, link_at, rights_on, hands_of, carries, tokens}
+use Rattle.sock_model.specs.ViewsOfSplitSeats.{IsBare}
+use Rattle.sock_model.specs.SocketTableLayout.{place_index}
+use Rattle.sock_model.specs.LinksInSlots.{Failed}
 use Rattle.sock_model.specs.Deliveries.{no_place, one_place}
 use Rattle.chain_core.specs.chain_steps.proofs.Settles.{all_placed}
 use Rattle.chain_core.specs.sock_steps.proofs.HandSteps.{link_value}
 use Rattle.chain_core.specs.sock_steps.proofs.Reseat.{closing_law}
 use Rattle.sock_rule.specs.OnTable.{OnTable}
-use Rattle.sock_rule.specs.Faults.{faults_link, faults_of}
-use Rattle.sock_rule.specs.Closing.{LifeFailed, LinkTook, PlaceOf}
-use Rattle.sock_rule.proofs.Faults.{close_faults}
-use Rattle.sock_rule.proofs.Closes.{others, counts, none_flat, only_one}
+use Rattle.sock_rule.specs.LinkFaultNotes.{faults_link, faults_of}
+use Rattle.sock_rule.specs.ClosingWordsAndNotes.{LifeFailed, LinkTook, PlaceOf}
+use Rattle.sock_rule.proofs.LinkFaultNotes.{close_faults}
+use Rattle.sock_rule.proofs.LastSeatOfSockets.{others, counts, none_flat, only_one}
 use Rattle.sock_rule.proofs.Reached.{label_of}
 use Rattle.sock_words.specs.Totals.{total}
 

@@ -15,34 +15,34 @@ use Rattle.sock_model.specs.declared.home.Home.{Home}
 use Rattle.sock_model.specs.declared.marks.Mark.{Mark}
 use Rattle.sock_model.specs.declared.view.View.{View}
 use Rattle.sock_model.specs.declared.view.StoredWord.{StoredWord}
-use Rattle.sock_model.specs.Weights.{is_born, is_reset}
+use Rattle.sock_model.specs.MarkWeights.{is_born, is_reset}
 use Rattle.sock_model.specs.Marks.{about, latest}
 use Rattle.sock_model.specs.Entries.{on}
-use Rattle.sock_model.specs.Layout.{name_index, open_index, place_index}
-use Rattle.sock_model.specs.Slots.{SlotFacts, live, count, SlotLaw}
+use Rattle.sock_model.specs.SocketTableLayout.{name_index, open_index, place_index}
+use Rattle.sock_model.specs.SocketSlotLaw.{SlotFacts, live, count, SlotLaw}
 use Rattle.sock_model.specs.SlotRows.{wrote}
 use Rattle.sock_model.specs.References.{uses_of, sayers, spare, slot_facts, Names, Stores, References}
 use Rattle.sock_model.specs.Deliveries.{no_place, one_place}
-use Rattle.sock_model.specs.Lawful.{Lawful}
+use Rattle.sock_model.specs.LawfulSockets.{Lawful}
 use Rattle.sock_model.specs.Rule.{lists_of, Rule}
-use Rattle.chain_core.specs.chain_steps.proofs.Letters.{writes_room}
-use Rattle.chain_core.specs.chain_steps.proofs.Lists.{at_length, at_some}
-use Rattle.chain_core.specs.slot_steps.proofs.Numbers.{only-at, only-else, pair_only, pair_is, pair-at}
+use Rattle.chain_core.specs.chain_steps.proofs.ChainLettersStay.{writes_room}
+use Rattle.chain_core.specs.chain_steps.proofs.TicketLists.{at_length, at_some}
+use Rattle.chain_core.specs.slot_steps.proofs.RuleNumbers.{only-at, only-else, pair_only, pair_is, pair-at}
 use Rattle.chain_core.specs.slot_steps.proofs.Stored.{noted-else}
-use Rattle.chain_core.specs.slot_steps.proofs.Sums.{total-set, term_le}
+use Rattle.chain_core.specs.slot_steps.proofs.SlotWeightSums.{total-set, term_le}
 use Rattle.chain_core.specs.sock_steps.proofs.Maps.{put, put-at, put-else, set_at, set_twice}
 use Rattle.chain_core.specs.sock_steps.proofs.RightSteps.{right_in, right_alone}
 use Rattle.chain_core.specs.sock_steps.proofs.RuleFrame.{lasts_all, same_rule}
 use Rattle.chain_core.specs.sock_steps.proofs.SlotFrame.{still_holds, slot_frame}
 use Rattle.chain_core.specs.sock_steps.proofs.Steady.{wrote_steady}
 use Rattle.sock_rule.specs.OnTable.{share_of, is_put, put_in, is_labelled, labelled_in, is_headed, headed_in, IsDropKept, Follows, Settled, Labelled, OnTable}
-use Rattle.sock_rule.proofs.Beside.{SameShare, Calm, drop_stays, beside_placed}
-use Rattle.sock_rule.proofs.Faults.{calm}
-use Rattle.sock_rule.proofs.Closes.{two_terms}
-use Rattle.sock_rule.proofs.Counting.{log_weight, on_weight, on_both}
-use Rattle.sock_rule.proofs.Finds.{wrote_more, aside_rule}
-use Rattle.sock_rule.specs.Rows.{dropped_at}
-use Rattle.sock_words.specs.Words.{DROPPED}
+use Rattle.sock_rule.proofs.KeptBesideSocketRule.{SameShare, Calm, drop_stays, beside_placed}
+use Rattle.sock_rule.proofs.LinkFaultNotes.{calm}
+use Rattle.sock_rule.proofs.LastSeatOfSockets.{two_terms}
+use Rattle.sock_rule.proofs.WeightedEntryCounts.{log_weight, on_weight, on_both}
+use Rattle.sock_rule.proofs.FindsOfStoredWords.{wrote_more, aside_rule}
+use Rattle.sock_rule.specs.NotesBesideRows.{dropped_at}
+use Rattle.sock_words.specs.PackedWords.{DROPPED}
 use Rattle.sock_words.specs.Totals.{total}
 
 -- ## A note of a store elsewhere than at names and operations

@@ -15,20 +15,20 @@ use Rattle.sock_model.specs.declared.home.Home.{Home}
 use Rattle.sock_model.specs.declared.view.View.{View}
 use Rattle.sock_model.specs.Authors.{pick}
 use Rattle.sock_model.specs.Entries.{ticket, on, nth}
-use Rattle.sock_model.specs.Layout.{request_index}
-use Rattle.sock_model.specs.Reads.{as_link, letter_of, shown, memory, message, claims_of, loose_at, tokens}
-use Rattle.sock_model.specs.Memory.{Memory}
-use Rattle.sock_model.specs.Tokens.{Tokens}
-use Rattle.sock_model.specs.Writing.{Counts, Held, InStage, OnWalk, Standing, absent, idle, busy}
-use Rattle.sock_model.specs.Lawful.{Lawful}
-use Rattle.chain_core.specs.chain_steps.proofs.Lists.{at_some, at_length, ticket_at_is}
-use Rattle.chain_core.specs.chain_steps.proofs.Frames.{in_size, live_same, chains_frame}
+use Rattle.sock_model.specs.SocketTableLayout.{request_index}
+use Rattle.sock_model.specs.ChainLawReads.{as_link, letter_of, shown, memory, message, claims_of, loose_at, tokens}
+use Rattle.sock_model.specs.ChainMemory.{Memory}
+use Rattle.sock_model.specs.ChainTokens.{Tokens}
+use Rattle.sock_model.specs.LinkWritingState.{Counts, Held, InStage, OnWalk, Standing, absent, idle, busy}
+use Rattle.sock_model.specs.LawfulSockets.{Lawful}
+use Rattle.chain_core.specs.chain_steps.proofs.TicketLists.{at_some, at_length, ticket_at_is}
+use Rattle.chain_core.specs.chain_steps.proofs.UntouchedByChainSteps.{in_size, live_same, chains_frame}
 use Rattle.chain_core.specs.chain_steps.proofs.Frees.{Leads, to_end, to_next}
 use Rattle.chain_core.specs.chain_steps.proofs.Gather.{gather_same}
 use Rattle.chain_core.specs.chain_steps.proofs.Claims.{free_of}
-use Rattle.chain_core.specs.chain_steps.proofs.Heads.{held_of, slot_is}
-use Rattle.chain_core.specs.chain_steps.proofs.Letters.{writes_room}
-use Rattle.chain_core.specs.sock_steps.proofs.Words.{beside_all}
+use Rattle.chain_core.specs.chain_steps.proofs.ChainHeadSteps.{held_of, slot_is}
+use Rattle.chain_core.specs.chain_steps.proofs.ChainLettersStay.{writes_room}
+use Rattle.chain_core.specs.sock_steps.proofs.ChainWordChanges.{beside_all}
 use Rattle.chain_core.specs.sock_steps.proofs.ChainFrame.{SameSlots}
 use Rattle.chain_core.specs.sock_steps.proofs.ClaimSteps.{rights_stay, other_base}
 use Rattle.chain_core.specs.sock_steps.proofs.RightSteps.{right_in, right_alone}
@@ -36,7 +36,7 @@ use Rattle.sock_model.specs.Rule.{Rule}
 use Rattle.chain_core.specs.sock_steps.proofs.Positions.{place_fits}
 use Rattle.sock_rule.specs.OnTable.{Labelled}
 use Rattle.sock_rule.specs.ChainPlays.{IsTicket}
-use Rattle.sock_words.specs.Words.{ticket_request}
+use Rattle.sock_words.specs.PackedWords.{ticket_request}
 
 freed_placed : (m : Memory) (t : Tokens) (c : List Entry) (n : Counts) (freed places : ℕ) (b : Stage) → InStage m t c n freed places b → freed ≤ places
 freed_placed m t c n freed places (Writes now) st = let a = st.1 in omega arith

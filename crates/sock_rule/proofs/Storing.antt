@@ -11,28 +11,28 @@ use Rattle.sock_model.specs.declared.home.Home.{Home}
 use Rattle.sock_model.specs.declared.view.View.{View}
 use Rattle.sock_model.specs.declared.marks.Mark.{Mark}
 use Rattle.sock_model.specs.Marks.{about}
-use Rattle.sock_model.specs.Weights.{tally, only, is_busy, is_recycling, is_stage, is_recycled, is_hold, is_known, is_coding, is_told, is_met}
-use Rattle.sock_model.specs.Layout.{link_index, head_index, code_index, name_index, open_index}
+use Rattle.sock_model.specs.MarkWeights.{tally, only, is_busy, is_recycling, is_stage, is_recycled, is_hold, is_known, is_coding, is_told, is_met}
+use Rattle.sock_model.specs.SocketTableLayout.{link_index, head_index, code_index, name_index, open_index}
 use Rattle.sock_model.specs.References.{slot_facts, Names, Stores}
 use Rattle.sock_model.specs.SlotRows.{marks_of, linked, staged, coded, told_code, met, met_link}
 use Rattle.sock_model.specs.Rule.{Lasting, of_name, of_open, noting, Rule}
-use Rattle.chain_core.specs.slot_steps.proofs.Clauses.{link_held, code_stays}
-use Rattle.chain_core.specs.slot_steps.proofs.Numbers.{live_le}
-use Rattle.chain_core.specs.slot_steps.proofs.Slots.{recycled_le}
-use Rattle.chain_core.specs.slot_steps.proofs.Sums.{total_mono}
+use Rattle.chain_core.specs.slot_steps.proofs.SlotLawClauses.{link_held, code_stays}
+use Rattle.chain_core.specs.slot_steps.proofs.RuleNumbers.{live_le}
+use Rattle.chain_core.specs.slot_steps.proofs.ReferenceStepsKeepSlot.{recycled_le}
+use Rattle.chain_core.specs.slot_steps.proofs.SlotWeightSums.{total_mono}
 use Rattle.atomic_table.proofs.Lists.{at_map}
-use Rattle.chain_core.specs.sock_steps.proofs.Places.{own_count}
+use Rattle.chain_core.specs.sock_steps.proofs.LifeLinkSlotPlaces.{own_count}
 use Rattle.chain_core.specs.sock_steps.proofs.SlotSteps.{idle_law}
 use Rattle.chain_core.specs.sock_steps.proofs.RuleSteps.{load_rule, link_rule, meet_rule, meet_last_rule, reset_rule, wipe_rule, code_rule, found_code_rule, find_note_rule, store_name_note_rule, store_open_note_rule}
-use Rattle.chain_core.specs.sock_steps.proofs.Noting.{step_notes}
+use Rattle.chain_core.specs.sock_steps.proofs.NotingLastingWords.{step_notes}
 use Rattle.sock_rule.specs.OnTable.{put_in, OnTable}
-use Rattle.sock_rule.specs.Rows.{finding, put_at}
-use Rattle.sock_rule.specs.Plays.{link_told, meet_told, meet_last_told, reset_told, wipe_told, code_told, read_told, store_told, find_told, find_name_told}
-use Rattle.sock_rule.proofs.Beside.{SameShare, beside}
-use Rattle.sock_rule.proofs.Faults.{linked_same, staged_same, coded_same}
-use Rattle.sock_rule.proofs.Settling.{slot_settled, name_settled, code_settled, load_settled}
-use Rattle.sock_rule.proofs.Finds.{was_put, finds_beside, puts_beside, found_history, stored_history}
-use Rattle.sock_words.specs.Words.{IDLE, NO_SOCKET}
+use Rattle.sock_rule.specs.NotesBesideRows.{finding, put_at}
+use Rattle.sock_rule.specs.SocketPlays.{link_told, meet_told, meet_last_told, reset_told, wipe_told, code_told, read_told, store_told, find_told, find_name_told}
+use Rattle.sock_rule.proofs.KeptBesideSocketRule.{SameShare, beside}
+use Rattle.sock_rule.proofs.LinkFaultNotes.{linked_same, staged_same, coded_same}
+use Rattle.sock_rule.proofs.CodesAndHomesSettling.{slot_settled, name_settled, code_settled, load_settled}
+use Rattle.sock_rule.proofs.FindsOfStoredWords.{was_put, finds_beside, puts_beside, found_history, stored_history}
+use Rattle.sock_words.specs.PackedWords.{IDLE, NO_SOCKET}
 use Rattle.sock_words.specs.Totals.{total}
 
 -- the link of a life that a seat holds, and of one that it ended, is one of the table

@@ -9,15 +9,15 @@ use Rattle.sock_model.specs.declared.chain.Claim.{Claim}
 use Rattle.sock_model.specs.declared.chain.Right.{Right}
 use Rattle.sock_model.specs.declared.chain.Stage.TheVariants.{Writes, Placed, Walks, Turns}
 use Rattle.sock_model.specs.declared.view.View.{View}
-use Rattle.sock_model.specs.Layout.{ref_index, link_index, request_index, next_index}
-use Rattle.sock_model.specs.Weights.{is_hold, is_met}
+use Rattle.sock_model.specs.SocketTableLayout.{ref_index, link_index, request_index, next_index}
+use Rattle.sock_model.specs.MarkWeights.{is_hold, is_met}
 use Rattle.sock_model.specs.SlotRows.{marks_of, looked, met_link}
-use Rattle.sock_rule.specs.Rows.{dropped_at}
+use Rattle.sock_rule.specs.NotesBesideRows.{dropped_at}
 use Rattle.sock_model.specs.ChainRows.{with_claim, fresh_claim, filled_claim, ready_claim, queued, righted, without_loose, with_right, without_right, walking_right, passing_right, reading_right, turned_right, freed_right, placed_right, dropped_right, taken_right}
 use Rattle.sock_model.specs.Rule.{noting}
-use Rattle.sock_rule.specs.Faults.{faults_of, fault_found, noting_fault}
-use Rattle.sock_rule.specs.Plays.{WordFits}
-use Rattle.sock_words.specs.Words.{ticket_request, vref_version, IDLE, UNCONNECTED}
+use Rattle.sock_rule.specs.LinkFaultNotes.{faults_of, fault_found, noting_fault}
+use Rattle.sock_rule.specs.SocketPlays.{WordFits}
+use Rattle.sock_words.specs.PackedWords.{ticket_request, vref_version, IDLE, UNCONNECTED}
 
 -- the heading of a claim that has no message yet
 abbrev pub blank : Heading

@@ -10,7 +10,7 @@ use Rattle.sock_rule.specs.declared.homes.SockHome.{SockHome}
 use Rattle.sock_rule.specs.declared.homes.SockHome.TheVariants.{Link}
 use Rattle.sock_rule.specs.Shows.{shows_in, rose, SaidWays}
 use Rattle.sock_rule.specs.OnTable.{OnTable, opener}
-use Rattle.sock_rule.specs.Plays.{take_last_told, spend_told}
+use Rattle.sock_rule.specs.SocketPlays.{take_last_told, spend_told}
 use Rattle.sock_rule.specs.ChainPlays.{take_own_told}
 
 abbrev pub shows_by : {O : Type 0} {g : Ghosts O} → TableKey → SockHome O g → Home

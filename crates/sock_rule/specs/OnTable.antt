@@ -10,13 +10,13 @@ use Rattle.sock_model.specs.declared.chain.Entry.{Entry}
 use Rattle.sock_model.specs.declared.chain.Heading.{Heading}
 use Rattle.sock_model.specs.declared.view.View.{View}
 use Rattle.sock_model.specs.declared.view.StoredWord.{StoredWord}
-use Rattle.sock_model.specs.Weights.{only, pair}
+use Rattle.sock_model.specs.MarkWeights.{only, pair}
 use Rattle.sock_model.specs.Marks.{latest}
-use Rattle.sock_model.specs.Layout.{code_index, request_index, place_index}
-use Rattle.sock_model.specs.Seats.{first_view}
+use Rattle.sock_model.specs.SocketTableLayout.{code_index, request_index, place_index}
+use Rattle.sock_model.specs.ViewsOfSplitSeats.{first_view}
 use Rattle.sock_model.specs.Rule.{lists_of, Rule}
-use Rattle.sock_rule.specs.Faults.{LinkFaults}
-use Rattle.sock_words.specs.Words.{DROPPED}
+use Rattle.sock_rule.specs.LinkFaultNotes.{LinkFaults}
+use Rattle.sock_words.specs.PackedWords.{DROPPED}
 use Rattle.sock_words.specs.Totals.{total}
 
 abbrev pub share_of : View → ℕ

@@ -2,7 +2,7 @@
 use Rattle.std.specs.Prelude.{ℕ, ◌≡◌, cond, List, [], get_or, bytes_eq}
 use mathlib.Core.Option.{Option, some, none}
 use Rattle.sock_words.specs.declared.plain.Plan.{Plan}
-use Rattle.sock_io.specs.Link.{OutState}
+use Rattle.sock_io.specs.LinkHalves.{OutState}
 use Rattle.sock_io.specs.declared.link.Out.{Ghosts}
 use Rattle.message_parts.specs.Parcels.{parcel_of}
 use Rattle.sock_model.specs.declared.home.Home.{Home}

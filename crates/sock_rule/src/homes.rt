@@ -2,8 +2,8 @@ ghost use Rattle.std.specs.Prelude.{◌≡◌, ◌≢◌, ◌+◌, ◌<◌, ◌�
 ghost use Rattle.std.specs.Option.{ForSome};
 ghost use Rattle.sock_io.specs.declared.link.Put.TheVariants.{Failed};
 ghost use Rattle.sock_io.specs.declared.link.Ready.TheVariants as ready;
-ghost use Rattle.sock_io.specs.Causes.{Rose};
-ghost use Rattle.sock_io.specs.Link.{taken_of, IsPutCount};
+ghost use Rattle.sock_io.specs.FaultCauses.{Rose};
+ghost use Rattle.sock_io.specs.LinkHalves.{taken_of, IsPutCount};
 
 use crate::key::Ways;
 use ghosts::Ghosts;

@@ -2,10 +2,10 @@
 ghost use Rattle.std.specs.Prelude.{◌≡◌, ◌≢◌, ◌+◌, ◌-◌, ◌%◌, ◌<◌, ℕ, Some, None};
 ghost use mathlib.Core.Option.{some};
 ghost use lib.ListN.{get_elem?};
-ghost use Rattle.sock_model.specs.Layout.{name_index, open_index};
-ghost use Rattle.sock_rule.specs.Rows.{PutAt, FoundAt, Knows, NotedBy};
-ghost use Rattle.sock_rule.specs.Seated.{IsSeat};
-ghost use Rattle.sock_words.specs.Words.{NO_SOCKET, socket_id_slot};
+ghost use Rattle.sock_model.specs.SocketTableLayout.{name_index, open_index};
+ghost use Rattle.sock_rule.specs.NotesBesideRows.{PutAt, FoundAt, Knows, NotedBy};
+ghost use Rattle.sock_rule.specs.SocketSeatSplits.{IsSeat};
+ghost use Rattle.sock_words.specs.PackedWords.{NO_SOCKET, socket_id_slot};
 
 use crate::plays::{FindId, FindName, StoreId};
 use crate::table::{RuleTable, SockSeat};

@@ -5,13 +5,13 @@ ghost use mathlib.Core.Option.{some};
 ghost use lib.ListN.{get_elem?};
 ghost use Rattle.sock_model.specs.declared.chain.Claim.{Claim};
 ghost use Rattle.sock_model.specs.declared.chain.Loose.{Loose};
-ghost use Rattle.sock_model.specs.Weights.{is_hold, is_met};
+ghost use Rattle.sock_model.specs.MarkWeights.{is_hold, is_met};
 ghost use Rattle.sock_model.specs.SlotRows.{marks_of, met_link};
 ghost use Rattle.sock_model.specs.ChainRows.{with_claim, ready_claim, without_loose};
 ghost use Rattle.message_parts.specs.Parcels.{parcel_of};
-ghost use Rattle.sock_rule.specs.Seated.{IsSeat};
+ghost use Rattle.sock_rule.specs.SocketSeatSplits.{IsSeat};
 ghost use Rattle.sock_rule.specs.Shows.{heading_of};
-ghost use Rattle.sock_rule.specs.Sending.{Asked, Claims, OnTop, filled_for, MaySwap, Swapped};
+ghost use Rattle.sock_rule.specs.SendingOnRequestWords.{Asked, Claims, OnTop, filled_for, MaySwap, Swapped};
 
 use crate::homes::{Letter, SockHome};
 use crate::plays::{ClaimRequest, Connect, FillHome, SwapHead, Unconnect};

@@ -1,10 +1,10 @@
 // The rule of the table, and the names of its steps.
 ghost use Rattle.std.specs.Prelude.{[]};
-ghost use Rattle.sock_model.specs.Seats.{joined, spent, lighter};
+ghost use Rattle.sock_model.specs.ViewsOfSplitSeats.{joined, spent, lighter};
 ghost use Rattle.sock_rule.specs.OnKey.{OnKey, opener_by, take_own_said, take_last_said, spend_said};
 ghost use Rattle.sock_rule.specs.Shows.{shows, rose};
-ghost use Rattle.sock_rule.specs.Seated.{giving, given, passed};
-ghost use Rattle.sock_rule.specs.Plays.{claim_told, birth_told, add_told, sub_told, fail_told, recycle_told, free_told, look_told, link_told, meet_told, meet_last_told, reset_told, wipe_told, code_told, read_told, store_told, find_told, find_name_told, put_told};
+ghost use Rattle.sock_rule.specs.SocketSeatSplits.{giving, given, passed};
+ghost use Rattle.sock_rule.specs.SocketPlays.{claim_told, birth_told, add_told, sub_told, fail_told, recycle_told, free_told, look_told, link_told, meet_told, meet_last_told, reset_told, wipe_told, code_told, read_told, store_told, find_told, find_name_told, put_told};
 ghost use Rattle.sock_rule.specs.ChainPlays.{request_told, fill_told, ready_told, swap_told, connect_told, clean_told, note_fault_told, put_own_told, take_letter_told, place_told, drop_told, read_next_told, free_request_told, empty_told, turn_told};
 
 use crate::homes::SockHome;

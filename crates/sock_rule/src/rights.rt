@@ -4,14 +4,14 @@ ghost use Rattle.atomic_table.specs.Table.{rest};
 ghost use Rattle.sock_model.specs.declared.chain.Right.{Right};
 ghost use Rattle.sock_model.specs.declared.chain.Stage.TheVariants.{Writes, Walks, Turns};
 ghost use Rattle.sock_model.specs.ChainRows.{with_right, placed_right, dropped_right, freed_right, turned_right};
-ghost use Rattle.sock_rule.specs.Rows.{dropped_at};
-ghost use Rattle.sock_model.specs.Layout.{place_index};
+ghost use Rattle.sock_rule.specs.NotesBesideRows.{dropped_at};
+ghost use Rattle.sock_model.specs.SocketTableLayout.{place_index};
 ghost use Rattle.sock_rule.specs.declared.homes.SockHome.TheVariants.{Empty};
-ghost use Rattle.sock_rule.specs.Seated.{IsSeat};
-ghost use Rattle.sock_rule.specs.Faults.{faults_of, fault_found, noting_fault, CameOut};
+ghost use Rattle.sock_rule.specs.SocketSeatSplits.{IsSeat};
+ghost use Rattle.sock_rule.specs.LinkFaultNotes.{faults_of, fault_found, noting_fault, CameOut};
 ghost use Rattle.sock_rule.specs.Shows.{heading_of, way_at};
-ghost use Rattle.sock_rule.specs.Holding.{Rights, LinkAtHome, MayTakeMsg, TookMsg, MayLookToWrite, LookedToWrite, MayStorePlace, MayDropPlace, MayFreeRequest, MayEmptyHead, Emptied, MayReadOn, ReadOn, MayReadBack, ReadBack, MayTurnNext};
-ghost use Rattle.sock_words.specs.Words.{HasRequest, IDLE, place_word, ticket_request, ticket_generation};
+ghost use Rattle.sock_rule.specs.HoldingWriteRight.{Rights, LinkAtHome, MayTakeMsg, TookMsg, MayLookToWrite, LookedToWrite, MayStorePlace, MayDropPlace, MayFreeRequest, MayEmptyHead, Emptied, MayReadOn, ReadOn, MayReadBack, ReadBack, MayTurnNext};
+ghost use Rattle.sock_words.specs.PackedWords.{HasRequest, IDLE, place_word, ticket_request, ticket_generation};
 
 use crate::homes::{Letter, LinkHome, SockHome};
 use crate::plays::{

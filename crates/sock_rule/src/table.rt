@@ -1,10 +1,10 @@
 // The table of words and homes, and its seats.
 ghost use Rattle.std.specs.Prelude.{◌≡◌, ◌+◌, ◌*◌, ◌<◌, ◌≤◌, ℕ, [], IfOk, IfErr, length};
-ghost use Rattle.sock_model.specs.Layout.{all_words, next_index, place_index};
-ghost use Rattle.sock_model.specs.Seats.{joined, lighter};
+ghost use Rattle.sock_model.specs.SocketTableLayout.{all_words, next_index, place_index};
+ghost use Rattle.sock_model.specs.ViewsOfSplitSeats.{joined, lighter};
 ghost use Rattle.sock_rule.specs.OnTable.{opener};
 ghost use Rattle.sock_rule.specs.Shows.{shows_in, SaysWays};
-ghost use Rattle.sock_rule.specs.Seated.{IsNew, IsSeat, MayGive, giving, given, passed, IsDone};
+ghost use Rattle.sock_rule.specs.SocketSeatSplits.{IsNew, IsSeat, MayGive, giving, given, passed, IsDone};
 
 use crate::homes::SockHome;
 use crate::key::{TableKey, Ways};

@@ -7,7 +7,7 @@ use native.Mathlib.Decide.{ℕ_discrete, dec_le}
 use lib.ListN.{get_elem?}
 use lib.Seq.{set-get_or}
 use Rattle.atomic_table.specs.Table.{State}
-use Rattle.sock_words.specs.Words.{socket_id_version, socket_id_slot, vref_version, ticket_request, ticket_generation, place_word, IDLE, UNCONNECTED}
+use Rattle.sock_words.specs.PackedWords.{socket_id_version, socket_id_slot, vref_version, ticket_request, ticket_generation, place_word, IDLE, UNCONNECTED}
 use Rattle.sock_words.specs.declared.plain.Plan.{Plan}
 use Rattle.sock_model.specs.declared.chain.Claim.{Claim}
 use Rattle.sock_model.specs.declared.chain.Heading.{Heading}
@@ -18,26 +18,26 @@ use Rattle.sock_model.specs.declared.home.Home.{Home}
 use Rattle.sock_model.specs.declared.home.Home.TheVariants.{Message}
 use Rattle.sock_model.specs.declared.view.View.{View}
 use Rattle.sock_model.specs.declared.view.Hand.{Hand}
-use Rattle.sock_model.specs.Weights.{is_hold, is_met, is_saw, is_linked}
-use Rattle.sock_model.specs.Layout.{ref_index, link_index, head_index, code_index, request_index, next_index, place_index}
+use Rattle.sock_model.specs.MarkWeights.{is_hold, is_met, is_saw, is_linked}
+use Rattle.sock_model.specs.SocketTableLayout.{ref_index, link_index, head_index, code_index, request_index, next_index, place_index}
 use Rattle.sock_model.specs.Entries.{ticket, on, nth}
-use Rattle.sock_model.specs.Writing.{Held, InStage, OnWalk}
-use Rattle.sock_model.specs.Slots.{count}
+use Rattle.sock_model.specs.LinkWritingState.{Held, InStage, OnWalk}
+use Rattle.sock_model.specs.SocketSlotLaw.{count}
 use Rattle.sock_model.specs.SlotRows.{marks_of, looked, told_code, met_link}
 use Rattle.sock_model.specs.References.{slot_facts}
-use Rattle.sock_model.specs.Links.{Given, Failed}
-use Rattle.sock_model.specs.Conditions.{HasRight, MayExchange}
-use Rattle.sock_model.specs.Reads.{memory, tokens, link_home}
+use Rattle.sock_model.specs.LinksInSlots.{Given, Failed}
+use Rattle.sock_model.specs.ChainStepConditions.{HasRight, MayExchange}
+use Rattle.sock_model.specs.ChainLawReads.{memory, tokens, link_home}
 use Rattle.sock_model.specs.ChainRows.{with_claim, with_right, without_right, queued, righted, new_right, turned_right, placed_right, dropped_right, ready_claim, filled_claim}
-use Rattle.sock_model.specs.Lawful.{Lawful}
-use Rattle.sock_steps.specs.slot_steps.proofs.Numbers.{life-in}
-use Rattle.sock_steps.specs.chain_steps.proofs.Lists.{at_length, at_some, ticket_at_is}
-use Rattle.sock_steps.specs.chain_steps.proofs.Frames.{in_size}
-use Rattle.sock_steps.specs.chain_steps.proofs.Heads.{held_of, slot_is}
+use Rattle.sock_model.specs.LawfulSockets.{Lawful}
+use Rattle.sock_steps.specs.slot_steps.proofs.RuleNumbers.{life-in}
+use Rattle.sock_steps.specs.chain_steps.proofs.TicketLists.{at_length, at_some, ticket_at_is}
+use Rattle.sock_steps.specs.chain_steps.proofs.UntouchedByChainSteps.{in_size}
+use Rattle.sock_steps.specs.chain_steps.proofs.ChainHeadSteps.{held_of, slot_is}
 use Rattle.sock_steps.specs.chain_steps.proofs.Nexts.{turn_slot}
 use Rattle.sock_steps.specs.chain_steps.proofs.Frees.{Leads, to_end, to_next, now_small}
 use Rattle.sock_steps.proofs.Maps.{set_at, set_twice}
-use Rattle.sock_steps.proofs.Places.{own_count, holder_lives}
+use Rattle.sock_steps.proofs.LifeLinkSlotPlaces.{own_count, holder_lives}
 use Rattle.sock_steps.proofs.SlotSteps.{look_law, meet_law, found_code_law, idle_law}
 use Rattle.sock_steps.proofs.LinkSteps.{clean_look_law}
 use Rattle.sock_steps.proofs.ClaimSteps.{claiming_law, connecting_law, readying_law, filling_law, claim_alone}
@@ -45,7 +45,7 @@ use Rattle.sock_steps.proofs.AcceptSteps.{queued_law, righted_law}
 use Rattle.sock_steps.proofs.WalkSteps.{passing_law, reading_law, emptied_law, walking_law, turning_law}
 use Rattle.sock_steps.proofs.WriteSteps.{freeing_law, retiring_law, placing_law, dropping_law}
 use Rattle.sock_steps.proofs.RightSteps.{right_in, right_alone}
-use Rattle.seat_programs.specs.Calls.{TableStep, LookWord, FindLink, LoadCode, ClaimRequest, PutMessage, Unconnect, SwapHead, Connect, EmptyHead, ReadNext, ReverseNext, FreeRequest, StorePlace, DropPlace}
+use Rattle.seat_programs.specs.TableSteps.{TableStep, LookWord, FindLink, LoadCode, ClaimRequest, PutMessage, Unconnect, SwapHead, Connect, EmptyHead, ReadNext, ReverseNext, FreeRequest, StorePlace, DropPlace}
 use Rattle.seat_programs.specs.StepTables.{table_word, word_after}
 use Rattle.program_steps.proofs.WordFrame.{AreIn, low_word}
 use Rattle.seat_programs.specs.Cores.{homes_after}
@@ -59,7 +59,7 @@ use Rattle.seat_programs.specs.StepsOfPlaces.{placed_next, dropped_next}
 use Rattle.seat_programs.specs.StepTables.{May}
 use Rattle.seat_programs.specs.StepViews.{HoldsLife}
 use Rattle.seat_programs.specs.StepsOfPlaces.{FoundFailed}
-use Rattle.program_steps.proofs.Bounds.{law, lives_le, fits}
+use Rattle.program_steps.proofs.SlotWordBounds.{law, lives_le, fits}
 use Rattle.sock_runs.proofs.SlotTicks.{KeepsWord}
 
 -- ## The one right of a seat

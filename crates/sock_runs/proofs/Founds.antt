@@ -3,36 +3,36 @@ use Rattle.std.proofs.Common.{◌≡◌, ◌≢◌, ℕ, ◌+◌, ◌-◌, ◌%�
 use mathlib.Core.Option.{some}
 use lib.ListN.{get_elem?}
 use Rattle.atomic_table.specs.Table.{State, keeps}
-use Rattle.sock_words.specs.Words.{socket_id_slot, socket_id_version, vref_version, vref_nref, NO_SOCKET}
+use Rattle.sock_words.specs.PackedWords.{socket_id_slot, socket_id_version, vref_version, vref_nref, NO_SOCKET}
 use Rattle.sock_words.specs.declared.plain.Plan.{Plan}
 use Rattle.sock_model.specs.declared.home.Home.{Home}
 use Rattle.sock_model.specs.declared.marks.Mark.{Mark}
 use Rattle.sock_model.specs.declared.marks.Mark.TheVariants.{Claimed}
 use Rattle.sock_model.specs.declared.view.View.{View}
 use Rattle.sock_model.specs.declared.view.Hand.{Hand}
-use Rattle.sock_model.specs.Weights.{only, is_ref, is_hold, is_saw, is_claimed, is_busy, is_recycling, is_recycled, is_stage}
+use Rattle.sock_model.specs.MarkWeights.{only, is_ref, is_hold, is_saw, is_claimed, is_busy, is_recycling, is_recycled, is_stage}
 use Rattle.sock_model.specs.Marks.{about}
-use Rattle.sock_model.specs.Layout.{ref_index, link_index, name_index, open_index, request_index}
-use Rattle.sock_model.specs.Requests.{Phase, free_phase, claimed_phase, used_phase, retired_phase}
+use Rattle.sock_model.specs.SocketTableLayout.{ref_index, link_index, name_index, open_index, request_index}
+use Rattle.sock_model.specs.RequestStates.{Phase, free_phase, claimed_phase, used_phase, retired_phase}
 use Rattle.sock_model.specs.SlotRows.{marks_of}
-use Rattle.sock_model.specs.Slots.{count}
+use Rattle.sock_model.specs.SocketSlotLaw.{count}
 use Rattle.sock_model.specs.References.{slot_facts}
-use Rattle.sock_model.specs.Reads.{waits_of, memory, tokens}
-use Rattle.sock_model.specs.Lawful.{Lawful}
-use Rattle.sock_steps.specs.slot_steps.proofs.Sums.{term_le, total_mono, tally_mono}
-use Rattle.sock_steps.specs.slot_steps.proofs.Numbers.{pair_le}
-use Rattle.sock_steps.specs.slot_steps.proofs.Slots.{recycled_le}
-use Rattle.sock_steps.specs.slot_steps.proofs.Kept.{life_found}
-use Rattle.sock_steps.proofs.Places.{own_count, given_unwaited}
-use Rattle.seat_programs.specs.Calls.{TableStep, CreateLife, AddRef, SubRef, SetOdd, FreeSlot, LoadLink, LoadName, LoadOpen, TakeLink, LookWord, FindLink, ClaimRequest}
+use Rattle.sock_model.specs.ChainLawReads.{waits_of, memory, tokens}
+use Rattle.sock_model.specs.LawfulSockets.{Lawful}
+use Rattle.sock_steps.specs.slot_steps.proofs.SlotWeightSums.{term_le, total_mono, tally_mono}
+use Rattle.sock_steps.specs.slot_steps.proofs.RuleNumbers.{pair_le}
+use Rattle.sock_steps.specs.slot_steps.proofs.ReferenceStepsKeepSlot.{recycled_le}
+use Rattle.sock_steps.specs.slot_steps.proofs.KeptByTagSteps.{life_found}
+use Rattle.sock_steps.proofs.LifeLinkSlotPlaces.{own_count, given_unwaited}
+use Rattle.seat_programs.specs.TableSteps.{TableStep, CreateLife, AddRef, SubRef, SetOdd, FreeSlot, LoadLink, LoadName, LoadOpen, TakeLink, LookWord, FindLink, ClaimRequest}
 use Rattle.seat_programs.specs.StepTables.{word_of}
 use Rattle.seat_programs.specs.Cores.{found_at}
 use Rattle.seat_programs.specs.StepTables.{hand_at}
 use Rattle.seat_programs.specs.StepTables.{May, Finds}
 use Rattle.seat_programs.specs.StepsOfNames.{FindsId}
 use Rattle.seat_programs.specs.StepsOfSlots.{IsOfHeld, FindsFailed}
-use Rattle.program_steps.proofs.Bounds.{law, fits, has_room, next_version}
-use Rattle.program_steps.proofs.Ids.{id_some, id_socket}
+use Rattle.program_steps.proofs.SlotWordBounds.{law, fits, has_room, next_version}
+use Rattle.program_steps.proofs.LifeIdWords.{id_some, id_socket}
 use Rattle.sock_runs.proofs.HandTicks.{found_hand}
 use Rattle.sock_runs.proofs.ChainTicks.{held_link_in, held_link_is}
 use Rattle.sock_words.specs.Totals.{total}

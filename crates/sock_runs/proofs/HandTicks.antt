@@ -12,18 +12,18 @@ use Rattle.sock_model.specs.declared.home.Home.{Home}
 use Rattle.sock_model.specs.declared.home.Home.TheVariants.{Link}
 use Rattle.sock_model.specs.declared.view.View.{View}
 use Rattle.sock_model.specs.declared.view.Hand.{Hand}
-use Rattle.sock_model.specs.Weights.{only}
-use Rattle.sock_model.specs.Reads.{took_of, as_link, shown}
+use Rattle.sock_model.specs.MarkWeights.{only}
+use Rattle.sock_model.specs.ChainLawReads.{took_of, as_link, shown}
 use Rattle.sock_model.specs.ChainRows.{with_hand, without_hand, spent_hand}
-use Rattle.sock_model.specs.Lawful.{Lawful}
+use Rattle.sock_model.specs.LawfulSockets.{Lawful}
 use Rattle.sock_steps.proofs.HandSteps.{take_last_law, spend_law, put_hand_law}
-use Rattle.seat_programs.specs.Calls.{TableStep, TakeLink, FinishLink, PutLink}
+use Rattle.seat_programs.specs.TableSteps.{TableStep, TakeLink, FinishLink, PutLink}
 use Rattle.seat_programs.specs.Cores.{homes_after, hand_after, lies_at, first_of, others_of, finished}
 use Rattle.seat_programs.specs.StepTables.{row, hand_at}
 use Rattle.seat_programs.specs.StepsOfLinks.{as_hand, taken}
 use Rattle.seat_programs.specs.StepTables.{May}
 use Rattle.seat_programs.specs.StepsOfLinks.{HasInHand}
-use Rattle.program_steps.specs.Sound.{AreInHand}
+use Rattle.program_steps.specs.SoundSeats.{AreInHand}
 use Rattle.sock_words.specs.Totals.{total}
 
 -- the rule holds behind a move of seat i, which has this view and these links in hand

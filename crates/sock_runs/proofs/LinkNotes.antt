@@ -9,16 +9,16 @@ use Rattle.sock_model.specs.declared.marks.Mark.TheVariants.{Known, Born, Linked
 use Rattle.sock_model.specs.declared.marks.SlotMark.{SlotMark}
 use Rattle.sock_model.specs.declared.view.View.{View}
 use Rattle.sock_model.specs.declared.view.Hand.{Hand}
-use Rattle.sock_model.specs.Weights.{pair, is_linked, is_stage}
+use Rattle.sock_model.specs.MarkWeights.{pair, is_linked, is_stage}
 use Rattle.sock_model.specs.Marks.{at, without_at}
 use Rattle.sock_model.specs.SlotRows.{marks_of}
-use Rattle.sock_steps.specs.slot_steps.proofs.Sums.{about-other}
-use Rattle.sock_steps.specs.slot_steps.proofs.Numbers.{pair_is}
-use Rattle.sock_steps.proofs.Quiet.{Less, More, less_add, less_without}
-use Rattle.seat_programs.specs.Calls.{TableStep, CreateLife}
+use Rattle.sock_steps.specs.slot_steps.proofs.SlotWeightSums.{about-other}
+use Rattle.sock_steps.specs.slot_steps.proofs.RuleNumbers.{pair_is}
+use Rattle.sock_steps.proofs.SumsAsMarksChange.{Less, More, less_add, less_without}
+use Rattle.seat_programs.specs.TableSteps.{TableStep, CreateLife}
 use Rattle.seat_programs.specs.StepTables.{row}
-use Rattle.sock_runs.proofs.Notes.{bears, IsKept, IsOfBirth, notes_stay, births_note}
-use Rattle.sock_words.specs.Words.{vref_version}
+use Rattle.sock_runs.proofs.NotesOfSteps.{bears, IsKept, IsOfBirth, notes_stay, births_note}
+use Rattle.sock_words.specs.PackedWords.{vref_version}
 use Rattle.sock_words.specs.Totals.{total}
 
 -- of two other numbers

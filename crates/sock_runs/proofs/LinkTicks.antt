@@ -16,32 +16,32 @@ use Rattle.sock_model.specs.declared.home.Home.TheVariants.{Link, Message}
 use Rattle.sock_model.specs.declared.view.View.{View}
 use Rattle.sock_model.specs.declared.view.Hand.{Hand}
 use Rattle.sock_model.specs.ChainRows.{with_right, taken_right, put_right}
-use Rattle.sock_model.specs.Conditions.{MayTake}
-use Rattle.sock_model.specs.Lawful.{Lawful}
-use Rattle.sock_model.specs.Reads.{took_of, as_link, shown, link_home}
+use Rattle.sock_model.specs.ChainStepConditions.{MayTake}
+use Rattle.sock_model.specs.LawfulSockets.{Lawful}
+use Rattle.sock_model.specs.ChainLawReads.{took_of, as_link, shown, link_home}
 use Rattle.sock_steps.proofs.RightSteps.{right_in}
 use Rattle.sock_steps.proofs.WriteSteps.{taking_law, writes_in}
 use Rattle.sock_steps.proofs.LinkSteps.{link_goes_law, link_comes_law, link_home_law, put_law}
 use Rattle.seat_programs.specs.Programs.{Program, Say, Sent, TakeMessage, TakeHome, PutHome, PutBytes, AskReady, Keep, Retries}
 use Rattle.std.specs.List.{AllByRecursion}
-use Rattle.seat_programs.specs.Heads.{Retry}
-use Rattle.seat_programs.specs.Attempts.{retry}
+use Rattle.seat_programs.specs.LoopHeads.{Retry}
+use Rattle.seat_programs.specs.CallAndRetryPrograms.{retry}
 use Rattle.seat_programs.specs.Asides.{Step, Found}
 use Rattle.seat_programs.specs.Programs.{Aside}
-use Rattle.seat_programs.specs.Beside.{calls_after}
-use Rattle.program_steps.specs.Fits.{FitsFound, FitsRetry}
+use Rattle.seat_programs.specs.FoundAndChangedAside.{calls_after}
+use Rattle.program_steps.specs.IdWordFits.{FitsFound, FitsRetry}
 use Rattle.seat_programs.specs.Cores.{Calls, Core, SeatState, lies_at, first_of, others_of, link_place, resolved, still_waiting, waiting_at, next_step, with_seat}
 use Rattle.seat_programs.specs.Ticks.{fed, with_places, onto_first, FitsPut}
 use Rattle.seat_programs.specs.StepViews.{by_right}
 use Rattle.seat_programs.specs.StepsOfMessages.{took_message}
 use Rattle.seat_programs.specs.StepsOfLinks.{link_away, link_home_again, took_bytes}
 use Rattle.program_steps.specs.Writes.{MayTakeMessage, Writes}
-use Rattle.program_steps.specs.GoesOn.{GoesOn}
-use Rattle.program_steps.specs.Sound.{state, AreInHand, IsOfRight, AreHeld, AreLabelled, SoundSeat, Sound, HasLink, HasMessageAt, HasLinkAt}
-use Rattle.program_steps.proofs.Cases.{calls_waiting}
+use Rattle.program_steps.specs.ProgramGoesOn.{GoesOn}
+use Rattle.program_steps.specs.SoundSeats.{state, AreInHand, IsOfRight, AreHeld, AreLabelled, SoundSeat, Sound, HasLink, HasMessageAt, HasLinkAt}
+use Rattle.program_steps.proofs.TickCases.{calls_waiting}
 use Rattle.sock_runs.proofs.HandTicks.{in_hand_nil}
 use Rattle.sock_runs.proofs.ChainTicks.{has_one, stays_one}
-use Rattle.sock_words.specs.Words.{ticket_request}
+use Rattle.sock_words.specs.PackedWords.{ticket_request}
 
 -- what comes before the next step is passed over
 pub next_goes : (p : Plan) (v : View) (program : Program) → GoesOn p v program → GoesOn p v (next_step program)

@@ -6,23 +6,23 @@ use native.Mathlib.Decide.{ℕ_discrete}
 use lib.ListN.{get_elem?}
 use Rattle.sock_words.specs.declared.plain.Plan.{Plan}
 use Rattle.sock_model.specs.declared.view.View.{View}
-use Rattle.sock_model.specs.Layout.{link_index}
-use Rattle.sock_model.specs.Weights.{is_hold, is_linked}
-use Rattle.sock_model.specs.Slots.{count, live}
+use Rattle.sock_model.specs.SocketTableLayout.{link_index}
+use Rattle.sock_model.specs.MarkWeights.{is_hold, is_linked}
+use Rattle.sock_model.specs.SocketSlotLaw.{count, live}
 use Rattle.sock_model.specs.References.{slot_facts}
-use Rattle.sock_steps.proofs.Places.{counts, own_count}
-use Rattle.seat_programs.specs.Calls.{FindLink}
+use Rattle.sock_steps.proofs.LifeLinkSlotPlaces.{counts, own_count}
+use Rattle.seat_programs.specs.TableSteps.{FindLink}
 use Rattle.seat_programs.specs.Cores.{Core, found_at, words_after, homes_after}
 use Rattle.seat_programs.specs.StepTables.{word_of, word_after}
 use Rattle.seat_programs.specs.Ticks.{Moment, ticked, run, IsAnswered, AreAnswered}
 use Rattle.seat_programs.specs.StepTables.{row, hand_at}
 use Rattle.seat_programs.specs.StepTables.{May}
-use Rattle.program_steps.specs.Sound.{state, Sound, IsFitting, AreFitting, views_after, views_along}
-use Rattle.program_steps.proofs.Bounds.{law, lives_le}
+use Rattle.program_steps.specs.SoundSeats.{state, Sound, IsFitting, AreFitting, views_after, views_along}
+use Rattle.program_steps.proofs.SlotWordBounds.{law, lives_le}
 use Rattle.sock_runs.proofs.LinkNotes.{links_stay}
-use Rattle.program_steps.proofs.Cases.{with_rights, tick_keeps_marks}
+use Rattle.program_steps.proofs.TickCases.{with_rights, tick_keeps_marks}
 use Rattle.sock_runs.proofs.LinkTicks.{RetriesGo}
-use Rattle.sock_runs.proofs.Ticks.{sound_ticks}
+use Rattle.sock_runs.proofs.TicksKeepSeatsSound.{sound_ticks}
 
 -- the life h of slot i was given link k
 abbrev pub IsGiven : Core → List View → ℕ → ℕ → ℕ → Type 0

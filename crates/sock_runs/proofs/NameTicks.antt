@@ -5,26 +5,26 @@ use mathlib.Core.Option.{some}
 use native.Mathlib.Decide.{ℕ_discrete}
 use lib.ListN.{get_elem?}
 use Rattle.atomic_table.specs.Table.{State, stepped, keeps}
-use Rattle.sock_words.specs.Words.{socket_id_version, socket_id_slot, NO_SOCKET}
+use Rattle.sock_words.specs.PackedWords.{socket_id_version, socket_id_slot, NO_SOCKET}
 use Rattle.sock_words.specs.declared.plain.Plan.{Plan}
 use Rattle.sock_model.specs.declared.home.Home.{Home}
 use Rattle.sock_model.specs.declared.view.View.{View}
 use Rattle.sock_model.specs.declared.view.StoredWord.{StoredWord}
-use Rattle.sock_model.specs.Weights.{is_born}
-use Rattle.sock_model.specs.Layout.{name_index, open_index, head_index}
+use Rattle.sock_model.specs.MarkWeights.{is_born}
+use Rattle.sock_model.specs.SocketTableLayout.{name_index, open_index, head_index}
 use Rattle.sock_model.specs.References.{slot_facts, References, Names, Stores, sayers, spare, uses_of}
 use Rattle.sock_model.specs.SlotRows.{met, wrote}
-use Rattle.sock_model.specs.Slots.{SlotFacts, SlotLaw, live, count}
-use Rattle.sock_model.specs.Lawful.{Lawful}
-use Rattle.sock_steps.specs.slot_steps.proofs.Sums.{total-set, term_le}
-use Rattle.sock_steps.specs.slot_steps.proofs.Frame.{apart}
+use Rattle.sock_model.specs.SocketSlotLaw.{SlotFacts, SlotLaw, live, count}
+use Rattle.sock_model.specs.LawfulSockets.{Lawful}
+use Rattle.sock_steps.specs.slot_steps.proofs.SlotWeightSums.{total-set, term_le}
+use Rattle.sock_steps.specs.slot_steps.proofs.OtherSlotsUntouched.{apart}
 use Rattle.sock_steps.specs.slot_steps.proofs.Stored.{noted-else, noted-here}
 use Rattle.sock_steps.proofs.Steady.{wrote_steady}
 use Rattle.sock_steps.proofs.SlotSteps.{slot_law, idle_law, find_law, store_name_law, store_open_law}
-use Rattle.seat_programs.specs.Calls.{StoreName, LoadName, StoreOpen, LoadOpen}
+use Rattle.seat_programs.specs.TableSteps.{StoreName, LoadName, StoreOpen, LoadOpen}
 use Rattle.seat_programs.specs.StepsOfNames.{is_id, found_id}
 use Rattle.seat_programs.specs.StepTables.{May}
-use Rattle.program_steps.proofs.Ids.{id_some, id_socket}
+use Rattle.program_steps.proofs.LifeIdWords.{id_some, id_socket}
 use Rattle.sock_runs.proofs.SlotTicks.{KeepsWord}
 use Rattle.sock_words.specs.Totals.{total}
 

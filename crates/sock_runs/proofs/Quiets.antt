@@ -13,17 +13,17 @@ use Rattle.sock_words.specs.declared.plain.Plan.{Plan}
 use Rattle.seat_programs.specs.sock_io.specs.declared.link.Put.{Put}
 use Rattle.seat_programs.specs.sock_io.specs.declared.link.Ready.{Ready}
 use Rattle.sock_model.specs.declared.home.Home.{Home}
-use Rattle.sock_model.specs.Messages.{HeadedBytes}
-use Rattle.sock_model.specs.Reads.{message, link_home}
-use Rattle.seat_programs.specs.Calls.{kind_of}
+use Rattle.sock_model.specs.UnplacedMessages.{HeadedBytes}
+use Rattle.sock_model.specs.ChainLawReads.{message, link_home}
+use Rattle.seat_programs.specs.TableSteps.{kind_of}
 use Rattle.seat_programs.specs.Programs.{Program, Do, TakeMessage, TakeHome, PutHome, PutBytes, AskReady, Write, Aside, Round}
 use Rattle.seat_programs.specs.Asides.{Step, Found, kind_aside}
-use Rattle.seat_programs.specs.Beside.{found_in}
-use Rattle.seat_programs.specs.Rounds.{round, kind_of_round}
-use Rattle.seat_programs.specs.Sends.{block}
+use Rattle.seat_programs.specs.FoundAndChangedAside.{found_in}
+use Rattle.seat_programs.specs.LoopRounds.{round, kind_of_round}
+use Rattle.seat_programs.specs.SendAndWritePrograms.{block}
 use Rattle.seat_programs.specs.Cores.{Core, SeatState}
 use Rattle.seat_programs.specs.Ticks.{Answer, OfPut, OfReady, Moment, with_message, with_link, with_put, with_ready, with_found, taken, step_with, tick_with, ticked, run}
-use Rattle.seat_programs.specs.Runs.{kind_in, IsAtRest}
+use Rattle.seat_programs.specs.ScheduledRuns.{kind_in, IsAtRest}
 
 -- what is said of the seats, whatever state one seat has
 module _ (p : Plan) (c : Core) (i : ℕ) (seat : SeatState) (P : List SeatState → Type 0) (same : P c.seats) where

@@ -5,24 +5,24 @@ use mathlib.Core.Option.{some}
 use native.Mathlib.Decide.{ℕ_discrete}
 use lib.ListN.{get_elem?}
 use Rattle.atomic_table.specs.Table.{State, stepped, keeps}
-use Rattle.sock_words.specs.Words.{socket_id_version, socket_id_slot, vref_version, vref_nref}
+use Rattle.sock_words.specs.PackedWords.{socket_id_version, socket_id_slot, vref_version, vref_nref}
 use Rattle.sock_words.specs.declared.plain.Plan.{Plan}
 use Rattle.sock_model.specs.declared.home.Home.{Home}
 use Rattle.sock_model.specs.declared.view.View.{View}
-use Rattle.sock_model.specs.Weights.{is_ref, is_known}
-use Rattle.sock_model.specs.Layout.{ref_index}
+use Rattle.sock_model.specs.MarkWeights.{is_ref, is_known}
+use Rattle.sock_model.specs.SocketTableLayout.{ref_index}
 use Rattle.sock_model.specs.SlotRows.{marks_of, gave_birth, added, back, subbed, recycled}
-use Rattle.sock_model.specs.Lawful.{Lawful}
+use Rattle.sock_model.specs.LawfulSockets.{Lawful}
 use Rattle.sock_steps.proofs.SlotSteps.{claim_law, add_law, sub_law, set_odd_law, recycle_lost_law, free_law, link_law, meet_last_law, wipe_law, code_law}
-use Rattle.sock_steps.proofs.Places.{own_count}
+use Rattle.sock_steps.proofs.LifeLinkSlotPlaces.{own_count}
 use Rattle.sock_steps.proofs.Birth.{birth_law, reset_law}
-use Rattle.sock_steps.proofs.End.{recycle_law}
-use Rattle.seat_programs.specs.Calls.{TableStep, ClaimSlot, CreateLife, AddRef, SubRef, SetOdd, Recycle, FreeSlot, StoreLink, LoadLink, ResetHead, ClearCode, StoreCode}
+use Rattle.sock_steps.proofs.EndOfSlotLife.{recycle_law}
+use Rattle.seat_programs.specs.TableSteps.{TableStep, ClaimSlot, CreateLife, AddRef, SubRef, SetOdd, Recycle, FreeSlot, StoreLink, LoadLink, ResetHead, ClearCode, StoreCode}
 use Rattle.seat_programs.specs.StepTables.{word_of, word_after}
 use Rattle.seat_programs.specs.Cores.{found_at, words_after}
 use Rattle.seat_programs.specs.StepTables.{row, hand_at}
 use Rattle.seat_programs.specs.StepTables.{May}
-use Rattle.program_steps.proofs.Bounds.{fits, has_room, law}
+use Rattle.program_steps.proofs.SlotWordBounds.{fits, has_room, law}
 
 -- the rule holds behind a step of seat i, which has this view, on one word
 abbrev pub KeepsWord : Plan → State Home View → ℕ → View → TableStep → Type 0

@@ -10,10 +10,10 @@ use Rattle.sock_words.specs.declared.plain.Plan.{Plan}
 use Rattle.seat_programs.specs.Writings.{Puts, Waits, Empties, Walks}
 use Rattle.seat_programs.specs.Programs.{Program, PutBytes, AskReady, Write, Aside, Round}
 use Rattle.seat_programs.specs.Asides.{TakeBytes}
-use Rattle.seat_programs.specs.Heads.{Reads, Discards}
+use Rattle.seat_programs.specs.LoopHeads.{Reads, Discards}
 use Rattle.seat_programs.specs.Cores.{Core, SeatState}
 use Rattle.seat_programs.specs.Ticks.{Unasked, quiet, tick_with, ticked, run, IsAnswer, AreAnswered}
-use Rattle.seat_programs.specs.Runs.{kind_in, IsAtRest}
+use Rattle.seat_programs.specs.ScheduledRuns.{kind_in, IsAtRest}
 
 -- whoever asks its link isn't at rest, and stays as it is where the link isn't asked
 asks_or_not : (p : Plan) (c : Core) (i : ℕ) (seat : SeatState) (program : Program) → IsAnswer program Unasked ⊎ ((tick_with p i seat c Unasked program ≡ c) × (kind_in program ≢ None))

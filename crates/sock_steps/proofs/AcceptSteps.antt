@@ -13,29 +13,29 @@ use Rattle.sock_model.specs.declared.chain.Stage.TheVariants.{Writes}
 use Rattle.sock_model.specs.declared.home.Home.{Home}
 use Rattle.sock_model.specs.sock_words.specs.declared.plain.Plan.{Plan}
 use Rattle.sock_model.specs.declared.view.View.{View}
-use Rattle.sock_model.specs.Weights.{is_met}
+use Rattle.sock_model.specs.MarkWeights.{is_met}
 use Rattle.sock_model.specs.SlotRows.{marks_of}
-use Rattle.sock_model.specs.Layout.{head_index, place_index}
+use Rattle.sock_model.specs.SocketTableLayout.{head_index, place_index}
 use Rattle.sock_model.specs.Entries.{ticket, ticket_of, on, nth}
-use Rattle.sock_model.specs.Writing.{loose_of}
-use Rattle.sock_model.specs.Reads.{head_at, memory, link_home, rights_on, claims_of, loose_at, tokens}
+use Rattle.sock_model.specs.LinkWritingState.{loose_of}
+use Rattle.sock_model.specs.ChainLawReads.{head_at, memory, link_home, rights_on, claims_of, loose_at, tokens}
 use Rattle.sock_model.specs.ChainRows.{entry_of, more, queued, righted}
-use Rattle.sock_model.specs.Conditions.{MayExchange}
-use Rattle.sock_model.specs.Links.{Given, Lives}
-use Rattle.sock_model.specs.Lawful.{Lawful}
-use Rattle.chain_steps.proofs.Lists.{on_miss, at_snoc, old, new}
-use Rattle.chain_steps.proofs.Frames.{Same, Changed, one_token, no_token}
+use Rattle.sock_model.specs.ChainStepConditions.{MayExchange}
+use Rattle.sock_model.specs.LinksInSlots.{Given, Lives}
+use Rattle.sock_model.specs.LawfulSockets.{Lawful}
+use Rattle.chain_steps.proofs.TicketLists.{on_miss, at_snoc, old, new}
+use Rattle.chain_steps.proofs.UntouchedByChainSteps.{Same, Changed, one_token, no_token}
 use Rattle.chain_steps.proofs.Claims.{claim_of}
 use Rattle.chain_steps.proofs.Gather.{gather_all, gather_none, gather_own, gather_same}
-use Rattle.chain_steps.proofs.Few.{few_claims}
+use Rattle.chain_steps.proofs.FewRightsAndClaims.{few_claims}
 use Rattle.chain_steps.proofs.Authored.{accepts}
-use Rattle.chain_steps.proofs.Letters.{entrusts, places_fit}
+use Rattle.chain_steps.proofs.ChainLettersStay.{entrusts, places_fit}
 use Rattle.chain_steps.proofs.Delivers.{delivers_more, delivers_same}
 use Rattle.chain_steps.proofs.Grow.{IsNext, busy_found, idle_found, queues, begins}
-use Rattle.sock_steps.proofs.Places.{holder_lives}
-use Rattle.sock_steps.proofs.Words.{Beside, head_beside, head_changed, next_same, request_same, place_same}
+use Rattle.sock_steps.proofs.LifeLinkSlotPlaces.{holder_lives}
+use Rattle.sock_steps.proofs.ChainWordChanges.{Beside, head_beside, head_changed, next_same, request_same, place_same}
 use Rattle.sock_steps.proofs.ChainFrame.{SameSlots, carried_same, slots_in, one_slot, links_frame, chain_frame}
-use Rattle.sock_model.specs.sock_words.specs.Words.{IDLE}
+use Rattle.sock_model.specs.sock_words.specs.PackedWords.{IDLE}
 
 -- the tokens of a request or link, where one more stands in a view, or the one claim goes
 own_claim : (r : ℕ) (v : View) (c : Claim) → v.claims ≡ c ∷ [] → c.request ≡ r → claims_of r v ≡ c ∷ []

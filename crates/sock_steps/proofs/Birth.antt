@@ -13,32 +13,32 @@ use Rattle.sock_model.specs.declared.home.Home.{Home}
 use Rattle.sock_model.specs.declared.home.Home.TheVariants.{Link}
 use Rattle.sock_model.specs.sock_words.specs.declared.plain.Plan.{Plan}
 use Rattle.sock_model.specs.declared.view.View.{View}
-use Rattle.sock_model.specs.Weights.{only, pair, is_busy, is_stage, is_reset, is_recycled, is_hold, is_freer, is_failer, is_linked, is_met}
+use Rattle.sock_model.specs.MarkWeights.{only, pair, is_busy, is_stage, is_reset, is_recycled, is_hold, is_freer, is_failer, is_linked, is_met}
 use Rattle.sock_model.specs.Marks.{about, at, without_at}
-use Rattle.sock_model.specs.Layout.{ref_index, head_index, request_index, next_index, place_index}
-use Rattle.sock_model.specs.Slots.{count}
+use Rattle.sock_model.specs.SocketTableLayout.{ref_index, head_index, request_index, next_index, place_index}
+use Rattle.sock_model.specs.SocketSlotLaw.{count}
 use Rattle.sock_model.specs.References.{slot_facts}
 use Rattle.sock_model.specs.SlotRows.{marks_of, gave_birth, staged}
 use Rattle.sock_model.specs.Entries.{on}
-use Rattle.sock_model.specs.Reads.{rights_on, claims_of, loose_at, head_at, memory, tokens, link_at, link_home, took_of, waits_of, hands_of}
-use Rattle.sock_model.specs.Links.{Given, Lives, InSlots}
-use Rattle.sock_model.specs.Homes.{Unborn, Recycles, LinkHomes}
-use Rattle.sock_model.specs.Lawful.{Lawful}
-use Rattle.slot_steps.proofs.Sums.{total-set, term_le, total_mono, about-here, about-other}
-use Rattle.slot_steps.proofs.Numbers.{pair_le, only-same, pair-same, pair_is, life-high}
-use Rattle.slot_steps.proofs.Slots.{stage_is}
-use Rattle.slot_steps.proofs.Kept.{birth_keeps}
+use Rattle.sock_model.specs.ChainLawReads.{rights_on, claims_of, loose_at, head_at, memory, tokens, link_at, link_home, took_of, waits_of, hands_of}
+use Rattle.sock_model.specs.LinksInSlots.{Given, Lives, InSlots}
+use Rattle.sock_model.specs.LinkHomes.{Unborn, Recycles, LinkHomes}
+use Rattle.sock_model.specs.LawfulSockets.{Lawful}
+use Rattle.slot_steps.proofs.SlotWeightSums.{total-set, term_le, total_mono, about-here, about-other}
+use Rattle.slot_steps.proofs.RuleNumbers.{pair_le, only-same, pair-same, pair_is, life-high}
+use Rattle.slot_steps.proofs.ReferenceStepsKeepSlot.{stage_is}
+use Rattle.slot_steps.proofs.KeptByTagSteps.{birth_keeps}
 use Rattle.slot_steps.proofs.Stored.{head_keeps}
-use Rattle.chain_steps.proofs.Frames.{Changed, in_log}
+use Rattle.chain_steps.proofs.UntouchedByChainSteps.{Changed, in_log}
 use Rattle.chain_steps.proofs.Gather.{gather_same}
 use Rattle.chain_steps.proofs.Settles.{comes_in}
-use Rattle.sock_steps.proofs.Quiet.{Less, More, less_add, more_add, less_without, more_without}
+use Rattle.sock_steps.proofs.SumsAsMarksChange.{Less, More, less_add, more_add, less_without, more_without}
 use Rattle.sock_steps.proofs.Steady.{waits-taken, staged_steady, staged_else}
-use Rattle.sock_steps.proofs.Places.{counts, own_count, given_more, failed_more, busy_idle, claimed_unborn}
+use Rattle.sock_steps.proofs.LifeLinkSlotPlaces.{counts, own_count, given_more, failed_more, busy_idle, claimed_unborn}
 use Rattle.sock_steps.proofs.SlotFrame.{still_holds, ChainWords, head_is, whole_law, slot_frame}
 use Rattle.sock_steps.proofs.SlotSteps.{low_words}
 use Rattle.sock_steps.proofs.Maps.{put, put-here, put-at, put-else, is_none, no_members}
-use Rattle.sock_model.specs.sock_words.specs.Words.{vref_version, IDLE}
+use Rattle.sock_model.specs.sock_words.specs.PackedWords.{vref_version, IDLE}
 use Rattle.sock_model.specs.sock_words.specs.Totals.{total}
 
 stage_busy : (n k : ℕ) (x : Mark) → is_stage n k x ≤ is_busy x

@@ -10,20 +10,20 @@ use Rattle.sock_model.specs.sock_words.specs.declared.plain.Plan.{Plan}
 use Rattle.sock_model.specs.declared.chain.Entry.{Entry}
 use Rattle.sock_model.specs.declared.home.Home.{Home}
 use Rattle.sock_model.specs.declared.view.View.{View}
-use Rattle.sock_model.specs.Weights.{only}
-use Rattle.sock_model.specs.Layout.{place_index}
-use Rattle.sock_model.specs.Seats.{newcomer, carrier}
+use Rattle.sock_model.specs.MarkWeights.{only}
+use Rattle.sock_model.specs.SocketTableLayout.{place_index}
+use Rattle.sock_model.specs.ViewsOfSplitSeats.{newcomer, carrier}
 use Rattle.sock_model.specs.Authors.{pick, Authored}
-use Rattle.sock_model.specs.Reads.{rights_on, claims_of, loose_at, tokens, message}
-use Rattle.sock_model.specs.Lawful.{Lawful}
+use Rattle.sock_model.specs.ChainLawReads.{rights_on, claims_of, loose_at, tokens, message}
+use Rattle.sock_model.specs.LawfulSockets.{Lawful}
 use Rattle.sock_model.specs.Rule.{FoundWords, AreShort, lists_of, Rule}
-use Rattle.slot_steps.proofs.Sums.{total-set, total-append}
-use Rattle.chain_steps.proofs.Frames.{chains_frame}
+use Rattle.slot_steps.proofs.SlotWeightSums.{total-set, total-append}
+use Rattle.chain_steps.proofs.UntouchedByChainSteps.{chains_frame}
 use Rattle.chain_steps.proofs.Gather.{gather_same}
-use Rattle.chain_steps.proofs.Letters.{messages_frame}
+use Rattle.chain_steps.proofs.ChainLettersStay.{messages_frame}
 use Rattle.chain_steps.proofs.Delivers.{delivers_same}
-use Rattle.chain_steps.proofs.Lists.{at_last}
-use Rattle.sock_steps.proofs.Words.{beside_all}
+use Rattle.chain_steps.proofs.TicketLists.{at_last}
+use Rattle.sock_steps.proofs.ChainWordChanges.{beside_all}
 use Rattle.sock_steps.proofs.ChainFrame.{SameSlots, carried_same, links_frame, chain_frame}
 use Rattle.sock_steps.proofs.Reseat.{splitting_law}
 use Rattle.sock_steps.proofs.Positions.{pick_has}

@@ -14,27 +14,27 @@ use Rattle.sock_model.specs.sock_words.specs.declared.plain.Plan.{Plan}
 use Rattle.sock_model.specs.declared.view.View.{View}
 use Rattle.sock_model.specs.declared.view.Hand.{Hand}
 use Rattle.sock_model.specs.Entries.{on}
-use Rattle.sock_model.specs.Weights.{only, is_linked, is_freer, is_failer, is_born, is_busy, is_reset, is_recycled, is_met}
+use Rattle.sock_model.specs.MarkWeights.{only, is_linked, is_freer, is_failer, is_born, is_busy, is_reset, is_recycled, is_met}
 use Rattle.sock_model.specs.Marks.{about, says}
-use Rattle.sock_model.specs.Layout.{name_index, open_index, place_index}
-use Rattle.sock_model.specs.Slots.{SlotFacts, live, count, SlotLaw}
+use Rattle.sock_model.specs.SocketTableLayout.{name_index, open_index, place_index}
+use Rattle.sock_model.specs.SocketSlotLaw.{SlotFacts, live, count, SlotLaw}
 use Rattle.sock_model.specs.References.{uses_of, uses_link, sayers, spare, slot_facts, Names, Stores, References}
 use Rattle.sock_model.specs.SlotRows.{marks_of}
 use Rattle.sock_model.specs.Chains.{Chains}
 use Rattle.sock_model.specs.Authors.{Authored}
-use Rattle.sock_model.specs.Messages.{Messages}
+use Rattle.sock_model.specs.UnplacedMessages.{Messages}
 use Rattle.sock_model.specs.Deliveries.{HasTaken, Delivered}
-use Rattle.sock_model.specs.Reads.{carries, memory, tokens, message, link_at, link_home, waits_link, waits_of, hands_of}
-use Rattle.sock_model.specs.Links.{HoldsRights, Given, Failed, InSlots}
-use Rattle.sock_model.specs.Homes.{IsOwn, Unborn, Recycles, LinkHomes}
-use Rattle.sock_model.specs.Lawful.{Lawful}
-use Rattle.slot_steps.proofs.Sums.{total-set, term_le, tally_mono}
-use Rattle.slot_steps.proofs.Numbers.{only-same}
+use Rattle.sock_model.specs.ChainLawReads.{carries, memory, tokens, message, link_at, link_home, waits_link, waits_of, hands_of}
+use Rattle.sock_model.specs.LinksInSlots.{HoldsRights, Given, Failed, InSlots}
+use Rattle.sock_model.specs.LinkHomes.{IsOwn, Unborn, Recycles, LinkHomes}
+use Rattle.sock_model.specs.LawfulSockets.{Lawful}
+use Rattle.slot_steps.proofs.SlotWeightSums.{total-set, term_le, tally_mono}
+use Rattle.slot_steps.proofs.RuleNumbers.{only-same}
 use Rattle.chain_steps.proofs.Delivers.{delivers_failed}
 use Rattle.sock_steps.proofs.Steady.{Steady}
-use Rattle.sock_steps.proofs.Places.{given_to, given_from, lives_to, lives_from, failed_to, busy_idle, one_link}
-use Rattle.sock_steps.proofs.Words.{Beside}
-use Rattle.sock_model.specs.sock_words.specs.Words.{vref_version, vref_nref}
+use Rattle.sock_steps.proofs.LifeLinkSlotPlaces.{given_to, given_from, lives_to, lives_from, failed_to, busy_idle, one_link}
+use Rattle.sock_steps.proofs.ChainWordChanges.{Beside}
+use Rattle.sock_model.specs.sock_words.specs.PackedWords.{vref_version, vref_nref}
 use Rattle.sock_model.specs.sock_words.specs.Totals.{total}
 
 -- all that the slots read of a view

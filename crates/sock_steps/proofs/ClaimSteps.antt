@@ -12,29 +12,29 @@ use Rattle.sock_model.specs.declared.home.Home.TheVariants.{Message}
 use Rattle.sock_model.specs.sock_words.specs.declared.plain.Plan.{Plan}
 use Rattle.sock_model.specs.declared.view.View.{View}
 use Rattle.sock_model.specs.declared.marks.SlotMark.{SlotMark}
-use Rattle.sock_model.specs.Weights.{is_hold, is_met}
+use Rattle.sock_model.specs.MarkWeights.{is_hold, is_met}
 use Rattle.sock_model.specs.Marks.{about}
-use Rattle.sock_model.specs.Layout.{next_index, request_index, place_index}
+use Rattle.sock_model.specs.SocketTableLayout.{next_index, request_index, place_index}
 use Rattle.sock_model.specs.Chains.{Chains}
-use Rattle.sock_model.specs.Messages.{Messages}
-use Rattle.sock_model.specs.Reads.{as_link, link_home, took_of, memory, letter_of, shown, message, link_at, rights_on, claims_of, loose_at, tokens}
+use Rattle.sock_model.specs.UnplacedMessages.{Messages}
+use Rattle.sock_model.specs.ChainLawReads.{as_link, link_home, took_of, memory, letter_of, shown, message, link_at, rights_on, claims_of, loose_at, tokens}
 use Rattle.sock_model.specs.ChainRows.{with_claim, without_loose}
-use Rattle.sock_model.specs.Lawful.{Lawful}
-use Rattle.chain_steps.proofs.Lists.{at_length, filter_in}
-use Rattle.chain_steps.proofs.Frames.{Same, Changed}
+use Rattle.sock_model.specs.LawfulSockets.{Lawful}
+use Rattle.chain_steps.proofs.TicketLists.{at_length, filter_in}
+use Rattle.chain_steps.proofs.UntouchedByChainSteps.{Same, Changed}
 use Rattle.chain_steps.proofs.Claims.{claims, free_of, reclaims, readies}
 use Rattle.chain_steps.proofs.Nexts.{connects}
 use Rattle.chain_steps.proofs.Gather.{gather_all, gather_own, gather_same}
-use Rattle.chain_steps.proofs.Few.{few_loose, few_claims}
+use Rattle.chain_steps.proofs.FewRightsAndClaims.{few_loose, few_claims}
 use Rattle.chain_steps.proofs.Authored.{keeps_lists}
-use Rattle.chain_steps.proofs.Letters.{messages_frame, claims_letter, fills}
+use Rattle.chain_steps.proofs.ChainLettersStay.{messages_frame, claims_letter, fills}
 use Rattle.chain_steps.proofs.Delivers.{delivers_same, moves_link}
-use Rattle.sock_steps.proofs.Words.{Beside, beside_all, next_beside, next_head, next_changed, next_request, next_place, request_beside, request_head, request_changed, request_next, request_place}
+use Rattle.sock_steps.proofs.ChainWordChanges.{Beside, beside_all, next_beside, next_head, next_changed, next_request, next_place, request_beside, request_head, request_changed, request_next, request_place}
 use Rattle.sock_steps.proofs.ChainFrame.{SameSlots, carried_same, slots_in, links_frame, chain_frame}
 use Rattle.atomic_table.proofs.Lists.{set_else}
 use Rattle.sock_steps.proofs.Maps.{set_at}
 use Rattle.sock_steps.proofs.RightSteps.{single, out_here, out_else}
-use Rattle.sock_model.specs.sock_words.specs.Words.{UNCONNECTED}
+use Rattle.sock_model.specs.sock_words.specs.PackedWords.{UNCONNECTED}
 use Rattle.sock_model.specs.sock_words.specs.Totals.{total}
 
 module _ {S : Type 0} {shows : S → Home} {p : Plan} {s : State S View} (o : Lawful shows p s) (id : ℕ) (v w : View) (at : get_elem? s.views id ≡ some v) (same : SameSlots v w) (hands : w.hands ≡ v.hands) (rights : w.rights ≡ v.rights) (lists : w.lists ≡ v.lists) where

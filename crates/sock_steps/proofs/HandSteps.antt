@@ -17,30 +17,30 @@ use Rattle.sock_model.specs.declared.home.Home.TheVariants.{Empty, Link, Message
 use Rattle.sock_model.specs.sock_words.specs.declared.plain.Plan.{Plan}
 use Rattle.sock_model.specs.declared.view.View.{View}
 use Rattle.sock_model.specs.declared.view.Hand.{Hand}
-use Rattle.sock_model.specs.Weights.{only, is_hold, is_busy, is_recycling, is_recycled, is_met}
+use Rattle.sock_model.specs.MarkWeights.{only, is_hold, is_busy, is_recycling, is_recycled, is_met}
 use Rattle.sock_model.specs.Marks.{about}
-use Rattle.sock_model.specs.Layout.{place_index}
+use Rattle.sock_model.specs.SocketTableLayout.{place_index}
 use Rattle.sock_model.specs.SlotRows.{marks_of}
 use Rattle.sock_model.specs.Entries.{on}
 use Rattle.sock_model.specs.Deliveries.{HasTaken}
-use Rattle.sock_model.specs.Reads.{letter_of, took_of, as_link, shown, message, link_at, link_home, rights_on, claims_of, loose_at, tokens, waits_of, carries, hands_of}
+use Rattle.sock_model.specs.ChainLawReads.{letter_of, took_of, as_link, shown, message, link_at, link_home, rights_on, claims_of, loose_at, tokens, waits_of, carries, hands_of}
 use Rattle.sock_model.specs.ChainRows.{with_hand, without_hand, spent_hand}
-use Rattle.sock_model.specs.Links.{Given, Lives}
-use Rattle.sock_model.specs.Homes.{IsOwn, Unborn, Recycles}
-use Rattle.sock_model.specs.Lawful.{Lawful}
-use Rattle.slot_steps.proofs.Sums.{total-set, term_le, total_mono, total_some}
-use Rattle.slot_steps.proofs.Numbers.{only-same, only-else}
-use Rattle.slot_steps.proofs.Slots.{recycled_le}
-use Rattle.slot_steps.proofs.Frame.{passes-without}
-use Rattle.chain_steps.proofs.Lists.{filter_at, at_length}
-use Rattle.chain_steps.proofs.Frames.{Same, chains_frame}
+use Rattle.sock_model.specs.LinksInSlots.{Given, Lives}
+use Rattle.sock_model.specs.LinkHomes.{IsOwn, Unborn, Recycles}
+use Rattle.sock_model.specs.LawfulSockets.{Lawful}
+use Rattle.slot_steps.proofs.SlotWeightSums.{total-set, term_le, total_mono, total_some}
+use Rattle.slot_steps.proofs.RuleNumbers.{only-same, only-else}
+use Rattle.slot_steps.proofs.ReferenceStepsKeepSlot.{recycled_le}
+use Rattle.slot_steps.proofs.OtherSlotsUntouched.{passes-without}
+use Rattle.chain_steps.proofs.TicketLists.{filter_at, at_length}
+use Rattle.chain_steps.proofs.UntouchedByChainSteps.{Same, chains_frame}
 use Rattle.chain_steps.proofs.Gather.{gather_same}
 use Rattle.chain_steps.proofs.Authored.{keeps_lists}
-use Rattle.chain_steps.proofs.Letters.{messages_frame}
+use Rattle.chain_steps.proofs.ChainLettersStay.{messages_frame}
 use Rattle.chain_steps.proofs.Delivers.{delivers_same, delivers_home}
 use Rattle.sock_steps.proofs.Steady.{Steady}
-use Rattle.sock_steps.proofs.Places.{own_count, given_to, given_from, given_once, given_unwaited, waiters_once, busy_idle, holder_lives, two_seats}
-use Rattle.sock_steps.proofs.Words.{beside_all}
+use Rattle.sock_steps.proofs.LifeLinkSlotPlaces.{own_count, given_to, given_from, given_once, given_unwaited, waiters_once, busy_idle, holder_lives, two_seats}
+use Rattle.sock_steps.proofs.ChainWordChanges.{beside_all}
 use Rattle.sock_steps.proofs.ChainFrame.{SameSlots, steady_same, Carries, no_slot_of, chain_frame}
 use Rattle.sock_steps.proofs.Maps.{set_at, is_none, no_members, gather_nil}
 use Rattle.sock_model.specs.sock_words.specs.Totals.{total}

@@ -12,35 +12,35 @@ use Rattle.sock_model.specs.declared.home.Home.{Home}
 use Rattle.sock_model.specs.declared.home.Home.TheVariants.{Empty, Link, Message}
 use Rattle.sock_model.specs.sock_words.specs.declared.plain.Plan.{Plan}
 use Rattle.sock_model.specs.declared.view.View.{View}
-use Rattle.sock_model.specs.Layout.{place_index, ref_index}
-use Rattle.sock_model.specs.Slots.{count}
+use Rattle.sock_model.specs.SocketTableLayout.{place_index, ref_index}
+use Rattle.sock_model.specs.SocketSlotLaw.{count}
 use Rattle.sock_model.specs.References.{slot_facts}
 use Rattle.sock_model.specs.SlotRows.{looked}
-use Rattle.sock_model.specs.Weights.{is_busy, is_hold, is_failer}
+use Rattle.sock_model.specs.MarkWeights.{is_busy, is_hold, is_failer}
 use Rattle.sock_model.specs.Entries.{on}
 use Rattle.sock_model.specs.Chains.{Chains}
-use Rattle.sock_model.specs.Writing.{InStage}
-use Rattle.sock_model.specs.Tokens.{Tokens}
-use Rattle.sock_model.specs.Messages.{Messages}
-use Rattle.sock_model.specs.Reads.{letter_of, took_of, as_link, shown, memory, message, link_at, link_home, tokens}
+use Rattle.sock_model.specs.LinkWritingState.{InStage}
+use Rattle.sock_model.specs.ChainTokens.{Tokens}
+use Rattle.sock_model.specs.UnplacedMessages.{Messages}
+use Rattle.sock_model.specs.ChainLawReads.{letter_of, took_of, as_link, shown, memory, message, link_at, link_home, tokens}
 use Rattle.sock_model.specs.ChainRows.{with_right, put_right}
-use Rattle.sock_model.specs.Conditions.{HasRight}
-use Rattle.sock_model.specs.Links.{HoldsLink, Failed}
-use Rattle.sock_model.specs.Homes.{IsOwn}
-use Rattle.sock_model.specs.Lawful.{Lawful}
-use Rattle.slot_steps.proofs.Numbers.{life_is, live_le}
-use Rattle.chain_steps.proofs.Lists.{at_length}
-use Rattle.chain_steps.proofs.Frames.{Changed, Same, one_token, from_same}
-use Rattle.chain_steps.proofs.Heads.{restages}
-use Rattle.chain_steps.proofs.Letters.{messages_frame}
+use Rattle.sock_model.specs.ChainStepConditions.{HasRight}
+use Rattle.sock_model.specs.LinksInSlots.{HoldsLink, Failed}
+use Rattle.sock_model.specs.LinkHomes.{IsOwn}
+use Rattle.sock_model.specs.LawfulSockets.{Lawful}
+use Rattle.slot_steps.proofs.RuleNumbers.{life_is, live_le}
+use Rattle.chain_steps.proofs.TicketLists.{at_length}
+use Rattle.chain_steps.proofs.UntouchedByChainSteps.{Changed, Same, one_token, from_same}
+use Rattle.chain_steps.proofs.ChainHeadSteps.{restages}
+use Rattle.chain_steps.proofs.ChainLettersStay.{messages_frame}
 use Rattle.chain_steps.proofs.Delivers.{delivers_same, moves_link, looks}
 use Rattle.sock_steps.proofs.Maps.{set_at, set_twice, took_some}
-use Rattle.sock_steps.proofs.Places.{own_count, holder_lives, given_once}
-use Rattle.sock_steps.proofs.Words.{beside_all}
+use Rattle.sock_steps.proofs.LifeLinkSlotPlaces.{own_count, holder_lives, given_once}
+use Rattle.sock_steps.proofs.ChainWordChanges.{beside_all}
 use Rattle.sock_steps.proofs.RightSteps.{right_in, right_alone, right_slot, rights_after, claims_after, loose_after, right_base, right_moves}
 use Rattle.sock_steps.proofs.Steady.{looked_steady}
 use Rattle.sock_steps.proofs.SlotSteps.{look_law}
-use Rattle.sock_model.specs.sock_words.specs.Words.{vref_version}
+use Rattle.sock_model.specs.sock_words.specs.PackedWords.{vref_version}
 
 module _ {S : Type 0} (shows : S → Home) (p : Plan) (s : State S View) (o : Lawful shows p s) (id : ℕ) (v : View) (at : get_elem? s.views id ≡ some v) (x : HasRight v) where
   kl : x.right.link < p.links

@@ -9,18 +9,18 @@ use Rattle.sock_model.specs.sock_words.specs.declared.plain.Plan.{Plan}
 use Rattle.sock_model.specs.declared.chain.Entry.{Entry}
 use Rattle.sock_model.specs.declared.home.Home.{Home}
 use Rattle.sock_model.specs.declared.view.View.{View}
-use Rattle.sock_model.specs.Weights.{only}
+use Rattle.sock_model.specs.MarkWeights.{only}
 use Rattle.sock_model.specs.Entries.{on, uses, count_up}
-use Rattle.sock_model.specs.Layout.{request_index}
-use Rattle.sock_model.specs.Reads.{tokens}
-use Rattle.sock_model.specs.Requests.{free_phase, claimed_phase, used_phase, retired_phase}
+use Rattle.sock_model.specs.SocketTableLayout.{request_index}
+use Rattle.sock_model.specs.ChainLawReads.{tokens}
+use Rattle.sock_model.specs.RequestStates.{free_phase, claimed_phase, used_phase, retired_phase}
 use Rattle.sock_model.specs.Authors.{pick, Authored}
 use Rattle.sock_model.specs.Rule.{MOST_ACCEPTED, AreShort, lists_of, Rule}
-use Rattle.slot_steps.proofs.Sums.{term_le, total_bound, total_parts}
-use Rattle.slot_steps.proofs.Numbers.{only-at, only-else}
+use Rattle.slot_steps.proofs.SlotWeightSums.{term_le, total_bound, total_parts}
+use Rattle.slot_steps.proofs.RuleNumbers.{only-at, only-else}
 use Rattle.std.proofs.lemmas.List.{length-map}
-use Rattle.chain_steps.proofs.Totals.{log_full}
-use Rattle.chain_steps.proofs.Lists.{at_length}
+use Rattle.chain_steps.proofs.LogTotals.{log_full}
+use Rattle.chain_steps.proofs.TicketLists.{at_length}
 use Rattle.sock_model.specs.sock_words.specs.Totals.{total}
 
 -- ## Each author's entries stand in one list

@@ -19,27 +19,27 @@ use Rattle.sock_model.specs.declared.home.Home.TheVariants.{Link}
 use Rattle.sock_model.specs.sock_words.specs.declared.plain.Plan.{Plan}
 use Rattle.sock_model.specs.declared.view.View.{View}
 use Rattle.sock_model.specs.declared.view.Hand.{Hand}
-use Rattle.sock_model.specs.Weights.{tally, only, is_ref, is_reset, is_linked, is_freer, is_failer, is_hold, is_met, is_recycled}
+use Rattle.sock_model.specs.MarkWeights.{tally, only, is_ref, is_reset, is_linked, is_freer, is_failer, is_hold, is_met, is_recycled}
 use Rattle.sock_model.specs.Marks.{about}
-use Rattle.sock_model.specs.Layout.{request_index, place_index}
+use Rattle.sock_model.specs.SocketTableLayout.{request_index, place_index}
 use Rattle.sock_model.specs.References.{References}
-use Rattle.sock_model.specs.Seats.{newcomer, spent, joined, IsBare, Unused, below, first_view}
+use Rattle.sock_model.specs.ViewsOfSplitSeats.{newcomer, spent, joined, IsBare, Unused, below, first_view}
 use Rattle.sock_model.specs.SlotRows.{marks_of}
 use Rattle.sock_model.specs.Entries.{on}
 use Rattle.sock_model.specs.Authors.{Authored}
 use Rattle.sock_model.specs.Deliveries.{HasTaken, no_place}
 use Rattle.sock_model.specs.Fifo.{IsFifo}
-use Rattle.sock_model.specs.Reads.{took_of, memory, message, link_at, link_home, rights_on, claims_of, loose_at, tokens, waits_link, waits_of, carries, hands_of}
-use Rattle.sock_model.specs.Links.{HoldsRights, Given, Failed}
-use Rattle.sock_model.specs.Homes.{Unborn, Recycles}
-use Rattle.sock_model.specs.Lawful.{PlanFits, Lawful}
-use Rattle.slot_steps.proofs.Sums.{total-append, total-set}
-use Rattle.slot_steps.proofs.Seats.{about-append, opening_keeps, split_keeps, join_keeps, below-once}
-use Rattle.chain_steps.proofs.Lists.{Distinct}
-use Rattle.chain_steps.proofs.Frames.{chains_frame, no_token}
+use Rattle.sock_model.specs.ChainLawReads.{took_of, memory, message, link_at, link_home, rights_on, claims_of, loose_at, tokens, waits_link, waits_of, carries, hands_of}
+use Rattle.sock_model.specs.LinksInSlots.{HoldsRights, Given, Failed}
+use Rattle.sock_model.specs.LinkHomes.{Unborn, Recycles}
+use Rattle.sock_model.specs.LawfulSockets.{PlanFits, Lawful}
+use Rattle.slot_steps.proofs.SlotWeightSums.{total-append, total-set}
+use Rattle.slot_steps.proofs.SplitSeatsKeepSlot.{about-append, opening_keeps, split_keeps, join_keeps, below-once}
+use Rattle.chain_steps.proofs.TicketLists.{Distinct}
+use Rattle.chain_steps.proofs.UntouchedByChainSteps.{chains_frame, no_token}
 use Rattle.chain_steps.proofs.Gather.{gather_same}
 use Rattle.chain_steps.proofs.Authored.{takes_in, makes}
-use Rattle.chain_steps.proofs.Letters.{messages_frame}
+use Rattle.chain_steps.proofs.ChainLettersStay.{messages_frame}
 use Rattle.chain_steps.proofs.Delivers.{delivers_same, delivers_failed, taken_whole}
 use Rattle.chain_steps.proofs.Settles.{opens, settles}
 use Rattle.sock_steps.proofs.SlotFrame.{again, homes_again}

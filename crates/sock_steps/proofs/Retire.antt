@@ -9,17 +9,17 @@ use Rattle.sock_model.specs.declared.chain.Right.{Right}
 use Rattle.sock_model.specs.declared.chain.Stage.TheVariants.{Placed}
 use Rattle.sock_model.specs.declared.home.Home.{Home}
 use Rattle.sock_model.specs.declared.view.View.{View}
-use Rattle.sock_model.specs.Layout.{next_index, place_index}
-use Rattle.sock_model.specs.Links.{Failed}
+use Rattle.sock_model.specs.SocketTableLayout.{next_index, place_index}
+use Rattle.sock_model.specs.LinksInSlots.{Failed}
 use Rattle.sock_model.specs.ChainRows.{with_right, passing_right, placed_right, dropped_right, freed_right}
-use Rattle.sock_model.specs.Conditions.{HasRight, MayPlace, MayDrop}
-use Rattle.sock_model.specs.Lawful.{Lawful}
-use Rattle.chain_steps.proofs.Lists.{at_length}
+use Rattle.sock_model.specs.ChainStepConditions.{HasRight, MayPlace, MayDrop}
+use Rattle.sock_model.specs.LawfulSockets.{Lawful}
+use Rattle.chain_steps.proofs.TicketLists.{at_length}
 use Rattle.chain_steps.proofs.Frees.{Leads, to_end, to_next}
 use Rattle.sock_steps.proofs.Maps.{set_at, set_twice}
 use Rattle.sock_steps.proofs.WalkSteps.{passing_law}
 use Rattle.sock_steps.proofs.WriteSteps.{retiring_law, placing_law, dropping_law}
-use Rattle.sock_model.specs.sock_words.specs.Words.{ticket_request, ticket_generation, place_word}
+use Rattle.sock_model.specs.sock_words.specs.PackedWords.{ticket_request, ticket_generation, place_word}
 
 -- a list from which the same is taken out twice
 filter_one : (f : Right → Bool) (x : Right) (l : List Right) → filter f l ≡ l → (b : Bool) → f x ≡ b → filter f (cond b (x ∷ l) l) ≡ cond b (x ∷ l) l

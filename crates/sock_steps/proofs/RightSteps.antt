@@ -12,24 +12,24 @@ use Rattle.sock_model.specs.sock_words.specs.declared.plain.Plan.{Plan}
 use Rattle.sock_model.specs.declared.view.View.{View}
 use Rattle.sock_model.specs.declared.home.Home.{Home}
 use Rattle.sock_model.specs.Entries.{ticket}
-use Rattle.sock_model.specs.Layout.{place_index}
+use Rattle.sock_model.specs.SocketTableLayout.{place_index}
 use Rattle.sock_model.specs.Chains.{Chains}
-use Rattle.sock_model.specs.Messages.{Messages}
+use Rattle.sock_model.specs.UnplacedMessages.{Messages}
 use Rattle.sock_model.specs.Deliveries.{Delivered}
 use Rattle.sock_model.specs.ChainRows.{with_right, without_right}
-use Rattle.sock_model.specs.Reads.{took_of, waits_of, memory, message, link_at, link_home, rights_on, claims_of, loose_at, tokens}
-use Rattle.sock_model.specs.Links.{HoldsLink, HoldsRights, Failed}
-use Rattle.sock_model.specs.Homes.{IsOwn}
-use Rattle.sock_model.specs.Lawful.{Lawful}
-use Rattle.chain_steps.proofs.Lists.{at_length, filter_in, filter_at}
-use Rattle.chain_steps.proofs.Frames.{Same, Changed, one_token, no_token}
+use Rattle.sock_model.specs.ChainLawReads.{took_of, waits_of, memory, message, link_at, link_home, rights_on, claims_of, loose_at, tokens}
+use Rattle.sock_model.specs.LinksInSlots.{HoldsLink, HoldsRights, Failed}
+use Rattle.sock_model.specs.LinkHomes.{IsOwn}
+use Rattle.sock_model.specs.LawfulSockets.{Lawful}
+use Rattle.chain_steps.proofs.TicketLists.{at_length, filter_in, filter_at}
+use Rattle.chain_steps.proofs.UntouchedByChainSteps.{Same, Changed, one_token, no_token}
 use Rattle.chain_steps.proofs.Gather.{gather_all, gather_own, gather_same, nil_of}
-use Rattle.chain_steps.proofs.Few.{few_rights}
+use Rattle.chain_steps.proofs.FewRightsAndClaims.{few_rights}
 use Rattle.chain_steps.proofs.Authored.{keeps_lists}
-use Rattle.chain_steps.proofs.Letters.{messages_frame}
+use Rattle.chain_steps.proofs.ChainLettersStay.{messages_frame}
 use Rattle.chain_steps.proofs.Delivers.{delivers_same}
-use Rattle.sock_steps.proofs.Places.{holder_lives, given_unwaited}
-use Rattle.sock_steps.proofs.Words.{Beside, beside_all}
+use Rattle.sock_steps.proofs.LifeLinkSlotPlaces.{holder_lives, given_unwaited}
+use Rattle.sock_steps.proofs.ChainWordChanges.{Beside, beside_all}
 use Rattle.sock_steps.proofs.ChainFrame.{SameSlots, carried_same, links_frame, chain_frame}
 use Rattle.sock_model.specs.sock_words.specs.Totals.{total}
 

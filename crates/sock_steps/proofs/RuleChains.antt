@@ -10,10 +10,10 @@ use Rattle.sock_model.specs.declared.chain.Right.{Right}
 use Rattle.sock_model.specs.declared.chain.Stage.{Stage}
 use Rattle.sock_model.specs.declared.home.Home.{Home}
 use Rattle.sock_model.specs.declared.view.View.{View}
-use Rattle.sock_model.specs.Layout.{head_index, request_index, next_index, place_index}
+use Rattle.sock_model.specs.SocketTableLayout.{head_index, request_index, next_index, place_index}
 use Rattle.sock_model.specs.ChainRows.{with_claim, without_loose, with_right, without_right, turned_right, entry_of, queued, righted}
-use Rattle.sock_model.specs.Conditions.{MayExchange, MayEmpty, MayTurn}
-use Rattle.sock_model.specs.Lawful.{Lawful}
+use Rattle.sock_model.specs.ChainStepConditions.{MayExchange, MayEmpty, MayTurn}
+use Rattle.sock_model.specs.LawfulSockets.{Lawful}
 use Rattle.sock_model.specs.Rule.{MOST_ACCEPTED, Lasting, Rule}
 use Rattle.chain_steps.proofs.Frees.{Leads}
 use Rattle.sock_steps.proofs.AcceptSteps.{queued_law, righted_law}
@@ -21,7 +21,7 @@ use Rattle.sock_steps.proofs.ClaimSteps.{claiming_law, connecting_law}
 use Rattle.sock_steps.proofs.WalkSteps.{emptied_law, turning_law}
 use Rattle.sock_steps.proofs.WriteSteps.{freeing_law}
 use Rattle.sock_steps.proofs.RuleFrame.{lasting_in, SameNotes, word_rule, still_rule, accept_rule}
-use Rattle.sock_model.specs.sock_words.specs.Words.{ticket_request, ticket_generation, IDLE}
+use Rattle.sock_model.specs.sock_words.specs.PackedWords.{ticket_request, ticket_generation, IDLE}
 
 -- a word of a slot, and a next word or place word, is no lasting one
 low_apart : (p : Plan) (x : ℕ) → x < 6 * p.slots → ¬ Lasting p x

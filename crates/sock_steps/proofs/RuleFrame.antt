@@ -10,12 +10,12 @@ use Rattle.sock_model.specs.sock_words.specs.declared.plain.Plan.{Plan}
 use Rattle.sock_model.specs.declared.chain.Entry.{Entry}
 use Rattle.sock_model.specs.declared.home.Home.{Home}
 use Rattle.sock_model.specs.declared.view.View.{View}
-use Rattle.sock_model.specs.Layout.{all_words}
+use Rattle.sock_model.specs.SocketTableLayout.{all_words}
 use Rattle.sock_model.specs.ChainRows.{more}
-use Rattle.sock_model.specs.Seats.{spent}
-use Rattle.sock_model.specs.Lawful.{Lawful}
+use Rattle.sock_model.specs.ViewsOfSplitSeats.{spent}
+use Rattle.sock_model.specs.LawfulSockets.{Lawful}
 use Rattle.sock_model.specs.Rule.{Lasting, of_name, of_open, of_request, FoundWords, MOST_ACCEPTED, AreShort, lists_of, Rule}
-use Rattle.slot_steps.proofs.Sums.{total-set}
+use Rattle.slot_steps.proofs.SlotWeightSums.{total-set}
 
 -- where the words stand that last
 pub lasting_in : (p : Plan) (x : ℕ) → Lasting p x → (6 * p.slots ≤ x) × (x < 6 * p.slots + p.names + p.operations + p.requests)

@@ -8,12 +8,12 @@ use Rattle.sock_model.specs.sock_words.specs.declared.plain.Plan.{Plan}
 use Rattle.sock_model.specs.declared.chain.Entry.{Entry}
 use Rattle.sock_model.specs.declared.home.Home.{Home}
 use Rattle.sock_model.specs.declared.view.View.{View}
-use Rattle.sock_model.specs.Weights.{only, is_ref}
+use Rattle.sock_model.specs.MarkWeights.{only, is_ref}
 use Rattle.sock_model.specs.Marks.{about}
-use Rattle.sock_model.specs.Seats.{newcomer, spent, joined, IsBare, first_view}
-use Rattle.sock_model.specs.Lawful.{Lawful}
+use Rattle.sock_model.specs.ViewsOfSplitSeats.{newcomer, spent, joined, IsBare, first_view}
+use Rattle.sock_model.specs.LawfulSockets.{Lawful}
 use Rattle.sock_model.specs.Rule.{FoundWords, MOST_ACCEPTED, AreShort, lists_of, Rule}
-use Rattle.slot_steps.proofs.Sums.{total-set, total-append, total_bound}
+use Rattle.slot_steps.proofs.SlotWeightSums.{total-set, total-append, total_bound}
 use Rattle.sock_steps.proofs.Reseat.{splitting_law, joining_law}
 use Rattle.sock_model.specs.sock_words.specs.Totals.{total}
 

@@ -8,20 +8,20 @@ use Rattle.sock_model.specs.sock_words.specs.declared.plain.Plan.{Plan}
 use Rattle.sock_model.specs.declared.home.Home.{Home}
 use Rattle.sock_model.specs.declared.view.View.{View}
 use Rattle.sock_model.specs.declared.view.Hand.{Hand}
-use Rattle.sock_model.specs.Weights.{only, is_ref, is_any_coding, is_stage, is_recycled, is_hold, is_known, is_zero, is_coding, is_born}
-use Rattle.sock_model.specs.Layout.{tag_index, ref_index, link_index, head_index, code_index, name_index, open_index}
-use Rattle.sock_model.specs.Slots.{count}
+use Rattle.sock_model.specs.MarkWeights.{only, is_ref, is_any_coding, is_stage, is_recycled, is_hold, is_known, is_zero, is_coding, is_born}
+use Rattle.sock_model.specs.SocketTableLayout.{tag_index, ref_index, link_index, head_index, code_index, name_index, open_index}
+use Rattle.sock_model.specs.SocketSlotLaw.{count}
 use Rattle.sock_model.specs.References.{slot_facts}
 use Rattle.sock_model.specs.SlotRows.{marks_of, claimed, gave_birth, added, back, subbed, failed, recycled, freed, looked, linked, staged, coded, told_code, met, wrote, met_link}
 use Rattle.sock_model.specs.ChainRows.{with_hand, without_hand, spent_hand}
-use Rattle.sock_model.specs.Lawful.{Lawful}
+use Rattle.sock_model.specs.LawfulSockets.{Lawful}
 use Rattle.sock_model.specs.Rule.{Lasting, of_name, of_open, noting, Rule}
 use Rattle.sock_steps.proofs.SlotSteps.{KeepsRights, claim_law, add_law, sub_law, set_odd_law, recycle_lost_law, look_law, free_law, link_law, meet_law, meet_last_law, wipe_law, code_law, found_code_law, find_law, store_name_law, store_open_law}
 use Rattle.sock_steps.proofs.Birth.{reset_law, birth_law}
-use Rattle.sock_steps.proofs.End.{recycle_law}
+use Rattle.sock_steps.proofs.EndOfSlotLife.{recycle_law}
 use Rattle.sock_steps.proofs.RuleFrame.{lasting_in, Lasts, lasts_all, SameNotes, same_rule, word_rule, still_rule}
-use Rattle.sock_steps.proofs.Noting.{step_notes}
-use Rattle.sock_model.specs.sock_words.specs.Words.{vref_version, vref_nref, IDLE}
+use Rattle.sock_steps.proofs.NotingLastingWords.{step_notes}
+use Rattle.sock_model.specs.sock_words.specs.PackedWords.{vref_version, vref_nref, IDLE}
 use Rattle.sock_model.specs.sock_words.specs.Totals.{total}
 
 module _ {S : Type 0} {shows : S → Home} {p : Plan} {s : State S View} (r : Rule shows p s) (id : ℕ) (v : View) (here : get_elem? s.views id ≡ some v) (mine : v.plan ≡ p) where

@@ -7,30 +7,30 @@ use Rattle.atomic_table.proofs.Lists.{at_set}
 use Rattle.sock_model.specs.declared.home.Home.{Home}
 use Rattle.sock_model.specs.sock_words.specs.declared.plain.Plan.{Plan}
 use Rattle.sock_model.specs.declared.view.View.{View}
-use Rattle.sock_model.specs.Weights.{is_reset, is_recycled, is_hold, is_met}
-use Rattle.sock_model.specs.Layout.{head_index, request_index, next_index, place_index}
-use Rattle.sock_model.specs.Slots.{count}
+use Rattle.sock_model.specs.MarkWeights.{is_reset, is_recycled, is_hold, is_met}
+use Rattle.sock_model.specs.SocketTableLayout.{head_index, request_index, next_index, place_index}
+use Rattle.sock_model.specs.SocketSlotLaw.{count}
 use Rattle.sock_model.specs.References.{slot_facts, References}
 use Rattle.sock_model.specs.SlotRows.{marks_of}
-use Rattle.sock_model.specs.Reads.{head_at, memory, rights_on, claims_of, loose_at, tokens, link_home, message, waits_of, hands_of}
+use Rattle.sock_model.specs.ChainLawReads.{head_at, memory, rights_on, claims_of, loose_at, tokens, link_home, message, waits_of, hands_of}
 use Rattle.sock_model.specs.declared.view.Hand.{Hand}
 use Rattle.sock_model.specs.Entries.{on}
 use Rattle.sock_model.specs.Chains.{Chains}
 use Rattle.sock_model.specs.Authors.{Authored}
-use Rattle.sock_model.specs.Messages.{Messages}
+use Rattle.sock_model.specs.UnplacedMessages.{Messages}
 use Rattle.sock_model.specs.Deliveries.{HasTaken, Delivered}
-use Rattle.sock_model.specs.Links.{HoldsRights, Failed, InSlots}
-use Rattle.sock_model.specs.Homes.{Unborn, Recycles, LinkHomes}
-use Rattle.sock_model.specs.Lawful.{Lawful}
-use Rattle.slot_steps.proofs.Sums.{total-set}
-use Rattle.chain_steps.proofs.Frames.{chains_frame}
+use Rattle.sock_model.specs.LinksInSlots.{HoldsRights, Failed, InSlots}
+use Rattle.sock_model.specs.LinkHomes.{Unborn, Recycles, LinkHomes}
+use Rattle.sock_model.specs.LawfulSockets.{Lawful}
+use Rattle.slot_steps.proofs.SlotWeightSums.{total-set}
+use Rattle.chain_steps.proofs.UntouchedByChainSteps.{chains_frame}
 use Rattle.chain_steps.proofs.Gather.{gather_same}
 use Rattle.chain_steps.proofs.Authored.{keeps_lists}
-use Rattle.chain_steps.proofs.Letters.{messages_frame}
+use Rattle.chain_steps.proofs.ChainLettersStay.{messages_frame}
 use Rattle.chain_steps.proofs.Delivers.{delivers_same, delivers_failed}
 use Rattle.sock_steps.proofs.Steady.{Steady, SameChain}
-use Rattle.sock_steps.proofs.Places.{given_to, given_from, lives_to, lives_from, failed_to}
-use Rattle.sock_model.specs.sock_words.specs.Words.{IDLE}
+use Rattle.sock_steps.proofs.LifeLinkSlotPlaces.{given_to, given_from, lives_to, lives_from, failed_to}
+use Rattle.sock_model.specs.sock_words.specs.PackedWords.{IDLE}
 use Rattle.sock_model.specs.sock_words.specs.Totals.{total}
 
 -- rights that stay, and lives that are held and known as before

@@ -14,26 +14,26 @@ use Rattle.sock_model.specs.declared.chain.Right.{Right}
 use Rattle.sock_model.specs.declared.home.Home.{Home}
 use Rattle.sock_model.specs.sock_words.specs.declared.plain.Plan.{Plan}
 use Rattle.sock_model.specs.declared.view.View.{View}
-use Rattle.sock_model.specs.Weights.{only, is_ref, is_probe, is_any_coding, is_stage, is_reset, is_recycled, is_hold, is_known, is_zero, is_coding, is_met, is_born}
+use Rattle.sock_model.specs.MarkWeights.{only, is_ref, is_probe, is_any_coding, is_stage, is_reset, is_recycled, is_hold, is_known, is_zero, is_coding, is_met, is_born}
 use Rattle.sock_model.specs.Marks.{about, at, without, without_at}
-use Rattle.sock_model.specs.Layout.{tag_index, ref_index, link_index, head_index, code_index, request_index, next_index, place_index, name_index, open_index}
-use Rattle.sock_model.specs.Slots.{count}
+use Rattle.sock_model.specs.SocketTableLayout.{tag_index, ref_index, link_index, head_index, code_index, request_index, next_index, place_index, name_index, open_index}
+use Rattle.sock_model.specs.SocketSlotLaw.{count}
 use Rattle.sock_model.specs.References.{slot_facts, References}
 use Rattle.sock_model.specs.SlotRows.{marks_of, claimed, added, back, subbed, failed, recycled, freed, looked, linked, staged, coded, told_code, met, wrote, met_link}
-use Rattle.sock_model.specs.Reads.{carries}
-use Rattle.sock_model.specs.Links.{HoldsRights}
-use Rattle.sock_model.specs.Lawful.{Lawful}
-use Rattle.slot_steps.proofs.Sums.{taken, about-here}
-use Rattle.slot_steps.proofs.Frame.{about-without}
-use Rattle.slot_steps.proofs.Numbers.{only_le}
-use Rattle.slot_steps.proofs.Slots.{IsRef, probe-ref, hold-ref, probe_is}
-use Rattle.slot_steps.proofs.Kept.{conds, claim_keeps, add_ref_keeps, sub_ref_keeps, life_found, set_odd_keeps, recycle_lost_keeps, free_keeps, look_keeps}
+use Rattle.sock_model.specs.ChainLawReads.{carries}
+use Rattle.sock_model.specs.LinksInSlots.{HoldsRights}
+use Rattle.sock_model.specs.LawfulSockets.{Lawful}
+use Rattle.slot_steps.proofs.SlotWeightSums.{taken, about-here}
+use Rattle.slot_steps.proofs.OtherSlotsUntouched.{about-without}
+use Rattle.slot_steps.proofs.RuleNumbers.{only_le}
+use Rattle.slot_steps.proofs.ReferenceStepsKeepSlot.{IsRef, probe-ref, hold-ref, probe_is}
+use Rattle.slot_steps.proofs.KeptByTagSteps.{conds, claim_keeps, add_ref_keeps, sub_ref_keeps, life_found, set_odd_keeps, recycle_lost_keeps, free_keeps, look_keeps}
 use Rattle.slot_steps.proofs.Stored.{link_keeps, wipe_keeps, code_keeps, found_code_keeps, find_keeps, meet_keeps, meet_last_keeps, store_name_keeps, store_open_keeps}
-use Rattle.sock_steps.proofs.Quiet.{either_way}
+use Rattle.sock_steps.proofs.SumsAsMarksChange.{either_way}
 use Rattle.sock_steps.proofs.Steady.{Steady, NoReset, Holds, SameChain, added_steady, added_holds, subbed_steady, subbed_recycling, subbed_else, failed_steady, failed_holds, looked_steady, met_steady, met_link_steady, claimed_steady, freed_steady, lost_steady, coded_steady, told_steady, wrote_steady, staged_steady, staged_reset, linked_steady}
-use Rattle.sock_steps.proofs.Places.{counts}
+use Rattle.sock_steps.proofs.LifeLinkSlotPlaces.{counts}
 use Rattle.sock_steps.proofs.SlotFrame.{still_holds, ChainWords, slot_frame}
-use Rattle.sock_model.specs.sock_words.specs.Words.{vref_version, vref_nref, IDLE}
+use Rattle.sock_model.specs.sock_words.specs.PackedWords.{vref_version, vref_nref, IDLE}
 use Rattle.sock_model.specs.sock_words.specs.Totals.{total}
 
 -- the rights of the seat that have their life in slot i keep a reference to it

@@ -6,17 +6,17 @@ use Rattle.sock_model.specs.declared.marks.Mark.{Mark}
 use Rattle.sock_model.specs.declared.marks.Mark.TheVariants.{Claimed, Recycling, Hold, Probe, Zero, Coding, Tried, Known, Saw, Failer, Stored, Told, Freer, Met}
 use Rattle.sock_model.specs.declared.marks.SlotMark.{SlotMark}
 use Rattle.sock_model.specs.declared.view.View.{View}
-use Rattle.sock_model.specs.Weights.{only, is_failer, is_freer, is_linked, is_met, is_hold, is_zero, is_coding, is_stage, is_recycling, is_recycled, is_reset, is_waiting}
+use Rattle.sock_model.specs.MarkWeights.{only, is_failer, is_freer, is_linked, is_met, is_hold, is_zero, is_coding, is_stage, is_recycling, is_recycled, is_reset, is_waiting}
 use Rattle.sock_model.specs.Marks.{about, at, without, without_at}
 use Rattle.sock_model.specs.SlotRows.{marks_of, claimed, added, subbed, failed, recycled, freed, looked, linked, staged, coded, told_code, met, wrote, met_link}
-use Rattle.sock_model.specs.Reads.{waits_link, waits_of}
-use Rattle.slot_steps.proofs.Sums.{taken_as, about-here, about-other}
-use Rattle.slot_steps.proofs.Frame.{about-without, about-without_else, passes-without, mark-taken}
-use Rattle.slot_steps.proofs.Kept.{conds}
-use Rattle.slot_steps.proofs.Codes.{coding_as}
-use Rattle.slot_steps.proofs.Slots.{IsRef, zero_is, stage_is, any_recycled}
-use Rattle.sock_steps.proofs.Quiet.{either_way, Less, More, less_add, more_add, less_all, more_all, less_without, more_without, Quiet, quiet_linked, quiet_freer, quiet_failer, quiet_reset, waits-without}
-use Rattle.sock_model.specs.sock_words.specs.Words.{vref_version, vref_nref}
+use Rattle.sock_model.specs.ChainLawReads.{waits_link, waits_of}
+use Rattle.slot_steps.proofs.SlotWeightSums.{taken_as, about-here, about-other}
+use Rattle.slot_steps.proofs.OtherSlotsUntouched.{about-without, about-without_else, passes-without, mark-taken}
+use Rattle.slot_steps.proofs.KeptByTagSteps.{conds}
+use Rattle.slot_steps.proofs.CodeStepsKeepLaw.{coding_as}
+use Rattle.slot_steps.proofs.ReferenceStepsKeepSlot.{IsRef, zero_is, stage_is, any_recycled}
+use Rattle.sock_steps.proofs.SumsAsMarksChange.{either_way, Less, More, less_add, more_add, less_all, more_all, less_without, more_without, Quiet, quiet_linked, quiet_freer, quiet_failer, quiet_reset, waits-without}
+use Rattle.sock_model.specs.sock_words.specs.PackedWords.{vref_version, vref_nref}
 use Rattle.sock_model.specs.sock_words.specs.Totals.{total}
 
 -- of lives, links and claims

@@ -11,21 +11,21 @@ use Rattle.sock_model.specs.declared.chain.Stage.TheVariants.{Writes, Placed, Pa
 use Rattle.sock_model.specs.declared.home.Home.{Home}
 use Rattle.sock_model.specs.sock_words.specs.declared.plain.Plan.{Plan}
 use Rattle.sock_model.specs.declared.view.View.{View}
-use Rattle.sock_model.specs.Layout.{head_index, next_index}
-use Rattle.sock_model.specs.Memory.{Memory}
+use Rattle.sock_model.specs.SocketTableLayout.{head_index, next_index}
+use Rattle.sock_model.specs.ChainMemory.{Memory}
 use Rattle.sock_model.specs.Chains.{Chains}
-use Rattle.sock_model.specs.Reads.{head_at, memory, tokens}
+use Rattle.sock_model.specs.ChainLawReads.{head_at, memory, tokens}
 use Rattle.sock_model.specs.ChainRows.{with_right, without_right, turned_right}
-use Rattle.sock_model.specs.Conditions.{HasRight, MayEmpty, MayTurn}
-use Rattle.sock_model.specs.Lawful.{Lawful}
-use Rattle.chain_steps.proofs.Frames.{Changed}
-use Rattle.chain_steps.proofs.Heads.{empties_head, begins_walk, passes_on, reads_back}
+use Rattle.sock_model.specs.ChainStepConditions.{HasRight, MayEmpty, MayTurn}
+use Rattle.sock_model.specs.LawfulSockets.{Lawful}
+use Rattle.chain_steps.proofs.UntouchedByChainSteps.{Changed}
+use Rattle.chain_steps.proofs.ChainHeadSteps.{empties_head, begins_walk, passes_on, reads_back}
 use Rattle.chain_steps.proofs.Nexts.{turn_slot, turns_on, turns_last}
-use Rattle.sock_steps.proofs.Places.{holder_lives}
-use Rattle.sock_steps.proofs.Words.{beside_all, head_beside, head_changed, next_same, request_same, place_same, next_beside, next_head, next_changed, next_request, next_place}
+use Rattle.sock_steps.proofs.LifeLinkSlotPlaces.{holder_lives}
+use Rattle.sock_steps.proofs.ChainWordChanges.{beside_all, head_beside, head_changed, next_same, request_same, place_same, next_beside, next_head, next_changed, next_request, next_place}
 use Rattle.sock_steps.proofs.ChainFrame.{slots_in, one_slot}
 use Rattle.sock_steps.proofs.RightSteps.{right_in, right_alone, rights_after, claims_after, loose_after, right_step, right_goes}
-use Rattle.sock_model.specs.sock_words.specs.Words.{ticket_request, UNCONNECTED, IDLE}
+use Rattle.sock_model.specs.sock_words.specs.PackedWords.{ticket_request, UNCONNECTED, IDLE}
 
 not_writes : (s a : Stage) → ((now : ℕ) → a ≢ Writes now) → s ≡ a → (now : ℕ) → s ≢ Writes now
 not_writes s a h e now q = h now (sym e ∙ q)

@@ -12,17 +12,17 @@ use Rattle.sock_model.specs.declared.chain.Stage.{Stage}
 use Rattle.sock_model.specs.declared.chain.Stage.TheVariants.{Writes, Placed, Passes, Empties, Walks, Turns}
 use Rattle.sock_model.specs.declared.home.Home.{Home}
 use Rattle.sock_model.specs.declared.view.View.{View}
-use Rattle.sock_model.specs.Weights.{only}
+use Rattle.sock_model.specs.MarkWeights.{only}
 use Rattle.sock_model.specs.Entries.{on}
-use Rattle.sock_model.specs.Tokens.{Tokens}
-use Rattle.sock_model.specs.Memory.{Memory}
-use Rattle.sock_model.specs.Writing.{Counts, OnWalk, InStage, Held}
-use Rattle.sock_model.specs.Reads.{memory, tokens}
+use Rattle.sock_model.specs.ChainTokens.{Tokens}
+use Rattle.sock_model.specs.ChainMemory.{Memory}
+use Rattle.sock_model.specs.LinkWritingState.{Counts, OnWalk, InStage, Held}
+use Rattle.sock_model.specs.ChainLawReads.{memory, tokens}
 use Rattle.sock_model.specs.Authors.{pick, Authored}
-use Rattle.sock_model.specs.Lawful.{Lawful}
-use Rattle.slot_steps.proofs.Numbers.{only-at, only-else}
-use Rattle.chain_steps.proofs.Heads.{held_of}
-use Rattle.chain_steps.proofs.Letters.{writes_room}
+use Rattle.sock_model.specs.LawfulSockets.{Lawful}
+use Rattle.slot_steps.proofs.RuleNumbers.{only-at, only-else}
+use Rattle.chain_steps.proofs.ChainHeadSteps.{held_of}
+use Rattle.chain_steps.proofs.ChainLettersStay.{writes_room}
 use Rattle.sock_steps.proofs.RightSteps.{right_in, right_alone}
 use Rattle.sock_steps.proofs.Positions.{spread, spread_parts}
 use Rattle.sock_model.specs.sock_words.specs.Totals.{total}

@@ -13,27 +13,27 @@ use Rattle.sock_model.specs.declared.home.Home.{Home}
 use Rattle.sock_model.specs.declared.home.Home.TheVariants.{Empty, Link, Message}
 use Rattle.sock_model.specs.sock_words.specs.declared.plain.Plan.{Plan}
 use Rattle.sock_model.specs.declared.view.View.{View}
-use Rattle.sock_model.specs.Layout.{request_index, place_index}
+use Rattle.sock_model.specs.SocketTableLayout.{request_index, place_index}
 use Rattle.sock_model.specs.Entries.{ticket, on, nth}
-use Rattle.sock_model.specs.Tokens.{Tokens}
-use Rattle.sock_model.specs.Writing.{InStage}
-use Rattle.sock_model.specs.Messages.{InHand}
-use Rattle.sock_model.specs.Reads.{letter_of, took_of, as_link, shown, memory, message, link_home, tokens}
+use Rattle.sock_model.specs.ChainTokens.{Tokens}
+use Rattle.sock_model.specs.LinkWritingState.{InStage}
+use Rattle.sock_model.specs.UnplacedMessages.{InHand}
+use Rattle.sock_model.specs.ChainLawReads.{letter_of, took_of, as_link, shown, memory, message, link_home, tokens}
 use Rattle.sock_model.specs.ChainRows.{with_right, placed_right, dropped_right, taken_right}
-use Rattle.sock_model.specs.Conditions.{MayPlace, MayDrop, MayTake}
-use Rattle.sock_model.specs.Links.{Failed}
-use Rattle.sock_model.specs.Lawful.{Lawful}
-use Rattle.chain_steps.proofs.Lists.{at_some, at_length, ticket_at_is}
-use Rattle.chain_steps.proofs.Frames.{Changed, one_token, in_size, from_same}
-use Rattle.chain_steps.proofs.Heads.{held_of, places_one, restages, slot_is}
+use Rattle.sock_model.specs.ChainStepConditions.{MayPlace, MayDrop, MayTake}
+use Rattle.sock_model.specs.LinksInSlots.{Failed}
+use Rattle.sock_model.specs.LawfulSockets.{Lawful}
+use Rattle.chain_steps.proofs.TicketLists.{at_some, at_length, ticket_at_is}
+use Rattle.chain_steps.proofs.UntouchedByChainSteps.{Changed, one_token, in_size, from_same}
+use Rattle.chain_steps.proofs.ChainHeadSteps.{held_of, places_one, restages, slot_is}
 use Rattle.chain_steps.proofs.Frees.{Leads, to_end, to_next, frees, retires, now_slot}
-use Rattle.chain_steps.proofs.Letters.{lets_go, takes_letter, writes_room}
+use Rattle.chain_steps.proofs.ChainLettersStay.{lets_go, takes_letter, writes_room}
 use Rattle.chain_steps.proofs.Delivers.{places_whole, drops, delivers_same, moves_link}
 use Rattle.sock_steps.proofs.Maps.{set_at}
-use Rattle.sock_steps.proofs.Words.{beside_all, request_beside, request_head, request_changed, request_next, request_place, place_beside, place_head, place_changed, place_next, place_request}
+use Rattle.sock_steps.proofs.ChainWordChanges.{beside_all, request_beside, request_head, request_changed, request_next, request_place, place_beside, place_head, place_changed, place_next, place_request}
 use Rattle.sock_steps.proofs.ChainFrame.{slots_in}
 use Rattle.sock_steps.proofs.RightSteps.{right_in, right_alone, rights_after, claims_after, loose_after, right_base, right_step}
-use Rattle.sock_model.specs.sock_words.specs.Words.{ticket_request, ticket_generation, place_word}
+use Rattle.sock_model.specs.sock_words.specs.PackedWords.{ticket_request, ticket_generation, place_word}
 
 leads_no_writes : (last now any : ℕ) (a b : Stage) → Leads last a now b → a ≢ Writes any
 leads_no_writes last now any a b (to_end x e) q = let z : Placed now ≡ Writes any = q in cc

@@ -1,16 +1,16 @@
 -- An id that is addressed: a reference to its life, or to the word alone, which goes again.
 use Rattle.std.proofs.Common.{◌≡◌, ℕ, ◌<◌, ◌≤◌, Bool, true, false, [], ◌∷◌, lt-ltb, sym, ap, ◌∙◌, subst, arith}
-use Rattle.sock_words.specs.Words.{socket_id_version, socket_id_slot, vref_version}
+use Rattle.sock_words.specs.PackedWords.{socket_id_version, socket_id_slot, vref_version}
 use Rattle.sock_model.specs.declared.marks.Mark.{Mark}
 use Rattle.sock_model.specs.declared.marks.Mark.TheVariants.{Hold, Probe, Saw}
 use Rattle.sock_model.specs.declared.view.View.{View}
-use Rattle.sock_model.specs.Weights.{is_probe, is_hold, is_known, is_saw}
+use Rattle.sock_model.specs.MarkWeights.{is_probe, is_hold, is_known, is_saw}
 use Rattle.sock_model.specs.SlotRows.{marks_of, knows, added}
-use Rattle.sock_rule.specs.slot_steps.proofs.Numbers.{only-same}
-use Rattle.sock_rule.specs.Becoming.{Became, Goes, probe_goes, hold_goes}
-use Rattle.sock_rule.proofs.Becoming.{then_, counts_as, becomes, added_marks}
-use Rattle.sock_table.specs.Refs.{GaveBack}
-use Rattle.sock_table.specs.Answers.{Held, GoneFrom, NoneLater}
+use Rattle.sock_rule.specs.slot_steps.proofs.RuleNumbers.{only-same}
+use Rattle.sock_rule.specs.MarksComeAndGo.{Became, Goes, probe_goes, hold_goes}
+use Rattle.sock_rule.proofs.MarksComeAndGo.{then_, counts_as, becomes, added_marks}
+use Rattle.sock_table.specs.ReferenceCalls.{GaveBack}
+use Rattle.sock_table.specs.ReferenceAnswers.{Held, GoneFrom, NoneLater}
 
 module _ (i found id : ℕ) (u a : View) (is : a ≡ added i found (knows i (vref_version found) u) u) (at_id : i ≡ socket_id_slot id) where
   -- the version is the id's, which the seat knows

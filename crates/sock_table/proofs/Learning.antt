@@ -3,26 +3,26 @@ use Rattle.std.proofs.Common.{◌≡◌, ◌≢◌, ℕ, ◌+◌, ◌<◌, cond,
 use mathlib.Core.Logic.{dite}
 use native.Mathlib.Decide.{ℕ_discrete}
 use Rattle.sock_words.specs.declared.plain.Plan.{Plan}
-use Rattle.sock_words.specs.Words.{socket_id_version, socket_id_slot}
+use Rattle.sock_words.specs.PackedWords.{socket_id_version, socket_id_slot}
 use Rattle.sock_model.specs.declared.marks.Mark.TheVariants.{Saw, Told, Met}
 use Rattle.sock_model.specs.declared.view.View.{View}
-use Rattle.sock_model.specs.Weights.{is_ref, is_probe, is_claimed, is_any_coding, is_zero, is_met, is_told}
+use Rattle.sock_model.specs.MarkWeights.{is_ref, is_probe, is_claimed, is_any_coding, is_zero, is_met, is_told}
 use Rattle.sock_model.specs.Marks.{about, without_pass}
-use Rattle.sock_model.specs.Seats.{carrier, joined}
+use Rattle.sock_model.specs.ViewsOfSplitSeats.{carrier, joined}
 use Rattle.sock_model.specs.SlotRows.{marks_of, met_link, told_code}
 use Rattle.sock_model.specs.ChainRows.{without_hand, spent_hand}
-use Rattle.sock_rule.specs.slot_steps.proofs.Sums.{total-append}
-use Rattle.sock_rule.specs.Becoming.{Became}
-use Rattle.sock_rule.specs.Faults.{fault_found, fault_left}
-use Rattle.sock_rule.specs.Hands.{hand_of}
+use Rattle.sock_rule.specs.slot_steps.proofs.SlotWeightSums.{total-append}
+use Rattle.sock_rule.specs.MarksComeAndGo.{Became}
+use Rattle.sock_rule.specs.LinkFaultNotes.{fault_found, fault_left}
+use Rattle.sock_rule.specs.LinksInHand.{hand_of}
 use Rattle.sock_rule.specs.OnTable.{is_put, put_in}
-use Rattle.sock_rule.proofs.Becoming.{then_, becomes, adds_mark, met_marks}
-use Rattle.sock_table.specs.Refs.{IsBetween, SameTokens, SameNotes}
-use Rattle.sock_table.specs.Answers.{LinkOf, CodeOf}
-use Rattle.sock_table.proofs.Ending.{left_found}
-use Rattle.sock_table.proofs.Joining.{sum_of}
-use Rattle.sock_table.proofs.Making.{marks_same, pass_alone, spent_alone}
-use Rattle.sock_table.proofs.Quiet.{between}
+use Rattle.sock_rule.proofs.MarksComeAndGo.{then_, becomes, adds_mark, met_marks}
+use Rattle.sock_table.specs.ReferenceCalls.{IsBetween, SameTokens, SameNotes}
+use Rattle.sock_table.specs.ReferenceAnswers.{LinkOf, CodeOf}
+use Rattle.sock_table.proofs.SeatViewEndingLife.{left_found}
+use Rattle.sock_table.proofs.JoiningSocketSeats.{sum_of}
+use Rattle.sock_table.proofs.LifeMaking.{marks_same, pass_alone, spent_alone}
+use Rattle.sock_table.proofs.QuietBetweenCalls.{between}
 use Rattle.sock_words.specs.Totals.{total}
 
 module _ (p : Plan) (i id : ℕ) (v w : View) (at_id : i ≡ socket_id_slot id) where

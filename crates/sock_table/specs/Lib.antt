@@ -1,6 +1,6 @@
-pub mod Refs
-pub mod Answers
-pub mod Passes
-pub mod Named
-pub mod Closed
+pub mod ReferenceCalls
+pub mod ReferenceAnswers
+pub mod LinkPasses
+pub mod NamesStoredAndFound
+pub mod ClosedSocketTable
 pub use Rattle.sock_rule.specs.slot_steps

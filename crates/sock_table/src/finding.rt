@@ -1,11 +1,11 @@
 // The words of names and of operations, by which one seat tells another of a socket.
 ghost use Rattle.std.specs.Prelude.{◌≡◌, ◌+◌, ◌<◌};
 ghost use Rattle.std.specs.Option.{ForSome};
-ghost use Rattle.sock_model.specs.Layout.{name_index, open_index};
-ghost use Rattle.sock_rule.specs.Rows.{PutAt};
-ghost use Rattle.sock_rule.specs.Seated.{IsSeat};
-ghost use Rattle.sock_table.specs.Refs.{IsBetween, SameTokens, Knows};
-ghost use Rattle.sock_table.specs.Named.{Found, NotedBy, NotedAs};
+ghost use Rattle.sock_model.specs.SocketTableLayout.{name_index, open_index};
+ghost use Rattle.sock_rule.specs.NotesBesideRows.{PutAt};
+ghost use Rattle.sock_rule.specs.SocketSeatSplits.{IsSeat};
+ghost use Rattle.sock_table.specs.ReferenceCalls.{IsBetween, SameTokens, Knows};
+ghost use Rattle.sock_table.specs.NamesStoredAndFound.{Found, NotedBy, NotedAs};
 
 use crate::table::SockTable;
 use sock_io::Out;

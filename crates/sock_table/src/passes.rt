@@ -1,13 +1,13 @@
 // The passes of links, and the sockets that they become.
 ghost use Rattle.std.specs.Prelude.{◌≡◌, ◌<◌, ℕ, [], ◌∷◌, IfOk, IfErr};
-ghost use Rattle.sock_words.specs.Words.{socket_id_version, socket_id_slot};
-ghost use Rattle.sock_model.specs.Weights.{is_known, is_tried};
+ghost use Rattle.sock_words.specs.PackedWords.{socket_id_version, socket_id_slot};
+ghost use Rattle.sock_model.specs.MarkWeights.{is_known, is_tried};
 ghost use Rattle.sock_model.specs.SlotRows.{marks_of};
-ghost use Rattle.sock_rule.specs.Seated.{IsSeat};
-ghost use Rattle.sock_table.specs.Refs.{IsBetween, SameTokens, SameNotes};
-ghost use Rattle.sock_table.specs.Passes.{IsPass, Claimed, Made, TriedTo, Created};
-ghost use Rattle.sock_table.specs.Closed.{IsDoneSeat};
-ghost use Rattle.sock_model.specs.Seats.{joined};
+ghost use Rattle.sock_rule.specs.SocketSeatSplits.{IsSeat};
+ghost use Rattle.sock_table.specs.ReferenceCalls.{IsBetween, SameTokens, SameNotes};
+ghost use Rattle.sock_table.specs.LinkPasses.{IsPass, Claimed, Made, TriedTo, Created};
+ghost use Rattle.sock_table.specs.ClosedSocketTable.{IsDoneSeat};
+ghost use Rattle.sock_model.specs.ViewsOfSplitSeats.{joined};
 
 use crate::table::SockTable;
 use sock_io::Out;

@@ -1,15 +1,15 @@
 // References: addressing an id, and giving a reference back.
 ghost use Rattle.std.specs.Prelude.{◌≡◌, ◌≢◌, ◌+◌, ◌-◌, ◌%◌, ◌<◌, ◌≤◌, ℕ, true, false, [], ◌∷◌, List, IfOk, IfErr};
-ghost use Rattle.sock_words.specs.Words.{socket_id_version, socket_id_slot, vref_version, vref_nref};
+ghost use Rattle.sock_words.specs.PackedWords.{socket_id_version, socket_id_slot, vref_version, vref_nref};
 ghost use Rattle.sock_model.specs.declared.marks.Mark.{Mark};
 ghost use Rattle.sock_model.specs.declared.marks.Mark.TheVariants.{Hold, Zero};
-ghost use Rattle.sock_model.specs.Weights.{is_ref, is_zero, is_any_coding};
+ghost use Rattle.sock_model.specs.MarkWeights.{is_ref, is_zero, is_any_coding};
 ghost use Rattle.sock_model.specs.SlotRows.{marks_of};
-ghost use Rattle.sock_rule.specs.Seated.{IsSeat};
-ghost use Rattle.sock_rule.specs.Becoming.{Became, Goes};
-ghost use Rattle.sock_table.specs.Refs.{IsBetween, Rests, EndedBy, GaveBack, MayAddress};
-ghost use Rattle.sock_table.specs.Answers.{is_freed, IfLive, NoneLater, Holds, Held, GoneFrom, LookedAt, LinkOf, CodeOf, FailedBy, FoundFailed};
-ghost use Rattle.sock_model.specs.Conditions.{KeepsRights};
+ghost use Rattle.sock_rule.specs.SocketSeatSplits.{IsSeat};
+ghost use Rattle.sock_rule.specs.MarksComeAndGo.{Became, Goes};
+ghost use Rattle.sock_table.specs.ReferenceCalls.{IsBetween, Rests, EndedBy, GaveBack, MayAddress};
+ghost use Rattle.sock_table.specs.ReferenceAnswers.{is_freed, IfLive, NoneLater, Holds, Held, GoneFrom, LookedAt, LinkOf, CodeOf, FailedBy, FoundFailed};
+ghost use Rattle.sock_model.specs.ChainStepConditions.{KeepsRights};
 
 use crate::table::SockTable;
 use sock_io::Out;

@@ -1,2 +1,2 @@
 pub mod HexText
-pub mod KindNames
+pub mod KindNameLookup

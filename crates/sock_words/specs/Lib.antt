@@ -1,7 +1,7 @@
-pub mod Codes
+pub mod ErrorCodes
 pub mod KindText
 pub mod OutcomeText
-pub mod Printed
-pub mod Shape
+pub mod PrintedWords
+pub mod PlainShape
 pub mod Totals
-pub mod Words
+pub mod PackedWords

@@ -3,7 +3,7 @@ use Rattle.std.specs.Prelude.{ℕ, List, ◌++◌, codes, decimal}
 use Rattle.std.specs.Fmt.{signed_decimal}
 use Rattle.sock_words.specs.declared.outcome.Outcome.{Outcome}
 use Rattle.sock_words.specs.declared.outcome.Outcome.TheVariants.{Opened, SlotsFull, Unopened, Gone, Placed, Dropped, Full, Answered, Peer, CallFailed, Held, Freed, Kept, NotHeld, Failed, Already, Expired, Queued, Late, Crowded, Joined, NotBegun}
-use Rattle.sock_words.specs.Printed.{word, hex_text, word_text}
+use Rattle.sock_words.specs.PrintedWords.{word, hex_text, word_text}
 
 -- an outcome in words
 abbrev pub outcome_text : Outcome → List ℕ

@@ -1,5 +1,5 @@
 ghost use Rattle.std.specs.Prelude.{◌≡◌, ◌↔◌, IsTrue};
-ghost use Rattle.sock_words.specs.Words.{at_word, no_at, at_word_first, at_word_slot, at_word_link, at_word_attempt, FitsAtWord, IsAtWord, OnlyAtWord};
+ghost use Rattle.sock_words.specs.PackedWords.{at_word, no_at, at_word_first, at_word_slot, at_word_link, at_word_attempt, FitsAtWord, IsAtWord, OnlyAtWord};
 
 /// Where the last attempt of a call went: the call id by its slot and first version, the link, and
 /// the number of the attempt. A link's reader finds the calls that still wait for it by this.

@@ -1,5 +1,5 @@
 ghost use Rattle.std.specs.Prelude.{◌≡◌};
-ghost use Rattle.sock_words.specs.Words.{call_id, id_slot, id_first, IsCallId};
+ghost use Rattle.sock_words.specs.PackedWords.{call_id, id_slot, id_first, IsCallId};
 
 /// What a frame's meta names a call by (baidu_std.md, `correlation_id`): the slot of the call's id in
 /// bits 32 to 63, and in bits 0 to 31 a version of its range, the first for the call itself and one

@@ -1,5 +1,5 @@
 ghost use Rattle.std.specs.Prelude.{◌≡◌};
-ghost use Rattle.sock_words.specs.Words.{id_word, id_word_first, id_word_state, id_word_range, id_word_attempt, id_word_oldest, id_word_second, FitsIdWord, IsIdWord, OnlyIdWord};
+ghost use Rattle.sock_words.specs.PackedWords.{id_word, id_word_first, id_word_state, id_word_range, id_word_attempt, id_word_oldest, id_word_second, FitsIdWord, IsIdWord, OnlyIdWord};
 
 /// The word of a call id's slot. A call id owns a range of versions from its first one on, one
 /// for the whole call and one for each attempt (bRPC's bthread_id.md). An error that comes while

@@ -1,6 +1,6 @@
 ghost use Rattle.std.specs.Prelude.{Some};
 ghost use Rattle.sock_words.specs.OutcomeText.{outcome_text};
-ghost use Rattle.sock_words.specs.Printed.{hex_text};
+ghost use Rattle.sock_words.specs.PrintedWords.{hex_text};
 
 use crate::hex_digits::HexDigits;
 use crate::outcome::Outcome;

@@ -1,5 +1,5 @@
 ghost use Rattle.std.specs.Prelude.{◌≡◌, ◌<◌, ◌-◌, ◌^◌, ◌↔◌, IsTrue};
-ghost use Rattle.sock_words.specs.Words.{place_word, no_place, place_word_dropped, place_word_link, place_word_position, IsPlaceWord, OnlyPlaceWord};
+ghost use Rattle.sock_words.specs.PackedWords.{place_word, no_place, place_word_dropped, place_word_link, place_word_position, IsPlaceWord, OnlyPlaceWord};
 
 /// Where a message stands in the order of a link, and whether it was dropped. Positions are counted
 /// from 0 per link, over placed and dropped messages alike.

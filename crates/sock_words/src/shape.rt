@@ -1,5 +1,5 @@
 ghost use Rattle.std.specs.Prelude.{◌≡◌};
-ghost use Rattle.sock_words.specs.Shape.{plain_shape};
+ghost use Rattle.sock_words.specs.PlainShape.{plain_shape};
 
 /// The shape of a link: how its puts behave, and what stands behind it. Puts are numbered from 1.
 #[derive(Clone, Copy, Debug)]

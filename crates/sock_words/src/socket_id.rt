@@ -1,5 +1,5 @@
 ghost use Rattle.std.specs.Prelude.{◌≡◌};
-ghost use Rattle.sock_words.specs.Words.{socket_id, socket_id_version, socket_id_slot, IsSocketId, OnlySocketId};
+ghost use Rattle.sock_words.specs.PackedWords.{socket_id, socket_id_version, socket_id_slot, IsSocketId, OnlySocketId};
 
 /// The word of an `open` that got no socket. One that got one stores the socket's id, plus 1.
 pub const NO_SOCKET: u64 = u64::MAX;

@@ -1,5 +1,5 @@
 ghost use Rattle.std.specs.Prelude.{◌≡◌};
-ghost use Rattle.sock_words.specs.Words.{ticket, ticket_idle, ticket_generation, ticket_request, FitsTicket, IsTicket, OnlyTicket};
+ghost use Rattle.sock_words.specs.PackedWords.{ticket, ticket_idle, ticket_generation, ticket_request, FitsTicket, IsTicket, OnlyTicket};
 
 /// A ticket: the mark of a writer's request in the head of a write chain (bRPC's io.md). It has the
 /// slot of the request and the generation in which the request was claimed, so that no ticket comes

@@ -6,17 +6,17 @@ use native.Mathlib.Decide.{ℕ_discrete}
 use Rattle.sock_words.specs.declared.plain.Plan.{Plan}
 use Rattle.corr_core.specs.Word.{Parts, made_word}
 use Rattle.corr_core.specs.declared.marks.Plan.{Plan as IdPlan}
-use Rattle.seat_programs.specs.id_rule.specs.Lawful.{all_words}
+use Rattle.seat_programs.specs.id_rule.specs.LawfulIdTable.{all_words}
 use Rattle.sock_message.specs.Asked.{Asked}
 use Rattle.seat_programs.specs.declared.task.Task.{Task}
 use Rattle.seat_programs.specs.Asides.{Step, Found}
 use Rattle.call_stories.specs.Scenes.{Birth, Scene, IsBorn}
 use Rattle.call_stories.specs.Says.{Claims, Mark, MayAside}
-use Rattle.call_stories.specs.Stories.{word_at, LiesAt, SlotFits, HasPassed, IsCurrent, AreApart, AllApart, BirthsLaw, IsBehind, KnowsStep}
+use Rattle.call_stories.specs.CallStories.{word_at, LiesAt, SlotFits, HasPassed, IsCurrent, AreApart, AllApart, BirthsLaw, IsBehind, KnowsStep}
 use Rattle.call_stories.proofs.Effects.{SameAt}
 use Rattle.story_steps.proofs.Births.{Turn, keeps, ends, makes, IsMake, IsEnd, turn, there_still}
-use Rattle.call_stories.specs.Below.outcome_stories.specs.Stories.{In}
-use Rattle.sock_words.specs.Words.{call_id, id_slot, id_first}
+use Rattle.call_stories.specs.Below.outcome_stories.specs.OperationStories.{In}
+use Rattle.sock_words.specs.PackedWords.{call_id, id_slot, id_first}
 
 -- ## Ids apart
 

@@ -5,18 +5,18 @@ use native.Mathlib.Decide.{ℕ_discrete}
 use Rattle.sock_words.specs.declared.plain.Plan.{Plan}
 use Rattle.corr_core.specs.Word.{Parts, parts, made_word, posted_word, unlocked_word, free_word}
 use Rattle.corr_core.specs.declared.marks.Plan.{Plan as IdPlan}
-use Rattle.seat_programs.specs.id_rule.specs.Lawful.{id_index, all_words}
+use Rattle.seat_programs.specs.id_rule.specs.LawfulIdTable.{id_index, all_words}
 use Rattle.seat_programs.specs.declared.task.Task.{Task}
 use Rattle.seat_programs.specs.Asides.{Step, ClaimId, PutCall, MakeId, LockId, PostId, UnlockId, EndId, FreeId, TakeCall, Found}
-use Rattle.seat_programs.specs.Posts.{packed}
-use Rattle.call_stories.specs.Below.id_runs.proofs.Keeps.{parts_packed}
+use Rattle.seat_programs.specs.PostPrograms.{packed}
+use Rattle.call_stories.specs.Below.id_runs.proofs.AsidesKeepingIdRule.{parts_packed}
 use Rattle.call_stories.specs.Scenes.{Birth, Scene}
 use Rattle.call_stories.specs.Says.{Mark, MayAside}
-use Rattle.call_stories.specs.Stories.{word_at, SlotFits, HasPassed, IsCurrent, IsBehind, KnowsStep}
-use Rattle.call_stories.proofs.Posts.{locked_parts}
+use Rattle.call_stories.specs.CallStories.{word_at, SlotFits, HasPassed, IsCurrent, IsBehind, KnowsStep}
+use Rattle.call_stories.proofs.PostLoopCauses.{locked_parts}
 use Rattle.call_stories.proofs.Effects.{Touches, beside, word_is, word_stays}
-use Rattle.story_steps.proofs.Slots.{queued_parts}
-use Rattle.sock_words.specs.Words.{id_slot, id_first, bit}
+use Rattle.story_steps.proofs.IdSlotsBehindAsides.{queued_parts}
+use Rattle.sock_words.specs.PackedWords.{id_slot, id_first, bit}
 
 -- how the word of a slot changes: the range stays, or the step ends it, or makes one
 pub data Turn (Made Ended : Type 0) (old new : Parts) : Type 0 where

@@ -5,15 +5,15 @@ use lib.ListN.{get_elem?}
 use Rattle.sock_words.specs.declared.plain.Plan.{Plan}
 use Rattle.sock_model.specs.declared.view.View.{View}
 use Rattle.seat_programs.specs.Programs.{Program, Do, Write, Round}
-use Rattle.seat_programs.specs.Sends.{block}
-use Rattle.seat_programs.specs.Rounds.{round, first_step}
+use Rattle.seat_programs.specs.SendAndWritePrograms.{block}
+use Rattle.seat_programs.specs.LoopRounds.{round, first_step}
 use Rattle.seat_programs.specs.Cores.{Core}
 use Rattle.seat_programs.specs.Ticks.{Moment}
-use Rattle.story_steps.specs.Below.programs_allowed.specs.program_steps.specs.GoesOn.{GoesOn}
-use Rattle.story_steps.specs.Below.programs_allowed.specs.program_steps.specs.Sound.{Sound}
-use Rattle.story_steps.specs.Below.programs_allowed.specs.program_steps.proofs.Cases as cases
-use Rattle.story_steps.specs.Below.programs_allowed.specs.program_steps.proofs.Cases.{elem_there}
-use Rattle.story_ticks.proofs.Ticks.{AllowsDo}
+use Rattle.story_steps.specs.Below.programs_allowed.specs.program_steps.specs.ProgramGoesOn.{GoesOn}
+use Rattle.story_steps.specs.Below.programs_allowed.specs.program_steps.specs.SoundSeats.{Sound}
+use Rattle.story_steps.specs.Below.programs_allowed.specs.program_steps.proofs.TickCases as cases
+use Rattle.story_steps.specs.Below.programs_allowed.specs.program_steps.proofs.TickCases.{elem_there}
+use Rattle.story_ticks.proofs.TicksKeepCallStory.{AllowsDo}
 
 module _ (p : Plan) where
   step_allows : (v : View) (program : Program) → GoesOn p v program → AllowsDo p program

@@ -6,24 +6,24 @@ use Rattle.sock_words.specs.declared.plain.Plan.{Plan}
 use Rattle.sock_words.specs.declared.outcome.Outcome.{Outcome}
 use Rattle.corr_core.specs.Word.{parts, made_word, posted_word, unlocked_word, free_word}
 use Rattle.corr_core.specs.declared.marks.Plan.{Plan as IdPlan}
-use Rattle.seat_programs.specs.id_rule.specs.Lawful.{all_words}
+use Rattle.seat_programs.specs.id_rule.specs.LawfulIdTable.{all_words}
 use Rattle.sock_message.specs.Asked.{Asked}
 use Rattle.seat_programs.specs.declared.task.Op.TheVariants as ops
 use Rattle.seat_programs.specs.declared.task.Task.{Task}
 use Rattle.seat_programs.specs.Asides.{Step, ClaimId, PutCall, MakeId, StoreCall, LoadCall, StoreAt, LoadAt, LoadIdWord, LockId, PostId, UnlockId, EndId, FreeId, TakeCall, TakeBytes, Bytes, Found}
 use Rattle.seat_programs.specs.Asides as asides
-use Rattle.seat_programs.specs.Posts.{packed}
+use Rattle.seat_programs.specs.PostPrograms.{packed}
 use Rattle.story_steps.specs.call_stories.specs.Scenes.{Birth, Saying, Claim, Scene, IsClaimed, IsTaskOf, HasRoom}
 use Rattle.story_steps.specs.call_stories.specs.Says.{with_attempt, unlocked_by, shape_of, Slot, NoSlot, Claims, Locked, Leaves, Mark, with_slot, put_in, taken_out, IsVacant, MayAside}
-use Rattle.story_steps.specs.call_stories.specs.Stories.{At, tag_at, SlotFits, BirthsLaw, TasksLaw, ClaimsLaw, tasks_behind, ahead, unclaimed, IsBehind, KnowsStep, put_of, born_by, claimed_by, stored_by, mark_after}
+use Rattle.story_steps.specs.call_stories.specs.CallStories.{At, tag_at, SlotFits, BirthsLaw, TasksLaw, ClaimsLaw, tasks_behind, ahead, unclaimed, IsBehind, KnowsStep, put_of, born_by, claimed_by, stored_by, mark_after}
 use Rattle.story_steps.specs.call_stories.proofs.Effects.{Touches, beside, tag_stays, tag_is}
 use Rattle.story_steps.proofs.Births.{tests}
 use Rattle.story_steps.proofs.BirthTicks.{in_all}
-use Rattle.story_steps.proofs.Moving.{free_unclaimed}
-use Rattle.story_steps.proofs.Numbered.{AllDistinct, AreNumbered}
-use Rattle.story_ticks.proofs.Sayings.{at_either, is_todo, distinct_at}
-use Rattle.story_steps.specs.call_stories.specs.Below.outcome_stories.specs.Stories.{In}
-use Rattle.sock_words.specs.Words.{call_id, bit}
+use Rattle.story_steps.proofs.MarkMoves.{free_unclaimed}
+use Rattle.story_steps.proofs.NumberedTasks.{AllDistinct, AreNumbered}
+use Rattle.story_ticks.proofs.SayingKeepsStory.{at_either, is_todo, distinct_at}
+use Rattle.story_steps.specs.call_stories.specs.Below.outcome_stories.specs.OperationStories.{In}
+use Rattle.sock_words.specs.PackedWords.{call_id, bit}
 
 -- ## Counting
 
@@ -86,9 +86,9 @@ module _ (p : Plan) (q : IdPlan) (clients : List (List Task)) (gives : ℕ → L
   IsNewAt other found k = ⊥
 
   words_tag : (k : ℕ) → w'.core.calls.words ≡ w.core.calls.words → tag_at w' k ≢ 0 → tag_at w k ≢ 0
-  words_tag k same some_ e = some_ (ap (λ ws. get_or ws (Rattle.seat_programs.specs.id_rule.specs.Lawful.tag_index k) 0) same ∙ e)
+  words_tag k same some_ e = some_ (ap (λ ws. get_or ws (Rattle.seat_programs.specs.id_rule.specs.LawfulIdTable.tag_index k) 0) same ∙ e)
 
-  word_tag : (i k v : ℕ) → i ≡ k → i < q.slots → w'.core.calls.words ≡ set w.core.calls.words (Rattle.seat_programs.specs.id_rule.specs.Lawful.id_index i) v → tag_at w' k ≢ 0 → tag_at w k ≢ 0
+  word_tag : (i k v : ℕ) → i ≡ k → i < q.slots → w'.core.calls.words ≡ set w.core.calls.words (Rattle.seat_programs.specs.id_rule.specs.LawfulIdTable.id_index i) v → tag_at w' k ≢ 0 → tag_at w k ≢ 0
   word_tag i k v here inside words some_ e = some_ (subst (λ n. tag_at w' n ≡ tag_at w n) here (tag_stays p q clients gives w w' m plan i inside sized v words) ∙ e)
 
   touched_tag : (step : Step) (found : Found step) → Behind step found → Knows step found → (k : ℕ) → Touches step k → tag_at w' k ≢ 0 → (tag_at w k ≢ 0) ⊎ IsNewAt step found k

@@ -7,25 +7,25 @@ use lib.ListN.{get_elem?}
 use Rattle.seat_programs.specs.brpc_model.specs.Items.{Item}
 use Rattle.seat_programs.specs.brpc_model.specs.Operations.{Turn}
 use Rattle.seat_programs.specs.Programs.{Program}
-use Rattle.seat_programs.specs.Clients.{ending_of}
+use Rattle.seat_programs.specs.ClientProgram.{ending_of}
 use Rattle.seat_programs.specs.Cores.{Core, resolved, waiting_at, next_step}
 use Rattle.seat_programs.specs.Ticks.{quiet, run}
 use Rattle.seat_programs.specs.Tasks.{opens, calls, plan_of, id_plan_of}
-use Rattle.seat_programs.specs.Scripts.{sizes_of, programs, readers_from, all_programs, all_tasks, opened, ending, set_up, played, is_ending, IsRunWithCalls}
-use Rattle.story_steps.specs.Below.programs_allowed.specs.program_steps.specs.Sound.{IsAhead}
-use Rattle.story_steps.specs.Below.programs_allowed.specs.sock_runs.proofs.Along.{seat_ahead, run_ahead, beginning_ahead}
+use Rattle.seat_programs.specs.ScriptSetupToEnding.{sizes_of, programs, readers_from, all_programs, all_tasks, opened, ending, set_up, played, is_ending, IsRunWithCalls}
+use Rattle.story_steps.specs.Below.programs_allowed.specs.program_steps.specs.SoundSeats.{IsAhead}
+use Rattle.story_steps.specs.Below.programs_allowed.specs.sock_runs.proofs.SoundAlongRuns.{seat_ahead, run_ahead, beginning_ahead}
 use Rattle.story_steps.specs.Below.programs_allowed.specs.sock_runs.proofs.Quiets.{run_seats}
-use Rattle.story_steps.specs.Below.programs_allowed.proofs.Lasting.{length_all}
-use Rattle.seat_programs.specs.id_rule.specs.Lawful.{newcomer}
+use Rattle.story_steps.specs.Below.programs_allowed.proofs.LastingTicksOfRuns.{length_all}
+use Rattle.seat_programs.specs.id_rule.specs.LawfulIdTable.{newcomer}
 use Rattle.story_steps.specs.Below.id_runs.specs.Goes.{IdGoesOn}
-use Rattle.story_steps.specs.Below.id_runs.proofs.Opening.{all_go}
-use Rattle.story_steps.specs.Below.joint_runs.proofs.Runs.{AreMade}
-use Rattle.story_steps.specs.Below.joint_runs.proofs.Starts.{narrow}
-use Rattle.story_steps.specs.call_stories.specs.Lists.{gave_in}
+use Rattle.story_steps.specs.Below.id_runs.proofs.IdRuleOpening.{all_go}
+use Rattle.story_steps.specs.Below.joint_runs.proofs.RunsOfBothTables.{AreMade}
+use Rattle.story_steps.specs.Below.joint_runs.proofs.StartsWithBothRules.{narrow}
+use Rattle.story_steps.specs.call_stories.specs.LinkReadingLists.{gave_in}
 use Rattle.story_steps.specs.call_stories.specs.Scenes.{LeadsTo}
-use Rattle.story_steps.specs.call_stories.proofs.Leading.{run_leads}
-use Rattle.story_ticks.proofs.Chains.{KeepsFew}
-use Rattle.story_ticks.proofs.Ticks.{keeps_few}
+use Rattle.story_steps.specs.call_stories.proofs.LeadingBytesGiven.{run_leads}
+use Rattle.story_ticks.proofs.SaidBeforeNextStep.{KeepsFew}
+use Rattle.story_ticks.proofs.TicksKeepCallStory.{keeps_few}
 
 module _ (script : List Item) (made : AreMade script) (turns : List Turn) (core : Core) (is : IsRunWithCalls script turns core) where
   pub record RunFacts : Type 0 where

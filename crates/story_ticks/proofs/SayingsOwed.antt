@@ -12,11 +12,11 @@ use Rattle.seat_programs.specs.declared.task.Op.TheVariants as ops
 use Rattle.seat_programs.specs.declared.task.Task.{Task}
 use Rattle.story_steps.specs.call_stories.specs.Scenes.{Birth, Saying, Scene, Said, IsTaskOf, WhyEnded}
 use Rattle.story_steps.specs.call_stories.specs.Says.{Mark, with_owed}
-use Rattle.story_steps.specs.call_stories.specs.Stories.{At, HasPassed, IsCurrent, BirthsLaw, undo, ahead, IsUntold, IsBegunBy, IsOwed, AreQuiet, TasksLaw}
+use Rattle.story_steps.specs.call_stories.specs.CallStories.{At, HasPassed, IsCurrent, BirthsLaw, undo, ahead, IsUntold, IsBegunBy, IsOwed, AreQuiet, TasksLaw}
 use Rattle.story_steps.proofs.BirthTicks.{in_all, two_of}
-use Rattle.story_steps.proofs.Numbered.{AllDistinct, AreNumbered, one_task, listed_or}
-use Rattle.story_ticks.proofs.Sayings.{got_other, in_ahead, put_beside, is_done, is_todo, distinct_at, at_either, still_at, quiet_more, said_more, outcomes_more, once_more}
-use Rattle.story_steps.specs.call_stories.specs.Below.outcome_stories.specs.Stories.{In}
+use Rattle.story_steps.proofs.NumberedTasks.{AllDistinct, AreNumbered, one_task, listed_or}
+use Rattle.story_ticks.proofs.SayingKeepsStory.{got_other, in_ahead, put_beside, is_done, is_todo, distinct_at, at_either, still_at, quiet_more, said_more, outcomes_more, once_more}
+use Rattle.story_steps.specs.call_stories.specs.Below.outcome_stories.specs.OperationStories.{In}
 
 module _ (p : Plan) (q : IdPlan) (clients : List (List Task)) (gives : ℕ → List ℕ) (numbered : AreNumbered p q clients gives) (w : Scene) (births : BirthsLaw p q clients gives w) (os : List (Option Outcome)) (ss : List Saying) (ms : List Mark) (law : TasksLaw p q clients gives w os ss ms) (j : ℕ) (m : Mark) (at : At ms j m)
     (b : Birth) (owes : m.owes ≡ b ∷ []) (x : Outcome) (said_x : Said w b.asked.operation x) (why : WhyEnded p q clients gives w b x) where

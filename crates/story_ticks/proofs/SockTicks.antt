@@ -2,31 +2,31 @@
 use Rattle.std.proofs.Common.{◌≡◌, ◌≢◌, ℕ, ◌+◌, ◌<◌, ◌≤◌, inl, inr, ⊎_elim, List, [], get_or, set, slice_get, Some, refl, sym, ap, ◌∙◌, subst}
 use lib.ListN.{get_elem?}
 use Rattle.atomic_table.proofs.Lists.{set_again}
-use Rattle.sock_words.specs.Words.{at_word_attempt, call_id, id_slot, id_first}
+use Rattle.sock_words.specs.PackedWords.{at_word_attempt, call_id, id_slot, id_first}
 use Rattle.sock_words.specs.declared.plain.Plan.{Plan}
-use Rattle.sock_model.specs.Layout.{code_index}
-use Rattle.seat_programs.specs.brpc_model.specs.Stream as streams
+use Rattle.sock_model.specs.SocketTableLayout.{code_index}
+use Rattle.seat_programs.specs.brpc_model.specs.FrameStream as streams
 use Rattle.corr_core.specs.Word.{Parts, parts}
 use Rattle.corr_core.specs.declared.marks.Plan.{Plan as IdPlan}
-use Rattle.seat_programs.specs.id_rule.specs.Lawful.{tag_index, id_index, call_index, at_index}
+use Rattle.seat_programs.specs.id_rule.specs.LawfulIdTable.{tag_index, id_index, call_index, at_index}
 use Rattle.sock_message.specs.Asked.{Asked}
 use Rattle.seat_programs.specs.declared.task.Task.{Task}
-use Rattle.seat_programs.specs.Heads.{Retry}
+use Rattle.seat_programs.specs.LoopHeads.{Retry}
 use Rattle.seat_programs.specs.Programs.{Program}
 use Rattle.seat_programs.specs.Cores.{resolved, said, next_step}
-use Rattle.story_steps.specs.call_stories.specs.Lists.{times}
+use Rattle.story_steps.specs.call_stories.specs.LinkReadingLists.{times}
 use Rattle.story_steps.specs.call_stories.specs.Decided.{Decision}
 use Rattle.story_steps.specs.call_stories.specs.Scenes.{Birth, Scene, IsOver, IsBorn, IsOther, Named, StaysWithin, Later}
 use Rattle.story_steps.specs.call_stories.specs.Says.{Mark, SaidBy, SaysOn}
-use Rattle.story_steps.specs.call_stories.specs.Stories.{At, word_at, HasPassed, IsCurrent, SlotsLaw, BirthsLaw, TasksLaw}
-use Rattle.story_steps.specs.call_stories.proofs.Lasting.{are_told_on, cause_on, advance_on, here_later}
-use Rattle.story_steps.proofs.Slots.{LikeAt, like_fits}
+use Rattle.story_steps.specs.call_stories.specs.CallStories.{At, word_at, HasPassed, IsCurrent, SlotsLaw, BirthsLaw, TasksLaw}
+use Rattle.story_steps.specs.call_stories.proofs.LastingCallStories.{are_told_on, cause_on, advance_on, here_later}
+use Rattle.story_steps.proofs.IdSlotsBehindAsides.{LikeAt, like_fits}
 use Rattle.story_steps.proofs.BirthTicks.{one_call}
-use Rattle.story_steps.proofs.Numbered.{AreNumbered}
+use Rattle.story_steps.proofs.NumberedTasks.{AreNumbered}
 use Rattle.story_ticks.proofs.TaskTicks.{Change, quiet_on, changed}
-use Rattle.story_ticks.proofs.Chains.{sayings_of, AreFewTries, KeepsFew, IsKept, chain, said_first}
-use Rattle.story_ticks.proofs.AsideTicks.{sayings_keep, overs_keep, said_all}
-use Rattle.story_steps.specs.call_stories.specs.Below.outcome_stories.specs.Stories.{In}
+use Rattle.story_ticks.proofs.SaidBeforeNextStep.{sayings_of, AreFewTries, KeepsFew, IsKept, chain, said_first}
+use Rattle.story_ticks.proofs.LawsBehindAsideTicks.{sayings_keep, overs_keep, said_all}
+use Rattle.story_steps.specs.call_stories.specs.Below.outcome_stories.specs.OperationStories.{In}
 
 module _ (p : Plan) (q : IdPlan) (clients : List (List Task)) (gives : ℕ → List ℕ) (numbered : AreNumbered p q clients gives) (w w' : Scene) (ms : List Mark) (j : ℕ) (m : Mark) (at : At ms j m) (slots : SlotsLaw q w ms) (births : BirthsLaw p q clients gives w) (tasks : TasksLaw p q clients gives w w.core.outcomes w.sayings ms) (room : StaysWithin p q clients gives w') where
   -- the table of the ids is as it was; no name loses its socket, and each code of a socket is that of an error
@@ -97,7 +97,7 @@ module _ (p : Plan) (q : IdPlan) (clients : List (List Task)) (gives : ℕ → L
     beside_births = record {
       born = λ c there. let y = births.born c (subst (In c) b.births_are there) in (y.0, y.1, y.2, ⊎_elim (λ over. inl (on_passed c over)) (λ now. inr (on_current c now)) y.3);
       alive = λ k inside now. let y = births.alive k inside (live k now) in (y.0, born_at k y.0 y.1);
-      apart = subst Rattle.story_steps.specs.call_stories.specs.Stories.AllApart (sym b.births_are) births.apart;
+      apart = subst Rattle.story_steps.specs.call_stories.specs.CallStories.AllApart (sym b.births_are) births.apart;
       homes = λ k a inside now lies. born_at k a (births.homes k a inside (live k now) ((like k).home a lies));
       errors = λ k inside. subst (λ (y : Parts). 0 < y.state → (y.oldest ≢ 0 → Rattle.story_steps.specs.call_stories.specs.Scenes.CauseOf p q clients gives w' (call_id k y.first) y.oldest) × (y.second ≢ 0 → Rattle.story_steps.specs.call_stories.specs.Scenes.CauseOf p q clients gives w' (call_id k y.first) y.second)) (sym (word_same k))
           (λ now. let e = births.errors k inside now in ((λ ne. cause_on p q clients gives w w' beside_later (call_id k (word_at w k).first) (word_at w k).oldest (e.0 ne)), (λ ne. cause_on p q clients gives w w' beside_later (call_id k (word_at w k).first) (word_at w k).second (e.1 ne))));

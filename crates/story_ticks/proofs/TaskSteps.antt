@@ -6,25 +6,25 @@ use Rattle.sock_words.specs.declared.plain.Plan.{Plan}
 use Rattle.sock_words.specs.declared.outcome.Outcome.{Outcome}
 use Rattle.corr_core.specs.Word.{Parts, parts, made_word, posted_word, unlocked_word, free_word}
 use Rattle.corr_core.specs.declared.marks.Plan.{Plan as IdPlan}
-use Rattle.seat_programs.specs.id_rule.specs.Lawful.{tag_index, id_index, call_index, at_index, all_words}
+use Rattle.seat_programs.specs.id_rule.specs.LawfulIdTable.{tag_index, id_index, call_index, at_index, all_words}
 use Rattle.sock_message.specs.Asked.{Asked}
 use Rattle.seat_programs.specs.declared.task.Op.TheVariants as ops
 use Rattle.seat_programs.specs.declared.task.Task.{Task}
 use Rattle.seat_programs.specs.Asides.{Step, ClaimId, PutCall, MakeId, StoreCall, StoreAt, LockId, PostId, UnlockId, EndId, FreeId, TakeCall, TakeBytes, Bytes, Found}
 use Rattle.seat_programs.specs.Asides as asides
-use Rattle.seat_programs.specs.Posts.{packed}
+use Rattle.seat_programs.specs.PostPrograms.{packed}
 use Rattle.story_steps.specs.call_stories.specs.Scenes.{Birth, Saying, Scene, AreTold, was_begun, Later}
 use Rattle.story_steps.specs.call_stories.specs.Says.{shape_of, with_attempt, unlocked_by, Slot, NoSlot, Claims, Locked, Holds, Leaves, Mark, with_slot, with_owed, with_made, with_done, MayAside}
-use Rattle.story_steps.specs.call_stories.specs.Stories.{At, word_at, SlotFits, HasPassed, IsCurrent, BirthsLaw, undo, ahead, tasks_behind, IsUntold, AreQuiet, TasksLaw, IsBehind, KnowsStep, put_of, born_by, ended_of, stored_by, mark_after}
-use Rattle.story_steps.specs.call_stories.proofs.Lasting.{are_told_on}
+use Rattle.story_steps.specs.call_stories.specs.CallStories.{At, word_at, SlotFits, HasPassed, IsCurrent, BirthsLaw, undo, ahead, tasks_behind, IsUntold, AreQuiet, TasksLaw, IsBehind, KnowsStep, put_of, born_by, ended_of, stored_by, mark_after}
+use Rattle.story_steps.specs.call_stories.proofs.LastingCallStories.{are_told_on}
 use Rattle.story_steps.proofs.Births.{Turn, keeps, ends, makes, IsMake, IsEnd, turn, current_before, passed_still}
 use Rattle.story_steps.proofs.BirthTicks.{two_of}
-use Rattle.story_steps.proofs.Laters.{stored_is}
-use Rattle.story_steps.proofs.Numbered.{AreNumbered}
-use Rattle.story_ticks.proofs.Sayings.{in_ahead}
+use Rattle.story_steps.proofs.LaterHappenings.{stored_is}
+use Rattle.story_steps.proofs.NumberedTasks.{AreNumbered}
+use Rattle.story_ticks.proofs.SayingKeepsStory.{in_ahead}
 use Rattle.story_ticks.proofs.TaskTicks.{IsNew, Change, quiet_on}
-use Rattle.story_steps.specs.call_stories.specs.Below.outcome_stories.specs.Stories.{In}
-use Rattle.sock_words.specs.Words.{call_id, id_slot, id_first, bit}
+use Rattle.story_steps.specs.call_stories.specs.Below.outcome_stories.specs.OperationStories.{In}
+use Rattle.sock_words.specs.PackedWords.{call_id, id_slot, id_first, bit}
 
 -- a step stores the word of this call
 abbrev IsStore : Step → ℕ → Type 0
@@ -191,7 +191,7 @@ module _ (p : Plan) (q : IdPlan) (clients : List (List Task)) (gives : ℕ → L
       over = by_turn (turns (EndId i) found b knows may (record { id = call_id i may.0; asked = may.2 }) may.4)
         where
           ended : (word_at w' i).first ≡ (word_at w i).first + (word_at w i).range
-          ended = let x = Rattle.story_steps.specs.call_stories.proofs.Effects.word_is p q clients gives w w' m plan i held.0 sized (packed (free_word ((parts found).first + (parts found).range))) b.words ∙ Rattle.story_steps.specs.Below.id_runs.proofs.Keeps.parts_packed (free_word ((parts found).first + (parts found).range)) (omega arith) (omega arith) (omega arith) (omega arith) (omega arith) (omega arith) in
+          ended = let x = Rattle.story_steps.specs.call_stories.proofs.Effects.word_is p q clients gives w w' m plan i held.0 sized (packed (free_word ((parts found).first + (parts found).range))) b.words ∙ Rattle.story_steps.specs.Below.id_runs.proofs.AsidesKeepingIdRule.parts_packed (free_word ((parts found).first + (parts found).range)) (omega arith) (omega arith) (omega arith) (omega arith) (omega arith) (omega arith) in
               ap (λ (y : Parts). y.first) x ∙ ap (λ (y : Parts). y.first + y.range) knows.1
 
           by_turn : Turn (IsMake (EndId i) (id_slot (call_id i may.0))) (IsEnd (EndId i) (id_slot (call_id i may.0))) (word_at w (id_slot (call_id i may.0))) (word_at w' (id_slot (call_id i may.0))) → HasPassed w' (record { id = call_id i may.0; asked = may.2 })
@@ -227,7 +227,7 @@ module _ (p : Plan) (q : IdPlan) (clients : List (List Task)) (gives : ℕ → L
 
     word : word_at w' i ≡ made_word (parts found).first range
     word = Rattle.story_steps.specs.call_stories.proofs.Effects.word_is p q clients gives w w' m plan i knows.0.0 sized (packed (made_word (parts found).first range)) b.words
-        ∙ Rattle.story_steps.specs.Below.id_runs.proofs.Keeps.parts_packed (made_word (parts found).first range) (omega arith) (let z = knows.2 in omega (arith, z)) knows.3 (omega arith) (omega arith) (omega arith)
+        ∙ Rattle.story_steps.specs.Below.id_runs.proofs.AsidesKeepingIdRule.parts_packed (made_word (parts found).first range) (omega arith) (let z = knows.2 in omega (arith, z)) knows.3 (omega arith) (omega arith) (omega arith)
 
     is_new : IsNew p q clients gives numbered w w' births os ss ms law j m at l made_mark (record { id = call_id i (parts found).first; asked = may.0 })
     is_new = record {

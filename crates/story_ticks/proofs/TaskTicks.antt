@@ -4,16 +4,16 @@ use Rattle.atomic_table.proofs.Lists.{at_set}
 use Rattle.sock_words.specs.declared.plain.Plan.{Plan}
 use Rattle.sock_words.specs.declared.outcome.Outcome.{Outcome}
 use Rattle.corr_core.specs.declared.marks.Plan.{Plan as IdPlan}
-use Rattle.seat_programs.specs.id_rule.specs.Lawful.{call_index}
+use Rattle.seat_programs.specs.id_rule.specs.LawfulIdTable.{call_index}
 use Rattle.seat_programs.specs.declared.task.Op.TheVariants as ops
 use Rattle.seat_programs.specs.declared.task.Task.{Task}
 use Rattle.story_steps.specs.call_stories.specs.Scenes.{Birth, Saying, Scene, Begun, AreTold, Later}
 use Rattle.story_steps.specs.call_stories.specs.Says.{Mark}
-use Rattle.story_steps.specs.call_stories.specs.Stories.{At, HasPassed, IsCurrent, BirthsLaw, undo, ahead, IsUntold, IsBegunBy, IsOwed, AreQuiet, TasksLaw}
-use Rattle.story_steps.specs.call_stories.proofs.Lasting.{own_on, are_told_on, ended_on}
-use Rattle.story_steps.proofs.Numbered.{AreNumbered}
-use Rattle.story_ticks.proofs.Sayings.{put_at, at_either, still_at}
-use Rattle.story_steps.specs.call_stories.specs.Below.outcome_stories.specs.Stories.{In}
+use Rattle.story_steps.specs.call_stories.specs.CallStories.{At, HasPassed, IsCurrent, BirthsLaw, undo, ahead, IsUntold, IsBegunBy, IsOwed, AreQuiet, TasksLaw}
+use Rattle.story_steps.specs.call_stories.proofs.LastingCallStories.{own_on, are_told_on, ended_on}
+use Rattle.story_steps.proofs.NumberedTasks.{AreNumbered}
+use Rattle.story_ticks.proofs.SayingKeepsStory.{put_at, at_either, still_at}
+use Rattle.story_steps.specs.call_stories.specs.Below.outcome_stories.specs.OperationStories.{In}
 
 module _ (p : Plan) (q : IdPlan) (clients : List (List Task)) (gives : ℕ → List ℕ) (numbered : AreNumbered p q clients gives) (w w' : Scene) (births : BirthsLaw p q clients gives w) (os : List (Option Outcome)) (ss : List Saying) (ms : List Mark) (law : TasksLaw p q clients gives w os ss ms) (j : ℕ) (m : Mark) (at : At ms j m) (l : Later p q clients gives w w') where
   pub quiet_on : (c : ℕ) (ts : List Task) → AreQuiet p q clients gives w os c ts → AreQuiet p q clients gives w' os c ts

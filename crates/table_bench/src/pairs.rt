@@ -1,8 +1,8 @@
 ghost use Rattle.std.specs.Prelude.{◌≡◌, ◌<◌, IfSome};
-ghost use Rattle.sock_table.specs.Closed.{IsDoneSeat};
-ghost use Rattle.sock_table.specs.Refs.{Knows};
+ghost use Rattle.sock_table.specs.ClosedSocketTable.{IsDoneSeat};
+ghost use Rattle.sock_table.specs.ReferenceCalls.{Knows};
 ghost use Rattle.std.specs.Thread.{IsSync};
-ghost use Rattle.sock_open.specs.Made.{AreMade, AreNewSeats, PassesFrom};
+ghost use Rattle.sock_open.specs.NewTableContents.{AreMade, AreNewSeats, PassesFrom};
 
 use sock_io::MemOut;
 use sock_open::{Made, new_table};

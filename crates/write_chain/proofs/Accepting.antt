@@ -5,7 +5,7 @@ use mathlib.Core.Option.{some}
 use lib.ListN.{get_elem?}
 use Rattle.sock_io.specs.declared.link.Out.{Ghosts}
 use Rattle.sock_words.specs.declared.plain.Plan.{Plan}
-use Rattle.sock_words.specs.Words.{socket_id_version, socket_id_slot, IDLE}
+use Rattle.sock_words.specs.PackedWords.{socket_id_version, socket_id_slot, IDLE}
 use Rattle.sock_model.specs.declared.chain.Claim.{Claim}
 use Rattle.sock_model.specs.declared.chain.Heading.{Heading}
 use Rattle.sock_model.specs.declared.chain.Loose.{Loose}
@@ -13,18 +13,18 @@ use Rattle.sock_model.specs.declared.chain.Right.{Right}
 use Rattle.sock_model.specs.declared.marks.Mark.TheVariants.{Saw, Met}
 use Rattle.sock_model.specs.declared.view.View.{View}
 use Rattle.sock_model.specs.Entries.{ticket_of}
-use Rattle.sock_model.specs.Layout.{request_index}
-use Rattle.sock_model.specs.Weights.{is_hold, is_met}
+use Rattle.sock_model.specs.SocketTableLayout.{request_index}
+use Rattle.sock_model.specs.MarkWeights.{is_hold, is_met}
 use Rattle.sock_model.specs.SlotRows.{marks_of, met_link}
 use Rattle.sock_model.specs.ChainRows.{with_claim, ready_claim, queued, righted, new_right, without_loose, more, entry_of}
-use Rattle.sock_open.specs.slot_steps.proofs.Numbers.{pair-same}
-use Rattle.sock_open.specs.slot_steps.proofs.Sums.{about-here}
-use Rattle.sock_rule.specs.Becoming.{Became}
-use Rattle.sock_rule.specs.Sending.{MaySwap, filled_for}
-use Rattle.sock_rule.proofs.Becoming.{adds_mark, becomes}
-use Rattle.sock_table.specs.Named.{HasSeen}
-use Rattle.sock_table.specs.Answers.{Holds}
-use Rattle.write_chain.specs.Sending.{HasRoom, Accepted, IsFirst, FoundTaken}
+use Rattle.sock_open.specs.slot_steps.proofs.RuleNumbers.{pair-same}
+use Rattle.sock_open.specs.slot_steps.proofs.SlotWeightSums.{about-here}
+use Rattle.sock_rule.specs.MarksComeAndGo.{Became}
+use Rattle.sock_rule.specs.SendingOnRequestWords.{MaySwap, filled_for}
+use Rattle.sock_rule.proofs.MarksComeAndGo.{adds_mark, becomes}
+use Rattle.sock_table.specs.NamesStoredAndFound.{HasSeen}
+use Rattle.sock_table.specs.ReferenceAnswers.{Holds}
+use Rattle.write_chain.specs.SendingIntoChain.{HasRoom, Accepted, IsFirst, FoundTaken}
 use Rattle.sock_words.specs.Totals.{total}
 
 -- a seat that held the life of the id claims request `at`, and comes by the views a and b to the exchange
@@ -186,12 +186,12 @@ accepted_after p id at heading bytes c v w x a k = record {
 }
 
 pub started_after : {O : Type 0} {g : Ghosts O} (p : Plan) (sock : Rattle.sock_table.specs.declared.refs.SockRef.SockRef) (at : ℕ) (heading : Heading) (bytes : List ℕ) (c : Claim) (s : Rattle.write_chain.specs.declared.entry.Started.Started O g) (v w u x : View)
-    → Asking p sock.id.0 at v w → u ≡ with_claim w c → Rattle.write_chain.specs.Sending.StartedWith [] p sock heading bytes s u x → Rattle.write_chain.specs.Sending.StartedBy p sock heading bytes s v x
+    → Asking p sock.id.0 at v w → u ≡ with_claim w c → Rattle.write_chain.specs.SendingIntoChain.StartedWith [] p sock heading bytes s u x → Rattle.write_chain.specs.SendingIntoChain.StartedBy p sock heading bytes s v x
 unfolding accepted_after
 started_after p sock at heading bytes c (Rattle.write_chain.specs.declared.entry.Started.TheVariants.Queued r) v w u x a e (is, k, rights) = (is, accepted_after p sock.id.0 at heading bytes c v w x a (subst (λ (y : View). Accepted [] p sock.id.0 heading bytes y x) e k), rights)
 started_after p sock at heading bytes c (Rattle.write_chain.specs.declared.entry.Started.TheVariants.Right r) v w u x a e (is, first, k, y, rights, f, tk) = right_after (subst (λ (y : View). Accepted [] p sock.id.0 heading bytes y x) e k) (link_same u (with_claim w c) e k f)
   where
-    right_after : (l : Accepted [] p sock.id.0 heading bytes (with_claim w c) x) → IsFirst y l.entry.link r.last.0 → Rattle.write_chain.specs.Sending.StartedBy p sock heading bytes (Rattle.write_chain.specs.declared.entry.Started.TheVariants.Right r) v x
+    right_after : (l : Accepted [] p sock.id.0 heading bytes (with_claim w c) x) → IsFirst y l.entry.link r.last.0 → Rattle.write_chain.specs.SendingIntoChain.StartedBy p sock heading bytes (Rattle.write_chain.specs.declared.entry.Started.TheVariants.Right r) v x
     right_after l h = (is, first, accepted_after p sock.id.0 at heading bytes c v w x a l, y, rights, h, tk)
 
     link_same : (m n : View) (q : m ≡ n) (l : Accepted [] p sock.id.0 heading bytes m x) → IsFirst y l.entry.link r.last.0 → IsFirst y (subst (λ (z : View). Accepted [] p sock.id.0 heading bytes z x) q l).entry.link r.last.0

@@ -2,24 +2,24 @@
 use Rattle.std.proofs.Common.{◌≡◌, ◌≢◌, ℕ, ◌+◌, ◌<◌, ◌≤◌, cond, eqb, eq-eqb, ne_eqb, [], ◌∷◌, sym, ap, ◌∙◌, subst, arith}
 use mathlib.Core.Logic.{dite}
 use native.Mathlib.Decide.{ℕ_discrete}
-use Rattle.sock_io.specs.Link.{OutState}
+use Rattle.sock_io.specs.LinkHalves.{OutState}
 use Rattle.sock_words.specs.declared.plain.Plan.{Plan}
-use Rattle.sock_words.specs.Codes.{EFAILEDSOCKET}
-use Rattle.sock_words.specs.Words.{socket_id_version, socket_id_slot}
+use Rattle.sock_words.specs.ErrorCodes.{EFAILEDSOCKET}
+use Rattle.sock_words.specs.PackedWords.{socket_id_version, socket_id_slot}
 use Rattle.sock_model.specs.declared.marks.Mark.TheVariants.{Saw, Told}
 use Rattle.sock_model.specs.declared.view.View.{View}
 use Rattle.sock_model.specs.Marks.{about}
-use Rattle.sock_model.specs.Weights.{is_saw, is_told}
+use Rattle.sock_model.specs.MarkWeights.{is_saw, is_told}
 use Rattle.sock_model.specs.SlotRows.{marks_of}
-use Rattle.sock_open.specs.slot_steps.proofs.Numbers.{pair-same}
-use Rattle.sock_rule.specs.Becoming.{Became}
-use Rattle.sock_rule.proofs.Becoming.{stays}
-use Rattle.sock_table.specs.Answers.{CodeOf}
+use Rattle.sock_open.specs.slot_steps.proofs.RuleNumbers.{pair-same}
+use Rattle.sock_rule.specs.MarksComeAndGo.{Became}
+use Rattle.sock_rule.proofs.MarksComeAndGo.{stays}
+use Rattle.sock_table.specs.ReferenceAnswers.{CodeOf}
 use Rattle.write_chain.specs.declared.right.Undelivered.{Undelivered}
-use Rattle.write_chain.specs.Noting.{saw, told, nothing, finding, Wrote, WroteDrop}
-use Rattle.write_chain.specs.Writing.{FoundDead}
-use Rattle.write_chain.specs.Keeping.{IsCode, IsDropped, LeavesMore}
-use Rattle.write_chain.proofs.Noting.{found_it, wrote_more}
+use Rattle.write_chain.specs.NotingWhileWriting.{saw, told, nothing, finding, Wrote, WroteDrop}
+use Rattle.write_chain.specs.WritingRightInHand.{FoundDead}
+use Rattle.write_chain.specs.KeepingOnWriting.{IsCode, IsDropped, LeavesMore}
+use Rattle.write_chain.proofs.NotingWhileWriting.{found_it, wrote_more}
 use Rattle.write_chain.proofs.Looking.{Fails}
 use Rattle.sock_io.specs.declared.link.Out.{Ghosts}
 use Rattle.write_chain.specs.declared.keep.Went.{Went}

@@ -2,19 +2,19 @@
 use Rattle.std.proofs.Common.{◌≡◌, ℕ, zero, suc, ◌<◌, ◌≤◌, eq-eqb, ne_eqb, List, [], ◌∷◌, refl, sym, ap, ◌∙◌, subst, arith}
 use mathlib.Core.Logic.{dite}
 use native.Mathlib.Decide.{ℕ_discrete}
-use Rattle.sock_io.specs.Causes.{Rose}
-use Rattle.sock_io.specs.Link.{OutState}
-use Rattle.sock_words.specs.Words.{socket_id_slot}
+use Rattle.sock_io.specs.FaultCauses.{Rose}
+use Rattle.sock_io.specs.LinkHalves.{OutState}
+use Rattle.sock_words.specs.PackedWords.{socket_id_slot}
 use Rattle.sock_model.specs.declared.chain.Right.{Right}
 use Rattle.sock_model.specs.declared.marks.Mark.{Mark}
 use Rattle.sock_model.specs.declared.marks.SlotMark.{SlotMark}
 use Rattle.sock_model.specs.declared.view.View.{View}
 use Rattle.sock_model.specs.Marks.{about}
-use Rattle.sock_rule.specs.Becoming.{Became}
-use Rattle.sock_rule.specs.Faults.{fault, is_fault, faults_link, faults_of, noting_fault, fault_found}
-use Rattle.sock_rule.proofs.Becoming.{stays, adds_mark}
-use Rattle.sock_table.specs.Answers.{CodeOf}
-use Rattle.write_chain.specs.Noting.{faulted, Noted, nothing, finding}
+use Rattle.sock_rule.specs.MarksComeAndGo.{Became}
+use Rattle.sock_rule.specs.LinkFaultNotes.{fault, is_fault, faults_link, faults_of, noting_fault, fault_found}
+use Rattle.sock_rule.proofs.MarksComeAndGo.{stays, adds_mark}
+use Rattle.sock_table.specs.ReferenceAnswers.{CodeOf}
+use Rattle.write_chain.specs.NotingWhileWriting.{faulted, Noted, nothing, finding}
 use Rattle.sock_words.specs.Totals.{total}
 
 -- a note of a fault is one of some slot

@@ -1,8 +1,8 @@
 pub mod Accepting
-pub mod Noting
+pub mod NotingWhileWriting
 pub mod Faulting
-pub mod Stepping
-pub mod Beginning
-pub mod Testing
+pub mod WriterThroughSteps
+pub mod SeatOnceAccepted
+pub mod SeatBetweenMessages
 pub mod Looking
 pub mod Dropping

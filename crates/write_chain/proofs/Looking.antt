@@ -2,36 +2,36 @@
 use Rattle.std.proofs.Common.{◌≡◌, ◌≢◌, ℕ, ◌+◌, ◌-◌, ◌%◌, ◌<◌, zero, suc, Bool, true, false, not, cond, eqb, eqb-true, eq-eqb, ltb, ltb-true, min, List, [], ◌∷◌, ◌++◌, length, take, refl, sym, ap, ◌∙◌, subst, arith}
 use Rattle.std.specs.Prelude.{◌↔◌, IsTrue, Ok, Err, IfOk, IfErr}
 use Rattle.std.specs.declared.result.Result.{Result}
-use Rattle.seat_programs.specs.Parts.{room_of_part, part}
+use Rattle.seat_programs.specs.BufferParts.{room_of_part, part}
 use mathlib.Core.Logic.{dite}
 use native.Mathlib.Decide.{ℕ_discrete}
 use Rattle.atomic_table.specs.Table.{Me}
 use Rattle.sock_io.specs.declared.link.Out.{Ghosts}
-use Rattle.sock_io.specs.Link.{OutState, taken_of}
+use Rattle.sock_io.specs.LinkHalves.{OutState, taken_of}
 use Rattle.sock_io.specs.declared.link.Put.{Put}
 use Rattle.sock_io.specs.declared.link.Put.TheVariants.{Failed}
 use Rattle.sock_words.specs.declared.plain.Plan.{Plan}
-use Rattle.sock_words.specs.Codes.{EFAILEDSOCKET}
-use Rattle.sock_words.specs.Words.{socket_id_version, socket_id_slot, vref_version, IsFailedVref}
+use Rattle.sock_words.specs.ErrorCodes.{EFAILEDSOCKET}
+use Rattle.sock_words.specs.PackedWords.{socket_id_version, socket_id_slot, vref_version, IsFailedVref}
 use Rattle.sock_model.specs.declared.marks.Mark.{Mark}
 use Rattle.sock_model.specs.declared.marks.Mark.TheVariants.{Saw}
 use Rattle.sock_model.specs.declared.view.View.{View}
-use Rattle.sock_model.specs.Weights.{is_hold, is_met, is_saw}
+use Rattle.sock_model.specs.MarkWeights.{is_hold, is_met, is_saw}
 use Rattle.sock_model.specs.SlotRows.{marks_of, looked}
-use Rattle.sock_open.specs.slot_steps.proofs.Numbers.{only-same}
-use Rattle.sock_rule.specs.Becoming.{Became}
-use Rattle.sock_rule.specs.Holding.{LookedToWrite}
+use Rattle.sock_open.specs.slot_steps.proofs.RuleNumbers.{only-same}
+use Rattle.sock_rule.specs.MarksComeAndGo.{Became}
+use Rattle.sock_rule.specs.HoldingWriteRight.{LookedToWrite}
 use Rattle.sock_rule.specs.declared.homes.SockHome.{SockHome}
-use Rattle.sock_rule.specs.Faults.{fault}
-use Rattle.sock_rule.proofs.Becoming.{then_, looked_marks}
-use Rattle.sock_table.specs.Answers.{FailedBy, FoundFailed}
+use Rattle.sock_rule.specs.LinkFaultNotes.{fault}
+use Rattle.sock_rule.proofs.MarksComeAndGo.{then_, looked_marks}
+use Rattle.sock_table.specs.ReferenceAnswers.{FailedBy, FoundFailed}
 use Rattle.sock_table.specs.declared.refs.Already.{Already}
 use Rattle.write_chain.specs.declared.right.InHand.{InHand}
-use Rattle.write_chain.specs.Noting.{saw, faulted, Faulted, Noted, nothing, finding, failing, Met_by, Wrote}
-use Rattle.write_chain.specs.Writing.{HasPart, IsClean, FoundDead}
+use Rattle.write_chain.specs.NotingWhileWriting.{saw, faulted, Faulted, Noted, nothing, finding, failing, Met_by, Wrote}
+use Rattle.write_chain.specs.WritingRightInHand.{HasPart, IsClean, FoundDead}
 use Rattle.write_chain.proofs.Faulting.{became_faults}
-use Rattle.write_chain.proofs.Noting.{found_it}
-use Rattle.write_chain.proofs.Stepping.{part_noted, part_clean}
+use Rattle.write_chain.proofs.NotingWhileWriting.{found_it}
+use Rattle.write_chain.proofs.WriterThroughSteps.{part_noted, part_clean}
 
 pub false_true : false ≡ true → ⊥
 false_true e = let n : ℕ ≡ ⊥ = ap (λ b. cond b ⊥ ℕ) e in subst (λ (x : Type 0). x) n 0

@@ -1,9 +1,9 @@
-pub mod Noting
-pub mod Sending
-pub mod Writing
-pub mod Keeping
+pub mod NotingWhileWriting
+pub mod SendingIntoChain
+pub mod WritingRightInHand
+pub mod KeepingOnWriting
 pub mod Puts
-pub mod Ready
+pub mod ReadyToSend
 pub use Rattle.message_parts
 pub use Rattle.sock_open.specs.slot_steps
 pub use Rattle.sock_open

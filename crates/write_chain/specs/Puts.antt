@@ -1,7 +1,7 @@
 -- How far a put comes.
 use Rattle.std.specs.Prelude.{◌≡◌, ℕ, ◌++◌, ◌≤◌, List}
 use Rattle.sock_io.specs.declared.link.Out.{Ghosts}
-use Rattle.seat_programs.specs.Parts.{part}
+use Rattle.seat_programs.specs.BufferParts.{part}
 use Rattle.message_parts.specs.Parcels.{outgoing_of}
 use Rattle.message_parts.specs.declared.parcel.OutgoingParcel.{OutgoingParcel}
 use Rattle.write_chain.specs.declared.right.InHand.{InHand}

@@ -1,17 +1,17 @@
 // A message is accepted.
 ghost use Rattle.std.specs.Prelude.{◌≡◌, ◌≢◌, ◌+◌, ◌*◌, ◌<◌, ℕ, [], ◌∷◌, IfOk, IfErr, length};
-ghost use Rattle.sock_words.specs.Words.{socket_id_version, socket_id_slot, vref_version};
+ghost use Rattle.sock_words.specs.PackedWords.{socket_id_version, socket_id_slot, vref_version};
 ghost use Rattle.sock_model.specs.declared.chain.Claim.{Claim};
-ghost use Rattle.sock_model.specs.Weights.{is_ref};
+ghost use Rattle.sock_model.specs.MarkWeights.{is_ref};
 ghost use Rattle.sock_model.specs.SlotRows.{marks_of};
 ghost use Rattle.atomic_table.specs.Table.{rest};
 ghost use Rattle.message_parts.specs.Parcels.{parcel_of};
-ghost use Rattle.sock_rule.specs.Seated.{IsSeat};
+ghost use Rattle.sock_rule.specs.SocketSeatSplits.{IsSeat};
 ghost use Rattle.sock_rule.specs.Shows.{heading_of};
-ghost use Rattle.sock_rule.specs.Sending.{Claims, OnTop};
-ghost use Rattle.sock_table.specs.Answers.{Holds};
-ghost use Rattle.write_chain.specs.Sending.{HasRoom, MaySend, StartedWith, StartedBy, RefusedBy};
-ghost use Rattle.write_chain.specs.Writing.{Begins};
+ghost use Rattle.sock_rule.specs.SendingOnRequestWords.{Claims, OnTop};
+ghost use Rattle.sock_table.specs.ReferenceAnswers.{Holds};
+ghost use Rattle.write_chain.specs.SendingIntoChain.{HasRoom, MaySend, StartedWith, StartedBy, RefusedBy};
+ghost use Rattle.write_chain.specs.WritingRightInHand.{Begins};
 
 use crate::right::{Doing, WriteRight};
 use sock_io::Out;

@@ -1,18 +1,18 @@
 // Whoever has the right writes the link: steps that both calls make.
 ghost use Rattle.std.specs.Prelude.{◌≡◌, ◌≢◌, ◌+◌, ◌*◌, ◌<◌, ℕ, [], ◌∷◌, true, false};
 ghost use Rattle.atomic_table.specs.Table.{rest};
-ghost use Rattle.sock_words.specs.Words.{socket_id_slot, ticket_request};
+ghost use Rattle.sock_words.specs.PackedWords.{socket_id_slot, ticket_request};
 ghost use Rattle.sock_model.specs.declared.chain.Right.{Right};
 ghost use Rattle.sock_model.specs.declared.chain.Stage.{Stage};
 ghost use Rattle.sock_model.specs.declared.chain.Stage.TheVariants.{Writes, Placed, Empties};
 ghost use Rattle.sock_model.specs.ChainRows.{with_right, freed_right};
 ghost use Rattle.message_parts.specs.Parcels.{outgoing_of};
 ghost use Rattle.sock_rule.specs.declared.homes.SockHome.TheVariants.{Empty};
-ghost use Rattle.sock_rule.specs.Seated.{IsSeat};
+ghost use Rattle.sock_rule.specs.SocketSeatSplits.{IsSeat};
 ghost use Rattle.sock_rule.specs.ChainPlays.{IsTicket};
-ghost use Rattle.sock_rule.specs.Holding.{Rights, MayFreeRequest};
-ghost use Rattle.write_chain.specs.Noting.{Faulted, Wrote};
-ghost use Rattle.write_chain.specs.Writing.{MayBegin, MayGoOn, Stands, HasLink, HasInHand, HasPart, IsClean, HasWhole, FoundDead, GoesBy, IsLast, OnceBy, TriedBy, TriedFaults, IsDead, IsKeep};
+ghost use Rattle.sock_rule.specs.HoldingWriteRight.{Rights, MayFreeRequest};
+ghost use Rattle.write_chain.specs.NotingWhileWriting.{Faulted, Wrote};
+ghost use Rattle.write_chain.specs.WritingRightInHand.{MayBegin, MayGoOn, Stands, HasLink, HasInHand, HasPart, IsClean, HasWhole, FoundDead, GoesBy, IsLast, OnceBy, TriedBy, TriedFaults, IsDead, IsKeep};
 
 use crate::right::{Doing, HeldChain, InHand, LinkInHand, WriteRight};
 use sock_io::{Out, Put};

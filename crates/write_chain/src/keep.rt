@@ -1,11 +1,11 @@
 // Whoever has the right writes until the head is empty.
 ghost use Rattle.std.specs.Prelude.{◌≡◌, ◌≢◌, ◌+◌, ◌*◌, ◌<◌, ◌==◌, cond, ℕ, [], ◌∷◌, true, false};
-ghost use Rattle.sock_rule.specs.Seated.{IsSeat};
+ghost use Rattle.sock_rule.specs.SocketSeatSplits.{IsSeat};
 ghost use Rattle.write_chain.specs.declared.right.Doing.TheVariants.{Back};
-ghost use Rattle.write_chain.specs.Noting.{Wrote, WroteDrop};
+ghost use Rattle.write_chain.specs.NotingWhileWriting.{Wrote, WroteDrop};
 ghost use Rattle.sock_model.specs.declared.chain.Stage.TheVariants.{Empties};
-ghost use Rattle.write_chain.specs.Writing.{MayGoOn, HasLink, HasPart, FoundDead, GoesBy, FaultsBy, HasMore};
-ghost use Rattle.write_chain.specs.Keeping.{IsCode, WentBy, WentWriting, KeptBy, KeptWriting, IsDropped, LeavesMore, KeptDropped};
+ghost use Rattle.write_chain.specs.WritingRightInHand.{MayGoOn, HasLink, HasPart, FoundDead, GoesBy, FaultsBy, HasMore};
+ghost use Rattle.write_chain.specs.KeepingOnWriting.{IsCode, WentBy, WentWriting, KeptBy, KeptWriting, IsDropped, LeavesMore, KeptDropped};
 
 use crate::hold::{Once, Tried};
 use crate::right::{Doing, HeldChain, InHand, LinkInHand, Undelivered, Walk, WriteRight};

@@ -1,9 +1,9 @@
 use Rattle.std.proofs.Common.{◌∙◌, inl, inr, refl, ap, map, subst, List}
 use Rattle.brpc_model.specs.Items.{Item}
-use Rattle.brpc_model.specs.Drawn.{generated}
+use Rattle.brpc_model.specs.DrawnSeatsAndScripts.{generated}
 use Rattle.brpc_model.specs.ScriptText.{script_text}
-use Rattle.script_items.specs.Meaning.{item}
-use Rattle.sock_io.specs.Writing.{WrotePart}
+use Rattle.script_items.specs.LineMeaning.{item}
+use Rattle.sock_io.specs.PartWrittenToSink.{WrotePart}
 use Rattle.brpc_eng.proofs.GeneratedLemmas.{is_sink}
 use Rattle.brpc_eng.proofs.generated.print_generated.Goals as goal
 

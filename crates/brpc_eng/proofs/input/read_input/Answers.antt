@@ -1,5 +1,5 @@
 use Rattle.std.proofs.Common.{◌∙◌, ap, ap₂, sym, Err}
-use Rattle.brpc_eng.proofs.Pieces.{has_pieces}
+use Rattle.brpc_eng.proofs.PiecesTakeBytes.{has_pieces}
 use Rattle.brpc_eng.proofs.Replays.{came_unread, read_as, read_few}
 use Rattle.brpc_eng.proofs.input.read_input.Goals as goal
 

@@ -1,11 +1,11 @@
 use Rattle.std.proofs.Common.{ap, refl, subst, ⊎_elim, arith, ◌∙◌}
-use Rattle.brpc_model.specs.Drawn.{generated}
+use Rattle.brpc_model.specs.DrawnSeatsAndScripts.{generated}
 use Rattle.brpc_model.specs.ScriptText.{script_text}
 use Rattle.sock_io.specs.declared.link.Mode.TheVariants as mode
-use Rattle.script_links.specs.Given.{IsBeginning, specs_of}
-use Rattle.brpc_eng.specs.Answers.{LoadRanOut}
-use Rattle.brpc_eng.proofs.Pieces.{has_pieces}
-use Rattle.brpc_eng.proofs.Reported.{opened_none, load_ran}
+use Rattle.script_links.specs.LinksGivenBack.{IsBeginning, specs_of}
+use Rattle.brpc_eng.specs.ProgramAnswers.{LoadRanOut}
+use Rattle.brpc_eng.proofs.PiecesTakeBytes.{has_pieces}
+use Rattle.brpc_eng.proofs.OneFittingReport.{opened_none, load_ran}
 use Rattle.brpc_eng.proofs.load.load.Goals as goal
 
 pub returns-in_default-clause-loaded : goal.returns-in_default-clause-loaded

@@ -1,5 +1,5 @@
 use Rattle.std.proofs.Common.{◌≡◌, ◌∙◌, append_assoc, string_bytes}
-use Rattle.brpc_eng.specs.Answers.{fault_text}
+use Rattle.brpc_eng.specs.ProgramAnswers.{fault_text}
 use Rattle.brpc_eng.proofs.Replays.{fault_written}
 use Rattle.brpc_eng.proofs.replay.write_fault.Goals as goal
 

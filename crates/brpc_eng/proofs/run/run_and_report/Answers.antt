@@ -1,4 +1,4 @@
-use Rattle.brpc_eng.proofs.Reported.{ran_reported}
+use Rattle.brpc_eng.proofs.OneFittingReport.{ran_reported}
 use Rattle.brpc_eng.proofs.run.run_and_report.Goals as goal
 
 -- the same bytes are read as the script

@@ -1,5 +1,5 @@
 use Rattle.std.proofs.Common.{refl}
-use Rattle.brpc_eng.proofs.Serving.{port_whole}
+use Rattle.brpc_eng.proofs.ServeCommandEnding.{port_whole}
 use Rattle.brpc_eng.proofs.serve.serve.Goals as goal
 
 pub returns-in-Ok-clause-served : goal.returns-in-Ok-clause-served

@@ -1,6 +1,6 @@
 use Rattle.std.proofs.Common.{◌≡◌, ◌∙◌, append_assoc, string_bytes}
-use Rattle.brpc_eng.specs.Answers.{served_text}
-use Rattle.brpc_eng.proofs.Serving.{served_written}
+use Rattle.brpc_eng.specs.ProgramAnswers.{served_text}
+use Rattle.brpc_eng.proofs.ServeCommandEnding.{served_written}
 use Rattle.brpc_eng.proofs.serve.write_served.Goals as goal
 
 pub returns-in-Ok : goal.returns-in-Ok

@@ -1,5 +1,5 @@
 use Rattle.std.proofs.Common.{◌++◌, take, arith, refl, length-append, length-take}
-use Rattle.brpc_eng.proofs.Known.{Consumes-append}
+use Rattle.brpc_eng.proofs.KnownBytes.{Consumes-append}
 use Rattle.brpc_eng.proofs.streams.read_all.Goals as goal
 
 pub returns-then-is_err-clause-came : goal.returns-then-is_err-clause-came

@@ -1,4 +1,4 @@
-use Rattle.brpc_eng.specs.Answers.{run_mode}
+use Rattle.brpc_eng.specs.ProgramAnswers.{run_mode}
 use Rattle.brpc_eng.proofs.OnThreads.{threads_ran, run_opened}
 use Rattle.brpc_eng.proofs.threads.threads_and_report.Goals as goal
 

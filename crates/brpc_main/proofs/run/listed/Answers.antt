@@ -1,6 +1,6 @@
 use Rattle.std.proofs.Common.{◌∙◌}
 use Rattle.std.proofs.lemmas.Result.{IfOk-weaker}
-use Rattle.brpc_main.proofs.Taken.{all_taken}
+use Rattle.brpc_main.proofs.VectorIteratorTaken.{all_taken}
 use Rattle.brpc_main.proofs.run.listed.Goals as goal
 
 pub returns : goal.returns

@@ -1,5 +1,5 @@
 use Rattle.std.proofs.Common.{inl, ap, ◌∙◌, map, drop, string_bytes}
-use Rattle.brpc_main.proofs.Answered.{answered}
+use Rattle.brpc_main.proofs.AnswersOfSameWords.{answered}
 use Rattle.brpc_main.proofs.run.run_with.Goals as goal
 
 pub returns-in-Ok-clause-answers : goal.returns-in-Ok-clause-answers

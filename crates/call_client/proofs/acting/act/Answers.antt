@@ -3,13 +3,13 @@ use Rattle.std.specs.Prelude.{IfOk, IfErr}
 use Rattle.seat_programs.specs.declared.task.Op.{Op}
 use Rattle.seat_programs.specs.declared.task.Op.TheVariants as ops
 use Rattle.sock_rule.specs.declared.homes.Letter.{Letter}
-use Rattle.call_errors.specs.Books.{stand_of}
-use Rattle.call_attempts.specs.call_writes.specs.Sending.{SentCalling}
-use Rattle.call_client.specs.Acting.{stand, Acted}
-use Rattle.call_client.specs.Running.{NotCalled}
-use Rattle.call_client.specs.Making.{NotMade}
-use Rattle.call_client.proofs.Coursing.{ok_then, err_then}
-use Rattle.call_client.proofs.Going.{may_act_now, kept_go, same_passes, same_sent, same_ids, held_go, same_go, held_few, dropped_few}
+use Rattle.call_errors.specs.ClientBooks.{stand_of}
+use Rattle.call_attempts.specs.call_writes.specs.MessageFateBesideCalls.{SentCalling}
+use Rattle.call_client.specs.ClientBetweenOperations.{stand, Acted}
+use Rattle.call_client.specs.ClientRun.{NotCalled}
+use Rattle.call_client.specs.ClientStopsMaking.{NotMade}
+use Rattle.call_client.proofs.RunBehindOperation.{ok_then, err_then}
+use Rattle.call_client.proofs.ClientAfterOperations.{may_act_now, kept_go, same_passes, same_sent, same_ids, held_go, same_go, held_few, dropped_few}
 use Rattle.call_client.proofs.acting.act.Goals as goal
 
 pub open_next-requires-clause-may : goal.open_next-requires-clause-may

@@ -1,9 +1,9 @@
 use Rattle.std.proofs.Common.{◌+◌, refl, subst}
-use Rattle.call_attempts.specs.Calling.{CalledBy}
-use Rattle.call_attempts.proofs.Leaving.{err_by}
-use Rattle.call_client.specs.Acting.{stand, both_of}
-use Rattle.call_client.specs.Running.{NotCalled, for_memory, for_slots}
-use Rattle.call_client.proofs.Going.{room_for_one}
+use Rattle.call_attempts.specs.CallBeginning.{CalledBy}
+use Rattle.call_attempts.proofs.LeftByAttempt.{err_by}
+use Rattle.call_client.specs.ClientBetweenOperations.{stand, both_of}
+use Rattle.call_client.specs.ClientRun.{NotCalled, for_memory, for_slots}
+use Rattle.call_client.proofs.ClientAfterOperations.{room_for_one}
 use Rattle.call_client.proofs.acting.begin_call.Goals as goal
 
 pub call_one-requires-clause-room : goal.call_one-requires-clause-room

@@ -1,5 +1,5 @@
-use Rattle.call_errors.specs.Books.{stand_of}
-use Rattle.call_client.proofs.Going.{room_for_one, sent_calling_own}
+use Rattle.call_errors.specs.ClientBooks.{stand_of}
+use Rattle.call_client.proofs.ClientAfterOperations.{room_for_one, sent_calling_own}
 use Rattle.call_client.proofs.acting.send_message.Goals as goal
 
 pub send-requires-clause-room : goal.send-requires-clause-room

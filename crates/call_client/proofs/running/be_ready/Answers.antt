@@ -1,9 +1,9 @@
 use Rattle.std.proofs.Common.{true, inr, refl, arith}
-use Rattle.call_attempts.specs.Retrying.{RanOut, before_next}
-use Rattle.call_attempts.specs.Both.{both}
-use Rattle.call_attempts.proofs.Leaving.{err_by}
-use Rattle.call_client.specs.Acting.{stand, both_of}
-use Rattle.call_client.proofs.Going.{may_act_now, kept_go}
+use Rattle.call_attempts.specs.WaitingRetries.{RanOut, before_next}
+use Rattle.call_attempts.specs.ClientAtBothTables.{both}
+use Rattle.call_attempts.proofs.LeftByAttempt.{err_by}
+use Rattle.call_client.specs.ClientBetweenOperations.{stand, both_of}
+use Rattle.call_client.proofs.ClientAfterOperations.{may_act_now, kept_go}
 use Rattle.call_client.proofs.running.be_ready.Goals as goal
 
 pub retry_all-requires-clause-may : goal.retry_all-requires-clause-may

@@ -1,10 +1,10 @@
 use Rattle.std.proofs.Common.{◌≡◌, ◌∷◌, ◌∙◌, length, sym, subst}
 use Rattle.std.specs.Prelude.{List}
 use Rattle.seat_programs.specs.declared.task.Task.{Task}
-use Rattle.rpc_client.proofs.Counting.{refs_then}
-use Rattle.call_client.specs.Acting.{stand}
-use Rattle.call_client.specs.Running.{LeftAll}
-use Rattle.call_client.proofs.Coursing.{may_next, may_rest, left_passes}
+use Rattle.rpc_client.proofs.CountedReferences.{refs_then}
+use Rattle.call_client.specs.ClientBetweenOperations.{stand}
+use Rattle.call_client.specs.ClientRun.{LeftAll}
+use Rattle.call_client.proofs.RunBehindOperation.{may_next, may_rest, left_passes}
 use Rattle.call_client.proofs.running.leave_all.Goals as goal
 
 pub leave_one-requires-clause-may : goal.leave_one-requires-clause-may

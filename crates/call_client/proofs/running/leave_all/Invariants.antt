@@ -1,9 +1,9 @@
 use Rattle.std.proofs.Common.{◌≡◌, length}
 use Rattle.std.specs.Prelude.{All}
-use Rattle.sock_table.specs.Passes.{IsPass}
-use Rattle.rpc_client.specs.Seats.{Idle, SameRefs}
-use Rattle.call_client.specs.Acting.{Stand, stand}
-use Rattle.call_client.specs.Running.{MayMakeAll, LeftAll}
+use Rattle.sock_table.specs.LinkPasses.{IsPass}
+use Rattle.rpc_client.specs.SeatBetweenOperations.{Idle, SameRefs}
+use Rattle.call_client.specs.ClientBetweenOperations.{Stand, stand}
+use Rattle.call_client.specs.ClientRun.{MayMakeAll, LeftAll}
 use Rattle.call_client.proofs.running.leave_all.Given as goal
 
 abbrev pub invariant-leaves : goal.invariant-leaves

@@ -1,7 +1,7 @@
 use Rattle.std.proofs.Common.{◌≡◌}
-use Rattle.call_attempts.proofs.Leaving.{err_by}
-use Rattle.call_client.specs.Acting.{stand}
-use Rattle.call_client.specs.Making.{NotMade}
+use Rattle.call_attempts.proofs.LeftByAttempt.{err_by}
+use Rattle.call_client.specs.ClientBetweenOperations.{stand}
+use Rattle.call_client.specs.ClientStopsMaking.{NotMade}
 use Rattle.call_client.proofs.running.make.Goals as goal
 
 pub returns-in_err-told-clause-not_made : goal.returns-in_err-told-clause-not_made

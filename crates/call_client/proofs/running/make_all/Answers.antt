@@ -1,13 +1,13 @@
 use Rattle.std.proofs.Common.{◌≡◌, ℕ, ◌+◌, add-one, drop, length, vec_capacity, true, inl, ap, ◌∙◌, sym, subst, refl, arith}
-use Rattle.corr_id.specs.Seats.{Stays}
-use Rattle.rpc_client.proofs.Coursing.{told_room}
-use Rattle.call_errors.specs.Books.{HasNoLock}
-use Rattle.call_attempts.proofs.Leaving.{err_by}
-use Rattle.call_client.specs.Acting.{stand}
-use Rattle.call_client.specs.Running.{MayMakeAll, while_retrying}
-use Rattle.call_client.specs.Making.{ComesTo, CameBy}
-use Rattle.call_client.proofs.Coursing.{next_there, none_behind, may_next, may_rest, acted_passes, not_made_passes, begins_same, roomless, ran_none, ran_before, ran_more, short_at}
-use Rattle.call_client.proofs.Going.{more_made, same_go}
+use Rattle.corr_id.specs.IdTableSeat.{Stays}
+use Rattle.rpc_client.proofs.ToldAndGivenBack.{told_room}
+use Rattle.call_errors.specs.ClientBooks.{HasNoLock}
+use Rattle.call_attempts.proofs.LeftByAttempt.{err_by}
+use Rattle.call_client.specs.ClientBetweenOperations.{stand}
+use Rattle.call_client.specs.ClientRun.{MayMakeAll, while_retrying}
+use Rattle.call_client.specs.ClientStopsMaking.{ComesTo, CameBy}
+use Rattle.call_client.proofs.RunBehindOperation.{next_there, none_behind, may_next, may_rest, acted_passes, not_made_passes, begins_same, roomless, ran_none, ran_before, ran_more, short_at}
+use Rattle.call_client.proofs.ClientAfterOperations.{more_made, same_go}
 use Rattle.call_client.proofs.running.make_all.Goals as goal
 
 pub returns-in_default-clause-go : goal.returns-in_default-clause-go

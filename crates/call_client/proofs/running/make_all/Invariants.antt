@@ -1,7 +1,7 @@
 use Rattle.std.proofs.Common.{◌≡◌, ◌+◌, ◌≤◌, length, drop, vec_capacity}
-use Rattle.corr_id.specs.Seats.{Stays}
-use Rattle.call_client.specs.Acting.{MayGo}
-use Rattle.call_client.specs.Running.{MayMakeAll, RanTo}
+use Rattle.corr_id.specs.IdTableSeat.{Stays}
+use Rattle.call_client.specs.ClientBetweenOperations.{MayGo}
+use Rattle.call_client.specs.ClientRun.{MayMakeAll, RanTo}
 use Rattle.call_client.proofs.running.make_all.Given as goal
 
 abbrev pub invariant-makes : goal.invariant-makes

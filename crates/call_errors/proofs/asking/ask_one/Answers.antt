@@ -4,8 +4,8 @@ use Rattle.sock_words.specs.declared.outcome.Outcome.TheVariants.{NotBegun}
 use Rattle.corr_core.specs.declared.marks.Plan.{Plan}
 use Rattle.call_errors.specs.declared.asking.Ask.{Ask}
 use Rattle.call_errors.specs.declared.asking.Ask.TheVariants.{Expire, Join}
-use Rattle.call_errors.specs.Books.{CallStand, stand_of}
-use Rattle.call_errors.specs.Asking.{FoundNone, AskedBy}
+use Rattle.call_errors.specs.ClientBooks.{CallStand, stand_of}
+use Rattle.call_errors.specs.ExpireAndJoinOutcomes.{FoundNone, AskedBy}
 use Rattle.call_errors.proofs.asking.ask_one.Goals as goal
 
 none_asked : (ask : Ask) (p : Plan) (operation : ℕ) (s t : CallStand) → FoundNone p operation s t → AskedBy ask p operation NotBegun s t

@@ -1,6 +1,6 @@
 use Rattle.std.proofs.Common.{ℕ, sym, subst}
 use Rattle.corr_id.specs.declared.unlocks.Unlocked.TheVariants.{Open, Next}
-use Rattle.call_errors.specs.Books.{stand_of, LetGo}
+use Rattle.call_errors.specs.ClientBooks.{stand_of, LetGo}
 use Rattle.call_errors.specs.Handling.{ends, waits, goes_on}
 use Rattle.call_errors.proofs.Deciding.{starves_before, starves_here, advanced_from, let_go_then}
 use Rattle.call_errors.proofs.handling.+handle.Goals as goal

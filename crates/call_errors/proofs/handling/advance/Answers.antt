@@ -1,5 +1,5 @@
 use Rattle.std.proofs.Common.{ℕ, ◌+◌, ap}
-use Rattle.call_errors.specs.Books.{stand_of}
+use Rattle.call_errors.specs.ClientBooks.{stand_of}
 use Rattle.call_errors.proofs.Deciding.{advanced_by}
 use Rattle.call_errors.proofs.handling.advance.Goals as goal
 

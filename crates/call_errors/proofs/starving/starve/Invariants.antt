@@ -1,5 +1,5 @@
 use Rattle.std.proofs.Common.{[], true, length}
-use Rattle.call_errors.specs.Books.{CallStand, stand_of, KeepsSeat}
+use Rattle.call_errors.specs.ClientBooks.{CallStand, stand_of, KeepsSeat}
 use Rattle.call_errors.specs.Starving.{AllGivenUp}
 use Rattle.call_errors.proofs.starving.starve.Given as goal
 

@@ -2,8 +2,8 @@ use Rattle.std.proofs.Common.{ℕ, ◌<◌, length, refl, ap, sym, ◌∙◌, su
 use Rattle.std.specs.Prelude.{All}
 use Rattle.std.proofs.lemmas.List.{length-map}
 use Rattle.call_run.specs.Threads.{ids_of}
-use Rattle.call_run.specs.Crew.{AreBack}
-use Rattle.call_run.proofs.Whole.{fresh_back, as_long}
+use Rattle.call_run.specs.CrewOfRun.{AreBack}
+use Rattle.call_run.proofs.WholeRunOverTables.{fresh_back, as_long}
 use Rattle.call_run.proofs.Together.{left_both, ids_beside, beside_ran}
 use Rattle.call_run.proofs.beside.run_beside.Goals as goal
 

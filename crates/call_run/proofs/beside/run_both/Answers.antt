@@ -1,8 +1,8 @@
 use mir.Syntax.{of_param}
 use Rattle.std.proofs.Common.{subst, sym, ◌∙◌}
-use Rattle.call_run.specs.Links.{IsLinksRoom}
-use Rattle.call_run.proofs.Bounds.{unseen_quiet}
-use Rattle.call_run.proofs.Readings.{all_ready, seated_long, links_ran}
+use Rattle.call_run.specs.LinksBesideClients.{IsLinksRoom}
+use Rattle.call_run.proofs.ThreadTypeBounds.{unseen_quiet}
+use Rattle.call_run.proofs.ReadingsInTurn.{all_ready, seated_long, links_ran}
 use Rattle.call_run.proofs.beside.run_both.Goals as goal
 
 pub join-besides-requires-after_bounds : goal.join-besides-requires-after_bounds

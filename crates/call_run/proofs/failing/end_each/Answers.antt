@@ -1,5 +1,5 @@
 use Rattle.std.proofs.Common.{◌∙◌}
-use Rattle.call_run.proofs.Sockets.{ended_next}
+use Rattle.call_run.proofs.SocketsEndedByMain.{ended_next}
 use Rattle.call_run.proofs.failing.end_each.Goals as goal
 
 pub ends-preserved : goal.ends-preserved

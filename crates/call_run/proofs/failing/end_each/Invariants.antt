@@ -1,6 +1,6 @@
 use Rattle.std.proofs.Common.{◌≡◌, take}
-use Rattle.sock_table.specs.Closed.{IsDoneSeat}
-use Rattle.call_run.specs.Ending.{EndedEach}
+use Rattle.sock_table.specs.ClosedSocketTable.{IsDoneSeat}
+use Rattle.call_run.specs.EndingOfSockets.{EndedEach}
 use Rattle.call_run.proofs.failing.end_each.Given as goal
 
 abbrev pub invariant-ends : goal.invariant-ends

@@ -1,6 +1,6 @@
 use Rattle.std.proofs.Common.{Some, None, refl, ◌∙◌}
-use Rattle.call_client.specs.rpc_client.proofs.Counting.{refs_then}
-use Rattle.call_run.proofs.Sockets.{done_idle, still_may, still_done}
+use Rattle.call_client.specs.rpc_client.proofs.CountedReferences.{refs_then}
+use Rattle.call_run.proofs.SocketsEndedByMain.{done_idle, still_may, still_done}
 use Rattle.call_run.proofs.failing.end_one.Goals as goal
 
 pub wait_open-requires-clause-idle : goal.wait_open-requires-clause-idle

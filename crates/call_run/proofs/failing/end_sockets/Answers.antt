@@ -1,5 +1,5 @@
 use Rattle.std.proofs.Common.{[], ◌∷◌, ◌++◌, ap, sym, ◌∙◌}
-use Rattle.call_run.proofs.Sockets.{left_alone}
+use Rattle.call_run.proofs.SocketsEndedByMain.{left_alone}
 use Rattle.call_run.proofs.failing.end_sockets.Goals as goal
 
 pub returns-clause-left : goal.returns-clause-left

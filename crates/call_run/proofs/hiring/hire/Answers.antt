@@ -1,6 +1,6 @@
 use Rattle.std.proofs.Common.{subst}
 use Rattle.std.specs.Prelude.{All}
-use Rattle.sock_table.specs.Passes.{IsPass}
+use Rattle.sock_table.specs.LinkPasses.{IsPass}
 use Rattle.call_run.proofs.hiring.hire.Goals as goal
 
 pub returns-clause-go : goal.returns-clause-go

@@ -4,7 +4,7 @@ use Rattle.std.proofs.lemmas.List.{map-append}
 use Rattle.call_run.specs.declared.hiring.Room.{Room}
 use Rattle.call_run.specs.Hired.{HasRoom}
 use Rattle.call_run.proofs.Dealing.{all_snoc}
-use Rattle.call_run.proofs.Handing.{more_left}
+use Rattle.call_run.proofs.ClientsHandingIn.{more_left}
 use Rattle.call_run.proofs.hiring.rooms_for.Goals as goal
 
 pub clients-preserved : goal.clients-preserved

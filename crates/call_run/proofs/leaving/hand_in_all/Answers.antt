@@ -1,4 +1,4 @@
-use Rattle.call_run.proofs.Handing.{handing_next, room_one}
+use Rattle.call_run.proofs.ClientsHandingIn.{handing_next, room_one}
 use Rattle.call_run.proofs.leaving.hand_in_all.Goals as goal
 
 pub hand_in-requires : goal.hand_in-requires

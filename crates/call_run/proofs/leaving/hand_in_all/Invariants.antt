@@ -1,5 +1,5 @@
 use Rattle.std.specs.Vec.Iter.{into_iter_items}
-use Rattle.call_run.proofs.Handing.{Handing}
+use Rattle.call_run.proofs.ClientsHandingIn.{Handing}
 use Rattle.call_run.proofs.leaving.hand_in_all.Given as goal
 
 abbrev pub invariant-hands : goal.invariant-hands

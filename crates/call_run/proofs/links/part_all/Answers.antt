@@ -1,5 +1,5 @@
 use Rattle.std.proofs.Common.{arith}
-use Rattle.call_run.proofs.Parting.{parting_next, links_next, links_one, all_parted}
+use Rattle.call_run.proofs.PartingLinks.{parting_next, links_next, links_one, all_parted}
 use Rattle.call_run.proofs.links.part_all.Goals as goal
 
 pub part_one-requires : goal.part_one-requires

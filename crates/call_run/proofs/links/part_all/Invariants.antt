@@ -1,7 +1,7 @@
 use Rattle.std.proofs.Common.{length}
 use Rattle.std.specs.Vec.Iter.{into_iter_items}
-use Rattle.call_run.specs.Links.{HasMoreLinks}
-use Rattle.call_run.proofs.Parting.{Parting}
+use Rattle.call_run.specs.LinksBesideClients.{HasMoreLinks}
+use Rattle.call_run.proofs.PartingLinks.{Parting}
 use Rattle.call_run.proofs.links.part_all.Given as goal
 
 abbrev pub invariant-parts : goal.invariant-parts

@@ -1,5 +1,5 @@
 use Rattle.std.proofs.Common.{◌+◌, ◌∙◌, sym, subst, arith}
-use Rattle.call_run.proofs.Seating.{AreSeating, one_seated}
+use Rattle.call_run.proofs.SeatingLinkReaders.{AreSeating, one_seated}
 use Rattle.call_run.proofs.links.seat_links.Goals as goal
 
 pub next_seats-seat-requires : goal.next_seats-seat-requires

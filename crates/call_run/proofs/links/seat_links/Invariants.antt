@@ -1,6 +1,6 @@
 use Rattle.std.proofs.Common.{◌≡◌, length}
 use Rattle.std.specs.Vec.{vec_len, vec_capacity}
-use Rattle.call_run.proofs.Seating.{AreSeating}
+use Rattle.call_run.proofs.SeatingLinkReaders.{AreSeating}
 use Rattle.call_run.proofs.links.seat_links.Given as goal
 
 abbrev pub invariant-links : goal.invariant-links

@@ -1,7 +1,7 @@
 use Rattle.std.proofs.Common.{ap, ◌∙◌, length, length-append, get_or, arith}
 use Rattle.call_run.specs.declared.opened.Opening.{Opening}
 use Rattle.call_run.specs.Threads.{name_if}
-use Rattle.call_run.proofs.Naming.{if_few, names_on, names_all}
+use Rattle.call_run.proofs.SetupNames.{if_few, names_on, names_all}
 use Rattle.call_run.proofs.opened.opened_names.Goals as goal
 
 pub names-preserved : goal.names-preserved

@@ -1,7 +1,7 @@
 use Rattle.std.proofs.Common.{◌++◌, ap, ◌∙◌}
 use Rattle.std.specs.VecDeque.Iter.{deque_iter_rest}
 use Rattle.call_run.specs.Threads.{openings}
-use Rattle.call_run.proofs.Naming.{openings_on, openings_all}
+use Rattle.call_run.proofs.SetupNames.{openings_on, openings_all}
 use Rattle.call_run.proofs.opened.openings.Goals as goal
 
 pub openings-init : goal.openings-init

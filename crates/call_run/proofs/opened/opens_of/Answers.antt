@@ -1,7 +1,7 @@
 use Rattle.std.proofs.Common.{ap, arith}
 use Rattle.std.specs.VecDeque.Iter.{deque_iter_rest}
 use Rattle.call_run.specs.Threads.{opens_of}
-use Rattle.call_run.proofs.Naming.{opens_few}
+use Rattle.call_run.proofs.SetupNames.{opens_few}
 use Rattle.call_run.proofs.opened.opens_of.Goals as goal
 
 pub opens-init : goal.opens-init

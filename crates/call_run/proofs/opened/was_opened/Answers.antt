@@ -1,5 +1,5 @@
 use Rattle.std.proofs.Common.{sym, ◌∙◌}
-use Rattle.call_run.proofs.Naming.{opened_on, opened_here, opened_none}
+use Rattle.call_run.proofs.SetupNames.{opened_on, opened_here, opened_none}
 use Rattle.call_run.proofs.opened.was_opened.Goals as goal
 
 pub tolds-preserved : goal.tolds-preserved

@@ -1,11 +1,11 @@
 use Rattle.std.proofs.Common.{ap, sym, subst, ◌∙◌, arith}
 use Rattle.std.proofs.lemmas.List.{length-map}
 use Rattle.std.proofs.lemmas.List.Sorted.{All-permutation}
-use Rattle.sock_table.specs.Passes.{IsPass}
-use Rattle.sock_open.specs.Made.{IsNewSeat}
-use Rattle.sock_open.specs.Opening.{IsRoom}
-use Rattle.corr_id.proofs.Testing.{new_sits}
-use Rattle.call_client.specs.rpc_client.proofs.Going.{passes_all}
+use Rattle.sock_table.specs.LinkPasses.{IsPass}
+use Rattle.sock_open.specs.NewTableContents.{IsNewSeat}
+use Rattle.sock_open.specs.SocketTableOpening.{IsRoom}
+use Rattle.corr_id.proofs.TestingOneLock.{new_sits}
+use Rattle.call_client.specs.rpc_client.proofs.NewSeatsOwnList.{passes_all}
 use Rattle.call_run.specs.Threads.{opens_of}
 use Rattle.call_run.specs.Hired.{IsNewId, AreHired}
 use Rattle.call_run.proofs.Manning.{enough, share}

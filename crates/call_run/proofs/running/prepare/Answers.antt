@@ -1,6 +1,6 @@
 use Rattle.std.proofs.Common.{ℕ, ap, subst, length, arith, ◌∙◌}
 use Rattle.std.proofs.lemmas.List.{length-map}
-use Rattle.call_run.specs.Crew.{IsRoomFor}
+use Rattle.call_run.specs.CrewOfRun.{IsRoomFor}
 use Rattle.call_run.proofs.running.prepare.Goals as goal
 
 pub returns : goal.returns

@@ -6,7 +6,7 @@ use Rattle.call_run.specs.Threads.{opens_of, opened_names}
 use Rattle.call_run.specs.Working.{IsReady, HasWorked}
 use Rattle.call_run.proofs.Weaving.{one_ready, all_ready}
 use Rattle.call_run.proofs.Manning.{whole_lent, fit_names}
-use Rattle.call_run.proofs.Whole.{all_left, crew_ran}
+use Rattle.call_run.proofs.WholeRunOverTables.{all_left, crew_ran}
 use Rattle.call_run.proofs.running.run_crew.Goals as goal
 
 pub work-requires-after_bounds : goal.work-requires-after_bounds

@@ -1,5 +1,5 @@
-use Rattle.call_client.specs.rpc_client.proofs.Finding.{rest_then}
-use Rattle.call_run.proofs.Finding.{found_next}
+use Rattle.call_client.specs.rpc_client.proofs.FindingReferences.{rest_then}
+use Rattle.call_run.proofs.FindingNamedSockets.{found_next}
 use Rattle.call_run.proofs.waiting.wait_all.Goals as goal
 
 pub names-preserved : goal.names-preserved

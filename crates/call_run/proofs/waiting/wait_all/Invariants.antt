@@ -1,5 +1,5 @@
 use Rattle.std.proofs.Common.{take}
-use Rattle.call_client.specs.rpc_client.specs.Seats.{AtRest}
+use Rattle.call_client.specs.rpc_client.specs.SeatBetweenOperations.{AtRest}
 use Rattle.call_run.specs.Threads.{FoundEach}
 use Rattle.call_run.proofs.waiting.wait_all.Given as goal
 

@@ -1,6 +1,6 @@
 use Rattle.std.proofs.Common.{Some, refl, ◌∙◌, subst}
-use Rattle.sock_table.specs.Named.{Found}
-use Rattle.call_client.specs.rpc_client.proofs.Finding.{rest_same, rest_waited}
+use Rattle.sock_table.specs.NamesStoredAndFound.{Found}
+use Rattle.call_client.specs.rpc_client.proofs.FindingReferences.{rest_same, rest_waited}
 use Rattle.call_run.proofs.waiting.wait_for.Goals as goal
 
 pub waits-init : goal.waits-init

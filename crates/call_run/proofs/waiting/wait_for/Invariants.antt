@@ -1,4 +1,4 @@
-use Rattle.call_client.specs.rpc_client.specs.Seats.{StillIdle}
+use Rattle.call_client.specs.rpc_client.specs.SeatBetweenOperations.{StillIdle}
 use Rattle.call_run.proofs.waiting.wait_for.Given as goal
 
 abbrev pub invariant-waits : goal.invariant-waits

@@ -1,5 +1,5 @@
 use Rattle.std.proofs.Common.{◌∙◌}
-use Rattle.call_slots.proofs.Openings.{slots_more}
+use Rattle.call_slots.proofs.OpeningSlotWords.{slots_more}
 use Rattle.call_slots.proofs.opening.push_slots.Goals as goal
 
 pub loop-preserved : goal.loop-preserved

@@ -1,5 +1,5 @@
 use Rattle.std.proofs.Common.{◌≡◌, ◌++◌}
-use Rattle.seat_programs.specs.Scripts.{opening_ids}
+use Rattle.seat_programs.specs.ScriptSetupToEnding.{opening_ids}
 use Rattle.call_slots.proofs.opening.push_slots.Given as goal
 
 abbrev pub invariant-loop : goal.invariant-loop

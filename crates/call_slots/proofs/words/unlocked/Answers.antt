@@ -1,7 +1,7 @@
 use Rattle.corr_core.specs.Word.{parts, unlocked_word}
 use Rattle.call_slots.proofs.Packing.{left_is}
 use Rattle.call_slots.proofs.words.unlocked.Goals as goal
-use Rattle.sock_words.specs.Words.{bit}
+use Rattle.sock_words.specs.PackedWords.{bit}
 
 pub returns : goal.returns
 returns c =

@@ -1,8 +1,8 @@
 use Rattle.std.proofs.Common.{◌≡◌, ℕ, List, ◌+◌, ◌∙◌, ap, length}
 use Rattle.sock_message.specs.Asked.{meta_with, meta_of}
 use Rattle.sock_message.specs.io_buf.specs.Buffer.{block_sizes}
-use Rattle.rpc_meta.specs.Meaning.{meaning}
-use Rattle.call_table.proofs.Pieces.{taken_so, lies_so}
+use Rattle.rpc_meta.specs.MetaMeaning.{meaning}
+use Rattle.call_table.proofs.FramePieces.{taken_so, lies_so}
 use Rattle.call_table.proofs.issuing.issue.Goals as goal
 
 pub returns-clause-only : goal.returns-clause-only

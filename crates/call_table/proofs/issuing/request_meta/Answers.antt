@@ -1,5 +1,5 @@
 use Rattle.std.proofs.Common.{arith, ap, length}
-use Rattle.call_table.proofs.Sizes.{short_meta}
+use Rattle.call_table.proofs.CallMetaSize.{short_meta}
 use Rattle.call_table.proofs.issuing.request_meta.Goals as goal
 
 pub returns-clause-short : goal.returns-clause-short

@@ -1,5 +1,5 @@
 use Rattle.std.proofs.Common.{◌≡◌, true, false, ◌∙◌, ap, refl, sym, rules, ℤ, w32, to_z, of_z}
-use Rattle.call_table.proofs.Endings.{compressed_told, compressed_outcome, peer_told, peer_outcome}
+use Rattle.call_table.proofs.EndingsByResponse.{compressed_told, compressed_outcome, peer_told, peer_outcome}
 use Rattle.call_table.proofs.responses.on_response.Goals as goal
 
 pub returns-then-not-is_zero-clause-exact : goal.returns-then-not-is_zero-clause-exact

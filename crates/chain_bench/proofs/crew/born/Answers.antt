@@ -1,8 +1,8 @@
 use Rattle.std.proofs.Common.{subst, Some}
-use Rattle.sock_open.specs.Made.{PassesFrom}
+use Rattle.sock_open.specs.NewTableContents.{PassesFrom}
 use Rattle.sock_open.proofs.Racing.{pass_popped}
-use Rattle.sock_open.proofs.Testing.{done_between}
-use Rattle.write_chain.proofs.Testing.{kept_free, stored_ready}
+use Rattle.sock_open.proofs.SeatsHoldingNothing.{done_between}
+use Rattle.write_chain.proofs.SeatBetweenMessages.{kept_free, stored_ready}
 use Rattle.chain_bench.proofs.crew.born.Goals as goal
 
 pub create-requires-clause-seat : goal.create-requires-clause-seat

@@ -1,5 +1,5 @@
 use Rattle.std.proofs.Common.{arith, ap}
-use Rattle.chain_bench.proofs.Sends.{five_done}
+use Rattle.chain_bench.proofs.AcceptedSendsOfSeat.{five_done}
 use Rattle.chain_bench.proofs.crew.end.Goals as goal
 use Rattle.sock_words.specs.Totals.{total}
 

@@ -1,8 +1,8 @@
 use Rattle.std.proofs.Common.{subst, Some}
-use Rattle.sock_open.specs.Made.{AreNewSeats}
+use Rattle.sock_open.specs.NewTableContents.{AreNewSeats}
 use Rattle.sock_open.proofs.Racing.{popped}
-use Rattle.write_chain.proofs.Testing.{new_free}
-use Rattle.chain_bench.proofs.Sends.{new_room}
+use Rattle.write_chain.proofs.SeatBetweenMessages.{new_free}
+use Rattle.chain_bench.proofs.AcceptedSendsOfSeat.{new_room}
 use Rattle.chain_bench.proofs.crew.one_of.Goals as goal
 
 pub returns-clause-seat : goal.returns-clause-seat

@@ -1,7 +1,7 @@
 use Rattle.sock_model.specs.Rule.{MOST_ACCEPTED}
-use Rattle.sock_open.proofs.Testing.{done_between}
-use Rattle.write_chain.proofs.Testing.{kept_free}
-use Rattle.chain_bench.proofs.Sends.{same_room_for}
+use Rattle.sock_open.proofs.SeatsHoldingNothing.{done_between}
+use Rattle.write_chain.proofs.SeatBetweenMessages.{kept_free}
+use Rattle.chain_bench.proofs.AcceptedSendsOfSeat.{same_room_for}
 use Rattle.chain_bench.proofs.crew.sender_of.Goals as goal
 
 pub find-requires-clause-seat : goal.find-requires-clause-seat

@@ -3,11 +3,11 @@ use Rattle.message_parts.specs.Parcels.{parcel_of}
 use Rattle.sock_rule.specs.Shows.{heading_of}
 use Rattle.sock_rule.specs.declared.homes.Letter.{Letter}
 use Rattle.sock_table.specs.declared.refs.SockRef.{SockRef}
-use Rattle.write_chain.specs.Ready.{refused_of}
-use Rattle.write_chain.specs.Writing.{Begins}
-use Rattle.write_chain.proofs.Testing.{few_one, sock_is, started_one}
-use Rattle.chain_bench.specs.Senders.{IsHolding}
-use Rattle.chain_bench.proofs.Sends.{same_room, started_more, refused_lists}
+use Rattle.write_chain.specs.ReadyToSend.{refused_of}
+use Rattle.write_chain.specs.WritingRightInHand.{Begins}
+use Rattle.write_chain.proofs.SeatBetweenMessages.{few_one, sock_is, started_one}
+use Rattle.chain_bench.specs.SenderWithOneReference.{IsHolding}
+use Rattle.chain_bench.proofs.AcceptedSendsOfSeat.{same_room, started_more, refused_lists}
 use Rattle.chain_bench.proofs.Refusing.{refused_holding, refused_full}
 use Rattle.chain_bench.proofs.sending.hand_in.Goals as goal
 

@@ -1,5 +1,5 @@
 use Rattle.std.proofs.Common.{◌≡◌, ◌*◌, ◌<◌}
-use Rattle.chain_bench.specs.Senders.{IsHolding}
+use Rattle.chain_bench.specs.SenderWithOneReference.{IsHolding}
 use Rattle.chain_bench.proofs.sending.hand_in.Given as goal
 
 abbrev pub invariant-tries : goal.invariant-tries

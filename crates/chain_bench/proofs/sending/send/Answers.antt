@@ -1,4 +1,4 @@
-use Rattle.chain_bench.proofs.Sends.{more_then}
+use Rattle.chain_bench.proofs.AcceptedSendsOfSeat.{more_then}
 use Rattle.chain_bench.proofs.sending.send.Goals as goal
 
 pub returns-in-Ok-clause-lists : goal.returns-in-Ok-clause-lists

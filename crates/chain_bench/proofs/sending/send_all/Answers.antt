@@ -1,11 +1,11 @@
 use Rattle.std.proofs.Common.{ℕ, sym, ap, ◌∙◌, subst, arith}
 use Rattle.sock_words.specs.declared.socket_id.SocketId.{SocketId}
-use Rattle.sock_words.specs.Words.{socket_id_slot}
-use Rattle.sock_table.specs.Answers.{Holds}
-use Rattle.sock_open.proofs.Testing.{done_between, no_notes, holds_it}
-use Rattle.write_chain.specs.Ready.{HoldsOne}
-use Rattle.write_chain.proofs.Testing.{held_one, gone_spent, let_go_spent}
-use Rattle.chain_bench.proofs.Sends.{same_room_for, fewer_room}
+use Rattle.sock_words.specs.PackedWords.{socket_id_slot}
+use Rattle.sock_table.specs.ReferenceAnswers.{Holds}
+use Rattle.sock_open.proofs.SeatsHoldingNothing.{done_between, no_notes, holds_it}
+use Rattle.write_chain.specs.ReadyToSend.{HoldsOne}
+use Rattle.write_chain.proofs.SeatBetweenMessages.{held_one, gone_spent, let_go_spent}
+use Rattle.chain_bench.proofs.AcceptedSendsOfSeat.{same_room_for, fewer_room}
 use Rattle.sock_model.specs.Rule.{MOST_ACCEPTED}
 use Rattle.sock_model.specs.declared.view.View.{View}
 use Rattle.chain_bench.proofs.sending.send_all.Goals as goal

@@ -1,5 +1,5 @@
 use Rattle.std.proofs.Common.{arith}
-use Rattle.chain_bench.proofs.Sends.{room_for_one, one_less}
+use Rattle.chain_bench.proofs.AcceptedSendsOfSeat.{room_for_one, one_less}
 use Rattle.chain_bench.proofs.sending.send_each.Goals as goal
 
 pub send-sock-requires-clause-room : goal.send-sock-requires-clause-room

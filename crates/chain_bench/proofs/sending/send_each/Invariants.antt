@@ -1,5 +1,5 @@
 use Rattle.std.proofs.Common.{◌≡◌, ◌-◌}
-use Rattle.chain_bench.specs.Senders.{HasRoomFor, IsHolding}
+use Rattle.chain_bench.specs.SenderWithOneReference.{HasRoomFor, IsHolding}
 use Rattle.chain_bench.proofs.sending.send_each.Given as goal
 
 abbrev pub invariant-sends : goal.invariant-sends

@@ -1,9 +1,9 @@
 use Rattle.std.proofs.Common.{sym, ◌∙◌, subst}
 use Rattle.sock_table.specs.declared.refs.SockRef.{SockRef}
-use Rattle.write_chain.specs.Writing.{GaveUp}
-use Rattle.write_chain.specs.Ready.{HoldsOne}
-use Rattle.write_chain.proofs.Testing.{wrote_one}
-use Rattle.chain_bench.proofs.Sends.{wrote_lists}
+use Rattle.write_chain.specs.WritingRightInHand.{GaveUp}
+use Rattle.write_chain.specs.ReadyToSend.{HoldsOne}
+use Rattle.write_chain.proofs.SeatBetweenMessages.{wrote_one}
+use Rattle.chain_bench.proofs.AcceptedSendsOfSeat.{wrote_lists}
 use Rattle.chain_bench.proofs.sending.write.Goals as goal
 
 pub write_on-requires-clause-may : goal.write_on-requires-clause-may

@@ -1,9 +1,9 @@
 use Rattle.std.proofs.Common.{refl, sym, ◌∙◌, subst}
 use Rattle.sock_table.specs.declared.refs.SockRef.{SockRef}
-use Rattle.write_chain.specs.Writing.{GaveUp}
-use Rattle.write_chain.specs.Ready.{HoldsOne}
-use Rattle.write_chain.proofs.Testing.{wrote_one, dropped_one}
-use Rattle.chain_bench.proofs.Sends.{wrote_lists, dropped_lists}
+use Rattle.write_chain.specs.WritingRightInHand.{GaveUp}
+use Rattle.write_chain.specs.ReadyToSend.{HoldsOne}
+use Rattle.write_chain.proofs.SeatBetweenMessages.{wrote_one, dropped_one}
+use Rattle.chain_bench.proofs.AcceptedSendsOfSeat.{wrote_lists, dropped_lists}
 use Rattle.chain_bench.proofs.sending.write_on.Goals as goal
 
 pub goes-init : goal.goes-init

@@ -1,7 +1,7 @@
 use Rattle.std.proofs.Common.{◌≡◌}
-use Rattle.sock_rule.specs.Seated.{IsSeat}
-use Rattle.write_chain.specs.Writing.{MayGoOn}
-use Rattle.write_chain.specs.Ready.{HoldsOne}
+use Rattle.sock_rule.specs.SocketSeatSplits.{IsSeat}
+use Rattle.write_chain.specs.WritingRightInHand.{MayGoOn}
+use Rattle.write_chain.specs.ReadyToSend.{HoldsOne}
 use Rattle.chain_bench.proofs.sending.write_on.Given as goal
 
 abbrev pub invariant-goes : goal.invariant-goes

@@ -1,9 +1,9 @@
 use Rattle.std.proofs.Common.{sym, subst}
-use Rattle.sock_model.specs.Layout.{request_index}
+use Rattle.sock_model.specs.SocketTableLayout.{request_index}
 use Rattle.sock_model.specs.ChainRows.{with_claim, fresh_claim}
-use Rattle.sock_model.specs.Keeping.{KeepsRule}
-use Rattle.chain_core.specs.Conditions.{MayLook, MayClaim}
-use Rattle.chain_core.proofs.KeptRules.{or_free, or_taken, tests_free, tests_taken, claims, looks, notes}
+use Rattle.sock_model.specs.KeepingSocketRule.{KeepsRule}
+use Rattle.chain_core.specs.RequestStepConditions.{MayLook, MayClaim}
+use Rattle.chain_core.proofs.ChainKeptRules.{or_free, or_taken, tests_free, tests_taken, claims, looks, notes}
 use Rattle.chain_core.proofs.steps.claim_request.Goals as goal
 
 pub returns-clause-won : goal.returns-clause-won

@@ -1,4 +1,4 @@
-use Rattle.chain_core.proofs.KeptRules.{connects}
+use Rattle.chain_core.proofs.ChainKeptRules.{connects}
 use Rattle.chain_core.proofs.steps.connect.Goals as goal
 
 pub returns-clause-keeps : goal.returns-clause-keeps

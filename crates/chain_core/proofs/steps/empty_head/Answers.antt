@@ -1,10 +1,10 @@
 use Rattle.std.proofs.Common.{ℕ, sym, ap, subst, ◌∙◌}
 use Rattle.std.specs.Prelude.{bit_or}
-use Rattle.sock_model.specs.Layout.{head_index}
+use Rattle.sock_model.specs.SocketTableLayout.{head_index}
 use Rattle.sock_model.specs.ChainRows.{with_right, without_right, walking_right}
-use Rattle.sock_model.specs.Keeping.{KeepsRule}
-use Rattle.chain_core.specs.Conditions.{MayTry}
-use Rattle.chain_core.proofs.KeptRules.{empties, walks}
+use Rattle.sock_model.specs.KeepingSocketRule.{KeepsRule}
+use Rattle.chain_core.specs.RequestStepConditions.{MayTry}
+use Rattle.chain_core.proofs.ChainKeptRules.{empties, walks}
 use Rattle.chain_core.proofs.steps.empty_head.Goals as goal
 
 pub returns-clause-won : goal.returns-clause-won

@@ -1,4 +1,4 @@
-use Rattle.chain_core.proofs.KeptRules.{frees}
+use Rattle.chain_core.proofs.ChainKeptRules.{frees}
 use Rattle.chain_core.proofs.steps.free_request.Goals as goal
 
 pub returns-clause-keeps : goal.returns-clause-keeps

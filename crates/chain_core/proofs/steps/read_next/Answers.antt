@@ -1,5 +1,5 @@
-use Rattle.sock_model.specs.Layout.{next_index}
-use Rattle.chain_core.proofs.KeptRules.{passes, retires, reads, looks}
+use Rattle.sock_model.specs.SocketTableLayout.{next_index}
+use Rattle.chain_core.proofs.ChainKeptRules.{passes, retires, reads, looks}
 use Rattle.chain_core.proofs.steps.read_next.Goals as goal
 
 pub returns-clause-keeps_written : goal.returns-clause-keeps_written

@@ -1,4 +1,4 @@
-use Rattle.chain_core.proofs.KeptRules.{queues, rights}
+use Rattle.chain_core.proofs.ChainKeptRules.{queues, rights}
 use Rattle.chain_core.proofs.steps.swap_head.Goals as goal
 
 pub returns-clause-keeps_busy : goal.returns-clause-keeps_busy

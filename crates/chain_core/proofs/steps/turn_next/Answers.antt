@@ -1,4 +1,4 @@
-use Rattle.chain_core.proofs.KeptRules.{turns}
+use Rattle.chain_core.proofs.ChainKeptRules.{turns}
 use Rattle.chain_core.proofs.steps.turn_next.Goals as goal
 
 pub returns-clause-keeps : goal.returns-clause-keeps

@@ -1,4 +1,4 @@
-use Rattle.chain_core.proofs.KeptRules.{unconnects}
+use Rattle.chain_core.proofs.ChainKeptRules.{unconnects}
 use Rattle.chain_core.proofs.steps.unconnect.Goals as goal
 
 pub returns-clause-keeps : goal.returns-clause-keeps

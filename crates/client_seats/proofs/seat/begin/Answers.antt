@@ -1,5 +1,5 @@
 use Rattle.std.proofs.Common.{◌∙◌}
-use Rattle.client_seats.specs.Seats.{lives}
+use Rattle.client_seats.specs.ClientSeatState.{lives}
 use Rattle.client_seats.proofs.HeldLives.{calls, drops, sends}
 use Rattle.client_seats.proofs.seat.begin.Goals as goal
 

@@ -1,6 +1,6 @@
 use Rattle.std.proofs.Common.{◌≡◌, drop}
-use Rattle.seat_programs.specs.Clients.{held_under}
-use Rattle.client_seats.specs.Seats.{lives}
+use Rattle.seat_programs.specs.ClientProgram.{held_under}
+use Rattle.client_seats.specs.ClientSeatState.{lives}
 use Rattle.client_seats.proofs.seat.find_held.Given as goal
 
 -- it isn't among those that were looked at

@@ -1,5 +1,5 @@
 use Rattle.std.proofs.Common.{◌∙◌, ap}
-use Rattle.client_seats.specs.Seats.{lives}
+use Rattle.client_seats.specs.ClientSeatState.{lives}
 use Rattle.client_seats.proofs.HeldLives.{lives_without}
 use Rattle.client_seats.proofs.seat.take_held.Goals as goal
 

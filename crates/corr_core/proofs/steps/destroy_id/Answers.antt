@@ -1,5 +1,5 @@
 use Rattle.corr_core.specs.Word.{parts}
-use Rattle.corr_core.proofs.Events.{ended, plain_ends}
+use Rattle.corr_core.proofs.IdWordEvents.{ended, plain_ends}
 use Rattle.corr_core.proofs.steps.destroy_id.Goals as goal
 
 pub returns-clause-event : goal.returns-clause-event

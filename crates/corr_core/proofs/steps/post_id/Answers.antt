@@ -1,7 +1,7 @@
 use Rattle.std.proofs.Common.{ℕ, ◌≡◌, ◌≢◌, ⊎_elim, ap, ◌∙◌, arith}
 use Rattle.corr_core.specs.Word.{parts, posted_word}
-use Rattle.corr_core.specs.Plain.{Queue, IsEvent}
-use Rattle.corr_core.proofs.Events.{queued, for_error}
+use Rattle.corr_core.specs.PlainCallId.{Queue, IsEvent}
+use Rattle.corr_core.proofs.IdWordEvents.{queued, for_error}
 use Rattle.corr_core.proofs.steps.post_id.Goals as goal
 
 pub returns-clause-queues : goal.returns-clause-queues

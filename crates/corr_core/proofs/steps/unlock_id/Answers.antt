@@ -1,8 +1,8 @@
 use Rattle.std.proofs.Common.{Bool, true, false, ◌+◌, ◌<◌, ◌≤◌, refl, ap, ◌∙◌, arith, IsTrue}
 use Rattle.corr_core.specs.Word.{Parts, parts}
-use Rattle.corr_core.proofs.Events.{unlocked}
+use Rattle.corr_core.proofs.IdWordEvents.{unlocked}
 use Rattle.corr_core.proofs.steps.unlock_id.Goals as goal
-use Rattle.sock_words.specs.Words.{bit}
+use Rattle.sock_words.specs.PackedWords.{bit}
 
 -- the attempt that is advanced to is one of the range
 room_of : (advance : Bool) (w : Parts) → w.attempt + 2 ≤ w.range → (IsTrue advance → w.attempt + 2 < w.range) → w.attempt + bit advance + 2 ≤ w.range

@@ -1,6 +1,6 @@
 use Rattle.std.proofs.Common.{sym, subst}
 use Rattle.corr_core.specs.Word.{parts}
-use Rattle.corr_id.specs.Attempts.{IsOutside, IsWithin}
+use Rattle.corr_id.specs.LocksByAttempt.{IsOutside, IsWithin}
 use Rattle.corr_id.proofs.attempts.is_outside.Goals as goal
 
 pub returns-then-attempt-clause-out : goal.returns-then-attempt-clause-out

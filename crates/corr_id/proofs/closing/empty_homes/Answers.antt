@@ -1,5 +1,5 @@
 use Rattle.std.specs.Mem.Slots.{slots_filled, slots_len}
-use Rattle.corr_id.proofs.Ending.{still_full, now_empty}
+use Rattle.corr_id.proofs.IdCloseLoops.{still_full, now_empty}
 use Rattle.corr_id.proofs.closing.empty_homes.Goals as goal
 
 pub loop-k-preserved : goal.loop-k-preserved

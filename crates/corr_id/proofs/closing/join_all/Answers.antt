@@ -1,4 +1,4 @@
-use Rattle.corr_id.proofs.Joins.{first, next, last_ok}
+use Rattle.corr_id.proofs.JoiningIdSeats.{first, next, last_ok}
 use Rattle.corr_id.proofs.closing.join_all.Goals as goal
 
 pub loop-earlier-init : goal.loop-earlier-init

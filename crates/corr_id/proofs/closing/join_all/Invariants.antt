@@ -1,4 +1,4 @@
-use Rattle.corr_id.proofs.Joins.{Joined}
+use Rattle.corr_id.proofs.JoiningIdSeats.{Joined}
 use Rattle.corr_id.proofs.closing.join_all.Given as goal
 
 abbrev pub invariant-loop-earlier : goal.invariant-loop-earlier

@@ -3,7 +3,7 @@ use mathlib.Core.Option.{some}
 use lib.ListN.{get_elem?}
 use Rattle.std.specs.Mem.Slots.{slots_items}
 use Rattle.sock_words.specs.declared.id_word.IdWord.{IdWord}
-use Rattle.corr_id.proofs.Ending.{one_more, low_more, low_all}
+use Rattle.corr_id.proofs.IdCloseLoops.{one_more, low_more, low_all}
 use Rattle.corr_id.proofs.closing.read_words.Goals as goal
 
 pub loop-slot-preserved : goal.loop-slot-preserved

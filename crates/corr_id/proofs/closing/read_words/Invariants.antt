@@ -1,6 +1,6 @@
 use Rattle.std.proofs.Common.{◌≡◌, ◌<◌, ℕ, length, map, slice_index}
 use Rattle.std.specs.Mem.Slots.{slots_items}
-use Rattle.corr_id.specs.Closed.{AreIdWords}
+use Rattle.corr_id.specs.ClosedIdTable.{AreIdWords}
 use Rattle.corr_id.proofs.closing.read_words.Given as goal
 
 abbrev pub invariant-loop-slot : goal.invariant-loop-slot

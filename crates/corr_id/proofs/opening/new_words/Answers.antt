@@ -1,5 +1,5 @@
 use Rattle.std.proofs.Common.{arith, ap, set}
-use Rattle.corr_id.proofs.Beginning.{none_begun, one_begun, all_begun, free_parts}
+use Rattle.corr_id.proofs.BeginningOfIdTable.{none_begun, one_begun, all_begun, free_parts}
 use Rattle.corr_id.proofs.opening.new_words.Goals as goal
 
 pub loop-slot-init : goal.loop-slot-init

@@ -1,4 +1,4 @@
-use Rattle.corr_id.proofs.Beginning.{Begun}
+use Rattle.corr_id.proofs.BeginningOfIdTable.{Begun}
 use Rattle.corr_id.proofs.opening.new_words.Given as goal
 
 abbrev pub invariant-loop-slot : goal.invariant-loop-slot

@@ -2,7 +2,7 @@ use Rattle.std.proofs.Common.{List, ℕ, [], ◌∷◌, ◌++◌, codes, decimal
 use Rattle.std.proofs.lemmas.Result.{err_from_is_err_and}
 use Rattle.brpc_model.specs.Frame as model
 use Rattle.brpc_model.specs.FramesText.{fault_words}
-use Rattle.frame_print.proofs.Writing.{as_text, then_wrote, stopped_in, stopped_at}
+use Rattle.frame_print.proofs.SuccessiveTextWriting.{as_text, then_wrote, stopped_in, stopped_at}
 use Rattle.frame_print.proofs.PieceLemmas.{fault_parts}
 use Rattle.frame_print.proofs.ending_text.print_fault.Goals as goal
 

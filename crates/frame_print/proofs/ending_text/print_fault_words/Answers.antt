@@ -1,5 +1,5 @@
 use Rattle.brpc_model.specs.Frame as model
-use Rattle.frame_print.proofs.Writing.{as_text}
+use Rattle.frame_print.proofs.SuccessiveTextWriting.{as_text}
 use Rattle.frame_print.proofs.PieceLemmas.{meta_fault_written}
 use Rattle.frame_print.proofs.ending_text.print_fault_words.Goals as goal
 

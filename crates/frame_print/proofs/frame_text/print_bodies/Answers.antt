@@ -1,6 +1,6 @@
-use Rattle.sock_words.specs.Printed.{hex_text}
-use Rattle.frame_print.specs.View.{bytes_viewed}
-use Rattle.frame_print.proofs.Writing.{as_text}
+use Rattle.sock_words.specs.PrintedWords.{hex_text}
+use Rattle.frame_print.specs.FrameLineView.{bytes_viewed}
+use Rattle.frame_print.proofs.SuccessiveTextWriting.{as_text}
 use Rattle.frame_print.proofs.PieceLemmas.{bytes_parts}
 use Rattle.frame_print.proofs.frame_text.print_bodies.Goals as goal
 

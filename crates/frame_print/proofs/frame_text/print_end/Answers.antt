@@ -1,8 +1,8 @@
 use Rattle.std.proofs.Common.{◌≡◌, ◌++◌, ap, w32, to_z, of_z, rules}
 use Rattle.std.proofs.lemmas.Result.{err_from_is_err_and}
 use Rattle.frame_print.specs.FrameEnd.{numbers_text, bytes_text}
-use Rattle.frame_print.specs.View.{frame_viewed}
-use Rattle.frame_print.proofs.Writing.{as_text, then_wrote, stopped_at}
+use Rattle.frame_print.specs.FrameLineView.{frame_viewed}
+use Rattle.frame_print.proofs.SuccessiveTextWriting.{as_text, then_wrote, stopped_at}
 use Rattle.frame_print.proofs.frame_text.print_end.Goals as goal
 
 pub returns-in_err-print_numbers : goal.returns-in_err-print_numbers

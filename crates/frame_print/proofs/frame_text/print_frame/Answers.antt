@@ -1,8 +1,8 @@
 use Rattle.std.proofs.Common.{◌++◌, codes, Ok}
 use Rattle.std.proofs.lemmas.Result.{err_from_is_err_and}
-use Rattle.frame_print.specs.View.{frame_viewed}
+use Rattle.frame_print.specs.FrameLineView.{frame_viewed}
 use Rattle.frame_print.specs.FrameEnd.{end_text}
-use Rattle.frame_print.proofs.Writing.{as_text, then_wrote, stopped_in, stopped_at}
+use Rattle.frame_print.proofs.SuccessiveTextWriting.{as_text, then_wrote, stopped_in, stopped_at}
 use Rattle.frame_print.proofs.FrameLines.{request_part, response_part, whole_line, from_first, from_third}
 use Rattle.frame_print.proofs.frame_text.print_frame.Goals as goal
 

@@ -1,8 +1,8 @@
 use Rattle.std.proofs.Common.{◌++◌, codes, decimal, ap, ◌∙◌, w32, to_z, of_z}
 use Rattle.std.specs.Fmt.{signed_decimal}
 use Rattle.std.proofs.lemmas.Int.{to_z-of_z}
-use Rattle.sock_words.specs.Printed.{word}
-use Rattle.frame_print.proofs.Writing.{as_text}
+use Rattle.sock_words.specs.PrintedWords.{word}
+use Rattle.frame_print.proofs.SuccessiveTextWriting.{as_text}
 use Rattle.frame_print.proofs.PieceLemmas.{numbers_parts}
 use Rattle.frame_print.proofs.frame_text.print_numbers.Goals as goal
 

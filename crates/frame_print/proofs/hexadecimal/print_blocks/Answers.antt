@@ -2,7 +2,7 @@ use Rattle.std.proofs.Common.{◌+◌, ◌<◌, [], ◌++◌, length, take, drop
 use Rattle.std.proofs.lemmas.Result.{err_from_is_err_and}
 use Rattle.hex.specs.Hex.{encode_lower}
 use Rattle.sock_words.proofs.HexText.{encode_lower-nil}
-use Rattle.frame_print.proofs.Writing.{wrote_none, then_wrote, stopped_in, as_text}
+use Rattle.frame_print.proofs.SuccessiveTextWriting.{wrote_none, then_wrote, stopped_in, as_text}
 use Rattle.frame_print.proofs.Digits.{block_more, block_rest}
 use Rattle.frame_print.proofs.hexadecimal.print_blocks.Goals as goal
 

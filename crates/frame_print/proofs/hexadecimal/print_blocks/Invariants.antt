@@ -1,6 +1,6 @@
 use Rattle.std.proofs.Common.{take, sum, Ok}
 use Rattle.hex.specs.Hex.{encode_lower}
-use Rattle.frame_print.specs.Written.{Writes}
+use Rattle.frame_print.specs.TextWrittenToSink.{Writes}
 use Rattle.frame_print.proofs.hexadecimal.print_blocks.Given as goal
 
 abbrev pub invariant-loop-place : goal.invariant-loop-place

@@ -2,7 +2,7 @@ use Rattle.std.proofs.Common.{◌≡◌, ◌++◌, length, take, drop, ap, sym, 
 use Rattle.std.proofs.lemmas.Bool.{eqb-true}
 use Rattle.std.proofs.lemmas.Result.{err_from_is_err_and}
 use Rattle.hex.specs.Hex.{encode_lower}
-use Rattle.frame_print.proofs.Writing.{then_wrote, stopped_in, as_text}
+use Rattle.frame_print.proofs.SuccessiveTextWriting.{then_wrote, stopped_in, as_text}
 use Rattle.frame_print.proofs.Digits.{digits_rest, digits_done}
 use Rattle.frame_print.proofs.hexadecimal.print_chunks.Goals as goal
 

@@ -1,6 +1,6 @@
 use Rattle.std.proofs.Common.{◌≡◌, ℕ, ◌++◌, List, length, Ok}
 use Rattle.hex.specs.Hex.{encode_lower}
-use Rattle.frame_print.specs.Written.{Writes}
+use Rattle.frame_print.specs.TextWrittenToSink.{Writes}
 use Rattle.frame_print.proofs.hexadecimal.print_chunks.Given as goal
 
 abbrev pub invariant-loop-rest : goal.invariant-loop-rest

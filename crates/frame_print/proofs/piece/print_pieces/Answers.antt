@@ -1,7 +1,7 @@
 use Rattle.std.proofs.Common.{◌+◌, take, drop}
 use Rattle.std.proofs.lemmas.Result.{err_from_is_err_and}
-use Rattle.frame_print.specs.Pieces.{pieces_text}
-use Rattle.frame_print.proofs.Writing.{stopped_in}
+use Rattle.frame_print.specs.LinePieceTexts.{pieces_text}
+use Rattle.frame_print.proofs.SuccessiveTextWriting.{stopped_in}
 use Rattle.frame_print.proofs.PieceLemmas.{pieces_rest}
 use Rattle.frame_print.proofs.piece.print_pieces.Goals as goal
 

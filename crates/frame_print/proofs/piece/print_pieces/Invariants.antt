@@ -1,6 +1,6 @@
 use Rattle.std.proofs.Common.{take, Ok}
-use Rattle.frame_print.specs.Written.{Writes}
-use Rattle.frame_print.specs.Pieces.{pieces_text}
+use Rattle.frame_print.specs.TextWrittenToSink.{Writes}
+use Rattle.frame_print.specs.LinePieceTexts.{pieces_text}
 use Rattle.frame_print.proofs.piece.print_pieces.Given as goal
 
 abbrev pub invariant-loop-piece : goal.invariant-loop-piece

@@ -1,7 +1,7 @@
 use Rattle.std.proofs.Common.{[]}
-use Rattle.prpc_frame.proofs.Cuts.{cut_none}
-use Rattle.prpc_frame.proofs.Cuts.{cut_next}
-use Rattle.frame_print.proofs.Steps.{judged_fault}
+use Rattle.prpc_frame.proofs.StreamCuts.{cut_none}
+use Rattle.prpc_frame.proofs.StreamCuts.{cut_next}
+use Rattle.frame_print.proofs.ReadFeedCutSteps.{judged_fault}
 use Rattle.frame_print.proofs.print.judge_whole.Goals as goal
 
 pub loop-frame-init : goal.loop-frame-init

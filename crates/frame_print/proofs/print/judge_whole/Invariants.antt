@@ -1,6 +1,6 @@
 use Rattle.std.proofs.Common.{List, length}
 use Rattle.brpc_model.specs.Frame.{Frame}
-use Rattle.prpc_frame.specs.Cuts.{Cut}
+use Rattle.prpc_frame.specs.StreamCuts.{Cut}
 use Rattle.frame_print.proofs.print.judge_whole.Given as goal
 
 abbrev pub invariant-loop-frame : goal.invariant-loop-frame

@@ -1,5 +1,5 @@
 use Rattle.std.proofs.Common.{ap}
-use Rattle.prpc_frame.specs.Held.{Held}
+use Rattle.prpc_frame.specs.HeldByCutter.{Held}
 use Rattle.frame_print.proofs.print.print_all.Goals as goal
 
 pub print_each-requires-clause-held : goal.print_each-requires-clause-held

@@ -1,15 +1,15 @@
 use Rattle.std.proofs.Common.{◌≡◌, ℕ, ◌+◌, ◌-◌, ◌≤◌, ◌<◌, List, [], ◌++◌, length, take, Option, Result, refl, sym, ◌∙◌, subst, arith, rules}
 use Rattle.std.specs.Io.KnownBytes.{Consumes}
 use Rattle.brpc_model.specs.Frame.{NoneYet, judged}
-use Rattle.prpc_frame.specs.Meaning.{fault_of}
+use Rattle.prpc_frame.specs.FrameMeaning.{fault_of}
 use Rattle.frame_print.specs.Cutting.{CutPrinted}
-use Rattle.frame_print.specs.Printed.{Edges, EndsAs, PrintsFrames}
+use Rattle.frame_print.specs.PrintedFrames.{Edges, EndsAs, PrintsFrames}
 use Rattle.frame_print.specs.declared.print.StreamEnd.{StreamEnd}
 use Rattle.frame_print.specs.declared.print.PrintFault.{PrintFault}
-use Rattle.frame_print.proofs.Cuts.{printed_none, printed_more, fault_meant}
-use Rattle.frame_print.proofs.Ends.{ends_source, ends_at_rest, ends_long, ends_unfed, ends_in_cut, ends_fault}
-use Rattle.frame_print.proofs.Holding.{held_untold, fed_untold}
-use Rattle.frame_print.proofs.Steps.{consumes_none, consumes_append, consumes_kept, consumes_end, few_left, one_read, counted_more, fed_printed, cut_waits, cut_faulty}
+use Rattle.frame_print.proofs.PrintedFrameCuts.{printed_none, printed_more, fault_meant}
+use Rattle.frame_print.proofs.PrintingEnds.{ends_source, ends_at_rest, ends_long, ends_unfed, ends_in_cut, ends_fault}
+use Rattle.frame_print.proofs.CutterHoldingSize.{held_untold, fed_untold}
+use Rattle.frame_print.proofs.ReadFeedCutSteps.{consumes_none, consumes_append, consumes_kept, consumes_end, few_left, one_read, counted_more, fed_printed, cut_waits, cut_faulty}
 use Rattle.frame_print.proofs.print.print_each.Goals as goal
 
 -- it ended behind a piece more

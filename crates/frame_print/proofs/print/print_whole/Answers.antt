@@ -1,12 +1,12 @@
 use Rattle.std.proofs.Common.{◌≡◌, ℕ, List, [], ◌∷◌, Option, Some, Ok, sym, ◌∙◌, refl}
-use Rattle.prpc_frame.specs.Cuts.{Cut}
-use Rattle.prpc_frame.specs.Leads.{Leads}
-use Rattle.prpc_frame.specs.Meaning.{frame_of}
+use Rattle.prpc_frame.specs.StreamCuts.{Cut}
+use Rattle.prpc_frame.specs.CutterAnswerLeads.{Leads}
+use Rattle.prpc_frame.specs.FrameMeaning.{frame_of}
 use Rattle.prpc_frame.specs.declared.frame.Frame as code
-use Rattle.prpc_frame.proofs.Cuts.{cut_none, cut_next, cut_front}
-use Rattle.frame_print.specs.View.{frame_viewed}
-use Rattle.frame_print.proofs.Holding.{held_untold}
-use Rattle.frame_print.proofs.Steps.{gathered_none, gathered_next, gather_stopped, gathered_lost_at, same_none, same_fault, same_memory, cut_none_more, cut_to_fault, cut_to_memory}
+use Rattle.prpc_frame.proofs.StreamCuts.{cut_none, cut_next, cut_front}
+use Rattle.frame_print.specs.FrameLineView.{frame_viewed}
+use Rattle.frame_print.proofs.CutterHoldingSize.{held_untold}
+use Rattle.frame_print.proofs.ReadFeedCutSteps.{gathered_none, gathered_next, gather_stopped, gathered_lost_at, same_none, same_fault, same_memory, cut_none_more, cut_to_fault, cut_to_memory}
 use Rattle.frame_print.proofs.print.print_whole.Goals as goal
 
 pub loop-frame-init : goal.loop-frame-init

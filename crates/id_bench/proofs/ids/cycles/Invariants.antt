@@ -1,4 +1,4 @@
-use Rattle.corr_id.specs.Seats.{Sits, IsFree}
+use Rattle.corr_id.specs.IdTableSeat.{Sits, IsFree}
 use Rattle.id_bench.proofs.ids.cycles.Given as goal
 
 abbrev pub invariant-loop-round : goal.invariant-loop-round

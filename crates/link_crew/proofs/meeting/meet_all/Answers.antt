@@ -1,6 +1,6 @@
 use Rattle.std.proofs.Common.{◌≡◌, ◌<◌, length, rules, ◌∙◌, arith}
 use Rattle.rpc_reader.proofs.Series.{stand_next}
-use Rattle.link_crew.proofs.Meets.{met_next}
+use Rattle.link_crew.proofs.EndsMeetInTurn.{met_next}
 use Rattle.link_crew.proofs.meeting.meet_all.Goals as goal
 
 pub meets-preserved : goal.meets-preserved

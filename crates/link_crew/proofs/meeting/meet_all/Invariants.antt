@@ -1,6 +1,6 @@
 use Rattle.std.proofs.Common.{◌≡◌}
 use Rattle.rpc_reader.proofs.Series.{StandFrom}
-use Rattle.link_crew.specs.Meeting.{MetBelow}
+use Rattle.link_crew.specs.ComparedLinkEnds.{MetBelow}
 use Rattle.link_crew.proofs.meeting.meet_all.Given as goal
 
 abbrev pub invariant-meets : goal.invariant-meets

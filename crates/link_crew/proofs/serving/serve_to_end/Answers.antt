@@ -3,8 +3,8 @@ use Rattle.std.specs.Result.{is_err}
 use Rattle.sock_io.specs.Peer.{ServeStep}
 use Rattle.sock_io.specs.declared.link.Served.{Served}
 use Rattle.sock_io.specs.declared.link.Served.TheVariants as served
-use Rattle.link_crew.specs.Serving.{ServedToEnd}
-use Rattle.link_crew.proofs.Moving.{served_none, served_more, served_same, served_short, served_last}
+use Rattle.link_crew.specs.ServingOtherEnd.{ServedToEnd}
+use Rattle.link_crew.proofs.OtherEndMoving.{served_none, served_more, served_same, served_short, served_last}
 use Rattle.link_crew.proofs.serving.serve_to_end.Goals as goal
 use Rattle.link_crew.proofs.serving.serve_to_end.Goals.{then-short, else-short}
 

@@ -1,4 +1,4 @@
-use Rattle.link_crew.specs.Serving.{ServedOn}
+use Rattle.link_crew.specs.ServingOtherEnd.{ServedOn}
 use Rattle.link_crew.proofs.serving.serve_to_end.Given as goal
 
 abbrev pub invariant-serves : goal.invariant-serves

@@ -1,6 +1,6 @@
 use Rattle.std.proofs.Common.{◌≡◌, ℕ, ◌+◌, ◌-◌, List, length, arith, take, drop, ap, ◌∙◌, subst}
 use Rattle.brpc_model.specs.Frame.{high_first}
-use Rattle.loop_link.proofs.Fronts.{Fronts, fronts_next, fronts_whole, fronts_end, slice_rest}
+use Rattle.loop_link.proofs.FrameFrontsBySize.{Fronts, fronts_next, fronts_whole, fronts_end, slice_rest}
 use Rattle.loop_link.proofs.front.front_len.Goals as goal
 
 told : (bytes : List ℕ) (at size : ℕ) → size ≡ high_first (take 4 (drop 4 (take (length bytes - at) (drop at bytes)))) → size ≡ high_first (take 4 (drop 4 (drop at bytes)))

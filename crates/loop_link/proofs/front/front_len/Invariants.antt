@@ -1,5 +1,5 @@
 use Rattle.std.proofs.Common.{◌≤◌, ◌-◌, length}
-use Rattle.loop_link.proofs.Fronts.{Fronts}
+use Rattle.loop_link.proofs.FrameFrontsBySize.{Fronts}
 use Rattle.loop_link.proofs.front.front_len.Given as goal
 
 abbrev pub invariant-loop-left : goal.invariant-loop-left

@@ -2,7 +2,7 @@ use Rattle.std.proofs.Common.{Some, slice_set, ap, ◌∙◌}
 use Rattle.std.proofs.lemmas.List.{map-set}
 use Rattle.message_parts.specs.Parcels.{parcel_of}
 use Rattle.machine_model.specs.declared.home_message.HomeMessage.{HomeMessage}
-use Rattle.machine_model.specs.Letters.{lying_in, letters_in}
+use Rattle.machine_model.specs.LetterHomes.{lying_in, letters_in}
 use Rattle.machine_tables.proofs.homes.put_message.Goals as goal
 
 pub returns-in-Ok-clause-letters : goal.returns-in-Ok-clause-letters

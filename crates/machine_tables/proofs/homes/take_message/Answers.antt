@@ -1,8 +1,8 @@
 use Rattle.std.proofs.Common.{◌≡◌, refl, sym, ◌∙◌, Some, None, slice_set, ap, arith}
 use Rattle.std.proofs.lemmas.List.{length-map, map-set}
 use mathlib.Core.Option.{some}
-use Rattle.machine_model.specs.Letters.{lying_in, letters_in}
-use Rattle.machine_steps.proofs.Asking.{there_in, inside_list}
+use Rattle.machine_model.specs.LetterHomes.{lying_in, letters_in}
+use Rattle.machine_steps.proofs.AskingLinks.{there_in, inside_list}
 use Rattle.machine_tables.proofs.homes.take_message.Goals as goal
 
 pub bounds-letters-from : goal.bounds-letters-from

@@ -1,7 +1,7 @@
 use Rattle.std.proofs.Common.{refl, slice_index_or}
 use Rattle.std.proofs.Math.Seq.{map-set_same}
-use Rattle.sock_io.specs.Link.{ReadyStep, end_of}
-use Rattle.machine_steps.proofs.Asking.{asked, same_link}
+use Rattle.sock_io.specs.LinkHalves.{ReadyStep, end_of}
+use Rattle.machine_steps.proofs.AskingLinks.{asked, same_link}
 use Rattle.machine_tables.proofs.link_calls.ask_ready.Goals as goal
 
 pub returns-clause-outs : goal.returns-clause-outs

@@ -1,10 +1,10 @@
 use Rattle.std.proofs.Common.{refl, slice_index_or}
 use Rattle.std.proofs.Math.Seq.{map-set_same}
 use Rattle.sock_io.specs.declared.link.Put.TheVariants as puts
-use Rattle.sock_io.specs.Link.{PutStep, end_of}
-use Rattle.seat_programs.specs.Parts.{part}
+use Rattle.sock_io.specs.LinkHalves.{PutStep, end_of}
+use Rattle.seat_programs.specs.BufferParts.{part}
 use Rattle.message_parts.specs.Parcels.{outgoing_of}
-use Rattle.machine_steps.proofs.Asking.{asked, same_link, put_of}
+use Rattle.machine_steps.proofs.AskingLinks.{asked, same_link, put_of}
 use Rattle.machine_tables.proofs.link_calls.put_bytes.Goals as goal
 
 pub returns-in-Took-clause-outs : goal.returns-in-Took-clause-outs

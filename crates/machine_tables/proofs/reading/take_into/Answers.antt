@@ -1,6 +1,6 @@
 use Rattle.std.proofs.Common.{drop, arith}
 use Rattle.std.proofs.lemmas.List.{length-take}
-use Rattle.machine_steps.proofs.Stepping.{written}
+use Rattle.machine_steps.proofs.SeatBehindEachStep.{written}
 use Rattle.machine_tables.proofs.reading.take_into.Goals as goal
 
 pub returns : goal.returns

@@ -1,8 +1,8 @@
 use Rattle.std.proofs.Common.{None, length, map, replicate, ap, ◌∙◌, arith}
-use Rattle.seat_programs.specs.Scripts.{programs, sizes_of}
-use Rattle.machine_model.specs.Parts.{said_first}
-use Rattle.machine_model.specs.Letters.{letters_in}
-use Rattle.machine_steps.proofs.Begun.{told_length, written_over, none_in}
+use Rattle.seat_programs.specs.ScriptSetupToEnding.{programs, sizes_of}
+use Rattle.machine_model.specs.MachineParts.{said_first}
+use Rattle.machine_model.specs.LetterHomes.{letters_in}
+use Rattle.machine_steps.proofs.BegunTables.{told_length, written_over, none_in}
 use Rattle.machine_tables.proofs.setup.parts_of.Goals as goal
 
 pub returns-clause-parts : goal.returns-clause-parts

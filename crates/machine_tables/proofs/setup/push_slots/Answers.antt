@@ -1,5 +1,5 @@
 use Rattle.std.proofs.Common.{◌∙◌}
-use Rattle.machine_steps.proofs.Begun.{slots_more}
+use Rattle.machine_steps.proofs.BegunTables.{slots_more}
 use Rattle.machine_tables.proofs.setup.push_slots.Goals as goal
 
 pub loop-preserved : goal.loop-preserved

@@ -1,5 +1,5 @@
 use Rattle.std.proofs.Common.{◌≡◌, ◌++◌}
-use Rattle.seat_programs.specs.Scripts.{free_slots}
+use Rattle.seat_programs.specs.ScriptSetupToEnding.{free_slots}
 use Rattle.machine_tables.proofs.setup.push_slots.Given as goal
 
 abbrev pub invariant-loop : goal.invariant-loop

@@ -1,10 +1,10 @@
 use Rattle.std.proofs.Common.{◌++◌, ◌∷◌, [], refl, length, map, ap, sym, ◌∙◌, subst, arith}
 use Rattle.std.proofs.lemmas.List.{length-map, length-append, length_push}
 use Rattle.std.specs.VecDeque.Iter.{deque_iter_rest}
-use Rattle.reader_seats.specs.Readers.{reader_program}
-use Rattle.seat_programs.specs.Readers.{reader}
-use Rattle.machine_model.specs.Parts.{AreReading}
-use Rattle.machine_steps.proofs.Begun.{map_last, reading_more, item_last, none_left}
+use Rattle.reader_seats.specs.ReaderState.{reader_program}
+use Rattle.seat_programs.specs.ReaderProgram.{reader}
+use Rattle.machine_model.specs.MachineParts.{AreReading}
+use Rattle.machine_steps.proofs.BegunTables.{map_last, reading_more, item_last, none_left}
 use Rattle.machine_tables.proofs.setup.readers_of.Goals as goal
 
 pub loop-operation-init : goal.loop-operation-init

@@ -1,6 +1,6 @@
 use Rattle.std.proofs.Common.{◌≡◌, ◌++◌, ℕ, List, length, map}
 use Rattle.std.specs.VecDeque.Iter.{deque_iter_rest}
-use Rattle.machine_model.specs.Parts.{AreReading}
+use Rattle.machine_model.specs.MachineParts.{AreReading}
 use Rattle.machine_tables.proofs.setup.readers_of.Given as goal
 
 -- the readers of the links so far

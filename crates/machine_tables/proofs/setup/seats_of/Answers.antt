@@ -1,11 +1,11 @@
 use Rattle.std.proofs.Common.{◌∷◌, ◌++◌, List, [], map, ap, sym, ◌∙◌, subst}
 use Rattle.seat_programs.specs.declared.task.Task.{Task}
-use Rattle.seat_programs.specs.Clients.{client_from}
+use Rattle.seat_programs.specs.ClientProgram.{client_from}
 use Rattle.seat_programs.specs.Cores.{said, resolved}
-use Rattle.seat_programs.specs.Scripts.{programs}
-use Rattle.client_seats.specs.Seats.{seat_data}
-use Rattle.machine_model.specs.Parts.{AreBegun, said_first}
-use Rattle.machine_steps.proofs.Begun.{begun_more, goes_first, told_more, map_last}
+use Rattle.seat_programs.specs.ScriptSetupToEnding.{programs}
+use Rattle.client_seats.specs.ClientSeatState.{seat_data}
+use Rattle.machine_model.specs.MachineParts.{AreBegun, said_first}
+use Rattle.machine_steps.proofs.BegunTables.{begun_more, goes_first, told_more, map_last}
 use Rattle.machine_tables.proofs.setup.seats_of.Goals as goal
 
 pub loop-tasks-preserved : goal.loop-tasks-preserved

@@ -1,7 +1,7 @@
 use Rattle.std.proofs.Common.{◌≡◌, map}
-use Rattle.seat_programs.specs.Scripts.{programs}
-use Rattle.client_seats.specs.Seats.{seat_data}
-use Rattle.machine_model.specs.Parts.{AreBegun, said_first}
+use Rattle.seat_programs.specs.ScriptSetupToEnding.{programs}
+use Rattle.client_seats.specs.ClientSeatState.{seat_data}
+use Rattle.machine_model.specs.MachineParts.{AreBegun, said_first}
 use Rattle.machine_tables.proofs.setup.seats_of.Given as goal
 
 -- the seats of the clients so far

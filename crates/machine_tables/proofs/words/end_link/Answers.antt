@@ -1,7 +1,7 @@
 use Rattle.std.proofs.Common.{refl, slice_index_or}
 use Rattle.std.proofs.Math.Seq.{map-set_same}
-use Rattle.sock_io.specs.Link.{end_of}
-use Rattle.machine_steps.proofs.Asking.{end_kept, out_at, outs_set}
+use Rattle.sock_io.specs.LinkHalves.{end_of}
+use Rattle.machine_steps.proofs.AskingLinks.{end_kept, out_at, outs_set}
 use Rattle.machine_tables.proofs.words.end_link.Goals as goal
 
 pub returns-in-FinishLink-clause-outs : goal.returns-in-FinishLink-clause-outs

@@ -1,5 +1,5 @@
 use Rattle.std.proofs.Common.{◌≡◌, false, [], length, ap}
-use Rattle.call_client.proofs.Testing.{two_places, took_none}
+use Rattle.call_client.proofs.TestingTables.{two_places, took_none}
 use Rattle.part_rows.proofs.callers.begin.Goals as goal
 
 pub new_table-requires-clause-outs : goal.new_table-requires-clause-outs

@@ -1,4 +1,4 @@
-use Rattle.rpc_client.proofs.Going.{passes_all}
+use Rattle.rpc_client.proofs.NewSeatsOwnList.{passes_all}
 use Rattle.part_rows.proofs.callers.caller_of.Goals as goal
 
 pub returns-clause-go : goal.returns-clause-go

@@ -1,5 +1,5 @@
 use Rattle.std.proofs.Common.{length, refl, ap}
-use Rattle.call_client.proofs.Testing.{may_make}
+use Rattle.call_client.proofs.TestingTables.{may_make}
 use Rattle.part_rows.proofs.callers.tasks_of.Goals as goal
 
 pub returns-in-Ok : goal.returns-in-Ok

@@ -1,4 +1,4 @@
-use Rattle.corr_id.specs.Seats.{Sits, IsFree}
+use Rattle.corr_id.specs.IdTableSeat.{Sits, IsFree}
 use Rattle.part_rows.proofs.ids.work.Given as goal
 
 abbrev pub invariant-loop : goal.invariant-loop

@@ -1,5 +1,5 @@
 use Rattle.std.proofs.Common.{subst, Some}
-use Rattle.sock_open.specs.Made.{PassesFrom}
+use Rattle.sock_open.specs.NewTableContents.{PassesFrom}
 use Rattle.sock_open.proofs.Racing.{pass_popped}
 use Rattle.part_rows.proofs.sockets.both.Goals as goal
 

@@ -1,9 +1,9 @@
 use Rattle.std.proofs.Common.{ℕ, ◌<◌, sym, ap, ◌∙◌, subst, arith}
 use Rattle.sock_words.specs.declared.socket_id.SocketId.{SocketId}
-use Rattle.sock_words.specs.Words.{socket_id_slot}
-use Rattle.sock_table.specs.Answers.{Holds, Held}
-use Rattle.sock_table.proofs.Quiet.{between_rests, rests_between}
-use Rattle.sock_open.proofs.Testing.{done_between, kept_done, may_address, gone_same, visited, failed_notes, no_notes, holds_it, one_ref}
+use Rattle.sock_words.specs.PackedWords.{socket_id_slot}
+use Rattle.sock_table.specs.ReferenceAnswers.{Holds, Held}
+use Rattle.sock_table.proofs.QuietBetweenCalls.{between_rests, rests_between}
+use Rattle.sock_open.proofs.SeatsHoldingNothing.{done_between, kept_done, may_address, gone_same, visited, failed_notes, no_notes, holds_it, one_ref}
 use Rattle.sock_open.proofs.Racing.{linked_notes, then_notes}
 use Rattle.part_rows.proofs.sockets.end.Goals as goal
 
@@ -32,7 +32,7 @@ pub set_failed-requires-clause-rests : goal.set_failed-requires-clause-rests
 set_failed-requires-clause-rests c = between_rests c.args.table.now.rule.plan c.link_of-link.new.seat.me.0 (c.link_of-link.ensures.between c.add_reference.ensures.between)
 
 pub set_failed-requires-clause-room : goal.set_failed-requires-clause-room
-set_failed-requires-clause-room c = let z = c.args.table.now.rule.table.shared.table_id in let p = c.args.table.now.rule.plan in let i : ℕ = c.args.id.0 in let a = c.in-Ok.ensures.held in let e = ap (λ (x : SocketId). x.0) a.0 in let r = one_ref p i c.in-Ok.sock.id.0 c.args.seat.me.0 c.add_reference.new.seat.me.0 (ap (λ (x : SocketId). socket_id_slot x.0) a.0) (c.requires.seat.done.unheld (socket_id_slot i) c.requires.known.inside) a.1 in let l = c.link_of-link.ensures.link.became.here Rattle.sock_model.specs.Weights.is_ref in omega arith
+set_failed-requires-clause-room c = let z = c.args.table.now.rule.table.shared.table_id in let p = c.args.table.now.rule.plan in let i : ℕ = c.args.id.0 in let a = c.in-Ok.ensures.held in let e = ap (λ (x : SocketId). x.0) a.0 in let r = one_ref p i c.in-Ok.sock.id.0 c.args.seat.me.0 c.add_reference.new.seat.me.0 (ap (λ (x : SocketId). socket_id_slot x.0) a.0) (c.requires.seat.done.unheld (socket_id_slot i) c.requires.known.inside) a.1 in let l = c.link_of-link.ensures.link.became.here Rattle.sock_model.specs.MarkWeights.is_ref in omega arith
 
 pub release-requires-clause-between : goal.release-requires-clause-between
 release-requires-clause-between c = rests_between c.args.table.now.rule.plan c.set_failed.new.seat.me.0 (c.set_failed.ensures.rights ∙ (c.link_of-link.ensures.between c.add_reference.ensures.between).no_rights) c.set_failed.ensures.rests

@@ -1,4 +1,4 @@
-use Rattle.sock_open.proofs.Testing.{done_between}
+use Rattle.sock_open.proofs.SeatsHoldingNothing.{done_between}
 use Rattle.part_rows.proofs.sockets.makes_one.Goals as goal
 
 pub create-requires-clause-seat : goal.create-requires-clause-seat

@@ -1,7 +1,7 @@
 use Rattle.std.proofs.Common.{subst, Some}
-use Rattle.sock_open.specs.Made.{AreNewSeats}
+use Rattle.sock_open.specs.NewTableContents.{AreNewSeats}
 use Rattle.sock_open.proofs.Racing.{popped, new_share}
-use Rattle.sock_open.proofs.Making.{new_done}
+use Rattle.sock_open.proofs.SeatsOfNewTable.{new_done}
 use Rattle.part_rows.proofs.sockets.one_of.Goals as goal
 
 pub returns-clause-seat : goal.returns-clause-seat

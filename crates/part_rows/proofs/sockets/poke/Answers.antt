@@ -1,10 +1,10 @@
 use Rattle.std.proofs.Common.{ℕ, refl, sym, ap, ◌∙◌, subst}
 use Rattle.sock_model.specs.declared.marks.Mark.TheVariants.{Hold}
 use Rattle.sock_words.specs.declared.socket_id.SocketId.{SocketId}
-use Rattle.sock_words.specs.Words.{socket_id_version, socket_id_slot}
-use Rattle.sock_table.specs.Refs.{GaveBack}
-use Rattle.sock_table.specs.Answers.{Holds, LinkOf, is_freed}
-use Rattle.sock_open.proofs.Testing.{done_between, kept_done, may_address, gone_same, visited, no_notes, holds_it, known_by}
+use Rattle.sock_words.specs.PackedWords.{socket_id_version, socket_id_slot}
+use Rattle.sock_table.specs.ReferenceCalls.{GaveBack}
+use Rattle.sock_table.specs.ReferenceAnswers.{Holds, LinkOf, is_freed}
+use Rattle.sock_open.proofs.SeatsHoldingNothing.{done_between, kept_done, may_address, gone_same, visited, no_notes, holds_it, known_by}
 use Rattle.sock_open.proofs.Racing.{linked_notes}
 use Rattle.part_rows.proofs.sockets.poke.Goals as goal
 

@@ -1,6 +1,6 @@
 use Rattle.std.proofs.Common.{◌≡◌}
-use Rattle.sock_table.specs.Closed.{IsDoneSeat}
-use Rattle.sock_table.specs.Refs.{Knows}
+use Rattle.sock_table.specs.ClosedSocketTable.{IsDoneSeat}
+use Rattle.sock_table.specs.ReferenceCalls.{Knows}
 use Rattle.part_rows.proofs.sockets.poke.Given as goal
 
 abbrev pub invariant-loop : goal.invariant-loop

@@ -1,6 +1,6 @@
 use Rattle.std.proofs.Common.{sym, ◌∙◌, subst}
-use Rattle.sock_table.specs.Passes.{IsPass}
-use Rattle.sock_open.proofs.Testing.{done_between, kept_done}
+use Rattle.sock_table.specs.LinkPasses.{IsPass}
+use Rattle.sock_open.proofs.SeatsHoldingNothing.{done_between, kept_done}
 use Rattle.part_rows.proofs.sockets.renew.Goals as goal
 
 pub create-requires-clause-seat : goal.create-requires-clause-seat

@@ -1,6 +1,6 @@
 use Rattle.std.proofs.Common.{◌≡◌}
-use Rattle.sock_table.specs.Closed.{IsDoneSeat}
-use Rattle.sock_table.specs.Passes.{IsPass}
+use Rattle.sock_table.specs.ClosedSocketTable.{IsDoneSeat}
+use Rattle.sock_table.specs.LinkPasses.{IsPass}
 use Rattle.part_rows.proofs.sockets.renew.Given as goal
 
 abbrev pub invariant-loop : goal.invariant-loop

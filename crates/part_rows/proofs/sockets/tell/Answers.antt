@@ -1,4 +1,4 @@
-use Rattle.sock_open.proofs.Testing.{done_between, kept_done}
+use Rattle.sock_open.proofs.SeatsHoldingNothing.{done_between, kept_done}
 use Rattle.sock_open.proofs.Racing.{stored_done, stored_known, told_known}
 use Rattle.part_rows.proofs.sockets.tell.Goals as goal
 

@@ -1,5 +1,5 @@
-use Rattle.rpc_client.proofs.Going.{new_may, new_own}
-use Rattle.call_writes.proofs.Testing.{still_may, own_room}
+use Rattle.rpc_client.proofs.NewSeatsOwnList.{new_may, new_own}
+use Rattle.call_writes.proofs.TestSeat.{still_may, own_room}
 use Rattle.part_rows.proofs.writes.open.Goals as goal
 
 pub returns-clause-may : goal.returns-clause-may

@@ -1,5 +1,5 @@
 use Rattle.std.proofs.Common.{subst, Some}
-use Rattle.sock_open.specs.Made.{AreNewSeats}
+use Rattle.sock_open.specs.NewTableContents.{AreNewSeats}
 use Rattle.sock_open.proofs.Racing.{popped}
 use Rattle.part_rows.proofs.writes.seat_of.Goals as goal
 

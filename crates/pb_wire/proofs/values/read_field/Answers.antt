@@ -1,7 +1,7 @@
 use Rattle.std.proofs.Common.{sym, ◌∙◌}
 use Rattle.std.proofs.lemmas.Result.{err_from_is_err_and}
 use Rattle.pb_wire.specs.Read.{type_number}
-use Rattle.pb_wire.specs.Told.{value_in}
+use Rattle.pb_wire.specs.WireCallAnswers.{value_in}
 use Rattle.pb_wire.proofs.Keys.{field_by_value, with_number_upto}
 use Rattle.pb_wire.proofs.values.read_field.Goals as goal
 

@@ -3,7 +3,7 @@ use Rattle.std.proofs.lemmas.Grind.{common_steps}
 use Rattle.std.proofs.lemmas.List.Sums.{prefix_len-le-length}
 use Rattle.brpc_model.specs.Wire.{goes_on, varint}
 use Rattle.pb_wire.specs.declared.fault.WireFault.TheVariants.{Truncated, LongVarint}
-use Rattle.pb_wire.specs.Told.{varint_front}
+use Rattle.pb_wire.specs.WireCallAnswers.{varint_front}
 use Rattle.pb_wire.proofs.Varints.{answer_form, form_answer}
 use Rattle.pb_wire.proofs.varint.read_any_varint.Goals as goal
 

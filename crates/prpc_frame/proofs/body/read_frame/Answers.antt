@@ -1,9 +1,9 @@
 use Rattle.std.proofs.Common.{◌≡◌, ◌-◌, ℕ, ℤ, List, drop, Err, ap, sym, ◌∙◌, subst, w32, to_z, of_z, rules}
 use Rattle.std.proofs.lemmas.Result.{err_from_is_err_and}
 use Rattle.rpc_meta.specs.brpc_model.specs.Frame.{Begins}
-use Rattle.rpc_meta.specs.Meaning.{meaning}
+use Rattle.rpc_meta.specs.MetaMeaning.{meaning}
 use Rattle.prpc_frame.specs.Body.{AttachmentSays}
-use Rattle.prpc_frame.proofs.Bodies.{meta_err, attachment_err, begins_with, begins_alone}
+use Rattle.prpc_frame.proofs.BodyPartsOfFrames.{meta_err, attachment_err, begins_with, begins_alone}
 use Rattle.prpc_frame.proofs.body.read_frame.Goals as goal
 
 pub returns-in_err-meta : goal.returns-in_err-meta

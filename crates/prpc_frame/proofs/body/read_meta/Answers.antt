@@ -1,7 +1,7 @@
 use Rattle.std.proofs.Common.{◌∙◌, ℕ, List, take, drop, ap, subst, arith}
 use Rattle.std.specs.Prelude.{slice_index}
 use Rattle.prpc_frame.specs.Body.{MetaIs}
-use Rattle.prpc_frame.proofs.Bodies.{meta_lies}
+use Rattle.prpc_frame.proofs.BodyPartsOfFrames.{meta_lies}
 use Rattle.prpc_frame.proofs.body.read_meta.Goals as goal
 
 pub returns-in-Some : goal.returns-in-Some

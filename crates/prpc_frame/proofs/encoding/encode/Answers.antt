@@ -2,10 +2,10 @@ use Rattle.std.proofs.Common.{◌≡◌, rules, arith, ℕ, List, ◌+◌, ◌++
 use Rattle.std.proofs.lemmas.Grind.{common_steps}
 use Rattle.rpc_meta.specs.brpc_model.specs.Frame.{IsFrame, frame_bytes}
 use Rattle.rpc_meta.specs.brpc_model.specs.Spelling.{meta_bytes}
-use Rattle.rpc_meta.specs.Meaning.{meaning}
-use Rattle.prpc_frame.specs.Meaning.{frame_with}
+use Rattle.rpc_meta.specs.MetaMeaning.{meaning}
+use Rattle.prpc_frame.specs.FrameMeaning.{frame_with}
 use Rattle.io_buf.specs.Buffer.{block_sizes}
-use Rattle.io_buf.proofs.Sizes.{block_sizes-one}
+use Rattle.io_buf.proofs.ReferenceSizesAtEnds.{block_sizes-one}
 use Rattle.prpc_frame.proofs.Encoded.{frame_judged}
 use Rattle.prpc_frame.proofs.encoding.encode.Goals as goal
 

@@ -2,9 +2,9 @@ use Rattle.std.proofs.Common.{◌≡◌, ℕ, ◌+◌, ◌-◌, List, take, drop
 use Rattle.std.proofs.lemmas.List.{take_rest}
 use Rattle.rpc_meta.specs.brpc_model.specs.Frame.{Begins}
 use Rattle.rpc_meta.specs.brpc_model.specs.Meta.{read_meta}
-use Rattle.rpc_meta.specs.View.{viewed}
+use Rattle.rpc_meta.specs.ViewedMeta.{viewed}
 use Rattle.rpc_meta.proofs.Building.{same_some}
-use Rattle.prpc_frame.proofs.Bodies.{begins_with}
+use Rattle.prpc_frame.proofs.BodyPartsOfFrames.{begins_with}
 use Rattle.prpc_frame.proofs.front.read_front.Goals as goal
 
 pub returns : goal.returns

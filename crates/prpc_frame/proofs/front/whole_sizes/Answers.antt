@@ -1,7 +1,7 @@
 use Rattle.std.proofs.Common.{ℕ, List, drop, Ok, subst, arith, length-take, length-drop}
 use Rattle.std.proofs.lemmas.List.{take-append-drop}
 use Rattle.prpc_frame.specs.Header.{HeaderSays}
-use Rattle.prpc_frame.proofs.Fronts.{whole_sizes_are}
+use Rattle.prpc_frame.proofs.FrontFramePlace.{whole_sizes_are}
 use Rattle.prpc_frame.proofs.front.whole_sizes.Goals as goal
 
 pub returns-in-Ok : goal.returns-in-Ok

@@ -1,7 +1,7 @@
 use Rattle.std.proofs.Common.{◌≡◌, ◌==◌, false, refl, arith}
 use Rattle.std.proofs.lemmas.Bool.Decides.{nat_tests}
 use Rattle.reader_points.proofs.follows.opened.Goals as goal
-use Rattle.sock_words.specs.Words.{NO_SOCKET}
+use Rattle.sock_words.specs.PackedWords.{NO_SOCKET}
 
 pub returns-then-found-eq0-clause-program : goal.returns-then-found-eq0-clause-program
 returns-then-found-eq0-clause-program c a hand = rw c.if-found-eq0.true refl

@@ -1,5 +1,5 @@
 use Rattle.std.proofs.Common.{◌∙◌, sym, refl, arith}
-use Rattle.id_points.specs.Ids.{id_of}
+use Rattle.id_points.specs.IdsAndAttemptNumbers.{id_of}
 use Rattle.reader_points.proofs.FirstKept.{next_kept, none_kept, first_at}
 use Rattle.reader_points.proofs.keeping.first_kept.Goals as goal
 

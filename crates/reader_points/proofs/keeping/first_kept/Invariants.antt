@@ -1,5 +1,5 @@
 use Rattle.std.proofs.Common.{◌≡◌, ◌≤◌, ◌-◌, length, drop}
-use Rattle.id_points.specs.Ids.{id_of}
+use Rattle.id_points.specs.IdsAndAttemptNumbers.{id_of}
 use Rattle.reader_points.proofs.FirstKept.{kept_of}
 use Rattle.reader_points.proofs.keeping.first_kept.Given as goal
 

@@ -1,6 +1,6 @@
 use Rattle.std.proofs.Common.{◌∙◌, sym}
 use Rattle.reader_points.specs.declared.point.Taken.TheVariants as takens
-use Rattle.reader_points.proofs.Taking.{threw_bytes, threw_all, threw_nothing, threw_last}
+use Rattle.reader_points.proofs.ReaderBehindTake.{threw_bytes, threw_all, threw_nothing, threw_last}
 use Rattle.reader_points.proofs.reading.discarded.Goals as goal
 
 pub returns-then-is_below_limit-clause-program : goal.returns-then-is_below_limit-clause-program

@@ -1,4 +1,4 @@
-use Rattle.ref_core.proofs.KeptRules.{adds}
+use Rattle.ref_core.proofs.SlotKeptRules.{adds}
 use Rattle.ref_core.proofs.steps.add_ref.Goals as goal
 
 pub returns-clause-keeps : goal.returns-clause-keeps

@@ -1,4 +1,4 @@
-use Rattle.ref_core.proofs.KeptRules.{bears}
+use Rattle.ref_core.proofs.SlotKeptRules.{bears}
 use Rattle.ref_core.proofs.steps.birth.Goals as goal
 
 pub returns-clause-keeps : goal.returns-clause-keeps

@@ -1,4 +1,4 @@
-use Rattle.ref_core.proofs.KeptRules.{claims}
+use Rattle.ref_core.proofs.SlotKeptRules.{claims}
 use Rattle.ref_core.proofs.steps.claim_slot.Goals as goal
 
 -- src/steps.rt

@@ -1,4 +1,4 @@
-use Rattle.ref_core.proofs.KeptRules.{frees}
+use Rattle.ref_core.proofs.SlotKeptRules.{frees}
 use Rattle.ref_core.proofs.steps.free_slot.Goals as goal
 
 pub returns-clause-keeps : goal.returns-clause-keeps

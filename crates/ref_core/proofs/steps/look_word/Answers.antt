@@ -1,4 +1,4 @@
-use Rattle.ref_core.proofs.KeptRules.{looks}
+use Rattle.ref_core.proofs.SlotKeptRules.{looks}
 use Rattle.ref_core.proofs.steps.look_word.Goals as goal
 
 pub returns-clause-keeps : goal.returns-clause-keeps

@@ -1,10 +1,10 @@
 use Rattle.std.proofs.Common.{ℕ, ◌+◌, sym, ap, subst, ◌∙◌, arith}
 use mathlib.Core.Logic.{dite}
 use native.Mathlib.Decide.{ℕ_discrete}
-use Rattle.sock_model.specs.Layout.{ref_index}
+use Rattle.sock_model.specs.SocketTableLayout.{ref_index}
 use Rattle.sock_model.specs.SlotRows.{recycled}
-use Rattle.ref_core.specs.Keeping.{KeepsSlotRule, MayRecycle}
-use Rattle.ref_core.proofs.KeptRules.{recycles_won, recycles_not}
+use Rattle.ref_core.specs.KeepingSlotRule.{KeepsSlotRule, MayRecycle}
+use Rattle.ref_core.proofs.SlotKeptRules.{recycles_won, recycles_not}
 use Rattle.ref_core.proofs.steps.recycle.Goals as goal
 
 pub returns-clause-won : goal.returns-clause-won

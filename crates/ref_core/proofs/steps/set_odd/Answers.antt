@@ -1,4 +1,4 @@
-use Rattle.ref_core.proofs.KeptRules.{fails}
+use Rattle.ref_core.proofs.SlotKeptRules.{fails}
 use Rattle.ref_core.proofs.steps.set_odd.Goals as goal
 
 pub returns-clause-keeps : goal.returns-clause-keeps

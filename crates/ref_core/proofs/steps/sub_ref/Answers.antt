@@ -1,4 +1,4 @@
-use Rattle.ref_core.proofs.KeptRules.{subs}
+use Rattle.ref_core.proofs.SlotKeptRules.{subs}
 use Rattle.ref_core.proofs.steps.sub_ref.Goals as goal
 
 pub returns-clause-keeps : goal.returns-clause-keeps

@@ -1,7 +1,7 @@
 use Rattle.std.proofs.Common.{◌∙◌, ap}
-use Rattle.sock_words.specs.Words.{socket_id_slot}
-use Rattle.rpc_client.proofs.Counting.{given, then_more}
-use Rattle.rpc_client.proofs.Finding.{has_one, here_inside, holds_still, set_refs, set_others, seen_others, seen_then, seen_became, tried_failed, rest_then, rest_became}
+use Rattle.sock_words.specs.PackedWords.{socket_id_slot}
+use Rattle.rpc_client.proofs.CountedReferences.{given, then_more}
+use Rattle.rpc_client.proofs.FindingReferences.{has_one, here_inside, holds_still, set_refs, set_others, seen_others, seen_then, seen_became, tried_failed, rest_then, rest_became}
 use Rattle.rpc_client.proofs.failing.fail_one.Goals as goal
 
 pub fail_socket-outcome-requires-clause-held : goal.fail_socket-outcome-requires-clause-held

@@ -1,7 +1,7 @@
 use Rattle.std.proofs.Common.{◌∙◌}
-use Rattle.sock_words.specs.Words.{socket_id_slot}
-use Rattle.sock_table.proofs.Quiet.{between_rests, rests_between}
-use Rattle.rpc_client.proofs.Finding.{rest_became}
+use Rattle.sock_words.specs.PackedWords.{socket_id_slot}
+use Rattle.sock_table.proofs.QuietBetweenCalls.{between_rests, rests_between}
+use Rattle.rpc_client.proofs.FindingReferences.{rest_became}
 use Rattle.rpc_client.proofs.failing.fail_socket.Goals as goal
 
 pub set_failed-requires-clause-rests : goal.set_failed-requires-clause-rests

@@ -1,6 +1,6 @@
 use Rattle.std.proofs.Common.{◌+◌}
-use Rattle.sock_model.specs.Layout.{open_index, name_index}
-use Rattle.rpc_client.proofs.Finding.{seen_same, seen_then, seen_put}
+use Rattle.sock_model.specs.SocketTableLayout.{open_index, name_index}
+use Rattle.rpc_client.proofs.FindingReferences.{seen_same, seen_then, seen_put}
 use Rattle.rpc_client.proofs.opening.open_one.Goals as goal
 
 pub returns-in-Ok-clause-seen : goal.returns-in-Ok-clause-seen

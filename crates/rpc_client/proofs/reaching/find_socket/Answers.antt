@@ -1,4 +1,4 @@
-use Rattle.rpc_client.proofs.Finding.{is_here, here_refs, here_seen, gone_seen}
+use Rattle.rpc_client.proofs.FindingReferences.{is_here, here_refs, here_seen, gone_seen}
 use Rattle.rpc_client.proofs.reaching.find_socket.Goals as goal
 
 pub returns-in-Ok-clause-reached : goal.returns-in-Ok-clause-reached

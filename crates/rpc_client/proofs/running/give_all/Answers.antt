@@ -1,6 +1,6 @@
 use Rattle.std.proofs.Common.{◌∙◌}
-use Rattle.rpc_client.proofs.Finding.{rest_then}
-use Rattle.rpc_client.proofs.Coursing.{gives_on}
+use Rattle.rpc_client.proofs.FindingReferences.{rest_then}
+use Rattle.rpc_client.proofs.ToldAndGivenBack.{gives_on}
 use Rattle.rpc_client.proofs.running.give_all.Goals as goal
 
 pub gives-preserved : goal.gives-preserved

@@ -1,7 +1,7 @@
 use Rattle.std.proofs.Common.{◌≡◌, ℕ, ◌≤◌, length, drop}
-use Rattle.rpc_client.specs.Seats.{AtRest}
-use Rattle.rpc_client.specs.Holding.{IsHolder}
-use Rattle.rpc_client.specs.Running.{GaveFirst}
+use Rattle.rpc_client.specs.SeatBetweenOperations.{AtRest}
+use Rattle.rpc_client.specs.ReferencesHeldByClient.{IsHolder}
+use Rattle.rpc_client.specs.ToldOfOperation.{GaveFirst}
 use Rattle.rpc_client.proofs.running.give_all.Given as goal
 
 abbrev pub invariant-gives : goal.invariant-gives

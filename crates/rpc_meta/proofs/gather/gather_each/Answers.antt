@@ -1,6 +1,6 @@
 use Rattle.std.proofs.Common.{◌∙◌}
-use Rattle.rpc_meta.specs.Parts.{gathered_of}
-use Rattle.rpc_meta.proofs.Gathering.{part_step}
+use Rattle.rpc_meta.specs.MetaParts.{gathered_of}
+use Rattle.rpc_meta.proofs.MetaFieldGathering.{part_step}
 use Rattle.rpc_meta.proofs.gather.gather_each.Goals as goal
 
 pub loop-field-preserved : goal.loop-field-preserved

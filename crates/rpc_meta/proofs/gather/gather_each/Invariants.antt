@@ -1,10 +1,10 @@
 use Rattle.std.proofs.Common.{◌≡◌, ◌-◌, fold, Ok}
 use Rattle.pb_wire.specs.brpc_model.specs.Wire.{◌>>=◌}
 use Rattle.pb_wire.specs.brpc_model.specs.Meta.{part_of}
-use Rattle.pb_wire.specs.Reading.{left_with}
+use Rattle.pb_wire.specs.FieldReader.{left_with}
 use Rattle.rpc_meta.specs.Gathered.{nothing, part_added}
-use Rattle.rpc_meta.specs.Parts.{gathered_of}
-use Rattle.rpc_meta.specs.Steps.{gathered_after}
+use Rattle.rpc_meta.specs.MetaParts.{gathered_of}
+use Rattle.rpc_meta.specs.MetaGatheringSteps.{gathered_after}
 use Rattle.rpc_meta.proofs.gather.gather_each.Given as goal
 
 -- the parts so far and those that are left are the whole

@@ -1,5 +1,5 @@
 use Rattle.std.proofs.Common.{◌∙◌}
-use Rattle.rpc_meta.proofs.Gathering.{field_step}
+use Rattle.rpc_meta.proofs.MetaFieldGathering.{field_step}
 use Rattle.rpc_meta.proofs.gather.read_inside.Goals as goal
 
 pub loop-field-preserved : goal.loop-field-preserved

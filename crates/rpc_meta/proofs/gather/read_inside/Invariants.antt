@@ -1,6 +1,6 @@
 use Rattle.std.proofs.Common.{◌-◌, slice_range, option_map}
-use Rattle.rpc_meta.specs.Steps.{message_after}
-use Rattle.rpc_meta.proofs.Gathering.{Gathers}
+use Rattle.rpc_meta.specs.MetaGatheringSteps.{message_after}
+use Rattle.rpc_meta.proofs.MetaFieldGathering.{Gathers}
 use Rattle.rpc_meta.proofs.gather.read_inside.Given as goal
 
 abbrev pub invariant-loop-field : goal.invariant-loop-field

@@ -1,7 +1,7 @@
 use Rattle.std.proofs.Common.{◌≡◌, ℕ, ℤ, ◌+◌, ◌≤◌, List, ◌++◌, length, option_map, ap, sym, subst, ◌∙◌, rules, w32, to_z, of_z}
 use Rattle.pb_wire.specs.brpc_model.specs.Meta as meta
 use Rattle.pb_wire.specs.brpc_model.specs.Spelling.{number_field, where_not_0, bytes_field, where_some, request_bytes, response_bytes}
-use Rattle.rpc_meta.specs.Meaning.{request_of, response_of}
+use Rattle.rpc_meta.specs.MetaMeaning.{request_of, response_of}
 use Rattle.rpc_meta.specs.declared.meta.RpcMeta.{RpcMeta}
 use Rattle.rpc_meta.proofs.Appending.{joined, room_for, room_behind}
 use Rattle.rpc_meta.proofs.spell.spell_meta.Goals as goal

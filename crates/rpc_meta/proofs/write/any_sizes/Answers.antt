@@ -1,8 +1,8 @@
 use Rattle.std.proofs.Common.{◌≡◌, ℕ, ℤ, List, length, option_map, ◌∙◌, ap, rules, w32, to_z, of_z}
 use Rattle.pb_wire.specs.brpc_model.specs.Meta as meta
 use Rattle.pb_wire.specs.brpc_model.specs.Spelling.{number_field, where_not_0, bytes_field, where_some, request_bytes, response_bytes}
-use Rattle.rpc_meta.specs.Meaning.{request_of, response_of}
-use Rattle.rpc_meta.proofs.Counting.{five}
+use Rattle.rpc_meta.specs.MetaMeaning.{request_of, response_of}
+use Rattle.rpc_meta.proofs.SummedPieceLengths.{five}
 use Rattle.rpc_meta.proofs.write.any_sizes.Goals as goal
 
 pub returns : goal.returns

@@ -2,9 +2,9 @@ use Rattle.std.proofs.Common.{◌≡◌, ℕ, ℤ, List, ◌++◌, option_map, a
 use Rattle.std.proofs.lemmas.Result.{err_from_is_err_and}
 use Rattle.pb_wire.specs.brpc_model.specs.Spelling.{number_field, where_not_0, bytes_field, where_some, request_bytes, response_bytes}
 use Rattle.pb_wire.specs.brpc_model.specs.Meta as meta
-use Rattle.rpc_meta.specs.Meaning.{request_of, response_of}
+use Rattle.rpc_meta.specs.MetaMeaning.{request_of, response_of}
 use Rattle.rpc_meta.specs.declared.meta.RpcMeta.{RpcMeta}
-use Rattle.rpc_meta.specs.Writing.{Appends}
+use Rattle.rpc_meta.specs.MetaWriting.{Appends}
 use Rattle.rpc_meta.proofs.Appending.{kept, behind, joined}
 use Rattle.rpc_meta.proofs.write.append_meta.Goals as goal
 

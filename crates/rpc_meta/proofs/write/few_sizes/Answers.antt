@@ -1,8 +1,8 @@
 use Rattle.std.proofs.Common.{◌≡◌, option_map, false, sym, ap, ◌∙◌, rules, w32, to_z, of_z}
 use Rattle.std.specs.Option.{is_some}
-use Rattle.rpc_meta.specs.Meaning.{request_of, response_of, meaning}
+use Rattle.rpc_meta.specs.MetaMeaning.{request_of, response_of, meaning}
 use Rattle.rpc_meta.proofs.Building.{none_is}
-use Rattle.rpc_meta.proofs.Few.{few_are}
+use Rattle.rpc_meta.proofs.MetaOfFewBytes.{few_are}
 use Rattle.rpc_meta.proofs.write.few_sizes.Goals as goal
 
 pub returns : goal.returns

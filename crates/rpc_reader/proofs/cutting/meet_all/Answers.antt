@@ -1,7 +1,7 @@
-use Rattle.rpc_reader.specs.Books.{books}
+use Rattle.rpc_reader.specs.ReaderBooks.{books}
 use Rattle.rpc_reader.proofs.Locks.{open_still, rests_none, rests_then}
-use Rattle.prpc_frame.specs.Meaning.{fault_of}
-use Rattle.rpc_reader.proofs.Frames.{met_none, met_next, stops_faulty}
+use Rattle.prpc_frame.specs.FrameMeaning.{fault_of}
+use Rattle.rpc_reader.proofs.FramesMetInTurn.{met_none, met_next, stops_faulty}
 use Rattle.rpc_reader.proofs.cutting.meet_all.Goals as goal
 
 pub frames-init : goal.frames-init

@@ -1,6 +1,6 @@
 use Rattle.std.proofs.Common.{length}
-use Rattle.rpc_reader.specs.Seats.{Rests}
-use Rattle.rpc_reader.specs.Books.{books}
+use Rattle.rpc_reader.specs.ReaderIdSeat.{Rests}
+use Rattle.rpc_reader.specs.ReaderBooks.{books}
 use Rattle.rpc_reader.specs.Met.{MetAll}
 use Rattle.rpc_reader.proofs.cutting.meet_all.Given as goal
 

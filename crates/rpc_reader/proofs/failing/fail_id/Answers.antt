@@ -1,8 +1,8 @@
 use Rattle.std.proofs.Common.{inl, ◌∙◌, ap}
-use Rattle.sock_words.specs.Words.{socket_id_slot}
-use Rattle.rpc_client.proofs.Counting.{gone_refs}
-use Rattle.rpc_client.proofs.Finding.{holds_still, set_refs, set_others, seen_others, seen_then, seen_became, rest_then, rest_became}
-use Rattle.rpc_reader.proofs.Sockets.{may_reach, came_held, came_set, came_refs}
+use Rattle.sock_words.specs.PackedWords.{socket_id_slot}
+use Rattle.rpc_client.proofs.CountedReferences.{gone_refs}
+use Rattle.rpc_client.proofs.FindingReferences.{holds_still, set_refs, set_others, seen_others, seen_then, seen_became, rest_then, rest_became}
+use Rattle.rpc_reader.proofs.ReaderSocket.{may_reach, came_held, came_set, came_refs}
 use Rattle.rpc_reader.proofs.failing.fail_id.Goals as goal
 
 pub add_reference-requires-clause-may : goal.add_reference-requires-clause-may

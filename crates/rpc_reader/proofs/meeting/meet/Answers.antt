@@ -1,9 +1,9 @@
 use Rattle.std.proofs.Common.{ℕ, Bool, ap, refl, sym, ◌∙◌, subst}
 use Rattle.corr_core.specs.Word.{parts}
-use Rattle.corr_core.specs.Versions.{is_early}
-use Rattle.rpc_reader.specs.Books.{books}
+use Rattle.corr_core.specs.IdRangeVersions.{is_early}
+use Rattle.rpc_reader.specs.ReaderBooks.{books}
 use Rattle.rpc_reader.specs.Met.{KeptIf}
-use Rattle.rpc_reader.proofs.Frames.{lacked}
+use Rattle.rpc_reader.proofs.FramesMetInTurn.{lacked}
 use Rattle.rpc_reader.proofs.meeting.meet.Goals as goal
 
 pub returns-else-is_early-clause-met : goal.returns-else-is_early-clause-met

@@ -1,8 +1,8 @@
 use Rattle.std.proofs.Common.{Some, None, refl, ◌∙◌, subst, ap}
-use Rattle.rpc_client.specs.Seats.{SameRefs, StaysSeen}
-use Rattle.rpc_client.proofs.Finding.{rest_same, rest_waited}
-use Rattle.rpc_reader.specs.Failing.{OpenedBy}
-use Rattle.rpc_reader.proofs.Sockets.{opened_refs, opened_seen}
+use Rattle.rpc_client.specs.SeatBetweenOperations.{SameRefs, StaysSeen}
+use Rattle.rpc_client.proofs.FindingReferences.{rest_same, rest_waited}
+use Rattle.rpc_reader.specs.ReaderSocketFailing.{OpenedBy}
+use Rattle.rpc_reader.proofs.ReaderSocket.{opened_refs, opened_seen}
 use Rattle.rpc_reader.proofs.opening.wait_open.Goals as goal
 
 pub waits-init : goal.waits-init

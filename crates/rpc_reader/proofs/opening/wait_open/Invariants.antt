@@ -1,4 +1,4 @@
-use Rattle.rpc_client.specs.Seats.{StillIdle}
+use Rattle.rpc_client.specs.SeatBetweenOperations.{StillIdle}
 use Rattle.rpc_reader.proofs.opening.wait_open.Given as goal
 
 abbrev pub invariant-waits : goal.invariant-waits

@@ -1,10 +1,10 @@
 use Rattle.std.proofs.Common.{ℕ, sym, ap, ◌∙◌, subst}
 use Rattle.std.specs.Prelude.{Option, position}
 use Rattle.corr_core.specs.Word.{parts}
-use Rattle.rpc_reader.specs.Books.{books}
+use Rattle.rpc_reader.specs.ReaderBooks.{books}
 use Rattle.rpc_reader.specs.Met.{is_for}
-use Rattle.rpc_reader.specs.Posting.{LostBy}
-use Rattle.rpc_reader.proofs.Posts.{first_responds, first_inside, stands}
+use Rattle.rpc_reader.specs.PostingAtReadingEnd.{LostBy}
+use Rattle.rpc_reader.proofs.PostsToEachCall.{first_responds, first_inside, stands}
 use Rattle.rpc_reader.proofs.posting.end_lost.Goals as goal
 
 pub end_answered-requires-clause-response : goal.end_answered-requires-clause-response

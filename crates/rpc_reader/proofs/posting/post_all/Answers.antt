@@ -1,6 +1,6 @@
-use Rattle.rpc_reader.specs.Books.{books}
+use Rattle.rpc_reader.specs.ReaderBooks.{books}
 use Rattle.rpc_reader.proofs.Locks.{open_still, rests_then}
-use Rattle.rpc_reader.proofs.Posts.{posted_next}
+use Rattle.rpc_reader.proofs.PostsToEachCall.{posted_next}
 use Rattle.rpc_reader.proofs.posting.post_all.Goals as goal
 
 pub posts-preserved : goal.posts-preserved

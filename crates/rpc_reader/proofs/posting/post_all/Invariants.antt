@@ -1,7 +1,7 @@
 use Rattle.std.proofs.Common.{take}
-use Rattle.rpc_reader.specs.Seats.{Rests}
-use Rattle.rpc_reader.specs.Books.{books}
-use Rattle.rpc_reader.specs.Posting.{PostedAll}
+use Rattle.rpc_reader.specs.ReaderIdSeat.{Rests}
+use Rattle.rpc_reader.specs.ReaderBooks.{books}
+use Rattle.rpc_reader.specs.PostingAtReadingEnd.{PostedAll}
 use Rattle.rpc_reader.proofs.posting.post_all.Given as goal
 
 abbrev pub invariant-posts : goal.invariant-posts

@@ -1,11 +1,11 @@
 use Rattle.std.proofs.Common.{ℕ, refl, subst, arith}
 use Rattle.std.specs.Prelude.{Option}
 use Rattle.corr_id.specs.declared.posts.Posted.TheVariants as posted
-use Rattle.corr_id.specs.Calls.{Found, is_saw}
-use Rattle.corr_id.specs.Posts.{PostOk}
-use Rattle.rpc_reader.specs.Posting.{call_at}
+use Rattle.corr_id.specs.SeatBehindIdCalls.{Found, is_saw}
+use Rattle.corr_id.specs.PostAnswers.{PostOk}
+use Rattle.rpc_reader.specs.PostingAtReadingEnd.{call_at}
 use Rattle.rpc_reader.proofs.posting.post_code.Goals as goal
-use Rattle.sock_words.specs.Words.{id_slot}
+use Rattle.sock_words.specs.PackedWords.{id_slot}
 
 pub returns-in-Queued-clause-posted : goal.returns-in-Queued-clause-posted
 returns-in-Queued-clause-posted g c = let slots = c.args.ids.now.plan.slots in let w = c.args.word.0 in let v = c.args.calls.now.seat.me.0 in let u = c.post.new.seat.me.0 in let none_ = c.requires.none_kept in let queued = c.in-Queued.ensures.posted in

@@ -1,14 +1,14 @@
 use Rattle.std.proofs.Common.{◌≡◌, ℕ, List, Some, None, refl, sym, ap, ◌∙◌, subst}
 use Rattle.corr_core.specs.Word.{parts}
-use Rattle.corr_id.specs.Calls.{HasId, LacksId}
+use Rattle.corr_id.specs.SeatBehindIdCalls.{HasId, LacksId}
 use Rattle.prpc_frame.specs.declared.frame.Frame.{Frame}
-use Rattle.rpc_reader.specs.Books.{Books, books}
+use Rattle.rpc_reader.specs.ReaderBooks.{Books, books}
 use Rattle.rpc_reader.specs.Met.{FrameMet}
-use Rattle.rpc_reader.specs.Posting.{call_at, kept_at}
+use Rattle.rpc_reader.specs.PostingAtReadingEnd.{call_at, kept_at}
 use Rattle.rpc_reader.proofs.Locks.{open_still, rests_then, rests_quiet}
-use Rattle.rpc_reader.proofs.Posts.{found_of, gone_last, kept_is, met_kept, last_after}
+use Rattle.rpc_reader.proofs.PostsToEachCall.{found_of, gone_last, kept_is, met_kept, last_after}
 use Rattle.rpc_reader.proofs.posting.post_last.Goals as goal
-use Rattle.sock_words.specs.Words.{id_slot, id_first}
+use Rattle.sock_words.specs.PackedWords.{id_slot, id_first}
 
 pub returns-then-lacks_id-clause-rest : goal.returns-then-lacks_id-clause-rest
 returns-then-lacks_id-clause-rest g c = rests_quiet c.args.calls.now.seat c.word.new.seat c.requires.seat.free c.word.ensures.seat c.word.ensures.quiet

@@ -1,8 +1,8 @@
 use Rattle.std.proofs.Common.{refl, subst}
-use Rattle.rpc_reader.specs.Books.{books}
-use Rattle.rpc_reader.specs.Reading.{ReadOnce}
+use Rattle.rpc_reader.specs.ReaderBooks.{books}
+use Rattle.rpc_reader.specs.LinkReading.{ReadOnce}
 use Rattle.rpc_reader.proofs.Locks.{open_still, rests_none, rests_then}
-use Rattle.rpc_reader.proofs.Takes.{read_none, read_more, read_last}
+use Rattle.rpc_reader.proofs.SuccessiveTakes.{read_none, read_more, read_last}
 use Rattle.rpc_reader.proofs.reading.read_all.Goals as goal
 
 pub reads-init : goal.reads-init

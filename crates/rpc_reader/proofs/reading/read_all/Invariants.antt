@@ -1,6 +1,6 @@
-use Rattle.rpc_reader.specs.Seats.{Rests}
-use Rattle.rpc_reader.specs.Books.{books}
-use Rattle.rpc_reader.specs.Reading.{ReadOn}
+use Rattle.rpc_reader.specs.ReaderIdSeat.{Rests}
+use Rattle.rpc_reader.specs.ReaderBooks.{books}
+use Rattle.rpc_reader.specs.LinkReading.{ReadOn}
 use Rattle.rpc_reader.proofs.reading.read_all.Given as goal
 
 abbrev pub invariant-reads : goal.invariant-reads

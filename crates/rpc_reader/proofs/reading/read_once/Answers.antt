@@ -1,9 +1,9 @@
 use Rattle.std.proofs.Common.{refl, ap, arith, take}
 use Rattle.sock_io.specs.declared.link.Take.TheVariants as take_
 use Rattle.rpc_reader.specs.declared.reading.How.TheVariants as how
-use Rattle.rpc_reader.specs.Books.{books}
-use Rattle.rpc_reader.specs.Taking.{goes_on}
-use Rattle.rpc_reader.proofs.Takes.{read_bytes, read_nothing, read_end}
+use Rattle.rpc_reader.specs.ReaderBooks.{books}
+use Rattle.rpc_reader.specs.ReadingTakeByTake.{goes_on}
+use Rattle.rpc_reader.proofs.SuccessiveTakes.{read_bytes, read_nothing, read_end}
 use Rattle.rpc_reader.proofs.reading.read_once.Goals as goal
 
 pub returns-in-Took-clause-read : goal.returns-in-Took-clause-read

@@ -1,7 +1,7 @@
 use Rattle.std.proofs.Common.{List, ℕ, ◌++◌, subst}
-use Rattle.rpc_reader.specs.Books.{books}
-use Rattle.rpc_reader.specs.Reading.{HeldMet}
-use Rattle.rpc_reader.proofs.Frames.{met_none, fed_is}
+use Rattle.rpc_reader.specs.ReaderBooks.{books}
+use Rattle.rpc_reader.specs.LinkReading.{HeldMet}
+use Rattle.rpc_reader.proofs.FramesMetInTurn.{met_none, fed_is}
 use Rattle.rpc_reader.proofs.reading.take_in.Goals as goal
 
 pub returns-in-Ok-clause-fed : goal.returns-in-Ok-clause-fed

@@ -1,7 +1,7 @@
 use Rattle.std.proofs.Common.{inr}
 use Rattle.corr_core.specs.Word.{parts}
-use Rattle.rpc_reader.specs.Books.{Books, books}
-use Rattle.rpc_reader.proofs.Noting.{ended_last}
+use Rattle.rpc_reader.specs.ReaderBooks.{Books, books}
+use Rattle.rpc_reader.proofs.NotedCallEnds.{ended_last}
 use Rattle.rpc_reader.proofs.resting.end_one.Goals as goal
 
 pub returns-in-Ok-clause-ended : goal.returns-in-Ok-clause-ended

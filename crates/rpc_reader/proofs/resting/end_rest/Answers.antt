@@ -1,6 +1,6 @@
-use Rattle.rpc_reader.specs.Books.{books}
+use Rattle.rpc_reader.specs.ReaderBooks.{books}
 use Rattle.rpc_reader.proofs.Locks.{open_still, rests_then}
-use Rattle.rpc_reader.proofs.Noting.{ended_next}
+use Rattle.rpc_reader.proofs.NotedCallEnds.{ended_next}
 use Rattle.rpc_reader.proofs.resting.end_rest.Goals as goal
 
 pub end_one-requires-clause-seat : goal.end_one-requires-clause-seat

@@ -1,7 +1,7 @@
 use Rattle.std.proofs.Common.{take}
-use Rattle.rpc_reader.specs.Seats.{Rests}
-use Rattle.rpc_reader.specs.Books.{books}
-use Rattle.rpc_reader.specs.Resting.{RestEnded}
+use Rattle.rpc_reader.specs.ReaderIdSeat.{Rests}
+use Rattle.rpc_reader.specs.ReaderBooks.{books}
+use Rattle.rpc_reader.specs.CallsLeftAfterReading.{RestEnded}
 use Rattle.rpc_reader.proofs.resting.end_rest.Given as goal
 
 abbrev pub invariant-rests : goal.invariant-rests

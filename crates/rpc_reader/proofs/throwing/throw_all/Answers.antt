@@ -1,6 +1,6 @@
 use Rattle.std.proofs.Common.{subst, arith}
 use Rattle.rpc_reader.specs.Throwing.{ThrewOnce}
-use Rattle.rpc_reader.proofs.Takes.{threw_none, threw_more, threw_last}
+use Rattle.rpc_reader.proofs.SuccessiveTakes.{threw_none, threw_more, threw_last}
 use Rattle.rpc_reader.proofs.throwing.throw_all.Goals as goal
 
 pub throws-init : goal.throws-init

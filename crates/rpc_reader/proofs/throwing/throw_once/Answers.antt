@@ -1,7 +1,7 @@
 use Rattle.std.proofs.Common.{inl, refl, ap, arith}
 use Rattle.sock_io.specs.declared.link.Take.TheVariants as take_
-use Rattle.rpc_reader.specs.Taking.{goes_on}
-use Rattle.rpc_reader.proofs.Takes.{threw_bytes, threw_nothing}
+use Rattle.rpc_reader.specs.ReadingTakeByTake.{goes_on}
+use Rattle.rpc_reader.proofs.SuccessiveTakes.{threw_bytes, threw_nothing}
 use Rattle.rpc_reader.proofs.throwing.throw_once.Goals as goal
 
 pub returns-in-Took : goal.returns-in-Took

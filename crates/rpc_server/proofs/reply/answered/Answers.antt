@@ -1,7 +1,7 @@
 use Rattle.std.proofs.Common.{◌≡◌, sym, subst, IfOk}
 use Rattle.brpc_model.specs.Frame.{frame_bytes}
 use Rattle.brpc_model.specs.Reply.{answered_by, response_with}
-use Rattle.rpc_server.specs.Answers.{meant}
+use Rattle.rpc_server.specs.ServiceAnswers.{meant}
 use Rattle.rpc_server.proofs.reply.answered.Goals as goal
 
 pub returns-in-Gives : goal.returns-in-Gives

@@ -1,5 +1,5 @@
 use Rattle.std.proofs.Common.{rules}
-use Rattle.rpc_server.proofs.Totals.{sum_parts}
+use Rattle.rpc_server.proofs.ByteTotals.{sum_parts}
 use Rattle.rpc_server.proofs.service.sum_of.Goals as goal
 
 pub loop-payload-preserved : goal.loop-payload-preserved

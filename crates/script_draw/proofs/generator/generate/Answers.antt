@@ -1,9 +1,9 @@
 use Rattle.std.proofs.Common.{◌≡◌, List, Ok, map, sym, subst}
-use Rattle.brpc_model.specs.Drawn.{generated}
+use Rattle.brpc_model.specs.DrawnSeatsAndScripts.{generated}
 use Rattle.brpc_model.specs.Items.{Item}
 use Rattle.brpc_model.specs.Script.{script_of}
 use Rattle.brpc_model.specs.ScriptText.{script_text}
-use Rattle.script_items.specs.Meaning.{item}
+use Rattle.script_items.specs.LineMeaning.{item}
 use Rattle.script_draw.proofs.Generated.{generated_back}
 use Rattle.script_draw.proofs.generator.generate.Goals as goal
 

@@ -1,7 +1,7 @@
 use Rattle.std.proofs.Common.{◌++◌, ◌∷◌, [], ◌+◌, map, ap, ◌∙◌}
-use Rattle.brpc_model.specs.Drawn.{gen_operations}
+use Rattle.brpc_model.specs.DrawnSeatsAndScripts.{gen_operations}
 use Rattle.std.proofs.lemmas.List.{map-append}
-use Rattle.script_items.specs.Meaning.{item}
+use Rattle.script_items.specs.LineMeaning.{item}
 use Rattle.script_items.specs.declared.line.Line.TheVariants as lines
 use Rattle.script_draw.proofs.DrawLemmas.{client_placed}
 use Rattle.script_draw.proofs.generator.generated_lines.Goals as goal

@@ -1,6 +1,6 @@
 use Rattle.std.proofs.Common.{◌≡◌, ◌++◌, ◌+◌, ◌-◌, map}
-use Rattle.brpc_model.specs.Drawn.{gen_clients, generated}
-use Rattle.script_items.specs.Meaning.{item}
+use Rattle.brpc_model.specs.DrawnSeatsAndScripts.{gen_clients, generated}
+use Rattle.script_items.specs.LineMeaning.{item}
 use Rattle.script_draw.proofs.generator.generated_lines.Given as goal
 
 abbrev pub invariant-loop-before : goal.invariant-loop-before

@@ -1,6 +1,6 @@
 use Rattle.std.proofs.Common.{◌∷◌, [], map, ap, ◌∙◌}
 use Rattle.std.proofs.lemmas.List.{map-append}
-use Rattle.script_items.specs.Meaning.{item}
+use Rattle.script_items.specs.LineMeaning.{item}
 use Rattle.script_draw.proofs.DrawLemmas.{operation_placed, operation_drawn}
 use Rattle.script_draw.proofs.generator.push_operations.Goals as goal
 

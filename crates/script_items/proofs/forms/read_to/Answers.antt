@@ -1,6 +1,6 @@
 use Rattle.std.proofs.Common.{◌≡◌, ◌∷◌, [], rules, Ok}
 use Rattle.brpc_model.specs.Text.{words}
-use Rattle.script_items.specs.Answers.{both_of}
+use Rattle.script_items.specs.PartReaderAnswers.{both_of}
 use Rattle.script_items.proofs.SideBySide.{to_read}
 use Rattle.script_items.proofs.forms.read_to.Goals as goal
 

@@ -1,6 +1,6 @@
 use Rattle.std.proofs.Common.{◌≡◌, length}
 use Rattle.brpc_model.specs.Text.{words}
-use Rattle.brpc_model.specs.Reads.{values_of}
+use Rattle.brpc_model.specs.LinePartReads.{values_of}
 use Rattle.script_items.proofs.options.find_value.Given as goal
 
 abbrev pub invariant-loop-option : goal.invariant-loop-option

@@ -1,5 +1,5 @@
 use Rattle.std.proofs.Common.{is_some, ap, sym, ◌∙◌}
-use Rattle.script_items.proofs.KindNames.{no_kind}
+use Rattle.script_items.proofs.StepKindNames.{no_kind}
 use Rattle.script_items.proofs.parts.read_kind.Goals as goal
 
 pub returns-in-None : goal.returns-in-None

@@ -1,6 +1,6 @@
 use Rattle.std.proofs.Common.{◌≡◌, map, drop}
 use Rattle.brpc_model.specs.Operations.{requests_in, size}
-use Rattle.script_items.specs.Meaning.{item}
+use Rattle.script_items.specs.LineMeaning.{item}
 use Rattle.script_items.proofs.sizes.request_count.Given as goal
 
 abbrev pub invariant-loop-line : goal.invariant-loop-line

@@ -1,5 +1,5 @@
 use Rattle.std.proofs.Common.{rules, arith}
-use Rattle.script_items.proofs.Pieces.{last_at}
+use Rattle.script_items.proofs.PiecesOfCutLine.{last_at}
 use Rattle.script_items.proofs.words.behind_last.Goals as goal
 
 pub returns-else-bytes-at-clause-place : goal.returns-else-bytes-at-clause-place

@@ -1,8 +1,8 @@
 use Rattle.std.proofs.Common.{bytes_eq, ap, sym, ◌∙◌}
 use Rattle.std.specs.List.{list_any}
-use Rattle.brpc_model.specs.Places.{held_behind}
-use Rattle.script_items.specs.Meaning.{item}
-use Rattle.script_lang.proofs.Holding.{holds, drops}
+use Rattle.brpc_model.specs.LinePlaceFaults.{held_behind}
+use Rattle.script_items.specs.LineMeaning.{item}
+use Rattle.script_lang.proofs.ClientHoldingNames.{holds, drops}
 use Rattle.script_lang.proofs.held.add.Goals as goal
 
 pub returns-in_ok-add-in-Hold : goal.returns-in_ok-add-in-Hold

@@ -1,12 +1,12 @@
 use Rattle.std.proofs.Common.{map, take, ap, sym, ◌∙◌, arith}
 use Rattle.brpc_model.specs.Items.{mentioned}
-use Rattle.brpc_model.specs.Places as model
-use Rattle.brpc_model.proofs.Growing.{names_more}
-use Rattle.script_items.specs.Meaning.{item}
+use Rattle.brpc_model.specs.LinePlaceFaults as model
+use Rattle.brpc_model.proofs.GrowingLineByLine.{names_more}
+use Rattle.script_items.specs.LineMeaning.{item}
 use Rattle.script_lang.specs.declared.counts.Counts.{Counts}
-use Rattle.script_lang.specs.Counting.{counts_of, counted}
-use Rattle.script_lang.specs.Numbers.{numbers_of, numbers_behind}
-use Rattle.script_lang.proofs.Counted.{front_counted}
+use Rattle.script_lang.specs.CountedLines.{counts_of, counted}
+use Rattle.script_lang.specs.OperationNumbers.{numbers_of, numbers_behind}
+use Rattle.script_lang.proofs.CountedScript.{front_counted}
 use Rattle.script_lang.proofs.Judged.{counts_more}
 use Rattle.script_lang.proofs.LineSteps.{line_more}
 use Rattle.script_lang.proofs.Noted.{numbers_more}

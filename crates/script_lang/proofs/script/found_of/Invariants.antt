@@ -1,8 +1,8 @@
 use Rattle.std.proofs.Common.{◌≡◌, map, take}
-use Rattle.brpc_model.specs.Places as model
-use Rattle.script_items.specs.Meaning.{item}
-use Rattle.script_lang.specs.Counting.{counts_of}
-use Rattle.script_lang.specs.Numbers.{numbers_of}
+use Rattle.brpc_model.specs.LinePlaceFaults as model
+use Rattle.script_items.specs.LineMeaning.{item}
+use Rattle.script_lang.specs.CountedLines.{counts_of}
+use Rattle.script_lang.specs.OperationNumbers.{numbers_of}
 use Rattle.script_lang.proofs.script.found_of.Given as goal
 
 abbrev pub invariant-loop-line : goal.invariant-loop-line

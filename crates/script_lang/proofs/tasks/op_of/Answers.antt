@@ -1,5 +1,5 @@
 use Rattle.std.proofs.Common.{ap, subst}
-use Rattle.script_items.specs.Meaning.{item}
+use Rattle.script_items.specs.LineMeaning.{item}
 use Rattle.script_lang.specs.TasksByLine.{IsShort}
 use Rattle.script_lang.proofs.tasks.op_of.Goals as goal
 

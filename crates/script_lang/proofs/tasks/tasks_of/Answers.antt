@@ -1,11 +1,11 @@
 use Rattle.std.proofs.Common.{◌+◌, map, drop, [], ◌∷◌, ◌++◌, if◌then◌else◌, arith, ap, sym, ◌∙◌}
 use Rattle.std.proofs.lemmas.List.{map-append}
-use Rattle.seat_programs.specs.Scripts.{all_tasks}
-use Rattle.script_items.specs.Meaning.{item}
+use Rattle.seat_programs.specs.ScriptSetupToEnding.{all_tasks}
+use Rattle.script_items.specs.LineMeaning.{item}
 use Rattle.seat_programs.specs.Tasks.{numbered}
 use Rattle.script_lang.specs.TasksByLine.{tasks_along}
 use Rattle.script_lang.proofs.LineSteps.{line_step}
-use Rattle.script_lang.proofs.Starts.{known_by}
+use Rattle.script_lang.proofs.OperationOfClientIndex.{known_by}
 use Rattle.script_lang.proofs.ByLine.{to_items, sofar_same, sofar_client, sofar_operation, sofar_other, tasks_are, left_is}
 use Rattle.script_lang.proofs.tasks.tasks_of.Goals as goal
 use Rattle.script_lang.proofs.tasks.tasks_of.Goals.{then-is_client+in_ok-push+in_ok-tasks-2, else-is_client+then-is_operation+in_ok-push_task+then-is_open, else-is_client+then-is_operation+in_ok-push_task+else-is_open, else-is_client+else-is_operation}

@@ -1,7 +1,7 @@
 use Rattle.std.proofs.Common.{map, drop}
 use Rattle.seat_programs.specs.Tasks.{numbered}
-use Rattle.seat_programs.specs.Scripts.{all_tasks}
-use Rattle.script_items.specs.Meaning.{item}
+use Rattle.seat_programs.specs.ScriptSetupToEnding.{all_tasks}
+use Rattle.script_items.specs.LineMeaning.{item}
 use Rattle.script_lang.proofs.ByLine.{Sofar}
 use Rattle.script_lang.proofs.tasks.tasks_of.Given as goal
 

@@ -1,7 +1,7 @@
 use Rattle.std.proofs.Common.{◌<◌, ℕ, sym, subst, ◌∙◌}
 use Rattle.std.specs.List.{AllByRecursion}
-use Rattle.brpc_model.specs.Link.{LinkEnd}
-use Rattle.script_links.proofs.Numbering.{given_more, next_number, numbered_rest}
+use Rattle.brpc_model.specs.ReturnedLink.{LinkEnd}
+use Rattle.script_links.proofs.LinkNumbering.{given_more, next_number, numbered_rest}
 use Rattle.script_links.proofs.links.give_back.Goals as goal
 
 pub loop-ends-preserved : goal.loop-ends-preserved

@@ -1,9 +1,9 @@
 use Rattle.std.proofs.Common.{◌≡◌, ◌<◌, ◌++◌, length, map}
 use Rattle.std.specs.List.{AllByRecursion}
 use Rattle.std.specs.Vec.Iter.{into_iter_items}
-use Rattle.brpc_model.specs.Link.{LinkEnd}
-use Rattle.sock_io.specs.Link.{end_of}
-use Rattle.script_links.specs.Given.{AreNumbered}
+use Rattle.brpc_model.specs.ReturnedLink.{LinkEnd}
+use Rattle.sock_io.specs.LinkHalves.{end_of}
+use Rattle.script_links.specs.LinksGivenBack.{AreNumbered}
 use Rattle.script_links.proofs.links.give_back.Given as goal
 
 abbrev pub invariant-loop-ends : goal.invariant-loop-ends

@@ -1,13 +1,13 @@
 use Rattle.std.proofs.Common.{◌≡◌, ◌<◌, ℕ, true, ap, sym, subst, ◌∙◌, rules}
 use Rattle.std.proofs.lemmas.Bool.{ltb-true}
 use Rattle.brpc_model.specs.Items.{is_open}
-use Rattle.script_items.specs.Meaning.{item}
+use Rattle.script_items.specs.LineMeaning.{item}
 use Rattle.script_items.specs.declared.line.Line.{Line}
 use Rattle.sock_io.specs.declared.link.LinkSpec.{LinkSpec}
-use Rattle.script_links.specs.Given.{has_piece}
-use Rattle.script_links.proofs.Numbering.{untouched, opened_more, all_with}
-use Rattle.script_links.proofs.Offers.{asked_with}
-use Rattle.script_links.proofs.Opening.{opened_with}
+use Rattle.script_links.specs.LinksGivenBack.{has_piece}
+use Rattle.script_links.proofs.LinkNumbering.{untouched, opened_more, all_with}
+use Rattle.script_links.proofs.OffersOfOpenedLinks.{asked_with}
+use Rattle.script_links.proofs.OpeningLinksInOrder.{opened_with}
 use Rattle.script_links.proofs.links.open_line.Goals as goal
 
 pub returns-clause-fresh : goal.returns-clause-fresh

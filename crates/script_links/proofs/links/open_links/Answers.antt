@@ -1,6 +1,6 @@
 use Rattle.std.proofs.Common.{arith, ◌∙◌}
 use Rattle.std.proofs.lemmas.Grind.{common_steps}
-use Rattle.script_links.proofs.Numbering.{asked_more, asked_whole, asked_front}
+use Rattle.script_links.proofs.LinkNumbering.{asked_more, asked_whole, asked_front}
 use Rattle.script_links.proofs.links.open_links.Goals as goal
 
 pub returns-in_err-open_line-clause-front : goal.returns-in_err-open_line-clause-front

@@ -2,11 +2,11 @@ use Rattle.std.proofs.Common.{◌≡◌, ◌≤◌, length, map, count_by, take,
 use Rattle.std.specs.List.{AllByRecursion}
 use Rattle.sock_io.specs.declared.link.Ends.{Ends}
 use Rattle.sock_io.specs.declared.link.Mode.TheVariants as mode
-use Rattle.sock_io.specs.Link.{end_of}
-use Rattle.script_items.specs.Meaning.{item}
-use Rattle.script_links.specs.Given.{AreUntouched, is_open_line, specs_of}
-use Rattle.script_links.specs.Offered.{AreAsked, TellOffers}
-use Rattle.script_links.specs.Opened.{AreOpened}
+use Rattle.sock_io.specs.LinkHalves.{end_of}
+use Rattle.script_items.specs.LineMeaning.{item}
+use Rattle.script_links.specs.LinksGivenBack.{AreUntouched, is_open_line, specs_of}
+use Rattle.script_links.specs.OfferedLinks.{AreAsked, TellOffers}
+use Rattle.script_links.specs.OpenedLinkEnds.{AreOpened}
 use Rattle.script_links.proofs.links.open_links.Given as goal
 
 abbrev pub invariant-loop-line : goal.invariant-loop-line

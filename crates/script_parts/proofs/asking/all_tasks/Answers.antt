@@ -1,4 +1,4 @@
-use Rattle.callless_fits.specs.sock_deeds.specs.script_facts.proofs.Sizes.{is_counted, keeps_limits}
+use Rattle.callless_fits.specs.sock_deeds.specs.script_facts.proofs.ScriptSizes.{is_counted, keeps_limits}
 use Rattle.script_lang.proofs.Shorts.{are_short}
 use Rattle.script_parts.proofs.asking.all_tasks.Goals as goal
 

@@ -2,9 +2,9 @@ use Rattle.std.proofs.Common.{ap, sym, ◌∙◌, ◌+◌, length, map, arith}
 use Rattle.std.proofs.lemmas.List.{length-map}
 use Rattle.brpc_model.specs.Operations.{clients}
 use Rattle.corr_core.specs.declared.marks.Plan.{Plan}
-use Rattle.callless_fits.specs.sock_deeds.specs.script_facts.proofs.Sizes.{keeps_limits}
+use Rattle.callless_fits.specs.sock_deeds.specs.script_facts.proofs.ScriptSizes.{keeps_limits}
 use Rattle.callless_fits.specs.sock_deeds.specs.script_facts.proofs.TaskLemmas.{tasks_length}
-use Rattle.script_parts.proofs.Numbers.{front_of}
+use Rattle.script_parts.proofs.SortNumberBounds.{front_of}
 use Rattle.script_parts.proofs.asking.prepare.Goals as goal
 
 pub plan-requires : goal.plan-requires

@@ -1,7 +1,7 @@
 use Rattle.std.proofs.Common.{◌≡◌, ◌+◌, ◌≤◌, ◌++◌, length}
 use Rattle.std.specs.Vec.{vec_capacity}
 use Rattle.std.specs.Vec.Iter.{into_iter_items}
-use Rattle.script_parts.specs.Halves.{joined}
+use Rattle.script_parts.specs.HalvesApartAndTogether.{joined}
 use Rattle.script_parts.proofs.halves.join.Given as goal
 
 abbrev pub invariant-joins : goal.invariant-joins

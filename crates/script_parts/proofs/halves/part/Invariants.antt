@@ -1,7 +1,7 @@
 use Rattle.std.proofs.Common.{◌≡◌, ◌+◌, ◌≤◌, ◌++◌, length, map, deque_len, deque_capacity}
 use Rattle.std.specs.Vec.{vec_capacity}
 use Rattle.std.specs.Vec.Iter.{into_iter_items}
-use Rattle.script_parts.specs.Halves.{rest_of}
+use Rattle.script_parts.specs.HalvesApartAndTogether.{rest_of}
 use Rattle.script_parts.proofs.halves.part.Given as goal
 
 abbrev pub invariant-parts : goal.invariant-parts

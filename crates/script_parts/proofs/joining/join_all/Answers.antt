@@ -1,4 +1,4 @@
-use Rattle.script_parts.proofs.Resting.{all_of, joined_open}
+use Rattle.script_parts.proofs.RestingIdSeats.{all_of, joined_open}
 use Rattle.script_parts.proofs.joining.join_all.Goals as goal
 
 pub join_seats-requires-clause-seats : goal.join_seats-requires-clause-seats

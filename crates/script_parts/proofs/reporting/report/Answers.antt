@@ -1,7 +1,7 @@
 use Rattle.std.proofs.Common.{map, subst}
 use Rattle.brpc_model.specs.PlaceWords.{IsReportText}
-use Rattle.script_items.specs.Meaning.{item}
-use Rattle.script_parts.proofs.Reports.{told_of}
+use Rattle.script_items.specs.LineMeaning.{item}
+use Rattle.script_parts.proofs.ReportOfRun.{told_of}
 use Rattle.script_parts.proofs.reporting.report.Goals as goal
 
 pub returns : goal.returns

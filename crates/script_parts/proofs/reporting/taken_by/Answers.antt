@@ -1,7 +1,7 @@
 use Rattle.std.proofs.Common.{rules, ◌+◌, ◌∙◌, ap}
 use Rattle.sock_io.specs.declared.link.Ends.{Ends}
-use Rattle.script_links.proofs.Numbering.{one_longer}
-use Rattle.script_parts.proofs.Parting.{taken_more, taken_all}
+use Rattle.script_links.proofs.LinkNumbering.{one_longer}
+use Rattle.script_parts.proofs.LinksUntilParting.{taken_more, taken_all}
 use Rattle.script_parts.proofs.reporting.taken_by.Goals as goal
 
 pub takes-preserved : goal.takes-preserved

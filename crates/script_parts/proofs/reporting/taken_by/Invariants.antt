@@ -1,6 +1,6 @@
 use Rattle.std.proofs.Common.{◌≡◌, length, map, take}
 use Rattle.sock_io.specs.declared.link.Ends.{Ends}
-use Rattle.script_parts.specs.Halves.{AreTaken}
+use Rattle.script_parts.specs.HalvesApartAndTogether.{AreTaken}
 use Rattle.script_parts.proofs.reporting.taken_by.Given as goal
 
 abbrev pub invariant-takes : goal.invariant-takes

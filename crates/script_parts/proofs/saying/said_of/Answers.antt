@@ -1,5 +1,5 @@
 use Rattle.std.proofs.Common.{ap, map}
-use Rattle.script_parts.proofs.Sayings.{each_said_more}
+use Rattle.script_parts.proofs.ClientSayingsByNumber.{each_said_more}
 use Rattle.script_parts.proofs.saying.said_of.Goals as goal
 
 pub clients-preserved : goal.clients-preserved

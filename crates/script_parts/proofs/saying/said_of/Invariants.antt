@@ -1,6 +1,6 @@
 use Rattle.std.proofs.Common.{◌≡◌, map, None, replicate}
 use Rattle.std.specs.Vec.Iter.{into_iter_items}
-use Rattle.script_parts.specs.Saying.{said_by_each}
+use Rattle.script_parts.specs.OutcomesSaidByNumber.{said_by_each}
 use Rattle.script_parts.proofs.saying.said_of.Given as goal
 
 abbrev pub invariant-clients : goal.invariant-clients

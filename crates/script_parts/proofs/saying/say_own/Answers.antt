@@ -1,4 +1,4 @@
-use Rattle.script_parts.proofs.Sayings.{said_more}
+use Rattle.script_parts.proofs.ClientSayingsByNumber.{said_more}
 use Rattle.script_parts.proofs.saying.say_own.Goals as goal
 
 pub tolds-preserved : goal.tolds-preserved

@@ -1,6 +1,6 @@
 use Rattle.std.proofs.Common.{◌≡◌}
 use Rattle.std.specs.Vec.Iter.{into_iter_items}
-use Rattle.script_parts.specs.Saying.{said_by}
+use Rattle.script_parts.specs.OutcomesSaidByNumber.{said_by}
 use Rattle.script_parts.proofs.saying.say_own.Given as goal
 
 abbrev pub invariant-tolds : goal.invariant-tolds

@@ -1,6 +1,6 @@
 use Rattle.std.proofs.Common.{map}
-use Rattle.script_items.specs.Meaning.{item}
-use Rattle.script_print.proofs.Again.{read_back}
+use Rattle.script_items.specs.LineMeaning.{item}
+use Rattle.script_print.proofs.PrintedScriptReadAgain.{read_back}
 use Rattle.script_print.proofs.print.print_script.Goals as goal
 
 pub returns-in_default-clause-again : goal.returns-in_default-clause-again

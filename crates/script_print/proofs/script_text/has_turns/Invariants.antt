@@ -1,7 +1,7 @@
 use Rattle.std.proofs.Common.{◌≡◌, drop, map}
 use Rattle.std.specs.List.{list_any}
 use Rattle.brpc_model.specs.Items.{is_turn}
-use Rattle.script_items.specs.Meaning.{item}
+use Rattle.script_items.specs.LineMeaning.{item}
 use Rattle.script_print.proofs.script_text.has_turns.Given as goal
 
 abbrev pub invariant-loop-line : goal.invariant-loop-line

@@ -1,5 +1,5 @@
 use Rattle.std.proofs.Common.{◌≡◌, ◌++◌, take, map}
-use Rattle.script_items.specs.Meaning.{item}
+use Rattle.script_items.specs.LineMeaning.{item}
 use Rattle.script_print.specs.PrintedParts.{lines_text, body_items}
 use Rattle.script_print.proofs.script_text.push_body.Given as goal
 

@@ -1,9 +1,9 @@
 use Rattle.std.proofs.Common.{◌++◌, filter, map, ap, sym, ◌∙◌}
 use Rattle.std.proofs.lemmas.Result.{on_ok_weaker}
 use Rattle.brpc_model.specs.Items.{is_turn}
-use Rattle.script_items.specs.Meaning.{item}
+use Rattle.script_items.specs.LineMeaning.{item}
 use Rattle.script_print.specs.PrintedParts.{lines_text}
-use Rattle.script_print.proofs.Written.{no_schedule, with_schedule}
+use Rattle.script_print.proofs.WrittenSchedule.{no_schedule, with_schedule}
 use Rattle.script_print.proofs.script_text.push_schedule.Goals as goal
 
 pub returns-then-not-has_turns : goal.returns-then-not-has_turns

@@ -1,6 +1,6 @@
 use Rattle.std.proofs.Common.{◌≡◌, ◌++◌, filter, take, map}
 use Rattle.brpc_model.specs.Items.{is_turn}
-use Rattle.script_items.specs.Meaning.{item}
+use Rattle.script_items.specs.LineMeaning.{item}
 use Rattle.script_print.specs.PrintedParts.{lines_text}
 use Rattle.script_print.proofs.script_text.push_turns.Given as goal
 

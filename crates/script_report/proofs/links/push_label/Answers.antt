@@ -1,7 +1,7 @@
 use Rattle.std.proofs.Common.{◌++◌, ◌∙◌, ap, sym}
 use Rattle.std.proofs.lemmas.Result.{on_ok_weaker}
-use Rattle.script_report.proofs.Texts.{looked_up}
-use Rattle.script_report.specs.Lines.{label_at}
+use Rattle.script_report.proofs.ReportLinesByPlaces.{looked_up}
+use Rattle.script_report.specs.ReportLines.{label_at}
 use Rattle.script_report.proofs.links.push_label.Goals as goal
 
 pub returns-in-Some : goal.returns-in-Some

@@ -1,5 +1,5 @@
 use Rattle.std.proofs.Common.{◌≡◌, ◌++◌, drop}
-use Rattle.script_report.specs.Lines.{labels_text}
+use Rattle.script_report.specs.ReportLines.{labels_text}
 use Rattle.script_report.proofs.links.push_labels.Given as goal
 
 abbrev pub invariant-loop-accepted : goal.invariant-loop-accepted

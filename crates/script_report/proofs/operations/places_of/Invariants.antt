@@ -1,7 +1,7 @@
 use Rattle.std.proofs.Common.{◌≡◌, ◌≤◌, ◌+◌, ◌++◌, map, drop}
 use Rattle.brpc_model.specs.Operations.{operations, operations_from}
-use Rattle.script_items.specs.Meaning.{item}
-use Rattle.script_report.specs.Lines.{place_of}
+use Rattle.script_items.specs.LineMeaning.{item}
+use Rattle.script_report.specs.ReportLines.{place_of}
 use Rattle.script_report.proofs.operations.places_of.Given as goal
 
 abbrev pub invariant-loop-line : goal.invariant-loop-line

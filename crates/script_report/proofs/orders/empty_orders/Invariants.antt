@@ -1,6 +1,6 @@
 use Rattle.std.proofs.Common.{◌≡◌, ◌++◌, [], map, drop}
 use Rattle.brpc_model.specs.Operations.{link_names}
-use Rattle.script_items.specs.Meaning.{item}
+use Rattle.script_items.specs.LineMeaning.{item}
 use Rattle.script_report.proofs.orders.empty_orders.Given as goal
 
 abbrev pub invariant-loop-line : goal.invariant-loop-line

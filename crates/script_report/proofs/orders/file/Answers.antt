@@ -1,7 +1,7 @@
 use Rattle.std.proofs.Common.{arith}
 use Rattle.std.proofs.lemmas.Result.{on_ok_weaker}
-use Rattle.script_report.proofs.Texts.{got}
-use Rattle.script_report.proofs.Rows.{filed_in, filed_nowhere}
+use Rattle.script_report.proofs.ReportLinesByPlaces.{got}
+use Rattle.script_report.proofs.OrderRows.{filed_in, filed_nowhere}
 use Rattle.script_report.proofs.orders.file.Goals as goal
 
 pub returns-in-Some : goal.returns-in-Some

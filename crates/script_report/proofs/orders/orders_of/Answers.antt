@@ -1,8 +1,8 @@
 use Rattle.std.proofs.Common.{◌≡◌, ℕ, ◌+◌, length, map, ◌∙◌, refl, subst, arith}
 use Rattle.brpc_model.specs.Operations.{link_names}
-use Rattle.script_items.specs.Meaning.{item}
-use Rattle.script_report.specs.Rows.{AreRows}
-use Rattle.script_report.proofs.Rows.{no_rows, next_filed, length_empty}
+use Rattle.script_items.specs.LineMeaning.{item}
+use Rattle.script_report.specs.OrderRows.{AreRows}
+use Rattle.script_report.proofs.OrderRows.{no_rows, next_filed, length_empty}
 use Rattle.script_report.proofs.orders.orders_of.Goals as goal
 
 pub loop-word-init : goal.loop-word-init

@@ -1,8 +1,8 @@
 use Rattle.std.proofs.Common.{◌≡◌, length, map}
 use Rattle.brpc_model.specs.Operations.{link_names}
 use Rattle.brpc_model.specs.PlaceWords.{ArePlaces}
-use Rattle.script_items.specs.Meaning.{item}
-use Rattle.script_report.specs.Rows.{AreRows}
+use Rattle.script_items.specs.LineMeaning.{item}
+use Rattle.script_report.specs.OrderRows.{AreRows}
 use Rattle.script_report.proofs.orders.orders_of.Given as goal
 
 abbrev pub invariant-loop-word : goal.invariant-loop-word

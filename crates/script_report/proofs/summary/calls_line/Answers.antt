@@ -1,6 +1,6 @@
 use Rattle.std.proofs.Common.{◌≡◌, append_assoc, string_bytes}
 use Rattle.std.proofs.lemmas.Result.{IfOk-weaker}
-use Rattle.script_report.specs.Sums.{calls_line}
+use Rattle.script_report.specs.RunSummary.{calls_line}
 use Rattle.script_report.proofs.summary.calls_line.Goals as goal
 
 pub returns : goal.returns

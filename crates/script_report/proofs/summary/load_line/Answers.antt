@@ -1,6 +1,6 @@
 use Rattle.std.proofs.Common.{◌≡◌, append_assoc, string_bytes}
 use Rattle.std.proofs.lemmas.Result.{IfOk-weaker}
-use Rattle.script_report.specs.Sums.{load_line}
+use Rattle.script_report.specs.RunSummary.{load_line}
 use Rattle.script_report.proofs.summary.load_line.Goals as goal
 
 pub returns : goal.returns

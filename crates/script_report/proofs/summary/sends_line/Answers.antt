@@ -1,6 +1,6 @@
 use Rattle.std.proofs.Common.{◌≡◌, append_assoc, string_bytes}
 use Rattle.std.proofs.lemmas.Result.{IfOk-weaker}
-use Rattle.script_report.specs.Sums.{sends_line}
+use Rattle.script_report.specs.RunSummary.{sends_line}
 use Rattle.script_report.proofs.summary.sends_line.Goals as goal
 
 pub returns : goal.returns

@@ -1,9 +1,9 @@
 use Rattle.std.proofs.Common.{ℕ, map, Some, unwrap_or, ap, sym, ◌∙◌, subst, arith}
-use Rattle.sock_words.specs.Words.{HasPosition}
+use Rattle.sock_words.specs.PackedWords.{HasPosition}
 use Rattle.brpc_model.specs.PlaceWords.{outcome_by_word, outcomes_from}
-use Rattle.script_items.specs.Meaning.{item}
-use Rattle.script_report.specs.Sums.{one_of}
-use Rattle.script_report.proofs.Texts.{looked_up}
+use Rattle.script_items.specs.LineMeaning.{item}
+use Rattle.script_report.specs.RunSummary.{one_of}
+use Rattle.script_report.proofs.ReportLinesByPlaces.{looked_up}
 use Rattle.script_report.proofs.Summed.{sums_begun, none_there, told_more, told_spent, told_passed_on, told_out, few_more, few_still}
 use Rattle.script_report.proofs.sums.sums_of.Goals.{then-is_operation, in-Some, in_default, else-is_operation}
 use Rattle.script_report.proofs.sums.sums_of.Goals as goal

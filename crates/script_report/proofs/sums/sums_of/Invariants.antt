@@ -1,7 +1,7 @@
 use Rattle.std.proofs.Common.{◌≡◌, ◌≤◌, map, drop}
 use Rattle.brpc_model.specs.PlaceWords.{HasEachOutcome, outcomes_from}
-use Rattle.script_items.specs.Meaning.{item}
-use Rattle.script_report.specs.Sums.{AreFew, together, told_of, sums_of}
+use Rattle.script_items.specs.LineMeaning.{item}
+use Rattle.script_report.specs.RunSummary.{AreFew, together, told_of, sums_of}
 use Rattle.script_report.proofs.Summed.{sums_behind}
 use Rattle.script_report.proofs.sums.sums_of.Given as goal
 

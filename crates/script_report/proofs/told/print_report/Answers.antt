@@ -1,7 +1,7 @@
 use Rattle.std.proofs.Common.{◌∙◌, ap, map}
 use Rattle.std.proofs.lemmas.List.{length-map}
-use Rattle.script_items.specs.Meaning.{item}
-use Rattle.script_report.proofs.Reported.{report_of_orders}
+use Rattle.script_items.specs.LineMeaning.{item}
+use Rattle.script_report.proofs.ReportedOrders.{report_of_orders}
 use Rattle.script_report.proofs.told.print_report.Goals as goal
 
 pub returns : goal.returns

@@ -1,7 +1,7 @@
 use Rattle.std.proofs.Common.{◌≡◌, ◌≤◌, ◌++◌, map, drop}
 use Rattle.brpc_model.specs.Operations.{link_names}
-use Rattle.script_items.specs.Meaning.{item}
-use Rattle.script_report.specs.Rows.{rows_text}
+use Rattle.script_items.specs.LineMeaning.{item}
+use Rattle.script_report.specs.OrderRows.{rows_text}
 use Rattle.script_report.proofs.told.push_rows.Given as goal
 
 abbrev pub invariant-loop-line : goal.invariant-loop-line

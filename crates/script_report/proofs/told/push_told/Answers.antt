@@ -1,9 +1,9 @@
 use Rattle.std.proofs.Common.{◌≡◌, ◌+◌, ◌++◌, drop, slice_get, Some, refl, ap, sym, ◌∙◌, arith}
 use Rattle.std.proofs.lemmas.Option.{slice_get-get_or}
-use Rattle.script_report.specs.Lines.{outcome_text_lines}
+use Rattle.script_report.specs.ReportLines.{outcome_text_lines}
 use Rattle.brpc_model.specs.PlaceWords.{outcomes_from}
-use Rattle.script_report.proofs.Texts.{looked_up}
-use Rattle.script_report.proofs.Reported.{told_ended, told_more}
+use Rattle.script_report.proofs.ReportLinesByPlaces.{looked_up}
+use Rattle.script_report.proofs.ReportedOrders.{told_ended, told_more}
 use Rattle.script_report.proofs.told.push_told.Goals as goal
 
 pub loop-outcome-preserved : goal.loop-outcome-preserved

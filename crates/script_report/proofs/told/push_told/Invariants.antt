@@ -1,5 +1,5 @@
 use Rattle.std.proofs.Common.{◌≡◌, ◌++◌, drop}
-use Rattle.script_report.specs.Lines.{outcome_text_lines}
+use Rattle.script_report.specs.ReportLines.{outcome_text_lines}
 use Rattle.brpc_model.specs.PlaceWords.{HasEachOutcome, outcomes_from}
 use Rattle.script_report.proofs.told.push_told.Given as goal
 

@@ -1,5 +1,5 @@
 use Rattle.std.proofs.Common.{◌≡◌, map}
-use Rattle.script_items.specs.Meaning.{item}
+use Rattle.script_items.specs.LineMeaning.{item}
 use Rattle.script_run.specs.Outlines.{outlined, meant}
 use Rattle.script_run.proofs.marks.marks_of.Given as goal
 

@@ -1,6 +1,6 @@
 use Rattle.std.proofs.Common.{map}
-use Rattle.script_items.specs.Meaning.{item}
-use Rattle.script_run.proofs.Telling.{summed}
+use Rattle.script_items.specs.LineMeaning.{item}
+use Rattle.script_run.proofs.LinksTellingTaken.{summed}
 use Rattle.script_run.proofs.report.printed.Goals as goal
 
 pub returns-in-Summary : goal.returns-in-Summary

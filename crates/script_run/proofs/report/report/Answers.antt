@@ -1,10 +1,10 @@
 use Rattle.std.proofs.Common.{ap, map, ◌∙◌}
-use Rattle.sock_io.specs.Link.{end_of}
-use Rattle.script_items.specs.Meaning.{item}
+use Rattle.sock_io.specs.LinkHalves.{end_of}
+use Rattle.script_items.specs.LineMeaning.{item}
 use Rattle.script_run.specs.Outlines.{outlined}
 use Rattle.script_run.specs.Played.{IsPrintOf}
 use Rattle.script_run.proofs.Outlined.{print_same}
-use Rattle.script_run.proofs.Telling.{reported}
+use Rattle.script_run.proofs.LinksTellingTaken.{reported}
 use Rattle.script_run.proofs.report.report.Goals as goal
 
 pub returns : goal.returns

@@ -1,7 +1,7 @@
 use Rattle.std.proofs.Common.{rules, ◌+◌, ◌∙◌, ap}
-use Rattle.sock_io.specs.Link.{end_of}
-use Rattle.script_links.proofs.Numbering.{one_longer}
-use Rattle.script_run.proofs.Telling.{told_more, told_all}
+use Rattle.sock_io.specs.LinkHalves.{end_of}
+use Rattle.script_links.proofs.LinkNumbering.{one_longer}
+use Rattle.script_run.proofs.LinksTellingTaken.{told_more, told_all}
 use Rattle.script_run.proofs.report.taken_by.Goals as goal
 
 pub loop-link-preserved : goal.loop-link-preserved

@@ -1,5 +1,5 @@
 use Rattle.std.proofs.Common.{◌≡◌, length, map, take}
-use Rattle.sock_io.specs.Link.{end_of}
+use Rattle.sock_io.specs.LinkHalves.{end_of}
 use Rattle.brpc_model.specs.PlaceWords.{AreTold}
 use Rattle.script_run.proofs.report.taken_by.Given as goal
 

@@ -2,19 +2,19 @@ use Rattle.std.proofs.Common.{◌≡◌, ◌≢◌, true, Ok, List, None, IfOk, 
 use Rattle.std.proofs.lemmas.List.{length-map}
 use Rattle.std.specs.List.{AllByRecursion}
 use Rattle.brpc_model.specs.Items.{Item}
-use Rattle.brpc_model.specs.Link.{LinkEnd}
+use Rattle.brpc_model.specs.ReturnedLink.{LinkEnd}
 use Rattle.brpc_model.specs.Operations.{link_names}
 use Rattle.brpc_model.specs.Script.{script_of}
-use Rattle.sock_io.specs.Link.{end_of}
+use Rattle.sock_io.specs.LinkHalves.{end_of}
 use Rattle.sock_io.specs.declared.link.Mode.TheVariants as mode
-use Rattle.script_links.specs.Given.{AreUntouched, specs_of}
-use Rattle.script_links.specs.Offered.{TellOffers}
-use Rattle.sock_core.specs.Beginnings.{IsMade}
-use Rattle.sock_io.specs.Link.{LinkerState}
+use Rattle.script_links.specs.LinksGivenBack.{AreUntouched, specs_of}
+use Rattle.script_links.specs.OfferedLinks.{TellOffers}
+use Rattle.sock_core.specs.MachineBeginning.{IsMade}
+use Rattle.sock_io.specs.LinkHalves.{LinkerState}
 use Rattle.script_run.specs.Played.{IsPrinted, TellClosed, turns_of}
-use Rattle.script_links.proofs.Numbering.{numbered_of, unused_of, silent_of, all_so, all_mapped}
+use Rattle.script_links.proofs.LinkNumbering.{numbered_of, unused_of, silent_of, all_so, all_mapped}
 use Rattle.script_run.proofs.Playing.{numbered_later, count_later}
-use Rattle.script_run.proofs.Texts.{text_answered}
+use Rattle.script_run.proofs.RunTextAndLinks.{text_answered}
 use Rattle.script_run.proofs.run.run_over.Goals as goal
 
 pub of-requires-clause-unused : goal.of-requires-clause-unused

@@ -3,9 +3,9 @@ use Rattle.std.specs.List.{list_all}
 use Rattle.sock_io.specs.declared.link.LinkSpec.{LinkSpec}
 use Rattle.sock_io.specs.declared.link.Mode.TheVariants as mode
 use Rattle.sock_io.specs.declared.link.OpenFault.TheVariants.{Failed}
-use Rattle.script_links.specs.Given.{has_piece, specs_of}
-use Rattle.script_links.specs.Offered.{AreAsked}
-use Rattle.script_links.proofs.Numbering.{numbered_of, links_of, few_links, pieces_of}
+use Rattle.script_links.specs.LinksGivenBack.{has_piece, specs_of}
+use Rattle.script_links.specs.OfferedLinks.{AreAsked}
+use Rattle.script_links.proofs.LinkNumbering.{numbered_of, links_of, few_links, pieces_of}
 use Rattle.script_run.proofs.run.run_script.Goals as goal
 
 pub open_links-opened-requires-clause-few : goal.open_links-opened-requires-clause-few

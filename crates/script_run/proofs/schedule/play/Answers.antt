@@ -1,14 +1,14 @@
 use Rattle.std.proofs.Common.{◌<◌, ◌+◌, ap, sym, subst, arith, ◌∙◌, refl}
 use Rattle.brpc_model.specs.Operations.{clients}
-use Rattle.calm_runs.specs.Below.script_facts.proofs.Sizes.{keeps_limits}
-use Rattle.script_draw.specs.Seats.{SeatDraws}
-use Rattle.seat_programs.specs.Scripts.{drawn_turns}
+use Rattle.calm_runs.specs.Below.script_facts.proofs.ScriptSizes.{keeps_limits}
+use Rattle.script_draw.specs.DrawnSeats.{SeatDraws}
+use Rattle.seat_programs.specs.ScriptSetupToEnding.{drawn_turns}
 use Rattle.sock_words.specs.declared.plain.Plan.{Plan}
 use Rattle.machine_model.specs.Driving.{FirstRests}
 use Rattle.machine_model.proofs.Same.{same_links_none, same_links_join}
 use Rattle.script_run.specs.Played.{turns_of}
-use Rattle.script_run.proofs.Lines.{seats_in, none_drawn, begins_drawing, count_is, seats_there, draws_on, seat_drawn, drawn_more, drawn_played, by_marks, by_draws}
-use Rattle.script_run.proofs.Running.{playable_of, run_answered, plan_answered}
+use Rattle.script_run.proofs.ScheduleLines.{seats_in, none_drawn, begins_drawing, count_is, seats_there, draws_on, seat_drawn, drawn_more, drawn_played, by_marks, by_draws}
+use Rattle.script_run.proofs.RunFromSetup.{playable_of, run_answered, plan_answered}
 use Rattle.script_run.proofs.schedule.play.Goals.{in-Own+in_ok-play_marks-in-Own, in-Drawn+else-loop-test}
 use Rattle.script_run.proofs.schedule.play.Goals as goal
 

@@ -1,10 +1,10 @@
 use Rattle.std.proofs.Common.{◌≡◌, length}
 use Rattle.brpc_model.specs.Operations.{clients, operations}
-use Rattle.script_draw.specs.Seats.{seat_count}
-use Rattle.seat_programs.specs.Runs.{Scheduled}
-use Rattle.machine_model.specs.Runs.{SameLinks}
+use Rattle.script_draw.specs.DrawnSeats.{seat_count}
+use Rattle.seat_programs.specs.ScheduledRuns.{Scheduled}
+use Rattle.machine_model.specs.MachineRuns.{SameLinks}
 use Rattle.script_run.specs.Played.{IsPlayable, HasPlayed}
-use Rattle.script_run.proofs.Lines.{drawn_so_far, draws_of, seats_in}
+use Rattle.script_run.proofs.ScheduleLines.{drawn_so_far, draws_of, seats_in}
 use Rattle.script_run.proofs.schedule.play.Given as goal
 
 abbrev pub invariant-loop : goal.invariant-loop

@@ -1,8 +1,8 @@
 use Rattle.std.proofs.Common.{refl}
 use Rattle.machine_model.proofs.Same.{same_links_none}
-use Rattle.sock_core.proofs.Endings.{on_ok}
+use Rattle.sock_core.proofs.MachineBeforeEnding.{on_ok}
 use Rattle.script_run.proofs.Playing.{playable_by, led_played}
-use Rattle.script_run.proofs.Lines.{tick_mark, to_mark, unscheduled_mark}
+use Rattle.script_run.proofs.ScheduleLines.{tick_mark, to_mark, unscheduled_mark}
 use Rattle.script_run.proofs.schedule.play_mark.Goals as goal
 
 pub returns-in-Tick-clause-played : goal.returns-in-Tick-clause-played

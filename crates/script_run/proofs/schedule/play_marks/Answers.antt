@@ -1,10 +1,10 @@
 use Rattle.std.proofs.Common.{refl, map, take, ◌∙◌}
 use Rattle.brpc_model.specs.Operations.{schedule}
 use Rattle.script_run.specs.Outlines.{meant}
-use Rattle.seat_programs.specs.Runs.{Scheduled}
+use Rattle.seat_programs.specs.ScheduledRuns.{Scheduled}
 use Rattle.machine_model.proofs.Same.{same_links_none, same_links_join}
 use Rattle.script_run.proofs.Playing.{none_played}
-use Rattle.script_run.proofs.Lines.{mark_played, whole_played}
+use Rattle.script_run.proofs.ScheduleLines.{mark_played, whole_played}
 use Rattle.script_run.proofs.schedule.play_marks.Goals as goal
 
 pub loop-mark-init : goal.loop-mark-init

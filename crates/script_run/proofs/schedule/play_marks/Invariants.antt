@@ -1,8 +1,8 @@
 use Rattle.std.proofs.Common.{map, take, ◌≡◌}
 use Rattle.brpc_model.specs.Operations.{schedule}
 use Rattle.script_run.specs.Outlines.{meant}
-use Rattle.seat_programs.specs.Runs.{Scheduled}
-use Rattle.machine_model.specs.Runs.{SameLinks}
+use Rattle.seat_programs.specs.ScheduledRuns.{Scheduled}
+use Rattle.machine_model.specs.MachineRuns.{SameLinks}
 use Rattle.script_run.specs.Played.{IsPlayable, HasPlayed}
 use Rattle.script_run.proofs.schedule.play_marks.Given as goal
 

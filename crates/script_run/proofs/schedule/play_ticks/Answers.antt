@@ -3,7 +3,7 @@ use Rattle.seat_programs.specs.Ticks.{seats_of}
 use Rattle.script_run.specs.Played.{HasPlayed}
 use Rattle.machine_model.proofs.Same.{same_links_none, same_links_join}
 use Rattle.script_run.proofs.Playing.{none_played}
-use Rattle.script_run.proofs.Lines.{one_more_tick, ticks_left}
+use Rattle.script_run.proofs.ScheduleLines.{one_more_tick, ticks_left}
 use Rattle.script_run.proofs.schedule.play_ticks.Goals as goal
 
 pub loop-init : goal.loop-init

@@ -1,6 +1,6 @@
 use Rattle.std.proofs.Common.{◌≡◌, replicate}
 use Rattle.seat_programs.specs.Ticks.{seats_of}
-use Rattle.machine_model.specs.Runs.{SameLinks}
+use Rattle.machine_model.specs.MachineRuns.{SameLinks}
 use Rattle.script_run.specs.Played.{IsPlayable, HasPlayed}
 use Rattle.script_run.proofs.schedule.play_ticks.Given as goal
 

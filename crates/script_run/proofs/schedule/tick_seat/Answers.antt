@@ -1,5 +1,5 @@
 use Rattle.std.proofs.Common.{subst}
-use Rattle.machine_model.specs.Runs.{Ticked}
+use Rattle.machine_model.specs.MachineRuns.{Ticked}
 use Rattle.script_run.proofs.Playing.{playable_by, tick_played, idle_ticks}
 use Rattle.script_run.proofs.schedule.tick_seat.Goals as goal
 

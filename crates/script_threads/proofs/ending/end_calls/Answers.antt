@@ -1,5 +1,5 @@
 use Rattle.std.proofs.Common.{◌∙◌, rules}
-use Rattle.script_parts.proofs.Resting.{rested_left, rested_all}
+use Rattle.script_parts.proofs.RestingIdSeats.{rested_left, rested_all}
 use Rattle.script_threads.proofs.ending.end_calls.Goals as goal
 
 pub close-requires-clause-seats : goal.close-requires-clause-seats

@@ -1,4 +1,4 @@
-use Rattle.script_threads.proofs.Gathering.{gathered_more}
+use Rattle.script_threads.proofs.ListGathering.{gathered_more}
 use Rattle.script_threads.proofs.ending.gathered.Goals as goal
 
 pub gathers-preserved : goal.gathers-preserved

@@ -1,11 +1,11 @@
 use Rattle.std.proofs.Common.{map, sym, ◌∙◌, subst}
 use Rattle.std.proofs.lemmas.Result.{IfOk-weaker}
-use Rattle.sock_io.specs.Link.{end_of}
+use Rattle.sock_io.specs.LinkHalves.{end_of}
 use Rattle.brpc_model.specs.PlaceWords.{ArePlaces}
-use Rattle.script_threads.proofs.Gathering.{flat_of}
-use Rattle.script_threads.proofs.Left.{ended_is}
-use Rattle.script_threads.proofs.Placed.{left_places, left_each}
-use Rattle.script_threads.proofs.Saying.{outcomes_are, each_of, reported_of}
+use Rattle.script_threads.proofs.ListGathering.{flat_of}
+use Rattle.script_threads.proofs.LeftByScriptThreads.{ended_is}
+use Rattle.script_threads.proofs.PlacedOperations.{left_places, left_each}
+use Rattle.script_threads.proofs.ThreadOutcomesSaid.{outcomes_are, each_of, reported_of}
 use Rattle.script_threads.proofs.run.finish.Goals as goal
 
 pub report-requires-clause-places : goal.report-requires-clause-places

@@ -1,8 +1,8 @@
 use Rattle.std.proofs.Common.{◌≡◌, length, map, sym, ap, ◌∙◌, subst}
-use Rattle.sock_io.specs.Link.{end_of}
-use Rattle.script_links.specs.Given.{AreNumbered}
-use Rattle.call_run.specs.link_crew.specs.Meeting.{MetBelow}
-use Rattle.script_threads.proofs.Meeting.{all_written, met_ends}
+use Rattle.sock_io.specs.LinkHalves.{end_of}
+use Rattle.script_links.specs.LinksGivenBack.{AreNumbered}
+use Rattle.call_run.specs.link_crew.specs.ComparedLinkEnds.{MetBelow}
+use Rattle.script_threads.proofs.LinksOpenedAndCompared.{all_written, met_ends}
 use Rattle.script_threads.proofs.run.meet_and_give_back.Goals as goal
 
 pub give_back-requires-clause-numbered : goal.give_back-requires-clause-numbered

@@ -1,12 +1,12 @@
 use Rattle.std.proofs.Common.{ap, ◌∙◌, subst, arith}
 use Rattle.std.specs.List.{list_all}
 use Rattle.std.specs.Prelude.{OnOk}
-use Rattle.script_links.specs.Given.{has_piece, specs_of}
-use Rattle.script_links.proofs.Numbering.{numbered_of, links_of, few_links, pieces_of}
-use Rattle.script_parts.proofs.Reports.{on_ok}
-use Rattle.script_threads.specs.Gave.{GaveOffers}
-use Rattle.script_threads.proofs.Replies.{served_if}
-use Rattle.script_threads.proofs.Reports.{text_if}
+use Rattle.script_links.specs.LinksGivenBack.{has_piece, specs_of}
+use Rattle.script_links.proofs.LinkNumbering.{numbered_of, links_of, few_links, pieces_of}
+use Rattle.script_parts.proofs.ReportOfRun.{on_ok}
+use Rattle.script_threads.specs.GaveWhatWasOffered.{GaveOffers}
+use Rattle.script_threads.proofs.RepliesOfServedLinks.{served_if}
+use Rattle.script_threads.proofs.ReportsOfThreads.{text_if}
 use Rattle.script_threads.proofs.run.run_on_threads.Goals as goal
 
 pub open_links-requires-clause-few : goal.open_links-requires-clause-few

@@ -1,19 +1,19 @@
 use Rattle.std.proofs.Common.{◌≡◌, refl, map, length, ap, sym, subst, ◌∙◌, arith}
 use Rattle.std.proofs.lemmas.List.{length-map}
-use Rattle.call_run.specs.sock_open.specs.Opening.{AreFresh}
+use Rattle.call_run.specs.sock_open.specs.SocketTableOpening.{AreFresh}
 use Rattle.sock_words.specs.declared.plain.Plan.{Plan}
-use Rattle.script_links.proofs.Numbering.{numbered_of}
-use Rattle.script_parts.specs.Halves.{rest_of}
-use Rattle.script_parts.proofs.Numbers.{few_calls}
-use Rattle.script_parts.proofs.Parting.{end_at, are_fresh, closed_back, give_numbered, give_as_many}
-use Rattle.script_parts.proofs.Reports.{joined_outs, if_moved, on_ok}
+use Rattle.script_links.proofs.LinkNumbering.{numbered_of}
+use Rattle.script_parts.specs.HalvesApartAndTogether.{rest_of}
+use Rattle.script_parts.proofs.SortNumberBounds.{few_calls}
+use Rattle.script_parts.proofs.LinksUntilParting.{end_at, are_fresh, closed_back, give_numbered, give_as_many}
+use Rattle.script_parts.proofs.ReportOfRun.{joined_outs, if_moved, on_ok}
 use Rattle.call_run.specs.Threads.{ids_of}
-use Rattle.script_threads.specs.Gave.{GaveOffers}
-use Rattle.script_threads.specs.Told.{seated_plan}
-use Rattle.script_threads.proofs.Joined.{as_many, joined_inns, had_none}
-use Rattle.script_threads.proofs.Left.{left_is, run_is}
-use Rattle.script_threads.proofs.Meeting.{AreKept, run_kept, kept_ends, all_gave}
-use Rattle.script_threads.proofs.Seated as seated
+use Rattle.script_threads.specs.GaveWhatWasOffered.{GaveOffers}
+use Rattle.script_threads.specs.ServedScriptTold.{seated_plan}
+use Rattle.script_threads.proofs.JoinedLinkReaders.{as_many, joined_inns, had_none}
+use Rattle.script_threads.proofs.LeftByScriptThreads.{left_is, run_is}
+use Rattle.script_threads.proofs.LinksOpenedAndCompared.{AreKept, run_kept, kept_ends, all_gave}
+use Rattle.script_threads.proofs.TablesWithReaderSeats as seated
 use Rattle.script_threads.proofs.run.run_over.Goals as goal
 
 -- ## What is asked for

@@ -1,6 +1,6 @@
 use Rattle.std.proofs.Common.{[], ◌++◌, refl}
 use Rattle.brpc_model.specs.Reply.{replies}
-use Rattle.serve_port.proofs.Pieces.{known_none}
+use Rattle.serve_port.proofs.PutPieceByPiece.{known_none}
 use Rattle.serve_port.proofs.answering.answer.Goals as goal
 
 pub returns-in_default : goal.returns-in_default

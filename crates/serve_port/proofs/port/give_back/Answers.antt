@@ -1,7 +1,7 @@
 use Rattle.std.proofs.Common.{List, ◌++◌, ◌∷◌, [], refl, ap, ◌∙◌}
-use Rattle.brpc_model.specs.Link.{LinkEnd}
-use Rattle.sock_io.specs.Link.{LinkerState}
-use Rattle.serve_port.specs.Steps.{as_served}
+use Rattle.brpc_model.specs.ReturnedLink.{LinkEnd}
+use Rattle.sock_io.specs.LinkHalves.{LinkerState}
+use Rattle.serve_port.specs.ServiceSteps.{as_served}
 use Rattle.serve_port.proofs.Tallying.{done_more, more_given}
 use Rattle.serve_port.proofs.port.give_back.Goals as goal
 

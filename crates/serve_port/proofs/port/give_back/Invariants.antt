@@ -1,7 +1,7 @@
 use Rattle.std.proofs.Common.{◌≡◌, List, ◌++◌, map}
 use Rattle.std.specs.Vec.Iter.{into_iter_items}
-use Rattle.serve_port.specs.Serving.{ServedConnection}
-use Rattle.serve_port.specs.Steps.{IsTally, as_served}
+use Rattle.serve_port.specs.ServingConnections.{ServedConnection}
+use Rattle.serve_port.specs.ServiceSteps.{IsTally, as_served}
 use Rattle.serve_port.proofs.port.give_back.Given as goal
 
 abbrev pub invariant-gives : goal.invariant-gives

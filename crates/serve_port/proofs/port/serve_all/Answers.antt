@@ -1,7 +1,7 @@
 use Rattle.std.proofs.Common.{◌≡◌, sym, subst}
-use Rattle.sock_io.specs.Link.{LinkerState}
-use Rattle.serve_port.specs.Serving.{ServesConnections}
-use Rattle.serve_port.specs.Steps.{HasServed, as_served}
+use Rattle.sock_io.specs.LinkHalves.{LinkerState}
+use Rattle.serve_port.specs.ServingConnections.{ServesConnections}
+use Rattle.serve_port.specs.ServiceSteps.{HasServed, as_served}
 use Rattle.serve_port.proofs.Guests.{none_served, from_none, all_served}
 use Rattle.serve_port.proofs.port.serve_all.Goals as goal
 

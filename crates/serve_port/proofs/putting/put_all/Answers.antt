@@ -1,7 +1,7 @@
 use Rattle.std.proofs.Common.{◌++◌, take, ap, ◌∙◌, subst}
-use Rattle.sock_io.specs.Link.{IsPutCount, taken_of}
+use Rattle.sock_io.specs.LinkHalves.{IsPutCount, taken_of}
 use Rattle.std.specs.Io.KnownBytes.{append_known}
-use Rattle.serve_port.proofs.Pieces.{known_more, put_more}
+use Rattle.serve_port.proofs.PutPieceByPiece.{known_more, put_more}
 use Rattle.serve_port.proofs.putting.put_all.Goals as goal
 
 pub puts-preserved-in-Took : goal.puts-preserved-in-Took

@@ -1,7 +1,7 @@
 use Rattle.std.proofs.Common.{sym, subst, arith, length-take}
-use Rattle.serve_port.specs.Serving.{Serves}
-use Rattle.sock_io.specs.Link.{end_of}
-use Rattle.serve_port.proofs.Answered.{begins_talking, at_limit, at_end, take_failed, goes_on, stops, in_front}
+use Rattle.serve_port.specs.ServingConnections.{Serves}
+use Rattle.sock_io.specs.LinkHalves.{end_of}
+use Rattle.serve_port.proofs.ConnectionServed.{begins_talking, at_limit, at_end, take_failed, goes_on, stops, in_front}
 use Rattle.serve_port.proofs.talking.talk.Goals as goal
 
 pub takes-init : goal.takes-init

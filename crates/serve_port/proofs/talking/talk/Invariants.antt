@@ -1,4 +1,4 @@
-use Rattle.serve_port.proofs.Answered.{Talks}
+use Rattle.serve_port.proofs.ConnectionServed.{Talks}
 use Rattle.serve_port.proofs.talking.talk.Given as goal
 
 abbrev pub invariant-takes : goal.invariant-takes

@@ -1,5 +1,5 @@
 use Rattle.std.proofs.Common.{◌∙◌, arith}
-use Rattle.sock_core.proofs.Gathering.{places_last}
+use Rattle.sock_core.proofs.OnePlaceWordMore.{places_last}
 use Rattle.sock_core.proofs.finished.gather_places.Goals as goal
 
 pub loop-number-preserved : goal.loop-number-preserved

@@ -1,6 +1,6 @@
 use Rattle.std.proofs.Common.{◌≡◌, map, vec_len, vec_capacity}
-use Rattle.seat_programs.specs.Runs.{from_to}
-use Rattle.sock_core.proofs.Gathering.{word_of_place}
+use Rattle.seat_programs.specs.ScheduledRuns.{from_to}
+use Rattle.sock_core.proofs.OnePlaceWordMore.{word_of_place}
 use Rattle.sock_core.proofs.finished.gather_places.Given as goal
 
 -- the place words so far

@@ -1,4 +1,4 @@
-use Rattle.machine_model.specs.run_theorems.specs.Below.script_facts.proofs.Sizes.{keeps_limits, is_counted}
+use Rattle.machine_model.specs.run_theorems.specs.Below.script_facts.proofs.ScriptSizes.{keeps_limits, is_counted}
 use Rattle.script_lang.proofs.Shorts.{are_short}
 use Rattle.sock_core.proofs.inputs.wanted_of.Goals as goal
 

@@ -1,5 +1,5 @@
 use Rattle.std.proofs.Common.{◌++◌, take, ap, ◌∙◌}
-use Rattle.sock_io.proofs.Growing.{front_grows, Appends-append}
+use Rattle.sock_io.proofs.GrowingBytes.{front_grows, Appends-append}
 use Rattle.sock_io.proofs.writing.write_all.Goals as goal
 
 pub loop-rest-preserved : goal.loop-rest-preserved

@@ -1,7 +1,7 @@
 use Rattle.std.proofs.Common.{◌≡◌, ◌+◌, ◌-◌, suc, ℕ, [], ◌∷◌, length, length-append, reverse, arith, refl, sym, ap, ◌∙◌, subst}
 use Rattle.std.proofs.lemmas.List.{length-reverse}
-use Rattle.sock_open.specs.Made.{AreNewSeats, PassesFrom}
-use Rattle.sock_open.proofs.Making.{First, one_passed, one_given, new_seat, last_seat, seats_snoc, total_snoc, passes_more, pass_ok}
+use Rattle.sock_open.specs.NewTableContents.{AreNewSeats, PassesFrom}
+use Rattle.sock_open.proofs.SeatsOfNewTable.{First, one_passed, one_given, new_seat, last_seat, seats_snoc, total_snoc, passes_more, pass_ok}
 use Rattle.sock_open.proofs.opening.deal.Goals as goal
 use Rattle.sock_words.specs.Totals.{total}
 

@@ -1,8 +1,8 @@
 use Rattle.std.proofs.Common.{◌≡◌, ◌+◌, ◌≤◌, ℕ, length, reverse}
 use Rattle.std.specs.Vec.{vec_len, vec_capacity}
-use Rattle.sock_open.specs.Opening.{MayBegin}
-use Rattle.sock_open.specs.Made.{AreNewSeats, PassesFrom}
-use Rattle.sock_open.proofs.Making.{First}
+use Rattle.sock_open.specs.SocketTableOpening.{MayBegin}
+use Rattle.sock_open.specs.NewTableContents.{AreNewSeats, PassesFrom}
+use Rattle.sock_open.proofs.SeatsOfNewTable.{First}
 use Rattle.sock_open.proofs.opening.deal.Given as goal
 use Rattle.sock_words.specs.Totals.{total}
 

@@ -1,5 +1,5 @@
 use Rattle.std.proofs.Common.{[], ◌∷◌, length-append, arith, sym, ◌∙◌}
-use Rattle.sock_open.proofs.Words.{one_housed, may_be_fresh, all_housed, all_halves}
+use Rattle.sock_open.proofs.NewTableWords.{one_housed, may_be_fresh, all_housed, all_halves}
 use Rattle.sock_open.proofs.opening.house.Goals as goal
 
 pub fresh-requires : goal.fresh-requires

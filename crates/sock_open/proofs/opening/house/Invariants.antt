@@ -1,6 +1,6 @@
 use Rattle.std.proofs.Common.{◌≡◌, ◌+◌, length}
 use Rattle.std.specs.Vec.{vec_len, vec_capacity}
-use Rattle.sock_open.proofs.Words.{Housed}
+use Rattle.sock_open.proofs.NewTableWords.{Housed}
 use Rattle.sock_open.proofs.opening.house.Given as goal
 
 abbrev pub invariant-loop : goal.invariant-loop

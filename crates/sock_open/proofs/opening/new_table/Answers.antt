@@ -1,8 +1,8 @@
 use Rattle.std.proofs.Common.{ℕ, length, sym, ap, ◌∙◌, subst, List}
 use Rattle.std.proofs.lemmas.List.{length-map}
-use Rattle.sock_open.specs.Opening.{AreNewWords, AreNewHomes}
-use Rattle.sock_table.specs.Closed.{AreLinks, OutsOf}
-use Rattle.sock_open.proofs.Words.{is_new, halves_same, halves_links}
+use Rattle.sock_open.specs.SocketTableOpening.{AreNewWords, AreNewHomes}
+use Rattle.sock_table.specs.ClosedSocketTable.{AreLinks, OutsOf}
+use Rattle.sock_open.proofs.NewTableWords.{is_new, halves_same, halves_links}
 use Rattle.sock_open.proofs.opening.new_table.Goals as goal
 
 pub open-requires-clause-new : goal.open-requires-clause-new

@@ -1,4 +1,4 @@
-use Rattle.sock_table.specs.Closed.{ways_of}
+use Rattle.sock_table.specs.ClosedSocketTable.{ways_of}
 use Rattle.sock_open.proofs.opening.new_table.Given as goal
 
 abbrev pub ghost-of : goal.ghost-of

@@ -1,5 +1,5 @@
 use Rattle.std.proofs.Common.{arith, ap, set}
-use Rattle.sock_open.proofs.Words.{none_begun, one_begun, all_begun}
+use Rattle.sock_open.proofs.NewTableWords.{none_begun, one_begun, all_begun}
 use Rattle.sock_open.proofs.opening.new_words.Goals as goal
 
 pub loop-slot-init : goal.loop-slot-init

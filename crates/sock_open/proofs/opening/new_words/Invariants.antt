@@ -1,4 +1,4 @@
-use Rattle.sock_open.proofs.Words.{Begun}
+use Rattle.sock_open.proofs.NewTableWords.{Begun}
 use Rattle.sock_open.proofs.opening.new_words.Given as goal
 
 abbrev pub invariant-loop-slot : goal.invariant-loop-slot

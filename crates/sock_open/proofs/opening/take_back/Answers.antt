@@ -1,9 +1,9 @@
 use Rattle.std.proofs.Common.{◌+◌, [], ◌∷◌, length, length-set, length-append, arith, sym, ap, ◌∙◌, subst}
 use mathlib.Core.Option.{some}
 use Rattle.atomic_table.proofs.Lists.{set_else}
-use Rattle.sock_table.specs.Closed.{OutsOf}
-use Rattle.sock_table.proofs.Lasts.{one_out, is_link}
-use Rattle.sock_open.proofs.Words.{elem_at}
+use Rattle.sock_table.specs.ClosedSocketTable.{OutsOf}
+use Rattle.sock_table.proofs.CloseLoopLasts.{one_out, is_link}
+use Rattle.sock_open.proofs.NewTableWords.{elem_at}
 use Rattle.sock_open.proofs.opening.take_back.Goals as goal
 
 pub unreachable-requires : goal.unreachable-requires

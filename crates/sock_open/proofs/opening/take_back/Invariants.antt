@@ -1,7 +1,7 @@
 use Rattle.std.proofs.Common.{◌≡◌, ◌+◌, ◌-◌, ◌≤◌, ℕ, length}
 use lib.ListN.{get_elem?}
 use Rattle.std.specs.Vec.{vec_len, vec_capacity}
-use Rattle.sock_table.specs.Closed.{OutsOf}
+use Rattle.sock_table.specs.ClosedSocketTable.{OutsOf}
 use Rattle.sock_open.proofs.opening.take_back.Given as goal
 
 abbrev pub invariant-loop-k : goal.invariant-loop-k

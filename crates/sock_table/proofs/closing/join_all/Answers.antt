@@ -1,4 +1,4 @@
-use Rattle.sock_table.proofs.Joining.{first, next, last_ok}
+use Rattle.sock_table.proofs.JoiningSocketSeats.{first, next, last_ok}
 use Rattle.sock_table.proofs.closing.join_all.Goals as goal
 
 pub loop-earlier-init : goal.loop-earlier-init

@@ -1,4 +1,4 @@
-use Rattle.sock_table.proofs.Joining.{Joined}
+use Rattle.sock_table.proofs.JoiningSocketSeats.{Joined}
 use Rattle.sock_table.proofs.closing.join_all.Given as goal
 
 abbrev pub invariant-loop-earlier : goal.invariant-loop-earlier

@@ -3,8 +3,8 @@ use mathlib.Core.Option.{some}
 use lib.ListN.{get_elem?}
 use Rattle.std.specs.Mem.Slots.{slots_items}
 use Rattle.sock_words.specs.declared.place_word.PlaceWord.{PlaceWord}
-use Rattle.sock_model.specs.Layout.{place_index}
-use Rattle.sock_table.proofs.Lasts.{one_more}
+use Rattle.sock_model.specs.SocketTableLayout.{place_index}
+use Rattle.sock_table.proofs.CloseLoopLasts.{one_more}
 use Rattle.sock_table.proofs.closing.read_places.Goals as goal
 
 pub loop-place-preserved : goal.loop-place-preserved

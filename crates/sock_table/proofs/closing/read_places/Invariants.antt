@@ -1,8 +1,8 @@
 use Rattle.std.proofs.Common.{◌≡◌, length}
 use Rattle.std.specs.Mem.Slots.{slots_items}
 use Rattle.sock_words.specs.declared.place_word.PlaceWord.{PlaceWord}
-use Rattle.sock_model.specs.Layout.{place_index}
-use Rattle.sock_table.specs.Closed.{WordsAre}
+use Rattle.sock_model.specs.SocketTableLayout.{place_index}
+use Rattle.sock_table.specs.ClosedSocketTable.{WordsAre}
 use Rattle.sock_table.proofs.closing.read_places.Given as goal
 
 abbrev pub invariant-loop-place : goal.invariant-loop-place

@@ -3,8 +3,8 @@ use mathlib.Core.Option.{some}
 use lib.ListN.{get_elem?}
 use Rattle.std.specs.Mem.Slots.{slots_items}
 use Rattle.sock_words.specs.declared.vref.Vref.{Vref}
-use Rattle.sock_model.specs.Layout.{ref_index}
-use Rattle.sock_table.proofs.Lasts.{one_more}
+use Rattle.sock_model.specs.SocketTableLayout.{ref_index}
+use Rattle.sock_table.proofs.CloseLoopLasts.{one_more}
 use Rattle.sock_table.proofs.closing.read_vrefs.Goals as goal
 
 pub loop-slot-preserved : goal.loop-slot-preserved

@@ -1,8 +1,8 @@
 use Rattle.std.proofs.Common.{◌≡◌, length}
 use Rattle.std.specs.Mem.Slots.{slots_items}
 use Rattle.sock_words.specs.declared.vref.Vref.{Vref}
-use Rattle.sock_model.specs.Layout.{ref_index}
-use Rattle.sock_table.specs.Closed.{WordsAre}
+use Rattle.sock_model.specs.SocketTableLayout.{ref_index}
+use Rattle.sock_table.specs.ClosedSocketTable.{WordsAre}
 use Rattle.sock_table.proofs.closing.read_vrefs.Given as goal
 
 abbrev pub invariant-loop-slot : goal.invariant-loop-slot

@@ -1,8 +1,8 @@
 use Rattle.std.proofs.Common.{◌+◌, ◌-◌, false, true, [], ◌∷◌, length, arith, ap, sym, ◌∙◌, subst}
 use lib.ListN.{get_elem?}
 use Rattle.std.specs.Mem.Slots.{slots_items, slots_filled, slots_len}
-use Rattle.sock_table.specs.Closed.{OutsOf}
-use Rattle.sock_table.proofs.Lasts.{still_full, now_empty, one_out, is_link}
+use Rattle.sock_table.specs.ClosedSocketTable.{OutsOf}
+use Rattle.sock_table.proofs.CloseLoopLasts.{still_full, now_empty, one_out, is_link}
 use Rattle.sock_table.proofs.closing.take_outs.Goals as goal
 
 pub loop-k-preserved : goal.loop-k-preserved

@@ -2,7 +2,7 @@ use Rattle.std.proofs.Common.{◌≡◌, ℕ, ◌+◌, ◌-◌, ◌<◌, ◌≤�
 use Rattle.std.specs.Vec.{vec_len, vec_capacity}
 use Rattle.std.specs.Mem.Slots.{slots_items, slots_filled, slots_len}
 use Rattle.std.specs.Mem.Slots.Ownership.{Filled}
-use Rattle.sock_table.specs.Closed.{OutsOf}
+use Rattle.sock_table.specs.ClosedSocketTable.{OutsOf}
 use Rattle.sock_table.proofs.closing.take_outs.Given as goal
 
 abbrev pub invariant-loop-k : goal.invariant-loop-k

@@ -1,7 +1,7 @@
 use Rattle.std.proofs.Common.{subst, Some}
-use Rattle.sock_open.specs.Made.{AreNewSeats}
+use Rattle.sock_open.specs.NewTableContents.{AreNewSeats}
 use Rattle.sock_open.proofs.Racing.{popped}
-use Rattle.sock_open.proofs.Making.{new_done}
+use Rattle.sock_open.proofs.SeatsOfNewTable.{new_done}
 use Rattle.table_bench.proofs.pairs.one_of.Goals as goal
 
 pub returns-clause-seat : goal.returns-clause-seat

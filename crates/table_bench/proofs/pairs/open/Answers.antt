@@ -1,7 +1,7 @@
 use Rattle.std.proofs.Common.{subst, Some}
-use Rattle.sock_open.specs.Made.{PassesFrom}
+use Rattle.sock_open.specs.NewTableContents.{PassesFrom}
 use Rattle.sock_open.proofs.Racing.{pass_popped}
-use Rattle.sock_open.proofs.Testing.{done_between}
+use Rattle.sock_open.proofs.SeatsHoldingNothing.{done_between}
 use Rattle.table_bench.proofs.pairs.open.Goals as goal
 
 pub create-requires-clause-seat : goal.create-requires-clause-seat

@@ -1,4 +1,4 @@
-use Rattle.sock_open.proofs.Testing.{done_between, kept_done}
+use Rattle.sock_open.proofs.SeatsHoldingNothing.{done_between, kept_done}
 use Rattle.table_bench.proofs.pairs.pairs.Goals as goal
 
 pub find-requires-clause-seat : goal.find-requires-clause-seat

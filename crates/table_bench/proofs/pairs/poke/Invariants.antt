@@ -1,5 +1,5 @@
-use Rattle.sock_table.specs.Closed.{IsDoneSeat}
-use Rattle.sock_table.specs.Refs.{Knows}
+use Rattle.sock_table.specs.ClosedSocketTable.{IsDoneSeat}
+use Rattle.sock_table.specs.ReferenceCalls.{Knows}
 use Rattle.table_bench.proofs.pairs.poke.Given as goal
 
 abbrev pub invariant-loop : goal.invariant-loop

@@ -1,11 +1,11 @@
 use Rattle.std.proofs.Common.{ℕ, ◌<◌, refl, sym, ap, ◌∙◌, subst, arith}
-use Rattle.sock_words.specs.Words.{socket_id_version}
-use Rattle.sock_model.specs.Weights.{is_hold}
+use Rattle.sock_words.specs.PackedWords.{socket_id_version}
+use Rattle.sock_model.specs.MarkWeights.{is_hold}
 use Rattle.sock_model.specs.SlotRows.{marks_of}
 use Rattle.sock_model.specs.ChainRows.{ready_claim}
 use Rattle.message_parts.specs.Parcels.{parcel_of}
 use Rattle.sock_rule.specs.Shows.{heading_of}
-use Rattle.sock_rule.specs.Sending.{filled_for}
+use Rattle.sock_rule.specs.SendingOnRequestWords.{filled_for}
 use Rattle.write_chain.proofs.Accepting.{may_swap, claims_b, was_queued, was_first}
 use Rattle.write_chain.proofs.entry.accept.Goals as goal
 

@@ -5,7 +5,7 @@ use Rattle.message_parts.specs.Parcels.{parcel_of}
 use Rattle.sock_rule.specs.ChainPlays.{blank}
 use Rattle.sock_rule.specs.Shows.{heading_of}
 use Rattle.write_chain.proofs.Accepting.{asks_first, asks_next, started_after, false_true}
-use Rattle.write_chain.proofs.Beginning.{begins}
+use Rattle.write_chain.proofs.SeatOnceAccepted.{begins}
 use Rattle.write_chain.proofs.entry.start.Goals as goal
 
 pub loop-at-init : goal.loop-at-init

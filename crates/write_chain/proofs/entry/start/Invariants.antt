@@ -1,5 +1,5 @@
 use Rattle.std.proofs.Common.{◌≡◌, ◌-◌}
-use Rattle.sock_rule.specs.Seated.{IsSeat}
+use Rattle.sock_rule.specs.SocketSeatSplits.{IsSeat}
 use Rattle.write_chain.proofs.Accepting.{Asking}
 use Rattle.write_chain.proofs.entry.start.Given as goal
 

@@ -1,7 +1,7 @@
 use Rattle.std.proofs.Common.{refl, ◌∙◌, sym, subst}
 use Rattle.write_chain.specs.declared.hold.Once.TheVariants as once
-use Rattle.write_chain.specs.Writing.{OnceBy}
-use Rattle.write_chain.proofs.Noting.{wrote_then, wrote_rights, rights_then}
+use Rattle.write_chain.specs.WritingRightInHand.{OnceBy}
+use Rattle.write_chain.proofs.NotingWhileWriting.{wrote_then, wrote_rights, rights_then}
 use Rattle.write_chain.proofs.Dropping.{still_dead}
 use Rattle.write_chain.proofs.hold.write_once.Goals as goal
 

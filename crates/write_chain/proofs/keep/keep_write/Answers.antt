@@ -1,9 +1,9 @@
 use Rattle.std.proofs.Common.{refl, sym, subst}
 use Rattle.sock_table.specs.declared.refs.SockRef.{SockRef}
 use Rattle.write_chain.specs.declared.keep.Went.TheVariants as went
-use Rattle.write_chain.specs.Keeping.{WentBy, WentWriting}
-use Rattle.write_chain.specs.Writing.{FoundDead}
-use Rattle.write_chain.proofs.Noting.{wrote_rights, wrote_then, drop_then}
+use Rattle.write_chain.specs.KeepingOnWriting.{WentBy, WentWriting}
+use Rattle.write_chain.specs.WritingRightInHand.{FoundDead}
+use Rattle.write_chain.proofs.NotingWhileWriting.{wrote_rights, wrote_then, drop_then}
 use Rattle.write_chain.proofs.Dropping.{code_before, still_dead}
 use Rattle.write_chain.proofs.keep.keep_write.Goals as goal
 

@@ -1,6 +1,6 @@
-use Rattle.write_chain.specs.Noting.{Wrote}
-use Rattle.write_chain.specs.Writing.{FoundDead, HasMore}
-use Rattle.write_chain.specs.Keeping.{StillWrites}
+use Rattle.write_chain.specs.NotingWhileWriting.{Wrote}
+use Rattle.write_chain.specs.WritingRightInHand.{FoundDead, HasMore}
+use Rattle.write_chain.specs.KeepingOnWriting.{StillWrites}
 use Rattle.write_chain.proofs.keep.keep_write.Given as goal
 
 abbrev pub invariant-goes : goal.invariant-goes

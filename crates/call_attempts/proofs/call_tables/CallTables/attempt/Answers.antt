@@ -1,16 +1,16 @@
 use Rattle.std.proofs.Common.{◌<◌, ◌∙◌, ap, sym, refl, subst, arith}
-use Rattle.sock_words.specs.Words.{socket_id_slot}
+use Rattle.sock_words.specs.PackedWords.{socket_id_slot}
 use Rattle.sock_words.specs.declared.socket_id.SocketId.{SocketId}
-use Rattle.sock_model.specs.Weights.{is_ref}
+use Rattle.sock_model.specs.MarkWeights.{is_ref}
 use Rattle.sock_model.specs.SlotRows.{marks_of}
-use Rattle.sock_table.specs.Answers.{Holds, LinkOf}
-use Rattle.call_errors.specs.rpc_client.proofs.Counting.{one_more}
-use Rattle.call_errors.specs.rpc_client.proofs.Finding.{has_one, holds_still, rest_became}
-use Rattle.call_errors.specs.rpc_client.proofs.Delivering.{room_still}
-use Rattle.call_errors.proofs.Keeping.{stays_then}
-use Rattle.call_attempts.specs.Both.{both}
+use Rattle.sock_table.specs.ReferenceAnswers.{Holds, LinkOf}
+use Rattle.call_errors.specs.rpc_client.proofs.CountedReferences.{one_more}
+use Rattle.call_errors.specs.rpc_client.proofs.FindingReferences.{has_one, holds_still, rest_became}
+use Rattle.call_errors.specs.rpc_client.proofs.SeatBehindDelivering.{room_still}
+use Rattle.call_errors.proofs.KeepingThroughErrors.{stays_then}
+use Rattle.call_attempts.specs.ClientAtBothTables.{both}
 use Rattle.call_attempts.specs.Attempting.{DeliveredBy, nowhere, over_link}
-use Rattle.call_attempts.proofs.Leaving.{kept_free, own_after, link_keeps, few_still, attempted_leaves}
+use Rattle.call_attempts.proofs.LeftByAttempt.{kept_free, own_after, link_keeps, few_still, attempted_leaves}
 use Rattle.call_attempts.proofs.call_tables.CallTables.attempt.Goals as goal
 
 pub add_reference-requires-clause-may : goal.add_reference-requires-clause-may

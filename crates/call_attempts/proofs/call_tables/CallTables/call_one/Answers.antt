@@ -1,20 +1,20 @@
 use Rattle.std.proofs.Common.{◌≡◌, ℕ, ◌<◌, ◌≤◌, ◌+◌, ◌*◌, true, Some, None, zero-le, sym, refl, subst, arith}
 use Rattle.sock_words.specs.declared.plain.Label.{Label}
 use Rattle.sock_rule.specs.declared.homes.Letter.{Letter}
-use Rattle.id_rule.specs.Lawful.{call_index, with_kept}
-use Rattle.corr_id.specs.Calls.{MadeAs}
-use Rattle.corr_id.proofs.Testing.{sits_on, quiet_free}
+use Rattle.id_rule.specs.LawfulIdTable.{call_index, with_kept}
+use Rattle.corr_id.specs.SeatBehindIdCalls.{MadeAs}
+use Rattle.corr_id.proofs.TestingOneLock.{sits_on, quiet_free}
 use Rattle.sock_message.specs.Asked.{Asked}
-use Rattle.sock_table.specs.Named.{Found}
-use Rattle.call_errors.specs.rpc_client.proofs.Finding.{rest_same, may_still}
-use Rattle.call_errors.specs.rpc_client.proofs.Delivering.{room_still}
-use Rattle.call_errors.proofs.Keeping.{stays_then, keeps_none}
-use Rattle.call_attempts.specs.Both.{both, IsCallId}
-use Rattle.call_attempts.specs.Letters.{attempt_label}
+use Rattle.sock_table.specs.NamesStoredAndFound.{Found}
+use Rattle.call_errors.specs.rpc_client.proofs.FindingReferences.{rest_same, may_still}
+use Rattle.call_errors.specs.rpc_client.proofs.SeatBehindDelivering.{room_still}
+use Rattle.call_errors.proofs.KeepingThroughErrors.{stays_then, keeps_none}
+use Rattle.call_attempts.specs.ClientAtBothTables.{both, IsCallId}
+use Rattle.call_attempts.specs.AttemptLetters.{attempt_label}
 use Rattle.call_attempts.specs.Attempting.{AttemptedBy}
-use Rattle.call_attempts.specs.Calling.{WantedBy, before_id, behind_id}
-use Rattle.call_attempts.proofs.Leaving.{err_by, found_keeps, keeps_leaves, own_after, own_keeps, not_ok, not_named, rested_found, rested_then}
-use Rattle.call_attempts.proofs.Locking.{id_some, id_short, noted_free}
+use Rattle.call_attempts.specs.CallBeginning.{WantedBy, before_id, behind_id}
+use Rattle.call_attempts.proofs.LeftByAttempt.{err_by, found_keeps, keeps_leaves, own_after, own_keeps, not_ok, not_named, rested_found, rested_then}
+use Rattle.call_attempts.proofs.LockingIds.{id_some, id_short, noted_free}
 use Rattle.call_attempts.proofs.Framing.{letter_is}
 use Rattle.call_attempts.proofs.call_tables.CallTables.call_one.Goals as goal
 

@@ -2,15 +2,15 @@ use Rattle.std.proofs.Common.{sym, subst}
 use Rattle.sock_rule.specs.Shows.{heading_of}
 use Rattle.sock_rule.specs.declared.homes.Letter.{Letter}
 use Rattle.sock_table.specs.declared.refs.SockRef.{SockRef}
-use Rattle.write_chain.specs.Writing.{Begins}
-use Rattle.call_errors.specs.rpc_client.specs.Sending.{Returned}
-use Rattle.call_errors.specs.rpc_client.proofs.Delivering.{sock_is, accepted_of, refused_holds, refused_idle}
-use Rattle.call_attempts.specs.Both.{both}
+use Rattle.write_chain.specs.WritingRightInHand.{Begins}
+use Rattle.call_errors.specs.rpc_client.specs.SendingOutcomes.{Returned}
+use Rattle.call_errors.specs.rpc_client.proofs.SeatBehindDelivering.{sock_is, accepted_of, refused_holds, refused_idle}
+use Rattle.call_attempts.specs.ClientAtBothTables.{both}
 use Rattle.message_parts.specs.Parcels.{parcel_of}
-use Rattle.call_errors.specs.Books.{stand_of}
-use Rattle.call_writes.specs.Sending.{SeenCalling}
+use Rattle.call_errors.specs.ClientBooks.{stand_of}
+use Rattle.call_writes.specs.MessageFateBesideCalls.{SeenCalling}
 use Rattle.call_attempts.specs.Attempting.{PostedOf, code_for, went_out, came_back}
-use Rattle.call_attempts.proofs.Leaving.{message_is, reference_is}
+use Rattle.call_attempts.proofs.LeftByAttempt.{message_is, reference_is}
 use Rattle.call_attempts.proofs.call_tables.CallTables.deliver.Goals as goal
 
 pub start-requires-clause-may : goal.start-requires-clause-may

@@ -1,10 +1,10 @@
 use Rattle.std.proofs.Common.{refl, arith}
-use Rattle.call_errors.specs.rpc_client.proofs.Finding.{rest_same, may_still}
-use Rattle.call_errors.specs.rpc_client.proofs.Delivering.{room_still}
-use Rattle.call_errors.proofs.Keeping.{keeps_none}
-use Rattle.call_attempts.specs.Both.{both}
-use Rattle.call_attempts.specs.Retrying.{stray, unopened, to_socket}
-use Rattle.call_attempts.proofs.Leaving.{found_keeps, keeps_leaves, own_after, own_keeps, none_keeps, rested_still, rested_found, rested_then}
+use Rattle.call_errors.specs.rpc_client.proofs.FindingReferences.{rest_same, may_still}
+use Rattle.call_errors.specs.rpc_client.proofs.SeatBehindDelivering.{room_still}
+use Rattle.call_errors.proofs.KeepingThroughErrors.{keeps_none}
+use Rattle.call_attempts.specs.ClientAtBothTables.{both}
+use Rattle.call_attempts.specs.WaitingRetries.{stray, unopened, to_socket}
+use Rattle.call_attempts.proofs.LeftByAttempt.{found_keeps, keeps_leaves, own_after, own_keeps, none_keeps, rested_still, rested_found, rested_then}
 use Rattle.call_attempts.proofs.call_tables.CallTables.go_to.Goals as goal
 
 pub attempt-requires : goal.attempt-requires

@@ -1,8 +1,8 @@
-use Rattle.sock_words.specs.Words.{socket_id_slot}
-use Rattle.sock_table.specs.Answers.{is_freed}
-use Rattle.call_errors.specs.rpc_client.proofs.Finding.{rest_became}
-use Rattle.call_attempts.specs.Both.{both}
-use Rattle.call_attempts.proofs.Leaving.{refused_failed, refused_full}
+use Rattle.sock_words.specs.PackedWords.{socket_id_slot}
+use Rattle.sock_table.specs.ReferenceAnswers.{is_freed}
+use Rattle.call_errors.specs.rpc_client.proofs.FindingReferences.{rest_became}
+use Rattle.call_attempts.specs.ClientAtBothTables.{both}
+use Rattle.call_attempts.proofs.LeftByAttempt.{refused_failed, refused_full}
 use Rattle.call_attempts.proofs.call_tables.CallTables.refuse_frame.Goals as goal
 
 pub returns-in-Failed-clause-rest : goal.returns-in-Failed-clause-rest

@@ -1,10 +1,10 @@
 use Rattle.std.proofs.Common.{◌+◌}
-use Rattle.call_errors.specs.rpc_client.proofs.Finding.{may_still}
-use Rattle.call_errors.specs.Books.{books_of}
-use Rattle.call_errors.proofs.Keeping.{keeps_none}
-use Rattle.call_attempts.specs.Both.{both}
-use Rattle.call_attempts.specs.Retrying.{none_yet, RanOut}
-use Rattle.call_attempts.proofs.Leaving.{err_by, rested_still, rested_same, rested_then, keeps_same, own_room, none_taken, one_taken, ends_fed, made_one, gave_out, wanting_before}
+use Rattle.call_errors.specs.rpc_client.proofs.FindingReferences.{may_still}
+use Rattle.call_errors.specs.ClientBooks.{books_of}
+use Rattle.call_errors.proofs.KeepingThroughErrors.{keeps_none}
+use Rattle.call_attempts.specs.ClientAtBothTables.{both}
+use Rattle.call_attempts.specs.WaitingRetries.{none_yet, RanOut}
+use Rattle.call_attempts.proofs.LeftByAttempt.{err_by, rested_still, rested_same, rested_then, keeps_same, own_room, none_taken, one_taken, ends_fed, made_one, gave_out, wanting_before}
 use Rattle.call_attempts.proofs.call_tables.CallTables.retry_all.Goals as goal
 
 pub retries-init : goal.retries-init

@@ -1,7 +1,7 @@
-use Rattle.call_errors.specs.rpc_client.specs.Acting.{OwnList}
-use Rattle.call_writes.specs.Sending.{Rested}
-use Rattle.call_attempts.specs.Both.{both}
-use Rattle.call_attempts.specs.Retrying.{Retried}
+use Rattle.call_errors.specs.rpc_client.specs.AcceptedClientMessages.{OwnList}
+use Rattle.call_writes.specs.MessageFateBesideCalls.{Rested}
+use Rattle.call_attempts.specs.ClientAtBothTables.{both}
+use Rattle.call_attempts.specs.WaitingRetries.{Retried}
 use Rattle.call_attempts.proofs.call_tables.CallTables.retry_all.Given as goal
 
 abbrev pub invariant-retries : goal.invariant-retries

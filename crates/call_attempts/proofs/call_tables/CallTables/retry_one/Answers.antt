@@ -2,18 +2,18 @@ use Rattle.std.proofs.Common.{◌≡◌, ℕ, ◌+◌, ◌*◌, sym, refl, subst
 use Rattle.sock_words.specs.declared.plain.Label.{Label}
 use Rattle.sock_rule.specs.declared.homes.Letter.{Letter}
 use Rattle.corr_core.specs.Word.{parts}
-use Rattle.corr_id.proofs.Testing.{sits_on, did_free, quiet_free}
+use Rattle.corr_id.proofs.TestingOneLock.{sits_on, did_free, quiet_free}
 use Rattle.corr_id.specs.declared.calls.IdLock.{IdLock}
 use Rattle.sock_message.specs.Asked.{Asked, name_of}
-use Rattle.call_attempts.specs.Letters.{attempt_label}
-use Rattle.call_errors.proofs.Keeping.{stays_then}
-use Rattle.call_attempts.specs.Both.{both, IsCallId}
-use Rattle.call_attempts.specs.Retrying.{WentTo, had_ended, overtaken, went_again}
-use Rattle.call_attempts.proofs.Locking.{id_short, version_low, locked_but, let_go_free, next_locks, next_but}
-use Rattle.call_attempts.proofs.Leaving.{own_after, keeps_leaves, none_keeps, not_ok, both_err, rested_still}
+use Rattle.call_attempts.specs.AttemptLetters.{attempt_label}
+use Rattle.call_errors.proofs.KeepingThroughErrors.{stays_then}
+use Rattle.call_attempts.specs.ClientAtBothTables.{both, IsCallId}
+use Rattle.call_attempts.specs.WaitingRetries.{WentTo, had_ended, overtaken, went_again}
+use Rattle.call_attempts.proofs.LockingIds.{id_short, version_low, locked_but, let_go_free, next_locks, next_but}
+use Rattle.call_attempts.proofs.LeftByAttempt.{own_after, keeps_leaves, none_keeps, not_ok, both_err, rested_still}
 use Rattle.call_attempts.proofs.Framing.{letter_is}
 use Rattle.call_attempts.proofs.call_tables.CallTables.retry_one.Goals as goal
-use Rattle.sock_words.specs.Words.{id_first}
+use Rattle.sock_words.specs.PackedWords.{id_first}
 
 pub new-requires : goal.new-requires
 new-requires g c = id_short c.args.retry.id c.args.retry.attempt (omega (arith, c.in-Ok.ensures.inside, c.in-Ok.ensures.locked.0)) (omega arith)

@@ -1,6 +1,6 @@
 use Rattle.std.proofs.Common.{sym, subst, refl}
-use Rattle.corr_id.specs.Seats.{Sits, IsFree}
-use Rattle.call_client.proofs.Going.{new_caller}
+use Rattle.corr_id.specs.IdTableSeat.{Sits, IsFree}
+use Rattle.call_client.proofs.ClientAfterOperations.{new_caller}
 use Rattle.call_client.proofs.caller.Caller.new.Goals as goal
 
 pub returns-clause-go : goal.returns-clause-go

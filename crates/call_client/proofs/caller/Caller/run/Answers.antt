@@ -1,12 +1,12 @@
 use Rattle.std.proofs.Common.{◌≡◌, ◌∙◌, [], false, sym, subst, refl}
 use Rattle.std.specs.Prelude.{IfOk}
-use Rattle.corr_id.specs.Seats.{Stays}
-use Rattle.rpc_client.specs.Holding.{IsHolder}
-use Rattle.rpc_client.proofs.Counting.{holder_same}
-use Rattle.call_errors.specs.Books.{HasNoLock}
-use Rattle.call_errors.proofs.Keeping.{stays_then}
-use Rattle.call_client.specs.Acting.{stand}
-use Rattle.call_client.proofs.Coursing.{ended_then, left_behind}
+use Rattle.corr_id.specs.IdTableSeat.{Stays}
+use Rattle.rpc_client.specs.ReferencesHeldByClient.{IsHolder}
+use Rattle.rpc_client.proofs.CountedReferences.{holder_same}
+use Rattle.call_errors.specs.ClientBooks.{HasNoLock}
+use Rattle.call_errors.proofs.KeepingThroughErrors.{stays_then}
+use Rattle.call_client.specs.ClientBetweenOperations.{stand}
+use Rattle.call_client.proofs.RunBehindOperation.{ended_then, left_behind}
 use Rattle.call_client.proofs.Shares.{run_share}
 use Rattle.call_client.proofs.caller.Caller.run.Goals as goal
 

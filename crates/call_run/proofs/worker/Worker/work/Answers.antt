@@ -1,6 +1,6 @@
 use Rattle.std.proofs.Common.{refl, ◌∙◌, ap, sym, subst, length, arith, Bool}
-use Rattle.call_client.specs.Running.{MayMakeAll, RunBy}
-use Rattle.call_run.proofs.Finding.{waited_go}
+use Rattle.call_client.specs.ClientRun.{MayMakeAll, RunBy}
+use Rattle.call_run.proofs.FindingNamedSockets.{waited_go}
 use Rattle.call_run.proofs.worker.Worker.work.Goals as goal
 
 pub run-ran-requires : goal.run-ran-requires

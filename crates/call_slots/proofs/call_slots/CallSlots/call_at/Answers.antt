@@ -2,9 +2,9 @@ use Rattle.std.proofs.Common.{◌≡◌, ◌<◌, None, length, get_or, sym, ap,
 use Rattle.std.specs.Option.{option_copied}
 use Rattle.std.proofs.lemmas.List.{get_or_read}
 use lib.ListN.{get_elem?}
-use Rattle.seat_programs.specs.Beside.{call_at}
-use Rattle.call_slots.specs.Slots.{SlotState, as_found}
-use Rattle.call_slots.proofs.Making.{found_at}
+use Rattle.seat_programs.specs.FoundAndChangedAside.{call_at}
+use Rattle.call_slots.specs.CallSlotState.{SlotState, as_found}
+use Rattle.call_slots.proofs.TableMadeBySteps.{found_at}
 use Rattle.call_slots.proofs.call_slots.CallSlots.call_at.Goals as goal
 
 pub returns : goal.returns

@@ -1,11 +1,11 @@
 use Rattle.std.proofs.Common.{◌≡◌, ℕ, ◌*◌, ◌++◌, false, List, [], None, length, replicate, ap, ◌∙◌, arith}
 use Rattle.std.proofs.lemmas.List.{length-append, length-replicate}
 use mathlib.Core.Option.{some}
-use Rattle.corr_core.specs.Layout.{all_words}
-use Rattle.seat_programs.specs.Scripts.{opening_ids}
-use Rattle.call_slots.specs.Slots.{calls_with}
-use Rattle.call_slots.proofs.Openings.{ids_length, map_replicate}
-use Rattle.call_slots.proofs.Making.{slots_of}
+use Rattle.corr_core.specs.IdTableLayout.{all_words}
+use Rattle.seat_programs.specs.ScriptSetupToEnding.{opening_ids}
+use Rattle.call_slots.specs.CallSlotState.{calls_with}
+use Rattle.call_slots.proofs.OpeningSlotWords.{ids_length, map_replicate}
+use Rattle.call_slots.proofs.TableMadeBySteps.{slots_of}
 use Rattle.call_slots.proofs.call_slots.CallSlots.new.Goals as goal
 
 pub invariant_of-result : goal.invariant_of-result

@@ -1,8 +1,8 @@
 use Rattle.std.proofs.Common.{◌≡◌, ◌<◌, length, get_or, sym, ap, ◌∙◌, arith}
 use Rattle.std.proofs.lemmas.List.{get_or_read}
-use Rattle.corr_core.specs.Layout.{tag_index}
-use Rattle.call_slots.specs.Slots.{SlotState}
-use Rattle.call_slots.proofs.Making.{puts}
+use Rattle.corr_core.specs.IdTableLayout.{tag_index}
+use Rattle.call_slots.specs.CallSlotState.{SlotState}
+use Rattle.call_slots.proofs.TableMadeBySteps.{puts}
 use Rattle.call_slots.proofs.call_slots.CallSlots.put_call.Goals as goal
 
 pub returns : goal.returns

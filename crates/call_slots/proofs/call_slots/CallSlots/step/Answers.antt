@@ -2,11 +2,11 @@ use Rattle.std.proofs.Common.{◌≡◌, length, length-set, get_or, set, sym, a
 use Rattle.std.proofs.lemmas.List.{with_items_is}
 use Rattle.std.specs.Vec.{with_items}
 use Rattle.std.specs.Prelude.{slice_index, slice_set}
-use Rattle.call_points.specs.Steps.{step_of}
-use Rattle.call_slots.specs.Slots.{SlotState}
-use Rattle.call_slots.specs.Words.{index_of, next_of, IsWithin}
-use Rattle.call_slots.specs.Steps.{Makes, word_found}
-use Rattle.call_slots.proofs.Making.{slots_of, makes}
+use Rattle.call_points.specs.AsideCodeSteps.{step_of}
+use Rattle.call_slots.specs.CallSlotState.{SlotState}
+use Rattle.call_slots.specs.WordOfStep.{index_of, next_of, IsWithin}
+use Rattle.call_slots.specs.CallSlotSteps.{Makes, word_found}
+use Rattle.call_slots.proofs.TableMadeBySteps.{slots_of, makes}
 use Rattle.call_slots.proofs.call_slots.CallSlots.step.Goals as goal
 
 pub returns : goal.returns

@@ -1,7 +1,7 @@
 use Rattle.std.proofs.Common.{◌≡◌, ◌<◌, None, length, get_or, sym, ap, ◌∙◌, arith}
 use Rattle.std.proofs.lemmas.List.{get_or_read}
-use Rattle.call_slots.specs.Slots.{SlotState}
-use Rattle.call_slots.proofs.Making.{takes}
+use Rattle.call_slots.specs.CallSlotState.{SlotState}
+use Rattle.call_slots.proofs.TableMadeBySteps.{takes}
 use Rattle.call_slots.proofs.call_slots.CallSlots.take_call.Goals as goal
 
 pub returns : goal.returns

@@ -1,9 +1,9 @@
 use Rattle.std.proofs.Common.{refl, subst}
 use Rattle.sock_table.specs.declared.refs.SockRef.{SockRef}
 use Rattle.write_chain.specs.declared.keep.Kept.TheVariants as kept
-use Rattle.write_chain.specs.Keeping.{KeptBy, KeptWriting}
-use Rattle.call_errors.specs.Books.{stand_of}
-use Rattle.call_errors.proofs.Keeping.{keeps_none, keeps_then}
+use Rattle.write_chain.specs.KeepingOnWriting.{KeptBy, KeptWriting}
+use Rattle.call_errors.specs.ClientBooks.{stand_of}
+use Rattle.call_errors.proofs.KeepingThroughErrors.{keeps_none, keeps_then}
 use Rattle.call_writes.specs.Draining.{none, one_more}
 use Rattle.call_writes.proofs.shared_tables.SharedTables.drain.Goals as goal
 

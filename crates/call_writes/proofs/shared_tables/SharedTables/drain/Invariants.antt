@@ -1,5 +1,5 @@
-use Rattle.write_chain.specs.Keeping.{StillWrites}
-use Rattle.call_errors.specs.Books.{stand_of, KeepsSeat}
+use Rattle.write_chain.specs.KeepingOnWriting.{StillWrites}
+use Rattle.call_errors.specs.ClientBooks.{stand_of, KeepsSeat}
 use Rattle.call_writes.specs.Draining.{DroppedAll}
 use Rattle.call_writes.proofs.shared_tables.SharedTables.drain.Given as goal
 

@@ -1,13 +1,13 @@
 use Rattle.std.proofs.Common.{◌∙◌, ap, sym, subst}
-use Rattle.sock_words.specs.Words.{socket_id_version, socket_id_slot}
+use Rattle.sock_words.specs.PackedWords.{socket_id_version, socket_id_slot}
 use Rattle.sock_model.specs.declared.marks.Mark.TheVariants.{Hold}
-use Rattle.sock_table.specs.Refs.{GaveBack}
-use Rattle.sock_table.specs.Answers.{Holds, is_freed}
+use Rattle.sock_table.specs.ReferenceCalls.{GaveBack}
+use Rattle.sock_table.specs.ReferenceAnswers.{Holds, is_freed}
 use Rattle.sock_table.specs.declared.refs.SockRef.{SockRef}
-use Rattle.call_errors.specs.Books.{stand_of}
+use Rattle.call_errors.specs.ClientBooks.{stand_of}
 use Rattle.call_writes.proofs.Drains.{drained_all}
 use Rattle.call_writes.proofs.shared_tables.SharedTables.see_through.Goals as goal
-use Rattle.write_chain.specs.Ready.{sock_of}
+use Rattle.write_chain.specs.ReadyToSend.{sock_of}
 
 pub release-requires-clause-held : goal.release-requires-clause-held
 release-requires-clause-held g c = let gave = c.write_if-sock.ensures.gave in subst (λ (y : SockRef). Holds c.args.self.now.socks.now.rule.plan c.write_if-sock.new.seat.me.0 y.id.0) (sym gave.0) gave.1.holds

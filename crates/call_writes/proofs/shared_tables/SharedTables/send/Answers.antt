@@ -2,13 +2,13 @@ use Rattle.std.proofs.Common.{Some, None, inl, refl, sym, subst}
 use Rattle.sock_rule.specs.message_parts.specs.Parcels.{parcel_of}
 use Rattle.sock_rule.specs.Shows.{heading_of}
 use Rattle.sock_table.specs.declared.refs.SockRef.{SockRef}
-use Rattle.write_chain.specs.Writing.{Begins}
-use Rattle.call_errors.specs.rpc_client.proofs.Finding.{has_one, here_inside}
-use Rattle.call_errors.specs.rpc_client.proofs.Delivering.{sock_is, accepted_of, refused_holds, refused_idle, came_back, room_still}
-use Rattle.call_errors.specs.Books.{stand_of}
-use Rattle.call_errors.proofs.Keeping.{keeps_none}
-use Rattle.call_writes.specs.Sending.{SeenCalling}
-use Rattle.call_writes.proofs.Delivering.{came_back_calling, rested_sent, sent_calling}
+use Rattle.write_chain.specs.WritingRightInHand.{Begins}
+use Rattle.call_errors.specs.rpc_client.proofs.FindingReferences.{has_one, here_inside}
+use Rattle.call_errors.specs.rpc_client.proofs.SeatBehindDelivering.{sock_is, accepted_of, refused_holds, refused_idle, came_back, room_still}
+use Rattle.call_errors.specs.ClientBooks.{stand_of}
+use Rattle.call_errors.proofs.KeepingThroughErrors.{keeps_none}
+use Rattle.call_writes.specs.MessageFateBesideCalls.{SeenCalling}
+use Rattle.call_writes.proofs.DeliveringWithCalls.{came_back_calling, rested_sent, sent_calling}
 use Rattle.call_writes.proofs.shared_tables.SharedTables.send.Goals as goal
 
 -- ## With a reference

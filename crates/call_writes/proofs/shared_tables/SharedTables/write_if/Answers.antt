@@ -1,11 +1,11 @@
 use Rattle.std.proofs.Common.{◌∙◌, subst}
 use Rattle.sock_table.specs.declared.refs.SockRef.{SockRef}
-use Rattle.write_chain.specs.Writing.{GaveUp}
-use Rattle.call_errors.specs.Books.{stand_of}
+use Rattle.write_chain.specs.WritingRightInHand.{GaveUp}
+use Rattle.call_errors.specs.ClientBooks.{stand_of}
 use Rattle.call_writes.specs.Draining.{Drained}
 use Rattle.call_writes.proofs.Drains.{drained_none, drained_wrote, drained_after}
 use Rattle.call_writes.proofs.shared_tables.SharedTables.write_if.Goals as goal
-use Rattle.write_chain.specs.Ready.{sock_of}
+use Rattle.write_chain.specs.ReadyToSend.{sock_of}
 
 pub returns-in-Queued-clause-drained : goal.returns-in-Queued-clause-drained
 returns-in-Queued-clause-drained g c = drained_none c.args.self.now.socks.now.rule.plan c.args.self.now.ids.now.plan.slots (sock_of c.args.started).id.0 c.args.seat.now.me.0 (stand_of c.args.calls.now)

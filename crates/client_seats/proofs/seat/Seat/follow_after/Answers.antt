@@ -1,4 +1,4 @@
-use Rattle.client_seats.proofs.Follows.{after_flat, after_holds_none}
+use Rattle.client_seats.proofs.FollowsByStepKind.{after_flat, after_holds_none}
 use Rattle.client_seats.proofs.seat.Seat.follow_after.Goals as goal
 
 pub follow_flat-requires-clause-flat : goal.follow_flat-requires-clause-flat

@@ -1,11 +1,11 @@
 use Rattle.std.proofs.Common.{refl}
-use Rattle.id_points.specs.Ids.{id_of, number_of}
+use Rattle.id_points.specs.IdsAndAttemptNumbers.{id_of, number_of}
 use Rattle.call_points.specs.declared.deciding.DecideStep.TheVariants as decides
 use Rattle.seat_states.specs.declared.point.Point.TheVariants as points
-use Rattle.seat_states.specs.Points.{Context, point_program, after_program}
-use Rattle.client_seats.specs.Seats.{around, seat_data}
-use Rattle.client_seats.proofs.Begun.{begun, follows_point}
-use Rattle.client_seats.proofs.Follows.{kept_on}
+use Rattle.seat_states.specs.SeatPoints.{Context, point_program, after_program}
+use Rattle.client_seats.specs.ClientSeatState.{around, seat_data}
+use Rattle.client_seats.proofs.PointsAtSteps.{begun, follows_point}
+use Rattle.client_seats.proofs.FollowsByStepKind.{kept_on}
 use Rattle.client_seats.proofs.seat.Seat.follow_end.Goals as goal
 
 pub returns-in-Kept : goal.returns-in-Kept

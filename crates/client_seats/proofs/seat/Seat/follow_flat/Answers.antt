@@ -1,6 +1,6 @@
 use Rattle.std.proofs.Common.{refl}
-use Rattle.client_seats.specs.Seats.{seat_data}
-use Rattle.client_seats.proofs.Follows.{ends_on}
+use Rattle.client_seats.specs.ClientSeatState.{seat_data}
+use Rattle.client_seats.proofs.FollowsByStepKind.{ends_on}
 use Rattle.client_seats.proofs.seat.Seat.follow_flat.Goals as goal
 
 pub returns-in-Ended : goal.returns-in-Ended

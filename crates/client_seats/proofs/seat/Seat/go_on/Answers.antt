@@ -1,7 +1,7 @@
 use Rattle.std.proofs.Common.{refl, arith}
-use Rattle.id_points.specs.Ids.{id_of, number_of}
+use Rattle.id_points.specs.IdsAndAttemptNumbers.{id_of, number_of}
 use Rattle.client_seats.specs.declared.seat.Seat.{Seat}
-use Rattle.client_seats.specs.Seats.{retries, around, seat_data}
+use Rattle.client_seats.specs.ClientSeatState.{retries, around, seat_data}
 use Rattle.client_seats.proofs.GoingOn.{leaves_on, retries_on, removed_first}
 use Rattle.client_seats.proofs.seat.Seat.go_on.Goals as goal
 

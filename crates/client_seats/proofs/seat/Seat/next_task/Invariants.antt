@@ -1,5 +1,5 @@
 use Rattle.std.proofs.Common.{◌≡◌, length, false, []}
-use Rattle.client_seats.specs.Seats.{lives}
+use Rattle.client_seats.specs.ClientSeatState.{lives}
 use Rattle.client_seats.proofs.GoingOn.{Passed}
 use Rattle.client_seats.proofs.seat.Seat.next_task.Given as goal
 

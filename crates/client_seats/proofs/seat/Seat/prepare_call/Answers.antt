@@ -1,6 +1,6 @@
 use Rattle.std.proofs.Common.{ap, ◌∙◌}
 use Rattle.seat_states.specs.declared.point.Point.TheVariants as points
-use Rattle.client_seats.specs.Seats.{seat_data}
+use Rattle.client_seats.specs.ClientSeatState.{seat_data}
 use Rattle.client_seats.proofs.Prepared.{on_ok, prepared_call, prepared_retry}
 use Rattle.client_seats.proofs.seat.Seat.prepare_call.Goals as goal
 

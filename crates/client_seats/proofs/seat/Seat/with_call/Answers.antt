@@ -1,7 +1,7 @@
 use Rattle.std.proofs.Common.{refl, sym, ap, ◌∙◌, None}
 use Rattle.std.proofs.lemmas.Option.{same_Some}
 use Rattle.sock_message.specs.Asked.{Asked, name_of}
-use Rattle.client_seats.specs.Seats.{seat_data}
+use Rattle.client_seats.specs.ClientSeatState.{seat_data}
 use Rattle.client_seats.proofs.Prepared.{retries_with, takes_on, no_retry, any_name}
 use Rattle.client_seats.proofs.seat.Seat.with_call.Goals as goal
 

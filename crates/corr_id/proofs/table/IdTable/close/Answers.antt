@@ -3,8 +3,8 @@ use Rattle.std.specs.Mem.Slots.{slots_items}
 use Rattle.atomic_table.specs.Table.{Final, Seen}
 use Rattle.corr_core.specs.declared.marks.Plan.{Plan}
 use Rattle.corr_id.specs.Ruled.{Ruled}
-use Rattle.corr_id.proofs.Ending.{closes}
-use Rattle.corr_id.proofs.Joins.{free_tokens}
+use Rattle.corr_id.proofs.IdCloseLoops.{closes}
+use Rattle.corr_id.proofs.JoiningIdSeats.{free_tokens}
 use Rattle.corr_id.proofs.table.IdTable.close.Goals as goal
 
 pub returns-clause-lists : goal.returns-clause-lists

@@ -1,7 +1,7 @@
 use Rattle.std.proofs.Common.{◌≡◌, ◌-◌, ◌<◌, ℕ}
 use Rattle.corr_core.specs.Law.{is_tried}
-use Rattle.id_rule.specs.Lawful.{notes_of}
-use Rattle.corr_id.specs.Calls.{Quiet}
+use Rattle.id_rule.specs.LawfulIdTable.{notes_of}
+use Rattle.corr_id.specs.SeatBehindIdCalls.{Quiet}
 use Rattle.corr_id.proofs.table.IdTable.create.Given as goal
 use Rattle.sock_words.specs.Totals.{total}
 

@@ -1,7 +1,7 @@
 use Rattle.std.proofs.Common.{◌≡◌, ◌+◌, ◌-◌, length, []}
 use Rattle.std.specs.Vec.{vec_len, vec_capacity}
-use Rattle.corr_id.specs.Opening.{AreNew}
-use Rattle.corr_id.proofs.Beginning.{stands_for}
+use Rattle.corr_id.specs.IdTableOpening.{AreNew}
+use Rattle.corr_id.proofs.BeginningOfIdTable.{stands_for}
 use Rattle.corr_id.proofs.table.IdTable.deal.Given as goal
 
 abbrev pub invariant-loop : goal.invariant-loop

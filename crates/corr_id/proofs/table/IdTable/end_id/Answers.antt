@@ -1,7 +1,7 @@
 use Rattle.std.proofs.Common.{arith, ap}
 use Rattle.corr_core.specs.Word.{parts}
-use Rattle.corr_id.proofs.Steps.{ending}
-use Rattle.corr_id.proofs.Becoming.{ended_became, retired_became}
+use Rattle.corr_id.proofs.CorrelationIdSteps.{ending}
+use Rattle.corr_id.proofs.SlotBehindViewChange.{ended_became, retired_became}
 use Rattle.corr_id.proofs.table.IdTable.end_id.Goals as goal
 
 pub swap-requires : goal.swap-requires

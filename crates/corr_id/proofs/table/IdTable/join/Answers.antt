@@ -1,5 +1,5 @@
 use Rattle.std.proofs.Common.{inr}
-use Rattle.corr_id.proofs.Doing.{found_noted}
+use Rattle.corr_id.proofs.TokensOfIdCalls.{found_noted}
 use Rattle.corr_id.proofs.table.IdTable.join.Goals as goal
 
 pub returns-then-lacks_id-clause-gone : goal.returns-then-lacks_id-clause-gone

@@ -1,5 +1,5 @@
 use Rattle.std.proofs.Common.{◌≡◌}
-use Rattle.corr_id.specs.Calls.{Quiet}
+use Rattle.corr_id.specs.SeatBehindIdCalls.{Quiet}
 use Rattle.corr_id.proofs.table.IdTable.join.Given as goal
 
 abbrev pub invariant-looks : goal.invariant-looks

@@ -1,6 +1,6 @@
 use Rattle.std.proofs.Common.{arith, ap}
 use Rattle.corr_core.specs.declared.marks.Plan.{Plan}
-use Rattle.corr_id.proofs.Steps.{loading}
+use Rattle.corr_id.proofs.CorrelationIdSteps.{loading}
 use Rattle.corr_id.proofs.table.IdTable.load_word.Goals as goal
 
 pub load-found-requires : goal.load-found-requires

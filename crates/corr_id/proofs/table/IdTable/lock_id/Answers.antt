@@ -3,11 +3,11 @@ use Rattle.corr_core.specs.Word.{parts}
 use Rattle.corr_core.specs.declared.marks.Hand.TheVariants.{Full}
 use Rattle.corr_core.specs.declared.marks.Token.TheVariants.{Locked}
 use Rattle.corr_core.specs.declared.marks.Note.TheVariants.{Saw, Locker}
-use Rattle.id_rule.specs.Plays.{LockFits}
-use Rattle.corr_id.specs.Calls.{Became, one, FoundUpTo, ReachedUpTo}
-use Rattle.corr_id.proofs.Steps.{locking}
-use Rattle.corr_id.proofs.Seats.{exchange_stays}
-use Rattle.corr_id.proofs.Becoming.{became_as, noted_token, became_note}
+use Rattle.id_rule.specs.IdPlays.{LockFits}
+use Rattle.corr_id.specs.SeatBehindIdCalls.{Became, one, FoundUpTo, ReachedUpTo}
+use Rattle.corr_id.proofs.CorrelationIdSteps.{locking}
+use Rattle.corr_id.proofs.IdSeatSplits.{exchange_stays}
+use Rattle.corr_id.proofs.SlotBehindViewChange.{became_as, noted_token, became_note}
 use Rattle.corr_id.proofs.table.IdTable.lock_id.Goals as goal
 
 pub compare_exchange-requires : goal.compare_exchange-requires

@@ -1,8 +1,8 @@
 use Rattle.std.proofs.Common.{◌≤◌, ℕ, Bool, true, false, ap, sym, refl, ◌∙◌, inr, ⊎_elim, subst, arith}
 use Rattle.corr_core.specs.Word.{Parts, parts, locked_word}
-use Rattle.corr_id.specs.Calls.{GotLock}
-use Rattle.corr_id.specs.Attempts.{IsOutside, IsWithin}
-use Rattle.corr_id.proofs.Doing.{found_noted, quiet_more, made_still, advanced_still, gone_behind, own_behind, got_after}
+use Rattle.corr_id.specs.SeatBehindIdCalls.{GotLock}
+use Rattle.corr_id.specs.LocksByAttempt.{IsOutside, IsWithin}
+use Rattle.corr_id.proofs.TokensOfIdCalls.{found_noted, quiet_more, made_still, advanced_still, gone_behind, own_behind, got_after}
 use Rattle.corr_id.proofs.table.IdTable.lock_within.Goals as goal
 
 -- a word that is locked has the versions that it had

@@ -4,12 +4,12 @@ use Rattle.corr_core.specs.declared.marks.Hand.TheVariants.{Empty, Full}
 use Rattle.corr_core.specs.declared.marks.Token.TheVariants.{Claimed}
 use Rattle.corr_core.specs.declared.marks.Note.TheVariants.{Made}
 use Rattle.corr_core.specs.Law.{is_made}
-use Rattle.id_rule.specs.Lawful.{notes_of}
-use Rattle.corr_id.specs.Calls.{is_at, Became, one}
-use Rattle.corr_id.proofs.Doing.{made_noted}
-use Rattle.corr_id.proofs.Becoming.{became_both}
+use Rattle.id_rule.specs.LawfulIdTable.{notes_of}
+use Rattle.corr_id.specs.SeatBehindIdCalls.{is_at, Became, one}
+use Rattle.corr_id.proofs.TokensOfIdCalls.{made_noted}
+use Rattle.corr_id.proofs.SlotBehindViewChange.{became_both}
 use Rattle.corr_id.proofs.table.IdTable.make.Goals as goal
-use Rattle.sock_words.specs.Words.{id_first}
+use Rattle.sock_words.specs.PackedWords.{id_first}
 use Rattle.sock_words.specs.Totals.{total}
 
 pub unreachable-requires : goal.unreachable-requires

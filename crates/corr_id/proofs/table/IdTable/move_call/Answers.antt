@@ -2,9 +2,9 @@ use Rattle.std.proofs.Common.{arith, ap, sym, ◌∙◌, subst, ℕ, ◌<◌, �
 use mathlib.Core.Option.{some-injective}
 use Rattle.atomic_table.specs.Table.{rest}
 use Rattle.corr_core.specs.declared.marks.Hand.TheVariants.{Out}
-use Rattle.id_rule.specs.Plays.{hand_of, with_hand, value_of}
-use Rattle.corr_id.proofs.Steps.{taking, giving}
-use Rattle.corr_id.proofs.Becoming.{top_value, moved_became, out_token, hand_out, out_leaves, out_fits}
+use Rattle.id_rule.specs.IdPlays.{hand_of, with_hand, value_of}
+use Rattle.corr_id.proofs.CorrelationIdSteps.{taking, giving}
+use Rattle.corr_id.proofs.SlotBehindViewChange.{top_value, moved_became, out_token, hand_out, out_leaves, out_fits}
 use Rattle.corr_id.proofs.table.IdTable.move_call.Goals as goal
 
 pub load-requires : goal.load-requires
@@ -26,7 +26,7 @@ load-requires-2 g c =
       c.exchange-found.ensures.0 ∙ (c.load.ensures.0 ∙ c.requires.seat.0),
       omega (arith, c.args.self.now.sized, c.tag_index-index.ensures),
       rw (c.tag_index-index.ensures) (giving c.args.self.now.table.shared.key c.args.self.now.table.shared.table_id.slots c.exchange-found.new.seat.id c.exchange-found.new.seat.me c.args.at c.requires.slot real (with_hand x.token Out) c.args.value (rest c.load.new.seat.me.1)
-          (out_token c.args.at v c.exchange-found.new.seat.me.0 x.token (f ∙ e)) (hand_out c.args.at x.token x.ready) (out_leaves c.args.at x.token x.ready) (out_fits c.args.at x.token (Rattle.id_rule.specs.Plays.hand_by c.args.value) x.fits) (ap (λ m. m.1) c.exchange-found.ensures.3)),
+          (out_token c.args.at v c.exchange-found.new.seat.me.0 x.token (f ∙ e)) (hand_out c.args.at x.token x.ready) (out_leaves c.args.at x.token x.ready) (out_fits c.args.at x.token (Rattle.id_rule.specs.IdPlays.hand_by c.args.value) x.fits) (ap (λ m. m.1) c.exchange-found.ensures.3)),
     )
 
 pub returns-clause-seat : goal.returns-clause-seat

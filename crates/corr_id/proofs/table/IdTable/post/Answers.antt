@@ -1,9 +1,9 @@
 use Rattle.std.proofs.Common.{ℕ, ◌≡◌, ap, sym, refl, ◌∙◌, subst, arith}
 use Rattle.corr_core.specs.Word.{Parts, parts}
 use Rattle.corr_core.specs.declared.marks.Note.TheVariants.{Queued}
-use Rattle.corr_id.specs.Calls.{FoundUpTo, GotLock}
-use Rattle.corr_id.specs.Posts.{IsTimely}
-use Rattle.corr_id.proofs.Doing.{found_noted, found_grows, up_to_more, became_grows, quiet_none, quiet_more, queued_did, error_is, was_two, got_after}
+use Rattle.corr_id.specs.SeatBehindIdCalls.{FoundUpTo, GotLock}
+use Rattle.corr_id.specs.PostAnswers.{IsTimely}
+use Rattle.corr_id.proofs.TokensOfIdCalls.{found_noted, found_grows, up_to_more, became_grows, quiet_none, quiet_more, queued_did, error_is, was_two, got_after}
 use Rattle.corr_id.proofs.table.IdTable.post.Goals as goal
 
 pub tries-init : goal.tries-init

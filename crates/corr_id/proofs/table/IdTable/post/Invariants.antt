@@ -1,5 +1,5 @@
 use Rattle.std.proofs.Common.{◌≡◌}
-use Rattle.corr_id.specs.Calls.{Quiet, Found}
+use Rattle.corr_id.specs.SeatBehindIdCalls.{Quiet, Found}
 use Rattle.corr_id.proofs.table.IdTable.post.Given as goal
 
 abbrev pub invariant-tries : goal.invariant-tries

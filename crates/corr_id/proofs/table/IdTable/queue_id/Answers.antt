@@ -1,10 +1,10 @@
 use Rattle.std.proofs.Common.{arith, ap, ◌∙◌, subst, ℕ, ◌≢◌}
 use Rattle.corr_core.specs.Word.{parts}
 use Rattle.corr_core.specs.declared.marks.Note.TheVariants.{Saw, Queued}
-use Rattle.corr_id.specs.Calls.{Became, one, FoundUpTo}
-use Rattle.corr_id.proofs.Steps.{queueing, queued_is, put_is}
-use Rattle.corr_id.proofs.Seats.{exchange_stays}
-use Rattle.corr_id.proofs.Becoming.{became_as, became_note}
+use Rattle.corr_id.specs.SeatBehindIdCalls.{Became, one, FoundUpTo}
+use Rattle.corr_id.proofs.CorrelationIdSteps.{queueing, queued_is, put_is}
+use Rattle.corr_id.proofs.IdSeatSplits.{exchange_stays}
+use Rattle.corr_id.proofs.SlotBehindViewChange.{became_as, became_note}
 use Rattle.corr_id.proofs.table.IdTable.queue_id.Goals as goal
 
 pub compare_exchange-requires : goal.compare_exchange-requires
@@ -20,9 +20,9 @@ returns-clause-seat g c = let t = c.compare_exchange.ensures.2 c.args.at c.id_in
 
 pub returns-clause-won : goal.returns-clause-won
 returns-clause-won g c = λ hit. let t = ((c.compare_exchange.ensures.2 c.args.at c.id_index-index.ensures).0 hit).0 in
-    let e = ap (Rattle.id_rule.specs.Plays.put_error (parts c.args.from)) (c.requires.next ∙ queued_is (parts c.args.from) c.args.error c.requires.from.0) ∙ put_is (parts c.args.from) c.args.error in
-    subst (λ (y : ℕ). Became c.args.at c.args.seat.now.me.0 c.compare_exchange.new.seat.me.0 (Rattle.id_rule.specs.Lawful.tokens_in c.args.at c.args.seat.now.me.0) (one c.args.at (Queued (parts y).first c.args.error))) hit
-    (subst (λ (y : ℕ). Became c.args.at c.args.seat.now.me.0 c.compare_exchange.new.seat.me.0 (Rattle.id_rule.specs.Lawful.tokens_in c.args.at c.args.seat.now.me.0) (one c.args.at (Queued (parts c.compare_exchange.result).first y))) e
+    let e = ap (Rattle.id_rule.specs.IdPlays.put_error (parts c.args.from)) (c.requires.next ∙ queued_is (parts c.args.from) c.args.error c.requires.from.0) ∙ put_is (parts c.args.from) c.args.error in
+    subst (λ (y : ℕ). Became c.args.at c.args.seat.now.me.0 c.compare_exchange.new.seat.me.0 (Rattle.id_rule.specs.LawfulIdTable.tokens_in c.args.at c.args.seat.now.me.0) (one c.args.at (Queued (parts y).first c.args.error))) hit
+    (subst (λ (y : ℕ). Became c.args.at c.args.seat.now.me.0 c.compare_exchange.new.seat.me.0 (Rattle.id_rule.specs.LawfulIdTable.tokens_in c.args.at c.args.seat.now.me.0) (one c.args.at (Queued (parts c.compare_exchange.result).first y))) e
     (became_as c.args.at (ap (λ m. m.0) t) (became_note c.args.at c.args.seat.now.me.0 _)))
 
 pub returns-clause-lost : goal.returns-clause-lost

@@ -1,6 +1,6 @@
 use Rattle.std.proofs.Common.{arith, ap}
 use Rattle.corr_core.specs.declared.marks.Plan.{Plan}
-use Rattle.corr_id.proofs.Steps.{storing}
+use Rattle.corr_id.proofs.CorrelationIdSteps.{storing}
 use Rattle.corr_id.proofs.table.IdTable.store_word.Goals as goal
 
 pub store-requires : goal.store-requires

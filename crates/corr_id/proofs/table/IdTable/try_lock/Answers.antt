@@ -1,6 +1,6 @@
 use Rattle.std.proofs.Common.{refl, ap}
 use Rattle.corr_core.specs.Word.{parts}
-use Rattle.corr_id.proofs.Doing.{quiet_none, quiet_more, found_noted, locked_next, locked_fits, got_lock}
+use Rattle.corr_id.proofs.TokensOfIdCalls.{quiet_none, quiet_more, found_noted, locked_next, locked_fits, got_lock}
 use Rattle.corr_id.proofs.table.IdTable.try_lock.Goals as goal
 
 pub returns-then-found-from-clause-lost : goal.returns-then-found-from-clause-lost

@@ -4,7 +4,7 @@ use Rattle.corr_core.specs.declared.marks.Hand.TheVariants.{Empty}
 use Rattle.corr_core.specs.declared.marks.Token.TheVariants.{Locked}
 use Rattle.corr_id.specs.Unlocks.{stale}
 use Rattle.corr_id.proofs.Measures.{timely, lost_less, won_less}
-use Rattle.corr_id.proofs.Stepping.{stepped_first, stepped_lost, stepped_next, replaced, opened_all, next_answer}
+use Rattle.corr_id.proofs.UnlockingExchanges.{stepped_first, stepped_lost, stepped_next, replaced, opened_all, next_answer}
 use Rattle.corr_id.proofs.table.IdTable.unlock.Goals as goal
 
 pub unreachable-requires : goal.unreachable-requires

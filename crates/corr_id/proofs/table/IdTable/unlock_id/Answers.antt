@@ -1,13 +1,13 @@
 use Rattle.std.proofs.Common.{arith, ap, ◌∙◌, ℕ}
 use Rattle.corr_core.specs.Word.{parts}
 use Rattle.corr_core.specs.declared.marks.Note.TheVariants.{Saw}
-use Rattle.id_rule.specs.Lawful.{with_note}
-use Rattle.id_rule.specs.Plays.{advanced_view, popped_view}
-use Rattle.corr_id.proofs.Steps.{unlocking}
-use Rattle.corr_id.proofs.Seats.{exchange_stays}
-use Rattle.corr_id.proofs.Becoming.{ticks, unlocked_became, relocked_became}
+use Rattle.id_rule.specs.LawfulIdTable.{with_note}
+use Rattle.id_rule.specs.IdPlays.{advanced_view, popped_view}
+use Rattle.corr_id.proofs.CorrelationIdSteps.{unlocking}
+use Rattle.corr_id.proofs.IdSeatSplits.{exchange_stays}
+use Rattle.corr_id.proofs.SlotBehindViewChange.{ticks, unlocked_became, relocked_became}
 use Rattle.corr_id.proofs.table.IdTable.unlock_id.Goals as goal
-use Rattle.sock_words.specs.Words.{bit}
+use Rattle.sock_words.specs.PackedWords.{bit}
 
 pub compare_exchange-requires : goal.compare_exchange-requires
 compare_exchange-requires g c = let w = parts c.args.from in (

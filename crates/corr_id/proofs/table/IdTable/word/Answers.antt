@@ -1,5 +1,5 @@
 use Rattle.std.proofs.Common.{arith}
-use Rattle.corr_id.proofs.Doing.{found_noted}
+use Rattle.corr_id.proofs.TokensOfIdCalls.{found_noted}
 use Rattle.corr_id.proofs.table.IdTable.word.Goals as goal
 
 pub returns-clause-found : goal.returns-clause-found

@@ -1,9 +1,9 @@
 use Rattle.std.proofs.lemmas.Result.{err_from_is_err_and}
 use Rattle.std.proofs.Common.{List, ℕ, Ok, ◌∙◌, subst}
 use Rattle.brpc_model.specs.FramesText.{frame_line}
-use Rattle.frame_print.specs.View.{frame_viewed}
-use Rattle.frame_print.specs.Written.{Gathers}
-use Rattle.frame_print.proofs.Steps.{gathers_written, gathers_waits, gathers_lost, kept_true, kept_false}
+use Rattle.frame_print.specs.FrameLineView.{frame_viewed}
+use Rattle.frame_print.specs.TextWrittenToSink.{Gathers}
+use Rattle.frame_print.proofs.ReadFeedCutSteps.{gathers_written, gathers_waits, gathers_lost, kept_true, kept_false}
 use Rattle.frame_print.proofs.lines.Lines.print.Goals as goal
 
 pub returns-in_err-flush : goal.returns-in_err-flush

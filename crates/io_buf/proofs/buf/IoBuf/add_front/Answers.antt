@@ -1,8 +1,8 @@
 use Rattle.std.proofs.Common.{◌≡◌, ℕ, ◌+◌, ◌-◌, min, List, [], ◌∷◌, ◌++◌, length, take, drop, map, arith, ap, sym, ◌∙◌, append_assoc, append-nil, length-append, length-take}
 use Rattle.std.specs.List.{concat}
 use Rattle.io_buf.specs.Buffer.{front_sizes}
-use Rattle.io_buf.proofs.Sizes.{front_sizes-zero}
-use Rattle.io_buf.proofs.Steps.{place_within, at_place, take-append_min, front_sizes-step}
+use Rattle.io_buf.proofs.ReferenceSizesAtEnds.{front_sizes-zero}
+use Rattle.io_buf.proofs.PieceLoopSteps.{place_within, at_place, take-append_min, front_sizes-step}
 use Rattle.io_buf.proofs.buf.IoBuf.add_front.Goals as goal
 
 pub loop-left-preserved : goal.loop-left-preserved

@@ -1,4 +1,4 @@
-use Rattle.io_buf.proofs.Sizes.{dropped_first}
+use Rattle.io_buf.proofs.ReferenceSizesAtEnds.{dropped_first}
 use Rattle.io_buf.proofs.buf.IoBuf.advance_first.Goals as goal
 
 pub returns-clause-sizes : goal.returns-clause-sizes

@@ -2,8 +2,8 @@ use Rattle.std.proofs.Common.{◌≡◌, ℕ, ◌<◌, ◌==◌, true, List, [],
 use Rattle.std.proofs.lemmas.Bool.{eqb-true, eqb-false, eq-eqb, MatchBool-at_true}
 use Rattle.std.proofs.lemmas.Result.{on_ok_weaker}
 use Rattle.io_buf.specs.Buffer.{Buffer, block_sizes}
-use Rattle.io_buf.proofs.Pieces.{no_sizes}
-use Rattle.io_buf.proofs.Sizes.{block_sizes-one}
+use Rattle.io_buf.proofs.PieceLists.{no_sizes}
+use Rattle.io_buf.proofs.ReferenceSizesAtEnds.{block_sizes-one}
 use Rattle.io_buf.proofs.buf.IoBuf.append_bytes.Goals as goal
 
 pub returns-then-is_empty-clause-empty : goal.returns-then-is_empty-clause-empty

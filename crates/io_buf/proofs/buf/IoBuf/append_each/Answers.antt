@@ -1,7 +1,7 @@
 use Rattle.std.proofs.Common.{◌≡◌, ℕ, List, ◌++◌, map, length, ◌∙◌, ap}
 use Rattle.std.proofs.lemmas.Result.{on_ok_weaker}
 use Rattle.io_buf.specs.Buffer.{Buffer, front_sizes}
-use Rattle.io_buf.proofs.Sizes.{front_sizes-whole}
+use Rattle.io_buf.proofs.ReferenceSizesAtEnds.{front_sizes-whole}
 use Rattle.io_buf.proofs.buf.IoBuf.append_each.Goals as goal
 
 pub returns-clause-sizes : goal.returns-clause-sizes

@@ -2,7 +2,7 @@ use Rattle.std.proofs.Common.{◌≡◌, ℕ, List, [], ◌∷◌, ◌++◌, len
 use Rattle.std.proofs.Math.Seq.{take-length}
 use Rattle.std.proofs.lemmas.Result.{on_ok_weaker}
 use Rattle.io_buf.specs.Buffer.{Buffer, front_sizes}
-use Rattle.io_buf.proofs.Sizes.{front_sizes-whole, rest_sizes-zero}
+use Rattle.io_buf.proofs.ReferenceSizesAtEnds.{front_sizes-whole, rest_sizes-zero}
 use Rattle.io_buf.proofs.buf.IoBuf.append_one.Goals as goal
 
 pub returns-clause-items : goal.returns-clause-items

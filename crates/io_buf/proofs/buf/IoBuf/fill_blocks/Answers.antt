@@ -1,8 +1,8 @@
 use Rattle.std.proofs.Common.{◌≡◌, ℕ, ◌+◌, ◌-◌, min, List, [], ◌∷◌, ◌++◌, length, take, drop, arith, ap, sym, ◌∙◌, append_assoc, length-take, length-drop}
 use Rattle.io_block.specs.declared.pool.TheConstants.{BLOCK_BYTES}
 use Rattle.io_buf.specs.Buffer.{block_sizes}
-use Rattle.io_buf.proofs.Sizes.{block_sizes-step}
-use Rattle.io_buf.proofs.Steps.{take-append-drop_on}
+use Rattle.io_buf.proofs.ReferenceSizesAtEnds.{block_sizes-step}
+use Rattle.io_buf.proofs.PieceLoopSteps.{take-append-drop_on}
 use Rattle.io_buf.proofs.buf.IoBuf.fill_blocks.Goals as goal
 
 pub loop-at-preserved : goal.loop-at-preserved

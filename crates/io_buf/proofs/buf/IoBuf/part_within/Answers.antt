@@ -3,7 +3,7 @@ use Rattle.std.proofs.lemmas.List.{length-map}
 use Rattle.std.specs.Prelude.{slice_index}
 use Rattle.std.specs.List.{concat}
 use Rattle.io_buf.specs.Buffer.{Buffer, front_sizes, rest_sizes}
-use Rattle.io_buf.proofs.Steps.{at_place, part_lies, part_sizes}
+use Rattle.io_buf.proofs.PieceLoopSteps.{at_place, part_lies, part_sizes}
 use Rattle.io_buf.proofs.buf.IoBuf.part_within.Goals as goal
 
 -- the first piece, and those behind it

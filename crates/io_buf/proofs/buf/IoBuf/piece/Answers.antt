@@ -1,6 +1,6 @@
 use Rattle.std.proofs.Common.{◌≡◌, ◌<◌, length, ap, subst, ◌∙◌, arith}
 use Rattle.std.proofs.lemmas.List.{length-map}
-use Rattle.io_buf.proofs.Pieces.{piece_lies}
+use Rattle.io_buf.proofs.PieceLists.{piece_lies}
 use Rattle.io_buf.specs.Buffer.{Buffer, piece_at}
 use Rattle.io_buf.proofs.buf.IoBuf.piece.Goals as goal
 

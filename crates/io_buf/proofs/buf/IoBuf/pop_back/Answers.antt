@@ -1,8 +1,8 @@
 use Rattle.std.proofs.Common.{◌≡◌, length, arith, ap, sym, refl, subst}
 use Rattle.std.proofs.lemmas.List.{take_all}
 use Rattle.io_buf.specs.Buffer.{Buffer, front_sizes}
-use Rattle.io_buf.proofs.Sizes.{front_sizes-whole}
-use Rattle.io_buf.proofs.Steps.{take_again, front_sizes_again}
+use Rattle.io_buf.proofs.ReferenceSizesAtEnds.{front_sizes-whole}
+use Rattle.io_buf.proofs.PieceLoopSteps.{take_again, front_sizes_again}
 use Rattle.io_buf.proofs.buf.IoBuf.pop_back.Goals as goal
 
 pub loop-self-init : goal.loop-self-init

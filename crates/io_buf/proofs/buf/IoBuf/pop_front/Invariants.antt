@@ -1,5 +1,5 @@
 use Rattle.std.proofs.Common.{length}
-use Rattle.io_buf.proofs.Fronts.{LosesFront}
+use Rattle.io_buf.proofs.BufferFronts.{LosesFront}
 use Rattle.io_buf.proofs.buf.IoBuf.pop_front.Given as goal
 
 abbrev pub invariant-loop-self : goal.invariant-loop-self

@@ -2,8 +2,8 @@ use Rattle.std.proofs.Common.{◌+◌, List, Some, length, map, arith, ap, sym, 
 use Rattle.std.proofs.lemmas.List.{map_push}
 use Rattle.std.proofs.lemmas.List.Elements.{All-pop}
 use Rattle.std.specs.List.{concat}
-use Rattle.io_buf.proofs.Pieces.{concat_push}
-use Rattle.io_buf.proofs.Sizes.{front_sizes-push}
+use Rattle.io_buf.proofs.PieceLists.{concat_push}
+use Rattle.io_buf.proofs.ReferenceSizesAtEnds.{front_sizes-push}
 use Rattle.io_buf.specs.Buffer.{Buffer, IsPiece, front_sizes}
 use Rattle.io_buf.proofs.buf.IoBuf.pop_last_piece.Goals as goal
 

@@ -2,7 +2,7 @@ use Rattle.std.proofs.Common.{List, [], ◌∷◌, ◌++◌, map, length, arith,
 use Rattle.std.proofs.lemmas.List.{map_push}
 use Rattle.std.proofs.lemmas.List.Elements.{All-push, All-same}
 use Rattle.std.specs.List.{concat}
-use Rattle.io_buf.proofs.Pieces.{concat_push, length-concat-le}
+use Rattle.io_buf.proofs.PieceLists.{concat_push, length-concat-le}
 use Rattle.io_buf.specs.Buffer.{Buffer, IsPiece}
 use Rattle.io_buf.proofs.buf.IoBuf.push_reserved.Goals as goal
 

@@ -1,6 +1,6 @@
 use Rattle.std.proofs.Common.{◌-◌, ◌+◌, ◌≤◌, length, arith, ap}
 use Rattle.io_buf.specs.Buffer.{Buffer}
-use Rattle.io_buf.proofs.Fronts.{LosesFront-start, LosesFront-step}
+use Rattle.io_buf.proofs.BufferFronts.{LosesFront-start, LosesFront-step}
 use Rattle.io_buf.proofs.buf.IoBuf.recycle_front.Goals as goal
 
 pub loop-self-init : goal.loop-self-init

@@ -1,6 +1,6 @@
 use Rattle.std.proofs.Common.{◌≡◌, subst, sum, length, All}
 use Rattle.std.proofs.lemmas.List.Elements.{All-map}
-use Rattle.io_buf.proofs.Pieces.{sum-sizes}
+use Rattle.io_buf.proofs.PieceLists.{sum-sizes}
 use Rattle.io_buf.specs.Buffer.{Buffer, IsSize}
 use Rattle.io_buf.proofs.buf.IoBuf.refs.Goals as goal
 

@@ -1,4 +1,4 @@
-use Rattle.io_buf.proofs.Sizes.{dropped_last}
+use Rattle.io_buf.proofs.ReferenceSizesAtEnds.{dropped_last}
 use Rattle.io_buf.proofs.buf.IoBuf.retreat_last.Goals as goal
 
 pub returns-else-n-len-clause-sizes : goal.returns-else-n-len-clause-sizes

@@ -1,7 +1,7 @@
 use Rattle.std.proofs.Common.{◌≡◌, ℕ, map, length, ap, sym, ◌∙◌}
 use Rattle.std.proofs.lemmas.Result.{IfOk-weaker}
 use Rattle.io_buf.specs.Buffer.{Buffer, front_sizes, rest_sizes}
-use Rattle.io_buf.proofs.Sizes.{front_sizes-whole, rest_sizes-zero}
+use Rattle.io_buf.proofs.ReferenceSizesAtEnds.{front_sizes-whole, rest_sizes-zero}
 use Rattle.io_buf.proofs.buf.IoBuf.share.Goals as goal
 
 pub returns-then-self-first_piece-clause-sizes : goal.returns-then-self-first_piece-clause-sizes

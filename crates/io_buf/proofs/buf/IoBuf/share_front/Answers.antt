@@ -1,7 +1,7 @@
 use Rattle.std.proofs.Common.{◌≡◌, ◌∙◌}
 use Rattle.std.proofs.lemmas.Result.{IfOk-weaker}
 use Rattle.io_buf.specs.Buffer.{Buffer, front_sizes, rest_sizes}
-use Rattle.io_buf.proofs.Sizes.{rest_sizes-zero}
+use Rattle.io_buf.proofs.ReferenceSizesAtEnds.{rest_sizes-zero}
 use Rattle.io_buf.proofs.buf.IoBuf.share_front.Goals as goal
 
 pub returns-then-n-first_piece-clause-sizes : goal.returns-then-n-first_piece-clause-sizes

@@ -2,7 +2,7 @@ use Rattle.std.proofs.Common.{◌≡◌, ℕ, ◌+◌, ◌-◌, min, List, ◌�
 use Rattle.std.proofs.lemmas.Slice.{take-put_mid}
 use Rattle.std.proofs.Math.Seq.{take-add}
 use Rattle.std.specs.List.{concat}
-use Rattle.io_buf.proofs.Steps.{place_within, at_place, copied, left}
+use Rattle.io_buf.proofs.PieceLoopSteps.{place_within, at_place, copied, left}
 use Rattle.io_buf.proofs.buf.copy.copy_from.Goals as goal
 
 pub loop-done-preserved : goal.loop-done-preserved

@@ -1,8 +1,8 @@
 use Rattle.std.proofs.Common.{sym, subst}
-use Rattle.sock_io.specs.Link.{IsServed}
-use Rattle.sock_io.specs.Memory.{MemInState, closing}
-use Rattle.loop_link.specs.Serving.{LoopInState, Settled, offer_of}
-use Rattle.loop_link.proofs.Links.{settled_open, settled_closed}
+use Rattle.sock_io.specs.LinkHalves.{IsServed}
+use Rattle.sock_io.specs.LinksInMemory.{MemInState, closing}
+use Rattle.loop_link.specs.ServingFedBytes.{LoopInState, Settled, offer_of}
+use Rattle.loop_link.proofs.LinkOffersStay.{settled_open, settled_closed}
 use Rattle.loop_link.proofs.loop_in.LoopIn.settle.Goals as goal
 
 pub returns-then-finished-clause-settled : goal.returns-then-finished-clause-settled

@@ -1,7 +1,7 @@
 use Rattle.std.proofs.Common.{refl, subst}
-use Rattle.sock_io.specs.Link.{TakeStep}
-use Rattle.loop_link.specs.Serving.{LoopInState, loop_in}
-use Rattle.loop_link.proofs.Links.{step_taken}
+use Rattle.sock_io.specs.LinkHalves.{TakeStep}
+use Rattle.loop_link.specs.ServingFedBytes.{LoopInState, loop_in}
+use Rattle.loop_link.proofs.LinkOffersStay.{step_taken}
 use Rattle.loop_link.proofs.loop_in.LoopInIn.take.Goals as goal
 
 pub returns : goal.returns

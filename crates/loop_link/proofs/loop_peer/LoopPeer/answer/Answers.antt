@@ -1,7 +1,7 @@
 use Rattle.std.proofs.Common.{◌<◌, Bool, false, length, take, drop, ap, sym, ◌∙◌, arith, rules}
-use Rattle.sock_io.specs.Memory.{MemInState}
-use Rattle.loop_link.specs.Serving.{LoopPeerState, ending_for}
-use Rattle.loop_link.proofs.Links.{answers_idle, answers_over, answers_served}
+use Rattle.sock_io.specs.LinksInMemory.{MemInState}
+use Rattle.loop_link.specs.ServingFedBytes.{LoopPeerState, ending_for}
+use Rattle.loop_link.proofs.LinkOffersStay.{answers_idle, answers_over, answers_served}
 use Rattle.loop_link.proofs.loop_peer.LoopPeer.answer.Goals as goal
 
 pub returns-then-not-serves-clause-ok : goal.returns-then-not-serves-clause-ok

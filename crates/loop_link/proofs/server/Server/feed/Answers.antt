@@ -1,7 +1,7 @@
 use Rattle.std.proofs.Common.{◌≡◌, ◌++◌, sym, ◌∙◌, subst}
-use Rattle.loop_link.specs.Serving.{Follows, NewReplies}
+use Rattle.loop_link.specs.ServingFedBytes.{Follows, NewReplies}
 use Rattle.rpc_server.specs.Feeding.{has_fault}
-use Rattle.loop_link.proofs.Following.{follows_next, new_replies}
+use Rattle.loop_link.proofs.RepliesFollowingPieces.{follows_next, new_replies}
 use Rattle.loop_link.proofs.server.Server.feed.Goals as goal
 
 pub invariant_of-server : goal.invariant_of-server

@@ -1,10 +1,10 @@
 use Rattle.std.proofs.Common.{inr, refl, arith, ap, map, ◌∙◌}
-use Rattle.seat_programs.specs.Scripts.{sizes_of}
-use Rattle.seat_states.specs.Points.{next_program}
-use Rattle.client_seats.specs.Seats.{seat_data, around}
-use Rattle.seat_states.specs.Points.{after_ready}
-use Rattle.sock_io.specs.Link.{end_of}
-use Rattle.machine_steps.proofs.Stepping.{written, makes_along, goes, link_asked, same_sizes, asked_in}
+use Rattle.seat_programs.specs.ScriptSetupToEnding.{sizes_of}
+use Rattle.seat_states.specs.SeatPoints.{next_program}
+use Rattle.client_seats.specs.ClientSeatState.{seat_data, around}
+use Rattle.seat_states.specs.SeatPoints.{after_ready}
+use Rattle.sock_io.specs.LinkHalves.{end_of}
+use Rattle.machine_steps.proofs.SeatBehindEachStep.{written, makes_along, goes, link_asked, same_sizes, asked_in}
 use Rattle.seat_states.proofs.StepFacts.{asks}
 use Rattle.machine_model.specs.Machines.{table_sizes}
 use Rattle.machine_tables.proofs.table.Table.ask_ready.Goals as goal

@@ -1,17 +1,17 @@
 use Rattle.std.proofs.Common.{refl, arith, ap, ◌∙◌, subst, sym, inl, ℕ, List}
-use Rattle.sock_io.specs.Link.{end_of}
+use Rattle.sock_io.specs.LinkHalves.{end_of}
 use Rattle.seat_programs.specs.StepTables.{word_of}
 use Rattle.seat_programs.specs.Cores.{found_at}
-use Rattle.call_points.specs.Steps.{after_word}
-use Rattle.seat_states.specs.Points.{next_program}
-use Rattle.seat_states.specs.Steps.{step_of}
+use Rattle.call_points.specs.AsideCodeSteps.{after_word}
+use Rattle.seat_states.specs.SeatPoints.{next_program}
+use Rattle.seat_states.specs.ProgramStepsOfMachine.{step_of}
 use Rattle.seat_states.proofs.StepFacts.{goes_by_word}
-use Rattle.client_seats.specs.Seats.{seat_data, around, seat_program}
-use Rattle.seat_programs.specs.Scripts.{sizes_of}
+use Rattle.client_seats.specs.ClientSeatState.{seat_data, around, seat_program}
+use Rattle.seat_programs.specs.ScriptSetupToEnding.{sizes_of}
 use Rattle.machine_model.specs.Machines.{TableState, table_sizes}
-use Rattle.machine_model.specs.Steps.{IsReady, MayGoOn}
-use Rattle.machine_model.specs.Telling.{waits_by}
-use Rattle.machine_steps.proofs.Stepping.{written, makes_along, goes, halves_in}
+use Rattle.machine_model.specs.MachineSteps.{IsReady, MayGoOn}
+use Rattle.machine_model.specs.TickAnswersOfStep.{waits_by}
+use Rattle.machine_steps.proofs.SeatBehindEachStep.{written, makes_along, goes, halves_in}
 use Rattle.machine_model.proofs.TableRoom.{room_for}
 use Rattle.machine_steps.proofs.TableGoes.{may_next, next_is, flat_next}
 use Rattle.machine_tables.proofs.table.Table.make_call.Goals as goal

@@ -1,14 +1,14 @@
 use Rattle.std.proofs.Common.{◌≡◌, refl, arith, ap, map, sym, ◌∙◌, inr, Some, option_map}
-use Rattle.sock_io.specs.Link.{end_of}
-use Rattle.seat_programs.specs.Scripts.{sizes_of}
-use Rattle.seat_programs.specs.Parts.{part}
+use Rattle.sock_io.specs.LinkHalves.{end_of}
+use Rattle.seat_programs.specs.ScriptSetupToEnding.{sizes_of}
+use Rattle.seat_programs.specs.BufferParts.{part}
 use Rattle.message_parts.specs.Parcels.{outgoing_of}
-use Rattle.seat_states.specs.Points.{next_program, parts_by, is_whole}
+use Rattle.seat_states.specs.SeatPoints.{next_program, parts_by, is_whole}
 use Rattle.seat_states.proofs.StepFacts.{puts_piece}
-use Rattle.client_seats.specs.Seats.{seat_data, around, left_of, taken_of, left_parts_of}
+use Rattle.client_seats.specs.ClientSeatState.{seat_data, around, left_of, taken_of, left_parts_of}
 use Rattle.machine_model.specs.Machines.{table_sizes}
-use Rattle.machine_model.specs.Steps.{left_behind, taken_behind}
-use Rattle.machine_steps.proofs.Stepping.{written, makes_along, goes, link_asked, put_is, put_part, asked_bytes, asked_in}
+use Rattle.machine_model.specs.MachineSteps.{left_behind, taken_behind}
+use Rattle.machine_steps.proofs.SeatBehindEachStep.{written, makes_along, goes, link_asked, put_is, put_part, asked_bytes, asked_in}
 use Rattle.machine_tables.proofs.table.Table.put_bytes.Goals as goal
 
 pub put_answered-next-requires : goal.put_answered-next-requires

@@ -3,14 +3,14 @@ use mathlib.Core.Option as core
 use Rattle.corr_core.specs.declared.marks.Plan.{Plan as IdPlan}
 use Rattle.sock_message.specs.Asked.{Asked}
 use Rattle.seat_programs.specs.Asides as asides
-use Rattle.seat_programs.specs.Scripts.{sizes_of}
+use Rattle.seat_programs.specs.ScriptSetupToEnding.{sizes_of}
 use Rattle.call_points.specs.declared.aside.Aside.TheVariants as steps
-use Rattle.call_slots.specs.Steps as slots
-use Rattle.seat_states.specs.Points.{next_program}
-use Rattle.client_seats.specs.Seats.{seat_data, around, asked_or_nothing}
+use Rattle.call_slots.specs.CallSlotSteps as slots
+use Rattle.seat_states.specs.SeatPoints.{next_program}
+use Rattle.client_seats.specs.ClientSeatState.{seat_data, around, asked_or_nothing}
 use Rattle.machine_model.specs.Machines.{TableState, table_sizes}
-use Rattle.machine_model.specs.Steps.{IsReady, FoundBeside}
-use Rattle.machine_steps.proofs.Stepping.{written, goes}
+use Rattle.machine_model.specs.MachineSteps.{IsReady, FoundBeside}
+use Rattle.machine_steps.proofs.SeatBehindEachStep.{written, goes}
 use Rattle.machine_steps.proofs.TableAsides.{goes_by_word, same_ids, slots_kept, made_aside}
 use Rattle.machine_steps.proofs.TableGoes.{may_next, next_is}
 use Rattle.machine_tables.proofs.table.Table.put_call.Goals as goal

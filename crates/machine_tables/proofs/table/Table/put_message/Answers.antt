@@ -1,13 +1,13 @@
 use Rattle.std.proofs.Common.{refl, arith, ap, length, ◌∙◌, inl, Some, slice_set}
-use Rattle.seat_programs.specs.Calls as calls
-use Rattle.seat_programs.specs.Scripts.{sizes_of}
+use Rattle.seat_programs.specs.TableSteps as calls
+use Rattle.seat_programs.specs.ScriptSetupToEnding.{sizes_of}
 use Rattle.seat_states.specs.declared.point.Step.TheVariants as firsts
-use Rattle.seat_states.specs.Points.{next_program, heading_by}
+use Rattle.seat_states.specs.SeatPoints.{next_program, heading_by}
 use Rattle.seat_states.proofs.StepFacts.{goes_by_word}
-use Rattle.client_seats.specs.Seats.{seat_data, around, bytes_of, parts_of, message_in}
-use Rattle.machine_model.specs.Letters.{letters_in}
+use Rattle.client_seats.specs.ClientSeatState.{seat_data, around, bytes_of, parts_of, message_in}
+use Rattle.machine_model.specs.LetterHomes.{letters_in}
 use Rattle.machine_model.specs.Machines.{TableState, table_sizes}
-use Rattle.machine_steps.proofs.Stepping.{written, makes_along, goes, next_along}
+use Rattle.machine_steps.proofs.SeatBehindEachStep.{written, makes_along, goes, next_along}
 use Rattle.machine_steps.proofs.TableCuts.{on_err, cut_along, cut_ids}
 use Rattle.machine_model.proofs.TableRoom.{room_for}
 use Rattle.machine_steps.proofs.TableGoes.{may_next, hand_put, put_next, put_flat}

@@ -2,7 +2,7 @@ use Rattle.std.proofs.Common.{◌≡◌, refl, ap, ◌∙◌, sym, subst}
 use Rattle.call_points.specs.declared.aside.Aside.TheVariants as variants
 use Rattle.reader_points.specs.declared.point.ReadStep.{ReadStep}
 use Rattle.reader_points.specs.declared.point.ReadStep.TheVariants as steps
-use Rattle.machine_model.specs.Reading.{IsNextRead, IsFitRead}
+use Rattle.machine_model.specs.ReadingSteps.{IsNextRead, IsFitRead}
 use Rattle.machine_steps.proofs.TableAsides.{same_ids, slots_kept}
 use Rattle.machine_steps.proofs.TableCuts.{cut_ids, cut_along}
 use Rattle.machine_steps.proofs.TableReadings.{told_along, next_along, taken_told, step_along}

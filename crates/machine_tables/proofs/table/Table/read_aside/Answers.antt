@@ -1,8 +1,8 @@
 use Rattle.std.proofs.Common.{refl, arith, ap, ◌∙◌, length, ℕ, List}
-use Rattle.call_points.specs.Steps.{after_word}
+use Rattle.call_points.specs.AsideCodeSteps.{after_word}
 use Rattle.reader_points.specs.declared.point.ReadStep.TheVariants as steps
-use Rattle.reader_seats.specs.Readers.{around, reader_program}
-use Rattle.machine_steps.proofs.Stepping.{written}
+use Rattle.reader_seats.specs.ReaderState.{around, reader_program}
+use Rattle.machine_steps.proofs.SeatBehindEachStep.{written}
 use Rattle.machine_steps.proofs.TableAsides.{same_ids, slots_kept}
 use Rattle.machine_steps.proofs.TableCuts.{cut_ids, cut_along}
 use Rattle.machine_steps.proofs.TableReadings.{told_along, next_along, goes_as, awaited_at, aside_waited, aside_moved}

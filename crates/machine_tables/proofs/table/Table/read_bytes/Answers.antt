@@ -1,18 +1,18 @@
 use Rattle.std.proofs.Common.{◌≡◌, refl, arith, ap, sym, ◌∙◌, length, take, subst, ℕ, Bool, true, false, List}
 use Rattle.std.proofs.Math.Seq.{map-set_same}
 use Rattle.sock_io.specs.declared.link.Take.TheVariants as takes
-use Rattle.sock_io.specs.Link.{end_of}
+use Rattle.sock_io.specs.LinkHalves.{end_of}
 use Rattle.reader_points.specs.declared.point.ReadStep.TheVariants as steps
 use Rattle.call_points.specs.declared.aside.Aside.TheVariants as variants
-use Rattle.reader_points.specs.Steps.{after_taking}
+use Rattle.reader_points.specs.ReaderCodeSteps.{after_taking}
 use Rattle.seat_programs.specs.Asides.{Nothing}
-use Rattle.seat_programs.specs.Beside.{at_last}
+use Rattle.seat_programs.specs.FoundAndChangedAside.{at_last}
 use Rattle.seat_programs.specs.Ticks.{OfTake, is_nothing}
-use Rattle.reader_seats.specs.Readers.{around, reader_program}
-use Rattle.reader_seats.specs.GoesOn.{GoesOn, taking_of}
+use Rattle.reader_seats.specs.ReaderState.{around, reader_program}
+use Rattle.reader_seats.specs.ReaderGoesOn.{GoesOn, taking_of}
 use Rattle.machine_model.specs.declared.tick.On.TheVariants as on
 use Rattle.machine_model.specs.declared.tick.Tick.TheVariants.{Waits}
-use Rattle.machine_steps.proofs.Stepping.{written}
+use Rattle.machine_steps.proofs.SeatBehindEachStep.{written}
 use Rattle.machine_steps.proofs.TableCuts.{cut_halves, cut_take, cut_along, on_err}
 use Rattle.machine_steps.proofs.TableReads.{reads_bytes, fills, takes_again}
 use Rattle.machine_steps.proofs.TableReadings.{next_along, told_along, goes_as, take_told}

@@ -1,12 +1,12 @@
 use Rattle.std.proofs.Common.{refl, arith, ap, ◌∙◌, length, ℕ, List}
-use Rattle.sock_io.specs.Link.{end_of}
+use Rattle.sock_io.specs.LinkHalves.{end_of}
 use Rattle.seat_programs.specs.StepTables.{word_of}
 use Rattle.seat_programs.specs.Cores.{found_at}
-use Rattle.call_points.specs.Steps.{after_word}
-use Rattle.seat_states.specs.Steps.{step_of}
+use Rattle.call_points.specs.AsideCodeSteps.{after_word}
+use Rattle.seat_states.specs.ProgramStepsOfMachine.{step_of}
 use Rattle.reader_points.specs.declared.point.ReadStep.TheVariants as steps
-use Rattle.reader_seats.specs.Readers.{around, reader_program}
-use Rattle.machine_steps.proofs.Stepping.{written, halves_in}
+use Rattle.reader_seats.specs.ReaderState.{around, reader_program}
+use Rattle.machine_steps.proofs.SeatBehindEachStep.{written, halves_in}
 use Rattle.machine_steps.proofs.TableCuts.{cut_call, cut_along}
 use Rattle.machine_steps.proofs.TableReadings.{told_along, next_along, goes_as, awaited_at, call_waited, call_moved}
 use Rattle.machine_tables.proofs.table.Table.read_call.Goals as goal

@@ -1,12 +1,12 @@
 use Rattle.std.proofs.Common.{◌≢◌, ◌∙◌, refl, sym, subst, inr, ⊎_elim}
-use Rattle.seat_programs.specs.Calls as calls
+use Rattle.seat_programs.specs.TableSteps as calls
 use Rattle.sock_io.specs.declared.link.Ready.TheVariants as asks
 use Rattle.seat_states.specs.declared.point.Step.{Step}
 use Rattle.seat_states.specs.declared.point.Step.TheVariants as firsts
-use Rattle.seat_states.specs.Points.{heading_by}
-use Rattle.client_seats.specs.Seats.{seat_data, around, seat_program, bytes_of, parts_of}
+use Rattle.seat_states.specs.SeatPoints.{heading_by}
+use Rattle.client_seats.specs.ClientSeatState.{seat_data, around, seat_program, bytes_of, parts_of}
 use Rattle.machine_model.specs.Machines.{table_sizes}
-use Rattle.machine_model.specs.Steps.{IsNext, IsFitStep}
+use Rattle.machine_model.specs.MachineSteps.{IsNext, IsFitStep}
 use Rattle.machine_model.proofs.Tellings.{call_moved, call_waited, letter_moved, message_moved, link_moved, home_moved, put_moved, ready_moved, ready_waited}
 use Rattle.machine_model.proofs.TableRoom.{needs, puts_none}
 use Rattle.machine_steps.proofs.TableTellings.{told_aside}

@@ -2,9 +2,9 @@ use Rattle.std.proofs.Common.{◌≡◌, refl, ℕ, subst}
 use Rattle.call_points.specs.declared.aside.Aside.TheVariants as steps
 use Rattle.call_points.specs.declared.aside.Aside as code
 use Rattle.seat_states.specs.declared.point.Step.TheVariants as firsts
-use Rattle.client_seats.specs.Seats.{seat_data, around, asked_or_nothing}
+use Rattle.client_seats.specs.ClientSeatState.{seat_data, around, asked_or_nothing}
 use Rattle.machine_model.specs.Machines.{table_sizes}
-use Rattle.machine_model.specs.Steps.{IsNext, IsFitStep, IsOnWord}
+use Rattle.machine_model.specs.MachineSteps.{IsNext, IsFitStep, IsOnWord}
 use Rattle.machine_model.proofs.Tellings.{aside_moved, aside_waited}
 use Rattle.machine_steps.proofs.TableAsides.{takes_none}
 use Rattle.machine_steps.proofs.TableTellings.{moved_aside}

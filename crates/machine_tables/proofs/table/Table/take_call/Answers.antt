@@ -1,14 +1,14 @@
 use Rattle.std.proofs.Common.{◌<◌, refl, arith, ap, ◌∙◌, subst, sym, inr}
 use Rattle.corr_core.specs.declared.marks.Plan.{Plan as IdPlan}
 use Rattle.seat_programs.specs.Programs.{Program}
-use Rattle.seat_programs.specs.Scripts.{sizes_of}
+use Rattle.seat_programs.specs.ScriptSetupToEnding.{sizes_of}
 use Rattle.call_points.specs.declared.aside.Aside.TheVariants as steps
-use Rattle.call_points.specs.Steps.{after_call}
+use Rattle.call_points.specs.AsideCodeSteps.{after_call}
 use Rattle.seat_states.specs.declared.point.Step.TheVariants as firsts
-use Rattle.seat_states.specs.Points.{next_program}
-use Rattle.client_seats.specs.Seats.{SeatData, seat_data, around}
+use Rattle.seat_states.specs.SeatPoints.{next_program}
+use Rattle.client_seats.specs.ClientSeatState.{SeatData, seat_data, around}
 use Rattle.machine_model.specs.Machines.{TableState, table_sizes}
-use Rattle.machine_steps.proofs.Stepping.{written, makes_along, goes, next_along, same_sizes}
+use Rattle.machine_steps.proofs.SeatBehindEachStep.{written, makes_along, goes, next_along, same_sizes}
 use Rattle.machine_steps.proofs.TableAsides.{behind_call, takes_call, same_ids, slots_kept}
 use Rattle.machine_steps.proofs.TableCuts.{cut_ids, cut_along}
 use Rattle.machine_tables.proofs.table.Table.take_call.Goals as goal

@@ -1,14 +1,14 @@
 use Rattle.std.proofs.Common.{◌≡◌, refl, arith, ap, sym, subst, ◌∙◌, slice_set, Some, None, inr, option_map}
 use mathlib.Core.Option.{some}
 use lib.ListN.{get_elem?}
-use Rattle.seat_programs.specs.Scripts.{sizes_of}
+use Rattle.seat_programs.specs.ScriptSetupToEnding.{sizes_of}
 use Rattle.message_parts.specs.Parcels.{parcel_of, outgoing_of}
-use Rattle.seat_states.specs.Points.{next_program}
+use Rattle.seat_states.specs.SeatPoints.{next_program}
 use Rattle.seat_states.proofs.StepFacts.{takes_message}
-use Rattle.client_seats.specs.Seats.{seat_data, around}
-use Rattle.machine_model.specs.Letters.{letters_in}
+use Rattle.client_seats.specs.ClientSeatState.{seat_data, around}
+use Rattle.machine_model.specs.LetterHomes.{letters_in}
 use Rattle.machine_model.specs.Machines.{TableState, table_sizes}
-use Rattle.machine_steps.proofs.Stepping.{written, makes_along, goes, message_is}
+use Rattle.machine_steps.proofs.SeatBehindEachStep.{written, makes_along, goes, message_is}
 use Rattle.machine_tables.proofs.table.Table.take_message.Goals as goal
 
 pub with_message-next-requires : goal.with_message-next-requires

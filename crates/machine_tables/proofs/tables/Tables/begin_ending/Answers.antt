@@ -1,12 +1,12 @@
 use Rattle.std.proofs.Common.{◌<◌, ℕ, List, refl, length, ap, ap₂, ◌∙◌, arith}
 use Rattle.std.proofs.Math.ListN.{length-map}
 use Rattle.std.proofs.lemmas.List.{map-set}
-use Rattle.seat_programs.specs.Clients.{ending_of}
+use Rattle.seat_programs.specs.ClientProgram.{ending_of}
 use Rattle.seat_programs.specs.Cores.{next_step}
-use Rattle.seat_programs.specs.Scripts.{sizes_of}
-use Rattle.client_seats.specs.Seats.{SeatData, seat_data, retries}
+use Rattle.seat_programs.specs.ScriptSetupToEnding.{sizes_of}
+use Rattle.client_seats.specs.ClientSeatState.{SeatData, seat_data, retries}
 use Rattle.machine_model.specs.Machines.{MachineState}
-use Rattle.machine_steps.proofs.Places.{view_of, seat_there, began_along}
+use Rattle.machine_steps.proofs.SeatMemoryPlaces.{view_of, seat_there, began_along}
 use Rattle.machine_tables.proofs.tables.Tables.begin_ending.Goals as goal
 
 pub returns : goal.returns

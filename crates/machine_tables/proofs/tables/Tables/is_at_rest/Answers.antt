@@ -1,11 +1,11 @@
 use Rattle.std.proofs.Common.{arith, subst, sym, ap, None}
 use Rattle.seat_states.specs.declared.point.Point.{Point}
-use Rattle.seat_states.specs.Points.{point_program}
-use Rattle.seat_states.specs.Steps.{first_in}
-use Rattle.client_seats.specs.Seats.{seat_data, around}
+use Rattle.seat_states.specs.SeatPoints.{point_program}
+use Rattle.seat_states.specs.ProgramStepsOfMachine.{first_in}
+use Rattle.client_seats.specs.ClientSeatState.{seat_data, around}
 use Rattle.machine_model.specs.Machines.{MachineState, table_sizes}
-use Rattle.machine_model.specs.Steps.{HasNoStep}
-use Rattle.machine_steps.proofs.Places.{unnamed}
+use Rattle.machine_model.specs.MachineSteps.{HasNoStep}
+use Rattle.machine_steps.proofs.SeatMemoryPlaces.{unnamed}
 use Rattle.machine_tables.proofs.tables.Tables.is_at_rest.Goals as goal
 
 pub returns-then-at-len : goal.returns-then-at-len

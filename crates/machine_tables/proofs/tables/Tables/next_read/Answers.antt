@@ -1,7 +1,7 @@
 use Rattle.std.proofs.Common.{arith, subst, IfSome, IfNone}
 use Rattle.machine_model.specs.Machines.{MachineState}
-use Rattle.machine_model.specs.Reading.{NextReadIs, HasNoRead}
-use Rattle.machine_steps.proofs.Places.{view_of}
+use Rattle.machine_model.specs.ReadingSteps.{NextReadIs, HasNoRead}
+use Rattle.machine_steps.proofs.SeatMemoryPlaces.{view_of}
 use Rattle.machine_steps.proofs.TablePlaces.{read_named, read_unnamed, read_past}
 use Rattle.machine_tables.proofs.tables.Tables.next_read.Goals as goal
 

@@ -1,11 +1,11 @@
 use Rattle.std.proofs.Common.{arith, subst, sym, ap, None, IfSome, IfNone}
 use Rattle.seat_states.specs.declared.point.Point.{Point}
-use Rattle.seat_states.specs.Points.{point_program}
-use Rattle.seat_states.specs.Steps.{first_in}
-use Rattle.client_seats.specs.Seats.{seat_data, around}
+use Rattle.seat_states.specs.SeatPoints.{point_program}
+use Rattle.seat_states.specs.ProgramStepsOfMachine.{first_in}
+use Rattle.client_seats.specs.ClientSeatState.{seat_data, around}
 use Rattle.machine_model.specs.Machines.{MachineState, table_sizes}
-use Rattle.machine_model.specs.Steps.{NextIs, HasNoStep, ReadyAt, StandsAt}
-use Rattle.machine_steps.proofs.Places.{seat_there, named, unnamed, past}
+use Rattle.machine_model.specs.MachineSteps.{NextIs, HasNoStep, ReadyAt, StandsAt}
+use Rattle.machine_steps.proofs.SeatMemoryPlaces.{seat_there, named, unnamed, past}
 use Rattle.machine_tables.proofs.tables.Tables.next_step.Goals as goal
 
 pub step-requires : goal.step-requires

@@ -1,7 +1,7 @@
 use Rattle.std.proofs.Common.{refl, arith, ap, ◌∙◌, sym}
 use Rattle.seat_states.specs.declared.point.SendStep.TheVariants as sends
 use Rattle.seat_states.specs.declared.point.Point.TheVariants as points
-use Rattle.machine_steps.proofs.Passing.{passed_request, passed_slot, passed_along}
+use Rattle.machine_steps.proofs.PassingSteps.{passed_request, passed_slot, passed_along}
 use Rattle.machine_tables.proofs.tables.Tables.pass.Goals.{in-Send-default-Claim+else-not-passes_request, in-Call-ClaimId+else-not-passes_slot, in-Send+in-Look-1, in-Call+in-LoadName-1, in-Rest-1}
 use Rattle.machine_tables.proofs.tables.Tables.pass.Goals as goal
 

@@ -1,10 +1,10 @@
 use Rattle.std.proofs.Common.{◌<◌, refl, length, ap, ◌∙◌, arith, slice_set, ℕ}
 use Rattle.std.proofs.Math.ListN.{length-map}
 use Rattle.std.proofs.lemmas.List.{map-set}
-use Rattle.seat_programs.specs.Scripts.{sizes_of}
-use Rattle.client_seats.specs.Seats.{seat_data}
+use Rattle.seat_programs.specs.ScriptSetupToEnding.{sizes_of}
+use Rattle.client_seats.specs.ClientSeatState.{seat_data}
 use Rattle.machine_model.specs.Machines.{MachineState}
-use Rattle.machine_steps.proofs.Places.{view_of, seat_there}
+use Rattle.machine_steps.proofs.SeatMemoryPlaces.{view_of, seat_there}
 use Rattle.machine_steps.proofs.TablePlaces.{same_many, prepared_at, prepared_along}
 use Rattle.machine_steps.proofs.TableCuts.{cut_none, cut_machine, short_along}
 use Rattle.machine_tables.proofs.tables.Tables.prepare.Goals as goal

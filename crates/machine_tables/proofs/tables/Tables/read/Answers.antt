@@ -1,8 +1,8 @@
 use Rattle.std.proofs.Common.{refl, sym, subst, arith}
 use Rattle.std.proofs.Math.ListN.{length-set}
 use Rattle.machine_model.specs.Machines.{MachineState, table_of, IsSized}
-use Rattle.machine_model.specs.Reading.{ReadFits}
-use Rattle.machine_steps.proofs.Places.{view_of}
+use Rattle.machine_model.specs.ReadingSteps.{ReadFits}
+use Rattle.machine_steps.proofs.SeatMemoryPlaces.{view_of}
 use Rattle.machine_steps.proofs.TablePlaces.{reader_within, fit_here, read_told, read_in, read_along}
 use Rattle.machine_steps.proofs.TableCuts.{cut_none, cut_machine, short_along}
 use Rattle.machine_tables.proofs.tables.Tables.read.Goals as goal

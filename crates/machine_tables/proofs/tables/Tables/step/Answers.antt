@@ -1,8 +1,8 @@
 use Rattle.std.proofs.Common.{refl, arith, subst, sym, inl}
 use Rattle.machine_model.specs.Machines.{MachineState, table_of, IsSized}
-use Rattle.machine_model.specs.Steps.{ReadyAt, StepFits}
-use Rattle.client_seats.specs.Seats.{seat_data}
-use Rattle.machine_steps.proofs.Places.{seat_within, fit_here, told_here, next_in, told_along}
+use Rattle.machine_model.specs.MachineSteps.{ReadyAt, StepFits}
+use Rattle.client_seats.specs.ClientSeatState.{seat_data}
+use Rattle.machine_steps.proofs.SeatMemoryPlaces.{seat_within, fit_here, told_here, next_in, told_along}
 use Rattle.machine_steps.proofs.TablePlaces.{same_many}
 use Rattle.machine_steps.proofs.TableCuts.{cut_none, cut_machine, short_along}
 use Rattle.machine_tables.proofs.tables.Tables.step.Goals as goal

@@ -2,8 +2,8 @@ use Rattle.std.proofs.Common.{refl, arith, inr, subst, sym}
 use Rattle.std.proofs.lemmas.Bool.{false≢true}
 use Rattle.machine_model.specs.Machines.{MachineState, table_of, IsSized}
 use Rattle.machine_model.specs.Driving.{IsPlain}
-use Rattle.machine_model.specs.Steps.{ReadyAt, StepFits}
-use Rattle.machine_steps.proofs.Places.{seat_within, fit_here, plain_here, told_here, next_in, told_along}
+use Rattle.machine_model.specs.MachineSteps.{ReadyAt, StepFits}
+use Rattle.machine_steps.proofs.SeatMemoryPlaces.{seat_within, fit_here, plain_here, told_here, next_in, told_along}
 use Rattle.machine_steps.proofs.TablePlaces.{tick_as}
 use Rattle.machine_tables.proofs.tables.Tables.step_first.Goals as goal
 use Rattle.machine_tables.proofs.tables.Tables.step_first.Goals.{in-Ok, in-Err}

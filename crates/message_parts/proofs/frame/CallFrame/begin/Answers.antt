@@ -1,5 +1,5 @@
 use Rattle.std.proofs.Common.{arith, ◌∷◌, []}
-use Rattle.message_parts.proofs.Parts.{lies_whole}
+use Rattle.message_parts.proofs.FrameParts.{lies_whole}
 use Rattle.message_parts.proofs.frame.CallFrame.begin.Goals as goal
 
 pub invariant_of-result : goal.invariant_of-result

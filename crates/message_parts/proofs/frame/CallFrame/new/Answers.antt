@@ -2,7 +2,7 @@ use Rattle.std.proofs.Common.{◌≡◌, ◌+◌, ◌-◌, ◌∷◌, ◌++◌, 
 use Rattle.std.proofs.lemmas.List.Elements.{All-head}
 use Rattle.io_buf.specs.Buffer.{IsSize, block_sizes}
 use Rattle.sock_message.specs.Asked.{Asked, head_of, frame_of}
-use Rattle.message_parts.proofs.Parts.{lies_framed}
+use Rattle.message_parts.proofs.FrameParts.{lies_framed}
 use Rattle.message_parts.proofs.frame.CallFrame.new.Goals as goal
 
 pub invariant_of-result : goal.invariant_of-result

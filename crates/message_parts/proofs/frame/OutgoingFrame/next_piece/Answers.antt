@@ -1,7 +1,7 @@
 use Rattle.std.proofs.Common.{◌≡◌, ◌<◌, ◌∷◌, [], length, get_or, arith, ap, subst, ◌∙◌, length-take}
-use Rattle.seat_programs.specs.Parts.{part}
-use Rattle.message_parts.specs.Frames.{OutgoingData}
-use Rattle.message_parts.proofs.Parts.{first_is_part}
+use Rattle.seat_programs.specs.BufferParts.{part}
+use Rattle.message_parts.specs.FramesByParts.{OutgoingData}
+use Rattle.message_parts.proofs.FrameParts.{first_is_part}
 use Rattle.message_parts.proofs.frame.OutgoingFrame.next_piece.Goals as goal
 
 pub returns : goal.returns

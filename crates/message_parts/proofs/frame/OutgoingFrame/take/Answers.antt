@@ -1,7 +1,7 @@
 use Rattle.std.proofs.Common.{◌≤◌, ◌∷◌, [], length, arith, ap, length-take}
-use Rattle.seat_programs.specs.Parts.{room_of_part}
-use Rattle.message_parts.specs.Frames.{OutgoingData}
-use Rattle.message_parts.proofs.Parts.{lies_dropped}
+use Rattle.seat_programs.specs.BufferParts.{room_of_part}
+use Rattle.message_parts.specs.FramesByParts.{OutgoingData}
+use Rattle.message_parts.proofs.FrameParts.{lies_dropped}
 use Rattle.message_parts.proofs.frame.OutgoingFrame.take.Goals as goal
 
 pub invariant_of-self : goal.invariant_of-self

@@ -1,5 +1,5 @@
 use Rattle.std.proofs.Common.{◌++◌}
-use Rattle.sock_io.specs.Link.{given_of}
+use Rattle.sock_io.specs.LinkHalves.{given_of}
 use Rattle.net_link.proofs.tcp_in.TcpIn.note.Given as goal
 
 abbrev pub ghost-of : goal.ghost-of

@@ -1,5 +1,5 @@
-use Rattle.sock_io.specs.Shape.{shaped_out}
-use Rattle.ring_link.proofs.Finding.{settled_still}
+use Rattle.sock_io.specs.ShapeOfPuts.{shaped_out}
+use Rattle.ring_link.proofs.RingEndFindings.{settled_still}
 use Rattle.outside_rows.proofs.held.HeldLinkerLinker.settle.Goals as goal
 
 pub returns-clause-settled : goal.returns-clause-settled

@@ -2,7 +2,7 @@ use Rattle.std.proofs.Common.{◌≡◌, ◌↔◌, ◌-◌, ℕ, List, Ok, leng
 use Rattle.std.proofs.lemmas.List.{take_all}
 use Rattle.brpc_model.specs.Wire.{Wire, Field, fields}
 use Rattle.pb_wire.specs.Form.{IsMessage}
-use Rattle.pb_wire.proofs.Messages.{message_is_read}
+use Rattle.pb_wire.proofs.MessageFields.{message_is_read}
 use Rattle.pb_wire.proofs.message.Fields.new.Goals as goal
 
 whole : (bytes : List ℕ) → slice_range bytes 0 (length bytes) ≡ bytes

@@ -3,10 +3,10 @@ use Rattle.std.proofs.lemmas.List.{length-take}
 use Rattle.brpc_model.specs.Wire as wire
 use Rattle.pb_wire.specs.declared.fault.WireFault.{WireFault}
 use Rattle.pb_wire.specs.declared.values.Field.{Field}
-use Rattle.pb_wire.specs.Told.{fault_of, field_in, IsBefore}
-use Rattle.pb_wire.specs.Reading.{Reading, ahead, behind, sizeless, left, in_front}
+use Rattle.pb_wire.specs.WireCallAnswers.{fault_of, field_in, IsBefore}
+use Rattle.pb_wire.specs.FieldReader.{Reading, ahead, behind, sizeless, left, in_front}
 use Rattle.pb_wire.specs.Form.{IsField}
-use Rattle.pb_wire.proofs.Readings.{reading, front, Next, ahead_next, behind_next, left_next, Fails, ahead_fails, left_fails}
+use Rattle.pb_wire.proofs.FieldReadings.{reading, front, Next, ahead_next, behind_next, left_next, Fails, ahead_fails, left_fails}
 use Rattle.pb_wire.proofs.ReadingForms.{each_form, spelled_form}
 use Rattle.pb_wire.proofs.message.Fields.next.Goals as goal
 

@@ -1,5 +1,5 @@
 use Rattle.std.proofs.Common.{slice_range}
-use Rattle.pb_wire.proofs.Messages.{message_is_read}
+use Rattle.pb_wire.proofs.MessageFields.{message_is_read}
 use Rattle.pb_wire.proofs.message.Fields.within.Goals as goal
 
 pub returns-clause-spelled : goal.returns-clause-spelled

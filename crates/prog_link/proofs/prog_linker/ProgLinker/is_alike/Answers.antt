@@ -1,7 +1,7 @@
 use Rattle.std.proofs.Common.{◌≡◌, true, sym, subst, ap, ◌∙◌}
-use Rattle.sock_io.specs.Link.{LinkerState}
-use Rattle.prog_link.specs.Linker.{are_kind, kind_asked}
-use Rattle.prog_link.proofs.Alike.{alike_none, alike_where}
+use Rattle.sock_io.specs.LinkHalves.{LinkerState}
+use Rattle.prog_link.specs.AnyKindLinker.{are_kind, kind_asked}
+use Rattle.prog_link.proofs.LinksOfOneKind.{alike_none, alike_where}
 use Rattle.prog_link.proofs.prog_linker.ProgLinker.is_alike.Goals as goal
 
 pub returns-then-self-eq0 : goal.returns-then-self-eq0

@@ -1,8 +1,8 @@
 use Rattle.std.proofs.Common.{arith, ◌≡◌, ◌++◌, ◌∷◌, [], true, ap, sym, subst}
-use Rattle.sock_io.specs.Link.{LinkerState}
-use Rattle.sock_io.specs.Linker.{NotedLinksState}
-use Rattle.prog_link.specs.Linker.{InMemory, OverTcp, are_kind, kind_asked}
-use Rattle.prog_link.proofs.Alike.{numbered, one_longer, alike_more, counted_more}
+use Rattle.sock_io.specs.LinkHalves.{LinkerState}
+use Rattle.sock_io.specs.MemoryLinker.{NotedLinksState}
+use Rattle.prog_link.specs.AnyKindLinker.{InMemory, OverTcp, are_kind, kind_asked}
+use Rattle.prog_link.proofs.LinksOfOneKind.{numbered, one_longer, alike_more, counted_more}
 use Rattle.prog_link.proofs.prog_linker.ProgLinker.open_next.Goals as goal
 
 pub open_ends-requires-clause-loops : goal.open_ends-requires-clause-loops

@@ -1,5 +1,5 @@
-use Rattle.prog_link.specs.Halves.{prog_out}
-use Rattle.prog_link.proofs.Others.{settled_other}
+use Rattle.prog_link.specs.AnyLinkHalves.{prog_out}
+use Rattle.prog_link.proofs.UnsettledLinks.{settled_other}
 use Rattle.prog_link.proofs.prog_linker.ProgLinkerLinker.settle.Goals as goal
 
 pub returns-in_default-clause-settled : goal.returns-in_default-clause-settled

@@ -1,7 +1,7 @@
 use Rattle.std.proofs.Common.{◌≡◌, ℕ, true, false, List, refl, ap, inr, sym, ◌∙◌}
-use Rattle.prpc_frame.specs.Held.{Held}
-use Rattle.prpc_frame.proofs.Lasting.{fed}
-use Rattle.prpc_frame.proofs.Holding.{unnoted, still_unnoted, appended, fed_more, fed_on, unchanged, told_faulty, same_piece}
+use Rattle.prpc_frame.specs.HeldByCutter.{Held}
+use Rattle.prpc_frame.proofs.LastingStreamFacts.{fed}
+use Rattle.prpc_frame.proofs.CutterHoldingByFault.{unnoted, still_unnoted, appended, fed_more, fed_on, unchanged, told_faulty, same_piece}
 use Rattle.prpc_frame.proofs.cutter.Cutter.feed.Goals as goal
 
 pub returns-then-is_some-clause-ok : goal.returns-then-is_some-clause-ok

@@ -1,4 +1,4 @@
-use Rattle.prpc_frame.proofs.Fronts.{lies_in_front, leads_on}
+use Rattle.prpc_frame.proofs.FrontFramePlace.{lies_in_front, leads_on}
 use Rattle.prpc_frame.proofs.cutter.Cutter.front.Goals as goal
 
 pub returns-clause-exact : goal.returns-clause-exact

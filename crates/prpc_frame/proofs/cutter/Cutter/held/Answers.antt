@@ -1,5 +1,5 @@
 use Rattle.std.proofs.Common.{◌∙◌}
-use Rattle.prpc_frame.proofs.Holding.{counted}
+use Rattle.prpc_frame.proofs.CutterHoldingByFault.{counted}
 use Rattle.prpc_frame.proofs.cutter.Cutter.held.Goals as goal
 
 pub returns : goal.returns

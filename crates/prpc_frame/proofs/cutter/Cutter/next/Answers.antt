@@ -2,8 +2,8 @@ use Rattle.std.proofs.Common.{◌≡◌, ℕ, false, List, Option, Err, refl, ap
 use Rattle.std.specs.Prelude.{is_some}
 use Rattle.prpc_frame.specs.declared.fault.FrameFault.{FrameFault}
 use Rattle.prpc_frame.specs.declared.fault.NextFault.TheVariants as next
-use Rattle.prpc_frame.proofs.Lasting.{leads}
-use Rattle.prpc_frame.proofs.Holding.{unnoted, still_unnoted, noted, answers_at}
+use Rattle.prpc_frame.proofs.LastingStreamFacts.{leads}
+use Rattle.prpc_frame.proofs.CutterHoldingByFault.{unnoted, still_unnoted, noted, answers_at}
 use Rattle.prpc_frame.proofs.cutter.Cutter.next.Goals as goal
 
 pub returns-in-Some-clause-stream : goal.returns-in-Some-clause-stream

@@ -1,7 +1,7 @@
 use Rattle.std.proofs.Common.{ap, arith}
-use Rattle.prpc_frame.specs.Held.{Held}
-use Rattle.prpc_frame.proofs.Holding.{counted}
-use Rattle.prpc_frame.proofs.Fronts.{skipped, still_noted}
+use Rattle.prpc_frame.specs.HeldByCutter.{Held}
+use Rattle.prpc_frame.proofs.CutterHoldingByFault.{counted}
+use Rattle.prpc_frame.proofs.FrontFramePlace.{skipped, still_noted}
 use Rattle.prpc_frame.proofs.cutter.Cutter.skip.Goals as goal
 
 pub pop_front-requires : goal.pop_front-requires

@@ -1,7 +1,7 @@
-use Rattle.id_points.specs.Ids.{id_of}
-use Rattle.reader_points.specs.Points.{said_program}
+use Rattle.id_points.specs.IdsAndAttemptNumbers.{id_of}
+use Rattle.reader_points.specs.ReaderPoints.{said_program}
 use Rattle.reader_points.proofs.point.AnswerStep.next.Goals as goal
-use Rattle.sock_words.specs.Words.{id_slot}
+use Rattle.sock_words.specs.PackedWords.{id_slot}
 
 pub returns-in-Some-clause-program : goal.returns-in-Some-clause-program
 returns-in-Some-clause-program c a = rw c.in-End.is (c.in-Some.ensures (id_slot (id_of c.args.id)) (said_program a c.args.behind (id_of c.args.id) c.in-End.operation))

@@ -1,5 +1,5 @@
-use Rattle.id_points.specs.Ids.{id_of}
-use Rattle.reader_points.proofs.Going.{ends_asked}
+use Rattle.id_points.specs.IdsAndAttemptNumbers.{id_of}
+use Rattle.reader_points.proofs.ReaderAfterWordSteps.{ends_asked}
 use Rattle.reader_points.proofs.point.Behind.with_call.Goals as goal
 
 pub returns-clause-program : goal.returns-clause-program

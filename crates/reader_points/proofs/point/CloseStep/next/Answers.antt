@@ -1,7 +1,7 @@
 use Rattle.std.proofs.Common.{sym, ◌∙◌}
-use Rattle.sock_words.specs.Words.{socket_id_slot}
-use Rattle.reader_points.specs.Points.{posts_program}
-use Rattle.reader_points.proofs.Going.{closes_gone}
+use Rattle.sock_words.specs.PackedWords.{socket_id_slot}
+use Rattle.reader_points.specs.ReaderPoints.{posts_program}
+use Rattle.reader_points.proofs.ReaderAfterWordSteps.{closes_gone}
 use Rattle.reader_points.proofs.point.CloseStep.next.Goals as goal
 
 pub returns-else-version-clause-program : goal.returns-else-version-clause-program

@@ -1,5 +1,5 @@
 use Rattle.std.proofs.Common.{sym, ◌∙◌}
-use Rattle.reader_points.proofs.Going.{loads_post, loads_none}
+use Rattle.reader_points.proofs.ReaderAfterWordSteps.{loads_post, loads_none}
 use Rattle.reader_points.proofs.point.Closing.loaded.Goals as goal
 
 pub returns-then-is_named-clause-program : goal.returns-then-is_named-clause-program

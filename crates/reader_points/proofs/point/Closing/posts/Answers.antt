@@ -1,5 +1,5 @@
 use Rattle.std.proofs.Common.{◌≡◌, suc, ◌+◌, ◌∷◌, drop, get_or, ap, ◌∙◌, arith, drop-cons}
-use Rattle.reader_points.proofs.Going.{loads_next}
+use Rattle.reader_points.proofs.ReaderAfterWordSteps.{loads_next}
 use Rattle.reader_points.proofs.point.Closing.posts.Goals as goal
 
 pub returns-then-next-calls-clause-program : goal.returns-then-next-calls-clause-program

@@ -1,7 +1,7 @@
 use Rattle.std.proofs.Common.{◌∙◌}
-use Rattle.id_points.specs.Ids.{id_of}
-use Rattle.seat_programs.specs.Readers.{answered, posted_last}
-use Rattle.reader_points.specs.Points.{error_in, frames_behind, posts_program}
+use Rattle.id_points.specs.IdsAndAttemptNumbers.{id_of}
+use Rattle.seat_programs.specs.ReaderProgram.{answered, posted_last}
+use Rattle.reader_points.specs.ReaderPoints.{error_in, frames_behind, posts_program}
 use Rattle.reader_points.proofs.point.ReadPoint.next.Goals as goal
 
 pub returns-in-Open-clause-program : goal.returns-in-Open-clause-program

@@ -1,13 +1,13 @@
 use Rattle.std.proofs.Common.{Some, sym, subst}
-use Rattle.id_points.specs.Ids.{id_of}
-use Rattle.seat_programs.specs.Readers.{answered, posted_last}
-use Rattle.call_points.specs.Points.{lock_program, post_program}
-use Rattle.call_points.specs.Steps.{step_of}
+use Rattle.id_points.specs.IdsAndAttemptNumbers.{id_of}
+use Rattle.seat_programs.specs.ReaderProgram.{answered, posted_last}
+use Rattle.call_points.specs.CallIdPoints.{lock_program, post_program}
+use Rattle.call_points.specs.AsideCodeSteps.{step_of}
 use Rattle.call_points.specs.declared.aside.Aside.{Aside}
 use Rattle.reader_points.specs.declared.point.ReadPoint.{ReadPoint}
 use Rattle.reader_points.specs.declared.point.ReadStep.TheVariants as steps
-use Rattle.seat_states.proofs.Asides.{in_aside}
-use Rattle.reader_points.specs.Points.{error_in, on_call, frames_behind, posts_program, answer_program, GoesBy}
+use Rattle.seat_states.proofs.AsidesAndAttempts.{in_aside}
+use Rattle.reader_points.specs.ReaderPoints.{error_in, on_call, frames_behind, posts_program, answer_program, GoesBy}
 use Rattle.reader_points.proofs.StepKinds.{locks_by, posts_by, answers_by, nowhere}
 use Rattle.reader_points.proofs.point.ReadPoint.step.Goals as goal
 

@@ -1,6 +1,6 @@
 use Rattle.std.proofs.Common.{[]}
-use Rattle.prpc_frame.proofs.Cuts.{cut_none, cut_next}
-use Rattle.reader_points.proofs.Frames.{left_all}
+use Rattle.prpc_frame.proofs.StreamCuts.{cut_none, cut_next}
+use Rattle.reader_points.proofs.FramesInHand.{left_all}
 use Rattle.reader_points.proofs.CutFrames.{more_skipped, left_cut, goes_locked, goes_more, goes_faulty}
 use Rattle.reader_points.proofs.point.Reader.cut.Goals as goal
 

@@ -1,8 +1,8 @@
 use Rattle.std.proofs.Common.{List, length}
 use Rattle.std.specs.List.{AllByRecursion}
 use Rattle.brpc_model.specs.Frame.{Frame}
-use Rattle.prpc_frame.specs.Cuts.{Cut}
-use Rattle.reader_points.proofs.Frames.{IsSkipped, IsLeft}
+use Rattle.prpc_frame.specs.StreamCuts.{Cut}
+use Rattle.reader_points.proofs.FramesInHand.{IsSkipped, IsLeft}
 use Rattle.reader_points.proofs.point.Reader.cut.Given as goal
 
 -- the frames so far were no responses

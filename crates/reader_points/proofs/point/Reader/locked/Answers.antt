@@ -1,12 +1,12 @@
 use Rattle.std.proofs.Common.{◌≡◌, ◌∙◌, true, false, sym, refl, ap}
-use Rattle.seat_programs.specs.Readers.{version_in}
+use Rattle.seat_programs.specs.ReaderProgram.{version_in}
 use Rattle.corr_core.specs.Word.{parts}
-use Rattle.corr_core.specs.Versions.{is_early}
-use Rattle.id_points.specs.Ids.{id_of}
+use Rattle.corr_core.specs.IdRangeVersions.{is_early}
+use Rattle.id_points.specs.IdsAndAttemptNumbers.{id_of}
 use Rattle.reader_points.specs.declared.point.Behind.TheVariants as behinds
-use Rattle.reader_points.proofs.Going.{answers_as}
+use Rattle.reader_points.proofs.ReaderAfterWordSteps.{answers_as}
 use Rattle.reader_points.proofs.point.Reader.locked.Goals as goal
-use Rattle.sock_words.specs.Words.{call_id}
+use Rattle.sock_words.specs.PackedWords.{call_id}
 
 pub returns-then-comes_early-clause-program : goal.returns-then-comes_early-clause-program
 returns-then-comes_early-clause-program c a is =

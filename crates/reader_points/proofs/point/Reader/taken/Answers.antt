@@ -1,4 +1,4 @@
-use Rattle.reader_points.proofs.Taking.{took_bytes, took_nothing, took_last, took_close}
+use Rattle.reader_points.proofs.ReaderBehindTake.{took_bytes, took_nothing, took_last, took_close}
 use Rattle.reader_points.proofs.point.Reader.taken.Goals as goal
 
 pub returns-in-Bytes-clause-program : goal.returns-in-Bytes-clause-program

@@ -1,6 +1,6 @@
 use Rattle.std.proofs.Common.{refl}
-use Rattle.reader_seats.specs.Inside.{data_of}
-use Rattle.reader_seats.proofs.Follows.{cut_goes, cut_hand}
+use Rattle.reader_seats.specs.InsideReaderSeat.{data_of}
+use Rattle.reader_seats.proofs.ReaderFollows.{cut_goes, cut_hand}
 use Rattle.reader_seats.proofs.seat.ReaderSeat.cut_next.Goals as goal
 
 pub invariant_of-self-2 : goal.invariant_of-self-2

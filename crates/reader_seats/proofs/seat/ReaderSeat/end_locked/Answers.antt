@@ -1,7 +1,7 @@
 use Rattle.std.proofs.Common.{refl}
-use Rattle.reader_seats.specs.Inside.{data_of}
-use Rattle.reader_seats.specs.Readers.{around}
-use Rattle.reader_seats.proofs.Follows.{kept_data, kept_goes}
+use Rattle.reader_seats.specs.InsideReaderSeat.{data_of}
+use Rattle.reader_seats.specs.ReaderState.{around}
+use Rattle.reader_seats.proofs.ReaderFollows.{kept_data, kept_goes}
 use Rattle.reader_seats.proofs.seat.ReaderSeat.end_locked.Goals as goal
 
 pub invariant_of-self : goal.invariant_of-self

@@ -1,9 +1,9 @@
 use Rattle.std.proofs.Common.{ap, sym}
 use Rattle.sock_message.specs.Asked.{Asked}
-use Rattle.reader_points.specs.Points.{with_asked}
-use Rattle.reader_seats.specs.Inside.{data_of}
-use Rattle.reader_seats.specs.Readers.{around}
-use Rattle.reader_seats.proofs.Settled.{goes_to}
+use Rattle.reader_points.specs.ReaderPoints.{with_asked}
+use Rattle.reader_seats.specs.InsideReaderSeat.{data_of}
+use Rattle.reader_seats.specs.ReaderState.{around}
+use Rattle.reader_seats.proofs.ProgramAtNextStep.{goes_to}
 use Rattle.reader_seats.proofs.seat.ReaderSeat.follow_call.Goals as goal
 
 pub invariant_of-self : goal.invariant_of-self

@@ -1,10 +1,10 @@
 use Rattle.std.proofs.Common.{[], subst}
-use Rattle.seat_programs.specs.Beside.{at_last}
-use Rattle.reader_points.specs.Points.{HasInHand}
-use Rattle.reader_seats.specs.GoesOn.{taking_of}
-use Rattle.reader_seats.specs.Inside.{data_of}
-use Rattle.reader_seats.specs.Readers.{around}
-use Rattle.reader_seats.proofs.Behind.{rests, fed_hand, took_goes, threw_goes}
+use Rattle.seat_programs.specs.FoundAndChangedAside.{at_last}
+use Rattle.reader_points.specs.ReaderPoints.{HasInHand}
+use Rattle.reader_seats.specs.ReaderGoesOn.{taking_of}
+use Rattle.reader_seats.specs.InsideReaderSeat.{data_of}
+use Rattle.reader_seats.specs.ReaderState.{around}
+use Rattle.reader_seats.proofs.ReaderBehindSteps.{rests, fed_hand, took_goes, threw_goes}
 use Rattle.reader_seats.proofs.seat.ReaderSeat.follow_take.Goals as goal
 
 pub feed-requires-clause-rest : goal.feed-requires-clause-rest

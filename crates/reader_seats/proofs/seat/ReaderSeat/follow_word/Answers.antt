@@ -1,8 +1,8 @@
 use Rattle.std.proofs.Common.{sym, ap, subst, ◌∙◌}
-use Rattle.reader_points.specs.Points.{HasNext}
-use Rattle.reader_seats.specs.Inside.{data_of}
-use Rattle.reader_seats.specs.Readers.{ReaderData, around}
-use Rattle.reader_seats.proofs.Behind.{word_goes}
+use Rattle.reader_points.specs.ReaderPoints.{HasNext}
+use Rattle.reader_seats.specs.InsideReaderSeat.{data_of}
+use Rattle.reader_seats.specs.ReaderState.{ReaderData, around}
+use Rattle.reader_seats.proofs.ReaderBehindSteps.{word_goes}
 use Rattle.reader_seats.proofs.seat.ReaderSeat.follow_word.Goals as goal
 
 pub follow-requires-clause-hand : goal.follow-requires-clause-hand

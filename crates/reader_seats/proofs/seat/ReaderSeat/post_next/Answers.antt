@@ -1,7 +1,7 @@
 use Rattle.reader_seats.specs.declared.hand.Hand.TheVariants.{Empty}
-use Rattle.reader_seats.specs.Inside.{data_of}
-use Rattle.reader_seats.specs.Readers.{around}
-use Rattle.reader_seats.proofs.Follows.{cut_data}
+use Rattle.reader_seats.specs.InsideReaderSeat.{data_of}
+use Rattle.reader_seats.specs.ReaderState.{around}
+use Rattle.reader_seats.proofs.ReaderFollows.{cut_data}
 use Rattle.reader_seats.proofs.seat.ReaderSeat.post_next.Goals as goal
 
 pub invariant_of-self : goal.invariant_of-self

@@ -1,8 +1,8 @@
 use Rattle.std.proofs.Common.{◌<◌, ◌≤◌, [], sym, subst}
-use Rattle.reader_points.specs.Points.{GoesBy}
-use Rattle.reader_seats.specs.Inside.{data_of}
-use Rattle.reader_seats.specs.Readers.{around}
-use Rattle.reader_seats.proofs.Follows.{some_room}
+use Rattle.reader_points.specs.ReaderPoints.{GoesBy}
+use Rattle.reader_seats.specs.InsideReaderSeat.{data_of}
+use Rattle.reader_seats.specs.ReaderState.{around}
+use Rattle.reader_seats.proofs.ReaderFollows.{some_room}
 use Rattle.reader_seats.proofs.seat.ReaderSeat.step.Goals as goal
 
 pub returns-clause-room : goal.returns-clause-room

@@ -2,8 +2,8 @@ use Rattle.std.proofs.Common.{rules, arith, ◌≡◌, ◌++◌, List, length, �
 use Rattle.std.proofs.lemmas.List.{take_all}
 use Rattle.sock_io.specs.declared.link.Put.{Put}
 use Rattle.sock_io.specs.declared.link.Put.TheVariants as put
-use Rattle.sock_io.specs.Link.{taken_of}
-use Rattle.ring_link.specs.Inside.{InnerState}
+use Rattle.sock_io.specs.LinkHalves.{taken_of}
+use Rattle.ring_link.specs.InsideRingLink.{InnerState}
 use Rattle.ring_link.proofs.Insides.{put_took, serves_put}
 use Rattle.ring_link.proofs.inner.Inner.takes.Goals as goal
 

@@ -3,7 +3,7 @@ use Rattle.std.proofs.lemmas.List.{length-take-le}
 use Rattle.rtrb.specs.Ring.{received, known_items}
 use Rattle.ring_link.specs.declared.cell.Cell.{Cell}
 use Rattle.ring_link.specs.Cells.{IsOpen, bytes_of, ending_of}
-use Rattle.ring_link.specs.Halves.{ReaderState}
+use Rattle.ring_link.specs.RingHalves.{ReaderState}
 use Rattle.ring_link.proofs.CellLists.{bytes-append, ending-append, no_cells}
 use Rattle.ring_link.proofs.reader.RingReader.take_by.Goals as goal
 

@@ -1,6 +1,6 @@
 use Rattle.std.proofs.Common.{rules, ◌≡◌, ◌++◌, false, true, take, refl, ap, sym, ◌∙◌}
 use Rattle.sock_io.specs.Peer.{has_ended}
-use Rattle.ring_link.specs.Halves.{RingPeerState, SameRings}
+use Rattle.ring_link.specs.RingHalves.{RingPeerState, SameRings}
 use Rattle.sock_io.specs.declared.ending.Ending.TheVariants as ending
 use Rattle.ring_link.proofs.Peers.{fed, starved, some_got}
 use Rattle.ring_link.proofs.Repeating.{open_closed, repeats_fed}

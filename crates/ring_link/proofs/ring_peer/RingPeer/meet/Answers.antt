@@ -1,8 +1,8 @@
 use Rattle.std.proofs.Common.{◌≡◌, true, false, not, ap, ◌∙◌, subst}
 use Rattle.sock_io.specs.declared.ending.Ending.TheVariants as ending
-use Rattle.ring_link.specs.Inside.{met_after}
-use Rattle.ring_link.specs.Halves.{RingOutState, RingInState, RingPeerState, Repeats}
-use Rattle.ring_link.proofs.Finding.{met_step}
+use Rattle.ring_link.specs.InsideRingLink.{met_after}
+use Rattle.ring_link.specs.RingHalves.{RingOutState, RingInState, RingPeerState, Repeats}
+use Rattle.ring_link.proofs.RingEndFindings.{met_step}
 use Rattle.ring_link.proofs.ring_peer.RingPeer.meet.Goals as goal
 
 pub returns-clause-inn : goal.returns-clause-inn

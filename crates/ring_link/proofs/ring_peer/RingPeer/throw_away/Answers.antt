@@ -1,7 +1,7 @@
 use Rattle.std.proofs.Common.{◌≡◌, ◌&&◌, true, false, take, refl, ap, sym, ◌∙◌, subst, ◌++◌}
 use Rattle.sock_io.specs.Peer.{has_ended}
 use Rattle.sock_io.specs.declared.ending.Ending.TheVariants as ending
-use Rattle.ring_link.specs.Halves.{RingPeerState, SameRings}
+use Rattle.ring_link.specs.RingHalves.{RingPeerState, SameRings}
 use Rattle.ring_link.proofs.Peers.{idle, some_got, thrown}
 use Rattle.ring_link.proofs.Repeating.{both, repeats_thrown}
 use Rattle.ring_link.proofs.ring_peer.RingPeer.throw_away.Goals as goal

@@ -1,9 +1,9 @@
 use Rattle.std.proofs.Common.{rules, ◌≡◌, ◌++◌, true, ap, sym, ◌∙◌}
 use Rattle.sock_io.specs.declared.ending.Ending.TheVariants as ending
 use Rattle.sock_io.specs.declared.link.Take.TheVariants as take_
-use Rattle.sock_io.specs.Link.{given_of}
+use Rattle.sock_io.specs.LinkHalves.{given_of}
 use Rattle.sock_io.specs.Peer.{has_ended}
-use Rattle.ring_link.specs.Halves.{RingPeerState, SameRings}
+use Rattle.ring_link.specs.RingHalves.{RingPeerState, SameRings}
 use Rattle.ring_link.proofs.Peers.{given}
 use Rattle.ring_link.proofs.ring_peer.RingPeerPeer.serve.Goals as goal
 

@@ -3,7 +3,7 @@ use Rattle.sock_io.specs.declared.ending.Ending.TheVariants as ending
 use Rattle.rtrb.specs.Ring.{sent}
 use Rattle.ring_link.specs.declared.cell.Cell.{Cell}
 use Rattle.ring_link.specs.Cells.{IsOpen, bytes_of, ending_of, mark_cells}
-use Rattle.ring_link.specs.Halves.{WriterState}
+use Rattle.ring_link.specs.RingHalves.{WriterState}
 use Rattle.ring_link.proofs.CellLists.{IsWhole, bytes_shut, ending_shut, whole_shut}
 use Rattle.ring_link.proofs.writer.RingWriter.mark.Goals as goal
 

@@ -3,7 +3,7 @@ use Rattle.rtrb.specs.Ring.{sent, known_free}
 use Rattle.std.proofs.lemmas.List.{length-map}
 use Rattle.ring_link.specs.declared.cell.Cell.TheVariants.{Byte}
 use Rattle.ring_link.specs.Cells.{IsOpen, bytes_of, ending_of}
-use Rattle.ring_link.specs.Halves.{WriterState}
+use Rattle.ring_link.specs.RingHalves.{WriterState}
 use Rattle.ring_link.proofs.CellLists.{IsWhole, bytes_put, each_open, ending_put, whole_put}
 use Rattle.ring_link.proofs.writer.RingWriter.push.Goals as goal
 

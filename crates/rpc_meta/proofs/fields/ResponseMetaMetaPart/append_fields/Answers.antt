@@ -1,6 +1,6 @@
 use Rattle.std.proofs.Common.{◌≡◌, ℕ, List, ◌++◌, ◌∙◌, ap, subst, rules}
 use Rattle.pb_wire.specs.brpc_model.specs.Spelling.{spelled_int, number_field, where_not_empty}
-use Rattle.rpc_meta.specs.Writing.{Appends}
+use Rattle.rpc_meta.specs.MetaWriting.{Appends}
 use Rattle.rpc_meta.proofs.Appending.{behind}
 use Rattle.rpc_meta.proofs.fields.ResponseMetaMetaPart.append_fields.Goals as goal
 

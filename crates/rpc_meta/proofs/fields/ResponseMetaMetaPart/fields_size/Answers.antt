@@ -1,6 +1,6 @@
 use Rattle.std.proofs.Common.{◌≡◌, ℕ, List, length, ◌∙◌, ap, rules}
 use Rattle.pb_wire.specs.brpc_model.specs.Spelling.{spelled_int, number_field, where_not_empty}
-use Rattle.rpc_meta.proofs.Counting.{summed, two}
+use Rattle.rpc_meta.proofs.SummedPieceLengths.{summed, two}
 use Rattle.rpc_meta.proofs.fields.ResponseMetaMetaPart.fields_size.Goals as goal
 
 pub returns : goal.returns

@@ -1,7 +1,7 @@
 use Rattle.std.proofs.Common.{ℕ, ◌-◌, ◌/◌, List, ◌++◌, refl, arith, rules, ap, ◌∙◌}
 use Rattle.pb_wire.specs.brpc_model.specs.Wire.{varint_bytes, varint_up_to}
 use Rattle.pb_wire.proofs.Groups.{ten_are_enough}
-use Rattle.rpc_meta.proofs.Varints.{put_more, put_last, some_room}
+use Rattle.rpc_meta.proofs.VarintPutByBytes.{put_more, put_last, some_room}
 use Rattle.rpc_meta.proofs.front.Front.put_long.Goals as goal
 
 pub loop-rest-init : goal.loop-rest-init

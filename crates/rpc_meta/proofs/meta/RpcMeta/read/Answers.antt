@@ -1,7 +1,7 @@
 use Rattle.std.proofs.Common.{◌≡◌, ℕ, ℤ, Option, Ok, ap, ◌∙◌, rules, w32, to_z, of_z}
 use Rattle.std.proofs.lemmas.Result.{err_from_is_err_and}
 use Rattle.pb_wire.specs.brpc_model.specs.Meta as meta
-use Rattle.rpc_meta.specs.Meaning.{made_meta}
+use Rattle.rpc_meta.specs.MetaMeaning.{made_meta}
 use Rattle.rpc_meta.proofs.Building.{same_some, is_that}
 use Rattle.rpc_meta.proofs.meta.RpcMeta.read.Goals as goal
 

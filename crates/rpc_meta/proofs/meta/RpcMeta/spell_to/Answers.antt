@@ -1,5 +1,5 @@
 use Rattle.std.proofs.Common.{arith}
-use Rattle.rpc_meta.specs.Meaning.{meaning}
+use Rattle.rpc_meta.specs.MetaMeaning.{meaning}
 use Rattle.rpc_meta.proofs.RoundTrip.{round_trip}
 use Rattle.rpc_meta.proofs.meta.RpcMeta.spell_to.Goals as goal
 

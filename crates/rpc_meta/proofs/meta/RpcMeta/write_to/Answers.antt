@@ -2,8 +2,8 @@ use Rattle.std.proofs.Common.{◌≡◌, ◌<◌, ◌^◌, ℕ, List, length, Re
 use Rattle.std.proofs.lemmas.List.{length-append}
 use Rattle.pb_wire.specs.brpc_model.specs.Meta.{Meta, read_meta}
 use Rattle.pb_wire.specs.brpc_model.specs.Spelling.{meta_bytes}
-use Rattle.rpc_meta.specs.Meaning.{meaning}
-use Rattle.rpc_meta.specs.Writing.{Appends, HasPart, MetaFits}
+use Rattle.rpc_meta.specs.MetaMeaning.{meaning}
+use Rattle.rpc_meta.specs.MetaWriting.{Appends, HasPart, MetaFits}
 use Rattle.rpc_meta.proofs.RoundTrip.{round_trip}
 use Rattle.rpc_meta.proofs.meta.RpcMeta.write_to.Goals as goal
 

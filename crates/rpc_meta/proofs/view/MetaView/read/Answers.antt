@@ -2,8 +2,8 @@ use Rattle.std.proofs.Common.{◌≡◌, Bool, true, false, not, Option, Some, o
 use Rattle.std.specs.Option.{is_some}
 use Rattle.std.proofs.lemmas.Result.{err_from_is_err_and}
 use Rattle.std.proofs.lemmas.Int.{to_z-of_z}
-use Rattle.rpc_meta.specs.View.{request_viewed, response_viewed}
-use Rattle.rpc_meta.specs.Parts.{gathered_of, names_of, outcome_of}
+use Rattle.rpc_meta.specs.ViewedMeta.{request_viewed, response_viewed}
+use Rattle.rpc_meta.specs.MetaParts.{gathered_of, names_of, outcome_of}
 use Rattle.rpc_meta.proofs.Merging.{meta_is_read, fault_is_read}
 use Rattle.rpc_meta.proofs.Building.{same_some, neither, fails, built}
 use Rattle.rpc_meta.proofs.view.MetaView.read.Goals as goal

@@ -1,10 +1,10 @@
 use Rattle.std.proofs.Common.{ℕ, [], Some, None, refl, ◌∙◌, subst}
-use Rattle.rpc_client.proofs.Counting.{holder_same, refs_then}
-use Rattle.rpc_client.proofs.Finding.{may_still}
-use Rattle.rpc_reader.specs.Books.{books}
-use Rattle.rpc_reader.specs.Posting.{PostedAll}
+use Rattle.rpc_client.proofs.CountedReferences.{holder_same, refs_then}
+use Rattle.rpc_client.proofs.FindingReferences.{may_still}
+use Rattle.rpc_reader.specs.ReaderBooks.{books}
+use Rattle.rpc_reader.specs.PostingAtReadingEnd.{PostedAll}
 use Rattle.rpc_reader.proofs.Locks.{open_still, rests_none, rests_then}
-use Rattle.rpc_reader.proofs.Sockets.{idle_done, none_may}
+use Rattle.rpc_reader.proofs.ReaderSocket.{idle_done, none_may}
 use Rattle.rpc_reader.proofs.reader.Reader.run.Goals as goal
 
 pub fail_if-requires-clause-may : goal.fail_if-requires-clause-may

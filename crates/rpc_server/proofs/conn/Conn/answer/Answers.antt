@@ -1,6 +1,6 @@
 use Rattle.std.proofs.Common.{◌++◌, ap, ◌∙◌}
-use Rattle.prpc_frame.specs.Meaning.{frame_of}
-use Rattle.rpc_server.proofs.Answering.{reply_given}
+use Rattle.prpc_frame.specs.FrameMeaning.{frame_of}
+use Rattle.rpc_server.proofs.AnsweringFrames.{reply_given}
 use Rattle.rpc_server.proofs.conn.Conn.answer.Goals as goal
 
 pub returns-clause-appended : goal.returns-clause-appended

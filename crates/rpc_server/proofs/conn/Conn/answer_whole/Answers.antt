@@ -1,9 +1,9 @@
 use Rattle.std.proofs.Common.{ℕ, ◌+◌, List, length, Ok, ap, ◌∙◌, subst}
-use Rattle.prpc_frame.specs.Leads.{Leads}
-use Rattle.prpc_frame.specs.Meaning.{frame_of}
+use Rattle.prpc_frame.specs.CutterAnswerLeads.{Leads}
+use Rattle.prpc_frame.specs.FrameMeaning.{frame_of}
 use Rattle.rpc_server.specs.Feeding.{replies_to}
-use Rattle.rpc_server.specs.Held.{Held}
-use Rattle.rpc_server.proofs.Answering.{answered_none, answered_next}
+use Rattle.rpc_server.specs.HeldByConnection.{Held}
+use Rattle.rpc_server.proofs.AnsweringFrames.{answered_none, answered_next}
 use Rattle.rpc_server.proofs.conn.Conn.answer_whole.Goals as goal
 
 pub loop-frame-init : goal.loop-frame-init

@@ -1,6 +1,6 @@
 use Rattle.std.proofs.Common.{◌≡◌, ℕ, List, ◌++◌, ap, subst}
-use Rattle.brpc_model.specs.Stream.{stream_from}
-use Rattle.rpc_server.specs.Held.{Held}
+use Rattle.brpc_model.specs.FrameStream.{stream_from}
+use Rattle.rpc_server.specs.HeldByConnection.{Held}
 use Rattle.rpc_server.proofs.Fed.{fed_whole}
 use Rattle.rpc_server.proofs.conn.Conn.feed.Goals as goal
 

@@ -1,5 +1,5 @@
 use Rattle.std.proofs.Common.{◌%◌, ◌++◌, ◌∷◌, [], map, ap, sym, ◌∙◌}
-use Rattle.brpc_model.specs.Drawn.{drawn, drawn_state, draws}
+use Rattle.brpc_model.specs.DrawnSeatsAndScripts.{drawn, drawn_state, draws}
 use Rattle.script_draw.proofs.DrawLemmas.{behind_more, bytes_more}
 use Rattle.script_draw.proofs.draws.Draws.bytes.Goals as goal
 

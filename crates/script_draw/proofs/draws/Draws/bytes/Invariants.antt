@@ -1,5 +1,5 @@
 use Rattle.std.proofs.Common.{◌≡◌, ◌%◌, map}
-use Rattle.brpc_model.specs.Drawn.{draws, state_behind}
+use Rattle.brpc_model.specs.DrawnSeatsAndScripts.{draws, state_behind}
 use Rattle.script_draw.proofs.draws.Draws.bytes.Given as goal
 
 abbrev pub invariant-loop : goal.invariant-loop

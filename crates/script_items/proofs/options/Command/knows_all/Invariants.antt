@@ -1,6 +1,6 @@
 use Rattle.std.proofs.Common.{◌≡◌, length}
 use Rattle.brpc_model.specs.Text.{words}
-use Rattle.brpc_model.specs.Reads.{are_known}
+use Rattle.brpc_model.specs.LinePartReads.{are_known}
 use Rattle.script_items.specs.Options.{keys_of, plain_of}
 use Rattle.script_items.proofs.options.Command.knows_all.Given as goal
 

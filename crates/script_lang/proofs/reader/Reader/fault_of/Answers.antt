@@ -1,6 +1,6 @@
 use Rattle.std.proofs.Common.{true, false, refl, sym, ◌∙◌}
-use Rattle.script_items.specs.Meaning.{item}
-use Rattle.script_lang.proofs.Placed.{judged}
+use Rattle.script_items.specs.LineMeaning.{item}
+use Rattle.script_lang.proofs.PlacedLineJudgement.{judged}
 use Rattle.script_lang.proofs.reader.Reader.fault_of.Goals as goal
 
 pub returns-then-is_misplaced-clause-kind : goal.returns-then-is_misplaced-clause-kind

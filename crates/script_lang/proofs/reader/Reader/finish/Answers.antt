@@ -1,11 +1,11 @@
 use Rattle.std.proofs.Common.{rules, ◌≡◌, ℕ, Bool, List, Option, option_map, None, Ok, map, refl, ap, sym, ◌∙◌}
 use Rattle.std.specs.List.{find}
-use Rattle.brpc_model.specs.Places as model
-use Rattle.script_items.specs.Meaning.{item}
+use Rattle.brpc_model.specs.LinePlaceFaults as model
+use Rattle.script_items.specs.LineMeaning.{item}
 use Rattle.script_lang.specs.declared.uses.CallUse.{CallUse}
-use Rattle.script_lang.specs.Counting.{counts_of}
-use Rattle.script_lang.specs.Numbers.{numbers_of}
-use Rattle.script_lang.proofs.Whole.{whole_is, fault_in, is_absent, is_hanging}
+use Rattle.script_lang.specs.CountedLines.{counts_of}
+use Rattle.script_lang.specs.OperationNumbers.{numbers_of}
+use Rattle.script_lang.proofs.WholeScriptLines.{whole_is, fault_in, is_absent, is_hanging}
 use Rattle.script_lang.proofs.reader.Reader.finish.Goals as goal
 
 -- the line of the first use of a kind, of the uses that are kept

@@ -1,11 +1,11 @@
 use Rattle.std.proofs.Common.{◌≡◌, ℕ, ◌+◌, List, Option, Err, ap, sym, ◌∙◌, subst}
 use Rattle.brpc_model.specs.Items.{Item, mentioned}
-use Rattle.brpc_model.specs.Places.{with_names}
+use Rattle.brpc_model.specs.LinePlaceFaults.{with_names}
 use Rattle.brpc_model.specs.Script.{items}
-use Rattle.script_items.specs.Meaning.{item}
+use Rattle.script_items.specs.LineMeaning.{item}
 use Rattle.script_lang.specs.declared.error.ScriptError.{ScriptError}
 use Rattle.script_lang.specs.declared.reader.Reader.{Reader}
-use Rattle.script_lang.specs.Known.{Knows, HasNames, FaultIs, JudgedIs}
+use Rattle.script_lang.specs.KnownLines.{Knows, HasNames, FaultIs, JudgedIs}
 use Rattle.script_lang.proofs.reader.Reader.judge.Goals as goal
 
 -- the names of the line are among the names

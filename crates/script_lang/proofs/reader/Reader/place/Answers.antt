@@ -1,10 +1,10 @@
 use Rattle.std.proofs.Common.{refl, subst}
 use Rattle.brpc_model.specs.Items.{mentioned}
-use Rattle.brpc_model.specs.Places.{with_names}
-use Rattle.script_items.specs.Meaning.{item}
-use Rattle.script_lang.proofs.Placed.{grown}
+use Rattle.brpc_model.specs.LinePlaceFaults.{with_names}
+use Rattle.script_items.specs.LineMeaning.{item}
+use Rattle.script_lang.proofs.PlacedLineJudgement.{grown}
 use Rattle.script_lang.specs.declared.reader.Reader.{Reader}
-use Rattle.script_lang.specs.Known.{Keeps}
+use Rattle.script_lang.specs.KnownLines.{Keeps}
 use Rattle.script_lang.proofs.reader.Reader.place.Goals as goal
 
 pub returns : goal.returns

@@ -1,6 +1,6 @@
 use Rattle.std.proofs.Common.{rules, [], ◌∷◌, ◌++◌, None, ap, sym}
 use Rattle.brpc_model.specs.Script.{items}
-use Rattle.script_lang.proofs.Placed.{skipped, line_none}
+use Rattle.script_lang.proofs.PlacedLineJudgement.{skipped, line_none}
 use Rattle.script_lang.proofs.reader.Reader.read.Goals as goal
 
 pub returns-in-Ok-None : goal.returns-in-Ok-None

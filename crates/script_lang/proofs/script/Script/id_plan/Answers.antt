@@ -1,7 +1,7 @@
 use Rattle.std.proofs.Common.{ℕ, ◌+◌, arith, map, ap, sym, subst, ◌∙◌}
 use Rattle.brpc_model.specs.Limits.{KeepsLimits}
-use Rattle.script_facts.proofs.Sizes.{link_count, operation_count}
-use Rattle.script_items.specs.Meaning.{item}
+use Rattle.script_facts.proofs.ScriptSizes.{link_count, operation_count}
+use Rattle.script_items.specs.LineMeaning.{item}
 use Rattle.seat_programs.specs.Tasks.{id_plan_of}
 use Rattle.script_lang.specs.declared.counts.Counts.{Counts}
 use Rattle.script_lang.proofs.Judged.{calls_few}

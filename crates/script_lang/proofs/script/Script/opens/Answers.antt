@@ -1,6 +1,6 @@
 use Rattle.std.proofs.Common.{ap, ◌∙◌}
 use Rattle.seat_programs.specs.Tasks.{opens}
-use Rattle.script_lang.specs.Numbers.{Numbers}
+use Rattle.script_lang.specs.OperationNumbers.{Numbers}
 use Rattle.script_lang.proofs.script.Script.opens.Goals as goal
 
 pub returns : goal.returns

@@ -1,7 +1,7 @@
 use Rattle.std.proofs.Common.{◌+◌, arith, length, map, unwrap_or, ap, sym, subst, ◌∙◌}
 use Rattle.brpc_model.specs.Limits.{KeepsLimits}
-use Rattle.script_facts.proofs.Sizes.{link_count, operation_count}
-use Rattle.script_items.specs.Meaning.{item}
+use Rattle.script_facts.proofs.ScriptSizes.{link_count, operation_count}
+use Rattle.script_items.specs.LineMeaning.{item}
 use Rattle.seat_programs.specs.Tasks.{plan_of}
 use Rattle.script_lang.specs.declared.counts.Counts.{Counts}
 use Rattle.script_lang.proofs.Plans.{plan_is}

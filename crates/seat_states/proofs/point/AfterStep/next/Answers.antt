@@ -1,5 +1,5 @@
 use Rattle.std.proofs.Common.{◌∙◌}
-use Rattle.seat_states.proofs.Behind.{expires}
+use Rattle.seat_states.proofs.ProgramBehindSteps.{expires}
 use Rattle.seat_states.proofs.point.AfterStep.next.Goals as goal
 
 pub returns-clause-program : goal.returns-clause-program

@@ -1,6 +1,6 @@
 use Rattle.std.proofs.Common.{◌∙◌, ap}
-use Rattle.seat_states.specs.Points.{refused_program}
-use Rattle.seat_states.proofs.Behind.{refused}
+use Rattle.seat_states.specs.SeatPoints.{refused_program}
+use Rattle.seat_states.proofs.ProgramBehindSteps.{refused}
 use Rattle.seat_states.proofs.point.AfterStep.refused.Goals as goal
 
 pub returns-clause-program : goal.returns-clause-program

@@ -1,5 +1,5 @@
 use Rattle.std.proofs.Common.{sym, ◌∙◌}
-use Rattle.seat_states.proofs.Behind.{seeks_life, seeks_none, seeks_reached}
+use Rattle.seat_states.proofs.ProgramBehindSteps.{seeks_life, seeks_none, seeks_reached}
 use Rattle.seat_states.proofs.point.Aim.next.Goals as goal
 
 pub returns-then-is_id-clause-program : goal.returns-then-is_id-clause-program

@@ -1,5 +1,5 @@
 use Rattle.std.proofs.Common.{sym, ◌∙◌, refl}
-use Rattle.seat_states.proofs.Behind.{attempts_gone}
+use Rattle.seat_states.proofs.ProgramBehindSteps.{attempts_gone}
 use Rattle.seat_states.proofs.point.AttemptStep.next.Goals as goal
 
 pub returns-else-version-clause-program : goal.returns-else-version-clause-program

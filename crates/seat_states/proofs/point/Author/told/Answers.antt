@@ -1,6 +1,6 @@
 use Rattle.std.proofs.Common.{◌≡◌, ◌==◌, false, refl, arith}
 use Rattle.std.proofs.lemmas.Bool.Decides.{nat_tests}
-use Rattle.id_points.specs.Ids.{id_of}
+use Rattle.id_points.specs.IdsAndAttemptNumbers.{id_of}
 use Rattle.seat_states.proofs.point.Author.told.Goals as goal
 
 pub returns-else-code-eq0 : goal.returns-else-code-eq0

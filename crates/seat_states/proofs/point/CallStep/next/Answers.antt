@@ -1,5 +1,5 @@
 use Rattle.seat_states.specs.declared.point.Attempt.{Attempt}
-use Rattle.seat_states.proofs.Asides.{begins_as}
+use Rattle.seat_states.proofs.AsidesAndAttempts.{begins_as}
 use Rattle.seat_states.proofs.point.CallStep.next.Goals as goal
 
 pub returns-in-StoreCall-clause-program : goal.returns-in-StoreCall-clause-program

@@ -1,5 +1,5 @@
 use Rattle.std.proofs.Common.{refl, sym, ◌∙◌}
-use Rattle.seat_states.proofs.Behind.{took_all, took_part}
+use Rattle.seat_states.proofs.ProgramBehindSteps.{took_all, took_part}
 use Rattle.seat_states.proofs.point.Current.put_answered.Goals as goal
 
 pub returns-then-whole : goal.returns-then-whole

@@ -1,4 +1,4 @@
-use Rattle.seat_states.proofs.Behind.{links, takes}
+use Rattle.seat_states.proofs.ProgramBehindSteps.{links, takes}
 use Rattle.seat_states.proofs.point.Opening.next.Goals as goal
 
 pub returns-in-StoreLink-clause-program : goal.returns-in-StoreLink-clause-program

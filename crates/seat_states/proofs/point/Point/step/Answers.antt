@@ -1,10 +1,10 @@
 use Rattle.std.proofs.Common.{sym}
-use Rattle.id_points.specs.Ids.{id_of}
-use Rattle.seat_programs.specs.Posts.{decided}
-use Rattle.call_points.specs.Points.{post_program, decide_program}
-use Rattle.call_points.specs.Steps.{step_of}
-use Rattle.seat_states.specs.Points.{posted_program, after_program}
-use Rattle.seat_states.proofs.Asides.{in_aside}
+use Rattle.id_points.specs.IdsAndAttemptNumbers.{id_of}
+use Rattle.seat_programs.specs.PostPrograms.{decided}
+use Rattle.call_points.specs.CallIdPoints.{post_program, decide_program}
+use Rattle.call_points.specs.AsideCodeSteps.{step_of}
+use Rattle.seat_states.specs.SeatPoints.{posted_program, after_program}
+use Rattle.seat_states.proofs.AsidesAndAttempts.{in_aside}
 use Rattle.seat_states.proofs.point.Point.step.Goals as goal
 
 pub returns-in-Post : goal.returns-in-Post

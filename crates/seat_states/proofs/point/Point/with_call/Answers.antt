@@ -1,9 +1,9 @@
 use Rattle.std.proofs.Common.{◌∙◌, ap}
-use Rattle.id_points.specs.Ids.{id_of}
-use Rattle.seat_programs.specs.Posts.{decided}
-use Rattle.call_points.specs.Points.{decide_program}
-use Rattle.seat_states.specs.Points.{after_program}
-use Rattle.seat_states.proofs.Behind.{after_asked}
+use Rattle.id_points.specs.IdsAndAttemptNumbers.{id_of}
+use Rattle.seat_programs.specs.PostPrograms.{decided}
+use Rattle.call_points.specs.CallIdPoints.{decide_program}
+use Rattle.seat_states.specs.SeatPoints.{after_program}
+use Rattle.seat_states.proofs.ProgramBehindSteps.{after_asked}
 use Rattle.seat_states.proofs.point.Point.with_call.Goals as goal
 
 pub returns-in-Decide-default-default-Take-clause-program : goal.returns-in-Decide-default-default-Take-clause-program

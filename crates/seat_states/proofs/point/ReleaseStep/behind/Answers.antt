@@ -1,4 +1,4 @@
-use Rattle.seat_states.proofs.Behind.{recycles}
+use Rattle.seat_states.proofs.ProgramBehindSteps.{recycles}
 use Rattle.seat_states.proofs.point.ReleaseStep.behind.Goals as goal
 
 pub returns-then-found-from-clause-program : goal.returns-then-found-from-clause-program

@@ -1,6 +1,6 @@
 use Rattle.std.proofs.Common.{◌≡◌, ◌==◌, ◌-◌, false, refl, arith}
 use Rattle.std.proofs.lemmas.Bool.Decides.{nat_tests}
-use Rattle.seat_states.proofs.Asides.{attempts_as}
+use Rattle.seat_states.proofs.AsidesAndAttempts.{attempts_as}
 use Rattle.seat_states.proofs.point.Retrying.next.Goals as goal
 
 pub returns-then-found-eq0-clause-program : goal.returns-then-found-eq0-clause-program

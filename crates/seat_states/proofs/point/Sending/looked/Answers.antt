@@ -1,7 +1,7 @@
 use Rattle.std.proofs.Common.{rules, ◌≡◌, ◌%◌, ◌==◌, ◌∙◌, true, arith}
 use Rattle.std.proofs.lemmas.Bool.Decides.{nat_tests}
-use Rattle.sock_words.specs.Words.{vref_version}
-use Rattle.seat_states.proofs.Behind.{looks_on, looks_failed}
+use Rattle.sock_words.specs.PackedWords.{vref_version}
+use Rattle.seat_states.proofs.ProgramBehindSteps.{looks_on, looks_failed}
 use Rattle.seat_states.proofs.point.Sending.looked.Goals as goal
 
 pub returns-then-is_failed-clause-program : goal.returns-then-is_failed-clause-program

@@ -1,4 +1,4 @@
-use Rattle.seat_states.proofs.Behind.{claims}
+use Rattle.seat_states.proofs.ProgramBehindSteps.{claims}
 use Rattle.seat_states.proofs.point.Sending.next.Goals as goal
 
 pub returns-then-found-eq0-clause-program : goal.returns-then-found-eq0-clause-program

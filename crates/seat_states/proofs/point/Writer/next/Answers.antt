@@ -1,7 +1,7 @@
 use Rattle.std.proofs.Common.{◌%◌, ◌==◌, false}
-use Rattle.sock_words.specs.Words.{vref_version}
+use Rattle.sock_words.specs.PackedWords.{vref_version}
 use Rattle.seat_states.specs.declared.point.WriteStep.TheVariants as writes
-use Rattle.seat_states.proofs.Behind.{writes_by}
+use Rattle.seat_states.proofs.ProgramBehindSteps.{writes_by}
 use Rattle.seat_states.proofs.point.Writer.next.Goals as goal
 
 pub returns-in-Turn-clause-program : goal.returns-in-Turn-clause-program

@@ -1,5 +1,5 @@
 use Rattle.std.proofs.Common.{◌∙◌, true, false, sym}
-use Rattle.seat_states.proofs.Behind.{passes}
+use Rattle.seat_states.proofs.ProgramBehindSteps.{passes}
 use Rattle.seat_states.proofs.point.Writer.passed.Goals as goal
 
 pub returns-then-is_last-clause-program : goal.returns-then-is_last-clause-program

@@ -1,5 +1,5 @@
 use Rattle.std.proofs.Common.{arith}
-use Rattle.machine_ticks.proofs.Resting.{between_rests, rest_ticks}
+use Rattle.machine_ticks.proofs.RestingTicks.{between_rests, rest_ticks}
 use Rattle.sock_core.proofs.machine.Machine.advance.Goals as goal
 
 pub returns-else-seat-ge-READERS-clause-tick : goal.returns-else-seat-ge-READERS-clause-tick

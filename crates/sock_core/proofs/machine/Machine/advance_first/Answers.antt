@@ -1,13 +1,13 @@
 use Rattle.std.proofs.Common.{◌∙◌, ap, sym, subst}
 use Rattle.machine_model.specs.declared.tick.Tick.TheVariants.{Idle}
 use Rattle.machine_model.specs.Machines.{MachineState}
-use Rattle.machine_model.specs.Runs.{Ticked}
+use Rattle.machine_model.specs.MachineRuns.{Ticked}
 use Rattle.machine_model.specs.Driving.{Leaves, IsPlain, TickedFirst}
 use Rattle.machine_ticks.proofs.Advancing.{told_ticks, told_keeps, told_leaves, told_sizes}
-use Rattle.machine_ticks.proofs.Fitting.{step_fits}
-use Rattle.machine_model.proofs.Lengths.{is_sized, some_seat}
+use Rattle.machine_ticks.proofs.MachineStepFitting.{step_fits}
+use Rattle.machine_model.proofs.MachineLengths.{is_sized, some_seat}
 use Rattle.machine_ticks.proofs.PlainSteps.{no_step_rests, plain_ready, plain_at, first_told, idle_first}
-use Rattle.machine_ticks.proofs.Resting.{rest_ticks}
+use Rattle.machine_ticks.proofs.RestingTicks.{rest_ticks}
 use Rattle.sock_core.proofs.machine.Machine.advance_first.Goals as goal
 
 pub next_step-requires-clause-ready : goal.next_step-requires-clause-ready

@@ -1,11 +1,11 @@
 use Rattle.std.proofs.Common.{◌≡◌, ◌∙◌, ap, sym, subst}
-use Rattle.machine_model.specs.Links.{Taken, Given}
+use Rattle.machine_model.specs.MachineLinks.{Taken, Given}
 use Rattle.machine_model.specs.Machines.{MachineState, core_with, ending_by}
 use Rattle.machine_model.specs.Driving.{FirstRests}
 use Rattle.std.proofs.Props.{props}
 use Rattle.std.proofs.Math.Logic.{∥∥₁_elim}
-use Rattle.sock_core.proofs.Endings.{began_core, began_keeps, began_plain}
-use Rattle.machine_steps.proofs.Places.{began_along}
+use Rattle.sock_core.proofs.MachineBeforeEnding.{began_core, began_keeps, began_plain}
+use Rattle.machine_steps.proofs.SeatMemoryPlaces.{began_along}
 use Rattle.sock_core.proofs.machine.Machine.begin_ending.Goals as goal
 
 pub invariant_of-self : goal.invariant_of-self

@@ -2,9 +2,9 @@ use Rattle.std.proofs.Common.{rules, ◌≡◌, ◌≤◌, ◌*◌, ◌∙◌, r
 use Rattle.std.proofs.Props.{props}
 use Rattle.std.proofs.Math.Logic.{∥∥₁_elim}
 use Rattle.sock_words.specs.declared.plain.Plan.{Plan}
-use Rattle.sock_io.specs.Link.{end_of}
+use Rattle.sock_io.specs.LinkHalves.{end_of}
 use Rattle.machine_model.specs.Machines.{MachineState}
-use Rattle.sock_core.proofs.Making.{told_alike}
+use Rattle.sock_core.proofs.MachineMaking.{told_alike}
 use Rattle.sock_core.proofs.machine.Machine.finish.Goals as goal
 
 pub returns-clause-took : goal.returns-clause-took

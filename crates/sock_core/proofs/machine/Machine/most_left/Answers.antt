@@ -1,7 +1,7 @@
 use Rattle.std.proofs.Common.{rules, ◌≡◌, ◌-◌, false, subst}
 use Rattle.machine_model.specs.Machines.{MachineState, MOST_LEFT}
 use Rattle.machine_model.specs.Driving.{LastsAtMost}
-use Rattle.sock_core.proofs.Endings.{lasts_most}
+use Rattle.sock_core.proofs.MachineBeforeEnding.{lasts_most}
 use Rattle.sock_core.proofs.machine.Machine.most_left.Goals as goal
 
 pub returns-else-self-clause-left : goal.returns-else-self-clause-left

@@ -1,6 +1,6 @@
 use Rattle.std.proofs.Common.{List, IfOk, subst}
 use Rattle.brpc_model.specs.Items.{Item}
-use Rattle.sock_core.specs.Beginnings.{IsMade}
+use Rattle.sock_core.specs.MachineBeginning.{IsMade}
 use Rattle.sock_core.proofs.machine.Machine.new.Goals as goal
 
 pub returns-clause-made : goal.returns-clause-made

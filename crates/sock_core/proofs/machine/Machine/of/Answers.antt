@@ -1,6 +1,6 @@
 use Rattle.std.proofs.Common.{[], sym, ◌∙◌}
 use Rattle.std.proofs.lemmas.List.{length-map}
-use Rattle.sock_core.proofs.Making.{are_for, as_many_seats, as_many_links, as_many_opens, is_made}
+use Rattle.sock_core.proofs.MachineMaking.{are_for, as_many_seats, as_many_links, as_many_opens, is_made}
 use Rattle.sock_core.proofs.machine.Machine.of.Goals as goal
 
 pub start-requires-clause-for_ : goal.start-requires-clause-for_

@@ -1,8 +1,8 @@
 use Rattle.std.proofs.Common.{◌≡◌, ℕ, true, List, sym, ap, subst, append-nil, arith, ◌+◌, ◌-◌, ◌++◌, ◌∙◌, refl}
 use Rattle.sock_words.specs.declared.plain.Plan.{Plan}
-use Rattle.seat_programs.specs.Runs.{from_to}
+use Rattle.seat_programs.specs.ScheduledRuns.{from_to}
 use Rattle.machine_model.specs.Machines.{READERS}
-use Rattle.sock_core.proofs.Endings.{in_ok}
+use Rattle.sock_core.proofs.MachineBeforeEnding.{in_ok}
 use Rattle.machine_model.proofs.Same.{both_join}
 use Rattle.sock_core.proofs.Rounding.{RoundSoFar, round_begins, round_moved, round_still, round_went, round_stood, client_more, reader_more}
 use Rattle.sock_core.proofs.machine.Machine.round.Goals as goal

@@ -1,5 +1,5 @@
 use Rattle.std.proofs.Common.{◌≤◌, ◌-◌, ◌++◌, ◌≡◌}
-use Rattle.seat_programs.specs.Runs.{from_to}
+use Rattle.seat_programs.specs.ScheduledRuns.{from_to}
 use Rattle.machine_model.specs.Machines.{READERS}
 use Rattle.sock_core.proofs.Rounding.{RoundSoFar}
 use Rattle.sock_core.proofs.machine.Machine.round.Given as goal

@@ -1,6 +1,6 @@
 use Rattle.std.proofs.Common.{sym, ◌∙◌}
 use Rattle.std.proofs.lemmas.Bool.{true≢false}
-use Rattle.sock_core.proofs.Endings.{plain_rests}
+use Rattle.sock_core.proofs.MachineBeforeEnding.{plain_rests}
 use Rattle.sock_core.proofs.Rounding.{first_none, first_more, first_last, leaves_fewer}
 use Rattle.sock_core.proofs.machine.Machine.run_first.Goals as goal
 

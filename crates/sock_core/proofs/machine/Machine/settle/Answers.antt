@@ -1,8 +1,8 @@
 use Rattle.std.proofs.Common.{subst, ◌∙◌}
 use Rattle.machine_model.specs.Machines.{MachineState}
-use Rattle.machine_model.specs.Runs.{SameLinks, PlayedOn}
-use Rattle.sock_core.proofs.Endings.{on_ok}
-use Rattle.sock_core.proofs.Settling.{settles, settled_links}
+use Rattle.machine_model.specs.MachineRuns.{SameLinks, PlayedOn}
+use Rattle.sock_core.proofs.MachineBeforeEnding.{on_ok}
+use Rattle.sock_core.proofs.SettlingRounds.{settles, settled_links}
 use Rattle.sock_core.proofs.machine.Machine.settle.Goals as goal
 
 pub returns-clause-settled : goal.returns-clause-settled

@@ -1,13 +1,13 @@
 use Rattle.std.proofs.Common.{◌≡◌, refl, map, length, vec_capacity, ap, sym, ◌∙◌, arith}
 use Rattle.std.proofs.lemmas.List.{length-map}
-use Rattle.sock_io.specs.Link.{end_of}
+use Rattle.sock_io.specs.LinkHalves.{end_of}
 use Rattle.seat_programs.specs.Cores.{Calls}
-use Rattle.client_seats.specs.Seats.{seat_data}
-use Rattle.machine_model.specs.Links.{LinksData}
-use Rattle.machine_model.specs.Letters.{letters_in}
+use Rattle.client_seats.specs.ClientSeatState.{seat_data}
+use Rattle.machine_model.specs.MachineLinks.{LinksData}
+use Rattle.machine_model.specs.LetterHomes.{letters_in}
 use Rattle.machine_model.specs.Machines.{MachineState}
 use Rattle.sock_core.proofs.Starting.{begins_core, machine_begins}
-use Rattle.sock_core.proofs.Making.{all_open, nothing_taken, nothing_given, none_closing, all_tell, all_prompt, machine_of_parts, parts_new, begins_plain}
+use Rattle.sock_core.proofs.MachineMaking.{all_open, nothing_taken, nothing_given, none_closing, all_tell, all_prompt, machine_of_parts, parts_new, begins_plain}
 use Rattle.sock_core.proofs.machine.Machine.start.Goals as goal
 
 pub parts_of-requires : goal.parts_of-requires

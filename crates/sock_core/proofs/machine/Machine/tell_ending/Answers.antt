@@ -1,6 +1,6 @@
 use Rattle.std.proofs.Common.{◌≡◌, sym, subst, vec_capacity, []}
 use Rattle.machine_model.specs.Machines.{MachineState, IsMachine}
-use Rattle.sock_core.proofs.Endings.{ending_keeps}
+use Rattle.sock_core.proofs.MachineBeforeEnding.{ending_keeps}
 use Rattle.sock_core.proofs.machine.Machine.tell_ending.Goals as goal
 
 pub invariant_of-self : goal.invariant_of-self

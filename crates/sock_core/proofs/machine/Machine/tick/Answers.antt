@@ -1,5 +1,5 @@
 use Rattle.std.proofs.Common.{ℕ, sym, subst}
-use Rattle.machine_ticks.proofs.Resting.{Rests, rest_ticks}
+use Rattle.machine_ticks.proofs.RestingTicks.{Rests, rest_ticks}
 use Rattle.sock_core.proofs.machine.Machine.tick.Goals as goal
 
 pub returns-then-seat-eq0-clause-tick : goal.returns-then-seat-eq0-clause-tick

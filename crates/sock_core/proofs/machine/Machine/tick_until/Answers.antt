@@ -1,5 +1,5 @@
 use Rattle.std.proofs.Common.{refl, ◌∙◌}
-use Rattle.sock_core.proofs.Endings.{passed_none, passed_more, passed_last}
+use Rattle.sock_core.proofs.MachineBeforeEnding.{passed_none, passed_more, passed_last}
 use Rattle.machine_model.proofs.Same.{both_join}
 use Rattle.sock_core.proofs.machine.Machine.tick_until.Goals as goal
 

@@ -1,5 +1,5 @@
 use Rattle.std.proofs.Common.{◌≡◌}
-use Rattle.sock_core.proofs.Endings.{PassedSoFar}
+use Rattle.sock_core.proofs.MachineBeforeEnding.{PassedSoFar}
 use Rattle.sock_core.proofs.machine.Machine.tick_until.Given as goal
 
 -- so many ticks were steps of other kinds

@@ -1,5 +1,5 @@
 use Rattle.std.proofs.Common.{◌≡◌, ◌<◌, length, get_or, arith, ap, subst, ◌∙◌, length-take}
-use Rattle.sock_message.specs.Pieces.{OnItsWay, piece}
+use Rattle.sock_message.specs.MessagePieces.{OnItsWay, piece}
 use Rattle.sock_message.proofs.Blocks.{first_is_piece}
 use Rattle.sock_message.proofs.outgoing.Outgoing.next_piece.Goals as goal
 

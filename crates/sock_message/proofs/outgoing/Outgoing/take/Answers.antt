@@ -1,5 +1,5 @@
 use Rattle.std.proofs.Common.{◌-◌, ◌%◌, ◌≤◌, length, arith, ap, length-take}
-use Rattle.sock_message.specs.Pieces.{OnItsWay}
+use Rattle.sock_message.specs.MessagePieces.{OnItsWay}
 use Rattle.sock_message.proofs.Blocks.{LiesBehind-drop}
 use Rattle.sock_message.proofs.outgoing.Outgoing.take.Goals as goal
 

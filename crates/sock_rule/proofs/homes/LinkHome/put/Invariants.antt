@@ -1,5 +1,5 @@
 use Rattle.std.proofs.Common.{◌++◌}
-use Rattle.sock_io.specs.Link.{taken_of}
+use Rattle.sock_io.specs.LinkHalves.{taken_of}
 use Rattle.sock_rule.proofs.homes.LinkHome.put.Given as goal
 
 abbrev pub ghost-of : goal.ghost-of

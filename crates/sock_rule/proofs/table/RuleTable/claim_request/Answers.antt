@@ -1,7 +1,7 @@
 use Rattle.std.proofs.Common.{arith}
 use Rattle.sock_rule.specs.OnKey.{shows_by}
 use Rattle.sock_rule.specs.Shows.{rose}
-use Rattle.sock_rule.proofs.Sending.{asks_on, asked, asked_seat}
+use Rattle.sock_rule.proofs.SendingOnRequestWords.{asks_on, asked, asked_seat}
 use Rattle.sock_rule.proofs.table.RuleTable.claim_request.Goals as goal
 
 pub fetch_or-found-requires : goal.fetch_or-found-requires

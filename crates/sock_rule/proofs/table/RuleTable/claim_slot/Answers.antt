@@ -1,8 +1,8 @@
 use Rattle.std.proofs.Common.{arith, refl, ◌∙◌, ◌<◌, sym, subst}
 use Rattle.sock_rule.specs.OnKey.{shows_by}
 use Rattle.sock_rule.specs.Shows.{rose}
-use Rattle.sock_rule.proofs.Allowed.{claims}
-use Rattle.sock_rule.proofs.Seating.{still_seat}
+use Rattle.sock_rule.proofs.AllowedSlotSteps.{claims}
+use Rattle.sock_rule.proofs.SeatStaysInTable.{still_seat}
 use Rattle.sock_rule.proofs.table.RuleTable.claim_slot.Goals as goal
 
 pub swap-found-requires : goal.swap-found-requires

@@ -1,9 +1,9 @@
 use Rattle.std.proofs.Common.{arith, refl, ◌∙◌, sym, ap}
 use Rattle.sock_rule.specs.OnKey.{shows_by}
 use Rattle.sock_rule.specs.Shows.{rose}
-use Rattle.sock_rule.proofs.Seating.{still_seat}
-use Rattle.sock_model.specs.Layout.{next_index}
-use Rattle.sock_rule.proofs.Sending.{connects_on}
+use Rattle.sock_rule.proofs.SeatStaysInTable.{still_seat}
+use Rattle.sock_model.specs.SocketTableLayout.{next_index}
+use Rattle.sock_rule.proofs.SendingOnRequestWords.{connects_on}
 use Rattle.sock_rule.proofs.table.RuleTable.connect.Goals as goal
 
 pub store-requires : goal.store-requires

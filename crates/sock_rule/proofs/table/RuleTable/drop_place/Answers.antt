@@ -2,15 +2,15 @@ use Rattle.std.proofs.Common.{ℕ, ◌<◌, ◌∷◌, arith, refl, ◌∙◌, s
 use Rattle.atomic_table.specs.Table.{rest}
 use Rattle.sock_model.specs.declared.view.View.{View}
 use Rattle.sock_model.specs.ChainRows.{with_right, dropped_right}
-use Rattle.sock_rule.specs.Rows.{dropped_at}
+use Rattle.sock_rule.specs.NotesBesideRows.{dropped_at}
 use Rattle.sock_rule.specs.declared.homes.SockHome.TheVariants.{Empty, Link}
-use Rattle.sock_rule.specs.Holding.{MayDropPlace}
+use Rattle.sock_rule.specs.HoldingWriteRight.{MayDropPlace}
 use Rattle.sock_rule.specs.OnKey.{shows_by}
 use Rattle.sock_rule.specs.Shows.{rose}
-use Rattle.sock_rule.proofs.Seating.{still_seat}
-use Rattle.sock_rule.proofs.Ways.{drops_alike}
-use Rattle.sock_rule.proofs.Owning.{drops_on}
-use Rattle.sock_rule.proofs.Handing.{same_link, laid_top, laid_still, dropped_after}
+use Rattle.sock_rule.proofs.SeatStaysInTable.{still_seat}
+use Rattle.sock_rule.proofs.WaysByTableKey.{drops_alike}
+use Rattle.sock_rule.proofs.LinkOwnerSteps.{drops_on}
+use Rattle.sock_rule.proofs.HandingLinkFromHome.{same_link, laid_top, laid_still, dropped_after}
 use Rattle.sock_rule.proofs.table.RuleTable.drop_place.Goals as goal
 
 pub lay_home-requires-clause-top : goal.lay_home-requires-clause-top

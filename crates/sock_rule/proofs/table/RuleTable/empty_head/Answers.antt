@@ -1,7 +1,7 @@
 use Rattle.std.proofs.Common.{arith, refl}
 use Rattle.sock_rule.specs.OnKey.{shows_by}
 use Rattle.sock_rule.specs.Shows.{rose}
-use Rattle.sock_rule.proofs.Owning.{empties_on, emptied_seat}
+use Rattle.sock_rule.proofs.LinkOwnerSteps.{empties_on, emptied_seat}
 use Rattle.sock_rule.proofs.table.RuleTable.empty_head.Goals as goal
 
 pub compare_exchange-found-requires : goal.compare_exchange-found-requires

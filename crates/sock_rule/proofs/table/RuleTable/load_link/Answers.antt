@@ -2,7 +2,7 @@ use Rattle.std.proofs.Common.{arith, refl, ◌∙◌, ◌<◌, sym, subst}
 use Rattle.sock_rule.specs.OnKey.{shows_by}
 use Rattle.sock_rule.specs.Shows.{rose}
 use Rattle.sock_rule.proofs.Storing.{meets}
-use Rattle.sock_rule.proofs.Seating.{still_seat}
+use Rattle.sock_rule.proofs.SeatStaysInTable.{still_seat}
 use Rattle.sock_rule.proofs.table.RuleTable.load_link.Goals as goal
 
 pub load-requires : goal.load-requires

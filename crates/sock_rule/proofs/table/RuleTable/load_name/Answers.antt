@@ -1,9 +1,9 @@
 use Rattle.std.proofs.Common.{ℕ, ◌-◌, ◌%◌, ◌<◌, ◌≢◌, arith, ap, sym, ◌∙◌, subst}
-use Rattle.sock_rule.specs.Rows.{FoundAt}
+use Rattle.sock_rule.specs.NotesBesideRows.{FoundAt}
 use mathlib.Core.Option.{some}
 use Rattle.sock_rule.specs.OnKey.{shows_by}
 use Rattle.sock_rule.specs.Shows.{rose}
-use Rattle.sock_rule.proofs.Naming.{finds_name_on, found_seat}
+use Rattle.sock_rule.proofs.IdsAsNameWords.{finds_name_on, found_seat}
 use Rattle.sock_rule.proofs.table.RuleTable.load_name.Goals as goal
 
 pub load-requires : goal.load-requires

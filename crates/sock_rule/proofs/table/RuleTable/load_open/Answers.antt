@@ -1,11 +1,11 @@
 use Rattle.std.proofs.Common.{ℕ, ◌-◌, ◌%◌, ◌<◌, ◌≢◌, arith, ap, sym, ◌∙◌, subst}
-use Rattle.sock_rule.specs.Rows.{FoundAt}
+use Rattle.sock_rule.specs.NotesBesideRows.{FoundAt}
 use mathlib.Core.Option.{some}
 use Rattle.sock_rule.specs.OnKey.{shows_by}
 use Rattle.sock_rule.specs.Shows.{rose}
-use Rattle.sock_rule.proofs.Naming.{finds_open_on, found_seat}
+use Rattle.sock_rule.proofs.IdsAsNameWords.{finds_open_on, found_seat}
 use Rattle.sock_rule.proofs.table.RuleTable.load_open.Goals as goal
-use Rattle.sock_words.specs.Words.{NO_SOCKET}
+use Rattle.sock_words.specs.PackedWords.{NO_SOCKET}
 
 pub load-requires : goal.load-requires
 load-requires g c = let a = c.requires.seat in (a.0, omega (arith, c.open_index-index.ensures, c.args.self.now.sized, c.requires.operation), rw c.open_index-index.ensures (finds_open_on (shows_by c.args.self.now.table.shared.key) rose _ _ _ _ _ c.args.self.now.planned a.1 a.2 c.args.operation c.requires.operation))

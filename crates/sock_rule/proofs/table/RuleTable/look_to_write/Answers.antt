@@ -1,7 +1,7 @@
 use Rattle.std.proofs.Common.{arith, refl}
 use Rattle.sock_rule.specs.OnKey.{shows_by}
 use Rattle.sock_rule.specs.Shows.{rose}
-use Rattle.sock_rule.proofs.Owning.{looks_on, looked_seat}
+use Rattle.sock_rule.proofs.LinkOwnerSteps.{looks_on, looked_seat}
 use Rattle.sock_rule.proofs.table.RuleTable.look_to_write.Goals as goal
 
 pub load-found-requires : goal.load-found-requires

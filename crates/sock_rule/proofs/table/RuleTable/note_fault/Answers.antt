@@ -1,8 +1,8 @@
 use Rattle.std.proofs.Common.{arith, refl, ◌∙◌, sym}
 use Rattle.sock_rule.specs.OnKey.{shows_by}
 use Rattle.sock_rule.specs.Shows.{rose}
-use Rattle.sock_rule.proofs.Seating.{still_seat}
-use Rattle.sock_rule.proofs.Holding.{notes_fault}
+use Rattle.sock_rule.proofs.SeatStaysInTable.{still_seat}
+use Rattle.sock_rule.proofs.HoldingWriteRight.{notes_fault}
 use Rattle.sock_rule.proofs.table.RuleTable.note_fault.Goals as goal
 
 pub load-requires : goal.load-requires

@@ -1,5 +1,5 @@
 use Rattle.sock_rule.specs.Shows.{shows_in, rose}
-use Rattle.sock_rule.proofs.Seats.{opens}
+use Rattle.sock_rule.proofs.SplitSeatsKeepRule.{opens}
 use Rattle.sock_rule.proofs.table.RuleTable.open.Goals as goal
 
 pub new-requires : goal.new-requires

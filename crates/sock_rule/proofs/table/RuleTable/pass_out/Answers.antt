@@ -1,7 +1,7 @@
 use Rattle.std.proofs.Common.{arith, ◌∙◌, sym}
 use Rattle.sock_rule.specs.OnKey.{shows_by}
 use Rattle.sock_rule.specs.Shows.{rose}
-use Rattle.sock_rule.proofs.Seats.{passes_out}
+use Rattle.sock_rule.proofs.SplitSeatsKeepRule.{passes_out}
 use Rattle.sock_rule.proofs.table.RuleTable.pass_out.Goals as goal
 
 pub split_seat-requires : goal.split_seat-requires

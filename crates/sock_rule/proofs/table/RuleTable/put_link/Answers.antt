@@ -2,16 +2,16 @@ use Rattle.std.proofs.Common.{ℕ, ◌<◌, arith, ◌∙◌, sym, ap, subst}
 use Rattle.atomic_table.specs.Table.{rest}
 use Rattle.sock_model.specs.declared.home.Home.TheVariants.{Link}
 use Rattle.sock_rule.specs.declared.homes.SockHome.TheVariants as at_home
-use Rattle.sock_rule.specs.Hands.{hand_of}
-use Rattle.sock_rule.specs.Faults.{faults_of}
+use Rattle.sock_rule.specs.LinksInHand.{hand_of}
+use Rattle.sock_rule.specs.LinkFaultNotes.{faults_of}
 use Rattle.sock_rule.specs.OnKey.{shows_by}
 use Rattle.sock_rule.specs.Shows.{rose, way_at}
 use Rattle.sock_model.specs.ChainRows.{without_hand}
-use Rattle.sock_rule.proofs.Faults.{left_alike}
-use Rattle.sock_rule.proofs.Moving.{puts}
-use Rattle.sock_rule.proofs.Handing.{put_slots, back_home}
-use Rattle.sock_rule.proofs.Seating.{still_seat}
-use Rattle.sock_rule.proofs.Ways.{is_number}
+use Rattle.sock_rule.proofs.LinkFaultNotes.{left_alike}
+use Rattle.sock_rule.proofs.LinkMovesWithoutRight.{puts}
+use Rattle.sock_rule.proofs.HandingLinkFromHome.{put_slots, back_home}
+use Rattle.sock_rule.proofs.SeatStaysInTable.{still_seat}
+use Rattle.sock_rule.proofs.WaysByTableKey.{is_number}
 use Rattle.sock_rule.proofs.table.RuleTable.put_link.Goals as goal
 
 pub load-requires : goal.load-requires

@@ -1,14 +1,14 @@
 use Rattle.std.proofs.Common.{ℕ, ◌<◌, true, arith, refl, ◌∙◌, sym, ap, subst}
-use Rattle.sock_rule.specs.Faults.{faults_of}
+use Rattle.sock_rule.specs.LinkFaultNotes.{faults_of}
 use Rattle.sock_rule.specs.OnKey.{shows_by}
 use Rattle.sock_rule.specs.Shows.{rose, way_at}
-use Rattle.sock_rule.proofs.Seating.{still_seat}
-use Rattle.sock_rule.proofs.Ways.{is_number}
+use Rattle.sock_rule.proofs.SeatStaysInTable.{still_seat}
+use Rattle.sock_rule.proofs.WaysByTableKey.{is_number}
 use Rattle.atomic_table.specs.Table.{rest}
 use Rattle.sock_model.specs.declared.home.Home.TheVariants as home
 use Rattle.sock_model.specs.ChainRows.{with_right}
 use Rattle.sock_rule.specs.declared.homes.SockHome.TheVariants as at_home
-use Rattle.sock_rule.proofs.Owning.{puts_on}
+use Rattle.sock_rule.proofs.LinkOwnerSteps.{puts_on}
 use Rattle.sock_rule.proofs.table.RuleTable.put_own_link.Goals as goal
 
 pub load-requires : goal.load-requires

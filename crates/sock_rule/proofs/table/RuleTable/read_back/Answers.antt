@@ -1,7 +1,7 @@
 use Rattle.std.proofs.Common.{arith}
 use Rattle.sock_rule.specs.OnKey.{shows_by}
 use Rattle.sock_rule.specs.Shows.{rose}
-use Rattle.sock_rule.proofs.Owning.{reads_back_on, read_back_seat}
+use Rattle.sock_rule.proofs.LinkOwnerSteps.{reads_back_on, read_back_seat}
 use Rattle.sock_rule.proofs.table.RuleTable.read_back.Goals as goal
 
 pub next_index-index-requires : goal.next_index-index-requires

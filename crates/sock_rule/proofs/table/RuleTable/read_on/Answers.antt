@@ -2,9 +2,9 @@ use Rattle.std.proofs.Common.{◌≡◌, arith, refl, ◌∙◌, sym, ap, subst}
 use Rattle.sock_model.specs.declared.chain.Stage.TheVariants.{Placed}
 use Rattle.sock_rule.specs.OnKey.{shows_by}
 use Rattle.sock_rule.specs.Shows.{rose}
-use Rattle.sock_rule.proofs.Seating.{still_seat}
-use Rattle.sock_rule.proofs.Holding.{the_right}
-use Rattle.sock_rule.proofs.Owning.{reads_on_on}
+use Rattle.sock_rule.proofs.SeatStaysInTable.{still_seat}
+use Rattle.sock_rule.proofs.HoldingWriteRight.{the_right}
+use Rattle.sock_rule.proofs.LinkOwnerSteps.{reads_on_on}
 use Rattle.sock_rule.proofs.table.RuleTable.read_on.Goals as goal
 
 pub next_index-index-requires : goal.next_index-index-requires

@@ -2,8 +2,8 @@ use Rattle.std.proofs.Common.{arith, refl, ◌∙◌, ◌<◌, sym, subst}
 use mathlib.Core.Option.{none}
 use Rattle.sock_rule.specs.OnKey.{shows_by}
 use Rattle.sock_rule.specs.Shows.{rose}
-use Rattle.sock_rule.proofs.Allowed.{recycles}
-use Rattle.sock_rule.proofs.Seating.{still_seat}
+use Rattle.sock_rule.proofs.AllowedSlotSteps.{recycles}
+use Rattle.sock_rule.proofs.SeatStaysInTable.{still_seat}
 use Rattle.sock_rule.proofs.table.RuleTable.recycle.Goals as goal
 
 pub compare_exchange-found-requires : goal.compare_exchange-found-requires

@@ -1,13 +1,13 @@
 use Rattle.std.proofs.Common.{◌+◌, arith, ◌∙◌, sym, ap, subst}
 use Rattle.sock_model.specs.ChainRows.{spent_hand}
-use Rattle.sock_rule.specs.Hands.{hand_of}
+use Rattle.sock_rule.specs.LinksInHand.{hand_of}
 use Rattle.sock_rule.specs.OnKey.{shows_by}
 use Rattle.sock_rule.specs.Shows.{rose, SaysWays}
-use Rattle.sock_rule.proofs.Faults.{found_alike}
-use Rattle.sock_rule.proofs.Moving.{spends}
-use Rattle.sock_rule.proofs.Handing.{link_came, came_home, came_out, came_after}
-use Rattle.sock_rule.proofs.Seating.{still_seat}
-use Rattle.sock_rule.proofs.Ways.{spends_said}
+use Rattle.sock_rule.proofs.LinkFaultNotes.{found_alike}
+use Rattle.sock_rule.proofs.LinkMovesWithoutRight.{spends}
+use Rattle.sock_rule.proofs.HandingLinkFromHome.{link_came, came_home, came_out, came_after}
+use Rattle.sock_rule.proofs.SeatStaysInTable.{still_seat}
+use Rattle.sock_rule.proofs.WaysByTableKey.{spends_said}
 use Rattle.sock_rule.proofs.table.RuleTable.spend_pass.Goals as goal
 
 pub compare_exchange_with-requires : goal.compare_exchange_with-requires

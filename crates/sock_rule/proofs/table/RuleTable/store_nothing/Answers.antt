@@ -1,11 +1,11 @@
 use Rattle.std.proofs.Common.{ℕ, arith, refl, subst}
-use Rattle.sock_rule.specs.Rows.{PutAt}
+use Rattle.sock_rule.specs.NotesBesideRows.{PutAt}
 use Rattle.sock_rule.specs.OnKey.{shows_by}
 use Rattle.sock_rule.specs.Shows.{rose}
-use Rattle.sock_rule.proofs.Naming.{stores_nothing_on}
-use Rattle.sock_rule.proofs.Seating.{still_seat}
+use Rattle.sock_rule.proofs.IdsAsNameWords.{stores_nothing_on}
+use Rattle.sock_rule.proofs.SeatStaysInTable.{still_seat}
 use Rattle.sock_rule.proofs.table.RuleTable.store_nothing.Goals as goal
-use Rattle.sock_words.specs.Words.{NO_SOCKET}
+use Rattle.sock_words.specs.PackedWords.{NO_SOCKET}
 
 pub store-requires : goal.store-requires
 store-requires g c = let a = c.requires.seat in (

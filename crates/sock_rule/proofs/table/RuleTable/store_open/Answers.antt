@@ -1,9 +1,9 @@
 use Rattle.std.proofs.Common.{ℕ, ◌+◌, arith, refl, subst}
-use Rattle.sock_rule.specs.Rows.{PutAt}
+use Rattle.sock_rule.specs.NotesBesideRows.{PutAt}
 use Rattle.sock_rule.specs.OnKey.{shows_by}
 use Rattle.sock_rule.specs.Shows.{rose}
-use Rattle.sock_rule.proofs.Naming.{stores_open_on}
-use Rattle.sock_rule.proofs.Seating.{still_seat}
+use Rattle.sock_rule.proofs.IdsAsNameWords.{stores_open_on}
+use Rattle.sock_rule.proofs.SeatStaysInTable.{still_seat}
 use Rattle.sock_rule.proofs.table.RuleTable.store_open.Goals as goal
 
 pub store-requires : goal.store-requires

@@ -1,9 +1,9 @@
 use Rattle.std.proofs.Common.{◌<◌, arith, ◌∙◌, sym, subst}
 use Rattle.sock_rule.specs.OnKey.{shows_by}
 use Rattle.sock_rule.specs.Shows.{rose}
-use Rattle.sock_rule.specs.Sending.{MaySwap}
+use Rattle.sock_rule.specs.SendingOnRequestWords.{MaySwap}
 use Rattle.sock_rule.proofs.Chaining.{swaps}
-use Rattle.sock_rule.proofs.Sending.{swapped_seat}
+use Rattle.sock_rule.proofs.SendingOnRequestWords.{swapped_seat}
 use Rattle.sock_rule.proofs.table.RuleTable.swap_head.Goals as goal
 
 pub swap-found-requires : goal.swap-found-requires

@@ -1,7 +1,7 @@
 use Rattle.std.proofs.Common.{◌∷◌, sym, ◌∙◌}
 use Rattle.atomic_table.specs.Table.{rest}
 use Rattle.sock_rule.specs.declared.homes.SockHome.TheVariants.{Link}
-use Rattle.sock_rule.proofs.Handing.{comes_back}
+use Rattle.sock_rule.proofs.HandingLinkFromHome.{comes_back}
 use Rattle.sock_rule.proofs.table.RuleTable.take_home.Goals as goal
 
 pub exchange-value-requires : goal.exchange-value-requires

@@ -1,8 +1,8 @@
 use Rattle.std.proofs.Common.{arith, ◌∙◌, sym, subst}
 use Rattle.sock_rule.specs.OnKey.{shows_by}
 use Rattle.sock_rule.specs.Shows.{rose}
-use Rattle.sock_rule.specs.Seated.{IsDone}
-use Rattle.sock_rule.proofs.Seats.{takes}
+use Rattle.sock_rule.specs.SocketSeatSplits.{IsDone}
+use Rattle.sock_rule.proofs.SplitSeatsKeepRule.{takes}
 use Rattle.sock_rule.proofs.table.RuleTable.take_in.Goals as goal
 
 pub join_seat-requires : goal.join_seat-requires

@@ -1,14 +1,14 @@
 use Rattle.std.proofs.Common.{◌+◌, ◌<◌, arith, ◌∙◌, sym, ap, subst}
-use Rattle.sock_model.specs.Reads.{carries}
+use Rattle.sock_model.specs.ChainLawReads.{carries}
 use Rattle.sock_model.specs.ChainRows.{with_hand}
-use Rattle.sock_rule.specs.Hands.{hand_of}
+use Rattle.sock_rule.specs.LinksInHand.{hand_of}
 use Rattle.sock_rule.specs.OnKey.{shows_by}
 use Rattle.sock_rule.specs.Shows.{rose, SaysWays}
-use Rattle.sock_rule.proofs.Faults.{found_alike}
-use Rattle.sock_rule.proofs.Moving.{takes_last}
-use Rattle.sock_rule.proofs.Handing.{link_came, came_home, came_out, came_after}
-use Rattle.sock_rule.proofs.Seating.{still_seat}
-use Rattle.sock_rule.proofs.Ways.{lasts_said}
+use Rattle.sock_rule.proofs.LinkFaultNotes.{found_alike}
+use Rattle.sock_rule.proofs.LinkMovesWithoutRight.{takes_last}
+use Rattle.sock_rule.proofs.HandingLinkFromHome.{link_came, came_home, came_out, came_after}
+use Rattle.sock_rule.proofs.SeatStaysInTable.{still_seat}
+use Rattle.sock_rule.proofs.WaysByTableKey.{lasts_said}
 use Rattle.sock_rule.proofs.table.RuleTable.take_last_link.Goals as goal
 use Rattle.sock_words.specs.Totals.{total}
 

@@ -1,14 +1,14 @@
 use Rattle.std.proofs.Common.{ℕ, ◌+◌, ◌∷◌, false, arith, ◌∙◌, sym, ap, subst}
-use Rattle.sock_rule.specs.Faults.{fault_found, CameOut}
+use Rattle.sock_rule.specs.LinkFaultNotes.{fault_found, CameOut}
 use Rattle.sock_model.specs.ChainRows.{with_right}
 use Rattle.sock_rule.specs.declared.homes.SockHome.TheVariants.{Empty}
 use Rattle.sock_rule.specs.OnKey.{shows_by, LinkOnTop}
 use Rattle.sock_rule.specs.Shows.{rose, SaysWays}
-use Rattle.sock_rule.proofs.Seating.{still_seat}
-use Rattle.sock_rule.proofs.Ways.{owns_said}
-use Rattle.sock_rule.proofs.Faults.{found_alike}
-use Rattle.sock_rule.proofs.Holding.{takes_own, the_right}
-use Rattle.sock_rule.proofs.Handing.{own_came, came_home, came_out, came_done, came_took, came_after}
+use Rattle.sock_rule.proofs.SeatStaysInTable.{still_seat}
+use Rattle.sock_rule.proofs.WaysByTableKey.{owns_said}
+use Rattle.sock_rule.proofs.LinkFaultNotes.{found_alike}
+use Rattle.sock_rule.proofs.HoldingWriteRight.{takes_own, the_right}
+use Rattle.sock_rule.proofs.HandingLinkFromHome.{own_came, came_home, came_out, came_done, came_took, came_after}
 use Rattle.sock_rule.proofs.table.RuleTable.take_link.Goals as goal
 
 pub compare_exchange_with-requires : goal.compare_exchange_with-requires

@@ -1,10 +1,10 @@
 use Rattle.std.proofs.Common.{◌*◌, ◌<◌, ◌∷◌, arith, refl, ◌∙◌, sym, subst}
 use Rattle.sock_rule.specs.OnKey.{shows_by}
 use Rattle.sock_rule.specs.Shows.{rose}
-use Rattle.sock_rule.proofs.Seating.{still_seat}
-use Rattle.sock_rule.proofs.Ways.{letters_alike}
-use Rattle.sock_rule.proofs.Holding.{takes_letter, stage_of}
-use Rattle.sock_rule.proofs.Handing.{must_letter, letter_label, letter_after}
+use Rattle.sock_rule.proofs.SeatStaysInTable.{still_seat}
+use Rattle.sock_rule.proofs.WaysByTableKey.{letters_alike}
+use Rattle.sock_rule.proofs.HoldingWriteRight.{takes_letter, stage_of}
+use Rattle.sock_rule.proofs.HandingLinkFromHome.{must_letter, letter_label, letter_after}
 use Rattle.sock_rule.proofs.table.RuleTable.take_msg.Goals as goal
 
 pub load-requires : goal.load-requires

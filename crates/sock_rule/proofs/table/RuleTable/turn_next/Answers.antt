@@ -1,8 +1,8 @@
 use Rattle.std.proofs.Common.{arith, refl}
 use Rattle.sock_rule.specs.OnKey.{shows_by}
 use Rattle.sock_rule.specs.Shows.{rose}
-use Rattle.sock_rule.proofs.Seating.{still_seat}
-use Rattle.sock_rule.proofs.Owning.{turns_on}
+use Rattle.sock_rule.proofs.SeatStaysInTable.{still_seat}
+use Rattle.sock_rule.proofs.LinkOwnerSteps.{turns_on}
 use Rattle.sock_rule.proofs.table.RuleTable.turn_next.Goals as goal
 
 pub next_index-index-requires : goal.next_index-index-requires

@@ -2,7 +2,7 @@ use Rattle.std.proofs.Common.{arith, refl, ◌∙◌, ◌<◌, sym, subst}
 use Rattle.sock_rule.specs.OnKey.{shows_by}
 use Rattle.sock_rule.specs.Shows.{rose}
 use Rattle.sock_rule.proofs.Storing.{wipes}
-use Rattle.sock_rule.proofs.Seating.{still_seat}
+use Rattle.sock_rule.proofs.SeatStaysInTable.{still_seat}
 use Rattle.sock_rule.proofs.table.RuleTable.wipe_code.Goals as goal
 
 pub store-requires : goal.store-requires

@@ -1,10 +1,10 @@
 use Rattle.std.proofs.Common.{ℕ, ◌<◌, arith, refl, sym, ap, ◌∙◌, subst}
 use Rattle.sock_model.specs.SlotRows.{marks_of}
-use Rattle.sock_model.specs.Weights.{is_known}
-use Rattle.sock_words.specs.Words.{socket_id_version}
+use Rattle.sock_model.specs.MarkWeights.{is_known}
+use Rattle.sock_words.specs.PackedWords.{socket_id_version}
 use Rattle.sock_table.proofs.Addressing.{is_held, may_go, is_gone, none_later}
-use Rattle.sock_table.proofs.Giving.{no_rights}
-use Rattle.sock_table.proofs.Quiet.{held_between, gone_between}
+use Rattle.sock_table.proofs.GivingReferenceBack.{no_rights}
+use Rattle.sock_table.proofs.QuietBetweenCalls.{held_between, gone_between}
 use Rattle.sock_table.proofs.table.SockTable.add_reference.Goals as goal
 
 pub returns-then-version-clause-held : goal.returns-then-version-clause-held

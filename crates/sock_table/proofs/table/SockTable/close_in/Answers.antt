@@ -1,6 +1,6 @@
 use Rattle.std.proofs.Common.{length, ap, ◌∙◌}
 use Rattle.std.specs.Mem.Slots.{slots_items}
-use Rattle.sock_table.proofs.Lasts.{are_links, closes, ways_back}
+use Rattle.sock_table.proofs.CloseLoopLasts.{are_links, closes, ways_back}
 use Rattle.sock_table.proofs.table.SockTable.close_in.Goals as goal
 
 pub take_outs-requires-clause-links : goal.take_outs-requires-clause-links

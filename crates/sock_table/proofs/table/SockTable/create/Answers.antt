@@ -1,7 +1,7 @@
 use Rattle.std.proofs.Common.{ℕ, ◌≡◌, true, false, cond, arith, refl, sym, ap, ◌∙◌, subst}
-use Rattle.sock_table.specs.Passes.{TriedTo}
-use Rattle.sock_table.proofs.Quiet.{tried_between}
-use Rattle.sock_table.proofs.Making.{tries, wins, won_claim, made_between, made_known, tried_more, same_none, same_then, became_same, made_same, none_tried, one_tried, created}
+use Rattle.sock_table.specs.LinkPasses.{TriedTo}
+use Rattle.sock_table.proofs.QuietBetweenCalls.{tried_between}
+use Rattle.sock_table.proofs.LifeMaking.{tries, wins, won_claim, made_between, made_known, tried_more, same_none, same_then, became_same, made_same, none_tried, one_tried, created}
 use Rattle.sock_table.proofs.table.SockTable.create.Goals as goal
 
 false_true : false ≡ true → ⊥

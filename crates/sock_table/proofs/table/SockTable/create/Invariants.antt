@@ -1,9 +1,9 @@
 use Rattle.std.proofs.Common.{◌≡◌, ◌-◌, ◌<◌, ℕ}
-use Rattle.sock_model.specs.Weights.{is_tried}
+use Rattle.sock_model.specs.MarkWeights.{is_tried}
 use Rattle.sock_model.specs.SlotRows.{marks_of}
-use Rattle.sock_table.specs.Refs.{IsBetween, SameTokens}
-use Rattle.sock_table.specs.Passes.{TriedTo}
-use Rattle.sock_rule.specs.Seated.{IsSeat}
+use Rattle.sock_table.specs.ReferenceCalls.{IsBetween, SameTokens}
+use Rattle.sock_table.specs.LinkPasses.{TriedTo}
+use Rattle.sock_rule.specs.SocketSeatSplits.{IsSeat}
 use Rattle.sock_table.proofs.table.SockTable.create.Given as goal
 
 abbrev pub invariant-loop-at : goal.invariant-loop-at

@@ -1,7 +1,7 @@
 use Rattle.std.proofs.Common.{arith, refl, ap, ◌∙◌}
 use Rattle.sock_model.specs.ChainRows.{with_hand}
-use Rattle.sock_rule.specs.Hands.{hand_of}
-use Rattle.sock_table.proofs.Ending.{came_home, goes_back, in_hand, lost, recycled_in, recycles, retires, frees, recycled_there}
+use Rattle.sock_rule.specs.LinksInHand.{hand_of}
+use Rattle.sock_table.proofs.SeatViewEndingLife.{came_home, goes_back, in_hand, lost, recycled_in, recycles, retires, frees, recycled_there}
 use Rattle.sock_table.proofs.table.SockTable.end_life.Goals as goal
 
 pub returns-then-step-from-clause-marks : goal.returns-then-step-from-clause-marks

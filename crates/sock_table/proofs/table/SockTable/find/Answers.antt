@@ -1,6 +1,6 @@
 use Rattle.std.proofs.Common.{◌-◌, refl}
-use Rattle.sock_model.specs.Layout.{name_index}
-use Rattle.sock_table.proofs.Naming.{read_id, id_between, id_same, id_known}
+use Rattle.sock_model.specs.SocketTableLayout.{name_index}
+use Rattle.sock_table.proofs.NamingKeepsTokens.{read_id, id_between, id_same, id_known}
 use Rattle.sock_table.proofs.table.SockTable.find.Goals as goal
 
 pub returns-else-word-eq0-clause-found : goal.returns-else-word-eq0-clause-found

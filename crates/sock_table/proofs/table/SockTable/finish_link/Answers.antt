@@ -1,7 +1,7 @@
 use Rattle.std.proofs.Common.{refl, ap}
 use Rattle.sock_model.specs.ChainRows.{spent_hand}
-use Rattle.sock_rule.specs.Hands.{hand_of}
-use Rattle.sock_table.proofs.Ending.{goes_back}
+use Rattle.sock_rule.specs.LinksInHand.{hand_of}
+use Rattle.sock_table.proofs.SeatViewEndingLife.{goes_back}
 use Rattle.sock_table.proofs.Learning.{finished_between, finished_tokens, finished_notes}
 use Rattle.sock_table.proofs.table.SockTable.finish_link.Goals as goal
 

@@ -1,9 +1,9 @@
 use Rattle.std.proofs.Common.{ℕ, ◌≡◌, ◌<◌, arith, sym, ap, ◌∙◌, subst}
 use Rattle.sock_model.specs.SlotRows.{marks_of}
-use Rattle.sock_model.specs.Weights.{is_zero}
-use Rattle.sock_table.proofs.Giving.{some_ref, kept_on, not_last, not_odd, zero_now, ends}
+use Rattle.sock_model.specs.MarkWeights.{is_zero}
+use Rattle.sock_table.proofs.GivingReferenceBack.{some_ref, kept_on, not_last, not_odd, zero_now, ends}
 use Rattle.sock_table.proofs.table.SockTable.give_back.Goals as goal
-use Rattle.sock_words.specs.Words.{vref_version}
+use Rattle.sock_words.specs.PackedWords.{vref_version}
 
 pub sub_ref-step-requires-clause-held : goal.sub_ref-step-requires-clause-held
 sub_ref-step-requires-clause-held g c = some_ref c.args.at c.args.seat.now.me.0 c.requires.some.0 c.requires.some.1

@@ -1,6 +1,6 @@
 use Rattle.std.proofs.Common.{ℕ, ◌<◌, sym, ap, subst}
-use Rattle.sock_words.specs.Words.{socket_id_version}
-use Rattle.sock_model.specs.Weights.{is_hold}
+use Rattle.sock_words.specs.PackedWords.{socket_id_version}
+use Rattle.sock_model.specs.MarkWeights.{is_hold}
 use Rattle.sock_model.specs.SlotRows.{marks_of}
 use Rattle.sock_table.proofs.Learning.{link_of, link_between}
 use Rattle.sock_table.proofs.table.SockTable.link_of.Goals as goal

@@ -1,11 +1,11 @@
 use Rattle.std.proofs.Common.{ℕ, ◌<◌, [], ◌∷◌, arith, sym, ap, ◌∙◌, subst}
 use Rattle.sock_model.specs.declared.marks.Mark.TheVariants.{Saw}
 use Rattle.sock_model.specs.SlotRows.{marks_of}
-use Rattle.sock_model.specs.Weights.{is_hold}
-use Rattle.sock_words.specs.Words.{socket_id_version, vref_version}
-use Rattle.sock_rule.specs.Becoming.{Became}
-use Rattle.sock_rule.proofs.Becoming.{becomes, looked_marks}
-use Rattle.sock_table.proofs.Quiet.{saw_between}
+use Rattle.sock_model.specs.MarkWeights.{is_hold}
+use Rattle.sock_words.specs.PackedWords.{socket_id_version, vref_version}
+use Rattle.sock_rule.specs.MarksComeAndGo.{Became}
+use Rattle.sock_rule.proofs.MarksComeAndGo.{becomes, looked_marks}
+use Rattle.sock_table.proofs.QuietBetweenCalls.{saw_between}
 use Rattle.sock_table.proofs.Addressing.{none_later}
 use Rattle.sock_table.proofs.table.SockTable.look.Goals as goal
 

@@ -1,5 +1,5 @@
 use Rattle.std.proofs.Common.{arith, ap, ◌∙◌}
-use Rattle.sock_table.proofs.Making.{pass_done, pass_there, claimed_still, stage_one, stage_two, stage_three, made}
+use Rattle.sock_table.proofs.LifeMaking.{pass_done, pass_there, claimed_still, stage_one, stage_two, stage_three, made}
 use Rattle.sock_table.proofs.table.SockTable.make.Goals as goal
 
 pub take_in-requires-clause-done : goal.take_in-requires-clause-done

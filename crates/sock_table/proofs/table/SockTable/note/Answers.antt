@@ -1,6 +1,6 @@
 use Rattle.std.proofs.Common.{ap}
-use Rattle.sock_model.specs.Layout.{open_index}
-use Rattle.sock_table.proofs.Naming.{put_between, put_same}
+use Rattle.sock_model.specs.SocketTableLayout.{open_index}
+use Rattle.sock_table.proofs.NamingKeepsTokens.{put_between, put_same}
 use Rattle.sock_table.proofs.table.SockTable.note.Goals as goal
 
 pub returns-in-Some-clause-between : goal.returns-in-Some-clause-between

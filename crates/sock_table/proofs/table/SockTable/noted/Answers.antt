@@ -1,6 +1,6 @@
 use Rattle.std.proofs.Common.{◌-◌, refl}
-use Rattle.sock_model.specs.Layout.{open_index}
-use Rattle.sock_table.proofs.Naming.{read_nothing, read_id, id_between, id_same, id_known, nothing_between}
+use Rattle.sock_model.specs.SocketTableLayout.{open_index}
+use Rattle.sock_table.proofs.NamingKeepsTokens.{read_nothing, read_id, id_between, id_same, id_known, nothing_between}
 use Rattle.sock_table.proofs.table.SockTable.noted.Goals as goal
 
 pub returns-then-word-clause-noted : goal.returns-then-word-clause-noted

@@ -1,6 +1,6 @@
 use Rattle.std.proofs.Common.{ap}
-use Rattle.sock_model.specs.Layout.{name_index}
-use Rattle.sock_table.proofs.Naming.{put_between, put_same}
+use Rattle.sock_model.specs.SocketTableLayout.{name_index}
+use Rattle.sock_table.proofs.NamingKeepsTokens.{put_between, put_same}
 use Rattle.sock_table.proofs.table.SockTable.publish.Goals as goal
 
 pub returns-clause-between : goal.returns-clause-between

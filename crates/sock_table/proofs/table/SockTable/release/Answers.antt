@@ -1,12 +1,12 @@
 use Rattle.std.proofs.Common.{ℕ, ◌<◌, true, false, arith, sym, subst}
 use Rattle.sock_model.specs.declared.marks.Mark.TheVariants.{Hold}
 use Rattle.sock_model.specs.SlotRows.{marks_of}
-use Rattle.sock_model.specs.Weights.{is_hold}
-use Rattle.sock_words.specs.Words.{socket_id_version}
-use Rattle.sock_rule.specs.Becoming.{hold_goes}
-use Rattle.sock_table.specs.Refs.{GaveBack}
-use Rattle.sock_table.proofs.Giving.{no_rights}
-use Rattle.sock_table.proofs.Quiet.{back_between}
+use Rattle.sock_model.specs.MarkWeights.{is_hold}
+use Rattle.sock_words.specs.PackedWords.{socket_id_version}
+use Rattle.sock_rule.specs.MarksComeAndGo.{hold_goes}
+use Rattle.sock_table.specs.ReferenceCalls.{GaveBack}
+use Rattle.sock_table.proofs.GivingReferenceBack.{no_rights}
+use Rattle.sock_table.proofs.QuietBetweenCalls.{back_between}
 use Rattle.sock_table.proofs.table.SockTable.release.Goals as goal
 
 pub give_back-requires-clause-some : goal.give_back-requires-clause-some

@@ -1,10 +1,10 @@
 use Rattle.std.proofs.Common.{ℕ, ◌<◌, arith, refl, sym, ap, ◌∙◌, subst}
 use Rattle.sock_model.specs.declared.marks.Mark.TheVariants.{Hold}
 use Rattle.sock_model.specs.SlotRows.{marks_of}
-use Rattle.sock_model.specs.Weights.{is_hold}
-use Rattle.sock_words.specs.Words.{socket_id_version}
-use Rattle.sock_table.proofs.Quiet.{failed_rests, saw_rests}
-use Rattle.sock_table.proofs.Failing.{found_failed, coding_now, hold_now, uncoding_now, keeps_rights, empty_now, is_failed}
+use Rattle.sock_model.specs.MarkWeights.{is_hold}
+use Rattle.sock_words.specs.PackedWords.{socket_id_version}
+use Rattle.sock_table.proofs.QuietBetweenCalls.{failed_rests, saw_rests}
+use Rattle.sock_table.proofs.StepsFailingLife.{found_failed, coding_now, hold_now, uncoding_now, keeps_rights, empty_now, is_failed}
 use Rattle.sock_table.proofs.Addressing.{none_later}
 use Rattle.sock_table.proofs.table.SockTable.set_failed.Goals as goal
 

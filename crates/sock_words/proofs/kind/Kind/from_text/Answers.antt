@@ -1,7 +1,7 @@
 use Rattle.std.proofs.Common.{◌≡◌, ◌≢◌, IfNone, is_some, Some, None, refl, sym, ap, ◌∙◌}
 use Rattle.sock_words.specs.declared.kind.Kind.{Kind}
 use Rattle.sock_words.specs.KindText.{kind_text}
-use Rattle.sock_words.proofs.KindNames.{known, found_has_name, found_by_name}
+use Rattle.sock_words.proofs.KindNameLookup.{known, found_has_name, found_by_name}
 use Rattle.sock_words.proofs.kind.Kind.from_text.Goals as goal
 
 pub returns-clause-found : goal.returns-clause-found

@@ -1,7 +1,7 @@
 use Rattle.std.proofs.Common.{inl, inr, refl, sym, ◌∙◌}
 use Rattle.write_chain.proofs.Faulting.{rose_some}
-use Rattle.write_chain.proofs.Noting.{wrote_rights}
-use Rattle.write_chain.proofs.Stepping.{part_asked}
+use Rattle.write_chain.proofs.NotingWhileWriting.{wrote_rights}
+use Rattle.write_chain.proofs.WriterThroughSteps.{part_asked}
 use Rattle.write_chain.proofs.right.HeldChain.ask.Goals as goal
 
 pub returns-in-Now-clause-goes : goal.returns-in-Now-clause-goes

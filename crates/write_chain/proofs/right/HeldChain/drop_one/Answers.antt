@@ -1,16 +1,16 @@
 use Rattle.std.proofs.Common.{◌≡◌, ℕ, ◌+◌, ◌<◌, true, List, ◌∷◌, arith, sym, ap, ◌∙◌, subst}
 use Rattle.atomic_table.specs.Table.{rest}
-use Rattle.sock_words.specs.Words.{socket_id_version, socket_id_slot, place_word, ticket_request}
+use Rattle.sock_words.specs.PackedWords.{socket_id_version, socket_id_slot, place_word, ticket_request}
 use Rattle.sock_model.specs.declared.marks.SlotMark.{SlotMark}
 use Rattle.sock_model.specs.declared.view.View.{View}
 use Rattle.sock_model.specs.ChainRows.{dropped_right}
-use Rattle.sock_model.specs.Layout.{place_index}
+use Rattle.sock_model.specs.SocketTableLayout.{place_index}
 use Rattle.sock_model.specs.Marks.{about, noted}
-use Rattle.sock_model.specs.Weights.{is_met}
-use Rattle.sock_model.specs.Links.{HoldsLink}
+use Rattle.sock_model.specs.MarkWeights.{is_met}
+use Rattle.sock_model.specs.LinksInSlots.{HoldsLink}
 use Rattle.sock_rule.specs.declared.homes.SockHome.TheVariants.{Empty}
-use Rattle.write_chain.proofs.Noting.{wrote_notes, wrote_rights, drop_then, rights_but_store}
-use Rattle.write_chain.proofs.Stepping.{part_noted, part_of, part_dropped}
+use Rattle.write_chain.proofs.NotingWhileWriting.{wrote_notes, wrote_rights, drop_then, rights_but_store}
+use Rattle.write_chain.proofs.WriterThroughSteps.{part_noted, part_of, part_dropped}
 use Rattle.write_chain.proofs.Faulting.{code_faults}
 use Rattle.write_chain.proofs.Dropping.{code_noted, is_code, still_dead, dead_dropped}
 use Rattle.write_chain.proofs.right.HeldChain.drop_one.Goals as goal

@@ -1,10 +1,10 @@
 use Rattle.std.proofs.Common.{ap, ◌∙◌}
-use Rattle.sock_words.specs.Words.{socket_id_slot}
-use Rattle.sock_rule.specs.Faults.{fault}
-use Rattle.write_chain.specs.Noting.{faulted}
+use Rattle.sock_words.specs.PackedWords.{socket_id_slot}
+use Rattle.sock_rule.specs.LinkFaultNotes.{fault}
+use Rattle.write_chain.specs.NotingWhileWriting.{faulted}
 use Rattle.write_chain.proofs.Faulting.{fault_noted}
-use Rattle.write_chain.proofs.Noting.{found_it, wrote_notes}
-use Rattle.write_chain.proofs.Stepping.{writer_noted, part_noted}
+use Rattle.write_chain.proofs.NotingWhileWriting.{found_it, wrote_notes}
+use Rattle.write_chain.proofs.WriterThroughSteps.{writer_noted, part_noted}
 use Rattle.write_chain.proofs.Looking.{fails, fails_dead}
 use Rattle.write_chain.proofs.right.HeldChain.fail_link.Goals as goal
 

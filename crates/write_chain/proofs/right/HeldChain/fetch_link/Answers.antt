@@ -1,11 +1,11 @@
 use Rattle.std.proofs.Common.{[], false, refl, sym, ap, ◌∙◌, subst}
-use Rattle.sock_words.specs.Words.{socket_id_slot}
+use Rattle.sock_words.specs.PackedWords.{socket_id_slot}
 use Rattle.sock_model.specs.ChainRows.{with_right}
 use Rattle.sock_model.specs.declared.view.View.{View}
-use Rattle.sock_rule.specs.Becoming.{Became}
-use Rattle.sock_rule.specs.Faults.{fault_found}
+use Rattle.sock_rule.specs.MarksComeAndGo.{Became}
+use Rattle.sock_rule.specs.LinkFaultNotes.{fault_found}
 use Rattle.write_chain.proofs.Faulting.{found_marks, found_noted, found_became, found_rights}
-use Rattle.write_chain.proofs.Stepping.{link_fetched}
+use Rattle.write_chain.proofs.WriterThroughSteps.{link_fetched}
 use Rattle.write_chain.proofs.right.HeldChain.fetch_link.Goals as goal
 
 pub slot_at-slot-requires : goal.slot_at-slot-requires

@@ -1,9 +1,9 @@
 use Rattle.std.proofs.Common.{refl, sym, subst}
 use Rattle.write_chain.specs.declared.keep.Went.TheVariants as went
 use Rattle.sock_model.specs.declared.chain.Stage.TheVariants.{Walks}
-use Rattle.write_chain.specs.Writing.{GoesBy, HasMore}
-use Rattle.write_chain.specs.Keeping.{WentBy}
-use Rattle.write_chain.proofs.Noting.{wrote_rights}
+use Rattle.write_chain.specs.WritingRightInHand.{GoesBy, HasMore}
+use Rattle.write_chain.specs.KeepingOnWriting.{WentBy}
+use Rattle.write_chain.proofs.NotingWhileWriting.{wrote_rights}
 use Rattle.write_chain.proofs.Dropping.{dropped_leaves}
 use Rattle.write_chain.proofs.right.HeldChain.go_on.Goals as goal
 

@@ -2,8 +2,8 @@ use Rattle.std.proofs.Common.{ap, subst}
 use Rattle.sock_words.specs.declared.plain.Plan.{Plan}
 use Rattle.sock_model.specs.declared.chain.Stage.TheVariants.{Writes, Empties}
 use Rattle.sock_rule.specs.ChainPlays.{IsTicket}
-use Rattle.write_chain.proofs.Noting.{rights_only, rights_then}
-use Rattle.write_chain.proofs.Stepping.{may_free, ends_at, past_end, passes_by, goes_to, past_next}
+use Rattle.write_chain.proofs.NotingWhileWriting.{rights_only, rights_then}
+use Rattle.write_chain.proofs.WriterThroughSteps.{may_free, ends_at, past_end, passes_by, goes_to, past_next}
 use Rattle.write_chain.proofs.right.HeldChain.go_past.Goals as goal
 
 pub give_request_back-requires-clause-may : goal.give_request_back-requires-clause-may

@@ -3,8 +3,8 @@ use Rattle.atomic_table.specs.Table.{rest}
 use Rattle.sock_words.specs.declared.plain.Plan.{Plan}
 use Rattle.sock_rule.specs.declared.homes.SockHome.TheVariants.{Empty}
 use Rattle.sock_rule.specs.ChainPlays.{IsTicket}
-use Rattle.write_chain.proofs.Noting.{rights_only, rights_then}
-use Rattle.write_chain.proofs.Stepping.{link_home, may_empty, gave_up, walks_from}
+use Rattle.write_chain.proofs.NotingWhileWriting.{rights_only, rights_then}
+use Rattle.write_chain.proofs.WriterThroughSteps.{link_home, may_empty, gave_up, walks_from}
 use Rattle.write_chain.proofs.right.HeldChain.leave.Goals as goal
 
 pub slot_at-slot-requires : goal.slot_at-slot-requires

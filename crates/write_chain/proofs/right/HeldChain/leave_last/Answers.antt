@@ -1,6 +1,6 @@
 use Rattle.std.proofs.Common.{subst}
-use Rattle.write_chain.specs.Writing.{GoesBy}
-use Rattle.write_chain.proofs.Stepping.{must_last}
+use Rattle.write_chain.specs.WritingRightInHand.{GoesBy}
+use Rattle.write_chain.proofs.WriterThroughSteps.{must_last}
 use Rattle.write_chain.proofs.right.HeldChain.leave_last.Goals as goal
 
 pub unreachable-requires : goal.unreachable-requires

@@ -1,5 +1,5 @@
 use Rattle.std.proofs.Common.{not, refl}
-use Rattle.write_chain.proofs.Stepping.{may_look}
+use Rattle.write_chain.proofs.WriterThroughSteps.{may_look}
 use Rattle.write_chain.proofs.Looking.{live, dead, dead_again, never_true, looked_wrote, found_live, found_dead}
 use Rattle.write_chain.proofs.right.HeldChain.look.Goals as goal
 

@@ -1,6 +1,6 @@
 use Rattle.std.proofs.Common.{arith, sym, ap}
-use Rattle.write_chain.proofs.Noting.{rights_only, rights_then}
-use Rattle.write_chain.proofs.Stepping.{whole_placed}
+use Rattle.write_chain.proofs.NotingWhileWriting.{rights_only, rights_then}
+use Rattle.write_chain.proofs.WriterThroughSteps.{whole_placed}
 use Rattle.write_chain.proofs.right.HeldChain.place.Goals as goal
 
 pub store_place-requires-clause-may : goal.store_place-requires-clause-may

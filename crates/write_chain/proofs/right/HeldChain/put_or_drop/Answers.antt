@@ -1,7 +1,7 @@
 use Rattle.std.proofs.Common.{refl, sym, subst}
 use Rattle.write_chain.specs.declared.keep.Went.TheVariants as went
-use Rattle.write_chain.specs.Keeping.{WentBy}
-use Rattle.write_chain.proofs.Noting.{wrote_then, wrote_rights, drop_then}
+use Rattle.write_chain.specs.KeepingOnWriting.{WentBy}
+use Rattle.write_chain.proofs.NotingWhileWriting.{wrote_then, wrote_rights, drop_then}
 use Rattle.write_chain.proofs.Dropping.{code_before}
 use Rattle.write_chain.proofs.right.HeldChain.put_or_drop.Goals as goal
 

@@ -1,6 +1,6 @@
 use Rattle.std.proofs.Common.{inl, refl}
 use Rattle.message_parts.specs.Parcels.{outgoing_of}
-use Rattle.write_chain.proofs.Noting.{wrote_rights}
+use Rattle.write_chain.proofs.NotingWhileWriting.{wrote_rights}
 use Rattle.write_chain.proofs.Looking.{is_none, is_some}
 use Rattle.write_chain.proofs.right.HeldChain.put_or_place.Goals as goal
 

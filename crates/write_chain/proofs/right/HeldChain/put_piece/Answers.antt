@@ -2,8 +2,8 @@ use Rattle.std.proofs.Common.{inl, inr, refl, sym, ap, ◌∙◌}
 use Rattle.message_parts.specs.Parcels.{outgoing_of}
 use Rattle.write_chain.specs.Puts.{next_of}
 use Rattle.write_chain.proofs.Faulting.{rose_some}
-use Rattle.write_chain.proofs.Noting.{wrote_rights}
-use Rattle.write_chain.proofs.Stepping.{clean_put}
+use Rattle.write_chain.proofs.NotingWhileWriting.{wrote_rights}
+use Rattle.write_chain.proofs.WriterThroughSteps.{clean_put}
 use Rattle.write_chain.proofs.Looking.{is_none, is_some, some_piece, all_taken}
 use Rattle.write_chain.proofs.right.HeldChain.put_piece.Goals as goal
 

@@ -1,6 +1,6 @@
 use Rattle.std.proofs.Common.{refl, ap}
-use Rattle.write_chain.proofs.Noting.{rights_only}
-use Rattle.write_chain.proofs.Stepping.{letter_taken}
+use Rattle.write_chain.proofs.NotingWhileWriting.{rights_only}
+use Rattle.write_chain.proofs.WriterThroughSteps.{letter_taken}
 use Rattle.write_chain.proofs.right.HeldChain.take_next.Goals as goal
 
 pub take_msg-bytes-requires-clause-may : goal.take_msg-bytes-requires-clause-may

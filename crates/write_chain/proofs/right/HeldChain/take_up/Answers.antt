@@ -1,12 +1,12 @@
 use Rattle.std.proofs.Common.{ℕ, ◌<◌, sym, subst}
-use Rattle.sock_words.specs.Words.{socket_id_version}
+use Rattle.sock_words.specs.PackedWords.{socket_id_version}
 use Rattle.sock_model.specs.declared.chain.Stage.TheVariants.{Writes}
 use Rattle.sock_model.specs.declared.marks.Mark.TheVariants.{Met}
-use Rattle.sock_model.specs.Weights.{is_hold, is_met}
+use Rattle.sock_model.specs.MarkWeights.{is_hold, is_met}
 use Rattle.sock_model.specs.SlotRows.{marks_of}
-use Rattle.write_chain.specs.Noting.{met}
-use Rattle.write_chain.proofs.Noting.{found_it, wrote_then, wrote_rights}
-use Rattle.write_chain.proofs.Stepping.{met_stands, met_wrote}
+use Rattle.write_chain.specs.NotingWhileWriting.{met}
+use Rattle.write_chain.proofs.NotingWhileWriting.{found_it, wrote_then, wrote_rights}
+use Rattle.write_chain.proofs.WriterThroughSteps.{met_stands, met_wrote}
 use Rattle.write_chain.proofs.right.HeldChain.take_up.Goals as goal
 
 pub slot_at-slot-requires : goal.slot_at-slot-requires

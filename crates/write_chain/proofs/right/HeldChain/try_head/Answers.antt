@@ -1,4 +1,4 @@
-use Rattle.write_chain.proofs.Noting.{wrote_rights}
+use Rattle.write_chain.proofs.NotingWhileWriting.{wrote_rights}
 use Rattle.write_chain.proofs.right.HeldChain.try_head.Goals as goal
 
 pub returns-in-Done-clause-went : goal.returns-in-Done-clause-went

@@ -1,5 +1,5 @@
 use Rattle.std.proofs.Common.{inl, refl, sym, ◌∙◌}
-use Rattle.write_chain.proofs.Noting.{wrote_then}
+use Rattle.write_chain.proofs.NotingWhileWriting.{wrote_then}
 use Rattle.write_chain.proofs.Looking.{false_true}
 use Rattle.write_chain.proofs.right.HeldChain.try_put.Goals as goal
 

@@ -2,9 +2,9 @@ use Rattle.std.proofs.Common.{refl, sym, ap, subst}
 use Rattle.sock_words.specs.declared.plain.Plan.{Plan}
 use Rattle.sock_rule.specs.ChainPlays.{IsTicket}
 use Rattle.write_chain.specs.declared.right.Doing.TheVariants.{Back}
-use Rattle.write_chain.specs.Writing.{GoesBy}
-use Rattle.write_chain.proofs.Noting.{rights_only, rights_then}
-use Rattle.write_chain.proofs.Stepping.{reads_at, turned_last, turned_on}
+use Rattle.write_chain.specs.WritingRightInHand.{GoesBy}
+use Rattle.write_chain.proofs.NotingWhileWriting.{rights_only, rights_then}
+use Rattle.write_chain.proofs.WriterThroughSteps.{reads_at, turned_last, turned_on}
 use Rattle.write_chain.proofs.right.HeldChain.walk_back.Goals as goal
 
 pub read_back-found-requires-clause-may : goal.read_back-found-requires-clause-may

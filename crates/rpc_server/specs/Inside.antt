@@ -1,6 +1,0 @@
--- The fields of a connection.
-use Rattle.rpc_server.specs.Held.{Held}
-use Rattle.rpc_server.specs.declared.conn.Conn.TheInside.{Inside}
-
-abbrev pub held_view : Inside → Held
-held_view c = record { bytes = c.cutter.bytes; made = c.made }

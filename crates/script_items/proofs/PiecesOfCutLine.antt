@@ -1,0 +1,44 @@
+-- Where a line or a word is cut.
+use Rattle.std.proofs.Common.{◌≡◌, ℕ, ◌<◌, ◌≤◌, ◌+◌, ◌-◌, ◌==◌, Bool, true, false, cond, not, Some, None, List, [], ◌∷◌, length, take, drop, get_or, nat_lt, refl, ap, subst, arith, position}
+use Rattle.std.proofs.lemmas.Grind.{common_steps}
+use Rattle.std.proofs.lemmas.List.Splits.{slice_split_first, slice_split_none}
+use Rattle.std.proofs.lemmas.List.Sums.{fails_before_first, suffix_len_is}
+use Rattle.std.specs.List.{slice_split, position_or_len, suffix_len, onto_first}
+use Rattle.script_items.specs.FollowingLineWords.{HasFirst}
+
+-- before the first such byte is the first piece, and behind it are the others
+pub cut_at : (p : ℕ → Bool) (xs : List ℕ) (n : ℕ) → Some n ≡ position p xs → slice_split p xs ≡ take n xs ∷ slice_split p (drop (n + 1) xs)
+cut_at p xs n found = elim (nat_lt (position_or_len p xs) (length xs)) as (λ b. nat_lt (position_or_len p xs) (length xs) ≡ b → Some n ≡ cond b (Some (position_or_len p xs)) None → slice_split p xs ≡ take n xs ∷ slice_split p (drop (n + 1) xs)) [
+  | true ↦ λ t e.
+      let within : position_or_len p xs < length xs = grind (arith, common_steps, t) in
+      let same : position_or_len p xs ≡ n = cc in
+      let P : ℕ → Type 0 = λ k. slice_split p xs ≡ take k xs ∷ slice_split p (drop (k + 1) xs) in
+      subst P same (slice_split_first p xs 0 within)
+  | false ↦ λ t e. cc
+] refl found
+
+-- without such a byte there is one piece
+pub not_cut : (p : ℕ → Bool) (xs : List ℕ) → None ≡ position p xs → slice_split p xs ≡ xs ∷ []
+not_cut p xs none = elim (nat_lt (position_or_len p xs) (length xs)) as (λ b. nat_lt (position_or_len p xs) (length xs) ≡ b → None ≡ cond b (Some (position_or_len p xs)) None → slice_split p xs ≡ xs ∷ []) [
+  | true ↦ λ t e. cc
+  | false ↦ λ t e.
+      let beyond : length xs ≤ position_or_len p xs = grind (arith, common_steps, t) in
+      slice_split_none p xs (λ k d h. fails_before_first p xs k d (omega arith))
+] refl none
+
+-- there is always a piece
+pub has_piece : (p : ℕ → Bool) (xs : List ℕ) → HasFirst (slice_split p xs)
+has_piece p [] = ([], [], refl)
+has_piece p (x ∷ xs) =
+    let others = has_piece p xs in
+    elim (p x) as (λ t. HasFirst (cond t ([] ∷ slice_split p xs) (onto_first x (slice_split p xs))))
+    [ true ↦ ([], slice_split p xs, refl) | false ↦ (x ∷ others.0, others.1, ap (onto_first x) others.2) ]
+
+-- a place behind which no such byte stands, and directly before which one does, if it isn't 0
+pub last_at : (c : ℕ) (xs : List ℕ) (at : ℕ) → at ≤ length xs → ((k : ℕ) → at ≤ k → k < length xs → get_or xs k 0 ≡ c → ⊥) → (0 < at → get_or xs (at - 1) 0 ≡ c) → at ≡ length xs - suffix_len (λ b. not (b == c)) xs
+last_at c xs at within passed found =
+    let len : suffix_len (λ b. not (b == c)) xs ≡ length xs - at =
+    suffix_len_is (λ b. not (b == c)) xs at 0 within
+    (λ k l h. let ne = passed k l h in grind (arith, common_steps, ne))
+    (λ some. let e = found some in grind (arith, common_steps, e)) in
+    omega (arith, len)
