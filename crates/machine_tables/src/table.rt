@@ -22,7 +22,7 @@ use call_slots::CallSlots;
 use client_seats::Seat;
 use machine_model::{HomeMessage, On, Tick};
 use seat_programs::Sizes;
-use seat_states::{Author, TableStep, Step};
+use seat_states::{Author, Step, TableStep};
 use sock_io::{Ends, In, NoMemory, Out, Peer, Put, Ready};
 use sock_message::BlockPool;
 use sock_words::{Outcome, Plan};

@@ -3,7 +3,7 @@ ghost use Rattle.reader_points.specs.ReaderPoints.{count_of, room};
 
 use call_points::{Aside, EndStep, Locker, WordStep};
 use id_points::{AttemptNumber, CallId};
-use seat_states::{TableStep, ReleaseStep};
+use seat_states::{ReleaseStep, TableStep};
 use sock_words::{IdWord, SocketId};
 
 /// How many bytes of a link are read at most, 2^24.

@@ -4,12 +4,12 @@ ghost use Rattle.call_points.specs.AsideCodeSteps.{after_word};
 ghost use Rattle.seat_states.specs.SeatPoints.{Context, client_on, call_program, attempt_program, next_program, framed, IsOneOfIds, IsCalling, HasLink, MayFindAt, link_behind};
 ghost use Rattle.seat_states.specs.ProgramStepsOfMachine.{first_in, step_as};
 
-use crate::table_step::TableStep;
 use crate::point::{
     Attempt, AttemptStep, Author, CallStep, Continuation, Next, Point, ReleaseStep, SendStep,
     Sending, Step,
 };
 use crate::releasing::releasing;
+use crate::table_step::TableStep;
 use call_points::Aside;
 use id_points::{AttemptNumber, CallId};
 use sock_words::{AtWord, IdWord, Outcome, SocketId, Vref};

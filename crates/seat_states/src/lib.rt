@@ -2,7 +2,6 @@
 #![tactic(auto)]
 
 pub mod asking;
-pub mod table_step;
 pub mod calling;
 pub mod follows;
 pub mod opening;
@@ -12,12 +11,13 @@ pub mod retrying;
 pub mod seeking;
 pub mod sending;
 pub mod steps;
+pub mod table_step;
 pub mod writing;
 
-pub use table_step::TableStep;
 pub use calling::Calling;
 pub use point::{
     AfterStep, Aim, Attempt, AttemptStep, Author, CallStep, Continuation, Current, FailStep,
     Failing, Holder, JoinStep, Next, OpenStep, Opening, Point, ReleaseStep, Released, RetryStep,
     Retrying, SeekStep, SendStep, Sending, Step, WriteStep, Writer,
 };
+pub use table_step::TableStep;

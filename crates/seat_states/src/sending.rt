@@ -5,12 +5,12 @@ ghost use Rattle.seat_states.specs.SeatPoints.{Context, client_on, place_by, cla
 ghost use Rattle.seat_states.specs.ProgramStepsOfMachine.{first_in, step_as};
 
 use crate::asking::posting;
-use crate::table_step::TableStep;
 use crate::point::{
     AfterStep, Author, Continuation, Current, Holder, Next, Point, ReleaseStep, SendStep, Sending,
     Step, WriteStep, Writer,
 };
 use crate::releasing::releasing;
+use crate::table_step::TableStep;
 use sock_words::{EFAILEDSOCKET, EREQUESTS, Ticket, Vref};
 
 impl Author {

@@ -4,9 +4,9 @@ ghost use Rattle.seat_programs.specs.Programs.{Program};
 ghost use Rattle.seat_states.specs.SeatPoints.{Context, open_program, seek_program, fail_program, release_on, point_program, IsCalling, HasInHand, HasLinkAt};
 ghost use Rattle.seat_states.specs.ProgramStepsOfMachine.{OfCall, step_of, first_in, step_as, kind_of_first};
 
-use crate::table_step::TableStep;
 use crate::calling::Calling;
 use crate::point::{Aim, FailStep, Failing, OpenStep, Opening, Point, ReleaseStep, SeekStep, Step};
+use crate::table_step::TableStep;
 use call_points::Aside;
 use sock_words::{Kind, NO_SOCKET, SocketId};
 

@@ -131,8 +131,12 @@ impl TableStep {
             TableStep::AddRef(id) => Some(ref_index(id.slot())),
             TableStep::StoreLink(slot, _) | TableStep::LoadLink(slot, _) => Some(link_index(slot)),
             TableStep::ResetHead(slot, _) => Some(head_index(slot)),
-            TableStep::ClearCode(slot, _) | TableStep::StoreCode(slot, _, _) => Some(code_index(slot)),
-            TableStep::StoreName(name, _) | TableStep::LoadName(name) => Some(name_index(plan, name)),
+            TableStep::ClearCode(slot, _) | TableStep::StoreCode(slot, _, _) => Some(code_index(
+                slot,
+            )),
+            TableStep::StoreName(name, _) | TableStep::LoadName(name) => Some(name_index(
+                plan, name,
+            )),
             TableStep::StoreOpen(operation, _) | TableStep::LoadOpen(operation) => {
                 Some(open_index(plan, operation))
             }

@@ -7,11 +7,11 @@ ghost use Rattle.seat_states.specs.SeatPoints.{Context, point_program, write_pro
 ghost use Rattle.seat_states.specs.ProgramStepsOfMachine.{first_in, step_as};
 
 use crate::asking::posting;
-use crate::table_step::TableStep;
 use crate::point::{
     AfterStep, Author, Current, Holder, Next, Point, ReleaseStep, Step, WriteStep, Writer,
 };
 use crate::releasing::releasing;
+use crate::table_step::TableStep;
 use call_points::OnCall;
 use sock_io::{Put, Ready};
 use sock_words::{EFAILEDSOCKET, Ticket, UNCONNECTED, Vref};
@@ -144,7 +144,10 @@ impl Writer {
             WriteStep::EmptyHead => Step::Table(TableStep::EmptyHead(id.slot(), last)),
             WriteStep::TakeHome(_) => Step::TakeHome(link),
             WriteStep::Walk(_, at, _) => Step::Table(TableStep::ReadNext(at.request())),
-            WriteStep::Turn(_, at, after, _) => Step::Table(TableStep::ReverseNext(at.request(), after)),
+            WriteStep::Turn(_, at, after, _) => Step::Table(TableStep::ReverseNext(
+                at.request(),
+                after,
+            )),
             WriteStep::TakeFirst(_, at) => Step::TakeMessage(at.request()),
         }
     }
