@@ -46,15 +46,15 @@ total_two g (e ∷ l) (suc m) (suc n) a b x y ne = let t = total_two g l m n a b
 pair_self : (id n i m : ℕ) → i ≡ id → m ≡ n → pair_of id n i m ≡ 1
 pair_self id n i m e f = ap (λ b. cond b (cond (eqb m n) 1 0) 0) (eq-eqb i id e) ∙ ap (λ b. cond b 1 0) (eq-eqb m n f)
 
-pub heading_one : (id n : ℕ) (h : Heading) → h.owner ≢ 0 → h.owner ≡ id → h.attempt ≡ n → of_heading id n h ≡ 1
-heading_one id n h some_ a b = ap (λ z. cond z 0 (pair_of id n h.owner h.attempt)) (ne_eqb h.owner 0 some_) ∙ pair_self id n h.owner h.attempt a b
+pub heading_one : (id n : ℕ) (h : Heading) → h.owner ≢ 0 → h.owner ≡ id → h.label.attempt ≡ n → of_heading id n h ≡ 1
+heading_one id n h some_ a b = ap (λ z. cond z 0 (pair_of id n h.owner h.label.attempt)) (ne_eqb h.owner 0 some_) ∙ pair_self id n h.owner h.label.attempt a b
 
 module _ (is_call : Asked → Type 0) (ids : ℕ → ℕ) (vs : List View) (once : (id n : ℕ) → total (of_view id n) vs ≤ 1) where
   -- two messages of one attempt would count twice
   view_most : (i n : ℕ) (e : Entry) (h : HasSent vs i n e) (id a : ℕ) → total (of_entry id a) h.made ≤ of_view id a h.view
   view_most i n e h id a = let z : total (total (of_entry id a)) h.view.lists ≡ total (of_entry id a) h.made + 0 = ap (total (total (of_entry id a))) h.lists in omega (arith, z)
 
-  pub calls_apart : (i j m n : ℕ) (d e : Entry) (h : HasSent vs i m d) (k : HasSent vs j n e) → IsOfCall is_call ids d.heading d.bytes → IsOfCall is_call ids e.heading e.bytes → d.heading.place ≡ e.heading.place → (i ≡ j) × (m ≡ n)
+  pub calls_apart : (i j m n : ℕ) (d e : Entry) (h : HasSent vs i m d) (k : HasSent vs j n e) → IsOfCall is_call ids d.heading d.bytes → IsOfCall is_call ids e.heading e.bytes → d.heading.label.place ≡ e.heading.label.place → (i ≡ j) × (m ≡ n)
   calls_apart i j m n d e h k f g same = dite (ℕ_discrete i j)
       (λ ij. dite (ℕ_discrete m n) (λ mn. (ij, mn)) (λ ne. absurd (let stands = sent_in vs j n e h.view h.made k (sym (ap (get_elem? vs) ij) ∙ h.here) h.lists in
       let two = total_two (of_entry id att) h.made m n d e h.stands stands ne in let most = view_most i m d h id att in let all = term_le (of_view id att) vs i h.view h.here in
@@ -66,16 +66,16 @@ module _ (is_call : Asked → Type 0) (ids : ℕ → ℕ) (vs : List View) (once
       id = d.heading.owner
 
       att : ℕ
-      att = d.heading.attempt
+      att = d.heading.label.attempt
 
-      op : d.heading.operation ≡ e.heading.operation
+      op : d.heading.label.operation ≡ e.heading.label.operation
       op = let a = f.2 in let b = g.2 in let x = f.3 in let y = g.3 in omega (arith, a, b, x, y, same)
 
       one_d : of_entry id att d ≡ 1
-      one_d = heading_one d.heading.owner d.heading.attempt d.heading f.0 refl refl
+      one_d = heading_one d.heading.owner d.heading.label.attempt d.heading f.0 refl refl
 
       one_e : of_entry id att e ≡ 1
-      one_e = heading_one d.heading.owner d.heading.attempt e.heading g.0 (sym g.1 ∙ (ap ids (sym op) ∙ f.1)) (let a = f.2 in let b = g.2 in let x = f.3 in let y = g.3 in omega (arith, a, b, x, y, same))
+      one_e = heading_one d.heading.owner d.heading.label.attempt e.heading g.0 (sym g.1 ∙ (ap ids (sym op) ∙ f.1)) (let a = f.2 in let b = g.2 in let x = f.3 in let y = g.3 in omega (arith, a, b, x, y, same))
 
 module _ (p : Plan) (q : IdPlan) (is_call : Asked → Type 0) (ids : ℕ → ℕ) (clients : List (List Task)) (are : AreTasks p clients) (c : Core) (vs : List View) (es : List Event) (lost : List ℕ) (sound : Sound p c vs) (story : Story p clients true c vs es lost) (settled : AllRest c)
     (ts : List Trial) (law : LabelLaw is_call ids p q c vs ts) where
@@ -92,22 +92,22 @@ module _ (p : Plan) (q : IdPlan) (is_call : Asked → Type 0) (ids : ℕ → ℕ
     abbrev message : IsMessage p clients are true c vs es lost sound story settled i e
     message = message_of p clients are true c vs es lost sound story settled i n e h is
 
-    send_number : e.heading.operation ≡ message.task.number
+    send_number : e.heading.label.operation ≡ message.task.number
     send_number = number_of p clients are true c vs es lost sound story settled i e message
 
-    send_place : e.heading.place ≡ 8 * e.heading.operation
-    send_place = ap (λ (x : Heading). x.place) message.of_task.heading ∙ ap (λ x. 8 * x) (sym send_number)
+    send_place : e.heading.label.place ≡ 8 * e.heading.label.operation
+    send_place = ap (λ (x : Heading). x.label.place) message.of_task.heading ∙ ap (λ x. 8 * x) (sym send_number)
 
-    send_first : e.heading.attempt ≡ 0
-    send_first = ap (λ (x : Heading). x.attempt) message.of_task.heading
+    send_first : e.heading.label.attempt ≡ 0
+    send_first = ap (λ (x : Heading). x.label.attempt) message.of_task.heading
 
-  spoken : (i n : ℕ) (e : Entry) → HasSent vs i n e → is_of_send e ≡ false → IsSpoken clients e.heading.operation
+  spoken : (i n : ℕ) (e : Entry) → HasSent vs i n e → is_of_send e ≡ false → IsSpoken clients e.heading.label.operation
   spoken i n e h not_ = call_of p clients are true c vs es lost sound story settled i n e h not_
 
   -- two messages of sends
-  sends_apart : (i j m n : ℕ) (d e : Entry) (h : HasSent vs i m d) (k : HasSent vs j n e) → is_of_send d ≡ true → is_of_send e ≡ true → d.heading.place ≡ e.heading.place → (i ≡ j) × (m ≡ n)
+  sends_apart : (i j m n : ℕ) (d e : Entry) (h : HasSent vs i m d) (k : HasSent vs j n e) → is_of_send d ≡ true → is_of_send e ≡ true → d.heading.label.place ≡ e.heading.label.place → (i ≡ j) × (m ≡ n)
   sends_apart i j m n d e h k sd se same =
-      let a = send_place i m d h sd in let b = send_place j n e k se in let x = message i m d h sd in let y = message j n e k se in let op : d.heading.operation ≡ e.heading.operation = omega (arith, a, b, same) in
+      let a = send_place i m d h sd in let b = send_place j n e k se in let x = message i m d h sd in let y = message j n e k se in let op : d.heading.label.operation ≡ e.heading.label.operation = omega (arith, a, b, same) in
       let one = one_task p clients are i j x.task y.task x.asks y.asks (sym (send_number i m d h sd) ∙ (op ∙ send_number j n e k se)) in
       let k' : HasSent vs i n e = subst (λ z. HasSent vs z n e) (sym one.0) k in (
         one.0,
@@ -117,19 +117,19 @@ module _ (p : Plan) (q : IdPlan) (is_call : Asked → Type 0) (ids : ℕ → ℕ
       )
 
   -- a call's operation is no task's
-  kinds_apart : (i j m n : ℕ) (d e : Entry) (h : HasSent vs i m d) (k : HasSent vs j n e) → is_of_send d ≡ true → is_of_send e ≡ false → d.heading.place ≡ e.heading.place → ⊥
+  kinds_apart : (i j m n : ℕ) (d e : Entry) (h : HasSent vs i m d) (k : HasSent vs j n e) → is_of_send d ≡ true → is_of_send e ≡ false → d.heading.label.place ≡ e.heading.label.place → ⊥
   kinds_apart i j m n d e h k sd se same = let a = send_place i m d h sd in let f = of_call_fits j n e k se in let b = f.2 in let few = f.3 in let x = message i m d h sd in
-      let op : d.heading.operation ≡ e.heading.operation = omega (arith, a, b, few, same) in spoken j n e k se i x.task x.asks (sym (send_number i m d h sd) ∙ op)
+      let op : d.heading.label.operation ≡ e.heading.label.operation = omega (arith, a, b, few, same) in spoken j n e k se i x.task x.asks (sym (send_number i m d h sd) ∙ op)
 
-  apart : (i j m n : ℕ) (d e : Entry) → HasSent vs i m d → HasSent vs j n e → d.heading.place ≡ e.heading.place → (i ≡ j) × (m ≡ n)
+  apart : (i j m n : ℕ) (d e : Entry) → HasSent vs i m d → HasSent vs j n e → d.heading.label.place ≡ e.heading.label.place → (i ≡ j) × (m ≡ n)
   apart i j m n d e h k same = ⊎_elim
       (λ sd. ⊎_elim (λ se. sends_apart i j m n d e h k sd se same) (λ se. absurd (kinds_apart i j m n d e h k sd se same)) (either_bool (is_of_send e)))
       (λ sd. ⊎_elim (λ se. absurd (kinds_apart j i n m e d k h se sd (sym same))) (λ se. calls_apart is_call ids vs (λ id n. let once = law.once id n in omega (arith, once)) i j m n d e h k (of_call_fits i m d h sd) (of_call_fits j n e k se) same) (either_bool (is_of_send e)))
       (either_bool (is_of_send d))
 
   -- no two accepted messages have one place word
-  pub places_apart : Distinct (λ (e : Entry). e.heading.place) sound.lawful.log
-  places_apart i j d e gd ge same = apart_by p c vs sound.lawful (each_made p clients are true c vs es lost sound story settled) (λ d e. d.heading.place ≡ e.heading.place) apart i j d e gd ge same
+  pub places_apart : Distinct (λ (e : Entry). e.heading.label.place) sound.lawful.log
+  places_apart i j d e gd ge same = apart_by p c vs sound.lawful (each_made p clients are true c vs es lost sound story settled) (λ d e. d.heading.label.place ≡ e.heading.label.place) apart i j d e gd ge same
 
   one_labelled : (i n : ℕ) (e : Entry) → HasSent vs i n e → IsLabelled p e
   one_labelled i n e h = let body = (fits i n e h).1 in ⊎_elim
@@ -149,4 +149,4 @@ module _ (p : Plan) (q : IdPlan) (is_call : Asked → Type 0) (ids : ℕ → ℕ
   all_kinds k = all_sent p c vs sound.lawful (each_made p clients are true c vs es lost sound story settled)
       (λ (a : Accepted). ((asked : Asked) × is_call asked × (asked.operation ≡ a.operation) × (a.attempt ≤ 6) × (a.bytes ≡ frame_of asked (ids a.operation) a.attempt)) ⊎ ((d : ℕ) × (t : Task) × Asks clients d t × (t.number ≡ a.operation))) k
       (λ i n e h link. ⊎_elim (λ is. let x = message i n e h is in inr (i, x.task, x.asks, sym (send_number i n e h is)))
-      (λ not_. let f = of_call_fits i n e h not_ in let w = f.4 in inl (w.0, w.1, w.2, f.3, w.3 ∙ ap (λ z. frame_of w.0 z e.heading.attempt) (sym f.1))) (either_bool (is_of_send e)))
+      (λ not_. let f = of_call_fits i n e h not_ in let w = f.4 in inl (w.0, w.1, w.2, f.3, w.3 ∙ ap (λ z. frame_of w.0 z e.heading.label.attempt) (sym f.1))) (either_bool (is_of_send e)))

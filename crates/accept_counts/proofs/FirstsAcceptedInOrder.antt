@@ -34,12 +34,12 @@ use Rattle.outcome_causes.specs.program_walks.proofs.ThroughClients.{through_ope
 
 -- the number from which on the operations are free behind this message
 abbrev pub behind : Heading → ℕ → ℕ
-behind h low = cond (eqb h.attempt 0) (h.operation + 1) low
+behind h low = cond (eqb h.label.attempt 0) (h.label.operation + 1) low
 
 -- of these operations, from this number on, the program has first messages accepted in their order
 module _ (mine : ℕ → Type 0) where
   abbrev FirstsAt : ℕ → TableStep → (ℕ → Program) → (ℕ → ℕ → Type 0) → Type 0
-  FirstsAt low (PutMessage q heading bytes) next then_ = (heading.attempt ≡ 0 → (low ≤ heading.operation) × mine heading.operation) × ((found : ℕ) → then_ (behind heading low) found)
+  FirstsAt low (PutMessage q heading bytes) next then_ = (heading.label.attempt ≡ 0 → (low ≤ heading.label.operation) × mine heading.label.operation) × ((found : ℕ) → then_ (behind heading low) found)
   FirstsAt low call next then_ = (found : ℕ) → then_ low found
 
   abbrev asks : Asks ℕ
@@ -72,10 +72,10 @@ module _ (mine : ℕ → Type 0) where
 
   -- ## Messages
 
-  firsts_accept : (low id q g : ℕ) (heading : Heading) (bytes : List ℕ) (after : Program) → (heading.attempt ≡ 0 → (low ≤ heading.operation) × mine heading.operation) → Firsts (behind heading low) after → Firsts low (accept id q g heading bytes after)
+  firsts_accept : (low id q g : ℕ) (heading : Heading) (bytes : List ℕ) (after : Program) → (heading.label.attempt ≡ 0 → (low ≤ heading.label.operation) × mine heading.label.operation) → Firsts (behind heading low) after → Firsts low (accept id q g heading bytes after)
   firsts_accept low id q g heading bytes after may goes = (may, λ _ _ found. either_way (nat_lt found IDLE) _ _ (Firsts (behind heading low)) (λ _. goes) (through_write_link (Firsts (behind heading low)) (Firsts (behind heading low)) (firsts_plain (behind heading low)) (firsts_links (behind heading low)) id q (ticket_of q g) after goes))
 
-  firsts_claims : (low more q id : ℕ) (heading : Heading) (bytes : List ℕ) (full accepted : Program) → (heading.attempt ≡ 0 → (low ≤ heading.operation) × mine heading.operation) → Firsts low full → Firsts (behind heading low) accepted
+  firsts_claims : (low more q id : ℕ) (heading : Heading) (bytes : List ℕ) (full accepted : Program) → (heading.label.attempt ≡ 0 → (low ≤ heading.label.operation) × mine heading.label.operation) → Firsts low full → Firsts (behind heading low) accepted
       → Firsts low (claims_from more q id heading bytes full accepted)
   firsts_claims low zero q id heading bytes full accepted may stays goes = stays
   firsts_claims low (suc more) q id heading bytes full accepted may stays goes = λ found. either_way (found % 2 == 0) _ _ (Firsts low) (firsts_accept low id q (found / 2) heading bytes accepted may goes)

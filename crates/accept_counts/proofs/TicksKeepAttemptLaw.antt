@@ -174,15 +174,15 @@ kept_fits ids t u (inr e) f = subst (TrialFits ids) (sym e) tt
 -- a message of a call takes the attempt with it
 pub put_count : (is_call : Asked → Type 0) (v : View) (id n : ℕ) (t : Trial) (call : TableStep) → MayPut is_call t call → of_trial id n (put_behind t call) + put_of v id n call ≤ of_trial id n t
 put_count is_call v id n t (PutMessage r heading bytes) may = ⊎_elim
-    (λ none_. (let z : cond (eqb heading.owner 0) 0 (pair_of id n heading.owner heading.attempt) ≡ 0 = ap (λ b. cond b 0 (pair_of id n heading.owner heading.attempt)) (eq-eqb heading.owner 0 none_.0) in omega (arith, z)))
+    (λ none_. (let z : cond (eqb heading.owner 0) 0 (pair_of id n heading.owner heading.label.attempt) ≡ 0 = ap (λ b. cond b 0 (pair_of id n heading.owner heading.label.attempt)) (eq-eqb heading.owner 0 none_.0) in omega (arith, z)))
     (λ h. by (eqb heading.owner 0) (as_trial t h)) may
   where
-    as_trial : (t : Trial) → IsOfTrial is_call t heading bytes → pair_of id n heading.owner heading.attempt ≤ of_trial id n t
-    as_trial (Sends o j m) h = let z : pair_of id n heading.owner heading.attempt ≡ pair_of id n j m = ap (λ (x : Heading). pair_of id n x.owner x.attempt) h.3 in omega (arith, z)
+    as_trial : (t : Trial) → IsOfTrial is_call t heading bytes → pair_of id n heading.owner heading.label.attempt ≤ of_trial id n t
+    as_trial (Sends o j m) h = let z : pair_of id n heading.owner heading.label.attempt ≡ pair_of id n j m = ap (λ (x : Heading). pair_of id n x.owner x.label.attempt) h.3 in omega (arith, z)
     as_trial Idle h = absurd h
     as_trial (Tries j m) h = absurd h
 
-    by : (b : Bool) → pair_of id n heading.owner heading.attempt ≤ of_trial id n t → 0 + cond b 0 (pair_of id n heading.owner heading.attempt) ≤ of_trial id n t
+    by : (b : Bool) → pair_of id n heading.owner heading.label.attempt ≤ of_trial id n t → 0 + cond b 0 (pair_of id n heading.owner heading.label.attempt) ≤ of_trial id n t
     by true a = omega arith
     by false a = omega (arith, a)
 put_count is_call v id n t _ may = omega arith
@@ -260,13 +260,13 @@ module _ (p : Plan) (q : IdPlan) (narrow : q.slots ≤ 65536) (is_call : Asked �
     put_fits (PutMessage r heading bytes) may = ⊎_elim (λ none_. inl none_) (λ h. inr (of_t t h fits_trial)) may
       where
         of_t : (t : Trial) → IsOfTrial is_call t heading bytes → TrialFits ids t → IsOfCall is_call ids heading bytes
-        of_t (Sends o j m) h f = let owner : heading.owner ≡ j = ap (λ (x : Heading). x.owner) h.3 in let attempt : heading.attempt ≡ m = ap (λ (x : Heading). x.attempt) h.3 in
-            let operation : heading.operation ≡ h.0.operation = ap (λ (x : Heading). x.operation) h.3 in let place : heading.place ≡ 8 * h.0.operation + m = ap (λ (x : Heading). x.place) h.3 in (
+        of_t (Sends o j m) h f = let owner : heading.owner ≡ j = ap (λ (x : Heading). x.owner) h.3 in let attempt : heading.label.attempt ≡ m = ap (λ (x : Heading). x.label.attempt) h.3 in
+            let operation : heading.label.operation ≡ h.0.operation = ap (λ (x : Heading). x.label.operation) h.3 in let place : heading.label.place ≡ 8 * h.0.operation + m = ap (λ (x : Heading). x.label.place) h.3 in (
               (λ z. f.1 (sym owner ∙ z)),
               ap ids (operation ∙ h.2) ∙ (f.0 ∙ sym owner),
               omega (arith, place, operation, attempt),
               (let few = f.2 in omega (arith, attempt, few)),
-              (h.0, h.1, sym operation, h.4 ∙ frames h.0 j heading.owner m heading.attempt (sym owner) (sym attempt)),
+              (h.0, h.1, sym operation, h.4 ∙ frames h.0 j heading.owner m heading.label.attempt (sym owner) (sym attempt)),
             )
           where
             frames : (asked : Asked) (x y m n : ℕ) → x ≡ y → m ≡ n → frame_of asked x m ≡ frame_of asked y n

@@ -43,7 +43,7 @@ with_waiting of id n c xs = total (of id n) xs + total (total (of_retry id n)) c
 
 -- a message of a call is that of an attempt
 abbrev pub of_heading : ℕ → ℕ → Heading → ℕ
-of_heading id n h = if h.owner == 0 then 0 else pair_of id n h.owner h.attempt
+of_heading id n h = if h.owner == 0 then 0 else pair_of id n h.owner h.label.attempt
 
 abbrev pub of_claim : ℕ → ℕ → Claim → ℕ
 of_claim id n x = of_heading id n x.heading
@@ -94,15 +94,15 @@ module _ (ids : ℕ → ℕ) where
 module _ (is_call : Asked → Type 0) (ids : ℕ → ℕ) where
   -- a call's message is the frame of one of its attempts: its owner is the id of the operation's call, and the number of its place word tells its attempt
   abbrev pub IsOfCall : Heading → List ℕ → Type 0
-  IsOfCall h bytes = (h.owner ≢ 0) × (ids h.operation ≡ h.owner) × (h.place ≡ 8 * h.operation + h.attempt) × (h.attempt ≤ 6)
-      × ((asked : Asked) × is_call asked × (asked.operation ≡ h.operation) × (bytes ≡ frame_of asked h.owner h.attempt))
+  IsOfCall h bytes = (h.owner ≢ 0) × (ids h.label.operation ≡ h.owner) × (h.label.place ≡ 8 * h.label.operation + h.label.attempt) × (h.label.attempt ≤ 6)
+      × ((asked : Asked) × is_call asked × (asked.operation ≡ h.label.operation) × (bytes ≡ frame_of asked h.owner h.label.attempt))
 
   -- that of a `send` has no owner
   abbrev pub HeadFits : Heading → List ℕ → Type 0
   HeadFits h bytes = ((h.owner ≡ 0) × (h.parts ≡ [])) ⊎ IsOfCall h bytes
 
   abbrev pub BodyFits : Plan → Heading → List ℕ → Type 0
-  BodyFits p h bytes = (h.place < 8 * p.operations) × (bytes ≢ [])
+  BodyFits p h bytes = (h.label.place < 8 * p.operations) × (bytes ≢ [])
 
   abbrev pub ClaimFits : Plan → Claim → Type 0
   ClaimFits p x = HeadFits x.heading x.bytes × (x.filled ≡ true → BodyFits p x.heading x.bytes)

@@ -120,7 +120,7 @@ module _ (requests : ℕ) (is_call : Asked → Type 0) (reads : Bool) where
     pub taken : ℕ
     pub asked : Bool
     pub code : ℕ
-    pub is : call ≡ DropPlace heading.place holder.link holder.places
+    pub is : call ≡ DropPlace heading.label.place holder.link holder.places
     pub round : In (DidRound (Puts holder now heading left taken asked)) s.deeds
     pub load : In (DidStep (LoadCode (socket_id_slot holder.id) (socket_id_version holder.id)) code) s.deeds
     pub gives_up : u.trial ≡ Idle
@@ -143,7 +143,7 @@ module _ (requests : ℕ) (is_call : Asked → Type 0) (reads : Bool) where
   abbrev pub IsChargeOf : Charge → ℕ → ℕ → Type 0
   IsChargeOf NoCharge id e = ⊥
   IsChargeOf (IsRefused i n code) id e = (i ≡ id) × (e ≡ error_of code n)
-  IsChargeOf (HasDropped heading code) id e = (heading.owner ≢ 0) × (heading.owner ≡ id) × (e ≡ error_of (if code == 0 then EFAILEDSOCKET else code) heading.attempt)
+  IsChargeOf (HasDropped heading code) id e = (heading.owner ≢ 0) × (heading.owner ≡ id) × (e ≡ error_of (if code == 0 then EFAILEDSOCKET else code) heading.label.attempt)
 
   -- a reader posts how its link ended, a client that a call expired, or what it is charged with
   abbrev pub IsPostOf : Charge → ℕ → ℕ → Type 0
@@ -265,7 +265,7 @@ pub record IsDrop (heading : Heading) (code : ℕ) (deeds : List Deed) : Type 0 
   pub found : ℕ
   pub round : In (DidRound (Puts holder now heading left taken asked)) deeds
   pub load : In (DidStep (LoadCode (socket_id_slot holder.id) (socket_id_version holder.id)) code) deeds
-  pub drop : In (DidStep (DropPlace heading.place holder.link holder.places) found) deeds
+  pub drop : In (DidStep (DropPlace heading.label.place holder.link holder.places) found) deeds
 
 -- why seat j posted the error: Did tells what each seat did, and Gone of which attempts nothing is left
 pub data PostKind (requests : ℕ) (is_call : Asked → Type 0) (ids : ℕ → ℕ) (Did : ℕ → Deed → Type 0) (Gone : ℕ → ℕ → Type 0) (j : ℕ) (x : Post) : Type 0 where
@@ -274,7 +274,7 @@ pub data PostKind (requests : ℕ) (is_call : Asked → Type 0) (ids : ℕ → �
   ByExpiry : j < 32 → x.error ≡ error_of ERPCTIMEDOUT WHOLE → PostKind requests is_call ids Did Gone j x
   ByRefusal : (n code : ℕ) (deeds : List Deed) → j < 32 → AllByRecursion (Did j) deeds → IsRefusal requests is_call ids x.id n code deeds → Gone x.id n → x.error ≡ error_of code n → PostKind requests is_call ids Did Gone j x
   ByDrop : (heading : Heading) (code : ℕ) (deeds : List Deed) → j < 32 → AllByRecursion (Did j) deeds → IsDrop heading code deeds → heading.owner ≢ 0 → heading.owner ≡ x.id
-      → x.error ≡ error_of (if code == 0 then EFAILEDSOCKET else code) heading.attempt → PostKind requests is_call ids Did Gone j x
+      → x.error ≡ error_of (if code == 0 then EFAILEDSOCKET else code) heading.label.attempt → PostKind requests is_call ids Did Gone j x
 
 -- ## The law
 

@@ -54,24 +54,24 @@ use Rattle.sock_words.specs.Totals.{total}
 
 module _ (p : Plan) (q : IdPlan) (is_call : Asked → Type 0) (ids : ℕ → ℕ) (clients : List (List Task)) (are : AreTasks p clients) (c : Core) (vs : List View) (es : List Event) (lost : List ℕ) (sound : Sound p c vs) (story : Story p clients true c vs es lost) (settled : AllRest c)
     (ts : List Trial) (law : LabelLaw is_call ids p q c vs ts) (P : ℕ → ℕ → Type 0) (stands : (id n : ℕ) → 0 < times_of id n c vs ts → P id n) where
-  own_heading : (w : Heading) → w.owner ≢ 0 → of_heading w.owner w.attempt w ≡ 1
-  own_heading w some_ = ap (λ z. cond z 0 (pair_of w.owner w.attempt w.owner w.attempt)) (ne_eqb w.owner 0 some_) ∙ pair_self w.owner w.attempt
+  own_heading : (w : Heading) → w.owner ≢ 0 → of_heading w.owner w.label.attempt w ≡ 1
+  own_heading w some_ = ap (λ z. cond z 0 (pair_of w.owner w.label.attempt w.owner w.label.attempt)) (ne_eqb w.owner 0 some_) ∙ pair_self w.owner w.label.attempt
 
   -- the attempt of an accepted message stands there
-  stands_there : (i n : ℕ) (e : Entry) → HasSent vs i n e → is_of_send e ≡ false → P e.heading.owner e.heading.attempt
+  stands_there : (i n : ℕ) (e : Entry) → HasSent vs i n e → is_of_send e ≡ false → P e.heading.owner e.heading.label.attempt
   stands_there i n e h not_ = let f = apart.of_call_fits p q is_call ids clients are c vs es lost sound story settled ts law i n e h not_ in
-      let one : of_entry e.heading.owner e.heading.attempt e ≡ 1 = own_heading e.heading f.0 in
-      let here = term_le (of_entry e.heading.owner e.heading.attempt) h.made n e h.stands in
-      let listed : total (total (of_entry e.heading.owner e.heading.attempt)) h.view.lists ≡ total (of_entry e.heading.owner e.heading.attempt) h.made + 0 = ap (total (total (of_entry e.heading.owner e.heading.attempt))) h.lists in
-      let view = term_le (of_view e.heading.owner e.heading.attempt) vs i h.view h.here in
-      stands e.heading.owner e.heading.attempt (omega (arith, one, here, listed, view))
+      let one : of_entry e.heading.owner e.heading.label.attempt e ≡ 1 = own_heading e.heading f.0 in
+      let here = term_le (of_entry e.heading.owner e.heading.label.attempt) h.made n e h.stands in
+      let listed : total (total (of_entry e.heading.owner e.heading.label.attempt)) h.view.lists ≡ total (of_entry e.heading.owner e.heading.label.attempt) h.made + 0 = ap (total (total (of_entry e.heading.owner e.heading.label.attempt))) h.lists in
+      let view = term_le (of_view e.heading.owner e.heading.label.attempt) vs i h.view h.here in
+      stands e.heading.owner e.heading.label.attempt (omega (arith, one, here, listed, view))
 
   -- so of each message of a call
   pub all_stand : (k : ℕ) → AllByRecursion (λ (a : Accepted). IsSpoken clients a.operation → (ids a.operation ≢ 0) × P (ids a.operation) a.attempt) (orders_of p c vs sound.lawful k).accepted
   all_stand k = all_sent p c vs sound.lawful (each_made p clients are true c vs es lost sound story settled) (λ (a : Accepted). IsSpoken clients a.operation → (ids a.operation ≢ 0) × P (ids a.operation) a.attempt) k
       (λ i n e h link. ⊎_elim
       (λ is. λ spoken. let x = message_of p clients are true c vs es lost sound story settled i n e h is in absurd (spoken i x.task x.asks (sym (number_of p clients are true c vs es lost sound story settled i e x))))
-      (λ not_. λ spoken. let f = apart.of_call_fits p q is_call ids clients are c vs es lost sound story settled ts law i n e h not_ in ((λ z. f.0 (sym f.1 ∙ z)), subst (λ y. P y e.heading.attempt) (sym f.1) (stands_there i n e h not_)))
+      (λ not_. λ spoken. let f = apart.of_call_fits p q is_call ids clients are c vs es lost sound story settled ts law i n e h not_ in ((λ z. f.0 (sym f.1 ∙ z)), subst (λ y. P y e.heading.label.attempt) (sym f.1) (stands_there i n e h not_)))
       (either_bool (is_of_send e)))
 
 -- ## Lists

@@ -58,11 +58,11 @@ module _ (p : Plan) (clients : List (List Task)) (are : AreTasks p clients) (c :
     abbrev HasStored : ℕ → ℕ → ℕ → ℕ → Type 0
     HasStored o owner n link = In (record { operation = o; word = at_word (id_first owner) (id_slot owner) link n }) seen
 
-    over_made : (h : Heading) (link : ℕ) → IsOver is_call seen es h link → h.owner ≢ 0 → HasStored h.operation h.owner h.attempt link
+    over_made : (h : Heading) (link : ℕ) → IsOver is_call seen es h link → h.owner ≢ 0 → HasStored h.label.operation h.owner h.label.attempt link
     over_made h link over some_ = let a = over some_ in let same : a.6.0 ≡ link = one_link (socket_id_slot a.1) (socket_id_version a.1) a.6.0 link a.6.1 a.5 in
-        subst (λ z. HasStored h.operation h.owner h.attempt z) same a.6.2
+        subst (λ z. HasStored h.label.operation h.owner h.label.attempt z) same a.6.2
 
-    module _ (ts : List Trail) (names : NameLaw is_call seen es c vs ts) (ids : ℕ → ℕ) (owned : (i n : ℕ) (e : Entry) → HasSent vs i n e → is_of_send e ≡ false → (e.heading.owner ≢ 0) × (ids e.heading.operation ≡ e.heading.owner)) where
+    module _ (ts : List Trail) (names : NameLaw is_call seen es c vs ts) (ids : ℕ → ℕ) (owned : (i n : ℕ) (e : Entry) → HasSent vs i n e → is_of_send e ≡ false → (e.heading.owner ≢ 0) × (ids e.heading.label.operation ≡ e.heading.owner)) where
       entry_over : (i n : ℕ) (e : Entry) → HasSent vs i n e → EntryOver is_call seen es e
       entry_over i n e h = let all = (names.views i h.view h.here).1 in let one : AllByRecursion (AllByRecursion (EntryOver is_call seen es)) (h.made ∷ []) = subst (AllByRecursion (AllByRecursion (EntryOver is_call seen es))) h.lists all in
           all_in (EntryOver is_call seen es) h.made e one.0 (in_of_at h.made n e h.stands)
@@ -73,8 +73,8 @@ module _ (p : Plan) (clients : List (List Task)) (are : AreTasks p clients) (c :
           (λ (a : Accepted). IsSpoken clients a.operation → HasStored a.operation (ids a.operation) a.attempt k) k
           (λ i n e h link. ⊎_elim
           (λ is. λ spoken. let x = message_of p clients are true c vs es lost sound story settled i n e h is in absurd (spoken i x.task x.asks (sym (number_of p clients are true c vs es lost sound story settled i e x))))
-          (λ not_. λ spoken. let f = owned i n e h not_ in subst (λ z. HasStored e.heading.operation (ids e.heading.operation) e.heading.attempt z) link
-          (subst (λ z. HasStored e.heading.operation z e.heading.attempt e.link) (sym f.1) (over_made e.heading e.link (entry_over i n e h) f.0)))
+          (λ not_. λ spoken. let f = owned i n e h not_ in subst (λ z. HasStored e.heading.label.operation (ids e.heading.label.operation) e.heading.label.attempt z) link
+          (subst (λ z. HasStored e.heading.label.operation z e.heading.label.attempt e.link) (sym f.1) (over_made e.heading e.link (entry_over i n e h) f.0)))
           (either_bool (is_of_send e)))
 
       -- and over the link of a life that its name had
@@ -83,6 +83,6 @@ module _ (p : Plan) (clients : List (List Task)) (are : AreTasks p clients) (c :
           (λ (a : Accepted). IsSpoken clients a.operation → (asked : Asked) × is_call asked × (asked.operation ≡ a.operation) × (slot version : ℕ) × Made clients c.outcomes (name_of asked a.attempt) k slot version) k
           (λ i n e h link. ⊎_elim
           (λ is. λ spoken. let x = message_of p clients are true c vs es lost sound story settled i n e h is in absurd (spoken i x.task x.asks (sym (number_of p clients are true c vs es lost sound story settled i e x))))
-          (λ not_. λ spoken. let o = entry_over i n e h (owned i n e h not_).0 in let life = named_life o.0 e.heading.attempt o.1 e.link o.4 o.5 in
-          (o.0, o.2, o.3, life.0, life.1, subst (λ z. Made clients c.outcomes (name_of o.0 e.heading.attempt) z life.0 life.1) link life.2))
+          (λ not_. λ spoken. let o = entry_over i n e h (owned i n e h not_).0 in let life = named_life o.0 e.heading.label.attempt o.1 e.link o.4 o.5 in
+          (o.0, o.2, o.3, life.0, life.1, subst (λ z. Made clients c.outcomes (name_of o.0 e.heading.label.attempt) z life.0 life.1) link life.2))
           (either_bool (is_of_send e)))

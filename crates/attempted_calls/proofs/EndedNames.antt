@@ -99,8 +99,8 @@ module _ (is_call : Asked → Type 0) (seen : List Store) (es : List Event) wher
 
   -- the message of an attempt is over the link of a socket with its name, which the at word tells that was stored before
   abbrev pub IsOver : Heading → ℕ → Type 0
-  IsOver h link = h.owner ≢ 0 → (asked : Asked) × (s : ℕ) × is_call asked × (asked.operation ≡ h.operation) × IsNamed (name_of asked h.attempt, s) × WasGiven es (socket_id_slot s) (socket_id_version s) link
-      × ((k : ℕ) × WasGiven es (socket_id_slot s) (socket_id_version s) k × IsStored (h.operation, at_word (id_first h.owner) (id_slot h.owner) k h.attempt))
+  IsOver h link = h.owner ≢ 0 → (asked : Asked) × (s : ℕ) × is_call asked × (asked.operation ≡ h.label.operation) × IsNamed (name_of asked h.label.attempt, s) × WasGiven es (socket_id_slot s) (socket_id_version s) link
+      × ((k : ℕ) × WasGiven es (socket_id_slot s) (socket_id_version s) k × IsStored (h.label.operation, at_word (id_first h.owner) (id_slot h.owner) k h.label.attempt))
 
   -- the at word of operation o is that of an attempt over a socket with its name, whose link it tells
   pub record StoredFor (o w : ℕ) : Type 0 where
@@ -177,9 +177,9 @@ module _ (is_call : Asked → Type 0) (seen : List Store) (es : List Event) wher
     put_over q heading bytes may (x ∷ cs) e = (
       (
         λ some_. ⊎_elim (λ none_. absurd (some_ none_))
-            (λ a. let n : AllByRecursion IsNamed ((name_of a.0 heading.attempt, a.1) ∷ []) = subst (AllByRecursion IsNamed) a.4 true_.0 in let l : AllByRecursion (IsFor a.1) (x ∷ cs) = subst (AllByRecursion (IsFor a.1)) e (true_.1 a.5 (name_of a.0 heading.attempt) a.1 a.4) in
-            let stored : AllByRecursion IsStored ((heading.operation, at_word (id_first heading.owner) (id_slot heading.owner) a.6.0 heading.attempt) ∷ []) = subst (AllByRecursion IsStored) a.6.2 true_.3 in
-            (a.0, a.1, a.2, a.3, n.0, l.0, (a.6.0, true_.2 (name_of a.0 heading.attempt) a.1 a.6.0 a.4 a.6.1, stored.0))) may,
+            (λ a. let n : AllByRecursion IsNamed ((name_of a.0 heading.label.attempt, a.1) ∷ []) = subst (AllByRecursion IsNamed) a.4 true_.0 in let l : AllByRecursion (IsFor a.1) (x ∷ cs) = subst (AllByRecursion (IsFor a.1)) e (true_.1 a.5 (name_of a.0 heading.label.attempt) a.1 a.4) in
+            let stored : AllByRecursion IsStored ((heading.label.operation, at_word (id_first heading.owner) (id_slot heading.owner) a.6.0 heading.label.attempt) ∷ []) = subst (AllByRecursion IsStored) a.6.2 true_.3 in
+            (a.0, a.1, a.2, a.3, n.0, l.0, (a.6.0, true_.2 (name_of a.0 heading.label.attempt) a.1 a.6.0 a.4 a.6.1, stored.0))) may,
         tt,
       ),
       over.1,
@@ -234,7 +234,7 @@ module _ (is_call : Asked → Type 0) (seen : List Store) (es fs : List Event) (
   named_up x n = (n.0, n.1, n.2, up _ n.3)
 
   over_up : (h : Heading) (link : ℕ) → IsOver is_call seen es h link → IsOver is_call seen fs h link
-  over_up h link o some_ = let a = o some_ in (a.0, a.1, a.2, a.3, named_up (name_of a.0 h.attempt, a.1) a.4, given_up (socket_id_slot a.1) (socket_id_version a.1) link a.5, (a.6.0, given_up (socket_id_slot a.1) (socket_id_version a.1) a.6.0 a.6.1, a.6.2))
+  over_up h link o some_ = let a = o some_ in (a.0, a.1, a.2, a.3, named_up (name_of a.0 h.label.attempt, a.1) a.4, given_up (socket_id_slot a.1) (socket_id_version a.1) link a.5, (a.6.0, given_up (socket_id_slot a.1) (socket_id_version a.1) a.6.0 a.6.1, a.6.2))
 
   pub for_up : (o w : ℕ) → StoredFor is_call seen es o w → StoredFor is_call seen fs o w
   for_up o w x = record { of = x.of; socket = x.socket; slot = x.slot; named = named_up (name_of x.of.asked x.of.attempt, x.socket) x.named; given = given_up (socket_id_slot x.socket) (socket_id_version x.socket) x.of.link x.given; stored = x.stored }

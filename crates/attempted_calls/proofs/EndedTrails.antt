@@ -92,8 +92,8 @@ module _ (is_call : Asked → Type 0) where
 
   -- the message of a call is that of an attempt over the socket that was found under its name
   abbrev pub MayAttempt : Trail → TableStep → Type 0
-  MayAttempt t (PutMessage q heading bytes) = (heading.owner ≡ 0) ⊎ ((asked : Asked) × (s : ℕ) × is_call asked × (asked.operation ≡ heading.operation) × (t.name ≡ (name_of asked heading.attempt, s) ∷ []) × (t.claimed ≡ true)
-      × ((k : ℕ) × (t.linked ≡ k ∷ []) × (t.stored ≡ (heading.operation, at_word (id_first heading.owner) (id_slot heading.owner) k heading.attempt) ∷ [])))
+  MayAttempt t (PutMessage q heading bytes) = (heading.owner ≡ 0) ⊎ ((asked : Asked) × (s : ℕ) × is_call asked × (asked.operation ≡ heading.label.operation) × (t.name ≡ (name_of asked heading.label.attempt, s) ∷ []) × (t.claimed ≡ true)
+      × ((k : ℕ) × (t.linked ≡ k ∷ []) × (t.stored ≡ (heading.label.operation, at_word (id_first heading.owner) (id_slot heading.owner) k heading.label.attempt) ∷ [])))
   MayAttempt t call = Unit {0}
 
   -- giving a lock back leaves what is known

@@ -69,7 +69,7 @@ use Rattle.sock_words.specs.Totals.{total}
 
 -- the entry is that of attempt n of the call with this id
 pub record IsFrame (asked : Asked) (id n : ℕ) (e : Entry) : Type 0 where
-  pub place : e.heading.place ≡ 8 * asked.operation + n
+  pub place : e.heading.label.place ≡ 8 * asked.operation + n
   pub bytes : e.bytes ≡ frame_of asked id n
 
 none_there : {A : Type 0} {T : Type 0} (i : ℕ) (x : A) → get_elem? [] i ≡ some x → T
@@ -84,7 +84,7 @@ module _ {O : Type 0} (state : O → OutState) (p : Plan) (q : id_plan.Plan) (as
   attempt_frame socket s t (nowhere g) i e at = none_there i e at
   attempt_frame socket s t (over_link u l (came_back by c)) i e at = none_there i e at
   attempt_frame socket s t (over_link u l (went_out w)) i e at = let same = sym (only_one w.accepted.entry i e at) in record {
-    place = ap (λ (x : Entry). x.heading.place) same ∙ ap (λ (h : Heading). h.place) w.accepted.heading_is;
+    place = ap (λ (x : Entry). x.heading.label.place) same ∙ ap (λ (h : Heading). h.label.place) w.accepted.heading_is;
     bytes = ap (λ (x : Entry). x.bytes) same ∙ w.accepted.bytes_is;
   }
 
@@ -277,7 +277,7 @@ module _ {O : Type 0} {g : Ghosts O} {state : O → OutState} {readers : List (L
       → ((i : ℕ) (f : Note Asked → ℕ) → total f (notes_of i v.notes) ≤ total f (notes_of i notes)) → (i : ℕ) (e : Entry) → get_elem? (acted_entries state p q number op by s t a) i ≡ some e → SentBy (accepted_of e)
   acted_sent j number (ops.Send n bytes) None s t a is own v made within i e at =
       let x = a.0.delivered.accepted in
-      let place : e.heading.place ≡ 8 * number + 0 = ap (λ (y : Entry). y.heading.place) (sym (only_one x.entry i e at)) ∙ ap (λ (h : Heading). h.place) x.heading_is in
+      let place : e.heading.label.place ≡ 8 * number + 0 = ap (λ (y : Entry). y.heading.label.place) (sym (only_one x.entry i e at)) ∙ ap (λ (h : Heading). h.label.place) x.heading_is in
       let op_ : number ≡ (accepted_of e).operation = omega (arith, place) in
       of_send j n bytes (subst (λ (o : ℕ). IsOperation tasks_all outcomes j o (ops.Send n bytes)) op_ is)
   acted_sent j number (ops.Send n bytes) (Some by) s t a is own v made within i e at = none_there i e at

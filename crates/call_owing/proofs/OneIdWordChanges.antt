@@ -105,7 +105,7 @@ module _ (q : IdPlan) (life : ℕ → Option ℕ) (calls : List ℕ) (c : Core) 
           (let e = law.errors id inside (ap (λ (y : Parts). y.first) (sym same) ∙ f) (subst (λ (y : Parts). 0 < y.state) same x) in (error_still id (id_word_of c (id_slot id)).oldest e.0, error_still id (id_word_of c (id_slot id)).second e.1)))
           (λ b. subst (λ (y : Parts). ErrorPast (set us i v) id y.oldest × ErrorPast (set us i v) id y.second) (sym b.1) (m.errors id inside b.0 (ap (λ (y : Parts). y.first) (sym b.1) ∙ f) (subst (λ (y : Parts). 0 < y.state) b.1 x)))
           (m.word (id_slot id) inside);
-      letters = λ r heading bytes e some_. let l = law.letters r heading bytes e some_ in (past_still heading.owner heading.attempt l.0, l.1);
+      letters = λ r heading bytes e some_. let l = law.letters r heading bytes e some_ in (past_still heading.owner heading.label.attempt l.0, l.1);
       ats = λ o low some_. subst (λ x. Past (set us i v) (call_id (at_word_slot x) (at_word_first x)) (at_word_attempt x)) (sym (m.ats o low))
           (past_still (call_id (at_word_slot (at_of q c o)) (at_word_first (at_of q c o))) (at_word_attempt (at_of q c o)) (law.ats o low (λ z. some_ (m.ats o low ∙ z))));
       link = m.link;

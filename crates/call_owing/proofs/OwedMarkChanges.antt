@@ -67,7 +67,7 @@ module _ (q : IdPlan) (life : ℕ → Option ℕ) (calls : List ℕ) (c c' : Cor
     pub distinct : Distinct (duty_tokens v.duty ++ retry_tokens (waiting_at c.calls.waiting i))
     pub owed : (id n : ℕ) → id_slot id < q.slots → IsOpen c' id n → Owed q life c' (set us i v) id n
     pub errors : (id : ℕ) → id_slot id < q.slots → (id_word_of c' (id_slot id)).first ≡ id_first id → 0 < (id_word_of c' (id_slot id)).state → ErrorPast (set us i v) id (id_word_of c' (id_slot id)).oldest × ErrorPast (set us i v) id (id_word_of c' (id_slot id)).second
-    pub letters : (r : ℕ) (heading : Heading) (bytes : List ℕ) → get_elem? c'.homes r ≡ some (some (Message heading bytes)) → heading.owner ≢ 0 → Past (set us i v) heading.owner heading.attempt × (heading.attempt ≤ 6)
+    pub letters : (r : ℕ) (heading : Heading) (bytes : List ℕ) → get_elem? c'.homes r ≡ some (some (Message heading bytes)) → heading.owner ≢ 0 → Past (set us i v) heading.owner heading.label.attempt × (heading.label.attempt ≤ 6)
     pub ats : (o : ℕ) → o < q.operations → at_of q c' o ≢ 0 → Past (set us i v) (call_id (at_word_slot (at_of q c' o)) (at_word_first (at_of q c' o))) (at_word_attempt (at_of q c' o))
     pub link : v.link ≡ u.link
     pub reads : (k s : ℕ) → u.link ≡ k ∷ [] → life k ≡ Some s → (u.dead ≡ true) ⊎ (u.left ≡ calls) → (v.dead ≡ true) ⊎ (v.left ≡ calls)

@@ -34,7 +34,7 @@ pub from_freed : (u v : Owing) → u.duty ≡ Free → Further (freed u) v → F
 from_freed u v free f = subst (λ x. Further x v) (was_free u free) f
 
 owner_on : (u v : Owing) (heading : Heading) → Further u v → KnowsOwner u heading → KnowsOwner v heading
-owner_on u v heading f k = λ some_. ((f.knows heading.owner heading.attempt (k some_).0), (k some_).1)
+owner_on u v heading f k = λ some_. ((f.knows heading.owner heading.label.attempt (k some_).0), (k some_).1)
 
 module _ (life : ℕ → Option ℕ) where
   abbrev Goes : Owing → Program → Type 0
@@ -102,9 +102,9 @@ module _ (life : ℕ → Option ℕ) where
   own_post u id e free = subst (Rattle.call_owing.specs.Owes.PostsOwn id e) (sym free) tt
 
   tell_goes : (u : Owing) (heading : Heading) (code : ℕ) → IsClear u → KnowsOwner u heading → (x : Program) → Follows u x → Goes u (tell_drop heading code x)
-  tell_goes u heading code c owner x goes = way life u (eqb heading.owner 0) x (post heading.owner (cond (eqb code 0) 1009 code) heading.attempt x) (λ _. goes u (same_further u))
+  tell_goes u heading code c owner x goes = way life u (eqb heading.owner 0) x (post heading.owner (cond (eqb code 0) 1009 code) heading.label.attempt x) (λ _. goes u (same_further u))
       (λ some_. let o = owner (not_equal heading.owner 0 some_) in let few = o.1 in
-      post_goes life u heading.owner (cond (eqb code 0) 1009 code) heading.attempt x (omega (arith, few)) c.1 (own_post u heading.owner (error_of (cond (eqb code 0) 1009 code) heading.attempt) c.0) o.0 (λ v f. goes v (from_freed u v c.0 f)))
+      post_goes life u heading.owner (cond (eqb code 0) 1009 code) heading.label.attempt x (omega (arith, few)) c.1 (own_post u heading.owner (error_of (cond (eqb code 0) 1009 code) heading.label.attempt) c.0) o.0 (λ v f. goes v (from_freed u v c.0 f)))
 
   put_goes : (u : Owing) (h : Holder) (now : ℕ) (heading : Heading) (left : List ℕ) (taken : ℕ) (after : Program) → IsClear u → KnowsOwner u heading → Follows u after → (answer : Put) → Goes u (put_answered h now heading left taken after answer)
   put_goes u h now heading left taken after c owner goes (puts.Took n) = way life u (nat_le (length left) n) (placed h now heading after) (Write (Puts h now heading (drop n left) (taken + n) false) after)

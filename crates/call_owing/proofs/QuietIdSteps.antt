@@ -38,7 +38,7 @@ module _ (q : IdPlan) (life : ℕ → Option ℕ) (calls : List ℕ) (c : Core) 
       pub distinct : Distinct (duty_tokens v.duty ++ retry_tokens (waiting_at c.calls.waiting i))
       pub owes : (id n : ℕ) → id_slot id < q.slots → IsOpen c id n → DutyTo id n u.duty → Owed q life (record { words = ws; homes = hs; seats = ss; outcomes = os; calls = c.calls }) (set us i v) id n
       pub lefts : (id n o k s : ℕ) → id_slot id < q.slots → IsOpen c id n → o < q.operations → life k ≡ Some s → at_of q c o ≡ at_word (id_first id) (id_slot id) k n → u.link ≡ k ∷ [] → InList o u.left → Owed q life (record { words = ws; homes = hs; seats = ss; outcomes = os; calls = c.calls }) (set us i v) id n
-      pub letters : (r : ℕ) (heading : Heading) (bytes : List ℕ) → get_elem? hs r ≡ some (some (Message heading bytes)) → heading.owner ≢ 0 → Past (set us i v) heading.owner heading.attempt × (heading.attempt ≤ 6)
+      pub letters : (r : ℕ) (heading : Heading) (bytes : List ℕ) → get_elem? hs r ≡ some (some (Message heading bytes)) → heading.owner ≢ 0 → Past (set us i v) heading.owner heading.label.attempt × (heading.label.attempt ≤ 6)
       pub link : v.link ≡ u.link
       pub reads : (k s : ℕ) → u.link ≡ k ∷ [] → life k ≡ Some s → (u.dead ≡ true) ⊎ (u.left ≡ calls) → (v.dead ≡ true) ⊎ (v.left ≡ calls)
       pub failed : (k : ℕ) → Failed life c k → Failed life (record { words = ws; homes = hs; seats = ss; outcomes = os; calls = c.calls }) k
@@ -105,13 +105,13 @@ module _ (q : IdPlan) (life : ℕ → Option ℕ) (calls : List ℕ) (c : Core) 
     pub odd : (k s : ℕ) → call ≡ SetOdd (socket_id_slot s) → u.link ≡ k ∷ [] → life k ≡ Some s → Failed life (record { words = ws; homes = hs; seats = ss; outcomes = os; calls = c.calls }) k
     pub other : (k s : ℕ) → call ≡ AddRef s → u.link ≡ k ∷ [] → life k ≡ Some s → vref_version found ≢ socket_id_version s → Failed life (record { words = ws; homes = hs; seats = ss; outcomes = os; calls = c.calls }) k
     pub live : (k s : ℕ) → call ≡ LookWord s → life k ≡ Some s → vref_version found % 2 ≡ 0 → Failed life c k → ⊥
-    pub letters : (r : ℕ) (heading : Heading) (bytes : List ℕ) → get_elem? hs r ≡ some (some (Message heading bytes)) → heading.owner ≢ 0 → Past us heading.owner heading.attempt × (heading.attempt ≤ 6)
+    pub letters : (r : ℕ) (heading : Heading) (bytes : List ℕ) → get_elem? hs r ≡ some (some (Message heading bytes)) → heading.owner ≢ 0 → Past us heading.owner heading.label.attempt × (heading.label.attempt ≤ 6)
 
   -- the same marks
   module _ (failed : (k : ℕ) → Failed life c k → Failed life (record { words = ws; homes = hs; seats = ss; outcomes = os; calls = c.calls }) k)
-      (letters : (r : ℕ) (heading : Heading) (bytes : List ℕ) → get_elem? hs r ≡ some (some (Message heading bytes)) → heading.owner ≢ 0 → Past us heading.owner heading.attempt × (heading.attempt ≤ 6)) where
-    here : (v : Owing) → ((id n : ℕ) → Among id n u.knows → Among id n v.knows) → (r : ℕ) (heading : Heading) (bytes : List ℕ) → get_elem? hs r ≡ some (some (Message heading bytes)) → heading.owner ≢ 0 → Past (set us i v) heading.owner heading.attempt × (heading.attempt ≤ 6)
-    here v knows r heading bytes e some_ = let l = letters r heading bytes e some_ in (past_on q life calls c c us i u v law at knows heading.owner heading.attempt l.0, l.1)
+      (letters : (r : ℕ) (heading : Heading) (bytes : List ℕ) → get_elem? hs r ≡ some (some (Message heading bytes)) → heading.owner ≢ 0 → Past us heading.owner heading.label.attempt × (heading.label.attempt ≤ 6)) where
+    here : (v : Owing) → ((id n : ℕ) → Among id n u.knows → Among id n v.knows) → (r : ℕ) (heading : Heading) (bytes : List ℕ) → get_elem? hs r ≡ some (some (Message heading bytes)) → heading.owner ≢ 0 → Past (set us i v) heading.owner heading.label.attempt × (heading.label.attempt ≤ 6)
+    here v knows r heading bytes e some_ = let l = letters r heading bytes e some_ in (past_on q life calls c c us i u v law at knows heading.owner heading.label.attempt l.0, l.1)
 
     own_past : (id n : ℕ) → Among id n u.knows → Past us id n
     own_past id n a = (i, u, at, a)

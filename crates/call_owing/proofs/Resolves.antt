@@ -87,7 +87,7 @@ module _ (q : IdPlan) (life : ℕ → Option ℕ) (calls : List ℕ) (c : Core) 
           (λ b. subst (λ y. Distinct (duty_tokens x.duty ++ retry_tokens y)) (sym (else_ j b.0)) (law.distinct j x b.1)) (at_set us i j v x e);
       past = λ id n p. law.past id n (past_from id n p);
       errors = λ id l f x. let e = law.errors id l f x in (error_to id (id_word_of c (Rattle.sock_words.specs.PackedWords.id_slot id)).oldest e.0, error_to id (id_word_of c (Rattle.sock_words.specs.PackedWords.id_slot id)).second e.1);
-      letters = λ r heading bytes e some_. let l = law.letters r heading bytes e some_ in (past_to heading.owner heading.attempt l.0, l.1);
+      letters = λ r heading bytes e some_. let l = law.letters r heading bytes e some_ in (past_to heading.owner heading.label.attempt l.0, l.1);
       ats = λ o l some_. past_to (Rattle.sock_words.specs.PackedWords.call_id (Rattle.sock_words.specs.PackedWords.at_word_slot (at_of q c o)) (Rattle.sock_words.specs.PackedWords.at_word_first (at_of q c o))) (Rattle.sock_words.specs.PackedWords.at_word_attempt (at_of q c o)) (law.ats o l some_);
       readers = λ k s e. let r = law.readers k s e in dite (ℕ_discrete r.0 i)
           (λ h. let same : r.1 ≡ u = some-injective r.1 u (sym r.2 ∙ ap (get_elem? us) h ∙ at) in (i, v, set_at us i u v at, m.same.link ∙ subst (λ (w : Owing). w.link ≡ k ∷ []) same r.3, ⊎_elim (λ d. inl (m.same.dead ∙ d)) (λ d. inr (m.same.left ∙ d)) (subst (λ (w : Owing). (w.dead ≡ true) ⊎ (w.left ≡ calls)) same r.4)))

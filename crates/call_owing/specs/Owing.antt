@@ -112,7 +112,7 @@ module _ (life : ℕ → Option ℕ) where
 
 -- the message of a call is one of an attempt whose word is stored
 abbrev pub KnowsOwner : Owing → Heading → Type 0
-KnowsOwner u heading = heading.owner ≢ 0 → Among heading.owner heading.attempt u.knows × (heading.attempt ≤ 6)
+KnowsOwner u heading = heading.owner ≢ 0 → Among heading.owner heading.label.attempt u.knows × (heading.label.attempt ≤ 6)
 
 abbrev pub MayCall : Owing → TableStep → Type 0
 MayCall u (PutMessage q heading bytes) = KnowsOwner u heading

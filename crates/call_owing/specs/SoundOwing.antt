@@ -91,7 +91,7 @@ pub record OwingLaw (q : IdPlan) (life : ℕ → Option ℕ) (calls : List ℕ) 
   pub past : (id n : ℕ) → Past us id n → HasEnded q c id ⊎ WasAt q c id n
   -- errors, messages and at words are of attempts that are past
   pub errors : (id : ℕ) → id_slot id < q.slots → (id_word_of c (id_slot id)).first ≡ id_first id → 0 < (id_word_of c (id_slot id)).state → ErrorPast us id (id_word_of c (id_slot id)).oldest × ErrorPast us id (id_word_of c (id_slot id)).second
-  pub letters : (r : ℕ) (heading : Heading) (bytes : List ℕ) → get_elem? c.homes r ≡ core.some (core.some (Message heading bytes)) → heading.owner ≢ 0 → Past us heading.owner heading.attempt × (heading.attempt ≤ 6)
+  pub letters : (r : ℕ) (heading : Heading) (bytes : List ℕ) → get_elem? c.homes r ≡ core.some (core.some (Message heading bytes)) → heading.owner ≢ 0 → Past us heading.owner heading.label.attempt × (heading.label.attempt ≤ 6)
   pub ats : (o : ℕ) → o < q.operations → at_of q c o ≢ 0 → Past us (call_id (at_word_slot (at_of q c o)) (at_word_first (at_of q c o))) (at_word_attempt (at_of q c o))
   -- each link that gets a socket has a reader, which has all at words to load unless it found the socket failed
   pub readers : (k s : ℕ) → life k ≡ Some s → (j : ℕ) × (u : Owing) × (get_elem? us j ≡ core.some u) × (u.link ≡ k ∷ []) × ((u.dead ≡ true) ⊎ (u.left ≡ calls))

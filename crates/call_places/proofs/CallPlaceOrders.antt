@@ -89,8 +89,8 @@ module _ {X : Type 0} where
 
 -- the entry of a send that was accepted
 send_entry : {O : Type 0} {g : Ghosts O} (state : O → OutState) (p : Plan) (q : id_plan.Plan) (number n : ℕ) (bytes : List ℕ) (op : Op) → op ≡ ops.Send n bytes → (by : Option Outcome) → by ≡ None → (s t : Stand g) (a : Acted state p q number op by s t)
-    → (e : Entry) × (get_elem? (acted_entries state p q number op by s t a) 0 ≡ some e) × (e.heading.place ≡ 8 * number + 0) × (e.link < p.links)
-send_entry state p q number n bytes (ops.Send m bs) is None untold s t a = let x = a.0.delivered.accepted in (x.entry, refl, ap (λ (h : Heading). h.place) x.heading_is, x.inside)
+    → (e : Entry) × (get_elem? (acted_entries state p q number op by s t a) 0 ≡ some e) × (e.heading.label.place ≡ 8 * number + 0) × (e.link < p.links)
+send_entry state p q number n bytes (ops.Send m bs) is None untold s t a = let x = a.0.delivered.accepted in (x.entry, refl, ap (λ (h : Heading). h.label.place) x.heading_is, x.inside)
 send_entry state p q number n bytes (ops.Send m bs) is (Some by) untold s t a = absurd (cc)
 send_entry state p q number n bytes _ is by untold s t a = absurd (cc)
 
@@ -190,21 +190,21 @@ module _ {O : Type 0} {g : Ghosts O} {state : O → OutState} {readers : List (L
     log_differs = log.places_differ p run.closed.view.found run.closed.view.lists run.closed.ordered once_listed
 
     -- and each has one of the plan
-    low_place : (k : ℕ) (e : Entry) → get_elem? accepted k ≡ some e → e.heading.place < 8 * p.operations
+    low_place : (k : ℕ) (e : Entry) → get_elem? accepted k ≡ some e → e.heading.label.place < 8 * p.operations
     low_place k e at =
         let w = log.authored p run.closed.view.found run.closed.view.lists run.closed.ordered k e at in
         let m : ℕ = before w.author run.closed.ordered.by k in
         let own = own_behind readers (map own_of all) w.seat _ m e (ap (λ l. get_elem? l w.seat) (sym lists_are) ∙ w.list) w.place in
         let c = map_back own_of all own.0 _ own.1 in
-        let here = term (at_place e.heading.place) (own_of c.0) m e (ap (λ l. get_elem? l m) c.2 ∙ w.place) in
-        let one = only-at e.heading.place e.heading.place refl in
-        inside all notes laws (have_all notes have) (may_make may) (one_number tasks) e.heading.place own.0 c.0 c.1 (omega arith)
+        let here = term (at_place e.heading.label.place) (own_of c.0) m e (ap (λ l. get_elem? l m) c.2 ∙ w.place) in
+        let one = only-at e.heading.label.place e.heading.label.place refl in
+        inside all notes laws (have_all notes have) (may_make may) (one_number tasks) e.heading.label.place own.0 c.0 c.1 (omega arith)
 
-    low_on : (k i : ℕ) (e : Entry) → get_elem? (on k accepted) i ≡ some e → e.heading.place < 8 * p.operations
+    low_on : (k i : ℕ) (e : Entry) → get_elem? (on k accepted) i ≡ some e → e.heading.label.place < 8 * p.operations
     low_on k i e at = let w = from_on k accepted i e at in low_place w.0 e w.1
 
     few_on : (k : ℕ) → length (on k accepted) ≤ 8 * p.operations
-    few_on k = few_entries (8 * p.operations) (on k accepted) (λ i j a b at bt same. distinct_filter (λ (x : Entry). x.heading.place) (λ (x : Entry). eqb x.link k) accepted log_differs i j a b at bt same) (low_on k)
+    few_on k = few_entries (8 * p.operations) (on k accepted) (λ i j a b at bt same. distinct_filter (λ (x : Entry). x.heading.label.place) (λ (x : Entry). eqb x.link k) accepted log_differs i j a b at bt same) (low_on k)
 
     -- ## The words
 
@@ -219,7 +219,7 @@ module _ {O : Type 0} {g : Ghosts O} {state : O → OutState} {readers : List (L
       pub inside : k < p.links
       pub entry : Entry
       pub at : get_elem? (on k accepted) i ≡ some entry
-      pub place : entry.heading.place ≡ n
+      pub place : entry.heading.label.place ≡ n
 
     none_or_message : (n : ℕ) → (word_at places n ≡ no_place) ⊎ ((k i : ℕ) × IsMessage n k i)
     none_or_message n = dite (dec_lt n (8 * p.operations))
@@ -235,13 +235,13 @@ module _ {O : Type 0} {g : Ghosts O} {state : O → OutState} {readers : List (L
           let here = low_on k i m.entry m.at in
           let position = place_low (on k accepted) i m.entry m.at in
           let most = few_on k in
-          let word = word_here m.entry.heading.place here in
+          let word = word_here m.entry.heading.label.place here in
           subst (λ (x : ℕ). (b : Bool) × IsPlaceWord (word_at places x) b k i) m.place
           (dite (dec_lt i back.took_is.kept)
           (λ lt. by false (omega (arith, m.inside, few)) (omega (arith, position, most, low)) (word ∙ fifo.placed i m.entry m.at lt))
           (λ ge. by true (omega (arith, m.inside, few)) (omega (arith, position, most, low)) (word ∙ fifo.dropped i m.entry m.at (omega arith))))
         where
-          by : (b : Bool) → k < 65536 → i < 4294967295 → word_at places m.entry.heading.place ≡ place_word b k i → (b : Bool) × IsPlaceWord (word_at places m.entry.heading.place) b k i
+          by : (b : Bool) → k < 65536 → i < 4294967295 → word_at places m.entry.heading.label.place ≡ place_word b k i → (b : Bool) × IsPlaceWord (word_at places m.entry.heading.label.place) b k i
           by b small short e = (b, subst (λ (w : ℕ). IsPlaceWord w b k i) (sym e) (is_place b k i small short))
 
       -- a word that tells a position is that of a message there
@@ -270,7 +270,7 @@ module _ {O : Type 0} {g : Ghosts O} {state : O → OutState} {readers : List (L
         once = λ a b k i h u. (
             let x = message_at a k i h in
             let y = message_at b k i u in
-            label_is a b h.attempt u.attempt (sym x.place ∙ (ap (λ (e : Entry). e.heading.place) (some-injective x.entry y.entry (sym x.at ∙ y.at)) ∙ y.place))
+            label_is a b h.attempt u.attempt (sym x.place ∙ (ap (λ (e : Entry). e.heading.label.place) (some-injective x.entry y.entry (sym x.at ∙ y.at)) ∙ y.place))
             );
         no_gap = λ a k i lower h less. (
             let x = message_at a k i h in
@@ -281,9 +281,9 @@ module _ {O : Type 0} {g : Ghosts O} {state : O → OutState} {readers : List (L
         where
           below : (k lower : ℕ) (e : Entry) → k < p.links → get_elem? (on k accepted) lower ≡ some e → (b : Label) × StandsAt places b k lower
           below k lower e low_link at =
-              let same : e.heading.place ≡ 8 * (e.heading.place / 8) + e.heading.place % 8 = omega arith in
-              let t = tells (8 * (e.heading.place / 8) + e.heading.place % 8) k lower (record { inside = low_link; entry = e; at = at; place = same }) in
-              (record { operation = e.heading.place / 8; attempt = e.heading.place % 8 }, record { attempt = omega arith; told = record { accepted = t.1.has_position; link_is = t.1.link_is; position_is = t.1.position_is } })
+              let same : e.heading.label.place ≡ 8 * (e.heading.label.place / 8) + e.heading.label.place % 8 = omega arith in
+              let t = tells (8 * (e.heading.label.place / 8) + e.heading.label.place % 8) k lower (record { inside = low_link; entry = e; at = at; place = same }) in
+              (record { operation = e.heading.label.place / 8; attempt = e.heading.label.place % 8 }, record { attempt = omega arith; told = record { accepted = t.1.has_position; link_is = t.1.link_is; position_is = t.1.position_is } })
 
       -- ## Sends
 

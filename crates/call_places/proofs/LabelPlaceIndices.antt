@@ -30,7 +30,7 @@ use Rattle.sock_words.specs.Totals.{total}
 
 -- the message has this place index
 abbrev pub at_place : ℕ → Entry → ℕ
-at_place l e = only l e.heading.place
+at_place l e = only l e.heading.label.place
 
 -- what an operation's message may have
 abbrev pub label_in : ℕ → ℕ → Op → ℕ
@@ -38,12 +38,12 @@ label_in l number (ops.Send n bytes) = only l (8 * number + 0)
 label_in l number (ops.Call asked) = only l (8 * asked.operation + 0)
 label_in l number _ = 0
 
-one_entry : (l place : ℕ) (e : Entry) → e.heading.place ≡ place → total (at_place l) (e ∷ []) ≤ only l place
+one_entry : (l place : ℕ) (e : Entry) → e.heading.label.place ≡ place → total (at_place l) (e ∷ []) ≤ only l place
 one_entry l place e is = let a = ap (only l) is in omega arith
 
 module _ {O : Type 0} (state : O → OutState) (p : Plan) (q : id_plan.Plan) (l : ℕ) where
   delivered_place : (socket : SocketId) (msg : Letter) (s t : Both) (d : DeliveredBy state p q socket msg s t) → total (at_place l) (delivered_entries state p q socket msg s t d) ≤ only l msg.label.place
-  delivered_place socket msg s t (went_out w) = one_entry l msg.label.place w.accepted.entry (ap (λ (h : Heading). h.place) w.accepted.heading_is)
+  delivered_place socket msg s t (went_out w) = one_entry l msg.label.place w.accepted.entry (ap (λ (h : Heading). h.label.place) w.accepted.heading_is)
   delivered_place socket msg s t (came_back by c) = omega arith
 
   attempt_place : (socket : SocketId) (msg : Letter) (s t : Both) (a : AttemptedBy state p q socket msg s t) → total (at_place l) (attempt_entries state p q socket msg s t a) ≤ only l msg.label.place
@@ -67,7 +67,7 @@ module _ {O : Type 0} (state : O → OutState) (p : Plan) (q : id_plan.Plan) (l 
   retry_place r s t (went_again k u a b) = went_place _ _ _ t b.went
 
   acted_place : {g : Ghosts O} (number : ℕ) (op : Op) (by : Option Outcome) (s t : Stand g) (a : Acted state p q number op by s t) → total (at_place l) (acted_entries state p q number op by s t a) ≤ label_in l number op
-  acted_place number (ops.Send n bytes) None s t a = one_entry l (8 * number + 0) a.0.delivered.accepted.entry (ap (λ (h : Heading). h.place) a.0.delivered.accepted.heading_is)
+  acted_place number (ops.Send n bytes) None s t a = one_entry l (8 * number + 0) a.0.delivered.accepted.entry (ap (λ (h : Heading). h.label.place) a.0.delivered.accepted.heading_is)
   acted_place number (ops.Send n bytes) (Some by) s t a = omega arith
   acted_place number (ops.Call asked) None s t a = attempt_place a.1.socket _ a.1.at (both_of t) a.1.attempted
   acted_place number (ops.Call asked) (Some by) s t a = omega arith

@@ -41,14 +41,14 @@ module _ (p : Plan) (found : List ℕ) (lists : List (List Entry)) (o : Ordered 
       }
 
   module _ (once : (l : ℕ) → total (λ (es : List Entry). total (at_place l) es) lists ≤ 1) where
-    one_here : (l : ℕ) (e : Entry) → e.heading.place ≡ l → at_place l e ≡ 1
-    one_here l e is = only-at l e.heading.place is
+    one_here : (l : ℕ) (e : Entry) → e.heading.label.place ≡ l → at_place l e ≡ 1
+    one_here l e is = only-at l e.heading.label.place is
 
-    apart : (q r : ℕ) (d e : Entry) → q < r → get_elem? o.log q ≡ some d → get_elem? o.log r ≡ some e → d.heading.place ≢ e.heading.place
+    apart : (q r : ℕ) (d e : Entry) → q < r → get_elem? o.log q ≡ some d → get_elem? o.log r ≡ some e → d.heading.label.place ≢ e.heading.label.place
     apart q r d e less at bt same =
         let s = authored q d at in
         let t = authored r e bt in
-        let l : ℕ = e.heading.place in
+        let l : ℕ = e.heading.label.place in
         let x = one_here l d same in let y = one_here l e refl in let few = once l in
         dite (ℕ_discrete s.seat t.seat)
         (λ one.

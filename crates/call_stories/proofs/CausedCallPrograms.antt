@@ -103,9 +103,9 @@ module _ (p : Plan) (q : IdPlan) (clients : List (List Task)) (gives : ℕ → L
   code_of_drop false c is other = other (not_equal c 0 is)
 
   tell_then : (w : Scene) (m : Mark) (heading : Heading) (code : ℕ) → IsFree m → FitsOwner q heading → (code ≢ 0 → IsOther p q clients gives code) → (x : Program) → Ends w m x → Next w m (tell_drop heading code x)
-  tell_then w m heading code free owner other x goes = λ v l s. way p q clients gives v m (eqb heading.owner 0) x (post heading.owner (cond (eqb code 0) 1009 code) heading.attempt x) s
+  tell_then w m heading code free owner other x goes = λ v l s. way p q clients gives v m (eqb heading.owner 0) x (post heading.owner (cond (eqb code 0) 1009 code) heading.label.attempt x) s
       (λ _ s'. goes v m l s' (again_same p q clients gives m m free refl))
-      (λ some_ _. post_says p q clients gives v m heading.owner (cond (eqb code 0) 1009 code) heading.attempt x free (code_of_drop (eqb code 0) code refl other) (let few = (owner (not_equal heading.owner 0 some_)).1 in omega (arith, few)) (follows_later p q clients gives w v m x l goes))
+      (λ some_ _. post_says p q clients gives v m heading.owner (cond (eqb code 0) 1009 code) heading.label.attempt x free (code_of_drop (eqb code 0) code refl other) (let few = (owner (not_equal heading.owner 0 some_)).1 in omega (arith, few)) (follows_later p q clients gives w v m x l goes))
 
   put_then : (w : Scene) (m : Mark) (h : Holder) (now : ℕ) (heading : Heading) (left : List ℕ) (taken : ℕ) (after : Program) → IsFree m → FitsOwner q heading → Ends w m after → (answer : Put) → Next w m (put_answered h now heading left taken after answer)
   put_then w m h now heading left taken after free owner goes (puts.Took n) = λ v l s. way p q clients gives v m (nat_le (length left) n) (placed h now heading after) (Write (Puts h now heading (Rattle.std.specs.Prelude.drop n left) (taken + n) false) after) s

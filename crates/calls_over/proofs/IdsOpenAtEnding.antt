@@ -243,7 +243,7 @@ module _ (calm : CalmRun) where
       took = taken calm accepted.place accepted.entry accepted.there is_read.link over;
       took_so = taken_so calm accepted.place accepted.entry accepted.there is_read.link over;
       request = subst (λ n. Has (stream (taken calm accepted.place accepted.entry accepted.there is_read.link over)).frames (request_of its_attempt.asked id n)) (accepted.tried ∙ same_attempt)
-          (subst (λ y. Has (stream (taken calm accepted.place accepted.entry accepted.there is_read.link over)).frames (request_of its_attempt.asked y accepted.entry.heading.attempt)) asked_id
+          (subst (λ y. Has (stream (taken calm accepted.place accepted.entry accepted.there is_read.link over)).frames (request_of its_attempt.asked y accepted.entry.heading.label.attempt)) asked_id
           (request_there calm accepted.place accepted.entry accepted.there is_read.link over its_attempt));
       seat = is_read.seat;
       seat_there = is_read.seat_there;

@@ -151,12 +151,12 @@ module _ (script : List Item) (made : AreMade script) (turns : List Turn) (core 
       pub place : ℕ
       pub entry : Entry
       pub there : get_elem? early_log place ≡ some entry
-      pub own : entry.heading.operation ≡ o
-      pub tried : entry.heading.attempt ≡ x.attempt
+      pub own : entry.heading.label.operation ≡ o
+      pub tried : entry.heading.label.attempt ≡ x.attempt
       pub over : entry.link ≡ x.link
 
     -- a message of it in the log is that
-    pub accepted_so : Fixed → (ℕ → List ℕ) → (q : ℕ) (e : Entry) → get_elem? early_log q ≡ some e → e.heading.operation ≡ o → e.heading.attempt ≡ x.attempt → IsAccepted
+    pub accepted_so : Fixed → (ℕ → List ℕ) → (q : ℕ) (e : Entry) → get_elem? early_log q ≡ some e → e.heading.label.operation ≡ o → e.heading.label.attempt ≡ x.attempt → IsAccepted
     accepted_so fixed gave q e at own tried = let s = stands_later closes q e at in
         record { place = q; entry = e; there = at; own = own; tried = tried; over = only_early fixed gave e.link (s.place, (s.low, accepted_of e, s.stands, own, tried)) }
 

@@ -39,19 +39,19 @@ use Rattle.served_fits.specs.Below.dropped_calls.proofs.LateRests.{NoOld}
 -- a message of the attempt is in the list, or none is
 module _ (o n : ℕ) where
   abbrev pub IsIn : List Entry → Type 0
-  IsIn es = (i : ℕ) × (e : Entry) × (get_elem? es i ≡ some e) × (e.heading.operation ≡ o) × (e.heading.attempt ≡ n)
+  IsIn es = (i : ℕ) × (e : Entry) × (get_elem? es i ≡ some e) × (e.heading.label.operation ≡ o) × (e.heading.label.attempt ≡ n)
 
   find : (es : List Entry) → IsIn es ⊎ (IsIn es → ⊥)
   find [] = inr (λ t. some-ne-none t.1 (sym t.2))
-  find (x ∷ es) = dite (ℕ_discrete x.heading.operation o)
-      (λ own. dite (ℕ_discrete x.heading.attempt n) (λ is. inl (0, x, refl, own, is)) (λ other. by (find es) (λ own' is. other is)))
+  find (x ∷ es) = dite (ℕ_discrete x.heading.label.operation o)
+      (λ own. dite (ℕ_discrete x.heading.label.attempt n) (λ is. inl (0, x, refl, own, is)) (λ other. by (find es) (λ own' is. other is)))
       (λ other. by (find es) (λ own is. other own))
     where
-      none_here : (x.heading.operation ≡ o → x.heading.attempt ≡ n → ⊥) → (IsIn es → ⊥) → IsIn (x ∷ es) → ⊥
-      none_here other none_ (zero, e, at, own, is) = let same : x ≡ e = some-injective x e at in other (ap (λ (y : Entry). y.heading.operation) same ∙ own) (ap (λ (y : Entry). y.heading.attempt) same ∙ is)
+      none_here : (x.heading.label.operation ≡ o → x.heading.label.attempt ≡ n → ⊥) → (IsIn es → ⊥) → IsIn (x ∷ es) → ⊥
+      none_here other none_ (zero, e, at, own, is) = let same : x ≡ e = some-injective x e at in other (ap (λ (y : Entry). y.heading.label.operation) same ∙ own) (ap (λ (y : Entry). y.heading.label.attempt) same ∙ is)
       none_here other none_ (suc i, e, at, own, is) = none_ (i, e, at, own, is)
 
-      by : IsIn es ⊎ (IsIn es → ⊥) → (x.heading.operation ≡ o → x.heading.attempt ≡ n → ⊥) → IsIn (x ∷ es) ⊎ (IsIn (x ∷ es) → ⊥)
+      by : IsIn es ⊎ (IsIn es → ⊥) → (x.heading.label.operation ≡ o → x.heading.label.attempt ≡ n → ⊥) → IsIn (x ∷ es) ⊎ (IsIn (x ∷ es) → ⊥)
       by (inl t) other = inl (suc t.0, t.1, t.2, t.3, t.4)
       by (inr none_) other = inr (none_here other none_)
 
@@ -78,9 +78,9 @@ module _ (bytes : List ℕ) (script : List Item) (reads : script_of bytes ≡ Ok
   later : (i : ℕ) (e : Entry) → get_elem? es i ≡ some e → StandsLater script made turns core is closes e
   later i e at = stands_later script made turns core is closes i e at
 
-  labels_there : (i : ℕ) (e : Entry) → get_elem? es i ≡ some e → (label (accepted_of e) < most) × (is_attempt Ops (label (accepted_of e)) ≡ true) × (e.heading.attempt < 8)
+  labels_there : (i : ℕ) (e : Entry) → get_elem? es i ≡ some e → (label (accepted_of e) < most) × (is_attempt Ops (label (accepted_of e)) ≡ true) × (e.heading.label.attempt < 8)
   labels_there i e at = let t = later i e at in let w = sent_at known e.link t.place (accepted_of e) t.low t.stands in let x = inside known e.link t.place (accepted_of e) t.low t.stands in
-      let low = x.1 in let eight = x.2 in (omega (arith, low, eight), attempt_there Ops e.heading.operation e.heading.attempt w.operation w.there w.counts eight, eight)
+      let low = x.1 in let eight = x.2 in (omega (arith, low, eight), attempt_there Ops e.heading.label.operation e.heading.label.attempt w.operation w.there w.counts eight, eight)
 
   -- no two are of one attempt
   apart : (i j : ℕ) (d e : Entry) → get_elem? es i ≡ some d → get_elem? es j ≡ some e → label (accepted_of d) ≡ label (accepted_of e) → i ≡ j

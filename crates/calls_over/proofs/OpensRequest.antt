@@ -61,9 +61,9 @@ module _ (calm : CalmRun) where
   pub record IsAttempt (e : Entry) : Type 0 where
     pub asked : Asked
     pub id : ℕ
-    pub small : IsSmall asked id e.heading.attempt
-    pub bytes_are : e.bytes ≡ frame_of asked id e.heading.attempt
-    pub own : ids_at script core e.heading.operation ≡ id
+    pub small : IsSmall asked id e.heading.label.attempt
+    pub bytes_are : e.bytes ≡ frame_of asked id e.heading.label.attempt
+    pub own : ids_at script core e.heading.label.operation ≡ id
 
   pub attempt_of : (q : ℕ) (e : Entry) → get_elem? (early_log script (made bytes script reads) turns core is) q ≡ some e → IsAttempt e
   attempt_of q e at = by (all_at (IsSent (plan_of script) (all_tasks script) core.outcomes own_fixed (gave_in core) own_orders own_told.last e.link) (own_orders e.link).accepted (accepted_of e) (own_told.sent e.link later.low) (later.place, later.stands))
@@ -76,7 +76,7 @@ module _ (calm : CalmRun) where
       by (OfCall client t asked outcome id slot version it number op became shows last bytes_ life) = let became' : Became (all_tasks script) core.outcomes t.number outcome = subst (λ n. Became (all_tasks script) core.outcomes n outcome) (sym number) became in record {
         asked = asked;
         id = id;
-        small = small_call script (are_made calm) turns core is own_fixed own_orders own_told (id_small script (are_made calm) (targets calm) (range calm) turns core is closes) client t asked outcome id e.heading.attempt it op became' shows (let same = ap own_told.last number in omega (arith, last, same));
+        small = small_call script (are_made calm) turns core is own_fixed own_orders own_told (id_small script (are_made calm) (targets calm) (range calm) turns core is closes) client t asked outcome id e.heading.label.attempt it op became' shows (let same = ap own_told.last number in omega (arith, last, same));
         bytes_are = bytes_;
         own = subst (λ n. ids_at script core n ≡ id) number (own_id script (are_made calm) (targets calm) (range calm) turns core is closes client t asked it op outcome became' id shows);
       }
@@ -110,20 +110,20 @@ module _ (calm : CalmRun) where
 
     piece : (x : Entry) → Has (early_log script (are_made calm) turns core is) x → IsPiece IsCalled x.bytes
     piece x h = let a = attempt_of h.0 x (at_place (early_log script (are_made calm) turns core is) h.0 x h.1) in record {
-      frame = request_of a.asked a.id x.heading.attempt;
-      is = subst (λ b. IsFrame b (request_of a.asked a.id x.heading.attempt)) (sym a.bytes_are) (request_is a.asked a.id x.heading.attempt a.small);
-      holds = record { asked = a.asked; id = a.id; attempt = x.heading.attempt; small = a.small; frame = refl };
+      frame = request_of a.asked a.id x.heading.label.attempt;
+      is = subst (λ b. IsFrame b (request_of a.asked a.id x.heading.label.attempt)) (sym a.bytes_are) (request_is a.asked a.id x.heading.label.attempt a.small);
+      holds = record { asked = a.asked; id = a.id; attempt = x.heading.label.attempt; small = a.small; frame = refl };
     }
 
     pieces : AllByRecursion (λ (x : Entry). IsPiece IsCalled x.bytes) log_on
     pieces = all_from (λ (x : Entry). IsPiece IsCalled x.bytes) log_on (λ x h. piece x (filter_has (λ (y : Entry). eqb y.link k) (early_log script (are_made calm) turns core is) x h).0)
 
     -- its request is among the frames of what it took
-    pub request_there : (a : IsAttempt e) → Has (stream taken).frames (request_of a.asked a.id e.heading.attempt)
+    pub request_there : (a : IsAttempt e) → Has (stream taken).frames (request_of a.asked a.id e.heading.label.attempt)
     unfolding taken
-    request_there a = subst (λ l. Has (stream l).frames (request_of a.asked a.id e.heading.attempt)) (append-nil (flat_map (λ (x : Entry). x.bytes) log_on) ∙ sym at_home.took_is)
-        (piece_has (λ (x : Entry). x.bytes) IsCalled log_on pieces e (request_of a.asked a.id e.heading.attempt) there
-        (subst (λ b. IsFrame b (request_of a.asked a.id e.heading.attempt)) (sym a.bytes_are) (request_is a.asked a.id e.heading.attempt a.small)) [])
+    request_there a = subst (λ l. Has (stream l).frames (request_of a.asked a.id e.heading.label.attempt)) (append-nil (flat_map (λ (x : Entry). x.bytes) log_on) ∙ sym at_home.took_is)
+        (piece_has (λ (x : Entry). x.bytes) IsCalled log_on pieces e (request_of a.asked a.id e.heading.label.attempt) there
+        (subst (λ b. IsFrame b (request_of a.asked a.id e.heading.label.attempt)) (sym a.bytes_are) (request_is a.asked a.id e.heading.label.attempt a.small)) [])
       where
         there : Has log_on e
         there = let i = filter_in (λ (y : Entry). eqb y.link k) (early_log script (are_made calm) turns core is) q e at (eq-eqb e.link k over) in (i.0, place_at log_on i.0 e i.1)

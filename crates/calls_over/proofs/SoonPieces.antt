@@ -58,15 +58,15 @@ NonePlain k vs = (e : Entry) → Stood vs e → e.link ≡ k → e.heading.owner
 
 module _ (p : Plan) (q : IdPlan) (narrow : q.slots ≤ 65536) (is_call : Asked → Type 0) (short : (asked : Asked) → is_call asked → (id n : ℕ) → length (frame_of asked id n) ≤ 131072) (ids : ℕ → ℕ) (c : Core) (vs : List View) (ts : List Trial)
     (law : LabelLaw is_call ids p q c vs ts) (standing : (id n : ℕ) → 0 < times_of id n c vs ts → id_first id + n + 1 < bound (id_word_of c (id_slot id))) (us : List IdView) (real : SoundIds p q c us) (k : ℕ) (none_plain : NonePlain k vs) where
-  own_heading : (w : Heading) → w.owner ≢ 0 → of_heading w.owner w.attempt w ≡ 1
-  own_heading w some_ = ap (λ z. cond z 0 (pair_of w.owner w.attempt w.owner w.attempt)) (ne_eqb w.owner 0 some_) ∙ pair_self w.owner w.attempt
+  own_heading : (w : Heading) → w.owner ≢ 0 → of_heading w.owner w.label.attempt w ≡ 1
+  own_heading w some_ = ap (λ z. cond z 0 (pair_of w.owner w.label.attempt w.owner w.label.attempt)) (ne_eqb w.owner 0 some_) ∙ pair_self w.owner w.label.attempt
 
   -- the attempt of a message that was accepted stands there
-  counted : (e : Entry) → Stood vs e → e.heading.owner ≢ 0 → 0 < times_of e.heading.owner e.heading.attempt c vs ts
-  counted e s some_ = let one : of_entry e.heading.owner e.heading.attempt e ≡ 1 = own_heading e.heading some_ in
-      let here = term_le (of_entry e.heading.owner e.heading.attempt) s.made s.place e s.stands in
-      let listed = term_le (total (of_entry e.heading.owner e.heading.attempt)) s.view.lists s.list s.made s.lists in
-      let view = term_le (of_view e.heading.owner e.heading.attempt) vs s.seat s.view s.here in omega (arith, one, here, listed, view)
+  counted : (e : Entry) → Stood vs e → e.heading.owner ≢ 0 → 0 < times_of e.heading.owner e.heading.label.attempt c vs ts
+  counted e s some_ = let one : of_entry e.heading.owner e.heading.label.attempt e ≡ 1 = own_heading e.heading some_ in
+      let here = term_le (of_entry e.heading.owner e.heading.label.attempt) s.made s.place e s.stands in
+      let listed = term_le (total (of_entry e.heading.owner e.heading.label.attempt)) s.view.lists s.list s.made s.lists in
+      let view = term_le (of_view e.heading.owner e.heading.label.attempt) vs s.seat s.view s.here in omega (arith, one, here, listed, view)
 
   -- so its bytes are those of such a request
   entry_piece : (e : Entry) → Stood vs e → e.link ≡ k → IsPiece (IsLow q c) e.bytes
@@ -74,22 +74,22 @@ module _ (p : Plan) (q : IdPlan) (narrow : q.slots ≤ 65536) (is_call : Asked �
     where
       of_call : IsOfCall is_call ids e.heading e.bytes → IsPiece (IsLow q c) e.bytes
       of_call f = record {
-        frame = request_of f.4.0 e.heading.owner e.heading.attempt;
-        is = subst (λ b. IsFrame b (request_of f.4.0 e.heading.owner e.heading.attempt)) (sym f.4.3) (request_is f.4.0 e.heading.owner e.heading.attempt small);
-        holds = record { asked = f.4.0; id = e.heading.owner; attempt = e.heading.attempt; small = small; frame = refl; inside = inside; fits = (let b = bound_low p q c us real (id_slot e.heading.owner) inside in omega (arith, b, below)); below = below };
+        frame = request_of f.4.0 e.heading.owner e.heading.label.attempt;
+        is = subst (λ b. IsFrame b (request_of f.4.0 e.heading.owner e.heading.label.attempt)) (sym f.4.3) (request_is f.4.0 e.heading.owner e.heading.label.attempt small);
+        holds = record { asked = f.4.0; id = e.heading.owner; attempt = e.heading.label.attempt; small = small; frame = refl; inside = inside; fits = (let b = bound_low p q c us real (id_slot e.heading.owner) inside in omega (arith, b, below)); below = below };
       }
         where
-          there : 0 < times_of e.heading.owner e.heading.attempt c vs ts
+          there : 0 < times_of e.heading.owner e.heading.label.attempt c vs ts
           there = counted e s f.0
 
           inside : id_slot e.heading.owner < q.slots
-          inside = (law.made e.heading.owner e.heading.attempt there).0
+          inside = (law.made e.heading.owner e.heading.label.attempt there).0
 
-          below : id_first e.heading.owner + e.heading.attempt + 1 < bound (id_word_of c (id_slot e.heading.owner))
-          below = standing e.heading.owner e.heading.attempt there
+          below : id_first e.heading.owner + e.heading.label.attempt + 1 < bound (id_word_of c (id_slot e.heading.owner))
+          below = standing e.heading.owner e.heading.label.attempt there
 
-          small : IsSmall f.4.0 e.heading.owner e.heading.attempt
-          small = record { short = short f.4.0 f.4.1 e.heading.owner e.heading.attempt; low = (let i = inside in let few = f.3 in omega (arith, i, narrow, few)) }
+          small : IsSmall f.4.0 e.heading.owner e.heading.label.attempt
+          small = record { short = short f.4.0 f.4.1 e.heading.owner e.heading.label.attempt; low = (let i = inside in let few = f.3 in omega (arith, i, narrow, few)) }
 
       by : EntryFits is_call ids p e → IsPiece (IsLow q c) e.bytes
       by (head, body) = ⊎_elim (λ plain. absurd (none_plain e s own plain.0)) of_call head

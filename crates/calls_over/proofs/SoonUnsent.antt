@@ -71,7 +71,7 @@ module _ (script : List Item) (made : AreMade script) (turns : List Turn) (core 
       by (all_at (λ (a : Accepted). causes.IsSent (told_tasks_of script) core.outcomes e.link a ⊎ IsSpoken (told_tasks_of script) a.operation) (orders script made.are vs begins (first_fresh script) goes turns core is fits owes e.link).accepted (accepted_of e)
       ((run_told script made.are vs begins (first_fresh script) goes turns core is fits owes).sent e.link there.0) (there.1, there.2))
     where
-      by : causes.IsSent (told_tasks_of script) core.outcomes e.link (accepted_of e) ⊎ IsSpoken (told_tasks_of script) e.heading.operation → ⊥
+      by : causes.IsSent (told_tasks_of script) core.outcomes e.link (accepted_of e) ⊎ IsSpoken (told_tasks_of script) e.heading.label.operation → ⊥
       by (inl s) = unsent s.client s.task s.name s.slot s.version e.bytes (task_up (all_tasks script) (length (opens script)) core.outcomes s.client s.task s.is) s.op
           (subst (λ l. Made (all_tasks script) core.outcomes s.name l s.slot s.version) own (made_up (all_tasks script) (length (opens script)) core.outcomes s.name e.link s.slot s.version s.life))
       by (inr spoken) = let t = final_told script made.are vs begins (first_fresh script) goes turns core is fits in

@@ -119,7 +119,7 @@ module _ {links labels : ℕ} {place : ℕ → ℕ} {home : ℕ → Option (List
   }
 
   module _ (t' : Tokens) (place' places' kept' : ℕ → ℕ) (Failed' : ℕ → Type 0) (k : ℕ) (r r' : Right) (e : Entry) (kl : k < links) (has : t.rights k ≡ r ∷ []) (has' : Changed links t.rights t'.rights k (r' ∷ []))
-      (here : get_elem? (on k log) (places k) ≡ some e) (label_in : e.heading.place < labels) (more : Changed links places places' k (suc (places k))) (count' : r'.places ≡ suc r.places) where
+      (here : get_elem? (on k log) (places k) ≡ some e) (label_in : e.heading.label.place < labels) (more : Changed links places places' k (suc (places k))) (count' : r'.places ≡ suc r.places) where
     next_count : (j : ℕ) (x : Right) → j < links → t'.rights j ≡ x ∷ [] → x.places ≡ places' j
     next_count j x jl h = dite (ℕ_discrete j k)
         (λ same. let q : r' ≡ x = one_token (t'.rights k) r' x has'.here (ap t'.rights (sym same) ∙ h) in ap (λ (y : Right). y.places) (sym q) ∙ (count' ∙ (ap suc (s.counted k r kl has) ∙ (sym more.here ∙ ap places' (sym same)))))
@@ -127,14 +127,14 @@ module _ {links labels : ℕ} {place : ℕ → ℕ} {home : ℕ → Option (List
 
     -- what is shown elsewhere, once the entry e of link k has its place
     shown_place : (q : ℕ) → ((j : ℕ) → j < links → j ≢ k → kept' j ≡ kept j) → ((i : ℕ) → i < places k → leb (kept' k) i ≡ leb (kept k) i)
-        → Changed labels place place' e.heading.place (place_word (leb (kept' k) (places k)) k (places k)) → q < labels → ShownAt links place' log places' kept' q
-    shown_place q kk kl' pl ql = dite (ℕ_discrete q e.heading.place)
+        → Changed labels place place' e.heading.label.place (place_word (leb (kept' k) (places k)) k (places k)) → q < labels → ShownAt links place' log places' kept' q
+    shown_place q kk kl' pl ql = dite (ℕ_discrete q e.heading.label.place)
         (λ same. one_place k (places k) e kl (let z = more.here in omega arith) here (sym same) (ap place' same ∙ pl.here))
         (λ ne. elim (s.shown q ql) [
           | no_place z h ↦ no_place (pl.else q ql ne ∙ z) (λ j i d jl il g is. dite (ℕ_discrete j k)
               (λ same. let a : places' j ≡ suc (places k) = ap places' same ∙ more.here in let b : places j ≡ places k = ap places same in
               dite (ℕ_discrete i (places k))
-              (λ last. ne (sym is ∙ ap (λ (y : Entry). y.heading.place) (some-injective d e (sym g ∙ ((λ w. get_elem? (on (same w) log) (last w)) ∙ here)))))
+              (λ last. ne (sym is ∙ ap (λ (y : Entry). y.heading.label.place) (some-injective d e (sym g ∙ ((λ w. get_elem? (on (same w) log) (last w)) ∙ here)))))
               (λ early. h j i d jl (omega arith) g is))
               (λ far. let a = more.else j jl far in h j i d jl (omega arith) g is))
           | one_place j i d jl il g is z ↦ dite (ℕ_discrete j k)
@@ -145,7 +145,7 @@ module _ {links labels : ℕ} {place : ℕ → ℕ} {home : ℕ → Option (List
 
     -- P1, where the message was taken whole
     pub places_whole : r.clean ≡ true → r'.clean ≡ r.clean → r'.sent ≡ r.sent ++ e.bytes → Changed links kept kept' k (suc (kept k))
-        → Changed labels place place' e.heading.place (place_word false k (places k)) → ((j : ℕ) → j < links → Failed j → Failed' j) → home k ≡ none
+        → Changed labels place place' e.heading.label.place (place_word false k (places k)) → ((j : ℕ) → j < links → Failed j → Failed' j) → home k ≡ none
         → Delivered links labels place' home Failed' t' log places' kept'
     places_whole was clean' sent' kp pl mono away =
         let all : kept k ≡ places k = s.clean k r kl has was in
@@ -158,7 +158,7 @@ module _ {links labels : ℕ} {place : ℕ → ℕ} {home : ℕ → Option (List
               (λ far. let a = kp.else j jl far in let b = more.else j jl far in let c = s.kept_fits j jl in omega arith);
           shown = λ q ql. shown_place q (λ j jl far. kp.else j jl far)
               (λ i il. let a = kp.here in le-leb-false (kept' k) i (omega arith) ∙ sym (le-leb-false (kept k) i (omega arith)))
-              (subst (λ y. Changed labels place place' e.heading.place (place_word y k (places k))) (sym high) pl) ql;
+              (subst (λ y. Changed labels place place' e.heading.label.place (place_word y k (places k))) (sym high) pl) ql;
           failed = λ j jl low. dite (ℕ_discrete j k)
               (λ same. let a : kept' j ≡ suc (kept k) = ap kept' same ∙ kp.here in let b : places' j ≡ suc (places k) = ap places' same ∙ more.here in absurd (omega arith))
               (λ far. let a = kp.else j jl far in let b = more.else j jl far in mono j jl (s.failed j jl (omega arith)));
@@ -178,7 +178,7 @@ module _ {links labels : ℕ} {place : ℕ → ℕ} {home : ℕ → Option (List
 
     -- P1 with the dropped bit: its holder found the socket failed. Where a part of the message was taken, the right was clean
     pub drops : r'.clean ≡ false → (r'.sent ≡ r.sent) ⊎ ((r.clean ≡ true) × (part : List ℕ) × (rest : List ℕ) × (r'.sent ≡ r.sent ++ part) × (e.bytes ≡ part ++ rest) × (rest ≢ []))
-        → Same links kept kept' → Changed labels place place' e.heading.place (place_word true k (places k)) → ((j : ℕ) → j < links → Failed j → Failed' j) → Failed' k → home k ≡ none
+        → Same links kept kept' → Changed labels place place' e.heading.label.place (place_word true k (places k)) → ((j : ℕ) → j < links → Failed j → Failed' j) → Failed' k → home k ≡ none
         → Delivered links labels place' home Failed' t' log places' kept'
     drops clean' sent' kp pl mono dead away =
         let same_kept : kept' k ≡ kept k = kp k kl in
@@ -195,7 +195,7 @@ module _ {links labels : ℕ} {place : ℕ → ℕ} {home : ℕ → Option (List
               (λ same. let a = kp j jl in let b : places' j ≡ suc (places k) = ap places' same ∙ more.here in let c : kept j ≡ kept k = ap kept same in omega arith)
               (λ far. let a = kp j jl in let b = more.else j jl far in let c = s.kept_fits j jl in omega arith);
           shown = λ q ql. shown_place q (λ j jl far. kp j jl) (λ i il. ap (λ y. leb y i) same_kept)
-              (subst (λ y. Changed labels place place' e.heading.place (place_word y k (places k))) (sym low) pl) ql;
+              (subst (λ y. Changed labels place place' e.heading.label.place (place_word y k (places k))) (sym low) pl) ql;
           failed = λ j jl h. dite (ℕ_discrete j k) (λ same. subst Failed' (sym same) dead)
               (λ far. let a = kp j jl in let b = more.else j jl far in mono j jl (s.failed j jl (omega arith)));
           clean = λ j x jl h c. dite (ℕ_discrete j k)

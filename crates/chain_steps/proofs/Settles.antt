@@ -27,16 +27,16 @@ module _ {links requests labels : ℕ} {m : Memory} {t : Tokens} {log : List Ent
     | busy r h q held ↦ absurd (no_token (t.rights k) r q gone)
   ]
 
-  module _ (apart : Distinct (λ (e : Entry). e.heading.place) log) (small : (p : ℕ) (e : Entry) → get_elem? log p ≡ some e → e.heading.place < labels) where
-    pub shown_as : (k i : ℕ) (e : Entry) → k < links → i < places k → get_elem? (on k log) i ≡ some e → place e.heading.place ≡ place_word (leb (kept k) i) k i
+  module _ (apart : Distinct (λ (e : Entry). e.heading.label.place) log) (small : (p : ℕ) (e : Entry) → get_elem? log p ≡ some e → e.heading.label.place < labels) where
+    pub shown_as : (k i : ℕ) (e : Entry) → k < links → i < places k → get_elem? (on k log) i ≡ some e → place e.heading.label.place ≡ place_word (leb (kept k) i) k i
     shown_as k i e kl il g =
-        let a = in_log s k i e g in elim (d.shown e.heading.place (small a.0 e a.1)) [
+        let a = in_log s k i e g in elim (d.shown e.heading.label.place (small a.0 e a.1)) [
           | no_place z h ↦ absurd (h k i e kl il g refl)
           | one_place j l x jl ll gx is z ↦ (let b = in_log s j l x gx in
               let q : b.0 ≡ a.0 = apart b.0 a.0 x e b.1 a.1 is in
               let xe : x ≡ e = some-injective x e (sym b.1 ∙ (ap (λ y. get_elem? log y) q ∙ a.1)) in
               let jk : j ≡ k = sym b.2 ∙ (ap (λ (y : Entry). y.link) xe ∙ a.2) in
-              let li : l ≡ i = distinct_filter (λ (e : Entry). e.heading.place) (λ (e : Entry). Rattle.std.proofs.Common.eqb e.link k) log apart l i x e (subst (λ y. get_elem? (on y log) l ≡ some x) jk gx) g is in
+              let li : l ≡ i = distinct_filter (λ (e : Entry). e.heading.label.place) (λ (e : Entry). Rattle.std.proofs.Common.eqb e.link k) log apart l i x e (subst (λ y. get_elem? (on y log) l ≡ some x) jk gx) g is in
               z ∙ λ w. place_word (leb (kept (jk w)) (li w)) (jk w) (li w))
         ]
 

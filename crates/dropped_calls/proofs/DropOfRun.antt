@@ -139,7 +139,7 @@ module _ (script : List Item) (made : AreMade script) (turns : List Turn) (core 
       (let n = few.few_seats in let t = total_bound lists_of 1 views (λ j v there. (few.short j v there).0) in omega (arith, n, t)) (λ j v there. (few.short j v there).1) in
       let less = at_length (on k end_sound.lawful.log) i e at in let shorter = on_shorter k end_sound.lawful.log in omega (arith, all, less, shorter)
 
-  few_attempts : (k i : ℕ) (e : Entry) → get_elem? (on k end_sound.lawful.log) i ≡ some e → e.heading.attempt ≤ 6
+  few_attempts : (k i : ℕ) (e : Entry) → get_elem? (on k end_sound.lawful.log) i ≡ some e → e.heading.label.attempt ≤ 6
   few_attempts k i e at = let l = in_log end_sound.lawful.chains k i e at in let s = ends in
       let law = end_law script made.are (first_views script) (start script made turns core is) (go script made turns core is) turns core is (fitting script made turns core is) (narrow script made turns core is closes) (λ j v there. (bare j v there, fresh j v there))
       ids labelled in
@@ -328,7 +328,7 @@ module _ (script : List Item) (made : AreMade script) (turns : List Turn) (core 
     pub code : IsOtherCode (code_of x.error) ⊎ IsFailedOn link (code_of x.error)
 
   pub drop_of_run : (x : Post) (seat : ℕ) (heading : Heading) (code : ℕ) (deeds : List Deed) → AllByRecursion (DidInRun script turns core is seat) deeds → IsDrop heading code deeds → heading.owner ≢ 0 → heading.owner ≡ x.id
-      → x.error ≡ error_of (if code == 0 then 1009 else code) heading.attempt → DropOf x
+      → x.error ≡ error_of (if code == 0 then 1009 else code) heading.label.attempt → DropOf x
   drop_of_run x seat heading code deeds did d owned id error = record {
     client = call.0;
     task = call.2;
@@ -338,8 +338,8 @@ module _ (script : List Item) (made : AreMade script) (turns : List Turn) (core 
     own = ap ids number ∙ (calls.owner ∙ id);
     few = (let f = calls.few in omega (arith, attempt, f));
     link = d.holder.link;
-    dropped = subst (λ z. IsDroppedOn z (attempt_of x.error) d.holder.link) (sym number) (subst (λ z. IsDroppedOn heading.operation z d.holder.link) (sym attempt)
-        (dropped_by heading.operation heading.attempt heading.place d.holder.link d.holder.places (ends.tells seat (DidStep (DropPlace heading.place d.holder.link d.holder.places) d.found) (all_in (DidInRun script turns core is seat) deeds (DidStep (DropPlace heading.place d.holder.link d.holder.places) d.found) did d.drop))
+    dropped = subst (λ z. IsDroppedOn z (attempt_of x.error) d.holder.link) (sym number) (subst (λ z. IsDroppedOn heading.label.operation z d.holder.link) (sym attempt)
+        (dropped_by heading.label.operation heading.label.attempt heading.label.place d.holder.link d.holder.places (ends.tells seat (DidStep (DropPlace heading.label.place d.holder.link d.holder.places) d.found) (all_in (DidInRun script turns core is seat) deeds (DidStep (DropPlace heading.label.place d.holder.link d.holder.places) d.found) did d.drop))
         calls.spoken calls.few calls.place));
     found = dite (ℕ_discrete code 0)
         (λ z. inl (code_is ∙ ap (λ b. if b then 1009 else code) (eq-eqb code 0 z)))
@@ -365,14 +365,14 @@ module _ (script : List Item) (made : AreMade script) (turns : List Turn) (core 
       call : IsCallOf script calls.asked
       call = calls.called
 
-      number : call.2.number ≡ heading.operation
+      number : call.2.number ≡ heading.label.operation
       number = sym call.6 ∙ calls.own
 
-      attempt : attempt_of x.error ≡ heading.attempt
-      attempt = ap attempt_of error ∙ (let f = calls.few in decodes (if code == 0 then 1009 else code) heading.attempt f).0
+      attempt : attempt_of x.error ≡ heading.label.attempt
+      attempt = ap attempt_of error ∙ (let f = calls.few in decodes (if code == 0 then 1009 else code) heading.label.attempt f).0
 
       code_is : code_of x.error ≡ (if code == 0 then 1009 else code)
-      code_is = ap code_of error ∙ (let f = calls.few in decodes (if code == 0 then 1009 else code) heading.attempt f).1
+      code_is = ap code_of error ∙ (let f = calls.few in decodes (if code == 0 then 1009 else code) heading.label.attempt f).1
 
       whose : IsOtherCode (if code == 0 then 1009 else code) ⊎ IsFailedOn d.holder.link (if code == 0 then 1009 else code)
       whose = dite (ℕ_discrete code 0)

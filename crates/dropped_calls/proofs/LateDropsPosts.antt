@@ -29,7 +29,7 @@ pub record DropPost (Did : Deed → Type 0) (x : Post) : Type 0 where
   pub drop : IsDrop heading code deeds
   pub owned : heading.owner ≢ 0
   pub owner : heading.owner ≡ x.id
-  pub error : x.error ≡ error_of (if code == 0 then 1009 else code) heading.attempt
+  pub error : x.error ≡ error_of (if code == 0 then 1009 else code) heading.label.attempt
 
 module _ (p : Plan) (q : IdPlan) (narrow : q.slots ≤ 65536) (is_call : Asked → Type 0) (ids : ℕ → ℕ) (Did : ℕ → Deed → Type 0) (c : Core) (vs : List View) (ss : List Doing) (law : ChargeLaw p.requests is_call ids p q Did c vs ss)
     (calls : AreCalls is_call c.calls) (us : List IdView) (real_ids : SoundIds p q c us) (m : Moment) (sound : Sound p c vs) (low : m.seat < 32) where

@@ -187,8 +187,8 @@ module _ {O : Type 0} {g : Ghosts O} {state : O → OutState} {readers : List (L
           n.0,
           λ k stands. (
               let w = entry_on drun differ k stands.0 stands.1.1 stands.1.2 in
-              let operation : w.0.heading.place / 8 ≡ n.0.operation = ap (λ (a : Accepted). a.operation) w.2 ∙ stands.1.3 in
-              let number : w.0.heading.place % 8 ≡ attempt_of d = ap (λ (a : Accepted). a.attempt) w.2 ∙ stands.1.4 in
+              let operation : w.0.heading.label.place / 8 ≡ n.0.operation = ap (λ (a : Accepted). a.operation) w.2 ∙ stands.1.3 in
+              let number : w.0.heading.label.place % 8 ≡ attempt_of d = ap (λ (a : Accepted). a.attempt) w.2 ∙ stands.1.4 in
               n.1 w.3 w.0 (ap (λ l. get_elem? l w.3) (sym logged) ∙ w.4) (omega (arith, operation, number))),
         )
 

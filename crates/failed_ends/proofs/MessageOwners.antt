@@ -76,8 +76,8 @@ module _ {O : Type 0} {g : Ghosts O} {state : O → OutState} {readers : List (L
   -- the message is an attempt of the call of the operation in its place index, whose id is its owner
   pub record IsOwned (e : Entry) : Type 0 where
     pub operation : ℕ
-    pub place : e.heading.place ≡ 8 * operation + e.heading.attempt
-    pub low : e.heading.attempt ≤ 6
+    pub place : e.heading.label.place ≡ 8 * operation + e.heading.label.attempt
+    pub low : e.heading.label.attempt ≤ 6
     pub its : IsIdOf slots notes operation e.heading.owner
 
   -- or nobody is told of it
@@ -86,7 +86,7 @@ module _ {O : Type 0} {g : Ghosts O} {state : O → OutState} {readers : List (L
 
   of_call : (asked : Asked) (id n : ℕ) (low : n ≤ 6) (e : Entry) → e.heading ≡ heading_of (letter_for asked id n low) → IsIdOf slots notes asked.operation id → Owned e
   of_call asked id n low e h its =
-      let place = ap (λ (x : Heading). x.place) h in let attempt = ap (λ (x : Heading). x.attempt) h in
+      let place = ap (λ (x : Heading). x.label.place) h in let attempt = ap (λ (x : Heading). x.label.attempt) h in
       inr (record { operation = asked.operation; place = omega (arith, place, attempt); low = omega (arith, attempt, low); its = subst (IsIdOf slots notes asked.operation) (sym (ap (λ (x : Heading). x.owner) h)) its })
 
   acted_owned : (v : View Asked) → ((i : ℕ) (f : Note Asked → ℕ) → total f (notes_of i v.notes) ≤ total f (notes_of i notes)) → (number : ℕ) (op : Op) (by : Option Outcome) (s t : Stand g) (a : Acted state p q number op by s t) → HasMade g state p q v number op by s t a

@@ -79,25 +79,25 @@ one_there (suc m) x e h = absurd (none_there m e h)
 
 module _ {O : Type 0} (state : O → OutState) (p : Plan) (q : id_plan.Plan) where
   -- an entry has the place index of its message
-  delivered_at : (socket : SocketId) (msg : Letter) (s t : Both) (d : DeliveredBy state p q socket msg s t) (m : ℕ) (e : Entry) → get_elem? (delivered_entries state p q socket msg s t d) m ≡ some e → e.heading.place ≡ msg.label.place
-  delivered_at socket msg s t (went_out w) m e h = ap (λ (x : Entry). x.heading.place) (sym (one_there m w.accepted.entry e h)) ∙ ap (λ (x : Heading). x.place) w.accepted.heading_is
+  delivered_at : (socket : SocketId) (msg : Letter) (s t : Both) (d : DeliveredBy state p q socket msg s t) (m : ℕ) (e : Entry) → get_elem? (delivered_entries state p q socket msg s t d) m ≡ some e → e.heading.label.place ≡ msg.label.place
+  delivered_at socket msg s t (went_out w) m e h = ap (λ (x : Entry). x.heading.label.place) (sym (one_there m w.accepted.entry e h)) ∙ ap (λ (x : Heading). x.label.place) w.accepted.heading_is
   delivered_at socket msg s t (came_back by c) m e h = absurd (none_there m e h)
 
-  attempt_at : (socket : SocketId) (msg : Letter) (s t : Both) (a : AttemptedBy state p q socket msg s t) (m : ℕ) (e : Entry) → get_elem? (attempt_entries state p q socket msg s t a) m ≡ some e → e.heading.place ≡ msg.label.place
+  attempt_at : (socket : SocketId) (msg : Letter) (s t : Both) (a : AttemptedBy state p q socket msg s t) (m : ℕ) (e : Entry) → get_elem? (attempt_entries state p q socket msg s t a) m ≡ some e → e.heading.label.place ≡ msg.label.place
   attempt_at socket msg s t (nowhere n) m e h = absurd (none_there m e h)
   attempt_at socket msg s t (over_link u l d) m e h = delivered_at socket msg u t d m e h
 
-  went_at : (name : ℕ) (msg : Letter) (s t : Both) (w : WentTo state p q name msg s t) (m : ℕ) (e : Entry) → get_elem? (went_entries state p q name msg s t w) m ≡ some e → e.heading.place ≡ msg.label.place
+  went_at : (name : ℕ) (msg : Letter) (s t : Both) (w : WentTo state p q name msg s t) (m : ℕ) (e : Entry) → get_elem? (went_entries state p q name msg s t w) m ≡ some e → e.heading.label.place ≡ msg.label.place
   went_at name msg s t (stray a b c) m e h = absurd (none_there m e h)
   went_at name msg s t (unopened a b) m e h = absurd (none_there m e h)
   went_at name msg s t (to_socket socket u f same a) m e h = attempt_at socket msg u t a m e h
 
-  acted_at : {g : Ghosts O} (number : ℕ) (op : Op) (by : Option Outcome) (s t : Stand g) (a : Acted state p q number op by s t) (m : ℕ) (e : Entry) → get_elem? (acted_entries state p q number op by s t a) m ≡ some e → 0 < label_in e.heading.place number op
+  acted_at : {g : Ghosts O} (number : ℕ) (op : Op) (by : Option Outcome) (s t : Stand g) (a : Acted state p q number op by s t) (m : ℕ) (e : Entry) → get_elem? (acted_entries state p q number op by s t a) m ≡ some e → 0 < label_in e.heading.label.place number op
   acted_at number (ops.Send n bytes) None s t a m e h =
-      let x = a.0.delivered.accepted in let place = ap (λ (y : Entry). y.heading.place) (sym (one_there m x.entry e h)) ∙ ap (λ (y : Heading). y.place) x.heading_is in
-      let z = only-at e.heading.place (8 * number + 0) (sym place) in omega (arith, z)
+      let x = a.0.delivered.accepted in let place = ap (λ (y : Entry). y.heading.label.place) (sym (one_there m x.entry e h)) ∙ ap (λ (y : Heading). y.label.place) x.heading_is in
+      let z = only-at e.heading.label.place (8 * number + 0) (sym place) in omega (arith, z)
   acted_at number (ops.Send n bytes) (Some by) s t a m e h = absurd (none_there m e h)
-  acted_at number (ops.Call asked) None s t a m e h = let z = only-at e.heading.place (8 * asked.operation + 0) (sym (attempt_at a.1.socket _ a.1.at (both_of t) a.1.attempted m e h)) in omega (arith, z)
+  acted_at number (ops.Call asked) None s t a m e h = let z = only-at e.heading.label.place (8 * asked.operation + 0) (sym (attempt_at a.1.socket _ a.1.at (both_of t) a.1.attempted m e h)) in omega (arith, z)
   acted_at number (ops.Call asked) (Some by) s t a m e h = absurd (none_there m e h)
   acted_at number _ by s t a m e h = absurd (none_there m e h)
 
@@ -139,8 +139,8 @@ label_place : (l number : ℕ) (asked : Asked) → 0 < label_in l number (ops.Ca
 label_place l number asked h = dite (ℕ_discrete (8 * asked.operation + 0) l) (λ e. sym e) (λ ne. absurd (let z = only-else l (8 * asked.operation + 0) ne in omega (arith, z, h)))
 
 -- a frame that was sent has the place index of its deed's attempt
-pub deed_place : {O : Type 0} {g : Ghosts O} {state : O → OutState} {p : Plan} {q : id_plan.Plan} (d : Deed g state p q) (asked : Asked) → IsAskedIn d asked → (m : ℕ) (e : Entry) → get_elem? (entries_of d) m ≡ some e → e.heading.place ≡ 8 * asked.operation + attempt_of d
-deed_place {state = state} {p = p} {q = q} (operates x by s t a) asked is m e h = label_place e.heading.place x.number asked (subst (λ (o : Op). 0 < label_in e.heading.place x.number o) is (acted_at state p q x.number x.op by s t a m e h))
+pub deed_place : {O : Type 0} {g : Ghosts O} {state : O → OutState} {p : Plan} {q : id_plan.Plan} (d : Deed g state p q) (asked : Asked) → IsAskedIn d asked → (m : ℕ) (e : Entry) → get_elem? (entries_of d) m ≡ some e → e.heading.label.place ≡ 8 * asked.operation + attempt_of d
+deed_place {state = state} {p = p} {q = q} (operates x by s t a) asked is m e h = label_place e.heading.label.place x.number asked (subst (λ (o : Op). 0 < label_in e.heading.label.place x.number o) is (acted_at state p q x.number x.op by s t a m e h))
 deed_place {state = state} {p = p} {q = q} (retries r s t (had_ended z)) asked is m e h = absurd (none_there m e h)
 deed_place {state = state} {p = p} {q = q} (retries r s t (overtaken k u l o)) asked is m e h = absurd (none_there m e h)
 deed_place {state = state} {p = p} {q = q} (retries r s t (went_again k u l w)) asked is m e h = went_at state p q _ _ _ t w.went m e h ∙ ap (λ (y : Asked). 8 * y.operation + r.attempt) is
@@ -228,11 +228,11 @@ module _ {O : Type 0} {g : Ghosts O} {state : O → OutState} {readers : List (L
 
   -- whatever sent a frame with this place index is that attempt
   frame_attempt : (o id n : ℕ) → n < 8 → IsIdOf slots notes o id → (c : ℕ) (x : Client g state p q) → get_elem? crew c ≡ some x → (i : ℕ) (d : Deed g state p q) → get_elem? (deeds_of x) i ≡ some d
-      → (m : ℕ) (e : Entry) → get_elem? (entries_of d) m ≡ some e → e.heading.place ≡ 8 * o + n → IsAttemptOf o id n d
+      → (m : ℕ) (e : Entry) → get_elem? (entries_of d) m ≡ some e → e.heading.label.place ≡ 8 * o + n → IsAttemptOf o id n d
   frame_attempt o id n low is c x at i (operates y by s t a) there m e sent place =
       let l = acted_at state p q y.number y.op by s t a m e sent in
-      let none_ : n ≡ 0 = dite (ℕ_discrete n 0) (λ z. z) (λ ne. absurd (let z = no_labels e.heading.place (y ∷ []) (omega (arith, place, low, ne)) in omega (arith, z, l))) in
-      let same : e.heading.place ≡ 8 * o + 0 = omega (arith, place, none_) in
+      let none_ : n ≡ 0 = dite (ℕ_discrete n 0) (λ z. z) (λ ne. absurd (let z = no_labels e.heading.label.place (y ∷ []) (omega (arith, place, low, ne)) in omega (arith, z, l))) in
+      let same : e.heading.label.place ≡ 8 * o + 0 = omega (arith, place, none_) in
       at_first none_ (subst (λ (z : ℕ). 0 < label_in z y.number y.op) same l)
   frame_attempt o id n low is c x at i (retries r s t (had_ended h)) there m e sent place = absurd (none_there m e sent)
   frame_attempt o id n low is c x at i (retries r s t (overtaken k u l w)) there m e sent place = absurd (none_there m e sent)
@@ -287,7 +287,7 @@ module _ {O : Type 0} {g : Ghosts O} {state : O → OutState} {readers : List (L
     pub sent : get_elem? (entries_of one.deed) at ≡ some e
     pub attempt : IsAttemptOf o id n one.deed
 
-  pub sender : (o id n : ℕ) → n < 8 → IsIdOf slots notes o id → (k : ℕ) (e : Entry) → get_elem? run.closed.ordered.log k ≡ some e → e.heading.place ≡ 8 * o + n → IsSender o id n e
+  pub sender : (o id n : ℕ) → n < 8 → IsIdOf slots notes o id → (k : ℕ) (e : Entry) → get_elem? run.closed.ordered.log k ≡ some e → e.heading.label.place ≡ 8 * o + n → IsSender o id n e
   sender o id n low is k e logged place =
       let a = log.authored p run.closed.view.found run.closed.view.lists run.closed.ordered k e logged in
       let j = own_behind readers (map own_of crew) a.seat _ _ e (ap (λ (l : List (List Entry)). get_elem? l a.seat) (sym (lists_are run)) ∙ a.list) a.place in
@@ -298,7 +298,7 @@ module _ {O : Type 0} {g : Ghosts O} {state : O → OutState} {readers : List (L
 
   -- so the log has no entry with the place index of one that came to nothing
   pub not_accepted : (code : ℕ) (c : ℕ) (x : Client g state p q) → get_elem? crew c ≡ some x → (i : ℕ) (d : Deed g state p q) → get_elem? (deeds_of x) i ≡ some d → missed_in d ≡ Some code → IsBacked (view_of x) d → id_slot (id_of d) < slots
-      → (f : IsNothing d) × ((k : ℕ) (e : Entry) → get_elem? run.closed.ordered.log k ≡ some e → e.heading.place ≡ 8 * f.operation + attempt_of d → ⊥)
+      → (f : IsNothing d) × ((k : ℕ) (e : Entry) → get_elem? run.closed.ordered.log k ≡ some e → e.heading.label.place ≡ 8 * f.operation + attempt_of d → ⊥)
   not_accepted code c x at i d there is backed inside =
       let f = missed_nothing code c x at i d there is backed inside in (
         f,

@@ -107,14 +107,14 @@ module _ {O : Type 0} {g : Ghosts O} {state : O → OutState} {p : Plan} {every 
     pub made : MadeHere drun n e.link slot version
 
   -- of attempt n of the call that is this operation
-  sent_to : (client : ℕ) (asked : Asked) (n : ℕ) → n ≤ 6 → IsOperation every outcomes client asked.operation (ops.Call asked) → (q : ℕ) (e : Entry) → get_elem? (log drun) q ≡ some e → e.heading.place ≡ 8 * asked.operation + n → SentTo (name_of asked n) e
+  sent_to : (client : ℕ) (asked : Asked) (n : ℕ) → n ≤ 6 → IsOperation every outcomes client asked.operation (ops.Call asked) → (q : ℕ) (e : Entry) → get_elem? (log drun) q ≡ some e → e.heading.label.place ≡ 8 * asked.operation + n → SentTo (name_of asked n) e
   sent_to client asked n few task q e at place =
       let w = act_of_entry drun q e at in let s = w.1 in
       let life = sent_life drun w.0 e s in
       let name = by_message w.0.c s.name s.number s.attempt s.msg (sent_for drun w.0 e s).0 (sent_place drun w.0 e s) in
       record { slot = life.0; version = life.1; made = subst (λ (m : ℕ). MadeHere drun m e.link life.0 life.1) name life.2 }
     where
-      by_message : (d name number attempt : ℕ) (msg : Letter) → IsMessage every outcomes d name number attempt msg None → e.heading.place ≡ 8 * number + attempt → name ≡ name_of asked n
+      by_message : (d name number attempt : ℕ) (msg : Letter) → IsMessage every outcomes d name number attempt msg None → e.heading.label.place ≡ 8 * number + attempt → name ≡ name_of asked n
       by_message d name number attempt msg (of_send bytes is first sent told) its =
           let one = same_task drun d client record { number = number; op = ops.Send name bytes } record { number = asked.operation; op = ops.Call asked } is task (omega (arith, its, place, first, few)) in
           let op : ops.Send name bytes ≡ ops.Call asked = ap (λ (t : Task). t.op) one.1 in absurd (cc)
@@ -232,7 +232,7 @@ module _ {O : Type 0} {g : Ghosts O} {state : O → OutState} {readers : List (L
       pub position : ℕ
       pub entry : Entry
       pub there : get_elem? (log drun) position ≡ some entry
-      pub place : entry.heading.place ≡ 8 * o + n
+      pub place : entry.heading.label.place ≡ 8 * o + n
       pub low : n ≤ 6
       pub behind : IsBehindPlaced drun differ few few_links entry
       pub link : w.drop.wrote.link ≡ entry.link
@@ -241,10 +241,10 @@ module _ {O : Type 0} {g : Ghosts O} {state : O → OutState} {readers : List (L
       dropped_at : IsDroppedAt asked.operation
       dropped_at =
           let l = logged_there in let d = w.drop.wrote in let e = l.entry in
-          let attempt : e.heading.attempt ≡ n = l.attempt_is ∙ (d.attempt_is ∙ sym w.attempt_is) in
+          let attempt : e.heading.label.attempt ≡ n = l.attempt_is ∙ (d.attempt_is ∙ sym w.attempt_is) in
           let owner : e.heading.owner ≡ id = l.owner_is ∙ (d.owner_is ∙ sym w.owner) in
           let k = kept_there in let l_ = w.drop.msg.label.place in let word = place_word true w.drop.wrote.link w.drop.wrote.position in let more = k.still.puts (place_index p l_) word in let put = stored_there in
-          let there : 0 < put_in (place_index p e.heading.place) word (after drun k.act) = subst (λ (z : ℕ). 0 < put_in (place_index p z) word (after drun k.act)) (sym (l.place_is ∙ d.place_is)) (omega (arith, more, put)) in
+          let there : 0 < put_in (place_index p e.heading.label.place) word (after drun k.act) = subst (λ (z : ℕ). 0 < put_in (place_index p z) word (after drun k.act)) (sym (l.place_is ∙ d.place_is)) (omega (arith, more, put)) in
           let stands = dropped_stands drun differ few few_links l.position e l.there k.act w.drop.wrote.link w.drop.wrote.position w.drop.wrote.low there in
           let o : IsOwned run tasks may notes kept words closing noted e = elim (owned_by run tasks may notes kept words closing noted l.position e (ap (λ (z : List Entry). get_elem? z l.position) (sym logged) ∙ l.there)) [
             | inl none_ ↦ absurd (w.call (sym (l.owner_is ∙ d.owner_is) ∙ none_))
@@ -258,7 +258,7 @@ module _ {O : Type 0} {g : Ghosts O} {state : O → OutState} {readers : List (L
       is_dropped : IsDropped p every outcomes fixed_here gave orders_here asked.operation n
       is_dropped =
           let d = dropped_at in let e = d.entry in let b = d.behind in let place = d.place in let few_ = d.low in
-          let o : e.heading.place / 8 ≡ asked.operation = omega (arith, place, few_) in let m : e.heading.place % 8 ≡ n = omega (arith, place, few_) in
+          let o : e.heading.label.place / 8 ≡ asked.operation = omega (arith, place, few_) in let m : e.heading.label.place % 8 ≡ n = omega (arith, place, few_) in
           (e.link, b.position, (b.inside, accepted_of e, accepted_there (on e.link (log drun)) b.position e b.there, o, m), b.behind)
 
       is_failing : IsFailing p every outcomes fixed_here gave orders_here dropped_at.entry.link
@@ -304,8 +304,8 @@ module _ {O : Type 0} {g : Ghosts O} {state : O → OutState} {readers : List (L
           s.made,
           λ l stands. (
               let w = entry_on drun differ l stands.0 stands.1.1 stands.1.2 in
-              let operation : w.0.heading.place / 8 ≡ asked.operation = ap (λ (y : Accepted). y.operation) w.2 ∙ stands.1.3 in
-              let number : w.0.heading.place % 8 ≡ n = ap (λ (y : Accepted). y.attempt) w.2 ∙ stands.1.4 in
+              let operation : w.0.heading.label.place / 8 ≡ asked.operation = ap (λ (y : Accepted). y.operation) w.2 ∙ stands.1.3 in
+              let number : w.0.heading.label.place % 8 ≡ n = ap (λ (y : Accepted). y.attempt) w.2 ∙ stands.1.4 in
               let place = d.place in
               let same : w.3 ≡ d.position = differ w.3 d.position w.0 d.entry w.4 d.there (omega (arith, place, operation, number)) in
               let one : w.0 ≡ d.entry = some-injective w.0 d.entry (sym w.4 ∙ (ap (get_elem? (log drun)) same ∙ d.there)) in

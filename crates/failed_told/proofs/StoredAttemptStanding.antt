@@ -255,8 +255,8 @@ module _ {O : Type 0} {g : Ghosts O} {state : O → OutState} {readers : List (L
       sent_there : (l : ℕ) → StandsOn p every outcomes fixed_here gave orders_here o n l → (m : ℕ) × (e : Entry) × (get_elem? (entries_of d) m ≡ some e) × (e.link ≡ l)
       sent_there l stands =
           let w = entry_on drun differ l stands.0 stands.1.1 stands.1.2 in
-          let operation : w.0.heading.place / 8 ≡ o = ap (λ (a : Accepted). a.operation) w.2 ∙ stands.1.3 in
-          let number : w.0.heading.place % 8 ≡ n = ap (λ (a : Accepted). a.attempt) w.2 ∙ stands.1.4 in
+          let operation : w.0.heading.label.place / 8 ≡ o = ap (λ (a : Accepted). a.operation) w.2 ∙ stands.1.3 in
+          let number : w.0.heading.label.place % 8 ≡ n = ap (λ (a : Accepted). a.attempt) w.2 ∙ stands.1.4 in
           let s = sender run tasks may notes kept words closing noted o id n (omega (arith, few)) is w.3 w.0 (ap (λ (z : List Entry). get_elem? z w.3) (sym logged) ∙ w.4) (omega (arith, operation, number)) in
           let one = alone run tasks may notes kept words closing noted o id n inside c x at i d there attempt s.place s.client s.in_crew s.index s.deed s.there s.attempt in (s.at, w.0, ap (λ (y : Deed g state p q). get_elem? (entries_of y) s.at) (sym one) ∙ s.sent, w.5)
 
@@ -277,5 +277,5 @@ module _ {O : Type 0} {g : Ghosts O} {state : O → OutState} {readers : List (L
           stands : (m : ℕ) (e : Entry) → get_elem? (entries_of d) m ≡ some e → StandsOn p every outcomes fixed_here gave orders_here o n link
           stands m e h =
               let k = logged_there m e h in let s = on_there link (log drun) k.0 e k.1 (life.each m e h) in let place = deed_place d own asks m e h in
-              let operation : e.heading.place / 8 ≡ o = omega (arith, place, number, few) in let attempt_is : e.heading.place % 8 ≡ n = omega (arith, place, few) in
+              let operation : e.heading.label.place / 8 ≡ o = omega (arith, place, number, few) in let attempt_is : e.heading.label.place % 8 ≡ n = omega (arith, place, few) in
               (s.0, (low, accepted_of e, accepted_there (on link (log drun)) s.0 e s.1, operation, attempt_is))

@@ -101,8 +101,8 @@ module _ {O : Type 0} {g : Ghosts O} {state : O → OutState} {readers : List (L
   accepted_low o id n low is d =
       let stands = d.2 in
       let w = entry_on drun differ d.0 d.1 stands.1 stands.2 in
-      let operation : w.0.heading.place / 8 ≡ o = ap (λ (a : Accepted). a.operation) w.2 ∙ stands.3 in
-      let number : w.0.heading.place % 8 ≡ n = ap (λ (a : Accepted). a.attempt) w.2 ∙ stands.4 in
+      let operation : w.0.heading.label.place / 8 ≡ o = ap (λ (a : Accepted). a.operation) w.2 ∙ stands.3 in
+      let number : w.0.heading.label.place % 8 ≡ n = ap (λ (a : Accepted). a.attempt) w.2 ∙ stands.4 in
       let s = sender run tasks may notes kept words closing noted o id n low is w.3 w.0 (ap (λ (l : List Entry). get_elem? l w.3) (sym logged) ∙ w.4) (omega (arith, operation, number)) in
       made_low run tasks may notes kept words closing noted o id n is s.place s.client s.in_crew s.index s.deed s.there s.attempt
 

@@ -77,9 +77,9 @@ module _ (p : Plan) (q : IdPlan) (narrow : q.slots ≤ 65536) where
   code_of_drop false c is small = ((let ne = Rattle.id_runs.proofs.IdLoopRounds.not_equal c 0 is in omega arith), small)
 
   tell_goes : (u : IdView) (heading : Heading) (code : ℕ) → IsFree u → FitsOwner q heading → code < 4096 → (x : Program) → Follows x → Goes u (tell_drop heading code x)
-  tell_goes u heading code free owner small x goes = way p q u (eqb heading.owner 0) x (post heading.owner (cond (eqb code 0) 1009 code) heading.attempt x) (λ _. goes u free)
+  tell_goes u heading code free owner small x goes = way p q u (eqb heading.owner 0) x (post heading.owner (cond (eqb code 0) 1009 code) heading.label.attempt x) (λ _. goes u free)
       (λ some_. let o = owner (Rattle.id_runs.proofs.IdLoopRounds.not_equal heading.owner 0 some_) in let c = code_of_drop (eqb code 0) code refl small in let few = o.1 in
-      post_goes p q u heading.owner (cond (eqb code 0) 1009 code) heading.attempt x free o.0 c.0 c.1 (omega (arith, few)) goes)
+      post_goes p q u heading.owner (cond (eqb code 0) 1009 code) heading.label.attempt x free o.0 c.0 c.1 (omega (arith, few)) goes)
 
   put_goes : (u : IdView) (h : Rattle.seat_programs.specs.Writings.Holder) (now : ℕ) (heading : Heading) (left : List ℕ) (taken : ℕ) (after : Program) → IsFree u → FitsOwner q heading → Follows after → (answer : Put) → Goes u (put_answered h now heading left taken after answer)
   put_goes u h now heading left taken after free owner goes (puts.Took n) = way p q u (nat_le (length left) n) (placed h now heading after) (Write (Puts h now heading (Rattle.std.specs.Prelude.drop n left) (taken + n) false) after)

@@ -40,7 +40,7 @@ FitsSock other found = Unit {0}
 
 -- the owner of a message is none, or an id of the table
 abbrev pub FitsOwner : IdPlan → Heading → Type 0
-FitsOwner q heading = heading.owner ≢ 0 → (id_slot heading.owner < q.slots) × (heading.attempt ≤ 6)
+FitsOwner q heading = heading.owner ≢ 0 → (id_slot heading.owner < q.slots) × (heading.label.attempt ≤ 6)
 
 -- it holds of the heading, where the home has a message
 abbrev pub FitsHome : (Heading → Type 0) → Home → Type 0

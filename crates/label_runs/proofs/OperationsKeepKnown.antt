@@ -72,14 +72,14 @@ module _ {K : Type 0} {lost : K} {unlocked_behind : ℕ → ℕ → Bool → K �
       (told (TakeMessage (ticket_request next) (λ heading bytes. Write (Puts h next heading bytes 0 false) after)) (g.passes lost (TakeMessage (ticket_request next) _) (λ heading bytes. g.passes lost (Write (Puts h next heading bytes 0 false) after) goes)))))
 
   tell_goes : (heading : Heading) (code : ℕ) (x : Program) → G lost x → G lost (tell_drop heading code x)
-  tell_goes heading code x goes = way g lost (eqb heading.owner 0) x (post heading.owner (cond (eqb code 0) 1009 code) heading.attempt x) (λ _. goes) (λ _. post_goes g lost heading.owner (cond (eqb code 0) 1009 code) heading.attempt x goes)
+  tell_goes heading code x goes = way g lost (eqb heading.owner 0) x (post heading.owner (cond (eqb code 0) 1009 code) heading.label.attempt x) (λ _. goes) (λ _. post_goes g lost heading.owner (cond (eqb code 0) 1009 code) heading.label.attempt x goes)
 
   failed_put : (h : Holder) (now : ℕ) (heading : Heading) (left : List ℕ) (taken : ℕ) (after : Program) → G lost after → G lost (set_failed h.id 1009 (λ _. Write (Puts h now heading left taken false) after))
   failed_put h now heading left taken after goes = set_failed_goes lost h.id 1009 (λ _. Write (Puts h now heading left taken false) after) (λ _. g.passes lost (Write (Puts h now heading left taken false) after) goes)
 
   put_goes : (h : Holder) (now : ℕ) (heading : Heading) (left : List ℕ) (taken : ℕ) (after : Program) → G lost after → (answer : Put) → G lost (put_answered h now heading left taken after answer)
   put_goes h now heading left taken after goes (puts.Took n) = way g lost (nat_le (length left) n) (placed h now heading after) (Write (Puts h now heading (drop n left) (taken + n) false) after)
-      (λ _. g.step lost (StorePlace heading.place h.link h.places) _ refl (λ _. passed_goes (one_more h) now (λ x. x) after (λ x goes. goes) goes)) (λ _. g.passes lost (Write (Puts h now heading (drop n left) (taken + n) false) after) goes)
+      (λ _. g.step lost (StorePlace heading.label.place h.link h.places) _ refl (λ _. passed_goes (one_more h) now (λ x. x) after (λ x goes. goes) goes)) (λ _. g.passes lost (Write (Puts h now heading (drop n left) (taken + n) false) after) goes)
   put_goes h now heading left taken after goes puts.Again = g.passes lost (Write (Waits h now heading left taken) after) goes
   put_goes h now heading left taken after goes puts.Failed = failed_put h now heading left taken after goes
 
@@ -92,7 +92,7 @@ module _ {K : Type 0} {lost : K} {unlocked_behind : ℕ → ℕ → Bool → K �
   block_goes t (Puts h now heading left taken asked) after goes = g.looks t (LookWord h.id) _ refl (λ found.
       way g lost (vref_version found % 2 == 0) (PutBytes h.link asked (part heading.parts left taken) (put_answered h now heading left taken after)) (dropped h now heading after)
       (λ _. g.passes lost (PutBytes h.link asked (part heading.parts left taken) (put_answered h now heading left taken after)) (put_goes h now heading left taken after goes))
-      (λ _. g.step lost (LoadCode (socket_id_slot h.id) (socket_id_version h.id)) _ refl (λ code. g.step lost (DropPlace heading.place h.link h.places) _ refl (λ _. passed_goes (one_more h) now (tell_drop heading code) after (λ x goes. tell_goes heading code x goes) goes))))
+      (λ _. g.step lost (LoadCode (socket_id_slot h.id) (socket_id_version h.id)) _ refl (λ code. g.step lost (DropPlace heading.label.place h.link h.places) _ refl (λ _. passed_goes (one_more h) now (tell_drop heading code) after (λ x goes. tell_goes heading code x goes) goes))))
   block_goes t (Waits h now heading left taken) after goes = g.passes t (AskReady h.link (ready_answered h now heading left taken after)) (ready_goes h now heading left taken after goes)
   block_goes t (Empties h) after goes = g.passes t (PutHome h.link h.places _) (g.step lost (EmptyHead (socket_id_slot h.id) h.last) _ refl (λ found. way g lost (found == h.last) after (TakeHome h.link (λ places. Write (Walks (record h { places = places }) found found 0) after))
       (λ _. goes) (λ _. g.passes lost (TakeHome h.link _) (λ places. g.passes lost (Write (Walks (record h { places = places }) found found 0) after) goes))))

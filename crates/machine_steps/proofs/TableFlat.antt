@@ -100,7 +100,7 @@ freed_none : (now : ℕ) (next : Program) → NoEnd next → NoEnd (freed now ne
 freed_none now next h = either_none (ticket_generation now == LAST_GENERATION) next (Do (calls.FreeRequest (ticket_request now) (ticket_generation now)) (λ _. next)) h tt
 
 tell_none : (heading : Heading) (code : ℕ) (next : Program) → NoEnd next → NoEnd (tell_drop heading code next)
-tell_none heading code next h = either_none (heading.owner == 0) next (post heading.owner (if code == 0 then 1009 else code) heading.attempt next) h tt
+tell_none heading code next h = either_none (heading.owner == 0) next (post heading.owner (if code == 0 then 1009 else code) heading.label.attempt next) h tt
 
 passed_none : (h : heads.Holder) (now : ℕ) (tells : Program → Program) (after : Program) → ((next : Program) → NoEnd next → NoEnd (tells next)) → NoEnd (passed_telling h now tells after)
 passed_none h now tells after told_ = either_none (now == h.last) (freed now (tells (Write (heads.Empties h) after)))

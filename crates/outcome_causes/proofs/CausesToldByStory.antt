@@ -68,10 +68,10 @@ module _ (p : Plan) (clients : List (List Task)) (are : AreTasks p clients) (ove
   of_seat : (i n : ℕ) (e : Entry) → HasSent vs i n e → is_of_send e ≡ true → IsOf i e
   of_seat i n e h is = message_of p clients are over c vs es failed sound story settled i n e h is
 
-  of_call : (i n : ℕ) (e : Entry) → HasSent vs i n e → is_of_send e ≡ false → IsSpoken clients e.heading.operation
+  of_call : (i n : ℕ) (e : Entry) → HasSent vs i n e → is_of_send e ≡ false → IsSpoken clients e.heading.label.operation
   of_call i n e h is = call_of p clients are over c vs es failed sound story settled i n e h is
 
-  numbered : (i : ℕ) (e : Entry) (x : IsOf i e) → e.heading.operation ≡ x.task.number
+  numbered : (i : ℕ) (e : Entry) (x : IsOf i e) → e.heading.label.operation ≡ x.task.number
   numbered i e x = number_of p clients are over c vs es failed sound story settled i e x
 
   -- a task of which nothing is said had its message accepted
@@ -79,7 +79,7 @@ module _ (p : Plan) (clients : List (List Task)) (are : AreTasks p clients) (ove
   untold_stands i t asks none_ = let inside = get_within clients i asks.0 asks.1 in let u = at_there vs i (omega (arith, story.each, sound.each, inside)) in
       let s = sends p clients are over c vs es failed sound story settled i u.0 u.1 in let x = s.each_sent t asks none_ in let n = kept_at is_of_send s.made x.0 x.1 in
       let h : HasSent vs i n.0 x.0 = record { view = u.0; here = u.1; made = s.made; lists = s.lists; stands = n.1 } in
-      let y = sent_stands p c vs sound.lawful i n.0 x.0 h in (x.0.link, y.1, accepted_of x.0, y.0, y.2, ap (λ (z : Heading). z.operation) x.2.heading, ap (λ (z : Heading). z.attempt) x.2.heading)
+      let y = sent_stands p c vs sound.lawful i n.0 x.0 h in (x.0.link, y.1, accepted_of x.0, y.0, y.2, ap (λ (z : Heading). z.label.operation) x.2.heading, ap (λ (z : Heading). z.label.attempt) x.2.heading)
     where
       kept_at : (f : Entry → Bool) (xs : List Entry) (x : Entry) → In x (filter f xs) → (n : ℕ) × (get_elem? xs n ≡ some x)
       kept_at f [] x m = absurd m
@@ -109,22 +109,22 @@ module _ (p : Plan) (clients : List (List Task)) (are : AreTasks p clients) (ove
         numbered = sym (numbered i e x);
         name = t.name;
         op = t.op;
-        first = ap (λ (z : Heading). z.attempt) t.heading;
+        first = ap (λ (z : Heading). z.label.attempt) t.heading;
         slot = socket_id_slot t.id;
         version = socket_id_version t.id;
         life = subst (λ z. Made clients c.outcomes t.name z (socket_id_slot t.id) (socket_id_version t.id)) (same ∙ link) life.1;
         untold = subst (λ z. slice_get c.outcomes z ≡ Some None) (sym (numbered i e x)) x.untold;
       }
 
-  sent_or_call : (k i n : ℕ) (e : Entry) → HasSent vs i n e → e.link ≡ k → IsSent clients c.outcomes k (accepted_of e) ⊎ IsSpoken clients e.heading.operation
+  sent_or_call : (k i n : ℕ) (e : Entry) → HasSent vs i n e → e.link ≡ k → IsSent clients c.outcomes k (accepted_of e) ⊎ IsSpoken clients e.heading.label.operation
   sent_or_call k i n e h link = by (is_of_send e) refl
     where
-      by : (b : Bool) → is_of_send e ≡ b → IsSent clients c.outcomes k (accepted_of e) ⊎ IsSpoken clients e.heading.operation
+      by : (b : Bool) → is_of_send e ≡ b → IsSent clients c.outcomes k (accepted_of e) ⊎ IsSpoken clients e.heading.label.operation
       by true is = inl (sent_to k i n e h is link)
       by false is = inr (of_call i n e h is)
 
   -- a task's message isn't a call's
-  of_task : (i j n : ℕ) (e : Entry) (t : Task) → HasSent vs j n e → IsTask clients c.outcomes i t → t.number ≡ e.heading.operation → is_of_send e ≡ true
+  of_task : (i j n : ℕ) (e : Entry) (t : Task) → HasSent vs j n e → IsTask clients c.outcomes i t → t.number ≡ e.heading.label.operation → is_of_send e ≡ true
   of_task i j n e t h is same = by (is_of_send e) refl
     where
       by : (b : Bool) → is_of_send e ≡ b → is_of_send e ≡ true

@@ -93,7 +93,7 @@ one_said o x y e f = cc
 
 -- they stand in the order of their operations
 abbrev pub Sooner : chain.Entry → chain.Entry → Type 0
-Sooner a b = a.heading.operation < b.heading.operation
+Sooner a b = a.heading.label.operation < b.heading.label.operation
 
 -- the messages of tasks done, the latest last
 module _ (slots requests : ℕ) (es : List Event) (outcomes : List (Option Outcome)) (c : ℕ) where
@@ -150,7 +150,7 @@ module _ (slots requests : ℕ) (es : List Event) (outcomes : List (Option Outco
       by : EachBefore Sooner m.0 → (b : Bool) → EndsIn es c d.task m.0 made b → EachBefore Sooner made
       by h true x = subst (EachBefore Sooner) (sym x.1) (before_append m.0 x.0 h
           (all_of (λ (y : chain.Entry). Sooner y x.0) m.0 (λ y n. let z = all_in (IsOfDone ds) m.0 y (made_done ds m.0 k.2 m.2) n in let l = all_in (λ (w : Done). w.task.number < d.task.number) ds z.member f.0 z.is in
-          let a : y.heading.operation ≡ z.member.task.number = ap (λ (h : Heading). h.operation) z.of_task.heading in let b : x.0.heading.operation ≡ d.task.number = ap (λ (h : Heading). h.operation) x.2.heading in omega (arith, l, a, b))))
+          let a : y.heading.label.operation ≡ z.member.task.number = ap (λ (h : Heading). h.label.operation) z.of_task.heading in let b : x.0.heading.label.operation ≡ d.task.number = ap (λ (h : Heading). h.label.operation) x.2.heading in omega (arith, l, a, b))))
       by h false x = subst (EachBefore Sooner) (sym x) h
 
 module _ (p : Plan) (clients : List (List Task)) (are : AreTasks p clients) (over : Bool) (c : Core) (vs : List View) (es : List Event) (broken : List ℕ) (sound : Sound p c vs) (story : Story p clients over c vs es broken) (settled : AllRest c) where

@@ -61,8 +61,8 @@ module _ (p : Plan) (clients : List (List Task)) (are : AreTasks p clients) (ove
   sends_of : (i : ℕ) (v : View) → get_elem? vs i ≡ some v → SendsOf i v
   sends_of i v at = sends p clients are over c vs es broken sound story settled i v at
 
-  pub number_of : (i : ℕ) (e : Entry) (x : Message i e) → e.heading.operation ≡ x.task.number
-  number_of i e x = ap (λ (h : Heading). h.operation) x.of_task.heading
+  pub number_of : (i : ℕ) (e : Entry) (x : Message i e) → e.heading.label.operation ≡ x.task.number
+  number_of i e x = ap (λ (h : Heading). h.label.operation) x.of_task.heading
 
   pub each_made : EachMade vs
   each_made i u at = let s = sends_of i u at in (s.made, s.lists)
@@ -75,7 +75,7 @@ module _ (p : Plan) (clients : List (List Task)) (are : AreTasks p clients) (ove
   message_of i n e h is = let s = sends_of i h.view h.here in all_in (Message i) (of_sends s.made) e s.are_messages (filter_has is_of_send s.made n e (stands_in i n e h) is)
 
   -- and any other a call's
-  pub call_of : (i n : ℕ) (e : Entry) → HasSent vs i n e → is_of_send e ≡ false → IsSpoken clients e.heading.operation
+  pub call_of : (i n : ℕ) (e : Entry) → HasSent vs i n e → is_of_send e ≡ false → IsSpoken clients e.heading.label.operation
   call_of i n e h is = let s = sends_of i h.view h.here in all_in (IsOfCall (IsSpoken clients)) s.made e s.of_calls (in_of_at s.made n e (stands_in i n e h)) is
 
   -- of two messages of one seat, the earlier one is that of the earlier operation

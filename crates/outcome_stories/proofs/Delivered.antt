@@ -33,13 +33,13 @@ use Rattle.outcome_stories.proofs.Accepted as accepted
 -- ## Messages as a link accepted them
 
 abbrev pub accepted_of : Entry → Accepted
-accepted_of e = record { operation = e.heading.operation; attempt = e.heading.attempt; bytes = e.bytes }
+accepted_of e = record { operation = e.heading.label.operation; attempt = e.heading.label.attempt; bytes = e.bytes }
 
 pub accepted_at : (es : List Entry) (i : ℕ) (a : Accepted) → slice_get (map accepted_of es) i ≡ Some a → (e : Entry) × (get_elem? es i ≡ some e) × (accepted_of e ≡ a)
-accepted_at = accepted.accepted_at (λ e. e.heading.operation) (λ e. e.heading.attempt)
+accepted_at = accepted.accepted_at (λ e. e.heading.label.operation) (λ e. e.heading.label.attempt)
 
 pub accepted_there : (es : List Entry) (i : ℕ) (e : Entry) → get_elem? es i ≡ some e → slice_get (map accepted_of es) i ≡ Some (accepted_of e)
-accepted_there = accepted.accepted_there (λ e. e.heading.operation) (λ e. e.heading.attempt)
+accepted_there = accepted.accepted_there (λ e. e.heading.label.operation) (λ e. e.heading.label.attempt)
 
 count_up_length : (n : ℕ) → length (count_up n) ≡ n
 count_up_length zero = refl
@@ -84,4 +84,4 @@ module _ (p : Plan) (c : Core) (views : List View) (o : Lawful (λ home. home) p
 
   -- as many messages as there are requests, once each request was used
   pub requests_used : ((q : ℕ) → q < p.requests → slice_index c.words (request_index p q) ≢ 0) → p.requests ≤ all_accepted p.links (orders_of p c views o)
-  requests_used some_ = omega (arith, log_full p.requests o.log (λ q ql. used_once o.chains q ql (some_ q ql) (no_claims q)), accepted.sizes_all (λ e. e.heading.operation) (λ e. e.heading.attempt) p.links o.log (λ i e g. (o.chains.sized i e g).0))
+  requests_used some_ = omega (arith, log_full p.requests o.log (λ q ql. used_once o.chains q ql (some_ q ql) (no_claims q)), accepted.sizes_all (λ e. e.heading.label.operation) (λ e. e.heading.label.attempt) p.links o.log (λ i e g. (o.chains.sized i e g).0))

@@ -59,14 +59,14 @@ module _ {links requests : ℕ} {m : Memory} {t : Tokens} {log : List Entry} {fr
 
 -- an entry's place word has the number of its operation and its attempt, and it has a byte at least
 abbrev pub IsLabelled : Plan → Entry → Type 0
-IsLabelled p e = (e.heading.place ≡ 8 * e.heading.operation + e.heading.attempt) × (e.heading.place < 8 * p.operations) × (e.bytes ≢ [])
+IsLabelled p e = (e.heading.label.place ≡ 8 * e.heading.label.operation + e.heading.label.attempt) × (e.heading.label.place < 8 * p.operations) × (e.bytes ≢ [])
 
 module _ (p : Plan) (c : Core) (views : List View) (o : Lawful (λ (home : Home). home) p (state c views)) (quiet : AreQuiet views) (at_home : (k : ℕ) → k < p.links → AtHome p c.homes k)
-    (labelled : (i : ℕ) (e : Entry) → get_elem? o.log i ≡ some e → IsLabelled p e) (apart : Distinct (λ (e : Entry). e.heading.place) o.log) where
-  label_of : (e : Entry) (a : Accepted) → accepted_of e ≡ a → e.heading.place ≡ 8 * e.heading.operation + e.heading.attempt → e.heading.place ≡ label a
+    (labelled : (i : ℕ) (e : Entry) → get_elem? o.log i ≡ some e → IsLabelled p e) (apart : Distinct (λ (e : Entry). e.heading.label.place) o.log) where
+  label_of : (e : Entry) (a : Accepted) → accepted_of e ≡ a → e.heading.label.place ≡ 8 * e.heading.label.operation + e.heading.label.attempt → e.heading.label.place ≡ label a
   label_of e a is place = place ∙ ap label is
 
-  places_small : (i : ℕ) (e : Entry) → get_elem? o.log i ≡ some e → e.heading.place < 8 * p.operations
+  places_small : (i : ℕ) (e : Entry) → get_elem? o.log i ≡ some e → e.heading.label.place < 8 * p.operations
   places_small i e g = (labelled i e g).1
 
   -- where no seat writes a link, the orders are those that words and links show
@@ -81,8 +81,8 @@ module _ (p : Plan) (c : Core) (views : List View) (o : Lawful (λ (home : Home)
     ];
     within = λ k kl. omega (arith, o.delivered.kept_fits k kl, places_all p c views o quiet k kl, length-map (on k o.log) accepted_of);
     taken = λ k kl. let h = at_home k kl in subst (IsTaken (orders_of p c views o k)) (sym (took_there p c.homes k h.took h.next h.done h.is kl))
-        (accepted.taken_of (λ e. e.heading.operation) (λ e. e.heading.attempt) (on k o.log) (o.kept k) h.took (λ i e g. let x = in_log o.chains k i e g in (labelled x.0 e x.1).2) (o.delivered.at_home k h.took h.next kl (home_there p c.homes k h.took h.next h.done h.is)).0);
+        (accepted.taken_of (λ e. e.heading.label.operation) (λ e. e.heading.label.attempt) (on k o.log) (o.kept k) h.took (λ i e g. let x = in_log o.chains k i e g in (labelled x.0 e x.1).2) (o.delivered.at_home k h.took h.next kl (home_there p c.homes k h.took h.next h.done h.is)).0);
     apart = λ k l i j a b kl ll ak bl same. let d = accepted_at (on k o.log) i a ak in let e = accepted_at (on l o.log) j b bl in
         let x = in_log o.chains k i d.0 d.1 in let y = in_log o.chains l j e.0 e.1 in
-        one_place_each o.chains (λ (x : Entry). x.heading.place) apart k l i j d.0 e.0 d.1 e.1 (label_of d.0 a d.2 (labelled x.0 d.0 x.1).0 ∙ (same ∙ sym (label_of e.0 b e.2 (labelled y.0 e.0 y.1).0)));
+        one_place_each o.chains (λ (x : Entry). x.heading.label.place) apart k l i j d.0 e.0 d.1 e.1 (label_of d.0 a d.2 (labelled x.0 d.0 x.1).0 ∙ (same ∙ sym (label_of e.0 b e.2 (labelled y.0 e.0 y.1).0)));
   }

@@ -74,7 +74,7 @@ module _ (slots requests : ℕ) (calls : ℕ → Type 0) (w : Way) (broken : Lis
 
   -- whoever wrote the link tells the call that its message was dropped
   pub tell_goes : (heading : Heading) (c : ℕ) (next : Program) → Goes next → Goes (tell_drop heading c next)
-  tell_goes heading c next g = let told : ℕ = if eqb c 0 then 1009 else c in split (eqb heading.owner 0) next (post heading.owner told heading.attempt next) Goes g (post_goes heading.owner told heading.attempt next g)
+  tell_goes heading c next g = let told : ℕ = if eqb c 0 then 1009 else c in split (eqb heading.owner 0) next (post heading.owner told heading.label.attempt next) Goes g (post_goes heading.owner told heading.label.attempt next g)
 
   popped_goes : (i oldest after : ℕ) (k : Unlocking → Program) → Exits k → Goes (popped i oldest after k)
   popped_goes i oldest after k goes = let two : Program = if is_stale oldest (parts after) then Round (Unlocks i after false) k else k (HasNext after oldest) in

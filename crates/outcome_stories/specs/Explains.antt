@@ -260,7 +260,7 @@ module _ (calls : ℕ → Type 0) where
     pub trace_is : trace ≡ step (Unconnect request) words.0 ∷ step (PutMessage request heading bytes) words.1 ∷ step (ClaimRequest id request) found ∷ before
     pub free : found % 2 ≡ 0
     pub parts : heading.parts ≢ []
-    pub of_call : calls heading.operation
+    pub of_call : calls heading.label.operation
 
   abbrev pub FitsBeside : List ℕ → List Entry → TableStep → Type 0
   FitsBeside broken trace (ClaimSlot i) = ⊥

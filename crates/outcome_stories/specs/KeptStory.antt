@@ -88,7 +88,7 @@ of_sends es = filter is_of_send es
 
 -- a message that isn't a send's is a call's
 abbrev pub IsOfCall : (ℕ → Type 0) → chain.Entry → Type 0
-IsOfCall calls e = is_of_send e ≡ false → calls e.heading.operation
+IsOfCall calls e = is_of_send e ≡ false → calls e.heading.label.operation
 
 -- the steps of the task in hand, where its program is at work, are those of the story; beside the tasks none was made for the next task
 abbrev pub IsTraced : Way → List Entry → ℕ → List Task → List Event → Type 0

@@ -94,7 +94,7 @@ module _ (slots requests : ℕ) (calls : ℕ → Type 0) (done : List Done) (tod
       ends = λ id k bs tr a. follows bs a.within tr;
     }
 
-    accept_goes : (id q found : ℕ) (heading : Heading) (bytes : List ℕ) (bs : List ℕ) (tr : List Entry) → Within broken bs → 0 < holds (socket_id_slot id) (socket_id_version id) tr → found % 2 ≡ 0 → heading.parts ≢ [] → calls heading.operation
+    accept_goes : (id q found : ℕ) (heading : Heading) (bytes : List ℕ) (bs : List ℕ) (tr : List Entry) → Within broken bs → 0 < holds (socket_id_slot id) (socket_id_version id) tr → found % 2 ≡ 0 → heading.parts ≢ [] → calls heading.label.operation
         → Goes bs (step (ClaimRequest id q) found ∷ tr) (accept id q (found / 2) heading bytes after)
     accept_goes id q found heading bytes bs tr within held free some_parts of_call = let own : ℕ = ticket_of q (found / 2) in let i : ℕ = socket_id_slot id in let v : ℕ = socket_id_version id in (
       tt,
@@ -118,7 +118,7 @@ module _ (slots requests : ℕ) (calls : ℕ → Type 0) (done : List Done) (tod
 
   -- ## Attempts
 
-  claims_goes : (broken : List ℕ) (more q id : ℕ) (heading : Heading) (bytes : List ℕ) (full accepted : Program) → heading.parts ≢ [] → calls heading.operation → ((tr : List Entry) → Goes broken tr full) → Anywhere broken accepted
+  claims_goes : (broken : List ℕ) (more q id : ℕ) (heading : Heading) (bytes : List ℕ) (full accepted : Program) → heading.parts ≢ [] → calls heading.label.operation → ((tr : List Entry) → Goes broken tr full) → Anywhere broken accepted
       → (tr : List Entry) → 0 < holds (socket_id_slot id) (socket_id_version id) tr → Goes broken tr (claims_from more q id heading bytes full accepted)
   claims_goes broken zero q id heading bytes full accepted some_parts of_call f a tr held = f tr
   claims_goes broken (suc more) q id heading bytes full accepted some_parts of_call f a tr held = (

@@ -436,7 +436,7 @@ module _ (p : Plan) (clients : List (List Task)) (are : AreTasks p clients) (ove
 
       made_beside : (todo : List Task) (call : TableStep) (next : ℕ → Program) → May p v call → At es broken Beside trace done todo (Do call next) v → Made todo call
       made_beside todo (SwapHead j own) next may s = let x = beside_swap p (IsSpoken clients) es v j own (found_at c.words (word_of p (SwapHead j own))) (hand_at p c.words c.homes (SwapHead j own)) trace s.explains.0 may s.claims s.made s.lists in
-          record { made = x.0; lists = x.1; made_now = subst (AreMadeNow es i done todo) (sym x.2) s.are_made; of_calls = x.3 (IsOfCall (IsSpoken clients)) (λ e same no_. subst (λ (h : Heading). IsSpoken clients h.operation) (sym same) s.explains.0.of_call) s.of_calls }
+          record { made = x.0; lists = x.1; made_now = subst (AreMadeNow es i done todo) (sym x.2) s.are_made; of_calls = x.3 (IsOfCall (IsSpoken clients)) (λ e same no_. subst (λ (h : Heading). IsSpoken clients h.label.operation) (sym same) s.explains.0.of_call) s.of_calls }
       made_beside todo call next may s = record { made = s.made; lists = row_lists p v (found_at c.words (word_of p call)) (hand_at p c.words c.homes call) call tt ∙ s.lists; made_now = s.are_made; of_calls = s.of_calls }
 
       -- the life that a writer sets failed has the link that failed

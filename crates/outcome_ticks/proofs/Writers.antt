@@ -102,12 +102,12 @@ module _ (slots requests : ℕ) (calls : ℕ → Type 0) (way : Way) (done : Lis
         (λ next. freed_goes h bs now (tells (on next)) (λ tr a. k tr (on next) (λ heading bytes. its.again (Puts h next heading bytes 0 false) bs tr a))) tr a)
 
     placed_goes : (h : Holder) (bs : List ℕ) (now : ℕ) (heading : Heading) → Once h bs (placed h now heading after)
-    placed_goes h bs now heading = quiet h bs (StorePlace heading.place h.link h.places) (λ _. passed_telling (one_more h) now (λ q. q) after) tt (λ found n. refl) (λ found. passed_goes (one_more h) bs now (λ q. q) (λ tr q g. g))
+    placed_goes h bs now heading = quiet h bs (StorePlace heading.label.place h.link h.places) (λ _. passed_telling (one_more h) now (λ q. q) after) tt (λ found n. refl) (λ found. passed_goes (one_more h) bs now (λ q. q) (λ tr q g. g))
 
     dropped_goes : (h : Holder) (bs : List ℕ) (now : ℕ) (heading : Heading) → Once h bs (dropped h now heading after)
     dropped_goes h bs now heading = let told : ℕ → Program = λ code. passed_telling (one_more h) now (tell_drop heading code) after in
-        quiet h bs (LoadCode (socket_id_slot h.id) (socket_id_version h.id)) (λ code. Do (DropPlace heading.place h.link h.places) (λ _. told code)) tt (λ found n. refl)
-        (λ code. quiet h bs (DropPlace heading.place h.link h.places) (λ _. told code) tt (λ found n. refl)
+        quiet h bs (LoadCode (socket_id_slot h.id) (socket_id_version h.id)) (λ code. Do (DropPlace heading.label.place h.link h.places) (λ _. told code)) tt (λ found n. refl)
+        (λ code. quiet h bs (DropPlace heading.label.place h.link h.places) (λ _. told code) tt (λ found n. refl)
         (λ found. passed_goes (one_more h) bs now (tell_drop heading code) (λ tr q g. tell_goes slots requests calls way bs done tr todo heading code q g)))
 
     -- ## What the link answers

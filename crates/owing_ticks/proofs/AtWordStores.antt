@@ -123,7 +123,7 @@ module _ (q : IdPlan) (narrow : q.slots ≤ 65536) (life : ℕ → Option ℕ) (
       owed = λ j m l a. let e = word_same (id_slot j) l in let is : IsOpen c j m = (ap (λ (y : Parts). y.first) (sym e) ∙ a.0, ap (λ (y : Parts). y.state) (sym e) ∙ a.1, ap (λ (y : Parts). y.attempt) (sym e) ∙ a.2) in owed_still j m l is (law.owed j m l is);
       errors = λ j l f x. let e = word_same (id_slot j) l in subst (λ (y : Parts). ErrorPast (set us i v) j y.oldest × ErrorPast (set us i v) j y.second) (sym e)
           (let p = law.errors j l (ap (λ (y : Parts). y.first) (sym e) ∙ f) (subst (λ (y : Parts). 0 < y.state) e x) in (error_still j (id_word_of c (id_slot j)).oldest p.0, error_still j (id_word_of c (id_slot j)).second p.1));
-      letters = λ r heading bytes e some_. let l = law.letters r heading bytes e some_ in (past_still heading.owner heading.attempt l.0, l.1);
+      letters = λ r heading bytes e some_. let l = law.letters r heading bytes e some_ in (past_still heading.owner heading.label.attempt l.0, l.1);
       ats = λ r l some_. dite (ℕ_discrete r o)
           (λ here. subst (λ x. Past (set us i v) (call_id (at_word_slot x) (at_word_first x)) (at_word_attempt x)) (sym (ap (at_of q Stored') here ∙ at_here))
           (let slot : id_slot id < 65536 = omega (arith, inside, narrow) in let n8 : n < 8 = omega (arith, few) in subst (λ x. Past (set us i v) x (at_word_attempt (at_word (id_first id) (id_slot id) k n))) (sym (id_of_at id k n slot link n8))
@@ -151,8 +151,8 @@ module _ (q : IdPlan) (narrow : q.slots ≤ 65536) (life : ℕ → Option ℕ) (
     in_rest : (r : ℕ) → r ≢ o → InList r u.left → InList r rest
     in_rest r ne a = ⊎_elim (λ e. absurd (ne (sym e))) (λ b. b) (subst (InList r) lefts a)
 
-    same_letters : (v : Owing) → ((id n : ℕ) → Among id n u.knows → Among id n v.knows) → (r : ℕ) (heading : Rattle.sock_model.specs.declared.chain.Heading.Heading) (bytes : List ℕ) → get_elem? c.homes r ≡ some (some (Rattle.sock_model.specs.declared.home.Home.TheVariants.Message heading bytes)) → heading.owner ≢ 0 → Past (set us i v) heading.owner heading.attempt × (heading.attempt ≤ 6)
-    same_letters v knows r heading bytes e some_ = let l = law.letters r heading bytes e some_ in (past_on q life calls c c us i u v law at knows heading.owner heading.attempt l.0, l.1)
+    same_letters : (v : Owing) → ((id n : ℕ) → Among id n u.knows → Among id n v.knows) → (r : ℕ) (heading : Rattle.sock_model.specs.declared.chain.Heading.Heading) (bytes : List ℕ) → get_elem? c.homes r ≡ some (some (Rattle.sock_model.specs.declared.home.Home.TheVariants.Message heading bytes)) → heading.owner ≢ 0 → Past (set us i v) heading.owner heading.label.attempt × (heading.label.attempt ≤ 6)
+    same_letters v knows r heading bytes e some_ = let l = law.letters r heading bytes e some_ in (past_on q life calls c c us i u v law at knows heading.owner heading.label.attempt l.0, l.1)
 
     passes : ((id n l s : ℕ) → id_slot id < q.slots → IsOpen c id n → life l ≡ Some s → at_of q c o ≡ at_word (id_first id) (id_slot id) l n → u.link ≡ l ∷ [] → ⊥) → OwingLaw q life calls Same (set us i (with_left rest u))
     passes none_ = marked q life calls c us i u law at c.words c.homes ss os (with_left rest u) record {

@@ -41,20 +41,20 @@ module _ (q : IdPlan) (life : ℕ → Option ℕ) (calls : List ℕ) (c : Core) 
       → After q life calls c us sound i seat u at_seat at (with_seat i (next heading bytes) seat.hand c.words (set c.homes r none) c)
   message_ticks r next heading bytes g here = dite (ℕ_discrete heading.owner 0)
       (λ none_. same_ticks (next heading bytes) seat.hand (set c.homes r none) (g heading bytes u (same_further u) (λ some_. absurd (some_ none_))) (out_of_home r))
-      (λ some_. let l = sound.law.letters r heading bytes here some_ in let v : Owing = with_known heading.owner heading.attempt u in
-      follows q life calls c us sound i seat u at_seat at (next heading bytes) seat.hand c.words (set c.homes r none) c.calls (with_known heading.owner heading.attempt u)
-      (marked q life calls c us i u sound.law at c.words (set c.homes r none) c.seats c.outcomes (with_known heading.owner heading.attempt u) record {
+      (λ some_. let l = sound.law.letters r heading bytes here some_ in let v : Owing = with_known heading.owner heading.label.attempt u in
+      follows q life calls c us sound i seat u at_seat at (next heading bytes) seat.hand c.words (set c.homes r none) c.calls (with_known heading.owner heading.label.attempt u)
+      (marked q life calls c us i u sound.law at c.words (set c.homes r none) c.seats c.outcomes (with_known heading.owner heading.label.attempt u) record {
         knows = λ j m a. inr a;
         learns = λ j m a. inl (⊎_elim (λ e. subst (λ x. Past us x m) e.0 (subst (λ x. Past us heading.owner x) e.1 l.0)) (λ b. (i, u, at, b)) a);
         tokens = λ j m a. a;
         distinct = sound.law.distinct i u at;
-        owes = λ j m inside is d. by_seat i (with_known heading.owner heading.attempt u) (set_at us i u (with_known heading.owner heading.attempt u) at) d;
-        lefts = λ j m o k s inside is low lives word e left. by_reader o k s i (with_known heading.owner heading.attempt u) low lives word (set_at us i u (with_known heading.owner heading.attempt u) at) e left;
-        letters = λ t h bs e some'. let x = sound.law.letters t h bs (out_of_home r t h bs e) some' in (past_on q life calls c c us i u (with_known heading.owner heading.attempt u) sound.law at (λ j m a. inr a) h.owner h.attempt x.0, x.1);
+        owes = λ j m inside is d. by_seat i (with_known heading.owner heading.label.attempt u) (set_at us i u (with_known heading.owner heading.label.attempt u) at) d;
+        lefts = λ j m o k s inside is low lives word e left. by_reader o k s i (with_known heading.owner heading.label.attempt u) low lives word (set_at us i u (with_known heading.owner heading.label.attempt u) at) e left;
+        letters = λ t h bs e some'. let x = sound.law.letters t h bs (out_of_home r t h bs e) some' in (past_on q life calls c c us i u (with_known heading.owner heading.label.attempt u) sound.law at (λ j m a. inr a) h.owner h.label.attempt x.0, x.1);
         link = refl;
         reads = λ k s e lives x. x;
         failed = λ k f. f;
         dead = λ k e d. sound.law.dead i k u at e d;
-        own = stored_with q life calls c us i u sound.law at c.words (set c.homes r none) c.seats c.outcomes (λ k f. f) (λ t h bs e some'. sound.law.letters t h bs (out_of_home r t h bs e) some') (with_known heading.owner heading.attempt u) (λ j m a. inr a) u.duty (sound.law.stored i u at);
+        own = stored_with q life calls c us i u sound.law at c.words (set c.homes r none) c.seats c.outcomes (λ k f. f) (λ t h bs e some'. sound.law.letters t h bs (out_of_home r t h bs e) some') (with_known heading.owner heading.label.attempt u) (λ j m a. inr a) u.duty (sound.law.stored i u at);
         keeps = λ e. e;
-      }) (g heading bytes (with_known heading.owner heading.attempt u) (known_further heading.owner heading.attempt u) (λ _. (inl (refl, refl), l.1))) few)
+      }) (g heading bytes (with_known heading.owner heading.label.attempt u) (known_further heading.owner heading.label.attempt u) (λ _. (inl (refl, refl), l.1))) few)

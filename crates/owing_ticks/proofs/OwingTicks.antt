@@ -67,7 +67,7 @@ module _ (p : Plan) (q : IdPlan) (narrow : q.slots ≤ 65536) (same : q.operatio
     -- ## Steps on the sockets
 
     letters_after : (call : TableStep) → MayCall u call → HoldsNoMessage seat.hand → (r : ℕ) (heading : Heading) (bytes : List ℕ) → get_elem? (homes_after p call seat.hand c.homes) r ≡ some (some (Message heading bytes)) → heading.owner ≢ 0
-        → Past us heading.owner heading.attempt × (heading.attempt ≤ 6)
+        → Past us heading.owner heading.label.attempt × (heading.label.attempt ≤ 6)
     letters_after (TakeLink k) may links r heading bytes e some_ = ⊎_elim (λ b. absurd (some-ne-none (Message heading bytes) (sym b.1))) (λ b. sound.law.letters r heading bytes b.1 some_) (at_set c.homes (link_place p k) r none (some (Message heading bytes)) e)
     letters_after (PutLink k) may links r heading bytes e some_ = ⊎_elim (λ b. absurd (links heading bytes b.1)) (λ b. sound.law.letters r heading bytes b.1 some_) (at_set c.homes (link_place p k) r (first_of seat.hand) (some (Message heading bytes)) e)
     letters_after (PutMessage t l cs) may links r heading bytes e some_ = ⊎_elim

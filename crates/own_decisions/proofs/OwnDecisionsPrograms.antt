@@ -66,9 +66,9 @@ passed_goes s h now tells after told goes = way s (now == h.last) (given_back no
 tell_goes : (s : Stand) (heading : Heading) (code : ℕ) (x : Program) → s ≡ behind_message heading → Aims Calm x → Aims s (tell_drop heading code x)
 tell_goes s heading code x is goes = by (eqb heading.owner 0) is
   where
-    by : (b : Bool) → s ≡ cond b Calm (Past heading.owner heading.attempt) → Aims s (cond b x (post heading.owner (cond (eqb code 0) 1009 code) heading.attempt x))
+    by : (b : Bool) → s ≡ cond b Calm (Past heading.owner heading.label.attempt) → Aims s (cond b x (post heading.owner (cond (eqb code 0) 1009 code) heading.label.attempt x))
     by true same = subst (λ z. Aims z x) (sym same) goes
-    by false same = post_goes s heading.owner (cond (eqb code 0) 1009 code) heading.attempt x (inl (sym same)) goes
+    by false same = post_goes s heading.owner (cond (eqb code 0) 1009 code) heading.label.attempt x (inl (sym same)) goes
 
 put_goes : (s : Stand) (h : Holder) (now : ℕ) (heading : Heading) (left : List ℕ) (taken : ℕ) (after : Program) → s ≡ behind_message heading → Aims Calm after → (answer : Put) → Aims s (put_answered h now heading left taken after answer)
 put_goes s h now heading left taken after is goes (puts.Took n) = way s (nat_le (length left) n) (placed h now heading after) (Write (Puts h now heading (drop n left) (taken + n) false) after)
@@ -131,7 +131,7 @@ accept_goes s id q g heading bytes after may goes = (
     swapped : (found : ℕ) → Aims Calm (cond (nat_lt found IDLE) (Do (Connect q found) (λ _. after)) (write_link id q (ticket_of q g) after))
     swapped found = way Calm (nat_lt found IDLE) (Do (Connect q found) (λ _. after)) (write_link id q (ticket_of q g) after) (λ _. (words Calm).step (Connect q found) (λ _. after) refl (λ _. goes)) (λ _. write_goes id q (ticket_of q g) after goes)
 
-claims_goes : (s : Stand) (more q id : ℕ) (heading : Heading) (bytes : List ℕ) (full accepted : Program) → (heading.owner ≡ 0) ⊎ (s ≡ Past heading.owner heading.attempt) → Aims s full → Aims Calm accepted → Aims s (claims_from more q id heading bytes full accepted)
+claims_goes : (s : Stand) (more q id : ℕ) (heading : Heading) (bytes : List ℕ) (full accepted : Program) → (heading.owner ≡ 0) ⊎ (s ≡ Past heading.owner heading.label.attempt) → Aims s full → Aims Calm accepted → Aims s (claims_from more q id heading bytes full accepted)
 claims_goes s zero q id heading bytes full accepted may none_ goes = none_
 claims_goes s (suc more) q id heading bytes full accepted may none_ goes = (
   tt,
@@ -149,7 +149,7 @@ module _ (requests : ℕ) (asked : Asked) (id n socket : ℕ) (next : Program) (
   refused_goes : (code : ℕ) → Aims (Past id n) (post id code n (release (socket_id_slot socket) (λ _. next)))
   refused_goes code = post_goes (Past id n) id code n (release (socket_id_slot socket) (λ _. next)) (inl refl) (through_release (Aims Calm) (words Calm) (socket_id_slot socket) (λ _. next) (λ _. goes))
 
-  looks_goes : (heading : Heading) (bytes : List ℕ) → (heading.owner ≡ 0) ⊎ (Past id n ≡ Past heading.owner heading.attempt) → Aims (Past id n) (Do (LookWord socket) (λ found. cond (eqb (vref_version found % 2) 0)
+  looks_goes : (heading : Heading) (bytes : List ℕ) → (heading.owner ≡ 0) ⊎ (Past id n ≡ Past heading.owner heading.label.attempt) → Aims (Past id n) (Do (LookWord socket) (λ found. cond (eqb (vref_version found % 2) 0)
       (claims_from requests 0 socket heading bytes (post id 3001 n (release (socket_id_slot socket) (λ _. next))) (release (socket_id_slot socket) (λ _. next))) (post id 1009 n (release (socket_id_slot socket) (λ _. next)))))
   looks_goes heading bytes may = (
     tt,

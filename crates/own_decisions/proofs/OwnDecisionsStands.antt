@@ -28,12 +28,12 @@ Eases s u = (u ≡ s) ⊎ ((u ≡ Calm) ⊎ ((id n : ℕ) × (s ≡ Trying id n)
 
 -- a message of an attempt was accepted, so that nobody tries the attempt
 abbrev pub behind_message : Heading → Stand
-behind_message heading = if heading.owner == 0 then Calm else Past heading.owner heading.attempt
+behind_message heading = if heading.owner == 0 then Calm else Past heading.owner heading.label.attempt
 
 -- ## Steps
 
 abbrev pub MayPut : Stand → TableStep → Type 0
-MayPut s (PutMessage q heading bytes) = (heading.owner ≡ 0) ⊎ (s ≡ Past heading.owner heading.attempt)
+MayPut s (PutMessage q heading bytes) = (heading.owner ≡ 0) ⊎ (s ≡ Past heading.owner heading.label.attempt)
 MayPut s other = Unit {0}
 
 -- an error for the whole call, or of an attempt that nobody tries

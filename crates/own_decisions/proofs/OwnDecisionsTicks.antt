@@ -79,7 +79,7 @@ abbrev pub AtsFit : IdPlan → (ℕ → ℕ → Type 0) → List ℕ → Type 0
 AtsFit q P ws = (o : ℕ) → o < q.operations → get_or ws (at_index q o) 0 ≢ 0 → P (call_id (at_word_slot (get_or ws (at_index q o) 0)) (at_word_first (get_or ws (at_index q o) 0))) (at_word_attempt (get_or ws (at_index q o) 0))
 
 abbrev pub HeadFits : (ℕ → ℕ → Type 0) → Heading → Type 0
-HeadFits P heading = heading.owner ≢ 0 → P heading.owner heading.attempt
+HeadFits P heading = heading.owner ≢ 0 → P heading.owner heading.label.attempt
 
 abbrev pub PostFits : (ℕ → ℕ → Type 0) → Post → Type 0
 PostFits P x = (attempt_of x.error ≡ WHOLE) ⊎ P x.id (attempt_of x.error)
@@ -119,7 +119,7 @@ post_more P Q f x (inl whole) = inl whole
 post_more P Q f x (inr past) = inr (f x.id (attempt_of x.error) past)
 
 head_more : (P Q : ℕ → ℕ → Type 0) → ((id n : ℕ) → P id n → Q id n) → (h : Heading) → HeadFits P h → HeadFits Q h
-head_more P Q f h fit some_ = f h.owner h.attempt (fit some_)
+head_more P Q f h fit some_ = f h.owner h.label.attempt (fit some_)
 
 pub law_more : (q : IdPlan) (Taken Taken' : Post → Type 0) (Mine Mine' : ℕ → Post → Type 0) (c : Core) (ss : List Stand) → ((x : Post) → Taken' x → Taken x) → ((j : ℕ) (x : Post) → Mine j x → Mine' j x) → AimLaw q Taken Mine c ss → AimLaw q Taken' Mine' c ss
 law_more q Taken Taken' Mine Mine' c ss f g law = record {
@@ -363,11 +363,11 @@ module _ (p : Plan) (q : IdPlan) (narrow : q.slots ≤ 65536) (Taken : Post → 
 
         by : (b : Bool) → eqb letter.0.owner 0 ≡ b → Result [] (with_message p i seat c r (some letter) (λ letter. next letter.0 letter.1))
         by true none_ = calms (next letter.0 letter.1) seat.hand c.words (set c.homes r none) (home_away (HeadFits (Behind Calm)) c.homes r (old_homes Calm)) (old_hands Calm)
-            (subst (λ y. Aims y (next letter.0 letter.1)) (ap (λ b. cond b Calm (Past letter.0.owner letter.0.attempt)) none_) (go letter.0 letter.1))
-        by false some_ = let u : Stand = Past letter.0.owner letter.0.attempt in
-            on_sockets (next letter.0 letter.1) seat.hand c.words (set c.homes r none) (Past letter.0.owner letter.0.attempt) (λ id n. omega arith)
+            (subst (λ y. Aims y (next letter.0 letter.1)) (ap (λ b. cond b Calm (Past letter.0.owner letter.0.label.attempt)) none_) (go letter.0 letter.1))
+        by false some_ = let u : Stand = Past letter.0.owner letter.0.label.attempt in
+            on_sockets (next letter.0 letter.1) seat.hand c.words (set c.homes r none) (Past letter.0.owner letter.0.label.attempt) (λ id n. omega arith)
             (inl (there (λ e. (let z : true ≡ false = sym (eq-eqb letter.0.owner 0 e) ∙ some_ in cc)))) (home_away (HeadFits (Behind u)) c.homes r (old_homes u)) (old_hands u)
-            (subst (λ y. Aims y (next letter.0 letter.1)) (ap (λ b. cond b Calm (Past letter.0.owner letter.0.attempt)) some_) (go letter.0 letter.1))
+            (subst (λ y. Aims y (next letter.0 letter.1)) (ap (λ b. cond b Calm (Past letter.0.owner letter.0.label.attempt)) some_) (go letter.0 letter.1))
 
     by_link : (k : ℕ) (next : ℕ → Program) → Aims s (TakeHome k next) → (x : Option (List ℕ × ℕ)) → Result [] (with_link p i seat c k x next)
     by_link k next go none = before

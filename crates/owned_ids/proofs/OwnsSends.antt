@@ -58,13 +58,13 @@ module _ (has : ℕ → ℕ) (mine : ℕ → Bool) where
       (told (TakeMessage (ticket_request found) (λ heading bytes. Write (Puts h found heading bytes 0 false) next)) (message has mine (ticket_request found) _ (λ heading bytes. write has mine (Puts h found heading bytes 0 false) next after)))))
 
   tell_goes : (heading : Heading) (c : ℕ) (next : Program) → G next → G (tell_drop heading c next)
-  tell_goes heading c next after = either_way (heading.owner == 0) _ _ G after (post_goes has mine heading.owner (cond (c == 0) 1009 c) heading.attempt next after)
+  tell_goes heading c next after = either_way (heading.owner == 0) _ _ G after (post_goes has mine heading.owner (cond (c == 0) 1009 c) heading.label.attempt next after)
 
   placed_goes : (h : Holder) (now : ℕ) (heading : Heading) (next : Program) → G next → G (placed h now heading next)
-  placed_goes h now heading next after = step has mine (StorePlace heading.place h.link h.places) _ (λ _. passed_goes (one_more h) now (λ x. x) (λ x y. y) next after)
+  placed_goes h now heading next after = step has mine (StorePlace heading.label.place h.link h.places) _ (λ _. passed_goes (one_more h) now (λ x. x) (λ x y. y) next after)
 
   dropped_goes : (h : Holder) (now : ℕ) (heading : Heading) (next : Program) → G next → G (dropped h now heading next)
-  dropped_goes h now heading next after = step has mine (LoadCode (socket_id_slot h.id) (socket_id_version h.id)) _ (λ c. step has mine (DropPlace heading.place h.link h.places) _ (λ _. passed_goes (one_more h) now (tell_drop heading c) (λ x y. tell_goes heading c x y) next after))
+  dropped_goes h now heading next after = step has mine (LoadCode (socket_id_slot h.id) (socket_id_version h.id)) _ (λ c. step has mine (DropPlace heading.label.place h.link h.places) _ (λ _. passed_goes (one_more h) now (tell_drop heading c) (λ x y. tell_goes heading c x y) next after))
 
   link_failed_goes : (h : Holder) (next : Program) → G next → G (link_failed h next)
   link_failed_goes h next after = set_failed_goes h.id 1009 (λ _. next) (λ _. after)

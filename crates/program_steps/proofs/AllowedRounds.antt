@@ -329,14 +329,14 @@ module _ {p : Plan} {v : View} {h : Holder} {r : Right} where
   life_of_link a = subst (HoldsLink p v (socket_id_slot h.id) (socket_id_version h.id)) (sym a.link) a.holds
 
 module _ (p : Plan) (after : Program) (v : View) (h : Holder) (r : Right) (now : ℕ) (heading : Heading) (a : IsHolder p v h r) (stage : r.stage ≡ stages.Writes now) (in_hand : r.taken ≡ true)
-    (heading_is : r.heading ≡ heading) (label_in : heading.place < 8 * p.operations) (follows : Follows p v after) where
-  labelled : r.heading.place < 8 * p.operations
-  labelled = subst (λ (x : Heading). x.place < 8 * p.operations) (sym heading_is) label_in
+    (heading_is : r.heading ≡ heading) (label_in : heading.label.place < 8 * p.operations) (follows : Follows p v after) where
+  labelled : r.heading.label.place < 8 * p.operations
+  labelled = subst (λ (x : Heading). x.label.place < 8 * p.operations) (sym heading_is) label_in
 
   -- the link took the message whole
   pub placed_goes : r.clean ≡ true → r.put ≡ length r.bytes → GoesOn p v (placed h now heading after)
   placed_goes clean whole = (
-    (record { mine = own_right a; now = now; stage = stage; taken = in_hand; is_clean = clean; away = a.away; label_in = labelled }, a.one, ap (λ (x : Heading). x.place) (sym heading_is), sym a.link, sym a.places, whole),
+    (record { mine = own_right a; now = now; stage = stage; taken = in_hand; is_clean = clean; away = a.away; label_in = labelled }, a.one, ap (λ (x : Heading). x.label.place) (sym heading_is), sym a.link, sym a.places, whole),
     λ found hand f. by_one p v r (λ r. placed_next v r r.stage) v (passed (one_more h) now after) a.one
         (subst (λ b. GoesOn p (placed_next v r b) (passed (one_more h) now after)) (sym stage)
         (passed_goes p after v (one_more h) r (placed_right r now) now (keeps a) a.link a.last (omega (arith, a.places)) a.away refl refl follows (λ x. x) (λ w x g. g) refl)),
@@ -352,12 +352,12 @@ module _ (p : Plan) (after : Program) (v : View) (h : Holder) (r : Right) (now :
   clean_or_none : r.put ≡ 0 ⊎ (r.clean ≡ true)
   clean_or_none = dite (ℕ_discrete r.put 0) (λ e. inl e) (λ n. inr (m.clean (omega (arith, n, m.put))))
 
-  drops_goes : (code : ℕ) → 0 < marks_of (is_saw (socket_id_version h.id + 1)) (socket_id_slot h.id) v → GoesOn p v (Do (DropPlace heading.place h.link h.places) (λ _. passed_telling (one_more h) now (tell_drop heading code) after))
+  drops_goes : (code : ℕ) → 0 < marks_of (is_saw (socket_id_version h.id + 1)) (socket_id_slot h.id) v → GoesOn p v (Do (DropPlace heading.label.place h.link h.places) (λ _. passed_telling (one_more h) now (tell_drop heading code) after))
   drops_goes code saw = let sent : List ℕ = r.sent ++ take r.put r.bytes in (
     (
       record { mine = own_right a; now = now; sent = sent; stage = m.stage; taken = m.in_hand; away = a.away; label_in = labelled p after v h r now heading a m.stage m.in_hand m.heading_is m.label_in follows; part = part_of clean_or_none },
       a.one,
-      ap (λ (x : Heading). x.place) (sym m.heading_is),
+      ap (λ (x : Heading). x.label.place) (sym m.heading_is),
       sym a.link,
       sym a.places,
       refl,
@@ -386,7 +386,7 @@ module _ (p : Plan) (after : Program) (h : Holder) (now : ℕ) (heading : Headin
   dropped_goes v r a m follows saw = let i : ℕ = socket_id_slot h.id in let g : ℕ = socket_id_version h.id in
       ((a.holds.inside, a.holds.held), λ found hand f. by_code found (eqb found 0))
     where
-      by_code : (found : ℕ) (b : Bool) → GoesOn p (cond b v (told_code (socket_id_slot h.id) (socket_id_version h.id) found v)) (Do (DropPlace heading.place h.link h.places) (λ _. passed_telling (one_more h) now (tell_drop heading found) after))
+      by_code : (found : ℕ) (b : Bool) → GoesOn p (cond b v (told_code (socket_id_slot h.id) (socket_id_version h.id) found v)) (Do (DropPlace heading.label.place h.link h.places) (λ _. passed_telling (one_more h) now (tell_drop heading found) after))
       by_code found true = drops_goes p after v h r now heading left taken a m follows found saw
       by_code found false = let i : ℕ = socket_id_slot h.id in let g : ℕ = socket_id_version h.id in let new : List SlotMark = at i (Told g found) ∷ at i (Saw (g + 1)) ∷ [] in
           drops_goes p after (with_notes new v) h r now heading left taken (holder_noted new (tt, (tt, tt)) a) m (follows_noted p v after new (tt, (tt, tt)) follows) found (omega (arith, saw, about_append i (is_saw (g + 1)) new v.marks))

@@ -112,7 +112,7 @@ module _ (p : Plan) (v : View) where
   post_goes id code attempt next goes = let e : ℕ = error_of code attempt in λ found fits. judged_goes id e found (posted id e next) fits (posted_goes id e next goes)
 
   pub tell_goes : (heading : Heading) (code : ℕ) (next : Program) → GoesOn p v next → GoesOn p v (tell_drop heading code next)
-  tell_goes heading code next goes = let c : ℕ = cond (eqb code 0) 1009 code in way p v (eqb heading.owner 0) next (post heading.owner c heading.attempt next) (λ _. goes) (λ _. post_goes heading.owner c heading.attempt next goes)
+  tell_goes heading code next goes = let c : ℕ = cond (eqb code 0) 1009 code in way p v (eqb heading.owner 0) next (post heading.owner c heading.label.attempt next) (λ _. goes) (λ _. post_goes heading.owner c heading.label.attempt next goes)
 
   popped_goes : (i oldest after : ℕ) (k : Unlocking → Program) → FitsWord after → Goes FitsUnlocking k → GoesOn p v (popped i oldest after k)
   popped_goes i oldest after k f goes = let two : Program = cond (is_stale oldest (parts after)) (Round (Unlocks i after false) k) (k (HasNext after oldest)) in

@@ -288,7 +288,7 @@ module _ (p : Plan) (c : Core) (vs : List View) (m : Moment) (sound : Sound p c 
 
 -- what a seat goes on with behind such a step
 abbrev pub ComesNext : Plan → Program → Program → Type 0
-ComesNext p (TakeMessage q next) program = (heading : Heading) × (bytes : List ℕ) × (program ≡ next heading bytes) × (heading.place < 8 * p.operations) × (bytes ≢ [])
+ComesNext p (TakeMessage q next) program = (heading : Heading) × (bytes : List ℕ) × (program ≡ next heading bytes) × (heading.label.place < 8 * p.operations) × (bytes ≢ [])
 ComesNext p (TakeHome k next) program = (n : ℕ) × (program ≡ next n)
 ComesNext p (PutHome k n after) program = program ≡ after
 ComesNext p (PutBytes k asked bytes next) program = (answer : Put) × (program ≡ next answer) × FitsPut asked bytes answer

@@ -76,7 +76,7 @@ pub record IsWithinLimits (p : Plan) : Type 0 where
 
 -- a message at home has a place word of the table, and some byte
 abbrev pub AreLabelled : Plan → List (Option Home) → Type 0
-AreLabelled p homes = (i : ℕ) (heading : Heading) (bytes : List ℕ) → get_elem? homes i ≡ some (some (Message heading bytes)) → (heading.place < 8 * p.operations) × (bytes ≢ [])
+AreLabelled p homes = (i : ℕ) (heading : Heading) (bytes : List ℕ) → get_elem? homes i ≡ some (some (Message heading bytes)) → (heading.label.place < 8 * p.operations) × (bytes ≢ [])
 
 pub record Sound (p : Plan) (c : Core) (views : List View) : Type 0 where
   pub limits : IsWithinLimits p
@@ -174,7 +174,7 @@ HasLink p seat k = (k < p.links) × ((took : List ℕ) × (next : ℕ) × (seat.
 
 -- a message is at home, or a link
 abbrev pub HasMessageAt : Plan → Core → ℕ → Type 0
-HasMessageAt p c q = (q < p.requests) × ((heading : Heading) × (bytes : List ℕ) × (get_elem? c.homes q ≡ some (some (Message heading bytes))) × (heading.place < 8 * p.operations) × (bytes ≢ []))
+HasMessageAt p c q = (q < p.requests) × ((heading : Heading) × (bytes : List ℕ) × (get_elem? c.homes q ≡ some (some (Message heading bytes))) × (heading.label.place < 8 * p.operations) × (bytes ≢ []))
 
 abbrev pub HasLinkAt : Plan → Core → ℕ → Type 0
 HasLinkAt p c k = (k < p.links) × ((took : List ℕ) × (next : ℕ) × (get_elem? c.homes (link_place p k) ≡ some (some (Link k took next false))))

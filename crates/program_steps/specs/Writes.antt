@@ -57,7 +57,7 @@ pub record HasMessage (p : Plan) (r : Right) (now : ℕ) (heading : Heading) (le
   pub some_left : left ≢ []
   -- where the link took some of it, the last look found the socket live
   pub clean : 0 < taken → r.clean ≡ true
-  pub label_in : heading.place < 8 * p.operations
+  pub label_in : heading.label.place < 8 * p.operations
 
 -- the right is at this stage, and no message is in hand
 pub record IsBetween (r : Right) (stage : Stage) : Type 0 where

@@ -29,13 +29,13 @@ module _ (G H : Program → Type 0) (g : PassesPlain G) (l : PassesLinks G H) wh
       (told (TakeMessage (ticket_request found) (λ heading bytes. Write (Puts h found heading bytes 0 false) next)) (l.message (ticket_request found) _ (λ heading bytes. l.write (Puts h found heading bytes 0 false) next after)))))
 
   through_tell : (heading : Heading) (c : ℕ) (next : Program) → G next → G (tell_drop heading c next)
-  through_tell heading c next after = either_way (heading.owner == 0) _ _ G after (through_post G g.errors heading.owner (cond (c == 0) 1009 c) heading.attempt next after)
+  through_tell heading c next after = either_way (heading.owner == 0) _ _ G after (through_post G g.errors heading.owner (cond (c == 0) 1009 c) heading.label.attempt next after)
 
   through_placed : (h : Holder) (now : ℕ) (heading : Heading) (next : Program) → H next → G (placed h now heading next)
-  through_placed h now heading next after = g.words.step (StorePlace heading.place h.link h.places) _ refl (λ _. through_passed (one_more h) now (λ x. x) (λ x y. y) next after)
+  through_placed h now heading next after = g.words.step (StorePlace heading.label.place h.link h.places) _ refl (λ _. through_passed (one_more h) now (λ x. x) (λ x y. y) next after)
 
   through_dropped : (h : Holder) (now : ℕ) (heading : Heading) (next : Program) → H next → G (dropped h now heading next)
-  through_dropped h now heading next after = g.words.step (LoadCode (socket_id_slot h.id) (socket_id_version h.id)) _ refl (λ c. g.words.step (DropPlace heading.place h.link h.places) _ refl (λ _. through_passed (one_more h) now (tell_drop heading c) (λ x y. through_tell heading c x y) next after))
+  through_dropped h now heading next after = g.words.step (LoadCode (socket_id_slot h.id) (socket_id_version h.id)) _ refl (λ c. g.words.step (DropPlace heading.label.place h.link h.places) _ refl (λ _. through_passed (one_more h) now (tell_drop heading c) (λ x y. through_tell heading c x y) next after))
 
   through_link_failed : (h : Holder) (next : Program) → G next → G (link_failed h next)
   through_link_failed h next after = l.fails h.id (λ _. next) (λ _. after)

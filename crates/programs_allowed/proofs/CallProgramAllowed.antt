@@ -59,7 +59,7 @@ module _ (p : Plan) (made : List Entry) (held : List HeldLife) (passes : List �
       → GoesOn p v (release (socket_id_slot id) (λ _. next))
   release_next longer most id next goes inside a = release_goes p (socket_id_slot id) (Hold (socket_id_version id)) a (inr (socket_id_version id, refl, refl)) inside (λ _. next) (λ b u. goes longer most u)
 
-  module _ (heading : Heading) (label : heading.place < 8 * p.operations) (bytes : List ℕ) (some_ : bytes ≢ []) (next : Program) (goes : Follows next) (full : Program) where
+  module _ (heading : Heading) (label : heading.label.place < 8 * p.operations) (bytes : List ℕ) (some_ : bytes ≢ []) (next : Program) (goes : Follows next) (full : Program) where
     claims_goes : (left q id : ℕ) {v : View} → q + left ≤ p.requests → socket_id_slot id < p.slots → Has (made ∷ []) (socket_id_slot id) (Hold (socket_id_version id) ∷ []) held passes [] v
         → ((w : View) → Has (made ∷ []) (socket_id_slot id) (Hold (socket_id_version id) ∷ []) held passes [] w → GoesOn p w full) → GoesOn p v (claims_from left q id heading bytes full (release (socket_id_slot id) (λ _. next)))
     claims_goes zero q id {v} fits inside a none_ = none_ v a

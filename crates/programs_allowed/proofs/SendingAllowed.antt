@@ -96,7 +96,7 @@ module _ (p : Plan) {lists : List (List Entry)} {held : List HeldLife} {passes :
 
   -- at the head of the loop the message is in hand
   puts_goes : {w : View} → Has lists (socket_id_slot id) (Hold (socket_id_version id) ∷ []) held passes [] w → 0 < marks_of (is_met (socket_id_version id) c.link) (socket_id_slot id) w → (heading : Heading) (bytes : List ℕ)
-      → heading.place < 8 * p.operations → bytes ≢ [] → GoesOn p (writing (taken_right (right_away c found sent places) heading bytes) w) (puts_of heading bytes)
+      → heading.label.place < 8 * p.operations → bytes ≢ [] → GoesOn p (writing (taken_right (right_away c found sent places) heading bytes) w) (puts_of heading bytes)
   puts_goes {w} a met heading bytes label some_ = let h : ℕ = socket_id_version id in first_goes p after (record { id = id; link = c.link; last = own_of c; places = places }) (own_of c) heading bytes 0 refl
       (writing (taken_right (right_away c found sent places) heading bytes) w)
       (taken_right (right_away c found sent places) heading bytes)
@@ -180,7 +180,7 @@ module _ (p : Plan) (made : List Entry) {held : List HeldLife} {passes : List �
       (write_link_goes p id inside few after (goes (made ++ e ∷ []) (longer_by e)) c found took next (accepted_has a e) met c.request (slot_is c.request c.generation (omega (arith, in_table, requests))))
 
   pub accept_goes : {w : View} → Has (made ∷ []) (socket_id_slot id) (Hold (socket_id_version id) ∷ []) held passes [] w → (k q word : ℕ) → 0 < marks_of (is_met (socket_id_version id) k) (socket_id_slot id) w
-      → q < p.requests → (heading : Heading) (bytes : List ℕ) → heading.place < 8 * p.operations → bytes ≢ []
+      → q < p.requests → (heading : Heading) (bytes : List ℕ) → heading.label.place < 8 * p.operations → bytes ≢ []
       → GoesOn p (record w { claims = new_claim k q word ∷ [] }) (accept id q (word / 2) heading bytes after)
   accept_goes {w} a k q word met in_table heading bytes label some_ = let h : ℕ = socket_id_version id in
       let c₁ : Claim = new_claim k q word in let c₂ : Claim = filled_claim c₁ heading bytes in let c₃ : Claim = ready_claim c₂ in (

@@ -62,7 +62,7 @@ module _ (script : List Item) (made : AreMade script) (turns : List Turn) (core 
         let one = (one_task (plan_of script) (all_tasks script) made.are i called.0 t u x.0 (called.1, place_at (all_tasks script) called.0 called.1 called.3, called.4) (e ∙ called.6)).1 in
         true≢false (sym x.1 ∙ (ap (λ (z : Task). is_plain z.op) one ∙ ap is_plain called.5))
 
-    none_sent : (i m : ℕ) (e : Entry) → HasSent vs i m e → e.heading.operation ≡ asked.operation → e.heading.attempt ≡ n → ⊥
+    none_sent : (i m : ℕ) (e : Entry) → HasSent vs i m e → e.heading.label.operation ≡ asked.operation → e.heading.label.attempt ≡ n → ⊥
     none_sent i m e h same at = by (is_of_send e) refl
       where
         by : (b : Bool) → is_of_send e ≡ b → ⊥

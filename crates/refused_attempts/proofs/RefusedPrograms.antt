@@ -160,17 +160,17 @@ module _ (requests : ℕ) (is_call : Asked → Type 0) (reads : Bool) where
 
   put_goes : (mine : reads ≡ false) (h : Holder) (now : ℕ) (heading : Heading) (left : List ℕ) (taken : ℕ) (after : Program) → G idle after → (answer : Put) → G idle (put_answered h now heading left taken after answer)
   put_goes mine h now heading left taken after goes (puts.Took n) = split (nat_le (length left) n) (placed h now heading after) (Write (Puts h now heading (drop n left) (taken + n) false) after)
-      (λ _. (tt, λ found _. then_ (Rattle.seat_programs.specs.TableSteps.StorePlace heading.place h.link h.places) _ found idle (passed_goes mine (one_more h) now (λ x. x) after (λ x g. g) goes))) (λ _. (mine, goes))
+      (λ _. (tt, λ found _. then_ (Rattle.seat_programs.specs.TableSteps.StorePlace heading.label.place h.link h.places) _ found idle (passed_goes mine (one_more h) now (λ x. x) after (λ x g. g) goes))) (λ _. (mine, goes))
   put_goes mine h now heading left taken after goes puts.Again = (mine, goes)
   put_goes mine h now heading left taken after goes puts.Failed = fails 1009 h.id (λ _. Write (Puts h now heading left taken false) after) (λ _. (mine, goes))
 
   module _ (mine : reads ≡ false) where
     tell_goes : (heading : Heading) (code : ℕ) (ds : List Deed) (x : Program) → heading.owner ≢ 0 → G idle x → G (due (HasDropped heading code) ds) (tell_drop heading code x)
-    tell_goes heading code ds x some_ goes = subst (λ b. G (due (HasDropped heading code) ds) (cond b x (post heading.owner (cond (eqb code 0) 1009 code) heading.attempt x))) (sym (ne_eqb heading.owner 0 some_))
-        (post_keeps (HasDropped heading code) ds heading.owner (cond (eqb code 0) 1009 code) heading.attempt x (inr (inr (mine, (some_, refl, refl)))) goes)
+    tell_goes heading code ds x some_ goes = subst (λ b. G (due (HasDropped heading code) ds) (cond b x (post heading.owner (cond (eqb code 0) 1009 code) heading.label.attempt x))) (sym (ne_eqb heading.owner 0 some_))
+        (post_keeps (HasDropped heading code) ds heading.owner (cond (eqb code 0) 1009 code) heading.label.attempt x (inr (inr (mine, (some_, refl, refl)))) goes)
 
     tell_none : (heading : Heading) (code : ℕ) (x : Program) → heading.owner ≡ 0 → G idle x → G idle (tell_drop heading code x)
-    tell_none heading code x none_ goes = subst (λ b. G idle (cond b x (post heading.owner (cond (eqb code 0) 1009 code) heading.attempt x))) (sym (eq-eqb heading.owner 0 none_)) goes
+    tell_none heading code x none_ goes = subst (λ b. G idle (cond b x (post heading.owner (cond (eqb code 0) 1009 code) heading.label.attempt x))) (sym (eq-eqb heading.owner 0 none_)) goes
 
     -- a message of a call is told of, another one isn't
     dropped_goes : (h : Holder) (now : ℕ) (heading : Heading) (left : List ℕ) (taken : ℕ) (asked : Bool) (ds : List Deed) (after : Program) → In (DidRound (Puts h now heading left taken asked)) ds → G idle after → G (bare Idle ds) (dropped h now heading after)
@@ -182,12 +182,12 @@ module _ (requests : ℕ) (is_call : Asked → Type 0) (reads : Bool) where
         (
           tt,
           λ found _. dite (ℕ_discrete heading.owner 0)
-              (λ none_. then_ (DropPlace heading.place h.link h.places) _ found (bare Idle (DidStep (LoadCode (socket_id_slot h.id) (socket_id_version h.id)) code ∷ ds))
+              (λ none_. then_ (DropPlace heading.label.place h.link h.places) _ found (bare Idle (DidStep (LoadCode (socket_id_slot h.id) (socket_id_version h.id)) code ∷ ds))
               (passed_goes mine (one_more h) now (tell_drop heading code) after (λ x g. tell_none heading code x none_ g) goes))
               (λ some_. (
-                due (HasDropped heading code) (DidStep (DropPlace heading.place h.link h.places) found ∷ DidStep (LoadCode (socket_id_slot h.id) (socket_id_version h.id)) code ∷ ds),
+                due (HasDropped heading code) (DidStep (DropPlace heading.label.place h.link h.places) found ∷ DidStep (LoadCode (socket_id_slot h.id) (socket_id_version h.id)) code ∷ ds),
                 inr (inr (record { holder = h; now = now; heading = heading; left = left; taken = taken; asked = asked; code = code; is = refl; round = inr round; load = inl refl; gives_up = refl; charge = refl; deeds = refl })),
-                passed_keeps (HasDropped heading code) mine (DidStep (DropPlace heading.place h.link h.places) found ∷ DidStep (LoadCode (socket_id_slot h.id) (socket_id_version h.id)) code ∷ ds) (one_more h) now (tell_drop heading code) after
+                passed_keeps (HasDropped heading code) mine (DidStep (DropPlace heading.label.place h.link h.places) found ∷ DidStep (LoadCode (socket_id_slot h.id) (socket_id_version h.id)) code ∷ ds) (one_more h) now (tell_drop heading code) after
                     (λ es x g. tell_goes heading code es x some_ g) goes,
               )),
         ),

@@ -88,7 +88,7 @@ module _ (script : List Item) (made : AreMade script) (turns : List Turn) (core 
       PostedByExpiry : j < 32 → x.error ≡ error_of 1008 WHOLE → WhyPosted j x
       PostedByRefusal : j < 32 → IsOfRefusal x → WhyPosted j x
       PostedByDrop : (heading : Heading) (code : ℕ) (ds : List Deed) → j < 32 → AllByRecursion (DidInRun script turns core is j) ds → IsDrop heading code ds → heading.owner ≢ 0 → heading.owner ≡ x.id
-          → x.error ≡ error_of (Rattle.std.specs.Prelude.if◌then◌else◌ (Rattle.std.specs.Prelude.◌==◌ code 0) 1009 code) heading.attempt → WhyPosted j x
+          → x.error ≡ error_of (Rattle.std.specs.Prelude.if◌then◌else◌ (Rattle.std.specs.Prelude.◌==◌ code 0) 1009 code) heading.label.attempt → WhyPosted j x
 
     pub refused_of_seat : (j : ℕ) (x : Post) → In x (shown_in_run script turns core is (posted_by j)) → WhyPosted j x
     refused_of_seat j x at = ⊎_elim early late (kinds_of_seat script made turns core is closes ids labelled would j x at)

@@ -207,7 +207,7 @@ post_guarded m whole id c attempt next g = post_with_guarded m whole id (error_o
 
 -- whoever wrote the link tells the call of it
 tell_guarded : (heading : Heading) (c : ℕ) (next : Program) → Guarded Unknown next → Guarded Unknown (tell_drop heading c next)
-tell_guarded heading c next g = let told : ℕ = if c == 0 then 1009 else c in sides (heading.owner == 0) next (post heading.owner told heading.attempt next) Unknown g (post_guarded Unknown tt heading.owner told heading.attempt next g)
+tell_guarded heading c next g = let told : ℕ = if c == 0 then 1009 else c in sides (heading.owner == 0) next (post heading.owner told heading.label.attempt next) Unknown g (post_guarded Unknown tt heading.owner told heading.label.attempt next g)
 
 popped_guarded : (i oldest after : ℕ) (k : Unlocking → Program) → Goes k → Guarded Unknown (popped i oldest after k)
 popped_guarded i oldest after k goes = let two : Program = if is_stale oldest (parts after) then Round (Unlocks i after false) k else k (HasNext after oldest) in

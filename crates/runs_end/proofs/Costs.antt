@@ -200,12 +200,12 @@ module _ (p : Plan) (after : Program) (m : ℕ) (follows : Lasting p after m) wh
   passed_lasts h now = lasting_more p (passed h now after) (5 + 0 + m) (5 + m) (omega arith) (telling_lasts h now (λ x. x) 0 (λ x n l. lasting_more p x n (0 + n) (omega arith) l))
 
   placed_lasts : (h : Holder) (now : ℕ) (heading : Heading) → Lasting p (placed h now heading after) (6 + m)
-  placed_lasts h now heading u = (5 + m, omega arith, λ found hand f. passed_lasts (one_more h) now (row p (StorePlace heading.place h.link h.places) found hand u))
+  placed_lasts h now heading u = (5 + m, omega arith, λ found hand f. passed_lasts (one_more h) now (row p (StorePlace heading.label.place h.link h.places) found hand u))
 
   -- a message is dropped, and its call is told
   tell_lasts : (heading : Heading) (code : ℕ) (x : Program) (n : ℕ) → Lasting p x n → Lasting p (tell_drop heading code x) (POST + n)
   tell_lasts heading code x n l = let c : ℕ = cond (eqb code 0) 1009 code in
-      either_lasts p x (post heading.owner c heading.attempt x) (POST + n) (eqb heading.owner 0) (lasting_more p x n (POST + n) (omega arith) l) (λ u. post_lasts p u heading.owner c heading.attempt x n (POST + n) (l u) (omega arith))
+      either_lasts p x (post heading.owner c heading.label.attempt x) (POST + n) (eqb heading.owner 0) (lasting_more p x n (POST + n) (omega arith) l) (λ u. post_lasts p u heading.owner c heading.label.attempt x n (POST + n) (l u) (omega arith))
 
   dropped_lasts : (h : Holder) (now : ℕ) (heading : Heading) → Lasting p (dropped h now heading after) (7 + POST + m)
   dropped_lasts h now heading u = (
@@ -214,7 +214,7 @@ module _ (p : Plan) (after : Program) (m : ℕ) (follows : Lasting p after m) wh
     λ code hand f. (
       5 + POST + m,
       omega arith,
-      λ found hand' g. telling_lasts (one_more h) now (tell_drop heading code) POST (tell_lasts heading code) (row p (DropPlace heading.place h.link h.places) found hand' (row p (LoadCode (socket_id_slot h.id) (socket_id_version h.id)) code hand u)),
+      λ found hand' g. telling_lasts (one_more h) now (tell_drop heading code) POST (tell_lasts heading code) (row p (DropPlace heading.label.place h.link h.places) found hand' (row p (LoadCode (socket_id_slot h.id) (socket_id_version h.id)) code hand u)),
     ),
   )
 

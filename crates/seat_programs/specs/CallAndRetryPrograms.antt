@@ -28,7 +28,7 @@ claims_from (suc more) q id heading bytes full accepted = Do (ClaimRequest id q)
 
 -- what stands with its message: it is put by the parts of its frame, the header with the meta before the payload and the attachment
 abbrev pub heading_for : Asked → ℕ → ℕ → Heading
-heading_for asked id n = record { client = 0; operation = asked.operation; attempt = n; place = 8 * asked.operation + n; owner = id; parts = parts_of asked id n }
+heading_for asked id n = record { label = record { client = 0; operation = asked.operation; attempt = n; place = 8 * asked.operation + n }; owner = id; parts = parts_of asked id n }
 
 -- an attempt over the socket with this id
 abbrev pub attempt : ℕ → Asked → ℕ → ℕ → ℕ → Program → Program

@@ -35,13 +35,13 @@ passed h now after = passed_telling h now (λ next. next) after
 
 -- the call whose message was dropped is posted the code, or 1009 where none was stored yet
 abbrev pub tell_drop : Heading → ℕ → Program → Program
-tell_drop heading code next = if heading.owner == 0 then next else post heading.owner (if code == 0 then EFAILEDSOCKET else code) heading.attempt next
+tell_drop heading code next = if heading.owner == 0 then next else post heading.owner (if code == 0 then EFAILEDSOCKET else code) heading.label.attempt next
 
 abbrev pub placed : Holder → ℕ → Heading → Program → Program
-placed h now heading after = Do (StorePlace heading.place h.link h.places) (λ _. passed (one_more h) now after)
+placed h now heading after = Do (StorePlace heading.label.place h.link h.places) (λ _. passed (one_more h) now after)
 
 abbrev pub dropped : Holder → ℕ → Heading → Program → Program
-dropped h now heading after = Do (LoadCode (socket_id_slot h.id) (socket_id_version h.id)) (λ code. Do (DropPlace heading.place h.link h.places) (λ _. passed_telling (one_more h) now (tell_drop heading code) after))
+dropped h now heading after = Do (LoadCode (socket_id_slot h.id) (socket_id_version h.id)) (λ code. Do (DropPlace heading.label.place h.link h.places) (λ _. passed_telling (one_more h) now (tell_drop heading code) after))
 
 -- a failed link sets its socket failed
 abbrev pub link_failed : Holder → Program → Program
@@ -90,7 +90,7 @@ write_link id q own after = Do (FindLink (socket_id_slot id) (socket_id_version 
 
 -- what stands with the message of operation o: its place word is the first of the operation's eight
 abbrev pub heading_of : ℕ → Heading
-heading_of o = record { client = 0; operation = o; attempt = 0; place = 8 * o; owner = 0; parts = [] }
+heading_of o = record { label = record { client = 0; operation = o; attempt = 0; place = 8 * o }; owner = 0; parts = [] }
 
 -- the message is accepted with request q, whose generation is g: the head is exchanged (socket.cpp, `StartWrite`)
 abbrev pub accept : ℕ → ℕ → ℕ → Heading → List ℕ → Program → Program

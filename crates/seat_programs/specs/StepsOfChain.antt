@@ -95,7 +95,7 @@ ChainFinds p v other found hand = Unit {0}
 
 -- a request just claimed for this link
 abbrev pub new_claim : ℕ → ℕ → ℕ → Claim
-new_claim k q found = record { link = k; request = q; generation = found / 2; filled = false; ready = false; heading = record { client = 0; operation = 0; attempt = 0; place = 0; owner = 0; parts = [] }; bytes = [] }
+new_claim k q found = record { link = k; request = q; generation = found / 2; filled = false; ready = false; heading = record { label = record { client = 0; operation = 0; attempt = 0; place = 0 }; owner = 0; parts = [] }; bytes = [] }
 
 -- where the request was free it is claimed, and the link is noted as that of the life
 abbrev pub claimed_request : ℕ → ℕ → ℕ → ℕ → View → View

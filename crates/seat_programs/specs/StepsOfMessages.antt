@@ -12,7 +12,7 @@ use Rattle.seat_programs.specs.StepViews.{Claims, by_claim, by_right}
 
 -- what the view of the seat says before a step, so that the rule allows it
 abbrev pub MessageMay : Plan → View → TableStep → Type 0
-MessageMay p v (PutMessage q heading bytes) = (q < p.requests) × Claims v q × (heading.place < 8 * p.operations) × (bytes ≢ [])
+MessageMay p v (PutMessage q heading bytes) = (q < p.requests) × Claims v q × (heading.label.place < 8 * p.operations) × (bytes ≢ [])
 MessageMay p v other = Unit {0}
 
 -- ## Behind a step

@@ -40,8 +40,8 @@ FoundFailed p v k = (i h : ℕ) × HoldsLink p v i h k × (0 < marks_of (is_saw 
 
 -- what the view of the seat says before a step, so that the rule allows it
 abbrev pub PlaceMay : Plan → View → TableStep → Type 0
-PlaceMay p v (StorePlace l k n) = (x : MayPlace p v) × (v.rights ≡ x.mine.right ∷ []) × (l ≡ x.mine.right.heading.place) × (k ≡ x.mine.right.link) × (n ≡ x.mine.right.places) × (x.mine.right.put ≡ length x.mine.right.bytes)
-PlaceMay p v (DropPlace l k n) = (x : MayDrop p v) × (v.rights ≡ x.mine.right ∷ []) × (l ≡ x.mine.right.heading.place) × (k ≡ x.mine.right.link) × (n ≡ x.mine.right.places)
+PlaceMay p v (StorePlace l k n) = (x : MayPlace p v) × (v.rights ≡ x.mine.right ∷ []) × (l ≡ x.mine.right.heading.label.place) × (k ≡ x.mine.right.link) × (n ≡ x.mine.right.places) × (x.mine.right.put ≡ length x.mine.right.bytes)
+PlaceMay p v (DropPlace l k n) = (x : MayDrop p v) × (v.rights ≡ x.mine.right ∷ []) × (l ≡ x.mine.right.heading.label.place) × (k ≡ x.mine.right.link) × (n ≡ x.mine.right.places)
     × (x.sent ≡ x.mine.right.sent ++ take x.mine.right.put x.mine.right.bytes) × FoundFailed p v x.mine.right.link
 PlaceMay p v other = Unit {0}
 

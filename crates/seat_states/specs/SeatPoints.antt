@@ -2,6 +2,7 @@
 use Rattle.std.specs.Prelude.{ℕ, ◌≡◌, IsTrue, ◌+◌, ◌-◌, ◌*◌, ◌/◌, ◌%◌, ◌==◌, ◌||◌, not, ◌<◌, ◌≤◌, Bool, true, false, nat_lt, nat_le, if◌then◌else◌, List, [], ◌∷◌, ◌++◌, length, drop, Option, Some, None}
 use Rattle.sock_words.specs.ErrorCodes.{EEOF, EFAILEDSOCKET, EREQUESTS}
 use Rattle.sock_words.specs.PackedWords.{socket_id, socket_id_version, socket_id_slot, vref_version, at_word, ticket_request, ticket_generation, IDLE, NO_SOCKET, id_slot, id_first, call_id}
+use Rattle.sock_words.specs.declared.plain.Label.{Label}
 use Rattle.sock_words.specs.declared.socket_id.SocketId.{SocketId}
 use Rattle.sock_words.specs.declared.ticket.Ticket.{Ticket}
 use Rattle.sock_words.specs.declared.outcome.Outcome.{Outcome}
@@ -112,8 +113,11 @@ abbrev pub owner_by : Author → ℕ
 owner_by (authors.Send o) = 0
 owner_by (authors.Attempt t) = id_of t.id
 
+abbrev pub label_by : Author → Label
+label_by author = record { client = 0; operation = operation_by author; attempt = attempt_by author; place = place_by author }
+
 abbrev pub heading_by : Author → List ℕ → Heading
-heading_by author ps = record { client = 0; operation = operation_by author; attempt = attempt_by author; place = place_by author; owner = owner_by author; parts = parts_by author ps }
+heading_by author ps = record { label = label_by author; owner = owner_by author; parts = parts_by author ps }
 
 -- what follows the release of a life that was set failed, where this word was found
 abbrev pub failed_then : Option ℕ → ℕ → Continuation

@@ -61,7 +61,7 @@ module _ (requests : ℕ) where
   AtFree other X = ⊥
 
   abbrev GoesAt : Mode → TableStep → (ℕ → Program) → (Mode → ℕ → Type 0) → Type 0
-  GoesAt Free (AddRef id) next behind = (found : ℕ) → behind Free found ⊎ ((t : Try) × (t.socket ≡ id) × (vref_version found ≡ socket_id_version id) × (t.heading.attempt ≤ 6) × behind (Held t) found)
+  GoesAt Free (AddRef id) next behind = (found : ℕ) → behind Free found ⊎ ((t : Try) × (t.socket ≡ id) × (vref_version found ≡ socket_id_version id) × (t.heading.label.attempt ≤ 6) × behind (Held t) found)
   GoesAt Free call next behind = (found : ℕ) → behind Free found
   GoesAt (Held t) (FindLink i h) next behind = (i ≡ socket_id_slot t.socket) × (h ≡ socket_id_version t.socket) × ((k : ℕ) → behind (Linked t k) k)
   GoesAt (Stored t k) (LookWord s) next behind = (s ≡ t.socket) × ((found : ℕ) → (vref_version found % 2 ≡ 0 → behind (Claims t k 0) found ⊎ ((0 ≡ requests) × behind Free found)) × (vref_version found % 2 ≡ 1 → behind Free found))
@@ -74,7 +74,7 @@ module _ (requests : ℕ) where
   abbrev GoesBeside : Mode → (step : Step) → (Found step → Program) → (Mode → Found step → Type 0) → Type 0
   GoesBeside Free (StoreAt o w) next behind = ⊥
   GoesBeside Free step next behind = (found : Found step) → behind Free found
-  GoesBeside (Linked t k) (StoreAt o w) next behind = (o ≡ t.heading.operation) × (w ≡ at_word (id_first t.id) (id_slot t.id) k t.heading.attempt) × ((found : ℕ) → behind (Stored t k) found)
+  GoesBeside (Linked t k) (StoreAt o w) next behind = (o ≡ t.heading.label.operation) × (w ≡ at_word (id_first t.id) (id_slot t.id) k t.heading.label.attempt) × ((found : ℕ) → behind (Stored t k) found)
   GoesBeside m step next behind = ⊥
 
   abbrev GoesLoop : Mode → (head : Head) → (Mode → Exit head → Type 0) → Type 0
@@ -104,7 +104,7 @@ module _ (requests : ℕ) where
 
   -- behind the address of a socket, whose word was this
   abbrev Ways : ℕ → ℕ → Program → Type 0
-  Ways id found program = Goes Free program ⊎ ((t : Try) × (t.socket ≡ id) × (vref_version found ≡ socket_id_version id) × (t.heading.attempt ≤ 6) × Goes (Held t) program)
+  Ways id found program = Goes Free program ⊎ ((t : Try) × (t.socket ≡ id) × (vref_version found ≡ socket_id_version id) × (t.heading.label.attempt ≤ 6) × Goes (Held t) program)
 
   -- ## Parts that are no attempt
 
@@ -155,34 +155,34 @@ module _ (requests : ℕ) where
     claims k (suc more) q e = let further = claims k more (q + 1) (omega (arith, e)) in inl (refl, λ found. claims_one k more q further found (found % 2 == 0) refl)
 
   -- the bytes of the frame play no part
-  module _ (t : Try) (bytes : List ℕ) (next : Program) (few : t.heading.attempt ≤ 6) (after : G next) where
+  module _ (t : Try) (bytes : List ℕ) (next : Program) (few : t.heading.label.attempt ≤ 6) (after : G next) where
     abbrev rest : Program
     rest = release (socket_id_slot t.socket) (λ _. next)
 
     abbrev failing : ℕ → Program
-    failing code = post t.id code t.heading.attempt (release (socket_id_slot t.socket) (λ _. next))
+    failing code = post t.id code t.heading.label.attempt (release (socket_id_slot t.socket) (λ _. next))
 
     abbrev claiming : Program
     claiming = claims_from requests 0 t.socket t.heading bytes (failing 3001) rest
 
     abbrev linking : Program
-    linking = Do (FindLink (socket_id_slot t.socket) (socket_id_version t.socket)) (λ k. Aside (StoreAt t.heading.operation (at_word (id_first t.id) (id_slot t.id) k t.heading.attempt)) (λ _. Do (LookWord t.socket) (λ found. cond (vref_version found % 2 == 0) claiming (failing 1009))))
+    linking = Do (FindLink (socket_id_slot t.socket) (socket_id_version t.socket)) (λ k. Aside (StoreAt t.heading.label.operation (at_word (id_first t.id) (id_slot t.id) k t.heading.label.attempt)) (λ _. Do (LookWord t.socket) (λ found. cond (vref_version found % 2 == 0) claiming (failing 1009))))
 
     rests : G rest
     rests = through_release G goes_plain.words (socket_id_slot t.socket) (λ _. next) (λ _. after)
 
     fails : (code : ℕ) → G (failing code)
-    fails code = through_post G goes_plain.errors t.id code t.heading.attempt rest rests
+    fails code = through_post G goes_plain.errors t.id code t.heading.label.attempt rest rests
 
     looks : (k found : ℕ) (b : Bool) → (vref_version found % 2 == 0) ≡ b → (vref_version found % 2 ≡ 0 → Goes (Claims t k 0) (cond b claiming (failing 1009)) ⊎ ((0 ≡ requests) × G (cond b claiming (failing 1009)))) × (vref_version found % 2 ≡ 1 → G (cond b claiming (failing 1009)))
     looks k found true is = (λ even. claims t bytes (failing 3001) rest (fails 3001) rests k requests 0 (omega arith), λ odd. absurd (let even : vref_version found % 2 ≡ 0 = eqb-true (vref_version found % 2) 0 is in omega (arith, even, odd)))
     looks k found false is = (λ even. absurd (not_equal (vref_version found % 2) 0 is even), λ odd. fails 1009)
 
-    ways : (found : ℕ) (b : Bool) → (vref_version found == socket_id_version t.socket) ≡ b → Ways t.socket found (cond b linking (release (socket_id_slot t.socket) (λ _. post t.id 1009 t.heading.attempt next)))
+    ways : (found : ℕ) (b : Bool) → (vref_version found == socket_id_version t.socket) ≡ b → Ways t.socket found (cond b linking (release (socket_id_slot t.socket) (λ _. post t.id 1009 t.heading.label.attempt next)))
     ways found true is = inr (t, refl, eqb-true (vref_version found) (socket_id_version t.socket) is, few, (refl, refl, λ k. (refl, refl, λ _. (refl, λ word. looks k word (vref_version word % 2 == 0) refl))))
-    ways found false is = inl (through_release G goes_plain.words (socket_id_slot t.socket) (λ _. post t.id 1009 t.heading.attempt next) (λ _. through_post G goes_plain.errors t.id 1009 t.heading.attempt next after))
+    ways found false is = inl (through_release G goes_plain.words (socket_id_slot t.socket) (λ _. post t.id 1009 t.heading.label.attempt next) (λ _. through_post G goes_plain.errors t.id 1009 t.heading.label.attempt next after))
 
-    goes_tries : G (add_reference t.socket linking (λ _. post t.id 1009 t.heading.attempt next))
+    goes_tries : G (add_reference t.socket linking (λ _. post t.id 1009 t.heading.label.attempt next))
     goes_tries = λ found. ways found (vref_version found == socket_id_version t.socket) refl
 
   goes_attempt : (asked : Asked) (id n socket : ℕ) (next : Program) → n ≤ 6 → G next → G (attempt requests asked id n socket next)

@@ -53,21 +53,21 @@ use Rattle.seat_programs.specs.LoopRounds.{first_step}
 
 -- the seat had a message of attempt n of operation o accepted
 abbrev pub HasEntry : ℕ → ℕ → View → Type 0
-HasEntry o n v = (l : List Entry) × (e : Entry) × In l v.lists × In e l × (e.heading.operation ≡ o) × (e.heading.attempt ≡ n)
+HasEntry o n v = (l : List Entry) × (e : Entry) × In l v.lists × In e l × (e.heading.label.operation ≡ o) × (e.heading.label.attempt ≡ n)
 
 abbrev pub Entered : ℕ → ℕ → List View → Type 0
 Entered o n vs = (i : ℕ) × (v : View) × (get_elem? vs i ≡ some v) × HasEntry o n v
 
 module _ (o n : ℕ) where
   abbrev IsThere : List (List Entry) → Type 0
-  IsThere ls = (l : List Entry) × (e : Entry) × In l ls × In e l × (e.heading.operation ≡ o) × (e.heading.attempt ≡ n)
+  IsThere ls = (l : List Entry) × (e : Entry) × In l ls × In e l × (e.heading.label.operation ≡ o) × (e.heading.label.attempt ≡ n)
 
   more_there : (ls : List (List Entry)) (x : Entry) → IsThere ls → IsThere (more ls x)
   more_there [] x h = h
   more_there (y ∷ ls) x (l, e, inl same, at, own, is) = (y ++ x ∷ [], e, inl refl, in_left y (x ∷ []) e (subst (In e) same at), own, is)
   more_there (y ∷ ls) x (l, e, inr far, at, own, is) = (l, e, inr far, at, own, is)
 
-  new_there : (y : List Entry) (ls : List (List Entry)) (x : Entry) → x.heading.operation ≡ o → x.heading.attempt ≡ n → IsThere (more (y ∷ ls) x)
+  new_there : (y : List Entry) (ls : List (List Entry)) (x : Entry) → x.heading.label.operation ≡ o → x.heading.label.attempt ≡ n → IsThere (more (y ∷ ls) x)
   new_there y ls x own is = (y ++ x ∷ [], x, inl refl, in_right y (x ∷ []) x (inl refl), own, is)
 
   -- a step keeps it
@@ -80,7 +80,7 @@ module _ (o n : ℕ) where
   row_entry p v found hand call h = subst IsThere (sym (row_same v p found hand call refl).1) h
 
   -- the exchange of a head makes one of the claim
-  swap_entry : (v : View) (found : ℕ) (hand : Hand) (x : Claim) (y : List Entry) (ls : List (List Entry)) → v.claims ≡ x ∷ [] → v.lists ≡ y ∷ ls → x.heading.operation ≡ o → x.heading.attempt ≡ n
+  swap_entry : (v : View) (found : ℕ) (hand : Hand) (x : Claim) (y : List Entry) (ls : List (List Entry)) → v.claims ≡ x ∷ [] → v.lists ≡ y ∷ ls → x.heading.label.operation ≡ o → x.heading.label.attempt ≡ n
       → HasEntry o n (by_claim v.claims (exchanged found hand v) v)
   swap_entry v found hand x y ls claims lists own is = subst (λ cs. HasEntry o n (by_claim cs (exchanged found hand v) v)) (sym claims)
       (either_way (nat_lt found IDLE) (queued v x found) (righted v x found hand.took hand.next) (HasEntry o n)
@@ -91,11 +91,11 @@ module _ (o n : ℕ) where
 -- no live socket that was addressed is of the old lives
 module _ (p : Plan) (Old : ℕ → ℕ → Type 0) where
   abbrev pub IsNew : Try → Type 0
-  IsNew t = (t.heading.attempt ≤ 6) × (Old (socket_id_slot t.socket) (socket_id_version t.socket) → ⊥)
+  IsNew t = (t.heading.label.attempt ≤ 6) × (Old (socket_id_slot t.socket) (socket_id_version t.socket) → ⊥)
 
   -- the attempt is n of operation o, over link k
   abbrev pub IsOf : ℕ → ℕ → ℕ → Try → ℕ → Type 0
-  IsOf o n k t l = (t.heading.operation ≡ o) × (t.heading.attempt ≡ n) × (l ≡ k)
+  IsOf o n k t l = (t.heading.label.operation ≡ o) × (t.heading.label.attempt ≡ n) × (l ≡ k)
 
   -- its at word was stored, and the seat is at it
   abbrev pub Works : ℕ → ℕ → ℕ → Mode → Type 0
@@ -208,7 +208,7 @@ module _ (p : Plan) (Old : ℕ → ℕ → Type 0) where
         adds : (id : ℕ) (next : ℕ → Program) → Goes p.requests Free (Do (AddRef id) next) → May p v (AddRef id) → Next (after (AddRef id)) Free (next (found (AddRef id)))
         adds id next g may = by (g (found (AddRef id)))
           where
-            by : Goes p.requests Free (next (found (AddRef id))) ⊎ ((t : Try) × (t.socket ≡ id) × (vref_version (found (AddRef id)) ≡ socket_id_version id) × (t.heading.attempt ≤ 6) × Goes p.requests (Held t) (next (found (AddRef id)))) → Next (after (AddRef id)) Free (next (found (AddRef id)))
+            by : Goes p.requests Free (next (found (AddRef id))) ⊎ ((t : Try) × (t.socket ≡ id) × (vref_version (found (AddRef id)) ≡ socket_id_version id) × (t.heading.label.attempt ≤ 6) × Goes p.requests (Held t) (next (found (AddRef id)))) → Next (after (AddRef id)) Free (next (found (AddRef id)))
             by (inl x) = (Free, x, tt, λ o n k z. absurd z)
             by (inr x) = (Held x.0, x.4, (x.3, subst (λ s. Old (socket_id_slot s) (socket_id_version s) → ⊥) (sym x.1) (fresh id may.0.0 x.2)), λ o n k z. absurd z)
 
@@ -410,7 +410,7 @@ module _ (p : Plan) (Old : ℕ → ℕ → Type 0) (retries : RetriesGo p) (c : 
         Stored t k,
         goes_next p.requests (Stored t k) (waiting_at c.calls.waiting mo.seat) (next at_slot) (sound.waiting mo.seat) (g.2 at_slot),
         on_stays p Old c vs (ticked p c mo) (views_after p c vs mo) keeps_here t k knows,
-        (sym g.0, word_attempt (id_first t.id) (id_slot t.id) k t.heading.attempt knows.1 knows.0.0 ∙ ap at_word_attempt (sym g.1), word_link (id_first t.id) (id_slot t.id) k t.heading.attempt knows.1 knows.0.0 ∙ ap at_word_link (sym g.1)),
+        (sym g.0, word_attempt (id_first t.id) (id_slot t.id) k t.heading.label.attempt knows.1 knows.0.0 ∙ ap at_word_attempt (sym g.1), word_link (id_first t.id) (id_slot t.id) k t.heading.label.attempt knows.1 knows.0.0 ∙ ap at_word_link (sym g.1)),
       )
       by_mode v at_view m g knows = absurd g
 

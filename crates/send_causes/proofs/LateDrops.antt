@@ -104,11 +104,11 @@ module _ (script : List Item) (made : AreMade script) (there : AreThere script) 
       call : IsCallOf script calls.asked
       call = calls.called
 
-      number : call.2.number ≡ heading.operation
+      number : call.2.number ≡ heading.label.operation
       number = sym call.6 ∙ calls.own
 
-      attempt : attempt_of x.error ≡ heading.attempt
-      attempt = ap attempt_of post.error ∙ (let f = calls.few in let c = post.code in let z : attempt_of (error_of (if c == 0 then 1009 else c) heading.attempt) ≡ heading.attempt = omega (arith, f) in z)
+      attempt : attempt_of x.error ≡ heading.label.attempt
+      attempt = ap attempt_of post.error ∙ (let f = calls.few in let c = post.code in let z : attempt_of (error_of (if c == 0 then 1009 else c) heading.label.attempt) ≡ heading.attempt = omega (arith, f) in z)
 
       -- the code that it found
       found : post.code ≡ 1014
@@ -117,13 +117,13 @@ module _ (script : List Item) (made : AreMade script) (there : AreThere script) 
           (λ n. sym (code_is ∙ ap (λ b. if b then 1009 else post.code) (ne_eqb post.code 0 n)))
         where
           code_is : 1014 ≡ (if post.code == 0 then 1009 else post.code)
-          code_is = sym code ∙ (ap code_of post.error ∙ (let f = calls.few in let c = post.code in let z : code_of (error_of (if c == 0 then 1009 else c) heading.attempt) ≡ (if c == 0 then 1009 else c) = omega (arith, f) in z))
+          code_is = sym code ∙ (ap code_of post.error ∙ (let f = calls.few in let c = post.code in let z : code_of (error_of (if c == 0 then 1009 else c) heading.label.attempt) ≡ (if c == 0 then 1009 else c) = omega (arith, f) in z))
 
       -- the message stands dropped on the holder's link
-      dropped : IsDroppedOn script made turns core is closes ids labelled call.2.number heading.attempt holder.link
-      dropped = let y = post.drop in dropped_of_run script made turns core is closes ids labelled j call.0 call.2 calls.asked heading.attempt holder.link holder.places y.found (call.1, place_at (all_tasks script) call.0 call.1 call.3, in_contains call.1 call.2 call.4) call.5 calls.few
-          (subst (λ l. DidInRun script turns core is j (DidStep (DropPlace l holder.link holder.places) y.found)) (calls.place ∙ ap (λ o. 8 * o + heading.attempt) (sym number))
-          (in_run (DidStep (DropPlace heading.place holder.link holder.places) y.found) (did (DidStep (DropPlace heading.place holder.link holder.places) y.found) y.drop)))
+      dropped : IsDroppedOn script made turns core is closes ids labelled call.2.number heading.label.attempt holder.link
+      dropped = let y = post.drop in dropped_of_run script made turns core is closes ids labelled j call.0 call.2 calls.asked heading.label.attempt holder.link holder.places y.found (call.1, place_at (all_tasks script) call.0 call.1 call.3, in_contains call.1 call.2 call.4) call.5 calls.few
+          (subst (λ l. DidInRun script turns core is j (DidStep (DropPlace l holder.link holder.places) y.found)) (calls.place ∙ ap (λ o. 8 * o + heading.label.attempt) (sym number))
+          (in_run (DidStep (DropPlace heading.label.place holder.link holder.places) y.found) (did (DidStep (DropPlace heading.label.place holder.link holder.places) y.found) y.drop)))
 
       -- and that is the link of each drop of the post
       same_link : holder.link ≡ d.link
@@ -132,7 +132,7 @@ module _ (script : List Item) (made : AreMade script) (there : AreThere script) 
           same : call.2.number ≡ d.task.number
           same = single call.2.number d.task.number (λ z. post.owned (sym (ap ids number ∙ calls.owner) ∙ z)) (ap ids number ∙ (calls.owner ∙ (post.owner ∙ sym d.own)))
 
-          by : IsDroppedOn script made turns core is closes ids labelled call.2.number heading.attempt holder.link → IsDroppedOn script made turns core is closes ids labelled d.task.number (attempt_of x.error) d.link → holder.link ≡ d.link
+          by : IsDroppedOn script made turns core is closes ids labelled call.2.number heading.label.attempt holder.link → IsDroppedOn script made turns core is closes ids labelled d.task.number (attempt_of x.error) d.link → holder.link ≡ d.link
           by a b = let are = orders_are script made turns core is closes in let p = a.at in let q = b.at in (are.apart holder.link d.link a.place b.place p.1 q.1 p.0 q.0 p.2 q.2
               (let op = p.3 in let op' = q.3 in let n = p.4 in let n' = q.4 in omega (arith, op, op', n, n', same, attempt))).0
 
@@ -154,8 +154,8 @@ module _ (script : List Item) (made : AreMade script) (there : AreThere script) 
 
     late : PostOf script made turns core is closes ids labelled would fits (IsNew script made turns core is) (DidLate script turns core is j) (BehindEnding script made turns core is closes ids labelled would fits x) x → Result
     late y = by_life (DidLate script turns core is j) (λ deed e. inr (inr e)) y.post (IsNew script made turns core is) (BehindEnding script made turns core is closes ids labelled would fits x) (λ o at time. inr (inl time))
-        (y.whose (some_code (DidLate script turns core is j) (λ deed e. inr (inr e)) y.post) (by (drops_of_new script made turns core is j y.post.heading.place y.post.drop.holder.link y.post.drop.holder.places y.post.drop.found
-        (did (DidLate script turns core is j) (λ deed e. inr (inr e)) y.post (DidStep (DropPlace y.post.heading.place y.post.drop.holder.link y.post.drop.holder.places) y.post.drop.found) y.post.drop.drop))))
+        (y.whose (some_code (DidLate script turns core is j) (λ deed e. inr (inr e)) y.post) (by (drops_of_new script made turns core is j y.post.heading.label.place y.post.drop.holder.link y.post.drop.holder.places y.post.drop.found
+        (did (DidLate script turns core is j) (λ deed e. inr (inr e)) y.post (DidStep (DropPlace y.post.heading.label.place y.post.drop.holder.link y.post.drop.holder.places) y.post.drop.found) y.post.drop.drop))))
       where
         -- the life was made behind the ending, as the link's one life was
         by : IsOfNew script made turns core is y.post.drop.holder.link → IsNew script made turns core is (socket_id_slot y.post.drop.holder.id) (socket_id_version y.post.drop.holder.id)

@@ -120,7 +120,7 @@ module _ (script : List Item) (made : AreMade script) (there : AreThere script) 
     DropAt x = DropOf script made turns core is closes (ids_at script core) labelled_at x
 
     pub drop_post : (x : Post) (seat : ℕ) (heading : Heading) (code : ℕ) (deeds : List Deed) → AllByRecursion (DidInRun script turns core is seat) deeds → IsDrop heading code deeds → heading.owner ≢ 0 → heading.owner ≡ x.id
-        → x.error ≡ error_of (if code == 0 then 1009 else code) heading.attempt → DropAt x
+        → x.error ≡ error_of (if code == 0 then 1009 else code) heading.label.attempt → DropAt x
     drop_post = drop_of_run script made turns core is closes (ids_at script core) labelled_at
 
     sent : (k : ℕ) → k < p.links → AllByRecursion (λ (a : Accepted). IsSent p clients core.outcomes fixed (gave_in core) orders (last_in_run script made there range bytes reads turns core is closes) k a) (orders k).accepted

@@ -93,32 +93,32 @@ module _ (p : Plan) (q : IdPlan) (is_call : Asked → Type 0) (ids : ℕ → ℕ
   fits_of : (i n : ℕ) (e : Entry) → HasSent vs i n e → EntryFits is_call ids p e
   fits_of i n e h = let all = (law.views i h.view h.here).1 in all_in (EntryFits is_call ids p) h.made e (subst (AllByRecursion (AllByRecursion (EntryFits is_call ids p))) h.lists all).0 (in_of_at h.made n e h.stands)
 
-  call_message : (i n : ℕ) (e : Entry) → HasSent vs i n e → is_of_send e ≡ false → IsOfCall is_call ids e.heading e.bytes × IsSpoken clients e.heading.operation
+  call_message : (i n : ℕ) (e : Entry) → HasSent vs i n e → is_of_send e ≡ false → IsOfCall is_call ids e.heading e.bytes × IsSpoken clients e.heading.label.operation
   call_message i n e h not_ = let s = (seat_of i h.view h.here).3.at in (
     ⊎_elim (λ none_. let z : is_of_send e ≡ true = ap (λ l. elim l as (λ l. Bool) [ [] ↦ true | x ∷ xs ↦ false ]) none_.1 in absurd (true≢false (sym z ∙ not_))) (λ x. x) (fits_of i n e h).0,
     all_in (IsOfSpoken (IsSpoken clients)) s.made e s.of_calls (in_of_at s.made n e (sent_in vs i n e h.view s.made h h.here s.lists)) not_,
   )
 
   -- an accepted message with an owner is a call's
-  pub log_calls : (r : ℕ) (e : Entry) → get_elem? sound.lawful.log r ≡ some e → e.heading.owner ≢ 0 → IsOfCall is_call ids e.heading e.bytes × IsSpoken clients e.heading.operation
-  log_calls r e there = each_of p c vs sound.lawful each_made (λ (x : Entry). x.heading.owner ≢ 0 → IsOfCall is_call ids x.heading x.bytes × IsSpoken clients x.heading.operation) one r e there
+  pub log_calls : (r : ℕ) (e : Entry) → get_elem? sound.lawful.log r ≡ some e → e.heading.owner ≢ 0 → IsOfCall is_call ids e.heading e.bytes × IsSpoken clients e.heading.label.operation
+  log_calls r e there = each_of p c vs sound.lawful each_made (λ (x : Entry). x.heading.owner ≢ 0 → IsOfCall is_call ids x.heading x.bytes × IsSpoken clients x.heading.label.operation) one r e there
     where
-      one : (i n : ℕ) (x : Entry) → HasSent vs i n x → x.heading.owner ≢ 0 → IsOfCall is_call ids x.heading x.bytes × IsSpoken clients x.heading.operation
+      one : (i n : ℕ) (x : Entry) → HasSent vs i n x → x.heading.owner ≢ 0 → IsOfCall is_call ids x.heading x.bytes × IsSpoken clients x.heading.label.operation
       one i n x h some_ = by (is_of_send x) refl
         where
-          by : (b : Bool) → is_of_send x ≡ b → IsOfCall is_call ids x.heading x.bytes × IsSpoken clients x.heading.operation
+          by : (b : Bool) → is_of_send x ≡ b → IsOfCall is_call ids x.heading x.bytes × IsSpoken clients x.heading.label.operation
           by true is = absurd (some_ (ap (λ (y : Heading). y.owner) (send_message i n x h is).2))
           by false is = call_message i n x h is
 
   -- the numbers of attempts are small
-  pub log_few : (r : ℕ) (e : Entry) → get_elem? sound.lawful.log r ≡ some e → e.heading.attempt ≤ 6
-  log_few r e there = each_of p c vs sound.lawful each_made (λ (x : Entry). x.heading.attempt ≤ 6) one r e there
+  pub log_few : (r : ℕ) (e : Entry) → get_elem? sound.lawful.log r ≡ some e → e.heading.label.attempt ≤ 6
+  log_few r e there = each_of p c vs sound.lawful each_made (λ (x : Entry). x.heading.label.attempt ≤ 6) one r e there
     where
-      one : (i n : ℕ) (x : Entry) → HasSent vs i n x → x.heading.attempt ≤ 6
+      one : (i n : ℕ) (x : Entry) → HasSent vs i n x → x.heading.label.attempt ≤ 6
       one i n x h = by (is_of_send x) refl
         where
-          by : (b : Bool) → is_of_send x ≡ b → x.heading.attempt ≤ 6
-          by true is = let z : x.heading.attempt ≡ 0 = ap (λ (y : Heading). y.attempt) (send_message i n x h is).2 in omega (arith, z)
+          by : (b : Bool) → is_of_send x ≡ b → x.heading.label.attempt ≤ 6
+          by true is = let z : x.heading.label.attempt ≡ 0 = ap (λ (y : Heading). y.label.attempt) (send_message i n x h is).2 in omega (arith, z)
           by false is = (call_message i n x h is).0.3
 
   -- what a seat has in hand to write is the first message without a place
@@ -129,20 +129,20 @@ module _ (p : Plan) (q : IdPlan) (is_call : Asked → Type 0) (ids : ℕ → ℕ
 
   -- of an operation that is no task's, attempt n
   module _ (o n l : ℕ) (spoken : IsSpoken clients o) (few : n < 8) (label : l ≡ 8 * o + n) where
-    is_calls : (i m : ℕ) (e : Entry) → HasSent vs i m e → e.heading.place ≡ l → is_of_send e ≡ false
+    is_calls : (i m : ℕ) (e : Entry) → HasSent vs i m e → e.heading.label.place ≡ l → is_of_send e ≡ false
     is_calls i m e h place = by (is_of_send e) refl
       where
         by : (b : Bool) → is_of_send e ≡ b → is_of_send e ≡ false
         by false is = is
-        by true is = absurd (let t = send_message i m e h is in let at : e.heading.place ≡ 8 * t.0.number = ap (λ (x : Heading). x.place) t.2 in spoken i t.0 t.1 (omega (arith, at, place, label, few)))
+        by true is = absurd (let t = send_message i m e h is in let at : e.heading.label.place ≡ 8 * t.0.number = ap (λ (x : Heading). x.label.place) t.2 in spoken i t.0 t.1 (omega (arith, at, place, label, few)))
 
     -- one message at most has this place word
-    one_labelled : (r s : ℕ) (d e : Entry) → get_elem? sound.lawful.log r ≡ some d → get_elem? sound.lawful.log s ≡ some e → d.heading.place ≡ l → e.heading.place ≡ l → r ≡ s
-    one_labelled r s d e at_d at_e is_d is_e = apart_by p c vs sound.lawful each_made (λ (x y : Entry). (x.heading.place ≡ l) × (y.heading.place ≡ l))
+    one_labelled : (r s : ℕ) (d e : Entry) → get_elem? sound.lawful.log r ≡ some d → get_elem? sound.lawful.log s ≡ some e → d.heading.label.place ≡ l → e.heading.label.place ≡ l → r ≡ s
+    one_labelled r s d e at_d at_e is_d is_e = apart_by p c vs sound.lawful each_made (λ (x y : Entry). (x.heading.label.place ≡ l) × (y.heading.label.place ≡ l))
         (λ i j m k x y h g both. calls_apart is_call ids vs (λ id n. let once = law.once id n in omega (arith, once)) i j m k x y h g (call_message i m x h (is_calls i m x h both.0)).0 (call_message j k y g (is_calls j k y g both.1)).0 (both.0 ∙ sym both.1)) r s d e at_d at_e (is_d, is_e)
 
     -- where its word is written, no other seat is to write it
-    module _ (i : ℕ) (v : View) (at : get_elem? vs i ≡ some v) (r : Right) (has : get_elem? v.rights 0 ≡ some r) (now : ℕ) (stage : r.stage ≡ Writes now) (taken : r.taken ≡ true) (place : r.heading.place ≡ l) (low : l < 8 * p.operations) where
+    module _ (i : ℕ) (v : View) (at : get_elem? vs i ≡ some v) (r : Right) (has : get_elem? v.rights 0 ≡ some r) (now : ℕ) (stage : r.stage ≡ Writes now) (taken : r.taken ≡ true) (place : r.heading.label.place ≡ l) (low : l < 8 * p.operations) where
       unwritten : get_or c.words (place_index p l) 0 ≡ 0
       unwritten = by (sound.lawful.delivered.shown l low)
         where
@@ -152,8 +152,8 @@ module _ (p : Plan) (q : IdPlan) (is_call : Asked → Type 0) (ids : ℕ → ℕ
           next : (e : Entry) × (get_elem? (on r.link sound.lawful.log) (sound.lawful.places r.link) ≡ some e)
           next = at_some (on r.link sound.lawful.log) (sound.lawful.places r.link) (writes_room sound.lawful.chains r.link r now kl (right_alone sound.lawful i 0 v r at has) stage)
 
-          next_place : next.0.heading.place ≡ l
-          next_place = ap (λ (x : Heading). x.place) (sym (sound.lawful.messages.in_hand r.link r next.0 kl (right_alone sound.lawful i 0 v r at has) taken next.1).0) ∙ place
+          next_place : next.0.heading.label.place ≡ l
+          next_place = ap (λ (x : Heading). x.label.place) (sym (sound.lawful.messages.in_hand r.link r next.0 kl (right_alone sound.lawful i 0 v r at has) taken next.1).0) ∙ place
 
           by : ShownAt p.links (λ x. get_or c.words (place_index p x) 0) sound.lawful.log sound.lawful.places sound.lawful.kept l → get_or c.words (place_index p l) 0 ≡ 0
           by (no_place none_ others) = none_
@@ -169,10 +169,10 @@ module _ (p : Plan) (q : IdPlan) (is_call : Asked → Type 0) (ids : ℕ → ℕ
 
     -- a step leaves the word, where it was written
     module _ (i : ℕ) (v : View) (at : get_elem? vs i ≡ some v) (low : l < 8 * p.operations) (written : get_or c.words (place_index p l) 0 ≢ 0) where
-      no_writer : (r : Right) → r.heading.place ≡ l → (now : ℕ) → get_elem? v.rights 0 ≡ some r → r.stage ≡ Writes now → r.taken ≡ true → ⊥
+      no_writer : (r : Right) → r.heading.label.place ≡ l → (now : ℕ) → get_elem? v.rights 0 ≡ some r → r.stage ≡ Writes now → r.taken ≡ true → ⊥
       no_writer r place now has stage taken = written (unwritten i v at r has now stage taken place low)
 
-      other_place : (m w : ℕ) (r : Right) (now : ℕ) → v.rights ≡ r ∷ [] → r.stage ≡ Writes now → r.taken ≡ true → m ≡ r.heading.place → get_or (words_after c.words (some (place_index p m)) w) (place_index p l) 0 ≡ get_or c.words (place_index p l) 0
+      other_place : (m w : ℕ) (r : Right) (now : ℕ) → v.rights ≡ r ∷ [] → r.stage ≡ Writes now → r.taken ≡ true → m ≡ r.heading.label.place → get_or (words_after c.words (some (place_index p m)) w) (place_index p l) 0 ≡ get_or c.words (place_index p l) 0
       other_place m w r now one stage taken is = get_or-set_other c.words (place_index p m) (place_index p l) w 0
           (λ e. no_writer r (sym is ∙ (let z : m ≡ l = omega (arith, e) in z)) now (ap (λ rs. get_elem? rs 0) one) stage taken)
 

@@ -55,13 +55,13 @@ tick_steps p c m seat call next at is = ap (λ o. elim o as (λ o. Core) [ none 
 module _ (p : Plan) (q : IdPlan) (is_call : Asked → Type 0) (ids : ℕ → ℕ) (clients : List (List Task)) where
   -- what the message of a call is
   pub record IsCalls (h : Heading) : Type 0 where
-    pub spoken : IsSpoken clients h.operation
-    pub owner : ids h.operation ≡ h.owner
-    pub place : h.place ≡ 8 * h.operation + h.attempt
-    pub few : h.attempt ≤ 6
+    pub spoken : IsSpoken clients h.label.operation
+    pub owner : ids h.label.operation ≡ h.owner
+    pub place : h.label.place ≡ 8 * h.label.operation + h.label.attempt
+    pub few : h.label.attempt ≤ 6
     pub asked : Asked
     pub called : is_call asked
-    pub own : asked.operation ≡ h.operation
+    pub own : asked.operation ≡ h.label.operation
 
   -- ## What deeds tell
 

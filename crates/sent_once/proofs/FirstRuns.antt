@@ -68,7 +68,7 @@ use Rattle.sock_words.specs.PackedWords.{IDLE}
 
 -- of two first messages the former has the lower number
 abbrev Before : Heading → Heading → Type 0
-Before h g = h.attempt ≡ 0 → g.attempt ≡ 0 → h.operation < g.operation
+Before h g = h.label.attempt ≡ 0 → g.label.attempt ≡ 0 → h.label.operation < g.label.operation
 
 abbrev EntriesBefore : Entry → Entry → Type 0
 EntriesBefore d e = Before d.heading e.heading
@@ -90,7 +90,7 @@ before_get R (z ∷ xs) (suc m) (suc n) x y a e f l = before_get R xs m n x y a.
 module _ (mine : ℕ → Type 0) where
   -- a first message of these operations, before this number
   abbrev Old : ℕ → Heading → Type 0
-  Old low h = h.attempt ≡ 0 → (h.operation < low) × mine h.operation
+  Old low h = h.label.attempt ≡ 0 → (h.label.operation < low) × mine h.label.operation
 
   -- what the seat claimed a request for stands behind all that it sent
   abbrev ClaimGoes : ℕ → List Entry → Claim → Type 0
@@ -111,7 +111,7 @@ module _ (mine : ℕ → Type 0) where
   low_behind other low = low
 
   abbrev Puts : ℕ → TableStep → Type 0
-  Puts low (PutMessage q heading bytes) = heading.attempt ≡ 0 → (low ≤ heading.operation) × mine heading.operation
+  Puts low (PutMessage q heading bytes) = heading.label.attempt ≡ 0 → (low ≤ heading.label.operation) × mine heading.label.operation
   Puts low other = Unit {0}
 
   goes_do : (low : ℕ) (call : TableStep) (next : ℕ → Program) → Firsts mine low (Do call next) → Puts low call × ((found : ℕ) → Firsts mine (low_behind call low) (next found))
@@ -128,13 +128,13 @@ module _ (mine : ℕ → Type 0) where
     ready_goes [] e = g
     ready_goes (c ∷ cs) e = record { made = g.made; lists = g.lists; ordered = g.ordered; old = g.old; claims = ((subst (AllByRecursion (ClaimGoes low g.made)) e g.claims).0, tt) }
 
-    module _ (heading : Heading) (puts : heading.attempt ≡ 0 → (low ≤ heading.operation) × mine heading.operation) where
-      below_it : heading.attempt ≡ 0 → behind heading low ≡ heading.operation + 1
-      below_it z = ap (λ b. cond b (heading.operation + 1) low) (eq-eqb heading.attempt 0 z)
+    module _ (heading : Heading) (puts : heading.label.attempt ≡ 0 → (low ≤ heading.label.operation) × mine heading.label.operation) where
+      below_it : heading.label.attempt ≡ 0 → behind heading low ≡ heading.label.operation + 1
+      below_it z = ap (λ b. cond b (heading.label.operation + 1) low) (eq-eqb heading.label.attempt 0 z)
 
       grows : low ≤ behind heading low
-      grows = dite (ℕ_discrete heading.attempt 0) (λ z. omega (arith, below_it z, (puts z).0))
-          (λ n. (let e : behind heading low ≡ low = ap (λ b. cond b (heading.operation + 1) low) (ne_eqb heading.attempt 0 n) in omega (arith, e)))
+      grows = dite (ℕ_discrete heading.label.attempt 0) (λ z. omega (arith, below_it z, (puts z).0))
+          (λ n. (let e : behind heading low ≡ low = ap (λ b. cond b (heading.label.operation + 1) low) (ne_eqb heading.label.attempt 0 n) in omega (arith, e)))
 
       older : (h : Heading) → Old low h → Old (behind heading low) h
       older h o z = (omega (arith, (o z).0, grows), (o z).1)
@@ -334,7 +334,7 @@ module _ (script : List Item) (are : AreTasks (plan_of script) (all_tasks script
     asks_of c t a = (a.0, a.1, contains_in a.0 t a.2)
 
     -- a first message that a seat sent is of its own operation
-    own_of : (i n : ℕ) (e : Entry) → HasSent (views_ended script turns core is vs) i n e → e.heading.attempt ≡ 0 → IsOwnOperation (all_tasks script) i e.heading.operation
+    own_of : (i n : ℕ) (e : Entry) → HasSent (views_ended script turns core is vs) i n e → e.heading.label.attempt ≡ 0 → IsOwnOperation (all_tasks script) i e.heading.label.operation
     own_of i n e h z = let g = view_ended i h.view h.here in
         (all_at (λ (x : Entry). Old (IsOwnOperation (all_tasks script) i) (ended_goes vs begins go turns core is fitting bare i).low x.heading) g.made n e g.old
         (sent_in (views_ended script turns core is vs) i n e h.view g.made h h.here g.lists) z).1

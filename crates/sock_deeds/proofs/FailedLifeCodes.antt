@@ -231,9 +231,9 @@ module _ {O : Type 0} {g : Ghosts O} {state : O → OutState} {p : Plan} {client
       pub less : position < length (on e.link (log run))
 
     -- where a seat stored the word of a dropped message at its place index, for this link
-    pub dropped_stands : (q : ℕ) (e : Entry) → get_elem? (log run) q ≡ some e → (a : Act run) (link position : ℕ) → position < 4294967295 → 0 < put_in (place_index p e.heading.place) (place_word true link position) (after run a) → IsBehindPlaced e × (link ≡ e.link)
+    pub dropped_stands : (q : ℕ) (e : Entry) → get_elem? (log run) q ≡ some e → (a : Act run) (link position : ℕ) → position < 4294967295 → 0 < put_in (place_index p e.heading.label.place) (place_word true link position) (after run a) → IsBehindPlaced e × (link ≡ e.link)
     dropped_stands q e at a link position low_position put =
-        let l = e.heading.place in let k = e.link in let n = place_word true link position in
+        let l = e.heading.label.place in let k = e.link in let n = place_word true link position in
         let low = low_entry run differ q e at in let kl = low_link q e at in
         let s = on_there k (log run) q e at refl in let i = s.0 in
         let all = has_puts run a (place_index p l) n in

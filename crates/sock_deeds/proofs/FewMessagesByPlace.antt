@@ -48,9 +48,9 @@ few_below (suc n) (suc m) f low apart = let r = few_below n m (moved f n m) lowe
         (λ b. apart i j (omega arith) (omega arith) (sym (moved_else f n m i a) ∙ (e ∙ moved_else f n m j b))))
 
 abbrev place_of : core.Option Entry → ℕ
-place_of o = elim o as (λ o. ℕ) [ none ↦ 0 | some e ↦ e.heading.place ]
+place_of o = elim o as (λ o. ℕ) [ none ↦ 0 | some e ↦ e.heading.label.place ]
 
-pub few_entries : (n : ℕ) (es : List Entry) → PlacesDiffer es → ((i : ℕ) (e : Entry) → get_elem? es i ≡ some e → e.heading.place < n) → length es ≤ n
+pub few_entries : (n : ℕ) (es : List Entry) → PlacesDiffer es → ((i : ℕ) (e : Entry) → get_elem? es i ≡ some e → e.heading.label.place < n) → length es ≤ n
 few_entries n es differ low = few_below n (length es) (λ i. place_of (get_elem? es i))
     (λ i lt. let w = place_there es i lt in let a = ap place_of w.1 in let b = low i w.0 w.1 in omega arith)
     (λ i j li lj same. let v = place_there es i li in let w = place_there es j lj in differ i j v.0 w.0 v.1 w.1 (sym (ap place_of v.1) ∙ (same ∙ ap place_of w.1)))

@@ -46,7 +46,7 @@ module _ {O : Type 0} {g : Ghosts O} {state : O → OutState} {p : Plan} {client
   low_message c name number attempt msg by (of_send bytes is first sent told) = ((fits run c record { number = number; op = ops.Send name bytes } is).0, omega arith)
   low_message c name number attempt msg by (of_call client asked is mine low name_is sent told) = ((fits run client record { number = number; op = ops.Call asked } is).0, low)
 
-  pub low_entry : (q : ℕ) (e : Entry) → get_elem? (log run) q ≡ some e → e.heading.place < 8 * p.operations
+  pub low_entry : (q : ℕ) (e : Entry) → get_elem? (log run) q ≡ some e → e.heading.label.place < 8 * p.operations
   low_entry q e at =
       let w = act_of_entry run q e at in
       let s = w.1 in
@@ -56,7 +56,7 @@ module _ {O : Type 0} {g : Ghosts O} {state : O → OutState} {p : Plan} {client
       let b = low.1 in omega arith
 
   pub few_on : (k : ℕ) → length (on k (log run)) ≤ 8 * p.operations
-  few_on k = few_entries (8 * p.operations) (on k (log run)) (λ i j a b at bt same. distinct_filter (λ (x : Entry). x.heading.place) (λ (x : Entry). eqb x.link k) (log run) differ i j a b at bt same)
+  few_on k = few_entries (8 * p.operations) (on k (log run)) (λ i j a b at bt same. distinct_filter (λ (x : Entry). x.heading.label.place) (λ (x : Entry). eqb x.link k) (log run) differ i j a b at bt same)
       (λ i e at. let w = from_on k (log run) i e at in low_entry w.0 e w.1)
 
   -- ## Who dropped a message of the link
@@ -76,7 +76,7 @@ module _ {O : Type 0} {g : Ghosts O} {state : O → OutState} {p : Plan} {client
   found_lost few k low less =
       let i = kept run differ k in
       let e = place_there (on k (log run)) i less in
-      let l = e.0.heading.place in
+      let l = e.0.heading.label.place in
       let n = slice_index run.closed.words (place_index p l) in
       let word : n ≡ place_word true k i = ((ends run differ).1 k low).fifo.dropped i e.0 e.1 (omega arith) in
       let q = from_on k (log run) i e.0 e.1 in

@@ -116,8 +116,8 @@ module _ {O : Type 0} {g : Ghosts O} {state : O → OutState} {p : Plan} {client
   pub sent_for : (a : Act run) (e : Entry) (s : Sent a e) → IsMessage clients outcomes a.c s.name s.number s.attempt s.msg None × (s.msg.label.place ≡ 8 * s.number + s.attempt)
   sent_for a e s = subst (IsFor clients outcomes a.c) s.did_is (is_for run a)
 
-  pub sent_place : (a : Act run) (e : Entry) (s : Sent a e) → e.heading.place ≡ 8 * s.number + s.attempt
-  sent_place a e s = ap (λ (x : Entry). x.heading.place) (sym s.entry) ∙ (ap (λ (h : Heading). h.place) s.sent.delivered.accepted.heading_is ∙ (sent_for a e s).1)
+  pub sent_place : (a : Act run) (e : Entry) (s : Sent a e) → e.heading.label.place ≡ 8 * s.number + s.attempt
+  sent_place a e s = ap (λ (x : Entry). x.heading.label.place) (sym s.entry) ∙ (ap (λ (h : Heading). h.label.place) s.sent.delivered.accepted.heading_is ∙ (sent_for a e s).1)
 
   pub sender_act : (q : ℕ) (e : Entry) (s : Sender q e) → (a : Act run) × (a.c ≡ s.c) × Sent a e
   sender_act q e s =
@@ -159,7 +159,7 @@ module _ {O : Type 0} {g : Ghosts O} {state : O → OutState} {p : Plan} {client
   first_number a e s first = ap own_number s.did_is ∙ ap (λ n. own_number (sends s.name s.number n s.msg None)) first
 
   -- so sends and first attempts of one client stand in the order of its operations
-  pub in_order : (q r : ℕ) (d e : Entry) (s : Sender q d) (t : Sender r e) → s.c ≡ t.c → q < r → (m n : ℕ) → d.heading.place ≡ 8 * m → e.heading.place ≡ 8 * n → m < n
+  pub in_order : (q r : ℕ) (d e : Entry) (s : Sender q d) (t : Sender r e) → s.c ≡ t.c → q < r → (m n : ℕ) → d.heading.label.place ≡ 8 * m → e.heading.label.place ≡ 8 * n → m < n
   in_order q r d e s t same less m n place_d place_e =
       let w = one_seat q r d e s t same less in
       let a = w.0 in

@@ -78,9 +78,9 @@ module _ (p : Plan) (took : ℕ → List ℕ) (k : ℕ) (low : k < p.links) wher
 -- ## Messages as a link accepted them
 
 pub accepted_there : (es : List Entry) (i : ℕ) (e : Entry) → get_elem? es i ≡ some e → slice_get (map accepted_of es) i ≡ Some (accepted_of e)
-accepted_there = accepted.accepted_there (λ e. e.heading.place / 8) (λ e. e.heading.place % 8)
+accepted_there = accepted.accepted_there (λ e. e.heading.label.place / 8) (λ e. e.heading.label.place % 8)
 
-label_is : (e : Entry) → label (accepted_of e) ≡ e.heading.place
+label_is : (e : Entry) → label (accepted_of e) ≡ e.heading.label.place
 label_is e = omega arith
 
 -- a frame has bytes
@@ -113,7 +113,7 @@ module _ {O : Type 0} {g : Ghosts O} {state : O → OutState} {p : Plan} {client
   -- ## Its messages
 
   pub entry_on : (k i : ℕ) (a : Accepted) → StandsAt orders k i a → (e : Entry) × (get_elem? (on k (log run)) i ≡ some e) × (accepted_of e ≡ a) × (q : ℕ) × (get_elem? (log run) q ≡ some e) × (e.link ≡ k)
-  entry_on k i a at = let w = accepted.accepted_at (λ e. e.heading.place / 8) (λ e. e.heading.place % 8) (on k (log run)) i a at in let f = from_on k (log run) i w.0 w.1 in (w.0, w.1, w.2, f.0, f.1, f.2)
+  entry_on k i a at = let w = accepted.accepted_at (λ e. e.heading.label.place / 8) (λ e. e.heading.label.place % 8) (on k (log run)) i a at in let f = from_on k (log run) i w.0 w.1 in (w.0, w.1, w.2, f.0, f.1, f.2)
 
   message_some : (c name number attempt : ℕ) (msg : Letter) → IsMessage clients outcomes c name number attempt msg None → (parcel_of msg.bytes).bytes ≢ []
   message_some c name number attempt msg (of_send bytes is first sent told) e = (fits run c record { number = number; op = ops.Send name bytes } is).1.1 (sym sent ∙ e)
@@ -127,7 +127,7 @@ module _ {O : Type 0} {g : Ghosts O} {state : O → OutState} {p : Plan} {client
 
   -- ## The orders
 
-  word_at : (k i : ℕ) (e : Entry) → k < p.links → get_elem? (on k (log run)) i ≡ some e → slice_index run.closed.words (place_index p e.heading.place) ≡ place_word (nat_le (kept k) i) k i
+  word_at : (k i : ℕ) (e : Entry) → k < p.links → get_elem? (on k (log run)) i ≡ some e → slice_index run.closed.words (place_index p e.heading.label.place) ≡ place_word (nat_le (kept k) i) k i
   word_at k i e low at =
       let f = (ends.1 k low).fifo in
       dite (dec_lt i (kept k))
@@ -150,15 +150,15 @@ module _ {O : Type 0} {g : Ghosts O} {state : O → OutState} {p : Plan} {client
     written = λ k i a low at. (let w = entry_on k i a at in ap (λ l. slice_index l (place_index p (label a))) left.words ∙ (ap (λ l. slice_index run.closed.words (place_index p l)) (ap label (sym w.2) ∙ label_is w.0) ∙ word_at k i w.0 low w.1));
     alone = λ l low. ⊎_elim (λ none_. inl (ap (λ ws. slice_index ws (place_index p l)) left.words ∙ none_)) (λ w. inr (w.link, w.position, accepted_of w.entry, w.inside, accepted_there (on w.link (log run)) w.position w.entry w.there, sym w.own ∙ sym (label_is w.entry))) (run.closed.shown l low);
     within = λ k low. (let c_ = (ends.1 k low).fifo.count in let n = length-map (on k (log run)) accepted_of in omega arith);
-    taken = λ k low. subst (λ hs. IsTaken (orders k) (get_or (took_at_home p hs) k [])) (sym left.homes) (subst (IsTaken (orders k)) (sym (took_home p took k low)) (accepted.taken_of (λ e. e.heading.place / 8) (λ e. e.heading.place % 8) (on k (log run)) (kept k) (took k) (λ i e at. (let w = from_on k (log run) i e at in has_bytes w.0 e w.1)) (ends.1 k low).fifo.took_is));
+    taken = λ k low. subst (λ hs. IsTaken (orders k) (get_or (took_at_home p hs) k [])) (sym left.homes) (subst (IsTaken (orders k)) (sym (took_home p took k low)) (accepted.taken_of (λ e. e.heading.label.place / 8) (λ e. e.heading.label.place % 8) (on k (log run)) (kept k) (took k) (λ i e at. (let w = from_on k (log run) i e at in has_bytes w.0 e w.1)) (ends.1 k low).fifo.took_is));
     apart = λ k l i j a b low_k low_l at bt same. (
         let v = entry_on k i a at in
         let w = entry_on l j b bt in
-        let place : v.0.heading.place ≡ w.0.heading.place = sym (label_is v.0) ∙ (ap label v.2 ∙ (same ∙ (ap label (sym w.2) ∙ label_is w.0))) in
+        let place : v.0.heading.label.place ≡ w.0.heading.label.place = sym (label_is v.0) ∙ (ap label v.2 ∙ (same ∙ (ap label (sym w.2) ∙ label_is w.0))) in
         let q : v.3 ≡ w.3 = differ v.3 w.3 v.0 w.0 v.4 w.4 place in
         let e : v.0 ≡ w.0 = some-injective v.0 w.0 (sym v.4 ∙ (ap (get_elem? (log run)) q ∙ w.4)) in
         let links : k ≡ l = sym v.5 ∙ (ap (λ (x : Entry). x.link) e ∙ w.5) in
-        (links, distinct_filter (λ (x : Entry). x.heading.place) (λ (x : Entry). eqb x.link l) (log run) differ i j v.0 w.0 (subst (λ m. get_elem? (on m (log run)) i ≡ some v.0) links v.1) w.1 place));
+        (links, distinct_filter (λ (x : Entry). x.heading.label.place) (λ (x : Entry). eqb x.link l) (log run) differ i j v.0 w.0 (subst (λ m. get_elem? (on m (log run)) i ≡ some v.0) links v.1) w.1 place));
   }
 
   -- ## Told
@@ -193,7 +193,7 @@ module _ {O : Type 0} {g : Ghosts O} {state : O → OutState} {p : Plan} {client
         attempt_in other = 0
 
     -- the client of a first message is that of its operation
-    client_of : (q : ℕ) (e : Entry) (s : Sender run q e) (c n : ℕ) (t : Task) → IsTask clients outcomes c t → t.number ≡ n → e.heading.place ≡ 8 * n → s.c ≡ c
+    client_of : (q : ℕ) (e : Entry) (s : Sender run q e) (c n : ℕ) (t : Task) → IsTask clients outcomes c t → t.number ≡ n → e.heading.label.place ≡ 8 * n → s.c ≡ c
     client_of q e s c n t is number place =
         let w = sender_act run q e s in
         let x = w.2 in
@@ -211,12 +211,12 @@ module _ {O : Type 0} {g : Ghosts O} {state : O → OutState} {p : Plan} {client
         let v = entry_on k i a at in
         let w = entry_on k j b bt in
         let r = on_rises k (log run) i j v.0 w.0 less v.1 w.1 in
-        let op_a : v.0.heading.place / 8 ≡ t.number = ap (λ (x : Accepted). x.operation) v.2 ∙ sym number_t in
-        let at_a : v.0.heading.place % 8 ≡ 0 = ap (λ (x : Accepted). x.attempt) v.2 ∙ first_a in
-        let op_b : w.0.heading.place / 8 ≡ u.number = ap (λ (x : Accepted). x.operation) w.2 ∙ sym number_u in
-        let at_b : w.0.heading.place % 8 ≡ 0 = ap (λ (x : Accepted). x.attempt) w.2 ∙ first_b in
-        let place_a : v.0.heading.place ≡ 8 * t.number = omega arith in
-        let place_b : w.0.heading.place ≡ 8 * u.number = omega arith in
+        let op_a : v.0.heading.label.place / 8 ≡ t.number = ap (λ (x : Accepted). x.operation) v.2 ∙ sym number_t in
+        let at_a : v.0.heading.label.place % 8 ≡ 0 = ap (λ (x : Accepted). x.attempt) v.2 ∙ first_a in
+        let op_b : w.0.heading.label.place / 8 ≡ u.number = ap (λ (x : Accepted). x.operation) w.2 ∙ sym number_u in
+        let at_b : w.0.heading.label.place % 8 ≡ 0 = ap (λ (x : Accepted). x.attempt) w.2 ∙ first_b in
+        let place_a : v.0.heading.label.place ≡ 8 * t.number = omega arith in
+        let place_b : w.0.heading.label.place ≡ 8 * u.number = omega arith in
         let s = sender run r.0 v.0 r.3 in
         let z = sender run r.1 w.0 r.4 in
         in_order run r.0 r.1 v.0 w.0 s z (client_of r.0 v.0 s c t.number t is refl place_a ∙ sym (client_of r.1 w.0 z c u.number u also refl place_b)) r.2 t.number u.number place_a place_b))

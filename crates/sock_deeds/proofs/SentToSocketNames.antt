@@ -63,7 +63,7 @@ module _ {O : Type 0} {g : Ghosts O} {state : O → OutState} {p : Plan} {client
     abbrev IsWhose : ℕ → Accepted → Type 0
     IsWhose k a = IsSentBy p clients outcomes fixed gave (orders run differ) last k a ⊎ IsAttempt clients outcomes k a
 
-    by_message : (a : Act run) (e : Entry) (name number attempt : ℕ) (msg : Letter) → IsMessage clients outcomes a.c name number attempt msg None → e.heading.place ≡ 8 * number + attempt → (parcel_of msg.bytes).bytes ≡ e.bytes → (slot version : ℕ) → MadeHere run name e.link slot version → IsWhose e.link (accepted_of e)
+    by_message : (a : Act run) (e : Entry) (name number attempt : ℕ) (msg : Letter) → IsMessage clients outcomes a.c name number attempt msg None → e.heading.label.place ≡ 8 * number + attempt → (parcel_of msg.bytes).bytes ≡ e.bytes → (slot version : ℕ) → MadeHere run name e.link slot version → IsWhose e.link (accepted_of e)
     by_message a e name number attempt msg (of_send bytes is first sent told) place same slot version made =
         let op_ : number ≡ (accepted_of e).operation = omega arith in
         let none_ : (accepted_of e).attempt ≡ 0 = omega arith in

@@ -89,7 +89,7 @@ module _ {O : Type 0} {g : Ghosts O} {state : O → OutState} {p : Plan} {client
 
   -- each message of the log is one that a link accepted
   pub log_accepted : length (log run) ≤ all_accepted p.links (orders run differ)
-  log_accepted = omega (arith, accepted.sizes_all (λ e. e.heading.place / 8) (λ e. e.heading.place % 8) p.links (log run) links_low)
+  log_accepted = omega (arith, accepted.sizes_all (λ e. e.heading.label.place / 8) (λ e. e.heading.label.place % 8) p.links (log run) links_low)
 
   requests_full : (b : Act run) (n : ℕ) (msg : Letter) → SentOver state p n msg (Some outcome.Full) (before run b) (after run b) → p.requests ≤ all_accepted p.links (orders run differ)
   requests_full b n msg s = let full = was_full run b n msg s in omega (arith, log_accepted)

@@ -15,7 +15,7 @@ homes_of p took = replicate p.requests core.none ++ map (λ k. core.some (Link k
 
 -- an entry's place index is eight times its operation's number among all, plus the attempt
 abbrev pub accepted_of : Entry → Accepted
-accepted_of e = record { operation = e.heading.place / 8; attempt = e.heading.place % 8; bytes = e.bytes }
+accepted_of e = record { operation = e.heading.label.place / 8; attempt = e.heading.label.place % 8; bytes = e.bytes }
 
 -- the messages of each link, of which it took so many whole
 abbrev pub orders_of : List Entry → (ℕ → ℕ) → ℕ → Order

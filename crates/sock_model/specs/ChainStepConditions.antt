@@ -68,7 +68,7 @@ pub record MayPlace (p : Plan) (v : View) : Type 0 where
   pub taken : mine.right.taken ≡ true
   pub is_clean : mine.right.clean ≡ true
   pub away : mine.right.at_home ≡ false
-  pub label_in : mine.right.heading.place < 8 * p.operations
+  pub label_in : mine.right.heading.label.place < 8 * p.operations
 
 -- P1 with the dropped bit: a message is in hand, and the link took a part of it at most, which is in `sent` then
 pub record MayDrop (p : Plan) (v : View) : Type 0 where
@@ -78,7 +78,7 @@ pub record MayDrop (p : Plan) (v : View) : Type 0 where
   pub stage : mine.right.stage ≡ Writes now
   pub taken : mine.right.taken ≡ true
   pub away : mine.right.at_home ≡ false
-  pub label_in : mine.right.heading.place < 8 * p.operations
+  pub label_in : mine.right.heading.label.place < 8 * p.operations
   pub part : (sent ≡ mine.right.sent) ⊎ ((mine.right.clean ≡ true) × (part : List ℕ) × (rest : List ℕ) × (sent ≡ mine.right.sent ++ part) × (mine.right.bytes ≡ part ++ rest) × (rest ≢ []))
 
 -- M2: the message of the first entry without a place isn't in hand

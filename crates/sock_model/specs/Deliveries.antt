@@ -29,8 +29,8 @@ HasTaken c places kept took next = Taken c kept took × (kept ≡ places → too
 
 -- of the entries of link k, places k have places, of which those behind the first kept k are dropped
 pub data ShownAt (links : ℕ) (place : ℕ → ℕ) (log : List Entry) (places kept : ℕ → ℕ) (p : ℕ) : Type 0 where
-  no_place : place p ≡ 0 → ((k i : ℕ) (e : Entry) → k < links → i < places k → get_elem? (on k log) i ≡ some e → e.heading.place ≢ p) → ShownAt links place log places kept p
-  one_place : (k i : ℕ) (e : Entry) → k < links → i < places k → get_elem? (on k log) i ≡ some e → e.heading.place ≡ p → place p ≡ place_word (nat_le (kept k) i) k i → ShownAt links place log places kept p
+  no_place : place p ≡ 0 → ((k i : ℕ) (e : Entry) → k < links → i < places k → get_elem? (on k log) i ≡ some e → e.heading.label.place ≢ p) → ShownAt links place log places kept p
+  one_place : (k i : ℕ) (e : Entry) → k < links → i < places k → get_elem? (on k log) i ≡ some e → e.heading.label.place ≡ p → place p ≡ place_word (nat_le (kept k) i) k i → ShownAt links place log places kept p
 
 -- home has of a link that is at home what it took and its count of places, and Failed says of a link that its life isn't live
 pub record Delivered (links labels : ℕ) (place : ℕ → ℕ) (home : ℕ → Option (List ℕ × ℕ)) (Failed : ℕ → Type 0) (t : Tokens) (log : List Entry) (places kept : ℕ → ℕ) : Type 0 where

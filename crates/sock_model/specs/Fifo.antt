@@ -9,6 +9,6 @@ use Rattle.sock_words.specs.PackedWords.{place_word}
 -- the first n messages have places by their order, the later ones are dropped; the link took the first n one after another, and a proper prefix of the next
 pub record IsFifo (place : ℕ → ℕ) (k : ℕ) (order : List Entry) (n : ℕ) (took : List ℕ) : Type 0 where
   pub count : n ≤ length order
-  pub placed : (i : ℕ) (e : Entry) → get_elem? order i ≡ some e → i < n → place e.heading.place ≡ place_word false k i
-  pub dropped : (i : ℕ) (e : Entry) → get_elem? order i ≡ some e → n ≤ i → place e.heading.place ≡ place_word true k i
+  pub placed : (i : ℕ) (e : Entry) → get_elem? order i ≡ some e → i < n → place e.heading.label.place ≡ place_word false k i
+  pub dropped : (i : ℕ) (e : Entry) → get_elem? order i ≡ some e → n ≤ i → place e.heading.label.place ≡ place_word true k i
   pub took_is : Taken order n took

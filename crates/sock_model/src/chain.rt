@@ -1,12 +1,11 @@
 // The write chain: what the views have of it. The definitions are in specs/, and the steps that keep them in proofs/.
 
-/// What stands with a message: the client and the number there of its operation, its attempt, the number of its place
-/// word, its owner, which is the call's id, or 0 for a send, and the lengths of the parts by which it is put: none for a send.
+use sock_words::Label;
+
+/// What stands with a message: its label, its owner, which is the call's id, or 0 for a send, and the lengths of the parts
+/// by which it is put: none for a send.
 pub struct Heading {
-    pub client: u16,
-    pub operation: u16,
-    pub attempt: u8,
-    pub place: u32,
+    pub label: Label,
     pub owner: u64,
     pub parts: [u32; 0],
 }

@@ -70,17 +70,17 @@ claim_at : (c d : Claim) (i : ℕ) → get_elem? (c ∷ []) i ≡ some d → c �
 claim_at c d zero e = some-injective c d e
 claim_at c d (suc i) e = absurd (some-ne-none d (sym e))
 
-claim_labelled : (p : Plan) (v : View) (c : Claim) → (c.filled ≡ true → c.heading.place < 8 * p.operations) → Labelled p v → Labelled p (with_claim v c)
-claim_labelled p v c label l = record { entries = l.entries; claimed = λ i d e f. subst (λ (x : Claim). x.filled ≡ true → x.heading.place < 8 * p.operations) (claim_at c d i e) label f }
+claim_labelled : (p : Plan) (v : View) (c : Claim) → (c.filled ≡ true → c.heading.label.place < 8 * p.operations) → Labelled p v → Labelled p (with_claim v c)
+claim_labelled p v c label l = record { entries = l.entries; claimed = λ i d e f. subst (λ (x : Claim). x.filled ≡ true → x.heading.label.place < 8 * p.operations) (claim_at c d i e) label f }
 
-more_labelled : (p : Plan) (lists : List (List Entry)) (claims : List Claim) (e : Entry) → e.heading.place < 8 * p.operations → LabelledIn p lists claims → LabelledIn p (more lists e) []
+more_labelled : (p : Plan) (lists : List (List Entry)) (claims : List Claim) (e : Entry) → e.heading.label.place < 8 * p.operations → LabelledIn p lists claims → LabelledIn p (more lists e) []
 more_labelled p [] claims e low l = record { entries = λ n m f. absurd (some-ne-none m (sym f)); claimed = λ i c f. absurd (some-ne-none c (sym f)) }
 more_labelled p (first ∷ others) claims e low l = record { entries = entries; claimed = λ i c f. absurd (some-ne-none c (sym f)) }
   where
-    entries : (n : ℕ) (m : List Entry) → get_elem? ((first ++ e ∷ []) ∷ others) n ≡ some m → (i : ℕ) (x : Entry) → get_elem? m i ≡ some x → x.heading.place < 8 * p.operations
+    entries : (n : ℕ) (m : List Entry) → get_elem? ((first ++ e ∷ []) ∷ others) n ≡ some m → (i : ℕ) (x : Entry) → get_elem? m i ≡ some x → x.heading.label.place < 8 * p.operations
     entries zero m f i x g = elim (at_snoc first e i x (ap (λ (y : List Entry). get_elem? y i) (some-injective (first ++ e ∷ []) m f) ∙ g)) [
       | old h z ↦ l.entries 0 first refl i x h
-      | new h z ↦ subst (λ (y : Entry). y.heading.place < 8 * p.operations) z low
+      | new h z ↦ subst (λ (y : Entry). y.heading.label.place < 8 * p.operations) z low
     ]
     entries (suc n) m f i x g = l.entries (suc n) m f i x g
 
@@ -89,7 +89,7 @@ module _ {S : Type 0} (shows : S → Home) (rose : S → ℕ) (p : Plan) (slots 
   v = me.0
 
   -- a claim's label is one of a place word
-  label_of : (s : State S View) → OnTable shows rose p s → get_elem? s.views id ≡ some me.0 → (c : Claim) → me.0.claims ≡ c ∷ [] → c.filled ≡ true → c.heading.place < 8 * p.operations
+  label_of : (s : State S View) → OnTable shows rose p s → get_elem? s.views id ≡ some me.0 → (c : Claim) → me.0.claims ≡ c ∷ [] → c.filled ≡ true → c.heading.label.place < 8 * p.operations
   label_of s t here c is filled = (t.labelled id me.0 here).claimed 0 c (ap (λ (l : List Claim). get_elem? l 0) is) filled
 
   -- C1: the home of the request goes with the seat that claims it
@@ -135,7 +135,7 @@ module _ {S : Type 0} (shows : S → Home) (rose : S → ℕ) (p : Plan) (slots 
 
   -- M1: the message goes home, and the link of the life that the seat holds is noted
   pub fills : (i h : ℕ) (c : Claim) (y : S) (below : List (ℕ × S)) (heading : Heading) (bytes : List ℕ) → i < p.slots → 0 < marks_of (is_hold h) i v → me.0.claims ≡ c ∷ [] → c.request < p.requests → me.1 ≡ (c.request, y) ∷ below
-      → shows y ≡ Message heading bytes → heading.place < 8 * p.operations → Allows (OnTable shows rose p) slots id me (link_index i) (λ n. n) (fill_told shows (step slots (link_index i) 0 0 none) me)
+      → shows y ≡ Message heading bytes → heading.label.place < 8 * p.operations → Allows (OnTable shows rose p) slots id me (link_index i) (λ n. n) (fill_told shows (step slots (link_index i) 0 0 none) me)
   fills i h c y below heading bytes inside there claim low top shown label s t long here fits = let k : ℕ = get_or s.words (link_index i) 0 in let its = held_linked s t id v here i inside h there in
       let w₁ : View = met_link i h k v in let c' : Claim = filled_claim (record c { link = k }) heading bytes in let w : View = with_claim w₁ c' in
       let met = meet_rule t.rule id v here mine i inside h there in

@@ -145,7 +145,7 @@ module _ {O : Type 0} {g : Ghosts O} (m n : Me (SockHome O g) View) (r : Right) 
     letter_shown = ap shows (sym (letter_value ∙ is)) ∙ t.shown
 
     pub letter_label : h.label.place < 8 * m.0.plan.operations
-    letter_label = subst (λ (y : Heading). y.place < 8 * m.0.plan.operations) (sym (ap (letter_heading (heading_of h)) letter_shown)) t.label_in
+    letter_label = subst (λ (y : Heading). y.label.place < 8 * m.0.plan.operations) (sym (ap (letter_heading (heading_of h)) letter_shown)) t.label_in
 
     pub letter_after : slot ≡ ticket_request now → (new : Me (SockHome O g) View) → new ≡ (n.0, (slot, Empty) ∷ rest n.1) → new ≡ (with_right m.0 (taken_right r (heading_of h) (parcel_of h.bytes).bytes), (ticket_request now, Empty) ∷ m.1)
     letter_after at new e = let below : rest n.1 ≡ m.1 = ap rest t.slots in let l = ap (letter_heading (heading_of h)) letter_shown in let b = ap letter_bytes letter_shown in

@@ -192,7 +192,7 @@ module _ {S : Type 0} (shows : S → Home) (rose : S → ℕ) (p : Plan) (slots 
       let hs : List (Option S) = set s.homes (ticket_request now) none in let r' : Right = taken_right r a.1 a.2 in let w : View = with_right v r' in
       let t' : OnTable shows rose p record { words = s.words; homes = set s.homes (ticket_request now) none; views = set s.views id (with_right v (taken_right r a.1 a.2)) } =
       beside t id v w here some_ s.words hs (homes_else p s.homes (ticket_request now) none (writes_ticket o id v here r one now stage).inside) (quiet r') (steady r' refl refl) (home_taken_settled t.settled (ticket_request now) (writes_taken o id v here r one now stage)) (right_rule t.rule id v here mine r' hs (a.5 none refl)) in
-      let label : a.1.place < 8 * p.operations = hand_label t'.rule.lawful t'.labelled id w (after s here w) r' now (one_right v r r' one refl) stage refl in (
+      let label : a.1.label.place < 8 * p.operations = hand_label t'.rule.lawful t'.labelled id w (after s here w) r' now (one_right v r r' one refl) stage refl in (
         with_right v (taken_right r a.1 a.2),
         takes (ticket_request now) a.0,
         a.3,
@@ -204,7 +204,7 @@ module _ {S : Type 0} (shows : S → Home) (rose : S → ℕ) (p : Plan) (slots 
               heading = a.1;
               bytes = a.2;
               shown = a.4;
-              label_in = subst (λ (z : Plan). a.1.place < 8 * z.operations) (sym mine) label;
+              label_in = subst (λ (z : Plan). a.1.label.place < 8 * z.operations) (sym mine) label;
               few = next_few t.rule id v here r now one stage;
               view = refl;
               slots = refl;
@@ -212,15 +212,15 @@ module _ {S : Type 0} (shows : S → Home) (rose : S → ℕ) (p : Plan) (slots 
       )
 
   -- P1
-  pub places : (now : ℕ) → r.stage ≡ Writes now → r.taken ≡ true → r.clean ≡ true → r.at_home ≡ false → r.heading.place < 8 * p.operations → r.link < 65536
-      → Allows (OnTable shows rose p) slots id me (place_index p r.heading.place) (λ _. place_word false r.link r.places) (λ _. place_told (step slots (place_index p r.heading.place) (place_word false r.link r.places) 0 none) me (place_word false r.link r.places))
+  pub places : (now : ℕ) → r.stage ≡ Writes now → r.taken ≡ true → r.clean ≡ true → r.at_home ≡ false → r.heading.label.place < 8 * p.operations → r.link < 65536
+      → Allows (OnTable shows rose p) slots id me (place_index p r.heading.label.place) (λ _. place_word false r.link r.places) (λ _. place_told (step slots (place_index p r.heading.label.place) (place_word false r.link r.places) 0 none) me (place_word false r.link r.places))
   places now stage taken clean away label narrow s t long here fits = let may : MayPlace p v = record { mine = has_one; now = now; stage = stage; taken = taken; is_clean = clean; away = away; label_in = label } in let w : View = with_right v (placed_right r now) in
       let value : ℕ = place_word false r.link r.places in (
         with_right v (placed_right r now),
         keeps,
         tt,
-        places_beside t id v here r one now stage taken label value w (omega (arith, next_few t.rule id v here r now one stage)) some_ (quiet (placed_right r now)) (steady (placed_right r now) refl refl) refl (place_settled t.settled r.heading.place value t.stored (λ y yl. refl) (omega (arith, t.rule.lawful.references.sized)))
-            (place_rule t.rule id v here mine r.heading.place value (placed_right r now) s.homes (placing_law shows p id v may s t.rule.lawful here)),
+        places_beside t id v here r one now stage taken label value w (omega (arith, next_few t.rule id v here r now one stage)) some_ (quiet (placed_right r now)) (steady (placed_right r now) refl refl) refl (place_settled t.settled r.heading.label.place value t.stored (λ y yl. refl) (omega (arith, t.rule.lawful.references.sized)))
+            (place_rule t.rule id v here mine r.heading.label.place value (placed_right r now) s.homes (placing_law shows p id v may s t.rule.lawful here)),
         λ q m e st. let same = its q e in let sm : now ≡ m = writes_same now m (sym stage ∙ (ap (λ (z : Right). z.stage) same ∙ st)) in λ z. (with_right v (placed_right (same z) (sm z)), me.1),
       )
 
@@ -232,15 +232,15 @@ module _ {S : Type 0} (shows : S → Home) (rose : S → ℕ) (p : Plan) (slots 
       record { slot = j; version = h; life = life.life; failed = omega (arith, l.failed h, life-in p.first h (slot_facts s j).version first (omega arith) even) }
 
   -- P1 with the dropped bit: the link lies in the slot that was taken last
-  pub drops : (now j h : ℕ) (y : ℕ × S) → r.stage ≡ Writes now → r.taken ≡ true → r.at_home ≡ false → r.heading.place < 8 * p.operations → Part r (took_in (shows y.1)) → me.1 ≡ y ∷ rest me.1 → HoldsLink p v j h r.link → 0 < marks_of (is_saw (h + 1)) j v
-      → Allows (OnTable shows rose p) slots id me (place_index p r.heading.place) (λ _. place_word true r.link r.places) (λ _. drop_told shows (step slots (place_index p r.heading.place) (place_word true r.link r.places) 0 none) me (place_word true r.link r.places))
+  pub drops : (now j h : ℕ) (y : ℕ × S) → r.stage ≡ Writes now → r.taken ≡ true → r.at_home ≡ false → r.heading.label.place < 8 * p.operations → Part r (took_in (shows y.1)) → me.1 ≡ y ∷ rest me.1 → HoldsLink p v j h r.link → 0 < marks_of (is_saw (h + 1)) j v
+      → Allows (OnTable shows rose p) slots id me (place_index p r.heading.label.place) (λ _. place_word true r.link r.places) (λ _. drop_told shows (step slots (place_index p r.heading.label.place) (place_word true r.link r.places) 0 none) me (place_word true r.link r.places))
   drops now j h y stage taken away label part top holds seen s t long here fits = let may : MayDrop p v = record { mine = has_one; now = now; sent = took_in (shows y.1); stage = stage; taken = taken; away = away; label_in = label; part = part } in
-      let u : View = with_right v (dropped_right r now (took_in (shows y.1))) in let x : ℕ = place_index p r.heading.place in let value : ℕ = place_word true r.link r.places in (
-        dropped_at (place_index p r.heading.place) (place_word true r.link r.places) r.heading (with_right v (dropped_right r now (took_in (shows y.1)))),
+      let u : View = with_right v (dropped_right r now (took_in (shows y.1))) in let x : ℕ = place_index p r.heading.label.place in let value : ℕ = place_word true r.link r.places in (
+        dropped_at (place_index p r.heading.label.place) (place_word true r.link r.places) r.heading (with_right v (dropped_right r now (took_in (shows y.1)))),
         keeps,
         tt,
-        drops_beside t id v here r one now stage taken label value u (omega arith) some_ mine (quiet (dropped_right r now (took_in (shows y.1)))) (steady (dropped_right r now (took_in (shows y.1))) refl refl) refl (omega (arith, t.rule.lawful.references.sized)) (λ noted same. place_settled t.settled r.heading.place value noted same (omega (arith, t.rule.lawful.references.sized)))
-            (place_rule t.rule id v here mine r.heading.place value (dropped_right r now (took_in (shows y.1))) s.homes (dropping_law shows p id v may s t.rule.lawful here (failed_life s t here j h holds seen))),
+        drops_beside t id v here r one now stage taken label value u (omega arith) some_ mine (quiet (dropped_right r now (took_in (shows y.1)))) (steady (dropped_right r now (took_in (shows y.1))) refl refl) refl (omega (arith, t.rule.lawful.references.sized)) (λ noted same. place_settled t.settled r.heading.label.place value noted same (omega (arith, t.rule.lawful.references.sized)))
+            (place_rule t.rule id v here mine r.heading.label.place value (dropped_right r now (took_in (shows y.1))) s.homes (dropping_law shows p id v may s t.rule.lawful here (failed_life s t here j h holds seen))),
         λ q m z e st at. let same = its q e in let sm : now ≡ m = writes_same now m (sym stage ∙ (ap (λ (u : Right). u.stage) same ∙ st)) in let sy : y ≡ z = first_is y z (rest me.1) (rest me.1) (sym top ∙ at) in
             λ i. (dropped_at x value (same i).heading (with_right v (dropped_right (same i) (sm i) (took_in (shows (sy i).1)))), me.1),
       )

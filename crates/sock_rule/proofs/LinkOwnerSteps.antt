@@ -35,10 +35,10 @@ module _ {S : Type 0} (shows : S → Home) (rose : S → ℕ) (q p : Plan) (slot
 
   pub places_on : (l k n word value : ℕ) → word ≡ place_index p l → value ≡ place_word false k n → MayStorePlace p l k n me.0 → Allows (OnTable shows rose q) slots id me word (λ _. value) (λ _. place_told (step slots word value 0 none) me value)
   places_on l k n word value e v m = let t = m.placing in
-      let same_word : place_index p t.right.heading.place ≡ word = ap (place_index p) t.place_is ∙ sym e in let same_value : place_word false t.right.link t.right.places ≡ value = (λ i. place_word false (t.link_is i) (t.places_are i)) ∙ sym v in
+      let same_word : place_index p t.right.heading.label.place ≡ word = ap (place_index p) t.place_is ∙ sym e in let same_value : place_word false t.right.link t.right.places ≡ value = (λ i. place_word false (t.link_is i) (t.places_are i)) ∙ sym v in
       subst (λ (y : ℕ). Allows (OnTable shows rose q) slots id me word (λ _. y) (λ _. place_told (step slots word y 0 none) me y)) same_value
       (subst (λ (x : ℕ). Allows (OnTable shows rose q) slots id me x (λ _. place_word false t.right.link t.right.places) (λ _. place_told (step slots x (place_word false t.right.link t.right.places) 0 none) me (place_word false t.right.link t.right.places))) same_word
-      (subst (λ (z : Plan). Allows (OnTable shows rose z) slots id me (place_index p t.right.heading.place) (λ _. place_word false t.right.link t.right.places) (λ _. place_told (step slots (place_index p t.right.heading.place) (place_word false t.right.link t.right.places) 0 none) me (place_word false t.right.link t.right.places))) (sym key)
+      (subst (λ (z : Plan). Allows (OnTable shows rose z) slots id me (place_index p t.right.heading.label.place) (λ _. place_word false t.right.link t.right.places) (λ _. place_told (step slots (place_index p t.right.heading.label.place) (place_word false t.right.link t.right.places) 0 none) me (place_word false t.right.link t.right.places))) (sym key)
       (places shows rose p slots id me mine some_ t.right t.one t.now t.stage t.taken m.clean t.away (subst (λ (x : ℕ). x < 8 * p.operations) (sym t.place_is) t.place_in) (subst (λ (x : ℕ). x < 65536) (sym t.link_is) m.link_fits))))
 
   pub frees_on : (now word value : ℕ) → word ≡ request_index p (ticket_request now) → value ≡ 2 * (ticket_generation now + 1) → ticket_generation now < 140737488355327 → MayFreeRequest now me → Allows (OnTable shows rose q) slots id me word (λ _. value) (λ _. free_request_told (step slots word value 0 none) me value)
@@ -53,10 +53,10 @@ module _ {S : Type 0} (shows : S → Home) (rose : S → ℕ) (q p : Plan) (slot
 
   pub drops_on : (l k n word value : ℕ) (y : ℕ × S) → word ≡ place_index p l → value ≡ place_word true k n → MayDropPlace p l k n (took_in (shows y.1)) me.0 → me.1 ≡ y ∷ rest me.1 → Allows (OnTable shows rose q) slots id me word (λ _. value) (λ _. drop_told shows (step slots word value 0 none) me value)
   drops_on l k n word value y e v m top = let t = m.placing in
-      let same_word : place_index p t.right.heading.place ≡ word = ap (place_index p) t.place_is ∙ sym e in let same_value : place_word true t.right.link t.right.places ≡ value = (λ i. place_word true (t.link_is i) (t.places_are i)) ∙ sym v in
+      let same_word : place_index p t.right.heading.label.place ≡ word = ap (place_index p) t.place_is ∙ sym e in let same_value : place_word true t.right.link t.right.places ≡ value = (λ i. place_word true (t.link_is i) (t.places_are i)) ∙ sym v in
       subst (λ (x : ℕ). Allows (OnTable shows rose q) slots id me word (λ _. x) (λ _. drop_told shows (step slots word x 0 none) me x)) same_value
       (subst (λ (x : ℕ). Allows (OnTable shows rose q) slots id me x (λ _. place_word true t.right.link t.right.places) (λ _. drop_told shows (step slots x (place_word true t.right.link t.right.places) 0 none) me (place_word true t.right.link t.right.places))) same_word
-      (subst (λ (z : Plan). Allows (OnTable shows rose z) slots id me (place_index p t.right.heading.place) (λ _. place_word true t.right.link t.right.places) (λ _. drop_told shows (step slots (place_index p t.right.heading.place) (place_word true t.right.link t.right.places) 0 none) me (place_word true t.right.link t.right.places))) (sym key)
+      (subst (λ (z : Plan). Allows (OnTable shows rose z) slots id me (place_index p t.right.heading.label.place) (λ _. place_word true t.right.link t.right.places) (λ _. drop_told shows (step slots (place_index p t.right.heading.label.place) (place_word true t.right.link t.right.places) 0 none) me (place_word true t.right.link t.right.places))) (sym key)
       (drops shows rose p slots id me mine some_ t.right t.one t.now m.slot m.life y t.stage t.taken t.away (subst (λ (x : ℕ). x < 8 * p.operations) (sym t.place_is) t.place_in) m.part top m.holds m.seen)))
 
   pub puts_on : (r : Right) (word k : ℕ) (y : S) (below : List (ℕ × S)) → me.0.rights ≡ r ∷ [] → r.link ≡ k → me.1 ≡ (p.requests + k, y) ∷ below → shows y ≡ home.Link k r.sent r.places false → r.at_home ≡ false → (0 < faults_of k me.0 → 0 < rose y) → Allows (OnTable shows rose q) slots id me word (λ n. n) (put_own_told (step slots word 0 0 none) me)

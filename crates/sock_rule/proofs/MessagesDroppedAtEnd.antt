@@ -34,7 +34,7 @@ module _ {S : Type 0} {shows : S → Home} {rose : S → ℕ} {p : Plan} (s : St
       omega (
         arith,
         names_weight (is_labelled l) (a.names id) a.by t.rule.lawful.log a.long (λ i k b e f. (a.apart id i id k b e f).1),
-        one_at_most (is_labelled l) t.rule.lawful.log (λ i j x y g h m n. apart i j x y g h (only_is l x.heading.place m ∙ sym (only_is l y.heading.place n))) (λ x. only_le l x.heading.place),
+        one_at_most (is_labelled l) t.rule.lawful.log (λ i j x y g h m n. apart i j x y g h (only_is l x.heading.label.place m ∙ sym (only_is l y.heading.label.place n))) (λ x. only_le l x.heading.label.place),
       )
 
   pub drop_told : (l : ℕ) → l < 8 * p.operations → IsDropTold p t.rule.lawful.log v s.words l
@@ -50,6 +50,6 @@ module _ {S : Type 0} {shows : S → Home} {rose : S → ℕ} {p : Plan} (s : St
       let lists : headed_in h v ≡ total (total (is_headed h)) (map (λ b. pick b a.by t.rule.lawful.log) (a.names id)) = ap (total (total (is_headed h))) (a.lists_are id v here) in
       let less = names_weight (is_headed h) (a.names id) a.by t.rule.lawful.log a.long (λ i k b f g. (a.apart id i id k b f g).1) in
       let w = total_some (is_headed h) t.rule.lawful.log (omega (arith, t.dropped_was id v here n h e, own, lists, less)) in
-      let both = both_some (only h.place w.1.heading.place) (pair h.attempt h.owner w.1.heading.attempt w.1.heading.owner) w.3 in
-      let rest_ = pair_is h.attempt h.owner w.1.heading.attempt w.1.heading.owner both.1 in
-      record { position = w.0; entry = w.1; there = w.2; place_is = only_is h.place w.1.heading.place both.0; attempt_is = rest_.0; owner_is = rest_.1 }
+      let both = both_some (only h.label.place w.1.heading.label.place) (pair h.label.attempt h.owner w.1.heading.label.attempt w.1.heading.owner) w.3 in
+      let rest_ = pair_is h.label.attempt h.owner w.1.heading.label.attempt w.1.heading.owner both.1 in
+      record { position = w.0; entry = w.1; there = w.2; place_is = only_is h.label.place w.1.heading.label.place both.0; attempt_is = rest_.0; owner_is = rest_.1 }

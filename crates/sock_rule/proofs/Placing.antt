@@ -97,21 +97,21 @@ noting_drop x word = record { place = x; word = word }
 
 -- ## A place index whose word isn't 0
 
-module _ {S : Type 0} {shows : S → Home} {rose : S → ℕ} {p : Plan} {s : State S View} (t : OnTable shows rose p s) (id : ℕ) (v : View) (here : get_elem? s.views id ≡ some v) (r : Right) (one : v.rights ≡ r ∷ []) (now : ℕ) (stage : r.stage ≡ Writes now) (taken : r.taken ≡ true) (low : r.heading.place < 8 * p.operations) where
+module _ {S : Type 0} {shows : S → Home} {rose : S → ℕ} {p : Plan} {s : State S View} (t : OnTable shows rose p s) (id : ℕ) (v : View) (here : get_elem? s.views id ≡ some v) (r : Right) (one : v.rights ≡ r ∷ []) (now : ℕ) (stage : r.stage ≡ Writes now) (taken : r.taken ≡ true) (low : r.heading.label.place < 8 * p.operations) where
   -- two accepted messages have the index of the message in hand, where its word tells a place
-  placed_twice : t.placed r.heading.place ≢ 0 → 2 ≤ total (labelled_in r.heading.place) s.views
-  placed_twice some_ = let o = t.rule.lawful in let l : ℕ = r.heading.place in
+  placed_twice : t.placed r.heading.label.place ≢ 0 → 2 ≤ total (labelled_in r.heading.label.place) s.views
+  placed_twice some_ = let o = t.rule.lawful in let l : ℕ = r.heading.label.place in
       let has_ = ap (λ (y : List Right). get_elem? y 0) one in let kl = right_in o id 0 v r here has_ in let alone = right_alone o id 0 v r here has_ in
       let e = at_some (on r.link o.log) (o.places r.link) (writes_room o.chains r.link r now kl alone stage) in
-      let its : e.0.heading.place ≡ r.heading.place = sym (ap (λ (h : Heading). h.place) (o.messages.in_hand r.link r e.0 kl alone taken e.1).0) in
-      let word = t.settled.places r.heading.place low in
-      let weighs : total (is_labelled r.heading.place) o.log ≤ total (labelled_in r.heading.place) s.views = log_weight (is_labelled r.heading.place) (λ (y : View). y.lists) s.views o.log o.authors in
-      elim (o.delivered.shown r.heading.place low) [
+      let its : e.0.heading.label.place ≡ r.heading.label.place = sym (ap (λ (h : Heading). h.label.place) (o.messages.in_hand r.link r e.0 kl alone taken e.1).0) in
+      let word = t.settled.places r.heading.label.place low in
+      let weighs : total (is_labelled r.heading.label.place) o.log ≤ total (labelled_in r.heading.label.place) s.views = log_weight (is_labelled r.heading.label.place) (λ (y : View). y.lists) s.views o.log o.authors in
+      elim (o.delivered.shown r.heading.label.place low) [
         | no_place z h ↦ absurd (some_ (sym word ∙ z))
-        | one_place k i d ks il g same value ↦ (let a = only-at r.heading.place d.heading.place same in let b = only-at r.heading.place e.0.heading.place its in dite (ℕ_discrete k r.link)
+        | one_place k i d ks il g same value ↦ (let a = only-at r.heading.label.place d.heading.label.place same in let b = only-at r.heading.label.place e.0.heading.label.place its in dite (ℕ_discrete k r.link)
             (λ q. let g' : get_elem? (on r.link o.log) i ≡ some d = subst (λ (y : ℕ). get_elem? (on y o.log) i ≡ some d) q g in let late : i < o.places r.link = subst (λ (y : ℕ). i < o.places y) q il in
-            omega (arith, two_terms (is_labelled r.heading.place) (on r.link o.log) i (o.places r.link) d e.0 g' e.1 (λ z. omega arith), on_weight (is_labelled r.heading.place) r.link o.log))
-            (λ n. omega (arith, term_le (is_labelled r.heading.place) (on k o.log) i d g, term_le (is_labelled r.heading.place) (on r.link o.log) (o.places r.link) e.0 e.1, on_both (is_labelled r.heading.place) k r.link o.log n)))
+            omega (arith, two_terms (is_labelled r.heading.label.place) (on r.link o.log) i (o.places r.link) d e.0 g' e.1 (λ z. omega arith), on_weight (is_labelled r.heading.label.place) r.link o.log))
+            (λ n. omega (arith, term_le (is_labelled r.heading.label.place) (on k o.log) i d g, term_le (is_labelled r.heading.label.place) (on r.link o.log) (o.places r.link) e.0 e.1, on_both (is_labelled r.heading.label.place) k r.link o.log n)))
       ]
 
   -- the message in hand was accepted
@@ -120,20 +120,20 @@ module _ {S : Type 0} {shows : S → Home} {rose : S → ℕ} {p : Plan} {s : St
       let has_ = ap (λ (y : List Right). get_elem? y 0) one in let kl = right_in o id 0 v r here has_ in let alone = right_alone o id 0 v r here has_ in
       let e = at_some (on r.link o.log) (o.places r.link) (writes_room o.chains r.link r now kl alone stage) in
       let its : r.heading ≡ e.0.heading = (o.messages.in_hand r.link r e.0 kl alone taken e.1).0 in
-      let place = only-at r.heading.place e.0.heading.place (sym (ap (λ (h : Heading). h.place) its)) in
-      let rest_ = pair-at r.heading.attempt r.heading.owner e.0.heading.attempt e.0.heading.owner (sym (ap (λ (h : Heading). h.attempt) its)) (sym (ap (λ (h : Heading). h.owner) its)) in
+      let place = only-at r.heading.label.place e.0.heading.label.place (sym (ap (λ (h : Heading). h.label.place) its)) in
+      let rest_ = pair-at r.heading.label.attempt r.heading.owner e.0.heading.label.attempt e.0.heading.owner (sym (ap (λ (h : Heading). h.label.attempt) its)) (sym (ap (λ (h : Heading). h.owner) its)) in
       let one_ : is_headed r.heading e.0 ≡ 1 = λ i. place i * rest_ i in
       omega (arith, one_, term_le (is_headed r.heading) (on r.link o.log) (o.places r.link) e.0 e.1, on_weight (is_headed r.heading) r.link o.log, log_weight (is_headed r.heading) (λ (y : View). y.lists) s.views o.log o.authors)
 
   -- so no message with this index was dropped before, where it is that of one message
-  no_drop : total (labelled_in r.heading.place) s.views ≤ 1 → (n : ℕ) → 0 < total (put_in (place_index p r.heading.place) n) s.views → ⊥
-  no_drop one_ n some_ = let a = (t.drops r.heading.place low).stays one_ n some_ in let z = placed_twice (λ e. (let b = a.0 in let c = a.1 in omega arith)) in omega arith
+  no_drop : total (labelled_in r.heading.label.place) s.views ≤ 1 → (n : ℕ) → 0 < total (put_in (place_index p r.heading.label.place) n) s.views → ⊥
+  no_drop one_ n some_ = let a = (t.drops r.heading.label.place low).stays one_ n some_ in let z = placed_twice (λ e. (let b = a.0 in let c = a.1 in omega arith)) in omega arith
 
   -- P1 of a message that its link took whole
-  pub places_beside : (value : ℕ) (w : View) → value < DROPPED → 0 < v.share → SameShare p v w → Calm v w → w.lists ≡ v.lists → Settled p t.stored (put t.placed r.heading.place value) (set s.words (place_index p r.heading.place) value) s.homes
-      → Rule shows p record { words = set s.words (place_index p r.heading.place) value; homes = s.homes; views = set s.views id w }
-      → OnTable shows rose p record { words = set s.words (place_index p r.heading.place) value; homes = s.homes; views = set s.views id w }
-  places_beside value w small some_ same c lists kept rule = beside_placed t id v w here some_ (set s.words (place_index p r.heading.place) value) s.homes (put t.placed r.heading.place value) drops (λ k kl. calm id v w here (set s.words (place_index p r.heading.place) value) s.homes k (t.faults k kl) refl (c.faults k) (c.outs k)) refl same kept rule
+  pub places_beside : (value : ℕ) (w : View) → value < DROPPED → 0 < v.share → SameShare p v w → Calm v w → w.lists ≡ v.lists → Settled p t.stored (put t.placed r.heading.label.place value) (set s.words (place_index p r.heading.label.place) value) s.homes
+      → Rule shows p record { words = set s.words (place_index p r.heading.label.place) value; homes = s.homes; views = set s.views id w }
+      → OnTable shows rose p record { words = set s.words (place_index p r.heading.label.place) value; homes = s.homes; views = set s.views id w }
+  places_beside value w small some_ same c lists kept rule = beside_placed t id v w here some_ (set s.words (place_index p r.heading.label.place) value) s.homes (put t.placed r.heading.label.place value) drops (λ k kl. calm id v w here (set s.words (place_index p r.heading.label.place) value) s.homes k (t.faults k kl) refl (c.faults k) (c.outs k)) refl same kept rule
     where
       puts : (l n : ℕ) → total (put_in (place_index p l) n) s.views ≡ total (put_in (place_index p l) n) (set s.views id w)
       puts l n = omega (arith, total-set (put_in (place_index p l) n) s.views id v w here, same.stores (place_index p l) n)
@@ -141,33 +141,33 @@ module _ {S : Type 0} {shows : S → Home} {rose : S → ℕ} {p : Plan} {s : St
       labels : (l : ℕ) → total (labelled_in l) s.views ≡ total (labelled_in l) (set s.views id w)
       labels l = omega (arith, total-set (labelled_in l) s.views id v w here, ap (total (total (is_labelled l))) lists)
 
-      drops : (l : ℕ) → l < 8 * p.operations → IsDropKept p (set s.views id w) l (put t.placed r.heading.place value l)
-      drops l ll = dite (ℕ_discrete l r.heading.place)
-          (λ e. subst (IsDropKept p (set s.views id w) l) (sym (put-at t.placed r.heading.place l value e))
+      drops : (l : ℕ) → l < 8 * p.operations → IsDropKept p (set s.views id w) l (put t.placed r.heading.label.place value l)
+      drops l ll = dite (ℕ_discrete l r.heading.label.place)
+          (λ e. subst (IsDropKept p (set s.views id w) l) (sym (put-at t.placed r.heading.label.place l value e))
           record { told = λ high. absurd (omega arith); stays = λ one_ n there. absurd (no_drop (omega (arith, labels l, ap (λ (y : ℕ). total (labelled_in y) s.views) e)) n (omega (arith, puts l n, ap (λ (y : ℕ). total (put_in (place_index p y) n) s.views) e))) })
-          (λ ne. subst (IsDropKept p (set s.views id w) l) (sym (put-else t.placed r.heading.place l value ne)) (drop_stays p s.views (set s.views id w) l (t.placed l) (puts l) (omega (arith, labels l)) (t.drops l ll)))
+          (λ ne. subst (IsDropKept p (set s.views id w) l) (sym (put-else t.placed r.heading.label.place l value ne)) (drop_stays p s.views (set s.views id w) l (t.placed l) (puts l) (omega (arith, labels l)) (t.drops l ll)))
 
   -- P1 of one that is dropped, which the seat notes
-  pub drops_beside : (value : ℕ) (u : View) → DROPPED ≤ value → 0 < v.share → u.plan ≡ p → SameShare p v u → Calm v u → u.lists ≡ v.lists → place_index p r.heading.place < length s.words
-      → ((noted : List StoredWord) → ((y : ℕ) → y < 6 * p.slots + p.names + p.operations → latest y noted ≡ latest y t.stored) → Settled p noted (put t.placed r.heading.place value) (set s.words (place_index p r.heading.place) value) s.homes)
-      → Rule shows p record { words = set s.words (place_index p r.heading.place) value; homes = s.homes; views = set s.views id u }
-      → OnTable shows rose p record { words = set s.words (place_index p r.heading.place) value; homes = s.homes; views = set s.views id (dropped_at (place_index p r.heading.place) value r.heading u) }
-  drops_beside value u high some_ mine same c lists long kept rule = let w : View = dropped_at (place_index p r.heading.place) value r.heading u in let wrote_it : View = wrote (place_index p r.heading.place) value u in record {
-    rule = subst (λ vs. Rule shows p record { words = set s.words (place_index p r.heading.place) value; homes = s.homes; views = vs }) (set_twice s.views id wrote_it w)
-        (aside_rule {s = record { words = set s.words (place_index p r.heading.place) value; homes = s.homes; views = set s.views id wrote_it }} id wrote_it (set_at s.views id wrote_it (at_length s.views id v here))
-        (subst (λ vs. Rule shows p record { words = set s.words (place_index p r.heading.place) value; homes = s.homes; views = vs }) (set_twice s.views id u wrote_it)
-        (noted_rule shows p record { words = set s.words (place_index p r.heading.place) value; homes = s.homes; views = set s.views id u } id u (set_at s.views id u (at_length s.views id v here)) (place_index p r.heading.place) value (omega arith) rule mine))
+  pub drops_beside : (value : ℕ) (u : View) → DROPPED ≤ value → 0 < v.share → u.plan ≡ p → SameShare p v u → Calm v u → u.lists ≡ v.lists → place_index p r.heading.label.place < length s.words
+      → ((noted : List StoredWord) → ((y : ℕ) → y < 6 * p.slots + p.names + p.operations → latest y noted ≡ latest y t.stored) → Settled p noted (put t.placed r.heading.label.place value) (set s.words (place_index p r.heading.label.place) value) s.homes)
+      → Rule shows p record { words = set s.words (place_index p r.heading.label.place) value; homes = s.homes; views = set s.views id u }
+      → OnTable shows rose p record { words = set s.words (place_index p r.heading.label.place) value; homes = s.homes; views = set s.views id (dropped_at (place_index p r.heading.label.place) value r.heading u) }
+  drops_beside value u high some_ mine same c lists long kept rule = let w : View = dropped_at (place_index p r.heading.label.place) value r.heading u in let wrote_it : View = wrote (place_index p r.heading.label.place) value u in record {
+    rule = subst (λ vs. Rule shows p record { words = set s.words (place_index p r.heading.label.place) value; homes = s.homes; views = vs }) (set_twice s.views id wrote_it w)
+        (aside_rule {s = record { words = set s.words (place_index p r.heading.label.place) value; homes = s.homes; views = set s.views id wrote_it }} id wrote_it (set_at s.views id wrote_it (at_length s.views id v here))
+        (subst (λ vs. Rule shows p record { words = set s.words (place_index p r.heading.label.place) value; homes = s.homes; views = vs }) (set_twice s.views id u wrote_it)
+        (noted_rule shows p record { words = set s.words (place_index p r.heading.label.place) value; homes = s.homes; views = set s.views id u } id u (set_at s.views id u (at_length s.views id v here)) (place_index p r.heading.label.place) value (omega arith) rule mine))
         mine u.share u.finds u.histories (r.heading ∷ u.drops));
     housed = t.housed;
     shares = (let a = t.shares in omega (arith, same.share, total-set share_of s.views id v w here));
     listed = λ j z g. ⊎_elim (λ y. subst (λ (q : View). lists_of q ≤ q.share) y.1 (omega (arith, t.listed id v here, same.lists, same.share))) (λ y. t.listed j z y.1) (at_set s.views id j w z g);
     idle = λ j z g none_. ⊎_elim (λ y. absurd (omega (arith, ap (λ (q : View). q.share) y.1, same.share))) (λ y. t.idle j z y.1 none_) (at_set s.views id j w z g);
-    stored = noting_drop (place_index p r.heading.place) value ∷ t.stored;
+    stored = noting_drop (place_index p r.heading.label.place) value ∷ t.stored;
     put = λ y z. omega (arith, t.put y z, puts y z);
-    placed = put t.placed r.heading.place value;
+    placed = put t.placed r.heading.label.place value;
     drops = drops;
-    faults = λ k kl. calm id v w here (set s.words (place_index p r.heading.place) value) s.homes k (t.faults k kl) refl (c.faults k) (c.outs k);
-    settled = kept (noting_drop (place_index p r.heading.place) value ∷ t.stored) (λ y low_. ap (λ b. cond b value (latest y t.stored)) (ne_eqb (place_index p r.heading.place) y (λ e. omega arith)));
+    faults = λ k kl. calm id v w here (set s.words (place_index p r.heading.label.place) value) s.homes k (t.faults k kl) refl (c.faults k) (c.outs k);
+    settled = kept (noting_drop (place_index p r.heading.label.place) value ∷ t.stored) (λ y low_. ap (λ b. cond b value (latest y t.stored)) (ne_eqb (place_index p r.heading.label.place) y (λ e. omega arith)));
     met = λ j z g n h e. further h (⊎_elim (λ y. t.met id v here n h (subst (λ (l : List (List StoredWord)). get_elem? l n ≡ some h) (ap (λ (q : List StoredWord × (List (List StoredWord) × List Heading)). q.1.0) same.finds) (subst (λ (q : View). get_elem? q.histories n ≡ some h) (sym y.1) e)))
         (λ y. t.met j z y.1 n h e) (at_set s.views id j w z g));
     labelled = λ j z g. ⊎_elim (λ y. subst (Labelled p) y.1 (same.labels (t.labelled id v here))) (λ y. t.labelled j z y.1) (at_set s.views id j w z g);
@@ -176,30 +176,30 @@ module _ {S : Type 0} {shows : S → Home} {rose : S → ℕ} {p : Plan} {s : St
     dropped_was = λ j z g n f e. ⊎_elim (λ y. own n f (subst (λ (q : View). get_elem? q.drops n ≡ some f) (sym y.1) e)) (λ y. omega (arith, t.dropped_was j z y.1 n f e, headed f)) (at_set s.views id j w z g);
   }
     where
-      puts : (y z : ℕ) → is_put y z (noting_drop (place_index p r.heading.place) value) + total (put_in y z) s.views ≡ total (put_in y z) (set s.views id (dropped_at (place_index p r.heading.place) value r.heading u))
-      puts y z = omega (arith, total-set (put_in y z) s.views id v (dropped_at (place_index p r.heading.place) value r.heading u) here, wrote_more (place_index p r.heading.place) value y z u, same.stores y z)
+      puts : (y z : ℕ) → is_put y z (noting_drop (place_index p r.heading.label.place) value) + total (put_in y z) s.views ≡ total (put_in y z) (set s.views id (dropped_at (place_index p r.heading.label.place) value r.heading u))
+      puts y z = omega (arith, total-set (put_in y z) s.views id v (dropped_at (place_index p r.heading.label.place) value r.heading u) here, wrote_more (place_index p r.heading.label.place) value y z u, same.stores y z)
 
-      further : (h : List StoredWord) → Follows t.stored h → Follows (noting_drop (place_index p r.heading.place) value ∷ t.stored) h
-      further h g = (noting_drop (place_index p r.heading.place) value ∷ g.0, ap (λ (l : List StoredWord). noting_drop (place_index p r.heading.place) value ∷ l) g.1)
+      further : (h : List StoredWord) → Follows t.stored h → Follows (noting_drop (place_index p r.heading.label.place) value ∷ t.stored) h
+      further h g = (noting_drop (place_index p r.heading.label.place) value ∷ g.0, ap (λ (l : List StoredWord). noting_drop (place_index p r.heading.label.place) value ∷ l) g.1)
 
-      headed : (f : Heading) → total (headed_in f) s.views ≡ total (headed_in f) (set s.views id (dropped_at (place_index p r.heading.place) value r.heading u))
-      headed f = omega (arith, total-set (headed_in f) s.views id v (dropped_at (place_index p r.heading.place) value r.heading u) here, ap (total (total (is_headed f))) lists)
+      headed : (f : Heading) → total (headed_in f) s.views ≡ total (headed_in f) (set s.views id (dropped_at (place_index p r.heading.label.place) value r.heading u))
+      headed f = omega (arith, total-set (headed_in f) s.views id v (dropped_at (place_index p r.heading.label.place) value r.heading u) here, ap (total (total (is_headed f))) lists)
 
-      own : (n : ℕ) (f : Heading) → get_elem? (r.heading ∷ u.drops) n ≡ some f → 0 < total (headed_in f) (set s.views id (dropped_at (place_index p r.heading.place) value r.heading u))
-      own zero f e = subst (λ (q : Heading). 0 < total (headed_in q) (set s.views id (dropped_at (place_index p r.heading.place) value r.heading u))) (some-injective r.heading f e) (omega (arith, headed_there, headed r.heading))
+      own : (n : ℕ) (f : Heading) → get_elem? (r.heading ∷ u.drops) n ≡ some f → 0 < total (headed_in f) (set s.views id (dropped_at (place_index p r.heading.label.place) value r.heading u))
+      own zero f e = subst (λ (q : Heading). 0 < total (headed_in q) (set s.views id (dropped_at (place_index p r.heading.label.place) value r.heading u))) (some-injective r.heading f e) (omega (arith, headed_there, headed r.heading))
       own (suc n) f e = omega (arith, t.dropped_was id v here n f (subst (λ (l : List Heading). get_elem? l n ≡ some f) (ap (λ (q : List StoredWord × (List (List StoredWord) × List Heading)). q.1.1) same.finds) e), headed f)
 
-      labels : (l : ℕ) → total (labelled_in l) s.views ≡ total (labelled_in l) (set s.views id (dropped_at (place_index p r.heading.place) value r.heading u))
-      labels l = omega (arith, total-set (labelled_in l) s.views id v (dropped_at (place_index p r.heading.place) value r.heading u) here, ap (total (total (is_labelled l))) lists)
+      labels : (l : ℕ) → total (labelled_in l) s.views ≡ total (labelled_in l) (set s.views id (dropped_at (place_index p r.heading.label.place) value r.heading u))
+      labels l = omega (arith, total-set (labelled_in l) s.views id v (dropped_at (place_index p r.heading.label.place) value r.heading u) here, ap (total (total (is_labelled l))) lists)
 
-      drops : (l : ℕ) → l < 8 * p.operations → IsDropKept p (set s.views id (dropped_at (place_index p r.heading.place) value r.heading u)) l (put t.placed r.heading.place value l)
-      drops l ll = dite (ℕ_discrete l r.heading.place)
-          (λ e. subst (IsDropKept p (set s.views id (dropped_at (place_index p r.heading.place) value r.heading u)) l) (sym (put-at t.placed r.heading.place l value e)) record {
-            told = λ h. omega (arith, puts (place_index p l) value, pair-at (place_index p l) value (place_index p r.heading.place) value (ap (place_index p) (sym e)) refl);
+      drops : (l : ℕ) → l < 8 * p.operations → IsDropKept p (set s.views id (dropped_at (place_index p r.heading.label.place) value r.heading u)) l (put t.placed r.heading.label.place value l)
+      drops l ll = dite (ℕ_discrete l r.heading.label.place)
+          (λ e. subst (IsDropKept p (set s.views id (dropped_at (place_index p r.heading.label.place) value r.heading u)) l) (sym (put-at t.placed r.heading.label.place l value e)) record {
+            told = λ h. omega (arith, puts (place_index p l) value, pair-at (place_index p l) value (place_index p r.heading.label.place) value (ap (place_index p) (sym e)) refl);
             stays = λ one_ n there. dite (ℕ_discrete value n) (λ y. (y, (let z = high in omega arith)))
                 (λ ne. absurd (dite (ℕ_discrete (total (put_in (place_index p l) n) s.views) 0)
-                (λ none_. ne (pair_is (place_index p l) n (place_index p r.heading.place) value (omega (arith, puts (place_index p l) n))).1)
+                (λ none_. ne (pair_is (place_index p l) n (place_index p r.heading.label.place) value (omega (arith, puts (place_index p l) n))).1)
                 (λ some_. no_drop (omega (arith, labels l, ap (λ (y : ℕ). total (labelled_in y) s.views) e)) n (omega (arith, ap (λ (y : ℕ). total (put_in (place_index p y) n) s.views) e)))));
           })
-          (λ ne. subst (IsDropKept p (set s.views id (dropped_at (place_index p r.heading.place) value r.heading u)) l) (sym (put-else t.placed r.heading.place l value ne))
-          (drop_stays p s.views (set s.views id (dropped_at (place_index p r.heading.place) value r.heading u)) l (t.placed l) (λ n. omega (arith, puts (place_index p l) n, pair_only (place_index p l) n (place_index p r.heading.place) value, only-else (place_index p l) (place_index p r.heading.place) (λ e. ne (omega arith)))) (omega (arith, labels l)) (t.drops l ll)))
+          (λ ne. subst (IsDropKept p (set s.views id (dropped_at (place_index p r.heading.label.place) value r.heading u)) l) (sym (put-else t.placed r.heading.label.place l value ne))
+          (drop_stays p s.views (set s.views id (dropped_at (place_index p r.heading.label.place) value r.heading u)) l (t.placed l) (λ n. omega (arith, puts (place_index p l) n, pair_only (place_index p l) n (place_index p r.heading.label.place) value, only-else (place_index p l) (place_index p r.heading.label.place) (λ e. ne (omega arith)))) (omega (arith, labels l)) (t.drops l ll)))

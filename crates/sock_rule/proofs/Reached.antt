@@ -185,22 +185,22 @@ module _ {S : Type 0} {shows : S → Home} {p : Plan} {s : State S View} (o : La
   mapped f l i a e = Rattle.atomic_table.proofs.Lists.at_map f l i a e
 
   -- the label of an accepted message
-  pub label_of : ((id : ℕ) (v : View) → get_elem? s.views id ≡ some v → Labelled p v) → (i : ℕ) (e : Entry) → get_elem? o.log i ≡ some e → e.heading.place < 8 * p.operations
+  pub label_of : ((id : ℕ) (v : View) → get_elem? s.views id ≡ some v → Labelled p v) → (i : ℕ) (e : Entry) → get_elem? o.log i ≡ some e → e.heading.label.place < 8 * p.operations
   label_of labelled i e g = let a = o.authors in let low = at_length o.log i e g in
       let b = at_some a.by i (omega (arith, a.long)) in let n = a.named i b.0 b.1 in let u = at_some s.views n.0 n.2 in
       let q = pick_in b.0 a.by o.log i e b.1 g in
       let its : get_elem? u.0.lists n.1 ≡ some (pick b.0 a.by o.log) = ap (λ ls. get_elem? ls n.1) (a.lists_are n.0 u.0 u.1) ∙ mapped (λ c. pick c a.by o.log) (a.names n.0) n.1 b.0 n.3 in
       (labelled n.0 u.0 u.1).entries n.1 (pick b.0 a.by o.log) its q.0 e q.1
 
-  pub entry_label : ((id : ℕ) (v : View) → get_elem? s.views id ≡ some v → Labelled p v) → (k i : ℕ) (e : Entry) → get_elem? (on k o.log) i ≡ some e → e.heading.place < 8 * p.operations
+  pub entry_label : ((id : ℕ) (v : View) → get_elem? s.views id ≡ some v → Labelled p v) → (k i : ℕ) (e : Entry) → get_elem? (on k o.log) i ≡ some e → e.heading.label.place < 8 * p.operations
   entry_label labelled k i e g = let l = filter_out (λ (x : Entry). eqb x.link k) o.log i e g in label_of labelled l.0 e l.1
 
   -- the label of a message in hand
-  pub hand_label : ((id : ℕ) (v : View) → get_elem? s.views id ≡ some v → Labelled p v) → (id : ℕ) (v : View) → get_elem? s.views id ≡ some v → (r : Right) (now : ℕ) → v.rights ≡ r ∷ [] → r.stage ≡ Writes now → r.taken ≡ true → r.heading.place < 8 * p.operations
+  pub hand_label : ((id : ℕ) (v : View) → get_elem? s.views id ≡ some v → Labelled p v) → (id : ℕ) (v : View) → get_elem? s.views id ≡ some v → (r : Right) (now : ℕ) → v.rights ≡ r ∷ [] → r.stage ≡ Writes now → r.taken ≡ true → r.heading.label.place < 8 * p.operations
   hand_label labelled id v at r now one stage taken = let has_ = ap (λ (l : List Right). get_elem? l 0) one in let kl = right_in o id 0 v r at has_ in let alone = right_alone o id 0 v r at has_ in
       let e = at_some (on r.link o.log) (o.places r.link) (writes_room o.chains r.link r now kl alone stage) in
       let same = (o.messages.in_hand r.link r e.0 kl alone taken e.1).0 in let low = entry_label labelled r.link (o.places r.link) e.0 e.1 in
-      subst (λ (h : Rattle.sock_model.specs.declared.chain.Heading.Heading). h.place < 8 * p.operations) (sym same) low
+      subst (λ (h : Rattle.sock_model.specs.declared.chain.Heading.Heading). h.label.place < 8 * p.operations) (sym same) low
 
 -- the position of the next message fits a place word
 pub next_few : {S : Type 0} {shows : S → Home} {p : Plan} {s : State S View} (rule : Rule shows p s) (id : ℕ) (v : View) → get_elem? s.views id ≡ some v → (r : Right) (now : ℕ) → v.rights ≡ r ∷ [] → r.stage ≡ Writes now → r.places < 4294967295

@@ -77,7 +77,7 @@ opens {S} shows rose p ws xs new = let hs : List (Option S) = map some xs in let
         (λ above. subst (λ (y : ℕ). get_or ws y 0 ≡ 0) (omega arith) (new.unused.opens (x - (6 * p.slots + p.names)) (omega arith)))
         (cases_lt x (6 * p.slots + p.names))
 
-    no_entries : (n : ℕ) (l : List Entry) → get_elem? ([] ∷ []) n ≡ some l → (i : ℕ) (e : Entry) → get_elem? l i ≡ some e → e.heading.place < 8 * p.operations
+    no_entries : (n : ℕ) (l : List Entry) → get_elem? ([] ∷ []) n ≡ some l → (i : ℕ) (e : Entry) → get_elem? l i ≡ some e → e.heading.label.place < 8 * p.operations
     no_entries zero l e i x f = absurd (some-ne-none x (sym (ap (λ (y : List Entry). get_elem? y i) (some-injective [] l e) ∙ f)))
     no_entries (suc n) l e i x f = absurd (some-ne-none l (sym e))
 
@@ -132,7 +132,7 @@ module _ {S : Type 0} (shows : S → Home) (rose : S → ℕ) (p : Plan) (id : �
       (subst (λ vs. Rule shows p record { words = s.words; homes = s.homes; views = vs ++ newcomer p [] 0 ∷ [] }) (set_twice s.views id v' (giving v)) two) in
       adds_seat s t here (giving v) (given v) (omega (arith, may.another)) refl refl record { faults = λ k. refl; outs = λ k. refl } (λ k. (refl, refl)) (λ l. omega arith) (omega (arith, may.more)) (omega (arith, may.another)) (omega arith) (λ e. absurd (omega arith)) refl (λ x. record { entries = x.entries; claimed = x.claimed }) record { entries = λ n l e i x f. no_entries n l e i x f; claimed = λ i c e. absurd (some-ne-none c (sym e)) } r
     where
-      no_entries : (n : ℕ) (l : List Entry) → get_elem? ([] ∷ []) n ≡ some l → (i : ℕ) (e : Entry) → get_elem? l i ≡ some e → e.heading.place < 8 * p.operations
+      no_entries : (n : ℕ) (l : List Entry) → get_elem? ([] ∷ []) n ≡ some l → (i : ℕ) (e : Entry) → get_elem? l i ≡ some e → e.heading.label.place < 8 * p.operations
       no_entries zero l e i x f = absurd (some-ne-none x (sym (ap (λ (y : List Entry). get_elem? y i) (some-injective [] l e) ∙ f)))
       no_entries (suc n) l e i x f = absurd (some-ne-none l (sym e))
 

@@ -21,7 +21,7 @@ use Rattle.sock_words.specs.PackedWords.{ticket_request, vref_version, IDLE, UNC
 
 -- the heading of a claim that has no message yet
 abbrev pub blank : Heading
-blank = record { client = 0; operation = 0; attempt = 0; place = 0; owner = 0; parts = [] }
+blank = record { label = record { client = 0; operation = 0; attempt = 0; place = 0 }; owner = 0; parts = [] }
 
 -- a ticket of one of the table's requests
 pub record IsTicket (p : Plan) (n : ℕ) : Type 0 where
@@ -47,7 +47,7 @@ pub record TookLetter {S : Type 0} (shows : S → Home) (m n : Me S View) (r : R
   pub heading : Heading
   pub bytes : List ℕ
   pub shown : shows value ≡ Message heading bytes
-  pub label_in : heading.place < 8 * m.0.plan.operations
+  pub label_in : heading.label.place < 8 * m.0.plan.operations
   -- its position fits a place word
   pub few : r.places < 4294967295
   pub view : n.0 ≡ with_right m.0 (taken_right r heading bytes)

@@ -59,7 +59,7 @@ pub record Closing (p : Plan) (v : View) (words : List ℕ) : Type 0 where
 
 -- the places of the labels differ
 abbrev pub PlacesDiffer : List Entry → Type 0
-PlacesDiffer log = (i j : ℕ) (a b : Entry) → get_elem? log i ≡ some a → get_elem? log j ≡ some b → a.heading.place ≡ b.heading.place → i ≡ j
+PlacesDiffer log = (i j : ℕ) (a b : Entry) → get_elem? log i ≡ some a → get_elem? log j ≡ some b → a.heading.label.place ≡ b.heading.label.place → i ≡ j
 
 -- a life that was given link k was failed
 pub record LifeFailed (p : Plan) (v : View) (k : ℕ) : Type 0 where
@@ -85,7 +85,7 @@ pub record PlaceOf (p : Plan) (log : List Entry) (words : List ℕ) (l : ℕ) : 
   pub dropped : Bool
   pub inside : link < p.links
   pub there : get_elem? (on link log) position ≡ some entry
-  pub own : entry.heading.place ≡ l
+  pub own : entry.heading.label.place ≡ l
   pub word : slice_index words (place_index p l) ≡ place_word dropped link position
 
 -- of the place index l: a seat noted that it dropped the message there, with the word that stands there, where that has the dropped bit; and where the places of all labels differ, what a seat noted there is the word
@@ -98,8 +98,8 @@ pub record IsLogged (log : List Entry) (h : Heading) : Type 0 where
   pub position : ℕ
   pub entry : Entry
   pub there : get_elem? log position ≡ some entry
-  pub place_is : entry.heading.place ≡ h.place
-  pub attempt_is : entry.heading.attempt ≡ h.attempt
+  pub place_is : entry.heading.label.place ≡ h.label.place
+  pub attempt_is : entry.heading.label.attempt ≡ h.label.attempt
   pub owner_is : entry.heading.owner ≡ h.owner
 
 -- the messages that all seats had accepted stand in one order, and each list that the last view keeps is what one of the seats had accepted, in its own order

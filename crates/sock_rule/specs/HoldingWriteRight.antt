@@ -57,7 +57,7 @@ pub record TakesNextPlace (p : Plan) (l k places : ℕ) (v : View) : Type 0 wher
   pub stage : right.stage ≡ Writes now
   pub taken : right.taken ≡ true
   pub away : right.at_home ≡ false
-  pub place_is : right.heading.place ≡ l
+  pub place_is : right.heading.label.place ≡ l
   pub place_in : l < 8 * p.operations
   pub link_is : right.link ≡ k
   pub places_are : right.places ≡ places

@@ -50,14 +50,14 @@ Follows all before = (more : List StoredWord) × (all ≡ more ++ before)
 
 -- how many of the messages that a view's lists have are of the label with this place index
 abbrev pub is_labelled : ℕ → Entry → ℕ
-is_labelled l e = only l e.heading.place
+is_labelled l e = only l e.heading.label.place
 
 abbrev pub labelled_in : ℕ → View → ℕ
 labelled_in l v = total (total (is_labelled l)) v.lists
 
 -- 1 where what stands with the accepted message is of this place index, attempt and owner
 abbrev pub is_headed : Heading → Entry → ℕ
-is_headed h e = only h.place e.heading.place * pair h.attempt h.owner e.heading.attempt e.heading.owner
+is_headed h e = only h.label.place e.heading.label.place * pair h.label.attempt h.owner e.heading.label.attempt e.heading.owner
 
 abbrev pub headed_in : Heading → View → ℕ
 headed_in h v = total (total (is_headed h)) v.lists
@@ -83,8 +83,8 @@ pub record Settled {S : Type 0} (p : Plan) (stored : List StoredWord) (placed : 
 
 -- the label of each message that a seat had accepted, or that its claim has, is of a place word of the table
 pub record LabelledIn (p : Plan) (lists : List (List Entry)) (claims : List Claim) : Type 0 where
-  pub entries : (n : ℕ) (l : List Entry) → get_elem? lists n ≡ some l → (i : ℕ) (e : Entry) → get_elem? l i ≡ some e → e.heading.place < 8 * p.operations
-  pub claimed : (i : ℕ) (c : Claim) → get_elem? claims i ≡ some c → c.filled ≡ true → c.heading.place < 8 * p.operations
+  pub entries : (n : ℕ) (l : List Entry) → get_elem? lists n ≡ some l → (i : ℕ) (e : Entry) → get_elem? l i ≡ some e → e.heading.label.place < 8 * p.operations
+  pub claimed : (i : ℕ) (c : Claim) → get_elem? claims i ≡ some c → c.filled ≡ true → c.heading.label.place < 8 * p.operations
 
 abbrev pub Labelled : Plan → View → Type 0
 Labelled p v = LabelledIn p v.lists v.claims

@@ -13,7 +13,7 @@ use Rattle.sock_rule.specs.declared.homes.SockHome.TheVariants.{Empty, Link, Mes
 use Rattle.sock_model.specs.declared.chain.Heading.{Heading}
 
 abbrev pub heading_of : Letter → Heading
-heading_of m = record { client = m.label.client; operation = m.label.operation; attempt = m.label.attempt; place = m.label.place; owner = m.owner; parts = (parcel_of m.bytes).parts }
+heading_of m = record { label = m.label; owner = m.owner; parts = (parcel_of m.bytes).parts }
 
 abbrev pub shows : {O : Type 0} {g : Ghosts O} → SockHome O g → Home
 shows Empty = home.Empty

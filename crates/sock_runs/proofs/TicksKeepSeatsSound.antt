@@ -91,7 +91,7 @@ labels_stay : (p : Plan) (v : View) (call : TableStep) → May p v call → (han
 labels_stay p v (TakeLink k) may hand held hs labels i heading bytes at = ⊎_elim (λ a. absurd (some-ne-none (Message heading bytes) (sym a.1))) (λ a. labels i heading bytes a.1) (at_set hs (p.requests + k) i none (some (Message heading bytes)) at)
 labels_stay p v (PutLink k) may hand held hs labels i heading bytes at = ⊎_elim (λ a. absurd (first_link hand v.hands (held_in_hand hand v.rights v.hands may.2 held) heading bytes a.1)) (λ a. labels i heading bytes a.1) (at_set hs (p.requests + k) i (first_of hand) (some (Message heading bytes)) at)
 labels_stay p v (PutMessage q l cs) may hand held hs labels i heading bytes at = ⊎_elim
-    (λ a. let e : Message l cs ≡ Message heading bytes = some-injective (Message l cs) (Message heading bytes) a.1 in let q = same_message l cs heading bytes e in (subst (λ (z : Heading). z.place < 8 * p.operations) q.0 may.2, subst (λ (z : List ℕ). z ≢ []) q.1 may.3))
+    (λ a. let e : Message l cs ≡ Message heading bytes = some-injective (Message l cs) (Message heading bytes) a.1 in let q = same_message l cs heading bytes e in (subst (λ (z : Heading). z.label.place < 8 * p.operations) q.0 may.2, subst (λ (z : List ℕ). z ≢ []) q.1 may.3))
     (λ a. labels i heading bytes a.1) (at_set hs q i (some (Message l cs)) (some (Message heading bytes)) at)
 labels_stay p v _ may hand held hs labels i heading bytes at = labels i heading bytes at
 

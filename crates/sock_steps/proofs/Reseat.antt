@@ -110,7 +110,7 @@ joining_law {S} shows p s o id other v w here ne there bare idle = let both : Vi
     (λ q. hand_carry shows p s o (set (set s.views id (joined v w)) other spent) same rt cl lo waits hands u u k (λ a x. omega arith) (o.homes.hand_of j k u q.1 h)) (at_set s.views id j (joined v w) u y.1)) (at_set (set s.views id (joined v w)) other j spent u g))
 
 -- what a table leaves of a link that nobody writes
-pub closing_law : {S : Type 0} (shows : S → Home) (p : Plan) (s : State S View) (o : Lawful shows p s) → Distinct (λ (e : Entry). e.heading.place) o.log → ((i : ℕ) (e : Entry) → get_elem? o.log i ≡ some e → e.heading.place < 8 * p.operations)
+pub closing_law : {S : Type 0} (shows : S → Home) (p : Plan) (s : State S View) (o : Lawful shows p s) → Distinct (λ (e : Entry). e.heading.label.place) o.log → ((i : ℕ) (e : Entry) → get_elem? o.log i ≡ some e → e.heading.label.place < 8 * p.operations)
     → (k : ℕ) → k < p.links → (tokens s.views).rights k ≡ [] → (took : List ℕ) (next : ℕ) → link_home shows p s.homes k ≡ some (took, next) → IsFifo (λ l. get_or s.words (place_index p l) 0) k (on k o.log) (o.kept k) took
 closing_law shows p s o apart small k kl gone took next home = settles o.chains o.delivered apart small k took next kl gone home
 

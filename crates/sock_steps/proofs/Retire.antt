@@ -56,12 +56,12 @@ passing_last_law shows p id v x s o here now stage ne last =
 
 -- P1, of the last entry noted
 pub placing_last_law : {S : Type 0} (shows : S → Home) (p : Plan) (id : ℕ) (v : View) (x : MayPlace p v) (s : State S View) (o : Lawful shows p s) → get_elem? s.views id ≡ some v → x.now ≡ x.mine.right.last → ticket_generation x.now ≡ 140737488355327
-    → Lawful shows p record { words = set s.words (place_index p x.mine.right.heading.place) (place_word false x.mine.right.link x.mine.right.places); homes = s.homes; views = set s.views id (with_right v (freed_right (placed_right x.mine.right x.now))) }
+    → Lawful shows p record { words = set s.words (place_index p x.mine.right.heading.label.place) (place_word false x.mine.right.link x.mine.right.places); homes = s.homes; views = set s.views id (with_right v (freed_right (placed_right x.mine.right x.now))) }
 placing_last_law shows p id v x s o here at_last last =
-    goes_on shows p id x.now v (placed_right x.mine.right x.now) s here (to_end x.now at_last) last (set s.words (place_index p x.mine.right.heading.place) (place_word false x.mine.right.link x.mine.right.places)) (placing_law shows p id v x s o here)
+    goes_on shows p id x.now v (placed_right x.mine.right x.now) s here (to_end x.now at_last) last (set s.words (place_index p x.mine.right.heading.label.place) (place_word false x.mine.right.link x.mine.right.places)) (placing_law shows p id v x s o here)
 
 -- P1 with the dropped bit, of the last entry noted
 pub dropping_last_law : {S : Type 0} (shows : S → Home) (p : Plan) (id : ℕ) (v : View) (x : MayDrop p v) (s : State S View) (o : Lawful shows p s) → get_elem? s.views id ≡ some v → Failed p s x.mine.right.link → x.now ≡ x.mine.right.last → ticket_generation x.now ≡ 140737488355327
-    → Lawful shows p record { words = set s.words (place_index p x.mine.right.heading.place) (place_word true x.mine.right.link x.mine.right.places); homes = s.homes; views = set s.views id (with_right v (freed_right (dropped_right x.mine.right x.now x.sent))) }
+    → Lawful shows p record { words = set s.words (place_index p x.mine.right.heading.label.place) (place_word true x.mine.right.link x.mine.right.places); homes = s.homes; views = set s.views id (with_right v (freed_right (dropped_right x.mine.right x.now x.sent))) }
 dropping_last_law shows p id v x s o here dead at_last last =
-    goes_on shows p id x.now v (dropped_right x.mine.right x.now x.sent) s here (to_end x.now at_last) last (set s.words (place_index p x.mine.right.heading.place) (place_word true x.mine.right.link x.mine.right.places)) (dropping_law shows p id v x s o here dead)
+    goes_on shows p id x.now v (dropped_right x.mine.right x.now x.sent) s here (to_end x.now at_last) last (set s.words (place_index p x.mine.right.heading.label.place) (place_word true x.mine.right.link x.mine.right.places)) (dropping_law shows p id v x s o here dead)

@@ -151,14 +151,14 @@ pub record Leaves {S : Type 0} {shows : S → Home} {p : Plan} {s : State S View
   pub here : get_elem? (on r.link o.log) (o.places r.link) ≡ some entry
   pub in_hand : (r.heading ≡ entry.heading) × (r.bytes ≡ entry.bytes)
   pub counted : r.places ≡ o.places r.link
-  pub label_in : entry.heading.place < 8 * p.operations
-  pub at_label : place_index p entry.heading.place ≡ place_index p r.heading.place
+  pub label_in : entry.heading.label.place < 8 * p.operations
+  pub at_label : place_index p entry.heading.label.place ≡ place_index p r.heading.label.place
 
 leaves : {S : Type 0} {shows : S → Home} {p : Plan} {s : State S View} (o : Lawful shows p s) (id i now : ℕ) (v : View) (r : Right) → get_elem? s.views id ≡ some v → get_elem? v.rights i ≡ some r
-    → r.stage ≡ Writes now → r.taken ≡ true → r.heading.place < 8 * p.operations → Leaves o r
+    → r.stage ≡ Writes now → r.taken ≡ true → r.heading.label.place < 8 * p.operations → Leaves o r
 leaves {p = p} o id i now v r at has stage taken label_in = let kl = right_in o id i v r at has in let alone = right_alone o id i v r at has in
     let e = at_some (on r.link o.log) (o.places r.link) (writes_room o.chains r.link r now kl alone stage) in
-    let hand = o.messages.in_hand r.link r e.0 kl alone taken e.1 in let label : r.heading.place ≡ e.0.heading.place = ap (λ (y : Heading). y.place) hand.0 in record {
+    let hand = o.messages.in_hand r.link r e.0 kl alone taken e.1 in let label : r.heading.label.place ≡ e.0.heading.label.place = ap (λ (y : Heading). y.label.place) hand.0 in record {
       inside = kl;
       alone = alone;
       entry = e.0;
@@ -171,7 +171,7 @@ leaves {p = p} o id i now v r at has stage taken label_in = let kl = right_in o 
 
 -- P1, of a message that was taken whole
 pub placing_law : {S : Type 0} (shows : S → Home) (p : Plan) (id : ℕ) (v : View) (x : MayPlace p v) (s : State S View) (o : Lawful shows p s) → get_elem? s.views id ≡ some v
-    → Lawful shows p record { words = set s.words (place_index p x.mine.right.heading.place) (place_word false x.mine.right.link x.mine.right.places); homes = s.homes; views = set s.views id (with_right v (placed_right x.mine.right x.now)) }
+    → Lawful shows p record { words = set s.words (place_index p x.mine.right.heading.label.place) (place_word false x.mine.right.link x.mine.right.places); homes = s.homes; views = set s.views id (with_right v (placed_right x.mine.right x.now)) }
 placing_law shows p id v x s o at =
     let r : Right = x.mine.right in
     let r' : Right = placed_right x.mine.right x.now in
@@ -184,20 +184,20 @@ placing_law shows p id v x s o at =
     let lo = loose_after o id x.mine.place v x.mine.right at x.mine.has (placed_right x.mine.right x.now) refl in
     let away : link_home shows p s.homes x.mine.right.link ≡ none = o.homes.busy x.mine.right.link x.mine.right kl has ∙ ap (λ b. cond b (some (x.mine.right.sent, x.mine.right.places)) none) x.away in
     subst (λ i. Lawful shows p record { words = set s.words i (place_word false x.mine.right.link x.mine.right.places); homes = s.homes; views = set s.views id (with_right v (placed_right x.mine.right x.now)) }) e.at_label
-    (right_base o id x.mine.place v x.mine.right at x.mine.has (placed_right x.mine.right x.now) refl (set s.words (place_index p e.entry.heading.place) value) s.homes o.freed (bump o.places x.mine.right.link) (bump o.kept x.mine.right.link) (λ k ne. (bump-else o.places x.mine.right.link k ne, bump-else o.kept x.mine.right.link k ne))
-    (place_beside p o.slot s.words value o.references.sized (slots_in o) e.entry.heading.place lab) (λ k. refl)
+    (right_base o id x.mine.place v x.mine.right at x.mine.has (placed_right x.mine.right x.now) refl (set s.words (place_index p e.entry.heading.label.place) value) s.homes o.freed (bump o.places x.mine.right.link) (bump o.kept x.mine.right.link) (λ k ne. (bump-else o.places x.mine.right.link k ne, bump-else o.kept x.mine.right.link k ne))
+    (place_beside p o.slot s.words value o.references.sized (slots_in o) e.entry.heading.label.place lab) (λ k. refl)
     (places_one o.chains x.mine.right.link x.mine.right kl has {places' = bump o.places x.mine.right.link} (placed_right x.mine.right x.now) x.now x.stage refl refl refl refl (bump_changed p.links o.places x.mine.right.link)
-    (place_head p o.slot s.words value o.references.sized (slots_in o) e.entry.heading.place lab) (place_next p o.slot s.words value o.references.sized (slots_in o) e.entry.heading.place lab) (place_request p o.slot s.words value o.references.sized (slots_in o) e.entry.heading.place lab) rt cl lo)
+    (place_head p o.slot s.words value o.references.sized (slots_in o) e.entry.heading.label.place lab) (place_next p o.slot s.words value o.references.sized (slots_in o) e.entry.heading.label.place lab) (place_request p o.slot s.words value o.references.sized (slots_in o) e.entry.heading.label.place lab) rt cl lo)
     (lets_go o.chains o.messages t' x.mine.right.link x.mine.right (placed_right x.mine.right x.now) x.now kl has x.stage rt cl (bump o.places x.mine.right.link) refl (bump_changed p.links o.places x.mine.right.link))
-    (places_whole o.delivered t' (λ q. get_or (set s.words (place_index p e.entry.heading.place) value) (place_index p q) 0) (bump o.places x.mine.right.link) (bump o.kept x.mine.right.link) (Failed p s) x.mine.right.link x.mine.right (placed_right x.mine.right x.now) e.entry kl has rt e.here lab
+    (places_whole o.delivered t' (λ q. get_or (set s.words (place_index p e.entry.heading.label.place) value) (place_index p q) 0) (bump o.places x.mine.right.link) (bump o.kept x.mine.right.link) (Failed p s) x.mine.right.link x.mine.right (placed_right x.mine.right x.now) e.entry kl has rt e.here lab
     (bump_changed p.links o.places x.mine.right.link) refl x.is_clean refl (ap (λ l. x.mine.right.sent ++ l) hand.1) (bump_changed p.links o.kept x.mine.right.link)
-    (subst (λ y. Changed (8 * p.operations) (λ q. get_or s.words (place_index p q) 0) (λ q. get_or (set s.words (place_index p e.entry.heading.place) value) (place_index p q) 0) e.entry.heading.place y) val (place_changed p o.slot s.words value o.references.sized (slots_in o) e.entry.heading.place lab))
+    (subst (λ y. Changed (8 * p.operations) (λ q. get_or s.words (place_index p q) 0) (λ q. get_or (set s.words (place_index p e.entry.heading.label.place) value) (place_index p q) 0) e.entry.heading.label.place y) val (place_changed p o.slot s.words value o.references.sized (slots_in o) e.entry.heading.label.place lab))
     (λ j jl f. f) away)
     (away ∙ sym (ap (λ b. cond b (some (x.mine.right.sent ++ x.mine.right.bytes, suc x.mine.right.places)) none) x.away)))
 
 -- P1 with the dropped bit, where the life was failed
 pub dropping_law : {S : Type 0} (shows : S → Home) (p : Plan) (id : ℕ) (v : View) (x : MayDrop p v) (s : State S View) (o : Lawful shows p s) → get_elem? s.views id ≡ some v → Failed p s x.mine.right.link
-    → Lawful shows p record { words = set s.words (place_index p x.mine.right.heading.place) (place_word true x.mine.right.link x.mine.right.places); homes = s.homes; views = set s.views id (with_right v (dropped_right x.mine.right x.now x.sent)) }
+    → Lawful shows p record { words = set s.words (place_index p x.mine.right.heading.label.place) (place_word true x.mine.right.link x.mine.right.places); homes = s.homes; views = set s.views id (with_right v (dropped_right x.mine.right x.now x.sent)) }
 dropping_law shows p id v x s o at dead =
     let r : Right = x.mine.right in
     let r' : Right = dropped_right x.mine.right x.now x.sent in
@@ -210,13 +210,13 @@ dropping_law shows p id v x s o at dead =
     let lo = loose_after o id x.mine.place v x.mine.right at x.mine.has (dropped_right x.mine.right x.now x.sent) refl in
     let away : link_home shows p s.homes x.mine.right.link ≡ none = o.homes.busy x.mine.right.link x.mine.right kl has ∙ ap (λ b. cond b (some (x.mine.right.sent, x.mine.right.places)) none) x.away in
     subst (λ i. Lawful shows p record { words = set s.words i (place_word true x.mine.right.link x.mine.right.places); homes = s.homes; views = set s.views id (with_right v (dropped_right x.mine.right x.now x.sent)) }) e.at_label
-    (right_base o id x.mine.place v x.mine.right at x.mine.has (dropped_right x.mine.right x.now x.sent) refl (set s.words (place_index p e.entry.heading.place) value) s.homes o.freed (bump o.places x.mine.right.link) o.kept (λ k ne. (bump-else o.places x.mine.right.link k ne, refl))
-    (place_beside p o.slot s.words value o.references.sized (slots_in o) e.entry.heading.place lab) (λ k. refl)
+    (right_base o id x.mine.place v x.mine.right at x.mine.has (dropped_right x.mine.right x.now x.sent) refl (set s.words (place_index p e.entry.heading.label.place) value) s.homes o.freed (bump o.places x.mine.right.link) o.kept (λ k ne. (bump-else o.places x.mine.right.link k ne, refl))
+    (place_beside p o.slot s.words value o.references.sized (slots_in o) e.entry.heading.label.place lab) (λ k. refl)
     (places_one o.chains x.mine.right.link x.mine.right kl has {places' = bump o.places x.mine.right.link} (dropped_right x.mine.right x.now x.sent) x.now x.stage refl refl refl refl (bump_changed p.links o.places x.mine.right.link)
-    (place_head p o.slot s.words value o.references.sized (slots_in o) e.entry.heading.place lab) (place_next p o.slot s.words value o.references.sized (slots_in o) e.entry.heading.place lab) (place_request p o.slot s.words value o.references.sized (slots_in o) e.entry.heading.place lab) rt cl lo)
+    (place_head p o.slot s.words value o.references.sized (slots_in o) e.entry.heading.label.place lab) (place_next p o.slot s.words value o.references.sized (slots_in o) e.entry.heading.label.place lab) (place_request p o.slot s.words value o.references.sized (slots_in o) e.entry.heading.label.place lab) rt cl lo)
     (lets_go o.chains o.messages t' x.mine.right.link x.mine.right (dropped_right x.mine.right x.now x.sent) x.now kl has x.stage rt cl (bump o.places x.mine.right.link) refl (bump_changed p.links o.places x.mine.right.link))
-    (drops o.delivered t' (λ q. get_or (set s.words (place_index p e.entry.heading.place) value) (place_index p q) 0) (bump o.places x.mine.right.link) o.kept (Failed p s) x.mine.right.link x.mine.right (dropped_right x.mine.right x.now x.sent) e.entry kl has rt e.here lab
+    (drops o.delivered t' (λ q. get_or (set s.words (place_index p e.entry.heading.label.place) value) (place_index p q) 0) (bump o.places x.mine.right.link) o.kept (Failed p s) x.mine.right.link x.mine.right (dropped_right x.mine.right x.now x.sent) e.entry kl has rt e.here lab
     (bump_changed p.links o.places x.mine.right.link) refl refl (⊎_elim (λ y. inl y) (λ y. inr (y.0, y.1, y.2, y.3, sym hand.1 ∙ y.4, y.5)) x.part) (λ j jl. refl)
-    (subst (λ y. Changed (8 * p.operations) (λ q. get_or s.words (place_index p q) 0) (λ q. get_or (set s.words (place_index p e.entry.heading.place) value) (place_index p q) 0) e.entry.heading.place y) val (place_changed p o.slot s.words value o.references.sized (slots_in o) e.entry.heading.place lab))
+    (subst (λ y. Changed (8 * p.operations) (λ q. get_or s.words (place_index p q) 0) (λ q. get_or (set s.words (place_index p e.entry.heading.label.place) value) (place_index p q) 0) e.entry.heading.label.place y) val (place_changed p o.slot s.words value o.references.sized (slots_in o) e.entry.heading.label.place lab))
     (λ j jl f. f) dead away)
     (away ∙ sym (ap (λ b. cond b (some (x.sent, suc x.mine.right.places)) none) x.away)))

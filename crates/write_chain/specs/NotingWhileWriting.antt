@@ -59,7 +59,7 @@ pub record WroteDrop {O : Type 0} (state : O → OutState) (p : Plan) (id : ℕ)
   pub stores : w.stores ≡ noted record { place = place_index p msg.label.place; word = place_word true link position } v.stores
   pub heading : Heading
   pub drops : w.drops ≡ heading ∷ v.drops
-  pub place_is : heading.place ≡ msg.label.place
-  pub attempt_is : heading.attempt ≡ msg.label.attempt
+  pub place_is : heading.label.place ≡ msg.label.place
+  pub attempt_is : heading.label.attempt ≡ msg.label.attempt
   pub owner_is : heading.owner ≡ msg.owner
   pub wrote : Wrote state id v (record w { stores = v.stores; drops = v.drops })

@@ -102,8 +102,8 @@ pub record HasInHand {O : Type 0} {g : Ghosts O} (p : Plan) (ways : List (List �
   pub stage_is : right_is.stage ≡ stage.Writes hand.now.0
   pub ticket : IsTicket p hand.now.0
   pub taken : right_is.taken ≡ true
-  pub place_is : right_is.heading.place ≡ hand.label.place
-  pub attempt_is : right_is.heading.attempt ≡ hand.label.attempt
+  pub place_is : right_is.heading.label.place ≡ hand.label.place
+  pub attempt_is : right_is.heading.label.attempt ≡ hand.label.attempt
   pub owner_is : right_is.heading.owner ≡ hand.owner
   pub place_in : hand.label.place < 8 * p.operations
   pub begun : List ℕ
