@@ -1,4 +1,3 @@
-ghost use Rattle.std.specs.Prelude.{◌≡◌};
 ghost use Rattle.brpc_eng.specs.Status.{number_of};
 ghost use Rattle.brpc_eng.specs.ProgramAnswers.{Generated, sink_over};
 

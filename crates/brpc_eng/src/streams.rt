@@ -1,5 +1,4 @@
-ghost use Rattle.std.specs.Prelude.{◌≡◌, ℕ, ◌<◌, ◌≤◌, ◌++◌, List, length, vec_len, IfOk, IsErrOf, OnErr, OnOk};
-ghost use Rattle.std.specs.Io.KnownBytes.{Consumes};
+ghost use Rattle.std.specs.Prelude.{◌≡◌, ℕ, ◌<◌, List, IsErrOf};
 ghost use Rattle.sock_io.specs.FaultCauses.{Rose};
 ghost use Rattle.brpc_eng.specs.WholeSourceRead.{ReadWhole};
 

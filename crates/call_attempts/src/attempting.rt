@@ -1,5 +1,5 @@
 // An attempt of a call.
-ghost use Rattle.std.specs.Prelude.{◌≡◌, ◌+◌, ◌*◌, ◌<◌, ◌≤◌, ℕ};
+ghost use Rattle.std.specs.Prelude.{◌+◌, ◌*◌, ◌<◌, ◌≤◌, ℕ};
 ghost use Rattle.sock_words.specs.PackedWords.{socket_id_slot};
 ghost use Rattle.sock_model.specs.MarkWeights.{is_ref};
 ghost use Rattle.sock_model.specs.SlotRows.{marks_of};

@@ -1,5 +1,5 @@
 // A call begins.
-ghost use Rattle.std.specs.Prelude.{◌≡◌, ◌+◌, ◌<◌, ℕ, IfOk, IfErr};
+ghost use Rattle.std.specs.Prelude.{◌+◌, ◌<◌, ℕ, IfOk, IfErr};
 ghost use Rattle.sock_message.specs.Asked.{name_of};
 ghost use Rattle.write_chain.specs.SendingIntoChain.{HasRoom};
 ghost use Rattle.call_errors.specs.rpc_client.specs.SeatBetweenOperations.{MayAct};

@@ -1,5 +1,5 @@
 // A client with calls, from its seats and passes to its outcomes.
-ghost use Rattle.std.specs.Prelude.{◌≡◌, ◌≤◌, ℕ, [], false, All, IfOk, length};
+ghost use Rattle.std.specs.Prelude.{◌≡◌, ◌≤◌, [], false, All, IfOk, length};
 ghost use Rattle.std.specs.Result.{is_err};
 ghost use Rattle.atomic_table.specs.Seated.{TableId};
 ghost use Rattle.sock_words.specs.declared.plain.Plan.{Plan};

@@ -1,5 +1,5 @@
 // A client's run with calls.
-ghost use Rattle.std.specs.Prelude.{◌≡◌, ◌+◌, ◌<◌, ◌≤◌, ◌++◌, ◌∷◌, ℕ, [], true, false, Option, IfOk, IfErr, All, length, vec_capacity};
+ghost use Rattle.std.specs.Prelude.{◌≡◌, ◌+◌, ◌<◌, ◌≤◌, ◌++◌, ◌∷◌, [], true, false, Option, IfOk, IfErr, All, length, vec_capacity};
 ghost use Rattle.sock_words.specs.declared.outcome.Outcome.{Outcome as AnOutcome};
 ghost use Rattle.sock_table.specs.LinkPasses.{IsPass};
 ghost use Rattle.corr_id.specs.IdTableSeat.{Stays};

@@ -5,7 +5,7 @@ ghost use Rattle.corr_core.specs.declared.marks.Hand.TheVariants.{Empty};
 ghost use Rattle.corr_id.specs.IdTableSeat.{Sits, Stays};
 ghost use Rattle.corr_id.specs.SeatBehindIdCalls.{Locks};
 ghost use Rattle.call_errors.specs.ClientBooks.{stand_of, books_of, Tells, LetGo};
-ghost use Rattle.call_errors.specs.CallEndsWithCode.{EndedWith, failed};
+ghost use Rattle.call_errors.specs.CallEndsWithCode.{EndedWith};
 
 use crate::seats::CallSeat;
 use corr_id::{IdLock, IdTable};

@@ -1,5 +1,4 @@
 // The retries that wait are given up for want of memory.
-ghost use Rattle.std.specs.Prelude.{◌≡◌};
 ghost use Rattle.call_errors.specs.ClientBooks.{stand_of, HasNoLock, KeepsSeat};
 ghost use Rattle.call_errors.specs.Starving.{GivenUp, StarvedBy};
 

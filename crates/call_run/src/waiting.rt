@@ -1,5 +1,5 @@
 // A client waits for the sockets that were opened before it began.
-ghost use Rattle.std.specs.Prelude.{◌≡◌, ◌<◌, All, Some};
+ghost use Rattle.std.specs.Prelude.{◌<◌, All, Some};
 ghost use Rattle.sock_words.specs.declared.socket_id.SocketId.{SocketId};
 ghost use Rattle.sock_table.specs.NamesStoredAndFound.{Found};
 ghost use Rattle.call_client.specs.rpc_client.specs.SeatBetweenOperations.{Idle, AtRest};

@@ -1,4 +1,4 @@
-ghost use Rattle.std.specs.Prelude.{◌≡◌, ◌+◌, ◌-◌, ◌^◌, ◌<◌, ◌≤◌, ℕ, List, pos, ◌∷◌, ◌++◌, length, IfOk};
+ghost use Rattle.std.specs.Prelude.{◌≡◌, ◌+◌, ◌-◌, ◌^◌, ◌<◌, ℕ, List, pos, ◌∷◌, ◌++◌, length, IfOk};
 ghost use Rattle.sock_message.specs.brpc_model.specs.Frame.{IsFrame, Begins, judged};
 ghost use Rattle.sock_message.specs.brpc_model.specs.Spelling.{meta_bytes};
 ghost use Rattle.rpc_meta.specs.MetaMeaning.{meaning};

@@ -1,5 +1,5 @@
 // Threads that send through one socket, on a table of their own.
-ghost use Rattle.std.specs.Prelude.{◌≡◌, ◌*◌, ◌<◌, ◌≤◌, IfSome};
+ghost use Rattle.std.specs.Prelude.{◌≡◌, ◌<◌, IfSome};
 ghost use Rattle.std.specs.Thread.{IsSync};
 ghost use Rattle.sock_model.specs.Rule.{MOST_ACCEPTED};
 ghost use Rattle.sock_open.specs.NewTableContents.{AreMade, AreNewSeats, PassesFrom};

@@ -1,10 +1,10 @@
-ghost use Rattle.std.specs.Prelude.{◌≡◌, ◌+◌, ◌*◌, ◌<◌, ◌≤◌, ◌∷◌, ◌++◌, [], ℕ, List, Some, None, ◌⊎◌, IfSome, IfNone, IfOk, OnOk, Option, option_map, filter, not, ◌==◌, true, false, length, slice_set, vec_len, vec_capacity};
+ghost use Rattle.std.specs.Prelude.{◌≡◌, ◌+◌, ◌*◌, ◌<◌, ◌≤◌, ◌∷◌, ◌++◌, [], ℕ, List, Some, None, ◌⊎◌, IfSome, IfNone, IfOk, OnOk, Option, option_map, filter, not, ◌==◌, true, false, slice_set, vec_len, vec_capacity};
 ghost use Rattle.sock_words.specs.declared.outcome.Outcome.TheVariants.{NotHeld};
 ghost use Rattle.seat_programs.specs.LoopHeads.{Retry};
 ghost use Rattle.seat_programs.specs.Programs.{Program, Say};
 ghost use Rattle.seat_programs.specs.CallAndRetryPrograms.{retry};
-ghost use Rattle.seat_programs.specs.ClientProgram.{HeldLife, held_under, without_name, give_back, operation, client_from, ending_of};
-ghost use Rattle.seat_programs.specs.Cores.{resolved, still_waiting, said, next_step};
+ghost use Rattle.seat_programs.specs.ClientProgram.{HeldLife, held_under, without_name, give_back, operation, ending_of};
+ghost use Rattle.seat_programs.specs.Cores.{said, next_step};
 ghost use Rattle.id_points.specs.IdsAndAttemptNumbers.{id_of, number_of};
 ghost use Rattle.seat_states.specs.SeatPoints.{Context, client_on, point_program, next_program, after_program, IsCalling, TakesCall};
 ghost use Rattle.client_seats.specs.ClientSeatState.{lives, retries, bytes_of, asked_or_nothing, message_in, call_in, seat_data, around, client_of, seat_program};

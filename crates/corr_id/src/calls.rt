@@ -1,5 +1,5 @@
 // Ids that are made, locked and ended.
-ghost use Rattle.std.specs.Prelude.{◌≡◌, ◌+◌, ◌*◌, ◌%◌, ◌<◌, ◌≤◌, ◌⊎◌, ℕ, [], ◌∷◌, true, false, IfOk, IfErr};
+ghost use Rattle.std.specs.Prelude.{◌≡◌, ◌+◌, ◌%◌, ◌<◌, ◌≤◌, ◌⊎◌, ℕ, [], ◌∷◌, true, false, IfOk, IfErr};
 ghost use Rattle.corr_core.specs.Word.{parts};
 ghost use Rattle.corr_core.specs.Law.{LAST, is_made, is_advance, is_tried};
 ghost use Rattle.corr_core.specs.declared.marks.Hand.TheVariants.{Empty, Full};
@@ -8,7 +8,7 @@ ghost use Rattle.corr_core.specs.declared.marks.Note.TheVariants.{Made, Ended};
 ghost use Rattle.id_rule.specs.LawfulIdTable.{notes_of};
 ghost use Rattle.id_rule.specs.IdPlays.{LockFits};
 ghost use Rattle.corr_id.specs.IdTableSeat.{Sits, Stays};
-ghost use Rattle.corr_id.specs.SeatBehindIdCalls.{is_saw, is_at, Became, one, Claims, Locks, GotLock, Quiet, Did, MadeAs, OutOf, LacksId, Found};
+ghost use Rattle.corr_id.specs.SeatBehindIdCalls.{is_saw, is_at, Became, one, Claims, Locks, GotLock, Quiet, MadeAs, OutOf, LacksId, Found};
 ghost use Rattle.sock_words.specs.PackedWords.{call_id, id_slot, id_first};
 ghost use Rattle.sock_words.specs.Totals.{total};
 

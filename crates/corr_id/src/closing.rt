@@ -2,7 +2,6 @@
 ghost use Rattle.std.specs.Prelude.{◌≡◌, ◌≤◌, ◌<◌, ◌*◌, ℕ, [], map, length, IfOk, IfErr, slice_index, slice_index_or, false};
 ghost use Rattle.std.specs.List.{flat_map};
 ghost use Rattle.std.specs.Mem.Slots.{slots_items, slots_len, slots_filled, IsFull};
-ghost use Rattle.corr_core.specs.IdTableLayout.{all_words};
 ghost use Rattle.corr_id.specs.ClosedIdTable.{AllOf, AreIdWords};
 ghost use Rattle.corr_id.specs.ClosingIdLists.{Closing};
 ghost use Rattle.corr_id.specs.IdTableSeat.{IsFree};

@@ -1,5 +1,5 @@
 // A call for each kind of step.
-ghost use Rattle.std.specs.Prelude.{◌≡◌, ◌≢◌, ◌+◌, ◌*◌, ◌%◌, ◌<◌, ◌≤◌, ℕ, Bool, [], ◌∷◌, IsTrue, MatchOption};
+ghost use Rattle.std.specs.Prelude.{◌≡◌, ◌≢◌, ◌+◌, ◌%◌, ◌<◌, ◌≤◌, ℕ, Bool, [], ◌∷◌, IsTrue};
 ghost use Rattle.sock_words.specs.PackedWords.{call_id};
 ghost use Rattle.corr_core.specs.Word.{parts, made_word, locked_word, posted_word, unlocked_word, free_word};
 ghost use Rattle.corr_core.specs.Law.{LAST, is_made, is_advance};
@@ -8,7 +8,7 @@ ghost use Rattle.corr_core.specs.declared.marks.Token.TheVariants.{Claimed, Lock
 ghost use Rattle.corr_core.specs.declared.marks.Note.TheVariants.{Tried, Made, Ended, Locker, Queued, Saw};
 ghost use Rattle.id_rule.specs.LawfulIdTable.{tokens_in, notes_in, with_note};
 ghost use Rattle.id_rule.specs.IdPlays.{LockFits, Longer};
-ghost use Rattle.corr_id.specs.Ruled.{FreshBehind, IsBehind, IsFresh};
+ghost use Rattle.corr_id.specs.Ruled.{IsBehind, IsFresh};
 ghost use Rattle.corr_id.specs.IdTableSeat.{Sits, Stays};
 ghost use Rattle.corr_id.specs.SeatBehindIdCalls.{is_saw, is_at, Became, one, MayMove, Moved, Claims, Locks, FoundUpTo, ReachedUpTo, tokens_left, advance_note};
 ghost use Rattle.sock_words.specs.PackedWords.{bit};

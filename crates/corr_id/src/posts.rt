@@ -1,5 +1,5 @@
 // An error for an id.
-ghost use Rattle.std.specs.Prelude.{◌≡◌, ◌≢◌, ◌<◌, ◌≤◌, ◌⊎◌, ◌↔◌, ℕ, MatchOption, IsTrue, false};
+ghost use Rattle.std.specs.Prelude.{◌≡◌, ◌<◌, ◌≤◌, MatchOption, IsTrue, false};
 ghost use Rattle.corr_core.specs.Word.{parts, posted_word};
 ghost use Rattle.corr_id.specs.IdTableSeat.{Sits, Stays};
 ghost use Rattle.corr_id.specs.SeatBehindIdCalls.{error_in};

@@ -1,4 +1,4 @@
-ghost use Rattle.std.specs.Prelude.{◌≡◌, ◌≤◌, ◌++◌, ℕ, [], IfOk, OnErr, OnOk, MatchBool, length, take, Some};
+ghost use Rattle.std.specs.Prelude.{◌≡◌, ◌++◌, [], IfOk, MatchBool, length, take, Some};
 ghost use Rattle.brpc_model.specs.FramesText.{frame_line};
 ghost use Rattle.frame_print.specs.FrameLineView.{frame_viewed};
 ghost use Rattle.frame_print.specs.TextWrittenToSink.{Writes, Gathers};

@@ -1,4 +1,4 @@
-ghost use Rattle.std.specs.Prelude.{◌≡◌, decimal};
+ghost use Rattle.std.specs.Prelude.{decimal};
 ghost use Rattle.std.specs.Fmt.{signed_decimal};
 ghost use Rattle.frame_print.specs.TextWrittenToSink.{Writes};
 ghost use Rattle.frame_print.specs.LinePieceTexts.{piece_text, pieces_text};

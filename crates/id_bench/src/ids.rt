@@ -1,4 +1,4 @@
-ghost use Rattle.std.specs.Prelude.{◌≡◌, ◌≤◌, IfSome};
+ghost use Rattle.std.specs.Prelude.{IfSome};
 ghost use Rattle.corr_id.specs.IdTableOpening.{AreNew};
 ghost use Rattle.corr_id.specs.IdTableSeat.{Sits, IsFree};
 

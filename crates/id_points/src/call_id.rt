@@ -1,4 +1,4 @@
-ghost use Rattle.std.specs.Prelude.{◌≡◌, ◌<◌, ◌≤◌, ◌+◌, ◌*◌, ◌/◌, ◌%◌, ℕ};
+ghost use Rattle.std.specs.Prelude.{◌≡◌, ◌<◌, ◌≤◌, ◌/◌, ◌%◌};
 ghost use Rattle.id_points.specs.IdsAndAttemptNumbers.{id_of, number_of};
 ghost use Rattle.sock_words.specs.PackedWords.{call_id, id_slot, id_first};
 

@@ -1,4 +1,4 @@
-ghost use Rattle.std.specs.Prelude.{◌≡◌, ◌≤◌, ◌<◌, ◌+◌, ◌*◌, ◌/◌, ◌%◌, ◌==◌, ℕ};
+ghost use Rattle.std.specs.Prelude.{◌≡◌, ◌≤◌, ◌+◌, ◌*◌, ◌/◌, ◌%◌, ◌==◌};
 ghost use Rattle.id_points.specs.IdsAndAttemptNumbers.{number_of};
 ghost use Rattle.corr_core.specs.Word.{error_of, code_of, attempt_of};
 

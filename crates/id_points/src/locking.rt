@@ -1,4 +1,4 @@
-ghost use Rattle.std.specs.Prelude.{◌≡◌, ◌==◌, ◌+◌, ℕ, None, Some, MatchOption, if◌then◌else◌, not, ◌&&◌};
+ghost use Rattle.std.specs.Prelude.{◌≡◌, ◌==◌, ℕ, None, Some, if◌then◌else◌};
 ghost use Rattle.corr_core.specs.Word.{parts, posted_word};
 ghost use Rattle.seat_programs.specs.LoopHeads.{Locking, Has};
 ghost use Rattle.seat_programs.specs.Programs.{Program};

@@ -1,4 +1,4 @@
-ghost use Rattle.std.specs.Prelude.{◌≡◌, ◌≤◌, ◌==◌, ℕ, if◌then◌else◌};
+ghost use Rattle.std.specs.Prelude.{◌≡◌, ◌==◌, ℕ, if◌then◌else◌};
 ghost use Rattle.corr_core.specs.Word.{parts, posted_word};
 ghost use Rattle.seat_programs.specs.LoopHeads.{Posting, HasLocked, WasQueued};
 ghost use Rattle.seat_programs.specs.Programs.{Program};

@@ -1,6 +1,5 @@
 // A link beside the clients: one thread serves its other end, and one reads it.
 ghost use Rattle.std.specs.Prelude.{◌≡◌, ◌<◌, ℕ, [], false, All, length, slice_index_or};
-ghost use Rattle.std.specs.Thread.{IsSync};
 ghost use Rattle.link_crew.specs.LinkThreadsBesideClients.{MayRead, HasRead, IsReady, HasWorked};
 ghost use Rattle.link_crew.specs.ServingOtherEnd.{ServedToEnd};
 

@@ -1,4 +1,4 @@
-ghost use Rattle.std.specs.Prelude.{◌≡◌, ℕ, List, ◌+◌, ◌≤◌, ◌<◌, ◌^◌, length, take, drop, flat_map, IfOk};
+ghost use Rattle.std.specs.Prelude.{◌≡◌, List, ◌+◌, ◌≤◌, ◌<◌, ◌^◌, length, take, drop, flat_map, IfOk};
 ghost use Rattle.brpc_model.specs.Frame.{Frame, frame_bytes, high_first};
 ghost use Rattle.loop_link.specs.ServingFedBytes.{first_left};
 

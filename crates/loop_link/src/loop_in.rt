@@ -1,4 +1,4 @@
-ghost use Rattle.std.specs.Prelude.{◌≡◌, ◌⊎◌, ◌<◌, true, false, length, List, ℕ, OnErr, OnOk};
+ghost use Rattle.std.specs.Prelude.{◌≡◌, ◌⊎◌, ◌<◌, true, false, length, OnErr, OnOk};
 ghost use Rattle.sock_io.specs.LinkHalves.{IsServed, TakeStep};
 ghost use Rattle.sock_io.specs.LinksInMemory.{closing, is_closing};
 ghost use Rattle.loop_link.specs.ServingFedBytes.{Settled, first_ending, loop_in, new_in, offer_of};

@@ -1,8 +1,6 @@
-ghost use Rattle.std.specs.Prelude.{◌≡◌, ◌≢◌, ◌↔◌, ℕ, ◌+◌, ◌<◌, ◌∷◌, ◌++◌, List, true, false, Some, [], length, Contains, IfOk, IsErrOf, OnErr, OnOk};
-ghost use Rattle.std.specs.List.{AllByRecursion};
-ghost use Rattle.brpc_model.specs.ReturnedLink.{LinkEnd};
+ghost use Rattle.std.specs.Prelude.{◌≡◌, ◌↔◌, ◌+◌, ◌<◌, ◌∷◌, ◌++◌, true, false, Some, [], length, Contains, IfOk, IsErrOf, OnErr, OnOk};
 ghost use Rattle.sock_io.specs.FaultCauses.{OpenCause, next_number};
-ghost use Rattle.sock_io.specs.LinkHalves.{IsFresh, IsNewOffer, IsServed, IsSettled, IsUnused, MayOpen, SettleStep, end_of};
+ghost use Rattle.sock_io.specs.LinkHalves.{IsFresh, IsNewOffer, IsServed, IsSettled, MayOpen, SettleStep, end_of};
 ghost use Rattle.sock_io.specs.MemoryLinker.{new_half};
 ghost use Rattle.sock_io.specs.LinksInMemory.{closing};
 ghost use Rattle.sock_io.specs.ShapeOfPuts.{shaped_out};

@@ -1,7 +1,7 @@
-ghost use Rattle.std.specs.Prelude.{IsTrue, ◌≡◌, ◌≢◌, ◌<◌, ℕ, [], Some, None, length, map, slice_set};
+ghost use Rattle.std.specs.Prelude.{IsTrue, ◌≡◌, ◌≢◌, ◌<◌, [], length, map};
 ghost use mathlib.Core.Option.{some};
 ghost use lib.ListN.{get_elem?};
-ghost use Rattle.sock_io.specs.LinkHalves.{OutState, PutStep, ReadyStep, end_of};
+ghost use Rattle.sock_io.specs.LinkHalves.{PutStep, ReadyStep, end_of};
 ghost use Rattle.seat_programs.specs.BufferParts.{part};
 ghost use Rattle.seat_states.specs.SeatPoints.{is_whole, parts_by};
 ghost use Rattle.message_parts.specs.Parcels.{outgoing_of};

@@ -1,4 +1,4 @@
-ghost use Rattle.std.specs.Prelude.{◌≡◌, ◌+◌, ◌<◌, ℕ, true, Some, None, IfSome, IfNone, IfOk, OnOk, OnErr, length};
+ghost use Rattle.std.specs.Prelude.{◌≡◌, ◌+◌, ◌<◌, true, Some, None, IfSome, IfNone, IfOk, OnOk, OnErr, length};
 ghost use Rattle.machine_model.specs.Machines.{MachineState, table_of, IsSized};
 ghost use Rattle.client_seats.specs.ClientSeatState.{seat_data};
 ghost use Rattle.client_seats.specs.ClientSeatFollowing.{IsPrepared};

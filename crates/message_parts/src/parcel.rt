@@ -1,4 +1,4 @@
-ghost use Rattle.std.specs.Prelude.{◌≡◌, ◌+◌, ◌≤◌, ◌==◌, [], length, drop};
+ghost use Rattle.std.specs.Prelude.{◌≡◌, ◌+◌, ◌≤◌, ◌==◌, length, drop};
 ghost use Rattle.seat_programs.specs.BufferParts.{part};
 ghost use Rattle.message_parts.specs.Parcels.{parcel_of, outgoing_of};
 

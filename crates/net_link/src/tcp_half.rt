@@ -1,4 +1,4 @@
-ghost use Rattle.std.specs.Prelude.{◌≡◌, ◌<◌, length};
+ghost use Rattle.std.specs.Prelude.{◌<◌, length};
 ghost use Rattle.sock_io.specs.LinkHalves.{FinishStep, PutStep, ReadyStep};
 ghost use Rattle.net_link.specs.NetworkWritingHalf.{tcp_half};
 

@@ -1,4 +1,4 @@
-ghost use Rattle.std.specs.Prelude.{◌≡◌, ◌↔◌, ℕ, List, ◌+◌, ◌<◌, ◌≤◌, length, slice_range, Ok, Some, None, IfOk, IfSome};
+ghost use Rattle.std.specs.Prelude.{◌≡◌, ◌↔◌, ℕ, List, ◌<◌, ◌≤◌, length, slice_range, Ok, Some, None, IfOk, IfSome};
 ghost use Rattle.brpc_model.specs.Wire.{Field as WireField};
 ghost use Rattle.pb_wire.specs.WireCallAnswers.{field_in, answer_in, IsBefore};
 ghost use Rattle.pb_wire.specs.Form.{IsField, IsMessage};

@@ -1,4 +1,4 @@
-ghost use Rattle.std.specs.Prelude.{◌≡◌, ℕ, ◌+◌, ◌-◌, ◌<◌, ◌≤◌, length, drop, take, Ok, IfOk};
+ghost use Rattle.std.specs.Prelude.{◌≡◌, ◌+◌, ◌-◌, ◌<◌, ◌≤◌, length, drop, Ok, IfOk};
 ghost use Rattle.brpc_model.specs.Wire.{value, field, with_key, bytes_of, span};
 ghost use Rattle.pb_wire.specs.Read.{key_of, type_number, value_front, field_front, bytes_front};
 ghost use Rattle.pb_wire.specs.WireCallAnswers.{IsBefore};

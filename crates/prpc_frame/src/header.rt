@@ -1,4 +1,4 @@
-ghost use Rattle.std.specs.Prelude.{◌≡◌, ℕ, List, [], ◌+◌, ◌<◌, ◌≤◌, ◌++◌, length, take, drop, min, true, false, IfSome, MatchOption};
+ghost use Rattle.std.specs.Prelude.{◌≡◌, ℕ, List, ◌+◌, ◌<◌, ◌≤◌, ◌++◌, length, take, drop, min, true, false, IfSome, MatchOption};
 ghost use Rattle.rpc_meta.specs.brpc_model.specs.Frame.{high_first, matching};
 ghost use Rattle.prpc_frame.specs.Header.{magic_wrong, HeaderSays};
 

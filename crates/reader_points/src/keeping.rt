@@ -1,4 +1,4 @@
-ghost use Rattle.std.specs.Prelude.{◌≡◌, ◌<◌, ◌+◌, ◌∷◌, ◌==◌, ◌&&◌, ℕ, List, [], nat_lt, map, get_or, IfSome, IfNone};
+ghost use Rattle.std.specs.Prelude.{◌≡◌, ◌<◌, ◌+◌, ◌∷◌, ◌==◌, ◌&&◌, List, [], map, IfSome, IfNone};
 ghost use Rattle.seat_programs.specs.ReaderProgram.{slot_in, kept_for};
 ghost use Rattle.brpc_model.specs.Frame as model;
 ghost use Rattle.prpc_frame.specs.FrameMeaning.{frame_of};

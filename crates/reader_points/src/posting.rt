@@ -1,4 +1,4 @@
-ghost use Rattle.std.specs.Prelude.{◌==◌, ◌&&◌, not, ◌≡◌, ◌≤◌, ℕ};
+ghost use Rattle.std.specs.Prelude.{◌==◌, ◌&&◌, not, ◌≡◌, ℕ};
 ghost use Rattle.sock_words.specs.PackedWords.{at_word_link, at_word_slot, at_word_first, at_word_attempt, call_id};
 ghost use Rattle.seat_programs.specs.ReaderProgram.{posted_last};
 ghost use Rattle.call_points.specs.AsideCodeSteps.{after_word};

@@ -1,5 +1,4 @@
-ghost use Rattle.std.specs.Prelude.{◌≡◌, option_map, Some, ℕ};
-ghost use Rattle.sock_message.specs.Asked.{Asked};
+ghost use Rattle.std.specs.Prelude.{◌≡◌, option_map, Some};
 ghost use Rattle.id_points.specs.IdsAndAttemptNumbers.{id_of};
 ghost use Rattle.call_points.specs.AsideCodeSteps.{aside_in};
 ghost use Rattle.call_points.specs.AsideCodeSteps as asides;

@@ -1,4 +1,4 @@
-ghost use Rattle.std.specs.Prelude.{◌≡◌, ◌≢◌, ℕ, Bool, ◌+◌, ◌-◌, ◌*◌, ◌%◌, ◌<◌, ◌↔◌, IsTrue, true, false, bit_or};
+ghost use Rattle.std.specs.Prelude.{◌≡◌, ◌≢◌, ℕ, Bool, ◌+◌, ◌-◌, ◌%◌, ◌<◌, ◌↔◌, IsTrue, true, false, bit_or};
 ghost use Rattle.sock_words.specs.PackedWords.{vref_nref, vref_version, vref_unused};
 ghost use Rattle.sock_model.specs.SocketTableLayout.{tag_index, ref_index};
 ghost use Rattle.sock_model.specs.SlotRows.{claimed, gave_birth, added, back, subbed, failed, recycled, freed, looked};

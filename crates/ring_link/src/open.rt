@@ -1,9 +1,7 @@
-ghost use Rattle.std.specs.Prelude.{◌≡◌, [], false, length, IfOk};
-ghost use Rattle.sock_io.specs.declared.ending.Ending.TheVariants.{Open};
+ghost use Rattle.std.specs.Prelude.{◌≡◌, [], IfOk};
 ghost use Rattle.sock_io.specs.LinkHalves.{IsFresh, IsUnused};
 ghost use Rattle.sock_io.specs.MeetingOnOneThread.{AreEnds, IsAskedPeer};
 ghost use Rattle.sock_io.specs.Peer.{IsNewPeer};
-ghost use Rattle.rtrb.specs.Ring.{IsPair, sent, received, known_items, known_free};
 ghost use Rattle.ring_link.specs.RingHalves.{IsNewRing, ring_in, ring_out, ring_peer};
 
 use crate::cell::{Cell, MarkLast};

@@ -1,6 +1,6 @@
 // From a name to a reference.
 ghost use Rattle.std.specs.Prelude.{◌≡◌, ◌<◌};
-ghost use Rattle.rpc_client.specs.SeatBetweenOperations.{MayAct, AtRest, StaysSeen, SameRefs};
+ghost use Rattle.rpc_client.specs.SeatBetweenOperations.{MayAct, AtRest, StaysSeen};
 ghost use Rattle.rpc_client.specs.ReachingByName.{ReachedBy, RefsBy};
 
 use sock_io::Out;

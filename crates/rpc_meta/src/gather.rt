@@ -1,4 +1,4 @@
-ghost use Rattle.std.specs.Prelude.{◌≡◌, ℕ, ◌≤◌, length, slice_range, option_map};
+ghost use Rattle.std.specs.Prelude.{◌≡◌, ◌≤◌, length, slice_range, option_map};
 ghost use Rattle.pb_wire.specs.WireCallAnswers.{field_in, IsBefore};
 ghost use Rattle.rpc_meta.specs.Gathered.{nothing};
 ghost use Rattle.rpc_meta.specs.MetaParts.{gathered_of};

@@ -1,4 +1,4 @@
-ghost use Rattle.std.specs.Prelude.{◌≡◌, ℕ, ◌≤◌, length};
+ghost use Rattle.std.specs.Prelude.{◌≡◌, length};
 ghost use Rattle.pb_wire.specs.WireCallAnswers.{field_in, IsBefore};
 ghost use Rattle.pb_wire.specs.brpc_model.specs.Wire.{Field as WireField};
 

@@ -1,4 +1,4 @@
-ghost use Rattle.std.specs.Prelude.{◌≡◌, ℕ, Some, option_map};
+ghost use Rattle.std.specs.Prelude.{◌≡◌, Some, option_map};
 ghost use Rattle.pb_wire.specs.brpc_model.specs.Meta.{int32, read_meta};
 ghost use Rattle.rpc_meta.specs.Answer.{answer_as, request_from, response_from};
 ghost use Rattle.rpc_meta.specs.MetaMeaning.{meaning, request_of, response_of};

@@ -1,5 +1,4 @@
 // The whole frames of what a link gave.
-ghost use Rattle.std.specs.Prelude.{◌≡◌, List};
 ghost use Rattle.rpc_reader.specs.ReaderIdSeat.{IsOpen, Rests};
 ghost use Rattle.rpc_reader.specs.ReaderBooks.{books};
 ghost use Rattle.rpc_reader.specs.Met.{MetAll};

@@ -1,8 +1,6 @@
 // A link is read to its end.
 ghost use Rattle.std.specs.Prelude.{◌≡◌, ◌+◌, ◌<◌, ◌≤◌, [], length, take};
 ghost use Rattle.brpc_model.specs.Frame.{NoneYet, judged};
-ghost use Rattle.sock_io.specs.LinkHalves.{TakeStep};
-ghost use Rattle.sock_io.specs.declared.link.Take.{Take as AnAnswer};
 ghost use Rattle.rpc_reader.specs.ReaderIdSeat.{IsOpen, Rests};
 ghost use Rattle.rpc_reader.specs.ReaderBooks.{books};
 ghost use Rattle.rpc_reader.specs.LinkReading.{held_by, code_of, HeldMet, FedIn, ReadOnce, ReadBy};

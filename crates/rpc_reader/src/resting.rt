@@ -1,8 +1,8 @@
 // The calls that are left when no link is read any more.
-ghost use Rattle.std.specs.Prelude.{◌≡◌, ◌<◌, All};
+ghost use Rattle.std.specs.Prelude.{◌<◌, All};
 ghost use Rattle.rpc_reader.specs.ReaderIdSeat.{IsOpen, Rests};
 ghost use Rattle.rpc_reader.specs.ReaderBooks.{books};
-ghost use Rattle.rpc_reader.specs.CallsLeftAfterReading.{HadEnded, EndedLast, OneEnded, RestEnded};
+ghost use Rattle.rpc_reader.specs.CallsLeftAfterReading.{OneEnded, RestEnded};
 
 use crate::books::AnswerSeat;
 use crate::posting::end_lost;

@@ -1,4 +1,4 @@
-ghost use Rattle.std.specs.Prelude.{◌≡◌, ◌+◌, ◌≤◌, true, length, pos, option_map, IfOk};
+ghost use Rattle.std.specs.Prelude.{◌≡◌, ◌+◌, ◌≤◌, true, length, option_map, IfOk};
 ghost use Rattle.brpc_model.specs.Frame.{frame_bytes, body_limit};
 ghost use Rattle.brpc_model.specs.Spelling.{meta_bytes};
 ghost use Rattle.brpc_model.specs.Reply.{reply, answered_by, response_with};

@@ -1,5 +1,4 @@
-ghost use Rattle.std.specs.Prelude.{◌≡◌, ◌+◌, ◌≤◌, List, length, reverse, sum, pos, IfOk};
-ghost use Rattle.std.specs.Int.{w64, to_be_bytes};
+ghost use Rattle.std.specs.Prelude.{◌≡◌, ◌≤◌, length, reverse, sum, pos, IfOk};
 ghost use Rattle.brpc_model.specs.Reply.{served, echo, summing};
 ghost use Rattle.rpc_meta.specs.MetaMeaning.{request_of};
 ghost use Rattle.rpc_server.specs.ServiceAnswers.{IsAnswer};

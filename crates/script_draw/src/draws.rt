@@ -1,4 +1,4 @@
-ghost use Rattle.std.specs.Prelude.{◌≡◌, ◌+◌, ◌%◌, ◌<◌, map, length, IfOk};
+ghost use Rattle.std.specs.Prelude.{◌≡◌, ◌+◌, ◌%◌, ◌<◌, map, IfOk};
 ghost use Rattle.brpc_model.specs.DrawnSeatsAndScripts.{drawn, drawn_state, draws, state_behind};
 
 use std::alloc::{AllocError, Global};

@@ -1,4 +1,4 @@
-ghost use Rattle.std.specs.Prelude.{◌≡◌, ◌==◌, ℕ};
+ghost use Rattle.std.specs.Prelude.{◌==◌, ℕ};
 ghost use Rattle.std.specs.List.{slice_split};
 ghost use Rattle.brpc_model.specs.Text.{words};
 ghost use Rattle.brpc_model.specs.Items.{Item};

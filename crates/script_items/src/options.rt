@@ -1,7 +1,6 @@
-ghost use Rattle.std.specs.Prelude.{◌≡◌, ◌∷◌, ◌<◌, [], nat_eq, true, false, None, Some, Ok, codes, length, filter, bytes_eq, IfSome, IfNone, IfOk, IfErr, Option};
-ghost use Rattle.std.specs.List.{starts_with};
+ghost use Rattle.std.specs.Prelude.{◌≡◌, ◌∷◌, ◌<◌, [], true, false, None, Some, Ok, codes, filter, bytes_eq, IfSome, IfNone, IfOk, IfErr, Option};
 ghost use Rattle.brpc_model.specs.Text.{words, number_in, hex_in};
-ghost use Rattle.brpc_model.specs.LinePartReads.{are_known, values_of, option_in, ◌<*>◌};
+ghost use Rattle.brpc_model.specs.LinePartReads.{are_known, values_of, option_in};
 ghost use Rattle.script_items.specs.declared.fault.LineFault.TheVariants as faults;
 ghost use Rattle.script_items.specs.PartReaderAnswers.{Answers};
 ghost use Rattle.script_items.specs.Options.{keys_of, plain_of, IsRepeated, end_in};

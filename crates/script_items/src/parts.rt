@@ -1,4 +1,4 @@
-ghost use Rattle.std.specs.Prelude.{◌≡◌, ◌≤◌, ◌&&◌, ◌||◌, ◌==◌, if◌then◌else◌, nat_le, length, Ok, Err};
+ghost use Rattle.std.specs.Prelude.{◌≡◌, ◌&&◌, ◌||◌, ◌==◌, if◌then◌else◌, nat_le, length, Ok, Err};
 ghost use Rattle.std.specs.List.{list_all};
 ghost use Rattle.brpc_model.specs.Text.{has_bytes, is_name_byte, name_in, method_in, service_in, hex_in};
 ghost use Rattle.brpc_model.specs.ScriptLineFaults.{kind_in, seat_in};

@@ -1,4 +1,4 @@
-ghost use Rattle.std.specs.Prelude.{◌≡◌, ◌<◌, ◌≤◌, ◌+◌, ◌-◌, ◌==◌, ℕ, List, ◌∷◌, [], length, take, drop, not, position, IfSome, IfNone, IfOk, IfErr};
+ghost use Rattle.std.specs.Prelude.{◌≡◌, ◌<◌, ◌≤◌, ◌+◌, ◌-◌, ◌==◌, ◌∷◌, [], length, take, drop, not, position, IfSome, IfNone, IfOk, IfErr};
 ghost use Rattle.std.specs.List.{slice_split, suffix_len, before_last, after_last};
 ghost use Rattle.brpc_model.specs.Text.{words};
 ghost use Rattle.script_items.specs.declared.fault.LineFault.TheVariants as faults;

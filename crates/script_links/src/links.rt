@@ -1,4 +1,4 @@
-ghost use Rattle.std.specs.Prelude.{◌≡◌, ◌≤◌, ◌<◌, ◌+◌, ◌++◌, ◌∷◌, ℕ, true, false, [], List, length, map, count_by, IfSome, OnOk, OnErr, IsErrOf, if◌then◌else◌};
+ghost use Rattle.std.specs.Prelude.{◌≡◌, ◌≤◌, ◌<◌, ◌+◌, ◌++◌, ◌∷◌, true, false, [], length, map, count_by, IfSome, OnOk, OnErr, IsErrOf, if◌then◌else◌};
 ghost use Rattle.std.specs.List.{list_all, AllByRecursion};
 ghost use Rattle.brpc_model.specs.ReturnedLink.{LinkEnd};
 ghost use Rattle.sock_io.specs.declared.link.Ends.{Ends};
@@ -6,7 +6,7 @@ ghost use Rattle.brpc_model.specs.Items.{is_open};
 ghost use Rattle.script_items.specs.LineMeaning.{item};
 ghost use Rattle.sock_io.specs.FaultCauses.{OpenCause, Rose};
 ghost use Rattle.sock_io.specs.LinkHalves.{end_of};
-ghost use Rattle.script_links.specs.LinksGivenBack.{IsUntouched, AreUntouched, AreNumbered, IsBeginning, has_piece, is_open_line, has_piece_line, spec_of, specs_of};
+ghost use Rattle.script_links.specs.LinksGivenBack.{AreUntouched, AreNumbered, IsBeginning, has_piece, is_open_line, has_piece_line, spec_of, specs_of};
 ghost use Rattle.script_links.specs.OfferedLinks.{AreAsked, TellOffers};
 ghost use Rattle.script_links.specs.OpenedLinkEnds.{AreOpened};
 

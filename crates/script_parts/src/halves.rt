@@ -1,5 +1,5 @@
 // The halves of links: the writing halves go to the threads, and the others wait.
-ghost use Rattle.std.specs.Prelude.{◌≡◌, ◌≤◌, ◌+◌, [], ℕ, List, length, map, IfOk};
+ghost use Rattle.std.specs.Prelude.{◌≡◌, length, map, IfOk};
 ghost use Rattle.call_run.specs.sock_open.specs.SocketTableOpening.{IsRoom};
 ghost use Rattle.script_parts.specs.HalvesApartAndTogether.{rest_of, joined, HasRoomFor};
 

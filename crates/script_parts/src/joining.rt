@@ -1,5 +1,5 @@
 // The seats of the table of ids, once all that had one have ended.
-ghost use Rattle.std.specs.Prelude.{◌≡◌, ◌<◌, ◌≤◌, [], ℕ};
+ghost use Rattle.std.specs.Prelude.{◌≡◌, ◌<◌, ◌≤◌, []};
 ghost use Rattle.rpc_reader.specs.ReaderIdSeat.{IsOpen};
 ghost use Rattle.call_run.specs.CrewOfRun.{AreLeft};
 ghost use Rattle.script_parts.specs.SeatsOfIdTable.{TookAll};

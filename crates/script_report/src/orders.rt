@@ -1,4 +1,4 @@
-ghost use Rattle.std.specs.Prelude.{◌≡◌, ◌<◌, ◌^◌, List, [], length, map, IfOk, OnOk};
+ghost use Rattle.std.specs.Prelude.{◌≡◌, ◌<◌, ◌^◌, [], length, map, IfOk, OnOk};
 ghost use Rattle.brpc_model.specs.Operations.{link_names};
 ghost use Rattle.script_items.specs.LineMeaning.{item};
 ghost use Rattle.brpc_model.specs.PlaceWords.{ArePlaces};

@@ -1,4 +1,4 @@
-ghost use Rattle.std.specs.Prelude.{◌≡◌, ◌≤◌, ◌+◌, ◌*◌, ◌↔◌, IsTrue, count_by, Some, None};
+ghost use Rattle.std.specs.Prelude.{◌≡◌, ◌*◌, ◌↔◌, IsTrue, Some, None};
 ghost use Rattle.sock_words.specs.PackedWords.{HasPosition};
 ghost use Rattle.script_report.specs.ReportLines.{label_of};
 ghost use Rattle.brpc_model.specs.PlaceWords.{word_at, is_placed, outcome_by_word};

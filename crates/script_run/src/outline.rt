@@ -1,5 +1,4 @@
-ghost use Rattle.std.specs.Prelude.{◌≡◌, ℕ, List, Ok, IfOk, map};
-ghost use Rattle.brpc_model.specs.Script.{script_of};
+ghost use Rattle.std.specs.Prelude.{◌≡◌, List, Ok, IfOk, map};
 ghost use Rattle.script_items.specs.LineMeaning.{item};
 ghost use Rattle.seat_programs.specs.Tasks.{plan_of};
 ghost use Rattle.script_run.specs.Outlines.{outlined, meant};

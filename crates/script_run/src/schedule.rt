@@ -1,5 +1,4 @@
 ghost use Rattle.std.specs.Prelude.{◌≡◌, ◌∷◌, [], ℕ, List, Ok, false, min, OnOk, map, replicate};
-ghost use Rattle.brpc_model.specs.Items.{Item};
 ghost use Rattle.brpc_model.specs.Script.{script_of};
 ghost use Rattle.seat_programs.specs.Ticks.{seats_of};
 ghost use Rattle.seat_programs.specs.ScheduledRuns.{Scheduled};

@@ -1,6 +1,5 @@
 ghost use Rattle.std.specs.Prelude.{◌≡◌, IfSome, IfNone};
 ghost use mathlib.Core.Option.{some, none};
-ghost use Rattle.std.specs.Prelude.{◌*◌};
 ghost use Rattle.seat_programs.specs.TableSteps.{kind_of};
 ghost use Rattle.seat_programs.specs.StepTables.{word_of, word_after};
 ghost use Rattle.program_steps.specs.SoundSeats.{AllowsWord};

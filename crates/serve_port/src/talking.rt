@@ -1,5 +1,5 @@
 // A connection is served to its end.
-ghost use Rattle.std.specs.Prelude.{◌≡◌, true, false};
+ghost use Rattle.std.specs.Prelude.{◌≡◌, true};
 ghost use Rattle.sock_io.specs.LinkHalves.{IsUnused, end_of};
 ghost use Rattle.rpc_server.specs.HeldByConnection.{unused};
 ghost use Rattle.serve_port.specs.ServingConnections.{Serves};

@@ -1,4 +1,4 @@
-ghost use Rattle.std.specs.Prelude.{◌≡◌, ◌<◌, ◌++◌, [], Ok, IfOk, OnErr, OnOk, length};
+ghost use Rattle.std.specs.Prelude.{◌≡◌, ◌<◌, [], Ok, IfOk, OnErr, OnOk, length};
 ghost use Rattle.sock_io.specs.GivingLinker.{before_bytes, bytes_and_end, give_in, given_half, still_to_come, with_bytes, with_closing};
 ghost use Rattle.sock_io.specs.LinksInMemory.{TakesWaiting};
 

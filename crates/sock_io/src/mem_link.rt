@@ -1,4 +1,4 @@
-ghost use Rattle.std.specs.Prelude.{◌≡◌, ℕ, ◌<◌, ◌++◌, ◌∷◌, [], Some, Ok, None, false, true, OnErr, OnOk, drop, length, take};
+ghost use Rattle.std.specs.Prelude.{◌≡◌, ◌<◌, ◌++◌, ◌∷◌, [], Ok, None, false, true, OnErr, OnOk, drop, length, take};
 ghost use Rattle.sock_io.specs.LinkHalves.{TakeStep, of_take};
 ghost use Rattle.sock_io.specs.LinksInMemory.{TakesWaiting, mem_in, empty_in, take_answer, closing, is_open};
 ghost use Rattle.sock_io.specs.Peer.{no_peer};

@@ -1,5 +1,5 @@
 ghost use Rattle.sock_io.specs.declared.shaped.TheConstants.{TAKEN_ROOM};
-ghost use Rattle.std.specs.Prelude.{◌≡◌, ℕ, ◌-◌, ◌<◌, ◌++◌, ◌∷◌, false, true, IfOk, IfSome, [], length};
+ghost use Rattle.std.specs.Prelude.{◌≡◌, ◌-◌, ◌<◌, ◌++◌, ◌∷◌, false, true, IfOk, IfSome, [], length};
 ghost use Rattle.sock_io.specs.FaultCauses.{next_number};
 ghost use Rattle.sock_io.specs.WritingHalfAnswers.{half_answer};
 ghost use Rattle.sock_io.specs.LinkHalves.{PutStep, ReadyStep, FinishStep, SameKind, of_put, of_ready};

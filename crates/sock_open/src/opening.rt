@@ -1,5 +1,5 @@
 // A new table.
-ghost use Rattle.std.specs.Prelude.{◌≡◌, ◌+◌, ◌*◌, ◌%◌, ◌<◌, ◌≤◌, ℕ, [], IfOk, IfErr, length, vec_len};
+ghost use Rattle.std.specs.Prelude.{◌≡◌, ◌+◌, ◌*◌, ◌<◌, ◌≤◌, [], IfOk, IfErr, length};
 ghost use Rattle.sock_open.specs.SocketTableOpening.{AreNewWords, AreFresh, AreNewHomes, IsRoom, MayBegin};
 ghost use Rattle.sock_rule.specs.OnTable.{opener};
 ghost use Rattle.sock_table.specs.ClosedSocketTable.{AreLinks, OutsOf, ways_of};

@@ -1,5 +1,5 @@
 // The steps of whoever sends a message.
-ghost use Rattle.std.specs.Prelude.{◌≡◌, ◌≢◌, ◌+◌, ◌*◌, ◌/◌, ◌%◌, ◌<◌, ℕ, [], ◌∷◌, ◌↔◌, IsTrue};
+ghost use Rattle.std.specs.Prelude.{◌≡◌, ◌*◌, ◌/◌, ◌%◌, ◌<◌, ℕ, [], ◌↔◌, IsTrue};
 ghost use Rattle.atomic_table.specs.Table.{rest};
 ghost use mathlib.Core.Option.{some};
 ghost use lib.ListN.{get_elem?};

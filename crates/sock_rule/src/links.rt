@@ -2,8 +2,6 @@
 // exchange of 0 for 0, which takes the slot's turn and is told the ways of the links, and a plain move, and goes back by a plain move and a load that gives the turn back.
 ghost use Rattle.std.specs.Prelude.{◌≡◌, ◌+◌, ◌<◌, [], ◌∷◌};
 ghost use Rattle.atomic_table.specs.Table.{rest};
-ghost use Rattle.sock_model.specs.MarkWeights.{is_recycled, is_met};
-ghost use Rattle.sock_model.specs.SlotRows.{marks_of};
 ghost use Rattle.sock_model.specs.ChainRows.{with_hand, without_hand, spent_hand};
 ghost use Rattle.sock_rule.specs.declared.homes.SockHome.TheVariants.{Empty, Link};
 ghost use Rattle.sock_rule.specs.OnKey.{LinkOnTop};

@@ -1,5 +1,4 @@
 // The rule of the table, and the names of its steps.
-ghost use Rattle.std.specs.Prelude.{[]};
 ghost use Rattle.sock_model.specs.ViewsOfSplitSeats.{joined, spent, lighter};
 ghost use Rattle.sock_rule.specs.OnKey.{OnKey, opener_by, take_own_said, take_last_said, spend_said};
 ghost use Rattle.sock_rule.specs.Shows.{shows, rose};

@@ -1,5 +1,5 @@
 // The steps of whoever writes a link.
-ghost use Rattle.std.specs.Prelude.{◌≡◌, ◌≢◌, ◌+◌, ◌*◌, ◌/◌, ◌%◌, ◌<◌, ◌≤◌, ℕ, false, true, [], ◌∷◌, ◌↔◌, IsTrue};
+ghost use Rattle.std.specs.Prelude.{◌≡◌, ◌+◌, ◌*◌, ◌/◌, ◌<◌, ℕ, false, true, ◌∷◌};
 ghost use Rattle.atomic_table.specs.Table.{rest};
 ghost use Rattle.sock_model.specs.declared.chain.Right.{Right};
 ghost use Rattle.sock_model.specs.declared.chain.Stage.TheVariants.{Writes, Walks, Turns};
@@ -9,7 +9,7 @@ ghost use Rattle.sock_model.specs.SocketTableLayout.{place_index};
 ghost use Rattle.sock_rule.specs.declared.homes.SockHome.TheVariants.{Empty};
 ghost use Rattle.sock_rule.specs.SocketSeatSplits.{IsSeat};
 ghost use Rattle.sock_rule.specs.LinkFaultNotes.{faults_of, fault_found, noting_fault, CameOut};
-ghost use Rattle.sock_rule.specs.Shows.{heading_of, way_at};
+ghost use Rattle.sock_rule.specs.Shows.{way_at};
 ghost use Rattle.sock_rule.specs.HoldingWriteRight.{Rights, LinkAtHome, MayTakeMsg, TookMsg, MayLookToWrite, LookedToWrite, MayStorePlace, MayDropPlace, MayFreeRequest, MayEmptyHead, Emptied, MayReadOn, ReadOn, MayReadBack, ReadBack, MayTurnNext};
 ghost use Rattle.sock_words.specs.PackedWords.{HasRequest, IDLE, place_word, ticket_request, ticket_generation};
 

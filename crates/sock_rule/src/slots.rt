@@ -1,5 +1,5 @@
 // The steps on the tag and the reference word of a slot.
-ghost use Rattle.std.specs.Prelude.{◌≡◌, ◌+◌, ◌-◌, ◌*◌, ◌%◌, ◌<◌, ◌≤◌, ◌≢◌, ℕ, true, false, [], ◌↔◌, IsTrue};
+ghost use Rattle.std.specs.Prelude.{◌≡◌, ◌+◌, ◌-◌, ◌%◌, ◌<◌, ◌≤◌, ◌≢◌, ℕ, true, false, [], ◌↔◌, IsTrue};
 ghost use Rattle.sock_words.specs.PackedWords.{vref_nref, vref_version};
 ghost use Rattle.sock_model.specs.MarkWeights.{is_busy, is_ref, is_any_coding, is_stage, is_hold, is_zero, is_recycled};
 ghost use Rattle.sock_model.specs.SlotRows.{marks_of, knows, claimed, gave_birth, added, back, subbed, failed, recycled, freed, looked};

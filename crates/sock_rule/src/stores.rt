@@ -1,5 +1,5 @@
 // The steps on the link, the head and the code of a slot.
-ghost use Rattle.std.specs.Prelude.{◌≡◌, ◌≢◌, ◌+◌, ◌-◌, ◌*◌, ◌<◌, ◌≤◌, ◌==◌, cond, ℕ, []};
+ghost use Rattle.std.specs.Prelude.{◌≡◌, ◌≢◌, ◌-◌, ◌<◌, ◌==◌, cond, ℕ};
 ghost use Rattle.sock_model.specs.MarkWeights.{only, is_stage, is_hold, is_recycled, is_coding, is_told, is_met};
 ghost use Rattle.sock_model.specs.SlotRows.{marks_of, linked, met_link, staged, coded, told_code};
 ghost use Rattle.sock_rule.specs.SocketSeatSplits.{IsSeat};

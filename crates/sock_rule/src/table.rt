@@ -1,5 +1,5 @@
 // The table of words and homes, and its seats.
-ghost use Rattle.std.specs.Prelude.{◌≡◌, ◌+◌, ◌*◌, ◌<◌, ◌≤◌, ℕ, [], IfOk, IfErr, length};
+ghost use Rattle.std.specs.Prelude.{◌≡◌, ◌+◌, ◌*◌, ◌<◌, [], IfOk, IfErr, length};
 ghost use Rattle.sock_model.specs.SocketTableLayout.{all_words, next_index, place_index};
 ghost use Rattle.sock_model.specs.ViewsOfSplitSeats.{joined, lighter};
 ghost use Rattle.sock_rule.specs.OnTable.{opener};

@@ -5,7 +5,6 @@ ghost use Rattle.sock_words.specs.declared.vref.Vref.{Vref};
 ghost use Rattle.sock_words.specs.declared.place_word.PlaceWord.{PlaceWord};
 ghost use Rattle.sock_model.specs.SocketTableLayout.{all_words, ref_index, place_index};
 ghost use Rattle.std.specs.List.{flat_map};
-ghost use Rattle.sock_rule.specs.SocketSeatSplits.{IsSeat};
 ghost use Rattle.sock_table.specs.ClosedSocketTable.{AllDone, IsDoneSeat, WordsAre, AreLinks, OutsOf, ways_of, ClosedBy, IsRoomOf, HasAll};
 ghost use Rattle.sock_words.specs.Totals.{total};
 

@@ -1,7 +1,7 @@
 // The words of names and of operations, by which one seat tells another of a socket.
 ghost use Rattle.std.specs.Prelude.{◌≡◌, ◌+◌, ◌<◌};
 ghost use Rattle.std.specs.Option.{ForSome};
-ghost use Rattle.sock_model.specs.SocketTableLayout.{name_index, open_index};
+ghost use Rattle.sock_model.specs.SocketTableLayout.{name_index};
 ghost use Rattle.sock_rule.specs.NotesBesideRows.{PutAt};
 ghost use Rattle.sock_rule.specs.SocketSeatSplits.{IsSeat};
 ghost use Rattle.sock_table.specs.ReferenceCalls.{IsBetween, SameTokens, Knows};

@@ -1,5 +1,5 @@
 // The passes of links, and the sockets that they become.
-ghost use Rattle.std.specs.Prelude.{◌≡◌, ◌<◌, ℕ, [], ◌∷◌, IfOk, IfErr};
+ghost use Rattle.std.specs.Prelude.{◌≡◌, ◌<◌, ℕ, IfOk, IfErr};
 ghost use Rattle.sock_words.specs.PackedWords.{socket_id_version, socket_id_slot};
 ghost use Rattle.sock_model.specs.MarkWeights.{is_known, is_tried};
 ghost use Rattle.sock_model.specs.SlotRows.{marks_of};

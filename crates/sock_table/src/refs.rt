@@ -1,5 +1,5 @@
 // References: addressing an id, and giving a reference back.
-ghost use Rattle.std.specs.Prelude.{◌≡◌, ◌≢◌, ◌+◌, ◌-◌, ◌%◌, ◌<◌, ◌≤◌, ℕ, true, false, [], ◌∷◌, List, IfOk, IfErr};
+ghost use Rattle.std.specs.Prelude.{◌≡◌, ◌≢◌, ◌-◌, ◌%◌, ◌<◌, true, false, [], ◌∷◌, List, IfOk, IfErr};
 ghost use Rattle.sock_words.specs.PackedWords.{socket_id_version, socket_id_slot, vref_version, vref_nref};
 ghost use Rattle.sock_model.specs.declared.marks.Mark.{Mark};
 ghost use Rattle.sock_model.specs.declared.marks.Mark.TheVariants.{Hold, Zero};

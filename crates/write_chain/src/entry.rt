@@ -1,6 +1,6 @@
 // A message is accepted.
-ghost use Rattle.std.specs.Prelude.{◌≡◌, ◌≢◌, ◌+◌, ◌*◌, ◌<◌, ℕ, [], ◌∷◌, IfOk, IfErr, length};
-ghost use Rattle.sock_words.specs.PackedWords.{socket_id_version, socket_id_slot, vref_version};
+ghost use Rattle.std.specs.Prelude.{◌≡◌, ◌*◌, ◌<◌, [], IfOk, IfErr};
+ghost use Rattle.sock_words.specs.PackedWords.{socket_id_slot};
 ghost use Rattle.sock_model.specs.declared.chain.Claim.{Claim};
 ghost use Rattle.sock_model.specs.MarkWeights.{is_ref};
 ghost use Rattle.sock_model.specs.SlotRows.{marks_of};

@@ -1,5 +1,5 @@
 // Whoever has the right writes the link: steps that both calls make.
-ghost use Rattle.std.specs.Prelude.{◌≡◌, ◌≢◌, ◌+◌, ◌*◌, ◌<◌, ℕ, [], ◌∷◌, true, false};
+ghost use Rattle.std.specs.Prelude.{◌≡◌, ◌≢◌, ◌<◌, ℕ, [], ◌∷◌, true, false};
 ghost use Rattle.atomic_table.specs.Table.{rest};
 ghost use Rattle.sock_words.specs.PackedWords.{socket_id_slot, ticket_request};
 ghost use Rattle.sock_model.specs.declared.chain.Right.{Right};
@@ -12,7 +12,7 @@ ghost use Rattle.sock_rule.specs.SocketSeatSplits.{IsSeat};
 ghost use Rattle.sock_rule.specs.ChainPlays.{IsTicket};
 ghost use Rattle.sock_rule.specs.HoldingWriteRight.{Rights, MayFreeRequest};
 ghost use Rattle.write_chain.specs.NotingWhileWriting.{Faulted, Wrote};
-ghost use Rattle.write_chain.specs.WritingRightInHand.{MayBegin, MayGoOn, Stands, HasLink, HasInHand, HasPart, IsClean, HasWhole, FoundDead, GoesBy, IsLast, OnceBy, TriedBy, TriedFaults, IsDead, IsKeep};
+ghost use Rattle.write_chain.specs.WritingRightInHand.{MayBegin, Stands, HasLink, HasPart, IsClean, HasWhole, FoundDead, GoesBy, IsLast, OnceBy, TriedBy, TriedFaults, IsDead, IsKeep};
 
 use crate::right::{Doing, HeldChain, InHand, LinkInHand, WriteRight};
 use sock_io::{Out, Put};

@@ -1,5 +1,5 @@
 // Whoever has the right writes until the head is empty.
-ghost use Rattle.std.specs.Prelude.{◌≡◌, ◌≢◌, ◌+◌, ◌*◌, ◌<◌, ◌==◌, cond, ℕ, [], ◌∷◌, true, false};
+ghost use Rattle.std.specs.Prelude.{◌≡◌, ◌<◌, ◌==◌, cond, [], true};
 ghost use Rattle.sock_rule.specs.SocketSeatSplits.{IsSeat};
 ghost use Rattle.write_chain.specs.declared.right.Doing.TheVariants.{Back};
 ghost use Rattle.write_chain.specs.NotingWhileWriting.{Wrote, WroteDrop};
