@@ -92,7 +92,7 @@ impl Linker for LoopLinker {
             .settle(self.alloc, &mut self.pool, ends.out.taken(), finished)
     }
 
-    #[tactic(auto, using(crate::proofs::Meets::met_nothing))]
+    #[tactic(auto, using(crate::proofs::MemoryLinkMeets::met_nothing))]
     fn meet(&mut self, _ends: &mut Link) {}
 
     fn accept(&mut self, _port: u16) -> Result<(Shaped<MemOut>, LoopIn), OpenFault>

@@ -134,7 +134,7 @@ impl<N: Net<Stream = TcpStream, Listener = TcpListener> + Drop> Linker for TcpLi
         Ok(())
     }
 
-    #[tactic(auto, using(crate::proofs::Meets::met_nothing))]
+    #[tactic(auto, using(crate::proofs::NetworkLinkMeets::met_nothing))]
     fn meet(&mut self, _ends: &mut Link) {}
 
     fn accept(&mut self, port: u16) -> Result<(TcpHalf, TcpIn), OpenFault>

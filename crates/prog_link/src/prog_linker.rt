@@ -131,7 +131,7 @@ fn open_ends<N: Net<Stream = TcpStream, Listener = TcpListener> + Drop>(
 
 impl<N: Net<Stream = TcpStream, Listener = TcpListener> + Drop> ProgLinker<N> {
     /// A linker that opened and accepted nothing yet, over this network. It takes no memory.
-    #[tactic(auto, using(crate::proofs::Alike::none_counted, crate::proofs::Alike::none_other))]
+    #[tactic(auto, using(crate::proofs::LinksOfOneKind::none_counted, crate::proofs::LinksOfOneKind::none_other))]
     pub fn new(net: N, alloc: Global) -> Self
         ensures { result ≡ record { asked = []; accepted = 0; back = []; done = []; faults = 0; always_ready = true } }
     {

@@ -117,7 +117,7 @@ impl Linker for GiveLinker {
         Ok(())
     }
 
-    #[tactic(auto, using(crate::proofs::Offers::met_nothing))]
+    #[tactic(auto, using(crate::proofs::HalvesKeepOffers::met_nothing))]
     fn meet(&mut self, _ends: &mut Link) {}
 
     fn accept(&mut self, _port: u16) -> Result<(Shaped<MemOut>, GiveIn), OpenFault>
