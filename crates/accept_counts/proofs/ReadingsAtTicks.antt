@@ -15,8 +15,8 @@ use Rattle.sock_model.specs.SocketTableLayout.{open_index}
 use Rattle.sock_model.specs.Marks.{about, at}
 use Rattle.sock_model.specs.SlotRows.{marks_of, added, looked}
 use Rattle.sock_model.specs.MarkWeights.{only, is_hold}
-use Rattle.corr_core.specs.Word.{parts}
-use Rattle.corr_core.specs.ErrorsThatEndCalls.{ends_call}
+use Rattle.corr_core.specs.IdSlotWord.{parts}
+use Rattle.corr_core.specs.EndedByRangeOrAttempt.{ends_call}
 use Rattle.call_causes.specs.Below.programs_allowed.specs.slot_steps.proofs.RuleNumbers.{only-same}
 use Rattle.call_causes.specs.Below.programs_allowed.specs.slot_steps.proofs.SlotWeightSums.{about-here}
 use Rattle.run_theorems.specs.Below.sock_steps.proofs.SumsAsMarksChange.{either_way}

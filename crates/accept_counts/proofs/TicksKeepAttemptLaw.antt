@@ -13,7 +13,7 @@ use Rattle.sock_model.specs.declared.chain.Heading.{Heading}
 use Rattle.sock_model.specs.declared.home.Home.{Home}
 use Rattle.sock_model.specs.declared.view.View.{View}
 use Rattle.call_causes.specs.Below.programs_allowed.specs.slot_steps.proofs.SlotWeightSums.{term_le, total-append, total-set}
-use Rattle.corr_core.specs.Word.{parts}
+use Rattle.corr_core.specs.IdSlotWord.{parts}
 use Rattle.corr_core.specs.declared.marks.Plan.{Plan as IdPlan}
 use Rattle.call_causes.specs.Below.id_runs.specs.HeldIdTokens.{IdView, MayId}
 use Rattle.call_causes.specs.Below.id_runs.specs.Goes.{FitsRetryId, FitsSock, FindsId, SoundIds, FitsFirst, IsFittingIds}

@@ -7,7 +7,7 @@ use Rattle.sock_words.specs.PackedWords.{at_word_first, at_word_slot, at_word_li
 use Rattle.seat_programs.specs.brpc_model.specs.LinkFailureCauses.{HasFault}
 use Rattle.seat_programs.specs.brpc_model.specs.Items.{Item}
 use Rattle.seat_programs.specs.brpc_model.specs.Operations.{Turn}
-use Rattle.corr_core.specs.Word.{error_of}
+use Rattle.corr_core.specs.IdSlotWord.{error_of}
 use Rattle.seat_programs.specs.Asides.{Step, Found, StoreAt, LoadAt, Taking}
 use Rattle.seat_programs.specs.FoundAndChangedAside.{found_in}
 use Rattle.seat_programs.specs.Programs.{Program, Aside}

@@ -9,7 +9,7 @@ use Rattle.sock_words.specs.PackedWords.{at_word, socket_id_slot, socket_id_vers
 use Rattle.sock_model.specs.declared.chain.Heading.{Heading}
 use Rattle.seat_programs.specs.brpc_model.specs.Items.{Item}
 use Rattle.seat_programs.specs.brpc_model.specs.Operations.{Turn}
-use Rattle.corr_core.specs.Word.{parts, error_of}
+use Rattle.corr_core.specs.IdSlotWord.{parts, error_of}
 use Rattle.sock_message.specs.Asked.{Asked, name_of}
 use Rattle.seat_programs.specs.Asides.{Step, Found, PutCall, StoreAt, PostId}
 use Rattle.seat_programs.specs.TableSteps.{TableStep, AddRef, LoadName, LookWord, LoadCode, ClaimRequest, DropPlace}
@@ -26,7 +26,7 @@ use Rattle.call_causes.specs.Below.outcome_stories.specs.OperationStories.{In}
 use Rattle.call_causes.specs.Below.id_runs.specs.Goes.{FitsSock}
 use Rattle.label_runs.specs.AttemptLabelsLeft.{Trial, Idle, Tries, Sends, put_behind, Kept, unlocks_trial, locked_trial, LeavesLabel, MayPut, AsideMove, FindsLabel, AtLabel}
 use Rattle.corr_core.specs.declared.marks.Plan.{Plan as IdPlan}
-use Rattle.corr_core.specs.ErrorsThatEndCalls.{WHOLE}
+use Rattle.corr_core.specs.EndedByRangeOrAttempt.{WHOLE}
 use Rattle.sock_model.specs.declared.view.View.{View}
 use Rattle.call_causes.specs.call_stories.specs.PostsOfRun.{Post}
 use Rattle.accept_counts.specs.AttemptCounts.{times_of, WasMade, TrialFits}

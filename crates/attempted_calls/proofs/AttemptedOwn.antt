@@ -11,8 +11,8 @@ use Rattle.own_decisions.specs.Below.chain_steps.proofs.TicketLists.{at_length}
 use Rattle.sock_words.specs.declared.plain.Plan.{Plan}
 use Rattle.sock_model.specs.declared.home.Home.{Home}
 use Rattle.sock_model.specs.declared.view.View.{View}
-use Rattle.corr_core.specs.Word.{parts}
-use Rattle.corr_core.specs.Law.{Births, Local, Stands, vacant, retired, claimed, opened, locked, leaving}
+use Rattle.corr_core.specs.IdSlotWord.{parts}
+use Rattle.corr_core.specs.IdSlotLaw.{Births, Local, Stands, vacant, retired, claimed, opened, locked, leaving}
 use Rattle.corr_core.specs.declared.marks.Plan.{Plan as IdPlan}
 use Rattle.corr_core.specs.declared.marks.Hand.{Hand}
 use Rattle.corr_core.specs.declared.marks.Hand.TheVariants.{Full, Empty}

@@ -9,7 +9,7 @@ use Rattle.sock_words.specs.PackedWords.{at_word, call_id, id_slot, id_first}
 use Rattle.sock_model.specs.declared.view.View.{View}
 use Rattle.seat_programs.specs.brpc_model.specs.Items.{Item}
 use Rattle.seat_programs.specs.brpc_model.specs.Operations.{Turn}
-use Rattle.corr_core.specs.Word.{Parts}
+use Rattle.corr_core.specs.IdSlotWord.{Parts}
 use Rattle.corr_core.specs.declared.marks.Plan.{Plan as IdPlan}
 use Rattle.seat_programs.specs.id_rule.specs.LawfulIdTable.{call_index}
 use Rattle.own_decisions.specs.Below.id_runs.proofs.IdRuleOpening.{unused}

@@ -1,7 +1,7 @@
 -- What leads a seat to an attempt of a call: the name under which it found the socket, the operation whose call has the id, the link of the socket, and the at word that it stored for it.
 use Rattle.std.specs.Prelude.{ℕ, ◌≡◌, ◌≢◌, ◌-◌, ◌%◌, ◌<◌, ◌≤◌, ◌⊎◌, Bool, true, false, List, [], ◌∷◌}
 use Rattle.sock_words.specs.PackedWords.{at_word, socket_id_slot, socket_id_version, call_id, id_slot, id_first}
-use Rattle.corr_core.specs.Word.{parts}
+use Rattle.corr_core.specs.IdSlotWord.{parts}
 use Rattle.own_decisions.specs.Below.id_runs.specs.Goes.{FitsSock}
 use Rattle.sock_message.specs.Asked.{Asked, name_of}
 use Rattle.seat_programs.specs.Asides.{Step, Found, PutCall, MakeId, StoreCall, StoreAt}

@@ -10,8 +10,8 @@ use Rattle.sock_words.specs.declared.plain.Plan.{Plan}
 use Rattle.sock_words.specs.declared.place_word.PlaceWord.{PlaceWord}
 use Rattle.sock_words.specs.declared.vref.Vref.{Vref}
 use Rattle.seat_programs.specs.declared.task.Task.{Task}
-use Rattle.corr_core.specs.Word.{Parts, parts}
-use Rattle.corr_core.specs.Law.{is_attempt, is_advance, is_ended}
+use Rattle.corr_core.specs.IdSlotWord.{Parts, parts}
+use Rattle.corr_core.specs.IdSlotLaw.{is_attempt, is_advance, is_ended}
 use Rattle.corr_core.specs.declared.marks.Note.{Note}
 use Rattle.corr_core.specs.declared.marks.Note.TheVariants.{Made, Attempt}
 use Rattle.corr_core.specs.declared.marks.Noted.{Noted}

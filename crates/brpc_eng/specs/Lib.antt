@@ -1,6 +1,6 @@
 pub mod WholeSourceRead
 pub mod ProgramAnswers
 pub mod Input
-pub mod Status
+pub mod StatusNumbers
 pub mod Command
 pub use Rattle.script_run

@@ -2,7 +2,7 @@ ghost use Rattle.std.specs.Prelude.{map, string_bytes};
 ghost use Rattle.script_links.specs.OfferedLinks.{TellOffers};
 ghost use Rattle.script_run.specs.Played.{TellClosed};
 ghost use Rattle.brpc_eng.specs.ProgramAnswers.{UnusedLinker, Answers, CountsStand, faults_over, linker_over, sink_over, source_over};
-ghost use Rattle.brpc_eng.specs.Status.{number_of};
+ghost use Rattle.brpc_eng.specs.StatusNumbers.{number_of};
 
 use crate::commands::{Command, read_command};
 use crate::frames::frames;

@@ -1,4 +1,4 @@
-ghost use Rattle.brpc_eng.specs.Status.{number_of};
+ghost use Rattle.brpc_eng.specs.StatusNumbers.{number_of};
 ghost use Rattle.brpc_eng.specs.ProgramAnswers.{Generated, sink_over};
 
 use crate::draw::Draw;

@@ -4,7 +4,7 @@ ghost use Rattle.sock_io.specs.FaultCauses.{Rose};
 ghost use Rattle.script_links.specs.LinksGivenBack.{has_piece};
 ghost use Rattle.script_threads.specs.ServedLinksOfReport.{IsShort};
 ghost use Rattle.brpc_eng.specs.Input.{CameAs, NoScriptTold};
-ghost use Rattle.brpc_eng.specs.Status.{number_of};
+ghost use Rattle.brpc_eng.specs.StatusNumbers.{number_of};
 ghost use Rattle.brpc_eng.specs.ProgramAnswers.{sink_over};
 
 use crate::replay::write_fault;

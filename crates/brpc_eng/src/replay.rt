@@ -1,6 +1,6 @@
 ghost use Rattle.script_links.specs.OfferedLinks.{TellOffers};
 ghost use Rattle.script_run.specs.Played.{TellClosed, turns_of};
-ghost use Rattle.brpc_eng.specs.Status.{number_of};
+ghost use Rattle.brpc_eng.specs.StatusNumbers.{number_of};
 ghost use Rattle.brpc_eng.specs.ProgramAnswers.{OpenedNothing, Wrote, FaultWritten, ReplayedInput, by_turns, in_memory, CountsStand, faults_over, linker_over, sink_over, source_over};
 
 use crate::input::{read_input, tell_fault};

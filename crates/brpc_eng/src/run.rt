@@ -5,7 +5,7 @@ ghost use Rattle.script_links.specs.LinksGivenBack.{has_piece};
 ghost use Rattle.script_links.specs.OfferedLinks.{TellOffers};
 ghost use Rattle.script_threads.specs.ServedLinksOfReport.{IsShort};
 ghost use Rattle.script_run.specs.Played.{TellClosed, turns_of};
-ghost use Rattle.brpc_eng.specs.Status.{number_of};
+ghost use Rattle.brpc_eng.specs.StatusNumbers.{number_of};
 ghost use Rattle.brpc_eng.specs.ProgramAnswers.{OpenedNothing, OpenedBy, Ran, TextWritten, linker_over, sink_over};
 
 use crate::status::Status;

@@ -1,7 +1,7 @@
 ghost use Rattle.std.specs.Prelude.{◌≡◌, ◌≢◌, ◌⊎◌};
 ghost use Rattle.script_links.specs.OfferedLinks.{TellOffers};
 ghost use Rattle.script_run.specs.Played.{TellClosed};
-ghost use Rattle.brpc_eng.specs.Status.{number_of};
+ghost use Rattle.brpc_eng.specs.StatusNumbers.{number_of};
 ghost use Rattle.brpc_eng.specs.ProgramAnswers.{UnusedLinker, ServedPort, TextWritten, WroteNothing, served_text, linker_over, sink_over};
 
 use crate::doors::Doors;

@@ -23,7 +23,7 @@ pub enum Status {
 }
 
 impl Status {
-    ghost use Rattle.brpc_eng.specs.Status.{number_of};
+    ghost use Rattle.brpc_eng.specs.StatusNumbers.{number_of};
 
     /// The number with which the program ends.
     pub fn number(self) -> u8

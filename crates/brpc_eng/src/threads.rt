@@ -4,7 +4,7 @@ ghost use Rattle.script_links.specs.LinksGivenBack.{has_piece};
 ghost use Rattle.script_links.specs.OfferedLinks.{TellOffers};
 ghost use Rattle.script_threads.specs.ServedLinksOfReport.{IsShort};
 ghost use Rattle.script_run.specs.Played.{TellClosed};
-ghost use Rattle.brpc_eng.specs.Status.{number_of};
+ghost use Rattle.brpc_eng.specs.StatusNumbers.{number_of};
 ghost use Rattle.brpc_eng.specs.ProgramAnswers.{OpenedNothing, OpenedBy, RanOnThreads, ReplayedInput, RunTold, CountsStand, run_mode, faults_over, linker_over, sink_over, source_over};
 
 use crate::input::{read_input, tell_fault};

@@ -5,7 +5,7 @@ use Rattle.sock_io.specs.LinkHalves.{OutState}
 use Rattle.sock_words.specs.declared.plain.Plan.{Plan}
 use Rattle.sock_words.specs.declared.socket_id.SocketId.{SocketId}
 use Rattle.sock_table.specs.NamesStoredAndFound.{Found}
-use Rattle.corr_core.specs.Law.{is_tried}
+use Rattle.corr_core.specs.IdSlotLaw.{is_tried}
 use Rattle.corr_core.specs.declared.marks.Plan as id_plan
 use Rattle.corr_core.specs.declared.marks.View as id_view
 use Rattle.id_rule.specs.LawfulIdTable.{call_index, notes_of, with_kept}

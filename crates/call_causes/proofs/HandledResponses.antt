@@ -4,7 +4,7 @@ use Rattle.std.specs.Prelude.{slice_index}
 use Rattle.seat_programs.specs.brpc_model.specs.Frame.{Frame}
 use Rattle.seat_programs.specs.brpc_model.specs.FrameStream as streams
 use Rattle.seat_programs.specs.brpc_model.specs.LinkFailureCauses.{HasFault}
-use Rattle.corr_core.specs.Word.{Parts, parts}
+use Rattle.corr_core.specs.IdSlotWord.{Parts, parts}
 use Rattle.corr_core.specs.IdRangeVersions.{has_version, is_early}
 use Rattle.seat_programs.specs.id_rule.specs.LawfulIdTable.{id_index}
 use Rattle.seat_programs.specs.LoopHeads.{Reading}

@@ -3,8 +3,8 @@ use Rattle.std.proofs.Common.{◌≡◌, ℕ, ◌+◌, ◌-◌, ◌<◌, ◌≤�
 use Rattle.std.proofs.lemmas.Bool.{true≢false}
 use Rattle.sock_words.specs.declared.outcome.Outcome.{Outcome}
 use Rattle.sock_words.specs.ErrorCodes.{is_final}
-use Rattle.corr_core.specs.Word.{parts, posted_word}
-use Rattle.corr_core.specs.Law.{LAST}
+use Rattle.corr_core.specs.IdSlotWord.{parts, posted_word}
+use Rattle.corr_core.specs.IdSlotLaw.{LAST}
 use Rattle.corr_core.specs.IdRangeVersions.{has_version, is_early}
 use Rattle.seat_programs.specs.brpc_model.specs.Frame.{Frame}
 use Rattle.seat_programs.specs.brpc_model.specs.FrameStream as streams

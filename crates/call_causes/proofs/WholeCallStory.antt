@@ -4,7 +4,7 @@ use Rattle.std.proofs.lemmas.List.{append-nil}
 use Rattle.std.specs.List.{AllByRecursion}
 use Rattle.seat_programs.specs.brpc_model.specs.Items.{Item}
 use Rattle.seat_programs.specs.brpc_model.specs.Operations.{Turn}
-use Rattle.corr_core.specs.Word.{parts}
+use Rattle.corr_core.specs.IdSlotWord.{parts}
 use Rattle.seat_programs.specs.id_rule.specs.LawfulIdTable.{id_index}
 use Rattle.seat_programs.specs.Cores.{Core}
 use Rattle.seat_programs.specs.declared.task.Op.{Op}

@@ -18,7 +18,7 @@ use Rattle.call_attempts.specs.sock_open.specs.NewTableContents.{IsNewSeat}
 use Rattle.corr_id.specs.IdTableSeat.{Sits, IsFree}
 use Rattle.rpc_client.specs.declared.holding.Held.{Held}
 use Rattle.rpc_client.specs.SeatBetweenOperations.{Idle, MayAct, AtRest, SameRefs}
-use Rattle.rpc_client.specs.ReferencesHeldByClient.{is_there, IsHolder, HeldBy, DroppedBy}
+use Rattle.rpc_client.specs.HoldAndDropOutcomes.{is_there, IsHolder, HeldBy, DroppedBy}
 use Rattle.rpc_client.specs.AcceptedClientMessages.{OwnList}
 use Rattle.rpc_client.proofs.CountedReferences.{holder_same}
 use Rattle.rpc_client.proofs.NewSeatsOwnList.{sent_own, new_idle, new_holder, new_own}

@@ -6,8 +6,8 @@ use Rattle.sock_io.specs.LinkHalves.{OutState}
 use Rattle.sock_words.specs.ErrorCodes.{EINTERNAL}
 use Rattle.sock_words.specs.declared.plain.Plan.{Plan}
 use Rattle.seat_programs.specs.declared.task.Task.{Task}
-use Rattle.corr_core.specs.Word.{Parts, parts}
-use Rattle.corr_core.specs.Law.{is_ended}
+use Rattle.corr_core.specs.IdSlotWord.{Parts, parts}
+use Rattle.corr_core.specs.IdSlotLaw.{is_ended}
 use Rattle.corr_core.specs.declared.marks.Note.{Note}
 use Rattle.corr_core.specs.declared.marks.Note.TheVariants.{Made, Locker, Attempt}
 use Rattle.corr_core.specs.declared.marks.Noted.{Noted}

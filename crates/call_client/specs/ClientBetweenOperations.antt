@@ -22,7 +22,7 @@ use Rattle.seat_programs.specs.declared.task.Task.{Task}
 use Rattle.rpc_client.specs.declared.holding.Held.{Held}
 use Rattle.rpc_client.specs.SeatBetweenOperations.{Idle}
 use Rattle.rpc_client.specs.OpenOutcomes.{OpenedBy}
-use Rattle.rpc_client.specs.ReferencesHeldByClient.{IsHolder, HeldBy, DroppedBy}
+use Rattle.rpc_client.specs.HoldAndDropOutcomes.{IsHolder, HeldBy, DroppedBy}
 use Rattle.rpc_client.specs.FailOutcomes.{FailedBy}
 use Rattle.rpc_client.specs.AcceptedClientMessages.{OwnList}
 use Rattle.call_errors.specs.ClientBooks.{CallStand, stand_of, HasNoLock}

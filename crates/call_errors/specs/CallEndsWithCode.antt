@@ -1,6 +1,6 @@
 -- A call ends with a code.
 use Rattle.std.specs.Prelude.{ℕ, []}
-use Rattle.corr_core.specs.Word.{parts}
+use Rattle.corr_core.specs.IdSlotWord.{parts}
 use Rattle.corr_core.specs.declared.marks.Note.TheVariants.{Ended}
 use Rattle.sock_words.specs.declared.outcome.Outcome.TheVariants.{CallFailed}
 use Rattle.sock_message.specs.Asked.{Asked}

@@ -1,7 +1,7 @@
 // An error for which a seat has the lock.
 ghost use Rattle.std.specs.Prelude.{◌≡◌, ◌+◌, ◌<◌};
 ghost use Rattle.std.specs.VecDeque.{deque_len, deque_capacity};
-ghost use Rattle.corr_core.specs.Word.{parts};
+ghost use Rattle.corr_core.specs.IdSlotWord.{parts};
 ghost use Rattle.corr_core.specs.declared.marks.Hand.TheVariants.{Empty};
 ghost use Rattle.corr_id.specs.IdTableSeat.{Sits, Stays};
 ghost use Rattle.corr_id.specs.SeatBehindIdCalls.{Locks};

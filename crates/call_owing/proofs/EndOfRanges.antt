@@ -4,7 +4,7 @@ use Rattle.std.specs.List.{flat_map}
 use mathlib.Core.Option.{some}
 use lib.ListN.{get_elem?}
 use Rattle.sock_words.specs.declared.plain.Plan.{Plan}
-use Rattle.corr_core.specs.Law.{Stands, vacant, retired, claimed, opened, locked, leaving}
+use Rattle.corr_core.specs.IdSlotLaw.{Stands, vacant, retired, claimed, opened, locked, leaving}
 use Rattle.corr_core.specs.declared.marks.Plan.{Plan as IdPlan}
 use Rattle.seat_programs.specs.id_rule.specs.LawfulIdTable.{local, tokens_in, tokens_of}
 use Rattle.seat_programs.specs.Programs.{Rest}

@@ -8,7 +8,7 @@ use Rattle.sock_io.specs.declared.link.Ready.{Ready}
 use Rattle.sock_io.specs.declared.link.Ready.TheVariants as asks
 use Rattle.sock_model.specs.declared.chain.Heading.{Heading}
 use Rattle.sock_model.specs.Entries.{ticket_of}
-use Rattle.corr_core.specs.Word.{parts, attempt_of, error_of}
+use Rattle.corr_core.specs.IdSlotWord.{parts, attempt_of, error_of}
 use Rattle.seat_programs.specs.BufferParts.{part}
 use Rattle.seat_programs.specs.sock_message.specs.Asked.{Asked, name_of, frame_of}
 use Rattle.seat_programs.specs.TableSteps.{SubRef, AddRef, StoreCode, LoadLink, TakeLink, FinishLink, PutLink, FreeSlot, LoadName, FreeRequest, ReadNext, FindLink, LookWord, ReverseNext, Connect}

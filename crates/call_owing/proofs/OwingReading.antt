@@ -2,7 +2,7 @@
 use Rattle.std.proofs.Common.{◌≡◌, ℕ, ◌+◌, ◌-◌, ◌%◌, ◌<◌, ◌&&◌, ◌||◌, inl, inr, Bool, true, false, cond, eqb, nat_lt, List, [], ◌∷◌, Option, Some, None, length, refl, sym, ap, ◌∙◌, subst, arith}
 use Rattle.sock_words.specs.PackedWords.{socket_id_slot, socket_id_version, vref_version, at_word_first, at_word_slot, at_word_link, at_word_attempt, call_id, id_slot, id_first, NO_SOCKET}
 use Rattle.sock_words.specs.ErrorCodes.{is_final}
-use Rattle.corr_core.specs.Word.{parts, error_of, code_of, attempt_of}
+use Rattle.corr_core.specs.IdSlotWord.{parts, error_of, code_of, attempt_of}
 use Rattle.seat_programs.specs.brpc_model.specs.Frame.{Frame}
 use Rattle.seat_programs.specs.TableSteps.{AddRef, StoreCode, SubRef}
 use Rattle.seat_programs.specs.LoopHeads.{Reads, Discards, Posting, HasLocked, Ended}

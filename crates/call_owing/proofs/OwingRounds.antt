@@ -1,6 +1,6 @@
 -- From the head of each loop one round goes on with what is owed.
 use Rattle.std.proofs.Common.{◌≡◌, ℕ, ◌+◌, ◌-◌, ◌&&◌, not, Bool, true, false, cond, eqb, eqb-true, nat_lt, List, [], ◌∷◌, ◌++◌, Option, Some, None, length, refl, sym, ap, ◌∙◌, subst}
-use Rattle.corr_core.specs.Word.{Parts, parts, locked_word, posted_word}
+use Rattle.corr_core.specs.IdSlotWord.{Parts, parts, locked_word, posted_word}
 use Rattle.corr_core.specs.IdRangeVersions.{is_early}
 use Rattle.seat_programs.specs.brpc_model.specs.Frame.{Frame}
 use Rattle.seat_programs.specs.brpc_model.specs.FrameStream as streams

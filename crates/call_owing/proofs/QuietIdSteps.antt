@@ -11,7 +11,7 @@ use Rattle.sock_words.specs.declared.outcome.Outcome.{Outcome}
 use Rattle.sock_model.specs.declared.chain.Heading.{Heading}
 use Rattle.sock_model.specs.declared.home.Home.{Home}
 use Rattle.sock_model.specs.declared.home.Home.TheVariants.{Message}
-use Rattle.corr_core.specs.Word.{attempt_of}
+use Rattle.corr_core.specs.IdSlotWord.{attempt_of}
 use Rattle.corr_core.specs.declared.marks.Plan.{Plan as IdPlan}
 use Rattle.seat_programs.specs.TableSteps.{TableStep, AddRef, SetOdd, LookWord}
 use Rattle.seat_programs.specs.Cores.{Core, SeatState, waiting_at}

@@ -54,7 +54,7 @@ module _ (q : IdPlan) (life : ℕ → Option ℕ) (calls : List ℕ) (c : Core) 
     past_from id n p = ⊎_elim (λ b. (i, u, at, subst (Among id n) m.same.knows (subst (λ (w : Owing). Among id n w.knows) (sym b.1) p.3))) (λ b. (p.0, p.1, b.1, p.3)) (at_set us i p.0 v p.1 p.2)
 
     error_to : (id e : ℕ) → ErrorPast us id e → ErrorPast (set us i v) id e
-    error_to id e p some_ = ⊎_elim (λ x. inl x) (λ x. inr (past_to id (Rattle.corr_core.specs.Word.attempt_of e) x)) (p some_)
+    error_to id e p some_ = ⊎_elim (λ x. inl x) (λ x. inr (past_to id (Rattle.corr_core.specs.IdSlotWord.attempt_of e) x)) (p some_)
 
     token_from : (id n j : ℕ) → Token Waits (set us i v) id n j → Token c us id n j
     token_from id n j t = ⊎_elim

@@ -3,8 +3,8 @@ use Rattle.std.specs.Prelude.{ℕ, ◌≡◌, ◌+◌, ◌-◌, ◌≤◌, ◌�
 use Rattle.sock_io.specs.declared.link.Put.{Put}
 use Rattle.sock_io.specs.declared.link.Ready.{Ready}
 use Rattle.sock_model.specs.declared.chain.Heading.{Heading}
-use Rattle.corr_core.specs.Word.{parts, attempt_of}
-use Rattle.corr_core.specs.ErrorsThatEndCalls.{ends_call}
+use Rattle.corr_core.specs.IdSlotWord.{parts, attempt_of}
+use Rattle.corr_core.specs.EndedByRangeOrAttempt.{ends_call}
 use Rattle.seat_programs.specs.Asides.{Found}
 use Rattle.seat_programs.specs.LoopHeads.{Head, Exit, Sought, First, Posts, Unlocks, Decides, Locks, Joins, Opens, Reads, Posting, HasLocked, Unlocking, IsOpen, HasNext, Locking, NotThere, Has}
 use Rattle.seat_programs.specs.Programs.{Program, Do, Say, Sent, Rest, TakeMessage, TakeHome, PutHome, PutBytes, AskReady, Write, Aside, Round, Keep, Retries}

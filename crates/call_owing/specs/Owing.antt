@@ -1,7 +1,7 @@
 -- What a seat owes to a call: marks without words of their own, and how each step may change them.
 use Rattle.std.specs.Prelude.{ℕ, ◌≡◌, ◌≢◌, ◌+◌, ◌-◌, ◌%◌, ◌<◌, ◌≤◌, ◌⊎◌, ◌==◌, Bool, true, false, if◌then◌else◌, List, [], ◌∷◌, Option, Some, None}
 use Rattle.sock_words.specs.PackedWords.{socket_id_version, socket_id_slot, vref_version, at_word, at_word_first, at_word_slot, at_word_link, at_word_attempt, call_id, id_slot, id_first, NO_SOCKET, bit}
-use Rattle.corr_core.specs.Word.{Parts, parts, attempt_of}
+use Rattle.corr_core.specs.IdSlotWord.{Parts, parts, attempt_of}
 use Rattle.seat_programs.specs.TableSteps.{TableStep, AddRef, SetOdd, LookWord, FindLink, LoadOpen, PutMessage}
 use Rattle.seat_programs.specs.Asides.{Step, MakeId, StoreAt, LoadAt, LoadIdWord, LockId, PostId, UnlockId, EndId, TakeBytes, Taking, Closed, Found}
 use Rattle.seat_programs.specs.PostPrograms.{is_first}

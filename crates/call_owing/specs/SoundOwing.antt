@@ -6,7 +6,7 @@ use Rattle.sock_words.specs.PackedWords.{socket_id_version, socket_id_slot, vref
 use Rattle.sock_model.specs.declared.chain.Heading.{Heading}
 use Rattle.sock_model.specs.declared.home.Home.TheVariants.{Message}
 use Rattle.sock_model.specs.SocketTableLayout.{ref_index}
-use Rattle.corr_core.specs.Word.{Parts, parts, attempt_of}
+use Rattle.corr_core.specs.IdSlotWord.{Parts, parts, attempt_of}
 use Rattle.corr_core.specs.declared.marks.Plan.{Plan as IdPlan}
 use Rattle.seat_programs.specs.id_rule.specs.LawfulIdTable as ids
 use Rattle.seat_programs.specs.LoopHeads.{Retry}

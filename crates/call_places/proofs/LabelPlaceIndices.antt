@@ -13,7 +13,7 @@ use Rattle.call_run.specs.sock_rule.specs.declared.homes.Letter.{Letter}
 use Rattle.seat_programs.specs.declared.task.Op.{Op}
 use Rattle.seat_programs.specs.declared.task.Op.TheVariants as ops
 use Rattle.seat_programs.specs.declared.task.Task.{Task}
-use Rattle.corr_core.specs.Law.{only}
+use Rattle.corr_core.specs.IdSlotLaw.{only}
 use Rattle.corr_core.specs.declared.marks.Plan as id_plan
 use Rattle.corr_core.proofs.NoteSums.{only-at, only-else, total_mono}
 use Rattle.call_run.specs.call_client.specs.call_errors.specs.declared.retries.Retry.{Retry}

@@ -1,7 +1,7 @@
 -- Whoever reads a link, and ends the calls that are left, makes no id, and what its seat noted stays noted.
 use Rattle.std.proofs.Common.{◌≡◌, ℕ, ◌+◌, ◌≤◌, List, [], refl, ap, ◌∙◌, arith}
 use Rattle.std.specs.Prelude.{Option}
-use Rattle.corr_core.specs.Word.{Parts, parts}
+use Rattle.corr_core.specs.IdSlotWord.{Parts, parts}
 use Rattle.corr_core.specs.declared.marks.Note.{Note}
 use Rattle.corr_core.specs.declared.marks.Note.TheVariants.{Ended, Locker, Queued}
 use Rattle.corr_core.specs.declared.marks.Token.{Token}

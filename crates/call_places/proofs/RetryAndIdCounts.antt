@@ -13,8 +13,8 @@ use Rattle.sock_words.specs.declared.socket_id.SocketId.{SocketId}
 use Rattle.seat_programs.specs.declared.task.Op.{Op}
 use Rattle.seat_programs.specs.declared.task.Op.TheVariants as ops
 use Rattle.seat_programs.specs.declared.task.Task.{Task}
-use Rattle.corr_core.specs.Word.{Parts, parts}
-use Rattle.corr_core.specs.Law.{only, pair}
+use Rattle.corr_core.specs.IdSlotWord.{Parts, parts}
+use Rattle.corr_core.specs.IdSlotLaw.{only, pair}
 use Rattle.corr_core.specs.declared.marks.Note.{Note}
 use Rattle.corr_core.specs.declared.marks.Note.TheVariants.{Made, Locker}
 use Rattle.corr_core.specs.declared.marks.Noted.{Noted}
@@ -210,7 +210,7 @@ module _ {O : Type 0} (state : O → OutState) (p : Plan) (q : id_plan.Plan) whe
       let d = m.made.did in record {
         grows = λ i f. (let x = d.grows i f in let y = ap (λ (l : List (Noted Asked)). total f (notes_of i l)) noted in omega arith);
         made = λ o. (let x = did_all (makes o) (makes_silent o) (id_slot id) s.calls.view m.view [] (one (id_slot id) (Made (id_first id) asked.range asked)) d in let y = ap (total (makes o)) noted in omega arith);
-        backed = λ i f n low. (let x = d.grows i (Rattle.corr_core.specs.Law.is_attempt f n) in let y = ap (λ (l : List (Noted Asked)). total (Rattle.corr_core.specs.Law.is_attempt f n) (notes_of i l)) noted in
+        backed = λ i f n low. (let x = d.grows i (Rattle.corr_core.specs.IdSlotLaw.is_attempt f n) in let y = ap (λ (l : List (Noted Asked)). total (Rattle.corr_core.specs.IdSlotLaw.is_attempt f n) (notes_of i l)) noted in
             let z = ap (total (is_retry (i * 4294967296 + f) n)) rs in omega arith);
         first = (let z = ap (total is_first) rs in omega arith);
       }

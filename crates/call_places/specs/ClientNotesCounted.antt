@@ -1,6 +1,6 @@
 -- What the closed table of ids has of the seats of the clients.
 use Rattle.std.specs.Prelude.{ℕ, ◌≤◌, List}
-use Rattle.corr_core.specs.Law.{only}
+use Rattle.corr_core.specs.IdSlotLaw.{only}
 use Rattle.corr_core.specs.declared.marks.Note.{Note}
 use Rattle.corr_core.specs.declared.marks.Note.TheVariants.{Made}
 use Rattle.corr_core.specs.declared.marks.Noted.{Noted}

@@ -1,6 +1,6 @@
 -- What a seat has still to do with a call id, by where it stands; k is what follows.
 use Rattle.std.specs.Prelude.{ℕ, ◌≡◌, ◌<◌, IsTrue, Option, Some, None}
-use Rattle.corr_core.specs.Word.{parts, code_of}
+use Rattle.corr_core.specs.IdSlotWord.{parts, code_of}
 use Rattle.seat_programs.specs.Asides.{Step, FreeId}
 use Rattle.seat_programs.specs.LoopHeads.{Retry, Posts, Unlocks, Decides, Locks, Posting, Deciding, HasEnded, GoesOn, Locking}
 use Rattle.seat_programs.specs.PostPrograms.{decide, end_id, post_with, unlocked}

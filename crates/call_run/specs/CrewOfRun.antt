@@ -12,7 +12,7 @@ use Rattle.sock_model.specs.declared.view.View as sock_view
 use Rattle.sock_rule.specs.declared.homes.SockHome.{SockHome}
 use Rattle.sock_table.specs.ClosedSocketTable.{AllDone, ClosedBy}
 use Rattle.sock_open.specs.SocketTableOpening.{IsRoom}
-use Rattle.corr_core.specs.Law.{Each}
+use Rattle.corr_core.specs.IdSlotLaw.{Each}
 use Rattle.corr_core.specs.declared.marks.Plan as id_plan
 use Rattle.corr_core.specs.declared.marks.View as id_view
 use Rattle.corr_id.specs.declared.table.IdTable.{IdTable}

@@ -4,8 +4,8 @@ use Rattle.std.proofs.Props.{props}
 use mathlib.Core.Option as core
 use lib.ListN.{get_elem?}
 use Rattle.sock_words.specs.declared.plain.Plan.{Plan}
-use Rattle.corr_core.specs.Word.{parts}
-use Rattle.corr_core.specs.Law.{LAST}
+use Rattle.corr_core.specs.IdSlotWord.{parts}
+use Rattle.corr_core.specs.IdSlotLaw.{LAST}
 use Rattle.corr_core.specs.declared.marks.Plan.{Plan as IdPlan}
 use Rattle.corr_core.specs.declared.marks.Hand.TheVariants.{Empty}
 use Rattle.corr_core.specs.declared.marks.Token.TheVariants.{Locked}

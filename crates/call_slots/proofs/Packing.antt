@@ -1,7 +1,7 @@
 -- A word is what its parts are packed into.
 use Rattle.std.proofs.Common.{◌≡◌, ◌≢◌, ℕ, ◌+◌, ◌*◌, ◌/◌, ◌%◌, ◌==◌, Bool, true, false, cond, if◌then◌else◌, refl, ap, sym, ◌∙◌, arith}
 use Rattle.std.proofs.lemmas.Bool.{eqb-true, eqb-false, eq-eqb, ne_eqb}
-use Rattle.corr_core.specs.Word.{Parts, parts, locked_word, posted_word}
+use Rattle.corr_core.specs.IdSlotWord.{Parts, parts, locked_word, posted_word}
 use Rattle.seat_programs.specs.PostPrograms.{packed}
 use Rattle.call_slots.specs.WordOfStep.{left_by}
 

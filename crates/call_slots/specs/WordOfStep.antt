@@ -1,7 +1,7 @@
 -- The word of a step: where it is, and what it becomes.
 use Rattle.std.specs.Prelude.{ℕ, ◌≡◌, ◌+◌, ◌<◌, ◌≤◌, ◌==◌, if◌then◌else◌, IsTrue}
 use Rattle.corr_core.specs.declared.marks.Plan.{Plan}
-use Rattle.corr_core.specs.Word.{parts, made_word, posted_word, unlocked_word, free_word}
+use Rattle.corr_core.specs.IdSlotWord.{parts, made_word, posted_word, unlocked_word, free_word}
 use Rattle.corr_core.specs.IdTableLayout.{tag_index, id_index, call_index, at_index}
 use Rattle.seat_programs.specs.PostPrograms.{packed}
 use Rattle.id_points.specs.IdsAndAttemptNumbers.{id_of}

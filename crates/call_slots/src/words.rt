@@ -1,5 +1,5 @@
 ghost use Rattle.std.specs.Prelude.{◌≡◌, ◌≢◌, ◌+◌, ◌<◌, ◌≤◌, IsTrue, length, slice_index, slice_set};
-ghost use Rattle.corr_core.specs.Word.{parts, made_word, posted_word, unlocked_word, free_word};
+ghost use Rattle.corr_core.specs.IdSlotWord.{parts, made_word, posted_word, unlocked_word, free_word};
 ghost use Rattle.seat_programs.specs.PostPrograms.{packed};
 ghost use Rattle.call_slots.specs.WordOfStep.{index_of, next_of, left_by, WordFits};
 ghost use Rattle.sock_words.specs.PackedWords.{bit};

@@ -4,8 +4,8 @@ use mathlib.Core.Option as core
 use mathlib.Core.Option.{some-injective, some-ne-none}
 use lib.ListN.{get_elem?}
 use Rattle.sock_words.specs.declared.plain.Plan.{Plan}
-use Rattle.corr_core.specs.Word.{parts}
-use Rattle.corr_core.specs.Law.{Local, SlotLaw, Stands, vacant, retired, claimed, opened, locked, leaving}
+use Rattle.corr_core.specs.IdSlotWord.{parts}
+use Rattle.corr_core.specs.IdSlotLaw.{Local, SlotLaw, Stands, vacant, retired, claimed, opened, locked, leaving}
 use Rattle.corr_core.specs.declared.marks.Plan.{Plan as IdPlan}
 use Rattle.seat_programs.specs.id_rule.specs.LawfulIdTable.{tag_index, id_index, call_index, at_index, all_words, local}
 use Rattle.sock_message.specs.Asked.{Asked}

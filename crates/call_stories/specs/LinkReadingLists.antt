@@ -11,7 +11,7 @@ use Rattle.seat_programs.specs.brpc_model.specs.FrameStream.{stream, is_fault}
 use Rattle.seat_programs.specs.id_rule.specs.LawfulIdTable.{id_index}
 use Rattle.seat_programs.specs.Asides.{Step, Found, UnlockId, Taking, NoMore, AtEnd, Closed, Broken}
 use Rattle.seat_programs.specs.Programs.{Program, Aside}
-use Rattle.corr_core.specs.Word.{parts}
+use Rattle.corr_core.specs.IdSlotWord.{parts}
 use Rattle.corr_core.specs.IdRangeVersions.{is_early}
 use Rattle.seat_programs.specs.ReaderProgram.{LIMIT, has_response, slot_in, version_in}
 use Rattle.seat_programs.specs.FoundAndChangedAside.{found_in, taking_in}

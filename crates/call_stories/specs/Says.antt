@@ -10,9 +10,9 @@ use Rattle.sock_model.specs.declared.chain.Heading.{Heading}
 use Rattle.seat_programs.specs.brpc_model.specs.Frame.{Frame}
 use Rattle.seat_programs.specs.brpc_model.specs.FrameStream.{stream}
 use Rattle.seat_programs.specs.brpc_model.specs.LinkFailureCauses.{HasFault}
-use Rattle.corr_core.specs.Word.{Parts, parts, code_of, attempt_of, unlocked_word}
+use Rattle.corr_core.specs.IdSlotWord.{Parts, parts, code_of, attempt_of, unlocked_word}
 use Rattle.corr_core.specs.declared.marks.Plan.{Plan as IdPlan}
-use Rattle.corr_core.specs.ErrorsThatEndCalls.{WHOLE}
+use Rattle.corr_core.specs.EndedByRangeOrAttempt.{WHOLE}
 use Rattle.sock_message.specs.Asked.{Asked, name_of}
 use Rattle.seat_programs.specs.declared.task.Op.TheVariants as ops
 use Rattle.seat_programs.specs.declared.task.Task.{Task}

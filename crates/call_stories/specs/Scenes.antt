@@ -7,9 +7,9 @@ use Rattle.sock_words.specs.declared.outcome.Outcome.TheVariants.{Opened, SlotsF
 use Rattle.seat_programs.specs.brpc_model.specs.Frame.{Frame}
 use Rattle.seat_programs.specs.brpc_model.specs.FrameStream.{stream}
 use Rattle.seat_programs.specs.brpc_model.specs.LinkFailureCauses.{HasFault}
-use Rattle.corr_core.specs.Word.{parts, error_of, code_of, attempt_of}
+use Rattle.corr_core.specs.IdSlotWord.{parts, error_of, code_of, attempt_of}
 use Rattle.corr_core.specs.declared.marks.Plan.{Plan as IdPlan}
-use Rattle.corr_core.specs.ErrorsThatEndCalls.{WHOLE}
+use Rattle.corr_core.specs.EndedByRangeOrAttempt.{WHOLE}
 use Rattle.seat_programs.specs.id_rule.specs.LawfulIdTable.{id_index, call_index}
 use Rattle.sock_model.specs.SocketTableLayout.{name_index}
 use Rattle.sock_message.specs.Asked.{Asked, name_of}

@@ -1,6 +1,6 @@
 -- What is done about an error of a call.
 use Rattle.std.specs.Prelude.{ℕ, Bool, if◌then◌else◌}
-use Rattle.corr_core.specs.ErrorsThatEndCalls.{is_ended_by}
+use Rattle.corr_core.specs.EndedByRangeOrAttempt.{is_ended_by}
 use Rattle.call_table.specs.declared.errors.Decision.{Decision}
 use Rattle.call_table.specs.declared.errors.Decision.TheVariants.{End, Retry}
 

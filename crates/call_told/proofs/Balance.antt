@@ -1,7 +1,7 @@
 -- Counts of what is told of calls that ended, beside what seats noted of them.
 use Rattle.std.proofs.Common.{◌≡◌, ℕ, ◌+◌, ◌*◌, ◌<◌, true, false, cond, eqb, List, [], ◌∷◌, ◌++◌, map, refl, ◌∙◌, ap, sym, arith}
 use Rattle.std.specs.List.{AllByRecursion, flat_map}
-use Rattle.corr_core.specs.Law.{only, is_ended}
+use Rattle.corr_core.specs.IdSlotLaw.{only, is_ended}
 use Rattle.corr_core.specs.declared.marks.Note.TheVariants.{Ended}
 use Rattle.corr_core.specs.declared.marks.Noted.{Noted}
 use Rattle.corr_core.specs.declared.marks.View.{View}

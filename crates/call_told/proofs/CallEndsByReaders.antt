@@ -1,7 +1,7 @@
 -- How calls end for whoever meets frames, posts the end of a reading, and ends what is left.
 use Rattle.std.proofs.Common.{ℕ, List, refl, ap}
 use Rattle.sock_words.specs.declared.outcome.Outcome.{Outcome}
-use Rattle.corr_core.specs.Word.{Parts}
+use Rattle.corr_core.specs.IdSlotWord.{Parts}
 use Rattle.corr_core.specs.declared.marks.Plan.{Plan}
 use Rattle.corr_core.specs.declared.marks.View.{View}
 use Rattle.sock_message.specs.Asked.{Asked}

@@ -21,7 +21,7 @@ use Rattle.corr_id.specs.declared.posts.Posted.TheVariants.{Locked as HasLock, G
 use Rattle.call_deeds.specs.Below.RpcClient.Told.{Told}
 use Rattle.call_deeds.specs.Below.RpcClient.Held.{Held}
 use Rattle.call_deeds.specs.Below.RpcClient.OpenOutcomes.{OpenedBy}
-use Rattle.call_deeds.specs.Below.RpcClient.ReferencesHeldByClient.{HeldBy, DroppedBy}
+use Rattle.call_deeds.specs.Below.RpcClient.HoldAndDropOutcomes.{HeldBy, DroppedBy}
 use Rattle.call_deeds.specs.Below.RpcClient.FailOutcomes.{FailedBy}
 use Rattle.call_deeds.specs.Below.RpcClient.ToldOfOperation.{telling}
 use Rattle.call_deeds.specs.Below.CallErrors.ClientBooks.{Books, CallStand, starving, Tells, told, lost}

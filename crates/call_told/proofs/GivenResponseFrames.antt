@@ -11,7 +11,7 @@ use Rattle.prpc_frame.specs.StreamCuts.{Cut}
 use Rattle.prpc_frame.specs.FrameMeaning.{frame_of}
 use Rattle.prpc_frame.specs.declared.frame.Frame.{Frame}
 use Rattle.prpc_frame.proofs.StreamCuts.{stream_begins}
-use Rattle.corr_core.specs.Word.{Parts}
+use Rattle.corr_core.specs.IdSlotWord.{Parts}
 use Rattle.corr_core.specs.IdRangeVersions.{has_version}
 use Rattle.call_deeds.specs.Below.RpcReader.Met.{has_response, slot_in, version_in, is_for}
 use Rattle.call_told.specs.TellersOfCallEnds.{IsGiven, IsGivenResponse}

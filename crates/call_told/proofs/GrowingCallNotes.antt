@@ -1,7 +1,7 @@
 -- What a seat noted it has noted still, what it keeps in mind it keeps, and the words that it stored itself are counted.
 use Rattle.std.proofs.Common.{◌≡◌, ℕ, ◌+◌, ◌≤◌, Bool, cond, List, ap, arith}
 use Rattle.std.specs.Prelude.{Option as Maybe}
-use Rattle.corr_core.specs.Law.{only}
+use Rattle.corr_core.specs.IdSlotLaw.{only}
 use Rattle.corr_core.specs.declared.marks.Kept.{Kept}
 use Rattle.corr_core.specs.declared.marks.Note.{Note}
 use Rattle.corr_core.specs.declared.marks.Noted.{Noted}

@@ -8,8 +8,8 @@ use Rattle.sock_io.specs.declared.link.Out.{Ghosts}
 use Rattle.sock_io.specs.LinkHalves.{OutState}
 use Rattle.sock_words.specs.declared.plain.Plan.{Plan}
 use Rattle.seat_programs.specs.declared.task.Task.{Task}
-use Rattle.corr_core.specs.Word.{Parts, parts}
-use Rattle.corr_core.specs.Law.{is_any_made}
+use Rattle.corr_core.specs.IdSlotWord.{Parts, parts}
+use Rattle.corr_core.specs.IdSlotLaw.{is_any_made}
 use Rattle.corr_core.specs.declared.marks.Note.{Note}
 use Rattle.corr_core.specs.declared.marks.Note.TheVariants.{Made, Attempt}
 use Rattle.corr_core.specs.declared.marks.Noted.{Noted}

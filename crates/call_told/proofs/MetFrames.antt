@@ -10,7 +10,7 @@ use Rattle.brpc_model.specs.Frame.{NoneYet, judged}
 use Rattle.brpc_model.specs.FrameStream.{Stream, stream}
 use Rattle.sock_io.specs.LinkHalves.{InState}
 use Rattle.sock_io.specs.declared.link.Take.{Take}
-use Rattle.corr_core.specs.Word.{Parts}
+use Rattle.corr_core.specs.IdSlotWord.{Parts}
 use Rattle.corr_core.specs.declared.marks.Plan.{Plan}
 use Rattle.prpc_frame.specs.FrameMeaning.{frame_of}
 use Rattle.prpc_frame.specs.declared.frame.Frame.{Frame}
@@ -24,8 +24,8 @@ use Rattle.call_deeds.specs.Below.RpcReader.ReadingTakeByTake.{bytes_of}
 use Rattle.call_deeds.specs.Below.RpcReader.ReaderRunFromOpen.{throws, ReadLink}
 use Rattle.call_deeds.specs.Below.RpcReader.How.{How}
 use Rattle.call_deeds.specs.Below.RpcReader.HowVariants as how
-use Rattle.corr_core.specs.Word.{parts}
-use Rattle.corr_core.specs.Law.{is_ended}
+use Rattle.corr_core.specs.IdSlotWord.{parts}
+use Rattle.corr_core.specs.IdSlotLaw.{is_ended}
 use Rattle.corr_core.specs.declared.marks.Note.{Note}
 use Rattle.corr_core.specs.declared.marks.Noted.{Noted}
 use Rattle.corr_core.specs.declared.marks.Kept.{Kept}

@@ -11,8 +11,8 @@ use Rattle.sock_words.specs.PackedWords.{at_word_link, id_slot, id_first}
 use Rattle.sock_words.specs.declared.at_word.AtWord.{AtWord}
 use Rattle.sock_words.specs.declared.outcome.Outcome.{Outcome}
 use Rattle.sock_words.specs.declared.outcome.Outcome.TheVariants.{CallFailed}
-use Rattle.corr_core.specs.Word.{Parts, parts, locked_word}
-use Rattle.corr_core.specs.Law.{is_ended}
+use Rattle.corr_core.specs.IdSlotWord.{Parts, parts, locked_word}
+use Rattle.corr_core.specs.IdSlotLaw.{is_ended}
 use Rattle.corr_core.specs.declared.marks.Note.{Note}
 use Rattle.corr_core.specs.declared.marks.Note.TheVariants.{Ended}
 use Rattle.corr_core.specs.declared.marks.Plan.{Plan}

@@ -11,7 +11,7 @@ use Rattle.brpc_model.specs.Meta.{ResponseMeta}
 use Rattle.brpc_model.specs.Items.{Item, Call, CallLine}
 use Rattle.brpc_model.specs.Operations.{Operation}
 use Rattle.brpc_model.specs.ResponseOutcome.{by_code, outcome_by}
-use Rattle.corr_core.specs.Word.{Parts, parts}
+use Rattle.corr_core.specs.IdSlotWord.{Parts, parts}
 use Rattle.corr_core.specs.declared.marks.Kept.{Kept}
 use Rattle.corr_core.specs.declared.marks.Note.{Note}
 use Rattle.corr_core.specs.declared.marks.Note.TheVariants.{Locker}

@@ -1,8 +1,8 @@
 -- What is told as the end of a call: it was locked with its content, whose operation is the one that is told.
 use Rattle.std.proofs.Common.{◌≡◌, ℕ, ◌+◌, ◌*◌, ◌<◌, ◌≤◌, true, false, cond, eq-eqb, List, [], ◌∷◌, refl, ap, arith}
 use Rattle.std.specs.List.{AllByRecursion}
-use Rattle.corr_core.specs.Word.{Parts}
-use Rattle.corr_core.specs.Law.{only}
+use Rattle.corr_core.specs.IdSlotWord.{Parts}
+use Rattle.corr_core.specs.IdSlotLaw.{only}
 use Rattle.corr_core.specs.declared.marks.Note.{Note}
 use Rattle.corr_core.specs.declared.marks.Note.TheVariants.{Made, Locker}
 use Rattle.corr_core.specs.declared.marks.View.{View}

@@ -13,7 +13,7 @@ use Rattle.brpc_model.specs.ReturnedLink.{LinkEnd}
 use Rattle.brpc_model.specs.FrameStream.{stream}
 use Rattle.brpc_model.specs.ResponseOutcome.{ending_of}
 use Rattle.sock_io.specs.declared.link.Out.{Ghosts}
-use Rattle.corr_core.specs.Word.{Parts, parts, locked_word}
+use Rattle.corr_core.specs.IdSlotWord.{Parts, parts, locked_word}
 use Rattle.corr_core.specs.declared.marks.Note.{Note}
 use Rattle.corr_core.specs.declared.marks.Note.TheVariants.{Ended, Locker}
 use Rattle.corr_core.specs.declared.marks.View.{View}

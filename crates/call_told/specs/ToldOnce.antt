@@ -2,7 +2,7 @@
 use Rattle.std.specs.Prelude.{ℕ, ◌<◌, ◌≤◌, List, Option, Some, None}
 use Rattle.sock_words.specs.declared.outcome.Outcome.{Outcome}
 use Rattle.sock_words.specs.declared.outcome.Outcome.TheVariants.{Answered, Peer, CallFailed}
-use Rattle.corr_core.specs.Law.{only}
+use Rattle.corr_core.specs.IdSlotLaw.{only}
 use Rattle.call_deeds.specs.Below.RpcClient.Told.{Told}
 use Rattle.sock_words.specs.PackedWords.{id_slot}
 use Rattle.sock_words.specs.Totals.{total}

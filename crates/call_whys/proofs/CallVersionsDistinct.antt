@@ -12,8 +12,8 @@ use Rattle.brpc_model.specs.MessageOfLabel.{shown_id}
 use Rattle.seat_programs.specs.declared.task.Op.TheVariants as ops
 use Rattle.seat_programs.specs.declared.task.Task.{Task}
 use Rattle.seat_programs.specs.Explained.{IsTask, Became}
-use Rattle.corr_core.specs.Law.{is_made, is_ended}
-use Rattle.corr_core.specs.Word.{parts}
+use Rattle.corr_core.specs.IdSlotLaw.{is_made, is_ended}
+use Rattle.corr_core.specs.IdSlotWord.{parts}
 use Rattle.corr_core.specs.declared.marks.Kept.{Kept}
 use Rattle.corr_core.specs.declared.marks.Note.{Note}
 use Rattle.corr_core.specs.declared.marks.Note.TheVariants.{Made}

@@ -6,7 +6,7 @@ use Rattle.brpc_model.specs.Items.{attempts_of}
 use Rattle.brpc_model.specs.Operations.{Operation, operations}
 use Rattle.brpc_model.specs.LinePlaceFaults.{names}
 use Rattle.brpc_model.specs.FrameStream.{stream}
-use Rattle.corr_core.specs.Word.{Parts}
+use Rattle.corr_core.specs.IdSlotWord.{Parts}
 use Rattle.corr_core.specs.declared.marks.Plan.{Plan as IdPlan}
 use Rattle.corr_core.proofs.NoteSums.{at_length}
 use Rattle.id_rule.specs.LawfulIdTable.{local}

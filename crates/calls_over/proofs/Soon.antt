@@ -28,7 +28,7 @@ use Rattle.corr_core.specs.declared.marks.Plan.{Plan as IdPlan}
 use Rattle.sock_message.specs.Asked.{request_of}
 use Rattle.seat_programs.specs.declared.task.Op.TheVariants as ops
 use Rattle.seat_programs.specs.declared.task.Task.{Task}
-use Rattle.corr_core.specs.Word.{Parts}
+use Rattle.corr_core.specs.IdSlotWord.{Parts}
 use Rattle.seat_programs.specs.ReaderProgram.{has_response, slot_in, version_in}
 use Rattle.seat_programs.specs.Cores.{Core}
 use Rattle.seat_programs.specs.Tasks.{numbered, plan_of, id_plan_of}

@@ -7,7 +7,7 @@ use Rattle.brpc_model.specs.Reply.{reply, reply_frames}
 use Rattle.brpc_model.specs.ServedForTakenBytes.{first_of}
 use Rattle.brpc_model.specs.FrameStream.{stream, stream_from}
 use Rattle.served_fits.specs.Below.script_facts.proofs.FilteredLists.{Has, has_later, all_at, all_from, filter_map_has}
-use Rattle.corr_core.specs.Word.{parts}
+use Rattle.corr_core.specs.IdSlotWord.{parts}
 use Rattle.corr_core.specs.declared.marks.Plan.{Plan as IdPlan}
 use Rattle.corr_core.specs.IdRangeVersions.{is_early}
 use Rattle.id_rule.specs.LawfulIdTable.{id_index}

@@ -6,7 +6,7 @@ use Rattle.brpc_model.specs.Items.{Item, Shape}
 use Rattle.brpc_model.specs.Operations.{Turn, link_shapes}
 use Rattle.brpc_model.specs.FrameStream.{stream}
 use Rattle.sock_message.specs.Asked.{Asked, request_of}
-use Rattle.corr_core.specs.Word.{Parts}
+use Rattle.corr_core.specs.IdSlotWord.{Parts}
 use Rattle.seat_programs.specs.Cores.{Core, SeatState}
 use Rattle.seat_programs.specs.LoopHeads.{Exit, Reading, Reads}
 use Rattle.seat_programs.specs.Programs.{Program, Round}

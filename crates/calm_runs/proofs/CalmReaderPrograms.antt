@@ -6,8 +6,8 @@ use Rattle.brpc_model.specs.Frame.{Frame}
 use Rattle.brpc_model.specs.FrameStream as streams
 use Rattle.brpc_model.specs.ResponseOutcome.{ending_of as outcome_of}
 use Rattle.sock_steps.proofs.SumsAsMarksChange.{either_way}
-use Rattle.corr_core.specs.Word.{parts, posted_word, code_of, error_of}
-use Rattle.corr_core.specs.Law.{LAST}
+use Rattle.corr_core.specs.IdSlotWord.{parts, posted_word, code_of, error_of}
+use Rattle.corr_core.specs.IdSlotLaw.{LAST}
 use Rattle.corr_core.specs.IdRangeVersions.{is_early}
 use Rattle.seat_programs.specs.Asides.{Taking, Bytes, Nothing, Closed}
 use Rattle.seat_programs.specs.ClientProgram.{ending_of}

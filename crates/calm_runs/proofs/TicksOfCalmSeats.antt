@@ -11,7 +11,7 @@ use Rattle.sock_words.specs.declared.plain.Plan.{Plan}
 use Rattle.sock_words.specs.declared.outcome.Outcome.{Outcome}
 use Rattle.sock_model.specs.declared.home.Home.{Home}
 use Rattle.sock_steps.proofs.SumsAsMarksChange.{either_way}
-use Rattle.corr_core.specs.Word.{parts, posted_word, code_of}
+use Rattle.corr_core.specs.IdSlotWord.{parts, posted_word, code_of}
 use Rattle.sock_message.specs.Asked.{Asked}
 use Rattle.seat_programs.specs.Asides.{Step, Found, PutCall, TakeCall, Taking}
 use Rattle.seat_programs.specs.FoundAndChangedAside.{call_at, found_in}

@@ -1,7 +1,7 @@
 -- Programs that begin nothing.
 use Rattle.std.specs.Prelude.{ℕ, ◌≡◌, true}
-use Rattle.corr_core.specs.Word.{parts}
-use Rattle.corr_core.specs.ErrorsThatEndCalls.{ends_call}
+use Rattle.corr_core.specs.IdSlotWord.{parts}
+use Rattle.corr_core.specs.EndedByRangeOrAttempt.{ends_call}
 use Rattle.sock_message.specs.Asked.{Asked}
 use Rattle.seat_programs.specs.Asides.{Found, PutCall, TakeCall}
 use Rattle.seat_programs.specs.TableSteps.{CreateLife}

@@ -13,7 +13,7 @@ use Rattle.seat_states.specs.declared.point.AfterStep.{AfterStep}
 use Rattle.seat_states.specs.declared.point.AfterStep.TheVariants as afters
 use Rattle.seat_states.specs.declared.point.Next.{Next}
 use Rattle.seat_states.specs.declared.point.Next.TheVariants as nexts
-use Rattle.seat_states.specs.SeatPoints.{Context, next_program, after_program}
+use Rattle.seat_states.specs.ProgramAtPoint.{Context, next_program, after_program}
 use Rattle.client_seats.specs.ClientSeatState.{SeatData, around, nothing_asked, seat_program}
 use Rattle.client_seats.specs.ClientSeatFollowing.{FollowsOn, IsFlat}
 

@@ -10,7 +10,7 @@ use Rattle.seat_programs.specs.CallAndRetryPrograms.{retry}
 use Rattle.seat_programs.specs.ClientProgram.{HeldLife, operation, client_from, give_back}
 use Rattle.seat_programs.specs.Cores.{resolved, still_waiting, said, next_step}
 use Rattle.seat_states.specs.declared.point.Point.{Point}
-use Rattle.seat_states.specs.SeatPoints.{Context, point_program}
+use Rattle.seat_states.specs.ProgramAtPoint.{Context, point_program}
 use Rattle.client_seats.specs.declared.seat.Kept.{Kept}
 use Rattle.client_seats.specs.ClientSeatState.{SeatData, retries, client_of, seat_program}
 use Rattle.client_seats.specs.ClientSeatFollowing.{FollowsOn}

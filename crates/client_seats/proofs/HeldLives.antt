@@ -12,7 +12,7 @@ use Rattle.seat_programs.specs.declared.task.Sizes.{Sizes}
 use Rattle.sock_words.specs.declared.socket_id.SocketId.{SocketId}
 use Rattle.client_seats.specs.declared.seat.Held.{Held}
 use Rattle.seat_states.specs.declared.point.Continuation.TheVariants as thens
-use Rattle.seat_states.specs.SeatPoints.{Context, client_on, then_program}
+use Rattle.seat_states.specs.ProgramAtPoint.{Context, client_on, then_program}
 use Rattle.client_seats.specs.ClientSeatState.{lives}
 
 -- nothing is held under the name any more

@@ -24,7 +24,7 @@ use Rattle.seat_programs.specs.LoopHeads.{Retry}
 use Rattle.seat_programs.specs.Programs.{Program, Say, Sent, Keep, Retries}
 use Rattle.seat_programs.specs.Cores.{resolved, still_waiting, said, next_step}
 use Rattle.seat_states.specs.program_steps.specs.SoundSeats.{is_begun}
-use Rattle.seat_states.specs.SeatPoints.{Context, point_program, look_program}
+use Rattle.seat_states.specs.ProgramAtPoint.{Context, point_program, look_program}
 use Rattle.client_seats.specs.ClientSeatState.{SeatData, seat_program}
 use Rattle.client_seats.specs.ClientSeatFollowing.{FollowsOn}
 

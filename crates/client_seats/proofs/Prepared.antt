@@ -20,7 +20,7 @@ use Rattle.seat_states.specs.declared.point.RetryStep.TheVariants as retries
 use Rattle.seat_states.specs.declared.point.Next.{Next}
 use Rattle.seat_states.specs.declared.point.Point.{Point}
 use Rattle.seat_states.specs.declared.point.Point.TheVariants as points
-use Rattle.seat_states.specs.SeatPoints.{Context, point_program, next_program, after_program, taken_with, IsNextName, TakesCall, HasInHand, HasRetry, IsFramed}
+use Rattle.seat_states.specs.ProgramAtPoint.{Context, point_program, next_program, after_program, taken_with, IsNextName, TakesCall, HasInHand, HasRetry, IsFramed}
 use Rattle.client_seats.specs.ClientSeatState.{SeatData, around, asked_or_nothing, seat_program}
 use Rattle.client_seats.specs.ClientSeatFollowing.{IsFramedAs, IsPrepared, IsWithFrame}
 

@@ -8,7 +8,7 @@ use Rattle.seat_programs.specs.Programs.{Program}
 use Rattle.seat_programs.specs.Cores.{resolved, still_waiting, next_step, said}
 use Rattle.seat_states.specs.declared.point.Next.{Next}
 use Rattle.seat_states.specs.declared.point.Next.TheVariants as nexts
-use Rattle.seat_states.specs.SeatPoints.{Context, HasInHand, framed}
+use Rattle.seat_states.specs.ProgramAtPoint.{Context, HasInHand, framed}
 use Rattle.seat_states.specs.declared.point.Point.{Point}
 use Rattle.client_seats.specs.declared.seat.Seat.{Seat}
 use Rattle.client_seats.specs.ClientSeatState.{SeatData, around, seat_program}

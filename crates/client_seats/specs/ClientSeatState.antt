@@ -11,7 +11,7 @@ use Rattle.seat_programs.specs.Programs.{Program}
 use Rattle.seat_programs.specs.ClientProgram.{HeldLife, client_from, give_back, ending_of}
 use Rattle.id_points.specs.IdsAndAttemptNumbers.{id_of, number_of}
 use Rattle.seat_states.specs.declared.point.Point.{Point}
-use Rattle.seat_states.specs.SeatPoints.{Context, point_program}
+use Rattle.seat_states.specs.ProgramAtPoint.{Context, point_program}
 use Rattle.client_seats.specs.declared.hand.InHand.{InHand}
 use Rattle.client_seats.specs.declared.hand.InHand.TheVariants.{Nothing, Message, Call, Framed}
 use Rattle.client_seats.specs.declared.seat.Held.{Held}

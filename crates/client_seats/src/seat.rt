@@ -6,7 +6,7 @@ ghost use Rattle.seat_programs.specs.CallAndRetryPrograms.{retry};
 ghost use Rattle.seat_programs.specs.ClientProgram.{HeldLife, held_under, without_name, give_back, operation, ending_of};
 ghost use Rattle.seat_programs.specs.Cores.{said, next_step};
 ghost use Rattle.id_points.specs.IdsAndAttemptNumbers.{id_of, number_of};
-ghost use Rattle.seat_states.specs.SeatPoints.{Context, client_on, point_program, next_program, after_program, IsCalling, TakesCall};
+ghost use Rattle.seat_states.specs.ProgramAtPoint.{Context, client_on, point_program, next_program, after_program, IsCalling, TakesCall};
 ghost use Rattle.client_seats.specs.ClientSeatState.{lives, retries, bytes_of, asked_or_nothing, message_in, call_in, seat_data, around, client_of, seat_program};
 ghost use Rattle.sock_message.specs.Asked.{name_of};
 ghost use Rattle.call_points.specs.AsideCodeSteps.{after_call};

@@ -2,7 +2,7 @@
 use Rattle.std.proofs.Common.{◌≡◌, ◌≢◌, ℕ, ◌+◌, ◌<◌, ◌≤◌, Bool, true, false, cond, eqb, eq-eqb, ne_eqb, List, [], ◌∷◌, ◌++◌, length, sym, refl, ap, ◌∙◌, subst, arith}
 use mathlib.Core.Logic.{dite}
 use native.Mathlib.Decide.{ℕ_discrete}
-use Rattle.corr_core.specs.Word.{Parts, locked_word, posted_word, unlocked_word, free_word}
+use Rattle.corr_core.specs.IdSlotWord.{Parts, locked_word, posted_word, unlocked_word, free_word}
 use Rattle.corr_core.specs.PlainCallId.{Open, Locked, Ended, Plain, Event, Lock, Queue, Unlock, End, Happens, Run, ends, queue, unlocked, Reads, reads_open, reads_locked, reads_ended}
 use Rattle.sock_words.specs.PackedWords.{bit}
 

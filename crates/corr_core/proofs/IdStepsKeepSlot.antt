@@ -4,14 +4,14 @@ use Rattle.std.specs.Prelude.{Option as Maybe}
 use mathlib.Core.Logic.{dite}
 use mathlib.Core.Option.{Option, some}
 use native.Mathlib.Decide.{ℕ_discrete}
-use Rattle.corr_core.specs.Word.{Parts, parts, made_word, locked_word, free_word}
+use Rattle.corr_core.specs.IdSlotWord.{Parts, parts, made_word, locked_word, free_word}
 use Rattle.corr_core.specs.declared.marks.Hand.{Hand}
 use Rattle.corr_core.specs.declared.marks.Hand.TheVariants.{Empty, Full}
 use Rattle.corr_core.specs.declared.marks.Token.{Token}
 use Rattle.corr_core.specs.declared.marks.Token.TheVariants.{Claimed, Locked, Leaving}
 use Rattle.corr_core.specs.declared.marks.Note.{Note}
 use Rattle.corr_core.specs.declared.marks.Note.TheVariants.{Tried, Made, Ended, Locker, Queued, Attempt, Saw}
-use Rattle.corr_core.specs.Law.{born, LAST, is_tried, is_any_made, is_locker, is_queued, is_advance, is_attempt, is_claim, Local, Births, Begins, SawFits, Story, Live, HomeIs, Holds, Stands, vacant, retired, claimed, opened, locked, leaving, SlotLaw}
+use Rattle.corr_core.specs.IdSlotLaw.{born, LAST, is_tried, is_any_made, is_locker, is_queued, is_advance, is_attempt, is_claim, Local, Births, Begins, SawFits, Story, Live, HomeIs, Holds, Stands, vacant, retired, claimed, opened, locked, leaving, SlotLaw}
 use Rattle.corr_core.proofs.NoteSums.{only-same, pair-at, pair-same, pair-else, Inserted, total_insert}
 use Rattle.corr_core.proofs.SlotRangeStories.{born_some, born_none, upd, upd-same, Grows, grown, saw_grows, Neutral, attempts_le, story_note, story_state, not_yet, story_made, story_ended, story_attempt}
 use Rattle.sock_words.specs.Totals.{total}

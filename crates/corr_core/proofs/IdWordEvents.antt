@@ -1,7 +1,7 @@
 -- Each exchange of an id word is one event of the plain id that the word says.
 use Rattle.std.proofs.Common.{◌≡◌, ◌≢◌, ℕ, ◌+◌, ◌<◌, ◌≤◌, Bool, List, [], ◌∷◌, sym, refl, subst, MatchOption}
 use Rattle.std.specs.Prelude.{Option, Some, None}
-use Rattle.corr_core.specs.Word.{Parts, error_of, posted_word, unlocked_word, free_word}
+use Rattle.corr_core.specs.IdSlotWord.{Parts, error_of, posted_word, unlocked_word, free_word}
 use Rattle.corr_core.specs.PlainCallId.{Ended, Plain, Event, Queue, Unlock, End, Run, IsEvent, EndsOnce}
 use Rattle.corr_core.proofs.IdEndsOnce.{nothing_after, ends_once, queue_reads, unlock_reads, end_reads}
 use Rattle.sock_words.specs.PackedWords.{bit}

@@ -3,10 +3,10 @@ use Rattle.std.proofs.Common.{◌≡◌, ◌≢◌, ℕ, ◌+◌, ◌<◌, ◌�
 use mathlib.Core.Logic.{dite}
 use mathlib.Core.Option.{Option, none, some, some-injective}
 use native.Mathlib.Decide.{ℕ_discrete, dec_le}
-use Rattle.corr_core.specs.Word.{Parts, parts}
+use Rattle.corr_core.specs.IdSlotWord.{Parts, parts}
 use Rattle.corr_core.specs.declared.marks.Note.{Note}
 use Rattle.corr_core.specs.declared.marks.Note.TheVariants.{Tried, Made, Ended, Locker, Queued, Attempt, Saw}
-use Rattle.corr_core.specs.Law.{born, is_made, is_ended, is_ended_at, is_locker, is_queued, is_advance, is_attempt, Births, SawFits, NoteFits, Story}
+use Rattle.corr_core.specs.IdSlotLaw.{born, is_made, is_ended, is_ended_at, is_locker, is_queued, is_advance, is_attempt, Births, SawFits, NoteFits, Story}
 use Rattle.corr_core.proofs.NoteSums.{only-at, only-else, pair-at, pair-else, pair-else_first, pair_le, Inserted, total_insert, each_insert, each_map, total_mono}
 use Rattle.sock_words.specs.Totals.{total}
 

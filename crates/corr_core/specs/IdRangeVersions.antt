@@ -1,6 +1,6 @@
 -- Which versions the range of an id has, by the word of its slot.
 use Rattle.std.specs.Prelude.{ℕ, ◌+◌, ◌==◌, ◌&&◌, not, Bool, nat_lt, nat_le, if◌then◌else◌}
-use Rattle.corr_core.specs.Word.{Parts}
+use Rattle.corr_core.specs.IdSlotWord.{Parts}
 
 -- the range in the slot has this version behind its first
 abbrev pub has_version : ℕ → Parts → Bool

@@ -1,6 +1,6 @@
 -- A call id as it is meant: a range of versions of one slot, and what happens to it.
 use Rattle.std.specs.Prelude.{◌≡◌, ℕ, ◌+◌, ◌<◌, ◌≤◌, Bool, cond, ◌==◌, List, [], ◌∷◌, ◌++◌, length}
-use Rattle.corr_core.specs.Word.{Parts}
+use Rattle.corr_core.specs.IdSlotWord.{Parts}
 use Rattle.sock_words.specs.PackedWords.{bit}
 
 pub data Phase : Type 0 where

@@ -1,6 +1,6 @@
 ghost use Rattle.std.specs.Prelude.{◌≡◌};
 ghost use Rattle.sock_words.specs.ErrorCodes.{is_final};
-ghost use Rattle.corr_core.specs.ErrorsThatEndCalls.{is_ended_by};
+ghost use Rattle.corr_core.specs.EndedByRangeOrAttempt.{is_ended_by};
 
 use sock_words::{EEOF, EINTERNAL, ERESPONSE, ERPCTIMEDOUT};
 

@@ -1,5 +1,5 @@
 ghost use Rattle.std.specs.Prelude.{◌≡◌};
-ghost use Rattle.corr_core.specs.Word.{parts};
+ghost use Rattle.corr_core.specs.IdSlotWord.{parts};
 ghost use Rattle.corr_core.specs.IdRangeVersions.{has_version as has, is_early as early};
 
 use sock_words::IdWord;

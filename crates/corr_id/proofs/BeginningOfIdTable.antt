@@ -5,7 +5,7 @@ use mathlib.Core.Logic.{dite}
 use native.Mathlib.Decide.{ℕ_discrete}
 use Rattle.atomic_table.specs.Seated.{TableId}
 use Rattle.atomic_table.specs.declared.shared.Seat.{Seat}
-use Rattle.corr_core.specs.Word.{parts, free_word}
+use Rattle.corr_core.specs.IdSlotWord.{parts, free_word}
 use Rattle.corr_core.specs.declared.marks.Plan.{Plan}
 use Rattle.corr_core.specs.declared.marks.View.{View}
 use Rattle.sock_words.specs.PackedWords.{IsIdWord}

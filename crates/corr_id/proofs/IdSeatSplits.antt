@@ -9,8 +9,8 @@ use native.Mathlib.Decide.{ℕ_discrete}
 use Rattle.atomic_table.specs.Table.{Joins, Splits, opening}
 use Rattle.atomic_table.specs.declared.shared.Seat.{Seat}
 use Rattle.atomic_table.proofs.Lists.{at_set, at_snoc}
-use Rattle.corr_core.specs.Word.{parts, free_word}
-use Rattle.corr_core.specs.Law.{is_made, Each, Local, SlotLaw, vacant}
+use Rattle.corr_core.specs.IdSlotWord.{parts, free_word}
+use Rattle.corr_core.specs.IdSlotLaw.{is_made, Each, Local, SlotLaw, vacant}
 use Rattle.corr_core.specs.declared.marks.Plan.{Plan}
 use Rattle.corr_core.specs.declared.marks.Note.{Note}
 use Rattle.corr_core.specs.declared.marks.Noted.{Noted}
@@ -145,7 +145,7 @@ module _ {C : Type 0} where
   opening_lawful p ws u some_seat = record {
     sized = u.sized;
     slots = λ i il. let l : Local C = record { tag = get_or ws (tag_index i) 0; word = parts (get_or ws (id_index i) 0); home = get_elem? (map some (replicate {A = Maybe C} p.slots None)) i; tokens = []; notes = [] } in
-        let is : l.word ≡ free_word 1 = u.ids i il in let first : l.word.first ≡ 1 = ap (λ (y : Rattle.corr_core.specs.Word.Parts). y.first) is in let state : l.word.state ≡ 0 = ap (λ (y : Rattle.corr_core.specs.Word.Parts). y.state) is in
+        let is : l.word ≡ free_word 1 = u.ids i il in let first : l.word.first ≡ 1 = ap (λ (y : Rattle.corr_core.specs.IdSlotWord.Parts). y.first) is in let state : l.word.state ≡ 0 = ap (λ (y : Rattle.corr_core.specs.IdSlotWord.Parts). y.state) is in
         let tag : l.tag ≡ 0 = u.tags i il in
         let k : SlotLaw l = record {
           b = λ g. none;

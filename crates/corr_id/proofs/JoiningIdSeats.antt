@@ -5,7 +5,7 @@ use Rattle.std.specs.List.{flat_map}
 use Rattle.atomic_table.specs.Seated.{TableId}
 use Rattle.atomic_table.specs.Table.{Me}
 use Rattle.atomic_table.specs.declared.shared.Seat.{Seat}
-use Rattle.corr_core.specs.Law.{Each}
+use Rattle.corr_core.specs.IdSlotLaw.{Each}
 use Rattle.corr_core.specs.declared.marks.Noted.{Noted}
 use Rattle.corr_core.specs.declared.marks.Kept.{Kept}
 use Rattle.corr_core.specs.declared.marks.View.{View}

@@ -7,8 +7,8 @@ use mathlib.Core.Option.{some, some-injective, some-ne-none}
 use native.Mathlib.Decide.{ℕ_discrete, dec_le}
 use lib.ListN.{get_elem?}
 use Rattle.atomic_table.specs.Table.{State}
-use Rattle.corr_core.specs.Word.{parts}
-use Rattle.corr_core.specs.Law.{Each, born, is_made, is_ended, is_ended_at, is_attempt, is_tried, is_any_made, is_claim, SawFits, NoteFits, SlotLaw}
+use Rattle.corr_core.specs.IdSlotWord.{parts}
+use Rattle.corr_core.specs.IdSlotLaw.{Each, born, is_made, is_ended, is_ended_at, is_attempt, is_tried, is_any_made, is_claim, SawFits, NoteFits, SlotLaw}
 use Rattle.corr_core.specs.declared.marks.Plan.{Plan}
 use Rattle.corr_core.specs.declared.marks.Note.{Note}
 use Rattle.corr_core.specs.declared.marks.Note.TheVariants.{Made, Locker, Attempt, Saw}

@@ -3,7 +3,7 @@ use Rattle.std.proofs.Common.{◌≡◌, ◌≢◌, ℕ, ◌+◌, ◌-◌, ◌*�
 use Rattle.std.specs.Prelude.{Option as Maybe, IfSome, not, ◌&&◌}
 use mathlib.Core.Logic.{dite}
 use native.Mathlib.Decide.{ℕ_discrete}
-use Rattle.corr_core.specs.Word.{Parts, parts, unlocked_word, code_of, attempt_of}
+use Rattle.corr_core.specs.IdSlotWord.{Parts, parts, unlocked_word, code_of, attempt_of}
 use Rattle.id_rule.specs.IdPlays.{Longer}
 use Rattle.corr_id.specs.Ruled.{IsFresh}
 use Rattle.corr_id.specs.SeatBehindIdCalls.{error_in}

@@ -9,8 +9,8 @@ use native.Mathlib.Decide.{ℕ_discrete, dec_le}
 use lib.ListN.{get_elem?}
 use Rattle.atomic_table.specs.Table.{State, Me, keeps, takes, gives, stepped, homes_after}
 use Rattle.atomic_table.proofs.Lists.{set_here}
-use Rattle.corr_core.specs.Word.{Parts, parts, made_word, locked_word, free_word}
-use Rattle.corr_core.specs.Law.{LAST, Each, is_made}
+use Rattle.corr_core.specs.IdSlotWord.{Parts, parts, made_word, locked_word, free_word}
+use Rattle.corr_core.specs.IdSlotLaw.{LAST, Each, is_made}
 use Rattle.corr_core.specs.declared.marks.Plan.{Plan}
 use Rattle.corr_core.specs.declared.marks.Hand.{Hand}
 use Rattle.corr_core.specs.declared.marks.Hand.TheVariants.{Empty, Out, Full}

@@ -3,12 +3,12 @@ use Rattle.std.proofs.Common.{◌≡◌, ◌≢◌, ℕ, ◌<◌, ◌≤◌, ◌
 use mathlib.Core.Logic.{dite}
 use native.Mathlib.Decide.{ℕ_discrete}
 use Rattle.std.specs.Prelude.{Option as Maybe, MatchOption}
-use Rattle.corr_core.specs.Word.{Parts, parts, locked_word, error_of}
+use Rattle.corr_core.specs.IdSlotWord.{Parts, parts, locked_word, error_of}
 use Rattle.corr_core.proofs.NoteSums.{only-same}
 use Rattle.corr_core.specs.declared.marks.Hand.TheVariants.{Empty, Full}
 use Rattle.corr_core.specs.declared.marks.Token.TheVariants.{Locked}
 use Rattle.corr_core.specs.declared.marks.Note.TheVariants.{Made, Locker, Queued, Saw}
-use Rattle.corr_core.specs.Law.{is_made, is_attempt, is_advance}
+use Rattle.corr_core.specs.IdSlotLaw.{is_made, is_attempt, is_advance}
 use Rattle.corr_core.specs.declared.marks.Token.{Token}
 use Rattle.corr_core.specs.declared.marks.Note.{Note}
 use Rattle.corr_core.specs.declared.marks.Noted.{Noted}

@@ -1,7 +1,7 @@
 -- The unlocking exchanges of one call, one after another.
 use Rattle.std.proofs.Common.{◌≡◌, ◌≢◌, ℕ, ◌+◌, ◌<◌, ◌≤◌, Bool, true, false, IsTrue, cond, eqb, eq-eqb, ne_eqb, List, [], ◌∷◌, ◌++◌, sym, refl, ap, ◌∙◌, subst, arith}
 use Rattle.std.specs.Prelude.{Option as Maybe}
-use Rattle.corr_core.specs.Word.{Parts, parts, unlocked_word}
+use Rattle.corr_core.specs.IdSlotWord.{Parts, parts, unlocked_word}
 use Rattle.corr_core.specs.declared.marks.Hand.TheVariants.{Empty, Full}
 use Rattle.corr_core.specs.declared.marks.Token.TheVariants.{Locked}
 use Rattle.corr_core.specs.declared.marks.Note.TheVariants.{Attempt, Saw}

@@ -1,6 +1,6 @@
 -- The seats that are handed in at the end, and the words that come back.
 use Rattle.std.specs.Prelude.{◌≡◌, ℕ, ◌<◌, List, [], Option, map, slice_index}
-use Rattle.corr_core.specs.Law.{Each}
+use Rattle.corr_core.specs.IdSlotLaw.{Each}
 use Rattle.atomic_table.specs.Seated.{TableId}
 use Rattle.atomic_table.specs.declared.shared.Seat.{Seat}
 use Rattle.sock_words.specs.declared.id_word.IdWord.{IdWord}

@@ -2,8 +2,8 @@
 use Rattle.std.specs.Prelude.{◌≡◌, ◌≢◌, ℕ, ◌+◌, ◌<◌, ◌≤◌, cond, nat_lt, List, slice_index}
 use mathlib.Core.Option.{some}
 use lib.ListN.{get_elem?}
-use Rattle.corr_core.specs.Word.{parts}
-use Rattle.corr_core.specs.Law.{is_made, is_ended, is_ended_at, is_locker, is_queued, is_advance, is_attempt, is_tried, is_any_made}
+use Rattle.corr_core.specs.IdSlotWord.{parts}
+use Rattle.corr_core.specs.IdSlotLaw.{is_made, is_ended, is_ended_at, is_locker, is_queued, is_advance, is_attempt, is_tried, is_any_made}
 use Rattle.corr_core.specs.declared.marks.Plan.{Plan}
 use Rattle.corr_core.specs.declared.marks.Note.TheVariants.{Made, Locker}
 use Rattle.corr_core.specs.declared.marks.Noted.{Noted}

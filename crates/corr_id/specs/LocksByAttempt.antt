@@ -1,7 +1,7 @@
 -- Locks by the version of an attempt, and by an id's own.
 use Rattle.std.specs.Prelude.{◌≡◌, ℕ, ◌+◌, ◌<◌, ◌≤◌, ◌⊎◌, Bool, true, false}
-use Rattle.corr_core.specs.Word.{Parts}
-use Rattle.corr_core.specs.Law.{is_made, is_advance}
+use Rattle.corr_core.specs.IdSlotWord.{Parts}
+use Rattle.corr_core.specs.IdSlotLaw.{is_made, is_advance}
 use Rattle.corr_core.specs.declared.marks.View.{View}
 use Rattle.id_rule.specs.LawfulIdTable.{notes_of}
 use Rattle.corr_id.specs.SeatBehindIdCalls.{OutOf}

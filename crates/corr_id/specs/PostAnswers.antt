@@ -1,7 +1,7 @@
 -- What a post says, by its answer.
 use Rattle.std.specs.Prelude.{◌≡◌, ◌≢◌, ℕ, ◌<◌, ◌≤◌, ◌⊎◌, Some, None}
 use Rattle.std.specs.Prelude.{Option as Maybe}
-use Rattle.corr_core.specs.Word.{parts, code_of}
+use Rattle.corr_core.specs.IdSlotWord.{parts, code_of}
 use Rattle.corr_core.specs.declared.marks.Note.TheVariants.{Queued}
 use Rattle.corr_core.specs.declared.marks.View.{View}
 use Rattle.corr_id.specs.declared.posts.Posted.{Posted}

@@ -2,8 +2,8 @@
 use Rattle.std.specs.Prelude.{◌≡◌, ◌≢◌, ℕ, ◌%◌, List, ◌<◌, ◌≤◌, ◌⊎◌}
 use Rattle.std.specs.Prelude.{Option as Maybe}
 use Rattle.atomic_table.specs.Table.{State, Me, Step}
-use Rattle.corr_core.specs.Word.{Parts, parts, attempt_of}
-use Rattle.corr_core.specs.Law.{LAST, Each, only, is_made, is_advance}
+use Rattle.corr_core.specs.IdSlotWord.{Parts, parts, attempt_of}
+use Rattle.corr_core.specs.IdSlotLaw.{LAST, Each, only, is_made, is_advance}
 use Rattle.corr_core.specs.declared.marks.Plan.{Plan}
 use Rattle.corr_core.specs.declared.marks.Hand.{Hand}
 use Rattle.corr_core.specs.declared.marks.Hand.TheVariants.{Full}

@@ -1,8 +1,8 @@
 -- What the calls say of a seat.
 use Rattle.std.specs.Prelude.{◌≡◌, ◌≢◌, ℕ, ◌+◌, ◌%◌, ◌<◌, ◌≤◌, ◌⊎◌, Bool, true, false, cond, ◌==◌, List, [], ◌∷◌, ◌++◌, Some, None}
 use Rattle.std.specs.Prelude.{Option as Maybe}
-use Rattle.corr_core.specs.Word.{Parts, parts, error_of, locked_word}
-use Rattle.corr_core.specs.Law.{LAST, only, pair, is_attempt}
+use Rattle.corr_core.specs.IdSlotWord.{Parts, parts, error_of, locked_word}
+use Rattle.corr_core.specs.IdSlotLaw.{LAST, only, pair, is_attempt}
 use Rattle.corr_core.specs.declared.marks.Hand.{Hand}
 use Rattle.corr_core.specs.declared.marks.Hand.TheVariants.{Empty, Full}
 use Rattle.corr_core.specs.declared.marks.Token.{Token}

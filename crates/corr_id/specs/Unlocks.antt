@@ -1,6 +1,6 @@
 -- What an unlocking says, by its answer.
 use Rattle.std.specs.Prelude.{◌≡◌, ℕ, ◌+◌, ◌-◌, ◌*◌, ◌<◌, ◌==◌, ◌&&◌, not, Bool, IsTrue, if◌then◌else◌, [], ◌∷◌}
-use Rattle.corr_core.specs.Word.{Parts, parts, attempt_of, unlocked_word}
+use Rattle.corr_core.specs.IdSlotWord.{Parts, parts, attempt_of, unlocked_word}
 use Rattle.corr_core.specs.declared.marks.Hand.TheVariants.{Empty, Full}
 use Rattle.corr_core.specs.declared.marks.Token.TheVariants.{Locked}
 use Rattle.corr_core.specs.declared.marks.View.{View}

@@ -1,7 +1,7 @@
 // Ids that are locked by the version of an attempt.
 ghost use Rattle.std.specs.Prelude.{◌≡◌, ◌+◌, ◌<◌, ◌≤◌, ◌⊎◌, ℕ, true, false, IfOk, IfErr};
-ghost use Rattle.corr_core.specs.Word.{parts};
-ghost use Rattle.corr_core.specs.Law.{is_made};
+ghost use Rattle.corr_core.specs.IdSlotWord.{parts};
+ghost use Rattle.corr_core.specs.IdSlotLaw.{is_made};
 ghost use Rattle.id_rule.specs.LawfulIdTable.{notes_of};
 ghost use Rattle.corr_id.specs.IdTableSeat.{Sits, Stays};
 ghost use Rattle.corr_id.specs.SeatBehindIdCalls.{GotLock, Quiet, Found};

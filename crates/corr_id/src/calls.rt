@@ -1,7 +1,7 @@
 // Ids that are made, locked and ended.
 ghost use Rattle.std.specs.Prelude.{◌≡◌, ◌+◌, ◌%◌, ◌<◌, ◌≤◌, ◌⊎◌, ℕ, [], ◌∷◌, true, false, IfOk, IfErr};
-ghost use Rattle.corr_core.specs.Word.{parts};
-ghost use Rattle.corr_core.specs.Law.{LAST, is_made, is_advance, is_tried};
+ghost use Rattle.corr_core.specs.IdSlotWord.{parts};
+ghost use Rattle.corr_core.specs.IdSlotLaw.{LAST, is_made, is_advance, is_tried};
 ghost use Rattle.corr_core.specs.declared.marks.Hand.TheVariants.{Empty, Full};
 ghost use Rattle.corr_core.specs.declared.marks.Token.TheVariants.{Locked};
 ghost use Rattle.corr_core.specs.declared.marks.Note.TheVariants.{Made, Ended};

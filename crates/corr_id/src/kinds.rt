@@ -1,8 +1,8 @@
 // A call for each kind of step.
 ghost use Rattle.std.specs.Prelude.{◌≡◌, ◌≢◌, ◌+◌, ◌%◌, ◌<◌, ◌≤◌, ℕ, Bool, [], ◌∷◌, IsTrue};
 ghost use Rattle.sock_words.specs.PackedWords.{call_id};
-ghost use Rattle.corr_core.specs.Word.{parts, made_word, locked_word, posted_word, unlocked_word, free_word};
-ghost use Rattle.corr_core.specs.Law.{LAST, is_made, is_advance};
+ghost use Rattle.corr_core.specs.IdSlotWord.{parts, made_word, locked_word, posted_word, unlocked_word, free_word};
+ghost use Rattle.corr_core.specs.IdSlotLaw.{LAST, is_made, is_advance};
 ghost use Rattle.corr_core.specs.declared.marks.Hand.TheVariants.{Empty, Full};
 ghost use Rattle.corr_core.specs.declared.marks.Token.TheVariants.{Claimed, Locked, Leaving};
 ghost use Rattle.corr_core.specs.declared.marks.Note.TheVariants.{Tried, Made, Ended, Locker, Queued, Saw};

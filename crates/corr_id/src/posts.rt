@@ -1,6 +1,6 @@
 // An error for an id.
 ghost use Rattle.std.specs.Prelude.{◌≡◌, ◌<◌, ◌≤◌, MatchOption, IsTrue, false};
-ghost use Rattle.corr_core.specs.Word.{parts, posted_word};
+ghost use Rattle.corr_core.specs.IdSlotWord.{parts, posted_word};
 ghost use Rattle.corr_id.specs.IdTableSeat.{Sits, Stays};
 ghost use Rattle.corr_id.specs.SeatBehindIdCalls.{error_in};
 ghost use Rattle.corr_id.specs.PostAnswers.{PostOk, IsStale, IsTimely};

@@ -1,6 +1,6 @@
 // Giving a lock back.
 ghost use Rattle.std.specs.Prelude.{◌≡◌, ◌≢◌, ◌+◌, ◌<◌, IsTrue, true, false, IfSome};
-ghost use Rattle.corr_core.specs.Word.{parts, unlocked_word, code_of};
+ghost use Rattle.corr_core.specs.IdSlotWord.{parts, unlocked_word, code_of};
 ghost use Rattle.corr_core.specs.declared.marks.Hand.TheVariants.{Empty};
 ghost use Rattle.corr_id.specs.IdTableSeat.{Sits, Stays};
 ghost use Rattle.corr_id.specs.SeatBehindIdCalls.{Locks, error_in};

@@ -1,7 +1,7 @@
 // The words of the calls among the operations.
 ghost use Rattle.std.specs.Prelude.{◌≡◌, ◌≢◌, ◌+◌, ◌*◌, ◌%◌, ◌<◌, ◌≤◌, false, true, IfNone, IfSome, IsSome};
 ghost use Rattle.sock_words.specs.PackedWords.{at_word as packed_at, id_slot, id_first};
-ghost use Rattle.corr_core.specs.Law.{is_made};
+ghost use Rattle.corr_core.specs.IdSlotLaw.{is_made};
 ghost use Rattle.corr_core.specs.IdTableLayout.{call_index, at_index};
 ghost use Rattle.id_rule.specs.LawfulIdTable.{notes_of, with_kept};
 ghost use Rattle.corr_id.specs.Ruled.{is_place};

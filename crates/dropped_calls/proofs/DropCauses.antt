@@ -5,7 +5,7 @@ use Rattle.seat_programs.specs.brpc_model.specs.Items.{Item}
 use Rattle.seat_programs.specs.brpc_model.specs.Operations.{Turn}
 use Rattle.refused_attempts.specs.Below.script_facts.proofs.ReadScriptFacts.{InRange}
 use Rattle.refused_attempts.specs.Below.script_facts.proofs.Targets.{AreThere}
-use Rattle.corr_core.specs.Word.{code_of, attempt_of}
+use Rattle.corr_core.specs.IdSlotWord.{code_of, attempt_of}
 use Rattle.sock_message.specs.Asked.{name_of}
 use Rattle.seat_programs.specs.declared.task.Op.TheVariants as ops
 use Rattle.seat_programs.specs.declared.task.Task.{Task}

@@ -23,7 +23,7 @@ use Rattle.refused_attempts.specs.Below.sock_steps.proofs.Positions.{few_log, on
 use Rattle.refused_attempts.specs.Below.slot_steps.proofs.RuleNumbers.{life_le, life_is}
 use Rattle.refused_attempts.specs.Below.slot_steps.proofs.SlotWeightSums.{total_bound}
 use Rattle.refused_attempts.specs.Below.chain_steps.proofs.UntouchedByChainSteps.{in_log}
-use Rattle.corr_core.specs.Word.{error_of, code_of, attempt_of}
+use Rattle.corr_core.specs.IdSlotWord.{error_of, code_of, attempt_of}
 use Rattle.corr_core.proofs.NoteSums.{at_length}
 use Rattle.sock_message.specs.Asked.{Asked}
 use Rattle.seat_programs.specs.declared.task.Op.TheVariants as ops

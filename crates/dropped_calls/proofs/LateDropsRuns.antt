@@ -8,7 +8,7 @@ use Rattle.sock_words.specs.PackedWords.{socket_id_version, socket_id_slot}
 use Rattle.sock_words.specs.declared.plain.Plan.{Plan}
 use Rattle.sock_model.specs.declared.view.View.{View}
 use Rattle.sock_model.specs.SocketTableLayout.{open_index}
-use Rattle.corr_core.specs.Word.{code_of}
+use Rattle.corr_core.specs.IdSlotWord.{code_of}
 use Rattle.corr_core.specs.declared.marks.Plan.{Plan as IdPlan}
 use Rattle.sock_message.specs.Asked.{Asked}
 use Rattle.seat_programs.specs.Asides.{Taking}

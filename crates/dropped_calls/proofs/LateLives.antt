@@ -12,8 +12,8 @@ use Rattle.sock_model.specs.MarkWeights.{is_linked}
 use Rattle.sock_model.specs.SlotRows.{marks_of}
 use Rattle.refused_attempts.specs.Below.sock_steps.proofs.LifeLinkSlotPlaces.{counts}
 use Rattle.refused_attempts.specs.Below.sock_steps.proofs.SumsAsMarksChange.{either_way}
-use Rattle.corr_core.specs.Word.{parts}
-use Rattle.corr_core.specs.ErrorsThatEndCalls.{ends_call}
+use Rattle.corr_core.specs.IdSlotWord.{parts}
+use Rattle.corr_core.specs.EndedByRangeOrAttempt.{ends_call}
 use Rattle.seat_programs.specs.TableSteps.{TableStep, CreateLife}
 use Rattle.seat_programs.specs.SlotFreedByDrop.{call_in}
 use Rattle.seat_programs.specs.LoopHeads.{Head, Exit, Decides, Locks}

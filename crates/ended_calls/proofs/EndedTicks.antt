@@ -11,7 +11,7 @@ use Rattle.sock_model.specs.ChainLawReads.{message, link_home}
 use Rattle.sock_model.specs.UnplacedMessages.{HeadedBytes}
 use Rattle.sock_io.specs.declared.link.Put.{Put}
 use Rattle.sock_io.specs.declared.link.Ready.{Ready}
-use Rattle.corr_core.specs.Word.{parts}
+use Rattle.corr_core.specs.IdSlotWord.{parts}
 use Rattle.seat_programs.specs.id_rule.specs.LawfulIdTable.{at_index}
 use Rattle.seat_programs.specs.Asides.{Step, Found, LoadAt, PostId, TakeBytes, Taking}
 use Rattle.seat_programs.specs.FoundAndChangedAside.{at_last, taking_in, found_in}

@@ -4,8 +4,8 @@ use Rattle.std.specs.Prelude.{Option as Maybe}
 use Rattle.sock_words.specs.ErrorCodes.{EINTERNAL, ERPCTIMEDOUT}
 use Rattle.sock_words.specs.declared.outcome.Outcome.{Outcome}
 use Rattle.sock_words.specs.declared.outcome.Outcome.TheVariants as outcome
-use Rattle.corr_core.specs.Word.{parts}
-use Rattle.corr_core.specs.Law.{is_ended}
+use Rattle.corr_core.specs.IdSlotWord.{parts}
+use Rattle.corr_core.specs.IdSlotLaw.{is_ended}
 use Rattle.corr_core.specs.declared.marks.Kept.{Kept}
 use Rattle.corr_core.specs.declared.marks.Note.TheVariants.{Ended}
 use Rattle.corr_core.specs.declared.marks.Noted.{Noted}

@@ -20,7 +20,7 @@ use Rattle.seat_programs.specs.declared.task.Task.{Task}
 use Rattle.seat_programs.specs.Explained.{AreTasks, IsTask, Became}
 use Rattle.seat_programs.specs.ExplainedCalls.{Fixed, Order, MayNotHaveBegun, WhyJoin}
 use Rattle.seat_programs.specs.ExplainedCalls as told_calls
-use Rattle.corr_core.specs.Word.{parts}
+use Rattle.corr_core.specs.IdSlotWord.{parts}
 use Rattle.corr_core.specs.declared.marks.Kept.{Kept}
 use Rattle.corr_core.specs.declared.marks.Noted.{Noted}
 use Rattle.corr_core.specs.declared.marks.Plan as id_plan

@@ -5,7 +5,7 @@ use mathlib.Core.Option.{some, some-injective, some-ne-none}
 use native.Mathlib.Decide.{ℕ_discrete}
 use lib.ListN.{get_elem?}
 use Rattle.brpc_model.specs.Order.{EachBefore}
-use Rattle.corr_core.specs.Law.{only, pair}
+use Rattle.corr_core.specs.IdSlotLaw.{only, pair}
 use Rattle.corr_core.specs.declared.marks.Kept.{Kept}
 use Rattle.corr_core.specs.declared.marks.View.{View}
 use Rattle.corr_core.proofs.NoteSums.{pair_le, total_mono}

@@ -7,8 +7,8 @@ use lib.ListN.{get_elem?}
 use Rattle.sock_words.specs.ErrorCodes.{EEOF}
 use Rattle.sock_words.specs.declared.plain.Plan as sizes
 use Rattle.sock_io.specs.declared.link.Out.{Ghosts}
-use Rattle.corr_core.specs.Law.{is_made, is_ended}
-use Rattle.corr_core.specs.Word.{Parts, parts}
+use Rattle.corr_core.specs.IdSlotLaw.{is_made, is_ended}
+use Rattle.corr_core.specs.IdSlotWord.{Parts, parts}
 use Rattle.corr_core.specs.declared.marks.Kept.{Kept}
 use Rattle.corr_core.specs.declared.marks.Note.TheVariants.{Made}
 use Rattle.corr_core.specs.declared.marks.Noted.{Noted}

@@ -25,7 +25,7 @@ use Rattle.seat_programs.specs.declared.task.Op.TheVariants as ops
 use Rattle.seat_programs.specs.declared.task.Task.{Task}
 use Rattle.seat_programs.specs.Explained.{AreTasks}
 use Rattle.seat_programs.specs.ExplainedCalls.{Accepted, IsFailing, IsUnordered, WasFull, WhyLost, WasFailing, FailedBy, BySocket, ByRequests, all_accepted}
-use Rattle.corr_core.specs.Law.{is_made}
+use Rattle.corr_core.specs.IdSlotLaw.{is_made}
 use Rattle.corr_core.specs.declared.marks.Kept.{Kept}
 use Rattle.corr_core.specs.declared.marks.Note.{Note}
 use Rattle.corr_core.specs.declared.marks.Note.TheVariants.{Made}

@@ -22,8 +22,8 @@ use Rattle.failed_reasons.specs.Below.SockTable.SockRef.{SockRef}
 use Rattle.seat_programs.specs.declared.task.Op.{Op}
 use Rattle.seat_programs.specs.declared.task.Op.TheVariants as ops
 use Rattle.seat_programs.specs.declared.task.Task.{Task}
-use Rattle.corr_core.specs.Word.{Parts, parts}
-use Rattle.corr_core.specs.Law.{is_queued, is_attempt, is_ended_at}
+use Rattle.corr_core.specs.IdSlotWord.{Parts, parts}
+use Rattle.corr_core.specs.IdSlotLaw.{is_queued, is_attempt, is_ended_at}
 use Rattle.corr_core.specs.declared.marks.Note.{Note}
 use Rattle.corr_core.specs.declared.marks.Note.TheVariants.{Made, Queued}
 use Rattle.corr_core.specs.declared.marks.Noted.{Noted}

@@ -12,8 +12,8 @@ use Rattle.sock_words.specs.declared.socket_id.SocketId.{SocketId}
 use Rattle.sock_model.specs.declared.view.View as sock_view
 use Rattle.sock_io.specs.declared.link.Out.{Ghosts}
 use Rattle.sock_io.specs.LinkHalves.{InState}
-use Rattle.corr_core.specs.Word.{code_of}
-use Rattle.corr_core.specs.Law.{is_queued}
+use Rattle.corr_core.specs.IdSlotWord.{code_of}
+use Rattle.corr_core.specs.IdSlotLaw.{is_queued}
 use Rattle.corr_core.specs.declared.marks.Note.{Note}
 use Rattle.corr_core.specs.declared.marks.Noted.{Noted}
 use Rattle.corr_core.specs.declared.marks.Plan.{Plan}

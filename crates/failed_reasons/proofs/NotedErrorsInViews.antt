@@ -3,8 +3,8 @@ use Rattle.std.proofs.Common.{◌<◌, ◌≡◌, Bool, ℕ, ◌+◌, ◌≤◌,
 use Rattle.std.specs.Prelude.{Option}
 use mathlib.Core.Logic.{dite}
 use native.Mathlib.Decide.{ℕ_discrete}
-use Rattle.corr_core.specs.Word.{Parts, parts}
-use Rattle.corr_core.specs.Law.{pair, is_queued, is_attempt, is_ended_at}
+use Rattle.corr_core.specs.IdSlotWord.{Parts, parts}
+use Rattle.corr_core.specs.IdSlotLaw.{pair, is_queued, is_attempt, is_ended_at}
 use Rattle.corr_core.specs.declared.marks.Kept.{Kept}
 use Rattle.corr_core.specs.declared.marks.Note.{Note}
 use Rattle.corr_core.specs.declared.marks.Note.TheVariants.{Ended, Locker, Queued, Attempt}

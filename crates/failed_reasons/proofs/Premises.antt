@@ -13,7 +13,7 @@ use Rattle.sock_words.specs.declared.vref.Vref.{Vref}
 use Rattle.seat_programs.specs.declared.task.Op.TheVariants as ops
 use Rattle.seat_programs.specs.declared.task.Task.{Task}
 use Rattle.seat_programs.specs.Explained.{AreTasks, IsTask, TaskFits, OpFits}
-use Rattle.corr_core.specs.Law.{is_attempt}
+use Rattle.corr_core.specs.IdSlotLaw.{is_attempt}
 use Rattle.corr_core.specs.declared.marks.Kept.{Kept}
 use Rattle.corr_core.specs.declared.marks.Note.TheVariants.{Made}
 use Rattle.corr_core.specs.declared.marks.Noted.{Noted}

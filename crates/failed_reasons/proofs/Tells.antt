@@ -3,8 +3,8 @@ use Rattle.std.proofs.Common.{◌≡◌, ℕ, ◌<◌, List, refl, arith}
 use Rattle.std.proofs.lemmas.Nat.{div-add-mod'}
 use Rattle.sock_words.specs.declared.outcome.Outcome.{Outcome}
 use Rattle.sock_words.specs.declared.outcome.Outcome.TheVariants.{CallFailed}
-use Rattle.corr_core.specs.Law.{is_ended_at}
-use Rattle.corr_core.specs.Word.{Parts, parts, locked_word}
+use Rattle.corr_core.specs.IdSlotLaw.{is_ended_at}
+use Rattle.corr_core.specs.IdSlotWord.{Parts, parts, locked_word}
 use Rattle.corr_core.specs.declared.marks.Plan.{Plan}
 use Rattle.corr_core.specs.declared.marks.View.{View}
 use Rattle.corr_id.specs.id_rule.specs.LawfulIdTable.{notes_of}

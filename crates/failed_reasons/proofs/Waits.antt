@@ -3,7 +3,7 @@ use Rattle.std.proofs.Common.{◌≡◌, ℕ, ◌⊎◌, inl, inr, ⊎_elim, Boo
 use Rattle.std.specs.Prelude.{Option, ◌==◌}
 use Rattle.sock_words.specs.PackedWords.{at_word_link, id_slot, id_first}
 use Rattle.sock_words.specs.declared.at_word.AtWord.{AtWord}
-use Rattle.corr_core.specs.Word.{parts}
+use Rattle.corr_core.specs.IdSlotWord.{parts}
 use Rattle.corr_core.specs.declared.marks.Plan.{Plan}
 use Rattle.corr_core.specs.declared.marks.View.{View}
 use Rattle.corr_id.specs.id_rule.specs.LawfulIdTable.{at_index, with_kept}

@@ -18,8 +18,8 @@ use Rattle.sock_model.specs.SlotRows.{marks_of}
 use Rattle.attempts_told.specs.Below.SockRule.OnTable.{put_in}
 use Rattle.seat_programs.specs.declared.task.Op.TheVariants as ops
 use Rattle.seat_programs.specs.declared.task.Task.{Task}
-use Rattle.corr_core.specs.Word.{parts}
-use Rattle.corr_core.specs.Law.{pair, is_ended_at}
+use Rattle.corr_core.specs.IdSlotWord.{parts}
+use Rattle.corr_core.specs.IdSlotLaw.{pair, is_ended_at}
 use Rattle.corr_core.specs.declared.marks.Kept.{Kept}
 use Rattle.corr_core.specs.declared.marks.Plan as id_plan
 use Rattle.corr_core.specs.declared.marks.View.{View}

@@ -19,9 +19,9 @@ use Rattle.seat_programs.specs.declared.task.Op.TheVariants as ops
 use Rattle.seat_programs.specs.declared.task.Task.{Task}
 use Rattle.seat_programs.specs.Explained.{AreTasks, IsTask}
 use Rattle.seat_programs.specs.ExplainedCalls.{IsAnsweredBy, MayBeOn, FailedBy, ByCompression, all_accepted}
-use Rattle.corr_core.specs.Law.{is_ended, is_ended_at}
+use Rattle.corr_core.specs.IdSlotLaw.{is_ended, is_ended_at}
 use Rattle.failed_ends.specs.call_whys.specs.call_places.proofs.IdsOfRetries.{IsIdOf}
-use Rattle.corr_core.specs.Word.{Parts, parts, code_of}
+use Rattle.corr_core.specs.IdSlotWord.{Parts, parts, code_of}
 use Rattle.corr_core.specs.declared.marks.Kept.{Kept}
 use Rattle.corr_core.specs.declared.marks.Note.{Note}
 use Rattle.corr_core.specs.declared.marks.Note.TheVariants.{Made, Locker}

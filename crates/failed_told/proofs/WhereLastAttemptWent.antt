@@ -20,7 +20,7 @@ use Rattle.seat_programs.specs.declared.task.Op.TheVariants as ops
 use Rattle.seat_programs.specs.declared.task.Task.{Task}
 use Rattle.seat_programs.specs.Explained.{AreTasks, Became}
 use Rattle.seat_programs.specs.ExplainedCalls.{IsUnordered, WhyLost, WasFailing, RunEnding, WasUnopened}
-use Rattle.corr_core.specs.Law.{is_attempt, is_ended}
+use Rattle.corr_core.specs.IdSlotLaw.{is_attempt, is_ended}
 use Rattle.corr_core.specs.declared.marks.Kept.{Kept}
 use Rattle.corr_core.specs.declared.marks.Note.TheVariants.{Made}
 use Rattle.corr_core.specs.declared.marks.Noted.{Noted}

@@ -17,8 +17,8 @@ use Rattle.seat_programs.specs.declared.task.Op.TheVariants as ops
 use Rattle.seat_programs.specs.declared.task.Task.{Task}
 use Rattle.seat_programs.specs.Explained.{AreTasks, IsTask}
 use Rattle.seat_programs.specs.ExplainedCalls.{Accepted, IsDropped, IsFailedWith, WhyLost, FailedBy, BySocket, ByFail, all_accepted}
-use Rattle.corr_core.specs.Law.{is_attempt}
-use Rattle.corr_core.specs.Word.{parts}
+use Rattle.corr_core.specs.IdSlotLaw.{is_attempt}
+use Rattle.corr_core.specs.IdSlotWord.{parts}
 use Rattle.corr_core.specs.declared.marks.Kept.{Kept}
 use Rattle.corr_core.specs.declared.marks.Note.TheVariants.{Made}
 use Rattle.corr_core.specs.declared.marks.Noted.{Noted}

@@ -1,7 +1,7 @@
 ghost use Rattle.std.specs.Prelude.{◌≡◌, ◌+◌, nat_le};
-ghost use Rattle.corr_core.specs.Law.{LAST};
-ghost use Rattle.corr_core.specs.Word.{parts};
-ghost use Rattle.corr_core.specs.ErrorsThatEndCalls.{ends_call};
+ghost use Rattle.corr_core.specs.IdSlotLaw.{LAST};
+ghost use Rattle.corr_core.specs.IdSlotWord.{parts};
+ghost use Rattle.corr_core.specs.EndedByRangeOrAttempt.{ends_call};
 
 use crate::error::IdError;
 use sock_words::IdWord;

@@ -1,6 +1,6 @@
 ghost use Rattle.std.specs.Prelude.{◌≡◌, ◌≤◌, ◌+◌, ◌*◌, ◌/◌, ◌%◌, ◌==◌};
 ghost use Rattle.id_points.specs.IdsAndAttemptNumbers.{number_of};
-ghost use Rattle.corr_core.specs.Word.{error_of, code_of, attempt_of};
+ghost use Rattle.corr_core.specs.IdSlotWord.{error_of, code_of, attempt_of};
 
 use crate::call_id::AttemptNumber;
 

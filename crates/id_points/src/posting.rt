@@ -1,5 +1,5 @@
 ghost use Rattle.std.specs.Prelude.{◌≡◌, ◌==◌, ℕ, if◌then◌else◌};
-ghost use Rattle.corr_core.specs.Word.{parts, posted_word};
+ghost use Rattle.corr_core.specs.IdSlotWord.{parts, posted_word};
 ghost use Rattle.seat_programs.specs.LoopHeads.{Posting, HasLocked, WasQueued};
 ghost use Rattle.seat_programs.specs.Programs.{Program};
 ghost use Rattle.seat_programs.specs.PostPrograms.{judged, packed, is_first, is_stale};

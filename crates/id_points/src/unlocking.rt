@@ -1,5 +1,5 @@
 ghost use Rattle.std.specs.Prelude.{◌≡◌, ◌<◌, ◌+◌, ◌==◌, ℕ, IsTrue, false, if◌then◌else◌};
-ghost use Rattle.corr_core.specs.Word.{parts, unlocked_word};
+ghost use Rattle.corr_core.specs.IdSlotWord.{parts, unlocked_word};
 ghost use Rattle.seat_programs.specs.LoopHeads.{Unlocking, Unlocks};
 ghost use Rattle.seat_programs.specs.Programs.{Program, Round};
 ghost use Rattle.seat_programs.specs.PostPrograms.{packed, popped};

@@ -8,8 +8,8 @@ use native.Mathlib.Decide.{ℕ_discrete}
 use lib.ListN.{get_elem?}
 use Rattle.atomic_table.specs.Table.{State}
 use Rattle.atomic_table.proofs.Lists.{at_set}
-use Rattle.corr_core.specs.Word.{parts}
-use Rattle.corr_core.specs.Law.{Each, Local, SlotLaw, vacant, retired, claimed, opened, locked, leaving}
+use Rattle.corr_core.specs.IdSlotWord.{parts}
+use Rattle.corr_core.specs.IdSlotLaw.{Each, Local, SlotLaw, vacant, retired, claimed, opened, locked, leaving}
 use Rattle.corr_core.specs.declared.marks.Plan.{Plan}
 use Rattle.corr_core.specs.declared.marks.Token.{Token}
 use Rattle.corr_core.specs.declared.marks.Note.{Note}

@@ -2,8 +2,8 @@
 use Rattle.std.specs.Prelude.{◌≡◌, ℕ, ◌+◌, ◌≤◌, true, false, cond, ◌==◌, nat_le, List, [], ◌∷◌, Some, None}
 use Rattle.std.specs.Prelude.{Option as Maybe}
 use Rattle.atomic_table.specs.Table.{Me, Step}
-use Rattle.corr_core.specs.Word.{Parts, parts}
-use Rattle.corr_core.specs.Law.{LAST, Holds, Begins}
+use Rattle.corr_core.specs.IdSlotWord.{Parts, parts}
+use Rattle.corr_core.specs.IdSlotLaw.{LAST, Holds, Begins}
 use Rattle.corr_core.specs.declared.marks.Hand.{Hand}
 use Rattle.corr_core.specs.declared.marks.Hand.TheVariants.{Empty, Out, Full}
 use Rattle.corr_core.specs.declared.marks.Token.{Token}

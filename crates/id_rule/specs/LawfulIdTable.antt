@@ -6,8 +6,8 @@ use mathlib.Core.Option.{some}
 use lib.ListN.{get_elem?}
 use Rattle.atomic_table.specs.Table.{State}
 pub use Rattle.corr_core.specs.IdTableLayout.{tag_index, id_index, call_index, at_index, all_words}
-use Rattle.corr_core.specs.Word.{parts, free_word}
-use Rattle.corr_core.specs.Law.{Each, pair, Local, SlotLaw}
+use Rattle.corr_core.specs.IdSlotWord.{parts, free_word}
+use Rattle.corr_core.specs.IdSlotLaw.{Each, pair, Local, SlotLaw}
 use Rattle.corr_core.specs.declared.marks.Plan.{Plan}
 use Rattle.corr_core.specs.declared.marks.Token.{Token}
 use Rattle.corr_core.specs.declared.marks.Note.{Note}

@@ -9,8 +9,8 @@ use native.Mathlib.Decide.{dec_le}
 use lib.ListN.{get_elem?}
 use Rattle.atomic_table.proofs.Lists.{at_set}
 use Rattle.sock_words.specs.declared.plain.Plan.{Plan}
-use Rattle.corr_core.specs.Word.{Parts, parts, free_word}
-use Rattle.corr_core.specs.Law.{Local, SlotLaw, Each, vacant}
+use Rattle.corr_core.specs.IdSlotWord.{Parts, parts, free_word}
+use Rattle.corr_core.specs.IdSlotLaw.{Local, SlotLaw, Each, vacant}
 use Rattle.corr_core.specs.declared.marks.Plan.{Plan as IdPlan}
 use Rattle.corr_core.specs.declared.marks.Token.{Token}
 use Rattle.corr_core.specs.declared.marks.Note.{Note}

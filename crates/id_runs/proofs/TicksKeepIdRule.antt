@@ -14,8 +14,8 @@ use Rattle.seat_programs.specs.sock_model.specs.declared.home.Home.{Home}
 use Rattle.seat_programs.specs.sock_model.specs.declared.home.Home.TheVariants.{Empty, Link, Message}
 use Rattle.seat_programs.specs.sock_model.specs.UnplacedMessages.{HeadedBytes}
 use Rattle.seat_programs.specs.sock_model.specs.ChainLawReads.{letter_of, shown, message, link_home}
-use Rattle.corr_core.specs.Word.{parts, made_word, posted_word, unlocked_word, free_word}
-use Rattle.corr_core.specs.Law.{LAST}
+use Rattle.corr_core.specs.IdSlotWord.{parts, made_word, posted_word, unlocked_word, free_word}
+use Rattle.corr_core.specs.IdSlotLaw.{LAST}
 use Rattle.corr_core.specs.declared.marks.Plan.{Plan as IdPlan}
 use Rattle.corr_core.specs.declared.marks.Hand.TheVariants as hands
 use Rattle.corr_core.specs.declared.marks.Token.{Token}

@@ -7,9 +7,9 @@ use Rattle.sock_words.specs.declared.outcome.Outcome.TheVariants.{CallFailed}
 use Rattle.sock_io.specs.declared.link.Put.{Put}
 use Rattle.sock_io.specs.declared.link.Ready.{Ready}
 use Rattle.sock_model.specs.declared.chain.Heading.{Heading}
-use Rattle.corr_core.specs.Word.{Parts, parts, locked_word, posted_word, unlocked_word, code_of}
-use Rattle.corr_core.specs.Law.{LAST}
-use Rattle.corr_core.specs.ErrorsThatEndCalls.{ends_call}
+use Rattle.corr_core.specs.IdSlotWord.{Parts, parts, locked_word, posted_word, unlocked_word, code_of}
+use Rattle.corr_core.specs.IdSlotLaw.{LAST}
+use Rattle.corr_core.specs.EndedByRangeOrAttempt.{ends_call}
 use Rattle.corr_core.specs.IdRangeVersions.{is_early}
 use Rattle.id_runs.proofs.AsidesKeepingIdRule.{parts_packed}
 use Rattle.seat_programs.specs.sock_message.specs.Asked.{Asked}

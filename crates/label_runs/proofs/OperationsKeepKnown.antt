@@ -11,7 +11,7 @@ use Rattle.sock_io.specs.declared.link.Ready.TheVariants as asks
 use Rattle.seat_programs.specs.sock_message.specs.Asked.{Asked}
 use Rattle.sock_model.specs.declared.chain.Heading.{Heading}
 use Rattle.sock_model.specs.Entries.{ticket_of}
-use Rattle.corr_core.specs.Word.{parts, error_of}
+use Rattle.corr_core.specs.IdSlotWord.{parts, error_of}
 use Rattle.seat_programs.specs.declared.task.Op.{Op}
 use Rattle.seat_programs.specs.declared.task.Op.TheVariants as ops
 use Rattle.seat_programs.specs.declared.task.Sizes.{Sizes}

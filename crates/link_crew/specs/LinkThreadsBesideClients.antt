@@ -8,7 +8,7 @@ use Rattle.sock_io.specs.declared.link.Out.{Ghosts}
 use Rattle.sock_io.specs.LinkHalves.{InState}
 use Rattle.sock_io.specs.Peer.{PeerState}
 use Rattle.rpc_reader.specs.rpc_client.specs.SeatBetweenOperations.{Idle}
-use Rattle.rpc_reader.specs.rpc_client.specs.ReferencesHeldByClient.{IsHolder}
+use Rattle.rpc_reader.specs.rpc_client.specs.HoldAndDropOutcomes.{IsHolder}
 use Rattle.rpc_reader.specs.declared.reader.Reader.{Reader}
 use Rattle.rpc_reader.specs.ReaderBooks.{books}
 use Rattle.rpc_reader.specs.ReaderRunFromOpen.{RanBy}

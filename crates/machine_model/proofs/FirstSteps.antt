@@ -26,7 +26,7 @@ use Rattle.seat_states.specs.declared.point.Point.TheVariants as points
 use Rattle.seat_states.specs.declared.point.SendStep.TheVariants as sends
 use Rattle.seat_states.specs.declared.point.WriteStep.TheVariants as writes
 use Rattle.seat_states.specs.declared.point.Author.{Author}
-use Rattle.seat_states.specs.SeatPoints.{Context, point_program, heading_by, TakesMessage, TakesLink, PutsHome, PutsPiece, Asks, after_message, after_link, after_home, after_put, after_ready, ready_behind}
+use Rattle.seat_states.specs.ProgramAtPoint.{Context, point_program, heading_by, TakesMessage, TakesLink, PutsHome, PutsPiece, Asks, after_message, after_link, after_home, after_put, after_ready, ready_behind}
 use Rattle.seat_states.specs.ProgramStepsOfMachine.{First, OfTable, OfAside, OfMessage, OfLink, OfHome, first_in}
 use Rattle.seat_states.specs.ProgramStepsOfMachine as kinds
 use Rattle.machine_model.specs.MachineLinks.{IsClear, IsPaced}

@@ -4,8 +4,8 @@ use Rattle.std.proofs.Props.{props}
 use Rattle.std.proofs.Math.Logic.{∥∥₁_elim}
 use Rattle.sock_words.specs.declared.plain.Plan.{Plan}
 use Rattle.corr_core.specs.declared.marks.Plan.{Plan as IdPlan}
-use Rattle.corr_core.specs.Word.{parts, code_of}
-use Rattle.corr_core.specs.ErrorsThatEndCalls.{ends_call}
+use Rattle.corr_core.specs.IdSlotWord.{parts, code_of}
+use Rattle.corr_core.specs.EndedByRangeOrAttempt.{ends_call}
 use Rattle.sock_message.specs.Asked.{Asked}
 use Rattle.seat_programs.specs.declared.task.Sizes.{Sizes}
 use Rattle.seat_programs.specs.TableSteps as calls
@@ -36,7 +36,7 @@ use Rattle.seat_states.specs.declared.point.Author.{Author}
 use Rattle.seat_states.specs.declared.point.Author.TheVariants as authors
 use Rattle.seat_states.specs.declared.point.Point.{Point}
 use Rattle.seat_states.specs.declared.point.Point.TheVariants as points
-use Rattle.seat_states.specs.SeatPoints.{Context, point_program, look_program, after_program, IsWithin, IsWithinIds, MayFind, MayFindAside, MayFindId, GoesByWord, TakesCall}
+use Rattle.seat_states.specs.ProgramAtPoint.{Context, point_program, look_program, after_program, IsWithin, IsWithinIds, MayFind, MayFindAside, MayFindId, GoesByWord, TakesCall}
 use Rattle.seat_states.specs.ProgramStepsOfMachine.{First, OfTable, OfAside, first_of, first_in}
 use Rattle.reader_points.specs.ReaderPoints as reading
 use Rattle.reader_points.specs.declared.point.Closing.{Closing}

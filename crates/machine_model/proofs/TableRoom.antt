@@ -7,7 +7,7 @@ use Rattle.call_points.specs.AsideCodeSteps.{after_word}
 use Rattle.seat_states.specs.declared.point.Step.{Step}
 use Rattle.seat_states.specs.declared.point.Next.{Next}
 use Rattle.seat_states.specs.declared.point.Next.TheVariants as nexts
-use Rattle.seat_states.specs.SeatPoints.{Context, next_program}
+use Rattle.seat_states.specs.ProgramAtPoint.{Context, next_program}
 use Rattle.seat_states.specs.ProgramStepsOfMachine.{First, OfTable, step_as, first_in}
 use Rattle.client_seats.specs.declared.seat.Seat.{Seat}
 use Rattle.client_seats.specs.ClientSeatState.{SeatData, seat_data, around, seat_program}

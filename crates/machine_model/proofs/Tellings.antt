@@ -1,8 +1,8 @@
 -- What a tick answers: the kind of its step, or for what the seat waits.
 use Rattle.std.proofs.Common.{◌≡◌, ◌≢◌, refl, ℕ, ◌+◌, ◌==◌, ◌&&◌, Bool, true, false, not, is_some, if◌then◌else◌, List, [], Option, Some, None, IfSome, option_map, ap, sym, ◌∙◌, subst}
 use mathlib.Core.Option as core
-use Rattle.corr_core.specs.Word.{parts, code_of}
-use Rattle.corr_core.specs.ErrorsThatEndCalls.{ends_call}
+use Rattle.corr_core.specs.IdSlotWord.{parts, code_of}
+use Rattle.corr_core.specs.EndedByRangeOrAttempt.{ends_call}
 use Rattle.sock_words.specs.declared.kind.Kind.{Kind}
 use Rattle.sock_words.specs.declared.kind.Kind.TheVariants.{I6, K1}
 use Rattle.sock_io.specs.declared.link.Put.{Put}
@@ -29,7 +29,7 @@ use Rattle.seat_states.specs.declared.point.WriteStep.TheVariants as writes
 use Rattle.seat_states.specs.declared.point.Author.{Author}
 use Rattle.seat_states.specs.declared.point.Point.{Point}
 use Rattle.seat_states.specs.declared.point.Point.TheVariants as points
-use Rattle.seat_states.specs.SeatPoints.{Context, point_program, heading_by, parts_by, Asks}
+use Rattle.seat_states.specs.ProgramAtPoint.{Context, point_program, heading_by, parts_by, Asks}
 use Rattle.seat_states.specs.ProgramStepsOfMachine.{First, OfTable, OfAside, OfMessage, OfLink, OfHome, first_of, first_in, kind_of_first}
 use Rattle.seat_states.specs.ProgramStepsOfMachine as kinds
 use Rattle.seat_states.specs.ProgramStepsOfMachine.{step_of, step_as}

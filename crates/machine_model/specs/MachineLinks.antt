@@ -10,7 +10,7 @@ use Rattle.seat_programs.specs.Writings as heads
 use Rattle.seat_programs.specs.Programs.{Program, PutBytes, Write}
 use Rattle.seat_programs.specs.ScheduledRuns.{from_to}
 use Rattle.message_parts.specs.Parcels.{parcel_of}
-use Rattle.seat_states.specs.SeatPoints.{heading_by}
+use Rattle.seat_states.specs.ProgramAtPoint.{heading_by}
 use Rattle.script_links.specs.OfferedLinks.{IsOffered}
 use Rattle.machine_model.specs.declared.home_message.HomeMessage.{HomeMessage}
 

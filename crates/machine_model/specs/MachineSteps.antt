@@ -30,7 +30,7 @@ use Rattle.message_parts.specs.Parcels.{parcel_of}
 use Rattle.seat_states.specs.declared.point.Author.{Author}
 use Rattle.seat_states.specs.declared.point.Step.{Step}
 use Rattle.seat_states.specs.declared.point.Step.TheVariants as firsts
-use Rattle.seat_states.specs.SeatPoints.{IsWithin, IsWithinIds, MayFind, MayFindAside, HasLinkAt, TellsCodeAt, HasInHand, after_message, after_link, after_home, after_put, after_ready, parts_by}
+use Rattle.seat_states.specs.ProgramAtPoint.{IsWithin, IsWithinIds, MayFind, MayFindAside, HasLinkAt, TellsCodeAt, HasInHand, after_message, after_link, after_home, after_put, after_ready, parts_by}
 use Rattle.seat_states.specs.ProgramStepsOfMachine.{First, OfTable, OfAside, OfMessage, OfLink, OfHome, step_of, step_as, first_in}
 use Rattle.seat_states.specs.ProgramStepsOfMachine as kinds
 use Rattle.machine_model.specs.declared.home_message.HomeMessage.{HomeMessage}

@@ -2,7 +2,7 @@
 use Rattle.std.specs.Prelude.{ℕ, ◌≡◌, ◌==◌, ◌&&◌, not, Bool, true, false, List, [], slice_set, Some, None}
 use mathlib.Core.Option as core
 use lib.ListN.{get_elem?}
-use Rattle.corr_core.specs.Word.{parts}
+use Rattle.corr_core.specs.IdSlotWord.{parts}
 use Rattle.seat_programs.specs.LoopHeads.{Locks, Joins, Opens}
 use Rattle.seat_programs.specs.PostPrograms.{is_first, is_sought}
 use Rattle.seat_programs.specs.Writings as heads

@@ -38,7 +38,7 @@ use Rattle.machine_model.specs.id_runs.specs.HeldIdTokens.{IdView}
 use Rattle.machine_model.specs.id_runs.specs.Goes.{SoundIds}
 use Rattle.machine_model.specs.run_theorems.specs.Below.joint_runs.proofs.BothTablesSound.{BothSound, FitsBoth, fits_both, joint_ticks}
 use Rattle.call_points.specs.AsideCodeSteps.{after_word}
-use Rattle.seat_states.specs.SeatPoints.{Context, after_put, after_ready}
+use Rattle.seat_states.specs.ProgramAtPoint.{Context, after_put, after_ready}
 use Rattle.seat_states.specs.ProgramStepsOfMachine.{First, OfTable, OfAside, OfMessage, OfLink, OfHome, first_in}
 use Rattle.seat_states.specs.ProgramStepsOfMachine as kinds
 use Rattle.seat_states.proofs.StepFacts as facts

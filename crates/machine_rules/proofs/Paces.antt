@@ -12,9 +12,9 @@ use Rattle.sock_io.specs.declared.link.Ready.TheVariants as asks
 use Rattle.sock_io.specs.LinkHalves.{OutState}
 use Rattle.sock_message.specs.Asked.{Asked}
 use Rattle.sock_model.specs.declared.chain.Heading.{Heading}
-use Rattle.corr_core.specs.Word.{parts, code_of, posted_word, unlocked_word}
-use Rattle.corr_core.specs.Law.{LAST}
-use Rattle.corr_core.specs.ErrorsThatEndCalls.{ends_call}
+use Rattle.corr_core.specs.IdSlotWord.{parts, code_of, posted_word, unlocked_word}
+use Rattle.corr_core.specs.IdSlotLaw.{LAST}
+use Rattle.corr_core.specs.EndedByRangeOrAttempt.{ends_call}
 use Rattle.seat_programs.specs.Asides as asides
 use Rattle.seat_programs.specs.Asides.{Step, Found}
 use Rattle.seat_programs.specs.TableSteps as calls
@@ -59,7 +59,7 @@ use Rattle.seat_states.specs.declared.point.RetryStep.TheVariants as retries
 use Rattle.seat_states.specs.declared.point.JoinStep.TheVariants as joins
 use Rattle.seat_states.specs.declared.point.Point.{Point}
 use Rattle.seat_states.specs.declared.point.Point.TheVariants as points
-use Rattle.seat_states.specs.SeatPoints.{Context, heading_by, locker_of, client_on, then_program, point_program, reached_program, full_program, freed_program, after_program, posted_program, look_program, told, tell, GoesByWord, TakesCall, TakesMessage, TakesLink, PutsHome, PutsPiece, Asks, after_message, after_link, after_home, after_put, after_ready}
+use Rattle.seat_states.specs.ProgramAtPoint.{Context, heading_by, locker_of, client_on, then_program, point_program, reached_program, full_program, freed_program, after_program, posted_program, look_program, told, tell, GoesByWord, TakesCall, TakesMessage, TakesLink, PutsHome, PutsPiece, Asks, after_message, after_link, after_home, after_put, after_ready}
 use Rattle.seat_states.specs.ProgramStepsOfMachine.{OfTable, first_of, first_in}
 use Rattle.seat_states.specs.ProgramStepsOfMachine as kinds
 use Rattle.client_seats.specs.ClientSeatState.{SeatData, around}

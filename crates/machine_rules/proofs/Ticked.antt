@@ -29,7 +29,7 @@ use Rattle.seat_states.specs.declared.point.Step.TheVariants as firsts
 use Rattle.seat_states.specs.declared.point.Author.{Author}
 use Rattle.seat_states.specs.declared.table_step.TableStep.{TableStep}
 use Rattle.seat_states.specs.declared.table_step.TableStep.TheVariants as steps
-use Rattle.seat_states.specs.SeatPoints.{heading_by, after_link, after_home, after_put, after_ready}
+use Rattle.seat_states.specs.ProgramAtPoint.{heading_by, after_link, after_home, after_put, after_ready}
 use Rattle.seat_states.specs.ProgramStepsOfMachine.{First, OfTable, OfAside, OfMessage, OfLink, OfHome, step_of, step_as, first_in}
 use Rattle.seat_states.specs.ProgramStepsOfMachine as kinds
 use Rattle.machine_model.proofs.TableRoom.{IsCall}

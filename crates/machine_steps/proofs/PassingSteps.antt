@@ -19,7 +19,7 @@ use Rattle.seat_states.specs.declared.point.Point.{Point}
 use Rattle.seat_states.specs.declared.point.Point.TheVariants as points
 use Rattle.seat_states.specs.declared.point.Step.{Step}
 use Rattle.seat_states.specs.declared.point.Step.TheVariants as firsts
-use Rattle.seat_states.specs.SeatPoints.{Context, client_on, heading_by, sent_program, claims_program}
+use Rattle.seat_states.specs.ProgramAtPoint.{Context, client_on, heading_by, sent_program, claims_program}
 use Rattle.client_seats.specs.ClientSeatFollowing.{IsPrepared}
 use Rattle.client_seats.specs.declared.seat.Seat.{Seat}
 use Rattle.client_seats.specs.ClientSeatState.{SeatData, seat_data, around, seat_program}

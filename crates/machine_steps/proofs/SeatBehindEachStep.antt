@@ -6,8 +6,8 @@ use Rattle.sock_io.specs.declared.link.Put.TheVariants as puts
 use Rattle.message_parts.specs.FramesByParts.{OutgoingData, ParcelData}
 use Rattle.seat_programs.specs.declared.task.Sizes.{Sizes}
 use Rattle.seat_programs.specs.Programs.{Program, Aside, Round}
-use Rattle.corr_core.specs.Word.{parts, code_of}
-use Rattle.corr_core.specs.ErrorsThatEndCalls.{ends_call}
+use Rattle.corr_core.specs.IdSlotWord.{parts, code_of}
+use Rattle.corr_core.specs.EndedByRangeOrAttempt.{ends_call}
 use Rattle.id_points.specs.IdsAndAttemptNumbers.{id_of}
 use Rattle.seat_programs.specs.Asides.{PutCall}
 use Rattle.seat_programs.specs.LoopHeads.{Retry, HasEnded, Unlocks}
@@ -36,7 +36,7 @@ use Rattle.seat_states.specs.declared.point.Point.TheVariants as points
 use Rattle.seat_states.specs.ProgramStepsOfMachine.{First, OfTable, step_as, first_of, first_in}
 use Rattle.seat_states.specs.declared.point.Next.{Next}
 use Rattle.seat_states.specs.declared.point.Step.{Step}
-use Rattle.seat_states.specs.SeatPoints.{Context, point_program, look_program, after_program, next_program, with_message, with_put, is_whole, parts_by, after_message, after_put}
+use Rattle.seat_states.specs.ProgramAtPoint.{Context, point_program, look_program, after_program, next_program, with_message, with_put, is_whole, parts_by, after_message, after_put}
 use Rattle.seat_programs.specs.Ticks.{Answer}
 use Rattle.client_seats.specs.ClientSeatState.{SeatData, around, seat_program, bytes_of, parts_of, left_of, taken_of, left_parts_of}
 use Rattle.client_seats.specs.ClientSeatFollowing.{FollowsOn}

@@ -6,7 +6,7 @@ use Rattle.atomic_table.proofs.Lists.{at_map, at_index}
 use mathlib.Core.Option as core
 use lib.ListN.{get_elem?}
 use Rattle.seat_states.specs.declared.point.Step.{Step}
-use Rattle.seat_states.specs.SeatPoints.{point_program}
+use Rattle.seat_states.specs.ProgramAtPoint.{point_program}
 use Rattle.seat_states.specs.ProgramStepsOfMachine.{step_as, first_in}
 use Rattle.machine_model.specs.declared.tick.Tick.{Tick}
 use Rattle.client_seats.specs.declared.seat.Seat.{Seat}

@@ -21,7 +21,7 @@ use Rattle.seat_states.specs.declared.point.RetryStep.TheVariants as retries
 use Rattle.seat_states.specs.declared.point.Step.TheVariants as firsts
 use Rattle.seat_states.specs.declared.point.Point.{Point}
 use Rattle.seat_states.specs.declared.point.Point.TheVariants as points
-use Rattle.seat_states.specs.SeatPoints.{Context, point_program, GoesByWord, TakesCall}
+use Rattle.seat_states.specs.ProgramAtPoint.{Context, point_program, GoesByWord, TakesCall}
 use Rattle.seat_states.specs.ProgramStepsOfMachine.{OfAside, first_in}
 use Rattle.client_seats.specs.ClientSeatState.{SeatData, seat_program, asked_or_nothing}
 use Rattle.machine_model.specs.MachineSteps.{IsOnWord, FitsSlots, IsNext, Goes, Makes}

@@ -10,7 +10,7 @@ use Rattle.seat_states.specs.declared.point.RetryStep.TheVariants as retries
 use Rattle.seat_states.specs.declared.point.Next.{Next}
 use Rattle.seat_states.specs.declared.point.Point.{Point}
 use Rattle.seat_states.specs.declared.point.Point.TheVariants as points
-use Rattle.seat_states.specs.SeatPoints.{Context, point_program, next_program, framed, IsCalling, HasInHand, IsWithin, IsWithinIds, GoesByWord, MayNext}
+use Rattle.seat_states.specs.ProgramAtPoint.{Context, point_program, next_program, framed, IsCalling, HasInHand, IsWithin, IsWithinIds, GoesByWord, MayNext}
 use Rattle.seat_states.specs.ProgramStepsOfMachine.{OfTable, first_in}
 use Rattle.message_parts.specs.FramesByParts.{ParcelData}
 use Rattle.client_seats.specs.declared.hand.InHand.{InHand}

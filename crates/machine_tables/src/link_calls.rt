@@ -3,7 +3,7 @@ ghost use mathlib.Core.Option.{some};
 ghost use lib.ListN.{get_elem?};
 ghost use Rattle.sock_io.specs.LinkHalves.{PutStep, ReadyStep, end_of};
 ghost use Rattle.seat_programs.specs.BufferParts.{part};
-ghost use Rattle.seat_states.specs.SeatPoints.{is_whole, parts_by};
+ghost use Rattle.seat_states.specs.ProgramAtPoint.{is_whole, parts_by};
 ghost use Rattle.message_parts.specs.Parcels.{outgoing_of};
 ghost use Rattle.machine_model.specs.MachineSteps.{AskedAt, left_behind, taken_behind};
 

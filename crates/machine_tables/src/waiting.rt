@@ -1,8 +1,8 @@
 ghost use Rattle.std.specs.Prelude.{◌≡◌, ◌==◌, ◌&&◌, not, true, is_some, IfSome};
-ghost use Rattle.corr_core.specs.Word.{parts};
+ghost use Rattle.corr_core.specs.IdSlotWord.{parts};
 ghost use Rattle.id_points.specs.CallIdLoopTurns.{sought_as};
 ghost use Rattle.seat_programs.specs.PostPrograms.{is_sought};
-ghost use Rattle.seat_states.specs.SeatPoints.{Context, point_program, HasLinkAt, TellsCodeAt};
+ghost use Rattle.seat_states.specs.ProgramAtPoint.{Context, point_program, HasLinkAt, TellsCodeAt};
 ghost use Rattle.reader_points.specs.ReaderPoints as reading;
 ghost use Rattle.machine_model.specs.MachineRuns.{IsWaitingFor, sought_id};
 ghost use Rattle.machine_model.specs.TickAnswersOfStep.{waits_by};

@@ -21,9 +21,9 @@ use Rattle.sock_io.specs.FaultCauses.{Rose}
 use Rattle.seat_programs.specs.TableSteps as calls
 use Rattle.seat_programs.specs.Writings.{Waits}
 use Rattle.seat_programs.specs.Programs.{Program, PutBytes, AskReady, Write, Aside, Round}
-use Rattle.corr_core.specs.Word.{parts, code_of}
+use Rattle.corr_core.specs.IdSlotWord.{parts, code_of}
 use Rattle.corr_core.proofs.NoteSums.{at_length}
-use Rattle.corr_core.specs.ErrorsThatEndCalls.{ends_call}
+use Rattle.corr_core.specs.EndedByRangeOrAttempt.{ends_call}
 use Rattle.seat_programs.specs.Asides.{PutCall}
 use Rattle.seat_programs.specs.LoopHeads.{Unlocks, Decides, Locks, HasEnded}
 use Rattle.seat_programs.specs.PostPrograms.{end_id, unlocked}

@@ -32,7 +32,7 @@ use Rattle.call_slots.specs.CallSlotSteps.{word_found}
 use Rattle.call_slots.proofs.IdTableFitting.{IsOnWord, fits_prop, may_fits}
 use Rattle.seat_states.specs.declared.point.Step.{Step}
 use Rattle.seat_states.specs.declared.point.Step.TheVariants as firsts
-use Rattle.seat_states.specs.SeatPoints.{Context, MayFindId}
+use Rattle.seat_states.specs.ProgramAtPoint.{Context, MayFindId}
 use Rattle.seat_states.specs.ProgramStepsOfMachine.{First, OfTable, OfAside, OfMessage, OfLink, OfHome, step_of, step_as, first_in}
 use Rattle.seat_states.specs.ProgramStepsOfMachine as kinds
 use Rattle.seat_states.proofs.StepFacts.{FitsSizes, may_find, is_within}

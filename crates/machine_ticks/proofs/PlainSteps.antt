@@ -23,7 +23,7 @@ use Rattle.seat_states.specs.declared.point.Step.{Step}
 use Rattle.seat_states.specs.declared.point.Author.{Author}
 use Rattle.seat_states.specs.declared.point.Point.{Point}
 use Rattle.seat_states.specs.declared.point.Point.TheVariants as points
-use Rattle.seat_states.specs.SeatPoints.{Context, point_program, heading_by, holder_of, tell, written_program, HasInHand, HasLinkAt, TellsCodeAt, framed}
+use Rattle.seat_states.specs.ProgramAtPoint.{Context, point_program, heading_by, holder_of, tell, written_program, HasInHand, HasLinkAt, TellsCodeAt, framed}
 use Rattle.seat_states.specs.ProgramStepsOfMachine.{First, OfTable, step_as, first_in, kind_of_first}
 use Rattle.client_seats.specs.ClientSeatState.{SeatData, around, seat_program}
 use Rattle.reader_seats.specs.ReaderState.{ReaderData, reader_program}

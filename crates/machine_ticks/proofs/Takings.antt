@@ -7,9 +7,9 @@ use native.Mathlib.Decide.{ℕ_discrete}
 use mathlib.Core.Logic.{dite}
 use mathlib.Core.Option as core
 use lib.ListN.{get_elem?}
-use Rattle.corr_core.specs.Word.{parts, code_of}
+use Rattle.corr_core.specs.IdSlotWord.{parts, code_of}
 use Rattle.corr_core.proofs.NoteSums.{at_length}
-use Rattle.corr_core.specs.ErrorsThatEndCalls.{ends_call}
+use Rattle.corr_core.specs.EndedByRangeOrAttempt.{ends_call}
 use Rattle.brpc_model.specs.ReturnedLink.{LinkEnd, TakeAnswer}
 use Rattle.sock_io.specs.LinkHalves.{more_told}
 use Rattle.sock_words.specs.declared.plain.Plan.{Plan}

@@ -1,9 +1,9 @@
 -- Errors of calls, and the loops on ids and at reading halves: such steps tell no outcome of a task.
 use Rattle.std.proofs.Common.{ℕ, ◌+◌, ◌&&◌, true, false, not, eqb, List, [], ◌∷◌, ◌++◌, length, inr, nat_lt}
 use Rattle.std.specs.Prelude.{nat_le, if◌then◌else◌, Some, None}
-use Rattle.seat_programs.specs.corr_core.specs.Word.{parts, error_of, code_of, posted_word, unlocked_word}
-use Rattle.seat_programs.specs.corr_core.specs.Law.{LAST}
-use Rattle.seat_programs.specs.corr_core.specs.ErrorsThatEndCalls.{ends_call}
+use Rattle.seat_programs.specs.corr_core.specs.IdSlotWord.{parts, error_of, code_of, posted_word, unlocked_word}
+use Rattle.seat_programs.specs.corr_core.specs.IdSlotLaw.{LAST}
+use Rattle.seat_programs.specs.corr_core.specs.EndedByRangeOrAttempt.{ends_call}
 use Rattle.seat_programs.specs.corr_core.specs.IdRangeVersions.{is_early}
 use Rattle.brpc_model.specs.Frame.{Frame}
 use Rattle.brpc_model.specs.FrameStream as streams

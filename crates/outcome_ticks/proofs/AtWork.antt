@@ -13,8 +13,8 @@ use Rattle.seat_programs.specs.declared.task.Task.{Task}
 use Rattle.seat_programs.specs.TableSteps.{TableStep, LookWord, ReadNext}
 use Rattle.seat_programs.specs.Writings.{Puts, Waits, Empties, Walks}
 use Rattle.seat_programs.specs.Programs.{Program, Do, Write, Aside, Round}
-use Rattle.seat_programs.specs.corr_core.specs.Word.{parts, code_of}
-use Rattle.seat_programs.specs.corr_core.specs.ErrorsThatEndCalls.{ends_call}
+use Rattle.seat_programs.specs.corr_core.specs.IdSlotWord.{parts, code_of}
+use Rattle.seat_programs.specs.corr_core.specs.EndedByRangeOrAttempt.{ends_call}
 use Rattle.seat_programs.specs.Asides.{PutCall}
 use Rattle.seat_programs.specs.LoopHeads.{Head, Exit, HasEnded, Unlocks, Decides, Locks, Opens}
 use Rattle.seat_programs.specs.PostPrograms.{end_id, unlocked}

@@ -2,8 +2,8 @@
 use Rattle.std.proofs.Common.{◌≡◌, ◌≢◌, ℕ, zero, suc, ◌+◌, ◌-◌, ◌/◌, ◌%◌, ◌<◌, ◌&&◌, Bool, true, false, eqb, List, [], ◌∷◌, inl, inr, refl, nat_lt, arith}
 use Rattle.std.specs.Prelude.{nat_le, if◌then◌else◌}
 use mathlib.Core.List.{cons-ne-nil}
-use Rattle.seat_programs.specs.corr_core.specs.Word.{parts, error_of}
-use Rattle.seat_programs.specs.corr_core.specs.ErrorsThatEndCalls.{WHOLE}
+use Rattle.seat_programs.specs.corr_core.specs.IdSlotWord.{parts, error_of}
+use Rattle.seat_programs.specs.corr_core.specs.EndedByRangeOrAttempt.{WHOLE}
 use Rattle.sock_words.specs.PackedWords.{socket_id_version, socket_id_slot, vref_version, vref_nref, at_word, id_slot, id_first, call_id, IDLE}
 use Rattle.sock_words.specs.declared.outcome.Outcome.TheVariants.{Unopened, NotBegun, Joined}
 use Rattle.sock_model.specs.declared.chain.Heading.{Heading}

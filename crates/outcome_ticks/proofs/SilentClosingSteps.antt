@@ -1,7 +1,7 @@
 -- Readers and the ending close sockets: their steps tell no outcome of a task.
 use Rattle.std.proofs.Common.{ℕ, ◌+◌, ◌-◌, ◌%◌, ◌&&◌, Bool, true, false, eqb, List, [], ◌∷◌, length, refl, nat_lt}
 use Rattle.std.specs.Prelude.{nat_le, if◌then◌else◌}
-use Rattle.seat_programs.specs.corr_core.specs.Word.{parts, error_of}
+use Rattle.seat_programs.specs.corr_core.specs.IdSlotWord.{parts, error_of}
 use Rattle.brpc_model.specs.Frame.{Frame}
 use Rattle.sock_words.specs.PackedWords.{socket_id_version, socket_id_slot, vref_version, vref_nref, at_word_first, at_word_slot, at_word_link, at_word_attempt, call_id, id_first, NO_SOCKET}
 use Rattle.seat_programs.specs.declared.task.Task.{Task}

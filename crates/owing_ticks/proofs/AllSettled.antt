@@ -6,8 +6,8 @@ use mathlib.Core.Option.{some, some-injective}
 use lib.ListN.{get_elem?}
 use Rattle.sock_words.specs.declared.plain.Plan.{Plan}
 use Rattle.sock_model.specs.SocketTableLayout.{open_index}
-use Rattle.corr_core.specs.Word.{Parts}
-use Rattle.corr_core.specs.Law.{Stands, vacant, retired, claimed, opened, locked, leaving}
+use Rattle.corr_core.specs.IdSlotWord.{Parts}
+use Rattle.corr_core.specs.IdSlotLaw.{Stands, vacant, retired, claimed, opened, locked, leaving}
 use Rattle.corr_core.specs.declared.marks.Plan.{Plan as IdPlan}
 use Rattle.corr_core.proofs.NoteSums.{at_length}
 use Rattle.seat_programs.specs.id_rule.specs.LawfulIdTable.{local}

@@ -4,7 +4,7 @@ use Rattle.std.specs.Prelude as std
 use mathlib.Core.Option.{some}
 use lib.ListN.{get_elem?}
 use Rattle.sock_words.specs.declared.outcome.Outcome.{Outcome}
-use Rattle.corr_core.specs.Word.{Parts, parts, attempt_of, made_word, unlocked_word, free_word}
+use Rattle.corr_core.specs.IdSlotWord.{Parts, parts, attempt_of, made_word, unlocked_word, free_word}
 use Rattle.corr_core.specs.declared.marks.Plan.{Plan as IdPlan}
 use Rattle.seat_programs.specs.id_rule.specs.LawfulIdTable as ids
 use Rattle.seat_programs.specs.Cores.{Core, SeatState, waiting_at}

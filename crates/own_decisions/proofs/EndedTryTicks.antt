@@ -11,7 +11,7 @@ use Rattle.sock_words.specs.PackedWords.{at_word, at_word_attempt, call_id, id_s
 use Rattle.sock_model.specs.declared.home.Home.{Home}
 use Rattle.sock_model.specs.declared.view.View.{View}
 use Rattle.sent_once.specs.Below.slot_steps.proofs.SlotWeightSums.{term_le, total-append}
-use Rattle.corr_core.specs.Word.{parts}
+use Rattle.corr_core.specs.IdSlotWord.{parts}
 use Rattle.corr_core.specs.declared.marks.Plan.{Plan as IdPlan}
 use Rattle.sent_once.specs.Below.id_runs.specs.HeldIdTokens.{IdView, MayId}
 use Rattle.sent_once.specs.Below.id_runs.specs.Goes.{FindsId, SoundIds, IsFittingIds}

@@ -2,9 +2,9 @@
 use Rattle.std.proofs.Common.{◌≡◌, ◌≢◌, ℕ, ◌+◌, ◌≤◌, ◌⊎◌, inl, inr, not, Bool, true, false, cond, eqb, eqb-true, leb, Option, Some, None, refl, sym, ap, ◌∙◌, subst}
 use Rattle.seat_programs.specs.brpc_model.specs.Frame.{Frame}
 use Rattle.seat_programs.specs.brpc_model.specs.ResponseOutcome.{ending_of}
-use Rattle.corr_core.specs.Word.{Parts, parts, posted_word, unlocked_word, code_of, attempt_of, error_of}
-use Rattle.corr_core.specs.Law.{LAST}
-use Rattle.corr_core.specs.ErrorsThatEndCalls.{WHOLE, ends_call}
+use Rattle.corr_core.specs.IdSlotWord.{Parts, parts, posted_word, unlocked_word, code_of, attempt_of, error_of}
+use Rattle.corr_core.specs.IdSlotLaw.{LAST}
+use Rattle.corr_core.specs.EndedByRangeOrAttempt.{WHOLE, ends_call}
 use Rattle.sock_message.specs.Asked.{Asked}
 use Rattle.seat_programs.specs.Asides.{FreeId, UnlockId, Taking, PutCall}
 use Rattle.seat_programs.specs.LoopHeads.{Head, Exit, Sought, Version, Reading, Posts, Unlocks, Decides, Locks, Joins, Opens, Reads, Discards, Retry, Posting, WasGone, WasStale, WasCrowded, WasQueued, HasLocked, Unlocking, IsOpen, HasNext, Deciding, HasEnded, GoesOn, Locking, NotThere, Has, Ended}

@@ -6,9 +6,9 @@ use lib.ListN.{get_elem?}
 use Rattle.sock_words.specs.declared.plain.Plan.{Plan}
 use Rattle.sock_model.specs.declared.home.Home.TheVariants.{Empty, Link, Message}
 use Rattle.sock_model.specs.declared.view.View.{View}
-use Rattle.corr_core.specs.Word.{error_of, attempt_of}
+use Rattle.corr_core.specs.IdSlotWord.{error_of, attempt_of}
 use Rattle.corr_core.specs.declared.marks.Plan.{Plan as IdPlan}
-use Rattle.corr_core.specs.ErrorsThatEndCalls.{WHOLE}
+use Rattle.corr_core.specs.EndedByRangeOrAttempt.{WHOLE}
 use Rattle.seat_programs.specs.id_rule.specs.LawfulIdTable.{at_index}
 use Rattle.sent_once.specs.Below.id_runs.specs.HeldIdTokens.{IdView}
 use Rattle.sent_once.specs.Below.id_runs.specs.Goes.{SoundIds}

@@ -4,8 +4,8 @@ use Rattle.sock_io.specs.declared.link.Put.{Put}
 use Rattle.sock_io.specs.declared.link.Ready.{Ready}
 use Rattle.sock_model.specs.declared.chain.Heading.{Heading}
 use Rattle.sock_words.specs.PackedWords.{at_word, at_word_first, at_word_slot, at_word_attempt, call_id, id_slot, id_first, bit}
-use Rattle.corr_core.specs.Word.{parts, error_of, attempt_of, unlocked_word}
-use Rattle.corr_core.specs.ErrorsThatEndCalls.{WHOLE}
+use Rattle.corr_core.specs.IdSlotWord.{parts, error_of, attempt_of, unlocked_word}
+use Rattle.corr_core.specs.EndedByRangeOrAttempt.{WHOLE}
 use Rattle.sent_once.specs.Below.id_runs.specs.Goes.{FitsSock}
 use Rattle.seat_programs.specs.Asides.{Step, Found, MakeId, StoreAt, LoadAt, PostId, UnlockId}
 use Rattle.seat_programs.specs.TableSteps.{TableStep, PutMessage}

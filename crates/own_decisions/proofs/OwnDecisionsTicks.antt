@@ -18,9 +18,9 @@ use Rattle.sock_model.specs.declared.home.Home.TheVariants.{Message}
 use Rattle.sock_model.specs.UnplacedMessages.{HeadedBytes}
 use Rattle.sock_model.specs.ChainLawReads.{message, link_home}
 use Rattle.sent_once.specs.Below.slot_steps.proofs.SlotWeightSums.{term_le, total-append}
-use Rattle.corr_core.specs.Word.{Parts, parts, error_of, attempt_of, made_word, posted_word, unlocked_word, free_word}
+use Rattle.corr_core.specs.IdSlotWord.{Parts, parts, error_of, attempt_of, made_word, posted_word, unlocked_word, free_word}
 use Rattle.corr_core.specs.declared.marks.Plan.{Plan as IdPlan}
-use Rattle.corr_core.specs.ErrorsThatEndCalls.{WHOLE}
+use Rattle.corr_core.specs.EndedByRangeOrAttempt.{WHOLE}
 use Rattle.seat_programs.specs.id_rule.specs.LawfulIdTable.{all_words, tag_index, id_index, call_index, at_index}
 use Rattle.sent_once.specs.Below.id_runs.specs.HeldIdTokens.{IdView, MayId}
 use Rattle.sent_once.specs.Below.id_runs.specs.Goes.{FitsFirst, FindsId, FitsRetryId, IdGoesOn, SoundIds, IsFittingIds}

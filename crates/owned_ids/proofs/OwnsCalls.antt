@@ -8,8 +8,8 @@ use Rattle.sock_words.specs.PackedWords.{socket_id_version, socket_id_slot, vref
 use Rattle.sock_words.specs.declared.outcome.Outcome.TheVariants.{Unopened, Joined, NotBegun}
 use Rattle.sock_model.specs.declared.chain.Heading.{Heading}
 use Rattle.call_owing.specs.Below.sock_steps.proofs.SumsAsMarksChange.{either_way}
-use Rattle.corr_core.specs.Word.{parts, error_of}
-use Rattle.corr_core.specs.ErrorsThatEndCalls.{WHOLE}
+use Rattle.corr_core.specs.IdSlotWord.{parts, error_of}
+use Rattle.corr_core.specs.EndedByRangeOrAttempt.{WHOLE}
 use Rattle.seat_programs.specs.brpc_model.specs.Frame.{Frame}
 use Rattle.seat_programs.specs.brpc_model.specs.Order.{EachBefore}
 use Rattle.seat_programs.specs.sock_message.specs.Asked.{Asked, name_of, frame_of}

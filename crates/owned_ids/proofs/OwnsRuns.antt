@@ -11,7 +11,7 @@ use Rattle.seat_programs.specs.brpc_model.specs.Operations.{operations, clients}
 use Rattle.seat_programs.specs.brpc_model.specs.Order.{EachBefore}
 use Rattle.seat_programs.specs.brpc_model.specs.LinePlaceFaults.{names}
 use Rattle.sock_model.specs.declared.view.View.{View}
-use Rattle.corr_core.specs.Word.{Parts}
+use Rattle.corr_core.specs.IdSlotWord.{Parts}
 use Rattle.corr_core.specs.declared.marks.Plan.{Plan as IdPlan}
 use Rattle.seat_programs.specs.declared.task.Op.{Op}
 use Rattle.seat_programs.specs.declared.task.Op.TheVariants as ops

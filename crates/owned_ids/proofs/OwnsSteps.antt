@@ -9,8 +9,8 @@ use lib.ListN.{get_elem?}
 use Rattle.atomic_table.proofs.Lists.{set_else}
 use Rattle.call_owing.specs.Below.chain_steps.proofs.TicketLists.{at_length}
 use Rattle.sock_words.specs.declared.plain.Plan.{Plan}
-use Rattle.corr_core.specs.Word.{Parts, parts, made_word, locked_word, posted_word, unlocked_word, free_word}
-use Rattle.corr_core.specs.Law.{Stands, HomeIs, vacant, retired, claimed, opened, locked, leaving}
+use Rattle.corr_core.specs.IdSlotWord.{Parts, parts, made_word, locked_word, posted_word, unlocked_word, free_word}
+use Rattle.corr_core.specs.IdSlotLaw.{Stands, HomeIs, vacant, retired, claimed, opened, locked, leaving}
 use Rattle.corr_core.specs.declared.marks.Plan.{Plan as IdPlan}
 use Rattle.corr_core.specs.declared.marks.Hand.{Hand}
 use Rattle.corr_core.specs.declared.marks.Hand.TheVariants.{Empty, Out, Full}

@@ -5,9 +5,9 @@ use Rattle.sock_words.specs.declared.plain.Plan.{Plan}
 use Rattle.sock_words.specs.ErrorCodes.{is_final}
 use Rattle.sock_model.specs.declared.chain.Heading.{Heading}
 use Rattle.sock_model.specs.declared.view.View.{View}
-use Rattle.seat_programs.specs.corr_core.specs.Word.{Parts, parts, posted_word, locked_word, unlocked_word, code_of, error_of}
+use Rattle.seat_programs.specs.corr_core.specs.IdSlotWord.{Parts, parts, posted_word, locked_word, unlocked_word, code_of, error_of}
 use Rattle.seat_programs.specs.corr_core.specs.IdRangeVersions.{is_early}
-use Rattle.seat_programs.specs.corr_core.specs.ErrorsThatEndCalls.{ends_call}
+use Rattle.seat_programs.specs.corr_core.specs.EndedByRangeOrAttempt.{ends_call}
 use Rattle.seat_programs.specs.brpc_model.specs.Frame.{Frame}
 use Rattle.seat_programs.specs.brpc_model.specs.FrameStream as streams
 use Rattle.seat_programs.specs.brpc_model.specs.ResponseOutcome.{ending_of}
@@ -90,7 +90,7 @@ module _ (p : Plan) (v : View) where
       (λ _. ((f (first_taken (id_first id) (parts found) (not-false (is_first (id_first id) (parts found)) here)), tt), goes))))
 
   end_goes : (i : ℕ) (next : Program) → GoesOn p v next → GoesOn p v (end_id i next)
-  end_goes i next goes = λ found _. way p v (Rattle.std.proofs.Common.leb ((parts found).first + (parts found).range) Rattle.seat_programs.specs.corr_core.specs.Law.LAST) (Aside (FreeId i) (λ _. next)) next (λ _. λ _ _. goes) (λ _. goes)
+  end_goes i next goes = λ found _. way p v (Rattle.std.proofs.Common.leb ((parts found).first + (parts found).range) Rattle.seat_programs.specs.corr_core.specs.IdSlotLaw.LAST) (Aside (FreeId i) (λ _. next)) next (λ _. λ _ _. goes) (λ _. goes)
 
   -- the call is taken out of its home, and decided on
   pub decide_goes : (id word e : ℕ) (k : Deciding → Program) → FitsWord word → ((exit : Deciding) → GoesOn p v (k exit)) → GoesOn p v (decide id word e k)
@@ -181,7 +181,7 @@ module _ (p : Plan) (v : View) where
       way p v (ends_call (parts word) e) (end_id (id_slot id) (k (HasEnded asked.operation (code_of e))))
       (Aside (Rattle.seat_programs.specs.Asides.PutCall (id_slot id) asked) (λ _. Round (Unlocks (id_slot id) word true) (unlocked (record { id = id; attempt = (parts word).attempt + 1 }) k)))
       (λ _. end_goes (id_slot id) (k (HasEnded asked.operation (code_of e))) (g.1 (HasEnded asked.operation (code_of e)) tt))
-      (λ no. λ _ _. let left = eqb-false ((parts word).attempt + 2) (parts word).range (or_parts (is_final (code_of e)) ((parts word).attempt + 2 == (parts word).range) (or_parts (Rattle.seat_programs.specs.corr_core.specs.Word.attempt_of e == 7) (is_final (code_of e) || ((parts word).attempt + 2 == (parts word).range)) no).1).1 in
+      (λ no. λ _ _. let left = eqb-false ((parts word).attempt + 2) (parts word).range (or_parts (is_final (code_of e)) ((parts word).attempt + 2 == (parts word).range) (or_parts (Rattle.seat_programs.specs.corr_core.specs.IdSlotWord.attempt_of e == 7) (is_final (code_of e) || ((parts word).attempt + 2 == (parts word).range)) no).1).1 in
       (((let f = g.0.0.1 in omega arith), tt), unlocked_goes (record { id = id; attempt = (parts word).attempt + 1 }) k (let f = g.0.0.1 in omega arith) (λ exit. g.1 exit tt)))
   goes_round (Locks i sought None) k g = λ found fits. locking_goes g.0.1 i sought found k fits g.1
   goes_round (Locks i sought (Some from)) k g = λ found fits.

@@ -23,9 +23,9 @@ use Rattle.seat_programs.specs.LoopHeads.{Head, Exit, Posts, Unlocks, Decides, L
 use Rattle.seat_programs.specs.LoopRounds.{round, first_step}
 use Rattle.seat_programs.specs.FoundAndChangedAside.{found_in, more_given, calls_after}
 use Rattle.program_steps.specs.IdWordFits.{FitsFound}
-use Rattle.seat_programs.specs.corr_core.specs.Word.{parts, code_of}
+use Rattle.seat_programs.specs.corr_core.specs.IdSlotWord.{parts, code_of}
 use Rattle.seat_programs.specs.Asides.{PutCall, TakeBytes, Taking, Bytes}
-use Rattle.seat_programs.specs.corr_core.specs.ErrorsThatEndCalls.{ends_call}
+use Rattle.seat_programs.specs.corr_core.specs.EndedByRangeOrAttempt.{ends_call}
 use Rattle.seat_programs.specs.LoopHeads.{HasEnded}
 use Rattle.seat_programs.specs.PostPrograms.{end_id, unlocked}
 use Rattle.std.specs.Prelude.{if◌then◌else◌, ◌+◌, Some, None}

@@ -1,7 +1,7 @@
 -- What the table of the sockets relies on of the steps and loops aside of it: the numbers that calls and id words have. It is shown by the rule of the ids.
 use Rattle.std.specs.Prelude.{ℕ, ◌≡◌, ◌≢◌, ◌+◌, ◌<◌, ◌≤◌, Option, Some, None}
 use Rattle.sock_words.specs.declared.plain.Plan.{Plan}
-use Rattle.seat_programs.specs.corr_core.specs.Word.{parts}
+use Rattle.seat_programs.specs.corr_core.specs.IdSlotWord.{parts}
 use Rattle.seat_programs.specs.Asides.{Step, TakeCall, LoadIdWord, LockId, PostId, UnlockId, Found}
 use Rattle.seat_programs.specs.LoopHeads.{Head, Exit, Retry, Posts, Unlocks, Decides, Locks, Opens, Posting, HasLocked, Unlocking, HasNext, Locking, Has, Reads, Ended}
 use Rattle.seat_programs.specs.Explained.{AskedFits}

@@ -24,7 +24,7 @@ use Rattle.seat_programs.specs.TableSteps.{TableStep, PutMessage, SwapHead, Reve
 use Rattle.seat_programs.specs.Cores.{Core, SeatState}
 use Rattle.seat_programs.specs.Writings.{Holder, Writing, Puts, Waits, Empties, Walks}
 use Rattle.seat_programs.specs.Programs.{Program, Do, Say, Sent, Rest, TakeMessage, TakeHome, PutHome, PutBytes, AskReady, Write, Aside, Round, Keep, Retries}
-use Rattle.seat_programs.specs.corr_core.specs.Word.{Parts, parts}
+use Rattle.seat_programs.specs.corr_core.specs.IdSlotWord.{Parts, parts}
 use Rattle.seat_programs.specs.id_rule.specs.LawfulIdTable.{id_index}
 use Rattle.seat_programs.specs.Asides.{Step, Found, MakeId, StoreAt, LoadIdWord, LockId, PostId, UnlockId, EndId}
 use Rattle.seat_programs.specs.FoundAndChangedAside.{found_in}

@@ -12,7 +12,7 @@ use Rattle.seat_programs.specs.sock_io.specs.declared.link.Put.{Put}
 use Rattle.seat_programs.specs.sock_io.specs.declared.link.Ready.{Ready}
 use Rattle.sock_model.specs.declared.chain.Heading.{Heading}
 use Rattle.sock_steps.proofs.SumsAsMarksChange.{either_way}
-use Rattle.seat_programs.specs.corr_core.specs.Word.{parts}
+use Rattle.seat_programs.specs.corr_core.specs.IdSlotWord.{parts}
 use Rattle.seat_programs.specs.sock_message.specs.Asked.{Asked}
 use Rattle.seat_programs.specs.TableSteps.{TableStep, CreateLife, StoreOpen, AddRef, SubRef, SetOdd, Recycle, FreeSlot, LoadLink, StoreCode, LoadName, LoadOpen, TakeLink, FinishLink, PutLink, LookWord, ClaimRequest, PutMessage, SwapHead, EmptyHead}
 use Rattle.seat_programs.specs.Writings.{Writing}

@@ -5,9 +5,9 @@ use Rattle.std.specs.Prelude.{Option, Some, None}
 use Rattle.sock_words.specs.declared.outcome.Outcome.TheVariants.{CallFailed}
 use mathlib.Core.Option.{none, some-ne-none}
 use Rattle.sock_steps.proofs.SumsAsMarksChange.{either_way}
-use Rattle.seat_programs.specs.corr_core.specs.Word.{parts, posted_word, unlocked_word, code_of, error_of}
-use Rattle.seat_programs.specs.corr_core.specs.Law.{LAST}
-use Rattle.seat_programs.specs.corr_core.specs.ErrorsThatEndCalls.{ends_call}
+use Rattle.seat_programs.specs.corr_core.specs.IdSlotWord.{parts, posted_word, unlocked_word, code_of, error_of}
+use Rattle.seat_programs.specs.corr_core.specs.IdSlotLaw.{LAST}
+use Rattle.seat_programs.specs.corr_core.specs.EndedByRangeOrAttempt.{ends_call}
 use Rattle.seat_programs.specs.corr_core.specs.IdRangeVersions.{is_early}
 use Rattle.seat_programs.specs.brpc_model.specs.Frame.{Frame}
 use Rattle.seat_programs.specs.brpc_model.specs.FrameStream as streams

@@ -19,9 +19,9 @@ use Rattle.seat_programs.specs.ScriptSetupToEnding.{sizes_of}
 use Rattle.seat_programs.specs.Explained.{OpFits, TaskFits, in_hand_behind, goes_well, alternate}
 use Rattle.program_walks.specs.program_steps.specs.ProgramGoesOn.{HasNothing, GoesOn}
 use Rattle.slot_steps.proofs.RuleNumbers.{only-at, only-else}
-use Rattle.corr_core.specs.Word.{error_of}
+use Rattle.corr_core.specs.IdSlotWord.{error_of}
 use Rattle.corr_core.specs.declared.marks.Plan.{Plan as IdPlan}
-use Rattle.corr_core.specs.ErrorsThatEndCalls.{WHOLE}
+use Rattle.corr_core.specs.EndedByRangeOrAttempt.{WHOLE}
 use Rattle.sock_words.specs.declared.outcome.Outcome.TheVariants.{NotBegun, Joined}
 use Rattle.seat_programs.specs.LoopHeads.{Joins}
 use Rattle.seat_programs.specs.PostPrograms.{post_with, posted}

@@ -12,7 +12,7 @@ use Rattle.sock_model.specs.MarkWeights.{is_hold, is_met}
 use Rattle.sock_model.specs.SlotRows.{looked, met_link}
 use Rattle.sock_model.specs.ChainRows.{with_claim}
 use Rattle.slot_steps.proofs.RuleNumbers.{only-same}
-use Rattle.corr_core.specs.Word.{parts}
+use Rattle.corr_core.specs.IdSlotWord.{parts}
 use Rattle.seat_programs.specs.sock_message.specs.Asked.{Asked, name_of, meta_of, frame_of}
 use Rattle.seat_programs.specs.Asides.{StoreAt}
 use Rattle.seat_programs.specs.Programs.{Program, Do, Say, Aside, release}

@@ -5,9 +5,9 @@ use Rattle.std.specs.List.{AllByRecursion}
 use Rattle.sock_words.specs.declared.plain.Plan.{Plan}
 use Rattle.sock_words.specs.declared.outcome.Outcome.TheVariants.{Opened, SlotsFull, Unopened, Gone, Full, Held, Freed, Kept, NotBegun, Joined}
 use Rattle.sock_words.specs.PackedWords.{socket_id, socket_id_slot, vref_version, call_id, NO_SOCKET}
-use Rattle.corr_core.specs.Word.{parts, error_of}
+use Rattle.corr_core.specs.IdSlotWord.{parts, error_of}
 use Rattle.corr_core.specs.declared.marks.Plan.{Plan as IdPlan}
-use Rattle.corr_core.specs.ErrorsThatEndCalls.{WHOLE}
+use Rattle.corr_core.specs.EndedByRangeOrAttempt.{WHOLE}
 use Rattle.seat_programs.specs.declared.task.Op.{Op}
 use Rattle.seat_programs.specs.declared.task.Op.TheVariants as ops
 use Rattle.seat_programs.specs.declared.task.Task.{Task}

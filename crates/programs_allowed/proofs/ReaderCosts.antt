@@ -3,7 +3,7 @@ use Rattle.std.proofs.Common.{ℕ, suc, ◌+◌, ◌-◌, ◌*◌, ◌&&◌, con
 use Rattle.sock_words.specs.declared.plain.Plan.{Plan}
 use Rattle.sock_words.specs.PackedWords.{socket_id_slot, at_word_first, at_word_slot, at_word_link, at_word_attempt, call_id, id_first, NO_SOCKET}
 use Rattle.sock_model.specs.declared.view.View.{View}
-use Rattle.corr_core.specs.Word.{parts, error_of}
+use Rattle.corr_core.specs.IdSlotWord.{parts, error_of}
 use Rattle.program_walks.specs.brpc_model.specs.Frame.{Frame}
 use Rattle.seat_programs.specs.Asides.{LoadAt}
 use Rattle.seat_programs.specs.LoopHeads.{Reads, Discards, Posting, HasLocked, Deciding, HasEnded, GoesOn, Ended}

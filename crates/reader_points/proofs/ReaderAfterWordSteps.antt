@@ -2,7 +2,7 @@
 use Rattle.std.proofs.Common.{◌≢◌, ◌≡◌, ℕ, ◌+◌, ◌==◌, ◌&&◌, not, Bool, true, false, if◌then◌else◌, ◌∷◌, drop, refl, ap, sym, ◌∙◌, arith}
 use Rattle.std.proofs.lemmas.Bool.Decides.{nat_tests}
 use Rattle.sock_words.specs.PackedWords.{socket_id_version, vref_version, at_word_link, at_word_slot, at_word_first, at_word_attempt, call_id, id_slot}
-use Rattle.corr_core.specs.Word.{error_of}
+use Rattle.corr_core.specs.IdSlotWord.{error_of}
 use Rattle.sock_message.specs.Asked.{Asked}
 use Rattle.seat_programs.specs.Asides.{TakeCall}
 use Rattle.seat_programs.specs.Programs.{Program, Aside, Say}

@@ -3,8 +3,8 @@ use Rattle.std.proofs.Common.{◌≡◌, ℕ, ◌+◌, Bool, true, false, if◌t
 use Rattle.sock_message.specs.Asked.{Asked}
 use Rattle.seat_programs.specs.Asides as steps_aside
 use Rattle.sock_words.specs.declared.id_word.IdWord.{IdWord}
-use Rattle.corr_core.specs.Word.{parts, code_of}
-use Rattle.corr_core.specs.ErrorsThatEndCalls.{ends_call}
+use Rattle.corr_core.specs.IdSlotWord.{parts, code_of}
+use Rattle.corr_core.specs.EndedByRangeOrAttempt.{ends_call}
 use Rattle.seat_programs.specs.LoopHeads.{Locking, Posting, HasEnded, Unlocks}
 use Rattle.seat_programs.specs.PostPrograms.{end_id, unlocked}
 use Rattle.seat_programs.specs.Programs.{Program, Round}

@@ -3,7 +3,7 @@ use Rattle.std.specs.Prelude.{ℕ, ◌≡◌, ◌≤◌, ◌-◌, ◌==◌, Bool
 use Rattle.sock_words.specs.ErrorCodes.{EEOF, ERESPONSE}
 use Rattle.sock_words.specs.PackedWords.{socket_id_slot, socket_id_version, at_word_link, at_word_slot, at_word_first, at_word_attempt, call_id, id_slot, NO_SOCKET}
 use Rattle.sock_words.specs.declared.outcome.Outcome.TheVariants.{CallFailed}
-use Rattle.corr_core.specs.Word.{parts, error_of}
+use Rattle.corr_core.specs.IdSlotWord.{parts, error_of}
 use Rattle.brpc_model.specs.Frame.{Frame, NoneYet, judged}
 use Rattle.brpc_model.specs.FrameStream.{stream}
 use Rattle.brpc_model.specs.ResponseOutcome.{ending_of}
@@ -20,7 +20,7 @@ use Rattle.call_points.specs.declared.locking.Locker.{Locker}
 use Rattle.call_points.specs.declared.aside.Aside.TheVariants as asides
 use Rattle.id_points.specs.IdsAndAttemptNumbers.{id_of, number_of}
 use Rattle.id_points.specs.declared.locking.Sought.TheVariants as sought
-use Rattle.seat_states.specs.SeatPoints.{release_on, MayFindIn}
+use Rattle.seat_states.specs.ProgramAtPoint.{release_on, MayFindIn}
 use Rattle.reader_points.specs.declared.point.ByteCount.{ByteCount}
 use Rattle.reader_points.specs.declared.point.Reader.{Reader}
 use Rattle.reader_points.specs.declared.point.Closing.{Closing}

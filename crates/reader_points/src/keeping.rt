@@ -4,7 +4,7 @@ ghost use Rattle.brpc_model.specs.Frame as model;
 ghost use Rattle.prpc_frame.specs.FrameMeaning.{frame_of};
 ghost use Rattle.id_points.specs.IdsAndAttemptNumbers.{id_of};
 ghost use Rattle.reader_points.specs.KeptResponses.{IsFirstKept, is_kept_of};
-ghost use Rattle.corr_core.specs.Word.{parts};
+ghost use Rattle.corr_core.specs.IdSlotWord.{parts};
 ghost use Rattle.reader_points.specs.ReaderPoints.{Context, next_program, point_program, with_kept, HasInHand};
 ghost use Rattle.sock_words.specs.PackedWords.{id_slot};
 

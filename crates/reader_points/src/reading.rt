@@ -2,7 +2,7 @@ ghost use Rattle.std.specs.Prelude.{◌≡◌, true};
 ghost use Rattle.seat_programs.specs.Asides.{Taking};
 ghost use Rattle.brpc_model.specs.Frame.{Frame};
 ghost use Rattle.seat_programs.specs.ReaderProgram.{answered, version_in};
-ghost use Rattle.corr_core.specs.Word.{parts};
+ghost use Rattle.corr_core.specs.IdSlotWord.{parts};
 ghost use Rattle.corr_core.specs.IdRangeVersions.{is_early};
 ghost use Rattle.id_points.specs.IdsAndAttemptNumbers.{id_of};
 ghost use Rattle.id_points.specs.CallIdLoopTurns.{lock_on, sought_as};

@@ -9,8 +9,8 @@ use Rattle.sock_model.specs.declared.view.View.{View}
 use Rattle.seat_programs.specs.brpc_model.specs.Items.{Item}
 use Rattle.seat_programs.specs.brpc_model.specs.Operations.{Turn}
 use Rattle.seat_programs.specs.brpc_model.specs.Script.{script_of}
-use Rattle.corr_core.specs.Word.{parts}
-use Rattle.corr_core.specs.ErrorsThatEndCalls.{ends_call}
+use Rattle.corr_core.specs.IdSlotWord.{parts}
+use Rattle.corr_core.specs.EndedByRangeOrAttempt.{ends_call}
 use Rattle.sock_message.specs.Asked.{Asked}
 use Rattle.seat_programs.specs.Asides.{PutCall}
 use Rattle.seat_programs.specs.TableSteps.{AddRef, LookWord, LoadName}
@@ -57,7 +57,7 @@ same_put : (program : Program) → put_first (first_step program) ≡ put_by pro
 same_put (Aside (PutCall i asked) next) = refl
 same_put (Round (Decides id asked w e) next) = by (ends_call (parts w) e)
   where
-    by : (b : Bool) → put_first (cond b (Rattle.seat_programs.specs.PostPrograms.end_id (Rattle.sock_words.specs.PackedWords.id_slot id) (next (Rattle.seat_programs.specs.LoopHeads.HasEnded asked.operation (Rattle.corr_core.specs.Word.code_of e))))
+    by : (b : Bool) → put_first (cond b (Rattle.seat_programs.specs.PostPrograms.end_id (Rattle.sock_words.specs.PackedWords.id_slot id) (next (Rattle.seat_programs.specs.LoopHeads.HasEnded asked.operation (Rattle.corr_core.specs.IdSlotWord.code_of e))))
         (Aside (PutCall (Rattle.sock_words.specs.PackedWords.id_slot id) asked) (λ _. Round (Unlocks (Rattle.sock_words.specs.PackedWords.id_slot id) w true) (Rattle.seat_programs.specs.PostPrograms.unlocked (record { id = id; attempt = (parts w).attempt + 1 }) next)))) ≡ cond b [] (asked.operation ∷ [])
     by true = refl
     by false = refl

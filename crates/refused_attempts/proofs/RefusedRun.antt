@@ -5,8 +5,8 @@ use Rattle.sock_model.specs.declared.chain.Heading.{Heading}
 use Rattle.seat_programs.specs.brpc_model.specs.Items.{Item}
 use Rattle.seat_programs.specs.brpc_model.specs.Operations.{Turn}
 use Rattle.seat_programs.specs.brpc_model.specs.Script.{script_of}
-use Rattle.corr_core.specs.Word.{error_of, code_of, attempt_of}
-use Rattle.corr_core.specs.ErrorsThatEndCalls.{WHOLE}
+use Rattle.corr_core.specs.IdSlotWord.{error_of, code_of, attempt_of}
+use Rattle.corr_core.specs.EndedByRangeOrAttempt.{WHOLE}
 use Rattle.sock_message.specs.Asked.{Asked, name_of}
 use Rattle.seat_programs.specs.Cores.{Core}
 use Rattle.seat_programs.specs.Tasks.{plan_of}

@@ -14,7 +14,7 @@ use Rattle.sock_model.specs.declared.home.Home.{Home}
 use Rattle.sock_model.specs.declared.view.Hand.{Hand}
 use Rattle.sock_model.specs.declared.view.View.{View}
 use Rattle.attempted_calls.specs.Below.slot_steps.proofs.SlotWeightSums.{term_le, total-append, total-set}
-use Rattle.corr_core.specs.Word.{parts}
+use Rattle.corr_core.specs.IdSlotWord.{parts}
 use Rattle.corr_core.specs.declared.marks.Plan.{Plan as IdPlan}
 use Rattle.attempted_calls.specs.Below.id_runs.specs.HeldIdTokens.{IdView, MayId}
 use Rattle.attempted_calls.specs.Below.id_runs.specs.Goes.{FitsRetryId, FitsSock, FindsId, IdGoesOn, SoundIds, IsFittingIds}

@@ -25,7 +25,7 @@ use Rattle.sock_table.specs.ReferenceAnswers.{Holds, GoneFrom}
 use Rattle.sock_table.specs.ReferenceAnswers as answers
 use Rattle.rpc_client.specs.declared.holding.Held.{Held}
 use Rattle.sock_words.specs.declared.outcome.Outcome.{Outcome}
-use Rattle.rpc_client.specs.ReferencesHeldByClient.{IsHolder, is_there, is_life, GaveOne, given_as, GivenBy}
+use Rattle.rpc_client.specs.HoldAndDropOutcomes.{IsHolder, is_there, is_life, GaveOne, given_as, GivenBy}
 use Rattle.sock_table.specs.NamesStoredAndFound.{FindsId}
 use Rattle.write_chain.specs.sock_open.proofs.SeatsHoldingNothing.{ended_refs}
 use Rattle.rpc_client.specs.SeatBetweenOperations.{SameRefs, OneMore}

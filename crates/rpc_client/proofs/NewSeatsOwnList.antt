@@ -19,7 +19,7 @@ use Rattle.rpc_client.specs.declared.holding.Held.{Held}
 use Rattle.rpc_client.specs.declared.reaching.Reached.TheVariants.{Here}
 use Rattle.rpc_client.specs.SeatBetweenOperations.{Idle, MayAct}
 use Rattle.rpc_client.specs.ReachingByName.{ReachedBy}
-use Rattle.rpc_client.specs.ReferencesHeldByClient.{IsHolder}
+use Rattle.rpc_client.specs.HoldAndDropOutcomes.{IsHolder}
 use Rattle.std.specs.Prelude.{All}
 use Rattle.std.proofs.lemmas.List.Elements.{All-nil, All-cons}
 use Rattle.sock_table.specs.LinkPasses.{IsPass}

@@ -8,7 +8,7 @@ use Rattle.sock_words.specs.declared.outcome.Outcome.TheVariants as outcome
 use Rattle.sock_model.specs.declared.view.View.{View}
 use Rattle.rpc_client.specs.declared.acting.Told.{Told}
 use Rattle.rpc_client.specs.declared.holding.Held.{Held}
-use Rattle.rpc_client.specs.ReferencesHeldByClient.{GivenBy}
+use Rattle.rpc_client.specs.HoldAndDropOutcomes.{GivenBy}
 use Rattle.rpc_client.specs.SendingOutcomes.{Returned}
 use Rattle.rpc_client.specs.ToldOfOperation.{telling, GaveFirst}
 

@@ -1,7 +1,7 @@
 pub mod SeatBetweenOperations
 pub mod ReachingByName
 pub mod OpenOutcomes
-pub mod ReferencesHeldByClient
+pub mod HoldAndDropOutcomes
 pub mod FailOutcomes
 pub mod SendingOutcomes
 pub mod AcceptedClientMessages

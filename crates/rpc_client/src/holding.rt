@@ -2,7 +2,7 @@
 ghost use Rattle.std.specs.Prelude.{◌≡◌, ◌+◌, ◌<◌, ◌==◌, length, vec_len, vec_capacity, position};
 ghost use Rattle.sock_table.specs.ReferenceAnswers.{is_freed};
 ghost use Rattle.rpc_client.specs.SeatBetweenOperations.{Idle, MayAct, AtRest, StaysSeen};
-ghost use Rattle.rpc_client.specs.ReferencesHeldByClient.{IsHolder, HeldBy, given_as, GivenBy, DroppedBy};
+ghost use Rattle.rpc_client.specs.HoldAndDropOutcomes.{IsHolder, HeldBy, given_as, GivenBy, DroppedBy};
 
 use crate::reaching::{Reached, find_socket};
 use sock_io::Out;

@@ -1,7 +1,7 @@
 // What a client does in the end.
 ghost use Rattle.std.specs.Prelude.{◌≡◌, [], length};
 ghost use Rattle.rpc_client.specs.SeatBetweenOperations.{Idle, AtRest};
-ghost use Rattle.rpc_client.specs.ReferencesHeldByClient.{IsHolder};
+ghost use Rattle.rpc_client.specs.HoldAndDropOutcomes.{IsHolder};
 ghost use Rattle.rpc_client.specs.ToldOfOperation.{GaveFirst};
 
 use crate::holding::{Held, give_back};

@@ -1,7 +1,7 @@
 -- Frames that are met one behind another, and what is cut for that.
 use Rattle.std.proofs.Common.{◌≡◌, ℕ, ◌+◌, List, [], ◌∷◌, ◌++◌, map, Some, Ok, refl, sym, ap, ◌∙◌, subst, arith, append_assoc, append-nil, length-append, Bool, true, false, ◌<◌, ◌≤◌, ◌⊎◌, inr, ⊎_elim, None, nat_lt, ltb-true}
 use Rattle.std.specs.Prelude.{Option, option_map, ◌&&◌}
-use Rattle.corr_core.specs.Word.{Parts, parts}
+use Rattle.corr_core.specs.IdSlotWord.{Parts, parts}
 use Rattle.corr_core.specs.IdRangeVersions.{is_early}
 use Rattle.corr_id.specs.SeatBehindIdCalls.{Quiet, Found}
 use Rattle.corr_id.specs.LocksByAttempt.{LacksAttempt}

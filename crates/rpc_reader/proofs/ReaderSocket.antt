@@ -17,7 +17,7 @@ use Rattle.sock_table.specs.ReferenceAnswers.{Held, Holds, NoneLater}
 use Rattle.sock_table.specs.ClosedSocketTable.{IsDoneSeat}
 use Rattle.sock_table.specs.declared.refs.SockRef.{SockRef}
 use Rattle.rpc_client.specs.SeatBetweenOperations.{Idle, MayAct, StaysSeen, SameRefs, OneMore}
-use Rattle.rpc_client.specs.ReferencesHeldByClient.{IsHolder}
+use Rattle.rpc_client.specs.HoldAndDropOutcomes.{IsHolder}
 use Rattle.rpc_client.specs.FailOutcomes.{SetBy}
 use Rattle.rpc_client.proofs.CountedReferences.{refs_none, finds_refs, one_more, given, then_more}
 use Rattle.rpc_client.proofs.FindingReferences.{seen_found, seen_more, has_one, set_refs}

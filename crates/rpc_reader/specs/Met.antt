@@ -1,6 +1,6 @@
 -- What becomes of the whole frames that a link gave.
 use Rattle.std.specs.Prelude.{◌≡◌, ◌+◌, ◌<◌, ◌==◌, ◌&&◌, ◌⊎◌, ℕ, nat_lt, Bool, true, false, List, [], ◌∷◌, Option, Some, None, map}
-use Rattle.corr_core.specs.Word.{Parts, parts}
+use Rattle.corr_core.specs.IdSlotWord.{Parts, parts}
 use Rattle.corr_core.specs.declared.marks.View.{View}
 use Rattle.corr_core.specs.IdRangeVersions.{has_version, is_early}
 use Rattle.corr_id.specs.SeatBehindIdCalls.{GotLock, Quiet, Found}

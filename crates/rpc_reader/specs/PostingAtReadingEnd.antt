@@ -6,7 +6,7 @@ use lib.ListN.{get_elem?}
 use Rattle.sock_words.specs.PackedWords.{at_word_first, at_word_slot, at_word_link, at_word_attempt, id_slot, id_first, call_id}
 use Rattle.sock_words.specs.declared.at_word.AtWord.{AtWord}
 use Rattle.sock_words.specs.declared.outcome.Outcome.TheVariants.{CallFailed}
-use Rattle.corr_core.specs.Word.{Parts, parts}
+use Rattle.corr_core.specs.IdSlotWord.{Parts, parts}
 use Rattle.corr_core.specs.declared.marks.Plan.{Plan}
 use Rattle.corr_core.specs.declared.marks.View.{View}
 use Rattle.id_rule.specs.LawfulIdTable.{at_index, with_kept}

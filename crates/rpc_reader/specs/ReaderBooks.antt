@@ -1,7 +1,7 @@
 -- What a reader has for the calls whose responses it takes: what its seat noted, the responses that it keeps, what it told of the calls that it ended, and whether memory was wanting.
 use Rattle.std.specs.Prelude.{◌≡◌, ◌+◌, ◌⊎◌, ℕ, true, Bool, List, [], ◌∷◌, ◌++◌}
 use Rattle.sock_words.specs.declared.outcome.Outcome.{Outcome}
-use Rattle.corr_core.specs.Word.{Parts}
+use Rattle.corr_core.specs.IdSlotWord.{Parts}
 use Rattle.corr_core.specs.declared.marks.View.{View}
 use Rattle.corr_core.specs.declared.marks.Note.TheVariants.{Ended}
 use Rattle.corr_id.specs.SeatBehindIdCalls.{Became, one}

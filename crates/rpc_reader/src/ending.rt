@@ -3,7 +3,7 @@ ghost use Rattle.std.specs.Prelude.{◌≡◌, ◌≢◌, ◌<◌, ℕ, [], true
 ghost use Rattle.sock_words.specs.declared.outcome.Outcome.TheVariants.{CallFailed};
 ghost use Rattle.prpc_frame.specs.FrameMeaning.{frame_of};
 ghost use Rattle.brpc_model.specs.ResponseOutcome.{ending_of};
-ghost use Rattle.corr_core.specs.Word.{parts};
+ghost use Rattle.corr_core.specs.IdSlotWord.{parts};
 ghost use Rattle.corr_core.specs.declared.marks.Hand.TheVariants.{Empty};
 ghost use Rattle.id_rule.specs.LawfulIdTable.{tokens_in};
 ghost use Rattle.corr_id.specs.SeatBehindIdCalls.{Locks};

@@ -1,7 +1,7 @@
 // The calls that wait for a link whose reading has ended.
 ghost use Rattle.std.specs.Prelude.{◌≡◌, ◌≢◌, ◌==◌, ◌<◌, ◌≤◌, ℕ, [], true, false, None, All, MatchOption, position};
 ghost use Rattle.sock_words.specs.PackedWords.{at_word_slot, at_word_first, id_slot, id_first};
-ghost use Rattle.corr_core.specs.Word.{parts};
+ghost use Rattle.corr_core.specs.IdSlotWord.{parts};
 ghost use Rattle.corr_core.specs.declared.marks.Hand.TheVariants.{Empty};
 ghost use Rattle.id_rule.specs.LawfulIdTable.{tokens_in};
 ghost use Rattle.corr_id.specs.SeatBehindIdCalls.{HasId, LacksId, Locks};

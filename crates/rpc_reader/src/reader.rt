@@ -4,7 +4,7 @@ ghost use Rattle.std.specs.Result.{is_err};
 ghost use Rattle.sock_table.specs.ClosedSocketTable.{IsDoneSeat};
 ghost use Rattle.sock_table.specs.ReferenceCalls.{Knows};
 ghost use Rattle.rpc_client.specs.SeatBetweenOperations.{Idle, MayAct, AtRest, SameRefs};
-ghost use Rattle.rpc_client.specs.ReferencesHeldByClient.{IsHolder};
+ghost use Rattle.rpc_client.specs.HoldAndDropOutcomes.{IsHolder};
 ghost use Rattle.rpc_reader.specs.ReaderIdSeat.{IsOpen, Rests};
 ghost use Rattle.rpc_reader.specs.ReaderBooks.{books};
 ghost use Rattle.rpc_reader.specs.LinkReading.{code_of};

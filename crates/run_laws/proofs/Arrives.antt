@@ -28,8 +28,8 @@ use Rattle.sock_steps.proofs.LifeLinkSlotPlaces.{own_count}
 use Rattle.seat_programs.specs.TableSteps.{TableStep, SetOdd, LookWord, LoadCode}
 use Rattle.seat_programs.specs.Writings.{Puts, Waits, Empties, Walks}
 use Rattle.seat_programs.specs.Programs.{Program, Do, Rest, TakeMessage, TakeHome, PutHome, PutBytes, AskReady, Write, Aside, Round}
-use Rattle.corr_core.specs.Word.{parts, code_of}
-use Rattle.corr_core.specs.ErrorsThatEndCalls.{ends_call}
+use Rattle.corr_core.specs.IdSlotWord.{parts, code_of}
+use Rattle.corr_core.specs.EndedByRangeOrAttempt.{ends_call}
 use Rattle.seat_programs.specs.Asides.{PutCall}
 use Rattle.seat_programs.specs.LoopHeads.{HasEnded, Posts, Unlocks, Decides, Locks, Joins, Opens, Reads, Discards}
 use Rattle.seat_programs.specs.PostPrograms.{end_id, unlocked}

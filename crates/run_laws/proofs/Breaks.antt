@@ -1,7 +1,7 @@
 -- A link that answers that it failed is stopped, and its seat is at no put then.
 use Rattle.std.proofs.Common.{◌≡◌, ℕ, zero, suc, ◌⊎◌, inl, inr, ⊎_elim, Bool, true, false, cond, eq-eqb, List, [], ◌∷◌, refl, sym, ap, ◌∙◌, subst, arith}
-use Rattle.corr_core.specs.Word.{parts, code_of}
-use Rattle.corr_core.specs.ErrorsThatEndCalls.{ends_call}
+use Rattle.corr_core.specs.IdSlotWord.{parts, code_of}
+use Rattle.corr_core.specs.EndedByRangeOrAttempt.{ends_call}
 use Rattle.seat_programs.specs.Asides.{PutCall}
 use Rattle.seat_programs.specs.LoopHeads.{HasEnded, Unlocks, Decides, Locks}
 use Rattle.seat_programs.specs.PostPrograms.{end_id, unlocked}

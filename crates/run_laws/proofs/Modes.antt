@@ -22,9 +22,9 @@ use Rattle.seat_programs.specs.SendAndWritePrograms.{freed, one_more, passed_tel
 use Rattle.seat_programs.specs.ClientProgram.{HeldLife, held_under, without_name, give_back, drop_of, operation, client_from, ending_of}
 use Rattle.seat_programs.specs.Cores.{next_step, resolved}
 use Rattle.seat_programs.specs.BufferParts.{part}
-use Rattle.corr_core.specs.Word.{parts, error_of, code_of, posted_word, unlocked_word}
-use Rattle.corr_core.specs.Law.{LAST}
-use Rattle.corr_core.specs.ErrorsThatEndCalls.{WHOLE, ends_call}
+use Rattle.corr_core.specs.IdSlotWord.{parts, error_of, code_of, posted_word, unlocked_word}
+use Rattle.corr_core.specs.IdSlotLaw.{LAST}
+use Rattle.corr_core.specs.EndedByRangeOrAttempt.{WHOLE, ends_call}
 use Rattle.corr_core.specs.IdRangeVersions.{is_early}
 use Rattle.brpc_model.specs.Frame.{Frame}
 use Rattle.brpc_model.specs.FrameStream as streams

@@ -1,6 +1,6 @@
 -- A run in whose end all is over.
 use Rattle.std.specs.Prelude.{ℕ, ◌≡◌, ◌<◌, List, slice_index}
-use Rattle.corr_core.specs.Word.{parts}
+use Rattle.corr_core.specs.IdSlotWord.{parts}
 use Rattle.id_rule.specs.LawfulIdTable.{id_index}
 use Rattle.brpc_model.specs.Items.{Item}
 use Rattle.seat_programs.specs.Cores.{Core}

@@ -8,7 +8,7 @@ use lib.Seq.{set-get_or}
 use Rattle.atomic_table.proofs.Lists.{set_again}
 use Rattle.sock_words.specs.declared.plain.Plan.{Plan}
 use Rattle.sock_model.specs.declared.view.View.{View}
-use Rattle.seat_programs.specs.corr_core.specs.Word.{parts, made_word, posted_word, unlocked_word, free_word}
+use Rattle.seat_programs.specs.corr_core.specs.IdSlotWord.{parts, made_word, posted_word, unlocked_word, free_word}
 use Rattle.seat_programs.specs.id_rule.specs.LawfulIdTable.{id_index, at_index}
 use Rattle.seat_programs.specs.Asides.{Step, Found, ClaimId, PutCall, MakeId, StoreCall, LoadCall, StoreAt, LoadAt, LoadIdWord, LockId, PostId, UnlockId, EndId, FreeId, TakeCall, TakeBytes, Taking, Bytes}
 use Rattle.seat_programs.specs.FoundAndChangedAside.{found_in, calls_after, with_word, more_given}

@@ -11,9 +11,9 @@ use Rattle.seat_programs.specs.sock_io.specs.declared.link.Ready.TheVariants.{No
 use Rattle.sock_model.specs.declared.view.View.{View}
 use Rattle.sock_model.specs.declared.view.Hand.{Hand}
 use Rattle.sock_model.specs.SocketTableLayout.{open_index}
-use Rattle.seat_programs.specs.corr_core.specs.Word.{parts, posted_word, unlocked_word, code_of}
-use Rattle.seat_programs.specs.corr_core.specs.Law.{LAST}
-use Rattle.seat_programs.specs.corr_core.specs.ErrorsThatEndCalls.{ends_call}
+use Rattle.seat_programs.specs.corr_core.specs.IdSlotWord.{parts, posted_word, unlocked_word, code_of}
+use Rattle.seat_programs.specs.corr_core.specs.IdSlotLaw.{LAST}
+use Rattle.seat_programs.specs.corr_core.specs.EndedByRangeOrAttempt.{ends_call}
 use Rattle.seat_programs.specs.id_rule.specs.LawfulIdTable.{id_index}
 use Rattle.seat_programs.specs.sock_message.specs.Asked.{Asked}
 use Rattle.seat_programs.specs.TableSteps.{LoadOpen}

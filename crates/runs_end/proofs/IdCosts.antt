@@ -4,9 +4,9 @@ use Rattle.std.proofs.lemmas.Bool.{true≢false}
 use Rattle.std.specs.Prelude as std
 use Rattle.sock_words.specs.declared.plain.Plan.{Plan}
 use Rattle.sock_model.specs.declared.view.View.{View}
-use Rattle.seat_programs.specs.corr_core.specs.Word.{parts, code_of, error_of, posted_word, unlocked_word}
-use Rattle.seat_programs.specs.corr_core.specs.Law.{LAST}
-use Rattle.seat_programs.specs.corr_core.specs.ErrorsThatEndCalls.{ends_call}
+use Rattle.seat_programs.specs.corr_core.specs.IdSlotWord.{parts, code_of, error_of, posted_word, unlocked_word}
+use Rattle.seat_programs.specs.corr_core.specs.IdSlotLaw.{LAST}
+use Rattle.seat_programs.specs.corr_core.specs.EndedByRangeOrAttempt.{ends_call}
 use Rattle.seat_programs.specs.sock_message.specs.Asked.{Asked}
 use Rattle.seat_programs.specs.Asides.{Step, Found, LoadIdWord, LockId, PostId, UnlockId, FreeId, PutCall}
 use Rattle.seat_programs.specs.LoopHeads.{Retry, Sought, Posts, Unlocks, Decides, Locks, Joins, Opens, Posting, WasGone, WasStale, WasCrowded, WasQueued, HasLocked, Unlocking, IsOpen, HasNext, Deciding, HasEnded, Locking, NotThere, Has}

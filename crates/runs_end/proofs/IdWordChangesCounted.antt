@@ -1,7 +1,7 @@
 -- What each kind of change of an id word is counted for.
 use Rattle.std.proofs.Common.{◌≡◌, ◌≢◌, ℕ, zero, suc, ◌+◌, ◌-◌, ◌*◌, ◌<◌, ◌≤◌, Bool, true, false, List, length, set, refl, sym, ap, ap₂, ◌∙◌, subst, arith, cond, eqb, eq-eqb, get_or-set_other}
 use Rattle.std.specs.Prelude.{slice_index}
-use Rattle.seat_programs.specs.corr_core.specs.Word.{Parts, parts, made_word, locked_word, posted_word, unlocked_word, free_word}
+use Rattle.seat_programs.specs.corr_core.specs.IdSlotWord.{Parts, parts, made_word, locked_word, posted_word, unlocked_word, free_word}
 use Rattle.seat_programs.specs.corr_core.specs.declared.marks.Plan.{Plan as IdPlan}
 use Rattle.seat_programs.specs.id_rule.specs.LawfulIdTable.{tag_index, id_index, call_index, at_index}
 use Rattle.seat_programs.specs.PostPrograms.{packed}

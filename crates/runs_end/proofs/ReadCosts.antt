@@ -5,7 +5,7 @@ use Rattle.sock_model.specs.declared.view.View.{View}
 use Rattle.seat_programs.specs.brpc_model.specs.Frame.{Frame, Judged, NoneYet, Faulty, Begins, judged}
 use Rattle.seat_programs.specs.brpc_model.specs.FrameStream as streams
 use Rattle.seat_programs.specs.brpc_model.specs.ResponseOutcome.{ending_of}
-use Rattle.seat_programs.specs.corr_core.specs.Word.{parts}
+use Rattle.seat_programs.specs.corr_core.specs.IdSlotWord.{parts}
 use Rattle.seat_programs.specs.corr_core.specs.IdRangeVersions.{is_early}
 use Rattle.seat_programs.specs.Asides.{TakeBytes, Taking, Bytes, Nothing, Closed}
 use Rattle.seat_programs.specs.LoopHeads.{Version, Reading, Locks, Reads, Discards, Locking, NotThere, Has, Ended}

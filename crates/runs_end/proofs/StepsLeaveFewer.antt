@@ -37,7 +37,7 @@ use Rattle.seat_programs.specs.TableSteps.{TableStep, SwapHead, PutMessage, Read
 use Rattle.seat_programs.specs.Programs.{Program, Do, Say, Sent, Rest, TakeMessage, TakeHome, PutHome, PutBytes, AskReady, Write, Aside, Round, Keep, Retries}
 use Rattle.seat_programs.specs.LoopHeads.{Retry}
 use Rattle.seat_programs.specs.SendAndWritePrograms.{block}
-use Rattle.seat_programs.specs.corr_core.specs.Word.{parts}
+use Rattle.seat_programs.specs.corr_core.specs.IdSlotWord.{parts}
 use Rattle.seat_programs.specs.corr_core.specs.declared.marks.Plan.{Plan as IdPlan}
 use Rattle.seat_programs.specs.corr_core.proofs.NoteSums.{at_length}
 use Rattle.seat_programs.specs.id_rule.specs.LawfulIdTable.{id_index}

@@ -16,7 +16,7 @@ use Rattle.sock_model.specs.declared.view.View.{View}
 use Rattle.call_run.specs.sock_rule.specs.declared.homes.SockHome.{SockHome}
 use Rattle.seat_programs.specs.declared.task.Task.{Task}
 use Rattle.seat_programs.specs.Explained.{Differ, HaveOwnLinks}
-use Rattle.corr_core.specs.Law.{only}
+use Rattle.corr_core.specs.IdSlotLaw.{only}
 use Rattle.corr_core.specs.declared.marks.Plan as id_plan
 use Rattle.corr_core.specs.declared.marks.View as id_view
 use Rattle.corr_core.proofs.NoteSums.{only-else, only_le, total_some}

@@ -11,7 +11,7 @@ use Rattle.brpc_model.specs.Items.{Item}
 use Rattle.brpc_model.specs.ReturnedLink.{LinkEnd}
 use Rattle.brpc_model.specs.MessageOfLabel.{shown_id}
 use Rattle.brpc_model.specs.Script.{script_of}
-use Rattle.corr_core.specs.Law.{is_attempt}
+use Rattle.corr_core.specs.IdSlotLaw.{is_attempt}
 use Rattle.corr_core.specs.declared.marks.Noted.{Noted}
 use Rattle.corr_core.specs.declared.marks.View.{View}
 use Rattle.script_parts.specs.id_rule.specs.LawfulIdTable.{notes_of}

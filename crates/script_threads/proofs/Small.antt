@@ -11,7 +11,7 @@ use Rattle.brpc_model.specs.ReturnedLink.{LinkEnd}
 use Rattle.brpc_model.specs.MessageOfLabel.{shown_id}
 use Rattle.brpc_model.specs.Operations.{operations}
 use Rattle.brpc_model.specs.Script.{script_of}
-use Rattle.corr_core.specs.Word.{parts}
+use Rattle.corr_core.specs.IdSlotWord.{parts}
 use Rattle.seat_programs.specs.Tasks.{Numbered, calls, numbered}
 use Rattle.script_parts.specs.script_facts.proofs.FilteredLists.{filter_map_short}
 use Rattle.script_parts.specs.script_facts.proofs.OperationNumbering.{numbered_length}

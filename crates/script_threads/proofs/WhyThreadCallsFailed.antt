@@ -19,8 +19,8 @@ use Rattle.brpc_model.specs.LinkFailureCauses.{HasFault}
 use Rattle.brpc_model.specs.Frame.{Frame}
 use Rattle.brpc_model.specs.FrameStream.{stream}
 use Rattle.prpc_frame.specs.declared.frame.Frame.{Frame as Answer}
-use Rattle.corr_core.specs.Law.{is_ended}
-use Rattle.corr_core.specs.Word.{Parts, code_of}
+use Rattle.corr_core.specs.IdSlotLaw.{is_ended}
+use Rattle.corr_core.specs.IdSlotWord.{Parts, code_of}
 use Rattle.corr_core.specs.declared.marks.Kept.{Kept}
 use Rattle.corr_core.specs.declared.marks.Note.{Note}
 use Rattle.corr_core.specs.declared.marks.Noted.{Noted}

@@ -5,8 +5,8 @@ use Rattle.sock_model.specs.sock_words.specs.ErrorCodes.{EFAILEDSOCKET, EREQUEST
 use Rattle.sock_model.specs.sock_words.specs.PackedWords.{socket_id_version, socket_id_slot, vref_version, at_word, call_id, id_slot, id_first}
 use Rattle.sock_model.specs.sock_words.specs.declared.outcome.Outcome.{Outcome}
 use Rattle.sock_model.specs.sock_words.specs.declared.outcome.Outcome.TheVariants.{Unopened, Expired, Queued, Late, Crowded, Joined, NotBegun}
-use Rattle.corr_core.specs.Word.{parts, error_of}
-use Rattle.corr_core.specs.ErrorsThatEndCalls.{WHOLE}
+use Rattle.corr_core.specs.IdSlotWord.{parts, error_of}
+use Rattle.corr_core.specs.EndedByRangeOrAttempt.{WHOLE}
 use Rattle.sock_model.specs.declared.chain.Heading.{Heading}
 use Rattle.sock_message.specs.Asked.{Asked, name_of, frame_of, parts_of}
 use Rattle.seat_programs.specs.TableSteps.{LookWord, FindLink, ClaimRequest, LoadName}

@@ -2,7 +2,7 @@
 use Rattle.std.specs.Prelude.{ℕ, ◌+◌, ◌-◌, ◌==◌, ◌&&◌, Bool, true, false, List, [], ◌∷◌, ◌++◌, length, drop, filter, nat_lt, min, if◌then◌else◌, Option, Some, None}
 use Rattle.sock_model.specs.sock_words.specs.ErrorCodes.{EEOF, ERESPONSE}
 use Rattle.sock_model.specs.sock_words.specs.PackedWords.{socket_id_slot, at_word_first, at_word_slot, at_word_link, at_word_attempt, call_id, id_slot, id_first, NO_SOCKET}
-use Rattle.corr_core.specs.Word.{parts, error_of}
+use Rattle.corr_core.specs.IdSlotWord.{parts, error_of}
 use Rattle.corr_core.specs.IdRangeVersions.{is_early}
 use Rattle.sock_message.specs.brpc_model.specs.Meta.{ResponseMeta}
 use Rattle.sock_message.specs.brpc_model.specs.Frame.{Frame}

@@ -24,7 +24,7 @@ use Rattle.seat_programs.specs.LoopRounds.{round}
 use Rattle.seat_programs.specs.FoundAndChangedAside.{found_in, calls_after}
 use Rattle.sock_model.specs.SocketTableLayout.{open_index}
 use Rattle.id_rule.specs.LawfulIdTable as ids
-use Rattle.corr_core.specs.Word.{parts}
+use Rattle.corr_core.specs.IdSlotWord.{parts}
 use Rattle.seat_programs.specs.SendAndWritePrograms.{block}
 use Rattle.seat_programs.specs.Cores.{Calls, Core, SeatState, lies_at, first_of, others_of, link_place, with_seat, stepped}
 use Rattle.sock_model.specs.sock_words.specs.PackedWords.{ticket_request, UNCONNECTED, id_slot, id_first}

@@ -9,7 +9,7 @@ use Rattle.id_points.specs.IdsAndAttemptNumbers.{id_of, number_of}
 use Rattle.call_points.specs.AsideCodeSteps.{aside_of, aside_in}
 use Rattle.seat_states.specs.declared.point.Attempt.{Attempt}
 use Rattle.seat_states.specs.declared.point.AttemptStep.TheVariants as attempts
-use Rattle.seat_states.specs.SeatPoints.{Context, IsFramed, attempt_program, client_on, with_frame}
+use Rattle.seat_states.specs.ProgramAtPoint.{Context, IsFramed, attempt_program, client_on, with_frame}
 use Rattle.seat_states.specs.ProgramStepsOfMachine.{OfAside, first_of, first_in}
 
 of_aside : (p : Program) (s : Step) → aside_of p ≡ Some s → first_of p ≡ Some (OfAside s)

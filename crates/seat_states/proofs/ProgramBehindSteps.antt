@@ -42,7 +42,7 @@ use Rattle.seat_states.specs.declared.point.Current.{Current}
 use Rattle.seat_states.specs.declared.point.WriteStep.{WriteStep}
 use Rattle.seat_states.specs.declared.point.WriteStep.TheVariants as writes
 use Rattle.call_points.specs.AsideCodeSteps.{after_word}
-use Rattle.seat_states.specs.SeatPoints.{Context, client_on, holder_of, error_by, told, failed_look, look_program, claims_program, sent_program, written_program, behind_drop, after_program, refused_program, posted_program, with_asked, next_program, unopened_program, attempt_program, IsRefused, release_on, open_program, seek_program, release_program, send_program, write_program, then_program, gone_then, has_life, after_put, with_put}
+use Rattle.seat_states.specs.ProgramAtPoint.{Context, client_on, holder_of, error_by, told, failed_look, look_program, claims_program, sent_program, written_program, behind_drop, after_program, refused_program, posted_program, with_asked, next_program, unopened_program, attempt_program, IsRefused, release_on, open_program, seek_program, release_program, send_program, write_program, then_program, gone_then, has_life, after_put, with_put}
 
 -- a claimed slot gets its link, and then its head
 pub links : (a : Context) (g : Opening) (i found : ℕ) → open_program a g (opens.ResetHead i) ≡ after_word (open_program a g (opens.StoreLink i)) found

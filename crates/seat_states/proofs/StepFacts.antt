@@ -15,8 +15,8 @@ use Rattle.seat_states.specs.declared.point.SendStep.TheVariants as sends
 use Rattle.seat_states.specs.declared.point.WriteStep.TheVariants as writes
 use Rattle.sock_words.specs.declared.id_word.IdWord.{IdWord}
 use Rattle.seat_programs.specs.Programs.{Program, Aside, Round}
-use Rattle.corr_core.specs.Word.{parts, code_of}
-use Rattle.corr_core.specs.ErrorsThatEndCalls.{ends_call}
+use Rattle.corr_core.specs.IdSlotWord.{parts, code_of}
+use Rattle.corr_core.specs.EndedByRangeOrAttempt.{ends_call}
 use Rattle.id_points.specs.IdsAndAttemptNumbers.{id_of}
 use Rattle.seat_programs.specs.Asides.{PutCall}
 use Rattle.seat_programs.specs.LoopHeads.{HasEnded, Unlocks}
@@ -34,7 +34,7 @@ use Rattle.seat_states.specs.declared.point.RetryStep.TheVariants as retries
 use Rattle.seat_states.specs.declared.point.JoinStep.TheVariants as joins
 use Rattle.seat_states.specs.declared.point.Point.{Point}
 use Rattle.seat_states.specs.declared.point.Point.TheVariants as points
-use Rattle.seat_states.specs.SeatPoints.{Context, point_program, look_program, after_program, link_at, link_left, MayFind, IsWithin, GoesByWord, TakesCall, TakesMessage, TakesLink, PutsHome, PutsPiece, Asks}
+use Rattle.seat_states.specs.ProgramAtPoint.{Context, point_program, look_program, after_program, link_at, link_left, MayFind, IsWithin, GoesByWord, TakesCall, TakesMessage, TakesLink, PutsHome, PutsPiece, Asks}
 use Rattle.seat_states.specs.ProgramStepsOfMachine.{First, OfTable, OfAside, OfMessage, OfLink, OfHome, OfPut, OfReady, first_of, first_in}
 use Rattle.sock_words.specs.PackedWords.{id_slot}
 

@@ -1,3 +1,3 @@
-pub mod SeatPoints
+pub mod ProgramAtPoint
 pub mod ProgramStepsOfMachine
 pub use Rattle.program_steps

@@ -14,7 +14,7 @@ use Rattle.seat_states.specs.declared.table_step.TableStep.{TableStep}
 use Rattle.seat_states.specs.declared.table_step.TableStep.TheVariants as steps
 use Rattle.seat_states.specs.declared.point.Step.{Step}
 use Rattle.seat_states.specs.declared.point.Step.TheVariants as firsts
-use Rattle.seat_states.specs.SeatPoints.{Context, heading_by, parts_by}
+use Rattle.seat_states.specs.ProgramAtPoint.{Context, heading_by, parts_by}
 
 -- the step that this step of the machine is, by families
 abbrev pub step_of : TableStep → calls.TableStep

@@ -6,7 +6,7 @@ ghost use Rattle.seat_programs.specs.Programs.{Program};
 ghost use Rattle.id_points.specs.CallIdLoopTurns.{post_on};
 ghost use Rattle.call_points.specs.CallIdPoints.{decide_on};
 ghost use Rattle.id_points.specs.IdsAndAttemptNumbers.{id_of};
-ghost use Rattle.seat_states.specs.SeatPoints.{Context, after_program, error_by, refused_program, posted_program, IsRefused, next_program, tell, told, link_behind};
+ghost use Rattle.seat_states.specs.ProgramAtPoint.{Context, after_program, error_by, refused_program, posted_program, IsRefused, next_program, tell, told, link_behind};
 
 use crate::point::{AfterStep, Attempt, Author, Continuation, Next, Point, ReleaseStep};
 use crate::releasing::releasing;

@@ -1,7 +1,7 @@
 ghost use Rattle.std.specs.Prelude.{◌≡◌, ◌-◌, ◌≤◌, ◌+◌, None, Some};
 ghost use Rattle.seat_programs.specs.CallAndRetryPrograms.{claim_id};
 ghost use Rattle.call_points.specs.AsideCodeSteps.{after_word};
-ghost use Rattle.seat_states.specs.SeatPoints.{Context, client_on, call_program, attempt_program, next_program, framed, IsOneOfIds, IsCalling, HasLink, MayFindAt, link_behind};
+ghost use Rattle.seat_states.specs.ProgramAtPoint.{Context, client_on, call_program, attempt_program, next_program, framed, IsOneOfIds, IsCalling, HasLink, MayFindAt, link_behind};
 ghost use Rattle.seat_states.specs.ProgramStepsOfMachine.{first_in, step_as};
 
 use crate::point::{

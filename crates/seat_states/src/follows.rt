@@ -1,7 +1,7 @@
 ghost use Rattle.std.specs.Prelude.{◌≡◌, ℕ, List, None};
 ghost use Rattle.call_points.specs.AsideCodeSteps.{after_word, after_call};
 ghost use Rattle.seat_programs.specs.sock_message.specs.Asked.{Asked};
-ghost use Rattle.seat_states.specs.SeatPoints.{Context, point_program, next_program, after_message, after_link, after_home, after_put, after_ready, with_message, with_put, is_whole, MayNext, IsCalling, HasInHand, IsNextName, framed, taken_with, TakesCall, TakesMessage, TakesLink, PutsHome, PutsPiece, Asks, link_behind, link_left};
+ghost use Rattle.seat_states.specs.ProgramAtPoint.{Context, point_program, next_program, after_message, after_link, after_home, after_put, after_ready, with_message, with_put, is_whole, MayNext, IsCalling, HasInHand, IsNextName, framed, taken_with, TakesCall, TakesMessage, TakesLink, PutsHome, PutsPiece, Asks, link_behind, link_left};
 
 use crate::asking::deciding;
 use crate::calling::Calling;

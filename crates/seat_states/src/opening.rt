@@ -1,7 +1,7 @@
 ghost use Rattle.std.specs.Prelude.{◌≡◌, ◌-◌, None};
 ghost use Rattle.seat_programs.specs.Programs.{open_from};
 ghost use Rattle.call_points.specs.AsideCodeSteps.{after_word};
-ghost use Rattle.seat_states.specs.SeatPoints.{Context, client_on, open_program, point_program, next_program, link_at, link_behind, link_left, IsOneOf};
+ghost use Rattle.seat_states.specs.ProgramAtPoint.{Context, client_on, open_program, point_program, next_program, link_at, link_behind, link_left, IsOneOf};
 
 use crate::point::{Next, OpenStep, Opening, Point};
 use sock_words::{Outcome, Vref};

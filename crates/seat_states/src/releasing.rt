@@ -1,7 +1,7 @@
 ghost use Rattle.std.specs.Prelude.{◌≡◌, None, ℕ, Bool, if◌then◌else◌};
 ghost use Rattle.seat_programs.specs.Programs.{Program, fail_outcome};
 ghost use Rattle.call_points.specs.AsideCodeSteps.{after_word};
-ghost use Rattle.seat_states.specs.SeatPoints.{Context, release_on, released_on, release_program, next_program, then_program, MayFindIn, release_left, released_link, link_behind, link_left};
+ghost use Rattle.seat_states.specs.ProgramAtPoint.{Context, release_on, released_on, release_program, next_program, then_program, MayFindIn, release_left, released_link, link_behind, link_left};
 
 use crate::asking::posting;
 use crate::point::{AfterStep, Continuation, Next, Point, ReleaseStep, Released};

@@ -4,7 +4,7 @@ ghost use Rattle.id_points.specs.CallIdLoopTurns.{lock_on, unlock_on, sought_as}
 ghost use Rattle.call_points.specs.AsideCodeSteps.{after_word, after_call};
 ghost use Rattle.seat_programs.specs.sock_message.specs.Asked.{Asked};
 ghost use Rattle.id_points.specs.IdsAndAttemptNumbers.{id_of, number_of};
-ghost use Rattle.seat_states.specs.SeatPoints.{Context, client_on, locker_of, retry_program, join_program, next_program, with_asked, with_frame, HasRetry, MayLock, RetriesByWord, MayFindId, MayFindJoined, link_behind};
+ghost use Rattle.seat_states.specs.ProgramAtPoint.{Context, client_on, locker_of, retry_program, join_program, next_program, with_asked, with_frame, HasRetry, MayLock, RetriesByWord, MayFindId, MayFindJoined, link_behind};
 ghost use Rattle.seat_states.specs.ProgramStepsOfMachine.{first_in, step_as};
 ghost use Rattle.sock_words.specs.PackedWords.{id_slot};
 

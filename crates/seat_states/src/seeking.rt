@@ -1,7 +1,7 @@
 ghost use Rattle.std.specs.Prelude.{◌≡◌, None};
 ghost use Rattle.sock_words.specs.PackedWords.{socket_id_slot};
 ghost use Rattle.call_points.specs.AsideCodeSteps.{after_word};
-ghost use Rattle.seat_states.specs.SeatPoints.{Context, seek_program, fail_program, failed_then, gone_then, has_life, unopened_program, reached_program, next_program, link_behind};
+ghost use Rattle.seat_states.specs.ProgramAtPoint.{Context, seek_program, fail_program, failed_then, gone_then, has_life, unopened_program, reached_program, next_program, link_behind};
 
 use crate::point::{
     Aim, Author, Continuation, FailStep, Failing, Next, Point, ReleaseStep, SeekStep, SendStep,

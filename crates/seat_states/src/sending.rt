@@ -1,7 +1,7 @@
 ghost use Rattle.std.specs.Prelude.{◌≡◌, ◌-◌, ◌≤◌, ℕ, List, None, Some};
 ghost use Rattle.sock_words.specs.PackedWords.{socket_id_slot};
 ghost use Rattle.call_points.specs.AsideCodeSteps.{after_word};
-ghost use Rattle.seat_states.specs.SeatPoints.{Context, place_by, claims_program, full_program, failed_look, look_program, sent_then, send_program, first_program, next_program, after_message, with_message, IsOneOfRequests, MayFindOf, SendsByWord, link_behind};
+ghost use Rattle.seat_states.specs.ProgramAtPoint.{Context, place_by, claims_program, full_program, failed_look, look_program, sent_then, send_program, first_program, next_program, after_message, with_message, IsOneOfRequests, MayFindOf, SendsByWord, link_behind};
 ghost use Rattle.seat_states.specs.ProgramStepsOfMachine.{first_in, step_as};
 
 use crate::asking::posting;

@@ -1,7 +1,7 @@
 ghost use Rattle.std.specs.Prelude.{◌≡◌, ◌+◌, Bool, option_map, Some, None};
 ghost use Rattle.sock_words.specs.PackedWords.{socket_id};
 ghost use Rattle.seat_programs.specs.Programs.{Program};
-ghost use Rattle.seat_states.specs.SeatPoints.{Context, open_program, seek_program, fail_program, release_on, point_program, IsCalling, HasInHand, HasLinkAt};
+ghost use Rattle.seat_states.specs.ProgramAtPoint.{Context, open_program, seek_program, fail_program, release_on, point_program, IsCalling, HasInHand, HasLinkAt};
 ghost use Rattle.seat_states.specs.ProgramStepsOfMachine.{OfCall, step_of, first_in, step_as, kind_of_first};
 
 use crate::calling::Calling;

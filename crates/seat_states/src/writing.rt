@@ -3,7 +3,7 @@ ghost use Rattle.sock_words.specs.PackedWords.{vref_version};
 ghost use Rattle.seat_programs.specs.SendAndWritePrograms.{one_more, freed, passed_telling};
 ghost use Rattle.sock_io.specs.declared.link.Put.{Put};
 ghost use Rattle.call_points.specs.AsideCodeSteps.{after_word};
-ghost use Rattle.seat_states.specs.SeatPoints.{Context, write_program, written_program, holder_of, next_message, told, behind_drop, freed_program, taken_again, next_program, after_message, after_link, after_put, after_ready, with_message, with_put, is_whole, HasPlaceLeft, MayFindWriting, TellsCode, WritesByWord, link_behind};
+ghost use Rattle.seat_states.specs.ProgramAtPoint.{Context, write_program, written_program, holder_of, next_message, told, behind_drop, freed_program, taken_again, next_program, after_message, after_link, after_put, after_ready, with_message, with_put, is_whole, HasPlaceLeft, MayFindWriting, TellsCode, WritesByWord, link_behind};
 ghost use Rattle.seat_states.specs.ProgramStepsOfMachine.{first_in, step_as};
 
 use crate::asking::posting;

@@ -12,7 +12,7 @@ use Rattle.seat_programs.specs.brpc_model.specs.Operations.{Turn}
 use Rattle.seat_programs.specs.brpc_model.specs.MessageOfLabel.{shown_id}
 use Rattle.seat_programs.specs.brpc_model.specs.Order.{EachBefore}
 use Rattle.seat_programs.specs.brpc_model.specs.Script.{script_of}
-use Rattle.corr_core.specs.Word.{error_of}
+use Rattle.corr_core.specs.IdSlotWord.{error_of}
 use Rattle.sock_message.specs.Asked.{Asked, name_of}
 use Rattle.seat_programs.specs.Cores.{Core}
 use Rattle.seat_programs.specs.declared.task.Op.{Op}

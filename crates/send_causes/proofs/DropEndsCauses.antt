@@ -12,7 +12,7 @@ use Rattle.dropped_calls.specs.Below.script_facts.proofs.Targets.{AreThere}
 use Rattle.sock_words.specs.PackedWords.{socket_id_slot, socket_id_version, NO_SOCKET}
 use Rattle.sock_words.specs.declared.plain.Plan.{Plan}
 use Rattle.sock_model.specs.SocketTableLayout.{open_index}
-use Rattle.corr_core.specs.Word.{code_of, attempt_of}
+use Rattle.corr_core.specs.IdSlotWord.{code_of, attempt_of}
 use Rattle.corr_core.proofs.NoteSums.{at_length}
 use Rattle.seat_programs.specs.declared.task.Op.TheVariants as ops
 use Rattle.seat_programs.specs.declared.task.Task.{Task}

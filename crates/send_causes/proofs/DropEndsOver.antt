@@ -13,7 +13,7 @@ use Rattle.dropped_calls.specs.Below.script_facts.proofs.Targets.{AreThere}
 use Rattle.sock_words.specs.PackedWords.{socket_id, socket_id_slot, socket_id_version, NO_SOCKET}
 use Rattle.sock_model.specs.declared.view.View.{View}
 use Rattle.sock_model.specs.SocketTableLayout.{open_index}
-use Rattle.corr_core.specs.Word.{error_of, code_of, attempt_of}
+use Rattle.corr_core.specs.IdSlotWord.{error_of, code_of, attempt_of}
 use Rattle.corr_core.proofs.NoteSums.{at_length}
 use Rattle.sock_message.specs.Asked.{Asked}
 use Rattle.seat_programs.specs.declared.task.Op.TheVariants as ops

@@ -11,7 +11,7 @@ use Rattle.seat_programs.specs.brpc_model.specs.Operations.{Turn}
 use Rattle.seat_programs.specs.brpc_model.specs.Frame.{Frame}
 use Rattle.seat_programs.specs.brpc_model.specs.MessageOfLabel.{shown_id}
 use Rattle.seat_programs.specs.brpc_model.specs.Script.{script_of}
-use Rattle.corr_core.specs.Word.{error_of}
+use Rattle.corr_core.specs.IdSlotWord.{error_of}
 use Rattle.corr_core.specs.declared.marks.Plan.{Plan as IdPlan}
 use Rattle.seat_programs.specs.id_rule.specs.LawfulIdTable.{call_index}
 use Rattle.sock_message.specs.Asked.{Asked, name_of}

@@ -26,7 +26,7 @@ use Rattle.seat_programs.specs.Explained.{IsTask, AfterHold, goes_well, in_hand_
 use Rattle.outcome_ticks.specs.outcome_stories.proofs.Tests.{split_eq, both_left, both_right, none_of}
 use Rattle.report_fits.specs.script_facts.proofs.FilteredLists.{all_at, contains_from}
 use Rattle.rpc_client.specs.declared.holding.Held.{Held}
-use Rattle.rpc_client.specs.ReferencesHeldByClient.{HeldBy, DroppedBy, place_in}
+use Rattle.rpc_client.specs.HoldAndDropOutcomes.{HeldBy, DroppedBy, place_in}
 use Rattle.sock_deeds.specs.Deeds.{Hand, Did, opens, sends, holds, drops, fails, waits, looks, takes, misses, sets, returns, own_number, DoneBy, Deed, Chain}
 use Rattle.sock_deeds.specs.SocketTableRun.{IsFor, number_at, numbers_at, listed, numbers_of, Seated, DeedRun}
 use Rattle.sock_deeds.proofs.DeedsOfAllSeats.{Act, did_of, done_of, before, after, same_seat}

@@ -26,7 +26,7 @@ use Rattle.rpc_client.specs.sock_table.specs.declared.refs.SockRef.{SockRef}
 use Rattle.rpc_client.specs.declared.holding.Held.{Held}
 use Rattle.rpc_client.specs.declared.reaching.Reached.TheVariants as reached
 use Rattle.rpc_client.specs.FailOutcomes.{SetBy, FailedBy, TriedTo}
-use Rattle.rpc_client.specs.ReferencesHeldByClient.{HeldBy}
+use Rattle.rpc_client.specs.HoldAndDropOutcomes.{HeldBy}
 use Rattle.rpc_client.specs.OpenOutcomes.{OpenedBy}
 use Rattle.rpc_client.specs.ReachingByName.{ReachedBy}
 use Rattle.sock_deeds.specs.Deeds.{SentOver, MessageBy, Did, opens, sends, holds, fails, waits, DoneBy, own_number}

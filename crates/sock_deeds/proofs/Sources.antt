@@ -39,7 +39,7 @@ use Rattle.rpc_client.specs.declared.holding.Held.{Held}
 use Rattle.rpc_client.specs.declared.reaching.Reached.{Reached}
 use Rattle.rpc_client.specs.declared.reaching.Reached.TheVariants as reached
 use Rattle.rpc_client.specs.FailOutcomes.{TriedTo, FailedBy}
-use Rattle.rpc_client.specs.ReferencesHeldByClient.{HeldBy, DroppedBy, GaveOne}
+use Rattle.rpc_client.specs.HoldAndDropOutcomes.{HeldBy, DroppedBy, GaveOne}
 use Rattle.rpc_client.specs.OpenOutcomes.{OpenedBy, GotNone}
 use Rattle.rpc_client.specs.ReachingByName.{ReachedBy}
 use Rattle.rpc_client.specs.SendingOutcomes.{WroteAll, Returned, CameBack}

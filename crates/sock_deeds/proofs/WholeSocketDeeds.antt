@@ -28,7 +28,7 @@ use Rattle.seat_programs.specs.ExplainedCalls.{Fixed, Order, StandsOn, FoundNone
 use Rattle.outcome_ticks.specs.outcome_stories.proofs.Accepted as accepted
 use Rattle.outcome_ticks.proofs.TableTasksDistinct.{setup_opens}
 use Rattle.rpc_client.specs.FailOutcomes.{FailedBy as FailedAs}
-use Rattle.rpc_client.specs.ReferencesHeldByClient.{HeldBy}
+use Rattle.rpc_client.specs.HoldAndDropOutcomes.{HeldBy}
 use Rattle.sock_deeds.specs.Deeds.{SentOver, MessageBy, OpenedOn, Did, opens, sends, holds, drops, fails, own_number, DoneBy}
 use Rattle.sock_deeds.specs.MessagesLeftByRun.{accepted_of}
 use Rattle.sock_deeds.specs.SocketTableRun.{IsOperation, DeedRun}

@@ -31,7 +31,7 @@ use Rattle.rpc_client.specs.declared.holding.Held.{Held}
 use Rattle.rpc_client.specs.declared.reaching.Reached.{Reached}
 use Rattle.rpc_client.specs.declared.reaching.Reached.TheVariants as reached
 use Rattle.rpc_client.specs.FailOutcomes.{SetBy, TriedTo, FailedBy}
-use Rattle.rpc_client.specs.ReferencesHeldByClient.{HeldBy, DroppedBy}
+use Rattle.rpc_client.specs.HoldAndDropOutcomes.{HeldBy, DroppedBy}
 use Rattle.rpc_client.specs.OpenOutcomes.{OpenedBy}
 use Rattle.rpc_client.specs.ReachingByName.{ReachedBy}
 use Rattle.rpc_client.specs.SendingOutcomes.{CameBack}

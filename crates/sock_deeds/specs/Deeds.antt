@@ -20,7 +20,7 @@ use Rattle.rpc_client.specs.declared.holding.Held.{Held}
 use Rattle.rpc_client.specs.declared.reaching.Reached.TheVariants as reached
 use Rattle.rpc_client.specs.ReachingByName.{ReachedBy}
 use Rattle.rpc_client.specs.OpenOutcomes.{OpenedBy}
-use Rattle.rpc_client.specs.ReferencesHeldByClient.{HeldBy, DroppedBy}
+use Rattle.rpc_client.specs.HoldAndDropOutcomes.{HeldBy, DroppedBy}
 use Rattle.rpc_client.specs.FailOutcomes.{SetBy, FailedBy}
 use Rattle.rpc_client.specs.SendingOutcomes.{Returned, DeliveredBy, ByName}
 use Rattle.sock_words.specs.PackedWords.{place_word}

@@ -4,7 +4,7 @@ use Rattle.std.specs.List.{AllByRecursion}
 use mathlib.Core.Logic.{dite}
 use native.Mathlib.Decide.{ℕ_discrete}
 use Rattle.sock_words.specs.declared.plain.Plan.{Plan}
-use Rattle.corr_core.specs.Word.{Parts, made_word}
+use Rattle.corr_core.specs.IdSlotWord.{Parts, made_word}
 use Rattle.corr_core.specs.declared.marks.Plan.{Plan as IdPlan}
 use Rattle.seat_programs.specs.id_rule.specs.LawfulIdTable.{all_words}
 use Rattle.sock_message.specs.Asked.{Asked}

@@ -5,7 +5,7 @@ use native.Mathlib.Decide.{ℕ_discrete}
 use Rattle.sock_words.specs.declared.plain.Plan.{Plan}
 use Rattle.sock_words.specs.declared.outcome.Outcome.{Outcome}
 use Rattle.sock_words.specs.declared.outcome.Outcome.TheVariants as outcomes
-use Rattle.corr_core.specs.Word.{parts, error_of}
+use Rattle.corr_core.specs.IdSlotWord.{parts, error_of}
 use Rattle.corr_core.specs.declared.marks.Plan.{Plan as IdPlan}
 use Rattle.sock_message.specs.Asked.{Asked, name_of}
 use Rattle.seat_programs.specs.declared.task.Op.{Op}

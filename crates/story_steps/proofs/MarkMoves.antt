@@ -5,7 +5,7 @@ use lib.ListN.{get_elem?}
 use Rattle.sock_words.specs.PackedWords.{at_word_attempt, call_id, id_slot, id_first, bit}
 use Rattle.sock_words.specs.declared.plain.Plan.{Plan}
 use Rattle.sock_words.specs.declared.outcome.Outcome.{Outcome}
-use Rattle.corr_core.specs.Word.{Parts, parts, code_of, unlocked_word, free_word}
+use Rattle.corr_core.specs.IdSlotWord.{Parts, parts, code_of, unlocked_word, free_word}
 use Rattle.seat_programs.specs.PostPrograms.{packed}
 use Rattle.call_stories.specs.Below.id_runs.proofs.AsidesKeepingIdRule.{parts_packed}
 use Rattle.corr_core.specs.declared.marks.Plan.{Plan as IdPlan}

@@ -8,7 +8,7 @@ use Rattle.seat_programs.specs.brpc_model.specs.Frame.{Frame}
 use Rattle.seat_programs.specs.brpc_model.specs.FrameStream as streams
 use Rattle.seat_programs.specs.brpc_model.specs.LinkFailureCauses.{HasFault}
 use Rattle.seat_programs.specs.brpc_model.specs.ResponseOutcome.{by_code, outcome_by, ending_of}
-use Rattle.corr_core.specs.Word.{parts, error_of, code_of, attempt_of}
+use Rattle.corr_core.specs.IdSlotWord.{parts, error_of, code_of, attempt_of}
 use Rattle.corr_core.specs.declared.marks.Plan.{Plan as IdPlan}
 use Rattle.corr_core.specs.IdRangeVersions.{is_early}
 use Rattle.sock_message.specs.Asked.{Asked}

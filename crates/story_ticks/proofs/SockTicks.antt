@@ -6,7 +6,7 @@ use Rattle.sock_words.specs.PackedWords.{at_word_attempt, call_id, id_slot, id_f
 use Rattle.sock_words.specs.declared.plain.Plan.{Plan}
 use Rattle.sock_model.specs.SocketTableLayout.{code_index}
 use Rattle.seat_programs.specs.brpc_model.specs.FrameStream as streams
-use Rattle.corr_core.specs.Word.{Parts, parts}
+use Rattle.corr_core.specs.IdSlotWord.{Parts, parts}
 use Rattle.corr_core.specs.declared.marks.Plan.{Plan as IdPlan}
 use Rattle.seat_programs.specs.id_rule.specs.LawfulIdTable.{tag_index, id_index, call_index, at_index}
 use Rattle.sock_message.specs.Asked.{Asked}

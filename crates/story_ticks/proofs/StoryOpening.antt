@@ -10,7 +10,7 @@ use lib.ListN.{get_elem?}
 use Rattle.sock_words.specs.PackedWords.{at_word_attempt}
 use Rattle.sock_words.specs.declared.plain.Plan.{Plan}
 use Rattle.sock_words.specs.declared.outcome.Outcome.{Outcome}
-use Rattle.corr_core.specs.Word.{Parts}
+use Rattle.corr_core.specs.IdSlotWord.{Parts}
 use Rattle.corr_core.specs.declared.marks.Plan.{Plan as IdPlan}
 use Rattle.corr_core.proofs.NoteSums.{at_length}
 use Rattle.seat_programs.specs.id_rule.specs.LawfulIdTable.{Unused, call_index, at_index}

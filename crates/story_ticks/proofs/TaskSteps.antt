@@ -4,7 +4,7 @@ use mathlib.Core.Logic.{dite}
 use native.Mathlib.Decide.{ℕ_discrete}
 use Rattle.sock_words.specs.declared.plain.Plan.{Plan}
 use Rattle.sock_words.specs.declared.outcome.Outcome.{Outcome}
-use Rattle.corr_core.specs.Word.{Parts, parts, made_word, posted_word, unlocked_word, free_word}
+use Rattle.corr_core.specs.IdSlotWord.{Parts, parts, made_word, posted_word, unlocked_word, free_word}
 use Rattle.corr_core.specs.declared.marks.Plan.{Plan as IdPlan}
 use Rattle.seat_programs.specs.id_rule.specs.LawfulIdTable.{tag_index, id_index, call_index, at_index, all_words}
 use Rattle.sock_message.specs.Asked.{Asked}

@@ -3,7 +3,7 @@ use Rattle.script_links.specs.OfferedLinks.{TellOffers}
 use Rattle.script_run.specs.Played.{TellClosed}
 use Rattle.brpc_eng.specs.ProgramAnswers as answer
 use Rattle.brpc_eng.specs.Command.{meaning}
-use Rattle.brpc_eng.specs.Status.{number_of}
+use Rattle.brpc_eng.specs.StatusNumbers.{number_of}
 use Rattle.brpc_eng.proofs.Replays.{drawn_command, load_command, frames_command, simulated, threaded}
 use Rattle.brpc_eng.proofs.engine.answer.Goals as goal
 

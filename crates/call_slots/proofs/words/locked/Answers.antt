@@ -1,5 +1,5 @@
 use Rattle.std.proofs.Common.{sym, ◌∙◌}
-use Rattle.corr_core.specs.Word.{parts, posted_word}
+use Rattle.corr_core.specs.IdSlotWord.{parts, posted_word}
 use Rattle.call_slots.proofs.Packing.{left_is, posted_open}
 use Rattle.call_slots.proofs.words.locked.Goals as goal
 

@@ -1,4 +1,4 @@
-use Rattle.corr_core.specs.Word.{parts, unlocked_word}
+use Rattle.corr_core.specs.IdSlotWord.{parts, unlocked_word}
 use Rattle.call_slots.proofs.Packing.{left_is}
 use Rattle.call_slots.proofs.words.unlocked.Goals as goal
 use Rattle.sock_words.specs.PackedWords.{bit}

@@ -1,4 +1,4 @@
-use Rattle.corr_core.specs.Word.{parts}
+use Rattle.corr_core.specs.IdSlotWord.{parts}
 use Rattle.corr_core.proofs.IdWordEvents.{ended, plain_ends}
 use Rattle.corr_core.proofs.steps.destroy_id.Goals as goal
 

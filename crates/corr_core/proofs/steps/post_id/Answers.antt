@@ -1,5 +1,5 @@
 use Rattle.std.proofs.Common.{ℕ, ◌≡◌, ◌≢◌, ⊎_elim, ap, ◌∙◌, arith}
-use Rattle.corr_core.specs.Word.{parts, posted_word}
+use Rattle.corr_core.specs.IdSlotWord.{parts, posted_word}
 use Rattle.corr_core.specs.PlainCallId.{Queue, IsEvent}
 use Rattle.corr_core.proofs.IdWordEvents.{queued, for_error}
 use Rattle.corr_core.proofs.steps.post_id.Goals as goal

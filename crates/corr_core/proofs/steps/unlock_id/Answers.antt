@@ -1,5 +1,5 @@
 use Rattle.std.proofs.Common.{Bool, true, false, ◌+◌, ◌<◌, ◌≤◌, refl, ap, ◌∙◌, arith, IsTrue}
-use Rattle.corr_core.specs.Word.{Parts, parts}
+use Rattle.corr_core.specs.IdSlotWord.{Parts, parts}
 use Rattle.corr_core.proofs.IdWordEvents.{unlocked}
 use Rattle.corr_core.proofs.steps.unlock_id.Goals as goal
 use Rattle.sock_words.specs.PackedWords.{bit}

@@ -1,5 +1,5 @@
 use Rattle.std.proofs.Common.{sym, subst}
-use Rattle.corr_core.specs.Word.{parts}
+use Rattle.corr_core.specs.IdSlotWord.{parts}
 use Rattle.corr_id.specs.LocksByAttempt.{IsOutside, IsWithin}
 use Rattle.corr_id.proofs.attempts.is_outside.Goals as goal
 

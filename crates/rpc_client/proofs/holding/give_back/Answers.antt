@@ -2,7 +2,7 @@ use Rattle.std.proofs.Common.{List, sym, subst}
 use Rattle.sock_words.specs.PackedWords.{socket_id_slot}
 use Rattle.sock_table.specs.ReferenceAnswers.{is_freed}
 use Rattle.rpc_client.specs.declared.holding.Held.{Held}
-use Rattle.rpc_client.specs.ReferencesHeldByClient.{IsHolder}
+use Rattle.rpc_client.specs.HoldAndDropOutcomes.{IsHolder}
 use Rattle.rpc_client.proofs.CountedReferences.{gave_one, given_by, holds_listed, holder_less, removed_there}
 use Rattle.rpc_client.proofs.FindingReferences.{seen_became}
 use Rattle.rpc_client.proofs.holding.give_back.Goals as goal

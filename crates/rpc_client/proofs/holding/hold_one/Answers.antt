@@ -1,6 +1,6 @@
 use Rattle.std.proofs.Common.{List, sym, subst}
 use Rattle.rpc_client.specs.declared.holding.Held.{Held}
-use Rattle.rpc_client.specs.ReferencesHeldByClient.{IsHolder}
+use Rattle.rpc_client.specs.HoldAndDropOutcomes.{IsHolder}
 use Rattle.rpc_client.proofs.CountedReferences.{holder_more}
 use Rattle.rpc_client.proofs.FindingReferences.{here_inside}
 use Rattle.rpc_client.proofs.holding.hold_one.Goals as goal

@@ -1,6 +1,6 @@
 use Rattle.std.proofs.Common.{◌≡◌, ℕ, ◌≤◌, length, drop}
 use Rattle.rpc_client.specs.SeatBetweenOperations.{AtRest}
-use Rattle.rpc_client.specs.ReferencesHeldByClient.{IsHolder}
+use Rattle.rpc_client.specs.HoldAndDropOutcomes.{IsHolder}
 use Rattle.rpc_client.specs.ToldOfOperation.{GaveFirst}
 use Rattle.rpc_client.proofs.running.give_all.Given as goal
 

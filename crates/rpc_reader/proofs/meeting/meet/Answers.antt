@@ -1,5 +1,5 @@
 use Rattle.std.proofs.Common.{ℕ, Bool, ap, refl, sym, ◌∙◌, subst}
-use Rattle.corr_core.specs.Word.{parts}
+use Rattle.corr_core.specs.IdSlotWord.{parts}
 use Rattle.corr_core.specs.IdRangeVersions.{is_early}
 use Rattle.rpc_reader.specs.ReaderBooks.{books}
 use Rattle.rpc_reader.specs.Met.{KeptIf}

@@ -1,5 +1,5 @@
 use Rattle.std.proofs.Common.{◌≡◌, ℕ, List, Some, None, refl, sym, ap, ◌∙◌, subst}
-use Rattle.corr_core.specs.Word.{parts}
+use Rattle.corr_core.specs.IdSlotWord.{parts}
 use Rattle.corr_id.specs.SeatBehindIdCalls.{HasId, LacksId}
 use Rattle.prpc_frame.specs.declared.frame.Frame.{Frame}
 use Rattle.rpc_reader.specs.ReaderBooks.{Books, books}

@@ -1,5 +1,5 @@
 use Rattle.std.proofs.Common.{inr}
-use Rattle.corr_core.specs.Word.{parts}
+use Rattle.corr_core.specs.IdSlotWord.{parts}
 use Rattle.rpc_reader.specs.ReaderBooks.{Books, books}
 use Rattle.rpc_reader.proofs.NotedCallEnds.{ended_last}
 use Rattle.rpc_reader.proofs.resting.end_one.Goals as goal

@@ -1,7 +1,7 @@
 use Rattle.std.proofs.Common.{◌≡◌, ℕ, ◌+◌, ◌*◌, sym, refl, subst, arith}
 use Rattle.sock_words.specs.declared.plain.Label.{Label}
 use Rattle.sock_rule.specs.declared.homes.Letter.{Letter}
-use Rattle.corr_core.specs.Word.{parts}
+use Rattle.corr_core.specs.IdSlotWord.{parts}
 use Rattle.corr_id.proofs.TestingOneLock.{sits_on, did_free, quiet_free}
 use Rattle.corr_id.specs.declared.calls.IdLock.{IdLock}
 use Rattle.sock_message.specs.Asked.{Asked, name_of}

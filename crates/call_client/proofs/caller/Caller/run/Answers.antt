@@ -1,7 +1,7 @@
 use Rattle.std.proofs.Common.{◌≡◌, ◌∙◌, [], false, sym, subst, refl}
 use Rattle.std.specs.Prelude.{IfOk}
 use Rattle.corr_id.specs.IdTableSeat.{Stays}
-use Rattle.rpc_client.specs.ReferencesHeldByClient.{IsHolder}
+use Rattle.rpc_client.specs.HoldAndDropOutcomes.{IsHolder}
 use Rattle.rpc_client.proofs.CountedReferences.{holder_same}
 use Rattle.call_errors.specs.ClientBooks.{HasNoLock}
 use Rattle.call_errors.proofs.KeepingThroughErrors.{stays_then}

@@ -2,7 +2,7 @@ use Rattle.std.proofs.Common.{refl}
 use Rattle.id_points.specs.IdsAndAttemptNumbers.{id_of, number_of}
 use Rattle.call_points.specs.declared.deciding.DecideStep.TheVariants as decides
 use Rattle.seat_states.specs.declared.point.Point.TheVariants as points
-use Rattle.seat_states.specs.SeatPoints.{Context, point_program, after_program}
+use Rattle.seat_states.specs.ProgramAtPoint.{Context, point_program, after_program}
 use Rattle.client_seats.specs.ClientSeatState.{around, seat_data}
 use Rattle.client_seats.proofs.PointsAtSteps.{begun, follows_point}
 use Rattle.client_seats.proofs.FollowsByStepKind.{kept_on}

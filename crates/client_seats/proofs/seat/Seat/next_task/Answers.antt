@@ -1,7 +1,7 @@
 use Rattle.std.proofs.Common.{◌≡◌, [], Bool, List, refl, ap, ◌∙◌, arith, if◌then◌else◌, true}
 use Rattle.seat_programs.specs.ClientProgram.{HeldLife, operation, client_from, give_back}
 use Rattle.client_seats.specs.declared.seat.Seat.{Seat}
-use Rattle.seat_states.specs.SeatPoints.{point_program}
+use Rattle.seat_states.specs.ProgramAtPoint.{point_program}
 use Rattle.client_seats.specs.ClientSeatState.{lives, retries, around, seat_data}
 use Rattle.client_seats.proofs.GoingOn.{passed_on, comes_to_task, comes_to_end, none_in}
 use Rattle.client_seats.proofs.seat.Seat.next_task.Goals as goal

@@ -1,5 +1,5 @@
 use Rattle.std.proofs.Common.{◌≡◌, ◌-◌, ◌<◌, ℕ}
-use Rattle.corr_core.specs.Law.{is_tried}
+use Rattle.corr_core.specs.IdSlotLaw.{is_tried}
 use Rattle.id_rule.specs.LawfulIdTable.{notes_of}
 use Rattle.corr_id.specs.SeatBehindIdCalls.{Quiet}
 use Rattle.corr_id.proofs.table.IdTable.create.Given as goal

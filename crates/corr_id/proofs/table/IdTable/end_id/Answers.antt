@@ -1,5 +1,5 @@
 use Rattle.std.proofs.Common.{arith, ap}
-use Rattle.corr_core.specs.Word.{parts}
+use Rattle.corr_core.specs.IdSlotWord.{parts}
 use Rattle.corr_id.proofs.CorrelationIdSteps.{ending}
 use Rattle.corr_id.proofs.SlotBehindViewChange.{ended_became, retired_became}
 use Rattle.corr_id.proofs.table.IdTable.end_id.Goals as goal

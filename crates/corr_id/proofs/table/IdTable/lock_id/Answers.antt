@@ -1,5 +1,5 @@
 use Rattle.std.proofs.Common.{arith, ap, sym, subst, ℕ, ◌≡◌, [], ◌∷◌}
-use Rattle.corr_core.specs.Word.{parts}
+use Rattle.corr_core.specs.IdSlotWord.{parts}
 use Rattle.corr_core.specs.declared.marks.Hand.TheVariants.{Full}
 use Rattle.corr_core.specs.declared.marks.Token.TheVariants.{Locked}
 use Rattle.corr_core.specs.declared.marks.Note.TheVariants.{Saw, Locker}

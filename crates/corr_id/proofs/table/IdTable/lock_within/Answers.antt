@@ -1,5 +1,5 @@
 use Rattle.std.proofs.Common.{◌≤◌, ℕ, Bool, true, false, ap, sym, refl, ◌∙◌, inr, ⊎_elim, subst, arith}
-use Rattle.corr_core.specs.Word.{Parts, parts, locked_word}
+use Rattle.corr_core.specs.IdSlotWord.{Parts, parts, locked_word}
 use Rattle.corr_id.specs.SeatBehindIdCalls.{GotLock}
 use Rattle.corr_id.specs.LocksByAttempt.{IsOutside, IsWithin}
 use Rattle.corr_id.proofs.TokensOfIdCalls.{found_noted, quiet_more, made_still, advanced_still, gone_behind, own_behind, got_after}

@@ -1,9 +1,9 @@
 use Rattle.std.proofs.Common.{arith, ap, sym, ◌∙◌, subst, ℕ, ◌≡◌, ◌<◌, ◌+◌, ◌*◌, ◌%◌, ◌/◌, [], ◌∷◌}
-use Rattle.corr_core.specs.Word.{parts}
+use Rattle.corr_core.specs.IdSlotWord.{parts}
 use Rattle.corr_core.specs.declared.marks.Hand.TheVariants.{Empty, Full}
 use Rattle.corr_core.specs.declared.marks.Token.TheVariants.{Claimed}
 use Rattle.corr_core.specs.declared.marks.Note.TheVariants.{Made}
-use Rattle.corr_core.specs.Law.{is_made}
+use Rattle.corr_core.specs.IdSlotLaw.{is_made}
 use Rattle.id_rule.specs.LawfulIdTable.{notes_of}
 use Rattle.corr_id.specs.SeatBehindIdCalls.{is_at, Became, one}
 use Rattle.corr_id.proofs.TokensOfIdCalls.{made_noted}

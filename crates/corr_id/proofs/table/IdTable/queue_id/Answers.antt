@@ -1,5 +1,5 @@
 use Rattle.std.proofs.Common.{arith, ap, ◌∙◌, subst, ℕ, ◌≢◌}
-use Rattle.corr_core.specs.Word.{parts}
+use Rattle.corr_core.specs.IdSlotWord.{parts}
 use Rattle.corr_core.specs.declared.marks.Note.TheVariants.{Saw, Queued}
 use Rattle.corr_id.specs.SeatBehindIdCalls.{Became, one, FoundUpTo}
 use Rattle.corr_id.proofs.CorrelationIdSteps.{queueing, queued_is, put_is}

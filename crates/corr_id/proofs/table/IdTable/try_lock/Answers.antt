@@ -1,5 +1,5 @@
 use Rattle.std.proofs.Common.{refl, ap}
-use Rattle.corr_core.specs.Word.{parts}
+use Rattle.corr_core.specs.IdSlotWord.{parts}
 use Rattle.corr_id.proofs.TokensOfIdCalls.{quiet_none, quiet_more, found_noted, locked_next, locked_fits, got_lock}
 use Rattle.corr_id.proofs.table.IdTable.try_lock.Goals as goal
 

@@ -1,5 +1,5 @@
 use Rattle.std.proofs.Common.{◌≡◌}
-use Rattle.corr_core.specs.Word.{parts}
+use Rattle.corr_core.specs.IdSlotWord.{parts}
 use Rattle.corr_id.specs.Unlocks.{Stepped, exchanges_left}
 use Rattle.corr_id.proofs.table.IdTable.unlock.Given as goal
 

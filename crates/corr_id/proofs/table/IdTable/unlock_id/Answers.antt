@@ -1,5 +1,5 @@
 use Rattle.std.proofs.Common.{arith, ap, ◌∙◌, ℕ}
-use Rattle.corr_core.specs.Word.{parts}
+use Rattle.corr_core.specs.IdSlotWord.{parts}
 use Rattle.corr_core.specs.declared.marks.Note.TheVariants.{Saw}
 use Rattle.id_rule.specs.LawfulIdTable.{with_note}
 use Rattle.id_rule.specs.IdPlays.{advanced_view, popped_view}

@@ -1,8 +1,8 @@
 use Rattle.std.proofs.Common.{inr, refl, arith, ap, map, ◌∙◌}
 use Rattle.seat_programs.specs.ScriptSetupToEnding.{sizes_of}
-use Rattle.seat_states.specs.SeatPoints.{next_program}
+use Rattle.seat_states.specs.ProgramAtPoint.{next_program}
 use Rattle.client_seats.specs.ClientSeatState.{seat_data, around}
-use Rattle.seat_states.specs.SeatPoints.{after_ready}
+use Rattle.seat_states.specs.ProgramAtPoint.{after_ready}
 use Rattle.sock_io.specs.LinkHalves.{end_of}
 use Rattle.machine_steps.proofs.SeatBehindEachStep.{written, makes_along, goes, link_asked, same_sizes, asked_in}
 use Rattle.seat_states.proofs.StepFacts.{asks}

@@ -4,7 +4,7 @@ use Rattle.corr_core.specs.declared.marks.Plan.{Plan as IdPlan}
 use Rattle.seat_programs.specs.ScriptSetupToEnding.{sizes_of}
 use Rattle.call_points.specs.AsideCodeSteps as aside_steps
 use Rattle.call_slots.specs.CallSlotSteps as slots
-use Rattle.seat_states.specs.SeatPoints.{next_program}
+use Rattle.seat_states.specs.ProgramAtPoint.{next_program}
 use Rattle.client_seats.specs.ClientSeatState.{seat_data, around, asked_or_nothing}
 use Rattle.machine_model.specs.Machines.{TableState, table_sizes}
 use Rattle.machine_model.specs.MachineSteps.{IsReady, FoundBeside}

@@ -3,7 +3,7 @@ use Rattle.sock_io.specs.LinkHalves.{end_of}
 use Rattle.seat_programs.specs.StepTables.{word_of}
 use Rattle.seat_programs.specs.Cores.{found_at}
 use Rattle.call_points.specs.AsideCodeSteps.{after_word}
-use Rattle.seat_states.specs.SeatPoints.{next_program}
+use Rattle.seat_states.specs.ProgramAtPoint.{next_program}
 use Rattle.seat_states.specs.ProgramStepsOfMachine.{step_of}
 use Rattle.seat_states.proofs.StepFacts.{goes_by_word}
 use Rattle.client_seats.specs.ClientSeatState.{seat_data, around, seat_program}

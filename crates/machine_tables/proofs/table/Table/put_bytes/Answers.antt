@@ -3,7 +3,7 @@ use Rattle.sock_io.specs.LinkHalves.{end_of}
 use Rattle.seat_programs.specs.ScriptSetupToEnding.{sizes_of}
 use Rattle.seat_programs.specs.BufferParts.{part}
 use Rattle.message_parts.specs.Parcels.{outgoing_of}
-use Rattle.seat_states.specs.SeatPoints.{next_program, parts_by, is_whole}
+use Rattle.seat_states.specs.ProgramAtPoint.{next_program, parts_by, is_whole}
 use Rattle.seat_states.proofs.StepFacts.{puts_piece}
 use Rattle.client_seats.specs.ClientSeatState.{seat_data, around, left_of, taken_of, left_parts_of}
 use Rattle.machine_model.specs.Machines.{table_sizes}

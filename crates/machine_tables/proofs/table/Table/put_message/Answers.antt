@@ -2,7 +2,7 @@ use Rattle.std.proofs.Common.{refl, arith, ap, length, ◌∙◌, inl, Some, sli
 use Rattle.seat_programs.specs.TableSteps as calls
 use Rattle.seat_programs.specs.ScriptSetupToEnding.{sizes_of}
 use Rattle.seat_states.specs.declared.point.Step.TheVariants as firsts
-use Rattle.seat_states.specs.SeatPoints.{next_program, heading_by}
+use Rattle.seat_states.specs.ProgramAtPoint.{next_program, heading_by}
 use Rattle.seat_states.proofs.StepFacts.{goes_by_word}
 use Rattle.client_seats.specs.ClientSeatState.{seat_data, around, bytes_of, parts_of, message_in}
 use Rattle.machine_model.specs.LetterHomes.{letters_in}

@@ -3,7 +3,7 @@ use Rattle.seat_programs.specs.TableSteps as calls
 use Rattle.sock_io.specs.declared.link.Ready.TheVariants as asks
 use Rattle.seat_states.specs.declared.point.Step.{Step}
 use Rattle.seat_states.specs.declared.point.Step.TheVariants as firsts
-use Rattle.seat_states.specs.SeatPoints.{heading_by}
+use Rattle.seat_states.specs.ProgramAtPoint.{heading_by}
 use Rattle.client_seats.specs.ClientSeatState.{seat_data, around, seat_program, bytes_of, parts_of}
 use Rattle.machine_model.specs.Machines.{table_sizes}
 use Rattle.machine_model.specs.MachineSteps.{IsNext, IsFitStep}

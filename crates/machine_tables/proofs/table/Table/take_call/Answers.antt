@@ -5,7 +5,7 @@ use Rattle.seat_programs.specs.ScriptSetupToEnding.{sizes_of}
 use Rattle.call_points.specs.declared.aside.Aside.TheVariants as steps
 use Rattle.call_points.specs.AsideCodeSteps.{after_call}
 use Rattle.seat_states.specs.declared.point.Step.TheVariants as firsts
-use Rattle.seat_states.specs.SeatPoints.{next_program}
+use Rattle.seat_states.specs.ProgramAtPoint.{next_program}
 use Rattle.client_seats.specs.ClientSeatState.{SeatData, seat_data, around}
 use Rattle.machine_model.specs.Machines.{TableState, table_sizes}
 use Rattle.machine_steps.proofs.SeatBehindEachStep.{written, makes_along, goes, next_along, same_sizes}

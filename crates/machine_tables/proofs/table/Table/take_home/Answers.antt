@@ -1,8 +1,8 @@
 use Rattle.std.proofs.Common.{inr, refl, arith, ap, ◌∙◌, slice_set, Some}
 use Rattle.seat_programs.specs.ScriptSetupToEnding.{sizes_of}
-use Rattle.seat_states.specs.SeatPoints.{next_program}
+use Rattle.seat_states.specs.ProgramAtPoint.{next_program}
 use Rattle.client_seats.specs.ClientSeatState.{seat_data, around}
-use Rattle.seat_states.specs.SeatPoints.{after_link}
+use Rattle.seat_states.specs.ProgramAtPoint.{after_link}
 use Rattle.client_seats.specs.ClientSeatState.{seat_program}
 use Rattle.machine_steps.proofs.SeatBehindEachStep.{written, makes_along, goes, same_sizes, links_are}
 use Rattle.seat_states.proofs.StepFacts.{takes_link}

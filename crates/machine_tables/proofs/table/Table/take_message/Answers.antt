@@ -3,7 +3,7 @@ use mathlib.Core.Option.{some}
 use lib.ListN.{get_elem?}
 use Rattle.seat_programs.specs.ScriptSetupToEnding.{sizes_of}
 use Rattle.message_parts.specs.Parcels.{parcel_of, outgoing_of}
-use Rattle.seat_states.specs.SeatPoints.{next_program}
+use Rattle.seat_states.specs.ProgramAtPoint.{next_program}
 use Rattle.seat_states.proofs.StepFacts.{takes_message}
 use Rattle.client_seats.specs.ClientSeatState.{seat_data, around}
 use Rattle.machine_model.specs.LetterHomes.{letters_in}

@@ -1,6 +1,6 @@
 use Rattle.std.proofs.Common.{arith, subst, sym, ap, None, IfSome, IfNone}
 use Rattle.seat_states.specs.declared.point.Point.{Point}
-use Rattle.seat_states.specs.SeatPoints.{point_program}
+use Rattle.seat_states.specs.ProgramAtPoint.{point_program}
 use Rattle.seat_states.specs.ProgramStepsOfMachine.{first_in}
 use Rattle.client_seats.specs.ClientSeatState.{seat_data, around}
 use Rattle.machine_model.specs.Machines.{MachineState, table_sizes}

@@ -1,6 +1,6 @@
 use Rattle.std.proofs.Common.{◌≡◌, ◌∙◌, true, false, sym, refl, ap}
 use Rattle.seat_programs.specs.ReaderProgram.{version_in}
-use Rattle.corr_core.specs.Word.{parts}
+use Rattle.corr_core.specs.IdSlotWord.{parts}
 use Rattle.corr_core.specs.IdRangeVersions.{is_early}
 use Rattle.id_points.specs.IdsAndAttemptNumbers.{id_of}
 use Rattle.reader_points.specs.declared.point.Behind.TheVariants as behinds

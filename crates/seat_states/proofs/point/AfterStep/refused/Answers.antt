@@ -1,5 +1,5 @@
 use Rattle.std.proofs.Common.{◌∙◌, ap}
-use Rattle.seat_states.specs.SeatPoints.{refused_program}
+use Rattle.seat_states.specs.ProgramAtPoint.{refused_program}
 use Rattle.seat_states.proofs.ProgramBehindSteps.{refused}
 use Rattle.seat_states.proofs.point.AfterStep.refused.Goals as goal
 

@@ -1,7 +1,7 @@
 use Rattle.std.proofs.Common.{◌∙◌, sym}
 use Rattle.id_points.specs.IdsAndAttemptNumbers.{id_of}
 use Rattle.seat_programs.specs.PostPrograms.{decided}
-use Rattle.seat_states.specs.SeatPoints.{posted_program, after_program}
+use Rattle.seat_states.specs.ProgramAtPoint.{posted_program, after_program}
 use Rattle.seat_states.proofs.point.Point.next.Goals as goal
 
 pub returns-in-Post-clause-program : goal.returns-in-Post-clause-program

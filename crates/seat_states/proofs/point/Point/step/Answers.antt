@@ -3,7 +3,7 @@ use Rattle.id_points.specs.IdsAndAttemptNumbers.{id_of}
 use Rattle.seat_programs.specs.PostPrograms.{decided}
 use Rattle.call_points.specs.CallIdPoints.{post_program, decide_program}
 use Rattle.call_points.specs.AsideCodeSteps.{step_of}
-use Rattle.seat_states.specs.SeatPoints.{posted_program, after_program}
+use Rattle.seat_states.specs.ProgramAtPoint.{posted_program, after_program}
 use Rattle.seat_states.proofs.AsidesAndAttempts.{in_aside}
 use Rattle.seat_states.proofs.point.Point.step.Goals as goal
 

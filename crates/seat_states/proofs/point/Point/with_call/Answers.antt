@@ -2,7 +2,7 @@ use Rattle.std.proofs.Common.{◌∙◌, ap}
 use Rattle.id_points.specs.IdsAndAttemptNumbers.{id_of}
 use Rattle.seat_programs.specs.PostPrograms.{decided}
 use Rattle.call_points.specs.CallIdPoints.{decide_program}
-use Rattle.seat_states.specs.SeatPoints.{after_program}
+use Rattle.seat_states.specs.ProgramAtPoint.{after_program}
 use Rattle.seat_states.proofs.ProgramBehindSteps.{after_asked}
 use Rattle.seat_states.proofs.point.Point.with_call.Goals as goal
 

@@ -1,5 +1,5 @@
 use Rattle.std.proofs.Common.{◌∙◌}
-use Rattle.seat_states.specs.SeatPoints.{then_program}
+use Rattle.seat_states.specs.ProgramAtPoint.{then_program}
 use Rattle.seat_states.proofs.point.ReleaseStep.next.Goals as goal
 
 pub returns-in-Step-clause-program : goal.returns-in-Step-clause-program

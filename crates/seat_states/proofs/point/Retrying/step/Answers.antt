@@ -3,7 +3,7 @@ use Rattle.seat_programs.specs.CallAndRetryPrograms.{retry_locked}
 use Rattle.id_points.specs.IdsAndAttemptNumbers.{id_of, number_of}
 use Rattle.call_points.specs.CallIdPoints.{lock_program}
 use Rattle.call_points.specs.AsideCodeSteps.{step_of}
-use Rattle.seat_states.specs.SeatPoints.{client_on, locker_of}
+use Rattle.seat_states.specs.ProgramAtPoint.{client_on, locker_of}
 use Rattle.seat_states.proofs.AsidesAndAttempts.{in_aside}
 use Rattle.seat_states.proofs.point.Retrying.step.Goals as goal
 

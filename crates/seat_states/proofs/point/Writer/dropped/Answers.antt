@@ -1,7 +1,7 @@
 use Rattle.std.proofs.Common.{◌∙◌, ap}
 use Rattle.std.proofs.Math.Path.{fun_ext}
 use Rattle.seat_programs.specs.SendAndWritePrograms.{one_more, passed_telling}
-use Rattle.seat_states.specs.SeatPoints.{holder_of, written_program}
+use Rattle.seat_states.specs.ProgramAtPoint.{holder_of, written_program}
 use Rattle.seat_states.proofs.point.Writer.dropped.Goals as goal
 
 pub returns-clause-program : goal.returns-clause-program

@@ -1,7 +1,7 @@
 -- Which errors end their call.
 use Rattle.std.specs.Prelude.{ℕ, ◌+◌, ◌==◌, Bool, ◌||◌}
 use Rattle.sock_words.specs.ErrorCodes.{is_final}
-use Rattle.corr_core.specs.Word.{Parts, code_of, attempt_of}
+use Rattle.corr_core.specs.IdSlotWord.{Parts, code_of, attempt_of}
 
 -- the attempt that stands for the whole call
 abbrev pub WHOLE : ℕ

@@ -39,7 +39,7 @@ use Rattle.seat_states.specs.declared.point.Released.{Released}
 use Rattle.seat_states.specs.declared.point.Released.TheVariants as turns
 use Rattle.seat_states.specs.declared.point.ReleaseStep.{ReleaseStep}
 use Rattle.seat_states.specs.declared.point.ReleaseStep.TheVariants as releases
-use Rattle.corr_core.specs.Word.{parts, error_of}
+use Rattle.corr_core.specs.IdSlotWord.{parts, error_of}
 use Rattle.id_points.specs.IdsAndAttemptNumbers.{id_of, number_of}
 use Rattle.id_points.specs.declared.locking.Sought.TheVariants.{First}
 use Rattle.call_points.specs.CallIdPoints.{post_program, decide_program, lock_program}
