@@ -2,7 +2,7 @@ ghost use Rattle.std.specs.Prelude.{◌≡◌, option_map, Some};
 ghost use Rattle.id_points.specs.IdsAndAttemptNumbers.{id_of};
 ghost use Rattle.call_points.specs.AsideCodeSteps.{aside_in};
 ghost use Rattle.call_points.specs.AsideCodeSteps as asides;
-ghost use Rattle.seat_states.specs.ProgramStepsOfMachine.{OfCall, step_of, first_in};
+ghost use Rattle.seat_states.specs.ProgramStepsOfMachine.{OfTable, step_of, first_in};
 ghost use Rattle.reader_points.specs.ReaderPoints.{Context, close_program, answer_program, point_program, code_by, room, GoesBy};
 ghost use Rattle.reader_points.specs.ReaderCodeSteps.{step_as};
 
@@ -24,7 +24,7 @@ impl Closing {
 impl CloseStep {
     /// The next step of the failing of a reader's socket.
     fn call(self, closing: Closing) -> TableStep
-        ensures { (a : Context) → first_in (close_program a closing self) ≡ Some (OfCall (step_of result)) }
+        ensures { (a : Context) → first_in (close_program a closing self) ≡ Some (OfTable (step_of result)) }
     {
         let id = closing.reader.socket;
         match self {

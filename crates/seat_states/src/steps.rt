@@ -2,7 +2,7 @@ ghost use Rattle.std.specs.Prelude.{◌≡◌, ◌+◌, Bool, option_map, Some, 
 ghost use Rattle.sock_words.specs.PackedWords.{socket_id};
 ghost use Rattle.seat_programs.specs.Programs.{Program};
 ghost use Rattle.seat_states.specs.ProgramAtPoint.{Context, open_program, seek_program, fail_program, release_on, point_program, IsCalling, HasInHand, HasLinkAt};
-ghost use Rattle.seat_states.specs.ProgramStepsOfMachine.{OfCall, step_of, first_in, step_as, kind_of_first};
+ghost use Rattle.seat_states.specs.ProgramStepsOfMachine.{OfTable, step_of, first_in, step_as, kind_of_first};
 
 use crate::calling::Calling;
 use crate::point::{Aim, FailStep, Failing, OpenStep, Opening, Point, ReleaseStep, SeekStep, Step};
@@ -20,7 +20,7 @@ fn socket_word(version: u32, slot: u16) -> u64
 impl Opening {
     /// The next step of an `open`.
     fn call(self, step: OpenStep) -> TableStep
-        ensures { (a : Context) → first_in (open_program a self step) ≡ Some (OfCall (step_of result)) }
+        ensures { (a : Context) → first_in (open_program a self step) ≡ Some (OfTable (step_of result)) }
     {
         match step {
             OpenStep::Claim(slot) => TableStep::ClaimSlot(u32::from(slot)),
@@ -45,7 +45,7 @@ impl Opening {
 impl Aim {
     /// The next step of the way to a life.
     fn call(self, step: SeekStep) -> TableStep
-        ensures { (a : Context) → first_in (seek_program a self step) ≡ Some (OfCall (step_of result)) }
+        ensures { (a : Context) → first_in (seek_program a self step) ≡ Some (OfTable (step_of result)) }
     {
         match step {
             SeekStep::AddRef(id) => TableStep::AddRef(id),
@@ -62,7 +62,7 @@ impl Aim {
 impl Failing {
     /// The next step of a failing.
     fn call(self, step: FailStep) -> TableStep
-        ensures { (a : Context) → first_in (fail_program a self step) ≡ Some (OfCall (step_of result)) }
+        ensures { (a : Context) → first_in (fail_program a self step) ≡ Some (OfTable (step_of result)) }
     {
         match step {
             FailStep::SetOdd => TableStep::SetOdd(self.id.slot()),
@@ -77,7 +77,7 @@ impl Failing {
 impl ReleaseStep {
     /// The next step of a release.
     pub fn call(self, slot: u32) -> TableStep
-        ensures { (k : Bool → Program) → first_in (release_on slot k self) ≡ Some (OfCall (step_of result)) }
+        ensures { (k : Bool → Program) → first_in (release_on slot k self) ≡ Some (OfTable (step_of result)) }
     {
         match self {
             ReleaseStep::SubRef => TableStep::SubRef(slot),
