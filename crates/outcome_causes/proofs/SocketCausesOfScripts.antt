@@ -102,7 +102,7 @@ lost_of_run script turns core is = let p = plan_of script in lost_in p (opened s
     ++ (lost_in p (set_up script is.setup) (is.scheduled ++ is.later) ++ (lost_in p (closing_of script turns core is) (replicate is.last (quiet 0)) ++ lost_in p is.ended is.final))
 
 -- a step that a client made behind the setup
-abbrev pub MadeInRun : (script : List Item) (turns : List Turn) (core : Core) → IsRunWithCalls script turns core → ℕ → ℕ → Rattle.seat_programs.specs.TableSteps.Call → ℕ → Type 0
+abbrev pub MadeInRun : (script : List Item) (turns : List Turn) (core : Core) → IsRunWithCalls script turns core → ℕ → ℕ → Rattle.seat_programs.specs.TableSteps.TableStep → ℕ → Type 0
 MadeInRun script turns core is i o call found = let p = plan_of script in let cs = told_tasks_of script in MadeIn p cs (set_up script is.setup) (is.scheduled ++ is.later) i o call found
     ⊎ (MadeIn p cs (closing_of script turns core is) (replicate is.last (quiet 0)) i o call found ⊎ MadeIn p cs is.ended is.final i o call found)
 
