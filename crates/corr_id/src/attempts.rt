@@ -46,11 +46,9 @@ impl<C> IdTable<C> {
         ensures ended { attempt ≡ false → IfErr result (λ e. id_slot version < self.now.plan.slots → IsKnown (id_slot version) (id_first version) seat.old.me.0 → id_first version < (parts e.found).first) }
     {
         let id = CorrelationId(version);
-        let slot = id.slot();
-        if slot >= u32::from(self.plan.slots) {
+        let Some(at) = self.slot_of(id) else {
             return Err(IdGone { found: 0 });
-        }
-        let at = slot as u16;
+        };
         let own = id.version();
         'looks: for _ in rt.forever() {
             let found = self.load_id_word(seat, at);

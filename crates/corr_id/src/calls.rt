@@ -207,11 +207,9 @@ impl<C> IdTable<C> {
         ensures gone { (self.now.plan.slots ≤ id_slot id) ⊎ ((word : ℕ) × Found (id_slot id) word seat.new.me.0 × LacksId (parts word) (id_first id)) }
     {
         let id = CorrelationId(id);
-        let slot = id.slot();
-        if slot >= u32::from(self.plan.slots) {
+        let Some(at) = self.slot_of(id) else {
             return;
-        }
-        let at = slot as u16;
+        };
         let own = id.version();
         'looks: for _ in rt.forever() {
             if lacks_id(IdWord(self.load_id_word(seat, at)), own) {

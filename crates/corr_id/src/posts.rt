@@ -43,11 +43,9 @@ impl<C> IdTable<C> {
         ensures posted { PostOk self.now.plan.slots seat.old.me.0 seat.new.me.0 id code attempt result }
     {
         let id = CorrelationId(id);
-        let slot = id.slot();
-        if slot >= u32::from(self.plan.slots) {
+        let Some(at) = self.slot_of(id) else {
             return Posted::Gone { found: 0 };
-        }
-        let at = slot as u16;
+        };
         let own = id.version();
         let error = corr_core::error_bits(code, attempt);
         let mut found = self.load_id_word(seat, at);

@@ -83,11 +83,23 @@ impl<C> IdTable<C> {
         ensures found { id_slot version < self.now.plan.slots → Found (id_slot version) result seat.new.me.0 × (0 < result) }
         ensures no_slot { self.now.plan.slots ≤ id_slot version → result ≡ 0 }
     {
-        let slot = CorrelationId(version).slot();
-        if slot >= u32::from(self.plan.slots) {
+        let Some(at) = self.slot_of(CorrelationId(version)) else {
             return 0;
+        };
+        self.load_id_word(seat, at)
+    }
+
+    // The slot of an id: `None` exactly where the table has no such slot.
+    pub(crate) fn slot_of(&self, id: CorrelationId) -> Option<u16>
+        ensures some { IfSome result (λ at. (at ≡ id_slot id.0) × (at < self.now.plan.slots)) }
+        ensures none { IfNone result (self.now.plan.slots ≤ id_slot id.0) }
+    {
+        let slot = id.slot();
+        if slot < u32::from(self.plan.slots) {
+            Some(slot as u16)
+        } else {
+            None
         }
-        self.load_id_word(seat, slot as u16)
     }
 
     // T1.

@@ -83,10 +83,8 @@ pub fn write_varint(out: &mut Vec<u8>, value: u64) -> Result<(), NoMemory>
     ensures shortest { (bytes : List ℕ) → IsVarint bytes value → length (varint_bytes value) ≤ length bytes }
 {
     if value < 0x80 {
-        return match out.push(value as u8) {
-            Ok(()) => Ok(()),
-            Err(_) => Err(NoMemory),
-        };
+        out.push(value as u8)?;
+        return Ok(());
     }
     let mut spelled = [0u8; MOST_BYTES];
     let mut length = 0;

@@ -152,10 +152,7 @@ fn spell_long(
     ensures reads_back { OnOk result (read_meta (meta_bytes (meaning meta.now)) ≡ Ok (meaning meta.now)) }
 {
     spell_header(size, behind, front)?;
-    match meta.write_to(front) {
-        Ok(()) => Ok(()),
-        Err(_) => Err(NoMemory),
-    }
+    meta.write_to(front)
 }
 
 // Spells the header, before a meta of this size and so many bytes of payload and attachment.

@@ -114,10 +114,8 @@ impl MemIn {
         ensures ok { OnOk result (self.new ≡ record self.old { waiting = self.old.waiting ++ bytes.now }) }
         ensures err { OnErr result (self.new ≡ self.old) }
     {
-        match self.bytes.extend_from_slice(bytes) {
-            Ok(()) => Ok(()),
-            Err(_) => Err(NoMemory),
-        }
+        self.bytes.extend_from_slice(bytes)?;
+        Ok(())
     }
 
     /// The other end gives its end.

@@ -7,8 +7,5 @@ use std::alloc::Global;
 pub(crate) fn with_room(alloc: Global, room: usize) -> Result<Vec<u8>, NoMemory>
     ensures { IfOk result (λ bytes. (bytes.items ≡ []) × (room ≤ vec_capacity bytes)) }
 {
-    match Vec::with_capacity(alloc, room) {
-        Ok(bytes) => Ok(bytes),
-        Err(_) => Err(NoMemory),
-    }
+    Ok(Vec::with_capacity(alloc, room)?)
 }

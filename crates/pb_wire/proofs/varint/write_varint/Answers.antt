@@ -49,8 +49,8 @@ returns-in_err-extend_from_slice-clause-spelled c = shortest_form c.args.value (
 pub returns-in_err-extend_from_slice-clause-shortest : goal.returns-in_err-extend_from_slice-clause-shortest
 returns-in_err-extend_from_slice-clause-shortest c = none_shorter c.args.value
 
-pub returns-in-Ok-clause-spelled : goal.returns-in-Ok-clause-spelled
-returns-in-Ok-clause-spelled c = shortest_form c.args.value (search rules)
+pub returns-then-value-lt128-clause-spelled : goal.returns-then-value-lt128-clause-spelled
+returns-then-value-lt128-clause-spelled c = shortest_form c.args.value (search rules)
 
-pub returns-in-Err-clause-spelled : goal.returns-in-Err-clause-spelled
-returns-in-Err-clause-spelled c = shortest_form c.args.value (search rules)
+pub returns-in_err-push-clause-spelled : goal.returns-in_err-push-clause-spelled
+returns-in_err-push-clause-spelled c = shortest_form c.args.value (search rules)

@@ -15,7 +15,7 @@ from_first true w v within = let past = within.0 in omega arith
 from_first false w v within = within.0
 
 pub returns-then-is_outside-clause-gone : goal.returns-then-is_outside-clause-gone
-returns-then-is_outside-clause-gone g c = rw (← c.slot-slot.ensures, ← c.version-own.ensures) (let at = c.slot-slot.result in let v = c.looks.seat.me.0 in let w = c.load_id_word-found.new.seat.me.0 in let saw = c.load_id_word-found.ensures.saw in (
+returns-then-is_outside-clause-gone g c = rw (← c.in-Some.ensures.some.0, ← c.version-own.ensures) (let at = c.in-Some.at in let v = c.looks.seat.me.0 in let w = c.load_id_word-found.new.seat.me.0 in let saw = c.load_id_word-found.ensures.saw in (
   quiet_more at c.args.seat.now.me.0 v w _ c.looks.invariant.quiet saw refl,
   inr (found_noted at c.load_id_word-found.result v w saw, c.is_outside.ensures.out c.if-is_outside.true),
 ))
@@ -23,11 +23,11 @@ returns-then-is_outside-clause-gone g c = rw (← c.slot-slot.ensures, ← c.ver
 pub try_lock-requires-clause-from : goal.try_lock-requires-clause-from
 try_lock-requires-clause-from g c = (
   sym c.state.ensures ∙ c.if-state-ne-OPEN.false,
-  found_noted c.slot-slot.result c.load_id_word-found.result c.looks.seat.me.0 c.load_id_word-found.new.seat.me.0 c.load_id_word-found.ensures.saw,
+  found_noted c.in-Some.at c.load_id_word-found.result c.looks.seat.me.0 c.load_id_word-found.new.seat.me.0 c.load_id_word-found.ensures.saw,
 )
 
 pub returns-then-is_outside-clause-ended : goal.returns-then-is_outside-clause-ended
-returns-then-is_outside-clause-ended g c = rw (← c.slot-slot.ensures, ← c.version-own.ensures) (λ own inside known. let at = c.slot-slot.result in let v = c.version-own.result in let u = c.args.seat.now.me.0 in let q = c.looks.invariant.quiet in let found = c.load_id_word-found.ensures in
+returns-then-is_outside-clause-ended g c = rw (← c.in-Some.ensures.some.0, ← c.version-own.ensures) (λ own inside known. let at = c.in-Some.at in let v = c.version-own.result in let u = c.args.seat.now.me.0 in let q = c.looks.invariant.quiet in let found = c.load_id_word-found.ensures in
     gone_behind v (parts c.load_id_word-found.result) (⊎_elim (λ made. found.behind v (made_still at v u c.looks.seat.me.0 q made)) (λ more. found.advanced v (advanced_still at v u c.looks.seat.me.0 q more)) known)
     (subst (λ (b : Bool). IsOutside b (parts c.load_id_word-found.result) v) own (c.is_outside.ensures.out c.if-is_outside.true)))
 
@@ -36,14 +36,14 @@ returns-in-Ok-clause-of_range g c = rw (← c.version-own.ensures) (let v = c.ve
     subst (λ (w : Parts). IsWithin c.args.attempt w v) (sym c.in-Ok.ensures.locked.1.word_is) (within_locked c.args.attempt (parts c.load_id_word-found.result) v (c.is_outside.ensures.within c.if-is_outside.false)))
 
 pub returns-in-Ok-clause-own : goal.returns-in-Ok-clause-own
-returns-in-Ok-clause-own g c = rw (← c.slot-slot.ensures, ← c.version-own.ensures) (λ known. let v = c.version-own.result in
+returns-in-Ok-clause-own g c = rw (← c.in-Some.ensures.some.0, ← c.version-own.ensures) (λ known. let v = c.version-own.result in
     ap (λ (w : Parts). w.first) c.in-Ok.ensures.locked.1.word_is
     ∙ own_behind v (parts c.load_id_word-found.result)
-    (c.load_id_word-found.ensures.behind v (made_still c.slot-slot.result v c.args.seat.now.me.0 c.looks.seat.me.0 c.looks.invariant.quiet known))
+    (c.load_id_word-found.ensures.behind v (made_still c.in-Some.at v c.args.seat.now.me.0 c.looks.seat.me.0 c.looks.invariant.quiet known))
     (from_first c.args.attempt (parts c.load_id_word-found.result) v (c.is_outside.ensures.within c.if-is_outside.false)))
 
 pub returns-in-Ok-clause-locked : goal.returns-in-Ok-clause-locked
-returns-in-Ok-clause-locked g c = rw (← c.slot-slot.ensures) (let at = c.slot-slot.result in let u = c.args.seat.now.me.0 in let v = c.load_id_word-found.new.seat.me.0 in let n = c.load_id_word-found.result in let h = c.in-Ok.ensures.locked in (
+returns-in-Ok-clause-locked g c = rw (← c.in-Some.ensures.some.0) (let at = c.in-Some.at in let u = c.args.seat.now.me.0 in let v = c.load_id_word-found.new.seat.me.0 in let n = c.load_id_word-found.result in let h = c.in-Ok.ensures.locked in (
   h.0,
   (
     n,

@@ -7,7 +7,7 @@ use Rattle.corr_id.proofs.TokensOfIdCalls.{found_noted, found_grows, up_to_more,
 use Rattle.corr_id.proofs.table.IdTable.post.Goals as goal
 
 pub tries-init : goal.tries-init
-tries-init g c = let at = c.slot-slot.result in let u = c.args.seat.now.me.0 in let w = c.load_id_word-found.new.seat.me.0 in let saw = c.load_id_word-found.ensures.saw in record {
+tries-init g c = let at = c.in-Some.at in let u = c.args.seat.now.me.0 in let w = c.load_id_word-found.new.seat.me.0 in let saw = c.load_id_word-found.ensures.saw in record {
   can_go = tt;
   is_finite = tt;
   same_table = c.load_id_word-found.ensures.seat.0;
@@ -18,7 +18,7 @@ tries-init g c = let at = c.slot-slot.result in let u = c.args.seat.now.me.0 in 
 }
 
 pub returns-then-now-found-clause-posted : goal.returns-then-now-found-clause-posted
-returns-then-now-found-clause-posted g c = rw (← c.slot-slot.ensures, ← c.version-own.ensures) (let at = c.slot-slot.result in let u = c.args.seat.now.me.0 in let v = c.tries.seat.me.0 in let w = c.queue_id-now.new.seat.me.0 in let n = c.tries.found in
+returns-then-now-found-clause-posted g c = rw (← c.in-Some.ensures.some.0, ← c.version-own.ensures) (let at = c.in-Some.at in let u = c.args.seat.now.me.0 in let v = c.tries.seat.me.0 in let w = c.queue_id-now.new.seat.me.0 in let n = c.tries.found in
     let b = c.queue_id-now.ensures.won c.if-now-found.true in let has = c.lacks_id.ensures.has c.if-lacks_id.false in
     let first : (parts n).first ≡ c.version-own.result = has.0 in
     let two : (parts n).state ≡ 2 = was_two (parts n).state has.1 (λ e. c.if-state-eq-OPEN.false (c.state.ensures ∙ e)) in
@@ -38,7 +38,7 @@ returns-then-now-found-clause-posted g c = rw (← c.slot-slot.ensures, ← c.ve
     ))
 
 pub tries-preserved : goal.tries-preserved
-tries-preserved g c = let at = c.slot-slot.result in let u = c.args.seat.now.me.0 in let v = c.tries.seat.me.0 in let w = c.queue_id-now.new.seat.me.0 in let b = c.queue_id-now.ensures.lost c.if-now-found.false in record {
+tries-preserved g c = let at = c.in-Some.at in let u = c.args.seat.now.me.0 in let v = c.tries.seat.me.0 in let w = c.queue_id-now.new.seat.me.0 in let b = c.queue_id-now.ensures.lost c.if-now-found.false in record {
   can_go = tt;
   is_finite = tt;
   same_table = c.queue_id-now.ensures.seat.0 ∙ c.tries.invariant.same_table;
@@ -49,10 +49,10 @@ tries-preserved g c = let at = c.slot-slot.result in let u = c.args.seat.now.me.
 }
 
 pub returns-in-Ok-clause-posted : goal.returns-in-Ok-clause-posted
-returns-in-Ok-clause-posted g c = rw (← c.slot-slot.ensures, ← c.version-own.ensures) (let at = c.slot-slot.result in let u = c.args.seat.now.me.0 in let v = c.tries.seat.me.0 in let w = c.try_lock.new.seat.me.0 in let n = c.tries.found in
+returns-in-Ok-clause-posted g c = rw (← c.in-Some.ensures.some.0, ← c.version-own.ensures) (let at = c.in-Some.at in let u = c.args.seat.now.me.0 in let v = c.tries.seat.me.0 in let w = c.try_lock.new.seat.me.0 in let n = c.tries.found in
     let has = c.lacks_id.ensures.has c.if-lacks_id.false in let h = c.in-Ok.ensures.locked in let k = c.in-Ok.lock in (
       h.0,
-      omega (arith, h.0, c.if-slot-from.false),
+      omega (arith, h.0, c.in-Some.ensures.some.1),
       ap (λ (y : Parts). y.first) h.1.word_is ∙ has.0,
       subst (λ (y : ℕ). IsTimely c.args.attempt y) (sym (ap (λ (y : Parts). y.attempt) h.1.word_is)) (c.is_stale.ensures.timely c.if-is_stale.false),
       (n, subst (λ (z : ℕ). GotLock z u w n (parts k.word.0) k.content) (sym h.0) (got_after at u v w n (parts k.word.0) k.content c.tries.invariant.quiet h.1)),
