@@ -3,7 +3,7 @@ ghost use Rattle.sock_model.specs.SocketTableLayout.{place_index};
 ghost use Rattle.seat_programs.specs.ScriptSetupToEnding.{place_words};
 
 use sock_io::{Ends, In, Out, Peer};
-use sock_model::place_index;
+use sock_model::{place_count, place_index};
 use sock_words::{Outcome, PlaceWord, Plan};
 
 /// What is left of a machine.
@@ -31,8 +31,7 @@ pub fn gather_places(places: &mut Vec<PlaceWord>, plan: &Plan, words: &[u64])
     requires room { 8 * plan.now.operations ≤ vec_capacity places.old }
     ensures { places.new.items ≡ place_words plan.now words.now }
 {
-    let count = 8 * u32::from(plan.operations);
-    for number in 0..count {
+    for number in 0..place_count(plan) {
         places.push_reserved(PlaceWord(word_at(plan, words, number)));
     }
 }

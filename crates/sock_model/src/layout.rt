@@ -1,4 +1,4 @@
-ghost use Rattle.std.specs.Prelude.{◌≡◌};
+ghost use Rattle.std.specs.Prelude.{◌≡◌, ◌*◌};
 ghost use Rattle.sock_model.specs.SocketTableLayout.{tag_index, ref_index, link_index, head_index, code_index, name_index, open_index, request_index, next_index, place_index, all_words};
 
 use sock_words::Plan;
@@ -86,9 +86,16 @@ pub fn place_index(plan: &Plan, place: u32) -> usize
     next + plan.requests as usize + place as usize
 }
 
+/// How many place words a table has: eight for each operation.
+pub fn place_count(plan: &Plan) -> u32
+    ensures { result ≡ 8 * plan.now.operations }
+{
+    8 * u32::from(plan.operations)
+}
+
 /// How many words a table has.
 pub fn word_count(plan: &Plan) -> usize
     ensures { result ≡ all_words plan.now }
 {
-    place_index(plan, 8 * u32::from(plan.operations))
+    place_index(plan, place_count(plan))
 }

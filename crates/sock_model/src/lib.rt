@@ -10,8 +10,8 @@ mod view;
 pub use chain::{Claim, Entry, Heading, Loose, Right, Stage};
 pub use home::Home;
 pub use layout::{
-    code_index, head_index, link_index, name_index, next_index, open_index, place_index, ref_index,
-    request_index, tag_index, word_count,
+    code_index, head_index, link_index, name_index, next_index, open_index, place_count,
+    place_index, ref_index, request_index, tag_index, word_count,
 };
 pub use marks::{Mark, SlotMark};
 pub use sock_words::Plan;

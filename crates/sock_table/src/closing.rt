@@ -11,7 +11,7 @@ ghost use Rattle.sock_words.specs.Totals.{total};
 use crate::table::SockTable;
 use atomic_table::Closed as ClosedTable;
 use sock_io::Out;
-use sock_model::{place_index, ref_index};
+use sock_model::{place_count, place_index, ref_index};
 use sock_rule::{LinkHome, RuleTable, SockHome, SockSeat};
 use sock_words::{PlaceWord, Plan, Vref};
 use std::alloc::{AllocError, Global};
@@ -60,7 +60,7 @@ fn join_all<O: Out>(rule: &RuleTable<O>, mut seats: Vec<SockSeat<O>>) -> SockSea
 pub fn rooms<O: Out>(alloc: Global, plan: &Plan) -> Result<Closed<O>, AllocError>
     ensures { IfOk result (IsRoomOf plan.now) }
 {
-    let places = vec![in alloc; PlaceWord::NONE; 8 * plan.operations as usize]?;
+    let places = vec![in alloc; PlaceWord::NONE; place_count(plan) as usize]?;
     let vrefs = vec![in alloc; Vref(0); plan.slots as usize]?;
     let outs = Vec::with_capacity(alloc, plan.links as usize)?;
     Ok(Closed {
@@ -89,8 +89,7 @@ fn read_places<S>(table: &ClosedTable<S, Global>, plan: &Plan, places: &mut Vec<
     ensures words { WordsAre (λ (x : PlaceWord). x.0) (place_index plan.now) (8 * plan.now.operations) places.new.items (slots_items table.now.words) }
     ensures sized { length places.new.items ≡ 8 * plan.now.operations }
 {
-    let count = 8 * u32::from(plan.operations);
-    for place in 0..count {
+    for place in 0..place_count(plan) {
         places[place as usize] = PlaceWord(table.word(place_index(plan, place)));
     }
 }
