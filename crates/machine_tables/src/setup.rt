@@ -11,7 +11,7 @@ use machine_model::HomeMessage;
 use reader_seats::ReaderSeat;
 use seat_programs::{Sizes, Task};
 use sock_message::NoMemory;
-use sock_model::{name_index, word_count};
+use sock_model::{name_index, place_count, word_count};
 use sock_words::{Outcome, PlaceWord, Plan, Vref};
 use std::alloc::{AllocError, Global};
 use std::collections::VecDeque;
@@ -139,7 +139,7 @@ pub fn parts_of(
     let nexts = no_nexts(alloc, plan.links)?;
     let ids = CallSlots::new(alloc, *id_plan)?;
     let mut outcomes = empty_places(alloc, plan.operations)?;
-    let places = Vec::with_capacity(alloc, 8 * usize::from(plan.operations))?;
+    let places = Vec::with_capacity(alloc, place_count(plan) as usize)?;
     let sizes = Sizes {
         slots: plan.slots,
         requests: plan.requests,

@@ -14,7 +14,7 @@ use Rattle.corr_core.specs.EndedByRangeOrAttempt.{ends_call}
 use Rattle.sock_message.specs.Asked.{Asked}
 use Rattle.seat_programs.specs.Asides.{PutCall}
 use Rattle.seat_programs.specs.TableSteps.{AddRef, LookWord, LoadName}
-use Rattle.seat_programs.specs.LoopHeads.{Posts, Unlocks, Decides, Locks}
+use Rattle.seat_programs.specs.LoopHeads.{Unlocks, Decides, Locks}
 use Rattle.seat_programs.specs.Programs.{Program, Write, Aside, Round}
 use Rattle.seat_programs.specs.Writings.{Empties}
 use Rattle.seat_programs.specs.Cores.{Core}
