@@ -100,7 +100,7 @@ other_first (Round (Locks i sought Rattle.std.specs.Prelude.None) next) none_ = 
 other_first (Write (Rattle.seat_programs.specs.Writings.Puts h now heading left took put) after) none_ = tt
 other_first (Write (Rattle.seat_programs.specs.Writings.Waits h now heading left took) after) none_ = tt
 other_first (Write (Rattle.seat_programs.specs.Writings.Empties h) after) none_ = tt
-other_first (Write (Rattle.seat_programs.specs.Writings.Walks h top at after) then_) none_ = tt
+other_first (Write (Rattle.seat_programs.specs.Writings.Reversing h top at after) then_) none_ = tt
 other_first _ none_ = tt
 
 other_step : (s : Step) (next : Found s → Program) → IsOther (Aside s next) → (k id : ℕ) (Odd : List Taking → Type 0) (Lasts : Type 0) → IsNoTake k id Odd Lasts s

@@ -23,7 +23,7 @@ use Rattle.seat_programs.specs.Asides.{Step, TakeBytes, Taking, Bytes, Nothing, 
 use Rattle.seat_programs.specs.LoopHeads.{Exit, Retry, Decides, Locks}
 use Rattle.seat_programs.specs.Programs.{Program, Do, TakeMessage, TakeHome, PutHome, PutBytes, AskReady, Write, Aside, Round}
 use Rattle.sock_message.specs.Asked.{Asked}
-use Rattle.seat_programs.specs.Writings.{Puts, Waits, Empties, Walks}
+use Rattle.seat_programs.specs.Writings.{Puts, Waits, Empties, Reversing}
 use Rattle.seat_programs.specs.SendAndWritePrograms.{block}
 use Rattle.seat_programs.specs.LoopRounds.{round, first_step}
 use Rattle.seat_programs.specs.FoundAndChangedAside.{found_in, calls_after}
@@ -53,7 +53,7 @@ taken_first (Round (Locks i sought Rattle.std.specs.Prelude.None) next) = refl
 taken_first (Write (Puts h now heading left took put) after) = refl
 taken_first (Write (Waits h now heading left took) after) = refl
 taken_first (Write (Empties h) after) = refl
-taken_first (Write (Walks h top at after) then_) = refl
+taken_first (Write (Reversing h top at after) then_) = refl
 taken_first (Aside (TakeBytes k room) next) = refl
 taken_first _ = refl
 

@@ -16,7 +16,7 @@ use Rattle.seat_programs.specs.Asides.{PutCall, StoreAt, TakeCall}
 use Rattle.seat_programs.specs.LoopHeads.{First, Unlocks, Joins, Unlocking, IsOpen, HasNext, Locking, NotThere, Has}
 use Rattle.seat_programs.specs.Programs.{Program, Do, Say, TakeMessage, TakeHome, PutBytes, Write, Aside, Round, LAST_VERSION, LAST_GENERATION, recycle, release, add_reference, set_failed}
 use Rattle.seat_programs.specs.PostPrograms.{post, post_with, posted}
-use Rattle.seat_programs.specs.Writings.{Holder, Writing, Puts, Waits, Empties, Walks}
+use Rattle.seat_programs.specs.Writings.{Holder, Writing, Puts, Waits, Empties, Reversing}
 use Rattle.seat_programs.specs.SendAndWritePrograms.{freed as given_back, one_more, passed_telling, tell_drop, placed, dropped, put_answered, ready_answered, block, accept, write_link}
 use Rattle.seat_programs.specs.CallAndRetryPrograms.{claims_from, heading_for, attempt, begin_call, claim_id, call, tried_again, retry_locked, retry, expire_outcome, expire, join}
 use Rattle.call_owing.specs.Owing.{Free, Trying, Linked, Looking, Telling, Owing, with_duty, freed, with_known, KnowsOwner, CallMove, stays, tells, tells_late, links, looks}
@@ -129,21 +129,21 @@ module _ (life : ℕ → Option ℕ) where
       ready_goes asks.Now = g
       ready_goes asks.NotYet = g
       ready_goes asks.Failed = set_failed_goes u h.id 1009 (λ _. Write (Puts h now heading left taken false) after) (λ _. g)
-  block_goes u (Empties h) after g = (tt, λ found _. (u, stays refl, way life u (found == h.last) after (TakeHome h.link (λ places. Write (Walks (record h { places = places }) found found 0) after)) (λ _. g.3 u (same_further u)) (λ _. λ places. g)))
-  block_goes u (Walks h top at after) then_ g = (
+  block_goes u (Empties h) after g = (tt, λ found _. (u, stays refl, way life u (found == h.last) after (TakeHome h.link (λ places. Write (Reversing (record h { places = places }) found found 0) after)) (λ _. g.3 u (same_further u)) (λ _. λ places. g)))
+  block_goes u (Reversing h top at after) then_ g = (
     tt,
     λ found _. (
       u,
       stays refl,
-      way life u (found == UNCONNECTED) (Write (Walks h top at after) then_)
-          (Do (ReverseNext (ticket_request at) after) (λ _. cond (found == h.last) (TakeMessage (ticket_request at) (λ heading bytes. Write (Puts (record h { last = top }) at heading bytes 0 false) then_)) (Write (Walks h top found at) then_)))
+      way life u (found == UNCONNECTED) (Write (Reversing h top at after) then_)
+          (Do (ReverseNext (ticket_request at) after) (λ _. cond (found == h.last) (TakeMessage (ticket_request at) (λ heading bytes. Write (Puts (record h { last = top }) at heading bytes 0 false) then_)) (Write (Reversing h top found at) then_)))
           (λ _. g)
           (λ _. (
             tt,
             λ _ _. (
               u,
               stays refl,
-              way life u (found == h.last) (TakeMessage (ticket_request at) (λ heading bytes. Write (Puts (record h { last = top }) at heading bytes 0 false) then_)) (Write (Walks h top found at) then_)
+              way life u (found == h.last) (TakeMessage (ticket_request at) (λ heading bytes. Write (Puts (record h { last = top }) at heading bytes 0 false) then_)) (Write (Reversing h top found at) then_)
                   (λ _. λ heading bytes v f owner. let d = clear_on u v (g.0, g.1) f in (d.0, d.1, owner, later u v then_ f g.3)) (λ _. g),
             ),
           )),

@@ -16,7 +16,7 @@ use Rattle.seat_programs.specs.TableSteps.{SubRef, Recycle, StoreCode, LoadLink,
 use Rattle.seat_programs.specs.Asides.{StoreAt}
 use Rattle.seat_programs.specs.Programs.{Program, Do, TakeMessage, TakeHome, PutBytes, Write, Aside, LAST_VERSION, LAST_GENERATION, recycle, release, add_reference, set_failed}
 use Rattle.seat_programs.specs.PostPrograms.{post}
-use Rattle.seat_programs.specs.Writings.{Holder, Writing, Puts, Waits, Empties, Walks}
+use Rattle.seat_programs.specs.Writings.{Holder, Writing, Puts, Waits, Empties, Reversing}
 use Rattle.seat_programs.specs.SendAndWritePrograms.{freed, one_more, passed_telling, tell_drop, placed, dropped, put_answered, ready_answered, block, accept, write_link}
 use Rattle.seat_programs.specs.CallAndRetryPrograms.{claims_from, heading_for, attempt}
 use Rattle.owed_calls.specs.Below.id_runs.specs.Goes.{FitsOwner, FitsWriting}
@@ -132,21 +132,21 @@ module _ (p : Plan) (q : IdPlan) (clients : List (List Task)) (gives : ℕ → L
   block_says w m (Empties h) after g = λ v l _. (
     tt,
     λ found v2 l2 s2 _. let f2 = far p q clients gives w v v2 l l2 in
-        way p q clients gives v2 m (found == h.last) after (TakeHome h.link (λ places. Write (Walks (record h { places = places }) found found 0) after)) s2
+        way p q clients gives v2 m (found == h.last) after (TakeHome h.link (λ places. Write (Reversing (record h { places = places }) found found 0) after)) s2
         (λ _ s'. g.2 v2 m f2 s' (again_same p q clients gives m m g.0 refl))
-        (λ _ _. λ places v3 l3 s3. writes_on w m after g.0 g.2 (Walks (record h { places = places }) found found 0) tt v3 (far p q clients gives w v2 v3 f2 l3) s3),
+        (λ _ _. λ places v3 l3 s3. writes_on w m after g.0 g.2 (Reversing (record h { places = places }) found found 0) tt v3 (far p q clients gives w v2 v3 f2 l3) s3),
   )
-  block_says w m (Walks h top at after) then_ g = (
+  block_says w m (Reversing h top at after) then_ g = (
     tt,
-    λ found v l s _. way p q clients gives v m (found == UNCONNECTED) (Write (Walks h top at after) then_)
-        (Do (ReverseNext (ticket_request at) after) (λ _. cond (found == h.last) (TakeMessage (ticket_request at) (λ heading bytes. Write (Puts (record h { last = top }) at heading bytes 0 false) then_)) (Write (Walks h top found at) then_))) s
-        (λ _ s'. writes_on w m then_ g.0 g.2 (Walks h top at after) tt v l s')
+    λ found v l s _. way p q clients gives v m (found == UNCONNECTED) (Write (Reversing h top at after) then_)
+        (Do (ReverseNext (ticket_request at) after) (λ _. cond (found == h.last) (TakeMessage (ticket_request at) (λ heading bytes. Write (Puts (record h { last = top }) at heading bytes 0 false) then_)) (Write (Reversing h top found at) then_))) s
+        (λ _ s'. writes_on w m then_ g.0 g.2 (Reversing h top at after) tt v l s')
         (λ _ _. (
           tt,
           λ _ v2 l2 s2 _. let f2 = far p q clients gives w v v2 l l2 in
-              way p q clients gives v2 m (found == h.last) (TakeMessage (ticket_request at) (λ heading bytes. Write (Puts (record h { last = top }) at heading bytes 0 false) then_)) (Write (Walks h top found at) then_) s2
+              way p q clients gives v2 m (found == h.last) (TakeMessage (ticket_request at) (λ heading bytes. Write (Puts (record h { last = top }) at heading bytes 0 false) then_)) (Write (Reversing h top found at) then_) s2
               (λ _ _. λ heading bytes v3 fits l3 s3. writes_on w m then_ g.0 g.2 (Puts (record h { last = top }) at heading bytes 0 false) fits v3 (far p q clients gives w v2 v3 f2 l3) s3)
-              (λ _ s'. writes_on w m then_ g.0 g.2 (Walks h top found at) tt v2 f2 s'),
+              (λ _ s'. writes_on w m then_ g.0 g.2 (Reversing h top found at) tt v2 f2 s'),
         )),
   )
 

@@ -4,7 +4,7 @@ use mathlib.Core.Option.{some}
 use lib.ListN.{get_elem?}
 use Rattle.sock_words.specs.declared.plain.Plan.{Plan}
 use Rattle.sock_model.specs.declared.chain.Right.{Right}
-use Rattle.sock_model.specs.declared.chain.Stage.TheVariants.{Placed, Passes, Walks}
+use Rattle.sock_model.specs.declared.chain.Stage.TheVariants.{Placed, Passes, Reversing}
 use Rattle.sock_model.specs.declared.view.View.{View}
 use Rattle.sock_model.specs.ChainStepConditions.{HasRight, MayExchange, MayEmpty, MayTurn}
 use Rattle.sock_words.specs.PackedWords.{ticket_request, ticket_generation, IDLE}
@@ -49,7 +49,7 @@ pub record MayRead (r : ℕ) (p : Plan) (v : View) : Type 0 where
   pub top : ℕ
   pub at : ℕ
   pub after : ℕ
-  pub stage : mine.right.stage ≡ Walks top at after
+  pub stage : mine.right.stage ≡ Reversing top at after
   pub request_is : ticket_request at ≡ r
 
 -- C6: the walk read the next word of this request, whose successor is value

@@ -10,5 +10,5 @@
 mod steps;
 
 pub use steps::{
-    claim_request, connect, empty_head, free_request, read_next, swap_head, turn_next, unconnect,
+    claim_request, connect, empty_head, free_request, read_next, reverse_next, swap_head, unconnect,
 };

@@ -93,7 +93,7 @@ pub fn read_next(found: u64) -> Step
 
 /// C6, store of the successor into the next word at which the walk stands, or of 0 into that of the newest request
 /// (socket.cpp, `IsWriteComplete`: `p->next = tail`). The walk ends where the last ticket that was noted came before.
-pub fn turn_next(found: u64, value: u64) -> Step
+pub fn reverse_next(found: u64, value: u64) -> Step
     ensures step { (result.found ≡ found) × (result.next ≡ value) × (result.won ≡ true) }
     ensures keeps { (r : ℕ) → KeepsRule (MayTurnTo r value) (λ p. next_index p r) found result.next (λ p v m. with_right v (turned_right m.0.mine.right m.0.top m.0.at m.0.before)) }
 {

@@ -6,7 +6,7 @@ use native.Mathlib.Decide.{ℕ_discrete}
 use Rattle.sock_model.specs.declared.chain.Entry.{Entry}
 use Rattle.sock_model.specs.Entries.{ticket, on, nth}
 use Rattle.sock_model.specs.declared.chain.Right.{Right}
-use Rattle.sock_model.specs.declared.chain.Stage.TheVariants.{Writes, Placed, Passes, Empties, Walks, Turns}
+use Rattle.sock_model.specs.declared.chain.Stage.TheVariants.{Writes, Placed, Passes, Empties, Reversing, ReversesNext}
 use Rattle.sock_model.specs.ChainTokens.{Tokens}
 use Rattle.sock_model.specs.ChainMemory.{Memory}
 use Rattle.sock_model.specs.LinkWritingState.{Counts, Connected, Waits, OnWalk, InStage, Held, Standing, absent, idle, busy}
@@ -44,7 +44,7 @@ emptied c d m t freed places r h stage same =
 
 -- C4: the head had another ticket
 begun : (c : List Entry) → Distinct ticket c → (m : Memory) (t : Tokens) (freed places : ℕ) (r r' : Right) (h : Held m t c freed places r) → r.stage ≡ Empties → nth c (length c) ≢ r.last
-    → r'.last ≡ r.last → r'.turned ≡ r.turned → r'.noted ≡ r.noted → r'.stage ≡ Walks (nth c (length c)) (nth c (length c)) 0 → Held m t c freed places r'
+    → r'.last ≡ r.last → r'.turned ≡ r.turned → r'.noted ≡ r.noted → r'.stage ≡ Reversing (nth c (length c)) (nth c (length c)) 0 → Held m t c freed places r'
 begun c d m t freed places r r' h stage ne last' turned' noted' stage' =
     let n = h.counts in let f = h.fits in
     let st : InStage m t c n freed places Empties = subst (InStage m t c n freed places) stage h.stage_is in
@@ -93,14 +93,14 @@ module _ {links requests : ℕ} {m : Memory} {t : Tokens} {log : List Entry} {fr
         relinks s k (idle (hd.here ∙ ap (λ n. some (IDLE + n)) (sym last)) rt.here done.0 done.1) (λ j jl ne. hd.else j jl ne) nx rq (λ j jl ne. rt.else j jl ne) cl lo (λ j jl ne. refl)
 
     -- C4 lost: the walk begins at the ticket found
-    pub begins_walk : (r' : Right) (w : ℕ) → r.stage ≡ Empties → m.head k ≡ some w → w ≢ r.last → r'.last ≡ r.last → r'.turned ≡ r.turned → r'.noted ≡ r.noted → r'.stage ≡ Walks w w 0
+    pub begins_walk : (r' : Right) (w : ℕ) → r.stage ≡ Empties → m.head k ≡ some w → w ≢ r.last → r'.last ≡ r.last → r'.turned ≡ r.turned → r'.noted ≡ r.noted → r'.stage ≡ Reversing w w 0
         → Same links m.head m'.head → Same requests m.next m'.next → Same requests m.request m'.request
         → Changed links t.rights t'.rights k (r' ∷ []) → Same requests t.claims t'.claims → Same requests t.loose t'.loose
         → Chains links requests m' t' log freed places
     begins_walk r' w stage found other last' turned' noted' stage' hd nx rq rt cl lo =
         let c = on k log in let h = held_of k r kl has in
         let last : w ≡ nth c (length c) = some-injective w (nth c (length c)) (sym found ∙ h.0) in
-        let walk = begun c (on_distinct s k) m t (freed k) (places k) r r' h.1 stage (λ e. other (last ∙ e)) last' turned' noted' (stage' ∙ ap (λ n. Walks n n 0) last) in
+        let walk = begun c (on_distinct s k) m t (freed k) (places k) r r' h.1 stage (λ e. other (last ∙ e)) last' turned' noted' (stage' ∙ ap (λ n. Reversing n n 0) last) in
         let walk' = held_frame m m' t t' c (freed k) (places k) _ (λ i d late g. let z = in_size s k i d g in (nx d.request z.1, lo d.request z.1)) walk in
         relinks s k (busy r' (hd k kl ∙ h.0) rt.here walk')
         (λ j jl ne. hd j jl) nx rq (λ j jl ne. rt.else j jl ne) cl lo (λ j jl ne. refl)
@@ -143,7 +143,7 @@ module _ {links requests : ℕ} {m : Memory} {t : Tokens} {log : List Entry} {fr
         hd nx rq rt cl lo (λ j jl ne. refl)
 
     -- C5 on the walk, where the next word was connected
-    pub reads_back : (r' : Right) (top at after : ℕ) → requests ≤ 65535 → r.stage ≡ Walks top at after → m.next (ticket_request at) ≢ UNCONNECTED → r'.last ≡ r.last → r'.turned ≡ r.turned → r'.noted ≡ r.noted → r'.stage ≡ Turns top at after (m.next (ticket_request at))
+    pub reads_back : (r' : Right) (top at after : ℕ) → requests ≤ 65535 → r.stage ≡ Reversing top at after → m.next (ticket_request at) ≢ UNCONNECTED → r'.last ≡ r.last → r'.turned ≡ r.turned → r'.noted ≡ r.noted → r'.stage ≡ ReversesNext top at after (m.next (ticket_request at))
         → Same links m.head m'.head → Same requests m.next m'.next → Same requests m.request m'.request
         → Changed links t.rights t'.rights k (r' ∷ []) → Same requests t.claims t'.claims → Same requests t.loose t'.loose
         → Chains links requests m' t' log freed places

@@ -6,7 +6,7 @@ use native.Mathlib.Decide.{ℕ_discrete}
 use lib.ListN.{get_elem?}
 use Rattle.sock_model.specs.declared.chain.Entry.{Entry}
 use Rattle.sock_model.specs.declared.chain.Stage.{Stage}
-use Rattle.sock_model.specs.declared.chain.Stage.TheVariants.{Writes, Placed, Passes, Empties, Walks, Turns}
+use Rattle.sock_model.specs.declared.chain.Stage.TheVariants.{Writes, Placed, Passes, Empties, Reversing, ReversesNext}
 use Rattle.sock_model.specs.declared.chain.Right.{Right}
 use Rattle.sock_model.specs.declared.chain.Claim.{Claim}
 use Rattle.sock_model.specs.Entries.{ticket, on}
@@ -29,8 +29,8 @@ writes_same : (a b : ℕ) → Writes a ≡ Writes b → a ≡ b
 writes_same a b e = cc
 
 some_places : (m : Memory) (t : Tokens) (c : List Entry) (n : Counts) (freed places : ℕ) (s : Stage) → InStage m t c n freed places s → freed ≤ places
-some_places m t c n freed places (Walks top at after) h = (let k = h.all_freed in omega arith)
-some_places m t c n freed places (Turns top at after before) h = (let k = h.0.all_freed in omega arith)
+some_places m t c n freed places (Reversing top at after) h = (let k = h.all_freed in omega arith)
+some_places m t c n freed places (ReversesNext top at after before) h = (let k = h.0.all_freed in omega arith)
 some_places m t c n freed places _ h = (let k = h.1 in omega arith)
 
 most_places : (m : Memory) (t : Tokens) (c : List Entry) (n : Counts) (freed places : ℕ) (s : Stage) → freed ≤ n.noted → InStage m t c n freed places s → places ≤ n.noted
@@ -38,8 +38,8 @@ most_places m t c n freed places (Writes now) f h = (let k = h.1 in omega arith)
 most_places m t c n freed places (Placed now) f h = (let k = h.1 in let l = h.2 in omega arith)
 most_places m t c n freed places (Passes now next) f h = (let k = h.1 in let l = h.2 in omega arith)
 most_places m t c n freed places Empties f h = (let k = h.1 in omega arith)
-most_places m t c n freed places (Walks top at after) f h = (let k = h.all_freed in omega arith)
-most_places m t c n freed places (Turns top at after before) f h = (let k = h.0.all_freed in omega arith)
+most_places m t c n freed places (Reversing top at after) f h = (let k = h.all_freed in omega arith)
+most_places m t c n freed places (ReversesNext top at after before) f h = (let k = h.0.all_freed in omega arith)
 
 module _ {links requests : ℕ} {m : Memory} {t : Tokens} {log : List Entry} {freed places : ℕ → ℕ} (s : Chains links requests m t log freed places) where
   pub freed_places : (k : ℕ) → k < links → freed k ≤ places k

@@ -11,7 +11,7 @@ use Rattle.sock_model.specs.declared.chain.Stage.{Stage}
 use Rattle.sock_model.specs.declared.chain.Right.{Right}
 use Rattle.sock_model.specs.declared.chain.Claim.{Claim}
 use Rattle.sock_model.specs.declared.chain.Loose.{Loose}
-use Rattle.sock_model.specs.declared.chain.Stage.TheVariants.{Writes, Placed, Passes, Empties, Walks, Turns}
+use Rattle.sock_model.specs.declared.chain.Stage.TheVariants.{Writes, Placed, Passes, Empties, Reversing, ReversesNext}
 use Rattle.sock_model.specs.ChainTokens.{Tokens}
 use Rattle.sock_model.specs.ChainMemory.{Memory}
 use Rattle.sock_model.specs.LinkWritingState.{Counts, loose_of, Waits, Points, OnWalk, InStage, Held, Standing, absent, idle, busy}
@@ -38,8 +38,8 @@ stage_grow m t c x n freed places (Writes now) f a b l h = (h.0, h.1, h.2, nth_s
 stage_grow m t c x n freed places (Placed now) f a b l h = (h.0, h.1, h.2, nth_snoc c x (suc freed) (let k = h.2 in omega arith) ∙ h.3)
 stage_grow m t c x n freed places (Passes now next) f a b l h = (h.0, h.1, h.2, nth_snoc c x (suc freed) (let k = h.2 in omega arith) ∙ h.3, nth_snoc c x (suc (suc freed)) (let k = h.2 in omega arith) ∙ h.4)
 stage_grow m t c x n freed places Empties f a b l h = h
-stage_grow m t c x n freed places (Walks top at after) f a b l h = walk_grow c x n freed places top at after f a b l h
-stage_grow m t c x n freed places (Turns top at after before) f a b l h = (walk_grow c x n freed places top at after f a b l h.0, λ j e q g. elim (at_snoc c x j e g) [ old o s ↦ h.1 j e q o | new o s ↦ absurd (omega arith) ])
+stage_grow m t c x n freed places (Reversing top at after) f a b l h = walk_grow c x n freed places top at after f a b l h
+stage_grow m t c x n freed places (ReversesNext top at after before) f a b l h = (walk_grow c x n freed places top at after f a b l h.0, λ j e q g. elim (at_snoc c x j e g) [ old o s ↦ h.1 j e q o | new o s ↦ absurd (omega arith) ])
 
 points_grow : (c : List Entry) (a : Entry) (n : Counts) (i : ℕ) (e : Entry) (x : ℕ) (l : List Loose) → n.noted ≤ length c → n.top ≤ length c → Points c n i e x l → Points (c ++ a ∷ []) n i e x l
 points_grow c a n i e x l b d h = record {

@@ -8,7 +8,7 @@ use Rattle.sock_model.specs.declared.chain.Entry.{Entry}
 use Rattle.sock_model.specs.Entries.{ticket, on, nth}
 use Rattle.sock_model.specs.declared.chain.Right.{Right}
 use Rattle.sock_model.specs.declared.chain.Loose.{Loose}
-use Rattle.sock_model.specs.declared.chain.Stage.TheVariants.{Writes, Walks, Turns}
+use Rattle.sock_model.specs.declared.chain.Stage.TheVariants.{Writes, Reversing, ReversesNext}
 use Rattle.sock_model.specs.ChainTokens.{Tokens}
 use Rattle.sock_model.specs.ChainMemory.{Memory}
 use Rattle.sock_model.specs.LinkWritingState.{Counts, Connected, loose_of, Waits, Points, OnWalk, InStage, Held, Standing, absent, idle, busy}
@@ -125,10 +125,10 @@ pub record Stands (m : Memory) (t : Tokens) (c : List Entry) (n : Counts) (freed
   pub before_is : before ≡ entry.before
   pub still : t.loose entry.request ≡ []
 
-stands : (m : Memory) (t : Tokens) (c : List Entry) (freed places : ℕ) (r : Right) (h : Held m t c freed places r) (top at after before : ℕ) → r.stage ≡ Turns top at after before → Stands m t c h.counts freed places top at after before
+stands : (m : Memory) (t : Tokens) (c : List Entry) (freed places : ℕ) (r : Right) (h : Held m t c freed places r) (top at after before : ℕ) → r.stage ≡ ReversesNext top at after before → Stands m t c h.counts freed places top at after before
 stands m t c freed places r h top at after before stage =
     let n = h.counts in let f = h.fits in
-    let st : InStage m t c n freed places (Turns top at after before) = subst (InStage m t c n freed places) stage h.stage_is in
+    let st : InStage m t c n freed places (ReversesNext top at after before) = subst (InStage m t c n freed places) stage h.stage_is in
     let wk : OnWalk c n freed places top at after = st.0 in let sl = wk.some_left in let af = wk.all_freed in
     let j : ℕ = n.left - 1 in let is : suc (n.left - 1) ≡ n.left = omega arith in
     let a = nth_some c (n.left - 1) (omega arith) in let k = st.1 (n.left - 1) a.0 is a.1 in record {
@@ -144,7 +144,7 @@ stands m t c freed places r h top at after before stage =
     }
 
 module _ {links requests : ℕ} {m : Memory} {t : Tokens} {log : List Entry} {freed places : ℕ → ℕ} (s : Chains links requests m t log freed places) where
-  module _ (m' : Memory) (t' : Tokens) (k : ℕ) (r : Right) (kl : k < links) (has : t.rights k ≡ r ∷ []) (narrow : requests ≤ 65535) (top at after before : ℕ) (stage : r.stage ≡ Turns top at after before)
+  module _ (m' : Memory) (t' : Tokens) (k : ℕ) (r : Right) (kl : k < links) (has : t.rights k ≡ r ∷ []) (narrow : requests ≤ 65535) (top at after before : ℕ) (stage : r.stage ≡ ReversesNext top at after before)
       (hd : Same links m.head m'.head) (nx : Changed requests m.next m'.next (ticket_request at) after) (rq : Same requests m.request m'.request)
       (cl : Same requests t.claims t'.claims) (lo : Same requests t.loose t'.loose) where
     held : Held m t (on k log) (freed k) (places k) r
@@ -177,7 +177,7 @@ module _ {links requests : ℕ} {m : Memory} {t : Tokens} {log : List Entry} {fr
     }
 
     -- the walk goes on
-    pub turns_on : (r' : Right) → before ≢ r.last → r'.last ≡ r.last → r'.turned ≡ suc r.turned → r'.noted ≡ r.noted → r'.stage ≡ Walks top before at → Changed links t.rights t'.rights k (r' ∷ []) → Chains links requests m' t' log freed places
+    pub turns_on : (r' : Right) → before ≢ r.last → r'.last ≡ r.last → r'.turned ≡ suc r.turned → r'.noted ≡ r.noted → r'.stage ≡ Reversing top before at → Changed links t.rights t'.rights k (r' ∷ []) → Chains links requests m' t' log freed places
     turns_on r' on_it last' turned' noted' stage' rt =
         let c = on k log in let n = held.counts in let f = held.fits in let j = here.place in let is = here.left_is in let wk = here.walk in let fr = wk.all_freed in let sl = wk.some_left in
         let back : before ≡ nth c j = here.before_is ∙ s.chained k j here.entry here.here in
@@ -235,7 +235,7 @@ module _ {links requests : ℕ} {m : Memory} {t : Tokens} {log : List Entry} {fr
 
 -- the next word that the walk turns is one of an entry's request
 pub turn_slot : {links requests : ℕ} {m : Memory} {t : Tokens} {log : List Entry} {freed places : ℕ → ℕ} (s : Chains links requests m t log freed places) (k : ℕ) (r : Right) → k < links → t.rights k ≡ r ∷ [] → requests ≤ 65535
-    → (top at after before : ℕ) → r.stage ≡ Turns top at after before
+    → (top at after before : ℕ) → r.stage ≡ ReversesNext top at after before
     → (i : ℕ) × (e : Entry) × (freed k ≤ i) × (get_elem? (on k log) i ≡ some e) × (ticket_request at ≡ e.request) × (ticket_request at < requests)
 turn_slot {m = m} {t = t} {log = log} {freed = freed} {places = places} s k r kl has narrow top at after before stage =
     let h = (held_of s k r kl has).1 in let x = stands m t (on k log) (freed k) (places k) r h top at after before stage in

@@ -10,7 +10,7 @@ use Rattle.sock_model.specs.declared.chain.Stage.{Stage}
 use Rattle.sock_model.specs.declared.chain.Right.{Right}
 use Rattle.sock_model.specs.declared.chain.Claim.{Claim}
 use Rattle.sock_model.specs.declared.chain.Loose.{Loose}
-use Rattle.sock_model.specs.declared.chain.Stage.TheVariants.{Turns}
+use Rattle.sock_model.specs.declared.chain.Stage.TheVariants.{ReversesNext}
 use Rattle.sock_model.specs.ChainTokens.{Tokens}
 use Rattle.sock_model.specs.ChainMemory.{Memory}
 use Rattle.sock_model.specs.LinkWritingState.{Counts, Points, OnWalk, InStage, Held, Standing, absent, idle, busy}
@@ -43,7 +43,7 @@ module _ (m m' : Memory) (t t' : Tokens) where
   AgreeStill c freed = (i : ℕ) (e : Entry) → freed ≤ i → get_elem? c i ≡ some e → t.loose e.request ≡ [] → (m'.next e.request ≡ m.next e.request) × (t'.loose e.request ≡ t.loose e.request)
 
   pub stage_frame : (c : List Entry) (n : Counts) (freed places : ℕ) (s : Stage) → AgreeStill c freed → InStage m t c n freed places s → InStage m' t' c n freed places s
-  stage_frame c n freed places (Turns top at after before) a h = (
+  stage_frame c n freed places (ReversesNext top at after before) a h = (
     h.0,
     λ j e q g. let w : OnWalk c n freed places top at after = h.0 in let b = w.some_left in let f = w.all_freed in
         let k = h.1 j e q g in let p = a j e (omega arith) g k.1.1 in (k.0, (p.0 ∙ k.1.0, p.1 ∙ k.1.1)),

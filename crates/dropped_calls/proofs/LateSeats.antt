@@ -71,11 +71,11 @@ by_rights P R v (r ∷ rs) f e same each = each r e.0
 module _ (P : View → Type 0) (v : View) (same : P v) (r : Right) (rights : (s : Right) → s.link ≡ r.link → P (with_right v s)) where
   reads : (found : ℕ) (stage : Stage) → P (read_next found v r stage)
   reads found (stages.Placed now) = rights (settled (record r { stage = stages.Passes now found })) refl
-  reads found (stages.Walks top at after) = either_way (found == UNCONNECTED) v (with_right v (record r { stage = stages.Turns top at after found })) P same (rights (record r { stage = stages.Turns top at after found }) refl)
+  reads found (stages.Reversing top at after) = either_way (found == UNCONNECTED) v (with_right v (record r { stage = stages.ReversesNext top at after found })) P same (rights (record r { stage = stages.ReversesNext top at after found }) refl)
   reads found _ = same
 
   turns : (stage : Stage) → P (turned_next v r stage)
-  turns (stages.Turns top at after before) = rights (turned_right r top at before) (either_way (before == r.last) _ _ (λ (s : Right). s.link ≡ r.link) refl refl)
+  turns (stages.ReversesNext top at after before) = rights (turned_right r top at before) (either_way (before == r.last) _ _ (λ (s : Right). s.link ≡ r.link) refl refl)
   turns _ = same
 
   places : (stage : Stage) → P (placed_next v r stage)
@@ -116,8 +116,8 @@ module _ (p : Plan) (v : View) (found : ℕ) (hand : Hand) where
     rights_keep (LookWord id) no_ = by_rights Q R (looked (socket_id_slot id) found v) v.rights (looked_clean (socket_id_slot id) found v) e e
         (λ r own. either_way (vref_version found % 2 == 0) (with_right (looked (socket_id_slot id) found v) (record r { clean = true })) (looked (socket_id_slot id) found v) Q (kept r own (record r { clean = true }) refl) e)
     rights_keep (SwapHead i own) no_ = absurd no_
-    rights_keep (EmptyHead i last) no_ = by_rights Q R v v.rights (emptied last found v) e e (λ r own. either_way (found == last) (without_right v r.link) (with_right v (record r { stage = stages.Walks found found 0 })) Q
-        (filtered R (λ (x : Right). not (x.link == r.link)) v.rights e) (kept r own (record r { stage = stages.Walks found found 0 }) refl))
+    rights_keep (EmptyHead i last) no_ = by_rights Q R v v.rights (emptied last found v) e e (λ r own. either_way (found == last) (without_right v r.link) (with_right v (record r { stage = stages.Reversing found found 0 })) Q
+        (filtered R (λ (x : Right). not (x.link == r.link)) v.rights e) (kept r own (record r { stage = stages.Reversing found found 0 }) refl))
     rights_keep (ReadNext q) no_ = by_rights Q R v v.rights (λ r. read_next found v r r.stage) e e (λ r own. reads Q v e r (kept r own) found r.stage)
     rights_keep (ReverseNext q value) no_ = by_rights Q R v v.rights (λ r. turned_next v r r.stage) e e (λ r own. turns Q v e r (kept r own) r.stage)
     rights_keep (FreeRequest q g) no_ = by_rights Q R v v.rights (freed_next v) e e (λ r own. kept r own (record r { stage = freed_stage r.stage }) refl)
@@ -206,7 +206,7 @@ module _ (p : Plan) (L : ℕ → Type 0) (Old : ℕ → ℕ → Type 0) where
         own : Righted L (r ∷ [])
         own = subst (Righted L) may.1.1 s.rights
 
-        by_hit : (b : Bool) → Stands (cond b Idle Writes) (cond b (without_right v r.link) (with_right v (record r { stage = stages.Walks found found 0 })))
+        by_hit : (b : Bool) → Stands (cond b Idle Writes) (cond b (without_right v r.link) (with_right v (record r { stage = stages.Reversing found found 0 })))
         by_hit true = record { claims = s.claims; rights = subst (λ rs. Righted Never (filter (λ (x : Right). not (x.link == r.link)) rs)) (sym may.1.1) (single r); new = tt }
         by_hit false = record { claims = s.claims; rights = (own.0, filtered L (λ (x : Right). not (x.link == r.link)) v.rights s.rights); new = tt }
 

@@ -24,7 +24,7 @@ use Rattle.seat_programs.specs.Asides.{PutCall, MakeId, StoreCall, StoreAt}
 use Rattle.seat_programs.specs.LoopHeads.{Retry, Unlocks, Joins, Unlocking, IsOpen, HasNext, Deciding, HasEnded, GoesOn, Locking, NotThere, Has}
 use Rattle.seat_programs.specs.Programs.{Program, Do, Say, TakeMessage, TakeHome, PutBytes, Write, Aside, Round, LAST_VERSION, LAST_GENERATION, recycle, release, add_reference, set_failed}
 use Rattle.seat_programs.specs.PostPrograms.{post, post_with, posted, decided}
-use Rattle.seat_programs.specs.Writings.{Holder, Writing, Puts, Waits, Empties, Walks}
+use Rattle.seat_programs.specs.Writings.{Holder, Writing, Puts, Waits, Empties, Reversing}
 use Rattle.seat_programs.specs.SendAndWritePrograms.{freed, one_more, passed_telling, tell_drop, placed, dropped, put_answered, ready_answered, block, accept, write_link}
 use Rattle.seat_programs.specs.CallAndRetryPrograms.{claims_from, heading_for, attempt, begin_call, claim_id, call, tried_again, retry_locked, retry, expire_outcome, expire, join}
 use Rattle.seat_programs.specs.Explained.{AskedFits}
@@ -97,11 +97,11 @@ module _ (p : Plan) (q : IdPlan) (narrow : q.slots ≤ 65536) where
       ready_goes asks.Now = g
       ready_goes asks.NotYet = g
       ready_goes asks.Failed = set_failed_goes u h.id 1009 (omega arith) (λ _. Write (Puts h now heading left taken false) after) (λ _. g)
-  block_goes u (Empties h) after g = λ found _. way p q u (found == h.last) after (TakeHome h.link (λ places. Write (Walks (record h { places = places }) found found 0) after)) (λ _. g.2 u g.0) (λ _. λ places. g)
-  block_goes u (Walks h top at after) then_ g = λ found _. way p q u (found == UNCONNECTED) (Write (Walks h top at after) then_)
-      (Do (Rattle.seat_programs.specs.TableSteps.ReverseNext (ticket_request at) after) (λ _. cond (found == h.last) (TakeMessage (ticket_request at) (λ heading bytes. Write (Puts (record h { last = top }) at heading bytes 0 false) then_)) (Write (Walks h top found at) then_)))
+  block_goes u (Empties h) after g = λ found _. way p q u (found == h.last) after (TakeHome h.link (λ places. Write (Reversing (record h { places = places }) found found 0) after)) (λ _. g.2 u g.0) (λ _. λ places. g)
+  block_goes u (Reversing h top at after) then_ g = λ found _. way p q u (found == UNCONNECTED) (Write (Reversing h top at after) then_)
+      (Do (Rattle.seat_programs.specs.TableSteps.ReverseNext (ticket_request at) after) (λ _. cond (found == h.last) (TakeMessage (ticket_request at) (λ heading bytes. Write (Puts (record h { last = top }) at heading bytes 0 false) then_)) (Write (Reversing h top found at) then_)))
       (λ _. g)
-      (λ _. λ _ _. way p q u (found == h.last) (TakeMessage (ticket_request at) (λ heading bytes. Write (Puts (record h { last = top }) at heading bytes 0 false) then_)) (Write (Walks h top found at) then_) (λ _. λ heading bytes owner. (g.0, owner, g.2)) (λ _. g))
+      (λ _. λ _ _. way p q u (found == h.last) (TakeMessage (ticket_request at) (λ heading bytes. Write (Puts (record h { last = top }) at heading bytes 0 false) then_)) (Write (Reversing h top found at) then_) (λ _. λ heading bytes owner. (g.0, owner, g.2)) (λ _. g))
 
   -- ## Attempts
 

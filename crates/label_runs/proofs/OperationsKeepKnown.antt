@@ -26,7 +26,7 @@ use Rattle.seat_programs.specs.PostPrograms.{post_with, posted, post, decided}
 use Rattle.seat_programs.specs.Programs.{Program, Do, Say, Sent, Rest, TakeMessage, TakeHome, PutHome, PutBytes, AskReady, Write, Round, Retries, LAST_VERSION, LAST_GENERATION, recycle, release, add_reference, find_socket, set_failed, make_socket, open_from, fail_outcome, fail}
 use Rattle.seat_programs.specs.ReaderProgram.{kept_for, ends_with, posted_last, post_each, thrown_away, read, reader, LIMIT}
 use Rattle.seat_programs.specs.SendAndWritePrograms.{freed as given_back, one_more, passed_telling, tell_drop, placed, dropped, put_answered, ready_answered, block, first_put, accept, write_link, heading_of, claim_from, start, send}
-use Rattle.seat_programs.specs.Writings.{Holder, Writing, Puts, Waits, Empties, Walks}
+use Rattle.seat_programs.specs.Writings.{Holder, Writing, Puts, Waits, Empties, Reversing}
 use Rattle.label_runs.specs.AttemptLabelsLeft.{LeavesLabel}
 use Rattle.label_runs.proofs.LoopsOfKnownSeats.{Tracks, way, gives_up, post_with_goes, posted_goes, post_goes, decide_goes, decided_goes, answer_goes}
 
@@ -94,13 +94,13 @@ module _ {K : Type 0} {lost : K} {unlocked_behind : ℕ → ℕ → Bool → K �
       (λ _. g.passes lost (PutBytes h.link asked (part heading.parts left taken) (put_answered h now heading left taken after)) (put_goes h now heading left taken after goes))
       (λ _. g.step lost (LoadCode (socket_id_slot h.id) (socket_id_version h.id)) _ refl (λ code. g.step lost (DropPlace heading.label.place h.link h.places) _ refl (λ _. passed_goes (one_more h) now (tell_drop heading code) after (λ x goes. tell_goes heading code x goes) goes))))
   block_goes t (Waits h now heading left taken) after goes = g.passes t (AskReady h.link (ready_answered h now heading left taken after)) (ready_goes h now heading left taken after goes)
-  block_goes t (Empties h) after goes = g.passes t (PutHome h.link h.places _) (g.step lost (EmptyHead (socket_id_slot h.id) h.last) _ refl (λ found. way g lost (found == h.last) after (TakeHome h.link (λ places. Write (Walks (record h { places = places }) found found 0) after))
-      (λ _. goes) (λ _. g.passes lost (TakeHome h.link _) (λ places. g.passes lost (Write (Walks (record h { places = places }) found found 0) after) goes))))
-  block_goes t (Walks h top at after) then_ goes = g.looks t (ReadNext (ticket_request at)) _ refl (λ found. way g lost (found == UNCONNECTED) (Write (Walks h top at after) then_)
-      (Do (ReverseNext (ticket_request at) after) (λ _. cond (found == h.last) (TakeMessage (ticket_request at) (λ heading bytes. Write (Puts (record h { last = top }) at heading bytes 0 false) then_)) (Write (Walks h top found at) then_)))
-      (λ _. g.passes lost (Write (Walks h top at after) then_) goes)
-      (λ _. g.step lost (ReverseNext (ticket_request at) after) _ refl (λ _. way g lost (found == h.last) (TakeMessage (ticket_request at) (λ heading bytes. Write (Puts (record h { last = top }) at heading bytes 0 false) then_)) (Write (Walks h top found at) then_)
-      (λ _. g.passes lost (TakeMessage (ticket_request at) _) (λ heading bytes. g.passes lost (Write (Puts (record h { last = top }) at heading bytes 0 false) then_) goes)) (λ _. g.passes lost (Write (Walks h top found at) then_) goes))))
+  block_goes t (Empties h) after goes = g.passes t (PutHome h.link h.places _) (g.step lost (EmptyHead (socket_id_slot h.id) h.last) _ refl (λ found. way g lost (found == h.last) after (TakeHome h.link (λ places. Write (Reversing (record h { places = places }) found found 0) after))
+      (λ _. goes) (λ _. g.passes lost (TakeHome h.link _) (λ places. g.passes lost (Write (Reversing (record h { places = places }) found found 0) after) goes))))
+  block_goes t (Reversing h top at after) then_ goes = g.looks t (ReadNext (ticket_request at)) _ refl (λ found. way g lost (found == UNCONNECTED) (Write (Reversing h top at after) then_)
+      (Do (ReverseNext (ticket_request at) after) (λ _. cond (found == h.last) (TakeMessage (ticket_request at) (λ heading bytes. Write (Puts (record h { last = top }) at heading bytes 0 false) then_)) (Write (Reversing h top found at) then_)))
+      (λ _. g.passes lost (Write (Reversing h top at after) then_) goes)
+      (λ _. g.step lost (ReverseNext (ticket_request at) after) _ refl (λ _. way g lost (found == h.last) (TakeMessage (ticket_request at) (λ heading bytes. Write (Puts (record h { last = top }) at heading bytes 0 false) then_)) (Write (Reversing h top found at) then_)
+      (λ _. g.passes lost (TakeMessage (ticket_request at) _) (λ heading bytes. g.passes lost (Write (Puts (record h { last = top }) at heading bytes 0 false) then_) goes)) (λ _. g.passes lost (Write (Reversing h top found at) then_) goes))))
 
   first_goes : (h : Holder) (now : ℕ) (heading : Heading) (bytes : List ℕ) (after : Program) → G lost after → G lost (first_put h now heading bytes after)
   first_goes h now heading bytes after goes = g.step lost (LookWord h.id) _ refl (λ found.

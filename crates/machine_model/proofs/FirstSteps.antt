@@ -13,7 +13,7 @@ use Rattle.seat_programs.specs.Asides as asides
 use Rattle.seat_programs.specs.Asides.{Found}
 use Rattle.seat_programs.specs.FoundAndChangedAside.{found_in, calls_after}
 use Rattle.seat_programs.specs.LoopHeads.{Posts, Unlocks, Decides, Locks, Joins, Opens, Reads, Discards}
-use Rattle.seat_programs.specs.Writings.{Puts, Waits, Empties, Walks}
+use Rattle.seat_programs.specs.Writings.{Puts, Waits, Empties, Reversing}
 use Rattle.seat_programs.specs.Programs.{Program, Do, TakeMessage, TakeHome, PutHome, PutBytes, AskReady, Write, Aside, Round}
 use Rattle.seat_programs.specs.Cores.{Core, SeatState, found_at, words_after, homes_after, hand_after, lies_at, first_of, others_of, link_place, with_seat}
 use Rattle.seat_programs.specs.StepTables.{word_of, word_after}
@@ -190,7 +190,7 @@ answers_first (AskReady k next) first answer e a = subst (λ (f : First). Answer
 answers_first (Aside step next) first answer e a = answers_aside step next answer (subst (λ (f : First). AnswersFirst f answer) (sym (same_some e)) a)
 answers_first (Write (Waits h now heading left taken) after) first answer e a = subst (λ (f : First). AnswersFirst f answer) (sym (same_some e)) a
 answers_first (Write (Puts h now heading left taken asked) after) first answer e a = tt
-answers_first (Write (Walks h top place after) then_) first answer e a = tt
+answers_first (Write (Reversing h top place after) then_) first answer e a = tt
 answers_first (Write (Empties h) after) first answer e a = tt
 answers_first (Round (Reads r) next) first answer e a = subst (λ (f : First). AnswersFirst f answer) (sym (same_some e)) a
 answers_first (Round (Discards k total) next) first answer e a = subst (λ (f : First). AnswersFirst f answer) (sym (same_some e)) a

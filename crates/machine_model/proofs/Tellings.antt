@@ -89,7 +89,7 @@ module _ (p : Plan) (c : Core) where
   waits_is (Write (heads.Puts h now heading left taken asked) after) = (refl, λ puts. absurd puts)
   waits_is (Write (heads.Waits h now heading left taken) after) = tt
   waits_is (Write (heads.Empties h) after) = refl
-  waits_is (Write (heads.Walks h top at after) then_) = (refl, λ puts. absurd puts)
+  waits_is (Write (heads.Reversing h top at after) then_) = (refl, λ puts. absurd puts)
   waits_is (Round (Posts id e w) next) = λ found h. refl
   waits_is (Round (Unlocks i w advance) next) = λ found h. refl
   waits_is (Round (Decides id asked w e) next) = elim (ends_call (parts w) e) as (λ (ends : Bool). WaitsIs (first_of (if ends then end_id (id_slot id) (next (HasEnded asked.operation (code_of e))) else Aside (PutCall (id_slot id) asked) (λ _. Round (Unlocks (id_slot id) w true) (unlocked (record { id = id; attempt = (parts w).attempt + 1 }) next)))) (Round (Decides id asked w e) next)) [ true ↦ (λ found h. refl) | false ↦ (λ found h. refl) ]

@@ -93,7 +93,7 @@ sought_id i (First first) = call_id i first
 sought_id i (Version version) = call_id i version
 
 abbrev pub IsWaitingFor : Program → On → Type 0
-IsWaitingFor (Write (heads.Walks h top at after) then_) (on.Next ticket) = at ≡ ticket
+IsWaitingFor (Write (heads.Reversing h top at after) then_) (on.Next ticket) = at ≡ ticket
 IsWaitingFor (Write (heads.Waits h now heading left taken) then_) (on.Out k) = h.link ≡ k
 IsWaitingFor (Round (Locks i sought w) next) (on.Id id) = sought_id i sought ≡ id
 IsWaitingFor (Round (Joins id) next) (on.Id other) = id ≡ other

@@ -24,7 +24,7 @@ is_waiting t answer program = waits_at t.plan (record { words = t.words; homes =
 
 -- whether a seat waits whose step found this word
 abbrev pub waits_by : Program → ℕ → Bool
-waits_by (Write (heads.Walks h top at after) then_) found = found == UNCONNECTED
+waits_by (Write (heads.Reversing h top at after) then_) found = found == UNCONNECTED
 waits_by (Round (Locks i sought None) next) found = let w = parts found in is_sought sought w && not (w.state == 1)
 waits_by (Round (Joins id) next) found = is_first (id_first id) (parts found)
 waits_by (Round (Opens o) next) found = found == 0

@@ -66,7 +66,7 @@ writer_prop : (l : LinksData) (j : ℕ) (program : Program) → IsProp (IsWriter
 writer_prop l j (Write (heads.Puts h now heading left taken asked) after) = hlevel props
 writer_prop l j (Write (heads.Waits h now heading left taken) after) = hlevel props
 writer_prop l j (Write (heads.Empties h) after) = hlevel props
-writer_prop l j (Write (heads.Walks h top at after) then_) = hlevel props
+writer_prop l j (Write (heads.Reversing h top at after) then_) = hlevel props
 writer_prop l j (PutBytes k asked bytes next) = hlevel props
 writer_prop l j _ = hlevel props
 
@@ -93,7 +93,7 @@ module _ (m : MachineState) (sized : IsSized (table_of m)) (s : IsSoundMachine m
     writer_by (Write (heads.Waits h now heading left taken) after) goes = let r = goes.0.0 in let w = goes.0.1 in
         holds h.link (asked_there h.link (λ answer. Write (heads.Waits h now heading left taken) after) ((r, (w.one, w.link, w.away, w.hands)), λ answer. goes))
     writer_by (Write (heads.Empties h) after) goes = tt
-    writer_by (Write (heads.Walks h top place after) then_) goes = tt
+    writer_by (Write (heads.Reversing h top place after) then_) goes = tt
     writer_by (PutBytes k asked bytes next) goes = holds k (asked_there k (λ answer. PutBytes k asked bytes next) ((goes.0.0, goes.0.1), λ answer. goes))
     writer_by _ goes = tt
 
@@ -105,7 +105,7 @@ still_paced : (l : LinksData) (j : ℕ) (outs : List OutState) (k : ℕ) → hol
 still_paced l j outs k differ kept (Write (heads.Puts h now heading left taken asked) after) writer paced = λ e out at. paced e out (sym (kept h.link (λ q. differ (ap (holder_of l) (sym q) ∙ writer))) ∙ at)
 still_paced l j outs k differ kept (Write (heads.Waits h now heading left taken) after) writer paced = λ out at. paced out (sym (kept h.link (λ q. differ (ap (holder_of l) (sym q) ∙ writer))) ∙ at)
 still_paced l j outs k differ kept (Write (heads.Empties h) after) writer paced = tt
-still_paced l j outs k differ kept (Write (heads.Walks h top place after) then_) writer paced = tt
+still_paced l j outs k differ kept (Write (heads.Reversing h top place after) then_) writer paced = tt
 still_paced l j outs k differ kept (PutBytes x asked bytes next) writer paced = λ e out at. paced e out (sym (kept x (λ q. differ (ap (holder_of l) (sym q) ∙ writer))) ∙ at)
 still_paced l j outs k differ kept _ writer paced = tt
 

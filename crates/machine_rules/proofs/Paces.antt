@@ -76,7 +76,7 @@ pub calm_paced : (outs : List OutState) (program : Program) → IsCalm program �
 calm_paced outs (Write (heads.Puts h now heading left taken asked) after) calm = λ e. absurd (true≢false (sym e ∙ calm))
 calm_paced outs (Write (heads.Waits h now heading left taken) after) calm = absurd calm
 calm_paced outs (Write (heads.Empties h) after) calm = tt
-calm_paced outs (Write (heads.Walks h top at after) then_) calm = tt
+calm_paced outs (Write (heads.Reversing h top at after) then_) calm = tt
 calm_paced outs (PutBytes k asked bytes next) calm = λ e. absurd (true≢false (sym e ∙ calm))
 calm_paced outs _ calm = tt
 
@@ -287,8 +287,8 @@ module _ (a : Context) (on : (hs : List HeldLife) → Calm (a.goes_on hs)) (ends
   step_calm (points.Write w (writes.ReadNext now c)) = inl (λ found. freed_calm now.0 _ (told_calm c _ (λ _. tt)))
   step_calm (points.Write w (writes.Free now next c)) = inl (λ found. told_calm c (freed_program a w next) (written_calm w next))
   step_calm (points.Write w writes.EmptyHead) = inl (λ found. either_way (found == w.holder.last.0) _ _ Calm (λ _. tt) (λ _. tt))
-  step_calm (points.Write w (writes.Walk top at after)) = inl (λ found. either_way (found == UNCONNECTED) _ _ Calm (λ _. tt) (λ _. tt))
-  step_calm (points.Write w (writes.Turn top at after before)) = inl (λ found. either_way (before.0 == w.holder.last.0) _ _ Calm (λ _. tt) (λ _. tt))
+  step_calm (points.Write w (writes.Reversing top at after)) = inl (λ found. either_way (found == UNCONNECTED) _ _ Calm (λ _. tt) (λ _. tt))
+  step_calm (points.Write w (writes.ReverseNext top at after before)) = inl (λ found. either_way (before.0 == w.holder.last.0) _ _ Calm (λ _. tt) (λ _. tt))
   step_calm (points.Write w at) = inl (λ goes. goes)
   step_calm (points.Call begins.LoadName) = inl (λ found. either_way (found == 0) _ _ Calm (on a.held) (ids_calm a.sizes.ids 0 a.sizes.requests (found - 1) a.asked (client_on a) (on a.held)))
   step_calm (points.Call (begins.ClaimId i socket)) = inl (λ found. either_way (found == 0) _ _ Calm (λ w. tt) (ids_calm (a.sizes.ids - (i + 1)) (i + 1) a.sizes.requests socket.0 a.asked (client_on a) (on a.held)))

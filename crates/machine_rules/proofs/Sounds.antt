@@ -146,7 +146,7 @@ aside_next : (program : Program) (step : asides.Step) → first_in program ≡ S
 aside_next (Write (heads.Puts h now heading left taken asked) after) step e = absurd (cc)
 aside_next (Write (heads.Waits h now heading left taken) after) step e = absurd (cc)
 aside_next (Write (heads.Empties h) after) step e = absurd (cc)
-aside_next (Write (heads.Walks h top at after) then_) step e = absurd (cc)
+aside_next (Write (heads.Reversing h top at after) then_) step e = absurd (cc)
 aside_next (Round head next) step e = aside_is (round head next) step e
 aside_next (Aside own next) step e = aside_is (Aside own next) step e
 aside_next _ step e = absurd (cc)

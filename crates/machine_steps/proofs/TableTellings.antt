@@ -72,7 +72,7 @@ pub still_aside : (t : TableState) (program : Program) (step : asides.Step) → 
 still_aside t program step first h = still program (subst MovesFirst (sym first) h)
   where
     still : (x : Program) → MovesFirst (first_in x) → is_waiting t Unasked x ≡ false
-    still (Write (heads.Walks h top at after) then_) m = absurd m
+    still (Write (heads.Reversing h top at after) then_) m = absurd m
     still (Round (Locks i sought None) next) m = absurd m
     still (Round (Joins id) next) m = absurd m
     still (Round (Opens o) next) m = absurd m

@@ -30,7 +30,7 @@ pub fn awaited(point: &Point, found: u64) -> Option<On>
     let word = IdWord(found);
     match *point {
         Point::Write(_, step) => match step {
-            WriteStep::Walk(_, at, _) => {
+            WriteStep::Reversing(_, at, _) => {
                 if found == UNCONNECTED {
                     Some(On::Next(at.0))
                 } else {

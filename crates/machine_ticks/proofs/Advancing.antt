@@ -70,7 +70,7 @@ module _ (m : MachineState) (took : Taken) (gave : Given) where
 
   pub waits_alike : (program : Program) (answer : Answer) → waits_at m.plan (core_with m took gave) answer program ≡ is_waiting (table_of m) answer program
   waits_alike (Round head next) answer = head_waits head next answer
-  waits_alike (Write (heads.Walks h top at after) then_) answer = refl
+  waits_alike (Write (heads.Reversing h top at after) then_) answer = refl
   waits_alike (Write (heads.Puts h now heading left taken asked) after) answer = refl
   waits_alike (Write (heads.Empties h) after) answer = refl
   waits_alike (Write (heads.Waits h now heading left taken) after) Unasked = refl

@@ -113,7 +113,7 @@ is_paced_prop outs (Write (heads.Puts h now heading left taken asked) after) = h
 is_paced_prop outs (Write (heads.Waits h now heading left taken) after) = hlevel props
 is_paced_prop outs (PutBytes k asked bytes next) = hlevel props
 is_paced_prop outs (Write (heads.Empties h) after) = hlevel props
-is_paced_prop outs (Write (heads.Walks h top at after) then_) = hlevel props
+is_paced_prop outs (Write (heads.Reversing h top at after) then_) = hlevel props
 is_paced_prop outs _ = hlevel props
 
 pub paced_prop : (sizes : Sizes) (l : LinksData) (seats : List SeatData) → IsProp (ArePaced sizes l seats)

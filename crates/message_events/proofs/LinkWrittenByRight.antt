@@ -148,13 +148,13 @@ module _ (p : Plan) (c : Core) (views : List View) (o : Lawful (λ (home : Home)
         subst (λ (w : View). Keeps w (of_right r)) (sym (ap (λ rs. by_right rs (looked_clean (socket_id_slot id) found v) (looked (socket_id_slot id) found v)) one))
         (keeps_either _ _ _ (of_right r) (keeps_with u (record r { clean = true }) (of_right r) one refl refl refl) (keeps_view u one refl))
 
-    pub reads_keeps : (q found : ℕ) (hand : Hand) → ((now : ℕ) × (r.stage ≡ stages.Placed now)) ⊎ ((top : ℕ) × (a : ℕ) × (after : ℕ) × (r.stage ≡ stages.Walks top a after)) → Keeps (row p (ReadNext q) found hand v) (of_right r)
+    pub reads_keeps : (q found : ℕ) (hand : Hand) → ((now : ℕ) × (r.stage ≡ stages.Placed now)) ⊎ ((top : ℕ) × (a : ℕ) × (after : ℕ) × (r.stage ≡ stages.Reversing top a after)) → Keeps (row p (ReadNext q) found hand v) (of_right r)
     reads_keeps q found hand stage = subst (λ (w : View). Keeps w (of_right r)) (sym (ap (λ rs. by_right rs (λ r. read_next found v r r.stage) v) one)) (⊎_elim
         (λ s. subst (λ (w : View). Keeps w (of_right r)) (sym (ap (read_next found v r) s.1)) (keeps_with v (settled (record r { stage = stages.Passes s.0 found })) (of_right r) one refl refl refl))
-        (λ s. subst (λ (w : View). Keeps w (of_right r)) (sym (ap (read_next found v r) s.3)) (keeps_either _ _ _ (of_right r) (keeps_view v one refl) (keeps_with v (record r { stage = stages.Turns s.0 s.1 s.2 found }) (of_right r) one refl refl refl)))
+        (λ s. subst (λ (w : View). Keeps w (of_right r)) (sym (ap (read_next found v r) s.3)) (keeps_either _ _ _ (of_right r) (keeps_view v one refl) (keeps_with v (record r { stage = stages.ReversesNext s.0 s.1 s.2 found }) (of_right r) one refl refl refl)))
         stage)
 
-    pub turns_keeps : (q value found top a before : ℕ) (hand : Hand) → r.stage ≡ stages.Turns top a value before → Keeps (row p (ReverseNext q value) found hand v) (of_right r)
+    pub turns_keeps : (q value found top a before : ℕ) (hand : Hand) → r.stage ≡ stages.ReversesNext top a value before → Keeps (row p (ReverseNext q value) found hand v) (of_right r)
     turns_keeps q value found top a before hand stage = subst (λ (w : View). Keeps w (of_right r)) (sym (ap (λ rs. by_right rs (λ r. turned_next v r r.stage) v) one ∙ ap (turned_next v r) stage))
         (keeps_with v (turned_right r top a before) (of_right r) one refl (link_either (eqb before r.last) _ _ r.link refl refl) (of_either (eqb before r.last) _ _ (of_right r) refl refl))
 

@@ -11,7 +11,7 @@ use Rattle.seat_programs.specs.declared.task.Op.{Op}
 use Rattle.seat_programs.specs.declared.task.Op.TheVariants as ops
 use Rattle.seat_programs.specs.declared.task.Task.{Task}
 use Rattle.seat_programs.specs.TableSteps.{TableStep, LookWord, ReadNext}
-use Rattle.seat_programs.specs.Writings.{Puts, Waits, Empties, Walks}
+use Rattle.seat_programs.specs.Writings.{Puts, Waits, Empties, Reversing}
 use Rattle.seat_programs.specs.Programs.{Program, Do, Write, Aside, Round}
 use Rattle.seat_programs.specs.corr_core.specs.IdSlotWord.{parts, code_of}
 use Rattle.seat_programs.specs.corr_core.specs.EndedByRangeOrAttempt.{ends_call}
@@ -62,7 +62,7 @@ call_is (Do c n) call next is e = let q : c ≡ call = cc in ap (λ x. Some x) q
 call_is (Write (Puts h now heading left taken asked) after) call next is e = let q : LookWord h.id ≡ call = cc in ap (λ x. Some x) q
 call_is (Write (Waits h now heading left taken) after) call next is e = absurd (cc)
 call_is (Write (Empties h) after) call next is e = absurd (cc)
-call_is (Write (Walks h top at after) then_) call next is e = let q : ReadNext (ticket_request at) ≡ call = cc in ap (λ x. Some x) q
+call_is (Write (Reversing h top at after) then_) call next is e = let q : ReadNext (ticket_request at) ≡ call = cc in ap (λ x. Some x) q
 call_is (Round head n) call next is e = absurd (subst IsAside e (aside_begins head n is))
 call_is _ call next is e = absurd (cc)
 

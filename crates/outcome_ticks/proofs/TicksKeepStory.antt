@@ -29,7 +29,7 @@ use Rattle.sock_model.specs.References.{slot_facts}
 use Rattle.sock_model.specs.ChainRows.{taken_right}
 use Rattle.outcome_stories.specs.program_steps.specs.sock_steps.proofs.LifeLinkSlotPlaces.{counts}
 use Rattle.seat_programs.specs.declared.task.Task.{Task}
-use Rattle.seat_programs.specs.Writings.{Puts, Waits, Empties, Walks}
+use Rattle.seat_programs.specs.Writings.{Puts, Waits, Empties, Reversing}
 use Rattle.seat_programs.specs.TableSteps.{TableStep, ClaimSlot, CreateLife, SetOdd, StoreName, LoadOpen, FindLink, ClaimRequest, SwapHead}
 use Rattle.seat_programs.specs.Programs.{Program, Do, Say, Sent, TakeMessage, TakeHome, PutHome, PutBytes, AskReady, Write, Aside, Round, Keep, Retries}
 use Rattle.seat_programs.specs.Asides.{Step, Found, PutCall, TakeCall, Taking}
@@ -176,7 +176,7 @@ asks_put (PutBytes l a b n) k asked bytes next e = cc
 asks_put (Write (Puts h now heading left taken a) after) k asked bytes next e = absurd (cc)
 asks_put (Write (Waits h now heading left taken) after) k asked bytes next e = absurd (cc)
 asks_put (Write (Empties h) after) k asked bytes next e = absurd (cc)
-asks_put (Write (Walks h top at behind) after) k asked bytes next e = absurd (cc)
+asks_put (Write (Reversing h top at behind) after) k asked bytes next e = absurd (cc)
 asks_put (Round head n) k asked bytes next e = absurd (subst IsOfLoop e (loop_begins head n))
 asks_put _ k asked bytes next e = absurd (cc)
 
@@ -185,7 +185,7 @@ asks_ready (AskReady l n) k next e = cc
 asks_ready (Write (Waits h now heading left taken) after) k next e = cc
 asks_ready (Write (Puts h now heading left taken a) after) k next e = absurd (cc)
 asks_ready (Write (Empties h) after) k next e = absurd (cc)
-asks_ready (Write (Walks h top at behind) after) k next e = absurd (cc)
+asks_ready (Write (Reversing h top at behind) after) k next e = absurd (cc)
 asks_ready (Round head n) k next e = absurd (subst IsOfLoop e (loop_begins head n))
 asks_ready _ k next e = absurd (cc)
 

@@ -13,7 +13,7 @@ use Rattle.outcome_stories.specs.program_steps.specs.slot_steps.proofs.RuleNumbe
 use Rattle.seat_programs.specs.declared.task.Task.{Task}
 use Rattle.seat_programs.specs.TableSteps.{TableStep, AddRef, SubRef, SetOdd, StoreCode, LookWord, LoadCode, EmptyHead, ReadNext, ReverseNext, FreeRequest, StorePlace, DropPlace}
 use Rattle.seat_programs.specs.BufferParts.{part}
-use Rattle.seat_programs.specs.Writings.{Holder, Writing, Puts, Waits, Empties, Walks}
+use Rattle.seat_programs.specs.Writings.{Holder, Writing, Puts, Waits, Empties, Reversing}
 use Rattle.seat_programs.specs.Programs.{Program, Do, TakeMessage, TakeHome, PutBytes, Write, LAST_GENERATION}
 use Rattle.seat_programs.specs.SendAndWritePrograms.{freed, one_more, passed_telling, tell_drop, placed, dropped, link_failed, put_answered, ready_answered, block, first_put}
 use Rattle.outcome_stories.specs.program_steps.specs.Writes.{holder_of}
@@ -155,17 +155,17 @@ module _ (slots requests : ℕ) (calls : ℕ → Type 0) (way : Way) (done : Lis
     pub block_goes : (w : Writing) (bs : List ℕ) → Once (holder_of w) bs (block w after)
     block_goes (Puts h now heading left taken asked) bs = look_goes h now heading left taken asked (part heading.parts left taken) (dropped h now heading after) bs (dropped_goes h bs now heading)
     block_goes (Waits h now heading left taken) bs = λ tr a answer. ready_goes h now heading left taken bs tr a answer
-    block_goes (Empties h) bs = let walk : ℕ → Program = λ found. TakeHome h.link (λ places. Write (Walks (record h { places = places }) found found 0) after) in
+    block_goes (Empties h) bs = let walk : ℕ → Program = λ found. TakeHome h.link (λ places. Write (Reversing (record h { places = places }) found found 0) after) in
         quiet h bs (EmptyHead (socket_id_slot h.id) h.last) (λ found. if eqb found h.last then after else walk found) tt (λ found n. refl)
-        (λ found tr a. split (eqb found h.last) after (walk found) (Goes bs tr) (its.ends h.id h.link bs tr a) (λ places. its.again (Walks (record h { places = places }) found found 0) bs tr a))
-    block_goes (Walks h top at behind) bs = let here : Program = TakeMessage (ticket_request at) (λ heading bytes. Write (Puts (record h { last = top }) at heading bytes 0 false) after) in
-        let on : ℕ → Program = λ found. if eqb found h.last then here else Write (Walks h top found at) after in
+        (λ found tr a. split (eqb found h.last) after (walk found) (Goes bs tr) (its.ends h.id h.link bs tr a) (λ places. its.again (Reversing (record h { places = places }) found found 0) bs tr a))
+    block_goes (Reversing h top at behind) bs = let here : Program = TakeMessage (ticket_request at) (λ heading bytes. Write (Puts (record h { last = top }) at heading bytes 0 false) after) in
+        let on : ℕ → Program = λ found. if eqb found h.last then here else Write (Reversing h top found at) after in
         let turn : ℕ → Program = λ found. Do (ReverseNext (ticket_request at) behind) (λ _. on found) in
-        quiet h bs (ReadNext (ticket_request at)) (λ found. if eqb found UNCONNECTED then Write (Walks h top at behind) after else turn found) tt (λ found n. refl)
-        (λ found tr a. split (eqb found UNCONNECTED) (Write (Walks h top at behind) after) (turn found) (Goes bs tr) (its.again (Walks h top at behind) bs tr a)
+        quiet h bs (ReadNext (ticket_request at)) (λ found. if eqb found UNCONNECTED then Write (Reversing h top at behind) after else turn found) tt (λ found n. refl)
+        (λ found tr a. split (eqb found UNCONNECTED) (Write (Reversing h top at behind) after) (turn found) (Goes bs tr) (its.again (Reversing h top at behind) bs tr a)
         (quiet h bs (ReverseNext (ticket_request at) behind) (λ _. on found) tt (λ word n. refl)
-        (λ word tr a. split (eqb found h.last) here (Write (Walks h top found at) after) (Goes bs tr)
-        (λ heading bytes. its.again (Puts (record h { last = top }) at heading bytes 0 false) bs tr a) (its.again (Walks h top found at) bs tr a)) tr a))
+        (λ word tr a. split (eqb found h.last) here (Write (Reversing h top found at) after) (Goes bs tr)
+        (λ heading bytes. its.again (Puts (record h { last = top }) at heading bytes 0 false) bs tr a) (its.again (Reversing h top found at) bs tr a)) tr a))
 
     pub first_goes : (h : Holder) (now : ℕ) (heading : Heading) (bytes : List ℕ) (bs : List ℕ) → Once h bs (first_put h now heading bytes after)
     first_goes h now heading bytes bs = look_goes h now heading bytes 0 false (part heading.parts bytes 0) (Write (Puts h now heading bytes 0 false) after) bs (its.again (Puts h now heading bytes 0 false) bs)

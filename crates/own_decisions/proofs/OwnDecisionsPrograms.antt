@@ -27,7 +27,7 @@ use Rattle.seat_programs.specs.PostPrograms.{post_with, posted, post, decided}
 use Rattle.seat_programs.specs.Programs.{Program, Do, Say, Sent, Rest, TakeMessage, TakeHome, PutBytes, Write, Aside, Round, LAST_GENERATION, release}
 use Rattle.seat_programs.specs.ReaderProgram.{kept_for, ends_with, posted_last, post_each, thrown_away, read, reader, LIMIT}
 use Rattle.seat_programs.specs.SendAndWritePrograms.{freed as given_back, one_more, passed_telling, tell_drop, placed, dropped, put_answered, ready_answered, block, first_put, accept, write_link, heading_of, claim_from, start, send}
-use Rattle.seat_programs.specs.Writings.{Holder, Writing, Puts, Waits, Empties, Walks}
+use Rattle.seat_programs.specs.Writings.{Holder, Writing, Puts, Waits, Empties, Reversing}
 use Rattle.sent_once.specs.Below.programs_allowed.specs.program_walks.proofs.Through.{PassesWords, PassesFails, is_of_message, others_plain, others_failing, others_make, through_release, through_address, through_reach, through_set_failed, through_fail, through_hold}
 use Rattle.sent_once.specs.Below.programs_allowed.specs.program_walks.proofs.ThroughSends.{through_ended}
 use Rattle.sent_once.specs.Below.programs_allowed.specs.program_walks.proofs.ThroughCalls.{through_read_end}
@@ -93,16 +93,16 @@ block_goes s (Waits h now heading left taken) after g = ready_goes
     ready_goes asks.Now = (g.0, g.1)
     ready_goes asks.NotYet = (g.0, g.1)
     ready_goes asks.Failed = fails s 1009 h.id (λ _. Write (Puts h now heading left taken false) after) (λ _. (g.0, g.1))
-block_goes s (Empties h) after g = (tt, λ found _. (Calm, inl refl, way Calm (found == h.last) after (TakeHome h.link (λ places. Write (Walks (record h { places = places }) found found 0) after)) (λ _. g.1) (λ _. λ places. (tt, g.1))))
-block_goes s (Walks h top at after) then_ g = (
+block_goes s (Empties h) after g = (tt, λ found _. (Calm, inl refl, way Calm (found == h.last) after (TakeHome h.link (λ places. Write (Reversing (record h { places = places }) found found 0) after)) (λ _. g.1) (λ _. λ places. (tt, g.1))))
+block_goes s (Reversing h top at after) then_ g = (
   tt,
   λ found _. (
     Calm,
     inr (inl refl),
-    way Calm (found == UNCONNECTED) (Write (Walks h top at after) then_)
-        (Do (ReverseNext (ticket_request at) after) (λ _. cond (found == h.last) (TakeMessage (ticket_request at) (λ heading bytes. Write (Puts (record h { last = top }) at heading bytes 0 false) then_)) (Write (Walks h top found at) then_)))
+    way Calm (found == UNCONNECTED) (Write (Reversing h top at after) then_)
+        (Do (ReverseNext (ticket_request at) after) (λ _. cond (found == h.last) (TakeMessage (ticket_request at) (λ heading bytes. Write (Puts (record h { last = top }) at heading bytes 0 false) then_)) (Write (Reversing h top found at) then_)))
         (λ _. (tt, g.1))
-        (λ _. (tt, λ _ _. (Calm, inl refl, way Calm (found == h.last) (TakeMessage (ticket_request at) (λ heading bytes. Write (Puts (record h { last = top }) at heading bytes 0 false) then_)) (Write (Walks h top found at) then_) (λ _. λ heading bytes. (refl, g.1)) (λ _. (tt, g.1))))),
+        (λ _. (tt, λ _ _. (Calm, inl refl, way Calm (found == h.last) (TakeMessage (ticket_request at) (λ heading bytes. Write (Puts (record h { last = top }) at heading bytes 0 false) then_)) (Write (Reversing h top found at) then_) (λ _. λ heading bytes. (refl, g.1)) (λ _. (tt, g.1))))),
   ),
 )
 

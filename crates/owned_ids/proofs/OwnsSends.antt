@@ -10,7 +10,7 @@ use Rattle.sock_model.specs.declared.chain.Heading.{Heading}
 use Rattle.sock_model.specs.Entries.{ticket_of}
 use Rattle.call_owing.specs.Below.sock_steps.proofs.SumsAsMarksChange.{either_way}
 use Rattle.seat_programs.specs.TableSteps.{AddRef, SubRef, SetOdd, Recycle, FreeSlot, LoadLink, StoreCode, LoadName, LoadOpen, TakeLink, FinishLink, PutLink, LookWord, FindLink, LoadCode, ClaimRequest, PutMessage, Unconnect, SwapHead, Connect, EmptyHead, ReadNext, ReverseNext, FreeRequest, StorePlace, DropPlace}
-use Rattle.seat_programs.specs.Writings.{Holder, Writing, Puts, Waits, Empties, Walks}
+use Rattle.seat_programs.specs.Writings.{Holder, Writing, Puts, Waits, Empties, Reversing}
 use Rattle.seat_programs.specs.Programs.{Program, Sent, TakeMessage, Write, LAST_VERSION, LAST_GENERATION, recycle, release, add_reference, find_socket, set_failed, fail, fail_outcome, hold, drop_held, end_open}
 use Rattle.seat_programs.specs.SendAndWritePrograms.{freed, one_more, passed_telling, tell_drop, placed, dropped, link_failed, put_answered, ready_answered, block, first_put, write_link, heading_of, accept, claim_from, start, send}
 use Rattle.owned_ids.proofs.OwnsLoops.{Later, step, say, sent, message, home, puts_home, put, ask, write, post_goes}
@@ -84,10 +84,10 @@ module _ (has : ℕ → ℕ) (mine : ℕ → Bool) where
       (put has mine h.link asked _ (put_answered h now heading left taken next) (put_goes h now heading left taken next after)) (dropped_goes h now heading next after))
   block_goes (Waits h now heading left taken) next after = ask has mine h.link (ready_answered h now heading left taken next) (ready_goes h now heading left taken next after)
   block_goes (Empties h) next after = puts_home has mine h.link h.places _ (step has mine (EmptyHead (socket_id_slot h.id) h.last) _ (λ found. either_way (found == h.last) _ _ G after
-      (home has mine h.link _ (λ places. write has mine (Walks (record h { places = places }) found found 0) next after))))
-  block_goes (Walks h top at after_) next after = step has mine (ReadNext (ticket_request at)) _ (λ found. either_way (found == UNCONNECTED) _ _ G (write has mine (Walks h top at after_) next after)
+      (home has mine h.link _ (λ places. write has mine (Reversing (record h { places = places }) found found 0) next after))))
+  block_goes (Reversing h top at after_) next after = step has mine (ReadNext (ticket_request at)) _ (λ found. either_way (found == UNCONNECTED) _ _ G (write has mine (Reversing h top at after_) next after)
       (step has mine (ReverseNext (ticket_request at) after_) _ (λ _. either_way (found == h.last) _ _ G
-      (message has mine (ticket_request at) _ (λ heading bytes. write has mine (Puts (record h { last = top }) at heading bytes 0 false) next after)) (write has mine (Walks h top found at) next after))))
+      (message has mine (ticket_request at) _ (λ heading bytes. write has mine (Puts (record h { last = top }) at heading bytes 0 false) next after)) (write has mine (Reversing h top found at) next after))))
 
   -- a message that is sent
   pub first_put_goes : (h : Holder) (now : ℕ) (heading : Heading) (bytes : List ℕ) (next : Program) → G next → G (first_put h now heading bytes next)

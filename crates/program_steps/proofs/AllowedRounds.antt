@@ -33,7 +33,7 @@ use Rattle.sock_steps.specs.slot_steps.proofs.RuleNumbers.{only-same, only-else}
 use Rattle.sock_steps.specs.slot_steps.proofs.ReferenceStepsKeepSlot.{hold_ref}
 use Rattle.seat_programs.specs.TableSteps.{StoreCode, SubRef, ReadNext, FreeRequest, DropPlace, EmptyHead, ReverseNext}
 use Rattle.seat_programs.specs.BufferParts.{room_of_part}
-use Rattle.seat_programs.specs.Writings.{Holder, Writing, Puts, Waits, Empties, Walks}
+use Rattle.seat_programs.specs.Writings.{Holder, Writing, Puts, Waits, Empties, Reversing}
 use Rattle.seat_programs.specs.Programs.{Program, Do, TakeMessage, TakeHome, PutBytes, Write, LAST_GENERATION, set_failed}
 use Rattle.program_steps.proofs.AsideStepsPass.{tell_goes}
 use Rattle.seat_programs.specs.SendAndWritePrograms.{freed, one_more, passed, passed_telling, tell_drop, placed, dropped, put_answered, ready_answered, block, first_put}
@@ -486,16 +486,16 @@ module _ (p : Plan) (after : Program) (h : Holder) (now : ℕ) (heading : Headin
 module _ (p : Plan) (after : Program) (v : View) (h : Holder) (r : Right) (a : IsHolder p v h r) (follows : Follows p v after) where
   -- the right is given up, or the head was busy again and the walk begins
   empties_branch : (s : Right) (found : ℕ) (b : Bool) → Keeps p (with_right v s) h.id h.link s → s.link ≡ h.link → s.at_home ≡ true → s.taken ≡ false → s.put ≡ 0 → s.last ≡ h.last
-      → GoesOn p (cond b (without_right (with_right v s) s.link) (with_right (with_right v s) (record s { stage = stages.Walks found found 0 })))
-      (cond b after (TakeHome h.link (λ places. Write (Walks (record h { places = places }) found found 0) after)))
+      → GoesOn p (cond b (without_right (with_right v s) s.link) (with_right (with_right v s) (record s { stage = stages.Reversing found found 0 })))
+      (cond b after (TakeHome h.link (λ places. Write (Reversing (record h { places = places }) found found 0) after)))
   empties_branch s found true c link home none_ put last = subst (λ (rs : List Right). GoesOn p (record v { rights = rs }) after)
       (sym (ap (filter (λ (x : Right). not (eqb x.link s.link))) c.one ∙ others_none s s refl)) (follows [] tt)
-  empties_branch s found false c link home none_ put last = let t : Right = record s { stage = stages.Walks found found 0 } in let u : View = with_right (with_right v s) t in
+  empties_branch s found false c link home none_ put last = let t : Right = record s { stage = stages.Reversing found found 0 } in let u : View = with_right (with_right v s) t in
       let d : Keeps p u h.id h.link t = changed t c link in let x : Right = record t { at_home = false } in (
         t,
         (d.one, d.link, home, d.hands),
         put,
-        by_one p u t (λ r. with_right u (record r { at_home = false })) u (Write (Walks (record h { places = t.places }) found found 0) after) d.one
+        by_one p u t (λ r. with_right u (record r { at_home = false })) u (Write (Reversing (record h { places = t.places }) found found 0) after) d.one
             ((x, holder (record h { places = t.places }) (changed x d link) last refl refl, record { stage_is = refl; none_ = none_; put = put }), follows),
       )
 
@@ -507,7 +507,7 @@ module _ (p : Plan) (after : Program) (v : View) (h : Holder) (r : Right) (a : I
     b.put,
     b.none_,
     by_one p v r (λ r. with_right v (record r { at_home = true })) v
-        (Do (EmptyHead (socket_id_slot h.id) h.last) (λ found. cond (eqb found h.last) after (TakeHome h.link (λ places. Write (Walks (record h { places = places }) found found 0) after)))) a.one (
+        (Do (EmptyHead (socket_id_slot h.id) h.last) (λ found. cond (eqb found h.last) after (TakeHome h.link (λ places. Write (Reversing (record h { places = places }) found found 0) after)))) a.one (
           (
             a.holds.inside,
             (
@@ -523,7 +523,7 @@ module _ (p : Plan) (after : Program) (v : View) (h : Holder) (r : Right) (a : I
               c.one,
             ),
           ),
-          λ found hand f. by_one p u s (emptied h.last found u) u (cond (eqb found h.last) after (TakeHome h.link (λ places. Write (Walks (record h { places = places }) found found 0) after))) c.one
+          λ found hand f. by_one p u s (emptied h.last found u) u (cond (eqb found h.last) after (TakeHome h.link (λ places. Write (Reversing (record h { places = places }) found found 0) after))) c.one
               (empties_branch s found (eqb found h.last) c a.link refl b.none_ b.put a.last),
         ),
   )
@@ -531,28 +531,28 @@ module _ (p : Plan) (after : Program) (v : View) (h : Holder) (r : Right) (a : I
   module _ (top place successor : ℕ) where
     -- the walk turned the entry, and has come to that behind the last one noted, or to the next
     turned_branch : (u : View) (t : Right) (found : ℕ) (b : Bool) → Keeps p u h.id h.link t → t.last ≡ h.last → t.places ≡ h.places → t.at_home ≡ false → t.taken ≡ false → t.put ≡ 0 → Follows p u after
-        → GoesOn p (with_right u (cond b (record t { last = top; stage = stages.Writes place; turned = 0; noted = t.noted + suc t.turned }) (record t { stage = stages.Walks top found place; turned = suc t.turned })))
-        (cond b (TakeMessage (ticket_request place) (λ heading bytes. Write (Puts (record h { last = top }) place heading bytes 0 false) after)) (Write (Walks h top found place) after))
+        → GoesOn p (with_right u (cond b (record t { last = top; stage = stages.Writes place; turned = 0; noted = t.noted + suc t.turned }) (record t { stage = stages.Reversing top found place; turned = suc t.turned })))
+        (cond b (TakeMessage (ticket_request place) (λ heading bytes. Write (Puts (record h { last = top }) place heading bytes 0 false) after)) (Write (Reversing h top found place) after))
     turned_branch u t found true c last places away none_ put follows = let x : Right = record t { last = top; stage = stages.Writes place; turned = 0; noted = t.noted + suc t.turned } in
         takes_next p after (with_right u x) (record h { last = top }) x place (holder (record h { last = top }) (changed x c c.link) refl places away) refl none_ put follows
-    turned_branch u t found false c last places away none_ put follows = let x : Right = record t { stage = stages.Walks top found place; turned = suc t.turned } in
+    turned_branch u t found false c last places away none_ put follows = let x : Right = record t { stage = stages.Reversing top found place; turned = suc t.turned } in
         ((x, holder h (changed x c c.link) last places away, record { stage_is = refl; none_ = none_; put = put }), follows)
 
-    read_branch : IsBetween r (stages.Walks top place successor) → (found : ℕ) (b : Bool) → GoesOn p (cond b v (with_right v (record r { stage = stages.Turns top place successor found })))
-        (cond b (Write (Walks h top place successor) after)
-        (Do (ReverseNext (ticket_request place) successor) (λ _. cond (eqb found h.last) (TakeMessage (ticket_request place) (λ heading bytes. Write (Puts (record h { last = top }) place heading bytes 0 false) after)) (Write (Walks h top found place) after))))
+    read_branch : IsBetween r (stages.Reversing top place successor) → (found : ℕ) (b : Bool) → GoesOn p (cond b v (with_right v (record r { stage = stages.ReversesNext top place successor found })))
+        (cond b (Write (Reversing h top place successor) after)
+        (Do (ReverseNext (ticket_request place) successor) (λ _. cond (eqb found h.last) (TakeMessage (ticket_request place) (λ heading bytes. Write (Puts (record h { last = top }) place heading bytes 0 false) after)) (Write (Reversing h top found place) after))))
     read_branch b found true = ((r, a, b), follows)
-    read_branch b found false = let t : Right = record r { stage = stages.Turns top place successor found } in let u : View = with_right v t in let c : Keeps p u h.id h.link t = changed t (keeps a) a.link in
-        let next : Program = cond (eqb found h.last) (TakeMessage (ticket_request place) (λ heading bytes. Write (Puts (record h { last = top }) place heading bytes 0 false) after)) (Write (Walks h top found place) after) in (
+    read_branch b found false = let t : Right = record r { stage = stages.ReversesNext top place successor found } in let u : View = with_right v t in let c : Keeps p u h.id h.link t = changed t (keeps a) a.link in
+        let next : Program = cond (eqb found h.last) (TakeMessage (ticket_request place) (λ heading bytes. Write (Puts (record h { last = top }) place heading bytes 0 false) after)) (Write (Reversing h top found place) after) in (
           (record { mine = record { right = t; place = 0; has = ap (λ (rs : List Right). get_elem? rs 0) c.one }; top = top; at = place; before = found; stage = refl }, c.one, refl),
           λ word hand f. by_one p u t (λ r. turned_next u r r.stage) u next c.one
-              (subst (λ l. GoesOn p (with_right u (cond (eqb found l) (record t { last = top; stage = stages.Writes place; turned = 0; noted = t.noted + suc t.turned }) (record t { stage = stages.Walks top found place; turned = suc t.turned }))) next) (sym a.last)
+              (subst (λ l. GoesOn p (with_right u (cond (eqb found l) (record t { last = top; stage = stages.Writes place; turned = 0; noted = t.noted + suc t.turned }) (record t { stage = stages.Reversing top found place; turned = suc t.turned }))) next) (sym a.last)
               (turned_branch u t found (eqb found h.last) c a.last a.places a.away b.none_ b.put follows)),
         )
 
-    walks_round : IsBetween r (stages.Walks top place successor) → GoesOn p v (block (Walks h top place successor) after)
-    walks_round b = let next : ℕ → Program = λ found. cond (eqb found UNCONNECTED) (Write (Walks h top place successor) after)
-        (Do (ReverseNext (ticket_request place) successor) (λ _. cond (eqb found h.last) (TakeMessage (ticket_request place) (λ heading bytes. Write (Puts (record h { last = top }) place heading bytes 0 false) after)) (Write (Walks h top found place) after))) in (
+    walks_round : IsBetween r (stages.Reversing top place successor) → GoesOn p v (block (Reversing h top place successor) after)
+    walks_round b = let next : ℕ → Program = λ found. cond (eqb found UNCONNECTED) (Write (Reversing h top place successor) after)
+        (Do (ReverseNext (ticket_request place) successor) (λ _. cond (eqb found h.last) (TakeMessage (ticket_request place) (λ heading bytes. Write (Puts (record h { last = top }) place heading bytes 0 false) after)) (Write (Reversing h top found place) after))) in (
           (r, a.one, inr (top, place, successor, b.stage_is, refl)),
           λ found hand f. by_one p v r (λ r. read_next found v r r.stage) v (next found) a.one (subst (λ x. GoesOn p (read_next found v r x) (next found)) (sym b.stage_is) (read_branch b found (eqb found UNCONNECTED))),
         )
@@ -562,4 +562,4 @@ pub begins_round : (p : Plan) (v : View) (w : Writing) (after : Program) → Goe
 begins_round p v (Puts h now heading left taken asked) after goes = puts_round p after h now heading left taken v goes.0.0 asked goes.0.1 goes.0.2 goes.1
 begins_round p v (Waits h now heading left taken) after goes = waits_round p after h now heading left taken v goes.0.0 goes.0.1 goes.0.2 goes.1
 begins_round p v (Empties h) after goes = empties_round p after v h goes.0.0 goes.0.1 goes.1 goes.0.2
-begins_round p v (Walks h top place successor) after goes = walks_round p after v h goes.0.0 goes.0.1 goes.1 top place successor goes.0.2
+begins_round p v (Reversing h top place successor) after goes = walks_round p after v h goes.0.0 goes.0.1 goes.1 top place successor goes.0.2

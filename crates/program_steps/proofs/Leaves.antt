@@ -5,7 +5,7 @@ use Rattle.sock_words.specs.declared.plain.Plan.{Plan}
 use Rattle.sock_model.specs.declared.chain.Claim.{Claim}
 use Rattle.sock_model.specs.declared.chain.Right.{Right}
 use Rattle.sock_model.specs.declared.chain.Stage.{Stage}
-use Rattle.sock_model.specs.declared.chain.Stage.TheVariants.{Writes, Placed, Passes, Walks, Turns}
+use Rattle.sock_model.specs.declared.chain.Stage.TheVariants.{Writes, Placed, Passes, Reversing, ReversesNext}
 use Rattle.sock_model.specs.declared.marks.Mark.TheVariants.{Saw, Told, Met, Known}
 use Rattle.sock_model.specs.declared.marks.SlotMark.{SlotMark}
 use Rattle.sock_model.specs.declared.view.View.{View}
@@ -49,11 +49,11 @@ module _ (P : View → Type 0) (v : View) (same : P v) where
   module _ (rights : (r : Right) → P (with_right v r)) (gone : (k : ℕ) → P (without_right v k)) where
     pub reads_way : (found : ℕ) (r : Right) (stage : Stage) → P (read_next found v r stage)
     reads_way found r (Placed now) = rights (settled (record r { stage = Passes now found }))
-    reads_way found r (Walks top at_ after) = either_way (found == UNCONNECTED) v (with_right v (record r { stage = Turns top at_ after found })) P same (rights (record r { stage = Turns top at_ after found }))
+    reads_way found r (Reversing top at_ after) = either_way (found == UNCONNECTED) v (with_right v (record r { stage = ReversesNext top at_ after found })) P same (rights (record r { stage = ReversesNext top at_ after found }))
     reads_way found r _ = same
 
     pub turns_way : (r : Right) (stage : Stage) → P (turned_next v r stage)
-    turns_way r (Turns top at_ after before) = rights (turned_right r top at_ before)
+    turns_way r (ReversesNext top at_ after before) = rights (turned_right r top at_ before)
     turns_way r _ = same
 
     pub places_way : (r : Right) (stage : Stage) → P (placed_next v r stage)
@@ -65,7 +65,7 @@ module _ (P : View → Type 0) (v : View) (same : P v) where
     drops_way r _ = same
 
     pub emptied_way : (last found : ℕ) (r : Right) → P (emptied last found v r)
-    emptied_way last found r = either_way (found == last) (without_right v r.link) (with_right v (record r { stage = Walks found found 0 })) P (gone r.link) (rights (record r { stage = Walks found found 0 }))
+    emptied_way last found r = either_way (found == last) (without_right v r.link) (with_right v (record r { stage = Reversing found found 0 })) P (gone r.link) (rights (record r { stage = Reversing found found 0 }))
 
   pub exchanges_way : ((c : Claim) (n : ℕ) → P (queued v c n)) → ((c : Claim) (n : ℕ) (sent : List ℕ) (m : ℕ) → P (righted v c n sent m)) → (found : ℕ) (hand : Hand) (c : Claim) → P (exchanged found hand v c)
   exchanges_way busy idle found hand c = either_way (nat_lt found IDLE) (queued v c found) (righted v c found hand.took hand.next) P (busy c found) (idle c found hand.took hand.next)

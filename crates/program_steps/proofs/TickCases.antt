@@ -15,7 +15,7 @@ use Rattle.sock_model.specs.declared.view.View.{View}
 use Rattle.sock_model.specs.ChainRows.{with_right, taken_right, put_right}
 use Rattle.sock_model.specs.UnplacedMessages.{HeadedBytes}
 use Rattle.sock_model.specs.ChainLawReads.{letter_of, shown, message, link_home}
-use Rattle.seat_programs.specs.Writings.{Puts, Waits, Empties, Walks}
+use Rattle.seat_programs.specs.Writings.{Puts, Waits, Empties, Reversing}
 use Rattle.seat_programs.specs.TableSteps.{TableStep, LoadOpen}
 use Rattle.seat_programs.specs.Programs.{Program, Do, Say, Sent, Rest, TakeMessage, TakeHome, PutHome, PutBytes, AskReady, Write, Aside, Round, Keep, Retries}
 use Rattle.seat_programs.specs.Asides.{Step, Found}
@@ -85,7 +85,7 @@ pub answer_begins : (program : Program) (answer : Answer) → IsAnswer program a
 answer_begins (Write (Puts h now heading left taken asked) after) answer a = tt
 answer_begins (Write (Waits h now heading left taken) after) answer a = a
 answer_begins (Write (Empties h) after) answer a = tt
-answer_begins (Write (Walks h top at after) then_) answer a = tt
+answer_begins (Write (Reversing h top at after) then_) answer a = tt
 answer_begins (Round (Posts id e w) next) answer a = tt
 answer_begins (Round (Unlocks i w advance) next) answer a = tt
 answer_begins (Round (Decides id asked w e) next) answer a = begins_decides (ends_call (parts w) e)
@@ -141,7 +141,7 @@ first_head : (program : Program) → IsHead (first_step program) → ⊥
 first_head (Write (Puts h now heading left taken asked) next) e = e
 first_head (Write (Waits h now heading left taken) next) e = e
 first_head (Write (Empties h) next) e = e
-first_head (Write (Walks h top at later) next) e = e
+first_head (Write (Reversing h top at later) next) e = e
 first_head (Round head next) e = no_head (round head next) (loop_begins head next) e
 first_head _ e = e
 

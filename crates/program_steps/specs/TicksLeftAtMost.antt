@@ -22,7 +22,7 @@ use Rattle.sock_model.specs.SlotRows.{marks_of}
 use Rattle.sock_model.specs.MarkWeights.{is_saw}
 use Rattle.seat_programs.specs.TableSteps.{TableStep, PutMessage, SwapHead, ReverseNext}
 use Rattle.seat_programs.specs.Cores.{Core, SeatState}
-use Rattle.seat_programs.specs.Writings.{Holder, Writing, Puts, Waits, Empties, Walks}
+use Rattle.seat_programs.specs.Writings.{Holder, Writing, Puts, Waits, Empties, Reversing}
 use Rattle.seat_programs.specs.Programs.{Program, Do, Say, Sent, Rest, TakeMessage, TakeHome, PutHome, PutBytes, AskReady, Write, Aside, Round, Keep, Retries}
 use Rattle.seat_programs.specs.corr_core.specs.IdSlotWord.{Parts, parts}
 use Rattle.seat_programs.specs.id_rule.specs.LawfulIdTable.{id_index}
@@ -85,7 +85,7 @@ abbrev pub accepted : List View → ℕ → ℕ
 accepted views k = total (λ (v : View). total (λ (l : List Entry). length (on k l)) v.lists) views
 
 abbrev pub is_turning : Stage → ℕ
-is_turning (stages.Turns top at after before) = 1
+is_turning (stages.ReversesNext top at after before) = 1
 is_turning other = 0
 
 -- each entry that the right hasn't noted costs its walk two steps, of which it may have made the first
@@ -130,7 +130,7 @@ abbrev pub loop_cost : View → Writing → ℕ
 loop_cost v (Puts h now heading left taken asked) = 14 * length left + asking_cost asked + failing_cost (saw_failed v h) + 8 + POST
 loop_cost v (Waits h now heading left taken) = 14 * length left + waiting_cost (saw_failed v h) + 8 + POST
 loop_cost v (Empties h) = 4
-loop_cost v (Walks h top at after) = 1
+loop_cost v (Reversing h top at after) = 1
 
 -- ## Ids and readers
 

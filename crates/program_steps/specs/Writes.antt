@@ -14,7 +14,7 @@ use Rattle.sock_model.specs.declared.view.View.{View}
 use Rattle.sock_model.specs.MarkWeights.{is_ref, is_probe, is_any_coding}
 use Rattle.sock_model.specs.SlotRows.{marks_of}
 use Rattle.sock_model.specs.LinksInSlots.{HoldsLink}
-use Rattle.seat_programs.specs.Writings.{Holder, Writing, Puts, Waits, Empties, Walks}
+use Rattle.seat_programs.specs.Writings.{Holder, Writing, Puts, Waits, Empties, Reversing}
 
 -- ## Before a move or a put
 
@@ -69,13 +69,13 @@ abbrev pub AtHead : Plan → Right → Writing → Type 0
 AtHead p r (Puts h now heading left taken asked) = HasMessage p r now heading left taken
 AtHead p r (Waits h now heading left taken) = HasMessage p r now heading left taken
 AtHead p r (Empties h) = IsBetween r stages.Empties
-AtHead p r (Walks h top at after) = IsBetween r (stages.Walks top at after)
+AtHead p r (Reversing h top at after) = IsBetween r (stages.Reversing top at after)
 
 abbrev pub holder_of : Writing → Holder
 holder_of (Puts h now heading left taken asked) = h
 holder_of (Waits h now heading left taken) = h
 holder_of (Empties h) = h
-holder_of (Walks h top at after) = h
+holder_of (Reversing h top at after) = h
 
 -- the seat may begin a round from here
 abbrev pub At : Plan → View → Writing → Type 0

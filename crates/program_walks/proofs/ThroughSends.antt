@@ -10,7 +10,7 @@ use Rattle.sock_model.specs.declared.chain.Heading.{Heading}
 use Rattle.sock_model.specs.Entries.{ticket_of}
 use Rattle.sock_steps.proofs.SumsAsMarksChange.{either_way}
 use Rattle.seat_programs.specs.TableSteps.{LookWord, FindLink, LoadCode, ClaimRequest, PutMessage, Unconnect, SwapHead, Connect, ReadNext, ReverseNext, FreeRequest, StorePlace, DropPlace}
-use Rattle.seat_programs.specs.Writings.{Holder, Writing, Puts, Waits, Empties, Walks}
+use Rattle.seat_programs.specs.Writings.{Holder, Writing, Puts, Waits, Empties, Reversing}
 use Rattle.seat_programs.specs.Programs.{Program, Sent, Rest, TakeMessage, TakeHome, Write, LAST_GENERATION, release, add_reference, set_failed, end_open}
 use Rattle.seat_programs.specs.SendAndWritePrograms.{freed, one_more, passed_telling, tell_drop, placed, dropped, link_failed, put_answered, ready_answered, block, first_put, write_link, heading_of, accept, claim_from, start, send}
 use Rattle.seat_programs.specs.ClientProgram.{ending_of}
@@ -54,11 +54,11 @@ module _ (G H : Program → Type 0) (g : PassesPlain G) (l : PassesLinks G H) wh
   through_block (Puts h now heading left taken asked) next after = l.look h.id _ (λ found. either_way (vref_version found % 2 == 0) _ _ G
       (l.put h.link asked _ (put_answered h now heading left taken next) (through_put h now heading left taken next after)) (through_dropped h now heading next after))
   through_block (Waits h now heading left taken) next after = l.ask h.link (ready_answered h now heading left taken next) (through_ready h now heading left taken next after)
-  through_block (Empties h) next after = l.puts_home h.link h.places _ (l.empty (socket_id_slot h.id) h.last next (λ found. TakeHome h.link (λ places. Write (Walks (record h { places = places }) found found 0) next))
-      after (λ found. l.home h.link _ (λ places. l.write (Walks (record h { places = places }) found found 0) next after)))
-  through_block (Walks h top at after_) next after = g.words.step (ReadNext (ticket_request at)) _ refl (λ found. either_way (found == UNCONNECTED) _ _ G (l.write (Walks h top at after_) next after)
+  through_block (Empties h) next after = l.puts_home h.link h.places _ (l.empty (socket_id_slot h.id) h.last next (λ found. TakeHome h.link (λ places. Write (Reversing (record h { places = places }) found found 0) next))
+      after (λ found. l.home h.link _ (λ places. l.write (Reversing (record h { places = places }) found found 0) next after)))
+  through_block (Reversing h top at after_) next after = g.words.step (ReadNext (ticket_request at)) _ refl (λ found. either_way (found == UNCONNECTED) _ _ G (l.write (Reversing h top at after_) next after)
       (g.words.step (ReverseNext (ticket_request at) after_) _ refl (λ _. either_way (found == h.last) _ _ G
-      (l.message (ticket_request at) _ (λ heading bytes. l.write (Puts (record h { last = top }) at heading bytes 0 false) next after)) (l.write (Walks h top found at) next after))))
+      (l.message (ticket_request at) _ (λ heading bytes. l.write (Puts (record h { last = top }) at heading bytes 0 false) next after)) (l.write (Reversing h top found at) next after))))
 
   -- whoever found an idle head
   pub through_first_put : (h : Holder) (now : ℕ) (heading : Heading) (bytes : List ℕ) (next : Program) → H next → G (first_put h now heading bytes next)

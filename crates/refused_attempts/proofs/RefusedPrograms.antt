@@ -29,7 +29,7 @@ use Rattle.seat_programs.specs.PostPrograms.{post_with, posted, post, decided}
 use Rattle.seat_programs.specs.Programs.{Program, Do, Say, Sent, Rest, TakeMessage, TakeHome, PutBytes, Write, Aside, Round, LAST_VERSION, LAST_GENERATION, recycle, release}
 use Rattle.seat_programs.specs.ReaderProgram.{kept_for, ends_with, posted_last, post_each, thrown_away, read, reader, LIMIT}
 use Rattle.seat_programs.specs.SendAndWritePrograms.{freed as given_back, one_more, passed_telling, tell_drop, placed, dropped, put_answered, ready_answered, block, first_put, accept, write_link, heading_of, claim_from, start, send}
-use Rattle.seat_programs.specs.Writings.{Holder, Writing, Puts, Waits, Empties, Walks}
+use Rattle.seat_programs.specs.Writings.{Holder, Writing, Puts, Waits, Empties, Reversing}
 use Rattle.attempted_calls.specs.Below.outcome_stories.specs.OperationStories.{In}
 use Rattle.attempted_calls.specs.Below.programs_allowed.specs.program_walks.proofs.Through.{PassesWords, PassesFails, is_of_message, others_plain, others_failing, others_make, through_release, through_reach, through_set_failed, through_fail, through_hold}
 use Rattle.attempted_calls.specs.Below.programs_allowed.specs.program_walks.proofs.ThroughSends.{through_ended}
@@ -212,13 +212,13 @@ module _ (requests : ℕ) (is_call : Asked → Type 0) (reads : Bool) where
         ready_goes asks.Now = (mine, g)
         ready_goes asks.NotYet = (mine, g)
         ready_goes asks.Failed = fails 1009 h.id (λ _. Write (Puts h now heading left taken false) after) (λ _. (mine, g))
-    block_goes (Empties h) after g = (tt, λ found _. then_ (Rattle.seat_programs.specs.TableSteps.EmptyHead (socket_id_slot h.id) h.last) _ found idle (split (found == h.last) after (TakeHome h.link (λ places. Write (Walks (record h { places = places }) found found 0) after)) (λ _. g) (λ _. λ places. (mine, g))))
-    block_goes (Walks h top at after) last g = (
+    block_goes (Empties h) after g = (tt, λ found _. then_ (Rattle.seat_programs.specs.TableSteps.EmptyHead (socket_id_slot h.id) h.last) _ found idle (split (found == h.last) after (TakeHome h.link (λ places. Write (Reversing (record h { places = places }) found found 0) after)) (λ _. g) (λ _. λ places. (mine, g))))
+    block_goes (Reversing h top at after) last g = (
       tt,
-      λ found _. then_ (ReadNext (ticket_request at)) _ found (begins (Walks h top at after)) (split (found == UNCONNECTED) (Write (Walks h top at after) last)
-          (Do (ReverseNext (ticket_request at) after) (λ _. cond (found == h.last) (TakeMessage (ticket_request at) (λ heading bytes. Write (Puts (record h { last = top }) at heading bytes 0 false) last)) (Write (Walks h top found at) last)))
+      λ found _. then_ (ReadNext (ticket_request at)) _ found (begins (Reversing h top at after)) (split (found == UNCONNECTED) (Write (Reversing h top at after) last)
+          (Do (ReverseNext (ticket_request at) after) (λ _. cond (found == h.last) (TakeMessage (ticket_request at) (λ heading bytes. Write (Puts (record h { last = top }) at heading bytes 0 false) last)) (Write (Reversing h top found at) last)))
           (λ _. (mine, g))
-          (λ _. (tt, λ other _. then_ (ReverseNext (ticket_request at) after) _ other idle (split (found == h.last) (TakeMessage (ticket_request at) (λ heading bytes. Write (Puts (record h { last = top }) at heading bytes 0 false) last)) (Write (Walks h top found at) last) (λ _. λ heading bytes. (mine, g)) (λ _. (mine, g)))))),
+          (λ _. (tt, λ other _. then_ (ReverseNext (ticket_request at) after) _ other idle (split (found == h.last) (TakeMessage (ticket_request at) (λ heading bytes. Write (Puts (record h { last = top }) at heading bytes 0 false) last)) (Write (Reversing h top found at) last) (λ _. λ heading bytes. (mine, g)) (λ _. (mine, g)))))),
     )
 
   first_goes : (mine : reads ≡ false) (h : Holder) (now : ℕ) (heading : Heading) (bytes : List ℕ) (after : Program) → G idle after → G idle (first_put h now heading bytes after)

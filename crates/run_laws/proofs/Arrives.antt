@@ -26,7 +26,7 @@ use Rattle.sock_model.specs.SocketSlotLaw.{count}
 use Rattle.slot_steps.proofs.RuleNumbers.{live_le}
 use Rattle.sock_steps.proofs.LifeLinkSlotPlaces.{own_count}
 use Rattle.seat_programs.specs.TableSteps.{TableStep, SetOdd, LookWord, LoadCode}
-use Rattle.seat_programs.specs.Writings.{Puts, Waits, Empties, Walks}
+use Rattle.seat_programs.specs.Writings.{Puts, Waits, Empties, Reversing}
 use Rattle.seat_programs.specs.Programs.{Program, Do, Rest, TakeMessage, TakeHome, PutHome, PutBytes, AskReady, Write, Aside, Round}
 use Rattle.corr_core.specs.IdSlotWord.{parts, code_of}
 use Rattle.corr_core.specs.EndedByRangeOrAttempt.{ends_call}
@@ -85,7 +85,7 @@ put_first k (PutBytes l asked bytes next) puts = puts
 put_first k (Write (Puts h now heading left taken asked) after) puts = absurd puts
 put_first k (Write (Waits h now heading left taken) after) puts = absurd puts
 put_first k (Write (Empties h) after) puts = absurd puts
-put_first k (Write (Walks h top at after) then_) puts = absurd puts
+put_first k (Write (Reversing h top at after) then_) puts = absurd puts
 put_first k (Round (Posts id e w) next) puts = absurd puts
 put_first k (Round (Unlocks i w advance) next) puts = absurd puts
 put_first k (Round (Decides id asked w e) next) puts = by_end (ends_call (parts w) e) puts

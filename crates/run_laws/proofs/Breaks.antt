@@ -16,7 +16,7 @@ use Rattle.sock_io.specs.declared.link.Ready.TheVariants as asks
 use Rattle.sock_model.specs.declared.chain.Right.{Right}
 use Rattle.sock_model.specs.declared.view.View.{View}
 use Rattle.seat_programs.specs.TableSteps.{TableStep, SetOdd}
-use Rattle.seat_programs.specs.Writings.{Puts, Waits, Empties, Walks}
+use Rattle.seat_programs.specs.Writings.{Puts, Waits, Empties, Reversing}
 use Rattle.seat_programs.specs.Programs.{Program, Do, Say, Sent, Rest, TakeMessage, TakeHome, PutHome, PutBytes, AskReady, Write, Aside, Round, Keep, Retries}
 use Rattle.seat_programs.specs.Cores.{Core, SeatState}
 use Rattle.seat_programs.specs.Ticks.{OfPut, OfReady, Moment, ticked, asked_link, is_refusal, broken_at}
@@ -65,7 +65,7 @@ asked_right p v k (AskReady l next) goes true there = let may = goes.0 in inr (m
 asked_right p v k (Write (Waits h now heading left taken) after) goes true there = let at = goes.0 in let mine = at.1 in inr (at.0, mine.one, mine.link ∙ contains_one h.link k there)
 asked_right p v k (Write (Puts h now heading left taken asked) after) goes true there = absurd (contains_none true k there)
 asked_right p v k (Write (Empties h) after) goes true there = absurd (contains_none true k there)
-asked_right p v k (Write (Walks h top at after) then_) goes true there = absurd (contains_none true k there)
+asked_right p v k (Write (Reversing h top at after) then_) goes true there = absurd (contains_none true k there)
 asked_right p v k (Do call next) goes true there = absurd (contains_none true k there)
 asked_right p v k (Say o outcome next) goes true there = absurd (contains_none true k there)
 asked_right p v k (Sent o next) goes true there = absurd (contains_none true k there)

@@ -16,7 +16,7 @@ use Rattle.seat_programs.specs.declared.task.Op.TheVariants as ops
 use Rattle.seat_programs.specs.declared.task.Task.{Task}
 use Rattle.seat_programs.specs.declared.task.Sizes.{Sizes}
 use Rattle.seat_programs.specs.TableSteps.{TableStep, FindLink, SetOdd, StoreCode, SubRef, LookWord, LoadCode, StorePlace, DropPlace, LoadLink, TakeLink, FinishLink, PutLink, FreeSlot, FreeRequest, ReadNext, ReverseNext, Connect}
-use Rattle.seat_programs.specs.Writings.{Holder, Writing, Puts, Waits, Empties, Walks}
+use Rattle.seat_programs.specs.Writings.{Holder, Writing, Puts, Waits, Empties, Reversing}
 use Rattle.seat_programs.specs.Programs.{Program, Do, Say, Sent, Rest, TakeMessage, TakeHome, PutHome, PutBytes, AskReady, Write, Aside, Round, Keep, Retries, LAST_VERSION, LAST_GENERATION, recycle, release, add_reference, find_socket, set_failed, no_socket, make_socket, open_from, fail_outcome, fail}
 use Rattle.seat_programs.specs.SendAndWritePrograms.{freed, one_more, passed_telling, tell_drop, placed, dropped, put_answered, ready_answered, block, first_put, write_link, heading_of, accept, claim_from, start}
 use Rattle.seat_programs.specs.ClientProgram.{HeldLife, held_under, without_name, give_back, drop_of, operation, client_from, ending_of}
@@ -314,14 +314,14 @@ module _ (after : Program) (k : Guarded Unknown after) where
     tt,
     (
       tt,
-      λ found. sides (found == h.last) after (TakeHome h.link (λ places. Write (Walks (record h { places = places }) found found 0) after)) Unknown k (tt, λ places. (tt, k)),
+      λ found. sides (found == h.last) after (TakeHome h.link (λ places. Write (Reversing (record h { places = places }) found found 0) after)) Unknown k (tt, λ places. (tt, k)),
     ),
   )
-  block_guarded (Walks h top at next) = (
+  block_guarded (Reversing h top at next) = (
     tt,
-    λ found. sides (found == UNCONNECTED) (Write (Walks h top at next) after)
-        (Do (ReverseNext (ticket_request at) next) (λ _. if found == h.last then TakeMessage (ticket_request at) (λ heading bytes. Write (Puts (record h { last = top }) at heading bytes 0 false) after) else Write (Walks h top found at) after)) Unknown (tt, k)
-        (tt, λ a. sides (found == h.last) (TakeMessage (ticket_request at) (λ heading bytes. Write (Puts (record h { last = top }) at heading bytes 0 false) after)) (Write (Walks h top found at) after) Unknown (tt, λ heading bytes. (tt, k)) (tt, k)),
+    λ found. sides (found == UNCONNECTED) (Write (Reversing h top at next) after)
+        (Do (ReverseNext (ticket_request at) next) (λ _. if found == h.last then TakeMessage (ticket_request at) (λ heading bytes. Write (Puts (record h { last = top }) at heading bytes 0 false) after) else Write (Reversing h top found at) after)) Unknown (tt, k)
+        (tt, λ a. sides (found == h.last) (TakeMessage (ticket_request at) (λ heading bytes. Write (Puts (record h { last = top }) at heading bytes 0 false) after)) (Write (Reversing h top found at) after) Unknown (tt, λ heading bytes. (tt, k)) (tt, k)),
   )
 
 -- a seat at the head of a loop makes the first step of the round, and any other its next one

@@ -21,7 +21,7 @@ use Rattle.seat_programs.specs.Asides.{Step, ClaimId, PutCall, MakeId, StoreCall
 use Rattle.seat_programs.specs.FoundAndChangedAside.{at_last, found_in, calls_after, more_given}
 use Rattle.seat_programs.specs.LoopHeads.{Posts, Unlocks, Decides, Locks, Joins, Opens, Reads, Discards, HasEnded}
 use Rattle.seat_programs.specs.PostPrograms.{end_id, unlocked}
-use Rattle.seat_programs.specs.Writings.{Puts, Waits, Empties, Walks}
+use Rattle.seat_programs.specs.Writings.{Puts, Waits, Empties, Reversing}
 use Rattle.seat_programs.specs.Programs.{Program, TakeMessage, TakeHome, PutBytes, AskReady, Write, Aside, Round}
 use Rattle.seat_programs.specs.Cores.{Core, SeatState}
 use Rattle.seat_programs.specs.Ticks.{Answer, Unasked, OfPut, OfReady, OfTake, Moment, quiet, taken, with_message, with_link, with_put, with_ready, with_found, step_with, tick_with, ticked, run}
@@ -46,7 +46,7 @@ first_takes : (program : Program) → IsStep (first_step program) × (taken_link
 first_takes (Write (Puts h now heading left took put) after) = (tt, refl)
 first_takes (Write (Waits h now heading left took) after) = (tt, refl)
 first_takes (Write (Empties h) after) = (tt, refl)
-first_takes (Write (Walks h top at after) then_) = (tt, refl)
+first_takes (Write (Reversing h top at after) then_) = (tt, refl)
 first_takes (Round (Posts id e w) next) = (tt, refl)
 first_takes (Round (Unlocks j w advance) next) = (tt, refl)
 first_takes (Round (Decides id call w e) next) =

@@ -16,7 +16,7 @@ use Rattle.brpc_model.specs.Items.{Item}
 use Rattle.brpc_model.specs.Operations.{Turn}
 use Rattle.brpc_model.specs.Report.{Report, report_text}
 use Rattle.brpc_model.proofs.Unique.{only_report}
-use Rattle.seat_programs.specs.Writings.{Puts, Waits, Empties, Walks}
+use Rattle.seat_programs.specs.Writings.{Puts, Waits, Empties, Reversing}
 use Rattle.seat_programs.specs.Asides.{TakeBytes, Taking, Bytes, Nothing, NoMore, AtEnd, Closed, Broken}
 use Rattle.seat_programs.specs.LoopHeads.{Reads, Discards}
 use Rattle.seat_programs.specs.ReaderProgram.{room_of}
@@ -52,7 +52,7 @@ hears (AskReady k next) = inr (Writing k, k, [], own k)
 hears (Write (Waits h now heading left taken) after) = inr (Writing h.link, h.link, [], own h.link)
 hears (Write (Puts h now heading left taken put) after) = inl refl
 hears (Write (Empties h) after) = inl refl
-hears (Write (Walks h top at after) then_) = inl refl
+hears (Write (Reversing h top at after) then_) = inl refl
 hears (Aside (TakeBytes k room) next) = inr (Reading k, k, [], own k)
 hears (Aside step next) = inl refl
 hears (Round (Reads r) next) = inr (Reading r.link, r.link, [], own r.link)
@@ -196,7 +196,7 @@ halves k (AskReady j next) a h = all_one IsHalf (filter (λ (i : ℕ). i == k) (
 halves k (Write (Waits h now heading left taken) after) a answered = all_one IsHalf (filter (λ (i : ℕ). i == k) (h.link ∷ [])) a (inr (answered.0, answered.1))
 halves k (Write (Puts h now heading left taken put) after) a answered = tt
 halves k (Write (Empties h) after) a answered = tt
-halves k (Write (Walks h top at after) then_) a answered = tt
+halves k (Write (Reversing h top at after) then_) a answered = tt
 halves k other a h = tt
 
 takes : (k : ℕ) (program : Program) (a : Answer) → IsAnswer program a → AllByRecursion IsTake (map (λ (j : ℕ). a) (filter (λ (j : ℕ). j == k) (taken_link program)))

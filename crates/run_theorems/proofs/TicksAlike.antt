@@ -14,7 +14,7 @@ use Rattle.corr_core.specs.IdSlotWord.{parts, code_of}
 use Rattle.corr_core.specs.EndedByRangeOrAttempt.{ends_call}
 use Rattle.brpc_model.specs.Items.{Item}
 use Rattle.brpc_model.specs.Operations.{Turn, Ticks, Until}
-use Rattle.seat_programs.specs.Writings.{Puts, Waits, Empties, Walks}
+use Rattle.seat_programs.specs.Writings.{Puts, Waits, Empties, Reversing}
 use Rattle.seat_programs.specs.Asides.{TakeBytes, PutCall}
 use Rattle.seat_programs.specs.LoopHeads.{Head, Exit, Posts, Unlocks, Decides, Locks, Joins, Opens, Reads, Discards, HasEnded}
 use Rattle.seat_programs.specs.PostPrograms.{end_id, unlocked}
@@ -73,7 +73,7 @@ module _ (p : Plan) (i : ℕ) (seat : SeatState) (c : Core) (a b : Answer) where
   same_step (Write (Waits h now heading left taken) after) e = ap (λ (x : Answer). tick_with p i seat c x (Write (Waits h now heading left taken) after)) (same_first a b [] [] e)
   same_step (Write (Puts h now heading left taken put) after) e = refl
   same_step (Write (Empties h) after) e = refl
-  same_step (Write (Walks h top at after) then_) e = refl
+  same_step (Write (Reversing h top at after) then_) e = refl
   same_step (Round head next) e = round_same head next e
   same_step (PutBytes k put bytes next) e = step_same (PutBytes k put bytes next) e
   same_step (AskReady k next) e = step_same (AskReady k next) e
@@ -92,7 +92,7 @@ module _ (p : Plan) (i : ℕ) (seat : SeatState) (c : Core) (a b : Answer) where
   same_waits (Write (Waits h now heading left taken) after) e = ap (λ (x : Answer). waits_at p c x (Write (Waits h now heading left taken) after)) (same_first a b [] [] e)
   same_waits (Write (Puts h now heading left taken put) after) e = refl
   same_waits (Write (Empties h) after) e = refl
-  same_waits (Write (Walks h top at after) then_) e = refl
+  same_waits (Write (Reversing h top at after) then_) e = refl
   same_waits (Round head next) e = head_waits head next e
   same_waits other e = refl
 

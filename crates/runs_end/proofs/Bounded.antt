@@ -41,9 +41,9 @@ use Rattle.sock_runs.proofs.Quiets.{ticked_seats}
 
 module _ (p : Plan) (i : ℕ) (c : Core) (vs : List View) (v : View) (at_view : get_elem? vs i ≡ some v) where
   -- the walk has come to an entry that isn't connected
-  walk_same : (top place after : ℕ) (r : Right) → v.rights ≡ r ∷ [] → r.stage ≡ stages.Walks top place after → (found : ℕ) → eqb found UNCONNECTED ≡ true → by_right v.rights (λ (x : Right). read_next found v x x.stage) v ≡ v
+  walk_same : (top place after : ℕ) (r : Right) → v.rights ≡ r ∷ [] → r.stage ≡ stages.Reversing top place after → (found : ℕ) → eqb found UNCONNECTED ≡ true → by_right v.rights (λ (x : Right). read_next found v x x.stage) v ≡ v
   walk_same top place after r one stage found is = ap (λ (rs : List Right). by_right rs (λ (x : Right). read_next found v x x.stage) v) one
-      ∙ (ap (λ (s : Stage). read_next found v r s) stage ∙ ap (λ b. cond b v (with_right v (record r { stage = stages.Turns top place after found }))) is)
+      ∙ (ap (λ (s : Stage). read_next found v r s) stage ∙ ap (λ b. cond b v (with_right v (record r { stage = stages.ReversesNext top place after found }))) is)
 
   -- the word of the `open` isn't stored
   open_same : (found : ℕ) → eqb found 0 ≡ true → found_id found v ≡ v
@@ -62,7 +62,7 @@ module _ (p : Plan) (i : ℕ) (c : Core) (vs : List View) (v : View) (at_view : 
 
   -- a seat that waits keeps its view
   views_stay : (program : Program) (answer : Answer) → GoesOn p v program → waits_at p c answer program ≡ true → views_of p i c vs v answer program ≡ vs
-  views_stay (Write (heads.Walks h top place after) then_) answer g is = let found : ℕ = slice_index c.words (next_index p (ticket_request place)) in
+  views_stay (Write (heads.Reversing h top place after) then_) answer g is = let found : ℕ = slice_index c.words (next_index p (ticket_request place)) in
       set_same (row p (ReadNext (ticket_request place)) found (hand_at p c.words c.homes (ReadNext (ticket_request place))) v) (walk_same top place after g.0.0 g.0.1.one g.0.2.stage_is found is)
   views_stay (Write (heads.Waits h now heading left taken) after) (OfReady NotYet) g is = refl
   views_stay (Write (heads.Waits h now heading left taken) after) _ g is = absurd (true≢false (sym is))

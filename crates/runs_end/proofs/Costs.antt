@@ -17,7 +17,7 @@ use Rattle.sock_model.specs.Marks.{about, at, without_at}
 use Rattle.sock_model.specs.SlotRows.{marks_of, back, looked}
 use Rattle.sock_model.specs.ChainRows.{with_right}
 use Rattle.seat_programs.specs.TableSteps.{TableStep, LookWord, LoadCode, SetOdd, SubRef, StoreCode, StorePlace, DropPlace, EmptyHead, ReadNext, ReverseNext, FreeRequest}
-use Rattle.seat_programs.specs.Writings.{Holder, Writing, Puts, Waits, Empties, Walks}
+use Rattle.seat_programs.specs.Writings.{Holder, Writing, Puts, Waits, Empties, Reversing}
 use Rattle.seat_programs.specs.Programs.{Program, Do, TakeMessage, TakeHome, PutBytes, Write, LAST_GENERATION, set_failed}
 use Rattle.seat_programs.specs.SendAndWritePrograms.{freed, one_more, passed, passed_telling, tell_drop, placed, dropped, put_answered, block, first_put}
 use Rattle.seat_programs.specs.BufferParts.{part}
@@ -318,27 +318,27 @@ module _ (p : Plan) (after : Program) (m : ℕ) (follows : Lasting p after m) wh
     (
       2 + m,
       omega arith,
-      λ found hand f. either_lasts p after (TakeHome h.link (λ places. Write (Walks (record h { places = places }) found found 0) after)) (2 + m) (eqb found h.last) (lasting_more p after m (2 + m) (omega arith) follows)
-          (λ u. (1 + m, omega arith, λ places. heads_lasts (link_away u) (Walks (record h { places = places }) found found 0) (1 + m) (omega arith)))
+      λ found hand f. either_lasts p after (TakeHome h.link (λ places. Write (Reversing (record h { places = places }) found found 0) after)) (2 + m) (eqb found h.last) (lasting_more p after m (2 + m) (omega arith) follows)
+          (λ u. (1 + m, omega arith, λ places. heads_lasts (link_away u) (Reversing (record h { places = places }) found found 0) (1 + m) (omega arith)))
           (row p (EmptyHead (socket_id_slot h.id) h.last) found hand (link_home_again v)),
     ),
   )
 
   -- a walk that found the next word of its entry, and turns it: its steps are counted by what is left of it
   turned_lasts : (h : Holder) (top place successor found n : ℕ) → 1 + m ≤ n → Lasting p (Do (ReverseNext (ticket_request place) successor) (λ _. cond (eqb found h.last)
-      (TakeMessage (ticket_request place) (λ heading bytes. Write (Puts (record h { last = top }) place heading bytes 0 false) after)) (Write (Walks h top found place) after))) n
+      (TakeMessage (ticket_request place) (λ heading bytes. Write (Puts (record h { last = top }) place heading bytes 0 false) after)) (Write (Reversing h top found place) after))) n
   turned_lasts h top place successor found n le v = (
     n,
     omega arith,
-    λ word hand f. either_lasts p (TakeMessage (ticket_request place) (λ heading bytes. Write (Puts (record h { last = top }) place heading bytes 0 false) after)) (Write (Walks h top found place) after) n (eqb found h.last)
+    λ word hand f. either_lasts p (TakeMessage (ticket_request place) (λ heading bytes. Write (Puts (record h { last = top }) place heading bytes 0 false) after)) (Write (Reversing h top found place) after) n (eqb found h.last)
         (lasting_more p (TakeMessage (ticket_request place) (λ heading bytes. Write (Puts (record h { last = top }) place heading bytes 0 false) after)) (1 + m) n le (takes_next (record h { last = top }) place (ticket_request place)))
-        (λ u. heads_lasts u (Walks h top found place) n le)
+        (λ u. heads_lasts u (Reversing h top found place) n le)
         (row p (ReverseNext (ticket_request place) successor) word hand v),
   )
 
 -- a program that is at the head of a walk
 abbrev pub IsWalk : Program → Type 0
-IsWalk (Write (Walks h top place successor) then_) = Unit {0}
+IsWalk (Write (Reversing h top place successor) then_) = Unit {0}
 IsWalk other = ⊥
 
 -- a round from any other head takes one step of those left
@@ -346,9 +346,9 @@ pub lasts_round : (p : Plan) (v : View) (w : Writing) (after : Program) (n : ℕ
 lasts_round p v (Puts h now heading left taken asked) after n a other l = puts_round p after l.0 l.2 h now heading left taken v asked a.1.holds.held n l.1
 lasts_round p v (Waits h now heading left taken) after n a other l = waits_round p after l.0 l.2 h now heading left taken v a.1.holds.held n l.1
 lasts_round p v (Empties h) after n a other l = empties_round p after l.0 l.2 h v n l.1
-lasts_round p v (Walks h top place successor) after n a other l = absurd (other tt)
+lasts_round p v (Reversing h top place successor) after n a other l = absurd (other tt)
 
 -- a walk goes on behind the next word of its entry, where that was found
-pub lasts_walk : (p : Plan) (v : View) (h : Holder) (top place successor found : ℕ) (then_ : Program) (n : ℕ) → LastsFor p v (Write (Walks h top place successor) then_) n
-    → Lasting p (Do (ReverseNext (ticket_request place) successor) (λ _. cond (eqb found h.last) (TakeMessage (ticket_request place) (λ heading bytes. Write (Puts (record h { last = top }) place heading bytes 0 false) then_)) (Write (Walks h top found place) then_))) n
+pub lasts_walk : (p : Plan) (v : View) (h : Holder) (top place successor found : ℕ) (then_ : Program) (n : ℕ) → LastsFor p v (Write (Reversing h top place successor) then_) n
+    → Lasting p (Do (ReverseNext (ticket_request place) successor) (λ _. cond (eqb found h.last) (TakeMessage (ticket_request place) (λ heading bytes. Write (Puts (record h { last = top }) place heading bytes 0 false) then_)) (Write (Reversing h top found place) then_))) n
 lasts_walk p v h top place successor found then_ n l = turned_lasts p then_ l.0 l.2 h top place successor found n l.1

@@ -32,7 +32,7 @@ use Rattle.sock_steps.specs.chain_steps.proofs.FewRightsAndClaims.{few_rights}
 use Rattle.sock_steps.proofs.Maps.{set_at}
 use Rattle.sock_steps.proofs.AcceptSteps.{link_in, idle_home}
 use Rattle.sock_steps.proofs.Walked.{walk_less, turn_less, accepted_count}
-use Rattle.seat_programs.specs.Writings.{Holder, Writing, Puts, Waits, Empties, Walks}
+use Rattle.seat_programs.specs.Writings.{Holder, Writing, Puts, Waits, Empties, Reversing}
 use Rattle.seat_programs.specs.TableSteps.{TableStep, SwapHead, PutMessage, ReadNext, ReverseNext}
 use Rattle.seat_programs.specs.Programs.{Program, Do, Say, Sent, Rest, TakeMessage, TakeHome, PutHome, PutBytes, AskReady, Write, Aside, Round, Keep, Retries}
 use Rattle.seat_programs.specs.LoopHeads.{Retry}
@@ -86,7 +86,7 @@ IsOfSockets other = Unit {0}
 
 -- a round begins with a step
 never_rests : (w : Writing) (after : Program) → kind_in (block w after) ≡ None → ⊥
-never_rests (Walks h top place successor) then_ e = none-some _ (sym e)
+never_rests (Reversing h top place successor) then_ e = none-some _ (sym e)
 never_rests _ after e = none-some _ (sym e)
 
 -- a link that is told how many places it has is no message
@@ -408,18 +408,18 @@ module _ (p : Plan) (c : Core) (vs : List View) (n : ℕ) (lasts : Lasts p c vs 
           → Fewer p n (step_with p i seat c answer (block w after)) (views_with p i c vs v answer (block w after))
       round_moves w after step goes l a = ⊎_elim (λ none_. absurd (never_rests w after none_)) (λ few. few) (first_moves (block w after) step (begins_round p v w after goes) l a)
 
-      walk_moves : (h : Holder) (top place successor : ℕ) (then_ : Program) → GoesOn p v (Write (Walks h top place successor) then_) → LastsFor p v (Write (Walks h top place successor) then_) k → Moves (Write (Walks h top place successor) then_)
+      walk_moves : (h : Holder) (top place successor : ℕ) (then_ : Program) → GoesOn p v (Write (Reversing h top place successor) then_) → LastsFor p v (Write (Reversing h top place successor) then_) k → Moves (Write (Reversing h top place successor) then_)
       walk_moves h top place successor then_ goes l = by_found (eqb (slice_index c.words (next_index p (ticket_request place))) UNCONNECTED) refl
         where
-          by_found : (b : Bool) → eqb (slice_index c.words (next_index p (ticket_request place))) UNCONNECTED ≡ b → Moves (Write (Walks h top place successor) then_)
+          by_found : (b : Bool) → eqb (slice_index c.words (next_index p (ticket_request place))) UNCONNECTED ≡ b → Moves (Write (Reversing h top place successor) then_)
           by_found true is = inl (inr is)
           by_found false is = let found : ℕ = slice_index c.words (next_index p (ticket_request place)) in let r : Right = goes.0.0 in let o = sound.lawful in let call : TableStep = ReadNext (ticket_request place) in
               let w : View = row p call found (hand_at p c.words c.homes call) v in
-              let turns : Program = Do (ReverseNext (ticket_request place) successor) (λ _. cond (eqb found h.last) (TakeMessage (ticket_request place) (λ heading bytes. Write (Puts (record h { last = top }) place heading bytes 0 false) then_)) (Write (Walks h top found place) then_)) in
-              let begins = begins_round p v (Walks h top place successor) then_ goes in
-              inr (seat_steps (cond (eqb found UNCONNECTED) (Write (Walks h top place successor) then_) turns) seat.hand (set c.words (next_index p (ticket_request place)) found) c.homes w k
+              let turns : Program = Do (ReverseNext (ticket_request place) successor) (λ _. cond (eqb found h.last) (TakeMessage (ticket_request place) (λ heading bytes. Write (Puts (record h { last = top }) place heading bytes 0 false) then_)) (Write (Reversing h top found place) then_)) in
+              let begins = begins_round p v (Reversing h top place successor) then_ goes in
+              inr (seat_steps (cond (eqb found UNCONNECTED) (Write (Reversing h top place successor) then_) turns) seat.hand (set c.words (next_index p (ticket_request place)) found) c.homes w k
               (begins.1 found (hand_at p c.words c.homes call) (allowed sound call begins.0))
-              (subst (λ b. LastsFor p w (cond b (Write (Walks h top place successor) then_) turns) k) (sym is) (lasts_walk p v h top place successor found then_ k l w))
+              (subst (λ b. LastsFor p w (cond b (Write (Reversing h top place successor) then_) turns) k) (sym is) (lasts_walk p v h top place successor found then_ k l w))
               (lists_stay p v found (hand_at p c.words c.homes call) call refl)
               (let z = WalksLeft.read_less (accepted vs) p v found (hand_at p c.words c.homes call) (ticket_request place) r top place successor goes.0.1.one goes.0.2.stage_is (λ e. true≢false (sym (eq-eqb found UNCONNECTED e) ∙ is))
               (omega (arith, walk_less o i 0 v r at_view (ap (λ (rs : List Right). get_elem? rs 0) goes.0.1.one) top place successor goes.0.2.stage_is, accepted_count (λ (u : View). u.lists) vs o.log o.authors r.link)) in omega (arith, z)))
@@ -434,7 +434,7 @@ module _ (p : Plan) (c : Core) (vs : List View) (n : ℕ) (lasts : Lasts p c vs 
       tick_moves (Round head next) of goes l a = absurd of
       tick_moves (Keep r next) of goes l a = inl (inl refl)
       tick_moves (Retries requests after) of goes l a = inl (inl refl)
-      tick_moves (Write (Walks h top place successor) then_) of goes l a = walk_moves h top place successor then_ goes l
+      tick_moves (Write (Reversing h top place successor) then_) of goes l a = walk_moves h top place successor then_ goes l
       tick_moves (Write (Puts h now heading left taken asked) after) of goes l a =
           inr (round_moves (Puts h now heading left taken asked) after tt goes (lasts_round p v (Puts h now heading left taken asked) after k goes.0 (λ x. x) l) (answer_begins (Write (Puts h now heading left taken asked) after) answer a))
       tick_moves (Write (Waits h now heading left taken) after) of goes l a =

@@ -13,7 +13,7 @@ use Rattle.sock_model.specs.declared.chain.Entry.{Entry}
 use Rattle.sock_model.specs.declared.chain.Heading.{Heading}
 use Rattle.sock_model.specs.declared.chain.Right.{Right}
 use Rattle.sock_model.specs.declared.chain.Stage.{Stage}
-use Rattle.sock_model.specs.declared.chain.Stage.TheVariants.{Writes, Placed, Passes, Empties, Walks, Turns}
+use Rattle.sock_model.specs.declared.chain.Stage.TheVariants.{Writes, Placed, Passes, Empties, Reversing, ReversesNext}
 use Rattle.sock_model.specs.declared.home.Home.{Home}
 use Rattle.sock_model.specs.declared.home.Home.TheVariants.{Message}
 use Rattle.sock_model.specs.declared.view.View.{View}
@@ -79,7 +79,7 @@ module _ (counts : ℕ → ℕ) where
   not_turning last _ = refl
 
   turned_few : (r : Right) (top at before : ℕ) → (left (turned_right r top at before) ≡ 2 * (counts r.link - (r.noted + suc r.turned))) × ((turned_right r top at before).link ≡ r.link)
-  turned_few r top at before = either_way (eqb before r.last) (record r { last = top; stage = Writes at; turned = 0; noted = r.noted + suc r.turned }) (record r { stage = Walks top before at; turned = suc r.turned })
+  turned_few r top at before = either_way (eqb before r.last) (record r { last = top; stage = Writes at; turned = 0; noted = r.noted + suc r.turned }) (record r { stage = Reversing top before at; turned = suc r.turned })
       (λ (z : Right). (left z ≡ 2 * (counts r.link - (r.noted + suc r.turned))) × (z.link ≡ r.link)) (omega arith, refl) (omega arith, refl)
 
   module _ (v : View) (r : Right) (rs : List Right) (one : v.rights ≡ r ∷ rs) where
@@ -95,12 +95,12 @@ module _ (counts : ℕ → ℕ) where
     reads_few : (found : ℕ) (b : Stage) → r.stage ≡ b → Few (read_next found v r b)
     reads_few found (Placed now) is = let b : Stage = settled_stage r.last (Passes now found) in
         with_few (record r { stage = b }) refl (omega (arith, not_turning r.last (Passes now found), ap is_turning is))
-    reads_few found (Walks top at after) is = either_way (eqb found UNCONNECTED) v (with_right v (record r { stage = Turns top at after found })) Few same_few
-        (with_few (record r { stage = Turns top at after found }) refl (omega (arith, ap is_turning is)))
+    reads_few found (Reversing top at after) is = either_way (eqb found UNCONNECTED) v (with_right v (record r { stage = ReversesNext top at after found })) Few same_few
+        (with_few (record r { stage = ReversesNext top at after found }) refl (omega (arith, ap is_turning is)))
     reads_few found _ is = same_few
 
     turns_few : (b : Stage) → r.stage ≡ b → Few (turned_next v r b)
-    turns_few (Turns top at after before) is = let z = turned_few r top at before in with_few (turned_right r top at before) z.1 (omega (arith, z.0, ap is_turning is))
+    turns_few (ReversesNext top at after before) is = let z = turned_few r top at before in with_few (turned_right r top at before) z.1 (omega (arith, z.0, ap is_turning is))
     turns_few _ is = same_few
 
     frees_few : (b : Stage) → r.stage ≡ b → Few (with_right v (record r { stage = freed_stage b }))
@@ -120,9 +120,9 @@ module _ (counts : ℕ → ℕ) where
     drops_next_few _ is = same_few
 
     empties_few : (last found : ℕ) → is_turning r.stage ≡ 0 → Few (emptied last found v r)
-    empties_few last found none_ = either_way (eqb found last) (without_right v r.link) (with_right v (record r { stage = Walks found found 0 })) Few
+    empties_few last found none_ = either_way (eqb found last) (without_right v r.link) (with_right v (record r { stage = Reversing found found 0 })) Few
         (omega (arith, ap (total left) one, filter_few left (λ (x : Right). not (eqb x.link r.link)) v.rights))
-        (with_few (record r { stage = Walks found found 0 }) refl (omega (arith, none_)))
+        (with_few (record r { stage = Reversing found found 0 }) refl (omega (arith, none_)))
 
   module _ (p : Plan) (v : View) (found : ℕ) (hand : Hand) where
     abbrev Few_left : View → Type 0
@@ -150,14 +150,14 @@ module _ (counts : ℕ → ℕ) where
     rights_few call may other = stays_few call refl
 
     -- a walk that found the next word of its entry has a step less left, and one that turned it too
-    pub read_less : (q : ℕ) (r : Right) (top at after : ℕ) → v.rights ≡ r ∷ [] → r.stage ≡ Walks top at after → found ≢ UNCONNECTED → r.noted + r.turned < counts r.link → total left (row p (ReadNext q) found hand v).rights < total left v.rights
-    read_less q r top at after one stage some_ less = let s : Right = record r { stage = Turns top at after found } in
+    pub read_less : (q : ℕ) (r : Right) (top at after : ℕ) → v.rights ≡ r ∷ [] → r.stage ≡ Reversing top at after → found ≢ UNCONNECTED → r.noted + r.turned < counts r.link → total left (row p (ReadNext q) found hand v).rights < total left v.rights
+    read_less q r top at after one stage some_ less = let s : Right = record r { stage = ReversesNext top at after found } in
         subst (λ (l : List Right). total left (by_right l (λ r. read_next found v r r.stage) v).rights < total left l) (sym one)
         (subst (λ (b : Stage). total left (read_next found v r b).rights < total left (r ∷ [])) (sym stage)
         (subst (λ (b : Bool). total left (cond b v (with_right v s)).rights < total left (r ∷ [])) (sym (ne_eqb found UNCONNECTED some_))
         (let z = with_right_few left v r s [] 1 one refl (omega (arith, less, ap is_turning stage)) in omega (arith, z))))
 
-    pub turn_less : (q value : ℕ) (r : Right) (top at after before : ℕ) → v.rights ≡ r ∷ [] → r.stage ≡ Turns top at after before → r.noted + r.turned < counts r.link → total left (row p (ReverseNext q value) found hand v).rights < total left v.rights
+    pub turn_less : (q value : ℕ) (r : Right) (top at after before : ℕ) → v.rights ≡ r ∷ [] → r.stage ≡ ReversesNext top at after before → r.noted + r.turned < counts r.link → total left (row p (ReverseNext q value) found hand v).rights < total left v.rights
     turn_less q value r top at after before one stage less = let t = turned_few r top at before in
         subst (λ (l : List Right). total left (by_right l (λ r. turned_next v r r.stage) v).rights < total left l) (sym one)
         (subst (λ (b : Stage). total left (turned_next v r b).rights < total left (r ∷ [])) (sym stage)

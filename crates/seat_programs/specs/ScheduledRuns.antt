@@ -8,7 +8,7 @@ use Rattle.sock_model.specs.sock_words.specs.KindText.{kind_text}
 use Rattle.sock_model.specs.sock_words.specs.declared.plain.Plan.{Plan}
 use Rattle.sock_message.specs.brpc_model.specs.Operations.{Turn, Ticks, Until}
 use Rattle.seat_programs.specs.TableSteps.{kind_of}
-use Rattle.seat_programs.specs.Writings.{Writing, Puts, Waits, Empties, Walks}
+use Rattle.seat_programs.specs.Writings.{Writing, Puts, Waits, Empties, Reversing}
 use Rattle.seat_programs.specs.Programs.{Program, Do, TakeMessage, TakeHome, PutHome, PutBytes, AskReady, Write, Aside, Round}
 use Rattle.seat_programs.specs.Asides.{kind_aside}
 use Rattle.seat_programs.specs.LoopRounds.{kind_of_round}
@@ -22,7 +22,7 @@ abbrev pub head_kind : Writing → Kind
 head_kind (Puts h now heading left taken asked) = A8
 head_kind (Waits h now heading left taken) = W2
 head_kind (Empties h) = L2
-head_kind (Walks h top at after) = C5
+head_kind (Reversing h top at after) = C5
 
 abbrev pub kind_in : Program → Option Kind
 kind_in (Do call next) = Some (kind_of call)

@@ -10,7 +10,7 @@ use Rattle.sock_io.specs.declared.link.Ready.TheVariants as asks
 use Rattle.sock_model.specs.declared.chain.Heading.{Heading}
 use Rattle.sock_model.specs.Entries.{ticket_of}
 use Rattle.seat_programs.specs.TableSteps.{LookWord, FindLink, LoadCode, ClaimRequest, PutMessage, Unconnect, SwapHead, Connect, EmptyHead, ReadNext, ReverseNext, FreeRequest, StorePlace, DropPlace}
-use Rattle.seat_programs.specs.Writings.{Holder, Writing, Puts, Waits, Empties, Walks}
+use Rattle.seat_programs.specs.Writings.{Holder, Writing, Puts, Waits, Empties, Reversing}
 use Rattle.seat_programs.specs.BufferParts.{part}
 use Rattle.seat_programs.specs.Programs.{Program, Do, Say, Sent, TakeMessage, TakeHome, PutHome, PutBytes, AskReady, Write, LAST_GENERATION, find_socket, release, set_failed}
 use Rattle.seat_programs.specs.PostPrograms.{post}
@@ -68,12 +68,12 @@ block (Puts h now heading left taken asked) after = Do (LookWord h.id) (λ found
     else dropped h now heading after)
 block (Waits h now heading left taken) after = AskReady h.link (ready_answered h now heading left taken after)
 block (Empties h) after = PutHome h.link h.places (Do (EmptyHead (socket_id_slot h.id) h.last) (λ found.
-    if found == h.last then after else TakeHome h.link (λ places. Write (Walks (record h { places = places }) found found 0) after)))
-block (Walks h top at after) then_ = Do (ReadNext (ticket_request at)) (λ found.
-    if found == UNCONNECTED then Write (Walks h top at after) then_
+    if found == h.last then after else TakeHome h.link (λ places. Write (Reversing (record h { places = places }) found found 0) after)))
+block (Reversing h top at after) then_ = Do (ReadNext (ticket_request at)) (λ found.
+    if found == UNCONNECTED then Write (Reversing h top at after) then_
     else Do (ReverseNext (ticket_request at) after) (λ _.
     if found == h.last then TakeMessage (ticket_request at) (λ heading bytes. Write (Puts (record h { last = top }) at heading bytes 0 false) then_)
-    else Write (Walks h top found at) then_))
+    else Write (Reversing h top found at) then_))
 
 -- ## Sending
 

@@ -11,7 +11,7 @@ use Rattle.sock_message.specs.brpc_model.specs.Operations.{Turn}
 use Rattle.seat_programs.specs.declared.task.Op.TheVariants as ops
 use Rattle.seat_programs.specs.declared.task.Task.{Task}
 use Rattle.seat_programs.specs.TableSteps.{TableStep, SubRef, Recycle, LookWord, ReadNext}
-use Rattle.seat_programs.specs.Writings.{Writing, Puts, Walks}
+use Rattle.seat_programs.specs.Writings.{Writing, Puts, Reversing}
 use Rattle.seat_programs.specs.Programs.{Program, Do, Write}
 use Rattle.seat_programs.specs.Cores.{Core, found_at}
 use Rattle.seat_programs.specs.StepTables.{word_of}
@@ -25,7 +25,7 @@ use Rattle.seat_programs.specs.Explained.{IsTask, Became}
 -- the step on a word from the head of a loop
 abbrev pub head_call : Writing → Option TableStep
 head_call (Puts h now heading left taken asked) = Some (LookWord h.id)
-head_call (Walks h top at after) = Some (ReadNext (ticket_request at))
+head_call (Reversing h top at after) = Some (ReadNext (ticket_request at))
 head_call other = None
 
 -- the step on a word that comes next, where one does

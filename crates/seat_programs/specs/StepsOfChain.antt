@@ -8,7 +8,7 @@ use Rattle.sock_model.specs.sock_words.specs.PackedWords.{socket_id_version, soc
 use Rattle.sock_model.specs.declared.chain.Claim.{Claim}
 use Rattle.sock_model.specs.declared.chain.Right.{Right}
 use Rattle.sock_model.specs.declared.chain.Stage.{Stage}
-use Rattle.sock_model.specs.declared.chain.Stage.TheVariants.{Writes, Placed, Passes, Empties, Walks, Turns}
+use Rattle.sock_model.specs.declared.chain.Stage.TheVariants.{Writes, Placed, Passes, Empties, Reversing, ReversesNext}
 use Rattle.sock_model.specs.declared.home.Home.{Home}
 use Rattle.sock_model.specs.declared.view.View.{View}
 use Rattle.sock_model.specs.declared.view.Hand.{Hand}
@@ -56,7 +56,7 @@ IsLoose v q before = (n : ℕ) × (get_elem? v.loose n ≡ some (record { reques
 
 -- of its one right it placed a message that isn't the last one noted, or its walk has come to the entry: that of request q
 abbrev pub MayRead : View → ℕ → Type 0
-MayRead v q = (r : Right) × (v.rights ≡ r ∷ []) × (((now : ℕ) × (r.stage ≡ Placed now) × (now ≢ r.last) × (ticket_request now ≡ q)) ⊎ ((top at after : ℕ) × (r.stage ≡ Walks top at after) × (ticket_request at ≡ q)))
+MayRead v q = (r : Right) × (v.rights ≡ r ∷ []) × (((now : ℕ) × (r.stage ≡ Placed now) × (now ≢ r.last) × (ticket_request now ≡ q)) ⊎ ((top at after : ℕ) × (r.stage ≡ Reversing top at after) × (ticket_request at ≡ q)))
 
 -- of its one right it placed the message of this ticket, the last one noted, or it read what follows
 abbrev pub MayFree : View → ℕ → Type 0
@@ -107,16 +107,16 @@ exchanged found hand v c = if nat_lt found IDLE then queued v c found else right
 
 -- the head was this ticket and is idle, or the walk begins at the one found
 abbrev pub emptied : ℕ → ℕ → View → Right → View
-emptied last found v r = if found == last then without_right v r.link else with_right v (record r { stage = Walks found found 0 })
+emptied last found v r = if found == last then without_right v r.link else with_right v (record r { stage = Reversing found found 0 })
 
 -- the next word of the message just placed was read, or that of the entry to which a walk has come
 abbrev pub read_next : ℕ → View → Right → Stage → View
 read_next found v r (Placed now) = with_right v (settled (record r { stage = Passes now found }))
-read_next found v r (Walks top at after) = if found == UNCONNECTED then v else with_right v (record r { stage = Turns top at after found })
+read_next found v r (Reversing top at after) = if found == UNCONNECTED then v else with_right v (record r { stage = ReversesNext top at after found })
 read_next found v r other = v
 
 abbrev pub turned_next : View → Right → Stage → View
-turned_next v r (Turns top at after before) = with_right v (turned_right r top at before)
+turned_next v r (ReversesNext top at after before) = with_right v (turned_right r top at before)
 turned_next v r other = v
 
 -- the request of the message just placed is free, and the right goes on

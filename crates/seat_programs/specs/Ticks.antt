@@ -199,7 +199,7 @@ waits_in p ws a answer (Discards k total) = is_nothing a.ending answer
 waits_in p ws a answer other = false
 
 abbrev pub waits_at : Plan → Core → Answer → Program → Bool
-waits_at p c answer (Write (heads.Walks h top at after) then_) = slice_index c.words (next_index p (ticket_request at)) == UNCONNECTED
+waits_at p c answer (Write (heads.Reversing h top at after) then_) = slice_index c.words (next_index p (ticket_request at)) == UNCONNECTED
 waits_at p c (OfReady NotYet) (Write (heads.Waits h now heading left taken) then_) = true
 waits_at p c answer (Round head next) = waits_in p c.words c.calls answer head
 waits_at p c answer other = false

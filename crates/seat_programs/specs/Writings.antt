@@ -18,4 +18,4 @@ pub data Writing : Type 0 where
   -- all messages up to the last have their places
   Empties : Holder → Writing
   -- the walk that began at the ticket `top` has come to `at`, whose successor is `after`: top, at, after
-  Walks : Holder → ℕ → ℕ → ℕ → Writing
+  Reversing : Holder → ℕ → ℕ → ℕ → Writing

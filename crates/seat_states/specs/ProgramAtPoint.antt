@@ -312,10 +312,10 @@ module _ (a : Context) where
     behind_drop c next = told c (freed_program next)
 
     abbrev pub taken_again : ℕ → Program
-    taken_again found = TakeHome w.holder.link (λ places. Write (heads.Walks (record (holder_of w.holder) { places = places }) found found 0) written_program)
+    taken_again found = TakeHome w.holder.link (λ places. Write (heads.Reversing (record (holder_of w.holder) { places = places }) found found 0) written_program)
 
     abbrev pub walk_program : ℕ → ℕ → ℕ → Program
-    walk_program top at after = Write (heads.Walks (holder_of w.holder) top at after) written_program
+    walk_program top at after = Write (heads.Reversing (holder_of w.holder) top at after) written_program
 
     abbrev pub first_of_walk : ℕ → ℕ → Program
     first_of_walk top at = next_message (record (holder_of w.holder) { last = top }) at
@@ -337,8 +337,8 @@ module _ (a : Context) where
     write_program writes.PutHome = Write (heads.Empties (holder_of w.holder)) written_program
     write_program writes.EmptyHead = Do (calls.EmptyHead (socket_id_slot w.holder.id.0) w.holder.last.0) (λ found. if found == w.holder.last.0 then written_program else taken_again found)
     write_program (writes.TakeHome found) = taken_again found.0
-    write_program (writes.Walk top at after) = walk_program top.0 at.0 after.0
-    write_program (writes.Turn top at after before) = Do (calls.ReverseNext (ticket_request at.0) after.0) (λ _.
+    write_program (writes.Reversing top at after) = walk_program top.0 at.0 after.0
+    write_program (writes.ReverseNext top at after before) = Do (calls.ReverseNext (ticket_request at.0) after.0) (λ _.
         if before.0 == w.holder.last.0 then first_of_walk top.0 at.0 else walk_program top.0 before.0 at.0)
     write_program (writes.TakeFirst top at) = first_of_walk top.0 at.0
 

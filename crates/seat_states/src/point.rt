@@ -242,9 +242,9 @@ pub enum WriteStep {
     /// and where it has this newer ticket, the link is taken again.
     TakeHome(Ticket),
     /// The walk from the first of these tickets has come to the second, whose successor is the third, or 0.
-    Walk(Ticket, Ticket, Ticket),
+    Reversing(Ticket, Ticket, Ticket),
     /// The same, and the next word of the second was read: it had the fourth.
-    Turn(Ticket, Ticket, Ticket, Ticket),
+    ReverseNext(Ticket, Ticket, Ticket, Ticket),
     /// The walk from the first ended at the second, whose message is taken.
     TakeFirst(Ticket, Ticket),
 }

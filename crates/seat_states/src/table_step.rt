@@ -6,7 +6,7 @@ ghost use Rattle.program_steps.specs.SoundSeats.{AllowsWord};
 ghost use Rattle.seat_states.specs.ProgramStepsOfMachine.{step_of};
 
 use chain_core::{
-    claim_request, connect, empty_head, free_request, read_next, swap_head, turn_next, unconnect,
+    claim_request, connect, empty_head, free_request, read_next, reverse_next, swap_head, unconnect,
 };
 use ref_core::{add_ref, birth, claim_slot, free_slot, look_word, recycle, set_odd, sub_ref};
 use sock_model::{
@@ -190,7 +190,7 @@ impl TableStep {
             TableStep::SwapHead(_, own) => swap_head(found, own).next,
             TableStep::Connect(_, before) => connect(found, before).next,
             TableStep::EmptyHead(_, last) => empty_head(found, last).next,
-            TableStep::ReverseNext(_, value) => turn_next(found, value.0).next,
+            TableStep::ReverseNext(_, value) => reverse_next(found, value.0).next,
             TableStep::FreeRequest(_, generation) => free_request(found, generation).next,
             TableStep::StorePlace(_, link, position) => PlaceWord::pack(false, link, position).0,
             TableStep::DropPlace(_, link, position) => PlaceWord::pack(true, link, position).0,

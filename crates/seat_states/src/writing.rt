@@ -106,7 +106,7 @@ impl Writer {
             },
             ..self
         };
-        writer.to(WriteStep::Walk(found, found, Ticket(0)))
+        writer.to(WriteStep::Reversing(found, found, Ticket(0)))
     }
 
     /// The next step of whoever writes.
@@ -143,8 +143,8 @@ impl Writer {
             WriteStep::PutHome => Step::PutHome(link, places),
             WriteStep::EmptyHead => Step::Table(TableStep::EmptyHead(id.slot(), last)),
             WriteStep::TakeHome(_) => Step::TakeHome(link),
-            WriteStep::Walk(_, at, _) => Step::Table(TableStep::ReadNext(at.request())),
-            WriteStep::Turn(_, at, after, _) => Step::Table(TableStep::ReverseNext(
+            WriteStep::Reversing(_, at, _) => Step::Table(TableStep::ReadNext(at.request())),
+            WriteStep::ReverseNext(_, at, after, _) => Step::Table(TableStep::ReverseNext(
                 at.request(),
                 after,
             )),
@@ -258,25 +258,25 @@ impl Writer {
 
     /// What follows on a walk once a next word was turned; before that it had the last of these tickets.
     fn turned(self, top: Ticket, at: Ticket, before: Ticket) -> Next
-        ensures program { (a : Context) (after : Ticket) (found : ℕ) → next_program a result ≡ after_word (write_program a self (WriteStep.Turn top at after before)) found }
+        ensures program { (a : Context) (after : Ticket) (found : ℕ) → next_program a result ≡ after_word (write_program a self (WriteStep.ReverseNext top at after before)) found }
         ensures hand { link_behind result ≡ None }
     {
         if before == self.holder.last {
             self.to(WriteStep::TakeFirst(top, at))
         } else {
-            self.to(WriteStep::Walk(top, before, at))
+            self.to(WriteStep::Reversing(top, before, at))
         }
     }
 
     /// What follows on a walk once the next word was read, which may not be connected yet.
     fn walked(self, top: Ticket, at: Ticket, after: Ticket, found: u64) -> Next
-        ensures program { (a : Context) → next_program a result ≡ after_word (write_program a self (WriteStep.Walk top at after)) found }
+        ensures program { (a : Context) → next_program a result ≡ after_word (write_program a self (WriteStep.Reversing top at after)) found }
         ensures hand { link_behind result ≡ None }
     {
         if found == UNCONNECTED {
-            self.to(WriteStep::Walk(top, at, after))
+            self.to(WriteStep::Reversing(top, at, after))
         } else {
-            self.to(WriteStep::Turn(top, at, after, Ticket(found)))
+            self.to(WriteStep::ReverseNext(top, at, after, Ticket(found)))
         }
     }
 
@@ -315,8 +315,8 @@ impl Writer {
             WriteStep::ReadNext(now, told) => { self.gives_back(now, Some(Ticket(found)), told) }
             WriteStep::Free(_, next, told) => self.tells(next, told),
             WriteStep::EmptyHead => self.emptied(Ticket(found)),
-            WriteStep::Walk(top, at, after) => self.walked(top, at, after, found),
-            WriteStep::Turn(top, at, _, before) => self.turned(top, at, before),
+            WriteStep::Reversing(top, at, after) => self.walked(top, at, after, found),
+            WriteStep::ReverseNext(top, at, _, before) => self.turned(top, at, before),
             WriteStep::Put(_, _)
             | WriteStep::Ask(_)
             | WriteStep::TakeMessage(_)

@@ -7,7 +7,7 @@ use Rattle.sock_words.specs.declared.outcome.Outcome.TheVariants.{Failed}
 use Rattle.seat_programs.specs.declared.task.Op.TheVariants as ops
 use Rattle.seat_programs.specs.declared.task.Task.{Task}
 use Rattle.seat_programs.specs.TableSteps.{TableStep, SetOdd, LoadOpen}
-use Rattle.seat_programs.specs.Writings.{Puts, Waits, Empties, Walks}
+use Rattle.seat_programs.specs.Writings.{Puts, Waits, Empties, Reversing}
 use Rattle.seat_programs.specs.Programs.{Program, Do, Say, Write, Round}
 use Rattle.accept_counts.specs.Below.programs_allowed.specs.program_steps.proofs.TickCases.{IsOfLoop, loop_begins}
 use Rattle.accept_counts.specs.Below.outcome_stories.specs.Explains.{Way, Own, Beside, Closing, Done, Because, IsExplainedBy, ExplainsBy, step}
@@ -66,6 +66,6 @@ sets_here (Do c n) i next e = e
 sets_here (Write (Puts h now heading left taken asked) after) i next e = absurd (cc)
 sets_here (Write (Waits h now heading left taken) after) i next e = absurd (cc)
 sets_here (Write (Empties h) after) i next e = absurd (cc)
-sets_here (Write (Walks h top at behind) after) i next e = absurd (cc)
+sets_here (Write (Reversing h top at behind) after) i next e = absurd (cc)
 sets_here (Round head n) i next e = absurd (let o = subst IsOfLoop e (loop_begins head n) in let q : SetOdd i ≡ LoadOpen o.0 = o.1 in cc)
 sets_here _ i next e = absurd (cc)

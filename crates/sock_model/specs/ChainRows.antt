@@ -7,7 +7,7 @@ use Rattle.sock_model.specs.declared.chain.Right.{Right}
 use Rattle.sock_model.specs.declared.chain.Claim.{Claim}
 use Rattle.sock_model.specs.declared.chain.Loose.{Loose}
 use Rattle.sock_model.specs.declared.chain.Stage.{Stage}
-use Rattle.sock_model.specs.declared.chain.Stage.TheVariants.{Writes, Placed, Passes, Empties, Walks, Turns}
+use Rattle.sock_model.specs.declared.chain.Stage.TheVariants.{Writes, Placed, Passes, Empties, Reversing, ReversesNext}
 use Rattle.sock_model.specs.declared.view.View.{View}
 use Rattle.sock_model.specs.declared.view.Hand.{Hand}
 use Rattle.sock_model.specs.Marks.{without_pass}
@@ -66,7 +66,7 @@ without_right v k = record v { rights = filter (λ (x : Right). not (x.link == k
 
 -- C4: the head had this newer ticket, from which the walk begins
 abbrev pub walking_right : Right → ℕ → Right
-walking_right r top = record r { stage = Walks top top 0 }
+walking_right r top = record r { stage = Reversing top top 0 }
 
 -- C5: the next word of `now`, which has its place, was read
 abbrev pub passing_right : Right → (now next : ℕ) → Right
@@ -74,7 +74,7 @@ passing_right r now next = record r { stage = Passes now next }
 
 -- C5: the next word at which the walk stands was read
 abbrev pub reading_right : Right → (top at after before : ℕ) → Right
-reading_right r top at after before = record r { stage = Turns top at after before }
+reading_right r top at after before = record r { stage = ReversesNext top at after before }
 
 -- what comes once the entry that has its place gave its request back: the next one, or the head
 abbrev pub freed_stage : Stage → Stage
@@ -87,7 +87,7 @@ freed_right r = record r { stage = freed_stage r.stage }
 
 -- C6: the walk turned the next word of `at`
 abbrev pub turned_right : Right → ℕ → ℕ → ℕ → Right
-turned_right r top at before = cond (before == r.last) (record r { last = top; stage = Writes at; turned = 0; noted = r.noted + suc r.turned }) (record r { stage = Walks top before at; turned = suc r.turned })
+turned_right r top at before = cond (before == r.last) (record r { last = top; stage = Writes at; turned = 0; noted = r.noted + suc r.turned }) (record r { stage = Reversing top before at; turned = suc r.turned })
 
 -- P1: the message in hand got its place, whole or dropped; `sent` is what the link took of it
 abbrev pub placed_right : Right → ℕ → Right

@@ -6,7 +6,7 @@ use Rattle.sock_words.specs.declared.plain.Plan.{Plan}
 use Rattle.sock_model.specs.declared.chain.Entry.{Entry}
 use Rattle.sock_model.specs.declared.chain.Right.{Right}
 use Rattle.sock_model.specs.declared.chain.Claim.{Claim}
-use Rattle.sock_model.specs.declared.chain.Stage.TheVariants.{Writes, Empties, Turns}
+use Rattle.sock_model.specs.declared.chain.Stage.TheVariants.{Writes, Empties, ReversesNext}
 use Rattle.sock_model.specs.declared.view.View.{View}
 use Rattle.sock_model.specs.Entries.{ticket_of}
 use Rattle.sock_model.specs.LinksInSlots.{HoldsLink}
@@ -58,7 +58,7 @@ pub record MayTurn (v : View) (value : ℕ) : Type 0 where
   pub top : ℕ
   pub at : ℕ
   pub before : ℕ
-  pub stage : mine.right.stage ≡ Turns top at value before
+  pub stage : mine.right.stage ≡ ReversesNext top at value before
 
 -- P1: the link and a message that it took whole are in hand
 pub record MayPlace (p : Plan) (v : View) : Type 0 where

@@ -4,7 +4,7 @@ use mathlib.Core.Option.{none, some}
 use lib.ListN.{get_elem?}
 use Rattle.sock_model.specs.declared.chain.Entry.{Entry}
 use Rattle.sock_model.specs.declared.chain.Stage.{Stage}
-use Rattle.sock_model.specs.declared.chain.Stage.TheVariants.{Writes, Placed, Passes, Empties, Walks, Turns}
+use Rattle.sock_model.specs.declared.chain.Stage.TheVariants.{Writes, Placed, Passes, Empties, Reversing, ReversesNext}
 use Rattle.sock_model.specs.declared.chain.Right.{Right}
 use Rattle.sock_model.specs.declared.chain.Loose.{Loose}
 use Rattle.sock_model.specs.Entries.{nth}
@@ -65,8 +65,8 @@ module _ (m : Memory) (t : Tokens) where
   InStage c n freed places (Placed now) = AtRest n × (places ≡ suc freed) × (freed < n.noted) × (nth c (suc freed) ≡ now)
   InStage c n freed places (Passes now next) = AtRest n × (places ≡ suc freed) × (suc freed < n.noted) × (nth c (suc freed) ≡ now) × (nth c (suc (suc freed)) ≡ next)
   InStage c n freed places Empties = AtRest n × (places ≡ freed) × (freed ≡ n.noted)
-  InStage c n freed places (Walks top at after) = OnWalk c n freed places top at after
-  InStage c n freed places (Turns top at after before) = OnWalk c n freed places top at after
+  InStage c n freed places (Reversing top at after) = OnWalk c n freed places top at after
+  InStage c n freed places (ReversesNext top at after before) = OnWalk c n freed places top at after
       × ((j : ℕ) (e : Entry) → suc j ≡ n.left → get_elem? c j ≡ some e → (before ≡ e.before) × Connected e (m.next e.request) (t.loose e.request))
 
   pub record Held (c : List Entry) (freed places : ℕ) (r : Right) : Type 0 where

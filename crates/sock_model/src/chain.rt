@@ -31,9 +31,9 @@ pub enum Stage {
     /// All that was noted is written, and the head is tried next.
     Empties,
     /// The walk from `top` has come to `at`, whose successor is `after`, or 0: top, at, after.
-    Walks(u64, u64, u64),
+    Reversing(u64, u64, u64),
     /// The same, and the next word of `at` was read: top, at, after, before.
-    Turns(u64, u64, u64, u64),
+    ReversesNext(u64, u64, u64, u64),
 }
 
 /// The right to write a link, up to the ticket `last`. It is clean where its holder's look found the socket live and it dropped nothing since.

@@ -11,7 +11,7 @@ use Rattle.atomic_table.specs.Table.{gives as gives_back}
 use Rattle.sock_words.specs.declared.plain.Plan.{Plan}
 use Rattle.sock_model.specs.declared.chain.Right.{Right}
 use Rattle.sock_model.specs.declared.chain.Stage.{Stage}
-use Rattle.sock_model.specs.declared.chain.Stage.TheVariants.{Writes, Placed, Empties, Walks, Turns}
+use Rattle.sock_model.specs.declared.chain.Stage.TheVariants.{Writes, Placed, Empties, Reversing, ReversesNext}
 use Rattle.sock_model.specs.declared.home.Home.{Home}
 use Rattle.sock_model.specs.declared.home.Home.TheVariants.{Link}
 use Rattle.sock_model.specs.declared.view.View.{View}
@@ -70,7 +70,7 @@ pub one_right : (v : View) (r r' : Right) → v.rights ≡ r ∷ [] → r'.link 
 one_right v r r' one same = ap (λ (l : List Right). r' ∷ l) (ap (filter (λ (x : Right). not (eqb x.link r'.link))) one ∙ ap (λ b. cond (not b) (r ∷ []) []) (eq-eqb r.link r'.link (sym same)))
 
 abbrev turned_by : Right → ℕ → ℕ → ℕ → Bool → Right
-turned_by r top a before b = cond b (record r { last = top; stage = Writes a; turned = 0; noted = r.noted + suc r.turned }) (record r { stage = Walks top before a; turned = suc r.turned })
+turned_by r top a before b = cond b (record r { last = top; stage = Writes a; turned = 0; noted = r.noted + suc r.turned }) (record r { stage = Reversing top before a; turned = suc r.turned })
 
 -- a turn keeps the link of its right, and where that is
 turn_kept : (r : Right) (top a before : ℕ) → ((turned_right r top a before).link ≡ r.link) × ((turned_right r top a before).at_home ≡ r.at_home)
@@ -258,14 +258,14 @@ module _ {S : Type 0} (shows : S → Home) (rose : S → ℕ) (p : Plan) (slots 
         loaded s x id w s.homes t',
         λ q e. let same = its q e in (
           (λ m st far. let sm : now ≡ m = placed_same now m (sym stage ∙ (ap (λ (u : Right). u.stage) same ∙ st)) in ((λ u. (with_right v (passing_right (same u) (sm u) found), me.1)), ticket)),
-          (λ top at_ after_ st. absurd (let z : Placed now ≡ Walks top at_ after_ = sym stage ∙ (ap (λ (u : Right). u.stage) same ∙ st) in cc)),
+          (λ top at_ after_ st. absurd (let z : Placed now ≡ Reversing top at_ after_ = sym stage ∙ (ap (λ (u : Right). u.stage) same ∙ st) in cc)),
         ),
       )
 
   -- C5 on the walk
-  pub reads_back : (top a next : ℕ) → r.stage ≡ Walks top a next → Allows (OnTable shows rose p) slots id me (next_index p (ticket_request a)) (λ n. n) (read_next_told (step slots (next_index p (ticket_request a)) 0 0 none) me)
+  pub reads_back : (top a next : ℕ) → r.stage ≡ Reversing top a next → Allows (OnTable shows rose p) slots id me (next_index p (ticket_request a)) (λ n. n) (read_next_told (step slots (next_index p (ticket_request a)) 0 0 none) me)
   reads_back top a next stage s t long here fits = let o = t.rule.lawful in let x : ℕ = next_index p (ticket_request a) in let found : ℕ = get_or s.words (next_index p (ticket_request a)) 0 in
-      let not_placed : (q : Right) (m : ℕ) → me.0.rights ≡ q ∷ [] → q.stage ≡ Placed m → ⊥ = λ q m e st. (let z : Walks top a next ≡ Placed m = sym stage ∙ (ap (λ (u : Right). u.stage) (its q e) ∙ st) in cc) in
+      let not_placed : (q : Right) (m : ℕ) → me.0.rights ≡ q ∷ [] → q.stage ≡ Placed m → ⊥ = λ q m e st. (let z : Reversing top a next ≡ Placed m = sym stage ∙ (ap (λ (u : Right). u.stage) (its q e) ∙ st) in cc) in
       dite (ℕ_discrete (get_or s.words (next_index p (ticket_request a)) 0) UNCONNECTED)
       (λ waits. (
         v,
@@ -289,7 +289,7 @@ module _ {S : Type 0} (shows : S → Home) (rose : S → ℕ) (p : Plan) (slots 
         ),
       ))
     where
-      walks_as : (a b c d e f : ℕ) → Walks a b c ≡ Walks d e f → (q : Right) → r ≡ q → (found : ℕ) → ◌≡◌ {A = Me S View} (with_right v (reading_right r a b c found), me.1) (with_right v (reading_right q d e f found), me.1)
+      walks_as : (a b c d e f : ℕ) → Reversing a b c ≡ Reversing d e f → (q : Right) → r ≡ q → (found : ℕ) → ◌≡◌ {A = Me S View} (with_right v (reading_right r a b c found), me.1) (with_right v (reading_right q d e f found), me.1)
       walks_as a b c d e f g q same found = let x : a ≡ d = cc in let y : b ≡ e = cc in let z : c ≡ f = cc in λ u. (with_right v (reading_right (same u) (x u) (y u) (z u) found), me.1)
 
   -- C8
@@ -360,7 +360,7 @@ module _ {S : Type 0} (shows : S → Home) (rose : S → ℕ) (p : Plan) (slots 
       ))
 
   -- C6
-  pub turns : (top a next before : ℕ) → r.stage ≡ Turns top a next before → Allows (OnTable shows rose p) slots id me (next_index p (ticket_request a)) (λ _. next) (λ _. turn_told (step slots (next_index p (ticket_request a)) next 0 none) me next)
+  pub turns : (top a next before : ℕ) → r.stage ≡ ReversesNext top a next before → Allows (OnTable shows rose p) slots id me (next_index p (ticket_request a)) (λ _. next) (λ _. turn_told (step slots (next_index p (ticket_request a)) next 0 none) me next)
   turns top a next before stage s t long here fits = let x : MayTurn v next = record { mine = has_one; top = top; at = a; before = before; stage = stage } in let w : View = with_right v (turned_right r top a before) in (
     with_right v (turned_right r top a before),
     keeps,
@@ -369,5 +369,5 @@ module _ {S : Type 0} (shows : S → Home) (rose : S → ℕ) (p : Plan) (slots 
     λ q top_ at_ after_ before_ e st. turns_as top a next before top_ at_ after_ before_ (sym stage ∙ (ap (λ (u : Right). u.stage) (its q e) ∙ st)) q (its q e),
   )
     where
-      turns_as : (a b c d e f g h : ℕ) → Turns a b c d ≡ Turns e f g h → (q : Right) → r ≡ q → ◌≡◌ {A = Me S View} (with_right v (turned_right r a b d), me.1) (with_right v (turned_right q e f h), me.1)
+      turns_as : (a b c d e f g h : ℕ) → ReversesNext a b c d ≡ ReversesNext e f g h → (q : Right) → r ≡ q → ◌≡◌ {A = Me S View} (with_right v (turned_right r a b d), me.1) (with_right v (turned_right q e f h), me.1)
       turns_as a b c d e f g h i q same = let x : a ≡ e = cc in let y : b ≡ f = cc in let z : d ≡ h = cc in λ u. (with_right v (turned_right (same u) (x u) (y u) (z u)), me.1)

@@ -10,7 +10,7 @@ use Rattle.sock_model.specs.declared.chain.Claim.{Claim}
 use Rattle.sock_model.specs.declared.chain.Entry.{Entry}
 use Rattle.sock_model.specs.declared.chain.Right.{Right}
 use Rattle.sock_model.specs.declared.chain.Stage.{Stage}
-use Rattle.sock_model.specs.declared.chain.Stage.TheVariants.{Writes, Placed, Passes, Empties, Walks, Turns}
+use Rattle.sock_model.specs.declared.chain.Stage.TheVariants.{Writes, Placed, Passes, Empties, Reversing, ReversesNext}
 use Rattle.sock_model.specs.declared.home.Home.{Home}
 use Rattle.sock_model.specs.declared.view.View.{View}
 use Rattle.sock_model.specs.Authors.{pick}
@@ -43,8 +43,8 @@ freed_placed m t c n freed places (Writes now) st = let a = st.1 in omega arith
 freed_placed m t c n freed places (Placed now) st = let a = st.1 in omega arith
 freed_placed m t c n freed places (Passes now next) st = let a = st.1 in omega arith
 freed_placed m t c n freed places Empties st = let a = st.1 in omega arith
-freed_placed m t c n freed places (Walks top at after) st = let a = st.all_freed.1 in omega arith
-freed_placed m t c n freed places (Turns top at after before) st = let a = st.0.all_freed.1 in omega arith
+freed_placed m t c n freed places (Reversing top at after) st = let a = st.all_freed.1 in omega arith
+freed_placed m t c n freed places (ReversesNext top at after before) st = let a = st.0.all_freed.1 in omega arith
 
 -- the entry that has its place, and whose request isn't given back yet
 placed_at : (m : Memory) (t : Tokens) (c : List Entry) (n : Counts) (freed places last now : ℕ) (a b : Stage) → Leads last a now b → InStage m t c n freed places a → (places ≡ suc freed) × (freed < n.noted) × (nth c (suc freed) ≡ now)
@@ -100,21 +100,21 @@ module _ {S : Type 0} {shows : S → Home} {p : Plan} {s : State S View} (o : La
     pub passes_ticket : (now next : ℕ) → r.stage ≡ Passes now next → IsTicket p next
     passes_ticket now next stage = let f = held.fits in let st = in_stage (Passes now next) stage in let some_ = st.2 in entry_ticket r.link (suc (o.freed r.link)) next (omega (arith, f.1, f.2, f.3, some_)) st.4
 
-    pub walk_ticket : (top a after : ℕ) → r.stage ≡ Walks top a after → IsTicket p a
-    walk_ticket top a after stage = let f = held.fits in let walk : OnWalk (on r.link o.log) held.counts (o.freed r.link) (o.places r.link) top a after = in_stage (Walks top a after) stage in let some_ = walk.some_left in
+    pub walk_ticket : (top a after : ℕ) → r.stage ≡ Reversing top a after → IsTicket p a
+    walk_ticket top a after stage = let f = held.fits in let walk : OnWalk (on r.link o.log) held.counts (o.freed r.link) (o.places r.link) top a after = in_stage (Reversing top a after) stage in let some_ = walk.some_left in
         let back : suc (held.counts.left - 1) ≡ held.counts.left = omega arith in
         entry_ticket r.link (held.counts.left - 1) a (omega (arith, f.2, f.3, some_)) (ap (nth (on r.link o.log)) back ∙ walk.at_is)
 
-    pub turns_ticket : (top a after before : ℕ) → r.stage ≡ Turns top a after before → IsTicket p before
-    turns_ticket top a after before stage = let f = held.fits in let st = in_stage (Turns top a after before) stage in let some_ = st.0.some_left in let first = held.some_noted in
+    pub turns_ticket : (top a after before : ℕ) → r.stage ≡ ReversesNext top a after before → IsTicket p before
+    turns_ticket top a after before stage = let f = held.fits in let st = in_stage (ReversesNext top a after before) stage in let some_ = st.0.some_left in let first = held.some_noted in
         let j : ℕ = held.counts.left - 1 in let e = at_some (on r.link o.log) (held.counts.left - 1) (omega (arith, f.2, f.3, some_)) in
         let b = (st.1 (held.counts.left - 1) e.0 (omega arith) e.1).0 in let c = o.chains.chained r.link (held.counts.left - 1) e.0 e.1 in
         let back : suc (held.counts.left - 2) ≡ held.counts.left - 1 = omega arith in
         entry_ticket r.link (held.counts.left - 2) before (omega (arith, f.2, f.3, some_)) (ap (nth (on r.link o.log)) back ∙ (sym c ∙ sym b))
 
     -- the ticket at which the walk stands, whose next word was read
-    pub turn_ticket : (top a after before : ℕ) → r.stage ≡ Turns top a after before → IsTicket p a
-    turn_ticket top a after before stage = let f = held.fits in let walk = (in_stage (Turns top a after before) stage).0 in let some_ = walk.some_left in
+    pub turn_ticket : (top a after before : ℕ) → r.stage ≡ ReversesNext top a after before → IsTicket p a
+    turn_ticket top a after before stage = let f = held.fits in let walk = (in_stage (ReversesNext top a after before) stage).0 in let some_ = walk.some_left in
         let back : suc (held.counts.left - 1) ≡ held.counts.left = omega arith in
         entry_ticket r.link (held.counts.left - 1) a (omega (arith, f.2, f.3, some_)) (ap (nth (on r.link o.log)) back ∙ walk.at_is)
 

@@ -7,7 +7,7 @@ use Rattle.sock_model.specs.declared.home.Home.TheVariants.{Empty, Link, Message
 use Rattle.sock_model.specs.declared.chain.Heading.{Heading}
 use Rattle.sock_model.specs.declared.chain.Claim.{Claim}
 use Rattle.sock_model.specs.declared.chain.Right.{Right}
-use Rattle.sock_model.specs.declared.chain.Stage.TheVariants.{Writes, Placed, Walks, Turns}
+use Rattle.sock_model.specs.declared.chain.Stage.TheVariants.{Writes, Placed, Reversing, ReversesNext}
 use Rattle.sock_model.specs.declared.view.View.{View}
 use Rattle.sock_model.specs.SocketTableLayout.{ref_index, link_index, request_index, next_index}
 use Rattle.sock_model.specs.MarkWeights.{is_hold, is_met}
@@ -122,7 +122,7 @@ module _ {S : Type 0} where
   abbrev pub read_next_told : Step S → Me S View → ℕ → Me S View → Type 0
   read_next_told st m found n = (r : Right) → m.0.rights ≡ r ∷ [] →
       ((now : ℕ) → r.stage ≡ Placed now → now ≢ r.last → (n ≡ (with_right m.0 (passing_right r now found), m.1)) × IsTicket m.0.plan found)
-      × ((top at after : ℕ) → r.stage ≡ Walks top at after → (found ≡ UNCONNECTED → n ≡ m) × (found ≢ UNCONNECTED → (n ≡ (with_right m.0 (reading_right r top at after found), m.1)) × IsTicket m.0.plan found))
+      × ((top at after : ℕ) → r.stage ≡ Reversing top at after → (found ≡ UNCONNECTED → n ≡ m) × (found ≢ UNCONNECTED → (n ≡ (with_right m.0 (reading_right r top at after found), m.1)) × IsTicket m.0.plan found))
 
   -- C8, with the home of the request, and where that is of the last generation a load in its place
   abbrev pub free_request_told : Step S → Me S View → ℕ → Me S View → Type 0
@@ -134,4 +134,4 @@ module _ {S : Type 0} where
 
   -- C6
   abbrev pub turn_told : Step S → Me S View → ℕ → Me S View → Type 0
-  turn_told st m stored n = (r : Right) (top at after before : ℕ) → m.0.rights ≡ r ∷ [] → r.stage ≡ Turns top at after before → n ≡ (with_right m.0 (turned_right r top at before), m.1)
+  turn_told st m stored n = (r : Right) (top at after before : ℕ) → m.0.rights ≡ r ∷ [] → r.stage ≡ ReversesNext top at after before → n ≡ (with_right m.0 (turned_right r top at before), m.1)

@@ -4,7 +4,7 @@ use Rattle.atomic_table.specs.Table.{Me, rest}
 use Rattle.sock_words.specs.declared.plain.Plan.{Plan}
 use Rattle.sock_model.specs.declared.chain.Right.{Right}
 use Rattle.sock_model.specs.declared.chain.Stage.{Stage}
-use Rattle.sock_model.specs.declared.chain.Stage.TheVariants.{Writes, Placed, Passes, Empties, Walks, Turns}
+use Rattle.sock_model.specs.declared.chain.Stage.TheVariants.{Writes, Placed, Passes, Empties, Reversing, ReversesNext}
 use Rattle.sock_model.specs.declared.view.View.{View}
 use Rattle.sock_model.specs.LinksInSlots.{HoldsLink}
 use Rattle.sock_model.specs.SlotRows.{marks_of, looked}
@@ -124,7 +124,7 @@ pub record MayReadBack (at : ℕ) (v : View) : Type 0 where
   pub one : Rights right v
   pub top : ℕ
   pub after : ℕ
-  pub stage : right.stage ≡ Walks top at after
+  pub stage : right.stage ≡ Reversing top at after
 
 abbrev pub ReadBack : {S : Type 0} → Right → ℕ → ℕ → ℕ → ℕ → Me S View → Me S View → Type 0
 ReadBack r top at after found m n = (found ≡ UNCONNECTED → n ≡ m) × (found ≢ UNCONNECTED → (n ≡ (with_right m.0 (reading_right r top at after found), m.1)) × IsTicket m.0.plan found)
@@ -134,4 +134,4 @@ pub record MayTurnNext (at value : ℕ) (v : View) : Type 0 where
   pub one : Rights right v
   pub top : ℕ
   pub before : ℕ
-  pub stage : right.stage ≡ Turns top at value before
+  pub stage : right.stage ≡ ReversesNext top at value before

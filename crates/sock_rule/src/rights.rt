@@ -2,7 +2,7 @@
 ghost use Rattle.std.specs.Prelude.{◌≡◌, ◌+◌, ◌*◌, ◌/◌, ◌<◌, ℕ, false, true, ◌∷◌};
 ghost use Rattle.atomic_table.specs.Table.{rest};
 ghost use Rattle.sock_model.specs.declared.chain.Right.{Right};
-ghost use Rattle.sock_model.specs.declared.chain.Stage.TheVariants.{Writes, Walks, Turns};
+ghost use Rattle.sock_model.specs.declared.chain.Stage.TheVariants.{Writes, Reversing, ReversesNext};
 ghost use Rattle.sock_model.specs.ChainRows.{with_right, placed_right, dropped_right, freed_right, turned_right};
 ghost use Rattle.sock_rule.specs.NotesBesideRows.{dropped_at};
 ghost use Rattle.sock_model.specs.SocketTableLayout.{place_index};
@@ -202,19 +202,19 @@ impl<O: Out> RuleTable<O> {
         requires may { MayReadBack at.0 seat.old.me.0 }
         requires ticket { (HasRequest at.0) × (ticket_request at.0 < self.now.plan.requests) }
         ensures seat { IsSeat self.now.table.shared.table_id self.now.plan seat.new }
-        ensures view { (r : Right) (top after : ℕ) → Rights r seat.old.me.0 → r.stage ≡ Walks top at.0 after → ReadBack r top at.0 after result seat.old.me seat.new.me }
+        ensures view { (r : Right) (top after : ℕ) → Rights r seat.old.me.0 → r.stage ≡ Reversing top at.0 after → ReadBack r top at.0 after result seat.old.me seat.new.me }
     {
         let index = self.next_index(at.request());
         self.table.shared.load::<ReadNext>(seat, index)
     }
 
     /// C6, store of the successor, or 0, into the next word at which the walk stands.
-    pub fn turn_next(&self, seat: &mut SockSeat<O>, at: Ticket, value: u64)
+    pub fn reverse_next(&self, seat: &mut SockSeat<O>, at: Ticket, value: u64)
         requires seat { IsSeat self.now.table.shared.table_id self.now.plan seat.old }
         requires may { MayTurnNext at.0 value seat.old.me.0 }
         requires ticket { (HasRequest at.0) × (ticket_request at.0 < self.now.plan.requests) }
         ensures seat { IsSeat self.now.table.shared.table_id self.now.plan seat.new }
-        ensures view { (r : Right) (top after before : ℕ) → Rights r seat.old.me.0 → r.stage ≡ Turns top at.0 after before → seat.new.me ≡ (with_right seat.old.me.0 (turned_right r top at.0 before), seat.old.me.1) }
+        ensures view { (r : Right) (top after before : ℕ) → Rights r seat.old.me.0 → r.stage ≡ ReversesNext top at.0 after before → seat.new.me ≡ (with_right seat.old.me.0 (turned_right r top at.0 before), seat.old.me.1) }
     {
         let index = self.next_index(at.request());
         self.table.shared.store::<ReverseNext>(seat, index, value);

@@ -13,7 +13,7 @@ use Rattle.sock_model.specs.declared.chain.Claim.{Claim}
 use Rattle.sock_model.specs.declared.chain.Heading.{Heading}
 use Rattle.sock_model.specs.declared.chain.Right.{Right}
 use Rattle.sock_model.specs.declared.chain.Stage.{Stage}
-use Rattle.sock_model.specs.declared.chain.Stage.TheVariants.{Writes, Placed, Passes, Empties, Walks, Turns}
+use Rattle.sock_model.specs.declared.chain.Stage.TheVariants.{Writes, Placed, Passes, Empties, Reversing, ReversesNext}
 use Rattle.sock_model.specs.declared.home.Home.{Home}
 use Rattle.sock_model.specs.declared.home.Home.TheVariants.{Message}
 use Rattle.sock_model.specs.declared.view.View.{View}
@@ -186,11 +186,11 @@ module _ (p : Plan) (s : State Home View) (o : Lawful (λ home. home) p s) (i : 
 
   pub empties : (j last : ℕ) → May p v (EmptyHead j last) → KeepsWord p s i v (EmptyHead j last)
   empties j last may = let x = may.1.0 in let r : Right = x.mine.right in let found : ℕ = get_or s.words (head_index j) 0 in
-      let P : Bool → Type 0 = λ b. With (set s.words (head_index j) (cond b (IDLE + last) found)) (cond b (without_right v r.link) (with_right v (record r { stage = Walks found found 0 }))) in
+      let P : Bool → Type 0 = λ b. With (set s.words (head_index j) (cond b (IDLE + last) found)) (cond b (without_right v r.link) (with_right v (record r { stage = Reversing found found 0 }))) in
       subst (λ rs. With (set s.words (head_index j) (word_after (EmptyHead j last) found)) (by_right rs (emptied last found v) v)) (sym may.1.1)
       (dite (ℕ_discrete found last)
       (λ won. subst P (sym (eq-eqb found last won)) (emptied_law (λ home. home) p s o i j last (IDLE + last) v at x won))
-      (λ lost. subst P (sym (ne_eqb found last lost)) (still_words (head_index j) (with_right v (record r { stage = Walks found found 0 })) (walking_law (λ home. home) p s o i j last (IDLE + last) v at x found refl lost))))
+      (λ lost. subst P (sym (ne_eqb found last lost)) (still_words (head_index j) (with_right v (record r { stage = Reversing found found 0 })) (walking_law (λ home. home) p s o i j last (IDLE + last) v at x found refl lost))))
 
   -- a right whose request is of the last generation goes on at once
   module _ (ws : List ℕ) (r : Right) (one : v.rights ≡ r ∷ []) (r' : Right) (same : r'.link ≡ r.link) (o' : With ws (with_right v r')) where
@@ -217,8 +217,8 @@ module _ (p : Plan) (s : State Home View) (o : Lawful (λ home. home) p s) (i : 
         (λ new. subst P (sym (ne_eqb (ticket_generation now) LAST_GENERATION new)) (stays (Passes now next) e))
     settles_at (Writes now) e = stays (Writes now) e
     settles_at Empties e = stays Empties e
-    settles_at (Walks top a after) e = stays (Walks top a after) e
-    settles_at (Turns top a after before) e = stays (Turns top a after before) e
+    settles_at (Reversing top a after) e = stays (Reversing top a after) e
+    settles_at (ReversesNext top a after before) e = stays (ReversesNext top a after before) e
 
     pub settles : With ws (with_right v (settled r'))
     settles = settles_at r'.stage refl
@@ -235,13 +235,13 @@ module _ (p : Plan) (s : State Home View) (o : Lawful (λ home. home) p s) (i : 
           (settles s.words r one (record r { stage = Passes now found }) refl
           (subst (λ z. With s.words (with_right v (record r { stage = Passes now (get_or s.words (next_index p z) 0) }))) is (passing_law (λ home. home) p s o i v at (has_one v r one) now stage ne)))
 
-      walks : (r : Right) → v.rights ≡ r ∷ [] → (top a after : ℕ) → r.stage ≡ Walks top a after → ticket_request a ≡ q → With s.words (read_next (get_or s.words (next_index p q) 0) v r r.stage)
-      walks r one top a after stage is = let found : ℕ = get_or s.words (next_index p q) 0 in let P : Bool → Type 0 = λ b. With s.words (cond b v (with_right v (record r { stage = Turns top a after found }))) in
+      walks : (r : Right) → v.rights ≡ r ∷ [] → (top a after : ℕ) → r.stage ≡ Reversing top a after → ticket_request a ≡ q → With s.words (read_next (get_or s.words (next_index p q) 0) v r r.stage)
+      walks r one top a after stage is = let found : ℕ = get_or s.words (next_index p q) 0 in let P : Bool → Type 0 = λ b. With s.words (cond b v (with_right v (record r { stage = ReversesNext top a after found }))) in
           subst (λ b. With s.words (read_next (get_or s.words (next_index p q) 0) v r b)) (sym stage)
           (dite (ℕ_discrete found UNCONNECTED)
           (λ waits. subst P (sym (eq-eqb found UNCONNECTED waits)) (subst (λ ws. With ws v) (set-get_or s.words (next_index p q) 0) (idle_law (λ home. home) p s o i v at (next_index p q))))
           (λ there. subst P (sym (ne_eqb found UNCONNECTED there))
-          (subst (λ z. With s.words (with_right v (record r { stage = Turns top a after (get_or s.words (next_index p z) 0) }))) is
+          (subst (λ z. With s.words (with_right v (record r { stage = ReversesNext top a after (get_or s.words (next_index p z) 0) }))) is
           (reading_law (λ home. home) p s o i v at (has_one v r one) top a after stage (λ e. there (ap (λ z. get_or s.words (next_index p z) 0) (sym is) ∙ e))))))
 
   pub turns_next : (q value : ℕ) → May p v (ReverseNext q value) → KeepsWord p s i v (ReverseNext q value)
@@ -323,8 +323,8 @@ module _ (p : Plan) (s : State Home View) (o : Lawful (λ home. home) p s) (i : 
     passed_inside : (now next : ℕ) → r.stage ≡ Passes now next → ticket_request now < p.requests
     passed_inside now next stage = let f = held.fits in let st = in_stage (Passes now next) stage in let some_ = st.2 in entry_inside r.link (o.freed r.link) now (omega (arith, f.1, f.2, f.3, some_)) st.3
 
-    walk_inside : (top a after : ℕ) → r.stage ≡ Walks top a after → ticket_request a < p.requests
-    walk_inside top a after stage = let f = held.fits in let walk : OnWalk (on r.link o.log) held.counts (o.freed r.link) (o.places r.link) top a after = in_stage (Walks top a after) stage in let some_ = walk.some_left in
+    walk_inside : (top a after : ℕ) → r.stage ≡ Reversing top a after → ticket_request a < p.requests
+    walk_inside top a after stage = let f = held.fits in let walk : OnWalk (on r.link o.log) held.counts (o.freed r.link) (o.places r.link) top a after = in_stage (Reversing top a after) stage in let some_ = walk.some_left in
         let back : suc (held.counts.left - 1) ≡ held.counts.left = omega arith in
         entry_inside r.link (held.counts.left - 1) a (omega (arith, f.2, f.3, some_)) (ap (nth (on r.link o.log)) back ∙ walk.at_is)
 

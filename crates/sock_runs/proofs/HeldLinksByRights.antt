@@ -7,7 +7,7 @@ use Rattle.sock_words.specs.PackedWords.{socket_id_slot, vref_version, UNCONNECT
 use Rattle.sock_words.specs.declared.plain.Plan.{Plan}
 use Rattle.sock_model.specs.declared.chain.Right.{Right}
 use Rattle.sock_model.specs.declared.chain.Stage.{Stage}
-use Rattle.sock_model.specs.declared.chain.Stage.TheVariants.{Writes, Placed, Passes, Walks, Turns}
+use Rattle.sock_model.specs.declared.chain.Stage.TheVariants.{Writes, Placed, Passes, Reversing, ReversesNext}
 use Rattle.sock_model.specs.declared.home.Home.{Home}
 use Rattle.sock_model.specs.declared.home.Home.TheVariants.{Link}
 use Rattle.sock_model.specs.declared.view.View.{View}
@@ -86,15 +86,15 @@ module _ (p : Plan) (v : View) (hand : List Home) (held : AreHeld hand v.rights 
 
   reads_held : (found : ℕ) (r : Right) → v.rights ≡ r ∷ [] → (b : Stage) → Holds (read_next found v r b)
   reads_held found r one (Placed now) = let r' : Right = settled (record r { stage = Passes now found }) in one_held v r r' one refl one record { link = refl; at_home = refl; took = refl }
-  reads_held found r one (Walks top a after) = either_way (found == UNCONNECTED) v (with_right v (record r { stage = Turns top a after found })) Holds held (stage_held r one (Turns top a after found))
+  reads_held found r one (Reversing top a after) = either_way (found == UNCONNECTED) v (with_right v (record r { stage = ReversesNext top a after found })) Holds held (stage_held r one (ReversesNext top a after found))
   reads_held found r one _ = held
 
   turned_alike : (r : Right) (top a before : ℕ) → IsAlike r (turned_right r top a before)
-  turned_alike r top a before = either_way (before == r.last) (record r { last = top; stage = Writes a; turned = 0; noted = r.noted + suc r.turned }) (record r { stage = Walks top before a; turned = suc r.turned }) (IsAlike r)
+  turned_alike r top a before = either_way (before == r.last) (record r { last = top; stage = Writes a; turned = 0; noted = r.noted + suc r.turned }) (record r { stage = Reversing top before a; turned = suc r.turned }) (IsAlike r)
       record { link = refl; at_home = refl; took = refl } record { link = refl; at_home = refl; took = refl }
 
   turns_held : (r : Right) → v.rights ≡ r ∷ [] → (b : Stage) → Holds (turned_next v r b)
-  turns_held r one (Turns top a after before) = one_held v r (turned_right r top a before) one refl one (turned_alike r top a before)
+  turns_held r one (ReversesNext top a after before) = one_held v r (turned_right r top a before) one refl one (turned_alike r top a before)
   turns_held r one _ = held
 
   places_held : (r : Right) → v.rights ≡ r ∷ [] → r.put ≡ length r.bytes → (b : Stage) → Holds (placed_next v r b)
@@ -145,7 +145,7 @@ module _ (p : Plan) (c : Core) (vs : List View) (o : Lawful (λ home. home) p (s
       claim_way (Holds p v hand held) v.claims (exchanged n g v) v held (exchanges_way (Holds p v hand held) v held (λ d m. held) (λ d m sent l. held) n g)
   keeps_held (EmptyHead j last) may = let r : Right = may.1.0.mine.right in let w : ℕ = found (EmptyHead j last) in
       of_right p v hand held r may.1.1 (emptied last w v) v
-      (either_way (w == last) (without_right v r.link) (with_right v (record r { stage = Walks w w 0 })) (Holds p v hand held) (gone_held p v hand held r may.1.1 may.1.0.link_home) (stage_held p v hand held r may.1.1 (Walks w w 0)))
+      (either_way (w == last) (without_right v r.link) (with_right v (record r { stage = Reversing w w 0 })) (Holds p v hand held) (gone_held p v hand held r may.1.1 may.1.0.link_home) (stage_held p v hand held r may.1.1 (Reversing w w 0)))
   keeps_held (ReadNext q) may = of_right p v hand held may.0 may.1 (λ r. read_next (found (ReadNext q)) v r r.stage) v (reads_held p v hand held (found (ReadNext q)) may.0 may.1 may.0.stage)
   keeps_held (ReverseNext q value) may = let r : Right = may.0.mine.right in of_right p v hand held r may.1 (λ r. turned_next v r r.stage) v (turns_held p v hand held r may.1 r.stage)
   keeps_held (FreeRequest q g) may = let r : Right = may.4.0 in of_right p v hand held r may.4.1 (freed_next v) v (stage_held p v hand held r may.4.1 (freed_stage r.stage))

@@ -64,12 +64,12 @@ module _ (p : Plan) (i : ℕ) (seat : SeatState) (c : Core) where
   again (Retries requests after) begun = absurd (true≢false (sym begun))
   again program begun = ap (λ (ws : List (List Retry)). record c { seats = set c.seats i (record { program = program; hand = seat.hand }); calls = record c.calls { waiting = ws } }) (set-get_or c.calls.waiting i [])
 
-  walk_stays : (h : heads.Holder) (top place after : ℕ) (then_ : Program) (answer : Answer) → waits_at p c answer (Write (heads.Walks h top place after) then_) ≡ true
-      → tick_with p i seat c answer (Write (heads.Walks h top place after) then_) ≡ with_program (Write (heads.Walks h top place after) then_)
+  walk_stays : (h : heads.Holder) (top place after : ℕ) (then_ : Program) (answer : Answer) → waits_at p c answer (Write (heads.Reversing h top place after) then_) ≡ true
+      → tick_with p i seat c answer (Write (heads.Reversing h top place after) then_) ≡ with_program (Write (heads.Reversing h top place after) then_)
   walk_stays h top place after then_ answer is = let found : ℕ = slice_index c.words (next_index p (ticket_request place)) in
-      ap₂ (λ (b : Bool) (ws : List ℕ). with_seat i (cond b (Write (heads.Walks h top place after) then_) (Do (ReverseNext (ticket_request place) after) (λ _. cond (eqb found h.last)
-      (TakeMessage (ticket_request place) (λ heading bytes. Write (heads.Puts (record h { last = top }) place heading bytes 0 false) then_)) (Write (heads.Walks h top found place) then_)))) seat.hand ws c.homes c)
-      is (set-get_or c.words (next_index p (ticket_request place)) 0) ∙ again (Write (heads.Walks h top place after) then_) refl
+      ap₂ (λ (b : Bool) (ws : List ℕ). with_seat i (cond b (Write (heads.Reversing h top place after) then_) (Do (ReverseNext (ticket_request place) after) (λ _. cond (eqb found h.last)
+      (TakeMessage (ticket_request place) (λ heading bytes. Write (heads.Puts (record h { last = top }) place heading bytes 0 false) then_)) (Write (heads.Reversing h top found place) then_)))) seat.hand ws c.homes c)
+      is (set-get_or c.words (next_index p (ticket_request place)) 0) ∙ again (Write (heads.Reversing h top place after) then_) refl
 
   -- an id that is sought is locked
   locking_stays : (j : ℕ) (sought : Sought) (found : ℕ) (k : Locking → Program) → (is_sought sought (parts found) && not (eqb (parts found).state 1)) ≡ true → locking j sought found k ≡ Round (Locks j sought std.None) k
@@ -99,7 +99,7 @@ module _ (p : Plan) (i : ℕ) (seat : SeatState) (c : Core) where
   round_stays _ next answer is = absurd (true≢false (sym is))
 
   stays : (program : Program) (answer : Answer) → waits_at p c answer program ≡ true → tick_with p i seat c answer program ≡ with_program program
-  stays (Write (heads.Walks h top place after) then_) answer is = walk_stays h top place after then_ answer is
+  stays (Write (heads.Reversing h top place after) then_) answer is = walk_stays h top place after then_ answer is
   stays (Write (heads.Waits h now heading left taken) after) (OfReady NotYet) is = again (Write (heads.Waits h now heading left taken) after) refl
   stays (Write (heads.Waits h now heading left taken) after) _ is = absurd (true≢false (sym is))
   stays (Round head next) answer is = round_stays head next answer is
@@ -129,7 +129,7 @@ module _ {links requests : ℕ} {m : Memory} {t : Tokens} {log : List Entry} {fr
   before_small zero inside = omega arith
   before_small (suc n) inside = let e = nth_some (on k log) n (omega (arith, inside)) in let size = in_size s k n e.0 e.1 in omega (arith, e.2, size.1, size.2, narrow)
 
-  pub walk_waits : (top place after : ℕ) → r.stage ≡ stages.Walks top place after → m.next (ticket_request place) ≡ UNCONNECTED → t.loose (ticket_request place) ≢ []
+  pub walk_waits : (top place after : ℕ) → r.stage ≡ stages.Reversing top place after → m.next (ticket_request place) ≡ UNCONNECTED → t.loose (ticket_request place) ≢ []
   walk_waits top place after stage unconnected none_ =
       let h : Held m t (on k log) (freed k) (places k) r = (held_of s k r kl has).1 in let n = h.counts in let f = h.fits in
       let walk : OnWalk (on k log) n (freed k) (places k) top place after = subst (InStage m t (on k log) n (freed k) (places k)) stage h.stage_is in
@@ -177,7 +177,7 @@ module _ (p : Plan) (c : Core) (vs : List View) (sound : Sound p c vs) (ahead : 
 
   -- so no writer waits
   waits_aside : (j : ℕ) (v : View) → get_elem? vs j ≡ some v → (program : Program) (answer : Answer) → GoesOn p v program → answer ≢ OfReady NotYet → waits_at p c answer program ≡ true → (head : Head) × (next : Exit head → Program) × (program ≡ Round head next)
-  waits_aside j v at (Write (heads.Walks h top place after) then_) answer goes always_ready is = let r : Right = goes.0.0 in let has = ap (λ (rs : List Right). get_elem? rs 0) goes.0.1.one in let o = sound.lawful in
+  waits_aside j v at (Write (heads.Reversing h top place after) then_) answer goes always_ready is = let r : Right = goes.0.0 in let has = ap (λ (rs : List Right). get_elem? rs 0) goes.0.1.one in let o = sound.lawful in
       absurd (walk_waits o.chains r.link r (right_in o j 0 v r at has) (right_alone o j 0 v r at has) o.fits.narrow top place after goes.0.2.stage_is (eqb-true _ UNCONNECTED is) (all_connected (ticket_request place)))
   waits_aside j v at (Write (heads.Waits h now heading left taken) after) (OfReady NotYet) goes always_ready is = absurd (always_ready refl)
   waits_aside j v at (Write (heads.Waits h now heading left taken) after) _ goes always_ready is = absurd (true≢false (sym is))

@@ -7,7 +7,7 @@ use mathlib.Core.Option.{Option, some, none, some-injective, some-ne-none}
 use lib.ListN.{get_elem?}
 use Rattle.sock_words.specs.declared.kind.Kind.{Kind}
 use Rattle.sock_words.specs.declared.plain.Plan.{Plan}
-use Rattle.seat_programs.specs.Writings.{Puts, Waits, Empties, Walks}
+use Rattle.seat_programs.specs.Writings.{Puts, Waits, Empties, Reversing}
 use Rattle.seat_programs.specs.Programs.{Program, PutBytes, AskReady, Write, Aside, Round}
 use Rattle.seat_programs.specs.Asides.{TakeBytes}
 use Rattle.seat_programs.specs.LoopHeads.{Reads, Discards}
@@ -22,7 +22,7 @@ asks_or_not p c i seat (AskReady k next) = inr (refl, λ e. none-some _ (sym e))
 asks_or_not p c i seat (Write (Waits h now heading left taken) after) = inr (refl, λ e. none-some _ (sym e))
 asks_or_not p c i seat (Write (Puts h now heading left taken asked) after) = inl tt
 asks_or_not p c i seat (Write (Empties h) after) = inl tt
-asks_or_not p c i seat (Write (Walks h top at after) then_) = inl tt
+asks_or_not p c i seat (Write (Reversing h top at after) then_) = inl tt
 asks_or_not p c i seat (Aside (TakeBytes k room) next) = inr (refl, λ e. none-some _ (sym e))
 asks_or_not p c i seat (Round (Reads r) next) = inr (refl, λ e. none-some _ (sym e))
 asks_or_not p c i seat (Round (Discards k total) next) = inr (refl, λ e. none-some _ (sym e))

@@ -7,7 +7,7 @@ use lib.ListN.{get_elem?}
 use Rattle.atomic_table.specs.Table.{State}
 use Rattle.sock_model.specs.declared.chain.Right.{Right}
 use Rattle.sock_model.specs.declared.chain.Stage.{Stage}
-use Rattle.sock_model.specs.declared.chain.Stage.TheVariants.{Writes, Placed, Passes, Empties, Walks, Turns}
+use Rattle.sock_model.specs.declared.chain.Stage.TheVariants.{Writes, Placed, Passes, Empties, Reversing, ReversesNext}
 use Rattle.sock_model.specs.declared.home.Home.{Home}
 use Rattle.sock_model.specs.sock_words.specs.declared.plain.Plan.{Plan}
 use Rattle.sock_model.specs.declared.view.View.{View}
@@ -51,11 +51,11 @@ module _ {S : Type 0} (shows : S → Home) (p : Plan) (s : State S View) (o : La
       (rights_after o id x.place v x.right at x.has (record x.right { stage = Passes now (get_or s.words (next_index p (ticket_request now)) 0) }) refl) (claims_after o id x.place v x.right at x.has (record x.right { stage = Passes now (get_or s.words (next_index p (ticket_request now)) 0) }) refl) (loose_after o id x.place v x.right at x.has (record x.right { stage = Passes now (get_or s.words (next_index p (ticket_request now)) 0) }) refl))
 
   -- C5 on the walk, where the next word is connected. Where it isn't, the view stays, and nothing is to be shown
-  pub reading_law : (top a after : ℕ) → x.right.stage ≡ Walks top a after → get_or s.words (next_index p (ticket_request a)) 0 ≢ UNCONNECTED → Lawful shows p record { words = s.words; homes = s.homes; views = set s.views id (with_right v (record x.right { stage = Turns top a after (get_or s.words (next_index p (ticket_request a)) 0) })) }
-  reading_law top a after stage ne = let b : Stage = Turns top a after (get_or s.words (next_index p (ticket_request a)) 0) in
-      staged_law b (not_writes x.right.stage (Walks top a after) (λ m q. let z : Walks top a after ≡ Writes m = q in cc) stage)
-      (reads_back o.chains x.right.link x.right (right_in o id x.place v x.right at x.has) has (record x.right { stage = Turns top a after (get_or s.words (next_index p (ticket_request a)) 0) }) top a after o.fits.narrow stage ne refl refl refl refl (λ k kl. refl) (λ q ql. refl) (λ q ql. refl)
-      (rights_after o id x.place v x.right at x.has (record x.right { stage = Turns top a after (get_or s.words (next_index p (ticket_request a)) 0) }) refl) (claims_after o id x.place v x.right at x.has (record x.right { stage = Turns top a after (get_or s.words (next_index p (ticket_request a)) 0) }) refl) (loose_after o id x.place v x.right at x.has (record x.right { stage = Turns top a after (get_or s.words (next_index p (ticket_request a)) 0) }) refl))
+  pub reading_law : (top a after : ℕ) → x.right.stage ≡ Reversing top a after → get_or s.words (next_index p (ticket_request a)) 0 ≢ UNCONNECTED → Lawful shows p record { words = s.words; homes = s.homes; views = set s.views id (with_right v (record x.right { stage = ReversesNext top a after (get_or s.words (next_index p (ticket_request a)) 0) })) }
+  reading_law top a after stage ne = let b : Stage = ReversesNext top a after (get_or s.words (next_index p (ticket_request a)) 0) in
+      staged_law b (not_writes x.right.stage (Reversing top a after) (λ m q. let z : Reversing top a after ≡ Writes m = q in cc) stage)
+      (reads_back o.chains x.right.link x.right (right_in o id x.place v x.right at x.has) has (record x.right { stage = ReversesNext top a after (get_or s.words (next_index p (ticket_request a)) 0) }) top a after o.fits.narrow stage ne refl refl refl refl (λ k kl. refl) (λ q ql. refl) (λ q ql. refl)
+      (rights_after o id x.place v x.right at x.has (record x.right { stage = ReversesNext top a after (get_or s.words (next_index p (ticket_request a)) 0) }) refl) (claims_after o id x.place v x.right at x.has (record x.right { stage = ReversesNext top a after (get_or s.words (next_index p (ticket_request a)) 0) }) refl) (loose_after o id x.place v x.right at x.has (record x.right { stage = ReversesNext top a after (get_or s.words (next_index p (ticket_request a)) 0) }) refl))
 
 module _ {S : Type 0} (shows : S → Home) (p : Plan) (s : State S View) (o : Lawful shows p s) (id i last empty : ℕ) (v : View) (at : get_elem? s.views id ≡ some v) (x : MayEmpty p v i last empty) where
   kl : x.mine.right.link < p.links
@@ -82,17 +82,17 @@ module _ {S : Type 0} (shows : S → Home) (p : Plan) (s : State S View) (o : La
       (next_same p o.slot s.words empty o.references.sized (slots_in o) x.mine.right.link i in_slot (one_slot o)) (request_same p o.slot s.words empty o.references.sized (slots_in o) x.mine.right.link i in_slot (one_slot o)) rt cl lo)
 
   -- C4, lost
-  pub walking_law : (w : ℕ) → get_or s.words (head_index i) 0 ≡ w → w ≢ last → Lawful shows p record { words = s.words; homes = s.homes; views = set s.views id (with_right v (record x.mine.right { stage = Walks w w 0 })) }
-  walking_law w e ne = staged_law shows p s o id v at x.mine (Walks w w 0) no_write
-      (begins_walk o.chains x.mine.right.link x.mine.right kl alone (record x.mine.right { stage = Walks w w 0 }) w x.stage (head_is ∙ ap (λ (y : ℕ). some y) e) (λ q. ne (q ∙ x.last_is)) refl refl refl refl
+  pub walking_law : (w : ℕ) → get_or s.words (head_index i) 0 ≡ w → w ≢ last → Lawful shows p record { words = s.words; homes = s.homes; views = set s.views id (with_right v (record x.mine.right { stage = Reversing w w 0 })) }
+  walking_law w e ne = staged_law shows p s o id v at x.mine (Reversing w w 0) no_write
+      (begins_walk o.chains x.mine.right.link x.mine.right kl alone (record x.mine.right { stage = Reversing w w 0 }) w x.stage (head_is ∙ ap (λ (y : ℕ). some y) e) (λ q. ne (q ∙ x.last_is)) refl refl refl refl
       (λ k kl. refl) (λ q ql. refl) (λ q ql. refl)
-      (rights_after o id x.mine.place v x.mine.right at x.mine.has (record x.mine.right { stage = Walks w w 0 }) refl) (claims_after o id x.mine.place v x.mine.right at x.mine.has (record x.mine.right { stage = Walks w w 0 }) refl) (loose_after o id x.mine.place v x.mine.right at x.mine.has (record x.mine.right { stage = Walks w w 0 }) refl))
+      (rights_after o id x.mine.place v x.mine.right at x.mine.has (record x.mine.right { stage = Reversing w w 0 }) refl) (claims_after o id x.mine.place v x.mine.right at x.mine.has (record x.mine.right { stage = Reversing w w 0 }) refl) (loose_after o id x.mine.place v x.mine.right at x.mine.has (record x.mine.right { stage = Reversing w w 0 }) refl))
 
-turns_same : (a b c d e f g h : ℕ) → Turns a b c d ≡ Turns e f g h → (a ≡ e) × (b ≡ f) × (c ≡ g) × (d ≡ h)
+turns_same : (a b c d e f g h : ℕ) → ReversesNext a b c d ≡ ReversesNext e f g h → (a ≡ e) × (b ≡ f) × (c ≡ g) × (d ≡ h)
 turns_same a b c d e f g h q = (cc, cc, cc, cc)
 
-no_writes : (s : Stage) (top at after before now : ℕ) → s ≡ Turns top at after before → s ≢ Writes now
-no_writes s top at after before now e q = let z : Turns top at after before ≡ Writes now = sym e ∙ q in cc
+no_writes : (s : Stage) (top at after before now : ℕ) → s ≡ ReversesNext top at after before → s ≢ Writes now
+no_writes s top at after before now e q = let z : ReversesNext top at after before ≡ Writes now = sym e ∙ q in cc
 
 -- what the right becomes
 by_test : (b : Bool) (r x y : Right) (F : Right → Type 0) → F x → F y → F (cond b x y)
@@ -104,12 +104,12 @@ module _ {S : Type 0} (shows : S → Home) (p : Plan) (s : State S View) (o : La
   pub turning_law : Lawful shows p record { words = set s.words (next_index p (ticket_request x.at)) value; homes = s.homes; views = set s.views id (with_right v (turned_right x.mine.right x.top x.at x.before)) }
   turning_law =
       let y : Right = turned_right x.mine.right x.top x.at x.before in
-      let link' : (turned_right x.mine.right x.top x.at x.before).link ≡ x.mine.right.link = by_test (eqb x.before x.mine.right.last) x.mine.right (record x.mine.right { last = x.top; stage = Writes x.at; turned = 0; noted = x.mine.right.noted + suc x.mine.right.turned }) (record x.mine.right { stage = Walks x.top x.before x.at; turned = suc x.mine.right.turned }) (λ z. z.link ≡ x.mine.right.link) refl refl in
-      let clean' : (turned_right x.mine.right x.top x.at x.before).clean ≡ x.mine.right.clean = by_test (eqb x.before x.mine.right.last) x.mine.right (record x.mine.right { last = x.top; stage = Writes x.at; turned = 0; noted = x.mine.right.noted + suc x.mine.right.turned }) (record x.mine.right { stage = Walks x.top x.before x.at; turned = suc x.mine.right.turned }) (λ z. z.clean ≡ x.mine.right.clean) refl refl in
-      let sent' : (turned_right x.mine.right x.top x.at x.before).sent ≡ x.mine.right.sent = by_test (eqb x.before x.mine.right.last) x.mine.right (record x.mine.right { last = x.top; stage = Writes x.at; turned = 0; noted = x.mine.right.noted + suc x.mine.right.turned }) (record x.mine.right { stage = Walks x.top x.before x.at; turned = suc x.mine.right.turned }) (λ z. z.sent ≡ x.mine.right.sent) refl refl in
-      let count' : (turned_right x.mine.right x.top x.at x.before).places ≡ x.mine.right.places = by_test (eqb x.before x.mine.right.last) x.mine.right (record x.mine.right { last = x.top; stage = Writes x.at; turned = 0; noted = x.mine.right.noted + suc x.mine.right.turned }) (record x.mine.right { stage = Walks x.top x.before x.at; turned = suc x.mine.right.turned }) (λ z. z.places ≡ x.mine.right.places) refl refl in
-      let home' : (turned_right x.mine.right x.top x.at x.before).at_home ≡ x.mine.right.at_home = by_test (eqb x.before x.mine.right.last) x.mine.right (record x.mine.right { last = x.top; stage = Writes x.at; turned = 0; noted = x.mine.right.noted + suc x.mine.right.turned }) (record x.mine.right { stage = Walks x.top x.before x.at; turned = suc x.mine.right.turned }) (λ z. z.at_home ≡ x.mine.right.at_home) refl refl in
-      let hand' : (turned_right x.mine.right x.top x.at x.before).taken ≡ x.mine.right.taken = by_test (eqb x.before x.mine.right.last) x.mine.right (record x.mine.right { last = x.top; stage = Writes x.at; turned = 0; noted = x.mine.right.noted + suc x.mine.right.turned }) (record x.mine.right { stage = Walks x.top x.before x.at; turned = suc x.mine.right.turned }) (λ z. z.taken ≡ x.mine.right.taken) refl refl in
+      let link' : (turned_right x.mine.right x.top x.at x.before).link ≡ x.mine.right.link = by_test (eqb x.before x.mine.right.last) x.mine.right (record x.mine.right { last = x.top; stage = Writes x.at; turned = 0; noted = x.mine.right.noted + suc x.mine.right.turned }) (record x.mine.right { stage = Reversing x.top x.before x.at; turned = suc x.mine.right.turned }) (λ z. z.link ≡ x.mine.right.link) refl refl in
+      let clean' : (turned_right x.mine.right x.top x.at x.before).clean ≡ x.mine.right.clean = by_test (eqb x.before x.mine.right.last) x.mine.right (record x.mine.right { last = x.top; stage = Writes x.at; turned = 0; noted = x.mine.right.noted + suc x.mine.right.turned }) (record x.mine.right { stage = Reversing x.top x.before x.at; turned = suc x.mine.right.turned }) (λ z. z.clean ≡ x.mine.right.clean) refl refl in
+      let sent' : (turned_right x.mine.right x.top x.at x.before).sent ≡ x.mine.right.sent = by_test (eqb x.before x.mine.right.last) x.mine.right (record x.mine.right { last = x.top; stage = Writes x.at; turned = 0; noted = x.mine.right.noted + suc x.mine.right.turned }) (record x.mine.right { stage = Reversing x.top x.before x.at; turned = suc x.mine.right.turned }) (λ z. z.sent ≡ x.mine.right.sent) refl refl in
+      let count' : (turned_right x.mine.right x.top x.at x.before).places ≡ x.mine.right.places = by_test (eqb x.before x.mine.right.last) x.mine.right (record x.mine.right { last = x.top; stage = Writes x.at; turned = 0; noted = x.mine.right.noted + suc x.mine.right.turned }) (record x.mine.right { stage = Reversing x.top x.before x.at; turned = suc x.mine.right.turned }) (λ z. z.places ≡ x.mine.right.places) refl refl in
+      let home' : (turned_right x.mine.right x.top x.at x.before).at_home ≡ x.mine.right.at_home = by_test (eqb x.before x.mine.right.last) x.mine.right (record x.mine.right { last = x.top; stage = Writes x.at; turned = 0; noted = x.mine.right.noted + suc x.mine.right.turned }) (record x.mine.right { stage = Reversing x.top x.before x.at; turned = suc x.mine.right.turned }) (λ z. z.at_home ≡ x.mine.right.at_home) refl refl in
+      let hand' : (turned_right x.mine.right x.top x.at x.before).taken ≡ x.mine.right.taken = by_test (eqb x.before x.mine.right.last) x.mine.right (record x.mine.right { last = x.top; stage = Writes x.at; turned = 0; noted = x.mine.right.noted + suc x.mine.right.turned }) (record x.mine.right { stage = Reversing x.top x.before x.at; turned = suc x.mine.right.turned }) (λ z. z.taken ≡ x.mine.right.taken) refl refl in
       let kl = right_in o id x.mine.place v x.mine.right at x.mine.has in let has = right_alone o id x.mine.place v x.mine.right at x.mine.has in
       let c = turn_slot o.chains x.mine.right.link x.mine.right kl has o.fits.narrow x.top x.at value x.before x.stage in
       let m' : Memory = memory p o.slot (set s.words (next_index p (ticket_request x.at)) value) in
@@ -117,12 +117,12 @@ module _ {S : Type 0} (shows : S → Home) (p : Plan) (s : State S View) (o : La
       let after = rights_after o id x.mine.place v x.mine.right at x.mine.has (turned_right x.mine.right x.top x.at x.before) link' in
       let chains : Chains p.links p.requests (memory p o.slot (set s.words (next_index p (ticket_request x.at)) value)) (tokens (set s.views id (with_right v (turned_right x.mine.right x.top x.at x.before)))) o.log o.freed o.places =
       dite (ℕ_discrete x.before x.mine.right.last)
-      (λ e. let q : turned_right x.mine.right x.top x.at x.before ≡ record x.mine.right { last = x.top; stage = Writes x.at; turned = 0; noted = x.mine.right.noted + suc x.mine.right.turned } = ap (λ b. cond b (record x.mine.right { last = x.top; stage = Writes x.at; turned = 0; noted = x.mine.right.noted + suc x.mine.right.turned }) (record x.mine.right { stage = Walks x.top x.before x.at; turned = suc x.mine.right.turned })) (eq-eqb x.before x.mine.right.last e) in
+      (λ e. let q : turned_right x.mine.right x.top x.at x.before ≡ record x.mine.right { last = x.top; stage = Writes x.at; turned = 0; noted = x.mine.right.noted + suc x.mine.right.turned } = ap (λ b. cond b (record x.mine.right { last = x.top; stage = Writes x.at; turned = 0; noted = x.mine.right.noted + suc x.mine.right.turned }) (record x.mine.right { stage = Reversing x.top x.before x.at; turned = suc x.mine.right.turned })) (eq-eqb x.before x.mine.right.last e) in
       turns_last o.chains m' t' x.mine.right.link x.mine.right kl has o.fits.narrow x.top x.at value x.before x.stage
       (next_head p o.slot s.words value o.references.sized (slots_in o) (ticket_request x.at) c.5) (next_changed p o.slot s.words value o.references.sized (slots_in o) (ticket_request x.at) c.5) (next_request p o.slot s.words value o.references.sized (slots_in o) (ticket_request x.at) c.5)
       (claims_after o id x.mine.place v x.mine.right at x.mine.has (turned_right x.mine.right x.top x.at x.before) link') (loose_after o id x.mine.place v x.mine.right at x.mine.has (turned_right x.mine.right x.top x.at x.before) link')
       (turned_right x.mine.right x.top x.at x.before) e (ap (λ (z : Right). z.last) q) (ap (λ (z : Right). z.turned) q) (ap (λ (z : Right). z.noted) q) (ap (λ (z : Right). z.stage) q) after)
-      (λ ne. let q : turned_right x.mine.right x.top x.at x.before ≡ record x.mine.right { stage = Walks x.top x.before x.at; turned = suc x.mine.right.turned } = ap (λ b. cond b (record x.mine.right { last = x.top; stage = Writes x.at; turned = 0; noted = x.mine.right.noted + suc x.mine.right.turned }) (record x.mine.right { stage = Walks x.top x.before x.at; turned = suc x.mine.right.turned })) (ne_eqb x.before x.mine.right.last ne) in
+      (λ ne. let q : turned_right x.mine.right x.top x.at x.before ≡ record x.mine.right { stage = Reversing x.top x.before x.at; turned = suc x.mine.right.turned } = ap (λ b. cond b (record x.mine.right { last = x.top; stage = Writes x.at; turned = 0; noted = x.mine.right.noted + suc x.mine.right.turned }) (record x.mine.right { stage = Reversing x.top x.before x.at; turned = suc x.mine.right.turned })) (ne_eqb x.before x.mine.right.last ne) in
       turns_on o.chains m' t' x.mine.right.link x.mine.right kl has o.fits.narrow x.top x.at value x.before x.stage
       (next_head p o.slot s.words value o.references.sized (slots_in o) (ticket_request x.at) c.5) (next_changed p o.slot s.words value o.references.sized (slots_in o) (ticket_request x.at) c.5) (next_request p o.slot s.words value o.references.sized (slots_in o) (ticket_request x.at) c.5)
       (claims_after o id x.mine.place v x.mine.right at x.mine.has (turned_right x.mine.right x.top x.at x.before) link') (loose_after o id x.mine.place v x.mine.right at x.mine.has (turned_right x.mine.right x.top x.at x.before) link')

@@ -9,7 +9,7 @@ use Rattle.sock_model.specs.sock_words.specs.declared.plain.Plan.{Plan}
 use Rattle.sock_model.specs.declared.chain.Entry.{Entry}
 use Rattle.sock_model.specs.declared.chain.Right.{Right}
 use Rattle.sock_model.specs.declared.chain.Stage.{Stage}
-use Rattle.sock_model.specs.declared.chain.Stage.TheVariants.{Writes, Placed, Passes, Empties, Walks, Turns}
+use Rattle.sock_model.specs.declared.chain.Stage.TheVariants.{Writes, Placed, Passes, Empties, Reversing, ReversesNext}
 use Rattle.sock_model.specs.declared.home.Home.{Home}
 use Rattle.sock_model.specs.declared.view.View.{View}
 use Rattle.sock_model.specs.MarkWeights.{only}
@@ -39,8 +39,8 @@ stage_short m t c n freed places turned (Writes now) is h = let x = h.0.0 in let
 stage_short m t c n freed places turned (Placed now) is h = let x = h.0.0 in let y = h.0.1 in let a = h.1 in let d = h.2 in omega arith
 stage_short m t c n freed places turned (Passes now next) is h = let x = h.0.0 in let y = h.0.1 in let a = h.1 in let d = h.2 in omega arith
 stage_short m t c n freed places turned Empties is h = let x = h.0.0 in let y = h.0.1 in let a = h.1 in let d = h.2 in omega arith
-stage_short m t c n freed places turned (Walks top at after) is h = let w = walk_short c n freed places turned top at after is h in omega arith
-stage_short m t c n freed places turned (Turns top at after before) is h = let w = walk_short c n freed places turned top at after is h.0 in omega arith
+stage_short m t c n freed places turned (Reversing top at after) is h = let w = walk_short c n freed places turned top at after is h in omega arith
+stage_short m t c n freed places turned (ReversesNext top at after before) is h = let w = walk_short c n freed places turned top at after is h.0 in omega arith
 
 module _ {S : Type 0} {shows : S → Home} {p : Plan} {s : State S View} (o : Lawful shows p s) (id i : ℕ) (v : View) (r : Right) (at : get_elem? s.views id ≡ some v) (has : get_elem? v.rights i ≡ some r) where
   held : Held (memory p o.slot s.words) (tokens s.views) (on r.link o.log) (o.freed r.link) (o.places r.link) r
@@ -53,21 +53,21 @@ module _ {S : Type 0} {shows : S → Home} {p : Plan} {s : State S View} (o : La
   walked_le = let f = held.fits.3 in
       omega (arith, f, counted, stage_short (memory p o.slot s.words) (tokens s.views) (on r.link o.log) held.counts (o.freed r.link) (o.places r.link) r.turned r.stage held.turned_is held.stage_is)
 
-  on_walk : (top at after : ℕ) → r.stage ≡ Walks top at after → OnWalk (on r.link o.log) held.counts (o.freed r.link) (o.places r.link) top at after
+  on_walk : (top at after : ℕ) → r.stage ≡ Reversing top at after → OnWalk (on r.link o.log) held.counts (o.freed r.link) (o.places r.link) top at after
   on_walk top at after stage = subst (InStage (memory p o.slot s.words) (tokens s.views) (on r.link o.log) held.counts (o.freed r.link) (o.places r.link)) stage held.stage_is
 
-  on_turn : (top at after before : ℕ) → r.stage ≡ Turns top at after before → OnWalk (on r.link o.log) held.counts (o.freed r.link) (o.places r.link) top at after
-  on_turn top at after before stage = let st : InStage (memory p o.slot s.words) (tokens s.views) (on r.link o.log) held.counts (o.freed r.link) (o.places r.link) (Turns top at after before) = subst (InStage (memory p o.slot s.words) (tokens s.views) (on r.link o.log) held.counts (o.freed r.link) (o.places r.link)) stage held.stage_is in st.0
+  on_turn : (top at after before : ℕ) → r.stage ≡ ReversesNext top at after before → OnWalk (on r.link o.log) held.counts (o.freed r.link) (o.places r.link) top at after
+  on_turn top at after before stage = let st : InStage (memory p o.slot s.words) (tokens s.views) (on r.link o.log) held.counts (o.freed r.link) (o.places r.link) (ReversesNext top at after before) = subst (InStage (memory p o.slot s.words) (tokens s.views) (on r.link o.log) held.counts (o.freed r.link) (o.places r.link)) stage held.stage_is in st.0
 
   -- while it walks an entry is left that has no place and isn't turned
   walks_short : (top at after : ℕ) → OnWalk (on r.link o.log) held.counts (o.freed r.link) (o.places r.link) top at after → r.places + r.turned < length (on r.link o.log)
   walks_short top at after w = let f = held.fits.3 in
       omega (arith, f, counted, walk_short (on r.link o.log) held.counts (o.freed r.link) (o.places r.link) r.turned top at after held.turned_is w)
 
-  pub walk_left : (top at after : ℕ) → r.stage ≡ Walks top at after → r.places + r.turned < length (on r.link o.log)
+  pub walk_left : (top at after : ℕ) → r.stage ≡ Reversing top at after → r.places + r.turned < length (on r.link o.log)
   walk_left top at after stage = walks_short top at after (on_walk top at after stage)
 
-  pub turn_left : (top at after before : ℕ) → r.stage ≡ Turns top at after before → r.places + r.turned < length (on r.link o.log)
+  pub turn_left : (top at after before : ℕ) → r.stage ≡ ReversesNext top at after before → r.places + r.turned < length (on r.link o.log)
   turn_left top at after before stage = walks_short top at after (on_turn top at after before stage)
 
   -- where it writes an entry has no place
@@ -84,10 +84,10 @@ module _ {S : Type 0} {shows : S → Home} {p : Plan} {s : State S View} (o : La
   walks_less : (top at after : ℕ) → OnWalk (on r.link o.log) held.counts (o.freed r.link) (o.places r.link) top at after → r.noted + r.turned < length (on r.link o.log)
   walks_less top at after w = let f = w.some_left in let g = held.fits.2 in let h = held.fits.3 in let n = held.noted_is in let t = held.turned_is in omega arith
 
-  pub walk_less : (top at after : ℕ) → r.stage ≡ Walks top at after → r.noted + r.turned < length (on r.link o.log)
+  pub walk_less : (top at after : ℕ) → r.stage ≡ Reversing top at after → r.noted + r.turned < length (on r.link o.log)
   walk_less top at after stage = walks_less top at after (on_walk top at after stage)
 
-  pub turn_less : (top at after before : ℕ) → r.stage ≡ Turns top at after before → r.noted + r.turned < length (on r.link o.log)
+  pub turn_less : (top at after before : ℕ) → r.stage ≡ ReversesNext top at after before → r.noted + r.turned < length (on r.link o.log)
   turn_less top at after before stage = walks_less top at after (on_turn top at after before stage)
 
 -- ## What a link accepted

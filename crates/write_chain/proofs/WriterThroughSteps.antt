@@ -10,7 +10,7 @@ use Rattle.sock_words.specs.declared.ticket.Ticket.{Ticket}
 use Rattle.sock_words.specs.PackedWords.{socket_id_version, socket_id_slot, ticket_request}
 use Rattle.sock_model.specs.declared.chain.Right.{Right}
 use Rattle.sock_model.specs.declared.chain.Stage.{Stage}
-use Rattle.sock_model.specs.declared.chain.Stage.TheVariants.{Writes, Placed, Passes, Empties, Walks, Turns}
+use Rattle.sock_model.specs.declared.chain.Stage.TheVariants.{Writes, Placed, Passes, Empties, Reversing, ReversesNext}
 use Rattle.sock_model.specs.declared.marks.Mark.{Mark}
 use Rattle.sock_model.specs.declared.marks.Mark.TheVariants.{Met}
 use Rattle.sock_model.specs.declared.view.View.{View}
@@ -323,7 +323,7 @@ module _ {S : Type 0} {p : Plan} {id last link : ℕ} where
     slots = s.slots;
   }
 
-  pub walks_from : (found : ℕ) (m n : Me S View) (s : Stands p id last Empties link m) → n ≡ (with_right m.0 (walking_right s.right_is found), m.1) → Stands p id last (Walks found found 0) link n
+  pub walks_from : (found : ℕ) (m n : Me S View) (s : Stands p id last Empties link m) → n ≡ (with_right m.0 (walking_right s.right_is found), m.1) → Stands p id last (Reversing found found 0) link n
   walks_from found m n s e = record {
     right_is = walking_right s.right_is found;
     writer = writer_on s.writer last (walking_right s.right_is found) refl s.writer.last_is s.writer.last_ticket (ap (λ (q : Me S View). q.0) e);
@@ -335,24 +335,24 @@ module _ {S : Type 0} {p : Plan} {id last link : ℕ} where
 
 module _ {O : Type 0} {g : Ghosts O} {p : Plan} {ways : List (List ℕ)} {id last : ℕ} where
   -- C5 on the walk
-  pub reads_at : (top at after found : ℕ) (hand : LinkInHand O g) (m n : Me (SockHome O g) View) (h : HasLink p ways id last (Walks top at after) [] hand m) → n ≡ (with_right m.0 (reading_right h.right_is top at after found), m.1) → HasLink p ways id last (Turns top at after found) [] hand n
+  pub reads_at : (top at after found : ℕ) (hand : LinkInHand O g) (m n : Me (SockHome O g) View) (h : HasLink p ways id last (Reversing top at after) [] hand m) → n ≡ (with_right m.0 (reading_right h.right_is top at after found), m.1) → HasLink p ways id last (ReversesNext top at after found) [] hand n
   reads_at top at after found hand m n h e = link_moves hand m n h (reading_right h.right_is top at after found) m.1 refl h.writer.last_is h.writer.last_ticket h.has.away refl refl h.idle refl e h.slots
 
   -- C6
-  module _ (top at after found : ℕ) (hand : LinkInHand O g) (m n : Me (SockHome O g) View) (h : HasLink p ways id last (Turns top at after found) [] hand m) (e : n ≡ (with_right m.0 (turned_right h.right_is top at found), m.1)) where
+  module _ (top at after found : ℕ) (hand : LinkInHand O g) (m n : Me (SockHome O g) View) (h : HasLink p ways id last (ReversesNext top at after found) [] hand m) (e : n ≡ (with_right m.0 (turned_right h.right_is top at found), m.1)) where
     abbrev done : Right
     done = record h.right_is { last = top; stage = Writes at; turned = 0; noted = h.right_is.noted + suc h.right_is.turned }
 
     abbrev on : Right
-    on = record h.right_is { stage = Walks top found at; turned = suc h.right_is.turned }
+    on = record h.right_is { stage = Reversing top found at; turned = suc h.right_is.turned }
 
     pub turned_last : found ≡ last → IsTicket p top → HasLink p ways id top (Writes at) [] hand n
     turned_last same ticket = link_moves hand m n h (record h.right_is { last = top; stage = Writes at; turned = 0; noted = h.right_is.noted + suc h.right_is.turned }) m.1 refl refl ticket h.has.away refl refl h.idle refl
-        (e ∙ ap (λ (b : Bool). (with_right m.0 (cond b (record h.right_is { last = top; stage = Writes at; turned = 0; noted = h.right_is.noted + suc h.right_is.turned }) (record h.right_is { stage = Walks top found at; turned = suc h.right_is.turned })), m.1)) (eq-eqb found h.right_is.last (same ∙ sym h.writer.last_is))) h.slots
+        (e ∙ ap (λ (b : Bool). (with_right m.0 (cond b (record h.right_is { last = top; stage = Writes at; turned = 0; noted = h.right_is.noted + suc h.right_is.turned }) (record h.right_is { stage = Reversing top found at; turned = suc h.right_is.turned })), m.1)) (eq-eqb found h.right_is.last (same ∙ sym h.writer.last_is))) h.slots
 
-    pub turned_on : found ≢ last → HasLink p ways id last (Walks top found at) [] hand n
-    turned_on other = link_moves hand m n h (record h.right_is { stage = Walks top found at; turned = suc h.right_is.turned }) m.1 refl h.writer.last_is h.writer.last_ticket h.has.away refl refl h.idle refl
-        (e ∙ ap (λ (b : Bool). (with_right m.0 (cond b (record h.right_is { last = top; stage = Writes at; turned = 0; noted = h.right_is.noted + suc h.right_is.turned }) (record h.right_is { stage = Walks top found at; turned = suc h.right_is.turned })), m.1)) (ne_eqb found h.right_is.last (λ z. other (z ∙ h.writer.last_is)))) h.slots
+    pub turned_on : found ≢ last → HasLink p ways id last (Reversing top found at) [] hand n
+    turned_on other = link_moves hand m n h (record h.right_is { stage = Reversing top found at; turned = suc h.right_is.turned }) m.1 refl h.writer.last_is h.writer.last_ticket h.has.away refl refl h.idle refl
+        (e ∙ ap (λ (b : Bool). (with_right m.0 (cond b (record h.right_is { last = top; stage = Writes at; turned = 0; noted = h.right_is.noted + suc h.right_is.turned }) (record h.right_is { stage = Reversing top found at; turned = suc h.right_is.turned })), m.1)) (ne_eqb found h.right_is.last (λ z. other (z ∙ h.writer.last_is)))) h.slots
 
 -- only the last stage is the last one
 pub must_last : {O : Type 0} {g : Ghosts O} (d : Doing O g) → IsLast d → ((link : LinkInHand O g) → d ≡ doing.Last link → ⊥) → ⊥

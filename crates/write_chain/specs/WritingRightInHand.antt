@@ -144,8 +144,8 @@ GoesBy p ways id last (doing.Puts hand) m = HasPart p ways id last hand m
 GoesBy p ways id last (doing.Waits hand) m = HasPart p ways id last hand m
 GoesBy p ways id last (doing.Next link now) m = HasLink p ways id last (stage.Writes now.0) [] link m × IsTicket p now.0
 GoesBy p ways id last (doing.Last link) m = HasLink p ways id last stage.Empties [] link m
-GoesBy p ways id last (doing.Walks link top) m = Stands p id last (stage.Walks top.0 top.0 0) link m × IsTicket p top.0
-GoesBy p ways id last (doing.Back w) m = HasLink p ways id last (stage.Walks w.top.0 w.at.0 w.after) [] w.link m × IsTicket p w.top.0 × IsTicket p w.at.0
+GoesBy p ways id last (doing.Reversing link top) m = Stands p id last (stage.Reversing top.0 top.0 0) link m × IsTicket p top.0
+GoesBy p ways id last (doing.Back w) m = HasLink p ways id last (stage.Reversing w.top.0 w.at.0 w.after) [] w.link m × IsTicket p w.top.0 × IsTicket p w.at.0
 
 abbrev pub MayGoOn : {O : Type 0} {g : Ghosts O} → Plan → List (List ℕ) → WriteRight O g → Me (SockHome O g) View → Type 0
 MayGoOn p ways right m = GoesBy p ways right.sock.id.0 right.last.0 right.doing m
@@ -157,7 +157,7 @@ FaultsBy n id (doing.Puts hand) v = FaultTold n id hand.home v
 FaultsBy n id (doing.Waits hand) v = FaultTold n id hand.home v
 FaultsBy n id (doing.Next link now) v = FaultTold n id link.home v
 FaultsBy n id (doing.Last link) v = FaultTold n id link.home v
-FaultsBy n id (doing.Walks link top) v = Unit {0}
+FaultsBy n id (doing.Reversing link top) v = Unit {0}
 FaultsBy n id (doing.Back w) v = FaultTold n id w.link.home v
 
 -- all that was noted has its place
@@ -169,7 +169,7 @@ IsLast other = ⊥
 abbrev pub IsLeft : {O : Type 0} {g : Ghosts O} → Doing O g → Type 0
 IsLeft (doing.Puts hand) = Unit {0}
 IsLeft (doing.Waits hand) = Unit {0}
-IsLeft (doing.Walks link top) = Unit {0}
+IsLeft (doing.Reversing link top) = Unit {0}
 IsLeft other = ⊥
 
 abbrev pub OnceBy : {O : Type 0} {g : Ghosts O} → Plan → List (List ℕ) → SockRef → Once O g → Me (SockHome O g) View → Type 0

@@ -166,7 +166,7 @@ impl<O: Out> HeldChain<'_, O> {
         Once::Keep(WriteRight {
             sock,
             last,
-            doing: Doing::Walks(number, Ticket(step.found)),
+            doing: Doing::Reversing(number, Ticket(step.found)),
         })
     }
 

@@ -129,7 +129,7 @@ impl<O: Out> HeldChain<'_, O> {
             at,
             after,
         } = walk;
-        table.rule.turn_next(seat, at, after);
+        table.rule.reverse_next(seat, at, after);
         let end = last.0;
         if found == end {
             return WriteRight {
@@ -207,7 +207,7 @@ impl<O: Out> HeldChain<'_, O> {
                 Went::Further(self.with(doing))
             }
             Doing::Last(link) => self.try_head(seat, link),
-            Doing::Walks(number, top) => {
+            Doing::Reversing(number, top) => {
                 let link = self.fetch_link(seat, number);
                 let doing = Doing::Back(Walk {
                     link,

@@ -59,7 +59,7 @@ pub enum Doing<O: Out> {
     /// All that was noted has its place: the head is tried next.
     Last(LinkInHand<O>),
     /// The head of this link had a newer ticket, from which the walk begins.
-    Walks(u16, Ticket),
+    Reversing(u16, Ticket),
     /// The walk is on its way.
     Back(Walk<O>),
 }

@@ -1,6 +1,6 @@
 use Rattle.std.proofs.Common.{refl, sym, subst}
 use Rattle.write_chain.specs.declared.keep.Went.TheVariants as went
-use Rattle.sock_model.specs.declared.chain.Stage.TheVariants.{Walks}
+use Rattle.sock_model.specs.declared.chain.Stage.TheVariants.{Reversing}
 use Rattle.write_chain.specs.WritingRightInHand.{GoesBy, HasMore}
 use Rattle.write_chain.specs.KeepingOnWriting.{WentBy}
 use Rattle.write_chain.proofs.NotingWhileWriting.{wrote_rights}
@@ -32,13 +32,13 @@ pub try_head-requires-clause-may : goal.try_head-requires-clause-may
 try_head-requires-clause-may g c = (subst (λ d. GoesBy c.args.self.table.now.rule.plan c.args.self.table.now.rule.ways.list c.args.self.sock.id.0 c.args.self.last.0 d c.args.seat.now.me) c.in-Last.is c.requires.may)
 
 pub fetch_link-link-requires-clause-may : goal.fetch_link-link-requires-clause-may
-fetch_link-link-requires-clause-may g c = (c.args.self.last.0, Walks c.in-Walks.top.0 c.in-Walks.top.0 0, (subst (λ d. GoesBy c.args.self.table.now.rule.plan c.args.self.table.now.rule.ways.list c.args.self.sock.id.0 c.args.self.last.0 d c.args.seat.now.me) c.in-Walks.is c.requires.may).0)
+fetch_link-link-requires-clause-may g c = (c.args.self.last.0, Reversing c.in-Reversing.top.0 c.in-Reversing.top.0 0, (subst (λ d. GoesBy c.args.self.table.now.rule.plan c.args.self.table.now.rule.ways.list c.args.self.sock.id.0 c.args.self.last.0 d c.args.seat.now.me) c.in-Reversing.is c.requires.may).0)
 
-pub returns-in-Walks-clause-went : goal.returns-in-Walks-clause-went
-returns-in-Walks-clause-went g c = let w = (subst (λ d. GoesBy c.args.self.table.now.rule.plan c.args.self.table.now.rule.ways.list c.args.self.sock.id.0 c.args.self.last.0 d c.args.seat.now.me) c.in-Walks.is c.requires.may) in subst (λ r. WentBy c.args.self.table.now.rule.plan c.args.self.table.now.rule.ways.list c.args.self.sock (went.Further r) c.args.seat.now.me.0 c.fetch_link-link.new.seat.me) (sym c.with-in-Walks.ensures) (refl, (c.fetch_link-link.ensures.has c.args.self.last.0 (Walks c.in-Walks.top.0 c.in-Walks.top.0 0) w.0, w.1, w.1))
+pub returns-in-Reversing-clause-went : goal.returns-in-Reversing-clause-went
+returns-in-Reversing-clause-went g c = let w = (subst (λ d. GoesBy c.args.self.table.now.rule.plan c.args.self.table.now.rule.ways.list c.args.self.sock.id.0 c.args.self.last.0 d c.args.seat.now.me) c.in-Reversing.is c.requires.may) in subst (λ r. WentBy c.args.self.table.now.rule.plan c.args.self.table.now.rule.ways.list c.args.self.sock (went.Further r) c.args.seat.now.me.0 c.fetch_link-link.new.seat.me) (sym c.with-in-Reversing.ensures) (refl, (c.fetch_link-link.ensures.has c.args.self.last.0 (Reversing c.in-Reversing.top.0 c.in-Reversing.top.0 0) w.0, w.1, w.1))
 
-pub returns-in-Walks-clause-wrote : goal.returns-in-Walks-clause-wrote
-returns-in-Walks-clause-wrote g c = c.fetch_link-link.ensures.wrote
+pub returns-in-Reversing-clause-wrote : goal.returns-in-Reversing-clause-wrote
+returns-in-Reversing-clause-wrote g c = c.fetch_link-link.ensures.wrote
 
 pub walk_back-requires-clause-may : goal.walk_back-requires-clause-may
 walk_back-requires-clause-may g c = (subst (λ d. GoesBy c.args.self.table.now.rule.plan c.args.self.table.now.rule.ways.list c.args.self.sock.id.0 c.args.self.last.0 d c.args.seat.now.me) c.in-Back.is c.requires.may)
@@ -61,8 +61,8 @@ returns-in-Next-clause-stays g c = λ d m. subst (λ r. HasMore r.doing) (sym c.
 pub returns-in-Last-clause-stays : goal.returns-in-Last-clause-stays
 returns-in-Last-clause-stays g c = λ d m. absurd (subst (λ x. HasMore x) c.in-Last.is m)
 
-pub returns-in-Walks-clause-stays : goal.returns-in-Walks-clause-stays
-returns-in-Walks-clause-stays g c = λ d m. subst (λ r. HasMore r.doing) (sym c.with-in-Walks.ensures) tt
+pub returns-in-Reversing-clause-stays : goal.returns-in-Reversing-clause-stays
+returns-in-Reversing-clause-stays g c = λ d m. subst (λ r. HasMore r.doing) (sym c.with-in-Reversing.ensures) tt
 
 pub returns-in-Back-clause-stays : goal.returns-in-Back-clause-stays
 returns-in-Back-clause-stays g c = λ d m. c.walk_back.ensures.more

@@ -3,7 +3,7 @@ use Rattle.sock_rule.specs.OnKey.{shows_by}
 use Rattle.sock_rule.specs.Shows.{rose}
 use Rattle.sock_rule.proofs.SeatStaysInTable.{still_seat}
 use Rattle.sock_rule.proofs.LinkOwnerSteps.{turns_on}
-use Rattle.sock_rule.proofs.table.RuleTable.turn_next.Goals as goal
+use Rattle.sock_rule.proofs.table.RuleTable.reverse_next.Goals as goal
 
 pub next_index-index-requires : goal.next_index-index-requires
 next_index-index-requires g c = omega (arith, c.requires.ticket.1, c.request.ensures)
