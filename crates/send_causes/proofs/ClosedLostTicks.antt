@@ -280,7 +280,7 @@ module _ (p : Plan) (Old : ℕ → ℕ → Type 0) where
             after (SwapHead i own),
             now,
             swap_entry o n v (found (SwapHead i own)) (hand_at p c.words c.homes (SwapHead i own)) knows.0 may.1.made may.1.taken_in knows.1 may.1.lists
-                (ap (λ h. h.operation) knows.2 ∙ w.0) (ap (λ h. h.attempt) knows.2 ∙ w.1),
+                (ap (λ h. h.label.operation) knows.2 ∙ w.0) (ap (λ h. h.label.attempt) knows.2 ∙ w.1),
           )),
         )
         step_next call next m g knows may did now = absurd g

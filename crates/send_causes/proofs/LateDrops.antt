@@ -108,7 +108,7 @@ module _ (script : List Item) (made : AreMade script) (there : AreThere script) 
       number = sym call.6 ∙ calls.own
 
       attempt : attempt_of x.error ≡ heading.label.attempt
-      attempt = ap attempt_of post.error ∙ (let f = calls.few in let c = post.code in let z : attempt_of (error_of (if c == 0 then 1009 else c) heading.label.attempt) ≡ heading.attempt = omega (arith, f) in z)
+      attempt = ap attempt_of post.error ∙ (let f = calls.few in let c = post.code in let z : attempt_of (error_of (if c == 0 then 1009 else c) heading.label.attempt) ≡ heading.label.attempt = omega (arith, f) in z)
 
       -- the code that it found
       found : post.code ≡ 1014
