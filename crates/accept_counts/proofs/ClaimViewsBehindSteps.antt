@@ -11,7 +11,7 @@ use Rattle.sock_model.specs.declared.view.Hand.{Hand}
 use Rattle.sock_model.specs.ChainRows.{with_claim, entry_of, more, queued, righted, ready_claim, filled_claim}
 use Rattle.call_causes.specs.Below.programs_allowed.specs.slot_steps.proofs.SlotWeightSums.{total-append}
 use Rattle.sock_message.specs.Asked.{Asked}
-use Rattle.seat_programs.specs.TableSteps.{TableStep, ClaimRequest, PutMessage, Unconnect, SwapHead}
+use Rattle.seat_programs.specs.TableSteps.{TableStep, OnChain, OnMessage, ClaimRequest, PutMessage, Unconnect, SwapHead}
 use Rattle.seat_programs.specs.StepTables.{row}
 use Rattle.seat_programs.specs.StepViews.{by_claim}
 use Rattle.seat_programs.specs.StepsOfChain.{exchanged}
@@ -28,13 +28,13 @@ module _ (v : View) where
   Same u = (u.claims ≡ v.claims) × (u.lists ≡ v.lists)
 
   pub row_same : (p : Plan) (found : ℕ) (hand : Hand) (call : TableStep) → is_claiming call ≡ false → Same (row p call found hand v)
-  row_same p found hand (SwapHead i own) n = absurd (true≢false n)
+  row_same p found hand (OnChain (SwapHead i own)) n = absurd (true≢false n)
   row_same p found hand call n = (claims_stay p v found hand call n, lists_stay p v found hand call refl)
 
   -- ## How often an attempt stands there
 
   abbrev pub put_of : ℕ → ℕ → TableStep → ℕ
-  put_of id n (PutMessage q heading bytes) = of_heading id n heading
+  put_of id n (OnMessage (PutMessage q heading bytes)) = of_heading id n heading
   put_of id n other = 0
 
   module _ (id n : ℕ) where
@@ -59,10 +59,10 @@ module _ (v : View) where
         (let b = more_count v.lists (entry_of x found) in omega (arith, a, b)) (let b = more_count v.lists (entry_of x (found - IDLE)) in omega (arith, a, b))
 
     pub row_count : (p : Plan) (found : ℕ) (hand : Hand) (call : TableStep) → of_view id n (row p call found hand v) ≤ of_view id n v + put_of id n call
-    row_count p found hand (ClaimRequest i q) = split (found % 2 == 0) _ v (AtMost 0) (omega arith) (omega arith)
-    row_count p found hand (PutMessage q heading bytes) = claim_way (AtMost (of_heading id n heading)) v.claims (λ c. with_claim v (filled_claim c heading bytes)) v (omega arith) (λ c. omega arith)
-    row_count p found hand (Unconnect q) = ready_count v.claims refl
-    row_count p found hand (SwapHead i own) = swap_count found hand v.claims refl
+    row_count p found hand (OnChain (ClaimRequest i q)) = split (found % 2 == 0) _ v (AtMost 0) (omega arith) (omega arith)
+    row_count p found hand (OnMessage (PutMessage q heading bytes)) = claim_way (AtMost (of_heading id n heading)) v.claims (λ c. with_claim v (filled_claim c heading bytes)) v (omega arith) (λ c. omega arith)
+    row_count p found hand (OnChain (Unconnect q)) = ready_count v.claims refl
+    row_count p found hand (OnChain (SwapHead i own)) = swap_count found hand v.claims refl
     row_count p found hand call = same_count (row p call found hand v) (row_same p found hand call refl)
 
     pub rights_count : (u : View) (rights : List Right) → u ≡ with_rights v rights → of_view id n u ≤ of_view id n v
@@ -98,17 +98,17 @@ module _ (v : View) where
         split (nat_lt found IDLE) (queued v x found) (righted v x found hand.took hand.next) Fits (tt, more_fits v.lists (entry_of x found) fits.1 (one.0, body)) (tt, more_fits v.lists (entry_of x (found - IDLE)) fits.1 (one.0, body))
 
     abbrev pub PutsFit : TableStep → Type 0
-    PutsFit (PutMessage q heading bytes) = HeadFits is_call ids heading bytes
+    PutsFit (OnMessage (PutMessage q heading bytes)) = HeadFits is_call ids heading bytes
     PutsFit other = Unit {0}
 
-    filled_of : (i own : ℕ) → May p v (SwapHead i own) → (x : Claim) (xs : List Claim) → v.claims ≡ x ∷ xs → x.filled ≡ true
+    filled_of : (i own : ℕ) → May p v (OnChain (SwapHead i own)) → (x : Claim) (xs : List Claim) → v.claims ≡ x ∷ xs → x.filled ≡ true
     filled_of i own may x xs e = let m = may.1 in let same : m.claim ∷ [] ≡ x ∷ xs = sym m.claims ∙ e in let one : m.claim ≡ x = cc in ap (λ (c : Claim). c.filled) (sym one) ∙ m.is_filled
 
     pub row_fits : (found : ℕ) (hand : Hand) (call : TableStep) → May p v call → PutsFit call → ViewFits is_call ids p (row p call found hand v)
-    row_fits found hand (ClaimRequest i q) may h = split (found % 2 == 0) _ v Fits (((inl (refl, refl), λ e. absurd (true≢false (sym e))), tt), fits.1) fits
-    row_fits found hand (PutMessage q heading bytes) may h = claim_way Fits v.claims (λ c. with_claim v (filled_claim c heading bytes)) v fits (λ c. (((h, λ _. (may.2, may.3)), tt), fits.1))
-    row_fits found hand (Unconnect q) may h = ready_fits v.claims refl
-    row_fits found hand (SwapHead i own) may h = swap_fits found hand v.claims refl (filled_of i own may)
+    row_fits found hand (OnChain (ClaimRequest i q)) may h = split (found % 2 == 0) _ v Fits (((inl (refl, refl), λ e. absurd (true≢false (sym e))), tt), fits.1) fits
+    row_fits found hand (OnMessage (PutMessage q heading bytes)) may h = claim_way Fits v.claims (λ c. with_claim v (filled_claim c heading bytes)) v fits (λ c. (((h, λ _. (may.2, may.3)), tt), fits.1))
+    row_fits found hand (OnChain (Unconnect q)) may h = ready_fits v.claims refl
+    row_fits found hand (OnChain (SwapHead i own)) may h = swap_fits found hand v.claims refl (filled_of i own may)
     row_fits found hand call may h = same_fits (row p call found hand v) (row_same p found hand call refl)
 
     pub rights_fit : (u : View) (rights : List Right) → u ≡ with_rights v rights → ViewFits is_call ids p u

@@ -9,7 +9,7 @@ use Rattle.corr_core.specs.IdSlotWord.{parts, code_of}
 use Rattle.corr_core.specs.EndedByRangeOrAttempt.{ends_call}
 use Rattle.seat_programs.specs.brpc_model.specs.Frame.{Frame}
 use Rattle.seat_programs.specs.brpc_model.specs.FrameStream as streams
-use Rattle.seat_programs.specs.TableSteps.{TableStep, SetOdd, StoreCode, AddRef, SwapHead, CreateLife, StoreOpen}
+use Rattle.seat_programs.specs.TableSteps.{TableStep, OnSlot, OnName, OnChain, SetOdd, StoreCode, AddRef, SwapHead, CreateLife, StoreOpen}
 use Rattle.seat_programs.specs.Asides.{Step, Found, TakeBytes, Taking, Bytes, Nothing, NoMore, AtEnd, Closed, Broken}
 use Rattle.seat_programs.specs.LoopHeads.{Head, Exit, Retry, Reading, Posts, Unlocks, Decides, Locks, Joins, Opens, Reads, Discards, HasEnded, Ended}
 use Rattle.seat_programs.specs.Programs.{Program, Do, Say, Sent, Rest, Write, Aside, Round, Keep, Retries, release, add_reference, set_failed}
@@ -74,12 +74,12 @@ module _ (k id : ℕ) (Odd : List Taking → Type 0) (Lasts : Type 0) where
 
   -- behind these takes, where the seat has just got a reference to the life or not
   abbrev pub Calm : Bool → List Taking → Program → Type 0
-  Calm held h (Do (SetOdd i) next) = (held ≡ true) × Odd h × (i ≡ socket_id_slot id) × ((found : ℕ) → Calm false h (next found))
-  Calm held h (Do (StoreCode i v code) next) = Codes h code × (i ≡ socket_id_slot id) × (v ≡ socket_id_version id) × ((found : ℕ) → Calm false h (next found))
-  Calm held h (Do (AddRef x) next) = (x ≡ id) × ((found : ℕ) → Calm (vref_version found == socket_id_version id) h (next found))
-  Calm held h (Do (SwapHead i own) next) = ⊥
-  Calm held h (Do (CreateLife i l) next) = ⊥
-  Calm held h (Do (StoreOpen o w) next) = ⊥
+  Calm held h (Do (OnSlot (SetOdd i)) next) = (held ≡ true) × Odd h × (i ≡ socket_id_slot id) × ((found : ℕ) → Calm false h (next found))
+  Calm held h (Do (OnSlot (StoreCode i v code)) next) = Codes h code × (i ≡ socket_id_slot id) × (v ≡ socket_id_version id) × ((found : ℕ) → Calm false h (next found))
+  Calm held h (Do (OnSlot (AddRef x)) next) = (x ≡ id) × ((found : ℕ) → Calm (vref_version found == socket_id_version id) h (next found))
+  Calm held h (Do (OnChain (SwapHead i own)) next) = ⊥
+  Calm held h (Do (OnSlot (CreateLife i l)) next) = ⊥
+  Calm held h (Do (OnName (StoreOpen o w)) next) = ⊥
   Calm held h (Do call next) = (found : ℕ) → Calm false h (next found)
   Calm held h (Say o outcome next) = Calm held h next
   Calm held h (Sent o next) = Calm held h next
@@ -100,12 +100,12 @@ module _ (k id : ℕ) (Odd : List Taking → Type 0) (Lasts : Type 0) where
     C = Calm false h
 
     frees : (call : TableStep) (next : ℕ → Program) → is_freeing call ≡ true → ((found : ℕ) → C (next found)) → C (Do call next)
-    frees (SetOdd i) next is x = absurd (true≢false (sym is))
-    frees (StoreCode i v code) next is x = absurd (true≢false (sym is))
-    frees (AddRef y) next is x = absurd (true≢false (sym is))
-    frees (SwapHead i own) next is x = absurd (true≢false (sym is))
-    frees (CreateLife i l) next is x = absurd (true≢false (sym is))
-    frees (StoreOpen o w) next is x = absurd (true≢false (sym is))
+    frees (OnSlot (SetOdd i)) next is x = absurd (true≢false (sym is))
+    frees (OnSlot (StoreCode i v code)) next is x = absurd (true≢false (sym is))
+    frees (OnSlot (AddRef y)) next is x = absurd (true≢false (sym is))
+    frees (OnChain (SwapHead i own)) next is x = absurd (true≢false (sym is))
+    frees (OnSlot (CreateLife i l)) next is x = absurd (true≢false (sym is))
+    frees (OnName (StoreOpen o w)) next is x = absurd (true≢false (sym is))
     frees call next is x = x
 
     asides : (step : Step) (next : Found step → Program) → is_plain_aside step ≡ true → ((found : Found step) → C (next found)) → C (Aside step next)
@@ -239,24 +239,24 @@ module _ (k id : ℕ) (Odd : List Taking → Type 0) (Lasts : Type 0) where
 
   -- the step exchanges no head, and stores in the word of no `open`
   abbrev pub IsCalmCall : TableStep → Type 0
-  IsCalmCall (SwapHead i own) = ⊥
-  IsCalmCall (CreateLife i l) = ⊥
-  IsCalmCall (StoreOpen o w) = ⊥
+  IsCalmCall (OnChain (SwapHead i own)) = ⊥
+  IsCalmCall (OnSlot (CreateLife i l)) = ⊥
+  IsCalmCall (OnName (StoreOpen o w)) = ⊥
   IsCalmCall other = Unit {0}
 
   -- behind it the seat has just got a reference to the life, or not
   pub record Behind (h : List Taking) (call : TableStep) (program : Program) (found : ℕ) : Type 0 where
     pub held : Bool
     pub calm : Calm held h program
-    pub got : held ≡ true → (call ≡ AddRef id) × ((vref_version found == socket_id_version id) ≡ true)
+    pub got : held ≡ true → (call ≡ OnSlot (AddRef id)) × ((vref_version found == socket_id_version id) ≡ true)
 
   pub calm_step : (held : Bool) (h : List Taking) (call : TableStep) (next : ℕ → Program) → Calm held h (Do call next) → IsCalmCall call × ((found : ℕ) → Behind h call (next found) found)
-  calm_step held h (SetOdd i) next x = (tt, λ found. record { held = false; calm = x.3 found; got = λ e. absurd (true≢false (sym e)) })
-  calm_step held h (StoreCode i v code) next x = (tt, λ found. record { held = false; calm = x.3 found; got = λ e. absurd (true≢false (sym e)) })
-  calm_step held h (AddRef y) next x = (tt, λ found. record { held = vref_version found == socket_id_version id; calm = x.1 found; got = λ e. (ap AddRef x.0, e) })
-  calm_step held h (SwapHead i own) next x = absurd x
-  calm_step held h (CreateLife i l) next x = absurd x
-  calm_step held h (StoreOpen o w) next x = absurd x
+  calm_step held h (OnSlot (SetOdd i)) next x = (tt, λ found. record { held = false; calm = x.3 found; got = λ e. absurd (true≢false (sym e)) })
+  calm_step held h (OnSlot (StoreCode i v code)) next x = (tt, λ found. record { held = false; calm = x.3 found; got = λ e. absurd (true≢false (sym e)) })
+  calm_step held h (OnSlot (AddRef y)) next x = (tt, λ found. record { held = vref_version found == socket_id_version id; calm = x.1 found; got = λ e. (ap OnSlot (AddRef x.0), e) })
+  calm_step held h (OnChain (SwapHead i own)) next x = absurd x
+  calm_step held h (OnSlot (CreateLife i l)) next x = absurd x
+  calm_step held h (OnName (StoreOpen o w)) next x = absurd x
   calm_step held h call next x = (tt, λ found. record { held = false; calm = x found; got = λ e. absurd (true≢false (sym e)) })
 
   -- a step aside that takes no bytes
@@ -269,9 +269,9 @@ module _ (k id : ℕ) (Odd : List Taking → Type 0) (Lasts : Type 0) where
   calm_aside held h step next none_ x = x
 
   -- where the program is to set a socket failed, it has just got its reference
-  pub sets_odd : (held : Bool) (h : List Taking) (i : ℕ) (next : ℕ → Program) → Calm held h (Do (SetOdd i) next) → (held ≡ true) × Odd h × (i ≡ socket_id_slot id)
+  pub sets_odd : (held : Bool) (h : List Taking) (i : ℕ) (next : ℕ → Program) → Calm held h (Do (OnSlot (SetOdd i)) next) → (held ≡ true) × Odd h × (i ≡ socket_id_slot id)
   sets_odd held h i next x = (x.0, x.1, x.2)
 
   -- a code that it stores is its own socket's, by how the reading ended
-  pub stores_code : (held : Bool) (h : List Taking) (i v code : ℕ) (next : ℕ → Program) → Calm held h (Do (StoreCode i v code) next) → Codes h code × (i ≡ socket_id_slot id) × (v ≡ socket_id_version id)
+  pub stores_code : (held : Bool) (h : List Taking) (i v code : ℕ) (next : ℕ → Program) → Calm held h (Do (OnSlot (StoreCode i v code)) next) → Codes h code × (i ≡ socket_id_slot id) × (v ≡ socket_id_version id)
   stores_code held h i v code next x = (x.0, x.1, x.2)

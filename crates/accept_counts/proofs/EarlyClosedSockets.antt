@@ -21,7 +21,7 @@ use Rattle.seat_programs.specs.declared.task.Task.{Task}
 use Rattle.seat_programs.specs.declared.task.Sizes.{Sizes}
 use Rattle.seat_programs.specs.Asides.{Taking, AtEnd, Broken}
 use Rattle.seat_programs.specs.FoundAndChangedAside.{at_last}
-use Rattle.seat_programs.specs.TableSteps.{TableStep, SetOdd}
+use Rattle.seat_programs.specs.TableSteps.{TableStep, OnSlot, SetOdd}
 use Rattle.seat_programs.specs.SlotFreedByDrop.{call_in}
 use Rattle.seat_programs.specs.Programs.{Program, Do, Say, Sent, Rest, Write, Retries, open_from, make_socket}
 use Rattle.seat_programs.specs.ReaderProgram.{LIMIT, reader}
@@ -107,7 +107,7 @@ before_readers (y ∷ xs) n rs (suc j) x low e = before_readers xs n rs j x (ome
 -- ## The setup sets no socket failed
 
 abbrev NoOdd : Program → Type 0
-NoOdd (Do (SetOdd i) next) = ⊥
+NoOdd (Do (OnSlot (SetOdd i)) next) = ⊥
 NoOdd (Do call next) = (found : ℕ) → NoOdd (next found)
 NoOdd (Say o outcome next) = NoOdd next
 NoOdd (Sent o next) = NoOdd next
@@ -136,7 +136,7 @@ odd_next (Do call next) x = (x, refl)
 odd_next _ x = absurd x
 
 odd_found : (call : TableStep) (next : ℕ → Program) → NoOdd (Do call next) → (found : ℕ) → NoOdd (next found)
-odd_found (SetOdd i) next x found = absurd x
+odd_found (OnSlot (SetOdd i)) next x found = absurd x
 odd_found call next x found = x found
 
 -- seat 0 sets none failed, and keeps no retry
@@ -170,7 +170,7 @@ none_closed : (c : Core) → Opens c → (x : ℕ) → In x (closed_at c (quiet 
 none_closed c o x there = by_seat (get_elem? c.seats 0) refl there
   where
     none_lost : (program : Program) → NoOdd program → In x (lost_by c.words (call_in program)) → ⊥
-    none_lost (Do (SetOdd i) next) y m = y
+    none_lost (Do (OnSlot (SetOdd i)) next) y m = y
     none_lost (Do call next) y m = m
     none_lost (Write w after) y m = y
     none_lost _ y m = m

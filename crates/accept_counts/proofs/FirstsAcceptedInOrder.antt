@@ -14,7 +14,7 @@ use Rattle.outcome_causes.specs.outcome_ticks.proofs.SeatPartOfStory.{Less}
 use Rattle.seat_programs.specs.declared.task.Op.{Op}
 use Rattle.seat_programs.specs.declared.task.Task.{Task}
 use Rattle.seat_programs.specs.declared.task.Sizes.{Sizes}
-use Rattle.seat_programs.specs.TableSteps.{TableStep, PutMessage}
+use Rattle.seat_programs.specs.TableSteps.{TableStep, OnMessage, PutMessage}
 use Rattle.seat_programs.specs.LoopHeads.{Head, Exit, Retry, Opens}
 use Rattle.seat_programs.specs.Programs.{Program, Do, Say, Sent, Write, Round, Keep, Retries, release}
 use Rattle.seat_programs.specs.PostPrograms.{post}
@@ -39,7 +39,7 @@ behind h low = cond (eqb h.label.attempt 0) (h.label.operation + 1) low
 -- of these operations, from this number on, the program has first messages accepted in their order
 module _ (mine : ℕ → Type 0) where
   abbrev FirstsAt : ℕ → TableStep → (ℕ → Program) → (ℕ → ℕ → Type 0) → Type 0
-  FirstsAt low (PutMessage q heading bytes) next then_ = (heading.label.attempt ≡ 0 → (low ≤ heading.label.operation) × mine heading.label.operation) × ((found : ℕ) → then_ (behind heading low) found)
+  FirstsAt low (OnMessage (PutMessage q heading bytes)) next then_ = (heading.label.attempt ≡ 0 → (low ≤ heading.label.operation) × mine heading.label.operation) × ((found : ℕ) → then_ (behind heading low) found)
   FirstsAt low call next then_ = (found : ℕ) → then_ low found
 
   abbrev asks : Asks ℕ
@@ -55,7 +55,7 @@ module _ (mine : ℕ → Type 0) where
     G = Firsts low
 
     firsts_others : (call : TableStep) (next : ℕ → Program) → is_of_message call ≡ false → ((found : ℕ) → G (next found)) → G (Do call next)
-    firsts_others (PutMessage q heading bytes) next is r = absurd (true≢false is)
+    firsts_others (OnMessage (PutMessage q heading bytes)) next is r = absurd (true≢false is)
     firsts_others call next is r = r
 
     firsts_plain : PassesPlain G

@@ -6,7 +6,7 @@ use Rattle.sock_words.specs.declared.plain.Plan.{Plan}
 use Rattle.sock_model.specs.declared.chain.Right.{Right}
 use Rattle.sock_model.specs.declared.view.View.{View}
 use Rattle.sock_model.specs.SocketTableLayout.{place_index}
-use Rattle.seat_programs.specs.TableSteps.{TableStep, StorePlace, DropPlace}
+use Rattle.seat_programs.specs.TableSteps.{TableStep, OnPlace, StorePlace, DropPlace}
 use Rattle.seat_programs.specs.Cores.{Core, found_at, words_after}
 use Rattle.seat_programs.specs.TableWords.{PlaceOf}
 use Rattle.seat_programs.specs.StepTables.{May, table_word, word_of, word_after}
@@ -22,8 +22,8 @@ no_right rs r a b = let z : [] ≡ r ∷ [] = sym a ∙ b in cc
 -- a step of such a seat
 places_same : (p : Plan) (c : Core) (vs : List View) → Sound p c vs → (i : ℕ) (v : View) → get_elem? vs i ≡ some v → v.rights ≡ [] → (l : ℕ) → l < 8 * p.operations → (call : TableStep) → May p v call
     → get_or (words_after c.words (word_of p call) (word_after call (found_at c.words (word_of p call)))) (place_index p l) 0 ≡ get_or c.words (place_index p l) 0
-places_same p c vs sound i v at none_ l low (StorePlace m k n) may = absurd (no_right v.rights _ none_ may.1)
-places_same p c vs sound i v at none_ l low (DropPlace m k n) may = absurd (no_right v.rights _ none_ may.1)
+places_same p c vs sound i v at none_ l low (OnPlace (StorePlace m k n)) may = absurd (no_right v.rights _ none_ may.1)
+places_same p c vs sound i v at none_ l low (OnPlace (DropPlace m k n)) may = absurd (no_right v.rights _ none_ may.1)
 places_same p c vs sound i v at none_ l low call may =
     word_left p c.words (table_word call) (word_inside p (state c vs) sound.lawful i v at call may) (word_after call (found_at c.words (word_of p call))) (PlaceOf l) low refl
 

@@ -14,7 +14,7 @@ use Rattle.sock_model.specs.MarkWeights.{is_hold}
 use Rattle.run_theorems.specs.Below.chain_steps.proofs.TicketLists.{at_some}
 use Rattle.run_theorems.specs.Below.sock_steps.proofs.LifeLinkSlotPlaces.{own_count}
 use Rattle.seat_programs.specs.Asides.{Taking}
-use Rattle.seat_programs.specs.TableSteps.{SetOdd}
+use Rattle.seat_programs.specs.TableSteps.{OnSlot, SetOdd}
 use Rattle.seat_programs.specs.SlotFreedByDrop.{call_in}
 use Rattle.seat_programs.specs.Programs.{Program, Do, Rest, Write}
 use Rattle.seat_programs.specs.Cores.{Core, SeatState}
@@ -116,8 +116,8 @@ module _ (p : Plan) (calls os : List ℕ) (in_os : (k o : ℕ) → get_elem? os 
   -- ## Sockets that readers set failed
 
   -- the program sets a socket failed next
-  lost_is : (id n : ℕ) (held : Bool) (h : List Taking) (ws : List ℕ) (program : Program) (x : ℕ) → Calm n id Odd Lasts held h program → In x (lost_by ws (call_in program)) → (i : ℕ) × (next : ℕ → Program) × (program ≡ Do (SetOdd i) next) × (x ≡ slice_index ws (link_index i))
-  lost_is id n held h ws (Do (SetOdd i) next) x calm there = (i, next, refl, by (vref_version (slice_index ws (ref_index i)) % 2 == 0) there)
+  lost_is : (id n : ℕ) (held : Bool) (h : List Taking) (ws : List ℕ) (program : Program) (x : ℕ) → Calm n id Odd Lasts held h program → In x (lost_by ws (call_in program)) → (i : ℕ) × (next : ℕ → Program) × (program ≡ Do (OnSlot (SetOdd i)) next) × (x ≡ slice_index ws (link_index i))
+  lost_is id n held h ws (Do (OnSlot (SetOdd i)) next) x calm there = (i, next, refl, by (vref_version (slice_index ws (ref_index i)) % 2 == 0) there)
     where
       by : (b : Bool) → In x (cond b (slice_index ws (link_index i) ∷ []) []) → x ≡ slice_index ws (link_index i)
       by true (inl e) = e

@@ -22,7 +22,7 @@ use Rattle.call_causes.specs.Below.programs_allowed.specs.slot_steps.proofs.Slot
 use Rattle.run_theorems.specs.Below.sock_steps.proofs.SumsAsMarksChange.{either_way}
 use Rattle.seat_programs.specs.Asides.{Step, Found, TakeBytes, Taking, Bytes, Nothing, NoMore, AtEnd, Closed, Broken}
 use Rattle.seat_programs.specs.FoundAndChangedAside.{at_last, found_in, calls_after}
-use Rattle.seat_programs.specs.TableSteps.{TableStep, AddRef, LoadOpen, LookWord, SwapHead, EmptyHead, ReadNext, ReverseNext, FreeRequest, StorePlace, DropPlace}
+use Rattle.seat_programs.specs.TableSteps.{TableStep, OnSlot, OnName, OnChain, OnPlace, AddRef, LoadOpen, LookWord, SwapHead, EmptyHead, ReadNext, ReverseNext, FreeRequest, StorePlace, DropPlace}
 use Rattle.seat_programs.specs.LoopHeads.{Retry, Decides, Locks, Reads, Discards}
 use Rattle.seat_programs.specs.Programs.{Program, Do, Say, Sent, Rest, TakeMessage, TakeHome, PutHome, PutBytes, AskReady, Write, Aside, Round, Keep, Retries}
 use Rattle.seat_programs.specs.ReaderProgram.{room_of, took, discarded, read, reader}
@@ -47,15 +47,15 @@ use Rattle.sock_words.specs.Totals.{total}
 -- ## Rights
 
 -- no step but an exchange gives a seat without a right one
-pub rights_none : (p : Plan) (v : View) (found : ℕ) (hand : Hand) (call : TableStep) → ((i own : ℕ) → call ≡ SwapHead i own → ⊥) → v.rights ≡ [] → (row p call found hand v).rights ≡ []
-rights_none p v found hand (LookWord id) no_ e = subst (λ l. (by_right l (looked_clean (socket_id_slot id) found v) (looked (socket_id_slot id) found v)).rights ≡ []) (sym e) e
-rights_none p v found hand (SwapHead i own) no_ e = absurd (no_ i own refl)
-rights_none p v found hand (EmptyHead i last) no_ e = subst (λ l. (by_right l (Rattle.seat_programs.specs.StepsOfChain.emptied last found v) v).rights ≡ []) (sym e) e
-rights_none p v found hand (ReadNext q) no_ e = subst (λ l. (by_right l (λ r. Rattle.seat_programs.specs.StepsOfChain.read_next found v r r.stage) v).rights ≡ []) (sym e) e
-rights_none p v found hand (ReverseNext q value) no_ e = subst (λ l. (by_right l (λ r. Rattle.seat_programs.specs.StepsOfChain.turned_next v r r.stage) v).rights ≡ []) (sym e) e
-rights_none p v found hand (FreeRequest q g) no_ e = subst (λ l. (by_right l (Rattle.seat_programs.specs.StepsOfChain.freed_next v) v).rights ≡ []) (sym e) e
-rights_none p v found hand (StorePlace l k n) no_ e = subst (λ xs. (by_right xs (λ r. Rattle.seat_programs.specs.StepsOfPlaces.placed_next v r r.stage) v).rights ≡ []) (sym e) e
-rights_none p v found hand (DropPlace l k n) no_ e = subst (λ xs. (by_right xs (λ r. Rattle.seat_programs.specs.StepsOfPlaces.dropped_next v r r.stage) v).rights ≡ []) (sym e) e
+pub rights_none : (p : Plan) (v : View) (found : ℕ) (hand : Hand) (call : TableStep) → ((i own : ℕ) → call ≡ OnChain (SwapHead i own) → ⊥) → v.rights ≡ [] → (row p call found hand v).rights ≡ []
+rights_none p v found hand (OnSlot (LookWord id)) no_ e = subst (λ l. (by_right l (looked_clean (socket_id_slot id) found v) (looked (socket_id_slot id) found v)).rights ≡ []) (sym e) e
+rights_none p v found hand (OnChain (SwapHead i own)) no_ e = absurd (no_ i own refl)
+rights_none p v found hand (OnChain (EmptyHead i last)) no_ e = subst (λ l. (by_right l (Rattle.seat_programs.specs.StepsOfChain.emptied last found v) v).rights ≡ []) (sym e) e
+rights_none p v found hand (OnChain (ReadNext q)) no_ e = subst (λ l. (by_right l (λ r. Rattle.seat_programs.specs.StepsOfChain.read_next found v r r.stage) v).rights ≡ []) (sym e) e
+rights_none p v found hand (OnChain (ReverseNext q value)) no_ e = subst (λ l. (by_right l (λ r. Rattle.seat_programs.specs.StepsOfChain.turned_next v r r.stage) v).rights ≡ []) (sym e) e
+rights_none p v found hand (OnChain (FreeRequest q g)) no_ e = subst (λ l. (by_right l (Rattle.seat_programs.specs.StepsOfChain.freed_next v) v).rights ≡ []) (sym e) e
+rights_none p v found hand (OnPlace (StorePlace l k n)) no_ e = subst (λ xs. (by_right xs (λ r. Rattle.seat_programs.specs.StepsOfPlaces.placed_next v r r.stage) v).rights ≡ []) (sym e) e
+rights_none p v found hand (OnPlace (DropPlace l k n)) no_ e = subst (λ xs. (by_right xs (λ r. Rattle.seat_programs.specs.StepsOfPlaces.dropped_next v r r.stage) v).rights ≡ []) (sym e) e
 rights_none p v found hand call no_ e = rights_stay p v found hand call refl ∙ e
 
 -- who gets a reference to a life holds it
@@ -139,8 +139,8 @@ module _ (p : Plan) (calls : List ℕ) (n o : ℕ) (inside : o < p.operations) (
   abbrev first : ℕ → Program
   first word = cond (word == 0) (reader calls n o) (behind word)
 
-  load_is : (call : TableStep) (next : ℕ → Program) → first_step (reader calls n o) ≡ Do call next → (call ≡ LoadOpen o) × (next ≡ first)
-  load_is call next is = let x : Do (LoadOpen o) first ≡ Do call next = is in (cc, cc)
+  load_is : (call : TableStep) (next : ℕ → Program) → first_step (reader calls n o) ≡ Do call next → (call ≡ OnName (LoadOpen o)) × (next ≡ first)
+  load_is call next is = let x : Do (OnName (LoadOpen o)) first ≡ Do call next = is in (cc, cc)
 
   -- a reader is at no other steps
   abbrev Steady : Program → Type 0
@@ -178,7 +178,7 @@ module _ (p : Plan) (calls : List ℕ) (n o : ℕ) (inside : o < p.operations) (
       (subst (λ f. State (Word c) h (next_step (resolved ws (f (Word c)))) (found_id (Word c) v)) (sym y.1) (by_word (Word c == 0) refl))
     where
       rights : (found_id (Word c) v).rights ≡ []
-      rights = rights_none p v (Word c) hand (LoadOpen o) (λ i own e. cc) r
+      rights = rights_none p v (Word c) hand (OnName (LoadOpen o)) (λ i own e. cc) r
 
       by_socket : Word c ≢ 0 → (b : Bool) → (Word c == NO_SOCKET) ≡ b → State (Word c) h (next_step (resolved ws (cond b Rest (Round (Reads (record { ids = length calls; link = n; id = Word c - 1; rest = []; total = 0; kept = [] })) (read calls))))) (found_id (Word c) v)
       by_socket some_ true e = (rights, inr (inl (refl, eqb-true (Word c) NO_SOCKET e)))
@@ -213,16 +213,16 @@ module _ (p : Plan) (calls : List ℕ) (n o : ℕ) (inside : o < p.operations) (
         }),
       )
     where
-      got : (d : TableStep) → d ≡ AddRef x.id → ((vref_version (found_at c.words (word_of p d)) == socket_id_version x.id) ≡ true) → 0 < marks_of (is_hold (socket_id_version x.id)) (socket_id_slot x.id) (row p d (found_at c.words (word_of p d)) hand v)
+      got : (d : TableStep) → d ≡ OnSlot (AddRef x.id) → ((vref_version (found_at c.words (word_of p d)) == socket_id_version x.id) ≡ true) → 0 < marks_of (is_hold (socket_id_version x.id)) (socket_id_slot x.id) (row p d (found_at c.words (word_of p d)) hand v)
       got d e z = subst (λ d. 0 < marks_of (is_hold (socket_id_version x.id)) (socket_id_slot x.id) (row p d (found_at c.words (word_of p d)) hand v)) (sym e)
           (let z' = subst (λ d. (vref_version (found_at c.words (word_of p d)) == socket_id_version x.id) ≡ true) e z in
-          holds_added (socket_id_slot x.id) (socket_id_version x.id) (found_at c.words (word_of p (AddRef x.id))) v (eqb-true (vref_version (found_at c.words (word_of p (AddRef x.id)))) (socket_id_version x.id) z')
-          (vref_version (found_at c.words (word_of p (AddRef x.id))) == socket_id_version x.id) z')
+          holds_added (socket_id_slot x.id) (socket_id_version x.id) (found_at c.words (word_of p (OnSlot (AddRef x.id)))) v (eqb-true (vref_version (found_at c.words (word_of p (OnSlot (AddRef x.id))))) (socket_id_version x.id) z')
+          (vref_version (found_at c.words (word_of p (OnSlot (AddRef x.id)))) == socket_id_version x.id) z')
 
   -- aside, where it takes no bytes
   own_aside : (w : ℕ) (h : List Taking) (program : Program) (v : View) (ws : List Retry) → State w h program v → taken_link program ≡ [] → (s : Step) (next : Found s → Program) (found : Found s) → first_step program ≡ Aside s next
       → State w h (next_step (resolved ws (next found))) v
-  own_aside w h program v ws (r, inl x) none_ s next found is = absurd (let y : Do (LoadOpen o) first ≡ Aside s next = sym (ap first_step x.0) ∙ is in cc)
+  own_aside w h program v ws (r, inl x) none_ s next found is = absurd (let y : Do (OnName (LoadOpen o)) first ≡ Aside s next = sym (ap first_step x.0) ∙ is in cc)
   own_aside w h program v ws (r, inr (inl x)) none_ s next found is = absurd (let y : Rest ≡ Aside s next = sym (ap first_step x.0) ∙ is in cc)
   own_aside w h program v ws (r, inr (inr x)) none_ s next found is = (
     r,
@@ -240,7 +240,7 @@ module _ (p : Plan) (calls : List ℕ) (n o : ℕ) (inside : o < p.operations) (
   -- and where it takes some
   own_take : (w : ℕ) (h : List Taking) (program : Program) (v : View) (ws : List Retry) → State w h program v → (l room : ℕ) (next : Taking → Program) → first_step program ≡ Aside (TakeBytes l room) next → (t : Taking) → (t ≡ NoMore → Lasts)
       → (l ≡ n) × State w (h ++ t ∷ []) (next_step (resolved ws (next t))) v
-  own_take w h program v ws (r, inl x) l room next is t some_ = absurd (let y : Do (LoadOpen o) first ≡ Aside (TakeBytes l room) next = sym (ap first_step x.0) ∙ is in cc)
+  own_take w h program v ws (r, inl x) l room next is t some_ = absurd (let y : Do (OnName (LoadOpen o)) first ≡ Aside (TakeBytes l room) next = sym (ap first_step x.0) ∙ is in cc)
   own_take w h program v ws (r, inr (inl x)) l room next is t some_ = absurd (let y : Rest ≡ Aside (TakeBytes l room) next = sym (ap first_step x.0) ∙ is in cc)
   own_take w h program v ws (r, inr (inr x)) l room next is t some_ = let y : Calm n x.id Odd Lasts x.held h (Aside (TakeBytes l room) next) = subst (Calm n x.id Odd Lasts x.held h) is (calm_first n x.id Odd Lasts (ends x.id) x.held h program x.calm) in (
     y.0,

@@ -22,7 +22,7 @@ use Rattle.call_causes.specs.Below.id_runs.proofs.AsideStepsKeepRule.{finds_ids}
 use Rattle.seat_programs.specs.Asides.{Step, Found, PutCall, MakeId, StoreAt, UnlockId, TakeCall, Taking}
 use Rattle.sock_message.specs.Asked.{Asked, frame_of}
 use Rattle.seat_programs.specs.FoundAndChangedAside.{found_in, calls_after}
-use Rattle.seat_programs.specs.TableSteps.{TableStep, PutMessage}
+use Rattle.seat_programs.specs.TableSteps.{TableStep, OnMessage, PutMessage}
 use Rattle.seat_programs.specs.LoopHeads.{Retry}
 use Rattle.seat_programs.specs.Programs.{Program, Do, Say, Sent, Rest, TakeMessage, TakeHome, PutHome, PutBytes, AskReady, Write, Aside, Round, Keep, Retries}
 use Rattle.seat_programs.specs.Cores.{Calls, Core, SeatState, found_at, words_after, homes_after, hand_after, resolved, still_waiting, waiting_at, next_step, with_seat, stepped}
@@ -173,7 +173,7 @@ kept_fits ids t u (inr e) f = subst (TrialFits ids) (sym e) tt
 
 -- a message of a call takes the attempt with it
 pub put_count : (is_call : Asked → Type 0) (v : View) (id n : ℕ) (t : Trial) (call : TableStep) → MayPut is_call t call → of_trial id n (put_behind t call) + put_of v id n call ≤ of_trial id n t
-put_count is_call v id n t (PutMessage r heading bytes) may = ⊎_elim
+put_count is_call v id n t (OnMessage (PutMessage r heading bytes)) may = ⊎_elim
     (λ none_. (let z : cond (eqb heading.owner 0) 0 (pair_of id n heading.owner heading.label.attempt) ≡ 0 = ap (λ b. cond b 0 (pair_of id n heading.owner heading.label.attempt)) (eq-eqb heading.owner 0 none_.0) in omega (arith, z)))
     (λ h. by (eqb heading.owner 0) (as_trial t h)) may
   where
@@ -257,7 +257,7 @@ module _ (p : Plan) (q : IdPlan) (narrow : q.slots ≤ 65536) (is_call : Asked �
     }
 
     put_fits : (call : TableStep) → MayPut is_call t call → PutsFit v is_call ids p fits_view call
-    put_fits (PutMessage r heading bytes) may = ⊎_elim (λ none_. inl none_) (λ h. inr (of_t t h fits_trial)) may
+    put_fits (OnMessage (PutMessage r heading bytes)) may = ⊎_elim (λ none_. inl none_) (λ h. inr (of_t t h fits_trial)) may
       where
         of_t : (t : Trial) → IsOfTrial is_call t heading bytes → TrialFits ids t → IsOfCall is_call ids heading bytes
         of_t (Sends o j m) h f = let owner : heading.owner ≡ j = ap (λ (x : Heading). x.owner) h.3 in let attempt : heading.label.attempt ≡ m = ap (λ (x : Heading). x.label.attempt) h.3 in
@@ -276,7 +276,7 @@ module _ (p : Plan) (q : IdPlan) (narrow : q.slots ≤ 65536) (is_call : Asked �
     put_fits _ may = tt
 
     behind_fits : (call : TableStep) → TrialFits ids (put_behind t call)
-    behind_fits (PutMessage r heading bytes) = tt
+    behind_fits (OnMessage (PutMessage r heading bytes)) = tt
     behind_fits _ = fits_trial
 
     -- a step on the sockets

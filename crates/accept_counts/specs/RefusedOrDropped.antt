@@ -12,7 +12,7 @@ use Rattle.seat_programs.specs.brpc_model.specs.Operations.{Turn}
 use Rattle.corr_core.specs.IdSlotWord.{parts, error_of}
 use Rattle.sock_message.specs.Asked.{Asked, name_of}
 use Rattle.seat_programs.specs.Asides.{Step, Found, PutCall, StoreAt, PostId}
-use Rattle.seat_programs.specs.TableSteps.{TableStep, AddRef, LoadName, LookWord, LoadCode, ClaimRequest, DropPlace}
+use Rattle.seat_programs.specs.TableSteps.{TableStep, OnSlot, OnName, OnChain, OnPlace, AddRef, LoadName, LookWord, LoadCode, ClaimRequest, DropPlace}
 use Rattle.seat_programs.specs.LoopHeads.{Head, Exit, Retry, Posts, Unlocks, Locks, Reads}
 use Rattle.seat_programs.specs.Writings.{Holder, Writing, Puts}
 use Rattle.seat_programs.specs.Programs.{Program, Do, Write, Aside}
@@ -65,12 +65,12 @@ begins w = record { trial = Idle; charge = NoCharge; deeds = DidRound w ∷ [] }
 
 -- each of so many requests was found taken
 abbrev pub FoundTaken : ℕ → List Deed → Type 0
-FoundTaken requests deeds = (q : ℕ) → q < requests → (id found : ℕ) × In (DidStep (ClaimRequest id q) found) deeds × (found % 2 ≡ 1)
+FoundTaken requests deeds = (q : ℕ) → q < requests → (id found : ℕ) × In (DidStep (OnChain (ClaimRequest id q)) found) deeds × (found % 2 ≡ 1)
 
 -- the life that the name had was found to be of another version, or failed; or, of a retry of operation o, the name had none
 pub data FoundLost (o name n : ℕ) (deeds : List Deed) : Type 0 where
-  WasOther : (id found : ℕ) → In (DidStep (LoadName name) (id + 1)) deeds → In (DidStep (AddRef id) found) deeds → vref_version found ≢ socket_id_version id → FoundLost o name n deeds
-  WasOdd : (id found : ℕ) → In (DidStep (LoadName name) (id + 1)) deeds → In (DidStep (LookWord id) found) deeds → vref_version found % 2 ≡ 1 → FoundLost o name n deeds
+  WasOther : (id found : ℕ) → In (DidStep (OnName (LoadName name)) (id + 1)) deeds → In (DidStep (OnSlot (AddRef id)) found) deeds → vref_version found ≢ socket_id_version id → FoundLost o name n deeds
+  WasOdd : (id found : ℕ) → In (DidStep (OnName (LoadName name)) (id + 1)) deeds → In (DidStep (OnSlot (LookWord id)) found) deeds → vref_version found % 2 ≡ 1 → FoundLost o name n deeds
   WasNone : (id : ℕ) → 0 < n → In (DidMiss name o id n) deeds → FoundLost o name n deeds
 
 -- attempt n of the call was refused with the code, over a table of so many requests
@@ -89,7 +89,7 @@ IsTrying t o id n program = (t ≡ Sends o id n) ⊎ ((t ≡ Tries id n) × Woul
 
 -- what the seat did with the last step of attempt n of the call with this id, which is operation o
 abbrev pub IsLast : TableStep → (ℕ → Program) → ℕ → ℕ → ℕ → ℕ → Deed → Type 0
-IsLast call next found o id n deed = (deed ≡ DidStep call found) ⊎ ((name : ℕ) × (call ≡ LoadName name) × (found ≡ 0) × (deed ≡ DidMiss name o id n) × WouldStore o id n (Do call next))
+IsLast call next found o id n deed = (deed ≡ DidStep call found) ⊎ ((name : ℕ) × (call ≡ OnName (LoadName name)) × (found ≡ 0) × (deed ≡ DidMiss name o id n) × WouldStore o id n (Do call next))
 
 -- of so many requests; these are the calls; and a seat reads a link, or is a client's
 module _ (requests : ℕ) (is_call : Asked → Type 0) (reads : Bool) where
@@ -120,9 +120,9 @@ module _ (requests : ℕ) (is_call : Asked → Type 0) (reads : Bool) where
     pub taken : ℕ
     pub asked : Bool
     pub code : ℕ
-    pub is : call ≡ DropPlace heading.label.place holder.link holder.places
+    pub is : call ≡ OnPlace (DropPlace heading.label.place holder.link holder.places)
     pub round : In (DidRound (Puts holder now heading left taken asked)) s.deeds
-    pub load : In (DidStep (LoadCode (socket_id_slot holder.id) (socket_id_version holder.id)) code) s.deeds
+    pub load : In (DidStep (OnSlot (LoadCode (socket_id_slot holder.id) (socket_id_version holder.id))) code) s.deeds
     pub gives_up : u.trial ≡ Idle
     pub charge : u.charge ≡ HasDropped heading code
     pub deeds : u.deeds ≡ DidStep call found ∷ s.deeds
@@ -200,7 +200,7 @@ module _ (p : Plan) where
   abbrev pub DidAt : Core → Moment → ℕ → Deed → Type 0
   DidAt c m seat (DidStep call found) = (m.seat ≡ seat) × (s : SeatState) × (next : ℕ → Program) × (get_elem? c.seats seat ≡ some s) × (first_step s.program ≡ Do call next) × (found ≡ found_at c.words (word_of p call))
   DidAt c m seat (DidPut asked) = (m.seat ≡ seat) × (s : SeatState) × (i : ℕ) × (next : ℕ → Program) × (get_elem? c.seats seat ≡ some s) × (first_step s.program ≡ Aside (PutCall i asked) next)
-  DidAt c m seat (DidMiss name o id n) = (m.seat ≡ seat) × (s : SeatState) × (next : ℕ → Program) × (get_elem? c.seats seat ≡ some s) × (first_step s.program ≡ Do (LoadName name) next) × (found_at c.words (word_of p (LoadName name)) ≡ 0) × WouldStore o id n (first_step s.program)
+  DidAt c m seat (DidMiss name o id n) = (m.seat ≡ seat) × (s : SeatState) × (next : ℕ → Program) × (get_elem? c.seats seat ≡ some s) × (first_step s.program ≡ Do (OnName (LoadName name)) next) × (found_at c.words (word_of p (OnName (LoadName name))) ≡ 0) × WouldStore o id n (first_step s.program)
   DidAt c m seat (DidRound w) = (m.seat ≡ seat) × (s : SeatState) × (after : Program) × (get_elem? c.seats seat ≡ some s) × (s.program ≡ Write w after)
 
   -- in one of these ticks
@@ -264,8 +264,8 @@ pub record IsDrop (heading : Heading) (code : ℕ) (deeds : List Deed) : Type 0 
   pub asked : Bool
   pub found : ℕ
   pub round : In (DidRound (Puts holder now heading left taken asked)) deeds
-  pub load : In (DidStep (LoadCode (socket_id_slot holder.id) (socket_id_version holder.id)) code) deeds
-  pub drop : In (DidStep (DropPlace heading.label.place holder.link holder.places) found) deeds
+  pub load : In (DidStep (OnSlot (LoadCode (socket_id_slot holder.id) (socket_id_version holder.id))) code) deeds
+  pub drop : In (DidStep (OnPlace (DropPlace heading.label.place holder.link holder.places)) found) deeds
 
 -- why seat j posted the error: Did tells what each seat did, and Gone of which attempts nothing is left
 pub data PostKind (requests : ℕ) (is_call : Asked → Type 0) (ids : ℕ → ℕ) (Did : ℕ → Deed → Type 0) (Gone : ℕ → ℕ → Type 0) (j : ℕ) (x : Post) : Type 0 where

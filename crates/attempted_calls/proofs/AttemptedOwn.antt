@@ -29,7 +29,7 @@ use Rattle.seat_programs.specs.Asides.{Step, Found, ClaimId, PutCall, MakeId, St
 use Rattle.seat_programs.specs.LoopHeads.{Exit, Unlocks}
 use Rattle.sock_message.specs.Asked.{Asked}
 use Rattle.seat_programs.specs.FoundAndChangedAside.{found_in, calls_after}
-use Rattle.seat_programs.specs.TableSteps.{TableStep, LoadName, FindLink, ClaimRequest}
+use Rattle.seat_programs.specs.TableSteps.{TableStep, OnSlot, OnName, OnChain, LoadName, FindLink, ClaimRequest}
 use Rattle.seat_programs.specs.LoopHeads.{Retry}
 use Rattle.seat_programs.specs.Programs.{Program, Do, TakeMessage, TakeHome, PutHome, PutBytes, AskReady, Aside, Round}
 use Rattle.seat_programs.specs.Cores.{Calls, Core, SeatState, found_at, words_after, homes_after, hand_after, lies_at, first_of, others_of, link_place, resolved, waiting_at, next_step, with_seat}
@@ -126,9 +126,9 @@ module _ (p : Plan) (q : IdPlan) (narrow : q.slots ≤ 65536) (is_call : Asked �
         of_on (Knows o id) h = own_on c.calls x hand ws hs refl (λ o id low some_ s. s) (λ o id next low e. absurd (none_ o id next e)) o id h
 
     of_do : (call : TableStep) (found : ℕ) (u : Trail) → GoesDo t call found u → IsTrueOf q c t.of → IsTrueOf q c u.of
-    of_do (LoadName m) found u g h = ⊎_elim (λ e. subst (λ (z : Trail). IsTrueOf q c z.of) (sym e) h) (λ x. ⊎_elim (λ e. subst (λ (z : Trail). IsTrueOf q c z.of) (sym e) tt) (λ y. subst (λ (z : Trail). IsTrueOf q c z.of) (sym y.1) h) x) g
-    of_do (ClaimRequest s r) found u g h = ⊎_elim (λ e. subst (λ (z : Trail). IsTrueOf q c z.of) (sym e) h) (λ x. ⊎_elim (λ e. subst (λ (z : Trail). IsTrueOf q c z.of) (sym e) tt) (λ y. subst (λ (z : Trail). IsTrueOf q c z.of) (sym y.3) h) x) g
-    of_do (FindLink slot version) found u g h = ⊎_elim (λ e. subst (λ (z : Trail). IsTrueOf q c z.of) (sym e) h) (λ x. ⊎_elim (λ e. subst (λ (z : Trail). IsTrueOf q c z.of) (sym e) tt) (λ y. subst (λ (z : Trail). IsTrueOf q c z.of) (sym y.5) h) x) g
+    of_do (OnName (LoadName m)) found u g h = ⊎_elim (λ e. subst (λ (z : Trail). IsTrueOf q c z.of) (sym e) h) (λ x. ⊎_elim (λ e. subst (λ (z : Trail). IsTrueOf q c z.of) (sym e) tt) (λ y. subst (λ (z : Trail). IsTrueOf q c z.of) (sym y.1) h) x) g
+    of_do (OnChain (ClaimRequest s r)) found u g h = ⊎_elim (λ e. subst (λ (z : Trail). IsTrueOf q c z.of) (sym e) h) (λ x. ⊎_elim (λ e. subst (λ (z : Trail). IsTrueOf q c z.of) (sym e) tt) (λ y. subst (λ (z : Trail). IsTrueOf q c z.of) (sym y.3) h) x) g
+    of_do (OnSlot (FindLink slot version)) found u g h = ⊎_elim (λ e. subst (λ (z : Trail). IsTrueOf q c z.of) (sym e) h) (λ x. ⊎_elim (λ e. subst (λ (z : Trail). IsTrueOf q c z.of) (sym e) tt) (λ y. subst (λ (z : Trail). IsTrueOf q c z.of) (sym y.5) h) x) g
     of_do call found u g h = of_stays u g h
       where
         of_stays : (u : Trail) → Stays t u → IsTrueOf q c t.of → IsTrueOf q c u.of

@@ -15,7 +15,7 @@ use Rattle.seat_programs.specs.id_rule.specs.LawfulIdTable.{call_index}
 use Rattle.own_decisions.specs.Below.id_runs.proofs.IdRuleOpening.{unused}
 use Rattle.sock_message.specs.Asked.{Asked}
 use Rattle.seat_programs.specs.Asides.{StoreCall, StoreAt}
-use Rattle.seat_programs.specs.TableSteps.{TableStep, LoadName, FindLink, ClaimRequest}
+use Rattle.seat_programs.specs.TableSteps.{TableStep, OnSlot, OnName, OnChain, LoadName, FindLink, ClaimRequest}
 use Rattle.seat_programs.specs.ClientProgram.{ending_of}
 use Rattle.seat_programs.specs.Cores.{Core, with_seat}
 use Rattle.seat_programs.specs.declared.task.Task.{Task}
@@ -72,9 +72,9 @@ stays_of t u (inl same) = inl (ap (λ (x : Trail). x.of) same)
 stays_of t u (inr none_) = inr (ap (λ (x : Trail). x.of) none_)
 
 goes_of : (t u : Trail) (call : TableStep) (found : ℕ) → GoesDo t call found u → (u.of ≡ t.of) ⊎ (u.of ≡ NoCall)
-goes_of t u (LoadName m) found g = ⊎_elim (λ same. inl (ap (λ (x : Trail). x.of) same)) (λ rest. ⊎_elim (λ none_. inr (ap (λ (x : Trail). x.of) none_)) (λ a. inl (ap (λ (x : Trail). x.of) a.1)) rest) g
-goes_of t u (ClaimRequest s q) found g = ⊎_elim (λ same. inl (ap (λ (x : Trail). x.of) same)) (λ rest. ⊎_elim (λ none_. inr (ap (λ (x : Trail). x.of) none_)) (λ a. inl (ap (λ (x : Trail). x.of) a.3)) rest) g
-goes_of t u (FindLink i h) found g = ⊎_elim (λ same. inl (ap (λ (x : Trail). x.of) same)) (λ rest. ⊎_elim (λ none_. inr (ap (λ (x : Trail). x.of) none_)) (λ a. inl (ap (λ (x : Trail). x.of) a.5)) rest) g
+goes_of t u (OnName (LoadName m)) found g = ⊎_elim (λ same. inl (ap (λ (x : Trail). x.of) same)) (λ rest. ⊎_elim (λ none_. inr (ap (λ (x : Trail). x.of) none_)) (λ a. inl (ap (λ (x : Trail). x.of) a.1)) rest) g
+goes_of t u (OnChain (ClaimRequest s q)) found g = ⊎_elim (λ same. inl (ap (λ (x : Trail). x.of) same)) (λ rest. ⊎_elim (λ none_. inr (ap (λ (x : Trail). x.of) none_)) (λ a. inl (ap (λ (x : Trail). x.of) a.3)) rest) g
+goes_of t u (OnSlot (FindLink i h)) found g = ⊎_elim (λ same. inl (ap (λ (x : Trail). x.of) same)) (λ rest. ⊎_elim (λ none_. inr (ap (λ (x : Trail). x.of) none_)) (λ a. inl (ap (λ (x : Trail). x.of) a.5)) rest) g
 goes_of t u other found g = stays_of t u g
 
 -- whoever would store an at word knows its call

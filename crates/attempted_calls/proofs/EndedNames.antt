@@ -27,7 +27,7 @@ use Rattle.own_decisions.specs.Below.id_runs.proofs.AsideStepsKeepRule.{finds_id
 use Rattle.seat_programs.specs.Asides.{Step, Found, ClaimId, PutCall, MakeId, StoreCall, StoreAt, LoadAt, LockId, PostId, UnlockId, EndId, FreeId, TakeCall, TakeBytes, Taking, Bytes}
 use Rattle.sock_message.specs.Asked.{Asked, name_of}
 use Rattle.seat_programs.specs.FoundAndChangedAside.{found_in, calls_after, more_given}
-use Rattle.seat_programs.specs.TableSteps.{TableStep, StoreName, LoadName, FindLink, ClaimRequest, PutMessage, Unconnect, SwapHead}
+use Rattle.seat_programs.specs.TableSteps.{TableStep, OnSlot, OnName, OnChain, OnMessage, StoreName, LoadName, FindLink, ClaimRequest, PutMessage, Unconnect, SwapHead}
 use Rattle.seat_programs.specs.LoopHeads.{Retry}
 use Rattle.seat_programs.specs.Programs.{Program, Do, Say, Sent, Write, Aside, Round, Keep, Retries}
 use Rattle.seat_programs.specs.Cores.{Calls, Core, SeatState, found_at, words_after, homes_after, hand_after, resolved, waiting_at, next_step, with_seat, stepped}
@@ -88,7 +88,7 @@ first_socket (x ∷ xs) = x.1
 module _ (is_call : Asked → Type 0) (seen : List Store) (es : List Event) where
   -- the socket was stored under the name
   abbrev pub IsNamed : ℕ × ℕ → Type 0
-  IsNamed x = (client o found : ℕ) × In (event client o (StoreName x.0 (x.1 + 1)) found) es
+  IsNamed x = (client o found : ℕ) × In (event client o (OnName (StoreName x.0 (x.1 + 1))) found) es
 
   abbrev pub IsFor : ℕ → Claim → Type 0
   IsFor s x = WasGiven es (socket_id_slot s) (socket_id_version s) x.link
@@ -172,7 +172,7 @@ module _ (is_call : Asked → Type 0) (seen : List Store) (es : List Event) wher
     swap_over found hand (x ∷ cs) e = let all : AllByRecursion ClaimOver (x ∷ cs) = subst (AllByRecursion ClaimOver) e over.0 in let one = all.0 in
         split (nat_lt found IDLE) (queued v x found) (righted v x found hand.took hand.next) ViewOver (tt, more_over v.lists (entry_of x found) over.1 one) (tt, more_over v.lists (entry_of x (found - IDLE)) over.1 one)
 
-    put_over : (q : ℕ) (heading : Heading) (bytes : List ℕ) → MayAttempt is_call t (PutMessage q heading bytes) → (cs : List Claim) → v.claims ≡ cs → ViewOver (by_claim cs (λ c. with_claim v (filled_claim c heading bytes)) v)
+    put_over : (q : ℕ) (heading : Heading) (bytes : List ℕ) → MayAttempt is_call t (OnMessage (PutMessage q heading bytes)) → (cs : List Claim) → v.claims ≡ cs → ViewOver (by_claim cs (λ c. with_claim v (filled_claim c heading bytes)) v)
     put_over q heading bytes may [] e = over
     put_over q heading bytes may (x ∷ cs) e = (
       (
@@ -186,10 +186,10 @@ module _ (is_call : Asked → Type 0) (seen : List Store) (es : List Event) wher
     )
 
     pub row_over : (p : Plan) (found : ℕ) (hand : Hand) (call : TableStep) → MayAttempt is_call t call → ViewOver (row p call found hand v)
-    row_over p found hand (ClaimRequest i q) may = split (found % 2 == 0) _ v ViewOver (((λ some_. absurd (some_ refl)), tt), over.1) over
-    row_over p found hand (PutMessage q heading bytes) may = put_over q heading bytes may v.claims refl
-    row_over p found hand (Unconnect q) may = ready_over v.claims refl
-    row_over p found hand (SwapHead i own) may = swap_over found hand v.claims refl
+    row_over p found hand (OnChain (ClaimRequest i q)) may = split (found % 2 == 0) _ v ViewOver (((λ some_. absurd (some_ refl)), tt), over.1) over
+    row_over p found hand (OnMessage (PutMessage q heading bytes)) may = put_over q heading bytes may v.claims refl
+    row_over p found hand (OnChain (Unconnect q)) may = ready_over v.claims refl
+    row_over p found hand (OnChain (SwapHead i own)) may = swap_over found hand v.claims refl
     row_over p found hand call may = let s = row_same v p found hand call refl in (subst (AllByRecursion ClaimOver) (sym s.0) over.0, subst (AllByRecursion (AllByRecursion EntryOver)) (sym s.1) over.1)
 
     ready_true : (cs : List Claim) → v.claims ≡ cs → IsTrue (by_claim cs (λ c. with_claim v (ready_claim c)) v) t
@@ -205,17 +205,17 @@ module _ (is_call : Asked → Type 0) (seen : List Store) (es : List Event) wher
     swap_true found hand (x ∷ cs) e = split (nat_lt found IDLE) (queued v x found) (righted v x found hand.took hand.next) (λ w. IsTrue w t) (true_.0, λ b m s is. tt, true_.2, true_.3, true_.4) (true_.0, λ b m s is. tt, true_.2, true_.3, true_.4)
 
     -- what is known stays so, where the step claims no request
-    row_true : (p : Plan) (found : ℕ) (hand : Hand) (call : TableStep) → ((i q : ℕ) → call ≡ ClaimRequest i q → ⊥) → IsTrue (row p call found hand v) t
-    row_true p found hand (ClaimRequest i q) others = absurd (others i q refl)
-    row_true p found hand (PutMessage q heading bytes) others = put_true heading bytes v.claims refl
-    row_true p found hand (Unconnect q) others = ready_true v.claims refl
-    row_true p found hand (SwapHead i own) others = swap_true found hand v.claims refl
+    row_true : (p : Plan) (found : ℕ) (hand : Hand) (call : TableStep) → ((i q : ℕ) → call ≡ OnChain (ClaimRequest i q) → ⊥) → IsTrue (row p call found hand v) t
+    row_true p found hand (OnChain (ClaimRequest i q)) others = absurd (others i q refl)
+    row_true p found hand (OnMessage (PutMessage q heading bytes)) others = put_true heading bytes v.claims refl
+    row_true p found hand (OnChain (Unconnect q)) others = ready_true v.claims refl
+    row_true p found hand (OnChain (SwapHead i own)) others = swap_true found hand v.claims refl
     row_true p found hand call others = trail_on v (row p call found hand v) t (row_same v p found hand call refl).0 true_
 
-    claim_true : (p : Plan) (found : ℕ) (hand : Hand) (i q m : ℕ) → found % 2 ≡ 0 → t.name ≡ (m, i) ∷ [] → WasGiven es (socket_id_slot i) (socket_id_version i) hand.link → IsTrue (row p (ClaimRequest i q) found hand v) (record { name = (m, i) ∷ []; claimed = true; of = t.of; linked = t.linked; stored = t.stored })
+    claim_true : (p : Plan) (found : ℕ) (hand : Hand) (i q m : ℕ) → found % 2 ≡ 0 → t.name ≡ (m, i) ∷ [] → WasGiven es (socket_id_slot i) (socket_id_version i) hand.link → IsTrue (row p (OnChain (ClaimRequest i q)) found hand v) (record { name = (m, i) ∷ []; claimed = true; of = t.of; linked = t.linked; stored = t.stored })
     claim_true p found hand i q m free name given = (subst (AllByRecursion IsNamed) name true_.0, λ b x s is. split_claim x s is, λ x s k is l. true_.2 x s k (name ∙ is) l, true_.3, true_.4)
       where
-        split_claim : (x s : ℕ) → one_name m i ≡ one_name x s → AllByRecursion (IsFor s) (row p (ClaimRequest i q) found hand v).claims
+        split_claim : (x s : ℕ) → one_name m i ≡ one_name x s → AllByRecursion (IsFor s) (row p (OnChain (ClaimRequest i q)) found hand v).claims
         split_claim x s is = let same : i ≡ s = ap first_socket is in subst (λ b. AllByRecursion (IsFor s) (cond b (with_claim (met_link (socket_id_slot i) (socket_id_version i) hand.link v) (new_claim hand.link q found)) v).claims) (sym (Rattle.std.proofs.Common.eq-eqb (found % 2) 0 free))
             ((subst (λ y. WasGiven es (socket_id_slot y) (socket_id_version y) hand.link) same given, tt))
 
@@ -292,28 +292,28 @@ module _ (p : Plan) (q : IdPlan) (narrow : q.slots ≤ 65536) (is_call : Asked �
 
     -- what is known behind a step on the sockets
     true_behind : (call : TableStep) → May p v call → (u : Trail) → GoesDo t call (found_at c.words (word_of p call)) u → IsTrue is_call seen es (Row call) u
-    true_behind (LoadName m) may u g = ⊎_elim
-        (λ e. subst (IsTrue is_call seen es (Row (LoadName m))) (sym e) kept)
-        (λ x. ⊎_elim (λ e. subst (IsTrue is_call seen es (Row (LoadName m))) (sym e) (lost_true is_call seen es (Row (LoadName m))))
-        (λ y. subst (IsTrue is_call seen es (Row (LoadName m))) (sym y.1) ((named y.0, tt), λ e. absurd (true≢false (sym e)), λ m s k n l. absurd (no_link k l), tt, true_here.4)) x) g
+    true_behind (OnName (LoadName m)) may u g = ⊎_elim
+        (λ e. subst (IsTrue is_call seen es (Row (OnName (LoadName m)))) (sym e) kept)
+        (λ x. ⊎_elim (λ e. subst (IsTrue is_call seen es (Row (OnName (LoadName m)))) (sym e) (lost_true is_call seen es (Row (OnName (LoadName m)))))
+        (λ y. subst (IsTrue is_call seen es (Row (OnName (LoadName m)))) (sym y.1) ((named y.0, tt), λ e. absurd (true≢false (sym e)), λ m s k n l. absurd (no_link k l), tt, true_here.4)) x) g
       where
-        kept : IsTrue is_call seen es (Row (LoadName m)) t
-        kept = row_true is_call seen es v t true_here (law.views i v at_view) p (found_at c.words (word_of p (LoadName m))) (hand_at p c.words c.homes (LoadName m)) (LoadName m) (λ a b e. absurd cc)
+        kept : IsTrue is_call seen es (Row (OnName (LoadName m))) t
+        kept = row_true is_call seen es v t true_here (law.views i v at_view) p (found_at c.words (word_of p (OnName (LoadName m)))) (hand_at p c.words c.homes (OnName (LoadName m))) (OnName (LoadName m)) (λ a b e. absurd cc)
 
-        named : found_at c.words (word_of p (LoadName m)) ≢ 0 → IsNamed is_call seen es (m, found_at c.words (word_of p (LoadName m)) - 1)
-        named some_ = let word : found_at c.words (word_of p (LoadName m)) ≡ last_name m es = story.named m may in let s = last_some es m (λ z. some_ (word ∙ z)) in
-            (s.0, s.1, s.2, subst (λ w. In (event s.0 s.1 (StoreName m w) s.2) es) (sym word ∙ (let z : found_at c.words (word_of p (LoadName m)) ≡ found_at c.words (word_of p (LoadName m)) - 1 + 1 = omega (arith, some_) in z)) s.3)
-    true_behind (ClaimRequest s r) may u g = ⊎_elim
-        (λ e. subst (IsTrue is_call seen es (Row (ClaimRequest s r))) (sym e) (true_here.0, λ b. absurd (true≢false (sym b)), true_here.2, true_here.3, true_here.4))
-        (λ x. ⊎_elim (λ e. subst (IsTrue is_call seen es (Row (ClaimRequest s r))) (sym e) (lost_true is_call seen es (Row (ClaimRequest s r))))
-        (λ y. subst (IsTrue is_call seen es (Row (ClaimRequest s r))) (sym y.3) (claim_true is_call seen es v t true_here (law.views i v at_view) p (found_at c.words (word_of p (ClaimRequest s r))) (hand_at p c.words c.homes (ClaimRequest s r)) s r y.1 y.0 y.2
+        named : found_at c.words (word_of p (OnName (LoadName m))) ≢ 0 → IsNamed is_call seen es (m, found_at c.words (word_of p (OnName (LoadName m))) - 1)
+        named some_ = let word : found_at c.words (word_of p (OnName (LoadName m))) ≡ last_name m es = story.named m may in let s = last_some es m (λ z. some_ (word ∙ z)) in
+            (s.0, s.1, s.2, subst (λ w. In (event s.0 s.1 (OnName (StoreName m w)) s.2) es) (sym word ∙ (let z : found_at c.words (word_of p (OnName (LoadName m))) ≡ found_at c.words (word_of p (OnName (LoadName m))) - 1 + 1 = omega (arith, some_) in z)) s.3)
+    true_behind (OnChain (ClaimRequest s r)) may u g = ⊎_elim
+        (λ e. subst (IsTrue is_call seen es (Row (OnChain (ClaimRequest s r)))) (sym e) (true_here.0, λ b. absurd (true≢false (sym b)), true_here.2, true_here.3, true_here.4))
+        (λ x. ⊎_elim (λ e. subst (IsTrue is_call seen es (Row (OnChain (ClaimRequest s r)))) (sym e) (lost_true is_call seen es (Row (OnChain (ClaimRequest s r)))))
+        (λ y. subst (IsTrue is_call seen es (Row (OnChain (ClaimRequest s r)))) (sym y.3) (claim_true is_call seen es v t true_here (law.views i v at_view) p (found_at c.words (word_of p (OnChain (ClaimRequest s r)))) (hand_at p c.words c.homes (OnChain (ClaimRequest s r))) s r y.1 y.0 y.2
         (held_given p clients c vs sound.lawful es broken over story i v at_view (socket_id_slot s) (socket_id_version s) may.1.0 may.1.1))) x) g
-    true_behind (FindLink j h) may u g = ⊎_elim
-        (λ e. subst (IsTrue is_call seen es (Row (FindLink j h))) (sym e) true_here)
-        (λ x. ⊎_elim (λ e. subst (IsTrue is_call seen es (Row (FindLink j h))) (sym e) (lost_true is_call seen es (Row (FindLink j h))))
-        (λ y. subst (IsTrue is_call seen es (Row (FindLink j h))) (sym y.5) (true_here.0, λ e. absurd (true≢false (sym e)), λ m s k n l. given_link y.0 y.1 y.2 y.3 y.4 m s k n l, tt, true_here.4)) x) g
+    true_behind (OnSlot (FindLink j h)) may u g = ⊎_elim
+        (λ e. subst (IsTrue is_call seen es (Row (OnSlot (FindLink j h)))) (sym e) true_here)
+        (λ x. ⊎_elim (λ e. subst (IsTrue is_call seen es (Row (OnSlot (FindLink j h)))) (sym e) (lost_true is_call seen es (Row (OnSlot (FindLink j h)))))
+        (λ y. subst (IsTrue is_call seen es (Row (OnSlot (FindLink j h)))) (sym y.5) (true_here.0, λ e. absurd (true≢false (sym e)), λ m s k n l. given_link y.0 y.1 y.2 y.3 y.4 m s k n l, tt, true_here.4)) x) g
       where
-        given_link : (m s : ℕ) → t.name ≡ one_name m s → j ≡ socket_id_slot s → h ≡ socket_id_version s → (m' s' k : ℕ) → t.name ≡ one_name m' s' → found_at c.words (word_of p (FindLink j h)) ∷ [] ≡ k ∷ [] → WasGiven es (socket_id_slot s') (socket_id_version s') k
+        given_link : (m s : ℕ) → t.name ≡ one_name m s → j ≡ socket_id_slot s → h ≡ socket_id_version s → (m' s' k : ℕ) → t.name ≡ one_name m' s' → found_at c.words (word_of p (OnSlot (FindLink j h))) ∷ [] ≡ k ∷ [] → WasGiven es (socket_id_slot s') (socket_id_version s') k
         given_link m s name slot version m' s' k n l = let same : s ≡ s' = ap first_socket (sym name ∙ n) in
             subst (λ z. WasGiven es (socket_id_slot z) (socket_id_version z) k) same (subst (λ z. WasGiven es z (socket_id_version s) k) slot (subst (λ z. WasGiven es j z k) version
             (subst (WasGiven es j h) (ap first_number l) (held_given p clients c vs sound.lawful es broken over story i v at_view j h may.0 may.1))))

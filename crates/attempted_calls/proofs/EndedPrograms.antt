@@ -10,7 +10,7 @@ use Rattle.seat_programs.specs.declared.task.Sizes.{Sizes}
 use Rattle.seat_programs.specs.declared.task.Task.{Task}
 use Rattle.seat_programs.specs.Asides.{Step, Found, PutCall, MakeId, StoreCall, StoreAt}
 use Rattle.seat_programs.specs.CallAndRetryPrograms.{claims_from, heading_for, attempt, begin_call, claim_id, call, tried_again, retry_locked, retry}
-use Rattle.seat_programs.specs.TableSteps.{TableStep, PutMessage, ClaimRequest, LoadName, FindLink, LookWord}
+use Rattle.seat_programs.specs.TableSteps.{TableStep, OnSlot, OnName, OnChain, OnMessage, PutMessage, ClaimRequest, LoadName, FindLink, LookWord}
 use Rattle.seat_programs.specs.ClientProgram.{HeldLife, client_from, ending_of}
 use Rattle.seat_programs.specs.LoopHeads.{Head, Exit, Posts, First, Unlocking, IsOpen, HasNext, Locking, NotThere, Has}
 use Rattle.seat_programs.specs.PostPrograms.{post, decided}
@@ -27,17 +27,17 @@ use Rattle.attempted_calls.proofs.EndedTrails.{Trail, lost, Stays, NoCall, Makes
 
 module _ (is_call : Asked → Type 0) where
   may_plain : (t : Trail) (call : TableStep) → is_plain call ≡ true → MayAttempt is_call t call
-  may_plain t (PutMessage q heading bytes) plain = absurd (let e = plain in cc)
+  may_plain t (OnMessage (PutMessage q heading bytes)) plain = absurd (let e = plain in cc)
   may_plain t call plain = tt
 
   stays_plain : (t : Trail) (call : TableStep) (found : ℕ) → is_plain call ≡ true → GoesDo t call found t
-  stays_plain t (ClaimRequest s q) found plain = absurd (let e = plain in cc)
+  stays_plain t (OnChain (ClaimRequest s q)) found plain = absurd (let e = plain in cc)
   stays_plain t call found plain = inl refl
 
   lost_by : (t : Trail) (call : TableStep) (found : ℕ) → GoesDo t call found lost
-  lost_by t (LoadName m) found = inr (inl refl)
-  lost_by t (ClaimRequest s q) found = inr (inl refl)
-  lost_by t (FindLink i h) found = inr (inl refl)
+  lost_by t (OnName (LoadName m)) found = inr (inl refl)
+  lost_by t (OnChain (ClaimRequest s q)) found = inr (inl refl)
+  lost_by t (OnSlot (FindLink i h)) found = inr (inl refl)
   lost_by t call found = inr refl
 
   aside_goes : (step : Step) → is_plain_aside step ≡ true → (after : Program) (found : Found step) (t u : Trail) → Stays t u → GoesAside is_call t step after found u
@@ -100,18 +100,18 @@ module _ (is_call : Asked → Type 0) where
     full_goes : (t : Trail) → Follows is_call t (post id 3001 n (release (socket_id_slot socket) (λ _. next)))
     full_goes t = post_goes tracks t id 3001 n (release (socket_id_slot socket) (λ _. next)) (release_goes tracks lost (socket_id_slot socket) (λ _. next) (λ _. goes))
 
-    claims_goes : (k more q : ℕ) (heading : Heading) (bytes : List ℕ) → MayAttempt is_call (has_claim k) (PutMessage q heading bytes)
+    claims_goes : (k more q : ℕ) (heading : Heading) (bytes : List ℕ) → MayAttempt is_call (has_claim k) (OnMessage (PutMessage q heading bytes))
         → Follows is_call (sending asked id n socket k) (claims_from more q socket heading bytes (post id 3001 n (release (socket_id_slot socket) (λ _. next))) (release (socket_id_slot socket) (λ _. next)))
     claims_goes k zero q heading bytes may = full_goes (sending asked id n socket k)
     claims_goes k (suc more) q heading bytes may = (tt, λ found _. by (claims_goes k more (q + 1) heading bytes may) found (found % 2 == 0) refl)
       where
         by : Follows is_call (sending asked id n socket k) (claims_from more (q + 1) socket heading bytes (post id 3001 n (release (socket_id_slot socket) (λ _. next))) (release (socket_id_slot socket) (λ _. next)))
-            → (found : ℕ) (b : Bool) → (found % 2 == 0) ≡ b → (u : Trail) × GoesDo (sending asked id n socket k) (ClaimRequest socket q) found u
+            → (found : ℕ) (b : Bool) → (found % 2 == 0) ≡ b → (u : Trail) × GoesDo (sending asked id n socket k) (OnChain (ClaimRequest socket q)) found u
             × Follows is_call u (cond b (accept socket q (found / 2) heading bytes (release (socket_id_slot socket) (λ _. next))) (claims_from more (q + 1) socket heading bytes (post id 3001 n (release (socket_id_slot socket) (λ _. next))) (release (socket_id_slot socket) (λ _. next))))
         by later found true free = (has_claim k, inr (inr (eqb-true (found % 2) 0 free, name_of asked n, refl, refl)), accept_goes tracks (has_claim k) socket q (found / 2) heading bytes (release (socket_id_slot socket) (λ _. next)) (λ next later. (may, λ found _. (lost, inr refl, later found))) (release_goes tracks lost (socket_id_slot socket) (λ _. next) (λ _. goes)))
         by later found false used = (sending asked id n socket k, inl refl, later)
 
-    looks_goes : (k : ℕ) (heading : Heading) (bytes : List ℕ) → MayAttempt is_call (has_claim k) (PutMessage 0 heading bytes) → Follows is_call (sending asked id n socket k) (Do (LookWord socket) (λ found. cond (eqb (vref_version found % 2) 0)
+    looks_goes : (k : ℕ) (heading : Heading) (bytes : List ℕ) → MayAttempt is_call (has_claim k) (OnMessage (PutMessage 0 heading bytes)) → Follows is_call (sending asked id n socket k) (Do (OnSlot (LookWord socket)) (λ found. cond (eqb (vref_version found % 2) 0)
         (claims_from requests 0 socket heading bytes (post id 3001 n (release (socket_id_slot socket) (λ _. next))) (release (socket_id_slot socket) (λ _. next))) (post id 1009 n (release (socket_id_slot socket) (λ _. next)))))
     looks_goes k heading bytes may = (
       tt,
@@ -126,7 +126,7 @@ module _ (is_call : Asked → Type 0) where
     )
 
     pub attempt_goes : Follows is_call (trying asked id n socket) (attempt requests asked id n socket next)
-    attempt_goes = address_goes tracks (trying asked id n socket) socket (Do (FindLink (socket_id_slot socket) (socket_id_version socket)) (λ k. Aside (StoreAt asked.operation (at_word (id_first id) (id_slot id) k n)) (λ _. Do (LookWord socket) (λ found. cond (eqb (vref_version found % 2) 0)
+    attempt_goes = address_goes tracks (trying asked id n socket) socket (Do (OnSlot (FindLink (socket_id_slot socket) (socket_id_version socket))) (λ k. Aside (StoreAt asked.operation (at_word (id_first id) (id_slot id) k n)) (λ _. Do (OnSlot (LookWord socket)) (λ found. cond (eqb (vref_version found % 2) 0)
         (claims_from requests 0 socket (heading_for asked id n) (frame_of asked id n) (post id 3001 n (release (socket_id_slot socket) (λ _. next))) (release (socket_id_slot socket) (λ _. next))) (post id 1009 n (release (socket_id_slot socket) (λ _. next)))))))
         (λ _. post id 1009 n next) (
           tt,
@@ -171,7 +171,7 @@ module _ (is_call : Asked → Type 0) where
   call_goes : (requests ids : ℕ) (asked : Asked) → is_call asked → (next : Program) → Follows is_call lost next → Follows is_call lost (call requests ids asked next)
   call_goes requests ids asked called next goes = (tt, λ word _. by word (eqb word 0) refl)
     where
-      by : (word : ℕ) (b : Bool) → eqb word 0 ≡ b → (u : Trail) × GoesDo lost (LoadName (name_of asked 0)) word u × Follows is_call u (cond b (Say asked.operation outcomes.Unopened next) (claim_id ids 0 requests (word - 1) asked next))
+      by : (word : ℕ) (b : Bool) → eqb word 0 ≡ b → (u : Trail) × GoesDo lost (OnName (LoadName (name_of asked 0))) word u × Follows is_call u (cond b (Say asked.operation outcomes.Unopened next) (claim_id ids 0 requests (word - 1) asked next))
       by word true none_ = (lost, inl refl, goes)
       by word false some_ = let r = claim_goes ids 0 requests (word - 1) asked called next goes in
           (r.0, ⊎_elim (λ e. inr (inr (not_equal word 0 some_, e))) (λ e. inr (inl e)) r.1, r.2)
@@ -185,7 +185,7 @@ module _ (is_call : Asked → Type 0) where
     tried_goes : (asked : Asked) → is_call asked → (exit : Unlocking) → ((w e : ℕ) → exit ≡ HasNext w e → (parts w).first ≡ id_first id) → Follows is_call (known asked) (tried_again requests id n asked next exit)
     tried_goes asked called (IsOpen w) first = (tt, λ word _. by word (eqb word 0) refl)
       where
-        by : (word : ℕ) (b : Bool) → eqb word 0 ≡ b → (u : Trail) × GoesDo (known asked) (LoadName (name_of asked n)) word u × Follows is_call u (cond b (post id 1009 n next) (attempt requests asked id n (word - 1) next))
+        by : (word : ℕ) (b : Bool) → eqb word 0 ≡ b → (u : Trail) × GoesDo (known asked) (OnName (LoadName (name_of asked n))) word u × Follows is_call u (cond b (post id 1009 n next) (attempt requests asked id n (word - 1) next))
         by word true none_ = (known asked, inl refl, post_goes tracks (known asked) id 1009 n next goes)
         by word false some_ = (trying asked id n (word - 1), inr (inr (not_equal word 0 some_, refl)), attempt_goes requests asked called id n (word - 1) next few goes)
     tried_goes asked called (HasNext w e) first = decide_goes tracks (known asked) id w e (decided id next) (first w e refl) (decided_goes tracks id next goes)

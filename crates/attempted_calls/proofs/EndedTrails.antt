@@ -5,7 +5,7 @@ use Rattle.corr_core.specs.IdSlotWord.{parts}
 use Rattle.own_decisions.specs.Below.id_runs.specs.Goes.{FitsSock}
 use Rattle.sock_message.specs.Asked.{Asked, name_of}
 use Rattle.seat_programs.specs.Asides.{Step, Found, PutCall, MakeId, StoreCall, StoreAt}
-use Rattle.seat_programs.specs.TableSteps.{TableStep, LoadName, FindLink, ClaimRequest, PutMessage}
+use Rattle.seat_programs.specs.TableSteps.{TableStep, OnSlot, OnName, OnChain, OnMessage, LoadName, FindLink, ClaimRequest, PutMessage}
 use Rattle.seat_programs.specs.LoopHeads.{Head, Exit, Unlocks}
 use Rattle.seat_programs.specs.Programs.{Program, Aside, Round}
 use Rattle.own_decisions.specs.Below.programs_allowed.specs.program_steps.specs.AtSteps.{Asks, AtSteps}
@@ -45,9 +45,9 @@ with_stored o w t = record { name = t.name; claimed = false; of = t.of; linked =
 -- ## Steps on the sockets
 
 abbrev pub GoesDo : Trail → TableStep → ℕ → Trail → Type 0
-GoesDo t (LoadName m) found u = (u ≡ t) ⊎ ((u ≡ lost) ⊎ ((found ≢ 0) × (u ≡ record { name = (m, found - 1) ∷ []; claimed = false; of = t.of; linked = []; stored = [] })))
-GoesDo t (ClaimRequest s q) found u = (u ≡ unclaimed t) ⊎ ((u ≡ lost) ⊎ ((found % 2 ≡ 0) × (m : ℕ) × (t.name ≡ (m, s) ∷ []) × (u ≡ record { name = (m, s) ∷ []; claimed = true; of = t.of; linked = t.linked; stored = t.stored })))
-GoesDo t (FindLink i h) found u = (u ≡ t) ⊎ ((u ≡ lost) ⊎ ((m s : ℕ) × (t.name ≡ (m, s) ∷ []) × (i ≡ socket_id_slot s) × (h ≡ socket_id_version s) × (u ≡ with_link found t)))
+GoesDo t (OnName (LoadName m)) found u = (u ≡ t) ⊎ ((u ≡ lost) ⊎ ((found ≢ 0) × (u ≡ record { name = (m, found - 1) ∷ []; claimed = false; of = t.of; linked = []; stored = [] })))
+GoesDo t (OnChain (ClaimRequest s q)) found u = (u ≡ unclaimed t) ⊎ ((u ≡ lost) ⊎ ((found % 2 ≡ 0) × (m : ℕ) × (t.name ≡ (m, s) ∷ []) × (u ≡ record { name = (m, s) ∷ []; claimed = true; of = t.of; linked = t.linked; stored = t.stored })))
+GoesDo t (OnSlot (FindLink i h)) found u = (u ≡ t) ⊎ ((u ≡ lost) ⊎ ((m s : ℕ) × (t.name ≡ (m, s) ∷ []) × (i ≡ socket_id_slot s) × (h ≡ socket_id_version s) × (u ≡ with_link found t)))
 GoesDo t call found u = Stays t u
 
 -- ## Steps aside
@@ -92,7 +92,7 @@ module _ (is_call : Asked → Type 0) where
 
   -- the message of a call is that of an attempt over the socket that was found under its name
   abbrev pub MayAttempt : Trail → TableStep → Type 0
-  MayAttempt t (PutMessage q heading bytes) = (heading.owner ≡ 0) ⊎ ((asked : Asked) × (s : ℕ) × is_call asked × (asked.operation ≡ heading.label.operation) × (t.name ≡ (name_of asked heading.label.attempt, s) ∷ []) × (t.claimed ≡ true)
+  MayAttempt t (OnMessage (PutMessage q heading bytes)) = (heading.owner ≡ 0) ⊎ ((asked : Asked) × (s : ℕ) × is_call asked × (asked.operation ≡ heading.label.operation) × (t.name ≡ (name_of asked heading.label.attempt, s) ∷ []) × (t.claimed ≡ true)
       × ((k : ℕ) × (t.linked ≡ k ∷ []) × (t.stored ≡ (heading.label.operation, at_word (id_first heading.owner) (id_slot heading.owner) k heading.label.attempt) ∷ [])))
   MayAttempt t call = Unit {0}
 

@@ -6,7 +6,7 @@ use Rattle.sock_words.specs.declared.outcome.Outcome.{Outcome}
 use Rattle.sock_words.specs.PackedWords.{socket_id, socket_id_slot, socket_id_version, vref_version}
 use Rattle.sock_model.specs.declared.view.View.{View}
 use Rattle.sock_model.specs.References.{slot_facts}
-use Rattle.seat_programs.specs.TableSteps.{CreateLife, StoreName, LoadName}
+use Rattle.seat_programs.specs.TableSteps.{OnSlot, OnName, CreateLife, StoreName, LoadName}
 use Rattle.seat_programs.specs.Cores.{Core}
 use Rattle.seat_programs.specs.declared.task.Task.{Task}
 use Rattle.seat_programs.specs.Programs.{Do}
@@ -34,19 +34,19 @@ use Rattle.own_decisions.specs.accept_counts.specs.RefusedOrDropped.{Deed, DidSt
 
 -- the story has the step that stored what was found under a name
 abbrev pub IsNamed : List Event → Deed → Type 0
-IsNamed es (DidStep (LoadName n) found) = found ≢ 0 → (client o before : ℕ) × In (event client o (StoreName n found) before) es
+IsNamed es (DidStep (OnName (LoadName n)) found) = found ≢ 0 → (client o before : ℕ) × In (event client o (OnName (StoreName n found)) before) es
 IsNamed es other = Unit {0}
 
 pub named_more : (es fs : List Event) → ((e : Event) → In e es → In e fs) → (d : Deed) → IsNamed es d → IsNamed fs d
-named_more es fs part (DidStep (LoadName n) found) x = λ some_. let y = x some_ in (y.0, y.1, y.2, part _ y.3)
+named_more es fs part (DidStep (OnName (LoadName n)) found) x = λ some_. let y = x some_ in (y.0, y.1, y.2, part _ y.3)
 named_more es fs part _ x = tt
 
 module _ (p : Plan) (cs : List (List Task)) (are : AreTasks p cs) where
   -- what is found in a tick was stored before it
   named_now : (over : Bool) (c : Core) (vs : List View) (es : List Event) (lost : List ℕ) → Sound p c vs → Story p cs over c vs es lost → (m : Moment) (j : ℕ) (d : Deed) → DidAt p c m j d → IsNamed es d
-  named_now over c vs es lost sound story m j (DidStep (LoadName n) found) x = λ some_. let v = elem_there c.seats vs j x.1 sound.each x.3 in
-      let g : GoesOn p v.0 (Do (LoadName n) x.2) = subst (GoesOn p v.0) x.4 (goes_first p v.0 x.1.program (sound.seats j x.1 v.0 x.3 v.1).goes_on) in
-      let same = x.5 ∙ story.named n g.0 in let s = last_some es n (λ z. some_ (same ∙ z)) in (s.0, s.1, s.2, subst (λ w. In (event s.0 s.1 (StoreName n w) s.2) es) (sym same) s.3)
+  named_now over c vs es lost sound story m j (DidStep (OnName (LoadName n)) found) x = λ some_. let v = elem_there c.seats vs j x.1 sound.each x.3 in
+      let g : GoesOn p v.0 (Do (OnName (LoadName n)) x.2) = subst (GoesOn p v.0) x.4 (goes_first p v.0 x.1.program (sound.seats j x.1 v.0 x.3 v.1).goes_on) in
+      let same = x.5 ∙ story.named n g.0 in let s = last_some es n (λ z. some_ (same ∙ z)) in (s.0, s.1, s.2, subst (λ w. In (event s.0 s.1 (OnName (StoreName n w)) s.2) es) (sym same) s.3)
   named_now over c vs es lost sound story m j _ x = tt
 
   -- a story of a core, which has what was found under names so far
@@ -92,12 +92,12 @@ module _ (p : Plan) (clients : List (List Task)) (are : AreTasks p clients) (c :
   -- of an earlier core of the run, and its story
   module _ (before : Core) (views : List View) (fs : List Event) (losses : List ℕ) (told : Story p clients true before views fs losses) (part : (e : Event) → In e fs → In e es) where
     -- a socket that was stored under a name by then is that of a life that was made under it, and had its link by then
-    pub named_life : (n s : ℕ) → (client o found : ℕ) × In (event client o (StoreName n (s + 1)) found) fs → (k : ℕ) × Made clients c.outcomes n k (socket_id_slot s) (socket_id_version s) × (socket_id_slot s < p.slots) × (0 < Rattle.sock_model.specs.SocketSlotLaw.count (Rattle.sock_model.specs.MarkWeights.is_linked (socket_id_version s) k) (slot_facts (state before views) (socket_id_slot s)))
-    named_life n s (client, o, found, m) = let b = cause_of p clients losses fs told.good (event client o (StoreName n (s + 1)) found) m in let f = b.cause.fits in let k : ℕ = f.0 in let i : ℕ = f.1 in let word : ℕ = f.2 in
-        let birth : In (event client o (CreateLife i k) word) fs = b.part (event client o (CreateLife i k) word) (from_trace client o b.story (step (CreateLife i k) word) f.4) in
-        let means = (cause_of p clients losses fs told.good (event client o (CreateLife i k) word) birth).cause.means in
+    pub named_life : (n s : ℕ) → (client o found : ℕ) × In (event client o (OnName (StoreName n (s + 1))) found) fs → (k : ℕ) × Made clients c.outcomes n k (socket_id_slot s) (socket_id_version s) × (socket_id_slot s < p.slots) × (0 < Rattle.sock_model.specs.SocketSlotLaw.count (Rattle.sock_model.specs.MarkWeights.is_linked (socket_id_version s) k) (slot_facts (state before views) (socket_id_slot s)))
+    named_life n s (client, o, found, m) = let b = cause_of p clients losses fs told.good (event client o (OnName (StoreName n (s + 1))) found) m in let f = b.cause.fits in let k : ℕ = f.0 in let i : ℕ = f.1 in let word : ℕ = f.2 in
+        let birth : In (event client o (OnSlot (CreateLife i k)) word) fs = b.part (event client o (OnSlot (CreateLife i k)) word) (from_trace client o b.story (step (OnSlot (CreateLife i k)) word) f.4) in
+        let means = (cause_of p clients losses fs told.good (event client o (OnSlot (CreateLife i k)) word) birth).cause.means in
         let t : Task = b.cause.task in let asks : Asks clients client t = b.cause.is in
-        let tells = tells_of p clients c.outcomes lost (orders_of p c vs sound.lawful) es world client t asks (step (CreateLife i k) word) (subst (λ z. In (step (CreateLife i k) word) (trace_of client z es)) (sym b.cause.numbered) (to_trace es (event client o (CreateLife i k) word) (part (event client o (CreateLife i k) word) birth))) in
+        let tells = tells_of p clients c.outcomes lost (orders_of p c vs sound.lawful) es world client t asks (step (OnSlot (CreateLife i k)) word) (subst (λ z. In (step (OnSlot (CreateLife i k)) word) (trace_of client z es)) (sym b.cause.numbered) (to_trace es (event client o (OnSlot (CreateLife i k)) word) (part (event client o (OnSlot (CreateLife i k)) word) birth))) in
         let made : Made clients c.outcomes n k i (vref_version word) = record { client = client; task = t; is = task_of p clients c.outcomes lost (orders_of p c vs sound.lawful) es world client t asks; op = f.3; became = (world.final client t asks).became ∙ ap (λ (x : Option Outcome). Some x) tells } in
         let parts = parts_of s (vref_version word) i means.0 f.5 in let given = given_by fs client o word i (socket_id_version s) k birth parts.1 in let tie = told.links i means.0 (socket_id_version s) k in (
           k,

@@ -30,12 +30,12 @@ use Rattle.calls_over.specs.Below.run_theorems.proofs.HeardRuns.{one_text_told}
 use Rattle.calls_over.specs.Below.run_theorems.proofs.GaveTakeByTake.{same_takes}
 use Rattle.calls_over.specs.Below.run_theorems.proofs.RunLengths.{ended_length}
 use Rattle.calls_over.specs.Below.run_theorems.proofs.ScriptStartsSoundly.{made}
-use Rattle.offered_runs.specs.served_runs.specs.OfferedReplies.{OffersInRun}
+use Rattle.calls_over.specs.served_fits.specs.offered_runs.specs.served_runs.specs.OfferedReplies.{OffersInRun}
 use Rattle.calls_over.specs.served_calls.specs.QuietRuns.{AreShown}
 use Rattle.calls_over.specs.served_fits.specs.LatenessKnownOfRun.{AreSo, TellTook}
 use Rattle.calls_over.proofs.CallsOver.{calls_over}
 use Rattle.calls_over.specs.served_fits.proofs.ServedReportFits.{serves_fits}
-use Rattle.offered_runs.proofs.OffersAlongRun.{offers_in_run}
+use Rattle.calls_over.specs.served_fits.specs.offered_runs.proofs.OffersAlongRun.{offers_in_run}
 use Rattle.script_run.specs.RunOutcomeCauses.{HasCauses}
 use Rattle.sock_io.specs.declared.link.Mode.{Mode}
 use Rattle.script_links.specs.LinksGivenBack.{AreNumbered, IsBeginning, specs_of}

@@ -6,7 +6,7 @@ use lib.ListN.{get_elem?}
 use Rattle.sock_words.specs.declared.plain.Plan.{Plan}
 use Rattle.corr_core.specs.declared.marks.Plan.{Plan as IdPlan}
 use Rattle.seat_programs.specs.Asides.{PostId}
-use Rattle.seat_programs.specs.TableSteps.{LoadOpen}
+use Rattle.seat_programs.specs.TableSteps.{OnName, LoadOpen}
 use Rattle.seat_programs.specs.Programs.{Program, Do, Aside}
 use Rattle.seat_programs.specs.Cores.{Core, SeatState}
 use Rattle.seat_programs.specs.Ticks.{Moment, ticked, run}
@@ -24,7 +24,7 @@ use Rattle.story_ticks.specs.Below.outcome_stories.specs.Facts.{shown_in}
 
 -- a step that is late
 late_step : (k ids : ℕ) (calls : List ℕ) (o : ℕ) (many : length calls ≡ ids) (x : Program) → is_late_step x ≡ true → IsLate k ids calls o many x
-late_step k ids calls o many (Do (LoadOpen n) next) e = absurd (true≢false (sym e))
+late_step k ids calls o many (Do (OnName (LoadOpen n)) next) e = absurd (true≢false (sym e))
 late_step k ids calls o many (Do call next) e = tt
 late_step k ids calls o many (Aside (PostId i from x) next) e = tt
 late_step k ids calls o many other e = absurd (true≢false (sym e))

@@ -9,7 +9,7 @@ use Rattle.seat_programs.specs.brpc_model.specs.Frame.{Frame}
 use Rattle.corr_core.specs.IdSlotWord.{Parts, parts}
 use Rattle.seat_programs.specs.id_rule.specs.LawfulIdTable.{id_index}
 use Rattle.corr_core.specs.declared.marks.Plan.{Plan as IdPlan}
-use Rattle.seat_programs.specs.TableSteps.{LoadOpen}
+use Rattle.seat_programs.specs.TableSteps.{OnName, LoadOpen}
 use Rattle.seat_programs.specs.Asides.{Step, Found, PostId, Taking}
 use Rattle.seat_programs.specs.LoopHeads.{Retry, Decides, Locks}
 use Rattle.seat_programs.specs.Programs.{Program, Do, Aside, Round}
@@ -116,7 +116,7 @@ module _ (k ids : ℕ) where
   module _ (calls : List ℕ) (o : ℕ) (many : length calls ≡ ids) where
     -- a step that only a reader behind the end of its reading makes
     abbrev pub IsLate : Program → Type 0
-    IsLate (Do (LoadOpen n) next) = ⊥
+    IsLate (Do (OnName (LoadOpen n)) next) = ⊥
     IsLate (Do call next) = Unit {0}
     IsLate (Aside (PostId i from e) next) = Unit {0}
     IsLate other = ⊥

@@ -12,7 +12,7 @@ use Rattle.sock_model.specs.UnplacedMessages.{HeadedBytes}
 use Rattle.sock_model.specs.ChainLawReads.{message, link_home}
 use Rattle.seat_programs.specs.Asides.{Step, Found, TakeBytes, Bytes}
 use Rattle.seat_programs.specs.FoundAndChangedAside.{found_in, calls_after}
-use Rattle.seat_programs.specs.TableSteps.{kind_of}
+use Rattle.seat_programs.specs.StepTables.{kind_of}
 use Rattle.seat_programs.specs.Asides.{kind_aside}
 use Rattle.seat_programs.specs.Programs.{Program, Do, Say, Sent, Rest, TakeMessage, TakeHome, PutBytes, AskReady, Aside, Round, Keep, Retries}
 use Rattle.seat_programs.specs.LoopRounds.{kind_of_round, first_step}

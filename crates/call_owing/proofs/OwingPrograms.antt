@@ -11,7 +11,7 @@ use Rattle.sock_model.specs.Entries.{ticket_of}
 use Rattle.corr_core.specs.IdSlotWord.{parts, attempt_of, error_of}
 use Rattle.seat_programs.specs.BufferParts.{part}
 use Rattle.seat_programs.specs.sock_message.specs.Asked.{Asked, name_of, frame_of}
-use Rattle.seat_programs.specs.TableSteps.{SubRef, AddRef, StoreCode, LoadLink, TakeLink, FinishLink, PutLink, FreeSlot, LoadName, FreeRequest, ReadNext, FindLink, LookWord, ReverseNext, Connect}
+use Rattle.seat_programs.specs.TableSteps.{OnSlot, OnName, OnChain, OnLink, SubRef, AddRef, StoreCode, LoadLink, TakeLink, FinishLink, PutLink, FreeSlot, LoadName, FreeRequest, ReadNext, FindLink, LookWord, ReverseNext, Connect}
 use Rattle.seat_programs.specs.Asides.{PutCall, StoreAt, TakeCall}
 use Rattle.seat_programs.specs.LoopHeads.{First, Unlocks, Joins, Unlocking, IsOpen, HasNext, Locking, NotThere, Has}
 use Rattle.seat_programs.specs.Programs.{Program, Do, Say, TakeMessage, TakeHome, PutBytes, Write, Aside, Round, LAST_VERSION, LAST_GENERATION, recycle, release, add_reference, set_failed}
@@ -55,9 +55,9 @@ module _ (life : ℕ → Option ℕ) where
       u,
       stays refl,
       way life u (eqb found from)
-          (Do (LoadLink i (vref_version from + 1)) (λ k. Do (TakeLink k) (λ _. Do (FinishLink k) (λ _. Do (PutLink k) (λ _. cond (leb (vref_version from + 1) LAST_VERSION) (Do (FreeSlot i) (λ _. next true)) (next true))))))
+          (Do (OnSlot (LoadLink i (vref_version from + 1))) (λ k. Do (OnLink (TakeLink k)) (λ _. Do (OnLink (FinishLink k)) (λ _. Do (OnLink (PutLink k)) (λ _. cond (leb (vref_version from + 1) LAST_VERSION) (Do (OnSlot (FreeSlot i)) (λ _. next true)) (next true))))))
           (next false)
-          (λ _. (tt, λ k _. (u, stays refl, (tt, λ _ _. (u, stays refl, (tt, λ _ _. (u, stays refl, (tt, λ _ _. (u, stays refl, way life u (leb (vref_version from + 1) LAST_VERSION) (Do (FreeSlot i) (λ _. next true)) (next true) (λ _. (tt, λ _ _. (u, stays refl, goes true))) (λ _. goes true))))))))))
+          (λ _. (tt, λ k _. (u, stays refl, (tt, λ _ _. (u, stays refl, (tt, λ _ _. (u, stays refl, (tt, λ _ _. (u, stays refl, way life u (leb (vref_version from + 1) LAST_VERSION) (Do (OnSlot (FreeSlot i)) (λ _. next true)) (next true) (λ _. (tt, λ _ _. (u, stays refl, goes true))) (λ _. goes true))))))))))
           (λ _. goes false),
     ),
   )
@@ -75,18 +75,18 @@ module _ (life : ℕ → Option ℕ) where
       u,
       stays refl,
       way life u (vref_version found % 2 == 0)
-          (Do (StoreCode (socket_id_slot id) (socket_id_version id) code) (λ _. Do (SubRef (socket_id_slot id)) (λ _. next found))) (next found) (λ _. (tt, λ _ _. (u, stays refl, (tt, λ _ _. (u, stays refl, goes found))))) (λ _. goes found),
+          (Do (OnSlot (StoreCode (socket_id_slot id) (socket_id_version id) code)) (λ _. Do (OnSlot (SubRef (socket_id_slot id))) (λ _. next found))) (next found) (λ _. (tt, λ _ _. (u, stays refl, (tt, λ _ _. (u, stays refl, goes found))))) (λ _. goes found),
     ),
   )
 
   -- ## Writing
 
   freed_goes : (u : Owing) (now : ℕ) (next : Program) → Goes u next → Goes u (given_back now next)
-  freed_goes u now next goes = way life u (ticket_generation now == LAST_GENERATION) next (Do (FreeRequest (ticket_request now) (ticket_generation now)) (λ _. next)) (λ _. goes) (λ _. (tt, λ _ _. (u, stays refl, goes)))
+  freed_goes u now next goes = way life u (ticket_generation now == LAST_GENERATION) next (Do (OnChain (FreeRequest (ticket_request now) (ticket_generation now))) (λ _. next)) (λ _. goes) (λ _. (tt, λ _ _. (u, stays refl, goes)))
 
   passed_goes : (u : Owing) (h : Holder) (now : ℕ) (told_ : Program → Program) (after : Program) → IsClear u → ((x : Program) → Follows u x → Goes u (told_ x)) → Follows u after → Goes u (passed_telling h now told_ after)
   passed_goes u h now told_ after c told goes = way life u (now == h.last) (given_back now (told_ (Write (Empties h) after)))
-      (Do (ReadNext (ticket_request now)) (λ next. given_back now (told_ (TakeMessage (ticket_request next) (λ heading bytes. Write (Puts h next heading bytes 0 false) after)))))
+      (Do (OnChain (ReadNext (ticket_request now))) (λ next. given_back now (told_ (TakeMessage (ticket_request next) (λ heading bytes. Write (Puts h next heading bytes 0 false) after)))))
       (λ _. freed_goes u now (told_ (Write (Empties h) after)) (told (Write (Empties h) after) (λ v f. let d = clear_on u v c f in (d.0, d.1, tt, later u v after f goes))))
       (λ _. (
         tt,
@@ -136,7 +136,7 @@ module _ (life : ℕ → Option ℕ) where
       u,
       stays refl,
       way life u (found == UNCONNECTED) (Write (Reversing h top at after) then_)
-          (Do (ReverseNext (ticket_request at) after) (λ _. cond (found == h.last) (TakeMessage (ticket_request at) (λ heading bytes. Write (Puts (record h { last = top }) at heading bytes 0 false) then_)) (Write (Reversing h top found at) then_)))
+          (Do (OnChain (ReverseNext (ticket_request at) after)) (λ _. cond (found == h.last) (TakeMessage (ticket_request at) (λ heading bytes. Write (Puts (record h { last = top }) at heading bytes 0 false) then_)) (Write (Reversing h top found at) then_)))
           (λ _. g)
           (λ _. (
             tt,
@@ -186,7 +186,7 @@ module _ (life : ℕ → Option ℕ) where
             λ found _. (
               u,
               stays refl,
-              way life u (nat_lt found IDLE) (Do (Connect r found) (λ _. after)) (write_link id r (ticket_of r g) after)
+              way life u (nat_lt found IDLE) (Do (OnChain (Connect r found)) (λ _. after)) (write_link id r (ticket_of r g) after)
                   (λ _. (tt, λ _ _. (u, stays refl, goes u (same_further u)))) (λ _. write_goes u id r (ticket_of r g) after c goes),
             ),
           ),
@@ -231,11 +231,11 @@ module _ (life : ℕ → Option ℕ) where
     by_freed : (k : ℕ) → Further (freed u) (freed (looking k))
     by_freed k = record { duty = refl; knows = λ i m a. inr a; keeps = refl; link = refl; left = refl; dead = refl }
 
-    looks_goes : (k : ℕ) → life k ≡ Some socket → OwesOn life (looking k) (Do (LookWord socket) (λ found. cond (eqb (vref_version found % 2) 0)
+    looks_goes : (k : ℕ) → life k ≡ Some socket → OwesOn life (looking k) (Do (OnSlot (LookWord socket)) (λ found. cond (eqb (vref_version found % 2) 0)
         (claims_from requests 0 socket (heading_for asked id n) (frame_of asked id n) (post id 3001 n (release (socket_id_slot socket) (λ _. next))) (release (socket_id_slot socket) (λ _. next))) (post id 1009 n (release (socket_id_slot socket) (λ _. next)))))
     looks_goes k has = (
       tt,
-      λ found _. pick life (CallMove life (LookWord socket) found (looking k)) (eqb (vref_version found % 2) 0)
+      λ found _. pick life (CallMove life (OnSlot (LookWord socket)) found (looking k)) (eqb (vref_version found % 2) 0)
           (claims_from requests 0 socket (heading_for asked id n) (frame_of asked id n) (post id 3001 n (release (socket_id_slot socket) (λ _. next))) (release (socket_id_slot socket) (λ _. next))) (post id 1009 n (release (socket_id_slot socket) (λ _. next)))
           (λ even. (
             freed (looking k),
@@ -254,8 +254,8 @@ module _ (life : ℕ → Option ℕ) where
     pub attempt_goes : OwesOn life u (attempt requests asked id n socket next)
     attempt_goes = (
       tt,
-      λ found _. pick life (CallMove life (AddRef socket) found u) (eqb (vref_version found) (socket_id_version socket))
-          (Do (FindLink (socket_id_slot socket) (socket_id_version socket)) (λ k. Aside (StoreAt asked.operation (at_word (id_first id) (id_slot id) k n)) (λ _. Do (LookWord socket) (λ found. cond (eqb (vref_version found % 2) 0)
+      λ found _. pick life (CallMove life (OnSlot (AddRef socket)) found u) (eqb (vref_version found) (socket_id_version socket))
+          (Do (OnSlot (FindLink (socket_id_slot socket) (socket_id_version socket))) (λ k. Aside (StoreAt asked.operation (at_word (id_first id) (id_slot id) k n)) (λ _. Do (OnSlot (LookWord socket)) (λ found. cond (eqb (vref_version found % 2) 0)
           (claims_from requests 0 socket (heading_for asked id n) (frame_of asked id n) (post id 3001 n (release (socket_id_slot socket) (λ _. next))) (release (socket_id_slot socket) (λ _. next))) (post id 1009 n (release (socket_id_slot socket) (λ _. next)))))))
           (release (socket_id_slot socket) (λ _. post id 1009 n next))
           (λ _. (
@@ -321,7 +321,7 @@ module _ (life : ℕ → Option ℕ) where
     tried_goes : (asked : Asked) (exit : Unlocking) (v : Owing) → LeavesUnlocks life id n exit u v → OwesOn life v (tried_again requests id n asked next exit)
     tried_goes asked (IsOpen w) v l = (
       tt,
-      λ word _. pick life (CallMove life (LoadName (name_of asked n)) word v) (eqb word 0) (post id 1009 n next) (attempt requests asked id n (word - 1) next)
+      λ word _. pick life (CallMove life (OnName (LoadName (name_of asked n))) word v) (eqb word 0) (post id 1009 n next) (attempt requests asked id n (word - 1) next)
           (λ _. (with_known id n (with_duty (Telling id n) v), tells id n l.0.duty refl, gives_up v requests asked id n 0 next l.0.duty (l.0.keeps ∙ keeps) few (λ x f. goes x (then_further (freed u) (freed v) x (free_further (with_duty (Trying id n) u) v l.0) f)) 1009))
           (λ _. (v, stays refl, attempt_goes v requests asked id n (word - 1) next l.0.duty (l.0.keeps ∙ keeps) few (λ x f. goes x (then_further (freed u) (freed v) x (free_further (with_duty (Trying id n) u) v l.0) f)))),
     )

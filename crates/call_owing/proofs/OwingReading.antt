@@ -4,7 +4,7 @@ use Rattle.sock_words.specs.PackedWords.{socket_id_slot, socket_id_version, vref
 use Rattle.sock_words.specs.ErrorCodes.{is_final}
 use Rattle.corr_core.specs.IdSlotWord.{parts, error_of, code_of, attempt_of}
 use Rattle.seat_programs.specs.brpc_model.specs.Frame.{Frame}
-use Rattle.seat_programs.specs.TableSteps.{AddRef, StoreCode, SubRef}
+use Rattle.seat_programs.specs.TableSteps.{OnSlot, AddRef, StoreCode, SubRef}
 use Rattle.seat_programs.specs.LoopHeads.{Reads, Discards, Posting, HasLocked, Ended}
 use Rattle.seat_programs.specs.Programs.{Program, Do, Rest, Round, add_reference, release, set_failed}
 use Rattle.seat_programs.specs.PostPrograms.{post_with, decide, decided, is_stale}
@@ -101,7 +101,7 @@ module _ (life : ℕ → Option ℕ) where
   fails_goes : (k s code : ℕ) (os : List ℕ) (u : Owing) (last : Program) → life k ≡ Some s → IsReading k os u → Later k os last → Goes u (add_reference s (set_failed s code (λ _. release (socket_id_slot s) (λ _. last))) (λ _. last))
   fails_goes k s code os u last has r goes = (
     tt,
-    λ found _. pick life (CallMove life (AddRef s) found u) (eqb (vref_version found) (socket_id_version s)) (set_failed s code (λ _. release (socket_id_slot s) (λ _. last))) (release (socket_id_slot s) (λ _. last))
+    λ found _. pick life (CallMove life (OnSlot (AddRef s)) found u) (eqb (vref_version found) (socket_id_version s)) (set_failed s code (λ _. release (socket_id_slot s) (λ _. last))) (release (socket_id_slot s) (λ _. last))
         (λ _. (
           u,
           stays refl,
@@ -111,7 +111,7 @@ module _ (life : ℕ → Option ℕ) where
               with_dead u,
               fails k s refl r.link has refl,
               way life (with_dead u) (eqb (vref_version word % 2) 0)
-                  (Do (StoreCode (socket_id_slot s) (socket_id_version s) code) (λ _. Do (SubRef (socket_id_slot s)) (λ _. release (socket_id_slot s) (λ _. last)))) (release (socket_id_slot s) (λ _. last))
+                  (Do (OnSlot (StoreCode (socket_id_slot s) (socket_id_version s) code)) (λ _. Do (OnSlot (SubRef (socket_id_slot s))) (λ _. release (socket_id_slot s) (λ _. last)))) (release (socket_id_slot s) (λ _. last))
                   (λ _. (tt, λ _ _. (with_dead u, stays refl, (tt, λ _ _. (with_dead u, stays refl, back))))) (λ _. back),
             ),
           ),

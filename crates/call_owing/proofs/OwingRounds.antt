@@ -5,7 +5,7 @@ use Rattle.corr_core.specs.IdRangeVersions.{is_early}
 use Rattle.seat_programs.specs.brpc_model.specs.Frame.{Frame}
 use Rattle.seat_programs.specs.brpc_model.specs.FrameStream as streams
 use Rattle.seat_programs.specs.brpc_model.specs.ResponseOutcome.{ending_of}
-use Rattle.seat_programs.specs.TableSteps.{LoadOpen}
+use Rattle.seat_programs.specs.TableSteps.{OnName, LoadOpen}
 use Rattle.seat_programs.specs.Asides.{LockId, Taking, Bytes, Nothing, Closed}
 use Rattle.seat_programs.specs.LoopHeads.{Head, Exit, Sought, Version, Reading, Posts, Unlocks, Decides, Locks, Joins, Opens, Reads, Discards, Locking, NotThere, Has, Ended}
 use Rattle.seat_programs.specs.Programs.{Program, Say, Round}
@@ -75,12 +75,12 @@ module _ (life : ℕ → Option ℕ) where
   opens_goes : (u : Owing) (o : ℕ) (k : ℕ → Program) → AtOwe life u (Opens o) → ((exit : ℕ) (v : Owing) → LeavesOpens life exit u v → OwesOn life v (k exit)) → OwesOn life u (round (Opens o) k)
   opens_goes u o k at goes = (
     tt,
-    λ word f. pick life (owing.CallMove life (LoadOpen o) word u) (eqb word 0) (Round (Opens o) k) (k word)
+    λ word f. pick life (owing.CallMove life (OnName (LoadOpen o)) word u) (eqb word 0) (Round (Opens o) k) (k word)
         (λ _. (u, owing.stays refl, (at, goes)))
         (λ some_. named word (subst (λ (l : List ℕ). IsLifeOf life l word) at.0.1 (f (Rattle.call_owing.proofs.PostsAndDecisionsOwed.not_equal word 0 some_))) (eqb word NO_SOCKET) refl),
   )
     where
-      named : (word : ℕ) → life at.0.0 ≡ cond (eqb word NO_SOCKET) None (Some (word - 1)) → (b : Bool) → eqb word NO_SOCKET ≡ b → (v : Owing) × owing.CallMove life (LoadOpen o) word u v × OwesOn life v (k word)
+      named : (word : ℕ) → life at.0.0 ≡ cond (eqb word NO_SOCKET) None (Some (word - 1)) → (b : Bool) → eqb word NO_SOCKET ≡ b → (v : Owing) × owing.CallMove life (OnName (LoadOpen o)) word u v × OwesOn life v (k word)
       named word is true nb = (
         with_left [] u,
         owing.unused at.0.0 o refl at.0.1 (is ∙ ap (λ b. cond b None (Some (word - 1))) nb) refl,

@@ -13,7 +13,7 @@ use Rattle.sock_model.specs.declared.home.Home.{Home}
 use Rattle.sock_model.specs.declared.home.Home.TheVariants.{Message}
 use Rattle.corr_core.specs.IdSlotWord.{attempt_of}
 use Rattle.corr_core.specs.declared.marks.Plan.{Plan as IdPlan}
-use Rattle.seat_programs.specs.TableSteps.{TableStep, AddRef, SetOdd, LookWord}
+use Rattle.seat_programs.specs.TableSteps.{TableStep, OnSlot, AddRef, SetOdd, LookWord}
 use Rattle.seat_programs.specs.Cores.{Core, SeatState, waiting_at}
 use Rattle.call_owing.specs.Owing.{Duty, Free, Trying, Linked, Looking, Telling, Owing, Among, InList, DutyTo, duty_tokens, with_duty, freed, with_known, with_left, with_dead, CallMove, stays, tells, tells_late, links, looks, fails, gone, unused}
 use Rattle.call_owing.specs.SoundOwing.{id_word_of, at_of, retry_tokens, Owed, by_seat, by_retry, by_reader, Past, Distinct, IsOpen, ErrorPast, Failed, Stored, OwingLaw}
@@ -102,9 +102,9 @@ module _ (q : IdPlan) (life : ℕ → Option ℕ) (calls : List ℕ) (c : Core) 
   -- a life that the seat looks at is held, so that an even version is its own; and messages at home are those of before, or the one that is put there
   pub record SockFits (call : TableStep) (found : ℕ) : Type 0 where
     pub failed : (k : ℕ) → Failed life c k → Failed life (record { words = ws; homes = hs; seats = ss; outcomes = os; calls = c.calls }) k
-    pub odd : (k s : ℕ) → call ≡ SetOdd (socket_id_slot s) → u.link ≡ k ∷ [] → life k ≡ Some s → Failed life (record { words = ws; homes = hs; seats = ss; outcomes = os; calls = c.calls }) k
-    pub other : (k s : ℕ) → call ≡ AddRef s → u.link ≡ k ∷ [] → life k ≡ Some s → vref_version found ≢ socket_id_version s → Failed life (record { words = ws; homes = hs; seats = ss; outcomes = os; calls = c.calls }) k
-    pub live : (k s : ℕ) → call ≡ LookWord s → life k ≡ Some s → vref_version found % 2 ≡ 0 → Failed life c k → ⊥
+    pub odd : (k s : ℕ) → call ≡ OnSlot (SetOdd (socket_id_slot s)) → u.link ≡ k ∷ [] → life k ≡ Some s → Failed life (record { words = ws; homes = hs; seats = ss; outcomes = os; calls = c.calls }) k
+    pub other : (k s : ℕ) → call ≡ OnSlot (AddRef s) → u.link ≡ k ∷ [] → life k ≡ Some s → vref_version found ≢ socket_id_version s → Failed life (record { words = ws; homes = hs; seats = ss; outcomes = os; calls = c.calls }) k
+    pub live : (k s : ℕ) → call ≡ OnSlot (LookWord s) → life k ≡ Some s → vref_version found % 2 ≡ 0 → Failed life c k → ⊥
     pub letters : (r : ℕ) (heading : Heading) (bytes : List ℕ) → get_elem? hs r ≡ some (some (Message heading bytes)) → heading.owner ≢ 0 → Past us heading.owner heading.label.attempt × (heading.label.attempt ≤ 6)
 
   -- the same marks

@@ -2,7 +2,7 @@
 use Rattle.std.specs.Prelude.{ℕ, ◌≡◌, ◌≢◌, ◌+◌, ◌-◌, ◌%◌, ◌<◌, ◌≤◌, ◌⊎◌, ◌==◌, Bool, true, false, if◌then◌else◌, List, [], ◌∷◌, Option, Some, None}
 use Rattle.sock_words.specs.PackedWords.{socket_id_version, socket_id_slot, vref_version, at_word, at_word_first, at_word_slot, at_word_link, at_word_attempt, call_id, id_slot, id_first, NO_SOCKET, bit}
 use Rattle.corr_core.specs.IdSlotWord.{Parts, parts, attempt_of}
-use Rattle.seat_programs.specs.TableSteps.{TableStep, AddRef, SetOdd, LookWord, FindLink, LoadOpen, PutMessage}
+use Rattle.seat_programs.specs.TableSteps.{TableStep, OnSlot, OnName, OnMessage, AddRef, SetOdd, LookWord, FindLink, LoadOpen, PutMessage}
 use Rattle.seat_programs.specs.Asides.{Step, MakeId, StoreAt, LoadAt, LoadIdWord, LockId, PostId, UnlockId, EndId, TakeBytes, Taking, Closed, Found}
 use Rattle.seat_programs.specs.PostPrograms.{is_first}
 use Rattle.sock_model.specs.declared.chain.Heading.{Heading}
@@ -89,13 +89,13 @@ module _ (life : ℕ → Option ℕ) where
     -- the seat gives the attempt up: an error follows
     tells : (id n : ℕ) → u.duty ≡ Trying id n → v ≡ with_known id n (with_duty (Telling id n) u) → CallMove call found u v
     tells_late : (id n k o : ℕ) → u.duty ≡ Looking id n k o → v ≡ with_duty (Telling id n) u → CallMove call found u v
-    links : (id n i h : ℕ) → call ≡ FindLink i h → u.duty ≡ Trying id n → v ≡ with_duty (Linked id n found) u → CallMove call found u v
+    links : (id n i h : ℕ) → call ≡ OnSlot (FindLink i h) → u.duty ≡ Trying id n → v ≡ with_duty (Linked id n found) u → CallMove call found u v
     -- the life was found live behind the store of the at word: the reader of its link will come upon that word
-    looks : (id n k o s : ℕ) → call ≡ LookWord s → life k ≡ Some s → u.duty ≡ Looking id n k o → vref_version found % 2 ≡ 0 → v ≡ freed u → CallMove call found u v
+    looks : (id n k o s : ℕ) → call ≡ OnSlot (LookWord s) → life k ≡ Some s → u.duty ≡ Looking id n k o → vref_version found % 2 ≡ 0 → v ≡ freed u → CallMove call found u v
     -- a reader fails its life, or finds that it isn't there any more, or that there is none
-    fails : (k s : ℕ) → call ≡ SetOdd (socket_id_slot s) → u.link ≡ k ∷ [] → life k ≡ Some s → v ≡ with_dead u → CallMove call found u v
-    gone : (k s : ℕ) → call ≡ AddRef s → u.link ≡ k ∷ [] → life k ≡ Some s → vref_version found ≢ socket_id_version s → v ≡ with_dead u → CallMove call found u v
-    unused : (k o : ℕ) → call ≡ LoadOpen o → u.link ≡ k ∷ [] → life k ≡ None → v ≡ with_left [] u → CallMove call found u v
+    fails : (k s : ℕ) → call ≡ OnSlot (SetOdd (socket_id_slot s)) → u.link ≡ k ∷ [] → life k ≡ Some s → v ≡ with_dead u → CallMove call found u v
+    gone : (k s : ℕ) → call ≡ OnSlot (AddRef s) → u.link ≡ k ∷ [] → life k ≡ Some s → vref_version found ≢ socket_id_version s → v ≡ with_dead u → CallMove call found u v
+    unused : (k o : ℕ) → call ≡ OnName (LoadOpen o) → u.link ≡ k ∷ [] → life k ≡ None → v ≡ with_left [] u → CallMove call found u v
 
   -- what the table of the sockets says of what is found: the link of a life that the seat holds, and the word of the `open` of a reader's link
   abbrev pub HasLink : Duty → ℕ → ℕ → ℕ → Type 0
@@ -106,8 +106,8 @@ module _ (life : ℕ → Option ℕ) where
   IsLifeOf (k ∷ ks) found = life k ≡ (if found == NO_SOCKET then None else Some (found - 1))
 
   abbrev pub FindsCall : Owing → TableStep → ℕ → Type 0
-  FindsCall u (FindLink i h) found = (found < 65535) × HasLink u.duty i h found
-  FindsCall u (LoadOpen o) found = found ≢ 0 → IsLifeOf u.link found
+  FindsCall u (OnSlot (FindLink i h)) found = (found < 65535) × HasLink u.duty i h found
+  FindsCall u (OnName (LoadOpen o)) found = found ≢ 0 → IsLifeOf u.link found
   FindsCall u other found = Unit {0}
 
 -- the message of a call is one of an attempt whose word is stored
@@ -115,7 +115,7 @@ abbrev pub KnowsOwner : Owing → Heading → Type 0
 KnowsOwner u heading = heading.owner ≢ 0 → Among heading.owner heading.label.attempt u.knows × (heading.label.attempt ≤ 6)
 
 abbrev pub MayCall : Owing → TableStep → Type 0
-MayCall u (PutMessage q heading bytes) = KnowsOwner u heading
+MayCall u (OnMessage (PutMessage q heading bytes)) = KnowsOwner u heading
 MayCall u other = Unit {0}
 
 -- ## Steps aside

@@ -8,7 +8,7 @@ use Rattle.sock_model.specs.declared.chain.Heading.{Heading}
 use Rattle.sock_model.specs.declared.home.Home.{Home}
 use Rattle.sock_model.specs.declared.home.Home.TheVariants.{Message}
 use Rattle.corr_core.specs.declared.marks.Plan.{Plan as IdPlan}
-use Rattle.seat_programs.specs.TableSteps.{TableStep, AddRef, SetOdd, LookWord}
+use Rattle.seat_programs.specs.TableSteps.{TableStep, OnSlot, AddRef, SetOdd, LookWord}
 use Rattle.seat_programs.specs.Asides.{StoreAt, TakeBytes, Closed}
 use Rattle.seat_programs.specs.Programs.{Program, Do, PutHome, Aside}
 use Rattle.seat_programs.specs.Cores.{Core, SeatState, found_at, words_after, first_of}
@@ -29,9 +29,9 @@ module _ (p : Plan) (life : ℕ → Option ℕ) (c : Core) (u : Owing) (call : T
   pub record CallFits : Type 0 where
     pub finds : FindsCall life u call found
     pub failed : (k : ℕ) → FailedIn life c.words k → FailedIn life words' k
-    pub odd : (k s : ℕ) → call ≡ SetOdd (socket_id_slot s) → u.link ≡ k ∷ [] → life k ≡ Some s → FailedIn life words' k
-    pub other : (k s : ℕ) → call ≡ AddRef s → u.link ≡ k ∷ [] → life k ≡ Some s → vref_version found ≢ socket_id_version s → FailedIn life words' k
-    pub live : (k s : ℕ) → call ≡ LookWord s → life k ≡ Some s → vref_version found % 2 ≡ 0 → FailedIn life c.words k → ⊥
+    pub odd : (k s : ℕ) → call ≡ OnSlot (SetOdd (socket_id_slot s)) → u.link ≡ k ∷ [] → life k ≡ Some s → FailedIn life words' k
+    pub other : (k s : ℕ) → call ≡ OnSlot (AddRef s) → u.link ≡ k ∷ [] → life k ≡ Some s → vref_version found ≢ socket_id_version s → FailedIn life words' k
+    pub live : (k s : ℕ) → call ≡ OnSlot (LookWord s) → life k ≡ Some s → vref_version found % 2 ≡ 0 → FailedIn life c.words k → ⊥
 
 -- what goes home from a hand is no message
 abbrev pub HoldsNoMessage : List Home → Type 0

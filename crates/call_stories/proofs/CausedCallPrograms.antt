@@ -12,7 +12,7 @@ use Rattle.corr_core.specs.declared.marks.Plan.{Plan as IdPlan}
 use Rattle.sock_message.specs.Asked.{Asked, frame_of}
 use Rattle.seat_programs.specs.declared.task.Task.{Task}
 use Rattle.seat_programs.specs.BufferParts.{part}
-use Rattle.seat_programs.specs.TableSteps.{SubRef, Recycle, StoreCode, LoadLink, TakeLink, FinishLink, PutLink, FreeSlot, FreeRequest, ReadNext, ReverseNext, Connect, FindLink, LookWord}
+use Rattle.seat_programs.specs.TableSteps.{OnSlot, OnChain, OnLink, SubRef, Recycle, StoreCode, LoadLink, TakeLink, FinishLink, PutLink, FreeSlot, FreeRequest, ReadNext, ReverseNext, Connect, FindLink, LookWord}
 use Rattle.seat_programs.specs.Asides.{StoreAt}
 use Rattle.seat_programs.specs.Programs.{Program, Do, TakeMessage, TakeHome, PutBytes, Write, Aside, LAST_VERSION, LAST_GENERATION, recycle, release, add_reference, set_failed}
 use Rattle.seat_programs.specs.PostPrograms.{post}
@@ -34,17 +34,17 @@ module _ (p : Plan) (q : IdPlan) (clients : List (List Task)) (gives : ℕ → L
   -- who wins the exchange ends the slot's link, and frees the slot
   recycle_then : (w : Scene) (m : Mark) (i from : ℕ) (next : Bool → Program) → ((b : Bool) → Next w m (next b)) → Next w m (recycle i from next)
   recycle_then w m i from next goes = let fits : Bool = leb (vref_version from + 1) LAST_VERSION in
-      let last : Program = cond fits (Do (FreeSlot i) (λ _. next true)) (next true) in
-      let back : ℕ → Program = λ k. Do (PutLink k) (λ _. last) in
-      let finish : ℕ → Program = λ k. Do (FinishLink k) (λ _. back k) in
-      let take : ℕ → Program = λ k. Do (TakeLink k) (λ _. finish k) in
-      let wins : Program = Do (LoadLink i (vref_version from + 1)) take in
-      then_does p q clients gives w m (Recycle i from) (λ found. cond (eqb found from) wins (next false)) tt (λ found. then_way p q clients gives w m (eqb found from) wins (next false)
-      (λ _. then_does p q clients gives w m (LoadLink i (vref_version from + 1)) take tt
-      (λ k. then_does p q clients gives w m (TakeLink k) (λ _. finish k) tt
-      (λ _. then_does p q clients gives w m (FinishLink k) (λ _. back k) tt
-      (λ _. then_does p q clients gives w m (PutLink k) (λ _. last) tt
-      (λ _. then_way p q clients gives w m fits (Do (FreeSlot i) (λ _. next true)) (next true) (λ _. then_does p q clients gives w m (FreeSlot i) (λ _. next true) tt (λ _. goes true)) (λ _. goes true))))))
+      let last : Program = cond fits (Do (OnSlot (FreeSlot i)) (λ _. next true)) (next true) in
+      let back : ℕ → Program = λ k. Do (OnLink (PutLink k)) (λ _. last) in
+      let finish : ℕ → Program = λ k. Do (OnLink (FinishLink k)) (λ _. back k) in
+      let take : ℕ → Program = λ k. Do (OnLink (TakeLink k)) (λ _. finish k) in
+      let wins : Program = Do (OnSlot (LoadLink i (vref_version from + 1))) take in
+      then_does p q clients gives w m (OnSlot (Recycle i from)) (λ found. cond (eqb found from) wins (next false)) tt (λ found. then_way p q clients gives w m (eqb found from) wins (next false)
+      (λ _. then_does p q clients gives w m (OnSlot (LoadLink i (vref_version from + 1))) take tt
+      (λ k. then_does p q clients gives w m (OnLink (TakeLink k)) (λ _. finish k) tt
+      (λ _. then_does p q clients gives w m (OnLink (FinishLink k)) (λ _. back k) tt
+      (λ _. then_does p q clients gives w m (OnLink (PutLink k)) (λ _. last) tt
+      (λ _. then_way p q clients gives w m fits (Do (OnSlot (FreeSlot i)) (λ _. next true)) (next true) (λ _. then_does p q clients gives w m (OnSlot (FreeSlot i)) (λ _. next true) tt (λ _. goes true)) (λ _. goes true))))))
       (λ _. goes false))
 
   pub release_says : (w : Scene) (m : Mark) (i : ℕ) (next : Bool → Program) → ((b : Bool) → Next w m (next b)) → Tells w m (release i next)
@@ -64,7 +64,7 @@ module _ (p : Plan) (q : IdPlan) (clients : List (List Task)) (gives : ℕ → L
   pub set_failed_says : (w : Scene) (m : Mark) (id code : ℕ) → IsOther p q clients gives code → (next : ℕ → Program) → ((found : ℕ) → Next w m (next found)) → Tells w m (set_failed id code next)
   set_failed_says w m id code other next goes = (
     tt,
-    λ found v l s _. way p q clients gives v m (vref_version found % 2 == 0) (Do (StoreCode (socket_id_slot id) (socket_id_version id) code) (λ _. Do (SubRef (socket_id_slot id)) (λ _. next found))) (next found) s
+    λ found v l s _. way p q clients gives v m (vref_version found % 2 == 0) (Do (OnSlot (StoreCode (socket_id_slot id) (socket_id_version id) code)) (λ _. Do (OnSlot (SubRef (socket_id_slot id))) (λ _. next found))) (next found) s
         (λ _ _. (other, λ _ v2 l2 _ _. (tt, λ _ v3 l3 s3 _. goes found v3 (far p q clients gives w v2 v3 (far p q clients gives w v v2 l l2) l3) s3))) (λ _ s'. goes found v l s'),
   )
 
@@ -84,11 +84,11 @@ module _ (p : Plan) (q : IdPlan) (clients : List (List Task)) (gives : ℕ → L
   writes_on w m after free goes x fits = then_follows p q clients gives w m (Write x after) free (writes w m after free goes x fits)
 
   freed_then : (w : Scene) (m : Mark) (now : ℕ) (next : Program) → Next w m next → Next w m (freed now next)
-  freed_then w m now next goes = λ v l s. way p q clients gives v m (ticket_generation now == LAST_GENERATION) next (Do (FreeRequest (ticket_request now) (ticket_generation now)) (λ _. next)) s (λ _ s'. goes v l s') (λ _ _. (tt, λ _ v2 l2 s2 _. goes v2 (far p q clients gives w v v2 l l2) s2))
+  freed_then w m now next goes = λ v l s. way p q clients gives v m (ticket_generation now == LAST_GENERATION) next (Do (OnChain (FreeRequest (ticket_request now) (ticket_generation now))) (λ _. next)) s (λ _ s'. goes v l s') (λ _ _. (tt, λ _ v2 l2 s2 _. goes v2 (far p q clients gives w v v2 l l2) s2))
 
   passed_then : (w : Scene) (m : Mark) (h : Holder) (now : ℕ) (tells : Program → Program) (after : Program) → IsFree m → ((x : Program) → Ends w m x → Next w m (tells x)) → Ends w m after → Next w m (passed_telling h now tells after)
   passed_then w m h now tells after free told goes = λ v l s. way p q clients gives v m (now == h.last) (freed now (tells (Write (Empties h) after)))
-      (Do (ReadNext (ticket_request now)) (λ next. freed now (tells (TakeMessage (ticket_request next) (λ heading bytes. Write (Puts h next heading bytes 0 false) after))))) s
+      (Do (OnChain (ReadNext (ticket_request now))) (λ next. freed now (tells (TakeMessage (ticket_request next) (λ heading bytes. Write (Puts h next heading bytes 0 false) after))))) s
       (λ _ s'. freed_then w m now (tells (Write (Empties h) after)) (told (Write (Empties h) after) (writes w m after free goes (Empties h) tt)) v l s')
       (λ _ _. (
         tt,
@@ -139,7 +139,7 @@ module _ (p : Plan) (q : IdPlan) (clients : List (List Task)) (gives : ℕ → L
   block_says w m (Reversing h top at after) then_ g = (
     tt,
     λ found v l s _. way p q clients gives v m (found == UNCONNECTED) (Write (Reversing h top at after) then_)
-        (Do (ReverseNext (ticket_request at) after) (λ _. cond (found == h.last) (TakeMessage (ticket_request at) (λ heading bytes. Write (Puts (record h { last = top }) at heading bytes 0 false) then_)) (Write (Reversing h top found at) then_))) s
+        (Do (OnChain (ReverseNext (ticket_request at) after)) (λ _. cond (found == h.last) (TakeMessage (ticket_request at) (λ heading bytes. Write (Puts (record h { last = top }) at heading bytes 0 false) then_)) (Write (Reversing h top found at) then_))) s
         (λ _ s'. writes_on w m then_ g.0 g.2 (Reversing h top at after) tt v l s')
         (λ _ _. (
           tt,
@@ -172,7 +172,7 @@ module _ (p : Plan) (q : IdPlan) (clients : List (List Task)) (gives : ℕ → L
       λ _ v2 l2 _ _. (
         tt,
         λ found v3 l3 s3 _. let f3 = far p q clients gives w v2 v3 (far p q clients gives w v v2 l l2) l3 in
-            way p q clients gives v3 m (nat_lt found IDLE) (Do (Connect r found) (λ _. after)) (write_link id r (ticket_of r g) after) s3
+            way p q clients gives v3 m (nat_lt found IDLE) (Do (OnChain (Connect r found)) (λ _. after)) (write_link id r (ticket_of r g) after) s3
             (λ _ _. (tt, λ _ v4 l4 s4 _. goes v4 m (far p q clients gives w v3 v4 f3 l4) s4 (again_same p q clients gives m m free refl)))
             (λ _ _. write_link_says v3 m id r (ticket_of r g) after free (follows_later p q clients gives w v3 m after f3 goes)),
       ),
@@ -200,14 +200,14 @@ module _ (p : Plan) (q : IdPlan) (clients : List (List Task)) (gives : ℕ → L
       let i : ℕ = socket_id_slot socket in
       let freed_ : Program = release (socket_id_slot socket) (λ _. next) in
       let looked : ℕ → Program = λ found. cond (eqb (vref_version found % 2) 0) (claims_from requests 0 socket (heading_for asked id n) (frame_of asked id n) (post id 3001 n (release (socket_id_slot socket) (λ _. next))) (release (socket_id_slot socket) (λ _. next))) (post id 1009 n (release (socket_id_slot socket) (λ _. next))) in
-      address_says w m socket (Do (FindLink (socket_id_slot socket) (socket_id_version socket)) (λ k. Aside (StoreAt asked.operation (at_word (id_first id) (id_slot id) k n)) (λ _. Do (LookWord socket) looked))) (λ _. post id 1009 n next)
+      address_says w m socket (Do (OnSlot (FindLink (socket_id_slot socket) (socket_id_version socket))) (λ k. Aside (StoreAt asked.operation (at_word (id_first id) (id_slot id) k n)) (λ _. Do (OnSlot (LookWord socket)) looked))) (λ _. post id 1009 n next)
       (λ v l _. (
         tt,
         λ k v2 l2 _ _. (
           at_few (id_first id) (id_slot id) k n few,
           λ _ v3 m3 l3 _ mv. (
             tt,
-            subst (λ x. Tells v3 x (Do (LookWord socket) looked)) (sym mv) (
+            subst (λ x. Tells v3 x (Do (OnSlot (LookWord socket)) looked)) (sym mv) (
               tt,
               λ found v4 l4 s4 _. let f4 = far p q clients gives w v3 v4 (far p q clients gives w v2 v3 (far p q clients gives w v v2 l l2) l3) l4 in
                   way p q clients gives v4 m (eqb (vref_version found % 2) 0) (claims_from requests 0 socket (heading_for asked id n) (frame_of asked id n) (post id 3001 n (release (socket_id_slot socket) (λ _. next))) (release (socket_id_slot socket) (λ _. next))) (post id 1009 n (release (socket_id_slot socket) (λ _. next))) s4

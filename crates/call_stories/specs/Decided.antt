@@ -4,7 +4,7 @@ use mathlib.Core.Option.{none, some}
 use lib.ListN.{get_elem?}
 use Rattle.sock_message.specs.Asked.{Asked}
 use Rattle.sock_words.specs.declared.plain.Plan.{Plan}
-use Rattle.seat_programs.specs.TableSteps.{LoadOpen}
+use Rattle.seat_programs.specs.TableSteps.{OnName, LoadOpen}
 use Rattle.seat_programs.specs.Asides.{PostId}
 use Rattle.seat_programs.specs.LoopHeads.{Decides}
 use Rattle.seat_programs.specs.Programs.{Program, Do, Aside, Round}
@@ -38,7 +38,7 @@ decided_by j c m = if m.seat == j then decided_at c m else []
 
 -- a step of a reader that it makes only there: on its socket, but for the word of its `open`, or to post an error
 abbrev pub is_late_step : Program → Bool
-is_late_step (Do (LoadOpen o) next) = false
+is_late_step (Do (OnName (LoadOpen o)) next) = false
 is_late_step (Do call next) = true
 is_late_step (Aside (PostId i from e) next) = true
 is_late_step other = false

@@ -16,7 +16,7 @@ use Rattle.corr_core.specs.EndedByRangeOrAttempt.{WHOLE}
 use Rattle.sock_message.specs.Asked.{Asked, name_of}
 use Rattle.seat_programs.specs.declared.task.Op.TheVariants as ops
 use Rattle.seat_programs.specs.declared.task.Task.{Task}
-use Rattle.seat_programs.specs.TableSteps.{TableStep, StoreName, LoadName, StoreCode, LoadCode}
+use Rattle.seat_programs.specs.TableSteps.{TableStep, OnSlot, OnName, StoreName, LoadName, StoreCode, LoadCode}
 use Rattle.seat_programs.specs.Asides.{Step, ClaimId, PutCall, MakeId, StoreCall, LoadCall, StoreAt, LoadAt, LoadIdWord, LockId, PostId, UnlockId, EndId, FreeId, TakeCall, TakeBytes, Taking, Bytes, Found}
 use Rattle.seat_programs.specs.LoopHeads.{Head, Exit, Sought, First, Version, Posts, Unlocks, Decides, Locks, Joins, Opens, Reads, Discards, Posting, WasCrowded, WasQueued, HasLocked, Unlocking, IsOpen, HasNext, Deciding, HasEnded, GoesOn, Locking, NotThere, Has, Reading}
 use Rattle.seat_programs.specs.PostPrograms.{is_first, is_stale, packed, IsSoughtWord}
@@ -133,8 +133,8 @@ module _ (p : Plan) (q : IdPlan) (clients : List (List Task)) (gives : ℕ → L
   -- ## Steps on the table of the sockets
 
   abbrev pub MayDo : TableStep → Type 0
-  MayDo (StoreName n word) = word ≢ 0
-  MayDo (StoreCode i h c) = IsOther p q clients gives c
+  MayDo (OnName (StoreName n word)) = word ≢ 0
+  MayDo (OnSlot (StoreCode i h c)) = IsOther p q clients gives c
   MayDo other = Unit {0}
 
   -- where no socket is found under a name, none of the setup's gave it one
@@ -142,9 +142,9 @@ module _ (p : Plan) (q : IdPlan) (clients : List (List Task)) (gives : ℕ → L
   NoneOfSetup w n = (t : Task) → IsTaskOf p q clients gives 0 t → HasNoneOf p q clients gives w n t
 
   abbrev pub FindsDo : Scene → Mark → TableStep → ℕ → Type 0
-  FindsDo w m (StoreName n word) found = Named p q clients gives w n
-  FindsDo w m (LoadName n) found = (found ≡ 0 → (Named p q clients gives w n → ⊥) × (m.client ≢ 0 → NoneOfSetup w n) × AreTold p q clients gives w m.client m.done) × (found ≢ 0 → Named p q clients gives w n)
-  FindsDo w m (LoadCode i h) found = (found ≢ 0 → IsOther p q clients gives found)
+  FindsDo w m (OnName (StoreName n word)) found = Named p q clients gives w n
+  FindsDo w m (OnName (LoadName n)) found = (found ≡ 0 → (Named p q clients gives w n → ⊥) × (m.client ≢ 0 → NoneOfSetup w n) × AreTold p q clients gives w m.client m.done) × (found ≢ 0 → Named p q clients gives w n)
+  FindsDo w m (OnSlot (LoadCode i h)) found = (found ≢ 0 → IsOther p q clients gives found)
   FindsDo w m other found = Unit {0}
 
   -- ## Steps aside

@@ -20,7 +20,7 @@ use Rattle.seat_programs.specs.ScriptSetupToEnding.{all_tasks, took_at_home}
 use Rattle.seat_programs.specs.Tasks.{plan_of}
 use Rattle.seat_programs.specs.Explained.{AreTasks, IsTask, Made}
 use Rattle.seat_programs.specs.ExplainedCalls.{Accepted, Order, Fixed, AreOrders, bytes_of}
-use Rattle.failed_told.specs.attempts_told.specs.CountedAttempts.{AreAttemptsTold}
+use Rattle.served_told.specs.failed_told.specs.attempts_told.specs.CountedAttempts.{AreAttemptsTold}
 use Rattle.served_told.specs.ServedLinksTelling.{ShowSmallIds}
 use Rattle.served_told.proofs.RequestsWithoutSends.{IsRequest, pieces, whole}
 use Rattle.served_told.specs.served_calls.proofs.ReplyFrames.{frames_then, first_has, reply_more, reply_to}

@@ -19,7 +19,7 @@ use Rattle.seat_programs.specs.ExplainedCalls.{Accepted, StandsAt, StandsOn, May
 use Rattle.sock_message.specs.Asked.{Asked, name_of}
 use Rattle.callless_fits.proofs.EverySendPlaced.{run_of, links, inside, unfailed, life_low}
 use Rattle.callless_fits.specs.sock_deeds.specs.SocketsTold.{fixed_by}
-use Rattle.failed_told.specs.failed_reasons.specs.CallsEndedByReading.{AtFault, AtEnd, AtFaultDrop, AtEndDrop, LeftOver}
+use Rattle.served_told.specs.failed_told.specs.failed_reasons.specs.CallsEndedByReading.{AtFault, AtEnd, AtFaultDrop, AtEndDrop, LeftOver}
 use Rattle.calls_done.proofs.CalmSingleAttempts.{WasFull_, no_drop, unfull}
 use Rattle.calls_done.proofs.ServedCallCauses.{asked, task, Ended_}
 use Rattle.calls_done.proofs.KnownCallRun.{Known}

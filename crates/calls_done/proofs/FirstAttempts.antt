@@ -13,8 +13,8 @@ use Rattle.seat_programs.specs.declared.task.Op.TheVariants as ops
 use Rattle.seat_programs.specs.declared.task.Task.{Task}
 use Rattle.seat_programs.specs.Explained.{Became}
 use Rattle.seat_programs.specs.ExplainedCalls.{IsFailing}
-use Rattle.failed_told.specs.Below.SockRule.ClosingWordsAndNotes.{PlacesDiffer}
-use Rattle.failed_told.specs.Below.SockRule.Letter.{Letter}
+use Rattle.served_told.specs.failed_told.specs.Below.SockRule.ClosingWordsAndNotes.{PlacesDiffer}
+use Rattle.served_told.specs.failed_told.specs.Below.SockRule.Letter.{Letter}
 use Rattle.callless_fits.specs.sock_deeds.specs.Deeds.{MessageBy, Did, sends, fails, DoneBy}
 use Rattle.callless_fits.specs.sock_deeds.specs.SocketTableRun.{IsOperation, DeedRun}
 use Rattle.callless_fits.specs.sock_deeds.proofs.MessagesAcceptedByDeeds.{log}

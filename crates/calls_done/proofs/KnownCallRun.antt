@@ -10,11 +10,11 @@ use Rattle.seat_programs.specs.ScriptSetupToEnding.{all_tasks}
 use Rattle.seat_programs.specs.Tasks.{plan_of}
 use Rattle.seat_programs.specs.Explained.{IsTask, Became}
 use Rattle.seat_programs.specs.ExplainedCalls.{StandsOn, FailedBy, WhyAgain}
-use Rattle.failed_told.specs.failed_reasons.specs.CallsEndedByReading.{EndedByReading}
+use Rattle.served_told.specs.failed_told.specs.failed_reasons.specs.CallsEndedByReading.{EndedByReading}
 use Rattle.calls_done.specs.FirstAttempts.{FirstAttempt}
 use Rattle.callless_fits.proofs.EverySendPlaced.{ToldRun}
 use Rattle.callless_fits.specs.sock_deeds.specs.SocketsTold.{fixed_by}
-use Rattle.failed_told.specs.call_whys.specs.call_told.specs.TellersOfCallEnds.{HaveAnswers, is_end_of_call}
+use Rattle.served_told.specs.failed_told.specs.call_whys.specs.call_told.specs.TellersOfCallEnds.{HaveAnswers, is_end_of_call}
 
 -- a call found no socket under its first name, or it ended
 abbrev pub IsOfCall : Outcome → Type 0

@@ -28,8 +28,8 @@ use Rattle.seat_programs.specs.Explained.{IsTask, Became}
 use Rattle.seat_programs.specs.ExplainedCalls as told
 use Rattle.seat_programs.specs.ExplainedCalls.{Accepted, OfSend, OfCall}
 use Rattle.callless_fits.specs.sock_deeds.specs.SocketsTold.{fixed_by}
-use Rattle.failed_told.specs.call_whys.specs.call_told.specs.TellersOfCallEnds.{HasAnswer}
-use Rattle.failed_told.specs.failed_reasons.specs.CallsEndedByReading.{EndedByReading}
+use Rattle.served_told.specs.failed_told.specs.call_whys.specs.call_told.specs.TellersOfCallEnds.{HasAnswer}
+use Rattle.served_told.specs.failed_told.specs.failed_reasons.specs.CallsEndedByReading.{EndedByReading}
 use Rattle.calls_done.proofs.KnownCallRun.{Known, IsOfCall}
 use Rattle.calls_done.specs.OwedToCalls.{GivesWell}
 use Rattle.callless_fits.proofs.EverySendPlaced.{run_of, Names, Words, links, task_at, said_or_placed_at, find_none, life_low}

@@ -1,9 +1,9 @@
 pub mod OwedToCalls
 pub mod FirstAttempts
-pub use Rattle.failed_told.specs.attempts_told
-pub use Rattle.failed_told.specs.call_whys
-pub use Rattle.failed_told.specs.failed_ends
-pub use Rattle.failed_told.specs.failed_reasons
-pub use Rattle.failed_told
+pub use Rattle.served_told.specs.failed_told.specs.attempts_told
+pub use Rattle.served_told.specs.failed_told.specs.call_whys
+pub use Rattle.served_told.specs.failed_told.specs.failed_ends
+pub use Rattle.served_told.specs.failed_told.specs.failed_reasons
+pub use Rattle.served_told.specs.failed_told
 pub use Rattle.served_told
-pub use Rattle.failed_told.specs.Below
+pub use Rattle.served_told.specs.failed_told.specs.Below

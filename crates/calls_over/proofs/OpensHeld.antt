@@ -12,7 +12,7 @@ use Rattle.sock_model.specs.declared.view.Hand.{Hand}
 use Rattle.sock_model.specs.declared.view.View.{View}
 use Rattle.sock_model.specs.ChainRows.{with_claim, entry_of, more, queued, righted, taken_right, ready_claim, filled_claim}
 use Rattle.sock_steps.proofs.SumsAsMarksChange.{either_way}
-use Rattle.seat_programs.specs.TableSteps.{TableStep, ClaimRequest, PutMessage, Unconnect, SwapHead}
+use Rattle.seat_programs.specs.TableSteps.{TableStep, OnChain, OnMessage, ClaimRequest, PutMessage, Unconnect, SwapHead}
 use Rattle.seat_programs.specs.Cores.{Core, found_at}
 use Rattle.seat_programs.specs.StepTables.{word_of}
 use Rattle.seat_programs.specs.Ticks.{Moment, IsAnswered, AreAnswered, ticked}
@@ -46,10 +46,10 @@ module _ (e : Entry) where
 
   -- a step keeps it
   row_there : (p : Plan) (v : View) (found : ℕ) (hand : Hand) (call : TableStep) → IsThere v.lists → IsThere (row p call found hand v).lists
-  row_there p v found hand (ClaimRequest id q) h = either_way (found % 2 == 0) _ v (λ (w : View). IsThere w.lists) h h
-  row_there p v found hand (PutMessage q heading bytes) h = claim_way (λ (w : View). IsThere w.lists) v.claims (λ c. with_claim v (filled_claim c heading bytes)) v h (λ c. h)
-  row_there p v found hand (Unconnect q) h = claim_way (λ (w : View). IsThere w.lists) v.claims (λ c. with_claim v (ready_claim c)) v h (λ c. h)
-  row_there p v found hand (SwapHead i own) h = claim_way (λ (w : View). IsThere w.lists) v.claims (exchanged found hand v) v h
+  row_there p v found hand (OnChain (ClaimRequest id q)) h = either_way (found % 2 == 0) _ v (λ (w : View). IsThere w.lists) h h
+  row_there p v found hand (OnMessage (PutMessage q heading bytes)) h = claim_way (λ (w : View). IsThere w.lists) v.claims (λ c. with_claim v (filled_claim c heading bytes)) v h (λ c. h)
+  row_there p v found hand (OnChain (Unconnect q)) h = claim_way (λ (w : View). IsThere w.lists) v.claims (λ c. with_claim v (ready_claim c)) v h (λ c. h)
+  row_there p v found hand (OnChain (SwapHead i own)) h = claim_way (λ (w : View). IsThere w.lists) v.claims (exchanged found hand v) v h
       (λ c. either_way (nat_lt found IDLE) (queued v c found) (righted v c found hand.took hand.next) (λ (w : View). IsThere w.lists) (more_there v.lists (entry_of c found) h) (more_there v.lists (entry_of c (found - IDLE)) h))
   row_there p v found hand call h = subst IsThere (sym (row_same v p found hand call refl).1) h
 

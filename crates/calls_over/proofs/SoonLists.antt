@@ -14,7 +14,7 @@ use Rattle.sock_model.specs.declared.view.View.{View}
 use Rattle.sock_model.specs.Authors.{pick}
 use Rattle.sock_model.specs.ChainRows.{more, entry_of, queued, righted}
 use Rattle.sock_model.specs.LawfulSockets.{Lawful}
-use Rattle.seat_programs.specs.TableSteps.{TableStep, SwapHead}
+use Rattle.seat_programs.specs.TableSteps.{TableStep, OnChain, SwapHead}
 use Rattle.seat_programs.specs.Cores.{Core, found_at}
 use Rattle.seat_programs.specs.StepTables.{word_of}
 use Rattle.seat_programs.specs.Ticks.{Moment, IsAnswered, AreAnswered, ticked}
@@ -63,7 +63,7 @@ more_lists (y ∷ xs) x (suc a) n l e at there = (l, at, there)
 
 -- a step leaves the lists, or adds an entry to one
 row_grows : (p : Plan) (v : View) (found : ℕ) (hand : Hand) (call : TableStep) → GrowsTo v.lists (row p call found hand v).lists
-row_grows p v found hand (SwapHead i own) = by_claims v.claims
+row_grows p v found hand (OnChain (SwapHead i own)) = by_claims v.claims
   where
     by_head : (b : Bool) (c : Claim) → GrowsTo v.lists (cond b (queued v c found) (righted v c found hand.took hand.next)).lists
     by_head true c = more_lists v.lists (entry_of c found)

@@ -15,7 +15,7 @@ use Rattle.corr_core.specs.IdSlotWord.{parts, posted_word, code_of}
 use Rattle.sock_message.specs.Asked.{Asked}
 use Rattle.seat_programs.specs.Asides.{Step, Found, PutCall, TakeCall, Taking}
 use Rattle.seat_programs.specs.FoundAndChangedAside.{call_at, found_in}
-use Rattle.seat_programs.specs.TableSteps.{TableStep, CreateLife}
+use Rattle.seat_programs.specs.TableSteps.{TableStep, OnSlot, CreateLife}
 use Rattle.seat_programs.specs.Cores.{Calls, Core, SeatState, resolved, said, next_step}
 use Rattle.seat_programs.specs.SlotFreedByDrop.{call_in}
 use Rattle.seat_programs.specs.LoopHeads.{Retry, Posts, Unlocks, Decides, Locks, Opens, Reads, Discards, HasEnded, Has}
@@ -80,7 +80,7 @@ module _ (S : ℕ → Type 0) where
   unsaid n none_ ws _ x os = absurd x
 
   calm_found : (call : TableStep) (next : ℕ → Program) → C (Do call next) → (found : ℕ) → C (next found)
-  calm_found (CreateLife i k) next x = absurd x
+  calm_found (OnSlot (CreateLife i k)) next x = absurd x
   calm_found call next x = x
 
   -- the calls at home are these
@@ -96,7 +96,7 @@ module _ (S : ℕ → Type 0) where
   no_birth (Do call next) x = none_born call next x
     where
       none_born : (call : TableStep) (next : ℕ → Program) → C (Do call next) → born_of (std.Some call) ≡ []
-      none_born (CreateLife i k) next x = absurd x
+      none_born (OnSlot (CreateLife i k)) next x = absurd x
       none_born _ next x = refl
   no_birth (Say o outcome next) x = refl
   no_birth (Aside step next) x = refl

@@ -4,7 +4,7 @@ use Rattle.corr_core.specs.IdSlotWord.{parts}
 use Rattle.corr_core.specs.EndedByRangeOrAttempt.{ends_call}
 use Rattle.sock_message.specs.Asked.{Asked}
 use Rattle.seat_programs.specs.Asides.{Found, PutCall, TakeCall}
-use Rattle.seat_programs.specs.TableSteps.{CreateLife}
+use Rattle.seat_programs.specs.TableSteps.{OnSlot, CreateLife}
 use Rattle.seat_programs.specs.LoopHeads.{Posts, Decides, Locks, Opens, Reads, Discards, Posting, HasEnded, Locking, Ended}
 use Rattle.sock_words.specs.ErrorCodes.{is_final}
 use Rattle.seat_programs.specs.Programs.{Program, Do, Say, Rest, Aside, Round}
@@ -12,7 +12,7 @@ use Rattle.seat_programs.specs.Programs.{Program, Do, Say, Rest, Aside, Round}
 -- where the calls at home are of these operations: the program makes no life, puts no call home, ends each call on which it decides, and says outcomes of these operations alone
 module _ (S : ℕ → Type 0) where
   abbrev pub IsCalm : Program → Type 0
-  IsCalm (Do (CreateLife i k) next) = ⊥
+  IsCalm (Do (OnSlot (CreateLife i k)) next) = ⊥
   IsCalm (Do call next) = (found : ℕ) → IsCalm (next found)
   IsCalm (Say o outcome next) = S o × IsCalm next
   IsCalm (Aside (PutCall i asked) next) = ⊥

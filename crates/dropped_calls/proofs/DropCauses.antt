@@ -3,8 +3,8 @@ use Rattle.std.proofs.Common.{◌≡◌, ℕ, ◌+◌, ◌<◌, ◌≤◌, ◌�
 use Rattle.std.specs.List.{AllByRecursion}
 use Rattle.seat_programs.specs.brpc_model.specs.Items.{Item}
 use Rattle.seat_programs.specs.brpc_model.specs.Operations.{Turn}
-use Rattle.refused_attempts.specs.Below.script_facts.proofs.ReadScriptFacts.{InRange}
-use Rattle.refused_attempts.specs.Below.script_facts.proofs.Targets.{AreThere}
+use Rattle.ended_calls.specs.refused_attempts.specs.Below.script_facts.proofs.ReadScriptFacts.{InRange}
+use Rattle.ended_calls.specs.refused_attempts.specs.Below.script_facts.proofs.Targets.{AreThere}
 use Rattle.corr_core.specs.IdSlotWord.{code_of, attempt_of}
 use Rattle.sock_message.specs.Asked.{name_of}
 use Rattle.seat_programs.specs.declared.task.Op.TheVariants as ops
@@ -14,19 +14,19 @@ use Rattle.seat_programs.specs.Tasks.{id_plan_of}
 use Rattle.seat_programs.specs.ScriptSetupToEnding.{all_tasks, IsRunWithCalls}
 use Rattle.seat_programs.specs.Explained.{IsTask, Made}
 use Rattle.seat_programs.specs.ExplainedCalls.{Accepted, Order, Fixed, StandsAt, IsSent, OfSend, OfCall, StandsOn, IsDropped, IsFailing, MayBeOn, IsFailedWith, WhyLost, WasFailing, FailedBy, BySocket, ByFail}
-use Rattle.refused_attempts.specs.Below.outcome_stories.specs.StoryStepCauses.{Asks}
-use Rattle.refused_attempts.specs.Below.outcome_stories.proofs.Members.{all_in, contains_in, get_all, get_within}
-use Rattle.refused_attempts.specs.Below.outcome_ticks.proofs.TableTasksDistinct.{one_link, one_task}
-use Rattle.refused_attempts.specs.Below.joint_runs.proofs.RunsOfBothTables.{AreMade}
-use Rattle.refused_attempts.specs.Below.call_owing.specs.LivesOfLinks.{ClosesInRun}
-use Rattle.refused_attempts.specs.Below.call_stories.specs.PostsOfRun.{Post}
-use Rattle.refused_attempts.specs.Below.story_steps.proofs.ClientCauses.{FitsOp}
-use Rattle.refused_attempts.specs.Below.story_ticks.proofs.ScriptTasksFitStory.{begins}
-use Rattle.refused_attempts.specs.accept_counts.proofs.Grounds.{setting}
-use Rattle.refused_attempts.specs.accept_counts.specs.PostCauses.{PostCause, OfDrop, OfFail}
-use Rattle.refused_attempts.specs.sent_once.proofs.OtherTasksBesideCalls.{orders_here}
-use Rattle.refused_attempts.specs.accept_counts.proofs.RunsKeepAttemptLaw.{AreLabelledIn}
-use Rattle.refused_attempts.specs.sent_once.proofs.SocketOperationsTold.{orders_are}
+use Rattle.ended_calls.specs.refused_attempts.specs.Below.outcome_stories.specs.StoryStepCauses.{Asks}
+use Rattle.ended_calls.specs.refused_attempts.specs.Below.outcome_stories.proofs.Members.{all_in, contains_in, get_all, get_within}
+use Rattle.ended_calls.specs.refused_attempts.specs.Below.outcome_ticks.proofs.TableTasksDistinct.{one_link, one_task}
+use Rattle.ended_calls.specs.refused_attempts.specs.Below.joint_runs.proofs.RunsOfBothTables.{AreMade}
+use Rattle.ended_calls.specs.refused_attempts.specs.Below.call_owing.specs.LivesOfLinks.{ClosesInRun}
+use Rattle.ended_calls.specs.refused_attempts.specs.Below.call_stories.specs.PostsOfRun.{Post}
+use Rattle.ended_calls.specs.refused_attempts.specs.Below.story_steps.proofs.ClientCauses.{FitsOp}
+use Rattle.ended_calls.specs.refused_attempts.specs.Below.story_ticks.proofs.ScriptTasksFitStory.{begins}
+use Rattle.ended_calls.specs.refused_attempts.specs.accept_counts.proofs.Grounds.{setting}
+use Rattle.ended_calls.specs.refused_attempts.specs.accept_counts.specs.PostCauses.{PostCause, OfDrop, OfFail}
+use Rattle.ended_calls.specs.refused_attempts.specs.sent_once.proofs.OtherTasksBesideCalls.{orders_here}
+use Rattle.ended_calls.specs.refused_attempts.specs.accept_counts.proofs.RunsKeepAttemptLaw.{AreLabelledIn}
+use Rattle.ended_calls.specs.refused_attempts.specs.sent_once.proofs.SocketOperationsTold.{orders_are}
 use Rattle.dropped_calls.proofs.DropOfRun.{IsDroppedOn, IsFailedOn, DropOf}
 
 module _ (script : List Item) (made : AreMade script) (turns : List Turn) (core : Core) (is : IsRunWithCalls script turns core) (closes : ClosesInRun script turns core is) (ids : ℕ → ℕ) (labelled : AreLabelledIn ids script turns core is) (fixed : Fixed) (gave : ℕ → List ℕ) where

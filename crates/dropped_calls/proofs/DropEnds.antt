@@ -14,27 +14,27 @@ use Rattle.sock_model.specs.References.{slot_facts}
 use Rattle.sock_model.specs.SocketSlotLaw.{live}
 use Rattle.seat_programs.specs.Asides.{Taking}
 use Rattle.seat_programs.specs.FoundAndChangedAside.{calls_after}
-use Rattle.seat_programs.specs.TableSteps.{TableStep, StoreCode, LoadCode}
+use Rattle.seat_programs.specs.TableSteps.{TableStep, OnSlot, StoreCode, LoadCode}
 use Rattle.seat_programs.specs.Cores.{Calls, Core, SeatState, found_at, words_after, homes_after, hand_after, lies_at, first_of, others_of, link_place, resolved, waiting_at, next_step, with_seat}
 use Rattle.seat_programs.specs.StepTables.{word_of, word_after}
 use Rattle.seat_programs.specs.Programs.{Program, Do, Rest, TakeMessage, TakeHome, PutHome, PutBytes, AskReady, Aside}
 use Rattle.seat_programs.specs.ReaderProgram.{reader}
 use Rattle.seat_programs.specs.Ticks.{Moment, IsAnswered, AreAnswered, fed, with_places, onto_first, ticked, run}
-use Rattle.refused_attempts.specs.Below.programs_allowed.specs.program_steps.specs.ProgramGoesOn.{GoesOn}
+use Rattle.ended_calls.specs.refused_attempts.specs.Below.programs_allowed.specs.program_steps.specs.ProgramGoesOn.{GoesOn}
 use Rattle.seat_programs.specs.StepTables.{May}
-use Rattle.refused_attempts.specs.Below.programs_allowed.specs.program_steps.specs.SoundSeats.{state, Sound, IsFitting, AreFitting, views_after, views_along}
-use Rattle.refused_attempts.specs.Below.programs_allowed.specs.program_steps.proofs.TickCases.{goes_first, tick_cases}
-use Rattle.refused_attempts.specs.Below.programs_allowed.specs.sock_runs.proofs.LinkTicks.{RetriesGo}
-use Rattle.refused_attempts.specs.Below.programs_allowed.specs.program_walks.proofs.OpensStay.{run_word}
-use Rattle.refused_attempts.specs.Below.programs_allowed.specs.program_walks.proofs.Recorded.{Recorded, recorded_ticks}
-use Rattle.refused_attempts.specs.Below.programs_allowed.specs.sock_runs.proofs.TicksKeepSeatsSound.{sound_ticks}
-use Rattle.refused_attempts.specs.accept_counts.specs.RefusedOrDropped.{DidStep, DidAt, DidIn}
-use Rattle.refused_attempts.specs.accept_counts.proofs.Closers.{Ends, Calm, Codes, codes_more, calm_first, stores_code}
-use Rattle.refused_attempts.specs.sent_once.proofs.SourcesOfSocketCodes.{Failing, NoFail, Fails, Stores, codes_first, codes_next}
-use Rattle.refused_attempts.specs.sent_once.proofs.DropTicks.{Behind, stores_none, stores_own, behind}
-use Rattle.refused_attempts.specs.sent_once.proofs.DropWords.{version_in, code_in, held_version, coding_version, live_none, code_stays}
-use Rattle.refused_attempts.specs.accept_counts.proofs.ReadingsAtTicks.{State, found_by}
-use Rattle.refused_attempts.specs.accept_counts.proofs.ReaderRuns.{Keeps, founds, keeps_ticks, keeps_same, reader_of, view_at, state_at}
+use Rattle.ended_calls.specs.refused_attempts.specs.Below.programs_allowed.specs.program_steps.specs.SoundSeats.{state, Sound, IsFitting, AreFitting, views_after, views_along}
+use Rattle.ended_calls.specs.refused_attempts.specs.Below.programs_allowed.specs.program_steps.proofs.TickCases.{goes_first, tick_cases}
+use Rattle.ended_calls.specs.refused_attempts.specs.Below.programs_allowed.specs.sock_runs.proofs.LinkTicks.{RetriesGo}
+use Rattle.ended_calls.specs.refused_attempts.specs.Below.programs_allowed.specs.program_walks.proofs.OpensStay.{run_word}
+use Rattle.ended_calls.specs.refused_attempts.specs.Below.programs_allowed.specs.program_walks.proofs.Recorded.{Recorded, recorded_ticks}
+use Rattle.ended_calls.specs.refused_attempts.specs.Below.programs_allowed.specs.sock_runs.proofs.TicksKeepSeatsSound.{sound_ticks}
+use Rattle.ended_calls.specs.refused_attempts.specs.accept_counts.specs.RefusedOrDropped.{DidStep, DidAt, DidIn}
+use Rattle.ended_calls.specs.refused_attempts.specs.accept_counts.proofs.Closers.{Ends, Calm, Codes, codes_more, calm_first, stores_code}
+use Rattle.ended_calls.specs.refused_attempts.specs.sent_once.proofs.SourcesOfSocketCodes.{Failing, NoFail, Fails, Stores, codes_first, codes_next}
+use Rattle.ended_calls.specs.refused_attempts.specs.sent_once.proofs.DropTicks.{Behind, stores_none, stores_own, behind}
+use Rattle.ended_calls.specs.refused_attempts.specs.sent_once.proofs.DropWords.{version_in, code_in, held_version, coding_version, live_none, code_stays}
+use Rattle.ended_calls.specs.refused_attempts.specs.accept_counts.proofs.ReadingsAtTicks.{State, found_by}
+use Rattle.ended_calls.specs.refused_attempts.specs.accept_counts.proofs.ReaderRuns.{Keeps, founds, keeps_ticks, keeps_same, reader_of, view_at, state_at}
 use Rattle.seat_programs.specs.LoopRounds.{first_step}
 
 -- ## What clients and the ending store
@@ -52,7 +52,7 @@ module _ (P : ℕ → Type 0) (gone : P 1009) where
     pub has : Has failing
 
   -- a code that it stores next
-  pub those : (f : Failing) → Has f → (i h code : ℕ) (next : ℕ → Program) → Stores (λ o code. P code) P f (Do (StoreCode i h code) next) → P code
+  pub those : (f : Failing) → Has f → (i h code : ℕ) (next : ℕ → Program) → Stores (λ o code. P code) P f (Do (OnSlot (StoreCode i h code)) next) → P code
   those f has i h code next (inl x, after) = x
   those f has i h code next (inr x, after) = subst Has x.1 has
 
@@ -151,16 +151,16 @@ module _ (p : Plan) (calls os : List ℕ) (in_os : (k o : ℕ) → get_elem? os 
 
       module _ (law : EndsLaw c vs taken) where
         -- a code that a seat stores
-        module _ (seat : SeatState) (v : View) (at : get_elem? c.seats m.seat ≡ some seat) (here : get_elem? vs m.seat ≡ some v) (j g code : ℕ) (next : ℕ → Program) (is : first_step seat.program ≡ Do (StoreCode j g code) next) (may : May p v (StoreCode j g code)) where
+        module _ (seat : SeatState) (v : View) (at : get_elem? c.seats m.seat ≡ some seat) (here : get_elem? vs m.seat ≡ some v) (j g code : ℕ) (next : ℕ → Program) (is : first_step seat.program ≡ Do (OnSlot (StoreCode j g code)) next) (may : May p v (OnSlot (StoreCode j g code))) where
           by_client : m.seat < 32 → P code
-          by_client low = let s = program_of P gone m.seat p c vs sound m answered (law.clients m.seat low) seat at (Do (StoreCode j g code) next) is refl in those P gone s.0 s.1 j g code next s.2
+          by_client low = let s = program_of P gone m.seat p c vs sound m answered (law.clients m.seat low) seat at (Do (OnSlot (StoreCode j g code)) next) is refl in those P gone s.0 s.1 j g code next s.2
 
           by_reader : 32 ≤ m.seat → IsReaders c taken j g code
           by_reader high = let r = reader_of p calls os in_os Odd Lasts ends c vs taken law.keeps m.seat seat at high in by r (state_at p calls os in_os Odd Lasts ends c vs taken law.keeps m.seat seat v at here r)
             where
               by : (r : (n : ℕ) × (o : ℕ) × (m.seat ≡ 32 + n) × (get_elem? os n ≡ some o)) → State p calls r.0 r.1 (in_os r.0 r.1 r.3) Odd Lasts (ends r.0) (get_or c.words (open_index p r.1) 0) (taken r.0) seat.program v → IsReaders c taken j g code
-              by r (none_, inl s) = absurd (let z : first_step (reader calls r.0 r.1) ≡ Do (StoreCode j g code) next = sym (ap first_step s.0) ∙ is in cc)
-              by r (none_, inr (inl s)) = absurd (let z : Rest ≡ Do (StoreCode j g code) next = sym (ap first_step s.0) ∙ is in cc)
+              by r (none_, inl s) = absurd (let z : first_step (reader calls r.0 r.1) ≡ Do (OnSlot (StoreCode j g code)) next = sym (ap first_step s.0) ∙ is in cc)
+              by r (none_, inr (inl s)) = absurd (let z : Rest ≡ Do (OnSlot (StoreCode j g code)) next = sym (ap first_step s.0) ∙ is in cc)
               by r (none_, inr (inr s)) = let x = stores_code r.0 s.id Odd Lasts s.held (taken r.0) j g code next (subst (Calm r.0 s.id Odd Lasts s.held (taken r.0)) is (calm_first r.0 s.id Odd Lasts (ends r.0 s.id) s.held (taken r.0) seat.program s.calm)) in
                   record { link = r.0; operation = r.1; id = s.id; at = r.3; word = s.word; socket = s.socket; slot = x.1; version = x.2; codes = x.0 }
 
@@ -193,10 +193,10 @@ module _ (p : Plan) (calls os : List ℕ) (in_os : (k o : ℕ) → get_elem? os 
         }
 
         -- a code that was found in the tick
-        pub found_whose : (seat i h code : ℕ) → DidAt p c m seat (DidStep (LoadCode i h) code) → code ≢ 0 → Whose c taken i h code
+        pub found_whose : (seat i h code : ℕ) → DidAt p c m seat (DidStep (OnSlot (LoadCode i h)) code) → code ≢ 0 → Whose c taken i h code
         found_whose seat i h code d some_ = by d.1 (subst (λ n. get_elem? c.seats n ≡ some d.1) (sym d.0) d.3) d.2 d.4 d.5
           where
-            by : (s : SeatState) → get_elem? c.seats m.seat ≡ some s → (next : ℕ → Program) → first_step s.program ≡ Do (LoadCode i h) next → code ≡ found_at c.words (word_of p (LoadCode i h)) → Whose c taken i h code
+            by : (s : SeatState) → get_elem? c.seats m.seat ≡ some s → (next : ℕ → Program) → first_step s.program ≡ Do (OnSlot (LoadCode i h)) next → code ≡ found_at c.words (word_of p (OnSlot (LoadCode i h))) → Whose c taken i h code
             by s at next is found = let v = view_at p calls os in_os Odd Lasts ends c vs sound m.seat s at in
                 let may = (subst (GoesOn p v.0) is (goes_first p v.0 s.program (sound.seats m.seat s v.0 at v.1).goes_on)).0 in
                 let held = held_version p c vs sound m.seat v.0 v.1 i h may.0 may.1 in
@@ -210,7 +210,7 @@ module _ (p : Plan) (calls os : List ℕ) (in_os : (k o : ℕ) → get_elem? os 
     pub record EndsAlong (c : Core) (vs : List View) (taken : ℕ → List Taking) (ms : List Moment) : Type 0 where
       pub after : EndsLaw (run p c ms) (views_along p c vs ms) (λ n. taken n ++ founds p calls os in_os Odd Lasts ends c ms n)
       pub stay : (j h code : ℕ) → Whose c taken j h code → Whose (run p c ms) (λ n. taken n ++ founds p calls os in_os Odd Lasts ends c ms n) j h code
-      pub told : (seat i h code : ℕ) → DidIn p c ms seat (DidStep (LoadCode i h) code) → code ≢ 0 → Whose (run p c ms) (λ n. taken n ++ founds p calls os in_os Odd Lasts ends c ms n) i h code
+      pub told : (seat i h code : ℕ) → DidIn p c ms seat (DidStep (OnSlot (LoadCode i h)) code) → code ≢ 0 → Whose (run p c ms) (λ n. taken n ++ founds p calls os in_os Odd Lasts ends c ms n) i h code
 
     law_same : (c : Core) (vs : List View) (taken taken' : ℕ → List Taking) → ((n : ℕ) → taken n ≡ taken' n) → EndsLaw c vs taken → EndsLaw c vs taken'
     law_same c vs taken taken' same l = record { keeps = keeps_same p calls os in_os Odd Lasts ends c vs taken taken' same l.keeps; clients = l.clients; known = λ j h inside even version some_. whose_same c taken taken' same j h (code_in c.words j) (l.known j h inside even version some_) }

@@ -16,7 +16,7 @@ use Rattle.seat_programs.specs.declared.task.Op.TheVariants as ops
 use Rattle.seat_programs.specs.declared.task.Task.{Task}
 use Rattle.seat_programs.specs.declared.task.Sizes.{Sizes}
 use Rattle.seat_programs.specs.Asides.{Taking}
-use Rattle.seat_programs.specs.TableSteps.{LoadCode}
+use Rattle.seat_programs.specs.TableSteps.{OnSlot, LoadCode}
 use Rattle.seat_programs.specs.ClientProgram.{client_from, ending_of}
 use Rattle.seat_programs.specs.Cores.{Core, SeatState, resolved, waiting_at, next_step}
 use Rattle.seat_programs.specs.LoopHeads.{Retry}
@@ -24,19 +24,19 @@ use Rattle.seat_programs.specs.Programs.{Program}
 use Rattle.seat_programs.specs.Tasks.{opens, calls, plan_of, id_plan_of}
 use Rattle.seat_programs.specs.Ticks.{Moment, run}
 use Rattle.seat_programs.specs.ScriptSetupToEnding.{sizes_of, programs, readers_from, all_programs, all_tasks, opened, set_up, played, is_ending, IsRunWithCalls}
-use Rattle.refused_attempts.specs.Below.programs_allowed.specs.program_steps.specs.SoundSeats.{views_along}
-use Rattle.refused_attempts.specs.Below.programs_allowed.specs.program_walks.proofs.OpenedLivesRecorded.{mapped}
-use Rattle.refused_attempts.specs.Below.programs_allowed.specs.program_walks.proofs.WholeScriptSound.{IsListed, closing_of, rested_of, views_played, views_closed, set_up_answered, end_answered, set_up_sound, closing_sound, closed_sound, recorded_opened, recorded_set_up, recorded_closing, recorded_closed}
-use Rattle.refused_attempts.specs.Below.outcome_stories.specs.OperationStories.{In}
-use Rattle.refused_attempts.specs.Below.programs_allowed.proofs.WordsAtBeginning as clients_begin
-use Rattle.refused_attempts.specs.Below.joint_runs.proofs.RunsOfBothTables.{AreMade, first_views}
-use Rattle.refused_attempts.specs.accept_counts.specs.RefusedOrDropped.{DidStep, DidEarly, DidInRun}
-use Rattle.refused_attempts.specs.sent_once.proofs.SourcesOfSocketCodes.{NoFail, Stores, OwnsFail, client_codes, ending_codes, codes_next}
+use Rattle.ended_calls.specs.refused_attempts.specs.Below.programs_allowed.specs.program_steps.specs.SoundSeats.{views_along}
+use Rattle.ended_calls.specs.refused_attempts.specs.Below.programs_allowed.specs.program_walks.proofs.OpenedLivesRecorded.{mapped}
+use Rattle.ended_calls.specs.refused_attempts.specs.Below.programs_allowed.specs.program_walks.proofs.WholeScriptSound.{IsListed, closing_of, rested_of, views_played, views_closed, set_up_answered, end_answered, set_up_sound, closing_sound, closed_sound, recorded_opened, recorded_set_up, recorded_closing, recorded_closed}
+use Rattle.ended_calls.specs.refused_attempts.specs.Below.outcome_stories.specs.OperationStories.{In}
+use Rattle.ended_calls.specs.refused_attempts.specs.Below.programs_allowed.proofs.WordsAtBeginning as clients_begin
+use Rattle.ended_calls.specs.refused_attempts.specs.Below.joint_runs.proofs.RunsOfBothTables.{AreMade, first_views}
+use Rattle.ended_calls.specs.refused_attempts.specs.accept_counts.specs.RefusedOrDropped.{DidStep, DidEarly, DidInRun}
+use Rattle.ended_calls.specs.refused_attempts.specs.sent_once.proofs.SourcesOfSocketCodes.{NoFail, Stores, OwnsFail, client_codes, ending_codes, codes_next}
 use Rattle.dropped_calls.proofs.DropEnds.{StoresThose, EndsLaw, EndsAlong, Whose, ends_along}
-use Rattle.refused_attempts.specs.accept_counts.proofs.EarlyClosedSockets.{Any, ends_anyhow, start, go, fitting, known, before_readers}
-use Rattle.refused_attempts.specs.Below.call_stories.proofs.RunTicks.{in_setup, in_clients, in_closing}
+use Rattle.ended_calls.specs.refused_attempts.specs.accept_counts.proofs.EarlyClosedSockets.{Any, ends_anyhow, start, go, fitting, known, before_readers}
+use Rattle.ended_calls.specs.refused_attempts.specs.Below.call_stories.proofs.RunTicks.{in_setup, in_clients, in_closing}
 use Rattle.ended_calls.proofs.EndedWhole.{opened_keeps, closing_keeps, h₁, h₂, h₃, h₄}
-use Rattle.refused_attempts.specs.Below.owned_ids.proofs.OpensStored.{place_at}
+use Rattle.ended_calls.specs.refused_attempts.specs.Below.owned_ids.proofs.OpensStored.{place_at}
 
 module _ (script : List Item) (made : AreMade script) (turns : List Turn) (core : Core) (is : IsRunWithCalls script turns core) (P : ℕ → Type 0) (gone : P 1009)
     (fits : (j : ℕ) (ts : List Task) → slice_get (all_tasks script) j ≡ Some ts → (t : Task) → In t ts → (name code : ℕ) → t.op ≡ ops.Fail name code → P code) where
@@ -116,7 +116,7 @@ module _ (script : List Item) (made : AreMade script) (turns : List Turn) (core 
       (recorded_set_up script made.are (first_views script) (start script made turns core is) (go script made turns core is) turns core is (fitting script made turns core is)) tt setup_goes.after
 
   -- whose a code is that was found before the ending
-  pub whose_early : (seat i v code : ℕ) → DidEarly script turns core is seat (DidStep (LoadCode i v) code) → code ≢ 0 → WhoseIn (rested_of script turns core is) (h₂ script made turns core is) i v code
+  pub whose_early : (seat i v code : ℕ) → DidEarly script turns core is seat (DidStep (OnSlot (LoadCode i v)) code) → code ≢ 0 → WhoseIn (rested_of script turns core is) (h₂ script made turns core is) i v code
   whose_early seat i v code (inl d) some_ = clients_go.stay i v code (setup_goes.told seat i v code d some_)
   whose_early seat i v code (inr d) some_ = clients_go.told seat i v code d some_
 
@@ -178,7 +178,7 @@ module _ (script : List Item) (made : AreMade script) (turns : List Turn) (core 
     at_rested i v code w = at_closed i v code (closing_goes.stay i v code (same_words (played script is.setup (is.scheduled ++ is.later)) (closing_of script turns core is) refl (h₂ script made turns core is) i v code w))
 
     -- whose a code is that was found at any time of the run
-    pub whose_of_run : (seat i v code : ℕ) → DidInRun script turns core is seat (DidStep (LoadCode i v) code) → code ≢ 0 → WhoseIn core (h₄ script made turns core is) i v code
+    pub whose_of_run : (seat i v code : ℕ) → DidInRun script turns core is seat (DidStep (OnSlot (LoadCode i v)) code) → code ≢ 0 → WhoseIn core (h₄ script made turns core is) i v code
     whose_of_run seat i v code (inl d) some_ = at_rested i v code (whose_early seat i v code d some_)
     whose_of_run seat i v code (inr (inl d)) some_ = at_closed i v code (closing_goes.told seat i v code d some_)
     whose_of_run seat i v code (inr (inr d)) some_ = subst (λ c. WhoseIn c (h₄ script made turns core is) i v code) (sym is.is_end) (final_goes.told seat i v code d some_)

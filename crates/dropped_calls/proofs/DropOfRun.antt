@@ -19,62 +19,62 @@ use Rattle.sock_model.specs.declared.view.View.{View}
 use Rattle.sock_model.specs.Entries.{on}
 use Rattle.sock_model.specs.SocketTableLayout.{open_index, place_index, request_index}
 use Rattle.sock_model.specs.Rule.{lists_of}
-use Rattle.refused_attempts.specs.Below.sock_steps.proofs.Positions.{few_log, on_shorter}
-use Rattle.refused_attempts.specs.Below.slot_steps.proofs.RuleNumbers.{life_le, life_is}
-use Rattle.refused_attempts.specs.Below.slot_steps.proofs.SlotWeightSums.{total_bound}
-use Rattle.refused_attempts.specs.Below.chain_steps.proofs.UntouchedByChainSteps.{in_log}
+use Rattle.ended_calls.specs.refused_attempts.specs.Below.sock_steps.proofs.Positions.{few_log, on_shorter}
+use Rattle.ended_calls.specs.refused_attempts.specs.Below.slot_steps.proofs.RuleNumbers.{life_le, life_is}
+use Rattle.ended_calls.specs.refused_attempts.specs.Below.slot_steps.proofs.SlotWeightSums.{total_bound}
+use Rattle.ended_calls.specs.refused_attempts.specs.Below.chain_steps.proofs.UntouchedByChainSteps.{in_log}
 use Rattle.corr_core.specs.IdSlotWord.{error_of, code_of, attempt_of}
 use Rattle.corr_core.proofs.NoteSums.{at_length}
 use Rattle.sock_message.specs.Asked.{Asked}
 use Rattle.seat_programs.specs.declared.task.Op.TheVariants as ops
 use Rattle.seat_programs.specs.declared.task.Task.{Task}
-use Rattle.seat_programs.specs.TableSteps.{CreateLife, SetOdd, ClaimRequest, LoadCode, DropPlace}
+use Rattle.seat_programs.specs.TableSteps.{OnSlot, OnChain, OnPlace, CreateLife, SetOdd, ClaimRequest, LoadCode, DropPlace}
 use Rattle.seat_programs.specs.Cores.{Core}
 use Rattle.seat_programs.specs.Tasks.{opens, plan_of, id_plan_of}
 use Rattle.seat_programs.specs.ScriptSetupToEnding.{all_tasks, IsRunWithCalls}
 use Rattle.seat_programs.specs.Explained.{AreTasks, IsTask, Became, Made}
 use Rattle.seat_programs.specs.ExplainedCalls.{Accepted, Order, IsAt}
 use Rattle.seat_programs.specs.Writings.{Puts}
-use Rattle.refused_attempts.specs.Below.programs_allowed.specs.program_steps.specs.SoundSeats.{state, Sound, AllRest, MOST_PLACES}
-use Rattle.refused_attempts.specs.Below.programs_allowed.specs.program_steps.specs.ProgramGoesOn.{GoesOn, HasNothing}
+use Rattle.ended_calls.specs.refused_attempts.specs.Below.programs_allowed.specs.program_steps.specs.SoundSeats.{state, Sound, AllRest, MOST_PLACES}
+use Rattle.ended_calls.specs.refused_attempts.specs.Below.programs_allowed.specs.program_steps.specs.ProgramGoesOn.{GoesOn, HasNothing}
 use Rattle.sock_model.specs.References.{slot_facts}
 use Rattle.sock_model.specs.SocketSlotLaw.{SlotLaw, live, count}
 use Rattle.sock_model.specs.MarkWeights.{is_born}
-use Rattle.refused_attempts.specs.Below.slot_steps.proofs.SlotLawClauses.{taken_for}
-use Rattle.refused_attempts.specs.Below.programs_allowed.specs.sock_runs.proofs.LinksStay.{IsGiven}
-use Rattle.refused_attempts.specs.Below.programs_allowed.specs.program_steps.proofs.SlotWordBounds.{lives_le}
-use Rattle.refused_attempts.specs.Below.programs_allowed.specs.program_walks.proofs.Recorded.{Recorded, Stands, run_recorded}
-use Rattle.refused_attempts.specs.Below.programs_allowed.specs.program_walks.proofs.Records.{next_stores}
-use Rattle.refused_attempts.specs.Below.programs_allowed.specs.program_walks.proofs.WholeScriptSound.{IsListed, views_closed, views_ended, closed_sound, recorded_closed, ended_sound, end_rests}
-use Rattle.refused_attempts.specs.Below.outcome_stories.specs.StoryStepCauses.{WasGiven, Cause}
-use Rattle.refused_attempts.specs.Below.outcome_stories.specs.Explains.{FailsLife, FailsLink, is_plain, step}
-use Rattle.refused_attempts.specs.Below.outcome_stories.specs.KeptStory.{IsSpoken, StaysUsed, Story}
-use Rattle.refused_attempts.specs.Below.outcome_stories.specs.PlainTasks.{told_tasks_of}
-use Rattle.refused_attempts.specs.Below.outcome_stories.specs.OperationStories.{Event, In, trace_of}
-use Rattle.refused_attempts.specs.Below.outcome_stories.proofs.Delivered.{accepted_at, AreQuiet, requests_used}
-use Rattle.refused_attempts.specs.Below.outcome_causes.proofs.ExplainedOpenings.{are_seats}
-use Rattle.refused_attempts.specs.Below.outcome_ticks.proofs.EventsOfGoodStory.{event, BeforeIn, cause_of, in_marked, birth_adds, marked_given}
-use Rattle.refused_attempts.specs.Below.outcome_causes.proofs.Final.{at_there, idle, final}
-use Rattle.refused_attempts.specs.Below.outcome_ticks.proofs.Lifted.{up, task_up, made_up, made_down}
-use Rattle.refused_attempts.specs.Below.outcome_causes.proofs.LivesByTask.{World, birth_means, task_of, given_made, one_life, odd_means, odd_life, fail_says}
-use Rattle.refused_attempts.specs.Below.outcome_stories.proofs.Members.{all_in, contains_in, in_contains}
-use Rattle.refused_attempts.specs.Below.outcome_ticks.proofs.TableTasksDistinct.{one_task}
-use Rattle.refused_attempts.specs.Below.programs_allowed.specs.SeatOpenings.{all_seats}
-use Rattle.refused_attempts.specs.Below.programs_allowed.proofs.FreshSeatsAtStart.{opening_fresh, opening_claims}
-use Rattle.refused_attempts.specs.Below.joint_runs.proofs.RunsOfBothTables.{AreMade, first_views, joint_runs, joint_bounded}
-use Rattle.refused_attempts.specs.Below.call_owing.specs.LivesOfLinks.{ClosesInRun}
-use Rattle.refused_attempts.specs.Below.call_stories.specs.PostsOfRun.{Post}
-use Rattle.refused_attempts.specs.accept_counts.specs.RefusedOrDropped.{Deed, DidStep, DidRound, DidInRun, IsDrop}
-use Rattle.refused_attempts.specs.sent_once.proofs.OtherTasksBesideCalls.{gave_of_run, fixed_of_run, orders_here}
-use Rattle.refused_attempts.specs.accept_counts.proofs.EarlyClosedSockets.{start, go, fitting}
-use Rattle.refused_attempts.specs.accept_counts.proofs.RunsKeepAttemptLaw.{AreLabelledIn, IsCallOf, end_law}
-use Rattle.refused_attempts.specs.sent_once.proofs.SocketOperationsTold.{owed, narrow, orders_are}
-use Rattle.refused_attempts.specs.sent_once.proofs.SourcesOfSocketCodes.{IsOtherCode}
-use Rattle.refused_attempts.specs.sent_once.proofs.DropPlaces.{log_few}
-use Rattle.refused_attempts.specs.sent_once.proofs.DropRuns.{IsCalls, IsDropAt, Tells}
-use Rattle.refused_attempts.specs.sent_once.proofs.DropTicks.{FailedWith}
-use Rattle.refused_attempts.specs.sent_once.proofs.DropWhole as whole
-use Rattle.refused_attempts.specs.Below.owned_ids.proofs.OpensStored.{place_at}
+use Rattle.ended_calls.specs.refused_attempts.specs.Below.slot_steps.proofs.SlotLawClauses.{taken_for}
+use Rattle.ended_calls.specs.refused_attempts.specs.Below.programs_allowed.specs.sock_runs.proofs.LinksStay.{IsGiven}
+use Rattle.ended_calls.specs.refused_attempts.specs.Below.programs_allowed.specs.program_steps.proofs.SlotWordBounds.{lives_le}
+use Rattle.ended_calls.specs.refused_attempts.specs.Below.programs_allowed.specs.program_walks.proofs.Recorded.{Recorded, Stands, run_recorded}
+use Rattle.ended_calls.specs.refused_attempts.specs.Below.programs_allowed.specs.program_walks.proofs.Records.{next_stores}
+use Rattle.ended_calls.specs.refused_attempts.specs.Below.programs_allowed.specs.program_walks.proofs.WholeScriptSound.{IsListed, views_closed, views_ended, closed_sound, recorded_closed, ended_sound, end_rests}
+use Rattle.ended_calls.specs.refused_attempts.specs.Below.outcome_stories.specs.StoryStepCauses.{WasGiven, Cause}
+use Rattle.ended_calls.specs.refused_attempts.specs.Below.outcome_stories.specs.Explains.{FailsLife, FailsLink, is_plain, step}
+use Rattle.ended_calls.specs.refused_attempts.specs.Below.outcome_stories.specs.KeptStory.{IsSpoken, StaysUsed, Story}
+use Rattle.ended_calls.specs.refused_attempts.specs.Below.outcome_stories.specs.PlainTasks.{told_tasks_of}
+use Rattle.ended_calls.specs.refused_attempts.specs.Below.outcome_stories.specs.OperationStories.{Event, In, trace_of}
+use Rattle.ended_calls.specs.refused_attempts.specs.Below.outcome_stories.proofs.Delivered.{accepted_at, AreQuiet, requests_used}
+use Rattle.ended_calls.specs.refused_attempts.specs.Below.outcome_causes.proofs.ExplainedOpenings.{are_seats}
+use Rattle.ended_calls.specs.refused_attempts.specs.Below.outcome_ticks.proofs.EventsOfGoodStory.{event, BeforeIn, cause_of, in_marked, birth_adds, marked_given}
+use Rattle.ended_calls.specs.refused_attempts.specs.Below.outcome_causes.proofs.Final.{at_there, idle, final}
+use Rattle.ended_calls.specs.refused_attempts.specs.Below.outcome_ticks.proofs.Lifted.{up, task_up, made_up, made_down}
+use Rattle.ended_calls.specs.refused_attempts.specs.Below.outcome_causes.proofs.LivesByTask.{World, birth_means, task_of, given_made, one_life, odd_means, odd_life, fail_says}
+use Rattle.ended_calls.specs.refused_attempts.specs.Below.outcome_stories.proofs.Members.{all_in, contains_in, in_contains}
+use Rattle.ended_calls.specs.refused_attempts.specs.Below.outcome_ticks.proofs.TableTasksDistinct.{one_task}
+use Rattle.ended_calls.specs.refused_attempts.specs.Below.programs_allowed.specs.SeatOpenings.{all_seats}
+use Rattle.ended_calls.specs.refused_attempts.specs.Below.programs_allowed.proofs.FreshSeatsAtStart.{opening_fresh, opening_claims}
+use Rattle.ended_calls.specs.refused_attempts.specs.Below.joint_runs.proofs.RunsOfBothTables.{AreMade, first_views, joint_runs, joint_bounded}
+use Rattle.ended_calls.specs.refused_attempts.specs.Below.call_owing.specs.LivesOfLinks.{ClosesInRun}
+use Rattle.ended_calls.specs.refused_attempts.specs.Below.call_stories.specs.PostsOfRun.{Post}
+use Rattle.ended_calls.specs.refused_attempts.specs.accept_counts.specs.RefusedOrDropped.{Deed, DidStep, DidRound, DidInRun, IsDrop}
+use Rattle.ended_calls.specs.refused_attempts.specs.sent_once.proofs.OtherTasksBesideCalls.{gave_of_run, fixed_of_run, orders_here}
+use Rattle.ended_calls.specs.refused_attempts.specs.accept_counts.proofs.EarlyClosedSockets.{start, go, fitting}
+use Rattle.ended_calls.specs.refused_attempts.specs.accept_counts.proofs.RunsKeepAttemptLaw.{AreLabelledIn, IsCallOf, end_law}
+use Rattle.ended_calls.specs.refused_attempts.specs.sent_once.proofs.SocketOperationsTold.{owed, narrow, orders_are}
+use Rattle.ended_calls.specs.refused_attempts.specs.sent_once.proofs.SourcesOfSocketCodes.{IsOtherCode}
+use Rattle.ended_calls.specs.refused_attempts.specs.sent_once.proofs.DropPlaces.{log_few}
+use Rattle.ended_calls.specs.refused_attempts.specs.sent_once.proofs.DropRuns.{IsCalls, IsDropAt, Tells}
+use Rattle.ended_calls.specs.refused_attempts.specs.sent_once.proofs.DropTicks.{FailedWith}
+use Rattle.ended_calls.specs.refused_attempts.specs.sent_once.proofs.DropWhole as whole
+use Rattle.ended_calls.specs.refused_attempts.specs.Below.owned_ids.proofs.OpensStored.{place_at}
 
 -- the parts of an error
 decodes : (code n : ℕ) → n ≤ 6 → (attempt_of (error_of code n) ≡ n) × (code_of (error_of code n) ≡ code)
@@ -182,8 +182,8 @@ module _ (script : List Item) (made : AreMade script) (turns : List Turn) (core 
   slot_law j l = end_sound.lawful.references.slots j l
 
   -- a request that was found claimed was used
-  word_used : (q i u id found : ℕ) → In (event i u (ClaimRequest id q) found) ends.events → found % 2 ≡ 1 → slice_index core.words (request_index p q) ≢ 0
-  word_used q i u id found m odd = let s = ends.story in let x : StaysUsed p core.words (step (ClaimRequest id q) found) = s.used (event i u (ClaimRequest id q) found) m in let y = (x odd).1 in λ e. omega (arith, y, e)
+  word_used : (q i u id found : ℕ) → In (event i u (OnChain (ClaimRequest id q)) found) ends.events → found % 2 ≡ 1 → slice_index core.words (request_index p q) ≢ 0
+  word_used q i u id found m odd = let s = ends.story in let x : StaysUsed p core.words (step (OnChain (ClaimRequest id q)) found) = s.used (event i u (OnChain (ClaimRequest id q)) found) m in let y = (x odd).1 in λ e. omega (arith, y, e)
 
   world : World p told core.outcomes ends.lost orders ends.events
   world = let s = ends.story in record {
@@ -214,10 +214,10 @@ module _ (script : List Item) (made : AreMade script) (turns : List Turn) (core 
   failed_life : (j h code : ℕ) → FailedWith told ends.events j h code → FailedLife j h code
   failed_life j h code f = by cause.fits
     where
-      before : BeforeIn p told ends.lost ends.events (event f.client f.operation (SetOdd j) f.found)
-      before = cause_of p told ends.lost ends.events ends.story.good (event f.client f.operation (SetOdd j) f.found) f.is
+      before : BeforeIn p told ends.lost ends.events (event f.client f.operation (OnSlot (SetOdd j)) f.found)
+      before = cause_of p told ends.lost ends.events ends.story.good (event f.client f.operation (OnSlot (SetOdd j)) f.found) f.is
 
-      cause : Cause p told ends.lost before.story (event f.client f.operation (SetOdd j) f.found)
+      cause : Cause p told ends.lost before.story (event f.client f.operation (OnSlot (SetOdd j)) f.found)
       cause = before.cause
 
       same : cause.task ≡ f.own.0
@@ -273,14 +273,14 @@ module _ (script : List Item) (made : AreMade script) (turns : List Turn) (core 
   pub given_opened : (j h k : ℕ) → WasGiven ends.events j h k → IsOpened j h
   given_opened j h k given = let r = recorded_end in by (r.lives j h means.0 born)
     where
-      made_by : (c o found : ℕ) × In (event c o (CreateLife j k) found) ends.events × (vref_version found ≡ h)
+      made_by : (c o found : ℕ) × In (event c o (OnSlot (CreateLife j k)) found) ends.events × (vref_version found ≡ h)
       made_by = marked_given ends.events j h k given
 
       means : (j < p.slots) × (vref_version made_by.2 % 2 ≡ 0) × (p.first ≤ vref_version made_by.2)
       means = birth_means p told core.outcomes ends.lost orders ends.events world made_by.0 made_by.1 j k made_by.2 made_by.3
 
       born : 0 < count (is_born h) (slot_facts (state core views) j)
-      born = let s = ends.story in let a = s.births j means.0 h in let b = in_marked (is_born h) j ends.events (event made_by.0 made_by.1 (CreateLife j k) made_by.2) made_by.3 (birth_adds made_by.0 made_by.1 j k made_by.2 h made_by.4) in omega (arith, a, b)
+      born = let s = ends.story in let a = s.births j means.0 h in let b = in_marked (is_born h) j ends.events (event made_by.0 made_by.1 (OnSlot (CreateLife j k)) made_by.2) made_by.3 (birth_adds made_by.0 made_by.1 j k made_by.2 h made_by.4) in omega (arith, a, b)
 
       low : h < 4294967295
       low = let l = slot_law j means.0 in let b = l.born h in let t = l.top in let x = life_is p.first h ((slot_facts (state core views) j).version + live (slot_facts (state core views) j)) (let c = born in omega (arith, b, c)) in
@@ -298,12 +298,12 @@ module _ (script : List Item) (made : AreMade script) (turns : List Turn) (core 
       let same : u ≡ t = (one_task p (all_tasks script) made.are d c u t a.0 (it.0, it.1, contains_in it.0 t it.2) number).1 in true≢false (sym a.1 ∙ ap is_plain (ap (λ (z : Task). z.op) same ∙ op))
 
   -- a message of a call that was dropped in the run stands so in the end
-  pub dropped_of_run : (seat client : ℕ) (t : Task) (asked : Asked) (n k m found : ℕ) → IsTask (all_tasks script) core.outcomes client t → t.op ≡ ops.Call asked → n ≤ 6 → DidInRun script turns core is seat (DidStep (DropPlace (8 * t.number + n) k m) found) → IsDroppedOn t.number n k
-  dropped_of_run seat client t asked n k m found it op few did = dropped_by t.number n (8 * t.number + n) k m (ends.tells seat (DidStep (DropPlace (8 * t.number + n) k m) found) did) (call_spoken client t asked it op) few refl
+  pub dropped_of_run : (seat client : ℕ) (t : Task) (asked : Asked) (n k m found : ℕ) → IsTask (all_tasks script) core.outcomes client t → t.op ≡ ops.Call asked → n ≤ 6 → DidInRun script turns core is seat (DidStep (OnPlace (DropPlace (8 * t.number + n) k m)) found) → IsDroppedOn t.number n k
+  dropped_of_run seat client t asked n k m found it op few did = dropped_by t.number n (8 * t.number + n) k m (ends.tells seat (DidStep (OnPlace (DropPlace (8 * t.number + n) k m)) found) did) (call_spoken client t asked it op) few refl
 
   -- a code of a life that was found in the run is one of the others, or that of a `fail` that failed the life
-  pub code_of_run : (seat i h code : ℕ) → DidInRun script turns core is seat (DidStep (LoadCode i h) code) → code ≢ 0 → IsOtherCode code ⊎ FailedLife i h code
-  code_of_run seat i h code did some_ = ⊎_elim (λ other. inl other) (λ f. inr (failed_life i h code f)) (ends.tells seat (DidStep (LoadCode i h) code) did some_)
+  pub code_of_run : (seat i h code : ℕ) → DidInRun script turns core is seat (DidStep (OnSlot (LoadCode i h)) code) → code ≢ 0 → IsOtherCode code ⊎ FailedLife i h code
+  code_of_run seat i h code did some_ = ⊎_elim (λ other. inl other) (λ f. inr (failed_life i h code f)) (ends.tells seat (DidStep (OnSlot (LoadCode i h)) code) did some_)
 
   -- ## Errors that were posted for dropped messages
 
@@ -323,7 +323,7 @@ module _ (script : List Item) (made : AreMade script) (turns : List Turn) (core 
     pub link : ℕ
     pub dropped : IsDroppedOn task.number (attempt_of x.error) link
     -- the life of the link whose code was found
-    pub found : (code_of x.error ≡ 1009) ⊎ ((seat slot version : ℕ) × DidInRun script turns core is seat (DidStep (LoadCode slot version) (code_of x.error)) × (code_of x.error ≢ 0) × WasGiven ends.events slot version link)
+    pub found : (code_of x.error ≡ 1009) ⊎ ((seat slot version : ℕ) × DidInRun script turns core is seat (DidStep (OnSlot (LoadCode slot version)) (code_of x.error)) × (code_of x.error ≢ 0) × WasGiven ends.events slot version link)
     -- whose code it is
     pub code : IsOtherCode (code_of x.error) ⊎ IsFailedOn link (code_of x.error)
 
@@ -339,7 +339,7 @@ module _ (script : List Item) (made : AreMade script) (turns : List Turn) (core 
     few = (let f = calls.few in omega (arith, attempt, f));
     link = d.holder.link;
     dropped = subst (λ z. IsDroppedOn z (attempt_of x.error) d.holder.link) (sym number) (subst (λ z. IsDroppedOn heading.label.operation z d.holder.link) (sym attempt)
-        (dropped_by heading.label.operation heading.label.attempt heading.label.place d.holder.link d.holder.places (ends.tells seat (DidStep (DropPlace heading.label.place d.holder.link d.holder.places) d.found) (all_in (DidInRun script turns core is seat) deeds (DidStep (DropPlace heading.label.place d.holder.link d.holder.places) d.found) did d.drop))
+        (dropped_by heading.label.operation heading.label.attempt heading.label.place d.holder.link d.holder.places (ends.tells seat (DidStep (OnPlace (DropPlace heading.label.place d.holder.link d.holder.places)) d.found) (all_in (DidInRun script turns core is seat) deeds (DidStep (OnPlace (DropPlace heading.label.place d.holder.link d.holder.places)) d.found) did d.drop))
         calls.spoken calls.few calls.place));
     found = dite (ℕ_discrete code 0)
         (λ z. inl (code_is ∙ ap (λ b. if b then 1009 else code) (eq-eqb code 0 z)))
@@ -347,8 +347,8 @@ module _ (script : List Item) (made : AreMade script) (turns : List Turn) (core 
           seat,
           socket_id_slot d.holder.id,
           socket_id_version d.holder.id,
-          subst (λ z. DidInRun script turns core is seat (DidStep (LoadCode (socket_id_slot d.holder.id) (socket_id_version d.holder.id)) z)) (sym same)
-              (all_in (DidInRun script turns core is seat) deeds (DidStep (LoadCode (socket_id_slot d.holder.id) (socket_id_version d.holder.id)) code) did d.load),
+          subst (λ z. DidInRun script turns core is seat (DidStep (OnSlot (LoadCode (socket_id_slot d.holder.id) (socket_id_version d.holder.id))) z)) (sym same)
+              (all_in (DidInRun script turns core is seat) deeds (DidStep (OnSlot (LoadCode (socket_id_slot d.holder.id) (socket_id_version d.holder.id))) code) did d.load),
           λ z. n (sym same ∙ z),
           round.0,
         ));
@@ -379,4 +379,4 @@ module _ (script : List Item) (made : AreMade script) (turns : List Turn) (core 
           (λ z. inl (inl (ap (λ b. if b then 1009 else code) (eq-eqb code 0 z))))
           (λ n. subst (λ z. IsOtherCode z ⊎ IsFailedOn d.holder.link z) (sym (ap (λ b. if b then 1009 else code) (ne_eqb code 0 n)))
           (⊎_elim (λ other. inl other) (λ f. inr (socket_id_slot d.holder.id, socket_id_version d.holder.id, f, its_link (socket_id_slot d.holder.id) (socket_id_version d.holder.id) d.holder.link code round.0 f))
-          (code_of_run seat (socket_id_slot d.holder.id) (socket_id_version d.holder.id) code (all_in (DidInRun script turns core is seat) deeds (DidStep (LoadCode (socket_id_slot d.holder.id) (socket_id_version d.holder.id)) code) did d.load) n)))
+          (code_of_run seat (socket_id_slot d.holder.id) (socket_id_version d.holder.id) code (all_in (DidInRun script turns core is seat) deeds (DidStep (OnSlot (LoadCode (socket_id_slot d.holder.id) (socket_id_version d.holder.id))) code) did d.load) n)))

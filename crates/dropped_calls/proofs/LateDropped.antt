@@ -19,26 +19,26 @@ use Rattle.seat_programs.specs.Tasks.{opens, plan_of}
 use Rattle.seat_programs.specs.Ticks.{Moment, quiet}
 use Rattle.seat_programs.specs.ScriptSetupToEnding.{all_tasks, played, IsRunWithCalls}
 use Rattle.seat_programs.specs.ExplainedCalls.{Accepted, label, IsFailing}
-use Rattle.refused_attempts.specs.Below.programs_allowed.specs.program_steps.specs.SoundSeats.{state, Sound, AreFew}
-use Rattle.refused_attempts.specs.Below.programs_allowed.specs.sock_runs.proofs.SoundAlongRuns.{seat_rests}
-use Rattle.refused_attempts.specs.Below.programs_allowed.specs.program_walks.proofs.WholeScriptSound.{closing_of, views_played, views_closed, views_ended, end_answered, played_sound, closing_sound, closed_sound, ended_sound, rested_ahead, rested_idle}
-use Rattle.refused_attempts.specs.Below.outcome_stories.specs.Facts.{late_links_of_run}
-use Rattle.refused_attempts.specs.Below.outcome_stories.specs.OperationStories.{In}
-use Rattle.refused_attempts.specs.Below.outcome_stories.proofs.Members.{get_there, in_contains}
-use Rattle.refused_attempts.specs.Below.joint_runs.proofs.BothTablesSound.{AreBounded}
-use Rattle.refused_attempts.specs.Below.joint_runs.proofs.RunsOfBothTables.{AreMade, first_views, joint_runs, joint_bounded}
-use Rattle.refused_attempts.specs.Below.call_owing.specs.LivesOfLinks.{ClosesInRun}
-use Rattle.refused_attempts.specs.sent_once.proofs.OtherTasksBesideCalls.{gave_of_run, fixed_of_run, orders_here, failing_of_run}
-use Rattle.refused_attempts.specs.sent_once.proofs.Dropped.{ending_begins, ending_places, log_small}
-use Rattle.refused_attempts.specs.accept_counts.proofs.EarlyClosedSockets.{start, go, fitting}
+use Rattle.ended_calls.specs.refused_attempts.specs.Below.programs_allowed.specs.program_steps.specs.SoundSeats.{state, Sound, AreFew}
+use Rattle.ended_calls.specs.refused_attempts.specs.Below.programs_allowed.specs.sock_runs.proofs.SoundAlongRuns.{seat_rests}
+use Rattle.ended_calls.specs.refused_attempts.specs.Below.programs_allowed.specs.program_walks.proofs.WholeScriptSound.{closing_of, views_played, views_closed, views_ended, end_answered, played_sound, closing_sound, closed_sound, ended_sound, rested_ahead, rested_idle}
+use Rattle.ended_calls.specs.refused_attempts.specs.Below.outcome_stories.specs.Facts.{late_links_of_run}
+use Rattle.ended_calls.specs.refused_attempts.specs.Below.outcome_stories.specs.OperationStories.{In}
+use Rattle.ended_calls.specs.refused_attempts.specs.Below.outcome_stories.proofs.Members.{get_there, in_contains}
+use Rattle.ended_calls.specs.refused_attempts.specs.Below.joint_runs.proofs.BothTablesSound.{AreBounded}
+use Rattle.ended_calls.specs.refused_attempts.specs.Below.joint_runs.proofs.RunsOfBothTables.{AreMade, first_views, joint_runs, joint_bounded}
+use Rattle.ended_calls.specs.refused_attempts.specs.Below.call_owing.specs.LivesOfLinks.{ClosesInRun}
+use Rattle.ended_calls.specs.refused_attempts.specs.sent_once.proofs.OtherTasksBesideCalls.{gave_of_run, fixed_of_run, orders_here, failing_of_run}
+use Rattle.ended_calls.specs.refused_attempts.specs.sent_once.proofs.Dropped.{ending_begins, ending_places, log_small}
+use Rattle.ended_calls.specs.refused_attempts.specs.accept_counts.proofs.EarlyClosedSockets.{start, go, fitting}
 use Rattle.dropped_calls.proofs.LateEnding.{ended_past}
 use Rattle.dropped_calls.proofs.LateLooks.{Idle}
 use Rattle.dropped_calls.proofs.LatePlaces.{IsEnding, ending_along}
 use Rattle.dropped_calls.proofs.LateRests.{none_stands, ended_idle}
 use Rattle.dropped_calls.proofs.LateLives.{WasPast}
-use Rattle.refused_attempts.specs.sent_once.proofs.SocketOperationsTold.{orders_are}
-use Rattle.refused_attempts.specs.Below.sock_steps.proofs.Positions.{on_shorter}
-use Rattle.refused_attempts.specs.Below.programs_allowed.specs.program_steps.specs.TicksLeftAtMost.{MOST_TICKS}
+use Rattle.ended_calls.specs.refused_attempts.specs.sent_once.proofs.SocketOperationsTold.{orders_are}
+use Rattle.ended_calls.specs.refused_attempts.specs.Below.sock_steps.proofs.Positions.{on_shorter}
+use Rattle.ended_calls.specs.refused_attempts.specs.Below.programs_allowed.specs.program_steps.specs.TicksLeftAtMost.{MOST_TICKS}
 use Rattle.corr_core.proofs.NoteSums.{at_length}
 use Rattle.sock_words.specs.PackedWords.{place_word}
 
@@ -137,4 +137,4 @@ module _ (script : List Item) (made : AreMade script) (turns : List Turn) (core 
 
         place_low : (orders_here script made turns core is closes k).placed < 2147483648
         place_low = let b = joint_bounded script turns core is made (joint_runs script turns core is made) in let over_ = b.over in
-            let s = log_small (plan_of script) core (views_ended script turns core is (first_views script)) sound over_.few in let o = on_shorter k sound.lawful.log in let m = length-map (on k sound.lawful.log) Rattle.refused_attempts.specs.Below.outcome_stories.proofs.Delivered.accepted_of in omega (arith, s, o, m, less)
+            let s = log_small (plan_of script) core (views_ended script turns core is (first_views script)) sound over_.few in let o = on_shorter k sound.lawful.log in let m = length-map (on k sound.lawful.log) Rattle.ended_calls.specs.refused_attempts.specs.Below.outcome_stories.proofs.Delivered.accepted_of in omega (arith, s, o, m, less)

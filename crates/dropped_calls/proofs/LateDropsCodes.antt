@@ -12,25 +12,25 @@ use Rattle.sock_model.specs.SocketTableLayout.{open_index}
 use Rattle.sock_model.specs.References.{slot_facts}
 use Rattle.sock_model.specs.SocketSlotLaw.{live}
 use Rattle.seat_programs.specs.Asides.{Taking}
-use Rattle.seat_programs.specs.TableSteps.{StoreCode, LoadCode}
+use Rattle.seat_programs.specs.TableSteps.{OnSlot, StoreCode, LoadCode}
 use Rattle.seat_programs.specs.Cores.{Core, SeatState, found_at}
 use Rattle.seat_programs.specs.StepTables.{word_of}
 use Rattle.seat_programs.specs.Programs.{Program, Do, Rest}
 use Rattle.seat_programs.specs.ReaderProgram.{reader}
 use Rattle.seat_programs.specs.Ticks.{Moment, IsAnswered, ticked}
-use Rattle.refused_attempts.specs.Below.programs_allowed.specs.program_steps.specs.ProgramGoesOn.{GoesOn}
+use Rattle.ended_calls.specs.refused_attempts.specs.Below.programs_allowed.specs.program_steps.specs.ProgramGoesOn.{GoesOn}
 use Rattle.seat_programs.specs.StepTables.{May}
-use Rattle.refused_attempts.specs.Below.programs_allowed.specs.program_steps.specs.SoundSeats.{state, Sound, IsFitting, views_after}
-use Rattle.refused_attempts.specs.Below.programs_allowed.specs.program_steps.proofs.TickCases.{goes_first, tick_cases}
-use Rattle.refused_attempts.specs.Below.programs_allowed.specs.sock_runs.proofs.LinkTicks.{RetriesGo}
-use Rattle.refused_attempts.specs.Below.programs_allowed.specs.program_walks.proofs.Recorded.{Recorded}
-use Rattle.refused_attempts.specs.Below.call_stories.specs.Decided.{is_late_step, late_at}
-use Rattle.refused_attempts.specs.accept_counts.specs.RefusedOrDropped.{DidStep, DidAt}
-use Rattle.refused_attempts.specs.accept_counts.proofs.Closers.{Ends, Calm, calm_first, stores_code}
+use Rattle.ended_calls.specs.refused_attempts.specs.Below.programs_allowed.specs.program_steps.specs.SoundSeats.{state, Sound, IsFitting, views_after}
+use Rattle.ended_calls.specs.refused_attempts.specs.Below.programs_allowed.specs.program_steps.proofs.TickCases.{goes_first, tick_cases}
+use Rattle.ended_calls.specs.refused_attempts.specs.Below.programs_allowed.specs.sock_runs.proofs.LinkTicks.{RetriesGo}
+use Rattle.ended_calls.specs.refused_attempts.specs.Below.programs_allowed.specs.program_walks.proofs.Recorded.{Recorded}
+use Rattle.ended_calls.specs.refused_attempts.specs.Below.call_stories.specs.Decided.{is_late_step, late_at}
+use Rattle.ended_calls.specs.refused_attempts.specs.accept_counts.specs.RefusedOrDropped.{DidStep, DidAt}
+use Rattle.ended_calls.specs.refused_attempts.specs.accept_counts.proofs.Closers.{Ends, Calm, calm_first, stores_code}
 use Rattle.dropped_calls.proofs.DropEnds.{StoresThose, those, program_of, those_ticks}
-use Rattle.refused_attempts.specs.sent_once.proofs.DropWords.{version_in, code_in, held_version, coding_version, live_none, code_stays}
-use Rattle.refused_attempts.specs.accept_counts.proofs.ReadingsAtTicks.{State, found_by}
-use Rattle.refused_attempts.specs.accept_counts.proofs.ReaderRuns.{Keeps, keeps_ticks, reader_of, view_at, state_at}
+use Rattle.ended_calls.specs.refused_attempts.specs.sent_once.proofs.DropWords.{version_in, code_in, held_version, coding_version, live_none, code_stays}
+use Rattle.ended_calls.specs.refused_attempts.specs.accept_counts.proofs.ReadingsAtTicks.{State, found_by}
+use Rattle.ended_calls.specs.refused_attempts.specs.accept_counts.proofs.ReaderRuns.{Keeps, keeps_ticks, reader_of, view_at, state_at}
 use Rattle.seat_programs.specs.LoopRounds.{first_step}
 
 -- P tells which codes clients store, W are the words of the table in the end, and New tells of which lives something is said
@@ -69,9 +69,9 @@ module _ (p : Plan) (calls os : List ℕ) (in_os : (k o : ℕ) → get_elem? os 
     Later n = Late n ⊎ (late_at (32 + n) c m ≡ true)
 
     -- a code that a seat stores
-    module _ (seat : SeatState) (v : View) (at : get_elem? c.seats m.seat ≡ some seat) (here : get_elem? vs m.seat ≡ some v) (j g code : ℕ) (next : ℕ → Program) (is : first_step seat.program ≡ Do (StoreCode j g code) next) (may : May p v (StoreCode j g code)) where
+    module _ (seat : SeatState) (v : View) (at : get_elem? c.seats m.seat ≡ some seat) (here : get_elem? vs m.seat ≡ some v) (j g code : ℕ) (next : ℕ → Program) (is : first_step seat.program ≡ Do (OnSlot (StoreCode j g code)) next) (may : May p v (OnSlot (StoreCode j g code))) where
       by_client : m.seat < 32 → P code
-      by_client low = let s = program_of P gone m.seat p c vs sound m answered (law.clients m.seat low) seat at (Do (StoreCode j g code) next) is refl in those P gone s.0 s.1 j g code next s.2
+      by_client low = let s = program_of P gone m.seat p c vs sound m answered (law.clients m.seat low) seat at (Do (OnSlot (StoreCode j g code)) next) is refl in those P gone s.0 s.1 j g code next s.2
 
       late_here : (n : ℕ) → m.seat ≡ 32 + n → late_at (32 + n) c m ≡ true
       late_here n own = ap (λ (o : Option SeatState). elim o as (λ o. Bool) [ none ↦ false | some s ↦ (m.seat == 32 + n) && is_late_step (first_step s.program) ]) at
@@ -81,8 +81,8 @@ module _ (p : Plan) (calls os : List ℕ) (in_os : (k o : ℕ) → get_elem? os 
       by_reader high = let r = reader_of p calls os in_os Odd Lasts ends c vs taken law.keeps m.seat seat at high in by r (state_at p calls os in_os Odd Lasts ends c vs taken law.keeps m.seat seat v at here r)
         where
           by : (r : (n : ℕ) × (o : ℕ) × (m.seat ≡ 32 + n) × (get_elem? os n ≡ some o)) → State p calls r.0 r.1 (in_os r.0 r.1 r.3) Odd Lasts (ends r.0) (get_or c.words (open_index p r.1) 0) (taken r.0) seat.program v → (l : IsLife j g) × Later l.link
-          by r (none_, inl s) = absurd (let z : first_step (reader calls r.0 r.1) ≡ Do (StoreCode j g code) next = sym (ap first_step s.0) ∙ is in cc)
-          by r (none_, inr (inl s)) = absurd (let z : Rest ≡ Do (StoreCode j g code) next = sym (ap first_step s.0) ∙ is in cc)
+          by r (none_, inl s) = absurd (let z : first_step (reader calls r.0 r.1) ≡ Do (OnSlot (StoreCode j g code)) next = sym (ap first_step s.0) ∙ is in cc)
+          by r (none_, inr (inl s)) = absurd (let z : Rest ≡ Do (OnSlot (StoreCode j g code)) next = sym (ap first_step s.0) ∙ is in cc)
           by r (none_, inr (inr s)) = let x = stores_code r.0 s.id Odd Lasts s.held (taken r.0) j g code next (subst (Calm r.0 s.id Odd Lasts s.held (taken r.0)) is (calm_first r.0 s.id Odd Lasts (ends r.0 s.id) s.held (taken r.0) seat.program s.calm)) in
               let w = s.word in let stays = ahead r.1 (in_os r.0 r.1 r.3) (λ z. omega (arith, z, w)) in
               (record { link = r.0; operation = r.1; id = s.id; at = r.3; word = stays ∙ s.word; socket = λ z. s.socket (sym stays ∙ z); slot = x.1; version = x.2 }, inr (late_here r.0 r.2))
@@ -119,10 +119,10 @@ module _ (p : Plan) (calls os : List ℕ) (in_os : (k o : ℕ) → get_elem? os 
     }
 
     -- a code that was found in the tick
-    pub found_stored : (seat i h code : ℕ) → DidAt p c m seat (DidStep (LoadCode i h) code) → code ≢ 0 → New i h → Stored Late i h code
+    pub found_stored : (seat i h code : ℕ) → DidAt p c m seat (DidStep (OnSlot (LoadCode i h)) code) → code ≢ 0 → New i h → Stored Late i h code
     found_stored seat i h code d some_ new = by d.1 (subst (λ n. get_elem? c.seats n ≡ some d.1) (sym d.0) d.3) d.2 d.4 d.5
       where
-        by : (s : SeatState) → get_elem? c.seats m.seat ≡ some s → (next : ℕ → Program) → first_step s.program ≡ Do (LoadCode i h) next → code ≡ found_at c.words (word_of p (LoadCode i h)) → Stored Late i h code
+        by : (s : SeatState) → get_elem? c.seats m.seat ≡ some s → (next : ℕ → Program) → first_step s.program ≡ Do (OnSlot (LoadCode i h)) next → code ≡ found_at c.words (word_of p (OnSlot (LoadCode i h))) → Stored Late i h code
         by s at next is found = let v = view_at p calls os in_os Odd Lasts ends c vs sound m.seat s at in
             let may = (subst (GoesOn p v.0) is (goes_first p v.0 s.program (sound.seats m.seat s v.0 at v.1).goes_on)).0 in
             let held = held_version p c vs sound m.seat v.0 v.1 i h may.0 may.1 in

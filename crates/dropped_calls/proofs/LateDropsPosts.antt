@@ -7,18 +7,18 @@ use Rattle.sock_model.specs.declared.view.View.{View}
 use Rattle.corr_core.specs.IdSlotWord.{error_of, code_of}
 use Rattle.corr_core.specs.declared.marks.Plan.{Plan as IdPlan}
 use Rattle.corr_core.specs.EndedByRangeOrAttempt.{WHOLE}
-use Rattle.refused_attempts.specs.Below.id_runs.specs.HeldIdTokens.{IdView}
-use Rattle.refused_attempts.specs.Below.id_runs.specs.Goes.{SoundIds}
+use Rattle.ended_calls.specs.refused_attempts.specs.Below.id_runs.specs.HeldIdTokens.{IdView}
+use Rattle.ended_calls.specs.refused_attempts.specs.Below.id_runs.specs.Goes.{SoundIds}
 use Rattle.sock_message.specs.Asked.{Asked}
 use Rattle.seat_programs.specs.Cores.{Core}
 use Rattle.seat_programs.specs.Ticks.{Moment}
-use Rattle.refused_attempts.specs.Below.programs_allowed.specs.program_steps.specs.SoundSeats.{Sound}
-use Rattle.refused_attempts.specs.Below.outcome_stories.specs.OperationStories.{In}
-use Rattle.refused_attempts.specs.Below.call_stories.specs.PostsOfRun.{Post, posted_at}
-use Rattle.refused_attempts.specs.accept_counts.specs.RefusedOrDropped.{Deed, Charge, NoCharge, IsRefused, HasDropped, Doing, IsChargeOf, IsPostOf, IsDrop, ChargeFits, ChargeLaw}
-use Rattle.refused_attempts.specs.Below.outcome_stories.proofs.HomeCalls.{AreCalls}
-use Rattle.refused_attempts.proofs.RefusedTicks.{Then}
-use Rattle.refused_attempts.proofs.RefusedPosts.{tick_posts}
+use Rattle.ended_calls.specs.refused_attempts.specs.Below.programs_allowed.specs.program_steps.specs.SoundSeats.{Sound}
+use Rattle.ended_calls.specs.refused_attempts.specs.Below.outcome_stories.specs.OperationStories.{In}
+use Rattle.ended_calls.specs.refused_attempts.specs.Below.call_stories.specs.PostsOfRun.{Post, posted_at}
+use Rattle.ended_calls.specs.refused_attempts.specs.accept_counts.specs.RefusedOrDropped.{Deed, Charge, NoCharge, IsRefused, HasDropped, Doing, IsChargeOf, IsPostOf, IsDrop, ChargeFits, ChargeLaw}
+use Rattle.ended_calls.specs.refused_attempts.specs.Below.outcome_stories.proofs.HomeCalls.{AreCalls}
+use Rattle.ended_calls.specs.refused_attempts.proofs.RefusedTicks.{Then}
+use Rattle.ended_calls.specs.refused_attempts.proofs.RefusedPosts.{tick_posts}
 
 -- what a seat did for an error that it posted for a dropped message
 pub record DropPost (Did : Deed → Type 0) (x : Post) : Type 0 where

@@ -12,33 +12,33 @@ use Rattle.corr_core.specs.IdSlotWord.{code_of}
 use Rattle.corr_core.specs.declared.marks.Plan.{Plan as IdPlan}
 use Rattle.sock_message.specs.Asked.{Asked}
 use Rattle.seat_programs.specs.Asides.{Taking}
-use Rattle.seat_programs.specs.TableSteps.{LoadCode}
+use Rattle.seat_programs.specs.TableSteps.{OnSlot, LoadCode}
 use Rattle.seat_programs.specs.Cores.{Core, SeatState}
 use Rattle.seat_programs.specs.Ticks.{Moment, AreAnswered, IsAnswered, quiet, ticked, run}
-use Rattle.refused_attempts.specs.Below.programs_allowed.specs.program_steps.specs.SoundSeats.{Sound, AreFitting, IsFitting, views_after, views_along}
-use Rattle.refused_attempts.specs.Below.programs_allowed.specs.sock_runs.proofs.LinkTicks.{RetriesGo}
-use Rattle.refused_attempts.specs.Below.programs_allowed.specs.program_walks.proofs.OpensStay.{run_word}
-use Rattle.refused_attempts.specs.Below.programs_allowed.specs.program_walks.proofs.Recorded.{Recorded, recorded_ticks}
-use Rattle.refused_attempts.specs.Below.programs_allowed.specs.sock_runs.proofs.TicksKeepSeatsSound.{sound_ticks}
-use Rattle.refused_attempts.specs.Below.outcome_stories.specs.OperationStories.{In}
-use Rattle.refused_attempts.specs.Below.outcome_stories.proofs.Members.{all_in}
-use Rattle.refused_attempts.specs.Below.outcome_causes.proofs.PlainOutcomeCauses.{in_left, in_right, in_both}
-use Rattle.refused_attempts.specs.Below.call_stories.specs.Decided.{posted_by, is_late_step, late_at, late_in, posted_behind}
-use Rattle.refused_attempts.specs.Below.call_stories.specs.PostsOfRun.{Post, posted_at}
-use Rattle.refused_attempts.specs.accept_counts.specs.AttemptCounts.{AreLabelled}
-use Rattle.refused_attempts.specs.accept_counts.specs.RefusedOrDropped.{Deed, DidStep, Doing, DidAt, DidIn, ChargeLaw, AllWouldOwn}
-use Rattle.refused_attempts.specs.accept_counts.proofs.Closers.{Ends}
+use Rattle.ended_calls.specs.refused_attempts.specs.Below.programs_allowed.specs.program_steps.specs.SoundSeats.{Sound, AreFitting, IsFitting, views_after, views_along}
+use Rattle.ended_calls.specs.refused_attempts.specs.Below.programs_allowed.specs.sock_runs.proofs.LinkTicks.{RetriesGo}
+use Rattle.ended_calls.specs.refused_attempts.specs.Below.programs_allowed.specs.program_walks.proofs.OpensStay.{run_word}
+use Rattle.ended_calls.specs.refused_attempts.specs.Below.programs_allowed.specs.program_walks.proofs.Recorded.{Recorded, recorded_ticks}
+use Rattle.ended_calls.specs.refused_attempts.specs.Below.programs_allowed.specs.sock_runs.proofs.TicksKeepSeatsSound.{sound_ticks}
+use Rattle.ended_calls.specs.refused_attempts.specs.Below.outcome_stories.specs.OperationStories.{In}
+use Rattle.ended_calls.specs.refused_attempts.specs.Below.outcome_stories.proofs.Members.{all_in}
+use Rattle.ended_calls.specs.refused_attempts.specs.Below.outcome_causes.proofs.PlainOutcomeCauses.{in_left, in_right, in_both}
+use Rattle.ended_calls.specs.refused_attempts.specs.Below.call_stories.specs.Decided.{posted_by, is_late_step, late_at, late_in, posted_behind}
+use Rattle.ended_calls.specs.refused_attempts.specs.Below.call_stories.specs.PostsOfRun.{Post, posted_at}
+use Rattle.ended_calls.specs.refused_attempts.specs.accept_counts.specs.AttemptCounts.{AreLabelled}
+use Rattle.ended_calls.specs.refused_attempts.specs.accept_counts.specs.RefusedOrDropped.{Deed, DidStep, Doing, DidAt, DidIn, ChargeLaw, AllWouldOwn}
+use Rattle.ended_calls.specs.refused_attempts.specs.accept_counts.proofs.Closers.{Ends}
 use Rattle.dropped_calls.proofs.LateDropsCodes.{Stored, stored_more, LateLaw, late_more, late_ticks, found_stored}
-use Rattle.refused_attempts.proofs.RefusedPosts.{all_done}
+use Rattle.ended_calls.specs.refused_attempts.proofs.RefusedPosts.{all_done}
 use Rattle.dropped_calls.proofs.LateDropsPosts.{DropPost, tick_drop}
-use Rattle.refused_attempts.specs.accept_counts.proofs.ReadingsAtTicks.{found_by}
-use Rattle.refused_attempts.proofs.RefusedRuns.{law_more}
-use Rattle.refused_attempts.proofs.RefusedTicks.{charge_ticks}
-use Rattle.refused_attempts.specs.accept_counts.proofs.RunsKeepAttemptLaw.{Lawful_}
-use Rattle.refused_attempts.specs.accept_counts.proofs.TicksKeepAttemptLaw.{label_ticks}
-use Rattle.refused_attempts.specs.accept_counts.proofs.PostSeats.{of_tick}
+use Rattle.ended_calls.specs.refused_attempts.specs.accept_counts.proofs.ReadingsAtTicks.{found_by}
+use Rattle.ended_calls.specs.refused_attempts.proofs.RefusedRuns.{law_more}
+use Rattle.ended_calls.specs.refused_attempts.proofs.RefusedTicks.{charge_ticks}
+use Rattle.ended_calls.specs.refused_attempts.specs.accept_counts.proofs.RunsKeepAttemptLaw.{Lawful_}
+use Rattle.ended_calls.specs.refused_attempts.specs.accept_counts.proofs.TicksKeepAttemptLaw.{label_ticks}
+use Rattle.ended_calls.specs.refused_attempts.specs.accept_counts.proofs.PostSeats.{of_tick}
 use Rattle.seat_programs.specs.LoopRounds.{first_step}
-use Rattle.refused_attempts.specs.Below.outcome_stories.specs.Facts.{shown_in}
+use Rattle.ended_calls.specs.refused_attempts.specs.Below.outcome_stories.specs.Facts.{shown_in}
 
 -- ## Lists of posts
 
@@ -97,11 +97,11 @@ module _ (p : Plan) (q : IdPlan) (narrow : q.slots ≤ 65536) (is_call : Asked �
 
   -- what deeds tell of codes
   abbrev pub Says : (ℕ → Type 0) → Deed → Type 0
-  Says Late (DidStep (LoadCode i h) code) = code ≢ 0 → New i h → Of Late i h code
+  Says Late (DidStep (OnSlot (LoadCode i h)) code) = code ≢ 0 → New i h → Of Late i h code
   Says Late other = Unit {0}
 
   pub says_more : (Late Then : ℕ → Type 0) → ((n : ℕ) → Late n → Then n) → (d : Deed) → Says Late d → Says Then d
-  says_more Late Then f (DidStep (LoadCode i h) code) s = λ some_ new. stored_more p calls os in_os Odd Lasts ends P gone W New Late Then f i h code (s some_ new)
+  says_more Late Then f (DidStep (OnSlot (LoadCode i h)) code) s = λ some_ new. stored_more p calls os in_os Odd Lasts ends P gone W New Late Then f i h code (s some_ new)
   says_more Late Then f other s = tt
 
   abbrev pub Told : (ℕ → Deed → Type 0) → (ℕ → Type 0) → ℕ → Deed → Type 0
@@ -144,7 +144,7 @@ module _ (p : Plan) (q : IdPlan) (narrow : q.slots ≤ 65536) (is_call : Asked �
     module _ (Done : ℕ → Deed → Type 0) (Late : ℕ → Type 0) (c : Core) (vs : List View) (m : Moment) (taken : ℕ → List Taking) (ss : List Doing) (sound : Sound p c vs) (answered : IsAnswered c m) (fitting : IsFitting p c m) (recorded : Recorded p Q c vs)
         (ahead : (o : ℕ) → o < p.operations → get_or c.words (open_index p o) 0 ≢ 0 → get_or W (open_index p o) 0 ≡ get_or c.words (open_index p o) 0) (law : Law Late c vs taken) where
       now_told : (j : ℕ) (d : Deed) → DidAt p c m j d → Says Late d
-      now_told j (DidStep (LoadCode i h) code) d = λ some_ new. found_stored p calls os in_os Odd Lasts ends P gone W New Q go c vs m taken sound answered fitting recorded ahead Late law j i h code d some_ new
+      now_told j (DidStep (OnSlot (LoadCode i h)) code) d = λ some_ new. found_stored p calls os in_os Odd Lasts ends P gone W New Q go c vs m taken sound answered fitting recorded ahead Late law j i h code d some_ new
       now_told j other d = tt
 
       pub told_now : (j : ℕ) (d : Deed) → Told Done Late j d ⊎ DidAt p c m j d → (Done j d ⊎ DidAt p c m j d) × Says Late d
@@ -155,8 +155,8 @@ module _ (p : Plan) (q : IdPlan) (narrow : q.slots ≤ 65536) (is_call : Asked �
       pub as_late : (j : ℕ) (Then : ℕ → Type 0) → ((n : ℕ) → Late n → Then n) → (x : Post) → DropPost (λ d. Told Done Late j d ⊎ DidAt p c m j d) x → LatePost (λ d. Done j d ⊎ DidAt p c m j d) Then x
       as_late j Then f x y = record {
         post = record { heading = y.heading; code = y.code; deeds = y.deeds; did = all_done (λ d. Told Done Late j d ⊎ DidAt p c m j d) (λ d. Done j d ⊎ DidAt p c m j d) (λ d t. (told_now j d t).0) y.deeds y.did; drop = y.drop; owned = y.owned; owner = y.owner; error = y.error };
-        whose = λ some_ new. stored_more p calls os in_os Odd Lasts ends P gone W New Late Then f _ _ _ ((told_now j (DidStep (LoadCode (socket_id_slot y.drop.holder.id) (socket_id_version y.drop.holder.id)) y.code)
-            (all_in (λ d. Told Done Late j d ⊎ DidAt p c m j d) y.deeds (DidStep (LoadCode (socket_id_slot y.drop.holder.id) (socket_id_version y.drop.holder.id)) y.code) y.did y.drop.load)).1 some_ new);
+        whose = λ some_ new. stored_more p calls os in_os Odd Lasts ends P gone W New Late Then f _ _ _ ((told_now j (DidStep (OnSlot (LoadCode (socket_id_slot y.drop.holder.id) (socket_id_version y.drop.holder.id))) y.code)
+            (all_in (λ d. Told Done Late j d ⊎ DidAt p c m j d) y.deeds (DidStep (OnSlot (LoadCode (socket_id_slot y.drop.holder.id) (socket_id_version y.drop.holder.id))) y.code) y.did y.drop.load)).1 some_ new);
       }
 
     -- the links whose readers were behind the end of their readings, with one tick more

@@ -18,36 +18,36 @@ use Rattle.seat_programs.specs.Cores.{Core}
 use Rattle.seat_programs.specs.Tasks.{opens, calls, plan_of, id_plan_of}
 use Rattle.seat_programs.specs.Ticks.{Moment, AreAnswered, quiet, run}
 use Rattle.seat_programs.specs.ScriptSetupToEnding.{all_tasks, opened, set_up, played, IsRunWithCalls}
-use Rattle.refused_attempts.specs.Below.programs_allowed.specs.program_steps.specs.SoundSeats.{Sound, AreFitting, views_along}
-use Rattle.refused_attempts.specs.Below.programs_allowed.specs.sock_runs.proofs.SoundAlongRuns.{seat_rests}
-use Rattle.refused_attempts.specs.Below.programs_allowed.specs.program_walks.proofs.OpensStay.{run_word}
-use Rattle.refused_attempts.specs.Below.programs_allowed.specs.program_walks.proofs.Recorded.{Recorded}
-use Rattle.refused_attempts.specs.Below.programs_allowed.specs.program_walks.proofs.WholeScriptSound.{IsListed, closing_of, views_played, views_closed, set_up_answered, end_answered, set_up_sound, closing_sound, closed_sound, closed_ahead, recorded_opened, recorded_set_up, recorded_closing, recorded_closed}
-use Rattle.refused_attempts.specs.Below.outcome_stories.specs.OperationStories.{In}
-use Rattle.refused_attempts.specs.Below.outcome_causes.proofs.PlainOutcomeCauses.{in_both}
-use Rattle.refused_attempts.specs.Below.programs_allowed.proofs.WordsAtBeginning as clients_begin
-use Rattle.refused_attempts.specs.Below.joint_runs.proofs.RunsOfBothTables.{AreMade, first_views}
-use Rattle.refused_attempts.specs.Below.call_owing.specs.LivesOfLinks.{ClosesInRun}
-use Rattle.refused_attempts.specs.Below.call_stories.specs.Decided.{posted_by, posted_behind}
-use Rattle.refused_attempts.specs.Below.call_stories.specs.PostsOfRun.{Post}
-use Rattle.refused_attempts.specs.accept_counts.specs.AttemptCounts.{AreLabelled}
-use Rattle.refused_attempts.specs.accept_counts.specs.RefusedOrDropped.{Deed, Doing, DidIn, DidEarly, DidLate, AllWouldOwn, RunWouldOwn}
-use Rattle.refused_attempts.specs.sent_once.proofs.SourcesOfSocketCodes.{Stores}
+use Rattle.ended_calls.specs.refused_attempts.specs.Below.programs_allowed.specs.program_steps.specs.SoundSeats.{Sound, AreFitting, views_along}
+use Rattle.ended_calls.specs.refused_attempts.specs.Below.programs_allowed.specs.sock_runs.proofs.SoundAlongRuns.{seat_rests}
+use Rattle.ended_calls.specs.refused_attempts.specs.Below.programs_allowed.specs.program_walks.proofs.OpensStay.{run_word}
+use Rattle.ended_calls.specs.refused_attempts.specs.Below.programs_allowed.specs.program_walks.proofs.Recorded.{Recorded}
+use Rattle.ended_calls.specs.refused_attempts.specs.Below.programs_allowed.specs.program_walks.proofs.WholeScriptSound.{IsListed, closing_of, views_played, views_closed, set_up_answered, end_answered, set_up_sound, closing_sound, closed_sound, closed_ahead, recorded_opened, recorded_set_up, recorded_closing, recorded_closed}
+use Rattle.ended_calls.specs.refused_attempts.specs.Below.outcome_stories.specs.OperationStories.{In}
+use Rattle.ended_calls.specs.refused_attempts.specs.Below.outcome_causes.proofs.PlainOutcomeCauses.{in_both}
+use Rattle.ended_calls.specs.refused_attempts.specs.Below.programs_allowed.proofs.WordsAtBeginning as clients_begin
+use Rattle.ended_calls.specs.refused_attempts.specs.Below.joint_runs.proofs.RunsOfBothTables.{AreMade, first_views}
+use Rattle.ended_calls.specs.refused_attempts.specs.Below.call_owing.specs.LivesOfLinks.{ClosesInRun}
+use Rattle.ended_calls.specs.refused_attempts.specs.Below.call_stories.specs.Decided.{posted_by, posted_behind}
+use Rattle.ended_calls.specs.refused_attempts.specs.Below.call_stories.specs.PostsOfRun.{Post}
+use Rattle.ended_calls.specs.refused_attempts.specs.accept_counts.specs.AttemptCounts.{AreLabelled}
+use Rattle.ended_calls.specs.refused_attempts.specs.accept_counts.specs.RefusedOrDropped.{Deed, Doing, DidIn, DidEarly, DidLate, AllWouldOwn, RunWouldOwn}
+use Rattle.ended_calls.specs.refused_attempts.specs.sent_once.proofs.SourcesOfSocketCodes.{Stores}
 use Rattle.dropped_calls.proofs.DropEnds.{StoresThose}
 use Rattle.dropped_calls.proofs.DropEndsWhole.{opened_law}
-use Rattle.refused_attempts.specs.accept_counts.proofs.EarlyClosedSockets.{Any, ends_anyhow, start, go, fitting, known}
+use Rattle.ended_calls.specs.refused_attempts.specs.accept_counts.proofs.EarlyClosedSockets.{Any, ends_anyhow, start, go, fitting, known}
 use Rattle.ended_calls.proofs.EndedWhole.{h₃, closed_keeps}
 use Rattle.dropped_calls.proofs.LateDropsCodes.{IsLife, LateLaw, late_more}
 use Rattle.dropped_calls.proofs.LateDropsEnding.{IsNew}
 use Rattle.dropped_calls.proofs.LateDropsRuns.{none_late, none_behind, Told, Charged, says_more, LatePost, late_post_more, InTime, With, Behind, posts_along}
 use Rattle.dropped_calls.proofs.LateRests.{others_along}
-use Rattle.refused_attempts.proofs.RefusedRuns.{law_more}
-use Rattle.refused_attempts.specs.sent_once.proofs.SocketOperationsTold.{opening_bare}
-use Rattle.refused_attempts.proofs.RefusedWhole.{few_slots, Law, first_doings, Nothing, first_charges, final_doings, final_charges, closing_none}
-use Rattle.refused_attempts.specs.accept_counts.proofs.RunsKeepAttemptLaw.{AreLabelledIn, IsCallOf, Lawful_}
-use Rattle.refused_attempts.specs.accept_counts.proofs.RunsKeepAttemptLaw as labels
-use Rattle.refused_attempts.specs.accept_counts.proofs.PostSeats.{of_all}
-use Rattle.refused_attempts.specs.Below.outcome_stories.specs.Facts.{shown_in, shown_in_run}
+use Rattle.ended_calls.specs.refused_attempts.proofs.RefusedRuns.{law_more}
+use Rattle.ended_calls.specs.refused_attempts.specs.sent_once.proofs.SocketOperationsTold.{opening_bare}
+use Rattle.ended_calls.specs.refused_attempts.proofs.RefusedWhole.{few_slots, Law, first_doings, Nothing, first_charges, final_doings, final_charges, closing_none}
+use Rattle.ended_calls.specs.refused_attempts.specs.accept_counts.proofs.RunsKeepAttemptLaw.{AreLabelledIn, IsCallOf, Lawful_}
+use Rattle.ended_calls.specs.refused_attempts.specs.accept_counts.proofs.RunsKeepAttemptLaw as labels
+use Rattle.ended_calls.specs.refused_attempts.specs.accept_counts.proofs.PostSeats.{of_all}
+use Rattle.ended_calls.specs.refused_attempts.specs.Below.outcome_stories.specs.Facts.{shown_in, shown_in_run}
 
 -- the codes that clients store
 abbrev pub IsNoEnd : ℕ → Type 0

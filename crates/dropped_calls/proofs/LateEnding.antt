@@ -12,13 +12,13 @@ use Rattle.sock_model.specs.SocketTableLayout.{ref_index, open_index}
 use Rattle.sock_model.specs.SocketSlotLaw.{count, live}
 use Rattle.sock_model.specs.References.{slot_facts}
 use Rattle.sock_model.specs.MarkWeights.{is_born, is_linked}
-use Rattle.refused_attempts.specs.Below.slot_steps.proofs.RuleNumbers.{life-in, life_is}
-use Rattle.refused_attempts.specs.Below.chain_steps.proofs.TicketLists.{at_some}
-use Rattle.refused_attempts.specs.Below.sock_steps.proofs.LifeLinkSlotPlaces.{counts}
-use Rattle.refused_attempts.specs.Below.sock_steps.proofs.SumsAsMarksChange.{either_way}
+use Rattle.ended_calls.specs.refused_attempts.specs.Below.slot_steps.proofs.RuleNumbers.{life-in, life_is}
+use Rattle.ended_calls.specs.refused_attempts.specs.Below.chain_steps.proofs.TicketLists.{at_some}
+use Rattle.ended_calls.specs.refused_attempts.specs.Below.sock_steps.proofs.LifeLinkSlotPlaces.{counts}
+use Rattle.ended_calls.specs.refused_attempts.specs.Below.sock_steps.proofs.SumsAsMarksChange.{either_way}
 use Rattle.seat_programs.specs.brpc_model.specs.Items.{Item}
 use Rattle.seat_programs.specs.brpc_model.specs.Operations.{Turn}
-use Rattle.seat_programs.specs.TableSteps.{TableStep, SetOdd}
+use Rattle.seat_programs.specs.TableSteps.{TableStep, OnSlot, SetOdd}
 use Rattle.seat_programs.specs.LoopHeads.{Retry}
 use Rattle.seat_programs.specs.Programs.{Program, Do, Rest, LAST_VERSION, recycle, release}
 use Rattle.seat_programs.specs.ClientProgram.{ending_of}
@@ -28,24 +28,24 @@ use Rattle.seat_programs.specs.Tasks.{opens, plan_of}
 use Rattle.seat_programs.specs.Ticks.{Moment, IsAnswered, AreAnswered, quiet, ticked, run}
 use Rattle.seat_programs.specs.ScriptSetupToEnding.{played, IsRunWithCalls}
 use Rattle.seat_programs.specs.StepTables.{row, hand_at}
-use Rattle.refused_attempts.specs.Below.programs_allowed.specs.program_steps.specs.SoundSeats.{state, Sound, IsFitting, AreFitting, views_after, views_along}
-use Rattle.refused_attempts.specs.Below.programs_allowed.specs.sock_runs.proofs.SoundAlongRuns.{seat_rests}
-use Rattle.refused_attempts.specs.Below.programs_allowed.specs.program_steps.proofs.SlotWordBounds.{law, lives_le}
-use Rattle.refused_attempts.specs.Below.programs_allowed.specs.program_steps.proofs.TickCases.{ComesNext, with_rights, tick_keeps_marks}
-use Rattle.refused_attempts.specs.Below.programs_allowed.specs.program_walks.proofs.LivesFailedByEnding.{Fails, fails_ending, what_fails}
-use Rattle.refused_attempts.specs.Below.programs_allowed.specs.sock_runs.proofs.LinkNotes.{links_only}
-use Rattle.refused_attempts.specs.Below.programs_allowed.specs.sock_runs.proofs.LinksStay.{IsGiven, run_given}
-use Rattle.refused_attempts.specs.Below.programs_allowed.specs.sock_runs.proofs.LinkTicks.{RetriesGo}
-use Rattle.refused_attempts.specs.Below.programs_allowed.specs.sock_runs.proofs.NotesOfSteps.{bears}
-use Rattle.refused_attempts.specs.Below.programs_allowed.specs.sock_runs.proofs.Quiets.{run_seats}
-use Rattle.refused_attempts.specs.Below.programs_allowed.specs.program_walks.proofs.Records.{stores, next_stores, opens_same}
-use Rattle.refused_attempts.specs.Below.programs_allowed.specs.program_walks.proofs.Recorded.{Recorded, IsPending}
-use Rattle.refused_attempts.specs.Below.programs_allowed.specs.sock_runs.proofs.TicksKeepSeatsSound.{sound_ticks}
-use Rattle.refused_attempts.specs.Below.programs_allowed.specs.sock_runs.proofs.SlotVersionsRise.{versions_on, odd_past}
-use Rattle.refused_attempts.specs.Below.programs_allowed.specs.program_walks.proofs.WholeScriptSound.{closing_of, views_played, views_closed, end_answered, closing_sound, rested_ahead, recorded_closing, closed_ahead}
-use Rattle.refused_attempts.specs.Below.joint_runs.proofs.RunsOfBothTables.{AreMade, first_views}
-use Rattle.refused_attempts.specs.accept_counts.proofs.EarlyClosedSockets.{start, go, fitting}
-use Rattle.refused_attempts.specs.accept_counts.proofs.RestsWithoutCalls.{many, aside}
+use Rattle.ended_calls.specs.refused_attempts.specs.Below.programs_allowed.specs.program_steps.specs.SoundSeats.{state, Sound, IsFitting, AreFitting, views_after, views_along}
+use Rattle.ended_calls.specs.refused_attempts.specs.Below.programs_allowed.specs.sock_runs.proofs.SoundAlongRuns.{seat_rests}
+use Rattle.ended_calls.specs.refused_attempts.specs.Below.programs_allowed.specs.program_steps.proofs.SlotWordBounds.{law, lives_le}
+use Rattle.ended_calls.specs.refused_attempts.specs.Below.programs_allowed.specs.program_steps.proofs.TickCases.{ComesNext, with_rights, tick_keeps_marks}
+use Rattle.ended_calls.specs.refused_attempts.specs.Below.programs_allowed.specs.program_walks.proofs.LivesFailedByEnding.{Fails, fails_ending, what_fails}
+use Rattle.ended_calls.specs.refused_attempts.specs.Below.programs_allowed.specs.sock_runs.proofs.LinkNotes.{links_only}
+use Rattle.ended_calls.specs.refused_attempts.specs.Below.programs_allowed.specs.sock_runs.proofs.LinksStay.{IsGiven, run_given}
+use Rattle.ended_calls.specs.refused_attempts.specs.Below.programs_allowed.specs.sock_runs.proofs.LinkTicks.{RetriesGo}
+use Rattle.ended_calls.specs.refused_attempts.specs.Below.programs_allowed.specs.sock_runs.proofs.NotesOfSteps.{bears}
+use Rattle.ended_calls.specs.refused_attempts.specs.Below.programs_allowed.specs.sock_runs.proofs.Quiets.{run_seats}
+use Rattle.ended_calls.specs.refused_attempts.specs.Below.programs_allowed.specs.program_walks.proofs.Records.{stores, next_stores, opens_same}
+use Rattle.ended_calls.specs.refused_attempts.specs.Below.programs_allowed.specs.program_walks.proofs.Recorded.{Recorded, IsPending}
+use Rattle.ended_calls.specs.refused_attempts.specs.Below.programs_allowed.specs.sock_runs.proofs.TicksKeepSeatsSound.{sound_ticks}
+use Rattle.ended_calls.specs.refused_attempts.specs.Below.programs_allowed.specs.sock_runs.proofs.SlotVersionsRise.{versions_on, odd_past}
+use Rattle.ended_calls.specs.refused_attempts.specs.Below.programs_allowed.specs.program_walks.proofs.WholeScriptSound.{closing_of, views_played, views_closed, end_answered, closing_sound, rested_ahead, recorded_closing, closed_ahead}
+use Rattle.ended_calls.specs.refused_attempts.specs.Below.joint_runs.proofs.RunsOfBothTables.{AreMade, first_views}
+use Rattle.ended_calls.specs.refused_attempts.specs.accept_counts.proofs.EarlyClosedSockets.{start, go, fitting}
+use Rattle.ended_calls.specs.refused_attempts.specs.accept_counts.proofs.RestsWithoutCalls.{many, aside}
 use Rattle.corr_core.proofs.NoteSums.{at_length}
 use Rattle.seat_programs.specs.LoopRounds.{first_step}
 
@@ -158,7 +158,7 @@ module _ (p : Plan) (retries : RetriesGo p) where
         (λ f. ⊎_elim (λ a. let id_is = a.1 in let few = sound.limits.slots in let slot_is : socket_id_slot a.0 ≡ i = omega (arith, id_is, few, inside) in let version_is : socket_id_version a.0 ≡ h = omega (arith, id_is, few, inside) in
         let far = a.2 in let low = given_low p c vs sound i h k inside given in
         let other : vref_version (get_or c.words (ref_index i) 0) ≢ h = (λ e. far (ap (λ z. vref_version (get_or c.words (ref_index z) 0)) slot_is ∙ (e ∙ sym version_is))) in gone (omega (arith, low, other)))
-        (λ b. ⊎_elim (λ made. let few = sound.limits.slots in let slot_is : socket_id_slot (socket_id h i + 1 - 1) ≡ i = omega (arith, few, inside) in let is : call ≡ SetOdd i = made ∙ ap SetOdd slot_is in
+        (λ b. ⊎_elim (λ made. let few = sound.limits.slots in let slot_is : socket_id_slot (socket_id h i + 1 - 1) ≡ i = omega (arith, few, inside) in let is : call ≡ OnSlot (SetOdd i) = made ∙ ap OnSlot (SetOdd slot_is) in
         inl (subst (λ y. h < vref_version (get_or (words_after c.words (word_of p y) (word_after y (found_at c.words (word_of p y)))) (ref_index i) 0)) (sym is) (odd_past p c vs sound j v at i h inside (given_born p c vs sound i h k inside given)))) (λ g. inr g) b)
         (what_fails p c.words o (socket_id h i + 1) call next word f)) x
       where
@@ -207,7 +207,7 @@ module _ (script : List Item) (made : AreMade script) (turns : List Turn) (core 
   answered : AreAnswered (plan_of script) (closing_of script turns core is) (replicate is.last (quiet 0))
   answered = end_answered script made.are (first_views script) (start script made turns core is) (go script made turns core is) turns core is (fitting script made turns core is)
 
-  recorded : Recorded (plan_of script) (Rattle.refused_attempts.specs.Below.programs_allowed.specs.program_walks.proofs.WholeScriptSound.IsListed script) (closing_of script turns core is) (views_played script turns core is (first_views script))
+  recorded : Recorded (plan_of script) (Rattle.ended_calls.specs.refused_attempts.specs.Below.programs_allowed.specs.program_walks.proofs.WholeScriptSound.IsListed script) (closing_of script turns core is) (views_played script turns core is (first_views script))
   recorded = recorded_closing script made.are (first_views script) (start script made turns core is) (go script made turns core is) turns core is (fitting script made turns core is)
 
   -- seat 0 as it begins the ending

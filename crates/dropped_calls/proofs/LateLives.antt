@@ -10,11 +10,11 @@ use Rattle.sock_model.specs.declared.view.View.{View}
 use Rattle.sock_model.specs.SocketTableLayout.{ref_index, link_index}
 use Rattle.sock_model.specs.MarkWeights.{is_linked}
 use Rattle.sock_model.specs.SlotRows.{marks_of}
-use Rattle.refused_attempts.specs.Below.sock_steps.proofs.LifeLinkSlotPlaces.{counts}
-use Rattle.refused_attempts.specs.Below.sock_steps.proofs.SumsAsMarksChange.{either_way}
+use Rattle.ended_calls.specs.refused_attempts.specs.Below.sock_steps.proofs.LifeLinkSlotPlaces.{counts}
+use Rattle.ended_calls.specs.refused_attempts.specs.Below.sock_steps.proofs.SumsAsMarksChange.{either_way}
 use Rattle.corr_core.specs.IdSlotWord.{parts}
 use Rattle.corr_core.specs.EndedByRangeOrAttempt.{ends_call}
-use Rattle.seat_programs.specs.TableSteps.{TableStep, CreateLife}
+use Rattle.seat_programs.specs.TableSteps.{TableStep, OnSlot, CreateLife}
 use Rattle.seat_programs.specs.SlotFreedByDrop.{call_in}
 use Rattle.seat_programs.specs.LoopHeads.{Head, Exit, Decides, Locks}
 use Rattle.seat_programs.specs.Programs.{Program, Do, Write, Round}
@@ -25,20 +25,20 @@ use Rattle.seat_programs.specs.Cores.{Core, SeatState, found_at, words_after, ho
 use Rattle.seat_programs.specs.StepTables.{word_of, word_after}
 use Rattle.seat_programs.specs.Ticks.{Moment, IsAnswered, ticked}
 use Rattle.seat_programs.specs.StepTables.{row, hand_at}
-use Rattle.refused_attempts.specs.Below.programs_allowed.specs.program_steps.specs.SoundSeats.{state, Sound, IsFitting, views_after}
-use Rattle.refused_attempts.specs.Below.programs_allowed.specs.program_steps.proofs.TickCases.{with_rights, tick_keeps_marks}
-use Rattle.refused_attempts.specs.Below.programs_allowed.specs.sock_runs.proofs.LinkNotes.{links_only, birth_links}
-use Rattle.refused_attempts.specs.Below.programs_allowed.specs.sock_runs.proofs.LinksStay.{IsGiven, finds_given}
-use Rattle.refused_attempts.specs.Below.programs_allowed.specs.sock_runs.proofs.SlotVersionsRise.{versions_on, look_holds}
-use Rattle.refused_attempts.specs.Below.outcome_stories.specs.Facts.{born_of, born_at}
-use Rattle.refused_attempts.specs.Below.outcome_stories.specs.OperationStories.{In}
+use Rattle.ended_calls.specs.refused_attempts.specs.Below.programs_allowed.specs.program_steps.specs.SoundSeats.{state, Sound, IsFitting, views_after}
+use Rattle.ended_calls.specs.refused_attempts.specs.Below.programs_allowed.specs.program_steps.proofs.TickCases.{with_rights, tick_keeps_marks}
+use Rattle.ended_calls.specs.refused_attempts.specs.Below.programs_allowed.specs.sock_runs.proofs.LinkNotes.{links_only, birth_links}
+use Rattle.ended_calls.specs.refused_attempts.specs.Below.programs_allowed.specs.sock_runs.proofs.LinksStay.{IsGiven, finds_given}
+use Rattle.ended_calls.specs.refused_attempts.specs.Below.programs_allowed.specs.sock_runs.proofs.SlotVersionsRise.{versions_on, look_holds}
+use Rattle.ended_calls.specs.refused_attempts.specs.Below.outcome_stories.specs.Facts.{born_of, born_at}
+use Rattle.ended_calls.specs.refused_attempts.specs.Below.outcome_stories.specs.OperationStories.{In}
 use Rattle.dropped_calls.proofs.LateSeats.{Tells}
 
 -- ## Births
 
 -- the next step makes no life
 abbrev IsBirthless : Program → Type 0
-IsBirthless (Do (CreateLife i k) next) = ⊥
+IsBirthless (Do (OnSlot (CreateLife i k)) next) = ⊥
 IsBirthless other = Unit {0}
 
 birthless_block : (w : Writing) (after : Program) → IsBirthless (block w after)
@@ -52,12 +52,12 @@ birthless_round (Locks i sought std.None) next = tt
 birthless_round _ next = tt
 
 -- where a seat's next step makes a life, the tick shows its link
-begins_birth : (i k : ℕ) (next : ℕ → Program) (program : Program) → first_step program ≡ Do (CreateLife i k) next → born_of (call_in program) ≡ k ∷ []
+begins_birth : (i k : ℕ) (next : ℕ → Program) (program : Program) → first_step program ≡ Do (OnSlot (CreateLife i k)) next → born_of (call_in program) ≡ k ∷ []
 begins_birth i k next (Write w after) e = absurd (subst IsBirthless e (birthless_block w after))
 begins_birth i k next (Round head exits) e = absurd (subst IsBirthless e (birthless_round head exits))
 begins_birth i k next _ e = subst (λ q. born_of (call_in q) ≡ k ∷ []) (sym e) refl
 
-birth_shown : (c : Core) (m : Moment) (seat : SeatState) (i k : ℕ) (next : ℕ → Program) → get_elem? c.seats m.seat ≡ some seat → first_step seat.program ≡ Do (CreateLife i k) next → In k (born_at c m)
+birth_shown : (c : Core) (m : Moment) (seat : SeatState) (i k : ℕ) (next : ℕ → Program) → get_elem? c.seats m.seat ≡ some seat → first_step seat.program ≡ Do (OnSlot (CreateLife i k)) next → In k (born_at c m)
 birth_shown c m seat i k next at is = subst (In k) (sym (ap (λ (o : Option SeatState). elim o as (λ o. List ℕ) [ none ↦ [] | some s ↦ born_of (call_in s.program) ]) at ∙ begins_birth i k next seat.program is)) (inl refl)
 
 module _ (p : Plan) (base : Core) (L : ℕ → Type 0) where
@@ -78,8 +78,8 @@ module _ (p : Plan) (base : Core) (L : ℕ → Type 0) where
   }
 
   -- a step notes a link of no other life than the one that it makes
-  links_after : (v : View) (found : ℕ) (hand : Hand) (h k j : ℕ) (call : TableStep) → ((i l : ℕ) → call ≡ CreateLife i l → L l) → L k ⊎ (marks_of (is_linked h k) j (row p call found hand v) ≤ marks_of (is_linked h k) j v)
-  links_after v found hand h k j (CreateLife i l) born = ⊎_elim (λ a. inl (subst L (sym a.2) (born i l refl))) (λ less. inr less) (birth_links p v found hand h k i l j)
+  links_after : (v : View) (found : ℕ) (hand : Hand) (h k j : ℕ) (call : TableStep) → ((i l : ℕ) → call ≡ OnSlot (CreateLife i l) → L l) → L k ⊎ (marks_of (is_linked h k) j (row p call found hand v) ≤ marks_of (is_linked h k) j v)
+  links_after v found hand h k j (OnSlot (CreateLife i l)) born = ⊎_elim (λ a. inl (subst L (sym a.2) (born i l refl))) (λ less. inr less) (birth_links p v found hand h k i l j)
   links_after v found hand h k j call born = inr (links_only p v found hand h k call refl j)
 
   pub lives_ticks : (c : Core) (vs : List View) (m : Moment) → Sound p c vs → IsAnswered c m → IsFitting p c m → ((k : ℕ) → In k (born_at c m) → L k) → Lives c vs → Lives (ticked p c m) (views_after p c vs m)

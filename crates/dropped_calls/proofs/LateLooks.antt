@@ -7,12 +7,12 @@ use Rattle.sock_words.specs.PackedWords.{socket_id_version, socket_id_slot, vref
 use Rattle.sock_words.specs.declared.outcome.Outcome.TheVariants.{Unopened, Gone, Full}
 use Rattle.sock_model.specs.declared.chain.Heading.{Heading}
 use Rattle.sock_model.specs.Entries.{ticket_of}
-use Rattle.refused_attempts.specs.Below.sock_steps.proofs.SumsAsMarksChange.{either_way}
+use Rattle.ended_calls.specs.refused_attempts.specs.Below.sock_steps.proofs.SumsAsMarksChange.{either_way}
 use Rattle.sock_message.specs.Asked.{Asked, frame_of}
 use Rattle.seat_programs.specs.declared.task.Op.{Op}
 use Rattle.seat_programs.specs.declared.task.Task.{Task}
 use Rattle.seat_programs.specs.declared.task.Sizes.{Sizes}
-use Rattle.seat_programs.specs.TableSteps.{TableStep, LookWord, FindLink, ClaimRequest, SwapHead, EmptyHead}
+use Rattle.seat_programs.specs.TableSteps.{TableStep, OnSlot, OnChain, LookWord, FindLink, ClaimRequest, SwapHead, EmptyHead}
 use Rattle.seat_programs.specs.Asides.{StoreAt}
 use Rattle.seat_programs.specs.LoopHeads.{Head, Exit, Retry, Posts, Unlocks, Decides, Opens, Posting, Unlocking, Deciding}
 use Rattle.seat_programs.specs.Programs.{Program, Do, Say, Sent, Write, Aside, Round, Keep, Retries, release, add_reference}
@@ -23,14 +23,14 @@ use Rattle.seat_programs.specs.CallAndRetryPrograms.{claims_from, heading_for, a
 use Rattle.seat_programs.specs.LoopRounds.{round, first_step}
 use Rattle.seat_programs.specs.ClientProgram.{HeldLife, operation, client_from}
 use Rattle.seat_programs.specs.Cores.{resolved, next_step}
-use Rattle.refused_attempts.specs.Below.programs_allowed.specs.program_steps.specs.AtSteps.{Asks, AtSteps, asks_words}
-use Rattle.refused_attempts.specs.Below.programs_allowed.specs.program_steps.proofs.AtCalls.{every_exit}
-use Rattle.refused_attempts.specs.Below.programs_allowed.specs.program_walks.proofs.Records.{awaits}
-use Rattle.refused_attempts.specs.Below.programs_allowed.specs.program_walks.proofs.Through.{PassesPlain, PassesFails, PassesLinks, PassesReads, any_end, is_of_message, by_errors, others_plain, others_failing, others_make, reads_any, at_steps_plain, at_steps_links, through_release, through_address, through_reach, through_set_failed, through_fail}
-use Rattle.refused_attempts.specs.Below.programs_allowed.specs.program_walks.proofs.ThroughLoops.{through_post, through_errors, through_round}
-use Rattle.refused_attempts.specs.Below.programs_allowed.specs.program_walks.proofs.ThroughSends.{through_block, through_write_link}
-use Rattle.refused_attempts.specs.Below.programs_allowed.specs.program_walks.proofs.ThroughCalls.{through_call, through_retry, through_join, through_reading}
-use Rattle.refused_attempts.specs.Below.programs_allowed.specs.program_walks.proofs.ThroughClients.{through_open, through_back, through_operation}
+use Rattle.ended_calls.specs.refused_attempts.specs.Below.programs_allowed.specs.program_steps.specs.AtSteps.{Asks, AtSteps, asks_words}
+use Rattle.ended_calls.specs.refused_attempts.specs.Below.programs_allowed.specs.program_steps.proofs.AtCalls.{every_exit}
+use Rattle.ended_calls.specs.refused_attempts.specs.Below.programs_allowed.specs.program_walks.proofs.Records.{awaits}
+use Rattle.ended_calls.specs.refused_attempts.specs.Below.programs_allowed.specs.program_walks.proofs.Through.{PassesPlain, PassesFails, PassesLinks, PassesReads, any_end, is_of_message, by_errors, others_plain, others_failing, others_make, reads_any, at_steps_plain, at_steps_links, through_release, through_address, through_reach, through_set_failed, through_fail}
+use Rattle.ended_calls.specs.refused_attempts.specs.Below.programs_allowed.specs.program_walks.proofs.ThroughLoops.{through_post, through_errors, through_round}
+use Rattle.ended_calls.specs.refused_attempts.specs.Below.programs_allowed.specs.program_walks.proofs.ThroughSends.{through_block, through_write_link}
+use Rattle.ended_calls.specs.refused_attempts.specs.Below.programs_allowed.specs.program_walks.proofs.ThroughCalls.{through_call, through_retry, through_join, through_reading}
+use Rattle.ended_calls.specs.refused_attempts.specs.Below.programs_allowed.specs.program_walks.proofs.ThroughClients.{through_open, through_back, through_operation}
 
 -- ## What a seat has in hand of a message
 
@@ -54,10 +54,10 @@ seen id found Writes = Writes
 seen id found other = if vref_version found % 2 == 0 then Saw id else Idle
 
 abbrev LooksAt : Mode → TableStep → (ℕ → Program) → (Mode → ℕ → Type 0) → Type 0
-LooksAt m (LookWord id) next behind = (found : ℕ) → behind (seen id found m) found
-LooksAt m (ClaimRequest id q) next behind = (m ≡ Saw id) × ((found : ℕ) → behind (if found % 2 == 0 then Claims else Saw id) found)
-LooksAt m (SwapHead i own) next behind = (m ≡ Claims) × ((found : ℕ) → behind (if nat_lt found IDLE then Idle else Writes) found)
-LooksAt m (EmptyHead i last) next behind = (m ≡ Writes) × ((found : ℕ) → behind (if found == last then Idle else Writes) found)
+LooksAt m (OnSlot (LookWord id)) next behind = (found : ℕ) → behind (seen id found m) found
+LooksAt m (OnChain (ClaimRequest id q)) next behind = (m ≡ Saw id) × ((found : ℕ) → behind (if found % 2 == 0 then Claims else Saw id) found)
+LooksAt m (OnChain (SwapHead i own)) next behind = (m ≡ Claims) × ((found : ℕ) → behind (if nat_lt found IDLE then Idle else Writes) found)
+LooksAt m (OnChain (EmptyHead i last)) next behind = (m ≡ Writes) × ((found : ℕ) → behind (if found == last then Idle else Writes) found)
 LooksAt m call next behind = (found : ℕ) → behind m found
 
 abbrev LooksLoop : Mode → (head : Head) → (Mode → Exit head → Type 0) → Type 0
@@ -88,10 +88,10 @@ module _ (m : Mode) where
   G program = Looks m program
 
   looks_others : (call : TableStep) (next : ℕ → Program) → is_of_message call ≡ false → ((found : ℕ) → G (next found)) → G (Do call next)
-  looks_others (LookWord id) next is r = absurd (true≢false is)
-  looks_others (ClaimRequest id q) next is r = absurd (true≢false is)
-  looks_others (SwapHead i own) next is r = absurd (true≢false is)
-  looks_others (EmptyHead i last) next is r = absurd (true≢false is)
+  looks_others (OnSlot (LookWord id)) next is r = absurd (true≢false is)
+  looks_others (OnChain (ClaimRequest id q)) next is r = absurd (true≢false is)
+  looks_others (OnChain (SwapHead i own)) next is r = absurd (true≢false is)
+  looks_others (OnChain (EmptyHead i last)) next is r = absurd (true≢false is)
   looks_others call next is r = r
 
   looks_plain : PassesPlain G
@@ -145,7 +145,7 @@ looks_claims (suc more) q id heading bytes full accepted none_ after = (
 )
 
 looks_tries : (requests o socket id n : ℕ) (heading : Heading) (bytes : List ℕ) (next : Program) → LooksOn next
-    → Looks Idle (add_reference socket (Do (FindLink (socket_id_slot socket) (socket_id_version socket)) (λ k. Aside (StoreAt o (at_word (id_first id) (id_slot id) k n)) (λ _. Do (LookWord socket) (λ found.
+    → Looks Idle (add_reference socket (Do (OnSlot (FindLink (socket_id_slot socket) (socket_id_version socket))) (λ k. Aside (StoreAt o (at_word (id_first id) (id_slot id) k n)) (λ _. Do (OnSlot (LookWord socket)) (λ found.
     cond (vref_version found % 2 == 0) (claims_from requests 0 socket heading bytes (post id 3001 n (release (socket_id_slot socket) (λ _. next))) (release (socket_id_slot socket) (λ _. next)))
     (post id 1009 n (release (socket_id_slot socket) (λ _. next))))))) (λ _. post id 1009 n next))
 looks_tries requests o socket id n heading bytes next after = let rest : Program = release (socket_id_slot socket) (λ _. next) in

@@ -18,8 +18,8 @@ use Rattle.sock_model.specs.declared.view.View.{View}
 use Rattle.sock_model.specs.ChainRows.{with_claim, with_right, without_right, queued, righted, turned_right, placed_right, dropped_right, taken_right, put_right, ready_claim, filled_claim}
 use Rattle.sock_model.specs.SocketTableLayout.{ref_index}
 use Rattle.sock_model.specs.SlotRows.{looked, met_link}
-use Rattle.refused_attempts.specs.Below.sock_steps.proofs.SumsAsMarksChange.{either_way}
-use Rattle.seat_programs.specs.TableSteps.{TableStep, LookWord, ClaimRequest, PutMessage, Unconnect, SwapHead, EmptyHead, ReadNext, ReverseNext, FreeRequest, StorePlace, DropPlace}
+use Rattle.ended_calls.specs.refused_attempts.specs.Below.sock_steps.proofs.SumsAsMarksChange.{either_way}
+use Rattle.seat_programs.specs.TableSteps.{TableStep, OnSlot, OnChain, OnPlace, OnMessage, LookWord, ClaimRequest, PutMessage, Unconnect, SwapHead, EmptyHead, ReadNext, ReverseNext, FreeRequest, StorePlace, DropPlace}
 use Rattle.seat_programs.specs.LoopHeads.{Retry}
 use Rattle.seat_programs.specs.Programs.{Program, Do}
 use Rattle.seat_programs.specs.Cores.{Core, SeatState, resolved, next_step, found_at, waiting_at, hand_after, lies_at, others_of, link_place}
@@ -33,11 +33,11 @@ use Rattle.seat_programs.specs.StepsOfSlots.{looked_clean}
 use Rattle.seat_programs.specs.StepsOfPlaces.{placed_next, dropped_next}
 use Rattle.seat_programs.specs.StepsOfLinks.{link_away, link_home_again, took_bytes}
 use Rattle.seat_programs.specs.StepTables.{May}
-use Rattle.refused_attempts.specs.Below.programs_allowed.specs.program_steps.specs.SoundSeats.{Sound, IsFitting, views_after}
-use Rattle.refused_attempts.specs.Below.programs_allowed.specs.program_steps.proofs.Leaves.{claim_way, right_way, claims_stay, rights_stay}
-use Rattle.refused_attempts.specs.Below.programs_allowed.specs.program_steps.proofs.TickCases.{tick_cases}
+use Rattle.ended_calls.specs.refused_attempts.specs.Below.programs_allowed.specs.program_steps.specs.SoundSeats.{Sound, IsFitting, views_after}
+use Rattle.ended_calls.specs.refused_attempts.specs.Below.programs_allowed.specs.program_steps.proofs.Leaves.{claim_way, right_way, claims_stay, rights_stay}
+use Rattle.ended_calls.specs.refused_attempts.specs.Below.programs_allowed.specs.program_steps.proofs.TickCases.{tick_cases}
 use Rattle.dropped_calls.proofs.LateLooks.{Mode, Idle, Saw, Claims, Writes, IsCalm, seen, Looks, looks_first, looks_next}
-use Rattle.refused_attempts.specs.Below.outcome_ticks.proofs.ClaimAndAcceptedMessages.{IsNoSwap}
+use Rattle.ended_calls.specs.refused_attempts.specs.Below.outcome_ticks.proofs.ClaimAndAcceptedMessages.{IsNoSwap}
 
 -- ## Claims and rights
 
@@ -87,7 +87,7 @@ module _ (P : View → Type 0) (v : View) (same : P v) (r : Right) (rights : (s 
   drops _ = same
 
 abbrev IsNoClaim : TableStep → Type 0
-IsNoClaim (ClaimRequest id q) = ⊥
+IsNoClaim (OnChain (ClaimRequest id q)) = ⊥
 IsNoClaim other = Unit {0}
 
 module _ (p : Plan) (v : View) (found : ℕ) (hand : Hand) where
@@ -97,10 +97,10 @@ module _ (p : Plan) (v : View) (found : ℕ) (hand : Hand) where
     P u = Claiming C u.claims
 
     claims_keep : (call : TableStep) → IsNoClaim call → Claiming C (row p call found hand v).claims
-    claims_keep (ClaimRequest id q) no_ = absurd no_
-    claims_keep (PutMessage q heading bytes) no_ = claimed C v (λ c. filled_claim c heading bytes) (λ c. refl) v.claims e e
-    claims_keep (Unconnect q) no_ = claimed C v ready_claim (λ c. refl) v.claims e e
-    claims_keep (SwapHead i own) no_ = claim_way P v.claims (exchanged found hand v) v e (λ c. either_way (nat_lt found IDLE) (queued v c found) (righted v c found hand.took hand.next) P tt tt)
+    claims_keep (OnChain (ClaimRequest id q)) no_ = absurd no_
+    claims_keep (OnMessage (PutMessage q heading bytes)) no_ = claimed C v (λ c. filled_claim c heading bytes) (λ c. refl) v.claims e e
+    claims_keep (OnChain (Unconnect q)) no_ = claimed C v ready_claim (λ c. refl) v.claims e e
+    claims_keep (OnChain (SwapHead i own)) no_ = claim_way P v.claims (exchanged found hand v) v e (λ c. either_way (nat_lt found IDLE) (queued v c found) (righted v c found hand.took hand.next) P tt tt)
     claims_keep call no_ = subst (Claiming C) (sym (claims_stay p v found hand call refl)) e
 
   -- no other step gives a right to write another link
@@ -113,16 +113,16 @@ module _ (p : Plan) (v : View) (found : ℕ) (hand : Hand) where
     kept r own s same = (subst R (sym same) own, filtered R (λ (x : Right). not (x.link == s.link)) v.rights e)
 
     rights_keep : (call : TableStep) → IsNoSwap call → Righted R (row p call found hand v).rights
-    rights_keep (LookWord id) no_ = by_rights Q R (looked (socket_id_slot id) found v) v.rights (looked_clean (socket_id_slot id) found v) e e
+    rights_keep (OnSlot (LookWord id)) no_ = by_rights Q R (looked (socket_id_slot id) found v) v.rights (looked_clean (socket_id_slot id) found v) e e
         (λ r own. either_way (vref_version found % 2 == 0) (with_right (looked (socket_id_slot id) found v) (record r { clean = true })) (looked (socket_id_slot id) found v) Q (kept r own (record r { clean = true }) refl) e)
-    rights_keep (SwapHead i own) no_ = absurd no_
-    rights_keep (EmptyHead i last) no_ = by_rights Q R v v.rights (emptied last found v) e e (λ r own. either_way (found == last) (without_right v r.link) (with_right v (record r { stage = stages.Reversing found found 0 })) Q
+    rights_keep (OnChain (SwapHead i own)) no_ = absurd no_
+    rights_keep (OnChain (EmptyHead i last)) no_ = by_rights Q R v v.rights (emptied last found v) e e (λ r own. either_way (found == last) (without_right v r.link) (with_right v (record r { stage = stages.Reversing found found 0 })) Q
         (filtered R (λ (x : Right). not (x.link == r.link)) v.rights e) (kept r own (record r { stage = stages.Reversing found found 0 }) refl))
-    rights_keep (ReadNext q) no_ = by_rights Q R v v.rights (λ r. read_next found v r r.stage) e e (λ r own. reads Q v e r (kept r own) found r.stage)
-    rights_keep (ReverseNext q value) no_ = by_rights Q R v v.rights (λ r. turned_next v r r.stage) e e (λ r own. turns Q v e r (kept r own) r.stage)
-    rights_keep (FreeRequest q g) no_ = by_rights Q R v v.rights (freed_next v) e e (λ r own. kept r own (record r { stage = freed_stage r.stage }) refl)
-    rights_keep (StorePlace l k n) no_ = by_rights Q R v v.rights (λ r. placed_next v r r.stage) e e (λ r own. places Q v e r (kept r own) r.stage)
-    rights_keep (DropPlace l k n) no_ = by_rights Q R v v.rights (λ r. dropped_next v r r.stage) e e (λ r own. drops Q v e r (kept r own) r.stage)
+    rights_keep (OnChain (ReadNext q)) no_ = by_rights Q R v v.rights (λ r. read_next found v r r.stage) e e (λ r own. reads Q v e r (kept r own) found r.stage)
+    rights_keep (OnChain (ReverseNext q value)) no_ = by_rights Q R v v.rights (λ r. turned_next v r r.stage) e e (λ r own. turns Q v e r (kept r own) r.stage)
+    rights_keep (OnChain (FreeRequest q g)) no_ = by_rights Q R v v.rights (freed_next v) e e (λ r own. kept r own (record r { stage = freed_stage r.stage }) refl)
+    rights_keep (OnPlace (StorePlace l k n)) no_ = by_rights Q R v v.rights (λ r. placed_next v r r.stage) e e (λ r own. places Q v e r (kept r own) r.stage)
+    rights_keep (OnPlace (DropPlace l k n)) no_ = by_rights Q R v v.rights (λ r. dropped_next v r r.stage) e e (λ r own. drops Q v e r (kept r own) r.stage)
     rights_keep call no_ = subst (Righted R) (sym (rights_stay p v found hand call refl)) e
 
     -- nor do moves and puts
@@ -172,23 +172,23 @@ module _ (p : Plan) (L : ℕ → Type 0) (Old : ℕ → ℕ → Type 0) where
   -- ## A step
 
   module _ (v : View) (found : ℕ) (hand : Hand) where
-    looks_at : (id : ℕ) → (vref_version found % 2 ≡ 0 → Old (socket_id_slot id) (socket_id_version id) → ⊥) → (m : Mode) → Stands m v → Stands (seen id found m) (row p (LookWord id) found hand v)
-    looks_at id live Claims s = record { claims = claims_keep p v found hand L s.claims (LookWord id) tt; rights = rights_keep p v found hand Never s.rights (LookWord id) tt; new = tt }
-    looks_at id live Writes s = record { claims = claims_keep p v found hand Never s.claims (LookWord id) tt; rights = rights_keep p v found hand L s.rights (LookWord id) tt; new = tt }
+    looks_at : (id : ℕ) → (vref_version found % 2 ≡ 0 → Old (socket_id_slot id) (socket_id_version id) → ⊥) → (m : Mode) → Stands m v → Stands (seen id found m) (row p (OnSlot (LookWord id)) found hand v)
+    looks_at id live Claims s = record { claims = claims_keep p v found hand L s.claims (OnSlot (LookWord id)) tt; rights = rights_keep p v found hand Never s.rights (OnSlot (LookWord id)) tt; new = tt }
+    looks_at id live Writes s = record { claims = claims_keep p v found hand Never s.claims (OnSlot (LookWord id)) tt; rights = rights_keep p v found hand L s.rights (OnSlot (LookWord id)) tt; new = tt }
     looks_at id live m s = by_even (vref_version found % 2 == 0) refl
       where
-        by_even : (b : Bool) → (vref_version found % 2 == 0) ≡ b → Stands (cond b (Saw id) Idle) (row p (LookWord id) found hand v)
-        by_even true e = record { claims = claims_keep p v found hand Never s.claims (LookWord id) tt; rights = rights_keep p v found hand Never s.rights (LookWord id) tt; new = live (eqb-true _ 0 e) }
-        by_even false e = record { claims = claims_keep p v found hand Never s.claims (LookWord id) tt; rights = rights_keep p v found hand Never s.rights (LookWord id) tt; new = tt }
+        by_even : (b : Bool) → (vref_version found % 2 == 0) ≡ b → Stands (cond b (Saw id) Idle) (row p (OnSlot (LookWord id)) found hand v)
+        by_even true e = record { claims = claims_keep p v found hand Never s.claims (OnSlot (LookWord id)) tt; rights = rights_keep p v found hand Never s.rights (OnSlot (LookWord id)) tt; new = live (eqb-true _ 0 e) }
+        by_even false e = record { claims = claims_keep p v found hand Never s.claims (OnSlot (LookWord id)) tt; rights = rights_keep p v found hand Never s.rights (OnSlot (LookWord id)) tt; new = tt }
 
-    claims_one : (id q : ℕ) → ((Old (socket_id_slot id) (socket_id_version id) → ⊥) → L hand.link) → Stands (Saw id) v → Stands (cond (found % 2 == 0) Claims (Saw id)) (row p (ClaimRequest id q) found hand v)
+    claims_one : (id q : ℕ) → ((Old (socket_id_slot id) (socket_id_version id) → ⊥) → L hand.link) → Stands (Saw id) v → Stands (cond (found % 2 == 0) Claims (Saw id)) (row p (OnChain (ClaimRequest id q)) found hand v)
     claims_one id q given s = by_free (found % 2 == 0)
       where
         by_free : (b : Bool) → Stands (cond b Claims (Saw id)) (cond b (with_claim (met_link (socket_id_slot id) (socket_id_version id) hand.link v) (new_claim hand.link q found)) v)
         by_free true = record { claims = (given s.new, tt); rights = s.rights; new = tt }
         by_free false = s
 
-    swaps : (i own : ℕ) → Stands Claims v → Stands (cond (nat_lt found IDLE) Idle Writes) (row p (SwapHead i own) found hand v)
+    swaps : (i own : ℕ) → Stands Claims v → Stands (cond (nat_lt found IDLE) Idle Writes) (row p (OnChain (SwapHead i own)) found hand v)
     swaps i own s = by_claims v.claims refl s.claims (nat_lt found IDLE)
       where
         by_claims : (cs : List Claim) → v.claims ≡ cs → Claiming L cs → (b : Bool) → Stands (cond b Idle Writes) (by_claim cs (λ c. cond b (queued v c found) (righted v c found hand.took hand.next)) v)
@@ -197,7 +197,7 @@ module _ (p : Plan) (L : ℕ → Type 0) (Old : ℕ → ℕ → Type 0) where
         by_claims (c ∷ cs) e a true = record { claims = tt; rights = s.rights; new = tt }
         by_claims (c ∷ cs) e a false = record { claims = tt; rights = (a.0, any_right L v.rights s.rights); new = tt }
 
-    empties : (i last : ℕ) → May p v (EmptyHead i last) → Stands Writes v → Stands (cond (found == last) Idle Writes) (row p (EmptyHead i last) found hand v)
+    empties : (i last : ℕ) → May p v (OnChain (EmptyHead i last)) → Stands Writes v → Stands (cond (found == last) Idle Writes) (row p (OnChain (EmptyHead i last)) found hand v)
     empties i last may s = subst (λ rs. Stands (cond (found == last) Idle Writes) (by_right rs (emptied last found v) v)) (sym may.1.1) (by_hit (found == last))
       where
         r : Right
@@ -211,13 +211,13 @@ module _ (p : Plan) (L : ℕ → Type 0) (Old : ℕ → ℕ → Type 0) where
         by_hit false = record { claims = s.claims; rights = (own.0, filtered L (λ (x : Right). not (x.link == r.link)) v.rights s.rights); new = tt }
 
     pub step_stands : (call : TableStep) (next : ℕ → Program) (m : Mode) → Looks m (Do call next) → May p v call
-        → ((id : ℕ) → call ≡ LookWord id → vref_version found % 2 ≡ 0 → Old (socket_id_slot id) (socket_id_version id) → ⊥)
-        → ((id q : ℕ) → call ≡ ClaimRequest id q → (Old (socket_id_slot id) (socket_id_version id) → ⊥) → L hand.link)
+        → ((id : ℕ) → call ≡ OnSlot (LookWord id) → vref_version found % 2 ≡ 0 → Old (socket_id_slot id) (socket_id_version id) → ⊥)
+        → ((id q : ℕ) → call ≡ OnChain (ClaimRequest id q) → (Old (socket_id_slot id) (socket_id_version id) → ⊥) → L hand.link)
         → Stands m v → (n : Mode) × Looks n (next found) × Stands n (row p call found hand v)
-    step_stands (LookWord id) next m x may live given s = (seen id found m, x found, looks_at id (live id refl) m s)
-    step_stands (ClaimRequest id q) next m x may live given s = (cond (found % 2 == 0) Claims (Saw id), x.1 found, claims_one id q (given id q refl) (subst (λ k. Stands k v) x.0 s))
-    step_stands (SwapHead i own) next m x may live given s = (cond (nat_lt found IDLE) Idle Writes, x.1 found, swaps i own (subst (λ k. Stands k v) x.0 s))
-    step_stands (EmptyHead i last) next m x may live given s = (cond (found == last) Idle Writes, x.1 found, empties i last may (subst (λ k. Stands k v) x.0 s))
+    step_stands (OnSlot (LookWord id)) next m x may live given s = (seen id found m, x found, looks_at id (live id refl) m s)
+    step_stands (OnChain (ClaimRequest id q)) next m x may live given s = (cond (found % 2 == 0) Claims (Saw id), x.1 found, claims_one id q (given id q refl) (subst (λ k. Stands k v) x.0 s))
+    step_stands (OnChain (SwapHead i own)) next m x may live given s = (cond (nat_lt found IDLE) Idle Writes, x.1 found, swaps i own (subst (λ k. Stands k v) x.0 s))
+    step_stands (OnChain (EmptyHead i last)) next m x may live given s = (cond (found == last) Idle Writes, x.1 found, empties i last may (subst (λ k. Stands k v) x.0 s))
     step_stands call next m x may live given s = (m, x found, record { claims = claims_keep p v found hand (claims_of m) s.claims call tt; rights = rights_keep p v found hand (rights_of m) s.rights call tt; new = s.new })
 
   -- a move or a put
@@ -247,8 +247,8 @@ module _ (p : Plan) (L : ℕ → Type 0) (Old : ℕ → ℕ → Type 0) where
 
   -- who looks at an old life finds it failed, and the link of each other one is L
   pub record Tells (c : Core) (vs : List View) : Type 0 where
-    pub live : (j : ℕ) (v : View) (id : ℕ) → get_elem? vs j ≡ some v → May p v (LookWord id) → vref_version (get_or c.words (ref_index (socket_id_slot id)) 0) % 2 ≡ 0 → Old (socket_id_slot id) (socket_id_version id) → ⊥
-    pub given : (j : ℕ) (v : View) (id q : ℕ) → get_elem? vs j ≡ some v → May p v (ClaimRequest id q) → (Old (socket_id_slot id) (socket_id_version id) → ⊥) → L (link_in c.words (socket_id_slot id))
+    pub live : (j : ℕ) (v : View) (id : ℕ) → get_elem? vs j ≡ some v → May p v (OnSlot (LookWord id)) → vref_version (get_or c.words (ref_index (socket_id_slot id)) 0) % 2 ≡ 0 → Old (socket_id_slot id) (socket_id_version id) → ⊥
+    pub given : (j : ℕ) (v : View) (id q : ℕ) → get_elem? vs j ≡ some v → May p v (OnChain (ClaimRequest id q)) → (Old (socket_id_slot id) (socket_id_version id) → ⊥) → L (link_in c.words (socket_id_slot id))
 
   pub stand_ticks : (c : Core) (vs : List View) (m : Moment) → Sound p c vs → IsAnswered c m → IsFitting p c m → Tells c vs → AllStand c vs → AllStand (ticked p c m) (views_after p c vs m)
   stand_ticks c vs m sound answered fitting tells all = tick_cases p c vs m sound answered AllStand all

@@ -23,34 +23,34 @@ use Rattle.seat_programs.specs.Tasks.{opens, plan_of, id_plan_of}
 use Rattle.seat_programs.specs.ScriptSetupToEnding.{all_tasks, opened, set_up, IsRunWithCalls}
 use Rattle.seat_programs.specs.Explained.{AreTasks, Made}
 use Rattle.seat_programs.specs.ExplainedCalls.{Accepted, Fixed, StandsOn, MayBeOn, GaveFault}
-use Rattle.attempted_calls.specs.Below.programs_allowed.specs.program_walks.proofs.WholeScriptSound.{closing_of, views_ended, ended_sound, end_rests}
-use Rattle.attempted_calls.specs.Below.outcome_stories.specs.Explains.{is_plain}
-use Rattle.attempted_calls.specs.Below.outcome_stories.specs.KeptStory.{IsSpoken}
-use Rattle.attempted_calls.specs.Below.outcome_stories.specs.PlainTasks.{told_tasks_of}
-use Rattle.attempted_calls.specs.Below.outcome_stories.specs.OperationStories.{In}
-use Rattle.attempted_calls.specs.Below.outcome_ticks.proofs.Lifted.{up, made_up}
-use Rattle.attempted_calls.specs.Below.outcome_stories.proofs.Members.{in_contains, contains_in}
-use Rattle.attempted_calls.specs.Below.outcome_causes.proofs.PlainOutcomeCauses.{in_both}
-use Rattle.attempted_calls.specs.Below.outcome_ticks.proofs.TableTasksDistinct.{one_task}
-use Rattle.attempted_calls.specs.Below.joint_runs.proofs.RunsOfBothTables.{AreMade}
-use Rattle.attempted_calls.specs.Below.call_owing.specs.LivesOfLinks.{ClosesInRun}
-use Rattle.attempted_calls.specs.Below.run_theorems.proofs.GaveTakeByTake.{gave_heard}
-use Rattle.attempted_calls.specs.Below.call_stories.specs.PostsOfRun.{Post}
-use Rattle.attempted_calls.specs.accept_counts.specs.AttemptCounts.{AreLabelled}
-use Rattle.attempted_calls.specs.accept_counts.specs.EndedCalls.{Store, stores_by, stored_at, stores_of_run, reader_posts_of_run, AreStoredOnce, EndedSo, IsEndPost}
-use Rattle.attempted_calls.specs.accept_counts.proofs.Apart as apart
-use Rattle.attempted_calls.specs.sent_once.proofs.OtherTasksBesideCalls.{gave_of_run}
-use Rattle.attempted_calls.specs.accept_counts.proofs.RunsKeepAttemptLaw.{AreLabelledIn, IsCallOf, end_law}
-use Rattle.attempted_calls.specs.sent_once.proofs.SocketOperationsTold.{owed, orders_of_run, narrow, opening_bare}
-use Rattle.attempted_calls.proofs.EndedLives.{at_made, all_over}
-use Rattle.attempted_calls.proofs.EndedNamed.{tasks_are, EndNamed, end_named}
-use Rattle.attempted_calls.proofs.EndedNames.{StoredFor}
+use Rattle.refused_attempts.specs.attempted_calls.specs.Below.programs_allowed.specs.program_walks.proofs.WholeScriptSound.{closing_of, views_ended, ended_sound, end_rests}
+use Rattle.refused_attempts.specs.attempted_calls.specs.Below.outcome_stories.specs.Explains.{is_plain}
+use Rattle.refused_attempts.specs.attempted_calls.specs.Below.outcome_stories.specs.KeptStory.{IsSpoken}
+use Rattle.refused_attempts.specs.attempted_calls.specs.Below.outcome_stories.specs.PlainTasks.{told_tasks_of}
+use Rattle.refused_attempts.specs.attempted_calls.specs.Below.outcome_stories.specs.OperationStories.{In}
+use Rattle.refused_attempts.specs.attempted_calls.specs.Below.outcome_ticks.proofs.Lifted.{up, made_up}
+use Rattle.refused_attempts.specs.attempted_calls.specs.Below.outcome_stories.proofs.Members.{in_contains, contains_in}
+use Rattle.refused_attempts.specs.attempted_calls.specs.Below.outcome_causes.proofs.PlainOutcomeCauses.{in_both}
+use Rattle.refused_attempts.specs.attempted_calls.specs.Below.outcome_ticks.proofs.TableTasksDistinct.{one_task}
+use Rattle.refused_attempts.specs.attempted_calls.specs.Below.joint_runs.proofs.RunsOfBothTables.{AreMade}
+use Rattle.refused_attempts.specs.attempted_calls.specs.Below.call_owing.specs.LivesOfLinks.{ClosesInRun}
+use Rattle.refused_attempts.specs.attempted_calls.specs.Below.run_theorems.proofs.GaveTakeByTake.{gave_heard}
+use Rattle.refused_attempts.specs.attempted_calls.specs.Below.call_stories.specs.PostsOfRun.{Post}
+use Rattle.refused_attempts.specs.attempted_calls.specs.accept_counts.specs.AttemptCounts.{AreLabelled}
+use Rattle.refused_attempts.specs.attempted_calls.specs.accept_counts.specs.EndedCalls.{Store, stores_by, stored_at, stores_of_run, reader_posts_of_run, AreStoredOnce, EndedSo, IsEndPost}
+use Rattle.refused_attempts.specs.attempted_calls.specs.accept_counts.proofs.Apart as apart
+use Rattle.refused_attempts.specs.attempted_calls.specs.sent_once.proofs.OtherTasksBesideCalls.{gave_of_run}
+use Rattle.refused_attempts.specs.attempted_calls.specs.accept_counts.proofs.RunsKeepAttemptLaw.{AreLabelledIn, IsCallOf, end_law}
+use Rattle.refused_attempts.specs.attempted_calls.specs.sent_once.proofs.SocketOperationsTold.{owed, orders_of_run, narrow, opening_bare}
+use Rattle.refused_attempts.specs.attempted_calls.proofs.EndedLives.{at_made, all_over}
+use Rattle.refused_attempts.specs.attempted_calls.proofs.EndedNamed.{tasks_are, EndNamed, end_named}
+use Rattle.refused_attempts.specs.attempted_calls.proofs.EndedNames.{StoredFor}
 use Rattle.ended_calls.proofs.EndedWhole.{run_end_posts}
-use Rattle.attempted_calls.specs.Below.call_stories.proofs.PostLoopCauses.{id_back}
-use Rattle.attempted_calls.specs.accept_counts.proofs.Grounds.{setting, grounds}
-use Rattle.attempted_calls.specs.Below.owned_ids.proofs.OpensStored.{place_at}
+use Rattle.refused_attempts.specs.attempted_calls.specs.Below.call_stories.proofs.PostLoopCauses.{id_back}
+use Rattle.refused_attempts.specs.attempted_calls.specs.accept_counts.proofs.Grounds.{setting, grounds}
+use Rattle.refused_attempts.specs.attempted_calls.specs.Below.owned_ids.proofs.OpensStored.{place_at}
 use Rattle.seat_programs.specs.LoopRounds.{first_step}
-use Rattle.attempted_calls.specs.Below.outcome_stories.specs.Facts.{shown_in}
+use Rattle.refused_attempts.specs.attempted_calls.specs.Below.outcome_stories.specs.Facts.{shown_in}
 
 -- ## Numbers
 
@@ -211,7 +211,7 @@ module _ (script : List Item) (made : AreMade script) (turns : List Turn) (core 
 
     pub of_word : (k o w code : ℕ) (x : Post) → k < (plan_of script).links → IsEndPost script turns core is k o w code x → (c m : ℕ) → x.error ≡ error_of c m → m ≤ 7 → IsReaderPost c m x
     of_word k o w code x low post c m error few = let e = ending in
-        let a = of_load o w (e.loads (record { seat = 32 + k; operation = o; word = w }) (contains_in (Rattle.attempted_calls.specs.accept_counts.specs.EndedCalls.loads_of_run script turns core is) (record { seat = 32 + k; operation = o; word = w }) post.loaded) post.some_) in
+        let a = of_load o w (e.loads (record { seat = 32 + k; operation = o; word = w }) (contains_in (Rattle.refused_attempts.specs.attempted_calls.specs.accept_counts.specs.EndedCalls.loads_of_run script turns core is) (record { seat = 32 + k; operation = o; word = w }) post.loaded) post.some_) in
         let first : id_first (ids o) < 4294967296 = omega arith in
         let link : a.link ≡ k = sym (word_link (id_first (ids o)) (id_slot (ids o)) a.link a.attempt first a.slot a.small a.few) ∙ (sym (ap at_word_link a.word) ∙ post.link) in
         let n_w : at_word_attempt w ≡ a.attempt = ap at_word_attempt a.word ∙ word_attempt (id_first (ids o)) (id_slot (ids o)) a.link a.attempt first a.slot a.small a.few in
@@ -238,7 +238,7 @@ module _ (script : List Item) (made : AreMade script) (turns : List Turn) (core 
         → ((of_word k o w code x low post c m error few).link ≡ k) × ((of_word k o w code x low post c m error few).asked.operation ≡ o)
     unfolding of_word
     of_word_is k o w code x low post c m error few = let e = ending in
-        let a = of_load o w (e.loads (record { seat = 32 + k; operation = o; word = w }) (contains_in (Rattle.attempted_calls.specs.accept_counts.specs.EndedCalls.loads_of_run script turns core is) (record { seat = 32 + k; operation = o; word = w }) post.loaded) post.some_) in (refl, a.operation)
+        let a = of_load o w (e.loads (record { seat = 32 + k; operation = o; word = w }) (contains_in (Rattle.refused_attempts.specs.attempted_calls.specs.accept_counts.specs.EndedCalls.loads_of_run script turns core is) (record { seat = 32 + k; operation = o; word = w }) post.loaded) post.some_) in (refl, a.operation)
 
     pub run_reader_post : (bytes : List ℕ) → script_of bytes ≡ Ok script → (x : Post) → In x (reader_posts_of_run script turns core is) → (code n : ℕ) → x.error ≡ error_of code n → n ≤ 7 → IsReaderPost code n x
     run_reader_post bytes reads x there code n error few = let p = run_end_posts script made turns core is bytes reads x there in of_word p.0 p.1 p.2 p.3 x p.4 p.5 code n error few

@@ -13,19 +13,19 @@ use Rattle.seat_programs.specs.Tasks.{plan_of}
 use Rattle.seat_programs.specs.ScriptSetupToEnding.{all_tasks, IsRunWithCalls}
 use Rattle.seat_programs.specs.Explained.{IsTask}
 use Rattle.seat_programs.specs.ExplainedCalls.{MayBeOn, IsFailing}
-use Rattle.attempted_calls.specs.Below.outcome_stories.specs.OperationStories.{In}
-use Rattle.attempted_calls.specs.Below.outcome_stories.proofs.Members.{contains_in}
-use Rattle.attempted_calls.specs.Below.outcome_ticks.proofs.TableTasksDistinct.{one_task}
-use Rattle.attempted_calls.specs.Below.joint_runs.proofs.RunsOfBothTables.{AreMade}
-use Rattle.attempted_calls.specs.Below.call_owing.specs.LivesOfLinks.{ClosesInRun}
-use Rattle.attempted_calls.specs.Below.call_stories.specs.LinkReadingLists.{early_of_run, closed_of_run, silent_of_run}
-use Rattle.attempted_calls.specs.Below.call_stories.specs.PostsOfRun.{Post}
-use Rattle.attempted_calls.specs.accept_counts.specs.EndedCalls.{reader_posts_of_run, EndedSo}
-use Rattle.attempted_calls.specs.sent_once.proofs.OtherTasksBesideCalls.{gave_of_run, fixed_of_run, orders_here}
-use Rattle.attempted_calls.specs.accept_counts.proofs.RunsKeepAttemptLaw.{AreLabelledIn, IsCallOf}
+use Rattle.refused_attempts.specs.attempted_calls.specs.Below.outcome_stories.specs.OperationStories.{In}
+use Rattle.refused_attempts.specs.attempted_calls.specs.Below.outcome_stories.proofs.Members.{contains_in}
+use Rattle.refused_attempts.specs.attempted_calls.specs.Below.outcome_ticks.proofs.TableTasksDistinct.{one_task}
+use Rattle.refused_attempts.specs.attempted_calls.specs.Below.joint_runs.proofs.RunsOfBothTables.{AreMade}
+use Rattle.refused_attempts.specs.attempted_calls.specs.Below.call_owing.specs.LivesOfLinks.{ClosesInRun}
+use Rattle.refused_attempts.specs.attempted_calls.specs.Below.call_stories.specs.LinkReadingLists.{early_of_run, closed_of_run, silent_of_run}
+use Rattle.refused_attempts.specs.attempted_calls.specs.Below.call_stories.specs.PostsOfRun.{Post}
+use Rattle.refused_attempts.specs.attempted_calls.specs.accept_counts.specs.EndedCalls.{reader_posts_of_run, EndedSo}
+use Rattle.refused_attempts.specs.attempted_calls.specs.sent_once.proofs.OtherTasksBesideCalls.{gave_of_run, fixed_of_run, orders_here}
+use Rattle.refused_attempts.specs.attempted_calls.specs.accept_counts.proofs.RunsKeepAttemptLaw.{AreLabelledIn, IsCallOf}
 use Rattle.ended_calls.proofs.EndedAttempts.{IsReaderPost, run_reader_post}
 use Rattle.ended_calls.proofs.EndedOnce.{run_stored_once}
-use Rattle.attempted_calls.specs.Below.owned_ids.proofs.OpensStored.{place_at}
+use Rattle.refused_attempts.specs.attempted_calls.specs.Below.owned_ids.proofs.OpensStored.{place_at}
 
 module _ (script : List Item) (made : AreMade script) (turns : List Turn) (core : Core) (is : IsRunWithCalls script turns core) (closes : ClosesInRun script turns core is) (ids : ℕ → ℕ) (labelled : AreLabelledIn ids script turns core is)
     -- no two calls have one id

@@ -15,31 +15,31 @@ use Rattle.seat_programs.specs.Programs.{Program, Say, Sent, Keep, Retries}
 use Rattle.seat_programs.specs.Ticks.{Moment, AreAnswered, ticked, run}
 use Rattle.seat_programs.specs.Tasks.{opens, calls, plan_of, id_plan_of}
 use Rattle.seat_programs.specs.ScriptSetupToEnding.{sizes_of, programs, readers_from, all_programs, all_tasks, beginning, opened, set_up, played, IsRunWithCalls}
-use Rattle.attempted_calls.specs.Below.programs_allowed.specs.program_steps.specs.SoundSeats.{Sound, AreFitting, views_after, views_along}
-use Rattle.attempted_calls.specs.Below.programs_allowed.specs.program_steps.proofs.TickCases.{elem_there}
-use Rattle.attempted_calls.specs.Below.programs_allowed.specs.sock_runs.proofs.LinkTicks.{RetriesGo}
-use Rattle.attempted_calls.specs.Below.programs_allowed.specs.program_walks.proofs.OpenedLivesRecorded.{mapped}
-use Rattle.attempted_calls.specs.Below.programs_allowed.specs.sock_runs.proofs.TicksKeepSeatsSound.{sound_ticks}
-use Rattle.attempted_calls.specs.Below.programs_allowed.specs.program_walks.proofs.WholeScriptSound.{closing_of, views_played, views_closed, set_up_answered, end_answered, set_up_sound, closing_sound, closed_sound}
-use Rattle.attempted_calls.specs.Below.outcome_stories.specs.OperationStories.{In}
-use Rattle.attempted_calls.specs.Below.outcome_causes.proofs.Final.{at_there}
-use Rattle.attempted_calls.specs.Below.outcome_stories.proofs.Members.{contains_in}
-use Rattle.attempted_calls.specs.Below.outcome_causes.proofs.PlainOutcomeCauses.{in_left, in_right, in_both}
-use Rattle.attempted_calls.specs.Below.outcome_causes.proofs.Begin.{no_call}
-use Rattle.attempted_calls.specs.Below.joint_runs.proofs.RunsOfBothTables.{AreMade, first_views}
-use Rattle.attempted_calls.specs.Below.label_runs.specs.AttemptLabelsLeft.{Trial, Idle, Labels}
-use Rattle.attempted_calls.specs.Below.label_runs.proofs.ProgramsKeepAttempts.{ending_goes}
-use Rattle.attempted_calls.specs.Below.call_owing.specs.LivesOfLinks.{ClosesInRun}
-use Rattle.attempted_calls.specs.accept_counts.specs.AttemptCounts.{AreLabelled}
-use Rattle.attempted_calls.specs.accept_counts.specs.EndedCalls.{Store, stored_at, stores_of_run, AreStoredOnce}
-use Rattle.attempted_calls.specs.Below.call_stories.proofs.RunTicks.{in_setup, in_clients, in_closing}
-use Rattle.attempted_calls.specs.accept_counts.proofs.EarlyClosedSockets.{start, go, fitting}
-use Rattle.attempted_calls.specs.accept_counts.proofs.RunsKeepAttemptLaw.{AreLabelledIn, IsCallOf, behind_ids, asked_by, programs_go, none_waits}
-use Rattle.attempted_calls.specs.sent_once.proofs.SocketOperationsTold.{narrow}
-use Rattle.attempted_calls.specs.own_decisions.proofs.EndedTryTicks.{of_try, OnceLaw, moves, once_ticks}
+use Rattle.refused_attempts.specs.attempted_calls.specs.Below.programs_allowed.specs.program_steps.specs.SoundSeats.{Sound, AreFitting, views_after, views_along}
+use Rattle.refused_attempts.specs.attempted_calls.specs.Below.programs_allowed.specs.program_steps.proofs.TickCases.{elem_there}
+use Rattle.refused_attempts.specs.attempted_calls.specs.Below.programs_allowed.specs.sock_runs.proofs.LinkTicks.{RetriesGo}
+use Rattle.refused_attempts.specs.attempted_calls.specs.Below.programs_allowed.specs.program_walks.proofs.OpenedLivesRecorded.{mapped}
+use Rattle.refused_attempts.specs.attempted_calls.specs.Below.programs_allowed.specs.sock_runs.proofs.TicksKeepSeatsSound.{sound_ticks}
+use Rattle.refused_attempts.specs.attempted_calls.specs.Below.programs_allowed.specs.program_walks.proofs.WholeScriptSound.{closing_of, views_played, views_closed, set_up_answered, end_answered, set_up_sound, closing_sound, closed_sound}
+use Rattle.refused_attempts.specs.attempted_calls.specs.Below.outcome_stories.specs.OperationStories.{In}
+use Rattle.refused_attempts.specs.attempted_calls.specs.Below.outcome_causes.proofs.Final.{at_there}
+use Rattle.refused_attempts.specs.attempted_calls.specs.Below.outcome_stories.proofs.Members.{contains_in}
+use Rattle.refused_attempts.specs.attempted_calls.specs.Below.outcome_causes.proofs.PlainOutcomeCauses.{in_left, in_right, in_both}
+use Rattle.refused_attempts.specs.attempted_calls.specs.Below.outcome_causes.proofs.Begin.{no_call}
+use Rattle.refused_attempts.specs.attempted_calls.specs.Below.joint_runs.proofs.RunsOfBothTables.{AreMade, first_views}
+use Rattle.refused_attempts.specs.attempted_calls.specs.Below.label_runs.specs.AttemptLabelsLeft.{Trial, Idle, Labels}
+use Rattle.refused_attempts.specs.attempted_calls.specs.Below.label_runs.proofs.ProgramsKeepAttempts.{ending_goes}
+use Rattle.refused_attempts.specs.attempted_calls.specs.Below.call_owing.specs.LivesOfLinks.{ClosesInRun}
+use Rattle.refused_attempts.specs.attempted_calls.specs.accept_counts.specs.AttemptCounts.{AreLabelled}
+use Rattle.refused_attempts.specs.attempted_calls.specs.accept_counts.specs.EndedCalls.{Store, stored_at, stores_of_run, AreStoredOnce}
+use Rattle.refused_attempts.specs.attempted_calls.specs.Below.call_stories.proofs.RunTicks.{in_setup, in_clients, in_closing}
+use Rattle.refused_attempts.specs.attempted_calls.specs.accept_counts.proofs.EarlyClosedSockets.{start, go, fitting}
+use Rattle.refused_attempts.specs.attempted_calls.specs.accept_counts.proofs.RunsKeepAttemptLaw.{AreLabelledIn, IsCallOf, behind_ids, asked_by, programs_go, none_waits}
+use Rattle.refused_attempts.specs.attempted_calls.specs.sent_once.proofs.SocketOperationsTold.{narrow}
+use Rattle.refused_attempts.specs.attempted_calls.specs.own_decisions.proofs.EndedTryTicks.{of_try, OnceLaw, moves, once_ticks}
 use Rattle.ended_calls.proofs.EndedWhole.{seats_played}
 use Rattle.sock_words.specs.Totals.{total}
-use Rattle.attempted_calls.specs.Below.outcome_stories.specs.Facts.{shown_in}
+use Rattle.refused_attempts.specs.attempted_calls.specs.Below.outcome_stories.specs.Facts.{shown_in}
 
 -- ## How a run begins
 

@@ -3,11 +3,11 @@ use Rattle.std.proofs.Common.{◌≡◌, ◌≢◌, ℕ, ◌+◌, ◌-◌, ◌==
 use Rattle.std.proofs.lemmas.Bool.{true≢false}
 use Rattle.std.proofs.lemmas.List.Concat.{flat_map-append}
 use Rattle.sock_words.specs.PackedWords.{at_word_first, at_word_slot, at_word_link, at_word_attempt, call_id, id_slot, id_first, NO_SOCKET}
-use Rattle.attempted_calls.specs.Below.sock_steps.proofs.SumsAsMarksChange.{either_way}
+use Rattle.refused_attempts.specs.attempted_calls.specs.Below.sock_steps.proofs.SumsAsMarksChange.{either_way}
 use Rattle.corr_core.specs.IdSlotWord.{parts, posted_word, code_of, error_of}
 use Rattle.seat_programs.specs.brpc_model.specs.Frame.{Frame}
 use Rattle.seat_programs.specs.brpc_model.specs.FrameStream as streams
-use Rattle.attempted_calls.specs.Below.label_runs.proofs.LoopsOfKnownSeats.{id_back, not_true, and_left}
+use Rattle.refused_attempts.specs.attempted_calls.specs.Below.label_runs.proofs.LoopsOfKnownSeats.{id_back, not_true, and_left}
 use Rattle.seat_programs.specs.Asides.{Step, Found, LoadAt, PostId, TakeBytes, Taking, Bytes, Nothing, NoMore, AtEnd, Closed, Broken}
 use Rattle.seat_programs.specs.LoopHeads.{Head, Exit, Retry, Reading, Posts, Unlocks, Decides, Locks, Joins, Opens, Reads, Discards, Posting, WasGone, WasStale, WasCrowded, WasQueued, HasLocked, Ended}
 use Rattle.seat_programs.specs.Programs.{Program, Do, Say, Sent, Rest, TakeMessage, TakeHome, PutHome, PutBytes, AskReady, Write, Aside, Round, Keep, Retries}
@@ -15,16 +15,16 @@ use Rattle.seat_programs.specs.PostPrograms.{packed, is_first, is_stale, is_full
 use Rattle.seat_programs.specs.ReaderProgram.{LIMIT, last_of, ended_by, read_on, took, discarded, posted_last, post_each, thrown_away, read, reader}
 use Rattle.seat_programs.specs.LoopRounds.{round, first_step}
 use Rattle.seat_programs.specs.Cores.{resolved, next_step}
-use Rattle.attempted_calls.specs.Below.outcome_stories.specs.OperationStories.{In}
-use Rattle.attempted_calls.specs.Below.outcome_causes.proofs.PlainOutcomeCauses.{in_left}
-use Rattle.attempted_calls.specs.Below.run_theorems.specs.Heard.{bytes_found, given_by}
-use Rattle.attempted_calls.specs.Below.programs_allowed.specs.program_walks.proofs.Through.{PassesLocked, PassesWords, is_of_id, is_of_lock, through_set_failed}
-use Rattle.attempted_calls.specs.Below.programs_allowed.specs.program_walks.proofs.ThroughLoops.{through_unlocks, through_decides, through_locks, through_joins, through_answer, through_responses, through_opens}
-use Rattle.attempted_calls.specs.Below.programs_allowed.specs.program_walks.proofs.ThroughCalls.{through_posted_last, through_read_end}
+use Rattle.refused_attempts.specs.attempted_calls.specs.Below.outcome_stories.specs.OperationStories.{In}
+use Rattle.refused_attempts.specs.attempted_calls.specs.Below.outcome_causes.proofs.PlainOutcomeCauses.{in_left}
+use Rattle.refused_attempts.specs.attempted_calls.specs.Below.run_theorems.specs.Heard.{bytes_found, given_by}
+use Rattle.refused_attempts.specs.attempted_calls.specs.Below.programs_allowed.specs.program_walks.proofs.Through.{PassesLocked, PassesWords, is_of_id, is_of_lock, through_set_failed}
+use Rattle.refused_attempts.specs.attempted_calls.specs.Below.programs_allowed.specs.program_walks.proofs.ThroughLoops.{through_unlocks, through_decides, through_locks, through_joins, through_answer, through_responses, through_opens}
+use Rattle.refused_attempts.specs.attempted_calls.specs.Below.programs_allowed.specs.program_walks.proofs.ThroughCalls.{through_posted_last, through_read_end}
 use Rattle.seat_programs.specs.brpc_model.specs.LinkFailureCauses.{HasFault}
-use Rattle.attempted_calls.specs.Below.call_stories.proofs.StreamFramesStay.{faults_more, faults_follow, tied_more}
-use Rattle.attempted_calls.specs.accept_counts.proofs.Closers.{gave_more, gave_none, last_in}
-use Rattle.attempted_calls.specs.accept_counts.proofs.EarlyClosedSockets.{EndedBy, ended_more}
+use Rattle.refused_attempts.specs.attempted_calls.specs.Below.call_stories.proofs.StreamFramesStay.{faults_more, faults_follow, tied_more}
+use Rattle.refused_attempts.specs.attempted_calls.specs.accept_counts.proofs.Closers.{gave_more, gave_none, last_in}
+use Rattle.refused_attempts.specs.attempted_calls.specs.accept_counts.proofs.EarlyClosedSockets.{EndedBy, ended_more}
 
 -- ## How a reading ends
 

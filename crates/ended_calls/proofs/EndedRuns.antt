@@ -9,24 +9,24 @@ use Rattle.seat_programs.specs.Asides.{Taking, Bytes}
 use Rattle.seat_programs.specs.FoundAndChangedAside.{at_last, taking_in}
 use Rattle.seat_programs.specs.Cores.{Core, SeatState}
 use Rattle.seat_programs.specs.Ticks.{Answer, Unasked, OfPut, OfReady, OfTake, Moment, AreAnswered, taken, ticked, run}
-use Rattle.attempted_calls.specs.Below.programs_allowed.specs.program_steps.specs.SoundSeats.{Sound, AreFitting, views_after}
-use Rattle.attempted_calls.specs.Below.programs_allowed.specs.sock_runs.proofs.LinkTicks.{RetriesGo}
-use Rattle.attempted_calls.specs.Below.programs_allowed.specs.program_walks.proofs.Recorded.{Recorded, recorded_ticks}
-use Rattle.attempted_calls.specs.Below.programs_allowed.specs.sock_runs.proofs.TicksKeepSeatsSound.{sound_ticks}
-use Rattle.attempted_calls.specs.Below.outcome_stories.specs.OperationStories.{In}
-use Rattle.attempted_calls.specs.Below.outcome_causes.proofs.PlainOutcomeCauses.{in_left, in_right, in_both}
-use Rattle.attempted_calls.specs.Below.run_theorems.specs.Heard.{as_taken, bytes_found, taken_link, taken_at, taken_in, given_by}
-use Rattle.attempted_calls.specs.Below.run_theorems.proofs.HeardRuns.{taken_append}
-use Rattle.attempted_calls.specs.Below.call_stories.specs.LinkReadingLists.{Take, takes_by, takes_at}
-use Rattle.attempted_calls.specs.Below.call_stories.specs.PostsOfRun.{Post, posted_with, posted_at}
-use Rattle.attempted_calls.specs.accept_counts.specs.EndedCalls.{Load, loaded_at, reader_posts_at}
-use Rattle.attempted_calls.specs.accept_counts.proofs.EarlyClosedSockets.{Any, ends_anyhow}
+use Rattle.refused_attempts.specs.attempted_calls.specs.Below.programs_allowed.specs.program_steps.specs.SoundSeats.{Sound, AreFitting, views_after}
+use Rattle.refused_attempts.specs.attempted_calls.specs.Below.programs_allowed.specs.sock_runs.proofs.LinkTicks.{RetriesGo}
+use Rattle.refused_attempts.specs.attempted_calls.specs.Below.programs_allowed.specs.program_walks.proofs.Recorded.{Recorded, recorded_ticks}
+use Rattle.refused_attempts.specs.attempted_calls.specs.Below.programs_allowed.specs.sock_runs.proofs.TicksKeepSeatsSound.{sound_ticks}
+use Rattle.refused_attempts.specs.attempted_calls.specs.Below.outcome_stories.specs.OperationStories.{In}
+use Rattle.refused_attempts.specs.attempted_calls.specs.Below.outcome_causes.proofs.PlainOutcomeCauses.{in_left, in_right, in_both}
+use Rattle.refused_attempts.specs.attempted_calls.specs.Below.run_theorems.specs.Heard.{as_taken, bytes_found, taken_link, taken_at, taken_in, given_by}
+use Rattle.refused_attempts.specs.attempted_calls.specs.Below.run_theorems.proofs.HeardRuns.{taken_append}
+use Rattle.refused_attempts.specs.attempted_calls.specs.Below.call_stories.specs.LinkReadingLists.{Take, takes_by, takes_at}
+use Rattle.refused_attempts.specs.attempted_calls.specs.Below.call_stories.specs.PostsOfRun.{Post, posted_with, posted_at}
+use Rattle.refused_attempts.specs.attempted_calls.specs.accept_counts.specs.EndedCalls.{Load, loaded_at, reader_posts_at}
+use Rattle.refused_attempts.specs.attempted_calls.specs.accept_counts.proofs.EarlyClosedSockets.{Any, ends_anyhow}
 use Rattle.ended_calls.proofs.EndedReads.{MayPost, post_more}
 use Rattle.ended_calls.proofs.EndedTicks.{HasTold, LoadsSo, told_ticks, told_posts}
-use Rattle.attempted_calls.specs.accept_counts.proofs.ReaderRuns.{Keeps, founds, keeps_ticks, reader_of, others_none}
-use Rattle.attempted_calls.specs.accept_counts.proofs.ReadingsAtTicks.{found_by, takes_or_not}
+use Rattle.refused_attempts.specs.attempted_calls.specs.accept_counts.proofs.ReaderRuns.{Keeps, founds, keeps_ticks, reader_of, others_none}
+use Rattle.refused_attempts.specs.attempted_calls.specs.accept_counts.proofs.ReadingsAtTicks.{found_by, takes_or_not}
 use Rattle.corr_core.proofs.NoteSums.{at_length}
-use Rattle.attempted_calls.specs.Below.outcome_stories.specs.Facts.{shown_in}
+use Rattle.refused_attempts.specs.attempted_calls.specs.Below.outcome_stories.specs.Facts.{shown_in}
 
 module _ (p : Plan) (calls os : List ℕ) (in_os : (k o : ℕ) → get_elem? os k ≡ some o → o < p.operations) where
   abbrev pub Keeping : Core → List View → (ℕ → List Taking) → Type 0

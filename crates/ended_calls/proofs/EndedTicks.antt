@@ -19,15 +19,15 @@ use Rattle.seat_programs.specs.Programs.{Program, Do, TakeMessage, TakeHome, Put
 use Rattle.seat_programs.specs.Cores.{Core, SeatState, found_at, waiting_at}
 use Rattle.seat_programs.specs.StepTables.{word_of}
 use Rattle.seat_programs.specs.Ticks.{Answer, OfPut, OfReady, OfTake, Moment, taken, with_message, with_link, with_put, with_ready, with_found, step_with, tick_with, ticked}
-use Rattle.attempted_calls.specs.Below.programs_allowed.specs.program_steps.proofs.TickCases.{ticks_first}
-use Rattle.attempted_calls.specs.Below.outcome_stories.specs.OperationStories.{In}
-use Rattle.attempted_calls.specs.Below.owing_ticks.proofs.OwingRuns.{same_first}
-use Rattle.attempted_calls.specs.Below.run_theorems.specs.Heard.{as_taken, taken_link}
-use Rattle.attempted_calls.specs.Below.call_stories.specs.PostsOfRun.{Post, posts_by, posted_with, posted_at}
-use Rattle.attempted_calls.specs.Below.call_causes.proofs.HandledTicks.{take_of, taken_first}
-use Rattle.attempted_calls.specs.accept_counts.specs.EndedCalls.{Load, loaded_with, loaded_at}
+use Rattle.refused_attempts.specs.attempted_calls.specs.Below.programs_allowed.specs.program_steps.proofs.TickCases.{ticks_first}
+use Rattle.refused_attempts.specs.attempted_calls.specs.Below.outcome_stories.specs.OperationStories.{In}
+use Rattle.refused_attempts.specs.attempted_calls.specs.Below.owing_ticks.proofs.OwingRuns.{same_first}
+use Rattle.refused_attempts.specs.attempted_calls.specs.Below.run_theorems.specs.Heard.{as_taken, taken_link}
+use Rattle.refused_attempts.specs.attempted_calls.specs.Below.call_stories.specs.PostsOfRun.{Post, posts_by, posted_with, posted_at}
+use Rattle.refused_attempts.specs.attempted_calls.specs.Below.call_causes.proofs.HandledTicks.{take_of, taken_first}
+use Rattle.refused_attempts.specs.attempted_calls.specs.accept_counts.specs.EndedCalls.{Load, loaded_with, loaded_at}
 use Rattle.ended_calls.proofs.EndedReads.{Tells, MayPost, tell_first, tell_next}
-use Rattle.attempted_calls.specs.accept_counts.proofs.ReadingsAtTicks.{found_by}
+use Rattle.refused_attempts.specs.attempted_calls.specs.accept_counts.proofs.ReadingsAtTicks.{found_by}
 use Rattle.seat_programs.specs.LoopRounds.{first_step}
 use Rattle.sock_words.specs.PackedWords.{call_id}
 

@@ -4,7 +4,7 @@ use Rattle.std.proofs.lemmas.List.Concat.{flat_map-append}
 use Rattle.std.specs.Prelude.{Contains}
 use Rattle.std.specs.List.{filter}
 use Rattle.atomic_table.proofs.Lists.{at_set, set_else}
-use Rattle.attempted_calls.specs.Below.chain_steps.proofs.TicketLists.{at_some}
+use Rattle.refused_attempts.specs.attempted_calls.specs.Below.chain_steps.proofs.TicketLists.{at_some}
 use Rattle.sock_model.specs.declared.view.View.{View}
 use Rattle.seat_programs.specs.brpc_model.specs.Items.{Item}
 use Rattle.seat_programs.specs.brpc_model.specs.Operations.{Turn}
@@ -18,31 +18,31 @@ use Rattle.seat_programs.specs.ScheduledRuns.{from_to}
 use Rattle.seat_programs.specs.Tasks.{opens, calls, plan_of}
 use Rattle.seat_programs.specs.Ticks.{Moment, ticked, run}
 use Rattle.seat_programs.specs.ScriptSetupToEnding.{all_tasks, opened, set_up, played, IsRunWithCalls}
-use Rattle.attempted_calls.specs.Below.programs_allowed.specs.program_steps.specs.SoundSeats.{views_along}
-use Rattle.attempted_calls.specs.Below.programs_allowed.specs.program_walks.proofs.WholeScriptSound.{IsListed, closing_of, views_played, views_closed, set_up_answered, end_answered, set_up_sound, closing_sound, closed_sound, recorded_opened, recorded_set_up, recorded_closing, recorded_closed}
-use Rattle.attempted_calls.specs.Below.outcome_stories.specs.OperationStories.{In}
-use Rattle.attempted_calls.specs.Below.outcome_ticks.proofs.Lifted.{filtered_in}
-use Rattle.attempted_calls.specs.Below.outcome_stories.proofs.Members.{in_contains}
-use Rattle.attempted_calls.specs.Below.outcome_causes.proofs.PlainOutcomeCauses.{in_left, in_right, in_both}
-use Rattle.attempted_calls.specs.Below.programs_allowed.specs.SeatOpenings.{all_seats}
-use Rattle.attempted_calls.specs.Below.call_stories.proofs.RunTicks.{in_setup, in_clients, in_closing, parts}
-use Rattle.attempted_calls.specs.Below.joint_runs.proofs.RunsOfBothTables.{AreMade, first_views}
-use Rattle.attempted_calls.specs.Below.owed_calls.proofs.NothingOwedAtEnd.{opened_seats}
-use Rattle.attempted_calls.specs.Below.run_theorems.specs.Heard.{as_taken, bytes_found, taken_in, heard_takes, given_by}
-use Rattle.attempted_calls.specs.Below.run_theorems.proofs.GaveTakeByTake.{gave_heard}
-use Rattle.attempted_calls.specs.Below.run_theorems.proofs.HeardRuns.{taken_append}
-use Rattle.attempted_calls.specs.Below.call_stories.specs.LinkReadingLists.{Take, takes_at, gave_in, takes_of_run, is_last, is_closed, is_no_more, found_so, early_of_run}
-use Rattle.attempted_calls.specs.Below.call_stories.specs.PostsOfRun.{Post, posted_at, posts_of_run}
-use Rattle.attempted_calls.specs.Below.programs_allowed.proofs.FreshSeatsAtStart.{opening_rights}
-use Rattle.attempted_calls.specs.accept_counts.specs.EndedCalls.{loaded_at, reader_posts_at, client_posts_at, loads_of_run, reader_posts_of_run, client_posts_of_run, EndedSo, IsEndPost}
-use Rattle.attempted_calls.specs.accept_counts.proofs.EarlyClosedSockets.{EndedBy, Any, ends_anyhow, start, go, fitting, known, begins_at, opened_takes, quiet_founds}
+use Rattle.refused_attempts.specs.attempted_calls.specs.Below.programs_allowed.specs.program_steps.specs.SoundSeats.{views_along}
+use Rattle.refused_attempts.specs.attempted_calls.specs.Below.programs_allowed.specs.program_walks.proofs.WholeScriptSound.{IsListed, closing_of, views_played, views_closed, set_up_answered, end_answered, set_up_sound, closing_sound, closed_sound, recorded_opened, recorded_set_up, recorded_closing, recorded_closed}
+use Rattle.refused_attempts.specs.attempted_calls.specs.Below.outcome_stories.specs.OperationStories.{In}
+use Rattle.refused_attempts.specs.attempted_calls.specs.Below.outcome_ticks.proofs.Lifted.{filtered_in}
+use Rattle.refused_attempts.specs.attempted_calls.specs.Below.outcome_stories.proofs.Members.{in_contains}
+use Rattle.refused_attempts.specs.attempted_calls.specs.Below.outcome_causes.proofs.PlainOutcomeCauses.{in_left, in_right, in_both}
+use Rattle.refused_attempts.specs.attempted_calls.specs.Below.programs_allowed.specs.SeatOpenings.{all_seats}
+use Rattle.refused_attempts.specs.attempted_calls.specs.Below.call_stories.proofs.RunTicks.{in_setup, in_clients, in_closing, parts}
+use Rattle.refused_attempts.specs.attempted_calls.specs.Below.joint_runs.proofs.RunsOfBothTables.{AreMade, first_views}
+use Rattle.refused_attempts.specs.attempted_calls.specs.Below.owed_calls.proofs.NothingOwedAtEnd.{opened_seats}
+use Rattle.refused_attempts.specs.attempted_calls.specs.Below.run_theorems.specs.Heard.{as_taken, bytes_found, taken_in, heard_takes, given_by}
+use Rattle.refused_attempts.specs.attempted_calls.specs.Below.run_theorems.proofs.GaveTakeByTake.{gave_heard}
+use Rattle.refused_attempts.specs.attempted_calls.specs.Below.run_theorems.proofs.HeardRuns.{taken_append}
+use Rattle.refused_attempts.specs.attempted_calls.specs.Below.call_stories.specs.LinkReadingLists.{Take, takes_at, gave_in, takes_of_run, is_last, is_closed, is_no_more, found_so, early_of_run}
+use Rattle.refused_attempts.specs.attempted_calls.specs.Below.call_stories.specs.PostsOfRun.{Post, posted_at, posts_of_run}
+use Rattle.refused_attempts.specs.attempted_calls.specs.Below.programs_allowed.proofs.FreshSeatsAtStart.{opening_rights}
+use Rattle.refused_attempts.specs.attempted_calls.specs.accept_counts.specs.EndedCalls.{loaded_at, reader_posts_at, client_posts_at, loads_of_run, reader_posts_of_run, client_posts_of_run, EndedSo, IsEndPost}
+use Rattle.refused_attempts.specs.attempted_calls.specs.accept_counts.proofs.EarlyClosedSockets.{EndedBy, Any, ends_anyhow, start, go, fitting, known, begins_at, opened_takes, quiet_founds}
 use Rattle.ended_calls.proofs.EndedReads.{WasOver, Tells, reader_tells}
 use Rattle.ended_calls.proofs.EndedRuns.{Keeping, finds, Seen, AllTold, IsPostOf, more_post, told_along, finds_taken, finds_give}
-use Rattle.attempted_calls.specs.accept_counts.proofs.ReaderRuns.{keeps_along}
-use Rattle.attempted_calls.specs.accept_counts.proofs.EndedReadingLists.{any_in, in_range}
-use Rattle.attempted_calls.specs.accept_counts.proofs.Takeless.{NoTakes, ending_takes, takes_next}
+use Rattle.refused_attempts.specs.attempted_calls.specs.accept_counts.proofs.ReaderRuns.{keeps_along}
+use Rattle.refused_attempts.specs.attempted_calls.specs.accept_counts.proofs.EndedReadingLists.{any_in, in_range}
+use Rattle.refused_attempts.specs.attempted_calls.specs.accept_counts.proofs.Takeless.{NoTakes, ending_takes, takes_next}
 use Rattle.corr_core.proofs.NoteSums.{at_length}
-use Rattle.attempted_calls.specs.Below.outcome_stories.specs.Facts.{shown_in}
+use Rattle.refused_attempts.specs.attempted_calls.specs.Below.outcome_stories.specs.Facts.{shown_in}
 
 module _ (script : List Item) (made : AreMade script) (turns : List Turn) (core : Core) (is : IsRunWithCalls script turns core) where
   abbrev K : Core → List View → (ℕ → List Taking) → Type 0

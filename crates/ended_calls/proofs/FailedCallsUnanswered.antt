@@ -21,19 +21,19 @@ use Rattle.seat_programs.specs.Tasks.{opens, plan_of, id_plan_of}
 use Rattle.seat_programs.specs.ScriptSetupToEnding.{all_tasks, IsRunWithCalls}
 use Rattle.seat_programs.specs.Explained.{IsTask, Became}
 use Rattle.seat_programs.specs.ExplainedCalls.{Gave, IsResponse, IsPlaced}
-use Rattle.attempted_calls.specs.Below.joint_runs.proofs.RunsOfBothTables.{AreMade}
-use Rattle.attempted_calls.specs.Below.script_facts.proofs.ReadScriptFacts.{InRange}
-use Rattle.attempted_calls.specs.Below.script_facts.proofs.Targets.{AreThere}
-use Rattle.attempted_calls.specs.Below.call_owing.specs.LivesOfLinks.{ClosesInRun}
-use Rattle.attempted_calls.specs.Below.run_theorems.proofs.GaveTakeByTake.{gave_heard}
-use Rattle.attempted_calls.specs.Below.call_stories.specs.LinkReadingLists.{gave_in, soon_of_run}
-use Rattle.attempted_calls.specs.Below.call_stories.specs.Decided.{decided_by}
-use Rattle.attempted_calls.specs.Below.story_steps.proofs.ExpireAndJoinWhys.{in_contains}
-use Rattle.attempted_calls.specs.Below.call_causes.proofs.HandledWhole.{PostedLate, soon_behind, silent_of_readers, failed_inside}
-use Rattle.attempted_calls.specs.sent_once.proofs.OtherTasksBesideCalls.{gave_of_run, fixed_of_run, orders_here}
-use Rattle.attempted_calls.specs.Below.outcome_stories.specs.OperationStories.{In}
+use Rattle.refused_attempts.specs.attempted_calls.specs.Below.joint_runs.proofs.RunsOfBothTables.{AreMade}
+use Rattle.refused_attempts.specs.attempted_calls.specs.Below.script_facts.proofs.ReadScriptFacts.{InRange}
+use Rattle.refused_attempts.specs.attempted_calls.specs.Below.script_facts.proofs.Targets.{AreThere}
+use Rattle.refused_attempts.specs.attempted_calls.specs.Below.call_owing.specs.LivesOfLinks.{ClosesInRun}
+use Rattle.refused_attempts.specs.attempted_calls.specs.Below.run_theorems.proofs.GaveTakeByTake.{gave_heard}
+use Rattle.refused_attempts.specs.attempted_calls.specs.Below.call_stories.specs.LinkReadingLists.{gave_in, soon_of_run}
+use Rattle.refused_attempts.specs.attempted_calls.specs.Below.call_stories.specs.Decided.{decided_by}
+use Rattle.refused_attempts.specs.attempted_calls.specs.Below.story_steps.proofs.ExpireAndJoinWhys.{in_contains}
+use Rattle.refused_attempts.specs.attempted_calls.specs.Below.call_causes.proofs.HandledWhole.{PostedLate, soon_behind, silent_of_readers, failed_inside}
+use Rattle.refused_attempts.specs.attempted_calls.specs.sent_once.proofs.OtherTasksBesideCalls.{gave_of_run, fixed_of_run, orders_here}
+use Rattle.refused_attempts.specs.attempted_calls.specs.Below.outcome_stories.specs.OperationStories.{In}
 use Rattle.sock_words.specs.PackedWords.{id_slot, id_first}
-use Rattle.attempted_calls.specs.Below.outcome_stories.specs.Facts.{shown_in_run}
+use Rattle.refused_attempts.specs.attempted_calls.specs.Below.outcome_stories.specs.Facts.{shown_in_run}
 
 pub some_response : (r : Option ResponseMeta) → IsSome r → has_response r ≡ true
 some_response (Some r) e = refl

@@ -9,7 +9,7 @@ use Rattle.seat_programs.specs.sock_io.specs.declared.link.Put.TheVariants as pu
 use Rattle.seat_programs.specs.sock_model.specs.declared.chain.Heading.{Heading}
 use Rattle.seat_programs.specs.sock_model.specs.declared.home.Home.{Home}
 use Rattle.seat_programs.specs.sock_model.specs.declared.home.Home.TheVariants.{Empty, Link, Message}
-use Rattle.seat_programs.specs.TableSteps.{TableStep, TakeLink, FinishLink, PutLink, PutMessage}
+use Rattle.seat_programs.specs.TableSteps.{TableStep, OnLink, OnMessage, TakeLink, FinishLink, PutLink, PutMessage}
 use Rattle.seat_programs.specs.Cores.{homes_after, hand_after, lies_at, first_of, others_of, finished, link_place}
 use Rattle.seat_programs.specs.Ticks.{fed, with_places, onto_first}
 use Rattle.id_runs.specs.Goes.{FitsHome, HandFits, HomesFit}
@@ -74,7 +74,7 @@ module _ (F : Heading → Type 0) where
   finished_fits Empty fit = fit
   finished_fits (Message heading l) fit = fit
 
-  finishes : (hs : List (Option Home)) (p : Plan) (k : ℕ) (hand : List Home) → HandFits F hand → HandFits F (hand_after p (FinishLink k) hs hand)
+  finishes : (hs : List (Option Home)) (p : Plan) (k : ℕ) (hand : List Home) → HandFits F hand → HandFits F (hand_after p (OnLink (FinishLink k)) hs hand)
   finishes hs p k [] fit = tt
   finishes hs p k (x ∷ xs) fit = (finished_fits x fit.0, fit.1)
 
@@ -82,17 +82,17 @@ module _ (F : Heading → Type 0) where
 
   -- what is put has such a heading
   abbrev pub PutFits : TableStep → Type 0
-  PutFits (PutMessage r heading bytes) = F heading
+  PutFits (OnMessage (PutMessage r heading bytes)) = F heading
   PutFits other = Unit {0}
 
   pub hand_fits : (p : Plan) (call : TableStep) (hs : List (Option Home)) (hand : List Home) → HomesFit F hs → HandFits F hand → HandFits F (hand_after p call hs hand)
-  hand_fits p (TakeLink k) hs hand homes fit = lies_fit hs (link_place p k) hand homes fit
-  hand_fits p (PutLink k) hs hand homes fit = others_fit hand fit
-  hand_fits p (FinishLink k) hs hand homes fit = finishes hs p k hand fit
+  hand_fits p (OnLink (TakeLink k)) hs hand homes fit = lies_fit hs (link_place p k) hand homes fit
+  hand_fits p (OnLink (PutLink k)) hs hand homes fit = others_fit hand fit
+  hand_fits p (OnLink (FinishLink k)) hs hand homes fit = finishes hs p k hand fit
   hand_fits p _ hs hand homes fit = fit
 
   pub homes_fit : (p : Plan) (call : TableStep) → PutFits call → (hs : List (Option Home)) (hand : List Home) → HomesFit F hs → HandFits F hand → HomesFit F (homes_after p call hand hs)
-  homes_fit p (TakeLink k) may hs hand homes fit = home_away hs (link_place p k) homes
-  homes_fit p (PutLink k) may hs hand homes fit = home_set hs (link_place p k) (first_of hand) (first_fits hand fit) homes
-  homes_fit p (PutMessage r heading bytes) may hs hand homes fit = home_set hs r (some (Message heading bytes)) (λ y e. subst (FitsHome F) (some-injective (Message heading bytes) y e) may) homes
+  homes_fit p (OnLink (TakeLink k)) may hs hand homes fit = home_away hs (link_place p k) homes
+  homes_fit p (OnLink (PutLink k)) may hs hand homes fit = home_set hs (link_place p k) (first_of hand) (first_fits hand fit) homes
+  homes_fit p (OnMessage (PutMessage r heading bytes)) may hs hand homes fit = home_set hs r (some (Message heading bytes)) (λ y e. subst (FitsHome F) (some-injective (Message heading bytes) y e) may) homes
   homes_fit p _ may hs hand homes fit = homes

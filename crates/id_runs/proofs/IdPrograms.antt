@@ -19,7 +19,7 @@ use Rattle.id_rule.specs.LawfulIdTable.{call_index, at_index as at_place, with_t
 use Rattle.id_rule.specs.IdPlays.{with_hand}
 use Rattle.seat_programs.specs.BufferParts.{part}
 use Rattle.seat_programs.specs.sock_message.specs.Asked.{Asked, frame_of}
-use Rattle.seat_programs.specs.TableSteps.{SubRef, StoreCode, LoadLink, TakeLink, FinishLink, PutLink, FreeSlot, FreeRequest, ReadNext}
+use Rattle.seat_programs.specs.TableSteps.{OnSlot, OnChain, OnLink, SubRef, StoreCode, LoadLink, TakeLink, FinishLink, PutLink, FreeSlot, FreeRequest, ReadNext}
 use Rattle.seat_programs.specs.Asides.{PutCall, MakeId, StoreCall, StoreAt}
 use Rattle.seat_programs.specs.LoopHeads.{Retry, Unlocks, Joins, Unlocking, IsOpen, HasNext, Deciding, HasEnded, GoesOn, Locking, NotThere, Has}
 use Rattle.seat_programs.specs.Programs.{Program, Do, Say, TakeMessage, TakeHome, PutBytes, Write, Aside, Round, LAST_VERSION, LAST_GENERATION, recycle, release, add_reference, set_failed}
@@ -40,9 +40,9 @@ module _ (p : Plan) (q : IdPlan) (narrow : q.slots ≤ 65536) where
 
   pub recycle_goes : (u : IdView) (i from : ℕ) (next : Bool → Program) → ((b : Bool) → Goes u (next b)) → Goes u (recycle i from next)
   recycle_goes u i from next goes = λ found _. way p q u (eqb found from)
-      (Do (LoadLink i (vref_version from + 1)) (λ k. Do (TakeLink k) (λ _. Do (FinishLink k) (λ _. Do (PutLink k) (λ _. cond (leb (vref_version from + 1) LAST_VERSION) (Do (FreeSlot i) (λ _. next true)) (next true))))))
+      (Do (OnSlot (LoadLink i (vref_version from + 1))) (λ k. Do (OnLink (TakeLink k)) (λ _. Do (OnLink (FinishLink k)) (λ _. Do (OnLink (PutLink k)) (λ _. cond (leb (vref_version from + 1) LAST_VERSION) (Do (OnSlot (FreeSlot i)) (λ _. next true)) (next true))))))
       (next false)
-      (λ _. λ k _ _ _ _ _ _ _. way p q u (leb (vref_version from + 1) LAST_VERSION) (Do (FreeSlot i) (λ _. next true)) (next true) (λ _. λ _ _. goes true) (λ _. goes true))
+      (λ _. λ k _ _ _ _ _ _ _. way p q u (leb (vref_version from + 1) LAST_VERSION) (Do (OnSlot (FreeSlot i)) (λ _. next true)) (next true) (λ _. λ _ _. goes true) (λ _. goes true))
       (λ _. goes false)
 
   pub release_goes : (u : IdView) (i : ℕ) (next : Bool → Program) → ((b : Bool) → Goes u (next b)) → Goes u (release i next)
@@ -53,7 +53,7 @@ module _ (p : Plan) (q : IdPlan) (narrow : q.slots ≤ 65536) where
 
   pub set_failed_goes : (u : IdView) (id code : ℕ) → code < 4096 → (next : ℕ → Program) → ((found : ℕ) → Goes u (next found)) → Goes u (set_failed id code next)
   set_failed_goes u id code small next goes = λ found _. way p q u (vref_version found % 2 == 0)
-      (Do (StoreCode (socket_id_slot id) (socket_id_version id) code) (λ _. Do (SubRef (socket_id_slot id)) (λ _. next found))) (next found) (λ _. (small, λ _. λ _ _. goes found)) (λ _. goes found)
+      (Do (OnSlot (StoreCode (socket_id_slot id) (socket_id_version id) code)) (λ _. Do (OnSlot (SubRef (socket_id_slot id))) (λ _. next found))) (next found) (λ _. (small, λ _. λ _ _. goes found)) (λ _. goes found)
 
   -- ## Writing
 
@@ -62,11 +62,11 @@ module _ (p : Plan) (q : IdPlan) (narrow : q.slots ≤ 65536) where
   Follows after = (v : IdView) → IsFree v → Goes v after
 
   freed_goes : (u : IdView) (now : ℕ) (next : Program) → Goes u next → Goes u (freed now next)
-  freed_goes u now next goes = way p q u (ticket_generation now == LAST_GENERATION) next (Do (FreeRequest (ticket_request now) (ticket_generation now)) (λ _. next)) (λ _. goes) (λ _. λ _ _. goes)
+  freed_goes u now next goes = way p q u (ticket_generation now == LAST_GENERATION) next (Do (OnChain (FreeRequest (ticket_request now) (ticket_generation now))) (λ _. next)) (λ _. goes) (λ _. λ _ _. goes)
 
   passed_goes : (u : IdView) (h : Holder) (now : ℕ) (tells : Program → Program) (after : Program) → IsFree u → ((x : Program) → Follows x → Goes u (tells x)) → Follows after → Goes u (passed_telling h now tells after)
   passed_goes u h now tells after free told goes = way p q u (now == h.last) (freed now (tells (Write (Empties h) after)))
-      (Do (ReadNext (ticket_request now)) (λ next. freed now (tells (TakeMessage (ticket_request next) (λ heading bytes. Write (Puts h next heading bytes 0 false) after)))))
+      (Do (OnChain (ReadNext (ticket_request now))) (λ next. freed now (tells (TakeMessage (ticket_request next) (λ heading bytes. Write (Puts h next heading bytes 0 false) after)))))
       (λ _. freed_goes u now (tells (Write (Empties h) after)) (told (Write (Empties h) after) (λ v free'. (free', tt, goes))))
       (λ _. λ next _. freed_goes u now (tells (TakeMessage (ticket_request next) (λ heading bytes. Write (Puts h next heading bytes 0 false) after)))
       (told (TakeMessage (ticket_request next) (λ heading bytes. Write (Puts h next heading bytes 0 false) after)) (λ v free'. λ heading bytes owner. (free', owner, goes))))
@@ -99,7 +99,7 @@ module _ (p : Plan) (q : IdPlan) (narrow : q.slots ≤ 65536) where
       ready_goes asks.Failed = set_failed_goes u h.id 1009 (omega arith) (λ _. Write (Puts h now heading left taken false) after) (λ _. g)
   block_goes u (Empties h) after g = λ found _. way p q u (found == h.last) after (TakeHome h.link (λ places. Write (Reversing (record h { places = places }) found found 0) after)) (λ _. g.2 u g.0) (λ _. λ places. g)
   block_goes u (Reversing h top at after) then_ g = λ found _. way p q u (found == UNCONNECTED) (Write (Reversing h top at after) then_)
-      (Do (Rattle.seat_programs.specs.TableSteps.ReverseNext (ticket_request at) after) (λ _. cond (found == h.last) (TakeMessage (ticket_request at) (λ heading bytes. Write (Puts (record h { last = top }) at heading bytes 0 false) then_)) (Write (Reversing h top found at) then_)))
+      (Do (Rattle.seat_programs.specs.TableSteps.OnChain (Rattle.seat_programs.specs.TableSteps.ReverseNext (ticket_request at) after)) (λ _. cond (found == h.last) (TakeMessage (ticket_request at) (λ heading bytes. Write (Puts (record h { last = top }) at heading bytes 0 false) then_)) (Write (Reversing h top found at) then_)))
       (λ _. g)
       (λ _. λ _ _. way p q u (found == h.last) (TakeMessage (ticket_request at) (λ heading bytes. Write (Puts (record h { last = top }) at heading bytes 0 false) then_)) (Write (Reversing h top found at) then_) (λ _. λ heading bytes owner. (g.0, owner, g.2)) (λ _. g))
 
@@ -111,7 +111,7 @@ module _ (p : Plan) (q : IdPlan) (narrow : q.slots ≤ 65536) where
       (λ _. put_goes u h own heading bytes 0 after free owner goes) (λ _. (free, owner, goes))
 
   pub accept_goes : (u : IdView) (id r g : ℕ) (heading : Heading) (bytes : List ℕ) (after : Program) → IsFree u → FitsOwner q heading → Follows after → Goes u (accept id r g heading bytes after)
-  accept_goes u id r g heading bytes after free owner goes = (owner, λ _. λ _ _. λ found _. way p q u (nat_lt found IDLE) (Do (Rattle.seat_programs.specs.TableSteps.Connect r found) (λ _. after)) (write_link id r (ticket_of r g) after) (λ _. λ _ _. goes u free) (λ _. write_goes u id r (ticket_of r g) after free goes))
+  accept_goes u id r g heading bytes after free owner goes = (owner, λ _. λ _ _. λ found _. way p q u (nat_lt found IDLE) (Do (Rattle.seat_programs.specs.TableSteps.OnChain (Rattle.seat_programs.specs.TableSteps.Connect r found)) (λ _. after)) (write_link id r (ticket_of r g) after) (λ _. λ _ _. goes u free) (λ _. write_goes u id r (ticket_of r g) after free goes))
 
   pub claims_goes : (u : IdView) (more r id : ℕ) (heading : Heading) (bytes : List ℕ) (full accepted : Program) → IsFree u → FitsOwner q heading → Goes u full → Follows accepted → Goes u (claims_from more r id heading bytes full accepted)
   claims_goes u zero r id heading bytes full accepted free owner none_ goes = none_
@@ -127,7 +127,7 @@ module _ (p : Plan) (q : IdPlan) (narrow : q.slots ≤ 65536) where
 
   pub attempt_goes : (u : IdView) (requests : ℕ) (asked : Asked) (id n socket : ℕ) (next : Program) → IsFree u → asked.operation < q.operations → id_slot id < q.slots → n ≤ 6 → Follows next → Goes u (attempt requests asked id n socket next)
   attempt_goes u requests asked id n socket next free operation inside few goes = let i : ℕ = socket_id_slot socket in
-      address_goes u socket (Do (Rattle.seat_programs.specs.TableSteps.FindLink (socket_id_slot socket) (socket_id_version socket)) (λ k. Aside (StoreAt asked.operation (at_word (id_first id) (id_slot id) k n)) (λ _. Do (Rattle.seat_programs.specs.TableSteps.LookWord socket) (λ found.
+      address_goes u socket (Do (Rattle.seat_programs.specs.TableSteps.OnSlot (Rattle.seat_programs.specs.TableSteps.FindLink (socket_id_slot socket) (socket_id_version socket))) (λ k. Aside (StoreAt asked.operation (at_word (id_first id) (id_slot id) k n)) (λ _. Do (Rattle.seat_programs.specs.TableSteps.OnSlot (Rattle.seat_programs.specs.TableSteps.LookWord socket)) (λ found.
       cond (eqb (vref_version found % 2) 0) (claims_from requests 0 socket (heading_for asked id n) (frame_of asked id n) (post id 3001 n (release (socket_id_slot socket) (λ _. next))) (release (socket_id_slot socket) (λ _. next))) (post id 1009 n (release (socket_id_slot socket) (λ _. next)))))))
       (λ _. post id 1009 n next)
       (λ k link. (

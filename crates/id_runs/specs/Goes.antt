@@ -13,7 +13,7 @@ use Rattle.corr_core.specs.declared.marks.Token.TheVariants.{Locked}
 use Rattle.id_rule.specs.LawfulIdTable.{Lawful, call_index, at_index}
 use Rattle.id_rule.specs.IdPlays.{Longer}
 use Rattle.seat_programs.specs.sock_message.specs.Asked.{Asked}
-use Rattle.seat_programs.specs.TableSteps.{TableStep, FindLink, LoadCode, StoreCode, PutMessage}
+use Rattle.seat_programs.specs.TableSteps.{TableStep, OnSlot, OnMessage, FindLink, LoadCode, StoreCode, PutMessage}
 use Rattle.seat_programs.specs.Writings.{Writing, Puts, Waits}
 use Rattle.seat_programs.specs.Asides.{Step, LoadCall, LoadAt, MakeId, LoadIdWord, LockId, PostId, UnlockId, TakeCall, Found}
 use Rattle.seat_programs.specs.LoopHeads.{Head, Exit, Retry, Posts, Unlocks, Decides, Locks, Joins, Opens, Reads, Discards, Posting, HasLocked, Unlocking, IsOpen, HasNext, Locking, NotThere, Has, Ended}
@@ -34,8 +34,8 @@ use Rattle.sock_words.specs.PackedWords.{id_slot, bit}
 
 -- a link's number fits an at word, and a code an error
 abbrev pub FitsSock : TableStep → ℕ → Type 0
-FitsSock (FindLink i h) found = found < 65535
-FitsSock (LoadCode i h) found = found < 4096
+FitsSock (OnSlot (FindLink i h)) found = found < 65535
+FitsSock (OnSlot (LoadCode i h)) found = found < 4096
 FitsSock other found = Unit {0}
 
 -- the owner of a message is none, or an id of the table
@@ -169,8 +169,8 @@ abbrev pub FitsRetryId : IdPlan → Retry → Type 0
 FitsRetryId q r = (id_slot r.id < q.slots) × (r.attempt ≤ 6)
 
 abbrev pub IdGoesOn : Plan → IdPlan → IdView → Program → Type 0
-IdGoesOn p q u (Do (StoreCode i h c) next) = (c < 4096) × ((found : ℕ) → IdGoesOn p q u (next found))
-IdGoesOn p q u (Do (PutMessage r heading bytes) next) = FitsOwner q heading × ((found : ℕ) → IdGoesOn p q u (next found))
+IdGoesOn p q u (Do (OnSlot (StoreCode i h c)) next) = (c < 4096) × ((found : ℕ) → IdGoesOn p q u (next found))
+IdGoesOn p q u (Do (OnMessage (PutMessage r heading bytes)) next) = FitsOwner q heading × ((found : ℕ) → IdGoesOn p q u (next found))
 IdGoesOn p q u (Do call next) = (found : ℕ) → FitsSock call found → IdGoesOn p q u (next found)
 IdGoesOn p q u (Say o outcome next) = IdGoesOn p q u next
 IdGoesOn p q u (Sent o next) = IdGoesOn p q u next

@@ -6,7 +6,7 @@ use Rattle.sock_words.specs.declared.plain.Plan.{Plan}
 use Rattle.sock_model.specs.declared.view.View.{View}
 use Rattle.seat_programs.specs.corr_core.specs.declared.marks.Plan.{Plan as IdPlan}
 use Rattle.seat_programs.specs.Asides.{Step, Found, MakeId, LoadIdWord, LockId, PostId, UnlockId, EndId, TakeCall, TakeBytes}
-use Rattle.seat_programs.specs.TableSteps.{TableStep, FindLink, LoadCode}
+use Rattle.seat_programs.specs.TableSteps.{TableStep, OnSlot, FindLink, LoadCode}
 use Rattle.seat_programs.specs.Programs.{Program, Do, Write, Aside, Round}
 use Rattle.seat_programs.specs.Cores.{Core, found_at}
 use Rattle.seat_programs.specs.StepTables.{word_of}
@@ -84,8 +84,8 @@ module _ (p : Plan) (q : IdPlan) (narrow : q.slots ≤ 65536) (c : Core) (us : L
 
 module _ (p : Plan) (q : IdPlan) (c : Core) (vs : List View) (us : List IdView) (sound : Sound p c vs) (ids : SoundIds p q c us) (m : Moment) where
   fits_call : (v : View) → get_elem? vs m.seat ≡ some v → (call : TableStep) → May p v call → FitsSock call (found_at c.words (word_of p call))
-  fits_call v at (FindLink i h) may = let f = finds p (state c vs) sound.lawful m.seat v at sound.limits.slots (FindLink i h) may in let low = f.0 in let links = sound.limits.links in omega (arith, low, links)
-  fits_call v at (LoadCode i h) may = ids.codes i may.0
+  fits_call v at (OnSlot (FindLink i h)) may = let f = finds p (state c vs) sound.lawful m.seat v at sound.limits.slots (OnSlot (FindLink i h)) may in let low = f.0 in let links = sound.limits.links in omega (arith, low, links)
+  fits_call v at (OnSlot (LoadCode i h)) may = ids.codes i may.0
   fits_call v at _ may = tt
 
   fits_step : (v : View) → get_elem? vs m.seat ≡ some v → (program : Program) → GoesOn p v program → FitsFirst p c program

@@ -14,7 +14,7 @@ use Rattle.corr_core.specs.IdRangeVersions.{is_early}
 use Rattle.id_runs.proofs.AsidesKeepingIdRule.{parts_packed}
 use Rattle.seat_programs.specs.sock_message.specs.Asked.{Asked}
 use Rattle.seat_programs.specs.Asides.{Step, Found, MakeId, StoreCall, StoreAt, UnlockId, PutCall, LoadIdWord, PostId, LockId, EndId, FreeId, TakeCall, TakeBytes, Taking, Bytes, Nothing, Closed}
-use Rattle.seat_programs.specs.TableSteps.{TableStep, ClaimRequest, PutMessage, LoadOpen}
+use Rattle.seat_programs.specs.TableSteps.{TableStep, OnName, OnChain, OnMessage, ClaimRequest, PutMessage, LoadOpen}
 use Rattle.seat_programs.specs.LoopHeads.{Head, Exit, Sought, First, Version, Reading, Posts, Unlocks, Decides, Locks, Joins, Opens, Reads, Discards, Posting, WasGone, WasStale, WasCrowded, WasQueued, HasLocked, Unlocking, IsOpen, HasNext, Deciding, HasEnded, GoesOn, Locking, NotThere, Has, Ended}
 use Rattle.seat_programs.specs.PostPrograms.{packed, is_first, is_sought, is_stale, is_full, judged, posted, post_with, post, popped, end_id, decide, decided, unlocked, locking, IsSoughtWord}
 use Rattle.seat_programs.specs.Programs.{Program, Do, Say, Sent, Rest, TakeMessage, TakeHome, PutHome, PutBytes, AskReady, Write, Aside, Round, Keep, Retries}
@@ -39,8 +39,8 @@ locked_parts w e one = ap (λ x. parts (packed x)) (ap (λ b. cond b (locked_wor
 
 -- a step on the sockets that leaves what is known as it is
 abbrev pub is_plain : TableStep → Bool
-is_plain (PutMessage q heading bytes) = false
-is_plain (ClaimRequest s q) = false
+is_plain (OnMessage (PutMessage q heading bytes)) = false
+is_plain (OnChain (ClaimRequest s q)) = false
 is_plain call = true
 
 -- a step aside by which nothing comes to be known
@@ -83,8 +83,8 @@ module _ {K : Type 0} (lost : K) (unlocked_behind : ℕ → ℕ → Bool → K �
   pub record Tracks : Type 0 where
     pub step : (t : K) (call : TableStep) (next : ℕ → Program) → is_plain call ≡ true → ((found : ℕ) → G t (next found)) → G t (Do call next)
     pub looks : (t : K) (call : TableStep) (next : ℕ → Program) → is_plain call ≡ true → ((found : ℕ) → G lost (next found)) → G t (Do call next)
-    pub claim : (s q : ℕ) (next : ℕ → Program) → ((found : ℕ) → G lost (next found)) → G lost (Do (ClaimRequest s q) next)
-    pub send : (q o : ℕ) (bytes : List ℕ) (next : ℕ → Program) → ((found : ℕ) → G lost (next found)) → G lost (Do (PutMessage q (heading_of o) bytes) next)
+    pub claim : (s q : ℕ) (next : ℕ → Program) → ((found : ℕ) → G lost (next found)) → G lost (Do (OnChain (ClaimRequest s q)) next)
+    pub send : (q o : ℕ) (bytes : List ℕ) (next : ℕ → Program) → ((found : ℕ) → G lost (next found)) → G lost (Do (OnMessage (PutMessage q (heading_of o) bytes)) next)
     pub passes : (t : K) (program : Program) → HoldsBehind lost G t program → G t program
     pub aside : (t : K) (step : Step) (next : Found step → Program) → is_plain_aside step ≡ true → ((found : Found step) → FindsLabel is_call step found → (u : K) × Stays lost t u × G u (next found)) → G t (Aside step next)
     pub puts_call : (t : K) (i : ℕ) (asked : Asked) (next : ℕ → Program) → is_call asked → ((found : ℕ) → G lost (next found)) → G t (Aside (PutCall i asked) next)
@@ -265,6 +265,6 @@ module _ {K : Type 0} {lost : K} {unlocked_behind : ℕ → ℕ → Bool → K �
   round_goes t (Decides id asked word e) k at goes = decides_goes t id asked word e k at.0 at.1 (λ exit. goes exit tt)
   round_goes t (Locks i sought from) k at goes = locks_goes t i sought from k at goes
   round_goes t (Joins id) k at goes = gives_up t (LoadIdWord (id_slot id)) _ refl (λ found _. way lost (is_first (id_first id) (parts found)) (Round (Joins id) k) (k found) (λ _. g.round lost (Joins id) k tt goes) (λ _. goes found tt))
-  round_goes t (Opens o) k at goes = g.looks t (LoadOpen o) _ refl (λ word. way lost (eqb word 0) (Round (Opens o) k) (k word) (λ _. g.round lost (Opens o) k tt goes) (λ _. goes word tt))
+  round_goes t (Opens o) k at goes = g.looks t (OnName (LoadOpen o)) _ refl (λ word. way lost (eqb word 0) (Round (Opens o) k) (k word) (λ _. g.round lost (Opens o) k tt goes) (λ _. goes word tt))
   round_goes t (Reads r) k at goes = gives_up t (TakeBytes r.link (room_of r.total)) _ refl (λ found _. took_goes r k (λ exit. goes exit tt) found)
   round_goes t (Discards l total) k at goes = gives_up t (TakeBytes l (room_of total)) _ refl (λ found _. discarded_goes l total k (λ exit. goes exit tt) found)

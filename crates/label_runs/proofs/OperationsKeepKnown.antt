@@ -18,7 +18,7 @@ use Rattle.seat_programs.specs.declared.task.Sizes.{Sizes}
 use Rattle.seat_programs.specs.declared.task.Task.{Task}
 use Rattle.seat_programs.specs.Asides.{LoadCall, LoadAt}
 use Rattle.seat_programs.specs.CallAndRetryPrograms.{call, expire_outcome, expire, join}
-use Rattle.seat_programs.specs.TableSteps.{SubRef, AddRef, StoreCode, LoadLink, TakeLink, FinishLink, PutLink, FreeSlot, LoadName, FreeRequest, ReadNext, FindLink, LookWord, ReverseNext, Connect, Recycle, SetOdd, StorePlace, DropPlace, LoadCode, EmptyHead, PutMessage, Unconnect, SwapHead, StoreOpen, ClaimSlot, StoreLink, ClearCode, ResetHead, CreateLife, StoreName, LoadOpen}
+use Rattle.seat_programs.specs.TableSteps.{OnSlot, OnName, OnChain, OnPlace, OnLink, OnMessage, SubRef, AddRef, StoreCode, LoadLink, TakeLink, FinishLink, PutLink, FreeSlot, LoadName, FreeRequest, ReadNext, FindLink, LookWord, ReverseNext, Connect, Recycle, SetOdd, StorePlace, DropPlace, LoadCode, EmptyHead, PutMessage, Unconnect, SwapHead, StoreOpen, ClaimSlot, StoreLink, ClearCode, ResetHead, CreateLife, StoreName, LoadOpen}
 use Rattle.seat_programs.specs.ClientProgram.{HeldLife, held_under, without_name, give_back, drop_of, operation, client_from, ending_of}
 use Rattle.seat_programs.specs.LoopHeads.{Posts, Joins, Opens, Reads, Discards, Posting, HasLocked, Locking, Ended}
 use Rattle.seat_programs.specs.BufferParts.{part}
@@ -40,35 +40,35 @@ module _ {K : Type 0} {lost : K} {unlocked_behind : ℕ → ℕ → Bool → K �
 
   module _ (t : K) where
     recycle_goes : (i from : ℕ) (next : Bool → Program) → ((b : Bool) → G t (next b)) → G t (recycle i from next)
-    recycle_goes i from next goes = g.step t (Recycle i from) _ refl (λ found.
+    recycle_goes i from next goes = g.step t (OnSlot (Recycle i from)) _ refl (λ found.
         way g t (eqb found from)
-        (Do (LoadLink i (vref_version from + 1)) (λ k. Do (TakeLink k) (λ _. Do (FinishLink k) (λ _. Do (PutLink k) (λ _. cond (leb (vref_version from + 1) LAST_VERSION) (Do (FreeSlot i) (λ _. next true)) (next true))))))
+        (Do (OnSlot (LoadLink i (vref_version from + 1))) (λ k. Do (OnLink (TakeLink k)) (λ _. Do (OnLink (FinishLink k)) (λ _. Do (OnLink (PutLink k)) (λ _. cond (leb (vref_version from + 1) LAST_VERSION) (Do (OnSlot (FreeSlot i)) (λ _. next true)) (next true))))))
         (next false)
-        (λ _. g.step t (LoadLink i (vref_version from + 1)) _ refl (λ k. g.step t (TakeLink k) _ refl (λ _. g.step t (FinishLink k) _ refl (λ _. g.step t (PutLink k) _ refl (λ _.
-        way g t (leb (vref_version from + 1) LAST_VERSION) (Do (FreeSlot i) (λ _. next true)) (next true) (λ _. g.step t (FreeSlot i) _ refl (λ _. goes true)) (λ _. goes true))))))
+        (λ _. g.step t (OnSlot (LoadLink i (vref_version from + 1))) _ refl (λ k. g.step t (OnLink (TakeLink k)) _ refl (λ _. g.step t (OnLink (FinishLink k)) _ refl (λ _. g.step t (OnLink (PutLink k)) _ refl (λ _.
+        way g t (leb (vref_version from + 1) LAST_VERSION) (Do (OnSlot (FreeSlot i)) (λ _. next true)) (next true) (λ _. g.step t (OnSlot (FreeSlot i)) _ refl (λ _. goes true)) (λ _. goes true))))))
         (λ _. goes false))
 
     pub release_goes : (i : ℕ) (next : Bool → Program) → ((b : Bool) → G t (next b)) → G t (release i next)
-    release_goes i next goes = g.step t (SubRef i) _ refl (λ found. way g t ((vref_version found % 2 == 1) && (vref_nref found == 1)) (recycle i (found - 1) next) (next false) (λ _. recycle_goes i (found - 1) next goes) (λ _. goes false))
+    release_goes i next goes = g.step t (OnSlot (SubRef i)) _ refl (λ found. way g t ((vref_version found % 2 == 1) && (vref_nref found == 1)) (recycle i (found - 1) next) (next false) (λ _. recycle_goes i (found - 1) next goes) (λ _. goes false))
 
     pub address_goes : (id : ℕ) (held : Program) (gone : ℕ → Program) → G t held → ((found : ℕ) → G t (gone found)) → G t (add_reference id held gone)
-    address_goes id held gone goes others = g.step t (AddRef id) _ refl (λ found. way g t (vref_version found == socket_id_version id) held (release (socket_id_slot id) (λ _. gone found)) (λ _. goes) (λ _. release_goes (socket_id_slot id) (λ _. gone found) (λ _. others found)))
+    address_goes id held gone goes others = g.step t (OnSlot (AddRef id)) _ refl (λ found. way g t (vref_version found == socket_id_version id) held (release (socket_id_slot id) (λ _. gone found)) (λ _. goes) (λ _. release_goes (socket_id_slot id) (λ _. gone found) (λ _. others found)))
 
     set_failed_goes : (id code : ℕ) (next : ℕ → Program) → ((found : ℕ) → G t (next found)) → G t (set_failed id code next)
-    set_failed_goes id code next goes = g.step t (SetOdd (socket_id_slot id)) _ refl (λ found.
-        way g t (vref_version found % 2 == 0) (Do (StoreCode (socket_id_slot id) (socket_id_version id) code) (λ _. Do (SubRef (socket_id_slot id)) (λ _. next found))) (next found)
-        (λ _. g.step t (StoreCode (socket_id_slot id) (socket_id_version id) code) _ refl (λ _. g.step t (SubRef (socket_id_slot id)) _ refl (λ _. goes found))) (λ _. goes found))
+    set_failed_goes id code next goes = g.step t (OnSlot (SetOdd (socket_id_slot id))) _ refl (λ found.
+        way g t (vref_version found % 2 == 0) (Do (OnSlot (StoreCode (socket_id_slot id) (socket_id_version id) code)) (λ _. Do (OnSlot (SubRef (socket_id_slot id))) (λ _. next found))) (next found)
+        (λ _. g.step t (OnSlot (StoreCode (socket_id_slot id) (socket_id_version id) code)) _ refl (λ _. g.step t (OnSlot (SubRef (socket_id_slot id))) _ refl (λ _. goes found))) (λ _. goes found))
 
   -- ## Writing
 
   freed_goes : (now : ℕ) (next : Program) → G lost next → G lost (given_back now next)
-  freed_goes now next goes = way g lost (ticket_generation now == LAST_GENERATION) next (Do (FreeRequest (ticket_request now) (ticket_generation now)) (λ _. next)) (λ _. goes) (λ _. g.step lost (FreeRequest (ticket_request now) (ticket_generation now)) _ refl (λ _. goes))
+  freed_goes now next goes = way g lost (ticket_generation now == LAST_GENERATION) next (Do (OnChain (FreeRequest (ticket_request now) (ticket_generation now))) (λ _. next)) (λ _. goes) (λ _. g.step lost (OnChain (FreeRequest (ticket_request now) (ticket_generation now))) _ refl (λ _. goes))
 
   passed_goes : (h : Holder) (now : ℕ) (tells : Program → Program) (after : Program) → ((x : Program) → G lost x → G lost (tells x)) → G lost after → G lost (passed_telling h now tells after)
   passed_goes h now tells after told goes = way g lost (now == h.last) (given_back now (tells (Write (Empties h) after)))
-      (Do (ReadNext (ticket_request now)) (λ next. given_back now (tells (TakeMessage (ticket_request next) (λ heading bytes. Write (Puts h next heading bytes 0 false) after)))))
+      (Do (OnChain (ReadNext (ticket_request now))) (λ next. given_back now (tells (TakeMessage (ticket_request next) (λ heading bytes. Write (Puts h next heading bytes 0 false) after)))))
       (λ _. freed_goes now (tells (Write (Empties h) after)) (told (Write (Empties h) after) (g.passes lost (Write (Empties h) after) goes)))
-      (λ _. g.step lost (ReadNext (ticket_request now)) _ refl (λ next. freed_goes now (tells (TakeMessage (ticket_request next) (λ heading bytes. Write (Puts h next heading bytes 0 false) after)))
+      (λ _. g.step lost (OnChain (ReadNext (ticket_request now))) _ refl (λ next. freed_goes now (tells (TakeMessage (ticket_request next) (λ heading bytes. Write (Puts h next heading bytes 0 false) after)))
       (told (TakeMessage (ticket_request next) (λ heading bytes. Write (Puts h next heading bytes 0 false) after)) (g.passes lost (TakeMessage (ticket_request next) _) (λ heading bytes. g.passes lost (Write (Puts h next heading bytes 0 false) after) goes)))))
 
   tell_goes : (heading : Heading) (code : ℕ) (x : Program) → G lost x → G lost (tell_drop heading code x)
@@ -79,7 +79,7 @@ module _ {K : Type 0} {lost : K} {unlocked_behind : ℕ → ℕ → Bool → K �
 
   put_goes : (h : Holder) (now : ℕ) (heading : Heading) (left : List ℕ) (taken : ℕ) (after : Program) → G lost after → (answer : Put) → G lost (put_answered h now heading left taken after answer)
   put_goes h now heading left taken after goes (puts.Took n) = way g lost (nat_le (length left) n) (placed h now heading after) (Write (Puts h now heading (drop n left) (taken + n) false) after)
-      (λ _. g.step lost (StorePlace heading.label.place h.link h.places) _ refl (λ _. passed_goes (one_more h) now (λ x. x) after (λ x goes. goes) goes)) (λ _. g.passes lost (Write (Puts h now heading (drop n left) (taken + n) false) after) goes)
+      (λ _. g.step lost (OnPlace (StorePlace heading.label.place h.link h.places)) _ refl (λ _. passed_goes (one_more h) now (λ x. x) after (λ x goes. goes) goes)) (λ _. g.passes lost (Write (Puts h now heading (drop n left) (taken + n) false) after) goes)
   put_goes h now heading left taken after goes puts.Again = g.passes lost (Write (Waits h now heading left taken) after) goes
   put_goes h now heading left taken after goes puts.Failed = failed_put h now heading left taken after goes
 
@@ -89,33 +89,33 @@ module _ {K : Type 0} {lost : K} {unlocked_behind : ℕ → ℕ → Bool → K �
   ready_goes h now heading left taken after goes asks.Failed = failed_put h now heading left taken after goes
 
   pub block_goes : (t : K) (w : Writing) (after : Program) → G lost after → G t (block w after)
-  block_goes t (Puts h now heading left taken asked) after goes = g.looks t (LookWord h.id) _ refl (λ found.
+  block_goes t (Puts h now heading left taken asked) after goes = g.looks t (OnSlot (LookWord h.id)) _ refl (λ found.
       way g lost (vref_version found % 2 == 0) (PutBytes h.link asked (part heading.parts left taken) (put_answered h now heading left taken after)) (dropped h now heading after)
       (λ _. g.passes lost (PutBytes h.link asked (part heading.parts left taken) (put_answered h now heading left taken after)) (put_goes h now heading left taken after goes))
-      (λ _. g.step lost (LoadCode (socket_id_slot h.id) (socket_id_version h.id)) _ refl (λ code. g.step lost (DropPlace heading.label.place h.link h.places) _ refl (λ _. passed_goes (one_more h) now (tell_drop heading code) after (λ x goes. tell_goes heading code x goes) goes))))
+      (λ _. g.step lost (OnSlot (LoadCode (socket_id_slot h.id) (socket_id_version h.id))) _ refl (λ code. g.step lost (OnPlace (DropPlace heading.label.place h.link h.places)) _ refl (λ _. passed_goes (one_more h) now (tell_drop heading code) after (λ x goes. tell_goes heading code x goes) goes))))
   block_goes t (Waits h now heading left taken) after goes = g.passes t (AskReady h.link (ready_answered h now heading left taken after)) (ready_goes h now heading left taken after goes)
-  block_goes t (Empties h) after goes = g.passes t (PutHome h.link h.places _) (g.step lost (EmptyHead (socket_id_slot h.id) h.last) _ refl (λ found. way g lost (found == h.last) after (TakeHome h.link (λ places. Write (Reversing (record h { places = places }) found found 0) after))
+  block_goes t (Empties h) after goes = g.passes t (PutHome h.link h.places _) (g.step lost (OnChain (EmptyHead (socket_id_slot h.id) h.last)) _ refl (λ found. way g lost (found == h.last) after (TakeHome h.link (λ places. Write (Reversing (record h { places = places }) found found 0) after))
       (λ _. goes) (λ _. g.passes lost (TakeHome h.link _) (λ places. g.passes lost (Write (Reversing (record h { places = places }) found found 0) after) goes))))
-  block_goes t (Reversing h top at after) then_ goes = g.looks t (ReadNext (ticket_request at)) _ refl (λ found. way g lost (found == UNCONNECTED) (Write (Reversing h top at after) then_)
-      (Do (ReverseNext (ticket_request at) after) (λ _. cond (found == h.last) (TakeMessage (ticket_request at) (λ heading bytes. Write (Puts (record h { last = top }) at heading bytes 0 false) then_)) (Write (Reversing h top found at) then_)))
+  block_goes t (Reversing h top at after) then_ goes = g.looks t (OnChain (ReadNext (ticket_request at))) _ refl (λ found. way g lost (found == UNCONNECTED) (Write (Reversing h top at after) then_)
+      (Do (OnChain (ReverseNext (ticket_request at) after)) (λ _. cond (found == h.last) (TakeMessage (ticket_request at) (λ heading bytes. Write (Puts (record h { last = top }) at heading bytes 0 false) then_)) (Write (Reversing h top found at) then_)))
       (λ _. g.passes lost (Write (Reversing h top at after) then_) goes)
-      (λ _. g.step lost (ReverseNext (ticket_request at) after) _ refl (λ _. way g lost (found == h.last) (TakeMessage (ticket_request at) (λ heading bytes. Write (Puts (record h { last = top }) at heading bytes 0 false) then_)) (Write (Reversing h top found at) then_)
+      (λ _. g.step lost (OnChain (ReverseNext (ticket_request at) after)) _ refl (λ _. way g lost (found == h.last) (TakeMessage (ticket_request at) (λ heading bytes. Write (Puts (record h { last = top }) at heading bytes 0 false) then_)) (Write (Reversing h top found at) then_)
       (λ _. g.passes lost (TakeMessage (ticket_request at) _) (λ heading bytes. g.passes lost (Write (Puts (record h { last = top }) at heading bytes 0 false) then_) goes)) (λ _. g.passes lost (Write (Reversing h top found at) then_) goes))))
 
   first_goes : (h : Holder) (now : ℕ) (heading : Heading) (bytes : List ℕ) (after : Program) → G lost after → G lost (first_put h now heading bytes after)
-  first_goes h now heading bytes after goes = g.step lost (LookWord h.id) _ refl (λ found.
+  first_goes h now heading bytes after goes = g.step lost (OnSlot (LookWord h.id)) _ refl (λ found.
       way g lost (vref_version found % 2 == 0) (PutBytes h.link false (part heading.parts bytes 0) (put_answered h now heading bytes 0 after)) (Write (Puts h now heading bytes 0 false) after)
       (λ _. g.passes lost (PutBytes h.link false (part heading.parts bytes 0) (put_answered h now heading bytes 0 after)) (put_goes h now heading bytes 0 after goes)) (λ _. g.passes lost (Write (Puts h now heading bytes 0 false) after) goes))
 
   write_goes : (id q own : ℕ) (after : Program) → G lost after → G lost (write_link id q own after)
-  write_goes id q own after goes = g.step lost (FindLink (socket_id_slot id) (socket_id_version id)) _ refl (λ k. g.passes lost (TakeHome k _) (λ places. g.passes lost (TakeMessage q _) (λ heading bytes. first_goes (record { id = id; link = k; last = own; places = places }) own heading bytes after goes)))
+  write_goes id q own after goes = g.step lost (OnSlot (FindLink (socket_id_slot id) (socket_id_version id))) _ refl (λ k. g.passes lost (TakeHome k _) (λ places. g.passes lost (TakeMessage q _) (λ heading bytes. first_goes (record { id = id; link = k; last = own; places = places }) own heading bytes after goes)))
 
   -- ## Messages
 
   -- where the message may be put into its home
-  pub accept_goes : (t : K) (id q n : ℕ) (heading : Heading) (bytes : List ℕ) (after : Program) → ((next : ℕ → Program) → ((found : ℕ) → G lost (next found)) → G t (Do (PutMessage q heading bytes) next)) → G lost after → G t (accept id q n heading bytes after)
-  accept_goes t id q n heading bytes after may goes = may _ (λ _. g.step lost (Unconnect q) _ refl (λ _. g.step lost (SwapHead (socket_id_slot id) (ticket_of q n)) _ refl (λ found.
-      way g lost (nat_lt found IDLE) (Do (Connect q found) (λ _. after)) (write_link id q (ticket_of q n) after) (λ _. g.step lost (Connect q found) _ refl (λ _. goes)) (λ _. write_goes id q (ticket_of q n) after goes))))
+  pub accept_goes : (t : K) (id q n : ℕ) (heading : Heading) (bytes : List ℕ) (after : Program) → ((next : ℕ → Program) → ((found : ℕ) → G lost (next found)) → G t (Do (OnMessage (PutMessage q heading bytes)) next)) → G lost after → G t (accept id q n heading bytes after)
+  accept_goes t id q n heading bytes after may goes = may _ (λ _. g.step lost (OnChain (Unconnect q)) _ refl (λ _. g.step lost (OnChain (SwapHead (socket_id_slot id) (ticket_of q n))) _ refl (λ found.
+      way g lost (nat_lt found IDLE) (Do (OnChain (Connect q found)) (λ _. after)) (write_link id q (ticket_of q n) after) (λ _. g.step lost (OnChain (Connect q found)) _ refl (λ _. goes)) (λ _. write_goes id q (ticket_of q n) after goes))))
 
   expire_goes : (o t : ℕ) (next : Program) → G lost next → G lost (expire o t next)
   expire_goes o t next goes = gives_up g lost (LoadCall t) _ refl (λ id _.
@@ -128,13 +128,13 @@ module _ {K : Type 0} {lost : K} {unlocked_behind : ℕ → ℕ → Bool → K �
   -- ## Clients
 
   open_goes : (more i o name k : ℕ) (next : Program) → G lost next → G lost (open_from more i o name k next)
-  open_goes zero i o name k next goes = g.step lost (TakeLink k) _ refl (λ _. g.step lost (FinishLink k) _ refl (λ _. g.step lost (PutLink k) _ refl (λ _. g.step lost (StoreOpen o NO_SOCKET) _ refl (λ _. g.passes lost (Say o _ next) goes))))
-  open_goes (suc more) i o name k next goes = g.step lost (ClaimSlot i) _ refl (λ found. way g lost (found == 0) (make_socket o name k i next) (open_from more (i + 1) o name k next)
-      (λ _. g.step lost (StoreLink i k) _ refl (λ _. g.step lost (ResetHead i k) _ refl (λ _. g.step lost (ClearCode i k) _ refl (λ _. g.step lost (CreateLife i k) _ refl (λ found. g.step lost (StoreOpen o _) _ refl (λ _. g.step lost (StoreName name _) _ refl (λ _. g.passes lost (Say o _ next) goes)))))))
+  open_goes zero i o name k next goes = g.step lost (OnLink (TakeLink k)) _ refl (λ _. g.step lost (OnLink (FinishLink k)) _ refl (λ _. g.step lost (OnLink (PutLink k)) _ refl (λ _. g.step lost (OnName (StoreOpen o NO_SOCKET)) _ refl (λ _. g.passes lost (Say o _ next) goes))))
+  open_goes (suc more) i o name k next goes = g.step lost (OnSlot (ClaimSlot i)) _ refl (λ found. way g lost (found == 0) (make_socket o name k i next) (open_from more (i + 1) o name k next)
+      (λ _. g.step lost (OnSlot (StoreLink i k)) _ refl (λ _. g.step lost (OnSlot (ResetHead i k)) _ refl (λ _. g.step lost (OnSlot (ClearCode i k)) _ refl (λ _. g.step lost (OnSlot (CreateLife i k)) _ refl (λ found. g.step lost (OnName (StoreOpen o _)) _ refl (λ _. g.step lost (OnName (StoreName name _)) _ refl (λ _. g.passes lost (Say o _ next) goes)))))))
       (λ _. open_goes more (i + 1) o name k next goes))
 
   reach_goes : (name : ℕ) (unopened : Program) (held gone : ℕ → Program) → G lost unopened → ((id : ℕ) → G lost (held id)) → ((found : ℕ) → G lost (gone found)) → G lost (find_socket name unopened held gone)
-  reach_goes name unopened held gone none_ one others = g.step lost (LoadName name) _ refl (λ word. way g lost (word == 0) unopened (add_reference (word - 1) (held (word - 1)) gone) (λ _. none_) (λ _. address_goes lost (word - 1) (held (word - 1)) gone (one (word - 1)) others))
+  reach_goes name unopened held gone none_ one others = g.step lost (OnName (LoadName name)) _ refl (λ word. way g lost (word == 0) unopened (add_reference (word - 1) (held (word - 1)) gone) (λ _. none_) (λ _. address_goes lost (word - 1) (held (word - 1)) gone (one (word - 1)) others))
 
   claim_from_goes : (more q o id : ℕ) (bytes : List ℕ) (next : Program) → G lost next → G lost (claim_from more q o id bytes next)
   claim_from_goes zero q o id bytes next goes = release_goes lost (socket_id_slot id) (λ _. Say o outcomes.Full next) (λ _. g.passes lost (Say o outcomes.Full next) goes)
@@ -148,7 +148,7 @@ module _ {K : Type 0} {lost : K} {unlocked_behind : ℕ → ℕ → Bool → K �
 
   send_goes : (requests o name : ℕ) (bytes : List ℕ) (next : Program) → G lost next → G lost (send requests o name bytes next)
   send_goes requests o name bytes next goes = reach_goes name (Say o outcomes.Unopened next) (λ id. start requests o id bytes next) (λ found. Say o (outcomes.Gone (record { 0 = found })) next) (g.passes lost (Say o outcomes.Unopened next) goes)
-      (λ id. g.step lost (LookWord id) _ refl (λ found.
+      (λ id. g.step lost (OnSlot (LookWord id)) _ refl (λ found.
       way g lost (vref_version found % 2 == 0) (claim_from requests 0 o id bytes next) (release (socket_id_slot id) (λ _. Say o (outcomes.Gone (record { 0 = found })) next))
       (λ _. claim_from_goes requests 0 o id bytes next goes) (λ _. release_goes lost (socket_id_slot id) (λ _. Say o (outcomes.Gone (record { 0 = found })) next) (λ _. gone_goes o next goes found))))
       (gone_goes o next goes)
@@ -187,7 +187,7 @@ module _ {K : Type 0} {lost : K} {unlocked_behind : ℕ → ℕ → Bool → K �
 
   pub ending_goes : (os : List ℕ) → G lost (ending_of os)
   ending_goes [] = g.passes lost Rest tt
-  ending_goes (o ∷ os) = g.step lost (LoadOpen o) _ refl (λ word.
+  ending_goes (o ∷ os) = g.step lost (OnName (LoadOpen o)) _ refl (λ word.
       way g lost (word == 0) (ending_of os) (cond (word == NO_SOCKET) (ending_of os) (add_reference (word - 1) (set_failed (word - 1) 1014 (λ _. release (socket_id_slot (word - 1)) (λ _. ending_of os))) (λ _. ending_of os)))
       (λ _. ending_goes os)
       (λ _. way g lost (word == NO_SOCKET) (ending_of os) (add_reference (word - 1) (set_failed (word - 1) 1014 (λ _. release (socket_id_slot (word - 1)) (λ _. ending_of os))) (λ _. ending_of os)) (λ _. ending_goes os)

@@ -10,7 +10,7 @@ use Rattle.seat_programs.specs.declared.task.Sizes.{Sizes}
 use Rattle.seat_programs.specs.declared.task.Task.{Task}
 use Rattle.seat_programs.specs.Asides.{Step, Found, PutCall, MakeId, StoreAt, UnlockId}
 use Rattle.seat_programs.specs.CallAndRetryPrograms.{claims_from, heading_for, attempt, begin_call, claim_id, call, tried_again, retry_locked, retry}
-use Rattle.seat_programs.specs.TableSteps.{TableStep, PutMessage, FindLink, LookWord}
+use Rattle.seat_programs.specs.TableSteps.{TableStep, OnSlot, OnMessage, PutMessage, FindLink, LookWord}
 use Rattle.seat_programs.specs.ClientProgram.{HeldLife, client_from, ending_of}
 use Rattle.seat_programs.specs.LoopHeads.{Head, Exit, Posts, Decides, Opens, First, Unlocks, Locks, Joins, Reads, Discards, Unlocking, IsOpen, HasNext, Locking, NotThere, Has}
 use Rattle.seat_programs.specs.PostPrograms.{post, decided}
@@ -40,11 +40,11 @@ found_is t i from found false f a = refl
 
 module _ (is_call : Asked → Type 0) where
   may_plain : (t : Trial) (call : TableStep) → is_plain call ≡ true → MayPut is_call t call
-  may_plain t (PutMessage q heading bytes) plain = absurd (let e = plain in cc)
+  may_plain t (OnMessage (PutMessage q heading bytes)) plain = absurd (let e = plain in cc)
   may_plain t call plain = tt
 
   stays_plain : (t : Trial) (call : TableStep) → is_plain call ≡ true → Kept (put_behind t call) t
-  stays_plain t (PutMessage q heading bytes) plain = absurd (let e = plain in cc)
+  stays_plain t (OnMessage (PutMessage q heading bytes)) plain = absurd (let e = plain in cc)
   stays_plain t call plain = inl refl
 
   aside_moves : (step : Step) → is_plain_aside step ≡ true → (found : Found step) (t u : Trial) → Kept t u → AsideMove is_call step found t u
@@ -118,7 +118,7 @@ module _ (is_call : Asked → Type 0) where
     full_goes : (t : Trial) → Labels is_call t (post id 3001 n (release (socket_id_slot socket) (λ _. next)))
     full_goes t = post_goes tracks t id 3001 n (release (socket_id_slot socket) (λ _. next)) (release_goes tracks Idle (socket_id_slot socket) (λ _. next) (λ _. goes))
 
-    looks_goes : (heading : Heading) (bytes : List ℕ) → ((heading.owner ≡ 0) × (heading.parts ≡ [])) ⊎ IsOfTrial is_call (Sends asked.operation id n) heading bytes → Labels is_call (Sends asked.operation id n) (Do (LookWord socket) (λ found. cond (eqb (vref_version found % 2) 0)
+    looks_goes : (heading : Heading) (bytes : List ℕ) → ((heading.owner ≡ 0) × (heading.parts ≡ [])) ⊎ IsOfTrial is_call (Sends asked.operation id n) heading bytes → Labels is_call (Sends asked.operation id n) (Do (OnSlot (LookWord socket)) (λ found. cond (eqb (vref_version found % 2) 0)
         (claims_from requests 0 socket heading bytes (post id 3001 n (release (socket_id_slot socket) (λ _. next))) (release (socket_id_slot socket) (λ _. next))) (post id 1009 n (release (socket_id_slot socket) (λ _. next)))))
     looks_goes heading bytes may = (
       tt,
@@ -134,7 +134,7 @@ module _ (is_call : Asked → Type 0) where
     )
 
     pub attempt_goes : Labels is_call (Tries id n) (attempt requests asked id n socket next)
-    attempt_goes = address_goes tracks (Tries id n) socket (Do (FindLink (socket_id_slot socket) (socket_id_version socket)) (λ k. Aside (StoreAt asked.operation (at_word (id_first id) (id_slot id) k n)) (λ _. Do (LookWord socket) (λ found. cond (eqb (vref_version found % 2) 0)
+    attempt_goes = address_goes tracks (Tries id n) socket (Do (OnSlot (FindLink (socket_id_slot socket) (socket_id_version socket))) (λ k. Aside (StoreAt asked.operation (at_word (id_first id) (id_slot id) k n)) (λ _. Do (OnSlot (LookWord socket)) (λ found. cond (eqb (vref_version found % 2) 0)
         (claims_from requests 0 socket (heading_for asked id n) (frame_of asked id n) (post id 3001 n (release (socket_id_slot socket) (λ _. next))) (release (socket_id_slot socket) (λ _. next))) (post id 1009 n (release (socket_id_slot socket) (λ _. next)))))))
         (λ _. post id 1009 n next)
         (tt, λ k low. (Tries id n, inl refl, λ _ _. (Sends asked.operation id n, (id, n, k, refl, refl, low, few, refl), looks_goes (heading_for asked id n) (frame_of asked id n) (inr (asked, called, refl, refl, refl)))))

@@ -9,7 +9,7 @@ use Rattle.id_runs.specs.Goes.{FitsSock}
 use Rattle.seat_programs.specs.sock_message.specs.Asked.{Asked, frame_of}
 use Rattle.seat_programs.specs.Asides.{Step, Found, PutCall, MakeId, StoreAt, UnlockId, TakeCall}
 use Rattle.seat_programs.specs.CallAndRetryPrograms.{heading_for}
-use Rattle.seat_programs.specs.TableSteps.{TableStep, PutMessage}
+use Rattle.seat_programs.specs.TableSteps.{TableStep, OnMessage, PutMessage}
 use Rattle.seat_programs.specs.LoopHeads.{Head, Exit, Sought, First, Posts, Unlocks, Decides, Locks, Posting, HasLocked, Unlocking, HasNext, Locking, NotThere, Has}
 use Rattle.seat_programs.specs.PostPrograms.{IsSoughtWord}
 use Rattle.seat_programs.specs.Programs.{Program, Do, Say, Sent, Rest, TakeMessage, TakeHome, PutHome, PutBytes, AskReady, Write, Aside, Round, Keep, Retries}
@@ -22,7 +22,7 @@ pub data Trial : Type 0 where
 
 -- behind it the claim has the attempt
 abbrev pub put_behind : Trial → TableStep → Trial
-put_behind t (PutMessage q heading bytes) = Idle
+put_behind t (OnMessage (PutMessage q heading bytes)) = Idle
 put_behind t other = t
 
 -- a seat may give an attempt up
@@ -92,7 +92,7 @@ module _ (is_call : Asked → Type 0) where
   IsOfTrial other heading bytes = ⊥
 
   abbrev pub MayPut : Trial → TableStep → Type 0
-  MayPut t (PutMessage q heading bytes) = ((heading.owner ≡ 0) × (heading.parts ≡ [])) ⊎ IsOfTrial t heading bytes
+  MayPut t (OnMessage (PutMessage q heading bytes)) = ((heading.owner ≡ 0) × (heading.parts ≡ [])) ⊎ IsOfTrial t heading bytes
   MayPut t other = Unit {0}
 
   abbrev pub AsideMove : (step : Step) → Found step → Trial → Trial → Type 0

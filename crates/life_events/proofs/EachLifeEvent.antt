@@ -14,7 +14,7 @@ use Rattle.sock_model.specs.UnplacedMessages.{HeadedBytes}
 use Rattle.sock_model.specs.ChainLawReads.{message, link_home}
 use Rattle.sock_model.specs.LawfulSockets.{Lawful}
 use Rattle.sock_model.specs.PlainReferences.{Event, Nothing, Becomes, Leads, plain}
-use Rattle.seat_programs.specs.TableSteps.{TableStep, ClaimSlot, CreateLife, AddRef, SubRef, SetOdd, Recycle, FreeSlot, StoreLink, ResetHead, ClearCode, StoreCode}
+use Rattle.seat_programs.specs.TableSteps.{TableStep, OnSlot, ClaimSlot, CreateLife, AddRef, SubRef, SetOdd, Recycle, FreeSlot, StoreLink, ResetHead, ClearCode, StoreCode}
 use Rattle.seat_programs.specs.Programs.{Program, Do, TakeMessage, TakeHome, PutHome, PutBytes, Write, Round}
 use Rattle.seat_programs.specs.LoopRounds.{round, first_step}
 use Rattle.seat_programs.specs.Cores.{Core, SeatState, found_at}
@@ -42,18 +42,18 @@ use Rattle.life_events.proofs.StepsAsLifeEvents.{nothing, marks_event, claim_eve
 -- each step is its event
 pub each_step : {S : Type 0} (shows : S → Home) (p : Plan) (s : State S View) → Lawful shows p s → (id : ℕ) (v : View) → get_elem? s.views id ≡ some v → (call : TableStep) (hand : Hand) → May p v call
     → Becomes (plain s.views) (event_of id call (found_at s.words (word_of p call)) v) (plain (set s.views id (row p call (found_at s.words (word_of p call)) hand v)))
-each_step shows p s o id v here (ClaimSlot i) hand may = claim_event shows p s o id v here i (found_at s.words (word_of p (ClaimSlot i)))
-each_step shows p s o id v here (CreateLife i k) hand may = birth_event shows p s o id v here i may.0 k may.1
-each_step shows p s o id v here (AddRef x) hand may = let knows = may.0 in
-    add_event shows p s o id v here (socket_id_slot x) knows.0 (socket_id_version x) (eqb (vref_version (found_at s.words (word_of p (AddRef x)))) (socket_id_version x)) (eqb-true (vref_version (found_at s.words (word_of p (AddRef x)))) (socket_id_version x)) knows.1
-each_step shows p s o id v here (SubRef i) hand may = sub_event shows p s o id v here i may.0 may.1
-each_step shows p s o id v here (SetOdd i) hand may = let held = may.1 in fail_event shows p s o id v here i may.0 held.0 held.1
-each_step shows p s o id v here (Recycle i from) hand may = recycle_event shows p s o id v here i may.0 from may.1 may.2 may.3
-each_step shows p s o id v here (FreeSlot i) hand may = free_event shows p s o id v here i
-each_step shows p s o id v here (StoreLink i k) hand may = let w : View = row p (StoreLink i k) (found_at s.words (word_of p (StoreLink i k))) hand v in stage_event shows p s o id v here i 0 0 1 k w.passes
-each_step shows p s o id v here (ResetHead i k) hand may = stage_event shows p s o id v here i 1 k 2 k v.passes
-each_step shows p s o id v here (ClearCode i k) hand may = stage_event shows p s o id v here i 2 k 3 k v.passes
-each_step shows p s o id v here (StoreCode i h c) hand may = code_event shows p s o id v here i h c
+each_step shows p s o id v here (OnSlot (ClaimSlot i)) hand may = claim_event shows p s o id v here i (found_at s.words (word_of p (OnSlot (ClaimSlot i))))
+each_step shows p s o id v here (OnSlot (CreateLife i k)) hand may = birth_event shows p s o id v here i may.0 k may.1
+each_step shows p s o id v here (OnSlot (AddRef x)) hand may = let knows = may.0 in
+    add_event shows p s o id v here (socket_id_slot x) knows.0 (socket_id_version x) (eqb (vref_version (found_at s.words (word_of p (OnSlot (AddRef x))))) (socket_id_version x)) (eqb-true (vref_version (found_at s.words (word_of p (OnSlot (AddRef x))))) (socket_id_version x)) knows.1
+each_step shows p s o id v here (OnSlot (SubRef i)) hand may = sub_event shows p s o id v here i may.0 may.1
+each_step shows p s o id v here (OnSlot (SetOdd i)) hand may = let held = may.1 in fail_event shows p s o id v here i may.0 held.0 held.1
+each_step shows p s o id v here (OnSlot (Recycle i from)) hand may = recycle_event shows p s o id v here i may.0 from may.1 may.2 may.3
+each_step shows p s o id v here (OnSlot (FreeSlot i)) hand may = free_event shows p s o id v here i
+each_step shows p s o id v here (OnSlot (StoreLink i k)) hand may = let w : View = row p (OnSlot (StoreLink i k)) (found_at s.words (word_of p (OnSlot (StoreLink i k)))) hand v in stage_event shows p s o id v here i 0 0 1 k w.passes
+each_step shows p s o id v here (OnSlot (ResetHead i k)) hand may = stage_event shows p s o id v here i 1 k 2 k v.passes
+each_step shows p s o id v here (OnSlot (ClearCode i k)) hand may = stage_event shows p s o id v here i 2 k 3 k v.passes
+each_step shows p s o id v here (OnSlot (StoreCode i h c)) hand may = code_event shows p s o id v here i h c
 each_step shows p s o id v here call hand may = let found : ℕ = found_at s.words (word_of p call) in nothing shows p s o id v here (row p call found hand v)
     (noting_marks p v found hand (Same v.marks) (same_marks v.marks) (λ i w. silent_more v.marks v.marks (same_marks v.marks) i (mark.Saw w) refl) (λ i h k. silent_more v.marks v.marks (same_marks v.marks) i (mark.Met h k) refl)
     (λ i h c w. silent_more v.marks (at i (mark.Saw w) ∷ v.marks) (silent_more v.marks v.marks (same_marks v.marks) i (mark.Saw w) refl) i (mark.Told h c) refl) (λ i h. silent_more v.marks v.marks (same_marks v.marks) i (mark.Known h) refl) call refl)

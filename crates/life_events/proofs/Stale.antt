@@ -14,7 +14,7 @@ use Rattle.sock_model.specs.ViewsOfSplitSeats.{first_view}
 use Rattle.sock_model.specs.PlainReferences.{no_lives, Nothing, Hold, plain}
 use Rattle.slot_steps.proofs.After.{marks-added}
 use Rattle.slot_steps.proofs.RuleNumbers.{life_is}
-use Rattle.seat_programs.specs.TableSteps.{AddRef}
+use Rattle.seat_programs.specs.TableSteps.{OnSlot, AddRef}
 use Rattle.seat_programs.specs.StepTables.{word_of}
 use Rattle.seat_programs.specs.Cores.{found_at}
 use Rattle.seat_programs.specs.StepTables.{row}
@@ -23,7 +23,7 @@ use Rattle.life_events.proofs.LifeLaws.{ends_are}
 
 module _ {S : Type 0} (shows : S → Home) (p : Plan) (s : State S View) (o : Lawful shows p s) (id : ℕ) (inside : socket_id_slot id < p.slots) (over : 0 < (plain s.views).ends (life_of id)) where
   abbrev found : ℕ
-  found = found_at s.words (word_of p (AddRef id))
+  found = found_at s.words (word_of p (OnSlot (AddRef id)))
 
   -- the slot has gone on to another version
   pub stale_version : vref_version found ≢ socket_id_version id
@@ -34,11 +34,11 @@ module _ {S : Type 0} (shows : S → Home) (p : Plan) (s : State S View) (o : La
   stale_test = ne_eqb (vref_version found) (socket_id_version id) stale_version
 
   -- so whoever adds a reference for the id gets none to a life, of any version
-  pub stale_nothing : (seat : ℕ) (v : View) → event_of seat (AddRef id) found v ≡ Nothing
+  pub stale_nothing : (seat : ℕ) (v : View) → event_of seat (OnSlot (AddRef id)) found v ≡ Nothing
   stale_nothing seat v = ap (λ b. cond b (Hold (life_of id) seat) Nothing) stale_test
 
   -- and has one more 1 to take back
-  pub stale_probe : (v : View) (hand : Hand) → marks_of is_probe (socket_id_slot id) (row p (AddRef id) found hand v) ≡ marks_of is_probe (socket_id_slot id) v + 1
+  pub stale_probe : (v : View) (hand : Hand) → marks_of is_probe (socket_id_slot id) (row p (OnSlot (AddRef id)) found hand v) ≡ marks_of is_probe (socket_id_slot id) v + 1
   stale_probe v hand = let i : ℕ = socket_id_slot id in let w : ℕ = vref_version found in let a = ap (λ b. marks_of is_probe i (added i found b v)) stale_test in omega (arith, marks-added is_probe i found false v)
 
 -- the views of a new table have no life

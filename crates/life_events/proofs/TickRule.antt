@@ -18,7 +18,7 @@ use Rattle.sock_model.specs.UnplacedMessages.{HeadedBytes}
 use Rattle.sock_model.specs.ChainLawReads.{message, link_home}
 use Rattle.sock_model.specs.LawfulSockets.{Lawful}
 use Rattle.sock_model.specs.Rule.{Lasting, of_name, of_open, of_request, Rule}
-use Rattle.seat_programs.specs.TableSteps.{TableStep, StoreName, LoadName, StoreOpen, LoadOpen, ClaimRequest, SwapHead, FreeRequest}
+use Rattle.seat_programs.specs.TableSteps.{TableStep, OnName, OnChain, StoreName, LoadName, StoreOpen, LoadOpen, ClaimRequest, SwapHead, FreeRequest}
 use Rattle.seat_programs.specs.Programs.{Program, Do, TakeMessage, TakeHome, PutHome, PutBytes, AskReady, Write, Aside, Round}
 use Rattle.seat_programs.specs.Asides.{Step, Found}
 use Rattle.seat_programs.specs.FoundAndChangedAside.{found_in}
@@ -62,15 +62,15 @@ module _ (p : Plan) (ws : List ℕ) (sized : length ws ≡ all_words p) where
   lasts_left v call may stored name open_ request x (of_request q l e) = same_lasts (words_after ws (word_of p call) stored) x (request_index p q) e (word_stays p ws v call may stored (RequestOf q) l (omega arith) request)
 
   pub call_lasts : (v : View) (call : TableStep) → May p v call → Lasts p ws (words_after ws (word_of p call) (word_after call (found_at ws (word_of p call))))
-  call_lasts v (StoreName n w) may = lasts_set p ws sized (name_index p n) w (λ l. positive w may.1)
-  call_lasts v (LoadName n) may = load_lasts (some (NameOf n))
-  call_lasts v (StoreOpen o w) may = lasts_set p ws sized (open_index p o) w (λ l. ⊎_elim (λ e z. absurd (omega arith)) (λ a. positive w a.0) may.1)
-  call_lasts v (LoadOpen o) may = load_lasts (some (OpenOf o))
-  call_lasts v (ClaimRequest id q) may = let found : ℕ = get_or ws (request_index p q) 0 in
-      lasts_set p ws sized (request_index p q) (word_after (ClaimRequest id q) found) (λ l. dite (ℕ_discrete (found % 2) 0)
+  call_lasts v (OnName (StoreName n w)) may = lasts_set p ws sized (name_index p n) w (λ l. positive w may.1)
+  call_lasts v (OnName (LoadName n)) may = load_lasts (some (NameOf n))
+  call_lasts v (OnName (StoreOpen o w)) may = lasts_set p ws sized (open_index p o) w (λ l. ⊎_elim (λ e z. absurd (omega arith)) (λ a. positive w a.0) may.1)
+  call_lasts v (OnName (LoadOpen o)) may = load_lasts (some (OpenOf o))
+  call_lasts v (OnChain (ClaimRequest id q)) may = let found : ℕ = get_or ws (request_index p q) 0 in
+      lasts_set p ws sized (request_index p q) (word_after (OnChain (ClaimRequest id q)) found) (λ l. dite (ℕ_discrete (found % 2) 0)
       (λ even z. let is : cond (found % 2 == 0) (found + 1) found ≡ found + 1 = ap (λ b. cond b (found + 1) found) (eq-eqb (found % 2) 0 even) in absurd (omega (arith, z, is)))
       (λ odd z. let is : cond (found % 2 == 0) (found + 1) found ≡ found = ap (λ b. cond b (found + 1) found) (ne_eqb (found % 2) 0 odd) in odd (omega (arith, z, is))))
-  call_lasts v (FreeRequest q g) may = lasts_set p ws sized (request_index p q) (2 * (g + 1)) (λ l z. absurd (omega arith))
+  call_lasts v (OnChain (FreeRequest q g)) may = lasts_set p ws sized (request_index p q) (2 * (g + 1)) (λ l z. absurd (omega arith))
   call_lasts v call may = lasts_left v call may (word_after call (found_at ws (word_of p call))) refl refl refl
 
 -- so no tick does: a name and an `open` keep having an id, and a request that was claimed once is never as new again
@@ -140,7 +140,7 @@ module _ (p : Plan) (c : Core) (views : List View) (sound : Sound p c views) (al
   row_rule : (v : View) → get_elem? views i ≡ some v → (hand : List Home) (call : TableStep) → May p v call
       → Lawful (λ (home : Home). home) p record { words = words_after c.words (word_of p call) (word_after call (found_at c.words (word_of p call))); homes = homes_after p call hand c.homes; views = set views i (row p call (found_at c.words (word_of p call)) (hand_at p c.words c.homes call) v) }
       → Rule (λ (home : Home). home) p record { words = words_after c.words (word_of p call) (word_after call (found_at c.words (word_of p call))); homes = homes_after p call hand c.homes; views = set views i (row p call (found_at c.words (word_of p call)) (hand_at p c.words c.homes call) v) }
-  row_rule v here hand (SwapHead j own) may law = let x = may.1 in let found : ℕ = get_or c.words (head_index j) 0 in let took : Hand = hand_at p c.words c.homes (SwapHead j own) in
+  row_rule v here hand (OnChain (SwapHead j own)) may law = let x = may.1 in let found : ℕ = get_or c.words (head_index j) 0 in let took : Hand = hand_at p c.words c.homes (OnChain (SwapHead j own)) in
       let P : View → Type 0 = λ w. Lawful (λ (home : Home). home) p record { words = set c.words (head_index j) own; homes = c.homes; views = set views i w } → Rule (λ (home : Home). home) p record { words = set c.words (head_index j) own; homes = c.homes; views = set views i w } in
       let low = may.0 in let apart : Lasting p (head_index j) → own ≢ 0 = λ l. let a = (lasting_in p (head_index j) l).0 in absurd (omega arith) in
       subst (λ cs. P (by_claim cs (exchanged found took v) v)) (sym x.claims)

@@ -8,7 +8,7 @@ use Rattle.sock_model.specs.declared.view.View.{View}
 use Rattle.sock_model.specs.MarkWeights.{is_probe}
 use Rattle.sock_model.specs.SlotRows.{marks_of}
 use Rattle.sock_model.specs.PlainReferences.{Life, life_at, Event, Nothing, Birth, Hold, Drop, Fail, End}
-use Rattle.seat_programs.specs.TableSteps.{TableStep, CreateLife, AddRef, SubRef, SetOdd, Recycle}
+use Rattle.seat_programs.specs.TableSteps.{TableStep, OnSlot, CreateLife, AddRef, SubRef, SetOdd, Recycle}
 use Rattle.seat_programs.specs.Programs.{Program, Do}
 use Rattle.seat_programs.specs.Cores.{Core, found_at}
 use Rattle.seat_programs.specs.StepTables.{word_of}
@@ -23,11 +23,11 @@ life_of id = life_at (socket_id_slot id) (socket_id_version id)
 
 -- the event of a step of this seat that found this word: a reference counts for the life of the id only where the word has its version, a seat that has to take back a 1 gives that first, the first step that sets a life failed is its failure, and the exchange that is won is its end
 abbrev pub event_of : ℕ → TableStep → ℕ → View → Event
-event_of seat (CreateLife i k) found v = Birth (life_at i (vref_version found))
-event_of seat (AddRef id) found v = if vref_version found == socket_id_version id then Hold (life_of id) seat else Nothing
-event_of seat (SubRef i) found v = if nat_lt 0 (marks_of is_probe i v) then Nothing else Drop (life_at i (even_version found)) seat
-event_of seat (SetOdd i) found v = if vref_version found % 2 == 0 then Fail (life_at i (vref_version found)) seat else Nothing
-event_of seat (Recycle i from) found v = if found == from then End (life_at i (vref_version from - 1)) else Nothing
+event_of seat (OnSlot (CreateLife i k)) found v = Birth (life_at i (vref_version found))
+event_of seat (OnSlot (AddRef id)) found v = if vref_version found == socket_id_version id then Hold (life_of id) seat else Nothing
+event_of seat (OnSlot (SubRef i)) found v = if nat_lt 0 (marks_of is_probe i v) then Nothing else Drop (life_at i (even_version found)) seat
+event_of seat (OnSlot (SetOdd i)) found v = if vref_version found % 2 == 0 then Fail (life_at i (vref_version found)) seat else Nothing
+event_of seat (OnSlot (Recycle i from)) found v = if found == from then End (life_at i (vref_version from - 1)) else Nothing
 event_of seat other found v = Nothing
 
 -- the event of what a seat does next: only steps on words are events

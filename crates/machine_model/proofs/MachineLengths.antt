@@ -28,8 +28,8 @@ length_said (Sent o next) os = length_said next os
 length_said _ os = refl
 
 pub length_holders : (i : ℕ) (call : calls.TableStep) (holders : List (Option ℕ)) → length (holders_after i call holders) ≡ length holders
-length_holders i (calls.TakeLink k) holders = length-set holders k (Some i)
-length_holders i (calls.PutLink k) holders = length-set holders k None
+length_holders i (calls.OnLink (calls.TakeLink k)) holders = length-set holders k (Some i)
+length_holders i (calls.OnLink (calls.PutLink k)) holders = length-set holders k None
 length_holders i _ holders = refl
 
 length_letters : (seat : SeatData) (step : Step) (old fresh : List (Option HomeMessage)) → LettersAfter seat step old fresh → length fresh ≡ length old
@@ -37,7 +37,7 @@ length_letters seat (firsts.PutMessage q author) old fresh h = ap length h.fresh
 length_letters seat _ old fresh h = ap length h
 
 pub length_outs : (call : calls.TableStep) (old fresh : List OutState) → OutsAfter call old fresh → length fresh ≡ length old
-length_outs (calls.FinishLink k) old fresh o = ap length o.3 ∙ length-set old k o.1
+length_outs (calls.OnLink (calls.FinishLink k)) old fresh o = ap length o.3 ∙ length-set old k o.1
 length_outs _ old fresh o = ap length o
 
 -- where the links stay

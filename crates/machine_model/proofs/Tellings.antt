@@ -64,7 +64,7 @@ kind_first program first kind e f = rw f (kind_is program ∙ ap (option_map kin
 
 -- a message goes home
 abbrev PutsMessage : calls.TableStep → Type 0
-PutsMessage (calls.PutMessage q heading bytes) = Unit {0}
+PutsMessage (calls.OnMessage (calls.PutMessage q heading bytes)) = Unit {0}
 PutsMessage other = ⊥
 
 module _ (p : Plan) (c : Core) where
@@ -110,8 +110,8 @@ module _ (p : Plan) (c : Core) where
   pub aside_waits : (program : Program) (step : asides.Step) (found : ℕ) → first_in program ≡ Some (OfAside step) → found_in step c.calls core.none ≡ word_found step found → waits_at p c Unasked program ≡ waits_by program found
   aside_waits program step found e h = waits_first program (OfAside step) e found h
 
-  pub letter_waits : (program : Program) (q : ℕ) (heading : Heading) (bytes : List ℕ) → first_in program ≡ Some (OfTable (calls.PutMessage q heading bytes)) → waits_at p c Unasked program ≡ false
-  letter_waits program q heading bytes e = (waits_first program (OfTable (calls.PutMessage q heading bytes)) e).1 tt
+  pub letter_waits : (program : Program) (q : ℕ) (heading : Heading) (bytes : List ℕ) → first_in program ≡ Some (OfTable (calls.OnMessage (calls.PutMessage q heading bytes))) → waits_at p c Unasked program ≡ false
+  letter_waits program q heading bytes e = (waits_first program (OfTable (calls.OnMessage (calls.PutMessage q heading bytes))) e).1 tt
 
   pub message_waits : (program : Program) (q : ℕ) → first_in program ≡ Some (OfMessage q) → waits_at p c Unasked program ≡ false
   message_waits program q e = waits_first program (OfMessage q) e

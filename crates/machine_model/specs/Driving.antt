@@ -2,7 +2,7 @@
 use Rattle.std.specs.Prelude.{ℕ, ◌≡◌, ◌≢◌, ◌-◌, ◌<◌, ◌≤◌, true, false, [], Result, IfOk, OnOk, slice_set}
 use mathlib.Core.Option as core
 use lib.ListN.{get_elem?}
-use Rattle.seat_programs.specs.TableSteps.{TableStep, PutMessage}
+use Rattle.seat_programs.specs.TableSteps.{TableStep, OnMessage, PutMessage}
 use Rattle.seat_programs.specs.Programs.{Program, Do, Say, Sent, Rest, Retries}
 use Rattle.seat_programs.specs.ClientProgram.{ending_of}
 use Rattle.seat_programs.specs.Cores.{next_step}
@@ -57,7 +57,7 @@ IsOther other kind = ⊥
 
 -- a step that puts no message into its home
 abbrev pub PutsNone : TableStep → Type 0
-PutsNone (PutMessage request heading bytes) = ⊥
+PutsNone (OnMessage (PutMessage request heading bytes)) = ⊥
 PutsNone other = Unit {0}
 
 -- neither the program nor what follows asks a link, sends a message, makes a step aside of the sockets, comes to where a link is written, or

@@ -86,9 +86,9 @@ HasNoStep m i = (seat : SeatData) → get_elem? m.seats i ≡ core.some seat →
 
 -- the step is of one of so many links, if it is of a link
 abbrev pub IsOfLinks : ℕ → calls.TableStep → Type 0
-IsOfLinks links (calls.TakeLink k) = k < links
-IsOfLinks links (calls.FinishLink k) = k < links
-IsOfLinks links (calls.PutLink k) = k < links
+IsOfLinks links (calls.OnLink (calls.TakeLink k)) = k < links
+IsOfLinks links (calls.OnLink (calls.FinishLink k)) = k < links
+IsOfLinks links (calls.OnLink (calls.PutLink k)) = k < links
 IsOfLinks links other = Unit {0}
 
 -- what the point of a seat leaves to the rules: what it stands with, and that it may find this word
@@ -187,8 +187,8 @@ pub record AsMany (old fresh : TableState) : Type 0 where
 
 -- who has each link in hand, after a step that tells nothing
 abbrev pub holders_after : ℕ → calls.TableStep → List (Option ℕ) → List (Option ℕ)
-holders_after i (calls.TakeLink k) holders = slice_set holders k (Some i)
-holders_after i (calls.PutLink k) holders = slice_set holders k None
+holders_after i (calls.OnLink (calls.TakeLink k)) holders = slice_set holders k (Some i)
+holders_after i (calls.OnLink (calls.PutLink k)) holders = slice_set holders k None
 holders_after i other holders = holders
 
 -- the message of the seat goes home, for this author
@@ -206,7 +206,7 @@ LettersAfter seat other old fresh = fresh ≡ old
 
 -- the writing halves after it
 abbrev pub OutsAfter : calls.TableStep → List OutState → List OutState → Type 0
-OutsAfter (calls.FinishLink k) old fresh = (out out' : OutState) × (get_elem? old k ≡ core.some out) × (fresh ≡ slice_set old k out') × FinishStep out out'
+OutsAfter (calls.OnLink (calls.FinishLink k)) old fresh = (out out' : OutState) × (get_elem? old k ≡ core.some out) × (fresh ≡ slice_set old k out') × FinishStep out out'
 OutsAfter other old fresh = fresh ≡ old
 
 -- what no step of a client changes

@@ -117,10 +117,10 @@ OutsKept l i outs = (outs ≡ l.outs) ⊎ ((k : ℕ) × (out' : OutState) × (ho
 
 -- what a step on a word makes of the writing halves
 pub kept_by : (p : Plan) (l : LinksData) (i : ℕ) (outs : List OutState) (call : calls.TableStep) → MayCall p l i call → OutsAfter call l.outs outs → OutsKept l i outs
-kept_by p l i outs (calls.FinishLink k) may after = inr (k, after.1, may.1.0, after.3)
+kept_by p l i outs (calls.OnLink (calls.FinishLink k)) may after = inr (k, after.1, may.1.0, after.3)
 kept_by p l i outs _ may after = inl after
 
-looked : (l : LinksData) (outs : List OutState) (call : calls.TableStep) (id : ℕ) → call ≡ calls.LookWord id → OutsAfter call l.outs outs → outs ≡ l.outs
+looked : (l : LinksData) (outs : List OutState) (call : calls.TableStep) (id : ℕ) → call ≡ calls.OnSlot (calls.LookWord id) → OutsAfter call l.outs outs → outs ≡ l.outs
 looked l outs call id e after = subst (λ (x : calls.TableStep). OutsAfter x l.outs outs) e after
 
 module _ (old : MachineState) (sized : IsSized (table_of old)) (paced : ArePaced (machine_sizes old) old.links old.seats) (sound : ∥ IsSoundMachine old ∥₁) where
@@ -174,7 +174,7 @@ module _ (old : MachineState) (sized : IsSized (table_of old)) (paced : ArePaced
     made_paced step (OfTable call) answer next may made = let w = made.1 in let found : ℕ = found_at old.words (word_of old.plan call) in
         all_paced (after_word program found) w.goes (kept_by old.plan old.links i fresh.links.outs call may w.outs) (⊎_elim
         (λ calm. calm_paced fresh.links.outs (come (after_word program found)) calm)
-        (λ t. let e : call ≡ calls.LookWord t.1.0 = same_call (same_some (sym next ∙ t.1.1)) in subst (λ os. IsPaced os (come (after_word program found))) (sym (looked old.links fresh.links.outs call t.1.0 e w.outs)) (t.0 old.links.outs (paced i seat at)))
+        (λ t. let e : call ≡ calls.OnSlot (calls.LookWord t.1.0) = same_call (same_some (sym next ∙ t.1.1)) in subst (λ os. IsPaced os (come (after_word program found))) (sym (looked old.links fresh.links.outs call t.1.0 e w.outs)) (t.0 old.links.outs (paced i seat at)))
         (behind_word a going ends seat.waiting seat.point found (facts.goes_by_word a seat.point call next)))
     made_paced step (OfAside aside) answer next may made = let w = made.1 in
         all_paced (w.next w.found) w.goes (inl (ap (λ (l : LinksData). l.outs) w.links)) (calm_paced fresh.links.outs _ (behind_aside a going ends seat.point aside w.next w.is w.found seat.waiting))

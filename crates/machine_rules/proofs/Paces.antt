@@ -137,7 +137,7 @@ keep_calm : (r : Retry) (next : Program) → Calm next → Calm (Keep r next)
 keep_calm r next calm w = calm (w ++ r ∷ [])
 
 freed_calm : (now : ℕ) (next : Program) → Calm next → Calm (freed now next)
-freed_calm now next calm = either_way (ticket_generation now == LAST_GENERATION) next (Do (calls.FreeRequest (ticket_request now) (ticket_generation now)) (λ _. next)) Calm calm (λ w. tt)
+freed_calm now next calm = either_way (ticket_generation now == LAST_GENERATION) next (Do (calls.OnChain (calls.FreeRequest (ticket_request now) (ticket_generation now))) (λ _. next)) Calm calm (λ w. tt)
 
 tell_calm : (heading : Heading) (code : ℕ) (next : Program) → Calm next → Calm (tell_drop heading code next)
 tell_calm heading code next calm = either_way (heading.owner == 0) next _ Calm calm (λ w. tt)
@@ -196,7 +196,7 @@ Looks other = ⊥
 
 -- it is calm there; or a look was made, and the put that follows is paced as the look was
 abbrev pub Behind : Context → List Retry → Point → Program → Type 0
-Behind a w p next = IsCalm (next_step (resolved w next)) ⊎ (((outs : List OutState) → IsPaced outs (point_program a p) → IsPaced outs (next_step (resolved w next))) × ((id : ℕ) × (first_in (point_program a p) ≡ Some (OfTable (calls.LookWord id)))))
+Behind a w p next = IsCalm (next_step (resolved w next)) ⊎ (((outs : List OutState) → IsPaced outs (point_program a p) → IsPaced outs (next_step (resolved w next))) × ((id : ℕ) × (first_in (point_program a p) ≡ Some (OfTable (calls.OnSlot (calls.LookWord id))))))
 
 -- a look is no step on the ids
 not_aside : {call : calls.TableStep} {k : ℕ → Program} {step : Step} {next : Found step → Program} → Do call k ≡ Aside step next → ⊥
@@ -325,7 +325,7 @@ module _ (a : Context) (on : (hs : List HeldLife) → Calm (a.goes_on hs)) (ends
   step_word p (Aside step next) found goes calm = aside_calm step next found calm
   step_word p _ found goes calm = absurd (calm goes)
 
-  looks_behind : (w : List Retry) (p : Point) (found : ℕ) → Looks p → ((outs : List OutState) → IsPaced outs (point_program a p) → IsPaced outs (next_step (resolved w (after_word (point_program a p) found)))) × ((id : ℕ) × (first_in (point_program a p) ≡ Some (OfTable (calls.LookWord id))))
+  looks_behind : (w : List Retry) (p : Point) (found : ℕ) → Looks p → ((outs : List OutState) → IsPaced outs (point_program a p) → IsPaced outs (next_step (resolved w (after_word (point_program a p) found)))) × ((id : ℕ) × (first_in (point_program a p) ≡ Some (OfTable (calls.OnSlot (calls.LookWord id)))))
   looks_behind w (points.Write x (writes.Look c asked)) found looks = ((λ outs paced. either_way (vref_version found % 2 == 0) _ _ (λ y. IsPaced outs (next_step (resolved w y))) paced tt), (x.holder.id.0, refl))
   looks_behind w _ found looks = absurd looks
 

@@ -65,7 +65,7 @@ at_home_held : (hand : List Home) (r : Right) (hands : List Hand) → r.at_home 
 at_home_held hand r hands e held = subst (λ b. elim b as (λ b. Type 0) [ true ↦ AreInHand hand hands | false ↦ (x : Home) × (others : List Home) × (hand ≡ x ∷ others) × IsOfRight r x × AreInHand others hands ]) e held
 
 abbrev pub HasBytes : calls.TableStep → Type 0
-HasBytes (calls.PutMessage q heading bytes) = bytes ≢ []
+HasBytes (calls.OnMessage (calls.PutMessage q heading bytes)) = bytes ≢ []
 HasBytes other = Unit {0}
 
 -- what is known of a step besides what is asked of it
@@ -97,21 +97,21 @@ module _ (p : Plan) (q : IdPlan) (letters : List (Option HomeMessage)) (sized : 
       done_is k ts m d us n e = cc
 
   may_call : (call : calls.TableStep) → May p v call → Allows p c call → MayCall p l i call
-  may_call (calls.TakeLink k) may allows = (may.0, (let a = allows.2 in free_link k _ may.0 a.1.3), quiet_hand may.3 may.1)
-  may_call (calls.FinishLink k) may allows = own_hand k may.2 may.1
-  may_call (calls.PutLink k) may allows = own_hand k may.2 may.1
-  may_call (calls.PutMessage r heading bytes) may allows = may.0
+  may_call (calls.OnLink (calls.TakeLink k)) may allows = (may.0, (let a = allows.2 in free_link k _ may.0 a.1.3), quiet_hand may.3 may.1)
+  may_call (calls.OnLink (calls.FinishLink k)) may allows = own_hand k may.2 may.1
+  may_call (calls.OnLink (calls.PutLink k)) may allows = own_hand k may.2 may.1
+  may_call (calls.OnMessage (calls.PutMessage r heading bytes)) may allows = may.0
   may_call _ may allows = tt
 
   fits_sizes : (call : calls.TableStep) → May p v call → Allows p c call → FitsSizes (sizes_of p q) call
-  fits_sizes (calls.ClaimSlot j) may allows = may
-  fits_sizes (calls.ClaimRequest id r) may allows = may.0
-  fits_sizes (calls.StorePlace a k n) may allows = allows.1
-  fits_sizes (calls.DropPlace a k n) may allows = allows.1
+  fits_sizes (calls.OnSlot (calls.ClaimSlot j)) may allows = may
+  fits_sizes (calls.OnChain (calls.ClaimRequest id r)) may allows = may.0
+  fits_sizes (calls.OnPlace (calls.StorePlace a k n)) may allows = allows.1
+  fits_sizes (calls.OnPlace (calls.DropPlace a k n)) may allows = allows.1
   fits_sizes _ may allows = tt
 
   has_bytes : (call : calls.TableStep) → May p v call → HasBytes call
-  has_bytes (calls.PutMessage r heading bytes) may = may.3
+  has_bytes (calls.OnMessage (calls.PutMessage r heading bytes)) may = may.3
   has_bytes _ may = tt
 
   abbrev Says : First → Type 0

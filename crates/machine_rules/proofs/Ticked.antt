@@ -55,10 +55,10 @@ abbrev pub MayAsk : Plan → LinksData → ℕ → ℕ → Type 0
 MayAsk p l i k = (k < p.links) × HasOnly l i k
 
 abbrev pub MayCall : Plan → LinksData → ℕ → calls.TableStep → Type 0
-MayCall p l i (calls.TakeLink k) = MayTake p l i k
-MayCall p l i (calls.FinishLink k) = MayAsk p l i k
-MayCall p l i (calls.PutLink k) = MayAsk p l i k
-MayCall p l i (calls.PutMessage q heading bytes) = q < p.requests
+MayCall p l i (calls.OnLink (calls.TakeLink k)) = MayTake p l i k
+MayCall p l i (calls.OnLink (calls.FinishLink k)) = MayAsk p l i k
+MayCall p l i (calls.OnLink (calls.PutLink k)) = MayAsk p l i k
+MayCall p l i (calls.OnMessage (calls.PutMessage q heading bytes)) = q < p.requests
 MayCall p l i other = Unit {0}
 
 abbrev pub MayMake : Plan → LinksData → ℕ → First → Type 0
@@ -118,7 +118,7 @@ links_are l l' e f g h = λ k. record { holders = e k; nexts = f k; outs = g k; 
 
 -- the message that goes home lies there
 abbrev pub LettersBy : calls.TableStep → List (Option HomeMessage) → List (Option HomeMessage) → Type 0
-LettersBy (calls.PutMessage q heading bytes) old fresh = (letter : HomeMessage) × (fresh ≡ slice_set old q (Some letter)) × (letter_home (Some letter) ≡ core.some (Message heading bytes))
+LettersBy (calls.OnMessage (calls.PutMessage q heading bytes)) old fresh = (letter : HomeMessage) × (fresh ≡ slice_set old q (Some letter)) × (letter_home (Some letter) ≡ core.some (Message heading bytes))
 LettersBy other old fresh = fresh ≡ old
 
 module _ (p : Plan) (i : ℕ) (letters : List (Option HomeMessage)) (sized : length letters ≡ p.requests) (l l' : LinksData) (took : Taken) (many : length l.holders ≡ p.links) where
@@ -137,12 +137,12 @@ module _ (p : Plan) (i : ℕ) (letters : List (Option HomeMessage)) (sized : len
   -- a step on a word, or a move without a right
   pub call_changes : (call : calls.TableStep) (letters' : List (Option HomeMessage)) → MayCall p l i call → LettersBy call letters letters' → l'.holders ≡ holders_after i call l.holders → l'.nexts ≡ l.nexts → OutsAfter call l.outs l'.outs → l'.inns ≡ l.inns →
       Changed p i l l' letters letters' took took (hand_after p call homes hand) (homes_after p call hand homes)
-  call_changes (calls.TakeLink k) letters' may lettered holders nexts outs inns =
+  call_changes (calls.OnLink (calls.TakeLink k)) letters' may lettered holders nexts outs inns =
       letters_along lettered (take_changes p i k letters sized l l' took many may.0 may.1 may.2 holders nexts outs)
-  call_changes (calls.FinishLink k) letters' may lettered holders nexts outs inns = let out' = outs.1 in let step = outs.4 in
+  call_changes (calls.OnLink (calls.FinishLink k)) letters' may lettered holders nexts outs inns = let out' = outs.1 in let step = outs.4 in
       letters_along lettered (changed_is (out_changes p i k letters sized l l' took many may.0 took outs.0 out' may.1 holders nexts outs.2 outs.3 (λ j differ. refl))
-      (ap (λ (x : Home). x ∷ []) (linked k _ _ _ _ _ _ refl refl step.finished) ∙ sym (ap (λ (h : List Home). hand_after p (calls.FinishLink k) homes h) (hand_only l took p.links i k may.0 may.1))) refl)
-  call_changes (calls.PutLink k) letters' may lettered holders nexts outs inns =
+      (ap (λ (x : Home). x ∷ []) (linked k _ _ _ _ _ _ refl refl step.finished) ∙ sym (ap (λ (h : List Home). hand_after p (calls.OnLink (calls.FinishLink k)) homes h) (hand_only l took p.links i k may.0 may.1))) refl)
+  call_changes (calls.OnLink (calls.PutLink k)) letters' may lettered holders nexts outs inns =
       letters_along lettered (changed_is (give_changes p i k letters sized l l' took many may.0 may.1 holders (λ j differ. ap (λ (ns : List ℕ). slice_index_or ns j 0) nexts) outs)
       (sym (ap others_of (hand_only l took p.links i k may.0 may.1)))
       (ap (λ x. slice_set homes (link_place p k) x)
@@ -150,13 +150,13 @@ module _ (p : Plan) (i : ℕ) (letters : List (Option HomeMessage)) (sized : len
     where
       same_but : l'.nexts ≡ l.nexts → l'.outs ≡ l.outs → (let x : LinksData = record { holders = l.holders; nexts = l'.nexts; outs = l'.outs; inns = l.inns } in x) ≡ l
       same_but f g = λ k. record { holders = l.holders; nexts = f k; outs = g k; inns = l.inns }
-  call_changes (calls.PutMessage q heading bytes) letters' may lettered holders nexts outs inns =
+  call_changes (calls.OnMessage (calls.PutMessage q heading bytes)) letters' may lettered holders nexts outs inns =
       none_changes p i l l' letters letters' took _ (links_are l l' holders nexts outs inns)
       (ap (λ ls. homes_of l p ls took) lettered.1 ∙ sym (letters_set p letters sized l took q (Some lettered.0) may) ∙ ap (slice_set homes q) lettered.2)
   call_changes _ letters' may lettered holders nexts outs inns = none_changes p i l l' letters letters' took homes (links_are l l' holders nexts outs inns) (ap (λ ls. homes_of l p ls took) lettered)
 
   pub call_agrees : (call : calls.TableStep) → OutsAfter call l.outs l'.outs → Agrees l took → Agrees l' took
-  call_agrees (calls.FinishLink k) outs agrees = let out' = outs.1 in let step = outs.4 in
+  call_agrees (calls.OnLink (calls.FinishLink k)) outs agrees = let out' = outs.1 in let step = outs.4 in
       agrees_set l l' took took k out' outs.3 (subst (λ o. IfSome o (λ bytes. bytes ≡ took k)) (sym step.took) (agrees k outs.0 outs.2)) (λ j differ. refl) agrees
   call_agrees _ outs agrees = agrees_same l l' took outs agrees
 
@@ -200,7 +200,7 @@ fits_put false bytes puts.Again out out' step paced = refl
 fits_put asked bytes puts.Failed out out' step paced = tt
 
 pub letters_by : (call : TableStep) (old fresh : List (Option HomeMessage)) → fresh ≡ old → LettersBy (step_of call) old fresh
-letters_by (steps.ClaimSlot i) old fresh same = same
+letters_by (steps.Slot step) old fresh same = same
 letters_by _ old fresh same = same
 
 -- what stands with a message that went home

@@ -11,6 +11,7 @@ use Rattle.seat_programs.specs.Cores.{resolved, still_waiting, next_step, said}
 use Rattle.seat_programs.specs.Ticks.{Unasked}
 use Rattle.call_points.specs.AsideCodeSteps.{after_word}
 use Rattle.call_points.specs.declared.aside.Aside.TheVariants as code
+use Rattle.seat_states.specs.declared.chain_step.ChainStep.TheVariants as chains
 use Rattle.seat_states.specs.declared.table_step.TableStep.TheVariants as steps
 use Rattle.seat_states.specs.declared.point.Sending.{Sending}
 use Rattle.seat_states.specs.declared.point.CallStep.TheVariants as begins
@@ -74,7 +75,7 @@ module _ (t : TableState) (seat : SeatData) (i : ℕ) where
     next_request = ap (λ b. if b then accept s.id.0 q (found / 2) (heading_by s.author context.parts) context.message (sent_program context s.author s.id.0) else claims_program context s (t.plan.requests - (q + 1)) (q + 1)) odd
         ∙ ap (λ n. claims_program context s n (q + 1)) fewer
 
-    pub request_passed : StepTold t t i (seat_at seat at_request) (seat_at seat behind_request) (firsts.Table (steps.ClaimRequest s.id q)) (Moved C1)
+    pub request_passed : StepTold t t i (seat_at seat at_request) (seat_at seat behind_request) (firsts.Table (steps.Chain (chains.ClaimRequest s.id q))) (Moved C1)
     request_passed = record {
       answer = Unasked;
       makes = record {
@@ -167,12 +168,12 @@ module _ (t : TableState) (items : List Seat) (readers : List ReaderData) (opens
     of_request = ap (seat_at (seat_data x)) point
 
     pub passed_request : (z : Seat) → seat_data z ≡ seat_at (seat_data x) (points.Send s (sends.Claim (q + 1))) → HasPassed before (behind z) i (Moved C1)
-    passed_request z news = passed z (firsts.Table (steps.ClaimRequest s.id q)) (Moved C1)
+    passed_request z news = passed z (firsts.Table (steps.Chain (chains.ClaimRequest s.id q))) (Moved C1)
         (subst (λ (y : SeatData). IsPrepared (table_sizes t) y y) (sym of_request) (record { program = refl; waiting = refl; hand = tt; frame = refl; out = refl; ending = refl }))
         (subst MayStand (sym of_request) (record { link = tt; told = tt }))
-        (subst (λ (y : SeatData). IsNext t y (firsts.Table (steps.ClaimRequest s.id q))) (sym of_request) refl)
-        (subst (λ (y : SeatData). StepTold t t i y (seat_data z) (firsts.Table (steps.ClaimRequest s.id q)) (Moved C1)) (sym of_request)
-        (subst (λ (y : SeatData). StepTold t t i (seat_at (seat_data x) (points.Send s (sends.Claim q))) y (firsts.Table (steps.ClaimRequest s.id q)) (Moved C1)) (sym news) (request_passed t (seat_data x) i s q h)))
+        (subst (λ (y : SeatData). IsNext t y (firsts.Table (steps.Chain (chains.ClaimRequest s.id q)))) (sym of_request) refl)
+        (subst (λ (y : SeatData). StepTold t t i y (seat_data z) (firsts.Table (steps.Chain (chains.ClaimRequest s.id q))) (Moved C1)) (sym of_request)
+        (subst (λ (y : SeatData). StepTold t t i (seat_at (seat_data x) (points.Send s (sends.Claim q))) y (firsts.Table (steps.Chain (chains.ClaimRequest s.id q))) (Moved C1)) (sym news) (request_passed t (seat_data x) i s q h)))
 
   module _ (slot : ℕ) (socket : SocketId) (point : x.point ≡ points.Call (begins.ClaimId slot socket)) (h : PassesSlot t slot) where
     of_slot : seat_data x ≡ seat_at (seat_data x) (points.Call (begins.ClaimId slot socket))

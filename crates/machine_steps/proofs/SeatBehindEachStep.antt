@@ -121,7 +121,7 @@ asked_bytes {outs} {outs'} {ends} {ends'} {k} {bytes} {piece} {put} e h = subst 
 
 -- what follows doesn't depend on the message
 abbrev BehindPut : Option First → Context → List ℕ → List ℕ → Point → Type 0
-BehindPut (Some (OfTable (calls.PutMessage q heading bytes))) a other others p = after_word (point_program (record a { message = other; parts = others }) p) 0 ≡ after_word (point_program a p) 0
+BehindPut (Some (OfTable (calls.OnMessage (calls.PutMessage q heading bytes)))) a other others p = after_word (point_program (record a { message = other; parts = others }) p) 0 ≡ after_word (point_program a p) 0
 BehindPut first a other others p = Unit {0}
 
 behind_look : (a : Context) (other others : List ℕ) (author : Author) (id : ℕ) (p : Point) → BehindPut (first_in (look_program a author id)) a other others p
@@ -145,7 +145,7 @@ behind_put a other others (points.Retry r (retries.Lock id_steps.Read)) = tt
 behind_put a other others (points.Join o (joins.Wait id)) = tt
 behind_put a other others _ = tt
 
-pub message_put : (s sizes : Sizes) (seat : SeatData) (message' : Option ParcelData) (n : Next) (q : ℕ) (heading : Heading) (bytes : List ℕ) → s ≡ sizes → first_in (seat_program sizes seat) ≡ Some (OfTable (calls.PutMessage q heading bytes)) →
+pub message_put : (s sizes : Sizes) (seat : SeatData) (message' : Option ParcelData) (n : Next) (q : ℕ) (heading : Heading) (bytes : List ℕ) → s ≡ sizes → first_in (seat_program sizes seat) ≡ Some (OfTable (calls.OnMessage (calls.PutMessage q heading bytes))) →
     next_program (around s (record seat { message = message' })) n ≡ after_word (point_program (around s (record seat { message = message' })) seat.point) 0 → next_program (around s (record seat { message = message' })) n ≡ after_word (seat_program sizes seat) 0
 message_put s sizes seat message' n q heading bytes e first h =
     let is : after_word (point_program (record (around sizes seat) { message = bytes_of message'; parts = parts_of message' }) seat.point) 0 ≡ after_word (seat_program sizes seat) 0 = subst (λ (o : Option First). BehindPut o (around sizes seat) (bytes_of message') (parts_of message') seat.point) first (behind_put (around sizes seat) (bytes_of message') (parts_of message') seat.point) in

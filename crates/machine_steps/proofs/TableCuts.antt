@@ -69,7 +69,7 @@ prompt_set l l' k out out' at outs same always_ready j other there = ⊎_elim
     (at_set l.outs k j out' other (sym (ap (λ (os : List OutState). get_elem? os j) outs) ∙ there))
 
 prompt_call : (call : calls.TableStep) (l l' : LinksData) → OutsAfter call l.outs l'.outs → AreAlwaysReady l → AreAlwaysReady l'
-prompt_call (calls.FinishLink k) l l' o = prompt_set l l' k o.0 o.1 o.2 o.3 o.4.same.always_ready
+prompt_call (calls.OnLink (calls.FinishLink k)) l l' o = prompt_set l l' k o.0 o.1 o.2 o.3 o.4.same.always_ready
 prompt_call _ l l' o = prompt_same l l' o
 
 pub cut_call : (t u : TableState) (i : ℕ) (call : calls.TableStep) → u.plan ≡ t.plan → u.ids.plan ≡ t.ids.plan → u.calls ≡ t.calls → u.ending ≡ t.ending → length u.letters ≡ length t.letters → u.links.holders ≡ holders_after i call t.links.holders → u.links.nexts ≡ t.links.nexts →

@@ -97,14 +97,14 @@ ids_none (suc more) i requests socket asked = tt
 -- ## Messages that have their places
 
 freed_none : (now : ℕ) (next : Program) → NoEnd next → NoEnd (freed now next)
-freed_none now next h = either_none (ticket_generation now == LAST_GENERATION) next (Do (calls.FreeRequest (ticket_request now) (ticket_generation now)) (λ _. next)) h tt
+freed_none now next h = either_none (ticket_generation now == LAST_GENERATION) next (Do (calls.OnChain (calls.FreeRequest (ticket_request now) (ticket_generation now))) (λ _. next)) h tt
 
 tell_none : (heading : Heading) (code : ℕ) (next : Program) → NoEnd next → NoEnd (tell_drop heading code next)
 tell_none heading code next h = either_none (heading.owner == 0) next (post heading.owner (if code == 0 then 1009 else code) heading.label.attempt next) h tt
 
 passed_none : (h : heads.Holder) (now : ℕ) (tells : Program → Program) (after : Program) → ((next : Program) → NoEnd next → NoEnd (tells next)) → NoEnd (passed_telling h now tells after)
 passed_none h now tells after told_ = either_none (now == h.last) (freed now (tells (Write (heads.Empties h) after)))
-    (Do (calls.ReadNext (ticket_request now)) (λ next. freed now (tells (TakeMessage (ticket_request next) (λ heading bytes. Write (heads.Puts h next heading bytes 0 false) after)))))
+    (Do (calls.OnChain (calls.ReadNext (ticket_request now))) (λ next. freed now (tells (TakeMessage (ticket_request next) (λ heading bytes. Write (heads.Puts h next heading bytes 0 false) after)))))
     (freed_none now (tells (Write (heads.Empties h) after)) (told_ (Write (heads.Empties h) after) tt)) tt
 
 told_none : (c : Option OnCall) (next : Program) → NoEnd next → NoEnd (told c next)
@@ -204,7 +204,7 @@ ends_none a (points.Write w (writes.DropPlace m n)) found = passed_none (one_mor
 ends_none a (points.Write w (writes.ReadNext now c)) found = freed_none now.0 (told c (next_message (bare a) w (holder_of w.holder) found)) (told_none c (next_message (bare a) w (holder_of w.holder) found) tt)
 ends_none a (points.Write w (writes.Free now next c)) found = told_none c (freed_program (bare a) w next) (free_none a w next)
 ends_none a (points.Write w writes.EmptyHead) found = either_none (found == w.holder.last.0) (written_program (bare a) w) (taken_again (bare a) w found) tt tt
-ends_none a (points.Write w (writes.Reversing top at after)) found = either_none (found == UNCONNECTED) (walk_program (bare a) w top.0 at.0 after.0) (Do (calls.ReverseNext (ticket_request at.0) after.0) (λ _. if found == w.holder.last.0 then first_of_walk (bare a) w top.0 at.0 else walk_program (bare a) w top.0 found at.0)) tt tt
+ends_none a (points.Write w (writes.Reversing top at after)) found = either_none (found == UNCONNECTED) (walk_program (bare a) w top.0 at.0 after.0) (Do (calls.OnChain (calls.ReverseNext (ticket_request at.0) after.0)) (λ _. if found == w.holder.last.0 then first_of_walk (bare a) w top.0 at.0 else walk_program (bare a) w top.0 found at.0)) tt tt
 ends_none a (points.Write w (writes.ReverseNext top at after before)) found = either_none (before.0 == w.holder.last.0) (first_of_walk (bare a) w top.0 at.0) (walk_program (bare a) w top.0 before.0 at.0) tt tt
 ends_none a (points.Call begins.LoadName) found = either_none (found == 0) (Say a.asked.operation Unopened Rest) (claim_id a.sizes.ids 0 a.sizes.requests (found - 1) a.asked Rest) tt (ids_none a.sizes.ids 0 a.sizes.requests (found - 1) a.asked)
 ends_none a (points.Attempt t socket attempts.AddRef) found = either_none (vref_version found == socket_id_version socket.0) (find_program (bare a) t socket) (release (socket_id_slot socket.0) (λ _. then_program (bare a) (thens.Unreached t) false)) tt tt

@@ -50,7 +50,7 @@ flat_next t s seat n call found calling sizes first hand asks behind = flat_behi
 -- ## A message that goes home
 
 -- its seat needs no call in hand for it, and makes no frame
-pub put_stands : (a : Context) (p : Point) (q : ℕ) (heading : Heading) (bytes : List ℕ) → first_in (point_program a p) ≡ Some (OfTable (calls.PutMessage q heading bytes)) → (b : Context) → HasInHand b p × (framed p b ≡ b)
+pub put_stands : (a : Context) (p : Point) (q : ℕ) (heading : Heading) (bytes : List ℕ) → first_in (point_program a p) ≡ Some (OfTable (calls.OnMessage (calls.PutMessage q heading bytes))) → (b : Context) → HasInHand b p × (framed p b ≡ b)
 put_stands a (points.Call begins.LoadName) q heading bytes e b = (tt, refl)
 put_stands a (points.Call (begins.ClaimId i socket)) q heading bytes e b = (tt, refl)
 put_stands a (points.Call (begins.PutCall i socket)) q heading bytes e b = (tt, refl)
@@ -67,7 +67,7 @@ put_stands a _ q heading bytes e b = (tt, refl)
 pub hand_put : (place : Seat) (hand' : InHand) → call_in hand' ≡ call_in place.hand → seat_data (record place { hand = hand' }) ≡ record (seat_data place) { message = message_in hand' }
 hand_put place hand' e = λ k. record (seat_data place) { message = message_in hand'; call = e k }
 
-module _ (s sizes : Sizes) (seat mid : SeatData) (message' : Option ParcelData) (n : Next) (calling : Calling) (q : ℕ) (heading : Heading) (bytes : List ℕ) (same : s ≡ sizes) (is : mid ≡ record seat { message = message' }) (first : first_in (seat_program sizes seat) ≡ Some (OfTable (calls.PutMessage q heading bytes)))
+module _ (s sizes : Sizes) (seat mid : SeatData) (message' : Option ParcelData) (n : Next) (calling : Calling) (q : ℕ) (heading : Heading) (bytes : List ℕ) (same : s ≡ sizes) (is : mid ≡ record seat { message = message' }) (first : first_in (seat_program sizes seat) ≡ Some (OfTable (calls.OnMessage (calls.PutMessage q heading bytes))))
     (asks : (x : Sizes) → IsCalling (around x mid) calling) (behind : (a : Context) → a.sizes ≡ s → IsCalling a calling → HasInHand a seat.point → next_program (framed seat.point a) n ≡ after_word (point_program a seat.point) 0) where
   stands : (b : Context) → HasInHand b seat.point × (framed seat.point b ≡ b)
   stands b = put_stands (around sizes seat) seat.point q heading bytes first b
@@ -83,4 +83,4 @@ module _ (s sizes : Sizes) (seat mid : SeatData) (message' : Option ParcelData) 
   seat_asks x = let h = subst (λ (m : SeatData). IsCalling (around x m) calling) is (asks x) in record { operation = h.operation; name = h.name; range = h.range }
 
   pub put_flat : IsFlat n
-  put_flat = flat_behind (around sizes seat) seat.point (calls.PutMessage q heading bytes) 0 n calling first (seat_asks sizes) (stands (around sizes seat)).0 (λ a e. behind a (e ∙ sym same))
+  put_flat = flat_behind (around sizes seat) seat.point (calls.OnMessage (calls.PutMessage q heading bytes)) 0 n calling first (seat_asks sizes) (stands (around sizes seat)).0 (λ a e. behind a (e ∙ sym same))

@@ -8,7 +8,7 @@ ghost use Rattle.seat_states.specs.program_steps.specs.SoundSeats.{AllowsWord};
 ghost use Rattle.seat_states.specs.ProgramStepsOfMachine.{step_of};
 ghost use Rattle.machine_model.specs.MachineSteps.{IsOfLinks, OutsAfter, holders_after};
 
-use seat_states::TableStep;
+use seat_states::{LinkStep, TableStep};
 use sock_io::{Ends, In, Out, Peer};
 use sock_model::request_index;
 use sock_words::Plan;
@@ -44,8 +44,8 @@ pub fn pass_link(holders: &mut [Option<u16>], seat: u16, call: TableStep)
     ensures { holders.new ≡ holders_after seat (step_of call) holders.old }
 {
     match call {
-        TableStep::TakeLink(link) => holders[usize::from(link)] = Some(seat),
-        TableStep::PutLink(link) => holders[usize::from(link)] = None,
+        TableStep::Link(LinkStep::TakeLink(link)) => holders[usize::from(link)] = Some(seat),
+        TableStep::Link(LinkStep::PutLink(link)) => holders[usize::from(link)] = None,
         _ => {}
     }
 }
@@ -57,7 +57,7 @@ pub fn end_link<O: Out, I: In, P: Peer>(ends: &mut [Ends<O, I, P>], call: TableS
     ensures inns { map (λ (e : _). I.state e.inn) ends.new ≡ map (λ (e : _). I.state e.inn) ends.old }
     ensures ends { map (λ (e : _). end_of (O.state e.out) (I.state e.inn)) ends.new ≡ map (λ (e : _). end_of (O.state e.out) (I.state e.inn)) ends.old }
 {
-    if let TableStep::FinishLink(link) = call {
+    if let TableStep::Link(LinkStep::FinishLink(link)) = call {
         ends[usize::from(link)].out.finish();
     }
 }

@@ -172,7 +172,7 @@ done_set l l' k j out out' at outs stays done = ap (λ (os : List OutState). don
     (λ differ. ap done_in (set_else l.outs k j out' differ) ∙ done)
 
 done_call : (call : calls.TableStep) (l l' : LinksData) (j : ℕ) → OutsAfter call l.outs l'.outs → is_done l j ≡ true → is_done l' j ≡ true
-done_call (calls.FinishLink k) l l' j o = done_set l l' k j o.0 o.1 o.2 o.3 (λ e. o.4.finished)
+done_call (calls.OnLink (calls.FinishLink k)) l l' j o = done_set l l' k j o.0 o.1 o.2 o.3 (λ e. o.4.finished)
 done_call _ l l' j o = done_same l l' j o
 
 -- who has a link in hand had it, or took it
@@ -203,8 +203,8 @@ module _ (l l' : LinksData) (i k j : ℕ) (own : holder_of l' k ≡ Some j) wher
   held_given x set = held_set x None set (λ e. absurd (none-some j e))
 
   held_call : (call : calls.TableStep) → l'.holders ≡ holders_after i call l.holders → HeldBefore l i k j
-  held_call (calls.TakeLink x) set = held_taken x set
-  held_call (calls.PutLink x) set = held_given x set
+  held_call (calls.OnLink (calls.TakeLink x)) set = held_taken x set
+  held_call (calls.OnLink (calls.PutLink x)) set = held_given x set
   held_call _ same = held_same same
 
 -- ## A step of a client

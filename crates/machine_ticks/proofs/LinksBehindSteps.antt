@@ -60,7 +60,7 @@ prompt_set l l' k out out' at outs same always_ready j other there = ⊎_elim
     (at_set l.outs k j out' other (sym (ap (λ (os : List OutState). get_elem? os j) outs) ∙ there))
 
 pub prompt_call : (call : calls.TableStep) (l l' : LinksData) → OutsAfter call l.outs l'.outs → AreAlwaysReady l → AreAlwaysReady l'
-prompt_call (calls.FinishLink k) l l' o = prompt_set l l' k o.0 o.1 o.2 o.3 o.4.same.always_ready
+prompt_call (calls.OnLink (calls.FinishLink k)) l l' o = prompt_set l l' k o.0 o.1 o.2 o.3 o.4.same.always_ready
 prompt_call _ l l' o = prompt_same l l' o
 
 -- ## Links that tell whether their other ends closed them

@@ -59,43 +59,43 @@ use Rattle.sock_words.specs.PackedWords.{id_slot, id_first}
 -- ## Facts that have one proof at most
 
 word_prop : (call : calls.TableStep) (found : ℕ) → IsProp (AllowsWord call found)
-word_prop (calls.CreateLife i k) found = hlevel props
-word_prop (calls.AddRef id) found = hlevel props
-word_prop (calls.SubRef i) found = hlevel props
-word_prop (calls.Recycle i from) found = hlevel props
-word_prop (calls.LoadLink i w) found = hlevel props
-word_prop (calls.LoadName n) found = hlevel props
-word_prop (calls.FindLink i h) found = hlevel props
-word_prop (calls.ClaimRequest id q) found = hlevel props
-word_prop (calls.EmptyHead i last) found = hlevel props
-word_prop (calls.FreeRequest q g) found = hlevel props
-word_prop (calls.StorePlace l k n) found = hlevel props
-word_prop (calls.DropPlace l k n) found = hlevel props
+word_prop (calls.OnSlot (calls.CreateLife i k)) found = hlevel props
+word_prop (calls.OnSlot (calls.AddRef id)) found = hlevel props
+word_prop (calls.OnSlot (calls.SubRef i)) found = hlevel props
+word_prop (calls.OnSlot (calls.Recycle i from)) found = hlevel props
+word_prop (calls.OnSlot (calls.LoadLink i w)) found = hlevel props
+word_prop (calls.OnName (calls.LoadName n)) found = hlevel props
+word_prop (calls.OnSlot (calls.FindLink i h)) found = hlevel props
+word_prop (calls.OnChain (calls.ClaimRequest id q)) found = hlevel props
+word_prop (calls.OnChain (calls.EmptyHead i last)) found = hlevel props
+word_prop (calls.OnChain (calls.FreeRequest q g)) found = hlevel props
+word_prop (calls.OnPlace (calls.StorePlace l k n)) found = hlevel props
+word_prop (calls.OnPlace (calls.DropPlace l k n)) found = hlevel props
 word_prop _ found = hlevel props
 
 links_prop : (links : ℕ) (call : calls.TableStep) → IsProp (IsOfLinks links call)
-links_prop links (calls.TakeLink k) = hlevel props
-links_prop links (calls.FinishLink k) = hlevel props
-links_prop links (calls.PutLink k) = hlevel props
+links_prop links (calls.OnLink (calls.TakeLink k)) = hlevel props
+links_prop links (calls.OnLink (calls.FinishLink k)) = hlevel props
+links_prop links (calls.OnLink (calls.PutLink k)) = hlevel props
 links_prop links _ = hlevel props
 
 sizes_prop : (sizes : Sizes) (call : calls.TableStep) → IsProp (FitsSizes sizes call)
-sizes_prop sizes (calls.ClaimSlot i) = hlevel props
-sizes_prop sizes (calls.ClaimRequest id q) = hlevel props
-sizes_prop sizes (calls.StorePlace l k n) = hlevel props
-sizes_prop sizes (calls.DropPlace l k n) = hlevel props
+sizes_prop sizes (calls.OnSlot (calls.ClaimSlot i)) = hlevel props
+sizes_prop sizes (calls.OnChain (calls.ClaimRequest id q)) = hlevel props
+sizes_prop sizes (calls.OnPlace (calls.StorePlace l k n)) = hlevel props
+sizes_prop sizes (calls.OnPlace (calls.DropPlace l k n)) = hlevel props
 sizes_prop sizes _ = hlevel props
 
 sock_prop : (call : calls.TableStep) (found : ℕ) → IsProp (FitsSock call found)
-sock_prop (calls.FindLink i h) found = hlevel props
-sock_prop (calls.LoadCode i h) found = hlevel props
+sock_prop (calls.OnSlot (calls.FindLink i h)) found = hlevel props
+sock_prop (calls.OnSlot (calls.LoadCode i h)) found = hlevel props
 sock_prop _ found = hlevel props
 
 call_prop : (p : Plan) (l : LinksData) (i : ℕ) (call : calls.TableStep) → IsProp (MayCall p l i call)
-call_prop p l i (calls.TakeLink k) = hlevel props
-call_prop p l i (calls.FinishLink k) = hlevel props
-call_prop p l i (calls.PutLink k) = hlevel props
-call_prop p l i (calls.PutMessage q heading bytes) = hlevel props
+call_prop p l i (calls.OnLink (calls.TakeLink k)) = hlevel props
+call_prop p l i (calls.OnLink (calls.FinishLink k)) = hlevel props
+call_prop p l i (calls.OnLink (calls.PutLink k)) = hlevel props
+call_prop p l i (calls.OnMessage (calls.PutMessage q heading bytes)) = hlevel props
 call_prop p l i _ = hlevel props
 
 may_prop : (p : Plan) (l : LinksData) (i : ℕ) (first : First) → IsProp (MayMake p l i first)
@@ -120,9 +120,9 @@ pub paced_prop : (sizes : Sizes) (l : LinksData) (seats : List SeatData) → IsP
 paced_prop sizes l seats = hlevel (props, is_paced_prop)
 
 of_links : (p : Plan) (l : LinksData) (i : ℕ) (call : calls.TableStep) → MayCall p l i call → IsOfLinks p.links call
-of_links p l i (calls.TakeLink k) may = may.0
-of_links p l i (calls.FinishLink k) may = may.0
-of_links p l i (calls.PutLink k) may = may.0
+of_links p l i (calls.OnLink (calls.TakeLink k)) may = may.0
+of_links p l i (calls.OnLink (calls.FinishLink k)) may = may.0
+of_links p l i (calls.OnLink (calls.PutLink k)) may = may.0
 of_links p l i _ may = tt
 
 -- ## A seat of a machine

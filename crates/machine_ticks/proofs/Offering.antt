@@ -85,7 +85,7 @@ module _ (l l' : LinksData) (k : ℕ) (serve : Bool) (end : Option ℕ) (h : IsO
     offering_set = dite (ℕ_discrete k x) offering_here offering_else
 
   offering_call : (call : calls.TableStep) → OutsAfter call l.outs l'.outs → l'.inns ≡ l.inns → IsOffering l' k serve end
-  offering_call (calls.FinishLink x) o inns = offering_set x o.0 o.1 o.2 o.3 inns (serves_finish o.0 o.1 o.4)
+  offering_call (calls.OnLink (calls.FinishLink x)) o inns = offering_set x o.0 o.1 o.2 o.3 inns (serves_finish o.0 o.1 o.4)
   offering_call _ o inns = offering_same o inns
 
 -- ## A step of a client

@@ -88,7 +88,7 @@ none_either true x y f g h = f h
 none_either false x y f g h = g h
 
 freed_asks : (now : ℕ) (next : Program) → (AsksNone next → ⊥) → AsksNone (freed now next) → ⊥
-freed_asks now next f = none_either (ticket_generation now == LAST_GENERATION) next (Do (calls.FreeRequest (ticket_request now) (ticket_generation now)) (λ _. next)) f (λ x. f (x.1 0))
+freed_asks now next f = none_either (ticket_generation now == LAST_GENERATION) next (Do (calls.OnChain (calls.FreeRequest (ticket_request now) (ticket_generation now))) (λ _. next)) f (λ x. f (x.1 0))
 
 -- what it needs is in hand, and it stands
 plain_stands : (a : Context) (p : Point) → AsksNone (point_program a p) → HasInHand a p × (framed p a ≡ a) × HasLinkAt p × TellsCodeAt p

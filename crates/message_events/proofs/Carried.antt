@@ -31,7 +31,7 @@ use Rattle.chain_steps.proofs.Gather.{gather_own, gather_none}
 use Rattle.sock_steps.proofs.Maps.{set_at, gather_nil}
 use Rattle.sock_steps.proofs.SumsAsMarksChange.{either_way}
 use Rattle.sock_steps.proofs.LifeLinkSlotPlaces.{own_count, given_once, two_seats}
-use Rattle.seat_programs.specs.TableSteps.{TakeLink}
+use Rattle.seat_programs.specs.TableSteps.{OnLink, TakeLink}
 use Rattle.seat_programs.specs.Cores.{Core}
 use Rattle.seat_programs.specs.StepTables.{hand_at}
 use Rattle.seat_programs.specs.StepsOfLinks.{taken}
@@ -71,7 +71,7 @@ module _ (p : Plan) (c : Core) (views : List View) (o : Lawful (λ home. home) p
       (o.homes.hand_of id k u there has)
 
   -- nobody has in hand what may be taken
-  none_in_hand : (k : ℕ) → May p v (TakeLink k) → total (hands_of k) views ≡ 0
+  none_in_hand : (k : ℕ) → May p v (OnLink (TakeLink k)) → total (hands_of k) views ≡ 0
   none_in_hand k may = dite (dec_le 1 (total (hands_of k) views))
       (λ some_. absurd (dite (dec_le 1 (total (only k) v.passes))
       (λ pass. let a = (o.homes.hands k (omega (arith, some_))).1 in omega (arith, a, pass, term_le (waits_of k) views i v at))
@@ -83,7 +83,7 @@ module _ (p : Plan) (c : Core) (views : List View) (o : Lawful (λ home. home) p
       may.2)))
       (λ none_. omega (arith, none_))
 
-  none_gathered : (k : ℕ) → May p v (TakeLink k) → flat_map (hands_on k) views ≡ []
+  none_gathered : (k : ℕ) → May p v (OnLink (TakeLink k)) → flat_map (hands_on k) views ≡ []
   none_gathered k may = gather_nil (hands_on k) views (λ id u there. no_hands k u.hands (omega (arith, term_le (hands_of k) views id u there, none_in_hand k may)))
 
   -- a link in a slot is in no hand
@@ -95,7 +95,7 @@ module _ (p : Plan) (c : Core) (views : List View) (o : Lawful (λ home. home) p
           (λ some_. absurd (some-ne-none j (sym slot ∙ (o.homes.hands k (omega (arith, some_))).0)))
           (λ less. omega (arith, less))
 
-  module _ (k : ℕ) (may : May p v (TakeLink k)) (c' : Core) (homes : c'.homes ≡ set c.homes (p.requests + k) none) where
+  module _ (k : ℕ) (may : May p v (OnLink (TakeLink k))) (c' : Core) (homes : c'.homes ≡ set c.homes (p.requests + k) none) where
     there : AtHome p c.homes k
     there = (taking p s o i v at k may).0
 
@@ -135,7 +135,7 @@ module _ (p : Plan) (c : Core) (views : List View) (o : Lawful (λ home. home) p
         (ap (λ hs. link_home (λ home. home) p hs j) homes ∙ ap (λ y. took_of (as_link (shown (λ (home : Home). home) y))) (set_else c.homes (p.requests + k) (p.requests + j) none (λ e. ne (omega (arith, e)))))
 
     -- each link stands as before
-    pub stand_takes : (j : ℕ) → stand p c' (set views i (taken (hand_at p c.words c.homes (TakeLink k)) v)) j ≡ stand p c views j
+    pub stand_takes : (j : ℕ) → stand p c' (set views i (taken (hand_at p c.words c.homes (OnLink (TakeLink k))) v)) j ≡ stand p c views j
     unfolding there
     stand_takes j = subst (λ h. stand p c' (set views i (taken h v)) j ≡ stand p c views j) (sym (found_hand p s o i v at k may))
         (dite (ℕ_discrete j k) (λ e. subst (λ z. stand p c' (set views i (taken in_hand v)) z ≡ stand p c views z) (sym e) takes_here) (takes_else j))

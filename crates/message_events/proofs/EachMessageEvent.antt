@@ -20,7 +20,7 @@ use Rattle.sock_model.specs.ChainRows.{with_right, without_right, walking_right,
 use Rattle.sock_model.specs.LawfulSockets.{Lawful}
 use Rattle.sock_model.specs.SocketTableLayout.{head_index, request_index}
 use Rattle.sock_steps.proofs.WriteSteps.{writes_in}
-use Rattle.seat_programs.specs.TableSteps.{TableStep, TakeLink, PutLink, LookWord, ClaimRequest, SwapHead, EmptyHead, ReadNext, ReverseNext, FreeRequest, StorePlace, DropPlace}
+use Rattle.seat_programs.specs.TableSteps.{TableStep, OnSlot, OnChain, OnPlace, OnLink, TakeLink, PutLink, LookWord, ClaimRequest, SwapHead, EmptyHead, ReadNext, ReverseNext, FreeRequest, StorePlace, DropPlace}
 use Rattle.seat_programs.specs.Cores.{Core, found_at, words_after, homes_after, link_place}
 use Rattle.seat_programs.specs.StepTables.{word_of, word_after}
 use Rattle.seat_programs.specs.Ticks.{FitsPut}
@@ -90,38 +90,38 @@ module _ (p : Plan) (c : Core) (views : List View) (o : Lawful (λ (home : Home)
     leaves call none_ b may links word other = subst (λ e. IsEvent p c views e c' (set views i (row p call (found call) (hand call) v))) (sym none_) (nothing c' (row p call (found call) (hand call) v) (lists_stay p v (found call) (hand call) call other)
         (stand_stays p c c' views i v at call (found call) (hand call) in_hand may links b.1) (requests_of call b may word))
 
-    claims : (id q : ℕ) → Behind (ClaimRequest id q) → May p v (ClaimRequest id q) → IsStep (ClaimRequest id q)
-    claims id q b may = let call : TableStep = ClaimRequest id q in let lists = lists_stay p v (found (ClaimRequest id q)) (hand (ClaimRequest id q)) (ClaimRequest id q) refl in
-        let stands = stand_stays p c c' views i v at (ClaimRequest id q) (found (ClaimRequest id q)) (hand (ClaimRequest id q)) in_hand may refl b.1 in dite (ℕ_discrete (slice_index c.words (request_index p q) % 2) 0)
-        (λ even. subst (λ (e : Event). IsEvent p c views e c' (set views i (row p (ClaimRequest id q) (found (ClaimRequest id q)) (hand (ClaimRequest id q)) v))) (sym (ap (λ b. cond b (Claim q) Nothing) (eq-eqb (slice_index c.words (request_index p q) % 2) 0 even))) record {
+    claims : (id q : ℕ) → Behind (OnChain (ClaimRequest id q)) → May p v (OnChain (ClaimRequest id q)) → IsStep (OnChain (ClaimRequest id q))
+    claims id q b may = let call : TableStep = OnChain (ClaimRequest id q) in let lists = lists_stay p v (found (OnChain (ClaimRequest id q))) (hand (OnChain (ClaimRequest id q))) (OnChain (ClaimRequest id q)) refl in
+        let stands = stand_stays p c c' views i v at (OnChain (ClaimRequest id q)) (found (OnChain (ClaimRequest id q))) (hand (OnChain (ClaimRequest id q))) in_hand may refl b.1 in dite (ℕ_discrete (slice_index c.words (request_index p q) % 2) 0)
+        (λ even. subst (λ (e : Event). IsEvent p c views e c' (set views i (row p (OnChain (ClaimRequest id q)) (found (OnChain (ClaimRequest id q))) (hand (OnChain (ClaimRequest id q))) v))) (sym (ap (λ b. cond b (Claim q) Nothing) (eq-eqb (slice_index c.words (request_index p q) % 2) 0 even))) record {
           may = claim_may p c views q even;
-          accepted = accepted_same p c views o i v at (row p (ClaimRequest id q) (found (ClaimRequest id q)) (hand (ClaimRequest id q)) v) lists;
+          accepted = accepted_same p c views o i v at (row p (OnChain (ClaimRequest id q)) (found (OnChain (ClaimRequest id q))) (hand (OnChain (ClaimRequest id q))) v) lists;
           placed = λ k kl. ap (λ (s : Stand). s.placed) (stands k);
           took = λ k kl. ap (λ (s : Stand). s.took) (stands k);
           request = λ r rl. subst (λ l. ((r ≡ q) × (slice_index l (request_index p r) ≡ suc (slice_index c.words (request_index p q)))) ⊎ ((r ≢ q) × (slice_index l (request_index p r) ≡ slice_index c.words (request_index p r)))) (sym b.0) (claims_even p c.words o.references.sized q may.0 id even r);
         })
-        (λ odd. subst (λ (e : Event). IsEvent p c views e c' (set views i (row p (ClaimRequest id q) (found (ClaimRequest id q)) (hand (ClaimRequest id q)) v))) (sym (ap (λ b. cond b (Claim q) Nothing) (ne_eqb (slice_index c.words (request_index p q) % 2) 0 odd)))
-        (nothing c' (row p (ClaimRequest id q) (found (ClaimRequest id q)) (hand (ClaimRequest id q)) v) lists stands (λ r rl. ap (λ l. slice_index l (request_index p r)) b.0 ∙ claims_odd p c.words o.references.sized q may.0 id odd r)))
+        (λ odd. subst (λ (e : Event). IsEvent p c views e c' (set views i (row p (OnChain (ClaimRequest id q)) (found (OnChain (ClaimRequest id q))) (hand (OnChain (ClaimRequest id q))) v))) (sym (ap (λ b. cond b (Claim q) Nothing) (ne_eqb (slice_index c.words (request_index p q) % 2) 0 odd)))
+        (nothing c' (row p (OnChain (ClaimRequest id q)) (found (OnChain (ClaimRequest id q))) (hand (OnChain (ClaimRequest id q))) v) lists stands (λ r rl. ap (λ l. slice_index l (request_index p r)) b.0 ∙ claims_odd p c.words o.references.sized q may.0 id odd r)))
 
-    swaps : (j own : ℕ) → Behind (SwapHead j own) → May p v (SwapHead j own) → IsStep (SwapHead j own)
+    swaps : (j own : ℕ) → Behind (OnChain (SwapHead j own)) → May p v (OnChain (SwapHead j own)) → IsStep (OnChain (SwapHead j own))
     swaps j own b may = let x = may.1 in let in_head : Bool = ltb (slice_index c.words (head_index j)) IDLE in
-        subst (λ (w : View). IsEvent p c views (event_of (SwapHead j own) (found (SwapHead j own)) v) c' (set views i w)) (sym (swap_row p c views o i v at j own x))
+        subst (λ (w : View). IsEvent p c views (event_of (OnChain (SwapHead j own)) (found (OnChain (SwapHead j own))) v) c' (set views i w)) (sym (swap_row p c views o i v at j own x))
         (subst (λ (e : Event). IsEvent p c views e c' (set views i (after p c views o i v at j own x (ltb (slice_index c.words (head_index j)) IDLE)))) (sym (ap (accept_event (slice_index c.words (head_index j))) x.claims)) record {
           may = accept_may p c views o i v at j own may.0 x;
           accepted = accepted_more p c views o i v at (after p c views o i v at j own x in_head) (entry p c views o i v at j own x in_head) x.made x.taken_in x.lists (swap_lists p c views o i v at j own x in_head);
           placed = λ k kl. ap (λ (s : Stand). s.placed) (swap_stand p c views o i v at j own x c' b.1 k);
           took = λ k kl. ap (λ (s : Stand). s.took) (swap_stand p c views o i v at j own x c' b.1 k);
-          request = requests_of (SwapHead j own) b may refl;
+          request = requests_of (OnChain (SwapHead j own)) b may refl;
         })
 
-    looks : (id : ℕ) → Behind (LookWord id) → May p v (LookWord id) → IsStep (LookWord id)
-    looks id b may = let call : TableStep = LookWord id in let lists = lists_stay p v (found (LookWord id)) (hand (LookWord id)) (LookWord id) refl in
-        let requests = requests_of (LookWord id) b may refl in let w : View = row p (LookWord id) (found (LookWord id)) (hand (LookWord id)) v in ⊎_elim
+    looks : (id : ℕ) → Behind (OnSlot (LookWord id)) → May p v (OnSlot (LookWord id)) → IsStep (OnSlot (LookWord id))
+    looks id b may = let call : TableStep = OnSlot (LookWord id) in let lists = lists_stay p v (found (OnSlot (LookWord id))) (hand (OnSlot (LookWord id))) (OnSlot (LookWord id)) refl in
+        let requests = requests_of (OnSlot (LookWord id)) b may refl in let w : View = row p (OnSlot (LookWord id)) (found (OnSlot (LookWord id))) (hand (OnSlot (LookWord id))) v in ⊎_elim
         (λ idle. nothing c' w lists (λ k. same_stand p c views o i v at c' w
-        (ap (λ rs. (by_right rs (looked_clean (socket_id_slot id) (found (LookWord id)) v) (looked (socket_id_slot id) (found (LookWord id)) v)).rights) idle)
-        (ap (λ rs. (by_right rs (looked_clean (socket_id_slot id) (found (LookWord id)) v) (looked (socket_id_slot id) (found (LookWord id)) v)).hands) idle)
+        (ap (λ rs. (by_right rs (looked_clean (socket_id_slot id) (found (OnSlot (LookWord id))) v) (looked (socket_id_slot id) (found (OnSlot (LookWord id))) v)).rights) idle)
+        (ap (λ rs. (by_right rs (looked_clean (socket_id_slot id) (found (OnSlot (LookWord id))) v) (looked (socket_id_slot id) (found (OnSlot (LookWord id))) v)).hands) idle)
         k (ap (λ hs. home_of p (record c { homes = hs }) k) b.1)) requests)
-        (λ mine. nothing c' w lists (kept p c views o i v at mine.0 mine.1 c' w (looks_keeps p c views o i v at mine.0 mine.1 id (found (LookWord id)) (hand (LookWord id))) (same_homes p c c' mine.0.link b.1)) requests)
+        (λ mine. nothing c' w lists (kept p c views o i v at mine.0 mine.1 c' w (looks_keeps p c views o i v at mine.0 mine.1 id (found (OnSlot (LookWord id))) (hand (OnSlot (LookWord id)))) (same_homes p c c' mine.0.link b.1)) requests)
         may.1
 
     other_step : (call : TableStep) → is_exchange call ≡ false → (row p call (found call) (hand call) v).lists ≡ v.lists
@@ -133,34 +133,34 @@ module _ (p : Plan) (c : Core) (views : List View) (o : Lawful (λ (home : Home)
     keeps_right call none_ b may word homes other r one k = subst (λ e. IsEvent p c views e c' (set views i (row p call (found call) (hand call) v))) (sym none_) (nothing c' (row p call (found call) (hand call) v) (other_step call other)
         (kept p c views o i v at r one c' (row p call (found call) (hand call) v) k (same_homes p c c' r.link (b.1 ∙ homes))) (requests_of call b may word))
 
-    empties : (j last : ℕ) → Behind (EmptyHead j last) → May p v (EmptyHead j last) → IsStep (EmptyHead j last)
-    empties j last b may = let x = may.1.0 in let r : Right = x.mine.right in let one = may.1.1 in let requests = requests_of (EmptyHead j last) b may refl in
-        let lists = other_step (EmptyHead j last) refl in let w : View = row p (EmptyHead j last) (found (EmptyHead j last)) (hand (EmptyHead j last)) v in
-        let is : row p (EmptyHead j last) (found (EmptyHead j last)) (hand (EmptyHead j last)) v ≡ emptied last (found (EmptyHead j last)) v x.mine.right = ap (λ rs. by_right rs (emptied last (found (EmptyHead j last)) v) v) one in
-        let stands : (b : Bool) → eqb (found (EmptyHead j last)) last ≡ b → (k : ℕ) → stand p c' (set views i (row p (EmptyHead j last) (found (EmptyHead j last)) (hand (EmptyHead j last)) v)) k ≡ stand p c views k = λ b' e k.
-        subst (λ (u : View). stand p c' (set views i u) k ≡ stand p c views k) (sym (is ∙ ap (λ q. cond q (without_right v x.mine.right.link) (with_right v (walking_right x.mine.right (found (EmptyHead j last))))) e)) (ends b' x.mine.right one x.stage x.link_home b.1 k) in
-        nothing c' (row p (EmptyHead j last) (found (EmptyHead j last)) (hand (EmptyHead j last)) v) lists (stands (eqb (found (EmptyHead j last)) last) refl) requests
+    empties : (j last : ℕ) → Behind (OnChain (EmptyHead j last)) → May p v (OnChain (EmptyHead j last)) → IsStep (OnChain (EmptyHead j last))
+    empties j last b may = let x = may.1.0 in let r : Right = x.mine.right in let one = may.1.1 in let requests = requests_of (OnChain (EmptyHead j last)) b may refl in
+        let lists = other_step (OnChain (EmptyHead j last)) refl in let w : View = row p (OnChain (EmptyHead j last)) (found (OnChain (EmptyHead j last))) (hand (OnChain (EmptyHead j last))) v in
+        let is : row p (OnChain (EmptyHead j last)) (found (OnChain (EmptyHead j last))) (hand (OnChain (EmptyHead j last))) v ≡ emptied last (found (OnChain (EmptyHead j last))) v x.mine.right = ap (λ rs. by_right rs (emptied last (found (OnChain (EmptyHead j last))) v) v) one in
+        let stands : (b : Bool) → eqb (found (OnChain (EmptyHead j last))) last ≡ b → (k : ℕ) → stand p c' (set views i (row p (OnChain (EmptyHead j last)) (found (OnChain (EmptyHead j last))) (hand (OnChain (EmptyHead j last))) v)) k ≡ stand p c views k = λ b' e k.
+        subst (λ (u : View). stand p c' (set views i u) k ≡ stand p c views k) (sym (is ∙ ap (λ q. cond q (without_right v x.mine.right.link) (with_right v (walking_right x.mine.right (found (OnChain (EmptyHead j last)))))) e)) (ends b' x.mine.right one x.stage x.link_home b.1 k) in
+        nothing c' (row p (OnChain (EmptyHead j last)) (found (OnChain (EmptyHead j last))) (hand (OnChain (EmptyHead j last))) v) lists (stands (eqb (found (OnChain (EmptyHead j last))) last) refl) requests
       where
         ends : (q : Bool) (r : Right) (one : v.rights ≡ r ∷ []) → r.stage ≡ stages.Empties → r.at_home ≡ true → c'.homes ≡ c.homes → (k : ℕ)
-            → stand p c' (set views i (cond q (without_right v r.link) (with_right v (walking_right r (found (EmptyHead j last)))))) k ≡ stand p c views k
+            → stand p c' (set views i (cond q (without_right v r.link) (with_right v (walking_right r (found (OnChain (EmptyHead j last))))))) k ≡ stand p c views k
         ends true r one stage home homes k = goes_home p c views o i v at r one c' (without_right v r.link) stage home
             (ap (filter (λ (x : Right). not (eqb x.link r.link))) one ∙ ap (λ b. cond (not b) (r ∷ []) []) (eq-eqb r.link r.link refl)) refl homes k
-        ends false r one stage home homes k = kept p c views o i v at r one c' (with_right v (walking_right r (found (EmptyHead j last))))
-            (keeps_with p c views o i v at r one v (walking_right r (found (EmptyHead j last))) (of_right r) one refl refl refl) (same_homes p c c' r.link homes) k
+        ends false r one stage home homes k = kept p c views o i v at r one c' (with_right v (walking_right r (found (OnChain (EmptyHead j last)))))
+            (keeps_with p c views o i v at r one v (walking_right r (found (OnChain (EmptyHead j last)))) (of_right r) one refl refl refl) (same_homes p c c' r.link homes) k
 
-    reads : (q : ℕ) → Behind (ReadNext q) → May p v (ReadNext q) → IsStep (ReadNext q)
-    reads q b may = keeps_right (ReadNext q) refl b may refl refl refl may.0 may.1
-        (reads_keeps p c views o i v at may.0 may.1 q (found (ReadNext q)) (hand (ReadNext q)) (⊎_elim (λ a. inl (a.0, a.1)) (λ a. inr (a.0, a.1, a.2, a.3)) may.2))
+    reads : (q : ℕ) → Behind (OnChain (ReadNext q)) → May p v (OnChain (ReadNext q)) → IsStep (OnChain (ReadNext q))
+    reads q b may = keeps_right (OnChain (ReadNext q)) refl b may refl refl refl may.0 may.1
+        (reads_keeps p c views o i v at may.0 may.1 q (found (OnChain (ReadNext q))) (hand (OnChain (ReadNext q))) (⊎_elim (λ a. inl (a.0, a.1)) (λ a. inr (a.0, a.1, a.2, a.3)) may.2))
 
-    turns : (q value : ℕ) → Behind (ReverseNext q value) → May p v (ReverseNext q value) → IsStep (ReverseNext q value)
-    turns q value b may = let x = may.0 in keeps_right (ReverseNext q value) refl b may refl refl refl x.mine.right may.1
-        (turns_keeps p c views o i v at x.mine.right may.1 q value (found (ReverseNext q value)) x.top x.at x.before (hand (ReverseNext q value)) x.stage)
+    turns : (q value : ℕ) → Behind (OnChain (ReverseNext q value)) → May p v (OnChain (ReverseNext q value)) → IsStep (OnChain (ReverseNext q value))
+    turns q value b may = let x = may.0 in keeps_right (OnChain (ReverseNext q value)) refl b may refl refl refl x.mine.right may.1
+        (turns_keeps p c views o i v at x.mine.right may.1 q value (found (OnChain (ReverseNext q value))) x.top x.at x.before (hand (OnChain (ReverseNext q value))) x.stage)
 
-    frees : (q g : ℕ) → q < p.requests → Behind (FreeRequest q g) → May p v (FreeRequest q g) → IsStep (FreeRequest q g)
+    frees : (q g : ℕ) → q < p.requests → Behind (OnChain (FreeRequest q g)) → May p v (OnChain (FreeRequest q g)) → IsStep (OnChain (FreeRequest q g))
     frees q g inside b may = let r : Right = may.4.0 in let one = may.4.1 in
-        let stands = kept p c views o i v at may.4.0 one c' (row p (FreeRequest q g) (found (FreeRequest q g)) (hand (FreeRequest q g)) v) (frees_keeps p c views o i v at may.4.0 one q g (found (FreeRequest q g)) (hand (FreeRequest q g))) (same_homes p c c' may.4.0.link b.1) in record {
+        let stands = kept p c views o i v at may.4.0 one c' (row p (OnChain (FreeRequest q g)) (found (OnChain (FreeRequest q g))) (hand (OnChain (FreeRequest q g))) v) (frees_keeps p c views o i v at may.4.0 one q g (found (OnChain (FreeRequest q g))) (hand (OnChain (FreeRequest q g)))) (same_homes p c c' may.4.0.link b.1) in record {
           may = free_may p c views o i v at (λ k. order_is p c views o i v at k) q g may;
-          accepted = accepted_same p c views o i v at (row p (FreeRequest q g) (found (FreeRequest q g)) (hand (FreeRequest q g)) v) (other_step (FreeRequest q g) refl);
+          accepted = accepted_same p c views o i v at (row p (OnChain (FreeRequest q g)) (found (OnChain (FreeRequest q g))) (hand (OnChain (FreeRequest q g))) v) (other_step (OnChain (FreeRequest q g)) refl);
           placed = λ k kl. ap (λ (s : Stand). s.placed) (stands k);
           took = λ k kl. ap (λ (s : Stand). s.took) (stands k);
           request = λ r rl. subst (λ l. ((r ≡ q) × (slice_index l (request_index p r) ≡ suc (slice_index c.words (request_index p q)))) ⊎ ((r ≢ q) × (slice_index l (request_index p r) ≡ slice_index c.words (request_index p r)))) (sym b.0)
@@ -190,51 +190,51 @@ module _ (p : Plan) (c : Core) (views : List View) (o : Lawful (λ (home : Home)
     whole_taken : (r : Right) → r.taken ≡ true → r.put ≡ length r.bytes → r.sent ++ r.bytes ≡ taken_of r
     whole_taken r taken put = sym (ap (λ b. cond b (r.sent ++ take r.put r.bytes) r.sent) taken ∙ ap (λ l. r.sent ++ l) (ap (λ n. take n r.bytes) put ∙ take-length r.bytes))
 
-    places : (l k n : ℕ) → Behind (StorePlace l k n) → May p v (StorePlace l k n) → IsStep (StorePlace l k n)
-    places l k n b may = let x = may.0 in let r : Right = x.mine.right in let one = may.1 in let w : View = row p (StorePlace l k n) (found (StorePlace l k n)) (hand (StorePlace l k n)) v in
-        let makes = places_makes p c views o i v at x.mine.right one l k n (found (StorePlace l k n)) x.now (hand (StorePlace l k n)) x.stage in
+    places : (l k n : ℕ) → Behind (OnPlace (StorePlace l k n)) → May p v (OnPlace (StorePlace l k n)) → IsStep (OnPlace (StorePlace l k n))
+    places l k n b may = let x = may.0 in let r : Right = x.mine.right in let one = may.1 in let w : View = row p (OnPlace (StorePlace l k n)) (found (OnPlace (StorePlace l k n))) (hand (OnPlace (StorePlace l k n))) v in
+        let makes = places_makes p c views o i v at x.mine.right one l k n (found (OnPlace (StorePlace l k n))) x.now (hand (OnPlace (StorePlace l k n))) x.stage in
         let same = whole_taken x.mine.right x.taken may.5 in let homes = same_homes p c c' x.mine.right.link b.1 in
-        subst (λ (z : ℕ). IsEvent p c views (Place z) c' (set views i (row p (StorePlace l k n) (found (StorePlace l k n)) (hand (StorePlace l k n)) v))) (sym may.3) record {
+        subst (λ (z : ℕ). IsEvent p c views (Place z) c' (set views i (row p (OnPlace (StorePlace l k n)) (found (OnPlace (StorePlace l k n))) (hand (OnPlace (StorePlace l k n))) v))) (sym may.3) record {
           may = place_may p c views o i v at x.mine.right one (λ k. order_is p c views o i v at k) x.now x.stage x.taken x.is_clean may.5;
-          accepted = accepted_same p c views o i v at (row p (StorePlace l k n) (found (StorePlace l k n)) (hand (StorePlace l k n)) v) (other_step (StorePlace l k n) refl);
-          placed = λ j jl. more_placed x.mine.right one (row p (StorePlace l k n) (found (StorePlace l k n)) (hand (StorePlace l k n)) v) (x.mine.right.sent ++ x.mine.right.bytes) makes same homes j;
-          took = λ j jl. as_taken x.mine.right one (row p (StorePlace l k n) (found (StorePlace l k n)) (hand (StorePlace l k n)) v) (x.mine.right.sent ++ x.mine.right.bytes) makes same homes j;
-          request = requests_of (StorePlace l k n) b may refl;
+          accepted = accepted_same p c views o i v at (row p (OnPlace (StorePlace l k n)) (found (OnPlace (StorePlace l k n))) (hand (OnPlace (StorePlace l k n))) v) (other_step (OnPlace (StorePlace l k n)) refl);
+          placed = λ j jl. more_placed x.mine.right one (row p (OnPlace (StorePlace l k n)) (found (OnPlace (StorePlace l k n))) (hand (OnPlace (StorePlace l k n))) v) (x.mine.right.sent ++ x.mine.right.bytes) makes same homes j;
+          took = λ j jl. as_taken x.mine.right one (row p (OnPlace (StorePlace l k n)) (found (OnPlace (StorePlace l k n))) (hand (OnPlace (StorePlace l k n))) v) (x.mine.right.sent ++ x.mine.right.bytes) makes same homes j;
+          request = requests_of (OnPlace (StorePlace l k n)) b may refl;
         }
 
-    drops : (l k n : ℕ) → Behind (DropPlace l k n) → May p v (DropPlace l k n) → IsStep (DropPlace l k n)
-    drops l k n b may = let x = may.0 in let one = may.1 in let makes = drops_makes p c views o i v at x.mine.right one l k n (found (DropPlace l k n)) x.now (hand (DropPlace l k n)) x.stage in
+    drops : (l k n : ℕ) → Behind (OnPlace (DropPlace l k n)) → May p v (OnPlace (DropPlace l k n)) → IsStep (OnPlace (DropPlace l k n))
+    drops l k n b may = let x = may.0 in let one = may.1 in let makes = drops_makes p c views o i v at x.mine.right one l k n (found (OnPlace (DropPlace l k n))) x.now (hand (OnPlace (DropPlace l k n))) x.stage in
         let same : x.mine.right.sent ++ take x.mine.right.put x.mine.right.bytes ≡ taken_of x.mine.right = sym (ap (λ b. cond b (x.mine.right.sent ++ take x.mine.right.put x.mine.right.bytes) x.mine.right.sent) x.taken) in
         let homes = same_homes p c c' x.mine.right.link b.1 in let orders = λ (k : ℕ). order_is p c views o i v at k in
-        subst (λ (z : ℕ). IsEvent p c views (Dropped z) c' (set views i (row p (DropPlace l k n) (found (DropPlace l k n)) (hand (DropPlace l k n)) v))) (sym may.3) record {
+        subst (λ (z : ℕ). IsEvent p c views (Dropped z) c' (set views i (row p (OnPlace (DropPlace l k n)) (found (OnPlace (DropPlace l k n))) (hand (OnPlace (DropPlace l k n))) v))) (sym may.3) record {
           may = drop_may p c views o i v at x.mine.right one orders x.now x.stage x.taken (dropped_part p c views o i v at x.mine.right one orders x.now x.stage x.sent x.taken may.5 x.part);
-          accepted = accepted_same p c views o i v at (row p (DropPlace l k n) (found (DropPlace l k n)) (hand (DropPlace l k n)) v) (other_step (DropPlace l k n) refl);
-          placed = λ j jl. more_placed x.mine.right one (row p (DropPlace l k n) (found (DropPlace l k n)) (hand (DropPlace l k n)) v) (x.mine.right.sent ++ take x.mine.right.put x.mine.right.bytes) makes same homes j;
-          took = λ j jl. as_taken x.mine.right one (row p (DropPlace l k n) (found (DropPlace l k n)) (hand (DropPlace l k n)) v) (x.mine.right.sent ++ take x.mine.right.put x.mine.right.bytes) makes same homes j;
-          request = requests_of (DropPlace l k n) b may refl;
+          accepted = accepted_same p c views o i v at (row p (OnPlace (DropPlace l k n)) (found (OnPlace (DropPlace l k n))) (hand (OnPlace (DropPlace l k n))) v) (other_step (OnPlace (DropPlace l k n)) refl);
+          placed = λ j jl. more_placed x.mine.right one (row p (OnPlace (DropPlace l k n)) (found (OnPlace (DropPlace l k n))) (hand (OnPlace (DropPlace l k n))) v) (x.mine.right.sent ++ take x.mine.right.put x.mine.right.bytes) makes same homes j;
+          took = λ j jl. as_taken x.mine.right one (row p (OnPlace (DropPlace l k n)) (found (OnPlace (DropPlace l k n))) (hand (OnPlace (DropPlace l k n))) v) (x.mine.right.sent ++ take x.mine.right.put x.mine.right.bytes) makes same homes j;
+          request = requests_of (OnPlace (DropPlace l k n)) b may refl;
         }
 
-    takes_link : (k : ℕ) → Behind (TakeLink k) → May p v (TakeLink k) → IsStep (TakeLink k)
-    takes_link k b may = nothing c' (row p (TakeLink k) (found (TakeLink k)) (hand (TakeLink k)) v) (other_step (TakeLink k) refl)
-        (stand_takes p c views o i v at k may c' b.1) (requests_of (TakeLink k) b may refl)
+    takes_link : (k : ℕ) → Behind (OnLink (TakeLink k)) → May p v (OnLink (TakeLink k)) → IsStep (OnLink (TakeLink k))
+    takes_link k b may = nothing c' (row p (OnLink (TakeLink k)) (found (OnLink (TakeLink k))) (hand (OnLink (TakeLink k))) v) (other_step (OnLink (TakeLink k)) refl)
+        (stand_takes p c views o i v at k may c' b.1) (requests_of (OnLink (TakeLink k)) b may refl)
 
-    puts_link : (k : ℕ) → AreInHand in_hand v.hands → length c.homes ≡ p.requests + p.links → Behind (PutLink k) → May p v (PutLink k) → IsStep (PutLink k)
-    puts_link k are sized b may = let k_in = may.0 in nothing c' (row p (PutLink k) (found (PutLink k)) (hand (PutLink k)) v) (other_step (PutLink k) refl)
-        (stand_puts p c views o i v at k in_hand are may.1 c' b.1 (omega (arith, sized, k_in))) (requests_of (PutLink k) b may refl)
+    puts_link : (k : ℕ) → AreInHand in_hand v.hands → length c.homes ≡ p.requests + p.links → Behind (OnLink (PutLink k)) → May p v (OnLink (PutLink k)) → IsStep (OnLink (PutLink k))
+    puts_link k are sized b may = let k_in = may.0 in nothing c' (row p (OnLink (PutLink k)) (found (OnLink (PutLink k))) (hand (OnLink (PutLink k))) v) (other_step (OnLink (PutLink k)) refl)
+        (stand_puts p c views o i v at k in_hand are may.1 c' b.1 (omega (arith, sized, k_in))) (requests_of (OnLink (PutLink k)) b may refl)
 
     -- each step is one event or none
     pub each_call : (call : TableStep) → AreHeld in_hand v.rights v.hands → length c.homes ≡ p.requests + p.links → Behind call → May p v call → IsStep call
-    each_call (TakeLink k) held sized b may = takes_link k b may
-    each_call (PutLink k) held sized b may = puts_link k (held_in_hand in_hand v.rights v.hands may.2 held) sized b may
-    each_call (LookWord id) held sized b may = looks id b may
-    each_call (ClaimRequest id q) held sized b may = claims id q b may
-    each_call (SwapHead j own) held sized b may = swaps j own b may
-    each_call (EmptyHead j last) held sized b may = empties j last b may
-    each_call (ReadNext q) held sized b may = reads q b may
-    each_call (ReverseNext q value) held sized b may = turns q value b may
-    each_call (FreeRequest q g) held sized b may = frees q g (free_inside p (state c views) o i v at q g may) b may
-    each_call (StorePlace l k n) held sized b may = places l k n b may
-    each_call (DropPlace l k n) held sized b may = drops l k n b may
+    each_call (OnLink (TakeLink k)) held sized b may = takes_link k b may
+    each_call (OnLink (PutLink k)) held sized b may = puts_link k (held_in_hand in_hand v.rights v.hands may.2 held) sized b may
+    each_call (OnSlot (LookWord id)) held sized b may = looks id b may
+    each_call (OnChain (ClaimRequest id q)) held sized b may = claims id q b may
+    each_call (OnChain (SwapHead j own)) held sized b may = swaps j own b may
+    each_call (OnChain (EmptyHead j last)) held sized b may = empties j last b may
+    each_call (OnChain (ReadNext q)) held sized b may = reads q b may
+    each_call (OnChain (ReverseNext q value)) held sized b may = turns q value b may
+    each_call (OnChain (FreeRequest q g)) held sized b may = frees q g (free_inside p (state c views) o i v at q g may) b may
+    each_call (OnPlace (StorePlace l k n)) held sized b may = places l k n b may
+    each_call (OnPlace (DropPlace l k n)) held sized b may = drops l k n b may
     each_call call held sized b may = leaves call refl b may refl refl refl
 
   -- ## Moves and puts

@@ -29,7 +29,7 @@ use Rattle.chain_steps.proofs.Gather.{gather_own, gather_same}
 use Rattle.chain_steps.proofs.ChainLettersStay.{writes_room}
 use Rattle.chain_steps.proofs.TicketLists.{at_some}
 use Rattle.sock_steps.proofs.RightSteps.{right_in, right_slot, right_alone}
-use Rattle.seat_programs.specs.TableSteps.{LookWord, ReadNext, ReverseNext, FreeRequest, StorePlace, DropPlace}
+use Rattle.seat_programs.specs.TableSteps.{OnSlot, OnChain, OnPlace, LookWord, ReadNext, ReverseNext, FreeRequest, StorePlace, DropPlace}
 use Rattle.seat_programs.specs.Cores.{Core, link_place}
 use Rattle.seat_programs.specs.StepTables.{row}
 use Rattle.seat_programs.specs.StepViews.{by_right, settled}
@@ -143,29 +143,29 @@ module _ (p : Plan) (c : Core) (views : List View) (o : Lawful (λ (home : Home)
 
     -- ## Steps on words
 
-    pub looks_keeps : (id found : ℕ) (hand : Hand) → Keeps (row p (LookWord id) found hand v) (of_right r)
+    pub looks_keeps : (id found : ℕ) (hand : Hand) → Keeps (row p (OnSlot (LookWord id)) found hand v) (of_right r)
     looks_keeps id found hand = let u : View = looked (socket_id_slot id) found v in
         subst (λ (w : View). Keeps w (of_right r)) (sym (ap (λ rs. by_right rs (looked_clean (socket_id_slot id) found v) (looked (socket_id_slot id) found v)) one))
         (keeps_either _ _ _ (of_right r) (keeps_with u (record r { clean = true }) (of_right r) one refl refl refl) (keeps_view u one refl))
 
-    pub reads_keeps : (q found : ℕ) (hand : Hand) → ((now : ℕ) × (r.stage ≡ stages.Placed now)) ⊎ ((top : ℕ) × (a : ℕ) × (after : ℕ) × (r.stage ≡ stages.Reversing top a after)) → Keeps (row p (ReadNext q) found hand v) (of_right r)
+    pub reads_keeps : (q found : ℕ) (hand : Hand) → ((now : ℕ) × (r.stage ≡ stages.Placed now)) ⊎ ((top : ℕ) × (a : ℕ) × (after : ℕ) × (r.stage ≡ stages.Reversing top a after)) → Keeps (row p (OnChain (ReadNext q)) found hand v) (of_right r)
     reads_keeps q found hand stage = subst (λ (w : View). Keeps w (of_right r)) (sym (ap (λ rs. by_right rs (λ r. read_next found v r r.stage) v) one)) (⊎_elim
         (λ s. subst (λ (w : View). Keeps w (of_right r)) (sym (ap (read_next found v r) s.1)) (keeps_with v (settled (record r { stage = stages.Passes s.0 found })) (of_right r) one refl refl refl))
         (λ s. subst (λ (w : View). Keeps w (of_right r)) (sym (ap (read_next found v r) s.3)) (keeps_either _ _ _ (of_right r) (keeps_view v one refl) (keeps_with v (record r { stage = stages.ReversesNext s.0 s.1 s.2 found }) (of_right r) one refl refl refl)))
         stage)
 
-    pub turns_keeps : (q value found top a before : ℕ) (hand : Hand) → r.stage ≡ stages.ReversesNext top a value before → Keeps (row p (ReverseNext q value) found hand v) (of_right r)
+    pub turns_keeps : (q value found top a before : ℕ) (hand : Hand) → r.stage ≡ stages.ReversesNext top a value before → Keeps (row p (OnChain (ReverseNext q value)) found hand v) (of_right r)
     turns_keeps q value found top a before hand stage = subst (λ (w : View). Keeps w (of_right r)) (sym (ap (λ rs. by_right rs (λ r. turned_next v r r.stage) v) one ∙ ap (turned_next v r) stage))
         (keeps_with v (turned_right r top a before) (of_right r) one refl (link_either (eqb before r.last) _ _ r.link refl refl) (of_either (eqb before r.last) _ _ (of_right r) refl refl))
 
-    pub frees_keeps : (q g found : ℕ) (hand : Hand) → Keeps (row p (FreeRequest q g) found hand v) (of_right r)
+    pub frees_keeps : (q g found : ℕ) (hand : Hand) → Keeps (row p (OnChain (FreeRequest q g)) found hand v) (of_right r)
     frees_keeps q g found hand = subst (λ (w : View). Keeps w (of_right r)) (sym (ap (λ rs. by_right rs (freed_next v) v) one)) (keeps_with v (record r { stage = freed_stage r.stage }) (of_right r) one refl refl refl)
 
-    pub places_makes : (l k n found now : ℕ) (hand : Hand) → r.stage ≡ stages.Writes now → Keeps (row p (StorePlace l k n) found hand v) (record { placed = suc r.places; took = r.sent ++ r.bytes })
+    pub places_makes : (l k n found now : ℕ) (hand : Hand) → r.stage ≡ stages.Writes now → Keeps (row p (OnPlace (StorePlace l k n)) found hand v) (record { placed = suc r.places; took = r.sent ++ r.bytes })
     places_makes l k n found now hand stage = subst (λ (w : View). Keeps w (record { placed = suc r.places; took = r.sent ++ r.bytes })) (sym (ap (λ rs. by_right rs (λ r. placed_next v r r.stage) v) one ∙ ap (placed_next v r) stage))
         (keeps_with v (settled (placed_right r now)) (record { placed = suc r.places; took = r.sent ++ r.bytes }) one refl refl refl)
 
-    pub drops_makes : (l k n found now : ℕ) (hand : Hand) → r.stage ≡ stages.Writes now → Keeps (row p (DropPlace l k n) found hand v) (record { placed = suc r.places; took = r.sent ++ take r.put r.bytes })
+    pub drops_makes : (l k n found now : ℕ) (hand : Hand) → r.stage ≡ stages.Writes now → Keeps (row p (OnPlace (DropPlace l k n)) found hand v) (record { placed = suc r.places; took = r.sent ++ take r.put r.bytes })
     drops_makes l k n found now hand stage = subst (λ (w : View). Keeps w (record { placed = suc r.places; took = r.sent ++ take r.put r.bytes })) (sym (ap (λ rs. by_right rs (λ r. dropped_next v r r.stage) v) one ∙ ap (dropped_next v r) stage))
         (keeps_with v (settled (dropped_right r now (r.sent ++ take r.put r.bytes))) (record { placed = suc r.places; took = r.sent ++ take r.put r.bytes }) one refl refl refl)
 

@@ -25,7 +25,7 @@ use Rattle.chain_steps.proofs.ChainHeadSteps.{held_of, slot_is}
 use Rattle.chain_steps.proofs.Frees.{generation_is}
 use Rattle.atomic_table.proofs.Lists.{set_else}
 use Rattle.sock_steps.proofs.RightSteps.{right_in, right_alone}
-use Rattle.seat_programs.specs.TableSteps.{TableStep, TakeLink, PutLink, PutMessage, FreeRequest}
+use Rattle.seat_programs.specs.TableSteps.{TableStep, OnChain, OnLink, OnMessage, TakeLink, PutLink, PutMessage, FreeRequest}
 use Rattle.seat_programs.specs.Cores.{Core, homes_after}
 use Rattle.seat_programs.specs.StepTables.{row}
 use Rattle.seat_programs.specs.StepTables.{May}
@@ -79,9 +79,9 @@ pub home_else : (p : Plan) (homes : List (Option Home)) (q k : ℕ) (x : Option 
 home_else p homes q k x ne = ap (λ y. took_of (as_link (shown (λ (home : Home). home) y))) (set_else homes q (p.requests + k) x (λ e. ne (sym e)))
 
 pub homes_same : (p : Plan) (v : View) (homes : List (Option Home)) (hand : List Home) (call : TableStep) → May p v call → leaves_links call ≡ true → (k : ℕ) → link_home (λ home. home) p (homes_after p call hand homes) k ≡ link_home (λ home. home) p homes k
-homes_same p v homes hand (PutMessage q heading bytes) may is k = let low = may.0 in home_else p homes q k (some (Message heading bytes)) (λ e. omega (arith, low, e))
-homes_same p v homes hand (TakeLink k) may is j = absurd (true≢false (sym is))
-homes_same p v homes hand (PutLink k) may is j = absurd (true≢false (sym is))
+homes_same p v homes hand (OnMessage (PutMessage q heading bytes)) may is k = let low = may.0 in home_else p homes q k (some (Message heading bytes)) (λ e. omega (arith, low, e))
+homes_same p v homes hand (OnLink (TakeLink k)) may is j = absurd (true≢false (sym is))
+homes_same p v homes hand (OnLink (PutLink k)) may is j = absurd (true≢false (sym is))
 homes_same p v homes hand _ may is k = refl
 
 -- each such step leaves how each link stands
@@ -146,14 +146,14 @@ module _ (p : Plan) (c : Core) (views : List View) (o : Lawful (λ home. home) p
         let some_ = st.2 in freed_here now st.1 (omega (arith, some_)) st.3)
         x
 
-  pub freed_entry : (q g : ℕ) → (may : May p v (FreeRequest q g)) → Freed p c views o.log may.4.0.link q g
+  pub freed_entry : (q g : ℕ) → (may : May p v (OnChain (FreeRequest q g))) → Freed p c views o.log may.4.0.link q g
   freed_entry q g may = subst (λ x. Freed p c views o.log may.4.0.link x g) may.1 (subst (λ x. Freed p c views o.log may.4.0.link (ticket_request may.0) x) may.2 (freed_at may.4.0 may.4.1 may.0 may.4.2))
 
   -- the word of the request is the one that goes
-  pub free_word : (q g : ℕ) → May p v (FreeRequest q g) → slice_index c.words (request_index p q) ≡ 2 * g + 1
+  pub free_word : (q g : ℕ) → May p v (OnChain (FreeRequest q g)) → slice_index c.words (request_index p q) ≡ 2 * g + 1
   free_word q g may = (freed_entry q g may).word
 
-  pub free_may : ((k : ℕ) → IsOrder (messages p c views) k (on k o.log)) → (q g : ℕ) → May p v (FreeRequest q g) → MayCome (messages p c views) (Free q)
+  pub free_may : ((k : ℕ) → IsOrder (messages p c views) k (on k o.log)) → (q g : ℕ) → May p v (OnChain (FreeRequest q g)) → MayCome (messages p c views) (Free q)
   free_may order q g may = let k : ℕ = may.4.0.link in let f = freed_entry q g may in (
     on k o.log,
     f.entry,

@@ -20,7 +20,7 @@ use Rattle.sock_model.specs.ChainLawReads.{memory, tokens, link_home, rights_on,
 use Rattle.chain_steps.proofs.Gather.{gather_own, gather_same, gather_none}
 use Rattle.chain_steps.proofs.Grow.{idle_found}
 use Rattle.sock_steps.proofs.LifeLinkSlotPlaces.{holder_lives}
-use Rattle.seat_programs.specs.TableSteps.{SwapHead}
+use Rattle.seat_programs.specs.TableSteps.{OnChain, SwapHead}
 use Rattle.seat_programs.specs.Cores.{Core}
 use Rattle.seat_programs.specs.StepTables.{row, hand_at}
 use Rattle.seat_programs.specs.StepsOfLinks.{as_hand}
@@ -41,12 +41,12 @@ module _ (p : Plan) (c : Core) (views : List View) (o : Lawful (λ (home : Home)
   entry b = entry_of x.claim (cond b found (found - IDLE))
 
   abbrev hand : Hand
-  hand = hand_at p c.words c.homes (SwapHead j own)
+  hand = hand_at p c.words c.homes (OnChain (SwapHead j own))
 
   abbrev pub after : Bool → View
   after b = cond b (queued v x.claim found) (righted v x.claim found hand.took hand.next)
 
-  pub swap_row : row p (SwapHead j own) found hand v ≡ after (ltb found IDLE)
+  pub swap_row : row p (OnChain (SwapHead j own)) found hand v ≡ after (ltb found IDLE)
   swap_row = ap (λ cs. by_claim cs (exchanged found hand v) v) x.claims
 
   pub swap_lists : (b : Bool) → (after b).lists ≡ more v.lists (entry b)

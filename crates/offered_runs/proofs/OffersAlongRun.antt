@@ -13,20 +13,20 @@ use Rattle.seat_programs.specs.Cores.{Core}
 use Rattle.seat_programs.specs.Tasks.{plan_of}
 use Rattle.seat_programs.specs.Ticks.{Answer, Moment, AreAnswered, taken, ticked, run}
 use Rattle.seat_programs.specs.ScriptSetupToEnding.{opened, set_up, played, IsRunWithCalls}
-use Rattle.served_runs.specs.Below.programs_allowed.specs.program_steps.specs.SoundSeats.{Sound, AreFitting, views_after, views_along}
-use Rattle.served_runs.specs.Below.programs_allowed.specs.sock_runs.proofs.LinkTicks.{RetriesGo}
-use Rattle.served_runs.specs.Below.programs_allowed.specs.sock_runs.proofs.TicksKeepSeatsSound.{sound_ticks}
-use Rattle.served_runs.specs.Below.programs_allowed.specs.program_walks.proofs.WholeScriptSound.{closing_of, views_played, views_closed, set_up_answered, end_answered, set_up_sound, closing_sound, closed_sound}
-use Rattle.served_runs.specs.Below.joint_runs.proofs.RunsOfBothTables.{AreMade, first_views}
-use Rattle.served_runs.specs.Below.call_owing.specs.LivesOfLinks.{IsFinished, ClosesAt, ClosesInTime, ClosesInRun}
-use Rattle.served_runs.specs.Below.owing_ticks.proofs.OwingRuns.{same_first}
-use Rattle.served_runs.specs.Below.run_theorems.specs.OfferedAtTakes.{GaveSo, HasTaken}
-use Rattle.served_runs.specs.Below.run_theorems.specs.OfferedAtTakes as told
-use Rattle.served_runs.specs.Below.run_theorems.specs.OfferedRuns as runs
-use Rattle.served_runs.specs.Below.call_stories.specs.LinkReadingLists.{gave_in}
-use Rattle.served_runs.specs.Below.accept_counts.proofs.EarlyClosedSockets.{start, go, fitting}
-use Rattle.served_runs.specs.Below.call_stories.proofs.RunTicks.{in_setup, in_clients, in_closing}
-use Rattle.served_runs.specs.OfferedReplies.{TookSoFar, IsDone, IsOfferedSo, OffersAt, AreOffered, OffersInRun}
+use Rattle.served_sizes.specs.served_calls.specs.served_runs.specs.Below.programs_allowed.specs.program_steps.specs.SoundSeats.{Sound, AreFitting, views_after, views_along}
+use Rattle.served_sizes.specs.served_calls.specs.served_runs.specs.Below.programs_allowed.specs.sock_runs.proofs.LinkTicks.{RetriesGo}
+use Rattle.served_sizes.specs.served_calls.specs.served_runs.specs.Below.programs_allowed.specs.sock_runs.proofs.TicksKeepSeatsSound.{sound_ticks}
+use Rattle.served_sizes.specs.served_calls.specs.served_runs.specs.Below.programs_allowed.specs.program_walks.proofs.WholeScriptSound.{closing_of, views_played, views_closed, set_up_answered, end_answered, set_up_sound, closing_sound, closed_sound}
+use Rattle.served_sizes.specs.served_calls.specs.served_runs.specs.Below.joint_runs.proofs.RunsOfBothTables.{AreMade, first_views}
+use Rattle.served_sizes.specs.served_calls.specs.served_runs.specs.Below.call_owing.specs.LivesOfLinks.{IsFinished, ClosesAt, ClosesInTime, ClosesInRun}
+use Rattle.served_sizes.specs.served_calls.specs.served_runs.specs.Below.owing_ticks.proofs.OwingRuns.{same_first}
+use Rattle.served_sizes.specs.served_calls.specs.served_runs.specs.Below.run_theorems.specs.OfferedAtTakes.{GaveSo, HasTaken}
+use Rattle.served_sizes.specs.served_calls.specs.served_runs.specs.Below.run_theorems.specs.OfferedAtTakes as told
+use Rattle.served_sizes.specs.served_calls.specs.served_runs.specs.Below.run_theorems.specs.OfferedRuns as runs
+use Rattle.served_sizes.specs.served_calls.specs.served_runs.specs.Below.call_stories.specs.LinkReadingLists.{gave_in}
+use Rattle.served_sizes.specs.served_calls.specs.served_runs.specs.Below.accept_counts.proofs.EarlyClosedSockets.{start, go, fitting}
+use Rattle.served_sizes.specs.served_calls.specs.served_runs.specs.Below.call_stories.proofs.RunTicks.{in_setup, in_clients, in_closing}
+use Rattle.served_sizes.specs.served_calls.specs.served_runs.specs.OfferedReplies.{TookSoFar, IsDone, IsOfferedSo, OffersAt, AreOffered, OffersInRun}
 use Rattle.offered_runs.proofs.WritingHalfOnce.{IsOnce, one_link, once_tick, once_along, once_opened, once_ending}
 use Rattle.seat_programs.specs.LoopRounds.{first_step}
 

@@ -15,7 +15,7 @@ use Rattle.slot_steps.proofs.SlotWeightSums.{total-append, total-set, term_le}
 use Rattle.sock_steps.proofs.LifeLinkSlotPlaces.{two_seats}
 use Rattle.brpc_model.specs.Items.{Item}
 use Rattle.seat_programs.specs.FoundAndChangedAside.{calls_after}
-use Rattle.seat_programs.specs.TableSteps.{TableStep, TakeLink, FinishLink, PutLink, PutMessage}
+use Rattle.seat_programs.specs.TableSteps.{TableStep, OnLink, OnMessage, TakeLink, FinishLink, PutLink, PutMessage}
 use Rattle.seat_programs.specs.ClientProgram.{ending_of}
 use Rattle.seat_programs.specs.Cores.{Calls, Core, SeatState, found_at, words_after, with_seat, homes_after, hand_after, lies_at, first_of, others_of, finished, link_place, resolved, next_step, waiting_at}
 use Rattle.seat_programs.specs.StepTables.{word_of, word_after}
@@ -24,13 +24,13 @@ use Rattle.seat_programs.specs.ScriptSetupToEnding.{sizes_of, programs, readers_
 use Rattle.seat_programs.specs.Tasks.{opens, calls, plan_of, id_plan_of}
 use Rattle.seat_programs.specs.Ticks.{Moment, IsAnswered, AreAnswered, fed, with_places, onto_first, ticked, run}
 use Rattle.seat_programs.specs.StepTables.{May}
-use Rattle.served_runs.specs.Below.programs_allowed.specs.program_steps.specs.SoundSeats.{state, Sound, IsFitting, AreFitting, views_after}
-use Rattle.served_runs.specs.Below.programs_allowed.specs.program_steps.proofs.TickCases.{tick_cases}
-use Rattle.served_runs.specs.Below.programs_allowed.specs.sock_runs.proofs.HandTicks.{taking}
-use Rattle.served_runs.specs.Below.programs_allowed.specs.sock_runs.proofs.LinkTicks.{RetriesGo, link_there}
-use Rattle.served_runs.specs.Below.programs_allowed.specs.sock_runs.proofs.TicksKeepSeatsSound.{sound_ticks}
-use Rattle.served_runs.specs.Below.call_owing.specs.LivesOfLinks.{InHand}
-use Rattle.served_runs.specs.OfferedReplies.{Lies}
+use Rattle.served_sizes.specs.served_calls.specs.served_runs.specs.Below.programs_allowed.specs.program_steps.specs.SoundSeats.{state, Sound, IsFitting, AreFitting, views_after}
+use Rattle.served_sizes.specs.served_calls.specs.served_runs.specs.Below.programs_allowed.specs.program_steps.proofs.TickCases.{tick_cases}
+use Rattle.served_sizes.specs.served_calls.specs.served_runs.specs.Below.programs_allowed.specs.sock_runs.proofs.HandTicks.{taking}
+use Rattle.served_sizes.specs.served_calls.specs.served_runs.specs.Below.programs_allowed.specs.sock_runs.proofs.LinkTicks.{RetriesGo, link_there}
+use Rattle.served_sizes.specs.served_calls.specs.served_runs.specs.Below.programs_allowed.specs.sock_runs.proofs.TicksKeepSeatsSound.{sound_ticks}
+use Rattle.served_sizes.specs.served_calls.specs.served_runs.specs.Below.call_owing.specs.LivesOfLinks.{InHand}
+use Rattle.served_sizes.specs.served_calls.specs.served_runs.specs.OfferedReplies.{Lies}
 use Rattle.sock_words.specs.Totals.{total}
 
 -- ## How many
@@ -104,7 +104,7 @@ onto_same : (k : ℕ) (change : Home → Home) → ((x : Home) → is_link k (ch
 onto_same k change same [] = refl
 onto_same k change same (x ∷ xs) = ap (λ n. n + total (is_link k) xs) (same x)
 
-finish_same : (p : Plan) (k n : ℕ) (hs : List (Option Home)) (hand : List Home) → total (is_link k) (hand_after p (FinishLink n) hs hand) ≡ total (is_link k) hand
+finish_same : (p : Plan) (k n : ℕ) (hs : List (Option Home)) (hand : List Home) → total (is_link k) (hand_after p (OnLink (FinishLink n)) hs hand) ≡ total (is_link k) hand
 finish_same p k n hs [] = refl
 finish_same p k n hs (x ∷ xs) = ap (λ m. m + total (is_link k) xs) (finished_same k x)
 
@@ -175,10 +175,10 @@ module _ (p : Plan) (k : ℕ) where
       by_parts program hand ws hs a few = let t = total-set (in_hand k) c.seats m.seat seat (record { program = next_step (resolved (waiting_at a.waiting m.seat) program); hand = hand }) at_seat in omega (arith, few, t)
 
       by_call : (v : View) → get_elem? vs m.seat ≡ some v → (call : TableStep) → May p v call → at_home (homes_after p call seat.hand c.homes) + total (is_link k) (hand_after p call c.homes seat.hand) ≤ at_home c.homes + total (is_link k) seat.hand
-      by_call v at_view (TakeLink n) may = let h = (taking p (state c vs) sound.lawful m.seat v at_view n may).0 in taken_out n c.homes seat.hand h.took h.next h.done h.is
-      by_call v at_view (FinishLink n) may = let s = finish_same p k n c.homes seat.hand in omega (arith, s)
-      by_call v at_view (PutLink n) may = put_back n c.homes seat.hand (first_of seat.hand) (split_same k seat.hand)
-      by_call v at_view (PutMessage q heading bytes) may = let s = set_other q c.homes (some (Message heading bytes)) refl in omega (arith, s)
+      by_call v at_view (OnLink (TakeLink n)) may = let h = (taking p (state c vs) sound.lawful m.seat v at_view n may).0 in taken_out n c.homes seat.hand h.took h.next h.done h.is
+      by_call v at_view (OnLink (FinishLink n)) may = let s = finish_same p k n c.homes seat.hand in omega (arith, s)
+      by_call v at_view (OnLink (PutLink n)) may = put_back n c.homes seat.hand (first_of seat.hand) (split_same k seat.hand)
+      by_call v at_view (OnMessage (PutMessage q heading bytes)) may = let s = set_other q c.homes (some (Message heading bytes)) refl in omega (arith, s)
       by_call v at_view _ may = omega arith
 
       puts_back : (n x : ℕ) → at_home (set c.homes (link_place p n) (first_of (onto_first (with_places x) seat.hand))) + total (is_link k) (others_of seat.hand) ≤ at_home c.homes + total (is_link k) seat.hand

@@ -14,7 +14,7 @@ use Rattle.sock_model.specs.declared.view.View.{View}
 use Rattle.sock_model.specs.Entries.{on}
 use Rattle.sock_model.specs.LinksInSlots.{Failed}
 use Rattle.seat_programs.specs.declared.task.Task.{Task}
-use Rattle.seat_programs.specs.TableSteps.{TableStep, SubRef, Recycle, SetOdd, LoadName}
+use Rattle.seat_programs.specs.TableSteps.{TableStep, OnSlot, OnName, SubRef, Recycle, SetOdd, LoadName}
 use Rattle.seat_programs.specs.Cores.{Core}
 use Rattle.seat_programs.specs.declared.task.Op.{Op}
 use Rattle.seat_programs.specs.declared.task.Op.TheVariants as ops
@@ -100,7 +100,7 @@ module _ (p : Plan) (clients : List (List Task)) (are : AreTasks p clients) (ove
   -- what a link accepted was sent to its socket
   sent_to : (k i n : ℕ) (e : Entry) → HasSent vs i n e → is_of_send e ≡ true → e.link ≡ k → IsSent clients c.outcomes k (accepted_of e)
   sent_to k i n e h send link = let x = of_seat i n e h send in let t = x.of_task in
-      let life = named_life p clients c.outcomes broken orders es world i x.task.number t.name t.id (from_trace i x.task.number es (step (LoadName t.name) (t.id + 1)) t.load) in
+      let life = named_life p clients c.outcomes broken orders es world i x.task.number t.name t.id (from_trace i x.task.number es (step (OnName (LoadName t.name)) (t.id + 1)) t.load) in
       let given = given_made p clients c.outcomes broken orders es world (socket_id_slot t.id) (socket_id_version t.id) e.link t.link in
       let same : life.0 ≡ e.link = (one_life p clients c.outcomes broken orders es world t.name given.0 life.0 e.link (socket_id_slot t.id) (socket_id_version t.id) life.1 given.1).1 in record {
         client = i;
@@ -175,13 +175,13 @@ module _ (p : Plan) (clients : List (List Task)) (are : AreTasks p clients) (ove
   failed_so j h k given (inr lost) = let m = given_made p clients c.outcomes broken orders es world j h k (given_later p clients c.outcomes broken orders es world timely.story es timely.part j h k given) in
       let g = given_made p clients c.outcomes broken orders es world j h lost.0 (given_later p clients c.outcomes broken orders es world timely.story es timely.part j h lost.0 lost.2) in
       let same : k ≡ lost.0 = (one_life p clients c.outcomes broken orders es world m.0 g.0 k lost.0 j h m.1 g.1).1 in inl (in_contains few k (subst (λ z. In z few) (sym same) lost.1))
-  failed_so j h k given (inl was) = let made = given_made p clients c.outcomes broken orders es world j h k (given_later p clients c.outcomes broken orders es world timely.story es timely.part j h k given) in let y = marked_fail timely.story j h was in let e : Event = event y.client y.number (SetOdd j) y.found in
+  failed_so j h k given (inl was) = let made = given_made p clients c.outcomes broken orders es world j h k (given_later p clients c.outcomes broken orders es world timely.story es timely.part j h k given) in let y = marked_fail timely.story j h was in let e : Event = event y.client y.number (OnSlot (SetOdd j)) y.found in
       let m : In e es = timely.part e y.is in ⊎_elim
       (λ there. inr (y.number, in_contains all_fails.fails (y.number, k) there))
       (λ r. inl (in_contains few k (refused_in made.0 made.1 y.client y.number y.found (cause_of p clients few timely.story timely.good e y.is) y.even y.version r.1)))
       (all_fails.all y.client y.number j y.found m y.even made.0 k (subst (λ z. Made clients c.outcomes made.0 k j z) (sym y.version) made.1))
     where
-      refused_in : (n : ℕ) → Made clients c.outcomes n k j h → (d o found : ℕ) → (x : BeforeIn p clients few timely.story (event d o (SetOdd j) found)) → vref_version found % 2 ≡ 0 → vref_version found ≡ h → IsSender p clients c.outcomes broken orders es world d o → In k few
+      refused_in : (n : ℕ) → Made clients c.outcomes n k j h → (d o found : ℕ) → (x : BeforeIn p clients few timely.story (event d o (OnSlot (SetOdd j)) found)) → vref_version found % 2 ≡ 0 → vref_version found ≡ h → IsSender p clients c.outcomes broken orders es world d o → In k few
       refused_in n made d o found x even version sends = ⊎_elim
           (λ f. let q : ops.Send sends.3 sends.4 ≡ ops.Fail f.0 f.1 = sym sends.5 ∙ (ap (λ (z : Task). z.op) (one_task p clients are d d sends.0 x.cause.task sends.1 x.cause.is (sends.2 ∙ sym x.cause.numbered)).1 ∙ f.4) in absurd (cc))
           (λ f. let l = link_means p clients c.outcomes broken orders es world few x.story d o j found x.cause (λ z m. timely.part z (x.part z m)) f in
@@ -218,8 +218,8 @@ module _ (p : Plan) (clients : List (List Task)) (are : AreTasks p clients) (ove
     pub drops_told : DropsMade clients c.outcomes Shown
     drops_told = record {
       freed = λ i t n is op became. let asks = asks_of p clients c.outcomes broken orders es world i t is in let x = because i t asks (ops.Drop n) Freed op became in let w : WonRecycling (trace_of i t.number es) = x.1 in
-          (w.0, w.1, made_step i t.number (drops_later i n t asks op) (Recycle w.0 w.1) w.1 w.2);
+          (w.0, w.1, made_step i t.number (drops_later i n t asks op) (OnSlot (Recycle w.0 w.1)) w.1 w.2);
       kept = λ i t n is op became. let asks = asks_of p clients c.outcomes broken orders es world i t is in let x = because i t asks (ops.Drop n) Kept op became in let g : GaveBackOnly (trace_of i t.number es) = x.1 in
           let later = drops_later i n t asks op in
-          (g.0, g.1, made_step i t.number later (SubRef g.0) g.1 g.2, ⊎_elim (λ none_. inl none_) (λ lost. inr (lost.0, made_step i t.number later (Recycle g.0 (g.1 - 1)) lost.0 lost.1, lost.2)) g.3);
+          (g.0, g.1, made_step i t.number later (OnSlot (SubRef g.0)) g.1 g.2, ⊎_elim (λ none_. inl none_) (λ lost. inr (lost.0, made_step i t.number later (OnSlot (Recycle g.0 (g.1 - 1))) lost.0 lost.1, lost.2)) g.3);
     }

@@ -9,7 +9,7 @@ use Rattle.sock_model.specs.References.{slot_facts}
 use Rattle.outcome_ticks.specs.program_steps.specs.slot_steps.proofs.SlotLawClauses.{taken_for}
 use Rattle.outcome_ticks.specs.program_steps.specs.slot_steps.proofs.RuleNumbers.{life_le}
 use Rattle.seat_programs.specs.declared.task.Task.{Task}
-use Rattle.seat_programs.specs.TableSteps.{ClaimRequest}
+use Rattle.seat_programs.specs.TableSteps.{OnChain, ClaimRequest}
 use Rattle.seat_programs.specs.Cores.{Core}
 use Rattle.seat_programs.specs.Explained.{AreTasks}
 use Rattle.outcome_ticks.specs.program_steps.specs.ProgramGoesOn.{GoesOn, HasNothing}
@@ -36,8 +36,8 @@ module _ (p : Plan) (clients : List (List Task)) (are : AreTasks p clients) (ove
   law j l = sound.lawful.references.slots j l
 
   -- a request that was found claimed was used
-  word_used : (q i u id found : ℕ) → In (event i u (ClaimRequest id q) found) es → found % 2 ≡ 1 → slice_index c.words (request_index p q) ≢ 0
-  word_used q i u id found m odd = let x : StaysUsed p c.words (step (ClaimRequest id q) found) = story.used (event i u (ClaimRequest id q) found) m in let y = (x odd).1 in λ e. omega (arith, y, e)
+  word_used : (q i u id found : ℕ) → In (event i u (OnChain (ClaimRequest id q)) found) es → found % 2 ≡ 1 → slice_index c.words (request_index p q) ≢ 0
+  word_used q i u id found m odd = let x : StaysUsed p c.words (step (OnChain (ClaimRequest id q)) found) = story.used (event i u (OnChain (ClaimRequest id q)) found) m in let y = (x odd).1 in λ e. omega (arith, y, e)
 
   pub world_of : World p clients c.outcomes broken (orders_of p c vs sound.lawful) es
   world_of = record {

@@ -12,7 +12,7 @@ use Rattle.sock_model.specs.Marks.{about, at, without_at}
 use Rattle.sock_model.specs.SlotRows.{marks_of, back, subbed, recycled}
 use Rattle.program_walks.specs.slot_steps.proofs.ReferenceStepsKeepSlot.{zero_is, hold_is, probe_is, stage_is, any_recycled}
 use Rattle.program_walks.specs.sock_steps.proofs.SumsAsMarksChange.{less_without, more_without}
-use Rattle.seat_programs.specs.TableSteps.{TableStep, ClaimSlot, CreateLife, AddRef, SubRef, SetOdd, Recycle, FreeSlot, StoreLink, ResetHead, ClearCode, StoreCode}
+use Rattle.seat_programs.specs.TableSteps.{TableStep, OnSlot, ClaimSlot, CreateLife, AddRef, SubRef, SetOdd, Recycle, FreeSlot, StoreLink, ResetHead, ClearCode, StoreCode}
 use Rattle.seat_programs.specs.StepTables.{row}
 use Rattle.program_walks.specs.program_steps.proofs.Leaves.{is_noting, noting_marks}
 use Rattle.outcome_stories.specs.OperationStories.{adds}
@@ -93,25 +93,25 @@ module _ (f : Mark → ℕ) (note : IsNote f) (j : ℕ) where
       (λ i h c w. quiet i (Told h c) (at i (Saw w) ∷ v.marks) (note.told h c) ∙ quiet i (Saw w) v.marks (note.saw w)) (λ i h. quiet i (Known h) v.marks (note.known h)) call
 
   pub row_adds : (p : Plan) (call : TableStep) (found : ℕ) (hand : Hand) (v : View) → marks_of f j (row p call found hand v) ≡ marks_of f j v + adds f j call found
-  row_adds p (ClaimSlot i) found hand v = let a = put i (cond (eqb found 0) (Claimed 0 0) Tried) v.marks in
+  row_adds p (OnSlot (ClaimSlot i)) found hand v = let a = put i (cond (eqb found 0) (Claimed 0 0) Tried) v.marks in
       let b : f (cond (eqb found 0) (Claimed 0 0) Tried) ≡ cond (eqb found 0) 0 (f Tried) = tried_or (eqb found 0) in
       let c = ap (λ n. cond (eqb i j) n 0) b in omega arith
     where
       tried_or : (b : Bool) → f (cond b (Claimed 0 0) Tried) ≡ cond b 0 (f Tried)
       tried_or true = note.claimed 0 0
       tried_or false = refl
-  row_adds p (CreateLife i k) found hand v = let h : ℕ = vref_version found in let less : List SlotMark = without_at i (is_stage 3 k) v.marks in
+  row_adds p (OnSlot (CreateLife i k)) found hand v = let h : ℕ = vref_version found in let less : List SlotMark = without_at i (is_stage 3 k) v.marks in
       let a = quiet i (Known h) (at i (Born h) ∷ at i (Linked h k) ∷ less) (note.known h) in let b = put i (Born h) (at i (Linked h k) ∷ less) in let c = put i (Linked h k) less in
       let e = both (eqb i j) (f (Born h)) (f (Linked h k)) in let d = gone i (is_stage 3 k) v.marks (stage_none 3 k) in omega arith
     where
       both : (b : Bool) (m n : ℕ) → cond b (m + n) 0 ≡ cond b m 0 + cond b n 0
       both true m n = refl
       both false m n = refl
-  row_adds p (AddRef id) found hand v = let i : ℕ = socket_id_slot id in let w : ℕ = vref_version found in let b : Bool = eqb (vref_version found) (socket_id_version id) in
+  row_adds p (OnSlot (AddRef id)) found hand v = let i : ℕ = socket_id_slot id in let w : ℕ = vref_version found in let b : Bool = eqb (vref_version found) (socket_id_version id) in
       let z : f (cond b (Hold w) Probe) ≡ 0 = split b (Hold w) Probe (λ m. f m ≡ 0) (note.hold w) note.probe in
       let a = quiet i (cond b (Hold w) Probe) (at i (Saw w) ∷ v.marks) z in let c = quiet i (Saw w) v.marks (note.saw w) in omega arith
-  row_adds p (SubRef i) found hand v = let a = subbed_same i found v in omega arith
-  row_adds p (SetOdd i) found hand v = let w : ℕ = vref_version found in
+  row_adds p (OnSlot (SubRef i)) found hand v = let a = subbed_same i found v in omega arith
+  row_adds p (OnSlot (SetOdd i)) found hand v = let w : ℕ = vref_version found in
       let P : Bool → Type 0 = λ b. sum (cond b (at i (Hold w) ∷ at i (Coding w) ∷ at i (Failer w) ∷ at i (Saw (w + 1)) ∷ v.marks) (at i (Saw w) ∷ v.marks)) ≡ sum v.marks + cond (eqb i j) (cond b (f (Failer w)) 0) 0 in
       either_way P (eqb (w % 2) 0)
       (let a = quiet i (Hold w) (at i (Coding w) ∷ at i (Failer w) ∷ at i (Saw (w + 1)) ∷ v.marks) (note.hold w) in let b = quiet i (Coding w) (at i (Failer w) ∷ at i (Saw (w + 1)) ∷ v.marks) (note.coding w) in
@@ -121,11 +121,11 @@ module _ (f : Mark → ℕ) (note : IsNote f) (j : ℕ) where
       either_way : (P : Bool → Type 0) (b : Bool) → P true → P false → P b
       either_way P true x y = x
       either_way P false x y = y
-  row_adds p (Recycle i from) found hand v = let a = recycled_same i from found v in omega arith
-  row_adds p (FreeSlot i) found hand v = let a = gone i is_recycling v.marks (λ x q. let r = any_recycled x q in ap f r.1 ∙ note.recycling r.0) in omega arith
-  row_adds p (StoreLink i k) found hand v = let a = quiet i (Claimed 1 k) (without_at i (is_stage 0 0) v.marks) (note.claimed 1 k) in let b = gone i (is_stage 0 0) v.marks (stage_none 0 0) in omega arith
-  row_adds p (ResetHead i k) found hand v = let a = quiet i (Claimed 2 k) (without_at i (is_stage 1 k) v.marks) (note.claimed 2 k) in let b = gone i (is_stage 1 k) v.marks (stage_none 1 k) in omega arith
-  row_adds p (ClearCode i k) found hand v = let a = quiet i (Claimed 3 k) (without_at i (is_stage 2 k) v.marks) (note.claimed 3 k) in let b = gone i (is_stage 2 k) v.marks (stage_none 2 k) in omega arith
-  row_adds p (StoreCode i h c) found hand v = let a = quiet i (Stored h c) (at i (Told h c) ∷ without_at i (is_coding h) v.marks) (note.stored h c) in let b = quiet i (Told h c) (without_at i (is_coding h) v.marks) (note.told h c) in
+  row_adds p (OnSlot (Recycle i from)) found hand v = let a = recycled_same i from found v in omega arith
+  row_adds p (OnSlot (FreeSlot i)) found hand v = let a = gone i is_recycling v.marks (λ x q. let r = any_recycled x q in ap f r.1 ∙ note.recycling r.0) in omega arith
+  row_adds p (OnSlot (StoreLink i k)) found hand v = let a = quiet i (Claimed 1 k) (without_at i (is_stage 0 0) v.marks) (note.claimed 1 k) in let b = gone i (is_stage 0 0) v.marks (stage_none 0 0) in omega arith
+  row_adds p (OnSlot (ResetHead i k)) found hand v = let a = quiet i (Claimed 2 k) (without_at i (is_stage 1 k) v.marks) (note.claimed 2 k) in let b = gone i (is_stage 1 k) v.marks (stage_none 1 k) in omega arith
+  row_adds p (OnSlot (ClearCode i k)) found hand v = let a = quiet i (Claimed 3 k) (without_at i (is_stage 2 k) v.marks) (note.claimed 3 k) in let b = gone i (is_stage 2 k) v.marks (stage_none 2 k) in omega arith
+  row_adds p (OnSlot (StoreCode i h c)) found hand v = let a = quiet i (Stored h c) (at i (Told h c) ∷ without_at i (is_coding h) v.marks) (note.stored h c) in let b = quiet i (Told h c) (without_at i (is_coding h) v.marks) (note.told h c) in
       let d = gone i (is_coding h) v.marks (λ x q. let r = coding_is h x q in ap f r.1 ∙ note.coding r.0) in omega arith
   row_adds p call found hand v = let a = noting_same p call found hand v refl in omega arith

@@ -17,7 +17,7 @@ use Rattle.program_walks.specs.slot_steps.proofs.RuleNumbers.{only-at, only-else
 use Rattle.program_walks.specs.slot_steps.proofs.OtherSlotsUntouched.{about-without, about-without_else}
 use Rattle.program_walks.specs.slot_steps.proofs.ReferenceStepsKeepSlot.{stage_is}
 use Rattle.program_walks.specs.sock_steps.proofs.SumsAsMarksChange.{More, more_all, more_add, more_without}
-use Rattle.seat_programs.specs.TableSteps.{TableStep, ClaimSlot, CreateLife, AddRef, SubRef, SetOdd, Recycle, FreeSlot, StoreLink, LoadLink}
+use Rattle.seat_programs.specs.TableSteps.{TableStep, OnSlot, ClaimSlot, CreateLife, AddRef, SubRef, SetOdd, Recycle, FreeSlot, StoreLink, LoadLink}
 use Rattle.seat_programs.specs.StepTables.{row}
 use Rattle.program_walks.specs.program_steps.proofs.Marking.{is_taken, marks_way}
 use Rattle.outcome_stories.specs.Explains.{holds_behind}
@@ -60,16 +60,16 @@ module _ (h : ℕ) where
 
     -- steps that take no reference and give none back
     abbrev IsStill : TableStep → Type 0
-    IsStill (AddRef id) = ⊥
-    IsStill (SubRef i) = ⊥
-    IsStill (SetOdd i) = ⊥
+    IsStill (OnSlot (AddRef id)) = ⊥
+    IsStill (OnSlot (SubRef i)) = ⊥
+    IsStill (OnSlot (SetOdd i)) = ⊥
     IsStill other = Unit {0}
 
     row_keeps : (p : Plan) (call : TableStep) (found : ℕ) (hand : Hand) → IsStill call → Kept (row p call found hand v).marks
-    row_keeps p (AddRef id) found hand still = absurd still
-    row_keeps p (SubRef i) found hand still = absurd still
-    row_keeps p (SetOdd i) found hand still = absurd still
-    row_keeps p (CreateLife i k) found hand still = let w : ℕ = vref_version found in let less : List SlotMark = without_at i (is_stage 3 k) v.marks in
+    row_keeps p (OnSlot (AddRef id)) found hand still = absurd still
+    row_keeps p (OnSlot (SubRef i)) found hand still = absurd still
+    row_keeps p (OnSlot (SetOdd i)) found hand still = absurd still
+    row_keeps p (OnSlot (CreateLife i k)) found hand still = let w : ℕ = vref_version found in let less : List SlotMark = without_at i (is_stage 3 k) v.marks in
         kept_add i (Known w) (at i (Born w) ∷ at i (Linked w k) ∷ less) (kept_add i (Born w) (at i (Linked w k) ∷ less) (kept_add i (Linked w k) less (kept_without i (is_stage 3 k) (λ x q. ap f (stage_is 3 k x q)))))
     row_keeps p call found hand still = marks_way p v found hand Kept kept_all (λ i m es other k. kept_add i m es k) (λ i g taken. kept_without i g (λ x q. none_taken x (taken x q))) call refl
 
@@ -97,7 +97,7 @@ module _ (h : ℕ) where
         split (eqb (w % 2) 1) (cond (eqb (vref_nref found) 1) (at j (Zero w) ∷ less) less) less (λ es. cond (eqb j i) (n - 1) n ≤ sum es)
         (split (eqb (vref_nref found) 1) (at j (Zero w) ∷ less) less (λ es. cond (eqb j i) (n - 1) n ≤ sum es) (omega arith) rest) rest
 
-    odd_row : (p : Plan) (j found n : ℕ) (hand : Hand) → n ≤ marks_of f i v → (j ≡ i → 0 < n → vref_version found % 2 ≡ 0 → vref_version found ≡ h) → holds_behind i h (SetOdd j) found n ≤ marks_of f i (row p (SetOdd j) found hand v)
+    odd_row : (p : Plan) (j found n : ℕ) (hand : Hand) → n ≤ marks_of f i v → (j ≡ i → 0 < n → vref_version found % 2 ≡ 0 → vref_version found ≡ h) → holds_behind i h (OnSlot (SetOdd j)) found n ≤ marks_of f i (row p (OnSlot (SetOdd j)) found hand v)
     odd_row p j found n hand le odd = let w : ℕ = vref_version found in let more : List SlotMark = at j (Hold w) ∷ at j (Coding w) ∷ at j (Failer w) ∷ at j (Saw (w + 1)) ∷ v.marks in
         let inner : ℕ = cond (eqb n 0) 0 (n + 1) in
         let a = put j (Hold w) (at j (Coding w) ∷ at j (Failer w) ∷ at j (Saw (w + 1)) ∷ v.marks) in let b = put j (Coding w) (at j (Failer w) ∷ at j (Saw (w + 1)) ∷ v.marks) in
@@ -116,7 +116,7 @@ module _ (h : ℕ) where
         (λ far. let q : cond (eqb j i) (cond (eqb (w % 2) 0) inner n) n ≡ n = ap (λ z. cond z (cond (eqb (w % 2) 0) inner n) n) (ne_eqb j i far) in
         split (eqb (w % 2) 0) more (at j (Saw w) ∷ v.marks) (λ es. cond (eqb j i) (cond (eqb (w % 2) 0) inner n) n ≤ sum es) (omega arith) (omega arith))
 
-    add_row : (p : Plan) (id found n : ℕ) (hand : Hand) → n ≤ marks_of f i v → holds_behind i h (AddRef id) found n ≤ marks_of f i (row p (AddRef id) found hand v)
+    add_row : (p : Plan) (id found n : ℕ) (hand : Hand) → n ≤ marks_of f i v → holds_behind i h (OnSlot (AddRef id)) found n ≤ marks_of f i (row p (OnSlot (AddRef id)) found hand v)
     add_row p id found n hand le = let s : ℕ = socket_id_slot id in let w : ℕ = vref_version found in let b : Bool = eqb (vref_version found) (socket_id_version id) in
         let a = put s (cond b (Hold w) Probe) (at s (Saw w) ∷ v.marks) in let c = put s (Saw w) v.marks in
         let d : f (cond b (Hold w) Probe) ≡ cond b (f (Hold w)) 0 = either b w in
@@ -127,15 +127,15 @@ module _ (h : ℕ) where
         either false w = refl
 
     -- the seat holds as many references behind a step as the operation has then
-    pub holds_row : (p : Plan) (call : TableStep) (found n : ℕ) (hand : Hand) → n ≤ marks_of f i v → (call ≡ SetOdd i → 0 < n → vref_version found % 2 ≡ 0 → vref_version found ≡ h)
+    pub holds_row : (p : Plan) (call : TableStep) (found n : ℕ) (hand : Hand) → n ≤ marks_of f i v → (call ≡ OnSlot (SetOdd i) → 0 < n → vref_version found % 2 ≡ 0 → vref_version found ≡ h)
         → holds_behind i h call found n ≤ marks_of f i (row p call found hand v)
-    holds_row p (AddRef id) found n hand le odd = add_row p id found n hand le
-    holds_row p (SetOdd j) found n hand le odd = odd_row p j found n hand le (λ e. odd (ap SetOdd e))
-    holds_row p (SubRef j) found n hand le odd = sub_row j found n (back j found v) le
-    holds_row p (ClaimSlot j) found n hand le odd = let k = row_keeps v p (ClaimSlot j) found hand tt i in omega arith
-    holds_row p (CreateLife j l) found n hand le odd = let k = row_keeps v p (CreateLife j l) found hand tt i in omega arith
-    holds_row p (Recycle j from) found n hand le odd = let k = row_keeps v p (Recycle j from) found hand tt i in omega arith
-    holds_row p (FreeSlot j) found n hand le odd = let k = row_keeps v p (FreeSlot j) found hand tt i in omega arith
-    holds_row p (StoreLink j l) found n hand le odd = let k = row_keeps v p (StoreLink j l) found hand tt i in omega arith
-    holds_row p (LoadLink j w) found n hand le odd = let k = row_keeps v p (LoadLink j w) found hand tt i in omega arith
+    holds_row p (OnSlot (AddRef id)) found n hand le odd = add_row p id found n hand le
+    holds_row p (OnSlot (SetOdd j)) found n hand le odd = odd_row p j found n hand le (λ e. odd (ap OnSlot (SetOdd e)))
+    holds_row p (OnSlot (SubRef j)) found n hand le odd = sub_row j found n (back j found v) le
+    holds_row p (OnSlot (ClaimSlot j)) found n hand le odd = let k = row_keeps v p (OnSlot (ClaimSlot j)) found hand tt i in omega arith
+    holds_row p (OnSlot (CreateLife j l)) found n hand le odd = let k = row_keeps v p (OnSlot (CreateLife j l)) found hand tt i in omega arith
+    holds_row p (OnSlot (Recycle j from)) found n hand le odd = let k = row_keeps v p (OnSlot (Recycle j from)) found hand tt i in omega arith
+    holds_row p (OnSlot (FreeSlot j)) found n hand le odd = let k = row_keeps v p (OnSlot (FreeSlot j)) found hand tt i in omega arith
+    holds_row p (OnSlot (StoreLink j l)) found n hand le odd = let k = row_keeps v p (OnSlot (StoreLink j l)) found hand tt i in omega arith
+    holds_row p (OnSlot (LoadLink j w)) found n hand le odd = let k = row_keeps v p (OnSlot (LoadLink j w)) found hand tt i in omega arith
     holds_row p call found n hand le odd = let k = row_keeps v p call found hand tt i in omega (arith, le, k)

@@ -6,7 +6,7 @@ use native.Mathlib.Decide.{ℕ_discrete}
 use Rattle.sock_words.specs.declared.plain.Plan.{Plan}
 use Rattle.sock_model.specs.declared.view.View.{View}
 use Rattle.sock_model.specs.SocketTableLayout.{name_index, all_words}
-use Rattle.seat_programs.specs.TableSteps.{TableStep, StoreName, LoadName}
+use Rattle.seat_programs.specs.TableSteps.{TableStep, OnName, StoreName, LoadName}
 use Rattle.seat_programs.specs.StepTables.{word_of, word_after}
 use Rattle.seat_programs.specs.Cores.{found_at, words_after}
 use Rattle.seat_programs.specs.StepTables.{May}
@@ -27,11 +27,11 @@ module _ (p : Plan) (v : View) (ws : List ℕ) (sized : length ws ≡ all_words 
 
   -- the word of a name is what was stored for it, and else as it was
   pub name_stays : (call : TableStep) → May p v call → Stays call
-  name_stays (StoreName m w) may = dite (ℕ_discrete m n)
+  name_stays (OnName (StoreName m w)) may = dite (ℕ_discrete m n)
       (λ same. let q = eq-eqb m n same in let here : get_or (set ws (name_index p n) w) (name_index p n) 0 ≡ w = get_or-set_same ws (name_index p n) w 0 (omega (arith, sized)) in
       subst (λ z. get_or (set ws (name_index p z) w) (name_index p n) 0 ≡ cond (eqb m n) w (get_or ws (name_index p n) 0)) (sym same) (here ∙ sym (ap (λ z. cond z w (get_or ws (name_index p n) 0)) q)))
       (λ far. let q = ne_eqb m n far in get_or-set_other ws (name_index p m) (name_index p n) w 0 (λ e. far (omega arith)) ∙ sym (ap (λ z. cond z w (get_or ws (name_index p n) 0)) q))
-  name_stays (LoadName m) may = dite (ℕ_discrete m n)
+  name_stays (OnName (LoadName m)) may = dite (ℕ_discrete m n)
       (λ same. subst (λ z. get_or (set ws (name_index p z) (get_or ws (name_index p z) 0)) (name_index p n) 0 ≡ get_or ws (name_index p n) 0) (sym same) (get_or-set_same ws (name_index p n) (get_or ws (name_index p n) 0) 0 (omega (arith, sized))))
       (λ far. get_or-set_other ws (name_index p m) (name_index p n) (get_or ws (name_index p m) 0) 0 (λ e. far (omega arith)))
   name_stays call may = word_beside ws (all_words p) (name_index p n) (word_of p call) (word_after call (found_at ws (word_of p call))) (λ e. omega arith)

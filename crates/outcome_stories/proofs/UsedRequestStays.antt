@@ -5,7 +5,7 @@ use native.Mathlib.Decide.{ℕ_discrete}
 use Rattle.sock_words.specs.declared.plain.Plan.{Plan}
 use Rattle.sock_model.specs.declared.view.View.{View}
 use Rattle.sock_model.specs.SocketTableLayout.{request_index, all_words}
-use Rattle.seat_programs.specs.TableSteps.{TableStep, ClaimRequest, FreeRequest}
+use Rattle.seat_programs.specs.TableSteps.{TableStep, OnChain, ClaimRequest, FreeRequest}
 use Rattle.seat_programs.specs.StepTables.{word_of, word_after}
 use Rattle.seat_programs.specs.Cores.{found_at, words_after}
 use Rattle.seat_programs.specs.StepTables.{May}
@@ -23,11 +23,11 @@ module _ (p : Plan) (v : View) (ws : List ℕ) (sized : length ws ≡ all_words 
   here w some_ = let a : get_or (set ws (request_index p q) w) (request_index p q) 0 ≡ w = get_or-set_same ws (request_index p q) w 0 (omega (arith, sized)) in omega (arith, some_, a)
 
   pub word_stays : (call : TableStep) → May p v call → Stays call
-  word_stays (ClaimRequest id r) may = dite (ℕ_discrete r q)
-      (λ same. subst (λ z. 0 < get_or (set ws (request_index p z) (word_after (ClaimRequest id z) (get_or ws (request_index p z) 0))) (request_index p q) 0) (sym same)
-      (here (word_after (ClaimRequest id q) (get_or ws (request_index p q) 0)) (split (eqb (get_or ws (request_index p q) 0 % 2) 0) (get_or ws (request_index p q) 0 + 1) (get_or ws (request_index p q) 0) (λ n. 0 < n) (omega arith) used)))
+  word_stays (OnChain (ClaimRequest id r)) may = dite (ℕ_discrete r q)
+      (λ same. subst (λ z. 0 < get_or (set ws (request_index p z) (word_after (OnChain (ClaimRequest id z)) (get_or ws (request_index p z) 0))) (request_index p q) 0) (sym same)
+      (here (word_after (OnChain (ClaimRequest id q)) (get_or ws (request_index p q) 0)) (split (eqb (get_or ws (request_index p q) 0 % 2) 0) (get_or ws (request_index p q) 0 + 1) (get_or ws (request_index p q) 0) (λ n. 0 < n) (omega arith) used)))
       (λ far. else_ (request_index p r) _ (λ e. far (omega arith)))
-  word_stays (FreeRequest r g) may = dite (ℕ_discrete r q)
+  word_stays (OnChain (FreeRequest r g)) may = dite (ℕ_discrete r q)
       (λ same. subst (λ z. 0 < get_or (set ws (request_index p z) (2 * (g + 1))) (request_index p q) 0) (sym same) (here (2 * (g + 1)) (omega arith)))
       (λ far. else_ (request_index p r) _ (λ e. far (omega arith)))
   word_stays call may = subst (λ n. 0 < n) (sym (word_beside ws (all_words p) (request_index p q) (word_of p call) (word_after call (found_at ws (word_of p call))) (λ e. omega arith))) used

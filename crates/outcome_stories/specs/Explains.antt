@@ -14,7 +14,7 @@ use Rattle.sock_model.specs.MarkWeights.{is_hold}
 use Rattle.seat_programs.specs.declared.task.Op.{Op}
 use Rattle.seat_programs.specs.declared.task.Op.TheVariants as ops
 use Rattle.seat_programs.specs.declared.task.Task.{Task}
-use Rattle.seat_programs.specs.TableSteps.{TableStep, ClaimSlot, CreateLife, AddRef, SubRef, SetOdd, Recycle, StoreName, LoadName, LookWord, FindLink, ClaimRequest, PutMessage, Unconnect, SwapHead}
+use Rattle.seat_programs.specs.TableSteps.{TableStep, OnSlot, OnName, OnChain, OnMessage, ClaimSlot, CreateLife, AddRef, SubRef, SetOdd, Recycle, StoreName, LoadName, LookWord, FindLink, ClaimRequest, PutMessage, Unconnect, SwapHead}
 use Rattle.seat_programs.specs.Programs.{Program, Do, Say, Sent, Rest, fail_outcome, TakeMessage, TakeHome, PutHome, PutBytes, AskReady, Write, Aside, Round, Keep, Retries}
 use Rattle.seat_programs.specs.Asides.{Step, Found, PutCall, TakeCall}
 use Rattle.seat_programs.specs.LoopHeads.{Head, Exit, Opens, Decides, Deciding, HasEnded}
@@ -39,9 +39,9 @@ LastHold n P (d ∷ ds) = ((d.task.op ≡ ops.Hold n) × (outcome : Outcome) × 
 
 -- the references to the life h of slot i that an operation has, which had so many before this step
 abbrev pub holds_behind : ℕ → ℕ → TableStep → ℕ → ℕ → ℕ
-holds_behind i h (AddRef id) found n = (if socket_id_slot id == i then (if vref_version found == socket_id_version id then is_hold h (Hold (vref_version found)) else 0) else 0) + n
-holds_behind i h (SetOdd j) found n = if j == i then (if vref_version found % 2 == 0 then (if n == 0 then 0 else n + 1) else n) else n
-holds_behind i h (SubRef j) found n = if j == i then n - 1 else n
+holds_behind i h (OnSlot (AddRef id)) found n = (if socket_id_slot id == i then (if vref_version found == socket_id_version id then is_hold h (Hold (vref_version found)) else 0) else 0) + n
+holds_behind i h (OnSlot (SetOdd j)) found n = if j == i then (if vref_version found % 2 == 0 then (if n == 0 then 0 else n + 1) else n) else n
+holds_behind i h (OnSlot (SubRef j)) found n = if j == i then n - 1 else n
 holds_behind i h other found n = n
 
 abbrev pub holds : ℕ → ℕ → List Entry → ℕ
@@ -50,7 +50,7 @@ holds i h (e ∷ es) = holds_behind i h e.call e.found (holds i h es)
 
 -- it exchanged a head with its ticket
 abbrev pub swaps : TableStep → Bool → Bool
-swaps (SwapHead i own) before = true
+swaps (OnChain (SwapHead i own)) before = true
 swaps other before = before
 
 abbrev pub swapped : List Entry → Bool
@@ -61,16 +61,16 @@ swapped (e ∷ es) = swaps e.call (swapped es)
 
 -- a step that adds no mark that stays, stores no name, and accepts no message
 abbrev pub IsPlain : TableStep → Type 0
-IsPlain (ClaimSlot i) = ⊥
-IsPlain (CreateLife i k) = ⊥
-IsPlain (SetOdd i) = ⊥
-IsPlain (StoreName n w) = ⊥
-IsPlain (SwapHead i own) = ⊥
+IsPlain (OnSlot (ClaimSlot i)) = ⊥
+IsPlain (OnSlot (CreateLife i k)) = ⊥
+IsPlain (OnSlot (SetOdd i)) = ⊥
+IsPlain (OnName (StoreName n w)) = ⊥
+IsPlain (OnChain (SwapHead i own)) = ⊥
 IsPlain other = Unit {0}
 
 -- a `fail` sets the life failed that it has just reached
 abbrev pub FailsLife : Op → List Entry → ℕ → Type 0
-FailsLife op trace i = (n code id found : ℕ) × (op ≡ ops.Fail n code) × (trace ≡ step (AddRef id) found ∷ step (LoadName n) (id + 1) ∷ [])
+FailsLife op trace i = (n code id found : ℕ) × (op ≡ ops.Fail n code) × (trace ≡ step (OnSlot (AddRef id)) found ∷ step (OnName (LoadName n)) (id + 1) ∷ [])
     × (vref_version found ≡ socket_id_version id) × (i ≡ socket_id_slot id)
 
 -- a `send` holds the life of this id, which it found under its name, and found that its link is k
@@ -78,8 +78,8 @@ pub record IsWriterOf (t : Task) (trace : List Entry) (id k : ℕ) : Type 0 wher
   pub name : ℕ
   pub bytes : List ℕ
   pub op : t.op ≡ ops.Send name bytes
-  pub load : In (step (LoadName name) (id + 1)) trace
-  pub link : In (step (FindLink (socket_id_slot id) (socket_id_version id)) k) trace
+  pub load : In (step (OnName (LoadName name)) (id + 1)) trace
+  pub link : In (step (OnSlot (FindLink (socket_id_slot id) (socket_id_version id))) k) trace
   pub holds : 0 < holds (socket_id_slot id) (socket_id_version id) trace
 
 -- and the link answered that it failed
@@ -96,57 +96,57 @@ pub record IsReadied (t : Task) (trace : List Entry) : Type 0 where
   pub words : ℕ × ℕ
   pub found : ℕ
   pub before : List Entry
-  pub trace_is : trace ≡ step (Unconnect request) words.0 ∷ step (PutMessage request (heading_of t.number) bytes) words.1 ∷ step (ClaimRequest id request) found ∷ before
+  pub trace_is : trace ≡ step (OnChain (Unconnect request)) words.0 ∷ step (OnMessage (PutMessage request (heading_of t.number) bytes)) words.1 ∷ step (OnChain (ClaimRequest id request)) found ∷ before
   pub free : found % 2 ≡ 0
-  pub load : In (step (LoadName name) (id + 1)) before
+  pub load : In (step (OnName (LoadName name)) (id + 1)) before
   pub first : swapped before ≡ false
 
 -- the task's operation, which made these steps, may make this one, where these links answered that they failed
 abbrev pub Fits : Task → List ℕ → List Entry → TableStep → Type 0
-Fits t broken trace (CreateLife i k) = (n : ℕ) × (t.op ≡ ops.Open n k)
-Fits t broken trace (SetOdd i) = FailsLife t.op trace i ⊎ FailsLink t broken trace i
-Fits t broken trace (StoreName n w) = (k i found : ℕ) × (t.op ≡ ops.Open n k) × In (step (CreateLife i k) found) trace × (w ≡ socket_id (vref_version found) i + 1)
-Fits t broken trace (LookWord id) = 0 < holds (socket_id_slot id) (socket_id_version id) trace
-Fits t broken trace (SwapHead i own) = IsReadied t trace
+Fits t broken trace (OnSlot (CreateLife i k)) = (n : ℕ) × (t.op ≡ ops.Open n k)
+Fits t broken trace (OnSlot (SetOdd i)) = FailsLife t.op trace i ⊎ FailsLink t broken trace i
+Fits t broken trace (OnName (StoreName n w)) = (k i found : ℕ) × (t.op ≡ ops.Open n k) × In (step (OnSlot (CreateLife i k)) found) trace × (w ≡ socket_id (vref_version found) i + 1)
+Fits t broken trace (OnSlot (LookWord id)) = 0 < holds (socket_id_slot id) (socket_id_version id) trace
+Fits t broken trace (OnChain (SwapHead i own)) = IsReadied t trace
 Fits t broken trace other = Unit {0}
 
 -- ## Outcomes
 
 -- the life of an id that the name had was found to be of another version, or, where it was held, failed
 abbrev pub WasGone : ℕ → List Entry → ℕ → Type 0
-WasGone n trace found = (id : ℕ) × In (step (LoadName n) (id + 1)) trace × In (step (AddRef id) found) trace × (vref_version found ≢ socket_id_version id)
+WasGone n trace found = (id : ℕ) × In (step (OnName (LoadName n)) (id + 1)) trace × In (step (OnSlot (AddRef id)) found) trace × (vref_version found ≢ socket_id_version id)
 
 abbrev pub WasOdd : ℕ → List Entry → ℕ → Type 0
-WasOdd n trace found = (id : ℕ) × In (step (LoadName n) (id + 1)) trace × In (step (LookWord id) found) trace × (vref_version found % 2 ≡ 1)
+WasOdd n trace found = (id : ℕ) × In (step (OnName (LoadName n)) (id + 1)) trace × In (step (OnSlot (LookWord id)) found) trace × (vref_version found % 2 ≡ 1)
 
 -- the operation's own exchange recycled a slot: it found the word that it expected
 abbrev pub WonRecycling : List Entry → Type 0
-WonRecycling trace = (i from : ℕ) × In (step (Recycle i from) from) trace
+WonRecycling trace = (i from : ℕ) × In (step (OnSlot (Recycle i from)) from) trace
 
 -- it gave a reference back, and was not the last at a failed life, or its exchange found another word
 abbrev pub GaveBackOnly : List Entry → Type 0
-GaveBackOnly trace = (i found : ℕ) × In (step (SubRef i) found) trace
-    × ((((vref_version found % 2 ≡ 1) × (vref_nref found ≡ 1)) → ⊥) ⊎ ((other : ℕ) × In (step (Recycle i (found - 1)) other) trace × (other ≢ found - 1)))
+GaveBackOnly trace = (i found : ℕ) × In (step (OnSlot (SubRef i)) found) trace
+    × ((((vref_version found % 2 ≡ 1) × (vref_nref found ≡ 1)) → ⊥) ⊎ ((other : ℕ) × In (step (OnSlot (Recycle i (found - 1))) other) trace × (other ≢ found - 1)))
 
 -- its exchange recycled none
 abbrev pub RecycledNone : List Entry → Type 0
-RecycledNone trace = (i from : ℕ) → In (step (Recycle i from) from) trace → ⊥
+RecycledNone trace = (i from : ℕ) → In (step (OnSlot (Recycle i from)) from) trace → ⊥
 
 -- these steps explain the outcome, behind these tasks, over a table of so many slots and requests
 abbrev pub Because : ℕ → ℕ → List Done → List Entry → Op → Outcome → Type 0
-Because slots requests done trace (ops.Open n k) (Opened i version l) = (l ≡ k) × (found x : ℕ) × In (step (CreateLife i k) found) trace × (version ≡ vref_version found)
-    × In (step (StoreName n (socket_id version i + 1)) x) trace
-Because slots requests done trace (ops.Open n k) SlotsFull = (i : ℕ) → i < slots → (found : ℕ) × In (step (ClaimSlot i) found) trace × (found ≢ 0)
-Because slots requests done trace (ops.Send n bytes) Unopened = In (step (LoadName n) 0) trace
+Because slots requests done trace (ops.Open n k) (Opened i version l) = (l ≡ k) × (found x : ℕ) × In (step (OnSlot (CreateLife i k)) found) trace × (version ≡ vref_version found)
+    × In (step (OnName (StoreName n (socket_id version i + 1))) x) trace
+Because slots requests done trace (ops.Open n k) SlotsFull = (i : ℕ) → i < slots → (found : ℕ) × In (step (OnSlot (ClaimSlot i)) found) trace × (found ≢ 0)
+Because slots requests done trace (ops.Send n bytes) Unopened = In (step (OnName (LoadName n)) 0) trace
 Because slots requests done trace (ops.Send n bytes) (Gone found) = WasGone n trace found.0 ⊎ WasOdd n trace found.0
-Because slots requests done trace (ops.Send n bytes) Full = ((id : ℕ) × In (step (LoadName n) (id + 1)) trace) × ((q : ℕ) → q < requests → (id found : ℕ) × In (step (ClaimRequest id q) found) trace × (found % 2 ≡ 1))
-Because slots requests done trace (ops.Hold n) Unopened = In (step (LoadName n) 0) trace
+Because slots requests done trace (ops.Send n bytes) Full = ((id : ℕ) × In (step (OnName (LoadName n)) (id + 1)) trace) × ((q : ℕ) → q < requests → (id found : ℕ) × In (step (OnChain (ClaimRequest id q)) found) trace × (found % 2 ≡ 1))
+Because slots requests done trace (ops.Hold n) Unopened = In (step (OnName (LoadName n)) 0) trace
 Because slots requests done trace (ops.Hold n) (Gone found) = WasGone n trace found.0
-Because slots requests done trace (ops.Hold n) Held = (id : ℕ) × In (step (LoadName n) (id + 1)) trace
-Because slots requests done trace (ops.Fail n code) Unopened = In (step (LoadName n) 0) trace
+Because slots requests done trace (ops.Hold n) Held = (id : ℕ) × In (step (OnName (LoadName n)) (id + 1)) trace
+Because slots requests done trace (ops.Fail n code) Unopened = In (step (OnName (LoadName n)) 0) trace
 Because slots requests done trace (ops.Fail n code) (Gone found) = WasGone n trace found.0
-Because slots requests done trace (ops.Fail n code) (Already found) = (i : ℕ) × In (step (SetOdd i) found.0) trace × (vref_version found.0 % 2 ≡ 1)
-Because slots requests done trace (ops.Fail n code) Failed = (i found : ℕ) × In (step (SetOdd i) found) trace × (vref_version found % 2 ≡ 0)
+Because slots requests done trace (ops.Fail n code) (Already found) = (i : ℕ) × In (step (OnSlot (SetOdd i)) found.0) trace × (vref_version found.0 % 2 ≡ 1)
+Because slots requests done trace (ops.Fail n code) Failed = (i found : ℕ) × In (step (OnSlot (SetOdd i)) found) trace × (vref_version found % 2 ≡ 0)
 Because slots requests done trace (ops.Drop n) NotHeld = LastHold n (λ outcome. outcome ≢ Held) done
 Because slots requests done trace (ops.Drop n) Freed = LastHold n (λ outcome. outcome ≡ Held) done × WonRecycling trace
 Because slots requests done trace (ops.Drop n) Kept = LastHold n (λ outcome. outcome ≡ Held) done × GaveBackOnly trace × RecycledNone trace
@@ -169,8 +169,8 @@ TellsFail other outcome found = Unit {0}
 -- a step tells the outcome of its operation
 abbrev pub Tells : Op → Option Outcome → Entry → Type 0
 Tells op outcome e = elim e.call as (λ c. Type 0) [
-  | CreateLife i k ↦ outcome ≡ Some (Opened i (vref_version e.found) k)
-  | SetOdd i ↦ TellsFail op outcome e.found
+  | OnSlot (CreateLife i k) ↦ outcome ≡ Some (Opened i (vref_version e.found) k)
+  | OnSlot (SetOdd i) ↦ TellsFail op outcome e.found
   | _ ↦ Unit {0}
 ]
 
@@ -212,7 +212,7 @@ pub data Way : Type 0 where
 
 -- an attempt of a call holds the life of this id, and found that its link is k
 pub record IsAttemptOn (trace : List Entry) (id k : ℕ) : Type 0 where
-  pub link : In (step (FindLink (socket_id_slot id) (socket_id_version id)) k) trace
+  pub link : In (step (OnSlot (FindLink (socket_id_slot id) (socket_id_version id))) k) trace
   pub holds : 0 < holds (socket_id_slot id) (socket_id_version id) trace
 
 -- and the link answered that it failed
@@ -221,10 +221,10 @@ FailsAttempt broken trace i = (id k : ℕ) × IsAttemptOn trace id k × (i ≡ s
 
 -- a seat that gives back what it holds, or closes sockets, makes no life, stores no name and accepts no message
 abbrev pub FitsClosing : TableStep → Type 0
-FitsClosing (ClaimSlot i) = ⊥
-FitsClosing (CreateLife i k) = ⊥
-FitsClosing (StoreName n w) = ⊥
-FitsClosing (SwapHead i own) = ⊥
+FitsClosing (OnSlot (ClaimSlot i)) = ⊥
+FitsClosing (OnSlot (CreateLife i k)) = ⊥
+FitsClosing (OnName (StoreName n w)) = ⊥
+FitsClosing (OnChain (SwapHead i own)) = ⊥
 FitsClosing other = Unit {0}
 
 -- the tasks' operations come behind retries, or an attempt of a call does
@@ -257,17 +257,17 @@ module _ (calls : ℕ → Type 0) where
     pub words : ℕ × ℕ
     pub found : ℕ
     pub before : List Entry
-    pub trace_is : trace ≡ step (Unconnect request) words.0 ∷ step (PutMessage request heading bytes) words.1 ∷ step (ClaimRequest id request) found ∷ before
+    pub trace_is : trace ≡ step (OnChain (Unconnect request)) words.0 ∷ step (OnMessage (PutMessage request heading bytes)) words.1 ∷ step (OnChain (ClaimRequest id request)) found ∷ before
     pub free : found % 2 ≡ 0
     pub parts : heading.parts ≢ []
     pub of_call : calls heading.label.operation
 
   abbrev pub FitsBeside : List ℕ → List Entry → TableStep → Type 0
-  FitsBeside broken trace (ClaimSlot i) = ⊥
-  FitsBeside broken trace (CreateLife i k) = ⊥
-  FitsBeside broken trace (StoreName n w) = ⊥
-  FitsBeside broken trace (SetOdd i) = FailsAttempt broken trace i
-  FitsBeside broken trace (SwapHead i own) = IsCallReadied trace
+  FitsBeside broken trace (OnSlot (ClaimSlot i)) = ⊥
+  FitsBeside broken trace (OnSlot (CreateLife i k)) = ⊥
+  FitsBeside broken trace (OnName (StoreName n w)) = ⊥
+  FitsBeside broken trace (OnSlot (SetOdd i)) = FailsAttempt broken trace i
+  FitsBeside broken trace (OnChain (SwapHead i own)) = IsCallReadied trace
   FitsBeside broken trace other = Unit {0}
 
   -- what goes into the home of a call, and what is found there, is one of these

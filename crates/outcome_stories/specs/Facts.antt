@@ -18,7 +18,7 @@ use Rattle.seat_programs.specs.declared.task.Op.TheVariants as ops
 use Rattle.seat_programs.specs.declared.task.Task.{Task}
 use Rattle.seat_programs.specs.Asides.{PutCall}
 use Rattle.seat_programs.specs.FoundAndChangedAside.{call_at}
-use Rattle.seat_programs.specs.TableSteps.{TableStep, CreateLife}
+use Rattle.seat_programs.specs.TableSteps.{TableStep, OnSlot, CreateLife}
 use Rattle.seat_programs.specs.SlotFreedByDrop.{call_in}
 use Rattle.seat_programs.specs.LoopHeads.{Decides, Unlocks}
 use Rattle.seat_programs.specs.Programs.{Program, Aside, Round}
@@ -35,7 +35,7 @@ use Rattle.outcome_stories.specs.LinkLosses.{closed_at}
 
 -- the link of the life that a step makes
 abbrev pub born_of : Option TableStep → List ℕ
-born_of (Some (CreateLife i k)) = k ∷ []
+born_of (Some (OnSlot (CreateLife i k))) = k ∷ []
 born_of other = []
 
 abbrev pub born_at : Core → Moment → List ℕ

@@ -17,7 +17,7 @@ use Rattle.sock_model.specs.References.{slot_facts}
 use Rattle.sock_model.specs.SlotRows.{marks_of}
 use Rattle.seat_programs.specs.sock_message.specs.Asked.{Asked}
 use Rattle.seat_programs.specs.FoundAndChangedAside.{call_at}
-use Rattle.seat_programs.specs.TableSteps.{ClaimRequest, PutMessage, Unconnect, LoadName, FindLink}
+use Rattle.seat_programs.specs.TableSteps.{OnSlot, OnName, OnChain, OnMessage, ClaimRequest, PutMessage, Unconnect, LoadName, FindLink}
 use Rattle.seat_programs.specs.declared.task.Op.TheVariants as ops
 use Rattle.seat_programs.specs.declared.task.Task.{Task}
 use Rattle.seat_programs.specs.Programs.{Program, Say, Sent, Keep, Retries}
@@ -47,7 +47,7 @@ pub record IsOfTask (es : List Event) (c : ℕ) (t : Task) (e : chain.Entry) : T
   pub name : ℕ
   pub op : t.op ≡ ops.Send name e.bytes
   pub id : ℕ
-  pub load : In (step (LoadName name) (id + 1)) (trace_of c t.number es)
+  pub load : In (step (OnName (LoadName name)) (id + 1)) (trace_of c t.number es)
   pub link : WasGiven es (socket_id_slot id) (socket_id_version id) e.link
 
 -- where the operation exchanged a head, its message is the last of these
@@ -71,11 +71,11 @@ IsFor es id x = WasGiven es (socket_id_slot id) (socket_id_version id) x.link
 
 -- of the steps by which a request is claimed, filled and marked, what the seat's one claim has so far
 pub record AreClaims (es : List Event) (trace : List Entry) (claims : List Claim) : Type 0 where
-  pub new : (x : Claim) (id q found : ℕ) (before : List Entry) → claims ≡ x ∷ [] → trace ≡ step (ClaimRequest id q) found ∷ before → found % 2 ≡ 0 → IsFor es id x
+  pub new : (x : Claim) (id q found : ℕ) (before : List Entry) → claims ≡ x ∷ [] → trace ≡ step (OnChain (ClaimRequest id q)) found ∷ before → found % 2 ≡ 0 → IsFor es id x
   pub filled : (x : Claim) (id q found word : ℕ) (heading : Heading) (bytes : List ℕ) (before : List Entry) → claims ≡ x ∷ []
-      → trace ≡ step (PutMessage q heading bytes) word ∷ step (ClaimRequest id q) found ∷ before → found % 2 ≡ 0 → IsFor es id x × (x.heading ≡ heading) × (x.bytes ≡ bytes)
+      → trace ≡ step (OnMessage (PutMessage q heading bytes)) word ∷ step (OnChain (ClaimRequest id q)) found ∷ before → found % 2 ≡ 0 → IsFor es id x × (x.heading ≡ heading) × (x.bytes ≡ bytes)
   pub marked : (x : Claim) (id q found word next : ℕ) (heading : Heading) (bytes : List ℕ) (before : List Entry) → claims ≡ x ∷ []
-      → trace ≡ step (Unconnect q) next ∷ step (PutMessage q heading bytes) word ∷ step (ClaimRequest id q) found ∷ before → found % 2 ≡ 0 → IsFor es id x × (x.heading ≡ heading) × (x.bytes ≡ bytes)
+      → trace ≡ step (OnChain (Unconnect q)) next ∷ step (OnMessage (PutMessage q heading bytes)) word ∷ step (OnChain (ClaimRequest id q)) found ∷ before → found % 2 ≡ 0 → IsFor es id x × (x.heading ≡ heading) × (x.bytes ≡ bytes)
 
 -- ## Seats
 
@@ -120,7 +120,7 @@ pub record SeatAt (p : Plan) (calls : ℕ → Type 0) (over : Bool) (es : List E
   -- it holds what it took references to
   pub holding : (i h : ℕ) → holds i h trace ≤ marks_of (is_hold h) i v
   -- the links that it found are those with which the lives were made
-  pub linked : (i h k : ℕ) → In (step (FindLink i h) k) trace → WasGiven es i h k
+  pub linked : (i h k : ℕ) → In (step (OnSlot (FindLink i h)) k) trace → WasGiven es i h k
   -- its claim is for its message
   pub claims : AreClaims es trace v.claims
   -- and its accepted messages are those of its tasks, and of calls
@@ -147,7 +147,7 @@ IsReady other = Unit {0}
 -- a request that a step found claimed, its word isn't 0 since
 abbrev pub StaysUsed : Plan → List ℕ → Entry → Type 0
 StaysUsed p ws e = elim e.call as (λ c. Type 0) [
-  | ClaimRequest id q ↦ e.found % 2 ≡ 1 → (q < p.requests) × (0 < slice_index ws (request_index p q))
+  | OnChain (ClaimRequest id q) ↦ e.found % 2 ≡ 1 → (q < p.requests) × (0 < slice_index ws (request_index p q))
   | _ ↦ Unit {0}
 ]
 

@@ -5,14 +5,14 @@ use lib.ListN.{get_elem?}
 use Rattle.sock_words.specs.declared.plain.Plan.{Plan}
 use Rattle.sock_words.specs.PackedWords.{vref_version}
 use Rattle.sock_model.specs.SocketTableLayout.{ref_index, link_index}
-use Rattle.seat_programs.specs.TableSteps.{TableStep, SetOdd}
+use Rattle.seat_programs.specs.TableSteps.{TableStep, OnSlot, SetOdd}
 use Rattle.seat_programs.specs.Cores.{Core}
 use Rattle.seat_programs.specs.Ticks.{Moment, ticked, broken_at}
 use Rattle.seat_programs.specs.SlotFreedByDrop.{call_in}
 
 -- the link of the socket that the step sets failed, where it is live
 abbrev pub lost_of : List ℕ → TableStep → List ℕ
-lost_of ws (SetOdd i) = if vref_version (slice_index ws (ref_index i)) % 2 == 0 then slice_index ws (link_index i) ∷ [] else []
+lost_of ws (OnSlot (SetOdd i)) = if vref_version (slice_index ws (ref_index i)) % 2 == 0 then slice_index ws (link_index i) ∷ [] else []
 lost_of ws other = []
 
 abbrev pub lost_by : List ℕ → Option TableStep → List ℕ

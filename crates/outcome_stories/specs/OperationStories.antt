@@ -3,7 +3,7 @@ use Rattle.std.specs.Prelude.{ℕ, ◌+◌, ◌%◌, ◌==◌, ◌&&◌, ◌⊎�
 use Rattle.sock_words.specs.PackedWords.{vref_version}
 use Rattle.sock_model.specs.declared.marks.Mark.{Mark}
 use Rattle.sock_model.specs.declared.marks.Mark.TheVariants.{Tried, Born, Failer, Linked}
-use Rattle.seat_programs.specs.TableSteps.{TableStep, ClaimSlot, CreateLife, SetOdd, StoreName}
+use Rattle.seat_programs.specs.TableSteps.{TableStep, OnSlot, OnName, ClaimSlot, CreateLife, SetOdd, StoreName}
 use Rattle.seat_programs.specs.declared.task.Task.{Task}
 use Rattle.sock_words.specs.Totals.{total}
 
@@ -40,7 +40,7 @@ trace_now c (t ∷ ts) es = trace_of c t.number es
 
 -- the word that was stored last for name n, or 0
 abbrev pub stored_by : ℕ → TableStep → ℕ → ℕ
-stored_by n (StoreName m w) before = if m == n then w else before
+stored_by n (OnName (StoreName m w)) before = if m == n then w else before
 stored_by n other before = before
 
 abbrev pub last_name : ℕ → List Event → ℕ
@@ -49,9 +49,9 @@ last_name n (e ∷ es) = stored_by n e.entry.call (last_name n es)
 
 -- how much a step adds to the marks of slot j that stay: a slot found taken, a life made, with its link, a life failed
 abbrev pub adds : (Mark → ℕ) → ℕ → TableStep → ℕ → ℕ
-adds f j (ClaimSlot i) found = if i == j then (if found == 0 then 0 else f Tried) else 0
-adds f j (CreateLife i k) found = if i == j then f (Born (vref_version found)) + f (Linked (vref_version found) k) else 0
-adds f j (SetOdd i) found = if i == j then (if vref_version found % 2 == 0 then f (Failer (vref_version found)) else 0) else 0
+adds f j (OnSlot (ClaimSlot i)) found = if i == j then (if found == 0 then 0 else f Tried) else 0
+adds f j (OnSlot (CreateLife i k)) found = if i == j then f (Born (vref_version found)) + f (Linked (vref_version found) k) else 0
+adds f j (OnSlot (SetOdd i)) found = if i == j then (if vref_version found % 2 == 0 then f (Failer (vref_version found)) else 0) else 0
 adds f j other found = 0
 
 abbrev pub added_by : (Mark → ℕ) → ℕ → Event → ℕ

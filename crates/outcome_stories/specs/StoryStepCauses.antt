@@ -3,7 +3,7 @@ use Rattle.std.specs.Prelude.{ℕ, ◌%◌, ◌≡◌, ◌≢◌, ◌<◌, ◌�
 use Rattle.sock_words.specs.declared.plain.Plan.{Plan}
 use Rattle.sock_words.specs.PackedWords.{socket_id_version, socket_id_slot, vref_version}
 use Rattle.sock_model.specs.MarkWeights.{is_failer, is_linked}
-use Rattle.seat_programs.specs.TableSteps.{TableStep, CreateLife, AddRef, SetOdd, LoadName, LookWord, FindLink}
+use Rattle.seat_programs.specs.TableSteps.{TableStep, OnSlot, OnName, CreateLife, AddRef, SetOdd, LoadName, LookWord, FindLink}
 use Rattle.seat_programs.specs.declared.task.Task.{Task}
 use Rattle.outcome_stories.specs.OperationStories.{Entry, Event, In, trace_of, last_name, marked}
 use Rattle.outcome_stories.specs.Explains.{Fits, holds}
@@ -31,17 +31,17 @@ OddAt broken es i h found = (vref_version found % 2 ≡ 0 → vref_version found
 -- what a step found, behind this story and these steps of its operation
 abbrev pub FoundCause : Plan → List ℕ → List Event → List Entry → TableStep → ℕ → Type 0
 -- the word of a name is what was stored there last
-FoundCause p broken es trace (LoadName n) found = found ≡ last_name n es
+FoundCause p broken es trace (OnName (LoadName n)) found = found ≡ last_name n es
 -- a life is made in a slot of the table, with an even version that isn't below the first
-FoundCause p broken es trace (CreateLife i k) found = (i < p.slots) × (vref_version found % 2 ≡ 0) × (p.first ≤ vref_version found)
+FoundCause p broken es trace (OnSlot (CreateLife i k)) found = (i < p.slots) × (vref_version found % 2 ≡ 0) × (p.first ≤ vref_version found)
 -- where the slot has another version, the life was failed
-FoundCause p broken es trace (AddRef id) found = vref_version found ≢ socket_id_version id → WasFailed broken es (socket_id_slot id) (socket_id_version id)
+FoundCause p broken es trace (OnSlot (AddRef id)) found = vref_version found ≢ socket_id_version id → WasFailed broken es (socket_id_slot id) (socket_id_version id)
 -- the life that is held is set failed, or was failed before
-FoundCause p broken es trace (SetOdd i) found = (h : ℕ) → 0 < holds i h trace → OddAt broken es i h found
+FoundCause p broken es trace (OnSlot (SetOdd i)) found = (h : ℕ) → 0 < holds i h trace → OddAt broken es i h found
 -- it is seen live, or was failed before
-FoundCause p broken es trace (LookWord id) found = 0 < holds (socket_id_slot id) (socket_id_version id) trace → vref_version found % 2 ≡ 1 → WasFailed broken es (socket_id_slot id) (socket_id_version id)
+FoundCause p broken es trace (OnSlot (LookWord id)) found = 0 < holds (socket_id_slot id) (socket_id_version id) trace → vref_version found % 2 ≡ 1 → WasFailed broken es (socket_id_slot id) (socket_id_version id)
 -- its link is the one with which it was made
-FoundCause p broken es trace (FindLink i h) found = WasGiven es i h found
+FoundCause p broken es trace (OnSlot (FindLink i h)) found = WasGiven es i h found
 FoundCause p broken es trace other found = Unit {0}
 
 pub record Cause (p : Plan) (clients : List (List Task)) (broken : List ℕ) (es : List Event) (e : Event) : Type 0 where

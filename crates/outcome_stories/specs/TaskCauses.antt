@@ -7,7 +7,7 @@ use Rattle.sock_words.specs.declared.outcome.Outcome.{Outcome}
 use Rattle.sock_words.specs.declared.outcome.Outcome.TheVariants.{Freed, Kept}
 use Rattle.seat_programs.specs.declared.task.Op.{Op}
 use Rattle.seat_programs.specs.declared.task.Op.TheVariants as ops
-use Rattle.seat_programs.specs.TableSteps.{TableStep, SubRef, Recycle}
+use Rattle.seat_programs.specs.TableSteps.{TableStep, OnSlot, SubRef, Recycle}
 use Rattle.brpc_model.specs.Order.{EachBefore}
 use Rattle.seat_programs.specs.declared.task.Task.{Task}
 use Rattle.seat_programs.specs.Explained.{IsTask, Became, Made, IsFail, FoundNone, WasFailed, HasLife, OnSockets, WhyOnSockets}
@@ -79,6 +79,6 @@ pub record ToldTasks (clients : List (List Task)) (outcomes : List (Option Outco
 
 -- each `drop` that was answered `freed` recycled its slot, and each that was answered `kept` gave its reference back and recycled none, in steps of which this holds
 pub record DropsMade (clients : List (List Task)) (outcomes : List (Option Outcome)) (Made : ℕ → ℕ → TableStep → ℕ → Type 0) : Type 0 where
-  pub freed : (i : ℕ) (t : Task) (n : ℕ) → IsTask clients outcomes i t → t.op ≡ ops.Drop n → Became clients outcomes t.number Freed → (slot from : ℕ) × Made i t.number (Recycle slot from) from
-  pub kept : (i : ℕ) (t : Task) (n : ℕ) → IsTask clients outcomes i t → t.op ≡ ops.Drop n → Became clients outcomes t.number Kept → (slot found : ℕ) × Made i t.number (SubRef slot) found
-      × ((((vref_version found % 2 ≡ 1) × (vref_nref found ≡ 1)) → ⊥) ⊎ ((other : ℕ) × Made i t.number (Recycle slot (found - 1)) other × (other ≢ found - 1)))
+  pub freed : (i : ℕ) (t : Task) (n : ℕ) → IsTask clients outcomes i t → t.op ≡ ops.Drop n → Became clients outcomes t.number Freed → (slot from : ℕ) × Made i t.number (OnSlot (Recycle slot from)) from
+  pub kept : (i : ℕ) (t : Task) (n : ℕ) → IsTask clients outcomes i t → t.op ≡ ops.Drop n → Became clients outcomes t.number Kept → (slot found : ℕ) × Made i t.number (OnSlot (SubRef slot)) found
+      × ((((vref_version found % 2 ≡ 1) × (vref_nref found ≡ 1)) → ⊥) ⊎ ((other : ℕ) × Made i t.number (OnSlot (Recycle slot (found - 1))) other × (other ≢ found - 1)))

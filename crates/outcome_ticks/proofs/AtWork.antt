@@ -10,7 +10,7 @@ use Rattle.brpc_model.specs.Order.{EachBefore}
 use Rattle.seat_programs.specs.declared.task.Op.{Op}
 use Rattle.seat_programs.specs.declared.task.Op.TheVariants as ops
 use Rattle.seat_programs.specs.declared.task.Task.{Task}
-use Rattle.seat_programs.specs.TableSteps.{TableStep, LookWord, ReadNext}
+use Rattle.seat_programs.specs.TableSteps.{TableStep, OnSlot, OnChain, LookWord, ReadNext}
 use Rattle.seat_programs.specs.Writings.{Puts, Waits, Empties, Reversing}
 use Rattle.seat_programs.specs.Programs.{Program, Do, Write, Aside, Round}
 use Rattle.seat_programs.specs.corr_core.specs.IdSlotWord.{parts, code_of}
@@ -59,10 +59,10 @@ aside_begins _ next is = tt
 
 call_is : (program : Program) (call : TableStep) (next : ℕ → Program) → IsOwnLoop program → first_step program ≡ Do call next → call_in program ≡ Some call
 call_is (Do c n) call next is e = let q : c ≡ call = cc in ap (λ x. Some x) q
-call_is (Write (Puts h now heading left taken asked) after) call next is e = let q : LookWord h.id ≡ call = cc in ap (λ x. Some x) q
+call_is (Write (Puts h now heading left taken asked) after) call next is e = let q : OnSlot (LookWord h.id) ≡ call = cc in ap (λ x. Some x) q
 call_is (Write (Waits h now heading left taken) after) call next is e = absurd (cc)
 call_is (Write (Empties h) after) call next is e = absurd (cc)
-call_is (Write (Reversing h top at after) then_) call next is e = let q : ReadNext (ticket_request at) ≡ call = cc in ap (λ x. Some x) q
+call_is (Write (Reversing h top at after) then_) call next is e = let q : OnChain (ReadNext (ticket_request at)) ≡ call = cc in ap (λ x. Some x) q
 call_is (Round head n) call next is e = absurd (subst IsAside e (aside_begins head n is))
 call_is _ call next is e = absurd (cc)
 

@@ -8,7 +8,7 @@ use Rattle.seat_programs.specs.sock_io.specs.declared.link.Ready.TheVariants as 
 use Rattle.sock_words.specs.declared.plain.Plan.{Plan}
 use Rattle.seat_programs.specs.declared.task.Task.{Task}
 use Rattle.sock_words.specs.PackedWords.{socket_id_version, socket_id_slot}
-use Rattle.seat_programs.specs.TableSteps.{TableStep, AddRef, SetOdd, LookWord}
+use Rattle.seat_programs.specs.TableSteps.{TableStep, OnSlot, AddRef, SetOdd, LookWord}
 use Rattle.seat_programs.specs.Programs.{Program, Do, Say, Sent, Rest, TakeMessage, TakeHome, PutHome, PutBytes, AskReady, Write, Aside, Round, Keep, Retries}
 use Rattle.outcome_stories.specs.OperationStories.{Entry, Event, trace_of}
 use Rattle.outcome_stories.specs.Explains.{Way, Own, Beside, Closing, Done, Fits, FitsBeside, ExplainsBy, step, broken_put, broken_ready}
@@ -16,8 +16,8 @@ use Rattle.outcome_stories.specs.StoryStepCauses.{WasFailed, FoundCause, Good}
 use Rattle.outcome_ticks.proofs.SendingExplained.{Within}
 
 pub fits_more : (t : Task) (bs more : List ℕ) (trace : List Entry) → Within bs more → (call : TableStep) → Fits t bs trace call → Fits t more trace call
-fits_more t bs more trace w (SetOdd i) (inl f) = inl f
-fits_more t bs more trace w (SetOdd i) (inr f) = inr (f.0, f.1, f.2, f.3, w f.1 f.4)
+fits_more t bs more trace w (OnSlot (SetOdd i)) (inl f) = inl f
+fits_more t bs more trace w (OnSlot (SetOdd i)) (inr f) = inr (f.0, f.1, f.2, f.3, w f.1 f.4)
 fits_more t bs more trace w _ f = f
 
 within_on : (k : ℕ) (bs more : List ℕ) → Within bs more → Within (k ∷ bs) (k ∷ more)
@@ -33,7 +33,7 @@ ready_within k asks.Failed bs more w = within_on k bs more w
 ready_within k _ bs more w = w
 
 pub beside_more : (calls : ℕ → Type 0) (bs more : List ℕ) (trace : List Entry) → Within bs more → (call : TableStep) → FitsBeside calls bs trace call → FitsBeside calls more trace call
-beside_more calls bs more trace w (SetOdd i) f = (f.0, f.1, f.2, f.3, w f.1 f.4)
+beside_more calls bs more trace w (OnSlot (SetOdd i)) f = (f.0, f.1, f.2, f.3, w f.1 f.4)
 beside_more calls bs more trace w _ f = f
 
 module _ (slots requests : ℕ) (calls : ℕ → Type 0) where
@@ -72,9 +72,9 @@ module _ (p : Plan) (clients : List (List Task)) (bs more : List ℕ) (w : Withi
   failed_more es i h (inr f) = inr (f.0, w f.0 f.1, f.2)
 
   pub means_more : (es : List Event) (trace : List Entry) (call : TableStep) (found : ℕ) → FoundCause p bs es trace call found → FoundCause p more es trace call found
-  means_more es trace (AddRef id) found m = λ ne. failed_more es (socket_id_slot id) (socket_id_version id) (m ne)
-  means_more es trace (SetOdd i) found m = λ h held. ((m h held).0, λ odd. failed_more es i h ((m h held).1 odd))
-  means_more es trace (LookWord id) found m = λ held odd. failed_more es (socket_id_slot id) (socket_id_version id) (m held odd)
+  means_more es trace (OnSlot (AddRef id)) found m = λ ne. failed_more es (socket_id_slot id) (socket_id_version id) (m ne)
+  means_more es trace (OnSlot (SetOdd i)) found m = λ h held. ((m h held).0, λ odd. failed_more es i h ((m h held).1 odd))
+  means_more es trace (OnSlot (LookWord id)) found m = λ held odd. failed_more es (socket_id_slot id) (socket_id_version id) (m held odd)
   means_more es trace _ found m = m
 
   pub good_more : (es : List Event) → Good p clients bs es → Good p clients more es

@@ -11,7 +11,7 @@ use Rattle.seat_programs.specs.declared.task.Op.{Op}
 use Rattle.seat_programs.specs.declared.task.Op.TheVariants as ops
 use Rattle.seat_programs.specs.declared.task.Task.{Task}
 use Rattle.seat_programs.specs.declared.task.Sizes.{Sizes}
-use Rattle.seat_programs.specs.TableSteps.{ClaimSlot, AddRef, SubRef, SetOdd, StoreCode, LoadName}
+use Rattle.seat_programs.specs.TableSteps.{OnSlot, OnName, ClaimSlot, AddRef, SubRef, SetOdd, StoreCode, LoadName}
 use Rattle.seat_programs.specs.Programs.{Program, Do, Say, release, open_from, make_socket, set_failed, fail, fail_outcome, hold}
 use Rattle.seat_programs.specs.ClientProgram.{HeldLife, held_under, without_name, give_back, drop_of, operation, client_from}
 use Rattle.seat_programs.specs.Explained.{goes_well, in_hand_behind, alternate}
@@ -85,7 +85,7 @@ module _ (slots requests : ℕ) (calls : ℕ → Type 0) (broken : List ℕ) (do
   Next op next = (outcome : Outcome) → Explains slots requests calls broken (behind op (Some outcome)) [] ts next
 
   open_goes : (name k : ℕ) (next : Program) → Next (ops.Open name k) next
-      → (more i : ℕ) (trace : List Entry) → i + more ≡ slots → ((j : ℕ) → j < i → (found : ℕ) × In (step (ClaimSlot j) found) trace × (found ≢ 0)) → swapped trace ≡ false
+      → (more i : ℕ) (trace : List Entry) → i + more ≡ slots → ((j : ℕ) → j < i → (found : ℕ) × In (step (OnSlot (ClaimSlot j)) found) trace × (found ≢ 0)) → swapped trace ≡ false
       → ((outcome : Option Outcome) → AllByRecursion (Tells (ops.Open name k) outcome) trace)
       → Goes (ops.Open name k) trace (open_from more i number name k next)
   open_goes name k next then_ zero i trace e claims first tells =
@@ -93,7 +93,7 @@ module _ (slots requests : ℕ) (calls : ℕ → Type 0) (broken : List ℕ) (do
   open_goes name k next then_ (suc more) i trace e claims first tells = (
     tt,
     λ found. split_eq found 0 (make_socket number name k i next) (open_from more (i + 1) number name k next)
-        (Goes (ops.Open name k) (step (ClaimSlot i) found ∷ trace))
+        (Goes (ops.Open name k) (step (OnSlot (ClaimSlot i)) found ∷ trace))
         (λ zero_. (
           tt,
           λ a. (
@@ -114,8 +114,8 @@ module _ (slots requests : ℕ) (calls : ℕ → Type 0) (broken : List ℕ) (do
             ),
           ),
         ))
-        (λ some_. open_goes name k next then_ more (i + 1) (step (ClaimSlot i) found ∷ trace) (omega arith)
-        (λ j l. dite (ℕ_discrete j i) (λ same. (found, inl (ap (λ z. step (ClaimSlot z) found) same), some_)) (λ far. let x = claims j (omega arith) in (x.0, inr x.1, x.2)))
+        (λ some_. open_goes name k next then_ more (i + 1) (step (OnSlot (ClaimSlot i)) found ∷ trace) (omega arith)
+        (λ j l. dite (ℕ_discrete j i) (λ same. (found, inl (ap (λ z. step (OnSlot (ClaimSlot z)) found) same), some_)) (λ far. let x = claims j (omega arith) in (x.0, inr x.1, x.2)))
         first (λ o. (tt, tells o))),
   )
 
@@ -125,13 +125,13 @@ module _ (slots requests : ℕ) (calls : ℕ → Type 0) (broken : List ℕ) (do
       (λ found. Say number (Gone (record { 0 = found })) next)
       (inl (refl, (inl refl, refl), (tt, tt), then_ Unopened))
       held
-      (λ id found tr ne grew. inl (refl, ((id, grew.has (step (LoadName name) (id + 1)) (inr (inl refl)), grew.has (step (AddRef id) found) (inl refl), ne), grew.swap), grew.tells (Some (Gone (record { 0 = found }))) (tt, (tt, tt)), then_ (Gone (record { 0 = found }))))
+      (λ id found tr ne grew. inl (refl, ((id, grew.has (step (OnName (LoadName name)) (id + 1)) (inr (inl refl)), grew.has (step (OnSlot (AddRef id)) found) (inl refl), ne), grew.swap), grew.tells (Some (Gone (record { 0 = found }))) (tt, (tt, tt)), then_ (Gone (record { 0 = found }))))
     where
       trace3 : ℕ → ℕ → ℕ → List Entry
-      trace3 id f found = step (SetOdd (socket_id_slot id)) found ∷ step (AddRef id) f ∷ step (LoadName name) (id + 1) ∷ []
+      trace3 id f found = step (OnSlot (SetOdd (socket_id_slot id))) found ∷ step (OnSlot (AddRef id)) f ∷ step (OnName (LoadName name)) (id + 1) ∷ []
 
       says : (id f found : ℕ) (tr : List Entry) → Grew (ops.Fail name code) (trace3 id f found) tr → Goes (ops.Fail name code) tr (Say number (fail_outcome found) next)
-      says id f found tr grew = let at = grew.has (step (SetOdd (socket_id_slot id)) found) (inl refl) in
+      says id f found tr grew = let at = grew.has (step (OnSlot (SetOdd (socket_id_slot id))) found) (inl refl) in
           let P : Outcome → Type 0 = λ o. Because slots requests done tr (ops.Fail name code) o in inl (
             refl,
             (split_eq (vref_version found % 2) 0 Failed (Already (record { 0 = found })) P (λ even. (socket_id_slot id, found, at, even)) (λ odd. (socket_id_slot id, at, omega arith)), grew.swap),
@@ -140,17 +140,17 @@ module _ (slots requests : ℕ) (calls : ℕ → Type 0) (broken : List ℕ) (do
           )
 
       held : (id f : ℕ) → vref_version f ≡ socket_id_version id
-          → Goes (ops.Fail name code) (step (AddRef id) f ∷ step (LoadName name) (id + 1) ∷ []) (set_failed id code (λ found. release (socket_id_slot id) (λ _. Say number (fail_outcome found) next)))
+          → Goes (ops.Fail name code) (step (OnSlot (AddRef id)) f ∷ step (OnName (LoadName name)) (id + 1) ∷ []) (set_failed id code (λ found. release (socket_id_slot id) (λ _. Say number (fail_outcome found) next)))
       held id f e = (
         inl (name, code, id, f, refl, refl, e, refl),
         λ found. let after : Program = release (socket_id_slot id) (λ _. Say number (fail_outcome found) next) in let i : ℕ = socket_id_slot id in let v : ℕ = socket_id_version id in
-            split_eq (vref_version found % 2) 0 (Do (StoreCode i v code) (λ _. Do (SubRef i) (λ _. after))) after (Goes (ops.Fail name code) (trace3 id f found))
+            split_eq (vref_version found % 2) 0 (Do (OnSlot (StoreCode i v code)) (λ _. Do (OnSlot (SubRef i)) (λ _. after))) after (Goes (ops.Fail name code) (trace3 id f found))
             (λ even. (
               tt,
               λ a. (
                 tt,
-                λ b. let one : List Entry = step (StoreCode i v code) a ∷ trace3 id f found in let two : List Entry = step (SubRef i) b ∷ one in
-                    let g = grew_on (ops.Fail name code) (trace3 id f found) one two (mute_grew (ops.Fail name code) (trace3 id f found) (StoreCode i v code) a tt) (mute_grew (ops.Fail name code) one (SubRef i) b tt) in
+                λ b. let one : List Entry = step (OnSlot (StoreCode i v code)) a ∷ trace3 id f found in let two : List Entry = step (OnSlot (SubRef i)) b ∷ one in
+                    let g = grew_on (ops.Fail name code) (trace3 id f found) one two (mute_grew (ops.Fail name code) (trace3 id f found) (OnSlot (StoreCode i v code)) a tt) (mute_grew (ops.Fail name code) one (OnSlot (SubRef i)) b tt) in
                     release_goes slots requests calls broken done (task (ops.Fail name code)) ts two (λ _. Say number (fail_outcome found) next)
                     (λ _ tr more. says id f found tr (grew_on (ops.Fail name code) (trace3 id f found) two tr g more)) i,
               ),
@@ -195,7 +195,7 @@ module _ (slots requests : ℕ) (calls : ℕ → Type 0) (done : List Done) (num
         (λ id found e. inl (refl, ((id, inr (inl refl)), refl), (tt, (tt, tt)), follows (Some Held) broken (held ++ (record { name = name; id = id }) ∷ []) (held_wells name id free)))
         (λ id found tr ne grew. inl (
           refl,
-          ((id, grew.has (step (LoadName name) (id + 1)) (inr (inl refl)), grew.has (step (AddRef id) found) (inl refl), ne), grew.swap),
+          ((id, grew.has (step (OnName (LoadName name)) (id + 1)) (inr (inl refl)), grew.has (step (OnSlot (AddRef id)) found) (inl refl), ne), grew.swap),
           grew.tells (Some (Gone (record { 0 = found }))) (tt, (tt, tt)),
           follows (Some (Gone (record { 0 = found }))) broken held (unheld_wells name (Gone (record { 0 = found })) free (λ q. absurd (cc))),
         ))

@@ -20,7 +20,7 @@ use Rattle.sock_model.specs.LawfulSockets.{Lawful}
 use Rattle.outcome_stories.specs.program_steps.specs.slot_steps.proofs.SlotWeightSums.{total_mono}
 use Rattle.outcome_stories.specs.program_steps.specs.slot_steps.proofs.RuleNumbers.{live_le, life_is, life-in, pair_le}
 use Rattle.outcome_stories.specs.program_steps.specs.sock_steps.proofs.LifeLinkSlotPlaces.{own_count}
-use Rattle.seat_programs.specs.TableSteps.{TableStep, ClaimSlot, CreateLife, AddRef, SetOdd, LoadName, LookWord, FindLink}
+use Rattle.seat_programs.specs.TableSteps.{TableStep, OnSlot, OnName, ClaimSlot, CreateLife, AddRef, SetOdd, LoadName, LookWord, FindLink}
 use Rattle.seat_programs.specs.Cores.{Core, found_at}
 use Rattle.seat_programs.specs.StepTables.{word_of}
 use Rattle.seat_programs.specs.declared.task.Task.{Task}
@@ -66,13 +66,13 @@ module _ (p : Plan) (clients : List (List Task)) (c : Core) (vs : List View) (la
 
   -- a step of seat i means what it found
   pub means_of : (trace : List Entry) → ((j h : ℕ) → holds j h trace ≤ marks_of (is_hold h) j v) → (call : TableStep) → May p v call → FoundCause p broken es trace call (found_at c.words (word_of p call))
-  means_of trace hold (LoadName n) may = story.named n may
-  means_of trace hold (CreateLife j k) may = let o = law j may.0 in let a = own_count (state c vs) i v here is_busy j in let b : marks_of (is_stage 3 k) j v ≤ marks_of is_busy j v = total_mono (is_stage 3 k) is_busy (stage_busy 3 k) (about j v.marks) in
+  means_of trace hold (OnName (LoadName n)) may = story.named n may
+  means_of trace hold (OnSlot (CreateLife j k)) may = let o = law j may.0 in let a = own_count (state c vs) i v here is_busy j in let b : marks_of (is_stage 3 k) j v ≤ marks_of is_busy j v = total_mono (is_stage 3 k) is_busy (stage_busy 3 k) (about j v.marks) in
       let s = may.1 in (may.0, o.busy_even (omega arith), o.begun)
-  means_of trace hold (AddRef id) may = λ ne. known_failed (socket_id_slot id) (socket_id_version id) may.0.0 may.0.1 ne
-  means_of trace hold (SetOdd j) may = λ h held. let le = hold j h in odd_failed j h may.0 (omega (arith, le, held)) (found_at c.words (word_of p (SetOdd j))) refl
-  means_of trace hold (LookWord id) may = λ held odd. let le = hold (socket_id_slot id) (socket_id_version id) in
-      (odd_failed (socket_id_slot id) (socket_id_version id) may.0 (omega (arith, le, held)) (found_at c.words (word_of p (LookWord id))) refl).1 odd
-  means_of trace hold (FindLink j h) may = held_given j h may.0 may.1
-  means_of trace hold (ClaimSlot j) may = tt
+  means_of trace hold (OnSlot (AddRef id)) may = λ ne. known_failed (socket_id_slot id) (socket_id_version id) may.0.0 may.0.1 ne
+  means_of trace hold (OnSlot (SetOdd j)) may = λ h held. let le = hold j h in odd_failed j h may.0 (omega (arith, le, held)) (found_at c.words (word_of p (OnSlot (SetOdd j)))) refl
+  means_of trace hold (OnSlot (LookWord id)) may = λ held odd. let le = hold (socket_id_slot id) (socket_id_version id) in
+      (odd_failed (socket_id_slot id) (socket_id_version id) may.0 (omega (arith, le, held)) (found_at c.words (word_of p (OnSlot (LookWord id)))) refl).1 odd
+  means_of trace hold (OnSlot (FindLink j h)) may = held_given j h may.0 may.1
+  means_of trace hold (OnSlot (ClaimSlot j)) may = tt
   means_of trace hold _ may = tt

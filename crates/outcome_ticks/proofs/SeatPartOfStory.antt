@@ -12,7 +12,7 @@ use Rattle.sock_model.specs.declared.view.View.{View}
 use Rattle.sock_model.specs.MarkWeights.{is_hold, is_linked}
 use Rattle.sock_model.specs.SlotRows.{marks_of}
 use Rattle.seat_programs.specs.declared.task.Task.{Task}
-use Rattle.seat_programs.specs.TableSteps.{TableStep, FindLink}
+use Rattle.seat_programs.specs.TableSteps.{TableStep, OnSlot, FindLink}
 use Rattle.seat_programs.specs.Programs.{Program, Do, Say, Sent, Rest, TakeMessage, TakeHome, PutHome, PutBytes, AskReady, Write, Aside, Round, Keep, Retries}
 use Rattle.seat_programs.specs.LoopHeads.{Retry}
 use Rattle.seat_programs.specs.CallAndRetryPrograms.{retry}
@@ -325,7 +325,7 @@ module _ (p : Plan) (calls : ℕ → Type 0) (over : Bool) (es : List Event) (br
   seat_closes todo s lists = keeps s.became s.unsaid (explains_more p.slots p.requests calls Closing (next found) broken more done trace todo within (s.explains.1 found)) (nothing_held s.traced.0) (none_claimed s.traced.0) lists s
 
   -- beside the tasks
-  pub seat_beside : (todo : List Task) → SeatAt p calls over es broken os c tasks Beside trace done todo (Do call next) v → ((i h : ℕ) → holds i h (step call found ∷ trace) ≤ marks_of (is_hold h) i w) → ((i h : ℕ) → call ≡ FindLink i h → WasGiven es i h found)
+  pub seat_beside : (todo : List Task) → SeatAt p calls over es broken os c tasks Beside trace done todo (Do call next) v → ((i h : ℕ) → holds i h (step call found ∷ trace) ≤ marks_of (is_hold h) i w) → ((i h : ℕ) → call ≡ OnSlot (FindLink i h) → WasGiven es i h found)
       → AreClaims es (step call found ∷ trace) w.claims → (made : List chain.Entry) → w.lists ≡ made ∷ [] → AreMadeNow es c done todo (of_sends made) → AllByRecursion (IsOfCall calls) made
       → SeatAt p calls over es broken os c tasks Beside (step call found ∷ trace) done todo (next found) w
   seat_beside todo s holding given claims made lists are of_calls = record {
@@ -339,7 +339,7 @@ module _ (p : Plan) (calls : ℕ → Type 0) (over : Bool) (es : List Event) (br
     past = s.past;
     explains = s.explains.1 found;
     holding = holding;
-    linked = λ i h k m. ⊎_elim (λ e. let calls_ : FindLink i h ≡ call = ap (λ (x : Entry). x.call) e in let words : k ≡ found = ap (λ (x : Entry). x.found) e in subst (WasGiven es i h) (sym words) (given i h (sym calls_))) (λ m. s.linked i h k m) m;
+    linked = λ i h k m. ⊎_elim (λ e. let calls_ : OnSlot (FindLink i h) ≡ call = ap (λ (x : Entry). x.call) e in let words : k ≡ found = ap (λ (x : Entry). x.found) e in subst (WasGiven es i h) (sym words) (given i h (sym calls_))) (λ m. s.linked i h k m) m;
     claims = claims;
     made = made;
     lists = lists;
@@ -357,7 +357,7 @@ module _ (p : Plan) (calls : ℕ → Type 0) (over : Bool) (es : List Event) (br
         all_of (λ (x : Done). trace_of c x.task.number (this_event ∷ es) ≡ trace_of c x.task.number es) done
         (λ x m. trace_number c x.task.number this_event es (λ q. let a = (all_in (λ (z : Done). AllByRecursion (Less z.task) (t ∷ ts)) done x before m).0 in omega arith))
 
-    pub seat_step : ((i h : ℕ) → holds i h (step call found ∷ trace) ≤ marks_of (is_hold h) i w) → ((i h : ℕ) → call ≡ FindLink i h → WasGiven es i h found) → AreClaims (this_event ∷ es) (step call found ∷ trace) w.claims
+    pub seat_step : ((i h : ℕ) → holds i h (step call found ∷ trace) ≤ marks_of (is_hold h) i w) → ((i h : ℕ) → call ≡ OnSlot (FindLink i h) → WasGiven es i h found) → AreClaims (this_event ∷ es) (step call found ∷ trace) w.claims
         → (made : List chain.Entry) → w.lists ≡ made ∷ [] → (before : List chain.Entry) → EndsIn (this_event ∷ es) c t before (of_sends made) (swapped (step call found ∷ trace)) → AreMade es c done before → AllByRecursion (IsOfCall calls) made
         → SeatAt p calls over (this_event ∷ es) broken os c tasks Own (step call found ∷ trace) done (t ∷ ts) (next found) w
     seat_step holding given claims made lists before ends are of_calls = let sorted : EachBefore Less (undo done (t ∷ ts)) = subst (EachBefore Less) s.all order in let later = (undo_todo Less done (t ∷ ts) sorted).0 in
@@ -372,7 +372,7 @@ module _ (p : Plan) (calls : ℕ → Type 0) (over : Bool) (es : List Event) (br
           past = λ y m p. ⊎_elim (λ q. let n : y.number ≡ t.number = ap (λ (z : Event). z.number) q in (omega arith, all_of (λ (u : Task). y.number ≤ u.number) ts (λ u k. let a = all_in (Less t) ts u later k in omega arith))) (λ m. s.past y m p) m;
           explains = s.explains.1 found;
           holding = holding;
-          linked = λ i h k m. given_more this_event es i h k (⊎_elim (λ e. let calls_ : FindLink i h ≡ call = ap (λ (x : Entry). x.call) e in let words : k ≡ found = ap (λ (x : Entry). x.found) e in subst (WasGiven es i h) (sym words) (given i h (sym calls_))) (λ m. s.linked i h k m) m);
+          linked = λ i h k m. given_more this_event es i h k (⊎_elim (λ e. let calls_ : OnSlot (FindLink i h) ≡ call = ap (λ (x : Entry). x.call) e in let words : k ≡ found = ap (λ (x : Entry). x.found) e in subst (WasGiven es i h) (sym words) (given i h (sym calls_))) (λ m. s.linked i h k m) m);
           claims = claims;
           made = made;
           lists = lists;

@@ -11,7 +11,7 @@ use Rattle.sock_model.specs.declared.chain.Heading.{Heading}
 use Rattle.sock_model.specs.Entries.{ticket_of}
 use Rattle.seat_programs.specs.declared.task.Op.TheVariants as ops
 use Rattle.seat_programs.specs.declared.task.Task.{Task}
-use Rattle.seat_programs.specs.TableSteps.{TableStep, AddRef, SetOdd, LoadName, LookWord, FindLink, ClaimRequest, PutMessage, Unconnect, SwapHead, Connect, CreateLife, StoreName}
+use Rattle.seat_programs.specs.TableSteps.{TableStep, OnSlot, OnName, OnChain, OnMessage, AddRef, SetOdd, LoadName, LookWord, FindLink, ClaimRequest, PutMessage, Unconnect, SwapHead, Connect, CreateLife, StoreName}
 use Rattle.seat_programs.specs.Writings.{Holder, Writing, Puts}
 use Rattle.seat_programs.specs.Programs.{Program, Do, Say, Sent, Write, release}
 use Rattle.seat_programs.specs.SendAndWritePrograms.{block, first_put, write_link, heading_of, accept, claim_from, start, send}
@@ -47,21 +47,21 @@ module _ (slots requests : ℕ) (calls : ℕ → Type 0) (done : List Done) (t :
     }
       where
         mute : (c : TableStep) → IsStep id k bs c → Grew t.op tr (step c found ∷ tr)
-        mute (CreateLife i l) its = absurd its
-        mute (SwapHead i own) its = absurd its
+        mute (OnSlot (CreateLife i l)) its = absurd its
+        mute (OnChain (SwapHead i own)) its = absurd its
         -- a step that sets the life failed tells nothing of a `send`
-        mute (SetOdd i) its = record { has = λ x m. inr m; swap = refl; tells = λ o all. (subst (λ z. TellsFail z o found) (sym a.writer.op) tt, all) }
+        mute (OnSlot (SetOdd i)) its = record { has = λ x m. inr m; swap = refl; tells = λ o all. (subst (λ z. TellsFail z o found) (sym a.writer.op) tt, all) }
         mute c its = mute_grew t.op tr c found tt
 
     does : (id k : ℕ) (bs : List ℕ) (tr : List Entry) (call : TableStep) (next : ℕ → Program) → IsStep id k bs call → IsAt id k bs tr → ((found : ℕ) → Goes bs (step call found ∷ tr) (next found)) → Goes bs tr (Do call next)
     does id k bs tr call next its a goes = (fits call its, goes)
       where
         fits : (c : TableStep) → IsStep id k bs c → Fits t bs tr c
-        fits (CreateLife i l) its = absurd its
-        fits (StoreName n w) its = absurd its
-        fits (SwapHead i own) its = absurd its
-        fits (SetOdd i) its = inr (id, k, a.writer, its.0, its.1)
-        fits (LookWord x) its = subst (λ y. 0 < holds (socket_id_slot y) (socket_id_version y) tr) (sym its) a.writer.holds
+        fits (OnSlot (CreateLife i l)) its = absurd its
+        fits (OnName (StoreName n w)) its = absurd its
+        fits (OnChain (SwapHead i own)) its = absurd its
+        fits (OnSlot (SetOdd i)) its = inr (id, k, a.writer, its.0, its.1)
+        fits (OnSlot (LookWord x)) its = subst (λ y. 0 < holds (socket_id_slot y) (socket_id_version y) tr) (sym its) a.writer.holds
         fits _ its = tt
 
     writes : Writes slots requests calls Own done (t ∷ ts) IsAt after
@@ -106,24 +106,24 @@ module _ (slots requests : ℕ) (calls : ℕ → Type 0) (done : List Done) (t :
 
     -- the operation holds the life of the id that it found, and sent nothing yet
     record IsHere (id : ℕ) (tr : List Entry) : Type 0 where
-      pub load : In (step (LoadName name) (id + 1)) tr
+      pub load : In (step (OnName (LoadName name)) (id + 1)) tr
       pub held : 0 < holds (socket_id_slot id) (socket_id_version id) tr
       pub first : swapped tr ≡ false
       pub tells : (outcome : Option Outcome) → AllByRecursion (Tells t.op outcome) tr
 
     accept_goes : Follows → (id q found : ℕ) (broken : List ℕ) (tr : List Entry) → IsHere id tr → found % 2 ≡ 0
-        → Goes broken (step (ClaimRequest id q) found ∷ tr) (accept id q (found / 2) (heading_of t.number) bytes (release (socket_id_slot id) (λ _. Sent t.number next)))
+        → Goes broken (step (OnChain (ClaimRequest id q)) found ∷ tr) (accept id q (found / 2) (heading_of t.number) bytes (release (socket_id_slot id) (λ _. Sent t.number next)))
     accept_goes follows id q found broken tr a free = let own : ℕ = ticket_of q (found / 2) in let i : ℕ = socket_id_slot id in let v : ℕ = socket_id_version id in let after : Program = release i (λ _. Sent t.number next) in (
       tt,
       λ x. (
         tt,
-        λ y. let ready : List Entry = step (Unconnect q) y ∷ step (PutMessage q (heading_of t.number) bytes) x ∷ step (ClaimRequest id q) found ∷ tr in (
+        λ y. let ready : List Entry = step (OnChain (Unconnect q)) y ∷ step (OnMessage (PutMessage q (heading_of t.number) bytes)) x ∷ step (OnChain (ClaimRequest id q)) found ∷ tr in (
           record { name = name; bytes = bytes; op = op; id = id; request = q; words = (y, x); found = found; before = tr; trace_is = refl; free = free; load = a.load; first = a.first },
-          λ head. let now : List Entry = step (SwapHead i own) head ∷ ready in
-              split (nat_lt head IDLE) (Do (Connect q head) (λ _. after)) (write_link id q own after) (Goes broken now)
-              (tt, λ z. accepted_goes follows id broken (step (Connect q head) z ∷ now) refl (tt, (tt, (tt, (tt, (tt, a.tells None)))))) (
+          λ head. let now : List Entry = step (OnChain (SwapHead i own)) head ∷ ready in
+              split (nat_lt head IDLE) (Do (OnChain (Connect q head)) (λ _. after)) (write_link id q own after) (Goes broken now)
+              (tt, λ z. accepted_goes follows id broken (step (OnChain (Connect q head)) z ∷ now) refl (tt, (tt, (tt, (tt, (tt, a.tells None)))))) (
                 tt,
-                λ k places heading message. let wrote : List Entry = step (FindLink i v) k ∷ now in first_sent broken wrote (record { id = id; link = k; last = own; places = places }) own heading message after (
+                λ k places heading message. let wrote : List Entry = step (OnSlot (FindLink i v)) k ∷ now in first_sent broken wrote (record { id = id; link = k; last = own; places = places }) own heading message after (
                   record { name = name; bytes = bytes; op = op; load = inr (inr (inr (inr (inr a.load)))); link = inl refl; holds = a.held },
                   λ longer others g within. accepted_goes follows id others longer (g.swap) (g.tells None (tt, (tt, (tt, (tt, (tt, a.tells None)))))),
                 ),
@@ -138,39 +138,39 @@ module _ (slots requests : ℕ) (calls : ℕ → Type 0) (done : List Done) (t :
         record { load = inr a.load; held = subst (λ n. 0 < n) (sym same) a.held; first = g.swap ∙ a.first; tells = λ o. g.tells o (a.tells o) }
 
     abbrev WereTaken : ℕ → List Entry → Type 0
-    WereTaken q tr = (j : ℕ) → j < q → (id found : ℕ) × In (step (ClaimRequest id j) found) tr × (found % 2 ≡ 1)
+    WereTaken q tr = (j : ℕ) → j < q → (id found : ℕ) × In (step (OnChain (ClaimRequest id j)) found) tr × (found % 2 ≡ 1)
 
     claim_goes : Follows → (more q id : ℕ) (broken : List ℕ) (tr : List Entry) → q + more ≡ requests → IsHere id tr → WereTaken q tr → Goes broken tr (claim_from more q t.number id bytes next)
     claim_goes follows zero q id broken tr e a taken = release_goes slots requests calls broken done t ts tr (λ _. Say t.number Full next)
         (λ b longer g. says follows broken longer Full
-        (((id, g.has (step (LoadName name) (id + 1)) a.load), λ j l. let x = taken j (omega arith) in (x.0, x.1, g.has (step (ClaimRequest x.0 j) x.1) x.2, x.3)), g.swap ∙ a.first) (g.tells (Some Full) (a.tells (Some Full)))) (socket_id_slot id)
+        (((id, g.has (step (OnName (LoadName name)) (id + 1)) a.load), λ j l. let x = taken j (omega arith) in (x.0, x.1, g.has (step (OnChain (ClaimRequest x.0 j)) x.1) x.2, x.3)), g.swap ∙ a.first) (g.tells (Some Full) (a.tells (Some Full)))) (socket_id_slot id)
     claim_goes follows (suc more) q id broken tr e a taken = (
       tt,
-      λ found. let one : List Entry = step (ClaimRequest id q) found ∷ tr in
+      λ found. let one : List Entry = step (OnChain (ClaimRequest id q)) found ∷ tr in
           split_eq (found % 2) 0 (accept id q (found / 2) (heading_of t.number) bytes (release (socket_id_slot id) (λ _. Sent t.number next))) (claim_from more (q + 1) t.number id bytes next) (Goes broken one)
           (λ free. accept_goes follows id q found broken tr a free)
-          (λ odd. claim_goes follows more (q + 1) id broken one (omega arith) (mute_here id tr (ClaimRequest id q) found tt refl a)
-          (λ j l. dite (ℕ_discrete j q) (λ same. (id, found, inl (ap (λ z. step (ClaimRequest id z) found) same), omega arith)) (λ far. let x = taken j (omega arith) in (x.0, x.1, inr x.2, x.3)))),
+          (λ odd. claim_goes follows more (q + 1) id broken one (omega arith) (mute_here id tr (OnChain (ClaimRequest id q)) found tt refl a)
+          (λ j l. dite (ℕ_discrete j q) (λ same. (id, found, inl (ap (λ z. step (OnChain (ClaimRequest id z)) found) same), omega arith)) (λ far. let x = taken j (omega arith) in (x.0, x.1, inr x.2, x.3)))),
     )
 
-    start_goes : Follows → (id found : ℕ) (broken : List ℕ) → vref_version found ≡ socket_id_version id → Goes broken (step (AddRef id) found ∷ step (LoadName name) (id + 1) ∷ []) (start requests t.number id bytes next)
-    start_goes follows id found broken e = let tr : List Entry = step (AddRef id) found ∷ step (LoadName name) (id + 1) ∷ [] in
+    start_goes : Follows → (id found : ℕ) (broken : List ℕ) → vref_version found ≡ socket_id_version id → Goes broken (step (OnSlot (AddRef id)) found ∷ step (OnName (LoadName name)) (id + 1) ∷ []) (start requests t.number id bytes next)
+    start_goes follows id found broken e = let tr : List Entry = step (OnSlot (AddRef id)) found ∷ step (OnName (LoadName name)) (id + 1) ∷ [] in
         let count : holds (socket_id_slot id) (socket_id_version id) tr ≡ 1 + 0 = add_holds id found 0 e in
         let a : IsHere id tr = record { load = inr (inl refl); held = omega (arith, count); first = refl; tells = λ o. (tt, (tt, tt)) } in (
           a.held,
-          λ word. let one : List Entry = step (LookWord id) word ∷ tr in
+          λ word. let one : List Entry = step (OnSlot (LookWord id)) word ∷ tr in
               split_eq (vref_version word % 2) 0 (claim_from requests 0 t.number id bytes next) (release (socket_id_slot id) (λ _. Say t.number (Gone (record { 0 = word })) next)) (Goes broken one)
-              (λ even. claim_goes follows requests 0 id broken one (omega arith) (mute_here id tr (LookWord id) word tt refl a) (λ j l. absurd (omega arith)))
+              (λ even. claim_goes follows requests 0 id broken one (omega arith) (mute_here id tr (OnSlot (LookWord id)) word tt refl a) (λ j l. absurd (omega arith)))
               (λ odd. release_goes slots requests calls broken done t ts one (λ _. Say t.number (Gone (record { 0 = word })) next)
               (λ b longer g. says follows broken longer (Gone (record { 0 = word }))
-              (inr (id, g.has (step (LoadName name) (id + 1)) (inr (inr (inl refl))), g.has (step (LookWord id) word) (inl refl), omega arith), g.swap) (g.tells (Some (Gone (record { 0 = word }))) (tt, (tt, (tt, tt)))))
+              (inr (id, g.has (step (OnName (LoadName name)) (id + 1)) (inr (inr (inl refl))), g.has (step (OnSlot (LookWord id)) word) (inl refl), omega arith), g.swap) (g.tells (Some (Gone (record { 0 = word }))) (tt, (tt, (tt, tt)))))
               (socket_id_slot id)),
         )
 
     -- a `send` explains its outcome
     pub send_goes : Follows → (broken : List ℕ) → Goes broken [] (send requests t.number name bytes next)
     send_goes follows broken = reach_goes slots requests calls broken done t ts name (Say t.number Unopened next) (λ id. start requests t.number id bytes next) (λ found. Say t.number (Gone (record { 0 = found })) next)
-        (says follows broken (step (LoadName name) 0 ∷ []) Unopened (inl refl, refl) (tt, tt))
+        (says follows broken (step (OnName (LoadName name)) 0 ∷ []) Unopened (inl refl, refl) (tt, tt))
         (λ id found e. start_goes follows id found broken e)
         (λ id found tr ne g. says follows broken tr (Gone (record { 0 = found }))
-        (inl (id, g.has (step (LoadName name) (id + 1)) (inr (inl refl)), g.has (step (AddRef id) found) (inl refl), ne), g.swap) (g.tells (Some (Gone (record { 0 = found }))) (tt, (tt, tt))))
+        (inl (id, g.has (step (OnName (LoadName name)) (id + 1)) (inr (inl refl)), g.has (step (OnSlot (AddRef id)) found) (inl refl), ne), g.swap) (g.tells (Some (Gone (record { 0 = found }))) (tt, (tt, tt))))

@@ -10,7 +10,7 @@ use Rattle.sock_model.specs.declared.chain.Heading.{Heading}
 use Rattle.sock_model.specs.Entries.{ticket_of}
 use Rattle.seat_programs.specs.sock_message.specs.Asked.{Asked, name_of, frame_of}
 use Rattle.seat_programs.specs.declared.task.Task.{Task}
-use Rattle.seat_programs.specs.TableSteps.{TableStep, LoadName, AddRef, SubRef, SetOdd, LookWord, FindLink, LoadLink, TakeLink, FinishLink, PutLink, FreeSlot, ClaimRequest, PutMessage, Unconnect, SwapHead, Connect, ClaimSlot, CreateLife, StoreName}
+use Rattle.seat_programs.specs.TableSteps.{TableStep, OnSlot, OnName, OnChain, OnLink, OnMessage, LoadName, AddRef, SubRef, SetOdd, LookWord, FindLink, LoadLink, TakeLink, FinishLink, PutLink, FreeSlot, ClaimRequest, PutMessage, Unconnect, SwapHead, Connect, ClaimSlot, CreateLife, StoreName}
 use Rattle.seat_programs.specs.Asides.{StoreAt}
 use Rattle.seat_programs.specs.LoopHeads.{Joins, Posting, Unlocking, IsOpen, HasNext, Locking, NotThere}
 use Rattle.seat_programs.specs.LoopHeads.{Has as HasLock}
@@ -40,8 +40,8 @@ module _ (slots requests : ℕ) (calls : ℕ → Type 0) (done : List Done) (tod
   recycle_goes : (broken : List ℕ) (trace : List Entry) (next : Bool → Program) → ((b : Bool) (tr : List Entry) → Goes broken tr (next b)) → (i from : ℕ) → Goes broken trace (recycle i from next)
   recycle_goes broken trace next k i from = (
     tt,
-    λ found. split (eqb found from) (Do (LoadLink i (vref_version from + 1)) (λ l. Do (TakeLink l) (λ _. Do (FinishLink l) (λ _. Do (PutLink l) (λ _. if nat_le (vref_version from + 1) LAST_VERSION then Do (FreeSlot i) (λ _. next true) else next true))))) (next false)
-        (Goes broken (step (Rattle.seat_programs.specs.TableSteps.Recycle i from) found ∷ trace)) (
+    λ found. split (eqb found from) (Do (OnSlot (LoadLink i (vref_version from + 1))) (λ l. Do (OnLink (TakeLink l)) (λ _. Do (OnLink (FinishLink l)) (λ _. Do (OnLink (PutLink l)) (λ _. if nat_le (vref_version from + 1) LAST_VERSION then Do (OnSlot (FreeSlot i)) (λ _. next true) else next true))))) (next false)
+        (Goes broken (step (Rattle.seat_programs.specs.TableSteps.OnSlot (Rattle.seat_programs.specs.TableSteps.Recycle i from)) found ∷ trace)) (
           tt,
           λ l. (
             tt,
@@ -49,7 +49,7 @@ module _ (slots requests : ℕ) (calls : ℕ → Type 0) (done : List Done) (tod
               tt,
               λ b. (
                 tt,
-                λ c. split (nat_le (vref_version from + 1) LAST_VERSION) (Do (FreeSlot i) (λ _. next true)) (next true) (Goes broken (step (PutLink l) c ∷ step (FinishLink l) b ∷ step (TakeLink l) a ∷ step (LoadLink i (vref_version from + 1)) l ∷ step (Rattle.seat_programs.specs.TableSteps.Recycle i from) found ∷ trace))
+                λ c. split (nat_le (vref_version from + 1) LAST_VERSION) (Do (OnSlot (FreeSlot i)) (λ _. next true)) (next true) (Goes broken (step (OnLink (PutLink l)) c ∷ step (OnLink (FinishLink l)) b ∷ step (OnLink (TakeLink l)) a ∷ step (OnSlot (LoadLink i (vref_version from + 1))) l ∷ step (Rattle.seat_programs.specs.TableSteps.OnSlot (Rattle.seat_programs.specs.TableSteps.Recycle i from)) found ∷ trace))
                     (tt, λ d. k true _) (k true _),
               ),
             ),
@@ -61,8 +61,8 @@ module _ (slots requests : ℕ) (calls : ℕ → Type 0) (done : List Done) (tod
   pub release_goes : (broken : List ℕ) (trace : List Entry) (next : Bool → Program) → ((b : Bool) (tr : List Entry) → Goes broken tr (next b)) → (i : ℕ) → Goes broken trace (release i next)
   release_goes broken trace next k i = (
     tt,
-    λ found. split ((eqb (vref_version found % 2) 1) && (eqb (vref_nref found) 1)) (recycle i (found - 1) next) (next false) (Goes broken (step (SubRef i) found ∷ trace))
-        (recycle_goes broken (step (SubRef i) found ∷ trace) next k i (found - 1)) (k false (step (SubRef i) found ∷ trace)),
+    λ found. split ((eqb (vref_version found % 2) 1) && (eqb (vref_nref found) 1)) (recycle i (found - 1) next) (next false) (Goes broken (step (OnSlot (SubRef i)) found ∷ trace))
+        (recycle_goes broken (step (OnSlot (SubRef i)) found ∷ trace) next k i (found - 1)) (k false (step (OnSlot (SubRef i)) found ∷ trace)),
   )
 
   -- ## Writing
@@ -77,11 +77,11 @@ module _ (slots requests : ℕ) (calls : ℕ → Type 0) (done : List Done) (tod
     does id k bs tr call next its a goes = (fits call its, goes)
       where
         fits : (c : TableStep) → IsStep id k bs c → FitsBeside calls bs tr c
-        fits (ClaimSlot i) its = absurd its
-        fits (CreateLife i l) its = absurd its
-        fits (StoreName n w) its = absurd its
-        fits (SwapHead i own) its = absurd its
-        fits (SetOdd i) its = (id, k, a.on, its.0, its.1)
+        fits (OnSlot (ClaimSlot i)) its = absurd its
+        fits (OnSlot (CreateLife i l)) its = absurd its
+        fits (OnName (StoreName n w)) its = absurd its
+        fits (OnChain (SwapHead i own)) its = absurd its
+        fits (OnSlot (SetOdd i)) its = (id, k, a.on, its.0, its.1)
         fits _ its = tt
 
     writes : Writes slots requests calls Beside done todo IsOn after
@@ -95,18 +95,18 @@ module _ (slots requests : ℕ) (calls : ℕ → Type 0) (done : List Done) (tod
     }
 
     accept_goes : (id q found : ℕ) (heading : Heading) (bytes : List ℕ) (bs : List ℕ) (tr : List Entry) → Within broken bs → 0 < holds (socket_id_slot id) (socket_id_version id) tr → found % 2 ≡ 0 → heading.parts ≢ [] → calls heading.label.operation
-        → Goes bs (step (ClaimRequest id q) found ∷ tr) (accept id q (found / 2) heading bytes after)
+        → Goes bs (step (OnChain (ClaimRequest id q)) found ∷ tr) (accept id q (found / 2) heading bytes after)
     accept_goes id q found heading bytes bs tr within held free some_parts of_call = let own : ℕ = ticket_of q (found / 2) in let i : ℕ = socket_id_slot id in let v : ℕ = socket_id_version id in (
       tt,
       λ x. (
         tt,
-        λ y. let ready : List Entry = step (Unconnect q) y ∷ step (PutMessage q heading bytes) x ∷ step (ClaimRequest id q) found ∷ tr in (
+        λ y. let ready : List Entry = step (OnChain (Unconnect q)) y ∷ step (OnMessage (PutMessage q heading bytes)) x ∷ step (OnChain (ClaimRequest id q)) found ∷ tr in (
           record { id = id; request = q; heading = heading; bytes = bytes; words = (y, x); found = found; before = tr; trace_is = refl; free = free; parts = some_parts; of_call = of_call },
-          λ head. let now : List Entry = step (SwapHead i own) head ∷ ready in
-              split (nat_lt head IDLE) (Do (Connect q head) (λ _. after)) (write_link id q own after) (Goes bs now)
-              (tt, λ z. follows bs within (step (Connect q head) z ∷ now)) (
+          λ head. let now : List Entry = step (OnChain (SwapHead i own)) head ∷ ready in
+              split (nat_lt head IDLE) (Do (OnChain (Connect q head)) (λ _. after)) (write_link id q own after) (Goes bs now)
+              (tt, λ z. follows bs within (step (OnChain (Connect q head)) z ∷ now)) (
                 tt,
-                λ k places message letters. first_goes slots requests calls Beside done todo IsOn after writes (record { id = id; link = k; last = own; places = places }) own message letters bs (step (FindLink i v) k ∷ now) record { within = within; on = record { link = inl refl; holds = held } },
+                λ k places message letters. first_goes slots requests calls Beside done todo IsOn after writes (record { id = id; link = k; last = own; places = places }) own message letters bs (step (OnSlot (FindLink i v)) k ∷ now) record { within = within; on = record { link = inl refl; holds = held } },
               ),
         ),
       ),
@@ -123,7 +123,7 @@ module _ (slots requests : ℕ) (calls : ℕ → Type 0) (done : List Done) (tod
   claims_goes broken zero q id heading bytes full accepted some_parts of_call f a tr held = f tr
   claims_goes broken (suc more) q id heading bytes full accepted some_parts of_call f a tr held = (
     tt,
-    λ found. let one : List Entry = step (ClaimRequest id q) found ∷ tr in
+    λ found. let one : List Entry = step (OnChain (ClaimRequest id q)) found ∷ tr in
         split_eq (found % 2) 0 (accept id q (found / 2) heading bytes accepted) (claims_from more (q + 1) id heading bytes full accepted) (Goes broken one)
         (λ free. accept_goes broken accepted a id q found heading bytes broken tr (within_all broken) held free some_parts of_call)
         (λ taken. claims_goes broken more (q + 1) id heading bytes full accepted some_parts of_call f a one held),
@@ -140,9 +140,9 @@ module _ (slots requests : ℕ) (calls : ℕ → Type 0) (done : List Done) (tod
         let full : Program = post id 3001 n back in let lost : Program = post id 1009 n back in
         let posts = λ (c : ℕ) (t : List Entry). post_goes slots requests calls Beside broken done t todo id c n (release i (λ _. next)) (backs broken (within_all broken) t) in
         let looks : ℕ → Program = λ found. if eqb (vref_version found % 2) 0 then claims_from n_requests 0 socket heading bytes full back else lost in
-        let held : Program = Do (FindLink i v) (λ k. Aside (StoreAt asked.operation (at_word (id_first id) (id_slot id) k n)) (λ _. Do (LookWord socket) looks)) in (
+        let held : Program = Do (OnSlot (FindLink i v)) (λ k. Aside (StoreAt asked.operation (at_word (id_first id) (id_slot id) k n)) (λ _. Do (OnSlot (LookWord socket)) looks)) in (
           tt,
-          λ found. let one : List Entry = step (AddRef socket) found ∷ tr in
+          λ found. let one : List Entry = step (OnSlot (AddRef socket)) found ∷ tr in
               split_eq (vref_version found) (socket_id_version socket) held (release i (λ _. post id 1009 n next)) (Goes broken one)
               (λ same. let count : holds i v one ≡ 1 + holds i v tr = add_holds socket found (holds i v tr) same in (
                 tt,
@@ -150,7 +150,7 @@ module _ (slots requests : ℕ) (calls : ℕ → Type 0) (done : List Done) (tod
                   tt,
                   λ _ _. (
                     tt,
-                    λ word. let three : List Entry = step (LookWord socket) word ∷ step (FindLink i v) k ∷ one in
+                    λ word. let three : List Entry = step (OnSlot (LookWord socket)) word ∷ step (OnSlot (FindLink i v)) k ∷ one in
                         split (eqb (vref_version word % 2) 0) (claims_from n_requests 0 socket heading bytes full back) lost (Goes broken three)
                         (claims_goes broken n_requests 0 socket heading bytes full back (some_parts asked id n) of_call (posts 3001) backs three (omega (arith, count))) (posts 1009 three),
                   ),
@@ -162,7 +162,7 @@ module _ (slots requests : ℕ) (calls : ℕ → Type 0) (done : List Done) (tod
     tried_goes : (broken : List ℕ) → Anywhere broken next → (n_requests id n : ℕ) (asked : Asked) → calls asked.operation → (exit : Unlocking) (tr : List Entry) → Goes broken tr (tried_again n_requests id n asked next exit)
     tried_goes broken follows n_requests id n asked of_call (IsOpen w) tr = (
       tt,
-      λ word. let one : List Entry = step (LoadName (name_of asked n)) word ∷ tr in split (eqb word 0) (post id 1009 n next) (attempt n_requests asked id n (word - 1) next) (Goes broken one)
+      λ word. let one : List Entry = step (OnName (LoadName (name_of asked n))) word ∷ tr in split (eqb word 0) (post id 1009 n next) (attempt n_requests asked id n (word - 1) next) (Goes broken one)
           (post_goes slots requests calls Beside broken done one todo id 1009 n next (follows broken (within_all broken) one)) (attempt_goes broken follows n_requests asked of_call id n (word - 1) one),
     )
     tried_goes broken follows n_requests id n asked of_call (HasNext w e) tr = decide_goes slots requests calls Beside broken done tr todo id w e (decided id next) (decided_goes slots requests calls Beside broken done tr todo id next (follows broken (within_all broken) tr))
@@ -190,7 +190,7 @@ module _ (slots requests : ℕ) (calls : ℕ → Type 0) (done : List Done) (tod
     pub call_goes : (broken : List ℕ) → Anywhere broken next → (n_requests ids : ℕ) (asked : Asked) → calls asked.operation → (tr : List Entry) → Goes broken tr (call n_requests ids asked next)
     call_goes broken follows n_requests ids asked of_call tr = (
       tt,
-      λ word. let one : List Entry = step (LoadName (name_of asked 0)) word ∷ tr in split (eqb word 0) (Say asked.operation Unopened next) (claim_id ids 0 n_requests (word - 1) asked next) (Goes broken one)
+      λ word. let one : List Entry = step (OnName (LoadName (name_of asked 0))) word ∷ tr in split (eqb word 0) (Say asked.operation Unopened next) (claim_id ids 0 n_requests (word - 1) asked next) (Goes broken one)
           (of_call, follows broken (within_all broken) one) (claim_goes broken follows ids 0 n_requests (word - 1) asked of_call one),
     )
 

@@ -5,7 +5,7 @@ use Rattle.seat_programs.specs.corr_core.specs.IdSlotWord.{parts, error_of}
 use Rattle.brpc_model.specs.Frame.{Frame}
 use Rattle.sock_words.specs.PackedWords.{socket_id_version, socket_id_slot, vref_version, vref_nref, at_word_first, at_word_slot, at_word_link, at_word_attempt, call_id, id_first, NO_SOCKET}
 use Rattle.seat_programs.specs.declared.task.Task.{Task}
-use Rattle.seat_programs.specs.TableSteps.{SubRef, StoreCode, LoadLink, TakeLink, FinishLink, PutLink, FreeSlot}
+use Rattle.seat_programs.specs.TableSteps.{OnSlot, OnLink, SubRef, StoreCode, LoadLink, TakeLink, FinishLink, PutLink, FreeSlot}
 use Rattle.seat_programs.specs.LoopHeads.{Ended, Reads, Discards, Posting, HasLocked}
 use Rattle.seat_programs.specs.Programs.{Program, Do, Rest, Round, LAST_VERSION, recycle, release, add_reference, set_failed}
 use Rattle.seat_programs.specs.PostPrograms.{post_with, decided}
@@ -23,15 +23,15 @@ module _ (slots requests : ℕ) (calls : ℕ → Type 0) (broken : List ℕ) (do
   recycle_goes : (i from : ℕ) (next : Bool → Program) → ((b : Bool) → Goes (next b)) → Goes (recycle i from next)
   recycle_goes i from next k = (
     tt,
-    λ found. split (eqb found from) (Do (LoadLink i (vref_version from + 1)) (λ l. Do (TakeLink l) (λ _. Do (FinishLink l) (λ _. Do (PutLink l) (λ _. if nat_le (vref_version from + 1) LAST_VERSION then Do (FreeSlot i) (λ _. next true) else next true))))) (next false) Goes
-        (tt, λ l. (tt, λ a. (tt, λ b. (tt, λ c. split (nat_le (vref_version from + 1) LAST_VERSION) (Do (FreeSlot i) (λ _. next true)) (next true) Goes (tt, λ d. k true) (k true))))) (k false),
+    λ found. split (eqb found from) (Do (OnSlot (LoadLink i (vref_version from + 1))) (λ l. Do (OnLink (TakeLink l)) (λ _. Do (OnLink (FinishLink l)) (λ _. Do (OnLink (PutLink l)) (λ _. if nat_le (vref_version from + 1) LAST_VERSION then Do (OnSlot (FreeSlot i)) (λ _. next true) else next true))))) (next false) Goes
+        (tt, λ l. (tt, λ a. (tt, λ b. (tt, λ c. split (nat_le (vref_version from + 1) LAST_VERSION) (Do (OnSlot (FreeSlot i)) (λ _. next true)) (next true) Goes (tt, λ d. k true) (k true))))) (k false),
   )
 
   release_goes : (i : ℕ) (next : Bool → Program) → ((b : Bool) → Goes (next b)) → Goes (release i next)
   release_goes i next k = (tt, λ found. split (eqb (vref_version found % 2) 1 && eqb (vref_nref found) 1) (recycle i (found - 1) next) (next false) Goes (recycle_goes i (found - 1) next k) (k false))
 
   set_failed_goes : (id c : ℕ) (next : ℕ → Program) → ((found : ℕ) → Goes (next found)) → Goes (set_failed id c next)
-  set_failed_goes id c next k = (tt, λ found. split (eqb (vref_version found % 2) 0) (Do (StoreCode (socket_id_slot id) (socket_id_version id) c) (λ _. Do (SubRef (socket_id_slot id)) (λ _. next found))) (next found) Goes (tt, λ a. (tt, λ b. k found)) (k found))
+  set_failed_goes id c next k = (tt, λ found. split (eqb (vref_version found % 2) 0) (Do (OnSlot (StoreCode (socket_id_slot id) (socket_id_version id) c)) (λ _. Do (OnSlot (SubRef (socket_id_slot id))) (λ _. next found))) (next found) Goes (tt, λ a. (tt, λ b. k found)) (k found))
 
   address_goes : (id : ℕ) (held : Program) (gone : ℕ → Program) → Goes held → ((found : ℕ) → Goes (gone found)) → Goes (add_reference id held gone)
   address_goes id held gone h k = (tt, λ found. split (eqb (vref_version found) (socket_id_version id)) held (release (socket_id_slot id) (λ _. gone found)) Goes h (release_goes (socket_id_slot id) (λ _. gone found) (λ b. k found)))

@@ -30,7 +30,7 @@ use Rattle.sock_model.specs.ChainRows.{taken_right}
 use Rattle.outcome_stories.specs.program_steps.specs.sock_steps.proofs.LifeLinkSlotPlaces.{counts}
 use Rattle.seat_programs.specs.declared.task.Task.{Task}
 use Rattle.seat_programs.specs.Writings.{Puts, Waits, Empties, Reversing}
-use Rattle.seat_programs.specs.TableSteps.{TableStep, ClaimSlot, CreateLife, SetOdd, StoreName, LoadOpen, FindLink, ClaimRequest, SwapHead}
+use Rattle.seat_programs.specs.TableSteps.{TableStep, OnSlot, OnName, OnChain, ClaimSlot, CreateLife, SetOdd, StoreName, LoadOpen, FindLink, ClaimRequest, SwapHead}
 use Rattle.seat_programs.specs.Programs.{Program, Do, Say, Sent, TakeMessage, TakeHome, PutHome, PutBytes, AskReady, Write, Aside, Round, Keep, Retries}
 use Rattle.seat_programs.specs.Asides.{Step, Found, PutCall, TakeCall, Taking}
 use Rattle.seat_programs.specs.LoopHeads.{Retry}
@@ -80,52 +80,52 @@ use Rattle.seat_programs.specs.LoopRounds.{first_step}
 -- ## Steps that leave the story as it is
 
 plain_adds : (f : Mark → ℕ) (j : ℕ) (call : TableStep) (found : ℕ) → IsPlain call → adds f j call found ≡ 0
-plain_adds f j (ClaimSlot i) found h = absurd h
-plain_adds f j (CreateLife i k) found h = absurd h
-plain_adds f j (SetOdd i) found h = absurd h
+plain_adds f j (OnSlot (ClaimSlot i)) found h = absurd h
+plain_adds f j (OnSlot (CreateLife i k)) found h = absurd h
+plain_adds f j (OnSlot (SetOdd i)) found h = absurd h
 plain_adds f j _ found h = refl
 
 plain_stores : (n : ℕ) (call : TableStep) (w : ℕ) → IsPlain call → stored_by n call w ≡ w
-plain_stores n (StoreName m x) w h = absurd h
+plain_stores n (OnName (StoreName m x)) w h = absurd h
 plain_stores n _ w h = refl
 
 plain_swaps : (call : TableStep) → IsPlain call → IsNoSwap call
-plain_swaps (SwapHead i own) h = absurd h
+plain_swaps (OnChain (SwapHead i own)) h = absurd h
 plain_swaps _ h = tt
 
 -- a step beside the tasks, or of whoever closes sockets, makes no life, stores no name, and finds no slot taken
 abbrev IsLater : TableStep → Type 0
-IsLater (ClaimSlot i) = ⊥
-IsLater (CreateLife i k) = ⊥
-IsLater (StoreName n w) = ⊥
+IsLater (OnSlot (ClaimSlot i)) = ⊥
+IsLater (OnSlot (CreateLife i k)) = ⊥
+IsLater (OnName (StoreName n w)) = ⊥
 IsLater other = Unit {0}
 
 beside_later : (calls : ℕ → Type 0) (broken : List ℕ) (trace : List Entry) (call : TableStep) → FitsBeside calls broken trace call → IsLater call
-beside_later calls broken trace (ClaimSlot i) f = f
-beside_later calls broken trace (CreateLife i k) f = f
-beside_later calls broken trace (StoreName n w) f = f
+beside_later calls broken trace (OnSlot (ClaimSlot i)) f = f
+beside_later calls broken trace (OnSlot (CreateLife i k)) f = f
+beside_later calls broken trace (OnName (StoreName n w)) f = f
 beside_later calls broken trace _ f = tt
 
 closing_later : (call : TableStep) → FitsClosing call → IsLater call
-closing_later (ClaimSlot i) f = f
-closing_later (CreateLife i k) f = f
-closing_later (StoreName n w) f = f
+closing_later (OnSlot (ClaimSlot i)) f = f
+closing_later (OnSlot (CreateLife i k)) f = f
+closing_later (OnName (StoreName n w)) f = f
 closing_later _ f = tt
 
 closing_swaps : (call : TableStep) → FitsClosing call → IsNoSwap call
-closing_swaps (SwapHead i own) f = f
+closing_swaps (OnChain (SwapHead i own)) f = f
 closing_swaps _ f = tt
 
 -- so it adds no mark that stays but that of a life that was failed
 later_adds : (f : Mark → ℕ) → ((n : ℕ) → f (Failer n) ≡ 0) → (j : ℕ) (call : TableStep) (found : ℕ) → IsLater call → adds f j call found ≡ 0
-later_adds f none_ j (ClaimSlot i) found l = absurd l
-later_adds f none_ j (CreateLife i k) found l = absurd l
-later_adds f none_ j (SetOdd i) found l = split (eqb i j) (cond (eqb (vref_version found % 2) 0) (f (Failer (vref_version found))) 0) 0 (λ n. n ≡ 0)
+later_adds f none_ j (OnSlot (ClaimSlot i)) found l = absurd l
+later_adds f none_ j (OnSlot (CreateLife i k)) found l = absurd l
+later_adds f none_ j (OnSlot (SetOdd i)) found l = split (eqb i j) (cond (eqb (vref_version found % 2) 0) (f (Failer (vref_version found))) 0) 0 (λ n. n ≡ 0)
     (split (eqb (vref_version found % 2) 0) (f (Failer (vref_version found))) 0 (λ n. n ≡ 0) (none_ (vref_version found)) refl) refl
 later_adds f none_ j _ found l = refl
 
 later_stores : (n : ℕ) (call : TableStep) (w : ℕ) → IsLater call → stored_by n call w ≡ w
-later_stores n (StoreName m x) w l = absurd l
+later_stores n (OnName (StoreName m x)) w l = absurd l
 later_stores n _ w l = refl
 
 module _ (slots requests : ℕ) (calls : ℕ → Type 0) (broken : List ℕ) (i : ℕ) (done : List Done) (trace : List Entry) (call : TableStep) (next : ℕ → Program) (found : ℕ) (es : List Event) where
@@ -164,10 +164,10 @@ first_explains slots requests calls w broken done trace todo (Round head next) x
 first_explains slots requests calls w broken done trace todo _ x = x
 
 -- whoever closes sockets sets one failed in a step of its own
-odd_here : (slots requests : ℕ) (calls : ℕ → Type 0) (broken : List ℕ) (done : List Done) (trace : List Entry) (todo : List Task) (program : Program) (j : ℕ) (next : ℕ → Program) → ExplainsBy slots requests calls Closing broken done trace todo program → first_step program ≡ Do (SetOdd j) next → call_in program ≡ Some (SetOdd j)
-odd_here slots requests calls broken done trace todo (Do c n) j next x e = let q : c ≡ SetOdd j = cc in ap (λ (y : TableStep). Some y) q
+odd_here : (slots requests : ℕ) (calls : ℕ → Type 0) (broken : List ℕ) (done : List Done) (trace : List Entry) (todo : List Task) (program : Program) (j : ℕ) (next : ℕ → Program) → ExplainsBy slots requests calls Closing broken done trace todo program → first_step program ≡ Do (OnSlot (SetOdd j)) next → call_in program ≡ Some (OnSlot (SetOdd j))
+odd_here slots requests calls broken done trace todo (Do c n) j next x e = let q : c ≡ OnSlot (SetOdd j) = cc in ap (λ (y : TableStep). Some y) q
 odd_here slots requests calls broken done trace todo (Write v after) j next x e = absurd x
-odd_here slots requests calls broken done trace todo (Round head n) j next x e = let o = subst IsOfLoop e (loop_begins head n) in let q : SetOdd j ≡ LoadOpen o.0 = o.1 in absurd (cc)
+odd_here slots requests calls broken done trace todo (Round head n) j next x e = let o = subst IsOfLoop e (loop_begins head n) in let q : OnSlot (SetOdd j) ≡ OnName (LoadOpen o.0) = o.1 in absurd (cc)
 odd_here slots requests calls broken done trace todo _ j next x e = absurd (cc)
 
 -- the link that a put or a question asks
@@ -282,7 +282,7 @@ module _ (p : Plan) (clients : List (List Task)) (are : AreTasks p clients) (ove
         → At es broken way trace done todo program v → Story p clients over (with_seat i next hand c.words hs (record c { calls = a })) (set vs i (with_rights v rights)) es broken'
     moved a spoken way trace done todo program next hand hs rights broken' within explains s = let w : View = with_rights v rights in
         let same = λ (f : Mark → ℕ) (j : ℕ). counts (state c vs) i v w here c.words hs f j in
-        reseated a next hand c.words hs w [] (step (ClaimSlot 0) 0) broken' within way trace done todo (seat_moves p (IsSpoken clients) over es broken broken' within c.outcomes i tasks way trace done todo program next v w refl refl refl explains s)
+        reseated a next hand c.words hs w [] (step (OnSlot (ClaimSlot 0)) 0) broken' within way trace done todo (seat_moves p (IsSpoken clients) over es broken broken' within c.outcomes i tasks way trace done todo program next v w refl refl refl explains s)
         (good_more p clients broken broken' within es story.good)
         (λ f note none_ j e. let b = same f j in omega (arith, b, e))
         (λ j l h. let b = same (is_failer h) j in let d = story.fails j l h in omega (arith, b, d))
@@ -310,15 +310,15 @@ module _ (p : Plan) (clients : List (List Task)) (are : AreTasks p clients) (ove
       added f note j = let a = counts (state c vs) i v w here ws hs f j in let b = row_adds f note j p call found hand v in omega (arith, a, b)
 
       used_here : (call : TableStep) → May p v call → StaysUsed p (words_after c.words (word_of p call) (word_after call (found_at c.words (word_of p call)))) (step call (found_at c.words (word_of p call)))
-      used_here (ClaimRequest id q) may = λ odd. (may.0, word_stays p v c.words sound.lawful.references.sized q may.0 (omega (arith, odd)) (ClaimRequest id q) may)
+      used_here (OnChain (ClaimRequest id q)) may = λ odd. (may.0, word_stays p v c.words sound.lawful.references.sized q may.0 (omega (arith, odd)) (OnChain (ClaimRequest id q)) may)
       used_here _ may = tt
 
       used_then : (e : Entry) → StaysUsed p c.words e → StaysUsed p ws e
       used_then e u = go e.call u
         where
-          go : (d : TableStep) → (elim d as (λ d. Type 0) [ ClaimRequest id q ↦ e.found % 2 ≡ 1 → (q < p.requests) × (0 < std.slice_index c.words (request_index p q)) | _ ↦ Unit {0} ])
-              → (elim d as (λ d. Type 0) [ ClaimRequest id q ↦ e.found % 2 ≡ 1 → (q < p.requests) × (0 < std.slice_index ws (request_index p q)) | _ ↦ Unit {0} ])
-          go (ClaimRequest id q) u = λ odd. let a = u odd in (a.0, word_stays p v c.words sound.lawful.references.sized q a.0 a.1 call may)
+          go : (d : TableStep) → (elim d as (λ d. Type 0) [ OnChain (ClaimRequest id q) ↦ e.found % 2 ≡ 1 → (q < p.requests) × (0 < std.slice_index c.words (request_index p q)) | _ ↦ Unit {0} ])
+              → (elim d as (λ d. Type 0) [ OnChain (ClaimRequest id q) ↦ e.found % 2 ≡ 1 → (q < p.requests) × (0 < std.slice_index ws (request_index p q)) | _ ↦ Unit {0} ])
+          go (OnChain (ClaimRequest id q)) u = λ odd. let a = u odd in (a.0, word_stays p v c.words sound.lawful.references.sized q a.0 a.1 call may)
           go _ u = tt
 
       used_now : (todo : List Task) (e : Event) → In e (told_of i todo (step call found) es) → StaysUsed p ws e.entry
@@ -327,21 +327,21 @@ module _ (p : Plan) (clients : List (List Task)) (are : AreTasks p clients) (ove
       used_now (t ∷ ts) e (inr m) = used_then e.entry (story.used e m)
 
       -- the link of a life that the seat holds is the one with which it was made
-      given_now : (j h : ℕ) → call ≡ FindLink j h → WasGiven es j h found
-      given_now j h is = let m : May p v (FindLink j h) = subst (May p v) is may in
+      given_now : (j h : ℕ) → call ≡ OnSlot (FindLink j h) → WasGiven es j h found
+      given_now j h is = let m : May p v (OnSlot (FindLink j h)) = subst (May p v) is may in
           let g : WasGiven es j h (std.slice_index c.words (link_index j)) = held_given p clients c vs sound.lawful es broken over story i v here j h m.0 m.1 in
           subst (WasGiven es j h) (sym (ap (λ z. found_at c.words (word_of p z)) is)) g
 
-      claim_given : (fresh : List Event) → ((j h k : ℕ) → WasGiven es j h k → WasGiven fresh j h k) → (id q : ℕ) → call ≡ ClaimRequest id q → WasGiven fresh (socket_id_slot id) (socket_id_version id) hand.link
-      claim_given fresh given id q is = let m : May p v (ClaimRequest id q) = subst (May p v) is may in
+      claim_given : (fresh : List Event) → ((j h k : ℕ) → WasGiven es j h k → WasGiven fresh j h k) → (id q : ℕ) → call ≡ OnChain (ClaimRequest id q) → WasGiven fresh (socket_id_slot id) (socket_id_version id) hand.link
+      claim_given fresh given id q is = let m : May p v (OnChain (ClaimRequest id q)) = subst (May p v) is may in
           let g : WasGiven es (socket_id_slot id) (socket_id_version id) (std.slice_index c.words (link_index (socket_id_slot id))) = held_given p clients c vs sound.lawful es broken over story i v here (socket_id_slot id) (socket_id_version id) m.1.0 m.1.1 in
           given (socket_id_slot id) (socket_id_version id) hand.link (subst (λ z. WasGiven es (socket_id_slot id) (socket_id_version id) (hand_at p c.words c.homes z).link) (sym is) g)
 
       -- the version of a held life that is set failed
-      odd_now : ((j h : ℕ) → holds j h trace ≤ marks_of (is_hold h) j v) → (j h : ℕ) → call ≡ SetOdd j → 0 < holds j h trace → vref_version found % 2 ≡ 0 → vref_version found ≡ h
-      odd_now holding j h is some_ even = let m : May p v (SetOdd j) = subst (May p v) is may in let le = holding j h in
-          let o : OddAt broken es j h (found_at c.words (word_of p (SetOdd j))) = odd_failed p clients c vs sound.lawful es broken over story i v here j h m.0 (omega (arith, le, some_)) (found_at c.words (word_of p (SetOdd j))) refl in
-          let same : found ≡ found_at c.words (word_of p (SetOdd j)) = ap (λ z. found_at c.words (word_of p z)) is in ap vref_version same ∙ o.0 (sym (ap (λ z. vref_version z % 2) same) ∙ even)
+      odd_now : ((j h : ℕ) → holds j h trace ≤ marks_of (is_hold h) j v) → (j h : ℕ) → call ≡ OnSlot (SetOdd j) → 0 < holds j h trace → vref_version found % 2 ≡ 0 → vref_version found ≡ h
+      odd_now holding j h is some_ even = let m : May p v (OnSlot (SetOdd j)) = subst (May p v) is may in let le = holding j h in
+          let o : OddAt broken es j h (found_at c.words (word_of p (OnSlot (SetOdd j)))) = odd_failed p clients c vs sound.lawful es broken over story i v here j h m.0 (omega (arith, le, some_)) (found_at c.words (word_of p (OnSlot (SetOdd j)))) refl in
+          let same : found ≡ found_at c.words (word_of p (OnSlot (SetOdd j))) = ap (λ z. found_at c.words (word_of p z)) is in ap vref_version same ∙ o.0 (sym (ap (λ z. vref_version z % 2) same) ∙ even)
 
       holding_now : ((j h : ℕ) → holds j h trace ≤ marks_of (is_hold h) j v) → (j h : ℕ) → holds j h (step call found ∷ trace) ≤ marks_of (is_hold h) j w
       holding_now holding j h = holds_row h j v p call found (holds j h trace) hand (holding j h) (λ is some_ even. odd_now holding j h is some_ even)
@@ -374,7 +374,7 @@ module _ (p : Plan) (clients : List (List Task)) (are : AreTasks p clients) (ove
 
       lists_own : (t : Task) (ts : List Task) (fresh : List Event) → ((j h k : ℕ) → WasGiven es j h k → WasGiven fresh j h k) → ((x : Entry) → In x (trace_of i t.number es) → In x (trace_of i t.number fresh))
           → (call : TableStep) (next : ℕ → Program) → May p v call → At es broken Own trace done (t ∷ ts) (Do call next) v → Lists t fresh call
-      lists_own t ts fresh given has (SwapHead j own) next may s = let x = ends_swap es fresh i t given has p v j own (found_at c.words (word_of p (SwapHead j own))) (hand_at p c.words c.homes (SwapHead j own)) trace
+      lists_own t ts fresh given has (OnChain (SwapHead j own)) next may s = let x = ends_swap es fresh i t given has p v j own (found_at c.words (word_of p (OnChain (SwapHead j own)))) (hand_at p c.words c.homes (OnChain (SwapHead j own))) trace
           s.explains.0 may s.claims (sym s.traced) s.are_made.0 s.made s.lists (subst (λ z. EndsIn es i t s.are_made.0 (of_sends s.made) (swapped z)) (sym s.traced) s.are_made.1) in record { made = x.0; lists = x.1; before = s.are_made.0; ends = x.2; others_ = s.are_made.2; of_calls = x.3 (IsOfCall (IsSpoken clients)) (λ e is no_. absurd (true≢false (sym is ∙ no_))) s.of_calls }
       lists_own t ts fresh given has call next may s = record {
         made = s.made;
@@ -415,7 +415,7 @@ module _ (p : Plan) (clients : List (List Task)) (are : AreTasks p clients) (ove
       -- ## Beside the tasks
 
       -- a step that isn't of the story
-      aside_story : (way : Way) (trace' : List Entry) (todo : List Task) (broken' : List ℕ) → Within broken broken' → IsLater call → ((j h : ℕ) → call ≡ SetOdd j → vref_version found ≡ h → vref_version found % 2 ≡ 0 → IsLost broken' es j h)
+      aside_story : (way : Way) (trace' : List Entry) (todo : List Task) (broken' : List ℕ) → Within broken broken' → IsLater call → ((j h : ℕ) → call ≡ OnSlot (SetOdd j) → vref_version found ≡ h → vref_version found % 2 ≡ 0 → IsLost broken' es j h)
           → At es broken' way trace' done todo (next found) w → Story p clients over (stepped p i seat call next c) (set vs i w) es broken'
       aside_story way trace' todo broken' within later odd s =
           reseated c.calls (next found) (hand_after p call c.homes seat.hand) ws hs w [] (step call found) broken' within way trace' done todo s
@@ -435,12 +435,12 @@ module _ (p : Plan) (clients : List (List Task)) (are : AreTasks p clients) (ove
         pub of_calls : AllByRecursion (IsOfCall (IsSpoken clients)) made
 
       made_beside : (todo : List Task) (call : TableStep) (next : ℕ → Program) → May p v call → At es broken Beside trace done todo (Do call next) v → Made todo call
-      made_beside todo (SwapHead j own) next may s = let x = beside_swap p (IsSpoken clients) es v j own (found_at c.words (word_of p (SwapHead j own))) (hand_at p c.words c.homes (SwapHead j own)) trace s.explains.0 may s.claims s.made s.lists in
+      made_beside todo (OnChain (SwapHead j own)) next may s = let x = beside_swap p (IsSpoken clients) es v j own (found_at c.words (word_of p (OnChain (SwapHead j own)))) (hand_at p c.words c.homes (OnChain (SwapHead j own))) trace s.explains.0 may s.claims s.made s.lists in
           record { made = x.0; lists = x.1; made_now = subst (AreMadeNow es i done todo) (sym x.2) s.are_made; of_calls = x.3 (IsOfCall (IsSpoken clients)) (λ e same no_. subst (λ (h : Heading). IsSpoken clients h.label.operation) (sym same) s.explains.0.of_call) s.of_calls }
       made_beside todo call next may s = record { made = s.made; lists = row_lists p v (found_at c.words (word_of p call)) (hand_at p c.words c.homes call) call tt ∙ s.lists; made_now = s.are_made; of_calls = s.of_calls }
 
       -- the life that a writer sets failed has the link that failed
-      attempt_lost : (todo : List Task) → At es broken Beside trace done todo (Do call next) v → (j h : ℕ) → call ≡ SetOdd j → vref_version found ≡ h → vref_version found % 2 ≡ 0 → IsLost broken es j h
+      attempt_lost : (todo : List Task) → At es broken Beside trace done todo (Do call next) v → (j h : ℕ) → call ≡ OnSlot (SetOdd j) → vref_version found ≡ h → vref_version found % 2 ≡ 0 → IsLost broken es j h
       attempt_lost todo s j h is at_ even = let f : FailsAttempt broken trace j = subst (FitsBeside (IsSpoken clients) broken trace) is s.explains.0 in let id : ℕ = f.0 in let k : ℕ = f.1 in let on = f.2 in
           let held : 0 < holds j (socket_id_version id) trace = subst (λ z. 0 < holds z (socket_id_version id) trace) (sym f.3) on.holds in
           let version : vref_version found ≡ socket_id_version id = odd_now s.holding j (socket_id_version id) is held even in
@@ -462,11 +462,11 @@ module _ (p : Plan) (clients : List (List Task)) (are : AreTasks p clients) (ove
           in_right [] ys k m = m
           in_right (x ∷ xs) ys k m = inr (in_right xs ys k m)
 
-      closed_lost : (j h : ℕ) → call ≡ SetOdd j → vref_version found ≡ h → vref_version found % 2 ≡ 0 → IsLost (lost_of c.words call ++ broken) es j h
-      closed_lost j h is at_ even = let m : May p v (SetOdd j) = subst (May p v) is may in let g : ℕ = m.1.0 in
-          let same : found ≡ found_at c.words (word_of p (SetOdd j)) = ap (λ z. found_at c.words (word_of p z)) is in
+      closed_lost : (j h : ℕ) → call ≡ OnSlot (SetOdd j) → vref_version found ≡ h → vref_version found % 2 ≡ 0 → IsLost (lost_of c.words call ++ broken) es j h
+      closed_lost j h is at_ even = let m : May p v (OnSlot (SetOdd j)) = subst (May p v) is may in let g : ℕ = m.1.0 in
+          let same : found ≡ found_at c.words (word_of p (OnSlot (SetOdd j))) = ap (λ z. found_at c.words (word_of p z)) is in
           let even' : vref_version (std.slice_index c.words (ref_index j)) % 2 ≡ 0 = sym (ap (λ z. vref_version z % 2) same) ∙ even in
-          let o = odd_failed p clients c vs sound.lawful es broken over story i v here j g m.0 m.1.1 (found_at c.words (word_of p (SetOdd j))) refl in
+          let o = odd_failed p clients c vs sound.lawful es broken over story i v here j g m.0 m.1.1 (found_at c.words (word_of p (OnSlot (SetOdd j)))) refl in
           let version : vref_version found ≡ g = ap vref_version same ∙ o.0 even' in let k : ℕ = std.slice_index c.words (link_index j) in
           let given : WasGiven es j g k = held_given p clients c vs sound.lawful es broken over story i v here j g m.0 m.1.1 in
           let lost : lost_of c.words call ≡ k ∷ [] = ap (lost_of c.words) is ∙ ap (λ b. cond {A = List ℕ} b (std.slice_index c.words (link_index j) ∷ []) []) (eq-eqb (vref_version (std.slice_index c.words (ref_index j)) % 2) 0 even') in
@@ -554,7 +554,7 @@ module _ (p : Plan) (clients : List (List Task)) (are : AreTasks p clients) (ove
 
   none_or_odd : (slots requests : ℕ) (calls : ℕ → Type 0) (done : List Done) (trace : List Entry) (todo : List Task) (program : Program) (call : TableStep) (next : ℕ → Program) → ExplainsBy slots requests calls Closing broken done trace todo program → first_step program ≡ Do call next
       → (call_in program ≡ Some call) ⊎ (lost_of c.words call ≡ [])
-  none_or_odd slots requests calls done trace todo program (SetOdd j) next x e = inl (odd_here slots requests calls broken done trace todo program j next x e)
+  none_or_odd slots requests calls done trace todo program (OnSlot (SetOdd j)) next x e = inl (odd_here slots requests calls broken done trace todo program j next x e)
   none_or_odd slots requests calls done trace todo program _ next x e = inr refl
 
   -- of a seat, its client and that client's part of the story

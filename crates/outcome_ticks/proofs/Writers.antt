@@ -11,7 +11,7 @@ use Rattle.sock_model.specs.declared.marks.Mark.TheVariants.{Hold}
 use Rattle.sock_model.specs.MarkWeights.{is_hold}
 use Rattle.outcome_stories.specs.program_steps.specs.slot_steps.proofs.RuleNumbers.{only-at}
 use Rattle.seat_programs.specs.declared.task.Task.{Task}
-use Rattle.seat_programs.specs.TableSteps.{TableStep, AddRef, SubRef, SetOdd, StoreCode, LookWord, LoadCode, EmptyHead, ReadNext, ReverseNext, FreeRequest, StorePlace, DropPlace}
+use Rattle.seat_programs.specs.TableSteps.{TableStep, OnSlot, OnChain, OnPlace, AddRef, SubRef, SetOdd, StoreCode, LookWord, LoadCode, EmptyHead, ReadNext, ReverseNext, FreeRequest, StorePlace, DropPlace}
 use Rattle.seat_programs.specs.BufferParts.{part}
 use Rattle.seat_programs.specs.Writings.{Holder, Writing, Puts, Waits, Empties, Reversing}
 use Rattle.seat_programs.specs.Programs.{Program, Do, TakeMessage, TakeHome, PutBytes, Write, LAST_GENERATION}
@@ -29,19 +29,19 @@ same_slot : (i : ℕ) (a b : ℕ) → cond (eqb i i) a b ≡ a
 same_slot i a b = ap (λ z. cond z a b) (eq-eqb i i refl)
 
 -- where a live life is set failed the operation has one reference more, and else it has as many
-pub even_holds : (i h found n : ℕ) → 0 < n → vref_version found % 2 ≡ 0 → holds_behind i h (SetOdd i) found n ≡ n + 1
+pub even_holds : (i h found n : ℕ) → 0 < n → vref_version found % 2 ≡ 0 → holds_behind i h (OnSlot (SetOdd i)) found n ≡ n + 1
 even_holds i h found n some_ even = let inner : ℕ = cond (eqb n 0) 0 (n + 1) in
     same_slot i (cond (eqb (vref_version found % 2) 0) inner n) n
     ∙ (ap (λ z. cond z inner n) (eq-eqb (vref_version found % 2) 0 even) ∙ ap (λ z. cond z 0 (n + 1)) (ne_eqb n 0 (λ e. omega (arith, some_, e))))
 
-pub odd_holds : (i h found n : ℕ) → vref_version found % 2 ≢ 0 → holds_behind i h (SetOdd i) found n ≡ n
+pub odd_holds : (i h found n : ℕ) → vref_version found % 2 ≢ 0 → holds_behind i h (OnSlot (SetOdd i)) found n ≡ n
 odd_holds i h found n odd = let inner : ℕ = cond (eqb n 0) 0 (n + 1) in
     same_slot i (cond (eqb (vref_version found % 2) 0) inner n) n ∙ ap (λ z. cond z inner n) (ne_eqb (vref_version found % 2) 0 odd)
 
-pub sub_holds : (i h found n : ℕ) → holds_behind i h (SubRef i) found n ≡ n - 1
+pub sub_holds : (i h found n : ℕ) → holds_behind i h (OnSlot (SubRef i)) found n ≡ n - 1
 sub_holds i h found n = same_slot i (n - 1) n
 
-pub add_holds : (id found n : ℕ) → vref_version found ≡ socket_id_version id → holds_behind (socket_id_slot id) (socket_id_version id) (AddRef id) found n ≡ 1 + n
+pub add_holds : (id found n : ℕ) → vref_version found ≡ socket_id_version id → holds_behind (socket_id_slot id) (socket_id_version id) (OnSlot (AddRef id)) found n ≡ 1 + n
 add_holds id found n e = let h : ℕ = socket_id_version id in let weight : ℕ = is_hold h (Hold (vref_version found)) in
     let one : weight ≡ 1 = only-at h (vref_version found) e in
     let two : cond (eqb (vref_version found) h) weight 0 ≡ weight = ap (λ z. cond z weight 0) (eq-eqb (vref_version found) h e) in
@@ -51,17 +51,17 @@ add_holds id found n e = let h : ℕ = socket_id_version id in let weight : ℕ 
 
 -- the steps of whoever holds the life of this id and writes link k, where these links failed
 abbrev pub IsStep : ℕ → ℕ → List ℕ → TableStep → Type 0
-IsStep id k bs (LookWord x) = x ≡ id
-IsStep id k bs (SetOdd i) = (i ≡ socket_id_slot id) × In k bs
-IsStep id k bs (StoreCode i h c) = Unit {0}
-IsStep id k bs (SubRef i) = Unit {0}
-IsStep id k bs (LoadCode i h) = Unit {0}
-IsStep id k bs (StorePlace l m n) = Unit {0}
-IsStep id k bs (DropPlace l m n) = Unit {0}
-IsStep id k bs (ReadNext q) = Unit {0}
-IsStep id k bs (ReverseNext q w) = Unit {0}
-IsStep id k bs (FreeRequest q g) = Unit {0}
-IsStep id k bs (EmptyHead i last) = Unit {0}
+IsStep id k bs (OnSlot (LookWord x)) = x ≡ id
+IsStep id k bs (OnSlot (SetOdd i)) = (i ≡ socket_id_slot id) × In k bs
+IsStep id k bs (OnSlot (StoreCode i h c)) = Unit {0}
+IsStep id k bs (OnSlot (SubRef i)) = Unit {0}
+IsStep id k bs (OnSlot (LoadCode i h)) = Unit {0}
+IsStep id k bs (OnPlace (StorePlace l m n)) = Unit {0}
+IsStep id k bs (OnPlace (DropPlace l m n)) = Unit {0}
+IsStep id k bs (OnChain (ReadNext q)) = Unit {0}
+IsStep id k bs (OnChain (ReverseNext q w)) = Unit {0}
+IsStep id k bs (OnChain (FreeRequest q g)) = Unit {0}
+IsStep id k bs (OnChain (EmptyHead i last)) = Unit {0}
 IsStep id k bs other = ⊥
 
 module _ (slots requests : ℕ) (calls : ℕ → Type 0) (way : Way) (done : List Done) (todo : List Task) (IsOn : ℕ → ℕ → List ℕ → List Entry → Type 0) (after : Program) where
@@ -90,24 +90,24 @@ module _ (slots requests : ℕ) (calls : ℕ → Type 0) (way : Way) (done : Lis
     -- ## Behind a message
 
     freed_goes : (h : Holder) (bs : List ℕ) (now : ℕ) (next : Program) → Once h bs next → Once h bs (freed now next)
-    freed_goes h bs now next k tr a = split (eqb (ticket_generation now) LAST_GENERATION) next (Do (FreeRequest (ticket_request now) (ticket_generation now)) (λ _. next)) (Goes bs tr)
-        (k tr a) (quiet h bs (FreeRequest (ticket_request now) (ticket_generation now)) (λ _. next) tt (λ found n. refl) (λ found. k) tr a)
+    freed_goes h bs now next k tr a = split (eqb (ticket_generation now) LAST_GENERATION) next (Do (OnChain (FreeRequest (ticket_request now) (ticket_generation now))) (λ _. next)) (Goes bs tr)
+        (k tr a) (quiet h bs (OnChain (FreeRequest (ticket_request now) (ticket_generation now))) (λ _. next) tt (λ found n. refl) (λ found. k) tr a)
 
     passed_goes : (h : Holder) (bs : List ℕ) (now : ℕ) (tells : Program → Program) → ((tr : List Entry) (q : Program) → Goes bs tr q → Goes bs tr (tells q)) → Once h bs (passed_telling h now tells after)
     passed_goes h bs now tells k tr a = let last : Program = Write (Empties h) after in
         let on : ℕ → Program = λ next. TakeMessage (ticket_request next) (λ heading bytes. Write (Puts h next heading bytes 0 false) after) in
-        split (eqb now h.last) (freed now (tells last)) (Do (ReadNext (ticket_request now)) (λ next. freed now (tells (on next)))) (Goes bs tr)
+        split (eqb now h.last) (freed now (tells last)) (Do (OnChain (ReadNext (ticket_request now))) (λ next. freed now (tells (on next)))) (Goes bs tr)
         (freed_goes h bs now (tells last) (λ tr a. k tr last (its.again (Empties h) bs tr a)) tr a)
-        (quiet h bs (ReadNext (ticket_request now)) (λ next. freed now (tells (on next))) tt (λ found n. refl)
+        (quiet h bs (OnChain (ReadNext (ticket_request now))) (λ next. freed now (tells (on next))) tt (λ found n. refl)
         (λ next. freed_goes h bs now (tells (on next)) (λ tr a. k tr (on next) (λ heading bytes. its.again (Puts h next heading bytes 0 false) bs tr a))) tr a)
 
     placed_goes : (h : Holder) (bs : List ℕ) (now : ℕ) (heading : Heading) → Once h bs (placed h now heading after)
-    placed_goes h bs now heading = quiet h bs (StorePlace heading.label.place h.link h.places) (λ _. passed_telling (one_more h) now (λ q. q) after) tt (λ found n. refl) (λ found. passed_goes (one_more h) bs now (λ q. q) (λ tr q g. g))
+    placed_goes h bs now heading = quiet h bs (OnPlace (StorePlace heading.label.place h.link h.places)) (λ _. passed_telling (one_more h) now (λ q. q) after) tt (λ found n. refl) (λ found. passed_goes (one_more h) bs now (λ q. q) (λ tr q g. g))
 
     dropped_goes : (h : Holder) (bs : List ℕ) (now : ℕ) (heading : Heading) → Once h bs (dropped h now heading after)
     dropped_goes h bs now heading = let told : ℕ → Program = λ code. passed_telling (one_more h) now (tell_drop heading code) after in
-        quiet h bs (LoadCode (socket_id_slot h.id) (socket_id_version h.id)) (λ code. Do (DropPlace heading.label.place h.link h.places) (λ _. told code)) tt (λ found n. refl)
-        (λ code. quiet h bs (DropPlace heading.label.place h.link h.places) (λ _. told code) tt (λ found n. refl)
+        quiet h bs (OnSlot (LoadCode (socket_id_slot h.id) (socket_id_version h.id))) (λ code. Do (OnPlace (DropPlace heading.label.place h.link h.places)) (λ _. told code)) tt (λ found n. refl)
+        (λ code. quiet h bs (OnPlace (DropPlace heading.label.place h.link h.places)) (λ _. told code) tt (λ found n. refl)
         (λ found. passed_goes (one_more h) bs now (tell_drop heading code) (λ tr q g. tell_goes slots requests calls way bs done tr todo heading code q g)))
 
     -- ## What the link answers
@@ -115,18 +115,18 @@ module _ (slots requests : ℕ) (calls : ℕ → Type 0) (way : Way) (done : Lis
     -- it failed, and so does the life: for a moment it has one reference more
     failed_goes : (h : Holder) (bs : List ℕ) (next : Program) → In h.link bs → Once h bs next → Once h bs (link_failed h next)
     failed_goes h bs next refused k tr a = let i : ℕ = socket_id_slot h.id in let v : ℕ = socket_id_version h.id in let n : ℕ = holds i v tr in let some_ : 0 < n = its.held h.id h.link bs tr a in
-        its.does h.id h.link bs tr (SetOdd i) (λ found. if eqb (vref_version found % 2) 0 then Do (StoreCode i v 1009) (λ _. Do (SubRef i) (λ _. next)) else next) (refl, refused) a
-        (λ found. let one : List Entry = step (SetOdd i) found ∷ tr in
-        split_eq (vref_version found % 2) 0 (Do (StoreCode i v 1009) (λ _. Do (SubRef i) (λ _. next))) next (Goes bs one)
+        its.does h.id h.link bs tr (OnSlot (SetOdd i)) (λ found. if eqb (vref_version found % 2) 0 then Do (OnSlot (StoreCode i v 1009)) (λ _. Do (OnSlot (SubRef i)) (λ _. next)) else next) (refl, refused) a
+        (λ found. let one : List Entry = step (OnSlot (SetOdd i)) found ∷ tr in
+        split_eq (vref_version found % 2) 0 (Do (OnSlot (StoreCode i v 1009)) (λ _. Do (OnSlot (SubRef i)) (λ _. next))) next (Goes bs one)
         (λ even. let m : ℕ = holds i v one in let count : m ≡ n + 1 = even_holds i v found n some_ even in
-        let there : IsOn h.id h.link bs one = its.on h.id h.link bs tr (SetOdd i) found (refl, refused) (omega (arith, count)) a in
-        its.does h.id h.link bs one (StoreCode i v 1009) (λ _. Do (SubRef i) (λ _. next)) tt there
-        (λ code. let two : List Entry = step (StoreCode i v 1009) code ∷ one in
-        let b : IsOn h.id h.link bs two = its.on h.id h.link bs one (StoreCode i v 1009) code tt (omega (arith, count)) there in
-        its.does h.id h.link bs two (SubRef i) (λ _. next) tt b
-        (λ word. let left : holds i v (step (SubRef i) word ∷ two) ≡ m - 1 = sub_holds i v word m in
-        k (step (SubRef i) word ∷ two) (its.on h.id h.link bs two (SubRef i) word tt (omega (arith, left, count, some_)) b))))
-        (λ odd. let same : holds i v one ≡ n = odd_holds i v found n odd in k one (its.on h.id h.link bs tr (SetOdd i) found (refl, refused) (omega (arith, same, some_)) a)))
+        let there : IsOn h.id h.link bs one = its.on h.id h.link bs tr (OnSlot (SetOdd i)) found (refl, refused) (omega (arith, count)) a in
+        its.does h.id h.link bs one (OnSlot (StoreCode i v 1009)) (λ _. Do (OnSlot (SubRef i)) (λ _. next)) tt there
+        (λ code. let two : List Entry = step (OnSlot (StoreCode i v 1009)) code ∷ one in
+        let b : IsOn h.id h.link bs two = its.on h.id h.link bs one (OnSlot (StoreCode i v 1009)) code tt (omega (arith, count)) there in
+        its.does h.id h.link bs two (OnSlot (SubRef i)) (λ _. next) tt b
+        (λ word. let left : holds i v (step (OnSlot (SubRef i)) word ∷ two) ≡ m - 1 = sub_holds i v word m in
+        k (step (OnSlot (SubRef i)) word ∷ two) (its.on h.id h.link bs two (OnSlot (SubRef i)) word tt (omega (arith, left, count, some_)) b))))
+        (λ odd. let same : holds i v one ≡ n = odd_holds i v found n odd in k one (its.on h.id h.link bs tr (OnSlot (SetOdd i)) found (refl, refused) (omega (arith, same, some_)) a)))
 
     -- and the message is tried again, as one of a failed life
     refused_goes : (h : Holder) (now : ℕ) (heading : Heading) (left : List ℕ) (taken : ℕ) (bs : List ℕ) (tr : List Entry) → IsOn h.id h.link bs tr → Goes (h.link ∷ bs) tr (link_failed h (Write (Puts h now heading left taken false) after))
@@ -147,23 +147,23 @@ module _ (slots requests : ℕ) (calls : ℕ → Type 0) (way : Way) (done : Lis
 
     -- a look before a put, and what follows where the life is failed
     look_goes : (h : Holder) (now : ℕ) (heading : Heading) (left : List ℕ) (taken : ℕ) (asked : Bool) (piece : List ℕ) (lost : Program) (bs : List ℕ) → Once h bs lost
-        → Once h bs (Do (LookWord h.id) (λ found. if eqb (vref_version found % 2) 0 then PutBytes h.link asked piece (put_answered h now heading left taken after) else lost))
+        → Once h bs (Do (OnSlot (LookWord h.id)) (λ found. if eqb (vref_version found % 2) 0 then PutBytes h.link asked piece (put_answered h now heading left taken after) else lost))
     look_goes h now heading left taken asked piece lost bs k = let puts_on : Program = PutBytes h.link asked piece (put_answered h now heading left taken after) in
-        quiet h bs (LookWord h.id) (λ found. if eqb (vref_version found % 2) 0 then puts_on else lost) refl (λ found n. refl)
+        quiet h bs (OnSlot (LookWord h.id)) (λ found. if eqb (vref_version found % 2) 0 then puts_on else lost) refl (λ found n. refl)
         (λ found tr a. split (eqb (vref_version found % 2) 0) puts_on lost (Goes bs tr) (λ answer. put_goes h now heading left taken bs tr a answer) (k tr a))
 
     pub block_goes : (w : Writing) (bs : List ℕ) → Once (holder_of w) bs (block w after)
     block_goes (Puts h now heading left taken asked) bs = look_goes h now heading left taken asked (part heading.parts left taken) (dropped h now heading after) bs (dropped_goes h bs now heading)
     block_goes (Waits h now heading left taken) bs = λ tr a answer. ready_goes h now heading left taken bs tr a answer
     block_goes (Empties h) bs = let walk : ℕ → Program = λ found. TakeHome h.link (λ places. Write (Reversing (record h { places = places }) found found 0) after) in
-        quiet h bs (EmptyHead (socket_id_slot h.id) h.last) (λ found. if eqb found h.last then after else walk found) tt (λ found n. refl)
+        quiet h bs (OnChain (EmptyHead (socket_id_slot h.id) h.last)) (λ found. if eqb found h.last then after else walk found) tt (λ found n. refl)
         (λ found tr a. split (eqb found h.last) after (walk found) (Goes bs tr) (its.ends h.id h.link bs tr a) (λ places. its.again (Reversing (record h { places = places }) found found 0) bs tr a))
     block_goes (Reversing h top at behind) bs = let here : Program = TakeMessage (ticket_request at) (λ heading bytes. Write (Puts (record h { last = top }) at heading bytes 0 false) after) in
         let on : ℕ → Program = λ found. if eqb found h.last then here else Write (Reversing h top found at) after in
-        let turn : ℕ → Program = λ found. Do (ReverseNext (ticket_request at) behind) (λ _. on found) in
-        quiet h bs (ReadNext (ticket_request at)) (λ found. if eqb found UNCONNECTED then Write (Reversing h top at behind) after else turn found) tt (λ found n. refl)
+        let turn : ℕ → Program = λ found. Do (OnChain (ReverseNext (ticket_request at) behind)) (λ _. on found) in
+        quiet h bs (OnChain (ReadNext (ticket_request at))) (λ found. if eqb found UNCONNECTED then Write (Reversing h top at behind) after else turn found) tt (λ found n. refl)
         (λ found tr a. split (eqb found UNCONNECTED) (Write (Reversing h top at behind) after) (turn found) (Goes bs tr) (its.again (Reversing h top at behind) bs tr a)
-        (quiet h bs (ReverseNext (ticket_request at) behind) (λ _. on found) tt (λ word n. refl)
+        (quiet h bs (OnChain (ReverseNext (ticket_request at) behind)) (λ _. on found) tt (λ word n. refl)
         (λ word tr a. split (eqb found h.last) here (Write (Reversing h top found at) after) (Goes bs tr)
         (λ heading bytes. its.again (Puts (record h { last = top }) at heading bytes 0 false) bs tr a) (its.again (Reversing h top found at) bs tr a)) tr a))
 

@@ -13,7 +13,7 @@ use Rattle.sock_model.specs.SocketTableLayout.{ref_index}
 use Rattle.sock_model.specs.MarkWeights.{is_born}
 use Rattle.sock_model.specs.SocketSlotLaw.{count}
 use Rattle.sock_model.specs.References.{slot_facts}
-use Rattle.seat_programs.specs.TableSteps.{TableStep, SetOdd}
+use Rattle.seat_programs.specs.TableSteps.{TableStep, OnSlot, SetOdd}
 use Rattle.seat_programs.specs.Cores.{Core, found_at, words_after, first_of}
 use Rattle.seat_programs.specs.StepTables.{word_of, word_after}
 use Rattle.seat_programs.specs.StepTables.{May}
@@ -43,7 +43,7 @@ holds_links hand (r ∷ rs) hands are = by_home r.at_home (λ other. holds_links
 module _ (p : Plan) (life : ℕ → Option ℕ) (inside : (k s : ℕ) → life k ≡ Some s → socket_id_slot s < p.slots) (c : Core) (vs : List View) (sound : Sound p c vs) (i : ℕ) (v : View) (at : get_elem? vs i ≡ some v) (u : Owing) (call : TableStep) (may : May p v call) where
   -- of the lives of links it has to be known what is found of them, and that a reader sets none odd that wasn't made
   pub lives_fit : FindsCall life u call (found_at c.words (word_of p call))
-      → ((k s : ℕ) → call ≡ SetOdd (socket_id_slot s) → u.link ≡ k ∷ [] → life k ≡ Some s → 0 < count (is_born (socket_id_version s)) (slot_facts (state c vs) (socket_id_slot s)))
+      → ((k s : ℕ) → call ≡ OnSlot (SetOdd (socket_id_slot s)) → u.link ≡ k ∷ [] → life k ≡ Some s → 0 < count (is_born (socket_id_version s)) (slot_facts (state c vs) (socket_id_slot s)))
       → CallFits p life c u call
   lives_fit finds born = record {
     finds = finds;

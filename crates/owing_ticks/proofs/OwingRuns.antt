@@ -12,7 +12,7 @@ use Rattle.sock_model.specs.SocketSlotLaw.{count}
 use Rattle.sock_model.specs.References.{slot_facts}
 use Rattle.corr_core.specs.declared.marks.Plan.{Plan as IdPlan}
 use Rattle.corr_core.proofs.NoteSums.{at_length}
-use Rattle.seat_programs.specs.TableSteps.{TableStep, SetOdd, FindLink, LoadOpen}
+use Rattle.seat_programs.specs.TableSteps.{TableStep, OnSlot, OnName, SetOdd, FindLink, LoadOpen}
 use Rattle.seat_programs.specs.Asides.{Step, Found, StoreAt, TakeBytes}
 use Rattle.seat_programs.specs.Programs.{Program, Do, PutHome, Write, Aside}
 use Rattle.seat_programs.specs.Cores.{Core, SeatState, found_at}
@@ -88,21 +88,21 @@ module _ (p : Plan) (q : IdPlan) (narrow : q.slots ≤ 65536) (same : q.operatio
     own_open k ks linked = let j = owing.law.tied i k ks u at linked in let o = at_some os k (omega (arith, many, j, at_length c.seats i seat at_seat)) in
         (o.0, o.1, subst (λ x. AtReader p calls x k o.0 c) (sym j) (readers k o.0 o.1))
 
-    loads_life : (o : ℕ) (next : ℕ → Program) → first_step seat.program ≡ Do (LoadOpen o) next → get_or c.words (open_index p o) 0 ≢ 0 → (l : List ℕ) → u.link ≡ l → IsLifeOf life l (get_or c.words (open_index p o) 0)
+    loads_life : (o : ℕ) (next : ℕ → Program) → first_step seat.program ≡ Do (OnName (LoadOpen o)) next → get_or c.words (open_index p o) 0 ≢ 0 → (l : List ℕ) → u.link ≡ l → IsLifeOf life l (get_or c.words (open_index p o) 0)
     loads_life o next is some_ [] linked = tt
     loads_life o next is some_ (k ∷ ks) linked = let own = own_open k ks linked in let e : o ≡ own.0 = loads_own p calls i k own.0 (in_os k own.0 own.1) c seat at_seat own.2 o next is in
         let at_o : get_elem? os k ≡ some o = own.1 ∙ ap some (sym e) in
         life_is k o at_o ∙ ap id_of (reach.stays o (in_os k o at_o) some_) ∙ id_by (get_or c.words (open_index p o) 0) some_
 
     finds_call : (call : TableStep) (next : ℕ → Program) → first_step seat.program ≡ Do call next → May p v call → FindsCall life u call (found_at c.words (word_of p call))
-    finds_call (FindLink n h) next is may = let f = (finds p (state c vs) sound.lawful i v at_view sound.limits.slots (FindLink n h) may).0 in let few = sound.limits.links in (
+    finds_call (OnSlot (FindLink n h)) next is may = let f = (finds p (state c vs) sound.lawful i v at_view sound.limits.slots (OnSlot (FindLink n h)) may).0 in let few = sound.limits.links in (
       omega (arith, f, few),
       λ id m s duty slot version. let g = reach.given n h (get_or c.words (link_index n) 0) may.0 (finds_given p c vs sound i v at_view n h may) in g ∙ ap Some (let z : socket_id h n ≡ s = omega (arith, slot, version) in z),
     )
-    finds_call (LoadOpen o) next is may = λ some_. loads_life o next is some_ u.link refl
+    finds_call (OnName (LoadOpen o)) next is may = λ some_. loads_life o next is some_ u.link refl
     finds_call call next is may = tt
 
-    made_before : (call : TableStep) (next : ℕ → Program) → first_step seat.program ≡ Do call next → (k s : ℕ) → call ≡ SetOdd (socket_id_slot s) → u.link ≡ k ∷ [] → life k ≡ Some s → 0 < count (is_born (socket_id_version s)) (slot_facts (state c vs) (socket_id_slot s))
+    made_before : (call : TableStep) (next : ℕ → Program) → first_step seat.program ≡ Do call next → (k s : ℕ) → call ≡ OnSlot (SetOdd (socket_id_slot s)) → u.link ≡ k ∷ [] → life k ≡ Some s → 0 < count (is_born (socket_id_version s)) (slot_facts (state c vs) (socket_id_slot s))
     made_before call next is k s made linked lives = let own = own_open k [] linked in let o : ℕ = own.0 in let inside = in_os k own.0 own.1 in
         let some_ = steps_behind p calls i k own.0 inside c seat at_seat own.2 call next is (ap loads made) in let word : ℕ = get_or c.words (open_index p own.0) 0 in
         let named = id_is (get_or final (open_index p own.0) 0) s (sym (life_is k own.0 own.1) ∙ lives) in let stays = reach.stays own.0 inside some_ in

@@ -18,7 +18,7 @@ use Rattle.sock_model.specs.ChainLawReads.{message, link_home}
 use Rattle.corr_core.specs.IdSlotWord.{parts}
 use Rattle.corr_core.specs.declared.marks.Plan.{Plan as IdPlan}
 use Rattle.seat_programs.specs.id_rule.specs.LawfulIdTable as ids
-use Rattle.seat_programs.specs.TableSteps.{TableStep, TakeLink, PutLink, PutMessage}
+use Rattle.seat_programs.specs.TableSteps.{TableStep, OnLink, OnMessage, TakeLink, PutLink, PutMessage}
 use Rattle.seat_programs.specs.Asides.{Step, Found, ClaimId, PutCall, MakeId, StoreCall, LoadCall, StoreAt, LoadAt, LoadIdWord, LockId, PostId, UnlockId, EndId, FreeId, TakeCall, TakeBytes, Taking, Bytes, Nothing, NoMore, AtEnd, Closed, Broken}
 use Rattle.seat_programs.specs.Programs.{Program, Do, TakeMessage, TakeHome, PutHome, PutBytes, AskReady, Write, Aside, Round}
 use Rattle.seat_programs.specs.SendAndWritePrograms.{block}
@@ -68,9 +68,9 @@ module _ (p : Plan) (q : IdPlan) (narrow : q.slots ≤ 65536) (same : q.operatio
 
     letters_after : (call : TableStep) → MayCall u call → HoldsNoMessage seat.hand → (r : ℕ) (heading : Heading) (bytes : List ℕ) → get_elem? (homes_after p call seat.hand c.homes) r ≡ some (some (Message heading bytes)) → heading.owner ≢ 0
         → Past us heading.owner heading.label.attempt × (heading.label.attempt ≤ 6)
-    letters_after (TakeLink k) may links r heading bytes e some_ = ⊎_elim (λ b. absurd (some-ne-none (Message heading bytes) (sym b.1))) (λ b. sound.law.letters r heading bytes b.1 some_) (at_set c.homes (link_place p k) r none (some (Message heading bytes)) e)
-    letters_after (PutLink k) may links r heading bytes e some_ = ⊎_elim (λ b. absurd (links heading bytes b.1)) (λ b. sound.law.letters r heading bytes b.1 some_) (at_set c.homes (link_place p k) r (first_of seat.hand) (some (Message heading bytes)) e)
-    letters_after (PutMessage t l cs) may links r heading bytes e some_ = ⊎_elim
+    letters_after (OnLink (TakeLink k)) may links r heading bytes e some_ = ⊎_elim (λ b. absurd (some-ne-none (Message heading bytes) (sym b.1))) (λ b. sound.law.letters r heading bytes b.1 some_) (at_set c.homes (link_place p k) r none (some (Message heading bytes)) e)
+    letters_after (OnLink (PutLink k)) may links r heading bytes e some_ = ⊎_elim (λ b. absurd (links heading bytes b.1)) (λ b. sound.law.letters r heading bytes b.1 some_) (at_set c.homes (link_place p k) r (first_of seat.hand) (some (Message heading bytes)) e)
+    letters_after (OnMessage (PutMessage t l cs)) may links r heading bytes e some_ = ⊎_elim
         (λ b. let z : Message l cs ≡ Message heading bytes = some-injective (Message l cs) (Message heading bytes) b.1 in let y : l ≡ heading = cc in let k : KnowsOwner u heading = subst (KnowsOwner u) y may in let x = k some_ in ((i, u, at, x.0), x.1))
         (λ b. sound.law.letters r heading bytes b.1 some_) (at_set c.homes t r (some (Message l cs)) (some (Message heading bytes)) e)
     letters_after _ may links r heading bytes e some_ = sound.law.letters r heading bytes e some_

@@ -19,7 +19,7 @@ use Rattle.sent_once.specs.Below.id_runs.proofs.AsideStepsKeepRule.{finds_ids}
 use Rattle.seat_programs.specs.Asides.{Step, Found, PutCall, MakeId, StoreCall, StoreAt, UnlockId, TakeCall, Taking}
 use Rattle.sock_message.specs.Asked.{Asked}
 use Rattle.seat_programs.specs.FoundAndChangedAside.{found_in, calls_after}
-use Rattle.seat_programs.specs.TableSteps.{TableStep, PutMessage}
+use Rattle.seat_programs.specs.TableSteps.{TableStep, OnMessage, PutMessage}
 use Rattle.seat_programs.specs.LoopHeads.{Retry}
 use Rattle.seat_programs.specs.Programs.{Program, Do, Say, Sent, Rest, TakeMessage, TakeHome, PutHome, PutBytes, AskReady, Aside, Keep, Retries}
 use Rattle.seat_programs.specs.Cores.{Calls, Core, SeatState, found_at, words_after, homes_after, hand_after, lies_at, first_of, others_of, link_place, resolved, still_waiting, waiting_at, next_step, with_seat}
@@ -104,7 +104,7 @@ kept_count id n t u (inl e) = let z : of_try id n u ≡ of_try id n t = ap (of_t
 kept_count id n t u (inr e) = let z : of_try id n u ≡ 0 = ap (of_try id n) e in omega (arith, z)
 
 put_count : (id n : ℕ) (t : Trial) (call : TableStep) → of_try id n (put_behind t call) ≤ of_try id n t
-put_count id n t (PutMessage r heading bytes) = omega arith
+put_count id n t (OnMessage (PutMessage r heading bytes)) = omega arith
 put_count id n t _ = omega arith
 
 -- ## A tick

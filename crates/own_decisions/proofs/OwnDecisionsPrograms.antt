@@ -19,7 +19,7 @@ use Rattle.seat_programs.specs.declared.task.Sizes.{Sizes}
 use Rattle.seat_programs.specs.declared.task.Task.{Task}
 use Rattle.seat_programs.specs.Asides.{StoreAt}
 use Rattle.seat_programs.specs.CallAndRetryPrograms.{claims_from, heading_for, attempt, begin_call, claim_id, call, tried_again, retry_locked, retry, expire_outcome, expire, join}
-use Rattle.seat_programs.specs.TableSteps.{TableStep, PutMessage, FreeRequest, ReadNext, FindLink, LookWord, ReverseNext, Connect}
+use Rattle.seat_programs.specs.TableSteps.{TableStep, OnSlot, OnChain, OnMessage, PutMessage, FreeRequest, ReadNext, FindLink, LookWord, ReverseNext, Connect}
 use Rattle.seat_programs.specs.ClientProgram.{HeldLife, held_under, without_name, operation, client_from, ending_of}
 use Rattle.seat_programs.specs.LoopHeads.{First, Posts, Joins, Reads, Discards, Posting, HasLocked, Unlocking, IsOpen, HasNext, Locking, NotThere, Has, Ended}
 use Rattle.seat_programs.specs.BufferParts.{part}
@@ -42,7 +42,7 @@ use Rattle.own_decisions.proofs.OwnDecisionsLoops.{way, next_is, post_with_goes,
 -- where no message is put, steps on words leave it
 module _ (t : Stand) where
   others : (call : TableStep) (next : ℕ → Program) → is_of_message call ≡ false → ((found : ℕ) → Aims t (next found)) → Aims t (Do call next)
-  others (PutMessage q heading bytes) next is r = absurd (true≢false is)
+  others (OnMessage (PutMessage q heading bytes)) next is r = absurd (true≢false is)
   others call next is r = (tt, λ found _. (t, inl refl, r found))
 
   words : PassesWords (Aims t)
@@ -54,11 +54,11 @@ module _ (t : Stand) where
 -- ## Writing
 
 freed_goes : (s : Stand) (now : ℕ) (next : Program) → Aims s next → Aims s (given_back now next)
-freed_goes s now next goes = way s (ticket_generation now == LAST_GENERATION) next (Do (FreeRequest (ticket_request now) (ticket_generation now)) (λ _. next)) (λ _. goes) (λ _. (tt, λ _ _. (s, inl refl, goes)))
+freed_goes s now next goes = way s (ticket_generation now == LAST_GENERATION) next (Do (OnChain (FreeRequest (ticket_request now) (ticket_generation now))) (λ _. next)) (λ _. goes) (λ _. (tt, λ _ _. (s, inl refl, goes)))
 
 passed_goes : (s : Stand) (h : Holder) (now : ℕ) (tells : Program → Program) (after : Program) → ((x : Program) → Aims Calm x → Aims s (tells x)) → Aims Calm after → Aims s (passed_telling h now tells after)
 passed_goes s h now tells after told goes = way s (now == h.last) (given_back now (tells (Write (Empties h) after)))
-    (Do (ReadNext (ticket_request now)) (λ next. given_back now (tells (TakeMessage (ticket_request next) (λ heading bytes. Write (Puts h next heading bytes 0 false) after)))))
+    (Do (OnChain (ReadNext (ticket_request now))) (λ next. given_back now (tells (TakeMessage (ticket_request next) (λ heading bytes. Write (Puts h next heading bytes 0 false) after)))))
     (λ _. freed_goes s now (tells (Write (Empties h) after)) (told (Write (Empties h) after) (tt, goes)))
     (λ _. (tt, λ next _. (s, inl refl, freed_goes s now (tells (TakeMessage (ticket_request next) (λ heading bytes. Write (Puts h next heading bytes 0 false) after))) (told (TakeMessage (ticket_request next) (λ heading bytes. Write (Puts h next heading bytes 0 false) after)) (λ heading bytes. (refl, goes))))))
 
@@ -100,7 +100,7 @@ block_goes s (Reversing h top at after) then_ g = (
     Calm,
     inr (inl refl),
     way Calm (found == UNCONNECTED) (Write (Reversing h top at after) then_)
-        (Do (ReverseNext (ticket_request at) after) (λ _. cond (found == h.last) (TakeMessage (ticket_request at) (λ heading bytes. Write (Puts (record h { last = top }) at heading bytes 0 false) then_)) (Write (Reversing h top found at) then_)))
+        (Do (OnChain (ReverseNext (ticket_request at) after)) (λ _. cond (found == h.last) (TakeMessage (ticket_request at) (λ heading bytes. Write (Puts (record h { last = top }) at heading bytes 0 false) then_)) (Write (Reversing h top found at) then_)))
         (λ _. (tt, g.1))
         (λ _. (tt, λ _ _. (Calm, inl refl, way Calm (found == h.last) (TakeMessage (ticket_request at) (λ heading bytes. Write (Puts (record h { last = top }) at heading bytes 0 false) then_)) (Write (Reversing h top found at) then_) (λ _. λ heading bytes. (refl, g.1)) (λ _. (tt, g.1))))),
   ),
@@ -122,14 +122,14 @@ write_goes id q own after g = (tt, λ k _. (Calm, inl refl, λ places. λ headin
 
 -- ## Messages
 
-accept_goes : (s : Stand) (id q g : ℕ) (heading : Heading) (bytes : List ℕ) (after : Program) → MayPut s (PutMessage q heading bytes) → Aims Calm after → Aims s (accept id q g heading bytes after)
+accept_goes : (s : Stand) (id q g : ℕ) (heading : Heading) (bytes : List ℕ) (after : Program) → MayPut s (OnMessage (PutMessage q heading bytes)) → Aims Calm after → Aims s (accept id q g heading bytes after)
 accept_goes s id q g heading bytes after may goes = (
   may,
   λ _ _. (Calm, inr (inl refl), (tt, λ _ _. (Calm, inl refl, (tt, λ found _. (Calm, inl refl, swapped found))))),
 )
   where
-    swapped : (found : ℕ) → Aims Calm (cond (nat_lt found IDLE) (Do (Connect q found) (λ _. after)) (write_link id q (ticket_of q g) after))
-    swapped found = way Calm (nat_lt found IDLE) (Do (Connect q found) (λ _. after)) (write_link id q (ticket_of q g) after) (λ _. (words Calm).step (Connect q found) (λ _. after) refl (λ _. goes)) (λ _. write_goes id q (ticket_of q g) after goes)
+    swapped : (found : ℕ) → Aims Calm (cond (nat_lt found IDLE) (Do (OnChain (Connect q found)) (λ _. after)) (write_link id q (ticket_of q g) after))
+    swapped found = way Calm (nat_lt found IDLE) (Do (OnChain (Connect q found)) (λ _. after)) (write_link id q (ticket_of q g) after) (λ _. (words Calm).step (OnChain (Connect q found)) (λ _. after) refl (λ _. goes)) (λ _. write_goes id q (ticket_of q g) after goes)
 
 claims_goes : (s : Stand) (more q id : ℕ) (heading : Heading) (bytes : List ℕ) (full accepted : Program) → (heading.owner ≡ 0) ⊎ (s ≡ Past heading.owner heading.label.attempt) → Aims s full → Aims Calm accepted → Aims s (claims_from more q id heading bytes full accepted)
 claims_goes s zero q id heading bytes full accepted may none_ goes = none_
@@ -149,7 +149,7 @@ module _ (requests : ℕ) (asked : Asked) (id n socket : ℕ) (next : Program) (
   refused_goes : (code : ℕ) → Aims (Past id n) (post id code n (release (socket_id_slot socket) (λ _. next)))
   refused_goes code = post_goes (Past id n) id code n (release (socket_id_slot socket) (λ _. next)) (inl refl) (through_release (Aims Calm) (words Calm) (socket_id_slot socket) (λ _. next) (λ _. goes))
 
-  looks_goes : (heading : Heading) (bytes : List ℕ) → (heading.owner ≡ 0) ⊎ (Past id n ≡ Past heading.owner heading.label.attempt) → Aims (Past id n) (Do (LookWord socket) (λ found. cond (eqb (vref_version found % 2) 0)
+  looks_goes : (heading : Heading) (bytes : List ℕ) → (heading.owner ≡ 0) ⊎ (Past id n ≡ Past heading.owner heading.label.attempt) → Aims (Past id n) (Do (OnSlot (LookWord socket)) (λ found. cond (eqb (vref_version found % 2) 0)
       (claims_from requests 0 socket heading bytes (post id 3001 n (release (socket_id_slot socket) (λ _. next))) (release (socket_id_slot socket) (λ _. next))) (post id 1009 n (release (socket_id_slot socket) (λ _. next)))))
   looks_goes heading bytes may = (
     tt,
@@ -164,7 +164,7 @@ module _ (requests : ℕ) (asked : Asked) (id n socket : ℕ) (next : Program) (
   )
 
   pub attempt_goes : Aims (Trying id n) (attempt requests asked id n socket next)
-  attempt_goes = through_address (Aims (Trying id n)) (words (Trying id n)) socket (Do (FindLink (socket_id_slot socket) (socket_id_version socket)) (λ k. Aside (StoreAt asked.operation (at_word (id_first id) (id_slot id) k n)) (λ _. Do (LookWord socket) (λ found. cond (eqb (vref_version found % 2) 0)
+  attempt_goes = through_address (Aims (Trying id n)) (words (Trying id n)) socket (Do (OnSlot (FindLink (socket_id_slot socket) (socket_id_version socket))) (λ k. Aside (StoreAt asked.operation (at_word (id_first id) (id_slot id) k n)) (λ _. Do (OnSlot (LookWord socket)) (λ found. cond (eqb (vref_version found % 2) 0)
       (claims_from requests 0 socket (heading_for asked id n) (frame_of asked id n) (post id 3001 n (release (socket_id_slot socket) (λ _. next))) (release (socket_id_slot socket) (λ _. next))) (post id 1009 n (release (socket_id_slot socket) (λ _. next)))))))
       (λ _. post id 1009 n next)
       (tt, λ k low. (Trying id n, inl refl, (tt, λ _ _. (Past id n, (id, n, k, refl, refl, low, few, refl), looks_goes (heading_for asked id n) (frame_of asked id n) (inr refl)))))

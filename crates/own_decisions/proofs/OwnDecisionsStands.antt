@@ -8,7 +8,7 @@ use Rattle.corr_core.specs.IdSlotWord.{parts, error_of, attempt_of, unlocked_wor
 use Rattle.corr_core.specs.EndedByRangeOrAttempt.{WHOLE}
 use Rattle.sent_once.specs.Below.id_runs.specs.Goes.{FitsSock}
 use Rattle.seat_programs.specs.Asides.{Step, Found, MakeId, StoreAt, LoadAt, PostId, UnlockId}
-use Rattle.seat_programs.specs.TableSteps.{TableStep, PutMessage}
+use Rattle.seat_programs.specs.TableSteps.{TableStep, OnMessage, PutMessage}
 use Rattle.seat_programs.specs.LoopHeads.{Head, Exit, Posts, Unlocks, Decides, Locks, Posting, HasLocked, Unlocking, Locking, NotThere, Has}
 use Rattle.seat_programs.specs.PostPrograms.{is_stale, IsSoughtWord}
 use Rattle.seat_programs.specs.Writings.{Writing, Puts, Waits}
@@ -33,7 +33,7 @@ behind_message heading = if heading.owner == 0 then Calm else Past heading.owner
 -- ## Steps
 
 abbrev pub MayPut : Stand → TableStep → Type 0
-MayPut s (PutMessage q heading bytes) = (heading.owner ≡ 0) ⊎ (s ≡ Past heading.owner heading.label.attempt)
+MayPut s (OnMessage (PutMessage q heading bytes)) = (heading.owner ≡ 0) ⊎ (s ≡ Past heading.owner heading.label.attempt)
 MayPut s other = Unit {0}
 
 -- an error for the whole call, or of an attempt that nobody tries

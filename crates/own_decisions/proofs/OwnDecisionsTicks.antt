@@ -27,7 +27,7 @@ use Rattle.sent_once.specs.Below.id_runs.specs.Goes.{FitsFirst, FindsId, FitsRet
 use Rattle.sent_once.specs.Below.id_runs.proofs.AsideStepsKeepRule.{finds_ids}
 use Rattle.seat_programs.specs.Asides.{Step, Found, ClaimId, PutCall, MakeId, StoreCall, LoadCall, StoreAt, LoadAt, LoadIdWord, LockId, PostId, UnlockId, EndId, FreeId, TakeCall, TakeBytes, Taking, Bytes}
 use Rattle.seat_programs.specs.FoundAndChangedAside.{found_in, calls_after}
-use Rattle.seat_programs.specs.TableSteps.{TableStep, PutMessage}
+use Rattle.seat_programs.specs.TableSteps.{TableStep, OnMessage, PutMessage}
 use Rattle.seat_programs.specs.LoopHeads.{Retry, Decides}
 use Rattle.seat_programs.specs.PostPrograms.{packed, is_stale}
 use Rattle.seat_programs.specs.Programs.{Program, Do, Say, Sent, TakeMessage, TakeHome, PutHome, PutBytes, AskReady, Write, Aside, Round, Keep, Retries}
@@ -350,8 +350,8 @@ module _ (p : Plan) (q : IdPlan) (narrow : q.slots ≤ 65536) (Taken : Post → 
     same x hand ws hs homes hands g = on_sockets x hand ws hs s (λ id n. omega arith) (eased_stand [] s (inl refl)) homes hands g
 
     put_fits : (call : TableStep) (u : Stand) → MayPut s call → PutFits (HeadFits (Behind u)) call
-    put_fits (PutMessage r heading bytes) u (inl none_) = λ some_. absurd (some_ none_)
-    put_fits (PutMessage r heading bytes) u (inr is) = λ _. inl (subst (StandFits (IsPast q c ss) (Mine i)) is (law.stands i s at_stand))
+    put_fits (OnMessage (PutMessage r heading bytes)) u (inl none_) = λ some_. absurd (some_ none_)
+    put_fits (OnMessage (PutMessage r heading bytes)) u (inr is) = λ _. inl (subst (StandFits (IsPast q c ss) (Mine i)) is (law.stands i s at_stand))
     put_fits _ u may = tt
 
     by_letter : (r : ℕ) (next : Heading → List ℕ → Program) → Aims s (TakeMessage r next) → (x : Option HeadedBytes) → message (λ (h : Home). h) c.homes r ≡ x → Result [] (with_message p i seat c r x (λ letter. next letter.0 letter.1))

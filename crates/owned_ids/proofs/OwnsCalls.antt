@@ -17,7 +17,7 @@ use Rattle.seat_programs.specs.declared.task.Op.{Op}
 use Rattle.seat_programs.specs.declared.task.Op.TheVariants as ops
 use Rattle.seat_programs.specs.declared.task.Task.{Task}
 use Rattle.seat_programs.specs.declared.task.Sizes.{Sizes}
-use Rattle.seat_programs.specs.TableSteps.{TableStep, ClaimSlot, CreateLife, StoreLink, ResetHead, ClearCode, StoreName, StoreOpen, TakeLink, FinishLink, PutLink, LookWord, FindLink, ClaimRequest, LoadName}
+use Rattle.seat_programs.specs.TableSteps.{TableStep, OnSlot, OnName, OnChain, OnLink, ClaimSlot, CreateLife, StoreLink, ResetHead, ClearCode, StoreName, StoreOpen, TakeLink, FinishLink, PutLink, LookWord, FindLink, ClaimRequest, LoadName}
 use Rattle.seat_programs.specs.Asides.{PutCall, LoadCall, StoreAt, LoadAt}
 use Rattle.seat_programs.specs.LoopHeads.{First, Unlocks, Posting, WasGone, WasStale, WasCrowded, WasQueued, HasLocked, Unlocking, IsOpen, HasNext, Locking, NotThere, Has, Ended}
 use Rattle.seat_programs.specs.Programs.{Program, Do, Say, Rest, Aside, Round, release, add_reference, open_from, make_socket}
@@ -51,17 +51,17 @@ module _ (has : ℕ → ℕ) (mine : ℕ → Bool) where
 
   claims_goes : (more q id : ℕ) (heading : Heading) (bytes : List ℕ) (full accepted : Program) → G full → G accepted → G (claims_from more q id heading bytes full accepted)
   claims_goes zero q id heading bytes full accepted none_ after = none_
-  claims_goes (suc more) q id heading bytes full accepted none_ after = step has mine (ClaimRequest id q) _ (λ found. either_way (found % 2 == 0) _ _ G
+  claims_goes (suc more) q id heading bytes full accepted none_ after = step has mine (OnChain (ClaimRequest id q)) _ (λ found. either_way (found % 2 == 0) _ _ G
       (accept_goes has mine id q (found / 2) heading bytes accepted after) (claims_goes more (q + 1) id heading bytes full accepted none_ after))
 
   -- the bytes of the frame play no part
   tries_goes : (requests o socket id n : ℕ) (heading : Heading) (bytes : List ℕ) (next : Program) → n < 64 → IsIdOf has o id → G next
-      → G (add_reference socket (Do (FindLink (socket_id_slot socket) (socket_id_version socket)) (λ k. Aside (StoreAt o (at_word (id_first id) (id_slot id) k n)) (λ _. Do (LookWord socket) (λ found.
+      → G (add_reference socket (Do (OnSlot (FindLink (socket_id_slot socket) (socket_id_version socket))) (λ k. Aside (StoreAt o (at_word (id_first id) (id_slot id) k n)) (λ _. Do (OnSlot (LookWord socket)) (λ found.
       cond (vref_version found % 2 == 0) (claims_from requests 0 socket heading bytes (post id 3001 n (release (socket_id_slot socket) (λ _. next))) (release (socket_id_slot socket) (λ _. next)))
       (post id 1009 n (release (socket_id_slot socket) (λ _. next))))))) (λ _. post id 1009 n next))
   tries_goes requests o socket id n heading bytes next few own after = let goes : G (release (socket_id_slot socket) (λ _. next)) = release_goes has mine (socket_id_slot socket) (λ _. next) (λ _. after) in
       address_goes has mine socket _ (λ _. post id 1009 n next)
-      (step_fits (FindLink (socket_id_slot socket) (socket_id_version socket)) _ (λ k low. stores o (at_word (id_first id) (id_slot id) k n) _ (id, n, k, own, refl, low, few) (λ _. step has mine (LookWord socket) _ (λ found.
+      (step_fits (OnSlot (FindLink (socket_id_slot socket) (socket_id_version socket))) _ (λ k low. stores o (at_word (id_first id) (id_slot id) k n) _ (id, n, k, own, refl, low, few) (λ _. step has mine (OnSlot (LookWord socket)) _ (λ found.
       either_way (vref_version found % 2 == 0) _ _ G
       (claims_goes requests 0 socket heading bytes (post id 3001 n (release (socket_id_slot socket) (λ _. next))) (release (socket_id_slot socket) (λ _. next)) (post_goes has mine id 3001 n (release (socket_id_slot socket) (λ _. next)) goes) goes)
       (post_goes has mine id 1009 n (release (socket_id_slot socket) (λ _. next)) goes)))))
@@ -71,7 +71,7 @@ module _ (has : ℕ → ℕ) (mine : ℕ → Bool) where
   attempt_goes requests asked id n socket next few own after = tries_goes requests asked.operation socket id n (heading_for asked id n) (frame_of asked id n) next few own after
 
   tried_goes : (requests id n : ℕ) (asked : Asked) (next : Program) → n < 64 → IsIdOf has asked.operation id → G next → (exit : Unlocking) → AfterUnlock has mine (id_slot id) (tried_again requests id n asked next) exit
-  tried_goes requests id n asked next few own after (IsOpen w) = step has mine (LoadName (name_of asked n)) _ (λ word. either_way (word == 0) _ _ G (post_goes has mine id 1009 n next after) (attempt_goes requests asked id n (word - 1) next few own after))
+  tried_goes requests id n asked next few own after (IsOpen w) = step has mine (OnName (LoadName (name_of asked n))) _ (λ word. either_way (word == 0) _ _ G (post_goes has mine id 1009 n next after) (attempt_goes requests asked id n (word - 1) next few own after))
   tried_goes requests id n asked next few own after (HasNext w e) = decide_goes has mine id w e (decided id next) (decided_goes has mine id next after)
 
 -- ## A call
@@ -122,7 +122,7 @@ module _ (has : ℕ → ℕ) (mine : ℕ → Bool) where
       by_hit others false most h = others.goes most h Other
 
   pub call_goes : (requests ids : ℕ) (asked : Asked) (next : Program) → mine asked.operation ≡ true → Goes next → Later has (but asked.operation mine) next → Goes (call requests ids asked next)
-  call_goes requests ids asked next here after made = step has mine (LoadName (name_of asked 0)) _ (λ word. either_way (word == 0) _ _ Goes (say has mine asked.operation Unopened next after) (claim_goes ids 0 requests (word - 1) asked next here after made))
+  call_goes requests ids asked next here after made = step has mine (OnName (LoadName (name_of asked 0))) _ (λ word. either_way (word == 0) _ _ Goes (say has mine asked.operation Unopened next after) (claim_goes ids 0 requests (word - 1) asked next here after made))
 
   pub retry_goes : (requests id n : ℕ) (next : Program) → n < 64 → Goes next → Goes (retry requests id n next)
   retry_goes requests id n next few after = locks_again has mine (id_slot id) (First (id_first id)) None (retry_locked requests id n next) tt (locked_goes has mine requests id n next few after)
@@ -181,9 +181,9 @@ module _ (has : ℕ → ℕ) (mine : ℕ → Bool) where
   -- ## Clients
 
   open_goes : (more i o name k : ℕ) (next : Program) → Goes next → Goes (open_from more i o name k next)
-  open_goes zero i o name k next after = step has mine (TakeLink k) _ (λ _. step has mine (FinishLink k) _ (λ _. step has mine (PutLink k) _ (λ _. step has mine (StoreOpen o NO_SOCKET) _ (λ _. say has mine o _ next after))))
-  open_goes (suc more) i o name k next after = step has mine (ClaimSlot i) _ (λ found. either_way (found == 0) (make_socket o name k i next) (open_from more (i + 1) o name k next) Goes
-      (step has mine (StoreLink i k) _ (λ _. step has mine (ResetHead i k) _ (λ _. step has mine (ClearCode i k) _ (λ _. step has mine (CreateLife i k) _ (λ word. step has mine (StoreOpen o _) _ (λ _. step has mine (StoreName name _) _ (λ _. say has mine o _ next after)))))))
+  open_goes zero i o name k next after = step has mine (OnLink (TakeLink k)) _ (λ _. step has mine (OnLink (FinishLink k)) _ (λ _. step has mine (OnLink (PutLink k)) _ (λ _. step has mine (OnName (StoreOpen o NO_SOCKET)) _ (λ _. say has mine o _ next after))))
+  open_goes (suc more) i o name k next after = step has mine (OnSlot (ClaimSlot i)) _ (λ found. either_way (found == 0) (make_socket o name k i next) (open_from more (i + 1) o name k next) Goes
+      (step has mine (OnSlot (StoreLink i k)) _ (λ _. step has mine (OnSlot (ResetHead i k)) _ (λ _. step has mine (OnSlot (ClearCode i k)) _ (λ _. step has mine (OnSlot (CreateLife i k)) _ (λ word. step has mine (OnName (StoreOpen o _)) _ (λ _. step has mine (OnName (StoreName name _)) _ (λ _. say has mine o _ next after)))))))
       (open_goes more (i + 1) o name k next after))
 
   back_goes : (held : List HeldLife) → Goes (give_back held)

@@ -15,7 +15,7 @@ use Rattle.seat_programs.specs.brpc_model.specs.Frame.{Frame}
 use Rattle.seat_programs.specs.brpc_model.specs.FrameStream as streams
 use Rattle.seat_programs.specs.brpc_model.specs.ResponseOutcome.{ending_of}
 use Rattle.seat_programs.specs.sock_message.specs.Asked.{Asked}
-use Rattle.seat_programs.specs.TableSteps.{TableStep, LoadOpen}
+use Rattle.seat_programs.specs.TableSteps.{TableStep, OnName, LoadOpen}
 use Rattle.seat_programs.specs.Asides.{Step, Found, ClaimId, PutCall, MakeId, StoreCall, LoadCall, StoreAt, LoadAt, LoadIdWord, LockId, PostId, UnlockId, EndId, FreeId, TakeCall, TakeBytes, Taking, Bytes, Nothing, Closed}
 use Rattle.seat_programs.specs.LoopHeads.{Head, Exit, Retry, Sought, First, Version, Reading, Posts, Unlocks, Decides, Locks, Joins, Opens, Reads, Discards, Posting, WasGone, WasStale, WasCrowded, WasQueued, HasLocked, Unlocking, IsOpen, HasNext, Deciding, HasEnded, GoesOn, Locking, NotThere, Has, Ended}
 use Rattle.seat_programs.specs.Programs.{Program, Do, Say, Sent, Rest, TakeMessage, TakeHome, PutHome, PutBytes, AskReady, Write, Aside, Round, Keep, Retries}
@@ -308,7 +308,7 @@ module _ (has : ℕ → ℕ) (left : ℕ → Bool) where
   opens_again o k after = record { goes = λ more g b. (tt, λ exit most h f _. (after exit).goes most (grows_on has more most g h) Other) }
 
   opens_goes : (o : ℕ) (k : ℕ → Program) → ((x : ℕ) → Later (k x)) → Later (opens_round o k)
-  opens_goes o k after = step (LoadOpen o) _ (λ word. either_way (word == 0) _ _ Later (opens_again o k after) (after word))
+  opens_goes o k after = step (OnName (LoadOpen o)) _ (λ word. either_way (word == 0) _ _ Later (opens_again o k after) (after word))
 
   pub reads_again : (r : Reading) (k : Ended → Program) → ((x : Ended) → Later (k x)) → Later (Round (Reads r) k)
   reads_again r k after = record { goes = λ more g b. (tt, λ exit most h f _. (after exit).goes most (grows_on has more most g h) Other) }

@@ -24,7 +24,7 @@ use Rattle.call_owing.specs.Below.sock_steps.proofs.LifeLinkSlotPlaces.{counts, 
 use Rattle.call_owing.specs.Below.sock_steps.proofs.SumsAsMarksChange.{either_way}
 use Rattle.seat_programs.specs.declared.task.Task.{Task}
 use Rattle.seat_programs.specs.declared.task.Sizes.{Sizes}
-use Rattle.seat_programs.specs.TableSteps.{TableStep, CreateLife, StoreOpen}
+use Rattle.seat_programs.specs.TableSteps.{TableStep, OnSlot, OnName, CreateLife, StoreOpen}
 use Rattle.seat_programs.specs.Programs.{Program, Do, Rest, open_from, make_socket}
 use Rattle.seat_programs.specs.ClientProgram.{HeldLife, operation, client_from, ending_of}
 use Rattle.seat_programs.specs.Cores.{Calls, Core, SeatState, found_at, words_after, homes_after, hand_after, resolved, next_step, waiting_at, with_seat, stepped}
@@ -56,15 +56,15 @@ use Rattle.sock_words.specs.Totals.{total}
 
 -- the next step stores in the word of an `open`
 abbrev pub IsStore : Program → Type 0
-IsStore (Do (StoreOpen o w) next) = Unit {0}
+IsStore (Do (OnName (StoreOpen o w)) next) = Unit {0}
 IsStore other = ⊥
 
 -- in the word of an `open` the program stores each life that it makes, at once, and else only that there is none; here it has just made this life of this link
 abbrev pub NamesAt : (ℕ → ℕ → Type 0) → Option (ℕ × ℕ) → TableStep → (ℕ → Program) → (Option (ℕ × ℕ) → ℕ → Type 0) → Type 0
-NamesAt own none (CreateLife i k) next behind = (found : ℕ) → IsStore (next found) × behind (some (k, socket_id (vref_version found) i)) found
-NamesAt own none (StoreOpen o w) next behind = (w ≡ NO_SOCKET) × ((found : ℕ) → behind none found)
+NamesAt own none (OnSlot (CreateLife i k)) next behind = (found : ℕ) → IsStore (next found) × behind (some (k, socket_id (vref_version found) i)) found
+NamesAt own none (OnName (StoreOpen o w)) next behind = (w ≡ NO_SOCKET) × ((found : ℕ) → behind none found)
 NamesAt own none call next behind = (found : ℕ) → behind none found
-NamesAt own (some x) (StoreOpen o w) next behind = own x.0 o × (w ≡ x.1 + 1) × ((found : ℕ) → behind none found)
+NamesAt own (some x) (OnName (StoreOpen o w)) next behind = own x.0 o × (w ≡ x.1 + 1) × ((found : ℕ) → behind none found)
 NamesAt own (some x) call next behind = ⊥
 
 abbrev pub NamesBehind : (ℕ → ℕ → Type 0) → Option (ℕ × ℕ) → Program → Type 0
@@ -78,11 +78,11 @@ record StoresNew (own : ℕ → ℕ → Type 0) (x : ℕ × ℕ) (program : Prog
   operation : ℕ
   after : ℕ → Program
   mine : own x.0 operation
-  stores : program ≡ Do (StoreOpen operation (x.1 + 1)) after
+  stores : program ≡ Do (OnName (StoreOpen operation (x.1 + 1))) after
   goes : (found : ℕ) → Names own (after found)
 
 stores_new : (own : ℕ → ℕ → Type 0) (x : ℕ × ℕ) (program : Program) → IsStore program × NamesBehind own (some x) program → StoresNew own x program
-stores_new own x (Do (StoreOpen o w) next) n = let m = n.1 in record { operation = o; after = next; mine = m.0; stores = ap (λ y. Do (StoreOpen o y) next) m.1; goes = m.2 }
+stores_new own x (Do (OnName (StoreOpen o w)) next) n = let m = n.1 in record { operation = o; after = next; mine = m.0; stores = ap (λ y. Do (OnName (StoreOpen o y)) next) m.1; goes = m.2 }
 stores_new own x other n = absurd n.0
 
 module _ (own : ℕ → ℕ → Type 0) where
@@ -93,8 +93,8 @@ module _ (own : ℕ → ℕ → Type 0) where
   names_passes = at_calls_passes (Unit {0}) (NamesAt own) every_exit none (λ call next s b l r. plain call next s b r) (λ head l next r. r)
     where
       plain : (call : TableStep) (next : ℕ → Program) → stores call ≡ none → bears call ≡ none → ((found : ℕ) → Names own (next found)) → Names own (Do call next)
-      plain (CreateLife i k) next s b r = absurd (some-ne-none i b)
-      plain (StoreOpen o w) next s b r = absurd (some-ne-none (o, w) s)
+      plain (OnSlot (CreateLife i k)) next s b r = absurd (some-ne-none i b)
+      plain (OnName (StoreOpen o w)) next s b r = absurd (some-ne-none (o, w) s)
       plain call next s b r = r
 
   names_opens : PassesOpens (Names own)
@@ -131,7 +131,7 @@ pub record IsNew (own : ℕ → ℕ → Type 0) (p : Plan) (c : Core) (vs : List
   pub after : ℕ → Program
   pub inside : slot < p.slots
   pub mine : own link operation
-  pub stores : program ≡ Do (StoreOpen operation (socket_id version slot + 1)) after
+  pub stores : program ≡ Do (OnName (StoreOpen operation (socket_id version slot + 1))) after
   pub given : IsGiven c vs slot version link
   pub goes : (x : ℕ) → Names own (after x)
 
@@ -148,10 +148,10 @@ pub record Named (p : Plan) (own : ℕ → ℕ → Type 0) (c : Core) (vs : List
   pub programs : (j : ℕ) (seat : SeatState) → get_elem? c.seats j ≡ some seat → Names own seat.program ⊎ IsNew own p c vs seat.program
   pub words : (o : ℕ) → o < p.operations → get_or c.words (open_index p o) 0 ≢ 0 → get_or c.words (open_index p o) 0 ≢ NO_SOCKET → IsOfLink own p c vs o
 
-first_stores : (program : Program) (o w : ℕ) (after : ℕ → Program) → program ≡ Do (StoreOpen o w) after → first_step program ≡ Do (StoreOpen o w) after
+first_stores : (program : Program) (o w : ℕ) (after : ℕ → Program) → program ≡ Do (OnName (StoreOpen o w)) after → first_step program ≡ Do (OnName (StoreOpen o w)) after
 first_stores program o w after e = ap first_step e ∙ refl
 
-same_store : (o w o' w' : ℕ) (f g : ℕ → Program) → Do (StoreOpen o w) f ≡ Do (StoreOpen o' w') g → (o ≡ o') × (w ≡ w') × (f ≡ g)
+same_store : (o w o' w' : ℕ) (f g : ℕ → Program) → Do (OnName (StoreOpen o w)) f ≡ Do (OnName (StoreOpen o' w')) g → (o ≡ o') × (w ≡ w') × (f ≡ g)
 same_store o w o' w' f g e = (cc, cc, cc)
 
 module _ (p : Plan) (own : ℕ → ℕ → Type 0) (c : Core) (vs : List View) (i : ℕ) (sized : length c.words ≡ all_words p) (n : Named p own c vs) (seat : SeatState) (v : View) (at_seat : get_elem? c.seats i ≡ some seat) (at_view : get_elem? vs i ≡ some v) where
@@ -183,8 +183,8 @@ module _ (p : Plan) (own : ℕ → ℕ → Type 0) (c : Core) (vs : List View) (
     mine : Names own seat.program → Names own (Do call next)
     mine x = subst (Names own) is (through_first (Names own) (names_passes own) (names_opens own) (names_follow own) seat.program x)
 
-    is_new : IsNew own p c vs seat.program → (x : IsNew own p c vs seat.program) × (call ≡ StoreOpen x.operation (socket_id x.version x.slot + 1)) × (next ≡ x.after)
-    is_new x = let e : Do call next ≡ Do (StoreOpen x.operation (socket_id x.version x.slot + 1)) x.after = sym is ∙ first_stores seat.program x.operation (socket_id x.version x.slot + 1) x.after x.stores in (x, cc, cc)
+    is_new : IsNew own p c vs seat.program → (x : IsNew own p c vs seat.program) × (call ≡ OnName (StoreOpen x.operation (socket_id x.version x.slot + 1))) × (next ≡ x.after)
+    is_new x = let e : Do call next ≡ Do (OnName (StoreOpen x.operation (socket_id x.version x.slot + 1))) x.after = sym is ∙ first_stores seat.program x.operation (socket_id x.version x.slot + 1) x.after x.stores in (x, cc, cc)
 
     with_next : Names own (next found) ⊎ IsNew own p after (set vs i w) seat'.program → ((o : ℕ) → o < p.operations → get_or after.words (open_index p o) 0 ≢ 0 → get_or after.words (open_index p o) 0 ≢ NO_SOCKET → IsOfLink own p after (set vs i w) o)
         → Named p own after (set vs i w)
@@ -209,11 +209,11 @@ module _ (p : Plan) (own : ℕ → ℕ → Type 0) (c : Core) (vs : List View) (
     plain_step none_ no_birth = with_next (inl (behind call next none_ no_birth (mine (not_new none_ (n.programs i seat at_seat))) found)) (old_words none_)
       where
         behind : (call : TableStep) (next : ℕ → Program) → stores call ≡ none → bears call ≡ none → Names own (Do call next) → (found : ℕ) → Names own (next found)
-        behind (CreateLife a b) next s e r n = absurd (some-ne-none a e)
-        behind (StoreOpen o x) next s e r n = absurd (some-ne-none (o, x) s)
+        behind (OnSlot (CreateLife a b)) next s e r n = absurd (some-ne-none a e)
+        behind (OnName (StoreOpen o x)) next s e r n = absurd (some-ne-none (o, x) s)
         behind call next s e r n = r n
 
-    pub birth_step : (a k : ℕ) → call ≡ CreateLife a k → Named p own after (set vs i w)
+    pub birth_step : (a k : ℕ) → call ≡ OnSlot (CreateLife a k) → Named p own after (set vs i w)
     birth_step a k made = let g = stores_new own (k, socket_id (vref_version found) a) (next found) (subst (λ x. Names own (Do x next)) made (mine (not_new (ap stores made) (n.programs i seat at_seat))) found) in
         with_next (inr record {
           operation = g.operation;
@@ -244,11 +244,11 @@ module _ (p : Plan) (own : ℕ → ℕ → Type 0) (c : Core) (vs : List View) (
         born = let moved = counts (state c vs) i v w at_view (words_after c.words (word_of p call) (word_after call (found_at c.words (word_of p call)))) (homes_after p call seat.hand c.homes) (is_linked (vref_version found) k) a in
             omega (arith, noted, moved, own_count (state c vs) i v at_view (is_linked (vref_version found) k) a)
 
-    pub store_step : (o x : ℕ) → call ≡ StoreOpen o x → Named p own after (set vs i w)
+    pub store_step : (o x : ℕ) → call ≡ OnName (StoreOpen o x) → Named p own after (set vs i w)
     store_step o x made = ⊎_elim
         (λ g. let r = subst (λ y. Names own (Do y next)) made (mine g) in with_next (inl (r.1 found))
         (λ m inside some_ socket. dite (ℕ_discrete m o) (λ e. absurd (socket (ap (λ y. get_or after.words (open_index p y) 0) e ∙ here ∙ r.0))) (λ far. other m inside far some_ socket)))
-        (λ g. let y = is_new g in let e : StoreOpen o x ≡ StoreOpen y.0.operation (socket_id y.0.version y.0.slot + 1) = sym made ∙ y.1 in let same : o ≡ y.0.operation = cc in let word : x ≡ socket_id y.0.version y.0.slot + 1 = cc in
+        (λ g. let y = is_new g in let e : OnName (StoreOpen o x) ≡ OnName (StoreOpen y.0.operation (socket_id y.0.version y.0.slot + 1)) = sym made ∙ y.1 in let same : o ≡ y.0.operation = cc in let word : x ≡ socket_id y.0.version y.0.slot + 1 = cc in
         with_next (inl (subst (λ (f : ℕ → Program). Names own (f found)) (sym y.2) (y.0.goes found)))
         (λ m inside some_ socket. dite (ℕ_discrete m o)
         (λ is_o. record { link = y.0.link; slot = y.0.slot; version = y.0.version; inside = y.0.inside; mine = subst (own y.0.link) (sym same ∙ sym is_o) y.0.mine; word = ap (λ z. get_or after.words (open_index p z) 0) is_o ∙ here ∙ word; given = given_stays y.0.slot y.0.version y.0.link y.0.given })
@@ -301,8 +301,8 @@ named_ticks p own c vs m sound answered fitting n = tick_keeps_marks p c vs m so
   where
     by_call : (seat : SeatState) (v : View) (call : TableStep) (next : ℕ → Program) → get_elem? c.seats m.seat ≡ some seat → get_elem? vs m.seat ≡ some v → first_step seat.program ≡ Do call next → May p v call
         → Named p own (stepped p m.seat seat call next c) (set vs m.seat (row p call (found_at c.words (word_of p call)) (hand_at p c.words c.homes call) v))
-    by_call seat v (CreateLife a k) next at_seat at_view is may = birth_step p own c vs m.seat sound.lawful.references.sized n seat v at_seat at_view (CreateLife a k) next is may a k refl
-    by_call seat v (StoreOpen o x) next at_seat at_view is may = store_step p own c vs m.seat sound.lawful.references.sized n seat v at_seat at_view (StoreOpen o x) next is may o x refl
+    by_call seat v (OnSlot (CreateLife a k)) next at_seat at_view is may = birth_step p own c vs m.seat sound.lawful.references.sized n seat v at_seat at_view (OnSlot (CreateLife a k)) next is may a k refl
+    by_call seat v (OnName (StoreOpen o x)) next at_seat at_view is may = store_step p own c vs m.seat sound.lawful.references.sized n seat v at_seat at_view (OnName (StoreOpen o x)) next is may o x refl
     by_call seat v call next at_seat at_view is may = plain_step p own c vs m.seat sound.lawful.references.sized n seat v at_seat at_view call next is may refl refl
 
 -- over every run

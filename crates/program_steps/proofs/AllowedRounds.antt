@@ -31,7 +31,7 @@ use Rattle.seat_programs.specs.Ticks.{FitsPut}
 use Rattle.sock_steps.specs.slot_steps.proofs.SlotWeightSums.{total_mono, about-here}
 use Rattle.sock_steps.specs.slot_steps.proofs.RuleNumbers.{only-same, only-else}
 use Rattle.sock_steps.specs.slot_steps.proofs.ReferenceStepsKeepSlot.{hold_ref}
-use Rattle.seat_programs.specs.TableSteps.{StoreCode, SubRef, ReadNext, FreeRequest, DropPlace, EmptyHead, ReverseNext}
+use Rattle.seat_programs.specs.TableSteps.{OnSlot, OnChain, OnPlace, StoreCode, SubRef, ReadNext, FreeRequest, DropPlace, EmptyHead, ReverseNext}
 use Rattle.seat_programs.specs.BufferParts.{room_of_part}
 use Rattle.seat_programs.specs.Writings.{Holder, Writing, Puts, Waits, Empties, Reversing}
 use Rattle.seat_programs.specs.Programs.{Program, Do, TakeMessage, TakeHome, PutBytes, Write, LAST_GENERATION, set_failed}
@@ -209,7 +209,7 @@ module _ (p : Plan) (v : View) (id k c : ℕ) (r : Right) (a : Keeps p v id k r)
       both true = refl
       both false = refl
 
-  gives_back : ((g : ℕ) → 0 < marks_of (is_hold g) i v → g ≡ h) → GoesOn p (record v { marks = stored }) (Do (SubRef i) (λ _. next))
+  gives_back : ((g : ℕ) → 0 < marks_of (is_hold g) i v → g ≡ h) → GoesOn p (record v { marks = stored }) (Do (OnSlot (SubRef i)) (λ _. next))
   gives_back one = let u : View = record v { marks = stored } in let refs = stored_weighs is_ref in let held = a.holds.held in (
     (a.holds.inside, omega (arith, refs), omega (arith, stored_weighs is_any_coding, a.no_coding), λ x s g has holds met. inr (twice g holds)),
     λ found hand f. let own = f.0 in
@@ -231,18 +231,18 @@ module _ (p : Plan) (v : View) (id k c : ℕ) (r : Right) (a : Keeps p v id k r)
           (λ n. absurd (n (sym (one g (omega (arith, holds, stored_weighs (is_hold g), only-else g h n))))))
 
   saves_code : ((g : ℕ) → 0 < marks_of (is_hold g) i v → g ≡ h)
-      → GoesOn p (record v { marks = at i (Hold h) ∷ at i (Coding h) ∷ failer }) (Do (StoreCode i h c) (λ _. Do (SubRef i) (λ _. next)))
+      → GoesOn p (record v { marks = at i (Hold h) ∷ at i (Coding h) ∷ failer }) (Do (OnSlot (StoreCode i h c)) (λ _. Do (OnSlot (SubRef i)) (λ _. next)))
   saves_code one = (
     (a.holds.inside, omega (arith, about_top (is_coding h) i (Hold h) (at i (Coding h) ∷ failer), about_top (is_coding h) i (Coding h) failer, only-same h), some_code),
-    λ found hand f. subst (λ (es : List SlotMark). GoesOn p (record v { marks = at i (Stored h c) ∷ at i (Told h c) ∷ es }) (Do (SubRef i) (λ _. next)))
+    λ found hand f. subst (λ (es : List SlotMark). GoesOn p (record v { marks = at i (Stored h c) ∷ at i (Told h c) ∷ es }) (Do (OnSlot (SubRef i)) (λ _. next)))
         (sym (without_past i (is_coding h) (Hold h) (at i (Coding h) ∷ failer) refl ∙ ap (λ (es : List SlotMark). at i (Hold h) ∷ es) (without_first i (is_coding h) (Coding h) failer (omega (arith, only-same h)))))
         (gives_back one),
   )
 
   fails_branch : (b : Bool) (w : ℕ) → (b ≡ true → w ≡ h) → ((g : ℕ) → 0 < marks_of (is_hold g) i v → g ≡ h)
       → GoesOn p (record v { marks = cond b (at i (Hold w) ∷ at i (Coding w) ∷ at i (Failer w) ∷ at i (Saw (w + 1)) ∷ v.marks) (at i (Saw w) ∷ v.marks) })
-      (cond b (Do (StoreCode i h c) (λ _. Do (SubRef i) (λ _. next))) next)
-  fails_branch true w is one = subst (λ x. GoesOn p (record v { marks = at i (Hold x) ∷ at i (Coding x) ∷ at i (Failer x) ∷ at i (Saw (x + 1)) ∷ v.marks }) (Do (StoreCode i h c) (λ _. Do (SubRef i) (λ _. next))))
+      (cond b (Do (OnSlot (StoreCode i h c)) (λ _. Do (OnSlot (SubRef i)) (λ _. next))) next)
+  fails_branch true w is one = subst (λ x. GoesOn p (record v { marks = at i (Hold x) ∷ at i (Coding x) ∷ at i (Failer x) ∷ at i (Saw (x + 1)) ∷ v.marks }) (Do (OnSlot (StoreCode i h c)) (λ _. Do (OnSlot (SubRef i)) (λ _. next))))
       (sym (is refl)) (saves_code one)
   fails_branch false w is one = goes (at i (Saw w) ∷ []) (tt, tt)
 
@@ -286,7 +286,7 @@ module _ (p : Plan) (after : Program) where
     next_branch : (next : ℕ) (b : Bool) → b ≡ eqb (ticket_generation now) LAST_GENERATION → (w : View) (t : Right) → IsHolder p w h t → t.taken ≡ false → t.put ≡ 0 → Follows p w after
         → GoesOn p (with_right w (record t { stage = cond b (stages.Writes next) (stages.Passes now next) }))
         (cond b (tells (TakeMessage (ticket_request next) (λ heading bytes. Write (Puts h next heading bytes 0 false) after)))
-        (Do (FreeRequest (ticket_request now) (ticket_generation now)) (λ _. tells (TakeMessage (ticket_request next) (λ heading bytes. Write (Puts h next heading bytes 0 false) after)))))
+        (Do (OnChain (FreeRequest (ticket_request now) (ticket_generation now))) (λ _. tells (TakeMessage (ticket_request next) (λ heading bytes. Write (Puts h next heading bytes 0 false) after)))))
     next_branch next true is w t c none_ unput follows = let x : Right = record t { stage = stages.Writes next } in
         tells_go (with_right w x) (TakeMessage (ticket_request next) (λ heading bytes. Write (Puts h next heading bytes 0 false) after)) (takes_next (with_right w x) h x next (holder h (changed x (keeps c) c.link) c.last c.places c.away) refl none_ unput follows)
     next_branch next false is w t c none_ unput follows = let x : Right = record t { stage = stages.Passes now next } in let u : View = with_right w x in
@@ -298,8 +298,8 @@ module _ (p : Plan) (after : Program) where
         )
 
     passed_branch : (b d : Bool) → b ≡ eqb now h.last → d ≡ eqb (ticket_generation now) LAST_GENERATION → GoesOn p (with_right v (record s { stage = cond (b && d) stages.Empties (stages.Placed now) }))
-        (cond b (cond d (tells (Write (Empties h) after)) (Do (FreeRequest (ticket_request now) (ticket_generation now)) (λ _. tells (Write (Empties h) after))))
-        (Do (ReadNext (ticket_request now)) (λ next. freed now (tells (TakeMessage (ticket_request next) (λ heading bytes. Write (Puts h next heading bytes 0 false) after))))))
+        (cond b (cond d (tells (Write (Empties h) after)) (Do (OnChain (FreeRequest (ticket_request now) (ticket_generation now))) (λ _. tells (Write (Empties h) after))))
+        (Do (OnChain (ReadNext (ticket_request now))) (λ next. freed now (tells (TakeMessage (ticket_request next) (λ heading bytes. Write (Puts h next heading bytes 0 false) after))))))
     passed_branch true true is is₁ = tells_go (with_right v (record s { stage = stages.Empties })) (Write (Empties h) after) ((record s { stage = stages.Empties }, staged stages.Empties, record { stage_is = refl; none_ = none_; put = put }), follows)
     passed_branch true false is is₁ = let x : Right = record s { stage = stages.Placed now } in let u : View = with_right v x in (
       (now, refl, refl, not_equal _ _ is₁, (x, (staged (stages.Placed now)).one, inl (refl, eqb-true now h.last (sym is) ∙ sym last))),
@@ -352,7 +352,7 @@ module _ (p : Plan) (after : Program) (v : View) (h : Holder) (r : Right) (now :
   clean_or_none : r.put ≡ 0 ⊎ (r.clean ≡ true)
   clean_or_none = dite (ℕ_discrete r.put 0) (λ e. inl e) (λ n. inr (m.clean (omega (arith, n, m.put))))
 
-  drops_goes : (code : ℕ) → 0 < marks_of (is_saw (socket_id_version h.id + 1)) (socket_id_slot h.id) v → GoesOn p v (Do (DropPlace heading.label.place h.link h.places) (λ _. passed_telling (one_more h) now (tell_drop heading code) after))
+  drops_goes : (code : ℕ) → 0 < marks_of (is_saw (socket_id_version h.id + 1)) (socket_id_slot h.id) v → GoesOn p v (Do (OnPlace (DropPlace heading.label.place h.link h.places)) (λ _. passed_telling (one_more h) now (tell_drop heading code) after))
   drops_goes code saw = let sent : List ℕ = r.sent ++ take r.put r.bytes in (
     (
       record { mine = own_right a; now = now; sent = sent; stage = m.stage; taken = m.in_hand; away = a.away; label_in = labelled p after v h r now heading a m.stage m.in_hand m.heading_is m.label_in follows; part = part_of clean_or_none },
@@ -386,7 +386,7 @@ module _ (p : Plan) (after : Program) (h : Holder) (now : ℕ) (heading : Headin
   dropped_goes v r a m follows saw = let i : ℕ = socket_id_slot h.id in let g : ℕ = socket_id_version h.id in
       ((a.holds.inside, a.holds.held), λ found hand f. by_code found (eqb found 0))
     where
-      by_code : (found : ℕ) (b : Bool) → GoesOn p (cond b v (told_code (socket_id_slot h.id) (socket_id_version h.id) found v)) (Do (DropPlace heading.label.place h.link h.places) (λ _. passed_telling (one_more h) now (tell_drop heading found) after))
+      by_code : (found : ℕ) (b : Bool) → GoesOn p (cond b v (told_code (socket_id_slot h.id) (socket_id_version h.id) found v)) (Do (OnPlace (DropPlace heading.label.place h.link h.places)) (λ _. passed_telling (one_more h) now (tell_drop heading found) after))
       by_code found true = drops_goes p after v h r now heading left taken a m follows found saw
       by_code found false = let i : ℕ = socket_id_slot h.id in let g : ℕ = socket_id_version h.id in let new : List SlotMark = at i (Told g found) ∷ at i (Saw (g + 1)) ∷ [] in
           drops_goes p after (with_notes new v) h r now heading left taken (holder_noted new (tt, (tt, tt)) a) m (follows_noted p v after new (tt, (tt, tt)) follows) found (omega (arith, saw, about_append i (is_saw (g + 1)) new v.marks))
@@ -507,7 +507,7 @@ module _ (p : Plan) (after : Program) (v : View) (h : Holder) (r : Right) (a : I
     b.put,
     b.none_,
     by_one p v r (λ r. with_right v (record r { at_home = true })) v
-        (Do (EmptyHead (socket_id_slot h.id) h.last) (λ found. cond (eqb found h.last) after (TakeHome h.link (λ places. Write (Reversing (record h { places = places }) found found 0) after)))) a.one (
+        (Do (OnChain (EmptyHead (socket_id_slot h.id) h.last)) (λ found. cond (eqb found h.last) after (TakeHome h.link (λ places. Write (Reversing (record h { places = places }) found found 0) after)))) a.one (
           (
             a.holds.inside,
             (
@@ -540,7 +540,7 @@ module _ (p : Plan) (after : Program) (v : View) (h : Holder) (r : Right) (a : I
 
     read_branch : IsBetween r (stages.Reversing top place successor) → (found : ℕ) (b : Bool) → GoesOn p (cond b v (with_right v (record r { stage = stages.ReversesNext top place successor found })))
         (cond b (Write (Reversing h top place successor) after)
-        (Do (ReverseNext (ticket_request place) successor) (λ _. cond (eqb found h.last) (TakeMessage (ticket_request place) (λ heading bytes. Write (Puts (record h { last = top }) place heading bytes 0 false) after)) (Write (Reversing h top found place) after))))
+        (Do (OnChain (ReverseNext (ticket_request place) successor)) (λ _. cond (eqb found h.last) (TakeMessage (ticket_request place) (λ heading bytes. Write (Puts (record h { last = top }) place heading bytes 0 false) after)) (Write (Reversing h top found place) after))))
     read_branch b found true = ((r, a, b), follows)
     read_branch b found false = let t : Right = record r { stage = stages.ReversesNext top place successor found } in let u : View = with_right v t in let c : Keeps p u h.id h.link t = changed t (keeps a) a.link in
         let next : Program = cond (eqb found h.last) (TakeMessage (ticket_request place) (λ heading bytes. Write (Puts (record h { last = top }) place heading bytes 0 false) after)) (Write (Reversing h top found place) after) in (
@@ -552,7 +552,7 @@ module _ (p : Plan) (after : Program) (v : View) (h : Holder) (r : Right) (a : I
 
     walks_round : IsBetween r (stages.Reversing top place successor) → GoesOn p v (block (Reversing h top place successor) after)
     walks_round b = let next : ℕ → Program = λ found. cond (eqb found UNCONNECTED) (Write (Reversing h top place successor) after)
-        (Do (ReverseNext (ticket_request place) successor) (λ _. cond (eqb found h.last) (TakeMessage (ticket_request place) (λ heading bytes. Write (Puts (record h { last = top }) place heading bytes 0 false) after)) (Write (Reversing h top found place) after))) in (
+        (Do (OnChain (ReverseNext (ticket_request place) successor)) (λ _. cond (eqb found h.last) (TakeMessage (ticket_request place) (λ heading bytes. Write (Puts (record h { last = top }) place heading bytes 0 false) after)) (Write (Reversing h top found place) after))) in (
           (r, a.one, inr (top, place, successor, b.stage_is, refl)),
           λ found hand f. by_one p v r (λ r. read_next found v r r.stage) v (next found) a.one (subst (λ x. GoesOn p (read_next found v r x) (next found)) (sym b.stage_is) (read_branch b found (eqb found UNCONNECTED))),
         )

@@ -12,7 +12,7 @@ use Rattle.sock_model.specs.MarkWeights.{is_stage, is_recycling, is_zero, is_cod
 use Rattle.sock_model.specs.Marks.{at, without_at}
 use Rattle.sock_steps.specs.slot_steps.proofs.ReferenceStepsKeepSlot.{stage_is, any_recycled, zero_is}
 use Rattle.sock_steps.proofs.SumsAsMarksChange.{either_way}
-use Rattle.seat_programs.specs.TableSteps.{TableStep, ClaimSlot, CreateLife, AddRef, SubRef, SetOdd, Recycle, FreeSlot, StoreLink, ResetHead, ClearCode, StoreCode}
+use Rattle.seat_programs.specs.TableSteps.{TableStep, OnSlot, ClaimSlot, CreateLife, AddRef, SubRef, SetOdd, Recycle, FreeSlot, StoreLink, ResetHead, ClearCode, StoreCode}
 use Rattle.seat_programs.specs.StepTables.{row}
 use Rattle.program_steps.proofs.Leaves.{noting_marks}
 
@@ -32,8 +32,8 @@ is_of_birth other = false
 
 -- whether a step makes a life, or gives a reference back
 abbrev pub bears_or_gives : TableStep → Bool
-bears_or_gives (CreateLife i k) = true
-bears_or_gives (SubRef i) = true
+bears_or_gives (OnSlot (CreateLife i k)) = true
+bears_or_gives (OnSlot (SubRef i)) = true
 bears_or_gives other = false
 
 coding_taken : (k : ℕ) (x : Mark) → 0 < is_coding k x → is_taken x ≡ true
@@ -47,20 +47,20 @@ module _ (p : Plan) (v : View) (found : ℕ) (hand : Hand) (Q : List SlotMark �
 
   -- behind all others
   pub marks_way : (call : TableStep) → bears_or_gives call ≡ false → Q (row p call found hand v).marks
-  marks_way (CreateLife i k) other = absurd (true≢false other)
-  marks_way (SubRef i) other = absurd (true≢false other)
-  marks_way (ClaimSlot i) other = put i (cond (found == 0) (Claimed 0 0) Tried) v.marks (either_way (found == 0) (Claimed 0 0) Tried (λ m. is_of_birth m ≡ false) refl refl) same
-  marks_way (AddRef id) other = let i : ℕ = socket_id_slot id in let g : ℕ = vref_version found in let own : Bool = vref_version found == socket_id_version id in
+  marks_way (OnSlot (CreateLife i k)) other = absurd (true≢false other)
+  marks_way (OnSlot (SubRef i)) other = absurd (true≢false other)
+  marks_way (OnSlot (ClaimSlot i)) other = put i (cond (found == 0) (Claimed 0 0) Tried) v.marks (either_way (found == 0) (Claimed 0 0) Tried (λ m. is_of_birth m ≡ false) refl refl) same
+  marks_way (OnSlot (AddRef id)) other = let i : ℕ = socket_id_slot id in let g : ℕ = vref_version found in let own : Bool = vref_version found == socket_id_version id in
       put i (cond own (Hold g) Probe) (at i (Saw g) ∷ v.marks) (either_way own (Hold g) Probe (λ m. is_of_birth m ≡ false) refl refl) (put i (Saw g) v.marks refl same)
-  marks_way (SetOdd i) other = let w : ℕ = vref_version found in let saw : List SlotMark = at i (Saw (w + 1)) ∷ v.marks in let failer : List SlotMark = at i (Failer w) ∷ at i (Saw (w + 1)) ∷ v.marks in
+  marks_way (OnSlot (SetOdd i)) other = let w : ℕ = vref_version found in let saw : List SlotMark = at i (Saw (w + 1)) ∷ v.marks in let failer : List SlotMark = at i (Failer w) ∷ at i (Saw (w + 1)) ∷ v.marks in
       either_way (w % 2 == 0) (at i (Hold w) ∷ at i (Coding w) ∷ failer) (at i (Saw w) ∷ v.marks) Q
       (put i (Hold w) (at i (Coding w) ∷ failer) refl (put i (Coding w) failer refl (put i (Failer w) saw refl (put i (Saw (w + 1)) v.marks refl same)))) (put i (Saw w) v.marks refl same)
-  marks_way (Recycle i from) other = let w : ℕ = vref_version from in let left : List SlotMark = without_at i (is_zero w) v.marks in let zero_out = take_ i (is_zero w) (λ x some_. ap is_taken (zero_is w x some_)) in
+  marks_way (OnSlot (Recycle i from)) other = let w : ℕ = vref_version from in let left : List SlotMark = without_at i (is_zero w) v.marks in let zero_out = take_ i (is_zero w) (λ x some_. ap is_taken (zero_is w x some_)) in
       either_way (found == from) (at i (Recycling (w + 1)) ∷ at i (Freer (w - 1)) ∷ left) left Q (put i (Recycling (w + 1)) (at i (Freer (w - 1)) ∷ left) refl (put i (Freer (w - 1)) left refl zero_out)) zero_out
-  marks_way (FreeSlot i) other = take_ i is_recycling (λ x some_. ap is_taken (any_recycled x some_).1)
-  marks_way (StoreLink i k) other = put i (Claimed 1 k) (without_at i (is_stage 0 0) v.marks) refl (out i 0 0)
-  marks_way (ResetHead i k) other = put i (Claimed 2 k) (without_at i (is_stage 1 k) v.marks) refl (out i 1 k)
-  marks_way (ClearCode i k) other = put i (Claimed 3 k) (without_at i (is_stage 2 k) v.marks) refl (out i 2 k)
-  marks_way (StoreCode i g c) other = let left : List SlotMark = without_at i (is_coding g) v.marks in put i (Stored g c) (at i (Told g c) ∷ left) refl (put i (Told g c) left refl (take_ i (is_coding g) (coding_taken g)))
+  marks_way (OnSlot (FreeSlot i)) other = take_ i is_recycling (λ x some_. ap is_taken (any_recycled x some_).1)
+  marks_way (OnSlot (StoreLink i k)) other = put i (Claimed 1 k) (without_at i (is_stage 0 0) v.marks) refl (out i 0 0)
+  marks_way (OnSlot (ResetHead i k)) other = put i (Claimed 2 k) (without_at i (is_stage 1 k) v.marks) refl (out i 1 k)
+  marks_way (OnSlot (ClearCode i k)) other = put i (Claimed 3 k) (without_at i (is_stage 2 k) v.marks) refl (out i 2 k)
+  marks_way (OnSlot (StoreCode i g c)) other = let left : List SlotMark = without_at i (is_coding g) v.marks in put i (Stored g c) (at i (Told g c) ∷ left) refl (put i (Told g c) left refl (take_ i (is_coding g) (coding_taken g)))
   marks_way call other = noting_marks p v found hand Q same (λ i w. put i (Saw w) v.marks refl same) (λ i g k. put i (Met g k) v.marks refl same) (λ i g c w. put i (Told g c) (at i (Saw w) ∷ v.marks) refl (put i (Saw w) v.marks refl same))
       (λ i g. put i (Known g) v.marks refl same) call refl

@@ -16,7 +16,7 @@ use Rattle.sock_model.specs.ChainRows.{with_right, taken_right, put_right}
 use Rattle.sock_model.specs.UnplacedMessages.{HeadedBytes}
 use Rattle.sock_model.specs.ChainLawReads.{letter_of, shown, message, link_home}
 use Rattle.seat_programs.specs.Writings.{Puts, Waits, Empties, Reversing}
-use Rattle.seat_programs.specs.TableSteps.{TableStep, LoadOpen}
+use Rattle.seat_programs.specs.TableSteps.{TableStep, OnName, LoadOpen}
 use Rattle.seat_programs.specs.Programs.{Program, Do, Say, Sent, Rest, TakeMessage, TakeHome, PutHome, PutBytes, AskReady, Write, Aside, Round, Keep, Retries}
 use Rattle.seat_programs.specs.Asides.{Step, Found}
 use Rattle.seat_programs.specs.LoopHeads.{Head, Exit, Posts, Unlocks, Decides, Locks, Joins, Opens, Reads, Discards}
@@ -111,7 +111,7 @@ goes_first p v _ g = g
 -- a loop aside begins with a step aside, but for the one that waits for an `open`
 abbrev pub IsOfLoop : Program → Type 0
 IsOfLoop (Aside s next) = Unit {0}
-IsOfLoop (Do call next) = (o : ℕ) × (call ≡ LoadOpen o)
+IsOfLoop (Do call next) = (o : ℕ) × (call ≡ OnName (LoadOpen o))
 IsOfLoop other = ⊥
 
 pub loop_begins : (head : Head) (next : Exit head → Program) → IsOfLoop (round head next)

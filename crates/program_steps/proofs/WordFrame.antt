@@ -6,7 +6,7 @@ use lib.Seq.{set-get_or}
 use Rattle.sock_words.specs.declared.plain.Plan.{Plan}
 use Rattle.sock_model.specs.declared.view.View.{View}
 use Rattle.sock_model.specs.SocketTableLayout.{all_words}
-use Rattle.seat_programs.specs.TableSteps.{TableStep, ClaimSlot, CreateLife, AddRef, SubRef, SetOdd, Recycle, FreeSlot, LookWord, StoreLink, LoadLink, FindLink, ResetHead, ClearCode, StoreCode, LoadCode, StoreName, LoadName, StoreOpen, LoadOpen, SwapHead, EmptyHead}
+use Rattle.seat_programs.specs.TableSteps.{TableStep, OnSlot, OnName, OnChain, ClaimSlot, CreateLife, AddRef, SubRef, SetOdd, Recycle, FreeSlot, LookWord, StoreLink, LoadLink, FindLink, ResetHead, ClearCode, StoreCode, LoadCode, StoreName, LoadName, StoreOpen, LoadOpen, SwapHead, EmptyHead, OnPlace, StorePlace}
 use Rattle.seat_programs.specs.TableWords.{TableWord, TagOf, RefOf, LinkOf, HeadOf, CodeOf, NameOf, OpenOf, RequestOf, NextOf, PlaceOf, index_in, index_of, IsIn}
 use Rattle.seat_programs.specs.StepTables.{May, table_word, word_of}
 use Rattle.seat_programs.specs.Cores.{found_at, words_after}
@@ -90,27 +90,28 @@ AreLow p none = Unit {0}
 AreLow p (some w) = IsBelow p 3 w
 
 pub low_word : (p : Plan) (v : View) (call : TableStep) → May p v call → AreLow p (table_word call)
-low_word p v (ClaimSlot i) may = may
-low_word p v (AddRef id) may = may.0.0
-low_word p v (LoadName n) may = may
-low_word p v (LoadOpen o) may = may
-low_word p v (CreateLife i k) may = may.0
-low_word p v (SubRef i) may = may.0
-low_word p v (SetOdd i) may = may.0
-low_word p v (Recycle i from) may = may.0
-low_word p v (FreeSlot i) may = may.0
-low_word p v (LookWord id) may = may.0
-low_word p v (StoreLink i k) may = may.0
-low_word p v (LoadLink i w) may = may.0
-low_word p v (FindLink i h) may = may.0
-low_word p v (ResetHead i k) may = may.0
-low_word p v (ClearCode i k) may = may.0
-low_word p v (StoreCode i h c) may = may.0
-low_word p v (LoadCode i h) may = may.0
-low_word p v (StoreName n w) may = may.0
-low_word p v (StoreOpen o w) may = may.0
-low_word p v (SwapHead i own) may = may.0
-low_word p v (EmptyHead i last) may = may.0
+low_word p v (OnSlot (ClaimSlot i)) may = may
+low_word p v (OnSlot (AddRef id)) may = may.0.0
+low_word p v (OnName (LoadName n)) may = may
+low_word p v (OnName (LoadOpen o)) may = may
+low_word p v (OnSlot (CreateLife i k)) may = may.0
+low_word p v (OnSlot (SubRef i)) may = may.0
+low_word p v (OnSlot (SetOdd i)) may = may.0
+low_word p v (OnSlot (Recycle i from)) may = may.0
+low_word p v (OnSlot (FreeSlot i)) may = may.0
+low_word p v (OnSlot (LookWord id)) may = may.0
+low_word p v (OnSlot (StoreLink i k)) may = may.0
+low_word p v (OnSlot (LoadLink i w)) may = may.0
+low_word p v (OnSlot (FindLink i h)) may = may.0
+low_word p v (OnSlot (ResetHead i k)) may = may.0
+low_word p v (OnSlot (ClearCode i k)) may = may.0
+low_word p v (OnSlot (StoreCode i h c)) may = may.0
+low_word p v (OnSlot (LoadCode i h)) may = may.0
+low_word p v (OnName (StoreName n w)) may = may.0
+low_word p v (OnName (StoreOpen o w)) may = may.0
+low_word p v (OnChain (SwapHead i own)) may = may.0
+low_word p v (OnChain (EmptyHead i last)) may = may.0
+low_word p v (OnPlace (StorePlace l k n)) may = tt
 low_word p v call may = tt
 
 -- ## A word of a slot, a name, an operation or a request

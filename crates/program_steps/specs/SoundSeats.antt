@@ -20,7 +20,7 @@ use Rattle.sock_model.specs.MarkWeights.{is_born, is_failer, is_freer}
 use Rattle.sock_model.specs.References.{slot_facts}
 use Rattle.sock_model.specs.UnplacedMessages.{HeadedBytes}
 use Rattle.sock_model.specs.ChainLawReads.{message, link_home}
-use Rattle.seat_programs.specs.TableSteps.{TableStep, CreateLife, AddRef, SubRef, Recycle, LoadLink, LoadName, TakeLink, FinishLink, PutLink, FindLink, ClaimRequest, PutMessage, EmptyHead, FreeRequest, StorePlace, DropPlace}
+use Rattle.seat_programs.specs.TableSteps.{TableStep, OnSlot, OnName, OnChain, OnPlace, OnLink, OnMessage, CreateLife, AddRef, SubRef, Recycle, LoadLink, LoadName, TakeLink, FinishLink, PutLink, FindLink, ClaimRequest, PutMessage, EmptyHead, FreeRequest, StorePlace, DropPlace}
 use Rattle.seat_programs.specs.Programs.{Program, Do, TakeMessage, TakeHome, PutHome, PutBytes, Say, Sent, Keep, Retries, AskReady, Write, Aside, Round, Rest, LAST_VERSION, LAST_GENERATION}
 use Rattle.seat_programs.specs.SendAndWritePrograms.{block}
 use Rattle.seat_programs.specs.LoopRounds.{round, first_step}
@@ -142,25 +142,25 @@ abbrev pub MOST_PLACES : ℕ
 MOST_PLACES = 4294967295
 
 abbrev pub AllowsWord : TableStep → ℕ → Type 0
-AllowsWord (CreateLife i k) found = vref_nref found < 4294967295
-AllowsWord (AddRef id) found = vref_nref found < 4294967295
-AllowsWord (SubRef i) found = 0 < vref_nref found
-AllowsWord (Recycle i from) found = (vref_nref from ≡ 0) × (vref_version from % 2 ≡ 1) × (vref_version from < 4294967295)
-AllowsWord (LoadLink i w) found = found < 256
-AllowsWord (LoadName n) found = found ≢ NO_SOCKET
-AllowsWord (FindLink i h) found = found < 256
-AllowsWord (ClaimRequest id q) found = found < 281474976710656
-AllowsWord (EmptyHead i last) found = last < IDLE
-AllowsWord (FreeRequest q g) found = g < LAST_GENERATION
-AllowsWord (StorePlace l k n) found = n < MOST_PLACES
-AllowsWord (DropPlace l k n) found = n < MOST_PLACES
+AllowsWord (OnSlot (CreateLife i k)) found = vref_nref found < 4294967295
+AllowsWord (OnSlot (AddRef id)) found = vref_nref found < 4294967295
+AllowsWord (OnSlot (SubRef i)) found = 0 < vref_nref found
+AllowsWord (OnSlot (Recycle i from)) found = (vref_nref from ≡ 0) × (vref_version from % 2 ≡ 1) × (vref_version from < 4294967295)
+AllowsWord (OnSlot (LoadLink i w)) found = found < 256
+AllowsWord (OnName (LoadName n)) found = found ≢ NO_SOCKET
+AllowsWord (OnSlot (FindLink i h)) found = found < 256
+AllowsWord (OnChain (ClaimRequest id q)) found = found < 281474976710656
+AllowsWord (OnChain (EmptyHead i last)) found = last < IDLE
+AllowsWord (OnChain (FreeRequest q g)) found = g < LAST_GENERATION
+AllowsWord (OnPlace (StorePlace l k n)) found = n < MOST_PLACES
+AllowsWord (OnPlace (DropPlace l k n)) found = n < MOST_PLACES
 AllowsWord other found = Unit {0}
 
 abbrev pub AllowsMove : Plan → Core → TableStep → Type 0
-AllowsMove p c (TakeLink k) = (k < p.links) × ((took : List ℕ) × (next : ℕ) × (done : Bool) × (get_elem? c.homes (link_place p k) ≡ some (some (Link k took next done))))
-AllowsMove p c (FinishLink k) = k < p.links
-AllowsMove p c (PutLink k) = k < p.links
-AllowsMove p c (PutMessage q heading bytes) = q < p.requests
+AllowsMove p c (OnLink (TakeLink k)) = (k < p.links) × ((took : List ℕ) × (next : ℕ) × (done : Bool) × (get_elem? c.homes (link_place p k) ≡ some (some (Link k took next done))))
+AllowsMove p c (OnLink (FinishLink k)) = k < p.links
+AllowsMove p c (OnLink (PutLink k)) = k < p.links
+AllowsMove p c (OnMessage (PutMessage q heading bytes)) = q < p.requests
 AllowsMove p c other = Unit {0}
 
 -- the word of the step is there, its count of references neither overflows nor falls below 0, an exchange is tried from a

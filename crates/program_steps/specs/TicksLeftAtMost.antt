@@ -20,7 +20,7 @@ use Rattle.sock_model.specs.declared.view.Hand.{Hand}
 use Rattle.sock_model.specs.Entries.{on}
 use Rattle.sock_model.specs.SlotRows.{marks_of}
 use Rattle.sock_model.specs.MarkWeights.{is_saw}
-use Rattle.seat_programs.specs.TableSteps.{TableStep, PutMessage, SwapHead, ReverseNext}
+use Rattle.seat_programs.specs.TableSteps.{TableStep, OnChain, OnMessage, PutMessage, SwapHead, ReverseNext}
 use Rattle.seat_programs.specs.Cores.{Core, SeatState}
 use Rattle.seat_programs.specs.Writings.{Holder, Writing, Puts, Waits, Empties, Reversing}
 use Rattle.seat_programs.specs.Programs.{Program, Do, Say, Sent, Rest, TakeMessage, TakeHome, PutHome, PutBytes, AskReady, Write, Aside, Round, Keep, Retries}
@@ -101,9 +101,9 @@ walks_left views = total (λ (v : View). total (walk_left (accepted views)) v.ri
 -- who puts a message into its home is charged for whoever writes it, and who has it accepted for whoever walks to it; a turn of a next word
 -- is paid by what is left of the walk
 abbrev pub cost : TableStep → ℕ
-cost (PutMessage q heading bytes) = 1 + weight (length bytes)
-cost (SwapHead i own) = 3 + ACCEPT
-cost (ReverseNext q value) = 0
+cost (OnMessage (PutMessage q heading bytes)) = 1 + weight (length bytes)
+cost (OnChain (SwapHead i own)) = 3 + ACCEPT
+cost (OnChain (ReverseNext q value)) = 0
 cost other = 1
 
 -- the seat saw the life failed

@@ -17,7 +17,7 @@ use Rattle.sock_model.specs.SlotRows.{marks_of}
 use Rattle.sock_model.specs.SocketSlotLaw.{count}
 use Rattle.sock_model.specs.References.{slot_facts}
 use Rattle.sock_steps.proofs.LifeLinkSlotPlaces.{counts}
-use Rattle.seat_programs.specs.TableSteps.{TableStep, CreateLife, StoreOpen}
+use Rattle.seat_programs.specs.TableSteps.{TableStep, OnSlot, OnName, CreateLife, StoreOpen}
 use Rattle.seat_programs.specs.Programs.{Program, Do}
 use Rattle.seat_programs.specs.Cores.{Calls, Core, SeatState, found_at, words_after, homes_after, hand_after, resolved, next_step, waiting_at, with_seat, stepped}
 use Rattle.seat_programs.specs.StepTables.{word_of, word_after}
@@ -40,7 +40,7 @@ use Rattle.seat_programs.specs.LoopRounds.{first_step}
 
 -- each life that the program makes it stores next, at an operation that is its link's own
 abbrev pub GivesAt : (ℕ → ℕ → Type 0) → Unit {0} → TableStep → (ℕ → Program) → (Unit {0} → ℕ → Type 0) → Type 0
-GivesAt own s (CreateLife i k) next behind = (found : ℕ) → ((o : ℕ) × own k o × (next_stores (next found) ≡ some (o, socket_id (vref_version found) i + 1))) × behind tt found
+GivesAt own s (OnSlot (CreateLife i k)) next behind = (found : ℕ) → ((o : ℕ) × own k o × (next_stores (next found) ≡ some (o, socket_id (vref_version found) i + 1))) × behind tt found
 GivesAt own s call next behind = (found : ℕ) → behind tt found
 
 abbrev pub Gives : (ℕ → ℕ → Type 0) → Program → Type 0
@@ -50,7 +50,7 @@ pub gives_passes : (own : ℕ → ℕ → Type 0) → Passes (Gives own)
 gives_passes own = at_calls_passes (Unit {0}) (GivesAt own) every_exit tt (plain own) (λ head l next r. r)
   where
     plain : (own : ℕ → ℕ → Type 0) (call : TableStep) (next : ℕ → Program) → stores call ≡ none → bears call ≡ none → loads call ≡ none → ((found : ℕ) → Gives own (next found)) → Gives own (Do call next)
-    plain own (CreateLife i k) next s b l r = absurd (some-ne-none i b)
+    plain own (OnSlot (CreateLife i k)) next s b l r = absurd (some-ne-none i b)
     plain own call next s b l r = r
 
 pub gives_opens : (own : ℕ → ℕ → Type 0) → PassesOpens (Gives own)
@@ -60,7 +60,7 @@ pub gives_follow : (own : ℕ → ℕ → Type 0) → Follows (Gives own)
 gives_follow own = at_calls_follow (Unit {0}) (GivesAt own) every_exit tt (λ head next r. r)
 
 behind_gives : (own : ℕ → ℕ → Type 0) (call : TableStep) (next : ℕ → Program) → Gives own (Do call next) → (found : ℕ) → Gives own (next found)
-behind_gives own (CreateLife i k) next r found = (r found).1
+behind_gives own (OnSlot (CreateLife i k)) next r found = (r found).1
 behind_gives own call next r found = r found
 
 -- a seat stores the life next
@@ -134,14 +134,14 @@ module _ (p : Plan) (own : ℕ → ℕ → Type 0) (Q : ℕ → ℕ → Type 0) 
     pub plain_step : stores call ≡ none → bears call ≡ none → Linked p own after (set vs i w)
     plain_step none_ no_birth = with_linked (λ j h k inside some_. carry none_ k (socket_id h j) (l.linked j h k inside (before_too no_birth j h k some_)))
 
-    pub birth_step : (n m : ℕ) → call ≡ CreateLife n m → Linked p own after (set vs i w)
+    pub birth_step : (n m : ℕ) → call ≡ OnSlot (CreateLife n m) → Linked p own after (set vs i w)
     birth_step n m made = let g = subst (λ x. Gives own (Do x next)) made mine found in
         with_linked (λ j h k inside some_. ⊎_elim
         (λ a. inr record { place = i; seat = seat'; there = here; operation = g.0.0; mine = subst (λ y. own y g.0.0) (sym a.2) g.0.1; next = next_stored (waiting_at c.calls.waiting i) (next found) (g.0.0, socket_id h j + 1) (g.0.2 ∙ (λ q. some (g.0.0, socket_id (sym a.1 q) (sym a.0 q) + 1))) })
         (λ less. carry (ap stores made) k (socket_id h j) (l.linked j h k inside (omega (arith, some_, linked_after j h k, less))))
         (subst (λ x. ((j ≡ n) × (h ≡ vref_version found) × (k ≡ m)) ⊎ (marks_of (is_linked h k) j (row p x found (hand_at p c.words c.homes call) v) ≤ marks_of (is_linked h k) j v)) (sym made) (birth_links p v found (hand_at p c.words c.homes call) h k n m j)))
 
-    pub store_step : (o x : ℕ) → call ≡ StoreOpen o x → Linked p own after (set vs i w)
+    pub store_step : (o x : ℕ) → call ≡ OnName (StoreOpen o x) → Linked p own after (set vs i w)
     store_step o x made = with_linked (λ j h k inside some_. settle k (socket_id h j) (l.linked j h k inside (before_too (ap bears made) j h k some_)))
       where
         left : r.left i o ≡ true
@@ -207,8 +207,8 @@ linked_ticks p own Q c vs m sound answered fitting r l = tick_keeps_marks p c vs
   where
     by_call : (seat : SeatState) (v : View) (call : TableStep) (next : ℕ → Program) → get_elem? c.seats m.seat ≡ some seat → get_elem? vs m.seat ≡ some v → first_step seat.program ≡ Do call next → May p v call
         → Linked p own (stepped p m.seat seat call next c) (set vs m.seat (row p call (found_at c.words (word_of p call)) (hand_at p c.words c.homes call) v))
-    by_call seat v (CreateLife n k) next at_seat at_view is may = birth_step p own Q c vs m.seat sound.lawful.references.sized r l seat v at_seat at_view (CreateLife n k) next is may n k refl
-    by_call seat v (StoreOpen o x) next at_seat at_view is may = store_step p own Q c vs m.seat sound.lawful.references.sized r l seat v at_seat at_view (StoreOpen o x) next is may o x refl
+    by_call seat v (OnSlot (CreateLife n k)) next at_seat at_view is may = birth_step p own Q c vs m.seat sound.lawful.references.sized r l seat v at_seat at_view (OnSlot (CreateLife n k)) next is may n k refl
+    by_call seat v (OnName (StoreOpen o x)) next at_seat at_view is may = store_step p own Q c vs m.seat sound.lawful.references.sized r l seat v at_seat at_view (OnName (StoreOpen o x)) next is may o x refl
     by_call seat v call next at_seat at_view is may = plain_step p own Q c vs m.seat sound.lawful.references.sized r l seat v at_seat at_view call next is may refl refl
 
 -- over every run

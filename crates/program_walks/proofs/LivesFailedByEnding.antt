@@ -7,7 +7,7 @@ use lib.ListN.{get_elem?}
 use Rattle.sock_words.specs.PackedWords.{socket_id_version, socket_id_slot, vref_version, NO_SOCKET}
 use Rattle.sock_words.specs.declared.plain.Plan.{Plan}
 use Rattle.sock_model.specs.SocketTableLayout.{ref_index, open_index}
-use Rattle.seat_programs.specs.TableSteps.{TableStep, AddRef, SetOdd, LoadOpen}
+use Rattle.seat_programs.specs.TableSteps.{TableStep, OnSlot, OnName, AddRef, SetOdd, LoadOpen}
 use Rattle.seat_programs.specs.Programs.{Program, Do, add_reference, set_failed, release}
 use Rattle.seat_programs.specs.ClientProgram.{ending_of}
 use Rattle.seat_programs.specs.StepTables.{word_of}
@@ -22,18 +22,18 @@ use Rattle.program_walks.proofs.ThroughSends.{through_end, through_ending}
 
 -- the program sets the life failed whose word, one more than its id, stands at operation o, unless it finds it failed
 abbrev pub FailsAt : ℕ → ℕ → Unit {0} → TableStep → (ℕ → Program) → (Unit {0} → ℕ → Type 0) → Type 0
-FailsAt o w s (LoadOpen n) next behind = (found : ℕ) → (n ≡ o → found ≡ w) → behind tt found
-FailsAt o w s (AddRef id) next behind = (found : ℕ) → ((id + 1 ≡ w) × (vref_version found ≢ socket_id_version id)) ⊎ behind tt found
-FailsAt o w s (SetOdd i) next behind = (socket_id_slot (w - 1) ≡ i) ⊎ ((found : ℕ) → behind tt found)
+FailsAt o w s (OnName (LoadOpen n)) next behind = (found : ℕ) → (n ≡ o → found ≡ w) → behind tt found
+FailsAt o w s (OnSlot (AddRef id)) next behind = (found : ℕ) → ((id + 1 ≡ w) × (vref_version found ≢ socket_id_version id)) ⊎ behind tt found
+FailsAt o w s (OnSlot (SetOdd i)) next behind = (socket_id_slot (w - 1) ≡ i) ⊎ ((found : ℕ) → behind tt found)
 FailsAt o w s call next behind = (found : ℕ) → behind tt found
 
 abbrev pub Fails : ℕ → ℕ → Program → Type 0
 Fails o w program = AtCalls ⊥ (FailsAt o w) every_exit tt program
 
 fails_on : (o w : ℕ) (call : TableStep) (next : ℕ → Program) → ((found : ℕ) → Fails o w (next found)) → Fails o w (Do call next)
-fails_on o w (LoadOpen n) next f = λ found e. f found
-fails_on o w (AddRef id) next f = λ found. inr (f found)
-fails_on o w (SetOdd i) next f = inr f
+fails_on o w (OnName (LoadOpen n)) next f = λ found e. f found
+fails_on o w (OnSlot (AddRef id)) next f = λ found. inr (f found)
+fails_on o w (OnSlot (SetOdd i)) next f = inr f
 fails_on o w call next f = f
 
 fails_passes : (o w : ℕ) → Passes (Fails o w)
@@ -64,10 +64,10 @@ fails_ending o w some_ socket (m ∷ os) (suc n) at = through_end (Fails o w) (f
 
 -- a step of such a program: it finds that the life has gone on, or sets its slot's version odd, or leaves it to what follows
 pub what_fails : (p : Plan) (ws : List ℕ) (o w : ℕ) (call : TableStep) (next : ℕ → Program) → get_or ws (open_index p o) 0 ≡ w → Fails o w (Do call next)
-    → ((id : ℕ) × (id + 1 ≡ w) × (vref_version (get_or ws (ref_index (socket_id_slot id)) 0) ≢ socket_id_version id)) ⊎ ((call ≡ SetOdd (socket_id_slot (w - 1))) ⊎ Fails o w (next (found_at ws (word_of p call))))
-what_fails p ws o w (LoadOpen n) next word f = inr (inr (f (get_or ws (open_index p n) 0) (λ e. ap (λ z. get_or ws (open_index p z) 0) e ∙ word)))
-what_fails p ws o w (AddRef id) next word f = ⊎_elim (λ a. inl (id, a.0, a.1)) (λ g. inr (inr g)) (f (get_or ws (ref_index (socket_id_slot id)) 0))
-what_fails p ws o w (SetOdd i) next word f = ⊎_elim (λ e. inr (inl (ap SetOdd (sym e)))) (λ g. inr (inr (g (get_or ws (ref_index i) 0)))) f
+    → ((id : ℕ) × (id + 1 ≡ w) × (vref_version (get_or ws (ref_index (socket_id_slot id)) 0) ≢ socket_id_version id)) ⊎ ((call ≡ OnSlot (SetOdd (socket_id_slot (w - 1)))) ⊎ Fails o w (next (found_at ws (word_of p call))))
+what_fails p ws o w (OnName (LoadOpen n)) next word f = inr (inr (f (get_or ws (open_index p n) 0) (λ e. ap (λ z. get_or ws (open_index p z) 0) e ∙ word)))
+what_fails p ws o w (OnSlot (AddRef id)) next word f = ⊎_elim (λ a. inl (id, a.0, a.1)) (λ g. inr (inr g)) (f (get_or ws (ref_index (socket_id_slot id)) 0))
+what_fails p ws o w (OnSlot (SetOdd i)) next word f = ⊎_elim (λ e. inr (inl (ap OnSlot (SetOdd (sym e))))) (λ g. inr (inr (g (get_or ws (ref_index i) 0)))) f
 what_fails p ws o w call next word f = inr (inr (f (found_at ws (word_of p call))))
 
 pub records_ending : (os : List ℕ) → Records nothing (ending_of os)

@@ -10,7 +10,7 @@ use Rattle.sock_words.specs.declared.plain.Plan.{Plan}
 use Rattle.sock_model.specs.declared.view.View.{View}
 use Rattle.sock_model.specs.SocketTableLayout.{open_index}
 use Rattle.seat_programs.specs.corr_core.specs.declared.marks.Plan.{Plan as IdPlan}
-use Rattle.seat_programs.specs.TableSteps.{TableStep, StoreOpen}
+use Rattle.seat_programs.specs.TableSteps.{TableStep, OnName, StoreOpen}
 use Rattle.seat_programs.specs.Programs.{Program, Do, Rest}
 use Rattle.seat_programs.specs.ReaderProgram.{reader}
 use Rattle.seat_programs.specs.Cores.{Core, SeatState, resolved, next_step, stepped}
@@ -38,7 +38,7 @@ module _ (p : Plan) (Q : ℕ → ℕ → Type 0) (o : ℕ) (inside : o < p.opera
       (λ seat v call next at_seat at_view is goes. by_call seat v call next at_seat is goes.0) (λ seat v program rights hand hs a at_seat at_view comes. refl)
     where
       by_call : (seat : SeatState) (v : View) (call : TableStep) (next : ℕ → Program) → get_elem? c.seats m.seat ≡ some seat → first_step seat.program ≡ Do call next → May p v call → Word (stepped p m.seat seat call next c) ≡ Word c
-      by_call seat v (StoreOpen n w) next at_seat is may = let mine : Records (r.left m.seat) (Do (StoreOpen n w) next) = subst (Records (r.left m.seat)) is
+      by_call seat v (OnName (StoreOpen n w)) next at_seat is may = let mine : Records (r.left m.seat) (Do (OnName (StoreOpen n w)) next) = subst (Records (r.left m.seat)) is
           (through_first (Records (r.left m.seat)) (records_passes (r.left m.seat)) (records_opens (r.left m.seat)) (records_follow (r.left m.seat)) seat.program (r.records m.seat seat at_seat)) in dite (ℕ_discrete n o)
           (λ e. absurd (true≢false (sym (ap (r.left m.seat) (sym e) ∙ mine.0) ∙ r.once o inside some_ m.seat)))
           (λ far. get_or-set_other c.words (open_index p n) (open_index p o) w 0 (λ e. far (omega (arith, e))))

@@ -11,7 +11,7 @@ use Rattle.sock_words.specs.declared.plain.Plan.{Plan}
 use Rattle.sock_model.specs.declared.home.Home.{Home}
 use Rattle.sock_model.specs.declared.view.View.{View}
 use Rattle.sock_model.specs.SocketTableLayout.{open_index}
-use Rattle.seat_programs.specs.TableSteps.{TableStep, LoadOpen, StoreOpen}
+use Rattle.seat_programs.specs.TableSteps.{TableStep, OnName, LoadOpen, StoreOpen}
 use Rattle.seat_programs.specs.LoopHeads.{Head, Exit, Opens, Reads}
 use Rattle.seat_programs.specs.Programs.{Program, Do, Rest, Round}
 use Rattle.seat_programs.specs.ReaderProgram.{read, reader}
@@ -35,7 +35,7 @@ use Rattle.sock_words.specs.PackedWords.{NO_SOCKET}
 -- ## Programs that load no word of an `open`
 
 abbrev pub NoLoad : Unit {0} → TableStep → (ℕ → Program) → (Unit {0} → ℕ → Type 0) → Type 0
-NoLoad s (LoadOpen o) next behind = ⊥
+NoLoad s (OnName (LoadOpen o)) next behind = ⊥
 NoLoad s call next behind = (found : ℕ) → behind tt found
 
 abbrev pub NoWait : (head : Head) → (Exit head → Type 0) → Type 0
@@ -49,7 +49,7 @@ no_opens_passes : Passes NoOpens
 no_opens_passes = at_calls_passes (Unit {0}) NoLoad NoWait tt plain looped
   where
     plain : (call : TableStep) (next : ℕ → Program) → stores call ≡ none → bears call ≡ none → loads call ≡ none → ((found : ℕ) → NoOpens (next found)) → NoOpens (Do call next)
-    plain (LoadOpen o) next s b l r = absurd (some-ne-none o l)
+    plain (OnName (LoadOpen o)) next s b l r = absurd (some-ne-none o l)
     plain call next s b l r = r
 
     looped : (head : Head) → awaits head ≡ none → (next : Exit head → Program) → ((exit : Exit head) → NoOpens (next exit)) → NoOpens (Round head next)
@@ -70,7 +70,7 @@ next_none : (ws : List Rattle.seat_programs.specs.LoopHeads.Retry) (program : Pr
 next_none ws program x = through_next NoOpens no_opens_passes no_opens_follow ws program x
 
 behind_none : (call : TableStep) (next : ℕ → Program) → NoOpens (Do call next) → (found : ℕ) → NoOpens (next found)
-behind_none (LoadOpen o) next x found = absurd x
+behind_none (OnName (LoadOpen o)) next x found = absurd x
 behind_none call next x found = x found
 
 -- ## Words of operations
@@ -83,7 +83,7 @@ stored_some p v w (inr k) z = let y : IsTrue (nat_lt 0 0) = subst (λ x. IsTrue 
 -- a word that was stored isn't 0 again
 pub stays_stored : (p : Plan) (c : Core) (v : View) (o : ℕ) → o < p.operations → length c.words ≡ Rattle.sock_model.specs.SocketTableLayout.all_words p → (call : TableStep) → May p v call → get_or c.words (open_index p o) 0 ≢ 0
     → get_or (words_after c.words (word_of p call) (word_after call (found_at c.words (word_of p call)))) (open_index p o) 0 ≢ 0
-stays_stored p c v o inside sized (StoreOpen n w) may some_ = dite (ℕ_discrete n o)
+stays_stored p c v o inside sized (OnName (StoreOpen n w)) may some_ = dite (ℕ_discrete n o)
     (λ e. λ z. let same : get_or (set c.words (open_index p n) w) (open_index p o) 0 ≡ w = ap (λ k. get_or (set c.words (open_index p n) w) (open_index p k) 0) (sym e) ∙ get_or-set_same c.words (open_index p n) w 0 (omega (arith, inside, e, sized)) in
     stored_some p v w may.1 (sym same ∙ z))
     (λ far. λ z. some_ (sym (get_or-set_other c.words (open_index p n) (open_index p o) w 0 (λ e. far (omega (arith, e)))) ∙ z))
@@ -105,8 +105,8 @@ module _ (p : Plan) (calls : List ℕ) (j n o : ℕ) (inside : o < p.operations)
   abbrev first : ℕ → Program
   first word = cond (word == 0) (reader calls n o) (behind word)
 
-  load_is : (call : TableStep) (next : ℕ → Program) (program : Program) → program ≡ reader calls n o → first_step program ≡ Do call next → (call ≡ LoadOpen o) × (next ≡ first)
-  load_is call next program e is = let x : Do (LoadOpen o) first ≡ Do call next = sym (ap first_step e) ∙ is in (cc, cc)
+  load_is : (call : TableStep) (next : ℕ → Program) (program : Program) → program ≡ reader calls n o → first_step program ≡ Do call next → (call ≡ OnName (LoadOpen o)) × (next ≡ first)
+  load_is call next program e is = let x : Do (OnName (LoadOpen o)) first ≡ Do call next = sym (ap first_step e) ∙ is in (cc, cc)
 
   module _ (c : Core) (vs : List View) (m : Moment) (sound : Sound p c vs) (answered : IsAnswered c m) (fitting : IsFitting p c m) (before : AtReader p calls j n o c) where
     abbrev word' : TableStep → ℕ
@@ -124,19 +124,19 @@ module _ (p : Plan) (calls : List ℕ) (j n o : ℕ) (inside : o < p.operations)
         seat' : SeatState
         seat' = record { program = next_step (resolved (waiting_at c.calls.waiting m.seat) (next (found_at c.words (word_of p call)))); hand = hand_after p call c.homes seat.hand }
 
-        loaded : May p v (LoadOpen o) → G (LoadOpen o) first
+        loaded : May p v (OnName (LoadOpen o)) → G (OnName (LoadOpen o)) first
         loaded may = by_word (get_or c.words (open_index p o) 0 == 0) refl
           where
             by_word : (b : Bool) → (get_or c.words (open_index p o) 0 == 0) ≡ b → (next_step (resolved (waiting_at c.calls.waiting m.seat) (cond b (reader calls n o) (behind (get_or c.words (open_index p o) 0)))) ≡ reader calls n o)
-                ⊎ ((word' (LoadOpen o) ≢ 0) × NoOpens (next_step (resolved (waiting_at c.calls.waiting m.seat) (cond b (reader calls n o) (behind (get_or c.words (open_index p o) 0))))))
+                ⊎ ((word' (OnName (LoadOpen o)) ≢ 0) × NoOpens (next_step (resolved (waiting_at c.calls.waiting m.seat) (cond b (reader calls n o) (behind (get_or c.words (open_index p o) 0))))))
             by_word true e = inl refl
             by_word false e = inr (
-              stays_stored p c v o inside sound.lawful.references.sized (LoadOpen o) may (λ z. true≢false (sym (eq-eqb (get_or c.words (open_index p o) 0) 0 z) ∙ e)),
+              stays_stored p c v o inside sound.lawful.references.sized (OnName (LoadOpen o)) may (λ z. true≢false (sym (eq-eqb (get_or c.words (open_index p o) 0) 0 z) ∙ e)),
               next_none (waiting_at c.calls.waiting m.seat) (behind (get_or c.words (open_index p o) 0)) (through_reading any_end NoOpens no_opens_passes.reads (λ how e. through_any_failed NoOpens no_opens_passes how.code) tt calls n (get_or c.words (open_index p o) 0)),
             )
 
         own : (seat.program ≡ reader calls n o) ⊎ ((get_or c.words (open_index p o) 0 ≢ 0) × NoOpens seat.program) → G call next
-        own (inl e) = let x = load_is call next seat.program e is in subst (λ y. G y next) (sym x.0) (subst (λ f. G (LoadOpen o) f) (sym x.1) (loaded (subst (May p v) x.0 may)))
+        own (inl e) = let x = load_is call next seat.program e is in subst (λ y. G y next) (sym x.0) (subst (λ f. G (OnName (LoadOpen o)) f) (sym x.1) (loaded (subst (May p v) x.0 may)))
         own (inr x) = inr (
           stays_stored p c v o inside sound.lawful.references.sized call may x.0,
           next_none (waiting_at c.calls.waiting m.seat) (next (found_at c.words (word_of p call))) (behind_none call next (subst NoOpens is (first_none seat.program x.1)) (found_at c.words (word_of p call))),
@@ -167,8 +167,8 @@ module _ (p : Plan) (calls : List ℕ) (j n o : ℕ) (inside : o < p.operations)
 
   module _ (c : Core) (seat : SeatState) (at : get_elem? c.seats j ≡ some seat) (r : AtReader p calls j n o c) where
     -- it loads the word of its own `open` alone
-    pub loads_own : (x : ℕ) (next : ℕ → Program) → first_step seat.program ≡ Do (LoadOpen x) next → x ≡ o
-    loads_own x next is = ⊎_elim (λ e. let y = load_is (LoadOpen x) next seat.program e is in let z : LoadOpen x ≡ LoadOpen o = y.0 in cc) (λ y. absurd (subst NoOpens is (first_none seat.program y.1))) (r seat at)
+    pub loads_own : (x : ℕ) (next : ℕ → Program) → first_step seat.program ≡ Do (OnName (LoadOpen x)) next → x ≡ o
+    loads_own x next is = ⊎_elim (λ e. let y = load_is (OnName (LoadOpen x)) next seat.program e is in let z : OnName (LoadOpen x) ≡ OnName (LoadOpen o) = y.0 in cc) (λ y. absurd (subst NoOpens is (first_none seat.program y.1))) (r seat at)
 
     -- and waits for it alone
     pub waits_own : (x : ℕ) (next : ℕ → Program) → seat.program ≡ Round (Opens x) next → x ≡ o

@@ -17,7 +17,7 @@ use Rattle.sock_model.specs.SlotRows.{marks_of}
 use Rattle.sock_model.specs.SocketSlotLaw.{count}
 use Rattle.sock_model.specs.References.{slot_facts}
 use Rattle.sock_steps.proofs.LifeLinkSlotPlaces.{counts}
-use Rattle.seat_programs.specs.TableSteps.{TableStep, CreateLife, StoreOpen}
+use Rattle.seat_programs.specs.TableSteps.{TableStep, OnSlot, OnName, CreateLife, StoreOpen}
 use Rattle.seat_programs.specs.Programs.{Program, Do, Say, Sent, Rest, TakeMessage, TakeHome, PutHome, PutBytes, AskReady, Write, Aside, Round, Keep, Retries}
 use Rattle.seat_programs.specs.Cores.{Calls, Core, SeatState, found_at, words_after, homes_after, hand_after, resolved, next_step, waiting_at, with_seat, stepped}
 use Rattle.seat_programs.specs.StepTables.{word_of, word_after}
@@ -86,8 +86,8 @@ but_none o left = ap (λ b. left o && not b) (eq-eqb o o refl) ∙ and_false (le
 
 -- a program may as well have more operations left
 pub records_more : (program : Program) (left more : ℕ → Bool) → ((o : ℕ) → left o ≡ true → more o ≡ true) → Records left program → Records more program
-records_more (Do (CreateLife i k) next) left more up r = λ found. ((r found).0, records_more (next found) left more up (r found).1)
-records_more (Do (StoreOpen o w) next) left more up r = (up o r.0, λ found. records_more (next found) (but o left) (but o more) (λ x e. but_more o left more up x e) (r.1 found))
+records_more (Do (OnSlot (CreateLife i k)) next) left more up r = λ found. ((r found).0, records_more (next found) left more up (r found).1)
+records_more (Do (OnName (StoreOpen o w)) next) left more up r = (up o r.0, λ found. records_more (next found) (but o left) (but o more) (λ x e. but_more o left more up x e) (r.1 found))
 records_more (Do call next) left more up r = λ found. records_more (next found) left more up (r found)
 records_more (Say o outcome next) left more up r = records_more next left more up r
 records_more (Sent o next) left more up r = records_more next left more up r
@@ -109,8 +109,8 @@ nothing _ = false
 
 -- a step that stores nothing and makes no life goes on as it may
 pub plain_next : (left : ℕ → Bool) (call : TableStep) (next : ℕ → Program) → stores call ≡ none → bears call ≡ none → Records left (Do call next) → (found : ℕ) → Records left (next found)
-plain_next left (CreateLife i k) next s b r found = absurd (some-ne-none i b)
-plain_next left (StoreOpen o w) next s b r found = absurd (some-ne-none (o, w) s)
+plain_next left (OnSlot (CreateLife i k)) next s b r found = absurd (some-ne-none i b)
+plain_next left (OnName (StoreOpen o w)) next s b r found = absurd (some-ne-none (o, w) s)
 plain_next left call next s b r found = r found
 
 module _ (p : Plan) (Q : ℕ → ℕ → Type 0) (c : Core) (vs : List View) (i : ℕ) (r : Recorded p Q c vs) (seat : SeatState) (v : View) (call : TableStep) (next : ℕ → Program)
@@ -165,7 +165,7 @@ module _ (p : Plan) (Q : ℕ → ℕ → Type 0) (c : Core) (vs : List View) (i 
     plain_step no_birth = keep (plain_next (r.left i) call next none_ no_birth mine found)
         (λ j h inside born. carry (socket_id h j) (r.lives j h inside (omega (arith, born, born_after j h, births_only p v found (hand_at p c.words c.homes call) h call no_birth j))))
 
-    pub birth_step : (n k : ℕ) → call ≡ CreateLife n k → Recorded p Q after (set vs i w)
+    pub birth_step : (n k : ℕ) → call ≡ OnSlot (CreateLife n k) → Recorded p Q after (set vs i w)
     birth_step n k made = let m = subst (λ x. Records (r.left i) (Do x next)) made mine found in
         keep m.1 (λ j h inside born. ⊎_elim
         (λ a. inr record { place = i; seat = seat'; there = here; operation = m.0.0; next = next_stored (waiting_at c.calls.waiting i) (next found) (m.0.0, socket_id h j + 1) (m.0.1 ∙ (λ q. some (m.0.0, socket_id (sym a.1 q) (sym a.0 q) + 1))) })
@@ -173,7 +173,7 @@ module _ (p : Plan) (Q : ℕ → ℕ → Type 0) (c : Core) (vs : List View) (i 
         (subst (λ x. ((j ≡ n) × (h ≡ vref_version found)) ⊎ (marks_of (is_born h) j (row p x found (hand_at p c.words c.homes call) v) ≤ marks_of (is_born h) j v)) (sym made) (birth_notes p v found (hand_at p c.words c.homes call) h n k j)))
 
   -- the word of operation o is stored
-  module _ (sound : Sound p c vs) (o x : ℕ) (made : call ≡ StoreOpen o x) where
+  module _ (sound : Sound p c vs) (o x : ℕ) (made : call ≡ OnName (StoreOpen o x)) where
     left' : ℕ → ℕ → Bool
     left' k = cond (k == i) (but o (r.left i)) (r.left k)
 
@@ -280,8 +280,8 @@ recorded_ticks p Q c vs m sound answered fitting r = tick_keeps_marks p c vs m s
   where
     by_call : (seat : SeatState) (v : View) (call : TableStep) (next : ℕ → Program) → get_elem? c.seats m.seat ≡ some seat → get_elem? vs m.seat ≡ some v → first_step seat.program ≡ Do call next → May p v call
         → Recorded p Q (stepped p m.seat seat call next c) (set vs m.seat (row p call (found_at c.words (word_of p call)) (hand_at p c.words c.homes call) v))
-    by_call seat v (CreateLife n k) next at_seat at_view is may = birth_step p Q c vs m.seat r seat v (CreateLife n k) next at_seat at_view is may refl n k refl
-    by_call seat v (StoreOpen o x) next at_seat at_view is may = store_step p Q c vs m.seat r seat v (StoreOpen o x) next at_seat at_view is may sound o x refl
+    by_call seat v (OnSlot (CreateLife n k)) next at_seat at_view is may = birth_step p Q c vs m.seat r seat v (OnSlot (CreateLife n k)) next at_seat at_view is may refl n k refl
+    by_call seat v (OnName (StoreOpen o x)) next at_seat at_view is may = store_step p Q c vs m.seat r seat v (OnName (StoreOpen o x)) next at_seat at_view is may sound o x refl
     by_call seat v call next at_seat at_view is may = plain_step p Q c vs m.seat r seat v call next at_seat at_view is may refl refl
 
 pub run_recorded : (p : Plan) → RetriesGo p → (Q : ℕ → ℕ → Type 0) (c : Core) (vs : List View) (moments : List Moment) → Sound p c vs → AreAnswered p c moments → AreFitting p c moments → Recorded p Q c vs → Recorded p Q (run p c moments) (views_along p c vs moments)

@@ -5,7 +5,7 @@ use Rattle.sock_words.specs.PackedWords.{socket_id, vref_version}
 use Rattle.sock_words.specs.declared.plain.Plan.{Plan}
 use Rattle.sock_model.specs.declared.view.View.{View}
 use Rattle.sock_model.specs.SocketTableLayout.{open_index}
-use Rattle.seat_programs.specs.TableSteps.{TableStep, CreateLife, StoreOpen, LoadOpen}
+use Rattle.seat_programs.specs.TableSteps.{TableStep, OnSlot, OnName, CreateLife, StoreOpen, LoadOpen}
 use Rattle.seat_programs.specs.LoopHeads.{Head, Retry, Opens}
 use Rattle.seat_programs.specs.Programs.{Program, Do, Say, Sent, Write, Round, Keep, Retries}
 use Rattle.seat_programs.specs.TableWords.{OpenOf}
@@ -20,7 +20,7 @@ use Rattle.seat_programs.specs.LoopRounds.{first_step}
 
 -- the operation, and the word
 abbrev pub stores : TableStep → Option (ℕ × ℕ)
-stores (StoreOpen o w) = some (o, w)
+stores (OnName (StoreOpen o w)) = some (o, w)
 stores _ = none
 
 abbrev pub next_stores : Program → Option (ℕ × ℕ)
@@ -29,7 +29,7 @@ next_stores _ = none
 
 -- the `open` whose word a step loads, and for which a loop waits
 abbrev pub loads : TableStep → Option ℕ
-loads (LoadOpen o) = some o
+loads (OnName (LoadOpen o)) = some o
 loads _ = none
 
 abbrev pub awaits : Head → Option ℕ
@@ -42,8 +42,8 @@ but o left x = left x && not (x == o)
 
 -- it stores only words of the operations of `left`, each at most once, and of each life that it makes at once
 abbrev pub RecordsAt : (ℕ → Bool) → TableStep → (ℕ → Program) → ((ℕ → Bool) → ℕ → Type 0) → Type 0
-RecordsAt left (CreateLife i k) next behind = (found : ℕ) → ((o : ℕ) × (next_stores (next found) ≡ some (o, socket_id (vref_version found) i + 1))) × behind left found
-RecordsAt left (StoreOpen o w) next behind = (left o ≡ true) × ((found : ℕ) → behind (but o left) found)
+RecordsAt left (OnSlot (CreateLife i k)) next behind = (found : ℕ) → ((o : ℕ) × (next_stores (next found) ≡ some (o, socket_id (vref_version found) i + 1))) × behind left found
+RecordsAt left (OnName (StoreOpen o w)) next behind = (left o ≡ true) × ((found : ℕ) → behind (but o left) found)
 RecordsAt left call next behind = (found : ℕ) → behind left found
 
 abbrev pub Records : (ℕ → Bool) → Program → Type 0
@@ -68,6 +68,6 @@ first_stored _ x e = e
 -- a step that stores in none leaves them all
 pub opens_same : (p : Plan) (ws : List ℕ) (v : View) (o : ℕ) → o < p.operations → (call : TableStep) → May p v call → stores call ≡ none
     → get_or (words_after ws (word_of p call) (word_after call (found_at ws (word_of p call)))) (open_index p o) 0 ≡ get_or ws (open_index p o) 0
-opens_same p ws v o inside (StoreOpen n w) may none_ = absurd (some-ne-none (n, w) none_)
-opens_same p ws v o inside (LoadOpen n) may none_ = ap (λ l. get_or l (open_index p o) 0) (load_leaves p ws (some (OpenOf n)))
+opens_same p ws v o inside (OnName (StoreOpen n w)) may none_ = absurd (some-ne-none (n, w) none_)
+opens_same p ws v o inside (OnName (LoadOpen n)) may none_ = ap (λ l. get_or l (open_index p o) 0) (load_leaves p ws (some (OpenOf n)))
 opens_same p ws v o inside call may none_ = word_stays p ws v call may (word_after call (found_at ws (word_of p call))) (OpenOf o) inside (omega arith) refl

@@ -14,7 +14,7 @@ use Rattle.sock_model.specs.declared.chain.Heading.{Heading}
 use Rattle.sock_steps.proofs.SumsAsMarksChange.{either_way}
 use Rattle.seat_programs.specs.corr_core.specs.IdSlotWord.{parts}
 use Rattle.seat_programs.specs.sock_message.specs.Asked.{Asked}
-use Rattle.seat_programs.specs.TableSteps.{TableStep, CreateLife, StoreOpen, AddRef, SubRef, SetOdd, Recycle, FreeSlot, LoadLink, StoreCode, LoadName, LoadOpen, TakeLink, FinishLink, PutLink, LookWord, ClaimRequest, PutMessage, SwapHead, EmptyHead}
+use Rattle.seat_programs.specs.TableSteps.{TableStep, OnSlot, OnName, OnChain, OnLink, OnMessage, CreateLife, StoreOpen, AddRef, SubRef, SetOdd, Recycle, FreeSlot, LoadLink, StoreCode, LoadName, LoadOpen, TakeLink, FinishLink, PutLink, LookWord, ClaimRequest, PutMessage, SwapHead, EmptyHead}
 use Rattle.seat_programs.specs.Writings.{Writing}
 use Rattle.seat_programs.specs.Asides.{Step, Found, PutCall, StoreAt, LoadIdWord, LockId, UnlockId, EndId, FreeId, TakeCall, TakeBytes, Taking}
 use Rattle.seat_programs.specs.LoopHeads.{Head, Exit, Retry, Sought, Reading, Ended, Posts, Unlocks, Decides, Locks, Joins, Opens, Reads, Discards, Posting, Unlocking, Deciding, Locking}
@@ -31,37 +31,37 @@ use Rattle.program_walks.proofs.Records.{stores, loads, awaits, RecordsAt, Recor
 
 -- a step by which a life is set failed, one by which one is made, and one that a message makes
 abbrev pub sets_failed : TableStep → Bool
-sets_failed (SetOdd i) = true
-sets_failed (StoreCode i h c) = true
+sets_failed (OnSlot (SetOdd i)) = true
+sets_failed (OnSlot (StoreCode i h c)) = true
 sets_failed other = false
 
 abbrev pub makes_life : TableStep → Bool
-makes_life (CreateLife i k) = true
-makes_life (StoreOpen o w) = true
+makes_life (OnSlot (CreateLife i k)) = true
+makes_life (OnName (StoreOpen o w)) = true
 makes_life other = false
 
 abbrev pub is_of_message : TableStep → Bool
-is_of_message (LookWord id) = true
-is_of_message (ClaimRequest id q) = true
-is_of_message (PutMessage q heading bytes) = true
-is_of_message (SwapHead i own) = true
-is_of_message (EmptyHead i last) = true
+is_of_message (OnSlot (LookWord id)) = true
+is_of_message (OnChain (ClaimRequest id q)) = true
+is_of_message (OnMessage (PutMessage q heading bytes)) = true
+is_of_message (OnChain (SwapHead i own)) = true
+is_of_message (OnChain (EmptyHead i last)) = true
 is_of_message other = false
 
 -- a step of which no property along steps asks anything
 abbrev pub is_plain : TableStep → Bool
-is_plain (LoadOpen o) = false
+is_plain (OnName (LoadOpen o)) = false
 is_plain call = not (sets_failed call || makes_life call || is_of_message call)
 
 -- of these, one by which a reference is given back, or a slot is freed
 abbrev pub is_freeing : TableStep → Bool
-is_freeing (SubRef i) = true
-is_freeing (Recycle i from) = true
-is_freeing (LoadLink i v) = true
-is_freeing (TakeLink k) = true
-is_freeing (FinishLink k) = true
-is_freeing (PutLink k) = true
-is_freeing (FreeSlot i) = true
+is_freeing (OnSlot (SubRef i)) = true
+is_freeing (OnSlot (Recycle i from)) = true
+is_freeing (OnSlot (LoadLink i v)) = true
+is_freeing (OnLink (TakeLink k)) = true
+is_freeing (OnLink (FinishLink k)) = true
+is_freeing (OnLink (PutLink k)) = true
+is_freeing (OnSlot (FreeSlot i)) = true
 is_freeing other = false
 
 abbrev pub is_plain_aside : Step → Bool
@@ -128,8 +128,8 @@ PassesFails G code = (id : ℕ) (next : ℕ → Program) → ((found : ℕ) → 
 
 -- what whoever writes a link asks, where H holds behind the writing
 pub record PassesLinks (G H : Program → Type 0) : Type 0 where
-  pub look : (id : ℕ) (next : ℕ → Program) → ((found : ℕ) → G (next found)) → G (Do (LookWord id) next)
-  pub empty : (i last : ℕ) (next : Program) (more : ℕ → Program) → H next → ((found : ℕ) → G (more found)) → G (Do (EmptyHead i last) (λ found. cond (found == last) next (more found)))
+  pub look : (id : ℕ) (next : ℕ → Program) → ((found : ℕ) → G (next found)) → G (Do (OnSlot (LookWord id)) next)
+  pub empty : (i last : ℕ) (next : Program) (more : ℕ → Program) → H next → ((found : ℕ) → G (more found)) → G (Do (OnChain (EmptyHead i last)) (λ found. cond (found == last) next (more found)))
   pub message : (q : ℕ) (next : Heading → List ℕ → Program) → ((heading : Heading) (bytes : List ℕ) → G (next heading bytes)) → G (TakeMessage q next)
   pub home : (k : ℕ) (next : ℕ → Program) → ((places : ℕ) → G (next places)) → G (TakeHome k next)
   pub puts_home : (k n : ℕ) (after : Program) → G after → G (PutHome k n after)
@@ -167,7 +167,7 @@ pub record PassesReads (Ends : Ended → Type 0) (G : Program → Type 0) : Type
 
 -- the load of the word of an `open`, and a loop that waits for it, make no difference
 pub record PassesOpens (G : Program → Type 0) : Type 0 where
-  pub load : (o : ℕ) (next : ℕ → Program) → ((found : ℕ) → G (next found)) → G (Do (LoadOpen o) next)
+  pub load : (o : ℕ) (next : ℕ → Program) → ((found : ℕ) → G (next found)) → G (Do (OnName (LoadOpen o)) next)
   pub wait : (o : ℕ) (next : ℕ → Program) → ((exit : ℕ) → G (next exit)) → G (Round (Opens o) next)
 
 abbrev pub any_end : Ended → Type 0
@@ -222,40 +222,40 @@ locked g = record { say = g.say; aside = λ step next is r. g.aside step next (p
 -- where steps that give back a reference keep it
 module _ (G : Program → Type 0) (frees : PassesSteps is_freeing G) where
   given_recycle : (i from : ℕ) (next : Bool → Program) → ((b : Bool) → G (next b)) → G (recycle i from next)
-  given_recycle i from next after = frees (Recycle i from) _ refl (λ found. either_way (found == from) _ _ G
-      (frees (LoadLink i (vref_version from + 1)) _ refl (λ k. frees (TakeLink k) _ refl (λ _. frees (FinishLink k) _ refl (λ _. frees (PutLink k) _ refl (λ _.
-      either_way (nat_le (vref_version from + 1) LAST_VERSION) _ _ G (frees (FreeSlot i) _ refl (λ _. after true)) (after true))))))
+  given_recycle i from next after = frees (OnSlot (Recycle i from)) _ refl (λ found. either_way (found == from) _ _ G
+      (frees (OnSlot (LoadLink i (vref_version from + 1))) _ refl (λ k. frees (OnLink (TakeLink k)) _ refl (λ _. frees (OnLink (FinishLink k)) _ refl (λ _. frees (OnLink (PutLink k)) _ refl (λ _.
+      either_way (nat_le (vref_version from + 1) LAST_VERSION) _ _ G (frees (OnSlot (FreeSlot i)) _ refl (λ _. after true)) (after true))))))
       (after false))
 
   pub given_release : (i : ℕ) (next : Bool → Program) → ((b : Bool) → G (next b)) → G (release i next)
-  given_release i next after = frees (SubRef i) _ refl (λ found. either_way ((vref_version found % 2 == 1) && (vref_nref found == 1)) _ _ G (given_recycle i (found - 1) next after) (after false))
+  given_release i next after = frees (OnSlot (SubRef i)) _ refl (λ found. either_way ((vref_version found % 2 == 1) && (vref_nref found == 1)) _ _ G (given_recycle i (found - 1) next after) (after false))
 
 module _ (G : Program → Type 0) (g : PassesWords G) where
   frees : PassesSteps is_freeing G
   frees call next is r = g.step call next (plain call is) r
     where
       plain : (call : TableStep) → is_freeing call ≡ true → is_plain call ≡ true
-      plain (SubRef i) is = refl
-      plain (Recycle i from) is = refl
-      plain (LoadLink i v) is = refl
-      plain (TakeLink k) is = refl
-      plain (FinishLink k) is = refl
-      plain (PutLink k) is = refl
-      plain (FreeSlot i) is = refl
+      plain (OnSlot (SubRef i)) is = refl
+      plain (OnSlot (Recycle i from)) is = refl
+      plain (OnSlot (LoadLink i v)) is = refl
+      plain (OnLink (TakeLink k)) is = refl
+      plain (OnLink (FinishLink k)) is = refl
+      plain (OnLink (PutLink k)) is = refl
+      plain (OnSlot (FreeSlot i)) is = refl
       plain _ is = absurd (true≢false (sym is))
 
   pub through_release : (i : ℕ) (next : Bool → Program) → ((b : Bool) → G (next b)) → G (release i next)
   through_release = given_release G frees
 
   pub through_address : (id : ℕ) (held : Program) (gone : ℕ → Program) → G held → ((found : ℕ) → G (gone found)) → G (add_reference id held gone)
-  through_address id held gone h after = g.step (AddRef id) _ refl (λ found. either_way (vref_version found == socket_id_version id) _ _ G h (through_release (socket_id_slot id) (λ _. gone found) (λ _. after found)))
+  through_address id held gone h after = g.step (OnSlot (AddRef id)) _ refl (λ found. either_way (vref_version found == socket_id_version id) _ _ G h (through_release (socket_id_slot id) (λ _. gone found) (λ _. after found)))
 
   pub through_reach : (name : ℕ) (unopened : Program) (held gone : ℕ → Program) → G unopened → ((id : ℕ) → G (held id)) → ((found : ℕ) → G (gone found)) → G (find_socket name unopened held gone)
-  through_reach name unopened held gone u h after = g.step (LoadName name) _ refl (λ word. either_way (word == 0) _ _ G u (through_address (word - 1) (held (word - 1)) gone (h (word - 1)) after))
+  through_reach name unopened held gone u h after = g.step (OnName (LoadName name)) _ refl (λ word. either_way (word == 0) _ _ G u (through_address (word - 1) (held (word - 1)) gone (h (word - 1)) after))
 
   pub through_set_failed : PassesSteps sets_failed G → (code : ℕ) → PassesFails G code
-  through_set_failed failing code id next after = failing (SetOdd (socket_id_slot id)) _ refl (λ found. either_way (vref_version found % 2 == 0) _ _ G
-      (failing (StoreCode (socket_id_slot id) (socket_id_version id) code) _ refl (λ _. g.step (SubRef (socket_id_slot id)) _ refl (λ _. after found))) (after found))
+  through_set_failed failing code id next after = failing (OnSlot (SetOdd (socket_id_slot id))) _ refl (λ found. either_way (vref_version found % 2 == 0) _ _ G
+      (failing (OnSlot (StoreCode (socket_id_slot id) (socket_id_version id) code)) _ refl (λ _. g.step (OnSlot (SubRef (socket_id_slot id))) _ refl (λ _. after found))) (after found))
 
   pub through_fail : (o name code : ℕ) (next : Program) → PassesFails G code → G next → G (fail o name code next)
   through_fail o name code next fails after = through_reach name _ _ _ (g.say o _ next after)
@@ -270,21 +270,21 @@ module _ (G : Program → Type 0) (g : PassesWords G) where
 -- where nothing is asked of a step that no message makes
 module _ (G : Program → Type 0) (others : (call : TableStep) (next : ℕ → Program) → is_of_message call ≡ false → ((found : ℕ) → G (next found)) → G (Do call next)) where
   pub others_plain : PassesSteps is_plain G
-  others_plain (LookWord id) next is r = absurd (true≢false (sym is))
-  others_plain (ClaimRequest id q) next is r = absurd (true≢false (sym is))
-  others_plain (PutMessage q heading bytes) next is r = absurd (true≢false (sym is))
-  others_plain (SwapHead i own) next is r = absurd (true≢false (sym is))
-  others_plain (EmptyHead i last) next is r = absurd (true≢false (sym is))
+  others_plain (OnSlot (LookWord id)) next is r = absurd (true≢false (sym is))
+  others_plain (OnChain (ClaimRequest id q)) next is r = absurd (true≢false (sym is))
+  others_plain (OnMessage (PutMessage q heading bytes)) next is r = absurd (true≢false (sym is))
+  others_plain (OnChain (SwapHead i own)) next is r = absurd (true≢false (sym is))
+  others_plain (OnChain (EmptyHead i last)) next is r = absurd (true≢false (sym is))
   others_plain call next is r = others call next refl r
 
   pub others_failing : PassesSteps sets_failed G
-  others_failing (SetOdd i) next is r = others (SetOdd i) next refl r
-  others_failing (StoreCode i h c) next is r = others (StoreCode i h c) next refl r
+  others_failing (OnSlot (SetOdd i)) next is r = others (OnSlot (SetOdd i)) next refl r
+  others_failing (OnSlot (StoreCode i h c)) next is r = others (OnSlot (StoreCode i h c)) next refl r
   others_failing _ next is r = absurd (true≢false (sym is))
 
   pub others_make : PassesSteps makes_life G
-  others_make (CreateLife i k) next is r = others (CreateLife i k) next refl r
-  others_make (StoreOpen o w) next is r = others (StoreOpen o w) next refl r
+  others_make (OnSlot (CreateLife i k)) next is r = others (OnSlot (CreateLife i k)) next refl r
+  others_make (OnName (StoreOpen o w)) next is r = others (OnName (StoreOpen o w)) next refl r
   others_make _ next is r = absurd (true≢false (sym is))
 
 -- where nothing is asked of loops, whatever is known of how a reading ends
@@ -326,8 +326,8 @@ module _ {S : Type 0} (asks : Asks S) (s : S) where
   }
 
   -- where t is known behind a writing
-  pub at_steps_links : (t : S) → ((id : ℕ) (next : ℕ → Program) → ((found : ℕ) → B (next found)) → B (Do (LookWord id) next))
-      → ((i last : ℕ) (next : Program) (more : ℕ → Program) → AtSteps asks t next → ((found : ℕ) → B (more found)) → B (Do (EmptyHead i last) (λ found. cond (found == last) next (more found))))
+  pub at_steps_links : (t : S) → ((id : ℕ) (next : ℕ → Program) → ((found : ℕ) → B (next found)) → B (Do (OnSlot (LookWord id)) next))
+      → ((i last : ℕ) (next : Program) (more : ℕ → Program) → AtSteps asks t next → ((found : ℕ) → B (more found)) → B (Do (OnChain (EmptyHead i last)) (λ found. cond (found == last) next (more found))))
       → ((behind : S → Type 0) → behind s → asks.moved s behind) → ((behind : S → Type 0) → behind t → asks.written s behind) → PassesFails B 1009 → PassesLinks B (AtSteps asks t)
   at_steps_links t look empty moved written fails = record {
     look = look;
@@ -346,7 +346,7 @@ module _ {S : Type 0} (asks : Asks S) (s : S) where
       → ((behind : S → Type 0) → behind s → asks.written s behind) → PassesFails B 1009 → PassesSends B
   at_steps_sends plain step said moved written fails = record {
     plain = plain;
-    links = at_steps_links s (λ id next r. step (LookWord id) next refl r) (λ i last next more x y. step (EmptyHead i last) (λ found. cond (found == last) next (more found)) refl (λ found. either_way (found == last) next (more found) B x (y found))) moved written fails;
+    links = at_steps_links s (λ id next r. step (OnSlot (LookWord id)) next refl r) (λ i last next more x y. step (OnChain (EmptyHead i last)) (λ found. cond (found == last) next (more found)) refl (λ found. either_way (found == last) next (more found) B x (y found))) moved written fails;
     step = step;
     sent = λ o next r. said (λ t. AtSteps asks t next) r;
   }
@@ -360,9 +360,9 @@ module _ {S : Type 0} (rest : Type 0) (calls : S → TableStep → (ℕ → Prog
   A = AtCalls rest calls loops s
 
   three_none : (call : TableStep) → is_plain call ≡ true → (stores call ≡ none) × (bears call ≡ none) × (loads call ≡ none)
-  three_none (CreateLife i k) is = absurd (true≢false (sym is))
-  three_none (StoreOpen o w) is = absurd (true≢false (sym is))
-  three_none (LoadOpen o) is = absurd (true≢false (sym is))
+  three_none (OnSlot (CreateLife i k)) is = absurd (true≢false (sym is))
+  three_none (OnName (StoreOpen o w)) is = absurd (true≢false (sym is))
+  three_none (OnName (LoadOpen o)) is = absurd (true≢false (sym is))
   three_none call is = (refl, refl, refl)
 
   pub at_calls_passes : ((call : TableStep) (next : ℕ → Program) → stores call ≡ none → bears call ≡ none → loads call ≡ none → ((found : ℕ) → A (next found)) → A (Do call next))
@@ -380,16 +380,16 @@ module _ {S : Type 0} (rest : Type 0) (calls : S → TableStep → (ℕ → Prog
       of_errors head next is r = looped head refl next r
 
       failing : PassesSteps sets_failed A
-      failing (SetOdd i) next is r = plain (SetOdd i) next refl refl refl r
-      failing (StoreCode i h c) next is r = plain (StoreCode i h c) next refl refl refl r
+      failing (OnSlot (SetOdd i)) next is r = plain (OnSlot (SetOdd i)) next refl refl refl r
+      failing (OnSlot (StoreCode i h c)) next is r = plain (OnSlot (StoreCode i h c)) next refl refl refl r
       failing _ next is r = absurd (true≢false (sym is))
 
       sending : PassesSteps is_of_message A
-      sending (LookWord id) next is r = plain (LookWord id) next refl refl refl r
-      sending (ClaimRequest id q) next is r = plain (ClaimRequest id q) next refl refl refl r
-      sending (PutMessage q heading bytes) next is r = plain (PutMessage q heading bytes) next refl refl refl r
-      sending (SwapHead i own) next is r = plain (SwapHead i own) next refl refl refl r
-      sending (EmptyHead i last) next is r = plain (EmptyHead i last) next refl refl refl r
+      sending (OnSlot (LookWord id)) next is r = plain (OnSlot (LookWord id)) next refl refl refl r
+      sending (OnChain (ClaimRequest id q)) next is r = plain (OnChain (ClaimRequest id q)) next refl refl refl r
+      sending (OnMessage (PutMessage q heading bytes)) next is r = plain (OnMessage (PutMessage q heading bytes)) next refl refl refl r
+      sending (OnChain (SwapHead i own)) next is r = plain (OnChain (SwapHead i own)) next refl refl refl r
+      sending (OnChain (EmptyHead i last)) next is r = plain (OnChain (EmptyHead i last)) next refl refl refl r
       sending _ next is r = absurd (true≢false (sym is))
 
       bare : PassesPlain A
@@ -406,8 +406,8 @@ pub records_passes : (left : ℕ → Bool) → Passes (Records left)
 records_passes left = at_calls_passes (Unit {0}) RecordsAt every_exit left (plain left) (λ head l next r. r)
   where
     plain : (left : ℕ → Bool) (call : TableStep) (next : ℕ → Program) → stores call ≡ none → bears call ≡ none → loads call ≡ none → ((found : ℕ) → Records left (next found)) → Records left (Do call next)
-    plain left (CreateLife i k) next s b l r = absurd (some-ne-none i b)
-    plain left (StoreOpen o w) next s b l r = absurd (some-ne-none (o, w) s)
+    plain left (OnSlot (CreateLife i k)) next s b l r = absurd (some-ne-none i b)
+    plain left (OnName (StoreOpen o w)) next s b l r = absurd (some-ne-none (o, w) s)
     plain left call next s b l r = r
 
 pub records_opens : (left : ℕ → Bool) → PassesOpens (Records left)

@@ -12,7 +12,7 @@ use Rattle.seat_programs.specs.corr_core.specs.IdSlotWord.{parts, error_of}
 use Rattle.seat_programs.specs.corr_core.specs.EndedByRangeOrAttempt.{WHOLE}
 use Rattle.seat_programs.specs.brpc_model.specs.Frame.{Frame}
 use Rattle.seat_programs.specs.sock_message.specs.Asked.{Asked, name_of, frame_of}
-use Rattle.seat_programs.specs.TableSteps.{LookWord, FindLink, ClaimRequest, LoadName}
+use Rattle.seat_programs.specs.TableSteps.{OnSlot, OnName, OnChain, LookWord, FindLink, ClaimRequest, LoadName}
 use Rattle.seat_programs.specs.Asides.{ClaimId, PutCall, MakeId, StoreCall, LoadCall, StoreAt, LoadAt, TakeCall}
 use Rattle.seat_programs.specs.LoopHeads.{Head, Exit, First, Unlocks, Opens, Reads, Retry, Posting, HasLocked, Unlocking, IsOpen, HasNext, Locking, NotThere, Has, Ended}
 use Rattle.seat_programs.specs.Programs.{Program, Do, Say, Sent, Rest, Write, Aside, Round, Keep, Retries, release, add_reference}
@@ -30,17 +30,17 @@ use Rattle.program_walks.proofs.ThroughSends.{through_accept, through_block}
 module _ (G : Program → Type 0) (s : PassesSends G) (stored : PassesStores G) where
   through_claims : (more q id : ℕ) (heading : Heading) (bytes : List ℕ) (full accepted : Program) → G full → G accepted → G (claims_from more q id heading bytes full accepted)
   through_claims zero q id heading bytes full accepted none_ after = none_
-  through_claims (suc more) q id heading bytes full accepted none_ after = s.step (ClaimRequest id q) _ refl (λ found. either_way (found % 2 == 0) _ _ G
+  through_claims (suc more) q id heading bytes full accepted none_ after = s.step (OnChain (ClaimRequest id q)) _ refl (λ found. either_way (found % 2 == 0) _ _ G
       (through_accept G s id q (found / 2) heading bytes accepted after) (through_claims more (q + 1) id heading bytes full accepted none_ after))
 
   -- the bytes of the frame play no part
   through_tries : (requests o socket id n : ℕ) (heading : Heading) (bytes : List ℕ) (next : Program) → G next
-      → G (add_reference socket (Do (FindLink (socket_id_slot socket) (socket_id_version socket)) (λ k. Aside (StoreAt o (at_word (id_first id) (id_slot id) k n)) (λ _. Do (LookWord socket) (λ found.
+      → G (add_reference socket (Do (OnSlot (FindLink (socket_id_slot socket) (socket_id_version socket))) (λ k. Aside (StoreAt o (at_word (id_first id) (id_slot id) k n)) (λ _. Do (OnSlot (LookWord socket)) (λ found.
       cond (vref_version found % 2 == 0) (claims_from requests 0 socket heading bytes (post id 3001 n (release (socket_id_slot socket) (λ _. next))) (release (socket_id_slot socket) (λ _. next)))
       (post id 1009 n (release (socket_id_slot socket) (λ _. next))))))) (λ _. post id 1009 n next))
   through_tries requests o socket id n heading bytes next after = let goes : G (release (socket_id_slot socket) (λ _. next)) = through_release G s.plain.words (socket_id_slot socket) (λ _. next) (λ _. after) in
       through_address G s.plain.words socket _ (λ _. post id 1009 n next)
-      (s.plain.words.step (FindLink (socket_id_slot socket) (socket_id_version socket)) _ refl (λ k. stored o (at_word (id_first id) (id_slot id) k n) _ (λ _. s.step (LookWord socket) _ refl (λ found.
+      (s.plain.words.step (OnSlot (FindLink (socket_id_slot socket) (socket_id_version socket))) _ refl (λ k. stored o (at_word (id_first id) (id_slot id) k n) _ (λ _. s.step (OnSlot (LookWord socket)) _ refl (λ found.
       either_way (vref_version found % 2 == 0) _ _ G
       (through_claims requests 0 socket heading bytes (post id 3001 n (release (socket_id_slot socket) (λ _. next))) (release (socket_id_slot socket) (λ _. next)) (through_post G s.plain.errors id 3001 n (release (socket_id_slot socket) (λ _. next)) goes) goes)
       (through_post G s.plain.errors id 1009 n (release (socket_id_slot socket) (λ _. next)) goes)))))
@@ -63,12 +63,12 @@ module _ (G : Program → Type 0) (g : PassesPlain G) where
     through_claim_id (suc more) i socket = g.errors.aside (ClaimId i) _ refl (λ found. either_way (found == 0) _ _ G (through_begin_call socket i) (through_claim_id more (i + 1) socket))
 
     pub through_call : (ids : ℕ) → G (call requests ids asked next)
-    through_call ids = g.words.step (LoadName (name_of asked 0)) _ refl (λ word. either_way (word == 0) _ _ G (g.errors.say asked.operation Unopened next after) (through_claim_id ids 0 (word - 1)))
+    through_call ids = g.words.step (OnName (LoadName (name_of asked 0))) _ refl (λ word. either_way (word == 0) _ _ G (g.errors.say asked.operation Unopened next after) (through_claim_id ids 0 (word - 1)))
 
   -- a retry, where its attempt may come
   module _ (requests id n : ℕ) (next : Program) (after : G next) (tries : (asked : Asked) (socket : ℕ) → G (attempt requests asked id n socket next)) where
     through_tried : (asked : Asked) (exit : Unlocking) → G (tried_again requests id n asked next exit)
-    through_tried asked (IsOpen w) = g.words.step (LoadName (name_of asked n)) _ refl (λ word. either_way (word == 0) _ _ G (through_post G g.errors id 1009 n next after) (tries asked (word - 1)))
+    through_tried asked (IsOpen w) = g.words.step (OnName (LoadName (name_of asked n))) _ refl (λ word. either_way (word == 0) _ _ G (through_post G g.errors id 1009 n next after) (tries asked (word - 1)))
     through_tried asked (HasNext w e) = through_decide G (locked g.errors) id w e (decided id next) (through_decided G (locked g.errors) id next after)
 
     through_retry_locked : (exit : Locking) → G (retry_locked requests id n next exit)

@@ -8,7 +8,7 @@ use Rattle.seat_programs.specs.sock_message.specs.Asked.{Asked}
 use Rattle.seat_programs.specs.declared.task.Op.{Op}
 use Rattle.seat_programs.specs.declared.task.Op.TheVariants as ops
 use Rattle.seat_programs.specs.declared.task.Sizes.{Sizes}
-use Rattle.seat_programs.specs.TableSteps.{ClaimSlot, CreateLife, StoreOpen, StoreLink, ResetHead, ClearCode, StoreName, TakeLink, FinishLink, PutLink}
+use Rattle.seat_programs.specs.TableSteps.{OnSlot, OnName, OnLink, ClaimSlot, CreateLife, StoreOpen, StoreLink, ResetHead, ClearCode, StoreName, TakeLink, FinishLink, PutLink}
 use Rattle.seat_programs.specs.Programs.{Program, Rest, make_socket, open_from, fail}
 use Rattle.seat_programs.specs.SendAndWritePrograms.{send}
 use Rattle.seat_programs.specs.CallAndRetryPrograms.{call, join}
@@ -28,9 +28,9 @@ pub record Operates (G : Program → Type 0) (sizes : Sizes) (held : List HeldLi
 module _ (G : Program → Type 0) (g : PassesWords G) where
   -- where lives may be made
   pub through_open : PassesSteps makes_life G → (more i o name k : ℕ) (next : Program) → G next → G (open_from more i o name k next)
-  through_open makes zero i o name k next after = g.step (TakeLink k) _ refl (λ _. g.step (FinishLink k) _ refl (λ _. g.step (PutLink k) _ refl (λ _. makes (StoreOpen o _) _ refl (λ _. g.say o _ next after))))
-  through_open makes (suc more) i o name k next after = g.step (ClaimSlot i) _ refl (λ found. either_way (found == 0) (make_socket o name k i next) (open_from more (i + 1) o name k next) G
-      (g.step (StoreLink i k) _ refl (λ _. g.step (ResetHead i k) _ refl (λ _. g.step (ClearCode i k) _ refl (λ _. makes (CreateLife i k) _ refl (λ found. makes (StoreOpen o _) _ refl (λ _. g.step (StoreName name _) _ refl (λ _. g.say o _ next after)))))))
+  through_open makes zero i o name k next after = g.step (OnLink (TakeLink k)) _ refl (λ _. g.step (OnLink (FinishLink k)) _ refl (λ _. g.step (OnLink (PutLink k)) _ refl (λ _. makes (OnName (StoreOpen o _)) _ refl (λ _. g.say o _ next after))))
+  through_open makes (suc more) i o name k next after = g.step (OnSlot (ClaimSlot i)) _ refl (λ found. either_way (found == 0) (make_socket o name k i next) (open_from more (i + 1) o name k next) G
+      (g.step (OnSlot (StoreLink i k)) _ refl (λ _. g.step (OnSlot (ResetHead i k)) _ refl (λ _. g.step (OnSlot (ClearCode i k)) _ refl (λ _. makes (OnSlot (CreateLife i k)) _ refl (λ found. makes (OnName (StoreOpen o _)) _ refl (λ _. g.step (OnName (StoreName name _)) _ refl (λ _. g.say o _ next after)))))))
       (through_open makes more (i + 1) o name k next after))
 
   pub through_back : G Rest → (held : List HeldLife) → G (give_back held)

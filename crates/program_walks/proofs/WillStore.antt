@@ -13,7 +13,7 @@ use Rattle.seat_programs.specs.declared.task.Op.{Op}
 use Rattle.seat_programs.specs.declared.task.Op.TheVariants as ops
 use Rattle.seat_programs.specs.declared.task.Task.{Task}
 use Rattle.seat_programs.specs.declared.task.Sizes.{Sizes}
-use Rattle.seat_programs.specs.TableSteps.{TableStep, StoreOpen}
+use Rattle.seat_programs.specs.TableSteps.{TableStep, OnName, StoreOpen}
 use Rattle.seat_programs.specs.Programs.{Program, Do, Rest, open_from, make_socket}
 use Rattle.seat_programs.specs.ClientProgram.{HeldLife, operation, client_from}
 use Rattle.seat_programs.specs.Cores.{Calls, Core, SeatState, found_at, hand_after, resolved, next_step, waiting_at, with_seat, stepped}
@@ -33,14 +33,14 @@ use Rattle.program_walks.proofs.ReaderSeats.{stays_stored, stored_some}
 use Rattle.seat_programs.specs.LoopRounds.{first_step}
 
 abbrev pub WillStoreAt : ℕ → Unit {0} → TableStep → (ℕ → Program) → (Unit {0} → ℕ → Type 0) → Type 0
-WillStoreAt o s (StoreOpen n w) next behind = (n ≡ o) ⊎ ((found : ℕ) → behind tt found)
+WillStoreAt o s (OnName (StoreOpen n w)) next behind = (n ≡ o) ⊎ ((found : ℕ) → behind tt found)
 WillStoreAt o s call next behind = (found : ℕ) → behind tt found
 
 abbrev pub WillStore : ℕ → Program → Type 0
 WillStore o program = AtCalls ⊥ (WillStoreAt o) every_exit tt program
 
 any_call : (o : ℕ) (call : TableStep) (next : ℕ → Program) → ((found : ℕ) → WillStore o (next found)) → WillStore o (Do call next)
-any_call o (StoreOpen n w) next r = inr r
+any_call o (OnName (StoreOpen n w)) next r = inr r
 any_call o call next r = r
 
 pub will_passes : (o : ℕ) → Passes (WillStore o)
@@ -104,11 +104,11 @@ module _ (p : Plan) (j o : ℕ) (inside : o < p.operations) where
         mine call is e = subst (WillStore o) is (through_first (WillStore o) (will_passes o) (will_opens o) (will_follow o) seat.program (will seat (ap (get_elem? c.seats) e ∙ at_seat)))
 
         by_call : (call : TableStep) → May p v call → first_step seat.program ≡ Do call next → IsToStore p j o (stepped p m.seat seat call next c)
-        by_call (StoreOpen n w) may is = by_own (eqb n o) refl
+        by_call (OnName (StoreOpen n w)) may is = by_own (eqb n o) refl
           where
-            by_own : (b : Bool) → (n == o) ≡ b → IsToStore p j o (stepped p m.seat seat (StoreOpen n w) next c)
+            by_own : (b : Bool) → (n == o) ≡ b → IsToStore p j o (stepped p m.seat seat (OnName (StoreOpen n w)) next c)
             by_own true e = let same = eqb-true n o e in inl (λ z. stored_some p v w may.1 (sym (ap (λ k. get_or (set c.words (open_index p n) w) (open_index p k) 0) (sym same) ∙ get_or-set_same c.words (open_index p n) w 0 (omega (arith, inside, same, sound.lawful.references.sized))) ∙ z))
-            by_own false e = inr (others (StoreOpen n w) next (λ found f. ⊎_elim (λ same. absurd (true≢false (sym (eq-eqb n o same) ∙ e))) (λ r. r found) (mine (StoreOpen n w) is f)))
+            by_own false e = inr (others (OnName (StoreOpen n w)) next (λ found f. ⊎_elim (λ same. absurd (true≢false (sym (eq-eqb n o same) ∙ e))) (λ r. r found) (mine (OnName (StoreOpen n w)) is f)))
         by_call call may is = inr (others call next (λ found f. mine call is f found))
 
     on_other : (seat : SeatState) (program : Program) (hand : List Home) (hs : List (Option Home)) (a : Calls) → get_elem? c.seats m.seat ≡ some seat → ComesNext p (first_step seat.program) program → IsToStore p j o c

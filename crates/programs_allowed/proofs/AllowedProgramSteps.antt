@@ -17,7 +17,7 @@ use Rattle.sock_model.specs.Marks.{about, at, without, without_at, without_pass}
 use Rattle.sock_model.specs.SlotRows.{marks_of, back, subbed, freed, wrote}
 use Rattle.sock_model.specs.SocketTableLayout.{name_index, open_index}
 use Rattle.sock_model.specs.ChainRows.{with_hand, without_hand, spent_hand}
-use Rattle.seat_programs.specs.TableSteps.{ClaimSlot, CreateLife, AddRef, SubRef, SetOdd, Recycle, FreeSlot, StoreLink, LoadLink, ResetHead, ClearCode, StoreCode, StoreName, LoadName, StoreOpen, LoadOpen, TakeLink, FinishLink, PutLink}
+use Rattle.seat_programs.specs.TableSteps.{OnSlot, OnName, OnLink, ClaimSlot, CreateLife, AddRef, SubRef, SetOdd, Recycle, FreeSlot, StoreLink, LoadLink, ResetHead, ClearCode, StoreCode, StoreName, LoadName, StoreOpen, LoadOpen, TakeLink, FinishLink, PutLink}
 use Rattle.seat_programs.specs.Programs.{Program, Do, LAST_VERSION}
 use Rattle.seat_programs.specs.ClientProgram.{HeldLife}
 use Rattle.seat_programs.specs.StepsOfNames.{is_id, found_id}
@@ -65,13 +65,13 @@ module _ (p : Plan) {lists : List (List Entry)} {s : ℕ} {t : List Mark} {held 
   claim_branch false x y won lost = lost (record v { marks = at s Tried ∷ v.marks }) (noted a Tried (λ f o. o.tried))
 
   pub claims : s < p.slots → (x y : Program) → ((w : View) → Has lists s (Claimed 0 0 ∷ t) held passes links w → GoesOn p w x) → ((w : View) → Has lists s t held passes links w → GoesOn p w y)
-      → GoesOn p v (Do (ClaimSlot s) (λ found. cond (eqb found 0) x y))
+      → GoesOn p v (Do (OnSlot (ClaimSlot s)) (λ found. cond (eqb found 0) x y))
   claims inside x y won lost = (inside, λ found hand e. claim_branch (eqb found 0) x y won lost)
 
 -- ## A claimed slot
 
 pub stores_link : (p : Plan) {lists : List (List Entry)} {s k : ℕ} {t : List Mark} {held : List HeldLife} {passes links : List ℕ} {v : View} → Has lists s (Claimed 0 0 ∷ t) held (k ∷ passes) links v → s < p.slots → (next : ℕ → Program)
-    → ((w : View) (found : ℕ) → Has lists s (Claimed 1 k ∷ t) held passes links w → GoesOn p w (next found)) → GoesOn p v (Do (StoreLink s k) next)
+    → ((w : View) (found : ℕ) → Has lists s (Claimed 1 k ∷ t) held passes links w → GoesOn p w (next found)) → GoesOn p v (Do (OnSlot (StoreLink s k)) next)
 stores_link p {lists} {s} {k} {t} {held} {passes} {links} {v} a inside next goes = (
   (inside, there, pass),
   λ found hand e. goes w found (becomes a w (Claimed 1 k ∷ t) passes links
@@ -91,17 +91,17 @@ stores_link p {lists} {s} {k} {t} {held} {passes} {links} {v} a inside next goes
 
 module _ (p : Plan) {lists : List (List Entry)} {s k : ℕ} {t : List Mark} {held : List HeldLife} {passes links : List ℕ} {v : View} where
   pub resets : Has lists s (Claimed 1 k ∷ t) held passes links v → s < p.slots → (next : ℕ → Program)
-      → ((w : View) (found : ℕ) → Has lists s (Claimed 2 k ∷ t) held passes links w → GoesOn p w (next found)) → GoesOn p v (Do (ResetHead s k) next)
+      → ((w : View) (found : ℕ) → Has lists s (Claimed 2 k ∷ t) held passes links w → GoesOn p w (next found)) → GoesOn p v (Do (OnSlot (ResetHead s k)) next)
   resets a inside next goes = let there = first (Claimed 1 k) a (is_stage 1 k) (tokens (is_stage 1 k) refl) (pair-same 1 k) in
       ((inside, there), λ found hand e. goes (record v { marks = at s (Claimed 2 k) ∷ without_at s (is_stage 1 k) v.marks }) found (given (gone (Claimed 1 k) a (is_stage 1 k) (stage_is 1 k) there) (Claimed 2 k)))
 
   pub wipes : Has lists s (Claimed 2 k ∷ t) held passes links v → s < p.slots → (next : ℕ → Program)
-      → ((w : View) (found : ℕ) → Has lists s (Claimed 3 k ∷ t) held passes links w → GoesOn p w (next found)) → GoesOn p v (Do (ClearCode s k) next)
+      → ((w : View) (found : ℕ) → Has lists s (Claimed 3 k ∷ t) held passes links w → GoesOn p w (next found)) → GoesOn p v (Do (OnSlot (ClearCode s k)) next)
   wipes a inside next goes = let there = first (Claimed 2 k) a (is_stage 2 k) (tokens (is_stage 2 k) refl) (pair-same 2 k) in
       ((inside, there), λ found hand e. goes (record v { marks = at s (Claimed 3 k) ∷ without_at s (is_stage 2 k) v.marks }) found (given (gone (Claimed 2 k) a (is_stage 2 k) (stage_is 2 k) there) (Claimed 3 k)))
 
   pub bears : Has lists s (Claimed 3 k ∷ t) held passes links v → s < p.slots → (next : ℕ → Program)
-      → ((w : View) (found : ℕ) → Has lists s t held passes links w → 0 < marks_of (is_known (vref_version found)) s w → GoesOn p w (next found)) → GoesOn p v (Do (CreateLife s k) next)
+      → ((w : View) (found : ℕ) → Has lists s t held passes links w → 0 < marks_of (is_known (vref_version found)) s w → GoesOn p w (next found)) → GoesOn p v (Do (OnSlot (CreateLife s k)) next)
   bears a inside next goes = let there = first (Claimed 3 k) a (is_stage 3 k) (tokens (is_stage 3 k) refl) (pair-same 3 k) in (
     (inside, there),
     λ found hand e. let h : ℕ = vref_version found in let es : List SlotMark = at s (Born h) ∷ at s (Linked h k) ∷ without_at s (is_stage 3 k) v.marks in
@@ -121,7 +121,7 @@ module _ (p : Plan) {lists : List (List Entry)} {s : ℕ} {t : List Mark} {held 
 
   pub adds : Has lists s t held passes links v → (id : ℕ) → socket_id_slot id ≡ s → Knows p v id → total is_ref t + length held < 65540 → (x : Program) (y : ℕ → Program)
       → ((u : View) → Has lists s (Hold (socket_id_version id) ∷ t) held passes links u → GoesOn p u x) → ((u : View) (found : ℕ) → Has lists s (Probe ∷ t) held passes links u → GoesOn p u (y found))
-      → GoesOn p v (Do (AddRef id) (λ found. cond (eqb (vref_version found) (socket_id_version id)) x (y found)))
+      → GoesOn p v (Do (OnSlot (AddRef id)) (λ found. cond (eqb (vref_version found) (socket_id_version id)) x (y found)))
   adds a id is knows few x y held_ gone_ = (
     (knows, subst (λ i. marks_of is_ref i v < 65540) (sym is) (omega (arith, refs_few a))),
     λ found hand e. let h : ℕ = socket_id_version id in let w : ℕ = vref_version found in let b : Bool = eqb w h in
@@ -152,7 +152,7 @@ module _ (p : Plan) {lists : List (List Entry)} {s : ℕ} {t : List Mark} {held 
   pub subs : (e : Mark) → Has lists s (e ∷ t) held passes links v → GoesFirst e t → total is_any_coding t ≡ 0 → s < p.slots → (next : ℕ → Program)
       → ((found : ℕ) (u : View) → vref_version found % 2 ≡ 1 → vref_nref found ≡ 1 → total is_ref t < vref_nref found → vref_version found < 4294967295 → Has lists s (Zero (vref_version found) ∷ t) held passes links u → GoesOn p u (next found))
       → ((found : ℕ) (u : View) → ((eqb (vref_version found % 2) 1) && (eqb (vref_nref found) 1)) ≡ false → Has lists s t held passes links u → GoesOn p u (next found))
-      → GoesOn p v (Do (SubRef s) next)
+      → GoesOn p v (Do (OnSlot (SubRef s)) next)
   subs e a (inl is) idle inside next last more = let b : Has lists s (Probe ∷ t) held passes links v = subst (λ x. Has lists s (x ∷ t) held passes links v) is a in
       let there = first Probe b is_probe (tokens is_probe refl) refl in let refs = b.here is_ref (tokens is_ref refl) in (
         (inside, omega arith, omega (arith, codings b), keeps_rights b s),
@@ -185,7 +185,7 @@ module _ (p : Plan) {lists : List (List Entry)} {s h : ℕ} {t : List Mark} {hel
 
   pub sets_odd : Has lists s (Hold h ∷ t) held passes links v → s < p.slots → total is_ref t + length held < 65539 → (x y : ℕ → Program)
       → ((u : View) (found : ℕ) → Has lists s (Coding h ∷ Hold h ∷ Hold h ∷ t) held passes links u → GoesOn p u (x found)) → ((u : View) (found : ℕ) → Has lists s (Hold h ∷ t) held passes links u → GoesOn p u (y found))
-      → GoesOn p v (Do (SetOdd s) (λ found. cond (eqb (vref_version found % 2) 0) (x found) (y found)))
+      → GoesOn p v (Do (OnSlot (SetOdd s)) (λ found. cond (eqb (vref_version found % 2) 0) (x found) (y found)))
   sets_odd a inside few x y first_ again = let there = first (Hold h) a (is_hold h) (tokens (is_hold h) refl) (only-same h) in (
     (inside, (h, there), omega (arith, refs_few a)),
     λ found hand f. let same = f h there in
@@ -193,7 +193,7 @@ module _ (p : Plan) {lists : List (List Entry)} {s h : ℕ} {t : List Mark} {hel
   )
 
   pub stores_code : (c : ℕ) → c ≢ 0 → Has lists s (Coding h ∷ t) held passes links v → s < p.slots → (next : ℕ → Program)
-      → ((u : View) (found : ℕ) → Has lists s t held passes links u → GoesOn p u (next found)) → GoesOn p v (Do (StoreCode s h c) next)
+      → ((u : View) (found : ℕ) → Has lists s t held passes links u → GoesOn p u (next found)) → GoesOn p v (Do (OnSlot (StoreCode s h c)) next)
   stores_code c some_ a inside next goes = let there = first (Coding h) a (is_coding h) (tokens (is_coding h) refl) (only-same h) in (
     (inside, there, some_),
     λ found hand e. goes (record v { marks = at s (Stored h c) ∷ at s (Told h c) ∷ without_at s (is_coding h) v.marks }) found
@@ -211,13 +211,13 @@ module _ (p : Plan) {lists : List (List Entry)} {s : ℕ} {t : List Mark} {held 
 
   pub recycles : {v : View} (from : ℕ) → Has lists s (Zero (vref_version from) ∷ t) held passes links v → s < p.slots → vref_version from % 2 ≡ 1 → vref_nref from ≡ 0 → vref_version from < 4294967295 → (x y : Program)
       → ((u : View) → Has lists s (Recycling (vref_version from + 1) ∷ t) held passes links u → GoesOn p u x) → ((u : View) → Has lists s t held passes links u → GoesOn p u y)
-      → GoesOn p v (Do (Recycle s from) (λ found. cond (eqb found from) x y))
+      → GoesOn p v (Do (OnSlot (Recycle s from)) (λ found. cond (eqb found from) x y))
   recycles {v} from a inside odd none_ low x y won lost = let w : ℕ = vref_version from in let there = first (Zero w) a (is_zero w) (tokens (is_zero w) refl) (only-same w) in
       ((inside, there, odd, none_, low), λ found hand e. recycle_branch v (eqb found from) w (gone (Zero w) a (is_zero w) (zero_is w) there) x y won lost)
 
   pub loads_link : {v : View} (w : ℕ) → Has lists s (Recycling w ∷ t) held passes links v → s < p.slots → (next : ℕ → Program)
       → ((u : View) (k : ℕ) → k < p.links → total (only k) u.passes ≡ 0 → 0 < marks_of (is_met (w - 2) k) s u → Has lists s (Recycling w ∷ t) held passes links u → GoesOn p u (next k))
-      → GoesOn p v (Do (LoadLink s w) next)
+      → GoesOn p v (Do (OnSlot (LoadLink s w)) next)
   loads_link {v} w a inside next goes = (
     (inside, first (Recycling w) a (is_recycled w) (tokens (is_recycled w) refl) (only-same w)),
     λ k hand f.
@@ -239,7 +239,7 @@ module _ (p : Plan) {lists : List (List Entry)} {s : ℕ} {t : List Mark} {held 
 
 module _ (p : Plan) {lists : List (List Entry)} {s : ℕ} {t : List Mark} {held : List HeldLife} {passes : List ℕ} where
   pub frees : {v : View} (w : ℕ) → Has lists s (Recycling w ∷ t) held passes [] v → w ≤ LAST_VERSION → s < p.slots → (next : ℕ → Program)
-      → ((u : View) (found : ℕ) → Has lists s t held passes [] u → GoesOn p u (next found)) → GoesOn p v (Do (FreeSlot s) next)
+      → ((u : View) (found : ℕ) → Has lists s t held passes [] u → GoesOn p u (next found)) → GoesOn p v (Do (OnSlot (FreeSlot s)) next)
   frees {v} w a low inside next goes = (
     (inside, (w, first (Recycling w) a (is_recycled w) (tokens (is_recycled w) refl) (only-same w), low), no_links v.hands a.hands_are),
     λ found hand once.
@@ -252,7 +252,7 @@ module _ (p : Plan) {lists : List (List Entry)} {s : ℕ} {t : List Mark} {held 
 -- which its pass, or the end of its life, lets the seat take
 module _ (p : Plan) {lists : List (List Entry)} {s k : ℕ} {t : List Mark} {held : List HeldLife} {passes : List ℕ} {v : View} where
   pub takes_last : (w : ℕ) → Has lists s (Recycling w ∷ t) held passes [] v → s < p.slots → k < p.links → total (only k) v.passes ≡ 0 → 0 < marks_of (is_met (w - 2) k) s v → (next : ℕ → Program)
-      → ((u : View) (found : ℕ) → Has lists s (Recycling w ∷ t) held passes (k ∷ []) u → GoesOn p u (next found)) → GoesOn p v (Do (TakeLink k) next)
+      → ((u : View) (found : ℕ) → Has lists s (Recycling w ∷ t) held passes (k ∷ []) u → GoesOn p u (next found)) → GoesOn p v (Do (OnLink (TakeLink k)) next)
   takes_last w a inside small spent there next goes = (
     (small, no_links v.hands a.hands_are, inr (s, w, inside, first (Recycling w) a (is_recycled w) (tokens (is_recycled w) refl) (only-same w), there), a.quiet.rights),
     λ found hand is.
@@ -261,7 +261,7 @@ module _ (p : Plan) {lists : List (List Entry)} {s k : ℕ} {t : List Mark} {hel
   )
 
   pub takes_own : Has lists s t held (k ∷ passes) [] v → k < p.links → (next : ℕ → Program)
-      → ((u : View) (found : ℕ) → Has lists s t held passes (k ∷ []) u → GoesOn p u (next found)) → GoesOn p v (Do (TakeLink k) next)
+      → ((u : View) (found : ℕ) → Has lists s t held passes (k ∷ []) u → GoesOn p u (next found)) → GoesOn p v (Do (OnLink (TakeLink k)) next)
   takes_own a small next goes = let pass : 0 < total (only k) v.passes = omega (arith, a.passes_are k, only-same k) in (
     (small, no_links v.hands a.hands_are, inl pass, a.quiet.rights),
     λ found hand is. let own : 0 < total (only hand.link) v.passes = subst (λ x. 0 < total (only x) v.passes) (sym is) pass in
@@ -271,10 +271,10 @@ module _ (p : Plan) {lists : List (List Entry)} {s k : ℕ} {t : List Mark} {hel
   )
 
 module _ (p : Plan) {lists : List (List Entry)} {s k : ℕ} {t : List Mark} {held : List HeldLife} {passes : List ℕ} {v : View} where
-  pub finishes : Has lists s t held passes (k ∷ []) v → k < p.links → (next : ℕ → Program) → ((found : ℕ) → GoesOn p v (next found)) → GoesOn p v (Do (FinishLink k) next)
+  pub finishes : Has lists s t held passes (k ∷ []) v → k < p.links → (next : ℕ → Program) → ((found : ℕ) → GoesOn p v (next found)) → GoesOn p v (Do (OnLink (FinishLink k)) next)
   finishes a small next goes = ((small, a.hands_are, a.quiet.rights), λ found hand e. goes found)
 
-  pub puts : Has lists s t held passes (k ∷ []) v → k < p.links → (next : ℕ → Program) → ((u : View) (found : ℕ) → Has lists s t held passes [] u → GoesOn p u (next found)) → GoesOn p v (Do (PutLink k) next)
+  pub puts : Has lists s t held passes (k ∷ []) v → k < p.links → (next : ℕ → Program) → ((u : View) (found : ℕ) → Has lists s t held passes [] u → GoesOn p u (next found)) → GoesOn p v (Do (OnLink (PutLink k)) next)
   puts a small next goes = ((small, a.hands_are, a.quiet.rights), λ found hand e. goes (without_hand v k) found (becomes a (without_hand v k) t passes [] (λ j n. refl) (λ f o. refl) a.passes_are (emptied v.hands a.hands_are) (still a (without_hand v k) refl refl refl refl)))
     where
       none_left : (hs : List Hand) → map (λ (h : Hand). h.link) hs ≡ [] → map (λ (h : Hand). h.link) (filter (λ (x : Hand). not (eqb x.link k)) hs) ≡ []
@@ -299,7 +299,7 @@ found_branch p {held = held} {passes = passes} {links = links} {v = v} a word fa
 
 module _ (p : Plan) {lists : List (List Entry)} {s : ℕ} {held : List HeldLife} {passes links : List ℕ} {v : View} (a : Has lists s [] held passes links v) where
   pub loads_name : (n : ℕ) → n < p.names → (x : Program) (y : ℕ → Program) → GoesOn p v x
-      → ((word : ℕ) (u : View) → Knows p u (word - 1) → Has lists (socket_id_slot (word - 1)) [] held passes links u → GoesOn p u (y word)) → GoesOn p v (Do (LoadName n) (λ word. cond (eqb word 0) x (y word)))
+      → ((word : ℕ) (u : View) → Knows p u (word - 1) → Has lists (socket_id_slot (word - 1)) [] held passes links u → GoesOn p u (y word)) → GoesOn p v (Do (OnName (LoadName n)) (λ word. cond (eqb word 0) x (y word)))
   loads_name n inside x y none_ one = (inside, λ word hand f. found_branch p a word (eqb word 0) (λ e. f.1) f.0 refl x (y word) none_ (one word))
 
   pub ends_branch : (word : ℕ) (b c : Bool) → b ≡ eqb word 0 → c ≡ eqb word NO_SOCKET → (is_id word ≡ true → socket_id_slot (word - 1) < p.slots) → (x y : Program) → GoesOn p v x
@@ -313,14 +313,14 @@ module _ (p : Plan) {lists : List (List Entry)} {s : ℕ} {held : List HeldLife}
       (one u (inside id_is, omega (arith, about_top (is_known h) i (Known h) v.marks, only-same h)) (noted (at_slot a i) (Known h) (λ f o. o.known h)))
 
   pub loads_open : (o : ℕ) → o < p.operations → (x : Program) (y : ℕ → Program) → GoesOn p v x
-      → ((word : ℕ) (u : View) → Knows p u (word - 1) → Has lists (socket_id_slot (word - 1)) [] held passes links u → GoesOn p u (y word)) → GoesOn p v (Do (LoadOpen o) (λ word. cond (eqb word 0) x (cond (eqb word NO_SOCKET) x (y word))))
+      → ((word : ℕ) (u : View) → Knows p u (word - 1) → Has lists (socket_id_slot (word - 1)) [] held passes links u → GoesOn p u (y word)) → GoesOn p v (Do (OnName (LoadOpen o)) (λ word. cond (eqb word 0) x (cond (eqb word NO_SOCKET) x (y word))))
   loads_open o inside x y none_ one = (inside, λ word hand f. ends_branch word (eqb word 0) (eqb word NO_SOCKET) refl refl f x (y word) none_ (one word))
 
 module _ (p : Plan) {lists : List (List Entry)} {s : ℕ} {t : List Mark} {held : List HeldLife} {passes links : List ℕ} {v : View} (a : Has lists s t held passes links v) where
   pub stores_open : (o word : ℕ) → o < p.operations → (word ≡ NO_SOCKET) ⊎ ((ltb 0 word ≡ true) × Knows p v (word - 1)) → (next : ℕ → Program)
-      → ((u : View) (found : ℕ) → ((id : ℕ) → Knows p v id → Knows p u id) → Has lists s t held passes links u → GoesOn p u (next found)) → GoesOn p v (Do (StoreOpen o word) next)
+      → ((u : View) (found : ℕ) → ((id : ℕ) → Knows p v id → Knows p u id) → Has lists s t held passes links u → GoesOn p u (next found)) → GoesOn p v (Do (OnName (StoreOpen o word)) next)
   stores_open o word inside names next goes = ((inside, names), λ found hand e. goes (wrote (open_index p o) word v) found (λ id k. k) (kept a (wrote (open_index p o) word v) refl a.passes_are refl (still a (wrote (open_index p o) word v) refl refl refl refl)))
 
   pub stores_name : (n word : ℕ) → n < p.names → ltb 0 word ≡ true → Knows p v (word - 1) → (next : ℕ → Program)
-      → ((u : View) (found : ℕ) → Has lists s t held passes links u → GoesOn p u (next found)) → GoesOn p v (Do (StoreName n word) next)
+      → ((u : View) (found : ℕ) → Has lists s t held passes links u → GoesOn p u (next found)) → GoesOn p v (Do (OnName (StoreName n word)) next)
   stores_name n word inside some_ knows next goes = ((inside, some_, knows), λ found hand e. goes (wrote (name_index p n) word v) found (kept a (wrote (name_index p n) word v) refl a.passes_are refl (still a (wrote (name_index p n) word v) refl refl refl refl)))

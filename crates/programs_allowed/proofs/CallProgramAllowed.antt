@@ -16,7 +16,7 @@ use Rattle.corr_core.specs.IdSlotWord.{parts}
 use Rattle.seat_programs.specs.sock_message.specs.Asked.{Asked, name_of, meta_of, frame_of}
 use Rattle.seat_programs.specs.Asides.{StoreAt}
 use Rattle.seat_programs.specs.Programs.{Program, Do, Say, Aside, release}
-use Rattle.seat_programs.specs.TableSteps.{FindLink, LookWord}
+use Rattle.seat_programs.specs.TableSteps.{OnSlot, FindLink, LookWord}
 use Rattle.seat_programs.specs.SendAndWritePrograms.{accept}
 use Rattle.seat_programs.specs.ClientProgram.{HeldLife}
 use Rattle.seat_programs.specs.PostPrograms.{post}
@@ -83,7 +83,7 @@ module _ (p : Plan) (made : List Entry) (held : List HeldLife) (passes : List �
       → GoesOn p v (attempt p.requests asked id n socket next)
   attempt_goes asked id n socket next label some_ goes {v} a knows ready = let i : ℕ = socket_id_slot socket in let h : ℕ = socket_id_version socket in
       address_goes p socket a knows few
-      (Do (FindLink (socket_id_slot socket) (socket_id_version socket)) (λ k. Aside (StoreAt asked.operation (at_word (id_first id) (id_slot id) k n)) (λ _. Do (LookWord socket) (λ found.
+      (Do (OnSlot (FindLink (socket_id_slot socket) (socket_id_version socket))) (λ k. Aside (StoreAt asked.operation (at_word (id_first id) (id_slot id) k n)) (λ _. Do (OnSlot (LookWord socket)) (λ found.
       cond (eqb (vref_version found % 2) 0) (claims_from p.requests 0 socket (heading_for asked id n) (frame_of asked id n) (post id 3001 n (release (socket_id_slot socket) (λ _. next))) (release (socket_id_slot socket) (λ _. next))) (post id 1009 n (release (socket_id_slot socket) (λ _. next)))))))
       (λ _. post id 1009 n next)
       (λ u b. (
@@ -92,7 +92,7 @@ module _ (p : Plan) (made : List Entry) (held : List HeldLife) (passes : List �
       ))
       (λ u found b. post_goes p u id 1009 n next (goes made (omega arith) u b))
     where
-      looks : {w : View} → Has (made ∷ []) (socket_id_slot socket) (Hold (socket_id_version socket) ∷ []) held passes [] w → GoesOn p w (Do (LookWord socket) (λ found.
+      looks : {w : View} → Has (made ∷ []) (socket_id_slot socket) (Hold (socket_id_version socket) ∷ []) held passes [] w → GoesOn p w (Do (OnSlot (LookWord socket)) (λ found.
           cond (eqb (vref_version found % 2) 0) (claims_from p.requests 0 socket (heading_for asked id n) (frame_of asked id n) (post id 3001 n (release (socket_id_slot socket) (λ _. next))) (release (socket_id_slot socket) (λ _. next))) (post id 1009 n (release (socket_id_slot socket) (λ _. next)))))
       looks {w} c = let i : ℕ = socket_id_slot socket in (
         (knows.0, inl c.quiet.rights, first (Hold (socket_id_version socket)) c (is_hold (socket_id_version socket)) (tokens (is_hold (socket_id_version socket)) refl) (only-same (socket_id_version socket))),

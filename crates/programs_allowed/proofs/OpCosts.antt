@@ -12,7 +12,7 @@ use Rattle.seat_programs.specs.declared.task.Op.{Op}
 use Rattle.seat_programs.specs.declared.task.Op.TheVariants as ops
 use Rattle.seat_programs.specs.declared.task.Task.{Task}
 use Rattle.seat_programs.specs.sock_message.specs.Asked.{Asked, name_of}
-use Rattle.seat_programs.specs.TableSteps.{ClaimSlot, CreateLife, StoreLink, ResetHead, ClearCode, StoreName, LoadName, StoreOpen, LoadOpen, LookWord, ClaimRequest}
+use Rattle.seat_programs.specs.TableSteps.{OnSlot, OnName, OnChain, ClaimSlot, CreateLife, StoreLink, ResetHead, ClearCode, StoreName, LoadName, StoreOpen, LoadOpen, LookWord, ClaimRequest}
 use Rattle.seat_programs.specs.LoopHeads.{Joins}
 use Rattle.seat_programs.specs.Programs.{Program, Do, Say, Sent, Round, release, add_reference, find_socket, set_failed, no_socket, make_socket, open_from, fail_outcome, fail, hold, end_open}
 use Rattle.seat_programs.specs.PostPrograms.{post_with, posted}
@@ -41,26 +41,26 @@ module _ (p : Plan) where
     1 + n,
     omega arith,
     λ word hand f. either_lasts p unopened (add_reference (word - 1) (held (word - 1)) gone) (1 + n) (word == 0) (lasting_more p unopened n (1 + n) (omega arith) u) (address_lasts p (word - 1) (held (word - 1)) gone n m le (l (word - 1)) k)
-        (row p (LoadName name) word hand v),
+        (row p (OnName (LoadName name)) word hand v),
   )
 
   -- ## Operations
 
   module _ (o : ℕ) (next : Program) (n : ℕ) (l : Lasting p next n) where
     no_socket_lasts : (k : ℕ) → Lasting p (no_socket o k next) (4 + n)
-    no_socket_lasts k = lasting_more p (no_socket o k next) (3 + (1 + n)) (4 + n) (omega arith) (ends_link p k (Do (StoreOpen o NO_SOCKET) (λ _. Say o SlotsFull next)) (1 + n) (does p (StoreOpen o NO_SOCKET) (λ _. Say o SlotsFull next) n (1 + n) (omega arith) (λ a. l)))
+    no_socket_lasts k = lasting_more p (no_socket o k next) (3 + (1 + n)) (4 + n) (omega arith) (ends_link p k (Do (OnName (StoreOpen o NO_SOCKET)) (λ _. Say o SlotsFull next)) (1 + n) (does p (OnName (StoreOpen o NO_SOCKET)) (λ _. Say o SlotsFull next) n (1 + n) (omega arith) (λ a. l)))
 
     make_socket_lasts : (name k i : ℕ) → Lasting p (make_socket o name k i next) (6 + n)
     make_socket_lasts name k i =
         let word : ℕ → ℕ = λ found. socket_id (vref_version found) i + 1 in
-        let stores : ℕ → Program = λ found. Do (StoreName name (word found)) (λ _. Say o (Opened i (vref_version found) k) next) in
-        let born : ℕ → Program = λ found. Do (StoreOpen o (word found)) (λ _. stores found) in
-        does p (StoreLink i k) (λ _. Do (ResetHead i k) (λ _. Do (ClearCode i k) (λ _. Do (CreateLife i k) born))) (5 + n) (6 + n) (omega arith)
-        (λ a. does p (ResetHead i k) (λ _. Do (ClearCode i k) (λ _. Do (CreateLife i k) born)) (4 + n) (5 + n) (omega arith)
-        (λ b. does p (ClearCode i k) (λ _. Do (CreateLife i k) born) (3 + n) (4 + n) (omega arith)
-        (λ c. does p (CreateLife i k) born (2 + n) (3 + n) (omega arith)
-        (λ found. does p (StoreOpen o (word found)) (λ _. stores found) (1 + n) (2 + n) (omega arith)
-        (λ d. does p (StoreName name (word found)) (λ _. Say o (Opened i (vref_version found) k) next) n (1 + n) (omega arith) (λ e. l))))))
+        let stores : ℕ → Program = λ found. Do (OnName (StoreName name (word found))) (λ _. Say o (Opened i (vref_version found) k) next) in
+        let born : ℕ → Program = λ found. Do (OnName (StoreOpen o (word found))) (λ _. stores found) in
+        does p (OnSlot (StoreLink i k)) (λ _. Do (OnSlot (ResetHead i k)) (λ _. Do (OnSlot (ClearCode i k)) (λ _. Do (OnSlot (CreateLife i k)) born))) (5 + n) (6 + n) (omega arith)
+        (λ a. does p (OnSlot (ResetHead i k)) (λ _. Do (OnSlot (ClearCode i k)) (λ _. Do (OnSlot (CreateLife i k)) born)) (4 + n) (5 + n) (omega arith)
+        (λ b. does p (OnSlot (ClearCode i k)) (λ _. Do (OnSlot (CreateLife i k)) born) (3 + n) (4 + n) (omega arith)
+        (λ c. does p (OnSlot (CreateLife i k)) born (2 + n) (3 + n) (omega arith)
+        (λ found. does p (OnName (StoreOpen o (word found))) (λ _. stores found) (1 + n) (2 + n) (omega arith)
+        (λ d. does p (OnName (StoreName name (word found))) (λ _. Say o (Opened i (vref_version found) k) next) n (1 + n) (omega arith) (λ e. l))))))
 
     open_lasts : (name k slots i : ℕ) → Lasting p (open_from slots i o name k next) (slots + 6 + n)
     open_lasts name k zero i v = lasting_more p (no_socket o k next) (4 + n) (6 + n) (omega arith) (no_socket_lasts k) v
@@ -68,7 +68,7 @@ module _ (p : Plan) where
       slots + 6 + n,
       omega arith,
       λ found hand f. either_lasts p (make_socket o name k i next) (open_from slots (i + 1) o name k next) (slots + 6 + n) (found == 0)
-          (lasting_more p (make_socket o name k i next) (6 + n) (slots + 6 + n) (omega arith) (make_socket_lasts name k i)) (open_lasts name k slots (i + 1)) (row p (ClaimSlot i) found hand v),
+          (lasting_more p (make_socket o name k i next) (6 + n) (slots + 6 + n) (omega arith) (make_socket_lasts name k i)) (open_lasts name k slots (i + 1)) (row p (OnSlot (ClaimSlot i)) found hand v),
     )
 
     fail_lasts : (name code : ℕ) → Lasting p (fail o name code next) (12 + n)
@@ -97,7 +97,7 @@ module _ (p : Plan) where
       omega arith,
       λ found hand f. either_lasts p (accept id q (found / 2) (heading_of o) bytes after) (claim_from requests (q + 1) o id bytes next) m (found % 2 == 0)
           (lasting_more p (accept id q (found / 2) (heading_of o) bytes after) (weight (length bytes) + (13 + ACCEPT) + (7 + n)) m (omega arith) (accept_lasts p id q (found / 2) (heading_of o) bytes after (7 + n) (sent_lasts id)))
-          (claim_lasts id bytes requests (q + 1)) (row p (ClaimRequest id q) found hand v),
+          (claim_lasts id bytes requests (q + 1)) (row p (OnChain (ClaimRequest id q)) found hand v),
     )
 
     start_lasts : (requests id : ℕ) (bytes : List ℕ) → Lasting p (start requests o id bytes next) (requests + (weight (length bytes) + (21 + ACCEPT) + n))
@@ -105,7 +105,7 @@ module _ (p : Plan) where
       requests + (weight (length bytes) + (20 + ACCEPT) + n),
       omega arith,
       λ found hand f. either_lasts p (claim_from requests 0 o id bytes next) (gone found) (requests + (weight (length bytes) + (20 + ACCEPT) + n)) (vref_version found % 2 == 0) (claim_lasts id bytes requests 0)
-          (lasting_more p (gone found) (7 + n) (requests + (weight (length bytes) + (20 + ACCEPT) + n)) (omega arith) (release_lasts p (socket_id_slot id) (λ _. Say o (Gone (record { 0 = found })) next) n (λ b. l))) (row p (LookWord id) found hand v),
+          (lasting_more p (gone found) (7 + n) (requests + (weight (length bytes) + (20 + ACCEPT) + n)) (omega arith) (release_lasts p (socket_id_slot id) (λ _. Say o (Gone (record { 0 = found })) next) n (λ b. l))) (row p (OnSlot (LookWord id)) found hand v),
     )
 
     send_lasts : (requests name : ℕ) (bytes : List ℕ) → Lasting p (send requests o name bytes next) (requests + (weight (length bytes) + (23 + ACCEPT) + n))
@@ -136,7 +136,7 @@ module _ (p : Plan) where
     )
 
     call_lasts : (asked : Asked) → AskedFits p asked → (ids : ℕ) → Lasting p (call p.requests ids asked next) (1 + (ids + (begin_cost p asked + n)))
-    call_lasts asked fits ids = does p (LoadName (name_of asked 0)) (λ word. cond (word == 0) (Say asked.operation Unopened next) (claim_id ids 0 p.requests (word - 1) asked next)) (ids + (begin_cost p asked + n)) (1 + (ids + (begin_cost p asked + n))) (omega arith)
+    call_lasts asked fits ids = does p (OnName (LoadName (name_of asked 0))) (λ word. cond (word == 0) (Say asked.operation Unopened next) (claim_id ids 0 p.requests (word - 1) asked next)) (ids + (begin_cost p asked + n)) (1 + (ids + (begin_cost p asked + n))) (omega arith)
         (λ word. either_lasts p (Say asked.operation Unopened next) (claim_id ids 0 p.requests (word - 1) asked next) (ids + (begin_cost p asked + n)) (word == 0) (lasting_more p next n (ids + (begin_cost p asked + n)) (omega arith) l) (claim_id_lasts asked fits ids 0 (word - 1)))
 
     expire_lasts : (t : ℕ) → Lasting p (expire o t next) (1 + (POST + n))
@@ -167,7 +167,7 @@ module _ (p : Plan) where
           (either_lasts p next (ends word) (11 + n) (word == NO_SOCKET) (lasting_more p next n (11 + n) (omega arith) l)
           (lasting_more p (ends word) (1 + (10 + n)) (11 + n) (omega arith) (address_lasts p (word - 1) (fails word) (λ _. next) (10 + n) n (omega arith)
           (lasting_more p (fails word) (3 + (7 + n)) (10 + n) (omega arith) (set_failed_lasts p (word - 1) 1014 (λ _. release (socket_id_slot (word - 1)) (λ _. next)) (7 + n) (λ found. release_lasts p (socket_id_slot (word - 1)) (λ _. next) n (λ b. l))))
-          (λ found. l)))) (row p (LoadOpen o) word hand v),
+          (λ found. l)))) (row p (OnName (LoadOpen o)) word hand v),
     )
 
   -- ## Clients

@@ -10,7 +10,7 @@ use Rattle.sock_model.specs.declared.marks.Mark.TheVariants.{Claimed, Hold, Prob
 use Rattle.sock_model.specs.declared.view.View.{View}
 use Rattle.sock_model.specs.MarkWeights.{is_known}
 use Rattle.sock_model.specs.SlotRows.{marks_of}
-use Rattle.seat_programs.specs.TableSteps.{CreateLife, SubRef, FreeSlot, LoadLink, ResetHead, ClearCode, StoreCode, StoreName, StoreOpen, TakeLink, FinishLink, PutLink}
+use Rattle.seat_programs.specs.TableSteps.{OnSlot, OnName, OnLink, CreateLife, SubRef, FreeSlot, LoadLink, ResetHead, ClearCode, StoreCode, StoreName, StoreOpen, TakeLink, FinishLink, PutLink}
 use Rattle.seat_programs.specs.Programs.{Program, Do, Say, LAST_VERSION, recycle, release, add_reference, find_socket, set_failed, no_socket, make_socket, open_from}
 use Rattle.seat_programs.specs.ClientProgram.{HeldLife}
 use Rattle.seat_programs.specs.StepViews.{Knows}
@@ -29,11 +29,11 @@ module _ (p : Plan) {lists : List (List Entry)} {held : List HeldLife} {passes :
   pub recycle_goes : (s from : ℕ) {v : View} → Has lists s (Zero (vref_version from) ∷ []) held passes [] v → s < p.slots → vref_version from % 2 ≡ 1 → vref_nref from ≡ 0 → vref_version from < 4294967295 → (next : Bool → Program)
       → ((b : Bool) (w : View) → Ready lists held passes w → GoesOn p w (next b)) → GoesOn p v (recycle s from next)
   recycle_goes s from a inside odd none_ low next goes = let w : ℕ = vref_version from + 1 in
-      let end_ : Program = cond (leb w LAST_VERSION) (Do (FreeSlot s) (λ _. next true)) (next true) in let put : ℕ → ℕ → Program = λ k x. Do (PutLink k) (λ _. end_) in
-      let finish : ℕ → ℕ → Program = λ k x. Do (FinishLink k) (put k) in let take : ℕ → Program = λ k. Do (TakeLink k) (finish k) in
-      recycles p from a inside odd none_ low (Do (LoadLink s w) take) (next false)
+      let end_ : Program = cond (leb w LAST_VERSION) (Do (OnSlot (FreeSlot s)) (λ _. next true)) (next true) in let put : ℕ → ℕ → Program = λ k x. Do (OnLink (PutLink k)) (λ _. end_) in
+      let finish : ℕ → ℕ → Program = λ k x. Do (OnLink (FinishLink k)) (put k) in let take : ℕ → Program = λ k. Do (OnLink (TakeLink k)) (finish k) in
+      recycles p from a inside odd none_ low (Do (OnSlot (LoadLink s w)) take) (next false)
       (λ u₁ b₁. loads_link p w b₁ inside take (λ u₂ k small spent there b₂. takes_last p w b₂ inside small spent there (finish k) (λ u₃ x b₃. finishes p b₃ small (put k) (λ y. puts p b₃ small (λ _. end_) (λ u₄ z b₄.
-      cond_both (leb w LAST_VERSION) (Do (FreeSlot s) (λ _. next true)) (next true) (GoesOn p u₄)
+      cond_both (leb w LAST_VERSION) (Do (OnSlot (FreeSlot s)) (λ _. next true)) (next true) (GoesOn p u₄)
       (λ fits. frees p w b₄ (leb-true w LAST_VERSION fits) inside (λ _. next true) (λ u₅ f b₅. goes true u₅ (at_slot b₅ 0)))
       (λ late. goes true u₄ (at_slot (retiring w (leb-false w LAST_VERSION late) b₄) 0)))))))
       (λ u b. goes false u (at_slot b 0))
@@ -65,8 +65,8 @@ module _ (p : Plan) {lists : List (List Entry)} {held : List HeldLife} {passes :
   pub set_failed_goes : (id code : ℕ) {v : View} → code ≢ 0 → Has lists (socket_id_slot id) (Hold (socket_id_version id) ∷ []) held passes [] v → socket_id_slot id < p.slots → length held ≤ 4096 → (next : ℕ → Program)
       → ((u : View) (found : ℕ) → Has lists (socket_id_slot id) (Hold (socket_id_version id) ∷ []) held passes [] u → GoesOn p u (next found)) → GoesOn p v (set_failed id code next)
   set_failed_goes id code some_ a inside few next goes = let i : ℕ = socket_id_slot id in let h : ℕ = socket_id_version id in
-      sets_odd p a inside (omega (arith, few)) (λ found. Do (StoreCode i h code) (λ _. Do (SubRef i) (λ _. next found))) next
-      (λ u found b. stores_code p code some_ b inside (λ _. Do (SubRef i) (λ _. next found)) (λ u₁ x b₁. subs p (Hold h) b₁ (inr (h, refl, refl)) refl inside (λ _. next found)
+      sets_odd p a inside (omega (arith, few)) (λ found. Do (OnSlot (StoreCode i h code)) (λ _. Do (OnSlot (SubRef i)) (λ _. next found))) next
+      (λ u found b. stores_code p code some_ b inside (λ _. Do (OnSlot (SubRef i)) (λ _. next found)) (λ u₁ x b₁. subs p (Hold h) b₁ (inr (h, refl, refl)) refl inside (λ _. next found)
       (λ y u₂ odd one many low b₂. absurd (omega (arith, one, many))) (λ y u₂ no_ b₂. goes u₂ found b₂)))
       goes
 
@@ -75,15 +75,15 @@ module _ (p : Plan) {lists : List (List Entry)} {held : List HeldLife} {passes :
 module _ (p : Plan) {lists : List (List Entry)} {held : List HeldLife} {passes : List ℕ} (o name k : ℕ) (mine : o < p.operations) (named : name < p.names) (small : k < p.links) (next : Program)
     (goes : (u : View) → Ready lists held passes u → GoesOn p u next) where
   no_socket_goes : {v : View} → Ready lists held (k ∷ passes) v → GoesOn p v (no_socket o k next)
-  no_socket_goes a = let said_ : ℕ → Program = λ _. Say o SlotsFull next in let store : ℕ → Program = λ _. Do (StoreOpen o NO_SOCKET) said_ in
-      let put : ℕ → Program = λ _. Do (PutLink k) store in let finish : ℕ → Program = λ _. Do (FinishLink k) put in
+  no_socket_goes a = let said_ : ℕ → Program = λ _. Say o SlotsFull next in let store : ℕ → Program = λ _. Do (OnName (StoreOpen o NO_SOCKET)) said_ in
+      let put : ℕ → Program = λ _. Do (OnLink (PutLink k)) store in let finish : ℕ → Program = λ _. Do (OnLink (FinishLink k)) put in
       takes_own p a small finish (λ u₁ x b₁. finishes p b₁ small put (λ y. puts p b₁ small store (λ u₂ z b₂. stores_open p b₂ o NO_SOCKET mine (inl refl) said_ (λ u₃ f same b₃. goes u₃ b₃))))
 
   make_socket_goes : (i : ℕ) {v : View} → i < p.slots → p.slots ≤ 256 → Has lists i (Claimed 0 0 ∷ []) held (k ∷ passes) [] v → GoesOn p v (make_socket o name k i next)
   make_socket_goes i inside few a =
-      let named_ : ℕ → ℕ → Program = λ found _. Do (StoreName name (socket_id (vref_version found) i + 1)) (λ _. Say o (Opened i (vref_version found) k) next) in
-      let born : ℕ → Program = λ found. Do (StoreOpen o (socket_id (vref_version found) i + 1)) (named_ found) in
-      let wiped : ℕ → Program = λ _. Do (CreateLife i k) born in let reset : ℕ → Program = λ _. Do (ClearCode i k) wiped in let linked : ℕ → Program = λ _. Do (ResetHead i k) reset in
+      let named_ : ℕ → ℕ → Program = λ found _. Do (OnName (StoreName name (socket_id (vref_version found) i + 1))) (λ _. Say o (Opened i (vref_version found) k) next) in
+      let born : ℕ → Program = λ found. Do (OnName (StoreOpen o (socket_id (vref_version found) i + 1))) (named_ found) in
+      let wiped : ℕ → Program = λ _. Do (OnSlot (CreateLife i k)) born in let reset : ℕ → Program = λ _. Do (OnSlot (ClearCode i k)) wiped in let linked : ℕ → Program = λ _. Do (OnSlot (ResetHead i k)) reset in
       stores_link p a inside linked (λ u₁ x b₁. resets p b₁ inside reset (λ u₂ y b₂. wipes p b₂ inside wiped (λ u₃ z b₃. bears p b₃ inside born (λ u₄ found b₄ known.
       let h : ℕ = vref_version found in let word : ℕ = socket_id h i + 1 in
       let slot_is : socket_id_slot (word - 1) ≡ i = omega (arith, inside, few) in let version_is : socket_id_version (word - 1) ≡ h = omega (arith, inside, few) in

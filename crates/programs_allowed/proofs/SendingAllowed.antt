@@ -19,7 +19,7 @@ use Rattle.sock_model.specs.Marks.{about}
 use Rattle.sock_model.specs.SlotRows.{marks_of, looked, met_link}
 use Rattle.sock_model.specs.ChainRows.{with_claim, entry_of, more, queued, righted, new_right, without_loose, taken_right, ready_claim, filled_claim}
 use Rattle.sock_model.specs.Entries.{ticket_of}
-use Rattle.seat_programs.specs.TableSteps.{Connect}
+use Rattle.seat_programs.specs.TableSteps.{OnChain, Connect}
 use Rattle.seat_programs.specs.Programs.{Program, Do, Say, Sent, TakeMessage, TakeHome, release}
 use Rattle.seat_programs.specs.SendAndWritePrograms.{write_link, first_put, heading_of, accept, claim_from, start, send}
 use Rattle.seat_programs.specs.ClientProgram.{HeldLife}
@@ -170,7 +170,7 @@ module _ (p : Plan) (made : List Entry) {held : List HeldLife} {passes : List �
 
   exchange_branch : {w : View} → Has (made ∷ []) (socket_id_slot id) (Hold (socket_id_version id) ∷ []) held passes [] w → (c : Claim) → 0 < marks_of (is_met (socket_id_version id) c.link) (socket_id_slot id) w
       → c.request < p.requests → (b : Bool) (found : ℕ) (took : List ℕ) (next : ℕ)
-      → GoesOn p (cond b (queued (record w { claims = c ∷ [] }) c found) (righted (record w { claims = c ∷ [] }) c found took next)) (cond b (Do (Connect c.request found) (λ _. after)) (write_link id c.request (own_of c) after))
+      → GoesOn p (cond b (queued (record w { claims = c ∷ [] }) c found) (righted (record w { claims = c ∷ [] }) c found took next)) (cond b (Do (OnChain (Connect c.request found)) (λ _. after)) (write_link id c.request (own_of c) after))
   exchange_branch {w} a c met in_table true found took next = let e : Entry = entry_of c found in (
     (in_table, (0, refl)),
     λ _ hand f. goes (made ++ e ∷ []) (longer_by e) _ (connected_has (accepted_has a e) c.request found),

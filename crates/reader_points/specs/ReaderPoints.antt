@@ -95,8 +95,8 @@ module _ (a : Context) where
   abbrev pub close_program : Closing → CloseStep → Program
   close_program c closes.AddRef = add_reference c.reader.socket.0 (set_failed c.reader.socket.0 (code_by c.fault) (λ _. release (socket_id_slot c.reader.socket.0) (λ _. posts_program c))) (λ _. posts_program c)
   close_program c closes.SetOdd = set_failed c.reader.socket.0 (code_by c.fault) (λ _. release (socket_id_slot c.reader.socket.0) (λ _. posts_program c))
-  close_program c closes.StoreCode = Do (calls.StoreCode (socket_id_slot c.reader.socket.0) (socket_id_version c.reader.socket.0) (code_by c.fault)) (λ _. Do (calls.SubRef (socket_id_slot c.reader.socket.0)) (λ _. release (socket_id_slot c.reader.socket.0) (λ _. posts_program c)))
-  close_program c closes.ReleaseFirst = Do (calls.SubRef (socket_id_slot c.reader.socket.0)) (λ _. release (socket_id_slot c.reader.socket.0) (λ _. posts_program c))
+  close_program c closes.StoreCode = Do (calls.OnSlot (calls.StoreCode (socket_id_slot c.reader.socket.0) (socket_id_version c.reader.socket.0) (code_by c.fault))) (λ _. Do (calls.OnSlot (calls.SubRef (socket_id_slot c.reader.socket.0))) (λ _. release (socket_id_slot c.reader.socket.0) (λ _. posts_program c)))
+  close_program c closes.ReleaseFirst = Do (calls.OnSlot (calls.SubRef (socket_id_slot c.reader.socket.0))) (λ _. release (socket_id_slot c.reader.socket.0) (λ _. posts_program c))
   close_program c (closes.Release at) = release_on (socket_id_slot c.reader.socket.0) (λ _. posts_program c) at
 
   -- the at word of the call of this operation is looked at, and then the calls that are left

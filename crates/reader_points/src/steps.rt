@@ -9,7 +9,7 @@ ghost use Rattle.reader_points.specs.ReaderCodeSteps.{step_as};
 use crate::point::{AnswerStep, Behind, ByteCount, CloseStep, Closing, ReadPoint, ReadStep};
 use call_points::Aside;
 use id_points::CallId;
-use seat_states::TableStep;
+use seat_states::{NameStep, SlotStep, TableStep};
 use sock_words::{EEOF, ERESPONSE};
 
 impl Closing {
@@ -28,10 +28,10 @@ impl CloseStep {
     {
         let id = closing.reader.socket;
         match self {
-            CloseStep::AddRef => TableStep::AddRef(id),
-            CloseStep::SetOdd => TableStep::SetOdd(id.slot()),
-            CloseStep::StoreCode => TableStep::StoreCode(id.slot(), id.version(), closing.code()),
-            CloseStep::ReleaseFirst => TableStep::SubRef(id.slot()),
+            CloseStep::AddRef => TableStep::Slot(SlotStep::AddRef(id)),
+            CloseStep::SetOdd => TableStep::Slot(SlotStep::SetOdd(id.slot())),
+            CloseStep::StoreCode => TableStep::Slot(SlotStep::StoreCode(id.slot(), id.version(), closing.code())),
+            CloseStep::ReleaseFirst => TableStep::Slot(SlotStep::SubRef(id.slot())),
             CloseStep::Release(step) => step.call(id.slot()),
         }
     }
@@ -57,7 +57,7 @@ impl ReadPoint {
     {
         match self {
             ReadPoint::Rest => None,
-            ReadPoint::Open(_, operation) => Some(ReadStep::Table(TableStep::LoadOpen(operation))),
+            ReadPoint::Open(_, operation) => Some(ReadStep::Table(TableStep::Name(NameStep::LoadOpen(operation)))),
             ReadPoint::Take(reader) => taking(reader.link, reader.total),
             ReadPoint::Lock(_, locker, step) => Some(ReadStep::Aside(locker.step(step))),
             ReadPoint::Answer(_, id, step) => Some(ReadStep::Aside(step.aside(id))),

@@ -4,7 +4,7 @@ use mathlib.Core.Option.{none, some, some-ne-none}
 use lib.ListN.{get_elem?}
 use Rattle.sock_words.specs.PackedWords.{socket_id_slot, socket_id_version, vref_version, vref_nref, NO_SOCKET}
 use Rattle.sock_words.specs.declared.plain.Plan.{Plan}
-use Rattle.seat_programs.specs.TableSteps.{SubRef, StoreCode, LoadLink, TakeLink, FinishLink, PutLink, FreeSlot}
+use Rattle.seat_programs.specs.TableSteps.{OnSlot, OnLink, SubRef, StoreCode, LoadLink, TakeLink, FinishLink, PutLink, FreeSlot}
 use Rattle.seat_programs.specs.ClientProgram.{ending_of}
 use Rattle.seat_programs.specs.LoopHeads.{Retry}
 use Rattle.seat_programs.specs.Programs.{Program, Do, Rest, LAST_VERSION, recycle, release, add_reference, set_failed}
@@ -29,8 +29,8 @@ way false x y f g = g
 
 recycle_goes : (i from : ℕ) (next : Bool → Program) → ((b : Bool) → OnSockets (next b)) → OnSockets (recycle i from next)
 recycle_goes i from next goes found = way (eqb found from)
-    (Do (LoadLink i (vref_version from + 1)) (λ k. Do (TakeLink k) (λ _. Do (FinishLink k) (λ _. Do (PutLink k) (λ _. cond (leb (vref_version from + 1) LAST_VERSION) (Do (FreeSlot i) (λ _. next true)) (next true))))))
-    (next false) (λ k _ _ _. way (leb (vref_version from + 1) LAST_VERSION) (Do (FreeSlot i) (λ _. next true)) (next true) (λ _. goes true) (goes true)) (goes false)
+    (Do (OnSlot (LoadLink i (vref_version from + 1))) (λ k. Do (OnLink (TakeLink k)) (λ _. Do (OnLink (FinishLink k)) (λ _. Do (OnLink (PutLink k)) (λ _. cond (leb (vref_version from + 1) LAST_VERSION) (Do (OnSlot (FreeSlot i)) (λ _. next true)) (next true))))))
+    (next false) (λ k _ _ _. way (leb (vref_version from + 1) LAST_VERSION) (Do (OnSlot (FreeSlot i)) (λ _. next true)) (next true) (λ _. goes true) (goes true)) (goes false)
 
 release_goes : (i : ℕ) (next : Bool → Program) → ((b : Bool) → OnSockets (next b)) → OnSockets (release i next)
 release_goes i next goes found = way ((vref_version found % 2 == 1) && (vref_nref found == 1)) (recycle i (found - 1) next) (next false) (recycle_goes i (found - 1) next goes) (goes false)
@@ -39,7 +39,7 @@ address_goes : (id : ℕ) (held : Program) (gone : ℕ → Program) → OnSocket
 address_goes id held gone goes others found = way (vref_version found == socket_id_version id) held (release (socket_id_slot id) (λ _. gone found)) goes (release_goes (socket_id_slot id) (λ _. gone found) (λ _. others found))
 
 set_failed_goes : (id code : ℕ) (next : ℕ → Program) → ((found : ℕ) → OnSockets (next found)) → OnSockets (set_failed id code next)
-set_failed_goes id code next goes found = way (vref_version found % 2 == 0) (Do (StoreCode (socket_id_slot id) (socket_id_version id) code) (λ _. Do (SubRef (socket_id_slot id)) (λ _. next found))) (next found) (λ _ _. goes found) (goes found)
+set_failed_goes id code next goes found = way (vref_version found % 2 == 0) (Do (OnSlot (StoreCode (socket_id_slot id) (socket_id_version id) code)) (λ _. Do (OnSlot (SubRef (socket_id_slot id))) (λ _. next found))) (next found) (λ _ _. goes found) (goes found)
 
 pub ending_goes : (os : List ℕ) → OnSockets (ending_of os)
 ending_goes [] = tt

@@ -13,7 +13,7 @@ use Rattle.corr_core.specs.IdSlotWord.{parts}
 use Rattle.corr_core.specs.EndedByRangeOrAttempt.{ends_call}
 use Rattle.sock_message.specs.Asked.{Asked}
 use Rattle.seat_programs.specs.Asides.{PutCall}
-use Rattle.seat_programs.specs.TableSteps.{AddRef, LookWord, LoadName}
+use Rattle.seat_programs.specs.TableSteps.{OnSlot, OnName, AddRef, LookWord, LoadName}
 use Rattle.seat_programs.specs.LoopHeads.{Unlocks, Decides, Locks}
 use Rattle.seat_programs.specs.Programs.{Program, Write, Aside, Round}
 use Rattle.seat_programs.specs.Writings.{Empties}
@@ -147,7 +147,7 @@ module _ (script : List Item) (made : AreMade script) (turns : List Turn) (core 
     Lost c o n name = WhyLost (plan_of script) (all_tasks script) core.outcomes (fixed_of_run script made turns core is closes) (gave_of_run script made turns core is closes) (orders_here script made turns core is closes) c o n name
 
     -- the name's socket was found failed before the ending: its link was failing
-    failed_early : (c o n name s : ℕ) → IsNamed played_told.after.events (DidStep (LoadName name) (s + 1)) → (0 < Rattle.sock_model.specs.SocketSlotLaw.count (Rattle.sock_model.specs.MarkWeights.is_failer (socket_id_version s)) (Rattle.sock_model.specs.References.slot_facts (state rested rested_views) (socket_id_slot s))) → Lost c o n name
+    failed_early : (c o n name s : ℕ) → IsNamed played_told.after.events (DidStep (OnName (LoadName name)) (s + 1)) → (0 < Rattle.sock_model.specs.SocketSlotLaw.count (Rattle.sock_model.specs.MarkWeights.is_failer (socket_id_version s)) (Rattle.sock_model.specs.References.slot_facts (state rested rested_views) (socket_id_slot s))) → Lost c o n name
     failed_early c o n name s named failed = let x = named (λ z. omega (arith, z)) in
         let life = named_life (plan_of script) (told_tasks_of script) told_are core end_views final_told.after.events final_told.after.lost
         (ended_sound script made.are (first_views script) (start script made turns core is) (go script made turns core is) turns core is (fitting script made turns core is)) end_story
@@ -158,10 +158,10 @@ module _ (script : List Item) (made : AreMade script) (turns : List Turn) (core 
 
     -- or nothing was found under the name, before the ending
     pub early_lost : (o n name seat : ℕ) (ds : List Deed) → AllByRecursion (DidEarly script turns core is seat) ds → FoundLost o name n ds → ((c : ℕ) → Lost c o n name) ⊎ ((0 < n) × ((id : ℕ) × DidEarly script turns core is seat (DidMiss name o id n)))
-    early_lost o n name seat ds did (WasOther s found load add ne) = inl (λ c. failed_early c o n name s (early_named seat (DidStep (LoadName name) (s + 1)) (all_in (DidEarly script turns core is seat) ds (DidStep (LoadName name) (s + 1)) did load))
-        (early_so script made turns core is closes seat (DidStep (AddRef s) found) (all_in (DidEarly script turns core is seat) ds (DidStep (AddRef s) found) did add) ne).1)
-    early_lost o n name seat ds did (WasOdd s found load look odd) = inl (λ c. failed_early c o n name s (early_named seat (DidStep (LoadName name) (s + 1)) (all_in (DidEarly script turns core is seat) ds (DidStep (LoadName name) (s + 1)) did load))
-        (early_so script made turns core is closes seat (DidStep (LookWord s) found) (all_in (DidEarly script turns core is seat) ds (DidStep (LookWord s) found) did look) odd).1)
+    early_lost o n name seat ds did (WasOther s found load add ne) = inl (λ c. failed_early c o n name s (early_named seat (DidStep (OnName (LoadName name)) (s + 1)) (all_in (DidEarly script turns core is seat) ds (DidStep (OnName (LoadName name)) (s + 1)) did load))
+        (early_so script made turns core is closes seat (DidStep (OnSlot (AddRef s)) found) (all_in (DidEarly script turns core is seat) ds (DidStep (OnSlot (AddRef s)) found) did add) ne).1)
+    early_lost o n name seat ds did (WasOdd s found load look odd) = inl (λ c. failed_early c o n name s (early_named seat (DidStep (OnName (LoadName name)) (s + 1)) (all_in (DidEarly script turns core is seat) ds (DidStep (OnName (LoadName name)) (s + 1)) did load))
+        (early_so script made turns core is closes seat (DidStep (OnSlot (LookWord s)) found) (all_in (DidEarly script turns core is seat) ds (DidStep (OnSlot (LookWord s)) found) did look) odd).1)
     early_lost o n name seat ds did (WasNone id later miss) = inr (later, (id, all_in (DidEarly script turns core is seat) ds (DidMiss name o id n) did miss))
 
     -- an attempt behind that is one of an operation that had a step while the run was ending

@@ -18,7 +18,7 @@ use Rattle.sock_model.specs.ChainRows.{taken_right}
 use Rattle.attempted_calls.specs.Below.slot_steps.proofs.RuleNumbers.{live_le, life_is, life-in}
 use Rattle.attempted_calls.specs.Below.sock_steps.proofs.LifeLinkSlotPlaces.{own_count, counts}
 use Rattle.seat_programs.specs.FoundAndChangedAside.{calls_after}
-use Rattle.seat_programs.specs.TableSteps.{TableStep, AddRef, LookWord, ClaimRequest}
+use Rattle.seat_programs.specs.TableSteps.{TableStep, OnSlot, OnChain, AddRef, LookWord, ClaimRequest}
 use Rattle.seat_programs.specs.Programs.{Program, Do}
 use Rattle.seat_programs.specs.Cores.{Calls, Core, SeatState, words_after, found_at, homes_after, with_seat, stepped, link_place, first_of, others_of, lies_at}
 use Rattle.seat_programs.specs.StepTables.{word_of, word_after}
@@ -42,9 +42,9 @@ module _ (p : Plan) where
   IsFailed c vs j h = (j < p.slots) × (0 < count (is_failer h) (slot_facts (state c vs) j))
 
   abbrev pub Says : Core → List View → TableStep → ℕ → Type 0
-  Says c vs (ClaimRequest id r) found = found % 2 ≡ 1 → (r < p.requests) × (0 < slice_index c.words (request_index p r))
-  Says c vs (AddRef id) found = vref_version found ≢ socket_id_version id → IsFailed c vs (socket_id_slot id) (socket_id_version id)
-  Says c vs (LookWord id) found = vref_version found % 2 ≡ 1 → IsFailed c vs (socket_id_slot id) (socket_id_version id)
+  Says c vs (OnChain (ClaimRequest id r)) found = found % 2 ≡ 1 → (r < p.requests) × (0 < slice_index c.words (request_index p r))
+  Says c vs (OnSlot (AddRef id)) found = vref_version found ≢ socket_id_version id → IsFailed c vs (socket_id_slot id) (socket_id_version id)
+  Says c vs (OnSlot (LookWord id)) found = vref_version found % 2 ≡ 1 → IsFailed c vs (socket_id_slot id) (socket_id_version id)
   Says c vs other found = Unit {0}
 
   abbrev pub IsSo : Core → List View → Deed → Type 0
@@ -73,9 +73,9 @@ module _ (p : Plan) where
           let a = life-in p.first h (slot_facts (state c vs) j).version (omega arith) (omega arith) t₁ in omega (arith, o.failed h, a)
 
       says_of : (call : TableStep) → May p v call → Says c vs call (found_at c.words (word_of p call))
-      says_of (ClaimRequest id r) may = λ odd. (may.0, omega (arith, odd))
-      says_of (AddRef id) may = λ ne. (may.0.0, known_failed (socket_id_slot id) (socket_id_version id) may.0.0 may.0.1 ne)
-      says_of (LookWord id) may = λ odd. (may.0, odd_failed (socket_id_slot id) (socket_id_version id) may.0 may.2 odd)
+      says_of (OnChain (ClaimRequest id r)) may = λ odd. (may.0, omega (arith, odd))
+      says_of (OnSlot (AddRef id)) may = λ ne. (may.0.0, known_failed (socket_id_slot id) (socket_id_version id) may.0.0 may.0.1 ne)
+      says_of (OnSlot (LookWord id)) may = λ odd. (may.0, odd_failed (socket_id_slot id) (socket_id_version id) may.0 may.2 odd)
       says_of _ may = tt
 
     -- what a seat does in a tick is so as the tick begins
@@ -97,9 +97,9 @@ module _ (p : Plan) where
     by_parts c' vs' used failed (DidStep call found) so = by call so
       where
         by : (call : TableStep) → Says c vs call found → Says c' vs' call found
-        by (ClaimRequest id r) s = λ odd. let x = s odd in (x.0, used r x.0 x.1)
-        by (AddRef id) s = λ ne. let x = s ne in (x.0, failed (socket_id_slot id) (socket_id_version id) x.1)
-        by (LookWord id) s = λ odd. let x = s odd in (x.0, failed (socket_id_slot id) (socket_id_version id) x.1)
+        by (OnChain (ClaimRequest id r)) s = λ odd. let x = s odd in (x.0, used r x.0 x.1)
+        by (OnSlot (AddRef id)) s = λ ne. let x = s ne in (x.0, failed (socket_id_slot id) (socket_id_version id) x.1)
+        by (OnSlot (LookWord id)) s = λ odd. let x = s odd in (x.0, failed (socket_id_slot id) (socket_id_version id) x.1)
         by _ s = tt
     by_parts c' vs' used failed _ so = tt
 

@@ -21,7 +21,7 @@ use Rattle.seat_programs.specs.declared.task.Sizes.{Sizes}
 use Rattle.seat_programs.specs.declared.task.Task.{Task}
 use Rattle.seat_programs.specs.Asides.{StoreAt}
 use Rattle.seat_programs.specs.CallAndRetryPrograms.{claims_from, heading_for, attempt, begin_call, claim_id, call, tried_again, retry_locked, retry, expire_outcome, expire, join}
-use Rattle.seat_programs.specs.TableSteps.{TableStep, LoadOpen, SubRef, AddRef, LoadLink, TakeLink, FinishLink, PutLink, FreeSlot, LoadName, FreeRequest, ReadNext, FindLink, LookWord, ReverseNext, Connect, ClaimRequest, PutMessage, Recycle, LoadCode, DropPlace}
+use Rattle.seat_programs.specs.TableSteps.{TableStep, OnSlot, OnName, OnChain, OnPlace, OnLink, OnMessage, LoadOpen, SubRef, AddRef, LoadLink, TakeLink, FinishLink, PutLink, FreeSlot, LoadName, FreeRequest, ReadNext, FindLink, LookWord, ReverseNext, Connect, ClaimRequest, PutMessage, Recycle, LoadCode, DropPlace}
 use Rattle.seat_programs.specs.ClientProgram.{HeldLife, held_under, without_name, operation, client_from, ending_of}
 use Rattle.seat_programs.specs.LoopHeads.{First, Joins, Reads, Discards, Posting, HasLocked, Unlocking, IsOpen, HasNext, Locking, NotThere, Has, Ended}
 use Rattle.seat_programs.specs.BufferParts.{part}
@@ -56,7 +56,7 @@ module _ (requests : ℕ) (is_call : Asked → Type 0) (reads : Bool) where
 
   -- steps on words that put no message leave nothing
   others_go : (call : TableStep) (next : ℕ → Program) → is_of_message call ≡ false → ((found : ℕ) → G idle (next found)) → G idle (Do call next)
-  others_go (PutMessage q heading bytes) next is r = absurd (true≢false is)
+  others_go (OnMessage (PutMessage q heading bytes)) next is r = absurd (true≢false is)
   others_go call next is r = (tt, λ found _. then_ call next found idle (r found))
 
   words : PassesWords (G idle)
@@ -78,35 +78,35 @@ module _ (requests : ℕ) (is_call : Asked → Type 0) (reads : Bool) where
     recycle_keeps ds i from next goes = (
       tt,
       λ found _. (
-        due c (DidStep (Recycle i from) found ∷ ds),
+        due c (DidStep (OnSlot (Recycle i from)) found ∷ ds),
         inl (inl refl, inl (refl, refl)),
-        ways (DidStep (Recycle i from) found ∷ ds) (eqb found from)
-            (Do (LoadLink i (vref_version from + 1)) (λ k. Do (TakeLink k) (λ _. Do (FinishLink k) (λ _. Do (PutLink k) (λ _. cond (leb (vref_version from + 1) LAST_VERSION) (Do (FreeSlot i) (λ _. next true)) (next true))))))
-            (next false) (links (DidStep (Recycle i from) found ∷ ds)) (goes (DidStep (Recycle i from) found ∷ ds) false),
+        ways (DidStep (OnSlot (Recycle i from)) found ∷ ds) (eqb found from)
+            (Do (OnSlot (LoadLink i (vref_version from + 1))) (λ k. Do (OnLink (TakeLink k)) (λ _. Do (OnLink (FinishLink k)) (λ _. Do (OnLink (PutLink k)) (λ _. cond (leb (vref_version from + 1) LAST_VERSION) (Do (OnSlot (FreeSlot i)) (λ _. next true)) (next true))))))
+            (next false) (links (DidStep (OnSlot (Recycle i from)) found ∷ ds)) (goes (DidStep (OnSlot (Recycle i from)) found ∷ ds) false),
       ),
     )
       where
-        last : (es : List Deed) → G (due c es) (cond (leb (vref_version from + 1) LAST_VERSION) (Do (FreeSlot i) (λ _. next true)) (next true))
-        last es = ways es (leb (vref_version from + 1) LAST_VERSION) (Do (FreeSlot i) (λ _. next true)) (next true)
-            (tt, λ found _. (due c (DidStep (FreeSlot i) found ∷ es), inl (inl refl, inl (refl, refl)), goes (DidStep (FreeSlot i) found ∷ es) true)) (goes es true)
+        last : (es : List Deed) → G (due c es) (cond (leb (vref_version from + 1) LAST_VERSION) (Do (OnSlot (FreeSlot i)) (λ _. next true)) (next true))
+        last es = ways es (leb (vref_version from + 1) LAST_VERSION) (Do (OnSlot (FreeSlot i)) (λ _. next true)) (next true)
+            (tt, λ found _. (due c (DidStep (OnSlot (FreeSlot i)) found ∷ es), inl (inl refl, inl (refl, refl)), goes (DidStep (OnSlot (FreeSlot i)) found ∷ es) true)) (goes es true)
 
-        ends : (k : ℕ) (es : List Deed) → G (due c es) (Do (TakeLink k) (λ _. Do (FinishLink k) (λ _. Do (PutLink k) (λ _. cond (leb (vref_version from + 1) LAST_VERSION) (Do (FreeSlot i) (λ _. next true)) (next true)))))
+        ends : (k : ℕ) (es : List Deed) → G (due c es) (Do (OnLink (TakeLink k)) (λ _. Do (OnLink (FinishLink k)) (λ _. Do (OnLink (PutLink k)) (λ _. cond (leb (vref_version from + 1) LAST_VERSION) (Do (OnSlot (FreeSlot i)) (λ _. next true)) (next true)))))
         ends k es = (
           tt,
           λ a _. (
-            due c (DidStep (TakeLink k) a ∷ es),
+            due c (DidStep (OnLink (TakeLink k)) a ∷ es),
             inl (inl refl, inl (refl, refl)),
             (
               tt,
               λ b _. (
-                due c (DidStep (FinishLink k) b ∷ DidStep (TakeLink k) a ∷ es),
+                due c (DidStep (OnLink (FinishLink k)) b ∷ DidStep (OnLink (TakeLink k)) a ∷ es),
                 inl (inl refl, inl (refl, refl)),
                 (
                   tt,
                   λ d _. (
-                    due c (DidStep (PutLink k) d ∷ DidStep (FinishLink k) b ∷ DidStep (TakeLink k) a ∷ es),
+                    due c (DidStep (OnLink (PutLink k)) d ∷ DidStep (OnLink (FinishLink k)) b ∷ DidStep (OnLink (TakeLink k)) a ∷ es),
                     inl (inl refl, inl (refl, refl)),
-                    last (DidStep (PutLink k) d ∷ DidStep (FinishLink k) b ∷ DidStep (TakeLink k) a ∷ es),
+                    last (DidStep (OnLink (PutLink k)) d ∷ DidStep (OnLink (FinishLink k)) b ∷ DidStep (OnLink (TakeLink k)) a ∷ es),
                   ),
                 ),
               ),
@@ -114,32 +114,32 @@ module _ (requests : ℕ) (is_call : Asked → Type 0) (reads : Bool) where
           ),
         )
 
-        links : (es : List Deed) → G (due c es) (Do (LoadLink i (vref_version from + 1)) (λ k. Do (TakeLink k) (λ _. Do (FinishLink k) (λ _. Do (PutLink k) (λ _. cond (leb (vref_version from + 1) LAST_VERSION) (Do (FreeSlot i) (λ _. next true)) (next true))))))
-        links es = (tt, λ k _. (due c (DidStep (LoadLink i (vref_version from + 1)) k ∷ es), inl (inl refl, inl (refl, refl)), ends k (DidStep (LoadLink i (vref_version from + 1)) k ∷ es)))
+        links : (es : List Deed) → G (due c es) (Do (OnSlot (LoadLink i (vref_version from + 1))) (λ k. Do (OnLink (TakeLink k)) (λ _. Do (OnLink (FinishLink k)) (λ _. Do (OnLink (PutLink k)) (λ _. cond (leb (vref_version from + 1) LAST_VERSION) (Do (OnSlot (FreeSlot i)) (λ _. next true)) (next true))))))
+        links es = (tt, λ k _. (due c (DidStep (OnSlot (LoadLink i (vref_version from + 1))) k ∷ es), inl (inl refl, inl (refl, refl)), ends k (DidStep (OnSlot (LoadLink i (vref_version from + 1))) k ∷ es)))
 
     release_keeps : (ds : List Deed) (i : ℕ) (next : Bool → Program) → ((es : List Deed) (b : Bool) → G (due c es) (next b)) → G (due c ds) (release i next)
     release_keeps ds i next goes = (
       tt,
       λ found _. (
-        due c (DidStep (SubRef i) found ∷ ds),
+        due c (DidStep (OnSlot (SubRef i)) found ∷ ds),
         inl (inl refl, inl (refl, refl)),
-        ways (DidStep (SubRef i) found ∷ ds) ((vref_version found % 2 == 1) && (vref_nref found == 1)) (recycle i (found - 1) next) (next false) (recycle_keeps (DidStep (SubRef i) found ∷ ds) i (found - 1) next goes) (goes (DidStep (SubRef i) found ∷ ds) false),
+        ways (DidStep (OnSlot (SubRef i)) found ∷ ds) ((vref_version found % 2 == 1) && (vref_nref found == 1)) (recycle i (found - 1) next) (next false) (recycle_keeps (DidStep (OnSlot (SubRef i)) found ∷ ds) i (found - 1) next goes) (goes (DidStep (OnSlot (SubRef i)) found ∷ ds) false),
       ),
     )
 
     freed_keeps : (ds : List Deed) (now : ℕ) (next : Program) → ((es : List Deed) → G (due c es) next) → G (due c ds) (given_back now next)
-    freed_keeps ds now next goes = ways ds (ticket_generation now == LAST_GENERATION) next (Do (FreeRequest (ticket_request now) (ticket_generation now)) (λ _. next)) (goes ds)
-        (tt, λ found _. (due c (DidStep (FreeRequest (ticket_request now) (ticket_generation now)) found ∷ ds), inl (inl refl, inl (refl, refl)), goes (DidStep (FreeRequest (ticket_request now) (ticket_generation now)) found ∷ ds)))
+    freed_keeps ds now next goes = ways ds (ticket_generation now == LAST_GENERATION) next (Do (OnChain (FreeRequest (ticket_request now) (ticket_generation now))) (λ _. next)) (goes ds)
+        (tt, λ found _. (due c (DidStep (OnChain (FreeRequest (ticket_request now) (ticket_generation now))) found ∷ ds), inl (inl refl, inl (refl, refl)), goes (DidStep (OnChain (FreeRequest (ticket_request now) (ticket_generation now))) found ∷ ds)))
 
     pub passed_keeps : (mine : reads ≡ false) (ds : List Deed) (h : Holder) (now : ℕ) (tells : Program → Program) (after : Program) → ((es : List Deed) (x : Program) → G idle x → G (due c es) (tells x)) → G idle after → G (due c ds) (passed_telling h now tells after)
     passed_keeps mine ds h now tells after told goes = ways ds (now == h.last) (given_back now (tells (Write (Empties h) after)))
-        (Do (ReadNext (ticket_request now)) (λ next. given_back now (tells (TakeMessage (ticket_request next) (λ heading bytes. Write (Puts h next heading bytes 0 false) after)))))
+        (Do (OnChain (ReadNext (ticket_request now))) (λ next. given_back now (tells (TakeMessage (ticket_request next) (λ heading bytes. Write (Puts h next heading bytes 0 false) after)))))
         (freed_keeps ds now (tells (Write (Empties h) after)) (λ es. told es (Write (Empties h) after) (mine, goes))) (
           tt,
           λ next _. (
-            due c (DidStep (ReadNext (ticket_request now)) next ∷ ds),
+            due c (DidStep (OnChain (ReadNext (ticket_request now))) next ∷ ds),
             inl (inl refl, inl (refl, refl)),
-            freed_keeps (DidStep (ReadNext (ticket_request now)) next ∷ ds) now (tells (TakeMessage (ticket_request next) (λ heading bytes. Write (Puts h next heading bytes 0 false) after)))
+            freed_keeps (DidStep (OnChain (ReadNext (ticket_request now))) next ∷ ds) now (tells (TakeMessage (ticket_request next) (λ heading bytes. Write (Puts h next heading bytes 0 false) after)))
                 (λ es. told es (TakeMessage (ticket_request next) (λ heading bytes. Write (Puts h next heading bytes 0 false) after)) (λ heading bytes. (mine, goes))),
           ),
         )
@@ -150,17 +150,17 @@ module _ (requests : ℕ) (is_call : Asked → Type 0) (reads : Bool) where
   -- ## Writing, of a client
 
   freed_goes : (s : Doing) (now : ℕ) (next : Program) → G idle next → G idle (given_back now next)
-  freed_goes s now next goes = split (ticket_generation now == LAST_GENERATION) next (Do (FreeRequest (ticket_request now) (ticket_generation now)) (λ _. next)) (λ _. goes) (λ _. (tt, λ found _. then_ (FreeRequest (ticket_request now) (ticket_generation now)) _ found idle goes))
+  freed_goes s now next goes = split (ticket_generation now == LAST_GENERATION) next (Do (OnChain (FreeRequest (ticket_request now) (ticket_generation now))) (λ _. next)) (λ _. goes) (λ _. (tt, λ found _. then_ (OnChain (FreeRequest (ticket_request now) (ticket_generation now))) _ found idle goes))
 
   passed_goes : (mine : reads ≡ false) (h : Holder) (now : ℕ) (tells : Program → Program) (after : Program) → ((x : Program) → G idle x → G idle (tells x)) → G idle after → G idle (passed_telling h now tells after)
   passed_goes mine h now tells after told goes = split (now == h.last) (given_back now (tells (Write (Empties h) after)))
-      (Do (ReadNext (ticket_request now)) (λ next. given_back now (tells (TakeMessage (ticket_request next) (λ heading bytes. Write (Puts h next heading bytes 0 false) after)))))
+      (Do (OnChain (ReadNext (ticket_request now))) (λ next. given_back now (tells (TakeMessage (ticket_request next) (λ heading bytes. Write (Puts h next heading bytes 0 false) after)))))
       (λ _. freed_goes idle now (tells (Write (Empties h) after)) (told (Write (Empties h) after) (mine, goes)))
-      (λ _. (tt, λ next _. then_ (ReadNext (ticket_request now)) _ next idle (freed_goes idle now (tells (TakeMessage (ticket_request next) (λ heading bytes. Write (Puts h next heading bytes 0 false) after))) (told (TakeMessage (ticket_request next) (λ heading bytes. Write (Puts h next heading bytes 0 false) after)) (λ heading bytes. (mine, goes))))))
+      (λ _. (tt, λ next _. then_ (OnChain (ReadNext (ticket_request now))) _ next idle (freed_goes idle now (tells (TakeMessage (ticket_request next) (λ heading bytes. Write (Puts h next heading bytes 0 false) after))) (told (TakeMessage (ticket_request next) (λ heading bytes. Write (Puts h next heading bytes 0 false) after)) (λ heading bytes. (mine, goes))))))
 
   put_goes : (mine : reads ≡ false) (h : Holder) (now : ℕ) (heading : Heading) (left : List ℕ) (taken : ℕ) (after : Program) → G idle after → (answer : Put) → G idle (put_answered h now heading left taken after answer)
   put_goes mine h now heading left taken after goes (puts.Took n) = split (nat_le (length left) n) (placed h now heading after) (Write (Puts h now heading (drop n left) (taken + n) false) after)
-      (λ _. (tt, λ found _. then_ (Rattle.seat_programs.specs.TableSteps.StorePlace heading.label.place h.link h.places) _ found idle (passed_goes mine (one_more h) now (λ x. x) after (λ x g. g) goes))) (λ _. (mine, goes))
+      (λ _. (tt, λ found _. then_ (Rattle.seat_programs.specs.TableSteps.OnPlace (Rattle.seat_programs.specs.TableSteps.StorePlace heading.label.place h.link h.places)) _ found idle (passed_goes mine (one_more h) now (λ x. x) after (λ x g. g) goes))) (λ _. (mine, goes))
   put_goes mine h now heading left taken after goes puts.Again = (mine, goes)
   put_goes mine h now heading left taken after goes puts.Failed = fails 1009 h.id (λ _. Write (Puts h now heading left taken false) after) (λ _. (mine, goes))
 
@@ -177,17 +177,17 @@ module _ (requests : ℕ) (is_call : Asked → Type 0) (reads : Bool) where
     dropped_goes h now heading left taken asked ds after round goes = (
       tt,
       λ code _. (
-        bare Idle (DidStep (LoadCode (socket_id_slot h.id) (socket_id_version h.id)) code ∷ ds),
+        bare Idle (DidStep (OnSlot (LoadCode (socket_id_slot h.id) (socket_id_version h.id))) code ∷ ds),
         inl (inl refl, inl (refl, refl)),
         (
           tt,
           λ found _. dite (ℕ_discrete heading.owner 0)
-              (λ none_. then_ (DropPlace heading.label.place h.link h.places) _ found (bare Idle (DidStep (LoadCode (socket_id_slot h.id) (socket_id_version h.id)) code ∷ ds))
+              (λ none_. then_ (OnPlace (DropPlace heading.label.place h.link h.places)) _ found (bare Idle (DidStep (OnSlot (LoadCode (socket_id_slot h.id) (socket_id_version h.id))) code ∷ ds))
               (passed_goes mine (one_more h) now (tell_drop heading code) after (λ x g. tell_none heading code x none_ g) goes))
               (λ some_. (
-                due (HasDropped heading code) (DidStep (DropPlace heading.label.place h.link h.places) found ∷ DidStep (LoadCode (socket_id_slot h.id) (socket_id_version h.id)) code ∷ ds),
+                due (HasDropped heading code) (DidStep (OnPlace (DropPlace heading.label.place h.link h.places)) found ∷ DidStep (OnSlot (LoadCode (socket_id_slot h.id) (socket_id_version h.id))) code ∷ ds),
                 inr (inr (record { holder = h; now = now; heading = heading; left = left; taken = taken; asked = asked; code = code; is = refl; round = inr round; load = inl refl; gives_up = refl; charge = refl; deeds = refl })),
-                passed_keeps (HasDropped heading code) mine (DidStep (DropPlace heading.label.place h.link h.places) found ∷ DidStep (LoadCode (socket_id_slot h.id) (socket_id_version h.id)) code ∷ ds) (one_more h) now (tell_drop heading code) after
+                passed_keeps (HasDropped heading code) mine (DidStep (OnPlace (DropPlace heading.label.place h.link h.places)) found ∷ DidStep (OnSlot (LoadCode (socket_id_slot h.id) (socket_id_version h.id))) code ∷ ds) (one_more h) now (tell_drop heading code) after
                     (λ es x g. tell_goes heading code es x some_ g) goes,
               )),
         ),
@@ -197,13 +197,13 @@ module _ (requests : ℕ) (is_call : Asked → Type 0) (reads : Bool) where
     pub block_goes : (w : Writing) (after : Program) → G idle after → G (begins w) (block w after)
     block_goes (Puts h now heading left taken asked) after g = (
       tt,
-      λ found _. step_way requests is_call reads (LookWord h.id) (λ found. cond (vref_version found % 2 == 0) (PutBytes h.link asked (part heading.parts left taken) (put_answered h now heading left taken after)) (dropped h now heading after)) found (begins (Puts h now heading left taken asked))
+      λ found _. step_way requests is_call reads (OnSlot (LookWord h.id)) (λ found. cond (vref_version found % 2 == 0) (PutBytes h.link asked (part heading.parts left taken) (put_answered h now heading left taken after)) (dropped h now heading after)) found (begins (Puts h now heading left taken asked))
           (vref_version found % 2 == 0) (PutBytes h.link asked (part heading.parts left taken) (put_answered h now heading left taken after)) (dropped h now heading after)
           (λ _. (idle, inl (inl refl, inr (refl, refl)), put_goes mine h now heading left taken after g))
           (λ _. (
-            bare Idle (DidStep (LookWord h.id) found ∷ DidRound (Puts h now heading left taken asked) ∷ []),
+            bare Idle (DidStep (OnSlot (LookWord h.id)) found ∷ DidRound (Puts h now heading left taken asked) ∷ []),
             inl (inl refl, inl (refl, refl)),
-            dropped_goes h now heading left taken asked (DidStep (LookWord h.id) found ∷ DidRound (Puts h now heading left taken asked) ∷ []) after (inr (inl refl)) g,
+            dropped_goes h now heading left taken asked (DidStep (OnSlot (LookWord h.id)) found ∷ DidRound (Puts h now heading left taken asked) ∷ []) after (inr (inl refl)) g,
           )),
     )
     block_goes (Waits h now heading left taken) after g = ready_goes
@@ -212,28 +212,28 @@ module _ (requests : ℕ) (is_call : Asked → Type 0) (reads : Bool) where
         ready_goes asks.Now = (mine, g)
         ready_goes asks.NotYet = (mine, g)
         ready_goes asks.Failed = fails 1009 h.id (λ _. Write (Puts h now heading left taken false) after) (λ _. (mine, g))
-    block_goes (Empties h) after g = (tt, λ found _. then_ (Rattle.seat_programs.specs.TableSteps.EmptyHead (socket_id_slot h.id) h.last) _ found idle (split (found == h.last) after (TakeHome h.link (λ places. Write (Reversing (record h { places = places }) found found 0) after)) (λ _. g) (λ _. λ places. (mine, g))))
+    block_goes (Empties h) after g = (tt, λ found _. then_ (Rattle.seat_programs.specs.TableSteps.OnChain (Rattle.seat_programs.specs.TableSteps.EmptyHead (socket_id_slot h.id) h.last)) _ found idle (split (found == h.last) after (TakeHome h.link (λ places. Write (Reversing (record h { places = places }) found found 0) after)) (λ _. g) (λ _. λ places. (mine, g))))
     block_goes (Reversing h top at after) last g = (
       tt,
-      λ found _. then_ (ReadNext (ticket_request at)) _ found (begins (Reversing h top at after)) (split (found == UNCONNECTED) (Write (Reversing h top at after) last)
-          (Do (ReverseNext (ticket_request at) after) (λ _. cond (found == h.last) (TakeMessage (ticket_request at) (λ heading bytes. Write (Puts (record h { last = top }) at heading bytes 0 false) last)) (Write (Reversing h top found at) last)))
+      λ found _. then_ (OnChain (ReadNext (ticket_request at))) _ found (begins (Reversing h top at after)) (split (found == UNCONNECTED) (Write (Reversing h top at after) last)
+          (Do (OnChain (ReverseNext (ticket_request at) after)) (λ _. cond (found == h.last) (TakeMessage (ticket_request at) (λ heading bytes. Write (Puts (record h { last = top }) at heading bytes 0 false) last)) (Write (Reversing h top found at) last)))
           (λ _. (mine, g))
-          (λ _. (tt, λ other _. then_ (ReverseNext (ticket_request at) after) _ other idle (split (found == h.last) (TakeMessage (ticket_request at) (λ heading bytes. Write (Puts (record h { last = top }) at heading bytes 0 false) last)) (Write (Reversing h top found at) last) (λ _. λ heading bytes. (mine, g)) (λ _. (mine, g)))))),
+          (λ _. (tt, λ other _. then_ (OnChain (ReverseNext (ticket_request at) after)) _ other idle (split (found == h.last) (TakeMessage (ticket_request at) (λ heading bytes. Write (Puts (record h { last = top }) at heading bytes 0 false) last)) (Write (Reversing h top found at) last) (λ _. λ heading bytes. (mine, g)) (λ _. (mine, g)))))),
     )
 
   first_goes : (mine : reads ≡ false) (h : Holder) (now : ℕ) (heading : Heading) (bytes : List ℕ) (after : Program) → G idle after → G idle (first_put h now heading bytes after)
   first_goes mine h now heading bytes after g = (
     tt,
-    λ found _. then_ (LookWord h.id) _ found idle (split (vref_version found % 2 == 0) (PutBytes h.link false (part heading.parts bytes 0) (put_answered h now heading bytes 0 after)) (Write (Puts h now heading bytes 0 false) after)
+    λ found _. then_ (OnSlot (LookWord h.id)) _ found idle (split (vref_version found % 2 == 0) (PutBytes h.link false (part heading.parts bytes 0) (put_answered h now heading bytes 0 after)) (Write (Puts h now heading bytes 0 false) after)
         (λ _. put_goes mine h now heading bytes 0 after g) (λ _. (mine, g))),
   )
 
   write_goes : (mine : reads ≡ false) (id q own : ℕ) (after : Program) → G idle after → G idle (write_link id q own after)
-  write_goes mine id q own after g = (tt, λ k _. then_ (FindLink (socket_id_slot id) (socket_id_version id)) _ k idle (λ places. λ heading bytes. first_goes mine (record { id = id; link = k; last = own; places = places }) own heading bytes after g))
+  write_goes mine id q own after g = (tt, λ k _. then_ (OnSlot (FindLink (socket_id_slot id) (socket_id_version id))) _ k idle (λ places. λ heading bytes. first_goes mine (record { id = id; link = k; last = own; places = places }) own heading bytes after g))
 
   -- ## Messages
 
-  accept_goes : (mine : reads ≡ false) (s : Doing) (id q g : ℕ) (heading : Heading) (bytes : List ℕ) (after : Program) → MayPut is_call s.trial (PutMessage q heading bytes) → G idle after → G s (accept id q g heading bytes after)
+  accept_goes : (mine : reads ≡ false) (s : Doing) (id q g : ℕ) (heading : Heading) (bytes : List ℕ) (after : Program) → MayPut is_call s.trial (OnMessage (PutMessage q heading bytes)) → G idle after → G s (accept id q g heading bytes after)
   accept_goes mine s id q g heading bytes after may goes = (
     may,
     λ a _. (
@@ -241,10 +241,10 @@ module _ (requests : ℕ) (is_call : Asked → Type 0) (reads : Bool) where
       inl (inl refl, inr (refl, refl)),
       (
         tt,
-        λ b _. then_ (Rattle.seat_programs.specs.TableSteps.Unconnect q) _ b idle (
+        λ b _. then_ (Rattle.seat_programs.specs.TableSteps.OnChain (Rattle.seat_programs.specs.TableSteps.Unconnect q)) _ b idle (
           tt,
-          λ found _. then_ (Rattle.seat_programs.specs.TableSteps.SwapHead (socket_id_slot id) (ticket_of q g)) _ found idle
-              (split (nat_lt found IDLE) (Do (Connect q found) (λ _. after)) (write_link id q (ticket_of q g) after) (λ _. (tt, λ d _. then_ (Connect q found) _ d idle goes)) (λ _. write_goes mine id q (ticket_of q g) after goes)),
+          λ found _. then_ (Rattle.seat_programs.specs.TableSteps.OnChain (Rattle.seat_programs.specs.TableSteps.SwapHead (socket_id_slot id) (ticket_of q g))) _ found idle
+              (split (nat_lt found IDLE) (Do (OnChain (Connect q found)) (λ _. after)) (write_link id q (ticket_of q g) after) (λ _. (tt, λ d _. then_ (OnChain (Connect q found)) _ d idle goes)) (λ _. write_goes mine id q (ticket_of q g) after goes)),
         ),
       ),
     ),
@@ -255,9 +255,9 @@ module _ (requests : ℕ) (is_call : Asked → Type 0) (reads : Bool) where
   odd_of : (x : ℕ) → eqb (x % 2) 0 ≡ false → x % 2 ≡ 1
   odd_of x e = let ne = not_equal (x % 2) 0 e in dite (ℕ_discrete (x % 2) 0) (λ z. absurd (ne z)) (λ z. omega (arith, z))
 
-  one_more_taken : (q : ℕ) (socket found : ℕ) (ds : List Deed) → FoundTaken q ds → found % 2 ≡ 1 → FoundTaken (q + 1) (DidStep (ClaimRequest socket q) found ∷ ds)
+  one_more_taken : (q : ℕ) (socket found : ℕ) (ds : List Deed) → FoundTaken q ds → found % 2 ≡ 1 → FoundTaken (q + 1) (DidStep (OnChain (ClaimRequest socket q)) found ∷ ds)
   one_more_taken q socket found ds taken odd r low = dite (ℕ_discrete r q)
-      (λ same. (socket, found, inl (ap (λ x. DidStep (ClaimRequest socket x) found) same), odd))
+      (λ same. (socket, found, inl (ap (λ x. DidStep (OnChain (ClaimRequest socket x)) found) same), odd))
       (λ far. let t = taken r (omega (arith, low, far)) in (t.0, t.1, inr t.2, t.3))
 
   -- the step was the last of a refused attempt, so that its error is due
@@ -309,40 +309,40 @@ module _ (requests : ℕ) (is_call : Asked → Type 0) (reads : Bool) where
     claims_goes : (more q : ℕ) (ds : List Deed) → q + suc more ≡ requests → FoundTaken q ds → In (DidPut asked) ds → G (sending ds) (others (suc more) q)
     claims_goes zero q ds all taken put = (
       tt,
-      λ found _. step_way requests is_call reads (ClaimRequest socket q) (claim_next zero q) found (sending ds) (eqb (found % 2) 0)
+      λ found _. step_way requests is_call reads (OnChain (ClaimRequest socket q)) (claim_next zero q) found (sending ds) (eqb (found % 2) 0)
           (accept socket q (found / 2) (heading_for asked id n) (frame_of asked id n) (release (socket_id_slot socket) (λ _. next))) full
-          (λ _. grows (ClaimRequest socket q) (claim_next zero q) found ds (accept socket q (found / 2) (heading_for asked id n) (frame_of asked id n) (release (socket_id_slot socket) (λ _. next))) (inl refl) (accepts (DidStep (ClaimRequest socket q) found ∷ ds) q found))
-          (λ odd. fulls (ClaimRequest socket q) (claim_next zero q) found ds refl (subst (λ x. FoundTaken x (DidStep (ClaimRequest socket q) found ∷ ds)) (let z : q + 1 ≡ requests = all in z) (one_more_taken q socket found ds taken (odd_of found odd))) put),
+          (λ _. grows (OnChain (ClaimRequest socket q)) (claim_next zero q) found ds (accept socket q (found / 2) (heading_for asked id n) (frame_of asked id n) (release (socket_id_slot socket) (λ _. next))) (inl refl) (accepts (DidStep (OnChain (ClaimRequest socket q)) found ∷ ds) q found))
+          (λ odd. fulls (OnChain (ClaimRequest socket q)) (claim_next zero q) found ds refl (subst (λ x. FoundTaken x (DidStep (OnChain (ClaimRequest socket q)) found ∷ ds)) (let z : q + 1 ≡ requests = all in z) (one_more_taken q socket found ds taken (odd_of found odd))) put),
     )
     claims_goes (suc more) q ds all taken put = (
       tt,
-      λ found _. step_way requests is_call reads (ClaimRequest socket q) (claim_next (suc more) q) found (sending ds) (eqb (found % 2) 0)
+      λ found _. step_way requests is_call reads (OnChain (ClaimRequest socket q)) (claim_next (suc more) q) found (sending ds) (eqb (found % 2) 0)
           (accept socket q (found / 2) (heading_for asked id n) (frame_of asked id n) (release (socket_id_slot socket) (λ _. next))) (others (suc more) (q + 1))
-          (λ _. grows (ClaimRequest socket q) (claim_next (suc more) q) found ds (accept socket q (found / 2) (heading_for asked id n) (frame_of asked id n) (release (socket_id_slot socket) (λ _. next))) (inl refl) (accepts (DidStep (ClaimRequest socket q) found ∷ ds) q found))
-          (λ odd. grows (ClaimRequest socket q) (claim_next (suc more) q) found ds (others (suc more) (q + 1)) (inl refl)
-          (claims_goes more (q + 1) (DidStep (ClaimRequest socket q) found ∷ ds) (omega (arith, all)) (one_more_taken q socket found ds taken (odd_of found odd)) (inr put))),
+          (λ _. grows (OnChain (ClaimRequest socket q)) (claim_next (suc more) q) found ds (accept socket q (found / 2) (heading_for asked id n) (frame_of asked id n) (release (socket_id_slot socket) (λ _. next))) (inl refl) (accepts (DidStep (OnChain (ClaimRequest socket q)) found ∷ ds) q found))
+          (λ odd. grows (OnChain (ClaimRequest socket q)) (claim_next (suc more) q) found ds (others (suc more) (q + 1)) (inl refl)
+          (claims_goes more (q + 1) (DidStep (OnChain (ClaimRequest socket q)) found ∷ ds) (omega (arith, all)) (one_more_taken q socket found ds taken (odd_of found odd)) (inr put))),
     )
 
     abbrev looked : ℕ → ℕ → Program
     looked m found = cond (eqb (vref_version found % 2) 0) (others m 0) (post id 1009 n (release (socket_id_slot socket) (λ _. next)))
 
     -- of this many requests
-    live_goes : (m : ℕ) → m ≡ requests → (found : ℕ) (ds : List Deed) → In (DidPut asked) ds → Steps requests is_call reads (LookWord socket) (looked requests) found (sending ds) (others m 0)
-    live_goes zero all found ds put = fulls (LookWord socket) (looked requests) found ds refl (λ q low. absurd (omega (arith, low, all))) put
-    live_goes (suc m) all found ds put = grows (LookWord socket) (looked requests) found ds (others (suc m) 0) (inl refl) (claims_goes m 0 (DidStep (LookWord socket) found ∷ ds) (omega (arith, all)) (λ q low. absurd (omega (arith, low))) (inr put))
+    live_goes : (m : ℕ) → m ≡ requests → (found : ℕ) (ds : List Deed) → In (DidPut asked) ds → Steps requests is_call reads (OnSlot (LookWord socket)) (looked requests) found (sending ds) (others m 0)
+    live_goes zero all found ds put = fulls (OnSlot (LookWord socket)) (looked requests) found ds refl (λ q low. absurd (omega (arith, low, all))) put
+    live_goes (suc m) all found ds put = grows (OnSlot (LookWord socket)) (looked requests) found ds (others (suc m) 0) (inl refl) (claims_goes m 0 (DidStep (OnSlot (LookWord socket)) found ∷ ds) (omega (arith, all)) (λ q low. absurd (omega (arith, low))) (inr put))
 
-    looks_goes : (ds : List Deed) → In (DidPut asked) ds → In (DidStep (LoadName wanted) (socket + 1)) ds → G (sending ds) (Do (LookWord socket) (looked requests))
+    looks_goes : (ds : List Deed) → In (DidPut asked) ds → In (DidStep (OnName (LoadName wanted)) (socket + 1)) ds → G (sending ds) (Do (OnSlot (LookWord socket)) (looked requests))
     looks_goes ds put load = (
       tt,
-      λ found _. step_way requests is_call reads (LookWord socket) (looked requests) found (sending ds) (eqb (vref_version found % 2) 0) (others requests 0) (post id 1009 n (release (socket_id_slot socket) (λ _. next)))
+      λ found _. step_way requests is_call reads (OnSlot (LookWord socket)) (looked requests) found (sending ds) (eqb (vref_version found % 2) 0) (others requests 0) (post id 1009 n (release (socket_id_slot socket) (λ _. next)))
           (λ _. live_goes requests refl found ds put)
-          (λ odd. refuses asked called id n 1009 few (Sends asked.operation id n) ds put (LookWord socket) (looked requests) found (inl refl) refl (DidStep (LookWord socket) found) (inl refl)
+          (λ odd. refuses asked called id n 1009 few (Sends asked.operation id n) ds put (OnSlot (LookWord socket)) (looked requests) found (inl refl) refl (DidStep (OnSlot (LookWord socket)) found) (inl refl)
           (inr (refl, WasOdd socket found (inr load) (inl refl) (odd_of (vref_version found) odd))) (post id 1009 n (release (socket_id_slot socket) (λ _. next)))
-          (posts 1009 (DidStep (LookWord socket) found ∷ ds) (release (socket_id_slot socket) (λ _. next)) gives_back)),
+          (posts 1009 (DidStep (OnSlot (LookWord socket)) found ∷ ds) (release (socket_id_slot socket) (λ _. next)) gives_back)),
     )
 
     abbrev held : Program
-    held = Do (FindLink (socket_id_slot socket) (socket_id_version socket)) (λ k. Aside (StoreAt asked.operation (at_word (id_first id) (id_slot id) k n)) (λ _. Do (LookWord socket) (looked requests)))
+    held = Do (OnSlot (FindLink (socket_id_slot socket) (socket_id_version socket))) (λ k. Aside (StoreAt asked.operation (at_word (id_first id) (id_slot id) k n)) (λ _. Do (OnSlot (LookWord socket)) (looked requests)))
 
     abbrev reached : ℕ → Program
     reached found = cond (vref_version found == socket_id_version socket) held (release (socket_id_slot socket) (λ _. post id 1009 n next))
@@ -356,37 +356,37 @@ module _ (requests : ℕ) (is_call : Asked → Type 0) (reads : Bool) where
           (0, omega arith, (0, refl, refl, omega arith)),
     )
 
-    pub attempt_goes : (ds : List Deed) → In (DidPut asked) ds → In (DidStep (LoadName wanted) (socket + 1)) ds → G (bare (Tries id n) ds) (attempt requests asked id n socket next)
+    pub attempt_goes : (ds : List Deed) → In (DidPut asked) ds → In (DidStep (OnName (LoadName wanted)) (socket + 1)) ds → G (bare (Tries id n) ds) (attempt requests asked id n socket next)
     attempt_goes ds put load = (
       tt,
-      λ found _. step_way requests is_call reads (AddRef socket) reached found (bare (Tries id n) ds) (vref_version found == socket_id_version socket) held (release (socket_id_slot socket) (λ _. post id 1009 n next))
+      λ found _. step_way requests is_call reads (OnSlot (AddRef socket)) reached found (bare (Tries id n) ds) (vref_version found == socket_id_version socket) held (release (socket_id_slot socket) (λ _. post id 1009 n next))
           (λ _. (
-            bare (Tries id n) (DidStep (AddRef socket) found ∷ ds),
+            bare (Tries id n) (DidStep (OnSlot (AddRef socket)) found ∷ ds),
             inl (inl refl, inl (refl, refl)),
             (
               tt,
               λ k low. (
-                bare (Tries id n) (DidStep (FindLink (socket_id_slot socket) (socket_id_version socket)) k ∷ DidStep (AddRef socket) found ∷ ds),
+                bare (Tries id n) (DidStep (OnSlot (FindLink (socket_id_slot socket) (socket_id_version socket))) k ∷ DidStep (OnSlot (AddRef socket)) found ∷ ds),
                 inl (inl refl, inl (refl, refl)),
                 (
                   tt,
                   λ _ _. (
-                    sending (DidStep (FindLink (socket_id_slot socket) (socket_id_version socket)) k ∷ DidStep (AddRef socket) found ∷ ds),
+                    sending (DidStep (OnSlot (FindLink (socket_id_slot socket) (socket_id_version socket))) k ∷ DidStep (OnSlot (AddRef socket)) found ∷ ds),
                     ((id, n, k, refl, refl, low, few, refl), inl (refl, refl)),
-                    looks_goes (DidStep (FindLink (socket_id_slot socket) (socket_id_version socket)) k ∷ DidStep (AddRef socket) found ∷ ds) (inr (inr put)) (inr (inr load)),
+                    looks_goes (DidStep (OnSlot (FindLink (socket_id_slot socket) (socket_id_version socket))) k ∷ DidStep (OnSlot (AddRef socket)) found ∷ ds) (inr (inr put)) (inr (inr load)),
                   ),
                 ),
               ),
             ),
           ))
-          (λ other. refuses asked called id n 1009 few (Tries id n) ds put (AddRef socket) reached found (inr (refl, would)) refl (DidStep (AddRef socket) found) (inl refl)
+          (λ other. refuses asked called id n 1009 few (Tries id n) ds put (OnSlot (AddRef socket)) reached found (inr (refl, would)) refl (DidStep (OnSlot (AddRef socket)) found) (inl refl)
           (inr (refl, WasOther socket found (inr load) (inl refl) (not_equal (vref_version found) (socket_id_version socket) other))) (release (socket_id_slot socket) (λ _. post id 1009 n next))
-          (release_keeps (IsRefused id n 1009) (DidStep (AddRef socket) found ∷ ds) (socket_id_slot socket) (λ _. post id 1009 n next) (λ es _. posts 1009 es next goes))),
+          (release_keeps (IsRefused id n 1009) (DidStep (OnSlot (AddRef socket)) found ∷ ds) (socket_id_slot socket) (λ _. post id 1009 n next) (λ es _. posts 1009 es next goes))),
     )
 
   -- ## Calls
 
-  begin_goes : (mine : reads ≡ false) (socket i : ℕ) (asked : Asked) → is_call asked → (ds : List Deed) → In (DidStep (LoadName (name_of asked 0)) (socket + 1)) ds → (next : Program) → G idle next → G (bare Idle ds) (begin_call requests socket i asked next)
+  begin_goes : (mine : reads ≡ false) (socket i : ℕ) (asked : Asked) → is_call asked → (ds : List Deed) → In (DidStep (OnName (LoadName (name_of asked 0))) (socket + 1)) ds → (next : Program) → G idle next → G (bare Idle ds) (begin_call requests socket i asked next)
   begin_goes mine socket i asked called ds load next goes = (
     tt,
     λ _ _. (
@@ -410,7 +410,7 @@ module _ (requests : ℕ) (is_call : Asked → Type 0) (reads : Bool) where
     ),
   )
 
-  claim_goes : (mine : reads ≡ false) (more i socket : ℕ) (asked : Asked) → is_call asked → (ds : List Deed) → In (DidStep (LoadName (name_of asked 0)) (socket + 1)) ds → (next : Program) → G idle next → G (bare Idle ds) (claim_id (suc more) i requests socket asked next)
+  claim_goes : (mine : reads ≡ false) (more i socket : ℕ) (asked : Asked) → is_call asked → (ds : List Deed) → In (DidStep (OnName (LoadName (name_of asked 0))) (socket + 1)) ds → (next : Program) → G idle next → G (bare Idle ds) (claim_id (suc more) i requests socket asked next)
   claim_goes mine zero i socket asked called ds load next goes = (
     tt,
     λ found _. aside_way requests is_call reads ds (bare Idle ds) (eqb found 0) (begin_call requests socket i asked next) next
@@ -426,16 +426,16 @@ module _ (requests : ℕ) (is_call : Asked → Type 0) (reads : Bool) where
   call_goes : (mine : reads ≡ false) (ids : ℕ) (asked : Asked) → is_call asked → (next : Program) → G idle next → G idle (call requests ids asked next)
   call_goes mine ids asked called next goes = (
     tt,
-    λ word _. step_way requests is_call reads (LoadName (name_of asked 0)) (λ word. cond (eqb word 0) (Say asked.operation outcomes.Unopened next) (claim_id ids 0 requests (word - 1) asked next)) word idle
+    λ word _. step_way requests is_call reads (OnName (LoadName (name_of asked 0))) (λ word. cond (eqb word 0) (Say asked.operation outcomes.Unopened next) (claim_id ids 0 requests (word - 1) asked next)) word idle
         (eqb word 0) (Say asked.operation outcomes.Unopened next) (claim_id ids 0 requests (word - 1) asked next) (λ _. (idle, inl (inl refl, inr (refl, refl)), goes)) (λ some_. claims ids word (not_equal word 0 some_)),
   )
     where
-      claims : (ids word : ℕ) → word ≢ 0 → Steps requests is_call reads (LoadName (name_of asked 0)) (λ word. cond (eqb word 0) (Say asked.operation outcomes.Unopened next) (claim_id ids 0 requests (word - 1) asked next)) word idle (claim_id ids 0 requests (word - 1) asked next)
+      claims : (ids word : ℕ) → word ≢ 0 → Steps requests is_call reads (OnName (LoadName (name_of asked 0))) (λ word. cond (eqb word 0) (Say asked.operation outcomes.Unopened next) (claim_id ids 0 requests (word - 1) asked next)) word idle (claim_id ids 0 requests (word - 1) asked next)
       claims zero word some_ = (idle, inl (inl refl, inr (refl, refl)), goes)
       claims (suc more) word some_ = (
-        bare Idle (DidStep (LoadName (name_of asked 0)) word ∷ []),
+        bare Idle (DidStep (OnName (LoadName (name_of asked 0))) word ∷ []),
         inl (inl refl, inl (refl, refl)),
-        claim_goes mine more 0 (word - 1) asked called (DidStep (LoadName (name_of asked 0)) word ∷ []) (inl (ap (DidStep (LoadName (name_of asked 0))) (omega (arith, some_)))) next goes,
+        claim_goes mine more 0 (word - 1) asked called (DidStep (OnName (LoadName (name_of asked 0))) word ∷ []) (inl (ap (DidStep (OnName (LoadName (name_of asked 0)))) (omega (arith, some_)))) next goes,
       )
 
   -- ## Retries
@@ -444,15 +444,15 @@ module _ (requests : ℕ) (is_call : Asked → Type 0) (reads : Bool) where
     tried_goes : (asked : Asked) → is_call asked → (ds : List Deed) → In (DidPut asked) ds → (exit : Unlocking) → ((w e : ℕ) → exit ≡ HasNext w e → (parts w).first ≡ id_first id) → G (bare (Tries id n) ds) (tried_again requests id n asked next exit)
     tried_goes asked called ds put (IsOpen w) first = (
       tt,
-      λ word _. step_way requests is_call reads (LoadName (name_of asked n)) (λ word. cond (eqb word 0) (post id 1009 n next) (attempt requests asked id n (word - 1) next)) word (bare (Tries id n) ds)
+      λ word _. step_way requests is_call reads (OnName (LoadName (name_of asked n))) (λ word. cond (eqb word 0) (post id 1009 n next) (attempt requests asked id n (word - 1) next)) word (bare (Tries id n) ds)
           (eqb word 0) (post id 1009 n next) (attempt requests asked id n (word - 1) next)
-          (λ none_. refuses asked called id n 1009 few (Tries id n) ds put (LoadName (name_of asked n)) (λ word. cond (eqb word 0) (post id 1009 n next) (attempt requests asked id n (word - 1) next)) word (inr (refl, (1, tt, would mine asked called id n 0 next few goes))) refl
+          (λ none_. refuses asked called id n 1009 few (Tries id n) ds put (OnName (LoadName (name_of asked n))) (λ word. cond (eqb word 0) (post id 1009 n next) (attempt requests asked id n (word - 1) next)) word (inr (refl, (1, tt, would mine asked called id n 0 next few goes))) refl
           (DidMiss (name_of asked n) asked.operation id n) (inr (name_of asked n, refl, eqb-true word 0 none_, refl, (1, tt, would mine asked called id n 0 next few goes))) (inr (refl, WasNone id later (inl refl))) (post id 1009 n next)
           (post_keeps (IsRefused id n 1009) (DidMiss (name_of asked n) asked.operation id n ∷ ds) id 1009 n next (inr (inr (mine, (refl, refl)))) goes))
           (λ some_. (
-            bare (Tries id n) (DidStep (LoadName (name_of asked n)) word ∷ ds),
+            bare (Tries id n) (DidStep (OnName (LoadName (name_of asked n))) word ∷ ds),
             inl (inl refl, inl (refl, refl)),
-            attempt_goes mine asked called id n (word - 1) next few goes (DidStep (LoadName (name_of asked n)) word ∷ ds) (inr put) (inl (ap (DidStep (LoadName (name_of asked n))) (let ne = not_equal word 0 some_ in omega (arith, ne)))),
+            attempt_goes mine asked called id n (word - 1) next few goes (DidStep (OnName (LoadName (name_of asked n))) word ∷ ds) (inr put) (inl (ap (DidStep (OnName (LoadName (name_of asked n)))) (let ne = not_equal word 0 some_ in omega (arith, ne)))),
           )),
     )
     tried_goes asked called ds put (HasNext w e) first = decide_goes requests is_call reads (bare (Tries id n) ds) id w e (decided id next) (first w e refl) (decided_goes requests is_call reads id next goes)
@@ -505,7 +505,7 @@ module _ (requests : ℕ) (is_call : Asked → Type 0) (reads : Bool) where
   claim_from_goes mine zero q o id bytes next goes = through_release (G idle) words (socket_id_slot id) (λ _. Say o outcomes.Full next) (λ _. goes)
   claim_from_goes mine (suc more) q o id bytes next goes = (
     tt,
-    λ found _. then_ (ClaimRequest id q) _ found idle (split (found % 2 == 0) (accept id q (found / 2) (heading_of o) bytes (release (socket_id_slot id) (λ _. Sent o next))) (claim_from more (q + 1) o id bytes next)
+    λ found _. then_ (OnChain (ClaimRequest id q)) _ found idle (split (found % 2 == 0) (accept id q (found / 2) (heading_of o) bytes (release (socket_id_slot id) (λ _. Sent o next))) (claim_from more (q + 1) o id bytes next)
         (λ _. accept_goes mine idle id q (found / 2) (heading_of o) bytes (release (socket_id_slot id) (λ _. Sent o next)) (inl (refl, refl)) (through_release (G idle) words (socket_id_slot id) (λ _. Sent o next) (λ _. goes)))
         (λ _. claim_from_goes mine more (q + 1) o id bytes next goes)),
   )
@@ -514,7 +514,7 @@ module _ (requests : ℕ) (is_call : Asked → Type 0) (reads : Bool) where
   send_goes mine o name bytes next goes = through_reach (G idle) words name (Say o outcomes.Unopened next) (λ id. start requests o id bytes next) (λ found. Say o (outcomes.Gone (record { 0 = found })) next) goes
       (λ id. (
         tt,
-        λ found _. then_ (LookWord id) _ found idle (split (vref_version found % 2 == 0) (claim_from requests 0 o id bytes next) (release (socket_id_slot id) (λ _. Say o (outcomes.Gone (record { 0 = found })) next))
+        λ found _. then_ (OnSlot (LookWord id)) _ found idle (split (vref_version found % 2 == 0) (claim_from requests 0 o id bytes next) (release (socket_id_slot id) (λ _. Say o (outcomes.Gone (record { 0 = found })) next))
             (λ _. claim_from_goes mine requests 0 o id bytes next goes) (λ _. through_release (G idle) words (socket_id_slot id) (λ _. Say o (outcomes.Gone (record { 0 = found })) next) (λ _. goes))),
       ))
       (λ found. goes)
@@ -537,7 +537,7 @@ module _ (requests : ℕ) (is_call : Asked → Type 0) (reads : Bool) where
 
   pub ending_goes : (os : List ℕ) → G idle (ending_of os)
   ending_goes [] = tt
-  ending_goes (o ∷ os) = (tt, λ word _. then_ (LoadOpen o) _ word idle (through_ended (G idle) words (fails 1014) word (ending_of os) (ending_goes os)))
+  ending_goes (o ∷ os) = (tt, λ word _. then_ (OnName (LoadOpen o)) _ word idle (through_ended (G idle) words (fails 1014) word (ending_of os) (ending_goes os)))
 
   -- ## Readers
 

@@ -23,7 +23,7 @@ use Rattle.seat_programs.specs.Asides.{Step, Found, PutCall, MakeId, StoreAt, Un
 use Rattle.sock_message.specs.Asked.{Asked}
 use Rattle.seat_programs.specs.FoundAndChangedAside.{found_in, calls_after}
 use Rattle.seat_programs.specs.CallAndRetryPrograms.{retry}
-use Rattle.seat_programs.specs.TableSteps.{TableStep, PutMessage}
+use Rattle.seat_programs.specs.TableSteps.{TableStep, OnMessage, PutMessage}
 use Rattle.seat_programs.specs.LoopHeads.{Retry}
 use Rattle.seat_programs.specs.Programs.{Program, Do, Say, Sent, Rest, TakeMessage, TakeHome, PutHome, PutBytes, AskReady, Write, Aside, Round, Keep, Retries}
 use Rattle.seat_programs.specs.Cores.{Calls, Core, SeatState, found_at, words_after, homes_after, hand_after, resolved, still_waiting, waiting_at, next_step, with_seat, stepped}
@@ -335,7 +335,7 @@ module _ (p : Plan) (q : IdPlan) (narrow : q.slots ≤ 65536) (is_call : Asked �
     -- ## Steps on the sockets
 
     behind_fits : (t : Trial) (call : TableStep) → TrialFits ids t → TrialFits ids (put_behind t call)
-    behind_fits t (PutMessage r heading bytes) f = tt
+    behind_fits t (OnMessage (PutMessage r heading bytes)) f = tt
     behind_fits t _ f = f
 
     -- where the right words were found it stored an at word of its operation

@@ -4,7 +4,7 @@ use Rattle.std.specs.List.{AllByRecursion}
 use Rattle.sock_model.specs.declared.view.View.{View}
 use Rattle.seat_programs.specs.brpc_model.specs.Items.{Item}
 use Rattle.seat_programs.specs.brpc_model.specs.Operations.{Turn}
-use Rattle.seat_programs.specs.TableSteps.{AddRef, LookWord, ClaimRequest}
+use Rattle.seat_programs.specs.TableSteps.{OnSlot, OnChain, AddRef, LookWord, ClaimRequest}
 use Rattle.seat_programs.specs.Cores.{Core}
 use Rattle.seat_programs.specs.Tasks.{plan_of}
 use Rattle.seat_programs.specs.Ticks.{quiet, run}
@@ -45,15 +45,15 @@ module _ (script : List Item) (made : AreMade script) (turns : List Turn) (core 
 
   -- seat 0 begins the ending, and has made it
   begin_keeps : (d : Deed) → IsSo (plan_of script) rested rested_views d → IsSo (plan_of script) (closing_of script turns core is) rested_views d
-  begin_keeps (DidStep (ClaimRequest id r) found) so = so
-  begin_keeps (DidStep (AddRef id) found) so = so
-  begin_keeps (DidStep (LookWord id) found) so = so
+  begin_keeps (DidStep (OnChain (ClaimRequest id r)) found) so = so
+  begin_keeps (DidStep (OnSlot (AddRef id)) found) so = so
+  begin_keeps (DidStep (OnSlot (LookWord id)) found) so = so
   begin_keeps _ so = tt
 
   end_keeps : (c : Core) (ws : List View) (d : Deed) → IsSo (plan_of script) c ws d → IsSo (plan_of script) (is_ending c) ws d
-  end_keeps c ws (DidStep (ClaimRequest id r) found) so = so
-  end_keeps c ws (DidStep (AddRef id) found) so = so
-  end_keeps c ws (DidStep (LookWord id) found) so = so
+  end_keeps c ws (DidStep (OnChain (ClaimRequest id r)) found) so = so
+  end_keeps c ws (DidStep (OnSlot (AddRef id)) found) so = so
+  end_keeps c ws (DidStep (OnSlot (LookWord id)) found) so = so
   end_keeps c ws _ so = tt
 
   from_ended : (d : Deed) → IsSo (plan_of script) is.ended closed_views d → IsSo (plan_of script) core (end_views script made turns core is closes) d
@@ -87,4 +87,4 @@ module _ (script : List Item) (made : AreMade script) (turns : List Turn) (core 
   full ds taken so = let sound = ended_sound script made.are (first_views script) (start script made turns core is) (go script made turns core is) turns core is (fitting script made turns core is) in
       let rests = end_rests script made.are (first_views script) (start script made turns core is) (go script made turns core is) turns core is (fitting script made turns core is) (owed script made turns core is closes) in
       requests_used (plan_of script) core (end_views script made turns core is closes) sound.lawful (quiet_there (plan_of script) core (end_views script made turns core is closes) sound rests)
-      (λ q low e. let t = taken q low in let s = (all_in (λ (d : Deed). IsSo (plan_of script) core (end_views script made turns core is closes) d) ds (DidStep (ClaimRequest t.0 q) t.1) so t.2 t.3).1 in omega (arith, s, e))
+      (λ q low e. let t = taken q low in let s = (all_in (λ (d : Deed). IsSo (plan_of script) core (end_views script made turns core is closes) d) ds (DidStep (OnChain (ClaimRequest t.0 q)) t.1) so t.2 t.3).1 in omega (arith, s, e))

@@ -25,7 +25,7 @@ use Rattle.sock_model.specs.References.{slot_facts}
 use Rattle.sock_model.specs.SocketSlotLaw.{count}
 use Rattle.slot_steps.proofs.RuleNumbers.{live_le}
 use Rattle.sock_steps.proofs.LifeLinkSlotPlaces.{own_count}
-use Rattle.seat_programs.specs.TableSteps.{TableStep, SetOdd, LookWord, LoadCode}
+use Rattle.seat_programs.specs.TableSteps.{TableStep, OnSlot, SetOdd, LookWord, LoadCode}
 use Rattle.seat_programs.specs.Writings.{Puts, Waits, Empties, Reversing}
 use Rattle.seat_programs.specs.Programs.{Program, Do, Rest, TakeMessage, TakeHome, PutHome, PutBytes, AskReady, Write, Aside, Round}
 use Rattle.corr_core.specs.IdSlotWord.{parts, code_of}
@@ -119,14 +119,14 @@ pub unknown_live : (j : ℕ) → Unknown ≡ Live j → ⊥
 unknown_live j e = cc
 
 -- only a look that found the version even leaves a seat free to put
-live_look : (m : Mode) (call : TableStep) (found j : ℕ) → mode_behind m call found ≡ Live j → (id : ℕ) × (call ≡ LookWord id) × (vref_version found % 2 ≡ 0)
-live_look m (LookWord id) found j e = (id, refl, dite (ℕ_discrete (vref_version found % 2) 0) (λ y. y) (λ n. absurd (dead (sym (ap (λ b. cond b (Live (socket_id_slot id)) Dead) (ne_eqb (vref_version found % 2) 0 n)) ∙ e))))
+live_look : (m : Mode) (call : TableStep) (found j : ℕ) → mode_behind m call found ≡ Live j → (id : ℕ) × (call ≡ OnSlot (LookWord id)) × (vref_version found % 2 ≡ 0)
+live_look m (OnSlot (LookWord id)) found j e = (id, refl, dite (ℕ_discrete (vref_version found % 2) 0) (λ y. y) (λ n. absurd (dead (sym (ap (λ b. cond b (Live (socket_id_slot id)) Dead) (ne_eqb (vref_version found % 2) 0 n)) ∙ e))))
   where
     dead : Dead ≡ Live j → ⊥
     dead y = cc
-live_look m (LoadCode i h) found j e = absurd (by_mode m e)
+live_look m (OnSlot (LoadCode i h)) found j e = absurd (by_mode m e)
   where
-    by_mode : (n : Mode) → mode_behind n (LoadCode i h) found ≡ Live j → ⊥
+    by_mode : (n : Mode) → mode_behind n (OnSlot (LoadCode i h)) found ≡ Live j → ⊥
     by_mode Unknown y = cc
     by_mode _ y = cc
 live_look m _ found j e = absurd (unknown_live j e)
@@ -171,11 +171,11 @@ module _ (p : Plan) (c : Core) (views : List View) (stopped : ℕ → Bool) (m :
 
   module _ (seat : SeatState) (v : View) (at_seat : get_elem? c.seats m.seat ≡ some seat) (here : get_elem? views m.seat ≡ some v) where
     -- by a look
-    module _ (id : ℕ) (next : ℕ → Program) (is : first_step seat.program ≡ Do (LookWord id) next) (may : May p v (LookWord id))
-        (sound : Sound p (stepped p m.seat seat (LookWord id) next c) (set views m.seat (row p (LookWord id) (found_at c.words (word_of p (LookWord id))) (hand_at p c.words c.homes (LookWord id)) v)))
-        (even : vref_version (found_at c.words (word_of p (LookWord id))) % 2 ≡ 0) where
+    module _ (id : ℕ) (next : ℕ → Program) (is : first_step seat.program ≡ Do (OnSlot (LookWord id)) next) (may : May p v (OnSlot (LookWord id)))
+        (sound : Sound p (stepped p m.seat seat (OnSlot (LookWord id)) next c) (set views m.seat (row p (OnSlot (LookWord id)) (found_at c.words (word_of p (OnSlot (LookWord id)))) (hand_at p c.words c.homes (OnSlot (LookWord id))) v)))
+        (even : vref_version (found_at c.words (word_of p (OnSlot (LookWord id)))) % 2 ≡ 0) where
       abbrev w : View
-      w = row p (LookWord id) (found_at c.words (word_of p (LookWord id))) (hand_at p c.words c.homes (LookWord id)) v
+      w = row p (OnSlot (LookWord id)) (found_at c.words (word_of p (OnSlot (LookWord id)))) (hand_at p c.words c.homes (OnSlot (LookWord id))) v
 
       looks_arrived : (k : ℕ) → (q : Right) × (w.rights ≡ q ∷ []) × (q.link ≡ k) → Arrived p c views stopped m k m.seat
       looks_arrived l mine = ⊎_elim
@@ -201,7 +201,7 @@ module _ (p : Plan) (c : Core) (views : List View) (stopped : ℕ → Bool) (m :
       let x = guarded_put n k (come c.calls (next found)) (come_guarded n (waiting_at c.calls.waiting m.seat) (next found) g) puts in let y = live_look (mode p c views stopped kept m.seat seat v at_seat here) call found x.0 x.1 in
       by_look call y.0 y.1 is may sound y.2 (right k puts)
     where
-      by_look : (call : TableStep) (id : ℕ) → call ≡ LookWord id → (is : first_step seat.program ≡ Do call next) → May p v call
+      by_look : (call : TableStep) (id : ℕ) → call ≡ OnSlot (LookWord id) → (is : first_step seat.program ≡ Do call next) → May p v call
           → Sound p (stepped p m.seat seat call next c) (set views m.seat (row p call (found_at c.words (word_of p call)) (hand_at p c.words c.homes call) v))
           → vref_version (found_at c.words (word_of p call)) % 2 ≡ 0 → (q : Right) × ((row p call (found_at c.words (word_of p call)) (hand_at p c.words c.homes call) v).rights ≡ q ∷ []) × (q.link ≡ k) → Arrived p c views stopped m k m.seat
       by_look call id e = subst (λ (z : TableStep). (is : first_step seat.program ≡ Do z next) → May p v z → Sound p (stepped p m.seat seat z next c) (set views m.seat (row p z (found_at c.words (word_of p z)) (hand_at p c.words c.homes z) v))
@@ -278,7 +278,7 @@ module _ (p : Plan) (c : Core) (views : List View) (stopped : ℕ → Bool) (m :
     odd_step : (seat : SeatState) (v : View) (call : TableStep) (next : ℕ → Program) (at_seat : get_elem? c.seats m.seat ≡ some seat) (here : get_elem? views m.seat ≡ some v) (is : first_step seat.program ≡ Do call next) → May p v call
         → Sound p (stepped p m.seat seat call next c) (set views m.seat (row p call (found_at c.words (word_of p call)) (hand_at p c.words c.homes call) v)) → FailsSocket c.words k (Do call next)
         → Failed p (state (stepped p m.seat seat call next c) (set views m.seat (row p call (found_at c.words (word_of p call)) (hand_at p c.words c.homes call) v))) k
-    odd_step seat v (SetOdd j) next at_seat here is may sound fails =
+    odd_step seat v (OnSlot (SetOdd j)) next at_seat here is may sound fails =
         let s : State Home View = state c views in let l = kept.sound.lawful.references.slots j may.0 in let even = fails.0 in let h : ℕ = may.1.0 in
         let held = l.held h (let a = may.1.1 in omega (arith, own_count s m.seat v here (is_hold h) j)) in let held₀ = held.0 in let held₁ = held.1 in
         let le = live_le (slot_facts s j).tag (slot_facts s j).version (count is_busy (slot_facts s j)) in let version : (slot_facts s j).version ≡ h = omega arith in

@@ -15,7 +15,7 @@ use Rattle.sock_io.specs.declared.link.Ready.{Ready}
 use Rattle.sock_io.specs.declared.link.Ready.TheVariants as asks
 use Rattle.sock_model.specs.declared.chain.Right.{Right}
 use Rattle.sock_model.specs.declared.view.View.{View}
-use Rattle.seat_programs.specs.TableSteps.{TableStep, SetOdd}
+use Rattle.seat_programs.specs.TableSteps.{TableStep, OnSlot, SetOdd}
 use Rattle.seat_programs.specs.Writings.{Puts, Waits, Empties, Reversing}
 use Rattle.seat_programs.specs.Programs.{Program, Do, Say, Sent, Rest, TakeMessage, TakeHome, PutHome, PutBytes, AskReady, Write, Aside, Round, Keep, Retries}
 use Rattle.seat_programs.specs.Cores.{Core, SeatState}
@@ -123,7 +123,7 @@ module _ (p : Plan) (c : Core) (views : List View) (stopped : ℕ → Bool) (m :
   looks_no ws (Do call next) looks fails = by_call call looks fails
     where
       by_call : (call : TableStep) → LooksLive ws k (Do call next) → FailsSocket ws k (Do call next) → ⊥
-      by_call (SetOdd i) looks fails = looks
+      by_call (OnSlot (SetOdd i)) looks fails = looks
       by_call _ looks fails = fails
   looks_no ws _ looks fails = fails
 

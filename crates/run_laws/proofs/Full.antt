@@ -16,7 +16,7 @@ use Rattle.sock_model.specs.declared.view.Hand.{Hand}
 use Rattle.sock_model.specs.ChainRows.{with_claim, queued, righted, taken_right}
 use Rattle.sock_model.specs.Deliveries.{whole}
 use Rattle.sock_model.specs.SlotRows.{met_link}
-use Rattle.seat_programs.specs.TableSteps.{TableStep, ClaimRequest, PutMessage, Unconnect, SwapHead}
+use Rattle.seat_programs.specs.TableSteps.{TableStep, OnChain, OnMessage, ClaimRequest, PutMessage, Unconnect, SwapHead}
 use Rattle.seat_programs.specs.Cores.{Core, found_at}
 use Rattle.seat_programs.specs.StepTables.{word_of}
 use Rattle.seat_programs.specs.Ticks.{Moment, IsAnswered}
@@ -55,12 +55,12 @@ pub none_full : (v : View) → v.claims ≡ [] → IsFull v
 none_full v none_ c cs e = absurd (cons-ne-nil c cs (sym e ∙ none_))
 
 row_full : (p : Plan) (call : TableStep) (found : ℕ) (hand : Hand) (v : View) → May p v call → IsFull v → IsFull (row p call found hand v)
-row_full p (ClaimRequest id q) found hand v may f = either (eqb (found % 2) 0) (with_claim (met_link (socket_id_slot id) (socket_id_version id) hand.link v) (new_claim hand.link q found)) v
+row_full p (OnChain (ClaimRequest id q)) found hand v may f = either (eqb (found % 2) 0) (with_claim (met_link (socket_id_slot id) (socket_id_version id) hand.link v) (new_claim hand.link q found)) v
     (full_with (met_link (socket_id_slot id) (socket_id_version id) hand.link v) (new_claim hand.link q found) (λ e. absurd (true≢false (sym e)))) f
-row_full p (PutMessage q heading bytes) found hand v may f = by_claim_full v f v.claims refl (λ c. with_claim v (record c { filled = true; heading = heading; bytes = bytes }))
+row_full p (OnMessage (PutMessage q heading bytes)) found hand v may f = by_claim_full v f v.claims refl (λ c. with_claim v (record c { filled = true; heading = heading; bytes = bytes }))
     (λ c ds e. full_with v (record c { filled = true; heading = heading; bytes = bytes }) (λ y. may.3))
-row_full p (Unconnect q) found hand v may f = by_claim_full v f v.claims refl (λ c. with_claim v (record c { ready = true })) (λ c ds e. full_with v (record c { ready = true }) (f c ds e))
-row_full p (SwapHead i own) found hand v may f = by_claim_full v f v.claims refl (exchanged found hand v)
+row_full p (OnChain (Unconnect q)) found hand v may f = by_claim_full v f v.claims refl (λ c. with_claim v (record c { ready = true })) (λ c ds e. full_with v (record c { ready = true }) (f c ds e))
+row_full p (OnChain (SwapHead i own)) found hand v may f = by_claim_full v f v.claims refl (exchanged found hand v)
     (λ c ds e. either (nat_lt found IDLE) (queued v c found) (righted v c found hand.took hand.next) (none_full (queued v c found) refl) (none_full (righted v c found hand.took hand.next) refl))
 row_full p call found hand v may f = λ c cs e. f c cs (sym (claims_stay p v found hand call refl) ∙ e)
 

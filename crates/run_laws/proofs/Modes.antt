@@ -15,7 +15,7 @@ use Rattle.seat_programs.specs.declared.task.Op.{Op}
 use Rattle.seat_programs.specs.declared.task.Op.TheVariants as ops
 use Rattle.seat_programs.specs.declared.task.Task.{Task}
 use Rattle.seat_programs.specs.declared.task.Sizes.{Sizes}
-use Rattle.seat_programs.specs.TableSteps.{TableStep, FindLink, SetOdd, StoreCode, SubRef, LookWord, LoadCode, StorePlace, DropPlace, LoadLink, TakeLink, FinishLink, PutLink, FreeSlot, FreeRequest, ReadNext, ReverseNext, Connect}
+use Rattle.seat_programs.specs.TableSteps.{TableStep, OnSlot, OnChain, OnPlace, OnLink, FindLink, SetOdd, StoreCode, SubRef, LookWord, LoadCode, StorePlace, DropPlace, LoadLink, TakeLink, FinishLink, PutLink, FreeSlot, FreeRequest, ReadNext, ReverseNext, Connect}
 use Rattle.seat_programs.specs.Writings.{Holder, Writing, Puts, Waits, Empties, Reversing}
 use Rattle.seat_programs.specs.Programs.{Program, Do, Say, Sent, Rest, TakeMessage, TakeHome, PutHome, PutBytes, AskReady, Write, Aside, Round, Keep, Retries, LAST_VERSION, LAST_GENERATION, recycle, release, add_reference, find_socket, set_failed, no_socket, make_socket, open_from, fail_outcome, fail}
 use Rattle.seat_programs.specs.SendAndWritePrograms.{freed, one_more, passed_telling, tell_drop, placed, dropped, put_answered, ready_answered, block, first_put, write_link, heading_of, accept, claim_from, start}
@@ -65,9 +65,9 @@ IsOfSlot j other = Unit {0}
 
 -- which step may come in a mode
 abbrev pub Comes : Mode → TableStep → Type 0
-Comes m (SetOdd i) = IsOfSlot i m
-Comes m (StorePlace l k n) = m ≡ Fed
-Comes m (DropPlace l k n) = m ≡ Dead
+Comes m (OnSlot (SetOdd i)) = IsOfSlot i m
+Comes m (OnPlace (StorePlace l k n)) = m ≡ Fed
+Comes m (OnPlace (DropPlace l k n)) = m ≡ Dead
 Comes m other = IsWhole m
 
 -- the mode behind a step that found this
@@ -79,8 +79,8 @@ code_mode Dead = Dead
 code_mode other = Unknown
 
 abbrev pub mode_behind : Mode → TableStep → ℕ → Mode
-mode_behind m (LookWord id) found = looked_mode (socket_id_slot id) found
-mode_behind m (LoadCode i h) found = code_mode m
+mode_behind m (OnSlot (LookWord id)) found = looked_mode (socket_id_slot id) found
+mode_behind m (OnSlot (LoadCode i h)) found = code_mode m
 mode_behind m other found = Unknown
 
 abbrev pub put_mode : ℕ → Put → Mode
@@ -143,8 +143,8 @@ looked_whole i found = either_mode (eqb (vref_version found % 2) 0) (Live i) Dea
 recycle_guarded : (i from : ℕ) (next : Bool → Program) → ((b : Bool) → Guarded Unknown (next b)) → Guarded Unknown (recycle i from next)
 recycle_guarded i from next k = (
   tt,
-  λ found. sides (eqb found from) (Do (LoadLink i (vref_version from + 1)) (λ l. Do (TakeLink l) (λ _. Do (FinishLink l) (λ _. Do (PutLink l) (λ _. if nat_le (vref_version from + 1) LAST_VERSION then Do (FreeSlot i) (λ _. next true) else next true))))) (next false) Unknown
-      (tt, λ l. (tt, λ a. (tt, λ b. (tt, λ c. sides (nat_le (vref_version from + 1) LAST_VERSION) (Do (FreeSlot i) (λ _. next true)) (next true) Unknown (tt, λ d. k true) (k true))))) (k false),
+  λ found. sides (eqb found from) (Do (OnSlot (LoadLink i (vref_version from + 1))) (λ l. Do (OnLink (TakeLink l)) (λ _. Do (OnLink (FinishLink l)) (λ _. Do (OnLink (PutLink l)) (λ _. if nat_le (vref_version from + 1) LAST_VERSION then Do (OnSlot (FreeSlot i)) (λ _. next true) else next true))))) (next false) Unknown
+      (tt, λ l. (tt, λ a. (tt, λ b. (tt, λ c. sides (nat_le (vref_version from + 1) LAST_VERSION) (Do (OnSlot (FreeSlot i)) (λ _. next true)) (next true) Unknown (tt, λ d. k true) (k true))))) (k false),
 )
 
 release_guarded : (m : Mode) → IsWhole m → (i : ℕ) (next : Bool → Program) → ((b : Bool) → Guarded Unknown (next b)) → Guarded m (release i next)
@@ -169,7 +169,7 @@ reach_guarded name unopened held gone u h k = (
 set_failed_guarded : (m : Mode) (id code : ℕ) (next : ℕ → Program) → IsOfSlot (socket_id_slot id) m → ((found : ℕ) → Guarded Unknown (next found)) → Guarded m (set_failed id code next)
 set_failed_guarded m id code next of k = (
   of,
-  λ found. sides (vref_version found % 2 == 0) (Do (StoreCode (socket_id_slot id) (socket_id_version id) code) (λ _. Do (SubRef (socket_id_slot id)) (λ _. next found))) (next found) Unknown (tt, λ a. (tt, λ b. k found)) (k found),
+  λ found. sides (vref_version found % 2 == 0) (Do (OnSlot (StoreCode (socket_id_slot id) (socket_id_version id) code)) (λ _. Do (OnSlot (SubRef (socket_id_slot id))) (λ _. next found))) (next found) Unknown (tt, λ a. (tt, λ b. k found)) (k found),
 )
 
 -- ## Errors of calls, and loops on ids
@@ -284,11 +284,11 @@ loop_guarded (Discards l total) k goes = (tt, discarded_guarded l total k goes)
 -- ## Writing
 
 freed_guarded : (now : ℕ) (next : Program) → Guarded Unknown next → Guarded Unknown (freed now next)
-freed_guarded now next k = sides (ticket_generation now == LAST_GENERATION) next (Do (FreeRequest (ticket_request now) (ticket_generation now)) (λ _. next)) Unknown k (tt, λ a. k)
+freed_guarded now next k = sides (ticket_generation now == LAST_GENERATION) next (Do (OnChain (FreeRequest (ticket_request now) (ticket_generation now))) (λ _. next)) Unknown k (tt, λ a. k)
 
 module _ (after : Program) (k : Guarded Unknown after) where
   passed_guarded : (h : Holder) (now : ℕ) (tells : Program → Program) → ((q : Program) → Guarded Unknown q → Guarded Unknown (tells q)) → Guarded Unknown (passed_telling h now tells after)
-  passed_guarded h now tells t = sides (now == h.last) (freed now (tells (Write (Empties h) after))) (Do (ReadNext (ticket_request now)) (λ next. freed now (tells (TakeMessage (ticket_request next) (λ heading bytes. Write (Puts h next heading bytes 0 false) after))))) Unknown
+  passed_guarded h now tells t = sides (now == h.last) (freed now (tells (Write (Empties h) after))) (Do (OnChain (ReadNext (ticket_request now))) (λ next. freed now (tells (TakeMessage (ticket_request next) (λ heading bytes. Write (Puts h next heading bytes 0 false) after))))) Unknown
       (freed_guarded now (tells (Write (Empties h) after)) (t (Write (Empties h) after) (tt, k)))
       (tt, λ next. freed_guarded now (tells (TakeMessage (ticket_request next) (λ heading bytes. Write (Puts h next heading bytes 0 false) after))) (t (TakeMessage (ticket_request next) (λ heading bytes. Write (Puts h next heading bytes 0 false) after)) (tt, λ heading bytes. (tt, k))))
 
@@ -320,7 +320,7 @@ module _ (after : Program) (k : Guarded Unknown after) where
   block_guarded (Reversing h top at next) = (
     tt,
     λ found. sides (found == UNCONNECTED) (Write (Reversing h top at next) after)
-        (Do (ReverseNext (ticket_request at) next) (λ _. if found == h.last then TakeMessage (ticket_request at) (λ heading bytes. Write (Puts (record h { last = top }) at heading bytes 0 false) after) else Write (Reversing h top found at) after)) Unknown (tt, k)
+        (Do (OnChain (ReverseNext (ticket_request at) next)) (λ _. if found == h.last then TakeMessage (ticket_request at) (λ heading bytes. Write (Puts (record h { last = top }) at heading bytes 0 false) after) else Write (Reversing h top found at) after)) Unknown (tt, k)
         (tt, λ a. sides (found == h.last) (TakeMessage (ticket_request at) (λ heading bytes. Write (Puts (record h { last = top }) at heading bytes 0 false) after)) (Write (Reversing h top found at) after) Unknown (tt, λ heading bytes. (tt, k)) (tt, k)),
   )
 
@@ -350,7 +350,7 @@ accept_guarded id q g heading bytes after k = (
     tt,
     λ b. (
       tt,
-      λ found. sides (nat_lt found IDLE) (Do (Connect q found) (λ _. after)) (write_link id q (ticket_of q g) after) Unknown (tt, λ c. k) (write_guarded id q (ticket_of q g) after k),
+      λ found. sides (nat_lt found IDLE) (Do (OnChain (Connect q found)) (λ _. after)) (write_link id q (ticket_of q g) after) Unknown (tt, λ c. k) (write_guarded id q (ticket_of q g) after k),
     ),
   ),
 )
@@ -386,7 +386,7 @@ attempt_guarded : (requests : ℕ) (asked : Asked) (id n socket : ℕ) (next : P
 attempt_guarded requests asked id n socket next g = let i : ℕ = socket_id_slot socket in let back : Program = release i (λ _. next) in let bytes : List ℕ = frame_of asked id n in let heading : Heading = heading_for asked id n in
     let back_goes = λ (m : Mode) (whole : IsWhole m). release_guarded m whole i (λ _. next) (λ b. g) in
     let looks : ℕ → Program = λ found. if vref_version found % 2 == 0 then claims_from requests 0 socket heading bytes (post id 3001 n back) back else post id 1009 n back in
-    address_guarded socket (Do (FindLink i (socket_id_version socket)) (λ k. Aside (StoreAt asked.operation (at_word (id_first id) (id_slot id) k n)) (λ _. Do (LookWord socket) looks))) (λ _. post id 1009 n next) (
+    address_guarded socket (Do (OnSlot (FindLink i (socket_id_version socket))) (λ k. Aside (StoreAt asked.operation (at_word (id_first id) (id_slot id) k n)) (λ _. Do (OnSlot (LookWord socket)) looks))) (λ _. post id 1009 n next) (
       tt,
       λ k. (
         tt,

@@ -31,7 +31,7 @@ use Rattle.sock_model.specs.SlotRows.{marks_of, looked, told_code}
 use Rattle.slot_steps.proofs.RuleNumbers.{only-same}
 use Rattle.chain_steps.proofs.TicketLists.{at_length}
 use Rattle.sock_steps.proofs.LifeLinkSlotPlaces.{own_count, holder_lives}
-use Rattle.seat_programs.specs.TableSteps.{TableStep, AddRef, SubRef, SetOdd, Recycle, LookWord, LoadCode, ClaimRequest, SwapHead, StorePlace, DropPlace}
+use Rattle.seat_programs.specs.TableSteps.{TableStep, OnSlot, OnChain, OnPlace, AddRef, SubRef, SetOdd, Recycle, LookWord, LoadCode, ClaimRequest, SwapHead, StorePlace, DropPlace}
 use Rattle.seat_programs.specs.Programs.{Program, Do, TakeMessage, TakeHome, PutHome, PutBytes, AskReady, Aside}
 use Rattle.seat_programs.specs.FoundAndChangedAside.{calls_after}
 use Rattle.seat_programs.specs.Cores.{Calls, Core, SeatState, words_after, homes_after, hand_after, found_at, lies_at, first_of, others_of, link_place, with_seat, stepped}
@@ -71,26 +71,26 @@ if_stops stopped true x y p q = p
 if_stops stopped false x y p q = q
 
 abbrev is_look : TableStep → Bool
-is_look (LookWord id) = true
+is_look (OnSlot (LookWord id)) = true
 is_look other = false
 
 abbrev is_odd : TableStep → Bool
-is_odd (SetOdd i) = true
+is_odd (OnSlot (SetOdd i)) = true
 is_odd other = false
 
 abbrev is_code : TableStep → Bool
-is_code (LoadCode i h) = true
+is_code (OnSlot (LoadCode i h)) = true
 is_code other = false
 
 -- only a look stops a link
 stops_none : (stopped : ℕ → Bool) (i : ℕ) (call : TableStep) (found : ℕ) (v : View) → is_look call ≡ false → stopped_after (step_event i call found v) stopped ≡ stopped
-stops_none stopped i (LookWord id) found v e = absurd (true≢false e)
-stops_none stopped i (AddRef id) found v e = if_stops stopped (eqb (vref_version found) (socket_id_version id)) (Hold (life_of id) i) Nothing refl refl
-stops_none stopped i (SubRef j) found v e = if_stops stopped (nat_lt 0 (marks_of is_probe j v)) Nothing (Drop (life_at j (even_version found)) i) refl refl
-stops_none stopped i (SetOdd j) found v e = if_stops stopped (eqb (vref_version found % 2) 0) (Fail (life_at j (vref_version found)) i) Nothing refl refl
-stops_none stopped i (Recycle j from) found v e = if_stops stopped (eqb found from) (End (life_at j (vref_version from - 1))) Nothing refl refl
-stops_none stopped i (ClaimRequest id q) found v e = if_stops stopped (eqb (found % 2) 0) (world.Claim q) Nothing refl refl
-stops_none stopped i (SwapHead j own) found v e = by_claims v.claims
+stops_none stopped i (OnSlot (LookWord id)) found v e = absurd (true≢false e)
+stops_none stopped i (OnSlot (AddRef id)) found v e = if_stops stopped (eqb (vref_version found) (socket_id_version id)) (Hold (life_of id) i) Nothing refl refl
+stops_none stopped i (OnSlot (SubRef j)) found v e = if_stops stopped (nat_lt 0 (marks_of is_probe j v)) Nothing (Drop (life_at j (even_version found)) i) refl refl
+stops_none stopped i (OnSlot (SetOdd j)) found v e = if_stops stopped (eqb (vref_version found % 2) 0) (Fail (life_at j (vref_version found)) i) Nothing refl refl
+stops_none stopped i (OnSlot (Recycle j from)) found v e = if_stops stopped (eqb found from) (End (life_at j (vref_version from - 1))) Nothing refl refl
+stops_none stopped i (OnChain (ClaimRequest id q)) found v e = if_stops stopped (eqb (found % 2) 0) (world.Claim q) Nothing refl refl
+stops_none stopped i (OnChain (SwapHead j own)) found v e = by_claims v.claims
   where
     by_claims : (cs : List Claim) → stopped_after (accept_event i found cs) stopped ≡ stopped
     by_claims [] = refl
@@ -98,14 +98,14 @@ stops_none stopped i (SwapHead j own) found v e = by_claims v.claims
 stops_none stopped i _ found v e = refl
 
 behind_unknown : (m : Mode) (call : TableStep) (found : ℕ) → is_look call ≡ false → is_code call ≡ false → mode_behind m call found ≡ Unknown
-behind_unknown m (LookWord id) found e d = absurd (true≢false e)
-behind_unknown m (LoadCode i h) found e d = absurd (true≢false d)
+behind_unknown m (OnSlot (LookWord id)) found e d = absurd (true≢false e)
+behind_unknown m (OnSlot (LoadCode i h)) found e d = absurd (true≢false d)
 behind_unknown m _ found e d = refl
 
 comes_whole : (m : Mode) (call : TableStep) → is_odd call ≡ false → Comes m call → IsWhole m
-comes_whole m (SetOdd i) e comes = absurd (true≢false e)
-comes_whole m (StorePlace l k n) e comes = subst IsWhole (sym comes) tt
-comes_whole m (DropPlace l k n) e comes = subst IsWhole (sym comes) tt
+comes_whole m (OnSlot (SetOdd i)) e comes = absurd (true≢false e)
+comes_whole m (OnPlace (StorePlace l k n)) e comes = subst IsWhole (sym comes) tt
+comes_whole m (OnPlace (DropPlace l k n)) e comes = subst IsWhole (sym comes) tt
 comes_whole m _ e comes = comes
 
 about_more : (f : Mark → ℕ) (j i : ℕ) (m : Mark) (es : List SlotMark) → total f (about j es) ≤ total f (about j (at i m ∷ es))
@@ -209,21 +209,21 @@ module _ (p : Plan) (c : Core) (views : List View) (stopped : ℕ → Bool) (kep
 
   -- ## A look
 
-  module _ (id : ℕ) (next : ℕ → Program) (is : first_step seat.program ≡ Do (LookWord id) next) (may : May p v (LookWord id)) (sound : Sound p (stepped p i seat (LookWord id) next c) (set views i (row_of (LookWord id)))) where
+  module _ (id : ℕ) (next : ℕ → Program) (is : first_step seat.program ≡ Do (OnSlot (LookWord id)) next) (may : May p v (OnSlot (LookWord id))) (sound : Sound p (stepped p i seat (OnSlot (LookWord id)) next c) (set views i (row_of (OnSlot (LookWord id))))) where
     abbrev slot : ℕ
     slot = socket_id_slot id
 
     abbrev word : ℕ
-    word = found (LookWord id)
+    word = found (OnSlot (LookWord id))
 
     abbrev w : View
-    w = row_of (LookWord id)
+    w = row_of (OnSlot (LookWord id))
 
     abbrev KeptBy : Event → Type 0
-    KeptBy e = KeptWith (LookWord id) next is may sound (stopped_after e stopped)
+    KeptBy e = KeptWith (OnSlot (LookWord id)) next is may sound (stopped_after e stopped)
 
     whole : IsWhole m
-    whole = (behind (LookWord id) next is may sound).0
+    whole = (behind (OnSlot (LookWord id)) next is may sound).0
 
     pub no_right : v.rights ≡ [] → w.rights ≡ []
     no_right idle = ap (λ rs. (by_right rs (looked_clean slot word v) (looked slot word v)).rights) idle ∙ idle
@@ -232,11 +232,11 @@ module _ (p : Plan) (c : Core) (views : List View) (stopped : ℕ → Bool) (kep
     idle_fits idle s n r one = absurd (cons-ne-nil r [] (sym one ∙ no_right idle))
 
     idle_step : v.rights ≡ [] → KeptBy Nothing
-    idle_step idle = calm_step (LookWord id) next is may sound whole (idle_fits idle stopped (looked_mode slot word))
+    idle_step idle = calm_step (OnSlot (LookWord id)) next is may sound whole (idle_fits idle stopped (looked_mode slot word))
 
     module _ (r : Right) (one : v.rights ≡ r ∷ []) (holds : HoldsLink p v slot (socket_id_version id) r.link) where
       pub k : Keeps p c views kept.sound.lawful i v here r one w (of_right r)
-      k = looks_keeps p c views kept.sound.lawful i v here r one id word (hand_at p c.words c.homes (LookWord id))
+      k = looks_keeps p c views kept.sound.lawful i v here r one id word (hand_at p c.words c.homes (OnSlot (LookWord id)))
 
       pub link_of : (q : Right) → w.rights ≡ q ∷ [] → q.link ≡ r.link
       link_of q is_q = ap (λ (x : Right). x.link) (heads_same q k.right (sym is_q ∙ k.rights)) ∙ k.link
@@ -268,16 +268,16 @@ module _ (p : Plan) (c : Core) (views : List View) (stopped : ℕ → Bool) (kep
       )
 
       live_step : vref_version word % 2 ≡ 0 → KeptBy Nothing
-      live_step even = calm_step (LookWord id) next is may sound whole (subst (λ b. Fits p w stopped (cond b (Live slot) Dead)) (sym (eq-eqb (vref_version word % 2) 0 even)) (live_fits even))
+      live_step even = calm_step (OnSlot (LookWord id)) next is may sound whole (subst (λ b. Fits p w stopped (cond b (Live slot) Dead)) (sym (eq-eqb (vref_version word % 2) 0 even)) (live_fits even))
 
       dead_fits : Fits p w (stopped_after (Stop r.link) stopped) Dead
       dead_fits q is_q = ap (λ b. cond b true (stopped q.link)) (eq-eqb q.link r.link (link_of q is_q))
 
       dead_step : vref_version word % 2 ≢ 0 → KeptBy (Stop r.link)
-      dead_step odd = stopping_step (LookWord id) next is may sound r one whole (subst (λ b. Fits p w (stopped_after (Stop r.link) stopped) (cond b (Live slot) Dead)) (sym (ne_eqb (vref_version word % 2) 0 odd)) dead_fits)
+      dead_step odd = stopping_step (OnSlot (LookWord id)) next is may sound r one whole (subst (λ b. Fits p w (stopped_after (Stop r.link) stopped) (cond b (Live slot) Dead)) (sym (ne_eqb (vref_version word % 2) 0 odd)) dead_fits)
           (odd_failed p (state c views) kept.sound.lawful i v here slot (socket_id_version id) r.link holds (omega (arith, odd)))
 
-    look_kept : KeptBy (step_event i (LookWord id) word v)
+    look_kept : KeptBy (step_event i (OnSlot (LookWord id)) word v)
     look_kept = dite (ℕ_discrete (vref_version word % 2) 0)
         (λ even. subst (λ b. KeptBy (cond b Nothing (stop_event v.rights))) (sym (eq-eqb (vref_version word % 2) 0 even)) (⊎_elim idle_step (λ mine. live_step mine.0 mine.1 mine.2 even) may.1))
         (λ odd. subst (λ b. KeptBy (cond b Nothing (stop_event v.rights))) (sym (ne_eqb (vref_version word % 2) 0 odd))
@@ -285,15 +285,15 @@ module _ (p : Plan) (c : Core) (views : List View) (stopped : ℕ → Bool) (kep
 
   -- ## The step that sets a life failed
 
-  module _ (j : ℕ) (next : ℕ → Program) (is : first_step seat.program ≡ Do (SetOdd j) next) (may : May p v (SetOdd j)) (sound : Sound p (stepped p i seat (SetOdd j) next c) (set views i (row_of (SetOdd j)))) where
+  module _ (j : ℕ) (next : ℕ → Program) (is : first_step seat.program ≡ Do (OnSlot (SetOdd j)) next) (may : May p v (OnSlot (SetOdd j))) (sound : Sound p (stepped p i seat (OnSlot (SetOdd j)) next c) (set views i (row_of (OnSlot (SetOdd j))))) where
     abbrev odd_view : View
-    odd_view = row_of (SetOdd j)
+    odd_view = row_of (OnSlot (SetOdd j))
 
     abbrev odd_word : ℕ
-    odd_word = found (SetOdd j)
+    odd_word = found (OnSlot (SetOdd j))
 
     abbrev odd_core : Core
-    odd_core = stepped p i seat (SetOdd j) next c
+    odd_core = stepped p i seat (OnSlot (SetOdd j)) next c
 
     there : get_elem? (set views i odd_view) i ≡ some odd_view
     there = set_here views i odd_view (at_length views i v here)
@@ -301,61 +301,61 @@ module _ (p : Plan) (c : Core) (views : List View) (stopped : ℕ → Bool) (kep
     -- a live life is failed behind it
     pub fails_even : (h k : ℕ) → Given p (state c views) j h k → vref_version odd_word ≡ h → vref_version odd_word % 2 ≡ 0 → Failed p (state odd_core (set views i odd_view)) k
     fails_even h k life is_h even = let given = life.given in
-        let adds_one : adds (is_failer h) j (SetOdd j) odd_word ≡ 1 = ap (λ b. cond b (cond (eqb (vref_version odd_word % 2) 0) (is_failer h (mark.Failer (vref_version odd_word))) 0) 0) (eq-eqb j j refl)
+        let adds_one : adds (is_failer h) j (OnSlot (SetOdd j)) odd_word ≡ 1 = ap (λ b. cond b (cond (eqb (vref_version odd_word % 2) 0) (is_failer h (mark.Failer (vref_version odd_word))) 0) 0) (eq-eqb j j refl)
         ∙ (ap (λ b. cond b (only h (vref_version odd_word)) 0) (eq-eqb (vref_version odd_word % 2) 0 even) ∙ (ap (only h) is_h ∙ only-same h)) in
         record {
           slot = j;
           version = h;
-          life = record { inside = life.inside; given = omega (arith, given, more_count (state c views) odd_core.words odd_core.homes i v odd_view here (is_linked h k) j (links_more (SetOdd j) next is may sound k j h)) };
-          failed = omega (arith, adds_one, row_adds (is_failer h) (failer_note h) j p (SetOdd j) odd_word (hand_at p c.words c.homes (SetOdd j)) v, own_count (state odd_core (set views i odd_view)) i odd_view there (is_failer h) j);
+          life = record { inside = life.inside; given = omega (arith, given, more_count (state c views) odd_core.words odd_core.homes i v odd_view here (is_linked h k) j (links_more (OnSlot (SetOdd j)) next is may sound k j h)) };
+          failed = omega (arith, adds_one, row_adds (is_failer h) (failer_note h) j p (OnSlot (SetOdd j)) odd_word (hand_at p c.words c.homes (OnSlot (SetOdd j))) v, own_count (state odd_core (set views i odd_view)) i odd_view there (is_failer h) j);
         }
 
     -- the life of the link that whoever writes it sets failed is failed behind it
     own_failed : (r : Right) → v.rights ≡ r ∷ [] → (h : ℕ) → HoldsLink p v j h r.link → Failed p (state odd_core (set views i odd_view)) r.link
     own_failed r one h holds = dite (ℕ_discrete (vref_version odd_word % 2) 0)
         (λ even. fails_even h r.link (holder_lives p (state c views) kept.sound.lawful.references i v j h r.link here holds).life (even_is p (state c views) kept.sound.lawful i v here j h r.link holds even) even)
-        (λ odd. failed_stays (state c views) odd_core.words odd_core.homes i v odd_view here p r.link (λ a b. fails_more (SetOdd j) next is may sound a b) (λ a b. links_more (SetOdd j) next is may sound r.link a b)
+        (λ odd. failed_stays (state c views) odd_core.words odd_core.homes i v odd_view here p r.link (λ a b. fails_more (OnSlot (SetOdd j)) next is may sound a b) (λ a b. links_more (OnSlot (SetOdd j)) next is may sound r.link a b)
         (odd_failed p (state c views) kept.sound.lawful i v here j h r.link holds (omega (arith, odd))))
 
     odd_stops : (k : ℕ) → stopped k ≡ true → Failed p (state odd_core (set views i odd_view)) k ⊎ IsBroken (set views i odd_view) (mode_at i Unknown kept.modes) k
     odd_stops k e = ⊎_elim
-        (λ f. inl (failed_stays (state c views) odd_core.words odd_core.homes i v odd_view here p k (λ a b. fails_more (SetOdd j) next is may sound a b) (λ a b. links_more (SetOdd j) next is may sound k a b) f))
+        (λ f. inl (failed_stays (state c views) odd_core.words odd_core.homes i v odd_view here p k (λ a b. fails_more (OnSlot (SetOdd j)) next is may sound a b) (λ a b. links_more (OnSlot (SetOdd j)) next is may sound k a b) f))
         (λ b. dite (ℕ_discrete b.seat i)
         (λ same. let mine : v.rights ≡ b.right ∷ [] = ap (λ (x : View). x.rights) (some-injective v b.view (sym here ∙ (ap (get_elem? views) (sym same) ∙ b.there))) ∙ b.one in
         let broken : m ≡ Broken b.slot = first_broken (kept.modes i) b.slot seat.program (kept.guarded i seat at_seat) (ap kept.modes (sym same) ∙ b.mode) in
-        let at_slot : b.slot ≡ j = subst (IsOfSlot j) broken (behind (SetOdd j) next is may sound).0 in
+        let at_slot : b.slot ≡ j = subst (IsOfSlot j) broken (behind (OnSlot (SetOdd j)) next is may sound).0 in
         let x : HoldsAt p v b.slot b.right.link = subst (λ n. FitsRight p v stopped n b.right) broken (mode_fits p c views stopped kept i seat v at_seat here b.right mine) in
         inl (subst (Failed p (state odd_core (set views i odd_view))) b.link (own_failed b.right mine x.0 (subst (λ z. HoldsLink p v z x.0 b.right.link) at_slot x.1))))
-        (λ ne. inr (broken_else p c views stopped kept i seat v at_seat here c.calls odd_view Unknown (next odd_word) (hand_after p (SetOdd j) c.homes seat.hand) (words_after c.words (word_of p (SetOdd j)) (word_after (SetOdd j) odd_word)) (homes_after p (SetOdd j) seat.hand c.homes) stopped k b ne)))
+        (λ ne. inr (broken_else p c views stopped kept i seat v at_seat here c.calls odd_view Unknown (next odd_word) (hand_after p (OnSlot (SetOdd j)) c.homes seat.hand) (words_after c.words (word_of p (OnSlot (SetOdd j))) (word_after (OnSlot (SetOdd j)) odd_word)) (homes_after p (OnSlot (SetOdd j)) seat.hand c.homes) stopped k b ne)))
         (kept.stops k e)
 
-    odd_kept : KeptWith (SetOdd j) next is may sound (stopped_after (step_event i (SetOdd j) odd_word v) stopped)
-    odd_kept = subst (KeptWith (SetOdd j) next is may sound) (sym (stops_none stopped i (SetOdd j) odd_word v refl))
-        (steps p c views stopped kept i seat v at_seat here c.calls odd_view Unknown (next odd_word) (hand_after p (SetOdd j) c.homes seat.hand) (words_after c.words (word_of p (SetOdd j)) (word_after (SetOdd j) odd_word)) (homes_after p (SetOdd j) seat.hand c.homes) stopped
-        sound ((behind (SetOdd j) next is may sound).1 odd_word) (λ r one. tt) (λ x u ne at_x f. f) odd_stops)
+    odd_kept : KeptWith (OnSlot (SetOdd j)) next is may sound (stopped_after (step_event i (OnSlot (SetOdd j)) odd_word v) stopped)
+    odd_kept = subst (KeptWith (OnSlot (SetOdd j)) next is may sound) (sym (stops_none stopped i (OnSlot (SetOdd j)) odd_word v refl))
+        (steps p c views stopped kept i seat v at_seat here c.calls odd_view Unknown (next odd_word) (hand_after p (OnSlot (SetOdd j)) c.homes seat.hand) (words_after c.words (word_of p (OnSlot (SetOdd j))) (word_after (OnSlot (SetOdd j)) odd_word)) (homes_after p (OnSlot (SetOdd j)) seat.hand c.homes) stopped
+        sound ((behind (OnSlot (SetOdd j)) next is may sound).1 odd_word) (λ r one. tt) (λ x u ne at_x f. f) odd_stops)
 
   -- ## The code of a life
 
-  code_kept : (j h : ℕ) (next : ℕ → Program) (is : first_step seat.program ≡ Do (LoadCode j h) next) (may : May p v (LoadCode j h)) (sound : Sound p (stepped p i seat (LoadCode j h) next c) (set views i (row_of (LoadCode j h))))
-      → KeptWith (LoadCode j h) next is may sound stopped
-  code_kept j h next is may sound = calm_step (LoadCode j h) next is may sound (behind (LoadCode j h) next is may sound).0 (λ r one. by_mode r m (mode_fits p c views stopped kept i seat v at_seat here r (sym same_rights ∙ one)))
+  code_kept : (j h : ℕ) (next : ℕ → Program) (is : first_step seat.program ≡ Do (OnSlot (LoadCode j h)) next) (may : May p v (OnSlot (LoadCode j h))) (sound : Sound p (stepped p i seat (OnSlot (LoadCode j h)) next c) (set views i (row_of (OnSlot (LoadCode j h)))))
+      → KeptWith (OnSlot (LoadCode j h)) next is may sound stopped
+  code_kept j h next is may sound = calm_step (OnSlot (LoadCode j h)) next is may sound (behind (OnSlot (LoadCode j h)) next is may sound).0 (λ r one. by_mode r m (mode_fits p c views stopped kept i seat v at_seat here r (sym same_rights ∙ one)))
     where
-      same_rights : (row_of (LoadCode j h)).rights ≡ v.rights
-      same_rights = by_test (eqb (found (LoadCode j h)) 0)
+      same_rights : (row_of (OnSlot (LoadCode j h))).rights ≡ v.rights
+      same_rights = by_test (eqb (found (OnSlot (LoadCode j h))) 0)
         where
-          by_test : (b : Bool) → (cond b v (told_code j h (found (LoadCode j h)) v)).rights ≡ v.rights
+          by_test : (b : Bool) → (cond b v (told_code j h (found (OnSlot (LoadCode j h))) v)).rights ≡ v.rights
           by_test true = refl
           by_test false = refl
 
-      by_mode : (r : Right) (n : Mode) → FitsRight p v stopped n r → FitsRight p (row_of (LoadCode j h)) stopped (mode_behind n (LoadCode j h) (found (LoadCode j h))) r
+      by_mode : (r : Right) (n : Mode) → FitsRight p v stopped n r → FitsRight p (row_of (OnSlot (LoadCode j h))) stopped (mode_behind n (OnSlot (LoadCode j h)) (found (OnSlot (LoadCode j h)))) r
       by_mode r Dead f = f
       by_mode r _ f = tt
 
   step_kept : (call : TableStep) (next : ℕ → Program) (is : first_step seat.program ≡ Do call next) (may : May p v call) (sound : Sound p (stepped p i seat call next c) (set views i (row_of call)))
       → Kept p (stepped p i seat call next c) (set views i (row_of call)) (stopped_after (step_event i call (found call) v) stopped)
-  step_kept (LookWord id) next is may sound = look_kept id next is may sound
-  step_kept (SetOdd j) next is may sound = odd_kept j next is may sound
-  step_kept (LoadCode j h) next is may sound = code_kept j h next is may sound
+  step_kept (OnSlot (LookWord id)) next is may sound = look_kept id next is may sound
+  step_kept (OnSlot (SetOdd j)) next is may sound = odd_kept j next is may sound
+  step_kept (OnSlot (LoadCode j h)) next is may sound = code_kept j h next is may sound
   step_kept call next is may sound = plain_step call next is may sound refl refl refl
 
   -- ## Moves, puts and questions

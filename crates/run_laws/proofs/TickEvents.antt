@@ -27,7 +27,7 @@ use Rattle.sock_model.specs.SocketSlotLaw.{count}
 use Rattle.sock_model.specs.SlotRows.{marks_of}
 use Rattle.slot_steps.proofs.SlotWeightSums.{total-set}
 use Rattle.sock_steps.proofs.LifeLinkSlotPlaces.{holder_lives, claimed_unborn, own_count}
-use Rattle.seat_programs.specs.TableSteps.{TableStep, CreateLife, ClaimSlot, AddRef, SubRef, SetOdd, Recycle, LookWord, ClaimRequest, SwapHead, StorePlace, DropPlace}
+use Rattle.seat_programs.specs.TableSteps.{TableStep, OnSlot, OnChain, OnPlace, CreateLife, ClaimSlot, AddRef, SubRef, SetOdd, Recycle, LookWord, ClaimRequest, SwapHead, StorePlace, DropPlace}
 use Rattle.seat_programs.specs.Programs.{Program, Do, PutBytes, AskReady}
 use Rattle.seat_programs.specs.Cores.{Core, SeatState, found_at, with_seat, stepped, lies_at, first_of, others_of, link_place}
 use Rattle.seat_programs.specs.StepTables.{word_of}
@@ -92,13 +92,13 @@ rights_messages [] = refl
 rights_messages (r ∷ rs) = refl
 
 step_lives : (i : ℕ) (call : TableStep) (found : ℕ) (v : View) → of_lives (step_event i call found v) ≡ lives_seen.event_of i call found v
-step_lives i (AddRef id) found v = lives_if (eqb (vref_version found) (socket_id_version id)) (Hold (life_of id) i) Nothing
-step_lives i (SubRef j) found v = lives_if (nat_lt 0 (marks_of is_probe j v)) Nothing (Drop (life_at j (even_version found)) i)
-step_lives i (SetOdd j) found v = lives_if (eqb (vref_version found % 2) 0) (Fail (life_at j (vref_version found)) i) Nothing
-step_lives i (Recycle j from) found v = lives_if (eqb found from) (End (life_at j (vref_version from - 1))) Nothing
-step_lives i (LookWord id) found v = lives_if (eqb (vref_version found % 2) 0) Nothing (stop_event v.rights) ∙ (ap (λ e. cond (eqb (vref_version found % 2) 0) lives.Nothing e) (rights_lives v.rights) ∙ none_if (eqb (vref_version found % 2) 0) lives.Nothing)
-step_lives i (ClaimRequest id q) found v = lives_if (eqb (found % 2) 0) (world.Claim q) Nothing ∙ none_if (eqb (found % 2) 0) lives.Nothing
-step_lives i (SwapHead j own) found v = claims_lives i found v.claims
+step_lives i (OnSlot (AddRef id)) found v = lives_if (eqb (vref_version found) (socket_id_version id)) (Hold (life_of id) i) Nothing
+step_lives i (OnSlot (SubRef j)) found v = lives_if (nat_lt 0 (marks_of is_probe j v)) Nothing (Drop (life_at j (even_version found)) i)
+step_lives i (OnSlot (SetOdd j)) found v = lives_if (eqb (vref_version found % 2) 0) (Fail (life_at j (vref_version found)) i) Nothing
+step_lives i (OnSlot (Recycle j from)) found v = lives_if (eqb found from) (End (life_at j (vref_version from - 1))) Nothing
+step_lives i (OnSlot (LookWord id)) found v = lives_if (eqb (vref_version found % 2) 0) Nothing (stop_event v.rights) ∙ (ap (λ e. cond (eqb (vref_version found % 2) 0) lives.Nothing e) (rights_lives v.rights) ∙ none_if (eqb (vref_version found % 2) 0) lives.Nothing)
+step_lives i (OnChain (ClaimRequest id q)) found v = lives_if (eqb (found % 2) 0) (world.Claim q) Nothing ∙ none_if (eqb (found % 2) 0) lives.Nothing
+step_lives i (OnChain (SwapHead j own)) found v = claims_lives i found v.claims
 step_lives i _ found v = refl
 
 claims_messages : (i found : ℕ) (cs : List Claim) → of_messages (accept_event i found cs) ≡ messages_seen.accept_event found cs
@@ -106,13 +106,13 @@ claims_messages i found [] = refl
 claims_messages i found (c ∷ cs) = refl
 
 step_messages : (i : ℕ) (call : TableStep) (found : ℕ) (v : View) → of_messages (step_event i call found v) ≡ messages_seen.event_of call found v
-step_messages i (AddRef id) found v = messages_if (eqb (vref_version found) (socket_id_version id)) (Hold (life_of id) i) Nothing ∙ none_if (eqb (vref_version found) (socket_id_version id)) messages.Nothing
-step_messages i (SubRef j) found v = messages_if (nat_lt 0 (marks_of is_probe j v)) Nothing (Drop (life_at j (even_version found)) i) ∙ none_if (nat_lt 0 (marks_of is_probe j v)) messages.Nothing
-step_messages i (SetOdd j) found v = messages_if (eqb (vref_version found % 2) 0) (Fail (life_at j (vref_version found)) i) Nothing ∙ none_if (eqb (vref_version found % 2) 0) messages.Nothing
-step_messages i (Recycle j from) found v = messages_if (eqb found from) (End (life_at j (vref_version from - 1))) Nothing ∙ none_if (eqb found from) messages.Nothing
-step_messages i (LookWord id) found v = messages_if (eqb (vref_version found % 2) 0) Nothing (stop_event v.rights) ∙ (ap (λ e. cond (eqb (vref_version found % 2) 0) messages.Nothing e) (rights_messages v.rights) ∙ none_if (eqb (vref_version found % 2) 0) messages.Nothing)
-step_messages i (ClaimRequest id q) found v = messages_if (eqb (found % 2) 0) (world.Claim q) Nothing
-step_messages i (SwapHead j own) found v = claims_messages i found v.claims
+step_messages i (OnSlot (AddRef id)) found v = messages_if (eqb (vref_version found) (socket_id_version id)) (Hold (life_of id) i) Nothing ∙ none_if (eqb (vref_version found) (socket_id_version id)) messages.Nothing
+step_messages i (OnSlot (SubRef j)) found v = messages_if (nat_lt 0 (marks_of is_probe j v)) Nothing (Drop (life_at j (even_version found)) i) ∙ none_if (nat_lt 0 (marks_of is_probe j v)) messages.Nothing
+step_messages i (OnSlot (SetOdd j)) found v = messages_if (eqb (vref_version found % 2) 0) (Fail (life_at j (vref_version found)) i) Nothing ∙ none_if (eqb (vref_version found % 2) 0) messages.Nothing
+step_messages i (OnSlot (Recycle j from)) found v = messages_if (eqb found from) (End (life_at j (vref_version from - 1))) Nothing ∙ none_if (eqb found from) messages.Nothing
+step_messages i (OnSlot (LookWord id)) found v = messages_if (eqb (vref_version found % 2) 0) Nothing (stop_event v.rights) ∙ (ap (λ e. cond (eqb (vref_version found % 2) 0) messages.Nothing e) (rights_messages v.rights) ∙ none_if (eqb (vref_version found % 2) 0) messages.Nothing)
+step_messages i (OnChain (ClaimRequest id q)) found v = messages_if (eqb (found % 2) 0) (world.Claim q) Nothing
+step_messages i (OnChain (SwapHead j own)) found v = claims_messages i found v.claims
 step_messages i _ found v = refl
 
 put_lives : (k : ℕ) (bytes : List ℕ) (answer : Put) → of_lives (put_event k bytes answer) ≡ lives.Nothing
@@ -152,20 +152,20 @@ unfolding pair
 pair_swap h k w b i j = grind (arith, nat_tests)
 
 step_links : (i : ℕ) (call : TableStep) (found : ℕ) (v : View) (links : world.Links) (l : Life) (k : ℕ) → links_after (step_event i call found v) links l k ≡ links l k + adds (is_linked l.version k) l.slot call found
-step_links i (CreateLife j b) found v links l k = ap (λ n. links l k + n) (sym (pair_swap l.version k (vref_version found) b j l.slot))
-step_links i (ClaimSlot j) found v links l k = let z = ap (λ n. cond (eqb j l.slot) n 0) (zero_if (eqb found 0)) in let y = zero_if (eqb j l.slot) in omega arith
-step_links i (AddRef id) found v links l k = let e = ap (λ (x : world.Links). x l k) (links_if links (eqb (vref_version found) (socket_id_version id)) (Hold (life_of id) i) Nothing refl refl) in omega arith
-step_links i (SubRef j) found v links l k = let e = ap (λ (x : world.Links). x l k) (links_if links (nat_lt 0 (marks_of is_probe j v)) Nothing (Drop (life_at j (even_version found)) i) refl refl) in omega arith
-step_links i (SetOdd j) found v links l k = let e = ap (λ (x : world.Links). x l k) (links_if links (eqb (vref_version found % 2) 0) (Fail (life_at j (vref_version found)) i) Nothing refl refl) in
+step_links i (OnSlot (CreateLife j b)) found v links l k = ap (λ n. links l k + n) (sym (pair_swap l.version k (vref_version found) b j l.slot))
+step_links i (OnSlot (ClaimSlot j)) found v links l k = let z = ap (λ n. cond (eqb j l.slot) n 0) (zero_if (eqb found 0)) in let y = zero_if (eqb j l.slot) in omega arith
+step_links i (OnSlot (AddRef id)) found v links l k = let e = ap (λ (x : world.Links). x l k) (links_if links (eqb (vref_version found) (socket_id_version id)) (Hold (life_of id) i) Nothing refl refl) in omega arith
+step_links i (OnSlot (SubRef j)) found v links l k = let e = ap (λ (x : world.Links). x l k) (links_if links (nat_lt 0 (marks_of is_probe j v)) Nothing (Drop (life_at j (even_version found)) i) refl refl) in omega arith
+step_links i (OnSlot (SetOdd j)) found v links l k = let e = ap (λ (x : world.Links). x l k) (links_if links (eqb (vref_version found % 2) 0) (Fail (life_at j (vref_version found)) i) Nothing refl refl) in
     let z = ap (λ n. cond (eqb j l.slot) n 0) (zero_if (eqb (vref_version found % 2) 0)) in let y = zero_if (eqb j l.slot) in omega arith
-step_links i (Recycle j from) found v links l k = let e = ap (λ (x : world.Links). x l k) (links_if links (eqb found from) (End (life_at j (vref_version from - 1))) Nothing refl refl) in omega arith
-step_links i (LookWord id) found v links l k = let e = ap (λ (x : world.Links). x l k) (links_if links (eqb (vref_version found % 2) 0) Nothing (stop_event v.rights) refl (by_rights v.rights)) in omega arith
+step_links i (OnSlot (Recycle j from)) found v links l k = let e = ap (λ (x : world.Links). x l k) (links_if links (eqb found from) (End (life_at j (vref_version from - 1))) Nothing refl refl) in omega arith
+step_links i (OnSlot (LookWord id)) found v links l k = let e = ap (λ (x : world.Links). x l k) (links_if links (eqb (vref_version found % 2) 0) Nothing (stop_event v.rights) refl (by_rights v.rights)) in omega arith
   where
     by_rights : (rs : List Right) → links_after (stop_event rs) links ≡ links
     by_rights [] = refl
     by_rights (r ∷ rs) = refl
-step_links i (ClaimRequest id q) found v links l k = let e = ap (λ (x : world.Links). x l k) (links_if links (eqb (found % 2) 0) (world.Claim q) Nothing refl refl) in omega arith
-step_links i (SwapHead j own) found v links l k = let e = ap (λ (x : world.Links). x l k) (by_claims v.claims) in omega arith
+step_links i (OnChain (ClaimRequest id q)) found v links l k = let e = ap (λ (x : world.Links). x l k) (links_if links (eqb (found % 2) 0) (world.Claim q) Nothing refl refl) in omega arith
+step_links i (OnChain (SwapHead j own)) found v links l k = let e = ap (λ (x : world.Links). x l k) (by_claims v.claims) in omega arith
   where
     by_claims : (cs : List Claim) → links_after (accept_event i found cs) links ≡ links
     by_claims [] = refl
@@ -216,28 +216,28 @@ module _ (p : Plan) (c : Core) (views : List View) (stopped : ℕ → Bool) (m :
     comes : (call : TableStep) (next : ℕ → Program) → first_step seat.program ≡ Do call next → Comes own_mode call
     comes call next is = (mode_guarded p c views stopped kept m.seat seat v at_seat here (Do call next) is).0
 
-    stop_both : (id : ℕ) → May p v (LookWord id) → vref_version (found (LookWord id)) % 2 ≢ 0 → NeedsBoth p (broken_at c m) (world_of p c views stopped) (stop_event v.rights)
+    stop_both : (id : ℕ) → May p v (OnSlot (LookWord id)) → vref_version (found (OnSlot (LookWord id))) % 2 ≢ 0 → NeedsBoth p (broken_at c m) (world_of p c views stopped) (stop_event v.rights)
     stop_both id may odd = ⊎_elim (λ idle. subst (λ rs. NeedsBoth p (broken_at c m) (world_of p c views stopped) (stop_event rs)) (sym idle) tt)
         (λ x. subst (λ rs. NeedsBoth p (broken_at c m) (world_of p c views stopped) (stop_event rs)) (sym x.1)
         (let f = odd_failed p (state c views) kept.sound.lawful m.seat v here (socket_id_slot id) (socket_id_version id) x.0.link x.2 (omega (arith, odd)) in inl (is_stopped f.slot f.version x.0.link f.life f.failed)))
         may.1
 
-    accept_both : (j own : ℕ) → May p v (SwapHead j own) → NeedsBoth p (broken_at c m) (world_of p c views stopped) (accept_event m.seat (found (SwapHead j own)) v.claims)
-    accept_both j own may = let x = may.1 in let holds = x.holds in let some_ = holds.held in subst (λ cs. NeedsBoth p (broken_at c m) (world_of p c views stopped) (accept_event m.seat (found (SwapHead j own)) cs)) (sym x.claims) (
+    accept_both : (j own : ℕ) → May p v (OnChain (SwapHead j own)) → NeedsBoth p (broken_at c m) (world_of p c views stopped) (accept_event m.seat (found (OnChain (SwapHead j own))) v.claims)
+    accept_both j own may = let x = may.1 in let holds = x.holds in let some_ = holds.held in subst (λ cs. NeedsBoth p (broken_at c m) (world_of p c views stopped) (accept_event m.seat (found (OnChain (SwapHead j own))) cs)) (sym x.claims) (
       life_at j x.life,
       has_link j x.life x.claim.link (holder_lives p (state c views) kept.sound.lawful.references m.seat v j x.life x.claim.link here x.holds).life,
       omega (arith, some_, own_holds views m.seat v here (life_at j x.life)),
     )
 
-    link_unborn : (j k : ℕ) → May p v (CreateLife j k) → (l : Life) → l.slot < p.slots → links_of views l k ≡ 0
+    link_unborn : (j k : ℕ) → May p v (OnSlot (CreateLife j k)) → (l : Life) → l.slot < p.slots → links_of views l k ≡ 0
     link_unborn j k may l inside = dite (ℕ_discrete (links_of views l k) 0) (λ z. z)
         (λ n. let mine = may.1 in absurd (claimed_unborn p (state c views) kept.sound.lawful.references j 2 k (omega (arith, mine, own_count (state c views) m.seat v here (is_stage 3 k) j)) l.slot l.version
         (record { inside = inside; given = omega (arith, n, counted (state c views) (is_linked l.version k) l.slot) })))
 
-    place_both : (l k n : ℕ) → Comes own_mode (StorePlace l k n) → May p v (StorePlace l k n) → stopped k ≡ false
+    place_both : (l k n : ℕ) → Comes own_mode (OnPlace (StorePlace l k n)) → May p v (OnPlace (StorePlace l k n)) → stopped k ≡ false
     place_both l k n fed may = let x = may.0 in ap stopped may.3 ∙ subst (λ y. FitsRight p v stopped y x.mine.right) fed (mode_fits p c views stopped kept m.seat seat v at_seat here x.mine.right may.1)
 
-    drop_both : (l k n : ℕ) → Comes own_mode (DropPlace l k n) → May p v (DropPlace l k n) → stopped k ≡ true
+    drop_both : (l k n : ℕ) → Comes own_mode (OnPlace (DropPlace l k n)) → May p v (OnPlace (DropPlace l k n)) → stopped k ≡ true
     drop_both l k n dead may = let x = may.0 in ap stopped may.3 ∙ subst (λ y. FitsRight p v stopped y x.mine.right) dead (mode_fits p c views stopped kept m.seat seat v at_seat here x.mine.right may.1)
 
     cut : (k : ℕ) → messages.MayCome (standing.messages p c views) (messages.Dropped k) → IsCutOff (world_of p c views stopped) k
@@ -247,18 +247,18 @@ module _ (p : Plan) (c : Core) (views : List View) (stopped : ℕ → Bool) (m :
 
     step_both : (call : TableStep) (next : ℕ → Program) → first_step seat.program ≡ Do call next → May p v call → lives.MayCome (plain views) (lives_seen.event_of m.seat call (found call) v)
         → messages.MayCome (standing.messages p c views) (messages_seen.event_of call (found call) v) → Both call
-    step_both (CreateLife j k) next is may b q = (link_unborn j k may, given_unheld p.slots (plain views) (plain_law (λ (home : Home). home) p (state c views) kept.sound.lawful) (life_at j (vref_version (found (CreateLife j k)))) may.0 b)
-    step_both (AddRef id) next is may b q = both_if (eqb (vref_version (found (AddRef id))) (socket_id_version id)) (Hold (life_of id) m.seat) Nothing tt tt
-    step_both (SubRef j) next is may b q = both_if (nat_lt 0 (marks_of is_probe j v)) Nothing (Drop (life_at j (even_version (found (SubRef j)))) m.seat) tt tt
-    step_both (SetOdd j) next is may b q = both_if (eqb (vref_version (found (SetOdd j)) % 2) 0) (Fail (life_at j (vref_version (found (SetOdd j)))) m.seat) Nothing tt tt
-    step_both (Recycle j from) next is may b q = both_if (eqb (found (Recycle j from)) from) (End (life_at j (vref_version from - 1))) Nothing tt tt
-    step_both (ClaimRequest id r) next is may b q = both_if (eqb (found (ClaimRequest id r) % 2) 0) (world.Claim r) Nothing tt tt
-    step_both (LookWord id) next is may b q = dite (ℕ_discrete (vref_version (found (LookWord id)) % 2) 0)
-        (λ even. subst (λ b. NeedsBoth p (broken_at c m) (world_of p c views stopped) (cond b Nothing (stop_event v.rights))) (sym (eq-eqb (vref_version (found (LookWord id)) % 2) 0 even)) tt)
-        (λ odd. subst (λ b. NeedsBoth p (broken_at c m) (world_of p c views stopped) (cond b Nothing (stop_event v.rights))) (sym (ne_eqb (vref_version (found (LookWord id)) % 2) 0 odd)) (stop_both id may odd))
-    step_both (SwapHead j own) next is may b q = accept_both j own may
-    step_both (StorePlace l k n) next is may b q = place_both l k n (comes (StorePlace l k n) next is) may
-    step_both (DropPlace l k n) next is may b q = (drop_both l k n (comes (DropPlace l k n) next is) may, cut k q)
+    step_both (OnSlot (CreateLife j k)) next is may b q = (link_unborn j k may, given_unheld p.slots (plain views) (plain_law (λ (home : Home). home) p (state c views) kept.sound.lawful) (life_at j (vref_version (found (OnSlot (CreateLife j k))))) may.0 b)
+    step_both (OnSlot (AddRef id)) next is may b q = both_if (eqb (vref_version (found (OnSlot (AddRef id)))) (socket_id_version id)) (Hold (life_of id) m.seat) Nothing tt tt
+    step_both (OnSlot (SubRef j)) next is may b q = both_if (nat_lt 0 (marks_of is_probe j v)) Nothing (Drop (life_at j (even_version (found (OnSlot (SubRef j))))) m.seat) tt tt
+    step_both (OnSlot (SetOdd j)) next is may b q = both_if (eqb (vref_version (found (OnSlot (SetOdd j))) % 2) 0) (Fail (life_at j (vref_version (found (OnSlot (SetOdd j))))) m.seat) Nothing tt tt
+    step_both (OnSlot (Recycle j from)) next is may b q = both_if (eqb (found (OnSlot (Recycle j from))) from) (End (life_at j (vref_version from - 1))) Nothing tt tt
+    step_both (OnChain (ClaimRequest id r)) next is may b q = both_if (eqb (found (OnChain (ClaimRequest id r)) % 2) 0) (world.Claim r) Nothing tt tt
+    step_both (OnSlot (LookWord id)) next is may b q = dite (ℕ_discrete (vref_version (found (OnSlot (LookWord id))) % 2) 0)
+        (λ even. subst (λ b. NeedsBoth p (broken_at c m) (world_of p c views stopped) (cond b Nothing (stop_event v.rights))) (sym (eq-eqb (vref_version (found (OnSlot (LookWord id))) % 2) 0 even)) tt)
+        (λ odd. subst (λ b. NeedsBoth p (broken_at c m) (world_of p c views stopped) (cond b Nothing (stop_event v.rights))) (sym (ne_eqb (vref_version (found (OnSlot (LookWord id))) % 2) 0 odd)) (stop_both id may odd))
+    step_both (OnChain (SwapHead j own)) next is may b q = accept_both j own may
+    step_both (OnPlace (StorePlace l k n)) next is may b q = place_both l k n (comes (OnPlace (StorePlace l k n)) next is) may
+    step_both (OnPlace (DropPlace l k n)) next is may b q = (drop_both l k n (comes (OnPlace (DropPlace l k n)) next is) may, cut k q)
     step_both call next is may b q = tt
 
     step_tick : (call : TableStep) (next : ℕ → Program) → first_step seat.program ≡ Do call next → May p v call

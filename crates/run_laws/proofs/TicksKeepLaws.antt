@@ -14,7 +14,7 @@ use Rattle.sock_model.specs.declared.view.View.{View}
 use Rattle.sock_model.specs.SlotRows.{marks_of}
 use Rattle.sock_model.specs.PlainReferences.{life_at, PlainLaw, plain}
 use Rattle.sock_model.specs.MarkWeights.{is_probe}
-use Rattle.seat_programs.specs.TableSteps.{TableStep, AddRef, SubRef, SetOdd, Recycle, LookWord, ClaimRequest, SwapHead}
+use Rattle.seat_programs.specs.TableSteps.{TableStep, OnSlot, OnChain, AddRef, SubRef, SetOdd, Recycle, LookWord, ClaimRequest, SwapHead}
 use Rattle.seat_programs.specs.Cores.{Core, found_at}
 use Rattle.seat_programs.specs.StepTables.{word_of}
 use Rattle.seat_programs.specs.Ticks.{Moment, ticked, run}
@@ -57,13 +57,13 @@ some_stop [] = tt
 some_stop (r ∷ rs) = tt
 
 some_step : (p : Plan) (v : View) → ((c : Claim) (cs : List Claim) → v.claims ≡ c ∷ cs → c.filled ≡ true → c.bytes ≢ []) → (i : ℕ) (call : TableStep) (found : ℕ) → May p v call → IsSome (step_event i call found v)
-some_step p v full i (AddRef id) found may = some_if (eqb (vref_version found) (socket_id_version id)) (Hold (life_of id) i) Nothing tt tt
-some_step p v full i (SubRef j) found may = some_if (nat_lt 0 (marks_of is_probe j v)) Nothing (Drop (life_at j (even_version found)) i) tt tt
-some_step p v full i (SetOdd j) found may = some_if (eqb (vref_version found % 2) 0) (Fail (life_at j (vref_version found)) i) Nothing tt tt
-some_step p v full i (Recycle j from) found may = some_if (eqb found from) (End (life_at j (vref_version from - 1))) Nothing tt tt
-some_step p v full i (LookWord id) found may = some_if (eqb (vref_version found % 2) 0) Nothing (stop_event v.rights) tt (some_stop v.rights)
-some_step p v full i (ClaimRequest id q) found may = some_if (eqb (found % 2) 0) (world.Claim q) Nothing tt tt
-some_step p v full i (SwapHead j own) found may = let x = may.1 in subst (λ cs. IsSome (accept_event i found cs)) (sym x.claims) (full x.claim [] x.claims x.is_filled)
+some_step p v full i (OnSlot (AddRef id)) found may = some_if (eqb (vref_version found) (socket_id_version id)) (Hold (life_of id) i) Nothing tt tt
+some_step p v full i (OnSlot (SubRef j)) found may = some_if (nat_lt 0 (marks_of is_probe j v)) Nothing (Drop (life_at j (even_version found)) i) tt tt
+some_step p v full i (OnSlot (SetOdd j)) found may = some_if (eqb (vref_version found % 2) 0) (Fail (life_at j (vref_version found)) i) Nothing tt tt
+some_step p v full i (OnSlot (Recycle j from)) found may = some_if (eqb found from) (End (life_at j (vref_version from - 1))) Nothing tt tt
+some_step p v full i (OnSlot (LookWord id)) found may = some_if (eqb (vref_version found % 2) 0) Nothing (stop_event v.rights) tt (some_stop v.rights)
+some_step p v full i (OnChain (ClaimRequest id q)) found may = some_if (eqb (found % 2) 0) (world.Claim q) Nothing tt tt
+some_step p v full i (OnChain (SwapHead j own)) found may = let x = may.1 in subst (λ cs. IsSome (accept_event i found cs)) (sym x.claims) (full x.claim [] x.claims x.is_filled)
 some_step p v full i _ found may = tt
 
 some_put : (k : ℕ) (bytes : List ℕ) (answer : Put) → IsSome (put_event k bytes answer)

@@ -5,7 +5,7 @@ use lib.ListN.{get_elem?}
 use Rattle.sock_words.specs.declared.plain.Plan.{Plan}
 use Rattle.sock_words.specs.PackedWords.{socket_id_version, socket_id_slot, vref_version}
 use Rattle.sock_model.specs.SocketTableLayout.{ref_index, link_index}
-use Rattle.seat_programs.specs.TableSteps.{SetOdd, LookWord}
+use Rattle.seat_programs.specs.TableSteps.{OnSlot, SetOdd, LookWord}
 use Rattle.seat_programs.specs.Programs.{Program, Do, Rest, PutBytes}
 use Rattle.seat_programs.specs.Cores.{Core}
 use Rattle.seat_programs.specs.Ticks.{Moment, run, broken_at}
@@ -24,12 +24,12 @@ PutsInto k other = ⊥
 
 -- a look that finds the life of the id live, which has link k
 abbrev pub LooksLive : List ℕ → ℕ → Program → Type 0
-LooksLive ws k (Do (LookWord id) next) = (vref_version (slice_index ws (ref_index (socket_id_slot id))) ≡ socket_id_version id) × (socket_id_version id % 2 ≡ 0) × (slice_index ws (link_index (socket_id_slot id)) ≡ k)
+LooksLive ws k (Do (OnSlot (LookWord id)) next) = (vref_version (slice_index ws (ref_index (socket_id_slot id))) ≡ socket_id_version id) × (socket_id_version id % 2 ≡ 0) × (slice_index ws (link_index (socket_id_slot id)) ≡ k)
 LooksLive ws k other = ⊥
 
 -- the version of the socket with link k becomes odd
 abbrev pub FailsSocket : List ℕ → ℕ → Program → Type 0
-FailsSocket ws k (Do (SetOdd i) next) = (vref_version (slice_index ws (ref_index i)) % 2 ≡ 0) × (slice_index ws (link_index i) ≡ k)
+FailsSocket ws k (Do (OnSlot (SetOdd i)) next) = (vref_version (slice_index ws (ref_index i)) % 2 ≡ 0) × (slice_index ws (link_index i) ≡ k)
 FailsSocket ws k other = ⊥
 
 abbrev pub Puts : Core → Moment → ℕ → Type 0

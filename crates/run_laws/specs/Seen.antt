@@ -15,7 +15,7 @@ use Rattle.sock_model.specs.ChainRows.{entry_of}
 use Rattle.sock_model.specs.PlainReferences.{life_at, plain}
 use Rattle.sock_model.specs.SlotRows.{marks_of}
 use Rattle.sock_model.specs.MarkWeights.{is_probe, is_linked}
-use Rattle.seat_programs.specs.TableSteps.{TableStep, CreateLife, AddRef, SubRef, SetOdd, Recycle, LookWord, ClaimRequest, SwapHead, FreeRequest, StorePlace, DropPlace}
+use Rattle.seat_programs.specs.TableSteps.{TableStep, OnSlot, OnChain, OnPlace, CreateLife, AddRef, SubRef, SetOdd, Recycle, LookWord, ClaimRequest, SwapHead, FreeRequest, StorePlace, DropPlace}
 use Rattle.seat_programs.specs.Programs.{Program, Do, PutBytes, AskReady}
 use Rattle.seat_programs.specs.Cores.{Core, found_at}
 use Rattle.seat_programs.specs.StepTables.{word_of}
@@ -43,17 +43,17 @@ stop_event (r ∷ rs) = Stop r.link
 
 -- the event of a step of this seat that found this word
 abbrev pub step_event : ℕ → TableStep → ℕ → View → Event
-step_event seat (CreateLife i k) found v = Birth (life_at i (vref_version found)) k
-step_event seat (AddRef id) found v = if vref_version found == socket_id_version id then Hold (life_of id) seat else Nothing
-step_event seat (SubRef i) found v = if nat_lt 0 (marks_of is_probe i v) then Nothing else Drop (life_at i (even_version found)) seat
-step_event seat (SetOdd i) found v = if vref_version found % 2 == 0 then Fail (life_at i (vref_version found)) seat else Nothing
-step_event seat (Recycle i from) found v = if found == from then End (life_at i (vref_version from - 1)) else Nothing
-step_event seat (LookWord id) found v = if vref_version found % 2 == 0 then Nothing else stop_event v.rights
-step_event seat (ClaimRequest id q) found v = if found % 2 == 0 then world.Claim q else Nothing
-step_event seat (SwapHead i own) found v = accept_event seat found v.claims
-step_event seat (StorePlace l k n) found v = Place k
-step_event seat (DropPlace l k n) found v = Dropped k
-step_event seat (FreeRequest q g) found v = Free q
+step_event seat (OnSlot (CreateLife i k)) found v = Birth (life_at i (vref_version found)) k
+step_event seat (OnSlot (AddRef id)) found v = if vref_version found == socket_id_version id then Hold (life_of id) seat else Nothing
+step_event seat (OnSlot (SubRef i)) found v = if nat_lt 0 (marks_of is_probe i v) then Nothing else Drop (life_at i (even_version found)) seat
+step_event seat (OnSlot (SetOdd i)) found v = if vref_version found % 2 == 0 then Fail (life_at i (vref_version found)) seat else Nothing
+step_event seat (OnSlot (Recycle i from)) found v = if found == from then End (life_at i (vref_version from - 1)) else Nothing
+step_event seat (OnSlot (LookWord id)) found v = if vref_version found % 2 == 0 then Nothing else stop_event v.rights
+step_event seat (OnChain (ClaimRequest id q)) found v = if found % 2 == 0 then world.Claim q else Nothing
+step_event seat (OnChain (SwapHead i own)) found v = accept_event seat found v.claims
+step_event seat (OnPlace (StorePlace l k n)) found v = Place k
+step_event seat (OnPlace (DropPlace l k n)) found v = Dropped k
+step_event seat (OnChain (FreeRequest q g)) found v = Free q
 step_event seat other found v = Nothing
 
 -- the event of a put, and of the question whether a link takes more

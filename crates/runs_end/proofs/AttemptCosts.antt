@@ -6,7 +6,7 @@ use Rattle.sock_model.specs.declared.chain.Heading.{Heading}
 use Rattle.sock_model.specs.declared.view.View.{View}
 use Rattle.sock_model.specs.Entries.{ticket_of}
 use Rattle.seat_programs.specs.sock_message.specs.Asked.{Asked, name_of, frame_of}
-use Rattle.seat_programs.specs.TableSteps.{AddRef, SubRef, Recycle, FreeSlot, LoadLink, LoadName, TakeLink, FinishLink, PutLink, LookWord, FindLink, ClaimRequest, PutMessage, Unconnect, SwapHead, Connect}
+use Rattle.seat_programs.specs.TableSteps.{OnSlot, OnName, OnChain, OnLink, OnMessage, AddRef, SubRef, Recycle, FreeSlot, LoadLink, LoadName, TakeLink, FinishLink, PutLink, LookWord, FindLink, ClaimRequest, PutMessage, Unconnect, SwapHead, Connect}
 use Rattle.seat_programs.specs.Asides.{StoreAt}
 use Rattle.seat_programs.specs.LoopHeads.{Unlocking, IsOpen, HasNext, Deciding, HasEnded, Locking, NotThere, Has}
 use Rattle.seat_programs.specs.LoopHeads as heads
@@ -24,22 +24,22 @@ use Rattle.runs_end.proofs.Costs.{Lasting, lasting_more, either_lasts, does, tak
 module _ (p : Plan) where
   -- ## References
 
-  pub frees_lasts : (i : ℕ) (next : Program) (n : ℕ) (b : Bool) → Lasting p next n → Lasting p (cond b (Do (FreeSlot i) (λ _. next)) next) (1 + n)
-  frees_lasts i next n b l = either_lasts p (Do (FreeSlot i) (λ _. next)) next (1 + n) b (does p (FreeSlot i) (λ _. next) n (1 + n) (omega arith) (λ found. l)) (lasting_more p next n (1 + n) (omega arith) l)
+  pub frees_lasts : (i : ℕ) (next : Program) (n : ℕ) (b : Bool) → Lasting p next n → Lasting p (cond b (Do (OnSlot (FreeSlot i)) (λ _. next)) next) (1 + n)
+  frees_lasts i next n b l = either_lasts p (Do (OnSlot (FreeSlot i)) (λ _. next)) next (1 + n) b (does p (OnSlot (FreeSlot i)) (λ _. next) n (1 + n) (omega arith) (λ found. l)) (lasting_more p next n (1 + n) (omega arith) l)
 
-  pub ends_link : (k : ℕ) (next : Program) (n : ℕ) → Lasting p next n → Lasting p (Do (TakeLink k) (λ _. Do (FinishLink k) (λ _. Do (PutLink k) (λ _. next)))) (3 + n)
-  ends_link k next n l = does p (TakeLink k) (λ _. Do (FinishLink k) (λ _. Do (PutLink k) (λ _. next))) (2 + n) (3 + n) (omega arith)
-      (λ a. does p (FinishLink k) (λ _. Do (PutLink k) (λ _. next)) (1 + n) (2 + n) (omega arith) (λ b. does p (PutLink k) (λ _. next) n (1 + n) (omega arith) (λ c. l)))
+  pub ends_link : (k : ℕ) (next : Program) (n : ℕ) → Lasting p next n → Lasting p (Do (OnLink (TakeLink k)) (λ _. Do (OnLink (FinishLink k)) (λ _. Do (OnLink (PutLink k)) (λ _. next)))) (3 + n)
+  ends_link k next n l = does p (OnLink (TakeLink k)) (λ _. Do (OnLink (FinishLink k)) (λ _. Do (OnLink (PutLink k)) (λ _. next))) (2 + n) (3 + n) (omega arith)
+      (λ a. does p (OnLink (FinishLink k)) (λ _. Do (OnLink (PutLink k)) (λ _. next)) (1 + n) (2 + n) (omega arith) (λ b. does p (OnLink (PutLink k)) (λ _. next) n (1 + n) (omega arith) (λ c. l)))
 
   recycle_lasts : (i from : ℕ) (next : Bool → Program) (n : ℕ) → ((b : Bool) → Lasting p (next b) n) → Lasting p (recycle i from next) (6 + n)
-  recycle_lasts i from next n l v = let freeing : Program = cond (nat_le (vref_version from + 1) LAST_VERSION) (Do (FreeSlot i) (λ _. next true)) (next true) in
-      let ending : ℕ → Program = λ k. Do (TakeLink k) (λ _. Do (FinishLink k) (λ _. Do (PutLink k) (λ _. freeing))) in (
+  recycle_lasts i from next n l v = let freeing : Program = cond (nat_le (vref_version from + 1) LAST_VERSION) (Do (OnSlot (FreeSlot i)) (λ _. next true)) (next true) in
+      let ending : ℕ → Program = λ k. Do (OnLink (TakeLink k)) (λ _. Do (OnLink (FinishLink k)) (λ _. Do (OnLink (PutLink k)) (λ _. freeing))) in (
         5 + n,
         omega arith,
-        λ found hand f. either_lasts p (Do (LoadLink i (vref_version from + 1)) ending) (next false) (5 + n) (found == from)
-            (does p (LoadLink i (vref_version from + 1)) ending (4 + n) (5 + n) (omega arith) (λ k. lasting_more p (ending k) (3 + (1 + n)) (4 + n) (omega arith)
+        λ found hand f. either_lasts p (Do (OnSlot (LoadLink i (vref_version from + 1))) ending) (next false) (5 + n) (found == from)
+            (does p (OnSlot (LoadLink i (vref_version from + 1))) ending (4 + n) (5 + n) (omega arith) (λ k. lasting_more p (ending k) (3 + (1 + n)) (4 + n) (omega arith)
             (ends_link k freeing (1 + n) (frees_lasts i (next true) n (nat_le (vref_version from + 1) LAST_VERSION) (l true)))))
-            (lasting_more p (next false) n (5 + n) (omega arith) (l false)) (row p (Recycle i from) found hand v),
+            (lasting_more p (next false) n (5 + n) (omega arith) (l false)) (row p (OnSlot (Recycle i from)) found hand v),
       )
 
   pub release_lasts : (i : ℕ) (next : Bool → Program) (n : ℕ) → ((b : Bool) → Lasting p (next b) n) → Lasting p (release i next) (7 + n)
@@ -47,7 +47,7 @@ module _ (p : Plan) where
     6 + n,
     omega arith,
     λ found hand f. either_lasts p (recycle i (found - 1) next) (next false) (6 + n) ((vref_version found % 2 == 1) && (vref_nref found == 1)) (recycle_lasts i (found - 1) next n l) (lasting_more p (next false) n (6 + n) (omega arith) (l false))
-        (row p (SubRef i) found hand v),
+        (row p (OnSlot (SubRef i)) found hand v),
   )
 
   -- a reference, where what follows the word of another version has the release beside
@@ -56,7 +56,7 @@ module _ (p : Plan) where
     n,
     omega arith,
     λ found hand f. either_lasts p held (release (socket_id_slot id) (λ _. gone found)) n (vref_version found == socket_id_version id) l
-        (lasting_more p (release (socket_id_slot id) (λ _. gone found)) (7 + m) n le (release_lasts (socket_id_slot id) (λ _. gone found) m (λ b. k found))) (row p (AddRef id) found hand v),
+        (lasting_more p (release (socket_id_slot id) (λ _. gone found)) (7 + m) n le (release_lasts (socket_id_slot id) (λ _. gone found) m (λ b. k found))) (row p (OnSlot (AddRef id)) found hand v),
   )
 
   -- ## A message
@@ -66,16 +66,16 @@ module _ (p : Plan) where
   write_lasts id q own after m k v = (
     7 + m,
     omega arith,
-    λ link hand f. (6 + m, omega arith, λ places. takes_first p after m k (record { id = id; link = link; last = own; places = places }) own q (link_away (row p (FindLink (socket_id_slot id) (socket_id_version id)) link hand v))),
+    λ link hand f. (6 + m, omega arith, λ places. takes_first p after m k (record { id = id; link = link; last = own; places = places }) own q (link_away (row p (OnSlot (FindLink (socket_id_slot id) (socket_id_version id))) link hand v))),
   )
 
   pub accept_lasts : (id q g : ℕ) (heading : Heading) (bytes : List ℕ) (after : Program) (m : ℕ) → Lasting p after m → Lasting p (accept id q g heading bytes after) (weight (length bytes) + (13 + ACCEPT) + m)
   accept_lasts id q g heading bytes after m k = let own : ℕ = ticket_of q g in
-      let swapped : ℕ → Program = λ found. cond (nat_lt found IDLE) (Do (Connect q found) (λ _. after)) (write_link id q own after) in
-      does p (PutMessage q heading bytes) (λ _. Do (Unconnect q) (λ _. Do (SwapHead (socket_id_slot id) own) swapped)) (12 + ACCEPT + m) (weight (length bytes) + (13 + ACCEPT) + m) (omega arith)
-      (λ a. does p (Unconnect q) (λ _. Do (SwapHead (socket_id_slot id) own) swapped) (11 + ACCEPT + m) (12 + ACCEPT + m) (omega arith)
-      (λ b. does p (SwapHead (socket_id_slot id) own) swapped (8 + m) (11 + ACCEPT + m) (omega arith)
-      (λ found. either_lasts p (Do (Connect q found) (λ _. after)) (write_link id q own after) (8 + m) (nat_lt found IDLE) (does p (Connect q found) (λ _. after) m (8 + m) (omega arith) (λ c. k)) (write_lasts id q own after m k))))
+      let swapped : ℕ → Program = λ found. cond (nat_lt found IDLE) (Do (OnChain (Connect q found)) (λ _. after)) (write_link id q own after) in
+      does p (OnMessage (PutMessage q heading bytes)) (λ _. Do (OnChain (Unconnect q)) (λ _. Do (OnChain (SwapHead (socket_id_slot id) own)) swapped)) (12 + ACCEPT + m) (weight (length bytes) + (13 + ACCEPT) + m) (omega arith)
+      (λ a. does p (OnChain (Unconnect q)) (λ _. Do (OnChain (SwapHead (socket_id_slot id) own)) swapped) (11 + ACCEPT + m) (12 + ACCEPT + m) (omega arith)
+      (λ b. does p (OnChain (SwapHead (socket_id_slot id) own)) swapped (8 + m) (11 + ACCEPT + m) (omega arith)
+      (λ found. either_lasts p (Do (OnChain (Connect q found)) (λ _. after)) (write_link id q own after) (8 + m) (nat_lt found IDLE) (does p (OnChain (Connect q found)) (λ _. after) m (8 + m) (omega arith) (λ c. k)) (write_lasts id q own after m k))))
 
   -- the first free request is claimed, whether or not there is one
   pub claims_lasts : (heading : Heading) (bytes : List ℕ) (full accepted : Program) (m : ℕ) → Lasting p full m → Lasting p accepted m → (left q id : ℕ)
@@ -86,7 +86,7 @@ module _ (p : Plan) where
     omega arith,
     λ found hand g. either_lasts p (accept id q (found / 2) heading bytes accepted) (claims_from left (q + 1) id heading bytes full accepted) n (found % 2 == 0)
         (lasting_more p (accept id q (found / 2) heading bytes accepted) (weight (length bytes) + (13 + ACCEPT) + m) n (omega arith) (accept_lasts id q (found / 2) heading bytes accepted m a))
-        (claims_lasts heading bytes full accepted m f a left (q + 1) id) (row p (ClaimRequest id q) found hand v),
+        (claims_lasts heading bytes full accepted m f a left (q + 1) id) (row p (OnChain (ClaimRequest id q)) found hand v),
   )
 
   -- ## Attempts
@@ -111,21 +111,21 @@ module _ (p : Plan) where
         (claims_lasts heading bytes (refused 3001) lets_go (POST + (7 + m)) (refused_lasts 3001) (lasting_more p lets_go (7 + m) (POST + (7 + m)) (omega arith) lets_go_lasts) requests 0 socket))
         (lasting_more p (refused 1009) (POST + (7 + m)) (requests + (weight 131072 + (13 + ACCEPT) + (POST + (7 + m)))) (omega arith) (refused_lasts 1009))
 
-    held_lasts : Lasting p (Do (FindLink (socket_id_slot socket) (socket_id_version socket)) (λ k. Aside (StoreAt o (at_word first slot k n)) (λ _. Do (LookWord socket) (λ found.
+    held_lasts : Lasting p (Do (OnSlot (FindLink (socket_id_slot socket) (socket_id_version socket))) (λ k. Aside (StoreAt o (at_word first slot k n)) (λ _. Do (OnSlot (LookWord socket)) (λ found.
         cond (vref_version found % 2 == 0) (claims_from requests 0 socket heading bytes (refused 3001) lets_go) (refused 1009)))))
         (requests + (weight 131072 + (POST + (CHANGE + (22 + ACCEPT + m)))))
-    held_lasts = let looks : Program = Do (LookWord socket) (λ found. cond (vref_version found % 2 == 0) (claims_from requests 0 socket heading bytes (refused 3001) lets_go) (refused 1009)) in
-        does p (FindLink (socket_id_slot socket) (socket_id_version socket)) (λ k. Aside (StoreAt o (at_word first slot k n)) (λ _. looks)) (requests + (weight 131072 + (POST + (CHANGE + (21 + ACCEPT + m))))) (requests + (weight 131072 + (POST + (CHANGE + (22 + ACCEPT + m))))) (omega arith)
+    held_lasts = let looks : Program = Do (OnSlot (LookWord socket)) (λ found. cond (vref_version found % 2 == 0) (claims_from requests 0 socket heading bytes (refused 3001) lets_go) (refused 1009)) in
+        does p (OnSlot (FindLink (socket_id_slot socket) (socket_id_version socket))) (λ k. Aside (StoreAt o (at_word first slot k n)) (λ _. looks)) (requests + (weight 131072 + (POST + (CHANGE + (21 + ACCEPT + m))))) (requests + (weight 131072 + (POST + (CHANGE + (22 + ACCEPT + m))))) (omega arith)
         (λ k u _ _. (
           requests + (weight 131072 + (POST + (21 + ACCEPT + m))),
           omega arith,
-          does p (LookWord socket) (λ found. cond (vref_version found % 2 == 0) (claims_from requests 0 socket heading bytes (refused 3001) lets_go) (refused 1009)) (requests + (weight 131072 + (13 + ACCEPT) + (POST + (7 + m)))) (requests + (weight 131072 + (POST + (21 + ACCEPT + m)))) (omega arith)
+          does p (OnSlot (LookWord socket)) (λ found. cond (vref_version found % 2 == 0) (claims_from requests 0 socket heading bytes (refused 3001) lets_go) (refused 1009)) (requests + (weight 131072 + (13 + ACCEPT) + (POST + (7 + m)))) (requests + (weight 131072 + (POST + (21 + ACCEPT + m)))) (omega arith)
               looked_lasts u,
         ))
 
-    over_lasts : Lasting p (add_reference socket (Do (FindLink (socket_id_slot socket) (socket_id_version socket)) (λ k. Aside (StoreAt o (at_word first slot k n)) (λ _. Do (LookWord socket) (λ found.
+    over_lasts : Lasting p (add_reference socket (Do (OnSlot (FindLink (socket_id_slot socket) (socket_id_version socket))) (λ k. Aside (StoreAt o (at_word first slot k n)) (λ _. Do (OnSlot (LookWord socket)) (λ found.
         cond (vref_version found % 2 == 0) (claims_from requests 0 socket heading bytes (refused 3001) lets_go) (refused 1009))))) (λ _. post id 1009 n next)) (requests + weight 131072 + POST + CHANGE + 23 + ACCEPT + m)
-    over_lasts = let held : Program = Do (FindLink (socket_id_slot socket) (socket_id_version socket)) (λ k. Aside (StoreAt o (at_word first slot k n)) (λ _. Do (LookWord socket) (λ found.
+    over_lasts = let held : Program = Do (OnSlot (FindLink (socket_id_slot socket) (socket_id_version socket))) (λ k. Aside (StoreAt o (at_word first slot k n)) (λ _. Do (OnSlot (LookWord socket)) (λ found.
         cond (vref_version found % 2 == 0) (claims_from requests 0 socket heading bytes (refused 3001) lets_go) (refused 1009)))) in
         lasting_more p (add_reference socket held (λ _. post id 1009 n next)) (1 + (requests + (weight 131072 + (POST + (CHANGE + (22 + ACCEPT + m)))))) (requests + weight 131072 + POST + CHANGE + 23 + ACCEPT + m) (omega arith)
         (address_lasts socket held (λ _. post id 1009 n next) (requests + (weight 131072 + (POST + (CHANGE + (22 + ACCEPT + m))))) (POST + m) (omega arith) held_lasts (λ found v. post_lasts p v id 1009 n next m (POST + m) (l v) (omega arith)))
@@ -144,7 +144,7 @@ module _ (p : Plan) where
     next_lasts v heads.GoesOn = lasts_more p v next m (m + 0) (omega arith) (l v)
 
     tried_lasts : (asked : Asked) → AskedFits p asked → (v : View) (exit : Unlocking) → LastsFor p v (tried_again p.requests id n asked next exit) (1 + its_cost + (unlocking_gain exit + 0))
-    tried_lasts asked fits v (IsOpen w) = does p (LoadName (name_of asked n)) (λ word. cond (word == 0) (post id 1009 n next) (attempt p.requests asked id n (word - 1) next)) its_cost (1 + its_cost + (0 + 0)) (omega arith)
+    tried_lasts asked fits v (IsOpen w) = does p (OnName (LoadName (name_of asked n))) (λ word. cond (word == 0) (post id 1009 n next) (attempt p.requests asked id n (word - 1) next)) its_cost (1 + its_cost + (0 + 0)) (omega arith)
         (λ word. either_lasts p (post id 1009 n next) (attempt p.requests asked id n (word - 1) next) its_cost (word == 0) (λ u. post_lasts p u id 1009 n next m its_cost (l u) (omega arith)) (attempt_lasts asked id n (word - 1) next m (fits.short id n) l)) v
     tried_lasts asked fits v (HasNext w e) = decide_lasts p v id w e (decided id next) m (1 + its_cost + (ERROR + 0)) (next_lasts v) (omega arith)
 

@@ -16,7 +16,7 @@ use Rattle.sock_model.specs.declared.view.View.{View}
 use Rattle.sock_model.specs.SocketTableLayout.{next_index, open_index}
 use Rattle.sock_model.specs.ChainRows.{with_right}
 use Rattle.sock_model.specs.SlotRows.{met}
-use Rattle.seat_programs.specs.TableSteps.{ReadNext}
+use Rattle.seat_programs.specs.TableSteps.{OnChain, ReadNext}
 use Rattle.seat_programs.specs.Writings as heads
 use Rattle.seat_programs.specs.LoopHeads.{Head, Exit, Locks, Joins, Opens, Reads, Discards}
 use Rattle.seat_programs.specs.Programs.{Program, Rest, Write, Round}
@@ -63,7 +63,7 @@ module _ (p : Plan) (i : ℕ) (c : Core) (vs : List View) (v : View) (at_view : 
   -- a seat that waits keeps its view
   views_stay : (program : Program) (answer : Answer) → GoesOn p v program → waits_at p c answer program ≡ true → views_of p i c vs v answer program ≡ vs
   views_stay (Write (heads.Reversing h top place after) then_) answer g is = let found : ℕ = slice_index c.words (next_index p (ticket_request place)) in
-      set_same (row p (ReadNext (ticket_request place)) found (hand_at p c.words c.homes (ReadNext (ticket_request place))) v) (walk_same top place after g.0.0 g.0.1.one g.0.2.stage_is found is)
+      set_same (row p (OnChain (ReadNext (ticket_request place))) found (hand_at p c.words c.homes (OnChain (ReadNext (ticket_request place)))) v) (walk_same top place after g.0.0 g.0.1.one g.0.2.stage_is found is)
   views_stay (Write (heads.Waits h now heading left taken) after) (OfReady NotYet) g is = refl
   views_stay (Write (heads.Waits h now heading left taken) after) _ g is = absurd (true≢false (sym is))
   views_stay (Round head next) answer g is = round_stays head next answer is

@@ -16,7 +16,7 @@ use Rattle.sock_model.specs.MarkWeights.{is_probe, is_hold, is_coding, is_saw}
 use Rattle.sock_model.specs.Marks.{about, at, without_at}
 use Rattle.sock_model.specs.SlotRows.{marks_of, back, looked}
 use Rattle.sock_model.specs.ChainRows.{with_right}
-use Rattle.seat_programs.specs.TableSteps.{TableStep, LookWord, LoadCode, SetOdd, SubRef, StoreCode, StorePlace, DropPlace, EmptyHead, ReadNext, ReverseNext, FreeRequest}
+use Rattle.seat_programs.specs.TableSteps.{TableStep, OnSlot, OnChain, OnPlace, LookWord, LoadCode, SetOdd, SubRef, StoreCode, StorePlace, DropPlace, EmptyHead, ReadNext, ReverseNext, FreeRequest}
 use Rattle.seat_programs.specs.Writings.{Holder, Writing, Puts, Waits, Empties, Reversing}
 use Rattle.seat_programs.specs.Programs.{Program, Do, TakeMessage, TakeHome, PutBytes, Write, LAST_GENERATION, set_failed}
 use Rattle.seat_programs.specs.SendAndWritePrograms.{freed, one_more, passed, passed_telling, tell_drop, placed, dropped, put_answered, block, first_put}
@@ -61,9 +61,9 @@ pub set_failed_lasts : (p : Plan) (id code : ℕ) (next : ℕ → Program) (n : 
 set_failed_lasts p id code next n l v = let i : ℕ = socket_id_slot id in let h : ℕ = socket_id_version id in (
   2 + n,
   omega arith,
-  λ found hand f. either_lasts p (Do (StoreCode i h code) (λ _. Do (SubRef i) (λ _. next found))) (next found) (2 + n) (vref_version found % 2 == 0)
-      (does p (StoreCode i h code) (λ _. Do (SubRef i) (λ _. next found)) (1 + n) (2 + n) (omega arith) (λ a. does p (SubRef i) (λ _. next found) n (1 + n) (omega arith) (λ b. l found)))
-      (lasting_more p (next found) n (2 + n) (omega arith) (l found)) (row p (SetOdd i) found hand v),
+  λ found hand f. either_lasts p (Do (OnSlot (StoreCode i h code)) (λ _. Do (OnSlot (SubRef i)) (λ _. next found))) (next found) (2 + n) (vref_version found % 2 == 0)
+      (does p (OnSlot (StoreCode i h code)) (λ _. Do (OnSlot (SubRef i)) (λ _. next found)) (1 + n) (2 + n) (omega arith) (λ a. does p (OnSlot (SubRef i)) (λ _. next found) n (1 + n) (omega arith) (λ b. l found)))
+      (lasting_more p (next found) n (2 + n) (omega arith) (l found)) (row p (OnSlot (SetOdd i)) found hand v),
 )
 
 -- ## Notes that a seat saw a life failed
@@ -119,8 +119,8 @@ module _ (p : Plan) (id code : ℕ) (next : Program) (n : ℕ) (then_ : (u : Vie
   abbrev own_life : ℕ
   own_life = socket_id_version id
 
-  gives_back : (u : View) → Saw_failed own_slot own_life u → LastsFor p u (Do (SubRef own_slot) (λ _. next)) (n + 1)
-  gives_back u saw = (n, omega arith, λ found hand f. then_ (row p (SubRef own_slot) found hand u) (kept found (eqb (vref_version found % 2) 1) (eqb (vref_nref found) 1)))
+  gives_back : (u : View) → Saw_failed own_slot own_life u → LastsFor p u (Do (OnSlot (SubRef own_slot)) (λ _. next)) (n + 1)
+  gives_back u saw = (n, omega arith, λ found hand f. then_ (row p (OnSlot (SubRef own_slot)) found hand u) (kept found (eqb (vref_version found % 2) 1) (eqb (vref_nref found) 1)))
     where
       rest_is : (found : ℕ) (b : Bool) → 0 < total (is_saw (own_life + 1)) (about own_slot (without_at own_slot (cond b is_probe (is_hold (vref_version found - vref_version found % 2))) u.marks))
       rest_is found true = omega (arith, saw, saw_stays is_probe (λ w. refl) (own_life + 1) own_slot u.marks)
@@ -131,11 +131,11 @@ module _ (p : Plan) (id code : ℕ) (next : Program) (n : ℕ) (then_ : (u : Vie
       kept found true false = rest_is found (ltb 0 (marks_of is_probe own_slot u))
       kept found false d = rest_is found (ltb 0 (marks_of is_probe own_slot u))
 
-  saves_code : (u : View) → Saw_failed own_slot own_life u → LastsFor p u (Do (StoreCode own_slot own_life code) (λ _. Do (SubRef own_slot) (λ _. next))) (n + 2)
+  saves_code : (u : View) → Saw_failed own_slot own_life u → LastsFor p u (Do (OnSlot (StoreCode own_slot own_life code)) (λ _. Do (OnSlot (SubRef own_slot)) (λ _. next))) (n + 2)
   saves_code u saw = (
     n + 1,
     omega arith,
-    λ found hand f. gives_back (row p (StoreCode own_slot own_life code) found hand u)
+    λ found hand f. gives_back (row p (OnSlot (StoreCode own_slot own_life code)) found hand u)
         (omega (arith, saw, saw_stays (is_coding own_life) (λ w. refl) (own_life + 1) own_slot u.marks, saw_more (own_life + 1) own_slot (Told own_life code) (without_at own_slot (is_coding own_life) u.marks), saw_more (own_life + 1) own_slot (Stored own_life code) (at own_slot (Told own_life code) ∷ without_at own_slot (is_coding own_life) u.marks))),
   )
 
@@ -144,7 +144,7 @@ module _ (p : Plan) (id code : ℕ) (next : Program) (n : ℕ) (then_ : (u : Vie
   failed_lasts u holds = (n + 2, omega arith, λ found hand f. branch (vref_version found) (f own_life holds) (eqb (vref_version found % 2) 0) refl)
     where
       branch : (w : ℕ) → w - w % 2 ≡ own_life → (b : Bool) → eqb (w % 2) 0 ≡ b
-          → LastsFor p (record u { marks = cond b (at own_slot (Hold w) ∷ at own_slot (Coding w) ∷ at own_slot (Failer w) ∷ at own_slot (Saw (w + 1)) ∷ u.marks) (at own_slot (Saw w) ∷ u.marks) }) (cond b (Do (StoreCode own_slot own_life code) (λ _. Do (SubRef own_slot) (λ _. next))) next) (n + 2)
+          → LastsFor p (record u { marks = cond b (at own_slot (Hold w) ∷ at own_slot (Coding w) ∷ at own_slot (Failer w) ∷ at own_slot (Saw (w + 1)) ∷ u.marks) (at own_slot (Saw w) ∷ u.marks) }) (cond b (Do (OnSlot (StoreCode own_slot own_life code)) (λ _. Do (OnSlot (SubRef own_slot)) (λ _. next))) next) (n + 2)
       branch w same true is = let q : w + 1 ≡ own_life + 1 = word_even w own_life same (eqb-true (w % 2) 0 is) in let es : List SlotMark = at own_slot (Saw (w + 1)) ∷ u.marks in
           saves_code (record u { marks = at own_slot (Hold w) ∷ at own_slot (Coding w) ∷ at own_slot (Failer w) ∷ at own_slot (Saw (w + 1)) ∷ u.marks })
           (omega (
@@ -182,25 +182,25 @@ module _ (p : Plan) (after : Program) (m : ℕ) (follows : Lasting p after m) wh
   )
 
   freed_lasts : (now : ℕ) (next : Program) (n : ℕ) → Lasting p next n → Lasting p (freed now next) (1 + n)
-  freed_lasts now next n l = either_lasts p next (Do (FreeRequest (ticket_request now) (ticket_generation now)) (λ _. next)) (1 + n) (eqb (ticket_generation now) LAST_GENERATION) (lasting_more p next n (1 + n) (omega arith) l)
-      (λ u. (n, omega arith, λ found hand f. l (row p (FreeRequest (ticket_request now) (ticket_generation now)) found hand u)))
+  freed_lasts now next n l = either_lasts p next (Do (OnChain (FreeRequest (ticket_request now) (ticket_generation now))) (λ _. next)) (1 + n) (eqb (ticket_generation now) LAST_GENERATION) (lasting_more p next n (1 + n) (omega arith) l)
+      (λ u. (n, omega arith, λ found hand f. l (row p (OnChain (FreeRequest (ticket_request now) (ticket_generation now))) found hand u)))
 
   -- where what is told costs so much
   telling_lasts : (h : Holder) (now : ℕ) (tells : Program → Program) (t : ℕ) → ((x : Program) (n : ℕ) → Lasting p x n → Lasting p (tells x) (t + n)) → Lasting p (passed_telling h now tells after) (5 + t + m)
   telling_lasts h now tells t told = let next_of : ℕ → Program = λ next. TakeMessage (ticket_request next) (λ heading bytes. Write (Puts h next heading bytes 0 false) after) in
-      either_lasts p (freed now (tells (Write (Empties h) after))) (Do (ReadNext (ticket_request now)) (λ next. freed now (tells (next_of next)))) (5 + t + m) (eqb now h.last)
+      either_lasts p (freed now (tells (Write (Empties h) after))) (Do (OnChain (ReadNext (ticket_request now))) (λ next. freed now (tells (next_of next)))) (5 + t + m) (eqb now h.last)
       (lasting_more p (freed now (tells (Write (Empties h) after))) (1 + (t + (4 + m))) (5 + t + m) (omega arith) (freed_lasts now (tells (Write (Empties h) after)) (t + (4 + m)) (told (Write (Empties h) after) (4 + m) (λ u. heads_lasts u (Empties h) (4 + m) (omega arith)))))
       (λ u. (
         4 + t + m,
         omega arith,
-        λ next hand f. lasting_more p (freed now (tells (next_of next))) (1 + (t + (1 + m))) (4 + t + m) (omega arith) (freed_lasts now (tells (next_of next)) (t + (1 + m)) (told (next_of next) (1 + m) (takes_next h next (ticket_request next)))) (row p (ReadNext (ticket_request now)) next hand u),
+        λ next hand f. lasting_more p (freed now (tells (next_of next))) (1 + (t + (1 + m))) (4 + t + m) (omega arith) (freed_lasts now (tells (next_of next)) (t + (1 + m)) (told (next_of next) (1 + m) (takes_next h next (ticket_request next)))) (row p (OnChain (ReadNext (ticket_request now))) next hand u),
       ))
 
   passed_lasts : (h : Holder) (now : ℕ) → Lasting p (passed h now after) (5 + m)
   passed_lasts h now = lasting_more p (passed h now after) (5 + 0 + m) (5 + m) (omega arith) (telling_lasts h now (λ x. x) 0 (λ x n l. lasting_more p x n (0 + n) (omega arith) l))
 
   placed_lasts : (h : Holder) (now : ℕ) (heading : Heading) → Lasting p (placed h now heading after) (6 + m)
-  placed_lasts h now heading u = (5 + m, omega arith, λ found hand f. passed_lasts (one_more h) now (row p (StorePlace heading.label.place h.link h.places) found hand u))
+  placed_lasts h now heading u = (5 + m, omega arith, λ found hand f. passed_lasts (one_more h) now (row p (OnPlace (StorePlace heading.label.place h.link h.places)) found hand u))
 
   -- a message is dropped, and its call is told
   tell_lasts : (heading : Heading) (code : ℕ) (x : Program) (n : ℕ) → Lasting p x n → Lasting p (tell_drop heading code x) (POST + n)
@@ -214,7 +214,7 @@ module _ (p : Plan) (after : Program) (m : ℕ) (follows : Lasting p after m) wh
     λ code hand f. (
       5 + POST + m,
       omega arith,
-      λ found hand' g. telling_lasts (one_more h) now (tell_drop heading code) POST (tell_lasts heading code) (row p (DropPlace heading.label.place h.link h.places) found hand' (row p (LoadCode (socket_id_slot h.id) (socket_id_version h.id)) code hand u)),
+      λ found hand' g. telling_lasts (one_more h) now (tell_drop heading code) POST (tell_lasts heading code) (row p (OnPlace (DropPlace heading.label.place h.link h.places)) found hand' (row p (OnSlot (LoadCode (socket_id_slot h.id) (socket_id_version h.id))) code hand u)),
     ),
   )
 
@@ -237,7 +237,7 @@ module _ (p : Plan) (after : Program) (m : ℕ) (follows : Lasting p after m) wh
     first_put_lasts = let n : ℕ = weight (length bytes) + 4 + m in
         let puts_first : Program = PutBytes h.link false (part heading.parts bytes 0) (put_answered h now heading bytes 0 after) in
         let looks_again : Program = Write (Puts h now heading bytes 0 false) after in
-        does p (LookWord h.id) (λ found. cond (vref_version found % 2 == 0) puts_first looks_again) n (weight (length bytes) + 5 + m) (omega arith)
+        does p (OnSlot (LookWord h.id)) (λ found. cond (vref_version found % 2 == 0) puts_first looks_again) n (weight (length bytes) + 5 + m) (omega arith)
         (λ found. either_lasts p puts_first looks_again n (vref_version found % 2 == 0)
         (λ u answer fits. (weight (length bytes) + 3 + m, omega arith, first_answers answer (took_bytes answer u)))
         (lasting_more p looks_again (weight (length bytes) + m) n (omega arith) whole_lasts))
@@ -320,12 +320,12 @@ module _ (p : Plan) (after : Program) (m : ℕ) (follows : Lasting p after m) wh
       omega arith,
       λ found hand f. either_lasts p after (TakeHome h.link (λ places. Write (Reversing (record h { places = places }) found found 0) after)) (2 + m) (eqb found h.last) (lasting_more p after m (2 + m) (omega arith) follows)
           (λ u. (1 + m, omega arith, λ places. heads_lasts (link_away u) (Reversing (record h { places = places }) found found 0) (1 + m) (omega arith)))
-          (row p (EmptyHead (socket_id_slot h.id) h.last) found hand (link_home_again v)),
+          (row p (OnChain (EmptyHead (socket_id_slot h.id) h.last)) found hand (link_home_again v)),
     ),
   )
 
   -- a walk that found the next word of its entry, and turns it: its steps are counted by what is left of it
-  turned_lasts : (h : Holder) (top place successor found n : ℕ) → 1 + m ≤ n → Lasting p (Do (ReverseNext (ticket_request place) successor) (λ _. cond (eqb found h.last)
+  turned_lasts : (h : Holder) (top place successor found n : ℕ) → 1 + m ≤ n → Lasting p (Do (OnChain (ReverseNext (ticket_request place) successor)) (λ _. cond (eqb found h.last)
       (TakeMessage (ticket_request place) (λ heading bytes. Write (Puts (record h { last = top }) place heading bytes 0 false) after)) (Write (Reversing h top found place) after))) n
   turned_lasts h top place successor found n le v = (
     n,
@@ -333,7 +333,7 @@ module _ (p : Plan) (after : Program) (m : ℕ) (follows : Lasting p after m) wh
     λ word hand f. either_lasts p (TakeMessage (ticket_request place) (λ heading bytes. Write (Puts (record h { last = top }) place heading bytes 0 false) after)) (Write (Reversing h top found place) after) n (eqb found h.last)
         (lasting_more p (TakeMessage (ticket_request place) (λ heading bytes. Write (Puts (record h { last = top }) place heading bytes 0 false) after)) (1 + m) n le (takes_next (record h { last = top }) place (ticket_request place)))
         (λ u. heads_lasts u (Reversing h top found place) n le)
-        (row p (ReverseNext (ticket_request place) successor) word hand v),
+        (row p (OnChain (ReverseNext (ticket_request place) successor)) word hand v),
   )
 
 -- a program that is at the head of a walk
@@ -350,5 +350,5 @@ lasts_round p v (Reversing h top place successor) after n a other l = absurd (ot
 
 -- a walk goes on behind the next word of its entry, where that was found
 pub lasts_walk : (p : Plan) (v : View) (h : Holder) (top place successor found : ℕ) (then_ : Program) (n : ℕ) → LastsFor p v (Write (Reversing h top place successor) then_) n
-    → Lasting p (Do (ReverseNext (ticket_request place) successor) (λ _. cond (eqb found h.last) (TakeMessage (ticket_request place) (λ heading bytes. Write (Puts (record h { last = top }) place heading bytes 0 false) then_)) (Write (Reversing h top found place) then_))) n
+    → Lasting p (Do (OnChain (ReverseNext (ticket_request place) successor)) (λ _. cond (eqb found h.last) (TakeMessage (ticket_request place) (λ heading bytes. Write (Puts (record h { last = top }) place heading bytes 0 false) then_)) (Write (Reversing h top found place) then_))) n
 lasts_walk p v h top place successor found then_ n l = turned_lasts p then_ l.0 l.2 h top place successor found n l.1

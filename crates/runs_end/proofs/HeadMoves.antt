@@ -16,7 +16,7 @@ use Rattle.seat_programs.specs.corr_core.specs.IdSlotLaw.{LAST}
 use Rattle.seat_programs.specs.corr_core.specs.EndedByRangeOrAttempt.{ends_call}
 use Rattle.seat_programs.specs.id_rule.specs.LawfulIdTable.{id_index}
 use Rattle.seat_programs.specs.sock_message.specs.Asked.{Asked}
-use Rattle.seat_programs.specs.TableSteps.{LoadOpen}
+use Rattle.seat_programs.specs.TableSteps.{OnName, LoadOpen}
 use Rattle.seat_programs.specs.Asides.{Step, Found, PutCall, LoadIdWord, LockId, PostId, UnlockId, EndId, FreeId, TakeBytes, Taking, Bytes, Nothing, NoMore}
 use Rattle.seat_programs.specs.LoopHeads.{Head, Exit, Sought, Reading, Posts, Unlocks, Decides, Locks, Joins, Opens, Reads, Discards, Posting, WasQueued, HasLocked, Unlocking, Deciding, HasEnded, Locking, Has, Ended}
 use Rattle.seat_programs.specs.FoundAndChangedAside.{found_in, at_last, taking_in}
@@ -153,11 +153,11 @@ module _ (p : Plan) (go : RetriesGo p) (c : Core) (vs : List View) (n : ℕ) (la
     where
       by_word : (b : Bool) → eqb (slice_index c.words (open_index p o)) 0 ≡ b → Moves (Round (Opens o) next)
       by_word true is = inl (inr is)
-      by_word false is = let goes' = goes_round p v (Opens o) next goes in let room = l.1 in let found : ℕ = slice_index c.words (open_index p o) in let hand : Hand = hand_at p c.words c.homes (LoadOpen o) in
-          let w : View = row p (LoadOpen o) (slice_index c.words (open_index p o)) (hand_at p c.words c.homes (LoadOpen o)) v in
-          inr (found_steps p c vs n lasts i seat v at_seat at_view k at_number sound (LoadOpen o) (λ word. cond (eqb word 0) (Round (Opens o) next) (next word)) 1 l.0 refl goes'.0 goes'
+      by_word false is = let goes' = goes_round p v (Opens o) next goes in let room = l.1 in let found : ℕ = slice_index c.words (open_index p o) in let hand : Hand = hand_at p c.words c.homes (OnName (LoadOpen o)) in
+          let w : View = row p (OnName (LoadOpen o)) (slice_index c.words (open_index p o)) (hand_at p c.words c.homes (OnName (LoadOpen o))) v in
+          inr (found_steps p c vs n lasts i seat v at_seat at_view k at_number sound (OnName (LoadOpen o)) (λ word. cond (eqb word 0) (Round (Opens o) next) (next word)) 1 l.0 refl goes'.0 goes'
           (subst (λ b. LastsFor p w (cond b (Round (Opens o) next) (next found)) l.0) (sym is) (l.2 found w)) (omega (arith, room))
-          (let z = rights_few (accepted vs) p v found hand (LoadOpen o) goes'.0 refl in omega (arith, z)))
+          (let z = rights_few (accepted vs) p v found hand (OnName (LoadOpen o)) goes'.0 refl in omega (arith, z)))
 
   reads_move : (r : Reading) (next : Ended → Program) → GoesOn p v (Round (Reads r) next) → LastsFor p v (Round (Reads r) next) (k + 0) → IsTaken (room_of r.total) answer → Counted (Round (Reads r) next) → Moves (Round (Reads r) next)
   reads_move r next goes l a counted = by_wait (is_nothing c.calls.ending answer) refl

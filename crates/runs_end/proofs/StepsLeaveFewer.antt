@@ -33,7 +33,7 @@ use Rattle.sock_steps.proofs.Maps.{set_at}
 use Rattle.sock_steps.proofs.AcceptSteps.{link_in, idle_home}
 use Rattle.sock_steps.proofs.Walked.{walk_less, turn_less, accepted_count}
 use Rattle.seat_programs.specs.Writings.{Holder, Writing, Puts, Waits, Empties, Reversing}
-use Rattle.seat_programs.specs.TableSteps.{TableStep, SwapHead, PutMessage, ReadNext, ReverseNext}
+use Rattle.seat_programs.specs.TableSteps.{TableStep, OnChain, OnMessage, SwapHead, PutMessage, ReadNext, ReverseNext}
 use Rattle.seat_programs.specs.Programs.{Program, Do, Say, Sent, Rest, TakeMessage, TakeHome, PutHome, PutBytes, AskReady, Write, Aside, Round, Keep, Retries}
 use Rattle.seat_programs.specs.LoopHeads.{Retry}
 use Rattle.seat_programs.specs.SendAndWritePrograms.{block}
@@ -256,7 +256,7 @@ module _ (p : Plan) (c : Core) (vs : List View) (n : ℕ) (lasts : Lasts p c vs 
 
   -- ## The exchange
 
-  module _ (sound : Sound p c vs) (j own : ℕ) (may : May p v (SwapHead j own)) where
+  module _ (sound : Sound p c vs) (j own : ℕ) (may : May p v (OnChain (SwapHead j own))) where
     abbrev link : ℕ
     link = may.1.claim.link
 
@@ -264,7 +264,7 @@ module _ (p : Plan) (c : Core) (vs : List View) (n : ℕ) (lasts : Lasts p c vs 
     found = slice_index c.words (head_index j)
 
     abbrev hand : Hand
-    hand = hand_at p c.words c.homes (SwapHead j own)
+    hand = hand_at p c.words c.homes (OnChain (SwapHead j own))
 
     -- the seat's lists have one entry more, of its claim's link
     counts_after : (e : Entry) (w : View) → e.link ≡ may.1.claim.link → w.lists ≡ more v.lists e → (q : ℕ) → accepted (set vs i w) q ≡ accepted vs q + only may.1.claim.link q
@@ -306,7 +306,7 @@ module _ (p : Plan) (c : Core) (vs : List View) (n : ℕ) (lasts : Lasts p c vs 
     busy_after : walks (set vs i (queued v may.1.claim (slice_index c.words (head_index j)))) ≤ walks vs + (2 + ACCEPT)
     busy_after = let x = may.1 in let n : ℕ = slice_index c.words (head_index j) in walks_after (queued v x.claim n) (entry_of x.claim n) refl refl refl
 
-    hand_is : (q : ℕ) (sent : List ℕ) (places : ℕ) → slice_index c.words (link_index j) ≡ q → link_home (λ home. home) p c.homes q ≡ some (sent, places) → hand_at p c.words c.homes (SwapHead j own) ≡ record { link = q; took = sent; next = places }
+    hand_is : (q : ℕ) (sent : List ℕ) (places : ℕ) → slice_index c.words (link_index j) ≡ q → link_home (λ home. home) p c.homes q ≡ some (sent, places) → hand_at p c.words c.homes (OnChain (SwapHead j own)) ≡ record { link = q; took = sent; next = places }
     hand_is q sent places e h = ap (λ z. as_hand z (link_home (λ home. home) p c.homes z)) e ∙ ap (as_hand q) h
 
     -- whoever found an idle head has no walk left
@@ -316,35 +316,35 @@ module _ (p : Plan) (c : Core) (vs : List View) (n : ℕ) (lasts : Lasts p c vs 
         omega (arith, all, counts_after (entry_of x.claim (n - IDLE)) w refl refl x.claim.link, only-same x.claim.link, accepted_count (λ (u : View). u.lists) vs sound.lawful.log sound.lawful.authors x.claim.link)
 
     idle_after : IDLE ≤ slice_index c.words (head_index j)
-        → walks (set vs i (righted v may.1.claim (slice_index c.words (head_index j)) (hand_at p c.words c.homes (SwapHead j own)).took (hand_at p c.words c.homes (SwapHead j own)).next)) ≤ walks vs + (2 + ACCEPT)
+        → walks (set vs i (righted v may.1.claim (slice_index c.words (head_index j)) (hand_at p c.words c.homes (OnChain (SwapHead j own))).took (hand_at p c.words c.homes (OnChain (SwapHead j own))).next)) ≤ walks vs + (2 + ACCEPT)
     idle_after idle = let o = sound.lawful in let x = may.1 in let n : ℕ = slice_index c.words (head_index j) in let a = idle_home (λ home. home) p (state c vs) o i j own v at_view x idle in
         let is : slice_index c.words (link_index j) ≡ x.claim.link = held_link_is p (state c vs) o i v at_view j x.life (x.holds.inside, x.holds.held) x.claim.link x.holds.met in
         subst (λ (z : Hand). walks (set vs i (righted v x.claim n z.took z.next)) ≤ walks vs + (2 + ACCEPT)) (sym (hand_is x.claim.link a.0 a.1 is a.2))
         (walks_after (righted v x.claim n a.0 a.1) (entry_of x.claim (n - IDLE)) refl refl (omega (arith, none_left a.0 a.1 a.3)))
 
-    swapped : walks (set vs i (row p (SwapHead j own) (slice_index c.words (head_index j)) (hand_at p c.words c.homes (SwapHead j own)) v)) ≤ walks vs + (2 + ACCEPT)
-    swapped = let x = may.1 in let n : ℕ = slice_index c.words (head_index j) in let g : Hand = hand_at p c.words c.homes (SwapHead j own) in
+    swapped : walks (set vs i (row p (OnChain (SwapHead j own)) (slice_index c.words (head_index j)) (hand_at p c.words c.homes (OnChain (SwapHead j own))) v)) ≤ walks vs + (2 + ACCEPT)
+    swapped = let x = may.1 in let n : ℕ = slice_index c.words (head_index j) in let g : Hand = hand_at p c.words c.homes (OnChain (SwapHead j own)) in
         subst (λ cs. walks (set vs i (by_claim cs (exchanged n g v) v)) ≤ walks vs + (2 + ACCEPT)) (sym x.claims)
         (dite (dec_le IDLE n)
         (λ idle. subst (λ b. walks (set vs i (cond b (queued v x.claim n) (righted v x.claim n g.took g.next))) ≤ walks vs + (2 + ACCEPT)) (sym (le-ltb n IDLE idle)) (idle_after idle))
         (λ busy. subst (λ b. walks (set vs i (cond b (queued v x.claim n) (righted v x.claim n g.took g.next))) ≤ walks vs + (2 + ACCEPT)) (sym (lt-ltb n IDLE (lt_of_not-le busy))) busy_after))
 
-    exchange_steps : (next : ℕ → Program) → GoesOn p v (Do (SwapHead j own) next) → LastsFor p v (Do (SwapHead j own) next) k
-        → Fewer p n (stepped p i seat (SwapHead j own) next c) (set vs i (row p (SwapHead j own) (slice_index c.words (head_index j)) (hand_at p c.words c.homes (SwapHead j own)) v))
-    exchange_steps next goes l = let few = l.1 in let found : ℕ = slice_index c.words (head_index j) in let g : Hand = hand_at p c.words c.homes (SwapHead j own) in
-        plain_moves (next found) seat.hand (set c.words (head_index j) own) c.homes (row p (SwapHead j own) found g v) l.0 (goes.1 found g (allowed sound (SwapHead j own) may)) (l.2 found g (allowed sound (SwapHead j own) may)) (omega (arith, few, swapped))
+    exchange_steps : (next : ℕ → Program) → GoesOn p v (Do (OnChain (SwapHead j own)) next) → LastsFor p v (Do (OnChain (SwapHead j own)) next) k
+        → Fewer p n (stepped p i seat (OnChain (SwapHead j own)) next c) (set vs i (row p (OnChain (SwapHead j own)) (slice_index c.words (head_index j)) (hand_at p c.words c.homes (OnChain (SwapHead j own))) v))
+    exchange_steps next goes l = let few = l.1 in let found : ℕ = slice_index c.words (head_index j) in let g : Hand = hand_at p c.words c.homes (OnChain (SwapHead j own)) in
+        plain_moves (next found) seat.hand (set c.words (head_index j) own) c.homes (row p (OnChain (SwapHead j own)) found g v) l.0 (goes.1 found g (allowed sound (OnChain (SwapHead j own)) may)) (l.2 found g (allowed sound (OnChain (SwapHead j own)) may)) (omega (arith, few, swapped))
 
   -- ## Any step
 
   module _ (go : RetriesGo p) (sound : Sound p c vs) where
     pub call_moves : (call : TableStep) (next : ℕ → Program) → GoesOn p v (Do call next) → LastsFor p v (Do call next) k
         → Fewer p n (stepped p i seat call next c) (set vs i (row p call (found_at c.words (word_of p call)) (hand_at p c.words c.homes call) v))
-    call_moves (SwapHead j own) next goes l = exchange_steps sound j own goes.0 next goes l
-    call_moves (ReverseNext q value) next goes l = let may = goes.0 in let x = may.0 in let r : Right = x.mine.right in let o = sound.lawful in let few = l.1 in
-        call_steps sound (ReverseNext q value) next 0 refl may goes l (omega (arith, few))
-        (let z = WalksLeft.turn_less (accepted vs) p v (found_at c.words (word_of p (ReverseNext q value))) (hand_at p c.words c.homes (ReverseNext q value)) q value r x.top x.at value x.before may.1 x.stage
+    call_moves (OnChain (SwapHead j own)) next goes l = exchange_steps sound j own goes.0 next goes l
+    call_moves (OnChain (ReverseNext q value)) next goes l = let may = goes.0 in let x = may.0 in let r : Right = x.mine.right in let o = sound.lawful in let few = l.1 in
+        call_steps sound (OnChain (ReverseNext q value)) next 0 refl may goes l (omega (arith, few))
+        (let z = WalksLeft.turn_less (accepted vs) p v (found_at c.words (word_of p (OnChain (ReverseNext q value)))) (hand_at p c.words c.homes (OnChain (ReverseNext q value))) q value r x.top x.at value x.before may.1 x.stage
         (omega (arith, turn_less o i x.mine.place v r at_view x.mine.has x.top x.at value x.before x.stage, accepted_count (λ (u : View). u.lists) vs o.log o.authors r.link)) in omega (arith, z))
-    call_moves (PutMessage q heading bytes) next goes l = let few = l.1 in call_steps sound (PutMessage q heading bytes) next 1 refl goes.0 goes l (omega (arith, few)) (stays (PutMessage q heading bytes) goes.0 refl)
+    call_moves (OnMessage (PutMessage q heading bytes)) next goes l = let few = l.1 in call_steps sound (OnMessage (PutMessage q heading bytes)) next 1 refl goes.0 goes l (omega (arith, few)) (stays (OnMessage (PutMessage q heading bytes)) goes.0 refl)
       where
         stays : (call : TableStep) → May p v call → is_exchange call ≡ false
             → total (walk_left (accepted vs)) (row p call (found_at c.words (word_of p call)) (hand_at p c.words c.homes call) v).rights < total (walk_left (accepted vs)) v.rights + 1
@@ -413,9 +413,9 @@ module _ (p : Plan) (c : Core) (vs : List View) (n : ℕ) (lasts : Lasts p c vs 
         where
           by_found : (b : Bool) → eqb (slice_index c.words (next_index p (ticket_request place))) UNCONNECTED ≡ b → Moves (Write (Reversing h top place successor) then_)
           by_found true is = inl (inr is)
-          by_found false is = let found : ℕ = slice_index c.words (next_index p (ticket_request place)) in let r : Right = goes.0.0 in let o = sound.lawful in let call : TableStep = ReadNext (ticket_request place) in
+          by_found false is = let found : ℕ = slice_index c.words (next_index p (ticket_request place)) in let r : Right = goes.0.0 in let o = sound.lawful in let call : TableStep = OnChain (ReadNext (ticket_request place)) in
               let w : View = row p call found (hand_at p c.words c.homes call) v in
-              let turns : Program = Do (ReverseNext (ticket_request place) successor) (λ _. cond (eqb found h.last) (TakeMessage (ticket_request place) (λ heading bytes. Write (Puts (record h { last = top }) place heading bytes 0 false) then_)) (Write (Reversing h top found place) then_)) in
+              let turns : Program = Do (OnChain (ReverseNext (ticket_request place) successor)) (λ _. cond (eqb found h.last) (TakeMessage (ticket_request place) (λ heading bytes. Write (Puts (record h { last = top }) place heading bytes 0 false) then_)) (Write (Reversing h top found place) then_)) in
               let begins = begins_round p v (Reversing h top place successor) then_ goes in
               inr (seat_steps (cond (eqb found UNCONNECTED) (Write (Reversing h top place successor) then_) turns) seat.hand (set c.words (next_index p (ticket_request place)) found) c.homes w k
               (begins.1 found (hand_at p c.words c.homes call) (allowed sound call begins.0))

@@ -26,7 +26,7 @@ use Rattle.sock_model.specs.ChainLawReads.{rights_on}
 use Rattle.sock_steps.specs.slot_steps.proofs.RuleNumbers.{only-at, only-else}
 use Rattle.sock_steps.specs.chain_steps.proofs.TicketLists.{on_hit, on_miss}
 use Rattle.sock_steps.proofs.SumsAsMarksChange.{either_way}
-use Rattle.seat_programs.specs.TableSteps.{TableStep, TakeLink, PutLink, LookWord, PutMessage, SwapHead, EmptyHead, ReadNext, ReverseNext, FreeRequest, StorePlace, DropPlace}
+use Rattle.seat_programs.specs.TableSteps.{TableStep, OnSlot, OnChain, OnPlace, OnLink, OnMessage, TakeLink, PutLink, LookWord, PutMessage, SwapHead, EmptyHead, ReadNext, ReverseNext, FreeRequest, StorePlace, DropPlace}
 use Rattle.seat_programs.specs.Programs.{LAST_GENERATION}
 use Rattle.seat_programs.specs.Cores.{first_of, link_place, homes_after}
 use Rattle.seat_programs.specs.StepTables.{row}
@@ -138,26 +138,26 @@ module _ (counts : ℕ → ℕ) where
 
     -- no step but the exchange leaves more of the seat's walks
     pub rights_few : (call : TableStep) → May p v call → is_exchange call ≡ false → Few_left (row p call found hand v)
-    rights_few (LookWord id) may other = looks_few (socket_id_slot id)
-    rights_few (SwapHead i own) may other = absurd (true≢false other)
-    rights_few (EmptyHead i last) may other = let x = may.1.0 in let r : Right = x.mine.right in
+    rights_few (OnSlot (LookWord id)) may other = looks_few (socket_id_slot id)
+    rights_few (OnChain (SwapHead i own)) may other = absurd (true≢false other)
+    rights_few (OnChain (EmptyHead i last)) may other = let x = may.1.0 in let r : Right = x.mine.right in
         subst (λ (l : List Right). total left (by_right l (emptied last found v) v).rights ≤ total left l) (sym may.1.1) (empties_few v r [] may.1.1 last found (ap is_turning x.stage))
-    rights_few (ReadNext q) may other = by_right_few left v.rights (λ r. read_next found v r r.stage) v refl (λ r others is. reads_few v r others is found r.stage refl)
-    rights_few (ReverseNext q value) may other = by_right_few left v.rights (λ r. turned_next v r r.stage) v refl (λ r others is. turns_few v r others is r.stage refl)
-    rights_few (FreeRequest q g) may other = by_right_few left v.rights (freed_next v) v refl (λ r others is. frees_few v r others is r.stage refl)
-    rights_few (StorePlace l k n) may other = by_right_few left v.rights (λ r. placed_next v r r.stage) v refl (λ r others is. places_few v r others is r.stage refl)
-    rights_few (DropPlace l k n) may other = by_right_few left v.rights (λ r. dropped_next v r r.stage) v refl (λ r others is. drops_next_few v r others is r.stage refl)
+    rights_few (OnChain (ReadNext q)) may other = by_right_few left v.rights (λ r. read_next found v r r.stage) v refl (λ r others is. reads_few v r others is found r.stage refl)
+    rights_few (OnChain (ReverseNext q value)) may other = by_right_few left v.rights (λ r. turned_next v r r.stage) v refl (λ r others is. turns_few v r others is r.stage refl)
+    rights_few (OnChain (FreeRequest q g)) may other = by_right_few left v.rights (freed_next v) v refl (λ r others is. frees_few v r others is r.stage refl)
+    rights_few (OnPlace (StorePlace l k n)) may other = by_right_few left v.rights (λ r. placed_next v r r.stage) v refl (λ r others is. places_few v r others is r.stage refl)
+    rights_few (OnPlace (DropPlace l k n)) may other = by_right_few left v.rights (λ r. dropped_next v r r.stage) v refl (λ r others is. drops_next_few v r others is r.stage refl)
     rights_few call may other = stays_few call refl
 
     -- a walk that found the next word of its entry has a step less left, and one that turned it too
-    pub read_less : (q : ℕ) (r : Right) (top at after : ℕ) → v.rights ≡ r ∷ [] → r.stage ≡ Reversing top at after → found ≢ UNCONNECTED → r.noted + r.turned < counts r.link → total left (row p (ReadNext q) found hand v).rights < total left v.rights
+    pub read_less : (q : ℕ) (r : Right) (top at after : ℕ) → v.rights ≡ r ∷ [] → r.stage ≡ Reversing top at after → found ≢ UNCONNECTED → r.noted + r.turned < counts r.link → total left (row p (OnChain (ReadNext q)) found hand v).rights < total left v.rights
     read_less q r top at after one stage some_ less = let s : Right = record r { stage = ReversesNext top at after found } in
         subst (λ (l : List Right). total left (by_right l (λ r. read_next found v r r.stage) v).rights < total left l) (sym one)
         (subst (λ (b : Stage). total left (read_next found v r b).rights < total left (r ∷ [])) (sym stage)
         (subst (λ (b : Bool). total left (cond b v (with_right v s)).rights < total left (r ∷ [])) (sym (ne_eqb found UNCONNECTED some_))
         (let z = with_right_few left v r s [] 1 one refl (omega (arith, less, ap is_turning stage)) in omega (arith, z))))
 
-    pub turn_less : (q value : ℕ) (r : Right) (top at after before : ℕ) → v.rights ≡ r ∷ [] → r.stage ≡ ReversesNext top at after before → r.noted + r.turned < counts r.link → total left (row p (ReverseNext q value) found hand v).rights < total left v.rights
+    pub turn_less : (q value : ℕ) (r : Right) (top at after before : ℕ) → v.rights ≡ r ∷ [] → r.stage ≡ ReversesNext top at after before → r.noted + r.turned < counts r.link → total left (row p (OnChain (ReverseNext q value)) found hand v).rights < total left v.rights
     turn_less q value r top at after before one stage less = let t = turned_few r top at before in
         subst (λ (l : List Right). total left (by_right l (λ r. turned_next v r r.stage) v).rights < total left l) (sym one)
         (subst (λ (b : Stage). total left (turned_next v r b).rights < total left (r ∷ [])) (sym stage)
@@ -261,11 +261,11 @@ held_light xs (r ∷ rs) hs are = by_home (held_light xs rs hs) r.at_home are
 
 -- what a step brings home
 abbrev pub home_cost : TableStep → ℕ
-home_cost (PutMessage q heading bytes) = weight (length bytes)
+home_cost (OnMessage (PutMessage q heading bytes)) = weight (length bytes)
 home_cost other = 0
 
 pub homes_few : (p : Plan) (call : TableStep) (hand : List Home) (hs : List (Option Home)) → home_weight (first_of hand) ≡ 0 → total home_weight (homes_after p call hand hs) ≤ total home_weight hs + home_cost call
-homes_few p (TakeLink k) hand hs light = let z = set_few home_weight hs (link_place p k) none in omega (arith, z)
-homes_few p (PutLink k) hand hs light = let z = set_few home_weight hs (link_place p k) (first_of hand) in omega (arith, z, light)
-homes_few p (PutMessage q heading bytes) hand hs light = let z = set_few home_weight hs q (some (Message heading bytes)) in omega (arith, z)
+homes_few p (OnLink (TakeLink k)) hand hs light = let z = set_few home_weight hs (link_place p k) none in omega (arith, z)
+homes_few p (OnLink (PutLink k)) hand hs light = let z = set_few home_weight hs (link_place p k) (first_of hand) in omega (arith, z, light)
+homes_few p (OnMessage (PutMessage q heading bytes)) hand hs light = let z = set_few home_weight hs q (some (Message heading bytes)) in omega (arith, z)
 homes_few p _ hand hs light = omega arith

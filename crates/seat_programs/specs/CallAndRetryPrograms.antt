@@ -9,7 +9,7 @@ use Rattle.corr_core.specs.IdSlotWord.{parts, error_of}
 use Rattle.corr_core.specs.EndedByRangeOrAttempt.{WHOLE}
 use Rattle.sock_model.specs.declared.chain.Heading.{Heading}
 use Rattle.sock_message.specs.Asked.{Asked, name_of, frame_of, parts_of}
-use Rattle.seat_programs.specs.TableSteps.{LookWord, FindLink, ClaimRequest, LoadName}
+use Rattle.seat_programs.specs.TableSteps.{OnSlot, OnName, OnChain, LookWord, FindLink, ClaimRequest, LoadName}
 use Rattle.seat_programs.specs.Asides.{ClaimId, PutCall, MakeId, StoreCall, LoadCall, StoreAt, TakeCall}
 use Rattle.seat_programs.specs.LoopHeads.{First, Unlocks, Locks, Joins, Posting, WasGone, WasStale, WasCrowded, WasQueued, HasLocked, Unlocking, IsOpen, HasNext, Locking, NotThere, Has}
 use Rattle.seat_programs.specs.Programs.{Program, Do, Say, Aside, Round, add_reference, release}
@@ -21,7 +21,7 @@ use Rattle.seat_programs.specs.SendAndWritePrograms.{accept}
 -- the first free of so many requests from q on is claimed; what follows where none is, and where the message is accepted and written
 abbrev pub claims_from : ℕ → ℕ → ℕ → Heading → List ℕ → Program → Program → Program
 claims_from zero q id heading bytes full accepted = full
-claims_from (suc more) q id heading bytes full accepted = Do (ClaimRequest id q) (λ found.
+claims_from (suc more) q id heading bytes full accepted = Do (OnChain (ClaimRequest id q)) (λ found.
     if found % 2 == 0 then accept id q (found / 2) heading bytes accepted else claims_from more (q + 1) id heading bytes full accepted)
 
 -- ## Attempts
@@ -33,7 +33,7 @@ heading_for asked id n = record { label = record { client = 0; operation = asked
 -- an attempt over the socket with this id
 abbrev pub attempt : ℕ → Asked → ℕ → ℕ → ℕ → Program → Program
 attempt requests asked id n socket next = let i = socket_id_slot socket in
-    add_reference socket (Do (FindLink i (socket_id_version socket)) (λ k. Aside (StoreAt asked.operation (at_word (id_first id) (id_slot id) k n)) (λ _. Do (LookWord socket) (λ found.
+    add_reference socket (Do (OnSlot (FindLink i (socket_id_version socket))) (λ k. Aside (StoreAt asked.operation (at_word (id_first id) (id_slot id) k n)) (λ _. Do (OnSlot (LookWord socket)) (λ found.
     if vref_version found % 2 == 0
     then claims_from requests 0 socket (heading_for asked id n) (frame_of asked id n) (post id EREQUESTS n (release i (λ _. next))) (release i (λ _. next))
     else post id EFAILEDSOCKET n (release i (λ _. next))))))
@@ -53,12 +53,12 @@ claim_id (suc more) i requests socket asked next = Aside (ClaimId i) (λ found.
     if found == 0 then begin_call requests socket i asked next else claim_id more (i + 1) requests socket asked next)
 
 abbrev pub call : ℕ → ℕ → Asked → Program → Program
-call requests ids asked next = Do (LoadName (name_of asked 0)) (λ word.
+call requests ids asked next = Do (OnName (LoadName (name_of asked 0))) (λ word.
     if word == 0 then Say asked.operation Unopened next else claim_id ids 0 requests (word - 1) asked next)
 
 -- a retry that waited
 abbrev pub tried_again : ℕ → ℕ → ℕ → Asked → Program → Unlocking → Program
-tried_again requests id n asked next (IsOpen w) = Do (LoadName (name_of asked n)) (λ word.
+tried_again requests id n asked next (IsOpen w) = Do (OnName (LoadName (name_of asked n))) (λ word.
     if word == 0 then post id EFAILEDSOCKET n next else attempt requests asked id n (word - 1) next)
 tried_again requests id n asked next (HasNext w e) = decide id w e (decided id next)
 

@@ -7,7 +7,7 @@ use Rattle.sock_model.specs.sock_words.specs.declared.outcome.Outcome.{Outcome}
 use Rattle.sock_model.specs.sock_words.specs.declared.plain.Plan.{Plan}
 use Rattle.sock_model.specs.declared.home.Home.{Home}
 use Rattle.sock_model.specs.declared.home.Home.TheVariants.{Link, Message}
-use Rattle.seat_programs.specs.TableSteps.{TableStep, TakeLink, FinishLink, PutLink, PutMessage}
+use Rattle.seat_programs.specs.TableSteps.{TableStep, OnLink, OnMessage, TakeLink, FinishLink, PutLink, PutMessage}
 use Rattle.seat_programs.specs.StepTables.{word_of, word_after}
 use Rattle.seat_programs.specs.Programs.{Program, Say, Sent, Keep, Retries}
 use Rattle.seat_programs.specs.LoopHeads.{Retry}
@@ -76,17 +76,17 @@ module _ (p : Plan) where
 
   -- the homes after a move
   abbrev pub homes_after : TableStep → List Home → List (Option Home) → List (Option Home)
-  homes_after (TakeLink k) hand hs = slice_set hs (link_place k) none
-  homes_after (PutLink k) hand hs = slice_set hs (link_place k) (first_of hand)
-  homes_after (PutMessage q heading bytes) hand hs = slice_set hs q (some (Message heading bytes))
+  homes_after (OnLink (TakeLink k)) hand hs = slice_set hs (link_place k) none
+  homes_after (OnLink (PutLink k)) hand hs = slice_set hs (link_place k) (first_of hand)
+  homes_after (OnMessage (PutMessage q heading bytes)) hand hs = slice_set hs q (some (Message heading bytes))
   homes_after other hand hs = hs
 
   -- what is in hand after a move, or after the link in hand is ended
   abbrev pub hand_after : TableStep → List (Option Home) → List Home → List Home
-  hand_after (TakeLink k) hs hand = lies_at hs (link_place k) ++ hand
-  hand_after (PutLink k) hs hand = others_of hand
-  hand_after (FinishLink k) hs [] = []
-  hand_after (FinishLink k) hs (x ∷ hand) = finished x ∷ hand
+  hand_after (OnLink (TakeLink k)) hs hand = lies_at hs (link_place k) ++ hand
+  hand_after (OnLink (PutLink k)) hs hand = others_of hand
+  hand_after (OnLink (FinishLink k)) hs [] = []
+  hand_after (OnLink (FinishLink k)) hs (x ∷ hand) = finished x ∷ hand
   hand_after other hs hand = hand
 
 -- ## What is said, and the next step

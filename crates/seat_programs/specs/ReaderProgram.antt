@@ -8,7 +8,7 @@ use Rattle.sock_message.specs.brpc_model.specs.Meta.{ResponseMeta}
 use Rattle.sock_message.specs.brpc_model.specs.Frame.{Frame}
 use Rattle.sock_message.specs.brpc_model.specs.ResponseOutcome.{ending_of}
 use Rattle.sock_message.specs.brpc_model.specs.FrameStream as streams
-use Rattle.seat_programs.specs.TableSteps.{LoadOpen}
+use Rattle.seat_programs.specs.TableSteps.{OnName, LoadOpen}
 use Rattle.seat_programs.specs.Asides.{LoadAt, TakeCall, TakeBytes, Taking, Bytes, Nothing, Closed}
 use Rattle.seat_programs.specs.LoopHeads.{Version, Reading, Locks, Opens, Reads, Discards, Posting, HasLocked, Locking, NotThere, Has, Ended}
 use Rattle.seat_programs.specs.Programs.{Program, Do, Say, Rest, Aside, Round, add_reference, release, set_failed}
@@ -87,7 +87,7 @@ abbrev pub discards_round : ℕ → ℕ → (ℕ → Program) → Program
 discards_round k total next = Aside (TakeBytes k (room_of total)) (discarded k total next)
 
 abbrev pub opens_round : ℕ → (ℕ → Program) → Program
-opens_round o k = Do (LoadOpen o) (λ word. if word == 0 then Round (Opens o) k else k word)
+opens_round o k = Do (OnName (LoadOpen o)) (λ word. if word == 0 then Round (Opens o) k else k word)
 
 -- ## The end of a reading
 

@@ -7,7 +7,7 @@ use Rattle.sock_model.specs.sock_words.specs.declared.kind.Kind.TheVariants.{A8,
 use Rattle.sock_model.specs.sock_words.specs.KindText.{kind_text}
 use Rattle.sock_model.specs.sock_words.specs.declared.plain.Plan.{Plan}
 use Rattle.sock_message.specs.brpc_model.specs.Operations.{Turn, Ticks, Until}
-use Rattle.seat_programs.specs.TableSteps.{kind_of}
+use Rattle.seat_programs.specs.StepTables.{kind_of}
 use Rattle.seat_programs.specs.Writings.{Writing, Puts, Waits, Empties, Reversing}
 use Rattle.seat_programs.specs.Programs.{Program, Do, TakeMessage, TakeHome, PutHome, PutBytes, AskReady, Write, Aside, Round}
 use Rattle.seat_programs.specs.Asides.{kind_aside}

@@ -10,7 +10,7 @@ use Rattle.sock_message.specs.brpc_model.specs.Items.{Item}
 use Rattle.sock_message.specs.brpc_model.specs.Operations.{Turn}
 use Rattle.seat_programs.specs.declared.task.Op.TheVariants as ops
 use Rattle.seat_programs.specs.declared.task.Task.{Task}
-use Rattle.seat_programs.specs.TableSteps.{TableStep, SubRef, Recycle, LookWord, ReadNext}
+use Rattle.seat_programs.specs.TableSteps.{TableStep, OnSlot, OnChain, SubRef, Recycle, LookWord, ReadNext}
 use Rattle.seat_programs.specs.Writings.{Writing, Puts, Reversing}
 use Rattle.seat_programs.specs.Programs.{Program, Do, Write}
 use Rattle.seat_programs.specs.Cores.{Core, found_at}
@@ -24,8 +24,8 @@ use Rattle.seat_programs.specs.Explained.{IsTask, Became}
 
 -- the step on a word from the head of a loop
 abbrev pub head_call : Writing → Option TableStep
-head_call (Puts h now heading left taken asked) = Some (LookWord h.id)
-head_call (Reversing h top at after) = Some (ReadNext (ticket_request at))
+head_call (Puts h now heading left taken asked) = Some (OnSlot (LookWord h.id))
+head_call (Reversing h top at after) = Some (OnChain (ReadNext (ticket_request at)))
 head_call other = None
 
 -- the step on a word that comes next, where one does
@@ -61,12 +61,12 @@ module _ (p : Plan) (clients : List (List Task)) where
 
   -- the operation's own exchange recycled a slot: it found the word that it expected
   abbrev pub WonRecycling : Core → List Moment → ℕ → ℕ → Type 0
-  WonRecycling c ms i o = (slot from : ℕ) × MadeIn c ms i o (Recycle slot from) from
+  WonRecycling c ms i o = (slot from : ℕ) × MadeIn c ms i o (OnSlot (Recycle slot from)) from
 
   -- it gave a reference back, and won no exchange: it had not the last one to a failed life, or the exchange found another word
   abbrev pub GaveBackOnly : Core → List Moment → ℕ → ℕ → Type 0
-  GaveBackOnly c ms i o = (slot found : ℕ) × MadeIn c ms i o (SubRef slot) found
-      × ((((vref_version found % 2 ≡ 1) × (vref_nref found ≡ 1)) → ⊥) ⊎ ((other : ℕ) × MadeIn c ms i o (Recycle slot (found - 1)) other × (other ≢ found - 1)))
+  GaveBackOnly c ms i o = (slot found : ℕ) × MadeIn c ms i o (OnSlot (SubRef slot)) found
+      × ((((vref_version found % 2 ≡ 1) × (vref_nref found ≡ 1)) → ⊥) ⊎ ((other : ℕ) × MadeIn c ms i o (OnSlot (Recycle slot (found - 1))) other × (other ≢ found - 1)))
 
 -- each `drop` that was answered `freed` recycled its slot, and each that was answered `kept` gave its reference back and recycled none
 pub record AreDropsTold (p : Plan) (clients : List (List Task)) (outcomes : List (Option Outcome)) (c : Core) (ms : List Moment) : Type 0 where

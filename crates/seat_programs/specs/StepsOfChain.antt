@@ -3,6 +3,8 @@
 use Rattle.std.specs.Prelude.{ℕ, ◌≡◌, ◌≢◌, ◌+◌, ◌*◌, ◌/◌, ◌%◌, ◌<◌, ◌⊎◌, ◌==◌, false, List, [], ◌∷◌, nat_lt, if◌then◌else◌, slice_index}
 use lib.ListN.{get_elem?}
 use mathlib.Core.Option.{Option, none, some}
+use Rattle.sock_model.specs.sock_words.specs.declared.kind.Kind.{Kind}
+use Rattle.sock_model.specs.sock_words.specs.declared.kind.Kind.TheVariants.{C1, C2, C3, C4, C5, C6, C7, C8}
 use Rattle.sock_model.specs.sock_words.specs.declared.plain.Plan.{Plan}
 use Rattle.sock_model.specs.sock_words.specs.PackedWords.{socket_id_version, socket_id_slot, ticket_request, ticket_generation, IDLE, UNCONNECTED}
 use Rattle.sock_model.specs.declared.chain.Claim.{Claim}
@@ -19,14 +21,27 @@ use Rattle.sock_model.specs.ChainLawReads.{link_home}
 use Rattle.sock_model.specs.ChainStepConditions.{MayExchange, MayEmpty, MayTurn}
 use Rattle.seat_programs.specs.Programs.{LAST_GENERATION}
 use Rattle.seat_programs.specs.TableWords.{TableWord, HeadOf, RequestOf, NextOf}
-use Rattle.seat_programs.specs.TableSteps.{TableStep, ClaimRequest, SwapHead, Connect, EmptyHead, ReadNext, ReverseNext, Unconnect, FreeRequest}
+use Rattle.seat_programs.specs.TableSteps.{ChainStep, ClaimRequest, SwapHead, Connect, EmptyHead, ReadNext, ReverseNext, Unconnect, FreeRequest}
 use Rattle.seat_programs.specs.StepViews.{HoldsLife, Claims, FindsLink, by_claim, by_right, settled}
 use Rattle.seat_programs.specs.StepsOfLinks.{as_hand}
+
+-- ## The kind
+
+-- as the schedule of a script names it
+abbrev pub chain_kind : ChainStep → Kind
+chain_kind (ClaimRequest id q) = C1
+chain_kind (SwapHead i own) = C2
+chain_kind (Connect q before) = C3
+chain_kind (EmptyHead i last) = C4
+chain_kind (ReadNext q) = C5
+chain_kind (ReverseNext q value) = C6
+chain_kind (Unconnect q) = C7
+chain_kind (FreeRequest q g) = C8
 
 -- ## The word
 
 -- the word that a step reads or changes
-abbrev pub word_of_chain : TableStep → Option TableWord
+abbrev pub word_of_chain : ChainStep → Option TableWord
 word_of_chain (ClaimRequest id q) = some (RequestOf q)
 word_of_chain (SwapHead i own) = some (HeadOf i)
 word_of_chain (Connect q before) = some (NextOf q)
@@ -35,10 +50,9 @@ word_of_chain (ReadNext q) = some (NextOf q)
 word_of_chain (ReverseNext q value) = some (NextOf q)
 word_of_chain (Unconnect q) = some (NextOf q)
 word_of_chain (FreeRequest q g) = some (RequestOf q)
-word_of_chain other = none
 
 -- the word behind a step that found this one
-abbrev pub chain_after : TableStep → ℕ → ℕ
+abbrev pub chain_after : ChainStep → ℕ → ℕ
 chain_after (ClaimRequest id q) found = if found % 2 == 0 then found + 1 else found
 chain_after (SwapHead i own) found = own
 chain_after (Connect q before) found = before
@@ -63,7 +77,7 @@ abbrev pub MayFree : View → ℕ → Type 0
 MayFree v now = (r : Right) × (v.rights ≡ r ∷ []) × (((r.stage ≡ Placed now) × (now ≡ r.last)) ⊎ ((next : ℕ) × (r.stage ≡ Passes now next)))
 
 -- what the view of the seat says before a step, so that the rule allows it
-abbrev pub ChainMay : Plan → View → TableStep → Type 0
+abbrev pub ChainMay : Plan → View → ChainStep → Type 0
 ChainMay p v (ClaimRequest id q) = (q < p.requests) × HoldsLife p v (socket_id_slot id) (socket_id_version id) × (v.claims ≡ [])
 ChainMay p v (SwapHead i own) = (i < p.slots) × MayExchange p v i own
 ChainMay p v (Connect q before) = (q < p.requests) × IsLoose v q before
@@ -72,7 +86,6 @@ ChainMay p v (ReadNext q) = MayRead v q
 ChainMay p v (ReverseNext q value) = (x : MayTurn v value) × (v.rights ≡ x.mine.right ∷ []) × (ticket_request x.at ≡ q)
 ChainMay p v (Unconnect q) = (q < p.requests) × Claims v q
 ChainMay p v (FreeRequest q g) = (now : ℕ) × (ticket_request now ≡ q) × (ticket_generation now ≡ g) × (g ≢ LAST_GENERATION) × MayFree v now
-ChainMay p v other = Unit {0}
 
 -- ## What is found
 
@@ -81,13 +94,13 @@ abbrev pub link_in : List ℕ → ℕ → ℕ
 link_in ws i = slice_index ws (link_index i)
 
 -- the link that is to take the message for which a request is claimed or the head is exchanged
-abbrev pub chain_hand : Plan → List ℕ → List (Option Home) → TableStep → Hand
+abbrev pub chain_hand : Plan → List ℕ → List (Option Home) → ChainStep → Hand
 chain_hand p ws hs (ClaimRequest id q) = as_hand (link_in ws (socket_id_slot id)) none
 chain_hand p ws hs (SwapHead i own) = as_hand (link_in ws i) (link_home (λ home. home) p hs (link_in ws i))
 chain_hand p ws hs other = as_hand 0 none
 
 -- what a step may find
-abbrev pub ChainFinds : Plan → View → TableStep → ℕ → Hand → Type 0
+abbrev pub ChainFinds : Plan → View → ChainStep → ℕ → Hand → Type 0
 ChainFinds p v (ClaimRequest id q) found hand = FindsLink p v (socket_id_slot id) (socket_id_version id) hand.link × (found < 281474976710656)
 ChainFinds p v other found hand = Unit {0}
 
@@ -129,7 +142,7 @@ abbrev pub freed_next : View → Right → View
 freed_next v r = with_right v (record r { stage = freed_stage r.stage })
 
 -- the view behind a step that found this word, and this link at home
-abbrev pub chain_row : Plan → TableStep → ℕ → Hand → View → View
+abbrev pub chain_row : Plan → ChainStep → ℕ → Hand → View → View
 chain_row p (ClaimRequest id q) found hand v = claimed_request id q found hand.link v
 chain_row p (SwapHead i own) found hand v = by_claim v.claims (exchanged found hand v) v
 chain_row p (Connect q before) found hand v = without_loose v q
@@ -138,4 +151,3 @@ chain_row p (ReadNext q) found hand v = by_right v.rights (λ r. read_next found
 chain_row p (ReverseNext q value) found hand v = by_right v.rights (λ r. turned_next v r r.stage) v
 chain_row p (Unconnect q) found hand v = by_claim v.claims (λ c. with_claim v (ready_claim c)) v
 chain_row p (FreeRequest q g) found hand v = by_right v.rights (freed_next v) v
-chain_row p other found hand v = v

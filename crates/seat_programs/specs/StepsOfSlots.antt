@@ -2,6 +2,8 @@
 -- find, and the view behind it.
 use Rattle.std.specs.Prelude.{ℕ, ◌≡◌, ◌≢◌, ◌+◌, ◌-◌, ◌%◌, ◌<◌, ◌≤◌, ◌⊎◌, ◌==◌, true, [], ◌∷◌, if◌then◌else◌, bit_or}
 use mathlib.Core.Option.{Option, none, some}
+use Rattle.sock_model.specs.sock_words.specs.declared.kind.Kind.{Kind}
+use Rattle.sock_model.specs.sock_words.specs.declared.kind.Kind.TheVariants.{A1, A2, A3, A4, A5, A6, A7, A8, S1, S2, S3, S4, S5}
 use Rattle.sock_model.specs.sock_words.specs.declared.plain.Plan.{Plan}
 use Rattle.sock_model.specs.sock_words.specs.PackedWords.{socket_id_version, socket_id_slot, vref_version, vref_nref, IDLE, vref_unused}
 use Rattle.sock_model.specs.declared.chain.Right.{Right}
@@ -13,15 +15,35 @@ use Rattle.sock_model.specs.ChainRows.{with_right}
 use Rattle.sock_model.specs.LinksInSlots.{HoldsLink}
 use Rattle.seat_programs.specs.Programs.{LAST_VERSION}
 use Rattle.seat_programs.specs.TableWords.{TableWord, TagOf, RefOf, LinkOf, HeadOf, CodeOf}
-use Rattle.seat_programs.specs.TableSteps.{TableStep, ClaimSlot, CreateLife, AddRef, SubRef, SetOdd, Recycle, FreeSlot, LookWord, StoreLink, LoadLink, FindLink, ResetHead, ClearCode, StoreCode, LoadCode}
+use Rattle.seat_programs.specs.TableSteps.{SlotStep, ClaimSlot, CreateLife, AddRef, SubRef, SetOdd, Recycle, FreeSlot, LookWord, StoreLink, LoadLink, FindLink, ResetHead, ClearCode, StoreCode, LoadCode}
 use Rattle.seat_programs.specs.StepViews.{Knows, HasRoom, HoldsLife, FindsLink, by_right}
 use Rattle.sock_model.specs.ChainStepConditions.{KeepsRights}
 use Rattle.sock_model.specs.sock_words.specs.Totals.{total}
 
+-- ## The kind
+
+-- as the schedule of a script names it
+abbrev pub slot_kind : SlotStep → Kind
+slot_kind (ClaimSlot i) = A1
+slot_kind (CreateLife i k) = A2
+slot_kind (AddRef id) = A3
+slot_kind (SubRef i) = A4
+slot_kind (SetOdd i) = A5
+slot_kind (Recycle i from) = A6
+slot_kind (FreeSlot i) = A7
+slot_kind (LookWord id) = A8
+slot_kind (StoreLink i k) = S1
+slot_kind (LoadLink i w) = S2
+slot_kind (FindLink i h) = S2
+slot_kind (ResetHead i k) = S3
+slot_kind (ClearCode i k) = S4
+slot_kind (StoreCode i h c) = S4
+slot_kind (LoadCode i h) = S5
+
 -- ## The word
 
 -- the word that a step reads or changes
-abbrev pub word_of_slot : TableStep → Option TableWord
+abbrev pub word_of_slot : SlotStep → Option TableWord
 word_of_slot (ClaimSlot i) = some (TagOf i)
 word_of_slot (CreateLife i k) = some (RefOf i)
 word_of_slot (AddRef id) = some (RefOf (socket_id_slot id))
@@ -37,10 +59,9 @@ word_of_slot (ResetHead i k) = some (HeadOf i)
 word_of_slot (ClearCode i k) = some (CodeOf i)
 word_of_slot (StoreCode i h c) = some (CodeOf i)
 word_of_slot (LoadCode i h) = some (CodeOf i)
-word_of_slot other = none
 
 -- the word behind a step that found this one
-abbrev pub slot_after : TableStep → ℕ → ℕ
+abbrev pub slot_after : SlotStep → ℕ → ℕ
 slot_after (ClaimSlot i) found = 1
 slot_after (CreateLife i k) found = found + 1
 slot_after (AddRef id) found = found + 1
@@ -61,7 +82,7 @@ abbrev pub MayLook : Plan → View → ℕ → Type 0
 MayLook p v id = (v.rights ≡ []) ⊎ ((r : Right) × (v.rights ≡ r ∷ []) × HoldsLink p v (socket_id_slot id) (socket_id_version id) r.link)
 
 -- what the view of the seat says before a step, so that the rule allows it
-abbrev pub SlotMay : Plan → View → TableStep → Type 0
+abbrev pub SlotMay : Plan → View → SlotStep → Type 0
 SlotMay p v (ClaimSlot i) = i < p.slots
 SlotMay p v (CreateLife i k) = (i < p.slots) × (0 < marks_of (is_stage 3 k) i v)
 SlotMay p v (AddRef id) = Knows p v id × HasRoom v (socket_id_slot id)
@@ -77,7 +98,6 @@ SlotMay p v (ResetHead i k) = (i < p.slots) × (0 < marks_of (is_stage 1 k) i v)
 SlotMay p v (ClearCode i k) = (i < p.slots) × (0 < marks_of (is_stage 2 k) i v)
 SlotMay p v (StoreCode i h c) = (i < p.slots) × (0 < marks_of (is_coding h) i v) × (c ≢ 0)
 SlotMay p v (LoadCode i h) = HoldsLife p v i h
-SlotMay p v other = Unit {0}
 
 -- ## What is found
 
@@ -94,7 +114,7 @@ abbrev pub FindsFailed : View → ℕ → ℕ → Type 0
 FindsFailed v i found = (h : ℕ) → 0 < marks_of (is_hold h) i v → 0 < marks_of (is_saw (h + 1)) i v → vref_version found ≡ h + 1
 
 -- what a step may find
-abbrev pub SlotFinds : Plan → View → TableStep → ℕ → Hand → Type 0
+abbrev pub SlotFinds : Plan → View → SlotStep → ℕ → Hand → Type 0
 SlotFinds p v (CreateLife i k) found hand = (vref_nref found < 4294967295) × (vref_version found % 2 ≡ 0) × (vref_version found ≤ LAST_VERSION)
 SlotFinds p v (AddRef id) found hand = vref_nref found < 4294967295
 SlotFinds p v (SubRef i) found hand = (marks_of is_ref i v ≤ vref_nref found) × IsOfHeld v i found × (vref_version found < 4294967295)
@@ -112,7 +132,7 @@ abbrev pub looked_clean : ℕ → ℕ → View → Right → View
 looked_clean i found v r = if vref_version found % 2 == 0 then with_right (looked i found v) (record r { clean = true }) else looked i found v
 
 -- the view behind a step that found this word, and this link at home
-abbrev pub slot_row : Plan → TableStep → ℕ → Hand → View → View
+abbrev pub slot_row : Plan → SlotStep → ℕ → Hand → View → View
 slot_row p (ClaimSlot i) found hand v = claimed i found v
 slot_row p (CreateLife i k) found hand v = gave_birth i found k v
 slot_row p (AddRef id) found hand v = added (socket_id_slot id) found (vref_version found == socket_id_version id) v
@@ -128,4 +148,3 @@ slot_row p (ResetHead i k) found hand v = staged i 1 k 2 v
 slot_row p (ClearCode i k) found hand v = staged i 2 k 3 v
 slot_row p (StoreCode i h c) found hand v = coded i h c v
 slot_row p (LoadCode i h) found hand v = if found == 0 then v else told_code i h found v
-slot_row p other found hand v = v

@@ -8,7 +8,7 @@ use Rattle.sock_words.specs.PackedWords.{socket_id_slot, socket_id_version, vref
 use Rattle.sock_io.specs.declared.link.Put.TheVariants as puts
 use Rattle.sock_model.specs.Entries.{ticket_of}
 use Rattle.sock_words.specs.declared.outcome.Outcome.TheVariants.{Full, Expired}
-use Rattle.seat_programs.specs.TableSteps.{ClaimRequest}
+use Rattle.seat_programs.specs.TableSteps.{OnChain, ClaimRequest}
 use Rattle.seat_programs.specs.LoopHeads.{Posting, HasLocked}
 use Rattle.seat_programs.specs.PostPrograms.{post, posted}
 use Rattle.seat_programs.specs.sock_message.specs.Asked.{Asked}
@@ -99,7 +99,7 @@ sends_claims zero q o id bytes next = refl
 sends_claims (suc more) q o id bytes next =
     let full = release (socket_id_slot id) (λ _. Say o Full next) in
     let sent = release (socket_id_slot id) (λ _. Sent o next) in
-    ap (λ g. let p : Program = Do (ClaimRequest id q) g in p) (fun_ext (λ found.
+    ap (λ g. let p : Program = Do (OnChain (ClaimRequest id q)) g in p) (fun_ext (λ found.
     ap (λ p. let r : Program = if found % 2 == 0 then accept id q (found / 2) (heading_of o) bytes sent else p in r) (sends_claims more (q + 1) o id bytes next)))
 
 -- behind a look that found the life live, the first request is tried

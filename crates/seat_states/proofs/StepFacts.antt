@@ -40,17 +40,17 @@ use Rattle.sock_words.specs.PackedWords.{id_slot}
 
 -- the link in hand without a right before and behind a step
 abbrev pub HandOver : calls.TableStep → Option ℕ → Option ℕ → Type 0
-HandOver (calls.TakeLink k) before behind = (before ≡ None) × (behind ≡ Some k)
-HandOver (calls.FinishLink k) before behind = (before ≡ Some k) × (behind ≡ Some k)
-HandOver (calls.PutLink k) before behind = (before ≡ Some k) × (behind ≡ None)
+HandOver (calls.OnLink (calls.TakeLink k)) before behind = (before ≡ None) × (behind ≡ Some k)
+HandOver (calls.OnLink (calls.FinishLink k)) before behind = (before ≡ Some k) × (behind ≡ Some k)
+HandOver (calls.OnLink (calls.PutLink k)) before behind = (before ≡ Some k) × (behind ≡ None)
 HandOver other before behind = (before ≡ None) × (behind ≡ None)
 
 -- a slot or request that is tried is one of the table's, and a place word has room for the place
 abbrev pub FitsSizes : Sizes → calls.TableStep → Type 0
-FitsSizes sizes (calls.ClaimSlot i) = i < sizes.slots
-FitsSizes sizes (calls.ClaimRequest id q) = q < sizes.requests
-FitsSizes sizes (calls.StorePlace l k n) = n < 4294967295
-FitsSizes sizes (calls.DropPlace l k n) = n < 4294967295
+FitsSizes sizes (calls.OnSlot (calls.ClaimSlot i)) = i < sizes.slots
+FitsSizes sizes (calls.OnChain (calls.ClaimRequest id q)) = q < sizes.requests
+FitsSizes sizes (calls.OnPlace (calls.StorePlace l k n)) = n < 4294967295
+FitsSizes sizes (calls.OnPlace (calls.DropPlace l k n)) = n < 4294967295
 FitsSizes sizes other = Unit {0}
 
 abbrev HasNone : Point → Type 0

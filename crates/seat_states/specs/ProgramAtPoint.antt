@@ -165,21 +165,21 @@ tell author parts c next = tell_drop (heading_by author parts) c next
 -- ## Releasing: what follows is told whether the slot was recycled
 
 abbrev pub free_on : ℕ → (Bool → Program) → Program
-free_on i k = Do (calls.FreeSlot i) (λ _. k true)
+free_on i k = Do (calls.OnSlot (calls.FreeSlot i)) (λ _. k true)
 
 abbrev pub put_on : ℕ → (Bool → Program) → ℕ → ℕ → Program
-put_on i k w l = Do (calls.PutLink l) (λ _. if nat_le w LAST_VERSION then free_on i k else k true)
+put_on i k w l = Do (calls.OnLink (calls.PutLink l)) (λ _. if nat_le w LAST_VERSION then free_on i k else k true)
 
 abbrev pub finish_on : ℕ → (Bool → Program) → ℕ → ℕ → Program
-finish_on i k w l = Do (calls.FinishLink l) (λ _. put_on i k w l)
+finish_on i k w l = Do (calls.OnLink (calls.FinishLink l)) (λ _. put_on i k w l)
 
 abbrev pub take_on : ℕ → (Bool → Program) → ℕ → ℕ → Program
-take_on i k w l = Do (calls.TakeLink l) (λ _. finish_on i k w l)
+take_on i k w l = Do (calls.OnLink (calls.TakeLink l)) (λ _. finish_on i k w l)
 
 abbrev pub release_on : ℕ → (Bool → Program) → ReleaseStep → Program
 release_on i k releases.SubRef = release i k
 release_on i k (releases.Recycle from) = recycle i from.0 k
-release_on i k (releases.LoadLink w) = Do (calls.LoadLink i w) (λ l. take_on i k w l)
+release_on i k (releases.LoadLink w) = Do (calls.OnSlot (calls.LoadLink i w)) (λ l. take_on i k w l)
 release_on i k (releases.TakeLink w l) = take_on i k w l
 release_on i k (releases.FinishLink w l) = finish_on i k w l
 release_on i k (releases.PutLink w l) = put_on i k w l
@@ -217,8 +217,8 @@ module _ (a : Context) where
 
   abbrev pub fail_program : Failing → FailStep → Program
   fail_program f fails.SetOdd = set_failed f.id.0 f.code (failed_program f)
-  fail_program f (fails.StoreCode found) = Do (calls.StoreCode (socket_id_slot f.id.0) (socket_id_version f.id.0) f.code) (λ _. Do (calls.SubRef (socket_id_slot f.id.0)) (λ _. failed_program f found.0))
-  fail_program f (fails.ReleaseFirst found) = Do (calls.SubRef (socket_id_slot f.id.0)) (λ _. failed_program f found.0)
+  fail_program f (fails.StoreCode found) = Do (calls.OnSlot (calls.StoreCode (socket_id_slot f.id.0) (socket_id_version f.id.0) f.code)) (λ _. Do (calls.OnSlot (calls.SubRef (socket_id_slot f.id.0))) (λ _. failed_program f found.0))
+  fail_program f (fails.ReleaseFirst found) = Do (calls.OnSlot (calls.SubRef (socket_id_slot f.id.0))) (λ _. failed_program f found.0)
 
   -- ## Sending
 
@@ -231,14 +231,14 @@ module _ (a : Context) where
   full_program (authors.Attempt t) id = post (id_of t.id) EREQUESTS (number_of t.number) (release (socket_id_slot id) (then_program thens.GaveBack))
 
   abbrev pub connect_program : Sending → ℕ → ℕ → Program
-  connect_program s q before = Do (calls.Connect q before) (λ _. sent_program s.author s.id.0)
+  connect_program s q before = Do (calls.OnChain (calls.Connect q before)) (λ _. sent_program s.author s.id.0)
 
   abbrev pub swap_program : Sending → ℕ → ℕ → Program
-  swap_program s q own = Do (calls.SwapHead (socket_id_slot s.id.0) own) (λ found.
+  swap_program s q own = Do (calls.OnChain (calls.SwapHead (socket_id_slot s.id.0) own)) (λ found.
       if nat_lt found IDLE then connect_program s q found else write_link s.id.0 q own (sent_program s.author s.id.0))
 
   abbrev pub unconnect_program : Sending → ℕ → ℕ → Program
-  unconnect_program s q own = Do (calls.Unconnect q) (λ _. swap_program s q own)
+  unconnect_program s q own = Do (calls.OnChain (calls.Unconnect q)) (λ _. swap_program s q own)
 
   -- the message of request q is taken, with the link in hand
   abbrev pub first_program : Sending → ℕ → ℕ → ℕ → ℕ → Program
@@ -256,17 +256,17 @@ module _ (a : Context) where
   -- the life is held, and its word is looked at
   abbrev pub look_program : Author → ℕ → Program
   look_program (authors.Send o) id = start a.sizes.requests o id a.message client_on
-  look_program (authors.Attempt t) id = Do (calls.LookWord id) (λ found.
+  look_program (authors.Attempt t) id = Do (calls.OnSlot (calls.LookWord id)) (λ found.
       if vref_version found % 2 == 0
       then claims_from a.sizes.requests 0 id (heading_by (authors.Attempt t) a.parts) a.message (full_program (authors.Attempt t) id) (sent_program (authors.Attempt t) id)
       else failed_look (authors.Attempt t) id found)
 
   abbrev pub send_program : Sending → SendStep → Program
   send_program s sends.Look = look_program s.author s.id.0
-  send_program s (sends.Claim q) = Do (calls.ClaimRequest s.id.0 q) (λ found.
+  send_program s (sends.Claim q) = Do (calls.OnChain (calls.ClaimRequest s.id.0 q)) (λ found.
       if found % 2 == 0 then accept s.id.0 q (found / 2) (heading_by s.author a.parts) a.message (sent_program s.author s.id.0)
       else claims_program s (a.sizes.requests - (q + 1)) (q + 1))
-  send_program s (sends.PutMessage q own) = Do (calls.PutMessage q (heading_by s.author a.parts) a.message) (λ _. unconnect_program s q own.0)
+  send_program s (sends.PutMessage q own) = Do (calls.OnMessage (calls.PutMessage q (heading_by s.author a.parts) a.message)) (λ _. unconnect_program s q own.0)
   send_program s (sends.Unconnect q own) = unconnect_program s q own.0
   send_program s (sends.SwapHead q own) = swap_program s q own.0
   send_program s (sends.Connect q before) = connect_program s q before.0
@@ -290,13 +290,13 @@ module _ (a : Context) where
 
     -- the first look: where the life was found failed, the loop begins with a look of its own
     abbrev pub first_look : Current → Program
-    first_look c = Do (calls.LookWord w.holder.id.0) (λ found. if vref_version found % 2 == 0 then put_piece c false else puts_program c false)
+    first_look c = Do (calls.OnSlot (calls.LookWord w.holder.id.0)) (λ found. if vref_version found % 2 == 0 then put_piece c false else puts_program c false)
 
     abbrev pub give_program : Current → Program
-    give_program c = Do (calls.SubRef (socket_id_slot w.holder.id.0)) (λ _. puts_program c false)
+    give_program c = Do (calls.OnSlot (calls.SubRef (socket_id_slot w.holder.id.0))) (λ _. puts_program c false)
 
     abbrev pub drop_program : Current → ℕ → Program
-    drop_program c n = Do (calls.DropPlace (place_by c.author) w.holder.link w.holder.places) (λ _. passed_telling (one_more (holder_of w.holder)) c.ticket.0 (tell c.author a.left_parts n) written_program)
+    drop_program c n = Do (calls.OnPlace (calls.DropPlace (place_by c.author) w.holder.link w.holder.places)) (λ _. passed_telling (one_more (holder_of w.holder)) c.ticket.0 (tell c.author a.left_parts n) written_program)
 
     -- a message is taken, with which the holder goes on
     abbrev pub next_message : heads.Holder → ℕ → Program
@@ -326,19 +326,19 @@ module _ (a : Context) where
     write_program (writes.Put c asked) = put_piece c asked
     write_program (writes.Ask c) = Write (heads.Waits (holder_of w.holder) c.ticket.0 (heading_by c.author a.left_parts) a.left a.taken) written_program
     write_program (writes.SetOdd c) = set_failed w.holder.id.0 EFAILEDSOCKET (λ _. puts_program c false)
-    write_program (writes.StoreCode c) = Do (calls.StoreCode (socket_id_slot w.holder.id.0) (socket_id_version w.holder.id.0) EFAILEDSOCKET) (λ _. give_program c)
+    write_program (writes.StoreCode c) = Do (calls.OnSlot (calls.StoreCode (socket_id_slot w.holder.id.0) (socket_id_version w.holder.id.0) EFAILEDSOCKET)) (λ _. give_program c)
     write_program (writes.ReleaseFirst c) = give_program c
-    write_program (writes.StorePlace c) = Do (calls.StorePlace (place_by c.author) w.holder.link w.holder.places) (λ _. passed (one_more (holder_of w.holder)) c.ticket.0 written_program)
-    write_program (writes.LoadCode c) = Do (calls.LoadCode (socket_id_slot w.holder.id.0) (socket_id_version w.holder.id.0)) (λ n. drop_program c n)
+    write_program (writes.StorePlace c) = Do (calls.OnPlace (calls.StorePlace (place_by c.author) w.holder.link w.holder.places)) (λ _. passed (one_more (holder_of w.holder)) c.ticket.0 written_program)
+    write_program (writes.LoadCode c) = Do (calls.OnSlot (calls.LoadCode (socket_id_slot w.holder.id.0) (socket_id_version w.holder.id.0))) (λ n. drop_program c n)
     write_program (writes.DropPlace c n) = drop_program c n
-    write_program (writes.ReadNext now c) = Do (calls.ReadNext (ticket_request now.0)) (λ next. freed now.0 (told c (next_message (holder_of w.holder) next)))
-    write_program (writes.Free now next c) = Do (calls.FreeRequest (ticket_request now.0) (ticket_generation now.0)) (λ _. behind_drop c next)
+    write_program (writes.ReadNext now c) = Do (calls.OnChain (calls.ReadNext (ticket_request now.0))) (λ next. freed now.0 (told c (next_message (holder_of w.holder) next)))
+    write_program (writes.Free now next c) = Do (calls.OnChain (calls.FreeRequest (ticket_request now.0) (ticket_generation now.0))) (λ _. behind_drop c next)
     write_program (writes.TakeMessage next) = next_message (holder_of w.holder) next.0
     write_program writes.PutHome = Write (heads.Empties (holder_of w.holder)) written_program
-    write_program writes.EmptyHead = Do (calls.EmptyHead (socket_id_slot w.holder.id.0) w.holder.last.0) (λ found. if found == w.holder.last.0 then written_program else taken_again found)
+    write_program writes.EmptyHead = Do (calls.OnChain (calls.EmptyHead (socket_id_slot w.holder.id.0) w.holder.last.0)) (λ found. if found == w.holder.last.0 then written_program else taken_again found)
     write_program (writes.TakeHome found) = taken_again found.0
     write_program (writes.Reversing top at after) = walk_program top.0 at.0 after.0
-    write_program (writes.ReverseNext top at after before) = Do (calls.ReverseNext (ticket_request at.0) after.0) (λ _.
+    write_program (writes.ReverseNext top at after before) = Do (calls.OnChain (calls.ReverseNext (ticket_request at.0) after.0)) (λ _.
         if before.0 == w.holder.last.0 then first_of_walk top.0 at.0 else walk_program top.0 before.0 at.0)
     write_program (writes.TakeFirst top at) = first_of_walk top.0 at.0
 
@@ -368,28 +368,28 @@ module _ (a : Context) where
   -- ## Opening
 
   abbrev pub name_program : Opening → ℕ → ℕ → Program
-  name_program g i v = Do (calls.StoreName g.name (socket_id v i + 1)) (λ _. Say g.operation (Opened i v g.link) client_on)
+  name_program g i v = Do (calls.OnName (calls.StoreName g.name (socket_id v i + 1))) (λ _. Say g.operation (Opened i v g.link) client_on)
 
   abbrev pub told_program : Opening → ℕ → ℕ → Program
-  told_program g i v = Do (calls.StoreOpen g.operation (socket_id v i + 1)) (λ _. name_program g i v)
+  told_program g i v = Do (calls.OnName (calls.StoreOpen g.operation (socket_id v i + 1))) (λ _. name_program g i v)
 
   abbrev pub birth_program : Opening → ℕ → Program
-  birth_program g i = Do (calls.CreateLife i g.link) (λ found. told_program g i (vref_version found))
+  birth_program g i = Do (calls.OnSlot (calls.CreateLife i g.link)) (λ found. told_program g i (vref_version found))
 
   abbrev pub wipe_program : Opening → ℕ → Program
-  wipe_program g i = Do (calls.ClearCode i g.link) (λ _. birth_program g i)
+  wipe_program g i = Do (calls.OnSlot (calls.ClearCode i g.link)) (λ _. birth_program g i)
 
   abbrev pub reset_program : Opening → ℕ → Program
-  reset_program g i = Do (calls.ResetHead i g.link) (λ _. wipe_program g i)
+  reset_program g i = Do (calls.OnSlot (calls.ResetHead i g.link)) (λ _. wipe_program g i)
 
   abbrev pub none_program : Opening → Program
-  none_program g = Do (calls.StoreOpen g.operation NO_SOCKET) (λ _. Say g.operation SlotsFull client_on)
+  none_program g = Do (calls.OnName (calls.StoreOpen g.operation NO_SOCKET)) (λ _. Say g.operation SlotsFull client_on)
 
   abbrev pub unused_program : Opening → Program
-  unused_program g = Do (calls.PutLink g.link) (λ _. none_program g)
+  unused_program g = Do (calls.OnLink (calls.PutLink g.link)) (λ _. none_program g)
 
   abbrev pub open_program : Opening → OpenStep → Program
-  open_program g (opens.Claim i) = Do (calls.ClaimSlot i) (λ found.
+  open_program g (opens.Claim i) = Do (calls.OnSlot (calls.ClaimSlot i)) (λ found.
       if found == 0 then make_socket g.operation g.name g.link i client_on else open_from (a.sizes.slots - (i + 1)) (i + 1) g.operation g.name g.link client_on)
   open_program g (opens.StoreLink i) = make_socket g.operation g.name g.link i client_on
   open_program g (opens.ResetHead i) = reset_program g i
@@ -398,7 +398,7 @@ module _ (a : Context) where
   open_program g (opens.StoreOpen i v) = told_program g i v
   open_program g (opens.StoreName i v) = name_program g i v
   open_program g opens.TakeLink = no_socket g.operation g.link client_on
-  open_program g opens.FinishLink = Do (calls.FinishLink g.link) (λ _. unused_program g)
+  open_program g opens.FinishLink = Do (calls.OnLink (calls.FinishLink g.link)) (λ _. unused_program g)
   open_program g opens.PutLink = unused_program g
   open_program g opens.StoreNone = none_program g
 
@@ -426,7 +426,7 @@ module _ (a : Context) where
   at_program t socket k = Aside (asides.StoreAt t.operation (at_word (id_first (id_of t.id)) (id_slot (id_of t.id)) k (number_of t.number))) (λ _. look_program (authors.Attempt t) socket.0)
 
   abbrev pub find_program : Attempt → SocketId → Program
-  find_program t socket = Do (calls.FindLink (socket_id_slot socket.0) (socket_id_version socket.0)) (λ k. at_program t socket k)
+  find_program t socket = Do (calls.OnSlot (calls.FindLink (socket_id_slot socket.0) (socket_id_version socket.0))) (λ k. at_program t socket k)
 
   abbrev pub attempt_program : Attempt → SocketId → AttemptStep → Program
   attempt_program t socket attempts.AddRef = add_reference socket.0 (find_program t socket) (λ found. then_program (thens.Unreached t) false)

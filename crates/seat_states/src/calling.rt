@@ -9,6 +9,8 @@ use crate::point::{
     Sending, Step,
 };
 use crate::releasing::releasing;
+use crate::name_step::NameStep;
+use crate::slot_step::SlotStep;
 use crate::table_step::TableStep;
 use call_points::Aside;
 use id_points::{AttemptNumber, CallId};
@@ -41,7 +43,7 @@ impl CallStep {
         ensures { (a : Context) → IsCalling a calling → first_in (call_program a self) ≡ Some (step_as a result) }
     {
         match self {
-            CallStep::LoadName => Step::Table(TableStep::LoadName(calling.name)),
+            CallStep::LoadName => Step::Table(TableStep::Name(NameStep::LoadName(calling.name))),
             CallStep::ClaimId(slot, _) => Step::Aside(Aside::ClaimId(slot)),
             CallStep::PutCall(slot, _) => Step::Aside(Aside::PutCall(slot)),
             CallStep::MakeId(slot, _) => Step::Aside(Aside::MakeId(slot, calling.range)),
@@ -117,8 +119,8 @@ impl AttemptStep {
         ensures { (a : Context) → first_in (attempt_program a attempt socket self) ≡ Some (step_as a result) }
     {
         match self {
-            AttemptStep::AddRef => Step::Table(TableStep::AddRef(socket)),
-            AttemptStep::FindLink => Step::Table(TableStep::FindLink(socket)),
+            AttemptStep::AddRef => Step::Table(TableStep::Slot(SlotStep::AddRef(socket))),
+            AttemptStep::FindLink => Step::Table(TableStep::Slot(SlotStep::FindLink(socket))),
             AttemptStep::StoreAt(link) => {
                 let id = attempt.id;
                 let word = AtWord::pack(id.first(), id.slot(), link, attempt.number.get());

@@ -3,21 +3,31 @@
 
 pub mod asking;
 pub mod calling;
+pub mod chain_step;
 pub mod follows;
+pub mod link_step;
+pub mod name_step;
 pub mod opening;
+pub mod place_step;
 pub mod point;
 pub mod releasing;
 pub mod retrying;
 pub mod seeking;
 pub mod sending;
+pub mod slot_step;
 pub mod steps;
 pub mod table_step;
 pub mod writing;
 
 pub use calling::Calling;
+pub use chain_step::ChainStep;
+pub use link_step::LinkStep;
+pub use name_step::NameStep;
+pub use place_step::PlaceStep;
 pub use point::{
     AfterStep, Aim, Attempt, AttemptStep, Author, CallStep, Continuation, Current, FailStep,
     Failing, Holder, JoinStep, Next, OpenStep, Opening, Point, ReleaseStep, Released, RetryStep,
     Retrying, SeekStep, SendStep, Sending, Step, WriteStep, Writer,
 };
+pub use slot_step::SlotStep;
 pub use table_step::TableStep;

@@ -12,6 +12,7 @@ use crate::asking::posting;
 use crate::point::{
     AfterStep, Attempt, AttemptStep, JoinStep, Next, Point, RetryStep, Retrying, Step,
 };
+use crate::name_step::NameStep;
 use crate::table_step::TableStep;
 use call_points::{Aside, DecideStep, Locker, OnCall, WordStep};
 use id_points::{CallId, IdError, LockTurn, Sought, UnlockTurn, is_awaited, unlock_behind};
@@ -48,7 +49,7 @@ impl Retrying {
             RetryStep::Unlock(from, advance) => {
                 Step::Aside(Aside::UnlockId(slot, from, advance))
             }
-            RetryStep::LoadName => Step::Table(TableStep::LoadName(self.name)),
+            RetryStep::LoadName => Step::Table(TableStep::Name(NameStep::LoadName(self.name))),
         }
     }
 

@@ -10,6 +10,8 @@ use crate::point::{
     Step, WriteStep, Writer,
 };
 use crate::releasing::releasing;
+use crate::chain_step::ChainStep;
+use crate::slot_step::SlotStep;
 use crate::table_step::TableStep;
 use sock_words::{EFAILEDSOCKET, EREQUESTS, Ticket, Vref};
 
@@ -51,13 +53,13 @@ impl Sending {
     {
         let slot = self.id.slot();
         match step {
-            SendStep::Look => Step::Table(TableStep::LookWord(self.id)),
-            SendStep::Claim(request) => Step::Table(TableStep::ClaimRequest(self.id, request)),
+            SendStep::Look => Step::Table(TableStep::Slot(SlotStep::LookWord(self.id))),
+            SendStep::Claim(request) => Step::Table(TableStep::Chain(ChainStep::ClaimRequest(self.id, request))),
             SendStep::PutMessage(request, _) => Step::PutMessage(request, self.author),
-            SendStep::Unconnect(request, _) => Step::Table(TableStep::Unconnect(request)),
-            SendStep::SwapHead(_, own) => Step::Table(TableStep::SwapHead(slot, own)),
-            SendStep::Connect(request, before) => Step::Table(TableStep::Connect(request, before)),
-            SendStep::FindLink(_, _) => Step::Table(TableStep::FindLink(self.id)),
+            SendStep::Unconnect(request, _) => Step::Table(TableStep::Chain(ChainStep::Unconnect(request))),
+            SendStep::SwapHead(_, own) => Step::Table(TableStep::Chain(ChainStep::SwapHead(slot, own))),
+            SendStep::Connect(request, before) => Step::Table(TableStep::Chain(ChainStep::Connect(request, before))),
+            SendStep::FindLink(_, _) => Step::Table(TableStep::Slot(SlotStep::FindLink(self.id))),
             SendStep::TakeHome(_, _, link) => Step::TakeHome(link),
             SendStep::TakeMessage(request, _, _, _) => Step::TakeMessage(request),
         }

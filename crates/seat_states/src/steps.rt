@@ -6,6 +6,9 @@ ghost use Rattle.seat_states.specs.ProgramStepsOfMachine.{OfTable, step_of, firs
 
 use crate::calling::Calling;
 use crate::point::{Aim, FailStep, Failing, OpenStep, Opening, Point, ReleaseStep, SeekStep, Step};
+use crate::link_step::LinkStep;
+use crate::name_step::NameStep;
+use crate::slot_step::SlotStep;
 use crate::table_step::TableStep;
 use call_points::Aside;
 use sock_words::{Kind, NO_SOCKET, SocketId};
@@ -23,21 +26,21 @@ impl Opening {
         ensures { (a : Context) → first_in (open_program a self step) ≡ Some (OfTable (step_of result)) }
     {
         match step {
-            OpenStep::Claim(slot) => TableStep::ClaimSlot(u32::from(slot)),
-            OpenStep::StoreLink(slot) => TableStep::StoreLink(u32::from(slot), self.link),
-            OpenStep::ResetHead(slot) => TableStep::ResetHead(u32::from(slot), self.link),
-            OpenStep::ClearCode(slot) => TableStep::ClearCode(u32::from(slot), self.link),
-            OpenStep::CreateLife(slot) => TableStep::CreateLife(u32::from(slot), self.link),
+            OpenStep::Claim(slot) => TableStep::Slot(SlotStep::ClaimSlot(u32::from(slot))),
+            OpenStep::StoreLink(slot) => TableStep::Slot(SlotStep::StoreLink(u32::from(slot), self.link)),
+            OpenStep::ResetHead(slot) => TableStep::Slot(SlotStep::ResetHead(u32::from(slot), self.link)),
+            OpenStep::ClearCode(slot) => TableStep::Slot(SlotStep::ClearCode(u32::from(slot), self.link)),
+            OpenStep::CreateLife(slot) => TableStep::Slot(SlotStep::CreateLife(u32::from(slot), self.link)),
             OpenStep::StoreOpen(slot, version) => {
-                TableStep::StoreOpen(self.operation, socket_word(version, slot))
+                TableStep::Name(NameStep::StoreOpen(self.operation, socket_word(version, slot)))
             }
             OpenStep::StoreName(slot, version) => {
-                TableStep::StoreName(self.name, socket_word(version, slot))
+                TableStep::Name(NameStep::StoreName(self.name, socket_word(version, slot)))
             }
-            OpenStep::TakeLink => TableStep::TakeLink(self.link),
-            OpenStep::FinishLink => TableStep::FinishLink(self.link),
-            OpenStep::PutLink => TableStep::PutLink(self.link),
-            OpenStep::StoreNone => TableStep::StoreOpen(self.operation, NO_SOCKET),
+            OpenStep::TakeLink => TableStep::Link(LinkStep::TakeLink(self.link)),
+            OpenStep::FinishLink => TableStep::Link(LinkStep::FinishLink(self.link)),
+            OpenStep::PutLink => TableStep::Link(LinkStep::PutLink(self.link)),
+            OpenStep::StoreNone => TableStep::Name(NameStep::StoreOpen(self.operation, NO_SOCKET)),
         }
     }
 }
@@ -48,12 +51,12 @@ impl Aim {
         ensures { (a : Context) → first_in (seek_program a self step) ≡ Some (OfTable (step_of result)) }
     {
         match step {
-            SeekStep::AddRef(id) => TableStep::AddRef(id),
+            SeekStep::AddRef(id) => TableStep::Slot(SlotStep::AddRef(id)),
             SeekStep::Load => match self {
                 Aim::Hold { name, .. } | Aim::Send { name, .. } | Aim::Fail { name, .. } => {
-                    TableStep::LoadName(name)
+                    TableStep::Name(NameStep::LoadName(name))
                 }
-                Aim::End { operation } => TableStep::LoadOpen(operation),
+                Aim::End { operation } => TableStep::Name(NameStep::LoadOpen(operation)),
             },
         }
     }
@@ -65,11 +68,11 @@ impl Failing {
         ensures { (a : Context) → first_in (fail_program a self step) ≡ Some (OfTable (step_of result)) }
     {
         match step {
-            FailStep::SetOdd => TableStep::SetOdd(self.id.slot()),
+            FailStep::SetOdd => TableStep::Slot(SlotStep::SetOdd(self.id.slot())),
             FailStep::StoreCode(_) => {
-                TableStep::StoreCode(self.id.slot(), self.id.version(), self.code)
+                TableStep::Slot(SlotStep::StoreCode(self.id.slot(), self.id.version(), self.code))
             }
-            FailStep::ReleaseFirst(_) => TableStep::SubRef(self.id.slot()),
+            FailStep::ReleaseFirst(_) => TableStep::Slot(SlotStep::SubRef(self.id.slot())),
         }
     }
 }
@@ -80,13 +83,13 @@ impl ReleaseStep {
         ensures { (k : Bool → Program) → first_in (release_on slot k self) ≡ Some (OfTable (step_of result)) }
     {
         match self {
-            ReleaseStep::SubRef => TableStep::SubRef(slot),
-            ReleaseStep::Recycle(from) => TableStep::Recycle(slot, from),
-            ReleaseStep::LoadLink(version) => TableStep::LoadLink(slot, version),
-            ReleaseStep::TakeLink(_, link) => TableStep::TakeLink(link),
-            ReleaseStep::FinishLink(_, link) => TableStep::FinishLink(link),
-            ReleaseStep::PutLink(_, link) => TableStep::PutLink(link),
-            ReleaseStep::FreeSlot => TableStep::FreeSlot(slot),
+            ReleaseStep::SubRef => TableStep::Slot(SlotStep::SubRef(slot)),
+            ReleaseStep::Recycle(from) => TableStep::Slot(SlotStep::Recycle(slot, from)),
+            ReleaseStep::LoadLink(version) => TableStep::Slot(SlotStep::LoadLink(slot, version)),
+            ReleaseStep::TakeLink(_, link) => TableStep::Link(LinkStep::TakeLink(link)),
+            ReleaseStep::FinishLink(_, link) => TableStep::Link(LinkStep::FinishLink(link)),
+            ReleaseStep::PutLink(_, link) => TableStep::Link(LinkStep::PutLink(link)),
+            ReleaseStep::FreeSlot => TableStep::Slot(SlotStep::FreeSlot(slot)),
         }
     }
 }

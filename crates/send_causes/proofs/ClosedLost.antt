@@ -14,7 +14,7 @@ use Rattle.sock_model.specs.SocketTableLayout.{ref_index}
 use Rattle.seat_programs.specs.brpc_model.specs.Items.{Item}
 use Rattle.seat_programs.specs.brpc_model.specs.Operations.{Turn}
 use Rattle.seat_programs.specs.brpc_model.specs.Script.{script_of}
-use Rattle.seat_programs.specs.TableSteps.{ClaimRequest}
+use Rattle.seat_programs.specs.TableSteps.{OnChain, ClaimRequest}
 use Rattle.seat_programs.specs.ClientProgram.{ending_of}
 use Rattle.seat_programs.specs.Cores.{Core, SeatState, waiting_at}
 use Rattle.seat_programs.specs.ScheduledRuns.{IsAtRest}
@@ -194,17 +194,17 @@ module _ (script : List Item) (made : AreMade script) (turns : List Turn) (core 
       (end_answered script made.are (first_views script) (start script made turns core is) (go script made turns core is) turns core is (fitting script made turns core is)) (fitting script made turns core is).of_closing o n e)
 
   -- and a request that was found taken was used
-  taken_on : (id r found : ℕ) → IsSo (plan_of script) rested rested_views (DidStep (ClaimRequest id r) found) → IsSo (plan_of script) core end_views (DidStep (ClaimRequest id r) found)
-  taken_on id r found so = subst (λ c. IsSo (plan_of script) c end_views (DidStep (ClaimRequest id r) found)) (sym is.is_end)
-      (run_keeps (plan_of script) goes is.final is.ended closed_views over_sound is.answered_again (fitting script made turns core is).of_final (DidStep (ClaimRequest id r) found) at_end)
+  taken_on : (id r found : ℕ) → IsSo (plan_of script) rested rested_views (DidStep (OnChain (ClaimRequest id r)) found) → IsSo (plan_of script) core end_views (DidStep (OnChain (ClaimRequest id r)) found)
+  taken_on id r found so = subst (λ c. IsSo (plan_of script) c end_views (DidStep (OnChain (ClaimRequest id r)) found)) (sym is.is_end)
+      (run_keeps (plan_of script) goes is.final is.ended closed_views over_sound is.answered_again (fitting script made turns core is).of_final (DidStep (OnChain (ClaimRequest id r)) found) at_end)
     where
-      closed : IsSo (plan_of script) (run (plan_of script) (closing_of script turns core is) (replicate is.last (quiet 0))) (views_closed script turns core is (first_views script)) (DidStep (ClaimRequest id r) found)
+      closed : IsSo (plan_of script) (run (plan_of script) (closing_of script turns core is) (replicate is.last (quiet 0))) (views_closed script turns core is (first_views script)) (DidStep (OnChain (ClaimRequest id r)) found)
       closed = run_keeps (plan_of script) (go script made turns core is) (replicate is.last (quiet 0)) (closing_of script turns core is) (views_played script turns core is (first_views script))
           (closing_sound script made.are (first_views script) (start script made turns core is) (go script made turns core is) turns core is (fitting script made turns core is))
-          (end_answered script made.are (first_views script) (start script made turns core is) (go script made turns core is) turns core is (fitting script made turns core is)) (fitting script made turns core is).of_closing (DidStep (ClaimRequest id r) found) so
+          (end_answered script made.are (first_views script) (start script made turns core is) (go script made turns core is) turns core is (fitting script made turns core is)) (fitting script made turns core is).of_closing (DidStep (OnChain (ClaimRequest id r)) found) so
 
-      at_end : IsSo (plan_of script) is.ended (views_closed script turns core is (first_views script)) (DidStep (ClaimRequest id r) found)
-      at_end = subst (λ c. IsSo (plan_of script) c (views_closed script turns core is (first_views script)) (DidStep (ClaimRequest id r) found)) (sym is.is_ended) closed
+      at_end : IsSo (plan_of script) is.ended (views_closed script turns core is (first_views script)) (DidStep (OnChain (ClaimRequest id r)) found)
+      at_end = subst (λ c. IsSo (plan_of script) c (views_closed script turns core is (first_views script)) (DidStep (OnChain (ClaimRequest id r)) found)) (sym is.is_ended) closed
 
   -- ## In the end
 

@@ -13,7 +13,7 @@ use Rattle.sock_message.specs.Asked.{Asked, frame_of}
 use Rattle.seat_programs.specs.declared.task.Op.{Op}
 use Rattle.seat_programs.specs.declared.task.Task.{Task}
 use Rattle.seat_programs.specs.declared.task.Sizes.{Sizes}
-use Rattle.seat_programs.specs.TableSteps.{TableStep, AddRef, LookWord, FindLink, ClaimRequest, PutMessage, Unconnect, SwapHead}
+use Rattle.seat_programs.specs.TableSteps.{TableStep, OnSlot, OnChain, OnMessage, AddRef, LookWord, FindLink, ClaimRequest, PutMessage, Unconnect, SwapHead}
 use Rattle.seat_programs.specs.ClientProgram.{HeldLife, operation, client_from}
 use Rattle.seat_programs.specs.Asides.{Step, Found, StoreAt}
 use Rattle.seat_programs.specs.LoopHeads.{Head, Exit, Retry, Unlocks, Opens, Unlocking}
@@ -61,14 +61,14 @@ module _ (requests : ℕ) where
   AtFree other X = ⊥
 
   abbrev GoesAt : Mode → TableStep → (ℕ → Program) → (Mode → ℕ → Type 0) → Type 0
-  GoesAt Free (AddRef id) next behind = (found : ℕ) → behind Free found ⊎ ((t : Try) × (t.socket ≡ id) × (vref_version found ≡ socket_id_version id) × (t.heading.label.attempt ≤ 6) × behind (Held t) found)
+  GoesAt Free (OnSlot (AddRef id)) next behind = (found : ℕ) → behind Free found ⊎ ((t : Try) × (t.socket ≡ id) × (vref_version found ≡ socket_id_version id) × (t.heading.label.attempt ≤ 6) × behind (Held t) found)
   GoesAt Free call next behind = (found : ℕ) → behind Free found
-  GoesAt (Held t) (FindLink i h) next behind = (i ≡ socket_id_slot t.socket) × (h ≡ socket_id_version t.socket) × ((k : ℕ) → behind (Linked t k) k)
-  GoesAt (Stored t k) (LookWord s) next behind = (s ≡ t.socket) × ((found : ℕ) → (vref_version found % 2 ≡ 0 → behind (Claims t k 0) found ⊎ ((0 ≡ requests) × behind Free found)) × (vref_version found % 2 ≡ 1 → behind Free found))
-  GoesAt (Claims t k q) (ClaimRequest s r) next behind = (r ≡ q) × ((found : ℕ) → (found % 2 ≡ 0 → behind (Claimed t k) found) × (found % 2 ≡ 1 → behind (Claims t k (q + 1)) found ⊎ ((q + 1 ≡ requests) × behind Free found)))
-  GoesAt (Claimed t k) (PutMessage r heading bytes) next behind = (heading ≡ t.heading) × ((found : ℕ) → behind (Filled t k) found)
-  GoesAt (Filled t k) (Unconnect r) next behind = (found : ℕ) → behind (Marked t k) found
-  GoesAt (Marked t k) (SwapHead i own) next behind = (found : ℕ) → behind Free found
+  GoesAt (Held t) (OnSlot (FindLink i h)) next behind = (i ≡ socket_id_slot t.socket) × (h ≡ socket_id_version t.socket) × ((k : ℕ) → behind (Linked t k) k)
+  GoesAt (Stored t k) (OnSlot (LookWord s)) next behind = (s ≡ t.socket) × ((found : ℕ) → (vref_version found % 2 ≡ 0 → behind (Claims t k 0) found ⊎ ((0 ≡ requests) × behind Free found)) × (vref_version found % 2 ≡ 1 → behind Free found))
+  GoesAt (Claims t k q) (OnChain (ClaimRequest s r)) next behind = (r ≡ q) × ((found : ℕ) → (found % 2 ≡ 0 → behind (Claimed t k) found) × (found % 2 ≡ 1 → behind (Claims t k (q + 1)) found ⊎ ((q + 1 ≡ requests) × behind Free found)))
+  GoesAt (Claimed t k) (OnMessage (PutMessage r heading bytes)) next behind = (heading ≡ t.heading) × ((found : ℕ) → behind (Filled t k) found)
+  GoesAt (Filled t k) (OnChain (Unconnect r)) next behind = (found : ℕ) → behind (Marked t k) found
+  GoesAt (Marked t k) (OnChain (SwapHead i own)) next behind = (found : ℕ) → behind Free found
   GoesAt m call next behind = ⊥
 
   abbrev GoesBeside : Mode → (step : Step) → (Found step → Program) → (Mode → Found step → Type 0) → Type 0
@@ -109,7 +109,7 @@ module _ (requests : ℕ) where
   -- ## Parts that are no attempt
 
   goes_call : (call : TableStep) (next : ℕ → Program) → ((found : ℕ) → G (next found)) → G (Do call next)
-  goes_call (AddRef id) next r = λ found. inl (r found)
+  goes_call (OnSlot (AddRef id)) next r = λ found. inl (r found)
   goes_call call next r = r
 
   goes_aside : (step : Step) (next : Found step → Program) → is_plain_aside step ≡ true → ((found : Found step) → G (next found)) → G (Aside step next)
@@ -166,7 +166,7 @@ module _ (requests : ℕ) where
     claiming = claims_from requests 0 t.socket t.heading bytes (failing 3001) rest
 
     abbrev linking : Program
-    linking = Do (FindLink (socket_id_slot t.socket) (socket_id_version t.socket)) (λ k. Aside (StoreAt t.heading.label.operation (at_word (id_first t.id) (id_slot t.id) k t.heading.label.attempt)) (λ _. Do (LookWord t.socket) (λ found. cond (vref_version found % 2 == 0) claiming (failing 1009))))
+    linking = Do (OnSlot (FindLink (socket_id_slot t.socket) (socket_id_version t.socket))) (λ k. Aside (StoreAt t.heading.label.operation (at_word (id_first t.id) (id_slot t.id) k t.heading.label.attempt)) (λ _. Do (OnSlot (LookWord t.socket)) (λ found. cond (vref_version found % 2 == 0) claiming (failing 1009))))
 
     rests : G rest
     rests = through_release G goes_plain.words (socket_id_slot t.socket) (λ _. next) (λ _. after)

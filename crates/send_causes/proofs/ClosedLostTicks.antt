@@ -21,7 +21,7 @@ use Rattle.dropped_calls.specs.Below.sock_steps.proofs.SumsAsMarksChange.{either
 use Rattle.seat_programs.specs.id_rule.specs.LawfulIdTable as ids
 use Rattle.seat_programs.specs.Asides.{Step, Found, StoreAt}
 use Rattle.seat_programs.specs.FoundAndChangedAside.{calls_after}
-use Rattle.seat_programs.specs.TableSteps.{TableStep, AddRef, LookWord, FindLink, ClaimRequest, PutMessage, Unconnect, SwapHead}
+use Rattle.seat_programs.specs.TableSteps.{TableStep, OnSlot, OnChain, OnMessage, AddRef, LookWord, FindLink, ClaimRequest, PutMessage, Unconnect, SwapHead}
 use Rattle.seat_programs.specs.LoopHeads.{Retry}
 use Rattle.seat_programs.specs.Programs.{Program, Do, TakeMessage, TakeHome, PutHome, PutBytes, AskReady, Aside}
 use Rattle.seat_programs.specs.Cores.{Core, SeatState, found_at, resolved, next_step, waiting_at, hand_after, link_place, lies_at, others_of}
@@ -72,10 +72,10 @@ module _ (o n : ℕ) where
 
   -- a step keeps it
   row_entry : (p : Plan) (v : View) (found : ℕ) (hand : Hand) (call : TableStep) → HasEntry o n v → HasEntry o n (row p call found hand v)
-  row_entry p v found hand (ClaimRequest id q) h = either_way (found % 2 == 0) _ v (HasEntry o n) h h
-  row_entry p v found hand (PutMessage q heading bytes) h = claim_way (HasEntry o n) v.claims (λ c. with_claim v (filled_claim c heading bytes)) v h (λ c. h)
-  row_entry p v found hand (Unconnect q) h = claim_way (HasEntry o n) v.claims (λ c. with_claim v (ready_claim c)) v h (λ c. h)
-  row_entry p v found hand (SwapHead i own) h = claim_way (HasEntry o n) v.claims (exchanged found hand v) v h
+  row_entry p v found hand (OnChain (ClaimRequest id q)) h = either_way (found % 2 == 0) _ v (HasEntry o n) h h
+  row_entry p v found hand (OnMessage (PutMessage q heading bytes)) h = claim_way (HasEntry o n) v.claims (λ c. with_claim v (filled_claim c heading bytes)) v h (λ c. h)
+  row_entry p v found hand (OnChain (Unconnect q)) h = claim_way (HasEntry o n) v.claims (λ c. with_claim v (ready_claim c)) v h (λ c. h)
+  row_entry p v found hand (OnChain (SwapHead i own)) h = claim_way (HasEntry o n) v.claims (exchanged found hand v) v h
       (λ c. either_way (nat_lt found IDLE) (queued v c found) (righted v c found hand.took hand.next) (HasEntry o n) (more_there v.lists (entry_of c found) h) (more_there v.lists (entry_of c (found - IDLE)) h))
   row_entry p v found hand call h = subst IsThere (sym (row_same v p found hand call refl).1) h
 
@@ -112,11 +112,11 @@ module _ (p : Plan) (Old : ℕ → ℕ → Type 0) where
 
     -- each request below q was found taken
     abbrev pub AreTaken : ℕ → Type 0
-    AreTaken q = (r : ℕ) → r < q → (id found : ℕ) × (found % 2 ≡ 1) × IsSo p c vs (DidStep (ClaimRequest id r) found)
+    AreTaken q = (r : ℕ) → r < q → (id found : ℕ) × (found % 2 ≡ 1) × IsSo p c vs (DidStep (OnChain (ClaimRequest id r)) found)
 
     -- a life that was given the link was found failed
     abbrev pub WasLost : ℕ → Type 0
-    WasLost k = (s found : ℕ) × (vref_version found % 2 ≡ 1) × IsSo p c vs (DidStep (LookWord s) found) × IsGiven c vs (socket_id_slot s) (socket_id_version s) k × (Old (socket_id_slot s) (socket_id_version s) → ⊥)
+    WasLost k = (s found : ℕ) × (vref_version found % 2 ≡ 1) × IsSo p c vs (DidStep (OnSlot (LookWord s)) found) × IsGiven c vs (socket_id_slot s) (socket_id_version s) k × (Old (socket_id_slot s) (socket_id_version s) → ⊥)
 
     abbrev pub Ended : ℕ → ℕ → ℕ → Type 0
     Ended o n k = Entered o n vs ⊎ (WasLost k ⊎ AreTaken p.requests)
@@ -158,7 +158,7 @@ module _ (p : Plan) (Old : ℕ → ℕ → Type 0) where
       on_stays t k x = (x.0, x.1, keeps.given (socket_id_slot t.socket) (socket_id_version t.socket) k x.2)
 
       taken_stays : (q : ℕ) → AreTaken c vs q → AreTaken d ws q
-      taken_stays q x r low = let y = x r low in (y.0, y.1, y.2, keeps.so (DidStep (ClaimRequest y.0 r) y.1) y.3)
+      taken_stays q x r low = let y = x r low in (y.0, y.1, y.2, keeps.so (DidStep (OnChain (ClaimRequest y.0 r)) y.1) y.3)
 
       knows_stays : (v : View) (m : Mode) → Knows c vs v m → Knows d ws v m
       knows_stays v Free x = tt
@@ -170,7 +170,7 @@ module _ (p : Plan) (Old : ℕ → ℕ → Type 0) where
 
       pub ended_stays : (o n k : ℕ) → Ended c vs o n k → Ended d ws o n k
       ended_stays o n k (inl e) = inl (keeps.entered o n e)
-      ended_stays o n k (inr (inl l)) = inr (inl (l.0, l.1, l.2, keeps.so (DidStep (LookWord l.0) l.1) l.3, keeps.given (socket_id_slot l.0) (socket_id_version l.0) k l.4, l.5))
+      ended_stays o n k (inr (inl l)) = inr (inl (l.0, l.1, l.2, keeps.so (DidStep (OnSlot (LookWord l.0)) l.1) l.3, keeps.given (socket_id_slot l.0) (socket_id_version l.0) k l.4, l.5))
       ended_stays o n k (inr (inr t)) = inr (inr (taken_stays p.requests t))
 
       -- a seat with this view goes on with the program
@@ -205,81 +205,81 @@ module _ (p : Plan) (Old : ℕ → ℕ → Type 0) where
         abbrev found : TableStep → ℕ
         found call = found_at c.words (word_of p call)
 
-        adds : (id : ℕ) (next : ℕ → Program) → Goes p.requests Free (Do (AddRef id) next) → May p v (AddRef id) → Next (after (AddRef id)) Free (next (found (AddRef id)))
-        adds id next g may = by (g (found (AddRef id)))
+        adds : (id : ℕ) (next : ℕ → Program) → Goes p.requests Free (Do (OnSlot (AddRef id)) next) → May p v (OnSlot (AddRef id)) → Next (after (OnSlot (AddRef id))) Free (next (found (OnSlot (AddRef id))))
+        adds id next g may = by (g (found (OnSlot (AddRef id))))
           where
-            by : Goes p.requests Free (next (found (AddRef id))) ⊎ ((t : Try) × (t.socket ≡ id) × (vref_version (found (AddRef id)) ≡ socket_id_version id) × (t.heading.label.attempt ≤ 6) × Goes p.requests (Held t) (next (found (AddRef id)))) → Next (after (AddRef id)) Free (next (found (AddRef id)))
+            by : Goes p.requests Free (next (found (OnSlot (AddRef id)))) ⊎ ((t : Try) × (t.socket ≡ id) × (vref_version (found (OnSlot (AddRef id))) ≡ socket_id_version id) × (t.heading.label.attempt ≤ 6) × Goes p.requests (Held t) (next (found (OnSlot (AddRef id))))) → Next (after (OnSlot (AddRef id))) Free (next (found (OnSlot (AddRef id))))
             by (inl x) = (Free, x, tt, λ o n k z. absurd z)
             by (inr x) = (Held x.0, x.4, (x.3, subst (λ s. Old (socket_id_slot s) (socket_id_version s) → ⊥) (sym x.1) (fresh id may.0.0 x.2)), λ o n k z. absurd z)
 
-        links : (t : Try) (i h : ℕ) (next : ℕ → Program) → Goes p.requests (Held t) (Do (FindLink i h) next) → IsNew t → May p v (FindLink i h) → Next (after (FindLink i h)) (Held t) (next (found (FindLink i h)))
+        links : (t : Try) (i h : ℕ) (next : ℕ → Program) → Goes p.requests (Held t) (Do (OnSlot (FindLink i h)) next) → IsNew t → May p v (OnSlot (FindLink i h)) → Next (after (OnSlot (FindLink i h))) (Held t) (next (found (OnSlot (FindLink i h))))
         links t i h next g new may = let given = finds_given p c vs sound mo.seat v here i h may in
-            let small = sound.lawful.in_slots.small i h (found (FindLink i h)) (record { inside = may.0; given = given }) in let few = sound.limits.links in (
-              Linked t (found (FindLink i h)),
-              g.2 (found (FindLink i h)),
-              (new, omega (arith, small, few), subst (λ z. IsGiven d ws z (socket_id_version t.socket) (found (FindLink i h))) g.0 (subst (λ z. IsGiven d ws i z (found (FindLink i h))) g.1 (keeps.given i h (found (FindLink i h)) given))),
+            let small = sound.lawful.in_slots.small i h (found (OnSlot (FindLink i h))) (record { inside = may.0; given = given }) in let few = sound.limits.links in (
+              Linked t (found (OnSlot (FindLink i h))),
+              g.2 (found (OnSlot (FindLink i h))),
+              (new, omega (arith, small, few), subst (λ z. IsGiven d ws z (socket_id_version t.socket) (found (OnSlot (FindLink i h)))) g.0 (subst (λ z. IsGiven d ws i z (found (OnSlot (FindLink i h)))) g.1 (keeps.given i h (found (OnSlot (FindLink i h))) given))),
               λ o n k z. absurd z,
             )
 
         odd_of : (x : ℕ) → x % 2 ≢ 0 → x % 2 ≡ 1
         odd_of x n = omega (arith, n)
 
-        looks : (t : Try) (k s : ℕ) (next : ℕ → Program) → Goes p.requests (Stored t k) (Do (LookWord s) next) → IsOn c vs t k → DidAt p c mo mo.seat (DidStep (LookWord s) (found (LookWord s))) → Next (after (LookWord s)) (Stored t k) (next (found (LookWord s)))
-        looks t k s next g on did = dite (ℕ_discrete (vref_version (found (LookWord s)) % 2) 0) (λ even. by_even ((g.1 (found (LookWord s))).0 even))
-            (λ no_. let odd = odd_of (vref_version (found (LookWord s))) no_ in (
+        looks : (t : Try) (k s : ℕ) (next : ℕ → Program) → Goes p.requests (Stored t k) (Do (OnSlot (LookWord s)) next) → IsOn c vs t k → DidAt p c mo mo.seat (DidStep (OnSlot (LookWord s)) (found (OnSlot (LookWord s)))) → Next (after (OnSlot (LookWord s))) (Stored t k) (next (found (OnSlot (LookWord s))))
+        looks t k s next g on did = dite (ℕ_discrete (vref_version (found (OnSlot (LookWord s))) % 2) 0) (λ even. by_even ((g.1 (found (OnSlot (LookWord s)))).0 even))
+            (λ no_. let odd = odd_of (vref_version (found (OnSlot (LookWord s)))) no_ in (
               Free,
-              (g.1 (found (LookWord s))).1 odd,
+              (g.1 (found (OnSlot (LookWord s)))).1 odd,
               tt,
               λ o n l w. inr (inr (inl (
                 s,
-                found (LookWord s),
+                found (OnSlot (LookWord s)),
                 odd,
-                keeps.so (DidStep (LookWord s) (found (LookWord s))) (did_so p c vs sound mo mo.seat (DidStep (LookWord s) (found (LookWord s))) did),
+                keeps.so (DidStep (OnSlot (LookWord s)) (found (OnSlot (LookWord s)))) (did_so p c vs sound mo mo.seat (DidStep (OnSlot (LookWord s)) (found (OnSlot (LookWord s)))) did),
                 subst (IsGiven d ws (socket_id_slot s) (socket_id_version s)) w.2 (subst (λ z. IsGiven d ws (socket_id_slot z) (socket_id_version z) k) (sym g.0) (keeps.given (socket_id_slot t.socket) (socket_id_version t.socket) k on.2)),
                 subst (λ z. Old (socket_id_slot z) (socket_id_version z) → ⊥) (sym g.0) on.0.1,
               ))),
             ))
           where
-            by_even : Goes p.requests (Claims t k 0) (next (found (LookWord s))) ⊎ ((0 ≡ p.requests) × Goes p.requests Free (next (found (LookWord s)))) → Next (after (LookWord s)) (Stored t k) (next (found (LookWord s)))
+            by_even : Goes p.requests (Claims t k 0) (next (found (OnSlot (LookWord s)))) ⊎ ((0 ≡ p.requests) × Goes p.requests Free (next (found (OnSlot (LookWord s))))) → Next (after (OnSlot (LookWord s))) (Stored t k) (next (found (OnSlot (LookWord s))))
             by_even (inl x) = (Claims t k 0, x, (on_stays t k on, λ r low. absurd (let z : ⊥ = omega (arith, low) in z)), λ o n l w. inl w)
             by_even (inr x) = (Free, x.1, tt, λ o n l w. inr (inr (inr (λ r low. absurd (let e = x.0 in let z : ⊥ = omega (arith, low, e) in z)))))
 
-        claims : (t : Try) (k q s r : ℕ) (next : ℕ → Program) → Goes p.requests (Claims t k q) (Do (ClaimRequest s r) next) → IsOn c vs t k → AreTaken c vs q → DidAt p c mo mo.seat (DidStep (ClaimRequest s r) (found (ClaimRequest s r)))
-            → Next (after (ClaimRequest s r)) (Claims t k q) (next (found (ClaimRequest s r)))
-        claims t k q s r next g on taken did = dite (ℕ_discrete (found (ClaimRequest s r) % 2) 0) (λ even. (Claimed t k, (g.1 (found (ClaimRequest s r))).0 even, tt, λ o n l w. inl w))
-            (λ no_. let odd = odd_of (found (ClaimRequest s r)) no_ in by_odd odd ((g.1 (found (ClaimRequest s r))).1 odd))
+        claims : (t : Try) (k q s r : ℕ) (next : ℕ → Program) → Goes p.requests (Claims t k q) (Do (OnChain (ClaimRequest s r)) next) → IsOn c vs t k → AreTaken c vs q → DidAt p c mo mo.seat (DidStep (OnChain (ClaimRequest s r)) (found (OnChain (ClaimRequest s r))))
+            → Next (after (OnChain (ClaimRequest s r))) (Claims t k q) (next (found (OnChain (ClaimRequest s r))))
+        claims t k q s r next g on taken did = dite (ℕ_discrete (found (OnChain (ClaimRequest s r)) % 2) 0) (λ even. (Claimed t k, (g.1 (found (OnChain (ClaimRequest s r)))).0 even, tt, λ o n l w. inl w))
+            (λ no_. let odd = odd_of (found (OnChain (ClaimRequest s r))) no_ in by_odd odd ((g.1 (found (OnChain (ClaimRequest s r)))).1 odd))
           where
-            one_more : found (ClaimRequest s r) % 2 ≡ 1 → AreTaken d ws (q + 1)
+            one_more : found (OnChain (ClaimRequest s r)) % 2 ≡ 1 → AreTaken d ws (q + 1)
             one_more odd x low = dite (ℕ_discrete x q)
-                (λ e. (s, found (ClaimRequest s r), odd, subst (λ z. IsSo p d ws (DidStep (ClaimRequest s z) (found (ClaimRequest s r)))) (g.0 ∙ sym e) (keeps.so (DidStep (ClaimRequest s r) (found (ClaimRequest s r))) (did_so p c vs sound mo mo.seat (DidStep (ClaimRequest s r) (found (ClaimRequest s r))) did))))
+                (λ e. (s, found (OnChain (ClaimRequest s r)), odd, subst (λ z. IsSo p d ws (DidStep (OnChain (ClaimRequest s z)) (found (OnChain (ClaimRequest s r))))) (g.0 ∙ sym e) (keeps.so (DidStep (OnChain (ClaimRequest s r)) (found (OnChain (ClaimRequest s r)))) (did_so p c vs sound mo mo.seat (DidStep (OnChain (ClaimRequest s r)) (found (OnChain (ClaimRequest s r)))) did))))
                 (λ ne. taken_stays q taken x (omega (arith, low, ne)))
 
-            by_odd : found (ClaimRequest s r) % 2 ≡ 1 → Goes p.requests (Claims t k (q + 1)) (next (found (ClaimRequest s r))) ⊎ ((q + 1 ≡ p.requests) × Goes p.requests Free (next (found (ClaimRequest s r)))) → Next (after (ClaimRequest s r)) (Claims t k q) (next (found (ClaimRequest s r)))
+            by_odd : found (OnChain (ClaimRequest s r)) % 2 ≡ 1 → Goes p.requests (Claims t k (q + 1)) (next (found (OnChain (ClaimRequest s r)))) ⊎ ((q + 1 ≡ p.requests) × Goes p.requests Free (next (found (OnChain (ClaimRequest s r))))) → Next (after (OnChain (ClaimRequest s r))) (Claims t k q) (next (found (OnChain (ClaimRequest s r))))
             by_odd odd (inl x) = (Claims t k (q + 1), x, (on_stays t k on, one_more odd), λ o n l w. inl w)
             by_odd odd (inr x) = (Free, x.1, tt, λ o n l w. inr (inr (inr (subst (AreTaken d ws) x.0 (one_more odd)))))
 
         step_next : (call : TableStep) (next : ℕ → Program) (m : Mode) → Goes p.requests m (Do call next) → Knows c vs v m → May p v call → DidAt p c mo mo.seat (DidStep call (found call)) → get_elem? ws mo.seat ≡ some (after call) → Next (after call) m (next (found call))
-        step_next (AddRef id) next Free g knows may did now = adds id next g may
+        step_next (OnSlot (AddRef id)) next Free g knows may did now = adds id next g may
         step_next call next Free g knows may did now = (Free, g (found call), tt, λ o n k z. absurd z)
-        step_next (FindLink i h) next (Held t) g knows may did now = links t i h next g knows may
-        step_next (LookWord s) next (Stored t k) g knows may did now = looks t k s next g knows did
-        step_next (ClaimRequest s r) next (Claims t k q) g knows may did now = claims t k q s r next g knows.0 knows.1 did
-        step_next (PutMessage r heading bytes) next (Claimed t k) g knows may did now = (
+        step_next (OnSlot (FindLink i h)) next (Held t) g knows may did now = links t i h next g knows may
+        step_next (OnSlot (LookWord s)) next (Stored t k) g knows may did now = looks t k s next g knows did
+        step_next (OnChain (ClaimRequest s r)) next (Claims t k q) g knows may did now = claims t k q s r next g knows.0 knows.1 did
+        step_next (OnMessage (PutMessage r heading bytes)) next (Claimed t k) g knows may did now = (
           Filled t k,
-          g.1 (found (PutMessage r heading bytes)),
+          g.1 (found (OnMessage (PutMessage r heading bytes))),
           subst (λ cs. Has d ws (by_claim cs (λ x. with_claim v (filled_claim x heading bytes)) v) t) (sym may.1.1) (filled_claim may.1.0 heading bytes, refl, g.0),
           λ o n l w. inl w,
         )
-        step_next (Unconnect r) next (Filled t k) g knows may did now = (Marked t k, g (found (Unconnect r)), subst (λ cs. Has d ws (by_claim cs (λ x. with_claim v (ready_claim x)) v) t) (sym knows.1) (ready_claim knows.0, refl, knows.2), λ o n l w. inl w)
-        step_next (SwapHead i own) next (Marked t k) g knows may did now = (
+        step_next (OnChain (Unconnect r)) next (Filled t k) g knows may did now = (Marked t k, g (found (OnChain (Unconnect r))), subst (λ cs. Has d ws (by_claim cs (λ x. with_claim v (ready_claim x)) v) t) (sym knows.1) (ready_claim knows.0, refl, knows.2), λ o n l w. inl w)
+        step_next (OnChain (SwapHead i own)) next (Marked t k) g knows may did now = (
           Free,
-          g (found (SwapHead i own)),
+          g (found (OnChain (SwapHead i own))),
           tt,
           λ o n l w. inr (inl (
             mo.seat,
-            after (SwapHead i own),
+            after (OnChain (SwapHead i own)),
             now,
-            swap_entry o n v (found (SwapHead i own)) (hand_at p c.words c.homes (SwapHead i own)) knows.0 may.1.made may.1.taken_in knows.1 may.1.lists
+            swap_entry o n v (found (OnChain (SwapHead i own))) (hand_at p c.words c.homes (OnChain (SwapHead i own))) knows.0 may.1.made may.1.taken_in knows.1 may.1.lists
                 (ap (λ h. h.label.operation) knows.2 ∙ w.0) (ap (λ h. h.label.attempt) knows.2 ∙ w.1),
           )),
         )

@@ -8,7 +8,7 @@ use Rattle.sock_model.specs.declared.view.View.{View}
 use Rattle.sock_model.specs.SocketTableLayout.{name_index}
 use Rattle.sock_message.specs.Asked.{Asked}
 use Rattle.seat_programs.specs.declared.task.Task.{Task}
-use Rattle.seat_programs.specs.TableSteps.{LoadName}
+use Rattle.seat_programs.specs.TableSteps.{OnName, LoadName}
 use Rattle.seat_programs.specs.Cores.{Core, SeatState}
 use Rattle.seat_programs.specs.Ticks.{Moment, AreAnswered, ticked, run}
 use Rattle.dropped_calls.specs.Below.programs_allowed.specs.program_steps.specs.SoundSeats.{views_after}
@@ -79,7 +79,7 @@ module _ (p : Plan) (q : IdPlan) (clients : List (List Task)) (gives : ℕ → L
     missed_now c k m over j name o id n other x =
         let h = k.story in let seat : SeatState = x.1 in let at : get_elem? h.scene.core.seats j ≡ some x.1 = ap (λ (d : Core). get_elem? d.seats j) h.is ∙ x.3 in
         let mark = elem_there h.scene.core.seats h.marks j x.1 h.story.each at in let first = first_there h.marks j mark.0 mark.1 in let own = own_of c k j x.1 x.3 o id n x.6 in
-        missed_here p q clients gives numbered h.scene h.marks h.story (subst IsSetUp (sym h.is) (over (λ z. other (sym x.0 ∙ z)))) first.0 first.1 j mark.0 mark.1 x.1 at (LoadName name) x.2 x.4 name o own.0
+        missed_here p q clients gives numbered h.scene h.marks h.story (subst IsSetUp (sym h.is) (over (λ z. other (sym x.0 ∙ z)))) first.0 first.1 j mark.0 mark.1 x.1 at (OnName (LoadName name)) x.2 x.4 name o own.0
         (λ named. named.1 (ap (λ (d : Core). get_or d.words (name_index p name) 0) h.is ∙ x.5)) (subst (λ d. IsOwn q d o own.0) (sym h.is) own.1)
 
     -- the story behind these ticks, in which all counts that was missed before them and in them

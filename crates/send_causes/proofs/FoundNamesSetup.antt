@@ -8,7 +8,7 @@ use lib.ListN.{get_elem?}
 use Rattle.sock_words.specs.declared.plain.Plan.{Plan}
 use Rattle.corr_core.specs.declared.marks.Plan.{Plan as IdPlan}
 use Rattle.sock_words.specs.declared.kind.Kind.{Kind}
-use Rattle.seat_programs.specs.TableSteps.{TableStep, LoadName}
+use Rattle.seat_programs.specs.TableSteps.{TableStep, OnName, LoadName}
 use Rattle.seat_programs.specs.ClientProgram.{operation, client_from}
 use Rattle.seat_programs.specs.declared.task.Op.{Op}
 use Rattle.seat_programs.specs.declared.task.Op.TheVariants as ops
@@ -32,7 +32,7 @@ use Rattle.seat_programs.specs.LoopRounds.{first_step}
 -- ## Programs that open sockets
 
 abbrev IsOther : TableStep → Type 0
-IsOther (LoadName n) = ⊥
+IsOther (OnName (LoadName n)) = ⊥
 IsOther call = Unit {0}
 
 -- the program looks for no socket, and keeps no retry
@@ -101,8 +101,8 @@ module _ (p : Plan) where
       by none e = s
       by (some seat) e = by_program seat e seat.program (s.0 seat e)
 
-  looks : (x : Program) → LooksForNone x → (name : ℕ) (next : ℕ → Program) → first_step x ≡ Do (LoadName name) next → ⊥
-  looks (Do call then) g name next e = let z : call ≡ LoadName name = cc in subst IsOther z g.0
+  looks : (x : Program) → LooksForNone x → (name : ℕ) (next : ℕ → Program) → first_step x ≡ Do (OnName (LoadName name)) next → ⊥
+  looks (Do call then) g name next e = let z : call ≡ OnName (LoadName name) = cc in subst IsOther z g.0
   looks (Say o outcome then) g name next e = absurd cc
   looks Rest g name next e = absurd cc
   looks (Retries requests after) g name next e = absurd cc
@@ -123,7 +123,7 @@ module _ (p : Plan) where
   pub none_at_rest : (ms : List Moment) (c : Core) (j : ℕ) → IsAhead c → IsAtRest c j → (name o id k : ℕ) → DidIn p c ms j (DidMiss name o id k) → ⊥
   none_at_rest [] c j ahead rests name o id k x = x
   none_at_rest (m ∷ ms) c j ahead rests name o id k x = ⊎_elim
-      (λ now. let e : Rest ≡ Do (LoadName name) now.2 = ap first_step (sym (seat_rests c ahead j rests now.1 now.3)) ∙ now.4 in cc)
+      (λ now. let e : Rest ≡ Do (OnName (LoadName name)) now.2 = ap first_step (sym (seat_rests c ahead j rests now.1 now.3)) ∙ now.4 in cc)
       (λ later. none_at_rest ms (ticked p c m) j (ticked_ahead p c m ahead) (ticked_rests p c m j rests) name o id k later) x
 
 -- ## Where a run begins

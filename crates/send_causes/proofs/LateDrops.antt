@@ -16,7 +16,7 @@ use Rattle.sock_model.specs.SocketTableLayout.{open_index}
 use Rattle.corr_core.specs.IdSlotWord.{error_of, code_of, attempt_of}
 use Rattle.seat_programs.specs.declared.task.Op.TheVariants as ops
 use Rattle.seat_programs.specs.declared.task.Task.{Task}
-use Rattle.seat_programs.specs.TableSteps.{DropPlace}
+use Rattle.seat_programs.specs.TableSteps.{OnPlace, DropPlace}
 use Rattle.seat_programs.specs.Cores.{Core}
 use Rattle.seat_programs.specs.Tasks.{opens, plan_of, id_plan_of}
 use Rattle.seat_programs.specs.ScriptSetupToEnding.{all_tasks, IsRunWithCalls}
@@ -122,8 +122,8 @@ module _ (script : List Item) (made : AreMade script) (there : AreThere script) 
       -- the message stands dropped on the holder's link
       dropped : IsDroppedOn script made turns core is closes ids labelled call.2.number heading.label.attempt holder.link
       dropped = let y = post.drop in dropped_of_run script made turns core is closes ids labelled j call.0 call.2 calls.asked heading.label.attempt holder.link holder.places y.found (call.1, place_at (all_tasks script) call.0 call.1 call.3, in_contains call.1 call.2 call.4) call.5 calls.few
-          (subst (λ l. DidInRun script turns core is j (DidStep (DropPlace l holder.link holder.places) y.found)) (calls.place ∙ ap (λ o. 8 * o + heading.label.attempt) (sym number))
-          (in_run (DidStep (DropPlace heading.label.place holder.link holder.places) y.found) (did (DidStep (DropPlace heading.label.place holder.link holder.places) y.found) y.drop)))
+          (subst (λ l. DidInRun script turns core is j (DidStep (OnPlace (DropPlace l holder.link holder.places)) y.found)) (calls.place ∙ ap (λ o. 8 * o + heading.label.attempt) (sym number))
+          (in_run (DidStep (OnPlace (DropPlace heading.label.place holder.link holder.places)) y.found) (did (DidStep (OnPlace (DropPlace heading.label.place holder.link holder.places)) y.found) y.drop)))
 
       -- and that is the link of each drop of the post
       same_link : holder.link ≡ d.link
@@ -155,7 +155,7 @@ module _ (script : List Item) (made : AreMade script) (there : AreThere script) 
     late : PostOf script made turns core is closes ids labelled would fits (IsNew script made turns core is) (DidLate script turns core is j) (BehindEnding script made turns core is closes ids labelled would fits x) x → Result
     late y = by_life (DidLate script turns core is j) (λ deed e. inr (inr e)) y.post (IsNew script made turns core is) (BehindEnding script made turns core is closes ids labelled would fits x) (λ o at time. inr (inl time))
         (y.whose (some_code (DidLate script turns core is j) (λ deed e. inr (inr e)) y.post) (by (drops_of_new script made turns core is j y.post.heading.label.place y.post.drop.holder.link y.post.drop.holder.places y.post.drop.found
-        (did (DidLate script turns core is j) (λ deed e. inr (inr e)) y.post (DidStep (DropPlace y.post.heading.label.place y.post.drop.holder.link y.post.drop.holder.places) y.post.drop.found) y.post.drop.drop))))
+        (did (DidLate script turns core is j) (λ deed e. inr (inr e)) y.post (DidStep (OnPlace (DropPlace y.post.heading.label.place y.post.drop.holder.link y.post.drop.holder.places)) y.post.drop.found) y.post.drop.drop))))
       where
         -- the life was made behind the ending, as the link's one life was
         by : IsOfNew script made turns core is y.post.drop.holder.link → IsNew script made turns core is (socket_id_slot y.post.drop.holder.id) (socket_id_version y.post.drop.holder.id)

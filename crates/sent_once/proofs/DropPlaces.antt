@@ -22,7 +22,7 @@ use Rattle.corr_core.specs.declared.marks.Plan.{Plan as IdPlan}
 use Rattle.corr_core.proofs.NoteSums.{at_length}
 use Rattle.sock_message.specs.Asked.{Asked}
 use Rattle.seat_programs.specs.declared.task.Task.{Task}
-use Rattle.seat_programs.specs.TableSteps.{TableStep, StorePlace, DropPlace}
+use Rattle.seat_programs.specs.TableSteps.{TableStep, OnPlace, StorePlace, DropPlace}
 use Rattle.seat_programs.specs.Cores.{Core, SeatState, found_at, words_after}
 use Rattle.seat_programs.specs.TableWords.{PlaceOf}
 use Rattle.seat_programs.specs.StepTables.{May, table_word, word_of, word_after}
@@ -177,8 +177,8 @@ module _ (p : Plan) (q : IdPlan) (is_call : Asked → Type 0) (ids : ℕ → ℕ
           (λ e. no_writer r (sym is ∙ (let z : m ≡ l = omega (arith, e) in z)) now (ap (λ rs. get_elem? rs 0) one) stage taken)
 
       step_keeps : (call : TableStep) → May p v call → get_or (words_after c.words (word_of p call) (word_after call (found_at c.words (word_of p call)))) (place_index p l) 0 ≡ get_or c.words (place_index p l) 0
-      step_keeps (StorePlace m k n) may = let x = may.0 in other_place m (word_after (StorePlace m k n) 0) x.mine.right x.now may.1 x.stage x.taken may.2
-      step_keeps (DropPlace m k n) may = let x = may.0 in other_place m (word_after (DropPlace m k n) 0) x.mine.right x.now may.1 x.stage x.taken may.2
+      step_keeps (OnPlace (StorePlace m k n)) may = let x = may.0 in other_place m (word_after (OnPlace (StorePlace m k n)) 0) x.mine.right x.now may.1 x.stage x.taken may.2
+      step_keeps (OnPlace (DropPlace m k n)) may = let x = may.0 in other_place m (word_after (OnPlace (DropPlace m k n)) 0) x.mine.right x.now may.1 x.stage x.taken may.2
       step_keeps call may = word_left p c.words (table_word call) (word_inside p (state c vs) sound.lawful i v at call may) (word_after call (found_at c.words (word_of p call))) (PlaceOf l) low refl
 
     -- so does a tick

@@ -18,7 +18,7 @@ use Rattle.corr_core.specs.declared.marks.Plan.{Plan as IdPlan}
 use Rattle.corr_core.proofs.NoteSums.{at_length}
 use Rattle.sock_message.specs.Asked.{Asked}
 use Rattle.seat_programs.specs.declared.task.Task.{Task}
-use Rattle.seat_programs.specs.TableSteps.{TableStep, CreateLife, LoadCode, DropPlace}
+use Rattle.seat_programs.specs.TableSteps.{TableStep, OnSlot, OnPlace, CreateLife, LoadCode, DropPlace}
 use Rattle.seat_programs.specs.Cores.{Core, SeatState, stepped}
 use Rattle.seat_programs.specs.Programs.{Program, Do, Write}
 use Rattle.seat_programs.specs.Ticks.{Moment, IsAnswered, AreAnswered, quiet, step_with, tick_with, ticked, run}
@@ -73,14 +73,14 @@ module _ (p : Plan) (q : IdPlan) (is_call : Asked → Type 0) (ids : ℕ → ℕ
     pub word : (o n : ℕ) → IsSpoken clients o → n < 8 → l ≡ 8 * o + n → get_or c.words (place_index p l) 0 ≡ place_word true k m
 
   abbrev pub Tells : Core → List Event → Deed → Type 0
-  Tells c es (DidStep (LoadCode i h) code) = code ≢ 0 → IsKnown clients es i h code
-  Tells c es (DidStep (DropPlace l k m) found) = IsDropAt c l k m
+  Tells c es (DidStep (OnSlot (LoadCode i h)) code) = code ≢ 0 → IsKnown clients es i h code
+  Tells c es (DidStep (OnPlace (DropPlace l k m)) found) = IsDropAt c l k m
   Tells c es (DidRound (Puts h now heading left taken asked)) = WasGiven es (socket_id_slot h.id) (socket_id_version h.id) h.link × (heading.owner ≢ 0 → IsCalls heading)
   Tells c es other = Unit {0}
 
   -- more steps, and a life is still made with its link
   given_on : (es fresh : List Event) → ((e : Event) → In e es → In e fresh) → (j h k : ℕ) → WasGiven es j h k → WasGiven fresh j h k
-  given_on es fresh kept j h k given = let g = marked_given es j h k given in given_by fresh g.0 g.1 g.2 j h k (kept (event g.0 g.1 (CreateLife j k) g.2) g.3) g.4
+  given_on es fresh kept j h k given = let g = marked_given es j h k given in given_by fresh g.0 g.1 g.2 j h k (kept (event g.0 g.1 (OnSlot (CreateLife j k)) g.2) g.3) g.4
 
   -- the place words of calls that were written are the same
   abbrev pub PlacesStay : Core → Core → Type 0
@@ -96,8 +96,8 @@ module _ (p : Plan) (q : IdPlan) (is_call : Asked → Type 0) (ids : ℕ → ℕ
   }
 
   pub tells_on : (c d : Core) (es fresh : List Event) → ((e : Event) → In e es → In e fresh) → PlacesStay c d → (deed : Deed) → Tells c es deed → Tells d fresh deed
-  tells_on c d es fresh kept stay (DidStep (LoadCode i h) code) t = λ some_. known_later clients es fresh kept i h code (t some_)
-  tells_on c d es fresh kept stay (DidStep (DropPlace l k m) found) t = drop_on c d stay l k m t
+  tells_on c d es fresh kept stay (DidStep (OnSlot (LoadCode i h)) code) t = λ some_. known_later clients es fresh kept i h code (t some_)
+  tells_on c d es fresh kept stay (DidStep (OnPlace (DropPlace l k m)) found) t = drop_on c d stay l k m t
   tells_on c d es fresh kept stay (DidRound (Puts h now heading left taken asked)) t = (given_on es fresh kept (socket_id_slot h.id) (socket_id_version h.id) h.link t.0, t.1)
   tells_on c d es fresh kept stay other t = tt
 
@@ -126,20 +126,20 @@ module _ (p : Plan) (q : IdPlan) (is_call : Asked → Type 0) (ids : ℕ → ℕ
       first_viewed seat at x is = let v = viewed seat at in (v.0, v.1, subst (GoesOn p v.0) is (goes_first p v.0 seat.program v.2))
 
       -- a code of a socket that was loaded
-      load_tells : (seat : SeatState) → get_elem? c.seats m.seat ≡ some seat → (i h : ℕ) (next : ℕ → Program) → first_step seat.program ≡ Do (LoadCode i h) next → (code : ℕ) → code ≡ code_in c.words i → code ≢ 0 → IsKnown clients s.events i h code
-      load_tells seat at i h next is code found some_ = let v = first_viewed seat at (Do (LoadCode i h) next) is in let may = v.2.0 in let held = held_version p c vs s.sound m.seat v.0 v.1 i h may.0 may.1 in
+      load_tells : (seat : SeatState) → get_elem? c.seats m.seat ≡ some seat → (i h : ℕ) (next : ℕ → Program) → first_step seat.program ≡ Do (OnSlot (LoadCode i h)) next → (code : ℕ) → code ≡ code_in c.words i → code ≢ 0 → IsKnown clients s.events i h code
+      load_tells seat at i h next is code found some_ = let v = first_viewed seat at (Do (OnSlot (LoadCode i h)) next) is in let may = v.2.0 in let held = held_version p c vs s.sound m.seat v.0 v.1 i h may.0 may.1 in
           subst (IsKnown clients s.events i h) (sym found) (s.codes.known i h may.0 held.1
           (dite (ℕ_discrete (live (slot_facts (state c vs) i)) 0) (λ z. let a = held.0 in omega (arith, a, z)) (λ n. absurd (some_ (found ∙ live_none p c vs s.sound m.seat v.0 v.1 i may.0 (omega (arith, n))))))
           (λ z. some_ (found ∙ z)))
 
       -- a message that was dropped
-      drop_tells : (seat : SeatState) → get_elem? c.seats m.seat ≡ some seat → (l k n : ℕ) (next : ℕ → Program) → first_step seat.program ≡ Do (DropPlace l k n) next → IsDropAt (ticked p c m) l k n
-      drop_tells seat at l k n next is = let v = first_viewed seat at (Do (DropPlace l k n) next) is in let may = v.2.0 in let x = may.0 in let r = x.mine.right in
+      drop_tells : (seat : SeatState) → get_elem? c.seats m.seat ≡ some seat → (l k n : ℕ) (next : ℕ → Program) → first_step seat.program ≡ Do (OnPlace (DropPlace l k n)) next → IsDropAt (ticked p c m) l k n
+      drop_tells seat at l k n next is = let v = first_viewed seat at (Do (OnPlace (DropPlace l k n)) next) is in let may = v.2.0 in let x = may.0 in let r = x.mine.right in
           let low : l < 8 * p.operations = (let a = x.label_in in let b = may.2 in omega (arith, a, b)) in record {
             low = low;
             link = subst (λ z. z < p.links) (sym may.3) (right_in s.sound.lawful m.seat x.mine.place v.0 r v.1 x.mine.has);
             small = subst (λ z. z < MOST_PLACES) (sym may.4) (places_small p (state c vs) s.sound.lawful m.seat v.0 v.1 x.mine.place r x.mine.has few x.now x.stage);
-            word = λ o a spoken few label. ap (λ (d : Core). get_or d.words (place_index p l) 0) (tick_steps p c m seat (DropPlace l k n) next at is)
+            word = λ o a spoken few label. ap (λ (d : Core). get_or d.words (place_index p l) 0) (tick_steps p c m seat (OnPlace (DropPlace l k n)) next at is)
                 ∙ get_or-set_same c.words (place_index p l) (place_word true k n) 0 (let sized = s.sound.lawful.references.sized in omega (arith, low, sized));
           }
 
@@ -181,9 +181,9 @@ module _ (p : Plan) (q : IdPlan) (is_call : Asked → Type 0) (ids : ℕ → ℕ
 
         -- what was done in it tells so
         pub tick_tells : (seat : ℕ) (deed : Deed) → DidAt p c m seat deed → Tells (ticked p c m) next_scene.0.events deed
-        tick_tells seat (DidStep (LoadCode i h) code) d = tells_on c (ticked p c m) s.events next_scene.0.events next_scene.1 places_stay (DidStep (LoadCode i h) code)
+        tick_tells seat (DidStep (OnSlot (LoadCode i h)) code) d = tells_on c (ticked p c m) s.events next_scene.0.events next_scene.1 places_stay (DidStep (OnSlot (LoadCode i h)) code)
             (load_tells d.1 (subst (λ n. get_elem? c.seats n ≡ some d.1) (sym d.0) d.3) i h d.2 d.4 code d.5)
-        tick_tells seat (DidStep (DropPlace l k n) found) d = drop_tells d.1 (subst (λ n. get_elem? c.seats n ≡ some d.1) (sym d.0) d.3) l k n d.2 d.4
+        tick_tells seat (DidStep (OnPlace (DropPlace l k n)) found) d = drop_tells d.1 (subst (λ n. get_elem? c.seats n ≡ some d.1) (sym d.0) d.3) l k n d.2 d.4
         tick_tells seat (DidRound (Puts h now heading left taken asked)) d = tells_on c (ticked p c m) s.events next_scene.0.events next_scene.1 places_stay (DidRound (Puts h now heading left taken asked))
             (round_tells d.1 (subst (λ n. get_elem? c.seats n ≡ some d.1) (sym d.0) d.3) h now heading left taken asked d.2 d.4)
         tick_tells seat other d = tt

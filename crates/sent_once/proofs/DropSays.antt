@@ -6,7 +6,7 @@ use Rattle.sock_words.specs.declared.outcome.Outcome.{Outcome}
 use Rattle.sock_words.specs.declared.outcome.Outcome.TheVariants.{Failed}
 use Rattle.seat_programs.specs.declared.task.Op.TheVariants as ops
 use Rattle.seat_programs.specs.declared.task.Task.{Task}
-use Rattle.seat_programs.specs.TableSteps.{TableStep, SetOdd, LoadOpen}
+use Rattle.seat_programs.specs.TableSteps.{TableStep, OnSlot, OnName, SetOdd, LoadOpen}
 use Rattle.seat_programs.specs.Writings.{Puts, Waits, Empties, Reversing}
 use Rattle.seat_programs.specs.Programs.{Program, Do, Say, Write, Round}
 use Rattle.accept_counts.specs.Below.programs_allowed.specs.program_steps.proofs.TickCases.{IsOfLoop, loop_begins}
@@ -15,8 +15,8 @@ use Rattle.accept_counts.specs.Below.outcome_stories.specs.OperationStories.{Ent
 use Rattle.sent_once.proofs.SourcesOfSocketCodes.{SaysFailed}
 use Rattle.seat_programs.specs.LoopRounds.{first_step}
 
-says_on : (o : ℕ) (call : TableStep) (next : ℕ → Program) → SaysFailed o (Do call next) → ((i : ℕ) → call ≡ SetOdd i → ⊥) × SaysFailed o (next 0)
-says_on o (SetOdd i) next s = absurd s
+says_on : (o : ℕ) (call : TableStep) (next : ℕ → Program) → SaysFailed o (Do call next) → ((i : ℕ) → call ≡ OnSlot (SetOdd i) → ⊥) × SaysFailed o (next 0)
+says_on o (OnSlot (SetOdd i)) next s = absurd s
 says_on o call next s = (λ i e. absurd (cc), s)
 
 -- the task in hand is that of the operation, and where it is a `fail` one of its steps failed a life
@@ -26,7 +26,7 @@ pub record IsInHand (o : ℕ) (w : Way) (trace : List Entry) (todo : List Task) 
   pub others : List Task
   pub is : todo ≡ task ∷ others
   pub numbered : task.number ≡ o
-  pub failed : (name code : ℕ) → task.op ≡ ops.Fail name code → (i found : ℕ) × In (step (SetOdd i) found) trace × (vref_version found % 2 ≡ 0)
+  pub failed : (name code : ℕ) → task.op ≡ ops.Fail name code → (i found : ℕ) × In (step (OnSlot (SetOdd i)) found) trace × (vref_version found % 2 ≡ 0)
 
 -- so it is the first that is to do
 pub first_numbered : (o : ℕ) (w : Way) (trace : List Entry) (t : Task) (ts : List Task) → IsInHand o w trace (t ∷ ts) → t.number ≡ o
@@ -36,7 +36,7 @@ first_numbered o w trace t ts h = let same : t ≡ h.task = first_is h.is in ap 
     first_is e = cc
 
 module _ (slots requests : ℕ) (calls : ℕ → Type 0) (o : ℕ) (no_call : calls o → ⊥) where
-  shorter : (w : Way) (call : TableStep) (found : ℕ) (trace : List Entry) (todo : List Task) → ((i : ℕ) → call ≡ SetOdd i → ⊥) → IsInHand o w (step call found ∷ trace) todo → IsInHand o w trace todo
+  shorter : (w : Way) (call : TableStep) (found : ℕ) (trace : List Entry) (todo : List Task) → ((i : ℕ) → call ≡ OnSlot (SetOdd i) → ⊥) → IsInHand o w (step call found ∷ trace) todo → IsInHand o w trace todo
   shorter w call found trace todo other h = record { own = h.own; task = h.task; others = h.others; is = h.is; numbered = h.numbered; failed = λ name code op. let x = h.failed name code op in (x.0, x.1, ⊎_elim (λ e. absurd (other x.0 (sym (ap (λ (y : Entry). y.call) e)))) (λ m. m) x.2, x.3) }
 
   here : (done : List Done) (trace : List Entry) (t : Task) (ts : List Task) (x : ℕ) (outcome : Outcome) → x ≡ t.number → x ≡ o → outcome ≡ Failed → IsExplainedBy slots requests done trace t.op (Some outcome) → IsInHand o Own trace (t ∷ ts)
@@ -61,11 +61,11 @@ module _ (slots requests : ℕ) (calls : ℕ → Type 0) (o : ℕ) (no_call : ca
   says w broken done trace todo _ x s = absurd s
 
 -- whoever sets a socket failed in a tick does so in a step of its own
-pub sets_here : (program : Program) (i : ℕ) (next : ℕ → Program) → first_step program ≡ Do (SetOdd i) next → program ≡ Do (SetOdd i) next
+pub sets_here : (program : Program) (i : ℕ) (next : ℕ → Program) → first_step program ≡ Do (OnSlot (SetOdd i)) next → program ≡ Do (OnSlot (SetOdd i)) next
 sets_here (Do c n) i next e = e
 sets_here (Write (Puts h now heading left taken asked) after) i next e = absurd (cc)
 sets_here (Write (Waits h now heading left taken) after) i next e = absurd (cc)
 sets_here (Write (Empties h) after) i next e = absurd (cc)
 sets_here (Write (Reversing h top at behind) after) i next e = absurd (cc)
-sets_here (Round head n) i next e = absurd (let o = subst IsOfLoop e (loop_begins head n) in let q : SetOdd i ≡ LoadOpen o.0 = o.1 in cc)
+sets_here (Round head n) i next e = absurd (let o = subst IsOfLoop e (loop_begins head n) in let q : OnSlot (SetOdd i) ≡ OnName (LoadOpen o.0) = o.1 in cc)
 sets_here _ i next e = absurd (cc)

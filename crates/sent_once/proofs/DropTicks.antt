@@ -21,7 +21,7 @@ use Rattle.accept_counts.specs.Below.slot_steps.proofs.SlotWeightSums.{about-her
 use Rattle.seat_programs.specs.declared.task.Op.TheVariants as ops
 use Rattle.seat_programs.specs.declared.task.Task.{Task}
 use Rattle.seat_programs.specs.FoundAndChangedAside.{calls_after}
-use Rattle.seat_programs.specs.TableSteps.{TableStep, AddRef, LoadName, SetOdd, StoreCode}
+use Rattle.seat_programs.specs.TableSteps.{TableStep, OnSlot, OnName, AddRef, LoadName, SetOdd, StoreCode}
 use Rattle.seat_programs.specs.Cores.{Calls, Core, SeatState, found_at, words_after, homes_after, hand_after, lies_at, first_of, others_of, link_place, resolved, waiting_at, next_step, with_seat}
 use Rattle.seat_programs.specs.StepTables.{word_of, word_after}
 use Rattle.seat_programs.specs.SlotFreedByDrop.{call_in}
@@ -64,7 +64,7 @@ module _ (clients : List (List Task)) where
     pub operation : ℕ
     pub found : ℕ
     pub own : IsFailOf client operation code
-    pub is : In (event client operation (SetOdd j) found) es
+    pub is : In (event client operation (OnSlot (SetOdd j)) found) es
     pub version : vref_version found ≡ h
     pub even : vref_version found % 2 ≡ 0
 
@@ -78,7 +78,7 @@ module _ (clients : List (List Task)) where
   -- what seat j failed, where it is to store the code
   abbrev pub HasFailed : ℕ → List Event → List View → Failing → Type 0
   HasFailed j es vs NoFail = Unit {0}
-  HasFailed j es vs (Fails o code i) = (found : ℕ) × IsFailOf j o code × In (event j o (SetOdd i) found) es × (vref_version found % 2 ≡ 0) × ((v : View) → get_elem? vs j ≡ some v → 0 < marks_of (is_coding (vref_version found)) i v)
+  HasFailed j es vs (Fails o code i) = (found : ℕ) × IsFailOf j o code × In (event j o (OnSlot (SetOdd i)) found) es × (vref_version found % 2 ≡ 0) × ((v : View) → get_elem? vs j ≡ some v → 0 < marks_of (is_coding (vref_version found)) i v)
 
   pub record SeatCodes (j : ℕ) (c : Core) (vs : List View) (es : List Event) : Type 0 where
     pub failing : Failing
@@ -95,12 +95,12 @@ module _ (f : Failing) (mine : ℕ → ℕ → Type 0) (Other : ℕ → Type 0) 
   -- what the seat is to store behind a step
   pub data Behind (call : TableStep) (next : ℕ → Program) (found : ℕ) : Type 0 where
     stores_none : Stores mine Other NoFail (next found) → Behind call next found
-    stores_own : (i o code : ℕ) → call ≡ SetOdd i → mine o code → vref_version found % 2 ≡ 0 → SaysFailed o (next found) → Stores mine Other (Fails o code i) (next found) → Behind call next found
+    stores_own : (i o code : ℕ) → call ≡ OnSlot (SetOdd i) → mine o code → vref_version found % 2 ≡ 0 → SaysFailed o (next found) → Stores mine Other (Fails o code i) (next found) → Behind call next found
 
   pub behind : (call : TableStep) (next : ℕ → Program) (found : ℕ) → Stores mine Other f (Do call next) → Behind call next found
-  behind (SetOdd i) next found (inl x) = stores_none (x found)
-  behind (SetOdd i) next found (inr x) = ⊎_elim (λ y. stores_own i x.0 x.1 refl x.2 y.0 y.1 y.2) (λ y. stores_none y) (x.3 found)
-  behind (StoreCode i h code) next found x = stores_none (x.1 found)
+  behind (OnSlot (SetOdd i)) next found (inl x) = stores_none (x found)
+  behind (OnSlot (SetOdd i)) next found (inr x) = ⊎_elim (λ y. stores_own i x.0 x.1 refl x.2 y.0 y.1 y.2) (λ y. stores_none y) (x.3 found)
+  behind (OnSlot (StoreCode i h code)) next found x = stores_none (x.1 found)
   behind call next found x = stores_none (x found)
 
 coding_there : (i found : ℕ) (v : View) → vref_version found % 2 ≡ 0 → 0 < marks_of (is_coding (vref_version found)) i (failed i found v)
@@ -114,9 +114,9 @@ coding_there i found v even = subst (λ b. 0 < total (is_coding w) (about i (con
     rest : List SlotMark
     rest = at i (Failer (vref_version found)) ∷ at i (Saw (vref_version found + 1)) ∷ v.marks
 
-no_odd : (i id n a b : ℕ) (e : Entry) → e ≡ step (SetOdd i) a → In e (step (AddRef id) b ∷ step (LoadName n) (id + 1) ∷ []) → ⊥
-no_odd i id n a b e is (inl x) = let z : SetOdd i ≡ AddRef id = ap (λ (y : Entry). y.call) (sym is ∙ x) in cc
-no_odd i id n a b e is (inr (inl x)) = let z : SetOdd i ≡ LoadName n = ap (λ (y : Entry). y.call) (sym is ∙ x) in cc
+no_odd : (i id n a b : ℕ) (e : Entry) → e ≡ step (OnSlot (SetOdd i)) a → In e (step (OnSlot (AddRef id)) b ∷ step (OnName (LoadName n)) (id + 1) ∷ []) → ⊥
+no_odd i id n a b e is (inl x) = let z : OnSlot (SetOdd i) ≡ OnSlot (AddRef id) = ap (λ (y : Entry). y.call) (sym is ∙ x) in cc
+no_odd i id n a b e is (inr (inl x)) = let z : OnSlot (SetOdd i) ≡ OnName (LoadName n) = ap (λ (y : Entry). y.call) (sym is ∙ x) in cc
 no_odd i id n a b e is (inr (inr x)) = x
 
 -- ## A tick
@@ -173,15 +173,15 @@ module _ (p : Plan) (clients : List (List Task)) (are : AreTasks p clients) (ove
       is_own t there number = (one_task p clients are m.seat m.seat t own.0 (tasks.0, tasks.1, there) own.2 (number ∙ sym own.3)).1
 
       -- no step for it failed a life before
-      none_before : (w : Way) (done : List Done) (trace : List Entry) (todo : List Task) (j : ℕ) (next : ℕ → Program) (found k word : ℕ) → ExplainsBy p.slots p.requests (IsSpoken clients) w lost done trace todo (Do (SetOdd j) next)
-          → ((t : Task) → In t todo → In t tasks.0) → ((t : Task) (ts : List Task) → todo ≡ t ∷ ts → w ≡ Own → trace ≡ trace_of m.seat t.number es) → SaysFailed o (next found) → In (event m.seat o (SetOdd k) word) es → ⊥
+      none_before : (w : Way) (done : List Done) (trace : List Entry) (todo : List Task) (j : ℕ) (next : ℕ → Program) (found k word : ℕ) → ExplainsBy p.slots p.requests (IsSpoken clients) w lost done trace todo (Do (OnSlot (SetOdd j)) next)
+          → ((t : Task) → In t todo → In t tasks.0) → ((t : Task) (ts : List Task) → todo ≡ t ∷ ts → w ≡ Own → trace ≡ trace_of m.seat t.number es) → SaysFailed o (next found) → In (event m.seat o (OnSlot (SetOdd k)) word) es → ⊥
       none_before Own done trace [] j next found k word x within traced says_ old = x.0
       none_before Own done trace (t ∷ ts) j next found k word x within traced says_ old =
-          let number = first_numbered o Own (step (SetOdd j) found ∷ trace) t ts (says p.slots p.requests (IsSpoken clients) o unspoken Own lost done (step (SetOdd j) found ∷ trace) (t ∷ ts) (next found) (x.1 found) says_) in
-          let there : In (step (SetOdd k) word) trace = subst (In (step (SetOdd k) word)) (ap (λ z. trace_of m.seat z es) (sym number) ∙ sym (traced t ts refl refl)) (to_trace es (event m.seat o (SetOdd k) word) old) in
-          ⊎_elim (λ f. no_odd k f.2 f.0 word f.3 (step (SetOdd k) word) refl (subst (In (step (SetOdd k) word)) f.5 there))
+          let number = first_numbered o Own (step (OnSlot (SetOdd j)) found ∷ trace) t ts (says p.slots p.requests (IsSpoken clients) o unspoken Own lost done (step (OnSlot (SetOdd j)) found ∷ trace) (t ∷ ts) (next found) (x.1 found) says_) in
+          let there : In (step (OnSlot (SetOdd k)) word) trace = subst (In (step (OnSlot (SetOdd k)) word)) (ap (λ z. trace_of m.seat z es) (sym number) ∙ sym (traced t ts refl refl)) (to_trace es (event m.seat o (OnSlot (SetOdd k)) word) old) in
+          ⊎_elim (λ f. no_odd k f.2 f.0 word f.3 (step (OnSlot (SetOdd k)) word) refl (subst (In (step (OnSlot (SetOdd k)) word)) f.5 there))
           (λ f. let op : ops.Send f.2.name f.2.bytes ≡ ops.Fail own.1 code = sym f.2.op ∙ (ap (λ (z : Task). z.op) (is_own t (within t (inl refl)) number) ∙ own.4) in absurd (cc)) x.0
-      none_before Beside done trace todo j next found k word x within traced says_ old = let h = says p.slots p.requests (IsSpoken clients) o unspoken Beside lost done (step (SetOdd j) found ∷ trace) todo (next found) (x.1 found) says_ in let z : Beside ≡ Own = h.own in cc
+      none_before Beside done trace todo j next found k word x within traced says_ old = let h = says p.slots p.requests (IsSpoken clients) o unspoken Beside lost done (step (OnSlot (SetOdd j)) found ∷ trace) todo (next found) (x.1 found) says_ in let z : Beside ≡ Own = h.own in cc
       none_before Closing done trace todo j next found k word x within traced says_ old = let h = says p.slots p.requests (IsSpoken clients) o unspoken Closing lost done trace todo (next found) (x.1 found) says_ in let z : Closing ≡ Own = h.own in cc
 
       -- the trace of the task in hand is that of the story
@@ -189,8 +189,8 @@ module _ (p : Plan) (clients : List (List Task)) (are : AreTasks p clients) (ove
       its_trace w trace todo story' traced t ts is way = subst (λ z. IsTraced z trace m.seat todo story') way traced ∙ ap (λ z. trace_now m.seat z story') is
 
       -- the step is of the story
-      module _ (j : ℕ) (next : ℕ → Program) (is : first_step seat.program ≡ Do (SetOdd j) next) (fresh : List Event) (more : List ℕ) (kept : (e : Event) → In e es → In e fresh) (new : (e : Event) → In e fresh → In e es ⊎ IsFresh e)
-          (found : ℕ) (found_is : found ≡ found_at c.words (word_of p (SetOdd j))) (says_ : SaysFailed o (next found)) (d : Core) (us : List View) (told : Story p clients over d us fresh more) (seat' : SeatState) (v' : View)
+      module _ (j : ℕ) (next : ℕ → Program) (is : first_step seat.program ≡ Do (OnSlot (SetOdd j)) next) (fresh : List Event) (more : List ℕ) (kept : (e : Event) → In e es → In e fresh) (new : (e : Event) → In e fresh → In e es ⊎ IsFresh e)
+          (found : ℕ) (found_is : found ≡ found_at c.words (word_of p (OnSlot (SetOdd j)))) (says_ : SaysFailed o (next found)) (d : Core) (us : List View) (told : Story p clients over d us fresh more) (seat' : SeatState) (v' : View)
           (at' : get_elem? d.seats m.seat ≡ some seat') (here' : get_elem? us m.seat ≡ some v') (goes : seat'.program ≡ next found) where
         before : SeatStory p (IsSpoken clients) over es lost c.outcomes m.seat tasks.0 seat.program v
         before = story.seats m.seat tasks.0 seat v tasks.1 at here
@@ -204,17 +204,17 @@ module _ (p : Plan) (clients : List (List Task)) (are : AreTasks p clients) (ove
         its : hand_.task ≡ own.0
         its = is_own hand_.task (subst (In hand_.task) (sym behind_.at.all) (undo_in behind_.done behind_.todo hand_.task (subst (In hand_.task) (sym hand_.is) (inl refl)))) hand_.numbered
 
-        failed_one : (k word : ℕ) × In (event m.seat o (SetOdd k) word) fresh
+        failed_one : (k word : ℕ) × In (event m.seat o (OnSlot (SetOdd k)) word) fresh
         failed_one = let x = hand_.failed own.1 code (ap (λ (z : Task). z.op) its ∙ own.4) in
-            (x.0, x.1, from_trace m.seat o fresh (step (SetOdd x.0) x.1) (subst (In (step (SetOdd x.0) x.1)) (its_trace behind_.way behind_.trace behind_.todo fresh behind_.at.traced hand_.task hand_.others hand_.is hand_.own ∙ ap (λ z. trace_of m.seat z fresh) hand_.numbered) x.2))
+            (x.0, x.1, from_trace m.seat o fresh (step (OnSlot (SetOdd x.0)) x.1) (subst (In (step (OnSlot (SetOdd x.0)) x.1)) (its_trace behind_.way behind_.trace behind_.todo fresh behind_.at.traced hand_.task hand_.others hand_.is hand_.own ∙ ap (λ z. trace_of m.seat z fresh) hand_.numbered) x.2))
 
-        stands : In (event m.seat o (SetOdd j) found) fresh
+        stands : In (event m.seat o (OnSlot (SetOdd j)) found) fresh
         stands = ⊎_elim (λ old. absurd (none_before before.way before.done before.trace before.todo j next found failed_one.0 failed_one.1
             (subst (ExplainsBy p.slots p.requests (IsSpoken clients) before.way lost before.done before.trace before.todo) (sets_here seat.program j next is) before.at.explains)
             (λ t n. subst (In t) (sym before.at.all) (undo_in before.done before.todo t n)) (its_trace before.way before.trace before.todo es before.at.traced) says_ old))
-            (λ n. let calls : std.Some (SetOdd j) ≡ std.Some (SetOdd failed_one.0) = sym (ap (λ o. elim o as (λ o. std.Option TableStep) [ none ↦ std.None | some x ↦ call_in x.program ]) at ∙ ap call_in (sets_here seat.program j next is)) ∙ n.1.next in
-            let same : failed_one.0 ≡ j = cc in let word : failed_one.1 ≡ found = sym n.1.word ∙ (ap (λ z. found_at c.words (word_of p (SetOdd z))) same ∙ sym found_is) in
-            subst (λ z. In (event m.seat o (SetOdd j) z) fresh) word (subst (λ z. In (event m.seat o (SetOdd z) failed_one.1) fresh) same failed_one.2)) (new (event m.seat o (SetOdd failed_one.0) failed_one.1) failed_one.2)
+            (λ n. let calls : std.Some (OnSlot (SetOdd j)) ≡ std.Some (OnSlot (SetOdd failed_one.0)) = sym (ap (λ o. elim o as (λ o. std.Option TableStep) [ none ↦ std.None | some x ↦ call_in x.program ]) at ∙ ap call_in (sets_here seat.program j next is)) ∙ n.1.next in
+            let same : failed_one.0 ≡ j = cc in let word : failed_one.1 ≡ found = sym n.1.word ∙ (ap (λ z. found_at c.words (word_of p (OnSlot (SetOdd z)))) same ∙ sym found_is) in
+            subst (λ z. In (event m.seat o (OnSlot (SetOdd j)) z) fresh) word (subst (λ z. In (event m.seat o (OnSlot (SetOdd z)) failed_one.1) fresh) same failed_one.2)) (new (event m.seat o (OnSlot (SetOdd failed_one.0)) failed_one.1) failed_one.2)
 
   -- ## Each step
 
@@ -254,7 +254,7 @@ module _ (p : Plan) (clients : List (List Task)) (are : AreTasks p clients) (ove
     known_behind : (j h : ℕ) → j < p.slots → h % 2 ≡ 0 → version_in words j ≡ h + 1 → code_in words j ≢ 0 → IsKnown clients es j h (code_in words j)
     known_behind j h inside even version some_ = ⊎_elim
         (λ x. subst (IsKnown clients es j h) (sym x.1) (law.known j h inside even x.0 (λ z. some_ (x.1 ∙ z))))
-        (λ x. subst (IsKnown clients es j h) (sym x.4) (let stores : Stores (IsFailOf clients m.seat) IsOtherCode mine.0 (Do (StoreCode j x.0 x.1) next) = subst (λ y. Stores (IsFailOf clients m.seat) IsOtherCode mine.0 (Do y next)) x.2 mine.2 in stored mine.0 mine.1 j h x.0 x.1 inside x.3 stores.0))
+        (λ x. subst (IsKnown clients es j h) (sym x.4) (let stores : Stores (IsFailOf clients m.seat) IsOtherCode mine.0 (Do (OnSlot (StoreCode j x.0 x.1)) next) = subst (λ y. Stores (IsFailOf clients m.seat) IsOtherCode mine.0 (Do y next)) x.2 mine.2 in stored mine.0 mine.1 j h x.0 x.1 inside x.3 stores.0))
         (code_stays p c vs sound m.seat v here j h inside even call may version some_)
 
     step_keeps : After stepped_ (set vs m.seat w)

@@ -19,7 +19,7 @@ use Rattle.sock_model.specs.MarkWeights.{is_hold, is_coding, is_any_coding}
 use Rattle.accept_counts.specs.Below.slot_steps.proofs.RuleNumbers.{or-odd, only_le}
 use Rattle.accept_counts.specs.Below.slot_steps.proofs.SlotWeightSums.{total_mono}
 use Rattle.accept_counts.specs.Below.sock_steps.proofs.LifeLinkSlotPlaces.{own_count}
-use Rattle.seat_programs.specs.TableSteps.{TableStep, CreateLife, AddRef, SubRef, SetOdd, Recycle, ClearCode, StoreCode, LookWord, LoadCode}
+use Rattle.seat_programs.specs.TableSteps.{TableStep, OnSlot, CreateLife, AddRef, SubRef, SetOdd, Recycle, ClearCode, StoreCode, LookWord, LoadCode}
 use Rattle.seat_programs.specs.Cores.{Core, found_at, words_after}
 use Rattle.seat_programs.specs.TableWords.{TableWord, RefOf, CodeOf, index_of}
 use Rattle.seat_programs.specs.StepTables.{word_of, word_after, hand_at, May, Finds}
@@ -62,7 +62,7 @@ module _ (p : Plan) (c : Core) (vs : List View) (sound : Sound p c vs) (i : ℕ)
     WasSo ws = (version_in c.words j ≡ h + 1) × (code_in ws j ≡ code_in c.words j)
 
     abbrev IsNew : TableStep → List ℕ → Type 0
-    IsNew call ws = (g d : ℕ) × (call ≡ StoreCode j g d) × (version_in c.words j ≡ h + 1) × (code_in ws j ≡ d)
+    IsNew call ws = (g d : ℕ) × (call ≡ OnSlot (StoreCode j g d)) × (version_in c.words j ≡ h + 1) × (code_in ws j ≡ d)
 
     -- behind the step the slot's life of version h has failed, with a code
     abbrev Kept : TableStep → List ℕ → Type 0
@@ -92,13 +92,13 @@ module _ (p : Plan) (c : Core) (vs : List View) (sound : Sound p c vs) (i : ℕ)
     found call may = finds p (state c vs) sound.lawful i v at sound.limits.slots call may
 
     -- a slot that fails is live before, and has no code then
-    odd_before : (n : ℕ) → May p v (SetOdd n) → n ≡ j → vref_version (bit_or (get_or c.words (ref_index n) 0) 4294967296) ≡ h + 1 → code_in c.words j ≢ 0 → version_in c.words n ≡ h + 1
+    odd_before : (n : ℕ) → May p v (OnSlot (SetOdd n)) → n ≡ j → vref_version (bit_or (get_or c.words (ref_index n) 0) 4294967296) ≡ h + 1 → code_in c.words j ≢ 0 → version_in c.words n ≡ h + 1
     odd_before n may same version some_ = dite (ℕ_discrete (version_in c.words n % 2) 0)
         (λ is. let m = may.1 in let held = held_version n m.0 may.0 m.1 in let le = lives_le p (state c vs) sound.lawful.references n may.0 in
         absurd (some_ (ap (code_in c.words) (sym same) ∙ live_none n may.0 (let a = held.0 in let b = held.1 in omega (arith, a, b, is, le)))))
         (λ no_. sym (ap vref_version (or-odd (get_or c.words (ref_index n) 0) (omega (arith, no_)))) ∙ version)
 
-    recycled_before : (n from : ℕ) → vref_version from % 2 ≡ 1 → vref_version (word_after (Recycle n from) (get_or c.words (ref_index n) 0)) ≡ h + 1 → version_in c.words n ≡ h + 1
+    recycled_before : (n from : ℕ) → vref_version from % 2 ≡ 1 → vref_version (word_after (OnSlot (Recycle n from)) (get_or c.words (ref_index n) 0)) ≡ h + 1 → version_in c.words n ≡ h + 1
     recycled_before n from odd version = by (eqb (get_or c.words (ref_index n) 0) from) version
       where
         by : (b : Bool) → vref_version (cond b ((vref_version from + 1) * 4294967296) (get_or c.words (ref_index n) 0)) ≡ h + 1 → version_in c.words n ≡ h + 1
@@ -107,15 +107,15 @@ module _ (p : Plan) (c : Core) (vs : List View) (sound : Sound p c vs) (i : ℕ)
 
     pub code_stays : (call : TableStep) → May p v call → version_in (words_after c.words (word_of p call) (word_after call (found_at c.words (word_of p call)))) j ≡ h + 1 → code_in (words_after c.words (word_of p call) (word_after call (found_at c.words (word_of p call)))) j ≢ 0
         → ((version_in c.words j ≡ h + 1) × (code_in (words_after c.words (word_of p call) (word_after call (found_at c.words (word_of p call)))) j ≡ code_in c.words j))
-        ⊎ ((g d : ℕ) × (call ≡ StoreCode j g d) × (version_in c.words j ≡ h + 1) × (code_in (words_after c.words (word_of p call) (word_after call (found_at c.words (word_of p call)))) j ≡ d))
-    code_stays (CreateLife n k) may = on_ref (CreateLife n k) n _ (λ same version some_. let f = (found (CreateLife n k) may).0 in omega (arith, f, version))
-    code_stays (AddRef id) may = on_ref (AddRef id) (socket_id_slot id) _ (λ same version some_. let f = found (AddRef id) may in omega (arith, f, version))
-    code_stays (SubRef n) may = on_ref (SubRef n) n _ (λ same version some_. let f = (found (SubRef n) may).0 in let m = may.1 in omega (arith, f, m, version))
-    code_stays (SetOdd n) may = on_ref (SetOdd n) n _ (λ same version some_. odd_before n may same version some_)
-    code_stays (Recycle n from) may = on_ref (Recycle n from) n _ (λ same version some_. recycled_before n from may.2 version)
-    code_stays (ClearCode n k) may = on_code (ClearCode n k) n 0 (λ same some_ version. absurd (some_ refl))
-    code_stays (StoreCode n g d) may = on_code (StoreCode n g d) n d (λ same some_ version. (g, d, ap (λ z. StoreCode z g d) same, version, ap (λ z. code_in (set c.words (code_index n) d) z) (sym same) ∙ get_or-set_same c.words (code_index n) d 0 (let a = may.0 in omega (arith, a, sound.lawful.references.sized))))
-    code_stays (LookWord id) may = loaded (LookWord id) (some (RefOf (socket_id_slot id)))
-    code_stays (LoadCode n g) may = loaded (LoadCode n g) (some (CodeOf n))
+        ⊎ ((g d : ℕ) × (call ≡ OnSlot (StoreCode j g d)) × (version_in c.words j ≡ h + 1) × (code_in (words_after c.words (word_of p call) (word_after call (found_at c.words (word_of p call)))) j ≡ d))
+    code_stays (OnSlot (CreateLife n k)) may = on_ref (OnSlot (CreateLife n k)) n _ (λ same version some_. let f = (found (OnSlot (CreateLife n k)) may).0 in omega (arith, f, version))
+    code_stays (OnSlot (AddRef id)) may = on_ref (OnSlot (AddRef id)) (socket_id_slot id) _ (λ same version some_. let f = found (OnSlot (AddRef id)) may in omega (arith, f, version))
+    code_stays (OnSlot (SubRef n)) may = on_ref (OnSlot (SubRef n)) n _ (λ same version some_. let f = (found (OnSlot (SubRef n)) may).0 in let m = may.1 in omega (arith, f, m, version))
+    code_stays (OnSlot (SetOdd n)) may = on_ref (OnSlot (SetOdd n)) n _ (λ same version some_. odd_before n may same version some_)
+    code_stays (OnSlot (Recycle n from)) may = on_ref (OnSlot (Recycle n from)) n _ (λ same version some_. recycled_before n from may.2 version)
+    code_stays (OnSlot (ClearCode n k)) may = on_code (OnSlot (ClearCode n k)) n 0 (λ same some_ version. absurd (some_ refl))
+    code_stays (OnSlot (StoreCode n g d)) may = on_code (OnSlot (StoreCode n g d)) n d (λ same some_ version. (g, d, ap (λ z. OnSlot (StoreCode z g d)) same, version, ap (λ z. code_in (set c.words (code_index n) d) z) (sym same) ∙ get_or-set_same c.words (code_index n) d 0 (let a = may.0 in omega (arith, a, sound.lawful.references.sized))))
+    code_stays (OnSlot (LookWord id)) may = loaded (OnSlot (LookWord id)) (some (RefOf (socket_id_slot id)))
+    code_stays (OnSlot (LoadCode n g)) may = loaded (OnSlot (LoadCode n g)) (some (CodeOf n))
     code_stays call may = left call (words_after c.words (word_of p call) (word_after call (found_at c.words (word_of p call))))
         (word_stays p c.words v call may (word_after call (found_at c.words (word_of p call))) (RefOf j) inside (omega arith) refl) (word_stays p c.words v call may (word_after call (found_at c.words (word_of p call))) (CodeOf j) inside (omega arith) refl)

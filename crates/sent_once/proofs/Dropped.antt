@@ -24,7 +24,7 @@ use Rattle.seat_programs.specs.Asides.{Taking}
 use Rattle.accept_counts.proofs.Closers.{Ends as ReadingEnds}
 use Rattle.accept_counts.proofs.ReaderRuns.{Keeps, reader_rights, keeps_along}
 use Rattle.std.specs.Prelude.{slice_get, Some}
-use Rattle.seat_programs.specs.TableSteps.{TableStep, SwapHead}
+use Rattle.seat_programs.specs.TableSteps.{TableStep, OnChain, SwapHead}
 use Rattle.seat_programs.specs.Programs.{Program, Do, Rest, TakeMessage, TakeHome, PutHome, PutBytes, AskReady, Aside, LAST_VERSION, recycle, release}
 use Rattle.seat_programs.specs.LoopHeads.{Retry}
 use Rattle.seat_programs.specs.ClientProgram.{ending_of}
@@ -50,7 +50,7 @@ use Rattle.seat_programs.specs.LoopRounds.{first_step}
 -- ## The ending exchanges no head
 
 abbrev NoSwap : Program → Type 0
-NoSwap (Do (SwapHead i own) next) = ⊥
+NoSwap (Do (OnChain (SwapHead i own)) next) = ⊥
 NoSwap (Do call next) = (found : ℕ) → NoSwap (next found)
 NoSwap Rest = Unit {0}
 NoSwap other = ⊥
@@ -79,7 +79,7 @@ swap_first Rest x = x
 swap_first _ x = absurd x
 
 swap_call : (call : TableStep) (next : ℕ → Program) → NoSwap (Do call next) → IsNoSwap call × ((found : ℕ) → NoSwap (next found))
-swap_call (SwapHead i own) next x = absurd x
+swap_call (OnChain (SwapHead i own)) next x = absurd x
 swap_call call next x = (tt, x)
 
 never_comes : (p : Plan) (first program : Program) → NoSwap first → ComesNext p first program → ⊥

@@ -22,7 +22,7 @@ use Rattle.sock_model.specs.ChainRows.{with_claim, entry_of, more, queued, right
 use Rattle.seat_programs.specs.declared.task.Sizes.{Sizes}
 use Rattle.seat_programs.specs.declared.task.Task.{Task}
 use Rattle.seat_programs.specs.FoundAndChangedAside.{calls_after}
-use Rattle.seat_programs.specs.TableSteps.{TableStep, ClaimRequest, PutMessage, Unconnect, SwapHead}
+use Rattle.seat_programs.specs.TableSteps.{TableStep, OnChain, OnMessage, ClaimRequest, PutMessage, Unconnect, SwapHead}
 use Rattle.seat_programs.specs.ClientProgram.{client_from, ending_of}
 use Rattle.seat_programs.specs.Cores.{Calls, Core, SeatState, found_at, words_after, homes_after, hand_after, lies_at, first_of, others_of, link_place, resolved, still_waiting, waiting_at, next_step, with_seat}
 use Rattle.seat_programs.specs.StepTables.{word_of, word_after}
@@ -107,21 +107,21 @@ module _ (mine : ℕ → Type 0) where
   same_goes low v u s g = record { made = g.made; lists = s.1 ∙ g.lists; ordered = g.ordered; old = g.old; claims = subst (AllByRecursion (ClaimGoes low g.made)) (sym s.0) g.claims }
 
   abbrev low_behind : TableStep → ℕ → ℕ
-  low_behind (PutMessage q heading bytes) low = behind heading low
+  low_behind (OnMessage (PutMessage q heading bytes)) low = behind heading low
   low_behind other low = low
 
   abbrev Puts : ℕ → TableStep → Type 0
-  Puts low (PutMessage q heading bytes) = heading.label.attempt ≡ 0 → (low ≤ heading.label.operation) × mine heading.label.operation
+  Puts low (OnMessage (PutMessage q heading bytes)) = heading.label.attempt ≡ 0 → (low ≤ heading.label.operation) × mine heading.label.operation
   Puts low other = Unit {0}
 
   goes_do : (low : ℕ) (call : TableStep) (next : ℕ → Program) → Firsts mine low (Do call next) → Puts low call × ((found : ℕ) → Firsts mine (low_behind call low) (next found))
-  goes_do low (PutMessage q heading bytes) next x = x
+  goes_do low (OnMessage (PutMessage q heading bytes)) next x = x
   goes_do low _ next x = (tt, x)
 
   -- ## A step
 
   module _ (p : Plan) (low found : ℕ) (hand : Hand) (v : View) (g : ViewGoes low v) where
-    claimed_goes : (id q : ℕ) → ViewGoes low (row p (ClaimRequest id q) found hand v)
+    claimed_goes : (id q : ℕ) → ViewGoes low (row p (OnChain (ClaimRequest id q)) found hand v)
     claimed_goes id q = split (found % 2 == 0) _ v (ViewGoes low) (record { made = g.made; lists = g.lists; ordered = g.ordered; old = g.old; claims = ((λ e. absurd (true≢false (sym e))), tt) }) g
 
     ready_goes : (cs : List Claim) → v.claims ≡ cs → ViewGoes low (by_claim cs (λ c. with_claim v (ready_claim c)) v)
@@ -145,7 +145,7 @@ module _ (mine : ℕ → Type 0) where
       weaker : ViewGoes (behind heading low) v
       weaker = record { made = g.made; lists = g.lists; ordered = g.ordered; old = all_older; claims = all_map (ClaimGoes low g.made) (ClaimGoes (behind heading low) g.made) (λ c o e. (older c.heading (o e).0, (o e).1)) v.claims g.claims }
 
-      put_goes : (q : ℕ) (bytes : List ℕ) → ViewGoes (behind heading low) (row p (PutMessage q heading bytes) found hand v)
+      put_goes : (q : ℕ) (bytes : List ℕ) → ViewGoes (behind heading low) (row p (OnMessage (PutMessage q heading bytes)) found hand v)
       put_goes q bytes = claim_way (ViewGoes (behind heading low)) v.claims (λ c. with_claim v (filled_claim c heading bytes)) v weaker (λ c. record {
         made = g.made;
         lists = g.lists;
@@ -169,17 +169,17 @@ module _ (mine : ℕ → Type 0) where
       claims = subst (AllByRecursion (ClaimGoes low (g.made ++ entry_of c n ∷ []))) (sym none_) tt;
     }
 
-    swap_goes : (i own : ℕ) → May p v (SwapHead i own) → (cs : List Claim) → v.claims ≡ cs → ViewGoes low (by_claim cs (exchanged found hand v) v)
+    swap_goes : (i own : ℕ) → May p v (OnChain (SwapHead i own)) → (cs : List Claim) → v.claims ≡ cs → ViewGoes low (by_claim cs (exchanged found hand v) v)
     swap_goes i own may [] e = g
     swap_goes i own may (c ∷ cs) e = let m = may.1 in let same : m.claim ∷ [] ≡ c ∷ cs = sym m.claims ∙ e in let one : m.claim ≡ c = cc in
         let filled : c.filled ≡ true = ap (λ (x : Claim). x.filled) (sym one) ∙ m.is_filled in let o = (subst (AllByRecursion (ClaimGoes low g.made)) e g.claims).0 filled in
         split (nat_lt found IDLE) (queued v c found) (righted v c found hand.took hand.next) (ViewGoes low) (more_goes c found o (queued v c found) refl refl) (more_goes c (found - IDLE) o (righted v c found hand.took hand.next) refl refl)
 
     row_goes : (call : TableStep) → May p v call → Puts low call → ViewGoes (low_behind call low) (row p call found hand v)
-    row_goes (ClaimRequest id q) may puts = claimed_goes id q
-    row_goes (PutMessage q heading bytes) may puts = put_goes heading puts q bytes
-    row_goes (Unconnect q) may puts = ready_goes v.claims refl
-    row_goes (SwapHead i own) may puts = swap_goes i own may v.claims refl
+    row_goes (OnChain (ClaimRequest id q)) may puts = claimed_goes id q
+    row_goes (OnMessage (PutMessage q heading bytes)) may puts = put_goes heading puts q bytes
+    row_goes (OnChain (Unconnect q)) may puts = ready_goes v.claims refl
+    row_goes (OnChain (SwapHead i own)) may puts = swap_goes i own may v.claims refl
     row_goes call may puts = same_goes low v (row p call found hand v) (row_same v p found hand call refl) g
 
   rights_goes : (low : ℕ) (v u : View) (rights : List Right) → u ≡ with_rights v rights → ViewGoes low v → ViewGoes low u

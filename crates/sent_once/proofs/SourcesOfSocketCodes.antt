@@ -10,7 +10,7 @@ use Rattle.seat_programs.specs.declared.task.Op.{Op}
 use Rattle.seat_programs.specs.declared.task.Op.TheVariants as ops
 use Rattle.seat_programs.specs.declared.task.Task.{Task}
 use Rattle.seat_programs.specs.declared.task.Sizes.{Sizes}
-use Rattle.seat_programs.specs.TableSteps.{TableStep, SubRef, SetOdd, StoreCode}
+use Rattle.seat_programs.specs.TableSteps.{TableStep, OnSlot, SubRef, SetOdd, StoreCode}
 use Rattle.seat_programs.specs.LoopHeads.{Head, Exit, Retry, Ended, Opens, Reads}
 use Rattle.seat_programs.specs.Programs.{Program, Do, Say, Sent, Write, Round, Keep, Retries, release, set_failed, fail, fail_outcome}
 use Rattle.seat_programs.specs.CallAndRetryPrograms.{attempt}
@@ -36,7 +36,7 @@ IsOtherCode code = (code ≡ 1009) ⊎ ((code ≡ 1014) ⊎ (code ≡ 2002))
 
 -- where its steps find 0, the program says next that the operation failed a life
 abbrev pub SaysFailed : ℕ → Program → Type 0
-SaysFailed o (Do (SetOdd i) next) = ⊥
+SaysFailed o (Do (OnSlot (SetOdd i)) next) = ⊥
 SaysFailed o (Do call next) = SaysFailed o (next 0)
 SaysFailed o (Say x outcome next) = (x ≡ o) × (outcome ≡ Failed)
 SaysFailed o other = ⊥
@@ -44,9 +44,9 @@ SaysFailed o other = ⊥
 -- these are the `fail` operations of the seat, with their codes, and the other codes that it may store
 module _ (mine : ℕ → ℕ → Type 0) (Other : ℕ → Type 0) where
   abbrev StoresAt : Failing → TableStep → (ℕ → Program) → (Failing → ℕ → Type 0) → Type 0
-  StoresAt f (SetOdd i) next behind = ((found : ℕ) → behind NoFail found)
+  StoresAt f (OnSlot (SetOdd i)) next behind = ((found : ℕ) → behind NoFail found)
       ⊎ ((o code : ℕ) × mine o code × ((found : ℕ) → ((vref_version found % 2 ≡ 0) × SaysFailed o (next found) × behind (Fails o code i) found) ⊎ behind NoFail found))
-  StoresAt f (StoreCode i h code) next behind = (Other code ⊎ ((o : ℕ) × (f ≡ Fails o code i))) × ((found : ℕ) → behind NoFail found)
+  StoresAt f (OnSlot (StoreCode i h code)) next behind = (Other code ⊎ ((o : ℕ) × (f ≡ Fails o code i))) × ((found : ℕ) → behind NoFail found)
   StoresAt f call next behind = (found : ℕ) → behind NoFail found
 
   abbrev StoresLoop : (head : Head) → (Exit head → Type 0) → Type 0
@@ -67,9 +67,9 @@ module _ (mine : ℕ → ℕ → Type 0) (Other : ℕ → Type 0) (gone : Other 
   abbrev G : Program → Type 0
   G program = Stores mine Other NoFail program
 
-  codes_these : (these : TableStep → Bool) → ((i : ℕ) → these (SetOdd i) ≡ false) → ((i h c : ℕ) → these (StoreCode i h c) ≡ false) → PassesSteps these G
-  codes_these these odd code (SetOdd i) next is r = absurd (true≢false (sym is ∙ odd i))
-  codes_these these odd code (StoreCode i h c) next is r = absurd (true≢false (sym is ∙ code i h c))
+  codes_these : (these : TableStep → Bool) → ((i : ℕ) → these (OnSlot (SetOdd i)) ≡ false) → ((i h c : ℕ) → these (OnSlot (StoreCode i h c)) ≡ false) → PassesSteps these G
+  codes_these these odd code (OnSlot (SetOdd i)) next is r = absurd (true≢false (sym is ∙ odd i))
+  codes_these these odd code (OnSlot (StoreCode i h c)) next is r = absurd (true≢false (sym is ∙ code i h c))
   codes_these these odd code call next is r = r
 
   codes_plain : PassesPlain G
@@ -101,9 +101,9 @@ module _ (mine : ℕ → ℕ → Type 0) (Other : ℕ → Type 0) (gone : Other 
       (λ id. inr (o, code, own, λ found. by id found (vref_version found % 2 == 0) refl)) (λ found. after)
     where
       by : (id found : ℕ) (b : Bool) → (vref_version found % 2 == 0) ≡ b
-          → ((vref_version found % 2 ≡ 0) × SaysFailed o (cond b (Do (StoreCode (socket_id_slot id) (socket_id_version id) code) (λ _. Do (SubRef (socket_id_slot id)) (λ _. release (socket_id_slot id) (λ _. Say o (fail_outcome found) next)))) (release (socket_id_slot id) (λ _. Say o (fail_outcome found) next)))
-          × Stores mine Other (Fails o code (socket_id_slot id)) (cond b (Do (StoreCode (socket_id_slot id) (socket_id_version id) code) (λ _. Do (SubRef (socket_id_slot id)) (λ _. release (socket_id_slot id) (λ _. Say o (fail_outcome found) next)))) (release (socket_id_slot id) (λ _. Say o (fail_outcome found) next))))
-          ⊎ G (cond b (Do (StoreCode (socket_id_slot id) (socket_id_version id) code) (λ _. Do (SubRef (socket_id_slot id)) (λ _. release (socket_id_slot id) (λ _. Say o (fail_outcome found) next)))) (release (socket_id_slot id) (λ _. Say o (fail_outcome found) next)))
+          → ((vref_version found % 2 ≡ 0) × SaysFailed o (cond b (Do (OnSlot (StoreCode (socket_id_slot id) (socket_id_version id) code)) (λ _. Do (OnSlot (SubRef (socket_id_slot id))) (λ _. release (socket_id_slot id) (λ _. Say o (fail_outcome found) next)))) (release (socket_id_slot id) (λ _. Say o (fail_outcome found) next)))
+          × Stores mine Other (Fails o code (socket_id_slot id)) (cond b (Do (OnSlot (StoreCode (socket_id_slot id) (socket_id_version id) code)) (λ _. Do (OnSlot (SubRef (socket_id_slot id))) (λ _. release (socket_id_slot id) (λ _. Say o (fail_outcome found) next)))) (release (socket_id_slot id) (λ _. Say o (fail_outcome found) next))))
+          ⊎ G (cond b (Do (OnSlot (StoreCode (socket_id_slot id) (socket_id_version id) code)) (λ _. Do (OnSlot (SubRef (socket_id_slot id))) (λ _. release (socket_id_slot id) (λ _. Say o (fail_outcome found) next)))) (release (socket_id_slot id) (λ _. Say o (fail_outcome found) next)))
       by id found true even = inl (eqb-true (vref_version found % 2) 0 even, (refl, ap (λ b. cond b Failed (Already (record { 0 = found }))) even), (inr (o, refl), λ _ _. through_release G codes_plain.words (socket_id_slot id) (λ _. Say o (fail_outcome found) next) (λ _. after)))
       by id found false odd = inr (through_release G codes_plain.words (socket_id_slot id) (λ _. Say o (fail_outcome found) next) (λ _. after))
 

@@ -12,33 +12,33 @@ use Rattle.brpc_model.specs.Report.{LinkLine, Report}
 use Rattle.brpc_model.specs.Run.{Run}
 use Rattle.brpc_model.specs.Script.{script_of}
 use Rattle.brpc_model.specs.ServedForTakenBytes as model
-use Rattle.served_calls.specs.Below.report_fits.specs.ScriptLinkEnds.{AreEndsOf}
-use Rattle.served_calls.specs.Below.report_fits.proofs.LinkOrderLines.{Given}
-use Rattle.served_calls.specs.Below.report_fits.proofs.LinkOrderLines as lines
-use Rattle.served_calls.specs.Below.script_facts.proofs.FilteredLists.{within, has_from}
-use Rattle.served_calls.specs.Below.report_fits.proofs.LivesInReport as lives
-use Rattle.served_calls.specs.Below.report_fits.proofs.PrintableCallRun.{known_of}
-use Rattle.served_calls.specs.Below.report_fits.proofs.ReportedRunFitting.{id_said}
-use Rattle.served_calls.specs.Below.script_facts.proofs.ReadScriptFacts.{InRange}
-use Rattle.served_calls.specs.Below.script_facts.proofs.ScriptSizes.{is_counted}
-use Rattle.served_calls.specs.Below.script_facts.proofs.Targets.{AreThere, are_there}
+use Rattle.offered_runs.specs.served_sizes.specs.served_calls.specs.Below.report_fits.specs.ScriptLinkEnds.{AreEndsOf}
+use Rattle.offered_runs.specs.served_sizes.specs.served_calls.specs.Below.report_fits.proofs.LinkOrderLines.{Given}
+use Rattle.offered_runs.specs.served_sizes.specs.served_calls.specs.Below.report_fits.proofs.LinkOrderLines as lines
+use Rattle.offered_runs.specs.served_sizes.specs.served_calls.specs.Below.script_facts.proofs.FilteredLists.{within, has_from}
+use Rattle.offered_runs.specs.served_sizes.specs.served_calls.specs.Below.report_fits.proofs.LivesInReport as lives
+use Rattle.offered_runs.specs.served_sizes.specs.served_calls.specs.Below.report_fits.proofs.PrintableCallRun.{known_of}
+use Rattle.offered_runs.specs.served_sizes.specs.served_calls.specs.Below.report_fits.proofs.ReportedRunFitting.{id_said}
+use Rattle.offered_runs.specs.served_sizes.specs.served_calls.specs.Below.script_facts.proofs.ReadScriptFacts.{InRange}
+use Rattle.offered_runs.specs.served_sizes.specs.served_calls.specs.Below.script_facts.proofs.ScriptSizes.{is_counted}
+use Rattle.offered_runs.specs.served_sizes.specs.served_calls.specs.Below.script_facts.proofs.Targets.{AreThere, are_there}
 use Rattle.seat_programs.specs.declared.task.Op.TheVariants as ops
 use Rattle.seat_programs.specs.Cores.{Core}
 use Rattle.seat_programs.specs.Tasks.{name_number, plan_of}
 use Rattle.seat_programs.specs.Explained.{Made}
 use Rattle.seat_programs.specs.ExplainedCalls.{Order, Fixed, ExplainedCalls}
 use Rattle.seat_programs.specs.ScriptSetupToEnding.{Reports, all_tasks, IsRunWithCalls}
-use Rattle.served_calls.specs.Below.outcome_stories.specs.Facts.{late_links_of_run}
-use Rattle.served_calls.specs.Below.call_owing.specs.LivesOfLinks.{ClosesInRun}
-use Rattle.served_calls.specs.Below.run_theorems.proofs.RunLengths.{ended_length}
-use Rattle.served_calls.specs.Below.run_theorems.proofs.ScriptStartsSoundly.{made}
-use Rattle.served_calls.specs.Below.call_stories.specs.LinkReadingLists.{gave_in}
-use Rattle.served_calls.specs.served_runs.specs.OfferedReplies.{OffersInRun}
-use Rattle.served_calls.specs.served_runs.specs.ServedLinks.{IsServed, took_in_all}
-use Rattle.served_calls.specs.served_runs.proofs.Model.{link_own_replies}
-use Rattle.served_calls.specs.served_runs.proofs.ServedLinks.{gives_replies}
-use Rattle.served_calls.specs.QuietRuns.{AreShown}
-use Rattle.served_calls.proofs.OutcomeShowingCallId.{outcome_there, both_told}
+use Rattle.offered_runs.specs.served_sizes.specs.served_calls.specs.Below.outcome_stories.specs.Facts.{late_links_of_run}
+use Rattle.offered_runs.specs.served_sizes.specs.served_calls.specs.Below.call_owing.specs.LivesOfLinks.{ClosesInRun}
+use Rattle.offered_runs.specs.served_sizes.specs.served_calls.specs.Below.run_theorems.proofs.RunLengths.{ended_length}
+use Rattle.offered_runs.specs.served_sizes.specs.served_calls.specs.Below.run_theorems.proofs.ScriptStartsSoundly.{made}
+use Rattle.offered_runs.specs.served_sizes.specs.served_calls.specs.Below.call_stories.specs.LinkReadingLists.{gave_in}
+use Rattle.offered_runs.specs.served_sizes.specs.served_calls.specs.served_runs.specs.OfferedReplies.{OffersInRun}
+use Rattle.offered_runs.specs.served_sizes.specs.served_calls.specs.served_runs.specs.ServedLinks.{IsServed, took_in_all}
+use Rattle.offered_runs.specs.served_sizes.specs.served_calls.specs.served_runs.proofs.Model.{link_own_replies}
+use Rattle.offered_runs.specs.served_sizes.specs.served_calls.specs.served_runs.proofs.ServedLinks.{gives_replies}
+use Rattle.offered_runs.specs.served_sizes.specs.served_calls.specs.QuietRuns.{AreShown}
+use Rattle.offered_runs.specs.served_sizes.specs.served_calls.proofs.OutcomeShowingCallId.{outcome_there, both_told}
 use Rattle.served_fits.specs.LatenessKnownOfRun.{TellTook}
 
 module _ (bytes : List ℕ) (script : List Item) (reads : script_of bytes ≡ Ok script) (turns : List Turn) (core : Core) (is : IsRunWithCalls script turns core) (closes : ClosesInRun script turns core is) (offers : OffersInRun script turns core is) (fixed : Fixed)

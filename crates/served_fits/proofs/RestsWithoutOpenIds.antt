@@ -4,10 +4,10 @@ use Rattle.brpc_model.specs.Items.{Item}
 use Rattle.brpc_model.specs.Operations.{Turn}
 use Rattle.seat_programs.specs.Cores.{Core}
 use Rattle.seat_programs.specs.ScriptSetupToEnding.{played, IsRunWithCalls}
-use Rattle.served_calls.specs.Below.joint_runs.proofs.RunsOfBothTables.{AreMade}
-use Rattle.served_calls.specs.Below.call_owing.specs.SettledSeats as settled
-use Rattle.served_calls.specs.Below.accept_counts.proofs.EarlyClosedSockets.{clients_take_none}
-use Rattle.served_calls.specs.Below.accept_counts.proofs.SeatsStandingAtEnding.{takeless_rests}
+use Rattle.offered_runs.specs.served_sizes.specs.served_calls.specs.Below.joint_runs.proofs.RunsOfBothTables.{AreMade}
+use Rattle.offered_runs.specs.served_sizes.specs.served_calls.specs.Below.call_owing.specs.SettledSeats as settled
+use Rattle.offered_runs.specs.served_sizes.specs.served_calls.specs.Below.accept_counts.proofs.EarlyClosedSockets.{clients_take_none}
+use Rattle.offered_runs.specs.served_sizes.specs.served_calls.specs.Below.accept_counts.proofs.SeatsStandingAtEnding.{takeless_rests}
 use Rattle.served_fits.specs.LatenessKnownOfRun.{NoneOpen}
 
 module _ (script : List Item) (made : AreMade script) (turns : List Turn) (core : Core) (is : IsRunWithCalls script turns core) (none_open : NoneOpen script turns core is) where

@@ -12,18 +12,18 @@ use Rattle.brpc_model.specs.Run.{Run}
 use Rattle.brpc_model.specs.Script.{script_of}
 use Rattle.brpc_model.specs.ServedForTakenBytes.{ServesAll, FitsServed}
 use Rattle.brpc_model.specs.PlaceWords.{AreTold}
-use Rattle.served_calls.specs.Below.report_fits.specs.ScriptLinkEnds.{AreEndsOf}
-use Rattle.served_calls.specs.Below.report_fits.proofs.ReportedRunFitting.{fits_run}
-use Rattle.served_calls.specs.Below.report_fits.proofs.PrintableCallRun.{lateness}
+use Rattle.offered_runs.specs.served_sizes.specs.served_calls.specs.Below.report_fits.specs.ScriptLinkEnds.{AreEndsOf}
+use Rattle.offered_runs.specs.served_sizes.specs.served_calls.specs.Below.report_fits.proofs.ReportedRunFitting.{fits_run}
+use Rattle.offered_runs.specs.served_sizes.specs.served_calls.specs.Below.report_fits.proofs.PrintableCallRun.{lateness}
 use Rattle.seat_programs.specs.Cores.{Core}
 use Rattle.seat_programs.specs.Tasks.{plan_of}
 use Rattle.seat_programs.specs.ExplainedCalls.{Order, Fixed, ExplainedCalls}
 use Rattle.seat_programs.specs.ScriptSetupToEnding.{Reports, all_tasks, IsRunWithCalls}
-use Rattle.served_calls.specs.Below.outcome_stories.specs.Facts.{late_links_of_run}
-use Rattle.served_calls.specs.Below.call_owing.specs.LivesOfLinks.{ClosesInRun}
-use Rattle.served_calls.specs.Below.call_stories.specs.LinkReadingLists.{gave_in}
-use Rattle.served_calls.specs.served_runs.specs.OfferedReplies.{OffersInRun}
-use Rattle.served_calls.specs.QuietRuns.{AreShown}
+use Rattle.offered_runs.specs.served_sizes.specs.served_calls.specs.Below.outcome_stories.specs.Facts.{late_links_of_run}
+use Rattle.offered_runs.specs.served_sizes.specs.served_calls.specs.Below.call_owing.specs.LivesOfLinks.{ClosesInRun}
+use Rattle.offered_runs.specs.served_sizes.specs.served_calls.specs.Below.call_stories.specs.LinkReadingLists.{gave_in}
+use Rattle.offered_runs.specs.served_sizes.specs.served_calls.specs.served_runs.specs.OfferedReplies.{OffersInRun}
+use Rattle.offered_runs.specs.served_sizes.specs.served_calls.specs.QuietRuns.{AreShown}
 use Rattle.served_fits.specs.LatenessKnownOfRun.{AreSo, TellTook, IsInTime}
 use Rattle.served_fits.proofs.RepliesOfReportedRun.{all_given, reported, run_gives_replies, run_gives_own_replies}
 use Rattle.served_fits.proofs.WholeCallReport.{CallsAreOver, timely_run, joinless_in_time, over_in_time}

@@ -10,24 +10,24 @@ use Rattle.brpc_model.specs.Report.{Report, report_text}
 use Rattle.brpc_model.specs.Run.{Run}
 use Rattle.brpc_model.specs.Script.{script_of}
 use Rattle.brpc_model.specs.PlaceWords.{AreTold}
-use Rattle.served_calls.specs.Below.report_fits.specs.ScriptLinkEnds.{AreEndsOf}
-use Rattle.served_calls.specs.Below.script_facts.proofs.FilteredLists.{Has, has_from, contains_from, has_later, has_cases, has_none}
-use Rattle.served_calls.specs.Below.report_fits.proofs.PrintableCallRun.{lateness}
+use Rattle.offered_runs.specs.served_sizes.specs.served_calls.specs.Below.report_fits.specs.ScriptLinkEnds.{AreEndsOf}
+use Rattle.offered_runs.specs.served_sizes.specs.served_calls.specs.Below.script_facts.proofs.FilteredLists.{Has, has_from, contains_from, has_later, has_cases, has_none}
+use Rattle.offered_runs.specs.served_sizes.specs.served_calls.specs.Below.report_fits.proofs.PrintableCallRun.{lateness}
 use Rattle.seat_programs.specs.Cores.{Core}
 use Rattle.seat_programs.specs.Tasks.{plan_of}
 use Rattle.seat_programs.specs.ExplainedCalls.{Order, Fixed, ExplainedCalls}
 use Rattle.seat_programs.specs.ScriptSetupToEnding.{Reports, all_tasks, IsRunWithCalls}
-use Rattle.served_calls.specs.Below.outcome_stories.specs.Facts.{late_of_run, late_links_of_run}
-use Rattle.served_calls.specs.Below.call_owing.specs.LivesOfLinks.{ClosesInRun}
-use Rattle.served_calls.specs.Below.run_theorems.proofs.RunLengths.{ended_length}
-use Rattle.served_calls.specs.Below.run_theorems.proofs.ScriptStartsSoundly.{made}
-use Rattle.served_calls.specs.Below.run_theorems.proofs.Unjoined.{no_join}
-use Rattle.served_calls.specs.Below.call_stories.specs.LinkReadingLists.{gave_in}
-use Rattle.served_calls.specs.served_runs.specs.OfferedReplies.{OffersInRun}
-use Rattle.calm_runs.proofs.Nothing.{nothing_behind, nothing_late}
-use Rattle.served_calls.specs.QuietRuns.{AreShown, GivesFew, IsTimely}
-use Rattle.served_calls.proofs.WholeServedReport.{offered_run}
-use Rattle.served_sizes.proofs.FewBytesFromServer.{few}
+use Rattle.offered_runs.specs.served_sizes.specs.served_calls.specs.Below.outcome_stories.specs.Facts.{late_of_run, late_links_of_run}
+use Rattle.offered_runs.specs.served_sizes.specs.served_calls.specs.Below.call_owing.specs.LivesOfLinks.{ClosesInRun}
+use Rattle.offered_runs.specs.served_sizes.specs.served_calls.specs.Below.run_theorems.proofs.RunLengths.{ended_length}
+use Rattle.offered_runs.specs.served_sizes.specs.served_calls.specs.Below.run_theorems.proofs.ScriptStartsSoundly.{made}
+use Rattle.offered_runs.specs.served_sizes.specs.served_calls.specs.Below.run_theorems.proofs.Unjoined.{no_join}
+use Rattle.offered_runs.specs.served_sizes.specs.served_calls.specs.Below.call_stories.specs.LinkReadingLists.{gave_in}
+use Rattle.offered_runs.specs.served_sizes.specs.served_calls.specs.served_runs.specs.OfferedReplies.{OffersInRun}
+use Rattle.offered_runs.specs.served_sizes.specs.served_calls.specs.served_runs.specs.calm_runs.proofs.Nothing.{nothing_behind, nothing_late}
+use Rattle.offered_runs.specs.served_sizes.specs.served_calls.specs.QuietRuns.{AreShown, GivesFew, IsTimely}
+use Rattle.offered_runs.specs.served_sizes.specs.served_calls.proofs.WholeServedReport.{offered_run}
+use Rattle.offered_runs.specs.served_sizes.proofs.FewBytesFromServer.{few}
 use Rattle.served_fits.specs.LatenessKnownOfRun.{AreSo, IsInTime, NoneOpen}
 use Rattle.served_fits.proofs.RepliesOfReportedRun.{reported}
 use Rattle.served_fits.proofs.RestsWithoutOpenIds.{clients_over}

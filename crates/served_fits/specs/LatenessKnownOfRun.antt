@@ -11,9 +11,9 @@ use Rattle.seat_programs.specs.Explained.{IsTask}
 use Rattle.seat_programs.specs.ExplainedCalls.{Fixed}
 use Rattle.seat_programs.specs.ScriptSetupToEnding.{all_tasks, played, IsRunWithCalls}
 use Rattle.seat_programs.specs.Tasks.{id_plan_of}
-use Rattle.served_calls.specs.Below.outcome_stories.specs.Facts.{late_of_run, late_links_of_run}
-use Rattle.served_calls.specs.Below.call_owing.specs.SoundOwing.{id_word_of}
-use Rattle.served_calls.specs.Below.call_stories.specs.LinkReadingLists.{attempts_of_run}
+use Rattle.offered_runs.specs.served_sizes.specs.served_calls.specs.Below.outcome_stories.specs.Facts.{late_of_run, late_links_of_run}
+use Rattle.offered_runs.specs.served_sizes.specs.served_calls.specs.Below.call_owing.specs.SoundOwing.{id_word_of}
+use Rattle.offered_runs.specs.served_sizes.specs.served_calls.specs.Below.call_stories.specs.LinkReadingLists.{attempts_of_run}
 
 module _ (script : List Item) (turns : List Turn) (core : Core) (is : IsRunWithCalls script turns core) where
   -- what is fixed of the run is so: each call ended with the attempt to which the run advanced, and what is said to come late did

@@ -15,14 +15,14 @@ use Rattle.seat_programs.specs.Programs.{Aside}
 use Rattle.seat_programs.specs.Cores.{Core, SeatState}
 use Rattle.seat_programs.specs.Tasks.{calls, plan_of}
 use Rattle.seat_programs.specs.Ticks.{Answer, OfTake, Moment, IsAnswered, FitsTake, IsTaken, tick_with, ticked}
-use Rattle.send_causes.specs.Below.programs_allowed.specs.program_steps.specs.SoundSeats.{Sound, IsFitting}
-use Rattle.send_causes.specs.Below.programs_allowed.specs.sock_runs.proofs.LinkTicks.{RetriesGo}
-use Rattle.send_causes.specs.Below.outcome_stories.specs.OperationStories.{In}
-use Rattle.send_causes.specs.Below.call_owing.proofs.EndsStill.{run_ending}
-use Rattle.send_causes.specs.Below.run_theorems.specs.Heard.{as_taken, taken_link, taken_at, bytes_found}
-use Rattle.send_causes.specs.Below.call_stories.specs.LinkReadingLists.{gave_in}
-use Rattle.send_causes.specs.Below.ended_calls.proofs.EndedTicks.{seats_else}
-use Rattle.send_causes.specs.Below.accept_counts.proofs.ReadingsAtTicks.{IsTake, takes_or_not}
+use Rattle.calm_runs.specs.send_causes.specs.Below.programs_allowed.specs.program_steps.specs.SoundSeats.{Sound, IsFitting}
+use Rattle.calm_runs.specs.send_causes.specs.Below.programs_allowed.specs.sock_runs.proofs.LinkTicks.{RetriesGo}
+use Rattle.calm_runs.specs.send_causes.specs.Below.outcome_stories.specs.OperationStories.{In}
+use Rattle.calm_runs.specs.send_causes.specs.Below.call_owing.proofs.EndsStill.{run_ending}
+use Rattle.calm_runs.specs.send_causes.specs.Below.run_theorems.specs.Heard.{as_taken, taken_link, taken_at, bytes_found}
+use Rattle.calm_runs.specs.send_causes.specs.Below.call_stories.specs.LinkReadingLists.{gave_in}
+use Rattle.calm_runs.specs.send_causes.specs.Below.ended_calls.proofs.EndedTicks.{seats_else}
+use Rattle.calm_runs.specs.send_causes.specs.Below.accept_counts.proofs.ReadingsAtTicks.{IsTake, takes_or_not}
 use Rattle.served_runs.specs.OfferedReplies.{IsDone, offered_by, GaveAll, GaveLast, IsOfferedSo, OffersAt, IsOffered}
 use Rattle.served_runs.proofs.LinkPlacesAtTicks.{IsPut, AllLay, all_lay, done_quiet, done_on}
 use Rattle.served_runs.proofs.ReadingsOver.{IsBad, is_last}

@@ -15,21 +15,21 @@ use Rattle.seat_programs.specs.Programs.{Aside}
 use Rattle.seat_programs.specs.Cores.{Core, SeatState}
 use Rattle.seat_programs.specs.Tasks.{opens, calls, plan_of}
 use Rattle.seat_programs.specs.Ticks.{Answer, OfTake, Moment, IsAnswered, AreAnswered, IsTaken, tick_with, ticked, run}
-use Rattle.send_causes.specs.Below.programs_allowed.specs.program_steps.specs.SoundSeats.{Sound, IsFitting, AreFitting, views_after}
-use Rattle.send_causes.specs.Below.programs_allowed.specs.sock_runs.proofs.LinkTicks.{RetriesGo}
-use Rattle.send_causes.specs.Below.programs_allowed.specs.program_walks.proofs.OpensStay.{run_word}
-use Rattle.send_causes.specs.Below.programs_allowed.specs.program_walks.proofs.Recorded.{Recorded, recorded_ticks}
-use Rattle.send_causes.specs.Below.programs_allowed.specs.sock_runs.proofs.TicksKeepSeatsSound.{sound_ticks}
-use Rattle.send_causes.specs.Below.outcome_stories.specs.OperationStories.{In}
-use Rattle.send_causes.specs.Below.outcome_causes.proofs.PlainOutcomeCauses.{in_both}
-use Rattle.send_causes.specs.Below.run_theorems.specs.Heard.{as_taken, taken_link, taken_at, taken_in, bytes_found}
-use Rattle.send_causes.specs.Below.run_theorems.proofs.HeardRuns.{taken_append}
-use Rattle.send_causes.specs.Below.run_theorems.proofs.RunLengths.{tick_long}
-use Rattle.send_causes.specs.Below.call_stories.specs.LinkReadingLists.{gave_in}
-use Rattle.send_causes.specs.Below.accept_counts.proofs.EarlyClosedSockets.{Any, ends_anyhow}
-use Rattle.send_causes.specs.Below.ended_calls.proofs.EndedTicks.{seats_else}
-use Rattle.send_causes.specs.Below.accept_counts.proofs.ReaderRuns.{keeps_ticks}
-use Rattle.send_causes.specs.Below.accept_counts.proofs.ReadingsAtTicks.{IsTake, takes_or_not, found_by}
+use Rattle.calm_runs.specs.send_causes.specs.Below.programs_allowed.specs.program_steps.specs.SoundSeats.{Sound, IsFitting, AreFitting, views_after}
+use Rattle.calm_runs.specs.send_causes.specs.Below.programs_allowed.specs.sock_runs.proofs.LinkTicks.{RetriesGo}
+use Rattle.calm_runs.specs.send_causes.specs.Below.programs_allowed.specs.program_walks.proofs.OpensStay.{run_word}
+use Rattle.calm_runs.specs.send_causes.specs.Below.programs_allowed.specs.program_walks.proofs.Recorded.{Recorded, recorded_ticks}
+use Rattle.calm_runs.specs.send_causes.specs.Below.programs_allowed.specs.sock_runs.proofs.TicksKeepSeatsSound.{sound_ticks}
+use Rattle.calm_runs.specs.send_causes.specs.Below.outcome_stories.specs.OperationStories.{In}
+use Rattle.calm_runs.specs.send_causes.specs.Below.outcome_causes.proofs.PlainOutcomeCauses.{in_both}
+use Rattle.calm_runs.specs.send_causes.specs.Below.run_theorems.specs.Heard.{as_taken, taken_link, taken_at, taken_in, bytes_found}
+use Rattle.calm_runs.specs.send_causes.specs.Below.run_theorems.proofs.HeardRuns.{taken_append}
+use Rattle.calm_runs.specs.send_causes.specs.Below.run_theorems.proofs.RunLengths.{tick_long}
+use Rattle.calm_runs.specs.send_causes.specs.Below.call_stories.specs.LinkReadingLists.{gave_in}
+use Rattle.calm_runs.specs.send_causes.specs.Below.accept_counts.proofs.EarlyClosedSockets.{Any, ends_anyhow}
+use Rattle.calm_runs.specs.send_causes.specs.Below.ended_calls.proofs.EndedTicks.{seats_else}
+use Rattle.calm_runs.specs.send_causes.specs.Below.accept_counts.proofs.ReaderRuns.{keeps_ticks}
+use Rattle.calm_runs.specs.send_causes.specs.Below.accept_counts.proofs.ReadingsAtTicks.{IsTake, takes_or_not, found_by}
 use Rattle.served_runs.specs.OfferedReplies.{offered_by, GaveLast, IsOfferedSo, OffersAt, IsOffered, AreOffered}
 use Rattle.served_runs.proofs.LinkPlacesAtTicks.{all_lay}
 use Rattle.served_runs.proofs.ReadingsOver.{is_last}

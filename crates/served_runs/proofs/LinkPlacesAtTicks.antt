@@ -14,20 +14,20 @@ use Rattle.brpc_model.specs.Items.{Item}
 use Rattle.seat_programs.specs.ClientProgram.{ending_of}
 use Rattle.seat_programs.specs.ScriptSetupToEnding.{ending}
 use Rattle.seat_programs.specs.Tasks.{opens, plan_of}
-use Rattle.seat_programs.specs.TableSteps.{TableStep, TakeLink, FinishLink, PutLink, PutMessage}
+use Rattle.seat_programs.specs.TableSteps.{TableStep, OnLink, OnMessage, TakeLink, FinishLink, PutLink, PutMessage}
 use Rattle.seat_programs.specs.Programs.{Program, PutBytes}
 use Rattle.seat_programs.specs.FoundAndChangedAside.{calls_after}
 use Rattle.seat_programs.specs.Cores.{Calls, Core, SeatState, found_at, words_after, with_seat, homes_after, hand_after, lies_at, first_of, others_of, finished, link_place, resolved, next_step, waiting_at}
 use Rattle.seat_programs.specs.StepTables.{word_of, word_after}
 use Rattle.seat_programs.specs.Ticks.{Moment, IsAnswered, fed, with_places, onto_first, ticked}
 use Rattle.seat_programs.specs.StepTables.{May}
-use Rattle.send_causes.specs.Below.programs_allowed.specs.program_steps.specs.ProgramGoesOn.{GoesOn}
-use Rattle.send_causes.specs.Below.programs_allowed.specs.program_steps.specs.SoundSeats.{state, Sound, IsFitting, HasLink}
-use Rattle.send_causes.specs.Below.programs_allowed.specs.program_steps.proofs.TickCases.{tick_cases, goes_first}
-use Rattle.send_causes.specs.Below.programs_allowed.specs.sock_runs.proofs.HandTicks.{taking}
-use Rattle.send_causes.specs.Below.programs_allowed.specs.sock_runs.proofs.LinkTicks.{RetriesGo, link_there, has_link, link_put_there}
-use Rattle.send_causes.specs.Below.call_owing.specs.LivesOfLinks.{InHand}
-use Rattle.send_causes.specs.Below.call_owing.proofs.EndsStill.{view_of}
+use Rattle.calm_runs.specs.send_causes.specs.Below.programs_allowed.specs.program_steps.specs.ProgramGoesOn.{GoesOn}
+use Rattle.calm_runs.specs.send_causes.specs.Below.programs_allowed.specs.program_steps.specs.SoundSeats.{state, Sound, IsFitting, HasLink}
+use Rattle.calm_runs.specs.send_causes.specs.Below.programs_allowed.specs.program_steps.proofs.TickCases.{tick_cases, goes_first}
+use Rattle.calm_runs.specs.send_causes.specs.Below.programs_allowed.specs.sock_runs.proofs.HandTicks.{taking}
+use Rattle.calm_runs.specs.send_causes.specs.Below.programs_allowed.specs.sock_runs.proofs.LinkTicks.{RetriesGo, link_there, has_link, link_put_there}
+use Rattle.calm_runs.specs.send_causes.specs.Below.call_owing.specs.LivesOfLinks.{InHand}
+use Rattle.calm_runs.specs.send_causes.specs.Below.call_owing.proofs.EndsStill.{view_of}
 use Rattle.served_runs.specs.OfferedReplies.{Lies, IsDone}
 use Rattle.seat_programs.specs.LoopRounds.{first_step}
 
@@ -112,33 +112,33 @@ module _ (p : Plan) (k : ℕ) where
       home_set i x took next done own e = ⊎_elim (λ a. own a.0 a.1) (λ a. at_home took next done a.1) (at_set c.homes i (link_place p k) x (some (Link k took next done)) e)
 
       home_after : (call : TableStep) (took : List ℕ) (next : ℕ) (done : Bool) → get_elem? (homes_after p call seat.hand c.homes) (link_place p k) ≡ some (some (Link k took next done)) → Lay c m took done
-      home_after (TakeLink n) took next done e = home_set (link_place p n) none took next done (λ i x. absurd (some-ne-none (Link k took next done) (sym x))) e
-      home_after (PutLink n) took next done e = home_set (link_place p n) (first_of seat.hand) took next done (λ i x. in_hand took next done (in_first (Link k took next done) seat.hand x)) e
-      home_after (PutMessage q heading bytes) took next done e = home_set q (some (Message heading bytes)) took next done (λ i x. absurd (no_message (some-injective (Message heading bytes) (Link k took next done) x))) e
+      home_after (OnLink (TakeLink n)) took next done e = home_set (link_place p n) none took next done (λ i x. absurd (some-ne-none (Link k took next done) (sym x))) e
+      home_after (OnLink (PutLink n)) took next done e = home_set (link_place p n) (first_of seat.hand) took next done (λ i x. in_hand took next done (in_first (Link k took next done) seat.hand x)) e
+      home_after (OnMessage (PutMessage q heading bytes)) took next done e = home_set q (some (Message heading bytes)) took next done (λ i x. absurd (no_message (some-injective (Message heading bytes) (Link k took next done) x))) e
         where
           no_message : Message heading bytes ≡ Link k took next done → ⊥
           no_message x = cc
       home_after _ took next done e = at_home took next done e
 
       held_after : (v : View) → get_elem? vs m.seat ≡ some v → (call : TableStep) → May p v call → (took : List ℕ) (next : ℕ) (done : Bool) → InHand (Link k took next done) (hand_after p call c.homes seat.hand) → Lay c m took done
-      held_after v at_view (TakeLink n) may took next done has = ⊎_elim
+      held_after v at_view (OnLink (TakeLink n)) may took next done has = ⊎_elim
           (λ a. let e = at_its_place c.homes (link_place p n) (Link k took next done) a in let h = (taking p (state c vs) sound.lawful m.seat v at_view n may).0 in
           let x : Link n h.took h.next h.done ≡ Link k took next done = some-injective _ _ (some-injective _ _ (sym h.is ∙ e)) in let same : n ≡ k = cc in
           at_home took next done (subst (λ i. get_elem? c.homes (link_place p i) ≡ some (some (Link k took next done))) same e))
           (λ b. in_hand took next done b) (in_two (Link k took next done) (lies_at c.homes (link_place p n)) seat.hand has)
-      held_after v at_view (FinishLink n) may took next done has = by seat.hand (λ t x y h. in_hand t x y h) has
+      held_after v at_view (OnLink (FinishLink n)) may took next done has = by seat.hand (λ t x y h. in_hand t x y h) has
         where
           ended : (x : Home) → finished x ≡ Link k took next done → (old : Bool) × (x ≡ Link k took next old) × (done ≡ true)
           ended (Link j t n d) e = (d, (cc), (cc))
           ended Empty e = absurd (let z : Empty ≡ Link k took next done = e in cc)
           ended (Message h b) e = absurd (let z : Message h b ≡ Link k took next done = e in cc)
 
-          by : (hand : List Home) → ((t : List ℕ) (x : ℕ) (y : Bool) → InHand (Link k t x y) hand → Lay c m t y) → InHand (Link k took next done) (hand_after p (FinishLink n) c.homes hand) → Lay c m took done
+          by : (hand : List Home) → ((t : List ℕ) (x : ℕ) (y : Bool) → InHand (Link k t x y) hand → Lay c m t y) → InHand (Link k took next done) (hand_after p (OnLink (FinishLink n)) c.homes hand) → Lay c m took done
           by [] old has = absurd has
           by (x ∷ xs) old (inl e) = let z = ended x e in let o = old took next z.0 (inl z.1) in
               record { took = o.took; more = o.more; next = o.next; done = o.done; lies = o.lies; took_is = o.took_is; put = o.put; finished_on = λ _. z.2 }
           by (x ∷ xs) old (inr h) = old took next done (inr h)
-      held_after v at_view (PutLink n) may took next done has = in_hand took next done (in_others (Link k took next done) seat.hand has)
+      held_after v at_view (OnLink (PutLink n)) may took next done has = in_hand took next done (in_others (Link k took next done) seat.hand has)
       held_after v at_view _ may took next done has = in_hand took next done has
 
     -- behind each step

@@ -11,21 +11,21 @@ use Rattle.brpc_model.specs.Operations.{Turn, Operation, operations, link_names,
 use Rattle.brpc_model.specs.LinePlaceFaults.{names}
 use Rattle.brpc_model.specs.Reply.{reply}
 use Rattle.brpc_model.specs.FrameStream.{stream}
-use Rattle.send_causes.specs.Below.script_facts.proofs.FilteredLists.{Has, contains_from}
-use Rattle.send_causes.specs.Below.script_facts.proofs.NameNumbers.{same_name}
-use Rattle.send_causes.specs.Below.script_facts.proofs.OperationNumbering.{are_from}
-use Rattle.send_causes.specs.Below.script_facts.proofs.ReadScriptFacts.{InRange}
-use Rattle.send_causes.specs.Below.script_facts.proofs.Targets.{AreThere}
-use Rattle.send_causes.specs.Below.script_facts.proofs.TaskLemmas.{numbers_at, IsTaskOf, task_is, operation_task, open_asks, send_asks, mentions_open, mentions_send, named_at}
+use Rattle.calm_runs.specs.send_causes.specs.Below.script_facts.proofs.FilteredLists.{Has, contains_from}
+use Rattle.calm_runs.specs.send_causes.specs.Below.script_facts.proofs.NameNumbers.{same_name}
+use Rattle.calm_runs.specs.send_causes.specs.Below.script_facts.proofs.OperationNumbering.{are_from}
+use Rattle.calm_runs.specs.send_causes.specs.Below.script_facts.proofs.ReadScriptFacts.{InRange}
+use Rattle.calm_runs.specs.send_causes.specs.Below.script_facts.proofs.Targets.{AreThere}
+use Rattle.calm_runs.specs.send_causes.specs.Below.script_facts.proofs.TaskLemmas.{numbers_at, IsTaskOf, task_is, operation_task, open_asks, send_asks, mentions_open, mentions_send, named_at}
 use Rattle.seat_programs.specs.declared.task.Op.TheVariants as ops
 use Rattle.seat_programs.specs.declared.task.Task.{Task}
 use Rattle.seat_programs.specs.Cores.{Core}
 use Rattle.seat_programs.specs.Tasks.{numbered, asked_of, op_of}
 use Rattle.seat_programs.specs.Explained.{IsTask, Made}
 use Rattle.seat_programs.specs.ScriptSetupToEnding.{all_tasks, IsRunWithCalls}
-use Rattle.send_causes.specs.Below.joint_runs.proofs.RunsOfBothTables.{AreMade}
-use Rattle.send_causes.specs.Below.call_owing.specs.LivesOfLinks.{ClosesInRun}
-use Rattle.send_causes.specs.Below.call_stories.specs.LinkReadingLists.{gave_in}
+use Rattle.calm_runs.specs.send_causes.specs.Below.joint_runs.proofs.RunsOfBothTables.{AreMade}
+use Rattle.calm_runs.specs.send_causes.specs.Below.call_owing.specs.LivesOfLinks.{ClosesInRun}
+use Rattle.calm_runs.specs.send_causes.specs.Below.call_stories.specs.LinkReadingLists.{gave_in}
 use Rattle.served_runs.specs.OfferedReplies.{OffersInRun}
 use Rattle.served_runs.specs.ServedLinks.{IsForCalls}
 use Rattle.served_runs.proofs.ServedLinks.{gives_own_replies}

@@ -7,20 +7,20 @@ use Rattle.seat_programs.specs.Cores.{Core}
 use Rattle.seat_programs.specs.Tasks.{plan_of}
 use Rattle.seat_programs.specs.Ticks.{Moment, IsAnswered, ticked}
 use Rattle.seat_programs.specs.ScriptSetupToEnding.{IsRunWithCalls}
-use Rattle.send_causes.specs.Below.programs_allowed.specs.program_steps.specs.ProgramGoesOn.{GoesOn}
-use Rattle.send_causes.specs.Below.programs_allowed.specs.program_steps.specs.SoundSeats.{Sound, IsFitting, views_after}
-use Rattle.send_causes.specs.Below.programs_allowed.specs.program_steps.proofs.TickCases.{goes_first}
-use Rattle.send_causes.specs.Below.programs_allowed.specs.program_walks.proofs.WholeScriptSound.{views_closed}
-use Rattle.send_causes.specs.Below.outcome_stories.specs.Facts.{born_at, shown_in, late_links_of_run}
-use Rattle.send_causes.specs.Below.outcome_stories.specs.OperationStories.{In}
-use Rattle.send_causes.specs.Below.outcome_causes.proofs.PlainOutcomeCauses.{in_left, in_right}
-use Rattle.send_causes.specs.Below.joint_runs.proofs.RunsOfBothTables.{AreMade, first_views}
-use Rattle.send_causes.specs.Below.call_owing.proofs.EndsStill.{view_of}
-use Rattle.send_causes.specs.Below.dropped_calls.proofs.LateEnding.{ended_past}
-use Rattle.send_causes.specs.Below.dropped_calls.proofs.LateLives.{WasPast, Lives, lives_tell, lives_ticks}
-use Rattle.send_causes.specs.Below.dropped_calls.proofs.LateLooks.{Mode, Idle, Writes}
-use Rattle.send_causes.specs.Below.dropped_calls.proofs.LateRests.{none_stands, ended_idle}
-use Rattle.send_causes.specs.Below.dropped_calls.proofs.LateSeats.{Righted, rights_of, AllStand, stand_ticks}
+use Rattle.calm_runs.specs.send_causes.specs.Below.programs_allowed.specs.program_steps.specs.ProgramGoesOn.{GoesOn}
+use Rattle.calm_runs.specs.send_causes.specs.Below.programs_allowed.specs.program_steps.specs.SoundSeats.{Sound, IsFitting, views_after}
+use Rattle.calm_runs.specs.send_causes.specs.Below.programs_allowed.specs.program_steps.proofs.TickCases.{goes_first}
+use Rattle.calm_runs.specs.send_causes.specs.Below.programs_allowed.specs.program_walks.proofs.WholeScriptSound.{views_closed}
+use Rattle.calm_runs.specs.send_causes.specs.Below.outcome_stories.specs.Facts.{born_at, shown_in, late_links_of_run}
+use Rattle.calm_runs.specs.send_causes.specs.Below.outcome_stories.specs.OperationStories.{In}
+use Rattle.calm_runs.specs.send_causes.specs.Below.outcome_causes.proofs.PlainOutcomeCauses.{in_left, in_right}
+use Rattle.calm_runs.specs.send_causes.specs.Below.joint_runs.proofs.RunsOfBothTables.{AreMade, first_views}
+use Rattle.calm_runs.specs.send_causes.specs.Below.call_owing.proofs.EndsStill.{view_of}
+use Rattle.calm_runs.specs.send_causes.specs.Below.dropped_calls.proofs.LateEnding.{ended_past}
+use Rattle.calm_runs.specs.send_causes.specs.Below.dropped_calls.proofs.LateLives.{WasPast, Lives, lives_tell, lives_ticks}
+use Rattle.calm_runs.specs.send_causes.specs.Below.dropped_calls.proofs.LateLooks.{Mode, Idle, Writes}
+use Rattle.calm_runs.specs.send_causes.specs.Below.dropped_calls.proofs.LateRests.{none_stands, ended_idle}
+use Rattle.calm_runs.specs.send_causes.specs.Below.dropped_calls.proofs.LateSeats.{Righted, rights_of, AllStand, stand_ticks}
 use Rattle.served_runs.proofs.LinkPlacesAtTicks.{IsPut}
 
 module _ (script : List Item) (made : AreMade script) (turns : List Turn) (core : Core) (is : IsRunWithCalls script turns core) where

@@ -9,32 +9,32 @@ use Rattle.sock_words.specs.declared.outcome.Outcome.TheVariants.{Opened}
 use Rattle.sock_model.specs.SocketTableLayout.{open_index}
 use Rattle.brpc_model.specs.Items.{Item}
 use Rattle.brpc_model.specs.Operations.{Turn}
-use Rattle.send_causes.specs.Below.script_facts.proofs.ReadScriptFacts.{InRange}
-use Rattle.send_causes.specs.Below.script_facts.proofs.Targets.{AreThere}
+use Rattle.calm_runs.specs.send_causes.specs.Below.script_facts.proofs.ReadScriptFacts.{InRange}
+use Rattle.calm_runs.specs.send_causes.specs.Below.script_facts.proofs.Targets.{AreThere}
 use Rattle.seat_programs.specs.declared.task.Op.TheVariants as ops
-use Rattle.seat_programs.specs.TableSteps.{CreateLife}
+use Rattle.seat_programs.specs.TableSteps.{OnSlot, CreateLife}
 use Rattle.seat_programs.specs.Cores.{Core}
 use Rattle.seat_programs.specs.Tasks.{opens, plan_of}
 use Rattle.seat_programs.specs.Explained.{Made}
 use Rattle.seat_programs.specs.ScriptSetupToEnding.{all_tasks, IsRunWithCalls}
-use Rattle.send_causes.specs.Below.programs_allowed.specs.program_walks.proofs.WholeScriptSound.{views_ended, ended_sound}
-use Rattle.send_causes.specs.Below.outcome_stories.specs.StoryStepCauses.{Asks, WasGiven}
-use Rattle.send_causes.specs.Below.outcome_stories.specs.Explains.{step, Because, IsExplainedBy}
-use Rattle.send_causes.specs.Below.outcome_stories.specs.PlainTasks.{told_tasks_of}
-use Rattle.send_causes.specs.Below.outcome_stories.specs.OperationStories.{trace_of}
-use Rattle.send_causes.specs.Below.outcome_ticks.proofs.EventsOfGoodStory.{given_by}
-use Rattle.send_causes.specs.Below.outcome_causes.proofs.Final.{Final, final}
-use Rattle.send_causes.specs.Below.outcome_ticks.proofs.Lifted.{made_down}
-use Rattle.send_causes.specs.Below.outcome_stories.proofs.Members.{contains_in, from_trace}
-use Rattle.send_causes.specs.Below.outcome_causes.proofs.ExplainedOpenings.{are_seats}
-use Rattle.send_causes.specs.Below.joint_runs.proofs.RunsOfBothTables.{AreMade, first_views}
-use Rattle.send_causes.specs.Below.call_owing.specs.LivesOfLinks.{ClosesInRun}
-use Rattle.send_causes.specs.Below.owed_calls.proofs.OwedCallsAreEnded.{run_all_rest}
-use Rattle.send_causes.specs.Below.attempted_calls.proofs.AttemptedStored.{ids_at}
-use Rattle.send_causes.proofs.DropEndsCauses.{own_link}
-use Rattle.send_causes.specs.Below.dropped_calls.proofs.DropOfRun.{EndStory, IsOpened, ends, given_opened}
-use Rattle.send_causes.specs.Below.accept_counts.proofs.EarlyClosedSockets.{start, go, fitting}
-use Rattle.send_causes.proofs.OwnIds.{labelled_at}
+use Rattle.calm_runs.specs.send_causes.specs.Below.programs_allowed.specs.program_walks.proofs.WholeScriptSound.{views_ended, ended_sound}
+use Rattle.calm_runs.specs.send_causes.specs.Below.outcome_stories.specs.StoryStepCauses.{Asks, WasGiven}
+use Rattle.calm_runs.specs.send_causes.specs.Below.outcome_stories.specs.Explains.{step, Because, IsExplainedBy}
+use Rattle.calm_runs.specs.send_causes.specs.Below.outcome_stories.specs.PlainTasks.{told_tasks_of}
+use Rattle.calm_runs.specs.send_causes.specs.Below.outcome_stories.specs.OperationStories.{trace_of}
+use Rattle.calm_runs.specs.send_causes.specs.Below.outcome_ticks.proofs.EventsOfGoodStory.{given_by}
+use Rattle.calm_runs.specs.send_causes.specs.Below.outcome_causes.proofs.Final.{Final, final}
+use Rattle.calm_runs.specs.send_causes.specs.Below.outcome_ticks.proofs.Lifted.{made_down}
+use Rattle.calm_runs.specs.send_causes.specs.Below.outcome_stories.proofs.Members.{contains_in, from_trace}
+use Rattle.calm_runs.specs.send_causes.specs.Below.outcome_causes.proofs.ExplainedOpenings.{are_seats}
+use Rattle.calm_runs.specs.send_causes.specs.Below.joint_runs.proofs.RunsOfBothTables.{AreMade, first_views}
+use Rattle.calm_runs.specs.send_causes.specs.Below.call_owing.specs.LivesOfLinks.{ClosesInRun}
+use Rattle.calm_runs.specs.send_causes.specs.Below.owed_calls.proofs.OwedCallsAreEnded.{run_all_rest}
+use Rattle.calm_runs.specs.send_causes.specs.Below.attempted_calls.proofs.AttemptedStored.{ids_at}
+use Rattle.calm_runs.specs.send_causes.proofs.DropEndsCauses.{own_link}
+use Rattle.calm_runs.specs.send_causes.specs.Below.dropped_calls.proofs.DropOfRun.{EndStory, IsOpened, ends, given_opened}
+use Rattle.calm_runs.specs.send_causes.specs.Below.accept_counts.proofs.EarlyClosedSockets.{start, go, fitting}
+use Rattle.calm_runs.specs.send_causes.proofs.OwnIds.{labelled_at}
 
 module _ (script : List Item) (made : AreMade script) (there : AreThere script) (range : AllByRecursion InRange script) (turns : List Turn) (core : Core) (is : IsRunWithCalls script turns core) (closes : ClosesInRun script turns core is) where
   -- the story of the run
@@ -49,7 +49,7 @@ module _ (script : List Item) (made : AreMade script) (there : AreThere script) 
     asks = (let i = told.is in (i.0, i.1, contains_in i.0 told.task i.2))
 
     given : WasGiven story.events slot version k
-    given = given_by story.events told.client told.task.number b.1 slot version k (from_trace told.client told.task.number story.events (step (CreateLife slot k) b.1) b.3) (sym b.4)
+    given = given_by story.events told.client told.task.number b.1 slot version k (from_trace told.client told.task.number story.events (step (OnSlot (CreateLife slot k)) b.1) b.3) (sym b.4)
       where
         f : Final (plan_of script).slots (plan_of script).requests (told_tasks_of script) story.events core.outcomes told.client told.task
         f = final (plan_of script) (told_tasks_of script) (are_seats (plan_of script) (all_tasks script) made.are (length (opens script))) true core (views_ended script turns core is (first_views script)) story.events story.lost

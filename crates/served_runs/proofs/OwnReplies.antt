@@ -17,8 +17,8 @@ use Rattle.brpc_model.specs.Reply.{reply, reply_frames}
 use Rattle.brpc_model.specs.ServedForTakenBytes.{first_of, given_for}
 use Rattle.brpc_model.specs.LinkFailureCauses.{HasFault}
 use Rattle.brpc_model.specs.FrameStream.{Rest, Fault, stream, stream_from}
-use Rattle.send_causes.specs.Below.script_facts.proofs.ReadScriptFacts.{InRange}
-use Rattle.send_causes.specs.Below.script_facts.proofs.Targets.{AreThere}
+use Rattle.calm_runs.specs.send_causes.specs.Below.script_facts.proofs.ReadScriptFacts.{InRange}
+use Rattle.calm_runs.specs.send_causes.specs.Below.script_facts.proofs.Targets.{AreThere}
 use Rattle.sock_message.specs.Asked.{Asked, request_of}
 use Rattle.seat_programs.specs.declared.task.Op.TheVariants as ops
 use Rattle.seat_programs.specs.declared.task.Task.{Task}
@@ -27,25 +27,25 @@ use Rattle.seat_programs.specs.Tasks.{plan_of, id_plan_of}
 use Rattle.seat_programs.specs.Explained.{AskedFits, OpFits, TaskFits, IsTask, Became, Made}
 use Rattle.seat_programs.specs.ExplainedCalls.{Accepted, IsTaken, IsSent, OfSend, OfCall, bytes_of}
 use Rattle.seat_programs.specs.ScriptSetupToEnding.{all_tasks, took_at_home, IsRunWithCalls}
-use Rattle.send_causes.specs.Below.outcome_stories.proofs.Members.{contains_in}
-use Rattle.send_causes.specs.Below.outcome_ticks.proofs.TableTasksDistinct.{one_task}
-use Rattle.send_causes.specs.Below.joint_runs.proofs.RunsOfBothTables.{AreMade}
-use Rattle.send_causes.specs.Below.call_owing.specs.LivesOfLinks.{ClosesInRun}
-use Rattle.send_causes.specs.Below.call_stories.specs.LinkReadingLists.{gave_in, attempts_of_run}
-use Rattle.send_causes.specs.Below.call_stories.specs.Scenes.{Scene, WhyOwn}
-use Rattle.send_causes.specs.Below.story_steps.proofs.StoryAtRunEnd.{call_of, shows_own}
-use Rattle.send_causes.specs.Below.call_causes.proofs.Posted.{run_few_attempts}
-use Rattle.send_causes.specs.Below.call_stories.proofs.StreamFramesStay.{frames_stay, faults_more}
-use Rattle.send_causes.specs.Below.call_causes.proofs.WholeCallStory.{run_has_story, run_has_ended, run_told_in_part}
-use Rattle.send_causes.specs.Below.attempted_calls.proofs.AttemptedRun.{attempted_of_run}
-use Rattle.send_causes.specs.Below.sent_once.proofs.OtherTasksBesideCalls.{fixed_of_run, orders_here}
-use Rattle.send_causes.specs.Below.accept_counts.proofs.EarlyClosedSockets.{known}
-use Rattle.send_causes.specs.Below.sent_once.proofs.SocketOperationsTold.{orders_are}
+use Rattle.calm_runs.specs.send_causes.specs.Below.outcome_stories.proofs.Members.{contains_in}
+use Rattle.calm_runs.specs.send_causes.specs.Below.outcome_ticks.proofs.TableTasksDistinct.{one_task}
+use Rattle.calm_runs.specs.send_causes.specs.Below.joint_runs.proofs.RunsOfBothTables.{AreMade}
+use Rattle.calm_runs.specs.send_causes.specs.Below.call_owing.specs.LivesOfLinks.{ClosesInRun}
+use Rattle.calm_runs.specs.send_causes.specs.Below.call_stories.specs.LinkReadingLists.{gave_in, attempts_of_run}
+use Rattle.calm_runs.specs.send_causes.specs.Below.call_stories.specs.Scenes.{Scene, WhyOwn}
+use Rattle.calm_runs.specs.send_causes.specs.Below.story_steps.proofs.StoryAtRunEnd.{call_of, shows_own}
+use Rattle.calm_runs.specs.send_causes.specs.Below.call_causes.proofs.Posted.{run_few_attempts}
+use Rattle.calm_runs.specs.send_causes.specs.Below.call_stories.proofs.StreamFramesStay.{frames_stay, faults_more}
+use Rattle.calm_runs.specs.send_causes.specs.Below.call_causes.proofs.WholeCallStory.{run_has_story, run_has_ended, run_told_in_part}
+use Rattle.calm_runs.specs.send_causes.specs.Below.attempted_calls.proofs.AttemptedRun.{attempted_of_run}
+use Rattle.calm_runs.specs.send_causes.specs.Below.sent_once.proofs.OtherTasksBesideCalls.{fixed_of_run, orders_here}
+use Rattle.calm_runs.specs.send_causes.specs.Below.accept_counts.proofs.EarlyClosedSockets.{known}
+use Rattle.calm_runs.specs.send_causes.specs.Below.sent_once.proofs.SocketOperationsTold.{orders_are}
 use Rattle.served_runs.proofs.AttemptRequestFrames.{IsRequestOf}
 use Rattle.served_runs.specs.ServedLinks.{request_with}
 use Rattle.served_runs.proofs.WholeFrameStreams.{IsPiece, piece_frames, pieces_end, IsSmall, request_is, reply_is}
-use Rattle.send_causes.specs.Below.script_facts.proofs.FilteredLists.{all_map}
-use Rattle.send_causes.specs.Below.outcome_stories.specs.OperationStories.{In}
+use Rattle.calm_runs.specs.send_causes.specs.Below.script_facts.proofs.FilteredLists.{all_map}
+use Rattle.calm_runs.specs.send_causes.specs.Below.outcome_stories.specs.OperationStories.{In}
 
 -- ## Lists
 

@@ -1,7 +1,7 @@
 -- Where the reader of a link comes to rest its reading is over: a take found its end, or what it gave ends the reading.
 use Rattle.std.proofs.Common.{◌≡◌, ℕ, ◌+◌, ◌≤◌, ◌&&◌, ◌||◌, ◌⊎◌, inl, inr, nat_lt, ltb-false, Bool, true, false, cond, List, [], ◌∷◌, ◌++◌, length, length-append, append-nil, refl, sym, ap, ◌∙◌, subst, arith}
 use Rattle.std.proofs.lemmas.Bool.{true≢false}
-use Rattle.send_causes.specs.Below.sock_steps.proofs.SumsAsMarksChange.{either_way}
+use Rattle.calm_runs.specs.send_causes.specs.Below.sock_steps.proofs.SumsAsMarksChange.{either_way}
 use Rattle.brpc_model.specs.Frame.{Frame}
 use Rattle.brpc_model.specs.FrameStream as streams
 use Rattle.seat_programs.specs.Asides.{Step, Found, TakeBytes, Taking, Bytes, Nothing, NoMore, AtEnd, Closed, Broken}
@@ -10,12 +10,12 @@ use Rattle.seat_programs.specs.Programs.{Program, Do, Say, Sent, Rest, Write, As
 use Rattle.seat_programs.specs.ReaderProgram.{LIMIT, last_of, ended_by, read_on, took, discarded, thrown_away, read}
 use Rattle.seat_programs.specs.LoopRounds.{round, first_step}
 use Rattle.seat_programs.specs.Cores.{resolved, next_step}
-use Rattle.send_causes.specs.Below.run_theorems.specs.Heard.{bytes_found}
-use Rattle.send_causes.specs.Below.programs_allowed.specs.program_walks.proofs.Through.{PassesPlain, is_plain_aside, by_errors, locked, through_set_failed}
-use Rattle.send_causes.specs.Below.programs_allowed.specs.program_walks.proofs.ThroughLoops.{through_errors, through_locks, through_joins, through_answer, through_responses, through_opens}
-use Rattle.send_causes.specs.Below.programs_allowed.specs.program_walks.proofs.ThroughCalls.{through_post_each, through_read_end}
+use Rattle.calm_runs.specs.send_causes.specs.Below.run_theorems.specs.Heard.{bytes_found}
+use Rattle.calm_runs.specs.send_causes.specs.Below.programs_allowed.specs.program_walks.proofs.Through.{PassesPlain, is_plain_aside, by_errors, locked, through_set_failed}
+use Rattle.calm_runs.specs.send_causes.specs.Below.programs_allowed.specs.program_walks.proofs.ThroughLoops.{through_errors, through_locks, through_joins, through_answer, through_responses, through_opens}
+use Rattle.calm_runs.specs.send_causes.specs.Below.programs_allowed.specs.program_walks.proofs.ThroughCalls.{through_post_each, through_read_end}
 use Rattle.brpc_model.specs.LinkFailureCauses.{HasFault}
-use Rattle.send_causes.specs.Below.call_stories.proofs.StreamFramesStay.{faults_more, faults_follow, tied_more}
+use Rattle.calm_runs.specs.send_causes.specs.Below.call_stories.proofs.StreamFramesStay.{faults_more, faults_follow, tied_more}
 
 -- ## How a reading ends
 

@@ -22,14 +22,14 @@ use Rattle.seat_programs.specs.Cores.{Core, SeatState, with_seat}
 use Rattle.seat_programs.specs.Tasks.{plan_of}
 use Rattle.seat_programs.specs.Ticks.{Answer, Moment, IsAnswered, AreAnswered, IsTaken, step_with, ticked, run}
 use Rattle.seat_programs.specs.FoundAndChangedAside.{more_given}
-use Rattle.send_causes.specs.Below.programs_allowed.specs.program_steps.specs.SoundSeats.{Sound, IsFitting, AreFitting, views_after}
-use Rattle.send_causes.specs.Below.programs_allowed.specs.sock_runs.proofs.LinkTicks.{RetriesGo}
-use Rattle.send_causes.specs.Below.programs_allowed.specs.sock_runs.proofs.TicksKeepSeatsSound.{sound_ticks}
-use Rattle.send_causes.specs.Below.run_theorems.specs.Heard.{taken_link, bytes_found}
-use Rattle.send_causes.specs.Below.run_theorems.proofs.RunLengths.{tick_long}
-use Rattle.send_causes.specs.Below.call_stories.specs.LinkReadingLists.{gave_in}
-use Rattle.send_causes.specs.Below.call_stories.proofs.StreamFramesStay.{frames_behind_rest, frames_before_fault}
-use Rattle.send_causes.specs.Below.accept_counts.proofs.ReadingsAtTicks.{IsTake, takes_or_not}
+use Rattle.calm_runs.specs.send_causes.specs.Below.programs_allowed.specs.program_steps.specs.SoundSeats.{Sound, IsFitting, AreFitting, views_after}
+use Rattle.calm_runs.specs.send_causes.specs.Below.programs_allowed.specs.sock_runs.proofs.LinkTicks.{RetriesGo}
+use Rattle.calm_runs.specs.send_causes.specs.Below.programs_allowed.specs.sock_runs.proofs.TicksKeepSeatsSound.{sound_ticks}
+use Rattle.calm_runs.specs.send_causes.specs.Below.run_theorems.specs.Heard.{taken_link, bytes_found}
+use Rattle.calm_runs.specs.send_causes.specs.Below.run_theorems.proofs.RunLengths.{tick_long}
+use Rattle.calm_runs.specs.send_causes.specs.Below.call_stories.specs.LinkReadingLists.{gave_in}
+use Rattle.calm_runs.specs.send_causes.specs.Below.call_stories.proofs.StreamFramesStay.{frames_behind_rest, frames_before_fault}
+use Rattle.calm_runs.specs.send_causes.specs.Below.accept_counts.proofs.ReadingsAtTicks.{IsTake, takes_or_not}
 use Rattle.served_runs.specs.OfferedReplies.{TookSoFar, offered_by, IsOfferedSo, OffersAt, IsOffered, AreOffered}
 use Rattle.served_runs.proofs.LinkPlacesAtTicks.{all_lay}
 use Rattle.served_runs.proofs.TicksKeepReaderPlace.{tick_is, gave_same, gave_more}

@@ -21,27 +21,27 @@ use Rattle.seat_programs.specs.Cores.{Core, SeatState, lies_at, link_place}
 use Rattle.seat_programs.specs.Tasks.{opens, calls, plan_of}
 use Rattle.seat_programs.specs.Ticks.{Moment, ticked, run}
 use Rattle.seat_programs.specs.ScriptSetupToEnding.{opened, ending, is_ending, set_up, played, taken_by, took_at_home, IsRunWithCalls}
-use Rattle.send_causes.specs.Below.programs_allowed.specs.program_steps.specs.SoundSeats.{AllRest, views_along}
-use Rattle.send_causes.specs.Below.programs_allowed.specs.sock_runs.proofs.FailedLivesEnded.{links_home}
-use Rattle.send_causes.specs.Below.programs_allowed.specs.sock_runs.proofs.Quiets.{run_seats}
-use Rattle.send_causes.specs.Below.programs_allowed.specs.program_walks.proofs.WholeScriptSound.{IsListed, closing_of, views_played, views_closed, views_ended, set_up_answered, end_answered, set_up_sound, closing_sound, closed_sound, ended_sound, recorded_opened, recorded_set_up, recorded_closing, recorded_closed}
-use Rattle.send_causes.specs.Below.programs_allowed.specs.sock_runs.proofs.HandTicks.{AtHome}
-use Rattle.send_causes.specs.Below.outcome_stories.specs.Facts.{late_links_of_run}
-use Rattle.send_causes.specs.Below.outcome_stories.specs.OperationStories.{In}
-use Rattle.send_causes.specs.Below.outcome_stories.proofs.Ordered.{get_range}
-use Rattle.send_causes.specs.Below.outcome_causes.proofs.PlainOutcomeCauses.{in_left, in_right, in_both}
-use Rattle.send_causes.specs.Below.joint_runs.proofs.RunsOfBothTables.{AreMade, first_views}
-use Rattle.send_causes.specs.Below.call_owing.specs.LivesOfLinks.{ClosesInRun}
-use Rattle.send_causes.specs.Below.call_owing.proofs.EndsStill.{run_ending}
-use Rattle.send_causes.specs.Below.owed_calls.proofs.OwedCallsAreEnded.{run_all_rest}
-use Rattle.send_causes.specs.Below.run_theorems.specs.Heard.{as_taken, taken_in, heard_takes}
-use Rattle.send_causes.specs.Below.run_theorems.proofs.HeardRuns.{taken_append}
-use Rattle.send_causes.specs.Below.run_theorems.proofs.RunLengths.{tick_long}
-use Rattle.send_causes.specs.Below.call_stories.specs.LinkReadingLists.{gave_in}
-use Rattle.send_causes.specs.Below.accept_counts.proofs.EarlyClosedSockets.{Any, ends_anyhow, start, go, fitting, known, begins_at}
-use Rattle.send_causes.specs.Below.ended_calls.proofs.EndedWhole.{opened_keeps, closing_keeps, closed_keeps}
-use Rattle.send_causes.specs.Below.accept_counts.proofs.ReaderRuns.{founds, keeps_along}
-use Rattle.send_causes.specs.Below.call_stories.proofs.RunTicks.{in_setup, in_clients, in_closing}
+use Rattle.calm_runs.specs.send_causes.specs.Below.programs_allowed.specs.program_steps.specs.SoundSeats.{AllRest, views_along}
+use Rattle.calm_runs.specs.send_causes.specs.Below.programs_allowed.specs.sock_runs.proofs.FailedLivesEnded.{links_home}
+use Rattle.calm_runs.specs.send_causes.specs.Below.programs_allowed.specs.sock_runs.proofs.Quiets.{run_seats}
+use Rattle.calm_runs.specs.send_causes.specs.Below.programs_allowed.specs.program_walks.proofs.WholeScriptSound.{IsListed, closing_of, views_played, views_closed, views_ended, set_up_answered, end_answered, set_up_sound, closing_sound, closed_sound, ended_sound, recorded_opened, recorded_set_up, recorded_closing, recorded_closed}
+use Rattle.calm_runs.specs.send_causes.specs.Below.programs_allowed.specs.sock_runs.proofs.HandTicks.{AtHome}
+use Rattle.calm_runs.specs.send_causes.specs.Below.outcome_stories.specs.Facts.{late_links_of_run}
+use Rattle.calm_runs.specs.send_causes.specs.Below.outcome_stories.specs.OperationStories.{In}
+use Rattle.calm_runs.specs.send_causes.specs.Below.outcome_stories.proofs.Ordered.{get_range}
+use Rattle.calm_runs.specs.send_causes.specs.Below.outcome_causes.proofs.PlainOutcomeCauses.{in_left, in_right, in_both}
+use Rattle.calm_runs.specs.send_causes.specs.Below.joint_runs.proofs.RunsOfBothTables.{AreMade, first_views}
+use Rattle.calm_runs.specs.send_causes.specs.Below.call_owing.specs.LivesOfLinks.{ClosesInRun}
+use Rattle.calm_runs.specs.send_causes.specs.Below.call_owing.proofs.EndsStill.{run_ending}
+use Rattle.calm_runs.specs.send_causes.specs.Below.owed_calls.proofs.OwedCallsAreEnded.{run_all_rest}
+use Rattle.calm_runs.specs.send_causes.specs.Below.run_theorems.specs.Heard.{as_taken, taken_in, heard_takes}
+use Rattle.calm_runs.specs.send_causes.specs.Below.run_theorems.proofs.HeardRuns.{taken_append}
+use Rattle.calm_runs.specs.send_causes.specs.Below.run_theorems.proofs.RunLengths.{tick_long}
+use Rattle.calm_runs.specs.send_causes.specs.Below.call_stories.specs.LinkReadingLists.{gave_in}
+use Rattle.calm_runs.specs.send_causes.specs.Below.accept_counts.proofs.EarlyClosedSockets.{Any, ends_anyhow, start, go, fitting, known, begins_at}
+use Rattle.calm_runs.specs.send_causes.specs.Below.ended_calls.proofs.EndedWhole.{opened_keeps, closing_keeps, closed_keeps}
+use Rattle.calm_runs.specs.send_causes.specs.Below.accept_counts.proofs.ReaderRuns.{founds, keeps_along}
+use Rattle.calm_runs.specs.send_causes.specs.Below.call_stories.proofs.RunTicks.{in_setup, in_clients, in_closing}
 use Rattle.served_runs.specs.OfferedReplies.{TookSoFar, offered_by, OffersInRun}
 use Rattle.served_runs.proofs.GivenByReadingEnd.{IsOverSo, Holds}
 use Rattle.served_runs.proofs.LastTakeGaveAll.{Behind, lasts_along}
@@ -52,7 +52,7 @@ use Rattle.served_runs.proofs.ReadingsOver.{Goes, IsOver}
 use Rattle.served_runs.proofs.RunsKeepReaderPlace.{Kept, quiet_offered, quiet_takes, holds_along}
 use Rattle.served_runs.proofs.TicksKeepReaderPlace.{Stands}
 use Rattle.corr_core.proofs.NoteSums.{at_length}
-use Rattle.send_causes.specs.Below.call_causes.proofs.HandledWhole.{empty_at}
+use Rattle.calm_runs.specs.send_causes.specs.Below.call_causes.proofs.HandledWhole.{empty_at}
 use Rattle.sock_words.specs.PackedWords.{NO_SOCKET}
 
 pub gave_long : (p : Plan) (ms : List Moment) (c : Core) → length (run p c ms).calls.gave ≡ length c.calls.gave

@@ -15,20 +15,20 @@ use Rattle.seat_programs.specs.Programs.{Program, Aside}
 use Rattle.seat_programs.specs.Cores.{Core, SeatState}
 use Rattle.seat_programs.specs.Tasks.{opens, calls, plan_of}
 use Rattle.seat_programs.specs.Ticks.{Answer, Unasked, OfTake, Moment, IsAnswered, AreAnswered, quiet, ticked, run}
-use Rattle.send_causes.specs.Below.programs_allowed.specs.program_steps.specs.SoundSeats.{Sound, IsFitting, AreFitting, views_after}
-use Rattle.send_causes.specs.Below.programs_allowed.specs.sock_runs.proofs.LinkTicks.{RetriesGo}
-use Rattle.send_causes.specs.Below.programs_allowed.specs.program_walks.proofs.OpensStay.{run_word}
-use Rattle.send_causes.specs.Below.programs_allowed.specs.program_walks.proofs.Recorded.{Recorded, recorded_ticks}
-use Rattle.send_causes.specs.Below.programs_allowed.specs.sock_runs.proofs.TicksKeepSeatsSound.{sound_ticks}
-use Rattle.send_causes.specs.Below.outcome_stories.specs.OperationStories.{In}
-use Rattle.send_causes.specs.Below.outcome_causes.proofs.PlainOutcomeCauses.{in_left, in_right, in_both}
-use Rattle.send_causes.specs.Below.run_theorems.specs.Heard.{as_taken, taken_link, taken_at, taken_in}
-use Rattle.send_causes.specs.Below.run_theorems.proofs.HeardRuns.{taken_append}
-use Rattle.send_causes.specs.Below.run_theorems.proofs.RunLengths.{tick_long}
-use Rattle.send_causes.specs.Below.accept_counts.proofs.EarlyClosedSockets.{Any, ends_anyhow}
-use Rattle.send_causes.specs.Below.accept_counts.proofs.ReaderRuns.{Keeps, reader_of, view_at, state_at, keeps_ticks}
-use Rattle.send_causes.specs.Below.accept_counts.proofs.ReadingsAtTicks.{found_by, takes_own}
-use Rattle.send_causes.specs.Below.accept_counts.proofs.Takeless.{none_taken}
+use Rattle.calm_runs.specs.send_causes.specs.Below.programs_allowed.specs.program_steps.specs.SoundSeats.{Sound, IsFitting, AreFitting, views_after}
+use Rattle.calm_runs.specs.send_causes.specs.Below.programs_allowed.specs.sock_runs.proofs.LinkTicks.{RetriesGo}
+use Rattle.calm_runs.specs.send_causes.specs.Below.programs_allowed.specs.program_walks.proofs.OpensStay.{run_word}
+use Rattle.calm_runs.specs.send_causes.specs.Below.programs_allowed.specs.program_walks.proofs.Recorded.{Recorded, recorded_ticks}
+use Rattle.calm_runs.specs.send_causes.specs.Below.programs_allowed.specs.sock_runs.proofs.TicksKeepSeatsSound.{sound_ticks}
+use Rattle.calm_runs.specs.send_causes.specs.Below.outcome_stories.specs.OperationStories.{In}
+use Rattle.calm_runs.specs.send_causes.specs.Below.outcome_causes.proofs.PlainOutcomeCauses.{in_left, in_right, in_both}
+use Rattle.calm_runs.specs.send_causes.specs.Below.run_theorems.specs.Heard.{as_taken, taken_link, taken_at, taken_in}
+use Rattle.calm_runs.specs.send_causes.specs.Below.run_theorems.proofs.HeardRuns.{taken_append}
+use Rattle.calm_runs.specs.send_causes.specs.Below.run_theorems.proofs.RunLengths.{tick_long}
+use Rattle.calm_runs.specs.send_causes.specs.Below.accept_counts.proofs.EarlyClosedSockets.{Any, ends_anyhow}
+use Rattle.calm_runs.specs.send_causes.specs.Below.accept_counts.proofs.ReaderRuns.{Keeps, reader_of, view_at, state_at, keeps_ticks}
+use Rattle.calm_runs.specs.send_causes.specs.Below.accept_counts.proofs.ReadingsAtTicks.{found_by, takes_own}
+use Rattle.calm_runs.specs.send_causes.specs.Below.accept_counts.proofs.Takeless.{none_taken}
 use Rattle.served_runs.specs.OfferedReplies.{OffersAt, AreOffered}
 use Rattle.served_runs.proofs.LinkPlacesAtTicks.{IsPut}
 use Rattle.served_runs.proofs.GivenByReadingEnd.{Holds, holds_tick}

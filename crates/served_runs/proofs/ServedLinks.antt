@@ -13,20 +13,20 @@ use Rattle.brpc_model.specs.Reply.{reply}
 use Rattle.brpc_model.specs.FrameStream.{stream}
 use Rattle.brpc_model.specs.Operations.{Turn, link_shapes}
 use Rattle.brpc_model.specs.ServedForTakenBytes.{given_for}
-use Rattle.send_causes.specs.Below.script_facts.proofs.ReadScriptFacts.{InRange}
-use Rattle.send_causes.specs.Below.script_facts.proofs.Targets.{AreThere}
+use Rattle.calm_runs.specs.send_causes.specs.Below.script_facts.proofs.ReadScriptFacts.{InRange}
+use Rattle.calm_runs.specs.send_causes.specs.Below.script_facts.proofs.Targets.{AreThere}
 use Rattle.seat_programs.specs.Asides.{AtEnd, Broken}
 use Rattle.seat_programs.specs.Cores.{Core}
 use Rattle.seat_programs.specs.Tasks.{opens, plan_of}
 use Rattle.seat_programs.specs.ScriptSetupToEnding.{IsRunWithCalls}
-use Rattle.send_causes.specs.Below.outcome_stories.specs.Facts.{late_links_of_run}
-use Rattle.send_causes.specs.Below.outcome_stories.proofs.Members.{in_contains, contains_in}
-use Rattle.send_causes.specs.Below.joint_runs.proofs.RunsOfBothTables.{AreMade}
-use Rattle.send_causes.specs.Below.call_owing.specs.LivesOfLinks.{ClosesInRun}
-use Rattle.send_causes.specs.Below.run_theorems.specs.Heard.{heard_takes}
+use Rattle.calm_runs.specs.send_causes.specs.Below.outcome_stories.specs.Facts.{late_links_of_run}
+use Rattle.calm_runs.specs.send_causes.specs.Below.outcome_stories.proofs.Members.{in_contains, contains_in}
+use Rattle.calm_runs.specs.send_causes.specs.Below.joint_runs.proofs.RunsOfBothTables.{AreMade}
+use Rattle.calm_runs.specs.send_causes.specs.Below.call_owing.specs.LivesOfLinks.{ClosesInRun}
+use Rattle.calm_runs.specs.send_causes.specs.Below.run_theorems.specs.Heard.{heard_takes}
 use Rattle.served_runs.specs.OfferedReplies.{OffersInRun}
-use Rattle.send_causes.specs.Below.call_stories.specs.LinkReadingLists.{gave_in}
-use Rattle.send_causes.specs.Below.accept_counts.proofs.EarlyClosedSockets.{known}
+use Rattle.calm_runs.specs.send_causes.specs.Below.call_stories.specs.LinkReadingLists.{gave_in}
+use Rattle.calm_runs.specs.send_causes.specs.Below.accept_counts.proofs.EarlyClosedSockets.{known}
 use Rattle.served_runs.specs.ServedLinks.{took_in_all, IsForCalls, GivesReplies, GivesFront, GivesLast, GivesNoFault, GivesCallReplies, GivesOwnReplies}
 use Rattle.served_runs.proofs.OpenedLifeWord.{opened_word}
 use Rattle.served_runs.proofs.OwnReplies.{IsReplied, replied_at, faultless, own_reply}

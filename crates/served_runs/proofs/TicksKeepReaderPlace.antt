@@ -11,19 +11,19 @@ use Rattle.sock_model.specs.UnplacedMessages.{HeadedBytes}
 use Rattle.sock_model.specs.ChainLawReads.{message, link_home}
 use Rattle.seat_programs.specs.Asides.{Step, Found, TakeBytes, Taking, Bytes}
 use Rattle.seat_programs.specs.FoundAndChangedAside.{at_last, found_in, calls_after, more_given}
-use Rattle.seat_programs.specs.TableSteps.{LoadOpen}
+use Rattle.seat_programs.specs.TableSteps.{OnName, LoadOpen}
 use Rattle.seat_programs.specs.LoopHeads.{Retry, Reads}
 use Rattle.seat_programs.specs.Programs.{Program, Do, Rest, TakeMessage, TakeHome, PutHome, PutBytes, AskReady, Write, Aside, Round, Retries}
 use Rattle.seat_programs.specs.ReaderProgram.{read, reader}
 use Rattle.seat_programs.specs.Cores.{Core, SeatState, found_at, waiting_at, with_seat, resolved, next_step}
 use Rattle.seat_programs.specs.StepTables.{word_of}
 use Rattle.seat_programs.specs.Ticks.{Answer, OfPut, OfReady, OfTake, Moment, taken, with_message, with_link, with_put, with_ready, with_found, step_with, tick_with, ticked}
-use Rattle.send_causes.specs.Below.programs_allowed.specs.program_steps.proofs.TickCases.{ticks_first}
-use Rattle.send_causes.specs.Below.run_theorems.specs.Heard.{taken_link, bytes_found}
-use Rattle.send_causes.specs.Below.call_stories.specs.LinkReadingLists.{gave_in}
-use Rattle.send_causes.specs.Below.accept_counts.proofs.ReadingsAtTicks.{IsTake}
+use Rattle.calm_runs.specs.send_causes.specs.Below.programs_allowed.specs.program_steps.proofs.TickCases.{ticks_first}
+use Rattle.calm_runs.specs.send_causes.specs.Below.run_theorems.specs.Heard.{taken_link, bytes_found}
+use Rattle.calm_runs.specs.send_causes.specs.Below.call_stories.specs.LinkReadingLists.{gave_in}
+use Rattle.calm_runs.specs.send_causes.specs.Below.accept_counts.proofs.ReadingsAtTicks.{IsTake}
 use Rattle.served_runs.proofs.ReadingsOver.{Goes, is_last, goes_first, goes_next, begins_reading}
-use Rattle.send_causes.specs.Below.call_causes.proofs.HandledTicks.{take_of, taken_first}
+use Rattle.calm_runs.specs.send_causes.specs.Below.call_causes.proofs.HandledTicks.{take_of, taken_first}
 use Rattle.seat_programs.specs.LoopRounds.{first_step}
 use Rattle.sock_words.specs.PackedWords.{NO_SOCKET}
 
@@ -176,7 +176,7 @@ module _ (p : Plan) (calls : List ℕ) (k o : ℕ) where
     abbrev loads : ℕ → Program
     loads word = cond (word == 0) (reader calls k o) (reads_then word)
 
-    loads_own : g ≡ [] → last ≡ false → HasReader g last (Word c) (step_with p m.seat seat c m.answer (Do (LoadOpen o) loads))
+    loads_own : g ≡ [] → last ≡ false → HasReader g last (Word c) (step_with p m.seat seat c m.answer (Do (OnName (LoadOpen o)) loads))
     loads_own none_ early = λ s at_s. set_own g last _ (subst (λ h. Stands h last (Word c) (next_step (resolved (waiting_at c.calls.waiting m.seat) (loads (Word c))))) (sym none_)
         (subst (λ b. Stands [] b (Word c) (next_step (resolved (waiting_at c.calls.waiting m.seat) (loads (Word c))))) (sym early) (word_next (Word c) (waiting_at c.calls.waiting m.seat)))) s at_s
 
@@ -207,8 +207,8 @@ module _ (p : Plan) (calls : List ℕ) (k o : ℕ) where
         by : Stands g last (Word c) seat.program → Goes k g last (Aside (TakeBytes t.link t.room) t.next)
         by (inl x) = absurd (no_load (first_step (reader calls k o)) refl (sym (ap first_step x.0) ∙ t.first))
           where
-            no_load : (program : Program) → Do (LoadOpen o) loads ≡ program → program ≡ Aside (TakeBytes t.link t.room) t.next → ⊥
-            no_load program e f = let z : Do (LoadOpen o) loads ≡ Aside (TakeBytes t.link t.room) t.next = e ∙ f in cc
+            no_load : (program : Program) → Do (OnName (LoadOpen o)) loads ≡ program → program ≡ Aside (TakeBytes t.link t.room) t.next → ⊥
+            no_load program e f = let z : Do (OnName (LoadOpen o)) loads ≡ Aside (TakeBytes t.link t.room) t.next = e ∙ f in cc
         by (inr (inl x)) = absurd (let z : Rest ≡ Aside (TakeBytes t.link t.room) t.next = sym (ap first_step x.0) ∙ t.first in cc)
         by (inr (inr x)) = subst (Goes k g last) t.first (goes_first k g last seat.program x)
 

@@ -6,7 +6,7 @@ use Rattle.std.proofs.Math.Seq.{drop-append_seam}
 use Rattle.std.specs.List.{AllByRecursion}
 use Rattle.std.specs.Prelude.{pos, codes, bytes_eq}
 use Rattle.std.specs.Int.{w32, w64, to_be_bytes}
-use Rattle.send_causes.specs.Below.sock_steps.proofs.SumsAsMarksChange.{either_way}
+use Rattle.calm_runs.specs.send_causes.specs.Below.sock_steps.proofs.SumsAsMarksChange.{either_way}
 use Rattle.brpc_model.specs.Spelling.{number_field, bytes_field, response_bytes, where_not_0, where_not_empty, meta_bytes}
 use Rattle.brpc_model.specs.Frame.{Frame, IsFrame, magic, framed, frame_bytes}
 use Rattle.brpc_model.specs.FrameStream.{Stream, Rest, stream_from, goes_on}
@@ -15,7 +15,7 @@ use Rattle.brpc_model.proofs.StreamBehindFirstFrame.{stream_goes_on}
 use Rattle.prpc_frame.proofs.Encoded.{frame_judged}
 use Rattle.prpc_frame.specs.rpc_meta.proofs.RoundTrip.{round_trip}
 use Rattle.sock_message.specs.Asked.{Asked, meta_of, request_of, frame_of}
-use Rattle.send_causes.specs.Below.script_facts.proofs.CallFrameSizes.{number_short, bytes_short, size_short}
+use Rattle.calm_runs.specs.send_causes.specs.Below.script_facts.proofs.CallFrameSizes.{number_short, bytes_short, size_short}
 
 -- ## Streams of whole frames
 

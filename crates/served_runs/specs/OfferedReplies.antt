@@ -14,8 +14,8 @@ use Rattle.seat_programs.specs.Cores.{Core, SeatState, link_place}
 use Rattle.seat_programs.specs.Ticks.{Answer, OfTake, Moment, ticked}
 use Rattle.seat_programs.specs.Tasks.{plan_of}
 use Rattle.seat_programs.specs.ScriptSetupToEnding.{set_up, IsRunWithCalls}
-use Rattle.send_causes.specs.Below.call_owing.specs.LivesOfLinks.{InHand}
-use Rattle.send_causes.specs.Below.call_stories.specs.LinkReadingLists.{gave_in}
+use Rattle.calm_runs.specs.send_causes.specs.Below.call_owing.specs.LivesOfLinks.{InHand}
+use Rattle.calm_runs.specs.send_causes.specs.Below.call_stories.specs.LinkReadingLists.{gave_in}
 use Rattle.seat_programs.specs.LoopRounds.{first_step}
 
 -- ## What a link took

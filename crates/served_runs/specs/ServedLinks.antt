@@ -18,9 +18,9 @@ use Rattle.seat_programs.specs.Cores.{Core}
 use Rattle.seat_programs.specs.Tasks.{plan_of}
 use Rattle.seat_programs.specs.Explained.{IsTask, Became, Made}
 use Rattle.seat_programs.specs.ScriptSetupToEnding.{all_tasks, took_at_home, IsRunWithCalls}
-use Rattle.send_causes.specs.Below.outcome_stories.specs.Facts.{late_links_of_run}
-use Rattle.send_causes.specs.Below.run_theorems.specs.Heard.{heard_takes}
-use Rattle.send_causes.specs.Below.call_stories.specs.LinkReadingLists.{gave_in, attempts_of_run}
+use Rattle.calm_runs.specs.send_causes.specs.Below.outcome_stories.specs.Facts.{late_links_of_run}
+use Rattle.calm_runs.specs.send_causes.specs.Below.run_theorems.specs.Heard.{heard_takes}
+use Rattle.calm_runs.specs.send_causes.specs.Below.call_stories.specs.LinkReadingLists.{gave_in, attempts_of_run}
 
 -- the request of a call under a correlation id
 abbrev pub request_with : Asked → ℕ → Frame

@@ -13,14 +13,14 @@ use Rattle.brpc_model.specs.LinePlaceFaults.{names}
 use Rattle.brpc_model.specs.Script.{script_of}
 use Rattle.brpc_model.specs.ServedForTakenBytes.{given_for}
 use Rattle.brpc_model.specs.Spelling.{meta_bytes}
-use Rattle.served_runs.specs.Below.script_facts.proofs.CallLines.{CallInRange}
-use Rattle.served_runs.specs.Below.script_facts.proofs.LabelCounts.{Differ}
-use Rattle.served_runs.specs.Below.script_facts.proofs.FilteredLists.{all_at, all_from, before_from}
-use Rattle.served_runs.specs.Below.script_facts.proofs.OperationNumbering.{are_from}
-use Rattle.served_runs.specs.Below.script_facts.proofs.ReadScriptFacts.{InRange}
-use Rattle.served_runs.specs.Below.script_facts.proofs.ScriptSizes.{is_counted, keeps_limits}
-use Rattle.served_runs.specs.Below.script_facts.proofs.Targets.{are_there}
-use Rattle.served_runs.specs.Below.script_facts.proofs.TaskLemmas.{numbers_at, task_is, send_asks, call_asks}
+use Rattle.served_calls.specs.served_runs.specs.Below.script_facts.proofs.CallLines.{CallInRange}
+use Rattle.served_calls.specs.served_runs.specs.Below.script_facts.proofs.LabelCounts.{Differ}
+use Rattle.served_calls.specs.served_runs.specs.Below.script_facts.proofs.FilteredLists.{all_at, all_from, before_from}
+use Rattle.served_calls.specs.served_runs.specs.Below.script_facts.proofs.OperationNumbering.{are_from}
+use Rattle.served_calls.specs.served_runs.specs.Below.script_facts.proofs.ReadScriptFacts.{InRange}
+use Rattle.served_calls.specs.served_runs.specs.Below.script_facts.proofs.ScriptSizes.{is_counted, keeps_limits}
+use Rattle.served_calls.specs.served_runs.specs.Below.script_facts.proofs.Targets.{are_there}
+use Rattle.served_calls.specs.served_runs.specs.Below.script_facts.proofs.TaskLemmas.{numbers_at, task_is, send_asks, call_asks}
 use Rattle.sock_message.specs.Asked.{Asked, meta_of, frame_of}
 use Rattle.seat_programs.specs.ReaderProgram.{LIMIT}
 use Rattle.seat_programs.specs.declared.task.Op.TheVariants as ops
@@ -30,15 +30,15 @@ use Rattle.seat_programs.specs.Tasks.{numbered, plan_of}
 use Rattle.seat_programs.specs.Explained.{IsTask}
 use Rattle.seat_programs.specs.ExplainedCalls.{Accepted, Order, Fixed, AreOrders, ExplainedCalls, IsTaken, IsSent, OfSend, OfCall, label, bytes_of}
 use Rattle.seat_programs.specs.ScriptSetupToEnding.{all_tasks, took_at_home, IsRunWithCalls}
-use Rattle.served_runs.specs.Below.call_owing.specs.LivesOfLinks.{ClosesInRun}
-use Rattle.served_runs.specs.Below.run_theorems.proofs.ScriptStartsSoundly.{made}
-use Rattle.served_runs.specs.Below.call_stories.specs.LinkReadingLists.{gave_in}
-use Rattle.served_runs.specs.OfferedReplies.{OffersInRun}
-use Rattle.served_runs.specs.ServedLinks.{took_in_all}
-use Rattle.served_runs.proofs.ServedLinks.{gives_front, shapes_many}
-use Rattle.served_runs.specs.Below.script_facts.proofs.CallFrameSizes.{meta_short}
-use Rattle.served_runs.proofs.WholeFrameStreams.{framed_length}
-use Rattle.served_runs.proofs.OwnReplies.{cut_more}
+use Rattle.served_calls.specs.served_runs.specs.Below.call_owing.specs.LivesOfLinks.{ClosesInRun}
+use Rattle.served_calls.specs.served_runs.specs.Below.run_theorems.proofs.ScriptStartsSoundly.{made}
+use Rattle.served_calls.specs.served_runs.specs.Below.call_stories.specs.LinkReadingLists.{gave_in}
+use Rattle.served_calls.specs.served_runs.specs.OfferedReplies.{OffersInRun}
+use Rattle.served_calls.specs.served_runs.specs.ServedLinks.{took_in_all}
+use Rattle.served_calls.specs.served_runs.proofs.ServedLinks.{gives_front, shapes_many}
+use Rattle.served_calls.specs.served_runs.specs.Below.script_facts.proofs.CallFrameSizes.{meta_short}
+use Rattle.served_calls.specs.served_runs.proofs.WholeFrameStreams.{framed_length}
+use Rattle.served_calls.specs.served_runs.proofs.OwnReplies.{cut_more}
 use Rattle.served_sizes.specs.MessageBodySizes.{carried, all_carried}
 use Rattle.served_sizes.proofs.ScriptTextBytes.{carried_few}
 use Rattle.served_sizes.proofs.ReplySizeBounds.{replies_short}

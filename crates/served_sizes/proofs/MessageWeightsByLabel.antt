@@ -8,9 +8,9 @@ use Rattle.brpc_model.specs.Items.{Item, attempts_of}
 use Rattle.brpc_model.specs.Operations.{Operation, operations_from}
 use Rattle.brpc_model.specs.Order.{EachBefore}
 use Rattle.seat_programs.specs.ExplainedCalls.{Accepted, label, bytes_of}
-use Rattle.served_runs.specs.Below.script_facts.proofs.LabelCounts.{at_number, own_number, later_number, number_there, Differ}
-use Rattle.served_runs.specs.Below.script_facts.proofs.FilteredLists.{Has, has_first, has_later, all_at}
-use Rattle.served_runs.specs.Below.script_facts.proofs.OperationNumbering.{behind_item}
+use Rattle.served_calls.specs.served_runs.specs.Below.script_facts.proofs.LabelCounts.{at_number, own_number, later_number, number_there, Differ}
+use Rattle.served_calls.specs.served_runs.specs.Below.script_facts.proofs.FilteredLists.{Has, has_first, has_later, all_at}
+use Rattle.served_calls.specs.served_runs.specs.Below.script_facts.proofs.OperationNumbering.{behind_item}
 use Rattle.served_sizes.specs.MessageBodySizes.{carried, all_carried}
 
 -- ## Sums below a number

@@ -13,8 +13,8 @@ use Rattle.brpc_model.specs.Frame.{Frame, BadMagic, TooBig, MetaOver, AttachOver
 use Rattle.brpc_model.specs.FrameStream.{goes_on, stream_up_to}
 use Rattle.brpc_model.specs.Reply.{Answer, Gives, Refuses, echo, summing, served, response_with, answered_by, reply, reply_frames}
 use Rattle.brpc_model.specs.ServedForTakenBytes.{first_of, given_for}
-use Rattle.served_runs.specs.Below.script_facts.proofs.CallFrameSizes.{varint_short}
-use Rattle.served_runs.proofs.WholeFrameStreams.{framed_length}
+use Rattle.served_calls.specs.served_runs.specs.Below.script_facts.proofs.CallFrameSizes.{varint_short}
+use Rattle.served_calls.specs.served_runs.proofs.WholeFrameStreams.{framed_length}
 
 -- ## Sizes of metas
 

@@ -14,8 +14,8 @@ use Rattle.brpc_model.specs.ScriptLineFaults.{line_item, item_of, is_text_byte, 
 use Rattle.brpc_model.specs.LinePlaceFaults.{at_its_place, is_misplaced, is_too_many, is_unpaired}
 use Rattle.brpc_model.specs.Script.{Faulty, script_of, with_line, one_more, said_behind, items, whole, says, is_lost, may_hang}
 use Rattle.brpc_model.proofs.GrowingLineByLine.{items_some, items_none}
-use Rattle.served_runs.specs.Below.script_facts.proofs.ReadScriptFacts.{two_faults, either_way, of_then, one_part}
-use Rattle.served_runs.specs.Below.script_facts.proofs.CallLines.{part_with}
+use Rattle.served_calls.specs.served_runs.specs.Below.script_facts.proofs.ReadScriptFacts.{two_faults, either_way, of_then, one_part}
+use Rattle.served_calls.specs.served_runs.specs.Below.script_facts.proofs.CallLines.{part_with}
 use Rattle.served_sizes.specs.MessageBodySizes.{carried, all_carried}
 
 -- ## Words

@@ -21,7 +21,7 @@ use Rattle.seat_programs.specs.ScriptSetupToEnding.{all_tasks, place_words}
 use Rattle.seat_programs.specs.Tasks.{plan_of}
 use Rattle.seat_programs.specs.Explained.{AreTasks, AskedFits, OpFits, TaskFits, IsTask}
 use Rattle.seat_programs.specs.ExplainedCalls.{Accepted, Order, Fixed, AreOrders, StandsAt, IsSent, OfSend, OfCall}
-use Rattle.attempts_told.specs.CountedAttempts.{AreAttemptsTold}
+use Rattle.failed_told.specs.attempts_told.specs.CountedAttempts.{AreAttemptsTold}
 
 -- ## Tasks
 

@@ -33,7 +33,7 @@ use Rattle.seat_programs.specs.ScriptSetupToEnding.{all_tasks, place_words, took
 use Rattle.seat_programs.specs.Tasks.{numbered, asked_of, op_of, plan_of}
 use Rattle.seat_programs.specs.Explained.{AreTasks, IsTask, Made}
 use Rattle.seat_programs.specs.ExplainedCalls.{Order, Fixed, AreOrders}
-use Rattle.attempts_told.specs.CountedAttempts.{AreAttemptsTold}
+use Rattle.failed_told.specs.attempts_told.specs.CountedAttempts.{AreAttemptsTold}
 use Rattle.served_calls.specs.served_runs.proofs.Model.{unsent_of}
 use Rattle.served_calls.proofs.OutcomeShowingCallId.{outcome_there, both_told}
 use Rattle.served_told.specs.ServedLinksTelling.{TellBytes, ShowSmallIds, HaveOwnVersions}

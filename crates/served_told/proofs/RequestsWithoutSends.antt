@@ -24,7 +24,7 @@ use Rattle.seat_programs.specs.ScriptSetupToEnding.{all_tasks, took_at_home}
 use Rattle.seat_programs.specs.Tasks.{plan_of}
 use Rattle.seat_programs.specs.Explained.{AreTasks, IsTask, Became, Made}
 use Rattle.seat_programs.specs.ExplainedCalls.{Accepted, Order, Fixed, AreOrders, IsTaken, StandsAt, IsSent, OfSend, OfCall, bytes_of}
-use Rattle.attempts_told.specs.CountedAttempts.{AreAttemptsTold}
+use Rattle.failed_told.specs.attempts_told.specs.CountedAttempts.{AreAttemptsTold}
 use Rattle.served_calls.specs.Below.call_stories.proofs.StreamFramesStay.{frames_stay}
 use Rattle.served_calls.specs.served_runs.specs.ServedLinks.{request_with}
 use Rattle.served_calls.specs.served_runs.proofs.WholeFrameStreams.{IsPiece, piece_frames, pieces_end, IsSmall, request_is, reply_is}

@@ -4,7 +4,7 @@ use mathlib.Core.Option.{Option, some, none}
 use lib.ListN.{get_elem?}
 use Rattle.sock_words.specs.declared.plain.Plan.{Plan}
 use Rattle.sock_model.specs.declared.view.View.{View}
-use Rattle.seat_programs.specs.TableSteps.{TableStep, CreateLife, AddRef, SubRef, Recycle, LoadLink, LoadName, TakeLink, FinishLink, PutLink, FindLink, ClaimRequest, PutMessage, EmptyHead, FreeRequest, StorePlace, DropPlace}
+use Rattle.seat_programs.specs.TableSteps.{TableStep, OnSlot, OnName, OnChain, OnPlace, OnLink, OnMessage, CreateLife, AddRef, SubRef, Recycle, LoadLink, LoadName, TakeLink, FinishLink, PutLink, FindLink, ClaimRequest, PutMessage, EmptyHead, FreeRequest, StorePlace, DropPlace}
 use Rattle.seat_programs.specs.Programs.{Program, Do, TakeMessage, TakeHome, PutHome, PutBytes, AskReady}
 use Rattle.seat_programs.specs.Cores.{Core, SeatState, found_at}
 use Rattle.seat_programs.specs.StepTables.{table_word, word_of, hand_at, May, Finds}
@@ -28,28 +28,28 @@ module _ (p : Plan) (c : Core) (vs : List View) (sound : Sound p c vs) (few : Ar
   word_there call may x e = subst (λ n. x < n) (sym sound.lawful.references.sized) (in_table p (table_word call) (word_inside p (state c vs) sound.lawful i v at call may) x e)
 
   allows_word : (call : TableStep) → May p v call → Finds p v call (found call) (hand_at p c.words c.homes call) → AllowsWord call (found call)
-  allows_word (CreateLife j k) may f = f.0
-  allows_word (AddRef id) may f = f
-  allows_word (SubRef j) may f = omega (arith, f.0, may.1)
-  allows_word (Recycle j from) may f = (may.3, may.2, may.4)
-  allows_word (LoadLink j w) may f = omega (arith, f.0, sound.limits.links)
-  allows_word (LoadName n) may f = f.1
-  allows_word (FindLink j h) may f = omega (arith, f.0, sound.limits.links)
-  allows_word (ClaimRequest id q) may f = f.1
-  allows_word (EmptyHead j last) may f = let x = may.1.0 in
+  allows_word (OnSlot (CreateLife j k)) may f = f.0
+  allows_word (OnSlot (AddRef id)) may f = f
+  allows_word (OnSlot (SubRef j)) may f = omega (arith, f.0, may.1)
+  allows_word (OnSlot (Recycle j from)) may f = (may.3, may.2, may.4)
+  allows_word (OnSlot (LoadLink j w)) may f = omega (arith, f.0, sound.limits.links)
+  allows_word (OnName (LoadName n)) may f = f.1
+  allows_word (OnSlot (FindLink j h)) may f = omega (arith, f.0, sound.limits.links)
+  allows_word (OnChain (ClaimRequest id q)) may f = f.1
+  allows_word (OnChain (EmptyHead j last)) may f = let x = may.1.0 in
       subst (λ n. n < IDLE) x.last_is (last_small p (state c vs) sound.lawful i v at x.mine.place x.mine.right x.mine.has)
-  allows_word (StorePlace l k n) may f = let x = may.0 in
+  allows_word (OnPlace (StorePlace l k n)) may f = let x = may.0 in
       subst (λ m. m < MOST_PLACES) (sym may.4) (places_small p (state c vs) sound.lawful i v at x.mine.place x.mine.right x.mine.has few x.now x.stage)
-  allows_word (DropPlace l k n) may f = let x = may.0 in
+  allows_word (OnPlace (DropPlace l k n)) may f = let x = may.0 in
       subst (λ m. m < MOST_PLACES) (sym may.4) (places_small p (state c vs) sound.lawful i v at x.mine.place x.mine.right x.mine.has few x.now x.stage)
-  allows_word (FreeRequest q g) may f = free_small p (state c vs) sound.lawful i v at q g may
+  allows_word (OnChain (FreeRequest q g)) may f = free_small p (state c vs) sound.lawful i v at q g may
   allows_word _ may f = tt
 
   allows_move : (call : TableStep) → May p v call → AllowsMove p c call
-  allows_move (TakeLink k) may = let h = (taking p (state c vs) sound.lawful i v at k may).0 in (may.0, (h.took, h.next, h.done, h.is))
-  allows_move (FinishLink k) may = may.0
-  allows_move (PutLink k) may = may.0
-  allows_move (PutMessage q heading bytes) may = may.0
+  allows_move (OnLink (TakeLink k)) may = let h = (taking p (state c vs) sound.lawful i v at k may).0 in (may.0, (h.took, h.next, h.done, h.is))
+  allows_move (OnLink (FinishLink k)) may = may.0
+  allows_move (OnLink (PutLink k)) may = may.0
+  allows_move (OnMessage (PutMessage q heading bytes)) may = may.0
   allows_move _ may = tt
 
   allows : (call : TableStep) → May p v call → Allows p c call

@@ -45,7 +45,7 @@ use Rattle.sock_steps.proofs.AcceptSteps.{queued_law, righted_law}
 use Rattle.sock_steps.proofs.WalkSteps.{passing_law, reading_law, emptied_law, walking_law, turning_law}
 use Rattle.sock_steps.proofs.WriteSteps.{freeing_law, retiring_law, placing_law, dropping_law}
 use Rattle.sock_steps.proofs.RightSteps.{right_in, right_alone}
-use Rattle.seat_programs.specs.TableSteps.{TableStep, LookWord, FindLink, LoadCode, ClaimRequest, PutMessage, Unconnect, SwapHead, Connect, EmptyHead, ReadNext, ReverseNext, FreeRequest, StorePlace, DropPlace}
+use Rattle.seat_programs.specs.TableSteps.{TableStep, OnSlot, OnChain, OnPlace, OnMessage, LookWord, FindLink, LoadCode, ClaimRequest, PutMessage, Unconnect, SwapHead, Connect, EmptyHead, ReadNext, ReverseNext, FreeRequest, StorePlace, DropPlace}
 use Rattle.seat_programs.specs.StepTables.{table_word, word_after}
 use Rattle.program_steps.proofs.WordFrame.{AreIn, low_word}
 use Rattle.seat_programs.specs.Cores.{homes_after}
@@ -110,7 +110,7 @@ module _ (p : Plan) (s : State Home View) (o : Lawful (λ home. home) p s) (i : 
 
   -- ## Slots
 
-  pub looks : (id : ℕ) → May p v (LookWord id) → KeepsWord p s i v (LookWord id)
+  pub looks : (id : ℕ) → May p v (OnSlot (LookWord id)) → KeepsWord p s i v (OnSlot (LookWord id))
   looks id may = let j : ℕ = socket_id_slot id in let h : ℕ = socket_id_version id in let found : ℕ = get_or s.words (ref_index j) 0 in let inside = may.0 in
       let plain : With (set s.words (ref_index j) found) (looked j found v) = look_law (λ home. home) p s o i v at j inside (fits p s o.references j inside) in
       ⊎_elim
@@ -122,10 +122,10 @@ module _ (p : Plan) (s : State Home View) (o : Lawful (λ home. home) p s) (i : 
       (λ odd. subst (λ b. With (set s.words (ref_index j) found) (cond b (with_right (looked j found v) (record r { clean = true })) (looked j found v))) (sym (ne_eqb (vref_version found % 2) 0 odd)) plain)))
       may.1
 
-  pub finds_link : (j h : ℕ) → May p v (FindLink j h) → KeepsWord p s i v (FindLink j h)
+  pub finds_link : (j h : ℕ) → May p v (OnSlot (FindLink j h)) → KeepsWord p s i v (OnSlot (FindLink j h))
   finds_link j h may = meet_law (λ home. home) p s o i v at j may.0 h may.1
 
-  pub loads_code : (j h : ℕ) → May p v (LoadCode j h) → KeepsWord p s i v (LoadCode j h)
+  pub loads_code : (j h : ℕ) → May p v (OnSlot (LoadCode j h)) → KeepsWord p s i v (OnSlot (LoadCode j h))
   loads_code j h may = let found : ℕ = get_or s.words (code_index j) 0 in let P : Bool → Type 0 = λ b. With (set s.words (code_index j) found) (cond b v (told_code j h found v)) in
       dite (ℕ_discrete found 0)
       (λ none_. subst P (sym (eq-eqb found 0 none_)) (idle_law (λ home. home) p s o i v at (code_index j)))
@@ -133,7 +133,7 @@ module _ (p : Plan) (s : State Home View) (o : Lawful (λ home. home) p s) (i : 
 
   -- ## Whoever sends
 
-  pub claims_request : (id q : ℕ) → May p v (ClaimRequest id q) → KeepsWord p s i v (ClaimRequest id q)
+  pub claims_request : (id q : ℕ) → May p v (OnChain (ClaimRequest id q)) → KeepsWord p s i v (OnChain (ClaimRequest id q))
   claims_request id q may = let j : ℕ = socket_id_slot id in let h : ℕ = socket_id_version id in let k : ℕ = get_or s.words (link_index j) 0 in let found : ℕ = get_or s.words (request_index p q) 0 in
       let w : View = met_link j h k v in let c : Claim = new_claim k q found in
       let P : Bool → Type 0 = λ b. With (set s.words (request_index p q) (cond b (found + 1) found)) (cond b (with_claim w c) v) in
@@ -147,30 +147,30 @@ module _ (p : Plan) (s : State Home View) (o : Lawful (λ home. home) p s) (i : 
       (subst (λ vs. Lawful (λ home. home) p record { words = set s.words (request_index p q) (2 * (found / 2) + 1); homes = s.homes; views = vs }) (set_twice s.views i w (with_claim w c)) claimed)))
       (λ odd. subst P (sym (ne_eqb (found % 2) 0 odd)) (idle_law (λ home. home) p s o i v at (request_index p q)))
 
-  pub puts_message : (hand : List Home) (q : ℕ) (heading : Heading) (bytes : List ℕ) → q < length s.homes → May p v (PutMessage q heading bytes)
-      → Lawful (λ home. home) p record { words = s.words; homes = homes_after p (PutMessage q heading bytes) hand s.homes; views = set s.views i (row p (PutMessage q heading bytes) 0 (hand_at p s.words s.homes (PutMessage q heading bytes)) v) }
+  pub puts_message : (hand : List Home) (q : ℕ) (heading : Heading) (bytes : List ℕ) → q < length s.homes → May p v (OnMessage (PutMessage q heading bytes))
+      → Lawful (λ home. home) p record { words = s.words; homes = homes_after p (OnMessage (PutMessage q heading bytes)) hand s.homes; views = set s.views i (row p (OnMessage (PutMessage q heading bytes)) 0 (hand_at p s.words s.homes (OnMessage (PutMessage q heading bytes))) v) }
   puts_message hand q heading bytes long may = let c : Claim = may.1.0 in
       subst (λ cs. Lawful (λ home. home) p record { words = s.words; homes = set s.homes q (some (Message heading bytes)); views = set s.views i (by_claim cs (λ c. with_claim v (filled_claim c heading bytes)) v) }) (sym may.1.1)
       (filling_law o i q v c (filled_claim c heading bytes) at may.0 may.1.1 may.1.2 may.1.2 (Message heading bytes) refl long refl refl)
 
-  pub unconnects : (q : ℕ) → May p v (Unconnect q) → KeepsWord p s i v (Unconnect q)
+  pub unconnects : (q : ℕ) → May p v (OnChain (Unconnect q)) → KeepsWord p s i v (OnChain (Unconnect q))
   unconnects q may = let c : Claim = may.1.0 in let alone = claim_alone o i q v c (ready_claim c) at may.0 may.1.1 may.1.2 may.1.2 in
       subst (λ cs. With (set s.words (next_index p q) UNCONNECTED) (by_claim cs (λ c. with_claim v (ready_claim c)) v)) (sym may.1.1)
       (readying_law o i q v c (ready_claim c) at may.0 may.1.1 may.1.2 may.1.2 refl (λ filled. o.messages.claimed q c may.0 alone filled))
 
-  pub swaps_head : (j own : ℕ) → May p v (SwapHead j own) → KeepsWord p s i v (SwapHead j own)
-  swaps_head j own may = let x = may.1 in let c : Claim = x.claim in let found : ℕ = get_or s.words (head_index j) 0 in let hand : Hand = hand_at p s.words s.homes (SwapHead j own) in
+  pub swaps_head : (j own : ℕ) → May p v (OnChain (SwapHead j own)) → KeepsWord p s i v (OnChain (SwapHead j own))
+  swaps_head j own may = let x = may.1 in let c : Claim = x.claim in let found : ℕ = get_or s.words (head_index j) 0 in let hand : Hand = hand_at p s.words s.homes (OnChain (SwapHead j own)) in
       let P : Bool → Type 0 = λ b. With (set s.words (head_index j) own) (cond b (queued v c found) (righted v c found hand.took hand.next)) in
       subst (λ cs. With (set s.words (head_index j) own) (by_claim cs (exchanged found hand v) v)) (sym x.claims)
       (dite (dec_le IDLE found)
       (λ idle. subst P (sym (le-ltb found IDLE idle)) (becomes_right x idle))
       (λ busy. let low : found < IDLE = omega arith in subst P (sym (lt-ltb found IDLE low)) (queued_law (λ home. home) p s o i j own v at x low)))
     where
-      hand_is : (k : ℕ) (sent : List ℕ) (places : ℕ) → get_or s.words (link_index j) 0 ≡ k → link_home (λ home. home) p s.homes k ≡ some (sent, places) → hand_at p s.words s.homes (SwapHead j own) ≡ record { link = k; took = sent; next = places }
+      hand_is : (k : ℕ) (sent : List ℕ) (places : ℕ) → get_or s.words (link_index j) 0 ≡ k → link_home (λ home. home) p s.homes k ≡ some (sent, places) → hand_at p s.words s.homes (OnChain (SwapHead j own)) ≡ record { link = k; took = sent; next = places }
       hand_is k sent places e h = ap (λ z. as_hand z (link_home (λ home. home) p s.homes z)) e ∙ ap (as_hand k) h
 
       becomes_right : (x : MayExchange p v j own) → IDLE ≤ get_or s.words (head_index j) 0
-          → With (set s.words (head_index j) own) (righted v x.claim (get_or s.words (head_index j) 0) (hand_at p s.words s.homes (SwapHead j own)).took (hand_at p s.words s.homes (SwapHead j own)).next)
+          → With (set s.words (head_index j) own) (righted v x.claim (get_or s.words (head_index j) 0) (hand_at p s.words s.homes (OnChain (SwapHead j own))).took (hand_at p s.words s.homes (OnChain (SwapHead j own))).next)
       becomes_right x idle = let found : ℕ = get_or s.words (head_index j) 0 in let k : ℕ = x.claim.link in let a = righted_law (λ home. home) p s o i j own v at x idle in let w : View = righted v x.claim found a.0 a.1 in
           let r : Right = new_right x.claim found a.0 a.1 in let here = set_at s.views i w (at_length s.views i v at) in
           let alone = right_alone a.2 i 0 w r here refl in
@@ -179,15 +179,15 @@ module _ (p : Plan) (s : State Home View) (o : Lawful (λ home. home) p s) (i : 
           let link : get_or s.words (link_index j) 0 ≡ x.claim.link = held_link_is p s o i v at j x.life (x.holds.inside, x.holds.held) x.claim.link x.holds.met in
           subst (λ (z : Hand). With (set s.words (head_index j) own) (righted v x.claim found z.took z.next)) (sym (hand_is x.claim.link a.0 a.1 link home)) a.2
 
-  pub connects : (q before : ℕ) → May p v (Connect q before) → KeepsWord p s i v (Connect q before)
+  pub connects : (q before : ℕ) → May p v (OnChain (Connect q before)) → KeepsWord p s i v (OnChain (Connect q before))
   connects q before may = connecting_law (λ home. home) p i may.1.0 v record { request = q; before = before } s o at may.0 may.1.1
 
   -- ## Whoever writes
 
-  pub empties : (j last : ℕ) → May p v (EmptyHead j last) → KeepsWord p s i v (EmptyHead j last)
+  pub empties : (j last : ℕ) → May p v (OnChain (EmptyHead j last)) → KeepsWord p s i v (OnChain (EmptyHead j last))
   empties j last may = let x = may.1.0 in let r : Right = x.mine.right in let found : ℕ = get_or s.words (head_index j) 0 in
       let P : Bool → Type 0 = λ b. With (set s.words (head_index j) (cond b (IDLE + last) found)) (cond b (without_right v r.link) (with_right v (record r { stage = Reversing found found 0 }))) in
-      subst (λ rs. With (set s.words (head_index j) (word_after (EmptyHead j last) found)) (by_right rs (emptied last found v) v)) (sym may.1.1)
+      subst (λ rs. With (set s.words (head_index j) (word_after (OnChain (EmptyHead j last)) found)) (by_right rs (emptied last found v) v)) (sym may.1.1)
       (dite (ℕ_discrete found last)
       (λ won. subst P (sym (eq-eqb found last won)) (emptied_law (λ home. home) p s o i j last (IDLE + last) v at x won))
       (λ lost. subst P (sym (ne_eqb found last lost)) (still_words (head_index j) (with_right v (record r { stage = Reversing found found 0 })) (walking_law (λ home. home) p s o i j last (IDLE + last) v at x found refl lost))))
@@ -223,9 +223,9 @@ module _ (p : Plan) (s : State Home View) (o : Lawful (λ home. home) p s) (i : 
     pub settles : With ws (with_right v (settled r'))
     settles = settles_at r'.stage refl
 
-  pub reads_next : (q : ℕ) → May p v (ReadNext q) → KeepsWord p s i v (ReadNext q)
+  pub reads_next : (q : ℕ) → May p v (OnChain (ReadNext q)) → KeepsWord p s i v (OnChain (ReadNext q))
   reads_next q may = let r : Right = may.0 in let found : ℕ = get_or s.words (next_index p q) 0 in
-      still_words (next_index p q) (row p (ReadNext q) found (hand_at p s.words s.homes (ReadNext q)) v)
+      still_words (next_index p q) (row p (OnChain (ReadNext q)) found (hand_at p s.words s.homes (OnChain (ReadNext q))) v)
       (subst (λ rs. With s.words (by_right rs (λ r. read_next found v r r.stage) v)) (sym may.1)
       (⊎_elim (λ x. passes r may.1 x.0 x.1 x.2 x.3) (λ x. walks r may.1 x.0 x.1 x.2 x.3 x.4) may.2))
     where
@@ -244,14 +244,14 @@ module _ (p : Plan) (s : State Home View) (o : Lawful (λ home. home) p s) (i : 
           (subst (λ z. With s.words (with_right v (record r { stage = ReversesNext top a after (get_or s.words (next_index p z) 0) }))) is
           (reading_law (λ home. home) p s o i v at (has_one v r one) top a after stage (λ e. there (ap (λ z. get_or s.words (next_index p z) 0) (sym is) ∙ e))))))
 
-  pub turns_next : (q value : ℕ) → May p v (ReverseNext q value) → KeepsWord p s i v (ReverseNext q value)
+  pub turns_next : (q value : ℕ) → May p v (OnChain (ReverseNext q value)) → KeepsWord p s i v (OnChain (ReverseNext q value))
   turns_next q value may = let x = may.0 in let r : Right = x.mine.right in
       subst (λ rs. With (set s.words (next_index p q) value) (by_right rs (λ r. turned_next v r r.stage) v)) (sym may.1)
       (subst (λ b. With (set s.words (next_index p q) value) (turned_next v r b)) (sym x.stage)
       (subst (λ z. With (set s.words (next_index p z) value) (with_right v (turned_right r x.top x.at x.before))) may.2 (turning_law (λ home. home) p s o i value v at x)))
 
   -- which isn't of the last generation, since generations are bounded
-  pub free_small : (q g : ℕ) → May p v (FreeRequest q g) → g < LAST_GENERATION
+  pub free_small : (q g : ℕ) → May p v (OnChain (FreeRequest q g)) → g < LAST_GENERATION
   free_small q g may = let now : ℕ = may.0 in let r : Right = may.4.0 in
       let low : ticket_generation now < 140737488355328 = ⊎_elim (λ x. small r may.4.1 now Empties (subst (λ z. Leads r.last z now Empties) (sym x.0) (to_end now x.1)))
       (λ x. small r may.4.1 now (Writes x.0) (subst (λ z. Leads r.last z now (Writes x.0)) (sym x.1) (to_next now x.0))) may.4.2 in
@@ -260,7 +260,7 @@ module _ (p : Plan) (s : State Home View) (o : Lawful (λ home. home) p s) (i : 
       small : (r : Right) → v.rights ≡ r ∷ [] → (now : ℕ) (b : Stage) → Leads r.last r.stage now b → ticket_generation now < 140737488355328
       small r one now b leads = let has = ap (λ l. get_elem? l 0) one in now_small o.chains r.link r (right_in o i 0 v r at has) (right_alone o i 0 v r at has) o.fits.narrow now b leads
 
-  pub frees_request : (q g : ℕ) → May p v (FreeRequest q g) → KeepsWord p s i v (FreeRequest q g)
+  pub frees_request : (q g : ℕ) → May p v (OnChain (FreeRequest q g)) → KeepsWord p s i v (OnChain (FreeRequest q g))
   frees_request q g may = let now : ℕ = may.0 in let r : Right = may.4.0 in
       subst (λ rs. With (set s.words (request_index p q) (2 * (g + 1))) (by_right rs (freed_next v) v)) (sym may.4.1)
       (⊎_elim (λ x. goes r may.4.1 now Empties (subst (λ z. Leads r.last z now Empties) (sym x.0) (to_end now x.1)) may.1 may.2 (free_small q g may) (ap freed_stage x.0))
@@ -274,7 +274,7 @@ module _ (p : Plan) (s : State Home View) (o : Lawful (λ home. home) p s) (i : 
           (subst (λ z. With (set s.words (request_index p (ticket_request now)) (2 * (z + 1))) (with_right v (record r { stage = b }))) is
           (freeing_law (λ home. home) p i 0 now b v r s o at (ap (λ l. get_elem? l 0) one) leads low)))
 
-  pub stores_place : (l k n : ℕ) → May p v (StorePlace l k n) → KeepsWord p s i v (StorePlace l k n)
+  pub stores_place : (l k n : ℕ) → May p v (OnPlace (StorePlace l k n)) → KeepsWord p s i v (OnPlace (StorePlace l k n))
   stores_place l k n may = let x = may.0 in let r : Right = x.mine.right in let ws : List ℕ = set s.words (place_index p l) (place_word false k n) in
       let placed = placing_law (λ home. home) p i v x s o at in
       let placed₁ : With (set s.words (place_index p l) (place_word false r.link r.places)) (with_right v (placed_right r x.now)) = subst (λ z. With (set s.words (place_index p z) (place_word false r.link r.places)) (with_right v (placed_right r x.now))) (sym may.2) placed in
@@ -284,7 +284,7 @@ module _ (p : Plan) (s : State Home View) (o : Lawful (λ home. home) p s) (i : 
       (subst (λ b. With (set s.words (place_index p l) (place_word false k n)) (placed_next v r b)) (sym x.stage)
       (settles ws r may.1 (placed_right r x.now) refl placed₃))
 
-  pub drops_place : (l k n : ℕ) → May p v (DropPlace l k n) → KeepsWord p s i v (DropPlace l k n)
+  pub drops_place : (l k n : ℕ) → May p v (OnPlace (DropPlace l k n)) → KeepsWord p s i v (OnPlace (DropPlace l k n))
   drops_place l k n may = let x = may.0 in let r : Right = x.mine.right in let ws : List ℕ = set s.words (place_index p l) (place_word true k n) in
       let dropped = dropping_law (λ home. home) p i v x s o at (failed_life r.link may.6) in
       let w : View = with_right v (dropped_right r x.now x.sent) in
@@ -328,24 +328,24 @@ module _ (p : Plan) (s : State Home View) (o : Lawful (λ home. home) p s) (i : 
         let back : suc (held.counts.left - 1) ≡ held.counts.left = omega arith in
         entry_inside r.link (held.counts.left - 1) a (omega (arith, f.2, f.3, some_)) (ap (nth (on r.link o.log)) back ∙ walk.at_is)
 
-  pub read_inside : (q : ℕ) → May p v (ReadNext q) → q < p.requests
+  pub read_inside : (q : ℕ) → May p v (OnChain (ReadNext q)) → q < p.requests
   read_inside q may = ⊎_elim (λ x. subst (λ z. z < p.requests) x.3 (placed_inside may.0 may.1 x.0 x.1)) (λ x. subst (λ z. z < p.requests) x.4 (walk_inside may.0 may.1 x.0 x.1 x.2 x.3)) may.2
 
-  pub turn_inside : (q value : ℕ) → May p v (ReverseNext q value) → q < p.requests
+  pub turn_inside : (q value : ℕ) → May p v (OnChain (ReverseNext q value)) → q < p.requests
   turn_inside q value may = let x = may.0 in subst (λ z. z < p.requests) may.2
       (turn_slot o.chains x.mine.right.link x.mine.right (right_in o i x.mine.place v x.mine.right at x.mine.has) (right_alone o i x.mine.place v x.mine.right at x.mine.has) o.fits.narrow x.top x.at value x.before x.stage).5
 
-  pub free_inside : (q g : ℕ) → May p v (FreeRequest q g) → q < p.requests
+  pub free_inside : (q g : ℕ) → May p v (OnChain (FreeRequest q g)) → q < p.requests
   free_inside q g may = subst (λ z. z < p.requests) may.1 (⊎_elim (λ x. placed_inside may.4.0 may.4.1 may.0 x.0) (λ x. passed_inside may.4.0 may.4.1 may.0 x.0 x.1) may.4.2)
 
   -- the word of a step is one of the table
   pub word_inside : (call : TableStep) → May p v call → AreIn p (table_word call)
-  word_inside (ReadNext q) may = read_inside q may
-  word_inside (ReverseNext q value) may = turn_inside q value may
-  word_inside (FreeRequest q g) may = free_inside q g may
-  word_inside (ClaimRequest id q) may = may.0
-  word_inside (Unconnect q) may = may.0
-  word_inside (Connect q before) may = may.0
-  word_inside (StorePlace l k n) may = let inside = may.0.label_in in omega (arith, inside, may.2)
-  word_inside (DropPlace l k n) may = let inside = may.0.label_in in omega (arith, inside, may.2)
+  word_inside (OnChain (ReadNext q)) may = read_inside q may
+  word_inside (OnChain (ReverseNext q value)) may = turn_inside q value may
+  word_inside (OnChain (FreeRequest q g)) may = free_inside q g may
+  word_inside (OnChain (ClaimRequest id q)) may = may.0
+  word_inside (OnChain (Unconnect q)) may = may.0
+  word_inside (OnChain (Connect q before)) may = may.0
+  word_inside (OnPlace (StorePlace l k n)) may = let inside = may.0.label_in in omega (arith, inside, may.2)
+  word_inside (OnPlace (DropPlace l k n)) may = let inside = may.0.label_in in omega (arith, inside, may.2)
   word_inside call may = low_word p v call may

@@ -26,7 +26,7 @@ use Rattle.sock_steps.proofs.RightSteps.{right_in, right_alone}
 use Rattle.sock_steps.proofs.RuleFrame.{SameNotes, accept_short}
 use Rattle.sock_steps.proofs.Positions.{few_log, on_shorter}
 use Rattle.sock_steps.proofs.Walked.{writes_left}
-use Rattle.seat_programs.specs.TableSteps.{TableStep, SwapHead}
+use Rattle.seat_programs.specs.TableSteps.{TableStep, OnChain, SwapHead}
 use Rattle.seat_programs.specs.Cores.{Core, found_at}
 use Rattle.seat_programs.specs.StepTables.{word_of}
 use Rattle.seat_programs.specs.Ticks.{Moment, IsAnswered}
@@ -67,7 +67,7 @@ abbrev pub IsShorter : View → Type 0
 IsShorter v = (made : List Entry) (taken_in : List (List Entry)) → v.lists ≡ made ∷ taken_in → length made < MOST_ACCEPTED
 
 few_row : (p : Plan) (v : View) (call : TableStep) (found : ℕ) (hand : Hand) → May p v call → IsShorter v → IsFew v → IsFew (row p call found hand v)
-few_row p v (SwapHead i own) found hand may short is = let x = may.1 in
+few_row p v (OnChain (SwapHead i own)) found hand may short is = let x = may.1 in
     subst (λ cs. IsFew (by_claim cs (exchanged found hand v) v)) (sym x.claims)
     (either_way (nat_lt found IDLE) (queued v x.claim found) (righted v x.claim found hand.took hand.next) IsFew
     (accepts (queued v x.claim found) (entry_of x.claim found) refl) (accepts (righted v x.claim found hand.took hand.next) (entry_of x.claim (found - IDLE)) refl))

@@ -24,7 +24,7 @@ use Rattle.sock_steps.specs.slot_steps.proofs.RuleNumbers.{pair_le}
 use Rattle.sock_steps.specs.slot_steps.proofs.ReferenceStepsKeepSlot.{recycled_le}
 use Rattle.sock_steps.specs.slot_steps.proofs.KeptByTagSteps.{life_found}
 use Rattle.sock_steps.proofs.LifeLinkSlotPlaces.{own_count, given_unwaited}
-use Rattle.seat_programs.specs.TableSteps.{TableStep, CreateLife, AddRef, SubRef, SetOdd, FreeSlot, LoadLink, LoadName, LoadOpen, TakeLink, LookWord, FindLink, ClaimRequest}
+use Rattle.seat_programs.specs.TableSteps.{TableStep, OnSlot, OnName, OnChain, OnLink, CreateLife, AddRef, SubRef, SetOdd, FreeSlot, LoadLink, LoadName, LoadOpen, TakeLink, LookWord, FindLink, ClaimRequest}
 use Rattle.seat_programs.specs.StepTables.{word_of}
 use Rattle.seat_programs.specs.Cores.{found_at}
 use Rattle.seat_programs.specs.StepTables.{hand_at}
@@ -47,7 +47,7 @@ claimed_busy _ = omega arith
 
 module _ (p : Plan) (s : State Home View) (o : Lawful (λ home. home) p s) (i : ℕ) (v : View) (at : get_elem? s.views i ≡ some v) where
   -- a claimed slot has an even version, with which it may be given again
-  births : (j k : ℕ) → May p v (CreateLife j k) → (vref_version (get_or s.words (ref_index j) 0) % 2 ≡ 0) × (vref_version (get_or s.words (ref_index j) 0) ≤ 4294967292)
+  births : (j k : ℕ) → May p v (OnSlot (CreateLife j k)) → (vref_version (get_or s.words (ref_index j) 0) % 2 ≡ 0) × (vref_version (get_or s.words (ref_index j) 0) ≤ 4294967292)
   births j k may = let l = law p s o.references j may.0 in let there = total_mono (is_stage 3 k) is_claimed (stage_claimed 3 k) (about j v.marks) in
       let claimed : 0 < count is_claimed (slot_facts s j) = omega (arith, there, own_count s i v at is_claimed j, may.1) in
       (l.busy_even (omega (arith, claimed, tally_mono is_claimed is_busy claimed_busy (slot_facts s j).marks)), l.claimed_low claimed)
@@ -101,18 +101,18 @@ module _ (p : Plan) (s : State Home View) (o : Lawful (λ home. home) p s) (i : 
       by_phase g n small (retired_phase x) = omega (arith, small, x.word)
 
   pub finds : p.slots ≤ 256 → (call : TableStep) → May p v call → Finds p v call (found_at s.words (word_of p call)) (hand_at p s.words s.homes call)
-  finds few (CreateLife j k) may = let b = births j k may in (has_room p s o.references j may.0, b.0, b.1)
-  finds few (AddRef id) may = has_room p s o.references (socket_id_slot id) may.0.0
-  finds few (SubRef j) may = (refs_counted j may.0, of_held j may.0, next_version p s o.references j may.0)
-  finds few (SetOdd j) may = of_held j may.0
-  finds few (FreeSlot j) may = busy_once j may.0
-  finds few (LoadLink j w) may = (link_in j w may.0 may.1, link_unwaited j w may.0 may.1)
-  finds few (LoadName n) may = named few n may
-  finds few (LoadOpen n) may = λ is. let found : ℕ = get_or s.words (open_index p n) 0 in (o.references.named.opens n may (id_socket found is) (id_some found is)).0
-  finds few (TakeLink k) may = ap (λ (h : Hand). h.link) (found_hand p s o i v at k may)
-  finds few (LookWord id) may = (of_held (socket_id_slot id) may.0, failed_found (socket_id_slot id) may.0)
-  finds few (FindLink j h) may = (held_link_in p s o i v at j h may, held_link_is p s o i v at j h may)
-  finds few (ClaimRequest id q) may = (
+  finds few (OnSlot (CreateLife j k)) may = let b = births j k may in (has_room p s o.references j may.0, b.0, b.1)
+  finds few (OnSlot (AddRef id)) may = has_room p s o.references (socket_id_slot id) may.0.0
+  finds few (OnSlot (SubRef j)) may = (refs_counted j may.0, of_held j may.0, next_version p s o.references j may.0)
+  finds few (OnSlot (SetOdd j)) may = of_held j may.0
+  finds few (OnSlot (FreeSlot j)) may = busy_once j may.0
+  finds few (OnSlot (LoadLink j w)) may = (link_in j w may.0 may.1, link_unwaited j w may.0 may.1)
+  finds few (OnName (LoadName n)) may = named few n may
+  finds few (OnName (LoadOpen n)) may = λ is. let found : ℕ = get_or s.words (open_index p n) 0 in (o.references.named.opens n may (id_socket found is) (id_some found is)).0
+  finds few (OnLink (TakeLink k)) may = ap (λ (h : Hand). h.link) (found_hand p s o i v at k may)
+  finds few (OnSlot (LookWord id)) may = (of_held (socket_id_slot id) may.0, failed_found (socket_id_slot id) may.0)
+  finds few (OnSlot (FindLink j h)) may = (held_link_in p s o i v at j h may, held_link_is p s o i v at j h may)
+  finds few (OnChain (ClaimRequest id q)) may = (
     (held_link_in p s o i v at (socket_id_slot id) (socket_id_version id) may.1, held_link_is p s o i v at (socket_id_slot id) (socket_id_version id) may.1),
     request_small q may.0,
   )

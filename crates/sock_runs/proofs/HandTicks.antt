@@ -17,7 +17,7 @@ use Rattle.sock_model.specs.ChainLawReads.{took_of, as_link, shown}
 use Rattle.sock_model.specs.ChainRows.{with_hand, without_hand, spent_hand}
 use Rattle.sock_model.specs.LawfulSockets.{Lawful}
 use Rattle.sock_steps.proofs.HandSteps.{take_last_law, spend_law, put_hand_law}
-use Rattle.seat_programs.specs.TableSteps.{TableStep, TakeLink, FinishLink, PutLink}
+use Rattle.seat_programs.specs.TableSteps.{TableStep, OnLink, TakeLink, FinishLink, PutLink}
 use Rattle.seat_programs.specs.Cores.{homes_after, hand_after, lies_at, first_of, others_of, finished}
 use Rattle.seat_programs.specs.StepTables.{row, hand_at}
 use Rattle.seat_programs.specs.StepsOfLinks.{as_hand, taken}
@@ -60,7 +60,7 @@ module _ (p : Plan) (s : State Home View) (o : Lawful (λ home. home) p s) (i : 
   Gone k w = Lawful (λ home. home) p record { words = s.words; homes = set s.homes (p.requests + k) none; views = set s.views i w }
 
   -- the link that may be taken is at home, and the rule holds behind the move
-  pub taking : (k : ℕ) → May p v (TakeLink k) → (h : AtHome p s.homes k) × Gone k (taken record { link = k; took = h.took; next = h.next } v)
+  pub taking : (k : ℕ) → May p v (OnLink (TakeLink k)) → (h : AtHome p s.homes k) × Gone k (taken record { link = k; took = h.took; next = h.next } v)
   taking k may = dite (dec_le 1 (total (only k) v.passes))
       (λ pass. let a = spend_law (λ home. home) p s o i v at k (omega arith) in let is : get_elem? s.homes (p.requests + k) ≡ some (some (Link k [] 0 false)) = a.1 ∙ ap (λ y. some (some y)) a.2 in (
         record { took = []; next = 0; done = false; is = is },
@@ -75,16 +75,16 @@ module _ (p : Plan) (s : State Home View) (o : Lawful (λ home. home) p s) (i : 
       may.2)
 
   -- it is what the step finds
-  pub found_hand : (k : ℕ) (may : May p v (TakeLink k)) → hand_at p s.words s.homes (TakeLink k) ≡ record { link = k; took = (taking k may).0.took; next = (taking k may).0.next }
+  pub found_hand : (k : ℕ) (may : May p v (OnLink (TakeLink k))) → hand_at p s.words s.homes (OnLink (TakeLink k)) ≡ record { link = k; took = (taking k may).0.took; next = (taking k may).0.next }
   found_hand k may = ap (λ x. as_hand k (took_of (as_link (shown (λ (home : Home). home) x)))) (taking k may).0.is
 
-  pub takes : (hand : List Home) (k : ℕ) → May p v (TakeLink k) → KeepsHome p s i v hand (TakeLink k)
+  pub takes : (hand : List Home) (k : ℕ) → May p v (OnLink (TakeLink k)) → KeepsHome p s i v hand (OnLink (TakeLink k))
   takes hand k may = subst (λ h. Gone k (taken h v)) (sym (found_hand k may)) (taking k may).1
 
-  pub finishes : (hand : List Home) (k : ℕ) → KeepsHome p s i v hand (FinishLink k)
+  pub finishes : (hand : List Home) (k : ℕ) → KeepsHome p s i v hand (OnLink (FinishLink k))
   finishes hand k = subst (λ vs. Lawful (λ home. home) p record { words = s.words; homes = s.homes; views = vs }) (sym (set_again s.views i v at)) o
 
-  pub puts : (hand : List Home) (k : ℕ) → p.requests + k < length s.homes → AreInHand hand v.hands → HasInHand v k → KeepsHome p s i v hand (PutLink k)
+  pub puts : (hand : List Home) (k : ℕ) → p.requests + k < length s.homes → AreInHand hand v.hands → HasInHand v k → KeepsHome p s i v hand (OnLink (PutLink k))
   puts hand k long are has = let w = the_one hand v.hands k are has in let at_first : get_elem? v.hands 0 ≡ some w.hand = ap (λ l. get_elem? l 0) w.hands_is in
       let put = put_hand_law (λ home. home) p s o i v at 0 w.hand at_first w.first w.done w.first_is (omega (arith, w.link_is)) in
       let P : Option Home → ℕ → Type 0 = λ x n. Lawful (λ home. home) p record { words = s.words; homes = set s.homes (p.requests + n) x; views = set s.views i (without_hand v n) } in
@@ -96,13 +96,13 @@ pub in_hand_nil : (hand : List Home) → AreInHand hand [] → hand ≡ []
 in_hand_nil [] are = refl
 in_hand_nil (x ∷ xs) are = absurd are
 
-pub take_in_hand : (p : Plan) (homes : List (Option Home)) (k : ℕ) (h : AtHome p homes k) (hand : List Home) (hands : List Hand) → AreInHand hand hands → AreInHand (hand_after p (TakeLink k) homes hand) (record { link = k; took = h.took; next = h.next } ∷ hands)
+pub take_in_hand : (p : Plan) (homes : List (Option Home)) (k : ℕ) (h : AtHome p homes k) (hand : List Home) (hands : List Hand) → AreInHand hand hands → AreInHand (hand_after p (OnLink (TakeLink k)) homes hand) (record { link = k; took = h.took; next = h.next } ∷ hands)
 take_in_hand p homes k h hand hands are = subst (λ xs. AreInHand (xs ++ hand) (record { link = k; took = h.took; next = h.next } ∷ hands)) (sym lies) ((h.done, refl), are)
   where
     lies : lies_at homes (p.requests + k) ≡ Link k h.took h.next h.done ∷ []
     lies = ap (λ o. elim o as (λ o. List Home) [ none ↦ [] | some x ↦ elim x as (λ o. List Home) [ none ↦ [] | some y ↦ y ∷ [] ] ]) h.is
 
-pub finish_in_hand : (p : Plan) (homes : List (Option Home)) (k : ℕ) (hand : List Home) (hands : List Hand) → AreInHand hand hands → AreInHand (hand_after p (FinishLink k) homes hand) hands
+pub finish_in_hand : (p : Plan) (homes : List (Option Home)) (k : ℕ) (hand : List Home) (hands : List Hand) → AreInHand hand hands → AreInHand (hand_after p (OnLink (FinishLink k)) homes hand) hands
 finish_in_hand p homes k [] hands are = are
 finish_in_hand p homes k (x ∷ xs) [] are = are
 finish_in_hand p homes k (x ∷ xs) (h ∷ hs) are = ((true, ap finished are.0.1), are.1)

@@ -17,7 +17,7 @@ use Rattle.sock_model.specs.SlotRows.{looked}
 use Rattle.sock_model.specs.ChainRows.{with_hand, spent_hand, without_hand, with_right, without_right, turned_right, placed_right, dropped_right}
 use Rattle.sock_model.specs.LawfulSockets.{Lawful}
 use Rattle.sock_steps.proofs.SumsAsMarksChange.{either_way}
-use Rattle.seat_programs.specs.TableSteps.{TableStep, TakeLink, FinishLink, PutLink, LookWord, SwapHead, EmptyHead, ReadNext, ReverseNext, FreeRequest, StorePlace, DropPlace}
+use Rattle.seat_programs.specs.TableSteps.{TableStep, OnSlot, OnChain, OnPlace, OnLink, TakeLink, FinishLink, PutLink, LookWord, SwapHead, EmptyHead, ReadNext, ReverseNext, FreeRequest, StorePlace, DropPlace}
 use Rattle.seat_programs.specs.Cores.{Core, found_at, hand_after}
 use Rattle.seat_programs.specs.StepTables.{word_of}
 use Rattle.seat_programs.specs.StepTables.{row, hand_at}
@@ -130,25 +130,25 @@ module _ (p : Plan) (c : Core) (vs : List View) (o : Lawful (λ home. home) p (s
       subst (λ rs. AreHeld hand rs (after call).hands) (sym (rights_stay p v n g call rights)) (subst (λ hs. AreHeld hand v.rights hs) (sym (hands_stay p v n g call hands)) held)
 
   pub keeps_held : (call : TableStep) → May p v call → AreHeld (hand_after p call c.homes hand) (after call).rights (after call).hands
-  keeps_held (TakeLink k) may = let home = (taking p (state c vs) o i v at k may).0 in let h : Hand = record { link = k; took = home.took; next = home.next } in
-      let now = in_hand_held (hand_after p (TakeLink k) c.homes hand) v.rights (h ∷ v.hands) may.3 (take_in_hand p c.homes k home hand v.hands (in_hand may.3)) in
-      subst (λ g. AreHeld (hand_after p (TakeLink k) c.homes hand) (taken g v).rights (taken g v).hands) (sym (found_hand p (state c vs) o i v at k may))
-      (either_way (nat_lt 0 (total (only k) v.passes)) (spent_hand v h) (with_hand v h) (λ w. AreHeld (hand_after p (TakeLink k) c.homes hand) w.rights w.hands) now now)
-  keeps_held (FinishLink k) may = in_hand_held (hand_after p (FinishLink k) c.homes hand) v.rights v.hands may.2 (finish_in_hand p c.homes k hand v.hands (in_hand may.2))
-  keeps_held (PutLink k) may = in_hand_held (hand_after p (PutLink k) c.homes hand) v.rights (without_hand v k).hands may.2 (put_in_hand v k hand (in_hand may.2) may.1)
-  keeps_held (LookWord id) may = let j : ℕ = socket_id_slot id in let w : ℕ = found (LookWord id) in
+  keeps_held (OnLink (TakeLink k)) may = let home = (taking p (state c vs) o i v at k may).0 in let h : Hand = record { link = k; took = home.took; next = home.next } in
+      let now = in_hand_held (hand_after p (OnLink (TakeLink k)) c.homes hand) v.rights (h ∷ v.hands) may.3 (take_in_hand p c.homes k home hand v.hands (in_hand may.3)) in
+      subst (λ g. AreHeld (hand_after p (OnLink (TakeLink k)) c.homes hand) (taken g v).rights (taken g v).hands) (sym (found_hand p (state c vs) o i v at k may))
+      (either_way (nat_lt 0 (total (only k) v.passes)) (spent_hand v h) (with_hand v h) (λ w. AreHeld (hand_after p (OnLink (TakeLink k)) c.homes hand) w.rights w.hands) now now)
+  keeps_held (OnLink (FinishLink k)) may = in_hand_held (hand_after p (OnLink (FinishLink k)) c.homes hand) v.rights v.hands may.2 (finish_in_hand p c.homes k hand v.hands (in_hand may.2))
+  keeps_held (OnLink (PutLink k)) may = in_hand_held (hand_after p (OnLink (PutLink k)) c.homes hand) v.rights (without_hand v k).hands may.2 (put_in_hand v k hand (in_hand may.2) may.1)
+  keeps_held (OnSlot (LookWord id)) may = let j : ℕ = socket_id_slot id in let w : ℕ = found (OnSlot (LookWord id)) in
       ⊎_elim
       (λ none_. subst (λ rs. Holds p v hand held (by_right rs (looked_clean j w v) (looked j w v))) (sym none_) held)
       (λ mine. of_right p v hand held mine.0 mine.1 (looked_clean j w v) (looked j w v) (looks_held p v hand held j w mine.0 mine.1))
       may.1
-  keeps_held (SwapHead j own) may = let n : ℕ = found (SwapHead j own) in let g : Hand = hand_at p c.words c.homes (SwapHead j own) in
+  keeps_held (OnChain (SwapHead j own)) may = let n : ℕ = found (OnChain (SwapHead j own)) in let g : Hand = hand_at p c.words c.homes (OnChain (SwapHead j own)) in
       claim_way (Holds p v hand held) v.claims (exchanged n g v) v held (exchanges_way (Holds p v hand held) v held (λ d m. held) (λ d m sent l. held) n g)
-  keeps_held (EmptyHead j last) may = let r : Right = may.1.0.mine.right in let w : ℕ = found (EmptyHead j last) in
+  keeps_held (OnChain (EmptyHead j last)) may = let r : Right = may.1.0.mine.right in let w : ℕ = found (OnChain (EmptyHead j last)) in
       of_right p v hand held r may.1.1 (emptied last w v) v
       (either_way (w == last) (without_right v r.link) (with_right v (record r { stage = Reversing w w 0 })) (Holds p v hand held) (gone_held p v hand held r may.1.1 may.1.0.link_home) (stage_held p v hand held r may.1.1 (Reversing w w 0)))
-  keeps_held (ReadNext q) may = of_right p v hand held may.0 may.1 (λ r. read_next (found (ReadNext q)) v r r.stage) v (reads_held p v hand held (found (ReadNext q)) may.0 may.1 may.0.stage)
-  keeps_held (ReverseNext q value) may = let r : Right = may.0.mine.right in of_right p v hand held r may.1 (λ r. turned_next v r r.stage) v (turns_held p v hand held r may.1 r.stage)
-  keeps_held (FreeRequest q g) may = let r : Right = may.4.0 in of_right p v hand held r may.4.1 (freed_next v) v (stage_held p v hand held r may.4.1 (freed_stage r.stage))
-  keeps_held (StorePlace l k n) may = let r : Right = may.0.mine.right in of_right p v hand held r may.1 (λ r. placed_next v r r.stage) v (places_held p v hand held r may.1 may.5 r.stage)
-  keeps_held (DropPlace l k n) may = let r : Right = may.0.mine.right in of_right p v hand held r may.1 (λ r. dropped_next v r r.stage) v (drops_held p v hand held r may.1 r.stage)
+  keeps_held (OnChain (ReadNext q)) may = of_right p v hand held may.0 may.1 (λ r. read_next (found (OnChain (ReadNext q))) v r r.stage) v (reads_held p v hand held (found (OnChain (ReadNext q))) may.0 may.1 may.0.stage)
+  keeps_held (OnChain (ReverseNext q value)) may = let r : Right = may.0.mine.right in of_right p v hand held r may.1 (λ r. turned_next v r r.stage) v (turns_held p v hand held r may.1 r.stage)
+  keeps_held (OnChain (FreeRequest q g)) may = let r : Right = may.4.0 in of_right p v hand held r may.4.1 (freed_next v) v (stage_held p v hand held r may.4.1 (freed_stage r.stage))
+  keeps_held (OnPlace (StorePlace l k n)) may = let r : Right = may.0.mine.right in of_right p v hand held r may.1 (λ r. placed_next v r r.stage) v (places_held p v hand held r may.1 may.5 r.stage)
+  keeps_held (OnPlace (DropPlace l k n)) may = let r : Right = may.0.mine.right in of_right p v hand held r may.1 (λ r. dropped_next v r r.stage) v (drops_held p v hand held r may.1 r.stage)
   keeps_held call may = still call refl refl

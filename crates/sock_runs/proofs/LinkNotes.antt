@@ -15,7 +15,7 @@ use Rattle.sock_model.specs.SlotRows.{marks_of}
 use Rattle.sock_steps.specs.slot_steps.proofs.SlotWeightSums.{about-other}
 use Rattle.sock_steps.specs.slot_steps.proofs.RuleNumbers.{pair_is}
 use Rattle.sock_steps.proofs.SumsAsMarksChange.{Less, More, less_add, less_without}
-use Rattle.seat_programs.specs.TableSteps.{TableStep, CreateLife}
+use Rattle.seat_programs.specs.TableSteps.{TableStep, OnSlot, CreateLife}
 use Rattle.seat_programs.specs.StepTables.{row}
 use Rattle.sock_runs.proofs.NotesOfSteps.{bears, IsKept, IsOfBirth, notes_stay, births_note}
 use Rattle.sock_words.specs.PackedWords.{vref_version}
@@ -44,9 +44,9 @@ module _ (p : Plan) (v : View) (found : ℕ) (hand : Hand) where
     links_only call no_birth = births_note p v found hand (is_linked h l) of_birth call no_birth
 
     -- and a birth notes one
-    pub birth_links : (i k : ℕ) (j : ℕ) → ((j ≡ i) × (h ≡ vref_version found) × (l ≡ k)) ⊎ (marks_of (is_linked h l) j (row p (CreateLife i k) found hand v) ≤ marks_of (is_linked h l) j v)
+    pub birth_links : (i k : ℕ) (j : ℕ) → ((j ≡ i) × (h ≡ vref_version found) × (l ≡ k)) ⊎ (marks_of (is_linked h l) j (row p (OnSlot (CreateLife i k)) found hand v) ≤ marks_of (is_linked h l) j v)
     birth_links i k j = let g : ℕ = vref_version found in let left : List SlotMark = without_at i (is_stage 3 k) v.marks in
-        let far : is_linked h l (Linked g k) ≡ 0 → marks_of (is_linked h l) j (row p (CreateLife i k) found hand v) ≤ marks_of (is_linked h l) j v =
+        let far : is_linked h l (Linked g k) ≡ 0 → marks_of (is_linked h l) j (row p (OnSlot (CreateLife i k)) found hand v) ≤ marks_of (is_linked h l) j v =
         λ none_. less_add (is_linked h l) v.marks i (Known g) (at i (Born g) ∷ at i (Linked g k) ∷ left) refl (less_add (is_linked h l) v.marks i (Born g) (at i (Linked g k) ∷ left) refl (less_add (is_linked h l) v.marks i (Linked g k) left none_ (less_without (is_linked h l) v.marks i (is_stage 3 k)))) j in
         dite (ℕ_discrete h g)
         (λ same. dite (ℕ_discrete l k)

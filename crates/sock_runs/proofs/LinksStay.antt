@@ -11,7 +11,7 @@ use Rattle.sock_model.specs.MarkWeights.{is_hold, is_linked}
 use Rattle.sock_model.specs.SocketSlotLaw.{count, live}
 use Rattle.sock_model.specs.References.{slot_facts}
 use Rattle.sock_steps.proofs.LifeLinkSlotPlaces.{counts, own_count}
-use Rattle.seat_programs.specs.TableSteps.{FindLink}
+use Rattle.seat_programs.specs.TableSteps.{OnSlot, FindLink}
 use Rattle.seat_programs.specs.Cores.{Core, found_at, words_after, homes_after}
 use Rattle.seat_programs.specs.StepTables.{word_of, word_after}
 use Rattle.seat_programs.specs.Ticks.{Moment, ticked, run, IsAnswered, AreAnswered}
@@ -41,7 +41,7 @@ module _ (p : Plan) (i h k : ℕ) where
   run_given go c vs (m ∷ ms) sound answered fitting given = run_given go (ticked p c m) (views_after p c vs m) ms (sound_ticks p go c vs m sound answered.0 fitting.0) answered.1 fitting.1 (given_ticks c vs m sound answered.0 fitting.0 given)
 
 -- whoever holds a life finds its link
-pub finds_given : (p : Plan) (c : Core) (vs : List View) → Sound p c vs → (j : ℕ) (v : View) → get_elem? vs j ≡ some v → (i h : ℕ) → May p v (FindLink i h) → IsGiven c vs i h (get_or c.words (link_index i) 0)
+pub finds_given : (p : Plan) (c : Core) (vs : List View) → Sound p c vs → (j : ℕ) (v : View) → get_elem? vs j ≡ some v → (i h : ℕ) → May p v (OnSlot (FindLink i h)) → IsGiven c vs i h (get_or c.words (link_index i) 0)
 finds_given p c vs sound j v at i h may = let l = law p (state c vs) sound.lawful.references i may.0 in let le = lives_le p (state c vs) sound.lawful.references i may.0 in
     let some_ : 0 < count (is_hold h) (slot_facts (state c vs) i) = (let m = may.1 in omega (arith, m, own_count (state c vs) j v at (is_hold h) i)) in
     let held = l.held h some_ in let last = held.0 in let even = held.1 in dite (ℕ_discrete (live (slot_facts (state c vs) i)) 0)

@@ -21,7 +21,7 @@ use Rattle.sock_steps.specs.slot_steps.proofs.OtherSlotsUntouched.{apart}
 use Rattle.sock_steps.specs.slot_steps.proofs.Stored.{noted-else, noted-here}
 use Rattle.sock_steps.proofs.Steady.{wrote_steady}
 use Rattle.sock_steps.proofs.SlotSteps.{slot_law, idle_law, find_law, store_name_law, store_open_law}
-use Rattle.seat_programs.specs.TableSteps.{StoreName, LoadName, StoreOpen, LoadOpen}
+use Rattle.seat_programs.specs.TableSteps.{OnName, StoreName, LoadName, StoreOpen, LoadOpen}
 use Rattle.seat_programs.specs.StepsOfNames.{is_id, found_id}
 use Rattle.seat_programs.specs.StepTables.{May}
 use Rattle.program_steps.proofs.LifeIdWords.{id_some, id_socket}
@@ -39,13 +39,13 @@ module _ (p : Plan) (s : State Home View) (o : Lawful (λ home. home) p s) (i : 
       subst (λ b. Lawful (λ home. home) p (stepped s x found i [] (cond b (met (socket_id_slot (found - 1)) (socket_id_version (found - 1)) v) v) keeps)) (sym is)
       (idle_law (λ home. home) p s o i v at x)
 
-  pub load_names : (n : ℕ) → May p v (LoadName n) → KeepsWord p s i v (LoadName n)
+  pub load_names : (n : ℕ) → May p v (OnName (LoadName n)) → KeepsWord p s i v (OnName (LoadName n))
   load_names n may = loads (name_index p n) (omega arith) (λ j jl e. omega arith) (λ _. o.references.named.names n may) (is_id (get_or s.words (name_index p n) 0)) refl
 
-  pub load_opens : (n : ℕ) → May p v (LoadOpen n) → KeepsWord p s i v (LoadOpen n)
+  pub load_opens : (n : ℕ) → May p v (OnName (LoadOpen n)) → KeepsWord p s i v (OnName (LoadOpen n))
   load_opens n may = loads (open_index p n) (omega arith) (λ j jl e. omega arith) (λ b. o.references.named.opens n may (id_socket (get_or s.words (open_index p n) 0) b)) (is_id (get_or s.words (open_index p n) 0)) refl
 
-  pub store_names : (n w : ℕ) → May p v (StoreName n w) → KeepsWord p s i v (StoreName n w)
+  pub store_names : (n w : ℕ) → May p v (OnName (StoreName n w)) → KeepsWord p s i v (OnName (StoreName n w))
   store_names n w may = store_name_law (λ home. home) p s o i v at (socket_id_slot (w - 1)) may.2.0 n w may.0 refl may.2.1
 
   -- an `open` that got no slot
@@ -71,7 +71,7 @@ module _ (p : Plan) (s : State Home View) (o : Lawful (λ home. home) p s) (i : 
         };
       }
 
-  pub store_opens : (n w : ℕ) → May p v (StoreOpen n w) → KeepsWord p s i v (StoreOpen n w)
+  pub store_opens : (n w : ℕ) → May p v (OnName (StoreOpen n w)) → KeepsWord p s i v (OnName (StoreOpen n w))
   store_opens n w may = ⊎_elim
-      (λ e. subst (λ z. KeepsWord p s i v (StoreOpen n z)) (sym e) (slot_law (λ home. home) p s o i v at (open_index p n) NO_SOCKET (omega arith) (λ j jl q. omega arith) (wrote (open_index p n) NO_SOCKET v) refl (wrote_steady v (open_index p n) NO_SOCKET) (no_socket_refs n may.0)))
+      (λ e. subst (λ z. KeepsWord p s i v (OnName (StoreOpen n z))) (sym e) (slot_law (λ home. home) p s o i v at (open_index p n) NO_SOCKET (omega arith) (λ j jl q. omega arith) (wrote (open_index p n) NO_SOCKET v) refl (wrote_steady v (open_index p n) NO_SOCKET) (no_socket_refs n may.0)))
       (λ k. store_open_law (λ home. home) p s o i v at (socket_id_slot (w - 1)) k.1.0 n w may.0 (inr (refl, k.1.1))) may.1

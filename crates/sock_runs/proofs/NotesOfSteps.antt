@@ -17,7 +17,7 @@ use Rattle.sock_steps.specs.slot_steps.proofs.SlotWeightSums.{about-other}
 use Rattle.sock_steps.specs.slot_steps.proofs.RuleNumbers.{only-else}
 use Rattle.sock_steps.specs.slot_steps.proofs.ReferenceStepsKeepSlot.{stage_is, hold_is, probe_is}
 use Rattle.sock_steps.proofs.SumsAsMarksChange.{either_way, Less, More, less_add, less_all, less_without, more_add, more_all, more_without}
-use Rattle.seat_programs.specs.TableSteps.{TableStep, CreateLife, SubRef}
+use Rattle.seat_programs.specs.TableSteps.{TableStep, OnSlot, CreateLife, SubRef}
 use Rattle.seat_programs.specs.StepTables.{row}
 use Rattle.program_steps.proofs.Marking.{is_taken, is_of_birth, marks_way}
 use Rattle.sock_words.specs.PackedWords.{vref_version, vref_nref}
@@ -25,7 +25,7 @@ use Rattle.sock_words.specs.Totals.{total}
 
 -- the slot in which a step makes a life
 abbrev pub bears : TableStep → Option ℕ
-bears (CreateLife i k) = some i
+bears (OnSlot (CreateLife i k)) = some i
 bears _ = none
 
 -- the marks that a step may take away
@@ -67,9 +67,9 @@ module _ (p : Plan) (v : View) (found : ℕ) (hand : Hand) where
 
     -- what was noted stays
     pub notes_stay : (call : TableStep) → More f v.marks (row p call found hand v).marks
-    notes_stay (CreateLife i k) = let g : ℕ = vref_version found in let left : List SlotMark = without_at i (is_stage 3 k) v.marks in
+    notes_stay (OnSlot (CreateLife i k)) = let g : ℕ = vref_version found in let left : List SlotMark = without_at i (is_stage 3 k) v.marks in
         add i (Known g) (at i (Born g) ∷ at i (Linked g k) ∷ left) (add i (Born g) (at i (Linked g k) ∷ left) (add i (Linked g k) left (drop i (is_stage 3 k) (λ x q. none_ x (ap may_go (stage_is 3 k x q))))))
-    notes_stay (SubRef i) = let w : ℕ = vref_version found in let left : List SlotMark = without_at i (back i found v) v.marks in
+    notes_stay (OnSlot (SubRef i)) = let w : ℕ = vref_version found in let left : List SlotMark = without_at i (back i found v) v.marks in
         either_way (w % 2 == 1) (cond (vref_nref found == 1) (at i (Zero w) ∷ left) left) left Stay (either_way (vref_nref found == 1) (at i (Zero w) ∷ left) left Stay (add i (Zero w) left (back_out i)) (back_out i)) (back_out i)
     notes_stay call = marks_way p v found hand Stay same (λ i m new other stay. add i m new stay) (λ i g taken. drop i g (λ x q. none_ x (goes x (taken x q)))) call refl
 
@@ -82,8 +82,8 @@ module _ (p : Plan) (v : View) (found : ℕ) (hand : Hand) where
 
     -- a step that makes no life notes none
     pub births_note : (call : TableStep) → bears call ≡ none → Less f v.marks (row p call found hand v).marks
-    births_note (CreateLife i k) no_birth = absurd (some-ne-none i no_birth)
-    births_note (SubRef i) no_birth = let w : ℕ = vref_version found in let left : List SlotMark = without_at i (back i found v) v.marks in let fewer = less_without f v.marks i (back i found v) in
+    births_note (OnSlot (CreateLife i k)) no_birth = absurd (some-ne-none i no_birth)
+    births_note (OnSlot (SubRef i)) no_birth = let w : ℕ = vref_version found in let left : List SlotMark = without_at i (back i found v) v.marks in let fewer = less_without f v.marks i (back i found v) in
         either_way (w % 2 == 1) (cond (vref_nref found == 1) (at i (Zero w) ∷ left) left) left Fewer
         (either_way (vref_nref found == 1) (at i (Zero w) ∷ left) left Fewer (less_add f v.marks i (Zero w) left (none_ (Zero w) refl) fewer) fewer) fewer
     births_note call no_birth = marks_way p v found hand Fewer as_many (λ i m new other fewer. less_add f v.marks i m new (none_ m other) fewer) (λ i g taken. less_without f v.marks i g) call refl
@@ -106,7 +106,7 @@ module _ (p : Plan) (v : View) (found : ℕ) (hand : Hand) where
     births_only call no_birth = births_note (is_born h) of_birth call no_birth
 
     -- and a birth notes one life
-    pub birth_notes : (i k : ℕ) (j : ℕ) → ((j ≡ i) × (h ≡ vref_version found)) ⊎ (marks_of (is_born h) j (row p (CreateLife i k) found hand v) ≤ marks_of (is_born h) j v)
+    pub birth_notes : (i k : ℕ) (j : ℕ) → ((j ≡ i) × (h ≡ vref_version found)) ⊎ (marks_of (is_born h) j (row p (OnSlot (CreateLife i k)) found hand v) ≤ marks_of (is_born h) j v)
     birth_notes i k j = let g : ℕ = vref_version found in let left : List SlotMark = without_at i (is_stage 3 k) v.marks in
         dite (ℕ_discrete h g) (λ same. dite (ℕ_discrete j i) (λ here. inl (here, same))
         (λ far. inr (omega (arith, ap (total (is_born h)) (about-other j i (Known g) (at i (Born g) ∷ at i (Linked g k) ∷ left) far), ap (total (is_born h)) (about-other j i (Born g) (at i (Linked g k) ∷ left) far), ap (total (is_born h)) (about-other j i (Linked g k) left far), less_without (is_born h) v.marks i (is_stage 3 k) j))))

@@ -15,7 +15,7 @@ use Rattle.seat_programs.specs.sock_io.specs.declared.link.Ready.{Ready}
 use Rattle.sock_model.specs.declared.home.Home.{Home}
 use Rattle.sock_model.specs.UnplacedMessages.{HeadedBytes}
 use Rattle.sock_model.specs.ChainLawReads.{message, link_home}
-use Rattle.seat_programs.specs.TableSteps.{kind_of}
+use Rattle.seat_programs.specs.StepTables.{kind_of}
 use Rattle.seat_programs.specs.Programs.{Program, Do, TakeMessage, TakeHome, PutHome, PutBytes, AskReady, Write, Aside, Round}
 use Rattle.seat_programs.specs.Asides.{Step, Found, kind_aside}
 use Rattle.seat_programs.specs.FoundAndChangedAside.{found_in}

@@ -13,7 +13,7 @@ use Rattle.sock_model.specs.SocketSlotLaw.{count, live}
 use Rattle.sock_model.specs.References.{slot_facts}
 use Rattle.sock_steps.specs.slot_steps.proofs.RuleNumbers.{life_is, or-even, or-odd}
 use Rattle.sock_steps.proofs.LifeLinkSlotPlaces.{own_count}
-use Rattle.seat_programs.specs.TableSteps.{TableStep, CreateLife, AddRef, SubRef, SetOdd, Recycle, LookWord}
+use Rattle.seat_programs.specs.TableSteps.{TableStep, OnSlot, CreateLife, AddRef, SubRef, SetOdd, Recycle, LookWord}
 use Rattle.seat_programs.specs.Cores.{Core, found_at, words_after}
 use Rattle.seat_programs.specs.TableWords.{RefOf}
 use Rattle.seat_programs.specs.StepTables.{word_of, word_after, hand_at, May, Finds}
@@ -61,12 +61,12 @@ module _ (p : Plan) (c : Core) (vs : List View) (sound : Sound p c vs) (i : ℕ)
 
   -- a version never goes back
   pub versions_on : (call : TableStep) → May p v call → (j : ℕ) → j < p.slots → GoesOn call j
-  versions_on (CreateLife n k) may j inside = let f = (found (CreateLife n k) may).0 in own j n (get_or c.words (ref_index n) 0 + 1) inside (omega (arith, f))
-  versions_on (AddRef id) may j inside = let f = found (AddRef id) may in own j (socket_id_slot id) (get_or c.words (ref_index (socket_id_slot id)) 0 + 1) inside (omega (arith, f))
-  versions_on (SubRef n) may j inside = let f = (found (SubRef n) may).0 in let m = may.1 in own j n (get_or c.words (ref_index n) 0 - 1) inside (omega (arith, f, m))
-  versions_on (SetOdd n) may j inside = own j n (bit_or (get_or c.words (ref_index n) 0) 4294967296) inside (set_version (get_or c.words (ref_index n) 0))
-  versions_on (Recycle n from) may j inside = own j n (word_after (Recycle n from) (get_or c.words (ref_index n) 0)) inside (recycled_version (get_or c.words (ref_index n) 0) from)
-  versions_on (LookWord id) may j inside = let e = ap (λ l. vref_version (get_or l (ref_index j) 0)) (load_leaves p c.words (some (RefOf (socket_id_slot id)))) in omega (arith, e)
+  versions_on (OnSlot (CreateLife n k)) may j inside = let f = (found (OnSlot (CreateLife n k)) may).0 in own j n (get_or c.words (ref_index n) 0 + 1) inside (omega (arith, f))
+  versions_on (OnSlot (AddRef id)) may j inside = let f = found (OnSlot (AddRef id)) may in own j (socket_id_slot id) (get_or c.words (ref_index (socket_id_slot id)) 0 + 1) inside (omega (arith, f))
+  versions_on (OnSlot (SubRef n)) may j inside = let f = (found (OnSlot (SubRef n)) may).0 in let m = may.1 in own j n (get_or c.words (ref_index n) 0 - 1) inside (omega (arith, f, m))
+  versions_on (OnSlot (SetOdd n)) may j inside = own j n (bit_or (get_or c.words (ref_index n) 0) 4294967296) inside (set_version (get_or c.words (ref_index n) 0))
+  versions_on (OnSlot (Recycle n from)) may j inside = own j n (word_after (OnSlot (Recycle n from)) (get_or c.words (ref_index n) 0)) inside (recycled_version (get_or c.words (ref_index n) 0) from)
+  versions_on (OnSlot (LookWord id)) may j inside = let e = ap (λ l. vref_version (get_or l (ref_index j) 0)) (load_leaves p c.words (some (RefOf (socket_id_slot id)))) in omega (arith, e)
   versions_on call may j inside = let e = ap vref_version (word_stays p c.words v call may (word_after call (found_at c.words (word_of p call))) (RefOf j) inside (omega arith) refl) in omega (arith, e)
 
   -- a life that was made is no later one than the slot's
@@ -75,7 +75,7 @@ module _ (p : Plan) (c : Core) (vs : List View) (sound : Sound p c vs) (i : ℕ)
       let t₁ = t.1 in let le = lives_le p (state c vs) sound.lawful.references j inside in (omega (arith, t₁, le), t.2)
 
   -- whoever sets a slot odd leaves each life made there behind
-  pub odd_past : (j h : ℕ) → j < p.slots → 0 < count (is_born h) (slot_facts (state c vs) j) → h < version_after (SetOdd j) j
+  pub odd_past : (j h : ℕ) → j < p.slots → 0 < count (is_born h) (slot_facts (state c vs) j) → h < version_after (OnSlot (SetOdd j)) j
   odd_past j h inside born = let b = born_low j h inside born in let low = b.0 in let even = b.1 in let w : ℕ = get_or c.words (ref_index j) 0 in
       let same = ap vref_version (get_or-set_same c.words (ref_index j) (bit_or (get_or c.words (ref_index j) 0) 4294967296) 0 (omega (arith, inside, sound.lawful.references.sized))) in
       dite (ℕ_discrete (get_or c.words (ref_index j) 0 / 4294967296 % 2) 0)
@@ -83,12 +83,12 @@ module _ (p : Plan) (c : Core) (vs : List View) (sound : Sound p c vs) (i : ℕ)
       (λ no_. let e = ap vref_version (or-odd (get_or c.words (ref_index j) 0) (omega (arith, no_))) in omega (arith, e, same, low, even, no_))
 
   -- who finds another version than that of a life that it knows finds a later one
-  pub other_past : (id : ℕ) → May p v (AddRef id) → version (socket_id_slot id) ≢ socket_id_version id → socket_id_version id < version_after (AddRef id) (socket_id_slot id)
+  pub other_past : (id : ℕ) → May p v (OnSlot (AddRef id)) → version (socket_id_slot id) ≢ socket_id_version id → socket_id_version id < version_after (OnSlot (AddRef id)) (socket_id_slot id)
   other_past id may far = let j : ℕ = socket_id_slot id in let h : ℕ = socket_id_version id in let l = law p (state c vs) sound.lawful.references (socket_id_slot id) may.0.0 in
       let some_ : 0 < count (is_known (socket_id_version id)) (slot_facts (state c vs) (socket_id_slot id)) = (let m = may.0.1 in omega (arith, m, own_count (state c vs) i v at (is_known (socket_id_version id)) (socket_id_slot id))) in
       let t = life_is p.first (socket_id_version id) ((slot_facts (state c vs) (socket_id_slot id)).version + live (slot_facts (state c vs) (socket_id_slot id))) (omega (arith, l.known (socket_id_version id) some_)) in
-      let t₁ = t.1 in let le = lives_le p (state c vs) sound.lawful.references (socket_id_slot id) may.0.0 in let on = versions_on (AddRef id) may (socket_id_slot id) may.0.0 in omega (arith, t₁, le, on, far)
+      let t₁ = t.1 in let le = lives_le p (state c vs) sound.lawful.references (socket_id_slot id) may.0.0 in let on = versions_on (OnSlot (AddRef id)) may (socket_id_slot id) may.0.0 in omega (arith, t₁, le, on, far)
 
   -- who looks at a life that it holds finds its version, where it finds an even one
-  pub look_holds : (id : ℕ) → May p v (LookWord id) → version (socket_id_slot id) % 2 ≡ 0 → version (socket_id_slot id) ≡ socket_id_version id
-  look_holds id may even = let f = (found (LookWord id) may).0 (socket_id_version id) may.2 in omega (arith, f, even)
+  pub look_holds : (id : ℕ) → May p v (OnSlot (LookWord id)) → version (socket_id_slot id) % 2 ≡ 0 → version (socket_id_slot id) ≡ socket_id_version id
+  look_holds id may even = let f = (found (OnSlot (LookWord id)) may).0 (socket_id_version id) may.2 in omega (arith, f, even)

@@ -15,7 +15,7 @@ use Rattle.sock_model.specs.declared.home.Home.{Home}
 use Rattle.sock_model.specs.UnplacedMessages.{HeadedBytes}
 use Rattle.sock_model.specs.ChainLawReads.{message, link_home}
 use Rattle.sock_model.specs.declared.view.View.{View}
-use Rattle.seat_programs.specs.TableSteps.{kind_of}
+use Rattle.seat_programs.specs.StepTables.{kind_of}
 use Rattle.seat_programs.specs.Programs.{Program, Do, Say, Sent, Rest, TakeMessage, TakeHome, PutHome, PutBytes, AskReady, Write, Aside, Round, Keep, Retries}
 use Rattle.seat_programs.specs.LoopHeads.{Retry}
 use Rattle.seat_programs.specs.Asides.{Step, Found, kind_aside}

@@ -10,7 +10,7 @@ use Rattle.sock_model.specs.declared.home.Home.TheVariants.{Link, Message}
 use Rattle.sock_model.specs.declared.view.View.{View}
 use Rattle.sock_model.specs.declared.view.Hand.{Hand}
 use Rattle.sock_model.specs.LawfulSockets.{Lawful}
-use Rattle.seat_programs.specs.TableSteps.{TableStep, ClaimSlot, CreateLife, AddRef, SubRef, SetOdd, Recycle, FreeSlot, StoreLink, LoadLink, ResetHead, ClearCode, StoreCode, StoreName, LoadName, StoreOpen, LoadOpen, TakeLink, FinishLink, PutLink, LookWord, FindLink, LoadCode, ClaimRequest, PutMessage, Unconnect, SwapHead, Connect, EmptyHead, ReadNext, ReverseNext, FreeRequest, StorePlace, DropPlace}
+use Rattle.seat_programs.specs.TableSteps.{TableStep, OnSlot, OnName, OnChain, OnPlace, OnLink, OnMessage, ClaimSlot, CreateLife, AddRef, SubRef, SetOdd, Recycle, FreeSlot, StoreLink, LoadLink, ResetHead, ClearCode, StoreCode, StoreName, LoadName, StoreOpen, LoadOpen, TakeLink, FinishLink, PutLink, LookWord, FindLink, LoadCode, ClaimRequest, PutMessage, Unconnect, SwapHead, Connect, EmptyHead, ReadNext, ReverseNext, FreeRequest, StorePlace, DropPlace}
 use Rattle.seat_programs.specs.Programs.{Program, Do}
 use Rattle.seat_programs.specs.Cores.{Core, SeatState, found_at, words_after, homes_after, hand_after, first_of, stepped}
 use Rattle.seat_programs.specs.StepTables.{word_of, word_after}
@@ -39,46 +39,46 @@ module _ (p : Plan) (c : Core) (vs : List View) (o : Lawful (λ home. home) p (s
 
   -- the rule holds behind the step
   keeps_rule : (call : TableStep) → May p v call → Lawful (λ home. home) p record { words = words_after c.words (word_of p call) (word_after call (found call)); homes = homes_after p call hand c.homes; views = set vs i (after call) }
-  keeps_rule (ClaimSlot j) may = slots.claims p (state c vs) o i v at j may
-  keeps_rule (CreateLife j k) may = slots.bears p (state c vs) o i v at j k may
-  keeps_rule (AddRef id) may = slots.adds p (state c vs) o i v at id may
-  keeps_rule (SubRef j) may = slots.subs p (state c vs) o i v at j may
-  keeps_rule (SetOdd j) may = slots.fails p (state c vs) o i v at j may
-  keeps_rule (Recycle j from) may = slots.recycles p (state c vs) o i v at j from may
-  keeps_rule (FreeSlot j) may = slots.frees p (state c vs) o i v at j may
-  keeps_rule (StoreLink j k) may = slots.links p (state c vs) o i v at j k may
-  keeps_rule (LoadLink j w) may = slots.meets p (state c vs) o i v at j w may
-  keeps_rule (ResetHead j k) may = slots.resets p (state c vs) o i v at j k may
-  keeps_rule (ClearCode j k) may = slots.wipes p (state c vs) o i v at j k may
-  keeps_rule (StoreCode j h d) may = slots.codes p (state c vs) o i v at j h d may
-  keeps_rule (StoreName n w) may = names.store_names p (state c vs) o i v at n w may
-  keeps_rule (LoadName n) may = names.load_names p (state c vs) o i v at n may
-  keeps_rule (StoreOpen n w) may = names.store_opens p (state c vs) o i v at n w may
-  keeps_rule (LoadOpen n) may = names.load_opens p (state c vs) o i v at n may
-  keeps_rule (TakeLink k) may = takes p (state c vs) o i v at hand k may
-  keeps_rule (FinishLink k) may = finishes p (state c vs) o i v at hand k
-  keeps_rule (PutLink k) may = let k_in = may.0 in puts p (state c vs) o i v at hand k (omega arith) (held_in_hand hand v.rights v.hands may.2 held) may.1
-  keeps_rule (LookWord id) may = chains.looks p (state c vs) o i v at id may
-  keeps_rule (FindLink j h) may = chains.finds_link p (state c vs) o i v at j h may
-  keeps_rule (LoadCode j h) may = chains.loads_code p (state c vs) o i v at j h may
-  keeps_rule (ClaimRequest id q) may = chains.claims_request p (state c vs) o i v at id q may
-  keeps_rule (PutMessage q heading bytes) may = let q_in = may.0 in chains.puts_message p (state c vs) o i v at hand q heading bytes (omega arith) may
-  keeps_rule (Unconnect q) may = chains.unconnects p (state c vs) o i v at q may
-  keeps_rule (SwapHead j own) may = chains.swaps_head p (state c vs) o i v at j own may
-  keeps_rule (Connect q before) may = chains.connects p (state c vs) o i v at q before may
-  keeps_rule (EmptyHead j last) may = chains.empties p (state c vs) o i v at j last may
-  keeps_rule (ReadNext q) may = chains.reads_next p (state c vs) o i v at q may
-  keeps_rule (ReverseNext q value) may = chains.turns_next p (state c vs) o i v at q value may
-  keeps_rule (FreeRequest q g) may = chains.frees_request p (state c vs) o i v at q g may
-  keeps_rule (StorePlace l k n) may = chains.stores_place p (state c vs) o i v at l k n may
-  keeps_rule (DropPlace l k n) may = chains.drops_place p (state c vs) o i v at l k n may
+  keeps_rule (OnSlot (ClaimSlot j)) may = slots.claims p (state c vs) o i v at j may
+  keeps_rule (OnSlot (CreateLife j k)) may = slots.bears p (state c vs) o i v at j k may
+  keeps_rule (OnSlot (AddRef id)) may = slots.adds p (state c vs) o i v at id may
+  keeps_rule (OnSlot (SubRef j)) may = slots.subs p (state c vs) o i v at j may
+  keeps_rule (OnSlot (SetOdd j)) may = slots.fails p (state c vs) o i v at j may
+  keeps_rule (OnSlot (Recycle j from)) may = slots.recycles p (state c vs) o i v at j from may
+  keeps_rule (OnSlot (FreeSlot j)) may = slots.frees p (state c vs) o i v at j may
+  keeps_rule (OnSlot (StoreLink j k)) may = slots.links p (state c vs) o i v at j k may
+  keeps_rule (OnSlot (LoadLink j w)) may = slots.meets p (state c vs) o i v at j w may
+  keeps_rule (OnSlot (ResetHead j k)) may = slots.resets p (state c vs) o i v at j k may
+  keeps_rule (OnSlot (ClearCode j k)) may = slots.wipes p (state c vs) o i v at j k may
+  keeps_rule (OnSlot (StoreCode j h d)) may = slots.codes p (state c vs) o i v at j h d may
+  keeps_rule (OnName (StoreName n w)) may = names.store_names p (state c vs) o i v at n w may
+  keeps_rule (OnName (LoadName n)) may = names.load_names p (state c vs) o i v at n may
+  keeps_rule (OnName (StoreOpen n w)) may = names.store_opens p (state c vs) o i v at n w may
+  keeps_rule (OnName (LoadOpen n)) may = names.load_opens p (state c vs) o i v at n may
+  keeps_rule (OnLink (TakeLink k)) may = takes p (state c vs) o i v at hand k may
+  keeps_rule (OnLink (FinishLink k)) may = finishes p (state c vs) o i v at hand k
+  keeps_rule (OnLink (PutLink k)) may = let k_in = may.0 in puts p (state c vs) o i v at hand k (omega arith) (held_in_hand hand v.rights v.hands may.2 held) may.1
+  keeps_rule (OnSlot (LookWord id)) may = chains.looks p (state c vs) o i v at id may
+  keeps_rule (OnSlot (FindLink j h)) may = chains.finds_link p (state c vs) o i v at j h may
+  keeps_rule (OnSlot (LoadCode j h)) may = chains.loads_code p (state c vs) o i v at j h may
+  keeps_rule (OnChain (ClaimRequest id q)) may = chains.claims_request p (state c vs) o i v at id q may
+  keeps_rule (OnMessage (PutMessage q heading bytes)) may = let q_in = may.0 in chains.puts_message p (state c vs) o i v at hand q heading bytes (omega arith) may
+  keeps_rule (OnChain (Unconnect q)) may = chains.unconnects p (state c vs) o i v at q may
+  keeps_rule (OnChain (SwapHead j own)) may = chains.swaps_head p (state c vs) o i v at j own may
+  keeps_rule (OnChain (Connect q before)) may = chains.connects p (state c vs) o i v at q before may
+  keeps_rule (OnChain (EmptyHead j last)) may = chains.empties p (state c vs) o i v at j last may
+  keeps_rule (OnChain (ReadNext q)) may = chains.reads_next p (state c vs) o i v at q may
+  keeps_rule (OnChain (ReverseNext q value)) may = chains.turns_next p (state c vs) o i v at q value may
+  keeps_rule (OnChain (FreeRequest q g)) may = chains.frees_request p (state c vs) o i v at q g may
+  keeps_rule (OnPlace (StorePlace l k n)) may = chains.stores_place p (state c vs) o i v at l k n may
+  keeps_rule (OnPlace (DropPlace l k n)) may = chains.drops_place p (state c vs) o i v at l k n may
 
 -- ## All seats
 
 pub homes_sized : (p : Plan) (call : TableStep) (hand : List Home) (hs : List (Option Home)) → length (homes_after p call hand hs) ≡ length hs
-homes_sized p (TakeLink k) hand hs = length-set hs (p.requests + k) none
-homes_sized p (PutLink k) hand hs = length-set hs (p.requests + k) (first_of hand)
-homes_sized p (PutMessage q heading bytes) hand hs = length-set hs q (some (Message heading bytes))
+homes_sized p (OnLink (TakeLink k)) hand hs = length-set hs (p.requests + k) none
+homes_sized p (OnLink (PutLink k)) hand hs = length-set hs (p.requests + k) (first_of hand)
+homes_sized p (OnMessage (PutMessage q heading bytes)) hand hs = length-set hs q (some (Message heading bytes))
 homes_sized p _ hand hs = refl
 
 -- a message in hand is none of those that go home
@@ -88,9 +88,9 @@ first_link (x ∷ xs) [] are heading bytes e = are
 first_link (x ∷ xs) (h ∷ hs) are heading bytes e = let q : Link h.link h.took h.next are.0.0 ≡ Message heading bytes = sym are.0.1 ∙ some-injective x (Message heading bytes) e in cc
 
 labels_stay : (p : Plan) (v : View) (call : TableStep) → May p v call → (hand : List Home) → AreHeld hand v.rights v.hands → (hs : List (Option Home)) → AreLabelled p hs → AreLabelled p (homes_after p call hand hs)
-labels_stay p v (TakeLink k) may hand held hs labels i heading bytes at = ⊎_elim (λ a. absurd (some-ne-none (Message heading bytes) (sym a.1))) (λ a. labels i heading bytes a.1) (at_set hs (p.requests + k) i none (some (Message heading bytes)) at)
-labels_stay p v (PutLink k) may hand held hs labels i heading bytes at = ⊎_elim (λ a. absurd (first_link hand v.hands (held_in_hand hand v.rights v.hands may.2 held) heading bytes a.1)) (λ a. labels i heading bytes a.1) (at_set hs (p.requests + k) i (first_of hand) (some (Message heading bytes)) at)
-labels_stay p v (PutMessage q l cs) may hand held hs labels i heading bytes at = ⊎_elim
+labels_stay p v (OnLink (TakeLink k)) may hand held hs labels i heading bytes at = ⊎_elim (λ a. absurd (some-ne-none (Message heading bytes) (sym a.1))) (λ a. labels i heading bytes a.1) (at_set hs (p.requests + k) i none (some (Message heading bytes)) at)
+labels_stay p v (OnLink (PutLink k)) may hand held hs labels i heading bytes at = ⊎_elim (λ a. absurd (first_link hand v.hands (held_in_hand hand v.rights v.hands may.2 held) heading bytes a.1)) (λ a. labels i heading bytes a.1) (at_set hs (p.requests + k) i (first_of hand) (some (Message heading bytes)) at)
+labels_stay p v (OnMessage (PutMessage q l cs)) may hand held hs labels i heading bytes at = ⊎_elim
     (λ a. let e : Message l cs ≡ Message heading bytes = some-injective (Message l cs) (Message heading bytes) a.1 in let q = same_message l cs heading bytes e in (subst (λ (z : Heading). z.label.place < 8 * p.operations) q.0 may.2, subst (λ (z : List ℕ). z ≢ []) q.1 may.3))
     (λ a. labels i heading bytes a.1) (at_set hs q i (some (Message l cs)) (some (Message heading bytes)) at)
 labels_stay p v _ may hand held hs labels i heading bytes at = labels i heading bytes at

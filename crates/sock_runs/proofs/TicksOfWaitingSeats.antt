@@ -39,7 +39,7 @@ use Rattle.seat_programs.specs.LoopHeads.{Head, Exit, Retry, Sought, Locks, Join
 use Rattle.seat_programs.specs.PostPrograms.{is_sought, locking}
 use Rattle.seat_programs.specs.ReaderProgram.{took, discarded}
 use Rattle.seat_programs.specs.Programs.{Program, Do, Say, Sent, TakeMessage, Write, Round, Keep, Retries}
-use Rattle.seat_programs.specs.TableSteps.{ReverseNext}
+use Rattle.seat_programs.specs.TableSteps.{OnChain, ReverseNext}
 use Rattle.seat_programs.specs.Cores.{Core, SeatState, with_seat}
 use Rattle.seat_programs.specs.Ticks.{Answer, OfReady, OfTake, Moment, tick_with, ticked, IsAnswered, IsAlwaysReady, waits_at, waits_in, waits}
 use Rattle.seat_programs.specs.ScheduledRuns.{IsAtRest}
@@ -67,7 +67,7 @@ module _ (p : Plan) (i : ℕ) (seat : SeatState) (c : Core) where
   walk_stays : (h : heads.Holder) (top place after : ℕ) (then_ : Program) (answer : Answer) → waits_at p c answer (Write (heads.Reversing h top place after) then_) ≡ true
       → tick_with p i seat c answer (Write (heads.Reversing h top place after) then_) ≡ with_program (Write (heads.Reversing h top place after) then_)
   walk_stays h top place after then_ answer is = let found : ℕ = slice_index c.words (next_index p (ticket_request place)) in
-      ap₂ (λ (b : Bool) (ws : List ℕ). with_seat i (cond b (Write (heads.Reversing h top place after) then_) (Do (ReverseNext (ticket_request place) after) (λ _. cond (eqb found h.last)
+      ap₂ (λ (b : Bool) (ws : List ℕ). with_seat i (cond b (Write (heads.Reversing h top place after) then_) (Do (OnChain (ReverseNext (ticket_request place) after)) (λ _. cond (eqb found h.last)
       (TakeMessage (ticket_request place) (λ heading bytes. Write (heads.Puts (record h { last = top }) place heading bytes 0 false) then_)) (Write (heads.Reversing h top found place) then_)))) seat.hand ws c.homes c)
       is (set-get_or c.words (next_index p (ticket_request place)) 0) ∙ again (Write (heads.Reversing h top place after) then_) refl
 

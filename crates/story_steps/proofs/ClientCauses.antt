@@ -9,7 +9,7 @@ use Rattle.corr_core.specs.declared.marks.Plan.{Plan as IdPlan}
 use Rattle.seat_programs.specs.declared.task.Op.{Op}
 use Rattle.seat_programs.specs.declared.task.Op.TheVariants as ops
 use Rattle.seat_programs.specs.declared.task.Task.{Task}
-use Rattle.seat_programs.specs.TableSteps.{ClaimSlot, StoreLink, ResetHead, ClearCode, CreateLife, StoreOpen, StoreName, TakeLink, FinishLink, PutLink}
+use Rattle.seat_programs.specs.TableSteps.{OnSlot, OnName, OnLink, ClaimSlot, StoreLink, ResetHead, ClearCode, CreateLife, StoreOpen, StoreName, TakeLink, FinishLink, PutLink}
 use Rattle.seat_programs.specs.Programs.{Program, Do, Say, Sent, release, add_reference, find_socket, set_failed, open_from, fail_outcome, fail}
 use Rattle.seat_programs.specs.SendAndWritePrograms.{accept, heading_of, claim_from, start, send}
 use Rattle.seat_programs.specs.ClientProgram.{HeldLife, held_under, without_name, give_back, drop_of, operation, client_from, ending_of}
@@ -66,27 +66,27 @@ module _ (p : Plan) (q : IdPlan) (clients : List (List Task)) (gives : ℕ → L
 
     open_says : (name k : ℕ) → t.op ≡ ops.Open name k → (next : Program) → Ends w (with_done t ts m) next → (more i : ℕ) → Next w m (open_from more i t.number name k next)
     open_says name k op next goes zero i = let said : Program = Say t.number outcomes.SlotsFull next in
-        let stored : Program = Do (StoreOpen t.number NO_SOCKET) (λ _. said) in
-        let back : Program = Do (PutLink k) (λ _. stored) in
-        let finish : Program = Do (FinishLink k) (λ _. back) in
-        then_does p q clients gives w m (TakeLink k) (λ _. finish) tt
-        (λ _. then_does p q clients gives w m (FinishLink k) (λ _. back) tt
-        (λ _. then_does p q clients gives w m (PutLink k) (λ _. stored) tt
-        (λ _. then_does p q clients gives w m (StoreOpen t.number NO_SOCKET) (λ _. said) tt (λ _ v l s. says (ops.Open name k) op outcomes.SlotsFull next goes v m l s.1 self tt tt))))
+        let stored : Program = Do (OnName (StoreOpen t.number NO_SOCKET)) (λ _. said) in
+        let back : Program = Do (OnLink (PutLink k)) (λ _. stored) in
+        let finish : Program = Do (OnLink (FinishLink k)) (λ _. back) in
+        then_does p q clients gives w m (OnLink (TakeLink k)) (λ _. finish) tt
+        (λ _. then_does p q clients gives w m (OnLink (FinishLink k)) (λ _. back) tt
+        (λ _. then_does p q clients gives w m (OnLink (PutLink k)) (λ _. stored) tt
+        (λ _. then_does p q clients gives w m (OnName (StoreOpen t.number NO_SOCKET)) (λ _. said) tt (λ _ v l s. says (ops.Open name k) op outcomes.SlotsFull next goes v m l s.1 self tt tt))))
     open_says name k op next goes (suc more) i = let said : ℕ → Program = λ born. Say t.number (outcomes.Opened i (vref_version born) k) next in
-        let named : ℕ → Program = λ born. Do (StoreName name (socket_id (vref_version born) i + 1)) (λ _. said born) in
-        let stored : ℕ → Program = λ born. Do (StoreOpen t.number (socket_id (vref_version born) i + 1)) (λ _. named born) in
-        let made : Program = Do (CreateLife i k) stored in
-        let cleared : Program = Do (ClearCode i k) (λ _. made) in
-        let reset : Program = Do (ResetHead i k) (λ _. cleared) in
-        let linked : Program = Do (StoreLink i k) (λ _. reset) in
+        let named : ℕ → Program = λ born. Do (OnName (StoreName name (socket_id (vref_version born) i + 1))) (λ _. said born) in
+        let stored : ℕ → Program = λ born. Do (OnName (StoreOpen t.number (socket_id (vref_version born) i + 1))) (λ _. named born) in
+        let made : Program = Do (OnSlot (CreateLife i k)) stored in
+        let cleared : Program = Do (OnSlot (ClearCode i k)) (λ _. made) in
+        let reset : Program = Do (OnSlot (ResetHead i k)) (λ _. cleared) in
+        let linked : Program = Do (OnSlot (StoreLink i k)) (λ _. reset) in
         let others : Program = open_from more (i + 1) t.number name k next in
-        then_does p q clients gives w m (ClaimSlot i) (λ found. cond (found == 0) linked others) tt (λ found. then_way p q clients gives w m (found == 0) linked others
-        (λ _. then_does p q clients gives w m (StoreLink i k) (λ _. reset) tt
-        (λ _. then_does p q clients gives w m (ResetHead i k) (λ _. cleared) tt
-        (λ _. then_does p q clients gives w m (ClearCode i k) (λ _. made) tt
-        (λ _. then_does p q clients gives w m (CreateLife i k) stored tt
-        (λ born. then_does p q clients gives w m (StoreOpen t.number (socket_id (vref_version born) i + 1)) (λ _. named born) tt
+        then_does p q clients gives w m (OnSlot (ClaimSlot i)) (λ found. cond (found == 0) linked others) tt (λ found. then_way p q clients gives w m (found == 0) linked others
+        (λ _. then_does p q clients gives w m (OnSlot (StoreLink i k)) (λ _. reset) tt
+        (λ _. then_does p q clients gives w m (OnSlot (ResetHead i k)) (λ _. cleared) tt
+        (λ _. then_does p q clients gives w m (OnSlot (ClearCode i k)) (λ _. made) tt
+        (λ _. then_does p q clients gives w m (OnSlot (CreateLife i k)) stored tt
+        (λ born. then_does p q clients gives w m (OnName (StoreOpen t.number (socket_id (vref_version born) i + 1))) (λ _. named born) tt
         (λ _ v l _. (some_word (vref_version born) i, λ _ v2 l2 s2 is_named. says (ops.Open name k) op (outcomes.Opened i (vref_version born) k) next goes v2 m (far p q clients gives w v v2 l l2) s2.1 self is_named tt)))))))
         (λ _. open_says name k op next goes more (i + 1)))
 

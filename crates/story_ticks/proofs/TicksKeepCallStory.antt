@@ -17,7 +17,7 @@ use Rattle.sock_model.specs.ChainLawReads.{message, link_home}
 use Rattle.corr_core.specs.declared.marks.Plan.{Plan as IdPlan}
 use Rattle.seat_programs.specs.declared.task.Op.TheVariants as ops
 use Rattle.seat_programs.specs.declared.task.Task.{Task}
-use Rattle.seat_programs.specs.TableSteps.{TableStep, StoreName, LoadName, LoadCode}
+use Rattle.seat_programs.specs.TableSteps.{TableStep, OnSlot, OnName, StoreName, LoadName, LoadCode}
 use Rattle.seat_programs.specs.Asides.{Step, Taking, Found}
 use Rattle.seat_programs.specs.LoopHeads.{Retry}
 use Rattle.seat_programs.specs.Programs.{Program, Do, Say, Sent, Rest, TakeMessage, TakeHome, PutHome, PutBytes, AskReady, Write, Aside, Round, Keep, Retries}
@@ -222,8 +222,8 @@ module _ (p : Plan) (q : IdPlan) (clients : List (List Task)) (gives : ℕ → L
     client_is = story.tasks.client i m at
 
     finds_do : (x : View) (call : TableStep) → May p x call → MayDo p q clients gives call → (v : Scene) → v.core.words ≡ words_after w.core.words (word_of p call) (word_after call (found_at w.core.words (word_of p call))) → Later p q clients gives w v → FindsDo p q clients gives v m call (found_at w.core.words (word_of p call))
-    finds_do x (StoreName n word) in_ may v words l = (in_.0, (λ e. may (sym (ap (λ ws. get_or ws (name_index p n) 0) words ∙ get_or-set_same w.core.words (name_index p n) word 0 (omega (arith, sized, in_.0))) ∙ e)))
-    finds_do x (LoadName n) in_ may v words l = (
+    finds_do x (OnName (StoreName n word)) in_ may v words l = (in_.0, (λ e. may (sym (ap (λ ws. get_or ws (name_index p n) 0) words ∙ get_or-set_same w.core.words (name_index p n) word 0 (omega (arith, sized, in_.0))) ∙ e)))
+    finds_do x (OnName (LoadName n)) in_ may v words l = (
       (λ none_. (
         (λ named. named.1 (here ∙ none_)),
         (λ other. none_of_setup (λ e. other (client_is ∙ e)) n (λ named. named.1 none_) v l),
@@ -234,7 +234,7 @@ module _ (p : Plan) (q : IdPlan) (clients : List (List Task)) (gives : ℕ → L
       where
         here : get_or v.core.words (name_index p n) 0 ≡ get_or w.core.words (name_index p n) 0
         here = ap (λ ws. get_or ws (name_index p n) 0) words ∙ get_or-set_same w.core.words (name_index p n) (get_or w.core.words (name_index p n) 0) 0 (omega (arith, sized, in_))
-    finds_do x (LoadCode k h) in_ may v words l = λ some_. story.births.codes k in_.0 some_
+    finds_do x (OnSlot (LoadCode k h)) in_ may v words l = λ some_. story.births.codes k in_.0 some_
     finds_do x _ in_ may v words l = tt
 
     -- ## Steps aside

@@ -18,7 +18,7 @@ next-next-requires g c =
     let seat = seat_data c.args.place.now in
     let t = c.args.self.now in
     let sizes = c.sizes-sizes.ensures ∙ ap (λ (x : TableState). table_sizes x) c.self.view_is in
-    may_next {t = t} c.sizes-sizes.result seat 0 sizes c.requires.may.fits.2 c.requires.may.stand (goes_by_word (around (table_sizes t) seat) seat.point (calls.PutMessage c.args.request (heading_by c.args.author (parts_of seat.message)) (bytes_of seat.message)) c.requires.may.next)
+    may_next {t = t} c.sizes-sizes.result seat 0 sizes c.requires.may.fits.2 c.requires.may.stand (goes_by_word (around (table_sizes t) seat) seat.point (calls.OnMessage (calls.PutMessage c.args.request (heading_by c.args.author (parts_of seat.message)) (bytes_of seat.message))) c.requires.may.next)
 
 pub follow-requires : goal.follow-requires
 follow-requires g c =

@@ -38,7 +38,7 @@ pub returns-in_err-put_message-in-PutMessage-clause-none : goal.returns-in_err-p
 returns-in_err-put_message-in-PutMessage-clause-none g c plain =
     let seat = seat_data c.args.place.now in
     let heading = heading_by c.in-PutMessage.author (parts_of seat.message) in
-    absurd (puts_none (seat_program (table_sizes c.args.self.now) seat) (calls.PutMessage c.in-PutMessage.request heading (bytes_of seat.message)) (subst (λ (step : Step). IsNext c.args.self.now seat step) c.in-PutMessage.is c.requires.may.next) plain)
+    absurd (puts_none (seat_program (table_sizes c.args.self.now) seat) (calls.OnMessage (calls.PutMessage c.in-PutMessage.request heading (bytes_of seat.message))) (subst (λ (step : Step). IsNext c.args.self.now seat step) c.in-PutMessage.is c.requires.may.next) plain)
 
 pub returns-in-TakeMessage-clause-ok : goal.returns-in-TakeMessage-clause-ok
 returns-in-TakeMessage-clause-ok g c = message_moved c.kind-kind.result c.requires.may.next (c.kind-kind.ensures (around (table_sizes c.args.self.now) (seat_data c.args.place.now))) c.in-TakeMessage.request c.in-TakeMessage.is (c.take_message.ensures c.args.seat)
