@@ -226,7 +226,7 @@ module _ (old fresh : TableState) (i : ℕ) (seat seat' : SeatData) where
   abbrev pub program_of : Program
   program_of = seat_program (table_sizes old) seat
 
-  pub record CallMade (call : calls.TableStep) (step : Step) : Type 0 where
+  pub record TableStepMade (call : calls.TableStep) (step : Step) : Type 0 where
     pub goes : Goes old fresh seat seat' (after_word program_of (found_at old.words (word_of old.plan call)))
     pub words : fresh.words ≡ words_after old.words (word_of old.plan call) (word_after call (found_at old.words (word_of old.plan call)))
     pub letters : LettersAfter seat step old.letters fresh.letters
@@ -286,7 +286,7 @@ module _ (old fresh : TableState) (i : ℕ) (seat seat' : SeatData) where
 
   -- a step, in which the link in hand answered this
   abbrev pub MadeFirst : Step → First → Answer → Type 0
-  MadeFirst step (OfTable call) answer = (answer ≡ Unasked) × CallMade call step
+  MadeFirst step (OfTable call) answer = (answer ≡ Unasked) × TableStepMade call step
   MadeFirst step (OfAside aside) answer = (answer ≡ Unasked) × AsideMade aside
   MadeFirst step (OfMessage q) answer = (answer ≡ Unasked) × MessageTaken q
   MadeFirst step (OfLink k) answer = (answer ≡ Unasked) × LinkTaken k

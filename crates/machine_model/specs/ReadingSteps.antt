@@ -120,7 +120,7 @@ module _ (old fresh : TableState) (i : ℕ) (reader reader' : ReaderData) where
   ReadsOn next = GoesOn old.calls next reader' old.outcomes fresh.outcomes
 
   -- a step on a word, or a move of a link
-  pub record CallRead (call : calls.TableStep) : Type 0 where
+  pub record TableStepRead (call : calls.TableStep) : Type 0 where
     pub same : SameTables old fresh
     pub goes : ReadsOn (after_word read_program (found_at old.words (word_of old.plan call)))
     pub words : fresh.words ≡ words_after old.words (word_of old.plan call) (word_after call (found_at old.words (word_of old.plan call)))
@@ -155,7 +155,7 @@ module _ (old fresh : TableState) (i : ℕ) (reader reader' : ReaderData) where
     pub outs : fresh.links.outs ≡ old.links.outs
 
   abbrev pub MadeRead : First → Answer → Type 0
-  MadeRead (OfTable call) answer = (answer ≡ Unasked) × CallRead call
+  MadeRead (OfTable call) answer = (answer ≡ Unasked) × TableStepRead call
   MadeRead (OfAside (asides.TakeBytes k room)) answer = (taking : Taking) × (answer ≡ OfTake taking) × TakeRead k room taking
   MadeRead (OfAside step) answer = (answer ≡ Unasked) × AsideRead step
   MadeRead other answer = ⊥

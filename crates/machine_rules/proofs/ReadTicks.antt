@@ -24,7 +24,7 @@ use Rattle.reader_points.specs.ReaderCodeSteps.{step_as}
 use Rattle.reader_seats.specs.ReaderState.{ReaderData, reader_program}
 use Rattle.machine_model.specs.MachineLinks.{LinksData, Taken, Given, Agrees, AgreesGave, homes_of, hand_of}
 use Rattle.machine_model.specs.Machines.{MachineState, READERS, table_of, state_of, waiting_of, given_by, calls_of, core_with, IsSized}
-use Rattle.machine_model.specs.ReadingSteps.{SameTables, CallRead, AsideRead, TakeRead, MadeRead}
+use Rattle.machine_model.specs.ReadingSteps.{SameTables, TableStepRead, AsideRead, TakeRead, MadeRead}
 use Rattle.machine_rules.proofs.LinkChanges.{none_changes}
 use Rattle.machine_rules.proofs.RangeLists.{get-range, set-range}
 use Rattle.machine_rules.proofs.Seatings.{Stays, reader_set, read_at}
@@ -123,7 +123,7 @@ module _ (old fresh : MachineState) (k : ℕ) (reader reader' : ReaderData) (at 
   stays : SameTables (table_of old) (table_of fresh) → Stays old fresh
   stays same = record { plans = same.plans; seats = seats }
 
-  call_steps : (call : calls.TableStep) → first_in program ≡ Some (OfTable call) → MayCall old.plan old.links i call → LettersBy call old.letters fresh.letters → CallRead (table_of old) (table_of fresh) i reader reader' call → SteppedWith old fresh i Unasked took gave
+  call_steps : (call : calls.TableStep) → first_in program ≡ Some (OfTable call) → MayCall old.plan old.links i call → LettersBy call old.letters fresh.letters → TableStepRead (table_of old) (table_of fresh) i reader reader' call → SteppedWith old fresh i Unasked took gave
   call_steps call next may lettered w = record {
     so_far = record {
       took = took;

@@ -38,7 +38,7 @@ use Rattle.client_seats.specs.ClientSeatState.{SeatData, around, seat_program, b
 use Rattle.machine_model.specs.declared.home_message.HomeMessage.{HomeMessage}
 use Rattle.machine_model.specs.MachineLinks.{LinksData, Taken, Given, Agrees, AgreesGave, SoFar, IsPaced, holder_of, is_done, link_with, homes_of, hand_of, letter_home}
 use Rattle.machine_model.specs.Machines.{MachineState, READERS, table_of, machine_sizes, state_of, waiting_of, given_by, core_with, IsSized}
-use Rattle.machine_model.specs.MachineSteps.{OutsAfter, Goes, CallMade, AsideMade, MessageTaken, LinkTaken, LinkPut, LinkAsked, MadeFirst, holders_after}
+use Rattle.machine_model.specs.MachineSteps.{OutsAfter, Goes, TableStepMade, AsideMade, MessageTaken, LinkTaken, LinkPut, LinkAsked, MadeFirst, holders_after}
 use Rattle.machine_rules.proofs.HandsAndHomes.{HasNone, HasOnly, lies_home, hand_only, home_at, letters_set}
 use Rattle.machine_rules.proofs.LinkChanges.{Changed, take_changes, give_changes, out_changes, none_changes}
 use Rattle.machine_rules.proofs.Seatings.{client_set, calls_by, seat_at}
@@ -242,7 +242,7 @@ module _ (old fresh : MachineState) (i : ℕ) (seat seat' : SeatData) (at : get_
       core_with fresh later gave ≡ with_seat i next hand words homes before
   moved next later hand homes words goes words_are changed same = client_set old fresh i seat seat' next took later gave hand homes words at seats readers few goes words_are changed ∙ same_calls next later hand homes words same
 
-  call_core : (call : calls.TableStep) (step : Step) → first_in program ≡ Some (OfTable call) → MayCall old.plan old.links i call → LettersBy call old.letters fresh.letters → CallMade (table_of old) (table_of fresh) i seat seat' call step →
+  call_core : (call : calls.TableStep) (step : Step) → first_in program ≡ Some (OfTable call) → MayCall old.plan old.links i call → LettersBy call old.letters fresh.letters → TableStepMade (table_of old) (table_of fresh) i seat seat' call step →
       Agrees fresh.links took × (core_with fresh took gave ≡ ticked old.plan before (record { seat = i; answer = Unasked }))
   call_core call step next may lettered w = (
     call_agrees old.plan i old.letters sized.letters_are old.links fresh.links took sized.holders_are call w.outs agrees,
@@ -251,7 +251,7 @@ module _ (old fresh : MachineState) (i : ℕ) (seat seat' : SeatData) (at : get_
         ∙ sym (ticks Unasked ∙ word_tick old.plan i own before program Unasked call next),
   )
 
-  call_steps : (call : calls.TableStep) (step : Step) → first_in program ≡ Some (OfTable call) → MayCall old.plan old.links i call → LettersBy call old.letters fresh.letters → CallMade (table_of old) (table_of fresh) i seat seat' call step → SteppedWith old fresh i Unasked took gave
+  call_steps : (call : calls.TableStep) (step : Step) → first_in program ≡ Some (OfTable call) → MayCall old.plan old.links i call → LettersBy call old.letters fresh.letters → TableStepMade (table_of old) (table_of fresh) i seat seat' call step → SteppedWith old fresh i Unasked took gave
   call_steps call step next may lettered w = let core = call_core call step next may lettered w in record {
     so_far = record {
       took = took;

@@ -45,27 +45,27 @@ fn take_into<I: In>(inn: &mut I, room: &mut [u8], count: usize) -> Take
 
 impl<O: Out, I: In, P: Peer> Table<O, I, P> {
     /// A reader's step on a word, or its move of a link; what its tick answers.
-    fn read_call(
+    fn read_table_step(
         &mut self,
         reader: &mut ReaderSeat,
         seat: u16,
-        call: TableStep,
+        step: TableStep,
     ) -> Result<Tick, NoMemory>
-        requires may { IsFitRead self.old reader.old (ReadStep.Table call) }
+        requires may { IsFitRead self.old reader.old (ReadStep.Table step) }
         requires sized { IsSized self.old }
-        ensures ok { IfOk result (λ tick. ReadTold self.old self.new seat reader.old reader.new (ReadStep.Table call) tick) }
+        ensures ok { IfOk result (λ tick. ReadTold self.old self.new seat reader.old reader.new (ReadStep.Table step) tick) }
         ensures err { OnErr result (IsCutTable self.old self.new) }
     {
         let point = reader.point();
-        let found = step_word(&self.plan, &mut self.words, call);
-        pass_link(&mut self.holders, seat, call);
-        end_link(&mut self.ends, call);
+        let found = step_word(&self.plan, &mut self.words, step);
+        pass_link(&mut self.holders, seat, step);
+        end_link(&mut self.ends, step);
         let Ok(()) = reader.follow_word(&self.calls, found, &mut self.outcomes) else {
             return Err(NoMemory);
         };
         match awaited_by_reader(point, found) {
             Some(on) => Ok(Tick::Waits(on)),
-            None => Ok(Tick::Moved(call.kind())),
+            None => Ok(Tick::Moved(step.kind())),
         }
     }
 
@@ -141,7 +141,7 @@ impl<O: Out, I: In, P: Peer> Table<O, I, P> {
         ensures says { L.state links.new ≡ L.state links.old }
     {
         match step {
-            ReadStep::Table(call) => self.read_call(reader, seat, call),
+            ReadStep::Table(step) => self.read_table_step(reader, seat, step),
             ReadStep::Aside(Aside::TakeBytes(link, count)) => {
                 self.read_bytes(links, reader, link, count)
             }

@@ -121,17 +121,17 @@ impl<O: Out, I: In, P: Peer> Table<O, I, P> {
 
     /// A step on a word, or a move that tells nothing; for what its seat waits, if it does. Only a seat that comes to hold a life or to keep a retry
     /// wants room for it.
-    pub(crate) fn make_call(&mut self, place: &mut Seat, seat: u16, call: TableStep) -> Option<On>
-        requires may { IsFitStep self.old (seat_data place.old) (Step.Table call) }
+    pub(crate) fn make_table_step(&mut self, place: &mut Seat, seat: u16, step: TableStep) -> Option<On>
+        requires may { IsFitStep self.old (seat_data place.old) (Step.Table step) }
         requires sized { IsSized self.old }
         requires room { HasRoom place.old ⊎ AsksNone (seat_program (table_sizes self.old) (seat_data place.old)) }
-        ensures made { Makes self.old self.new seat (seat_data place.old) (seat_data place.new) (Step.Table call) Unasked }
-        ensures waits { is_some result ≡ waits_by (seat_program (table_sizes self.old) (seat_data place.old)) (found_at self.old.words (word_of self.old.plan (step_of call))) }
+        ensures made { Makes self.old self.new seat (seat_data place.old) (seat_data place.new) (Step.Table step) Unasked }
+        ensures waits { is_some result ≡ waits_by (seat_program (table_sizes self.old) (seat_data place.old)) (found_at self.old.words (word_of self.old.plan (step_of step))) }
         ensures on { IfSome result (IsWaitingFor (seat_program (table_sizes self.old) (seat_data place.old))) }
     {
-        let found = step_word(&self.plan, &mut self.words, call);
-        pass_link(&mut self.holders, seat, call);
-        end_link(&mut self.ends, call);
+        let found = step_word(&self.plan, &mut self.words, step);
+        pass_link(&mut self.holders, seat, step);
+        end_link(&mut self.ends, step);
         let waits = awaited(&place.point, found);
         let sizes = self.sizes();
         let next = place.point.next(sizes, place.calling(), found);
@@ -342,7 +342,7 @@ impl<O: Out, I: In, P: Peer> Table<O, I, P> {
     {
         let kind = step.kind();
         match *step {
-            Step::Table(call) => match self.make_call(place, seat, call) {
+            Step::Table(step) => match self.make_table_step(place, seat, step) {
                 Some(on) => Ok(Tick::Waits(on)),
                 None => Ok(Tick::Moved(kind)),
             },

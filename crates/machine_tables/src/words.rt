@@ -14,16 +14,16 @@ use sock_model::request_index;
 use sock_words::Plan;
 
 /// Makes a step on its word, and answers the word found; 0 where the step is none on a word.
-pub fn step_word(plan: &Plan, words: &mut [u64], call: TableStep) -> u64
-    requires there { (x : ℕ) → word_of plan.now (step_of call) ≡ some x → x < length words.old }
-    requires allowed { AllowsWord (step_of call) (found_at words.old (word_of plan.now (step_of call))) }
-    ensures found { result ≡ found_at words.old (word_of plan.now (step_of call)) }
-    ensures words { words.new ≡ words_after words.old (word_of plan.now (step_of call)) (word_after (step_of call) (found_at words.old (word_of plan.now (step_of call)))) }
+pub fn step_word(plan: &Plan, words: &mut [u64], step: TableStep) -> u64
+    requires there { (x : ℕ) → word_of plan.now (step_of step) ≡ some x → x < length words.old }
+    requires allowed { AllowsWord (step_of step) (found_at words.old (word_of plan.now (step_of step))) }
+    ensures found { result ≡ found_at words.old (word_of plan.now (step_of step)) }
+    ensures words { words.new ≡ words_after words.old (word_of plan.now (step_of step)) (word_after (step_of step) (found_at words.old (word_of plan.now (step_of step)))) }
 {
-    match call.index(plan) {
+    match step.index(plan) {
         Some(index) => {
             let found = words[index];
-            words[index] = call.word_after(found);
+            words[index] = step.word_after(found);
             found
         }
         None => 0,
@@ -39,11 +39,11 @@ pub fn is_taken(plan: &Plan, words: &[u64], request: u16) -> bool
 }
 
 /// A seat takes a link or puts it back: who has each link in hand.
-pub fn pass_link(holders: &mut [Option<u16>], seat: u16, call: TableStep)
-    requires { IsOfLinks (length holders.old) (step_of call) }
-    ensures { holders.new ≡ holders_after seat (step_of call) holders.old }
+pub fn pass_link(holders: &mut [Option<u16>], seat: u16, step: TableStep)
+    requires { IsOfLinks (length holders.old) (step_of step) }
+    ensures { holders.new ≡ holders_after seat (step_of step) holders.old }
 {
-    match call {
+    match step {
         TableStep::Link(LinkStep::TakeLink(link)) => holders[usize::from(link)] = Some(seat),
         TableStep::Link(LinkStep::PutLink(link)) => holders[usize::from(link)] = None,
         _ => {}
@@ -51,13 +51,13 @@ pub fn pass_link(holders: &mut [Option<u16>], seat: u16, call: TableStep)
 }
 
 /// Ends the writing half of a link, if this is the step.
-pub fn end_link<O: Out, I: In, P: Peer>(ends: &mut [Ends<O, I, P>], call: TableStep)
-    requires { IsOfLinks (length ends.old) (step_of call) }
-    ensures outs { OutsAfter (step_of call) (map (λ (e : _). O.state e.out) ends.old) (map (λ (e : _). O.state e.out) ends.new) }
+pub fn end_link<O: Out, I: In, P: Peer>(ends: &mut [Ends<O, I, P>], step: TableStep)
+    requires { IsOfLinks (length ends.old) (step_of step) }
+    ensures outs { OutsAfter (step_of step) (map (λ (e : _). O.state e.out) ends.old) (map (λ (e : _). O.state e.out) ends.new) }
     ensures inns { map (λ (e : _). I.state e.inn) ends.new ≡ map (λ (e : _). I.state e.inn) ends.old }
     ensures ends { map (λ (e : _). end_of (O.state e.out) (I.state e.inn)) ends.new ≡ map (λ (e : _). end_of (O.state e.out) (I.state e.inn)) ends.old }
 {
-    if let TableStep::Link(LinkStep::FinishLink(link)) = call {
+    if let TableStep::Link(LinkStep::FinishLink(link)) = step {
         ends[usize::from(link)].out.finish();
     }
 }

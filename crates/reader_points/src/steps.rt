@@ -23,7 +23,7 @@ impl Closing {
 
 impl CloseStep {
     /// The next step of the failing of a reader's socket.
-    fn call(self, closing: Closing) -> TableStep
+    fn table_step(self, closing: Closing) -> TableStep
         ensures { (a : Context) → first_in (close_program a closing self) ≡ Some (OfTable (step_of result)) }
     {
         let id = closing.reader.socket;
@@ -32,7 +32,7 @@ impl CloseStep {
             CloseStep::SetOdd => TableStep::Slot(SlotStep::SetOdd(id.slot())),
             CloseStep::StoreCode => TableStep::Slot(SlotStep::StoreCode(id.slot(), id.version(), closing.code())),
             CloseStep::ReleaseFirst => TableStep::Slot(SlotStep::SubRef(id.slot())),
-            CloseStep::Release(step) => step.call(id.slot()),
+            CloseStep::Release(step) => step.table_step(id.slot()),
         }
     }
 }
@@ -61,7 +61,7 @@ impl ReadPoint {
             ReadPoint::Take(reader) => taking(reader.link, reader.total),
             ReadPoint::Lock(_, locker, step) => Some(ReadStep::Aside(locker.step(step))),
             ReadPoint::Answer(_, id, step) => Some(ReadStep::Aside(step.aside(id))),
-            ReadPoint::Close(closing, step) => Some(ReadStep::Table(step.call(closing))),
+            ReadPoint::Close(closing, step) => Some(ReadStep::Table(step.table_step(closing))),
             ReadPoint::Load(_, operation) => Some(ReadStep::Aside(Aside::LoadAt(operation))),
             ReadPoint::Post(lost, step) => Some(ReadStep::Aside(lost.error().post_step(step))),
             ReadPoint::Fail(lost, step) => Some(ReadStep::Aside(lost.fail_step(step))),

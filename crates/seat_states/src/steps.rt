@@ -22,7 +22,7 @@ fn socket_word(version: u32, slot: u16) -> u64
 
 impl Opening {
     /// The next step of an `open`.
-    fn call(self, step: OpenStep) -> TableStep
+    fn table_step(self, step: OpenStep) -> TableStep
         ensures { (a : Context) → first_in (open_program a self step) ≡ Some (OfTable (step_of result)) }
     {
         match step {
@@ -47,7 +47,7 @@ impl Opening {
 
 impl Aim {
     /// The next step of the way to a life.
-    fn call(self, step: SeekStep) -> TableStep
+    fn table_step(self, step: SeekStep) -> TableStep
         ensures { (a : Context) → first_in (seek_program a self step) ≡ Some (OfTable (step_of result)) }
     {
         match step {
@@ -64,7 +64,7 @@ impl Aim {
 
 impl Failing {
     /// The next step of a failing.
-    fn call(self, step: FailStep) -> TableStep
+    fn table_step(self, step: FailStep) -> TableStep
         ensures { (a : Context) → first_in (fail_program a self step) ≡ Some (OfTable (step_of result)) }
     {
         match step {
@@ -79,7 +79,7 @@ impl Failing {
 
 impl ReleaseStep {
     /// The next step of a release.
-    pub fn call(self, slot: u32) -> TableStep
+    pub fn table_step(self, slot: u32) -> TableStep
         ensures { (k : Bool → Program) → first_in (release_on slot k self) ≡ Some (OfTable (step_of result)) }
     {
         match self {
@@ -102,10 +102,10 @@ impl Point {
     {
         match *self {
             Point::Rest => None,
-            Point::Open(opening, step) => Some(Step::Table(opening.call(step))),
-            Point::Seek(aim, step) => Some(Step::Table(aim.call(step))),
-            Point::Fail(failing, step) => Some(Step::Table(failing.call(step))),
-            Point::Release(slot, _, step) => Some(Step::Table(step.call(slot))),
+            Point::Open(opening, step) => Some(Step::Table(opening.table_step(step))),
+            Point::Seek(aim, step) => Some(Step::Table(aim.table_step(step))),
+            Point::Fail(failing, step) => Some(Step::Table(failing.table_step(step))),
+            Point::Release(slot, _, step) => Some(Step::Table(step.table_step(slot))),
             Point::Send(sending, step) => Some(sending.step(step)),
             Point::Write(writer, step) => Some(writer.step(step)),
             Point::Call(step) => Some(step.step(calling)),
@@ -125,7 +125,7 @@ impl Step {
         ensures { (a : Context) → result ≡ kind_of_first (step_as a self.now) }
     {
         match *self {
-            Step::Table(call) => call.kind(),
+            Step::Table(step) => step.kind(),
             Step::Aside(aside) => aside.kind(),
             Step::PutMessage(_, _) => Kind::M1,
             Step::TakeMessage(_) => Kind::M2,

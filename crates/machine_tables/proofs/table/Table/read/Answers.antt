@@ -27,8 +27,8 @@ returns-in-Some-clause-ok g c =
     step_along (sym is) (told_along c.self.view_is (taken_told c.args.seat reader c.follow_call.new.self c.in-Aside-TakeCall.slot c.in-Some.call (record { plans = record { plan = refl; id_plan = same; calls = refl; ending = refl }; letters = refl; nexts = refl }) next c.in-Some.ensures
     (c.follow_call.ensures c.self.inside.calls.items c.self.inside.outcomes.items) refl refl refl))
 
-pub read_call-requires-clause-may : goal.read_call-requires-clause-may
-read_call-requires-clause-may g c = subst (λ (s : ReadStep). IsFitRead c.args.self.now c.args.reader.now s) c.in-Table.is c.requires.may
+pub read_table_step-requires-clause-may : goal.read_table_step-requires-clause-may
+read_table_step-requires-clause-may g c = subst (λ (s : ReadStep). IsFitRead c.args.self.now c.args.reader.now s) c.in-Table.is c.requires.may
 
 pub read_bytes-requires-clause-may : goal.read_bytes-requires-clause-may
 read_bytes-requires-clause-may g c κs within =

@@ -19,10 +19,10 @@ failed_not : asks.Failed ≢ asks.NotYet
 failed_not e = cc
 
 pub returns-in-Some-clause-ok : goal.returns-in-Some-clause-ok
-returns-in-Some-clause-ok g c = call_waited c.kind-kind.result c.requires.may.next (c.kind-kind.ensures (around (table_sizes c.args.self.now) (seat_data c.args.place.now))) c.in-Table.call _ c.make_call.result c.in-Some.on c.in-Table.is c.make_call.ensures.made refl c.make_call.ensures.waits c.make_call.ensures.on c.in-Some.is
+returns-in-Some-clause-ok g c = call_waited c.kind-kind.result c.requires.may.next (c.kind-kind.ensures (around (table_sizes c.args.self.now) (seat_data c.args.place.now))) c.in-Table.call _ c.make_table_step.result c.in-Some.on c.in-Table.is c.make_table_step.ensures.made refl c.make_table_step.ensures.waits c.make_table_step.ensures.on c.in-Some.is
 
 pub returns-in-None-clause-ok : goal.returns-in-None-clause-ok
-returns-in-None-clause-ok g c = call_moved c.kind-kind.result c.requires.may.next (c.kind-kind.ensures (around (table_sizes c.args.self.now) (seat_data c.args.place.now))) c.in-Table.call _ c.make_call.result c.in-Table.is c.make_call.ensures.made refl c.make_call.ensures.waits c.in-None.is
+returns-in-None-clause-ok g c = call_moved c.kind-kind.result c.requires.may.next (c.kind-kind.ensures (around (table_sizes c.args.self.now) (seat_data c.args.place.now))) c.in-Table.call _ c.make_table_step.result c.in-Table.is c.make_table_step.ensures.made refl c.make_table_step.ensures.waits c.in-None.is
 
 pub returns-in-Aside-clause-ok : goal.returns-in-Aside-clause-ok
 returns-in-Aside-clause-ok g c = told_aside c.args.self.now c.step_aside.new.self (seat_data c.args.place.now) (seat_data c.step_aside.new.place) c.args.step.now c.in-Aside.step c.step_aside.result c.in-Aside.is c.step_aside.ensures.ok c.args.seat
@@ -76,8 +76,8 @@ put_bytes-requires-clause-room g c = needs c.args.self.now (seat_data c.args.pla
 pub ask_ready-requires-clause-room : goal.ask_ready-requires-clause-room
 ask_ready-requires-clause-room g c = needs c.args.self.now (seat_data c.args.place.now) (firsts.AskReady c.in-AskReady.link) (λ call. call) c.in-AskReady.is c.requires.may.next c.requires.room
 
-pub make_call-requires-clause-may : goal.make_call-requires-clause-may
-make_call-requires-clause-may g c = subst (λ (s : Step). IsFitStep c.args.self.now (seat_data c.args.place.now) s) c.in-Table.is c.requires.may
+pub make_table_step-requires-clause-may : goal.make_table_step-requires-clause-may
+make_table_step-requires-clause-may g c = subst (λ (s : Step). IsFitStep c.args.self.now (seat_data c.args.place.now) s) c.in-Table.is c.requires.may
 
 pub step_aside-requires-clause-may : goal.step_aside-requires-clause-may
 step_aside-requires-clause-may g c = subst (λ (s : Step). IsFitStep c.args.self.now (seat_data c.args.place.now) s) c.in-Aside.is c.requires.may

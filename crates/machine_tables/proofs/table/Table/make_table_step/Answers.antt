@@ -14,13 +14,13 @@ use Rattle.machine_model.specs.TickAnswersOfStep.{waits_by}
 use Rattle.machine_steps.proofs.SeatBehindEachStep.{written, makes_along, goes, halves_in}
 use Rattle.machine_model.proofs.TableRoom.{room_for}
 use Rattle.machine_steps.proofs.TableGoes.{may_next, next_is, flat_next}
-use Rattle.machine_tables.proofs.table.Table.make_call.Goals as goal
+use Rattle.machine_tables.proofs.table.Table.make_table_step.Goals as goal
 
 pub next-next-requires : goal.next-next-requires
 next-next-requires g c =
     let seat = seat_data c.args.place.now in
     let t = c.args.self.now in
-    let call = step_of c.args.call in
+    let call = step_of c.args.step in
     let sizes = c.sizes-sizes.ensures ∙ ap (λ (x : TableState). table_sizes x) c.self.view_is in
     let found = c.step_word-found.ensures.found ∙ ap (λ (ws : List ℕ). found_at ws (word_of c.self.inside.plan call)) c.deref_mut.ensures.value ∙ ap (λ (x : TableState). found_at x.words (word_of x.plan call)) c.self.view_is in
     may_next {t = t} c.sizes-sizes.result seat c.step_word-found.result sizes (subst (λ (n : ℕ). MayGoOn t seat n) (sym found) c.requires.may.fits.3) c.requires.may.stand (goes_by_word (around (table_sizes t) seat) seat.point call c.requires.may.next)
@@ -33,13 +33,13 @@ follow-requires g c =
     let next = next_is {t = t} c.sizes-sizes.result seat c.next-next.result c.step_word-found.result c.calling.result sizes c.requires.may.ready c.calling.ensures c.next-next.ensures.program in
     record {
       room = room_for t c.args.place.now (around c.sizes-sizes.result seat) c.next-next.result c.step_word-found.result c.requires.room next;
-      more = inl (flat_next t c.sizes-sizes.result seat c.next-next.result (step_of c.args.call) c.step_word-found.result c.calling.result sizes c.requires.may.next c.requires.may.ready.hand c.calling.ensures c.next-next.ensures.program);
+      more = inl (flat_next t c.sizes-sizes.result seat c.next-next.result (step_of c.args.step) c.step_word-found.result c.calling.result sizes c.requires.may.next c.requires.may.ready.hand c.calling.ensures c.next-next.ensures.program);
     }
 
 pub returns-clause-made : goal.returns-clause-made
 returns-clause-made g c =
     let seat = seat_data c.args.place.now in
-    let call = step_of c.args.call in
+    let call = step_of c.args.step in
     let sizes = c.sizes-sizes.ensures in
     let ready = subst (λ (x : TableState). IsReady x seat) (sym c.self.view_is) c.requires.may.ready in
     let found = c.step_word-found.ensures.found ∙ ap (λ (ws : List ℕ). found_at ws (word_of c.self.inside.plan call)) c.deref_mut.ensures.value in
@@ -65,7 +65,7 @@ returns-clause-made g c =
 pub returns-clause-waits : goal.returns-clause-waits
 returns-clause-waits g c =
     let seat = seat_data c.args.place.now in
-    let call = step_of c.args.call in
+    let call = step_of c.args.step in
     let program = seat_program (table_sizes c.args.self.now) seat in
     let found = c.step_word-found.ensures.found ∙ ap (λ (ws : List ℕ). found_at ws (word_of c.self.inside.plan call)) c.deref_mut.ensures.value ∙ ap (λ (x : TableState). found_at x.words (word_of x.plan call)) c.self.view_is in
     c.awaited-waits.ensures.waits (around (table_sizes c.args.self.now) seat) ∙ ap (waits_by program) found
