@@ -45,7 +45,7 @@ use Rattle.sock_steps.proofs.AcceptSteps.{queued_law, righted_law}
 use Rattle.sock_steps.proofs.WalkSteps.{passing_law, reading_law, emptied_law, walking_law, turning_law}
 use Rattle.sock_steps.proofs.WriteSteps.{freeing_law, retiring_law, placing_law, dropping_law}
 use Rattle.sock_steps.proofs.RightSteps.{right_in, right_alone}
-use Rattle.seat_programs.specs.TableSteps.{TableStep, OnSlot, OnChain, OnPlace, OnMessage, LookWord, FindLink, LoadCode, ClaimRequest, PutMessage, Unconnect, SwapHead, Connect, EmptyHead, ReadNext, ReverseNext, FreeRequest, StorePlace, DropPlace}
+use Rattle.seat_programs.specs.TableSteps.{TableStep, OnSlot, OnChain, OnPlace, OnMessage, LookWord, FindLink, LoadCode, ClaimRequest, PutMessage, Unconnect, SwapHead, Connect, EmptyHead, ReadNext, ReverseNext, FreeRequest, StorePlace, DropPlace, ClaimSlot, OnName, LoadName}
 use Rattle.seat_programs.specs.StepTables.{table_word, word_after}
 use Rattle.program_steps.proofs.WordFrame.{AreIn, low_word}
 use Rattle.seat_programs.specs.Cores.{homes_after}
@@ -348,4 +348,6 @@ module _ (p : Plan) (s : State Home View) (o : Lawful (λ home. home) p s) (i : 
   word_inside (OnChain (Connect q before)) may = may.0
   word_inside (OnPlace (StorePlace l k n)) may = let inside = may.0.label_in in omega (arith, inside, may.2)
   word_inside (OnPlace (DropPlace l k n)) may = let inside = may.0.label_in in omega (arith, inside, may.2)
+  word_inside (OnSlot (ClaimSlot i)) may = low_word p v (OnSlot (ClaimSlot i)) may
+  word_inside (OnName (LoadName n)) may = low_word p v (OnName (LoadName n)) may
   word_inside call may = low_word p v call may
