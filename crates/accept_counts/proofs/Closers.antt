@@ -253,7 +253,7 @@ module _ (k id : ℕ) (Odd : List Taking → Type 0) (Lasts : Type 0) where
   pub calm_step : (held : Bool) (h : List Taking) (call : TableStep) (next : ℕ → Program) → Calm held h (Do call next) → IsCalmCall call × ((found : ℕ) → Behind h call (next found) found)
   calm_step held h (OnSlot (SetOdd i)) next x = (tt, λ found. record { held = false; calm = x.3 found; got = λ e. absurd (true≢false (sym e)) })
   calm_step held h (OnSlot (StoreCode i v code)) next x = (tt, λ found. record { held = false; calm = x.3 found; got = λ e. absurd (true≢false (sym e)) })
-  calm_step held h (OnSlot (AddRef y)) next x = (tt, λ found. record { held = vref_version found == socket_id_version id; calm = x.1 found; got = λ e. (ap OnSlot (AddRef x.0), e) })
+  calm_step held h (OnSlot (AddRef y)) next x = (tt, λ found. record { held = vref_version found == socket_id_version id; calm = x.1 found; got = λ e. (ap (λ j. OnSlot (AddRef j)) x.0, e) })
   calm_step held h (OnChain (SwapHead i own)) next x = absurd x
   calm_step held h (OnSlot (CreateLife i l)) next x = absurd x
   calm_step held h (OnName (StoreOpen o w)) next x = absurd x

@@ -158,7 +158,7 @@ module _ (p : Plan) (retries : RetriesGo p) where
         (λ f. ⊎_elim (λ a. let id_is = a.1 in let few = sound.limits.slots in let slot_is : socket_id_slot a.0 ≡ i = omega (arith, id_is, few, inside) in let version_is : socket_id_version a.0 ≡ h = omega (arith, id_is, few, inside) in
         let far = a.2 in let low = given_low p c vs sound i h k inside given in
         let other : vref_version (get_or c.words (ref_index i) 0) ≢ h = (λ e. far (ap (λ z. vref_version (get_or c.words (ref_index z) 0)) slot_is ∙ (e ∙ sym version_is))) in gone (omega (arith, low, other)))
-        (λ b. ⊎_elim (λ made. let few = sound.limits.slots in let slot_is : socket_id_slot (socket_id h i + 1 - 1) ≡ i = omega (arith, few, inside) in let is : call ≡ OnSlot (SetOdd i) = made ∙ ap OnSlot (SetOdd slot_is) in
+        (λ b. ⊎_elim (λ made. let few = sound.limits.slots in let slot_is : socket_id_slot (socket_id h i + 1 - 1) ≡ i = omega (arith, few, inside) in let is : call ≡ OnSlot (SetOdd i) = made ∙ ap (λ j. OnSlot (SetOdd j)) slot_is in
         inl (subst (λ y. h < vref_version (get_or (words_after c.words (word_of p y) (word_after y (found_at c.words (word_of p y)))) (ref_index i) 0)) (sym is) (odd_past p c vs sound j v at i h inside (given_born p c vs sound i h k inside given)))) (λ g. inr g) b)
         (what_fails p c.words o (socket_id h i + 1) call next word f)) x
       where

@@ -130,7 +130,7 @@ module _ (h : ℕ) where
     pub holds_row : (p : Plan) (call : TableStep) (found n : ℕ) (hand : Hand) → n ≤ marks_of f i v → (call ≡ OnSlot (SetOdd i) → 0 < n → vref_version found % 2 ≡ 0 → vref_version found ≡ h)
         → holds_behind i h call found n ≤ marks_of f i (row p call found hand v)
     holds_row p (OnSlot (AddRef id)) found n hand le odd = add_row p id found n hand le
-    holds_row p (OnSlot (SetOdd j)) found n hand le odd = odd_row p j found n hand le (λ e. odd (ap OnSlot (SetOdd e)))
+    holds_row p (OnSlot (SetOdd j)) found n hand le odd = odd_row p j found n hand le (λ e. odd (ap (λ j. OnSlot (SetOdd j)) e))
     holds_row p (OnSlot (SubRef j)) found n hand le odd = sub_row j found n (back j found v) le
     holds_row p (OnSlot (ClaimSlot j)) found n hand le odd = let k = row_keeps v p (OnSlot (ClaimSlot j)) found hand tt i in omega arith
     holds_row p (OnSlot (CreateLife j l)) found n hand le odd = let k = row_keeps v p (OnSlot (CreateLife j l)) found hand tt i in omega arith

@@ -96,7 +96,7 @@ birth_added c o _ found j h p = absurd (omega arith)
 
 pub fail_added : (c o : ℕ) (call : TableStep) (found j h : ℕ) → 0 < adds (is_failer h) j call found → (call ≡ OnSlot (SetOdd j)) × (vref_version found ≡ h) × (vref_version found % 2 ≡ 0)
 fail_added c o (OnSlot (SetOdd i)) found j h p = let t = test_of i j (cond (eqb (vref_version found % 2) 0) (is_failer h (Failer (vref_version found))) 0) p in let u = test_of (vref_version found % 2) 0 (is_failer h (Failer (vref_version found))) t.1 in
-    (ap OnSlot (SetOdd t.0), only_is h (vref_version found) u.1, u.0)
+    (ap (λ j. OnSlot (SetOdd j)) t.0, only_is h (vref_version found) u.1, u.0)
 fail_added c o (OnSlot (ClaimSlot i)) found j h p = let a = neither (eqb i j) (eqb found 0) in absurd (omega arith)
 fail_added c o (OnSlot (CreateLife i k)) found j h p = let a = none_added i j in absurd (omega arith)
 fail_added c o _ found j h p = absurd (omega arith)

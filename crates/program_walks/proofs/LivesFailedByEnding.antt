@@ -67,7 +67,7 @@ pub what_fails : (p : Plan) (ws : List ℕ) (o w : ℕ) (call : TableStep) (next
     → ((id : ℕ) × (id + 1 ≡ w) × (vref_version (get_or ws (ref_index (socket_id_slot id)) 0) ≢ socket_id_version id)) ⊎ ((call ≡ OnSlot (SetOdd (socket_id_slot (w - 1)))) ⊎ Fails o w (next (found_at ws (word_of p call))))
 what_fails p ws o w (OnName (LoadOpen n)) next word f = inr (inr (f (get_or ws (open_index p n) 0) (λ e. ap (λ z. get_or ws (open_index p z) 0) e ∙ word)))
 what_fails p ws o w (OnSlot (AddRef id)) next word f = ⊎_elim (λ a. inl (id, a.0, a.1)) (λ g. inr (inr g)) (f (get_or ws (ref_index (socket_id_slot id)) 0))
-what_fails p ws o w (OnSlot (SetOdd i)) next word f = ⊎_elim (λ e. inr (inl (ap OnSlot (SetOdd (sym e))))) (λ g. inr (inr (g (get_or ws (ref_index i) 0)))) f
+what_fails p ws o w (OnSlot (SetOdd i)) next word f = ⊎_elim (λ e. inr (inl (ap (λ j. OnSlot (SetOdd j)) (sym e)))) (λ g. inr (inr (g (get_or ws (ref_index i) 0)))) f
 what_fails p ws o w call next word f = inr (inr (f (found_at ws (word_of p call))))
 
 pub records_ending : (os : List ℕ) → Records nothing (ending_of os)
