@@ -18,7 +18,7 @@ use Rattle.sock_model.specs.UnplacedMessages.{HeadedBytes}
 use Rattle.sock_model.specs.ChainLawReads.{message, link_home}
 use Rattle.sock_model.specs.LawfulSockets.{Lawful}
 use Rattle.sock_model.specs.Rule.{Lasting, of_name, of_open, of_request, Rule}
-use Rattle.seat_programs.specs.TableSteps.{TableStep, OnName, OnChain, StoreName, LoadName, StoreOpen, LoadOpen, ClaimRequest, SwapHead, FreeRequest}
+use Rattle.seat_programs.specs.TableSteps.{TableStep, OnName, OnChain, StoreName, LoadName, StoreOpen, LoadOpen, ClaimRequest, SwapHead, FreeRequest, OnSlot, ClaimSlot, OnPlace, StorePlace}
 use Rattle.seat_programs.specs.Programs.{Program, Do, TakeMessage, TakeHome, PutHome, PutBytes, AskReady, Write, Aside, Round}
 use Rattle.seat_programs.specs.Asides.{Step, Found}
 use Rattle.seat_programs.specs.FoundAndChangedAside.{found_in}
@@ -71,6 +71,8 @@ module _ (p : Plan) (ws : List ℕ) (sized : length ws ≡ all_words p) where
       (λ even z. let is : cond (found % 2 == 0) (found + 1) found ≡ found + 1 = ap (λ b. cond b (found + 1) found) (eq-eqb (found % 2) 0 even) in absurd (omega (arith, z, is)))
       (λ odd z. let is : cond (found % 2 == 0) (found + 1) found ≡ found = ap (λ b. cond b (found + 1) found) (ne_eqb (found % 2) 0 odd) in odd (omega (arith, z, is))))
   call_lasts v (OnChain (FreeRequest q g)) may = lasts_set p ws sized (request_index p q) (2 * (g + 1)) (λ l z. absurd (omega arith))
+  call_lasts v (OnSlot (ClaimSlot i)) may = lasts_left v (OnSlot (ClaimSlot i)) may (word_after (OnSlot (ClaimSlot i)) (found_at ws (word_of p (OnSlot (ClaimSlot i))))) refl refl refl
+  call_lasts v (OnPlace (StorePlace l k n)) may = lasts_left v (OnPlace (StorePlace l k n)) may (word_after (OnPlace (StorePlace l k n)) (found_at ws (word_of p (OnPlace (StorePlace l k n))))) refl refl refl
   call_lasts v call may = lasts_left v call may (word_after call (found_at ws (word_of p call))) refl refl refl
 
 -- so no tick does: a name and an `open` keep having an id, and a request that was claimed once is never as new again
