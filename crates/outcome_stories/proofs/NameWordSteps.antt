@@ -6,7 +6,7 @@ use native.Mathlib.Decide.{ℕ_discrete}
 use Rattle.sock_words.specs.declared.plain.Plan.{Plan}
 use Rattle.sock_model.specs.declared.view.View.{View}
 use Rattle.sock_model.specs.SocketTableLayout.{name_index, all_words}
-use Rattle.seat_programs.specs.TableSteps.{TableStep, OnName, StoreName, LoadName}
+use Rattle.seat_programs.specs.TableSteps.{TableStep, OnName, StoreName, LoadName, OnSlot, ClaimSlot, OnChain, ReadNext, OnPlace, StorePlace}
 use Rattle.seat_programs.specs.StepTables.{word_of, word_after}
 use Rattle.seat_programs.specs.Cores.{found_at, words_after}
 use Rattle.seat_programs.specs.StepTables.{May}
@@ -34,4 +34,7 @@ module _ (p : Plan) (v : View) (ws : List ℕ) (sized : length ws ≡ all_words 
   name_stays (OnName (LoadName m)) may = dite (ℕ_discrete m n)
       (λ same. subst (λ z. get_or (set ws (name_index p z) (get_or ws (name_index p z) 0)) (name_index p n) 0 ≡ get_or ws (name_index p n) 0) (sym same) (get_or-set_same ws (name_index p n) (get_or ws (name_index p n) 0) 0 (omega (arith, sized))))
       (λ far. get_or-set_other ws (name_index p m) (name_index p n) (get_or ws (name_index p m) 0) 0 (λ e. far (omega arith)))
+  name_stays (OnSlot (ClaimSlot i)) may = word_beside ws (all_words p) (name_index p n) (word_of p (OnSlot (ClaimSlot i))) (word_after (OnSlot (ClaimSlot i)) (found_at ws (word_of p (OnSlot (ClaimSlot i))))) (λ e. omega arith)
+  name_stays (OnChain (ReadNext q)) may = word_beside ws (all_words p) (name_index p n) (word_of p (OnChain (ReadNext q))) (word_after (OnChain (ReadNext q)) (found_at ws (word_of p (OnChain (ReadNext q))))) (λ e. omega arith)
+  name_stays (OnPlace (StorePlace l k n')) may = word_beside ws (all_words p) (name_index p n) (word_of p (OnPlace (StorePlace l k n'))) (word_after (OnPlace (StorePlace l k n')) (found_at ws (word_of p (OnPlace (StorePlace l k n'))))) (λ e. omega arith)
   name_stays call may = word_beside ws (all_words p) (name_index p n) (word_of p call) (word_after call (found_at ws (word_of p call))) (λ e. omega arith)
