@@ -18,7 +18,7 @@ use Rattle.sock_model.specs.UnplacedMessages.{HeadedBytes}
 use Rattle.sock_model.specs.ChainLawReads.{message, link_home}
 use Rattle.sock_model.specs.LawfulSockets.{Lawful}
 use Rattle.sock_model.specs.Rule.{Lasting, of_name, of_open, of_request, Rule}
-use Rattle.seat_programs.specs.TableSteps.{TableStep, OnName, OnChain, StoreName, LoadName, StoreOpen, LoadOpen, ClaimRequest, SwapHead, FreeRequest, OnSlot, ClaimSlot, OnPlace, StorePlace}
+use Rattle.seat_programs.specs.TableSteps.{TableStep, OnName, OnChain, StoreName, LoadName, StoreOpen, LoadOpen, ClaimRequest, SwapHead, FreeRequest}
 use Rattle.seat_programs.specs.Programs.{Program, Do, TakeMessage, TakeHome, PutHome, PutBytes, AskReady, Write, Aside, Round}
 use Rattle.seat_programs.specs.Asides.{Step, Found}
 use Rattle.seat_programs.specs.FoundAndChangedAside.{found_in}
@@ -32,7 +32,7 @@ use Rattle.seat_programs.specs.StepViews.{by_claim}
 use Rattle.seat_programs.specs.StepsOfChain.{exchanged}
 use Rattle.seat_programs.specs.StepsOfMessages.{took_message}
 use Rattle.seat_programs.specs.StepsOfLinks.{link_away, link_home_again, took_bytes}
-use Rattle.sock_runs.specs.program_steps.proofs.WordFrame.{sort_in, load_leaves, word_stays}
+use Rattle.sock_runs.specs.program_steps.proofs.WordFrame.{is_on, load_leaves, word_stays}
 use Rattle.sock_runs.specs.program_steps.specs.ProgramGoesOn.{GoesOn}
 use Rattle.sock_runs.specs.program_steps.specs.SoundSeats.{Sound, state, views_with_message, views_with_link, views_with_put, views_with, views_of, views_after}
 use Rattle.sock_steps.proofs.SumsAsMarksChange.{either_way}
@@ -56,7 +56,7 @@ module _ (p : Plan) (ws : List ℕ) (sized : length ws ≡ all_words p) where
   same_lasts vs x y e same some_ z = some_ (sym (subst (λ n. get_or vs n 0 ≡ get_or ws n 0) (sym e) same) ∙ z)
 
   -- a step on no word of a name, an operation or a request
-  lasts_left : (v : View) (call : TableStep) → May p v call → (stored : ℕ) → eqb (sort_in (table_word call)) 5 ≡ false → eqb (sort_in (table_word call)) 6 ≡ false → eqb (sort_in (table_word call)) 7 ≡ false → Lasts p ws (words_after ws (word_of p call) stored)
+  lasts_left : (v : View) (call : TableStep) → May p v call → (stored : ℕ) → is_on 5 call ≡ false → is_on 6 call ≡ false → is_on 7 call ≡ false → Lasts p ws (words_after ws (word_of p call) stored)
   lasts_left v call may stored name open_ request x (of_name n l e) = same_lasts (words_after ws (word_of p call) stored) x (name_index p n) e (word_stays p ws v call may stored (NameOf n) l (omega arith) name)
   lasts_left v call may stored name open_ request x (of_open o l e) = same_lasts (words_after ws (word_of p call) stored) x (open_index p o) e (word_stays p ws v call may stored (OpenOf o) l (omega arith) open_)
   lasts_left v call may stored name open_ request x (of_request q l e) = same_lasts (words_after ws (word_of p call) stored) x (request_index p q) e (word_stays p ws v call may stored (RequestOf q) l (omega arith) request)
@@ -71,8 +71,6 @@ module _ (p : Plan) (ws : List ℕ) (sized : length ws ≡ all_words p) where
       (λ even z. let is : cond (found % 2 == 0) (found + 1) found ≡ found + 1 = ap (λ b. cond b (found + 1) found) (eq-eqb (found % 2) 0 even) in absurd (omega (arith, z, is)))
       (λ odd z. let is : cond (found % 2 == 0) (found + 1) found ≡ found = ap (λ b. cond b (found + 1) found) (ne_eqb (found % 2) 0 odd) in odd (omega (arith, z, is))))
   call_lasts v (OnChain (FreeRequest q g)) may = lasts_set p ws sized (request_index p q) (2 * (g + 1)) (λ l z. absurd (omega arith))
-  call_lasts v (OnSlot (ClaimSlot i)) may = lasts_left v (OnSlot (ClaimSlot i)) may (word_after (OnSlot (ClaimSlot i)) (found_at ws (word_of p (OnSlot (ClaimSlot i))))) refl refl refl
-  call_lasts v (OnPlace (StorePlace l k n)) may = lasts_left v (OnPlace (StorePlace l k n)) may (word_after (OnPlace (StorePlace l k n)) (found_at ws (word_of p (OnPlace (StorePlace l k n))))) refl refl refl
   call_lasts v call may = lasts_left v call may (word_after call (found_at ws (word_of p call))) refl refl refl
 
 -- so no tick does: a name and an `open` keep having an id, and a request that was claimed once is never as new again

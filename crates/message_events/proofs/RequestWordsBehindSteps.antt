@@ -8,7 +8,7 @@ use lib.Seq.{set-get_or}
 use Rattle.sock_words.specs.declared.plain.Plan.{Plan}
 use Rattle.sock_model.specs.declared.view.View.{View}
 use Rattle.sock_model.specs.SocketTableLayout.{request_index, all_words}
-use Rattle.seat_programs.specs.TableSteps.{TableStep, OnChain, ClaimRequest, FreeRequest, OnSlot, ClaimSlot, OnName, LoadName, OnPlace, StorePlace}
+use Rattle.seat_programs.specs.TableSteps.{TableStep, OnChain, ClaimRequest, FreeRequest}
 use Rattle.seat_programs.specs.TableWords.{RequestOf}
 use Rattle.seat_programs.specs.StepTables.{May, word_of, word_after}
 use Rattle.seat_programs.specs.Cores.{words_after}
@@ -25,9 +25,6 @@ pub requests_after : (p : Plan) (ws : List ℕ) (r : ℕ) → r < p.requests →
     → slice_index (words_after ws (word_of p call) (word_after call found)) (request_index p r) ≡ slice_index ws (request_index p r)
 requests_after p ws r inside v (OnChain (ClaimRequest id q)) found may is = absurd (true≢false is)
 requests_after p ws r inside v (OnChain (FreeRequest q g)) found may is = absurd (true≢false is)
-requests_after p ws r inside v (OnSlot (ClaimSlot i)) found may is = word_stays p ws v (OnSlot (ClaimSlot i)) may (word_after (OnSlot (ClaimSlot i)) found) (RequestOf r) inside (omega arith) refl
-requests_after p ws r inside v (OnName (LoadName n)) found may is = word_stays p ws v (OnName (LoadName n)) may (word_after (OnName (LoadName n)) found) (RequestOf r) inside (omega arith) refl
-requests_after p ws r inside v (OnPlace (StorePlace l k n)) found may is = word_stays p ws v (OnPlace (StorePlace l k n)) may (word_after (OnPlace (StorePlace l k n)) found) (RequestOf r) inside (omega arith) refl
 requests_after p ws r inside v call found may is = word_stays p ws v call may (word_after call found) (RequestOf r) inside (omega arith) refl
 
 -- a step that makes this of the word of request q

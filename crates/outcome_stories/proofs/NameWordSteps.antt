@@ -1,25 +1,17 @@
 -- What a step makes of the words of names, and of each word that it doesn't write.
 use Rattle.std.proofs.Common.{◌≡◌, ◌≢◌, ℕ, ◌<◌, cond, eqb, eq-eqb, ne_eqb, List, length, get_or, set, get_or-set_same, get_or-set_other, refl, sym, ap, ◌∙◌, subst, arith}
 use mathlib.Core.Logic.{dite}
-use mathlib.Core.Option.{Option, none, some}
 use native.Mathlib.Decide.{ℕ_discrete}
 use Rattle.sock_words.specs.declared.plain.Plan.{Plan}
 use Rattle.sock_model.specs.declared.view.View.{View}
 use Rattle.sock_model.specs.SocketTableLayout.{name_index, all_words}
-use Rattle.seat_programs.specs.TableSteps.{TableStep, OnName, StoreName, LoadName, OnSlot, ClaimSlot, OnChain, ReadNext, OnPlace, StorePlace}
+use Rattle.seat_programs.specs.TableSteps.{TableStep, OnName, StoreName, LoadName}
 use Rattle.seat_programs.specs.StepTables.{word_of, word_after}
 use Rattle.seat_programs.specs.Cores.{found_at, words_after}
 use Rattle.seat_programs.specs.StepTables.{May}
+use Rattle.seat_programs.specs.TableWords.{NameOf}
+use Rattle.program_walks.specs.program_steps.proofs.WordFrame.{word_stays}
 use Rattle.outcome_stories.specs.OperationStories.{stored_by}
-
--- which word is written, of so many: where none is, the one behind them
-abbrev pub written : ℕ → Option ℕ → ℕ
-written all none = all
-written all (some x) = x
-
-pub word_beside : (ws : List ℕ) (all x : ℕ) (o : Option ℕ) (w : ℕ) → x ≢ written all o → get_or (words_after ws o w) x 0 ≡ get_or ws x 0
-word_beside ws all x none w ne = refl
-word_beside ws all x (some y) w ne = get_or-set_other ws y x w 0 ne
 
 module _ (p : Plan) (v : View) (ws : List ℕ) (sized : length ws ≡ all_words p) (n : ℕ) (inside : n < p.names) where
   abbrev Stays : TableStep → Type 0
@@ -34,7 +26,4 @@ module _ (p : Plan) (v : View) (ws : List ℕ) (sized : length ws ≡ all_words 
   name_stays (OnName (LoadName m)) may = dite (ℕ_discrete m n)
       (λ same. subst (λ z. get_or (set ws (name_index p z) (get_or ws (name_index p z) 0)) (name_index p n) 0 ≡ get_or ws (name_index p n) 0) (sym same) (get_or-set_same ws (name_index p n) (get_or ws (name_index p n) 0) 0 (omega (arith, sized))))
       (λ far. get_or-set_other ws (name_index p m) (name_index p n) (get_or ws (name_index p m) 0) 0 (λ e. far (omega arith)))
-  name_stays (OnSlot (ClaimSlot i)) may = word_beside ws (all_words p) (name_index p n) (word_of p (OnSlot (ClaimSlot i))) (word_after (OnSlot (ClaimSlot i)) (found_at ws (word_of p (OnSlot (ClaimSlot i))))) (λ e. omega arith)
-  name_stays (OnChain (ReadNext q)) may = word_beside ws (all_words p) (name_index p n) (word_of p (OnChain (ReadNext q))) (word_after (OnChain (ReadNext q)) (found_at ws (word_of p (OnChain (ReadNext q))))) (λ e. omega arith)
-  name_stays (OnPlace (StorePlace l k n')) may = word_beside ws (all_words p) (name_index p n) (word_of p (OnPlace (StorePlace l k n'))) (word_after (OnPlace (StorePlace l k n')) (found_at ws (word_of p (OnPlace (StorePlace l k n'))))) (λ e. omega arith)
-  name_stays call may = word_beside ws (all_words p) (name_index p n) (word_of p call) (word_after call (found_at ws (word_of p call))) (λ e. omega arith)
+  name_stays call may = word_stays p ws v call may (word_after call (found_at ws (word_of p call))) (NameOf n) inside (omega arith) refl

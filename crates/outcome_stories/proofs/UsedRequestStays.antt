@@ -5,12 +5,13 @@ use native.Mathlib.Decide.{ℕ_discrete}
 use Rattle.sock_words.specs.declared.plain.Plan.{Plan}
 use Rattle.sock_model.specs.declared.view.View.{View}
 use Rattle.sock_model.specs.SocketTableLayout.{request_index, all_words}
-use Rattle.seat_programs.specs.TableSteps.{TableStep, OnChain, ClaimRequest, FreeRequest, OnSlot, ClaimSlot, OnName, LoadName, OnPlace, StorePlace}
+use Rattle.seat_programs.specs.TableSteps.{TableStep, OnChain, ClaimRequest, FreeRequest}
 use Rattle.seat_programs.specs.StepTables.{word_of, word_after}
 use Rattle.seat_programs.specs.Cores.{found_at, words_after}
 use Rattle.seat_programs.specs.StepTables.{May}
+use Rattle.seat_programs.specs.TableWords.{RequestOf}
+use Rattle.program_walks.specs.program_steps.proofs.WordFrame as frame
 use Rattle.outcome_stories.proofs.Tests.{split}
-use Rattle.outcome_stories.proofs.NameWordSteps.{word_beside}
 
 module _ (p : Plan) (v : View) (ws : List ℕ) (sized : length ws ≡ all_words p) (q : ℕ) (inside : q < p.requests) (used : 0 < get_or ws (request_index p q) 0) where
   abbrev Stays : TableStep → Type 0
@@ -30,7 +31,4 @@ module _ (p : Plan) (v : View) (ws : List ℕ) (sized : length ws ≡ all_words 
   word_stays (OnChain (FreeRequest r g)) may = dite (ℕ_discrete r q)
       (λ same. subst (λ z. 0 < get_or (set ws (request_index p z) (2 * (g + 1))) (request_index p q) 0) (sym same) (here (2 * (g + 1)) (omega arith)))
       (λ far. else_ (request_index p r) _ (λ e. far (omega arith)))
-  word_stays (OnSlot (ClaimSlot i)) may = subst (λ n. 0 < n) (sym (word_beside ws (all_words p) (request_index p q) (word_of p (OnSlot (ClaimSlot i))) (word_after (OnSlot (ClaimSlot i)) (found_at ws (word_of p (OnSlot (ClaimSlot i))))) (λ e. omega arith))) used
-  word_stays (OnName (LoadName n')) may = subst (λ n. 0 < n) (sym (word_beside ws (all_words p) (request_index p q) (word_of p (OnName (LoadName n'))) (word_after (OnName (LoadName n')) (found_at ws (word_of p (OnName (LoadName n'))))) (λ e. omega arith))) used
-  word_stays (OnPlace (StorePlace l k n')) may = subst (λ n. 0 < n) (sym (word_beside ws (all_words p) (request_index p q) (word_of p (OnPlace (StorePlace l k n'))) (word_after (OnPlace (StorePlace l k n')) (found_at ws (word_of p (OnPlace (StorePlace l k n'))))) (λ e. omega arith))) used
-  word_stays call may = subst (λ n. 0 < n) (sym (word_beside ws (all_words p) (request_index p q) (word_of p call) (word_after call (found_at ws (word_of p call))) (λ e. omega arith))) used
+  word_stays call may = subst (λ n. 0 < n) (sym (frame.word_stays p ws v call may (word_after call (found_at ws (word_of p call))) (RequestOf q) inside (omega arith) refl)) used

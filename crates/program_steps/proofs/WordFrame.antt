@@ -1,13 +1,17 @@
 -- A step leaves each word of the table but its own, and a load leaves its own too.
-use Rattle.std.proofs.Common.{◌≡◌, ◌≢◌, ℕ, ◌*◌, ◌<◌, ◌≤◌, Bool, true, false, List, refl, sym, ap, subst, arith, eqb, eq-eqb, true≢false, le-ltb, ◌∙◌, get_or, get_or-set_other}
-use Rattle.std.specs.Prelude.{nat_lt}
+use Rattle.std.proofs.Common.{◌≡◌, ◌≢◌, ℕ, ◌*◌, ◌<◌, ◌≤◌, ◌==◌, Bool, true, false, List, refl, sym, ap, subst, arith, eqb, eq-eqb, eqb-true, ne_eqb, true≢false, le-ltb, ◌∙◌, get_or, get_or-set_other}
+use Rattle.std.specs.Prelude.{nat_lt, ◌&&◌, ◌||◌}
 use mathlib.Core.Option.{Option, some, none, some-injective, some-ne-none}
 use lib.Seq.{set-get_or}
 use Rattle.sock_words.specs.declared.plain.Plan.{Plan}
 use Rattle.sock_model.specs.declared.view.View.{View}
 use Rattle.sock_model.specs.SocketTableLayout.{all_words}
-use Rattle.seat_programs.specs.TableSteps.{TableStep, OnSlot, OnName, OnChain, ClaimSlot, CreateLife, AddRef, SubRef, SetOdd, Recycle, FreeSlot, LookWord, StoreLink, LoadLink, FindLink, ResetHead, ClearCode, StoreCode, LoadCode, StoreName, LoadName, StoreOpen, LoadOpen, SwapHead, EmptyHead, OnPlace, StorePlace}
+use Rattle.seat_programs.specs.TableSteps.{TableStep, PlaceStep, ChainStep, NameStep, SlotStep, OnMessage, OnLink, OnSlot, OnName, OnChain, ClaimSlot, CreateLife, AddRef, SubRef, SetOdd, Recycle, FreeSlot, LookWord, StoreLink, LoadLink, FindLink, ResetHead, ClearCode, StoreCode, LoadCode, StoreName, LoadName, StoreOpen, LoadOpen, SwapHead, EmptyHead, OnPlace, StorePlace}
 use Rattle.seat_programs.specs.TableWords.{TableWord, TagOf, RefOf, LinkOf, HeadOf, CodeOf, NameOf, OpenOf, RequestOf, NextOf, PlaceOf, index_in, index_of, IsIn}
+use Rattle.seat_programs.specs.StepsOfSlots.{word_of_slot}
+use Rattle.seat_programs.specs.StepsOfNames.{word_of_name}
+use Rattle.seat_programs.specs.StepsOfChain.{word_of_chain}
+use Rattle.seat_programs.specs.StepsOfPlaces.{word_of_place}
 use Rattle.seat_programs.specs.StepTables.{May, table_word, word_of}
 use Rattle.seat_programs.specs.Cores.{found_at, words_after}
 
@@ -114,6 +118,54 @@ low_word p v (OnChain (EmptyHead i last)) may = may.0
 low_word p v (OnPlace (StorePlace l k n)) may = tt
 low_word p v call may = tt
 
+-- ## The sort of a step's word
+
+-- whether a step is on a word of this sort: the words of slots are of the sorts 0 to 4, those of names and operations 5 and 6, of the chain 3, 7 and
+-- 8, of places 9. Of a sort that none of its family is on this is false whatever the step.
+abbrev pub is_on : ℕ → TableStep → Bool
+is_on n (OnSlot step) = nat_lt n 5 && eqb (sort_in (word_of_slot step)) n
+is_on n (OnName step) = (nat_lt 4 n && nat_lt n 7) && eqb (sort_in (word_of_name step)) n
+is_on n (OnChain step) = ((n == 3) || (nat_lt 6 n && nat_lt n 9)) && eqb (sort_in (word_of_chain step)) n
+is_on n (OnPlace step) = (n == 9) && eqb (sort_in (word_of_place step)) n
+is_on n other = false
+
+slot_sort : (step : SlotStep) → nat_lt (sort_in (word_of_slot step)) 5 ≡ true
+slot_sort (ClaimSlot i) = refl
+slot_sort step = refl
+
+name_sort : (step : NameStep) → (nat_lt 4 (sort_in (word_of_name step)) && nat_lt (sort_in (word_of_name step)) 7) ≡ true
+name_sort (LoadName n) = refl
+name_sort step = refl
+
+chain_sort : (step : ChainStep) → ((sort_in (word_of_chain step) == 3) || (nat_lt 6 (sort_in (word_of_chain step)) && nat_lt (sort_in (word_of_chain step)) 9)) ≡ true
+chain_sort (SwapHead i own) = refl
+chain_sort step = refl
+
+place_sort : (step : PlaceStep) → (sort_in (word_of_place step) == 9) ≡ true
+place_sort (StorePlace l k n) = refl
+place_sort step = refl
+
+-- what lies in a range isn't out of it
+inside_of : (range : ℕ → Bool) (sort n : ℕ) → range sort ≡ true → (range n && eqb sort n) ≡ false → eqb sort n ≡ false
+inside_of range sort n within is = by_test (eqb sort n) refl
+  where
+    by_test : (b : Bool) → eqb sort n ≡ b → b ≡ false
+    by_test false e = refl
+    by_test true e = let in_ : range n ≡ true = subst (λ m. range m ≡ true) (eqb-true sort n e) within in sym (ap (λ b. range n && b) e ∙ ap (λ b. b && true) in_) ∙ is
+
+pub apart_by : (n : ℕ) (call : TableStep) → is_on n call ≡ false → n ≢ 10 → eqb (sort_in (table_word call)) n ≡ false
+apart_by n (OnSlot step) is some_ = inside_of (λ m. nat_lt m 5) (sort_in (word_of_slot step)) n (slot_sort step) is
+apart_by n (OnName step) is some_ = inside_of (λ m. nat_lt 4 m && nat_lt m 7) (sort_in (word_of_name step)) n (name_sort step) is
+apart_by n (OnChain step) is some_ = inside_of (λ m. (m == 3) || (nat_lt 6 m && nat_lt m 9)) (sort_in (word_of_chain step)) n (chain_sort step) is
+apart_by n (OnPlace step) is some_ = inside_of (λ m. m == 9) (sort_in (word_of_place step)) n (place_sort step) is
+apart_by n (OnLink step) is some_ = ne_eqb 10 n (λ e. some_ (sym e))
+apart_by n (OnMessage step) is some_ = ne_eqb 10 n (λ e. some_ (sym e))
+
+-- no word is of the sort of none
+sort_is : (w : TableWord) → sort_of w ≢ 10
+sort_is (TagOf i) e = omega (arith, e)
+sort_is w e = omega (arith, e)
+
 -- ## A word of a slot, a name, an operation or a request
 
 weaken : (b : Bool) (says : Type 0) → says → When b says
@@ -135,9 +187,9 @@ low_in p n few none low x e = absurd (some-ne-none x (sym e))
 low_in p n few (some w) low x e = subst (λ y. IsBelow p n y) (some-injective w x e) (lower p n few w low)
 
 -- a step that the view allows leaves it, where its own word is of another sort
-pub word_stays : (p : Plan) (ws : List ℕ) (v : View) (call : TableStep) → May p v call → (stored : ℕ) (w : TableWord) → IsIn p w → level_of w ≤ 3 → eqb (sort_in (table_word call)) (sort_of w) ≡ false
+pub word_stays : (p : Plan) (ws : List ℕ) (v : View) (call : TableStep) → May p v call → (stored : ℕ) (w : TableWord) → IsIn p w → level_of w ≤ 3 → is_on (sort_of w) call ≡ false
     → get_or (words_after ws (word_of p call) stored) (index_in p w) 0 ≡ get_or ws (index_in p w) 0
-word_stays p ws v call may stored w inside few other = leaves p ws (table_word call) stored w inside (low_in p (level_of w) few (table_word call) (low_word p v call may)) other
+word_stays p ws v call may stored w inside few other = leaves p ws (table_word call) stored w inside (low_in p (level_of w) few (table_word call) (low_word p v call may)) (apart_by (sort_of w) call other (sort_is w))
 
 -- ## A word that is one of the table
 

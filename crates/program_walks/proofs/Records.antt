@@ -5,7 +5,7 @@ use Rattle.sock_words.specs.PackedWords.{socket_id, vref_version}
 use Rattle.sock_words.specs.declared.plain.Plan.{Plan}
 use Rattle.sock_model.specs.declared.view.View.{View}
 use Rattle.sock_model.specs.SocketTableLayout.{open_index}
-use Rattle.seat_programs.specs.TableSteps.{TableStep, OnSlot, OnName, CreateLife, StoreOpen, LoadOpen, ClaimSlot, OnChain, ReadNext, OnPlace, StorePlace}
+use Rattle.seat_programs.specs.TableSteps.{TableStep, OnSlot, OnName, CreateLife, StoreOpen, LoadOpen}
 use Rattle.seat_programs.specs.LoopHeads.{Head, Retry, Opens}
 use Rattle.seat_programs.specs.Programs.{Program, Do, Say, Sent, Write, Round, Keep, Retries}
 use Rattle.seat_programs.specs.TableWords.{OpenOf}
@@ -70,7 +70,4 @@ pub opens_same : (p : Plan) (ws : List ℕ) (v : View) (o : ℕ) → o < p.opera
     → get_or (words_after ws (word_of p call) (word_after call (found_at ws (word_of p call)))) (open_index p o) 0 ≡ get_or ws (open_index p o) 0
 opens_same p ws v o inside (OnName (StoreOpen n w)) may none_ = absurd (some-ne-none (n, w) none_)
 opens_same p ws v o inside (OnName (LoadOpen n)) may none_ = ap (λ l. get_or l (open_index p o) 0) (load_leaves p ws (some (OpenOf n)))
-opens_same p ws v o inside (OnSlot (ClaimSlot i)) may none_ = word_stays p ws v (OnSlot (ClaimSlot i)) may (word_after (OnSlot (ClaimSlot i)) (found_at ws (word_of p (OnSlot (ClaimSlot i))))) (OpenOf o) inside (omega arith) refl
-opens_same p ws v o inside (OnChain (ReadNext q)) may none_ = word_stays p ws v (OnChain (ReadNext q)) may (word_after (OnChain (ReadNext q)) (found_at ws (word_of p (OnChain (ReadNext q))))) (OpenOf o) inside (omega arith) refl
-opens_same p ws v o inside (OnPlace (StorePlace l k n)) may none_ = word_stays p ws v (OnPlace (StorePlace l k n)) may (word_after (OnPlace (StorePlace l k n)) (found_at ws (word_of p (OnPlace (StorePlace l k n))))) (OpenOf o) inside (omega arith) refl
 opens_same p ws v o inside call may none_ = word_stays p ws v call may (word_after call (found_at ws (word_of p call))) (OpenOf o) inside (omega arith) refl

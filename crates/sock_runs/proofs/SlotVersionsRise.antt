@@ -13,7 +13,7 @@ use Rattle.sock_model.specs.SocketSlotLaw.{count, live}
 use Rattle.sock_model.specs.References.{slot_facts}
 use Rattle.sock_steps.specs.slot_steps.proofs.RuleNumbers.{life_is, or-even, or-odd}
 use Rattle.sock_steps.proofs.LifeLinkSlotPlaces.{own_count}
-use Rattle.seat_programs.specs.TableSteps.{TableStep, OnSlot, CreateLife, AddRef, SubRef, SetOdd, Recycle, LookWord, OnName, LoadName, OnChain, ReadNext, OnPlace, StorePlace}
+use Rattle.seat_programs.specs.TableSteps.{TableStep, OnSlot, CreateLife, AddRef, SubRef, SetOdd, Recycle, LookWord}
 use Rattle.seat_programs.specs.Cores.{Core, found_at, words_after}
 use Rattle.seat_programs.specs.TableWords.{RefOf}
 use Rattle.seat_programs.specs.StepTables.{word_of, word_after, hand_at, May, Finds}
@@ -67,9 +67,6 @@ module _ (p : Plan) (c : Core) (vs : List View) (sound : Sound p c vs) (i : ℕ)
   versions_on (OnSlot (SetOdd n)) may j inside = own j n (bit_or (get_or c.words (ref_index n) 0) 4294967296) inside (set_version (get_or c.words (ref_index n) 0))
   versions_on (OnSlot (Recycle n from)) may j inside = own j n (word_after (OnSlot (Recycle n from)) (get_or c.words (ref_index n) 0)) inside (recycled_version (get_or c.words (ref_index n) 0) from)
   versions_on (OnSlot (LookWord id)) may j inside = let e = ap (λ l. vref_version (get_or l (ref_index j) 0)) (load_leaves p c.words (some (RefOf (socket_id_slot id)))) in omega (arith, e)
-  versions_on (OnName (LoadName n)) may j inside = let e = ap vref_version (word_stays p c.words v (OnName (LoadName n)) may (word_after (OnName (LoadName n)) (found_at c.words (word_of p (OnName (LoadName n))))) (RefOf j) inside (omega arith) refl) in omega (arith, e)
-  versions_on (OnChain (ReadNext q)) may j inside = let e = ap vref_version (word_stays p c.words v (OnChain (ReadNext q)) may (word_after (OnChain (ReadNext q)) (found_at c.words (word_of p (OnChain (ReadNext q))))) (RefOf j) inside (omega arith) refl) in omega (arith, e)
-  versions_on (OnPlace (StorePlace l k n)) may j inside = let e = ap vref_version (word_stays p c.words v (OnPlace (StorePlace l k n)) may (word_after (OnPlace (StorePlace l k n)) (found_at c.words (word_of p (OnPlace (StorePlace l k n))))) (RefOf j) inside (omega arith) refl) in omega (arith, e)
   versions_on call may j inside = let e = ap vref_version (word_stays p c.words v call may (word_after call (found_at c.words (word_of p call))) (RefOf j) inside (omega arith) refl) in omega (arith, e)
 
   -- a life that was made is no later one than the slot's
