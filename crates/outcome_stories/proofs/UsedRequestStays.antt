@@ -1,5 +1,5 @@
 -- A request's word that isn't 0 stays so.
-use Rattle.std.proofs.Common.{◌≡◌, ◌≢◌, ℕ, ◌<◌, ◌+◌, ◌*◌, ◌%◌, eqb, List, length, get_or, set, get_or-set_same, get_or-set_other, sym, subst, arith}
+use Rattle.std.proofs.Common.{◌≡◌, ◌≢◌, ℕ, ◌<◌, ◌+◌, ◌*◌, ◌%◌, eqb, List, length, get_or, set, get_or-set_same, get_or-set_other, sym, subst, arith, refl}
 use mathlib.Core.Logic.{dite}
 use native.Mathlib.Decide.{ℕ_discrete}
 use Rattle.sock_words.specs.declared.plain.Plan.{Plan}
