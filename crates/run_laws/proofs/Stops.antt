@@ -95,6 +95,7 @@ stops_none stopped i (OnChain (SwapHead j own)) found v e = by_claims v.claims
     by_claims : (cs : List Claim) → stopped_after (accept_event i found cs) stopped ≡ stopped
     by_claims [] = refl
     by_claims (c ∷ cs) = refl
+stops_none stopped i (OnPlace (StorePlace l k n)) found v e = refl
 stops_none stopped i _ found v e = refl
 
 behind_unknown : (m : Mode) (call : TableStep) (found : ℕ) → is_look call ≡ false → is_code call ≡ false → mode_behind m call found ≡ Unknown

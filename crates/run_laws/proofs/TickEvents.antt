@@ -99,6 +99,7 @@ step_lives i (OnSlot (Recycle j from)) found v = lives_if (eqb found from) (End 
 step_lives i (OnSlot (LookWord id)) found v = lives_if (eqb (vref_version found % 2) 0) Nothing (stop_event v.rights) ∙ (ap (λ e. cond (eqb (vref_version found % 2) 0) lives.Nothing e) (rights_lives v.rights) ∙ none_if (eqb (vref_version found % 2) 0) lives.Nothing)
 step_lives i (OnChain (ClaimRequest id q)) found v = lives_if (eqb (found % 2) 0) (world.Claim q) Nothing ∙ none_if (eqb (found % 2) 0) lives.Nothing
 step_lives i (OnChain (SwapHead j own)) found v = claims_lives i found v.claims
+step_lives i (OnPlace (StorePlace l k n)) found v = refl
 step_lives i _ found v = refl
 
 claims_messages : (i found : ℕ) (cs : List Claim) → of_messages (accept_event i found cs) ≡ messages_seen.accept_event found cs
@@ -113,6 +114,7 @@ step_messages i (OnSlot (Recycle j from)) found v = messages_if (eqb found from)
 step_messages i (OnSlot (LookWord id)) found v = messages_if (eqb (vref_version found % 2) 0) Nothing (stop_event v.rights) ∙ (ap (λ e. cond (eqb (vref_version found % 2) 0) messages.Nothing e) (rights_messages v.rights) ∙ none_if (eqb (vref_version found % 2) 0) messages.Nothing)
 step_messages i (OnChain (ClaimRequest id q)) found v = messages_if (eqb (found % 2) 0) (world.Claim q) Nothing
 step_messages i (OnChain (SwapHead j own)) found v = claims_messages i found v.claims
+step_messages i (OnPlace (StorePlace l k n)) found v = refl
 step_messages i _ found v = refl
 
 put_lives : (k : ℕ) (bytes : List ℕ) (answer : Put) → of_lives (put_event k bytes answer) ≡ lives.Nothing
@@ -170,6 +172,7 @@ step_links i (OnChain (SwapHead j own)) found v links l k = let e = ap (λ (x : 
     by_claims : (cs : List Claim) → links_after (accept_event i found cs) links ≡ links
     by_claims [] = refl
     by_claims (c ∷ cs) = refl
+step_links i (OnPlace (StorePlace l' k' n)) found v links l k = omega arith
 step_links i _ found v links l k = omega arith
 
 -- ## A tick

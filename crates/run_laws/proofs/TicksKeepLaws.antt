@@ -14,7 +14,7 @@ use Rattle.sock_model.specs.declared.view.View.{View}
 use Rattle.sock_model.specs.SlotRows.{marks_of}
 use Rattle.sock_model.specs.PlainReferences.{life_at, PlainLaw, plain}
 use Rattle.sock_model.specs.MarkWeights.{is_probe}
-use Rattle.seat_programs.specs.TableSteps.{TableStep, OnSlot, OnChain, AddRef, SubRef, SetOdd, Recycle, LookWord, ClaimRequest, SwapHead}
+use Rattle.seat_programs.specs.TableSteps.{TableStep, OnSlot, OnChain, AddRef, SubRef, SetOdd, Recycle, LookWord, ClaimRequest, SwapHead, OnPlace, StorePlace}
 use Rattle.seat_programs.specs.Cores.{Core, found_at}
 use Rattle.seat_programs.specs.StepTables.{word_of}
 use Rattle.seat_programs.specs.Ticks.{Moment, ticked, run}
@@ -64,6 +64,7 @@ some_step p v full i (OnSlot (Recycle j from)) found may = some_if (eqb found fr
 some_step p v full i (OnSlot (LookWord id)) found may = some_if (eqb (vref_version found % 2) 0) Nothing (stop_event v.rights) tt (some_stop v.rights)
 some_step p v full i (OnChain (ClaimRequest id q)) found may = some_if (eqb (found % 2) 0) (world.Claim q) Nothing tt tt
 some_step p v full i (OnChain (SwapHead j own)) found may = let x = may.1 in subst (λ cs. IsSome (accept_event i found cs)) (sym x.claims) (full x.claim [] x.claims x.is_filled)
+some_step p v full i (OnPlace (StorePlace l k n)) found may = tt
 some_step p v full i _ found may = tt
 
 some_put : (k : ℕ) (bytes : List ℕ) (answer : Put) → IsSome (put_event k bytes answer)
