@@ -10,7 +10,7 @@ use Rattle.seat_programs.specs.declared.task.Sizes.{Sizes}
 use Rattle.seat_programs.specs.declared.task.Task.{Task}
 use Rattle.seat_programs.specs.Asides.{Step, Found, PutCall, MakeId, StoreCall, StoreAt}
 use Rattle.seat_programs.specs.CallAndRetryPrograms.{claims_from, heading_for, attempt, begin_call, claim_id, call, tried_again, retry_locked, retry}
-use Rattle.seat_programs.specs.TableSteps.{TableStep, OnSlot, OnName, OnChain, OnMessage, PutMessage, ClaimRequest, LoadName, FindLink, LookWord}
+use Rattle.seat_programs.specs.TableSteps.{TableStep, OnSlot, OnName, OnChain, OnMessage, PutMessage, ClaimRequest, LoadName, FindLink, LookWord, ClaimSlot}
 use Rattle.seat_programs.specs.ClientProgram.{HeldLife, client_from, ending_of}
 use Rattle.seat_programs.specs.LoopHeads.{Head, Exit, Posts, First, Unlocking, IsOpen, HasNext, Locking, NotThere, Has}
 use Rattle.seat_programs.specs.PostPrograms.{post, decided}
@@ -32,6 +32,8 @@ module _ (is_call : Asked → Type 0) where
 
   stays_plain : (t : Trail) (call : TableStep) (found : ℕ) → is_plain call ≡ true → GoesDo t call found t
   stays_plain t (OnChain (ClaimRequest s q)) found plain = absurd (let e = plain in cc)
+  stays_plain t (OnSlot (ClaimSlot i)) found plain = inl refl
+  stays_plain t (OnName (LoadName n)) found plain = inl refl
   stays_plain t call found plain = inl refl
 
   lost_by : (t : Trail) (call : TableStep) (found : ℕ) → GoesDo t call found lost
