@@ -1,5 +1,5 @@
 -- A seat without the right to write a link changes no place word.
-use Rattle.std.proofs.Common.{◌≡◌, ℕ, ◌*◌, ◌<◌, List, [], ◌∷◌, get_or, refl, sym, ◌∙◌, arith}
+use Rattle.std.proofs.Common.{◌≡◌, ℕ, ◌*◌, ◌<◌, List, [], ◌∷◌, get_or, refl, sym, ◌∙◌}
 use mathlib.Core.Option.{some}
 use lib.ListN.{get_elem?}
 use Rattle.sock_words.specs.declared.plain.Plan.{Plan}
@@ -12,7 +12,7 @@ use Rattle.seat_programs.specs.TableWords.{PlaceOf}
 use Rattle.seat_programs.specs.StepTables.{May, table_word, word_of, word_after}
 use Rattle.seat_programs.specs.Ticks.{Moment, IsAnswered, ticked}
 use Rattle.outcome_causes.specs.program_steps.specs.SoundSeats.{state, Sound, IsFitting}
-use Rattle.outcome_causes.specs.program_steps.proofs.WordFrame.{word_left, apart_by}
+use Rattle.outcome_causes.specs.program_steps.proofs.WordFrame.{word_left}
 use Rattle.outcome_causes.specs.sock_runs.proofs.ChainTicks.{word_inside}
 use Rattle.outcome_causes.specs.program_steps.proofs.TickCases.{tick_keeps_marks}
 
@@ -25,7 +25,7 @@ places_same : (p : Plan) (c : Core) (vs : List View) → Sound p c vs → (i : �
 places_same p c vs sound i v at none_ l low (OnPlace (StorePlace m k n)) may = absurd (no_right v.rights _ none_ may.1)
 places_same p c vs sound i v at none_ l low (OnPlace (DropPlace m k n)) may = absurd (no_right v.rights _ none_ may.1)
 places_same p c vs sound i v at none_ l low call may =
-    word_left p c.words (table_word call) (word_inside p (state c vs) sound.lawful i v at call may) (word_after call (found_at c.words (word_of p call))) (PlaceOf l) low (apart_by 9 call refl (λ e. omega (arith, e)))
+    word_left p c.words call (word_inside p (state c vs) sound.lawful i v at call may) (word_after call (found_at c.words (word_of p call))) (PlaceOf l) low refl
 
 -- its tick
 pub places_ticks : (p : Plan) (l : ℕ) → l < 8 * p.operations → (c : Core) (vs : List View) (m : Moment) → Sound p c vs → IsAnswered c m → IsFitting p c m → ((v : View) → get_elem? vs m.seat ≡ some v → v.rights ≡ [])

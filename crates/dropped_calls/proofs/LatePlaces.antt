@@ -15,7 +15,7 @@ use Rattle.seat_programs.specs.StepTables.{May, table_word, word_of, word_after}
 use Rattle.seat_programs.specs.Ticks.{Moment, IsAnswered, AreAnswered, ticked, run}
 use Rattle.ended_calls.specs.refused_attempts.specs.Below.programs_allowed.specs.program_steps.specs.SoundSeats.{state, Sound, AreFew, MOST_PLACES, IsFitting, AreFitting, views_after, views_along}
 use Rattle.ended_calls.specs.refused_attempts.specs.Below.programs_allowed.specs.program_steps.proofs.TickCases.{tick_keeps_marks}
-use Rattle.ended_calls.specs.refused_attempts.specs.Below.programs_allowed.specs.program_steps.proofs.WordFrame.{word_left, apart_by}
+use Rattle.ended_calls.specs.refused_attempts.specs.Below.programs_allowed.specs.program_steps.proofs.WordFrame.{word_left}
 use Rattle.ended_calls.specs.refused_attempts.specs.Below.programs_allowed.specs.sock_runs.proofs.ChainTicks.{word_inside}
 use Rattle.ended_calls.specs.refused_attempts.specs.Below.programs_allowed.specs.sock_runs.proofs.FewAcceptedMessages.{places_small}
 use Rattle.ended_calls.specs.refused_attempts.specs.Below.programs_allowed.specs.sock_runs.proofs.LinkTicks.{RetriesGo}
@@ -67,7 +67,7 @@ module _ (p : Plan) (base : Core) (L : ℕ → Type 0) where
         (subst (λ z. z < MOST_PLACES) (sym may.4) (places_small p (state c vs) sound.lawful i v at x.mine.place x.mine.right x.mine.has few x.now x.stage))
     place_after (OnPlace (DropPlace n k position)) may = let x = may.0 in let y = late_one x.mine.right may.1 in place_stored true n k position (subst L (sym may.3) y.0) (subst (λ z. z < p.links) (sym may.3) y.1)
         (subst (λ z. z < MOST_PLACES) (sym may.4) (places_small p (state c vs) sound.lawful i v at x.mine.place x.mine.right x.mine.has few x.now x.stage))
-    place_after call may = inl (word_left p c.words (table_word call) (word_inside p (state c vs) sound.lawful i v at call may) (word_after call (found_at c.words (word_of p call))) (PlaceOf l) low (apart_by 9 call refl (λ e. omega (arith, e))))
+    place_after call may = inl (word_left p c.words call (word_inside p (state c vs) sound.lawful i v at call may) (word_after call (found_at c.words (word_of p call))) (PlaceOf l) low refl)
 
   -- ## Ticks
 

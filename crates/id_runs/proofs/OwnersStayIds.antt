@@ -12,7 +12,7 @@ use Rattle.seat_programs.specs.Programs.{Program, Do}
 use Rattle.seat_programs.specs.TableWords.{TableWord, TagOf, CodeOf}
 use Rattle.seat_programs.specs.StepTables.{table_word, word_of, word_after}
 use Rattle.seat_programs.specs.Cores.{found_at, words_after}
-use Rattle.program_steps.proofs.WordFrame.{IsBelow, leaves, load_leaves, apart_by}
+use Rattle.program_steps.proofs.WordFrame.{IsBelow, leaves, load_leaves, of_other_sort}
 use Rattle.id_runs.specs.HeldIdTokens.{IdView}
 use Rattle.id_runs.specs.Goes.{FitsSock, FitsOwner, CodesFit, IdGoesOn}
 use Rattle.id_runs.proofs.HeadingsAtHomes.{PutFits}
@@ -63,7 +63,7 @@ module _ (p : Plan) (F : ℕ → Type 0) (none_ : F 0) where
   each_code (OnSlot (ClearCode i k)) new ws all = code_set ws i 0 none_ all
   each_code (OnSlot (StoreCode i h c)) new ws all = code_set ws i c new all
   each_code (OnSlot (LoadCode i h)) new ws all = subst AllCodes (sym (load_leaves p ws (some (CodeOf i)))) all
-  each_code call new ws all = λ i inside. subst F (sym (leaves p ws (table_word call) (word_after call (found_at ws (word_of p call))) (CodeOf i) inside (λ x e. none_below p x) (apart_by 4 call refl (λ e. omega (arith, e))))) (all i inside)
+  each_code call new ws all = λ i inside. subst F (sym (leaves p ws (table_word call) (word_after call (found_at ws (word_of p call))) (CodeOf i) inside (λ x e. none_below p x) (of_other_sort 4 call refl (λ e. omega (arith, e))))) (all i inside)
 
 small_code : (q : IdPlan) (call : TableStep) → MaySock q call → FitsStore (λ x. x < 4096) call
 small_code q (OnSlot (StoreCode i h c)) may = may

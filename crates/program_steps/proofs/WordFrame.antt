@@ -153,13 +153,13 @@ inside_of range sort n within is = by_test (eqb sort n) refl
     by_test false e = refl
     by_test true e = let in_ : range n ≡ true = subst (λ m. range m ≡ true) (eqb-true sort n e) within in sym (ap (λ b. range n && b) e ∙ ap (λ b. b && true) in_) ∙ is
 
-pub apart_by : (n : ℕ) (call : TableStep) → is_on n call ≡ false → n ≢ 10 → eqb (sort_in (table_word call)) n ≡ false
-apart_by n (OnSlot step) is some_ = inside_of (λ m. nat_lt m 5) (sort_in (word_of_slot step)) n (slot_sort step) is
-apart_by n (OnName step) is some_ = inside_of (λ m. nat_lt 4 m && nat_lt m 7) (sort_in (word_of_name step)) n (name_sort step) is
-apart_by n (OnChain step) is some_ = inside_of (λ m. (m == 3) || (nat_lt 6 m && nat_lt m 9)) (sort_in (word_of_chain step)) n (chain_sort step) is
-apart_by n (OnPlace step) is some_ = inside_of (λ m. m == 9) (sort_in (word_of_place step)) n (place_sort step) is
-apart_by n (OnLink step) is some_ = ne_eqb 10 n (λ e. some_ (sym e))
-apart_by n (OnMessage step) is some_ = ne_eqb 10 n (λ e. some_ (sym e))
+pub of_other_sort : (n : ℕ) (call : TableStep) → is_on n call ≡ false → n ≢ 10 → eqb (sort_in (table_word call)) n ≡ false
+of_other_sort n (OnSlot step) is some_ = inside_of (λ m. nat_lt m 5) (sort_in (word_of_slot step)) n (slot_sort step) is
+of_other_sort n (OnName step) is some_ = inside_of (λ m. nat_lt 4 m && nat_lt m 7) (sort_in (word_of_name step)) n (name_sort step) is
+of_other_sort n (OnChain step) is some_ = inside_of (λ m. (m == 3) || (nat_lt 6 m && nat_lt m 9)) (sort_in (word_of_chain step)) n (chain_sort step) is
+of_other_sort n (OnPlace step) is some_ = inside_of (λ m. m == 9) (sort_in (word_of_place step)) n (place_sort step) is
+of_other_sort n (OnLink step) is some_ = ne_eqb 10 n (λ e. some_ (sym e))
+of_other_sort n (OnMessage step) is some_ = ne_eqb 10 n (λ e. some_ (sym e))
 
 -- no word is of the sort of none
 sort_is : (w : TableWord) → sort_of w ≢ 10
@@ -189,7 +189,7 @@ low_in p n few (some w) low x e = subst (λ y. IsBelow p n y) (some-injective w 
 -- a step that the view allows leaves it, where its own word is of another sort
 pub word_stays : (p : Plan) (ws : List ℕ) (v : View) (call : TableStep) → May p v call → (stored : ℕ) (w : TableWord) → IsIn p w → level_of w ≤ 3 → is_on (sort_of w) call ≡ false
     → get_or (words_after ws (word_of p call) stored) (index_in p w) 0 ≡ get_or ws (index_in p w) 0
-word_stays p ws v call may stored w inside few other = leaves p ws (table_word call) stored w inside (low_in p (level_of w) few (table_word call) (low_word p v call may)) (apart_by (sort_of w) call other (sort_is w))
+word_stays p ws v call may stored w inside few other = leaves p ws (table_word call) stored w inside (low_in p (level_of w) few (table_word call) (low_word p v call may)) (of_other_sort (sort_of w) call other (sort_is w))
 
 -- ## A word that is one of the table
 
@@ -206,8 +206,9 @@ in_table p (some w) in_ x e = subst (λ y. y < all_words p) (some-injective (ind
     index_inside w inside = omega (arith, inside)
 
 -- each other word is left
-pub word_left : (p : Plan) (ws : List ℕ) (o : Option TableWord) → AreIn p o → (stored : ℕ) (w : TableWord) → IsIn p w → eqb (sort_in o) (sort_of w) ≡ false → get_or (words_after ws (index_of p o) stored) (index_in p w) 0 ≡ get_or ws (index_in p w) 0
-word_left p ws o in_ stored w inside other = leaves p ws o stored w inside (below o in_) other
+pub word_left : (p : Plan) (ws : List ℕ) (call : TableStep) → AreIn p (table_word call) → (stored : ℕ) (w : TableWord) → IsIn p w → is_on (sort_of w) call ≡ false
+    → get_or (words_after ws (word_of p call) stored) (index_in p w) 0 ≡ get_or ws (index_in p w) 0
+word_left p ws call in_ stored w inside other = leaves p ws (table_word call) stored w inside (below (table_word call) in_) (of_other_sort (sort_of w) call other (sort_is w))
   where
     below : (o : Option TableWord) → AreIn p o → (x : TableWord) → o ≡ some x → IsBelow p (level_of w) x
     below none in_ x e = absurd (some-ne-none x (sym e))

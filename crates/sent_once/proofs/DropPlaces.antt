@@ -30,7 +30,7 @@ use Rattle.seat_programs.specs.SendAndWritePrograms.{heading_of}
 use Rattle.seat_programs.specs.Ticks.{Moment, IsAnswered, ticked}
 use Rattle.accept_counts.specs.Below.programs_allowed.specs.program_steps.specs.SoundSeats.{state, Sound, IsFitting}
 use Rattle.accept_counts.specs.Below.programs_allowed.specs.program_steps.proofs.TickCases.{tick_keeps_marks}
-use Rattle.accept_counts.specs.Below.programs_allowed.specs.program_steps.proofs.WordFrame.{word_left, apart_by as of_other_sort}
+use Rattle.accept_counts.specs.Below.programs_allowed.specs.program_steps.proofs.WordFrame.{word_left}
 use Rattle.accept_counts.specs.Below.programs_allowed.specs.sock_runs.proofs.ChainTicks.{word_inside}
 use Rattle.accept_counts.specs.Below.outcome_stories.specs.StoryStepCauses.{Asks}
 use Rattle.accept_counts.specs.Below.outcome_stories.specs.Explains.{Done, swapped}
@@ -179,7 +179,7 @@ module _ (p : Plan) (q : IdPlan) (is_call : Asked → Type 0) (ids : ℕ → ℕ
       step_keeps : (call : TableStep) → May p v call → get_or (words_after c.words (word_of p call) (word_after call (found_at c.words (word_of p call)))) (place_index p l) 0 ≡ get_or c.words (place_index p l) 0
       step_keeps (OnPlace (StorePlace m k n)) may = let x = may.0 in other_place m (word_after (OnPlace (StorePlace m k n)) 0) x.mine.right x.now may.1 x.stage x.taken may.2
       step_keeps (OnPlace (DropPlace m k n)) may = let x = may.0 in other_place m (word_after (OnPlace (DropPlace m k n)) 0) x.mine.right x.now may.1 x.stage x.taken may.2
-      step_keeps call may = word_left p c.words (table_word call) (word_inside p (state c vs) sound.lawful i v at call may) (word_after call (found_at c.words (word_of p call))) (PlaceOf l) low (of_other_sort 9 call refl (λ e. omega (arith, e)))
+      step_keeps call may = word_left p c.words call (word_inside p (state c vs) sound.lawful i v at call may) (word_after call (found_at c.words (word_of p call))) (PlaceOf l) low refl
 
     -- so does a tick
     pub place_stays : l < 8 * p.operations → get_or c.words (place_index p l) 0 ≢ 0 → (m : Moment) → IsAnswered c m → IsFitting p c m → get_or (ticked p c m).words (place_index p l) 0 ≡ get_or c.words (place_index p l) 0
