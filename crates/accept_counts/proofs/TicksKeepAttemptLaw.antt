@@ -17,7 +17,6 @@ use Rattle.corr_core.specs.IdSlotWord.{parts}
 use Rattle.corr_core.specs.declared.marks.Plan.{Plan as IdPlan}
 use Rattle.call_causes.specs.Below.id_runs.specs.HeldIdTokens.{IdView, MayId}
 use Rattle.call_causes.specs.Below.id_runs.specs.Goes.{FitsRetryId, FitsSock, FindsId, SoundIds, FitsFirst, IsFittingIds}
-use Rattle.call_causes.specs.Below.id_runs.specs.Goes as goes
 use Rattle.call_causes.specs.Below.id_runs.proofs.AsideStepsKeepRule.{finds_ids}
 use Rattle.seat_programs.specs.Asides.{Step, Found, PutCall, MakeId, StoreAt, UnlockId, TakeCall, Taking}
 use Rattle.sock_message.specs.Asked.{Asked, frame_of}

@@ -23,7 +23,6 @@ use Rattle.own_decisions.specs.Below.outcome_stories.specs.KeptStory.{Story}
 use Rattle.own_decisions.specs.Below.outcome_stories.specs.OperationStories.{Event, In, trace_of}
 use Rattle.own_decisions.specs.Below.outcome_stories.proofs.Delivered.{orders_of}
 use Rattle.own_decisions.specs.Below.outcome_ticks.proofs.EventsOfGoodStory.{event, cause_of, given_by, last_some}
-use Rattle.own_decisions.specs.Below.outcome_causes.proofs.Final.{final}
 use Rattle.own_decisions.specs.Below.outcome_causes.proofs.LivesByTask.{World, task_of, tells_of}
 use Rattle.own_decisions.specs.Below.outcome_stories.proofs.Members.{from_trace, to_trace}
 use Rattle.own_decisions.specs.Below.outcome_ticks.proofs.TicksKeepStory.{tick_story}

@@ -19,7 +19,7 @@ use Rattle.seat_programs.specs.Cores.{Calls, Core}
 use Rattle.seat_programs.specs.ScheduledRuns.{from_to}
 use Rattle.seat_programs.specs.Ticks.{Moment, taken, ticked}
 use Rattle.seat_programs.specs.Tasks.{plan_of}
-use Rattle.seat_programs.specs.ScriptSetupToEnding.{ending, IsRunWithCalls}
+use Rattle.seat_programs.specs.ScriptSetupToEnding.{IsRunWithCalls}
 pub use Rattle.owed_calls.specs.call_owing.specs.LinkTakenBySeat.{taken_link}
 use Rattle.seat_programs.specs.LoopRounds.{first_step}
 use Rattle.outcome_stories.specs.Facts.{called_at, shown_in_run}

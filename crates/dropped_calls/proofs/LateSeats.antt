@@ -1,5 +1,5 @@
 -- What the view of a seat has of messages, by where the seat stands in its program; each tick of a run keeps it.
-use Rattle.std.proofs.Common.{◌≡◌, ℕ, ◌-◌, ◌%◌, ◌==◌, not, nat_lt, Bool, true, false, cond, eqb-true, eq-eqb, List, [], ◌∷◌, ◌++◌, filter, get_or, set, ◌⊎◌, inl, inr, ⊎_elim, refl, sym, ap, ◌∙◌, subst}
+use Rattle.std.proofs.Common.{◌≡◌, ℕ, ◌%◌, ◌==◌, not, nat_lt, Bool, true, false, cond, eqb-true, eq-eqb, List, [], ◌∷◌, ◌++◌, filter, get_or, set, ◌⊎◌, inl, inr, ⊎_elim, refl, sym, ap, ◌∙◌, subst}
 use Rattle.std.specs.List.{AllByRecursion}
 use mathlib.Core.Option.{some}
 use lib.ListN.{get_elem?}

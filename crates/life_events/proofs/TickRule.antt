@@ -1,5 +1,5 @@
 -- Each tick keeps the whole rule, where it keeps what is lawful and each seat's view is of this table.
-use Rattle.std.proofs.Common.{◌≡◌, ◌≢◌, ℕ, ◌+◌, ◌-◌, ◌*◌, ◌%◌, ◌==◌, cond, eqb, eq-eqb, ne_eqb, List, ◌++◌, get_or, set, refl, sym, ap, ◌∙◌, subst, ⊎_elim, arith, nat_lt, IsTrue, true, false, length}
+use Rattle.std.proofs.Common.{◌≡◌, ◌≢◌, ℕ, ◌+◌, ◌-◌, ◌*◌, ◌%◌, ◌==◌, cond, eq-eqb, ne_eqb, List, ◌++◌, get_or, set, refl, sym, ap, ◌∙◌, subst, ⊎_elim, arith, nat_lt, IsTrue, true, false, length}
 use mathlib.Core.Logic.{dite}
 use native.Mathlib.Decide.{ℕ_discrete}
 use mathlib.Core.Option.{Option, some, none}
@@ -26,7 +26,7 @@ use Rattle.seat_programs.specs.LoopRounds.{round}
 use Rattle.seat_programs.specs.SendAndWritePrograms.{block}
 use Rattle.seat_programs.specs.Cores.{Core, SeatState, words_after, homes_after, found_at, lies_at, first_of, others_of, link_place, with_seat}
 use Rattle.seat_programs.specs.TableWords.{TableWord, NameOf, OpenOf, RequestOf, index_of}
-use Rattle.seat_programs.specs.StepTables.{May, table_word, word_of, word_after, row, hand_at}
+use Rattle.seat_programs.specs.StepTables.{May, word_of, word_after, row, hand_at}
 use Rattle.seat_programs.specs.Ticks.{Answer, OfPut, OfReady, Moment, fed, with_places, onto_first, taken, with_message, with_link, with_put, with_ready, with_found, step_with, tick_with, ticked}
 use Rattle.seat_programs.specs.StepViews.{by_claim}
 use Rattle.seat_programs.specs.StepsOfChain.{exchanged}

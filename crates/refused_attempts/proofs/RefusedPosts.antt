@@ -9,7 +9,6 @@ use Rattle.corr_core.specs.IdSlotWord.{parts}
 use Rattle.corr_core.specs.declared.marks.Plan.{Plan as IdPlan}
 use Rattle.attempted_calls.specs.Below.id_runs.specs.HeldIdTokens.{IdView}
 use Rattle.attempted_calls.specs.Below.id_runs.specs.Goes.{SoundIds}
-use Rattle.attempted_calls.specs.Below.id_runs.specs.Goes as goes
 use Rattle.sock_message.specs.Asked.{Asked}
 use Rattle.seat_programs.specs.Asides.{Step, Found, PostId}
 use Rattle.seat_programs.specs.FoundAndChangedAside.{found_in}
