@@ -121,7 +121,12 @@ impl<O: Out, I: In, P: Peer> Table<O, I, P> {
 
     /// A step on a word, or a move that tells nothing; for what its seat waits, if it does. Only a seat that comes to hold a life or to keep a retry
     /// wants room for it.
-    pub(crate) fn make_table_step(&mut self, place: &mut Seat, seat: u16, step: TableStep) -> Option<On>
+    pub(crate) fn make_table_step(
+        &mut self,
+        place: &mut Seat,
+        seat: u16,
+        step: TableStep,
+    ) -> Option<On>
         requires may { IsFitStep self.old (seat_data place.old) (Step.Table step) }
         requires sized { IsSized self.old }
         requires room { HasRoom place.old ⊎ AsksNone (seat_program (table_sizes self.old) (seat_data place.old)) }

@@ -30,7 +30,11 @@ impl CloseStep {
         match self {
             CloseStep::AddRef => TableStep::Slot(SlotStep::AddRef(id)),
             CloseStep::SetOdd => TableStep::Slot(SlotStep::SetOdd(id.slot())),
-            CloseStep::StoreCode => TableStep::Slot(SlotStep::StoreCode(id.slot(), id.version(), closing.code())),
+            CloseStep::StoreCode => TableStep::Slot(SlotStep::StoreCode(
+                id.slot(),
+                id.version(),
+                closing.code(),
+            )),
             CloseStep::ReleaseFirst => TableStep::Slot(SlotStep::SubRef(id.slot())),
             CloseStep::Release(step) => step.table_step(id.slot()),
         }
@@ -57,7 +61,9 @@ impl ReadPoint {
     {
         match self {
             ReadPoint::Rest => None,
-            ReadPoint::Open(_, operation) => Some(ReadStep::Table(TableStep::Name(NameStep::LoadOpen(operation)))),
+            ReadPoint::Open(_, operation) => Some(ReadStep::Table(TableStep::Name(
+                NameStep::LoadOpen(operation),
+            ))),
             ReadPoint::Take(reader) => taking(reader.link, reader.total),
             ReadPoint::Lock(_, locker, step) => Some(ReadStep::Aside(locker.step(step))),
             ReadPoint::Answer(_, id, step) => Some(ReadStep::Aside(step.aside(id))),

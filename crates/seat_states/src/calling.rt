@@ -4,12 +4,12 @@ ghost use Rattle.call_points.specs.AsideCodeSteps.{after_word};
 ghost use Rattle.seat_states.specs.ProgramAtPoint.{Context, client_on, call_program, attempt_program, next_program, framed, IsOneOfIds, IsCalling, HasLink, MayFindAt, link_behind};
 ghost use Rattle.seat_states.specs.ProgramStepsOfMachine.{first_in, step_as};
 
+use crate::name_step::NameStep;
 use crate::point::{
     Attempt, AttemptStep, Author, CallStep, Continuation, Next, Point, ReleaseStep, SendStep,
     Sending, Step,
 };
 use crate::releasing::releasing;
-use crate::name_step::NameStep;
 use crate::slot_step::SlotStep;
 use crate::table_step::TableStep;
 use call_points::Aside;

@@ -9,10 +9,10 @@ ghost use Rattle.seat_states.specs.ProgramStepsOfMachine.{first_in, step_as};
 ghost use Rattle.sock_words.specs.PackedWords.{id_slot};
 
 use crate::asking::posting;
+use crate::name_step::NameStep;
 use crate::point::{
     AfterStep, Attempt, AttemptStep, JoinStep, Next, Point, RetryStep, Retrying, Step,
 };
-use crate::name_step::NameStep;
 use crate::table_step::TableStep;
 use call_points::{Aside, DecideStep, Locker, OnCall, WordStep};
 use id_points::{CallId, IdError, LockTurn, Sought, UnlockTurn, is_awaited, unlock_behind};

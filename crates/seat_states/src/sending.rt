@@ -5,12 +5,12 @@ ghost use Rattle.seat_states.specs.ProgramAtPoint.{Context, place_by, claims_pro
 ghost use Rattle.seat_states.specs.ProgramStepsOfMachine.{first_in, step_as};
 
 use crate::asking::posting;
+use crate::chain_step::ChainStep;
 use crate::point::{
     AfterStep, Author, Continuation, Current, Holder, Next, Point, ReleaseStep, SendStep, Sending,
     Step, WriteStep, Writer,
 };
 use crate::releasing::releasing;
-use crate::chain_step::ChainStep;
 use crate::slot_step::SlotStep;
 use crate::table_step::TableStep;
 use sock_words::{EFAILEDSOCKET, EREQUESTS, Ticket, Vref};
@@ -54,11 +54,19 @@ impl Sending {
         let slot = self.id.slot();
         match step {
             SendStep::Look => Step::Table(TableStep::Slot(SlotStep::LookWord(self.id))),
-            SendStep::Claim(request) => Step::Table(TableStep::Chain(ChainStep::ClaimRequest(self.id, request))),
+            SendStep::Claim(request) => Step::Table(TableStep::Chain(ChainStep::ClaimRequest(
+                self.id, request,
+            ))),
             SendStep::PutMessage(request, _) => Step::PutMessage(request, self.author),
-            SendStep::Unconnect(request, _) => Step::Table(TableStep::Chain(ChainStep::Unconnect(request))),
-            SendStep::SwapHead(_, own) => Step::Table(TableStep::Chain(ChainStep::SwapHead(slot, own))),
-            SendStep::Connect(request, before) => Step::Table(TableStep::Chain(ChainStep::Connect(request, before))),
+            SendStep::Unconnect(request, _) => Step::Table(TableStep::Chain(ChainStep::Unconnect(
+                request,
+            ))),
+            SendStep::SwapHead(_, own) => Step::Table(TableStep::Chain(ChainStep::SwapHead(
+                slot, own,
+            ))),
+            SendStep::Connect(request, before) => Step::Table(TableStep::Chain(ChainStep::Connect(
+                request, before,
+            ))),
             SendStep::FindLink(_, _) => Step::Table(TableStep::Slot(SlotStep::FindLink(self.id))),
             SendStep::TakeHome(_, _, link) => Step::TakeHome(link),
             SendStep::TakeMessage(request, _, _, _) => Step::TakeMessage(request),

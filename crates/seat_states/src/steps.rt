@@ -5,9 +5,9 @@ ghost use Rattle.seat_states.specs.ProgramAtPoint.{Context, open_program, seek_p
 ghost use Rattle.seat_states.specs.ProgramStepsOfMachine.{OfTable, step_of, first_in, step_as, kind_of_first};
 
 use crate::calling::Calling;
-use crate::point::{Aim, FailStep, Failing, OpenStep, Opening, Point, ReleaseStep, SeekStep, Step};
 use crate::link_step::LinkStep;
 use crate::name_step::NameStep;
+use crate::point::{Aim, FailStep, Failing, OpenStep, Opening, Point, ReleaseStep, SeekStep, Step};
 use crate::slot_step::SlotStep;
 use crate::table_step::TableStep;
 use call_points::Aside;
@@ -27,10 +27,22 @@ impl Opening {
     {
         match step {
             OpenStep::Claim(slot) => TableStep::Slot(SlotStep::ClaimSlot(u32::from(slot))),
-            OpenStep::StoreLink(slot) => TableStep::Slot(SlotStep::StoreLink(u32::from(slot), self.link)),
-            OpenStep::ResetHead(slot) => TableStep::Slot(SlotStep::ResetHead(u32::from(slot), self.link)),
-            OpenStep::ClearCode(slot) => TableStep::Slot(SlotStep::ClearCode(u32::from(slot), self.link)),
-            OpenStep::CreateLife(slot) => TableStep::Slot(SlotStep::CreateLife(u32::from(slot), self.link)),
+            OpenStep::StoreLink(slot) => TableStep::Slot(SlotStep::StoreLink(
+                u32::from(slot),
+                self.link,
+            )),
+            OpenStep::ResetHead(slot) => TableStep::Slot(SlotStep::ResetHead(
+                u32::from(slot),
+                self.link,
+            )),
+            OpenStep::ClearCode(slot) => TableStep::Slot(SlotStep::ClearCode(
+                u32::from(slot),
+                self.link,
+            )),
+            OpenStep::CreateLife(slot) => TableStep::Slot(SlotStep::CreateLife(
+                u32::from(slot),
+                self.link,
+            )),
             OpenStep::StoreOpen(slot, version) => {
                 TableStep::Name(NameStep::StoreOpen(self.operation, socket_word(version, slot)))
             }

@@ -7,12 +7,12 @@ ghost use Rattle.seat_states.specs.ProgramAtPoint.{Context, write_program, writt
 ghost use Rattle.seat_states.specs.ProgramStepsOfMachine.{first_in, step_as};
 
 use crate::asking::posting;
+use crate::chain_step::ChainStep;
+use crate::place_step::PlaceStep;
 use crate::point::{
     AfterStep, Author, Current, Holder, Next, Point, ReleaseStep, Step, WriteStep, Writer,
 };
 use crate::releasing::releasing;
-use crate::chain_step::ChainStep;
-use crate::place_step::PlaceStep;
 use crate::slot_step::SlotStep;
 use crate::table_step::TableStep;
 use call_points::OnCall;
@@ -123,34 +123,57 @@ impl Writer {
             places,
         } = self.holder;
         match step {
-            WriteStep::FirstLook(_) | WriteStep::Look(_, _) => Step::Table(TableStep::Slot(SlotStep::LookWord(id))),
+            WriteStep::FirstLook(_) | WriteStep::Look(_, _) => Step::Table(TableStep::Slot(
+                SlotStep::LookWord(id),
+            )),
             WriteStep::Put(current, asked) => Step::PutBytes(link, asked, current.author),
             WriteStep::Ask(_) => Step::AskReady(link),
             WriteStep::SetOdd(_) => Step::Table(TableStep::Slot(SlotStep::SetOdd(id.slot()))),
             WriteStep::StoreCode(_) => {
-                Step::Table(TableStep::Slot(SlotStep::StoreCode(id.slot(), id.version(), EFAILEDSOCKET)))
+                Step::Table(TableStep::Slot(SlotStep::StoreCode(
+                    id.slot(),
+                    id.version(),
+                    EFAILEDSOCKET,
+                )))
             }
             WriteStep::ReleaseFirst(_) => Step::Table(TableStep::Slot(SlotStep::SubRef(id.slot()))),
             WriteStep::StorePlace(current) => {
-                Step::Table(TableStep::Place(PlaceStep::StorePlace(current.author.place(), link, places)))
+                Step::Table(TableStep::Place(PlaceStep::StorePlace(
+                    current.author.place(),
+                    link,
+                    places,
+                )))
             }
             WriteStep::LoadCode(_) => Step::Table(TableStep::Slot(SlotStep::LoadCode(id))),
             WriteStep::DropPlace(current, _) => {
-                Step::Table(TableStep::Place(PlaceStep::DropPlace(current.author.place(), link, places)))
+                Step::Table(TableStep::Place(PlaceStep::DropPlace(
+                    current.author.place(),
+                    link,
+                    places,
+                )))
             }
-            WriteStep::ReadNext(now, _) => Step::Table(TableStep::Chain(ChainStep::ReadNext(now.request()))),
+            WriteStep::ReadNext(now, _) => Step::Table(TableStep::Chain(ChainStep::ReadNext(
+                now.request(),
+            ))),
             WriteStep::Free(now, _, _) => {
-                Step::Table(TableStep::Chain(ChainStep::FreeRequest(now.request(), now.generation())))
+                Step::Table(TableStep::Chain(ChainStep::FreeRequest(
+                    now.request(),
+                    now.generation(),
+                )))
             }
             WriteStep::TakeMessage(next) => Step::TakeMessage(next.request()),
             WriteStep::PutHome => Step::PutHome(link, places),
-            WriteStep::EmptyHead => Step::Table(TableStep::Chain(ChainStep::EmptyHead(id.slot(), last))),
-            WriteStep::TakeHome(_) => Step::TakeHome(link),
-            WriteStep::Reversing(_, at, _) => Step::Table(TableStep::Chain(ChainStep::ReadNext(at.request()))),
-            WriteStep::ReverseNext(_, at, after, _) => Step::Table(TableStep::Chain(ChainStep::ReverseNext(
-                at.request(),
-                after,
+            WriteStep::EmptyHead => Step::Table(TableStep::Chain(ChainStep::EmptyHead(
+                id.slot(),
+                last,
             ))),
+            WriteStep::TakeHome(_) => Step::TakeHome(link),
+            WriteStep::Reversing(_, at, _) => Step::Table(TableStep::Chain(ChainStep::ReadNext(
+                at.request(),
+            ))),
+            WriteStep::ReverseNext(_, at, after, _) => Step::Table(TableStep::Chain(
+                ChainStep::ReverseNext(at.request(), after),
+            )),
             WriteStep::TakeFirst(_, at) => Step::TakeMessage(at.request()),
         }
     }
