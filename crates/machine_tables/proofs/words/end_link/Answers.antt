@@ -4,15 +4,15 @@ use Rattle.sock_io.specs.LinkHalves.{end_of}
 use Rattle.machine_steps.proofs.AskingLinks.{end_kept, out_at, outs_set}
 use Rattle.machine_tables.proofs.words.end_link.Goals as goal
 
-pub returns-in-FinishLink-clause-outs : goal.returns-in-FinishLink-clause-outs
-returns-in-FinishLink-clause-outs g c =
-    let inside = rw c.in-FinishLink.is at c.requires in
-    rw c.in-FinishLink.is (_, _, out_at (λ e. g.O.Out.state e.out) c.args.ends.now c.from.result c.in-FinishLink.link c.index-ends-from.result c.from.ensures inside c.index-ends-from.is, outs_set (λ e. g.O.Out.state e.out) c.args.ends.now c.from.result c.in-FinishLink.link _ c.from.ensures, c.finish.ensures)
+pub returns-in-Link-FinishLink-clause-outs : goal.returns-in-Link-FinishLink-clause-outs
+returns-in-Link-FinishLink-clause-outs g c =
+    let inside = rw c.in-Link-FinishLink.is at c.requires in
+    rw c.in-Link-FinishLink.is (_, _, out_at (λ e. g.O.Out.state e.out) c.args.ends.now c.from.result c.in-Link-FinishLink.link c.index-ends-from.result c.from.ensures inside c.index-ends-from.is, outs_set (λ e. g.O.Out.state e.out) c.args.ends.now c.from.result c.in-Link-FinishLink.link _ c.from.ensures, c.finish.ensures)
 
-pub returns-in-FinishLink-clause-inns : goal.returns-in-FinishLink-clause-inns
-returns-in-FinishLink-clause-inns g c = map-set_same (λ e. g.I.In.state e.inn) c.args.ends.now c.from.result _ c.index-ends-from.result refl
+pub returns-in-Link-FinishLink-clause-inns : goal.returns-in-Link-FinishLink-clause-inns
+returns-in-Link-FinishLink-clause-inns g c = map-set_same (λ e. g.I.In.state e.inn) c.args.ends.now c.from.result _ c.index-ends-from.result refl
 
-pub returns-in-FinishLink-clause-ends : goal.returns-in-FinishLink-clause-ends
-returns-in-FinishLink-clause-ends g c =
+pub returns-in-Link-FinishLink-clause-ends : goal.returns-in-Link-FinishLink-clause-ends
+returns-in-Link-FinishLink-clause-ends g c =
     map-set_same (λ e. end_of (g.O.Out.state e.out) (g.I.In.state e.inn)) c.args.ends.now c.from.result _ c.index-ends-from.result
     (end_kept _ _ (g.I.In.state (slice_index_or c.args.ends.now c.from.result c.index-ends-from.result).inn) c.finish.ensures)

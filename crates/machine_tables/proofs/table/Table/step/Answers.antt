@@ -19,10 +19,10 @@ failed_not : asks.Failed ≢ asks.NotYet
 failed_not e = cc
 
 pub returns-in-Some-clause-ok : goal.returns-in-Some-clause-ok
-returns-in-Some-clause-ok g c = call_waited c.kind-kind.result c.requires.may.next (c.kind-kind.ensures (around (table_sizes c.args.self.now) (seat_data c.args.place.now))) c.in-Table.call _ c.make_table_step.result c.in-Some.on c.in-Table.is c.make_table_step.ensures.made refl c.make_table_step.ensures.waits c.make_table_step.ensures.on c.in-Some.is
+returns-in-Some-clause-ok g c = call_waited c.kind-kind.result c.requires.may.next (c.kind-kind.ensures (around (table_sizes c.args.self.now) (seat_data c.args.place.now))) c.in-Table.step _ c.make_table_step.result c.in-Some.on c.in-Table.is c.make_table_step.ensures.made refl c.make_table_step.ensures.waits c.make_table_step.ensures.on c.in-Some.is
 
 pub returns-in-None-clause-ok : goal.returns-in-None-clause-ok
-returns-in-None-clause-ok g c = call_moved c.kind-kind.result c.requires.may.next (c.kind-kind.ensures (around (table_sizes c.args.self.now) (seat_data c.args.place.now))) c.in-Table.call _ c.make_table_step.result c.in-Table.is c.make_table_step.ensures.made refl c.make_table_step.ensures.waits c.in-None.is
+returns-in-None-clause-ok g c = call_moved c.kind-kind.result c.requires.may.next (c.kind-kind.ensures (around (table_sizes c.args.self.now) (seat_data c.args.place.now))) c.in-Table.step _ c.make_table_step.result c.in-Table.is c.make_table_step.ensures.made refl c.make_table_step.ensures.waits c.in-None.is
 
 pub returns-in-Aside-clause-ok : goal.returns-in-Aside-clause-ok
 returns-in-Aside-clause-ok g c = told_aside c.args.self.now c.step_aside.new.self (seat_data c.args.place.now) (seat_data c.step_aside.new.place) c.args.step.now c.in-Aside.step c.step_aside.result c.in-Aside.is c.step_aside.ensures.ok c.args.seat
