@@ -7,7 +7,8 @@ use Rattle.message_parts.specs.declared.parcel.Parcel.TheVariants.{Frame}
 use Rattle.sock_message.specs.Asked.{Asked, frame_of, parts_of}
 use Rattle.sock_words.specs.declared.plain.Label.{Label}
 use Rattle.sock_rule.specs.declared.homes.Letter.{Letter}
-use Rattle.call_attempts.specs.AttemptLetters.{attempt_label, letter_for}
+use Rattle.call_attempts.specs.AttemptLetters.{letter_for}
+use Rattle.sock_model.specs.MessageLabels.{attempt_label}
 
 -- letters are the same by their bytes, label and owner
 abbrev letter_with : (bytes : Parcel) (label : Label) (owner : ℕ) → label.attempt ≤ 6 → Letter

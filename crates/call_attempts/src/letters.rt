@@ -1,7 +1,7 @@
 // The frame of an attempt as it goes to a link.
 ghost use Rattle.std.specs.Prelude.{◌≡◌, ◌≤◌};
 ghost use Rattle.message_parts.specs.declared.parcel.Parcel.TheVariants.{Frame};
-ghost use Rattle.call_attempts.specs.AttemptLetters.{attempt_label};
+ghost use Rattle.sock_model.specs.MessageLabels.{attempt_label};
 
 use message_parts::{CallFrame, Parcel};
 use sock_rule::Letter;

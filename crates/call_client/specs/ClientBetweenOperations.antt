@@ -31,7 +31,7 @@ use Rattle.call_attempts.specs.call_writes.specs.MessageFateBesideCalls.{SentCal
 use Rattle.call_attempts.specs.declared.calling.Called.TheVariants as called
 use Rattle.call_attempts.specs.ClientAtBothTables.{Both}
 use Rattle.call_attempts.specs.CallBeginning.{CalledBy}
-use Rattle.call_attempts.specs.AttemptLetters.{attempt_label}
+use Rattle.sock_model.specs.MessageLabels.{attempt_label}
 use Rattle.call_client.specs.declared.caller.Caller.{Caller}
 
 -- what a client has: its seat's view and homes in hand, the references that it keeps, the passes that are left, the next one last, and what it knows of calls

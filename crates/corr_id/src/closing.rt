@@ -1,7 +1,8 @@
 // The end of a table.
-ghost use Rattle.std.specs.Prelude.{◌≡◌, ◌≤◌, ◌<◌, ◌*◌, ℕ, [], map, length, IfOk, IfErr, slice_index, slice_index_or, false};
+ghost use Rattle.std.specs.Prelude.{◌≡◌, ◌≤◌, ◌<◌, ℕ, [], map, length, IfOk, IfErr, slice_index, slice_index_or, false};
 ghost use Rattle.std.specs.List.{flat_map};
 ghost use Rattle.std.specs.Mem.Slots.{slots_items, slots_len, slots_filled, IsFull};
+ghost use Rattle.corr_core.specs.IdTableLayout.{tag_index};
 ghost use Rattle.corr_id.specs.ClosedIdTable.{AllOf, AreIdWords};
 ghost use Rattle.corr_id.specs.ClosingIdLists.{Closing};
 ghost use Rattle.corr_id.specs.IdTableSeat.{IsFree};
@@ -40,7 +41,7 @@ fn join_all<C>(table: &IdTable<C>, mut seats: Vec<IdSeat<C>>) -> IdSeat<C>
 // The words of the slots.
 fn read_words<S>(table: &Closed<S, Global>, slots: u16, words: &mut Vec<IdWord>)
     requires full { IsFull table.now.words }
-    requires words { 2 * slots ≤ slots_len table.now.words }
+    requires words { tag_index slots ≤ slots_len table.now.words }
     requires sized { length words.old.items ≡ slots }
     ensures words { AreIdWords slots words.new.items (slots_items table.now.words) }
     ensures low { (i : ℕ) → slice_index (map (λ w. w.0) words.new.items) i < 18446744073709551616 }

@@ -1,8 +1,8 @@
 // The words of the calls among the operations.
-ghost use Rattle.std.specs.Prelude.{◌≡◌, ◌≢◌, ◌+◌, ◌*◌, ◌%◌, ◌<◌, ◌≤◌, false, true, IfNone, IfSome, IsSome};
+ghost use Rattle.std.specs.Prelude.{◌≡◌, ◌≢◌, ◌%◌, ◌<◌, ◌≤◌, false, true, IfNone, IfSome, IsSome};
 ghost use Rattle.sock_words.specs.PackedWords.{at_word as packed_at, id_slot, id_first};
 ghost use Rattle.corr_core.specs.IdSlotLaw.{is_made};
-ghost use Rattle.corr_core.specs.IdTableLayout.{call_index, at_index};
+ghost use Rattle.corr_core.specs.IdTableLayout.{call_index, at_index, all_words};
 ghost use Rattle.id_rule.specs.LawfulIdTable.{notes_of, with_kept};
 ghost use Rattle.corr_id.specs.Ruled.{is_place};
 ghost use Rattle.corr_id.specs.IdTableSeat.{Sits, Stays};
@@ -105,7 +105,7 @@ impl<C> IdTable<C> {
     // T1.
     fn store_word(&self, seat: &mut IdSeat<C>, index: usize, value: u64)
         requires seat { Sits self.now.table.shared.table_id seat.old }
-        requires place { (2 * self.now.plan.slots ≤ index) × (index < 2 * self.now.plan.slots + 2 * self.now.plan.operations) }
+        requires place { (call_index self.now.plan 0 ≤ index) × (index < all_words self.now.plan) }
         requires some { value ≢ 0 }
         requires made { index % 2 ≡ 0 → 0 < total (is_made (id_first value)) (notes_of (id_slot value) seat.old.me.0.notes) }
         ensures seat { Stays seat.old seat.new }
@@ -117,7 +117,7 @@ impl<C> IdTable<C> {
     // T2: nothing where the word is 0.
     fn load_word(&self, seat: &mut IdSeat<C>, index: usize) -> Option<u64>
         requires seat { Sits self.now.table.shared.table_id seat.old }
-        requires place { (2 * self.now.plan.slots ≤ index) × (index < 2 * self.now.plan.slots + 2 * self.now.plan.operations) }
+        requires place { (call_index self.now.plan 0 ≤ index) × (index < all_words self.now.plan) }
         ensures seat { Stays seat.old seat.new }
         ensures found { IfSome result (λ n. (n ≢ 0) × (seat.new.me.0 ≡ with_kept index false n seat.old.me.0)) }
         ensures none { IfNone result (seat.new.me.0 ≡ seat.old.me.0) }

@@ -8,6 +8,7 @@ use Rattle.sock_model.specs.sock_words.specs.declared.outcome.Outcome.TheVariant
 use Rattle.corr_core.specs.IdSlotWord.{parts, error_of}
 use Rattle.corr_core.specs.EndedByRangeOrAttempt.{WHOLE}
 use Rattle.sock_model.specs.declared.chain.Heading.{Heading}
+use Rattle.sock_model.specs.MessageLabels.{attempt_label}
 use Rattle.sock_message.specs.Asked.{Asked, name_of, frame_of, parts_of}
 use Rattle.seat_programs.specs.TableSteps.{OnSlot, OnName, OnChain, LookWord, FindLink, ClaimRequest, LoadName}
 use Rattle.seat_programs.specs.Asides.{ClaimId, PutCall, MakeId, StoreCall, LoadCall, StoreAt, TakeCall}
@@ -28,7 +29,7 @@ claims_from (suc more) q id heading bytes full accepted = Do (OnChain (ClaimRequ
 
 -- what stands with its message: it is put by the parts of its frame, the header with the meta before the payload and the attachment
 abbrev pub heading_for : Asked → ℕ → ℕ → Heading
-heading_for asked id n = record { label = record { client = 0; operation = asked.operation; attempt = n; place = 8 * asked.operation + n }; owner = id; parts = parts_of asked id n }
+heading_for asked id n = record { label = attempt_label asked.operation n; owner = id; parts = parts_of asked id n }
 
 -- an attempt over the socket with this id
 abbrev pub attempt : ℕ → Asked → ℕ → ℕ → ℕ → Program → Program

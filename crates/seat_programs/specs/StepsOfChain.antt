@@ -16,8 +16,9 @@ use Rattle.sock_model.specs.declared.view.View.{View}
 use Rattle.sock_model.specs.declared.view.Hand.{Hand}
 use Rattle.sock_model.specs.SocketTableLayout.{link_index}
 use Rattle.sock_model.specs.SlotRows.{met_link}
-use Rattle.sock_model.specs.ChainRows.{with_claim, queued, righted, without_loose, with_right, without_right, turned_right, ready_claim}
+use Rattle.sock_model.specs.ChainRows.{with_claim, fresh_claim, queued, righted, without_loose, with_right, without_right, turned_right, ready_claim}
 use Rattle.sock_model.specs.ChainLawReads.{link_home}
+use Rattle.sock_model.specs.MessageLabels.{blank}
 use Rattle.sock_model.specs.ChainStepConditions.{MayExchange, MayEmpty, MayTurn}
 use Rattle.seat_programs.specs.Programs.{LAST_GENERATION}
 use Rattle.seat_programs.specs.TableWords.{TableWord, HeadOf, RequestOf, NextOf}
@@ -69,12 +70,12 @@ abbrev pub IsLoose : View → ℕ → ℕ → Type 0
 IsLoose v q before = (n : ℕ) × (get_elem? v.loose n ≡ some (record { request = q; before = before }))
 
 -- of its one right it placed a message that isn't the last one noted, or its walk has come to the entry: that of request q
-abbrev pub MayRead : View → ℕ → Type 0
-MayRead v q = (r : Right) × (v.rights ≡ r ∷ []) × (((now : ℕ) × (r.stage ≡ Placed now) × (now ≢ r.last) × (ticket_request now ≡ q)) ⊎ ((top at after : ℕ) × (r.stage ≡ Reversing top at after) × (ticket_request at ≡ q)))
+abbrev pub MayReadNext : View → ℕ → Type 0
+MayReadNext v q = (r : Right) × (v.rights ≡ r ∷ []) × (((now : ℕ) × (r.stage ≡ Placed now) × (now ≢ r.last) × (ticket_request now ≡ q)) ⊎ ((top at after : ℕ) × (r.stage ≡ Reversing top at after) × (ticket_request at ≡ q)))
 
 -- of its one right it placed the message of this ticket, the last one noted, or it read what follows
-abbrev pub MayFree : View → ℕ → Type 0
-MayFree v now = (r : Right) × (v.rights ≡ r ∷ []) × (((r.stage ≡ Placed now) × (now ≡ r.last)) ⊎ ((next : ℕ) × (r.stage ≡ Passes now next)))
+abbrev pub MayFreeRequest : View → ℕ → Type 0
+MayFreeRequest v now = (r : Right) × (v.rights ≡ r ∷ []) × (((r.stage ≡ Placed now) × (now ≡ r.last)) ⊎ ((next : ℕ) × (r.stage ≡ Passes now next)))
 
 -- what the view of the seat says before a step, so that the rule allows it
 abbrev pub ChainMay : Plan → View → ChainStep → Type 0
@@ -82,10 +83,10 @@ ChainMay p v (ClaimRequest id q) = (q < p.requests) × HoldsLife p v (socket_id_
 ChainMay p v (SwapHead i own) = (i < p.slots) × MayExchange p v i own
 ChainMay p v (Connect q before) = (q < p.requests) × IsLoose v q before
 ChainMay p v (EmptyHead i last) = (i < p.slots) × ((x : MayEmpty p v i last (IDLE + last)) × (v.rights ≡ x.mine.right ∷ []))
-ChainMay p v (ReadNext q) = MayRead v q
+ChainMay p v (ReadNext q) = MayReadNext v q
 ChainMay p v (ReverseNext q value) = (x : MayTurn v value) × (v.rights ≡ x.mine.right ∷ []) × (ticket_request x.at ≡ q)
 ChainMay p v (Unconnect q) = (q < p.requests) × Claims v q
-ChainMay p v (FreeRequest q g) = (now : ℕ) × (ticket_request now ≡ q) × (ticket_generation now ≡ g) × (g ≢ LAST_GENERATION) × MayFree v now
+ChainMay p v (FreeRequest q g) = (now : ℕ) × (ticket_request now ≡ q) × (ticket_generation now ≡ g) × (g ≢ LAST_GENERATION) × MayFreeRequest v now
 
 -- ## What is found
 
@@ -108,7 +109,7 @@ ChainFinds p v other found hand = Unit {0}
 
 -- a request just claimed for this link
 abbrev pub new_claim : ℕ → ℕ → ℕ → Claim
-new_claim k q found = record { link = k; request = q; generation = found / 2; filled = false; ready = false; heading = record { label = record { client = 0; operation = 0; attempt = 0; place = 0 }; owner = 0; parts = [] }; bytes = [] }
+new_claim k q found = fresh_claim k q found blank []
 
 -- where the request was free it is claimed, and the link is noted as that of the life
 abbrev pub claimed_request : ℕ → ℕ → ℕ → ℕ → View → View

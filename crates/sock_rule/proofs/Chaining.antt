@@ -31,7 +31,8 @@ use Rattle.chain_core.specs.sock_steps.proofs.RuleFrame.{word_rule}
 use Rattle.chain_core.specs.sock_steps.proofs.RuleSteps.{meet_rule}
 use Rattle.chain_core.specs.sock_steps.proofs.RuleChains.{queued_rule, righted_rule, connecting_rule, ready_rule, fill_rule}
 use Rattle.sock_rule.specs.OnTable.{LabelledIn, Labelled, OnTable}
-use Rattle.sock_rule.specs.ChainPlays.{blank, filled_with, request_told, fill_told, ready_told, swap_told, connect_told}
+use Rattle.sock_model.specs.MessageLabels.{blank}
+use Rattle.sock_rule.specs.ChainPlays.{filled_with, request_told, fill_told, ready_told, swap_told, connect_told}
 use Rattle.sock_rule.proofs.KeptBesideSocketRule.{beside, homes_else}
 use Rattle.sock_rule.proofs.CodesAndHomesSettling.{slot_settled, next_settled, taken_settled, home_back_settled, load_settled}
 use Rattle.sock_rule.proofs.Reached.{free_generation, free_home_law}

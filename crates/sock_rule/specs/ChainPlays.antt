@@ -14,14 +14,11 @@ use Rattle.sock_model.specs.MarkWeights.{is_hold, is_met}
 use Rattle.sock_model.specs.SlotRows.{marks_of, looked, met_link}
 use Rattle.sock_rule.specs.NotesBesideRows.{dropped_at}
 use Rattle.sock_model.specs.ChainRows.{with_claim, fresh_claim, filled_claim, ready_claim, queued, righted, without_loose, with_right, without_right, walking_right, passing_right, reading_right, turned_right, freed_right, placed_right, dropped_right, taken_right}
+use Rattle.sock_model.specs.MessageLabels.{blank}
 use Rattle.sock_model.specs.Rule.{noting}
 use Rattle.sock_rule.specs.LinkFaultNotes.{faults_of, fault_found, noting_fault}
 use Rattle.sock_rule.specs.SocketPlays.{WordFits}
 use Rattle.sock_words.specs.PackedWords.{ticket_request, vref_version, IDLE, UNCONNECTED}
-
--- the heading of a claim that has no message yet
-abbrev pub blank : Heading
-blank = record { label = record { client = 0; operation = 0; attempt = 0; place = 0 }; owner = 0; parts = [] }
 
 -- a ticket of one of the table's requests
 pub record IsTicket (p : Plan) (n : ℕ) : Type 0 where

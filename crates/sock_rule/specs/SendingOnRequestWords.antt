@@ -9,7 +9,7 @@ use Rattle.sock_model.specs.SocketTableLayout.{request_index}
 use Rattle.sock_model.specs.ChainStepConditions.{MayExchange}
 use Rattle.sock_model.specs.ChainRows.{with_claim, fresh_claim, filled_claim, queued, righted}
 use Rattle.sock_model.specs.Rule.{MOST_ACCEPTED, noting}
-use Rattle.sock_rule.specs.ChainPlays.{blank}
+use Rattle.sock_model.specs.MessageLabels.{blank}
 use Rattle.sock_words.specs.PackedWords.{IDLE}
 
 -- C1: where the word was even the request is claimed, and its home is out with the seat

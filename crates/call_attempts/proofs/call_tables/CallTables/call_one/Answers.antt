@@ -10,7 +10,7 @@ use Rattle.call_errors.specs.rpc_client.proofs.FindingReferences.{rest_same, may
 use Rattle.call_errors.specs.rpc_client.proofs.SeatBehindDelivering.{room_still}
 use Rattle.call_errors.proofs.KeepingThroughErrors.{stays_then, keeps_none}
 use Rattle.call_attempts.specs.ClientAtBothTables.{both, IsCallId}
-use Rattle.call_attempts.specs.AttemptLetters.{attempt_label}
+use Rattle.sock_model.specs.MessageLabels.{attempt_label}
 use Rattle.call_attempts.specs.Attempting.{AttemptedBy}
 use Rattle.call_attempts.specs.CallBeginning.{WantedBy, before_id, behind_id}
 use Rattle.call_attempts.proofs.LeftByAttempt.{err_by, found_keeps, keeps_leaves, own_after, own_keeps, not_ok, not_named, rested_found, rested_then}

@@ -5,7 +5,7 @@ use Rattle.corr_core.specs.IdSlotWord.{parts}
 use Rattle.corr_id.proofs.TestingOneLock.{sits_on, did_free, quiet_free}
 use Rattle.corr_id.specs.declared.calls.IdLock.{IdLock}
 use Rattle.sock_message.specs.Asked.{Asked, name_of}
-use Rattle.call_attempts.specs.AttemptLetters.{attempt_label}
+use Rattle.sock_model.specs.MessageLabels.{attempt_label}
 use Rattle.call_errors.proofs.KeepingThroughErrors.{stays_then}
 use Rattle.call_attempts.specs.ClientAtBothTables.{both, IsCallId}
 use Rattle.call_attempts.specs.WaitingRetries.{WentTo, had_ended, overtaken, went_again}
