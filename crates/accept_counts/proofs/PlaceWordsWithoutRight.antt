@@ -9,7 +9,7 @@ use Rattle.sock_model.specs.SocketTableLayout.{place_index}
 use Rattle.seat_programs.specs.TableSteps.{TableStep, OnPlace, StorePlace, DropPlace}
 use Rattle.seat_programs.specs.Cores.{Core, found_at, words_after}
 use Rattle.seat_programs.specs.TableWords.{PlaceOf}
-use Rattle.seat_programs.specs.StepTables.{May, table_word, word_of, word_after}
+use Rattle.seat_programs.specs.StepTables.{May, word_of, word_after}
 use Rattle.seat_programs.specs.Ticks.{Moment, IsAnswered, ticked}
 use Rattle.outcome_causes.specs.program_steps.specs.SoundSeats.{state, Sound, IsFitting}
 use Rattle.outcome_causes.specs.program_steps.proofs.WordFrame.{word_left}

@@ -6,6 +6,7 @@ use Rattle.sock_words.specs.ErrorCodes.{is_final}
 use Rattle.corr_core.specs.IdSlotWord.{Parts, parts, posted_word, unlocked_word, code_of, attempt_of, error_of}
 use Rattle.corr_core.specs.IdSlotLaw.{LAST}
 use Rattle.corr_core.specs.EndedByRangeOrAttempt.{WHOLE, ends_call}
+use Rattle.seat_programs.specs.TableSteps.{OnLink, OnSlot}
 use Rattle.seat_programs.specs.brpc_model.specs.Frame.{Frame}
 use Rattle.seat_programs.specs.brpc_model.specs.ResponseOutcome.{ending_of}
 use Rattle.sock_message.specs.Asked.{Asked}
@@ -71,9 +72,9 @@ module _ (F : Type 0) (kept : List Frame) where
   both false x y f g = g
 
   after_recycle : (i from : ℕ) (next : Bool → Program) → ((b : Bool) → After (next b)) → After (recycle i from next)
-  after_recycle i from next a = λ found. both (found == from) (Do (Rattle.seat_programs.specs.TableSteps.OnSlot (Rattle.seat_programs.specs.TableSteps.LoadLink i (vref_version from + 1))) (λ k. Do (Rattle.seat_programs.specs.TableSteps.OnLink (Rattle.seat_programs.specs.TableSteps.TakeLink k)) (λ _. Do (Rattle.seat_programs.specs.TableSteps.OnLink (Rattle.seat_programs.specs.TableSteps.FinishLink k)) (λ _. Do (Rattle.seat_programs.specs.TableSteps.OnLink (Rattle.seat_programs.specs.TableSteps.PutLink k)) (λ _.
-      cond (nat_le (vref_version from + 1) LAST_VERSION) (Do (Rattle.seat_programs.specs.TableSteps.OnSlot (Rattle.seat_programs.specs.TableSteps.FreeSlot i)) (λ _. next true)) (next true)))))) (next false)
-      (λ k _ _ _. both (nat_le (vref_version from + 1) LAST_VERSION) (Do (Rattle.seat_programs.specs.TableSteps.OnSlot (Rattle.seat_programs.specs.TableSteps.FreeSlot i)) (λ _. next true)) (next true) (λ _. a true) (a true)) (a false)
+  after_recycle i from next a = λ found. both (found == from) (Do (OnSlot (Rattle.seat_programs.specs.TableSteps.LoadLink i (vref_version from + 1))) (λ k. Do (OnLink (Rattle.seat_programs.specs.TableSteps.TakeLink k)) (λ _. Do (OnLink (Rattle.seat_programs.specs.TableSteps.FinishLink k)) (λ _. Do (OnLink (Rattle.seat_programs.specs.TableSteps.PutLink k)) (λ _.
+      cond (nat_le (vref_version from + 1) LAST_VERSION) (Do (OnSlot (Rattle.seat_programs.specs.TableSteps.FreeSlot i)) (λ _. next true)) (next true)))))) (next false)
+      (λ k _ _ _. both (nat_le (vref_version from + 1) LAST_VERSION) (Do (OnSlot (Rattle.seat_programs.specs.TableSteps.FreeSlot i)) (λ _. next true)) (next true) (λ _. a true) (a true)) (a false)
 
   after_release : (i : ℕ) (next : Bool → Program) → ((b : Bool) → After (next b)) → After (release i next)
   after_release i next a = λ found. both ((vref_version found % 2 == 1) && (vref_nref found == 1)) (recycle i (found - 1) next) (next false) (after_recycle i (found - 1) next a) (a false)
@@ -82,7 +83,7 @@ module _ (F : Type 0) (kept : List Frame) where
   after_address id held gone a b = λ found. both (vref_version found == socket_id_version id) held (release (socket_id_slot id) (λ _. gone found)) a (after_release (socket_id_slot id) (λ _. gone found) (λ _. b found))
 
   after_failed : (id code : ℕ) (next : ℕ → Program) → ((found : ℕ) → After (next found)) → After (set_failed id code next)
-  after_failed id code next a = λ found. both (vref_version found % 2 == 0) (Do (Rattle.seat_programs.specs.TableSteps.OnSlot (Rattle.seat_programs.specs.TableSteps.StoreCode (socket_id_slot id) (socket_id_version id) code)) (λ _. Do (Rattle.seat_programs.specs.TableSteps.OnSlot (Rattle.seat_programs.specs.TableSteps.SubRef (socket_id_slot id))) (λ _. next found))) (next found) (λ _ _. a found) (a found)
+  after_failed id code next a = λ found. both (vref_version found % 2 == 0) (Do (OnSlot (Rattle.seat_programs.specs.TableSteps.StoreCode (socket_id_slot id) (socket_id_version id) code)) (λ _. Do (OnSlot (Rattle.seat_programs.specs.TableSteps.SubRef (socket_id_slot id))) (λ _. next found))) (next found) (λ _ _. a found) (a found)
 
   after_judged : (id e found : ℕ) (rest : Program) → is_final (code_of e) ≡ true → ((x : Posting) → After (posted_last id e kept rest x)) → After (judged id e found (posted_last id e kept rest))
   after_judged id e found rest final a = let k : Posting → Program = posted_last id e kept rest in

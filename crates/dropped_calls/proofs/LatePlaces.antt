@@ -11,7 +11,7 @@ use Rattle.sock_model.specs.SocketTableLayout.{place_index}
 use Rattle.seat_programs.specs.TableSteps.{TableStep, OnPlace, StorePlace, DropPlace}
 use Rattle.seat_programs.specs.Cores.{Core, found_at, words_after}
 use Rattle.seat_programs.specs.TableWords.{PlaceOf}
-use Rattle.seat_programs.specs.StepTables.{May, table_word, word_of, word_after}
+use Rattle.seat_programs.specs.StepTables.{May, word_of, word_after}
 use Rattle.seat_programs.specs.Ticks.{Moment, IsAnswered, AreAnswered, ticked, run}
 use Rattle.ended_calls.specs.refused_attempts.specs.Below.programs_allowed.specs.program_steps.specs.SoundSeats.{state, Sound, AreFew, MOST_PLACES, IsFitting, AreFitting, views_after, views_along}
 use Rattle.ended_calls.specs.refused_attempts.specs.Below.programs_allowed.specs.program_steps.proofs.TickCases.{tick_keeps_marks}

@@ -99,7 +99,7 @@ module _ (p : Plan) (q : IdPlan) (narrow : q.slots ≤ 65536) where
       ready_goes asks.Failed = set_failed_goes u h.id 1009 (omega arith) (λ _. Write (Puts h now heading left taken false) after) (λ _. g)
   block_goes u (Empties h) after g = λ found _. way p q u (found == h.last) after (TakeHome h.link (λ places. Write (Reversing (record h { places = places }) found found 0) after)) (λ _. g.2 u g.0) (λ _. λ places. g)
   block_goes u (Reversing h top at after) then_ g = λ found _. way p q u (found == UNCONNECTED) (Write (Reversing h top at after) then_)
-      (Do (Rattle.seat_programs.specs.TableSteps.OnChain (Rattle.seat_programs.specs.TableSteps.ReverseNext (ticket_request at) after)) (λ _. cond (found == h.last) (TakeMessage (ticket_request at) (λ heading bytes. Write (Puts (record h { last = top }) at heading bytes 0 false) then_)) (Write (Reversing h top found at) then_)))
+      (Do (OnChain (Rattle.seat_programs.specs.TableSteps.ReverseNext (ticket_request at) after)) (λ _. cond (found == h.last) (TakeMessage (ticket_request at) (λ heading bytes. Write (Puts (record h { last = top }) at heading bytes 0 false) then_)) (Write (Reversing h top found at) then_)))
       (λ _. g)
       (λ _. λ _ _. way p q u (found == h.last) (TakeMessage (ticket_request at) (λ heading bytes. Write (Puts (record h { last = top }) at heading bytes 0 false) then_)) (Write (Reversing h top found at) then_) (λ _. λ heading bytes owner. (g.0, owner, g.2)) (λ _. g))
 
@@ -111,7 +111,7 @@ module _ (p : Plan) (q : IdPlan) (narrow : q.slots ≤ 65536) where
       (λ _. put_goes u h own heading bytes 0 after free owner goes) (λ _. (free, owner, goes))
 
   pub accept_goes : (u : IdView) (id r g : ℕ) (heading : Heading) (bytes : List ℕ) (after : Program) → IsFree u → FitsOwner q heading → Follows after → Goes u (accept id r g heading bytes after)
-  accept_goes u id r g heading bytes after free owner goes = (owner, λ _. λ _ _. λ found _. way p q u (nat_lt found IDLE) (Do (Rattle.seat_programs.specs.TableSteps.OnChain (Rattle.seat_programs.specs.TableSteps.Connect r found)) (λ _. after)) (write_link id r (ticket_of r g) after) (λ _. λ _ _. goes u free) (λ _. write_goes u id r (ticket_of r g) after free goes))
+  accept_goes u id r g heading bytes after free owner goes = (owner, λ _. λ _ _. λ found _. way p q u (nat_lt found IDLE) (Do (OnChain (Rattle.seat_programs.specs.TableSteps.Connect r found)) (λ _. after)) (write_link id r (ticket_of r g) after) (λ _. λ _ _. goes u free) (λ _. write_goes u id r (ticket_of r g) after free goes))
 
   pub claims_goes : (u : IdView) (more r id : ℕ) (heading : Heading) (bytes : List ℕ) (full accepted : Program) → IsFree u → FitsOwner q heading → Goes u full → Follows accepted → Goes u (claims_from more r id heading bytes full accepted)
   claims_goes u zero r id heading bytes full accepted free owner none_ goes = none_
@@ -127,7 +127,7 @@ module _ (p : Plan) (q : IdPlan) (narrow : q.slots ≤ 65536) where
 
   pub attempt_goes : (u : IdView) (requests : ℕ) (asked : Asked) (id n socket : ℕ) (next : Program) → IsFree u → asked.operation < q.operations → id_slot id < q.slots → n ≤ 6 → Follows next → Goes u (attempt requests asked id n socket next)
   attempt_goes u requests asked id n socket next free operation inside few goes = let i : ℕ = socket_id_slot socket in
-      address_goes u socket (Do (Rattle.seat_programs.specs.TableSteps.OnSlot (Rattle.seat_programs.specs.TableSteps.FindLink (socket_id_slot socket) (socket_id_version socket))) (λ k. Aside (StoreAt asked.operation (at_word (id_first id) (id_slot id) k n)) (λ _. Do (Rattle.seat_programs.specs.TableSteps.OnSlot (Rattle.seat_programs.specs.TableSteps.LookWord socket)) (λ found.
+      address_goes u socket (Do (OnSlot (Rattle.seat_programs.specs.TableSteps.FindLink (socket_id_slot socket) (socket_id_version socket))) (λ k. Aside (StoreAt asked.operation (at_word (id_first id) (id_slot id) k n)) (λ _. Do (OnSlot (Rattle.seat_programs.specs.TableSteps.LookWord socket)) (λ found.
       cond (eqb (vref_version found % 2) 0) (claims_from requests 0 socket (heading_for asked id n) (frame_of asked id n) (post id 3001 n (release (socket_id_slot socket) (λ _. next))) (release (socket_id_slot socket) (λ _. next))) (post id 1009 n (release (socket_id_slot socket) (λ _. next)))))))
       (λ _. post id 1009 n next)
       (λ k link. (

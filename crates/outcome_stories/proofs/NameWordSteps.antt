@@ -1,4 +1,4 @@
--- What a step makes of the words of names, and of each word that it doesn't write.
+-- What a step makes of the words of names.
 use Rattle.std.proofs.Common.{◌≡◌, ℕ, ◌<◌, cond, eqb, eq-eqb, ne_eqb, List, length, get_or, set, get_or-set_same, get_or-set_other, refl, sym, ap, ◌∙◌, subst, arith}
 use mathlib.Core.Logic.{dite}
 use native.Mathlib.Decide.{ℕ_discrete}

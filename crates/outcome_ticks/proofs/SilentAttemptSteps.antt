@@ -41,7 +41,7 @@ module _ (slots requests : ℕ) (calls : ℕ → Type 0) (done : List Done) (tod
   recycle_goes broken trace next k i from = (
     tt,
     λ found. split (eqb found from) (Do (OnSlot (LoadLink i (vref_version from + 1))) (λ l. Do (OnLink (TakeLink l)) (λ _. Do (OnLink (FinishLink l)) (λ _. Do (OnLink (PutLink l)) (λ _. if nat_le (vref_version from + 1) LAST_VERSION then Do (OnSlot (FreeSlot i)) (λ _. next true) else next true))))) (next false)
-        (Goes broken (step (Rattle.seat_programs.specs.TableSteps.OnSlot (Rattle.seat_programs.specs.TableSteps.Recycle i from)) found ∷ trace)) (
+        (Goes broken (step (OnSlot (Rattle.seat_programs.specs.TableSteps.Recycle i from)) found ∷ trace)) (
           tt,
           λ l. (
             tt,
@@ -49,7 +49,7 @@ module _ (slots requests : ℕ) (calls : ℕ → Type 0) (done : List Done) (tod
               tt,
               λ b. (
                 tt,
-                λ c. split (nat_le (vref_version from + 1) LAST_VERSION) (Do (OnSlot (FreeSlot i)) (λ _. next true)) (next true) (Goes broken (step (OnLink (PutLink l)) c ∷ step (OnLink (FinishLink l)) b ∷ step (OnLink (TakeLink l)) a ∷ step (OnSlot (LoadLink i (vref_version from + 1))) l ∷ step (Rattle.seat_programs.specs.TableSteps.OnSlot (Rattle.seat_programs.specs.TableSteps.Recycle i from)) found ∷ trace))
+                λ c. split (nat_le (vref_version from + 1) LAST_VERSION) (Do (OnSlot (FreeSlot i)) (λ _. next true)) (next true) (Goes broken (step (OnLink (PutLink l)) c ∷ step (OnLink (FinishLink l)) b ∷ step (OnLink (TakeLink l)) a ∷ step (OnSlot (LoadLink i (vref_version from + 1))) l ∷ step (OnSlot (Rattle.seat_programs.specs.TableSteps.Recycle i from)) found ∷ trace))
                     (tt, λ d. k true _) (k true _),
               ),
             ),

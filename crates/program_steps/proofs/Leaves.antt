@@ -27,8 +27,7 @@ use Rattle.sock_words.specs.Totals.{total}
 -- whether a step is one on whose word the right of whoever writes goes on
 abbrev pub moves_right : TableStep → Bool
 moves_right (OnSlot (LookWord id)) = true
-moves_right (OnPlace (StorePlace l k n)) = true
-moves_right (OnPlace (DropPlace l k n)) = true
+moves_right (OnPlace step) = true
 moves_right (OnChain (SwapHead i own)) = true
 moves_right (OnChain (ReadNext q)) = true
 moves_right (OnChain (EmptyHead i last)) = true

@@ -6,7 +6,7 @@ use lib.Seq.{set-get_or}
 use Rattle.sock_words.specs.declared.plain.Plan.{Plan}
 use Rattle.sock_model.specs.declared.view.View.{View}
 use Rattle.sock_model.specs.SocketTableLayout.{all_words}
-use Rattle.seat_programs.specs.TableSteps.{TableStep, PlaceStep, ChainStep, NameStep, SlotStep, OnMessage, OnLink, OnSlot, OnName, OnChain, ClaimSlot, CreateLife, AddRef, SubRef, SetOdd, Recycle, FreeSlot, LookWord, StoreLink, LoadLink, FindLink, ResetHead, ClearCode, StoreCode, LoadCode, StoreName, LoadName, StoreOpen, LoadOpen, SwapHead, EmptyHead, OnPlace, StorePlace}
+use Rattle.seat_programs.specs.TableSteps.{TableStep, OnSlot, OnName, OnChain, OnPlace, OnLink, OnMessage, SlotStep, NameStep, ChainStep, PlaceStep, ClaimSlot, CreateLife, AddRef, SubRef, SetOdd, Recycle, FreeSlot, LookWord, StoreLink, LoadLink, FindLink, ResetHead, ClearCode, StoreCode, LoadCode, StoreName, LoadName, StoreOpen, LoadOpen, SwapHead, EmptyHead, StorePlace}
 use Rattle.seat_programs.specs.TableWords.{TableWord, TagOf, RefOf, LinkOf, HeadOf, CodeOf, NameOf, OpenOf, RequestOf, NextOf, PlaceOf, index_in, index_of, IsIn}
 use Rattle.seat_programs.specs.StepsOfSlots.{word_of_slot}
 use Rattle.seat_programs.specs.StepsOfNames.{word_of_name}
@@ -145,7 +145,7 @@ place_sort : (step : PlaceStep) → (sort_in (word_of_place step) == 9) ≡ true
 place_sort (StorePlace l k n) = refl
 place_sort step = refl
 
--- what lies in a range isn't out of it
+-- a sort of this range is another than n, where n isn't both in the range and that sort
 inside_of : (range : ℕ → Bool) (sort n : ℕ) → range sort ≡ true → (range n && eqb sort n) ≡ false → eqb sort n ≡ false
 inside_of range sort n within is = by_test (eqb sort n) refl
   where
@@ -153,6 +153,7 @@ inside_of range sort n within is = by_test (eqb sort n) refl
     by_test false e = refl
     by_test true e = let in_ : range n ≡ true = subst (λ m. range m ≡ true) (eqb-true sort n e) within in sym (ap (λ b. range n && b) e ∙ ap (λ b. b && true) in_) ∙ is
 
+-- so the word of a step that is on none of this sort is of another
 pub of_other_sort : (n : ℕ) (call : TableStep) → is_on n call ≡ false → n ≢ 10 → eqb (sort_in (table_word call)) n ≡ false
 of_other_sort n (OnSlot step) is some_ = inside_of (λ m. nat_lt m 5) (sort_in (word_of_slot step)) n (slot_sort step) is
 of_other_sort n (OnName step) is some_ = inside_of (λ m. nat_lt 4 m && nat_lt m 7) (sort_in (word_of_name step)) n (name_sort step) is

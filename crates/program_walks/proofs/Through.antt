@@ -58,10 +58,8 @@ abbrev pub is_freeing : TableStep → Bool
 is_freeing (OnSlot (SubRef i)) = true
 is_freeing (OnSlot (Recycle i from)) = true
 is_freeing (OnSlot (LoadLink i v)) = true
-is_freeing (OnLink (TakeLink k)) = true
-is_freeing (OnLink (FinishLink k)) = true
-is_freeing (OnLink (PutLink k)) = true
 is_freeing (OnSlot (FreeSlot i)) = true
+is_freeing (OnLink step) = true
 is_freeing other = false
 
 abbrev pub is_plain_aside : Step → Bool
@@ -238,10 +236,8 @@ module _ (G : Program → Type 0) (g : PassesWords G) where
       plain (OnSlot (SubRef i)) is = refl
       plain (OnSlot (Recycle i from)) is = refl
       plain (OnSlot (LoadLink i v)) is = refl
-      plain (OnLink (TakeLink k)) is = refl
-      plain (OnLink (FinishLink k)) is = refl
-      plain (OnLink (PutLink k)) is = refl
       plain (OnSlot (FreeSlot i)) is = refl
+      plain (OnLink step) is = refl
       plain _ is = absurd (true≢false (sym is))
 
   pub through_release : (i : ℕ) (next : Bool → Program) → ((b : Bool) → G (next b)) → G (release i next)

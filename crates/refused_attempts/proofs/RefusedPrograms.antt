@@ -160,7 +160,7 @@ module _ (requests : ℕ) (is_call : Asked → Type 0) (reads : Bool) where
 
   put_goes : (mine : reads ≡ false) (h : Holder) (now : ℕ) (heading : Heading) (left : List ℕ) (taken : ℕ) (after : Program) → G idle after → (answer : Put) → G idle (put_answered h now heading left taken after answer)
   put_goes mine h now heading left taken after goes (puts.Took n) = split (nat_le (length left) n) (placed h now heading after) (Write (Puts h now heading (drop n left) (taken + n) false) after)
-      (λ _. (tt, λ found _. then_ (Rattle.seat_programs.specs.TableSteps.OnPlace (Rattle.seat_programs.specs.TableSteps.StorePlace heading.label.place h.link h.places)) _ found idle (passed_goes mine (one_more h) now (λ x. x) after (λ x g. g) goes))) (λ _. (mine, goes))
+      (λ _. (tt, λ found _. then_ (OnPlace (Rattle.seat_programs.specs.TableSteps.StorePlace heading.label.place h.link h.places)) _ found idle (passed_goes mine (one_more h) now (λ x. x) after (λ x g. g) goes))) (λ _. (mine, goes))
   put_goes mine h now heading left taken after goes puts.Again = (mine, goes)
   put_goes mine h now heading left taken after goes puts.Failed = fails 1009 h.id (λ _. Write (Puts h now heading left taken false) after) (λ _. (mine, goes))
 
@@ -212,7 +212,7 @@ module _ (requests : ℕ) (is_call : Asked → Type 0) (reads : Bool) where
         ready_goes asks.Now = (mine, g)
         ready_goes asks.NotYet = (mine, g)
         ready_goes asks.Failed = fails 1009 h.id (λ _. Write (Puts h now heading left taken false) after) (λ _. (mine, g))
-    block_goes (Empties h) after g = (tt, λ found _. then_ (Rattle.seat_programs.specs.TableSteps.OnChain (Rattle.seat_programs.specs.TableSteps.EmptyHead (socket_id_slot h.id) h.last)) _ found idle (split (found == h.last) after (TakeHome h.link (λ places. Write (Reversing (record h { places = places }) found found 0) after)) (λ _. g) (λ _. λ places. (mine, g))))
+    block_goes (Empties h) after g = (tt, λ found _. then_ (OnChain (Rattle.seat_programs.specs.TableSteps.EmptyHead (socket_id_slot h.id) h.last)) _ found idle (split (found == h.last) after (TakeHome h.link (λ places. Write (Reversing (record h { places = places }) found found 0) after)) (λ _. g) (λ _. λ places. (mine, g))))
     block_goes (Reversing h top at after) last g = (
       tt,
       λ found _. then_ (OnChain (ReadNext (ticket_request at))) _ found (begins (Reversing h top at after)) (split (found == UNCONNECTED) (Write (Reversing h top at after) last)
@@ -241,9 +241,9 @@ module _ (requests : ℕ) (is_call : Asked → Type 0) (reads : Bool) where
       inl (inl refl, inr (refl, refl)),
       (
         tt,
-        λ b _. then_ (Rattle.seat_programs.specs.TableSteps.OnChain (Rattle.seat_programs.specs.TableSteps.Unconnect q)) _ b idle (
+        λ b _. then_ (OnChain (Rattle.seat_programs.specs.TableSteps.Unconnect q)) _ b idle (
           tt,
-          λ found _. then_ (Rattle.seat_programs.specs.TableSteps.OnChain (Rattle.seat_programs.specs.TableSteps.SwapHead (socket_id_slot id) (ticket_of q g))) _ found idle
+          λ found _. then_ (OnChain (Rattle.seat_programs.specs.TableSteps.SwapHead (socket_id_slot id) (ticket_of q g))) _ found idle
               (split (nat_lt found IDLE) (Do (OnChain (Connect q found)) (λ _. after)) (write_link id q (ticket_of q g) after) (λ _. (tt, λ d _. then_ (OnChain (Connect q found)) _ d idle goes)) (λ _. write_goes mine id q (ticket_of q g) after goes)),
         ),
       ),

@@ -1,5 +1,5 @@
--- The steps of the chain of messages, C1 to C8: the word of each, what it stores, what the view of the seat says before it, what it may find, and
--- the view behind it.
+-- The steps of the chain of messages, C1 to C8: the kind and the word of each, what it stores, what the view of the seat says before it, what it may
+-- find, and the view behind it.
 use Rattle.std.specs.Prelude.{ℕ, ◌≡◌, ◌≢◌, ◌+◌, ◌*◌, ◌/◌, ◌%◌, ◌<◌, ◌⊎◌, ◌==◌, false, List, [], ◌∷◌, nat_lt, if◌then◌else◌, slice_index}
 use lib.ListN.{get_elem?}
 use mathlib.Core.Option.{Option, none, some}

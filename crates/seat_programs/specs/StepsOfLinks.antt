@@ -1,5 +1,5 @@
--- The moves of links out of their homes and into them, L1 and L2, the end of a writing half, W3, and what a link took, W1: what the view of the seat
--- says before each, what it may find, and the view behind it.
+-- The moves of links out of their homes and into them, L1 and L2, the end of a writing half, W3, and what a link took, W1: the kind of each, what the
+-- view of the seat says before it, what it may find, and the view behind it.
 use Rattle.std.specs.Prelude.{ℕ, ◌≡◌, ◌-◌, ◌<◌, ◌⊎◌, true, false, List, [], ◌∷◌, map, nat_lt, if◌then◌else◌}
 use mathlib.Core.Option.{Option, none, some}
 use Rattle.sock_model.specs.sock_words.specs.declared.kind.Kind.{Kind}

@@ -1,4 +1,5 @@
--- The moves of messages into their homes and out of them, M1 and M2: what the view of the seat says before each, and the view behind it.
+-- The moves of messages into their homes and out of them, M1 and M2: the kind of each, what the view of the seat says before it, and the view
+-- behind it.
 use Rattle.std.specs.Prelude.{ℕ, ◌≢◌, ◌*◌, ◌<◌, List, []}
 use Rattle.sock_model.specs.sock_words.specs.declared.kind.Kind.{Kind}
 use Rattle.sock_model.specs.sock_words.specs.declared.kind.Kind.TheVariants.{M1}

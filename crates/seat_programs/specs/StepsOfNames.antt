@@ -1,7 +1,7 @@
--- The steps on the words of names and of operations, S6 and S7: the word of each, what it stores, what the view of the seat says before it, what
--- it may find, and the view behind it.
+-- The steps on the words of names and of operations, S6 and S7: the kind and the word of each, what it stores, what the view of the seat says
+-- before it, what it may find, and the view behind it.
 use Rattle.std.specs.Prelude.{ℕ, ◌≡◌, ◌≢◌, ◌-◌, ◌<◌, ◌⊎◌, ◌==◌, ◌||◌, Bool, not, nat_lt, IsTrue, if◌then◌else◌}
-use mathlib.Core.Option.{Option, none, some}
+use mathlib.Core.Option.{Option, some}
 use Rattle.sock_model.specs.sock_words.specs.declared.kind.Kind.{Kind}
 use Rattle.sock_model.specs.sock_words.specs.declared.kind.Kind.TheVariants.{S6, S7}
 use Rattle.sock_model.specs.sock_words.specs.declared.plain.Plan.{Plan}

@@ -1,7 +1,7 @@
--- The steps that note where a message has its place, P1: the word of each, what it stores, what the view of the seat says before it, and the view
--- behind it.
+-- The steps that note where a message has its place, P1: the kind and the word of each, what it stores, what the view of the seat says before it,
+-- and the view behind it.
 use Rattle.std.specs.Prelude.{ℕ, ◌≡◌, ◌+◌, ◌<◌, true, false, [], ◌∷◌, ◌++◌, length, take}
-use mathlib.Core.Option.{Option, none, some}
+use mathlib.Core.Option.{Option, some}
 use Rattle.sock_model.specs.sock_words.specs.declared.kind.Kind.{Kind}
 use Rattle.sock_model.specs.sock_words.specs.declared.kind.Kind.TheVariants.{P1}
 use Rattle.sock_model.specs.sock_words.specs.declared.plain.Plan.{Plan}

@@ -1,7 +1,7 @@
--- The steps on the words of a slot, A1 to A8 and S1 to S5: the word of each, what it stores, what the view of the seat says before it, what it may
--- find, and the view behind it.
+-- The steps on the words of a slot, A1 to A8 and S1 to S5: the kind and the word of each, what it stores, what the view of the seat says before it,
+-- what it may find, and the view behind it.
 use Rattle.std.specs.Prelude.{ℕ, ◌≡◌, ◌≢◌, ◌+◌, ◌-◌, ◌%◌, ◌<◌, ◌≤◌, ◌⊎◌, ◌==◌, true, [], ◌∷◌, if◌then◌else◌, bit_or}
-use mathlib.Core.Option.{Option, none, some}
+use mathlib.Core.Option.{Option, some}
 use Rattle.sock_model.specs.sock_words.specs.declared.kind.Kind.{Kind}
 use Rattle.sock_model.specs.sock_words.specs.declared.kind.Kind.TheVariants.{A1, A2, A3, A4, A5, A6, A7, A8, S1, S2, S3, S4, S5}
 use Rattle.sock_model.specs.sock_words.specs.declared.plain.Plan.{Plan}

@@ -25,7 +25,7 @@ use Rattle.seat_programs.specs.declared.task.Task.{Task}
 use Rattle.seat_programs.specs.TableSteps.{TableStep, OnPlace, StorePlace, DropPlace}
 use Rattle.seat_programs.specs.Cores.{Core, SeatState, found_at, words_after}
 use Rattle.seat_programs.specs.TableWords.{PlaceOf}
-use Rattle.seat_programs.specs.StepTables.{May, table_word, word_of, word_after}
+use Rattle.seat_programs.specs.StepTables.{May, word_of, word_after}
 use Rattle.seat_programs.specs.SendAndWritePrograms.{heading_of}
 use Rattle.seat_programs.specs.Ticks.{Moment, IsAnswered, ticked}
 use Rattle.accept_counts.specs.Below.programs_allowed.specs.program_steps.specs.SoundSeats.{state, Sound, IsFitting}
