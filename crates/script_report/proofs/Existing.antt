@@ -9,7 +9,7 @@ use Rattle.sock_words.specs.PackedWords.{place_word_link, place_word_position}
 use Rattle.brpc_model.specs.Items.{Item}
 use Rattle.brpc_model.specs.Operations.{operations, link_names}
 use Rattle.brpc_model.specs.PlaceWords.{word_at, outcomes_from, ArePlaces, IsReportText}
-use Rattle.script_report.specs.declared.links.Accepted.{Accepted}
+use Rattle.script_report.specs.declared.links.ReportLabel.{ReportLabel}
 use Rattle.script_report.specs.ReportLines.{place_of, outcome_text_lines}
 use Rattle.script_report.specs.OrderRows.{label_at, rows_text, IsPutAt, IsFiled, AreRows}
 use Rattle.script_report.proofs.ReportedOrders.{report_of_orders}
@@ -31,20 +31,20 @@ so_many (suc n) x = ap suc (so_many n x)
 
 -- ## A label at its position
 
-filled : ℕ → Accepted → List Accepted → List Accepted
+filled : ℕ → ReportLabel → List ReportLabel → List ReportLabel
 filled position label row = row ++ replicate (position + 1 - length row) label
 
-filled_length : (position : ℕ) (label : Accepted) (row : List Accepted) → length (row ++ replicate (position + 1 - length row) label) ≡ max (length row) (position + 1)
+filled_length : (position : ℕ) (label : ReportLabel) (row : List ReportLabel) → length (row ++ replicate (position + 1 - length row) label) ≡ max (length row) (position + 1)
 filled_length position label row = let one = length-append row (replicate (position + 1 - length row) label) in let two = so_many (position + 1 - length row) label in omega (arith, one, two)
 
-put_at : (position : ℕ) (label : Accepted) (row : List Accepted) → IsPutAt position label row (slice_set (row ++ replicate (position + 1 - length row) label) position label)
+put_at : (position : ℕ) (label : ReportLabel) (row : List ReportLabel) → IsPutAt position label row (slice_set (row ++ replicate (position + 1 - length row) label) position label)
 put_at position label row = let full = row ++ replicate (position + 1 - length row) label in let long = filled_length position label row in record {
   here = get_same full position label (omega (arith, long));
   elsewhere = λ p other inside. get_other full position p label other ∙ in_front row (replicate (position + 1 - length row) label) p inside;
   length_is = length_set full position label ∙ long;
 }
 
-filed : (word : ℕ) (label : Accepted) (rows : List (List Accepted)) → (new : List (List Accepted)) × IsFiled word label rows new
+filed : (word : ℕ) (label : ReportLabel) (rows : List (List ReportLabel)) → (new : List (List ReportLabel)) × IsFiled word label rows new
 filed word label rows = dite (dec_lt 0 (word % 4294967296))
     (λ has. dite (dec_lt (place_word_link word) (length rows))
     (λ inside. let row = there rows (place_word_link word) inside in
@@ -54,7 +54,7 @@ filed word label rows = dite (dec_lt 0 (word % 4294967296))
 
 -- ## All labels
 
-rows_of : (words : List PlaceWord) (names : List (List ℕ)) → ArePlaces words → (n : ℕ) → (rows : List (List Accepted)) × (length rows ≡ length names) × AreRows words n rows
+rows_of : (words : List PlaceWord) (names : List (List ℕ)) → ArePlaces words → (n : ℕ) → (rows : List (List ReportLabel)) × (length rows ≡ length names) × AreRows words n rows
 rows_of words names are zero = (map (λ _. []) names, length_empty names _ refl, no_rows words names _ refl)
 rows_of words names are (suc n) = let before = rows_of words names are n in let after = filed (word_at words n) (label_at n) before.0 in let one_more : n + 1 ≡ suc n = omega arith in
     (after.0, after.1.same_links ∙ before.1, subst (λ m. AreRows words m after.0) one_more (rows_more words n (word_at words n) before.0 after.0 are refl after.1 before.2))

@@ -6,7 +6,7 @@ use Rattle.std.specs.Option.{option_map}
 use Rattle.sock_words.specs.declared.place_word.PlaceWord.{PlaceWord}
 use Rattle.sock_words.specs.PackedWords.{no_place, HasPosition, place_word_link, place_word_position}
 use Rattle.brpc_model.specs.Operations.{Label}
-use Rattle.script_report.specs.declared.links.Accepted.{Accepted}
+use Rattle.script_report.specs.declared.links.ReportLabel.{ReportLabel}
 use Rattle.script_report.specs.ReportLines.{label_of}
 use Rattle.brpc_model.specs.PlaceWords.{word_at, Tells, StandsAt, IsOrder, ArePlaces}
 use Rattle.script_report.specs.OrderRows.{label_at, IsPutAt, IsFiled, IsRow, AreRows}
@@ -70,7 +70,7 @@ length_set (x ∷ xs) zero y = refl
 length_set (x ∷ xs) (suc i) y = let e : length (slice_set xs i y) ≡ length xs = length_set xs i y in omega arith
 
 -- a label in the row of its link
-pub some_filed : (word : ℕ) (label : Accepted) (rows : List (List Accepted)) (i : ℕ) (before after : List Accepted) → HasPosition word → i ≡ place_word_link word →
+pub some_filed : (word : ℕ) (label : ReportLabel) (rows : List (List ReportLabel)) (i : ℕ) (before after : List ReportLabel) → HasPosition word → i ≡ place_word_link word →
     slice_get rows i ≡ Some before → IsPutAt (place_word_position word) label before after → IsFiled word label rows (slice_set rows i after)
 some_filed word label rows i before after has at was put = record {
   same_links = length_set rows i after;
@@ -78,12 +78,12 @@ some_filed word label rows i before after has at was put = record {
   own = λ k row _ e found. (
     before,
     ap (slice_get rows) (e ∙ sym at) ∙ was,
-    subst (λ (r : List Accepted). IsPutAt (place_word_position word) label before r) (same_Some after row (sym (get_same rows i after (slice_get_within rows i before was)) ∙ (ap (slice_get (slice_set rows i after)) (at ∙ sym e) ∙ found))) put,
+    subst (λ (r : List ReportLabel). IsPutAt (place_word_position word) label before r) (same_Some after row (sym (get_same rows i after (slice_get_within rows i before was)) ∙ (ap (slice_get (slice_set rows i after)) (at ∙ sym e) ∙ found))) put,
   );
 }
 
 -- the word tells no position
-pub none_told : (word : ℕ) (label : Accepted) (rows : List (List Accepted)) → (HasPosition word → ⊥) → IsFiled word label rows rows
+pub none_told : (word : ℕ) (label : ReportLabel) (rows : List (List ReportLabel)) → (HasPosition word → ⊥) → IsFiled word label rows rows
 none_told word label rows none = record {
   same_links = refl;
   others = λ k _. refl;
@@ -91,7 +91,7 @@ none_told word label rows none = record {
 }
 
 -- there is no such link
-pub none_filed : (word : ℕ) (label : Accepted) (rows : List (List Accepted)) (i : ℕ) → i ≡ place_word_link word → length rows ≤ i → IsFiled word label rows rows
+pub none_filed : (word : ℕ) (label : ReportLabel) (rows : List (List ReportLabel)) (i : ℕ) → i ≡ place_word_link word → length rows ≤ i → IsFiled word label rows rows
 none_filed word label rows i at past = record {
   same_links = refl;
   others = λ k _. refl;
@@ -101,24 +101,24 @@ none_filed word label rows i at past = record {
 -- ## Word by word
 
 -- none is told by no words
-pub no_rows : {A : Type 0} (words : List PlaceWord) (names : List A) (rows : List (List Accepted)) → rows ≡ map (λ _. []) names → AreRows words 0 rows
-no_rows {A} words names rows e link row found = subst (λ (r : List Accepted). IsRow words 0 link r) (sym (is_empty names link row (ap (λ (rs : List (List Accepted)). slice_get rs link) (sym e) ∙ found)))
+pub no_rows : {A : Type 0} (words : List PlaceWord) (names : List A) (rows : List (List ReportLabel)) → rows ≡ map (λ _. []) names → AreRows words 0 rows
+no_rows {A} words names rows e link row found = subst (λ (r : List ReportLabel). IsRow words 0 link r) (sym (is_empty names link row (ap (λ (rs : List (List ReportLabel)). slice_get rs link) (sym e) ∙ found)))
     (record { stands = λ n p low told. absurd (omega arith); reached = λ p low. absurd (omega arith) })
   where
-    is_empty : (ns : List A) (k : ℕ) (r : List Accepted) → slice_get (map (λ _. []) ns) k ≡ Some r → r ≡ []
+    is_empty : (ns : List A) (k : ℕ) (r : List ReportLabel) → slice_get (map (λ _. []) ns) k ≡ Some r → r ≡ []
     is_empty [] k r f = absurd (cc)
     is_empty (n ∷ ns) zero r f = sym (same_Some [] r f)
     is_empty (n ∷ ns) (suc k) r f = is_empty ns k r f
 
 -- of a link that the next word doesn't tell
-row_same : (words : List PlaceWord) (n k : ℕ) (row : List Accepted) → ((p : ℕ) → Tells (word_at words n) k p → ⊥) → IsRow words n k row → IsRow words (n + 1) k row
+row_same : (words : List PlaceWord) (n k : ℕ) (row : List ReportLabel) → ((p : ℕ) → Tells (word_at words n) k p → ⊥) → IsRow words n k row → IsRow words (n + 1) k row
 row_same words n k row never h = record {
   stands = λ m p low told. ⊎_elim (λ (e : m ≡ n). absurd (never p (subst (λ (x : ℕ). Tells (word_at words x) k p) e told))) (λ (d : m ≢ n). h.stands m p (omega arith) told) (same_or_not m n);
   reached = h.reached;
 }
 
 -- of the link that it tells
-row_more : (words : List PlaceWord) (n k p : ℕ) (before row : List Accepted) → ArePlaces words → Tells (word_at words n) k p → IsPutAt p (label_at n) before row → IsRow words n k before → IsRow words (n + 1) k row
+row_more : (words : List PlaceWord) (n k p : ℕ) (before row : List ReportLabel) → ArePlaces words → Tells (word_at words n) k p → IsPutAt p (label_at n) before row → IsRow words n k before → IsRow words (n + 1) k row
 row_more words n k p before row places told put h = record {
   stands = λ m q low there. ⊎_elim
       (λ (e : m ≡ n). let same : q ≡ p = sym there.position_is ∙ (ap (λ (x : ℕ). place_word_position (word_at words x)) e ∙ told.position_is) in
@@ -135,7 +135,7 @@ row_more words n k p before row places told put h = record {
     below_or_not (suc a) (suc b) = ⊎_elim (λ (l : a < b). inl (omega arith)) (λ (l : b ≤ a). inr (omega arith)) (below_or_not a b)
 
 -- and of all links
-pub rows_more : (words : List PlaceWord) (n word : ℕ) (old new : List (List Accepted)) → ArePlaces words → word ≡ word_at words n → IsFiled word (label_at n) old new → AreRows words n old → AreRows words (n + 1) new
+pub rows_more : (words : List PlaceWord) (n word : ℕ) (old new : List (List ReportLabel)) → ArePlaces words → word ≡ word_at words n → IsFiled word (label_at n) old new → AreRows words n old → AreRows words (n + 1) new
 rows_more words n word old new places is filed h k row found =
     ⊎_elim (λ (none : word ≡ no_place). unchanged (λ p t. no_position word none (subst HasPosition (sym is) t.accepted)) (λ has. absurd (no_position word none has)))
     (λ (has : HasPosition word). ⊎_elim
@@ -151,21 +151,21 @@ rows_more words n word old new places is filed h k row found =
 -- ## The order of a link
 
 -- the label that stands at a position
-found_label : (words : List PlaceWord) (k p : ℕ) (row : List Accepted) (label : Label) → IsRow words (length words) k row → StandsAt words label k p → slice_get (map label_of row) p ≡ Some label
+found_label : (words : List PlaceWord) (k p : ℕ) (row : List ReportLabel) (label : Label) → IsRow words (length words) k row → StandsAt words label k p → slice_get (map label_of row) p ≡ Some label
 found_label words k p row label h s =
     let n : ℕ = 8 * label.operation + label.attempt in
     let there : slice_get row p ≡ Some (label_at n) = h.stands n p (told_within words n k p s.told) s.told in
     slice_get-map label_of row p ∙ (ap (option_map label_of) there ∙ ap Some (same_label label s.attempt))
 
 -- each position of the row has its label
-each_stands : (words : List PlaceWord) (k p : ℕ) (row : List Accepted) → ArePlaces words → IsRow words (length words) k row → p < length row → (b : Label) × StandsAt words b k p
+each_stands : (words : List PlaceWord) (k p : ℕ) (row : List ReportLabel) → ArePlaces words → IsRow words (length words) k row → p < length row → (b : Label) × StandsAt words b k p
 each_stands words k p row places h low =
     let last = h.reached p low in
     ⊎_elim (λ (e : p ≡ last.1). (label_of (label_at last.0), stands_by words last.0 k p (subst (λ (q : ℕ). Tells (word_at words last.0) k q) (sym e) last.3)))
     (λ (d : p ≢ last.1). places.no_gap (label_of (label_at last.0)) k last.1 p (stands_by words last.0 k last.1 last.3) (omega (arith, last.2)))
     (same_or_not p last.1)
 
-pub row_is_order : (words : List PlaceWord) (k : ℕ) (row : List Accepted) → ArePlaces words → IsRow words (length words) k row → IsOrder words k (map label_of row)
+pub row_is_order : (words : List PlaceWord) (k : ℕ) (row : List ReportLabel) → ArePlaces words → IsRow words (length words) k row → IsOrder words k (map label_of row)
 row_is_order words k row places h p label = (to, λ s. found_label words k p row label h s)
   where
     to : slice_get (map label_of row) p ≡ Some label → StandsAt words label k p
@@ -176,13 +176,13 @@ row_is_order words k row places h p label = (to, λ s. found_label words k p row
 -- ## Rows in vectors
 
 -- a label was put into the vector of its link
-pub filed_in : {V : Type 0} (f : V → List Accepted) (word : ℕ) (label : Accepted) (orders : List V) (i position : ℕ) (before after : V) → HasPosition word →
+pub filed_in : {V : Type 0} (f : V → List ReportLabel) (word : ℕ) (label : ReportLabel) (orders : List V) (i position : ℕ) (before after : V) → HasPosition word →
     i ≡ place_word_link word → position ≡ place_word_position word → slice_get orders i ≡ Some before → IsPutAt position label (f before) (f after) → IsFiled word label (map f orders) (map f (slice_set orders i after))
 filed_in {V} f word label orders i position before after has at here was put =
-    subst (λ (rows : List (List Accepted)). IsFiled word label (map f orders) rows) (sym (map-set f orders i after))
+    subst (λ (rows : List (List ReportLabel)). IsFiled word label (map f orders) rows) (sym (map-set f orders i after))
     (some_filed word label (map f orders) i (f before) (f after) has at (slice_get-map f orders i ∙ ap (option_map f) was) (subst (λ (p : ℕ). IsPutAt p label (f before) (f after)) here put))
 
-pub filed_nowhere : {V : Type 0} (f : V → List Accepted) (word : ℕ) (label : Accepted) (orders : List V) (i : ℕ) → i ≡ place_word_link word → length orders ≤ i → IsFiled word label (map f orders) (map f orders)
+pub filed_nowhere : {V : Type 0} (f : V → List ReportLabel) (word : ℕ) (label : ReportLabel) (orders : List V) (i : ℕ) → i ≡ place_word_link word → length orders ≤ i → IsFiled word label (map f orders) (map f orders)
 filed_nowhere f word label orders i at past = none_filed word label (map f orders) i at (subst (λ (n : ℕ). n ≤ i) (sym (length-map orders f)) past)
 
 -- the word of an item of the list
@@ -191,13 +191,13 @@ word_of_items [] n d l = absurd (omega arith)
 word_of_items (w ∷ ws) zero d l = refl
 word_of_items (w ∷ ws) (suc n) d l = word_of_items ws n d (omega arith)
 
-pub length_empty : {A : Type 0} (names : List A) (rows : List (List Accepted)) → rows ≡ map (λ _. []) names → length rows ≡ length names
+pub length_empty : {A : Type 0} (names : List A) (rows : List (List ReportLabel)) → rows ≡ map (λ _. []) names → length rows ≡ length names
 length_empty names rows e = ap length e ∙ length-map names (λ _. [])
 
 -- the next word's label was filed
-pub next_filed : (words : List PlaceWord) (n index next : ℕ) (d : PlaceWord) (label : Accepted) (old new : List (List Accepted)) → ArePlaces words → n ≡ index → index < length words → next ≡ index + 1 →
+pub next_filed : (words : List PlaceWord) (n index next : ℕ) (d : PlaceWord) (label : ReportLabel) (old new : List (List ReportLabel)) → ArePlaces words → n ≡ index → index < length words → next ≡ index + 1 →
     label ≡ label_at n → IsFiled (get_or words index d).0 label old new → AreRows words n old → AreRows words next new
 next_filed words n index next d label old new places at low is_next is filed rows =
     subst (λ (m : ℕ). AreRows words m new) (ap (λ (x : ℕ). x + 1) at ∙ sym is_next)
     (rows_more words n (get_or words index d).0 old new places (word_of_items words index d low ∙ ap (word_at words) (sym at))
-    (subst (λ (l : Accepted). IsFiled (get_or words index d).0 l old new) is filed) rows)
+    (subst (λ (l : ReportLabel). IsFiled (get_or words index d).0 l old new) is filed) rows)

@@ -11,7 +11,7 @@ use Rattle.brpc_model.specs.Items.{Item}
 use Rattle.brpc_model.specs.Operations.{Operation, Label, operations, link_names}
 use Rattle.brpc_model.specs.Report.{LinkLine, label_text, link_lines}
 use Rattle.script_report.specs.declared.operations.OperationPlace.{OperationPlace}
-use Rattle.script_report.specs.declared.links.Accepted.{Accepted}
+use Rattle.script_report.specs.declared.links.ReportLabel.{ReportLabel}
 use Rattle.script_report.specs.ReportLines.{place_of, label_of, label_at, label_words, labels_text, link_text, order_text, outcome_text_line, outcome_text_lines}
 use Rattle.brpc_model.specs.PlaceWords.{ArePlaces, is_placed, outcome_of, outcomes_from, took_at, IsLineOf, IsReportText}
 use Rattle.script_report.specs.OrderRows.{AreRows, row_at, placed_in, rows_text, lines_of}
@@ -20,14 +20,14 @@ use Rattle.script_report.proofs.OrderRows.{row_is_order}
 
 -- ## As text
 
-label_is : (ops : List Operation) (a : Accepted) → label_words (map place_of ops) a ≡ label_text ops (label_of a)
+label_is : (ops : List Operation) (a : ReportLabel) → label_words (map place_of ops) a ≡ label_text ops (label_of a)
 label_is ops a = ap (λ (o : Option OperationPlace). label_at o a.attempt) (slice_get-map place_of ops a.operation) ∙ found (slice_get ops a.operation)
   where
     found : (o : Option Operation) → label_at (option_map place_of o) a.attempt ≡ unwrap_or (option_map (λ (op : Operation). decimal op.client ++ 46 ∷ decimal op.number ++ 46 ∷ decimal a.attempt) o) []
     found None = refl
     found (Some op) = simp append_assoc refl
 
-labels_are : (ops : List Operation) (row : List Accepted) → labels_text (map place_of ops) row ≡ flat_map (λ (label : Label). word (label_text ops label)) (map label_of row)
+labels_are : (ops : List Operation) (row : List ReportLabel) → labels_text (map place_of ops) row ≡ flat_map (λ (label : Label). word (label_text ops label)) (map label_of row)
 labels_are ops [] = refl
 labels_are ops (a ∷ row) = ap (λ (l : List ℕ). (codes " " ++ l) ++ labels_text (map place_of ops) row) (label_is ops a) ∙ ap (λ (l : List ℕ). word (label_text ops (label_of a)) ++ l) (labels_are ops row)
 
@@ -35,10 +35,10 @@ first_is : (k : ℕ) (name : List ℕ) (accepted placed : ℕ) (took : List ℕ)
     codes "link" ++ word (decimal k) ++ word name ++ codes " accepted" ++ word (decimal accepted) ++ codes " placed" ++ word (decimal placed) ++ codes " took" ++ word (decimal (length took)) ++ word (hex_text (take 32 took)) ++ 10 ∷ []
 first_is k name accepted placed took = simp append_assoc refl
 
-second_is : (ops : List Operation) (k : ℕ) (row : List Accepted) → order_text (map place_of ops) k row ≡ codes "order" ++ word (decimal k) ++ flat_map (λ (label : Label). word (label_text ops label)) (map label_of row) ++ 10 ∷ []
+second_is : (ops : List Operation) (k : ℕ) (row : List ReportLabel) → order_text (map place_of ops) k row ≡ codes "order" ++ word (decimal k) ++ flat_map (λ (label : Label). word (label_text ops label)) (map label_of row) ++ 10 ∷ []
 second_is ops k row = ap (λ (l : List ℕ). codes "order " ++ decimal k ++ l ++ codes "\n") (labels_are ops row)
 
-rows_are : (ops : List Operation) (words : List PlaceWord) (rows : List (List Accepted)) (took : List (List ℕ)) (k : ℕ) (names : List (List ℕ)) →
+rows_are : (ops : List Operation) (words : List PlaceWord) (rows : List (List ReportLabel)) (took : List (List ℕ)) (k : ℕ) (names : List (List ℕ)) →
     rows_text (map place_of ops) words rows took k names ≡ link_lines ops k names (lines_of words rows took k names)
 rows_are ops words rows took k [] = refl
 rows_are ops words rows took k (name ∷ names) =
@@ -54,27 +54,27 @@ rows_are ops words rows took k (name ∷ names) =
 
 -- ## As data
 
-length_lines : (words : List PlaceWord) (rows : List (List Accepted)) (took : List (List ℕ)) (k : ℕ) (names : List (List ℕ)) → length (lines_of words rows took k names) ≡ length names
+length_lines : (words : List PlaceWord) (rows : List (List ReportLabel)) (took : List (List ℕ)) (k : ℕ) (names : List (List ℕ)) → length (lines_of words rows took k names) ≡ length names
 length_lines words rows took k [] = refl
 length_lines words rows took k (name ∷ names) = let e : length (lines_of words rows took (k + 1) names) ≡ length names = length_lines words rows took (k + 1) names in omega arith
 
-line_at : (words : List PlaceWord) (rows : List (List Accepted)) (took : List (List ℕ)) (k : ℕ) (names : List (List ℕ)) (i j : ℕ) (line : LinkLine) → k + i ≡ j → slice_get (lines_of words rows took k names) i ≡ Some line →
+line_at : (words : List PlaceWord) (rows : List (List ReportLabel)) (took : List (List ℕ)) (k : ℕ) (names : List (List ℕ)) (i j : ℕ) (line : LinkLine) → k + i ≡ j → slice_get (lines_of words rows took k names) i ≡ Some line →
     line ≡ record { order = map label_of (row_at rows j); placed = placed_in words (row_at rows j); took = took_at took j }
 line_at words rows took k [] i j line e h = absurd (cc)
 line_at words rows took k (name ∷ names) zero j line e h = let at : k ≡ j = omega arith in
     sym (same_Some _ line h) ∙ ap (λ (n : ℕ). let l : LinkLine = record { order = map label_of (row_at rows n); placed = placed_in words (row_at rows n); took = took_at took n } in l) at
 line_at words rows took k (name ∷ names) (suc i) j line e h = line_at words rows took (k + 1) names i j line (omega arith) h
 
-placed_labels : (words : List PlaceWord) (row : List Accepted) → placed_in words row ≡ count_by (is_placed words) (map label_of row)
+placed_labels : (words : List PlaceWord) (row : List ReportLabel) → placed_in words row ≡ count_by (is_placed words) (map label_of row)
 placed_labels words row = sym (fold-map (λ (n : ℕ) (l : Label). n + cond (is_placed words l) 1 0) label_of 0 row)
 
 -- a link's row is there
-row_there : (rows : List (List Accepted)) (k : ℕ) → k < length rows → slice_get rows k ≡ Some (row_at rows k)
+row_there : (rows : List (List ReportLabel)) (k : ℕ) → k < length rows → slice_get rows k ≡ Some (row_at rows k)
 row_there [] k low = absurd (omega arith)
 row_there (row ∷ rows) zero low = refl
 row_there (row ∷ rows) (suc k) low = row_there rows k (omega arith)
 
-each_line : (words : List PlaceWord) (rows : List (List Accepted)) (took : List (List ℕ)) (names : List (List ℕ)) → ArePlaces words → length rows ≡ length names → AreRows words (length words) rows →
+each_line : (words : List PlaceWord) (rows : List (List ReportLabel)) (took : List (List ℕ)) (names : List (List ℕ)) → ArePlaces words → length rows ≡ length names → AreRows words (length words) rows →
     (k : ℕ) (line : LinkLine) → slice_get (lines_of words rows took 0 names) k ≡ Some line → IsLineOf words k (took_at took k) line
 each_line words rows took names places same are k line found =
     let low : k < length (lines_of words rows took 0 names) = slice_get_within _ k line found in
@@ -83,13 +83,13 @@ each_line words rows took names places same are k line found =
     (record { order = row_is_order words k (row_at rows k) places (are k (row_at rows k) (row_there rows k low')); placed = placed_labels words (row_at rows k); took = refl })
 
 -- from what each part appends
-pub report_of_orders : (script : List Item) (said : List (Option Outcome)) (words : List PlaceWord) (took : List (List ℕ)) (rows : List (List Accepted)) (places places' : List OperationPlace) (rows' : List (List Accepted)) (e a b text : List ℕ) → ArePlaces words →
+pub report_of_orders : (script : List Item) (said : List (Option Outcome)) (words : List PlaceWord) (took : List (List ℕ)) (rows : List (List ReportLabel)) (places places' : List OperationPlace) (rows' : List (List ReportLabel)) (e a b text : List ℕ) → ArePlaces words →
     length rows ≡ length (link_names script) → AreRows words (length words) rows → places ≡ map place_of (operations script) → places' ≡ map place_of (operations script) → rows' ≡ rows →
     e ≡ [] → a ≡ e ++ outcome_text_lines places (outcomes_from words 0 said) → b ≡ a ++ rows_text places' words rows' took 0 (link_names script) → text ≡ b ++ codes "end\n" → IsReportText script said words took text
 report_of_orders script said words took rows places places' rows' e a b text are same are_rows at at' same_rows empty first second last = record {
   report = record { outcomes = outcomes_from words 0 said; links = lines_of words rows took 0 (link_names script) };
   told = record { outcomes = refl; line_each = length_lines words rows took 0 (link_names script); links = each_line words rows took (link_names script) are same are_rows };
-  is_text = last ∙ ap (λ (l : List ℕ). l ++ codes "end\n") (second ∙ (ap (λ (rs : List (List Accepted)). a ++ rows_text places' words rs took 0 (link_names script)) same_rows
+  is_text = last ∙ ap (λ (l : List ℕ). l ++ codes "end\n") (second ∙ (ap (λ (rs : List (List ReportLabel)). a ++ rows_text places' words rs took 0 (link_names script)) same_rows
       ∙ (ap (λ (ps : List OperationPlace). a ++ rows_text ps words rows took 0 (link_names script)) at'
       ∙ (ap (λ (l : List ℕ). a ++ l) (rows_are (operations script) words rows took 0 (link_names script))
       ∙ ap (λ (l : List ℕ). l ++ link_lines (operations script) 0 (link_names script) (lines_of words rows took 0 (link_names script)))

@@ -11,7 +11,7 @@ mod told;
 mod words;
 mod writing;
 
-pub use links::Accepted;
+pub use links::ReportLabel;
 pub use outcomes::{say, untold};
 pub use summary::{Load, print_summary};
 pub use told::print_report;

@@ -9,9 +9,10 @@ use std::alloc::{AllocError, Global};
 /// How many of the bytes that a link took are shown.
 const HEAD: usize = 32;
 
-/// A message that a link accepted: the number of its operation in the whole script, counted from 0, and its attempt.
+/// The label of a message, as a report tells it: the number of its operation in the whole script, counted from 0, and
+/// its attempt.
 #[derive(Clone, Copy)]
-pub struct Accepted {
+pub struct ReportLabel {
     pub operation: usize,
     pub attempt: u8,
 }
@@ -77,7 +78,7 @@ fn push_attempt(text: &mut Vec<u8>, place: OperationPlace, attempt: u8) -> Resul
 fn push_label(
     text: &mut Vec<u8>,
     places: &[OperationPlace],
-    accepted: Accepted,
+    accepted: ReportLabel,
 ) -> Result<(), AllocError>
     ensures { OnOk result (text.new.items ≡ text.old.items ++ label_words places.now accepted) }
 {
@@ -91,7 +92,7 @@ fn push_label(
 fn push_labels(
     text: &mut Vec<u8>,
     places: &[OperationPlace],
-    order: &[Accepted],
+    order: &[ReportLabel],
 ) -> Result<(), AllocError>
     ensures { OnOk result (text.new.items ≡ text.old.items ++ labels_text places.now order.now) }
 {
@@ -107,7 +108,7 @@ fn push_order(
     text: &mut Vec<u8>,
     places: &[OperationPlace],
     link: usize,
-    order: &[Accepted],
+    order: &[ReportLabel],
 ) -> Result<(), AllocError>
     ensures { OnOk result (text.new.items ≡ text.old.items ++ order_text places.now link order.now) }
 {
@@ -124,7 +125,7 @@ pub fn push_link(
     places: &[OperationPlace],
     link: usize,
     name: &[u8],
-    order: &[Accepted],
+    order: &[ReportLabel],
     placed: usize,
     took: &[u8],
 ) -> Result<(), AllocError>

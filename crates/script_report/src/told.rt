@@ -6,7 +6,7 @@ ghost use Rattle.script_report.specs.ReportLines.{outcome_text_line, outcome_tex
 ghost use Rattle.brpc_model.specs.PlaceWords.{word_at, ArePlaces, HasEachOutcome, outcome_of, outcomes_from, took_at, IsReportText};
 ghost use Rattle.script_report.specs.OrderRows.{row_at, rows_text};
 
-use crate::links::{Accepted, push_link};
+use crate::links::{ReportLabel, push_link};
 use crate::operations::{OperationPlace, places_of, push_outcome_line};
 use crate::orders::orders_of;
 use crate::words::{count_placed, first_word, outcome_by_word};
@@ -63,7 +63,7 @@ fn push_told(
 }
 
 // The order of a link.
-fn row_at(orders: &[Vec<Accepted>], link: usize) -> &[Accepted]
+fn row_at(orders: &[Vec<ReportLabel>], link: usize) -> &[ReportLabel]
     ensures { result.now ≡ row_at (map (λ row. row.items) orders.now) link }
 {
     match orders.get(link) {
@@ -89,7 +89,7 @@ fn push_rows(
     operations: &[OperationPlace],
     lines: &[Line],
     words: &[PlaceWord],
-    orders: &[Vec<Accepted>],
+    orders: &[Vec<ReportLabel>],
     took: &[&[u8]],
 ) -> Result<(), AllocError>
     ensures { OnOk result (text.new.items ≡ text.old.items ++ rows_text operations.now words.now (map (λ row. row.items) orders.now) (map (λ bytes. bytes.now) took.now) 0 (link_names (map item lines.now))) }

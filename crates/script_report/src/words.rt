@@ -4,7 +4,7 @@ ghost use Rattle.script_report.specs.ReportLines.{label_of};
 ghost use Rattle.brpc_model.specs.PlaceWords.{word_at, is_placed, outcome_by_word};
 ghost use Rattle.script_report.specs.OrderRows.{label_at, placed_in};
 
-use crate::links::Accepted;
+use crate::links::ReportLabel;
 use sock_words::{Outcome, PlaceWord};
 
 /// How many place words an operation has, one for each attempt.
@@ -28,17 +28,17 @@ pub fn first_word(words: &[PlaceWord], operation: usize) -> PlaceWord
 }
 
 /// The label of the place word of this number.
-pub fn label_at(number: usize) -> Accepted
+pub fn label_at(number: usize) -> ReportLabel
     ensures { result ≡ label_at number }
 {
-    Accepted {
+    ReportLabel {
         operation: number / ATTEMPTS,
         attempt: (number % ATTEMPTS) as u8,
     }
 }
 
 // Whether a label's message wasn't dropped.
-fn is_placed(words: &[PlaceWord], label: Accepted) -> bool
+fn is_placed(words: &[PlaceWord], label: ReportLabel) -> bool
     ensures { result ≡ is_placed words.now (label_of label) }
 {
     let number = label
@@ -49,7 +49,7 @@ fn is_placed(words: &[PlaceWord], label: Accepted) -> bool
 }
 
 /// How many of these messages weren't dropped.
-pub fn count_placed(words: &[PlaceWord], order: &[Accepted]) -> usize
+pub fn count_placed(words: &[PlaceWord], order: &[ReportLabel]) -> usize
     ensures { result ≡ placed_in words.now order.now }
 {
     order

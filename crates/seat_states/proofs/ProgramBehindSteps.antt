@@ -38,7 +38,7 @@ use Rattle.sock_words.specs.declared.socket_id.SocketId.{SocketId}
 use Rattle.seat_states.specs.declared.point.Sending.{Sending}
 use Rattle.seat_states.specs.declared.point.SendStep.TheVariants as sends
 use Rattle.seat_states.specs.declared.point.Writer.{Writer}
-use Rattle.seat_states.specs.declared.point.Current.{Current}
+use Rattle.seat_states.specs.declared.point.MessageInHand.{MessageInHand}
 use Rattle.seat_states.specs.declared.point.WriteStep.{WriteStep}
 use Rattle.seat_states.specs.declared.point.WriteStep.TheVariants as writes
 use Rattle.call_points.specs.AsideCodeSteps.{after_word}
@@ -131,11 +131,11 @@ claims a s q found own even is =
 -- ## Writing
 
 -- a put that took all that was left
-pub took_all : (a : Context) (w : Writer) (c : Current) (asked : Bool) (n : ℕ) → nat_le (length a.left) n ≡ true → write_program (with_put (puts.Took n) a) w (writes.StorePlace c) ≡ after_put (write_program a w (writes.Put c asked)) (puts.Took n)
+pub took_all : (a : Context) (w : Writer) (c : MessageInHand) (asked : Bool) (n : ℕ) → nat_le (length a.left) n ≡ true → write_program (with_put (puts.Took n) a) w (writes.StorePlace c) ≡ after_put (write_program a w (writes.Put c asked)) (puts.Took n)
 took_all a w c asked n e = rw e refl
 
 -- and one that took a part
-pub took_part : (a : Context) (w : Writer) (c : Current) (asked : Bool) (n : ℕ) → nat_le (length a.left) n ≡ false → write_program (with_put (puts.Took n) a) w (writes.Look c false) ≡ after_put (write_program a w (writes.Put c asked)) (puts.Took n)
+pub took_part : (a : Context) (w : Writer) (c : MessageInHand) (asked : Bool) (n : ℕ) → nat_le (length a.left) n ≡ false → write_program (with_put (puts.Took n) a) w (writes.Look c false) ≡ after_put (write_program a w (writes.Put c asked)) (puts.Took n)
 took_part a w c asked n e = rw e refl
 
 -- a step that goes by a test

@@ -69,7 +69,7 @@ use Rattle.seat_states.specs.declared.point.SendStep.{SendStep}
 use Rattle.seat_states.specs.declared.point.SendStep.TheVariants as sends
 use Rattle.seat_states.specs.declared.point.Holder.{Holder}
 use Rattle.seat_states.specs.declared.point.Writer.{Writer}
-use Rattle.seat_states.specs.declared.point.Current.{Current}
+use Rattle.seat_states.specs.declared.point.MessageInHand.{MessageInHand}
 use Rattle.seat_states.specs.declared.point.WriteStep.{WriteStep}
 use Rattle.seat_states.specs.declared.point.WriteStep.TheVariants as writes
 use Rattle.seat_states.specs.declared.point.Point.{Point}
@@ -281,21 +281,21 @@ module _ (a : Context) where
     abbrev pub written_program : Program
     written_program = sent_program w.author w.holder.id.0
 
-    abbrev pub puts_program : Current → Bool → Program
+    abbrev pub puts_program : MessageInHand → Bool → Program
     puts_program c asked = Write (heads.Puts (holder_of w.holder) c.ticket.0 (heading_by c.author a.left_parts) a.left a.taken asked) written_program
 
     -- a piece is put
-    abbrev pub put_piece : Current → Bool → Program
+    abbrev pub put_piece : MessageInHand → Bool → Program
     put_piece c asked = PutBytes w.holder.link asked (part (parts_by c.author a.left_parts) a.left a.taken) (put_answered (holder_of w.holder) c.ticket.0 (heading_by c.author a.left_parts) a.left a.taken written_program)
 
     -- the first look: where the life was found failed, the loop begins with a look of its own
-    abbrev pub first_look : Current → Program
+    abbrev pub first_look : MessageInHand → Program
     first_look c = Do (calls.OnSlot (calls.LookWord w.holder.id.0)) (λ found. if vref_version found % 2 == 0 then put_piece c false else puts_program c false)
 
-    abbrev pub give_program : Current → Program
+    abbrev pub give_program : MessageInHand → Program
     give_program c = Do (calls.OnSlot (calls.SubRef (socket_id_slot w.holder.id.0))) (λ _. puts_program c false)
 
-    abbrev pub drop_program : Current → ℕ → Program
+    abbrev pub drop_program : MessageInHand → ℕ → Program
     drop_program c n = Do (calls.OnPlace (calls.DropPlace (place_by c.author) w.holder.link w.holder.places)) (λ _. passed_telling (one_more (holder_of w.holder)) c.ticket.0 (tell c.author a.left_parts n) written_program)
 
     -- a message is taken, with which the holder goes on

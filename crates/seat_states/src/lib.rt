@@ -25,9 +25,9 @@ pub use link_step::LinkStep;
 pub use name_step::NameStep;
 pub use place_step::PlaceStep;
 pub use point::{
-    AfterStep, Aim, Attempt, AttemptStep, Author, CallStep, Continuation, Current, FailStep,
-    Failing, Holder, JoinStep, Next, OpenStep, Opening, Point, ReleaseStep, Released, RetryStep,
-    Retrying, SeekStep, SendStep, Sending, Step, WriteStep, Writer,
+    AfterStep, Aim, Attempt, AttemptStep, Author, CallStep, Continuation, FailStep, Failing,
+    Holder, JoinStep, MessageInHand, Next, OpenStep, Opening, Point, ReleaseStep, Released,
+    RetryStep, Retrying, SeekStep, SendStep, Sending, Step, WriteStep, Writer,
 };
 pub use slot_step::SlotStep;
 pub use table_step::TableStep;

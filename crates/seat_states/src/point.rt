@@ -203,7 +203,7 @@ pub struct Writer {
 
 /// The message in hand: its ticket, and who sent it.
 #[derive(Clone, Copy)]
-pub struct Current {
+pub struct MessageInHand {
     pub ticket: Ticket,
     pub author: Author,
 }
@@ -212,21 +212,21 @@ pub struct Current {
 #[derive(Clone, Copy)]
 pub enum WriteStep {
     /// The first look, before the first put.
-    FirstLook(Current),
+    FirstLook(MessageInHand),
     /// A look comes before a put; whether the link answered since its last put that it takes more.
-    Look(Current, bool),
-    Put(Current, bool),
+    Look(MessageInHand, bool),
+    Put(MessageInHand, bool),
     /// The link took nothing of the last put, and is asked whether it takes more.
-    Ask(Current),
+    Ask(MessageInHand),
     /// The link failed: its life is set failed.
-    SetOdd(Current),
-    StoreCode(Current),
-    ReleaseFirst(Current),
+    SetOdd(MessageInHand),
+    StoreCode(MessageInHand),
+    ReleaseFirst(MessageInHand),
     /// The link took the message whole: it gets its place.
-    StorePlace(Current),
+    StorePlace(MessageInHand),
     /// The life failed: the message is dropped, behind a load of the error code.
-    LoadCode(Current),
-    DropPlace(Current, u16),
+    LoadCode(MessageInHand),
+    DropPlace(MessageInHand, u16),
     /// The message of this ticket has its place and isn't the last: its next word is read. The call of a dropped message is
     /// told of it later.
     ReadNext(Ticket, Option<OnCall>),

@@ -7,8 +7,8 @@ ghost use Rattle.seat_states.specs.ProgramStepsOfMachine.{first_in, step_as};
 use crate::asking::posting;
 use crate::chain_step::ChainStep;
 use crate::point::{
-    AfterStep, Author, Continuation, Current, Holder, Next, Point, ReleaseStep, SendStep, Sending,
-    Step, WriteStep, Writer,
+    AfterStep, Author, Continuation, Holder, MessageInHand, Next, Point, ReleaseStep, SendStep,
+    Sending, Step, WriteStep, Writer,
 };
 use crate::releasing::releasing;
 use crate::slot_step::SlotStep;
@@ -196,7 +196,7 @@ impl Sending {
                 places,
             },
         };
-        let current = Current {
+        let current = MessageInHand {
             ticket: own,
             author,
         };

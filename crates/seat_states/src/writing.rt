@@ -10,7 +10,7 @@ use crate::asking::posting;
 use crate::chain_step::ChainStep;
 use crate::place_step::PlaceStep;
 use crate::point::{
-    AfterStep, Author, Current, Holder, Next, Point, ReleaseStep, Step, WriteStep, Writer,
+    AfterStep, Author, Holder, MessageInHand, Next, Point, ReleaseStep, Step, WriteStep, Writer,
 };
 use crate::releasing::releasing;
 use crate::slot_step::SlotStep;
@@ -22,7 +22,7 @@ use sock_words::{EFAILEDSOCKET, Ticket, UNCONNECTED, Vref};
 /// The last generation of a request, which isn't given back then.
 const LAST_GENERATION: u64 = 140_737_488_355_327;
 
-impl Current {
+impl MessageInHand {
     /// What follows a put into the link, by its answer and by whether it took all that was left: a whole message gets
     /// its place; before what is left is put the socket is looked at; behind `Again` the link is asked whether it takes more;
     /// where it failed, the socket is set failed.
@@ -80,7 +80,7 @@ impl Writer {
         ensures program { (a : Context) (parts bytes : List ℕ) → next_program (with_message parts bytes a) result ≡ after_message (next_message a self (holder_of self.holder) ticket.0) author parts bytes }
         ensures hand { link_behind result ≡ None }
     {
-        self.to(WriteStep::Look(Current { ticket, author }, false))
+        self.to(WriteStep::Look(MessageInHand { ticket, author }, false))
     }
 
     /// It has noted the messages up to this ticket.
@@ -257,7 +257,7 @@ impl Writer {
     }
 
     /// What follows the place of a message that was dropped with this code.
-    fn dropped(self, current: Current, code: u16) -> Next
+    fn dropped(self, current: MessageInHand, code: u16) -> Next
         requires places { self.holder.places < 4294967295 }
         requires code { code ≤ 4095 }
         ensures program { (a : Context) (found : ℕ) → next_program a result ≡ after_word (write_program a self (WriteStep.DropPlace current code)) found }

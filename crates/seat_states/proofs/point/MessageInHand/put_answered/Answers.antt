@@ -1,6 +1,6 @@
 use Rattle.std.proofs.Common.{refl, sym, ◌∙◌}
 use Rattle.seat_states.proofs.ProgramBehindSteps.{took_all, took_part}
-use Rattle.seat_states.proofs.point.Current.put_answered.Goals as goal
+use Rattle.seat_states.proofs.point.MessageInHand.put_answered.Goals as goal
 
 pub returns-then-whole : goal.returns-then-whole
 returns-then-whole c a w asked e =
