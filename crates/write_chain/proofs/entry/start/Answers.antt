@@ -2,7 +2,7 @@ use Rattle.std.proofs.Common.{[], refl, sym, ap, ◌∙◌}
 use Rattle.atomic_table.specs.Table.{rest}
 use Rattle.sock_model.specs.ChainRows.{fresh_claim}
 use Rattle.message_parts.specs.Parcels.{parcel_of}
-use Rattle.sock_rule.specs.ChainPlays.{blank}
+use Rattle.sock_model.specs.MessageLabels.{blank}
 use Rattle.sock_rule.specs.Shows.{heading_of}
 use Rattle.write_chain.proofs.Accepting.{asks_first, asks_next, started_after, false_true}
 use Rattle.write_chain.proofs.SeatOnceAccepted.{begins}
