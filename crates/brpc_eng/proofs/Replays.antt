@@ -3,7 +3,7 @@ use Rattle.std.proofs.Common.{◌≡◌, ◌≢◌, ℕ, ◌≤◌, inl, inr, Li
 use Rattle.std.specs.declared.alloc.Global.{Global}
 use Rattle.brpc_model.specs.Items.{Item}
 use Rattle.brpc_model.specs.Script.{script_of}
-use Rattle.brpc_model.specs.Commands as model
+use Rattle.brpc_eng.specs.CommandWords as model
 use Rattle.brpc_eng.specs.declared.commands.Command.{Command}
 use Rattle.brpc_eng.specs.declared.draw.Draw.{Draw}
 use Rattle.brpc_eng.specs.declared.commands.Command.TheVariants.{Sim, Run, Gen, Load, Frames}

@@ -1,5 +1,5 @@
 -- What the words of the command line mean.
-use Rattle.brpc_model.specs.Commands as model
+use Rattle.brpc_eng.specs.CommandWords as model
 use Rattle.brpc_eng.specs.declared.commands.Command.{Command}
 use Rattle.brpc_eng.specs.declared.commands.Command.TheVariants as command
 

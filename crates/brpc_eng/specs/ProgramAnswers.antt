@@ -3,7 +3,7 @@ use Rattle.std.specs.Prelude.{ℕ, ◌≡◌, ◌≢◌, ◌<◌, ◌≤◌, ◌
 use Rattle.std.specs.declared.alloc.Global.{Global}
 use Rattle.std.specs.Io.KnownBytes.{Appends, Consumes}
 use Rattle.std.specs.List.{AllByRecursion}
-use Rattle.brpc_model.specs.Commands.{Replay, Sim, Run, Gen, Load, Frames, Serve, command_of, usage_text}
+use Rattle.brpc_eng.specs.CommandWords.{Replay, Sim, Run, Gen, Load, Frames, Serve, command_of, usage_text}
 use Rattle.brpc_model.specs.ScriptText.{script_text}
 use Rattle.brpc_model.specs.DrawnSeatsAndScripts.{generated}
 use Rattle.brpc_model.specs.Items.{Item}

@@ -1,6 +1,6 @@
 ghost use Rattle.std.specs.Prelude.{◌≡◌, ◌∷◌, [], ◌≤◌, map, string_bytes, option_map, IfSome, IfNone, ℕ};
-ghost use Rattle.brpc_model.specs.Commands.{command_of, sim_of, run_of, drawn_of, serve_of};
-ghost use Rattle.brpc_model.specs.Commands as model;
+ghost use Rattle.brpc_eng.specs.CommandWords.{command_of, sim_of, run_of, drawn_of, serve_of};
+ghost use Rattle.brpc_eng.specs.CommandWords as model;
 ghost use Rattle.brpc_eng.specs.Command.{meaning};
 
 use crate::doors::Doors;

@@ -15,7 +15,7 @@ pub mod ResponseOutcome
 pub mod FramesText
 pub mod Reply
 pub mod ReturnedLink
-pub mod Commands
+pub mod NumberInRange
 pub mod Report
 pub mod PlaceWords
 pub mod Run

@@ -1,7 +1,6 @@
 -- The words of the command line: which of the commands they ask for.
-use Rattle.std.specs.Prelude.{ℕ, ◌*◌, nat_le, if◌then◌else◌, List, [], ◌∷◌, codes, bytes_eq, Option, Some, None, Ok, Err, option_map, option_and_then}
-use Rattle.brpc_model.specs.LinePartReads.{Reads}
-use Rattle.brpc_model.specs.Text.{number_in}
+use Rattle.std.specs.Prelude.{ℕ, ◌*◌, nat_le, if◌then◌else◌, List, [], ◌∷◌, codes, bytes_eq, Option, Some, None, option_map, option_and_then}
+use Rattle.brpc_model.specs.NumberInRange.{number}
 
 -- what the program is asked to do
 pub data Command : Type 0 where
@@ -19,15 +18,6 @@ pub data Command : Type 0 where
   Frames : Command
   -- to accept so many connections at a port, and to serve them
   Serve : ℕ → ℕ → Command
-
--- what was read
-abbrev pub ok_of : Reads ℕ → Option ℕ
-ok_of (Ok n) = Some n
-ok_of (Err kind) = None
-
--- a number in its range, decimal and without leading zeros
-abbrev pub number : ℕ → ℕ → List ℕ → Option ℕ
-number low high word = ok_of (number_in low high word)
 
 -- a command of no further words
 abbrev pub alone : Command → List (List ℕ) → Option Command
