@@ -1,5 +1,5 @@
 -- The halves of a link, by what they took and gave.
-use Rattle.std.specs.Prelude.{ℕ, ◌≡◌, ◌≢◌, ◌+◌, ◌<◌, ◌≤◌, ◌⊎◌, Bool, true, false, if◌then◌else◌, List, [], ◌∷◌, ◌++◌, length, take, flat_map, Option, None, Some, IfSome, option_map}
+use Rattle.std.specs.Prelude.{ℕ, ◌≡◌, ◌≢◌, ◌+◌, ◌<◌, ◌≤◌, ◌⊎◌, Bool, true, false, if◌then◌else◌, List, [], ◌∷◌, ◌++◌, length, min, take, flat_map, Option, None, Some, IfSome, option_map}
 use Rattle.std.specs.Io.KnownBytes.{append_known}
 use Rattle.sock_io.specs.declared.link.Put.{Put}
 use Rattle.sock_io.specs.declared.link.Put.TheVariants as put
@@ -213,8 +213,15 @@ abbrev pub OffersTaken : Option Offer → Option Offer → List ℕ → Take →
 OffersTaken None new given result = new ≡ None
 OffersTaken (Some old) new given result = (o : Offer) × (new ≡ Some o) × OfferTaken old o given result
 
+-- where it is told what waits, a take gives as much of that as the room takes
+abbrev pub FillsRoom : Option Offer → List ℕ → Take → Type 0
+FillsRoom None room result = Unit {0}
+FillsRoom (Some offer) room (take_.Took n) = n ≡ min (length room) (length offer.waiting)
+FillsRoom (Some offer) room other = Unit {0}
+
 pub record TakeStep (old new : InState) (room : List ℕ) (result : Take) : Type 0 where
   pub count : IsTakeCount room result
+  pub fills : FillsRoom old.offer room result
   pub gave : new.gave ≡ old.gave + taken_count result
   pub bytes : new.gave_bytes ≡ append_known old.gave_bytes (given_of room result)
   pub end : (result ≡ take_.End → new.gave_end ≡ true) × (result ≢ take_.End → new.gave_end ≡ old.gave_end)
@@ -240,10 +247,11 @@ pub record SettleStep (out : OutState) (old new : InState) : Type 0 where
   pub offer : OffersKept old.offer new.offer
   pub closing : (new.closing ≡ old.closing) ⊎ ((out.finished ≡ true) × (new.closing ≡ option_map (λ _. true) old.closing))
 
--- a link that was served is served so that what is offered is what belongs to all that it took
+-- a link that was served is served so that what is offered is what belongs to all that it took; and where the link was finished, what is still to
+-- come from its other end is known to end
 abbrev pub IsSettled : OutState → InState → InState → Type 0
 IsSettled out old new = (o : Offer) (took gave : List ℕ) → old.offer ≡ Some o → out.took ≡ Some took → old.gave_bytes ≡ Some gave → IsServed took out.finished gave o
-    → (o' : Offer) × (new.offer ≡ Some o') × IsServed took out.finished gave o' × (offered_by o' took ≡ offered_by o' o'.fed)
+    → (o' : Offer) × (new.offer ≡ Some o') × IsServed took out.finished gave o' × (offered_by o' took ≡ offered_by o' o'.fed) × (out.finished ≡ true → o'.ending ≢ ending.Open)
 
 -- halves that took, gave and answered nothing so far
 pub record IsUnused (out : OutState) (inn : InState) : Type 0 where

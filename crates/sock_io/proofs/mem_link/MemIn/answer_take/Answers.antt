@@ -24,6 +24,7 @@ returns-then-count-gt0-clause-step c =
     let fits : m ≤ length c.copy_front-count.new.room = omega arith in
     record {
       count = (c.if-count-gt0.true, fits);
+      fills = search rules;
       gave = given_count bytes _ at m given most within;
       bytes = ap Some (given_more bytes _ _ at m given got);
       end = search rules;
