@@ -14,7 +14,7 @@ use std::marker::Model;
 /// A request of baidu_std.md: header, meta, payload and attachment behind one another.
 #[derive(Drop)]
 pub struct CallFrame {
-    buf: IoBuf,
+    buf: Box<IoBuf>,
     head: usize,
     payload: usize,
     attachment: usize,
@@ -26,9 +26,9 @@ impl Model for CallFrame {
 
     ghost Value = { ParcelData };
 
-    ghost view = { λ f. record { bytes = f.buf.items; parts = f.head ∷ f.payload ∷ f.attachment ∷ [] } };
+    ghost view = { λ f. record { bytes = f.buf.value.items; parts = f.head ∷ f.payload ∷ f.attachment ∷ [] } };
 
-    ghost invariant = { λ f. LiesInParts (f.head ∷ f.payload ∷ f.attachment ∷ []) f.buf };
+    ghost invariant = { λ f. LiesInParts (f.head ∷ f.payload ∷ f.attachment ∷ []) f.buf.value };
 }
 
 impl CallFrame {
@@ -50,8 +50,9 @@ impl CallFrame {
         let head = buf.len() - (payload + attachment);
         // Each piece has some byte, and at most a block's.
         let _ = buf.refs();
+        let boxed = Box::new(alloc, buf)?;
         Ok(CallFrame {
-            buf,
+            buf: boxed,
             head,
             payload,
             attachment,
@@ -85,7 +86,7 @@ impl CallFrame {
 /// Parts are cut from its front as `IOBuf::cut_into` does (iobuf.md).
 #[derive(Drop)]
 pub struct OutgoingFrame {
-    buf: IoBuf,
+    buf: Box<IoBuf>,
     taken: usize,
     head: usize,
     payload: usize,
@@ -98,9 +99,9 @@ impl Model for OutgoingFrame {
 
     ghost Value = { OutgoingData };
 
-    ghost view = { λ o. record { left = o.buf.items; taken = o.taken; parts = o.head ∷ o.payload ∷ o.attachment ∷ [] } };
+    ghost view = { λ o. record { left = o.buf.value.items; taken = o.taken; parts = o.head ∷ o.payload ∷ o.attachment ∷ [] } };
 
-    ghost invariant = { λ o. LiesBehindIn (o.head ∷ o.payload ∷ o.attachment ∷ []) o.taken o.buf };
+    ghost invariant = { λ o. LiesBehindIn (o.head ∷ o.payload ∷ o.attachment ∷ []) o.taken o.buf.value };
 }
 
 impl OutgoingFrame {

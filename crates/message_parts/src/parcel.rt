@@ -14,6 +14,7 @@ pub enum Parcel {
 
 impl Parcel {
     /// It begins to be put on a link. Nothing is copied.
+    #[inline(always)]
     pub fn begin(self) -> OutgoingParcel
         ensures { outgoing_of result ≡ record { left = (parcel_of self).bytes; taken = 0; parts = (parcel_of self).parts } }
     {
@@ -34,6 +35,7 @@ pub enum OutgoingParcel {
 
 impl OutgoingParcel {
     /// The bytes that are put next, or none where nothing is left.
+    #[inline(always)]
     pub fn next_piece(&self) -> &[u8]
         ensures { result.now ≡ part (outgoing_of self.now).parts (outgoing_of self.now).left (outgoing_of self.now).taken }
     {
@@ -44,6 +46,7 @@ impl OutgoingParcel {
     }
 
     /// The link took so many bytes of that piece.
+    #[inline(always)]
     pub fn take(&mut self, count: usize)
         requires { count ≤ length (part (outgoing_of self.old).parts (outgoing_of self.old).left (outgoing_of self.old).taken) }
         ensures left { (outgoing_of self.new).left ≡ drop count (outgoing_of self.old).left }
@@ -57,6 +60,7 @@ impl OutgoingParcel {
     }
 
     /// Whether the link took all of it.
+    #[inline(always)]
     pub fn is_whole_taken(&self) -> bool
         ensures { result ≡ (length (outgoing_of self.now).left == 0) }
     {

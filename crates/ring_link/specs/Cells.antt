@@ -5,6 +5,12 @@ use Rattle.sock_io.specs.declared.ending.Ending.TheVariants as ending
 use Rattle.ring_link.specs.declared.cell.Cell.{Cell}
 use Rattle.ring_link.specs.declared.cell.Cell.TheVariants as cell
 
+-- the byte, or 0 of a mark
+abbrev pub byte_in : Cell → ℕ
+byte_in (cell.Byte b) = b
+byte_in cell.Ended = 0
+byte_in cell.Closed = 0
+
 -- the bytes in front of the first mark
 abbrev pub bytes_of : List Cell → List ℕ
 bytes_of [] = []

@@ -4,10 +4,10 @@ ghost use Rattle.sock_io.specs.Peer.{has_ended};
 ghost use Rattle.ring_link.specs.Cells.{IsOpen, ending_of, mark_cells};
 ghost use Rattle.ring_link.specs.RingHalves.{mark_at};
 ghost use Rattle.ring_link.specs.declared.cell.Cell.TheVariants.{Byte};
-ghost use Rattle.ring_link.specs.declared.packing.TheConstants.{CHUNK};
+ghost use Rattle.ring_link.specs.declared.packing.TheConstants.{CHUNK, FEW};
 
 use crate::cell::{Cell, MarkLast};
-use crate::packing::{CHUNK, pack};
+use crate::packing::{CHUNK, FEW, pack};
 use rtrb::Producer;
 use sock_io::{Ending, Take};
 use std::alloc::Global;
@@ -95,7 +95,24 @@ impl RingWriter {
         ensures bytes { self.new.bytes ≡ self.old.bytes ++ piece.now }
         ensures ending { IsOpen self.new.ending }
     {
-        let mut cells = [Cell::Ended; CHUNK];
+        if piece.len() <= FEW {
+            self.put_few(piece);
+        } else {
+            let mut cells = [Cell::Ended; CHUNK];
+            pack(piece, &mut cells);
+            self.push(&cells[..piece.len()], piece);
+        }
+    }
+
+    // The same of few bytes, for which fewer cells are made ready.
+    fn put_few(&mut self, piece: &[u8])
+        requires open { IsOpen self.old.ending }
+        requires room { (length piece.now ≤ self.old.places) × (length piece.now ≤ FEW) }
+        ensures ring { self.new.ring ≡ self.old.ring }
+        ensures bytes { self.new.bytes ≡ self.old.bytes ++ piece.now }
+        ensures ending { IsOpen self.new.ending }
+    {
+        let mut cells = [Cell::Ended; FEW];
         pack(piece, &mut cells);
         self.push(&cells[..piece.len()], piece);
     }

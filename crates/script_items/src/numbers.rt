@@ -2,7 +2,7 @@ ghost use Rattle.std.specs.Prelude.{◌≡◌, ◌≤◌, ◌<◌, ◌==◌, ◌
 ghost use Rattle.std.specs.List.{list_all};
 ghost use Rattle.std.specs.Char.{is_ascii_digit, digit_value};
 ghost use Rattle.std.specs.Str.Parse.{digits_value};
-ghost use Rattle.brpc_model.specs.Commands.{number};
+ghost use Rattle.brpc_model.specs.NumberInRange.{number};
 ghost use Rattle.brpc_model.specs.Text.{is_numeral, number_in};
 ghost use Rattle.script_items.specs.PartReaderAnswers.{Answers};
 

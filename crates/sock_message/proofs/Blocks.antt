@@ -1,11 +1,11 @@
 -- How a message in blocks lies once a part of it was taken.
-use Rattle.std.proofs.Common.{◌≡◌, ℕ, zero, suc, ◌+◌, ◌-◌, ◌%◌, ◌<◌, ◌≤◌, inl, inr, min, List, length, take, drop, get_or, arith, ap, ◌∙◌, length-drop}
+use Rattle.std.proofs.Common.{◌≡◌, ℕ, zero, suc, ◌+◌, ◌-◌, ◌%◌, ◌<◌, ◌≤◌, inl, inr, min, List, length, take, drop, get_or, arith, ap, sym, ◌∙◌, ◌^◌, length-drop}
 use Rattle.std.proofs.lemmas.Bool.{cases_lt}
 use Rattle.std.proofs.lemmas.List.{take_min}
 use Rattle.io_buf.specs.io_block.specs.declared.pool.TheConstants.{BLOCK_BYTES}
 use Rattle.io_buf.specs.Buffer.{Buffer, block_sizes, rest_sizes}
 use Rattle.io_buf.proofs.ReferenceSizesAtEnds.{rest_sizes-less, rest_sizes-more, rest_sizes-zero, rest_sizes-rest_sizes, block_sizes-step}
-use Rattle.sock_message.specs.InsideMessages.{LiesBehind}
+use Rattle.sock_message.specs.InsideMessages.{LiesInBlocks, LiesBehind}
 use Rattle.sock_message.specs.MessagePieces.{piece}
 
 -- the size of the first piece, of what is left
@@ -70,4 +70,13 @@ LiesBehind-drop taken count old new lies fits items sizes =
           ∙ rest_sizes-rest_sizes count taken (block_sizes (taken + length old.items))
           ∙ ap (λ (n : ℕ). rest_sizes (taken + count) (block_sizes n)) whole;
       counted = omega (arith, lies.counted, whole);
+    }
+
+-- a message of which nothing was taken yet
+pub LiesBehind-whole : (buf : Buffer) → LiesInBlocks buf → length buf.items < 2 ^ 64 → LiesBehind 0 buf
+LiesBehind-whole buf lies counted =
+    let same : length buf.items ≡ 0 + length buf.items = omega arith in
+    record {
+      sizes = lies ∙ ap block_sizes same ∙ sym (rest_sizes-zero (block_sizes (0 + length buf.items)));
+      counted = omega (arith, counted);
     }

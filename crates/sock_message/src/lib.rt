@@ -3,6 +3,7 @@
 #![tactic(auto)]
 
 mod call;
+mod few;
 mod message;
 mod outgoing;
 

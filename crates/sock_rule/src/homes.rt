@@ -23,6 +23,7 @@ pub struct LinkHome<O: Out> {
 
 impl<O: Out> LinkHome<O> {
     /// A half that was handed in and took nothing yet.
+    #[inline(always)]
     pub fn fresh(out: O) -> LinkHome<O>
         requires { ForSome (O.state out).took (λ bytes. bytes ≡ []) }
         ensures out { result.out ≡ out }
@@ -33,6 +34,7 @@ impl<O: Out> LinkHome<O> {
     }
 
     /// W1: the link takes a part of the piece, or nothing.
+    #[inline(always)]
     pub fn put(&mut self, piece: &[u8]) -> Put
         requires { 0 < length piece.now }
         ensures took { (self.new.took.list ≡ self.old.took.list ++ taken_of piece.now result) × (self.new.next ≡ self.old.next) }
@@ -52,6 +54,7 @@ impl<O: Out> LinkHome<O> {
     }
 
     /// W2: whether the link takes more.
+    #[inline(always)]
     pub fn ready(&mut self) -> Ready
         ensures same { (self.new.took.list ≡ self.old.took.list) × (self.new.next ≡ self.old.next) }
         ensures link { (O.state self.new.out).link ≡ (O.state self.old.out).link }
@@ -65,6 +68,7 @@ impl<O: Out> LinkHome<O> {
     }
 
     /// One message more has its place.
+    #[inline(always)]
     pub fn count_place(&mut self)
         requires { self.old.next < 4294967295 }
         ensures same { (self.new.took.list ≡ self.old.took.list) × (self.new.next ≡ self.old.next + 1) }
@@ -74,6 +78,7 @@ impl<O: Out> LinkHome<O> {
     }
 
     /// W3: the writing half ends. It took what it took.
+    #[inline(always)]
     pub fn finish(&mut self)
         ensures same { (self.new.took.list ≡ self.old.took.list) × (self.new.next ≡ self.old.next) }
         ensures link { (O.state self.new.out).link ≡ (O.state self.old.out).link }

@@ -1,5 +1,5 @@
 // The steps of whoever sends a message.
-ghost use Rattle.std.specs.Prelude.{◌≡◌, ◌*◌, ◌/◌, ◌%◌, ◌<◌, ℕ, [], ◌↔◌, IsTrue};
+ghost use Rattle.std.specs.Prelude.{◌≡◌, ◌*◌, ◌/◌, ◌%◌, ◌<◌, ◌≤◌, ℕ, [], ◌↔◌, IsTrue, IfSome};
 ghost use Rattle.atomic_table.specs.Table.{rest};
 ghost use mathlib.Core.Option.{some};
 ghost use lib.ListN.{get_elem?};
@@ -22,6 +22,7 @@ use sock_words::{Step, Ticket, UNCONNECTED};
 
 impl<O: Out> RuleTable<O> {
     /// C1, fetch_or of bit 0 of a request word: the request is claimed where the bit was clear, and its home comes with it.
+    #[inline(always)]
     pub fn claim_request(&self, seat: &mut SockSeat<O>, at: u16) -> Step
         requires seat { IsSeat self.now.table.shared.table_id self.now.plan seat.old }
         requires request { at < self.now.plan.requests }
@@ -35,8 +36,37 @@ impl<O: Out> RuleTable<O> {
         chain_core::claim_request(found)
     }
 
+    /// A request that seemed free at a look, from this one on and then from the first. It may be taken by now.
+    #[inline(always)]
+    pub fn likely_request(&self, from: u16) -> Option<u16>
+        requires from { from ≤ self.now.plan.requests }
+        ensures { IfSome result (λ at. at < self.now.plan.requests) }
+    {
+        for at in from..self.plan.requests {
+            if self.seems_free(at) {
+                return Some(at);
+            }
+        }
+        for at in 0..from {
+            if self.seems_free(at) {
+                return Some(at);
+            }
+        }
+        None
+    }
+
+    // Whether a request is free at a look.
+    #[inline(always)]
+    fn seems_free(&self, at: u16) -> bool
+        requires request { at < self.now.plan.requests }
+    {
+        let index = request_index(&self.plan, at);
+        self.table.shared.peek(index) % 2 == 0
+    }
+
     /// M1: the message goes into the home of the request that the seat claimed, for the link of the life that it holds in
     /// slot `slot`, which is the answer.
+    #[inline(always)]
     pub fn put_msg(&self, seat: &mut SockSeat<O>, at: u16, slot: u16, msg: Letter) -> u64
         requires seat { IsSeat self.now.table.shared.table_id self.now.plan seat.old }
         requires request { at < self.now.plan.requests }
@@ -61,6 +91,7 @@ impl<O: Out> RuleTable<O> {
     }
 
     /// C7, store of `UNCONNECTED` into the own next word.
+    #[inline(always)]
     pub fn unconnect(&self, seat: &mut SockSeat<O>, at: u16)
         requires seat { IsSeat self.now.table.shared.table_id self.now.plan seat.old }
         requires request { at < self.now.plan.requests }
@@ -75,6 +106,7 @@ impl<O: Out> RuleTable<O> {
     }
 
     /// C2, swap of the head with the own ticket: the message is accepted.
+    #[inline(always)]
     pub fn swap_head(&self, seat: &mut SockSeat<O>, at: u16, own: Ticket) -> Step
         requires seat { IsSeat self.now.table.shared.table_id self.now.plan seat.old }
         requires slot { at < self.now.plan.slots }
@@ -88,6 +120,7 @@ impl<O: Out> RuleTable<O> {
     }
 
     /// C3, store of the ticket that was found in the head into the own next word.
+    #[inline(always)]
     pub fn connect(&self, seat: &mut SockSeat<O>, at: u16, before: Ticket)
         requires seat { IsSeat self.now.table.shared.table_id self.now.plan seat.old }
         requires request { at < self.now.plan.requests }

@@ -17,6 +17,7 @@ use sock_model::link_index;
 
 impl<O: Out> RuleTable<O> {
     /// L1 of whoever recycled slot `at`, of the link of the life that ended.
+    #[inline(always)]
     pub fn take_last_link(&self, seat: &mut SockSeat<O>, at: u16, link: u16) -> LinkHome<O>
         requires seat { IsSeat self.now.table.shared.table_id self.now.plan seat.old }
         requires slot { at < self.now.plan.slots }
@@ -34,6 +35,7 @@ impl<O: Out> RuleTable<O> {
     }
 
     /// L1 of a link whose pass gets no socket: the pass is spent.
+    #[inline(always)]
     pub fn spend_pass(&self, seat: &mut SockSeat<O>, link: u16) -> LinkHome<O>
         requires seat { IsSeat self.now.table.shared.table_id self.now.plan seat.old }
         requires pass { seat.old.me.0.passes ≡ link ∷ [] }
@@ -49,6 +51,7 @@ impl<O: Out> RuleTable<O> {
     }
 
     /// L2: the link in hand goes home, with what it took.
+    #[inline(always)]
     pub fn put_link(&self, seat: &mut SockSeat<O>, link: u16, home: LinkHome<O>)
         requires seat { IsSeat self.now.table.shared.table_id self.now.plan seat.old }
         requires top { seat.old.me.1 ≡ (self.now.plan.requests + link, Empty) ∷ rest seat.old.me.1 }
@@ -63,6 +66,7 @@ impl<O: Out> RuleTable<O> {
     }
 
     // The link of this number comes out of its home, which the seat has in hand.
+    #[inline(always)]
     pub(crate) fn take_link_home(&self, seat: &mut SockSeat<O>, link: u16) -> LinkHome<O>
         requires seat { seat.old.table_id ≡ self.now.table.shared.table_id }
         requires home { LinkOnTop (self.now.plan.requests + link) seat.old.me }
@@ -75,6 +79,7 @@ impl<O: Out> RuleTable<O> {
     }
 
     // The link comes out of the home that the seat has in hand, which is empty then.
+    #[inline(always)]
     pub(crate) fn take_home(&self, seat: &mut SockSeat<O>, slot: usize) -> LinkHome<O>
         requires seat { seat.old.table_id ≡ self.now.table.shared.table_id }
         requires home { LinkOnTop slot seat.old.me }
@@ -90,6 +95,7 @@ impl<O: Out> RuleTable<O> {
     }
 
     // The link goes into the empty home that the seat has in hand.
+    #[inline(always)]
     pub(crate) fn lay_home(&self, seat: &mut SockSeat<O>, slot: usize, home: LinkHome<O>)
         requires seat { seat.old.table_id ≡ self.now.table.shared.table_id }
         requires top { seat.old.me.1 ≡ (slot, Empty) ∷ rest seat.old.me.1 }

@@ -25,6 +25,7 @@ use sock_words::{PlaceWord, Step, Ticket};
 
 impl<O: Out> RuleTable<O> {
     /// L1 of the link that the seat has the right to write. Where its half has faults, the seat notes that in slot `at`.
+    #[inline(always)]
     pub fn take_link(&self, seat: &mut SockSeat<O>, at: u16, link: u16) -> LinkHome<O>
         requires seat { IsSeat self.now.table.shared.table_id self.now.plan seat.old }
         requires slot { at < self.now.plan.slots }
@@ -43,6 +44,7 @@ impl<O: Out> RuleTable<O> {
     }
 
     /// The seat notes that a fault of the link in hand came.
+    #[inline(always)]
     pub fn note_fault(&self, seat: &mut SockSeat<O>, at: u16)
         requires seat { IsSeat self.now.table.shared.table_id self.now.plan seat.old }
         requires slot { at < self.now.plan.slots }
@@ -55,6 +57,7 @@ impl<O: Out> RuleTable<O> {
     }
 
     /// M2: the message of the ticket comes out of its home.
+    #[inline(always)]
     pub fn take_msg(&self, seat: &mut SockSeat<O>, now: Ticket) -> Letter
         requires seat { IsSeat self.now.table.shared.table_id self.now.plan seat.old }
         requires may { MayTakeMsg now.0 seat.old.me.0 }
@@ -77,6 +80,7 @@ impl<O: Out> RuleTable<O> {
     }
 
     /// A8 of whoever writes the link of the life in slot `at`: where that is live, its right is clean.
+    #[inline(always)]
     pub fn look_to_write(&self, seat: &mut SockSeat<O>, at: u16) -> Step
         requires seat { IsSeat self.now.table.shared.table_id self.now.plan seat.old }
         requires may { MayLookToWrite self.now.plan at seat.old.me.0 }
@@ -89,6 +93,7 @@ impl<O: Out> RuleTable<O> {
     }
 
     /// P1 of a message that its link took whole.
+    #[inline(always)]
     pub fn store_place(&self, seat: &mut SockSeat<O>, at: u32, value: PlaceWord)
         requires seat { IsSeat self.now.table.shared.table_id self.now.plan seat.old }
         requires may { (k places : ℕ) × MayStorePlace self.now.plan at k places seat.old.me.0 × (value.0 ≡ place_word false k places) }
@@ -100,6 +105,7 @@ impl<O: Out> RuleTable<O> {
     }
 
     /// P1 with the dropped bit, of a message in hand: its link lies in the home of the request meanwhile.
+    #[inline(always)]
     pub fn drop_place(
         &self,
         seat: &mut SockSeat<O>,
@@ -124,6 +130,7 @@ impl<O: Out> RuleTable<O> {
     }
 
     /// C8: the request of a message that has its place is free again, and its home is back.
+    #[inline(always)]
     pub fn free_request(&self, seat: &mut SockSeat<O>, now: Ticket)
         requires seat { IsSeat self.now.table.shared.table_id self.now.plan seat.old }
         requires may { MayFreeRequest now.0 seat.old.me }
@@ -138,6 +145,7 @@ impl<O: Out> RuleTable<O> {
     }
 
     /// The request of a message that has its place stays taken where its generation is the last one. Its home is back.
+    #[inline(always)]
     pub fn retire_request(&self, seat: &mut SockSeat<O>, now: Ticket)
         requires seat { IsSeat self.now.table.shared.table_id self.now.plan seat.old }
         requires may { MayFreeRequest now.0 seat.old.me }
@@ -149,6 +157,7 @@ impl<O: Out> RuleTable<O> {
     }
 
     /// L2 of the link that the seat has the right to write. Its half has faults where the seat noted one.
+    #[inline(always)]
     pub fn put_own_link(&self, seat: &mut SockSeat<O>, link: u16, home: LinkHome<O>)
         requires seat { IsSeat self.now.table.shared.table_id self.now.plan seat.old }
         requires inside { link < self.now.plan.links }
@@ -167,6 +176,7 @@ impl<O: Out> RuleTable<O> {
 
     /// C4, compare_exchange of the head from the last ticket to idle with it: the right is given up, or a newer ticket
     /// was found.
+    #[inline(always)]
     pub fn empty_head(&self, seat: &mut SockSeat<O>, at: u16, last: Ticket) -> Step
         requires seat { IsSeat self.now.table.shared.table_id self.now.plan seat.old }
         requires may { MayEmptyHead self.now.plan at last.0 seat.old.me.0 }
@@ -185,6 +195,7 @@ impl<O: Out> RuleTable<O> {
     }
 
     /// C5 after a message has its place: the ticket of the one that follows.
+    #[inline(always)]
     pub fn read_on(&self, seat: &mut SockSeat<O>, now: Ticket) -> u64
         requires seat { IsSeat self.now.table.shared.table_id self.now.plan seat.old }
         requires may { MayReadOn now.0 seat.old.me.0 }
@@ -197,6 +208,7 @@ impl<O: Out> RuleTable<O> {
     }
 
     /// C5 on the walk, which waits while it finds `UNCONNECTED`.
+    #[inline(always)]
     pub fn read_back(&self, seat: &mut SockSeat<O>, at: Ticket) -> u64
         requires seat { IsSeat self.now.table.shared.table_id self.now.plan seat.old }
         requires may { MayReadBack at.0 seat.old.me.0 }
@@ -209,6 +221,7 @@ impl<O: Out> RuleTable<O> {
     }
 
     /// C6, store of the successor, or 0, into the next word at which the walk stands.
+    #[inline(always)]
     pub fn reverse_next(&self, seat: &mut SockSeat<O>, at: Ticket, value: u64)
         requires seat { IsSeat self.now.table.shared.table_id self.now.plan seat.old }
         requires may { MayTurnNext at.0 value seat.old.me.0 }

@@ -1,9 +1,10 @@
 -- A message is accepted, view by view.
-use Rattle.std.proofs.Common.{◌≡◌, ℕ, suc, ◌+◌, ◌-◌, ◌<◌, true, false, cond, not, eqb, eq-eqb, List, [], ◌∷◌, refl, sym, ap, ◌∙◌, subst, arith}
+use Rattle.std.proofs.Common.{◌≡◌, ℕ, suc, ◌+◌, ◌-◌, ◌<◌, true, false, cond, not, eqb, eq-eqb, List, [], ◌∷◌, refl, sym, ap, ◌∙◌, subst, inl, inr, arith}
 use Rattle.std.specs.List.{filter}
 use mathlib.Core.Option.{some}
 use lib.ListN.{get_elem?}
 use Rattle.sock_io.specs.declared.link.Out.{Ghosts}
+use Rattle.atomic_table.specs.Table.{Me}
 use Rattle.sock_words.specs.declared.plain.Plan.{Plan}
 use Rattle.sock_words.specs.PackedWords.{socket_id_version, socket_id_slot, IDLE}
 use Rattle.sock_model.specs.declared.chain.Claim.{Claim}
@@ -24,7 +25,7 @@ use Rattle.sock_rule.specs.SendingOnRequestWords.{MaySwap, filled_for}
 use Rattle.sock_rule.proofs.MarksComeAndGo.{adds_mark, becomes}
 use Rattle.sock_table.specs.NamesStoredAndFound.{HasSeen}
 use Rattle.sock_table.specs.ReferenceAnswers.{Holds}
-use Rattle.write_chain.specs.SendingIntoChain.{HasRoom, Accepted, IsFirst, FoundTaken}
+use Rattle.write_chain.specs.SendingIntoChain.{Missed, HasRoom, Accepted, IsFirst, FoundTaken}
 use Rattle.sock_words.specs.Totals.{total}
 
 -- a seat that held the life of the id claims request `at`, and comes by the views a and b to the exchange
@@ -150,6 +151,15 @@ asks_next p id at v w x a e = record {
   seen = λ n h. (let t = a.seen n h in (suc t.0, ap (λ (y : View). get_elem? y.found (suc t.0)) e ∙ t.1));
 }
 
+-- another request was found taken
+pub asks_other : (p : Plan) (id : ℕ) (v w x : View) (q : ℕ) → Asking p id 0 v w → x ≡ Rattle.sock_model.specs.Rule.noting (request_index p q) w → Asking p id 0 v x
+asks_other p id v w x q a e = record {
+  marks = subst (λ l. Became (socket_id_slot id) v (record v { marks = l }) (Saw (socket_id_version id) ∷ []) []) (sym (ap (λ (y : View). y.marks) e)) a.marks;
+  others = e ∙ (ap (λ (y : View). record y { found = request_index p q ∷ w.found }) a.others ∙ (let m = ap (λ (y : View). y.marks) e in let f = ap (λ (y : View). y.found) e in λ i. record v { marks = sym m i; found = sym f i }));
+  taken = λ q lt. absurd (omega arith);
+  seen = λ n h. (let t = a.seen n h in (suc t.0, ap (λ (y : View). get_elem? y.found (suc t.0)) e ∙ t.1));
+}
+
 pub false_true : false ≡ true → ⊥
 false_true e = let n : ℕ ≡ ⊥ = ap (λ b. cond b ⊥ ℕ) e in subst (λ (x : Type 0). x) n 0
 
@@ -196,3 +206,12 @@ started_after p sock at heading bytes c (Rattle.write_chain.specs.declared.entry
 
     link_same : (m n : View) (q : m ≡ n) (l : Accepted [] p sock.id.0 heading bytes m x) → IsFirst y l.entry.link r.last.0 → IsFirst y (subst (λ (z : View). Accepted [] p sock.id.0 heading bytes z x) q l).entry.link r.last.0
     link_same m n q l h = h
+
+-- whichever request was found taken, or none
+pub asks_still : {S : Type 0} (p : Plan) (id : ℕ) (v : View) (m n : Me S View) → Asking p id 0 v m.0 → Missed p m n → Asking p id 0 v n.0
+asks_still p id v m n a (inl same) = subst (λ (x : View). Asking p id 0 v x) (sym (ap (λ x. x.0) same)) a
+asks_still p id v m n a (inr noted) = asks_other p id v m.0 n.0 noted.0 a (ap (λ x. x.0) noted.1)
+
+pub missed_slots : {S : Type 0} (p : Plan) (m n : Me S View) → Missed p m n → n.1 ≡ m.1
+missed_slots p m n (inl same) = ap (λ x. x.1) same
+missed_slots p m n (inr noted) = ap (λ x. x.1) noted.1

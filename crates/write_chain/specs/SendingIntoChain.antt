@@ -1,8 +1,9 @@
 -- What a seat has before it sends a message, and what becomes of the message.
-use Rattle.std.specs.Prelude.{◌≡◌, ℕ, ◌+◌, ◌<◌, true, false, List, [], ◌∷◌, length}
+use Rattle.std.specs.Prelude.{◌≡◌, ◌⊎◌, ℕ, ◌+◌, ◌<◌, true, false, List, [], ◌∷◌, length}
 use mathlib.Core.Option.{some}
 use lib.ListN.{get_elem?}
 use Rattle.sock_io.specs.declared.link.Out.{Ghosts}
+use Rattle.atomic_table.specs.Table.{Me}
 use Rattle.sock_words.specs.declared.plain.Plan.{Plan}
 use Rattle.sock_words.specs.PackedWords.{socket_id_version, socket_id_slot, vref_version}
 use Rattle.sock_model.specs.declared.chain.Entry.{Entry}
@@ -14,7 +15,7 @@ use Rattle.sock_model.specs.declared.marks.Mark.TheVariants.{Saw, Met}
 use Rattle.sock_model.specs.declared.view.View.{View}
 use Rattle.sock_model.specs.SocketTableLayout.{request_index}
 use Rattle.sock_model.specs.ChainRows.{more}
-use Rattle.sock_model.specs.Rule.{MOST_ACCEPTED}
+use Rattle.sock_model.specs.Rule.{MOST_ACCEPTED, noting}
 use Rattle.sock_rule.specs.MarksComeAndGo.{Became}
 use Rattle.sock_rule.specs.ChainPlays.{IsTicket}
 use Rattle.sock_table.specs.NamesStoredAndFound.{HasSeen}
@@ -86,3 +87,7 @@ FoundTaken p q w = (n : ℕ) × (get_elem? w.found n ≡ some (request_index p q
 abbrev pub RefusedBy : Plan → SockRef → Letter → Refused → View → View → Type 0
 RefusedBy p sock msg (refused.Failed s m found) v w = (s ≡ sock) × (m ≡ msg) × (vref_version found.0 ≡ socket_id_version sock.id.0 + 1) × Became (socket_id_slot sock.id.0) v w (Saw (vref_version found.0) ∷ []) []
 RefusedBy p sock msg (refused.Full s m) v w = (s ≡ sock) × (m ≡ msg) × ((q : ℕ) → q < p.requests → FoundTaken p q w) × (w.lists ≡ v.lists) × (w.rights ≡ v.rights) × (w.claims ≡ []) × (w.loose ≡ []) × Became (socket_id_slot sock.id.0) v (record v { marks = w.marks }) (Saw (socket_id_version sock.id.0) ∷ []) [] × (w ≡ record v { marks = w.marks; found = w.found }) × ((x : ℕ) → HasSeen x v → HasSeen x w)
+
+-- one request was found taken, or none was asked for
+abbrev pub Missed : {S : Type 0} → Plan → Me S View → Me S View → Type 0
+Missed p m n = (n ≡ m) ⊎ ((q : ℕ) × (n ≡ (noting (request_index p q) m.0, m.1)))

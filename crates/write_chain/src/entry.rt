@@ -1,5 +1,5 @@
 // A message is accepted.
-ghost use Rattle.std.specs.Prelude.{◌≡◌, ◌*◌, ◌<◌, [], IfOk, IfErr};
+ghost use Rattle.std.specs.Prelude.{◌≡◌, ◌*◌, ◌%◌, ◌<◌, [], IfOk, IfErr, IfSome, IfNone};
 ghost use Rattle.sock_words.specs.PackedWords.{socket_id_slot};
 ghost use Rattle.sock_model.specs.declared.chain.Claim.{Claim};
 ghost use Rattle.sock_model.specs.MarkWeights.{is_ref};
@@ -8,9 +8,9 @@ ghost use Rattle.atomic_table.specs.Table.{rest};
 ghost use Rattle.message_parts.specs.Parcels.{parcel_of};
 ghost use Rattle.sock_rule.specs.SocketSeatSplits.{IsSeat};
 ghost use Rattle.sock_rule.specs.Shows.{heading_of};
-ghost use Rattle.sock_rule.specs.SendingOnRequestWords.{Claims, OnTop};
+ghost use Rattle.sock_rule.specs.SendingOnRequestWords.{Asked, Claims, OnTop};
 ghost use Rattle.sock_table.specs.ReferenceAnswers.{Holds};
-ghost use Rattle.write_chain.specs.SendingIntoChain.{HasRoom, MaySend, StartedWith, StartedBy, RefusedBy};
+ghost use Rattle.write_chain.specs.SendingIntoChain.{Missed, HasRoom, MaySend, StartedWith, StartedBy, RefusedBy};
 ghost use Rattle.write_chain.specs.WritingRightInHand.{Begins};
 
 use crate::right::{Doing, WriteRight};
@@ -21,6 +21,9 @@ use sock_words::{Ticket, Vref};
 
 /// A head from here on is idle.
 const IDLE: u64 = Ticket::IDLE.0;
+
+/// So many requests lie between those from which two clients look.
+const REQUESTS_APART: u16 = 8;
 
 /// What became of a message that was accepted: another seat writes it, or this one has the right to write.
 pub enum Started<O: Out> {
@@ -36,6 +39,7 @@ pub enum Refused {
 
 /// The message is accepted with the request `at`, which the seat claimed just now.
 /// The exchange of bRPC's `Socket::StartWrite` and what precedes it (socket.cpp).
+#[inline(always)]
 pub fn accept<O: Out>(
     table: &SockTable<O>,
     seat: &mut SockSeat<O>,
@@ -80,8 +84,48 @@ pub fn accept<O: Out>(
     Started::Queued(sock)
 }
 
+/// A request that was claimed, and its word as it was found.
+#[derive(Drop)]
+pub struct Claimed {
+    pub at: u16,
+    pub found: u64,
+}
+
+/// C1 of a request that seemed free at a look. Clients look from requests of their own on, which lie in cache lines of their own.
+#[inline(always)]
+fn claim_likely<O: Out>(
+    table: &SockTable<O>,
+    seat: &mut SockSeat<O>,
+    client: u16,
+) -> Option<Claimed>
+    requires seat { IsSeat table.now.rule.table.shared.table_id table.now.rule.plan seat.old }
+    requires unclaimed { seat.old.me.0.claims ≡ [] }
+    ensures seat { IsSeat table.now.rule.table.shared.table_id table.now.rule.plan seat.new }
+    ensures claimed { IfSome result (λ c. (c.at < table.now.rule.plan.requests) × (c.found % 2 ≡ 0) × Asked table.now.rule.plan c.at c.found seat.old.me seat.new.me) }
+    ensures narrow { IfSome result (λ c. c.at < 65535) }
+    ensures missed { IfNone result (Missed table.now.rule.plan seat.old.me seat.new.me) }
+{
+    let requests = table.rule.plan.requests;
+    if requests == 0 {
+        return None;
+    }
+    let from = client.wrapping_mul(REQUESTS_APART) % requests;
+    let Some(at) = table.rule.likely_request(from) else {
+        return None;
+    };
+    let step = table.rule.claim_request(seat, at);
+    if !step.won {
+        return None;
+    }
+    Some(Claimed {
+        at,
+        found: step.found,
+    })
+}
+
 /// A message is sent to a socket. It is queued behind those of others, or this seat has the right to write.
 /// bRPC's `Socket::StartWrite` up to its first write (socket.cpp, io.md): it waits for nobody.
+#[inline(always)]
 pub fn start<O: Out>(
     table: &SockTable<O>,
     seat: &mut SockSeat<O>,
@@ -100,6 +144,11 @@ pub fn start<O: Out>(
 {
     if let Look::Failed(found) = table.look(seat, &sock) {
         return Err(Refused::Failed(sock, msg, found));
+    }
+    if let Some(claimed) = claim_likely(table, seat, msg.label.client) {
+        let Claimed { at, found } = claimed;
+        let generation = found / 2;
+        return Ok(accept(table, seat, sock, msg, at, generation));
     }
     for at in 0..table.rule.plan.requests {
         let step = table.rule.claim_request(seat, at);

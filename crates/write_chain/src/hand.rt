@@ -11,6 +11,7 @@ use sock_io::{Out, Put, Ready};
 
 impl<O: Out> InHand<O> {
     /// W1: the next piece of the message is put into the link.
+    #[inline(always)]
     pub fn put(&mut self) -> Put
         requires some { 0 < length (next_of self.old.bytes) }
         ensures has { WentOn self.old self.new (taken_of (next_of self.old.bytes) result) }
@@ -25,6 +26,7 @@ impl<O: Out> InHand<O> {
     }
 
     /// W2: whether the link takes more.
+    #[inline(always)]
     pub fn ready(&mut self) -> Ready
         ensures has { WentOn self.old self.new [] }
         ensures faults { result ≡ ready.Failed → (O.state self.old.home.out).finished ≡ false → Rose (O.state self.old.home.out).faults (O.state self.new.home.out).faults }

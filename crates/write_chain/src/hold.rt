@@ -41,6 +41,7 @@ pub enum Tried<O: Out> {
 }
 
 /// The slot of a socket.
+#[inline(always)]
 pub fn slot_at<O: Out>(table: &SockTable<O>, sock: &SockRef) -> u16
     requires inside { socket_id_slot sock.now.id.0 < table.now.rule.plan.slots }
     ensures slot { result ≡ socket_id_slot sock.now.id.0 }
@@ -52,6 +53,7 @@ pub fn slot_at<O: Out>(table: &SockTable<O>, sock: &SockRef) -> u16
 }
 
 /// C8: the request of a message that has its place is free again, unless its generation is the last one.
+#[inline(always)]
 pub fn give_request_back<O: Out>(table: &SockTable<O>, seat: &mut SockSeat<O>, now: Ticket)
     requires seat { IsSeat table.now.rule.table.shared.table_id table.now.rule.plan seat.old }
     requires may { MayFreeRequest now.0 seat.old.me }
@@ -68,6 +70,7 @@ pub fn give_request_back<O: Out>(table: &SockTable<O>, seat: &mut SockSeat<O>, n
 
 impl<O: Out> HeldChain<'_, O> {
     /// The link that the seat may write comes into hand. Where its half has faults the seat notes that.
+    #[inline(always)]
     pub fn fetch_link(&self, seat: &mut SockSeat<O>, link: u16) -> LinkInHand<O>
         requires seat { IsSeat self.now.table.now.rule.table.shared.table_id self.now.table.now.rule.plan seat.old }
         requires may { (last : ℕ) × (stage : Stage) × Stands self.now.table.now.rule.plan self.now.sock.id.0 last stage link seat.old.me }
@@ -81,6 +84,7 @@ impl<O: Out> HeldChain<'_, O> {
     }
 
     /// M2: the message of the ticket comes into hand with its link.
+    #[inline(always)]
     pub fn take_next(&self, seat: &mut SockSeat<O>, link: LinkInHand<O>, now: Ticket) -> InHand<O>
         requires seat { IsSeat self.now.table.now.rule.table.shared.table_id self.now.table.now.rule.plan seat.old }
         requires may { HasLink self.now.table.now.rule.plan self.now.table.now.rule.ways.list self.now.sock.id.0 self.now.last.0 (Writes now.0) [] link seat.old.me × IsTicket self.now.table.now.rule.plan now.0 }
@@ -106,6 +110,7 @@ impl<O: Out> HeldChain<'_, O> {
     }
 
     /// A message has its place: its request is given back, and the next one follows, or the head.
+    #[inline(always)]
     pub fn go_past(&self, seat: &mut SockSeat<O>, link: LinkInHand<O>, now: Ticket) -> Doing<O>
         requires seat { IsSeat self.now.table.now.rule.table.shared.table_id self.now.table.now.rule.plan seat.old }
         requires may { HasLink self.now.table.now.rule.plan self.now.table.now.rule.ways.list self.now.sock.id.0 self.now.last.0 (Placed now.0) ((ticket_request now.0, Empty) ∷ []) link seat.old.me × IsTicket self.now.table.now.rule.plan now.0 }
@@ -124,6 +129,7 @@ impl<O: Out> HeldChain<'_, O> {
     }
 
     /// The link took the whole message: it gets its place.
+    #[inline(always)]
     pub fn place(&self, seat: &mut SockSeat<O>, hand: InHand<O>) -> Doing<O>
         requires seat { IsSeat self.now.table.now.rule.table.shared.table_id self.now.table.now.rule.plan seat.old }
         requires may { HasWhole self.now.table.now.rule.plan self.now.table.now.rule.ways.list self.now.sock.id.0 self.now.last.0 hand seat.old.me }
@@ -148,6 +154,7 @@ impl<O: Out> HeldChain<'_, O> {
     }
 
     /// All that was noted has its place: the link goes home, and the head is tried.
+    #[inline(always)]
     pub fn leave(self, seat: &mut SockSeat<O>, link: LinkInHand<O>) -> Once<O>
         requires seat { IsSeat self.table.now.rule.table.shared.table_id self.table.now.rule.plan seat.old }
         requires may { HasLink self.table.now.rule.plan self.table.now.rule.ways.list self.sock.id.0 self.last.0 Empties [] link seat.old.me }
@@ -171,6 +178,7 @@ impl<O: Out> HeldChain<'_, O> {
     }
 
     /// A8: whether the socket lives. Then the right is clean.
+    #[inline(always)]
     pub fn look(&self, seat: &mut SockSeat<O>, _hand: &InHand<O>) -> bool
         requires seat { IsSeat self.now.table.now.rule.table.shared.table_id self.now.table.now.rule.plan seat.old }
         requires may { HasPart self.now.table.now.rule.plan self.now.table.now.rule.ways.list self.now.sock.id.0 self.now.last.0 _hand.now seat.old.me }
@@ -188,6 +196,7 @@ impl<O: Out> HeldChain<'_, O> {
 
     /// The link failed, which the seat notes: so does the socket, unless it was failed before. As bRPC's `Socket::SetFailed` behind a
     /// write that failed (socket.cpp).
+    #[inline(always)]
     pub fn fail_link(&self, seat: &mut SockSeat<O>, _hand: &InHand<O>)
         requires seat { IsSeat self.now.table.now.rule.table.shared.table_id self.now.table.now.rule.plan seat.old }
         requires may { HasPart self.now.table.now.rule.plan self.now.table.now.rule.ways.list self.now.sock.id.0 self.now.last.0 _hand.now seat.old.me }
@@ -205,6 +214,7 @@ impl<O: Out> HeldChain<'_, O> {
     }
 
     /// One put of what is left of a message.
+    #[inline(always)]
     pub fn put_piece(&self, seat: &mut SockSeat<O>, mut hand: InHand<O>) -> Tried<O>
         requires seat { IsSeat self.now.table.now.rule.table.shared.table_id self.now.table.now.rule.plan seat.old }
         requires may { IsClean self.now.table.now.rule.plan self.now.table.now.rule.ways.list self.now.sock.id.0 self.now.last.0 hand seat.old.me × ((outgoing_of hand.bytes).left ≢ []) }
@@ -228,6 +238,7 @@ impl<O: Out> HeldChain<'_, O> {
     }
 
     /// One put, where bytes are left.
+    #[inline(always)]
     pub fn put_or_place(&self, seat: &mut SockSeat<O>, hand: InHand<O>) -> Tried<O>
         requires seat { IsSeat self.now.table.now.rule.table.shared.table_id self.now.table.now.rule.plan seat.old }
         requires may { IsClean self.now.table.now.rule.plan self.now.table.now.rule.ways.list self.now.sock.id.0 self.now.last.0 hand seat.old.me }
@@ -243,6 +254,7 @@ impl<O: Out> HeldChain<'_, O> {
     }
 
     /// A look, and one put where the socket lives. Where the link fails the socket is failed, so that nothing is put any more.
+    #[inline(always)]
     pub fn try_put(&self, seat: &mut SockSeat<O>, hand: InHand<O>) -> Tried<O>
         requires seat { IsSeat self.now.table.now.rule.table.shared.table_id self.now.table.now.rule.plan seat.old }
         requires may { HasPart self.now.table.now.rule.plan self.now.table.now.rule.ways.list self.now.sock.id.0 self.now.last.0 hand seat.old.me }
@@ -259,6 +271,7 @@ impl<O: Out> HeldChain<'_, O> {
     }
 
     /// The link and the first message come into hand.
+    #[inline(always)]
     pub fn take_up(&self, seat: &mut SockSeat<O>) -> InHand<O>
         requires seat { IsSeat self.now.table.now.rule.table.shared.table_id self.now.table.now.rule.plan seat.old }
         requires may { (link : ℕ) × Stands self.now.table.now.rule.plan self.now.sock.id.0 self.now.last.0 (Writes self.now.last.0) link seat.old.me }
@@ -276,6 +289,7 @@ impl<O: Out> HeldChain<'_, O> {
     }
 
     /// The head is tried once nothing is left to write.
+    #[inline(always)]
     pub fn leave_last(self, seat: &mut SockSeat<O>, doing: Doing<O>) -> Once<O>
         requires seat { IsSeat self.table.now.rule.table.shared.table_id self.table.now.rule.plan seat.old }
         requires may { GoesBy self.table.now.rule.plan self.table.now.rule.ways.list self.sock.id.0 self.last.0 doing seat.old.me }
@@ -294,6 +308,7 @@ impl<O: Out> HeldChain<'_, O> {
 /// One put of the message that `start` accepted, of whoever has the right. Done exactly where the link took it whole and the
 /// head was emptied.
 /// The write in place of bRPC's `Socket::StartWrite` (io.md, socket.cpp).
+#[inline(always)]
 pub fn write_once<O: Out>(
     table: &SockTable<O>,
     seat: &mut SockSeat<O>,

@@ -34,6 +34,7 @@ pub enum Went<O: Out> {
 }
 
 /// The code with which a message is dropped, where this word was read.
+#[inline(always)]
 pub fn code_or(told: u16) -> u16
     ensures code { result ≡ cond (told == 0) EFAILEDSOCKET told }
 {
@@ -42,6 +43,7 @@ pub fn code_or(told: u16) -> u16
 
 impl<O: Out> HeldChain<'_, O> {
     /// The message in hand is dropped, with the code of the socket, or EFAILEDSOCKET where none was stored yet.
+    #[inline(always)]
     pub fn drop_one(&self, seat: &mut SockSeat<O>, hand: InHand<O>) -> (Doing<O>, Undelivered, u16)
         requires seat { IsSeat self.now.table.now.rule.table.shared.table_id self.now.table.now.rule.plan seat.old }
         requires may { HasPart self.now.table.now.rule.plan self.now.table.now.rule.ways.list self.now.sock.id.0 self.now.last.0 hand seat.old.me × FoundDead self.now.sock.id.0 seat.old.me.0 }
@@ -78,6 +80,7 @@ impl<O: Out> HeldChain<'_, O> {
     }
 
     /// The link is asked whether it takes more.
+    #[inline(always)]
     pub fn ask(&self, seat: &mut SockSeat<O>, mut hand: InHand<O>, backoff: &Backoff) -> Doing<O>
         requires seat { IsSeat self.now.table.now.rule.table.shared.table_id self.now.table.now.rule.plan seat.old }
         requires may { HasPart self.now.table.now.rule.plan self.now.table.now.rule.ways.list self.now.sock.id.0 self.now.last.0 hand seat.old.me }
@@ -103,6 +106,7 @@ impl<O: Out> HeldChain<'_, O> {
     /// C5 and C6: the walk goes one entry back and turns its next word round, or stays where that isn't connected yet. Behind
     /// the old last entry the first message in order comes next, and `top` is the last ticket then.
     /// bRPC's `Socket::IsWriteComplete` (socket.cpp).
+    #[inline(always)]
     pub fn walk_back(
         self,
         seat: &mut SockSeat<O>,
@@ -149,6 +153,7 @@ impl<O: Out> HeldChain<'_, O> {
     }
 
     /// A message in hand is put, gets its place, or is dropped.
+    #[inline(always)]
     pub fn put_or_drop(self, seat: &mut SockSeat<O>, hand: InHand<O>) -> Went<O>
         requires seat { IsSeat self.table.now.rule.table.shared.table_id self.table.now.rule.plan seat.old }
         requires may { HasPart self.table.now.rule.plan self.table.now.rule.ways.list self.sock.id.0 self.last.0 hand seat.old.me }
@@ -171,6 +176,7 @@ impl<O: Out> HeldChain<'_, O> {
     }
 
     /// All that was noted has its place: the right is given up, or the walk begins.
+    #[inline(always)]
     pub fn try_head(self, seat: &mut SockSeat<O>, link: LinkInHand<O>) -> Went<O>
         requires seat { IsSeat self.table.now.rule.table.shared.table_id self.table.now.rule.plan seat.old }
         requires may { HasLink self.table.now.rule.plan self.table.now.rule.ways.list self.sock.id.0 self.last.0 Empties [] link seat.old.me }
@@ -186,6 +192,7 @@ impl<O: Out> HeldChain<'_, O> {
     }
 
     /// What comes next.
+    #[inline(always)]
     pub fn go_on(self, seat: &mut SockSeat<O>, doing: Doing<O>, backoff: &Backoff) -> Went<O>
         requires seat { IsSeat self.table.now.rule.table.shared.table_id self.table.now.rule.plan seat.old }
         requires may { GoesBy self.table.now.rule.plan self.table.now.rule.ways.list self.sock.id.0 self.last.0 doing seat.old.me }

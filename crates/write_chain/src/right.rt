@@ -80,6 +80,7 @@ pub struct WriteRight<O: Out> {
 
 impl<O: Out> HeldChain<'_, O> {
     /// The right to go on by this.
+    #[inline(always)]
     pub fn with(self, doing: Doing<O>) -> WriteRight<O>
         ensures { result ≡ record { sock = self.entry.sock; last = self.entry.last; doing = doing } }
     {

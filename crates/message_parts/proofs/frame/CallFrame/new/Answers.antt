@@ -1,6 +1,7 @@
-use Rattle.std.proofs.Common.{◌≡◌, ◌+◌, ◌-◌, ◌∷◌, ◌++◌, ℕ, List, length, All, ap, subst, ◌∙◌, arith}
+use Rattle.std.proofs.Common.{◌≡◌, ◌+◌, ◌-◌, ◌∷◌, [], ◌++◌, ℕ, List, length, All, ap, sym, subst, ◌∙◌, arith}
 use Rattle.std.proofs.lemmas.List.Elements.{All-head}
-use Rattle.io_buf.specs.Buffer.{IsSize, block_sizes}
+use Rattle.io_buf.specs.Buffer.{Buffer, IsSize, block_sizes}
+use Rattle.message_parts.specs.FramesByParts.{LiesInParts}
 use Rattle.sock_message.specs.Asked.{Asked, head_of, frame_of}
 use Rattle.message_parts.proofs.FrameParts.{lies_framed}
 use Rattle.message_parts.proofs.frame.CallFrame.new.Goals as goal
@@ -17,4 +18,6 @@ invariant_of-result c =
     let one : IsSize head = All-head IsSize head (block_sizes (length asked.payload) ++ block_sizes (length asked.attachment)) each in
     let whole : length c.in_ok-buf.buf.items ≡ (c.len.result - (c.len-payload.result + c.len-attachment.result)) + (c.len-payload.result + c.len-attachment.result) = omega (arith, c.len.ensures, is_head, one.0) in
     let sizes : c.in_ok-buf.buf.sizes ≡ (c.len.result - (c.len-payload.result + c.len-attachment.result)) ∷ block_sizes c.len-payload.result ++ block_sizes c.len-attachment.result = rw (is_head, is_payload, is_attachment) c.in_ok-buf.ensures.pieces in
-    lies_framed c.in_ok-buf.buf (c.len.result - (c.len-payload.result + c.len-attachment.result)) c.len-payload.result c.len-attachment.result (omega (arith, is_head, one.0)) (omega (arith, is_head, one.1)) whole sizes
+    let P : Buffer → Type 0 = LiesInParts ((c.len.result - (c.len-payload.result + c.len-attachment.result)) ∷ c.len-payload.result ∷ c.len-attachment.result ∷ []) in
+    let lies = lies_framed c.in_ok-buf.buf (c.len.result - (c.len-payload.result + c.len-attachment.result)) c.len-payload.result c.len-attachment.result (omega (arith, is_head, one.0)) (omega (arith, is_head, one.1)) whole sizes in
+    subst P (sym c.in_ok-boxed.ensures.ok) lies

@@ -1,0 +1,6 @@
+use Rattle.std.proofs.Common.{◌≡◌, true, map, take}
+use Rattle.ring_link.specs.declared.cell.Cell.TheVariants.{Byte}
+use Rattle.ring_link.proofs.packing.unpack_bytes.Given as goal
+
+abbrev pub invariant-loop-i : goal.invariant-loop-i
+invariant-loop-i l = l.all ≡ true → take l.i l.cells ≡ map Byte (take l.i l.room)
