@@ -1,5 +1,6 @@
 -- One append behind another.
-use Rattle.std.proofs.Common.{◌≡◌, ℕ, ◌+◌, ◌*◌, ◌≤◌, List, ◌++◌, length, take, Result, Ok, Err, refl, ap, sym, ◌∙◌, append_assoc, arith}
+use Rattle.std.proofs.Common.{◌≡◌, ℕ, ◌+◌, ◌*◌, ◌^◌, ◌<◌, ◌≤◌, List, ◌++◌, length, take, Option, Some, None, Result, Ok, Err, refl, ap, sym, ◌∙◌, append_assoc, arith}
+use Rattle.std.specs.Prelude.{IfSome, IfNone, unwrap_or}
 use Rattle.std.proofs.lemmas.List.{take_at, take-take, length-append}
 use Rattle.pb_wire.specs.brpc_model.specs.Wire.{varint_bytes}
 use Rattle.pb_wire.specs.brpc_model.specs.Spelling.{bytes_field}
@@ -24,6 +25,13 @@ pub headed : {E : Type 0} (number size : ℕ) (first old new fields : List ℕ) 
 headed number size first old new fields r same e h =
     let head = e ∙ ap (λ (n : ℕ). first ++ (varint_bytes (number * 8 + 2) ++ varint_bytes n)) same in
     behind first old new (varint_bytes (number * 8 + 2) ++ varint_bytes (length fields)) fields r head h
+
+-- the same by a size that may be past what 64 bits hold: then no list that short has the fields
+pub headed_by : {E : Type 0} (number size most : ℕ) (first old new fields : List ℕ) (r : Result (Unit {0}) E) (o : Option ℕ) → IfSome o (λ n. n ≡ length fields) → IfNone o (2 ^ 64 ≤ length fields) → size ≡ unwrap_or o most →
+    old ≡ first ++ (varint_bytes (number * 8 + 2) ++ varint_bytes size) → Appends old fields r new → length new < 2 ^ 64 → Appends first (bytes_field number fields) r new
+headed_by number size most first old new fields r (Some n) known none is e h few = headed number size first old new fields r (is ∙ known) e h
+headed_by number size most first old new fields (Ok u) None known none is e h few = absurd (omega (arith, none, few, ap length h, length-append old fields))
+headed_by number size most first old new fields (Err x) None known none is e h few = kept first old new (varint_bytes (number * 8 + 2) ++ varint_bytes size) e h
 
 -- two pieces are one
 pub joined : (first old new piece more : List ℕ) → old ≡ first ++ piece → new ≡ old ++ more → new ≡ first ++ (piece ++ more)

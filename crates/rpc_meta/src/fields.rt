@@ -1,4 +1,4 @@
-ghost use Rattle.std.specs.Prelude.{◌≡◌, ℕ, ◌+◌, ◌≤◌, List, ◌++◌, length, Some, IfSome, OnOk};
+ghost use Rattle.std.specs.Prelude.{◌≡◌, ℕ, ◌+◌, ◌^◌, ◌≤◌, List, ◌++◌, length, Some, IfSome, IfNone, OnOk};
 ghost use Rattle.pb_wire.specs.brpc_model.specs.Spelling.{request_bytes, response_bytes};
 ghost use Rattle.rpc_meta.specs.MetaMeaning.{request_of, response_of};
 ghost use Rattle.rpc_meta.specs.MetaWriting.{Appends, RequestFits, ResponseFits};
@@ -24,9 +24,10 @@ pub trait MetaPart {
     /// Its numbers fit their types.
     ghost Fits: { Said → Type 0 };
 
-    /// How many bytes its fields have, where that fits.
+    /// How many bytes its fields have: none only where 64 bits don't hold that many.
     fn fields_size(&self) -> Option<usize>
-        ensures { IfSome result (λ n. n ≡ length (bytes (said self.now))) };
+        ensures size { IfSome result (λ n. n ≡ length (bytes (said self.now))) }
+        ensures none { IfNone result (2 ^ 64 ≤ length (bytes (said self.now))) };
 
     /// Appends its fields.
     fn append_fields(&self, out: &mut Vec<u8>) -> Result<(), NoMemory>

@@ -1,7 +1,7 @@
-ghost use Rattle.std.specs.Prelude.{◌≡◌, ◌+◌, ◌*◌, ◌≤◌, ◌++◌, length, option_map, Ok, IfSome, OnOk, if◌then◌else◌, is_ok};
+ghost use Rattle.std.specs.Prelude.{◌≡◌, ◌+◌, ◌*◌, ◌^◌, ◌≤◌, ◌++◌, length, option_map, Ok, IfSome, IfNone, OnOk, if◌then◌else◌, is_ok};
 ghost use Rattle.pb_wire.specs.brpc_model.specs.Wire.{varint_bytes};
 ghost use Rattle.pb_wire.specs.brpc_model.specs.Meta.{read_meta};
-ghost use Rattle.pb_wire.specs.brpc_model.specs.Spelling.{spelled_int, number_field, bytes_field, where_not_0, where_not_empty, meta_bytes};
+ghost use Rattle.pb_wire.specs.brpc_model.specs.Spelling.{spelled_int, number_field, bytes_field, where_not_0, where_not_empty, where_some, meta_bytes};
 ghost use Rattle.rpc_meta.specs.MetaMeaning.{meaning};
 ghost use Rattle.rpc_meta.specs.MetaSizes.{IsSizeOf, AreSizes};
 ghost use Rattle.rpc_meta.specs.MetaWriting.{Appends, part_field, HasPart, MetaFits};
@@ -29,17 +29,19 @@ impl RpcMeta {
         written
     }
 
-    /// How many bytes `write_to` appends, where that fits.
+    /// How many bytes `write_to` appends: none only where 64 bits don't hold that many.
     pub fn spelled_size(&self) -> Option<usize>
-        ensures { IfSome result (λ n. n ≡ length (meta_bytes (meaning self.now))) }
+        ensures size { IfSome result (λ n. n ≡ length (meta_bytes (meaning self.now))) }
+        ensures none { IfNone result (2 ^ 64 ≤ length (meta_bytes (meaning self.now))) }
     {
         Some(self.sizes()?.all)
     }
 
-    /// How many bytes `write_to` appends, all and of the parts, where that fits.
+    /// How many bytes `write_to` appends, all and of the parts: none only where 64 bits don't hold that many.
     #[inline(always)]
     pub fn sizes(&self) -> Option<MetaSizes>
-        ensures { IfSome result (λ s. AreSizes s (meaning self.now)) }
+        ensures sizes { IfSome result (λ s. AreSizes s (meaning self.now)) }
+        ensures none { IfNone result (2 ^ 64 ≤ length (meta_bytes (meaning self.now))) }
     {
         match few_sizes(self) {
             Some(sizes) => Some(sizes),
@@ -75,7 +77,8 @@ fn few_sizes(meta: &RpcMeta) -> Option<MetaSizes>
 /// The sizes of a meta of any kind.
 #[inline(never)]
 fn any_sizes(meta: &RpcMeta) -> Option<MetaSizes>
-    ensures { IfSome result (λ s. AreSizes s (meaning meta.now)) }
+    ensures sizes { IfSome result (λ s. AreSizes s (meaning meta.now)) }
+    ensures none { IfNone result (2 ^ 64 ≤ length (meta_bytes (meaning meta.now))) }
 {
     let request = part_size(&meta.request)?;
     let response = part_size(&meta.response)?;
@@ -112,9 +115,8 @@ fn append_part<P: MetaPart>(number: u8, part: &Option<P>, out: &mut Vec<u8>) -> 
     let Some(part) = part else {
         return Ok(());
     };
-    let Some(size) = part.fields_size() else {
-        return Err(NoMemory);
-    };
+    // A part whose size 64 bits don't hold is larger than any vector, which refuses its fields.
+    let size = part.fields_size().unwrap_or(usize::MAX);
     append_head(number, size, out)?;
     part.append_fields(out)
 }
@@ -166,7 +168,8 @@ fn append_head(number: u8, size: usize, out: &mut Vec<u8>) -> Result<(), NoMemor
 
 /// How many bytes the fields of a part have where there is one, where that fits.
 fn part_size<P: MetaPart>(part: &Option<P>) -> Option<usize>
-    ensures { IfSome result (IsSizeOf P.bytes (option_map P.said part.now)) }
+    ensures size { IfSome result (IsSizeOf P.bytes (option_map P.said part.now)) }
+    ensures none { IfNone result (2 ^ 64 ≤ length (where_some P.bytes (option_map P.said part.now))) }
 {
     match part {
         Some(part) => part.fields_size(),
@@ -177,7 +180,8 @@ fn part_size<P: MetaPart>(part: &Option<P>) -> Option<usize>
 /// How many bytes a part has where there is one, with what stands before its fields, where that fits.
 fn whole_part<P: MetaPart>(number: u8, part: &Option<P>, size: usize) -> Option<usize>
     requires { IsSizeOf P.bytes (option_map P.said part.now) size }
-    ensures { IfSome result (λ n. n ≡ length (part_field number P.bytes (option_map P.said part.now))) }
+    ensures size { IfSome result (λ n. n ≡ length (part_field number P.bytes (option_map P.said part.now))) }
+    ensures none { IfNone result (2 ^ 64 ≤ length (part_field number P.bytes (option_map P.said part.now))) }
 {
     match part {
         Some(_) => bytes_size(number, size),
@@ -206,7 +210,8 @@ pub(crate) fn number_size(number: u8, value: u64) -> usize
 
 /// How many bytes these have under a number, where there are any and that fits.
 pub(crate) fn text_size(number: u8, bytes: &[u8]) -> Option<usize>
-    ensures { IfSome result (λ n. n ≡ length (where_not_empty number bytes.now)) }
+    ensures size { IfSome result (λ n. n ≡ length (where_not_empty number bytes.now)) }
+    ensures none { IfNone result (2 ^ 64 ≤ length (where_not_empty number bytes.now)) }
 {
     if bytes.is_empty() {
         return Some(0);
@@ -216,7 +221,8 @@ pub(crate) fn text_size(number: u8, bytes: &[u8]) -> Option<usize>
 
 /// How many bytes so many bytes under a number have, where that fits.
 pub(crate) fn bytes_size(number: u8, len: usize) -> Option<usize>
-    ensures { IfSome result (λ n. n ≡ length (varint_bytes (number * 8 + 2) ++ varint_bytes len) + len) }
+    ensures size { IfSome result (λ n. n ≡ length (varint_bytes (number * 8 + 2) ++ varint_bytes len) + len) }
+    ensures none { IfNone result (2 ^ 64 ≤ length (varint_bytes (number * 8 + 2) ++ varint_bytes len) + len) }
 {
     let head = varint_size(u64::from(number) * 8 + 2) + varint_size(len as u64);
     head.checked_add(len)
