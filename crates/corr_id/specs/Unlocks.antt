@@ -64,7 +64,6 @@ module _ {C : Type 0} (u w : View C) (slot : ℕ) (p : Parts) (c : C) (advance :
     pub room : IsTrue step → q.attempt + 2 < q.range
     pub in_order : q.oldest ≡ 0 → q.second ≡ 0
     pub did : Did slot u w (Locked q.first q.range q.attempt c q.oldest q.second (Full c) ∷ []) (advance_note slot p q)
-    pub before : Before q
 
   -- the word that the last exchange replaced, and the one that it left. All errors that this call took out are those of the words found: the ones that the
   -- exchanges before it took out, in the order in which they were queued, were stale, and the last one took out the oldest error of `found`, if it had one
@@ -75,7 +74,7 @@ module _ {C : Type 0} (u w : View C) (slot : ℕ) (p : Parts) (c : C) (advance :
     pub left : (step : Bool) × (q ≡ unlocked_word (parts found) (bit step))
     pub attempt_is : q.attempt ≡ p.attempt + bit advance
     pub before : List ℕ
-    pub all : FoundJust (found ∷ before)
+    pub taken : FoundJust (found ∷ before)
     pub sequence : InSequence p (p.attempt + bit advance) (found ∷ before)
     pub thrown : ThrewAway (p.attempt + bit advance) before
 

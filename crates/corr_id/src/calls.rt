@@ -211,7 +211,8 @@ impl<C> IdTable<C> {
         ensures seat { Stays seat.old seat.new }
         ensures quiet { Quiet seat.old.me.0 seat.new.me.0 }
         ensures gone { (self.now.plan.slots ≤ id_slot id) ⊎ ((word : ℕ) × Found (id_slot id) word seat.new.me.0 × LacksId (parts word) (id_first id)) }
-        ensures gone_now { id_slot id < self.now.plan.slots → (word : ℕ) × FoundNow (id_slot id) word seat.old.me.0 seat.new.me.0 × LacksId (parts word) (id_first id) × (IsKnown (id_slot id) (id_first id) seat.old.me.0 → id_first id < (parts word).first) }
+        ensures gone_now { id_slot id < self.now.plan.slots → (word : ℕ) × FoundNow (id_slot id) word seat.old.me.0 seat.new.me.0 × LacksId (parts word) (id_first id) }
+        ensures ended { id_slot id < self.now.plan.slots → IsKnown (id_slot id) (id_first id) seat.old.me.0 → (word : ℕ) × FoundNow (id_slot id) word seat.old.me.0 seat.new.me.0 × (id_first id < (parts word).first) }
     {
         let id = CorrelationId(id);
         let Some(at) = self.slot_of(id) else {
