@@ -1,0 +1,4 @@
+pub mod MergedLists
+pub mod OwnPlaces
+pub mod NotesOfSeats
+pub mod OrderOfClosedTable
