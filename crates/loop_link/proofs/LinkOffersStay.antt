@@ -13,7 +13,7 @@ use Rattle.sock_io.specs.declared.ending.Ending.TheVariants as ending
 use Rattle.sock_io.specs.declared.link.Take.{Take}
 use Rattle.sock_io.specs.declared.link.Take.TheVariants as take_
 use Rattle.sock_io.specs.declared.link.LinkSpec.{LinkSpec}
-use Rattle.sock_io.specs.LinkHalves.{Offer, FillsRoom, TakeStep, OfferTaken, IsServed, IsNewOffer, given_of, end_of}
+use Rattle.sock_io.specs.LinkHalves.{Offer, FillsRoom, TakeStep, OfferTaken, IsServed, IsNewOffer, given_of, offered_by, end_of}
 use Rattle.sock_io.specs.ShapeOfPuts.{ShapedState, shaped_out}
 use Rattle.brpc_model.specs.Items.{Shape}
 use Rattle.sock_io.specs.LinksInMemory.{MemInState, closing, empty_in, is_closing, is_open, mem_in, take_answer}
@@ -380,6 +380,22 @@ known_to_end false false e is over open_ = absurd (cc)
 
 pub settled_ends : (took : List ℕ) (finished : Bool) (i : LoopInState) → Settled took finished i → finished ≡ true → i.half.ending ≢ ending.Open
 settled_ends took finished i s = known_to_end (gives_end i.peer took) finished i.half.ending s.ending
+
+-- what callers see of a link that settled: it is served, all is offered that belongs to it, and where it was finished that is known to end
+pub settles : (took : List ℕ) (finished : Bool) (old new : LoopInState) → (IsServed took finished old.half.given (offer_of old) → Settled took finished new) → new.half.given ≡ old.half.given
+    → (o : Offer) (t gave : List ℕ) → Some (offer_of old) ≡ Some o → Some took ≡ Some t → Some old.half.given ≡ Some gave → IsServed t finished gave o
+    → (o' : Offer) × (Some (offer_of new) ≡ Some o') × IsServed t finished gave o' × (offered_by o' t ≡ offered_by o' o'.fed) × (finished ≡ true → o'.ending ≢ ending.Open)
+settles took finished old new settled same o t gave offer_is took_is gave_is s =
+    let a : o ≡ offer_of old = cc in
+    let b : t ≡ took = cc in
+    let c : gave ≡ old.half.given = cc in
+    let x : Settled took finished new = settled (subst (λ (y : Offer). IsServed took finished old.half.given y) a (subst (λ (l : List ℕ). IsServed l finished old.half.given o) b (subst (λ (l : List ℕ). IsServed t finished l o) c s))) in (
+      offer_of new,
+      refl,
+      subst (λ (l : List ℕ). IsServed l finished gave (offer_of new)) (sym b) (subst (λ (l : List ℕ). IsServed took finished l (offer_of new)) (same ∙ sym c) x.served),
+      ap (offered_by (offer_of new)) b ∙ sym x.offered ∙ x.served.offered,
+      settled_ends took finished new x,
+    )
 
 -- ## A new link, as callers see it
 
