@@ -52,6 +52,10 @@ pub record Wrote {O : Type 0} (state : O → OutState) (id : ℕ) (v w : View) :
   pub noted : Noted state (Met_by id w) (socket_id_version id) notes
   pub became : Became (socket_id_slot id) v (record w { rights = v.rights }) notes []
 
+-- the seat's one right tells still which message it had taken, and what the link had taken by then
+abbrev pub KeepsMessage : View → View → Type 0
+KeepsMessage v w = (r : Right) → Rights r v → (x : Right) × Rights x w × (x.heading ≡ r.heading) × (x.bytes ≡ r.bytes) × (x.sent ≡ r.sent)
+
 -- a seat dropped this message, of the link of the life of this id: it stored the word of its place index with the dropped bit, and noted that, and what stands with the message; beside that it only wrote. Its right has the accepted message still, whose label and owner these are, and whose bytes are those that the link took of it last, and those that are left.
 pub record WroteDrop {O : Type 0} (state : O → OutState) (p : Plan) (id : ℕ) (msg : Undelivered) (v w : View) : Type 0 where
   pub link : ℕ

@@ -202,11 +202,11 @@ abbrev pub IsDead : {O : Type 0} {g : Ghosts O} → InHand O g → Tried O g →
 IsDead old (tried.Dead hand) = hand ≡ record old { calls = hand.calls }
 IsDead old other = ⊥
 
--- of the message in hand, where it is in hand still
+-- the message is in hand still, and has this
 abbrev pub HandBy : {O : Type 0} {g : Ghosts O} → (InHand O g → Type 0) → Doing O g → Type 0
 HandBy P (doing.Puts hand) = P hand
 HandBy P (doing.Waits hand) = P hand
-HandBy P other = Unit {0}
+HandBy P other = ⊥
 
 -- one put was made since
 abbrev pub PutOnce : {O : Type 0} {g : Ghosts O} → InHand O g → InHand O g → Type 0
@@ -244,6 +244,16 @@ pub record TookAtOnce {O : Type 0} (g : Ghosts O) : Type 0 where
   pub turn : IsTurn g.state hand.came.list hand.home.out hand.calls.list
   pub whole : (outgoing_of hand.bytes).left ≡ []
   pub calls : (hand.calls.list ≡ call.Looked true ∷ []) ⊎ ((answer : Put) × (hand.calls.list ≡ call.Put answer ∷ call.Looked true ∷ []))
+
+-- the head has a newer ticket
+abbrev pub IsReversing : {O : Type 0} {g : Ghosts O} → Doing O g → Type 0
+IsReversing (doing.Reversing link top) = Unit {0}
+IsReversing other = ⊥
+
+-- nothing that was noted is left to write
+abbrev pub LeftAll : {O : Type 0} {g : Ghosts O} → Once O g → Type 0
+LeftAll (once.Done s) = Unit {0}
+LeftAll (once.Keep r) = IsReversing r.doing
 
 -- the message that `start` accepted was tried once: it is in hand still, or the link took it whole
 abbrev pub TriedAtOnce : {O : Type 0} {g : Ghosts O} → Doing O g → Type 0

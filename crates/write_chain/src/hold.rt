@@ -11,8 +11,8 @@ ghost use Rattle.sock_rule.specs.declared.homes.SockHome.TheVariants.{Empty};
 ghost use Rattle.sock_rule.specs.SocketSeatSplits.{IsSeat};
 ghost use Rattle.sock_rule.specs.ChainPlays.{IsTicket};
 ghost use Rattle.sock_rule.specs.HoldingWriteRight.{Rights, MayFreeRequest};
-ghost use Rattle.write_chain.specs.NotingWhileWriting.{Faulted, Wrote};
-ghost use Rattle.write_chain.specs.WritingRightInHand.{MayBegin, Stands, HasLink, HasRest, HasPart, IsClean, HasWhole, FoundDead, GoesBy, IsLast, OnceBy, OnceTried, TriedBy, TriedFaults, TriedOnce, TriedPut, PutOrWhole, IsDead, IsKeep};
+ghost use Rattle.write_chain.specs.NotingWhileWriting.{Faulted, KeepsMessage, Wrote};
+ghost use Rattle.write_chain.specs.WritingRightInHand.{MayBegin, Stands, HasLink, HasRest, HasPart, IsClean, HasWhole, FoundDead, GoesBy, IsLast, OnceBy, OnceTried, TriedBy, TriedFaults, TriedOnce, TriedPut, PutOrWhole, LeftAll, IsDead, IsKeep};
 ghost use Rattle.write_chain.specs.declared.right.LinkCall.TheVariants as call;
 ghost use Rattle.write_chain.specs.Puts.{Called};
 
@@ -126,6 +126,7 @@ impl<O: Out> HeldChain<'_, O> {
         ensures seat { IsSeat self.now.table.now.rule.table.shared.table_id self.now.table.now.rule.plan seat.new }
         ensures goes { GoesBy self.now.table.now.rule.plan self.now.table.now.rule.ways.list self.now.sock.id.0 self.now.last.0 result seat.new.me }
         ensures last { now.0 ≡ self.now.last.0 → IsLast result }
+        ensures message { KeepsMessage seat.old.me.0 seat.new.me.0 }
         ensures others { seat.new.me.0 ≡ record seat.old.me.0 { rights = seat.new.me.0.rights } }
     {
         if now.0 == self.last.0 {
@@ -171,6 +172,7 @@ impl<O: Out> HeldChain<'_, O> {
         requires may { HasLink self.table.now.rule.plan self.table.now.rule.ways.list self.sock.id.0 self.last.0 Empties [] link seat.old.me }
         ensures seat { IsSeat self.entry.table.now.rule.table.shared.table_id self.entry.table.now.rule.plan seat.new }
         ensures once { OnceBy self.entry.table.now.rule.plan self.entry.table.now.rule.ways.list self.entry.sock result seat.new.me }
+        ensures left { LeftAll result }
         ensures others { seat.new.me.0 ≡ record seat.old.me.0 { rights = seat.new.me.0.rights } }
     {
         let HeldChain { table, sock, last } = self;
@@ -315,6 +317,7 @@ impl<O: Out> HeldChain<'_, O> {
         requires last { IsLast doing }
         ensures seat { IsSeat self.entry.table.now.rule.table.shared.table_id self.entry.table.now.rule.plan seat.new }
         ensures once { OnceBy self.entry.table.now.rule.plan self.entry.table.now.rule.ways.list self.entry.sock result seat.new.me }
+        ensures left { LeftAll result }
         ensures others { seat.new.me.0 ≡ record seat.old.me.0 { rights = seat.new.me.0.rights } }
     {
         let Doing::Last(link) = doing else {
