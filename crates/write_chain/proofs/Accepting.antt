@@ -1,5 +1,5 @@
 -- A message is accepted, view by view.
-use Rattle.std.proofs.Common.{◌≡◌, ℕ, suc, ◌+◌, ◌-◌, ◌<◌, ◌≤◌, true, false, cond, not, eqb, eq-eqb, List, [], ◌∷◌, refl, sym, ap, ◌∙◌, subst, inl, inr, arith}
+use Rattle.std.proofs.Common.{◌≡◌, ℕ, zero, suc, ◌+◌, ◌-◌, ◌<◌, ◌≤◌, true, false, cond, not, eqb, eq-eqb, List, [], ◌∷◌, ◌++◌, refl, sym, ap, ◌∙◌, subst, inl, inr, arith}
 use Rattle.std.specs.List.{filter}
 use mathlib.Core.Option.{some}
 use lib.ListN.{get_elem?}
@@ -25,7 +25,7 @@ use Rattle.sock_rule.specs.SendingOnRequestWords.{MaySwap, filled_for}
 use Rattle.sock_rule.proofs.MarksComeAndGo.{adds_mark, becomes}
 use Rattle.sock_table.specs.NamesStoredAndFound.{HasSeen}
 use Rattle.sock_table.specs.ReferenceAnswers.{Holds}
-use Rattle.write_chain.specs.SendingIntoChain.{Missed, HasRoom, Accepted, IsFirst, FullNow}
+use Rattle.write_chain.specs.SendingIntoChain.{Missed, HasRoom, Accepted, IsFirst, FoundTaken, FullNow}
 use Rattle.sock_words.specs.Totals.{total}
 
 -- a seat that held the life of the id claims request `at`, and comes by the views a and b to the exchange
@@ -167,6 +167,16 @@ asks_other p id v w x q a e = record {
 -- all were asked for
 pub full_now : (p : Plan) (at : ℕ) (v w : View) → FullNow p at v w → p.requests ≤ at → FullNow p p.requests v w
 full_now p at v w a all = record { added = a.added; found = a.found; each = λ q lt. a.each q (omega arith) }
+
+-- what stands in front of a list stands in it
+in_front : (xs ys : List ℕ) (n x : ℕ) → get_elem? xs n ≡ some x → get_elem? (xs ++ ys) n ≡ some x
+in_front [] ys n x e = cc e
+in_front (z ∷ xs) ys zero x e = e
+in_front (z ∷ xs) ys (suc n) x e = in_front xs ys n x e
+
+-- each was found taken by then
+pub full_found : (p : Plan) (v w : View) → FullNow p p.requests v w → (q : ℕ) → q < p.requests → FoundTaken p q w.found
+full_found p v w a q low = let t = a.each q low in (t.0, ap (λ (l : List ℕ). get_elem? l t.0) a.found ∙ in_front a.added v.found t.0 (request_index p q) t.1)
 
 pub false_true : false ≡ true → ⊥
 false_true e = let n : ℕ ≡ ⊥ = ap (λ b. cond b ⊥ ℕ) e in subst (λ (x : Type 0). x) n 0
