@@ -1,5 +1,5 @@
 -- What was done with a message in hand, through its calls.
-use Rattle.std.proofs.Common.{◌≡◌, ◌≢◌, ℕ, inl, inr, Bool, true, false, List, [], ◌∷◌, ◌++◌, append-nil, append_assoc, refl, sym, ap, ◌∙◌, subst}
+use Rattle.std.proofs.Common.{◌≡◌, ◌≢◌, ℕ, inl, inr, Bool, true, List, [], ◌∷◌, ◌++◌, append-nil, append_assoc, refl, sym, ap, ◌∙◌, subst}
 use Rattle.std.specs.Prelude.{Option, None, Some, ◌⊎◌}
 use Rattle.brpc_model.specs.ReturnedLink.{HalfAnswer}
 use Rattle.sock_io.specs.declared.link.Out.{Ghosts}
@@ -20,7 +20,7 @@ use Rattle.write_chain.specs.declared.hold.Tried.{Tried}
 use Rattle.write_chain.specs.declared.hold.Tried.TheVariants as tried
 use Rattle.write_chain.specs.LinkCalls.{answers_of, NoneFailed, MayPut, IsTurn}
 use Rattle.write_chain.specs.Puts.{Called}
-use Rattle.write_chain.specs.WritingRightInHand.{HandBy, PutOnce, TriedPut, PutOrWhole, LookedAndPut, TriedOnce, IsOneTry, TookAtOnce, TriedAtOnce, OnceTried, LeftAll}
+use Rattle.write_chain.specs.WritingRightInHand.{JustLooked, HandBy, PutOnce, TriedPut, PutOrWhole, LookedAndPut, TriedOnce, IsOneTry, TookAtOnce, TriedAtOnce, OnceTried, LeftAll}
 
 told_none : (a : Option (List HalfAnswer)) → a ≡ more_told a []
 told_none None = refl
@@ -85,10 +85,10 @@ module _ {O : Type 0} {g : Ghosts O} where
   hand_by old mid (doing.Waits hand) c p = looked_put old mid hand c p
   hand_by old mid _ c p = p
 
-  pub tried_once : (old mid : InHand O g) (t : Tried O g) → mid ≡ record old { calls = mid.calls } → Called (call.Looked true) old mid → PutOrWhole mid t → TriedOnce old t
+  pub tried_once : (old mid : InHand O g) (t : Tried O g) → JustLooked old mid → Called (call.Looked true) old mid → PutOrWhole mid t → TriedOnce old t
   tried_once old mid (tried.Dead hand) e c t = absurd t
   tried_once old mid (tried.Whole hand) e c (inl t) = inl (looked_put old mid hand c t)
-  tried_once old mid (tried.Whole hand) e c (inr t) = inr (sym (ap (λ (y : InHand O g). (outgoing_of y.bytes).left) e) ∙ t.0, ap (λ (y : InHand O g). y.calls.list) t.1 ∙ c.calls)
+  tried_once old mid (tried.Whole hand) e c (inr t) = inr (sym (ap (λ (y : InHand O g). (outgoing_of y.bytes).left) e.1) ∙ t.0, t.1 ∙ c.calls)
   tried_once old mid (tried.Goes by) e c t = hand_by old mid by c t
 
   -- of a message that had no calls before

@@ -1,5 +1,5 @@
 -- What a writer has stays through the steps that it makes.
-use Rattle.std.proofs.Common.{◌≡◌, ◌≢◌, ℕ, zero, suc, ◌+◌, ◌*◌, ◌<◌, inl, inr, Bool, true, false, cond, eqb, eq-eqb, ne_eqb, not, List, [], ◌∷◌, ◌++◌, append-nil, append_assoc, refl, sym, ap, ◌∙◌, subst, arith}
+use Rattle.std.proofs.Common.{◌≡◌, ◌≢◌, ℕ, zero, suc, ◌+◌, ◌*◌, ◌<◌, ◌≤◌, inl, inr, Bool, true, false, cond, eqb, eq-eqb, ne_eqb, not, List, [], ◌∷◌, ◌++◌, append-nil, append_assoc, refl, sym, ap, ◌∙◌, subst, arith}
 use Rattle.std.specs.List.{filter}
 use Rattle.atomic_table.specs.Table.{Me, rest}
 use Rattle.sock_io.specs.declared.link.Out.{Ghosts}
@@ -46,7 +46,7 @@ use Rattle.write_chain.specs.LinkCalls.{NoneFailed, MayPut, IsTurn}
 use Rattle.write_chain.proofs.Turning.{turn_begun, turn_looked}
 use Rattle.write_chain.specs.declared.right.Doing.{Doing}
 use Rattle.write_chain.specs.declared.right.Doing.TheVariants as doing
-use Rattle.write_chain.specs.WritingRightInHand.{IsWriter, Stands, HasLink, HasInHand, IsPart, FoundDead, HasRest, HasPart, IsClean, HasWhole, GaveUp, IsLast}
+use Rattle.write_chain.specs.WritingRightInHand.{IsWriter, Stands, HasLink, HasInHand, IsPart, JustLooked, FoundDead, HasRest, HasPart, IsClean, HasWhole, GaveUp, IsLast}
 use Rattle.write_chain.proofs.Faulting.{found_marks, found_noted, found_became}
 use Rattle.write_chain.proofs.NotingWhileWriting.{noted_quiet, found_it, wrote_notes}
 
@@ -100,6 +100,24 @@ noted_in_hand : (n i k : ℕ) (v : View) → (0 < faults_of k v → 0 < n) → 0
 noted_in_hand zero i k v known some_ = known some_
 noted_in_hand (suc n) i k v known some_ = omega arith
 
+-- ## In hand
+
+-- a look before found the life live
+abbrev pub HasClean : {O : Type 0} {g : Ghosts O} → Plan → List (List ℕ) → ℕ → ℕ → InHand O g → Me (SockHome O g) View → Type 0
+HasClean p ways id last hand m = (h : HasInHand p ways id last hand m) × (h.right_is.clean ≡ true)
+
+module _ {O : Type 0} {g : Ghosts O} where
+  none_noted : (id : ℕ) (hand : InHand O g) (m n : Me (SockHome O g) View) (notes : List Mark) → Became (socket_id_slot id) m.0 n.0 notes [] → NoneFailed hand.calls.list ⊎ FoundDead id m.0 → NoneFailed hand.calls.list ⊎ FoundDead id n.0
+  none_noted id hand m n notes b (inl none_) = inl none_
+  none_noted id hand m n notes b (inr dead) = inr (let x = b.here (is_saw (socket_id_version id + 1)) in let y : 0 < marks_of (is_saw (socket_id_version id + 1)) (socket_id_slot id) m.0 = dead in omega arith)
+
+  turn_now : (old new : InHand O g) (live : Bool) → Called (call.Looked live) old new → IsTurn g.state old.came.list old.home.out old.calls.list → IsTurn g.state old.came.list old.home.out new.calls.list
+  turn_now old new live c t = subst (λ (cs : List LinkCall). IsTurn g.state old.came.list old.home.out cs) (sym c.calls) (turn_looked g.state old.came.list live old.home.out old.calls.list t)
+
+  none_looked : {D : Type 0} (old new : InHand O g) (live : Bool) → Called (call.Looked live) old new → NoneFailed old.calls.list ⊎ D → NoneFailed new.calls.list ⊎ D
+  none_looked old new live c (inl none_) = inl (subst NoneFailed (sym c.calls) none_)
+  none_looked old new live c (inr dead) = inr dead
+
 module _ {O : Type 0} {g : Ghosts O} {p : Plan} {ways : List (List ℕ)} {id last : ℕ} where
   -- the right's sign that a look found the life live is this one now, and the rest of what is in hand stays
   abbrev stays_in_hand : (hand : InHand O g) (m n : Me (SockHome O g) View) (h : HasInHand p ways id last hand m) (clean : Bool) → IsWriter p id last hand.link (record h.right_is { clean = clean }) n.0 → (0 < faults_of hand.link n.0 → 0 < (g.state hand.home.out).faults) → n.1 ≡ m.1 → HasInHand p ways id last hand n
@@ -109,39 +127,24 @@ module _ {O : Type 0} {g : Ghosts O} {p : Plan} {ways : List (List ℕ)} {id las
   pub rest_noted : {L : ℕ → Type 0} (hand : InHand O g) (m n : Me (SockHome O g) View) (notes : List Mark) → Noted g.state L (socket_id_version id) notes → Became (socket_id_slot id) m.0 n.0 notes [] → n.1 ≡ m.1 → (0 < faults_of hand.link n.0 → 0 < (g.state hand.home.out).faults) → HasRest p ways id last hand m → HasRest p ways id last hand n
   rest_noted hand m n notes noted b slots faults h = (stays_in_hand hand m n h.0 h.0.right_is.clean (writer_noted h.0.writer notes noted b) faults slots, h.1)
 
-  none_noted : (hand : InHand O g) (m n : Me (SockHome O g) View) (notes : List Mark) → Became (socket_id_slot id) m.0 n.0 notes [] → NoneFailed hand.calls.list ⊎ FoundDead id m.0 → NoneFailed hand.calls.list ⊎ FoundDead id n.0
-  none_noted hand m n notes b (inl none_) = inl none_
-  none_noted hand m n notes b (inr dead) = inr (let x = b.here (is_saw (socket_id_version id + 1)) in let y : 0 < marks_of (is_saw (socket_id_version id + 1)) (socket_id_slot id) m.0 = dead in omega arith)
-
   pub part_noted : {L : ℕ → Type 0} (hand : InHand O g) (m n : Me (SockHome O g) View) (notes : List Mark) → Noted g.state L (socket_id_version id) notes → Became (socket_id_slot id) m.0 n.0 notes [] → n.1 ≡ m.1 → (0 < faults_of hand.link n.0 → 0 < (g.state hand.home.out).faults) → HasPart p ways id last hand m → HasPart p ways id last hand n
-  part_noted hand m n notes noted b slots faults h = (stays_in_hand hand m n h.0 h.0.right_is.clean (writer_noted h.0.writer notes noted b) faults slots, h.1, none_noted hand m n notes b h.2)
-
-  -- a look before found the life live
-  abbrev pub HasClean : InHand O g → Me (SockHome O g) View → Type 0
-  HasClean hand m = (h : HasInHand p ways id last hand m) × (h.right_is.clean ≡ true)
+  part_noted hand m n notes noted b slots faults h = (stays_in_hand hand m n h.0 h.0.right_is.clean (writer_noted h.0.writer notes noted b) faults slots, h.1, none_noted id hand m n notes b h.2)
 
   -- where the look found the life live
   pub part_clean : {L : ℕ → Type 0} (hand : InHand O g) (m n : Me (SockHome O g) View) (v : View) (notes : List Mark) → Noted g.state L (socket_id_version id) notes → Became (socket_id_slot id) m.0 v notes [] → (0 < faults_of hand.link v → 0 < (g.state hand.home.out).faults) → (h : HasPart p ways id last hand m)
-      → n ≡ (with_right v (record h.0.right_is { clean = true }), m.1) → HasClean hand n
+      → n ≡ (with_right v (record h.0.right_is { clean = true }), m.1) → HasClean p ways id last hand n
   part_clean hand m n v notes noted b faults h e = let w = writer_noted h.0.writer notes noted b in let view : n.0 ≡ with_right v (record h.0.right_is { clean = true }) = ap (λ (q : Me (SockHome O g) View). q.0) e in
       (stays_in_hand hand m n h.0 true (writer_on w last (record h.0.right_is { clean = true }) refl w.last_is w.last_ticket view) (λ t. faults (subst (λ (y : View). 0 < faults_of hand.link y) view t)) (ap (λ (q : Me (SockHome O g) View). q.1) e), refl)
 
   -- a look was made
-  abbrev in_calls : (old new : InHand O g) (m : Me (SockHome O g) View) → IsTurn g.state old.came.list old.home.out new.calls.list → HasInHand p ways id last old m → HasInHand p ways id last (record old { calls = new.calls }) m
-  in_calls old new m turn h = record { right_is = h.right_is; writer = h.writer; has = h.has; stage_is = h.stage_is; ticket = h.ticket; taken = h.taken; label_is = h.label_is; owner_is = h.owner_is; place_in = h.place_in; begun = h.begun; bytes_are = h.bytes_are; took = h.took; noted = h.noted; few = h.few; turn = turn; slots = h.slots }
+  abbrev in_calls : (old new : InHand O g) (m : Me (SockHome O g) View) (numbered : old.label.attempt ≤ 6) → IsTurn g.state old.came.list old.home.out new.calls.list → HasInHand p ways id last old m → HasInHand p ways id last (record old { calls = new.calls; numbered = numbered }) m
+  in_calls old new m numbered turn h = record { right_is = h.right_is; writer = h.writer; has = h.has; stage_is = h.stage_is; ticket = h.ticket; taken = h.taken; label_is = h.label_is; owner_is = h.owner_is; place_in = h.place_in; begun = h.begun; bytes_are = h.bytes_are; took = h.took; noted = h.noted; few = h.few; turn = turn; slots = h.slots }
 
-  turn_now : (old new : InHand O g) (live : Bool) → Called (call.Looked live) old new → IsTurn g.state old.came.list old.home.out old.calls.list → IsTurn g.state old.came.list old.home.out new.calls.list
-  turn_now old new live c t = subst (λ (cs : List LinkCall). IsTurn g.state old.came.list old.home.out cs) (sym c.calls) (turn_looked g.state old.came.list live old.home.out old.calls.list t)
+  pub part_looked : (old new : InHand O g) (m : Me (SockHome O g) View) (live : Bool) → JustLooked old new → Called (call.Looked live) old new → HasPart p ways id last old m → HasPart p ways id last new m
+  part_looked old new m live e c h = subst (λ (y : InHand O g). HasPart p ways id last y m) (sym e.1) (in_calls old new m e.0 (turn_now old new live c h.0.turn) h.0, h.1, none_looked old new live c h.2)
 
-  none_looked : {D : Type 0} (old new : InHand O g) (live : Bool) → Called (call.Looked live) old new → NoneFailed old.calls.list ⊎ D → NoneFailed new.calls.list ⊎ D
-  none_looked old new live c (inl none_) = inl (subst NoneFailed (sym c.calls) none_)
-  none_looked old new live c (inr dead) = inr dead
-
-  pub part_looked : (old new : InHand O g) (m : Me (SockHome O g) View) (live : Bool) → new ≡ record old { calls = new.calls } → Called (call.Looked live) old new → HasPart p ways id last old m → HasPart p ways id last new m
-  part_looked old new m live e c h = subst (λ (y : InHand O g). HasPart p ways id last y m) (sym e) (in_calls old new m (turn_now old new live c h.0.turn) h.0, h.1, none_looked old new live c h.2)
-
-  pub clean_looked : (old new : InHand O g) (m : Me (SockHome O g) View) → new ≡ record old { calls = new.calls } → Called (call.Looked true) old new → NoneFailed old.calls.list → HasClean old m → IsClean p ways id last new m
-  clean_looked old new m e c none_ h = subst (λ (y : InHand O g). IsClean p ways id last y m) (sym e) (in_calls old new m (turn_now old new true c h.0.turn) h.0, h.1, subst MayPut (sym c.calls) (tt, none_))
+  pub clean_looked : (old new : InHand O g) (m : Me (SockHome O g) View) → JustLooked old new → Called (call.Looked true) old new → NoneFailed old.calls.list → HasClean p ways id last old m → IsClean p ways id last new m
+  clean_looked old new m e c none_ h = subst (λ (y : InHand O g). IsClean p ways id last y m) (sym e.1) (in_calls old new m e.0 (turn_now old new true c h.0.turn) h.0, h.1, subst MayPut (sym c.calls) (tt, none_))
 
   -- a put was made, or the link was asked
   went_on : (old new : InHand O g) (taken : List ℕ) (m : Me (SockHome O g) View) → WentOn old new taken → IsTurn g.state new.came.list new.home.out new.calls.list → (h : HasInHand p ways id last old m) → (h' : HasInHand p ways id last new m) × (h'.right_is ≡ h.right_is) × (h'.begun ≡ h.begun ++ taken)
@@ -175,7 +178,7 @@ module _ {O : Type 0} {g : Ghosts O} {p : Plan} {ways : List (List ℕ)} {id las
     refl,
   )
 
-  pub clean_put : (old new : InHand O g) (taken : List ℕ) (m : Me (SockHome O g) View) → WentOn old new taken → IsTurn g.state new.came.list new.home.out new.calls.list → IsClean p ways id last old m → HasClean new m
+  pub clean_put : (old new : InHand O g) (taken : List ℕ) (m : Me (SockHome O g) View) → WentOn old new taken → IsTurn g.state new.came.list new.home.out new.calls.list → IsClean p ways id last old m → HasClean p ways id last new m
   clean_put old new taken m w turn h = let r = went_on old new taken m w turn h.0 in (r.0, ap (λ (y : Right). y.clean) r.1 ∙ h.1)
 
   -- the link was asked

@@ -1,7 +1,6 @@
 -- What whoever has a message in hand did with its link. Of its calls the last stands first.
-use Rattle.std.specs.Prelude.{◌≡◌, ◌⊎◌, true, false, List, [], ◌∷◌, ◌++◌}
+use Rattle.std.specs.Prelude.{◌≡◌, true, List, [], ◌∷◌, ◌++◌}
 use Rattle.brpc_model.specs.ReturnedLink.{HalfAnswer}
-use Rattle.sock_io.specs.declared.link.Put.{Put}
 use Rattle.sock_io.specs.declared.link.Put.TheVariants as puts
 use Rattle.sock_io.specs.declared.link.Ready.TheVariants as ready
 use Rattle.sock_io.specs.LinkHalves.{OutState, more_told, of_put, of_ready}

@@ -1,5 +1,5 @@
 -- What whoever has the right to write a link has in hand.
-use Rattle.std.specs.Prelude.{◌≡◌, ◌≢◌, ℕ, ◌+◌, ◌*◌, ◌<◌, ◌⊎◌, true, false, List, [], ◌∷◌, ◌++◌}
+use Rattle.std.specs.Prelude.{◌≡◌, ◌≢◌, ℕ, ◌+◌, ◌*◌, ◌<◌, ◌≤◌, ◌⊎◌, true, false, List, [], ◌∷◌, ◌++◌}
 use Rattle.sock_io.specs.declared.link.Put.{Put}
 use Rattle.atomic_table.specs.Table.{Me}
 use Rattle.sock_io.specs.declared.link.Out.{Ghosts}
@@ -24,7 +24,6 @@ use Rattle.sock_table.specs.ReferenceCalls.{IsBetween, Rests}
 use Rattle.sock_table.specs.ReferenceAnswers.{Holds}
 use Rattle.write_chain.specs.LinkCalls.{MayPut, NoneFailed, IsTurn}
 use Rattle.write_chain.specs.Puts.{Called}
-use Rattle.write_chain.specs.declared.right.LinkCall.{LinkCall}
 use Rattle.write_chain.specs.declared.right.LinkCall.TheVariants as call
 use Rattle.write_chain.specs.declared.right.WriteRight.{WriteRight}
 use Rattle.write_chain.specs.declared.right.InHand.{InHand}
@@ -197,9 +196,13 @@ TriedFaults n id (tried.Dead hand) v = FaultTold n id hand.home v
 TriedFaults n id (tried.Whole hand) v = FaultTold n id hand.home v
 TriedFaults n id (tried.Goes by) v = FaultsBy n id by v
 
--- nothing was put: all in hand is as it was, but that there was a look
+-- all in hand is as it was, but for the calls
+abbrev pub JustLooked : {O : Type 0} {g : Ghosts O} → InHand O g → InHand O g → Type 0
+JustLooked old new = (numbered : old.label.attempt ≤ 6) × (new ≡ record old { calls = new.calls; numbered = numbered })
+
+-- nothing was put, after a look
 abbrev pub IsDead : {O : Type 0} {g : Ghosts O} → InHand O g → Tried O g → Type 0
-IsDead old (tried.Dead hand) = hand ≡ record old { calls = hand.calls }
+IsDead old (tried.Dead hand) = JustLooked old hand
 IsDead old other = ⊥
 
 -- the message is in hand still, and has this
@@ -221,7 +224,7 @@ TriedPut old (tried.Goes by) = HandBy (PutOnce old) by
 -- or nothing was left, and none was made
 abbrev pub PutOrWhole : {O : Type 0} {g : Ghosts O} → InHand O g → Tried O g → Type 0
 PutOrWhole old (tried.Dead hand) = ⊥
-PutOrWhole old (tried.Whole hand) = PutOnce old hand ⊎ (((outgoing_of old.bytes).left ≡ []) × (hand ≡ old))
+PutOrWhole old (tried.Whole hand) = PutOnce old hand ⊎ (((outgoing_of old.bytes).left ≡ []) × (hand.calls.list ≡ old.calls.list))
 PutOrWhole old (tried.Goes by) = HandBy (PutOnce old) by
 
 -- there was a look more that found the life live, and behind it one put

@@ -18,7 +18,8 @@ use sock_rule::LinkHome;
 pub fn called(calls: &Ghosts<LinkCall>, call: LinkCall) -> Ghosts<LinkCall>
     ensures { result.list ≡ call ∷ calls.now.list }
 {
-    let with = (calls, call);
+    let before: Ghosts<LinkCall> = Ghosts::of(calls);
+    let with = (before, call);
     Ghosts::of(&with)
 }
 

@@ -12,7 +12,7 @@ ghost use Rattle.sock_rule.specs.SocketSeatSplits.{IsSeat};
 ghost use Rattle.sock_rule.specs.ChainPlays.{IsTicket};
 ghost use Rattle.sock_rule.specs.HoldingWriteRight.{Rights, MayFreeRequest};
 ghost use Rattle.write_chain.specs.NotingWhileWriting.{Faulted, KeepsMessage, Wrote};
-ghost use Rattle.write_chain.specs.WritingRightInHand.{MayBegin, Stands, HasLink, HasRest, HasPart, IsClean, HasWhole, FoundDead, GoesBy, IsLast, OnceBy, OnceTried, TriedBy, TriedFaults, TriedOnce, TriedPut, PutOrWhole, LeftAll, IsDead, IsKeep};
+ghost use Rattle.write_chain.specs.WritingRightInHand.{MayBegin, Stands, HasLink, HasRest, HasPart, IsClean, HasWhole, FoundDead, GoesBy, IsLast, OnceBy, OnceTried, TriedBy, TriedFaults, JustLooked, TriedOnce, TriedPut, PutOrWhole, LeftAll, IsDead, IsKeep};
 ghost use Rattle.write_chain.specs.declared.right.LinkCall.TheVariants as call;
 ghost use Rattle.write_chain.specs.Puts.{Called};
 
@@ -196,7 +196,7 @@ impl<O: Out> HeldChain<'_, O> {
         requires seat { IsSeat self.now.table.now.rule.table.shared.table_id self.now.table.now.rule.plan seat.old }
         requires may { HasPart self.now.table.now.rule.plan self.now.table.now.rule.ways.list self.now.sock.id.0 self.now.last.0 hand.old seat.old.me }
         ensures seat { IsSeat self.now.table.now.rule.table.shared.table_id self.now.table.now.rule.plan seat.new }
-        ensures looked { hand.new ≡ record hand.old { calls = hand.new.calls } }
+        ensures looked { JustLooked hand.old hand.new }
         ensures called { Called (call.Looked result) hand.old hand.new }
         ensures live { result ≡ true → IsClean self.now.table.now.rule.plan self.now.table.now.rule.ways.list self.now.sock.id.0 self.now.last.0 hand.new seat.new.me }
         ensures stays { FoundDead self.now.sock.id.0 seat.old.me.0 → result ≡ false }

@@ -1,5 +1,4 @@
-use Rattle.std.proofs.Common.{Bool, inl, refl, sym, ap, ◌∙◌, subst}
-use Rattle.write_chain.specs.declared.right.InHand.{InHand}
+use Rattle.std.proofs.Common.{Bool, inl, sym, ap, ◌∙◌, subst}
 use Rattle.write_chain.specs.declared.right.LinkCall.TheVariants as call
 use Rattle.write_chain.specs.Puts.{Called}
 use Rattle.write_chain.proofs.NotingWhileWriting.{wrote_then}
@@ -17,7 +16,7 @@ pub returns-clause-tried : goal.returns-clause-tried
 returns-clause-tried g c = c.look.ensures.dead c.if-look.false
 
 pub returns-clause-faults : goal.returns-clause-faults
-returns-clause-faults g c = inl (ap (λ h. (g.O.Out.state h.home.out).faults) c.look.ensures.looked)
+returns-clause-faults g c = inl (ap (λ h. (g.O.Out.state h.home.out).faults) c.look.ensures.looked.1)
 
 pub returns-then-look-clause-stays : goal.returns-then-look-clause-stays
 returns-then-look-clause-stays g c = λ d. absurd (false_true (sym (c.look.ensures.stays d) ∙ c.if-look.true))
