@@ -7,6 +7,7 @@ use Rattle.script_items.specs.declared.line.Line.{Line}
 use Rattle.brpc_model.specs.ReturnedLink.{LinkEnd}
 use Rattle.sock_io.specs.declared.link.LinkSpec.{LinkSpec}
 use Rattle.sock_io.specs.declared.link.Mode.{Mode}
+use Rattle.sock_io.specs.LinkHalves.{LinkerState}
 
 -- the link of this number took, gave and answered nothing, did not fail, and was not found closed
 pub record IsUntouched (number : ℕ) (e : LinkEnd) : Type 0 where
@@ -62,3 +63,9 @@ specs_of mode script = filter_map (spec_asked mode) script
 -- the first are a beginning of the others
 abbrev pub IsBeginning : List LinkSpec → List LinkSpec → Type 0
 IsBeginning front whole = (rest : List LinkSpec) × (front ++ rest ≡ whole)
+
+-- ## Connections
+
+-- between these no connection was accepted, and none was given back
+abbrev pub SameConnections : LinkerState → LinkerState → Type 0
+SameConnections old new = (new.accepted ≡ old.accepted) × (new.done ≡ old.done)

@@ -6,7 +6,7 @@ ghost use Rattle.brpc_model.specs.Items.{is_open};
 ghost use Rattle.script_items.specs.LineMeaning.{item};
 ghost use Rattle.sock_io.specs.FaultCauses.{OpenCause, Rose};
 ghost use Rattle.sock_io.specs.LinkHalves.{end_of};
-ghost use Rattle.script_links.specs.LinksGivenBack.{AreUntouched, AreNumbered, IsBeginning, has_piece, is_open_line, has_piece_line, spec_of, specs_of};
+ghost use Rattle.script_links.specs.LinksGivenBack.{AreUntouched, AreNumbered, IsBeginning, SameConnections, has_piece, is_open_line, has_piece_line, spec_of, specs_of};
 ghost use Rattle.script_links.specs.OfferedLinks.{AreAsked, TellOffers};
 ghost use Rattle.script_links.specs.OpenedLinkEnds.{AreOpened};
 
@@ -46,6 +46,7 @@ fn open_line<L: Linker>(
     ensures opened { length (L.state links.new).asked ≡ length ends.new.items }
     ensures back { (L.state links.new).back ≡ (L.state links.old).back }
     ensures always_ready { (L.state links.new).always_ready ≡ (L.state links.old).always_ready }
+    ensures connections { SameConnections (L.state links.old) (L.state links.new) }
     ensures cause { OpenCause (L.state links.old).faults (L.state links.new).faults result }
 {
     let Line::Open(open) = line else {
@@ -85,6 +86,7 @@ pub fn open_links<L: Linker>(
     ensures opened { length (L.state links.new).asked ≡ length ends.new.items }
     ensures back { (L.state links.new).back ≡ (L.state links.old).back }
     ensures always_ready { (L.state links.new).always_ready ≡ (L.state links.old).always_ready }
+    ensures connections { SameConnections (L.state links.old) (L.state links.new) }
     ensures later { (L.state links.old).faults ≤ (L.state links.new).faults }
     ensures failed { IsErrOf result OpenFault.Failed → Rose (L.state links.old).faults (L.state links.new).faults }
     ensures kept { (¬ IsErrOf result OpenFault.Failed) → (L.state links.new).faults ≡ (L.state links.old).faults }
@@ -107,6 +109,7 @@ fn give_one<L: Linker>(links: &mut L, link: u16, ends: Ends<L::O, L::I, L::P>)
     ensures asked { (L.state links.new).asked ≡ (L.state links.old).asked }
     ensures faults { (L.state links.new).faults ≡ (L.state links.old).faults }
     ensures always_ready { (L.state links.new).always_ready ≡ (L.state links.old).always_ready }
+    ensures connections { SameConnections (L.state links.old) (L.state links.new) }
 {
     links.back(link, ends);
 }
@@ -122,6 +125,7 @@ pub fn give_back<L: Linker>(links: &mut L, ends: Vec<Ends<L::O, L::I, L::P>>)
     ensures asked { (L.state links.new).asked ≡ (L.state links.old).asked }
     ensures faults { (L.state links.new).faults ≡ (L.state links.old).faults }
     ensures always_ready { (L.state links.new).always_ready ≡ (L.state links.old).always_ready }
+    ensures connections { SameConnections (L.state links.old) (L.state links.new) }
 {
     let mut link = 0u16;
     for ends in ends {

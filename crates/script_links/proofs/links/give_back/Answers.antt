@@ -19,5 +19,6 @@ loop-ends-preserved g c =
         asked = c.give_one.ensures.asked ∙ i.asked;
         faults = c.give_one.ensures.faults ∙ i.faults;
         always_ready = c.give_one.ensures.always_ready ∙ i.always_ready;
+        connections = (c.give_one.ensures.connections.0 ∙ i.connections.0, c.give_one.ensures.connections.1 ∙ i.connections.1);
       },
     )

@@ -3,7 +3,7 @@ use Rattle.std.specs.List.{AllByRecursion}
 use Rattle.std.specs.Vec.Iter.{into_iter_items}
 use Rattle.brpc_model.specs.ReturnedLink.{LinkEnd}
 use Rattle.sock_io.specs.LinkHalves.{end_of}
-use Rattle.script_links.specs.LinksGivenBack.{AreNumbered}
+use Rattle.script_links.specs.LinksGivenBack.{AreNumbered, SameConnections}
 use Rattle.script_links.proofs.links.give_back.Given as goal
 
 abbrev pub invariant-loop-ends : goal.invariant-loop-ends
@@ -17,4 +17,5 @@ invariant-loop-ends g l =
       asked : (g.L.Linker.state l.links).asked ≡ (g.L.Linker.state l.initial.links).asked;
       faults : (g.L.Linker.state l.links).faults ≡ (g.L.Linker.state l.initial.links).faults;
       always_ready : (g.L.Linker.state l.links).always_ready ≡ (g.L.Linker.state l.initial.links).always_ready;
+      connections : SameConnections (g.L.Linker.state l.initial.links) (g.L.Linker.state l.links);
     }

@@ -21,6 +21,7 @@ loop-line-preserved g c =
       count = grind (arith, common_steps);
       back = step.back ∙ i.back;
       always_ready = step.always_ready ∙ i.always_ready;
+      connections = (step.connections.0 ∙ i.connections.0, step.connections.1 ∙ i.connections.1);
       later = omega (arith, step.cause.later, i.later);
       kept = step.cause.kept (λ e. absurd (cc)) ∙ i.kept;
     }

@@ -4,7 +4,7 @@ use Rattle.sock_io.specs.declared.link.Ends.{Ends}
 use Rattle.sock_io.specs.declared.link.Mode.TheVariants as mode
 use Rattle.sock_io.specs.LinkHalves.{end_of}
 use Rattle.script_items.specs.LineMeaning.{item}
-use Rattle.script_links.specs.LinksGivenBack.{AreUntouched, is_open_line, specs_of}
+use Rattle.script_links.specs.LinksGivenBack.{AreUntouched, SameConnections, is_open_line, specs_of}
 use Rattle.script_links.specs.OfferedLinks.{AreAsked, TellOffers}
 use Rattle.script_links.specs.OpenedLinkEnds.{AreOpened}
 use Rattle.script_links.proofs.links.open_links.Given as goal
@@ -22,6 +22,7 @@ invariant-loop-line g l = record {
   count : length l.ends.items ≡ count_by is_open_line (take l.line-index l.lines);
   back : (g.L.Linker.state l.links).back ≡ (g.L.Linker.state l.initial.links).back;
   always_ready : (g.L.Linker.state l.links).always_ready ≡ (g.L.Linker.state l.initial.links).always_ready;
+  connections : SameConnections (g.L.Linker.state l.initial.links) (g.L.Linker.state l.links);
   later : (g.L.Linker.state l.initial.links).faults ≤ (g.L.Linker.state l.links).faults;
   kept : (g.L.Linker.state l.links).faults ≡ (g.L.Linker.state l.initial.links).faults;
 }
