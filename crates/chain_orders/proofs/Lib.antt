@@ -2,3 +2,4 @@ pub mod MergedLists
 pub mod OwnPlaces
 pub mod NotesOfSeats
 pub mod OrderOfClosedTable
+pub mod SenderCalls

@@ -47,7 +47,7 @@ pub record LinkFailed {S : Type 0} (p : Plan) (seats : List (Seat S View)) (k : 
 
 -- none of these seats failed a life
 abbrev pub NoneFailed : {S : Type 0} → Plan → List (Seat S View) → Type 0
-NoneFailed {S} p seats = (c : ℕ) (s : Seat S View) → get_elem? seats c ≡ some s → (i h : ℕ) → i < p.slots → marks_of (is_failer h) i s.me.0 ≡ 0
+NoneFailed {S = S} p seats = (c : ℕ) (s : Seat S View) → get_elem? seats c ≡ some s → (i h : ℕ) → i < p.slots → marks_of (is_failer h) i s.me.0 ≡ 0
 
 -- link k, with its writing half as it came back and the order of its messages
 pub record LinkInOrder {O S : Type 0} (state : O → OutState) (p : Plan) (seats : List (Seat S View)) (outs : List O) (k : ℕ) (messages : List Sent) : Type 0 where
@@ -73,4 +73,4 @@ pub record InOneOrder {O S : Type 0} (state : O → OutState) (p : Plan) (seats 
 
 -- whatever seats with these lists a table of this plan was closed with
 abbrev pub OrdersMessages : {O S : Type 0} → (O → OutState) → List (Seat S View) → Type 0
-OrdersMessages state seats = (p : Plan) (places : List PlaceWord) (vrefs : List Vref) (outs : List O) → ClosedBy state p seats places vrefs outs → IndexesDiffer (sent_by seats) → InOneOrder state p seats outs
+OrdersMessages {O = O} state seats = (p : Plan) (places : List PlaceWord) (vrefs : List Vref) (outs : List O) → ClosedBy state p seats places vrefs outs → IndexesDiffer (sent_by seats) → InOneOrder state p seats outs

@@ -1,7 +1,8 @@
 -- What a seat sent through sockets: its list of the messages that it had accepted.
-use Rattle.std.specs.Prelude.{◌≡◌, ℕ, ◌==◌, List, [], ◌∷◌, map, flat_map}
+use Rattle.std.specs.Prelude.{◌≡◌, ℕ, ◌<◌, ◌==◌, List, [], ◌∷◌, ◌++◌, map, flat_map}
 use Rattle.std.specs.List.{filter}
 use Rattle.atomic_table.specs.declared.shared.Seat.{Seat}
+use Rattle.sock_words.specs.declared.plain.Plan.{Plan}
 use Rattle.sock_model.specs.declared.chain.Entry.{Entry}
 use Rattle.sock_model.specs.declared.chain.Heading.{Heading}
 use Rattle.sock_model.specs.declared.view.View.{View}
@@ -29,7 +30,7 @@ HasSent v messages = lists_of v ≡ messages ∷ []
 
 -- the lists of these seats, those of each in its place
 abbrev pub sent_by : {S : Type 0} → List (Seat S View) → List (List Sent)
-sent_by seats = flat_map (λ (s : Seat S View). lists_of s.me.0) seats
+sent_by {S = S} seats = flat_map (λ (s : Seat S View). lists_of s.me.0) seats
 
 -- the messages that the lives of link k accepted
 abbrev pub on_link : ℕ → List Sent → List Sent
@@ -38,3 +39,11 @@ on_link k messages = filter (λ (m : Sent). m.link == k) messages
 -- their bytes, one message after the other
 abbrev pub bytes_of : List Sent → List ℕ
 bytes_of messages = flat_map (λ (m : Sent). m.bytes) messages
+
+-- the lists stay as they are
+abbrev pub SameLists : View → View → Type 0
+SameLists v w = lists_of w ≡ lists_of v
+
+-- the own list has one message more, with this heading and these bytes, to a link of the table
+abbrev pub SentOneMore : Plan → Heading → List ℕ → View → View → Type 0
+SentOneMore p heading bytes v w = (messages : List Sent) (others : List (List Sent)) → lists_of v ≡ messages ∷ others → (k : ℕ) × (k < p.links) × (lists_of w ≡ (messages ++ record { link = k; heading = heading; bytes = bytes } ∷ []) ∷ others)
