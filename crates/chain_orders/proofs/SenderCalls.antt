@@ -29,7 +29,8 @@ use Rattle.write_chain.specs.declared.entry.Started.TheVariants as started
 use Rattle.write_chain.specs.declared.keep.Kept.{Kept}
 use Rattle.write_chain.specs.declared.keep.Kept.TheVariants as kept
 use Rattle.write_chain.specs.KeepingOnWriting.{KeptWriting}
-use Rattle.write_chain.specs.NotingWhileWriting.{Wrote}
+use Rattle.write_chain.specs.NotingWhileWriting.{Wrote, WroteDrop}
+use Rattle.write_chain.specs.declared.right.Undelivered.{Undelivered}
 use Rattle.write_chain.specs.SendingIntoChain.{Accepted, StartedBy, RefusedBy}
 use Rattle.chain_orders.specs.SentMessages.{Sent, sent_of, lists_of, HasSent, SameLists, SentOneMore}
 use Rattle.chain_orders.proofs.MergedLists.{map_append}
@@ -105,7 +106,10 @@ refused_sent p sock msg (refused.Full s m) v w b = same_lists v w b.3
 pub wrote_sent : {O : Type 0} {state : O → OutState} (id : ℕ) (v w : View) → Wrote state id v w → SameLists v w
 wrote_sent id v w a = same_lists v w (ap (λ (y : View). y.lists) a.became.others)
 
+pub dropped_sent : {O : Type 0} {state : O → OutState} (p : Plan) (id : ℕ) (msg : Undelivered) (v w : View) → WroteDrop state p id msg v w → SameLists v w
+dropped_sent p id msg v w a = same_lists v w (ap (λ (y : View). y.lists) a.wrote.became.others)
+
 -- `keep_write`, also where it dropped a message
 pub kept_sent : {O : Type 0} {g : Ghosts O} (p : Plan) (sock : SockRef) (r : Kept O g) (v w : View) → KeptWriting p sock r v w → SameLists v w
-kept_sent p sock (kept.Done s) v w a = same_lists v w (ap (λ (y : View). y.lists) a.became.others)
-kept_sent p sock (kept.Dropped r msg code) v w a = same_lists v w (ap (λ (y : View). y.lists) a.wrote.became.others)
+kept_sent p sock (kept.Done s) v w a = wrote_sent sock.id.0 v w a
+kept_sent p sock (kept.Dropped r msg code) v w a = dropped_sent p sock.id.0 msg v w a

@@ -1,1 +1,2 @@
 pub mod TextsInOrder
+pub mod Refusing

@@ -1,5 +1,5 @@
 -- The messages of two threads, by places; and seats that send them.
-use Rattle.std.proofs.Common.{◌≡◌, ◌≢◌, ℕ, zero, suc, ◌+◌, ◌*◌, ◌<◌, Bool, true, false, cond, List, [], ◌∷◌, ◌++◌, length, length-append, map, refl, sym, ap, ◌∙◌, subst, arith}
+use Rattle.std.proofs.Common.{◌≡◌, ◌≢◌, ℕ, zero, suc, ◌+◌, ◌*◌, ◌<◌, ◌⊎◌, inl, inr, Bool, true, false, cond, List, [], ◌∷◌, ◌++◌, length, length-append, map, refl, sym, ap, ◌∙◌, subst, arith}
 use Rattle.std.specs.Prelude.{Vec}
 use Rattle.std.specs.List.{filter}
 use Rattle.std.proofs.lemmas.List.{length-map}
@@ -21,12 +21,12 @@ use Rattle.two_senders.specs.SentTexts.{heading_at, text_at, messages, IsShared,
 -- ## The messages of a thread
 
 -- one more at the end
-snoc_at : (l : List Sent) (x y : Sent) (i : ℕ) → (k : ℕ) → length l ≡ k → get_elem? (l ++ x ∷ []) i ≡ some y → Rattle.std.proofs.Common.◌⊎◌ (get_elem? l i ≡ some y) ((i ≡ k) × (x ≡ y))
-snoc_at [] x y zero k long e = Rattle.std.proofs.Common.inr (long, some-injective x y e)
+snoc_at : (l : List Sent) (x y : Sent) (i : ℕ) → (k : ℕ) → length l ≡ k → get_elem? (l ++ x ∷ []) i ≡ some y → (get_elem? l i ≡ some y) ⊎ ((i ≡ k) × (x ≡ y))
+snoc_at [] x y zero k long e = inr (long, some-injective x y e)
 snoc_at [] x y (suc i) k long e = absurd (some-ne-none y (sym e))
-snoc_at (z ∷ zs) x y zero k long e = Rattle.std.proofs.Common.inl e
+snoc_at (z ∷ zs) x y zero k long e = inl e
 snoc_at (z ∷ zs) x y (suc i) zero long e = absurd (omega arith)
-snoc_at (z ∷ zs) x y (suc i) (suc k) long e = elim (snoc_at zs x y i k (omega arith) e) [ inl h ↦ Rattle.std.proofs.Common.inl h | inr w ↦ Rattle.std.proofs.Common.inr (ap suc w.0, w.1) ]
+snoc_at (z ∷ zs) x y (suc i) (suc k) long e = elim (snoc_at zs x y i k (omega arith) e) [ inl h ↦ inl h | inr w ↦ inr (ap suc w.0, w.1) ]
 
 snoc_kept : (p : Sent → Bool) (l : List Sent) (x : Sent) → p x ≡ true → filter p l ≡ l → filter p (l ++ x ∷ []) ≡ l ++ x ∷ []
 snoc_kept p l x hit all = append_filter l ∙ ap (λ ys. ys ++ x ∷ []) all
@@ -72,8 +72,11 @@ sent_next p w texts n heading bytes v x shared h b more is =
     let link : m.0 ≡ 0 = (let a = m.1 in let l = shared.0 in omega arith) in
     m.2 ∙ ap (λ (y : Sent). (messages w texts n ++ y ∷ []) ∷ []) (same m.0 link heading h bytes b)
   where
-    same : (k : ℕ) → k ≡ 0 → (heading : Heading) → heading ≡ heading_at w n → (bytes : List ℕ) → bytes ≡ text_at texts n → record { link = k; heading = heading; bytes = bytes } ≡ record { link = 0; heading = heading_at w n; bytes = text_at texts n }
-    same k a heading h bytes b = cc
+    sent_as : ℕ → Heading → List ℕ → Sent
+    sent_as k h b = record { link = k; heading = h; bytes = b }
+
+    same : (k : ℕ) → k ≡ 0 → (heading : Heading) → heading ≡ heading_at w n → (bytes : List ℕ) → bytes ≡ text_at texts n → sent_as k heading bytes ≡ sent_as 0 (heading_at w n) (text_at texts n)
+    same k a heading h bytes b = λ i. sent_as (a i) (h i) (b i)
 
 -- ## Both
 
@@ -109,3 +112,8 @@ module _ {A : Type 0} (ones twos : List (Vec ℕ A)) (n m : ℕ) where
         tells = subst (λ o. Rattle.std.specs.Option.ForSome (state o).took (λ bytes. bytes ≡ k.took)) own k.tells;
         took_in = k.took_in;
       }
+
+-- the one that came back
+pub last_one : {X : Type 0} (l ms : List X) (x : X) → length l ≡ 1 → l ≡ ms ++ x ∷ [] → l ≡ x ∷ []
+last_one l [] x long is = is
+last_one l (m ∷ ms) x long is = absurd (let n = length-append ms (x ∷ []) in let e = ap length is in omega arith)

@@ -42,7 +42,10 @@ fn begin<O: Out>(alloc: Global, out: O) -> Option<Made<O>>
         seats: 2,
         first: 0,
     };
-    let outs = vec![in alloc; out].ok()?;
+    let Ok(mut outs) = Vec::with_capacity(alloc, 1) else {
+        return None;
+    };
+    outs.push_reserved(out);
     new_table(alloc, &plan, outs).ok()
 }
 
