@@ -4,7 +4,6 @@ use Rattle.atomic_table.specs.Seated.{TableId}
 use Rattle.atomic_table.specs.declared.shared.Seat.{Seat}
 use Rattle.sock_io.specs.declared.link.Out.{Ghosts}
 use Rattle.sock_words.specs.declared.plain.Plan.{Plan}
-use Rattle.sock_model.specs.declared.chain.Entry.{Entry}
 use Rattle.sock_model.specs.declared.chain.Heading.{Heading}
 use Rattle.sock_model.specs.declared.view.View.{View}
 use Rattle.sock_rule.specs.SocketSeatSplits.{IsSeat}
@@ -16,8 +15,8 @@ use Rattle.write_chain.specs.declared.entry.Started.{Started}
 use Rattle.write_chain.specs.declared.entry.Refused.{Refused}
 use Rattle.write_chain.specs.declared.entry.Refused.TheVariants as refused
 use Rattle.write_chain.proofs.SeatBetweenMessages.{refused_ups, refused_ones}
-use Rattle.chain_orders.specs.SentMessages.{Sent, sent_of, lists_of, SameLists, SentOneMore}
-use Rattle.chain_orders.proofs.SenderCalls.{refused_sent, started_sent}
+use Rattle.chain_orders.specs.SentMessages.{sent_of, SameLists, SentOneMore}
+use Rattle.chain_orders.proofs.SenderCalls.{started_sent}
 use Rattle.two_senders.specs.SentTexts.{IsHolding}
 
 -- the same lists have the same room

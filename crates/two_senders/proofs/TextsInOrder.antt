@@ -1,10 +1,10 @@
 -- The messages of two threads, by places; and seats that send them.
 use Rattle.std.proofs.Common.{◌≡◌, ◌≢◌, ℕ, zero, suc, ◌+◌, ◌*◌, ◌<◌, ◌⊎◌, inl, inr, Bool, true, false, cond, List, [], ◌∷◌, ◌++◌, length, length-append, map, refl, sym, ap, ◌∙◌, subst, arith}
-use Rattle.std.specs.Prelude.{Vec}
+use Rattle.std.specs.Prelude.{Vec, Option, None, Some, slice_get}
 use Rattle.std.specs.List.{filter}
 use Rattle.std.proofs.lemmas.List.{length-map}
 use mathlib.Core.Option.{some, some-injective, some-ne-none}
-use lib.ListN.{get_elem?}
+use lib.ListN.{get_elem?, get_or}
 use Rattle.atomic_table.specs.declared.shared.Seat.{Seat}
 use Rattle.sock_io.specs.LinkHalves.{OutState}
 use Rattle.sock_words.specs.declared.plain.Plan.{Plan}
@@ -13,9 +13,9 @@ use Rattle.sock_model.specs.declared.chain.Heading.{Heading}
 use Rattle.sock_model.specs.declared.view.View.{View}
 use Rattle.sock_model.specs.Rule.{MOST_ACCEPTED}
 use Rattle.write_chain.specs.SendingIntoChain.{HasRoom}
-use Rattle.chain_orders.specs.SentMessages.{Sent, index_of, sent_of, lists_of, HasSent, sent_by, on_link, SameLists, SentOneMore}
+use Rattle.chain_orders.specs.SentMessages.{Sent, index_of, sent_of, lists_of, HasSent, sent_by, on_link, SentOneMore}
 use Rattle.chain_orders.specs.ListsInOneOrder.{AreMerged}
-use Rattle.chain_orders.specs.MessagesInOneOrder.{IndexesDiffer, LinkInOrder, InOneOrder}
+use Rattle.chain_orders.specs.MessagesInOneOrder.{IndexesDiffer, InOneOrder}
 use Rattle.two_senders.specs.SentTexts.{heading_at, text_at, messages, IsShared, TookBoth}
 
 -- ## The messages of a thread
@@ -53,6 +53,15 @@ module _ {A : Type 0} (w : ℕ) (texts : List (Vec ℕ A)) where
   all_on zero = refl
   all_on (suc n) = snoc_kept (λ (m : Sent). Rattle.std.proofs.Common.eqb m.link 0) (messages w texts n) _ refl (all_on n)
 
+-- the text that was looked up
+looked_up : {X : Type 0} (xs : List X) (n : ℕ) (x : X) → n < length xs → x ≡ get_or xs n x → slice_get xs n ≡ Some x
+looked_up [] n x low same = absurd (omega arith)
+looked_up (y ∷ ys) zero x low same = ap Some (sym same)
+looked_up (y ∷ ys) (suc n) x low same = looked_up ys n x (omega arith) same
+
+pub text_there : {A : Type 0} (texts : List (Vec ℕ A)) (n : ℕ) (text : Vec ℕ A) → n < length texts → text ≡ get_or texts n text → text_at texts n ≡ text.items
+text_there {A = A} texts n text low same = ap (λ (o : Option (Vec ℕ A)). elim o [ None ↦ [] | Some t ↦ t.items ]) (looked_up texts n text low same)
+
 -- ## Seats
 
 pub room_of : (v : View) (sent : List Sent) → HasSent v sent → length sent < MOST_ACCEPTED → HasRoom v
@@ -77,6 +86,9 @@ sent_next p w texts n heading bytes v x shared h b more is =
 
     same : (k : ℕ) → k ≡ 0 → (heading : Heading) → heading ≡ heading_at w n → (bytes : List ℕ) → bytes ≡ text_at texts n → sent_as k heading bytes ≡ sent_as 0 (heading_at w n) (text_at texts n)
     same k a heading h bytes b = λ i. sent_as (a i) (h i) (b i)
+
+pub next_count : {A : Type 0} (w : ℕ) (texts : List (Vec ℕ A)) (n : ℕ) (v : View) → HasSent v (messages w texts (suc n)) → HasSent v (messages w texts (n + 1))
+next_count w texts n v = let e : suc n ≡ n + 1 = omega arith in subst (λ k. HasSent v (messages w texts k)) e
 
 -- ## Both
 
