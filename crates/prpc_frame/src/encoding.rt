@@ -76,8 +76,9 @@ fn append_front(
     ensures sizes { OnOk result (frame.new.sizes ≡ block_sizes (12 + length (meta_bytes (meaning meta.now)))) }
     ensures reads_back { OnOk result (read_meta (meta_bytes (meaning meta.now)) ≡ Ok (meaning meta.now)) }
 {
+    // The body's limit is below what 64 bits hold.
     let Some(sizes) = meta.sizes() else {
-        return Err(NoMemory);
+        unreachable!();
     };
     if sizes.all <= FRONT_BYTES - 12 {
         let mut front = Front::new();
