@@ -6,9 +6,7 @@ use Rattle.brpc_model.specs.Script.{script_of}
 use Rattle.brpc_eng.specs.CommandWords as model
 use Rattle.brpc_eng.specs.declared.commands.Command.{Command}
 use Rattle.brpc_eng.specs.declared.draw.Draw.{Draw}
-use Rattle.brpc_eng.specs.declared.doors.Doors.{Doors}
 use Rattle.brpc_eng.specs.declared.commands.Command.TheVariants.{Sim, Gen, Load, Frames}
-use Rattle.brpc_eng.specs.declared.commands.Command.TheVariants as code
 use Rattle.brpc_eng.specs.declared.commands.Waiting.{Waiting}
 use Rattle.brpc_eng.specs.declared.commands.Waiting.TheVariants.{Run, Serve}
 use Rattle.sock_io.specs.declared.link.Mode.{Mode}
@@ -88,16 +86,6 @@ waiting_waits words (Serve doors) e = ap (λ c. unwrap_or (option_map model.wait
 pub asked_is : (words : List (List ℕ)) (found : Option Waiting) → IfSome found (λ waiting. model.command_of words ≡ Some (waiting_meaning waiting)) → IfNone found (model.asks_to_wait words ≡ false) → is_some found ≡ model.asks_to_wait words
 asked_is words None some_ none_ = sym none_
 asked_is words (Some waiting) some_ none_ = sym (waiting_waits words waiting some_)
-
--- words that don't ask to wait ask for no run on threads
-pub not_threads : (words : List (List ℕ)) (command : Command) (port : Option ℕ) → option_map meaning (Some command) ≡ model.command_of words → command ≡ code.Run port → model.asks_to_wait words ≡ false → ⊥
-not_threads words command port e is alone =
-    let asked : model.asks_to_wait words ≡ true = ap (λ c. unwrap_or (option_map model.waits c) false) (sym e ∙ ap (λ c. option_map meaning (Some c)) is) in absurd (cc)
-
--- and for no port to be served
-pub not_serving : (words : List (List ℕ)) (command : Command) (doors : Doors) → option_map meaning (Some command) ≡ model.command_of words → command ≡ code.Serve doors → model.asks_to_wait words ≡ false → ⊥
-not_serving words command doors e is alone =
-    let asked : model.asks_to_wait words ≡ true = ap (λ c. unwrap_or (option_map model.waits c) false) (sym e ∙ ap (λ c. option_map meaning (Some c)) is) in absurd (cc)
 
 -- a linker that was not used before has accepted no connection
 pub none_accepted : (tells offering : Type 0) (tells_in : Mode → Bool) (old new : LinkerState) → answer.UnusedLinker old → SameConnections old new → answer.AcceptedNone (answer.linker_over tells offering tells_in old new)

@@ -4,7 +4,7 @@ use Rattle.script_run.specs.Played.{TellClosed}
 use Rattle.brpc_eng.specs.ProgramAnswers as answer
 use Rattle.brpc_eng.specs.Command.{meaning}
 use Rattle.brpc_eng.specs.StatusNumbers.{number_of}
-use Rattle.brpc_eng.proofs.Replays.{drawn_command, load_command, frames_command, simulated, none_accepted, not_threads, not_serving}
+use Rattle.brpc_eng.proofs.Replays.{drawn_command, load_command, frames_command, simulated, none_accepted}
 use Rattle.brpc_eng.proofs.alone.answer_alone.Goals as goal
 
 pub returns-in-None-clause-answers : goal.returns-in-None-clause-answers
@@ -51,11 +51,3 @@ returns-in-Frames-clause-answers g c = record {
 
 pub returns-in-Frames-clause-counts : goal.returns-in-Frames-clause-counts
 returns-in-Frames-clause-counts g c = record { source_still = c.frames.ensures.source; linker_still = λ other. refl }
-
--- ## What isn't asked for
-
-pub unreachable-requires : goal.unreachable-requires
-unreachable-requires g c = not_threads _ c.in-Some.command _ c.in-Some.ensures c.in-Run.is c.requires.alone
-
-pub unreachable-requires-2 : goal.unreachable-requires-2
-unreachable-requires-2 g c = not_serving _ c.in-Some.command _ c.in-Some.ensures c.in-Serve.is c.requires.alone
