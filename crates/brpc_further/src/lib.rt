@@ -4,6 +4,6 @@
 //! as it is.
 #![tactic(auto)]
 
-mod further;
+mod commands;
 
-pub use further::{further, further_alone, may_wait};
+pub use commands::{further, further_alone, may_wait};

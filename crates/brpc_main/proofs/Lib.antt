@@ -1,2 +1,1 @@
-mod AnswersOfSameWords
 mod VectorIteratorTaken
