@@ -98,7 +98,7 @@ MayMakeAll p q (x ∷ xs) passes = MayMake p q x passes × MayMakeAll p q xs (le
 
 -- an operation that isn't made any more: an `open` gets no socket, and its pass is spent
 abbrev pub LeftBy : {O : Type 0} {g : Ghosts O} → Plan → ℕ → Op → Stand g → Stand g → Type 0
-LeftBy {O} {g} p number (ops.Open n k) s t = (pass : LinkPass O g) × (s.passes ≡ t.passes ++ pass ∷ []) × GotNone p number s.me t.me × (t.held ≡ s.held) × (t.calls ≡ s.calls)
+LeftBy {O} {g} p number (ops.Open n k) s t = (pass : LinkPass O g) × (s.passes ≡ t.passes ++ pass ∷ []) × GotNone p number pass.link s.me t.me × (t.held ≡ s.held) × (t.calls ≡ s.calls)
 LeftBy p number _ s t = t ≡ s
 
 -- these operations were left like that

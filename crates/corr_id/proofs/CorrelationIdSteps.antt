@@ -154,6 +154,17 @@ module _ {C : Type 0} (p : Plan) (slots id : ℕ) (me : Me (Maybe C) (View C)) (
     ),
   )
 
+  -- a word is free, open or locked
+  state_low : (s : State (Maybe C) (View C)) (l : SlotLaw (local s i)) → (local s i).word.state ≤ 2
+  state_low s l = elim l.stands [
+    | vacant t g z u k ↦ omega (arith, z)
+    | retired t g z u k ↦ omega (arith, z)
+    | claimed seen' h' t g z u k q ↦ omega (arith, z)
+    | opened c t z v p' q k ↦ omega (arith, z)
+    | locked c o' s' k t z v b u y ↦ omega (arith, z)
+    | leaving t g z u k ↦ omega (arith, z)
+  ]
+
   -- the word of the slot, where the seat knows of an id that was made there
   born_behind : (s : State (Maybe C) (View C)) (r : Ruled p s) (here : get_elem? s.views id ≡ some me.0) (f : ℕ) → born ((o p id me i inside real s r.lawful here).b f) ≡ 1 → IsBehind f (local s i).word
   born_behind s r here f some_ =
@@ -161,7 +172,7 @@ module _ {C : Type 0} (p : Plan) (slots id : ℕ) (me : Me (Maybe C) (View C)) (
       let x = born_is (l.b f) some_ in let y = l.story.births f x.0 x.1 in
       ⊎_elim
       (λ past. inl (let k = y.0 in omega arith))
-      (λ now. let w = l.now.is_born now.1 in inr (now.0, now.1, (l.story.births (local s i).word.first ((local s i).word.range, w.0) w.1).0))
+      (λ now. let w = l.now.is_born now.1 in inr (now.0, now.1, (l.story.births (local s i).word.first ((local s i).word.range, w.0) w.1).0, state_low s l))
       y.1
 
   seen_behind : (s : State (Maybe C) (View C)) → Ruled p s → get_elem? s.views id ≡ some me.0 → (f : ℕ) → 0 < total (is_made f) (notes_in i me.0) → IsBehind f (local s i).word

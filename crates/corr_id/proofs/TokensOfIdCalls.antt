@@ -15,7 +15,7 @@ use Rattle.corr_core.specs.declared.marks.Noted.{Noted}
 use Rattle.corr_core.specs.declared.marks.View.{View}
 use Rattle.id_rule.specs.LawfulIdTable.{tokens_in, notes_of}
 use Rattle.id_rule.specs.IdPlays.{LockFits}
-use Rattle.corr_id.specs.SeatBehindIdCalls.{Became, one, is_event, events, is_saw, Found, FoundUpTo, ReachedUpTo, OutOf, Quiet, Did, GotLock, error_in}
+use Rattle.corr_id.specs.SeatBehindIdCalls.{Became, one, is_event, events, is_saw, Found, FoundNow, FoundUpTo, ReachedUpTo, OutOf, LacksId, Quiet, Did, GotLock, error_in}
 use Rattle.corr_id.specs.Ruled.{IsBehind}
 use Rattle.corr_id.proofs.IdSeatSplits.{notes_append, total_append}
 use Rattle.sock_words.specs.Totals.{total}
@@ -66,6 +66,17 @@ module _ {C : Type 0} where
   pub found_noted : (i word : ℕ) (v w : View C) → Became i v w (tokens_in i v) (one i (Saw word)) → Found i word w
   found_noted i word v w b = let e = ap (λ l. total (is_saw word) (notes_of i l)) b.notes in
       let f = ap (λ y. total (is_saw word) (cond y (Saw word ∷ notes_of i v.notes) (notes_of i v.notes))) (eq-eqb i i refl) in let k = only-same word in omega arith
+
+  pub noted_now : (i word : ℕ) (v w : View C) → Became i v w (tokens_in i v) (one i (Saw word)) → FoundNow i word v w
+  noted_now i word v w b = let e = ap (λ l. total (is_saw word) (notes_of i l)) b.notes in
+      let f = ap (λ y. total (is_saw word) (cond y (Saw word ∷ notes_of i v.notes) (notes_of i v.notes))) (eq-eqb i i refl) in let k = only-same word in omega arith
+
+  -- what is found now stays so, where a call began before or goes on
+  pub now_quiet : (i word : ℕ) (u v w : View C) → Quiet u v → FoundNow i word v w → FoundNow i word u w
+  now_quiet i word u v w q now = let a = q.grows i (is_saw word) in omega (arith, a, now)
+
+  pub now_grows : (i word : ℕ) (u v w : View C) → ((j : ℕ) (g : Note C → ℕ) → total g (notes_of j v.notes) ≤ total g (notes_of j w.notes)) → FoundNow i word u v → FoundNow i word u w
+  now_grows i word u v w grows now = let a = grows i (is_saw word) in omega (arith, a, now)
 
   pub found_grows : (i word : ℕ) (v w : View C) → ((j : ℕ) (g : Note C → ℕ) → total g (notes_of j v.notes) ≤ total g (notes_of j w.notes)) → Found i word v → Found i word w
   found_grows i word v w grows f = let a = grows i (is_saw word) in omega arith
@@ -166,6 +177,10 @@ advanced_still i f u v q known = let a = q.grows i (is_advance f) in omega arith
 pub gone_behind : (f : ℕ) (w : Parts) → IsBehind f w → OutOf w f → f < w.first
 gone_behind f w (inl past) out = past
 gone_behind f w (inr now) out = absurd (⊎_elim (λ z. let a = now.1 in omega arith) (λ o. ⊎_elim (λ less. let e = now.0 in omega arith) (λ past. let e = now.0 in let r = now.2 in omega arith) o) out)
+
+pub lacks_behind : (f : ℕ) (w : Parts) → IsBehind f w → LacksId w f → f < w.first
+lacks_behind f w (inl past) lacks = past
+lacks_behind f w (inr now) lacks = absurd (⊎_elim (λ other. other (sym now.0)) (λ none. let a = now.1 in let b = now.3 in let c = none.0 in let d = none.1 in omega (arith, a, b, c, d)) lacks)
 
 -- and one that has it begins with it
 pub own_behind : (f : ℕ) (w : Parts) → IsBehind f w → w.first ≤ f → w.first ≡ f

@@ -7,7 +7,7 @@ use Rattle.corr_core.specs.declared.marks.View.{View}
 use Rattle.corr_id.specs.declared.posts.Posted.{Posted}
 use Rattle.corr_id.specs.declared.posts.Posted.TheVariants.{Locked as HasLock, Queued as IsQueued, Gone, Stale, Crowded}
 use Rattle.id_rule.specs.LawfulIdTable.{tokens_in}
-use Rattle.corr_id.specs.SeatBehindIdCalls.{one, Quiet, Did, GotLock, HasId, LacksId, Found, FoundUpTo, error_in}
+use Rattle.corr_id.specs.SeatBehindIdCalls.{one, Quiet, Did, GotLock, HasId, LacksId, Found, FoundNow, FoundUpTo, LockedNow, error_in}
 use Rattle.sock_words.specs.PackedWords.{id_slot, id_first}
 
 -- another attempt is current
@@ -35,3 +35,11 @@ module _ {C : Type 0} (slots : ℕ) (u w : View C) (id code : ℕ) (attempt : Ma
   PostOk (Gone found) = Quiet u w × (((slots ≤ id_slot id) × (found ≡ 0)) ⊎ (Found (id_slot id) found w × LacksId (parts found) (id_first id)))
   PostOk (Stale current) = Quiet u w × IsStale attempt current × ((word : ℕ) × Found (id_slot id) word w × HasId (parts word) (id_first id) × ((parts word).attempt ≡ current))
   PostOk (Crowded first second) = Quiet u w × ((word : ℕ) × WasCrowded first second word)
+
+  -- the word of which the answer tells is one that this call found
+  abbrev pub PostedNow : Posted C → Type 0
+  PostedNow (HasLock k) = LockedNow k.slot u w (parts k.word.0)
+  PostedNow IsQueued = (word : ℕ) × FoundNow (id_slot id) word u w × WasQueued word
+  PostedNow (Gone found) = id_slot id < slots → FoundNow (id_slot id) found u w
+  PostedNow (Stale current) = (word : ℕ) × FoundNow (id_slot id) word u w × HasId (parts word) (id_first id) × ((parts word).attempt ≡ current)
+  PostedNow (Crowded first second) = (word : ℕ) × FoundNow (id_slot id) word u w × WasCrowded first second word

@@ -34,7 +34,7 @@ InTurn w = w.state ≡ 2 → w.oldest ≡ 0 → w.second ≡ 0
 
 -- a word that was found once the id with this first version was made: it has the id's range, or a later one
 abbrev pub IsBehind : ℕ → Parts → Type 0
-IsBehind f w = (f < w.first) ⊎ ((f ≡ w.first) × (0 < w.state) × (1 ≤ w.range))
+IsBehind f w = (f < w.first) ⊎ ((f ≡ w.first) × (0 < w.state) × (1 ≤ w.range) × (w.state ≤ 2))
 
 module _ {C : Type 0} where
   -- the errors behind those that the lock's holder noted are for the current attempt or for the whole call

@@ -2,7 +2,7 @@
 use Rattle.std.specs.Prelude.{◌≡◌, ◌≢◌, ℕ, ◌+◌, ◌%◌, ◌<◌, ◌≤◌, ◌⊎◌, Bool, true, false, cond, ◌==◌, List, [], ◌∷◌, ◌++◌, Some, None}
 use Rattle.std.specs.Prelude.{Option as Maybe}
 use Rattle.corr_core.specs.IdSlotWord.{Parts, parts, error_of, locked_word}
-use Rattle.corr_core.specs.IdSlotLaw.{LAST, only, pair, is_attempt}
+use Rattle.corr_core.specs.IdSlotLaw.{LAST, only, pair, is_attempt, is_tried}
 use Rattle.corr_core.specs.declared.marks.Hand.{Hand}
 use Rattle.corr_core.specs.declared.marks.Hand.TheVariants.{Empty, Full}
 use Rattle.corr_core.specs.declared.marks.Token.{Token}
@@ -92,6 +92,18 @@ module _ {C : Type 0} where
   -- the seat found this word in slot i
   abbrev pub Found : ℕ → ℕ → View C → Type 0
   Found i word v = 0 < total (is_saw word) (notes_of i v.notes)
+
+  -- this call, from v to w, found this word in slot i: the seat noted it once more
+  abbrev pub FoundNow : ℕ → ℕ → View C → View C → Type 0
+  FoundNow i word v w = total (is_saw word) (notes_of i v.notes) < total (is_saw word) (notes_of i w.notes)
+
+  -- this call found slot i taken
+  abbrev pub TakenNow : ℕ → View C → View C → Type 0
+  TakenNow i v w = total is_tried (notes_of i v.notes) < total is_tried (notes_of i w.notes)
+
+  -- this call found the open word of slot i by which the lock has the word k
+  abbrev pub LockedNow : ℕ → View C → View C → Parts → Type 0
+  LockedNow i v w k = (word : ℕ) × FoundNow i word v w × ((parts word).state ≡ 1) × (k ≡ locked_word (parts word))
 
   -- each word that it found there has a range that begins at this version or an earlier one
   abbrev pub FoundUpTo : ℕ → ℕ → View C → Type 0

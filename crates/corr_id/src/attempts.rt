@@ -4,7 +4,7 @@ ghost use Rattle.corr_core.specs.IdSlotWord.{parts};
 ghost use Rattle.corr_core.specs.IdSlotLaw.{is_made};
 ghost use Rattle.id_rule.specs.LawfulIdTable.{notes_of};
 ghost use Rattle.corr_id.specs.IdTableSeat.{Sits, Stays};
-ghost use Rattle.corr_id.specs.SeatBehindIdCalls.{GotLock, Quiet, Found};
+ghost use Rattle.corr_id.specs.SeatBehindIdCalls.{GotLock, Quiet, Found, FoundNow, LockedNow};
 ghost use Rattle.corr_id.specs.LocksByAttempt.{LacksAttempt, IsOutside, IsWithin, IsKnown};
 ghost use Rattle.sock_words.specs.PackedWords.{id_slot, id_first};
 ghost use Rattle.sock_words.specs.Totals.{total};
@@ -24,6 +24,8 @@ impl<C> IdTable<C> {
         ensures inside { IfOk result (λ k. k.slot < self.now.plan.slots) }
         ensures of_range { IfOk result (λ k. ((parts k.word.0).first < id_first version) × (id_first version < (parts k.word.0).first + (parts k.word.0).range)) }
         ensures gone { IfErr result (λ e. Quiet seat.old.me.0 seat.new.me.0 × (((self.now.plan.slots ≤ id_slot version) × (e.found ≡ 0)) ⊎ (Found (id_slot version) e.found seat.new.me.0 × LacksAttempt (parts e.found) (id_first version)))) }
+        ensures found_now { IfOk result (λ k. LockedNow k.slot seat.old.me.0 seat.new.me.0 (parts k.word.0)) }
+        ensures gone_now { IfErr result (λ e. id_slot version < self.now.plan.slots → FoundNow (id_slot version) e.found seat.old.me.0 seat.new.me.0) }
     {
         self.lock_within(rt, seat, version, true)
     }
@@ -43,6 +45,8 @@ impl<C> IdTable<C> {
         ensures of_range { IfOk result (λ k. IsWithin attempt (parts k.word.0) (id_first version)) }
         ensures own { IfOk result (λ k. 0 < total (is_made (id_first version)) (notes_of (id_slot version) seat.old.me.0.notes) → (parts k.word.0).first ≡ id_first version) }
         ensures gone { IfErr result (λ e. Quiet seat.old.me.0 seat.new.me.0 × (((self.now.plan.slots ≤ id_slot version) × (e.found ≡ 0)) ⊎ (Found (id_slot version) e.found seat.new.me.0 × IsOutside attempt (parts e.found) (id_first version)))) }
+        ensures found_now { IfOk result (λ k. LockedNow k.slot seat.old.me.0 seat.new.me.0 (parts k.word.0)) }
+        ensures gone_now { IfErr result (λ e. id_slot version < self.now.plan.slots → FoundNow (id_slot version) e.found seat.old.me.0 seat.new.me.0) }
         ensures ended { attempt ≡ false → IfErr result (λ e. id_slot version < self.now.plan.slots → IsKnown (id_slot version) (id_first version) seat.old.me.0 → id_first version < (parts e.found).first) }
     {
         let id = CorrelationId(version);

@@ -8,7 +8,8 @@ ghost use Rattle.corr_core.specs.declared.marks.Note.TheVariants.{Made, Ended};
 ghost use Rattle.id_rule.specs.LawfulIdTable.{notes_of};
 ghost use Rattle.id_rule.specs.IdPlays.{LockFits};
 ghost use Rattle.corr_id.specs.IdTableSeat.{Sits, Stays};
-ghost use Rattle.corr_id.specs.SeatBehindIdCalls.{is_saw, is_at, Became, one, Claims, Locks, GotLock, Quiet, MadeAs, OutOf, LacksId, Found};
+ghost use Rattle.corr_id.specs.LocksByAttempt.{IsKnown};
+ghost use Rattle.corr_id.specs.SeatBehindIdCalls.{is_saw, is_at, Became, one, Claims, Locks, GotLock, Quiet, MadeAs, OutOf, LacksId, Found, FoundNow, TakenNow, LockedNow};
 ghost use Rattle.sock_words.specs.PackedWords.{call_id, id_slot, id_first};
 ghost use Rattle.sock_words.specs.Totals.{total};
 
@@ -96,8 +97,8 @@ impl<C> IdTable<C> {
         CorrelationId::pack(at, first).0
     }
 
-    /// A new id of 2 to 8 versions, open and at attempt 0 (`bthread_id_create_ranged`). There is no room only where each slot was
-    /// found taken.
+    /// A new id of 2 to 8 versions, open and at attempt 0 (`bthread_id_create_ranged`). There is no room only where this call
+    /// found each slot taken.
     pub fn create(&self, seat: &mut IdSeat<C>, range: u8, content: C) -> Result<u64, IdFull<C>>
         requires seat { Sits self.now.table.shared.table_id seat.old }
         requires range { (2 ≤ range) × (range ≤ 8) }
@@ -106,6 +107,7 @@ impl<C> IdTable<C> {
         ensures low { IfOk result (λ id. id_first id ≤ LAST) }
         ensures noted { IfOk result (λ id. 0 < total (is_made (id_first id)) (notes_of (id_slot id) seat.new.me.0.notes)) }
         ensures full { IfErr result (λ e. (e.content ≡ content) × Quiet seat.old.me.0 seat.new.me.0 × ((i : ℕ) → i < self.now.plan.slots → 0 < total is_tried (notes_of i seat.new.me.0.notes))) }
+        ensures full_now { IfErr result (λ e. (i : ℕ) → i < self.now.plan.slots → TakenNow i seat.old.me.0 seat.new.me.0) }
     {
         let slots = self.plan.slots;
         let mut at = 0;
@@ -149,6 +151,8 @@ impl<C> IdTable<C> {
         ensures of_range { IfOk result (λ k. ((parts k.word.0).first ≤ id_first version) × (id_first version < (parts k.word.0).first + (parts k.word.0).range)) }
         ensures own { IfOk result (λ k. 0 < total (is_made (id_first version)) (notes_of (id_slot version) seat.old.me.0.notes) → (parts k.word.0).first ≡ id_first version) }
         ensures gone { IfErr result (λ e. Quiet seat.old.me.0 seat.new.me.0 × (((self.now.plan.slots ≤ id_slot version) × (e.found ≡ 0)) ⊎ (Found (id_slot version) e.found seat.new.me.0 × OutOf (parts e.found) (id_first version)))) }
+        ensures found_now { IfOk result (λ k. LockedNow k.slot seat.old.me.0 seat.new.me.0 (parts k.word.0)) }
+        ensures gone_now { IfErr result (λ e. id_slot version < self.now.plan.slots → FoundNow (id_slot version) e.found seat.old.me.0 seat.new.me.0) }
         ensures ended { IfErr result (λ e. id_slot version < self.now.plan.slots → 0 < total (is_made (id_first version)) (notes_of (id_slot version) seat.old.me.0.notes) → id_first version < (parts e.found).first) }
         ensures advanced { IfErr result (λ e. id_slot version < self.now.plan.slots → 0 < total (is_advance (id_first version)) (notes_of (id_slot version) seat.old.me.0.notes) → id_first version < (parts e.found).first) }
     {
@@ -168,6 +172,7 @@ impl<C> IdTable<C> {
         ensures seat { Stays seat.old seat.new }
         ensures locked { IfOk result (λ k. (k.slot ≡ at) × GotLock at seat.old.me.0 seat.new.me.0 from (parts k.word.0) k.content) }
         ensures lost { IfErr result (λ found. Quiet seat.old.me.0 seat.new.me.0 × Found at found seat.new.me.0) }
+        ensures lost_now { IfErr result (λ found. FoundNow at found seat.old.me.0 seat.new.me.0) }
     {
         let next = corr_core::lock_id(from, IdWord(from)).next;
         let found = self.lock_id(seat, at, from, next);
@@ -199,12 +204,15 @@ impl<C> IdTable<C> {
         content
     }
 
-    /// Waits until the id has ended, or finds that it never was (`bthread_id_join`).
+    /// Waits until the id has ended, or finds that it never was (`bthread_id_join`). Where the seat knows of the id that it was
+    /// made, or advanced, it has ended then: this call found a later range in its slot.
     pub fn join<R: Wait>(&self, rt: &R, seat: &mut IdSeat<C>, id: u64)
         requires seat { Sits self.now.table.shared.table_id seat.old }
         ensures seat { Stays seat.old seat.new }
         ensures quiet { Quiet seat.old.me.0 seat.new.me.0 }
         ensures gone { (self.now.plan.slots ≤ id_slot id) ⊎ ((word : ℕ) × Found (id_slot id) word seat.new.me.0 × LacksId (parts word) (id_first id)) }
+        ensures gone_now { id_slot id < self.now.plan.slots → (word : ℕ) × FoundNow (id_slot id) word seat.old.me.0 seat.new.me.0 × LacksId (parts word) (id_first id) }
+        ensures ended { id_slot id < self.now.plan.slots → IsKnown (id_slot id) (id_first id) seat.old.me.0 → (word : ℕ) × FoundNow (id_slot id) word seat.old.me.0 seat.new.me.0 × (id_first id < (parts word).first) }
     {
         let id = CorrelationId(id);
         let Some(at) = self.slot_of(id) else {

@@ -3,7 +3,7 @@ ghost use Rattle.std.specs.Prelude.{◌≡◌, ◌<◌, ◌≤◌, MatchOption, 
 ghost use Rattle.corr_core.specs.IdSlotWord.{parts, posted_word};
 ghost use Rattle.corr_id.specs.IdTableSeat.{Sits, Stays};
 ghost use Rattle.corr_id.specs.SeatBehindIdCalls.{error_in};
-ghost use Rattle.corr_id.specs.PostAnswers.{PostOk, IsStale, IsTimely};
+ghost use Rattle.corr_id.specs.PostAnswers.{PostOk, PostedNow, IsStale, IsTimely};
 
 use crate::calls::{IdLock, lacks_id};
 use crate::table::{IdSeat, IdTable};
@@ -41,6 +41,7 @@ impl<C> IdTable<C> {
         requires attempt { MatchOption attempt (Unit {0}) (λ n. n ≤ 6) }
         ensures seat { Stays seat.old seat.new }
         ensures posted { PostOk self.now.plan.slots seat.old.me.0 seat.new.me.0 id code attempt result }
+        ensures found_now { PostedNow self.now.plan.slots seat.old.me.0 seat.new.me.0 id code attempt result }
     {
         let id = CorrelationId(id);
         let Some(at) = self.slot_of(id) else {

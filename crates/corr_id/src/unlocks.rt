@@ -25,8 +25,9 @@ pub enum Unlocked<C> {
 }
 
 impl<C> IdTable<C> {
-    /// Opens the id, or hands out the oldest queued error that isn't stale; stale ones are thrown away (`bthread_id_unlock`).
-    /// With `advance` the current attempt grows by one, and then there is an attempt left.
+    /// Opens the id, or hands out the oldest queued error that isn't stale; stale ones are thrown away (`bthread_id_unlock`), and
+    /// no others. It opens only once no error is queued. With `advance` the current attempt grows by one, and then there is an
+    /// attempt left.
     pub fn unlock(&self, seat: &mut IdSeat<C>, lock: IdLock<C>, advance: bool) -> Unlocked<C>
         requires seat { Sits self.now.table.shared.table_id seat.old }
         requires lock { (lock.slot < self.now.plan.slots) × Locks lock.slot seat.old.me.0 (parts lock.word.0) lock.content Empty }

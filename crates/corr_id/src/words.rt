@@ -6,7 +6,7 @@ ghost use Rattle.corr_core.specs.IdTableLayout.{call_index, at_index, all_words}
 ghost use Rattle.id_rule.specs.LawfulIdTable.{notes_of, with_kept};
 ghost use Rattle.corr_id.specs.Ruled.{is_place};
 ghost use Rattle.corr_id.specs.IdTableSeat.{Sits, Stays};
-ghost use Rattle.corr_id.specs.SeatBehindIdCalls.{Quiet, Found};
+ghost use Rattle.corr_id.specs.SeatBehindIdCalls.{Quiet, Found, FoundNow};
 ghost use Rattle.sock_words.specs.Totals.{total};
 
 use crate::plays::{Load, Store};
@@ -81,6 +81,7 @@ impl<C> IdTable<C> {
         ensures seat { Stays seat.old seat.new }
         ensures quiet { Quiet seat.old.me.0 seat.new.me.0 }
         ensures found { id_slot version < self.now.plan.slots → Found (id_slot version) result seat.new.me.0 × (0 < result) }
+        ensures found_now { id_slot version < self.now.plan.slots → FoundNow (id_slot version) result seat.old.me.0 seat.new.me.0 }
         ensures no_slot { self.now.plan.slots ≤ id_slot version → result ≡ 0 }
     {
         let Some(at) = self.slot_of(CorrelationId(version)) else {

@@ -67,9 +67,9 @@ retired_none h c x = by_case (nat_le x 4294967292)
     by_case true = refl
     by_case false = omega arith
 
-ended_none : (h c : ℕ) (ended : Bool) (w : ℕ) (notes : List Mark) → EndedBy ended w notes → total (is_stored h c) notes ≡ 0
-ended_none h c false w notes e = ap (total (is_stored h c)) e
-ended_none h c true w notes e = ap (total (is_stored h c)) e.1 ∙ (let a = retired_none h c (w + 1) in omega (arith, a))
+ended_none : (p : sizes.Plan) (h c : ℕ) (ended : Bool) (w : ℕ) (notes : List Mark) → EndedBy p ended w notes → total (is_stored h c) notes ≡ 0
+ended_none p h c false w notes e = ap (total (is_stored h c)) e
+ended_none p h c true w notes e = ap (total (is_stored h c)) e.1 ∙ (let a = retired_none h c (w + 1) in omega (arith, a))
 
 -- a mark that is none comes to some slot
 one_mark : (f : Mark → ℕ) (i j : ℕ) (m : Mark) (es : List SlotMark) → f m ≡ 0 → total f (about i (at j m ∷ es)) ≡ total f (about i es)
@@ -79,10 +79,10 @@ one_mark f i j m es none_ = dite (ℕ_discrete i j)
 
 module _ (h c i : ℕ) where
   gone_less : (id found : ℕ) (v w : View) → GoneFrom id found v w → codes h c i w ≤ codes h c i v
-  gone_less id found v w g = became_less (is_stored h c) (socket_id_slot id) v w _ [] (let a = ended_none h c g.ended g.version g.notes g.by in omega (arith, a)) g.became i
+  gone_less id found v w g = became_less (is_stored h c) (socket_id_slot id) v w _ [] (let a = ended_none v.plan h c g.ended g.version g.notes g.by in omega (arith, a)) g.became i
 
   returned_less : (id : ℕ) (v w : View) → Returned id v w → codes h c i w ≤ codes h c i v
-  returned_less id v w r = became_less (is_stored h c) (socket_id_slot id) v w r.back.notes (Hold (socket_id_version id) ∷ []) (ended_none h c r.ended r.back.version r.back.notes r.back.by) r.back.became i
+  returned_less id v w r = became_less (is_stored h c) (socket_id_slot id) v w r.back.notes (Hold (socket_id_version id) ∷ []) (ended_none v.plan h c r.ended r.back.version r.back.notes r.back.by) r.back.became i
 
   held_less : (id : ℕ) (v w : View) → Held id v w → codes h c i w ≤ codes h c i v
   held_less id v w b = became_less (is_stored h c) (socket_id_slot id) v w _ [] refl b i

@@ -90,13 +90,13 @@ gave_one id v w ended g = record {
     h = socket_id_version id
 
     none_ : total is_ref g.notes ≡ 0
-    none_ = ended_refs ended g.version g.notes g.by
+    none_ = ended_refs v.plan ended g.version g.notes g.by
 
 pub given : (id : ℕ) (u v w : View) (ended : Bool) → OneMore id u v → GaveBack (socket_id_slot id) v w (Hold (socket_id_version id)) ended → SameRefs u w
 given id u v w ended a g = let b = gave_one id v w ended g in record { refs = λ j. omega (arith, a.refs j, b.refs j); lives = λ j k. omega (arith, a.lives j k, b.lives j k) }
 
 pub gone_refs : (id found : ℕ) (v w : View) → GoneFrom id found v w → SameRefs v w
-gone_refs id found v w g = same_refs (socket_id_slot id) v w _ _ g.became (let a = ended_refs g.ended g.version g.notes g.by in omega arith) refl
+gone_refs id found v w g = same_refs (socket_id_slot id) v w _ _ g.became (let a = ended_refs v.plan g.ended g.version g.notes g.by in omega arith) refl
 
 pub finds_refs : (x id : ℕ) (v w : View) → FindsId x id v w → SameRefs v w
 finds_refs x id v w d = refs_then v m w (same_refs (socket_id_slot id) v m _ _ (adds_mark (socket_id_slot id) (Known (socket_id_version id)) v) refl refl) (refs_none m w (ap (λ (y : View). y.marks) d.view))

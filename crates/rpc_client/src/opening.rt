@@ -20,7 +20,7 @@ pub fn open_none<O: Out>(
     requires operation { operation < table.now.rule.plan.operations }
     requires pass { IsPass table.now.rule.table.shared.table_id table.now.rule.plan pass }
     ensures rest { AtRest table.now.rule.table.shared.table_id table.now.rule.plan seat.old seat.new }
-    ensures by { GotNone table.now.rule.plan operation seat.old.me seat.new.me }
+    ensures by { GotNone table.now.rule.plan operation pass.link seat.old.me seat.new.me }
     ensures refs { SameRefs seat.old.me.0 seat.new.me.0 }
     ensures lists { seat.new.me.0.lists ≡ seat.old.me.0.lists }
     ensures seen { StaysSeen seat.old.me.0 seat.new.me.0 }

@@ -28,7 +28,8 @@ use Rattle.rpc_client.specs.sock_rule.specs.declared.homes.Letter.{Letter}
 use Rattle.rpc_client.specs.sock_table.specs.ReferenceAnswers.{GoneFrom, LinkOf}
 use Rattle.rpc_client.specs.sock_table.specs.NamesStoredAndFound.{HasSeen, FindsId, NotedAs}
 use Rattle.rpc_client.specs.sock_table.specs.LinkPasses.{Created, TriedTo as TriedSlots}
-use Rattle.rpc_client.specs.sock_table.specs.ReferenceCalls.{SameNotes, GaveBack}
+use Rattle.rpc_client.specs.sock_rule.specs.LinkFaultNotes.{end_note}
+use Rattle.rpc_client.specs.sock_table.specs.ReferenceCalls.{FinishedLink, GaveBack}
 use Rattle.rpc_client.specs.sock_table.specs.declared.finding.Noted.{Noted}
 use Rattle.rpc_client.specs.sock_table.specs.declared.finding.Noted.TheVariants as noteds
 use Rattle.rpc_client.specs.sock_table.specs.declared.refs.SockRef.{SockRef}
@@ -204,9 +205,9 @@ put_grew {S} x word m n put = record {
   puts = λ y k. (let e = ap (λ (z : Me S View). put_in y k z.0) put.view in let m_ = note_more y k record { place = x; word = word } m.0.stores in omega arith);
 }
 
-pub notes_grew : (v w : View) → SameNotes v w → Grew v w
-notes_grew v w s = record {
-  marks = λ f note i. (let e = ap (λ l. total f (about i l)) s.marks in omega arith);
+pub finished_grew : (p : Plan) (k : ℕ) (v w : View) → FinishedLink p k v w → Grew v w
+finished_grew p k v w s = record {
+  marks = λ f note i. (let e = ap (λ l. total f (about i l)) s.marks in let more = more_marks f i 0 (end_note p k) v.marks in omega arith);
   seen = λ x h. (h.0, ap (λ l. get_elem? l h.0) s.found ∙ h.1);
   finds = λ x h. (h.0, ap (λ l. get_elem? l h.0) s.finds ∙ h.1);
   dropped = λ x h. (h.0, ap (λ l. get_elem? l h.0) s.drops ∙ h.1);
@@ -227,13 +228,13 @@ created_grew id k v w c = record {
   puts = λ x n. (let q = c.stores x n in omega arith);
 }
 
-pub none_grew : {S : Type 0} (p : Plan) (operation : ℕ) (m n : Me S View) → GotNone p operation m n → Grew m.0 n.0
-none_grew {S} p operation m n b = grew_then m.0 b.finished.0 n.0 (notes_grew m.0 b.finished.0 b.same) (put_grew (open_index p operation) _ b.finished n b.noted)
+pub none_grew : {S : Type 0} (p : Plan) (operation link : ℕ) (m n : Me S View) → GotNone p operation link m n → Grew m.0 n.0
+none_grew {S} p operation link m n b = grew_then m.0 b.finished.0 n.0 (finished_grew p link m.0 b.finished.0 b.same) (put_grew (open_index p operation) _ b.finished n b.noted)
 
 pub opened_grew : {S : Type 0} (p : Plan) (name operation link : ℕ) (by : Outcome) (m n : Me S View) → OpenedBy p name operation link by m n → Grew m.0 n.0
 opened_grew p name operation link (outcome.Opened slot version k) m n b = let o = b.4 in grew_then m.0 o.made.0 n.0 (created_grew b.0.0 link m.0 o.made.0 o.created)
     (grew_then o.made.0 o.told.0 n.0 (put_grew (open_index p operation) (b.0.0 + 1) o.made o.told o.noted) (put_grew (name_index p name) (b.0.0 + 1) o.told n o.published))
-opened_grew p name operation link outcome.SlotsFull m n b = grew_then m.0 b.tried.0 n.0 (tried_grew p.slots m.0 b.tried.0 b.each) (none_grew p operation b.tried n b.none_)
+opened_grew p name operation link outcome.SlotsFull m n b = grew_then m.0 b.tried.0 n.0 (tried_grew p.slots m.0 b.tried.0 b.each) (none_grew p operation link b.tried n b.none_)
 opened_grew p name operation link _ m n b = elim b [ ]
 
 -- ## Holding and failing

@@ -174,7 +174,7 @@ module _ {O : Type 0} {g : Ghosts O} {state : O → OutState} {p : Plan} {client
       let o = (subst (λ (x : Did). DoneBy g state p x b.d.before b.d.after) is (done_of run b)).0 in
       let f = o.2 in
       let e = f.each.each slot low is_tried in
-      let g1 = (none_grew p number f.tried (b.d.after.view, o.1) f.none_).marks is_tried (λ x. refl) slot in
+      let g1 = (none_grew p number link f.tried (b.d.after.view, o.1) f.none_).marks is_tried (λ x. refl) slot in
       let all = has_marks run b is_tried (λ x. refl) slot in
       born_made slot p.first (run.closed.closing.full slot low (omega arith))
 

@@ -27,7 +27,8 @@ use Rattle.rpc_client.specs.sock_rule.specs.declared.homes.Letter.{Letter}
 use Rattle.rpc_client.specs.sock_table.specs.ReferenceAnswers.{Held as HeldOne, GoneFrom, LinkOf}
 use Rattle.rpc_client.specs.sock_table.specs.NamesStoredAndFound.{FindsId, NotedAs}
 use Rattle.rpc_client.specs.sock_table.specs.LinkPasses.{Created, TriedTo as TriedSlots}
-use Rattle.rpc_client.specs.sock_table.specs.ReferenceCalls.{SameNotes, GaveBack, EndedBy, retired}
+use Rattle.rpc_client.specs.sock_rule.specs.LinkFaultNotes.{end_note}
+use Rattle.rpc_client.specs.sock_table.specs.ReferenceCalls.{FinishedLink, GaveBack, EndedBy, retired}
 use Rattle.rpc_client.specs.sock_table.specs.declared.finding.Noted.{Noted as NotedKind}
 use Rattle.rpc_client.specs.sock_table.specs.declared.finding.Noted.TheVariants as noteds
 use Rattle.rpc_client.specs.sock_table.specs.declared.refs.SockRef.{SockRef}
@@ -97,15 +98,15 @@ module _ (f : Mark → ℕ) (z : IsOfLife f) where
       by_case true = refl
       by_case false = let e = z (Recycling x) refl in omega arith
 
-  ended_none : (ended : Bool) (w : ℕ) (notes : List Mark) → EndedBy ended w notes → total f notes ≡ 0
-  ended_none false w notes e = ap (total f) e
-  ended_none true w notes e = ap (total f) e.1 ∙ (let a = z (Freer (Rattle.std.proofs.Common.◌-◌ w 1)) refl in let b = z (Met (Rattle.std.proofs.Common.◌-◌ (w + 1) 2) e.0) refl in let c = retired_none (w + 1) in omega arith)
+  ended_none : (p : Plan) (ended : Bool) (w : ℕ) (notes : List Mark) → EndedBy p ended w notes → total f notes ≡ 0
+  ended_none p false w notes e = ap (total f) e
+  ended_none p true w notes e = ap (total f) e.1 ∙ (let a = z (Freer (Rattle.std.proofs.Common.◌-◌ w 1)) refl in let b = z (Met (Rattle.std.proofs.Common.◌-◌ (w + 1) 2) e.0) refl in let c = retired_none (w + 1) in let d = z (end_note p e.0) refl in omega arith)
 
   pub found_same : (x id : ℕ) (v w : View) → FindsId x id v w → Same f v w
   found_same x id v w d i = ap (marks_of f i) d.view ∙ one_mark f i (socket_id_slot id) (Known (socket_id_version id)) v.marks (z (Known (socket_id_version id)) refl)
 
   pub back_same : (i h : ℕ) (v w : View) (ended : Bool) → GaveBack i v w (Hold h) ended → Same f v w
-  back_same i h v w ended g = became_same f i v w g.notes (Hold h ∷ []) (ended_none ended g.version g.notes g.by) (let e = z (Hold h) refl in omega arith) g.became
+  back_same i h v w ended g = became_same f i v w g.notes (Hold h ∷ []) (ended_none v.plan ended g.version g.notes g.by) (let e = z (Hold h) refl in omega arith) g.became
 
   pub returned_same : (id : ℕ) (v w : View) → Returned id v w → Same f v w
   returned_same id v w r = back_same (socket_id_slot id) (socket_id_version id) v w r.ended r.back
@@ -113,7 +114,7 @@ module _ (f : Mark → ℕ) (z : IsOfLife f) where
   pub reached_same : (p : Plan) (n : ℕ) (r : Reached) (v w : View) → ReachedBy p n r v w → Same f v w
   reached_same p n reached.Unopened v w r = same_as f v w r.0
   reached_same p n (reached.Gone found) v w r = same_then f v r.1 w (found_same (name_index p n) r.0.0 v r.1 r.2.1)
-      (became_same f (socket_id_slot r.0.0) r.1 w _ [] (let e = ended_none r.3.ended r.3.version r.3.notes r.3.by in let a = z (Saw (vref_version found.0)) refl in omega arith) refl r.3.became)
+      (became_same f (socket_id_slot r.0.0) r.1 w _ [] (let e = ended_none r.1.plan r.3.ended r.3.version r.3.notes r.3.by in let a = z (Saw (vref_version found.0)) refl in omega arith) refl r.3.became)
   reached_same p n (reached.Here sock) v w r = same_then f v r.0 w (found_same (name_index p n) sock.id.0 v r.0 r.1.1)
       (became_same f (socket_id_slot sock.id.0) r.0 w _ [] (let a = z (Saw (socket_id_version sock.id.0)) refl in let b = z (Hold (socket_id_version sock.id.0)) refl in omega arith) refl r.2)
 
@@ -187,14 +188,14 @@ module _ (f : Mark → ℕ) (z : IsOfLife f) where
   put_same : {S : Type 0} (x word : ℕ) (m n : Me S View) → PutAt x word m n → Same f m.0 n.0
   put_same {S} x word m n put i = ap (λ (y : Me S View). marks_of f i y.0) put.view
 
-  notes_same : (v w : View) → SameNotes v w → Same f v w
-  notes_same v w s i = ap (λ l. total f (about i l)) s.marks
+  finished_same : (p : Plan) (k : ℕ) (v w : View) → FinishedLink p k v w → Same f v w
+  finished_same p k v w s i = ap (λ l. total f (about i l)) s.marks ∙ one_mark f i 0 (end_note p k) v.marks (z (end_note p k) refl)
 
   tried_same : (n : ℕ) (v w : View) → TriedSlots n v w → Same f v w
   tried_same n v w t j = dite (dec_lt j n) (λ lt. let e = t.each j lt f in let y = z Tried refl in omega arith) (λ ge. ap (total f) (t.elsewhere j (omega arith)))
 
-  none_same : {S : Type 0} (p : Plan) (operation : ℕ) (m n : Me S View) → GotNone p operation m n → Same f m.0 n.0
-  none_same {S} p operation m n b = same_then f m.0 b.finished.0 n.0 (notes_same m.0 b.finished.0 b.same) (put_same (open_index p operation) _ b.finished n b.noted)
+  none_same : {S : Type 0} (p : Plan) (operation link : ℕ) (m n : Me S View) → GotNone p operation link m n → Same f m.0 n.0
+  none_same {S} p operation link m n b = same_then f m.0 b.finished.0 n.0 (finished_same p link m.0 b.finished.0 b.same) (put_same (open_index p operation) _ b.finished n b.noted)
 
   created_at : (id k : ℕ) (v w : View) → Created id k v w → (i : ℕ) → marks_of f i v < marks_of f i w → (socket_id_slot id ≡ i) × (0 < f (Linked (socket_id_version id) k) + f (Born (socket_id_version id)))
   created_at id k v w c i less = dite (ℕ_discrete i (socket_id_slot id))
@@ -209,7 +210,7 @@ module _ (f : Mark → ℕ) (z : IsOfLife f) where
       let e' = put_same (name_index p name) (b.0.0 + 1) o.told n o.published i in
       let c = created_at b.0.0 link m.0 o.made.0 o.created i (omega arith) in
       (socket_id_version b.0.0, (λ x. outcome.Opened ((b.1 ∙ c.0) x) (b.2 x) (b.3 x)), c.1)
-  opened_source p name operation link outcome.SlotsFull m n b i less = absurd (not_more f m.0 n.0 (same_then f m.0 b.tried.0 n.0 (tried_same p.slots m.0 b.tried.0 b.each) (none_same p operation b.tried n b.none_)) i less)
+  opened_source p name operation link outcome.SlotsFull m n b i less = absurd (not_more f m.0 n.0 (same_then f m.0 b.tried.0 n.0 (tried_same p.slots m.0 b.tried.0 b.each) (none_same p operation link b.tried n b.none_)) i less)
   opened_source p name operation link _ m n b i less = elim b [ ]
 
   -- ## Holding and failing
@@ -264,7 +265,7 @@ module _ (f : Mark → ℕ) (z : IsOfLife f) where
   looked_same p number (noteds.Id id) v w b = found_same (open_index p number) id.0 v w b.1
 
   gone_same : (id found : ℕ) (v w : View) → GoneFrom id found v w → Same f v w
-  gone_same id found v w b = became_same f (socket_id_slot id) v w _ [] (let e = ended_none b.ended b.version b.notes b.by in let a = z (Saw (vref_version found)) refl in omega arith) refl b.became
+  gone_same id found v w b = became_same f (socket_id_slot id) v w _ [] (let e = ended_none v.plan b.ended b.version b.notes b.by in let a = z (Saw (vref_version found)) refl in omega arith) refl b.became
 
   taken_same : (id : ℕ) (v w : View) → HeldOne id v w → Same f v w
   taken_same id v w b = became_same f (socket_id_slot id) v w _ [] (let a = z (Saw (socket_id_version id)) refl in let h = z (Hold (socket_id_version id)) refl in omega arith) refl b

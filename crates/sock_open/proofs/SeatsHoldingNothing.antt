@@ -12,6 +12,7 @@ use Rattle.sock_model.specs.declared.view.View.{View}
 use Rattle.sock_model.specs.MarkWeights.{is_ref, is_probe, is_known, is_hold}
 use Rattle.sock_model.specs.Marks.{about}
 use Rattle.sock_model.specs.SlotRows.{marks_of}
+use Rattle.sock_rule.specs.LinkFaultNotes.{end_note}
 use Rattle.sock_table.specs.slot_steps.proofs.SlotWeightSums.{total_mono, total-append}
 use Rattle.sock_table.specs.slot_steps.proofs.RuleNumbers.{only-same}
 use Rattle.sock_rule.specs.MarksComeAndGo.{Became}
@@ -51,20 +52,20 @@ module _ {S : Type 0} (z : TableId) (p : Plan) where
   pub may_address : (s : Seat S View) (id : ℕ) → IsDoneSeat z p s → socket_id_slot id < p.slots → 0 < marks_of (is_known (socket_id_version id)) (socket_id_slot id) s.me.0 → MayAddress p s.me.0 id
   may_address s id d inside known = record { inside = inside; known = known; room = (let a = d.done.unheld (socket_id_slot id) inside in omega arith) }
 
-pub ended_refs : (b : Bool) (w : ℕ) (notes : List Mark) → EndedBy b w notes → total is_ref notes ≡ 0
-ended_refs false w notes is = ap (total is_ref) is
-ended_refs true w notes is = ap (total is_ref) is.1 ∙ by_cases (nat_le (w + 1) 4294967292)
+pub ended_refs : (p : Plan) (b : Bool) (w : ℕ) (notes : List Mark) → EndedBy p b w notes → total is_ref notes ≡ 0
+ended_refs p false w notes is = ap (total is_ref) is
+ended_refs p true w notes is = ap (total is_ref) is.1 ∙ by_cases (nat_le (w + 1) 4294967292)
   where
-    by_cases : (b : Bool) → total is_ref (Freer (w - 1) ∷ Met (w + 1 - 2) is.0 ∷ cond b [] (Recycling (w + 1) ∷ [])) ≡ 0
+    by_cases : (b : Bool) → total is_ref (Freer (w - 1) ∷ Met (w + 1 - 2) is.0 ∷ end_note p is.0 ∷ cond b [] (Recycling (w + 1) ∷ [])) ≡ 0
     by_cases true = refl
     by_cases false = refl
 
 pub gone_same : (p : Plan) (id found : ℕ) (v w : View) → GoneFrom id found v w → SameTokens p v w
-gone_same p id found v w g = became_same p (socket_id_slot id) v w _ _ g.became (let a = ended_refs g.ended g.version g.notes g.by in omega arith)
+gone_same p id found v w g = became_same p (socket_id_slot id) v w _ _ g.became (let a = ended_refs v.plan g.ended g.version g.notes g.by in omega arith)
 
 -- a reference came and went, and between only notes came
 pub visited : (p : Plan) (id : ℕ) (u v w x : View) (ended : Bool) → Held id u v → (adds : List Mark) × (total is_ref adds ≡ 0) × Became (socket_id_slot id) v w adds [] → GaveBack (socket_id_slot id) w x (Hold (socket_id_version id)) ended → SameTokens p u x
-visited p id u v w x ended a b c = let i : ℕ = socket_id_slot id in let h : ℕ = socket_id_version id in let n = ended_refs ended c.version c.notes c.by in let ab = then_ i a b.2 in
+visited p id u v w x ended a b c = let i : ℕ = socket_id_slot id in let h : ℕ = socket_id_version id in let n = ended_refs w.plan ended c.version c.notes c.by in let ab = then_ i a b.2 in
     let all = then_ i ab c.became in
     became_same p (socket_id_slot id) u x _ _ all (omega (arith, total-append is_ref (Saw (socket_id_version id) ∷ Hold (socket_id_version id) ∷ [] ++ b.0) c.notes, total-append is_ref (Saw (socket_id_version id) ∷ Hold (socket_id_version id) ∷ []) b.0, n, b.1))
 

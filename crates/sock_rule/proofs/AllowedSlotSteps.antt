@@ -65,7 +65,7 @@ module _ {S : Type 0} (shows : S → Home) (rose : S → ℕ) (p : Plan) (slots 
     claimed i tag v,
     keeps,
     tt,
-    beside t id v (claimed i tag v) here some_ (set s.words (tag_index i) 1) s.homes (refl, λ l ll. refl) record { share = refl; lists = refl; finds = refl; stores = λ x y. omega arith; accepts = λ l. omega arith; labels = λ x. x } record { faults = λ l. claimed_same l i v tag; outs = λ l. omega arith } (slot_settled t.settled _ _ (omega arith) (λ j e. omega arith)) (claim_rule t.rule id v here mine i inside),
+    beside t id v (claimed i tag v) here some_ (set s.words (tag_index i) 1) s.homes (refl, λ l ll. refl) record { share = refl; lists = refl; finds = refl; stores = λ x y. omega arith; accepts = λ l. omega arith; labels = λ x. x } record { faults = λ l. claimed_same l i v tag; outs = λ l. omega arith; hands = λ k. refl } (slot_settled t.settled _ _ (omega arith) (λ j e. omega arith)) (claim_rule t.rule id v here mine i inside),
     of_tag (λ y. claimed y tag v),
   )
 
@@ -75,7 +75,7 @@ module _ {S : Type 0} (shows : S → Home) (rose : S → ℕ) (p : Plan) (slots 
     gave_birth i found k v,
     keeps,
     tt,
-    beside t id v (gave_birth i found k v) here some_ (set s.words (ref_index i) ((found + 1) % 2 ^ 64)) s.homes (refl, λ l ll. refl) record { share = refl; lists = refl; finds = refl; stores = λ x y. omega arith; accepts = λ l. omega arith; labels = λ x. x } record { faults = λ l. birth_same l i v found k; outs = λ l. omega arith } (slot_settled t.settled _ _ (omega arith) (λ j e. omega arith))
+    beside t id v (gave_birth i found k v) here some_ (set s.words (ref_index i) ((found + 1) % 2 ^ 64)) s.homes (refl, λ l ll. refl) record { share = refl; lists = refl; finds = refl; stores = λ x y. omega arith; accepts = λ l. omega arith; labels = λ x. x } record { faults = λ l. birth_same l i v found k; outs = λ l. omega arith; hands = λ k. refl } (slot_settled t.settled _ _ (omega arith) (λ j e. omega arith))
         (birth_rule t.rule id v here mine i inside fits k there),
     (
       omega arith,
@@ -93,7 +93,7 @@ module _ {S : Type 0} (shows : S → Home) (rose : S → ℕ) (p : Plan) (slots 
     added i found b v,
     keeps,
     tt,
-    beside t id v (added i found b v) here some_ (set s.words (ref_index i) ((found + 1) % 2 ^ 64)) s.homes (refl, λ l ll. refl) record { share = refl; lists = refl; finds = refl; stores = λ x y. omega arith; accepts = λ l. omega arith; labels = λ x. x } record { faults = λ l. added_same l i v found b; outs = λ l. omega arith } (slot_settled t.settled _ _ (omega arith) (λ j e. omega arith))
+    beside t id v (added i found b v) here some_ (set s.words (ref_index i) ((found + 1) % 2 ^ 64)) s.homes (refl, λ l ll. refl) record { share = refl; lists = refl; finds = refl; stores = λ x y. omega arith; accepts = λ l. omega arith; labels = λ x. x } record { faults = λ l. added_same l i v found b; outs = λ l. omega arith; hands = λ k. refl } (slot_settled t.settled _ _ (omega arith) (λ j e. omega arith))
         (add_rule t.rule id v here mine i inside fits b (λ e. ltb-true 0 (marks_of (is_known h) i v) e) room),
     (omega arith, λ x at. (of_ref (λ y. added y found (knows y h v) v) x at, word_fits s t here fits x at)),
   )
@@ -104,7 +104,7 @@ module _ {S : Type 0} (shows : S → Home) (rose : S → ℕ) (p : Plan) (slots 
     subbed i found (back i found v) v,
     keeps,
     tt,
-    beside t id v (subbed i found (back i found v) v) here some_ (set s.words (ref_index i) ((found + (2 ^ 64 - 1)) % 2 ^ 64)) s.homes (refl, λ l ll. refl) record { share = refl; lists = refl; finds = refl; stores = λ x y. omega arith; accepts = λ l. omega arith; labels = λ x. x } record { faults = λ l. subbed_same l i v found; outs = λ l. omega arith } (slot_settled t.settled _ _ (omega arith) (λ j e. omega arith))
+    beside t id v (subbed i found (back i found v) v) here some_ (set s.words (ref_index i) ((found + (2 ^ 64 - 1)) % 2 ^ 64)) s.homes (refl, λ l ll. refl) record { share = refl; lists = refl; finds = refl; stores = λ x y. omega arith; accepts = λ l. omega arith; labels = λ x. x } record { faults = λ l. subbed_same l i v found; outs = λ l. omega arith; hands = λ k. refl } (slot_settled t.settled _ _ (omega arith) (λ j e. omega arith))
         (sub_rule t.rule id v here mine i inside fits there idle rights),
     (some_ref p s refs id v here me.1 keeps i inside there, (refs.slots i inside).top, λ x at. (of_ref (λ y. subbed y found (back y found v) v) x at, word_fits s t here fits x at, (let own = own_count s id v here is_ref i in let counted = (refs.slots i inside).counted in let e : i ≡ x = omega arith in subst (λ (y : ℕ). marks_of is_ref y v ≤ vref_nref found) e (omega arith)))),
   )
@@ -115,7 +115,7 @@ module _ {S : Type 0} (shows : S → Home) (rose : S → ℕ) (p : Plan) (slots 
     failed i found v,
     keeps,
     tt,
-    beside t id v (failed i found v) here some_ (set s.words (ref_index i) (bit_or found 4294967296)) s.homes (refl, λ l ll. refl) record { share = refl; lists = refl; finds = refl; stores = λ x y. omega arith; accepts = λ l. omega arith; labels = λ x. x } record { faults = λ l. failed_same l i v found; outs = λ l. omega arith } (slot_settled t.settled _ _ (omega arith) (λ j e. omega arith))
+    beside t id v (failed i found v) here some_ (set s.words (ref_index i) (bit_or found 4294967296)) s.homes (refl, λ l ll. refl) record { share = refl; lists = refl; finds = refl; stores = λ x y. omega arith; accepts = λ l. omega arith; labels = λ x. x } record { faults = λ l. failed_same l i v found; outs = λ l. omega arith; hands = λ k. refl } (slot_settled t.settled _ _ (omega arith) (λ j e. omega arith))
         (set_odd_rule t.rule id v here mine i inside fits h there room),
     λ x at. (of_ref (λ y. failed y found v) x at, word_fits s t here fits x at),
   )
@@ -127,7 +127,7 @@ module _ {S : Type 0} (shows : S → Home) (rose : S → ℕ) (p : Plan) (slots 
     w,
     keeps,
     tt,
-    beside t id v w here some_ (set s.words (ref_index i) (either (eqb found from) next found)) s.homes (refl, λ l ll. refl) record { share = refl; lists = refl; finds = refl; stores = λ x y. omega arith; accepts = λ l. omega arith; labels = λ x. x } record { faults = λ l. recycled_same l i v from found; outs = λ l. omega arith } (slot_settled t.settled _ _ (omega arith) (λ j e. omega arith))
+    beside t id v w here some_ (set s.words (ref_index i) (either (eqb found from) next found)) s.homes (refl, λ l ll. refl) record { share = refl; lists = refl; finds = refl; stores = λ x y. omega arith; accepts = λ l. omega arith; labels = λ x. x } record { faults = λ l. recycled_same l i v from found; outs = λ l. omega arith; hands = λ k. refl } (slot_settled t.settled _ _ (omega arith) (λ j e. omega arith))
         (exchanged found from next (λ n. Rule shows p (stepped s (ref_index i) n id [] w keeps))
         (λ hit. subst (λ (n : ℕ). Rule shows p (stepped s (ref_index i) n id [] w keeps)) is_next (recycle_rule t.rule id v here mine i inside fits from hit odd last there))
         (λ miss. recycle_lost_rule t.rule id v here mine i inside fits from miss last there)),
@@ -145,7 +145,7 @@ module _ {S : Type 0} (shows : S → Home) (rose : S → ℕ) (p : Plan) (slots 
     freed i v,
     keeps,
     tt,
-    beside t id v (freed i v) here some_ (set s.words (tag_index i) 0) s.homes (refl, λ l ll. refl) record { share = refl; lists = refl; finds = refl; stores = λ y z. omega arith; accepts = λ l. omega arith; labels = λ x. x } record { faults = λ l. freed_same l i v; outs = λ l. omega arith } (slot_settled t.settled _ _ (omega arith) (λ j e. omega arith)) (free_rule t.rule id v here mine i inside x there low empty),
+    beside t id v (freed i v) here some_ (set s.words (tag_index i) 0) s.homes (refl, λ l ll. refl) record { share = refl; lists = refl; finds = refl; stores = λ y z. omega arith; accepts = λ l. omega arith; labels = λ x. x } record { faults = λ l. freed_same l i v; outs = λ l. omega arith; hands = λ k. refl } (slot_settled t.settled _ _ (omega arith) (λ j e. omega arith)) (free_rule t.rule id v here mine i inside x there low empty),
     of_tag (λ y. freed y v),
   )
 
@@ -155,6 +155,6 @@ module _ {S : Type 0} (shows : S → Home) (rose : S → ℕ) (p : Plan) (slots 
     looked i found v,
     keeps,
     tt,
-    beside t id v (looked i found v) here some_ (set s.words (ref_index i) found) s.homes (refl, λ l ll. refl) record { share = refl; lists = refl; finds = refl; stores = λ x y. omega arith; accepts = λ l. omega arith; labels = λ x. x } record { faults = λ l. omega arith; outs = λ l. omega arith } (slot_settled t.settled _ _ (omega arith) (λ j e. omega arith)) (look_rule t.rule id v here mine i inside fits),
+    beside t id v (looked i found v) here some_ (set s.words (ref_index i) found) s.homes (refl, λ l ll. refl) record { share = refl; lists = refl; finds = refl; stores = λ x y. omega arith; accepts = λ l. omega arith; labels = λ x. x } record { faults = λ l. omega arith; outs = λ l. omega arith; hands = λ k. refl } (slot_settled t.settled _ _ (omega arith) (λ j e. omega arith)) (look_rule t.rule id v here mine i inside fits),
     λ x at. (of_ref (λ y. looked y found v) x at, word_fits s t here fits x at),
   )

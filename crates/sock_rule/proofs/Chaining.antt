@@ -110,7 +110,7 @@ module _ {S : Type 0} (shows : S → Home) (rose : S → ℕ) (p : Plan) (slots 
         takes r home.0,
         home.1,
         beside t id v (with_claim v (fresh_claim 0 r found blank [])) here some_ (set s.words (request_index p r) (bit_or found 1)) (set s.homes r none) (homes_else p s.homes r none inside)
-            record { share = refl; lists = refl; finds = refl; stores = λ y z. omega arith; accepts = λ l. omega arith; labels = claim_labelled p v (fresh_claim 0 r found blank []) (λ f. absurd (no_truth f)) } record { faults = λ l. omega arith; outs = λ l. omega arith }
+            record { share = refl; lists = refl; finds = refl; stores = λ y z. omega arith; accepts = λ l. omega arith; labels = claim_labelled p v (fresh_claim 0 r found blank []) (λ f. absurd (no_truth f)) } record { faults = λ l. omega arith; outs = λ l. omega arith; hands = λ k. refl }
             (subst (λ n. Rattle.sock_rule.specs.OnTable.Settled p t.stored t.placed (set s.words (request_index p r) n) (set s.homes r none)) next (taken_settled t.settled r (2 * g + 1) inside (omega arith) (omega (arith, o.references.sized))))
             (subst (λ n. Rule shows p record { words = set s.words (request_index p r) n; homes = set s.homes r none; views = set s.views id (with_claim v (fresh_claim 0 r found blank [])) }) next rule),
         λ q at. let e = same_request r q mine at in (
@@ -122,7 +122,7 @@ module _ {S : Type 0} (shows : S → Home) (rose : S → ℕ) (p : Plan) (slots 
         noting (request_index p r) v,
         keeps,
         tt,
-        beside t id v (noting (request_index p r) v) here some_ (set s.words (request_index p r) (bit_or found 1)) s.homes (refl, λ l ll. refl) record { share = refl; lists = refl; finds = refl; stores = λ y z. omega arith; accepts = λ l. omega arith; labels = λ x. x } record { faults = λ l. omega arith; outs = λ l. omega arith }
+        beside t id v (noting (request_index p r) v) here some_ (set s.words (request_index p r) (bit_or found 1)) s.homes (refl, λ l ll. refl) record { share = refl; lists = refl; finds = refl; stores = λ y z. omega arith; accepts = λ l. omega arith; labels = λ x. x } record { faults = λ l. omega arith; outs = λ l. omega arith; hands = λ k. refl }
             (subst (λ n. Rattle.sock_rule.specs.OnTable.Settled p t.stored t.placed (set s.words (request_index p r) n) s.homes) (sym (odd_stays found (omega arith))) (load_settled t.settled (request_index p r)))
             (tried_rule t.rule id v here mine r inside (omega arith)),
         λ q at. ((λ even. absurd (odd even)), λ z. ap (λ (x : ℕ). (noting x v, me.1)) at),
@@ -149,7 +149,7 @@ module _ {S : Type 0} (shows : S → Home) (rose : S → ℕ) (p : Plan) (slots 
         tt,
         subst (λ (l : List (ℕ × S)). OnTable shows rose p record { words = set s.words (link_index i) k; homes = put_back s.homes l; views = set s.views id (with_claim (met_link i h k v) (filled_claim (record c { link = k }) heading bytes)) }) (sym top)
             (beside t id v (with_claim (met_link i h k v) (filled_claim (record c { link = k }) heading bytes)) here some_ (set s.words (link_index i) k) (set s.homes c.request (some y)) (homes_else p s.homes c.request (some y) low)
-            record { share = refl; lists = refl; finds = refl; stores = λ a b. omega arith; accepts = λ l. omega arith; labels = claim_labelled p v (filled_claim (record c { link = k }) heading bytes) (λ f. label) } record { faults = λ l. omega arith; outs = λ l. omega arith }
+            record { share = refl; lists = refl; finds = refl; stores = λ a b. omega arith; accepts = λ l. omega arith; labels = claim_labelled p v (filled_claim (record c { link = k }) heading bytes) (λ f. label) } record { faults = λ l. omega arith; outs = λ l. omega arith; hands = λ k. refl }
             (home_back_settled (load_settled t.settled (link_index i)) c.request y short) rule),
         λ d z x g is at word other. let e : i ≡ x = omega arith in let same : h ≡ g = held_is shows rose p slots id me mine some_ i inside s t here h g there (subst (λ (q : ℕ). 0 < marks_of (is_hold g) q me.0) (sym e) other) in
             let same_c = the_claim me.0.claims c d claim is in let same_y : (c.request, y) ≡ z = first_is (c.request, y) z below (rest me.1) (sym top ∙ at) in
@@ -166,7 +166,7 @@ module _ {S : Type 0} (shows : S → Home) (rose : S → ℕ) (p : Plan) (slots 
     with_claim v (ready_claim c),
     keeps,
     tt,
-    beside t id v (with_claim v (ready_claim c)) here some_ (set s.words (next_index p c.request) UNCONNECTED) s.homes (refl, λ l ll. refl) record { share = refl; lists = refl; finds = refl; stores = λ y z. omega arith; accepts = λ l. omega arith; labels = claim_labelled p v (ready_claim c) (label_of s t here c claim) } record { faults = λ l. omega arith; outs = λ l. omega arith }
+    beside t id v (with_claim v (ready_claim c)) here some_ (set s.words (next_index p c.request) UNCONNECTED) s.homes (refl, λ l ll. refl) record { share = refl; lists = refl; finds = refl; stores = λ y z. omega arith; accepts = λ l. omega arith; labels = claim_labelled p v (ready_claim c) (label_of s t here c claim) } record { faults = λ l. omega arith; outs = λ l. omega arith; hands = λ k. refl }
         (next_settled t.settled c.request UNCONNECTED low)
         (ready_rule t.rule id v here mine c.request UNCONNECTED (ready_claim c) (readying_law o id c.request v c (ready_claim c) here low claim refl refl refl (λ f. o.messages.claimed c.request c low alone f))),
     λ d is. ap (λ (x : Claim). (with_claim v (ready_claim x), me.1)) (the_claim me.0.claims c d claim is),
@@ -180,7 +180,7 @@ module _ {S : Type 0} (shows : S → Home) (rose : S → ℕ) (p : Plan) (slots 
         keeps,
         tt,
         beside t id v (righted v x.claim found r.0 r.1) here some_ (set s.words (head_index i) own) s.homes (refl, λ l ll. refl)
-            record { share = refl; lists = same_lists v x.made x.taken_in (entry_of x.claim (found - IDLE)) x.lists; finds = refl; stores = λ y z. omega arith; accepts = λ l. more_accepts l v (entry_of x.claim (found - IDLE)); labels = more_labelled p v.lists v.claims (entry_of x.claim (found - IDLE)) (label_of s t here x.claim x.claims x.is_filled) } record { faults = λ l. omega arith; outs = λ l. omega arith }
+            record { share = refl; lists = same_lists v x.made x.taken_in (entry_of x.claim (found - IDLE)) x.lists; finds = refl; stores = λ y z. omega arith; accepts = λ l. more_accepts l v (entry_of x.claim (found - IDLE)); labels = more_labelled p v.lists v.claims (entry_of x.claim (found - IDLE)) (label_of s t here x.claim x.claims x.is_filled) } record { faults = λ l. omega arith; outs = λ l. omega arith; hands = λ k. refl }
             (slot_settled t.settled (head_index i) own (omega arith) (λ j e. omega arith)) r.2,
         λ c is. let q = the_claim me.0.claims x.claim c x.claims is in (refl, (λ low. absurd (omega arith)), λ h. (r.0, r.1, ap (λ (y : Claim). righted me.0 y (get_or s.words (head_index i) 0) r.0 r.1) q)),
       ))
@@ -189,7 +189,7 @@ module _ {S : Type 0} (shows : S → Home) (rose : S → ℕ) (p : Plan) (slots 
         keeps,
         tt,
         beside t id v (queued v x.claim found) here some_ (set s.words (head_index i) own) s.homes (refl, λ l ll. refl)
-            record { share = refl; lists = same_lists v x.made x.taken_in (entry_of x.claim found) x.lists; finds = refl; stores = λ y z. omega arith; accepts = λ l. more_accepts l v (entry_of x.claim found); labels = more_labelled p v.lists v.claims (entry_of x.claim found) (label_of s t here x.claim x.claims x.is_filled) } record { faults = λ l. omega arith; outs = λ l. omega arith }
+            record { share = refl; lists = same_lists v x.made x.taken_in (entry_of x.claim found) x.lists; finds = refl; stores = λ y z. omega arith; accepts = λ l. more_accepts l v (entry_of x.claim found); labels = more_labelled p v.lists v.claims (entry_of x.claim found) (label_of s t here x.claim x.claims x.is_filled) } record { faults = λ l. omega arith; outs = λ l. omega arith; hands = λ k. refl }
             (slot_settled t.settled (head_index i) own (omega arith) (λ j e. omega arith))
             (queued_rule t.rule id v here mine i own x inside room (lt_of_not-le low)),
         λ c is. let q = the_claim me.0.claims x.claim c x.claims is in (refl, (λ h. ap (λ (y : Claim). queued me.0 y (get_or s.words (head_index i) 0)) q), λ high. absurd (low high)),
@@ -201,7 +201,7 @@ module _ {S : Type 0} (shows : S → Home) (rose : S → ℕ) (p : Plan) (slots 
     without_loose v l.request,
     keeps,
     tt,
-    beside t id v (without_loose v l.request) here some_ (set s.words (next_index p l.request) l.before) s.homes (refl, λ l ll. refl) record { share = refl; lists = refl; finds = refl; stores = λ y z. omega arith; accepts = λ l. omega arith; labels = λ x. x } record { faults = λ l. omega arith; outs = λ l. omega arith }
+    beside t id v (without_loose v l.request) here some_ (set s.words (next_index p l.request) l.before) s.homes (refl, λ l ll. refl) record { share = refl; lists = refl; finds = refl; stores = λ y z. omega arith; accepts = λ l. omega arith; labels = λ x. x } record { faults = λ l. omega arith; outs = λ l. omega arith; hands = λ k. refl }
         (next_settled t.settled l.request l.before low) (connecting_rule t.rule id v here mine n l low has),
     λ q at. let e : next_index p l.request ≡ next_index p q = at ∙ ap (λ (z : Plan). next_index z q) mine in let same : l.request ≡ q = omega arith in ap (λ (x : ℕ). (without_loose v x, me.1)) same,
   )

@@ -87,7 +87,7 @@ finds_beside {S} {shows} {rose} {p} {s} t id v u here some_ mine ws x word was s
       put = λ y z. t.put y z ∙ more y z;
       placed = t.placed;
       drops = λ l ll. drop_stays p s.views (set s.views id w) l (t.placed l) (λ n. more (place_index p l) n) (omega (arith, total-set (labelled_in l) s.views id v w here, same.accepts (is_labelled l))) (t.drops l ll);
-      faults = λ k kl. calm id v w here ws s.homes k (t.faults k kl) refl (c.faults k) (c.outs k);
+      faults = λ k kl. calm id v w here ws s.homes k (t.faults k kl) refl (c.faults k) (c.outs k) (c.faults (p.links + k)) (c.hands k);
       settled = kept;
       met = λ j z g n h e. ⊎_elim (λ y. own_met n h (subst (λ (q : View). get_elem? q.histories n ≡ some h) (sym y.1) e)) (λ y. t.met j z y.1 n h e) (at_set s.views id j w z g);
       labelled = λ j z g. ⊎_elim (λ y. subst (Labelled p) y.1 (same.labels (t.labelled id v here))) (λ y. t.labelled j z y.1) (at_set s.views id j w z g);
@@ -121,7 +121,7 @@ puts_beside {S} {shows} {rose} {p} {s} t id v here some_ mine ws x word low kept
       put = λ y z. let a = t.put y z in omega (arith, more y z);
       placed = t.placed;
       drops = λ l ll. drop_stays p s.views (set s.views id w) l (t.placed l) (λ n. omega (arith, more (place_index p l) n, pair_only (place_index p l) n x word, only-else (place_index p l) x (λ e. omega arith))) (omega (arith, total-set (labelled_in l) s.views id v w here)) (t.drops l ll);
-      faults = λ k kl. calm id v w here ws s.homes k (t.faults k kl) refl refl refl;
+      faults = λ k kl. calm id v w here ws s.homes k (t.faults k kl) refl refl refl refl refl;
       settled = kept;
       met = λ j z g n h e. ⊎_elim (λ y. own n h (subst (λ (q : View). get_elem? q.histories n ≡ some h) (sym y.1) e)) (λ y. further h (t.met j z y.1 n h e)) (at_set s.views id j w z g);
       labelled = λ j z g. ⊎_elim (λ y. subst (Labelled p) y.1 (t.labelled id v here)) (λ y. t.labelled j z y.1) (at_set s.views id j w z g);

@@ -17,7 +17,7 @@ use Rattle.sock_model.specs.declared.chain.Right.{Right}
 use Rattle.sock_model.specs.ChainRows.{with_right, taken_right, dropped_right}
 use Rattle.sock_rule.specs.NotesBesideRows.{dropped_at}
 use Rattle.sock_rule.specs.ChainPlays.{TookOwn, TookLetter}
-use Rattle.sock_rule.specs.LinkFaultNotes.{faults_of, fault_found, fault_left, CameOut}
+use Rattle.sock_rule.specs.LinkFaultNotes.{faults_of, fault_found, fault_left, noting_end, CameOut}
 use Rattle.sock_rule.specs.Shows.{shows, rose, heading_of, number_in, shows_in}
 use Rattle.sock_rule.specs.OnKey.{LinkOnTop}
 use Rattle.sock_rule.specs.SocketPlays.{TookLink}
@@ -108,10 +108,10 @@ pub put_slots : {S : Type 0} (p q : Plan) (l : List (ℕ × S)) (k : ℕ) (y : S
 put_slots p q l k y below same is = is ∙ (λ i. ((sym same i).requests + k, y) ∷ below)
 
 -- and is home then
-pub back_home : {S : Type 0} (faults : S → ℕ) (m n r : Me S View) (q : Plan) (k : ℕ) (y : S) → m.0.plan ≡ q → n ≡ (m.0, (q.requests + k, y) ∷ rest m.1)
-    → ((j : ℕ) (z : S) (below : List (ℕ × S)) → n.1 ≡ (n.0.plan.requests + j, z) ∷ below → r ≡ (fault_left (faults z) j (without_hand n.0 j), below)) → r ≡ (fault_left (faults y) k (without_hand m.0 k), rest m.1)
-back_home {S} faults m n r q k y plan is told = let v = ap (λ (x : Me S View). x.0) is in let same : n.0.plan ≡ q = ap (λ (u : View). u.plan) v ∙ plan in
-    told k y (rest m.1) (put_slots n.0.plan q n.1 k y (rest m.1) same (ap (λ (x : Me S View). x.1) is)) ∙ (λ i. (fault_left (faults y) k (without_hand (v i) k), rest m.1))
+pub back_home : {S : Type 0} (faults : S → ℕ) (m n r : Me S View) (q : Plan) (i k : ℕ) (y : S) → m.0.plan ≡ q → n ≡ (m.0, (q.requests + k, y) ∷ rest m.1)
+    → ((j : ℕ) (z : S) (below : List (ℕ × S)) → n.1 ≡ (n.0.plan.requests + j, z) ∷ below → r ≡ (noting_end n.0.plan i j (fault_left (faults z) j (without_hand n.0 j)), below)) → r ≡ (noting_end q i k (fault_left (faults y) k (without_hand m.0 k)), rest m.1)
+back_home {S} faults m n r q i k y plan is told = let v = ap (λ (x : Me S View). x.0) is in let same : n.0.plan ≡ q = ap (λ (u : View). u.plan) v ∙ plan in
+    told k y (rest m.1) (put_slots n.0.plan q n.1 k y (rest m.1) same (ap (λ (x : Me S View). x.1) is)) ∙ (λ b. (noting_end (same b) i k (fault_left (faults y) k (without_hand (v b) k)), rest m.1))
 
 -- ## A message
 

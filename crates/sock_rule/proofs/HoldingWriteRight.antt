@@ -1,5 +1,5 @@
 -- Steps of whoever writes a link are allowed to a seat whose view meets their condition: A8, L1, L2, M2, P1, C5, C8, C4 and C6. The seat has one right.
-use Rattle.std.proofs.Common.{◌≡◌, ◌≢◌, ℕ, suc, ◌+◌, ◌*◌, ◌%◌, ◌<◌, ne_eqb, Bool, true, false, List, [], ◌∷◌, length-set, cond, not, eqb, eq-eqb, get_or, get_or-set_same, set, refl, sym, ap, ◌∙◌, subst, arith}
+use Rattle.std.proofs.Common.{inr, ◌≡◌, ◌≢◌, ℕ, suc, ◌+◌, ◌*◌, ◌%◌, ◌<◌, ne_eqb, Bool, true, false, List, [], ◌∷◌, length-set, cond, not, eqb, eq-eqb, get_or, get_or-set_same, set, refl, sym, ap, ◌∙◌, subst, arith}
 use Rattle.std.specs.List.{filter}
 use mathlib.Core.Logic.{dite}
 use mathlib.Core.Option.{Option, none, some}
@@ -24,7 +24,7 @@ use Rattle.sock_model.specs.ChainRows.{with_right, without_right, walking_right,
 use Rattle.sock_model.specs.ChainStepConditions.{HasRight, MayPlace, MayDrop, MayTake, MayEmpty, MayTurn}
 use Rattle.sock_model.specs.LinksInSlots.{HoldsLink, Failed}
 use Rattle.sock_model.specs.LawfulSockets.{Lawful}
-use Rattle.chain_core.specs.slot_steps.proofs.RuleNumbers.{life-in, only-at}
+use Rattle.chain_core.specs.slot_steps.proofs.RuleNumbers.{life-in, only-at, only-same}
 use Rattle.chain_core.specs.chain_steps.proofs.Frees.{Leads, to_end, to_next, now_slot}
 use Rattle.chain_core.specs.chain_steps.proofs.TicketLists.{at_length}
 use Rattle.chain_core.specs.sock_steps.proofs.Maps.{set_at, set_twice}
@@ -41,7 +41,7 @@ use Rattle.sock_rule.specs.OnTable.{OnTable}
 use Rattle.sock_rule.specs.HoldingWriteRight.{Part}
 use Rattle.sock_rule.specs.ChainPlays.{IsTicket, TookLetter, TookOwn, took_in, clean_told, take_own_told, note_fault_told, put_own_told, take_letter_told, place_told, drop_told, read_next_told, free_request_told, empty_told, turn_told}
 use Rattle.sock_rule.proofs.AllowedSlotSteps.{word_fits}
-use Rattle.sock_rule.specs.LinkFaultNotes.{faults_of, noting_fault, fault_found, away, out_of, LinkFaults}
+use Rattle.sock_rule.specs.LinkFaultNotes.{faults_of, noting_fault, fault_found, is_over, away, out_of, LinkFaults}
 use Rattle.sock_rule.proofs.LinkFaultNotes.{found_alike, found_else, calm, noting_more, knows_taken, takes_link, puts_link}
 use Rattle.sock_rule.proofs.Light.{light_rule}
 use Rattle.sock_rule.proofs.KeptBesideSocketRule.{SameShare, Calm, beside, beside_faults, homes_else, alike_share, light_after}
@@ -99,6 +99,7 @@ module _ {S : Type 0} (shows : S → Home) (rose : S → ℕ) (p : Plan) (slots 
   steady r' link home = record {
     faults = λ k. refl;
     outs = λ k. (let same : away k r' ≡ away k r = (λ i. cond (home i) 0 (only k (link i))) in omega (arith, ap (total (away k)) (one_right v r r' one link), ap (total (away k)) one));
+    hands = λ k. refl;
   }
 
   its : (q : Right) → me.0.rights ≡ q ∷ [] → r ≡ q
@@ -117,7 +118,7 @@ module _ {S : Type 0} (shows : S → Home) (rose : S → ℕ) (p : Plan) (slots 
         with_right (looked i found v) (record r { clean = true }),
         keeps,
         tt,
-        beside t id v w here some_ (set s.words (ref_index i) found) s.homes (refl, λ l ll. refl) record { share = refl; lists = refl; finds = refl; stores = λ x y. omega arith; accepts = λ l. omega arith; labels = λ x. x } record { faults = λ l. omega arith; outs = (steady (record r { clean = true }) refl refl).outs } (slot_settled t.settled (ref_index i) found (omega arith) (λ j e. omega arith))
+        beside t id v w here some_ (set s.words (ref_index i) found) s.homes (refl, λ l ll. refl) record { share = refl; lists = refl; finds = refl; stores = λ x y. omega arith; accepts = λ l. omega arith; labels = λ x. x } record { faults = λ l. omega arith; outs = (steady (record r { clean = true }) refl refl).outs; hands = λ k. refl } (slot_settled t.settled (ref_index i) found (omega arith) (λ j e. omega arith))
             (load_rule t.rule id v here mine (ref_index i) found refl w record { plan = refl; found = refl; lists = refl } (clean_look_law shows p s t.rule.lawful id v here has_one i h holds fits even)),
         λ q x e at. let same : i ≡ x = omega arith in let k = its q e in (told x at, (λ z. λ y. (with_right (looked (same y) found v) (record (k y) { clean = true }), me.1)), λ odd. absurd (odd even)),
       ))
@@ -125,7 +126,7 @@ module _ {S : Type 0} (shows : S → Home) (rose : S → ℕ) (p : Plan) (slots 
         looked i found v,
         keeps,
         tt,
-        beside t id v (looked i found v) here some_ (set s.words (ref_index i) found) s.homes (refl, λ l ll. refl) record { share = refl; lists = refl; finds = refl; stores = λ x y. omega arith; accepts = λ l. omega arith; labels = λ x. x } record { faults = λ l. omega arith; outs = λ l. omega arith } (slot_settled t.settled (ref_index i) found (omega arith) (λ j e. omega arith))
+        beside t id v (looked i found v) here some_ (set s.words (ref_index i) found) s.homes (refl, λ l ll. refl) record { share = refl; lists = refl; finds = refl; stores = λ x y. omega arith; accepts = λ l. omega arith; labels = λ x. x } record { faults = λ l. omega arith; outs = λ l. omega arith; hands = λ k. refl } (slot_settled t.settled (ref_index i) found (omega arith) (λ j e. omega arith))
             (look_rule t.rule id v here mine i inside fits),
         λ q x e at. let same : i ≡ x = omega arith in (told x at, (λ even. absurd (odd even)), λ z. λ y. (looked (same y) found v, me.1)),
       ))
@@ -137,7 +138,7 @@ module _ {S : Type 0} (shows : S → Home) (rose : S → ℕ) (p : Plan) (slots 
         fault_found (rose a.0) i r.link (with_right v (record r { at_home = false })),
         takes (p.requests + r.link) a.0,
         a.1,
-        loaded s (link_index i) id w hs (beside_faults t id v w here some_ s.words hs (takes_link t.faults id v u here r.link a.0 low (omega (arith, t.housed)) s.words i a.1 refl taken) (length-set s.homes (p.requests + r.link) none) (alike_share p v u w (quiet (record r { at_home = false })) alike) (home_settled t.settled (p.requests + r.link) none (omega arith))
+        loaded s (link_index i) id w hs (beside_faults t id v w here some_ s.words hs (takes_link t.faults id v u here r.link a.0 low (omega (arith, t.housed)) s.words i a.1 refl taken (λ l ne. refl) (inr (ap is_over a.2))) (length-set s.homes (p.requests + r.link) none) (alike_share p v u w (quiet (record r { at_home = false })) alike) (home_settled t.settled (p.requests + r.link) none (omega arith))
             (light_after shows p s id v u w here s.words hs alike mine (right_rule t.rule id v here mine (record r { at_home = false }) hs (link_goes_law shows p s o id v here has_one none refl (omega (arith, t.housed)))))),
         λ q j e at. subst (λ (z : Right). TookOwn shows rose me (fault_found (rose a.0) i r.link (with_right v (record r { at_home = false })), (p.requests + r.link, a.0) ∷ me.1) z j) (its q e)
             (subst (λ (z : ℕ). TookOwn shows rose me (fault_found (rose a.0) i r.link (with_right v (record r { at_home = false })), (p.requests + r.link, a.0) ∷ me.1) r z) (let same : i ≡ j = omega arith in same) record {
@@ -164,10 +165,10 @@ module _ {S : Type 0} (shows : S → Home) (rose : S → ℕ) (p : Plan) (slots 
     λ q j e at. let same = its q e in let same_i : i ≡ j = omega arith in λ z. (noting_fault (same_i z) (same z).link v, me.1),
   )
     where
-      noted : (s : State S View) (t : OnTable shows rose p s) → get_elem? s.views id ≡ some me.0 → r.link < p.links → (l : ℕ) → l < p.links → LinkFaults rose p record { words = s.words; homes = s.homes; views = set s.views id (noting_fault i r.link me.0) } l
+      noted : (s : State S View) (t : OnTable shows rose p s) → get_elem? s.views id ≡ some me.0 → r.link < p.links → (l : ℕ) → l < p.links → LinkFaults shows rose p record { words = s.words; homes = s.homes; views = set s.views id (noting_fault i r.link me.0) } l
       noted s t here low l ll = dite (ℕ_discrete l r.link)
-          (λ e. let in_hand : 0 < out_of l v = omega (arith, ap (total (away l)) one, ap (λ b. cond b 0 (only l r.link)) gone, only-at l r.link (sym e)) in noting_more id v (noting_fault i r.link v) here s.words s.homes l (t.faults l ll) refl in_hand (omega arith) refl)
-          (λ ne. calm id v (noting_fault i r.link v) here s.words s.homes l (t.faults l ll) refl (found_else 1 i r.link l v (λ z. ne (sym z))) refl)
+          (λ e. let in_hand : 0 < out_of l v = omega (arith, ap (total (away l)) one, ap (λ b. cond b 0 (only l r.link)) gone, only-at l r.link (sym e)) in noting_more id v (noting_fault i r.link v) here s.words s.homes l (t.faults l ll) refl in_hand (omega arith) refl (found_else 1 i r.link (p.links + l) v (λ z. omega arith)) refl)
+          (λ ne. calm id v (noting_fault i r.link v) here s.words s.homes l (t.faults l ll) refl (found_else 1 i r.link l v (λ z. ne (sym z))) refl (found_else 1 i r.link (p.links + l) v (λ z. omega arith)) refl)
 
   -- L2
   pub puts_own : (x : ℕ) (y : S) (below : List (ℕ × S)) → me.1 ≡ (p.requests + r.link, y) ∷ below → shows y ≡ Link r.link r.sent r.places false → r.at_home ≡ false → (0 < faults_of r.link v → 0 < rose y) → Allows (OnTable shows rose p) slots id me x (λ n. n) (put_own_told (step slots x 0 0 none) me)
@@ -177,7 +178,7 @@ module _ {S : Type 0} (shows : S → Home) (rose : S → ℕ) (p : Plan) (slots 
         gives_back,
         tt,
         subst (λ (l : List (ℕ × S)). OnTable shows rose p record { words = set s.words x (get_or s.words x 0); homes = put_back s.homes l; views = set s.views id (with_right v (record r { at_home = true })) }) (sym top)
-            (loaded s x id w hs (beside_faults t id v w here some_ s.words hs (puts_link t.faults id v w here r.link y low (omega (arith, t.housed)) s.words (λ l ne. refl) (λ z. refl) put known) (length-set s.homes (p.requests + r.link) (some y)) (quiet (record r { at_home = true })) (home_settled t.settled (p.requests + r.link) (some y) (omega arith))
+            (loaded s x id w hs (beside_faults t id v w here some_ s.words hs (puts_link t.faults id v w here r.link y low (omega (arith, t.housed)) s.words (λ l ne more. refl) (λ z. refl) put known (λ l ne. refl) (inr (omega (arith, ap (total (away r.link)) one, ap (λ b. cond b 0 (only r.link r.link)) gone, only-same r.link), refl))) (length-set s.homes (p.requests + r.link) (some y)) (quiet (record r { at_home = true })) (home_settled t.settled (p.requests + r.link) (some y) (omega arith))
             (right_rule t.rule id v here mine (record r { at_home = true }) hs (link_comes_law shows p s o id v here has_one y shown (omega (arith, t.housed)))))),
         λ q e. let k = its q e in λ z. (with_right v (record (k z) { at_home = true }), rest me.1),
       )
@@ -271,7 +272,7 @@ module _ {S : Type 0} (shows : S → Home) (rose : S → ℕ) (p : Plan) (slots 
         v,
         keeps,
         tt,
-        beside t id v v here some_ (set s.words x found) s.homes (refl, λ l ll. refl) record { share = refl; lists = refl; finds = refl; stores = λ y z. omega arith; accepts = λ l. omega arith; labels = λ y. y } record { faults = λ l. omega arith; outs = λ l. omega arith } (load_settled t.settled x)
+        beside t id v v here some_ (set s.words x found) s.homes (refl, λ l ll. refl) record { share = refl; lists = refl; finds = refl; stores = λ y z. omega arith; accepts = λ l. omega arith; labels = λ y. y } record { faults = λ l. omega arith; outs = λ l. omega arith; hands = λ k. refl } (load_settled t.settled x)
             (load_rule t.rule id v here mine x found refl v record { plan = refl; found = refl; lists = refl } (idle_law shows p s o id v here x)),
         λ q e. ((λ m st far. absurd (not_placed q m e st)), (λ top_ at_ after_ st. ((λ z. refl), λ ne. absurd (ne waits)))),
       ))
@@ -343,7 +344,7 @@ module _ {S : Type 0} (shows : S → Home) (rose : S → ℕ) (p : Plan) (slots 
         keeps,
         tt,
         subst (λ (b : Bool). OnTable shows rose p record { words = set s.words (head_index i) (either b (IDLE + r.last) found); homes = s.homes; views = set s.views id (without_right v r.link) }) (sym (eq-eqb found r.last won))
-            (beside t id v (without_right v r.link) here some_ (set s.words x (IDLE + r.last)) s.homes (refl, λ l ll. refl) record { share = refl; lists = refl; finds = refl; stores = λ y z. omega arith; accepts = λ l. omega arith; labels = λ y. y } record { faults = λ l. refl; outs = λ l. omega (arith, ap (total (away l)) one_gone, ap (total (away l)) one, ap (λ b. cond b 0 (only l r.link)) home) } (slot_settled t.settled x (IDLE + r.last) (let a = holds.inside in omega arith) (λ j e. omega arith))
+            (beside t id v (without_right v r.link) here some_ (set s.words x (IDLE + r.last)) s.homes (refl, λ l ll. refl) record { share = refl; lists = refl; finds = refl; stores = λ y z. omega arith; accepts = λ l. omega arith; labels = λ y. y } record { faults = λ l. refl; outs = λ l. omega (arith, ap (total (away l)) one_gone, ap (total (away l)) one, ap (λ b. cond b 0 (only l r.link)) home); hands = λ k. refl } (slot_settled t.settled x (IDLE + r.last) (let a = holds.inside in omega arith) (λ j e. omega arith))
             (emptied_rule t.rule id v here mine i r.last (IDLE + r.last) may holds.inside won)),
         λ q e. let same = its q e in ((λ z. λ u. (without_right v (same u).link, me.1)), λ ne. absurd (ne won)),
       ))

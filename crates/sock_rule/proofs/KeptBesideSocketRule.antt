@@ -11,6 +11,7 @@ use Rattle.sock_model.specs.declared.view.StoredWord.{StoredWord}
 use Rattle.sock_model.specs.declared.chain.Entry.{Entry}
 use Rattle.sock_model.specs.declared.chain.Heading.{Heading}
 use Rattle.sock_model.specs.SocketTableLayout.{place_index}
+use Rattle.sock_model.specs.ChainLawReads.{hands_of}
 use Rattle.sock_model.specs.Rule.{lists_of, Rule}
 use Rattle.chain_core.specs.slot_steps.proofs.SlotWeightSums.{total-set}
 use Rattle.chain_core.specs.chain_steps.proofs.TicketLists.{at_length}
@@ -31,10 +32,11 @@ pub record SameShare (p : Plan) (v w : View) : Type 0 where
   pub accepts : (f : Entry → ℕ) → total (total f) v.lists ≤ total (total f) w.lists
   pub labels : Labelled p v → Labelled p w
 
--- and what it noted of faults, and which links it has in hand
+-- and what it noted of faults and ends, and which links it has in hand
 pub record Calm (v w : View) : Type 0 where
   pub faults : (k : ℕ) → faults_of k w ≡ faults_of k v
   pub outs : (k : ℕ) → out_of k w ≡ out_of k v
+  pub hands : (k : ℕ) → hands_of k w ≡ hands_of k v
 
 -- the homes of links stay
 abbrev pub StillHomes : {S : Type 0} → Plan → List (Option S) → List (Option S) → Type 0
@@ -77,7 +79,7 @@ module _ {S : Type 0} {shows : S → Home} {rose : S → ℕ} {p : Plan} {s : St
   still_headed more h = omega (arith, total-set (headed_in h) s.views id v w here, more (is_headed h))
 
   -- where place words change, what was noted of each place index is given
-  pub beside_placed : (placed : ℕ → ℕ) → ((l : ℕ) → l < 8 * p.operations → IsDropKept p (set s.views id w) l (placed l)) → ((k : ℕ) → k < p.links → LinkFaults rose p record { words = ws; homes = hs; views = set s.views id w } k) → length hs ≡ length s.homes → SameShare p v w → Settled p t.stored placed ws hs → Rule shows p record { words = ws; homes = hs; views = set s.views id w } → OnTable shows rose p record { words = ws; homes = hs; views = set s.views id w }
+  pub beside_placed : (placed : ℕ → ℕ) → ((l : ℕ) → l < 8 * p.operations → IsDropKept p (set s.views id w) l (placed l)) → ((k : ℕ) → k < p.links → LinkFaults shows rose p record { words = ws; homes = hs; views = set s.views id w } k) → length hs ≡ length s.homes → SameShare p v w → Settled p t.stored placed ws hs → Rule shows p record { words = ws; homes = hs; views = set s.views id w } → OnTable shows rose p record { words = ws; homes = hs; views = set s.views id w }
   beside_placed placed drops faults long same kept r = record {
     rule = r;
     housed = long ∙ t.housed;
@@ -102,11 +104,11 @@ module _ {S : Type 0} {shows : S → Home} {rose : S → ℕ} {p : Plan} {s : St
   }
 
   -- nothing of faults changed
-  pub calm_links : StillHomes p s.homes hs → Calm v w → (k : ℕ) → k < p.links → LinkFaults rose p record { words = ws; homes = hs; views = set s.views id w } k
-  calm_links still c k kl = calm id v w here ws hs k (t.faults k kl) (still.1 k kl) (c.faults k) (c.outs k)
+  pub calm_links : StillHomes p s.homes hs → Calm v w → (k : ℕ) → k < p.links → LinkFaults shows rose p record { words = ws; homes = hs; views = set s.views id w } k
+  calm_links still c k kl = calm id v w here ws hs k (t.faults k kl) (still.1 k kl) (c.faults k) (c.outs k) (c.faults (p.links + k)) (c.hands k)
 
   -- and where place words don't change it stays
-  pub beside_faults : ((k : ℕ) → k < p.links → LinkFaults rose p record { words = ws; homes = hs; views = set s.views id w } k) → length hs ≡ length s.homes → SameShare p v w → Settled p t.stored t.placed ws hs → Rule shows p record { words = ws; homes = hs; views = set s.views id w } → OnTable shows rose p record { words = ws; homes = hs; views = set s.views id w }
+  pub beside_faults : ((k : ℕ) → k < p.links → LinkFaults shows rose p record { words = ws; homes = hs; views = set s.views id w } k) → length hs ≡ length s.homes → SameShare p v w → Settled p t.stored t.placed ws hs → Rule shows p record { words = ws; homes = hs; views = set s.views id w } → OnTable shows rose p record { words = ws; homes = hs; views = set s.views id w }
   beside_faults faults long same kept r = beside_placed t.placed (λ l ll. drop_stays p s.views (set s.views id w) l (t.placed l) (λ n. still_put same.stores (place_index p l) n) (omega (arith, total-set (labelled_in l) s.views id v w here, same.accepts (is_labelled l))) (t.drops l ll)) faults long same kept r
 
   pub beside : StillHomes p s.homes hs → SameShare p v w → Calm v w → Settled p t.stored t.placed ws hs → Rule shows p record { words = ws; homes = hs; views = set s.views id w } → OnTable shows rose p record { words = ws; homes = hs; views = set s.views id w }

@@ -1,5 +1,5 @@
 -- Each link is at home once all seats have ended, with what it took.
-use Rattle.std.proofs.Common.{◌≡◌, ℕ, ◌+◌, ◌*◌, ◌<◌, ◌⊎◌, inl, inr, Bool, false, ⊎_elim, eqb, List, [], refl, sym, ap, ◌∙◌, arith}
+use Rattle.std.proofs.Common.{◌≡◌, ℕ, ◌+◌, ◌*◌, ◌<◌, ◌⊎◌, inl, inr, Bool, true, false, ⊎_elim, eqb, List, [], refl, sym, ap, ◌∙◌, arith}
 use Rattle.std.specs.Prelude.{slice_index, nat_le}
 use mathlib.Core.Logic.{dite}
 use mathlib.Core.Option.{Option, some, none, some-injective, some-ne-none}
@@ -24,9 +24,9 @@ use Rattle.chain_core.specs.chain_steps.proofs.Settles.{all_placed}
 use Rattle.chain_core.specs.sock_steps.proofs.HandSteps.{link_value}
 use Rattle.chain_core.specs.sock_steps.proofs.Reseat.{closing_law}
 use Rattle.sock_rule.specs.OnTable.{OnTable}
-use Rattle.sock_rule.specs.LinkFaultNotes.{faults_link, faults_of}
+use Rattle.sock_rule.specs.LinkFaultNotes.{faults_link, faults_of, ends_of, is_over}
 use Rattle.sock_rule.specs.ClosingWordsAndNotes.{LifeFailed, LinkTook, PlaceOf}
-use Rattle.sock_rule.proofs.LinkFaultNotes.{close_faults}
+use Rattle.sock_rule.proofs.LinkFaultNotes.{close_faults, close_over}
 use Rattle.sock_rule.proofs.LastSeatOfSockets.{others, counts, none_flat, only_one}
 use Rattle.sock_rule.proofs.Reached.{label_of}
 use Rattle.sock_words.specs.Totals.{total}
@@ -37,6 +37,10 @@ took_there none t n e = absurd (some-ne-none (t, n) (sym e))
 took_there (some Empty) t n e = absurd (some-ne-none (t, n) (sym e))
 took_there (some (Message l b)) t n e = absurd (some-ne-none (t, n) (sym e))
 took_there (some (Link k a b d)) t n e = let q : (a, b) ≡ (t, n) = some-injective (a, b) (t, n) e in (k, d, (λ i. some (Link k (q i).0 (q i).1 d)))
+
+over_done : (k : ℕ) (took : List ℕ) (next : ℕ) (done : Bool) → is_over (Link k took next done) ≡ 1 → done ≡ true
+over_done k took next true e = refl
+over_done k took next false e = absurd (omega arith)
 
 -- the home of link k, with what its link took
 pub record AtHome {S : Type 0} (shows : S → Home) (rose : S → ℕ) (p : Plan) (s : State S View) (v : View) (log : List Entry) (k : ℕ) : Type 0 where
@@ -49,6 +53,8 @@ pub record AtHome {S : Type 0} (shows : S → Home) (rose : S → ℕ) (p : Plan
   pub took_is : LinkTook p v log s.words k took
   -- it has faults where a seat noted one
   pub faulted : 0 < faults_of k v → 0 < rose value
+  -- it is finished where a seat noted that it went home so
+  pub finished : 0 < ends_of p k v → done ≡ true
   -- it isn't finished while a life that was given it is to end
   pub unfinished : (i h : ℕ) → i < p.slots → 0 < marks_of (is_linked h k) i v → marks_of (is_freer h) i v ≡ 0 → done ≡ false
 
@@ -91,6 +97,7 @@ module _ {S : Type 0} {shows : S → Home} {rose : S → ℕ} {p : Plan} (s : St
         there = y.1;
         shown_is = y.2;
         faulted = close_faults k v y.0 (t.faults k kl) y.1 (only_one (faults_of k) s.views id v here (λ j u e other. ap (total (faults_link k)) (others s t id v here all j u e other).marks));
+        finished = λ some_. over_done k own.took own.next own.done (sym (ap is_over y.2) ∙ close_over k v y.0 (t.faults k kl) y.1 (only_one (ends_of p k) s.views id v here (λ j u e other. ap (total (faults_link (p.links + k))) (others s t id v here all j u e other).marks)) some_);
         unfinished = λ i h il given unended. own.«open» i (t.rule.lawful.in_slots.alone i h k record { life = record { inside = il; given = omega (arith, counts s t id v here all (is_linked h k) i) }; unended = counts s t id v here all (is_freer h) i ∙ unended });
         took_is = record {
           kept = t.rule.lawful.kept k;

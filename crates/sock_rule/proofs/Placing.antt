@@ -133,7 +133,7 @@ module _ {S : Type 0} {shows : S → Home} {rose : S → ℕ} {p : Plan} {s : St
   pub places_beside : (value : ℕ) (w : View) → value < DROPPED → 0 < v.share → SameShare p v w → Calm v w → w.lists ≡ v.lists → Settled p t.stored (put t.placed r.heading.label.place value) (set s.words (place_index p r.heading.label.place) value) s.homes
       → Rule shows p record { words = set s.words (place_index p r.heading.label.place) value; homes = s.homes; views = set s.views id w }
       → OnTable shows rose p record { words = set s.words (place_index p r.heading.label.place) value; homes = s.homes; views = set s.views id w }
-  places_beside value w small some_ same c lists kept rule = beside_placed t id v w here some_ (set s.words (place_index p r.heading.label.place) value) s.homes (put t.placed r.heading.label.place value) drops (λ k kl. calm id v w here (set s.words (place_index p r.heading.label.place) value) s.homes k (t.faults k kl) refl (c.faults k) (c.outs k)) refl same kept rule
+  places_beside value w small some_ same c lists kept rule = beside_placed t id v w here some_ (set s.words (place_index p r.heading.label.place) value) s.homes (put t.placed r.heading.label.place value) drops (λ k kl. calm id v w here (set s.words (place_index p r.heading.label.place) value) s.homes k (t.faults k kl) refl (c.faults k) (c.outs k) (c.faults (p.links + k)) (c.hands k)) refl same kept rule
     where
       puts : (l n : ℕ) → total (put_in (place_index p l) n) s.views ≡ total (put_in (place_index p l) n) (set s.views id w)
       puts l n = omega (arith, total-set (put_in (place_index p l) n) s.views id v w here, same.stores (place_index p l) n)
@@ -166,7 +166,7 @@ module _ {S : Type 0} {shows : S → Home} {rose : S → ℕ} {p : Plan} {s : St
     put = λ y z. omega (arith, t.put y z, puts y z);
     placed = put t.placed r.heading.label.place value;
     drops = drops;
-    faults = λ k kl. calm id v w here (set s.words (place_index p r.heading.label.place) value) s.homes k (t.faults k kl) refl (c.faults k) (c.outs k);
+    faults = λ k kl. calm id v w here (set s.words (place_index p r.heading.label.place) value) s.homes k (t.faults k kl) refl (c.faults k) (c.outs k) (c.faults (p.links + k)) (c.hands k);
     settled = kept (noting_drop (place_index p r.heading.label.place) value ∷ t.stored) (λ y low_. ap (λ b. cond b value (latest y t.stored)) (ne_eqb (place_index p r.heading.label.place) y (λ e. omega arith)));
     met = λ j z g n h e. further h (⊎_elim (λ y. t.met id v here n h (subst (λ (l : List (List StoredWord)). get_elem? l n ≡ some h) (ap (λ (q : List StoredWord × (List (List StoredWord) × List Heading)). q.1.0) same.finds) (subst (λ (q : View). get_elem? q.histories n ≡ some h) (sym y.1) e)))
         (λ y. t.met j z y.1 n h e) (at_set s.views id j w z g));

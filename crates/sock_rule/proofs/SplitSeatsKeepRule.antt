@@ -106,7 +106,7 @@ module _ {S : Type 0} (shows : S → Home) (rose : S → ℕ) (p : Plan) (id : �
         put = λ x w. t.put x w ∙ more x w;
         placed = t.placed;
         drops = λ l ll. drop_stays p s.views (set s.views id left ++ right ∷ []) l (t.placed l) (λ n. more (place_index p l) n) (omega (arith, total-append (labelled_in l) first (right ∷ []), total-set (labelled_in l) s.views id v left here, accepts (is_labelled l))) (t.drops l ll);
-        faults = λ k kl. split_faults id v left right here k (t.faults k kl) (calm.faults k) (calm.outs k) (none_noted k).0 (none_noted k).1;
+        faults = λ k kl. split_faults id v left right here k (t.faults k kl) (calm.faults k) (calm.outs k) (none_noted k).0 (none_noted k).1 (calm.faults (p.links + k)) (calm.hands k) (none_noted (p.links + k)).0;
         settled = t.settled;
         met = λ j u g n h e. ⊎_elim
             (λ a. ⊎_elim (λ y. t.met id v here n h (subst (λ (l : List (List StoredWord)). get_elem? l n ≡ some h) met_stay (subst (λ (z : View). get_elem? z.histories n ≡ some h) (sym y.1) e))) (λ y. t.met j u y.1 n h e) (at_set s.views id j left u a))
@@ -130,7 +130,7 @@ module _ {S : Type 0} (shows : S → Home) (rose : S → ℕ) (p : Plan) (id : �
       let r : Rule shows p record { words = s.words; homes = s.homes; views = set s.views id (giving v) ++ given v ∷ [] } =
       subst (λ (z : View). Rule shows p record { words = s.words; homes = s.homes; views = set s.views id (giving v) ++ z ∷ [] }) is
       (subst (λ vs. Rule shows p record { words = s.words; homes = s.homes; views = vs ++ newcomer p [] 0 ∷ [] }) (set_twice s.views id v' (giving v)) two) in
-      adds_seat s t here (giving v) (given v) (omega (arith, may.another)) refl refl record { faults = λ k. refl; outs = λ k. refl } (λ k. (refl, refl)) (λ l. omega arith) (omega (arith, may.more)) (omega (arith, may.another)) (omega arith) (λ e. absurd (omega arith)) refl (λ x. record { entries = x.entries; claimed = x.claimed }) record { entries = λ n l e i x f. no_entries n l e i x f; claimed = λ i c e. absurd (some-ne-none c (sym e)) } r
+      adds_seat s t here (giving v) (given v) (omega (arith, may.another)) refl refl record { faults = λ k. refl; outs = λ k. refl; hands = λ k. refl } (λ k. (refl, refl)) (λ l. omega arith) (omega (arith, may.more)) (omega (arith, may.another)) (omega arith) (λ e. absurd (omega arith)) refl (λ x. record { entries = x.entries; claimed = x.claimed }) record { entries = λ n l e i x f. no_entries n l e i x f; claimed = λ i c e. absurd (some-ne-none c (sym e)) } r
     where
       no_entries : (n : ℕ) (l : List Entry) → get_elem? ([] ∷ []) n ≡ some l → (i : ℕ) (e : Entry) → get_elem? l i ≡ some e → e.heading.label.place < 8 * p.operations
       no_entries zero l e i x f = absurd (some-ne-none x (sym (ap (λ (y : List Entry). get_elem? y i) (some-injective [] l e) ∙ f)))
@@ -141,7 +141,7 @@ module _ {S : Type 0} (shows : S → Home) (rose : S → ℕ) (p : Plan) (id : �
   passes_out room some_ s t here = let two = carrying_rule t.rule id v here mine (later v.passes) (earliest v.passes) (v.spare - 1) (λ k. omega (arith, passes-left k v.passes)) (omega (arith, room)) in
       let r : Rule shows p record { words = s.words; homes = s.homes; views = set s.views id (lighter v) ++ passed v ∷ [] } =
       subst (λ (q : Plan). Rule shows p record { words = s.words; homes = s.homes; views = set s.views id (lighter v) ++ carrier q (earliest v.passes) ∷ [] }) (sym mine) two in
-      adds_seat s t here (lighter v) (passed v) some_ refl refl record { faults = λ k. refl; outs = λ k. refl } (λ k. (refl, refl)) (λ l. omega arith) (t.listed id v here) (omega arith) (omega arith) (λ e. record { marks = refl; lists = refl; finds = refl; stores = λ x w. refl; claims = refl; loose = refl; rights = refl; hands = refl }) refl (λ x. record { entries = x.entries; claimed = x.claimed }) record { entries = λ n l e. absurd (some-ne-none l (sym e)); claimed = λ i c e. absurd (some-ne-none c (sym e)) } r
+      adds_seat s t here (lighter v) (passed v) some_ refl refl record { faults = λ k. refl; outs = λ k. refl; hands = λ k. refl } (λ k. (refl, refl)) (λ l. omega arith) (t.listed id v here) (omega arith) (omega arith) (λ e. record { marks = refl; lists = refl; finds = refl; stores = λ x w. refl; claims = refl; loose = refl; rights = refl; hands = refl }) refl (λ x. record { entries = x.entries; claimed = x.claimed }) record { entries = λ n l e. absurd (some-ne-none l (sym e)); claimed = λ i c e. absurd (some-ne-none c (sym e)) } r
 
   -- a seat takes in another
   pub takes : 0 < v.share → (other : ℕ) (w : View) → IsDone p w → Joins (OnTable shows rose p) id v other w (joined v w) spent
@@ -161,7 +161,7 @@ module _ {S : Type 0} (shows : S → Home) (rose : S → ℕ) (p : Plan) (id : �
         put = λ x y. t.put x y ∙ more x y;
         placed = t.placed;
         drops = λ l ll. drop_stays p s.views (set first other spent) l (t.placed l) (λ n. more (place_index p l) n) (omega (arith, total-set (labelled_in l) s.views id v both here, total-set (labelled_in l) first other w spent there, total-append (total (is_labelled l)) v.lists w.lists)) (t.drops l ll);
-        faults = λ k kl. join_faults id other v w (joined v w) spent here there k (t.faults k kl) (total-append (faults_link k) v.marks w.marks) refl (omega (arith, ap (total (away k)) done.bare.rights, ap (total (carries k)) done.bare.hands)) refl refl;
+        faults = λ k kl. join_faults id other v w (joined v w) spent here there k (t.faults k kl) (total-append (faults_link k) v.marks w.marks) refl (omega (arith, ap (total (away k)) done.bare.rights, ap (total (carries k)) done.bare.hands)) refl refl (total-append (faults_link (p.links + k)) v.marks w.marks) refl refl;
         settled = t.settled;
         met = λ j u g n h e. ⊎_elim (λ y. absurd (some-ne-none h (sym (subst (λ (z : View). get_elem? z.histories n ≡ some h) (sym y.1) e))))
             (λ y. ⊎_elim (λ q. ⊎_elim (λ a. t.met id v here n h a) (λ a. t.met other w its a.0 h a.1) (at_append v.histories w.histories n h (subst (λ (z : View). get_elem? z.histories n ≡ some h) (sym q.1) e)))

@@ -57,7 +57,7 @@ module _ {S : Type 0} (shows : S → Home) (rose : S → ℕ) (p : Plan) (slots 
       linked i k v,
       keeps,
       tt,
-      beside t id v (linked i k v) here some_ (set s.words (link_index i) k) s.homes (refl, λ l ll. refl) record { share = refl; lists = refl; finds = refl; stores = λ x y. omega arith; accepts = λ l. omega arith; labels = λ x. x } record { faults = λ l. linked_same l i v k; outs = λ l. omega arith } (slot_settled t.settled _ _ (omega arith) (λ j e. omega arith)) (link_rule t.rule id v here mine i inside k there pass),
+      beside t id v (linked i k v) here some_ (set s.words (link_index i) k) s.homes (refl, λ l ll. refl) record { share = refl; lists = refl; finds = refl; stores = λ x y. omega arith; accepts = λ l. omega arith; labels = λ x. x } record { faults = λ l. linked_same l i v k; outs = λ l. omega arith; hands = λ k. refl } (slot_settled t.settled _ _ (omega arith) (λ j e. omega arith)) (link_rule t.rule id v here mine i inside k there pass),
       λ x at. let e : i ≡ x = omega arith in ap (λ (y : ℕ). (linked y k v, me.1)) e,
     )
 
@@ -91,7 +91,7 @@ module _ {S : Type 0} (shows : S → Home) (rose : S → ℕ) (p : Plan) (slots 
           met_link i h k v,
           keeps,
           tt,
-          beside t id v (met_link i h k v) here some_ (set s.words (link_index i) k) s.homes (refl, λ l ll. refl) record { share = refl; lists = refl; finds = refl; stores = λ x y. omega arith; accepts = λ l. omega arith; labels = λ x. x } record { faults = λ l. omega arith; outs = λ l. omega arith } (slot_settled t.settled _ _ (omega arith) (λ j e. omega arith)) (meet_rule t.rule id v here mine i inside h there),
+          beside t id v (met_link i h k v) here some_ (set s.words (link_index i) k) s.homes (refl, λ l ll. refl) record { share = refl; lists = refl; finds = refl; stores = λ x y. omega arith; accepts = λ l. omega arith; labels = λ x. x } record { faults = λ l. omega arith; outs = λ l. omega arith; hands = λ k. refl } (slot_settled t.settled _ _ (omega arith) (λ j e. omega arith)) (meet_rule t.rule id v here mine i inside h there),
           λ x g at other. let e : i ≡ x = omega arith in let same : h ≡ g = held_is s t here h g there (at_slot (is_hold g) x e other) in (
             (λ q. (met_link (e q) (same q) k v, me.1)),
             (λ l mt. let m1 : 0 < marks_of (is_met g l) i v = at_slot (is_met g l) x e mt in let hg : 0 < marks_of (is_hold g) i v = at_slot (is_hold g) x e other in
@@ -107,7 +107,7 @@ module _ {S : Type 0} (shows : S → Home) (rose : S → ℕ) (p : Plan) (slots 
       met_link i (w - 2) k v,
       keeps,
       tt,
-      beside t id v (met_link i (w - 2) k v) here some_ (set s.words (link_index i) k) s.homes (refl, λ l ll. refl) record { share = refl; lists = refl; finds = refl; stores = λ x y. omega arith; accepts = λ l. omega arith; labels = λ x. x } record { faults = λ l. omega arith; outs = λ l. omega arith } (slot_settled t.settled _ _ (omega arith) (λ j e. omega arith)) (meet_last_rule t.rule id v here mine i inside w there),
+      beside t id v (met_link i (w - 2) k v) here some_ (set s.words (link_index i) k) s.homes (refl, λ l ll. refl) record { share = refl; lists = refl; finds = refl; stores = λ x y. omega arith; accepts = λ l. omega arith; labels = λ x. x } record { faults = λ l. omega arith; outs = λ l. omega arith; hands = λ k. refl } (slot_settled t.settled _ _ (omega arith) (λ j e. omega arith)) (meet_last_rule t.rule id v here mine i inside w there),
       λ x g at other. let e : i ≡ x = omega arith in let same : w ≡ g = last_is s t here w g there (at_slot (is_recycled g) x e other) in ((λ q. (met_link (e q) (same q - 2) k v, me.1)), subst (λ (q : Plan). k < q.links) (sym mine) its),
     )
 
@@ -117,7 +117,7 @@ module _ {S : Type 0} (shows : S → Home) (rose : S → ℕ) (p : Plan) (slots 
       staged i 1 k 2 v,
       keeps,
       tt,
-      beside t id v (staged i 1 k 2 v) here some_ (set s.words (head_index i) IDLE) s.homes (refl, λ l ll. refl) record { share = refl; lists = refl; finds = refl; stores = λ x y. omega arith; accepts = λ l. omega arith; labels = λ x. x } record { faults = λ l. staged_same l i v 1 k 2; outs = λ l. omega arith } (slot_settled t.settled _ _ (omega arith) (λ j e. omega arith)) (reset_rule t.rule id v here mine i inside k there),
+      beside t id v (staged i 1 k 2 v) here some_ (set s.words (head_index i) IDLE) s.homes (refl, λ l ll. refl) record { share = refl; lists = refl; finds = refl; stores = λ x y. omega arith; accepts = λ l. omega arith; labels = λ x. x } record { faults = λ l. staged_same l i v 1 k 2; outs = λ l. omega arith; hands = λ k. refl } (slot_settled t.settled _ _ (omega arith) (λ j e. omega arith)) (reset_rule t.rule id v here mine i inside k there),
       λ x g at other. let e : i ≡ x = omega arith in let same : k ≡ g = staged_is s t here 1 k g (omega arith) there (at_slot (is_stage 1 g) x e other) in λ q. (staged (e q) 1 (same q) 2 v, me.1),
     )
 
@@ -127,7 +127,7 @@ module _ {S : Type 0} (shows : S → Home) (rose : S → ℕ) (p : Plan) (slots 
       staged i 2 k 3 v,
       keeps,
       tt,
-      beside t id v (staged i 2 k 3 v) here some_ (set s.words (code_index i) 0) s.homes (refl, λ l ll. refl) record { share = refl; lists = refl; finds = refl; stores = λ x y. omega arith; accepts = λ l. omega arith; labels = λ x. x } record { faults = λ l. staged_same l i v 2 k 3; outs = λ l. omega arith } (code_settled t.settled i 0 inside (omega arith) (omega (arith, t.rule.lawful.references.sized))) (wipe_rule t.rule id v here mine i inside k there),
+      beside t id v (staged i 2 k 3 v) here some_ (set s.words (code_index i) 0) s.homes (refl, λ l ll. refl) record { share = refl; lists = refl; finds = refl; stores = λ x y. omega arith; accepts = λ l. omega arith; labels = λ x. x } record { faults = λ l. staged_same l i v 2 k 3; outs = λ l. omega arith; hands = λ k. refl } (code_settled t.settled i 0 inside (omega arith) (omega (arith, t.rule.lawful.references.sized))) (wipe_rule t.rule id v here mine i inside k there),
       λ x g at other. let e : i ≡ x = omega arith in let same : k ≡ g = staged_is s t here 2 k g (omega arith) there (at_slot (is_stage 2 g) x e other) in λ q. (staged (e q) 2 (same q) 3 v, me.1),
     )
 
@@ -137,7 +137,7 @@ module _ {S : Type 0} (shows : S → Home) (rose : S → ℕ) (p : Plan) (slots 
       coded i h c v,
       keeps,
       tt,
-      beside t id v (coded i h c v) here some_ (set s.words (code_index i) c) s.homes (refl, λ l ll. refl) record { share = refl; lists = refl; finds = refl; stores = λ x y. omega arith; accepts = λ l. omega arith; labels = λ x. x } record { faults = λ l. coded_same l i v h c; outs = λ l. omega arith } (code_settled t.settled i c inside small (omega (arith, t.rule.lawful.references.sized))) (code_rule t.rule id v here mine i inside h c there no_zero),
+      beside t id v (coded i h c v) here some_ (set s.words (code_index i) c) s.homes (refl, λ l ll. refl) record { share = refl; lists = refl; finds = refl; stores = λ x y. omega arith; accepts = λ l. omega arith; labels = λ x. x } record { faults = λ l. coded_same l i v h c; outs = λ l. omega arith; hands = λ k. refl } (code_settled t.settled i c inside small (omega (arith, t.rule.lawful.references.sized))) (code_rule t.rule id v here mine i inside h c there no_zero),
       λ x g at other. let e : i ≡ x = omega arith in let same : h ≡ g = coding_is s t here h g there (at_slot (is_coding g) x e other) in λ q. (coded (e q) (same q) c v, me.1),
     )
 
@@ -153,7 +153,7 @@ module _ {S : Type 0} (shows : S → Home) (rose : S → ℕ) (p : Plan) (slots 
           v,
           keeps,
           tt,
-          beside t id v v here some_ (set s.words (code_index i) c) s.homes (refl, λ l ll. refl) record { share = refl; lists = refl; finds = refl; stores = λ x y. omega arith; accepts = λ l. omega arith; labels = λ x. x } record { faults = λ l. omega arith; outs = λ l. omega arith } (load_settled t.settled _)
+          beside t id v v here some_ (set s.words (code_index i) c) s.homes (refl, λ l ll. refl) record { share = refl; lists = refl; finds = refl; stores = λ x y. omega arith; accepts = λ l. omega arith; labels = λ x. x } record { faults = λ l. omega arith; outs = λ l. omega arith; hands = λ k. refl } (load_settled t.settled _)
               (load_rule t.rule id v here mine (code_index i) c refl v record { plan = refl; found = refl; lists = refl } (idle_law shows p s t.rule.lawful id v here (code_index i))),
           λ x g at other. let e : i ≡ x = omega arith in (ap (λ b. (cond b v (told_code x g c v), me.1)) (sym (eq-eqb c 0 zero_)), also x g e other, small),
         ))
@@ -161,7 +161,7 @@ module _ {S : Type 0} (shows : S → Home) (rose : S → ℕ) (p : Plan) (slots 
           told_code i h c v,
           keeps,
           tt,
-          beside t id v (told_code i h c v) here some_ (set s.words (code_index i) c) s.homes (refl, λ l ll. refl) record { share = refl; lists = refl; finds = refl; stores = λ x y. omega arith; accepts = λ l. omega arith; labels = λ x. x } record { faults = λ l. omega arith; outs = λ l. omega arith } (load_settled t.settled _) (found_code_rule t.rule id v here mine i inside h there (omega arith)),
+          beside t id v (told_code i h c v) here some_ (set s.words (code_index i) c) s.homes (refl, λ l ll. refl) record { share = refl; lists = refl; finds = refl; stores = λ x y. omega arith; accepts = λ l. omega arith; labels = λ x. x } record { faults = λ l. omega arith; outs = λ l. omega arith; hands = λ k. refl } (load_settled t.settled _) (found_code_rule t.rule id v here mine i inside h there (omega arith)),
           λ x g at other. let e : i ≡ x = omega arith in let same : h ≡ g = held_is s t here h g there (at_slot (is_hold g) x e other) in ((λ q. (told_code (e q) (same q) c v, me.1)) ∙ ap (λ b. (cond b v (told_code x g c v), me.1)) (sym (ne_eqb c 0 no_zero)), also x g e other, small),
         ))
 
@@ -203,7 +203,7 @@ module _ {S : Type 0} (shows : S → Home) (rose : S → ℕ) (p : Plan) (slots 
         v,
         keeps,
         tt,
-        beside t id v v here some_ (set s.words x w) s.homes (refl, λ l ll. refl) quiet record { faults = λ l. omega arith; outs = λ l. omega arith } (load_settled t.settled x) read,
+        beside t id v v here some_ (set s.words x w) s.homes (refl, λ l ll. refl) quiet record { faults = λ l. omega arith; outs = λ l. omega arith; hands = λ k. refl } (load_settled t.settled x) read,
         (record { all = t.stored; view = ap (λ b. (cond b v (cond (eqb w 18446744073709551615) (finding x w t.stored v) (finding x w t.stored (met i h v))), me.1)) (sym (eq-eqb w 0 zero_)); history = found_history t id v here x high low }, (λ z n. fresh n z), stays),
       ))
       (λ some_word. let was : 0 < total (put_in x w) s.views = omega (arith, stores s t some_word, was_put x w some_word s.views) in
@@ -213,7 +213,7 @@ module _ {S : Type 0} (shows : S → Home) (rose : S → ℕ) (p : Plan) (slots 
         finding x w t.stored v,
         keeps,
         tt,
-        finds_beside t id v (noting x v) here some_ mine (set s.words x w) x w was record { share = refl; lists = refl; finds = refl; stores = λ y z. omega arith; accepts = λ l. omega arith; labels = λ x. x } record { faults = λ l. omega arith; outs = λ l. omega arith } (load_settled t.settled _)
+        finds_beside t id v (noting x v) here some_ mine (set s.words x w) x w was record { share = refl; lists = refl; finds = refl; stores = λ y z. omega arith; accepts = λ l. omega arith; labels = λ x. x } record { faults = λ l. omega arith; outs = λ l. omega arith; hands = λ k. refl } (load_settled t.settled _)
             (step_notes s.views id v v (set s.words x w) s.homes here mine x last there read),
         (record { all = t.stored; view = ap (λ b. (cond b (finding x w t.stored v) (finding x w t.stored (met i h v)), me.1)) (sym (eq-eqb w 18446744073709551615 nothing)) ∙ ap (λ b. (cond b v (cond (eqb w 18446744073709551615) (finding x w t.stored v) (finding x w t.stored (met i h v))), me.1)) (sym (ne_eqb w 0 some_word)); history = found_history t id v here x high low }, (λ z n. fresh n z), stays),
       ))
@@ -221,7 +221,7 @@ module _ {S : Type 0} (shows : S → Home) (rose : S → ℕ) (p : Plan) (slots 
         finding x w t.stored (met i h v),
         keeps,
         tt,
-        finds_beside t id v (noting x (met i h v)) here some_ mine (set s.words x w) x w was record { share = refl; lists = refl; finds = refl; stores = λ y z. omega arith; accepts = λ l. omega arith; labels = λ x. x } record { faults = λ l. omega arith; outs = λ l. omega arith } (load_settled t.settled _)
+        finds_beside t id v (noting x (met i h v)) here some_ mine (set s.words x w) x w was record { share = refl; lists = refl; finds = refl; stores = λ y z. omega arith; accepts = λ l. omega arith; labels = λ x. x } record { faults = λ l. omega arith; outs = λ l. omega arith; hands = λ k. refl } (load_settled t.settled _)
             (find_note_rule t.rule id v here mine i its.0 x last h low its.1 some_word),
         (record { all = t.stored; view = ap (λ b. (cond b (finding x w t.stored v) (finding x w t.stored (met i h v)), me.1)) (sym (ne_eqb w 18446744073709551615 an_id)) ∙ ap (λ b. (cond b v (cond (eqb w 18446744073709551615) (finding x w t.stored v) (finding x w t.stored (met i h v))), me.1)) (sym (ne_eqb w 0 some_word)); history = found_history t id v here x high low }, (λ z n. fresh n z), stays),
       )))

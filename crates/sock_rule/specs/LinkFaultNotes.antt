@@ -5,6 +5,8 @@ use lib.ListN.{get_elem?}
 use Rattle.atomic_table.specs.Table.{State}
 use Rattle.sock_words.specs.declared.plain.Plan.{Plan}
 use Rattle.sock_model.specs.declared.chain.Right.{Right}
+use Rattle.sock_model.specs.declared.home.Home.{Home}
+use Rattle.sock_model.specs.declared.home.Home.TheVariants.{Link}
 use Rattle.sock_model.specs.declared.marks.Mark.{Mark}
 use Rattle.sock_model.specs.declared.marks.Mark.TheVariants.{Handed}
 use Rattle.sock_model.specs.declared.marks.SlotMark.{SlotMark}
@@ -55,6 +57,25 @@ pub record CameOut (p : Plan) (ways : List (List ℕ)) (k : ℕ) (v : View) (o :
   pub way_is : o.way ≡ way_at ways k
   pub known : 0 < faults_of k v → 0 < o.faults
 
+-- ## Ends of links
+
+-- the same note with a number behind those of the links: the half of link k went home finished
+abbrev pub end_note : Plan → ℕ → Mark
+end_note p k = fault (p.links + k)
+
+-- how often the seat noted that
+abbrev pub ends_of : Plan → ℕ → View → ℕ
+ends_of p k v = faults_of (p.links + k) v
+
+-- a seat that puts it back notes it at slot i
+abbrev pub noting_end : Plan → ℕ → ℕ → View → View
+noting_end p i k v = noting_fault i (p.links + k) v
+
+-- 1 where it is a link's finished half
+abbrev pub is_over : Home → ℕ
+is_over (Link k took next done) = cond done 1 0
+is_over _ = 0
+
 -- ## Where a link is
 
 -- the link of this right is k, and in hand
@@ -79,7 +100,14 @@ module _ {S : Type 0} where
   rose_at rose (some (some y)) = rose y
   rose_at rose _ = 0
 
+  -- 1 where a finished half is at home
+  abbrev pub over_at : (S → Home) → Option (Option S) → ℕ
+  over_at shows (some (some y)) = is_over (shows y)
+  over_at shows _ = 0
+
 -- of link k: it is at home or in one hand, and where a seat noted a fault of it, the half at home has one, or a seat noted one that has it in hand
-pub record LinkFaults {S : Type 0} (rose : S → ℕ) (p : Plan) (s : State S View) (k : ℕ) : Type 0 where
+pub record LinkFaults {S : Type 0} (shows : S → Home) (rose : S → ℕ) (p : Plan) (s : State S View) (k : ℕ) : Type 0 where
   pub once : total (out_of k) s.views + present (get_elem? s.homes (p.requests + k)) ≡ 1
   pub faulty : 0 < total (faults_of k) s.views → 0 < rose_at rose (get_elem? s.homes (p.requests + k)) + total (noted_out k) s.views
+  -- where a seat noted that the half went home finished, it is at home so, or in a hand without a right
+  pub over : 0 < total (ends_of p k) s.views → 0 < over_at shows (get_elem? s.homes (p.requests + k)) + total (hands_of k) s.views

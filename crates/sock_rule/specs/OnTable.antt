@@ -114,8 +114,8 @@ module _ {S : Type 0} (shows : S → Home) (rose : S → ℕ) where
     pub met : (id : ℕ) (v : View) → get_elem? s.views id ≡ some v → (n : ℕ) (h : List StoredWord) → get_elem? v.histories n ≡ some h → Follows stored h
     -- labels
     pub labelled : (id : ℕ) (v : View) → get_elem? s.views id ≡ some v → Labelled p v
-    -- faults of links
-    pub faults : (k : ℕ) → k < p.links → LinkFaults rose p s k
+    -- faults and ends of links
+    pub faults : (k : ℕ) → k < p.links → LinkFaults shows rose p s k
     -- what was found was stored
     pub found_was : (id : ℕ) (v : View) → get_elem? s.views id ≡ some v → FindsWere s.views v
     -- and what was dropped was accepted

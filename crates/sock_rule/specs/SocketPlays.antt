@@ -11,7 +11,7 @@ use Rattle.sock_model.specs.SocketTableLayout.{tag_index, ref_index, link_index,
 use Rattle.sock_model.specs.SlotRows.{marks_of, knows, claimed, gave_birth, added, back, subbed, failed, recycled, freed, looked, linked, staged, coded, told_code, met_link}
 use Rattle.sock_model.specs.ChainRows.{with_hand, without_hand, spent_hand}
 use Rattle.sock_rule.specs.NotesBesideRows.{PutAt, FoundAt}
-use Rattle.sock_rule.specs.LinkFaultNotes.{faults_of, fault_found, fault_left}
+use Rattle.sock_rule.specs.LinkFaultNotes.{faults_of, fault_found, fault_left, noting_end}
 use Rattle.sock_words.specs.PackedWords.{vref_version, vref_nref, socket_id_slot, NO_SOCKET}
 
 -- what a seat knows of the reference word of a slot that it finds
@@ -123,6 +123,6 @@ module _ {S : Type 0} where
   abbrev pub spend_told : (S → Home) → (S → ℕ) → Step S → Me S View → ℕ → Me S View → Type 0
   spend_told shows rose st m found n = (k : ℕ) → m.0.passes ≡ k ∷ [] → TookLink shows rose m n k (λ took next. spent_hand m.0 record { link = k; took = took; next = next })
 
-  -- L2 of a link without a right: what was taken last goes home
+  -- L2 of a link without a right: what was taken last goes home finished, which is noted
   abbrev pub put_told : (S → ℕ) → Step S → Me S View → ℕ → Me S View → Type 0
-  put_told rose st m found n = (k : ℕ) (y : S) (rest : List (ℕ × S)) → m.1 ≡ (m.0.plan.requests + k, y) ∷ rest → n ≡ (fault_left (rose y) k (without_hand m.0 k), rest)
+  put_told rose st m found n = (i k : ℕ) (y : S) (rest : List (ℕ × S)) → st.word ≡ link_index i → m.1 ≡ (m.0.plan.requests + k, y) ∷ rest → n ≡ (noting_end m.0.plan i k (fault_left (rose y) k (without_hand m.0 k)), rest)

@@ -1,12 +1,12 @@
 // L1 and L2 of links that nobody has a right to write. While such a link is in hand, the seat notes where its half has faults. A link comes out of its home by an
 // exchange of 0 for 0, which takes the slot's turn and is told the ways of the links, and a plain move, and goes back by a plain move and a load that gives the turn back.
-ghost use Rattle.std.specs.Prelude.{◌≡◌, ◌+◌, ◌<◌, [], ◌∷◌};
+ghost use Rattle.std.specs.Prelude.{◌≡◌, ◌+◌, ◌<◌, true, [], ◌∷◌};
 ghost use Rattle.atomic_table.specs.Table.{rest};
 ghost use Rattle.sock_model.specs.ChainRows.{with_hand, without_hand, spent_hand};
 ghost use Rattle.sock_rule.specs.declared.homes.SockHome.TheVariants.{Empty, Link};
 ghost use Rattle.sock_rule.specs.OnKey.{LinkOnTop};
 ghost use Rattle.sock_rule.specs.SocketSeatSplits.{IsSeat};
-ghost use Rattle.sock_rule.specs.LinkFaultNotes.{fault_found, fault_left, CameOut};
+ghost use Rattle.sock_rule.specs.LinkFaultNotes.{fault_found, fault_left, noting_end, CameOut};
 ghost use Rattle.sock_rule.specs.LinksInHand.{hand_of, Recycles};
 
 use crate::homes::{LinkHome, SockHome};
@@ -50,19 +50,23 @@ impl<O: Out> RuleTable<O> {
         self.take_link_home(seat, link)
     }
 
-    /// L2: the link in hand goes home, with what it took.
+    /// L2: the link in hand goes home finished, with what it took. The seat notes at slot `at` that it did.
     #[inline(always)]
-    pub fn put_link(&self, seat: &mut SockSeat<O>, link: u16, home: LinkHome<O>)
+    pub fn put_link(&self, seat: &mut SockSeat<O>, at: u16, link: u16, home: LinkHome<O>)
         requires seat { IsSeat self.now.table.shared.table_id self.now.plan seat.old }
+        requires slot { at < self.now.plan.slots }
+        requires finished { (O.state home.out).finished ≡ true }
         requires top { seat.old.me.1 ≡ (self.now.plan.requests + link, Empty) ∷ rest seat.old.me.1 }
         requires hand { seat.old.me.0.hands ≡ hand_of link home.took.list home.next ∷ [] }
         requires came { CameOut self.now.plan self.now.ways.list link seat.old.me.0 (O.state home.out) }
         ensures seat { IsSeat self.now.table.shared.table_id self.now.plan seat.new }
-        ensures view { seat.new.me ≡ (fault_left (O.state home.out).faults link (without_hand seat.old.me.0 link), rest seat.old.me.1) }
+        ensures view { seat.new.me ≡ (noting_end self.now.plan at link (fault_left (O.state home.out).faults link (without_hand seat.old.me.0 link)), rest seat.old.me.1) }
     {
         let home_index = self.plan.requests as usize + link as usize;
         self.lay_home(seat, home_index, home);
-        self.table.shared.load::<PutLink>(seat, 0);
+        self.table
+            .shared
+            .load::<PutLink>(seat, link_index(at as u32));
     }
 
     // The link of this number comes out of its home, which the seat has in hand.

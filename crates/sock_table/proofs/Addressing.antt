@@ -9,7 +9,8 @@ use Rattle.sock_model.specs.SlotRows.{marks_of, knows, added}
 use Rattle.sock_rule.specs.slot_steps.proofs.RuleNumbers.{only-same}
 use Rattle.sock_rule.specs.MarksComeAndGo.{Became, Goes, probe_goes, hold_goes}
 use Rattle.sock_rule.proofs.MarksComeAndGo.{then_, counts_as, becomes, added_marks}
-use Rattle.sock_table.specs.ReferenceCalls.{GaveBack}
+use Rattle.sock_words.specs.declared.plain.Plan.{Plan}
+use Rattle.sock_table.specs.ReferenceCalls.{EndedBy, GaveBack}
 use Rattle.sock_table.specs.ReferenceAnswers.{Held, GoneFrom, NoneLater}
 
 module _ (i found id : ℕ) (u a : View) (is : a ≡ added i found (knows i (vref_version found) u) u) (at_id : i ≡ socket_id_slot id) where
@@ -38,7 +39,7 @@ module _ (i found id : ℕ) (u a : View) (is : a ≡ added i found (knows i (vre
     ended = ended;
     version = back.version;
     notes = back.notes;
-    by = back.by;
+    by = subst (λ (q : Plan). EndedBy q ended back.version back.notes) (ap (λ (z : View). z.plan) came.others) back.by;
     became = subst (λ (j : ℕ). Became j u b (Saw (vref_version found) ∷ back.notes) []) at_id (counts_as i (λ f. omega arith) (then_ i came back.became));
   }
 

@@ -106,6 +106,7 @@ module _ {O : Type 0} {g : Ghosts O} (ways : List (List ℕ)) (q p : Plan) (id :
         took = b.took;
         faulted = λ some_. subst (λ (y : SockHome O g). 0 < rose y) e (b.faulted some_);
         tells = subst (λ (l : List ℕ). ForSome (g.state a.0.out).took (λ y. y ≡ l)) (ap bytes s) a.0.tells;
+        finished = λ some_. ap is_done s ∙ b.finished some_;
         unfinished = λ i h il given unended. ap is_done s ∙ b.unfinished i h il given unended;
         took_is = subst (λ (l : List Entry). LinkTook p v l ws k b.took) (sym same) (subst (λ (y : List ℕ). LinkTook p v rule_at.rule.lawful.log y k b.took) f.2 b.took_is);
       }

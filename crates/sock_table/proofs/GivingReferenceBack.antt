@@ -57,7 +57,7 @@ module _ (i found : ℕ) (u a : View) (is : a ≡ subbed i found (back i found u
         no_zero_goes (probe_goes there) = refl
         no_zero_goes (hold_goes h none_ there) = refl
 
-    pub ends : (w : ℕ) (b : View) (ended : Bool) → w ≡ vref_version found → (notes : List Mark) → Became i a b notes (Zero w ∷ []) → EndedBy ended w notes → GaveBack i u b m ended
+    pub ends : (w : ℕ) (b : View) (ended : Bool) → w ≡ vref_version found → (notes : List Mark) → Became i a b notes (Zero w ∷ []) → EndedBy u.plan ended w notes → GaveBack i u b m ended
     ends w b ended same notes became by = record {
       version = w;
       notes = notes;

@@ -4,20 +4,24 @@ use mathlib.Core.Logic.{dite}
 use native.Mathlib.Decide.{ℕ_discrete}
 use Rattle.sock_words.specs.declared.plain.Plan.{Plan}
 use Rattle.sock_words.specs.PackedWords.{socket_id_version, socket_id_slot}
+use Rattle.sock_model.specs.declared.marks.Mark.{Mark}
 use Rattle.sock_model.specs.declared.marks.Mark.TheVariants.{Saw, Told, Met}
+use Rattle.sock_model.specs.declared.marks.SlotMark.{SlotMark}
 use Rattle.sock_model.specs.declared.view.View.{View}
 use Rattle.sock_model.specs.MarkWeights.{is_ref, is_probe, is_claimed, is_any_coding, is_zero, is_met, is_told}
-use Rattle.sock_model.specs.Marks.{about, without_pass}
+use Rattle.sock_model.specs.Marks.{about, at, without_pass}
 use Rattle.sock_model.specs.ViewsOfSplitSeats.{carrier, joined}
 use Rattle.sock_model.specs.SlotRows.{marks_of, met_link, told_code}
 use Rattle.sock_model.specs.ChainRows.{without_hand, spent_hand}
 use Rattle.sock_rule.specs.slot_steps.proofs.SlotWeightSums.{total-append}
 use Rattle.sock_rule.specs.MarksComeAndGo.{Became}
-use Rattle.sock_rule.specs.LinkFaultNotes.{fault_found, fault_left}
+use Rattle.sock_rule.specs.LinkFaultNotes.{fault_found, fault_left, end_note, noting_end}
+use Rattle.sock_rule.proofs.Light.{Light}
+use Rattle.sock_rule.proofs.LinkFaultNotes.{found_alike}
 use Rattle.sock_rule.specs.LinksInHand.{hand_of}
 use Rattle.sock_rule.specs.OnTable.{is_put, put_in}
 use Rattle.sock_rule.proofs.MarksComeAndGo.{then_, becomes, adds_mark, met_marks}
-use Rattle.sock_table.specs.ReferenceCalls.{IsBetween, SameTokens, SameNotes}
+use Rattle.sock_table.specs.ReferenceCalls.{IsBetween, SameTokens, FinishedLink}
 use Rattle.sock_table.specs.ReferenceAnswers.{LinkOf, CodeOf}
 use Rattle.sock_table.proofs.SeatViewEndingLife.{left_found}
 use Rattle.sock_table.proofs.JoiningSocketSeats.{sum_of}
@@ -67,22 +71,26 @@ both_between p v w y is a b = subst (IsBetween p) (sym is) record {
 }
 
 -- a pass was taken in, its link taken out of its home and put there again
-module _ (p : Plan) (u a x t c : View) (k next n m : ℕ) (took : List ℕ) (is : x ≡ carrier p (k ∷ [])) (took_in : a ≡ joined u x) (spent : t ≡ fault_found n 0 k (spent_hand a (hand_of k took next))) (kept : m ≡ n) (went : c ≡ fault_left m k (without_hand t k)) (b : IsBetween p u) where
+module _ (p : Plan) (u a x t c : View) (k next n m : ℕ) (took : List ℕ) (is : x ≡ carrier p (k ∷ [])) (took_in : a ≡ joined u x) (spent : t ≡ fault_found n 0 k (spent_hand a (hand_of k took next))) (kept : m ≡ n) (went : c ≡ noting_end p 0 k (fault_left m k (without_hand t k))) (b : IsBetween p u) where
   no_hand : a.hands ≡ []
   no_hand = ap (λ (y : View). y.hands) took_in ∙ b.empty
 
-  finished : c ≡ record a { passes = without_pass k a.passes }
-  finished = went ∙ ((λ i. fault_left (kept i) k (without_hand (spent i) k)) ∙ left_found n (record a { passes = without_pass k a.passes }) k took next no_hand)
+  finished : c ≡ noting_end p 0 k (record a { passes = without_pass k a.passes })
+  finished = went ∙ ((λ i. noting_end p 0 k (fault_left (kept i) k (without_hand (spent i) k))) ∙ ap (noting_end p 0 k) (left_found n (record a { passes = without_pass k a.passes }) k took next no_hand))
 
-  same_marks : c.marks ≡ u.marks
-  same_marks = ap (λ (y : View). y.marks) finished ∙ marks_same p u a x k is took_in
+  one_more : c.marks ≡ at 0 (end_note p k) ∷ u.marks
+  one_more = ap (λ (y : View). y.marks) finished ∙ ap (λ (es : List SlotMark). at 0 (end_note p k) ∷ es) (marks_same p u a x k is took_in)
+
+  -- no law weighs that note
+  same_marks : (f : Mark → ℕ) → Light f → (i : ℕ) → marks_of f i c ≡ marks_of f i u
+  same_marks f light i = ap (λ (es : List SlotMark). total f (about i es)) one_more ∙ (found_alike 1 0 (p.links + k) u).marks f light i
 
   pub finished_between : IsBetween p c
   finished_between = record {
-    unclaimed = λ i il. ap (λ es. total is_claimed (about i es)) same_marks ∙ b.unclaimed i il;
-    unprobed = λ i il. ap (λ es. total is_probe (about i es)) same_marks ∙ b.unprobed i il;
-    uncoding = λ i il. ap (λ es. total is_any_coding (about i es)) same_marks ∙ b.uncoding i il;
-    no_zero = λ i z il. ap (λ es. total (is_zero z) (about i es)) same_marks ∙ b.no_zero i z il;
+    unclaimed = λ i il. same_marks is_claimed (λ h l. refl) i ∙ b.unclaimed i il;
+    unprobed = λ i il. same_marks is_probe (λ h l. refl) i ∙ b.unprobed i il;
+    uncoding = λ i il. same_marks is_any_coding (λ h l. refl) i ∙ b.uncoding i il;
+    no_zero = λ i z il. same_marks (is_zero z) (λ h l. refl) i ∙ b.no_zero i z il;
     no_rights = ap (λ (y : View). y.rights) finished ∙ (ap (λ (y : View). y.rights) took_in ∙ b.no_rights);
     empty = ap (λ (y : View). y.hands) finished ∙ no_hand;
     no_passes = ap (λ (y : View). y.passes) finished ∙ (ap (without_pass k) (pass_alone p u a x k is took_in b.no_passes) ∙ spent_alone k);
@@ -90,7 +98,7 @@ module _ (p : Plan) (u a x t c : View) (k next n m : ℕ) (took : List ℕ) (is 
 
   pub finished_tokens : SameTokens p u c
   finished_tokens = record {
-    refs = λ i il. ap (λ es. total is_ref (about i es)) same_marks;
+    refs = λ i il. same_marks is_ref (λ h l. refl) i;
     claims = ap (λ (y : View). y.claims) finished ∙ ap (λ (y : View). y.claims) took_in;
     loose = ap (λ (y : View). y.loose) finished ∙ ap (λ (y : View). y.loose) took_in;
     rights = ap (λ (y : View). y.rights) finished ∙ ap (λ (y : View). y.rights) took_in;
@@ -99,9 +107,9 @@ module _ (p : Plan) (u a x t c : View) (k next n m : ℕ) (took : List ℕ) (is 
     share = (let e = ap (λ (y : View). y.share) finished in let f = ap (λ (y : View). y.share) took_in in let s = ap (λ (y : View). y.share) is in omega arith);
   }
 
-  pub finished_notes : SameNotes u c
+  pub finished_notes : FinishedLink p k u c
   finished_notes = record {
-    marks = same_marks;
+    marks = one_more;
     found = ap (λ (y : View). y.found) finished ∙ (ap (λ (y : View). y.found) took_in ∙ (ap (λ (y : View). u.found ++ y.found) is ∙ append-nil u.found));
     finds = ap (λ (y : View). y.finds) finished ∙ (ap (λ (y : View). y.finds) took_in ∙ (ap (λ (y : View). u.finds ++ y.finds) is ∙ append-nil u.finds));
     histories = ap (λ (y : View). y.histories) finished ∙ (ap (λ (y : View). y.histories) took_in ∙ (ap (λ (y : View). u.histories ++ y.histories) is ∙ append-nil u.histories));

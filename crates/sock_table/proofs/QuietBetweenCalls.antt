@@ -10,6 +10,7 @@ use Rattle.sock_model.specs.declared.view.View.{View}
 use Rattle.sock_model.specs.MarkWeights.{is_probe, is_claimed, is_any_coding, is_zero}
 use Rattle.sock_model.specs.SlotRows.{marks_of}
 use Rattle.sock_rule.specs.MarksComeAndGo.{Became}
+use Rattle.sock_rule.specs.LinkFaultNotes.{end_note}
 use Rattle.sock_table.specs.ReferenceCalls.{IsBetween, Rests, EndedBy, GaveBack}
 use Rattle.sock_table.specs.ReferenceAnswers.{Held, GoneFrom, FailedBy}
 use Rattle.sock_words.specs.Totals.{total}
@@ -47,11 +48,11 @@ rests_between p v none_ r = record { unclaimed = r.unclaimed; unprobed = r.unpro
 pub between_rests : (p : Plan) (v : View) → IsBetween p v → Rests p v
 between_rests p v b = record { unclaimed = b.unclaimed; unprobed = b.unprobed; uncoding = b.uncoding; no_zero = b.no_zero; no_rights = refl; empty = b.empty; no_passes = b.no_passes }
 
-pub ended_quiet : (ended : Bool) (w : ℕ) (notes : List Mark) → EndedBy ended w notes → IsQuiet notes
-ended_quiet false w notes is = subst IsQuiet (sym is) record { claimed = refl; probe = refl; coding = refl; zeros = λ x. refl }
-ended_quiet true w notes is = subst IsQuiet (sym is.1) (by_cases (nat_le (w + 1) 4294967292))
+pub ended_quiet : (p : Plan) (ended : Bool) (w : ℕ) (notes : List Mark) → EndedBy p ended w notes → IsQuiet notes
+ended_quiet p false w notes is = subst IsQuiet (sym is) record { claimed = refl; probe = refl; coding = refl; zeros = λ x. refl }
+ended_quiet p true w notes is = subst IsQuiet (sym is.1) (by_cases (nat_le (w + 1) 4294967292))
   where
-    by_cases : (b : Bool) → IsQuiet (Freer (w - 1) ∷ Met (w + 1 - 2) is.0 ∷ cond b [] (Recycling (w + 1) ∷ []))
+    by_cases : (b : Bool) → IsQuiet (Freer (w - 1) ∷ Met (w + 1 - 2) is.0 ∷ end_note p is.0 ∷ cond b [] (Recycling (w + 1) ∷ []))
     by_cases true = record { claimed = refl; probe = refl; coding = refl; zeros = λ x. refl }
     by_cases false = record { claimed = refl; probe = refl; coding = refl; zeros = λ x. refl }
 
@@ -62,10 +63,10 @@ pub held_between : (p : Plan) (id : ℕ) (v w : View) → IsBetween p v → Held
 held_between p id v w b h = between p (socket_id_slot id) v w _ _ b h record { claimed = refl; probe = refl; coding = refl; zeros = λ x. refl }
 
 pub gone_between : (p : Plan) (id found : ℕ) (v w : View) → IsBetween p v → GoneFrom id found v w → IsBetween p w
-gone_between p id found v w b h = between p (socket_id_slot id) v w _ _ b h.became (saw_quiet (vref_version found) h.notes (ended_quiet h.ended h.version h.notes h.by))
+gone_between p id found v w b h = between p (socket_id_slot id) v w _ _ b h.became (saw_quiet (vref_version found) h.notes (ended_quiet v.plan h.ended h.version h.notes h.by))
 
 pub back_between : (p : Plan) (i : ℕ) (v w : View) (m : Mark) (ended : Bool) → IsBetween p v → GaveBack i v w m ended → IsBetween p w
-back_between p i v w m ended b h = between p i v w _ _ b h.became (ended_quiet ended h.version h.notes h.by)
+back_between p i v w m ended b h = between p i v w _ _ b h.became (ended_quiet v.plan ended h.version h.notes h.by)
 
 pub saw_between : (p : Plan) (i x : ℕ) (v w : View) → IsBetween p v → Became i v w (Saw x ∷ []) [] → IsBetween p w
 saw_between p i x v w b h = between p i v w _ _ b h record { claimed = refl; probe = refl; coding = refl; zeros = λ x. refl }

@@ -15,10 +15,10 @@ use Rattle.sock_rule.specs.slot_steps.proofs.RuleNumbers.{only-same, pair-same}
 use Rattle.sock_rule.specs.slot_steps.proofs.SlotWeightSums.{total_mono}
 use Rattle.sock_rule.specs.MarksComeAndGo.{Became}
 use Rattle.sock_model.specs.ChainRows.{with_hand, without_hand}
-use Rattle.sock_rule.specs.LinkFaultNotes.{fault, faults_link, faults_of, fault_found, without_fault, fault_left, CameOut}
+use Rattle.sock_rule.specs.LinkFaultNotes.{fault, faults_link, faults_of, fault_found, without_fault, fault_left, end_note, noting_end, CameOut}
 use Rattle.sock_rule.proofs.LinkFaultNotes.{found_alike}
 use Rattle.sock_rule.specs.LinksInHand.{hand_of, Recycles}
-use Rattle.sock_rule.proofs.MarksComeAndGo.{then_, back_again, counts_as, becomes, lost_marks, won_marks, met_marks, freed_marks}
+use Rattle.sock_rule.proofs.MarksComeAndGo.{then_, back_again, counts_as, becomes, adds_mark, lost_marks, won_marks, met_marks, freed_marks}
 use Rattle.sock_table.specs.ReferenceCalls.{retired, EndedBy}
 use Rattle.sock_words.specs.PackedWords.{vref_version}
 use Rattle.sock_words.specs.Totals.{total}
@@ -44,15 +44,15 @@ goes_back {k = k} {v = v} {o = o} i w out same is link way faults = record {
   known = λ some_. subst (λ (n : ℕ). 0 < n) (sym faults) (noted_taken o.faults i k v w same out.known (subst (λ (x : View). 0 < faults_of k x) is some_));
 }
 
-pub came_home : {S : Type 0} (b t c : Me S View) (k : ℕ) (took : List ℕ) (next n m : ℕ) (x : ℕ × S) → t ≡ (fault_found n 0 k (with_hand b.0 (hand_of k took next)), x ∷ b.1) → m ≡ n → c ≡ (fault_left m k (without_hand t.0 k), rest t.1) → b.0.hands ≡ [] → c ≡ b
-came_home {S} b t c k took next n m x came same went empty = went ∙ ((λ i. (fault_left (same i) k (without_hand (came i).0 k), rest (came i).1)) ∙ (λ i. (left_found n b.0 k took next empty i, b.1)))
+pub came_home : {S : Type 0} (p : Plan) (i : ℕ) (b t c : Me S View) (k : ℕ) (took : List ℕ) (next n m : ℕ) (x : ℕ × S) → t ≡ (fault_found n 0 k (with_hand b.0 (hand_of k took next)), x ∷ b.1) → m ≡ n → c ≡ (noting_end p i k (fault_left m k (without_hand t.0 k)), rest t.1) → b.0.hands ≡ [] → c ≡ (noting_end p i k b.0, b.1)
+came_home {S} p i b t c k took next n m x came same went empty = went ∙ ((λ z. (noting_end p i k (fault_left (same z) k (without_hand (came z).0 k)), rest (came z).1)) ∙ (λ z. (noting_end p i k (left_found n b.0 k took next empty z), b.1)))
 
 pub in_hand : {S : Type 0} (b t : Me S View) (k : ℕ) (took took' : List ℕ) (next next' n : ℕ) (x : ℕ × S) → t ≡ (fault_found n 0 k (with_hand b.0 (hand_of k took next)), x ∷ b.1) → b.0.hands ≡ [] → took' ≡ took → next' ≡ next → t.0.hands ≡ hand_of k took' next' ∷ []
 in_hand {S} b t k took took' next next' n x came empty same also = ap (λ (m : Me S View). m.0.hands) came ∙ (ap (λ (v : View). v.hands) (found_alike n 0 k (with_hand b.0 (hand_of k took next))).others ∙ (λ i. hand_of k (sym same i) (sym also i) ∷ empty i))
 
-module _ (i from found : ℕ) (u a : View) (is : a ≡ recycled i from found u) (zero_ : 0 < marks_of (is_zero (vref_version from)) i u) where
+module _ (p : Plan) (i from found : ℕ) (u a : View) (is : a ≡ recycled i from found u) (zero_ : 0 < marks_of (is_zero (vref_version from)) i u) where
   -- lost
-  pub lost : found ≢ from → (notes : List Mark) × Became i u a notes (Zero (vref_version from) ∷ []) × EndedBy false (vref_version from) notes
+  pub lost : found ≢ from → (notes : List Mark) × Became i u a notes (Zero (vref_version from) ∷ []) × EndedBy p false (vref_version from) notes
   lost ne = ([], becomes i is (lost_marks i from found u ne zero_), refl)
 
   module _ (hit : found ≡ from) where
@@ -73,29 +73,31 @@ module _ (i from found : ℕ) (u a : View) (is : a ≡ recycled i from found u) 
         met = (let w = met_now.here (is_met (vref_version from + 1 - 2) k) in let s = pair-same (vref_version from + 1 - 2) k in omega arith);
       }
 
-      -- the slot's versions are used up
-      pub retires : (c : View) → c ≡ b → 4294967292 < vref_version from + 1 → (notes : List Mark) × Became i u c notes (Zero (vref_version from) ∷ []) × EndedBy true (vref_version from) notes
-      retires c same late = let r : retired (vref_version from + 1) ≡ Recycling (vref_version from + 1) ∷ [] = ap (λ z. cond z [] (Recycling (vref_version from + 1) ∷ [])) (lt-leb (vref_version from + 1) 4294967292 late) in (
-        Freer (vref_version from - 1) ∷ Met (vref_version from + 1 - 2) k ∷ Recycling (vref_version from + 1) ∷ [],
-        counts_as i (λ f. omega arith) (becomes i same met_now),
-        (k, ap (λ (l : List Mark). Freer (vref_version from - 1) ∷ Met (vref_version from + 1 - 2) k ∷ l) (sym r)),
-      )
+      -- the link is home again, finished
+      module _ (c : View) (home : c ≡ noting_end p i k b) where
+        over_now : Became i u c (Freer (vref_version from - 1) ∷ Recycling (vref_version from + 1) ∷ Met (vref_version from + 1 - 2) k ∷ end_note p k ∷ []) (Zero (vref_version from) ∷ [])
+        over_now = then_ i met_now (becomes i home (adds_mark i (end_note p k) b))
 
-      -- it may be given again
-      pub frees : (c d : View) → c ≡ b → d ≡ freed i c → vref_version from + 1 ≤ 4294967292 → marks_of is_busy i u ≡ 0 → (notes : List Mark) × Became i u d notes (Zero (vref_version from) ∷ []) × EndedBy true (vref_version from) notes
-      frees c d same free early alone = let r : retired (vref_version from + 1) ≡ [] = ap (λ z. cond z [] (Recycling (vref_version from + 1) ∷ [])) (le-leb (vref_version from + 1) 4294967292 early) in
-          let now : Became i u c (Freer (vref_version from - 1) ∷ Recycling (vref_version from + 1) ∷ Met (vref_version from + 1 - 2) k ∷ []) (Zero (vref_version from) ∷ []) = becomes i same met_now in
-          let one : marks_of is_recycling i c ≡ 1 = (let w = now.here is_recycling in let le = total_mono is_recycling is_busy recycling_busy (about i u.marks) in omega arith) in
-          let there : 0 < marks_of (is_recycled (vref_version from + 1)) i c = (let w = now.here (is_recycled (vref_version from + 1)) in let s = only-same (vref_version from + 1) in omega arith) in (
-            Freer (vref_version from - 1) ∷ Met (vref_version from + 1 - 2) k ∷ [],
-            counts_as i (λ f. omega arith) (then_ i now (becomes i free (freed_marks i (vref_version from + 1) c one there))),
-            (k, ap (λ (l : List Mark). Freer (vref_version from - 1) ∷ Met (vref_version from + 1 - 2) k ∷ l) (sym r)),
-          )
-        where
-          recycling_busy : (m : Mark) → is_recycling m ≤ is_busy m
-          recycling_busy (Recycling w) = omega arith
-          recycling_busy _ = omega arith
+        pub recycled_there : 0 < marks_of (is_recycled (vref_version from + 1)) i c
+        recycled_there = let w = over_now.here (is_recycled (vref_version from + 1)) in let s = only-same (vref_version from + 1) in omega arith
 
-      pub recycled_there : (c : View) → c ≡ b → 0 < marks_of (is_recycled (vref_version from + 1)) i c
-      unfolding recycles
-      recycled_there c same = subst (λ (y : View). 0 < marks_of (is_recycled (vref_version from + 1)) i y) (sym same) recycles.recycled
+        -- the slot's versions are used up
+        pub retires : 4294967292 < vref_version from + 1 → (notes : List Mark) × Became i u c notes (Zero (vref_version from) ∷ []) × EndedBy p true (vref_version from) notes
+        retires late = let r : retired (vref_version from + 1) ≡ Recycling (vref_version from + 1) ∷ [] = ap (λ z. cond z [] (Recycling (vref_version from + 1) ∷ [])) (lt-leb (vref_version from + 1) 4294967292 late) in (
+          Freer (vref_version from - 1) ∷ Met (vref_version from + 1 - 2) k ∷ end_note p k ∷ Recycling (vref_version from + 1) ∷ [],
+          counts_as i (λ f. omega arith) over_now,
+          (k, ap (λ (l : List Mark). Freer (vref_version from - 1) ∷ Met (vref_version from + 1 - 2) k ∷ end_note p k ∷ l) (sym r)),
+        )
+
+        -- it may be given again
+        pub frees : (d : View) → d ≡ freed i c → vref_version from + 1 ≤ 4294967292 → marks_of is_busy i u ≡ 0 → (notes : List Mark) × Became i u d notes (Zero (vref_version from) ∷ []) × EndedBy p true (vref_version from) notes
+        frees d free early alone = let r : retired (vref_version from + 1) ≡ [] = ap (λ z. cond z [] (Recycling (vref_version from + 1) ∷ [])) (le-leb (vref_version from + 1) 4294967292 early) in
+            let one : marks_of is_recycling i c ≡ 1 = (let w = over_now.here is_recycling in let le = total_mono is_recycling is_busy recycling_busy (about i u.marks) in omega arith) in (
+              Freer (vref_version from - 1) ∷ Met (vref_version from + 1 - 2) k ∷ end_note p k ∷ [],
+              counts_as i (λ f. omega arith) (then_ i over_now (becomes i free (freed_marks i (vref_version from + 1) c one recycled_there))),
+              (k, ap (λ (l : List Mark). Freer (vref_version from - 1) ∷ Met (vref_version from + 1 - 2) k ∷ end_note p k ∷ l) (sym r)),
+            )
+          where
+            recycling_busy : (m : Mark) → is_recycling m ≤ is_busy m
+            recycling_busy (Recycling w) = omega arith
+            recycling_busy _ = omega arith

@@ -58,6 +58,6 @@ module _ (p : Plan) (i found id : ℕ) (u a : View) (is : a ≡ failed i found u
 
       -- the reference that creation made goes, and never the last one
       pub is_failed : (d : View) (ended : Bool) → (1 < marks_of is_ref i b → ended ≡ false) → GaveBack i b d (Hold (socket_id_version id)) ended → FailedBy id c u d
-      is_failed d ended kept back = let none_ : back.notes ≡ [] = subst (λ (z : Bool). EndedBy z back.version back.notes) (kept two_refs) back.by in
+      is_failed d ended kept back = let none_ : back.notes ≡ [] = subst (λ (z : Bool). EndedBy b.plan z back.version back.notes) (kept two_refs) back.by in
           let gone : Became i b d [] (Hold (socket_id_version id) ∷ []) = subst (λ (l : List Mark). Became i b d l (Hold (socket_id_version id) ∷ [])) none_ back.became in
           subst (λ (j : ℕ). Became j u d (Failer (socket_id_version id) ∷ Saw (socket_id_version id + 1) ∷ Stored (socket_id_version id) c ∷ Told (socket_id_version id) c ∷ []) []) at_id (counts_as i (λ f. omega arith) (then_ i now_coded gone))

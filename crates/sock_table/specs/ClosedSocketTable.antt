@@ -1,5 +1,5 @@
 -- The seats that are handed in at the end, and what the table's last words say of them.
-use Rattle.std.specs.Prelude.{◌≡◌, ℕ, ◌+◌, ◌*◌, ◌<◌, ◌⊎◌, false, List, [], ◌∷◌, length, map, vec_len, vec_capacity}
+use Rattle.std.specs.Prelude.{◌≡◌, ℕ, ◌+◌, ◌*◌, ◌<◌, ◌⊎◌, true, false, List, [], ◌∷◌, length, map, vec_len, vec_capacity}
 use Rattle.std.specs.List.{flat_map}
 use Rattle.atomic_table.specs.Seated.{TableId}
 use Rattle.atomic_table.specs.declared.shared.Seat.{Seat}
@@ -10,7 +10,7 @@ use Rattle.sock_model.specs.declared.view.View.{View}
 use Rattle.sock_model.specs.MarkWeights.{is_linked, is_freer}
 use Rattle.sock_model.specs.SlotRows.{marks_of}
 use Rattle.sock_model.specs.SocketTableLayout.{ref_index, place_index}
-use Rattle.sock_rule.specs.LinkFaultNotes.{faults_of}
+use Rattle.sock_rule.specs.LinkFaultNotes.{faults_of, ends_of}
 use Rattle.sock_rule.specs.SocketSeatSplits.{IsSeat, IsDone}
 use Rattle.sock_rule.specs.ClosingWordsAndNotes.{IsAtRest, Closing, Ordered, PlaceOf, IsDropTold, IsLogged, LinkTook}
 use Rattle.std.specs.Prelude.{slice_index}
@@ -69,6 +69,8 @@ pub record OutBack {O : Type 0} (state : O → OutState) (p : Plan) (v : View) (
   pub took_is : LinkTook p v log words k took
   -- it has faults where a seat noted one of its link
   pub faulted : 0 < faults_of k v → 0 < (state out).faults
+  -- it is finished where a seat noted that it went home so
+  pub finished : 0 < ends_of p k v → (state out).finished ≡ true
   -- it isn't finished where the life that it was given hasn't ended
   pub unfinished : (i h : ℕ) → i < p.slots → 0 < marks_of (is_linked h k) i v → marks_of (is_freer h) i v ≡ 0 → (state out).finished ≡ false
 

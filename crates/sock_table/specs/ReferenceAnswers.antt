@@ -41,7 +41,7 @@ pub record GoneFrom (id found : ℕ) (v w : View) : Type 0 where
   pub ended : Bool
   pub version : ℕ
   pub notes : List Mark
-  pub by : EndedBy ended version notes
+  pub by : EndedBy v.plan ended version notes
   pub became : Became (socket_id_slot id) v w (Saw (vref_version found) ∷ notes) []
 
 -- by the version of the word that was found: that of the id, or the odd one behind it

@@ -6,7 +6,9 @@ use Rattle.sock_model.specs.declared.marks.Mark.{Mark}
 use Rattle.sock_model.specs.declared.marks.Mark.TheVariants.{Recycling, Freer, Met}
 use Rattle.sock_model.specs.declared.view.View.{View}
 use Rattle.sock_model.specs.MarkWeights.{is_ref, is_probe, is_claimed, is_any_coding, is_zero, is_known, is_hold}
+use Rattle.sock_model.specs.Marks.{at}
 use Rattle.sock_model.specs.SlotRows.{marks_of}
+use Rattle.sock_rule.specs.LinkFaultNotes.{end_note}
 use Rattle.sock_rule.specs.MarksComeAndGo.{Became}
 use Rattle.sock_rule.specs.OnTable.{put_in}
 pub use Rattle.sock_rule.specs.NotesBesideRows.{Knows}
@@ -30,10 +32,10 @@ Rests p v = IsBetween p (record v { rights = [] })
 abbrev pub retired : ℕ → List Mark
 retired x = cond (nat_le x 4294967292) [] (Recycling x ∷ [])
 
--- what is noted where a seat's exchange ended the life that was failed at the version w, or didn't
-abbrev pub EndedBy : Bool → ℕ → List Mark → Type 0
-EndedBy false w adds = adds ≡ []
-EndedBy true w adds = (k : ℕ) × (adds ≡ Freer (w - 1) ∷ Met (w + 1 - 2) k ∷ retired (w + 1))
+-- what is noted where a seat's exchange ended the life that was failed at the version w, or didn't: its link, and that the half of that went home finished
+abbrev pub EndedBy : Plan → Bool → ℕ → List Mark → Type 0
+EndedBy p false w adds = adds ≡ []
+EndedBy p true w adds = (k : ℕ) × (adds ≡ Freer (w - 1) ∷ Met (w + 1 - 2) k ∷ end_note p k ∷ retired (w + 1))
 
 -- a reference, the mark m, was given back, and with it the slot's life ended or not; a life that was held is the one that ended
 pub record GaveBack (i : ℕ) (v w : View) (m : Mark) (ended : Bool) : Type 0 where
@@ -41,7 +43,7 @@ pub record GaveBack (i : ℕ) (v w : View) (m : Mark) (ended : Bool) : Type 0 wh
   pub version : ℕ
   pub notes : List Mark
   pub became : Became i v w notes (m ∷ [])
-  pub by : EndedBy ended version notes
+  pub by : EndedBy v.plan ended version notes
   pub life : (h : ℕ) → 0 < marks_of (is_hold h) i v → ended ≡ true → version - 1 ≡ h
 
 -- no reference, claim, entry or right came or went, and the lists of accepted messages are as they were
@@ -54,9 +56,9 @@ pub record SameTokens (p : Plan) (v w : View) : Type 0 where
   pub lists : w.lists ≡ v.lists
   pub share : w.share ≡ v.share
 
--- nothing more was seen, found or stored; what is stored is counted, since a seat that is taken in may leave an empty list of stores
-pub record SameNotes (v w : View) : Type 0 where
-  pub marks : w.marks ≡ v.marks
+-- the half of link k went home finished, which is noted, and nothing more was seen, found or stored; what is stored is counted, since a seat that is taken in may leave an empty list of stores
+pub record FinishedLink (p : Plan) (k : ℕ) (v w : View) : Type 0 where
+  pub marks : w.marks ≡ at 0 (end_note p k) ∷ v.marks
   pub found : w.found ≡ v.found
   pub finds : w.finds ≡ v.finds
   pub histories : w.histories ≡ v.histories

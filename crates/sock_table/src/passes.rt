@@ -4,7 +4,7 @@ ghost use Rattle.sock_words.specs.PackedWords.{socket_id_version, socket_id_slot
 ghost use Rattle.sock_model.specs.MarkWeights.{is_known, is_tried};
 ghost use Rattle.sock_model.specs.SlotRows.{marks_of};
 ghost use Rattle.sock_rule.specs.SocketSeatSplits.{IsSeat};
-ghost use Rattle.sock_table.specs.ReferenceCalls.{IsBetween, SameTokens, SameNotes};
+ghost use Rattle.sock_table.specs.ReferenceCalls.{IsBetween, SameTokens, FinishedLink};
 ghost use Rattle.sock_table.specs.LinkPasses.{IsPass, Claimed, Made, TriedTo, Created};
 ghost use Rattle.sock_table.specs.ClosedSocketTable.{IsDoneSeat};
 ghost use Rattle.sock_model.specs.ViewsOfSplitSeats.{joined};
@@ -85,7 +85,7 @@ impl<O: Out> SockTable<O> {
         Err(CreateFull { pass })
     }
 
-    /// Ends the writing half of a link that no socket got.
+    /// Ends the writing half of a link that no socket got. The seat notes that it is finished.
     pub fn finish_link(&self, seat: &mut SockSeat<O>, pass: LinkPass<O>)
         requires seat { IsSeat self.now.rule.table.shared.table_id self.now.rule.plan seat.old }
         requires pass { IsPass self.now.rule.table.shared.table_id self.now.rule.plan pass }
@@ -93,14 +93,14 @@ impl<O: Out> SockTable<O> {
         ensures seat { IsSeat self.now.rule.table.shared.table_id self.now.rule.plan seat.new }
         ensures between { IsBetween self.now.rule.plan seat.new.me.0 }
         ensures same { SameTokens self.now.rule.plan seat.old.me.0 seat.new.me.0 }
-        ensures seen { SameNotes seat.old.me.0 seat.new.me.0 }
+        ensures finished { FinishedLink self.now.rule.plan pass.link seat.old.me.0 seat.new.me.0 }
         ensures slots { seat.new.me.1 ≡ seat.old.me.1 }
     {
         let LinkPass { seat: from, link } = pass;
         self.rule.take_in(seat, from);
         let mut home = self.rule.spend_pass(seat, link);
         home.finish();
-        self.rule.put_link(seat, link, home);
+        self.rule.put_link(seat, 0, link, home);
     }
 
     /// Joins the two seats. What `from` has seen `seat` has seen then, and each of its lists is kept by itself.

@@ -71,7 +71,7 @@ impl<O: Out> SockTable<O> {
         requires zero { 0 < marks_of (is_zero (vref_version from.0)) at seat.old.me.0 }
         requires empty { seat.old.me.0.hands ≡ [] }
         ensures seat { IsSeat self.now.rule.table.shared.table_id self.now.rule.plan seat.new }
-        ensures marks { (notes : List Mark) × Became at seat.old.me.0 seat.new.me.0 notes (Zero (vref_version from.0) ∷ []) × EndedBy result (vref_version from.0) notes }
+        ensures marks { (notes : List Mark) × Became at seat.old.me.0 seat.new.me.0 notes (Zero (vref_version from.0) ∷ []) × EndedBy self.now.rule.plan result (vref_version from.0) notes }
         ensures slots { seat.new.me.1 ≡ seat.old.me.1 }
     {
         let step = self.rule.recycle(seat, at, from);
@@ -84,7 +84,7 @@ impl<O: Out> SockTable<O> {
         let link = found as u16;
         let mut home = self.rule.take_last_link(seat, at, link);
         home.finish();
-        self.rule.put_link(seat, link, home);
+        self.rule.put_link(seat, at, link, home);
         if from.version() < LAST_VERSION {
             self.rule.free_slot(seat, at);
         }

@@ -79,7 +79,7 @@ module _ {S : Type 0} (z : TableId) (p : Plan) (id : ℕ) where
   -- the reference goes back
   module _ (s t : Seat S View) (ended : Bool) (h : HoldsOne p id s.me.0) (none_ : s.me.1 ≡ []) (is : IsSeat z p t) (back : GaveBack (socket_id_slot id) s.me.0 t.me.0 (Hold (socket_id_version id)) ended) (b : IsBetween p t.me.0) (slots : t.me.1 ≡ s.me.1) where
     pub let_go_spent : IsSpent z p t
-    let_go_spent = let o = back.became.others in let nr = ended_refs ended back.version back.notes back.by in (
+    let_go_spent = let o = back.became.others in let nr = ended_refs s.me.0.plan ended back.version back.notes back.by in (
       record {
         seat = is;
         slots = slots ∙ none_;

@@ -1,8 +1,8 @@
 use Rattle.std.proofs.Common.{◌≤◌, ℕ, Bool, true, false, ap, sym, refl, ◌∙◌, inr, ⊎_elim, subst, arith}
 use Rattle.corr_core.specs.IdSlotWord.{Parts, parts, locked_word}
-use Rattle.corr_id.specs.SeatBehindIdCalls.{GotLock}
+use Rattle.corr_id.specs.SeatBehindIdCalls.{FoundNow, GotLock}
 use Rattle.corr_id.specs.LocksByAttempt.{IsOutside, IsWithin}
-use Rattle.corr_id.proofs.TokensOfIdCalls.{found_noted, quiet_more, made_still, advanced_still, gone_behind, own_behind, got_after}
+use Rattle.corr_id.proofs.TokensOfIdCalls.{found_noted, noted_now, now_quiet, now_grows, quiet_more, made_still, advanced_still, gone_behind, own_behind, got_after}
 use Rattle.corr_id.proofs.table.IdTable.lock_within.Goals as goal
 
 -- a word that is locked has the versions that it had
@@ -51,3 +51,15 @@ returns-in-Ok-clause-locked g c = rw (← c.in-Some.ensures.some.0) (let at = c.
         (got_after at u v c.try_lock.new.seat.me.0 n (parts c.in-Ok.lock.word.0) c.in-Ok.lock.content (quiet_more at u c.looks.seat.me.0 v _ c.looks.invariant.quiet c.load_id_word-found.ensures.saw refl) h.1),
   ),
 ))
+
+pub returns-then-is_outside-clause-gone_now : goal.returns-then-is_outside-clause-gone_now
+returns-then-is_outside-clause-gone_now g c = rw (← c.in-Some.ensures.some.0) (λ inside. let at = c.in-Some.at in let v = c.looks.seat.me.0 in let w = c.load_id_word-found.new.seat.me.0 in let n = c.load_id_word-found.result in
+    now_quiet at n c.args.seat.now.me.0 v w c.looks.invariant.quiet (noted_now at n v w c.load_id_word-found.ensures.saw))
+
+pub returns-in-Ok-clause-found_now : goal.returns-in-Ok-clause-found_now
+returns-in-Ok-clause-found_now g c = let at = c.in-Some.at in let u = c.args.seat.now.me.0 in let v = c.looks.seat.me.0 in let w = c.load_id_word-found.new.seat.me.0 in let x = c.try_lock.new.seat.me.0 in let n = c.load_id_word-found.result in let h = c.in-Ok.ensures.locked in (
+  n,
+  subst (λ (z : ℕ). FoundNow z n u x) (sym h.0) (now_grows at n u w x h.1.did.grows (now_quiet at n u v w c.looks.invariant.quiet (noted_now at n v w c.load_id_word-found.ensures.saw))),
+  h.1.was_open,
+  h.1.word_is,
+)

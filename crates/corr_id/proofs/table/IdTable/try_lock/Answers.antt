@@ -1,6 +1,6 @@
 use Rattle.std.proofs.Common.{refl, ap}
 use Rattle.corr_core.specs.IdSlotWord.{parts}
-use Rattle.corr_id.proofs.TokensOfIdCalls.{quiet_none, quiet_more, found_noted, locked_next, locked_fits, got_lock}
+use Rattle.corr_id.proofs.TokensOfIdCalls.{quiet_none, quiet_more, found_noted, noted_now, locked_next, locked_fits, got_lock}
 use Rattle.corr_id.proofs.table.IdTable.try_lock.Goals as goal
 
 pub returns-then-found-from-clause-lost : goal.returns-then-found-from-clause-lost
@@ -24,3 +24,6 @@ returns-clause-locked g c = let e = (c.lock_id-next.ensures.won refl).0 in let h
       got_lock c.args.at c.args.at c.args.seat.now.me.0 c.args.seat.now.me.0 c.lock_id-found.new.seat.me.0 c.take_call.new.seat.me.0 c.args.from (parts c.lock_id-next.result.next) (parts k.word.0) h.0 k.content refl (ap (λ y. parts y.0) c.take_call.ensures.fields.1) t.0
           (quiet_none c.args.seat.now.me.0) c.requires.from.1 c.requires.from.0 (c.lock_id-found.ensures.latest c.if-found-from.false) (c.lock_id-found.ensures.reached c.if-found-from.false) h.1 t.1 e,
     )
+
+pub returns-then-found-from-clause-lost_now : goal.returns-then-found-from-clause-lost_now
+returns-then-found-from-clause-lost_now g c = noted_now c.args.at c.lock_id-found.result c.args.seat.now.me.0 c.lock_id-found.new.seat.me.0 (c.lock_id-found.ensures.lost c.if-found-from.true)

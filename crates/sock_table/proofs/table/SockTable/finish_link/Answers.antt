@@ -16,6 +16,6 @@ pub returns-clause-same : goal.returns-clause-same
 returns-clause-same g c = finished_tokens c.args.self.now.rule.plan c.args.seat.now.me.0 c.take_in.new.seat.me.0 c.args.pass.seat.me.0 c.spend_pass-home.new.seat.me.0 c.put_link.new.seat.me.0 c.args.pass.link c.spend_pass-home.result.next _ _ c.spend_pass-home.result.took.list
     c.requires.pass.2 (ap (λ m. m.0) c.take_in.ensures.view) (ap (λ m. m.0) c.spend_pass-home.ensures.view) c.finish.ensures.faults (ap (λ m. m.0) c.put_link.ensures.view) c.requires.between
 
-pub returns-clause-seen : goal.returns-clause-seen
-returns-clause-seen g c = finished_notes c.args.self.now.rule.plan c.args.seat.now.me.0 c.take_in.new.seat.me.0 c.args.pass.seat.me.0 c.spend_pass-home.new.seat.me.0 c.put_link.new.seat.me.0 c.args.pass.link c.spend_pass-home.result.next _ _ c.spend_pass-home.result.took.list
+pub returns-clause-finished : goal.returns-clause-finished
+returns-clause-finished g c = finished_notes c.args.self.now.rule.plan c.args.seat.now.me.0 c.take_in.new.seat.me.0 c.args.pass.seat.me.0 c.spend_pass-home.new.seat.me.0 c.put_link.new.seat.me.0 c.args.pass.link c.spend_pass-home.result.next _ _ c.spend_pass-home.result.took.list
     c.requires.pass.2 (ap (λ m. m.0) c.take_in.ensures.view) (ap (λ m. m.0) c.spend_pass-home.ensures.view) c.finish.ensures.faults (ap (λ m. m.0) c.put_link.ensures.view) c.requires.between

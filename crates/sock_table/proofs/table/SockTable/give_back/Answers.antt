@@ -1,6 +1,7 @@
 use Rattle.std.proofs.Common.{ℕ, ◌≡◌, ◌<◌, arith, sym, ap, ◌∙◌, subst}
 use Rattle.sock_model.specs.SlotRows.{marks_of}
 use Rattle.sock_model.specs.MarkWeights.{is_zero}
+use Rattle.sock_table.specs.ReferenceCalls.{EndedBy}
 use Rattle.sock_table.proofs.GivingReferenceBack.{some_ref, kept_on, not_last, not_odd, zero_now, ends}
 use Rattle.sock_table.proofs.table.SockTable.give_back.Goals as goal
 use Rattle.sock_words.specs.PackedWords.{vref_version}
@@ -27,4 +28,4 @@ end_life-requires-clause-zero g c = let s = c.sub_ref-step.ensures in let n = c.
 pub returns-clause-back : goal.returns-clause-back
 returns-clause-back g c = λ m goes. let s = c.sub_ref-step.ensures in let x = c.end_life.ensures.marks in let n = c.nref.ensures in let z = c.if-nref-ne0.false in
     let same : vref_version c.sub_ref-step.result.found ≡ vref_version c.sub_ref-step.result.next = omega (arith, s.step, s.top.0, n, z) in
-    ends c.args.at c.sub_ref-step.result.found c.args.seat.now.me.0 c.sub_ref-step.new.seat.me.0 (ap (λ x. x.0) s.view) s.fits.held m goes (omega (arith, same, c.version.ensures, c.if-version-eq0.false)) (omega (arith, s.step, s.top.0, n, z)) (vref_version c.sub_ref-step.result.next) c.end_life.new.seat.me.0 c.end_life.result (sym same) x.0 x.1 x.2
+    ends c.args.at c.sub_ref-step.result.found c.args.seat.now.me.0 c.sub_ref-step.new.seat.me.0 (ap (λ x. x.0) s.view) s.fits.held m goes (omega (arith, same, c.version.ensures, c.if-version-eq0.false)) (omega (arith, s.step, s.top.0, n, z)) (vref_version c.sub_ref-step.result.next) c.end_life.new.seat.me.0 c.end_life.result (sym same) x.0 x.1 (subst (λ q. EndedBy q c.end_life.result (vref_version c.sub_ref-step.result.next) x.0) (sym c.requires.seat.1) x.2)
