@@ -1,1 +1,2 @@
+mod AnswersOfSameNumber
 mod VectorIteratorTaken

@@ -105,7 +105,7 @@ fn run_over<
     E: Print,
 >(rt: &R, words: &[String], links: &mut L, errors: &E) -> ExitCode
     requires unused { UnusedLinker (L.state links.old) }
-    ensures ends { Ends L.O.state L.I.state L.tells_in (map string_bytes words.now) (exit_status result) }
+    ensures { Ends L.O.state L.I.state L.tells_in (map string_bytes words.now) (exit_status result) }
 {
     let mut source = StdEdge::new(rt.reader());
     let mut out = StdEdge::new(io::writer(rt));
@@ -131,7 +131,7 @@ fn alone_over<R: Alloc<A = Global> + Input + Print, L: Linker, E: Print>(
 ) -> ExitCode
     requires alone { may_wait (map string_bytes words.now) ≡ false }
     requires unused { UnusedLinker (L.state links.old) }
-    ensures ends { EndsAlone L.O.state L.I.state L.tells_in (map string_bytes words.now) (exit_status result) }
+    ensures { EndsAlone L.O.state L.I.state L.tells_in (map string_bytes words.now) (exit_status result) }
 {
     let mut source = StdEdge::new(rt.reader());
     let mut out = StdEdge::new(io::writer(rt));
