@@ -10,8 +10,6 @@ use Rattle.brpc_eng.specs.declared.commands.Command.TheVariants.{Sim, Gen, Load,
 use Rattle.brpc_eng.specs.declared.commands.Waiting.{Waiting}
 use Rattle.brpc_eng.specs.declared.commands.Waiting.TheVariants.{Run, Serve}
 use Rattle.sock_io.specs.declared.link.Mode.{Mode}
-use Rattle.sock_io.specs.LinkHalves.{LinkerState}
-use Rattle.script_links.specs.LinksGivenBack.{SameConnections}
 use Rattle.seat_programs.specs.ScriptSetupToEnding.{drawn_turns}
 use Rattle.brpc_eng.specs.Command.{meaning, waiting_meaning}
 use Rattle.brpc_eng.specs.WholeSourceRead.{script_limit, IsAtEnd, ReadWhole}
@@ -86,10 +84,6 @@ waiting_waits words (Serve doors) e = ap (λ c. unwrap_or (option_map model.wait
 pub asked_is : (words : List (List ℕ)) (found : Option Waiting) → IfSome found (λ waiting. model.command_of words ≡ Some (waiting_meaning waiting)) → IfNone found (model.asks_to_wait words ≡ false) → is_some found ≡ model.asks_to_wait words
 asked_is words None some_ none_ = sym none_
 asked_is words (Some waiting) some_ none_ = sym (waiting_waits words waiting some_)
-
--- a linker that was not used before has accepted no connection
-pub none_accepted : (tells offering : Type 0) (tells_in : Mode → Bool) (old new : LinkerState) → answer.UnusedLinker old → SameConnections old new → answer.AcceptedNone (answer.linker_over tells offering tells_in old new)
-none_accepted tells offering tells_in old new unused same = (same.0 ∙ unused.1, same.1 ∙ unused.2)
 
 -- a drawn script
 pub drawn_command : (usage : List ℕ) (words : List (List ℕ)) (input : answer.Input) (out : answer.Output) (links : answer.Links) (status : ℕ) (command : Command) (draw : Draw) → option_map meaning (Some command) ≡ model.command_of words → command ≡ Gen draw →

@@ -4,7 +4,7 @@ use Rattle.script_run.specs.Played.{TellClosed}
 use Rattle.brpc_eng.specs.ProgramAnswers as answer
 use Rattle.brpc_eng.specs.Command.{meaning}
 use Rattle.brpc_eng.specs.StatusNumbers.{number_of}
-use Rattle.brpc_eng.proofs.Replays.{drawn_command, load_command, frames_command, simulated, none_accepted}
+use Rattle.brpc_eng.proofs.Replays.{drawn_command, load_command, frames_command, simulated}
 use Rattle.brpc_eng.proofs.alone.answer_alone.Goals as goal
 
 pub returns-in-None-clause-answers : goal.returns-in-None-clause-answers
@@ -16,7 +16,7 @@ returns-in-None-clause-answers g c = record {
 pub returns-in-Replay-clause-answers : goal.returns-in-Replay-clause-answers
 returns-in-Replay-clause-answers g c = record {
   ends = answer.Replays (sym c.in-Some.ensures ∙ ap (λ command. option_map meaning (Some command)) c.in-Replay.is) c.replay.ensures.replayed;
-  accepted_none = none_accepted _ _ g.L.Linker.tells_in _ _ c.requires.unused c.replay.ensures.connections;
+  accepted_none = (c.replay.ensures.connections.0 ∙ c.requires.unused.1, c.replay.ensures.connections.1 ∙ c.requires.unused.2);
 }
 
 pub returns-in-Sim-clause-answers : goal.returns-in-Sim-clause-answers
@@ -25,7 +25,7 @@ returns-in-Sim-clause-answers g c =
     let out = answer.sink_over (g.K.Sink.state c.args.out.now) (g.K.Sink.state c.replay-in-Sim.new.out) in
     let links = answer.linker_over (TellClosed g.L.I.In.state) (TellOffers g.L.O.Out.state g.L.I.In.state) g.L.Linker.tells_in (g.L.Linker.state c.args.links.now) (g.L.Linker.state c.replay-in-Sim.new.links) in record {
       ends = simulated _ _ input out links (number_of c.replay-in-Sim.result) c.in-Some.command c.in-Sim.seed c.from.result c.in-Some.ensures c.in-Sim.is c.from.ensures c.replay-in-Sim.ensures.replayed;
-      accepted_none = none_accepted _ _ g.L.Linker.tells_in _ _ c.requires.unused c.replay-in-Sim.ensures.connections;
+      accepted_none = (c.replay-in-Sim.ensures.connections.0 ∙ c.requires.unused.1, c.replay-in-Sim.ensures.connections.1 ∙ c.requires.unused.2);
     }
 
 pub returns-in-Gen-clause-answers : goal.returns-in-Gen-clause-answers
@@ -37,7 +37,7 @@ returns-in-Gen-clause-answers g c = record {
 pub returns-in-Load-clause-answers : goal.returns-in-Load-clause-answers
 returns-in-Load-clause-answers g c = record {
   ends = load_command _ _ _ _ _ _ c.in-Some.command c.in-Load.draw c.in-Some.ensures c.in-Load.is refl c.load.ensures.loaded;
-  accepted_none = none_accepted _ _ g.L.Linker.tells_in _ _ c.requires.unused c.load.ensures.connections;
+  accepted_none = (c.load.ensures.connections.0 ∙ c.requires.unused.1, c.load.ensures.connections.1 ∙ c.requires.unused.2);
 }
 
 pub returns-in-Load-clause-counts : goal.returns-in-Load-clause-counts
