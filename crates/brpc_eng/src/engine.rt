@@ -14,8 +14,8 @@ use std::alloc::Global;
 use std::sync::Wait;
 use std::thread::Threads;
 
-/// All that the program does: it reads its words, does what they ask for, and answers its status. Words that ask for nothing are
-/// told the usage text.
+/// Does what the words ask for, by one of the seven commands, and answers its status. Words that ask for none of them are told the
+/// usage text.
 ///
 /// | status | comes |
 /// | --- | --- |

@@ -1,4 +1,4 @@
-//! The top call: all that the program does, over a source, a sink and links that are handed in.
+//! The commands of the program: all that each does, over a source, a sink and links that are handed in.
 #![tactic(auto)]
 
 mod alone;

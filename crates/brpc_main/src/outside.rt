@@ -99,11 +99,12 @@ fn is_serve(words: &[String]) -> bool {
 }
 
 /// The program with these words over these links and the standard streams.
-fn run_over<
-    R: Threads + Wait + Sync + Alloc<A = Global> + Input + Print,
-    L: Linker,
-    E: Print,
->(rt: &R, words: &[String], links: &mut L, errors: &E) -> ExitCode
+fn run_over<R: Threads + Wait + Sync + Alloc<A = Global> + Input + Print, L: Linker, E: Print>(
+    rt: &R,
+    words: &[String],
+    links: &mut L,
+    errors: &E,
+) -> ExitCode
     requires unused { UnusedLinker (L.state links.old) }
     ensures { Ends L.O.state L.I.state L.tells_in (map string_bytes words.now) (exit_status result) }
 {
@@ -136,12 +137,5 @@ fn alone_over<R: Alloc<A = Global> + Input + Print, L: Linker, E: Print>(
     let mut source = StdEdge::new(rt.reader());
     let mut out = StdEdge::new(io::writer(rt));
     let mut errors = StdEdge::new(io::writer(errors));
-    run_alone(
-        rt.alloc(),
-        words,
-        &mut source,
-        &mut out,
-        links,
-        &mut errors,
-    )
+    run_alone(rt.alloc(), words, &mut source, &mut out, links, &mut errors)
 }
